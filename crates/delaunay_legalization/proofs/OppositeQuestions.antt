@@ -1,5 +1,6 @@
 -- What is asked of the edge opposite a vertex.
-use Rattle.std.proofs.Common.{◌≡◌, ℕ, ◌<◌, List, length, sym, ap, ◌∙◌, subst}
+use Rattle.std.proofs.Common.{◌≡◌, ℕ, ◌<◌, false, IsTrue, List, length, refl, sym, ap, ◌∙◌, subst, inl, inr, arith}
+use Rattle.std.specs.Prelude.{ℤ}
 use Rattle.half_edge_mesh.specs.Mesh.{Mesh, IsValidMesh, origin, next, prev, face, rev}
 use Rattle.plane.specs.Circle.{InsideCircle}
 use Rattle.plane.specs.Fraction.{Point, whole}
@@ -7,7 +8,12 @@ use Rattle.plane.specs.Side.{TurnsLeft}
 use Rattle.plane_tiling.specs.Local.{IsMesh}
 use Rattle.mesh_embedding.specs.Drawn.{faces_of, outer_of}
 use Rattle.mesh_embedding.specs.Legal.{IsFailing}
+use Rattle.delaunay_core.specs.Place.{place_of}
+use Rattle.delaunay_legalization.specs.Around.{IsListedAt, IsOpposite}
 use Rattle.delaunay_legalization.specs.Known.{point_at}
+use Rattle.delaunay_legalization.specs.declared.around.Opposite.{Opposite}
+use Rattle.delaunay_legalization.proofs.Legalizing.{positive}
+use Rattle.delaunay_legalization.proofs.Questions.{both_ways}
 use Rattle.delaunay_legalization.proofs.Legalizing as L
 
 -- the positions a, c, d and b are those where the edge opposite starts and ends, of the vertex where edge h starts, and
@@ -49,9 +55,42 @@ module _ (points : List Point) (m : Mesh) (s : IsValidMesh m) (shape : IsMesh po
       is_beyond first_is second third fourth x
 
 -- an edge that fails has inner faces on both sides
-pub opposite_inner : (points : List Point) (m : Mesh) → IsValidMesh m → (h n twin : ℕ) → n ≡ length m.half_edges → h < n
+opposite_inner : (points : List Point) (m : Mesh) → IsValidMesh m → (h n twin : ℕ) → n ≡ length m.half_edges → h < n
     → twin ≡ rev (next m h) → IsFailing points m (next m h) → (0 < face m h) × (0 < face m twin)
 opposite_inner points m s h n twin count within is_twin x = (
   subst (λ z. 0 < z) (s.sound.edges h (subst (λ z. h < z) count within)).same_face x.inner,
   subst (λ z. 0 < face m z) (sym is_twin) x.twin_inner,
 )
+
+-- what was read of the edge opposite the vertex at a centre tells whether it fails
+module _ {S : Type 0} (number : S → ℤ) (points : List Point) (m : Mesh) (valid : IsValidMesh m)
+    (shape : IsMesh points (faces_of m) (outer_of m)) (h : ℕ) (within : h < length m.half_edges) (it : Opposite S)
+    (read : IsOpposite number points m h it) (centre : Point) (at : IsListedAt points (origin m h) centre) where
+  read_inner : it.is_outer ≡ false → (0 < face m h) × (0 < face m (rev (next m h)))
+  read_inner off = (
+    positive (face m h) (λ z. both_ways _ (read.outer.1 (inl z)) off),
+    positive (face m (rev (next m h))) (λ z. both_ways _ (read.outer.1 (inr z)) off),
+  )
+
+  pub read_turns_left : it.is_outer ≡ false
+      → TurnsLeft (whole (place_of number it.from)) (whole (place_of number it.to)) (whole centre)
+  read_turns_left off = opposite_turns_left points m valid shape h (length m.half_edges) refl within _ _ _ _ _ _ _ refl
+      refl refl read.from.place read.to.place at.place read.beyond.place (read_inner off).0
+
+  pub read_fails : it.is_outer ≡ false → InsideCircle (whole (place_of number it.from)) (whole (place_of number it.to))
+      (whole centre) (whole (place_of number it.beyond)) → IsFailing points m (next m h)
+  read_fails off inside = opposite_fails points m valid shape h (length m.half_edges) refl within _ _ _ _ _ _ _ refl
+      refl refl read.from.place read.to.place at.place read.beyond.place (read_inner off).0 (read_inner off).1 inside
+
+  pub read_is_inside : IsFailing points m (next m h) → InsideCircle (whole (place_of number it.from))
+      (whole (place_of number it.to)) (whole centre) (whole (place_of number it.beyond))
+  read_is_inside x = opposite_is_inside points m valid shape h (length m.half_edges) refl within _ _ _ _ _ _ _ refl
+      refl refl read.from.place read.to.place at.place read.beyond.place x
+
+  pub read_outer_passes : IsTrue it.is_outer → ¬ IsFailing points m (next m h)
+  read_outer_passes outer x =
+      let inner = opposite_inner points m valid h (length m.half_edges) _ refl within refl x in
+      elim (read.outer.0 outer) [
+        | inl e ↦ let some = inner.0 in absurd (omega (arith, some, e))
+        | inr e ↦ let some = inner.1 in absurd (omega (arith, some, e))
+      ]

@@ -112,6 +112,10 @@ module _ {V D U F : Type 0} (at : V → Point) (fix : List U → List ℕ) (was 
     pub centre_is : (q : Point) → q ≡ point_at (map at was.vertices) v → q ≡ point_at points (origin m h)
     centre_is q is = is ∙ (λ i. point_at (sym same_points i) (sym h_starts i))
 
+    -- and it is listed still
+    pub centre_listed : (q : Point) → Contains (map at was.vertices) q → Contains points q
+    centre_listed q c = subst (λ ps. Contains ps q) (sym same_points) c
+
     e_in : e < length m.half_edges
     e_in = (s.sound.edges h h_in).next_in
 

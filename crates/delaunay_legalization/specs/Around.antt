@@ -1,21 +1,37 @@
 -- A legalization round a vertex: what becomes of the edge opposite it in the face of one of its edges.
-use Rattle.std.specs.Prelude.{◌≡◌, ℕ, ◌+◌, ◌*◌, ◌/◌, ◌<◌, ◌^◌, List, length, map, Some}
+use Rattle.std.specs.Prelude.{◌≡◌, ◌↔◌, ◌⊎◌, ℕ, ℤ, ◌+◌, ◌*◌, ◌/◌, ◌<◌, ◌^◌, List, length, map, Contains, IsTrue, Some}
 use Rattle.half_edge_mesh.specs.Contents.{Contents}
 use Rattle.half_edge_mesh.specs.Flip.{flipped}
-use Rattle.half_edge_mesh.specs.Mesh.{Mesh, origin, next, rev, out_edge}
+use Rattle.half_edge_mesh.specs.Mesh.{Mesh, origin, next, prev, face, rev, out_edge}
 use Rattle.plane.specs.Fraction.{Point}
 use Rattle.plane.specs.Pairs.{Joins}
 use Rattle.plane_tiling.specs.Local.{IsMesh}
 use Rattle.plane_edits.specs.EmptyRound.{IsEmptyRound}
 use Rattle.mesh_embedding.specs.Drawn.{faces_of, outer_of}
 use Rattle.mesh_embedding.specs.Legal.{IsFailing}
+use Rattle.delaunay_core.specs.Place.{place_of}
 use Rattle.delaunay_legalization.specs.Flips.{FlipsFit}
+use Rattle.delaunay_legalization.specs.Known.{point_at}
+use Rattle.delaunay_legalization.specs.declared.around.Opposite.{Opposite}
 
 -- the edge opposite vertex v, in the face on the left of its edge h, may be tested and turned
 pub record CanTurn (points : List Point) (m : Mesh) (h flips : ℕ) : Type 0 where
   pub within : h < length m.half_edges
   pub shape : IsMesh points (faces_of m) (outer_of m)
   pub fits : IsFailing points m (next m h) → flips + 1 < 2 ^ 64
+
+-- it is the position of vertex v, one of those listed
+pub record IsListedAt (points : List Point) (v : ℕ) (p : Point) : Type 0 where
+  pub place : p ≡ point_at points v
+  pub listed : Contains points p
+
+-- it was read whether a face beside that edge is the outer one, and where the edge's ends and the corner beyond it are
+pub record IsOpposite {S : Type 0} (number : S → ℤ) (points : List Point) (m : Mesh) (h : ℕ) (it : Opposite S) : Type 0
+  where
+    pub outer : IsTrue it.is_outer ↔ ((face m h ≡ 0) ⊎ (face m (rev (next m h)) ≡ 0))
+    pub from : IsListedAt points (origin m (next m h)) (place_of number it.from)
+    pub to : IsListedAt points (origin m (rev (next m h))) (place_of number it.to)
+    pub beyond : IsListedAt points (origin m (prev m (rev (next m h)))) (place_of number it.beyond)
 
 -- it failed, was turned and counted
 pub record Turns (points : List Point) (old new : Mesh) (h before after : ℕ) : Type 0 where

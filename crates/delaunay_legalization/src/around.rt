@@ -5,7 +5,7 @@ ghost use Rattle.plane_tiling.specs.Local.{IsMesh};
 ghost use Rattle.mesh_embedding.specs.Drawn.{faces_of, outer_of};
 ghost use Rattle.mesh_embedding.specs.Legal.{IsFailing};
 ghost use Rattle.delaunay_core.specs.Place.{place_of};
-ghost use Rattle.delaunay_legalization.specs.Around.{CanGoRound, CanTurn, Stays, Turns};
+ghost use Rattle.delaunay_legalization.specs.Around.{CanGoRound, CanTurn, IsListedAt, IsOpposite, Stays, Turns};
 ghost use Rattle.delaunay_legalization.specs.Constraints.{constraint_pairs};
 ghost use Rattle.delaunay_legalization.specs.Known.{point_at};
 ghost use Rattle.delaunay_legalization.specs.Sides.{HasLegalized};
@@ -38,49 +38,53 @@ fn opposite_sides<V, DE, UE, F>(
     (edge.fix(), twin.fix(), twin.prev().fix())
 }
 
-// Whether the edge opposite a vertex, in the face on the left of one of its edges, lies between two
-// inner faces, of which one has its third corner inside the circle of the other.
-#[inline(always)]
-fn is_opposite_failing<V: HasPosition, DE, UE, F, P: PlaneTests<V::Scalar>>(
-    dcel: &Dcel<V, DE, UE, F>,
-    spoke: FixedDirectedEdgeHandle,
-    centre: Point2<V::Scalar>,
-    tests: &P,
-) -> bool
-    requires within { spoke < length dcel.now.directed }
-    requires sites { All (P.sites tests.now) (map V.place dcel.now.vertices) }
-    requires shape { IsMesh (map V.place dcel.now.vertices) (faces_of dcel.now.mesh)
-        (outer_of dcel.now.mesh) }
-    requires centre { place_of V.Scalar.whole centre ≡
-        point_at (map V.place dcel.now.vertices) (origin dcel.now.mesh spoke) }
-    requires listed { Contains (map V.place dcel.now.vertices) (place_of V.Scalar.whole centre) }
-    ensures { IsTrue result ↔ IsFailing (map V.place dcel.now.vertices) dcel.now.mesh
-        (next dcel.now.mesh spoke) }
-{
-    dcel.recall_invariant();
-    let (edge, twin, beyond) = opposite_sides(dcel, spoke);
-    if is_outer(dcel, spoke) || is_outer(dcel, twin) {
-        return false;
-    }
-    let from = start_of(dcel, edge);
-    let to = start_of(dcel, twin);
-    let beyond = start_of(dcel, beyond);
-    tests.is_in_circle(from, to, centre, beyond)
+// What a test of the edge opposite a vertex reads, in the face on the left of one of the vertex's
+// edges: whether a face beside the edge is the outer one, the positions of the edge's ends, and
+// that of the corner beyond it.
+#[derive(Clone, Copy)]
+pub(crate) struct Opposite<S> {
+    is_outer: bool,
+    from: Point2<S>,
+    to: Point2<S>,
+    beyond: Point2<S>,
 }
 
-// Turns that edge if it fails and is no constraint, and tells whether it did.
+// Reads it.
+#[inline(always)]
+fn opposite_of<V: HasPosition, DE, UE, F>(
+    dcel: &Dcel<V, DE, UE, F>,
+    spoke: FixedDirectedEdgeHandle,
+) -> Opposite<V::Scalar>
+    requires { spoke < length dcel.now.directed }
+    ensures { IsOpposite V.Scalar.whole (map V.place dcel.now.vertices) dcel.now.mesh spoke
+        result }
+{
+    let (edge, twin, beyond) = opposite_sides(dcel, spoke);
+    Opposite {
+        is_outer: is_outer(dcel, spoke) || is_outer(dcel, twin),
+        from: start_of(dcel, edge),
+        to: start_of(dcel, twin),
+        beyond: start_of(dcel, beyond),
+    }
+}
+
+// Turns the edge opposite a vertex, in the face on the left of one of the vertex's edges, if it lies
+// between two inner faces, of which one has its third corner inside the circle of the other, and is
+// no constraint; tells whether it did.
 fn turn_opposite<M: ConstraintMarker<UE>, V: HasPosition, DE, UE, F, P: PlaneTests<V::Scalar>>(
     dcel: &mut Dcel<V, DE, UE, F>,
     spoke: FixedDirectedEdgeHandle,
+    opposite: Opposite<V::Scalar>,
     centre: Point2<V::Scalar>,
     tests: &P,
     flips: &mut u64,
 ) -> bool
     requires sites { All (P.sites tests.now) (map V.place dcel.old.vertices) }
     requires turn { CanTurn (map V.place dcel.old.vertices) dcel.old.mesh spoke flips.old }
-    requires centre { place_of V.Scalar.whole centre ≡
-        point_at (map V.place dcel.old.vertices) (origin dcel.old.mesh spoke) }
-    requires listed { Contains (map V.place dcel.old.vertices) (place_of V.Scalar.whole centre) }
+    requires opposite { IsOpposite V.Scalar.whole (map V.place dcel.old.vertices) dcel.old.mesh
+        spoke opposite }
+    requires centre { IsListedAt (map V.place dcel.old.vertices) (origin dcel.old.mesh spoke)
+        (place_of V.Scalar.whole centre) }
     ensures contents { dcel.new ≡ record dcel.old { mesh = dcel.new.mesh } }
     ensures constraints { constraint_pairs M.constraints dcel.new.mesh dcel.new.undirected ≡
         constraint_pairs M.constraints dcel.old.mesh dcel.old.undirected }
@@ -91,7 +95,10 @@ fn turn_opposite<M: ConstraintMarker<UE>, V: HasPosition, DE, UE, F, P: PlaneTes
         dcel.new.mesh spoke flips.old flips.new }
 {
     dcel.recall_invariant();
-    if !is_opposite_failing(dcel, spoke, centre, tests) {
+    if opposite.is_outer {
+        return false;
+    }
+    if !tests.is_in_circle(opposite.from, opposite.to, centre, opposite.beyond) {
         return false;
     }
     let edge = dcel.directed_edge(spoke).next().fix().as_undirected();
@@ -104,7 +111,8 @@ fn turn_opposite<M: ConstraintMarker<UE>, V: HasPosition, DE, UE, F, P: PlaneTes
 
 // Goes round a vertex from one of its edges on, and turns each edge opposite it that fails and is
 // no constraint. A turned edge is one of the vertex, and comes next; the edges beyond it are
-// opposite then.
+// opposite then. What the next test will read is read before each test, so that a processor does
+// not wait for the one and then for the other.
 pub(crate) fn legalize_round<
     M: ConstraintMarker<UE>,
     V: HasPosition,
@@ -122,12 +130,17 @@ pub(crate) fn legalize_round<
     dcel.recall_invariant();
     let centre = start_of(dcel, first);
     let mut spoke = first;
+    let mut opposite = opposite_of(dcel, spoke);
     loop {
         dcel.recall_invariant();
-        if turn_opposite::<M, _, _, _, _, _>(dcel, spoke, centre, tests, flips) {
+        let next = dcel.directed_edge(spoke).ccw().fix();
+        let ahead = opposite_of(dcel, next);
+        if turn_opposite::<M, _, _, _, _, _>(dcel, spoke, opposite, centre, tests, flips) {
+            opposite = opposite_of(dcel, spoke);
             continue;
         }
-        spoke = dcel.directed_edge(spoke).ccw().fix();
+        spoke = next;
+        opposite = ahead;
         if spoke.index() == first.index() {
             break;
         }
