@@ -4,6 +4,6 @@ pub mod Nearest
 pub mod Locating
 pub mod Walking
 pub mod Neighbours
-pub mod Clockwise
+pub mod BothWays
 pub mod Covering
 pub mod Sides

@@ -18,7 +18,8 @@ use Rattle.delaunay_legalization.specs.State.{State}
 use Rattle.delaunay_legalization.proofs.MeshParts.{mesh_face}
 use Rattle.delaunay_legalization.proofs.Questions.{both_ways}
 use Rattle.delaunay_location.specs.Location.{Locates}
-use Rattle.delaunay_location.specs.Stop.{IsStop}
+use Rattle.delaunay_location.specs.Stop.{AreOtherSides, IsStop}
+use Rattle.delaunay_location.specs.declared.steps.Stop.{Stop}
 use Rattle.delaunay_location.specs.declared.position_in_triangulation.PositionInTriangulation.TheVariants.{OnFace}
 use Rattle.delaunay_location.proofs.Locating.{in_face}
 
@@ -50,6 +51,13 @@ module _ {V D U F : Type 0} (at : V → Point) (s : State V D U F) (kept : IsTri
     to = starts ∙ ap (λ k. point_at points (origin m k)) (sym (rev-rev e));
   }
 
+  -- a position that was found strictly on the left of an edge is there
+  pub left_of_stop : {S : Type 0} (number : S → ℤ) (p : Point) (stop : Stop S)
+      → IsStop number points m (length s.directed) stop → (found : Side)
+      → found ≡ side (whole (place_of number stop.from)) (whole (place_of number stop.to)) (whole p) → found ≡ left
+      → TurnsLeft (place points (origin m stop.edge)) (place points (origin m (rev stop.edge))) (whole p)
+  left_of_stop number p stop h found is at_left = rw (← h.from, ← h.to) (sym is ∙ at_left)
+
   module _ (e : ℕ) (w : e < length s.directed) (inner : 0 < face m e) where
     -- the three edges round the face
     round : T.IsTriangle m e
@@ -65,23 +73,27 @@ module _ {V D U F : Type 0} (at : V → Point) (s : State V D U F) (kept : IsTri
     prev_ends : origin m (rev (prev m e)) ≡ origin m e
     prev_ends = sym (kept.valid.sound.edges (prev m e) round.prev_in).starts ∙ ap (origin m) round.next_prev
 
-    -- the same of the edge after an edge of an inner face
-    pub across_next : {S : Type 0} (number : S → ℤ) (h : ℕ) (to corner : Point2 S) → h ≡ next m e
+    -- the edge after an edge of an inner face, with the positions of its ends
+    pub next_side : {S : Type 0} (number : S → ℤ) (h : ℕ) (to corner : Point2 S) → h ≡ next m e
         → place_of number to ≡ point_at points (origin m (rev e))
         → place_of number corner ≡ point_at points (origin m (prev m e))
-        → IsStop number points m (length s.directed) (record { edge = rev h; from = corner; to = to })
-    across_next number h to corner same starts ends = rw same (across_edge number (next m e) to corner
-        (let f = kept.fits.directed_fit in let n = round.next_in in omega (arith, f, n))
-        (starts ∙ ap (point_at points) (sym next_starts)) (ends ∙ ap (point_at points) (sym next_ends)))
+        → IsStop number points m (length s.directed) (record { edge = h; from = to; to = corner })
+    next_side number h to corner same starts ends = rw same (record {
+      within = (let f = kept.fits.directed_fit in let n = round.next_in in omega (arith, f, n));
+      from = starts ∙ ap (point_at points) (sym next_starts);
+      to = ends ∙ ap (point_at points) (sym next_ends);
+    })
 
-    -- and of the edge before it
-    pub across_prev : {S : Type 0} (number : S → ℤ) (h : ℕ) (corner from : Point2 S) → h ≡ prev m e
+    -- and the edge before it
+    pub prev_side : {S : Type 0} (number : S → ℤ) (h : ℕ) (corner from : Point2 S) → h ≡ prev m e
         → place_of number corner ≡ point_at points (origin m (prev m e))
         → place_of number from ≡ point_at points (origin m e)
-        → IsStop number points m (length s.directed) (record { edge = rev h; from = from; to = corner })
-    across_prev number h corner from same starts ends = rw same (across_edge number (prev m e) corner from
-        (let f = kept.fits.directed_fit in let n = round.prev_in in omega (arith, f, n))
-        starts (ends ∙ ap (point_at points) (sym prev_ends)))
+        → IsStop number points m (length s.directed) (record { edge = h; from = corner; to = from })
+    prev_side number h corner from same starts ends = rw same (record {
+      within = (let f = kept.fits.directed_fit in let n = round.prev_in in omega (arith, f, n));
+      from = starts;
+      to = ends ∙ ap (point_at points) (sym prev_ends);
+    })
 
     module _ (p : Point) where
       -- p is strictly on the left of the line from a vertex to another, and of the sides of a face
@@ -113,12 +125,23 @@ module _ {V D U F : Type 0} (at : V → Point) (s : State V D U F) (kept : IsTri
       inside_named l =
           (inside_is_sides _ _ _ _ (mesh_face at s kept (face m e) inner face_in).turning).1 (named_sides l)
 
+      -- p is strictly on the left of an edge
+      abbrev IsLeftOf : ℕ → Type 0
+      IsLeftOf h = IsLeft (origin m h) (origin m (rev h))
+
+      left_of_sides : IsLeftOf e → IsLeftOf (next m e) → IsLeftOf (prev m e) → IsLeftOfSides e
+      left_of_sides beside ahead behind = (
+        subst (IsLeft (origin m e)) (sym next_starts) beside,
+        subst (IsLeft (origin m (next m e))) next_ends ahead,
+        subst (IsLeft (origin m (prev m e))) prev_ends behind,
+      )
+
       -- a position strictly on the left of the three sides of an inner face is located in it
-      pub located_inside : (f : ℕ) (from to corner : Point) → f ≡ face m e → from ≡ point_at points (origin m e)
-          → to ≡ point_at points (origin m (rev e)) → corner ≡ point_at points (origin m (prev m e))
-          → (beside ahead behind : Side) → beside ≡ side (whole from) (whole to) (whole p)
-          → ahead ≡ side (whole to) (whole corner) (whole p) → behind ≡ side (whole corner) (whole from) (whole p)
-          → beside ≡ left → ahead ≡ left → behind ≡ left → Locates points m p (OnFace f)
-      located_inside f from to corner same first second third beside ahead behind b a d k l n =
-          rw same (in_face at s kept p (face m e) inner face_in
-          (inside_named (rw next_starts (rw (← first, ← second, ← third) (sym b ∙ k, sym a ∙ l, sym d ∙ n)))))
+      pub located_inside : (f g h : ℕ) → f ≡ face m e → AreOtherSides m e g h → IsLeftOf e → IsLeftOf g → IsLeftOf h
+          → Locates points m p (OnFace f)
+      located_inside f g h same others at_e at_g at_h =
+          rw same (in_face at s kept p (face m e) inner face_in (inside_named (go others)))
+        where
+          go : AreOtherSides m e g h → IsLeftOfSides e
+          go (inl o) = left_of_sides at_e (subst IsLeftOf o.0 at_g) (subst IsLeftOf o.1 at_h)
+          go (inr o) = left_of_sides at_e (subst IsLeftOf o.1 at_h) (subst IsLeftOf o.0 at_g)

@@ -1,7 +1,8 @@
 -- Where a walk from face to face is.
-use Rattle.std.specs.Prelude.{◌≡◌, ℕ, ℤ, ◌<◌, List, length, map, IfSome}
-use Rattle.half_edge_mesh.specs.Mesh.{Mesh, origin, rev}
-use Rattle.plane.specs.Fraction.{Point}
+use Rattle.std.specs.Prelude.{◌≡◌, ◌⊎◌, ℕ, ℤ, ◌<◌, List, length, map, IfSome}
+use Rattle.half_edge_mesh.specs.Mesh.{Mesh, origin, next, prev, rev}
+use Rattle.plane.specs.Fraction.{Point, whole}
+use Rattle.plane.specs.Side.{Side, side}
 use Rattle.delaunay_core.specs.Place.{place_of}
 use Rattle.delaunay_legalization.specs.Known.{point_at}
 use Rattle.delaunay_location.specs.Search.{IsPlaceOf}
@@ -18,10 +19,19 @@ pub record IsStop {S : Type 0} (number : S → ℤ) (points : List Point) (m : M
   pub from : place_of number stop.from ≡ point_at points (origin m stop.edge)
   pub to : place_of number stop.to ≡ point_at points (origin m (rev stop.edge))
 
+-- edges f and g are the other sides of the face on the left of edge e, in either order
+abbrev pub AreOtherSides : Mesh → ℕ → ℕ → ℕ → Type 0
+AreOtherSides m e f g = ((f ≡ next m e) × (g ≡ prev m e)) ⊎ ((f ≡ prev m e) × (g ≡ next m e))
+
 module _ {V D U F P S : Type 0} (at : V → Point) (number : S → ℤ) (s : Search V D U F P S) where
   -- the same of the mesh of a search
   abbrev pub IsStopOf : Stop S → Type 0
   IsStopOf = IsStop number (map at s.dcel.now.vertices) s.dcel.now.mesh (length s.dcel.now.directed)
+
+  -- on this side of it is the position
+  abbrev pub IsSideAt : Stop S → Side → Type 0
+  IsSideAt stop found =
+      found ≡ side (whole (place_of number stop.from)) (whole (place_of number stop.to)) (whole (place_of number s.point))
 
   -- a step leads to such an edge, or to where the position is
   abbrev pub IsStepOf : Step S → Type 0

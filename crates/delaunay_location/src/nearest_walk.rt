@@ -37,8 +37,9 @@ fn is_nearer_than<V: HasPosition, DE, UE, F>(
     distance_2_to(dcel, vertex, point) < distance
 }
 
-// A neighbour of a vertex that is strictly nearer to a position, if there is one. The neighbours come
-// clockwise: the other direction of an edge tells where it ends and which edge is next.
+// A neighbour of a vertex that is strictly nearer to a position, if there is one. The look goes round
+// the vertex both ways at once, since each edge has to be read before the next one is known, and a
+// processor waits for two of them no longer than for one.
 fn nearer_neighbor<V: HasPosition, DE, UE, F>(
     dcel: &Dcel<V, DE, UE, F>,
     from: FixedVertexHandle,
@@ -54,16 +55,25 @@ fn nearer_neighbor<V: HasPosition, DE, UE, F>(
 {
     let distance = distance_2_to(dcel, from, point);
     let first = dcel.vertex(from).out_edge()?.fix();
-    let mut edge = first;
+    let mut left = first;
+    let mut right = dcel.directed_edge(first).ccw().fix();
     loop {
-        let neighbor = end_vertex(dcel, edge);
+        let neighbor = end_vertex(dcel, left);
+        let other = end_vertex(dcel, right);
         if is_nearer_than(dcel, neighbor, distance, point) {
             return Some(neighbor);
         }
-        edge = dcel.directed_edge(edge).cw().fix();
-        if edge.index() == first.index() {
+        if is_nearer_than(dcel, other, distance, point) {
+            return Some(other);
+        }
+        if left.index() == right.index() {
             return None;
         }
+        left = dcel.directed_edge(left).cw().fix();
+        if left.index() == right.index() {
+            return None;
+        }
+        right = dcel.directed_edge(right).ccw().fix();
     }
 }
 

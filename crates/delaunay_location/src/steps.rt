@@ -1,13 +1,16 @@
 //! The steps of a walk from face to face towards a position.
-ghost use Rattle.std.specs.Prelude.{◌≡◌, ◌<◌, length};
-ghost use Rattle.half_edge_mesh.specs.Mesh.{face, rev};
+ghost use Rattle.std.specs.Prelude.{◌≡◌, ◌<◌, length, map};
+ghost use Rattle.half_edge_mesh.specs.Mesh.{face, origin, prev, rev};
+ghost use Rattle.delaunay_core.specs.Place.{place_of};
+ghost use Rattle.delaunay_legalization.specs.Known.{point_at};
 ghost use Rattle.delaunay_location.specs.Search.{IsSearch};
-ghost use Rattle.delaunay_location.specs.Stop.{IsStepOf, IsStopOf};
+ghost use Rattle.delaunay_location.specs.Stop.{AreOtherSides, IsSideAt, IsStepOf, IsStopOf};
 ghost use Rattle.delaunay_location.specs.declared.steps.Step.TheVariants.{Beyond};
 
 use crate::parts::ends_of;
 use crate::position_in_triangulation::PositionInTriangulation;
 use crate::search::Search;
+use delaunay_core::line_side_info::LineSideInfo;
 use delaunay_core::math::PlaneTests;
 use delaunay_core::point::{HasPosition, Point2};
 use delaunay_legalization::{start_of, turns_left};
@@ -32,11 +35,12 @@ pub(crate) enum Step<S> {
     OnSide,
 }
 
-// The step across an edge with these ends, into the face on its right.
+// The step across an edge, into the face on its right.
 #[inline(always)]
-fn beyond<S>(edge: FixedDirectedEdgeHandle, from: Point2<S>, to: Point2<S>) -> Step<S>
-    ensures { result ≡ Beyond (record { edge = rev edge; from = to; to = from }) }
+fn beyond<S>(side: Stop<S>) -> Step<S>
+    ensures { result ≡ Beyond (record { edge = rev side.edge; from = side.to; to = side.from }) }
 {
+    let Stop { edge, from, to } = side;
     Step::Beyond(Stop {
         edge: edge.rev(),
         from: to,
@@ -64,47 +68,107 @@ impl<'a, V: HasPosition, DE, UE, F, P: PlaneTests<V::Scalar>> Search<'a, V, DE, 
         requires outer { face self.now.dcel.now.mesh stop.edge ≡ 0 }
         ensures { IsStepOf V.place V.Scalar.whole self.now result }
     {
-        let Stop { edge, from, to } = stop;
-        if turns_left(from, to, self.point, self.tests) {
-            return Step::Found(PositionInTriangulation::OutsideOfConvexHull(edge));
+        if turns_left(stop.from, stop.to, self.point, self.tests) {
+            return Step::Found(PositionInTriangulation::OutsideOfConvexHull(stop.edge));
         }
-        beyond(edge, from, to)
+        beyond(stop)
+    }
+
+    // On which side of an edge the position is.
+    #[inline(always)]
+    fn side_at(&self, stop: Stop<V::Scalar>) -> LineSideInfo
+        requires search { IsSearch V.place V.Scalar.whole P.sites P.covered self.now }
+        requires stop { IsStopOf V.place V.Scalar.whole self.now stop }
+        ensures { IsSideAt V.place V.Scalar.whole self.now stop result }
+    {
+        self.tests.side(stop.from, stop.to, self.point)
+    }
+
+    // The way from the inner face on the left of an edge to a position outside it, of whose two
+    // other sides `first` is looked at first.
+    #[inline(always)]
+    fn way_across(
+        &self,
+        stop: Stop<V::Scalar>,
+        first: Stop<V::Scalar>,
+        second: Stop<V::Scalar>,
+    ) -> Step<V::Scalar>
+        requires search { IsSearch V.place V.Scalar.whole P.sites P.covered self.now }
+        requires stop { IsStopOf V.place V.Scalar.whole self.now stop }
+        requires first_stop { IsStopOf V.place V.Scalar.whole self.now first }
+        requires second_stop { IsStopOf V.place V.Scalar.whole self.now second }
+        requires others { AreOtherSides self.now.dcel.now.mesh stop.edge first.edge second.edge }
+        requires inner { 0 < face self.now.dcel.now.mesh stop.edge }
+        ensures { IsStepOf V.place V.Scalar.whole self.now result }
+    {
+        let at_first = self.side_at(first);
+        if at_first.is_on_right_side() {
+            return beyond(first);
+        }
+        let at_second = self.side_at(second);
+        if at_second.is_on_right_side() {
+            return beyond(second);
+        }
+        let at_stop = self.side_at(stop);
+        if at_stop.is_on_right_side() {
+            return beyond(stop);
+        }
+        if at_first.is_on_left_side() && at_second.is_on_left_side() && at_stop.is_on_left_side() {
+            let face = self.dcel.directed_edge(stop.edge).face().fix();
+            return Step::Found(PositionInTriangulation::OnFace(face));
+        }
+        Step::OnSide
+    }
+
+    // The position of the corner opposite an edge, in the inner face on its left. It is read through
+    // the edge after that edge, or through the one before it.
+    #[inline(always)]
+    fn corner_across(&self, edge: FixedDirectedEdgeHandle, is_ahead: bool) -> Point2<V::Scalar>
+        requires search { IsSearch V.place V.Scalar.whole P.sites P.covered self.now }
+        requires within { edge < length self.now.dcel.now.directed }
+        requires inner { 0 < face self.now.dcel.now.mesh edge }
+        ensures { place_of V.Scalar.whole result ≡ point_at (map V.place self.now.dcel.now.vertices)
+            (origin self.now.dcel.now.mesh (prev self.now.dcel.now.mesh edge)) }
+    {
+        let edge = self.dcel.directed_edge(edge);
+        if is_ahead {
+            start_of(self.dcel, edge.next().rev().fix())
+        } else {
+            start_of(self.dcel, edge.prev().fix())
+        }
     }
 
     // The way from the face on the left of an edge to a position outside it: across a side that has
     // the position strictly on its right. From the outer face it leads inside, unless the position
-    // is on the left of the edge.
+    // is on the left of the edge. The side at the nearer end of the edge is looked at first: most
+    // walks go on there, and its other direction, which the next step reads, lies beside it.
     #[inline(always)]
     pub(crate) fn way_out(&self, stop: Stop<V::Scalar>) -> Step<V::Scalar>
         requires search { IsSearch V.place V.Scalar.whole P.sites P.covered self.now }
         requires stop { IsStopOf V.place V.Scalar.whole self.now stop }
         ensures { IsStepOf V.place V.Scalar.whole self.now result }
     {
-        let dcel = self.dcel;
-        let point = self.point;
-        let tests = self.tests;
-        let here = dcel.directed_edge(stop.edge);
+        let here = self.dcel.directed_edge(stop.edge);
         if here.is_outer_edge() {
             return self.way_in(stop);
         }
-        let Stop { edge, from, to } = stop;
-        let prev = here.prev().fix();
-        let across = start_of(dcel, prev);
-        let ahead = tests.side(to, across, point);
-        if ahead.is_on_right_side() {
-            return beyond(here.next().fix(), to, across);
+        let Stop { from, to, .. } = stop;
+        let is_ahead = self.point.distance_2(to) < self.point.distance_2(from);
+        let across = self.corner_across(stop.edge, is_ahead);
+        let ahead = Stop {
+            edge: here.next().fix(),
+            from: to,
+            to: across,
+        };
+        let behind = Stop {
+            edge: here.prev().fix(),
+            from: across,
+            to: from,
+        };
+        if is_ahead {
+            self.way_across(stop, ahead, behind)
+        } else {
+            self.way_across(stop, behind, ahead)
         }
-        let behind = tests.side(across, from, point);
-        if behind.is_on_right_side() {
-            return beyond(prev, across, from);
-        }
-        let beside = tests.side(from, to, point);
-        if beside.is_on_right_side() {
-            return beyond(edge, from, to);
-        }
-        if ahead.is_on_left_side() && behind.is_on_left_side() && beside.is_on_left_side() {
-            return Step::Found(PositionInTriangulation::OnFace(here.face().fix()));
-        }
-        Step::OnSide
     }
 }

@@ -1,0 +1,239 @@
+-- Going through the edges of a vertex both ways at once, from a first one on until the two ways meet.
+use Rattle.std.proofs.Common.{◌≡◌, ◌≢◌, ℕ, zero, suc, ◌+◌, ◌-◌, ◌<◌, ◌≤◌, ◌==◌, true, false}
+use Rattle.std.proofs.Common.{length, map, Some, IsSome, IsNone, refl, sym, ap, ◌∙◌, subst, inl, inr, arith}
+use Rattle.std.specs.List.{range_with_len}
+use Rattle.std.proofs.Math.Nat.{eq-or-lt_of_le}
+use Rattle.std.proofs.lemmas.Bool.{cases_lt}
+use Rattle.std.proofs.lemmas.Bool.{eq-eqb}
+use Rattle.std.proofs.lemmas.Bool.Decides.{eqb_tells}
+use Rattle.std.proofs.lemmas.List.FromFn.{length-map-range_with_len}
+use Rattle.half_edge_mesh.specs.Mesh.{Mesh, IsValidMesh, AreSoundLinks, origin, next, prev, rev, out_edge}
+use Rattle.half_edge_mesh.specs.Peel.{turn, spoke}
+use Rattle.half_edge_mesh.specs.Round.{IsRound}
+use Rattle.half_edge_mesh.specs.Rounds.{walk}
+use Rattle.half_edge_links.proofs.Lists.OneOrbit.{edges_go_round}
+use Rattle.half_edge_links.proofs.Lists.Rev.{rev-rev}
+use Rattle.mesh_embedding.proofs.WorkLists.{contains_map_from, at_most_so_many}
+use Rattle.delaunay_legalization.proofs.Rounds.{spokes_once}
+
+-- edges left and right of vertex v lie at two places of the round against the clock that begins after the first edge
+-- and ends with it, and P holds of all that come before the one on the right or after the one on the left
+pub record IsClosingIn (m : Mesh) (v first : ℕ) (P : ℕ → Type 0) (left right : ℕ) : Type 0 where
+  pub count : ℕ
+  pub round : IsRound m v first count
+  pub low : ℕ
+  pub high : ℕ
+  pub some : 0 < low
+  pub order : low ≤ high
+  pub among : high ≤ count
+  pub at_left : left ≡ spoke m first high
+  pub at_right : right ≡ spoke m first low
+  pub above : (j : ℕ) → high < j → j ≤ count → P (spoke m first j)
+  pub below : (j : ℕ) → 0 < j → j < low → P (spoke m first j)
+
+-- how many edges come between the first, itself one of them, and edge h
+abbrev pub how_many_before : Mesh → ℕ → ℕ → ℕ
+how_many_before m first h = length (walk (turn m) h (length m.half_edges) first)
+
+-- a vertex that names no edge has none
+pub no_edges : (m : Mesh) → IsValidMesh m → (v h : ℕ) → IsNone (out_edge m v) → h < length m.half_edges
+    → origin m h ≢ v
+no_edges m valid v h none within starts =
+    let some = subst (λ (x : ℕ). IsSome (out_edge m x)) starts (valid.sound.edges h within).has_out in
+    absurd (cc (some, none))
+
+-- a vertex as a handle gave it names this edge
+pub named_first : (m seen : Mesh) (v vertex first edge : ℕ) → seen ≡ m → vertex ≡ v → out_edge seen vertex ≡ Some edge
+    → first ≡ edge → out_edge m v ≡ Some first
+named_first m seen v vertex first edge same at named is =
+    (λ i. out_edge (sym same i) (sym at i)) ∙ named ∙ ap Some (sym is)
+
+module _ (m : Mesh) (v first count : ℕ) (round : IsRound m v first count) where
+  -- after a whole round the first edge comes again
+  comes_again : spoke m first count ≡ first
+  comes_again = ap (spoke m first) (let q : count ≡ 0 + count = omega arith in q) ∙ round.back 0
+
+  -- a vertex has no more edges than there are
+  count_fits : count ≤ length m.half_edges
+  count_fits =
+      let size = length-map-range_with_len (spoke m first) 0 count in
+      let fits = at_most_so_many (map (spoke m first) (range_with_len 0 count)) (length m.half_edges)
+      (spokes_once m v first count round) (λ k c.
+      let y = contains_map_from (spoke m first) (range_with_len 0 count) k c in
+      subst (λ (z : ℕ). z < length m.half_edges) y.2 (round.within y.0)) in
+      omega (arith, size, fits)
+
+  -- the edge before the i-th, clockwise
+  one_back : AreSoundLinks m → (i h : ℕ) → h ≡ spoke m first (suc i) → next m (rev h) ≡ spoke m first i
+  one_back sound i h here =
+      ap (λ k. next m (rev k)) here ∙ ap (next m) (rev-rev (prev m (spoke m first i)))
+      ∙ (sound.edges (spoke m first i) (round.within i)).next_prev
+
+  -- an edge but the first is not a later one of the round
+  apart_from : (i j : ℕ) → 0 < i → i < j → j ≤ count → spoke m first i ≢ spoke m first j
+  apart_from i j some less among = elim (eq-or-lt_of_le among) [
+    | inl last ↦ (λ e. round.apart 0 i some (omega (arith, less, last))
+        (sym (e ∙ ap (spoke m first) last ∙ comes_again)))
+    | inr below ↦ round.apart i j less below
+  ]
+
+  -- the walk from the k-th edge to the one that comes n places after the next has so many edges
+  walk_length : (n k i h fuel : ℕ) → h ≡ spoke m first i → i ≡ k + suc n → i ≤ count → suc n ≤ fuel
+      → length (walk (turn m) h fuel (spoke m first k)) ≡ suc n
+  walk_length n k i h zero here is among enough = absurd (omega (arith, enough))
+  walk_length zero k i h (suc f) here is among enough =
+      let q : suc k ≡ i = omega (arith, is) in
+      let home : turn m (spoke m first k) == h ≡ true = eq-eqb _ _ (ap (spoke m first) q ∙ sym here) in
+      rw home refl
+  walk_length (suc n) k i h (suc f) here is among enough = elim (eqb_tells (turn m (spoke m first k)) h) [
+    | inl q ↦ absurd (apart_from (suc k) i (omega arith) (omega (arith, is)) among (q.1 ∙ here))
+    | inr q ↦
+        let away : turn m (spoke m first k) == h ≡ false = q.0 in
+        rw away (ap suc (walk_length n (suc k) i h f here (omega (arith, is)) among (omega (arith, enough))))
+  ]
+
+  -- so many edges come before the i-th
+  so_many_before : (i h : ℕ) → h ≡ spoke m first i → 0 < i → i ≤ count → how_many_before m first h ≡ i
+  so_many_before zero h here some among = absurd (omega (arith, some))
+  so_many_before (suc n) h here some among =
+      walk_length n 0 (suc n) h (length m.half_edges) here (omega arith) among
+      (let fits = count_fits in omega (arith, among, fits))
+
+module _ (m : Mesh) (valid : IsValidMesh m) (v first : ℕ) (P : ℕ → Type 0) where
+  -- at first none was seen
+  pub closing_in_begins : (right : ℕ) → out_edge m v ≡ Some first → right ≡ rev (prev m first)
+      → IsClosingIn m v first P first right
+  closing_in_begins right named is =
+      let r = edges_go_round m valid v first named in record {
+        count = r.0;
+        round = r.1;
+        low = 1;
+        high = r.0;
+        some = omega arith;
+        order = r.1.some;
+        among = omega arith;
+        at_left = sym (comes_again m v first r.0 r.1);
+        at_right = is;
+        above = λ j over under. absurd (omega (arith, over, under));
+        below = λ j over under. absurd (omega (arith, over, under));
+      }
+
+  module _ (left right : ℕ) (w : IsClosingIn m v first P left right) where
+    -- both edges are of the mesh
+    pub left_within : left < length m.half_edges
+    left_within = subst (λ (k : ℕ). k < length m.half_edges) (sym w.at_left) (w.round.within w.high)
+
+    pub right_within : right < length m.half_edges
+    right_within = subst (λ (k : ℕ). k < length m.half_edges) (sym w.at_right) (w.round.within w.low)
+
+    -- the place of the edge after the left one, clockwise
+    one_less : ℕ
+    one_less = w.high - 1
+
+    place_is : w.high ≡ suc one_less
+    unfolding one_less
+    place_is = let some = w.some in let order = w.order in omega (arith, some, order)
+
+    next_left : next m (rev left) ≡ spoke m first one_less
+    next_left =
+        one_back m v first w.count w.round valid.sound one_less left (w.at_left ∙ ap (spoke m first) place_is)
+
+    less_among : one_less ≤ w.count
+    less_among = let among = w.among in omega (arith, among, place_is)
+
+    -- the ways have met where they are at one edge
+    met : left ≡ right → w.low ≡ w.high
+    met same = elim (eq-or-lt_of_le w.order) [
+      | inl e ↦ e
+      | inr less ↦ absurd (apart_from m v first w.count w.round w.low w.high w.some less w.among
+          (sym w.at_right ∙ sym same ∙ w.at_left))
+    ]
+
+    module _ (off : left ≢ right) where
+      not_met : w.low < w.high
+      not_met = elim (eq-or-lt_of_le w.order) [
+        | inl e ↦ absurd (off (w.at_left ∙ ap (spoke m first) (sym e) ∙ sym w.at_right))
+        | inr less ↦ less
+      ]
+
+      not_passed : w.low ≤ one_less
+      not_passed = let less = not_met in omega (arith, less, place_is)
+
+      -- they meet where the left one comes to the right one
+      meets : next m (rev left) ≡ right → w.low ≡ one_less
+      meets same = elim (eq-or-lt_of_le not_passed) [
+        | inl e ↦ e
+        | inr less ↦ absurd (apart_from m v first w.count w.round w.low one_less w.some less less_among
+            (sym w.at_right ∙ sym same ∙ next_left))
+      ]
+
+      module _ (away : next m (rev left) ≢ right) where
+        meets_not : w.low < one_less
+        meets_not = elim (eq-or-lt_of_le not_passed) [
+          | inl e ↦ absurd (away (next_left ∙ ap (spoke m first) (sym e) ∙ sym w.at_right))
+          | inr less ↦ less
+        ]
+
+        -- fewer edges come before the left one then
+        pub fewer_before : how_many_before m first (next m (rev left)) < how_many_before m first left
+        fewer_before =
+            let less = meets_not in
+            let some = w.some in
+            let among = w.among in
+            let new = so_many_before m v first w.count w.round one_less (next m (rev left)) next_left
+            (omega (arith, less)) less_among in
+            let old = so_many_before m v first w.count w.round w.high left w.at_left (omega (arith, place_is)) among in
+            omega (arith, new, old, place_is)
+
+    module _ (at_left : P left) (at_right : P right) where
+      from_left : (j : ℕ) → w.high ≤ j → j ≤ w.count → P (spoke m first j)
+      from_left j over under = elim (eq-or-lt_of_le over) [
+        | inl e ↦ subst P (w.at_left ∙ ap (spoke m first) e) at_left
+        | inr later ↦ w.above j later under
+      ]
+
+      to_right : (j : ℕ) → 0 < j → j ≤ w.low → P (spoke m first j)
+      to_right j over under = elim (eq-or-lt_of_le under) [
+        | inl e ↦ subst P (w.at_right ∙ ap (spoke m first) (sym e)) at_right
+        | inr earlier ↦ w.below j over earlier
+      ]
+
+      -- both go on, where they have not met and do not meet
+      pub closing_in_on : (l r : ℕ) → left ≢ right → next m (rev left) ≢ right → l ≡ next m (rev left)
+          → r ≡ rev (prev m right) → IsClosingIn m v first P l r
+      closing_in_on l r off away l_is r_is = record {
+        count = w.count;
+        round = w.round;
+        low = suc w.low;
+        high = one_less;
+        some = omega arith;
+        order = meets_not off away;
+        among = less_among;
+        at_left = l_is ∙ next_left;
+        at_right = r_is ∙ ap (λ k. rev (prev m k)) w.at_right;
+        above = λ j over under. from_left j (omega (arith, over, place_is)) under;
+        below = λ j over under. to_right j over (omega (arith, under));
+      }
+
+      -- where no edge is left between them all edges of the vertex were seen
+      module _ (closed : w.high ≤ suc w.low) (g : ℕ) (within : g < length m.half_edges) (starts : origin m g ≡ v) where
+        any : (i : ℕ) → 0 < i → i ≤ w.count → P (spoke m first i)
+        any i some among = elim (cases_lt w.low i) [
+          | inl over ↦ from_left i (omega (arith, over, closed)) among
+          | inr under ↦ to_right i some under
+        ]
+
+        place : (i : ℕ) × (i < w.count) × (g ≡ spoke m first i) → P g
+        place (zero, below, is) =
+            subst P (comes_again m v first w.count w.round ∙ sym is) (any w.count w.round.some (omega arith))
+        place (suc i, below, is) = subst P (sym is) (any (suc i) (omega arith) (omega (arith, below)))
+
+        all_seen : P g
+        all_seen = place (w.round.all g within starts)
+
+      pub seen_where_met : left ≡ right → (g : ℕ) → g < length m.half_edges → origin m g ≡ v → P g
+      seen_where_met same = let e = met same in all_seen (omega (arith, e))
+
+      pub seen_where_they_meet : left ≢ right → next m (rev left) ≡ right → (g : ℕ) → g < length m.half_edges
+          → origin m g ≡ v → P g
+      seen_where_they_meet off same = let e = meets off same in all_seen (omega (arith, e, place_is))
