@@ -1,4 +1,4 @@
--- Going through the edges of a vertex, one after another.
+-- Going through the edges of a vertex, one after another, from any of them.
 use Rattle.std.proofs.Common.{◌≡◌, ◌⊎◌, ℕ, ◌<◌, List, [], ◌∷◌, ◌∙◌}
 use Rattle.std.proofs.Common.{length, map, Option, Some, None, IsSome, refl, sym, ap, subst, inl, inr, arith}
 use Rattle.std.specs.Prelude.{Contains}
@@ -11,9 +11,12 @@ use Rattle.half_edge_mesh.specs.Round.{IsRound}
 use Rattle.half_edge_mesh.specs.Contents.{Contents}
 use Rattle.half_edge_mesh.specs.Left.{each_in}
 use Rattle.half_edge_mesh.specs.Rounds.{GivesRound}
+use Rattle.half_edge_links.proofs.Lists.OneOrbit.{edges_go_round}
+use Rattle.half_edge_links.proofs.Removing.CollapseLemmas.{some_of}
 use Rattle.plane_tiling.proofs.Totals.{Contains-head, Contains-later, Contains-none, Contains-cases}
 use Rattle.plane_edits.proofs.LocalMesh.Changes.{IsOnce, once_none, once_tail}
 use Rattle.mesh_embedding.proofs.Entries.{not_some, index_listed}
+use Rattle.mesh_embedding.proofs.RoundShift.{round_from}
 use Rattle.mesh_embedding.proofs.WorkLists.{contains_map, contains_map_from}
 
 -- the first of what is left
@@ -44,6 +47,22 @@ pub record IsWholeRound {V D U F : Type 0} (c : Contents V D U F) (v : ℕ)
   pub rest : List ℕ
   pub are_left : IsLeftOfRound c v given rest
   pub all : (h : ℕ) → h < length c.mesh.half_edges → origin c.mesh h ≡ v → Contains rest h
+
+-- the round of a vertex starts at any of its edges
+pub round_of : (m : Mesh) (v first count h : ℕ) → IsRound m v first count → h < length m.half_edges
+    → origin m h ≡ v → IsRound m v h count
+round_of m v first count h round within starts =
+    let i = round.all h within starts in
+    subst (λ (x : ℕ). IsRound m v x count) (sym i.2) (round_from m v first count round i.0)
+
+-- each half edge begins a round of its origin
+pub round_at : (m : Mesh) → IsValidMesh m → (v h : ℕ) → h < length m.half_edges → origin m h ≡ v
+    → (count : ℕ) × IsRound m v h count
+round_at m valid v h within starts =
+    let o = some_of (out_edge m v) (subst (λ (x : ℕ). IsSome (out_edge m x)) starts
+    (valid.sound.edges h within).has_out) in
+    let r = edges_go_round m valid v o.0 o.1 in
+    (r.0, round_of m v o.0 r.0 h r.1 within starts)
 
 -- the edges of a round are given once
 pub spokes_once : (m : Mesh) (v first count : ℕ) → IsRound m v first count

@@ -27,7 +27,7 @@ use Rattle.delaunay_removal.specs.Data.{HasValueAt, StandsBeside}
 use Rattle.delaunay_removal.specs.Pairs.{MakesFaces}
 use Rattle.delaunay_removal.proofs.DataStays.{no_end, no_corner}
 use Rattle.delaunay_removal.proofs.MadeFaces.{made_turn}
-use Rattle.delaunay_removal.proofs.Rounds.{round_at}
+use Rattle.delaunay_legalization.proofs.Rounds.{round_at}
 use Rattle.delaunay_removal.proofs.Turns.{may_turn}
 
 -- an item that is not written stays

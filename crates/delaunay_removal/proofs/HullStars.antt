@@ -22,7 +22,7 @@ use Rattle.mesh_embedding.proofs.MeshStars.{hull_star, hull_strip, neighbours_ap
 use Rattle.mesh_embedding.proofs.MeshStarFlips.{star_flip, star_flip_local, one_hull_neighbour_less}
 use Rattle.delaunay_removal.specs.Star.{IsConvexAt}
 use Rattle.delaunay_removal.specs.Hull.{IsHullStar, HasNoFlippableEdge}
-use Rattle.delaunay_removal.proofs.Rounds.{round_at}
+use Rattle.delaunay_legalization.proofs.Rounds.{round_at}
 
 -- ---- what the edges of a vertex on the hull know
 module _ (points : List Point) (m : Mesh) (valid : IsValidMesh m) (v first count : ℕ) (star : IsHullStar points m v first count) where

@@ -21,7 +21,7 @@ use Rattle.mesh_embedding.proofs.MeshStarFlips.{spoke_flippable, twin_flippable,
 use Rattle.mesh_embedding.proofs.MeshVertexLeaves.{inner_choice}
 use Rattle.mesh_embedding.proofs.StarTurns.{TurnsAway, turns_away, same_start}
 use Rattle.delaunay_removal.specs.Star.{IsConvexAt, HasInnerFaces, IsInnerStar, IsReduced}
-use Rattle.delaunay_removal.proofs.Rounds.{round_of, round_at}
+use Rattle.delaunay_legalization.proofs.Rounds.{round_of, round_at}
 
 -- a turn to the left goes to the right on the way back
 pub no_way_back : (v a b : Fraction) → TurnsLeft v a b → TurnsLeft v b a → ⊥

@@ -1,27 +1,12 @@
--- The round of a vertex from any of its edges, and the count of its edges.
-use Rattle.std.proofs.Common.{◌≡◌, ◌≢◌, ℕ, ◌+◌, ◌<◌, length, IsSome, refl, sym, ap, ◌∙◌, subst, arith, inl, inr}
+-- The count of the edges of a vertex.
+use Rattle.std.proofs.Common.{◌≡◌, ◌≢◌, ℕ, ◌+◌, ◌<◌, length, refl, sym, ap, ◌∙◌, subst, arith, inl, inr}
 use Rattle.std.proofs.lemmas.Bool.{cases_eq, cases_lt}
 use Rattle.std.proofs.Math.Numerals.{add-one}
-use Rattle.half_edge_mesh.specs.Mesh.{Mesh, IsValidMesh, origin, out_edge}
+use Rattle.half_edge_mesh.specs.Mesh.{Mesh, IsValidMesh, origin}
 use Rattle.half_edge_mesh.specs.Peel.{turn, spoke}
 use Rattle.half_edge_mesh.specs.Round.{IsRound}
-use Rattle.half_edge_links.proofs.Lists.OneOrbit.{edges_go_round}
 use Rattle.half_edge_views.proofs.Loops.{round_fits}
-use Rattle.mesh_embedding.proofs.RoundShift.{round_from}
-use Rattle.half_edge_links.proofs.Removing.CollapseLemmas.{some_of}
-
--- the round of a vertex starts at any of its edges
-pub round_of : (m : Mesh) (v first count h : ℕ) → IsRound m v first count → h < length m.half_edges → origin m h ≡ v → IsRound m v h count
-round_of m v first count h round within starts =
-    let i = round.all h within starts in
-    subst (λ (x : ℕ). IsRound m v x count) (sym i.2) (round_from m v first count round i.0)
-
--- each half edge begins a round of its origin
-pub round_at : (m : Mesh) → IsValidMesh m → (v h : ℕ) → h < length m.half_edges → origin m h ≡ v → (count : ℕ) × IsRound m v h count
-round_at m valid v h within starts =
-    let o = some_of (out_edge m v) (subst (λ (x : ℕ). IsSome (out_edge m x)) starts (valid.sound.edges h within).has_out) in
-    let r = edges_go_round m valid v o.0 o.1 in
-    (r.0, round_of m v o.0 r.0 h r.1 within starts)
+use Rattle.delaunay_legalization.proofs.Rounds.{round_at}
 
 -- after so many steps from edge first on the walk is at an edge, and none of the steps before led to first
 pub record IsCounting (m : Mesh) (first count edge : ℕ) : Type 0 where

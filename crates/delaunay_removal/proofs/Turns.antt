@@ -8,7 +8,7 @@ use Rattle.plane.specs.Fraction.{Point}
 use Rattle.plane_tiling.specs.Local.{LocalMesh}
 use Rattle.mesh_embedding.specs.Drawn.{faces_of, outer_of}
 use Rattle.mesh_embedding.proofs.MeshStarFlips.{can_turn_spoke}
-use Rattle.delaunay_removal.proofs.Rounds.{round_at}
+use Rattle.delaunay_legalization.proofs.Rounds.{round_at}
 
 -- the edge after h, where the ends beside it differ
 pub may_turn : (points : List Point) (m : Mesh) → IsValidMesh m → LocalMesh points (faces_of m) (outer_of m) → (h : ℕ) → h < length m.half_edges → 0 < face m h → 0 < face m (turn m h) → neighbour m h 0 ≢ neighbour m h 2
