@@ -5,7 +5,8 @@ ghost use Rattle.plane_tiling.specs.Local.{IsMesh};
 ghost use Rattle.mesh_embedding.specs.Drawn.{faces_of, outer_of};
 ghost use Rattle.mesh_embedding.specs.Legal.{IsFailing};
 ghost use Rattle.delaunay_core.specs.Place.{place_of};
-ghost use Rattle.delaunay_legalization.specs.Around.{CanGoRound, CanTurn, IsListedAt, IsOpposite, Stays, Turns};
+ghost use Rattle.delaunay_legalization.specs.Around.{CanGoRound, CanTurn, IsListedAt, IsOpposite};
+ghost use Rattle.delaunay_legalization.specs.Around.{Stays, Turns};
 ghost use Rattle.delaunay_legalization.specs.Constraints.{constraint_pairs};
 ghost use Rattle.delaunay_legalization.specs.Known.{point_at};
 ghost use Rattle.delaunay_legalization.specs.Sides.{HasLegalized};
@@ -49,7 +50,7 @@ pub(crate) struct Opposite<S> {
     beyond: Point2<S>,
 }
 
-// Reads it.
+// What the test of the edge opposite the start of `spoke` reads, in the face on its left.
 #[inline(always)]
 fn opposite_of<V: HasPosition, DE, UE, F>(
     dcel: &Dcel<V, DE, UE, F>,
