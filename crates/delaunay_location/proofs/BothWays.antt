@@ -11,10 +11,9 @@ use Rattle.half_edge_mesh.specs.Mesh.{Mesh, IsValidMesh, AreSoundLinks, origin, 
 use Rattle.half_edge_mesh.specs.Peel.{turn, spoke}
 use Rattle.half_edge_mesh.specs.Round.{IsRound}
 use Rattle.half_edge_mesh.specs.Rounds.{walk}
-use Rattle.half_edge_links.proofs.Lists.OneOrbit.{edges_go_round}
 use Rattle.half_edge_links.proofs.Lists.Rev.{rev-rev}
 use Rattle.mesh_embedding.proofs.WorkLists.{contains_map_from, at_most_so_many}
-use Rattle.delaunay_legalization.proofs.Rounds.{spokes_once}
+use Rattle.delaunay_legalization.proofs.Rounds.{round_at, spokes_once}
 
 -- edges left and right of vertex v lie at two places of the round against the clock that begins after the first edge
 -- and ends with it, and P holds of all that come before the one on the right or after the one on the left
@@ -100,23 +99,45 @@ module _ (m : Mesh) (v first count : ℕ) (round : IsRound m v first count) wher
       (let fits = count_fits in omega (arith, among, fits))
 
 module _ (m : Mesh) (valid : IsValidMesh m) (v first : ℕ) (P : ℕ → Type 0) where
-  -- at first none was seen
-  pub closing_in_begins : (right : ℕ) → out_edge m v ≡ Some first → right ≡ rev (prev m first)
-      → IsClosingIn m v first P first right
-  closing_in_begins right named is =
-      let r = edges_go_round m valid v first named in record {
-        count = r.0;
-        round = r.1;
-        low = 1;
-        high = r.0;
-        some = omega arith;
-        order = r.1.some;
-        among = omega arith;
-        at_left = sym (comes_again m v first r.0 r.1);
-        at_right = is;
-        above = λ j over under. absurd (omega (arith, over, under));
-        below = λ j over under. absurd (omega (arith, over, under));
-      }
+  module _ (within : first < length m.half_edges) (starts : origin m first ≡ v) (seen : P first) (left right : ℕ)
+      (left_is : left ≡ next m (rev first)) (right_is : right ≡ rev (prev m first)) where
+    -- at first the edge that both ways begin at was seen
+    pub closing_in_begins : IsClosingIn m v first P left right
+    closing_in_begins = let r = round_at m valid v first within starts in go r.0 r.1
+      where
+        before : (n : ℕ) → IsRound m v first (suc n) → left ≡ spoke m first n
+        before n round = left_is ∙ one_back m v first (suc n) round valid.sound n first
+            (sym (comes_again m v first (suc n) round))
+
+        go : (n : ℕ) → IsRound m v first n → IsClosingIn m v first P left right
+        go zero round = absurd (let some = round.some in omega (arith, some))
+        go (suc zero) round = record {
+          count = 1;
+          round = round;
+          low = 1;
+          high = 1;
+          some = omega arith;
+          order = omega arith;
+          among = omega arith;
+          at_left = before 0 round ∙ sym (comes_again m v first 1 round);
+          at_right = right_is;
+          above = λ j over under. absurd (omega (arith, over, under));
+          below = λ j over under. absurd (omega (arith, over, under));
+        }
+        go (suc (suc n)) round = record {
+          count = suc (suc n);
+          round = round;
+          low = 1;
+          high = suc n;
+          some = omega arith;
+          order = omega arith;
+          among = omega arith;
+          at_left = before (suc n) round;
+          at_right = right_is;
+          above = λ j over under. subst P (sym (comes_again m v first (suc (suc n)) round)
+              ∙ ap (spoke m first) (let q : suc (suc n) ≡ j = omega (arith, over, under) in q)) seen;
+          below = λ j over under. absurd (omega (arith, over, under));
+        }
 
   module _ (left right : ℕ) (w : IsClosingIn m v first P left right) where
     -- both edges are of the mesh
@@ -125,6 +146,13 @@ module _ (m : Mesh) (valid : IsValidMesh m) (v first : ℕ) (P : ℕ → Type 0)
 
     pub right_within : right < length m.half_edges
     right_within = subst (λ (k : ℕ). k < length m.half_edges) (sym w.at_right) (w.round.within w.low)
+
+    -- both start at the vertex
+    pub left_starts : origin m left ≡ v
+    left_starts = ap (origin m) w.at_left ∙ w.round.starts w.high
+
+    pub right_starts : origin m right ≡ v
+    right_starts = ap (origin m) w.at_right ∙ w.round.starts w.low
 
     -- the place of the edge after the left one, clockwise
     one_less : ℕ

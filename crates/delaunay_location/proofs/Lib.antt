@@ -4,6 +4,7 @@ pub mod Nearest
 pub mod Locating
 pub mod Walking
 pub mod Neighbours
+pub mod Candidates
 pub mod BothWays
 pub mod Covering
 pub mod Sides

@@ -1,16 +1,15 @@
 -- A walk from vertex to nearer neighbour.
-use Rattle.std.proofs.Common.{◌≡◌, ◌↔◌, ◌⊎◌, Bool, false, IsTrue, ℕ, ◌+◌, ◌^◌, ◌<◌, ◌≤◌, List, length}
+use Rattle.std.proofs.Common.{◌≡◌, ◌⊎◌, ℕ, ◌+◌, ◌^◌, ◌<◌, ◌≤◌, List, length}
 use Rattle.std.proofs.Common.{sym, ap, subst, inl, inr, arith}
-use Rattle.std.specs.Prelude.{ℤ, ◌<ℤ◌}
-use Rattle.half_edge_mesh.specs.Mesh.{Mesh, origin, rev, AreSoundLinks}
+use Rattle.std.specs.Prelude.{◌<ℤ◌}
+use Rattle.half_edge_mesh.specs.Mesh.{Mesh, origin, AreSoundLinks}
 use Rattle.plane.specs.Fraction.{Point, whole}
 use Rattle.plane.specs.Circle.{gap, IsNearer}
 use Rattle.plane.specs.Pairs.{place}
-use Rattle.plane.specs.Tiling.{Triangulation, IsEdge, vertex}
+use Rattle.plane.specs.Tiling.{Triangulation, vertex}
 use Rattle.plane_delaunay.specs.Nearer.{nearer_count}
 use Rattle.plane_delaunay.proofs.Circles.NearerCount.{nearer_count_falls}
-use Rattle.delaunay_legalization.proofs.Questions.{both_ways}
-use Rattle.mesh_embedding.specs.Drawn.{drawn}
+use Rattle.delaunay_location.specs.Candidate.{EndsNoNearer, HasNoNearerNeighbor}
 use Rattle.mesh_embedding.proofs.EdgePairs.{joins_edge}
 use Rattle.plane.proofs.Signs.{less_with_ones, less_without_ones}
 
@@ -19,28 +18,16 @@ pub nearer_by_gaps : (p a b : Point) → gap (whole p) (whole a) <ℤ gap (whole
     IsNearer (whole p) (whole a) (whole b)
 nearer_by_gaps p a b h = record { nearer = less_with_ones (gap (whole p) (whole a)) (gap (whole p) (whole b)) h }
 
--- edge h does not end nearer to a point than vertex v
-abbrev pub EndsNoNearer : List Point → Mesh → Point → ℕ → ℕ → Type 0
-EndsNoNearer points m p v h =
-    ¬ (gap (whole p) (place points (origin m (rev h))) <ℤ gap (whole p) (place points v))
-
--- where the end of an edge was found not to be nearer than the distance of the vertex, the edge ends no nearer
-pub found_no_nearer : (points : List Point) (m : Mesh) (p : Point) (v h k : ℕ) (d : ℤ) (found : Bool)
-    → k ≡ origin m (rev h) → d ≡ gap (whole p) (place points v)
-    → IsTrue found ↔ (gap (whole p) (place points k) <ℤ d) → found ≡ false → EndsNoNearer points m p v h
-found_no_nearer points m p v h k d found end distance tells is less = both_ways found
-    (tells.1 (subst (λ (z : ℤ). gap (whole p) (place points k) <ℤ z) (sym distance)
-    (subst (λ (x : ℕ). gap (whole p) (place points x) <ℤ gap (whole p) (place points v)) (sym end) less))) is
-
 -- no neighbour is nearer where no edge of the vertex ends nearer
 pub no_nearer_neighbour : (points : List Point) (m : Mesh) (p : Point) (v : ℕ) → AreSoundLinks m
-    → ((h : ℕ) → h < length m.half_edges → origin m h ≡ v → EndsNoNearer points m p v h)
-    → (k : ℕ) → IsEdge (drawn points m) v k → ¬ IsNearer (whole p) (vertex (drawn points m) k)
-    (vertex (drawn points m) v)
+    → ((h : ℕ) → h < length m.half_edges → origin m h ≡ v → EndsNoNearer points m p h)
+    → HasNoNearerNeighbor points m p v
 no_nearer_neighbour points m p v sound none k edge near =
     let h = joins_edge m sound v k edge in
-    none h.0 h.1 h.2 (subst (λ x. gap (whole p) (place points x) <ℤ gap (whole p) (place points v)) (sym h.3)
-    (less_without_ones (gap (whole p) (place points k)) (gap (whole p) (place points v)) near.nearer))
+    let less = less_without_ones (gap (whole p) (place points k)) (gap (whole p) (place points v)) near.nearer in
+    let from_here = subst (λ x. gap (whole p) (place points k) <ℤ gap (whole p) (place points x)) (sym h.2) less in
+    none h.0 h.1 h.2
+    (subst (λ x. gap (whole p) (place points x) <ℤ gap (whole p) (place points (origin m h.0))) (sym h.3) from_here)
 
 counts : (moves was k here n : ℕ) → moves ≡ was → k < here → here < n → moves + 1 + k < was + n
 counts moves was k here n e a b = omega (arith, e, a, b)

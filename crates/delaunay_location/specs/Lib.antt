@@ -1,3 +1,4 @@
 pub mod Location
 pub mod Search
 pub mod Stop
+pub mod Candidate

@@ -1,70 +1,115 @@
 //! The vertex that is nearest to a position, by a walk from neighbour to neighbour.
-ghost use Rattle.std.specs.Prelude.{◌↔◌, ℕ, ◌+◌, ◌<◌, ◌≤◌, ◌<ℤ◌, ◌^◌};
-ghost use Rattle.std.specs.Prelude.{[], length, map, IsTrue, MatchOption};
+ghost use Rattle.std.specs.Prelude.{◌≡◌, ◌+◌, ◌<◌, ◌≤◌, ◌^◌, [], length, map, MatchOption};
+ghost use Rattle.half_edge_mesh.specs.Mesh.{origin};
 ghost use Rattle.plane.specs.Fraction.{whole as fraction};
-ghost use Rattle.plane.specs.Circle.{IsNearer, gap};
+ghost use Rattle.plane.specs.Circle.{gap};
 ghost use Rattle.plane.specs.Pairs.{place};
 ghost use Rattle.plane.specs.Delaunay.{IsConstrainedDelaunay};
 ghost use Rattle.plane.specs.Shape.{IsNearest};
 ghost use Rattle.plane.specs.Tests.{InRange};
-ghost use Rattle.plane.specs.Tiling.{IsEdge, vertex};
 ghost use Rattle.delaunay_core.specs.Place.{place_of};
 ghost use Rattle.delaunay_legalization.specs.Shape.{IsTriangulated};
 ghost use Rattle.delaunay_legalization.specs.State.{state_of, triangulation_of};
+ghost use Rattle.delaunay_location.specs.Candidate.{EndsNoNearer, HasNoNearerNeighbor, IsCandidate};
+ghost use Rattle.delaunay_location.specs.Candidate.{IsCandidateFrom, IsNearerCandidate};
 
 use crate::nearest_vertex::distance_2_to;
 use crate::parts::end_vertex;
 use crate::samples::nearer_sample;
 use delaunay_core::point::{HasPosition, Point2};
-use half_edge_mesh::{Dcel, FixedVertexHandle, MeshViews};
+use half_edge_mesh::{Dcel, FixedDirectedEdgeHandle, FixedVertexHandle, MeshViews};
 
 // After so many moves a walk looks for a nearer vertex anywhere in the mesh.
 const FEW_MOVES: u64 = 16;
 
-// Whether a vertex is nearer to a position than a squared distance.
-fn is_nearer_than<V: HasPosition, DE, UE, F>(
-    dcel: &Dcel<V, DE, UE, F>,
-    vertex: FixedVertexHandle,
-    distance: i64,
-    point: Point2<V::Scalar>,
-) -> bool
-    requires kept { IsTriangulated V.place (state_of dcel.now) }
-    requires within { vertex < length dcel.now.vertices }
-    requires in_range { InRange (place_of V.Scalar.whole point) }
-    ensures { IsTrue result ↔ (gap (fraction (place_of V.Scalar.whole point))
-        (place (map V.place dcel.now.vertices) vertex) <ℤ distance) }
-{
-    distance_2_to(dcel, vertex, point) < distance
+// A vertex that may be the nearest one to a position: an edge that starts there and ends no nearer,
+// and the vertex's squared distance. A walk comes to a vertex by an edge whose other direction is
+// such a one, and which it has just read.
+#[derive(Drop)]
+pub(crate) struct Candidate {
+    pub(crate) spoke: FixedDirectedEdgeHandle,
+    pub(crate) distance_2: i64,
 }
 
-// A neighbour of a vertex that is strictly nearer to a position, if there is one. The look goes round
-// the vertex both ways at once, since each edge has to be read before the next one is known, and a
-// processor waits for two of them no longer than for one.
-fn nearer_neighbor<V: HasPosition, DE, UE, F>(
+// The end of an edge as a candidate, if it is nearer than the edge's start, which has the squared
+// distance `distance_2`.
+#[inline(always)]
+fn nearer_end<V: HasPosition, DE, UE, F>(
+    dcel: &Dcel<V, DE, UE, F>,
+    edge: FixedDirectedEdgeHandle,
+    distance_2: i64,
+    point: Point2<V::Scalar>,
+) -> Option<Candidate>
+    requires kept { IsTriangulated V.place (state_of dcel.now) }
+    requires within { edge < length dcel.now.directed }
+    requires in_range { InRange (place_of V.Scalar.whole point) }
+    requires start { distance_2 ≡ gap (fraction (place_of V.Scalar.whole point))
+        (place (map V.place dcel.now.vertices) (origin dcel.now.mesh edge)) }
+    ensures { let points = map V.place dcel.now.vertices in
+        let p = place_of V.Scalar.whole point in
+        MatchOption result (EndsNoNearer points dcel.now.mesh p edge)
+        (IsNearerCandidate points dcel.now.mesh p (origin dcel.now.mesh edge)) }
+{
+    let at_end = distance_2_to(dcel, end_vertex(dcel, edge), point);
+    if at_end < distance_2 {
+        return Some(Candidate {
+            spoke: edge.rev(),
+            distance_2: at_end,
+        });
+    }
+    None
+}
+
+// A candidate to begin with: a vertex, or a neighbour that is nearer. There is none where the vertex
+// has no edge.
+fn first_candidate<V: HasPosition, DE, UE, F>(
     dcel: &Dcel<V, DE, UE, F>,
     from: FixedVertexHandle,
     point: Point2<V::Scalar>,
-) -> Option<FixedVertexHandle>
+) -> Option<Candidate>
     requires kept { IsTriangulated V.place (state_of dcel.now) }
     requires within { from < length dcel.now.vertices }
     requires in_range { InRange (place_of V.Scalar.whole point) }
-    ensures { let t = triangulation_of V.place (state_of dcel.now) in
-        let p = fraction (place_of V.Scalar.whole point) in
-        MatchOption result ((k : ℕ) → IsEdge t from k → ¬ IsNearer p (vertex t k) (vertex t from))
-        (λ k. (k < length dcel.now.vertices) × IsNearer p (vertex t k) (vertex t from)) }
+    ensures { let points = map V.place dcel.now.vertices in
+        let p = place_of V.Scalar.whole point in
+        MatchOption result (HasNoNearerNeighbor points dcel.now.mesh p from)
+        (IsCandidateFrom points dcel.now.mesh p from) }
 {
-    let distance = distance_2_to(dcel, from, point);
-    let first = dcel.vertex(from).out_edge()?.fix();
-    let mut left = first;
-    let mut right = dcel.directed_edge(first).ccw().fix();
+    let spoke = dcel.vertex(from).out_edge()?.fix();
+    let distance_2 = distance_2_to(dcel, from, point);
+    match nearer_end(dcel, spoke, distance_2, point) {
+        Some(nearer) => Some(nearer),
+        None => Some(Candidate { spoke, distance_2 }),
+    }
+}
+
+// A candidate that is a neighbour of another and strictly nearer, if there is one. The look goes
+// round the vertex both ways at once, since each edge has to be read before the next one is known,
+// and a processor waits for two of them no longer than for one.
+fn nearer_neighbor<V: HasPosition, DE, UE, F>(
+    dcel: &Dcel<V, DE, UE, F>,
+    from: &Candidate,
+    point: Point2<V::Scalar>,
+) -> Option<Candidate>
+    requires kept { IsTriangulated V.place (state_of dcel.now) }
+    requires in_range { InRange (place_of V.Scalar.whole point) }
+    requires from { IsCandidate (map V.place dcel.now.vertices) dcel.now.mesh
+        (place_of V.Scalar.whole point) from.now }
+    ensures { let points = map V.place dcel.now.vertices in
+        let p = place_of V.Scalar.whole point in
+        let v = origin dcel.now.mesh from.now.spoke in
+        MatchOption result (HasNoNearerNeighbor points dcel.now.mesh p v)
+        (IsNearerCandidate points dcel.now.mesh p v) }
+{
+    let Candidate { spoke, distance_2 } = *from;
+    let mut left = dcel.directed_edge(spoke).cw().fix();
+    let mut right = dcel.directed_edge(spoke).ccw().fix();
     loop {
-        let neighbor = end_vertex(dcel, left);
-        let other = end_vertex(dcel, right);
-        if is_nearer_than(dcel, neighbor, distance, point) {
-            return Some(neighbor);
+        if let Some(nearer) = nearer_end(dcel, left, distance_2, point) {
+            return Some(nearer);
         }
-        if is_nearer_than(dcel, other, distance, point) {
-            return Some(other);
+        if let Some(nearer) = nearer_end(dcel, right, distance_2, point) {
+            return Some(nearer);
         }
         if left.index() == right.index() {
             return None;
@@ -77,9 +122,61 @@ fn nearer_neighbor<V: HasPosition, DE, UE, F>(
     }
 }
 
-// The vertex that is nearest to a position, by a walk from `start` to nearer neighbours until there
-// is none. It adds the number of its moves to `moves`: fewer than there are vertices. At each
+// A candidate anywhere in the mesh that is nearer than this one, if one of those looked at is, or
+// this one.
+#[inline(never)]
+fn candidate_anywhere<V: HasPosition, DE, UE, F>(
+    dcel: &Dcel<V, DE, UE, F>,
+    from: Candidate,
+    point: Point2<V::Scalar>,
+) -> Candidate
+    requires kept { IsTriangulated V.place (state_of dcel.now) }
+    requires in_range { InRange (place_of V.Scalar.whole point) }
+    requires from { IsCandidate (map V.place dcel.now.vertices) dcel.now.mesh
+        (place_of V.Scalar.whole point) from }
+    ensures { IsCandidateFrom (map V.place dcel.now.vertices) dcel.now.mesh
+        (place_of V.Scalar.whole point) (origin dcel.now.mesh from.spoke) result }
+{
+    let vertex = dcel.directed_edge(from.spoke).from().fix();
+    let sample = nearer_sample(dcel, vertex, point);
+    match first_candidate(dcel, sample, point) {
+        Some(candidate) => candidate,
+        None => from,
+    }
+}
+
+// The vertex that is nearest to a position, by a walk from a candidate to nearer neighbours until
+// there is none. It adds the number of its moves to `moves`: fewer than there are vertices. At each
 // sixteenth move it goes on at a vertex anywhere in the mesh, if one of those looked at is nearer.
+fn nearest_from<V: HasPosition, DE, UE, F>(
+    dcel: &Dcel<V, DE, UE, F>,
+    start: Candidate,
+    point: Point2<V::Scalar>,
+    moves: &mut u64,
+) -> FixedVertexHandle
+    requires kept { IsTriangulated V.place (state_of dcel.now) }
+    requires delaunay { IsConstrainedDelaunay (triangulation_of V.place (state_of dcel.now)) [] }
+    requires start { IsCandidate (map V.place dcel.now.vertices) dcel.now.mesh
+        (place_of V.Scalar.whole point) start }
+    requires in_range { InRange (place_of V.Scalar.whole point) }
+    requires fits { moves.old + length dcel.now.vertices ≤ 2 ^ 64 }
+    ensures nearest { IsNearest (triangulation_of V.place (state_of dcel.now))
+        (fraction (place_of V.Scalar.whole point)) result }
+    ensures counted { (moves.old ≤ moves.new) × (moves.new < moves.old + length dcel.now.vertices) }
+{
+    let mut nearest = start;
+    while let Some(nearer) = nearer_neighbor(dcel, &nearest, point) {
+        *moves += 1;
+        nearest = nearer;
+        if *moves % FEW_MOVES == 0 {
+            nearest = candidate_anywhere(dcel, nearest, point);
+        }
+    }
+    dcel.directed_edge(nearest.spoke).from().fix()
+}
+
+/// The vertex that is nearest to a position, by a walk from `start` to nearer neighbours until there
+/// is none. It adds the number of its moves to `moves`: fewer than there are vertices.
 pub fn nearest_by_neighbors<V: HasPosition, DE, UE, F>(
     dcel: &Dcel<V, DE, UE, F>,
     start: FixedVertexHandle,
@@ -95,13 +192,8 @@ pub fn nearest_by_neighbors<V: HasPosition, DE, UE, F>(
         (fraction (place_of V.Scalar.whole point)) result }
     ensures counted { (moves.old ≤ moves.new) × (moves.new < moves.old + length dcel.now.vertices) }
 {
-    let mut nearest = start;
-    while let Some(nearer) = nearer_neighbor(dcel, nearest, point) {
-        *moves += 1;
-        nearest = nearer;
-        if *moves % FEW_MOVES == 0 {
-            nearest = nearer_sample(dcel, nearer, point);
-        }
+    match first_candidate(dcel, start, point) {
+        Some(candidate) => nearest_from(dcel, candidate, point, moves),
+        None => start,
     }
-    nearest
 }

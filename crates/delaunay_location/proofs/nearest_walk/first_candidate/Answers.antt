@@ -1,0 +1,61 @@
+use Rattle.std.proofs.Common.{ℕ, map, IsNone, refl, sym, ap, ◌∙◌, subst, inl, w64}
+use Rattle.std.proofs.lemmas.Int.{to_z-of_z}
+use Rattle.std.specs.Prelude.{ℤ}
+use Rattle.half_edge_mesh.specs.Mesh.{Mesh, origin, out_edge}
+use Rattle.plane.specs.Fraction.{whole}
+use Rattle.plane.specs.Circle.{gap}
+use Rattle.plane.specs.Pairs.{place}
+use Rattle.delaunay_core.specs.Place.{place_of}
+use Rattle.delaunay_location.proofs.BothWays.{named_first, no_edges}
+use Rattle.delaunay_location.proofs.Candidates.{candidate_from_nearer, nearer_than_same}
+use Rattle.delaunay_location.proofs.Neighbours.{no_nearer_neighbour}
+use Rattle.delaunay_location.proofs.nearest_walk.first_candidate.Goals as goal
+
+pub returns-in_err-out_edge : goal.returns-in_err-out_edge
+returns-in_err-out_edge g c =
+    let m = c.args.dcel.now.mesh in
+    let none = subst (λ (x : Mesh × ℕ). IsNone (out_edge x.0 x.1))
+    (λ i. (ap (λ d. d.now.mesh) c.vertex.ensures.dcel i, c.vertex.ensures.index i))
+    (c.in_err-out_edge.ensures.none.0 refl) in
+    rw c.from_residual.ensures (no_nearer_neighbour (map g.V.HasPosition.place c.args.dcel.now.vertices) m
+    (place_of g.V.Scalar.SpadeNum.whole c.args.point) c.args.from c.requires.kept.valid.sound
+    (λ h within starts. absurd (no_edges m c.requires.kept.valid c.args.from h none within starts)))
+
+pub nearer_end-requires-clause-start : goal.nearer_end-requires-clause-start
+nearer_end-requires-clause-start g c =
+    let far : ℕ → ℤ = λ i. gap (whole (place_of g.V.Scalar.SpadeNum.whole c.args.point))
+    (place (map g.V.HasPosition.place c.args.dcel.now.vertices) i) in
+    let named = c.requires.kept.valid.sound.vertices c.args.from c.fix-spoke.result
+    (named_first _ _ _ _ _ _ (ap (λ d. d.now.mesh) c.vertex.ensures.dcel) c.vertex.ensures.index
+    c.in_ok-out_edge.ensures.edge.1 c.fix-spoke.ensures.value) in
+    to_z-of_z w64 c.distance_2_to-distance_2.result (record { sfits = c.distance_2_to-distance_2.type_inv })
+    ∙ c.distance_2_to-distance_2.ensures ∙ ap far (sym named.1)
+
+pub returns-in-Some : goal.returns-in-Some
+returns-in-Some g c =
+    let points = map g.V.HasPosition.place c.args.dcel.now.vertices in
+    let m = c.args.dcel.now.mesh in
+    let p = place_of g.V.Scalar.SpadeNum.whole c.args.point in
+    let named = c.requires.kept.valid.sound.vertices c.args.from c.fix-spoke.result
+    (named_first _ _ _ _ _ _ (ap (λ d. d.now.mesh) c.vertex.ensures.dcel) c.vertex.ensures.index
+    c.in_ok-out_edge.ensures.edge.1 c.fix-spoke.ensures.value) in
+    candidate_from_nearer points m p c.args.from c.in-Some.nearer
+    (nearer_than_same points m p (origin m c.fix-spoke.result) c.args.from c.in-Some.nearer named.1 c.in-Some.ensures)
+
+pub returns-in-None : goal.returns-in-None
+returns-in-None g c =
+    let far : ℕ → ℤ = λ i. gap (whole (place_of g.V.Scalar.SpadeNum.whole c.args.point))
+    (place (map g.V.HasPosition.place c.args.dcel.now.vertices) i) in
+    let named = c.requires.kept.valid.sound.vertices c.args.from c.fix-spoke.result
+    (named_first _ _ _ _ _ _ (ap (λ d. d.now.mesh) c.vertex.ensures.dcel) c.vertex.ensures.index
+    c.in_ok-out_edge.ensures.edge.1 c.fix-spoke.ensures.value) in
+    record {
+      candidate = record {
+        within = named.0;
+        distance =
+            to_z-of_z w64 c.distance_2_to-distance_2.result (record { sfits = c.distance_2_to-distance_2.type_inv })
+            ∙ c.distance_2_to-distance_2.ensures ∙ ap far (sym named.1);
+        ends = c.in-None.ensures;
+      };
+      nearer = inl named.1;
+    }

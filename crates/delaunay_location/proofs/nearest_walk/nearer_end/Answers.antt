@@ -1,0 +1,28 @@
+use Rattle.std.proofs.Common.{ℕ, map, to_z, of_z, ◌∙◌, subst, ap, arith, w64}
+use Rattle.std.proofs.lemmas.Int.{to_z-of_z}
+use Rattle.std.specs.Prelude.{ℤ, ◌<ℤ◌}
+use Rattle.half_edge_mesh.specs.Mesh.{origin}
+use Rattle.half_edge_links.proofs.Lists.Rev.{rev_within}
+use Rattle.plane.specs.Fraction.{whole}
+use Rattle.plane.specs.Circle.{gap}
+use Rattle.plane.specs.Pairs.{place}
+use Rattle.plane.proofs.Sides.{less_by_test}
+use Rattle.delaunay_core.specs.Place.{place_of}
+use Rattle.delaunay_location.proofs.Candidates.{candidate_at_end}
+use Rattle.delaunay_location.proofs.nearest_walk.nearer_end.Goals as goal
+
+pub returns-then-at_end-distance_2 : goal.returns-then-at_end-distance_2
+returns-then-at_end-distance_2 g c =
+    let points = map g.V.HasPosition.place c.args.dcel.now.vertices in
+    let m = c.args.dcel.now.mesh in
+    let p = place_of g.V.Scalar.SpadeNum.whole c.args.point in
+    let far : ℕ → ℤ = λ i. gap (whole p) (place points i) in
+    let at_end = to_z-of_z w64 c.distance_2_to-at_end.result (record { sfits = c.distance_2_to-at_end.type_inv })
+    ∙ c.distance_2_to-at_end.ensures ∙ ap far c.end_vertex.ensures.value in
+    let at_start = to_z-of_z w64 c.args.distance_2 c.ranges.distance_2 ∙ c.requires.start in
+    let less = subst (λ (z : ℤ). z <ℤ far (origin m c.args.edge)) at_end
+    (subst (λ (z : ℤ). to_z w64 (of_z w64 c.distance_2_to-at_end.result) <ℤ z) at_start
+    (less_by_test _ _ c.if-at_end-distance_2.true)) in
+    let within = rev_within c.args.edge _ c.requires.kept.valid.sound.even
+    (let w = c.requires.within in let fit = c.requires.kept.fits.directed_fit in omega (arith, w, fit)) in
+    candidate_at_end points m p c.args.edge _ c.rev.ensures less within at_end

@@ -1,0 +1,37 @@
+-- A vertex that may be the nearest one to a position.
+use Rattle.std.specs.Prelude.{◌≡◌, ◌⊎◌, ℕ, ◌<◌, ◌<ℤ◌, List, length}
+use Rattle.half_edge_mesh.specs.Mesh.{Mesh, origin, rev}
+use Rattle.plane.specs.Fraction.{Point, whole}
+use Rattle.plane.specs.Circle.{gap, IsNearer}
+use Rattle.plane.specs.Pairs.{place}
+use Rattle.plane.specs.Tiling.{IsEdge}
+use Rattle.mesh_embedding.specs.Drawn.{drawn}
+use Rattle.delaunay_location.specs.declared.nearest_walk.Candidate.{Candidate}
+
+module _ (points : List Point) (m : Mesh) (p : Point) where
+  -- edge h does not end nearer to p than it starts
+  abbrev pub EndsNoNearer : ℕ → Type 0
+  EndsNoNearer h =
+      ¬ (gap (whole p) (place points (origin m (rev h))) <ℤ gap (whole p) (place points (origin m h)))
+
+  -- no neighbour of vertex v is nearer to p than it
+  abbrev pub HasNoNearerNeighbor : ℕ → Type 0
+  HasNoNearerNeighbor v =
+      (k : ℕ) → IsEdge (drawn points m) v k → ¬ IsNearer (whole p) (place points k) (place points v)
+
+  -- it names an edge that does not end nearer to p than it starts, and has the start's squared distance
+  pub record IsCandidate (c : Candidate) : Type 0 where
+    pub within : c.spoke < length m.half_edges
+    pub distance : c.distance_2 ≡ gap (whole p) (place points (origin m c.spoke))
+    pub ends : EndsNoNearer c.spoke
+
+  -- it is nearer than vertex v
+  pub record IsNearerCandidate (v : ℕ) (c : Candidate) : Type 0 where
+    pub candidate : IsCandidate c
+    pub nearer : IsNearer (whole p) (place points (origin m c.spoke)) (place points v)
+
+  -- it is vertex v or nearer
+  pub record IsCandidateFrom (v : ℕ) (c : Candidate) : Type 0 where
+    pub candidate : IsCandidate c
+    pub nearer : (origin m c.spoke ≡ v) ⊎
+        IsNearer (whole p) (place points (origin m c.spoke)) (place points v)
