@@ -6,7 +6,7 @@ use Rattle.std.specs.Prelude.{Contains}
 use Rattle.half_edge_mesh.specs.Mesh.{Mesh, origin, next, prev, face, rev, edge_at, IsValidMesh}
 use Rattle.half_edge_mesh.specs.Flip.{IsFlippable, Flips, flipped}
 use Rattle.half_edge_links.proofs.Lists.Rev.{rev-rev, rev_within}
-use Rattle.half_edge_links.proofs.Lists.Writes.{AreSixPlaces}
+use Rattle.half_edge_links.specs.Places.{AreSixPlaces}
 use Rattle.half_edge_links.proofs.Sound.Triangles as T
 use Rattle.half_edge_links.proofs.Faces.FlipLemmas.{flips}
 use Rattle.half_edge_links.proofs.Faces.FlipSound.{origin_kept}

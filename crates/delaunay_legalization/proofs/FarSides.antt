@@ -7,7 +7,7 @@ use Rattle.std.proofs.lemmas.Bool.{cases_eq}
 use Rattle.half_edge_mesh.specs.Mesh.{Mesh, origin, next, prev, rev, IsValidMesh}
 use Rattle.half_edge_mesh.specs.Flip.{IsFlippable, Flips, flipped}
 use Rattle.half_edge_links.proofs.Lists.Rev.{rev-rev}
-use Rattle.half_edge_links.proofs.Lists.Writes.{AreSixPlaces}
+use Rattle.half_edge_links.specs.Places.{AreSixPlaces}
 use Rattle.half_edge_links.proofs.Sound.Triangles as T
 use Rattle.half_edge_links.proofs.Faces.FlipLemmas.{flips}
 use Rattle.half_edge_links.proofs.Faces.FlipSound.{origin_kept}

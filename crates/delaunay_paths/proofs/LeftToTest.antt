@@ -5,7 +5,7 @@ use Rattle.half_edge_mesh.specs.Mesh.{Mesh, IsValidMesh, origin, next, prev, rev
 use Rattle.half_edge_mesh.specs.Flip.{IsFlippable, Flips}
 use Rattle.half_edge_links.proofs.Faces.FlipSound.{origin_kept}
 use Rattle.half_edge_links.proofs.Sound.Triangles as T
-use Rattle.half_edge_links.proofs.Lists.Writes.{AreSixPlaces}
+use Rattle.half_edge_links.specs.Places.{AreSixPlaces}
 use Rattle.plane.specs.Crossing.{Cross}
 use Rattle.plane.specs.Fraction.{Point, IsSame, OnSegment}
 use Rattle.plane.specs.Pairs.{place, Joins, IsSamePair}

@@ -1,5 +1,6 @@
 pub mod Views
 pub mod Lists
+pub mod Stored
 pub mod Sound
 pub mod Faces
 pub mod Growing

@@ -2,6 +2,7 @@
 pub mod Rev
 pub mod Cases
 pub mod Writes
+pub mod Pushes
 pub mod VertexLists
 pub mod Sums
 pub mod Orbits

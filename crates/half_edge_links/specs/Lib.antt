@@ -1,6 +1,7 @@
-pub mod EdgeList
 pub mod VertexList
 pub mod Mesh
+pub mod EdgeList
+pub mod Places
 pub mod Room
 pub mod Rest
 pub mod Flip

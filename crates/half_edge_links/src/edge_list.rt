@@ -1,20 +1,22 @@
 //! The list of directed edges. A record takes 16 bytes, and a large block of memory begins 16 bytes
 //! past a multiple of 64: so the first place is left free, and the two sides of an edge, which most
-//! steps read together, lie in one line of the processor's cache.
+//! steps read together, lie in one line of the processor's cache. A record says where the edge
+//! before its own starts: in a triangle that is the corner opposite to the edge, for which most
+//! steps ask, and the edge after it says where the edge itself starts.
 ghost use Rattle.std.specs.Prelude.{◌≡◌, ◌+◌, ◌-◌, ◌<◌, ◌≤◌, [], ◌∷◌, ◌++◌, length, slice_set};
 ghost use Rattle.std.specs.Prelude.{OnOk, IsOk};
 ghost use Rattle.std.specs.List.{swap_remove};
-ghost use Rattle.half_edge_links.specs.EdgeList.{HoldsSameEdges};
-ghost use Rattle.half_edge_links.specs.Mesh.{edge_at, no_edge};
+ghost use Rattle.half_edge_links.specs.EdgeList.{stored_at, no_stored, shown, HoldsSameEdges};
+ghost use Rattle.half_edge_links.specs.Mesh.{edge_at};
 
-use crate::records::HalfEdge;
+use crate::records::{HalfEdge, StoredEdge};
 use crate::room::MAX_ELEMENTS;
 use std::alloc::{AllocError, Global};
 use std::marker::Model;
 
 // What stands in the free place.
-const NO_EDGE: HalfEdge = HalfEdge {
-    origin: 0,
+const NO_EDGE: StoredEdge = StoredEdge {
+    prev_origin: 0,
     next: 0,
     prev: 0,
     face: 0,
@@ -24,7 +26,7 @@ const NO_EDGE: HalfEdge = HalfEdge {
 #[derive(Drop)]
 pub(crate) struct EdgeList {
     // Nothing, or the free place and then the edges.
-    records: Vec<HalfEdge>,
+    records: Vec<StoredEdge>,
 }
 
 impl Model for EdgeList {
@@ -50,31 +52,87 @@ impl EdgeList {
         }
     }
 
+    #[tactic(auto, using(crate::proofs::Stored::Shown::length_shown))]
     pub(crate) fn len(&self) -> usize
-        ensures { result ≡ length self.now.items }
+        ensures kept { result ≡ length self.now.items }
+        ensures shown { result ≡ length (shown self.now.items) }
     {
         self.records.len().saturating_sub(1)
     }
 
-    // The directed edge `h`.
-    pub(crate) fn get(&self, h: u32) -> HalfEdge
+    // How the directed edge `h` is kept.
+    pub(crate) fn stored(&self, h: u32) -> StoredEdge
         requires { h < length self.now.items }
-        ensures { result ≡ edge_at self.now.items h }
+        ensures { result ≡ stored_at self.now.items h }
     {
         self.records[h as usize + 1]
     }
 
-    // Lets the directed edge `h` be `edge`.
-    pub(crate) fn set(&mut self, h: u32, edge: HalfEdge)
+    // The edge after `h`.
+    #[tactic(auto, using(crate::proofs::Stored::Shown::next_shown))]
+    pub(crate) fn next(&self, h: u32) -> u32
+        requires { h < length self.now.items }
+        ensures { result ≡ (edge_at (shown self.now.items) h).next }
+    {
+        self.stored(h).next
+    }
+
+    // The edge before `h`.
+    #[tactic(auto, using(crate::proofs::Stored::Shown::prev_shown))]
+    pub(crate) fn prev(&self, h: u32) -> u32
+        requires { h < length self.now.items }
+        ensures { result ≡ (edge_at (shown self.now.items) h).prev }
+    {
+        self.stored(h).prev
+    }
+
+    // The face on the left of `h`.
+    #[tactic(auto, using(crate::proofs::Stored::Shown::face_shown))]
+    pub(crate) fn face(&self, h: u32) -> u32
+        requires { h < length self.now.items }
+        ensures { result ≡ (edge_at (shown self.now.items) h).face }
+    {
+        self.stored(h).face
+    }
+
+    // Where `h` starts: the edge after it says so.
+    #[tactic(auto, using(crate::proofs::Stored::Shown::origin_shown))]
+    pub(crate) fn origin(&self, h: u32) -> u32
+        requires within { h < length self.now.items }
+        requires next_within { (edge_at (shown self.now.items) h).next < length self.now.items }
+        ensures { result ≡ (edge_at (shown self.now.items) h).origin }
+    {
+        self.stored(self.next(h)).prev_origin
+    }
+
+    // The directed edge `h`.
+    #[tactic(auto, using(crate::proofs::Stored::Shown::whole_reads))]
+    pub(crate) fn get(&self, h: u32) -> HalfEdge
+        requires within { h < length self.now.items }
+        requires next_within { (edge_at (shown self.now.items) h).next < length self.now.items }
+        ensures { result ≡ edge_at (shown self.now.items) h }
+    {
+        let edge = self.stored(h);
+        HalfEdge {
+            origin: self.stored(edge.next).prev_origin,
+            next: edge.next,
+            prev: edge.prev,
+            face: edge.face,
+        }
+    }
+
+    // Keeps the directed edge `h` as `edge`.
+    pub(crate) fn set(&mut self, h: u32, edge: StoredEdge)
         requires { h < length self.old.items }
         ensures items { self.new.items ≡ slice_set self.old.items h edge }
+        ensures len { length self.new.items ≡ length self.old.items }
         ensures capacity { self.new.capacity ≡ self.old.capacity }
     {
         self.records[h as usize + 1] = edge;
     }
 
     // A new last directed edge, which there is room for.
-    pub(crate) fn push_reserved(&mut self, edge: HalfEdge)
+    pub(crate) fn push_reserved(&mut self, edge: StoredEdge)
         requires { length self.old.items < self.old.capacity }
         ensures items { self.new.items ≡ self.old.items ++ edge ∷ [] }
         ensures capacity { self.new.capacity ≡ self.old.capacity }
@@ -85,7 +143,7 @@ impl EdgeList {
     // Takes the directed edge `h` out. The last one takes its place.
     pub(crate) fn swap_remove(&mut self, h: u32)
         requires { h < length self.old.items }
-        ensures items { self.new.items ≡ swap_remove self.old.items h no_edge }
+        ensures items { self.new.items ≡ swap_remove self.old.items h no_stored }
         ensures capacity { self.new.capacity ≡ self.old.capacity }
     {
         self.records.swap_remove(h as usize + 1);

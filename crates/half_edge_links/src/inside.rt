@@ -2,79 +2,80 @@
 ghost use Rattle.std.specs.Prelude.{◌≡◌, ◌≢◌, ◌+◌, ◌-◌, ◌<◌, ◌≤◌, length, Some};
 ghost use Rattle.half_edge_links.specs.Mesh.{origin, prev, rev, IsInnerEdge, IsAlone};
 ghost use Rattle.half_edge_links.specs.Mesh.{edge_at, AreSoundLinks};
+ghost use Rattle.half_edge_links.specs.EdgeList.{shown};
+ghost use Rattle.half_edge_links.specs.Places.{AreJoined, IsLoopOfThree, AreSixPlaces};
 ghost use Rattle.half_edge_links.specs.Flip.{IsFlippable, flipped, turn_by};
 ghost use Rattle.half_edge_links.specs.Insert.{inserted, fan_by};
 ghost use Rattle.half_edge_links.specs.Inside.{FlipsEdge, InsertsBeside, SplitsInnerEdge};
-ghost use Rattle.half_edge_links.specs.Remove.{IsLinkedWithin};
 ghost use Rattle.half_edge_links.specs.Room.{HasEdgeRoom, HasFaceRoom};
 ghost use Rattle.half_edge_links.specs.Rest.{KeepsRest};
 
 use crate::edge_list::EdgeList;
 use crate::links::Links;
-use crate::records::{HalfEdge, reversed};
+use crate::records::{linked, reversed};
 use crate::room::MAX_ELEMENTS;
 
-// The directed edge from vertex `origin`, before edge `next` and after edge `prev` round `face`.
-fn linked(origin: u32, next: u32, prev: u32, face: u32) -> HalfEdge
-    ensures { result ≡ record { origin = origin; next = next; prev = prev; face = face } }
-{
-    HalfEdge {
-        origin,
-        next,
-        prev,
-        face,
-    }
-}
-
 // Turns edge `e`, with other side `t`, in the list: the six edges round it get new links.
+#[tactic(auto, using(crate::proofs::Stored::Shown::shown_reads))]
 fn turn_edges(half_edges: &mut EdgeList, e: u32, t: u32)
-    requires edge { IsLinkedWithin half_edges.old.items e }
-    requires twin { IsLinkedWithin half_edges.old.items t }
-    ensures items { let hs = half_edges.old.items in let edge = edge_at hs e in
+    requires joined { AreJoined (shown half_edges.old.items) }
+    requires edge { IsLoopOfThree (shown half_edges.old.items) e }
+    requires twin { IsLoopOfThree (shown half_edges.old.items) t }
+    requires apart { let hs = shown half_edges.old.items in let edge = edge_at hs e in
         let twin = edge_at hs t in
-        half_edges.new.items ≡ turn_by hs e t edge twin (edge_at hs edge.next)
+        AreSixPlaces (length hs) e t edge.next twin.next edge.prev twin.prev }
+    requires start { let hs = shown half_edges.old.items in
+        (edge_at hs (edge_at hs t).next).origin ≡ (edge_at hs e).origin }
+    requires end { let hs = shown half_edges.old.items in
+        (edge_at hs (edge_at hs e).next).origin ≡ (edge_at hs t).origin }
+    ensures items { let hs = shown half_edges.old.items in let edge = edge_at hs e in
+        let twin = edge_at hs t in
+        shown half_edges.new.items ≡ turn_by hs e t edge twin (edge_at hs edge.next)
         (edge_at hs edge.prev) (edge_at hs twin.next) (edge_at hs twin.prev) }
     ensures capacity { half_edges.new.capacity ≡ half_edges.old.capacity }
 {
-    let edge = half_edges.get(e);
-    let twin = half_edges.get(t);
-    let edge_next = half_edges.get(edge.next);
-    let edge_prev = half_edges.get(edge.prev);
-    let twin_next = half_edges.get(twin.next);
-    let twin_prev = half_edges.get(twin.prev);
-    half_edges.set(e, linked(edge_prev.origin, twin.prev, edge.next, edge.face));
-    half_edges.set(t, linked(twin_prev.origin, edge.prev, twin.next, twin.face));
-    half_edges.set(edge.next, linked(edge_next.origin, e, twin.prev, edge.face));
-    half_edges.set(twin.next, linked(twin_next.origin, t, edge.prev, twin.face));
-    half_edges.set(edge.prev, linked(edge_prev.origin, twin.next, t, twin.face));
-    half_edges.set(twin.prev, linked(twin_prev.origin, edge.next, e, edge.face));
+    let edge = half_edges.stored(e);
+    let twin = half_edges.stored(t);
+    let start = half_edges.stored(edge.next).prev_origin;
+    let end = half_edges.stored(twin.next).prev_origin;
+    let left = edge.prev_origin;
+    let right = twin.prev_origin;
+    half_edges.set(e, linked(end, twin.prev, edge.next, edge.face));
+    half_edges.set(t, linked(start, edge.prev, twin.next, twin.face));
+    half_edges.set(edge.next, linked(right, e, twin.prev, edge.face));
+    half_edges.set(twin.next, linked(left, t, edge.prev, twin.face));
+    half_edges.set(edge.prev, linked(right, twin.next, t, twin.face));
+    half_edges.set(twin.prev, linked(left, edge.next, e, edge.face));
 }
 
 // Puts vertex `v` into the loop of `edge`, with three edges to it and back. The part of `edge`
 // keeps its face, and the two others become faces `g + 1` and `g + 2`.
+#[tactic(auto, using(crate::proofs::Stored::Shown::shown_reads))]
 fn fan_edges(half_edges: &mut EdgeList, v: u32, edge: u32, g: u32)
-    requires within { IsLinkedWithin half_edges.old.items edge }
+    requires joined { AreJoined (shown half_edges.old.items) }
+    requires triangle { IsLoopOfThree (shown half_edges.old.items) edge }
     requires room { length half_edges.old.items + 6 ≤ half_edges.old.capacity }
     requires small { length half_edges.old.items + 6 ≤ MAX_ELEMENTS }
     requires few { g + 2 ≤ MAX_ELEMENTS }
-    ensures items { let hs = half_edges.old.items in let first = edge_at hs edge in
-        half_edges.new.items ≡ fan_by hs v first.face (length hs) g edge first
+    ensures items { let hs = shown half_edges.old.items in let first = edge_at hs edge in
+        shown half_edges.new.items ≡ fan_by hs v first.face (length hs) g edge first
         (edge_at hs first.next) (edge_at hs first.prev) }
     ensures capacity { half_edges.new.capacity ≡ half_edges.old.capacity }
 {
     let n = half_edges.len() as u32;
-    let first = half_edges.get(edge);
-    let second = half_edges.get(first.next);
-    let third = half_edges.get(first.prev);
-    half_edges.set(edge, linked(first.origin, n + 2, n + 1, first.face));
-    half_edges.set(first.next, linked(second.origin, n + 4, n + 3, g + 1));
-    half_edges.set(first.prev, linked(third.origin, n, n + 5, g + 2));
-    half_edges.push_reserved(linked(first.origin, n + 5, first.prev, g + 2));
-    half_edges.push_reserved(linked(v, edge, n + 2, first.face));
-    half_edges.push_reserved(linked(second.origin, n + 1, edge, first.face));
-    half_edges.push_reserved(linked(v, first.next, n + 4, g + 1));
-    half_edges.push_reserved(linked(third.origin, n + 3, first.next, g + 1));
-    half_edges.push_reserved(linked(v, first.prev, n, g + 2));
+    let first = half_edges.stored(edge);
+    let start = half_edges.stored(first.next).prev_origin;
+    let end = half_edges.stored(first.prev).prev_origin;
+    let corner = first.prev_origin;
+    half_edges.set(edge, linked(v, n + 2, n + 1, first.face));
+    half_edges.set(first.next, linked(v, n + 4, n + 3, g + 1));
+    half_edges.set(first.prev, linked(v, n, n + 5, g + 2));
+    half_edges.push_reserved(linked(corner, n + 5, first.prev, g + 2));
+    half_edges.push_reserved(linked(end, edge, n + 2, first.face));
+    half_edges.push_reserved(linked(start, n + 1, edge, first.face));
+    half_edges.push_reserved(linked(corner, first.next, n + 4, g + 1));
+    half_edges.push_reserved(linked(end, n + 3, first.next, g + 1));
+    half_edges.push_reserved(linked(start, first.prev, n, g + 2));
 }
 
 impl<V> Links<V> {
@@ -99,6 +100,7 @@ impl<V> Links<V> {
     }
 
     /// Makes three faces of the one on the left of `edge`, each of one of its edges and vertex `v`.
+    #[tactic(auto, using(crate::proofs::Stored::Shown::shown_reads))]
     pub fn insert_beside(&mut self, v: u32, edge: u32)
         requires inner { IsInnerEdge self.old.mesh edge }
         requires alone { IsAlone self.old.mesh v }
@@ -111,7 +113,7 @@ impl<V> Links<V> {
     {
         let n = self.half_edges.len() as u32;
         let g = self.face_edges.len() as u32;
-        let first = self.half_edges.get(edge);
+        let first = self.half_edges.stored(edge);
         fan_edges(&mut self.half_edges, v, edge, g);
         self.face_edges[first.face as usize - 1] = edge;
         self.face_edges.push_reserved(first.next);

@@ -10,10 +10,11 @@ ghost use Rattle.half_edge_links.specs.Grown.{AreConnectable, ExtendsLine, Split
 ghost use Rattle.half_edge_links.specs.Rest.{KeepsRest};
 
 use crate::links::Links;
-use crate::records::{HalfEdge, reversed, slide_edges};
+use crate::records::{linked, reversed, slide_edges};
 
 impl<V> Links<V> {
     /// Makes the first edge, from `a` to `b`.
+    #[tactic(auto, using(crate::proofs::Stored::Shown::shown_reads))]
     pub fn connect(&mut self, a: u32, b: u32)
         requires vertices { AreConnectable self.old.mesh a b }
         requires room { HasEdgeRoom self.old.mesh self.old.room 2 }
@@ -22,18 +23,8 @@ impl<V> Links<V> {
         ensures sound { AreSoundLinks self.old.mesh }
         ensures outline { HasOneOutline self.new.mesh }
     {
-        self.half_edges.push_reserved(HalfEdge {
-            origin: a,
-            next: 1,
-            prev: 1,
-            face: 0,
-        });
-        self.half_edges.push_reserved(HalfEdge {
-            origin: b,
-            next: 0,
-            prev: 0,
-            face: 0,
-        });
+        self.half_edges.push_reserved(linked(b, 1, 1, 0));
+        self.half_edges.push_reserved(linked(a, 0, 0, 0));
         self.vertices.set_out_edge(a, Some(0));
         self.vertices.set_out_edge(b, Some(1));
         self.outer_edge = Some(0);
@@ -56,6 +47,7 @@ impl<V> Links<V> {
     }
 
     /// Lets edge `e` end at the far end of the edge after it, which is the only one there.
+    #[tactic(auto, using(crate::proofs::Stored::Shown::shown_reads))]
     pub fn slide(&mut self, e: u32)
         requires { IsSlidable self.old.mesh e }
         ensures mesh { self.new.mesh ≡ slid self.old.mesh e }
@@ -68,9 +60,9 @@ impl<V> Links<V> {
         ensures outline { KeepsOneOutline self.old.mesh self.new.mesh }
     {
         let t = reversed(e);
-        let k = self.half_edges.get(e).next;
+        let k = self.half_edges.next(e);
         let there = self.half_edges.get(k);
-        let z = self.half_edges.get(t).prev;
+        let z = self.half_edges.prev(t);
         slide_edges(&mut self.half_edges, e, t, k, there.next, z);
         self.vertices.set_out_edge(there.origin, Some(k));
     }

@@ -1,7 +1,7 @@
 //! The vertices, edges and faces of a mesh, and reads of them.
 ghost use Rattle.std.specs.Prelude.{◌≡◌, ◌+◌, ◌-◌, ◌<◌, ◌≤◌, length, [], slice_get, Some};
 ghost use Rattle.half_edge_links.specs.Mesh.{edge_at, empty, IsInner, AreSoundLinks, IsValidMesh};
-ghost use Rattle.half_edge_links.specs.Mesh.{face_edge, out_edge};
+ghost use Rattle.half_edge_links.specs.Mesh.{face_edge, out_edge, origin, next, prev, face};
 
 use crate::edge_list::EdgeList;
 use crate::records::HalfEdge;
@@ -24,6 +24,7 @@ pub struct Links<V> {
 
 impl<V> Model for Links<V> {
     ghost use Rattle.std.specs.Prelude.{vec_capacity, min, ◌-◌};
+    ghost use Rattle.half_edge_links.specs.EdgeList.{shown};
     ghost use Rattle.half_edge_links.specs.Mesh.{IsValidMesh};
     ghost use Rattle.half_edge_links.specs.Room.{Held};
     ghost use Rattle.half_edge_links.specs.declared.room.TheConstants.{MAX_ELEMENTS};
@@ -33,7 +34,7 @@ impl<V> Model for Links<V> {
     ghost view = { λ l. record {
       mesh = record {
         out_edges = l.vertices.out_edges;
-        half_edges = l.half_edges.items;
+        half_edges = shown l.half_edges.items;
         outer_edge = l.outer_edge;
         face_edges = l.face_edges.items;
       };
@@ -47,7 +48,7 @@ impl<V> Model for Links<V> {
 
     ghost invariant = { λ l. IsValidMesh (record {
       out_edges = l.vertices.out_edges;
-      half_edges = l.half_edges.items;
+      half_edges = shown l.half_edges.items;
       outer_edge = l.outer_edge;
       face_edges = l.face_edges.items;
     }) };
@@ -55,6 +56,7 @@ impl<V> Model for Links<V> {
 
 impl<V> Links<V> {
     /// A mesh with no vertex, no edge and the outer face, which takes no memory.
+    #[tactic(auto, unfolding(crate::specs::EdgeList::shown))]
     pub fn new(alloc: Global) -> Self
         ensures empty { result.mesh ≡ empty }
         ensures values { result.values ≡ [] }
@@ -68,6 +70,7 @@ impl<V> Links<V> {
     }
 
     /// The directed edge `h`.
+    #[tactic(auto, using(crate::proofs::Stored::Shown::shown_reads))]
     pub fn half_edge(&self, h: u32) -> HalfEdge
         requires { h < length self.now.mesh.half_edges }
         ensures value { result ≡ edge_at self.now.mesh.half_edges h }
@@ -75,6 +78,57 @@ impl<V> Links<V> {
         ensures valid { IsValidMesh self.now.mesh }
     {
         self.half_edges.get(h)
+    }
+
+    /// The edge after directed edge `h` round the face on its left.
+    #[tactic(auto, using(crate::proofs::Stored::Shown::shown_reads))]
+    pub fn next(&self, h: u32) -> u32
+        requires { h < length self.now.mesh.half_edges }
+        ensures value { result ≡ next self.now.mesh h }
+        ensures valid { IsValidMesh self.now.mesh }
+    {
+        self.half_edges.next(h)
+    }
+
+    /// The edge before directed edge `h` round the face on its left.
+    #[tactic(auto, using(crate::proofs::Stored::Shown::shown_reads))]
+    pub fn prev(&self, h: u32) -> u32
+        requires { h < length self.now.mesh.half_edges }
+        ensures value { result ≡ prev self.now.mesh h }
+        ensures valid { IsValidMesh self.now.mesh }
+    {
+        self.half_edges.prev(h)
+    }
+
+    /// The face on the left of directed edge `h`.
+    #[tactic(auto, using(crate::proofs::Stored::Shown::shown_reads))]
+    pub fn face(&self, h: u32) -> u32
+        requires { h < length self.now.mesh.half_edges }
+        ensures value { result ≡ face self.now.mesh h }
+        ensures valid { IsValidMesh self.now.mesh }
+    {
+        self.half_edges.face(h)
+    }
+
+    /// The vertex at which directed edge `h` starts.
+    #[tactic(auto, using(crate::proofs::Stored::Shown::shown_reads))]
+    pub fn origin(&self, h: u32) -> u32
+        requires { h < length self.now.mesh.half_edges }
+        ensures value { result ≡ origin self.now.mesh h }
+        ensures valid { IsValidMesh self.now.mesh }
+    {
+        self.half_edges.origin(h)
+    }
+
+    /// The vertex at which the edge before directed edge `h` starts: where `h` is an edge of an
+    /// inner face, the corner opposite to it. This is the cheapest read of a vertex.
+    #[tactic(auto, using(crate::proofs::Stored::Shown::shown_reads))]
+    pub fn prev_origin(&self, h: u32) -> u32
+        requires { h < length self.now.mesh.half_edges }
+        ensures value { result ≡ origin self.now.mesh (prev self.now.mesh h) }
+        ensures valid { IsValidMesh self.now.mesh }
+    {
+        self.half_edges.stored(h).prev_origin
     }
 
     pub fn half_edge_count(&self) -> usize

@@ -13,6 +13,7 @@ use crate::records::{close_edges, hang_edges, reversed};
 
 impl<V> Links<V> {
     /// Puts an edge from the end of outer edge `x` to vertex `v` into the outer loop, after `x`.
+    #[tactic(auto, using(crate::proofs::Stored::Shown::shown_reads))]
     pub fn hang(&mut self, x: u32, v: u32)
         requires outer { IsOuter self.old.mesh x }
         requires alone { IsAlone self.old.mesh v }
@@ -28,6 +29,7 @@ impl<V> Links<V> {
     }
 
     /// Makes a face of outer edge `e`, the next one and a new edge.
+    #[tactic(auto, using(crate::proofs::Stored::Shown::shown_reads))]
     pub fn close(&mut self, e: u32)
         requires closable { IsClosable self.old.mesh e }
         requires room { HasEdgeAndFaceRoom self.old.mesh self.old.room 2 1 }
@@ -38,8 +40,8 @@ impl<V> Links<V> {
     {
         let n = self.half_edges.len() as u32;
         let g = self.face_edges.len() as u32 + 1;
-        let second = self.half_edges.get(e).next;
-        let after = self.half_edges.get(second).next;
+        let second = self.half_edges.next(e);
+        let after = self.half_edges.next(second);
         close_edges(&mut self.half_edges, e, after, g);
         self.outer_edge = Some(n + 1);
         self.face_edges.push_reserved(e);

@@ -3,38 +3,44 @@ ghost use Rattle.std.specs.Prelude.{◌≡◌, ◌<◌, length};
 ghost use Rattle.half_edge_links.specs.Hull.{KeepsOneOutline};
 ghost use Rattle.half_edge_links.specs.Mesh.{origin, next, rev, AreSoundLinks};
 ghost use Rattle.half_edge_links.specs.Outline.{MovesEdge};
+ghost use Rattle.half_edge_links.specs.EdgeList.{shown};
+ghost use Rattle.half_edge_links.specs.Places.{AreJoined, ArePassedPlaces};
 ghost use Rattle.half_edge_links.specs.Pass.{passed_edges, passed, IsPassable, Passes};
 ghost use Rattle.half_edge_links.specs.Rest.{KeepsRest};
 
 use crate::edge_list::EdgeList;
 use crate::links::Links;
-use crate::records::{HalfEdge, reversed, set_next, set_origin, set_prev};
+use crate::records::{reversed, set_corner, set_next, set_prev};
 
 // Lets edge `e`, with other side `t`, end at the far end of the edge `l` after it, whose other side
 // is `k`; `z` is the edge before `k`.
-#[tactic(auto, unfolding(crate::specs::Pass::passed_edges))]
+#[tactic(auto, using(crate::proofs::Stored::Shown::joined_reads))]
 fn pass_edges(half_edges: &mut EdgeList, e: u32, t: u32, k: u32, l: u32, z: u32)
-    requires e { e < length half_edges.old.items }
-    requires t { t < length half_edges.old.items }
-    requires k { k < length half_edges.old.items }
-    requires l { l < length half_edges.old.items }
-    requires z { z < length half_edges.old.items }
-    ensures items { half_edges.new.items ≡ passed_edges half_edges.old.items e t k l z }
+    requires joined { AreJoined (shown half_edges.old.items) }
+    requires places { ArePassedPlaces (shown half_edges.old.items) e t k l z }
+    ensures items { shown half_edges.new.items ≡ passed_edges (shown half_edges.old.items) e t k l z }
     ensures capacity { half_edges.new.capacity ≡ half_edges.old.capacity }
 {
-    let far = half_edges.get(k).origin;
+    let start = half_edges.origin(e);
+    let far = half_edges.origin(k);
+    let start_before = half_edges.origin(z);
+    let after_twin = half_edges.next(t);
     set_next(half_edges, e, k);
     set_next(half_edges, z, t);
     set_next(half_edges, k, l);
     set_prev(half_edges, l, k);
     set_prev(half_edges, k, e);
     set_prev(half_edges, t, z);
-    set_origin(half_edges, t, far);
+    set_corner(half_edges, k, start);
+    set_corner(half_edges, t, start_before);
+    set_corner(half_edges, l, far);
+    set_corner(half_edges, after_twin, far);
 }
 
 impl<V> Links<V> {
     /// Lets edge `e` of a line pass the vertex at its end, and end where the edge after it ends.
     /// The vertex is left hanging there, by the edge after `e`.
+    #[tactic(auto, using(crate::proofs::Stored::Shown::shown_reads))]
     pub fn pass(&mut self, e: u32)
         requires { IsPassable self.old.mesh e }
         ensures mesh { self.new.mesh ≡ passed self.old.mesh e }
@@ -47,11 +53,11 @@ impl<V> Links<V> {
         ensures outline { KeepsOneOutline self.old.mesh self.new.mesh }
     {
         let t = reversed(e);
-        let l = self.half_edges.get(e).next;
-        let k = self.half_edges.get(t).prev;
-        let there = self.half_edges.get(k);
-        let passed = self.half_edges.get(l).origin;
-        pass_edges(&mut self.half_edges, e, t, k, l, there.prev);
+        let l = self.half_edges.next(e);
+        let k = self.half_edges.prev(t);
+        let z = self.half_edges.prev(k);
+        let passed = self.half_edges.origin(l);
+        pass_edges(&mut self.half_edges, e, t, k, l, z);
         self.vertices.set_out_edge(passed, Some(l));
     }
 }

@@ -1,7 +1,9 @@
-//! One directed edge, and writes to single links of a list of them.
-ghost use Rattle.std.specs.Prelude.{◌≡◌, ◌+◌, ◌-◌, ◌<◌, ◌≤◌, length};
+//! One directed edge, how it is kept, and writes to single links of a list of them.
+ghost use Rattle.std.specs.Prelude.{◌≡◌, ◌≢◌, ◌+◌, ◌-◌, ◌<◌, ◌≤◌, length};
 ghost use Rattle.half_edge_links.specs.Mesh.{face, edge_at, origin, next, prev, rev};
-ghost use Rattle.half_edge_links.specs.Grow.{with_next, with_prev, with_face, with_origin};
+ghost use Rattle.half_edge_links.specs.EdgeList.{shown, stored_next, stored_prev};
+ghost use Rattle.half_edge_links.specs.EdgeList.{stored_face, stored_corner};
+ghost use Rattle.half_edge_links.specs.Places.{AreJoined, AreSlidPlaces};
 ghost use Rattle.half_edge_links.specs.Grow.{hung_edges, closed_edges, slid_edges};
 
 use crate::edge_list::EdgeList;
@@ -17,6 +19,33 @@ pub struct HalfEdge {
     pub face: u32,
 }
 
+// A directed edge as its list keeps it: where the edge before it starts, the edges after and before
+// it in its loop, and the face on its left.
+#[derive(Clone, Copy)]
+pub(crate) struct StoredEdge {
+    pub(crate) prev_origin: u32,
+    pub(crate) next: u32,
+    pub(crate) prev: u32,
+    pub(crate) face: u32,
+}
+
+// The edge between these two round `face`, where the edge before it starts at `prev_origin`.
+pub(crate) fn linked(prev_origin: u32, next: u32, prev: u32, face: u32) -> StoredEdge
+    ensures { result ≡ record {
+      prev_origin = prev_origin;
+      next = next;
+      prev = prev;
+      face = face;
+    } }
+{
+    StoredEdge {
+        prev_origin,
+        next,
+        prev,
+        face,
+    }
+}
+
 // The other side of a directed edge.
 pub fn reversed(h: u32) -> u32
     ensures { result ≡ rev h }
@@ -25,139 +54,137 @@ pub fn reversed(h: u32) -> u32
 }
 
 // Lets the edge after `h` be `next`.
-#[tactic(auto, unfolding(crate::specs::Grow::with_next))]
+#[tactic(auto, unfolding(crate::specs::EdgeList::stored_next))]
 pub(crate) fn set_next(half_edges: &mut EdgeList, h: u32, next: u32)
     requires { h < length half_edges.old.items }
-    ensures items { half_edges.new.items ≡ with_next half_edges.old.items h next }
+    ensures items { half_edges.new.items ≡ stored_next half_edges.old.items h next }
     ensures len { length half_edges.new.items ≡ length half_edges.old.items }
     ensures capacity { half_edges.new.capacity ≡ half_edges.old.capacity }
 {
-    let edge = half_edges.get(h);
-    half_edges.set(h, HalfEdge { next, ..edge });
+    let edge = half_edges.stored(h);
+    half_edges.set(h, StoredEdge { next, ..edge });
 }
 
 // Lets the edge before `h` be `prev`.
-#[tactic(auto, unfolding(crate::specs::Grow::with_prev))]
+#[tactic(auto, unfolding(crate::specs::EdgeList::stored_prev))]
 pub(crate) fn set_prev(half_edges: &mut EdgeList, h: u32, prev: u32)
     requires { h < length half_edges.old.items }
-    ensures items { half_edges.new.items ≡ with_prev half_edges.old.items h prev }
+    ensures items { half_edges.new.items ≡ stored_prev half_edges.old.items h prev }
     ensures len { length half_edges.new.items ≡ length half_edges.old.items }
     ensures capacity { half_edges.new.capacity ≡ half_edges.old.capacity }
 {
-    let edge = half_edges.get(h);
-    half_edges.set(h, HalfEdge { prev, ..edge });
+    let edge = half_edges.stored(h);
+    half_edges.set(h, StoredEdge { prev, ..edge });
 }
 
 // Lets face `face` lie on the left of `h`.
-#[tactic(auto, unfolding(crate::specs::Grow::with_face))]
+#[tactic(auto, unfolding(crate::specs::EdgeList::stored_face))]
 pub(crate) fn set_face(half_edges: &mut EdgeList, h: u32, face: u32)
     requires { h < length half_edges.old.items }
-    ensures items { half_edges.new.items ≡ with_face half_edges.old.items h face }
+    ensures items { half_edges.new.items ≡ stored_face half_edges.old.items h face }
     ensures len { length half_edges.new.items ≡ length half_edges.old.items }
     ensures capacity { half_edges.new.capacity ≡ half_edges.old.capacity }
 {
-    let edge = half_edges.get(h);
-    half_edges.set(h, HalfEdge { face, ..edge });
+    let edge = half_edges.stored(h);
+    half_edges.set(h, StoredEdge { face, ..edge });
 }
 
-// Lets `h` start at vertex `origin`.
-#[tactic(auto, unfolding(crate::specs::Grow::with_origin))]
-pub(crate) fn set_origin(half_edges: &mut EdgeList, h: u32, origin: u32)
+// Lets the edge before `h` start at vertex `prev_origin`.
+#[tactic(auto, unfolding(crate::specs::EdgeList::stored_corner))]
+pub(crate) fn set_corner(half_edges: &mut EdgeList, h: u32, prev_origin: u32)
     requires { h < length half_edges.old.items }
-    ensures items { half_edges.new.items ≡ with_origin half_edges.old.items h origin }
+    ensures items { half_edges.new.items ≡ stored_corner half_edges.old.items h prev_origin }
     ensures len { length half_edges.new.items ≡ length half_edges.old.items }
     ensures capacity { half_edges.new.capacity ≡ half_edges.old.capacity }
 {
-    let edge = half_edges.get(h);
-    half_edges.set(h, HalfEdge { origin, ..edge });
+    let edge = half_edges.stored(h);
+    half_edges.set(
+        h,
+        StoredEdge {
+            prev_origin,
+            ..edge
+        },
+    );
 }
 
 // Puts an edge to vertex `v` and back after edge `x`, whose next one is `y`.
-#[tactic(auto, unfolding(crate::specs::Grow::hung_edges))]
+#[tactic(auto, using(crate::proofs::Stored::Shown::joined_reads))]
 pub(crate) fn hang_edges(half_edges: &mut EdgeList, x: u32, v: u32)
+    requires joined { AreJoined (shown half_edges.old.items) }
     requires within { x < length half_edges.old.items }
-    requires next_within { (edge_at half_edges.old.items x).next < length half_edges.old.items }
     requires room { length half_edges.old.items + 2 ≤ half_edges.old.capacity }
     requires small { length half_edges.old.items + 2 ≤ MAX_ELEMENTS }
-    ensures items { half_edges.new.items ≡ hung_edges half_edges.old.items x
-        (edge_at half_edges.old.items x).next v (length half_edges.old.items) }
+    ensures items { let hs = shown half_edges.old.items in
+        shown half_edges.new.items ≡ hung_edges hs x (edge_at hs x).next v (length hs) }
     ensures capacity { half_edges.new.capacity ≡ half_edges.old.capacity }
 {
     let n = half_edges.len() as u32;
-    let edge = half_edges.get(x);
-    let after = half_edges.get(edge.next);
+    let y = half_edges.next(x);
+    let face = half_edges.face(x);
+    let start = half_edges.origin(x);
+    let end = half_edges.origin(y);
     set_next(half_edges, x, n);
-    set_prev(half_edges, edge.next, n + 1);
-    half_edges.push_reserved(HalfEdge {
-        origin: after.origin,
-        next: n + 1,
-        prev: x,
-        face: edge.face,
-    });
-    half_edges.push_reserved(HalfEdge {
-        origin: v,
-        next: edge.next,
-        prev: n,
-        face: edge.face,
-    });
+    set_prev(half_edges, y, n + 1);
+    set_corner(half_edges, y, v);
+    half_edges.push_reserved(linked(start, n + 1, x, face));
+    half_edges.push_reserved(linked(end, y, n, face));
 }
 
 // Makes face `g` of edge `e`, the next one and a new edge, between the edges before and after the
 // two.
-#[tactic(auto, unfolding(crate::specs::Grow::closed_edges))]
+#[tactic(auto, using(crate::proofs::Stored::Shown::joined_reads))]
 pub(crate) fn close_edges(half_edges: &mut EdgeList, e: u32, after: u32, g: u32)
+    requires joined { AreJoined (shown half_edges.old.items) }
     requires within { e < length half_edges.old.items }
-    requires next_within { (edge_at half_edges.old.items e).next < length half_edges.old.items }
-    requires prev_within { (edge_at half_edges.old.items e).prev < length half_edges.old.items }
-    requires after_within { after < length half_edges.old.items }
+    requires after { let hs = shown half_edges.old.items in
+        after ≡ (edge_at hs (edge_at hs e).next).next }
+    requires apart { after ≢ e }
     requires room { length half_edges.old.items + 2 ≤ half_edges.old.capacity }
     requires small { length half_edges.old.items + 2 ≤ MAX_ELEMENTS }
-    ensures items { half_edges.new.items ≡ closed_edges half_edges.old.items e
-        (edge_at half_edges.old.items e).next (edge_at half_edges.old.items e).prev after
-        (length half_edges.old.items) g }
+    ensures items { let hs = shown half_edges.old.items in
+        shown half_edges.new.items ≡ closed_edges hs e (edge_at hs e).next (edge_at hs e).prev after
+        (length hs) g }
     ensures capacity { half_edges.new.capacity ≡ half_edges.old.capacity }
 {
     let n = half_edges.len() as u32;
     let edge = half_edges.get(e);
-    let start = half_edges.get(after).origin;
+    let middle = half_edges.origin(edge.next);
+    let end = half_edges.origin(after);
+    let start_before = half_edges.origin(edge.prev);
     set_next(half_edges, edge.prev, n + 1);
     set_next(half_edges, edge.next, n);
     set_prev(half_edges, after, n + 1);
     set_prev(half_edges, e, n);
     set_face(half_edges, e, g);
     set_face(half_edges, edge.next, g);
-    half_edges.push_reserved(HalfEdge {
-        origin: start,
-        next: e,
-        prev: edge.next,
-        face: g,
-    });
-    half_edges.push_reserved(HalfEdge {
-        origin: edge.origin,
-        next: after,
-        prev: edge.prev,
-        face: 0,
-    });
+    set_corner(half_edges, after, edge.origin);
+    set_corner(half_edges, e, end);
+    half_edges.push_reserved(linked(middle, e, edge.next, g));
+    half_edges.push_reserved(linked(start_before, after, edge.prev, 0));
 }
 
 // Lets edge `e`, with other side `t`, end at the far end of the edge `k` after it, whose other side
 // is `l`; `z` is the edge before `t`.
-#[tactic(auto, unfolding(crate::specs::Grow::slid_edges))]
+#[tactic(auto, using(crate::proofs::Stored::Shown::joined_reads))]
 pub(crate) fn slide_edges(half_edges: &mut EdgeList, e: u32, t: u32, k: u32, l: u32, z: u32)
-    requires e { e < length half_edges.old.items }
-    requires t { t < length half_edges.old.items }
-    requires k { k < length half_edges.old.items }
-    requires l { l < length half_edges.old.items }
-    requires z { z < length half_edges.old.items }
-    ensures items { half_edges.new.items ≡ slid_edges half_edges.old.items e t k l z }
+    requires joined { AreJoined (shown half_edges.old.items) }
+    requires places { AreSlidPlaces (shown half_edges.old.items) e t k l z }
+    ensures items { shown half_edges.new.items ≡ slid_edges (shown half_edges.old.items) e t k l z }
     ensures capacity { half_edges.new.capacity ≡ half_edges.old.capacity }
 {
-    let far = half_edges.get(l).origin;
+    let start = half_edges.origin(e);
+    let middle = half_edges.origin(k);
+    let far = half_edges.origin(l);
+    let start_before = half_edges.origin(z);
+    let after_twin = half_edges.next(t);
     set_next(half_edges, e, l);
     set_next(half_edges, z, k);
     set_next(half_edges, k, t);
     set_prev(half_edges, l, e);
     set_prev(half_edges, k, z);
     set_prev(half_edges, t, k);
-    set_origin(half_edges, t, far);
+    set_corner(half_edges, l, start);
+    set_corner(half_edges, k, start_before);
+    set_corner(half_edges, t, middle);
+    set_corner(half_edges, after_twin, far);
 }

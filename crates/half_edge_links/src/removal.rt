@@ -1,6 +1,9 @@
 //! Writes to the lists of a mesh that take an edge, a face or a vertex out of it.
 ghost use Rattle.std.specs.Prelude.{◌≡◌, ◌≢◌, ℕ, ◌+◌, ◌-◌, ◌<◌, ◌≤◌};
 ghost use Rattle.std.specs.Prelude.{length, Option, Some, None, vec_capacity};
+ghost use Rattle.half_edge_links.specs.EdgeList.{shown};
+ghost use Rattle.half_edge_links.specs.Places.{AreJoined, AreUnlinkedPlaces, IsHole};
+ghost use Rattle.half_edge_links.specs.Grow.{with_origin};
 ghost use Rattle.half_edge_links.specs.Remove.{IsLinkedWithin, with_loop_face, with_unlinked};
 ghost use Rattle.half_edge_links.specs.Remove.{with_filled};
 ghost use Rattle.half_edge_links.specs.Remove.{with_out_renamed, with_face_renamed, out_after};
@@ -10,32 +13,37 @@ ghost use Rattle.half_edge_links.specs.Renames.{renamed, pair_moved};
 ghost use Rattle.half_edge_links.specs.declared.room.TheConstants.{MAX_ELEMENTS};
 
 use crate::edge_list::EdgeList;
-use crate::records::{HalfEdge, reversed, set_face, set_next, set_origin, set_prev};
+use crate::records::{reversed, set_corner, set_face, set_next, set_prev};
 use crate::vertex_list::VertexList;
 
 // The three directed edges round the triangle of `h` get this face.
+#[tactic(auto, using(crate::proofs::Stored::Shown::joined_reads))]
 pub(crate) fn set_loop_face(half_edges: &mut EdgeList, h: u32, face: u32)
-    requires { IsLinkedWithin half_edges.old.items h }
-    ensures items { half_edges.new.items ≡ with_loop_face half_edges.old.items h face }
+    requires { IsLinkedWithin (shown half_edges.old.items) h }
+    ensures items { shown half_edges.new.items ≡ with_loop_face (shown half_edges.old.items) h face }
     ensures len { length half_edges.new.items ≡ length half_edges.old.items }
     ensures capacity { half_edges.new.capacity ≡ half_edges.old.capacity }
 {
-    let edge = half_edges.get(h);
+    let next = half_edges.next(h);
+    let prev = half_edges.prev(h);
     set_face(half_edges, h, face);
-    set_face(half_edges, edge.next, face);
-    set_face(half_edges, edge.prev, face);
+    set_face(half_edges, next, face);
+    set_face(half_edges, prev, face);
 }
 
 // Takes edge `e`, with other side `t`, out of its loops. Each side is left as a loop of its own.
+#[tactic(auto, using(crate::proofs::Stored::Shown::joined_reads))]
 pub(crate) fn unlink(half_edges: &mut EdgeList, e: u32, t: u32)
-    requires edge { IsLinkedWithin half_edges.old.items e }
-    requires twin { IsLinkedWithin half_edges.old.items t }
-    ensures items { half_edges.new.items ≡ with_unlinked half_edges.old.items e t }
+    requires joined { AreJoined (shown half_edges.old.items) }
+    requires places { AreUnlinkedPlaces (shown half_edges.old.items) e t }
+    ensures items { shown half_edges.new.items ≡ with_unlinked (shown half_edges.old.items) e t }
     ensures len { length half_edges.new.items ≡ length half_edges.old.items }
     ensures capacity { half_edges.new.capacity ≡ half_edges.old.capacity }
 {
     let edge = half_edges.get(e);
     let twin = half_edges.get(t);
+    let start_before = half_edges.origin(edge.prev);
+    let end_before = half_edges.origin(twin.prev);
     set_next(half_edges, edge.prev, twin.next);
     set_prev(half_edges, twin.next, edge.prev);
     set_next(half_edges, twin.prev, edge.next);
@@ -44,25 +52,30 @@ pub(crate) fn unlink(half_edges: &mut EdgeList, e: u32, t: u32)
     set_prev(half_edges, e, e);
     set_next(half_edges, t, t);
     set_prev(half_edges, t, t);
+    set_corner(half_edges, twin.next, start_before);
+    set_corner(half_edges, edge.next, end_before);
+    set_corner(half_edges, e, edge.origin);
+    set_corner(half_edges, t, twin.origin);
 }
 
 // The last two directed edges, from `last` on, take the place of `hole` and the one after it.
+#[tactic(auto, using(crate::proofs::Stored::Shown::joined_reads))]
 pub(crate) fn fill(half_edges: &mut EdgeList, last: u32, hole: u32)
+    requires joined { AreJoined (shown half_edges.old.items) }
     requires last { length half_edges.old.items ≡ last + 2 }
-    requires hole { hole + 1 < length half_edges.old.items }
     requires small { length half_edges.old.items ≤ MAX_ELEMENTS }
-    requires even { IsLinkedWithin half_edges.old.items last }
-    requires odd { IsLinkedWithin half_edges.old.items (last + 1) }
-    requires apart { hole ≢ last + 1 }
-    ensures items { half_edges.new.items ≡ with_filled half_edges.old.items last hole }
+    requires hole { IsHole (shown half_edges.old.items) hole }
+    ensures items { shown half_edges.new.items ≡ with_filled (shown half_edges.old.items) last hole }
     ensures capacity { half_edges.new.capacity ≡ half_edges.old.capacity }
 {
-    let even = half_edges.get(last);
-    let odd = half_edges.get(last + 1);
-    set_next(half_edges, even.prev, hole);
-    set_prev(half_edges, even.next, hole);
-    set_next(half_edges, odd.prev, hole + 1);
-    set_prev(half_edges, odd.next, hole + 1);
+    let even_next = half_edges.next(last);
+    let even_prev = half_edges.prev(last);
+    let odd_next = half_edges.next(last + 1);
+    let odd_prev = half_edges.prev(last + 1);
+    set_next(half_edges, even_prev, hole);
+    set_prev(half_edges, even_next, hole);
+    set_next(half_edges, odd_prev, hole + 1);
+    set_prev(half_edges, odd_next, hole + 1);
     half_edges.swap_remove(hole + 1);
     half_edges.swap_remove(hole);
 }
@@ -98,7 +111,7 @@ pub(crate) fn renamed(from: u32, to: u32, edge: Option<u32>) -> Option<u32>
 pub(crate) fn rename_out<V>(vertices: &mut VertexList<V>, v: u32, from: u32, to: u32)
     requires vertex { v < length vertices.old.out_edges }
     requires from_in { from + 1 < 4294967296 }
-    requires to_in { to + 1 < 4294967296 }
+    requires to_in { to + 1 < MAX_ELEMENTS }
     ensures contents { vertices.new ≡ record vertices.old {
       out_edges = with_out_renamed vertices.old.out_edges v from to;
     } }
@@ -160,17 +173,32 @@ pub(crate) fn outer_after(outer: Option<u32>, e: u32, t: u32, next: u32, prev: u
     }
 }
 
+// Lets directed edge `h` start at vertex `v`.
+#[tactic(auto, using(crate::proofs::Stored::Shown::joined_reads))]
+fn set_origin(half_edges: &mut EdgeList, h: u32, v: u32)
+    requires joined { AreJoined (shown half_edges.old.items) }
+    requires within { h < length half_edges.old.items }
+    ensures items { shown half_edges.new.items ≡ with_origin (shown half_edges.old.items) h v }
+    ensures len { length half_edges.new.items ≡ length half_edges.old.items }
+    ensures capacity { half_edges.new.capacity ≡ half_edges.old.capacity }
+{
+    let next = half_edges.next(h);
+    set_corner(half_edges, next, v);
+}
+
 // The edges round the origin of `first` start at vertex `v` from now on.
+#[tactic(auto, using(crate::proofs::Stored::Shown::joined_reads))]
 pub(crate) fn move_origins(half_edges: &mut EdgeList, first: u32, v: u32)
-    requires walk { CanWalk half_edges.old.items }
+    requires joined { AreJoined (shown half_edges.old.items) }
+    requires walk { CanWalk (shown half_edges.old.items) }
     requires first { first < length half_edges.old.items }
-    ensures moves { MovesOrigins half_edges.old.items half_edges.new.items first v }
+    ensures moves { MovesOrigins (shown half_edges.old.items) (shown half_edges.new.items) first v }
     ensures capacity { half_edges.new.capacity ≡ half_edges.old.capacity }
 {
     let mut h = first;
     for _i in 0..half_edges.len() {
         set_origin(half_edges, h, v);
-        h = reversed(half_edges.get(h).prev);
+        h = reversed(half_edges.prev(h));
         if h == first {
             return;
         }
@@ -178,10 +206,12 @@ pub(crate) fn move_origins(half_edges: &mut EdgeList, first: u32, v: u32)
 }
 
 // The same, where there is a first edge.
+#[tactic(auto, using(crate::proofs::Stored::Shown::joined_reads))]
 pub(crate) fn move_named(half_edges: &mut EdgeList, named: Option<u32>, v: u32)
-    requires walk { CanWalk half_edges.old.items }
+    requires joined { AreJoined (shown half_edges.old.items) }
+    requires walk { CanWalk (shown half_edges.old.items) }
     requires first { (first : ℕ) → named ≡ Some first → first < length half_edges.old.items }
-    ensures moves { MovesNamed half_edges.old.items half_edges.new.items named v }
+    ensures moves { MovesNamed (shown half_edges.old.items) (shown half_edges.new.items) named v }
     ensures capacity { half_edges.new.capacity ≡ half_edges.old.capacity }
 {
     if let Some(first) = named {

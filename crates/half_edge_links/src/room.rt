@@ -33,6 +33,7 @@ pub fn is_full(vertices: usize) -> bool
 
 impl<V> Links<V> {
     /// Takes all vertices, edges and inner faces away, and keeps the room.
+    #[tactic(auto, unfolding(crate::specs::EdgeList::shown))]
     pub fn clear(&mut self)
     where
         V: Drop,

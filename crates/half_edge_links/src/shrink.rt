@@ -20,6 +20,7 @@ use crate::removal::{
 
 impl<V> Links<V> {
     /// Gives the loop of inner face `f` to the outer face. The last face takes its index.
+    #[tactic(auto, using(crate::proofs::Stored::Shown::shown_reads))]
     pub fn open_face(&mut self, f: u32)
         requires { IsInner self.old.mesh f }
         ensures mesh { self.new.mesh ≡ opened self.old.mesh f }
@@ -50,6 +51,7 @@ impl<V> Links<V> {
     }
 
     /// Removes edge `e`, with the outer face on both sides. The last edge takes its index.
+    #[tactic(auto, using(crate::proofs::Stored::Shown::shown_reads))]
     pub fn remove_edge(&mut self, e: u32)
         requires { IsRemovable self.old.mesh e }
         ensures mesh { self.new.mesh ≡ removed self.old.mesh e }
@@ -79,6 +81,7 @@ impl<V> Links<V> {
     }
 
     // The index of edge `h` once edge `e` was removed.
+    #[tactic(auto, using(crate::proofs::Stored::Shown::shown_reads))]
     fn index_after_removal(&self, e: u32, h: u32) -> u32
         requires { e < length self.now.mesh.half_edges }
         ensures value { result ≡ after_removal self.now.mesh e h }
@@ -107,6 +110,7 @@ impl<V> Links<V> {
 
     /// Removes vertex `v`, which has no edges, and gives its data back. The last vertex takes its
     /// index.
+    #[tactic(auto, using(crate::proofs::Stored::Shown::shown_reads))]
     pub fn swap_remove_vertex(&mut self, v: u32) -> V
         requires { IsAlone self.old.mesh v }
         ensures moves { MovesVertex self.old.mesh self.new.mesh v }

@@ -11,7 +11,7 @@ use Rattle.half_edge_mesh.specs.Triangles.{FlipsTriangles}
 use Rattle.half_edge_mesh.specs.Outline.{KeepsOuter}
 use Rattle.half_edge_links.proofs.Lists.Rev.{rev-rev, rev_differs, rev_within}
 use Rattle.half_edge_links.proofs.Sound.Triangles as T
-use Rattle.half_edge_links.proofs.Lists.Writes.{AreSixPlaces}
+use Rattle.half_edge_links.specs.Places.{AreSixPlaces}
 use Rattle.half_edge_links.proofs.Faces.FlipLemmas.{flips}
 use Rattle.half_edge_links.proofs.Faces.FlipSound.{origin_kept}
 use Rattle.half_edge_links.proofs.Faces.FlipTriangles.{triangles_flipped}

@@ -6,7 +6,7 @@ use Rattle.half_edge_links.specs.declared.records.HalfEdge.{HalfEdge}
 use Rattle.half_edge_links.specs.Mesh.{Mesh, edge_at, origin, next, prev, face, face_edge, out_edge, rev, AreSoundLinks, IsSoundEdge}
 use Rattle.half_edge_links.specs.Flip.{IsFlippable, Flips}
 use Rattle.half_edge_links.proofs.Lists.Rev.{rev-rev}
-use Rattle.half_edge_links.proofs.Lists.Writes.{AreSixPlaces}
+use Rattle.half_edge_links.specs.Places.{AreSixPlaces}
 use Rattle.half_edge_links.proofs.Sound.Parts.{sound_kept, loop_sound, KeepsBusy, KeepsOutEdges, NamesFaces, NamesOutEdges, NamesOuterEdge}
 use Rattle.half_edge_links.proofs.Sound.Triangles.{IsTriangle, triangle_at, same_loop, six_round}
 

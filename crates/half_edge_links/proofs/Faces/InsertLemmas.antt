@@ -1,57 +1,11 @@
 -- What putting a vertex into a face does.
-use Rattle.std.proofs.Common.{◌≡◌, ◌≢◌, ℕ, ◌+◌, ◌-◌, ◌<◌, List, [], ◌∷◌, ◌++◌, length, None, get_or, set, refl, sym, arith, append_assoc, length-append, add-zero}
-use Rattle.std.proofs.lemmas.List.{get_or-set_same, get_or-set_other, length-set, get_or_append_left, get_or-append-add, get_or_at}
+use Rattle.std.proofs.Common.{◌≡◌, ℕ, ◌-◌, [], ◌∷◌, ◌++◌, length, None, set, refl, sym, arith, append_assoc, length-append}
+use Rattle.std.proofs.lemmas.List.{get_or-set_same, get_or-set_other, length-set, get_or_append_left, get_or_at}
 use Rattle.half_edge_links.specs.Mesh.{Mesh, no_edge, next, prev, face, AreSoundLinks, IsInnerEdge, IsAlone}
 use Rattle.half_edge_links.specs.Insert.{insert_by, inserted, Inserts}
+use Rattle.half_edge_links.proofs.Lists.Pushes.{AreThreePlaces, written, length-grown, grown_at_i, grown_at_j, grown_at_k, grown_at, grown_at_0, grown_other}
 use Rattle.half_edge_links.proofs.Sound.Triangles.{triangle_at}
 use Rattle.half_edge_links.proofs.Faces.FlipLemmas.{links_from}
-
--- three places of a list, no two of them the same
-record AreThreePlaces (n i j k : ℕ) : Type 0 where
-  i_in : i < n
-  j_in : j < n
-  k_in : k < n
-  ij : i ≢ j
-  ik : i ≢ k
-  jk : j ≢ k
-
-module _ {X : Type 0} (xs : List X) (i j k : ℕ) (u v w a b c d e f o : X) (p : AreThreePlaces (length xs) i j k) where
-  written : List X
-  written = set (set (set xs i u) j v) k w
-
-  -- three writes and then six pushes, as one append
-  grown_is : written ++ a ∷ [] ++ b ∷ [] ++ c ∷ [] ++ d ∷ [] ++ e ∷ [] ++ f ∷ [] ≡ written ++ (a ∷ b ∷ c ∷ d ∷ e ∷ f ∷ [])
-  grown_is = simp append_assoc
-
-  length-written : length written ≡ length xs
-  unfolding written
-  length-written = simp length-set
-
-  length-grown : length (written ++ a ∷ [] ++ b ∷ [] ++ c ∷ [] ++ d ∷ [] ++ e ∷ [] ++ f ∷ []) ≡ length xs + 6
-  length-grown = rw grown_is (omega (arith, length-append written (a ∷ b ∷ c ∷ d ∷ e ∷ f ∷ []), length-written))
-
-  grown_at_i : get_or (written ++ a ∷ [] ++ b ∷ [] ++ c ∷ [] ++ d ∷ [] ++ e ∷ [] ++ f ∷ []) i o ≡ u
-  unfolding written
-  grown_at_i = rw (grown_is, get_or_append_left written (a ∷ b ∷ c ∷ d ∷ e ∷ f ∷ []) o i (omega (arith, length-written, p.i_in))) (grind (arith, get_or-set_same, get_or-set_other, length-set))
-
-  grown_at_j : get_or (written ++ a ∷ [] ++ b ∷ [] ++ c ∷ [] ++ d ∷ [] ++ e ∷ [] ++ f ∷ []) j o ≡ v
-  unfolding written
-  grown_at_j = rw (grown_is, get_or_append_left written (a ∷ b ∷ c ∷ d ∷ e ∷ f ∷ []) o j (omega (arith, length-written, p.j_in))) (grind (arith, get_or-set_same, get_or-set_other, length-set))
-
-  grown_at_k : get_or (written ++ a ∷ [] ++ b ∷ [] ++ c ∷ [] ++ d ∷ [] ++ e ∷ [] ++ f ∷ []) k o ≡ w
-  unfolding written
-  grown_at_k = rw (grown_is, get_or_append_left written (a ∷ b ∷ c ∷ d ∷ e ∷ f ∷ []) o k (omega (arith, length-written, p.k_in))) (grind (arith, get_or-set_same, get_or-set_other, length-set))
-
-  -- a push
-  grown_at : (q : ℕ) → get_or (written ++ a ∷ [] ++ b ∷ [] ++ c ∷ [] ++ d ∷ [] ++ e ∷ [] ++ f ∷ []) (length xs + q) o ≡ get_or (a ∷ b ∷ c ∷ d ∷ e ∷ f ∷ []) q o
-  grown_at q = rw (grown_is, ← length-written) (get_or-append-add written (a ∷ b ∷ c ∷ d ∷ e ∷ f ∷ []) q o)
-
-  grown_at_0 : get_or (written ++ a ∷ [] ++ b ∷ [] ++ c ∷ [] ++ d ∷ [] ++ e ∷ [] ++ f ∷ []) (length xs) o ≡ a
-  grown_at_0 = rw add-zero at (grown_at 0)
-
-  grown_other : (h : ℕ) → h < length xs → h ≢ i → h ≢ j → h ≢ k → get_or (written ++ a ∷ [] ++ b ∷ [] ++ c ∷ [] ++ d ∷ [] ++ e ∷ [] ++ f ∷ []) h o ≡ get_or xs h o
-  unfolding written
-  grown_other h within hi hj hk = rw (grown_is, get_or_append_left written (a ∷ b ∷ c ∷ d ∷ e ∷ f ∷ []) o h (omega (arith, length-written))) (grind (arith, get_or-set_same, get_or-set_other, length-set))
 
 -- a lonely vertex v put into an inner face changes the links of the face, its edges and v, and no others
 pub inserts : (m : Mesh) (v a : ℕ) → AreSoundLinks m → IsInnerEdge m a → IsAlone m v → Inserts m (inserted m v a) v (face m a) a (length m.half_edges) (length m.face_edges)

@@ -22,7 +22,8 @@ module _ (hs : List HalfEdge) (x y v : ℕ) (x_in : x < length hs) (y_in : y < l
   length-written : length written ≡ length hs
   length-written = (writes_prev first y _).count ∙ (writes_next hs x _).count
 
-  length-hung : length (hung_edges hs x y v (length hs)) ≡ length hs + 2
+  -- there are two directed edges more
+  pub length-hung : length (hung_edges hs x y v (length hs)) ≡ length hs + 2
   unfolding hung_edges
   length-hung = length-two written _ _ no_edge ∙ ap (λ q. q + 2) length-written
 
@@ -30,10 +31,12 @@ module _ (hs : List HalfEdge) (x y v : ℕ) (x_in : x < length hs) (y_in : y < l
   unfolding hung_edges
   before h within = two_before written _ _ no_edge h (rw length-written within)
 
-  next_x : (edge_at (hung_edges hs x y v (length hs)) x).next ≡ length hs
+  -- the first new edge comes after x
+  pub next_x : (edge_at (hung_edges hs x y v (length hs)) x).next ≡ length hs
   next_x = ap next_link (before x x_in) ∙ (writes_prev first y _).kept next_link refl x ∙ ap next_link ((writes_next hs x _).here x_in)
 
-  next_other : (h : ℕ) → h < length hs → h ≢ x → (edge_at (hung_edges hs x y v (length hs)) h).next ≡ (edge_at hs h).next
+  -- the edge after any other edge stays
+  pub next_other : (h : ℕ) → h < length hs → h ≢ x → (edge_at (hung_edges hs x y v (length hs)) h).next ≡ (edge_at hs h).next
   next_other h within differs = ap next_link (before h within) ∙ (writes_prev first y _).kept next_link refl h ∙ ap next_link ((writes_next hs x _).other h differs)
 
   prev_y : (edge_at (hung_edges hs x y v (length hs)) y).prev ≡ length hs + 1
@@ -42,17 +45,20 @@ module _ (hs : List HalfEdge) (x y v : ℕ) (x_in : x < length hs) (y_in : y < l
   prev_other : (h : ℕ) → h < length hs → h ≢ y → (edge_at (hung_edges hs x y v (length hs)) h).prev ≡ (edge_at hs h).prev
   prev_other h within differs = ap prev_link (before h within) ∙ ap prev_link ((writes_prev first y _).other h differs) ∙ (writes_next hs x _).kept prev_link refl h
 
-  origin_kept : (h : ℕ) → h < length hs → (edge_at (hung_edges hs x y v (length hs)) h).origin ≡ (edge_at hs h).origin
+  -- each edge starts where it did
+  pub origin_kept : (h : ℕ) → h < length hs → (edge_at (hung_edges hs x y v (length hs)) h).origin ≡ (edge_at hs h).origin
   origin_kept h within = ap origin_link (before h within) ∙ (writes_prev first y _).kept origin_link refl h ∙ (writes_next hs x _).kept origin_link refl h
 
   face_kept : (h : ℕ) → h < length hs → (edge_at (hung_edges hs x y v (length hs)) h).face ≡ (edge_at hs h).face
   face_kept h within = ap face_link (before h within) ∙ (writes_prev first y _).kept face_link refl h ∙ (writes_next hs x _).kept face_link refl h
 
-  at_0 : edge_at (hung_edges hs x y v (length hs)) (length hs) ≡ record { origin = (edge_at hs y).origin; next = length hs + 1; prev = x; face = (edge_at hs x).face }
+  -- the edge to v
+  pub at_0 : edge_at (hung_edges hs x y v (length hs)) (length hs) ≡ record { origin = (edge_at hs y).origin; next = length hs + 1; prev = x; face = (edge_at hs x).face }
   unfolding hung_edges
   at_0 = ap (λ q. edge_at (hung_edges hs x y v (length hs)) q) (sym length-written) ∙ two_at_0 written _ _ no_edge
 
-  at_1 : edge_at (hung_edges hs x y v (length hs)) (length hs + 1) ≡ record { origin = v; next = y; prev = length hs; face = (edge_at hs x).face }
+  -- the edge back from v
+  pub at_1 : edge_at (hung_edges hs x y v (length hs)) (length hs + 1) ≡ record { origin = v; next = y; prev = length hs; face = (edge_at hs x).face }
   unfolding hung_edges
   at_1 = ap (λ q. edge_at (hung_edges hs x y v (length hs)) (q + 1)) (sym length-written) ∙ two_at_1 written _ _ no_edge
 

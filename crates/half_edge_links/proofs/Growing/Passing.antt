@@ -1,9 +1,10 @@
 -- An edge of a line that passes the vertex at its end.
-use Rattle.std.proofs.Common.{◌≡◌, ◌≢◌, ℕ, ◌<◌, length, Some, None, sym, ap, ◌∙◌, inl, inr, arith}
+use Rattle.std.proofs.Common.{◌≡◌, ◌≢◌, ℕ, ◌<◌, length, Some, None, refl, sym, ap, ◌∙◌, inl, inr, arith}
 use Rattle.std.proofs.lemmas.Bool.{cases_eq}
 use Rattle.std.proofs.lemmas.List.{get_or-set_same, get_or-set_other, length-set}
 use Rattle.half_edge_links.proofs.Lists.Cases.{◌or_else◌}
 use Rattle.half_edge_links.specs.Mesh.{Mesh, origin, next, prev, rev, AreSoundLinks}
+use Rattle.half_edge_links.specs.Places.{ArePassedPlaces}
 use Rattle.half_edge_links.specs.Pass.{IsPassable, passed_edges, passed, Passes}
 use Rattle.half_edge_links.proofs.Lists.Rev.{rev-rev, rev_within, rev_differs}
 use Rattle.half_edge_links.proofs.Sound.Relinks.{relinks}
@@ -50,6 +51,26 @@ beside m e s can =
     let there_twin : far_edge m e ≢ rev e = λ q. there.proper (twin.next_prev ∙ sym q) in
     let before_twin : prev m (far_edge m e) ≢ rev e = λ q. can.corners (ap (origin m) (sym (rev-rev e) ∙ ap rev (sym q)) ∙ sym end_is ∙ ap (origin m) can.two) in
     assumption (can, here, there, twin, twin_in, back_is, off, edge_before, edge_there, before_there, there_twin, before_twin)
+
+-- the edges beside an edge that can pass a vertex are those that the writes to the list ask for
+pub passed_places : (m : Mesh) (e : ℕ) → AreSoundLinks m → IsPassable m e → ArePassedPlaces m.half_edges e (rev e) (far_edge m e) (next m e) (prev m (far_edge m e))
+passed_places m e s can =
+    let t = beside m e s can in
+    record {
+      edge_in = can.within;
+      twin_in = t.twin_in;
+      back_is = refl;
+      there_is = refl;
+      before_is = refl;
+      edge-twin = λ q. rev_differs e (sym q);
+      edge-before = t.edge-before;
+      edge-there = t.edge-there;
+      before-there = t.before-there;
+      back-there = t.back-there;
+      back-twin = t.back-twin;
+      there-twin = t.there-twin;
+      before-twin = t.before-twin;
+    }
 
 -- an edge that passes the vertex at its end changes the links beside it, and no others
 pub passes : (m : Mesh) (e : ℕ) → AreSoundLinks m → IsPassable m e → Passes m (passed m e) e (far_edge m e) (next m e)

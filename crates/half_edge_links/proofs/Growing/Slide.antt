@@ -1,11 +1,12 @@
 -- An edge that is moved to the far end of the next one.
-use Rattle.std.proofs.Common.{◌≡◌, ◌≢◌, ℕ, ◌<◌, length, Some, None, sym, ap, ◌∙◌, inl, inr, arith}
+use Rattle.std.proofs.Common.{◌≡◌, ◌≢◌, ℕ, ◌<◌, length, Some, None, refl, sym, ap, ◌∙◌, inl, inr, arith}
 use Rattle.std.proofs.lemmas.Bool.{cases_eq}
 use Rattle.std.proofs.lemmas.List.{get_or-set_same, get_or-set_other, length-set}
 use Rattle.half_edge_links.proofs.Lists.Cases.{◌or_else◌}
 use Rattle.half_edge_links.specs.Mesh.{Mesh, origin, next, prev, rev, AreSoundLinks}
+use Rattle.half_edge_links.specs.Places.{AreSlidPlaces}
 use Rattle.half_edge_links.specs.Grow.{IsSlidable, slid_edges, slid, Slides}
-use Rattle.half_edge_links.proofs.Lists.Rev.{rev-rev, rev_within}
+use Rattle.half_edge_links.proofs.Lists.Rev.{rev-rev, rev_within, rev_differs}
 use Rattle.half_edge_links.proofs.Sound.Relinks.{relinks}
 use Rattle.half_edge_links.proofs.Sound.Parts.{next_kept, next_at, EachNextIsSound}
 use Rattle.half_edge_links.proofs.Growing.LineSound as line
@@ -41,6 +42,27 @@ tail m e s can =
     let edge_there : e ≢ next m e = λ q. here.proper (sym q) in
     let before_there : prev m (rev e) ≢ next m e = λ q. off_twin (ap (next m) (sym q) ∙ twin.next_prev) in
     assumption (can, here, there, twin, twin_in, off_twin, edge_before, edge_there, before_there)
+
+-- the edges beside an edge that can be moved are those that the writes to the list ask for
+pub slid_places : (m : Mesh) (e : ℕ) → AreSoundLinks m → IsSlidable m e → AreSlidPlaces m.half_edges e (rev e) (next m e) (next m (next m e)) (prev m (rev e))
+slid_places m e s can =
+    let t = tail m e s can in
+    let twin = s.edges (rev e) t.twin_in in
+    record {
+      edge_in = can.within;
+      twin_in = t.twin_in;
+      there_is = refl;
+      back_is = refl;
+      before_is = refl;
+      edge-twin = λ q. rev_differs e (sym q);
+      edge-before = t.edge-before;
+      edge-there = t.edge-there;
+      before-there = t.before-there;
+      back-there = t.back-there;
+      back-twin = t.back-twin;
+      there-twin = t.there-twin;
+      before-twin = λ q. twin.proper (ap (next m) (sym q) ∙ twin.next_prev);
+    }
 
 -- an edge that is moved to the far end of the next one changes the links beside it, and no others
 pub slides : (m : Mesh) (e : ℕ) → AreSoundLinks m → IsSlidable m e → Slides m (slid m e) e (next m e) (next m (next m e))

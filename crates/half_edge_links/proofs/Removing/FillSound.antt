@@ -7,6 +7,7 @@ use Rattle.std.specs.List.{swap_remove}
 use Rattle.half_edge_links.proofs.Lists.Cases.{◌each_with◌}
 use Rattle.half_edge_links.specs.declared.records.HalfEdge.{HalfEdge}
 use Rattle.half_edge_links.specs.Mesh.{Mesh, no_edge, edge_at, origin, next, prev, face, face_edge, out_edge, rev, HasLinks}
+use Rattle.half_edge_links.specs.Places.{AreJoined}
 use Rattle.half_edge_links.specs.Renames.{Renames, IsKeptEdge, pair_moved, renamed}
 use Rattle.half_edge_links.specs.Remove.{with_filled, with_out_renamed, with_face_renamed, filled, edge_naming, IsSoundBut}
 use Rattle.half_edge_links.proofs.Removing.OpenSound.{get_or-swap_remove_same, get_or-swap_remove_other, length-swap_remove}
@@ -85,7 +86,7 @@ module _ (last hole : ℕ) (last_even : last % 2 ≡ 0) (hole_even : hole % 2 �
   twice_some (Some h) = ap (λ (i : ℕ). let o : Option ℕ = Some i in o) (twice h)
 
   -- two removals of a list's last items into a pair's place
-  two_filled : {X : Type 0} (xs : List X) (d : X) (h : ℕ) → length xs ≡ last + 2 → h < last → get_or (swap_remove (swap_remove xs (hole + 1) d) hole d) h d ≡ get_or xs (pair_moved hole last h) d
+  pub two_filled : {X : Type 0} (xs : List X) (d : X) (h : ℕ) → length xs ≡ last + 2 → h < last → get_or (swap_remove (swap_remove xs (hole + 1) d) hole d) h d ≡ get_or xs (pair_moved hole last h) d
   two_filled xs d h count within =
       let one = length-swap_remove xs (hole + 1) d in
       let l : length (swap_remove xs (hole + 1) d) - 1 ≡ last = omega arith in
@@ -115,6 +116,51 @@ twice_written was one two last hole a b k at_a at_b is_a is_b first first_off se
       | inr (inr i) ↦ second_off k (λ z. i.1 (ap was z ∙ at_b)) ∙ first_off k (λ z. i.0 (ap was z ∙ at_a)) ∙ sym (pair_other last hole (was k) i.0 i.1)
     ]
 
+module _ (hs : List HalfEdge) (last hole : ℕ) where
+  abbrev first : List HalfEdge
+  first = both hs (prev_of hs last) hole (next_of hs last) hole
+
+  -- the links to the last two edges lead to their new places
+  abbrev pub pair_written : List HalfEdge
+  pair_written = both first (prev_of hs (last + 1)) (hole + 1) (next_of hs (last + 1)) (hole + 1)
+
+  module _ (j : AreJoined hs) (at_last : length hs ≡ last + 2) where
+    last_in : last < length hs
+    last_in = omega arith
+
+    odd_in : last + 1 < length hs
+    odd_in = omega arith
+
+    -- the edge after one is the same, under its new index
+    pub next_written : (k : ℕ) → k < length hs → next_of pair_written k ≡ pair_moved last hole (next_of hs k)
+    next_written k within =
+        twice_written (next_of hs) (next_of first) (next_of pair_written) last hole (prev_of hs last) (prev_of hs (last + 1)) k (j.next_prev last last_in) (j.next_prev (last + 1) odd_in)
+        (λ i. sym (j.prev_next k within) ∙ ap (prev_of hs) i) (λ i. sym (j.prev_next k within) ∙ ap (prev_of hs) i)
+        (next_both hs (prev_of hs last) hole (next_of hs last) hole (j.prev_in last last_in)) (next_both_other hs (prev_of hs last) hole (next_of hs last) hole)
+        (next_both first (prev_of hs (last + 1)) (hole + 1) (next_of hs (last + 1)) (hole + 1) (rw (length_both hs (prev_of hs last) hole (next_of hs last) hole) (j.prev_in (last + 1) odd_in)))
+        (next_both_other first (prev_of hs (last + 1)) (hole + 1) (next_of hs (last + 1)) (hole + 1))
+
+    -- the edge before one is the same, under its new index
+    pub prev_written : (k : ℕ) → k < length hs → prev_of pair_written k ≡ pair_moved last hole (prev_of hs k)
+    prev_written k within =
+        twice_written (prev_of hs) (prev_of first) (prev_of pair_written) last hole (next_of hs last) (next_of hs (last + 1)) k (j.prev_next last last_in) (j.prev_next (last + 1) odd_in)
+        (λ i. sym (j.next_prev k within) ∙ ap (next_of hs) i) (λ i. sym (j.next_prev k within) ∙ ap (next_of hs) i)
+        (prev_both hs (prev_of hs last) hole (next_of hs last) hole (j.next_in last last_in)) (prev_both_other hs (prev_of hs last) hole (next_of hs last) hole)
+        (prev_both first (prev_of hs (last + 1)) (hole + 1) (next_of hs (last + 1)) (hole + 1) (rw (length_both hs (prev_of hs last) hole (next_of hs last) hole) (j.next_in (last + 1) odd_in)))
+        (prev_both_other first (prev_of hs (last + 1)) (hole + 1) (next_of hs (last + 1)) (hole + 1))
+
+    -- there are as many edges
+    pub count_written : length pair_written ≡ last + 2
+    count_written = length_both first (prev_of hs (last + 1)) (hole + 1) (next_of hs (last + 1)) (hole + 1) ∙ length_both hs (prev_of hs last) hole (next_of hs last) hole ∙ at_last
+
+    -- each edge starts where it did
+    pub origin_written : (k : ℕ) → (edge_at pair_written k).origin ≡ (edge_at hs k).origin
+    origin_written k = origin_both first (prev_of hs (last + 1)) (hole + 1) (next_of hs (last + 1)) (hole + 1) k ∙ origin_both hs (prev_of hs last) hole (next_of hs last) hole k
+
+    -- each edge has its face
+    pub face_written : (k : ℕ) → (edge_at pair_written k).face ≡ (edge_at hs k).face
+    face_written k = face_both first (prev_of hs (last + 1)) (hole + 1) (next_of hs (last + 1)) (hole + 1) k ∙ face_both hs (prev_of hs last) hole (next_of hs last) hole k
+
 module _ (m : Mesh) (last hole : ℕ) (b : IsSoundBut m hole) (at_last : length m.half_edges ≡ last + 2) where
   last_even : last % 2 ≡ 0
   last_even = let e = b.even in omega arith
@@ -137,44 +183,24 @@ module _ (m : Mesh) (last hole : ℕ) (b : IsSoundBut m hole) (at_last : length 
         | inr (inr i) ↦ let here = b.edges l within i.0 i.1 in (here.next_in, here.prev_in, here.prev_next, here.next_prev)
       ]
 
-  abbrev first : List HalfEdge
-  first = both m.half_edges (prev m last) hole (next m last) hole
-
-  abbrev second : List HalfEdge
-  second = both first (prev m (last + 1)) (hole + 1) (next m (last + 1)) (hole + 1)
-
-  last_in : last < length m.half_edges
-  last_in = omega arith
-
-  odd_in : last + 1 < length m.half_edges
-  odd_in = omega arith
-
-  next_written : (k : ℕ) → k < length m.half_edges → next_of second k ≡ to (next m k)
-  next_written k within =
-      twice_written (next m) (next_of first) (next_of second) last hole (prev m last) (prev m (last + 1)) k (in_range last last_in).3 (in_range (last + 1) odd_in).3
-      (λ i. sym (in_range k within).2 ∙ ap (prev m) i) (λ i. sym (in_range k within).2 ∙ ap (prev m) i)
-      (next_both m.half_edges (prev m last) hole (next m last) hole (in_range last last_in).1) (next_both_other m.half_edges (prev m last) hole (next m last) hole)
-      (next_both first (prev m (last + 1)) (hole + 1) (next m (last + 1)) (hole + 1) (rw (length_both m.half_edges (prev m last) hole (next m last) hole) (in_range (last + 1) odd_in).1))
-      (next_both_other first (prev m (last + 1)) (hole + 1) (next m (last + 1)) (hole + 1))
-
-  prev_written : (k : ℕ) → k < length m.half_edges → prev_of second k ≡ to (prev m k)
-  prev_written k within =
-      twice_written (prev m) (prev_of first) (prev_of second) last hole (next m last) (next m (last + 1)) k (in_range last last_in).2 (in_range (last + 1) odd_in).2
-      (λ i. sym (in_range k within).3 ∙ ap (next m) i) (λ i. sym (in_range k within).3 ∙ ap (next m) i)
-      (prev_both m.half_edges (prev m last) hole (next m last) hole (in_range last last_in).0) (prev_both_other m.half_edges (prev m last) hole (next m last) hole)
-      (prev_both first (prev m (last + 1)) (hole + 1) (next m (last + 1)) (hole + 1) (rw (length_both m.half_edges (prev m last) hole (next m last) hole) (in_range (last + 1) odd_in).0))
-      (prev_both_other first (prev m (last + 1)) (hole + 1) (next m (last + 1)) (hole + 1))
-
-  second_count : length second ≡ last + 2
-  second_count = length_both first (prev m (last + 1)) (hole + 1) (next m (last + 1)) (hole + 1) ∙ length_both m.half_edges (prev m last) hole (next m last) hole ∙ at_last
+  -- the links of the mesh are joined
+  pub joined_but : AreJoined m.half_edges
+  joined_but = record {
+    next_in = λ l within. (in_range l within).0;
+    prev_in = λ l within. (in_range l within).1;
+    prev_next = λ l within. (in_range l within).2;
+    next_prev = λ l within. (in_range l within).3;
+  }
 
   filled_count : length (with_filled m.half_edges last hole) ≡ last
   unfolding with_filled
-  filled_count = omega (arith, length-swap_remove (swap_remove second (hole + 1) no_edge) hole no_edge, length-swap_remove second (hole + 1) no_edge, second_count)
+  filled_count =
+      let second : List HalfEdge = pair_written m.half_edges last hole in
+      omega (arith, length-swap_remove (swap_remove second (hole + 1) no_edge) hole no_edge, length-swap_remove second (hole + 1) no_edge, count_written m.half_edges last hole joined_but at_last)
 
-  edge_filled : (h : ℕ) → h < last → edge_at (with_filled m.half_edges last hole) h ≡ edge_at second (old h)
+  edge_filled : (h : ℕ) → h < last → edge_at (with_filled m.half_edges last hole) h ≡ edge_at (pair_written m.half_edges last hole) (old h)
   unfolding with_filled
-  edge_filled h within = two_filled last hole last_even b.hole_even below second no_edge h second_count within
+  edge_filled h within = two_filled last hole last_even b.hole_even below (pair_written m.half_edges last hole) no_edge h (count_written m.half_edges last hole joined_but at_last) within
 
   links : (h : ℕ) → h < last → HasLinks (filled m last hole) h (origin m (old h)) (to (next m (old h))) (to (prev m (old h))) (face m (old h))
   unfolding filled
@@ -183,10 +209,10 @@ module _ (m : Mesh) (last hole : ℕ) (b : IsSoundBut m hole) (at_last : length 
       let live = old_left last hole last_even b.hole_even below h within in
       let g_in : old h < length m.half_edges = omega (arith, live.0) in
       record {
-        origin = ap (λ (e : HalfEdge). e.origin) at ∙ origin_both first (prev m (last + 1)) (hole + 1) (next m (last + 1)) (hole + 1) (old h) ∙ origin_both m.half_edges (prev m last) hole (next m last) hole (old h);
-        next = ap (λ (e : HalfEdge). e.next) at ∙ next_written (old h) g_in;
-        prev = ap (λ (e : HalfEdge). e.prev) at ∙ prev_written (old h) g_in;
-        face = ap (λ (e : HalfEdge). e.face) at ∙ face_both first (prev m (last + 1)) (hole + 1) (next m (last + 1)) (hole + 1) (old h) ∙ face_both m.half_edges (prev m last) hole (next m last) hole (old h);
+        origin = ap (λ (e : HalfEdge). e.origin) at ∙ origin_written m.half_edges last hole joined_but at_last (old h);
+        next = ap (λ (e : HalfEdge). e.next) at ∙ next_written m.half_edges last hole joined_but at_last (old h) g_in;
+        prev = ap (λ (e : HalfEdge). e.prev) at ∙ prev_written m.half_edges last hole joined_but at_last (old h) g_in;
+        face = ap (λ (e : HalfEdge). e.face) at ∙ face_written m.half_edges last hole joined_but at_last (old h);
       }
 
   -- what the lists that name edges are afterwards

@@ -1,12 +1,14 @@
 -- Removing an edge keeps a mesh sound.
-use Rattle.std.proofs.Common.{◌≡◌, ℕ, ◌+◌, ◌-◌, ◌%◌, ◌<◌, ◌≤◌, List, length, ap, ◌∙◌, arith}
+use Rattle.std.proofs.Common.{◌≡◌, ℕ, ◌+◌, ◌-◌, ◌%◌, ◌<◌, ◌≤◌, List, length, sym, ap, ◌∙◌, arith}
 use Rattle.half_edge_links.specs.declared.records.HalfEdge.{HalfEdge}
 use Rattle.half_edge_links.specs.Mesh.{Mesh, IsSmall, edge_at, rev, AreSoundLinks, IsValidMesh}
+use Rattle.half_edge_links.specs.Places.{AreJoined, AreUnlinkedPlaces, IsHole}
 use Rattle.half_edge_links.specs.Remove.{with_unlinked, unlinked, removed, edge_naming, IsRemovable, IsSoundBut, Removes}
 use Rattle.half_edge_links.proofs.Removing.Conditions.{IsUnlinkable, unlinkable}
 use Rattle.half_edge_links.proofs.Sound.RenameSound.{sound_renamed}
 use Rattle.half_edge_links.proofs.Removing.UnlinkSound.{unlinks, sound_but}
-use Rattle.half_edge_links.proofs.Removing.FillSound.{renames_filled, counts, in_range}
+use Rattle.half_edge_links.proofs.Removing.FillSound.{renames_filled, counts, in_range, joined_but}
+use Rattle.half_edge_links.proofs.Lists.Rev.{rev_within, rev_differs}
 
 -- edge k of a list names elements of mesh m
 pub record IsInRange (m : Mesh) (hs : List HalfEdge) (k : ℕ) : Type 0 where
@@ -49,6 +51,21 @@ module _ (m : Mesh) (e : ℕ) (s : AreSoundLinks m) (can : IsUnlinkable m e) whe
         vertex_count = n.1 ∙ u.vertex_count;
         face_count = n.2 ∙ ap length u.face_edges;
       }
+
+-- the list whose edge e was taken out is joined, and the edge is a hole in it
+pub joined_unlinked : (m : Mesh) (e t : ℕ) (hs : List HalfEdge) → IsValidMesh m → IsRemovable m e → t ≡ rev e → hs ≡ with_unlinked m.half_edges e t → AreJoined hs × IsHole hs (e - e % 2)
+unfolding unlinked
+joined_unlinked m e t hs v can at_t is =
+    let full = unlinkable m e v can in
+    let b = but m e v.sound full in
+    let hole : IsHole (with_unlinked m.half_edges e (rev e)) (e - e % 2) = record { even = b.even; hole_even = b.hole_even; within = b.within; next_self = b.next_self; twin_next_self = b.twin_next_self } in
+    rw (is, at_t) (joined_but (unlinked m e) (length m.half_edges - 2) (e - e % 2) b (at_last m e v.sound full), hole)
+
+-- what taking an edge out of its loops asks of the list
+pub unlinked_places : (m : Mesh) (e : ℕ) → AreSoundLinks m → IsRemovable m e → AreUnlinkedPlaces m.half_edges e (rev e)
+unlinked_places m e s can =
+    let t_in = rev_within e (length m.half_edges) s.even can.within in
+    record { edge_in = can.within; twin_in = t_in; differ = λ q. rev_differs e (sym q); edge_proper = (s.edges e can.within).proper; twin_proper = (s.edges (rev e) t_in).proper }
 
 -- in the list whose edge e was taken out, the last edge and its other side name what there is
 pub last_in_range : (m : Mesh) (e t n : ℕ) (hs : List HalfEdge) → IsValidMesh m → IsRemovable m e → t ≡ rev e → n ≡ length m.half_edges → hs ≡ with_unlinked m.half_edges e t → IsInRange m hs (n - 2) × IsInRange m hs (n - 2 + 1)

@@ -3,7 +3,7 @@ use Rattle.std.proofs.Common.{◌≡◌, ◌≢◌, ◌⊎◌, ℕ, ◌<◌, len
 use Rattle.half_edge_links.specs.Mesh.{Mesh, next, prev, face, rev, AreSoundLinks}
 use Rattle.half_edge_links.specs.Flip.{IsFlippable}
 use Rattle.half_edge_links.proofs.Lists.Rev.{rev_within}
-use Rattle.half_edge_links.proofs.Lists.Writes.{AreSixPlaces}
+use Rattle.half_edge_links.specs.Places.{AreSixPlaces}
 
 -- the three edges round an inner face
 pub record IsTriangle (m : Mesh) (h : ℕ) : Type 0 where

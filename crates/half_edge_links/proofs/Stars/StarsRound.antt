@@ -9,7 +9,7 @@ use Rattle.half_edge_links.specs.Grow.{IsClosable, Closes}
 use Rattle.half_edge_links.proofs.Lists.Rev.{rev_within, rev-rev}
 use Rattle.half_edge_links.proofs.Sound.Parts.{rev_of_even, rev_of_odd, grown_cases}
 use Rattle.half_edge_links.proofs.Growing.Close.{corner}
-use Rattle.half_edge_links.proofs.Lists.Writes.{AreSixPlaces}
+use Rattle.half_edge_links.specs.Places.{AreSixPlaces}
 use Rattle.half_edge_links.proofs.Faces.FlipSound.{six, left, right, origin_kept, kept}
 
 -- an edge k of the new mesh lies behind an old one of its vertex, and before an old one

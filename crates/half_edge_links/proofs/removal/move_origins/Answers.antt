@@ -1,19 +1,27 @@
 use Rattle.std.proofs.Common.{◌≡◌, ◌∙◌, arith}
+use Rattle.half_edge_links.specs.EdgeList.{shown}
 use Rattle.half_edge_links.specs.Grow.{with_origin}
 use Rattle.half_edge_links.specs.Move.{turn_of}
 use Rattle.half_edge_links.proofs.Removing.VertexSound.{walk_more, walk_ends, no_end}
+use Rattle.half_edge_links.proofs.Stored.Shown.{length_shown}
+use Rattle.half_edge_links.proofs.Stored.Joined.{joined_kept}
 use Rattle.half_edge_links.proofs.removal.move_origins.Goals as goal
+
+pub set_origin-requires-clause-joined : goal.set_origin-requires-clause-joined
+set_origin-requires-clause-joined c =
+    let w = c.loop-i.invariant.0 in
+    joined_kept (shown c.args.half_edges.now.items) _ w.count w.nexts w.prevs c.requires.joined
 
 pub returns-then-h-first-clause-moves : goal.returns-then-h-first-clause-moves
 returns-then-h-first-clause-moves c =
-    let at : c.reversed-h.result ≡ turn_of (with_origin c.loop-i.half_edges.items c.loop-i.h c.args.v) c.loop-i.h = cc in
-    rw c.set_origin.ensures.items (walk_ends _ c.loop-i.half_edges.items c.args.first c.args.v c.loop-i._i c.loop-i.h c.requires.walk c.loop-i.invariant.0 c.reversed-h.result at c.if-h-first.true)
+    let at : c.reversed-h.result ≡ turn_of (with_origin (shown c.loop-i.half_edges.items) c.loop-i.h c.args.v) c.loop-i.h = cc in
+    rw c.set_origin.ensures.items (walk_ends _ (shown c.loop-i.half_edges.items) c.args.first c.args.v c.loop-i._i c.loop-i.h c.requires.walk c.loop-i.invariant.0 c.reversed-h.result at c.if-h-first.true)
 
 pub loop-i-preserved : goal.loop-i-preserved
 loop-i-preserved c =
-    let at : c.reversed-h.result ≡ turn_of (with_origin c.loop-i.half_edges.items c.loop-i.h c.args.v) c.loop-i.h = cc in
-    let w = walk_more _ c.loop-i.half_edges.items c.args.first c.args.v c.loop-i._i c.loop-i.h c.requires.walk c.loop-i.invariant.0 c.reversed-h.result at c.if-h-first.false in
+    let at : c.reversed-h.result ≡ turn_of (with_origin (shown c.loop-i.half_edges.items) c.loop-i.h c.args.v) c.loop-i.h = cc in
+    let w = walk_more _ (shown c.loop-i.half_edges.items) c.args.first c.args.v c.loop-i._i c.loop-i.h c.requires.walk c.loop-i.invariant.0 c.reversed-h.result at c.if-h-first.false in
     (rw c.set_origin.ensures.items w, c.set_origin.ensures.capacity ∙ c.loop-i.invariant.1, c.loop-i.invariant.2)
 
 pub returns-clause-moves : goal.returns-clause-moves
-returns-clause-moves c = absurd (no_end _ c.loop-i.half_edges.items c.args.first c.args.v c.loop-i._i c.loop-i.h c.requires.walk c.loop-i.invariant.0 c.requires.first (omega (arith, c.loop-i.invariant.2)))
+returns-clause-moves c = absurd (no_end _ (shown c.loop-i.half_edges.items) c.args.first c.args.v c.loop-i._i c.loop-i.h c.requires.walk c.loop-i.invariant.0 (rw length_shown c.requires.first) (omega (arith, c.loop-i.invariant.2, length_shown c.args.half_edges.now.items)))

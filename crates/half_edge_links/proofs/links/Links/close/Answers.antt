@@ -1,6 +1,6 @@
 use Rattle.std.proofs.Common.{◌≡◌, refl, length, arith}
 use Rattle.half_edge_links.proofs.Views.{mesh_in}
-use Rattle.half_edge_links.specs.Mesh.{Mesh, edge_at}
+use Rattle.half_edge_links.specs.Mesh.{Mesh, next}
 use Rattle.half_edge_links.specs.Grow.{closed}
 use Rattle.half_edge_links.proofs.Sound.Valid.{valid_as, valid_closed}
 use Rattle.half_edge_links.proofs.Growing.Grown.{closes_corner}
@@ -12,8 +12,8 @@ returns-clause-mesh g c =
     let m : Mesh = mesh_in c.self.inside in
     let n_is : c.len-n.result ≡ length m.half_edges = omega arith in
     let g_is : c.len.result ≡ length m.face_edges = omega arith in
-    let second : c.get-second.result ≡ edge_at m.half_edges c.args.e = c.get-second.ensures in
-    let after : c.get-after.result ≡ edge_at m.half_edges c.get-second.result.next = c.get-after.ensures in
+    let second : c.next-second.result ≡ next m c.args.e = c.next-second.ensures in
+    let after : c.next-after.result ≡ next m c.next-second.result = c.next-after.ensures in
     rw (← c.self.view_is, c.close_edges.ensures.items, c.push_reserved.ensures.items, n_is, g_is, after, second) refl
 
 pub invariant_of-self : goal.invariant_of-self

@@ -1,8 +1,10 @@
-use Rattle.std.proofs.Common.{◌≡◌, refl, length}
+use Rattle.std.proofs.Common.{◌≡◌, refl, ap, arith, ◌∙◌}
 use Rattle.half_edge_links.proofs.Views.{mesh_in}
-use Rattle.half_edge_links.specs.Mesh.{Mesh, edge_at}
+use Rattle.half_edge_links.specs.Mesh.{Mesh, edge_at, origin, rev}
+use Rattle.half_edge_links.proofs.Lists.Rev.{rev-rev}
 use Rattle.half_edge_links.specs.Flip.{flip_by, flipped}
-use Rattle.half_edge_links.proofs.Lists.Rev.{rev_within}
+use Rattle.half_edge_links.proofs.Sound.Triangles.{triangle_at, six_round}
+use Rattle.half_edge_links.proofs.Stored.Joined.{joined_sound, kept_in, loop_of_three}
 use Rattle.half_edge_links.proofs.Faces.FlipLemmas.{flips_is}
 use Rattle.half_edge_links.proofs.Sound.Valid.{valid_as, valid_flipped}
 use Rattle.half_edge_links.proofs.Faces.FlipTriangles.{triangles_flipped}
@@ -11,13 +13,37 @@ use Rattle.half_edge_links.proofs.Sound.EndsKept.{ends_flipped_is}
 use Rattle.half_edge_links.proofs.OuterLoop.Outline.{outline_flipped}
 use Rattle.half_edge_links.proofs.links.Links.flip.Goals as goal
 
-pub turn_edges-requires-clause-twin : goal.turn_edges-requires-clause-twin
-turn_edges-requires-clause-twin g c =
+pub get-edge-requires : goal.get-edge-requires
+get-edge-requires g c =
+    let m : Mesh = mesh_in c.self.inside in
+    let can = rw (← c.self.view_is) at c.requires.flippable in
+    let k = kept_in c.self.inside.half_edges.items c.args.e (joined_sound m c.self.invariant.sound) can.within in
+    record { within = k.0; next_within = k.1 }
+
+pub get-twin-requires : goal.get-twin-requires
+get-twin-requires g c =
+    let m : Mesh = mesh_in c.self.inside in
     let s = c.self.invariant.sound in
     let can = rw (← c.self.view_is) at c.requires.flippable in
-    let t_in = rev_within c.args.e (length (mesh_in c.self.inside).half_edges) s.even can.within in
-    let twin = s.edges _ t_in in
-    rw c.reversed-t.ensures (record { edge = t_in; next = twin.next_in; prev = twin.prev_in })
+    let k = kept_in c.self.inside.half_edges.items (rev c.args.e) (joined_sound m s) (six_round m c.args.e s can).b_in in
+    rw c.reversed-t.ensures (record { within = k.0; next_within = k.1 })
+
+pub turn_edges-requires : goal.turn_edges-requires
+turn_edges-requires g c =
+    let m : Mesh = mesh_in c.self.inside in
+    let s = c.self.invariant.sound in
+    let can = rw (← c.self.view_is) at c.requires.flippable in
+    let six = six_round m c.args.e s can in
+    let left = triangle_at m c.args.e s can.within can.inner in
+    let right = triangle_at m (rev c.args.e) s six.b_in can.twin_inner in
+    rw c.reversed-t.ensures (record { joined = joined_sound m s; edge = loop_of_three m c.args.e left; twin = loop_of_three m (rev c.args.e) right; apart = six; start = (s.edges (rev c.args.e) six.b_in).starts ∙ ap (origin m) (rev-rev c.args.e); end = (s.edges c.args.e can.within).starts })
+
+pub set_out_edge-requires-clause-nameable : goal.set_out_edge-requires-clause-nameable
+set_out_edge-requires-clause-nameable g c =
+    let m : Mesh = mesh_in c.self.inside in
+    let six = six_round m c.args.e c.self.invariant.sound (rw (← c.self.view_is) at c.requires.flippable) in
+    let twin : c.get-twin.result ≡ edge_at m.half_edges c.reversed-t.result = c.get-twin.ensures in
+    rw (twin, c.reversed-t.ensures) (omega (arith, six.d_in, c.self.invariant.small.edges))
 
 pub returns-clause-mesh : goal.returns-clause-mesh
 unfolding flipped flip_by

@@ -8,7 +8,7 @@ use Rattle.half_edge_links.proofs.links.Links.hang.Goals as goal
 pub returns-clause-mesh : goal.returns-clause-mesh
 unfolding hung
 returns-clause-mesh g c =
-    let n_is : c.len-n.result ≡ length c.self.inside.half_edges.items = omega arith in
+    let n_is : c.len-n.result ≡ length (mesh_in c.self.inside).half_edges = omega arith in
     rw (← c.self.view_is, c.set_out_edge.ensures, c.hang_edges.ensures.items, n_is) refl
 
 pub invariant_of-self : goal.invariant_of-self

@@ -1,6 +1,7 @@
 use Rattle.std.proofs.Common.{◌≡◌, refl, length, arith}
 use Rattle.half_edge_links.proofs.Views.{mesh_in}
-use Rattle.half_edge_links.specs.Mesh.{Mesh, edge_at}
+use Rattle.half_edge_links.proofs.Stored.Shown.{next_shown, prev_shown, face_shown}
+use Rattle.half_edge_links.specs.Mesh.{Mesh}
 use Rattle.half_edge_links.specs.Insert.{insert_by, inserted}
 use Rattle.half_edge_links.proofs.Faces.InsertLemmas.{inserts_is}
 use Rattle.half_edge_links.proofs.Sound.Valid.{valid_as, valid_inserted}
@@ -16,8 +17,8 @@ returns-clause-mesh g c =
     let m : Mesh = mesh_in c.self.inside in
     let n_is : c.len-n.result ≡ length m.half_edges = omega arith in
     let g_is : c.len-g.result ≡ length m.face_edges = omega arith in
-    let first : c.get-first.result ≡ edge_at m.half_edges c.args.edge = c.get-first.ensures in
-    rw (← c.self.view_is, c.set_out_edge.ensures, c.push_reserved-2.ensures.items, c.push_reserved.ensures.items, c.fan_edges.ensures.items, first, n_is, g_is) (refl {a = inserted m c.args.v c.args.edge})
+    let rs = c.self.inside.half_edges.items in
+    rw (← c.self.view_is, c.set_out_edge.ensures, c.push_reserved-2.ensures.items, c.push_reserved.ensures.items, c.fan_edges.ensures.items, c.stored-first.ensures, ← next_shown rs c.args.edge, ← prev_shown rs c.args.edge, ← face_shown rs c.args.edge, n_is, g_is) (refl {a = inserted m c.args.v c.args.edge})
 
 pub invariant_of-self : goal.invariant_of-self
 invariant_of-self g c =

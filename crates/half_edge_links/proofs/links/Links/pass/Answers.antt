@@ -1,21 +1,36 @@
 use Rattle.std.proofs.Common.{◌≡◌, refl}
 use Rattle.half_edge_links.proofs.Views.{mesh_in}
-use Rattle.half_edge_links.specs.Mesh.{Mesh, edge_at}
+use Rattle.half_edge_links.specs.Mesh.{Mesh, origin, next, prev}
 use Rattle.half_edge_links.specs.Pass.{passed}
-use Rattle.half_edge_links.proofs.Growing.Passing.{passes}
+use Rattle.half_edge_links.proofs.Growing.Passing.{beside, passed_places, passes}
+use Rattle.half_edge_links.proofs.Stored.Shown.{length_shown}
 use Rattle.half_edge_links.proofs.Sound.Valid.{valid_as}
 use Rattle.half_edge_links.proofs.Growing.PassKept.{valid_passed, ends_passed_is, outline_passed}
 use Rattle.half_edge_links.proofs.links.Links.pass.Goals as goal
+
+pub prev-k-requires : goal.prev-k-requires
+prev-k-requires g c =
+    let m : Mesh = mesh_in c.self.inside in
+    let t = beside m c.args.e c.self.invariant.sound (rw (← c.self.view_is) at c.requires) in
+    rw (c.reversed-t.ensures, ← length_shown c.self.inside.half_edges.items) t.twin_in
+
+pub pass_edges-requires-clause-places : goal.pass_edges-requires-clause-places
+pass_edges-requires-clause-places g c =
+    let m : Mesh = mesh_in c.self.inside in
+    let l : c.next-l.result ≡ next m c.args.e = c.next-l.ensures in
+    let k : c.prev-k.result ≡ prev m c.reversed-t.result = c.prev-k.ensures in
+    let z : c.prev-z.result ≡ prev m c.prev-k.result = c.prev-z.ensures in
+    rw (z, k, l, c.reversed-t.ensures) (passed_places m c.args.e c.self.invariant.sound (rw (← c.self.view_is) at c.requires))
 
 pub returns-clause-mesh : goal.returns-clause-mesh
 unfolding passed
 returns-clause-mesh g c =
     let m : Mesh = mesh_in c.self.inside in
-    let l : c.get-l.result ≡ edge_at m.half_edges c.args.e = c.get-l.ensures in
-    let k : c.get-k.result ≡ edge_at m.half_edges c.reversed-t.result = c.get-k.ensures in
-    let there : c.get-there.result ≡ edge_at m.half_edges c.get-k.result.prev = c.get-there.ensures in
-    let start : c.get-passed.result ≡ edge_at m.half_edges c.get-l.result.next = c.get-passed.ensures in
-    rw (← c.self.view_is, c.set_out_edge.ensures, c.pass_edges.ensures.items, start, there, k, l, c.reversed-t.ensures) refl
+    let l : c.next-l.result ≡ next m c.args.e = c.next-l.ensures in
+    let k : c.prev-k.result ≡ prev m c.reversed-t.result = c.prev-k.ensures in
+    let z : c.prev-z.result ≡ prev m c.prev-k.result = c.prev-z.ensures in
+    let start : c.origin-passed.result ≡ origin m c.next-l.result = c.origin-passed.ensures in
+    rw (← c.self.view_is, c.set_out_edge.ensures, c.pass_edges.ensures.items, start, z, k, l, c.reversed-t.ensures) refl
 
 pub invariant_of-self : goal.invariant_of-self
 invariant_of-self g c =

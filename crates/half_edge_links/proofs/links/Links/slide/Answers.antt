@@ -1,20 +1,35 @@
 use Rattle.std.proofs.Common.{◌≡◌, refl}
 use Rattle.half_edge_links.proofs.Views.{mesh_in}
-use Rattle.half_edge_links.specs.Mesh.{Mesh, edge_at}
+use Rattle.half_edge_links.specs.Mesh.{Mesh, edge_at, next, prev}
 use Rattle.half_edge_links.specs.Grow.{slid}
 use Rattle.half_edge_links.proofs.Sound.Valid.{valid_as, valid_slid}
-use Rattle.half_edge_links.proofs.Growing.Slide.{slides}
+use Rattle.half_edge_links.proofs.Growing.Slide.{tail, slid_places, slides}
+use Rattle.half_edge_links.proofs.Stored.Shown.{length_shown}
 use Rattle.half_edge_links.proofs.Sound.EndsKept.{ends_slid}
 use Rattle.half_edge_links.proofs.OuterLoop.Outline.{outline_slid}
 use Rattle.half_edge_links.proofs.links.Links.slide.Goals as goal
+
+pub prev-z-requires : goal.prev-z-requires
+prev-z-requires g c =
+    let m : Mesh = mesh_in c.self.inside in
+    let t = tail m c.args.e c.self.invariant.sound (rw (← c.self.view_is) at c.requires) in
+    rw (c.reversed-t.ensures, ← length_shown c.self.inside.half_edges.items) t.twin_in
+
+pub slide_edges-requires-clause-places : goal.slide_edges-requires-clause-places
+slide_edges-requires-clause-places g c =
+    let m : Mesh = mesh_in c.self.inside in
+    let k : c.next-k.result ≡ next m c.args.e = c.next-k.ensures in
+    let there : c.get-there.result ≡ edge_at m.half_edges c.next-k.result = c.get-there.ensures in
+    let z : c.prev-z.result ≡ prev m c.reversed-t.result = c.prev-z.ensures in
+    rw (z, there, k, c.reversed-t.ensures) (slid_places m c.args.e c.self.invariant.sound (rw (← c.self.view_is) at c.requires))
 
 pub returns-clause-mesh : goal.returns-clause-mesh
 unfolding slid
 returns-clause-mesh g c =
     let m : Mesh = mesh_in c.self.inside in
-    let k : c.get-k.result ≡ edge_at m.half_edges c.args.e = c.get-k.ensures in
-    let there : c.get-there.result ≡ edge_at m.half_edges c.get-k.result.next = c.get-there.ensures in
-    let z : c.get-z.result ≡ edge_at m.half_edges c.reversed-t.result = c.get-z.ensures in
+    let k : c.next-k.result ≡ next m c.args.e = c.next-k.ensures in
+    let there : c.get-there.result ≡ edge_at m.half_edges c.next-k.result = c.get-there.ensures in
+    let z : c.prev-z.result ≡ prev m c.reversed-t.result = c.prev-z.ensures in
     rw (← c.self.view_is, c.set_out_edge.ensures, c.slide_edges.ensures.items, z, there, k, c.reversed-t.ensures) refl
 
 pub invariant_of-self : goal.invariant_of-self

@@ -1,5 +1,6 @@
 use Rattle.std.proofs.Common.{◌≡◌, ◌-◌, length, ap, sym, ◌∙◌, refl}
 use Rattle.half_edge_links.proofs.Views.{mesh_in}
+use Rattle.half_edge_links.proofs.Stored.Shown.{length_shown}
 use Rattle.half_edge_links.specs.Mesh.{Mesh, IsAlone, out_edge}
 use Rattle.half_edge_links.specs.Move.{IsOneOrbit}
 use Rattle.half_edge_links.proofs.Removing.VertexSound.{can_walk, moves_vertex}
@@ -16,14 +17,14 @@ pub move_named-requires-clause-first : goal.move_named-requires-clause-first
 move_named-requires-clause-first g c = λ first is.
     let m : Mesh = mesh_in c.self.inside in
     let alone : IsAlone m c.args.v = rw (← c.self.view_is) at c.requires in
-    (c.self.invariant.sound.vertices (c.len.result - 1) first (sym c.out_edge-last.ensures ∙ is)).0
+    rw length_shown at (c.self.invariant.sound.vertices (c.len.result - 1) first (sym c.out_edge-last.ensures.value ∙ is)).0
 
 pub returns-clause-moves : goal.returns-clause-moves
 returns-clause-moves g c =
     let m : Mesh = mesh_in c.self.inside in
     let alone : IsAlone m c.args.v = rw (← c.self.view_is) at c.requires in
     let orbit : IsOneOrbit m (length m.out_edges - 1) = one_orbit m (length m.out_edges - 1) c.self.invariant in
-    let at : out_edge m (length m.out_edges - 1) ≡ c.out_edge-last.result = sym (c.out_edge-last.ensures ∙ ap (λ n. out_edge m (n - 1)) c.len.ensures.out_edges) in
+    let at : out_edge m (length m.out_edges - 1) ≡ c.out_edge-last.result = sym (c.out_edge-last.ensures.value ∙ ap (λ n. out_edge m (n - 1)) c.len.ensures.out_edges) in
     rw (← c.self.view_is) (moves_vertex m _ c.args.v c.out_edge-last.result c.self.invariant.sound alone orbit at c.move_named.ensures.moves c.swap_remove.ensures.out_edges refl refl)
 
 pub invariant_of-self : goal.invariant_of-self
