@@ -2,6 +2,7 @@
 ghost use Rattle.std.specs.Prelude.{◌≡◌, ◌<◌, ◌≤◌, ◌+◌, ◌*◌, ◌∷◌, []};
 ghost use Rattle.std.specs.Prelude.{length, Some, slice_get, slice_set};
 ghost use Rattle.half_edge_links.specs.Mesh.{empty, IsInner, edge_at, face_edge, out_edge};
+ghost use Rattle.half_edge_links.specs.Mesh.{origin, next, prev, face};
 ghost use Rattle.half_edge_links.specs.declared.room.TheConstants.{MAX_ELEMENTS};
 ghost use Rattle.half_edge_dcel.specs.Contents.{IsMeshWithData};
 
@@ -177,6 +178,51 @@ impl<V, DE, UE, F> Dcel<V, DE, UE, F> {
         ensures whole { IsMeshWithData self.now }
     {
         self.links.half_edge(edge)
+    }
+
+    /// The edge after a directed edge in its loop.
+    pub fn next_edge(&self, edge: u32) -> u32
+        requires { edge < length self.now.directed }
+        ensures value { result ≡ next self.now.mesh edge }
+        ensures whole { IsMeshWithData self.now }
+    {
+        self.links.next(edge)
+    }
+
+    /// The edge before a directed edge in its loop.
+    pub fn prev_edge(&self, edge: u32) -> u32
+        requires { edge < length self.now.directed }
+        ensures value { result ≡ prev self.now.mesh edge }
+        ensures whole { IsMeshWithData self.now }
+    {
+        self.links.prev(edge)
+    }
+
+    /// The face on the left of a directed edge.
+    pub fn left_face(&self, edge: u32) -> u32
+        requires { edge < length self.now.directed }
+        ensures value { result ≡ face self.now.mesh edge }
+        ensures whole { IsMeshWithData self.now }
+    {
+        self.links.face(edge)
+    }
+
+    /// The vertex where a directed edge starts.
+    pub fn origin(&self, edge: u32) -> u32
+        requires { edge < length self.now.directed }
+        ensures value { result ≡ origin self.now.mesh edge }
+        ensures whole { IsMeshWithData self.now }
+    {
+        self.links.origin(edge)
+    }
+
+    /// The vertex where the edge before a directed edge starts, which is the cheapest one to read.
+    pub fn prev_origin(&self, edge: u32) -> u32
+        requires { edge < length self.now.directed }
+        ensures value { result ≡ origin self.now.mesh (prev self.now.mesh edge) }
+        ensures whole { IsMeshWithData self.now }
+    {
+        self.links.prev_origin(edge)
     }
 
     /// An edge of an inner face.

@@ -52,7 +52,7 @@ impl<V, DE: Drop, UE: Drop, F> Dcel<V, DE, UE, F> {
     {
         self.recall_invariant();
         let edge = reversed(out);
-        let lost = self.half_edge(edge).next;
+        let lost = self.next_edge(edge);
         self.pass(edge);
         self.remove_edge(lost);
         self.recall_invariant();
@@ -82,7 +82,7 @@ impl<V, DE: Drop, UE: Drop, F> Dcel<V, DE, UE, F> {
         ensures outline { KeepsOneOutline self.old.mesh self.new.mesh }
     {
         if let Some(out) = self.out_edge(vertex) {
-            let other = reversed(self.half_edge(out).prev);
+            let other = reversed(self.prev_edge(out));
             if other == out {
                 self.remove_end(out);
             } else {

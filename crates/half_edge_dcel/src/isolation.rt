@@ -29,8 +29,8 @@ impl<V, DE, UE, F> Dcel<V, DE, UE, F> {
         ensures edge { result.0 ≡ prev self.now.mesh side }
         ensures vertex { result.1 ≡ origin self.now.mesh (prev self.now.mesh side) }
     {
-        let edge = self.links.half_edge(side.index()).prev;
-        (edge, self.links.half_edge(edge).origin)
+        let side = side.index();
+        (self.links.prev(side), self.links.prev_origin(side))
     }
 
     // Removes the edges of a vertex with `count` inner faces, which follow each other from `first`
@@ -85,10 +85,10 @@ impl<V, DE, UE, F> Dcel<V, DE, UE, F> {
         ensures value { let m = self.now.mesh in result ≡ face m (turn m (turn m first)) }
         ensures whole { IsMeshWithData self.now }
     {
-        let second = reversed(self.links.half_edge(first).prev);
-        let third = reversed(self.links.half_edge(second).prev);
+        let second = reversed(self.links.prev(first));
+        let third = reversed(self.links.prev(second));
         self.recall_invariant();
-        self.links.half_edge(third).face
+        self.links.face(third)
     }
 
     // Removes the edges of a vertex with three faces round it, one of them on the left of `first`.
@@ -126,7 +126,7 @@ impl<V, DE, UE, F> Dcel<V, DE, UE, F> {
         ensures whole { IsMeshWithData self.old }
     {
         self.recall_invariant();
-        let spoke = reversed(self.links.half_edge(first).prev);
+        let spoke = reversed(self.links.prev(first));
         self.links.flip(spoke);
     }
 

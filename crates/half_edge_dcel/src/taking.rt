@@ -94,7 +94,7 @@ impl<V, DE, UE, F> Dcel<V, DE, UE, F> {
         ensures whole { IsMeshWithData self.old }
         ensures outline { KeepsOneOutline self.old.mesh self.new.mesh }
     {
-        let left = self.half_edge(edge).face as usize - 1;
+        let left = self.left_face(edge) as usize - 1;
         let spoke = self.links.peel(edge);
         self.faces.swap_remove(left);
         self.undirected.swap_remove(edge as usize / 2);
@@ -131,7 +131,7 @@ impl<V, DE, UE, F> Dcel<V, DE, UE, F> {
     {
         let last = self.num_directed_edges() as u32 - 2;
         let hole = edge - edge % 2;
-        let after = self.half_edge(edge).next;
+        let after = self.next_edge(edge);
         if after == last {
             hole
         } else if after == last + 1 {

@@ -1,9 +1,9 @@
 -- The search for an edge round a vertex.
 use Rattle.std.proofs.Common.{◌≡◌, ◌≢◌, ℕ, zero, suc, ◌+◌, ◌-◌, ◌<◌, ◌≤◌, length, Some, sym, ap, ◌∙◌, inl, inr, arith}
 use Rattle.std.proofs.lemmas.Bool.{cases_lt}
-use Rattle.half_edge_links.specs.declared.records.HalfEdge.{HalfEdge}
-use Rattle.half_edge_links.specs.Mesh.{Mesh, edge_at, origin, rev, out_edge}
+use Rattle.half_edge_links.specs.Mesh.{Mesh, origin, prev, rev, out_edge}
 use Rattle.half_edge_links.specs.Peel.{turn, spoke}
+use Rattle.half_edge_links.proofs.Lists.Rev.{rev-rev}
 use Rattle.half_edge_links.proofs.Removing.Conditions.{spoke_at}
 use Rattle.half_edge_links.proofs.Lists.OneOrbit.{edges_go_round}
 use Rattle.half_edge_links.proofs.Lists.Orbits.{step_add}
@@ -11,10 +11,14 @@ use Rattle.half_edge_dcel.specs.Contents.{Contents, IsMeshWithData}
 use Rattle.half_edge_views.proofs.Loops.{round_fits}
 
 -- one turn further round the vertex
-pub turned_spoke : (m : Mesh) (first edge k r : ℕ) (x : HalfEdge) → r ≡ rev x.prev → x ≡ edge_at m.half_edges edge → edge ≡ spoke m first k → r ≡ spoke m first (k + 1)
-turned_spoke m first edge k r x is read reached =
+pub turned_spoke : (m : Mesh) (first edge k r p : ℕ) → r ≡ rev p → p ≡ prev m edge → edge ≡ spoke m first k → r ≡ spoke m first (k + 1)
+turned_spoke m first edge k r p is read reached =
     let more : suc k ≡ k + 1 = omega arith in
-    is ∙ ap (λ (q : HalfEdge). rev q.prev) read ∙ ap (turn m) reached ∙ ap (spoke m first) more
+    is ∙ ap rev read ∙ ap (turn m) reached ∙ ap (spoke m first) more
+
+-- the edge one turn further ends where the edge before this one starts
+pub turned_end : (m : Mesh) (edge r p o : ℕ) → r ≡ rev p → p ≡ prev m edge → o ≡ origin m (prev m edge) → o ≡ origin m (rev r)
+turned_end m edge r p o is read at = at ∙ ap (origin m) (sym read ∙ sym (rev-rev p) ∙ ap rev (sym is))
 
 -- each edge on the walk round a vertex is one of the mesh
 pub spoke-within : {V D U F : Type 0} (c : Contents V D U F) (first k : ℕ) → IsMeshWithData c → first < length c.directed → spoke c.mesh first k < length c.directed
@@ -25,13 +29,13 @@ pub spoke-starts : {V D U F : Type 0} (c : Contents V D U F) (first k : ℕ) →
 spoke-starts c first k w first_in = (spoke_at c.mesh first w.valid.sound (rw w.fits.directed_fit at first_in) k).1
 
 -- one more edge does not end at the vertex
-pub missed_more : (m : Mesh) (first edge t to k : ℕ) (x : HalfEdge) → t ≡ rev edge → x ≡ edge_at m.half_edges t → edge ≡ spoke m first k → x.origin ≢ to → ((j : ℕ) → j < k → origin m (rev (spoke m first j)) ≢ to) → (j : ℕ) → j < k + 1 → origin m (rev (spoke m first j)) ≢ to
-missed_more m first edge t to k x is read reached here before j less =
+pub missed_more : (m : Mesh) (first edge end to k : ℕ) → end ≡ origin m (rev edge) → edge ≡ spoke m first k → end ≢ to → ((j : ℕ) → j < k → origin m (rev (spoke m first j)) ≢ to) → (j : ℕ) → j < k + 1 → origin m (rev (spoke m first j)) ≢ to
+missed_more m first edge end to k is reached here before j less =
     elim (cases_lt j k) [
       | inl old ↦ before j old
       | inr more ↦
           let last : j ≡ k = omega (arith, less, more) in
-          λ q. here (ap (λ (y : HalfEdge). y.origin) read ∙ ap (origin m) (is ∙ ap rev (reached ∙ ap (spoke m first) (sym last))) ∙ q)
+          λ q. here (is ∙ ap (λ h. origin m (rev h)) (reached ∙ ap (spoke m first) (sym last)) ∙ q)
     ]
 
 -- the walk round a vertex goes on as before once it is back

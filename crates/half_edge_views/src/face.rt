@@ -87,6 +87,6 @@ impl<'a, V, DE, UE, F> FaceHandle<'a, V, DE, UE, F> {
             map (λ v. v.index) result ≡ t.first ∷ t.second ∷ t.third ∷ [] }
     {
         let edge = self.adjacent_edge();
-        [edge.from(), edge.to(), edge.prev().from()]
+        [edge.from(), edge.to(), edge.prev_from()]
     }
 }

@@ -19,12 +19,15 @@ pub(crate) fn edge_to<V, DE, UE, F>(mesh: &Dcel<V, DE, UE, F>, first: u32, to: u
         origin m (rev (spoke m first j)) ≢ to) }
     ensures whole { IsMeshWithData mesh.now }
 {
+    let count = mesh.num_directed_edges();
     let mut edge = first;
-    for _ in 0..mesh.num_directed_edges() {
-        if mesh.half_edge(reversed(edge)).origin == to {
+    let mut end = mesh.origin(reversed(first));
+    for _ in 0..count {
+        if end == to {
             return Some(edge);
         }
-        edge = reversed(mesh.half_edge(edge).prev);
+        end = mesh.prev_origin(edge);
+        edge = reversed(mesh.prev_edge(edge));
         if edge == first {
             return None;
         }

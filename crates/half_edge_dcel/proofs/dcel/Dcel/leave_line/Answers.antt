@@ -1,8 +1,8 @@
 use Rattle.std.proofs.Common.{sym}
 use Rattle.half_edge_dcel.proofs.dcel.Dcel.leave_line.Goals as goal
 
-pub half_edge-requires : goal.half_edge-requires
-half_edge-requires g c =
+pub prev_edge-requires : goal.prev_edge-requires
+prev_edge-requires g c =
     let w = c.in-Some.ensures.whole in
     rw w.fits.directed_fit (w.valid.sound.vertices c.args.vertex c.in-Some.out (sym c.in-Some.ensures.value)).0
 

@@ -1,5 +1,4 @@
-use Rattle.std.proofs.Common.{◌≡◌, ◌-◌, ◌/◌, ap, arith}
-use Rattle.half_edge_links.specs.declared.records.HalfEdge.{HalfEdge}
+use Rattle.std.proofs.Common.{◌≡◌, ◌-◌, ◌/◌, arith}
 use Rattle.half_edge_links.specs.Mesh.{Mesh, face}
 use Rattle.half_edge_dcel.proofs.TakenEdges.{loses_edge, loses_face_at}
 use Rattle.half_edge_dcel.proofs.TakenOut.{takes_out}
@@ -10,7 +9,7 @@ swap_remove-requires g c =
     let m : Mesh = c.self.inside.links.mesh in
     let fits = c.self.invariant.faces_fit in
     let can = rw (← c.self.view_is) at c.requires in
-    let is : c.half_edge.result.face ≡ face m c.args.edge = ap (λ (e : HalfEdge). e.face) (rw (← c.self.view_is) at c.half_edge.ensures.value) in
+    let is : c.left_face.result ≡ face m c.args.edge = rw (← c.self.view_is) at c.left_face.ensures.value in
     let inside = (c.peel-spoke.ensures.sound.edges c.args.edge can.within).face_in in
     rw is (omega (arith, fits, can.inner, inside))
 
@@ -27,7 +26,7 @@ returns-clause-faces g c =
     let m : Mesh = c.self.inside.links.mesh in
     let fit = c.self.invariant in
     let can = rw (← c.self.view_is) at c.requires in
-    let is : c.half_edge.result.face ≡ face m c.args.edge = ap (λ (e : HalfEdge). e.face) (rw (← c.self.view_is) at c.half_edge.ensures.value) in
+    let is : c.left_face.result ≡ face m c.args.edge = rw (← c.self.view_is) at c.left_face.ensures.value in
     let inside = (c.peel-spoke.ensures.sound.edges c.args.edge can.within).face_in in
     rw (← c.self.view_is) (loses_face_at m c.peel-spoke.new.self.mesh c.self.inside.faces.items c.swap_remove.new.self.items c.args.edge c.swap_remove.result c.peel-spoke.ensures.sound fit.faces_fit can.within can.inner (rw is at c.swap_remove.ensures.value) c.peel-spoke.ensures.peels.corners
     (rw (c.swap_remove.ensures.items, is) (takes_out c.self.inside.faces.items (face m c.args.edge - 1) c.swap_remove.result (omega (arith, fit.faces_fit, can.inner, inside)))))

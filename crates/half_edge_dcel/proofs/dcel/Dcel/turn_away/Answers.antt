@@ -1,5 +1,4 @@
 use Rattle.std.proofs.Common.{◌≡◌, ap, ◌∙◌}
-use Rattle.half_edge_links.specs.declared.records.HalfEdge.{HalfEdge}
 use Rattle.half_edge_links.specs.Mesh.{Mesh, rev}
 use Rattle.half_edge_links.specs.Peel.{turn}
 use Rattle.half_edge_dcel.proofs.Hubs.{turnable, turn_corners}
@@ -9,15 +8,15 @@ pub flip-requires-clause-flippable : goal.flip-requires-clause-flippable
 flip-requires-clause-flippable g c =
     let m : Mesh = c.self.inside.links.mesh in
     let can = rw (← c.self.view_is) at c.requires in
-    let is : c.reversed-spoke.result ≡ turn m c.args.first = c.reversed-spoke.ensures ∙ ap (λ (e : HalfEdge). rev e.prev) c.half_edge.ensures.value in
-    rw is (turnable m c.args.first c.half_edge.ensures.valid can.within can.before can.behind)
+    let is : c.reversed-spoke.result ≡ turn m c.args.first = c.reversed-spoke.ensures ∙ ap rev c.prev.ensures.value in
+    rw is (turnable m c.args.first c.prev.ensures.valid can.within can.before can.behind)
 
 pub flip-requires-clause-corners : goal.flip-requires-clause-corners
 flip-requires-clause-corners g c =
     let m : Mesh = c.self.inside.links.mesh in
     let can = rw (← c.self.view_is) at c.requires in
-    let is : c.reversed-spoke.result ≡ turn m c.args.first = c.reversed-spoke.ensures ∙ ap (λ (e : HalfEdge). rev e.prev) c.half_edge.ensures.value in
-    rw is (turn_corners m c.args.first c.half_edge.ensures.valid can.within can.before can.corners)
+    let is : c.reversed-spoke.result ≡ turn m c.args.first = c.reversed-spoke.ensures ∙ ap rev c.prev.ensures.value in
+    rw is (turn_corners m c.args.first c.prev.ensures.valid can.within can.before can.corners)
 
 pub returns-clause-outline : goal.returns-clause-outline
 returns-clause-outline g c = rw (← c.self.view_is) c.flip.ensures.flips.outline

@@ -1,4 +1,4 @@
 use Rattle.half_edge_views.proofs.edge.DirectedEdgeHandle.from.Goals as goal
 
 pub returns-clause-index : goal.returns-clause-index
-returns-clause-index g c = λ i. (c.half_edge.ensures.value i).origin
+returns-clause-index g c = c.origin.ensures.value
