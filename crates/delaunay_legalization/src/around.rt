@@ -12,32 +12,10 @@ ghost use Rattle.delaunay_legalization.specs.Known.{point_at};
 ghost use Rattle.delaunay_legalization.specs.Sides.{HasLegalized};
 
 use crate::constraint_marker::ConstraintMarker;
-use crate::legalization::{flip, is_constraint_edge, is_outer, start_of};
+use crate::legalization::{end_of, flip, is_constraint_edge, is_outer, start_before, start_of};
 use delaunay_core::math::PlaneTests;
 use delaunay_core::point::{HasPosition, Point2};
 use half_edge_mesh::{Dcel, FixedDirectedEdgeHandle, MeshViews};
-
-// The edge opposite the vertex where an edge starts, in the face on the left of that edge, its other
-// direction, and the edge before this one in its loop.
-fn opposite_sides<V, DE, UE, F>(
-    dcel: &Dcel<V, DE, UE, F>,
-    spoke: FixedDirectedEdgeHandle,
-) -> (
-    FixedDirectedEdgeHandle,
-    FixedDirectedEdgeHandle,
-    FixedDirectedEdgeHandle,
-)
-    requires { spoke < length dcel.now.directed }
-    ensures edge { (result.0 ≡ next dcel.now.mesh spoke) × (result.0 < length dcel.now.directed) }
-    ensures twin { (result.1 ≡ rev (next dcel.now.mesh spoke)) ×
-        (result.1 < length dcel.now.directed) }
-    ensures beyond { (result.2 ≡ prev dcel.now.mesh (rev (next dcel.now.mesh spoke))) ×
-        (result.2 < length dcel.now.directed) }
-{
-    let edge = dcel.directed_edge(spoke).next();
-    let twin = edge.rev();
-    (edge.fix(), twin.fix(), twin.prev().fix())
-}
 
 // What a test of the edge opposite a vertex reads, in the face on the left of one of the vertex's
 // edges: whether a face beside the edge is the outer one, the positions of the edge's ends, and
@@ -60,12 +38,12 @@ fn opposite_of<V: HasPosition, DE, UE, F>(
     ensures { IsOpposite V.Scalar.whole (map V.place dcel.now.vertices) dcel.now.mesh spoke
         result }
 {
-    let (edge, twin, beyond) = opposite_sides(dcel, spoke);
+    let edge = dcel.directed_edge(spoke).next().fix();
     Opposite {
-        is_outer: is_outer(dcel, spoke) || is_outer(dcel, twin),
+        is_outer: is_outer(dcel, spoke) || is_outer(dcel, edge.rev()),
         from: start_of(dcel, edge),
-        to: start_of(dcel, twin),
-        beyond: start_of(dcel, beyond),
+        to: end_of(dcel, edge),
+        beyond: start_before(dcel, edge.rev()),
     }
 }
 

@@ -18,7 +18,22 @@ use crate::constraint_marker::ConstraintMarker;
 use crate::sides::{Sides, push_left};
 use delaunay_core::math::PlaneTests;
 use delaunay_core::point::{HasPosition, Point2};
-use half_edge_mesh::{Dcel, FixedDirectedEdgeHandle, FixedUndirectedEdgeHandle, MeshViews};
+use half_edge_mesh::{
+    Dcel, FixedDirectedEdgeHandle, FixedUndirectedEdgeHandle, FixedVertexHandle, MeshViews,
+};
+
+// The position of a vertex.
+fn position_of<V: HasPosition, DE, UE, F>(
+    dcel: &Dcel<V, DE, UE, F>,
+    vertex: FixedVertexHandle,
+) -> Point2<V::Scalar>
+    requires { vertex < length dcel.now.vertices }
+    ensures place { place_of V.Scalar.whole result ≡
+        point_at (map V.place dcel.now.vertices) vertex }
+    ensures listed { Contains (map V.place dcel.now.vertices) (place_of V.Scalar.whole result) }
+{
+    dcel.vertex_data(vertex).position()
+}
 
 // The position where an edge starts.
 pub fn start_of<V: HasPosition, DE, UE, F>(
@@ -30,8 +45,33 @@ pub fn start_of<V: HasPosition, DE, UE, F>(
         point_at (map V.place dcel.now.vertices) (origin dcel.now.mesh edge) }
     ensures listed { Contains (map V.place dcel.now.vertices) (place_of V.Scalar.whole result) }
 {
-    let vertex = dcel.directed_edge(edge).from().fix();
-    dcel.vertex_data(vertex).position()
+    position_of(dcel, dcel.directed_edge(edge).from().fix())
+}
+
+// The position where an edge ends, which is where the edge after it starts.
+pub(crate) fn end_of<V: HasPosition, DE, UE, F>(
+    dcel: &Dcel<V, DE, UE, F>,
+    edge: FixedDirectedEdgeHandle,
+) -> Point2<V::Scalar>
+    requires { edge < length dcel.now.directed }
+    ensures place { place_of V.Scalar.whole result ≡
+        point_at (map V.place dcel.now.vertices) (origin dcel.now.mesh (rev edge)) }
+    ensures listed { Contains (map V.place dcel.now.vertices) (place_of V.Scalar.whole result) }
+{
+    start_of(dcel, dcel.directed_edge(edge).next().fix())
+}
+
+// The position where the edge before an edge starts: in an inner face the corner opposite the edge.
+pub fn start_before<V: HasPosition, DE, UE, F>(
+    dcel: &Dcel<V, DE, UE, F>,
+    edge: FixedDirectedEdgeHandle,
+) -> Point2<V::Scalar>
+    requires { edge < length dcel.now.directed }
+    ensures place { place_of V.Scalar.whole result ≡
+        point_at (map V.place dcel.now.vertices) (origin dcel.now.mesh (prev dcel.now.mesh edge)) }
+    ensures listed { Contains (map V.place dcel.now.vertices) (place_of V.Scalar.whole result) }
+{
+    position_of(dcel, dcel.directed_edge(edge).prev_from().fix())
 }
 
 // Whether an edge has the outer face on its left.
@@ -100,11 +140,11 @@ fn is_failing<V: HasPosition, DE, UE, F, P: PlaneTests<V::Scalar>>(
     if is_outer(dcel, edge) || is_outer(dcel, edge.rev()) {
         return false;
     }
-    let (_, prev, _, twin_prev) = sides_round(dcel, edge);
+    let twin = edge.rev();
     let from = start_of(dcel, edge);
-    let to = start_of(dcel, edge.rev());
-    let left = start_of(dcel, prev);
-    let right = start_of(dcel, twin_prev);
+    let to = start_of(dcel, twin);
+    let left = start_before(dcel, edge);
+    let right = start_before(dcel, twin);
     tests.is_in_circle(from, to, left, right)
 }
 

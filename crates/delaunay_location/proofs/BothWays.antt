@@ -15,20 +15,19 @@ use Rattle.half_edge_links.proofs.Lists.Rev.{rev-rev}
 use Rattle.mesh_embedding.proofs.WorkLists.{contains_map_from, at_most_so_many}
 use Rattle.delaunay_legalization.proofs.Rounds.{round_at, spokes_once}
 
--- edges left and right of vertex v lie at two places of the round against the clock that begins after the first edge
--- and ends with it, and P holds of all that come before the one on the right or after the one on the left
+-- edges left and right of vertex v lie at two places of the round against the clock that begins with the first edge
+-- and comes to it again, and P holds of all from the first to the one on the right and from the one on the left on
 pub record IsClosingIn (m : Mesh) (v first : ℕ) (P : ℕ → Type 0) (left right : ℕ) : Type 0 where
   pub count : ℕ
   pub round : IsRound m v first count
   pub low : ℕ
   pub high : ℕ
-  pub some : 0 < low
-  pub order : low ≤ high
+  pub order : low < high
   pub among : high ≤ count
   pub at_left : left ≡ spoke m first high
   pub at_right : right ≡ spoke m first low
-  pub above : (j : ℕ) → high < j → j ≤ count → P (spoke m first j)
-  pub below : (j : ℕ) → 0 < j → j < low → P (spoke m first j)
+  pub above : (j : ℕ) → high ≤ j → j ≤ count → P (spoke m first j)
+  pub below : (j : ℕ) → j ≤ low → P (spoke m first j)
 
 -- how many edges come between the first, itself one of them, and edge h
 abbrev pub how_many_before : Mesh → ℕ → ℕ → ℕ
@@ -99,45 +98,23 @@ module _ (m : Mesh) (v first count : ℕ) (round : IsRound m v first count) wher
       (let fits = count_fits in omega (arith, among, fits))
 
 module _ (m : Mesh) (valid : IsValidMesh m) (v first : ℕ) (P : ℕ → Type 0) where
-  module _ (within : first < length m.half_edges) (starts : origin m first ≡ v) (seen : P first) (left right : ℕ)
-      (left_is : left ≡ next m (rev first)) (right_is : right ≡ rev (prev m first)) where
-    -- at first the edge that both ways begin at was seen
-    pub closing_in_begins : IsClosingIn m v first P left right
-    closing_in_begins = let r = round_at m valid v first within starts in go r.0 r.1
-      where
-        before : (n : ℕ) → IsRound m v first (suc n) → left ≡ spoke m first n
-        before n round = left_is ∙ one_back m v first (suc n) round valid.sound n first
-            (sym (comes_again m v first (suc n) round))
-
-        go : (n : ℕ) → IsRound m v first n → IsClosingIn m v first P left right
-        go zero round = absurd (let some = round.some in omega (arith, some))
-        go (suc zero) round = record {
-          count = 1;
-          round = round;
-          low = 1;
-          high = 1;
-          some = omega arith;
-          order = omega arith;
-          among = omega arith;
-          at_left = before 0 round ∙ sym (comes_again m v first 1 round);
-          at_right = right_is;
-          above = λ j over under. absurd (omega (arith, over, under));
-          below = λ j over under. absurd (omega (arith, over, under));
-        }
-        go (suc (suc n)) round = record {
-          count = suc (suc n);
-          round = round;
-          low = 1;
-          high = suc n;
-          some = omega arith;
-          order = omega arith;
-          among = omega arith;
-          at_left = before (suc n) round;
-          at_right = right_is;
-          above = λ j over under. subst P (sym (comes_again m v first (suc (suc n)) round)
-              ∙ ap (spoke m first) (let q : suc (suc n) ≡ j = omega (arith, over, under) in q)) seen;
-          below = λ j over under. absurd (omega (arith, over, under));
-        }
+  -- at first the edge that both ways begin at was seen
+  pub closing_in_begins : first < length m.half_edges → origin m first ≡ v → P first
+      → IsClosingIn m v first P first first
+  closing_in_begins within starts seen =
+      let r = round_at m valid v first within starts in record {
+        count = r.0;
+        round = r.1;
+        low = 0;
+        high = r.0;
+        order = r.1.some;
+        among = omega arith;
+        at_left = sym (comes_again m v first r.0 r.1);
+        at_right = refl;
+        above = λ j over under. subst P (sym (comes_again m v first r.0 r.1)
+            ∙ ap (spoke m first) (let q : r.0 ≡ j = omega (arith, over, under) in q)) seen;
+        below = λ j under. subst P (ap (spoke m first) (let q : 0 ≡ j = omega (arith, under) in q)) seen;
+      }
 
   module _ (left right : ℕ) (w : IsClosingIn m v first P left right) where
     -- both edges are of the mesh
@@ -147,20 +124,13 @@ module _ (m : Mesh) (valid : IsValidMesh m) (v first : ℕ) (P : ℕ → Type 0)
     pub right_within : right < length m.half_edges
     right_within = subst (λ (k : ℕ). k < length m.half_edges) (sym w.at_right) (w.round.within w.low)
 
-    -- both start at the vertex
-    pub left_starts : origin m left ≡ v
-    left_starts = ap (origin m) w.at_left ∙ w.round.starts w.high
-
-    pub right_starts : origin m right ≡ v
-    right_starts = ap (origin m) w.at_right ∙ w.round.starts w.low
-
     -- the place of the edge after the left one, clockwise
     one_less : ℕ
     one_less = w.high - 1
 
     place_is : w.high ≡ suc one_less
     unfolding one_less
-    place_is = let some = w.some in let order = w.order in omega (arith, some, order)
+    place_is = let order = w.order in omega (arith, order)
 
     next_left : next m (rev left) ≡ spoke m first one_less
     next_left =
@@ -169,99 +139,98 @@ module _ (m : Mesh) (valid : IsValidMesh m) (v first : ℕ) (P : ℕ → Type 0)
     less_among : one_less ≤ w.count
     less_among = let among = w.among in omega (arith, among, place_is)
 
-    -- the ways have met where they are at one edge
-    met : left ≡ right → w.low ≡ w.high
-    met same = elim (eq-or-lt_of_le w.order) [
-      | inl e ↦ e
-      | inr less ↦ absurd (apart_from m v first w.count w.round w.low w.high w.some less w.among
-          (sym w.at_right ∙ sym same ∙ w.at_left))
-    ]
+    not_passed : w.low ≤ one_less
+    not_passed = let order = w.order in omega (arith, order, place_is)
 
-    module _ (off : left ≢ right) where
-      not_met : w.low < w.high
-      not_met = elim (eq-or-lt_of_le w.order) [
-        | inl e ↦ absurd (off (w.at_left ∙ ap (spoke m first) (sym e) ∙ sym w.at_right))
+    -- the edge after the right one, against the clock
+    next_right : rev (prev m right) ≡ spoke m first (suc w.low)
+    next_right = ap (λ k. rev (prev m k)) w.at_right
+
+    -- the edges that come next start at the vertex
+    pub left_starts : origin m (next m (rev left)) ≡ v
+    left_starts = ap (origin m) next_left ∙ w.round.starts one_less
+
+    pub right_starts : origin m (rev (prev m right)) ≡ v
+    right_starts = ap (origin m) next_right ∙ w.round.starts (suc w.low)
+
+    -- where no edge is left between them all edges of the vertex were seen
+    module _ (closed : w.high ≤ suc w.low) (g : ℕ) (within : g < length m.half_edges) (starts : origin m g ≡ v) where
+      any : (i : ℕ) → i < w.count → P (spoke m first i)
+      any i among = elim (cases_lt w.low i) [
+        | inl over ↦ w.above i (omega (arith, over, closed)) (omega (arith, among))
+        | inr under ↦ w.below i under
+      ]
+
+      all_seen : P g
+      all_seen = let i = w.round.all g within starts in subst P (sym i.2) (any i.0 i.1)
+
+    -- so it is where the next edge on one way is that of the other
+    pub seen_where_left_meets : next m (rev left) ≡ right → (g : ℕ) → g < length m.half_edges → origin m g ≡ v → P g
+    seen_where_left_meets same = all_seen (elim (eq-or-lt_of_le not_passed) [
+      | inl e ↦ omega (arith, e, place_is)
+      | inr less ↦ absurd (w.round.apart w.low one_less less (let among = w.among in omega (arith, among, place_is))
+          (sym w.at_right ∙ sym same ∙ next_left))
+    ])
+
+    pub seen_where_right_meets : rev (prev m right) ≡ left → (g : ℕ) → g < length m.half_edges → origin m g ≡ v → P g
+    seen_where_right_meets same = all_seen (elim (eq-or-lt_of_le w.order) [
+      | inl e ↦ omega (arith, e)
+      | inr less ↦ absurd (apart_from m v first w.count w.round (suc w.low) w.high (omega arith) less w.among
+          (sym next_right ∙ same ∙ w.at_left))
+    ])
+
+    module _ (l : ℕ) (is : l ≡ next m (rev left)) (away : l ≢ right) where
+      still_apart : w.low < one_less
+      still_apart = elim (eq-or-lt_of_le not_passed) [
+        | inl e ↦ absurd (away (is ∙ next_left ∙ ap (spoke m first) (sym e) ∙ sym w.at_right))
         | inr less ↦ less
       ]
 
-      not_passed : w.low ≤ one_less
-      not_passed = let less = not_met in omega (arith, less, place_is)
-
-      -- they meet where the left one comes to the right one
-      meets : next m (rev left) ≡ right → w.low ≡ one_less
-      meets same = elim (eq-or-lt_of_le not_passed) [
-        | inl e ↦ e
-        | inr less ↦ absurd (apart_from m v first w.count w.round w.low one_less w.some less less_among
-            (sym w.at_right ∙ sym same ∙ next_left))
-      ]
-
-      module _ (away : next m (rev left) ≢ right) where
-        meets_not : w.low < one_less
-        meets_not = elim (eq-or-lt_of_le not_passed) [
-          | inl e ↦ absurd (away (next_left ∙ ap (spoke m first) (sym e) ∙ sym w.at_right))
-          | inr less ↦ less
-        ]
-
-        -- fewer edges come before the left one then
-        pub fewer_before : how_many_before m first (next m (rev left)) < how_many_before m first left
-        fewer_before =
-            let less = meets_not in
-            let some = w.some in
-            let among = w.among in
-            let new = so_many_before m v first w.count w.round one_less (next m (rev left)) next_left
-            (omega (arith, less)) less_among in
-            let old = so_many_before m v first w.count w.round w.high left w.at_left (omega (arith, place_is)) among in
-            omega (arith, new, old, place_is)
-
-    module _ (at_left : P left) (at_right : P right) where
-      from_left : (j : ℕ) → w.high ≤ j → j ≤ w.count → P (spoke m first j)
-      from_left j over under = elim (eq-or-lt_of_le over) [
-        | inl e ↦ subst P (w.at_left ∙ ap (spoke m first) e) at_left
-        | inr later ↦ w.above j later under
-      ]
-
-      to_right : (j : ℕ) → 0 < j → j ≤ w.low → P (spoke m first j)
-      to_right j over under = elim (eq-or-lt_of_le under) [
-        | inl e ↦ subst P (w.at_right ∙ ap (spoke m first) (sym e)) at_right
-        | inr earlier ↦ w.below j over earlier
-      ]
-
-      -- both go on, where they have not met and do not meet
-      pub closing_in_on : (l r : ℕ) → left ≢ right → next m (rev left) ≢ right → l ≡ next m (rev left)
-          → r ≡ rev (prev m right) → IsClosingIn m v first P l r
-      closing_in_on l r off away l_is r_is = record {
+      -- the left one goes on to an edge that was seen
+      pub left_goes_on : P l → IsClosingIn m v first P l right
+      left_goes_on seen = record {
         count = w.count;
         round = w.round;
-        low = suc w.low;
+        low = w.low;
         high = one_less;
-        some = omega arith;
-        order = meets_not off away;
+        order = still_apart;
         among = less_among;
-        at_left = l_is ∙ next_left;
-        at_right = r_is ∙ ap (λ k. rev (prev m k)) w.at_right;
-        above = λ j over under. from_left j (omega (arith, over, place_is)) under;
-        below = λ j over under. to_right j over (omega (arith, under));
+        at_left = is ∙ next_left;
+        at_right = w.at_right;
+        above = λ j over under. elim (eq-or-lt_of_le over) [
+          | inl e ↦ subst P (is ∙ next_left ∙ ap (spoke m first) e) seen
+          | inr later ↦ w.above j (omega (arith, later, place_is)) under
+        ];
+        below = w.below;
       }
 
-      -- where no edge is left between them all edges of the vertex were seen
-      module _ (closed : w.high ≤ suc w.low) (g : ℕ) (within : g < length m.half_edges) (starts : origin m g ≡ v) where
-        any : (i : ℕ) → 0 < i → i ≤ w.count → P (spoke m first i)
-        any i some among = elim (cases_lt w.low i) [
-          | inl over ↦ from_left i (omega (arith, over, closed)) among
-          | inr under ↦ to_right i some under
-        ]
+      -- fewer edges come before it then
+      pub fewer_before : how_many_before m first l < how_many_before m first left
+      fewer_before =
+          let less = still_apart in
+          let among = w.among in
+          let new = so_many_before m v first w.count w.round one_less l (is ∙ next_left) (omega (arith, less))
+          less_among in
+          let old = so_many_before m v first w.count w.round w.high left w.at_left (omega (arith, place_is)) among in
+          omega (arith, new, old, place_is)
 
-        place : (i : ℕ) × (i < w.count) × (g ≡ spoke m first i) → P g
-        place (zero, below, is) =
-            subst P (comes_again m v first w.count w.round ∙ sym is) (any w.count w.round.some (omega arith))
-        place (suc i, below, is) = subst P (sym is) (any (suc i) (omega arith) (omega (arith, below)))
-
-        all_seen : P g
-        all_seen = place (w.round.all g within starts)
-
-      pub seen_where_met : left ≡ right → (g : ℕ) → g < length m.half_edges → origin m g ≡ v → P g
-      seen_where_met same = let e = met same in all_seen (omega (arith, e))
-
-      pub seen_where_they_meet : left ≢ right → next m (rev left) ≡ right → (g : ℕ) → g < length m.half_edges
-          → origin m g ≡ v → P g
-      seen_where_they_meet off same = let e = meets off same in all_seen (omega (arith, e, place_is))
+    -- so does the right one
+    pub right_goes_on : (r : ℕ) → r ≡ rev (prev m right) → r ≢ left → P r → IsClosingIn m v first P left r
+    right_goes_on r is away seen = record {
+      count = w.count;
+      round = w.round;
+      low = suc w.low;
+      high = w.high;
+      order = elim (eq-or-lt_of_le w.order) [
+        | inl e ↦ absurd (away (is ∙ next_right ∙ ap (spoke m first) e ∙ sym w.at_left))
+        | inr less ↦ less
+      ];
+      among = w.among;
+      at_left = w.at_left;
+      at_right = is ∙ next_right;
+      above = w.above;
+      below = λ j under. elim (eq-or-lt_of_le under) [
+        | inl e ↦ subst P (is ∙ next_right ∙ ap (spoke m first) (sym e)) seen
+        | inr earlier ↦ w.below j (omega (arith, earlier))
+      ];
+    }

@@ -1,6 +1,6 @@
 //! The vertex that is nearest to a position, by a walk from neighbour to neighbour.
 ghost use Rattle.std.specs.Prelude.{◌≡◌, ◌+◌, ◌<◌, ◌≤◌, ◌^◌, [], length, map, MatchOption};
-ghost use Rattle.half_edge_mesh.specs.Mesh.{origin};
+ghost use Rattle.half_edge_mesh.specs.Mesh.{next, origin, rev};
 ghost use Rattle.plane.specs.Fraction.{whole as fraction};
 ghost use Rattle.plane.specs.Circle.{gap};
 ghost use Rattle.plane.specs.Pairs.{place};
@@ -37,11 +37,13 @@ pub(crate) struct Candidate {
 fn nearer_end<V: HasPosition, DE, UE, F>(
     dcel: &Dcel<V, DE, UE, F>,
     edge: FixedDirectedEdgeHandle,
+    end: FixedVertexHandle,
     distance_2: i64,
     point: Point2<V::Scalar>,
 ) -> Option<Candidate>
     requires kept { IsTriangulated V.place (state_of dcel.now) }
     requires within { edge < length dcel.now.directed }
+    requires end { end ≡ origin dcel.now.mesh (rev edge) }
     requires in_range { InRange (place_of V.Scalar.whole point) }
     requires start { distance_2 ≡ gap (fraction (place_of V.Scalar.whole point))
         (place (map V.place dcel.now.vertices) (origin dcel.now.mesh edge)) }
@@ -50,7 +52,7 @@ fn nearer_end<V: HasPosition, DE, UE, F>(
         MatchOption result (EndsNoNearer points dcel.now.mesh p edge)
         (IsNearerCandidate points dcel.now.mesh p (origin dcel.now.mesh edge)) }
 {
-    let at_end = distance_2_to(dcel, end_vertex(dcel, edge), point);
+    let at_end = distance_2_to(dcel, end, point);
     if at_end < distance_2 {
         return Some(Candidate {
             spoke: edge.rev(),
@@ -58,6 +60,23 @@ fn nearer_end<V: HasPosition, DE, UE, F>(
         });
     }
     None
+}
+
+// Where the edge after this one ends. In an inner face the edge before this one starts there, which
+// this one's own record tells.
+#[inline(always)]
+fn end_after<V, DE, UE, F>(
+    dcel: &Dcel<V, DE, UE, F>,
+    edge: FixedDirectedEdgeHandle,
+) -> FixedVertexHandle
+    requires { edge < length dcel.now.directed }
+    ensures { result ≡ origin dcel.now.mesh (rev (next dcel.now.mesh edge)) }
+{
+    let edge = dcel.directed_edge(edge);
+    if edge.is_outer_edge() {
+        return edge.next().to().fix();
+    }
+    edge.prev_from().fix()
 }
 
 // A candidate to begin with: a vertex, or a neighbour that is nearer. There is none where the vertex
@@ -77,7 +96,8 @@ fn first_candidate<V: HasPosition, DE, UE, F>(
 {
     let spoke = dcel.vertex(from).out_edge()?.fix();
     let distance_2 = distance_2_to(dcel, from, point);
-    match nearer_end(dcel, spoke, distance_2, point) {
+    let end = end_vertex(dcel, spoke);
+    match nearer_end(dcel, spoke, end, distance_2, point) {
         Some(nearer) => Some(nearer),
         None => Some(Candidate { spoke, distance_2 }),
     }
@@ -102,23 +122,27 @@ fn nearer_neighbor<V: HasPosition, DE, UE, F>(
         (IsNearerCandidate points dcel.now.mesh p v) }
 {
     let Candidate { spoke, distance_2 } = *from;
-    let mut left = dcel.directed_edge(spoke).cw().fix();
-    let mut right = dcel.directed_edge(spoke).ccw().fix();
+    let mut left = spoke;
+    let mut right = spoke;
     loop {
-        if let Some(nearer) = nearer_end(dcel, left, distance_2, point) {
-            return Some(nearer);
-        }
-        if let Some(nearer) = nearer_end(dcel, right, distance_2, point) {
-            return Some(nearer);
-        }
-        if left.index() == right.index() {
+        let next = dcel.directed_edge(left).cw().fix();
+        if next.index() == right.index() {
             return None;
         }
-        left = dcel.directed_edge(left).cw().fix();
-        if left.index() == right.index() {
+        let end = end_after(dcel, left.rev());
+        if let Some(nearer) = nearer_end(dcel, next, end, distance_2, point) {
+            return Some(nearer);
+        }
+        left = next;
+        let next = dcel.directed_edge(right).ccw().fix();
+        if next.index() == left.index() {
             return None;
         }
-        right = dcel.directed_edge(right).ccw().fix();
+        let end = dcel.directed_edge(right).prev_from().fix();
+        if let Some(nearer) = nearer_end(dcel, next, end, distance_2, point) {
+            return Some(nearer);
+        }
+        right = next;
     }
 }
 

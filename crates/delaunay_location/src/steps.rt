@@ -7,13 +7,13 @@ ghost use Rattle.delaunay_location.specs.Search.{IsSearch};
 ghost use Rattle.delaunay_location.specs.Stop.{AreOtherSides, IsSideAt, IsStepOf, IsStopOf};
 ghost use Rattle.delaunay_location.specs.declared.steps.Step.TheVariants.{Beyond};
 
-use crate::parts::ends_of;
+use crate::parts::{ends_of, position_of};
 use crate::position_in_triangulation::PositionInTriangulation;
 use crate::search::Search;
 use delaunay_core::line_side_info::LineSideInfo;
 use delaunay_core::math::PlaneTests;
 use delaunay_core::point::{HasPosition, Point2};
-use delaunay_legalization::{start_of, turns_left};
+use delaunay_legalization::turns_left;
 use half_edge_mesh::{FixedDirectedEdgeHandle, MeshViews};
 
 // Where a walk is: in the face on the left of an edge. The positions of its ends are kept, so that
@@ -120,28 +120,21 @@ impl<'a, V: HasPosition, DE, UE, F, P: PlaneTests<V::Scalar>> Search<'a, V, DE, 
         Step::OnSide
     }
 
-    // The position of the corner opposite an edge, in the inner face on its left. It is read through
-    // the edge after that edge, or through the one before it.
+    // The position of the corner opposite an edge, in the inner face on its left.
     #[inline(always)]
-    fn corner_across(&self, edge: FixedDirectedEdgeHandle, is_ahead: bool) -> Point2<V::Scalar>
+    fn corner_across(&self, edge: FixedDirectedEdgeHandle) -> Point2<V::Scalar>
         requires search { IsSearch V.place V.Scalar.whole P.sites P.covered self.now }
         requires within { edge < length self.now.dcel.now.directed }
-        requires inner { 0 < face self.now.dcel.now.mesh edge }
         ensures { place_of V.Scalar.whole result ≡ point_at (map V.place self.now.dcel.now.vertices)
             (origin self.now.dcel.now.mesh (prev self.now.dcel.now.mesh edge)) }
     {
-        let edge = self.dcel.directed_edge(edge);
-        if is_ahead {
-            start_of(self.dcel, edge.next().rev().fix())
-        } else {
-            start_of(self.dcel, edge.prev().fix())
-        }
+        let corner = self.dcel.directed_edge(edge).prev_from().fix();
+        position_of(self.dcel, corner)
     }
 
     // The way from the face on the left of an edge to a position outside it: across a side that has
     // the position strictly on its right. From the outer face it leads inside, unless the position
-    // is on the left of the edge. The side at the nearer end of the edge is looked at first: most
-    // walks go on there, and its other direction, which the next step reads, lies beside it.
+    // is on the left of the edge.
     #[inline(always)]
     pub(crate) fn way_out(&self, stop: Stop<V::Scalar>) -> Step<V::Scalar>
         requires search { IsSearch V.place V.Scalar.whole P.sites P.covered self.now }
@@ -153,22 +146,17 @@ impl<'a, V: HasPosition, DE, UE, F, P: PlaneTests<V::Scalar>> Search<'a, V, DE, 
             return self.way_in(stop);
         }
         let Stop { from, to, .. } = stop;
-        let is_ahead = self.point.distance_2(to) < self.point.distance_2(from);
-        let across = self.corner_across(stop.edge, is_ahead);
-        let ahead = Stop {
-            edge: here.next().fix(),
-            from: to,
-            to: across,
-        };
+        let across = self.corner_across(stop.edge);
         let behind = Stop {
             edge: here.prev().fix(),
             from: across,
             to: from,
         };
-        if is_ahead {
-            self.way_across(stop, ahead, behind)
-        } else {
-            self.way_across(stop, behind, ahead)
-        }
+        let ahead = Stop {
+            edge: here.next().fix(),
+            from: to,
+            to: across,
+        };
+        self.way_across(stop, behind, ahead)
     }
 }

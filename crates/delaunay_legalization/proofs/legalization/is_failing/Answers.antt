@@ -1,5 +1,5 @@
-use Rattle.std.proofs.Common.{◌≡◌, ◌<◌, ℕ, length, map, refl, subst, sym, arith}
-use Rattle.half_edge_mesh.specs.Mesh.{face}
+use Rattle.std.proofs.Common.{◌≡◌, ◌<◌, ℕ, length, map, refl, ap, subst, sym, arith}
+use Rattle.half_edge_mesh.specs.Mesh.{face, prev}
 use Rattle.mesh_embedding.specs.Legal.{IsFailing}
 use Rattle.delaunay_legalization.proofs.Questions.{both_ways}
 use Rattle.delaunay_legalization.proofs.Legalizing.{left_turn, inside_fails, fails_inside, positive}
@@ -14,9 +14,9 @@ is_in_circle-requires-clause-left_turn g c =
     c.requires.within in
     left_turn (map g.V.HasPosition.place c.args.dcel.now.vertices) c.args.dcel.now.mesh w.valid c.requires.shape
     c.as_directed-edge.result (length c.args.dcel.now.directed) w.fits.directed_fit within
-    _ _ _ _ _ _ _ c.rev-2.ensures c.sides_round-prev.ensures.prev.0
-    c.sides_round-prev.ensures.twin_prev.0 c.start_of-from.ensures.place c.start_of-to.ensures.place
-    c.start_of-left.ensures.place c.start_of-right.ensures.place
+    _ _ _ _ _ _ _ c.rev-twin.ensures refl
+    (ap (prev c.args.dcel.now.mesh) c.rev-twin.ensures) c.start_of-from.ensures.place c.start_of-to.ensures.place
+    c.start_before-left.ensures.place c.start_before-right.ensures.place
     (positive (face c.args.dcel.now.mesh c.as_directed-edge.result)
     (λ z. both_ways _ (c.is_outer.ensures.1 z) c.if-is_outer.false))
 
@@ -48,9 +48,9 @@ returns g c =
           c.as_directed-edge.ensures
           (inside_fails (map g.V.HasPosition.place c.args.dcel.now.vertices) c.args.dcel.now.mesh w.valid
           c.requires.shape c.as_directed-edge.result (length c.args.dcel.now.directed) w.fits.directed_fit within
-          _ _ _ _ _ _ _ c.rev-2.ensures c.sides_round-prev.ensures.prev.0
-          c.sides_round-prev.ensures.twin_prev.0 c.start_of-from.ensures.place c.start_of-to.ensures.place
-          c.start_of-left.ensures.place c.start_of-right.ensures.place
+          _ _ _ _ _ _ _ c.rev-twin.ensures refl
+          (ap (prev c.args.dcel.now.mesh) c.rev-twin.ensures) c.start_of-from.ensures.place c.start_of-to.ensures.place
+          c.start_before-left.ensures.place c.start_before-right.ensures.place
           (positive (face c.args.dcel.now.mesh c.as_directed-edge.result)
           (λ z. both_ways _ (c.is_outer.ensures.1 z) c.if-is_outer.false))
           (subst (λ (e : ℕ). 0 < face c.args.dcel.now.mesh e) c.rev.ensures
@@ -60,9 +60,9 @@ returns g c =
       (λ x. c.is_in_circle.ensures.1
           (fails_inside (map g.V.HasPosition.place c.args.dcel.now.vertices) c.args.dcel.now.mesh w.valid
           c.requires.shape c.as_directed-edge.result (length c.args.dcel.now.directed) w.fits.directed_fit within
-          _ _ _ _ _ _ _ c.rev-2.ensures c.sides_round-prev.ensures.prev.0
-          c.sides_round-prev.ensures.twin_prev.0 c.start_of-from.ensures.place c.start_of-to.ensures.place
-          c.start_of-left.ensures.place c.start_of-right.ensures.place
+          _ _ _ _ _ _ _ c.rev-twin.ensures refl
+          (ap (prev c.args.dcel.now.mesh) c.rev-twin.ensures) c.start_of-from.ensures.place c.start_of-to.ensures.place
+          c.start_before-left.ensures.place c.start_before-right.ensures.place
           (subst (IsFailing (map g.V.HasPosition.place c.args.dcel.now.vertices) c.args.dcel.now.mesh)
           (sym c.as_directed-edge.ensures) x))),
     )
