@@ -1,7 +1,8 @@
 -- A list of vertices: what each names and its data.
-use Rattle.std.specs.Prelude.{◌≡◌, ℕ, ◌≤◌, List, length, map, slice_get, Option, Some, None}
+use Rattle.std.specs.Prelude.{◌≡◌, ⊤, ℕ, ◌<◌, ◌≤◌, ◌==◌, if◌then◌else◌, List, length, map, slice_get, Option, Some, None}
 use Rattle.std.specs.List.{swap_remove, AllZip}
 use Rattle.half_edge_links.specs.declared.vertex_list.Vertex.{Vertex}
+use Rattle.half_edge_links.specs.declared.vertex_list.TheConstants.{NO_EDGE}
 
 -- the edges that vertices name, their data, and how many vertices fit with no allocation
 pub record Vertices (V : Type 0) : Type 0 where
@@ -9,9 +10,18 @@ pub record Vertices (V : Type 0) : Type 0 where
   pub values : List V
   pub capacity : ℕ
 
+-- the edge that a vertex names by this number
+unfoldable pub named_by : ℕ → Option ℕ
+named_by number = if number == NO_EDGE then None else Some number
+
+-- an edge, if it is one, whose number does not stand for none
+abbrev pub IsNameable : Option ℕ → Type 0
+IsNameable None = ⊤
+IsNameable (Some edge) = edge < NO_EDGE
+
 -- the edges that vertices name
 abbrev pub out_edges_of : {V : Type 0} → List (Vertex V) → List (Option ℕ)
-out_edges_of vs = map (λ v. v.out_edge) vs
+out_edges_of vs = map (λ v. named_by v.out_edge) vs
 
 -- the data of vertices
 abbrev pub values_of : {V : Type 0} → List (Vertex V) → List V

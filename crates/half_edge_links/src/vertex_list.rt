@@ -4,15 +4,20 @@ ghost use Rattle.std.specs.Prelude.{◌≡◌, ◌+◌, ◌-◌, ◌<◌, ◌≤
 ghost use Rattle.std.specs.Prelude.{slice_get, slice_set, slice_index_or, Option, Some, None};
 ghost use Rattle.std.specs.Prelude.{OnOk, IsOk};
 ghost use Rattle.half_edge_links.specs.VertexList.{IsCopiedList, TakesVertex};
+ghost use Rattle.half_edge_links.specs.VertexList.{named_by, IsNameable};
 
 use std::alloc::{AllocError, Global};
 use std::marker::Model;
 use std::mem::replace;
 
-// An edge that starts at a vertex, if there is one, and the vertex's data.
+// What a vertex without edges keeps in place of one. No edge has this number, since a mesh has at
+// most `MAX_ELEMENTS` edges.
+const NO_EDGE: u32 = u32::MAX;
+
+// An edge that starts at a vertex, or `NO_EDGE`, and the vertex's data.
 #[derive(Drop)]
 pub(crate) struct Vertex<V> {
-    pub(crate) out_edge: Option<u32>,
+    pub(crate) out_edge: u32,
     pub(crate) value: V,
 }
 
@@ -26,6 +31,31 @@ impl<V: Clone> Clone for Vertex<V> {
             out_edge: self.out_edge,
             value: self.value.clone()?,
         })
+    }
+}
+
+// The edge that a vertex names by this number.
+#[tactic(auto, unfolding(crate::specs::VertexList::named_by))]
+fn edge_named(number: u32) -> Option<u32>
+    ensures value { result ≡ named_by number }
+    ensures nameable { IsNameable result }
+{
+    if number == NO_EDGE {
+        None
+    } else {
+        Some(number)
+    }
+}
+
+// The number by which a vertex names `edge`.
+#[tactic(auto, unfolding(crate::specs::VertexList::named_by))]
+fn number_of(edge: Option<u32>) -> u32
+    requires { IsNameable edge }
+    ensures { named_by result ≡ edge }
+{
+    match edge {
+        Some(number) => number,
+        None => NO_EDGE,
     }
 }
 
@@ -68,19 +98,21 @@ impl<V> VertexList<V> {
     // The edge that vertex `v` names.
     pub(crate) fn out_edge(&self, v: u32) -> Option<u32>
         requires { v < length self.now.out_edges }
-        ensures { result ≡ slice_index_or self.now.out_edges v None }
+        ensures value { result ≡ slice_index_or self.now.out_edges v None }
+        ensures nameable { IsNameable result }
     {
-        self.records[v as usize].out_edge
+        edge_named(self.records[v as usize].out_edge)
     }
 
     // Lets vertex `v` name `edge`.
     pub(crate) fn set_out_edge(&mut self, v: u32, edge: Option<u32>)
-        requires { v < length self.old.out_edges }
+        requires vertex { v < length self.old.out_edges }
+        requires nameable { IsNameable edge }
         ensures { self.new ≡ record self.old {
           out_edges = slice_set self.old.out_edges v edge;
         } }
     {
-        self.records[v as usize].out_edge = edge;
+        self.records[v as usize].out_edge = number_of(edge);
     }
 
     // The data of vertex `v`.
@@ -101,6 +133,7 @@ impl<V> VertexList<V> {
     }
 
     // A new last vertex, which there is room for and which names no edge.
+    #[tactic(auto, unfolding(crate::specs::VertexList::named_by))]
     pub(crate) fn push_reserved(&mut self, value: V)
         requires { length self.old.out_edges < self.old.capacity }
         ensures { self.new ≡ record self.old {
@@ -109,7 +142,7 @@ impl<V> VertexList<V> {
         } }
     {
         self.records.push_reserved(Vertex {
-            out_edge: None,
+            out_edge: NO_EDGE,
             value,
         });
     }

@@ -1,21 +1,21 @@
 -- A list of vertices after writes, as the list of the edges that they name and the list of their data.
-use Rattle.std.proofs.Common.{◌≡◌, ℕ, ◌-◌, ◌<◌, List, [], ◌∷◌, length, get_or, set, map, Option, refl, sym, ap, ◌∙◌, arith}
+use Rattle.std.proofs.Common.{◌≡◌, ℕ, ◌-◌, ◌<◌, List, [], ◌∷◌, length, get_or, set, map, refl, sym, ap, ◌∙◌, arith}
 use Rattle.std.proofs.lemmas.List.{map-set, take-map, length-map, get_or-map}
 use Rattle.std.proofs.Math.Seq.{map-set_same}
 use Rattle.std.specs.List.{swap_remove, AllZip}
 use Rattle.half_edge_links.specs.declared.vertex_list.Vertex.{Vertex}
-use Rattle.half_edge_links.specs.VertexList.{IsCopiedVertex, out_edges_of, values_of}
+use Rattle.half_edge_links.specs.VertexList.{IsCopiedVertex, named_by, out_edges_of, values_of}
 
 module _ {V : Type 0} where
   -- another edge that one vertex names changes the edges there, and no data
-  pub set_named : (vs : List (Vertex V)) (i : ℕ) (at : Vertex V) (edge : Option ℕ) → at ≡ get_or vs i at → (out_edges_of (set vs i (record at { out_edge = edge })) ≡ set (out_edges_of vs) i edge) × (values_of (set vs i (record at { out_edge = edge })) ≡ values_of vs)
-  set_named vs i at edge is =
-      (map-set (λ (v : Vertex V). v.out_edge) vs i (record at { out_edge = edge }), map-set_same (λ (v : Vertex V). v.value) vs i (record at { out_edge = edge }) at (ap (λ (v : Vertex V). v.value) is))
+  pub set_named : (vs : List (Vertex V)) (i : ℕ) (at : Vertex V) (n : ℕ) → at ≡ get_or vs i at → (out_edges_of (set vs i (record at { out_edge = n })) ≡ set (out_edges_of vs) i (named_by n)) × (values_of (set vs i (record at { out_edge = n })) ≡ values_of vs)
+  set_named vs i at n is =
+      (map-set (λ (v : Vertex V). named_by v.out_edge) vs i (record at { out_edge = n }), map-set_same (λ (v : Vertex V). v.value) vs i (record at { out_edge = n }) at (ap (λ (v : Vertex V). v.value) is))
 
   -- other data of one vertex change the data there, and no edge that is named
   pub set_value : (vs : List (Vertex V)) (i : ℕ) (at : Vertex V) (value : V) → at ≡ get_or vs i at → (out_edges_of (set vs i (record at { value = value })) ≡ out_edges_of vs) × (values_of (set vs i (record at { value = value })) ≡ set (values_of vs) i value)
   set_value vs i at value is =
-      (map-set_same (λ (v : Vertex V). v.out_edge) vs i (record at { value = value }) at (ap (λ (v : Vertex V). v.out_edge) is), map-set (λ (v : Vertex V). v.value) vs i (record at { value = value }))
+      (map-set_same (λ (v : Vertex V). named_by v.out_edge) vs i (record at { value = value }) at (ap (λ (v : Vertex V). named_by v.out_edge) is), map-set (λ (v : Vertex V). v.value) vs i (record at { value = value }))
 
   -- copied vertices name the same edges
   pub copied_out_edges : (R : V → V → Type 0) (old new : List (Vertex V)) → AllZip (IsCopiedVertex R) old new → out_edges_of new ≡ out_edges_of old
