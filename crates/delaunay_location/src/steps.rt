@@ -1,5 +1,5 @@
 //! The steps of a walk from face to face towards a position.
-ghost use Rattle.std.specs.Prelude.{◌≡◌, ◌<◌, length, map};
+ghost use Rattle.std.specs.Prelude.{◌≡◌, ◌<◌, length, map, IsFalse};
 ghost use Rattle.half_edge_mesh.specs.Mesh.{face, origin, prev, rev};
 ghost use Rattle.delaunay_core.specs.Place.{place_of};
 ghost use Rattle.delaunay_legalization.specs.Known.{point_at};
@@ -132,19 +132,16 @@ impl<'a, V: HasPosition, DE, UE, F, P: PlaneTests<V::Scalar>> Search<'a, V, DE, 
         position_of(self.dcel, corner)
     }
 
-    // The way from the face on the left of an edge to a position outside it: across a side that has
-    // the position strictly on its right. From the outer face it leads inside, unless the position
-    // is on the left of the edge.
+    // The way from the inner face on the left of an edge to a position outside it: across a side that
+    // has the position strictly on its right.
     #[inline(always)]
-    pub(crate) fn way_out(&self, stop: Stop<V::Scalar>) -> Step<V::Scalar>
+    fn way_through(&self, stop: Stop<V::Scalar>) -> Step<V::Scalar>
         requires search { IsSearch V.place V.Scalar.whole P.sites P.covered self.now }
         requires stop { IsStopOf V.place V.Scalar.whole self.now stop }
+        requires inner { 0 < face self.now.dcel.now.mesh stop.edge }
         ensures { IsStepOf V.place V.Scalar.whole self.now result }
     {
         let here = self.dcel.directed_edge(stop.edge);
-        if here.is_outer_edge() {
-            return self.way_in(stop);
-        }
         let Stop { from, to, .. } = stop;
         let across = self.corner_across(stop.edge);
         let behind = Stop {
@@ -158,5 +155,50 @@ impl<'a, V: HasPosition, DE, UE, F, P: PlaneTests<V::Scalar>> Search<'a, V, DE, 
             to: across,
         };
         self.way_across(stop, behind, ahead)
+    }
+
+    // Whether the outer face lies on the left of an edge, or else beyond one of the two other sides
+    // of the face there.
+    #[inline(always)]
+    fn is_near_hull(&self, edge: FixedDirectedEdgeHandle) -> bool
+        requires { edge < length self.now.dcel.now.directed }
+        ensures { IsFalse result → 0 < face self.now.dcel.now.mesh edge }
+    {
+        let here = self.dcel.directed_edge(edge);
+        here.is_outer_edge()
+            || here.prev().rev().is_outer_edge()
+            || here.next().rev().is_outer_edge()
+    }
+
+    // The way out of a face near the hull, or from the outer face.
+    #[inline(never)]
+    fn way_near_hull(&self, stop: Stop<V::Scalar>) -> Step<V::Scalar>
+        requires search { IsSearch V.place V.Scalar.whole P.sites P.covered self.now }
+        requires stop { IsStopOf V.place V.Scalar.whole self.now stop }
+        ensures { IsStepOf V.place V.Scalar.whole self.now result }
+    {
+        if self.dcel.directed_edge(stop.edge).is_outer_edge() {
+            return self.way_in(stop);
+        }
+        self.way_through(stop)
+    }
+
+    // The way from the face on the left of an edge to a position outside it: across a side that has
+    // the position strictly on its right. From the outer face it leads inside, unless the position
+    // is on the left of the edge.
+    //
+    // A face near the hull is told apart before it is known which side leads on. So the records of
+    // both sides are asked for while the corner between them is on its way from memory, and the next
+    // step does not wait for its own.
+    #[inline(always)]
+    pub(crate) fn way_out(&self, stop: Stop<V::Scalar>) -> Step<V::Scalar>
+        requires search { IsSearch V.place V.Scalar.whole P.sites P.covered self.now }
+        requires stop { IsStopOf V.place V.Scalar.whole self.now stop }
+        ensures { IsStepOf V.place V.Scalar.whole self.now result }
+    {
+        if self.is_near_hull(stop.edge) {
+            return self.way_near_hull(stop);
+        }
+        self.way_through(stop)
     }
 }

@@ -1,29 +1,25 @@
-use Rattle.std.proofs.Common.{◌≡◌, ◌<◌, ◌∙◌}
-use Rattle.half_edge_mesh.specs.Mesh.{face, next, prev}
+use Rattle.std.proofs.Common.{◌≡◌, ◌∙◌}
+use Rattle.half_edge_mesh.specs.Mesh.{next, prev}
 use Rattle.delaunay_legalization.specs.State.{state_of}
-use Rattle.delaunay_location.proofs.Sides.{inner_if_not_outer, next_side, prev_side}
-use Rattle.delaunay_location.proofs.search.Search.way_out.Goals as goal
+use Rattle.delaunay_location.proofs.Sides.{next_side, prev_side}
+use Rattle.delaunay_location.proofs.search.Search.way_through.Goals as goal
 
 pub way_across-requires-clause-first_stop : goal.way_across-requires-clause-first_stop
 way_across-requires-clause-first_stop g c =
     let here = c.directed_edge-here.ensures in
     let m = c.args.self.now.dcel.now.mesh in
-    let inner : 0 < face m c.args.stop.edge =
-    inner_if_not_outer _ _ (rw (here.dcel, here.index) at c.is_outer_edge.ensures) c.if-is_outer_edge.false in
     let is : c.fix.result ≡ prev m c.args.stop.edge =
     c.fix.ensures.value ∙ rw (here.dcel, here.index) at c.prev.ensures.index in
     prev_side g.V.HasPosition.place (state_of c.args.self.now.dcel.now) c.requires.search.kept c.args.stop.edge
-    c.requires.stop.within inner g.V.Scalar.SpadeNum.whole c.fix.result c.corner_across-across.result
+    c.requires.stop.within c.requires.inner g.V.Scalar.SpadeNum.whole c.fix.result c.corner_across-across.result
     c.args.stop.from is c.corner_across-across.ensures c.requires.stop.from
 
 pub way_across-requires-clause-second_stop : goal.way_across-requires-clause-second_stop
 way_across-requires-clause-second_stop g c =
     let here = c.directed_edge-here.ensures in
     let m = c.args.self.now.dcel.now.mesh in
-    let inner : 0 < face m c.args.stop.edge =
-    inner_if_not_outer _ _ (rw (here.dcel, here.index) at c.is_outer_edge.ensures) c.if-is_outer_edge.false in
     let is : c.fix-2.result ≡ next m c.args.stop.edge =
     c.fix-2.ensures.value ∙ rw (here.dcel, here.index) at c.next.ensures.index in
     next_side g.V.HasPosition.place (state_of c.args.self.now.dcel.now) c.requires.search.kept c.args.stop.edge
-    c.requires.stop.within inner g.V.Scalar.SpadeNum.whole c.fix-2.result c.args.stop.to c.corner_across-across.result
+    c.requires.stop.within c.requires.inner g.V.Scalar.SpadeNum.whole c.fix-2.result c.args.stop.to c.corner_across-across.result
     is c.requires.stop.to c.corner_across-across.ensures
