@@ -23,7 +23,7 @@ use half_edge_mesh::{
 };
 
 // The position of a vertex.
-fn position_of<V: HasPosition, DE, UE, F>(
+pub fn position_of<V: HasPosition, DE, UE, F>(
     dcel: &Dcel<V, DE, UE, F>,
     vertex: FixedVertexHandle,
 ) -> Point2<V::Scalar>
@@ -49,7 +49,7 @@ pub fn start_of<V: HasPosition, DE, UE, F>(
 }
 
 // The position where an edge ends, which is where the edge after it starts.
-pub(crate) fn end_of<V: HasPosition, DE, UE, F>(
+pub fn end_of<V: HasPosition, DE, UE, F>(
     dcel: &Dcel<V, DE, UE, F>,
     edge: FixedDirectedEdgeHandle,
 ) -> Point2<V::Scalar>

@@ -19,7 +19,8 @@ pub use constraint_marker::{ConstraintMarker, NoConstraints};
 // For the crates of edits, and not for users.
 pub use among::legalize_list;
 pub use legalization::{
-    is_constraint_edge, is_outer, legalize, push_side, push_sides, start_before, start_of,
+    end_of, is_constraint_edge, is_outer, legalize, position_of, push_side, push_sides,
+    start_before, start_of,
 };
 pub use marking::{free_edge, make_constraint};
 pub use predicates::{is_same_point, is_strictly_inside, is_strictly_within, turns_left};

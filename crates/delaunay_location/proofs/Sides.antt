@@ -1,6 +1,6 @@
 -- The sides of the face on the left of an edge: the edges beyond them, and when a position is inside it.
-use Rattle.std.proofs.Common.{◌≡◌, ◌⊎◌, ◌↔◌, ℕ, zero, suc, ◌<◌, ◌≤◌, Bool, true, false, List, length, map}
-use Rattle.std.proofs.Common.{refl, sym, ap, ◌∙◌, subst, inl, inr, arith}
+use Rattle.std.proofs.Common.{◌≡◌, ◌⊎◌, ℕ, ◌<◌, ◌≤◌, List, length, map}
+use Rattle.std.proofs.Common.{sym, ap, ◌∙◌, subst, inl, inr, arith}
 use Rattle.std.specs.Prelude.{ℤ}
 use Rattle.half_edge_mesh.specs.Mesh.{Mesh, origin, next, prev, face, face_edge, rev}
 use Rattle.half_edge_links.proofs.Lists.Rev.{rev-rev, rev_within}
@@ -16,17 +16,11 @@ use Rattle.delaunay_legalization.specs.Parts.{IsInsideFaceOf}
 use Rattle.delaunay_legalization.specs.Shape.{IsTriangulated}
 use Rattle.delaunay_legalization.specs.State.{State}
 use Rattle.delaunay_legalization.proofs.MeshParts.{mesh_face}
-use Rattle.delaunay_legalization.proofs.Questions.{both_ways}
 use Rattle.delaunay_location.specs.Location.{Locates}
 use Rattle.delaunay_location.specs.Stop.{AreOtherSides, IsStop}
 use Rattle.delaunay_location.specs.declared.steps.Stop.{Stop}
 use Rattle.delaunay_location.specs.declared.position_in_triangulation.PositionInTriangulation.TheVariants.{OnFace}
 use Rattle.delaunay_location.proofs.Locating.{in_face}
-
--- a face that a test does not call the outer one is an inner one
-pub inner_if_not_outer : (b : Bool) (f : ℕ) → (b ≡ true) ↔ (f ≡ 0) → b ≡ false → 0 < f
-inner_if_not_outer b zero e n = absurd (both_ways b (e.1 refl) n)
-inner_if_not_outer b (suc k) e n = omega arith
 
 module _ {V D U F : Type 0} (at : V → Point) (s : State V D U F) (kept : IsTriangulated at s) where
   abbrev points : List Point

@@ -17,5 +17,4 @@ pub use position_in_triangulation::PositionInTriangulation;
 // For the crates of edits, and not for users.
 pub use nearest_vertex::nearest_neighbor;
 pub use nearest_walk::nearest_by_neighbors;
-pub use parts::{ends_of, position_of};
 pub use walk::{locate_vertex, locate_with_hint};

@@ -15,13 +15,13 @@ ghost use Rattle.delaunay_location.specs.Location.{StartsNearest};
 ghost use Rattle.delaunay_location.specs.Search.{IsAtNoVertex, IsClear, IsInFace, IsPlaceOf};
 ghost use Rattle.delaunay_location.specs.Search.{IsSearch};
 
-use crate::parts::{corners_of, ends_of, position_of};
+use crate::parts::{corners_of, ends_of};
 use crate::position_in_triangulation::PositionInTriangulation;
 use crate::search::Search;
 use delaunay_core::math::PlaneTests;
 use delaunay_core::point::{HasPosition, Point2};
 use delaunay_legalization::{
-    is_outer, is_same_point, is_strictly_inside, is_strictly_within, turns_left,
+    is_outer, is_same_point, is_strictly_inside, is_strictly_within, position_of, turns_left,
 };
 use half_edge_mesh::{Dcel, FixedDirectedEdgeHandle, FixedFaceHandle, FixedVertexHandle};
 

@@ -9,8 +9,8 @@ ghost use Rattle.delaunay_core.specs.Place.{place_of};
 ghost use Rattle.delaunay_legalization.specs.Shape.{IsTriangulated};
 ghost use Rattle.delaunay_legalization.specs.State.{state_of, triangulation_of};
 
-use crate::parts::position_of;
 use delaunay_core::point::{HasPosition, Point2};
+use delaunay_legalization::position_of;
 use half_edge_mesh::{Dcel, FixedVertexHandle};
 
 // The squared distance from a position to a vertex.

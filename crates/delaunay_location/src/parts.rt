@@ -9,20 +9,10 @@ ghost use Rattle.delaunay_legalization.specs.State.{state_of};
 ghost use Rattle.delaunay_legalization.specs.Parts.{IsMeshEdge, IsMeshFace};
 
 use delaunay_core::point::{HasPosition, Point2};
+use delaunay_legalization::position_of;
 use half_edge_mesh::{
     Dcel, FixedDirectedEdgeHandle, FixedFaceHandle, FixedVertexHandle, MeshViews,
 };
-
-/// The position of a vertex.
-pub fn position_of<V: HasPosition, DE, UE, F>(
-    dcel: &Dcel<V, DE, UE, F>,
-    vertex: FixedVertexHandle,
-) -> Point2<V::Scalar>
-    requires { vertex < length dcel.now.vertices }
-    ensures { place_of V.Scalar.whole result ≡ point_at (map V.place dcel.now.vertices) vertex }
-{
-    dcel.vertex_data(vertex).position()
-}
 
 // The vertex where an edge ends.
 pub(crate) fn end_vertex<V, DE, UE, F>(
@@ -36,8 +26,8 @@ pub(crate) fn end_vertex<V, DE, UE, F>(
     dcel.directed_edge(edge).to().fix()
 }
 
-/// The positions of the ends of an edge, in its direction.
-pub fn ends_of<V: HasPosition, DE, UE, F>(
+// The positions of the ends of an edge, in its direction.
+pub(crate) fn ends_of<V: HasPosition, DE, UE, F>(
     dcel: &Dcel<V, DE, UE, F>,
     edge: FixedDirectedEdgeHandle,
 ) -> (Point2<V::Scalar>, Point2<V::Scalar>)

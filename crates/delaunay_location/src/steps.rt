@@ -7,13 +7,13 @@ ghost use Rattle.delaunay_location.specs.Search.{IsSearch};
 ghost use Rattle.delaunay_location.specs.Stop.{AreOtherSides, IsSideAt, IsStepOf, IsStopOf};
 ghost use Rattle.delaunay_location.specs.declared.steps.Step.TheVariants.{Beyond};
 
-use crate::parts::{ends_of, position_of};
+use crate::parts::ends_of;
 use crate::position_in_triangulation::PositionInTriangulation;
 use crate::search::Search;
 use delaunay_core::line_side_info::LineSideInfo;
 use delaunay_core::math::PlaneTests;
 use delaunay_core::point::{HasPosition, Point2};
-use delaunay_legalization::turns_left;
+use delaunay_legalization::{start_before, turns_left};
 use half_edge_mesh::{FixedDirectedEdgeHandle, MeshViews};
 
 // Where a walk is: in the face on the left of an edge. The positions of its ends are kept, so that
@@ -61,7 +61,6 @@ impl<'a, V: HasPosition, DE, UE, F, P: PlaneTests<V::Scalar>> Search<'a, V, DE, 
 
     // The way from an edge that has the outer face on its left to the position: the other direction
     // of the edge, unless the position is strictly on its left.
-    #[inline(never)]
     fn way_in(&self, stop: Stop<V::Scalar>) -> Step<V::Scalar>
         requires search { IsSearch V.place V.Scalar.whole P.sites P.covered self.now }
         requires stop { IsStopOf V.place V.Scalar.whole self.now stop }
@@ -120,18 +119,6 @@ impl<'a, V: HasPosition, DE, UE, F, P: PlaneTests<V::Scalar>> Search<'a, V, DE, 
         Step::OnSide
     }
 
-    // The position of the corner opposite an edge, in the inner face on its left.
-    #[inline(always)]
-    fn corner_across(&self, edge: FixedDirectedEdgeHandle) -> Point2<V::Scalar>
-        requires search { IsSearch V.place V.Scalar.whole P.sites P.covered self.now }
-        requires within { edge < length self.now.dcel.now.directed }
-        ensures { place_of V.Scalar.whole result ≡ point_at (map V.place self.now.dcel.now.vertices)
-            (origin self.now.dcel.now.mesh (prev self.now.dcel.now.mesh edge)) }
-    {
-        let corner = self.dcel.directed_edge(edge).prev_from().fix();
-        position_of(self.dcel, corner)
-    }
-
     // The way from the inner face on the left of an edge to a position outside it: across a side that
     // has the position strictly on its right.
     #[inline(always)]
@@ -143,7 +130,7 @@ impl<'a, V: HasPosition, DE, UE, F, P: PlaneTests<V::Scalar>> Search<'a, V, DE, 
     {
         let here = self.dcel.directed_edge(stop.edge);
         let Stop { from, to, .. } = stop;
-        let across = self.corner_across(stop.edge);
+        let across = start_before(self.dcel, stop.edge);
         let behind = Stop {
             edge: here.prev().fix(),
             from: across,

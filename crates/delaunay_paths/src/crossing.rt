@@ -12,21 +12,8 @@ ghost use Rattle.delaunay_paths.specs.Crossing.{CrossesSegment};
 
 use delaunay_core::math::PlaneTests;
 use delaunay_core::point::{HasPosition, Point2, SpadeNum};
-use delaunay_legalization::start_of;
+use delaunay_legalization::{position_of, start_of};
 use half_edge_mesh::{Dcel, FixedDirectedEdgeHandle, FixedVertexHandle, MeshViews};
-
-// The position of a vertex.
-pub(crate) fn position_of<V: HasPosition, DE, UE, F>(
-    dcel: &Dcel<V, DE, UE, F>,
-    vertex: FixedVertexHandle,
-) -> Point2<V::Scalar>
-    requires { vertex < length dcel.now.vertices }
-    ensures place { place_of V.Scalar.whole result ≡
-        point_at (map V.place dcel.now.vertices) vertex }
-    ensures listed { Contains (map V.place dcel.now.vertices) (place_of V.Scalar.whole result) }
-{
-    dcel.vertex_data(vertex).position()
-}
 
 // The positions where an edge starts and ends.
 pub(crate) fn ends_of<V: HasPosition, DE, UE, F>(

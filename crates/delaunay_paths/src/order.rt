@@ -13,10 +13,10 @@ ghost use Rattle.delaunay_paths.specs.Crossing.{ComesAfter, IsLastCrossing};
 ghost use Rattle.delaunay_paths.specs.Items.{IsCrossedTwin, IsLastWith, IsLater};
 ghost use Rattle.delaunay_paths.specs.Seen.{IsCovered};
 
-use crate::crossing::{ends_of, position_of};
+use crate::crossing::ends_of;
 use delaunay_core::math::PlaneTests;
 use delaunay_core::point::{HasPosition, Point2, SpadeNum};
-use delaunay_legalization::is_same_point;
+use delaunay_legalization::{is_same_point, position_of};
 use delaunay_lines::{Intersection, line_between_vertices};
 use half_edge_mesh::{Dcel, FixedDirectedEdgeHandle, FixedVertexHandle};
 

@@ -15,10 +15,10 @@ ghost use Rattle.delaunay_removal.specs.Star.{HasInnerFaces, LosesEdges};
 
 use crate::lists::RemovalLists;
 use crate::pairs::VertexPair;
-use crate::star::{count_edges, edge_after, end_of, find_convex, opposite_side, turn_away};
+use crate::star::{count_edges, edge_after, find_convex, opposite_side, turn_away};
 use delaunay_core::math::PlaneTests;
 use delaunay_core::point::HasPosition;
-use delaunay_legalization::{is_outer, start_of, turns_left};
+use delaunay_legalization::{end_of, is_outer, start_of, turns_left};
 use half_edge_mesh::{Dcel, FixedDirectedEdgeHandle, FixedVertexHandle, MeshViews};
 
 // Turns edges of a vertex on the hull away while one of them lies across a strictly convex

@@ -14,10 +14,10 @@ ghost use Rattle.delaunay_removal.specs.Star.{HasInnerFaces, IsBetweenAt, IsInne
 ghost use Rattle.delaunay_removal.specs.Star.{LosesEdges, StandsBetween};
 
 use crate::pairs::VertexPair;
-use crate::star::{edge_after, end_of, find_convex, opposite_side, turn_away};
+use crate::star::{edge_after, find_convex, opposite_side, turn_away};
 use delaunay_core::math::PlaneTests;
 use delaunay_core::point::HasPosition;
-use delaunay_legalization::{is_strictly_within, start_of};
+use delaunay_legalization::{end_of, is_strictly_within, start_of};
 use half_edge_mesh::{Dcel, FixedDirectedEdgeHandle, FixedVertexHandle};
 
 // Turns edges of an inner vertex away, from which `first` and so many in all start, until three are

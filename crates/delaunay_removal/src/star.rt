@@ -15,7 +15,7 @@ ghost use Rattle.delaunay_removal.specs.Star.{IsConvexAt, TurnsAway};
 use crate::pairs::{VertexPair, ends_beside};
 use delaunay_core::math::PlaneTests;
 use delaunay_core::point::{HasPosition, Point2};
-use delaunay_legalization::{start_of, turns_left};
+use delaunay_legalization::{end_of, start_of, turns_left};
 use half_edge_mesh::{Dcel, FixedDirectedEdgeHandle, MeshViews};
 
 // The edge after an edge, against the clock round the vertex where it starts.
@@ -58,19 +58,6 @@ pub(crate) fn count_edges<V, DE, UE, F>(
         count += 1;
     }
     count
-}
-
-// The position where an edge ends.
-pub(crate) fn end_of<V: HasPosition, DE, UE, F>(
-    dcel: &Dcel<V, DE, UE, F>,
-    edge: FixedDirectedEdgeHandle,
-) -> Point2<V::Scalar>
-    requires { edge < length dcel.now.directed }
-    ensures place { place_of V.Scalar.whole result ≡
-        point_at (map V.place dcel.now.vertices) (origin dcel.now.mesh (rev edge)) }
-    ensures listed { Contains (map V.place dcel.now.vertices) (place_of V.Scalar.whole result) }
-{
-    start_of(dcel, dcel.directed_edge(edge).rev().fix())
 }
 
 // Whether the edge after an edge, round the vertex where they start, lies across a strictly convex
