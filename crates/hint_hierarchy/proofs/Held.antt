@@ -22,13 +22,14 @@ use Rattle.std.proofs.Common.{
 use Rattle.std.proofs.lemmas.Bool.{cases_eq}
 use Rattle.std.proofs.lemmas.List.{get_or_default}
 use mathlib.Core.Logic.{⊎_elim}
-use Rattle.std.specs.Prelude.{All, Bool, true, false, Contains, Option, Some, if◌then◌else◌, slice_set}
+use Rattle.std.specs.Prelude.{All, Bool, true, false, Contains, Option, Some, if◌then◌else◌, slice_set, take}
 use Rattle.std.proofs.lemmas.List.Elements.{
   All-contains,
   All-contains_itself,
   All-nil,
   All-push,
   All-set,
+  All-take,
   All-weaker,
   Contains-get_or,
 }
@@ -128,6 +129,15 @@ module _ {L : Type 0} (positions_of : L → List Point) where
       (ap (λ n. get_or layers n d) same ∙ get_or_default layers level d layer within ∙ sym here) h))
       (λ other. vacant k d (omega (arith, under, other)) k-in h)
       (cases_eq k level)
+
+  -- the first n layers
+  pub held_in_first : (n : ℕ) (layers later : List L) → later ≡ take n layers
+      → IsAtMost (IsInSome positions_of layers) (IsInSome positions_of later)
+  held_in_first n layers later e =
+      let held = IsInSome positions_of layers in
+      held_from_all held later
+      (subst (All (λ l. All held (positions_of l))) (sym e)
+      (All-take (λ l. All held (positions_of l)) n layers (all_from_held held layers (λ p h. h))))
 
   -- a layer is added, if it is, to such whose positions are all among those of H
   pub pushed_within : (H : Point → Type 0) (layers later : List L) (b : Bool) (layer : L)

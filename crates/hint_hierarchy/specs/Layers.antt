@@ -1,16 +1,15 @@
 -- What the layers of a hierarchy hold.
 use Rattle.std.specs.Prelude.{◌≡◌, ◌⊎◌, ℤ, List, map, Contains, Option, Some}
 use Rattle.plane.specs.Fraction.{Point}
-use Rattle.delaunay_core.specs.declared.point.Point2.{Point2}
 use Rattle.delaunay_core.specs.Place.{place_of}
-use Rattle.delaunay_legalization.specs.State.{State}
+use Rattle.hint_hierarchy.specs.declared.layer.Layer.{Layer}
 
 -- the positions of a layer's vertices
-abbrev pub positions : {S D U F : Type 0} → (S → ℤ) → State (Point2 S) D U F → List Point
-positions number layer = map (place_of number) layer.vertices
+abbrev pub positions : {S : Type 0} → (S → ℤ) → Layer S → List Point
+positions number layer = map (place_of number) layer.triangulation.vertices
 
 -- p is the position of one of them
-abbrev pub IsAt : {S D U F : Type 0} → (S → ℤ) → State (Point2 S) D U F → Point → Type 0
+abbrev pub IsAt : {S : Type 0} → (S → ℤ) → Layer S → Point → Type 0
 IsAt number layer p = Contains (positions number layer) p
 
 -- p is one of the positions of some layer
@@ -20,7 +19,7 @@ pub record IsInSome {L : Type 0} (positions_of : L → List Point) (layers : Lis
   pub vertex : Contains (positions_of layer) p
 
 -- p is the position of a vertex of some layer
-abbrev pub IsHeld : {S D U F : Type 0} → (S → ℤ) → List (State (Point2 S) D U F) → Point → Type 0
+abbrev pub IsHeld : {S : Type 0} → (S → ℤ) → List (Layer S) → Point → Type 0
 IsHeld number layers p = IsInSome (positions number) layers p
 
 -- each position of the new set is one of the old, or that of the vertex that is swapped in, if any

@@ -6,12 +6,11 @@ ghost use Rattle.delaunay_core.specs.Held.{place_if};
 ghost use Rattle.delaunay_core.specs.Place.{place_of};
 ghost use Rattle.hint_hierarchy.specs.Layers.{IsHeld};
 
-use crate::layer::{Layer, copy, first_position, insert, is_vacant, nearest_from};
+use crate::layer::Layer;
 use crate::positions::{index_above, index_below};
 use delaunay_core::HintGenerator;
 use delaunay_core::math::PlaneTests;
 use delaunay_core::point::{Point2, SpadeNum};
-use delaunay_interface::Triangulation;
 use half_edge_mesh::FixedVertexHandle;
 use std::alloc::{AllocError, Global};
 
@@ -59,7 +58,7 @@ impl<S: SpadeNum, const BRANCH_FACTOR: u32> HierarchyHintGeneratorWithBranchFact
         if self.layers.is_empty() {
             other
         } else {
-            first_position(&self.layers[0], other)
+            self.layers[0].first_position(other)
         }
     }
 
@@ -73,7 +72,7 @@ impl<S: SpadeNum, const BRANCH_FACTOR: u32> HierarchyHintGeneratorWithBranchFact
     {
         let first = self.first_or(position);
         let mut layer = Layer::new(self.alloc);
-        insert(&mut layer, 0, first, tests) && self.layers.push(layer).is_ok()
+        layer.insert(0, first, tests) && self.layers.push(layer).is_ok()
     }
 
     // Inserts a vertex with this index into each layer that is to have it; whether all layers are
@@ -94,7 +93,7 @@ impl<S: SpadeNum, const BRANCH_FACTOR: u32> HierarchyHintGeneratorWithBranchFact
             let Some(index) = index_above::<BRANCH_FACTOR>(below) else {
                 return true;
             };
-            if !insert(&mut self.layers[level], index as usize, position, tests) {
+            if !self.layers[level].insert(index as usize, position, tests) {
                 return false;
             }
             below = index;
@@ -128,7 +127,7 @@ impl<S: SpadeNum, const BRANCH_FACTOR: u32> HierarchyHintGeneratorWithBranchFact
         while level > 0 {
             level -= 1;
             let layer = &self.layers[level];
-            start = index_below::<BRANCH_FACTOR>(nearest_from(layer, start, position, tests));
+            start = index_below::<BRANCH_FACTOR>(layer.nearest_from(start, position, tests));
         }
         start
     }
@@ -143,7 +142,7 @@ impl<S: SpadeNum, const BRANCH_FACTOR: u32> HierarchyHintGeneratorWithBranchFact
         // Each layer's own search then begins at the vertex nearest to the position.
         self.index_near(position, tests);
         for layer in &self.layers {
-            if !is_vacant(layer, position, tests) {
+            if !layer.is_vacant(position, tests) {
                 return false;
             }
         }
@@ -157,7 +156,7 @@ impl<S: SpadeNum, const BRANCH_FACTOR: u32> HierarchyHintGeneratorWithBranchFact
     {
         let mut copies = Vec::new(self.alloc);
         for layer in &self.layers {
-            copies.push(copy(layer)?)?;
+            copies.push(layer.try_clone()?)?;
         }
         Ok(copies)
     }

@@ -1,97 +1,151 @@
-//! One layer of a hierarchy: a plain triangulation of positions.
-ghost use Rattle.std.specs.Prelude.{◌≡◌, ◌⊎◌, All, IfOk, IsTrue};
+//! One layer of a hierarchy: a plain triangulation of positions, with the stars of its vertices.
+ghost use Rattle.std.specs.Prelude.{◌≡◌, ◌⊎◌, [], All, IfOk, IsTrue};
 ghost use Rattle.plane.specs.Hint.{IsAtMost, IsAtMostWith};
 ghost use Rattle.delaunay_core.specs.Place.{place_of};
 ghost use Rattle.hint_hierarchy.specs.Layers.{IsAt, positions};
 
+use crate::stars::Stars;
 use delaunay_core::HintGenerator;
 use delaunay_core::math::PlaneTests;
 use delaunay_core::point::{Point2, SpadeNum};
 use delaunay_interface::{DelaunayTriangulation, Triangulation};
 use half_edge_mesh::FixedVertexHandle;
-use std::alloc::AllocError;
+use std::alloc::{AllocError, Global};
 
-pub(crate) type Layer<S> = DelaunayTriangulation<Point2<S>>;
-
-// Inserts a position; whether it has this index then.
-pub(crate) fn insert<S: SpadeNum, P: PlaneTests<S>>(
-    layer: &mut Layer<S>,
-    index: usize,
-    position: Point2<S>,
-    tests: &P,
-) -> bool
-    requires sites { All (P.sites tests.now) (positions S.whole layer.old) }
-    requires site { P.sites tests.now (place_of S.whole position) }
-    ensures { IsAtMostWith (IsAt S.whole layer.old) (IsAt S.whole layer.new)
-        (place_of S.whole position) }
-{
-    match layer.insert(position, tests) {
-        Ok(vertex) => vertex.index() as usize == index,
-        Err(_) => false,
-    }
+/// A plain triangulation of some vertices' positions, and the star of each vertex for searches.
+#[derive(Drop)]
+pub(crate) struct Layer<S: SpadeNum> {
+    triangulation: DelaunayTriangulation<Point2<S>>,
+    stars: Stars,
+    alloc: Global,
 }
 
-// Removes a vertex; whether there was one, and memory for it.
-pub(crate) fn remove<S: SpadeNum, P: PlaneTests<S>>(
-    layer: &mut Layer<S>,
-    index: u32,
-    tests: &P,
-) -> bool
-    requires { All (P.sites tests.now) (positions S.whole layer.old) }
-    ensures { IsAtMost (IsAt S.whole layer.old) (IsAt S.whole layer.new) }
-{
-    if (index as usize) < layer.num_vertices() {
+impl<S: SpadeNum> Layer<S> {
+    // A layer with no vertex.
+    pub(crate) fn new(alloc: Global) -> Self
+        ensures { positions S.whole result ≡ [] }
+    {
+        Layer {
+            triangulation: DelaunayTriangulation::new(alloc),
+            stars: Stars::new(alloc),
+            alloc,
+        }
+    }
+
+    pub(crate) fn num_vertices(&self) -> usize {
+        self.triangulation.num_vertices()
+    }
+
+    // Inserts a position; whether it has this index then.
+    pub(crate) fn insert<P: PlaneTests<S>>(
+        &mut self,
+        index: usize,
+        position: Point2<S>,
+        tests: &P,
+    ) -> bool
+        requires sites { All (P.sites tests.now) (positions S.whole self.old) }
+        requires site { P.sites tests.now (place_of S.whole position) }
+        ensures { IsAtMostWith (IsAt S.whole self.old) (IsAt S.whole self.new)
+            (place_of S.whole position) }
+    {
+        let Ok(vertex) = self.triangulation.insert(position, tests) else {
+            return false;
+        };
+        vertex.index() as usize == index && self.stars.take_up(&self.triangulation, vertex).is_ok()
+    }
+
+    // The vertices whose neighbours may be others, or have another index, when one is removed: the
+    // vertex and its neighbours, and those of the last one, which takes its index.
+    fn changed_without(
+        &self,
+        vertex: FixedVertexHandle,
+    ) -> Result<Vec<FixedVertexHandle>, AllocError> {
+        let last = u32::try_from(self.triangulation.num_vertices().saturating_sub(1)).unwrap_or(0);
+        let mut changed = Vec::new(self.alloc);
+        for vertex in [vertex, FixedVertexHandle::from_index(last)] {
+            changed.push(vertex)?;
+            if let Some(vertex) = self.triangulation.get_vertex(vertex) {
+                for edge in vertex.out_edges() {
+                    changed.push(edge.to().fix())?;
+                }
+            }
+        }
+        Ok(changed)
+    }
+
+    // Removes a vertex; whether there was one, and memory for it.
+    pub(crate) fn remove<P: PlaneTests<S>>(&mut self, index: u32, tests: &P) -> bool
+        requires { All (P.sites tests.now) (positions S.whole self.old) }
+        ensures { IsAtMost (IsAt S.whole self.old) (IsAt S.whole self.new) }
+    {
+        if index as usize >= self.triangulation.num_vertices() {
+            return false;
+        }
         let vertex = FixedVertexHandle::from_index(index);
-        layer.remove(vertex, tests).is_ok()
-    } else {
-        false
+        let Ok(changed) = self.changed_without(vertex) else {
+            return false;
+        };
+        if self.triangulation.remove(vertex, tests).is_err() {
+            return false;
+        }
+        self.stars.renew(&self.triangulation, changed.as_slice());
+        true
     }
-}
 
-// The vertex that is nearest to a position, by a walk from the vertex `start`.
-pub(crate) fn nearest_from<S: SpadeNum, P: PlaneTests<S>>(
-    layer: &Layer<S>,
-    start: u32,
-    position: Point2<S>,
-    tests: &P,
-) -> u32
-    requires sites { All (P.sites tests.now) (positions S.whole layer.now) }
-    requires covered { P.covered tests.now (place_of S.whole position) }
-{
-    let start = FixedVertexHandle::from_index(start);
-    HintGenerator::<S>::notify_vertex_lookup(layer.hint_generator(), start);
-    match layer.nearest_neighbor(position, tests) {
-        Some(vertex) => vertex.fix().index(),
-        None => 0,
+    // The vertex that is nearest to a position, by a walk from the vertex `start`. The layer keeps
+    // it as the last that was used.
+    pub(crate) fn nearest_from<P: PlaneTests<S>>(
+        &self,
+        start: u32,
+        position: Point2<S>,
+        tests: &P,
+    ) -> u32
+        requires sites { All (P.sites tests.now) (positions S.whole self.now) }
+        requires covered { P.covered tests.now (place_of S.whole position) }
+    {
+        let whole = Point2::new(position.x.to_i64(), position.y.to_i64());
+        let near = self.stars.near(start, whole);
+        let used = FixedVertexHandle::from_index(near);
+        HintGenerator::<S>::notify_vertex_lookup(self.triangulation.hint_generator(), used);
+        if self.stars.has_whole(near) {
+            return near;
+        }
+        match self.triangulation.nearest_neighbor(position, tests) {
+            Some(vertex) => vertex.fix().index(),
+            None => 0,
+        }
     }
-}
 
-// Whether no vertex has this position.
-pub(crate) fn is_vacant<S: SpadeNum, P: PlaneTests<S>>(
-    layer: &Layer<S>,
-    position: Point2<S>,
-    tests: &P,
-) -> bool
-    requires sites { All (P.sites tests.now) (positions S.whole layer.now) }
-    requires covered { P.covered tests.now (place_of S.whole position) }
-    ensures { IsTrue result → ¬ IsAt S.whole layer.now (place_of S.whole position) }
-{
-    layer.locate_vertex(position, tests).is_none()
-}
-
-// The position of the first vertex, or another where there is none.
-pub(crate) fn first_position<S: SpadeNum>(layer: &Layer<S>, other: Point2<S>) -> Point2<S>
-    ensures { IsAt S.whole layer.now (place_of S.whole result) ⊎ (result ≡ other) }
-{
-    match layer.get_vertex(FixedVertexHandle::from_index(0)) {
-        Some(vertex) => *vertex.data(),
-        None => other,
+    // Whether no vertex has this position.
+    pub(crate) fn is_vacant<P: PlaneTests<S>>(&self, position: Point2<S>, tests: &P) -> bool
+        requires sites { All (P.sites tests.now) (positions S.whole self.now) }
+        requires covered { P.covered tests.now (place_of S.whole position) }
+        ensures { IsTrue result → ¬ IsAt S.whole self.now (place_of S.whole position) }
+    {
+        self.triangulation.locate_vertex(position, tests).is_none()
     }
-}
 
-// A copy, with the same positions.
-pub(crate) fn copy<S: SpadeNum>(layer: &Layer<S>) -> Result<Layer<S>, AllocError>
-    ensures { IfOk result (λ l. positions S.whole l ≡ positions S.whole layer.now) }
-{
-    layer.try_clone()
+    // The position of the first vertex, or another where there is none.
+    pub(crate) fn first_position(&self, other: Point2<S>) -> Point2<S>
+        ensures { IsAt S.whole self.now (place_of S.whole result) ⊎ (result ≡ other) }
+    {
+        match self
+            .triangulation
+            .get_vertex(FixedVertexHandle::from_index(0))
+        {
+            Some(vertex) => *vertex.data(),
+            None => other,
+        }
+    }
+
+    // A copy, with the same positions.
+    pub(crate) fn try_clone(&self) -> Result<Self, AllocError>
+        ensures { IfOk result (λ l. positions S.whole l ≡ positions S.whole self.now) }
+    {
+        Ok(Layer {
+            triangulation: self.triangulation.try_clone()?,
+            stars: self.stars.try_clone(self.alloc)?,
+            alloc: self.alloc,
+        })
+    }
 }

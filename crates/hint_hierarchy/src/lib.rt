@@ -6,5 +6,7 @@ mod hierarchy;
 mod layer;
 mod positions;
 mod removal;
+mod star;
+mod stars;
 
 pub use hierarchy::{HierarchyHintGenerator, HierarchyHintGeneratorWithBranchFactor};

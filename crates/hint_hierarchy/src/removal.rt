@@ -6,11 +6,10 @@ ghost use Rattle.delaunay_core.specs.Held.{place_if};
 ghost use Rattle.hint_hierarchy.specs.Layers.{IsAt, IsAtMostOr, IsHeld, positions};
 
 use crate::hierarchy::HierarchyHintGeneratorWithBranchFactor;
-use crate::layer::{Layer, insert, remove};
+use crate::layer::Layer;
 use crate::positions::index_above;
 use delaunay_core::math::PlaneTests;
 use delaunay_core::point::{Point2, SpadeNum};
-use delaunay_interface::Triangulation;
 
 // Takes the vertex `removed` out of a layer, if it is in it, and puts the last vertex of the
 // triangulation in its place. `last` is the index that the last vertex has had in the layer, if it
@@ -30,11 +29,11 @@ fn remove_from_layer<S: SpadeNum, P: PlaneTests<S>>(
 {
     match (removed, last, swapped_in) {
         (None, None, _) => true,
-        (None, Some(last), _) => remove(layer, last, tests),
-        (Some(index), Some(_), _) => remove(layer, index, tests),
+        (None, Some(last), _) => layer.remove(last, tests),
+        (Some(index), Some(_), _) => layer.remove(index, tests),
         (Some(index), None, Some(position)) => {
             let next = layer.num_vertices();
-            insert(layer, next, position, tests) && remove(layer, index, tests)
+            layer.insert(next, position, tests) && layer.remove(index, tests)
         }
         (Some(_), None, None) => false,
     }

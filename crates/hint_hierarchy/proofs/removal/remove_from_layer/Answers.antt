@@ -11,8 +11,8 @@ pub remove-requires-then-insert : goal.remove-requires-then-insert
 remove-requires-then-insert g c =
     let number = g.S.SpadeNum.whole in
     let sites = g.P.PlaneTests.sites c.args.tests.now in
-    all_from_each sites (positions number c.insert.new.layer)
-    (sites_with sites (Contains (positions number c.args.layer.now)) (Contains (positions number c.insert.new.layer))
+    all_from_each sites (positions number c.insert.new.self)
+    (sites_with sites (Contains (positions number c.args.layer.now)) (Contains (positions number c.insert.new.self))
     (place_of number c.in-Some-None-Some.position)
     (λ p h. All-contains sites (positions number c.args.layer.now) p c.requires.sites h)
     (c.requires.swapped_site (place_of number c.in-Some-None-Some.position)

@@ -1,4 +1,4 @@
-use Rattle.std.proofs.Common.{◌≡◌, ◌∙◌, ◌⊎◌, map, sym, ap, subst, inl, inr}
+use Rattle.std.proofs.Common.{◌≡◌, ◌∙◌, ◌⊎◌, sym, ap, subst, inl, inr}
 use mathlib.Core.Logic.{⊎_elim}
 use Rattle.std.specs.Prelude.{Contains}
 use Rattle.plane.specs.Fraction.{Point}
@@ -21,11 +21,11 @@ returns-then-insert g c =
     let number = g.S.SpadeNum.whole in
     let layers = c.args.self.now.layers.items in
     let H : Point → Type 0 = λ p. IsHeld number layers p ⊎ (p ≡ place_of number c.args.position) in
-    pushed_within (positions number) H layers c.push.new.self.items _ c.insert.new.layer c.push.ensures.items
+    pushed_within (positions number) H layers c.push.new.self.items _ c.insert.new.self c.push.ensures.items
     (λ p h. inl h)
     (λ p h. ⊎_elim
     (λ old. absurd (nothing_contained p
-    (subst (λ vs. Contains (map (place_of number) vs) p) c.new-layer.ensures.empty.vertices old)))
+    (subst (λ ps. Contains ps p) c.new-layer.ensures old)))
     (λ e. ⊎_elim
     (λ held. inl (subst (IsHeld number layers) (sym e) held))
     (λ same. inr (e ∙ ap (place_of number) same))

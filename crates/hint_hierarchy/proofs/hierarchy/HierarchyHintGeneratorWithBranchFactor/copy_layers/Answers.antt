@@ -15,6 +15,6 @@ loop-layer-preserved g c =
     subst (λ ls. c.layer-item.result ≡ get_or ls c.loop-layer.layer-index c.layer-item.result)
     c.deref-layer-items.ensures.value c.layer-item.is in
     pushed_within (positions number) (IsHeld number layers) c.loop-layer.copies.items c.push.new.self.items _
-    c.in_ok-copy.field-0 c.push.ensures.items c.loop-layer.invariant
+    c.in_ok-try_clone.field-0 c.push.ensures.items c.loop-layer.invariant
     (λ p h. held_at (positions number) layers c.loop-layer.layer-index c.layer-item.result within here p
-    (subst (λ (ps : List Point). Contains ps p) c.in_ok-copy.ensures h))
+    (subst (λ (ps : List Point). Contains ps p) c.in_ok-try_clone.ensures h))

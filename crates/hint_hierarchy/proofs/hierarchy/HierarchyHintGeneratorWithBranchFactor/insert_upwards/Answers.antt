@@ -23,7 +23,7 @@ loop-level-preserved g c =
     record {
       as_many = grind (arith, common_steps);
       more = held_since (positions number) (λ p. p ≡ place_of number c.args.position) c.args.self.now.layers.items
-          layers c.loop-level.level c.index_mut.result.now c.insert.new.layer below c.index_mut.ensures.value
+          layers c.loop-level.level c.index_mut.result.now c.insert.new.self below c.index_mut.ensures.value
           c.insert.ensures c.loop-level.invariant.more;
     }
 
@@ -33,7 +33,7 @@ returns-then-not-insert g c =
     let layers = c.loop-level.self.layers.items in
     let below : c.loop-level.level < length layers = grind (arith, common_steps) in
     held_since (positions number) (λ p. p ≡ place_of number c.args.position) c.args.self.now.layers.items layers
-    c.loop-level.level c.index_mut.result.now c.insert.new.layer below c.index_mut.ensures.value c.insert.ensures
+    c.loop-level.level c.index_mut.result.now c.insert.new.self below c.index_mut.ensures.value c.insert.ensures
     c.loop-level.invariant.more
 
 pub add_layer-requires : goal.add_layer-requires

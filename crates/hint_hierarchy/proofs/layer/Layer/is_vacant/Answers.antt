@@ -5,7 +5,7 @@ use Rattle.plane.specs.Fraction.{Point}
 use Rattle.delaunay_core.specs.Place.{place_of}
 use Rattle.delaunay_legalization.specs.Known.{IsKnown}
 use Rattle.hint_hierarchy.specs.Layers.{positions}
-use Rattle.hint_hierarchy.proofs.layer.is_vacant.Goals as goal
+use Rattle.hint_hierarchy.proofs.layer.Layer.is_vacant.Goals as goal
 
 -- where a search that finds each vertex found none, no point of the list is there
 none_found : {X : Type 0} (points : List Point) (q : Point) (P : X → Type 0) (found : Option X) (vacant : Bool)
@@ -19,5 +19,5 @@ none_found points q P (Some x) false unknown same is at = absurd (cc is)
 pub returns : goal.returns
 returns g c = λ is.
     let number = g.S.SpadeNum.whole in
-    none_found (positions number c.args.layer.now) (place_of number c.args.position) _ c.locate_vertex.result
+    none_found (positions number c.args.self.now) (place_of number c.args.position) _ c.locate_vertex.result
     c.is_none.result c.locate_vertex.ensures c.is_none.ensures is

@@ -1,0 +1,119 @@
+//! The stars of a layer's vertices, each in one place, so that a search waits for memory about once
+//! a vertex that it passes, and not once for each edge and each neighbour.
+
+use crate::star::{PlacedVertex, Star};
+use delaunay_core::point::{Point2, SpadeNum};
+use delaunay_interface::{DelaunayTriangulation, Triangulation};
+use half_edge_mesh::{DirectedEdgeHandle, FixedVertexHandle};
+use std::alloc::{AllocError, Global};
+
+/// The star of each vertex, by index.
+#[derive(Drop)]
+pub(crate) struct Stars {
+    stars: Vec<Star>,
+}
+
+// Whether no side of an edge is outside the hull.
+fn is_inner<V>(edge: &DirectedEdgeHandle<'_, V, (), (), ()>) -> bool {
+    !edge.is_outer_edge() && !edge.rev().is_outer_edge()
+}
+
+impl Stars {
+    pub(crate) fn new(alloc: Global) -> Self {
+        Stars {
+            stars: Vec::new(alloc),
+        }
+    }
+
+    /// A copy.
+    pub(crate) fn try_clone(&self, alloc: Global) -> Result<Self, AllocError> {
+        let mut stars = Vec::new(alloc);
+        for star in &self.stars {
+            stars.push(*star)?;
+        }
+        Ok(Stars { stars })
+    }
+
+    // Puts another star in the place of a vertex's.
+    fn set(&mut self, vertex: FixedVertexHandle, star: Star) {
+        if let Some(place) = self.stars.get_mut(vertex.index() as usize) {
+            *place = star;
+        }
+    }
+
+    // Renews the star at the end of an edge of a new vertex. Of the end's former edges those are
+    // gone that lay between its edges to the new vertex's neighbours on both sides.
+    fn renew_end<S: SpadeNum>(
+        &mut self,
+        edge: &DirectedEdgeHandle<'_, Point2<S>, (), (), ()>,
+        new: PlacedVertex,
+    ) {
+        let end = edge.to();
+        let Some(star) = self.stars.get_mut(end.fix().index() as usize) else {
+            return;
+        };
+        let (before, after) = (edge.ccw().to().fix(), edge.cw().to().fix());
+        if !is_inner(edge) || !star.put_between(before, new, after) {
+            *star = Star::of(&end);
+        }
+    }
+
+    /// Takes up the vertex that was inserted last.
+    pub(crate) fn take_up<S: SpadeNum>(
+        &mut self,
+        triangulation: &DelaunayTriangulation<Point2<S>>,
+        vertex: FixedVertexHandle,
+    ) -> Result<(), AllocError> {
+        let Some(vertex) = triangulation.get_vertex(vertex) else {
+            return Ok(());
+        };
+        let star = Star::of(&vertex);
+        self.stars.push(star)?;
+        for edge in vertex.out_edges() {
+            self.renew_end(&edge, star.centre);
+        }
+        Ok(())
+    }
+
+    /// Renews the stars of some vertices, after a removal.
+    pub(crate) fn renew<S: SpadeNum>(
+        &mut self,
+        triangulation: &DelaunayTriangulation<Point2<S>>,
+        changed: &[FixedVertexHandle],
+    ) {
+        self.stars.truncate(triangulation.num_vertices());
+        for vertex in changed {
+            if let Some(vertex) = triangulation.get_vertex(*vertex) {
+                self.set(vertex.fix(), Star::of(&vertex));
+            }
+        }
+    }
+
+    /// A vertex that none of its neighbours that are kept is nearer to a position than, by moves
+    /// from `start` to the nearest neighbour.
+    pub(crate) fn near(&self, start: u32, position: Point2<i64>) -> u32 {
+        let Some(star) = self.stars.get(start as usize) else {
+            return 0;
+        };
+        let mut nearest = star.candidate(position);
+        for _ in 0..self.stars.len() {
+            let Some(star) = self.stars.get(nearest.vertex as usize) else {
+                break;
+            };
+            let nearer = star.nearest_or(nearest, position);
+            if nearer.vertex == nearest.vertex {
+                break;
+            }
+            nearest = nearer;
+        }
+        nearest.vertex
+    }
+
+    /// Whether all neighbours of a vertex are kept.
+    pub(crate) fn has_whole(&self, vertex: u32) -> bool {
+        match self.stars.get(vertex as usize) {
+            Some(star) => star.is_whole(),
+            None => false,
+        }
+    }
+}
