@@ -90,7 +90,7 @@ module _ {V D U F : Type 0} (sides : Sides) (at : V → Point) (fix : List U →
   pub steps_begin : (ks : List ℕ) → CanLegalize at fix sides was ks start
       → IsUnderwayBy sides at fix was was ks room_was room_was start start
   steps_begin ks can = record {
-    underway = underway_begins fix (map at was.vertices) was ks room_was start can.shape can.edges can.passing;
+    underway = underway_begins fix (map at was.vertices) was ks room_was start can.shape can.left.edges can.left.passing;
     suffice = can.suffice;
   }
 

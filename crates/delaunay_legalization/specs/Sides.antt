@@ -41,13 +41,18 @@ pub record HasStepped (sides : Sides) (points : List Point) (constraints : List 
   pub suffice : Suffice sides points new
   pub fewer : steps_left points new after < steps_left points old before
 
+-- these are edges, and each other one passes, but for the outer ones and the constraints
+pub record AreLeftToTest {V D U F : Type 0} (place : V → Point) (constraints_of : List U → List ℕ)
+    (c : Contents V D U F) (ks : List ℕ) : Type 0 where
+  pub edges : AreEdges c.mesh ks
+  pub passing : AllPassBut (map place c.vertices) (faces_of c.mesh)
+      (constraint_pairs constraints_of c.mesh c.undirected) (pairs_at c.mesh ks)
+
 -- before perhaps only the edges of the work list fail, and each flip that may be needed can be counted
 pub record CanLegalize {V D U F : Type 0} (place : V → Point) (constraints_of : List U → List ℕ) (sides : Sides)
     (c : Contents V D U F) (ks : List ℕ) (flips : ℕ) : Type 0 where
   pub shape : IsMesh (map place c.vertices) (faces_of c.mesh) (outer_of c.mesh)
-  pub edges : AreEdges c.mesh ks
-  pub passing : AllPassBut (map place c.vertices) (faces_of c.mesh)
-      (constraint_pairs constraints_of c.mesh c.undirected) (pairs_at c.mesh ks)
+  pub left : AreLeftToTest place constraints_of c ks
   pub suffice : Suffice sides (map place c.vertices) c.mesh
   pub fits : FlipsFit (length c.vertices) flips
 

@@ -2,15 +2,13 @@
 //! sides.
 ghost use Rattle.std.specs.Prelude.{◌≡◌, ℕ, ◌*◌, ◌≤◌};
 ghost use Rattle.std.specs.Prelude.{length, map, All, Contains, IsTrue, vec_capacity};
-ghost use Rattle.plane_edits.specs.Legal.{AllPassBut};
-ghost use Rattle.mesh_embedding.specs.Drawn.{faces_of};
-ghost use Rattle.mesh_embedding.specs.Legal.{AreEdges, pairs_at};
+ghost use Rattle.mesh_embedding.specs.Legal.{AreEdges};
 ghost use Rattle.delaunay_legalization.specs.Among.{FailOnlyOf};
-ghost use Rattle.delaunay_legalization.specs.Constraints.{constraints_by};
 ghost use Rattle.delaunay_legalization.specs.Flips.{FlipsFit};
 ghost use Rattle.delaunay_legalization.specs.Legalized.{Legalizes};
 ghost use Rattle.delaunay_legalization.specs.Pushing.{CanGain, GainsAmong, GainsRoundAmong};
 ghost use Rattle.delaunay_legalization.specs.Shape.{IsTriangulated};
+ghost use Rattle.delaunay_legalization.specs.Sides.{AreLeftToTest};
 ghost use Rattle.delaunay_legalization.specs.State.{state_of};
 
 use crate::constraint_marker::ConstraintMarker;
@@ -86,9 +84,7 @@ pub fn legalize_list<M: ConstraintMarker<UE>, V: HasPosition, DE, UE, F, P: Plan
 )
     requires sites { All (P.sites tests.now) (map V.place dcel.old.vertices) }
     requires kept { IsTriangulated V.place (state_of dcel.old) }
-    requires edges { AreEdges dcel.old.mesh work.old.items }
-    requires passing { AllPassBut (map V.place dcel.old.vertices) (faces_of dcel.old.mesh)
-        (constraints_by M.constraints (state_of dcel.old)) (pairs_at dcel.old.mesh work.old.items) }
+    requires left { AreLeftToTest V.place M.constraints dcel.old work.old.items }
     requires only { IsTrue is_free →
         FailOnlyOf (map V.place dcel.old.vertices) dcel.old.mesh work.old.items }
     requires room { 3 * length dcel.old.vertices ≤ vec_capacity work.old }

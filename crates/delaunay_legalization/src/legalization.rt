@@ -3,16 +3,18 @@ ghost use Rattle.std.specs.Prelude.{◌≡◌, ◌↔◌, ◌+◌, ◌-◌, ◌*
 ghost use Rattle.std.specs.Prelude.{length, map, All, Contains, IsTrue, vec_capacity};
 ghost use Rattle.half_edge_mesh.specs.Mesh.{origin, next, prev, face, rev};
 ghost use Rattle.half_edge_mesh.specs.Flip.{flipped};
-ghost use Rattle.plane.specs.Delaunay.{IsLocallyDelaunay};
 ghost use Rattle.plane_tiling.specs.Local.{IsMesh};
-ghost use Rattle.plane_edits.specs.Legal.{AllPassBut};
-ghost use Rattle.mesh_embedding.specs.Drawn.{drawn, faces_of, outer_of};
-ghost use Rattle.mesh_embedding.specs.Legal.{AreEdges, Gains, GainsRound, IsFailing, pairs_at};
-ghost use Rattle.mesh_embedding.specs.Stays.{KeepsIndexes};
+ghost use Rattle.mesh_embedding.specs.Drawn.{faces_of, outer_of};
+ghost use Rattle.mesh_embedding.specs.Legal.{AreEdges, Gains, GainsRound, IsFailing};
 ghost use Rattle.delaunay_core.specs.Place.{place_of};
 ghost use Rattle.delaunay_legalization.specs.Constraints.{constraint_pairs};
+ghost use Rattle.delaunay_legalization.specs.Flips.{FlipsFit};
 ghost use Rattle.delaunay_legalization.specs.Known.{point_at};
-ghost use Rattle.delaunay_legalization.specs.Sides.{CanLegalize, CanStep, HasLegalized, HasStepped};
+ghost use Rattle.delaunay_legalization.specs.Legalized.{Legalizes};
+ghost use Rattle.delaunay_legalization.specs.Shape.{IsTriangulated};
+ghost use Rattle.delaunay_legalization.specs.Sides.{AreLeftToTest, CanLegalize, CanStep};
+ghost use Rattle.delaunay_legalization.specs.Sides.{HasLegalized, HasStepped};
+ghost use Rattle.delaunay_legalization.specs.State.{state_of};
 
 use crate::constraint_marker::ConstraintMarker;
 use crate::sides::{Sides, push_left};
@@ -281,26 +283,11 @@ pub fn legalize<M: ConstraintMarker<UE>, V: HasPosition, DE, UE, F, P: PlaneTest
     flips: &mut u64,
 )
     requires sites { All (P.sites tests.now) (map V.place dcel.old.vertices) }
-    requires shape { IsMesh (map V.place dcel.old.vertices) (faces_of dcel.old.mesh)
-        (outer_of dcel.old.mesh) }
-    requires edges { AreEdges dcel.old.mesh work.old.items }
+    requires kept { IsTriangulated V.place (state_of dcel.old) }
+    requires left { AreLeftToTest V.place M.constraints dcel.old work.old.items }
     requires room { length dcel.old.undirected ≤ vec_capacity work.old }
-    requires passing { AllPassBut (map V.place dcel.old.vertices) (faces_of dcel.old.mesh)
-        (constraint_pairs M.constraints dcel.old.mesh dcel.old.undirected)
-        (pairs_at dcel.old.mesh work.old.items) }
-    requires fits { let n = length dcel.old.vertices in 2 * flips.old + n * (n - 1) < 2 ^ 65 }
-    ensures contents { dcel.new ≡ record dcel.old { mesh = dcel.new.mesh } }
-    ensures shape { IsMesh (map V.place dcel.old.vertices) (faces_of dcel.new.mesh)
-        (outer_of dcel.new.mesh) }
-    ensures constraints { constraint_pairs M.constraints dcel.new.mesh dcel.new.undirected ≡
-        constraint_pairs M.constraints dcel.old.mesh dcel.old.undirected }
-    ensures locally_delaunay { IsLocallyDelaunay
-        (drawn (map V.place dcel.old.vertices) dcel.new.mesh)
-        (constraint_pairs M.constraints dcel.old.mesh dcel.old.undirected) }
-    ensures counted { flips.old ≤ flips.new }
-    ensures few_flips { let n = length dcel.old.vertices in
-        2 * (flips.new - flips.old) ≤ n * (n - 1) }
-    ensures indexes { KeepsIndexes dcel.old.mesh dcel.new.mesh }
+    requires fits { FlipsFit (length dcel.old.vertices) flips.old }
+    ensures legalizes { Legalizes V.place M.constraints dcel.old dcel.new flips.old flips.new }
     ensures done { work.new.items ≡ [] }
     ensures capacity { vec_capacity work.new ≡ vec_capacity work.old }
 {

@@ -10,7 +10,7 @@ list_directions-requires g c =
     let listed = subst (λ (zs : List ℕ). length zs ≤ length c.args.dcel.now.undirected)
     (sym {A = List ℕ} c.as_slice.ensures.value)
     (few_edges c.args.dcel.now.mesh c.args.work.now.items (length c.args.dcel.now.undirected)
-    c.requires.kept.fits.undirected_fit c.requires.edges) in
+    c.requires.kept.fits.undirected_fit c.requires.left.edges) in
     let few = c.requires.kept.few_edges in
     let room = c.requires.room_among in
     omega (arith, listed, few, room)
@@ -18,8 +18,7 @@ list_directions-requires g c =
 pub legalize_by-requires-clause-can : goal.legalize_by-requires-clause-can
 legalize_by-requires-clause-can g c = record {
   shape = c.requires.kept.shape;
-  edges = c.requires.edges;
-  passing = c.requires.passing;
+  left = c.requires.left;
   suffice = only_among (map g.V.HasPosition.place c.args.dcel.now.vertices) c.args.dcel.now.mesh c.args.work.now.items _
       (λ k l. subst (λ (zs : List ℕ). Contains zs (2 * k)) (sym {A = List ℕ} c.as_slice-then-is_free.ensures.value)
       (c.list_directions.ensures k (subst (λ (zs : List ℕ). Contains zs k) (sym {A = List ℕ} c.as_slice.ensures.value)
@@ -36,8 +35,7 @@ legalize_by-requires-clause-room g c =
 pub legalize_by-requires-else-is_free-clause-can : goal.legalize_by-requires-else-is_free-clause-can
 legalize_by-requires-else-is_free-clause-can g c = record {
   shape = c.requires.kept.shape;
-  edges = c.requires.edges;
-  passing = c.requires.passing;
+  left = c.requires.left;
   suffice = tt;
   fits = c.requires.fits;
 }

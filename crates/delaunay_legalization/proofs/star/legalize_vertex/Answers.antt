@@ -11,10 +11,12 @@ legalize_by-requires-clause-can g c =
     let m = c.args.dcel.now.mesh in
     record {
       shape = c.requires.kept.shape;
-      edges = c.push_star.ensures.edges;
-      passing = star_is_left m c.requires.kept.valid.sound c.args.vertex c.push_star.new.work.items
-          c.push_star.ensures.star (map g.V.HasPosition.place c.args.dcel.now.vertices)
-          (constraint_pairs g.M.ConstraintMarker.constraints m c.args.dcel.now.undirected) c.requires.passing;
+      left = record {
+        edges = c.push_star.ensures.edges;
+        passing = star_is_left m c.requires.kept.valid.sound c.args.vertex c.push_star.new.work.items
+            c.push_star.ensures.star (map g.V.HasPosition.place c.args.dcel.now.vertices)
+            (constraint_pairs g.M.ConstraintMarker.constraints m c.args.dcel.now.undirected) c.requires.passing;
+      };
       suffice = tt;
       fits = c.requires.fits;
     }
