@@ -1,14 +1,12 @@
 -- What answers about points of a segment say.
-use Rattle.std.proofs.Common.{◌≡◌, ◌≢◌, ◌⊎◌, ℕ, List, map, sym, ap, ◌∙◌, subst, inl, inr, arith}
-use Rattle.std.specs.Prelude.{ℤ, pos, ◌<ℤ◌, ◌*ℤ◌, Contains, Some, slice_get}
+use Rattle.std.proofs.Common.{◌≡◌, ◌≢◌, ◌⊎◌, sym, subst, inl, inr, arith}
+use Rattle.std.specs.Prelude.{ℤ, pos, ◌<ℤ◌, ◌*ℤ◌}
 use Rattle.std.proofs.lemmas.Int.{ints}
-use Rattle.std.proofs.lemmas.Option.{slice_get_within, get_or_from_slice_get}
 use Rattle.plane.specs.Fraction.{Point, whole, IsSame, OnSegment, WithinSegment}
 use Rattle.plane.proofs.Decisions.{Decision, decide_point}
 use Rattle.plane.proofs.Segments.{reach, reach-start, within_segment_is, start_on_segment, end_on_segment}
 use Rattle.plane_segments.proofs.Crossing.EitherWay.{one_point}
 use Rattle.plane_segments.proofs.Constraints.Pieces.{on_parts}
-use Rattle.mesh_embedding.proofs.EdgePairs.{Contains-map}
 
 none_below : (a b : ℤ) → a ≡ pos 0 → pos 0 <ℤ a → ⊥
 none_below a b e h = omega (arith, ints)
@@ -52,12 +50,6 @@ on_if_same u v p (inl e) =
     subst (λ (x : Point). OnSegment (whole u) (whole v) (whole x)) (sym e) (start_on_segment (whole u) (whole v))
 on_if_same u v p (inr e) =
     subst (λ (x : Point). OnSegment (whole u) (whole v) (whole x)) (sym e) (end_on_segment (whole u) (whole v))
-
--- the position of a vertex is listed
-pub listed_data : {V : Type 0} (at : V → Point) (vs : List V) (k : ℕ) (v : V) (q : Point) → slice_get vs k ≡ Some v →
-    q ≡ at v → Contains (map at vs) q
-listed_data at vs k v q e is =
-    Contains-map at vs k v q (slice_get_within vs k v e) (ap at (get_or_from_slice_get vs k v v e) ∙ sym is)
 
 -- a point that does not differ from both ends is on the segment
 pub on_if_not_apart : (u v p : Point) → (p ≢ u → p ≢ v → ⊥) → OnSegment (whole u) (whole v) (whole p)

@@ -13,9 +13,9 @@ ghost use Rattle.delaunay_lines.specs.Walk.{IsReady, WalksBetween, WalksLine};
 
 use crate::iterator::LineIntersectionIterator;
 use crate::segment::Segment;
-use crate::sides::position_of;
 use delaunay_core::math::PlaneTests;
 use delaunay_core::point::{HasPosition, Point2};
+use delaunay_legalization::position_of;
 use delaunay_location::{PositionInTriangulation, locate_with_hint};
 use half_edge_mesh::{
     Dcel, FixedDirectedEdgeHandle, FixedFaceHandle, FixedVertexHandle, MeshViews,

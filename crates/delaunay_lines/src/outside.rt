@@ -15,11 +15,11 @@ ghost use Rattle.delaunay_lines.specs.Walk.{IsReady, Starts, WalksLine};
 use crate::intersection::FixedIntersection;
 use crate::iterator::LineIntersectionIterator;
 use crate::segment::Segment;
-use crate::sides::{position_of, side_of_edge, twin_of};
+use crate::sides::{side_of_edge, twin_of};
 use crate::way::Way;
 use delaunay_core::math::PlaneTests;
 use delaunay_core::point::{HasPosition, Point2, SpadeNum};
-use delaunay_legalization::{is_outer, is_same_point};
+use delaunay_legalization::{is_outer, is_same_point, position_of};
 use half_edge_mesh::{FixedDirectedEdgeHandle, FixedVertexHandle};
 
 // Whether a point is nearer to a position than another.

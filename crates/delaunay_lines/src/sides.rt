@@ -1,30 +1,16 @@
 //! Questions about the vertices and edges of a mesh.
-ghost use Rattle.std.specs.Prelude.{◌≡◌, ◌<◌, length, map, All, Contains};
+ghost use Rattle.std.specs.Prelude.{◌≡◌, ◌<◌, length, map, All};
 ghost use Rattle.half_edge_mesh.specs.Mesh.{origin, next, prev, rev};
 ghost use Rattle.plane.specs.Fraction.{whole as fraction};
 ghost use Rattle.plane.specs.Side.{side};
 ghost use Rattle.plane.specs.Pairs.{place};
 ghost use Rattle.delaunay_core.specs.Place.{place_of};
-ghost use Rattle.delaunay_legalization.specs.Known.{point_at};
 
 use delaunay_core::line_side_info::LineSideInfo;
 use delaunay_core::math::PlaneTests;
 use delaunay_core::point::{HasPosition, Point2};
 use delaunay_legalization::start_of;
-use half_edge_mesh::{Dcel, FixedDirectedEdgeHandle, FixedVertexHandle, MeshViews};
-
-// The position of a vertex.
-pub(crate) fn position_of<V: HasPosition, DE, UE, F>(
-    dcel: &Dcel<V, DE, UE, F>,
-    vertex: FixedVertexHandle,
-) -> Point2<V::Scalar>
-    requires { vertex < length dcel.now.vertices }
-    ensures position { place_of V.Scalar.whole result ≡
-        point_at (map V.place dcel.now.vertices) vertex }
-    ensures listed { Contains (map V.place dcel.now.vertices) (place_of V.Scalar.whole result) }
-{
-    dcel.vertex_data(vertex).position()
-}
+use half_edge_mesh::{Dcel, FixedDirectedEdgeHandle, MeshViews};
 
 // The edge after an edge in its loop.
 pub(crate) fn edge_after<V, DE, UE, F>(

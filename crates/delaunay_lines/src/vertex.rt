@@ -8,10 +8,10 @@ ghost use Rattle.delaunay_lines.specs.Steps.{IsEdgeAhead, IsInCone, LeadsTo};
 
 use crate::intersection::FixedIntersection;
 use crate::segment::Segment;
-use crate::sides::{edge_after, edge_before, position_of};
+use crate::sides::{edge_after, edge_before};
 use delaunay_core::math::PlaneTests;
 use delaunay_core::point::HasPosition;
-use delaunay_legalization::{is_outer, is_same_point};
+use delaunay_legalization::{is_outer, is_same_point, position_of};
 use half_edge_mesh::{FixedDirectedEdgeHandle, FixedVertexHandle, MeshViews};
 
 impl<'a, V: HasPosition, DE, UE, F, P: PlaneTests<V::Scalar>> Segment<'a, V, DE, UE, F, P> {

@@ -107,7 +107,7 @@ impl<S: SpadeNum> Layer<S> {
         let near = self.stars.near(start, whole);
         let used = FixedVertexHandle::from_index(near);
         HintGenerator::<S>::notify_vertex_lookup(self.triangulation.hint_generator(), used);
-        if self.stars.has_whole(near) {
+        if self.stars.keeps_all_neighbours(near) {
             return near;
         }
         match self.triangulation.nearest_neighbor(position, tests) {

@@ -89,7 +89,7 @@ impl Star {
     }
 
     /// Whether all neighbours are kept.
-    pub(crate) fn is_whole(&self) -> bool {
+    pub(crate) fn keeps_all(&self) -> bool {
         self.degree <= KEPT
     }
 
@@ -110,7 +110,7 @@ impl Star {
             if is_past {
                 self.push(*end);
                 if end.vertex == before.index() {
-                    return former.is_whole() && self.is_whole();
+                    return former.keeps_all() && self.keeps_all();
                 }
             }
         }

@@ -110,9 +110,9 @@ impl Stars {
     }
 
     /// Whether all neighbours of a vertex are kept.
-    pub(crate) fn has_whole(&self, vertex: u32) -> bool {
+    pub(crate) fn keeps_all_neighbours(&self, vertex: u32) -> bool {
         match self.stars.get(vertex as usize) {
-            Some(star) => star.is_whole(),
+            Some(star) => star.keeps_all(),
             None => false,
         }
     }

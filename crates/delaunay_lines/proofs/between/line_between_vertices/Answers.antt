@@ -26,6 +26,6 @@ returns-clause-line g c =
     let points = map g.V.HasPosition.place c.args.dcel.now.vertices in
     let walks = WalksLine g.V.HasPosition.place g.V.Scalar.SpadeNum.whole (state_of c.args.dcel.now) in
     subst (λ (x : Point). walks (point_at points c.args.from) x c.walk_from_vertex.result)
-    c.position_of-end.ensures.position
+    c.position_of-end.ensures.place
     (subst (λ (x : Point). walks x (place_of g.V.Scalar.SpadeNum.whole c.position_of-end.result)
-    c.walk_from_vertex.result) c.position_of-start.ensures.position c.walk_from_vertex.ensures.line)
+    c.walk_from_vertex.result) c.position_of-start.ensures.place c.walk_from_vertex.ensures.line)

@@ -16,11 +16,11 @@ returns-then-is_same_point g c =
     let at = point_at (map g.V.HasPosition.place c.args.self.now.dcel.now.vertices) c.args.vertex in
     last_at_end _ _ _ _ _ _ c.requires.over c.requires.apart c.args.vertex c.requires.met
     (subst (λ (z : Point). IsSame (whole at) (whole z))
-    (sym c.position_of.ensures.position ∙ c.is_same_point.ensures.0 c.if-is_same_point.true) (same-refl (whole at)))
+    (sym c.position_of.ensures.place ∙ c.is_same_point.ensures.0 c.if-is_same_point.true) (same-refl (whole at)))
 
 pub edge_towards-requires-clause-apart : goal.edge_towards-requires-clause-apart
 edge_towards-requires-clause-apart g c =
-    λ e. both_ways _ (c.is_same_point.ensures.1 (c.position_of.ensures.position ∙ e)) c.if-is_same_point.false
+    λ e. both_ways _ (c.is_same_point.ensures.1 (c.position_of.ensures.place ∙ e)) c.if-is_same_point.false
 
 pub along_or_into-requires-clause-at : goal.along_or_into-requires-clause-at
 along_or_into-requires-clause-at g c =
@@ -29,7 +29,7 @@ along_or_into-requires-clause-at g c =
 
 pub along_or_into-requires-clause-starts_apart : goal.along_or_into-requires-clause-starts_apart
 along_or_into-requires-clause-starts_apart g c =
-    λ e. both_ways _ (c.is_same_point.ensures.1 (c.position_of.ensures.position
+    λ e. both_ways _ (c.is_same_point.ensures.1 (c.position_of.ensures.place
     ∙ ap (point_at (map g.V.HasPosition.place c.args.self.now.dcel.now.vertices)) (sym c.in-Some.ensures.1) ∙ e))
     c.if-is_same_point.false
 
@@ -43,5 +43,5 @@ returns-in-Some g c =
 pub returns-in-None : goal.returns-in-None
 returns-in-None g c =
     last_if_none_leads _ _ _ _ _ _ c.requires.over c.requires.apart c.args.vertex c.requires.met
-    (not_same _ _ (λ e. both_ways _ (c.is_same_point.ensures.1 (c.position_of.ensures.position ∙ e))
+    (not_same _ _ (λ e. both_ways _ (c.is_same_point.ensures.1 (c.position_of.ensures.place ∙ e))
     c.if-is_same_point.false)) c.in-None.ensures
