@@ -1,14 +1,22 @@
 -- The edges and faces round a vertex on the hull that is to go.
-use Rattle.std.specs.Prelude.{◌≡◌, ℕ, suc, ◌<◌, List, length, slice_index}
+use Rattle.std.specs.Prelude.{◌≡◌, ℕ, suc, ◌<◌, List, length, map, slice_index}
 use Rattle.half_edge_mesh.specs.Mesh.{Mesh, origin, next, face, rev}
 use Rattle.half_edge_mesh.specs.Peel.{spoke}
 use Rattle.half_edge_mesh.specs.Round.{IsRound, neighbour}
+use Rattle.half_edge_mesh.specs.Contents.{Contents}
 use Rattle.plane.specs.Fraction.{Point}
 use Rattle.plane.specs.Pairs.{place}
 use Rattle.plane.specs.Side.{TurnsLeft}
 use Rattle.plane_tiling.specs.Local.{LocalMesh}
 use Rattle.mesh_embedding.specs.Drawn.{faces_of, outer_of}
 use Rattle.delaunay_removal.specs.Star.{IsConvexAt}
+
+-- a mesh in the plane has this edge, with the outer face on its right
+pub record HasHullEdge {V D U F : Type 0} (place : V → Point) (c : Contents V D U F) (h : ℕ)
+    : Type 0 where
+  pub within : h < length c.directed
+  pub shape : LocalMesh (map place c.vertices) (faces_of c.mesh) (outer_of c.mesh)
+  pub outer : face c.mesh (rev h) ≡ 0
 
 -- vertex v is on the hull, and has so many edges, from the one with the outer face on its right on
 pub record IsHullStar (points : List Point) (m : Mesh) (v first count : ℕ) : Type 0 where

@@ -4,3 +4,4 @@ pub mod Hull
 pub mod Freeing
 pub mod Pairs
 pub mod Lists
+pub mod Removal

@@ -8,10 +8,10 @@ ghost use Rattle.half_edge_mesh.specs.Round.{neighbour};
 ghost use Rattle.plane_edits.specs.Legal.{AllPassBut};
 ghost use Rattle.mesh_embedding.specs.Drawn.{faces_of};
 ghost use Rattle.mesh_embedding.specs.Legal.{AreEdges};
-ghost use Rattle.mesh_embedding.specs.Stays.{KeepsIndexes};
 ghost use Rattle.delaunay_legalization.specs.Constraints.{constraints_by};
-ghost use Rattle.delaunay_legalization.specs.Flips.{CountsFlips, FlipsFit};
-ghost use Rattle.delaunay_legalization.specs.Shape.{IsTriangulated, IsDelaunayTriangulation};
+ghost use Rattle.delaunay_legalization.specs.Flips.{FlipsFit};
+ghost use Rattle.delaunay_legalization.specs.Legalized.{Legalizes};
+ghost use Rattle.delaunay_legalization.specs.Shape.{IsTriangulated};
 ghost use Rattle.delaunay_legalization.specs.State.{state_of};
 ghost use Rattle.delaunay_removal.specs.Pairs.{FailOnlyAt, HasEdgeOf, HasEdgesOf};
 ghost use Rattle.delaunay_removal.specs.Pairs.{pairs_left};
@@ -162,12 +162,7 @@ pub fn legalize_pairs<M: ConstraintMarker<UE>, V: HasPosition, DE, UE, F, P: Pla
     requires room_among { 3 * length dcel.old.vertices ≤ vec_capacity lists.old.sides }
     requires fits { FlipsFit (length dcel.old.vertices) flips.old }
 
-    ensures contents { dcel.new ≡ record dcel.old { mesh = dcel.new.mesh } }
-    ensures legal { IsDelaunayTriangulation V.place M.constraints (state_of dcel.new) }
-    ensures constraints { constraints_by M.constraints (state_of dcel.new) ≡
-        constraints_by M.constraints (state_of dcel.old) }
-    ensures counted { CountsFlips (length dcel.old.vertices) flips.old flips.new }
-    ensures indexes { KeepsIndexes dcel.old.mesh dcel.new.mesh }
+    ensures legalizes { Legalizes V.place M.constraints dcel.old dcel.new flips.old flips.new }
 {
     work.clear();
     push_pairs(dcel, vertex, border, work);

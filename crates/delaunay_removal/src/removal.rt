@@ -12,10 +12,10 @@ ghost use Rattle.delaunay_legalization.specs.Constraints.{constraints_by};
 ghost use Rattle.delaunay_legalization.specs.Constraints.{points_and_constraints_by};
 ghost use Rattle.delaunay_legalization.specs.Shape.{IsTriangulated};
 ghost use Rattle.delaunay_legalization.specs.State.{points_and_constraints, state_of};
-ghost use Rattle.delaunay_removal.specs.Data.{KeepsDataBeside, RenumbersEdges};
+ghost use Rattle.delaunay_removal.specs.Data.{RenumbersEdges};
 ghost use Rattle.delaunay_removal.specs.Freeing.{FreesEdgesAt};
 ghost use Rattle.delaunay_removal.specs.Lists.{HasRoomToRemove};
-ghost use Rattle.delaunay_removal.specs.Pairs.{LeavesFaces};
+ghost use Rattle.delaunay_removal.specs.Removal.{TakesVertexOut};
 ghost use Rattle.delaunay_removal.specs.Star.{IsMeshWithout, LosesEdges};
 
 use crate::freeing::free_edges_at;
@@ -107,13 +107,8 @@ fn take_vertex<V: HasPosition, DE: Drop, UE: Drop, F: Drop, P: PlaneTests<V::Sca
     requires within { vertex < length dcel.old.vertices }
     requires sites { All (P.sites tests.now) (map V.place dcel.old.vertices) }
     requires room { HasRoomToRemove dcel.old lists.old }
-    ensures value { slice_get dcel.old.vertices vertex ≡ Some result }
-    ensures plain { Removes V.place (points_and_constraints (state_of dcel.old))
-        (points_and_constraints (state_of dcel.new)) vertex }
-    ensures kept { IsTriangulated V.place (state_of dcel.new) }
-    ensures data { KeepsDataBeside (state_of dcel.old) (state_of dcel.new) vertex }
-    ensures faces { LeavesFaces (state_of dcel.old) (state_of dcel.new) vertex
-        lists.new.turned.items }
+    ensures takes { TakesVertexOut V.place points_and_constraints (state_of dcel.old)
+        (state_of dcel.new) vertex result lists.new.turned.items }
     ensures edges { RenumbersEdges dcel.old dcel.new vertex }
     ensures capacity { vec_capacity lists.new.sides ≡ vec_capacity lists.old.sides }
 {
@@ -167,13 +162,8 @@ pub fn remove_vertex<
     requires sites { All (P.sites tests.now) (map V.place dcel.old.vertices) }
     requires room { HasRoomToRemove dcel.old lists.old }
 
-    ensures value { slice_get dcel.old.vertices vertex ≡ Some result }
-    ensures plain { Removes V.place (points_and_constraints_by M.constraints (state_of dcel.old))
-        (points_and_constraints_by M.constraints (state_of dcel.new)) vertex }
-    ensures kept { IsTriangulated V.place (state_of dcel.new) }
-    ensures data { KeepsDataBeside (state_of dcel.old) (state_of dcel.new) vertex }
-    ensures faces { LeavesFaces (state_of dcel.old) (state_of dcel.new) vertex
-        lists.new.turned.items }
+    ensures takes { TakesVertexOut V.place (points_and_constraints_by M.constraints)
+        (state_of dcel.old) (state_of dcel.new) vertex result lists.new.turned.items }
     ensures capacity { vec_capacity lists.new.sides ≡ vec_capacity lists.old.sides }
 {
     free_unless::<M, _, _, _, _>(dcel, vertex, is_free);

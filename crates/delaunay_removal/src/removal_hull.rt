@@ -6,10 +6,9 @@ ghost use Rattle.half_edge_mesh.specs.Mesh.{face, next, origin, rev};
 ghost use Rattle.half_edge_mesh.specs.Round.{IsRound, neighbour};
 ghost use Rattle.plane.specs.Pairs.{place};
 ghost use Rattle.plane.specs.Side.{on, side};
-ghost use Rattle.plane_tiling.specs.Local.{LocalMesh};
-ghost use Rattle.mesh_embedding.specs.Drawn.{faces_of, outer_of};
 ghost use Rattle.delaunay_removal.specs.Data.{StandsBeside};
-ghost use Rattle.delaunay_removal.specs.Hull.{AreSides, HasNoFlippableEdge, IsCornerAt, IsHullStar};
+ghost use Rattle.delaunay_removal.specs.Hull.{AreSides, HasNoFlippableEdge, IsCornerAt};
+ghost use Rattle.delaunay_removal.specs.Hull.{HasHullEdge, IsHullStar};
 ghost use Rattle.delaunay_removal.specs.Pairs.{HasRoomAt, KeepsPairs};
 ghost use Rattle.delaunay_removal.specs.Star.{HasInnerFaces, LosesEdges};
 
@@ -30,10 +29,7 @@ fn shrink_hull_star<V: HasPosition, DE, UE, F, P: PlaneTests<V::Scalar>>(
     tests: &P,
     turned: &mut Vec<VertexPair>,
 ) -> usize
-    requires within { first < length dcel.old.directed }
-    requires shape { LocalMesh (map V.place dcel.old.vertices) (faces_of dcel.old.mesh)
-        (outer_of dcel.old.mesh) }
-    requires outer { face dcel.old.mesh (rev first) ≡ 0 }
+    requires hull { HasHullEdge V.place dcel.old first }
     requires sites { All (P.sites tests.now) (map V.place dcel.old.vertices) }
     requires room { HasRoomAt dcel.old.mesh (origin dcel.old.mesh first) (vec_len turned.old)
         (vec_capacity turned.old) }
@@ -165,11 +161,8 @@ pub(crate) fn isolate_on_hull<
     tests: &P,
     lists: &mut RemovalLists,
 )
-    requires within { first < length dcel.old.directed }
+    requires hull { HasHullEdge V.place dcel.old first }
     requires starts { origin dcel.old.mesh first ≡ vertex }
-    requires shape { LocalMesh (map V.place dcel.old.vertices) (faces_of dcel.old.mesh)
-        (outer_of dcel.old.mesh) }
-    requires outer { face dcel.old.mesh (rev first) ≡ 0 }
     requires sites { All (P.sites tests.now) (map V.place dcel.old.vertices) }
     requires room { length dcel.old.directed ≤ vec_capacity lists.old.sides }
     requires pairs { HasRoomAt dcel.old.mesh vertex (vec_len lists.old.turned)

@@ -31,10 +31,8 @@ fn shrink_star<V: HasPosition, DE, UE, F, P: PlaneTests<V::Scalar>>(
     tests: &P,
     turned: &mut Vec<VertexPair>,
 ) -> (FixedDirectedEdgeHandle, usize)
-    requires round { IsRound dcel.old.mesh (origin dcel.old.mesh first) first count }
-    requires shape { LocalMesh (map V.place dcel.old.vertices) (faces_of dcel.old.mesh)
-        (outer_of dcel.old.mesh) }
-    requires inner { HasInnerFaces dcel.old.mesh (origin dcel.old.mesh first) }
+    requires star { IsInnerStar (map V.place dcel.old.vertices) dcel.old.mesh
+        (origin dcel.old.mesh first) first count }
     requires sites { All (P.sites tests.now) (map V.place dcel.old.vertices) }
     requires room { HasRoomAt dcel.old.mesh (origin dcel.old.mesh first) (vec_len turned.old)
         (vec_capacity turned.old) }

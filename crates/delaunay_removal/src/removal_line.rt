@@ -1,10 +1,9 @@
 //! A vertex of the line of all vertices goes.
-ghost use Rattle.std.specs.Prelude.{◌≡◌, ◌<◌, [], length, Some, slice_get};
-ghost use Rattle.plane.specs.Plain.{Removes};
+ghost use Rattle.std.specs.Prelude.{◌≡◌, ◌<◌, [], length};
 ghost use Rattle.delaunay_legalization.specs.Shape.{IsTriangulated};
 ghost use Rattle.delaunay_legalization.specs.State.{points_and_constraints, state_of};
-ghost use Rattle.delaunay_removal.specs.Data.{KeepsDataBeside, RenumbersEdges};
-ghost use Rattle.delaunay_removal.specs.Pairs.{LeavesFaces};
+ghost use Rattle.delaunay_removal.specs.Data.{RenumbersEdges};
+ghost use Rattle.delaunay_removal.specs.Removal.{TakesVertexOut};
 
 use delaunay_core::point::HasPosition;
 use half_edge_mesh::{Dcel, FixedVertexHandle};
@@ -18,12 +17,8 @@ pub(crate) fn remove_on_line<V: HasPosition, DE: Drop, UE: Drop, F>(
     requires kept { IsTriangulated V.place (state_of dcel.old) }
     requires one_face { length dcel.old.faces ≡ 0 }
     requires within { vertex < length dcel.old.vertices }
-    ensures value { slice_get dcel.old.vertices vertex ≡ Some result }
-    ensures plain { Removes V.place (points_and_constraints (state_of dcel.old))
-        (points_and_constraints (state_of dcel.new)) vertex }
-    ensures kept { IsTriangulated V.place (state_of dcel.new) }
-    ensures data { KeepsDataBeside (state_of dcel.old) (state_of dcel.new) vertex }
-    ensures faces { LeavesFaces (state_of dcel.old) (state_of dcel.new) vertex [] }
+    ensures takes { TakesVertexOut V.place points_and_constraints (state_of dcel.old)
+        (state_of dcel.new) vertex result [] }
     ensures edges { RenumbersEdges dcel.old dcel.new vertex }
 {
     let value = dcel.remove_when_degenerate(vertex);

@@ -36,18 +36,3 @@ legalize_list-requires-clause-only g c free =
     (subst (λ (turned : List (ℕ × ℕ)). FailOnlyAt (map g.V.HasPosition.place c.args.dcel.now.vertices) m
     (pairs_left (length c.args.dcel.now.vertices) c.args.vertex (c.args.border.now ++ turned)))
     (sym {A = List (ℕ × ℕ)} c.as_slice.ensures.value) (c.requires.only free))
-
-pub returns-clause-contents : goal.returns-clause-contents
-returns-clause-contents g c = c.legalize_list.ensures.legalizes.contents
-
-pub returns-clause-legal : goal.returns-clause-legal
-returns-clause-legal g c = c.legalize_list.ensures.legalizes.legal
-
-pub returns-clause-constraints : goal.returns-clause-constraints
-returns-clause-constraints g c = c.legalize_list.ensures.legalizes.constraints
-
-pub returns-clause-counted : goal.returns-clause-counted
-returns-clause-counted g c = c.legalize_list.ensures.legalizes.counted
-
-pub returns-clause-indexes : goal.returns-clause-indexes
-returns-clause-indexes g c = c.legalize_list.ensures.legalizes.indexes

@@ -11,8 +11,12 @@ first_edge-first-requires-clause-some g c =
     vertex_has_edge (map g.V.HasPosition.place c.args.dcel.now.vertices) c.args.dcel.now.mesh c.recall_invariant.ensures.whole.valid.sound (in_the_plane g.V.HasPosition.place c.args.dcel.now c.requires.kept c.requires.some_face) c.args.vertex
     (subst (λ (n : ℕ). c.args.vertex < n) (sym (length-map c.args.dcel.now.vertices g.V.HasPosition.place)) c.requires.within)
 
-pub isolate_on_hull-requires-clause-shape : goal.isolate_on_hull-requires-clause-shape
-isolate_on_hull-requires-clause-shape g c = in_the_plane g.V.HasPosition.place c.args.dcel.now c.requires.kept c.requires.some_face
+pub isolate_on_hull-requires-clause-hull : goal.isolate_on_hull-requires-clause-hull
+isolate_on_hull-requires-clause-hull g c = record {
+  within = c.in-Some.ensures.within;
+  shape = in_the_plane g.V.HasPosition.place c.args.dcel.now c.requires.kept c.requires.some_face;
+  outer = c.in-Some.ensures.outer;
+}
 
 pub isolate_inner-requires-clause-shape : goal.isolate_inner-requires-clause-shape
 isolate_inner-requires-clause-shape g c = in_the_plane g.V.HasPosition.place c.args.dcel.now c.requires.kept c.requires.some_face

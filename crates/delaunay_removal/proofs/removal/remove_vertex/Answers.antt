@@ -34,25 +34,28 @@ take_vertex-requires-clause-room g c =
       turned = subst (λ vs. length vs ≤ vec_capacity lists.turned) vertices c.requires.room.turned;
     }
 
-pub returns-clause-value : goal.returns-clause-value
-returns-clause-value g c =
+pub returns-clause-takes : goal.returns-clause-takes
+returns-clause-takes g c =
+    let at = g.V.HasPosition.place in
     let m = g.M.ConstraintMarker in
-    subst (λ vs. slice_get vs c.args.vertex ≡ Some c.take_vertex.result)
-    (freed_vertices g.V.HasPosition.place m.marks m.constraints g.met.M.ConstraintMarker.constraints_are_marked c.args.dcel.now c.free_unless.new.dcel c.args.vertex c.free_unless.ensures.frees c.free_unless.ensures.whole c.requires.kept) c.take_vertex.ensures.value
-
-pub returns-clause-plain : goal.returns-clause-plain
-returns-clause-plain g c =
-    let m = g.M.ConstraintMarker in
-    let kept = c.take_vertex.ensures.kept in
-    plain_left g.V.HasPosition.place m.marks m.constraints g.met.M.ConstraintMarker.constraints_are_marked c.args.dcel.now c.free_unless.new.dcel c.args.vertex c.free_unless.ensures.frees c.free_unless.ensures.whole c.requires.kept
-    c.take_vertex.new.dcel (record { valid = kept.valid; fits = kept.fits }) c.take_vertex.ensures.plain c.take_vertex.ensures.edges
-
-pub returns-clause-data : goal.returns-clause-data
-returns-clause-data g c =
-    let m = g.M.ConstraintMarker in
-    let kept = c.take_vertex.ensures.kept in
-    data_left g.V.HasPosition.place m.marks m.constraints g.met.M.ConstraintMarker.constraints_are_marked c.args.dcel.now c.free_unless.new.dcel c.args.vertex c.free_unless.ensures.frees c.free_unless.ensures.whole c.requires.kept
-    c.take_vertex.new.dcel (record { valid = kept.valid; fits = kept.fits }) c.take_vertex.ensures.data
-
-pub returns-clause-faces : goal.returns-clause-faces
-returns-clause-faces g c = freed_faces_leave g.M.ConstraintMarker.marks c.args.dcel.now c.free_unless.new.dcel c.take_vertex.new.dcel c.args.vertex c.take_vertex.new.lists.turned.items c.free_unless.ensures.frees c.take_vertex.ensures.faces
+    let marked = g.met.M.ConstraintMarker.constraints_are_marked in
+    let was = c.args.dcel.now in
+    let freed = c.free_unless.new.dcel in
+    let frees = c.free_unless.ensures.frees in
+    let whole = c.free_unless.ensures.whole in
+    let takes = c.take_vertex.ensures.takes in
+    record {
+      value = subst (λ vs. slice_get vs c.args.vertex ≡ Some c.take_vertex.result)
+          (freed_vertices at m.marks m.constraints marked was freed c.args.vertex frees whole
+          c.requires.kept) takes.value;
+      plain = plain_left at m.marks m.constraints marked was freed c.args.vertex frees whole
+          c.requires.kept c.take_vertex.new.dcel
+          (record { valid = takes.kept.valid; fits = takes.kept.fits }) takes.plain
+          c.take_vertex.ensures.edges;
+      kept = takes.kept;
+      beside = data_left at m.marks m.constraints marked was freed c.args.vertex frees whole
+          c.requires.kept c.take_vertex.new.dcel
+          (record { valid = takes.kept.valid; fits = takes.kept.fits }) takes.beside;
+      faces = freed_faces_leave m.marks was freed c.take_vertex.new.dcel c.args.vertex
+          c.take_vertex.new.lists.turned.items frees takes.faces;
+    }

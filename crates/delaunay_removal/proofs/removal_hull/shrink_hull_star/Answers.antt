@@ -9,7 +9,11 @@ use Rattle.delaunay_removal.proofs.removal_hull.shrink_hull_star.Goals as goal
 
 pub loop-edge-init : goal.loop-edge-init
 loop-edge-init g c =
-    let star : IsHullStar (map g.V.HasPosition.place c.args.dcel.now.vertices) c.args.dcel.now.mesh (origin c.args.dcel.now.mesh c.args.first) c.args.first c.count_edges-count.result = record { shape = c.requires.shape; outer = c.requires.outer; round = c.count_edges-count.ensures } in
+    let hull = c.requires.hull in
+    let star : IsHullStar (map g.V.HasPosition.place c.args.dcel.now.vertices)
+    c.args.dcel.now.mesh (origin c.args.dcel.now.mesh c.args.first) c.args.first
+    c.count_edges-count.result =
+    record { shape = hull.shape; outer = hull.outer; round = c.count_edges-count.ensures } in
     record {
       contents = refl;
       star = star;

@@ -4,8 +4,13 @@ use Rattle.delaunay_removal.specs.Pairs.{HasRoomAt}
 use Rattle.delaunay_removal.proofs.Isolating.{inner_as, same_sites, three_wheel, three_isolates, four_star, four_between, four_star_named, four_isolates}
 use Rattle.delaunay_removal.proofs.removal_inner.isolate_inner.Goals as goal
 
-pub shrink_star-first-requires-clause-inner : goal.shrink_star-first-requires-clause-inner
-shrink_star-first-requires-clause-inner g c = inner_as c.args.dcel.now.mesh c.args.vertex c.args.first c.requires.starts c.requires.inner
+pub shrink_star-first-requires-clause-star : goal.shrink_star-first-requires-clause-star
+shrink_star-first-requires-clause-star g c = record {
+  shape = c.requires.shape;
+  inner = inner_as c.args.dcel.now.mesh c.args.vertex c.args.first c.requires.starts
+      c.requires.inner;
+  round = c.requires.round;
+}
 
 pub shrink_star-first-requires-clause-room : goal.shrink_star-first-requires-clause-room
 shrink_star-first-requires-clause-room g c = subst (λ (v : ℕ). HasRoomAt c.args.dcel.now.mesh v (vec_len c.args.turned.now) (vec_capacity c.args.turned.now)) (sym c.requires.starts) c.requires.room

@@ -9,9 +9,9 @@ use Rattle.delaunay_removal.proofs.removal_inner.shrink_star.Goals as goal
 pub loop-count-init : goal.loop-count-init
 loop-count-init g c = record {
   contents = refl;
-  star = record { shape = c.requires.shape; inner = c.requires.inner; round = c.requires.round };
+  star = c.requires.star;
   beside = all_stands c.args.dcel.now (origin c.args.dcel.now.mesh c.args.first) c.args.turned.now.items;
-  room = c.requires.room c.args.first c.args.count c.requires.round;
+  room = c.requires.room c.args.first c.args.count c.requires.star.round;
 }
 
 pub find_convex-requires-clause-within : goal.find_convex-requires-clause-within

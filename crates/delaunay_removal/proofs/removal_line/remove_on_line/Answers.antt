@@ -7,22 +7,24 @@ use Rattle.delaunay_removal.proofs.removal_line.remove_on_line.Goals as goal
 pub remove_when_degenerate-value-requires-clause-few : goal.remove_when_degenerate-value-requires-clause-few
 remove_when_degenerate-value-requires-clause-few g c = few_edges_of g.V.HasPosition.place c.args.dcel.now c.requires.kept c.requires.one_face c.args.vertex
 
-pub returns-clause-value : goal.returns-clause-value
-returns-clause-value g c = value_was g.V.HasPosition.place c.args.dcel.now c.requires.kept c.requires.one_face c.remove_when_degenerate-value.new.self c.recall_invariant.ensures.whole c.args.vertex c.remove_when_degenerate-value.result c.remove_when_degenerate-value.ensures.leaves
-
-pub returns-clause-plain : goal.returns-clause-plain
-returns-clause-plain g c = line_plain_removes g.V.HasPosition.place c.args.dcel.now c.remove_when_degenerate-value.new.self c.args.vertex c.remove_when_degenerate-value.result c.remove_when_degenerate-value.ensures.leaves
-
-pub returns-clause-kept : goal.returns-clause-kept
-returns-clause-kept g c = line_kept g.V.HasPosition.place c.args.dcel.now c.requires.kept c.requires.one_face c.remove_when_degenerate-value.new.self c.recall_invariant.ensures.whole c.args.vertex c.remove_when_degenerate-value.result c.remove_when_degenerate-value.ensures.leaves
-
-pub returns-clause-data : goal.returns-clause-data
-returns-clause-data g c =
-    line_data_kept c.args.dcel.now c.remove_when_degenerate-value.new.self (record { valid = c.requires.kept.valid; fits = c.requires.kept.fits }) c.recall_invariant.ensures.whole c.requires.one_face c.args.vertex c.remove_when_degenerate-value.result c.remove_when_degenerate-value.ensures.leaves
+pub returns-clause-takes : goal.returns-clause-takes
+returns-clause-takes g c =
+    let at = g.V.HasPosition.place in
+    let was = c.args.dcel.now in
+    let kept = c.requires.kept in
+    let new = c.remove_when_degenerate-value.new.self in
+    let whole = c.recall_invariant.ensures.whole in
+    let value = c.remove_when_degenerate-value.result in
+    let leaves = c.remove_when_degenerate-value.ensures.leaves in
+    record {
+      value = value_was at was kept c.requires.one_face new whole c.args.vertex value leaves;
+      plain = line_plain_removes at was new c.args.vertex value leaves;
+      kept = line_kept at was kept c.requires.one_face new whole c.args.vertex value leaves;
+      beside = line_data_kept was new (record { valid = kept.valid; fits = kept.fits }) whole
+          c.requires.one_face c.args.vertex value leaves;
+      faces = line_faces_leave was new c.args.vertex value whole c.requires.one_face leaves;
+    }
 
 pub returns-clause-edges : goal.returns-clause-edges
 returns-clause-edges g c =
     line_renumbers c.args.dcel.now c.remove_when_degenerate-value.new.self (record { valid = c.requires.kept.valid; fits = c.requires.kept.fits }) c.recall_invariant.ensures.whole c.requires.one_face c.args.vertex c.remove_when_degenerate-value.result c.remove_when_degenerate-value.ensures.leaves
-
-pub returns-clause-faces : goal.returns-clause-faces
-returns-clause-faces g c = line_faces_leave c.args.dcel.now c.remove_when_degenerate-value.new.self c.args.vertex c.remove_when_degenerate-value.result c.recall_invariant.ensures.whole c.requires.one_face c.remove_when_degenerate-value.ensures.leaves

@@ -23,14 +23,15 @@ legalize_pairs-requires-clause-sites g c =
     c.remove_vertex-value.result
     (subst (λ s. Removes at (points_and_constraints_by constraints s)
     (points_and_constraints_by constraints (state_of c.remove_vertex-value.new.dcel)) c.args.vertex) c.self.view_is
-    c.remove_vertex-value.ensures.plain)
+    c.remove_vertex-value.ensures.takes.plain)
     (g.P.PlaneTests.sites c.args.tests.now) c.requires.sites
 
 pub legalize_pairs-requires-clause-room : goal.legalize_pairs-requires-clause-room
 legalize_pairs-requires-clause-room g c =
     room_left g.V.HasPosition.place g.M.ConstraintMarker.constraints (state_of c.self.inside.dcel)
     (state_of c.remove_vertex-value.new.dcel) c.args.vertex c.remove_vertex-value.result
-    c.remove_vertex-value.ensures.plain _ _ _ c.num_vertices.ensures.value c.in_ok-reserve.ensures.ok
+    c.remove_vertex-value.ensures.takes.plain _ _ _ c.num_vertices.ensures.value
+    c.in_ok-reserve.ensures.ok
 
 pub returns-clause-plain : goal.returns-clause-plain
 returns-clause-plain g c =
@@ -39,17 +40,17 @@ returns-clause-plain g c =
     removed_on at constraints c.args.self.now c.remove_vertex-value.new.dcel c.legalize_pairs.new.dcel c.args.vertex
     (subst (λ s. Removes at (points_and_constraints_by constraints s)
     (points_and_constraints_by constraints (state_of c.remove_vertex-value.new.dcel)) c.args.vertex) c.self.view_is
-    c.remove_vertex-value.ensures.plain)
-    c.legalize_pairs.ensures.contents c.legalize_pairs.ensures.constraints
+    c.remove_vertex-value.ensures.takes.plain)
+    c.legalize_pairs.ensures.legalizes.contents c.legalize_pairs.ensures.legalizes.constraints
 
 pub returns-clause-data : goal.returns-clause-data
 returns-clause-data g c =
     legalized_keeps_others g.V.HasPosition.place c.args.self.now c.remove_vertex-value.new.dcel
     c.legalize_pairs.new.dcel c.args.vertex
     (subst (λ s. KeepsDataBeside s (state_of c.remove_vertex-value.new.dcel) c.args.vertex) c.self.view_is
-    c.remove_vertex-value.ensures.data)
-    c.remove_vertex-value.ensures.kept c.legalize_pairs.ensures.legal.kept c.legalize_pairs.ensures.contents
-    c.legalize_pairs.ensures.indexes
+    c.remove_vertex-value.ensures.takes.beside)
+    c.remove_vertex-value.ensures.takes.kept c.legalize_pairs.ensures.legalizes.legal.kept
+    c.legalize_pairs.ensures.legalizes.contents c.legalize_pairs.ensures.legalizes.indexes
 
 pub remove_vertex-value-requires-clause-free : goal.remove_vertex-value-requires-clause-free
 remove_vertex-value-requires-clause-free g c free =
@@ -66,9 +67,9 @@ legalize_pairs-requires-clause-passing g c =
     (ps ++ c.remove_vertex-value.new.lists.turned.items)))
     (sym {A = List (ℕ × ℕ)} c.as_slice.ensures.value)
     (passes_but at constraints (state_of c.self.inside.dcel) (state_of ds) c.args.vertex c.remove_vertex-value.result
-    c.self.invariant.legal c.remove_vertex-value.ensures.kept
-    c.remove_vertex-value.ensures.plain c.in_ok-border.border.items c.remove_vertex-value.new.lists.turned.items
-    c.remove_vertex-value.ensures.faces
+    c.self.invariant.legal c.remove_vertex-value.ensures.takes.kept
+    c.remove_vertex-value.ensures.takes.plain c.in_ok-border.border.items
+    c.remove_vertex-value.new.lists.turned.items c.remove_vertex-value.ensures.takes.faces
     (sides_settle at g.M.ConstraintMarker.marks constraints g.met.M.ConstraintMarker.constraints_are_marked
     (state_of c.self.inside.dcel) c.self.invariant.legal c.args.vertex c.in_ok-border.border.items
     c.in_ok-border.ensures))
@@ -82,7 +83,7 @@ legalize_pairs-requires-clause-room_among g c =
     let same = c.remove_vertex-value.ensures.capacity in
     room_left g.V.HasPosition.place g.M.ConstraintMarker.constraints (state_of c.self.inside.dcel)
     (state_of c.remove_vertex-value.new.dcel) c.args.vertex c.remove_vertex-value.result
-    c.remove_vertex-value.ensures.plain
+    c.remove_vertex-value.ensures.takes.plain
     (length c.self.inside.dcel.vertices) 0 (vec_capacity c.remove_vertex-value.new.lists.sides) refl
     (omega (arith, tested, same))
 
@@ -97,9 +98,9 @@ legalize_pairs-requires-clause-only g c free =
     (pairs_left (length ds.vertices) c.args.vertex (ps ++ c.remove_vertex-value.new.lists.turned.items)))
     (sym {A = List (ℕ × ℕ)} c.as_slice.ensures.value)
     (fails_only_at at constraints old (state_of ds) c.args.vertex c.remove_vertex-value.result c.self.invariant.legal
-    c.remove_vertex-value.ensures.kept
-    c.remove_vertex-value.ensures.plain border c.remove_vertex-value.new.lists.turned.items
-    c.remove_vertex-value.ensures.faces
+    c.remove_vertex-value.ensures.takes.kept
+    c.remove_vertex-value.ensures.takes.plain border c.remove_vertex-value.new.lists.turned.items
+    c.remove_vertex-value.ensures.takes.faces
     (sides_settle at g.M.ConstraintMarker.marks constraints g.met.M.ConstraintMarker.constraints_are_marked old
     c.self.invariant.legal c.args.vertex border c.in_ok-border.ensures)
     (free_circles at g.M.ConstraintMarker.marks constraints g.met.M.ConstraintMarker.constraints_are_marked old
@@ -112,11 +113,10 @@ overflow_sub-self g c =
     let marker = g.M.ConstraintMarker in
     some_removed at marker.marks marker.constraints g.met.M.ConstraintMarker.constraints_are_marked
     (state_of c.self.inside.dcel) (state_of c.legalize_pairs.new.dcel) c.self.inside.num_constraints c.self.invariant
-    c.legalize_pairs.ensures.legal c.args.vertex c.count_ending-ending.result
+    c.legalize_pairs.ensures.legalizes.legal c.args.vertex c.count_ending-ending.result
     (removed_on at marker.constraints (state_of c.self.inside.dcel) c.remove_vertex-value.new.dcel
-    c.legalize_pairs.new.dcel
-    c.args.vertex c.remove_vertex-value.ensures.plain c.legalize_pairs.ensures.contents
-    c.legalize_pairs.ensures.constraints)
+    c.legalize_pairs.new.dcel c.args.vertex c.remove_vertex-value.ensures.takes.plain
+    c.legalize_pairs.ensures.legalizes.contents c.legalize_pairs.ensures.legalizes.constraints)
     c.count_ending-ending.ensures
 
 pub invariant_of-self-4 : goal.invariant_of-self-4
@@ -125,9 +125,8 @@ invariant_of-self-4 g c =
     let marker = g.M.ConstraintMarker in
     counted_removed at marker.marks marker.constraints g.met.M.ConstraintMarker.constraints_are_marked
     (state_of c.self.inside.dcel) (state_of c.legalize_pairs.new.dcel) c.self.inside.num_constraints c.self.invariant
-    c.legalize_pairs.ensures.legal c.args.vertex c.count_ending-ending.result
+    c.legalize_pairs.ensures.legalizes.legal c.args.vertex c.count_ending-ending.result
     (removed_on at marker.constraints (state_of c.self.inside.dcel) c.remove_vertex-value.new.dcel
-    c.legalize_pairs.new.dcel
-    c.args.vertex c.remove_vertex-value.ensures.plain c.legalize_pairs.ensures.contents
-    c.legalize_pairs.ensures.constraints)
+    c.legalize_pairs.new.dcel c.args.vertex c.remove_vertex-value.ensures.takes.plain
+    c.legalize_pairs.ensures.legalizes.contents c.legalize_pairs.ensures.legalizes.constraints)
     c.count_ending-ending.ensures
