@@ -11,7 +11,8 @@ use Rattle.delaunay_removal.specs.Pairs.{LeavesFaces}
 -- the others have a triangulation where what is beside v keeps its data, and each side of a face
 -- that was not there is one of the pairs or lay opposite v
 pub record TakesVertexOut {V D U F : Type 0} (place : V → Point)
-    (plain_of : State V D U F → Plain V) (old new : State V D U F) (v : ℕ) (value_of : V) (pairs : List (ℕ × ℕ)) : Type 0 where
+    (plain_of : State V D U F → Plain V) (old new : State V D U F) (v : ℕ)
+    (value_of : V) (pairs : List (ℕ × ℕ)) : Type 0 where
   pub value : slice_get old.vertices v ≡ Some value_of
   pub plain : Removes place (plain_of old) (plain_of new) v
   pub kept : IsTriangulated place new
