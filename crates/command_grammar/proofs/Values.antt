@@ -1,5 +1,7 @@
 -- Numbers are read as they are spelled.
-use Rattle.std.proofs.Common.{◌≡◌, ℕ, Bool, true, false, ◌&&◌, ltb, leb, ℤ, pos, neg_ℤ, List, [], ◌∷◌, length, Option, Some, None, IfSome, IfNone, refl, sym, ap, arith, inl, inr, subst}
+use Rattle.std.proofs.Common.{◌≡◌, ◌&&◌, [], ◌∷◌}
+use Rattle.std.proofs.Common.{ℕ, Bool, true, false, ltb, leb, ℤ, pos, neg_ℤ, List, length, Option}
+use Rattle.std.proofs.Common.{Some, None, IfSome, IfNone, refl, sym, ap, arith, inl, inr, subst}
 use Rattle.std.proofs.lemmas.Bool.Decides.{eqb_tells}
 use Rattle.std.proofs.lemmas.Str.Parse.{digit_at}
 use Rattle.std.specs.Option.{option_map}
@@ -31,22 +33,32 @@ index_value-ok word n h =
 pub index_value-is : (word : List ℕ) (n : ℕ) → index_value word ≡ Some n → IsIndex word n
 unfolding index_value
 index_value-is word n e =
-    let c = cond_some (ltb 0 (length word) && leb (length word) 18 && all_ascii_digits word) (digits_value 10 word) n e in
+    let c = cond_some (ltb 0 (length word) && leb (length word) 18 && all_ascii_digits word)
+    (digits_value 10 word) n e in
     let p = and_parts (ltb 0 (length word) && leb (length word) 18) (all_ascii_digits word) c.0 in
     let q = and_parts (ltb 0 (length word)) (leb (length word) 18) p.0 in
-    record { some = grind (arith, nat_tests, q.0); few = grind (arith, nat_tests, q.1); digits = own.to word p.1; value = sym c.1 }
+    record {
+      some = grind (arith, nat_tests, q.0);
+      few = grind (arith, nat_tests, q.1);
+      digits = own.to word p.1;
+      value = sym c.1;
+    }
 
-same_option : {X : Type 0} (r o : Option X) → ((x : X) → r ≡ Some x → o ≡ Some x) → ((x : X) → o ≡ Some x → r ≡ Some x) → r ≡ o
+same_option : {X : Type 0} (r o : Option X) → ((x : X) → r ≡ Some x → o ≡ Some x)
+    → ((x : X) → o ≡ Some x → r ≡ Some x) → r ≡ o
 same_option None None f g = refl
 same_option None (Some y) f g = g y refl
 same_option (Some x) o f g = sym (f x refl)
 
 -- an answer that is the index a word writes, or none where it writes none, is what is read
-pub index_from : (word : List ℕ) (r : Option ℕ) → IfSome r (IsIndex word) → IfNone r ((n : ℕ) → IsIndex word n → ⊥) → r ≡ index_value word
-index_from word None some none = same_option None (index_value word) (λ x e. cc) (λ x e. absurd (none x (index_value-is word x e)))
+pub index_from : (word : List ℕ) (r : Option ℕ) → IfSome r (IsIndex word)
+    → IfNone r ((n : ℕ) → IsIndex word n → ⊥) → r ≡ index_value word
+index_from word None some none = same_option None (index_value word) (λ x e. cc)
+    (λ x e. absurd (none x (index_value-is word x e)))
 index_from word (Some n) some none = sym (index_value-ok word n some)
 
-map_some : {X Y : Type 0} (f : X → Y) (o : Option X) (y : Y) → option_map f o ≡ Some y → (x : X) × (o ≡ Some x) × (y ≡ f x)
+map_some : {X Y : Type 0} (f : X → Y) (o : Option X) (y : Y) → option_map f o ≡ Some y
+    → (x : X) × (o ≡ Some x) × (y ≡ f x)
 map_some f None y e = cc
 map_some f (Some x) y e = (x, refl, cc)
 
@@ -72,11 +84,15 @@ pub number_value-is : (word : List ℕ) (z : ℤ) → number_value word ≡ Some
 unfolding number_value
 number_value-is [] z e = cc
 number_value-is (c ∷ cs) z e = elim (eqb_tells c 45) [
-  | inl minus ↦ (let m = map_some (λ n. neg_ℤ (pos n)) (index_value cs) z (rw minus.0 at e) in inr (cs, m.0, ap (λ b. b ∷ cs) minus.1, index_value-is cs m.0 m.1, m.2))
-  | inr plain ↦ (let m = map_some pos (index_value (c ∷ cs)) z (rw plain.0 at e) in inl (m.0, index_value-is (c ∷ cs) m.0 m.1, m.2))
+  | inl minus ↦ (let m = map_some (λ n. neg_ℤ (pos n)) (index_value cs) z (rw minus.0 at e) in
+      inr (cs, m.0, ap (λ b. b ∷ cs) minus.1, index_value-is cs m.0 m.1, m.2))
+  | inr plain ↦ (let m = map_some pos (index_value (c ∷ cs)) z (rw plain.0 at e) in
+      inl (m.0, index_value-is (c ∷ cs) m.0 m.1, m.2))
 ]
 
 -- an answer that is the number a word writes, or none where it writes none, is what is read
-pub number_from : (word : List ℕ) (r : Option ℤ) → IfSome r (IsNumber word) → IfNone r ((z : ℤ) → IsNumber word z → ⊥) → r ≡ number_value word
-number_from word None some none = same_option None (number_value word) (λ x e. cc) (λ x e. absurd (none x (number_value-is word x e)))
+pub number_from : (word : List ℕ) (r : Option ℤ) → IfSome r (IsNumber word)
+    → IfNone r ((z : ℤ) → IsNumber word z → ⊥) → r ≡ number_value word
+number_from word None some none = same_option None (number_value word) (λ x e. cc)
+    (λ x e. absurd (none x (number_value-is word x e)))
 number_from word (Some z) some none = sym (number_value-ok word z some)

@@ -1,9 +1,12 @@
 -- How numbers and commands are spelled.
-use Rattle.std.specs.Prelude.{◌≡◌, ℕ, ◌<◌, ◌≤◌, ◌⊎◌, ◌==◌, ℤ, pos, neg_ℤ, List, [], ◌∷◌, length, codes}
+use Rattle.std.specs.Prelude.{◌≡◌, ◌<◌, ◌≤◌, ◌⊎◌, ◌==◌, [], ◌∷◌}
+use Rattle.std.specs.Prelude.{ℕ, ℤ, pos, neg_ℤ, List, length, codes}
 use Rattle.std.specs.List.{AllZip, slice_split}
 use Rattle.std.specs.Str.Parse.{AllDigits, digits_value}
 use Rattle.command_grammar.specs.declared.command.Command.{Command}
-use Rattle.command_grammar.specs.declared.command.Command.TheVariants.{Insert, Remove, Constrain, Release, Locate, Nearest, Line, Counts, Faces}
+use Rattle.command_grammar.specs.declared.command.Command.TheVariants.{Insert, Remove, Constrain}
+use Rattle.command_grammar.specs.declared.command.Command.TheVariants.{Release, Locate, Nearest}
+use Rattle.command_grammar.specs.declared.command.Command.TheVariants.{Line, Counts, Faces}
 
 -- the word is 1 to 18 digits, which write n
 pub record IsIndex (word : List ℕ) (n : ℕ) : Type 0 where
@@ -14,7 +17,8 @@ pub record IsIndex (word : List ℕ) (n : ℕ) : Type 0 where
 
 -- the word is an index, or byte 45, the minus, and an index
 abbrev pub IsNumber : List ℕ → ℤ → Type 0
-IsNumber word z = ((n : ℕ) × IsIndex word n × (z ≡ pos n)) ⊎ ((digits : List ℕ) × (n : ℕ) × (word ≡ 45 ∷ digits) × IsIndex digits n × (z ≡ neg_ℤ (pos n)))
+IsNumber word z = ((n : ℕ) × IsIndex word n × (z ≡ pos n))
+    ⊎ ((digits : List ℕ) × (n : ℕ) × (word ≡ 45 ∷ digits) × IsIndex digits n × (z ≡ neg_ℤ (pos n)))
 
 -- the parts of a line that single spaces, byte 32, stand between
 abbrev pub words_of : List ℕ → List (List ℕ)
@@ -22,7 +26,8 @@ words_of line = slice_split (λ b. b == 32) line
 
 -- the name, and then a word for each of the values
 abbrev pub Has : {X : Type 0} → (List ℕ → X → Type 0) → List ℕ → List X → List (List ℕ) → Type 0
-Has Spells name values words = (args : List (List ℕ)) × (words ≡ name ∷ args) × AllZip Spells args values
+Has Spells name values words =
+    (args : List (List ℕ)) × (words ≡ name ∷ args) × AllZip Spells args values
 
 -- the words spell the command
 abbrev pub AreWordsOf : Command → List (List ℕ) → Type 0
@@ -46,4 +51,5 @@ SpellsNone line = (command : Command) → ¬ Spells line command
 
 -- no line spells two different commands
 abbrev pub SpellsAtMostOne : Type 0
-SpellsAtMostOne = (line : List ℕ) (one other : Command) → Spells line one → Spells line other → one ≡ other
+SpellsAtMostOne = (line : List ℕ) (one other : Command) → Spells line one
+    → Spells line other → one ≡ other

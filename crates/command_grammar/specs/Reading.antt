@@ -1,11 +1,15 @@
 -- How the words of a line are read, from the front.
-use Rattle.std.specs.Prelude.{ℕ, ◌&&◌, ◌==◌, nat_lt, nat_le, if◌then◌else◌, ℤ, pos, neg_ℤ, List, [], ◌∷◌, length, drop, codes, Option, Some, None, option_and_then}
+use Rattle.std.specs.Prelude.{◌&&◌, ◌==◌, if◌then◌else◌, [], ◌∷◌}
+use Rattle.std.specs.Prelude.{ℕ, nat_lt, nat_le, ℤ, pos, neg_ℤ, List, length, drop, codes, Option}
+use Rattle.std.specs.Prelude.{Some, None, option_and_then}
 use Rattle.std.specs.Option.{option_map}
 use Rattle.std.specs.Str.{all_ascii_digits, bytes_eq}
 use Rattle.std.specs.Str.Parse.{digits_value}
 use Rattle.command_grammar.specs.declared.command.Coordinates.{Coordinates}
 use Rattle.command_grammar.specs.declared.command.Command.{Command}
-use Rattle.command_grammar.specs.declared.command.Command.TheVariants.{Insert, Remove, Constrain, Release, Locate, Nearest, Line, Counts, Faces}
+use Rattle.command_grammar.specs.declared.command.Command.TheVariants.{Insert, Remove, Constrain}
+use Rattle.command_grammar.specs.declared.command.Command.TheVariants.{Release, Locate, Nearest}
+use Rattle.command_grammar.specs.declared.command.Command.TheVariants.{Line, Counts, Faces}
 
 infixl 10 ◌>>=◌
 -- what f makes of a value, where there is one
@@ -14,12 +18,14 @@ o >>= f = option_and_then f o
 
 -- the number that a word writes, if the word is 1 to 18 digits
 unfoldable pub index_value : List ℕ → Option ℕ
-index_value word = if nat_lt 0 (length word) && nat_le (length word) 18 && all_ascii_digits word then Some (digits_value 10 word) else None
+index_value word = if nat_lt 0 (length word) && nat_le
+    (length word) 18 && all_ascii_digits word then Some (digits_value 10 word) else None
 
 -- the number that a word writes, if the word is an index, or byte 45, the minus, and an index
 unfoldable pub number_value : List ℕ → Option ℤ
 number_value [] = None
-number_value (c ∷ digits) = if c == 45 then option_map (λ n. neg_ℤ (pos n)) (index_value digits) else option_map pos (index_value (c ∷ digits))
+number_value (c ∷ digits) = if c == 45 then option_map (λ n. neg_ℤ (pos n))
+    (index_value digits) else option_map pos (index_value (c ∷ digits))
 
 -- of the first of the words
 abbrev pub first_index : List (List ℕ) → Option ℕ
@@ -66,7 +72,8 @@ command_named name args =
     (if bytes_eq name (codes "release") then (pair_of args >>= λ p. Some (Release p.0 p.1)) else
     (if bytes_eq name (codes "locate") then (coordinates_of args >>= λ p. Some (Locate p)) else
     (if bytes_eq name (codes "nearest") then (coordinates_of args >>= λ p. Some (Nearest p)) else
-    (if bytes_eq name (codes "line") then (coordinates_of args >>= λ p. coordinates_of (drop 2 args) >>= λ q. Some (Line p q)) else
+    (if bytes_eq name (codes "line") then (coordinates_of args >>= λ p. coordinates_of
+    (drop 2 args) >>= λ q. Some (Line p q)) else
     (if bytes_eq name (codes "counts") then Some Counts else
     (if bytes_eq name (codes "faces") then Some Faces else None))))))))
 

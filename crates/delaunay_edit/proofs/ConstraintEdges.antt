@@ -1,5 +1,6 @@
 -- How many edges are constraints, which vertices they join, and other data for which none is.
-use Rattle.std.proofs.Common.{◌≡◌, ℕ, zero, suc, ◌+◌, ◌*◌, ◌<◌, ◌≤◌, Bool, true, false, List, [], ◌∷◌, length, map}
+use Rattle.std.proofs.Common.{◌≡◌, ◌+◌, ◌*◌, ◌<◌, ◌≤◌, [], ◌∷◌}
+use Rattle.std.proofs.Common.{ℕ, zero, suc, Bool, true, false, List, length, map}
 use Rattle.std.proofs.Common.{refl, sym, ap, ◌∙◌, subst, arith, inl, inr}
 use Rattle.std.specs.Prelude.{Contains, Some, slice_get, if◌then◌else◌}
 use Rattle.std.specs.List.{AllZip}
@@ -16,7 +17,8 @@ use Rattle.mesh_embedding.proofs.MeshLegal.{own_indexes}
 use Rattle.mesh_embedding.proofs.WorkLists.{contains_map, contains_map_from}
 use Rattle.half_edge_mesh.specs.Contents.{Contents}
 use Rattle.half_edge_mesh.specs.Mapped.{IsMapped}
-use Rattle.delaunay_legalization.specs.Constraints.{marked_from, marked_edges, constraint_pairs, constraints_by}
+use Rattle.delaunay_legalization.specs.Constraints.{marked_from, marked_edges, constraint_pairs}
+use Rattle.delaunay_legalization.specs.Constraints.{constraints_by}
 use Rattle.delaunay_legalization.proofs.Constraints.{fixed_within}
 use Rattle.delaunay_legalization.specs.Shape.{IsTriangulated, IsDelaunayTriangulation}
 use Rattle.delaunay_legalization.specs.State.{State, state_of}
@@ -53,22 +55,25 @@ module _ {U : Type 0} (marks : U → Bool) where
   next_mark : (ds : List U) (k : ℕ) (d : U) → slice_get ds k ≡ Some d →
       marks_before marks ds (suc k) ≡ add_mark (marks d) (marks_before marks ds k)
   next_mark [] k d e = absurd (cc)
-  next_mark (x ∷ xs) zero d e = add_first xs (marks x) ∙ ap (λ (b : Bool). add_mark b 0) (ap marks (one_value x d e))
+  next_mark (x ∷ xs) zero d e =
+      add_first xs (marks x) ∙ ap (λ (b : Bool). add_mark b 0) (ap marks (one_value x d e))
   next_mark (x ∷ xs) (suc k) d e =
-      ap (add_mark (marks x)) (next_mark xs k d e) ∙ swap_marks (marks x) (marks d) (marks_before marks xs k)
+      ap (add_mark (marks x)) (next_mark xs k d e)
+      ∙ swap_marks (marks x) (marks d) (marks_before marks xs k)
 
   -- an edge with the mark is one more
-  pub marked_next : (ds : List U) (k : ℕ) (d : U) (n : ℕ) → n ≡ marks_before marks ds k → slice_get ds k ≡ Some d →
-      marks d ≡ true → n + 1 ≡ marks_before marks ds (k + 1)
+  pub marked_next : (ds : List U) (k : ℕ) (d : U) (n : ℕ) → n ≡ marks_before marks ds k
+      → slice_get ds k ≡ Some d → marks d ≡ true → n + 1 ≡ marks_before marks ds (k + 1)
   marked_next ds k d n is e t =
       let one : suc k ≡ k + 1 = omega arith in
       let two : n + 1 ≡ suc n = omega arith in
-      two ∙ ap suc is ∙ sym (next_mark ds k d e ∙ ap (λ (b : Bool). add_mark b (marks_before marks ds k)) t)
+      two ∙ ap suc is
+      ∙ sym (next_mark ds k d e ∙ ap (λ (b : Bool). add_mark b (marks_before marks ds k)) t)
       ∙ ap (marks_before marks ds) one
 
   -- an edge without it is none
-  pub free_next : (ds : List U) (k : ℕ) (d : U) (n : ℕ) → n ≡ marks_before marks ds k → slice_get ds k ≡ Some d →
-      marks d ≡ false → n ≡ marks_before marks ds (k + 1)
+  pub free_next : (ds : List U) (k : ℕ) (d : U) (n : ℕ) → n ≡ marks_before marks ds k
+      → slice_get ds k ≡ Some d → marks d ≡ false → n ≡ marks_before marks ds (k + 1)
   free_next ds k d n is e t =
       let one : suc k ≡ k + 1 = omega arith in
       is ∙ sym (next_mark ds k d e ∙ ap (λ (b : Bool). add_mark b (marks_before marks ds k)) t)
@@ -96,20 +101,24 @@ module _ {U : Type 0} (marks : U → Bool) where
   few_marks (d ∷ ds) zero = omega arith
   few_marks (d ∷ ds) (suc k) = few (marks d) (marks_before marks ds k) k (few_marks ds k)
 
-  module _ (constraints : List U → List ℕ) (marked : (ds : List U) → constraints ds ≡ marked_edges marks ds) (m : Mesh)
-      (ds : List U) where
+  module _ (constraints : List U → List ℕ) (marked : (ds : List U)
+      → constraints ds ≡ marked_edges marks ds) (m : Mesh) (ds : List U) where
     -- among all edges as many have the mark as there are pairs of constraints
-    pub count_of_fixed : (k : ℕ) → length ds ≤ k → marks_before marks ds k ≡ length (constraint_pairs constraints m ds)
+    pub count_of_fixed : (k : ℕ) → length ds ≤ k
+        → marks_before marks ds k ≡ length (constraint_pairs constraints m ds)
     count_of_fixed k h = all_marks 0 ds k h ∙ ap (λ (ks : List ℕ). length ks) (sym (marked ds))
         ∙ sym (length-map (constraints ds) (pair_at m))
 
     -- ---- which vertices they join
     -- the ends of an edge that is a constraint, in either order, are joined by one
-    pub joined_by : (a b k : ℕ) → Contains (constraints ds) k →
-        IsSamePair a b (origin m (2 * k)) (origin m (rev (2 * k))) → Joins (constraint_pairs constraints m ds) a b
-    joined_by a b k c (inl s) = inl (subst (λ (p : ℕ × ℕ). Contains (constraint_pairs constraints m ds) p)
+    pub joined_by : (a b k : ℕ) → Contains (constraints ds) k
+        → IsSamePair a b (origin m (2 * k)) (origin m (rev (2 * k)))
+        → Joins (constraint_pairs constraints m ds) a b
+    joined_by a b k c (inl s) =
+        inl (subst (λ (p : ℕ × ℕ). Contains (constraint_pairs constraints m ds) p)
         (λ i. (sym s.0 i, sym s.1 i)) (contains_map (pair_at m) (constraints ds) k c))
-    joined_by a b k c (inr s) = inr (subst (λ (p : ℕ × ℕ). Contains (constraint_pairs constraints m ds) p)
+    joined_by a b k c (inr s) =
+        inr (subst (λ (p : ℕ × ℕ). Contains (constraint_pairs constraints m ds) p)
         (λ i. (sym s.1 i, sym s.0 i)) (contains_map (pair_at m) (constraints ds) k c))
 
     -- two vertices that a constraint joins are the ends of an edge that is one
@@ -138,13 +147,14 @@ module _ {V D U F : Type 0} (place : V → Point) (marks : U → Bool) (constrai
       IsSamePair (origin s.mesh (2 * k)) (origin s.mesh (rev (2 * k))) (origin s.mesh (2 * l))
       (origin s.mesh (rev (2 * l))) → l ≡ k
   same_edge k l v w (inl e) =
-      let r = indexes (2 * k) (2 * l) (double k v) (double l w) (sym e.0, sym e.1) in omega (arith, r)
+      let r = indexes (2 * k) (2 * l) (double k v) (double l w) (sym e.0, sym e.1) in
+      omega (arith, r)
     where
       double : (j : ℕ) → j < length s.undirected → 2 * j < length s.mesh.half_edges
       double j h = let f = kept.fits.undirected_fit in omega (arith, f, h)
 
-      indexes : (g h : ℕ) → g < length s.mesh.half_edges → h < length s.mesh.half_edges → GoSameWay s.mesh g s.mesh h →
-          h ≡ g
+      indexes : (g h : ℕ) → g < length s.mesh.half_edges → h < length s.mesh.half_edges
+          → GoSameWay s.mesh g s.mesh h → h ≡ g
       indexes = (own_indexes (map place s.vertices) s.mesh kept.valid kept.shape).edges
   same_edge k l v w (inr e) =
       let r = indexes (2 * k) (rev (2 * l)) (double k v)
@@ -155,8 +165,8 @@ module _ {V D U F : Type 0} (place : V → Point) (marks : U → Bool) (constrai
       double : (j : ℕ) → j < length s.undirected → 2 * j < length s.mesh.half_edges
       double j h = let f = kept.fits.undirected_fit in omega (arith, f, h)
 
-      indexes : (g h : ℕ) → g < length s.mesh.half_edges → h < length s.mesh.half_edges → GoSameWay s.mesh g s.mesh h →
-          h ≡ g
+      indexes : (g h : ℕ) → g < length s.mesh.half_edges → h < length s.mesh.half_edges
+          → GoSameWay s.mesh g s.mesh h → h ≡ g
       indexes = (own_indexes (map place s.vertices) s.mesh kept.valid kept.shape).edges
 
       odd : (k l : ℕ) → rev (2 * l) ≡ 2 * k → l ≡ k
@@ -181,18 +191,20 @@ module _ {U T : Type 0} (R : U → T → Type 0) where
   as_many (u ∷ us) (t ∷ ts) h = ap suc (as_many us ts h.1)
 
   module _ (marks : T → Bool) (free : (u : U) (t : T) → R u t → marks t ≡ false) where
-    none_from : (first : ℕ) (us : List U) (ts : List T) → AllZip R us ts → marked_from marks first ts ≡ []
+    none_from : (first : ℕ) (us : List U) (ts : List T) → AllZip R us ts
+        → marked_from marks first ts ≡ []
     none_from first [] [] h = refl
     none_from first [] (t ∷ ts) h = absurd h
     none_from first (u ∷ us) [] h = absurd h
     none_from first (u ∷ us) (t ∷ ts) h =
-        ap (λ (b : Bool). if b then first ∷ marked_from marks (suc first) ts else marked_from marks (suc first) ts)
+        ap (λ (b : Bool). if b then first
+        ∷ marked_from marks (suc first) ts else marked_from marks (suc first) ts)
         (free u t h.0) ∙ none_from (suc first) us ts h.1
 
 -- without constraints before and after, the circle test holds as before
-module _ {V D U T F : Type 0} (place : V → Point) (R : U → T → Type 0) (constraints : List U → List ℕ)
-    (marks : T → Bool) (new_fixed : List T → List ℕ) (marked : (ts : List T) → new_fixed ts ≡ marked_edges marks ts)
-    (free : (u : U) (t : T) → R u t → marks t ≡ false)
+module _ {V D U T F : Type 0} (place : V → Point) (R : U → T → Type 0) (constraints : List U
+    → List ℕ) (marks : T → Bool) (new_fixed : List T → List ℕ) (marked : (ts : List T)
+    → new_fixed ts ≡ marked_edges marks ts) (free : (u : U) (t : T) → R u t → marks t ≡ false)
     (old : Contents V D U F) (new : Contents V D T F) (mapped : IsMapped R old new) where
   -- afterwards there are no constraints
   pub none_after : constraints_by new_fixed (state_of new) ≡ []
@@ -204,15 +216,18 @@ module _ {V D U T F : Type 0} (place : V → Point) (R : U → T → Type 0) (co
   other_data = record { each = mapped.each; rest = ap state_of mapped.rest }
 
   -- a Delaunay triangulation without constraints is one afterwards
-  pub legal_after : constraints_by constraints (state_of old) ≡ [] →
-      IsDelaunayTriangulation place constraints (state_of old) → IsDelaunayTriangulation place new_fixed (state_of new)
+  pub legal_after : constraints_by constraints (state_of old) ≡ []
+      → IsDelaunayTriangulation place constraints (state_of old)
+      → IsDelaunayTriangulation place new_fixed (state_of new)
   legal_after none legal = record {
     kept = kept_after;
     passing =
-        subst (λ (cs : List (ℕ × ℕ)). IsLocallyDelaunay (drawn (map place new.vertices) new.mesh) cs) (sym none_after)
+        subst (λ (cs : List (ℕ × ℕ)). IsLocallyDelaunay
+        (drawn (map place new.vertices) new.mesh) cs) (sym none_after)
         (subst (λ (t : State V D T F). IsLocallyDelaunay (drawn (map place t.vertices) t.mesh) [])
         (sym (ap state_of mapped.rest))
-        (subst (λ (cs : List (ℕ × ℕ)). IsLocallyDelaunay (drawn (map place old.vertices) old.mesh) cs) none
+        (subst (λ (cs : List (ℕ × ℕ)). IsLocallyDelaunay
+        (drawn (map place old.vertices) old.mesh) cs) none
         legal.passing));
   }
     where

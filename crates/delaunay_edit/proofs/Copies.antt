@@ -1,5 +1,6 @@
 -- A copy of a triangulation is one.
-use Rattle.std.proofs.Common.{◌≡◌, ◌∙◌, ℕ, suc, Bool, List, [], ◌∷◌, length, map, refl, sym, ap, subst}
+use Rattle.std.proofs.Common.{◌≡◌, ◌∙◌, [], ◌∷◌}
+use Rattle.std.proofs.Common.{ℕ, suc, Bool, List, length, map, refl, sym, ap, subst}
 use Rattle.std.specs.Prelude.{All}
 use Rattle.std.specs.List.{AllZip}
 use Rattle.std.proofs.lemmas.List.{length-map, get_or-map}
@@ -12,46 +13,52 @@ use Rattle.delaunay_legalization.specs.State.{State}
 use Rattle.delaunay_edit.specs.Counting.{IsCounted}
 use Rattle.delaunay_edit.specs.Storage.{IsCopy}
 
-same_length : {X : Type 0} (R : X → X → Type 0) (xs ys : List X) → AllZip R xs ys → length ys ≡ length xs
+same_length : {X : Type 0} (R : X → X → Type 0) (xs ys : List X) → AllZip R xs ys
+    → length ys ≡ length xs
 same_length R [] [] h = refl
 same_length R [] (y ∷ ys) h = absurd h
 same_length R (x ∷ xs) [] h = absurd h
 same_length R (x ∷ xs) (y ∷ ys) h = ap suc (same_length R xs ys h.1)
 
 -- what the function gives is the same of each
-pub same_image : {X Y : Type 0} (R : X → X → Type 0) (f : X → Y) → ((x y : X) → R x y → f y ≡ f x) → (xs ys : List X) →
-    AllZip R xs ys → map f ys ≡ map f xs
+pub same_image : {X Y : Type 0} (R : X → X → Type 0) (f : X → Y) → ((x y : X) → R x y → f y ≡ f x)
+    → (xs ys : List X) → AllZip R xs ys → map f ys ≡ map f xs
 same_image R f same [] [] h = refl
 same_image R f same [] (y ∷ ys) h = absurd h
 same_image R f same (x ∷ xs) [] h = absurd h
 same_image R f same (x ∷ xs) (y ∷ ys) h = rw (same x y h.0, same_image R f same xs ys h.1) refl
 
-same_marks : {U : Type 0} (R : U → U → Type 0) (marks : U → Bool) → ((d e : U) → R d e → marks e ≡ marks d) →
-    (first : ℕ) (xs ys : List U) → AllZip R xs ys → marked_from marks first ys ≡ marked_from marks first xs
+same_marks : {U : Type 0} (R : U → U → Type 0) (marks : U → Bool)
+    → ((d e : U) → R d e → marks e ≡ marks d) → (first : ℕ) (xs ys : List U) → AllZip R xs ys
+    → marked_from marks first ys ≡ marked_from marks first xs
 same_marks R marks same first [] [] h = refl
 same_marks R marks same first [] (y ∷ ys) h = absurd h
 same_marks R marks same first (x ∷ xs) [] h = absurd h
 same_marks R marks same first (x ∷ xs) (y ∷ ys) h =
     rw (same x y h.0, same_marks R marks same (suc first) xs ys h.1) refl
 
-in_range_by_places : {V : Type 0} (place : V → Point) (vs ws : List V) → map place ws ≡ map place vs →
-    All (λ v. InRange (place v)) vs → All (λ v. InRange (place v)) ws
+in_range_by_places : {V : Type 0} (place : V → Point) (vs ws : List V) → map place ws ≡ map place vs
+    → All (λ v. InRange (place v)) vs → All (λ v. InRange (place v)) ws
 in_range_by_places place vs ws same all = λ k d k-in.
-    let there = subst (λ (ps : List Point). All InRange ps) (sym same) (All-map InRange place vs all) k (place d)
+    let there = subst (λ (ps : List Point). All InRange ps) (sym same)
+    (All-map InRange place vs all) k (place d)
     (rw length-map k-in) in
     subst InRange (get_or-map place ws k d (place d) k-in) there
 
 module _ {V D U F : Type 0} (place : V → Point) (marks : U → Bool) (constraints : List U → List ℕ)
     (marked : (ds : List U) → constraints ds ≡ marked_edges marks ds) where
-  -- where copied vertices keep their places, and edges their marks, a copy is Delaunay as the first is
-  pub copy_is_one : (RV : V → V → Type 0) (RD : D → D → Type 0) (RU : U → U → Type 0) (RF : F → F → Type 0) →
-      ((v w : V) → RV v w → place w ≡ place v) → ((d e : U) → RU d e → marks e ≡ marks d) → (old new : State V D U F) →
-      IsCopy RV RD RU RF old new
-      → IsDelaunayTriangulation place constraints old → IsDelaunayTriangulation place constraints new
+  -- where copied vertices keep their places, and edges their marks, a copy is Delaunay as the first
+  -- is
+  pub copy_is_one : (RV : V → V → Type 0) (RD : D → D → Type 0) (RU : U → U → Type 0)
+      (RF : F → F → Type 0) → ((v w : V) → RV v w → place w ≡ place v)
+      → ((d e : U) → RU d e → marks e ≡ marks d) → (old new : State V D U F)
+      → IsCopy RV RD RU RF old new → IsDelaunayTriangulation place constraints old
+      → IsDelaunayTriangulation place constraints new
   copy_is_one RV RD RU RF places same old new copy whole =
       let at = same_image RV place places old.vertices new.vertices copy.vertices in
       let cs : constraints new.undirected ≡ constraints old.undirected = marked new.undirected
-      ∙ same_marks RU marks same 0 old.undirected new.undirected copy.undirected ∙ sym (marked old.undirected) in
+      ∙ same_marks RU marks same 0 old.undirected new.undirected copy.undirected
+      ∙ sym (marked old.undirected) in
       let vertices = same_length RV old.vertices new.vertices copy.vertices in
       let directed = same_length RD old.directed new.directed copy.directed in
       let undirected = same_length RU old.undirected new.undirected copy.undirected in
@@ -69,13 +76,15 @@ module _ {V D U F : Type 0} (place : V → Point) (marks : U → Bool) (constrai
       }
 
   -- and has as many constraints
-  pub copy_is_counted : (RV : V → V → Type 0) (RD : D → D → Type 0) (RU : U → U → Type 0) (RF : F → F → Type 0) →
-      ((v w : V) → RV v w → place w ≡ place v) → ((d e : U) → RU d e → marks e ≡ marks d) → (old new : State V D U F) →
-      IsCopy RV RD RU RF old new
-      → (number : ℕ) → IsCounted place constraints old number → IsCounted place constraints new number
+  pub copy_is_counted :
+      (RV : V → V → Type 0) (RD : D → D → Type 0) (RU : U → U → Type 0) (RF : F → F → Type 0)
+      → ((v w : V) → RV v w → place w ≡ place v) → ((d e : U) → RU d e → marks e ≡ marks d)
+      → (old new : State V D U F) → IsCopy RV RD RU RF old new → (number : ℕ)
+      → IsCounted place constraints old number → IsCounted place constraints new number
   copy_is_counted RV RD RU RF places same old new copy number was =
       let cs : constraints new.undirected ≡ constraints old.undirected = marked new.undirected
-      ∙ same_marks RU marks same 0 old.undirected new.undirected copy.undirected ∙ sym (marked old.undirected) in
+      ∙ same_marks RU marks same 0 old.undirected new.undirected copy.undirected
+      ∙ sym (marked old.undirected) in
       record {
         legal = copy_is_one RV RD RU RF places same old new copy was.legal;
         counted = rw (copy.mesh, cs) was.counted;

@@ -1,5 +1,6 @@
 -- The pieces of a path that are no constraints are counted, one after another.
-use Rattle.std.proofs.Common.{◌≡◌, ◌≢◌, ◌⊎◌, ◌↔◌, ℕ, suc, ◌+◌, ◌<◌, ◌≤◌, List, sym, subst, inl, inr, arith}
+use Rattle.std.proofs.Common.{◌≡◌, ◌≢◌, ◌⊎◌, ◌↔◌, ◌+◌, ◌<◌, ◌≤◌}
+use Rattle.std.proofs.Common.{ℕ, suc, List, sym, subst, inl, inr, arith}
 use Rattle.std.specs.Prelude.{All, nat_abs, pos}
 use Rattle.std.proofs.lemmas.Bool.{cases_eq}
 use Rattle.std.proofs.lemmas.List.Elements.{All-get_or}
@@ -17,10 +18,13 @@ use Rattle.delaunay_core.proofs.Projections.{along_bound}
 use Rattle.delaunay_edit.specs.Counting.{HasPairs, IsMissing}
 use Rattle.delaunay_edit.proofs.PairCounts.{has_pairs_as, no_pairs, one_more}
 
--- the vertices of the path, as far as the walk has come, and how many pieces that are missing it passed
-pub record IsWalking (points : List Point) (pairs : List (ℕ × ℕ)) (from to at count : ℕ) : Type 0 where
+-- the vertices of the path, as far as the walk has come, and how many pieces that are missing it
+-- passed
+pub record IsWalking (points : List Point) (pairs : List (ℕ × ℕ))
+    (from to at count : ℕ) : Type 0 where
   pub within : IsIndex points at
-  pub few : count + nat_abs (squared_way (point_of points at) (point_of points to)) ≤ 2305843009213693952
+  pub few : count + nat_abs (squared_way (point_of points at) (point_of points to))
+      ≤ 2305843009213693952
   pub total : (k : ℕ) → HasPairs (IsMissing points pairs at to) k →
       HasPairs (IsMissing points pairs from to) (count + k)
 
@@ -30,7 +34,8 @@ module _ (points : List Point) (distinct : ArePlacedApart points) (pairs : List 
   first_alone : (at next : ℕ) → IsIndex points at → at ≢ to → AreNextOn points at to at next →
       ¬ AreNextOn points next to at next
   first_alone at next within apart first again = elim (next_or_end next to) as (λ _. ⊥) [
-    | inl e ↦ path_ends points to distinct at next (subst (λ (k : ℕ). AreNextOn points k to at next) e again)
+    | inl e ↦ path_ends points to distinct at next
+        (subst (λ (k : ℕ). AreNextOn points k to at next) e again)
     | inr n ↦ (
         let down = path_shortens points at to next distinct within to_in apart first in
         let up = path_shortens points next to at distinct first.second_index to_in n (record {
@@ -40,7 +45,8 @@ module _ (points : List Point) (distinct : ArePlacedApart points) (pairs : List 
           first = again.second;
           second = again.first;
           none_between =
-              λ k i w. again.none_between k i (turned_within (place points next) (place points at) (place points k) w);
+              λ k i w. again.none_between k i
+              (turned_within (place points next) (place points at) (place points k) w);
         }) in
         omega (arith, down, up))
   ]
@@ -49,16 +55,20 @@ module _ (points : List Point) (distinct : ArePlacedApart points) (pairs : List 
       next_or_end m n = cases_eq m n
 
   -- a walk begins at the start, before the first piece, with the count 0
-  pub walk_begins : (from : ℕ) → IsIndex points from → All InRange points → IsWalking points pairs from to from 0
+  pub walk_begins : (from : ℕ) → IsIndex points from → All InRange points
+      → IsWalking points pairs from to from 0
   walk_begins from within in_range = record {
     within = within;
-    few = (let few = along_bound (point_of points from) (point_of points to) (point_of points to) (at_index from within)
+    few = (let few = along_bound (point_of points from) (point_of points to) (point_of points to)
+        (at_index from within)
         (at_index to to_in) (at_index to to_in) in omega (arith, few));
-    total = λ k has. subst (λ (n : ℕ). HasPairs (IsMissing points pairs from to) n) (omega arith) has;
+    total =
+        λ k has. subst (λ (n : ℕ). HasPairs (IsMissing points pairs from to) n) (omega arith) has;
   }
     where
       at_index : (k : ℕ) → IsIndex points k → InRange (point_of points k)
-      at_index k inside = All-get_or InRange points k (record { x = pos 0; y = pos 0 }) inside in_range
+      at_index k inside =
+          All-get_or InRange points k (record { x = pos 0; y = pos 0 }) inside in_range
 
   module _ (from at count : ℕ) (p : IsWalking points pairs from to at count) where
     -- at the end so many pieces of the path are missing
@@ -77,7 +87,8 @@ module _ (points : List Point) (distinct : ArePlacedApart points) (pairs : List 
       pub walk_has_room : count + 1 ≤ 2305843009213693952
       walk_has_room = let few = p.few in let falls = walk_shortens in omega (arith, few, falls)
 
-      pieces : (a b : ℕ) → AreNextOn points at to a b ↔ (IsSamePair a b at next ⊎ AreNextOn points next to a b)
+      pieces : (a b : ℕ) → AreNextOn points at to a b
+          ↔ (IsSamePair a b at next ⊎ AreNextOn points next to a b)
       pieces = path_goes_on points at to next distinct to_in apart first
 
       -- where the next piece is a pair of the list, the count stays
@@ -99,8 +110,10 @@ module _ (points : List Point) (distinct : ArePlacedApart points) (pairs : List 
       walk_goes_on missing = record {
         within = first.second_index;
         few = (let few = p.few in let falls = walk_shortens in omega (arith, few, falls));
-        total = λ k has. subst (λ (n : ℕ). HasPairs (IsMissing points pairs from to) n) (omega arith)
-            (p.total (suc k) (has_pairs_as (one_more has at next (λ m. first_alone at next p.within apart first m.0))
+        total =
+            λ k has. subst (λ (n : ℕ). HasPairs (IsMissing points pairs from to) n) (omega arith)
+            (p.total (suc k) (has_pairs_as
+            (one_more has at next (λ m. first_alone at next p.within apart first m.0))
             (λ a b. (
               (λ x. elim x [
                 | inl m ↦ ((pieces a b).1 (inr m.0), m.1)

@@ -1,5 +1,7 @@
--- One constraint becomes two where a vertex is strictly within it, and else there are as many as before.
-use Rattle.std.proofs.Common.{◌≡◌, ℕ, suc, Bool, List, length, map, refl, ap, inl, inr, arith, ◌+◌, ◌≤◌}
+-- One constraint becomes two where a vertex is strictly within it, and else there are as many as
+-- before.
+use Rattle.std.proofs.Common.{◌≡◌, ◌+◌, ◌≤◌}
+use Rattle.std.proofs.Common.{ℕ, suc, Bool, List, length, map, refl, ap, inl, inr, arith}
 use Rattle.half_edge_mesh.specs.Contents.{Contents}
 use Rattle.half_edge_mesh.specs.Mesh.{origin, rev}
 use Rattle.plane.specs.Fraction.{Point, whole}
@@ -12,7 +14,8 @@ use Rattle.plane_tiling.proofs.Locations.{each_point_has_one_location}
 use Rattle.mesh_embedding.specs.Drawn.{edges_of, faces_of, outer_of}
 use Rattle.mesh_embedding.proofs.OwnEdges.{own_edges}
 use Rattle.delaunay_insertion.specs.Constraints.{SplitsConstraints}
-use Rattle.delaunay_legalization.specs.Constraints.{constraints_by, marked_edges, points_and_constraints_by}
+use Rattle.delaunay_legalization.specs.Constraints.{constraints_by, marked_edges}
+use Rattle.delaunay_legalization.specs.Constraints.{points_and_constraints_by}
 use Rattle.delaunay_legalization.specs.Shape.{IsDelaunayTriangulation, IsTriangulated}
 use Rattle.delaunay_legalization.specs.State.{State, state_of, triangulation_of}
 use Rattle.delaunay_legalization.proofs.ConstraintEdges.{constraints_are_edges}
@@ -30,8 +33,8 @@ use Rattle.delaunay_edit.proofs.DifferentConstraints.{constraints_once}
 use Rattle.delaunay_edit.proofs.EditCounts.{free_number, split_number}
 
 -- a new vertex makes at most one constraint more
-pub few_split : {U : Type 0} (constraints : List U → List ℕ) (ds : List U) (answer : PositionInTriangulation) (n : ℕ)
-    → IsSplitCount constraints ds answer n → n ≤ 1
+pub few_split : {U : Type 0} (constraints : List U → List ℕ) (ds : List U)
+    (answer : PositionInTriangulation) (n : ℕ) → IsSplitCount constraints ds answer n → n ≤ 1
 few_split constraints ds answer n split = elim split [
   | inl x ↦ (let one = x.1 in omega (arith, one))
   | inr x ↦ (let none = x.1 in omega (arith, none))
@@ -49,9 +52,12 @@ module _ {V D U F : Type 0} (place : V → Point) (marks : U → Bool) (constrai
   abbrev CarriesNew : ℕ → ℕ → Type 0
   CarriesNew a b = Carries place (points_and_constraints_by constraints (state_of old)) value a b
 
-  one_location : (l m : Location) → IsLocation (triangulation_of place (state_of old)) (whole (place value)) l →
-      IsLocation (triangulation_of place (state_of old)) (whole (place value)) m → IsSameLocation l m
-  one_location = (each_point_has_one_location (map place old.vertices) (faces_of old.mesh) (outer_of old.mesh)
+  one_location : (l m : Location)
+      → IsLocation (triangulation_of place (state_of old)) (whole (place value)) l
+      → IsLocation (triangulation_of place (state_of old)) (whole (place value)) m
+      → IsSameLocation l m
+  one_location =
+      (each_point_has_one_location (map place old.vertices) (faces_of old.mesh) (outer_of old.mesh)
       (edges_of old.mesh) was.shape (own_edges old.mesh was.valid) (whole (place value))).1
 
   -- a constraint that carries the vertex is where it is
@@ -65,7 +71,8 @@ module _ {V D U F : Type 0} (place : V → Point) (marks : U → Bool) (constrai
 
   plain : IsPlain place (points_and_constraints_by constraints (state_of old))
   plain = plain_with_edges place (state_of old) was pairs
-      (constraints_are_edges marks constraints marked old.mesh old.undirected was.fits.undirected_fit was.valid)
+      (constraints_are_edges marks constraints marked old.mesh old.undirected
+      was.fits.undirected_fit was.valid)
 
   once_before : EachPairOnce pairs
   once_before = constraints_once place marks constraints marked (state_of old) was
@@ -73,58 +80,74 @@ module _ {V D U F : Type 0} (place : V → Point) (marks : U → Bool) (constrai
   once_after : EachPairOnce (constraints_by constraints new)
   once_after = constraints_once place marks constraints marked new now
 
-  none_carries : (answer : PositionInTriangulation) → Locates (map place old.vertices) old.mesh (place value) answer →
-      ¬ IsOnConstraint constraints old.undirected answer → (a b : ℕ) → Joins pairs a b → ¬ CarriesNew a b
+  none_carries : (answer : PositionInTriangulation)
+      → Locates (map place old.vertices) old.mesh (place value) answer
+      → ¬ IsOnConstraint constraints old.undirected answer → (a b : ℕ) → Joins pairs a b
+      → ¬ CarriesNew a b
   none_carries (OnVertex v) l off a b j w =
       one_location (on_edge a b) (location_of old.mesh (OnVertex v)) (carrier a b j w) l.location
   none_carries (OnEdge e) l off a b j w =
-      let same = one_location (on_edge a b) (location_of old.mesh (OnEdge e)) (carrier a b j w) l.location in
-      off ((edge_joins place marks constraints marked old was (origin old.mesh e) (origin old.mesh (rev e)) e l.handle
+      let same = one_location (on_edge a b) (location_of old.mesh (OnEdge e))
+      (carrier a b j w) l.location in
+      off ((edge_joins place marks constraints marked old was (origin old.mesh e)
+      (origin old.mesh (rev e)) e l.handle
       refl refl).1 (same_joined pairs (origin old.mesh e) (origin old.mesh (rev e)) a b same j))
   none_carries (OnFace f) l off a b j w =
       one_location (on_edge a b) (location_of old.mesh (OnFace f)) (carrier a b j w) l.location
   none_carries (OutsideOfConvexHull e) l off a b j w =
-      one_location (on_edge a b) (location_of old.mesh (OutsideOfConvexHull e)) (carrier a b j w) l.location
+      one_location (on_edge a b) (location_of old.mesh (OutsideOfConvexHull e))
+      (carrier a b j w) l.location
   none_carries NoTriangulation l off a b j w =
       one_location (on_edge a b) (location_of old.mesh NoTriangulation) (carrier a b j w) l.location
 
   -- where the place is not on a constraint, there are as many constraints as before
-  pub as_many : ¬ IsOnConstraint constraints old.undirected answer → length (constraints_by constraints new)
-      ≡ length pairs
+  pub as_many : ¬ IsOnConstraint constraints old.undirected answer
+      → length (constraints_by constraints new) ≡ length pairs
   as_many off = free_number place (points_and_constraints_by constraints (state_of old))
-      (points_and_constraints_by constraints new) once_before once_after value (length old.vertices) plain refl splits
+      (points_and_constraints_by constraints new) once_before once_after value
+      (length old.vertices) plain refl splits
       (none_carries answer located off)
 
-  split_at : (answer : PositionInTriangulation) → Locates (map place old.vertices) old.mesh (place value) answer →
-      IsOnConstraint constraints old.undirected answer → length (constraints_by constraints new) ≡ suc (length pairs)
+  split_at : (answer : PositionInTriangulation)
+      → Locates (map place old.vertices) old.mesh (place value) answer
+      → IsOnConstraint constraints old.undirected answer
+      → length (constraints_by constraints new) ≡ suc (length pairs)
   split_at (OnVertex v) l on = absurd on
   split_at (OnEdge e) l on =
       split_number place (points_and_constraints_by constraints (state_of old))
-      (points_and_constraints_by constraints new) once_before once_after value (length old.vertices) plain refl
+      (points_and_constraints_by constraints new) once_before once_after value
+      (length old.vertices) plain refl
       splits
       (origin old.mesh e) (origin old.mesh (rev e))
-      ((edge_joins place marks constraints marked old was (origin old.mesh e) (origin old.mesh (rev e)) e l.handle refl
+      ((edge_joins place marks constraints marked old was (origin old.mesh e)
+      (origin old.mesh (rev e)) e l.handle refl
       refl).0 on) l.location.1
-      (λ x y j w. one_location (location_of old.mesh (OnEdge e)) (on_edge x y) l.location (carrier x y j w))
+      (λ x y j w. one_location (location_of old.mesh (OnEdge e)) (on_edge x y) l.location
+      (carrier x y j w))
   split_at (OnFace f) l on = absurd on
   split_at (OutsideOfConvexHull e) l on = absurd on
   split_at NoTriangulation l on = absurd on
 
   -- where it is on one, there is one more
-  pub one_more_constraint : IsOnConstraint constraints old.undirected answer → length (constraints_by constraints new)
-      ≡ suc (length pairs)
+  pub one_more_constraint : IsOnConstraint constraints old.undirected answer
+      → length (constraints_by constraints new) ≡ suc (length pairs)
   one_more_constraint on = split_at answer located on
 
   -- the kept number afterwards, once edges are flipped
-  pub counted_split : (number n : ℕ) (last : State V D U F) → IsCounted place constraints (state_of old) number →
-      IsSplitCount constraints old.undirected answer n → IsDelaunayTriangulation place constraints last →
-      constraints_by constraints last ≡ constraints_by constraints new → IsCounted place constraints last (number + n)
+  pub counted_split : (number n : ℕ) (last : State V D U F)
+      → IsCounted place constraints (state_of old) number
+      → IsSplitCount constraints old.undirected answer n
+      → IsDelaunayTriangulation place constraints last → constraints_by constraints last
+      ≡ constraints_by constraints new → IsCounted place constraints last (number + n)
   counted_split number n last before split legal same = record {
     legal = legal;
     counted = elim split [
-      | inl x ↦ (let more = one_more_constraint x.0 in let one = x.1 in let counted = before.counted in
-          let flips = ap (λ (ps : List (ℕ × ℕ)). length ps) same in omega (arith, more, one, counted, flips))
+      | inl x ↦
+          (let more = one_more_constraint x.0 in let one = x.1 in let counted = before.counted in
+          let flips = ap (λ (ps : List (ℕ × ℕ)). length ps) same in
+          omega (arith, more, one, counted, flips))
       | inr x ↦ (let still = as_many x.0 in let none = x.1 in let counted = before.counted in
-          let flips = ap (λ (ps : List (ℕ × ℕ)). length ps) same in omega (arith, still, none, counted, flips))
+          let flips = ap (λ (ps : List (ℕ × ℕ)). length ps) same in
+          omega (arith, still, none, counted, flips))
     ];
   }

@@ -14,14 +14,21 @@ use Rattle.plane.specs.Plain.{IsPlain}
 use Rattle.mesh_embedding.specs.Drawn.{corners_of, pair_of, faces_of, edges_of, outer_of}
 use Rattle.mesh_embedding.proofs.EdgePairs.{no_joins}
 use Rattle.delaunay_location.specs.declared.position_in_triangulation.PositionInTriangulation.{PositionInTriangulation}
-use Rattle.delaunay_location.specs.declared.position_in_triangulation.PositionInTriangulation.TheVariants.{OnVertex, OnEdge, OnFace, OutsideOfConvexHull, NoTriangulation}
+use Rattle.delaunay_location.specs.declared.position_in_triangulation.PositionInTriangulation.TheVariants.{
+  OnVertex,
+  OnEdge,
+  OnFace,
+  OutsideOfConvexHull,
+  NoTriangulation,
+}
 use Rattle.delaunay_legalization.specs.State.{State, state_of, points_and_constraints}
 use Rattle.delaunay_legalization.specs.Shape.{IsTriangulated}
 use Rattle.delaunay_edit.specs.Location.{HasHandle}
 use Rattle.delaunay_edit.specs.Elements.{GivesElements, HasElement}
 use Rattle.delaunay_legalization.proofs.Shapes.{laid_out_distinct}
 
-module _ {V D U F : Type 0} (place : V → Point) (s : State V D U F) (kept : IsTriangulated place s) where
+module _ {V D U F : Type 0} (place : V → Point) (s : State V D U F)
+    (kept : IsTriangulated place s) where
   -- each undirected edge has its data
   pub count_of_edges : length s.undirected ≡ length (edges_of s.mesh)
   count_of_edges =
@@ -31,7 +38,8 @@ module _ {V D U F : Type 0} (place : V → Point) (s : State V D U F) (kept : Is
 
   -- each inner face has its data
   pub count_of_faces : length s.faces ≡ length (faces_of s.mesh)
-  count_of_faces = kept.fits.faces_fit ∙ sym (length-map s.mesh.face_edges (triangle_at s.mesh)) ∙ sym (length-map (triangles s.mesh) corners_of)
+  count_of_faces = kept.fits.faces_fit ∙ sym (length-map s.mesh.face_edges (triangle_at s.mesh))
+      ∙ sym (length-map (triangles s.mesh) corners_of)
 
   -- the positions differ
   pub plain_if_kept : IsPlain place (points_and_constraints s)
@@ -40,20 +48,29 @@ module _ {V D U F : Type 0} (place : V → Point) (s : State V D U F) (kept : Is
         let there : Point = record { x = pos 0; y = pos 0 } in
         let count = length-map s.vertices place in
         let i_in : i < length s.vertices = omega (arith, before, j_in) in
-        laid_out_distinct (map place s.vertices) (faces_of s.mesh) (outer_of s.mesh) kept.shape i j (omega (arith, i_in, count)) (omega (arith, j_in, count)) (λ same. absurd (omega (arith, before, same)))
-        (get_or-map place s.vertices i d there i_in ∙ e ∙ sym (get_or-map place s.vertices j d there j_in));
+        laid_out_distinct (map place s.vertices) (faces_of s.mesh) (outer_of s.mesh) kept.shape i j
+        (omega (arith, i_in, count)) (omega (arith, j_in, count))
+        (λ same. absurd (omega (arith, before, same)))
+        (get_or-map place s.vertices i d there i_in ∙ e
+        ∙ sym (get_or-map place s.vertices j d there j_in));
     pairs = λ i j h. absurd (no_joins i j h);
   }
 
   -- a handle of the mesh is one of the elements with data
-  pub element_if_handle : (answer : PositionInTriangulation) → HasHandle s.mesh answer → HasElement s answer
+  pub element_if_handle : (answer : PositionInTriangulation) → HasHandle s.mesh answer
+      → HasElement s answer
   element_if_handle (OnVertex v) h = let f = kept.fits.vertices_fit in omega (arith, h, f)
   element_if_handle (OnEdge e) h = let f = kept.fits.directed_fit in omega (arith, h, f)
-  element_if_handle (OnFace i) h = let f = kept.fits.faces_fit in (h.0, (let b = h.1 in omega (arith, b, f)))
-  element_if_handle (OutsideOfConvexHull e) h = let b = h.0 in let f = kept.fits.directed_fit in omega (arith, b, f)
+  element_if_handle (OnFace i) h =
+      let f = kept.fits.faces_fit in (h.0, (let b = h.1 in omega (arith, b, f)))
+  element_if_handle (OutsideOfConvexHull e) h =
+      let b = h.0 in let f = kept.fits.directed_fit in omega (arith, b, f)
   element_if_handle NoTriangulation h = tt
 
 -- all elements that a mesh gives are those of the triangulation that it holds
-pub gives_elements : {V D U F : Type 0} (s : State V D U F) (mesh : Bor (Contents V D U F)) (first n count : ℕ) (given : List (Bor (Contents V D U F) × ℕ))
-    → given ≡ each_in mesh (range_with_len first n) → state_of mesh.now ≡ s → n ≡ count → GivesElements s first count given
-gives_elements s mesh first n count given all same number = record { mesh = mesh; state = same; elements = all ∙ rw number refl }
+pub gives_elements : {V D U F : Type 0} (s : State V D U F) (mesh : Bor (Contents V D U F))
+    (first n count : ℕ) (given : List (Bor (Contents V D U F) × ℕ))
+    → given ≡ each_in mesh (range_with_len first n) → state_of mesh.now ≡ s → n ≡ count
+    → GivesElements s first count given
+gives_elements s mesh first n count given all same number =
+    record { mesh = mesh; state = same; elements = all ∙ rw number refl }

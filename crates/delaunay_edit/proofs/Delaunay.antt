@@ -1,11 +1,13 @@
 -- What follows for all circles where each edge between two faces passes.
-use Rattle.std.proofs.Common.{◌≡◌, ◌∙◌, ℕ, ◌<◌, Bool, List, [], length, map, sym, ap, subst, slice_set}
+use Rattle.std.proofs.Common.{◌≡◌, ◌∙◌, ◌<◌, []}
+use Rattle.std.proofs.Common.{ℕ, Bool, List, length, map, sym, ap, subst, slice_set}
 use Rattle.half_edge_mesh.specs.Mesh.{empty}
 use Rattle.half_edge_mesh.specs.Contents.{Contents, IsMeshWithData}
 use Rattle.plane.specs.Fraction.{Point}
 use Rattle.plane.specs.Tiling.{IsFace}
 use Rattle.plane.specs.Delaunay.{IsConstrainedDelaunay, IsLocallyDelaunay, IsStrictlyEmpty}
-use Rattle.plane_delaunay.proofs.Circles.EmptyCircles.{local_gives_constrained_delaunay, strictly_empty_is_face}
+use Rattle.plane_delaunay.proofs.Circles.EmptyCircles.{local_gives_constrained_delaunay}
+use Rattle.plane_delaunay.proofs.Circles.EmptyCircles.{strictly_empty_is_face}
 use Rattle.mesh_embedding.specs.Drawn.{drawn, faces_of}
 use Rattle.mesh_embedding.specs.Legal.{pairs_at}
 use Rattle.mesh_embedding.proofs.MeshLegal.{line_has_none}
@@ -18,30 +20,52 @@ use Rattle.delaunay_legalization.proofs.Shapes.{laid_out_tiles, kept_empty}
 use Rattle.delaunay_edit.proofs.Overwriting.{kept_overwritten, same_places}
 
 -- the marked edges are the constraints, whatever is marked
-pub marked_constrained_delaunay : {V D U F : Type 0} (place : V → Point) (marks : U → Bool) (constraints : List U → List ℕ) → ((ds : List U) → constraints ds ≡ marked_edges marks ds) → (s : State V D U F) → IsDelaunayTriangulation place constraints s → IsConstrainedDelaunay (triangulation_of place s) (constraints_by constraints s)
+pub marked_constrained_delaunay : {V D U F : Type 0} (place : V → Point) (marks : U → Bool)
+    (constraints : List U → List ℕ) → ((ds : List U) → constraints ds ≡ marked_edges marks ds)
+    → (s : State V D U F) → IsDelaunayTriangulation place constraints s
+    → IsConstrainedDelaunay (triangulation_of place s) (constraints_by constraints s)
 marked_constrained_delaunay place marks constraints marked s legal =
-    local_gives_constrained_delaunay (triangulation_of place s) (constraints_by constraints s) (laid_out_tiles (map place s.vertices) s.mesh legal.kept.valid legal.kept.shape)
-    (constraints_are_edges marks constraints marked s.mesh s.undirected legal.kept.fits.undirected_fit legal.kept.valid) legal.passing
+    local_gives_constrained_delaunay (triangulation_of place s) (constraints_by constraints s)
+    (laid_out_tiles (map place s.vertices) s.mesh legal.kept.valid legal.kept.shape)
+    (constraints_are_edges marks constraints marked s.mesh s.undirected
+    legal.kept.fits.undirected_fit legal.kept.valid) legal.passing
 
 -- without a constraint each strictly empty triple is a face
-pub empty_triple_is_face : {V D U F : Type 0} (place : V → Point) (constraints : List U → List ℕ) (s : State V D U F) → IsConstrainedDelaunay (triangulation_of place s) (constraints_by constraints s) → constraints_by constraints s ≡ [] → (i j k : ℕ) → IsStrictlyEmpty (triangulation_of place s) i j k → IsFace (triangulation_of place s) i j k
-empty_triple_is_face place constraints s all none = strictly_empty_is_face (triangulation_of place s) (subst (λ (cs : List (ℕ × ℕ)). IsConstrainedDelaunay (triangulation_of place s) cs) none all)
+pub empty_triple_is_face :
+    {V D U F : Type 0} (place : V → Point) (constraints : List U → List ℕ) (s : State V D U F)
+    → IsConstrainedDelaunay (triangulation_of place s) (constraints_by constraints s)
+    → constraints_by constraints s ≡ [] → (i j k : ℕ)
+    → IsStrictlyEmpty (triangulation_of place s) i j k → IsFace (triangulation_of place s) i j k
+empty_triple_is_face place constraints s all none =
+    strictly_empty_is_face (triangulation_of place s)
+    (subst (λ (cs : List (ℕ × ℕ)). IsConstrainedDelaunay (triangulation_of place s) cs) none all)
 
 -- without an edge none is a constraint
-pub none_without_edges : {V D U F : Type 0} (marks : U → Bool) (constraints : List U → List ℕ) → ((ds : List U) → constraints ds ≡ marked_edges marks ds) → (s : State V D U F) → s.undirected ≡ [] → constraints_by constraints s ≡ []
-none_without_edges marks constraints marked s none = ap (λ ds. pairs_at s.mesh (constraints ds)) none ∙ ap (λ ks. pairs_at s.mesh ks) (marked [])
+pub none_without_edges : {V D U F : Type 0} (marks : U → Bool) (constraints : List U → List ℕ)
+    → ((ds : List U) → constraints ds ≡ marked_edges marks ds) → (s : State V D U F)
+    → s.undirected ≡ [] → constraints_by constraints s ≡ []
+none_without_edges marks constraints marked s none =
+    ap (λ ds. pairs_at s.mesh (constraints ds)) none ∙ ap (λ ks. pairs_at s.mesh ks) (marked [])
 
--- ---- a mesh with nothing but the outer face, and a vertex that takes the place of one of its position
+-- ---- a mesh with nothing but the outer face, and a vertex that takes the place of one of its
+-- position
 -- a triangulation without vertices, edges and inner faces is Delaunay
-pub legal_empty : {V D U F : Type 0} (place : V → Point) (constraints : List U → List ℕ) (c : Contents V D U F) → c.mesh ≡ empty → c.vertices ≡ [] → c.undirected ≡ [] → c.faces ≡ [] → IsMeshWithData c → IsDelaunayTriangulation place constraints (state_of c)
+pub legal_empty : {V D U F : Type 0} (place : V → Point) (constraints : List U → List ℕ)
+    (c : Contents V D U F) → c.mesh ≡ empty → c.vertices ≡ [] → c.undirected ≡ [] → c.faces ≡ []
+    → IsMeshWithData c → IsDelaunayTriangulation place constraints (state_of c)
 legal_empty place constraints c mesh vertices undirected faces w = record {
   kept = kept_empty place c mesh vertices undirected faces w;
   passing = λ i j k n f. absurd (line_has_none c.mesh i j k (ap faces_of mesh) f);
 }
 
 -- a vertex overwritten at its own position leaves a Delaunay triangulation as it is
-pub legal_overwritten : {V D U F : Type 0} (at : V → Point) (constraints : List U → List ℕ) (c : Contents V D U F) (i : ℕ) (v : V) → IsDelaunayTriangulation at constraints (state_of c) → i < length c.vertices → point_at (map at c.vertices) i ≡ at v → IsDelaunayTriangulation at constraints (state_of (record c { vertices = slice_set c.vertices i v }))
+pub legal_overwritten : {V D U F : Type 0} (at : V → Point) (constraints : List U → List ℕ)
+    (c : Contents V D U F) (i : ℕ) (v : V) → IsDelaunayTriangulation at constraints (state_of c)
+    → i < length c.vertices → point_at (map at c.vertices) i ≡ at v → IsDelaunayTriangulation at
+    constraints (state_of (record c { vertices = slice_set c.vertices i v }))
 legal_overwritten at constraints c i v legal h e = record {
   kept = kept_overwritten at c i v legal.kept h e;
-  passing = subst (λ (ps : List Point). IsLocallyDelaunay (drawn ps c.mesh) (constraint_pairs constraints c.mesh c.undirected)) (sym (same_places at c.vertices i v e)) legal.passing;
+  passing = subst (λ (ps : List Point). IsLocallyDelaunay (drawn ps c.mesh)
+      (constraint_pairs constraints c.mesh c.undirected))
+      (sym (same_places at c.vertices i v e)) legal.passing;
 }

@@ -1,5 +1,6 @@
 -- The constraints of a triangulation are different pairs, and no more than its edges.
-use Rattle.std.proofs.Common.{◌≡◌, ◌≢◌, ℕ, suc, ◌<◌, ◌≤◌, Bool, true, false, List, [], ◌∷◌, length, sym, subst, arith}
+use Rattle.std.proofs.Common.{◌≡◌, ◌≢◌, ◌<◌, ◌≤◌, [], ◌∷◌}
+use Rattle.std.proofs.Common.{ℕ, suc, Bool, true, false, List, length, sym, subst, arith}
 use Rattle.std.specs.Prelude.{All, AllPairs, if◌then◌else◌, slice_index_or}
 use Rattle.std.proofs.lemmas.List.{length-map, get_or-map}
 use Rattle.std.proofs.lemmas.List.Elements.{All-cons, All-nil, All-contains_itself}
@@ -15,13 +16,16 @@ use Rattle.delaunay_edit.proofs.ConstraintEdges.{count_of_fixed, few_marks, same
 
 -- ---- each edge is marked once
 module _ {U : Type 0} (marks : U → Bool) where
-  any_all : (P : ℕ → Type 0) (b : Bool) (k : ℕ) (ks : List ℕ) → P k → All P ks → All P (if b then k ∷ ks else ks)
+  any_all : (P : ℕ → Type 0) (b : Bool) (k : ℕ) (ks : List ℕ) → P k → All P ks
+      → All P (if b then k ∷ ks else ks)
   any_all P true k ks here rest = All-cons P k ks here rest
   any_all P false k ks here rest = rest
 
-  all_after : (n first : ℕ) (ds : List U) → n < first → All (λ k. n ≢ k) (marked_from marks first ds)
+  all_after : (n first : ℕ) (ds : List U) → n < first
+      → All (λ k. n ≢ k) (marked_from marks first ds)
   all_after n first [] less = All-nil (λ k. n ≢ k)
-  all_after n first (d ∷ ds) less = any_all (λ k. n ≢ k) (marks d) first (marked_from marks (suc first) ds)
+  all_after n first (d ∷ ds) less =
+      any_all (λ k. n ≢ k) (marks d) first (marked_from marks (suc first) ds)
       (λ e. absurd (omega (arith, e, less))) (all_after n (suc first) ds (omega (arith, less)))
 
   any_pairs : (b : Bool) (k : ℕ) (ks : List ℕ) → All (λ j. k ≢ j) ks → AllPairs (λ i j. i ≢ j) ks →
@@ -42,17 +46,19 @@ module _ {V D U F : Type 0} (place : V → Point) (marks : U → Bool) (constrai
 
   edges_once : AllPairs (λ i j. i ≢ j) edges
   edges_once =
-      subst (λ (ks : List ℕ). AllPairs (λ i j. i ≢ j) ks) (sym (marked s.undirected)) (marked_once marks 0 s.undirected)
+      subst (λ (ks : List ℕ). AllPairs (λ i j. i ≢ j) ks) (sym (marked s.undirected))
+      (marked_once marks 0 s.undirected)
 
-  apart_at : (i j : ℕ) → i < j → j < length edges →
-      ¬ IsSamePair (pair_at s.mesh (slice_index_or edges i 0)).0 (pair_at s.mesh (slice_index_or edges i 0)).1
+  apart_at : (i j : ℕ) → i < j → j < length edges → ¬ IsSamePair
+      (pair_at s.mesh (slice_index_or edges i 0)).0 (pair_at s.mesh (slice_index_or edges i 0)).1
       (pair_at s.mesh (slice_index_or edges j 0)).0 (pair_at s.mesh (slice_index_or edges j 0)).1
   apart_at i j less within same =
       let first = fixed_within marks constraints marked s.undirected (slice_index_or edges i 0)
       (All-contains_itself edges i 0 (omega (arith, less, within))) in
       let second = fixed_within marks constraints marked s.undirected (slice_index_or edges j 0)
       (All-contains_itself edges j 0 within) in
-      edges_once i j 0 less within (sym (same_edge place marks constraints marked s kept (slice_index_or edges i 0)
+      edges_once i j 0 less within
+      (sym (same_edge place marks constraints marked s kept (slice_index_or edges i 0)
       (slice_index_or edges j 0) first second same))
 
   -- no two constraints join the same vertices
@@ -62,7 +68,8 @@ module _ {V D U F : Type 0} (place : V → Point) (marks : U → Bool) (constrai
       let before : i < length edges = omega (arith, less, inside) in
       let one = get_or-map (pair_at s.mesh) edges i 0 d before in
       let two = get_or-map (pair_at s.mesh) edges j 0 d inside in
-      subst (λ (p : (ℕ × ℕ) × (ℕ × ℕ)). ¬ IsSamePair p.0.0 p.0.1 p.1.0 p.1.1) (λ k. (sym one k, sym two k))
+      subst (λ (p : (ℕ × ℕ) × (ℕ × ℕ)). ¬ IsSamePair p.0.0 p.0.1 p.1.0 p.1.1)
+      (λ k. (sym one k, sym two k))
       (apart_at i j less inside)
 
   -- and there are no more than edges

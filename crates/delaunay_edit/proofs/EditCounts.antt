@@ -1,12 +1,14 @@
 -- How many constraints there are after an edit of a plain state.
-use Rattle.std.proofs.Common.{◌≡◌, ◌≢◌, ◌⊎◌, ◌↔◌, ℕ, suc, ◌+◌, ◌-◌, ◌<◌, Bool, length, refl, sym, ap, ◌∙◌, subst, inl}
+use Rattle.std.proofs.Common.{◌≡◌, ◌≢◌, ◌⊎◌, ◌↔◌, ◌+◌, ◌-◌, ◌<◌, ◌∙◌}
+use Rattle.std.proofs.Common.{ℕ, suc, Bool, length, refl, sym, ap, subst, inl}
 use Rattle.std.proofs.Common.{inr, arith}
 use Rattle.std.specs.Prelude.{nat_eq, cond}
 use Rattle.std.proofs.lemmas.Bool.{cases_eq}
 use Rattle.std.proofs.lemmas.Bool.Decides.{eqb_tells}
 use Rattle.plane.specs.Fraction.{Point, whole}
 use Rattle.plane.specs.Pairs.{Joins, IsSamePair, EachPairOnce, place}
-use Rattle.plane.specs.Plain.{Plain, Adds, AreNeighboursOn, Carries, IsHalf, IsPlain, Releases, Removes, points_of}
+use Rattle.plane.specs.Plain.{Plain, Adds, AreNeighboursOn, Carries, IsHalf, IsPlain, Releases}
+use Rattle.plane.specs.Plain.{Removes, points_of}
 use Rattle.plane.proofs.Indexes.{pair_turned, same_joined}
 use Rattle.plane_tiling.proofs.Edges.{turned_within}
 use Rattle.plane_edits.proofs.Legalization.Flipping.{joins_or_not}
@@ -14,21 +16,26 @@ use Rattle.delaunay_paths.proofs.Releasing.{same_pair_or_not}
 use Rattle.delaunay_edit.specs.Counting.{EndsAt, HasPairs}
 use Rattle.delaunay_edit.proofs.PairCounts.{same_number, listed_pairs, one_more, both, renamed}
 
-module _ {V : Type 0} (position : V → Point) (old new : Plain V) (was : EachPairOnce old.constraints)
-    (now : EachPairOnce new.constraints) where
+module _ {V : Type 0} (position : V → Point) (old new : Plain V)
+    (was : EachPairOnce old.constraints) (now : EachPairOnce new.constraints) where
   -- a constraint that is released is one fewer
   pub released_number : (i j : ℕ) → Releases position old new i j →
       length old.constraints ≡ suc (length new.constraints)
   released_number i j r = same_number (listed_pairs old.constraints was)
-      (one_more (listed_pairs new.constraints now) i j (λ h. ((r.constraints i j).0 h).1 (inl (refl, refl)))) (λ a b. (
-        (λ h. elim (same_pair_or_not a b i j) [ inl s ↦ inr s | inr n ↦ inl ((r.constraints a b).1 (h, n)) ]),
-        (λ x. elim x [ inl h ↦ ((r.constraints a b).0 h).0 | inr s ↦ same_joined old.constraints a b i j s r.there ]),
+      (one_more (listed_pairs new.constraints now) i j
+      (λ h. ((r.constraints i j).0 h).1 (inl (refl, refl)))) (λ a b. (
+        (λ h. elim (same_pair_or_not a b i j)
+            [ inl s ↦ inr s | inr n ↦ inl ((r.constraints a b).1 (h, n)) ]),
+        (λ x. elim x [
+          | inl h ↦ ((r.constraints a b).0 h).0
+          | inr s ↦ same_joined old.constraints a b i j s r.there
+        ]),
       ))
 
   -- each piece of a path that was none is one more
-  pub added_number : (i j k : ℕ) → Adds position old new i j →
-      HasPairs (λ a b. AreNeighboursOn position (points_of position old) i j a b × ¬ Joins old.constraints a b) k →
-      length new.constraints ≡ k + length old.constraints
+  pub added_number : (i j k : ℕ) → Adds position old new i j
+      → HasPairs (λ a b. AreNeighboursOn position (points_of position old) i j a b
+      × ¬ Joins old.constraints a b) k → length new.constraints ≡ k + length old.constraints
   added_number i j k adds missing = same_number (listed_pairs new.constraints now)
       (both (listed_pairs old.constraints was) missing (λ a b m. m.1)) (λ a b. (
         (λ h. elim ((adds.constraints a b).0 h) [
@@ -56,14 +63,17 @@ module _ {V : Type 0} (position : V → Point) (old new : Plain V) (was : EachPa
     now_below : (a b : ℕ) → Joins new.constraints a b → (a < last) × (b < last)
     now_below a b h = let r = (removes.constraints a b).0 h in (r.0, r.1)
 
-    keeps : (a b c d : ℕ) → Joins new.constraints a b → Joins new.constraints c d → former a ≡ former c → a ≡ c
-    keeps a b c d h k e = go (former_cases a) (former_cases c) (now_below a b h).0 (now_below c d k).0
+    keeps : (a b c d : ℕ) → Joins new.constraints a b → Joins new.constraints c d
+        → former a ≡ former c → a ≡ c
+    keeps a b c d h k e =
+        go (former_cases a) (former_cases c) (now_below a b h).0 (now_below c d k).0
       where
         below : (x y : ℕ) → x ≡ y → y < x → ⊥
         below x y s m = omega (arith, s, m)
 
-        go : ((a ≡ v) × (former a ≡ last)) ⊎ ((a ≢ v) × (former a ≡ a)) → ((c ≡ v) × (former c ≡ last)) ⊎
-            ((c ≢ v) × (former c ≡ c)) → a < last → c < last → a ≡ c
+        go : ((a ≡ v) × (former a ≡ last)) ⊎ ((a ≢ v) × (former a ≡ a))
+            → ((c ≡ v) × (former c ≡ last)) ⊎ ((c ≢ v) × (former c ≡ c)) → a < last
+            → c < last → a ≡ c
         go (inl p) (inl q) l m = p.0 ∙ sym q.0
         go (inl p) (inr q) l m = absurd (below last c (sym p.1 ∙ e ∙ q.1) m)
         go (inr p) (inl q) l m = absurd (below last a (sym q.1 ∙ sym e ∙ p.1) l)
@@ -106,7 +116,8 @@ module _ {V : Type 0} (position : V → Point) (old new : Plain V) (was : EachPa
     stays_apart : (a b : ℕ) → Joins old.constraints a b × ((a ≡ v) ⊎ (b ≡ v)) → ¬ Stays a b
     stays_apart a b e s = go e.1 s.3 (now_below s.0 s.1 s.2)
       where
-        go : (a ≡ v) ⊎ (b ≡ v) → IsSamePair a b (former s.0) (former s.1) → (s.0 < last) × (s.1 < last) → ⊥
+        go : (a ≡ v) ⊎ (b ≡ v) → IsSamePair a b (former s.0) (former s.1)
+            → (s.0 < last) × (s.1 < last) → ⊥
         go (inl p) (inl q) l = not_there s.0 l.0 (sym q.0 ∙ p)
         go (inl p) (inr q) l = not_there s.1 l.1 (sym q.0 ∙ p)
         go (inr p) (inl q) l = not_there s.1 l.1 (sym q.1 ∙ p)
@@ -114,7 +125,8 @@ module _ {V : Type 0} (position : V → Point) (old new : Plain V) (was : EachPa
 
     was_joined : (a b : ℕ) → Stays a b → Joins old.constraints a b
     was_joined a b s =
-        same_joined old.constraints a b (former s.0) (former s.1) s.3 ((removes.constraints s.0 s.1).0 s.2).2
+        same_joined old.constraints a b (former s.0) (former s.1) s.3
+        ((removes.constraints s.0 s.1).0 s.2).2
 
     stays_or_ends : (a b : ℕ) → Joins old.constraints a b →
         Stays a b ⊎ (Joins old.constraints a b × ((a ≡ v) ⊎ (b ≡ v)))
@@ -123,16 +135,22 @@ module _ {V : Type 0} (position : V → Point) (old new : Plain V) (was : EachPa
         ends : (a < length old.vertices) × (b < length old.vertices) × (a ≢ b)
         ends = plain.pairs a b h
 
-        found : (x : ℕ) × (x < last) × (former x ≡ a) → (x : ℕ) × (x < last) × (former x ≡ b) → Stays a b
+        found : (x : ℕ) × (x < last) × (former x ≡ a)
+            → (x : ℕ) × (x < last) × (former x ≡ b) → Stays a b
         found p q = (
           p.0,
           q.0,
-          (removes.constraints p.0 q.0).1
-              (p.1, q.1, subst (λ (z : ℕ × ℕ). Joins old.constraints z.0 z.1) (λ i. (sym p.2 i, sym q.2 i)) h),
+          (removes.constraints p.0 q.0).1 (
+            p.1,
+            q.1,
+            subst (λ (z : ℕ × ℕ). Joins old.constraints z.0 z.1)
+                (λ i. (sym p.2 i, sym q.2 i)) h,
+          ),
           inl (sym p.2, sym q.2),
         )
 
-        go : (a ≡ v) ⊎ (a ≢ v) → (b ≡ v) ⊎ (b ≢ v) → Stays a b ⊎ (Joins old.constraints a b × ((a ≡ v) ⊎ (b ≡ v)))
+        go : (a ≡ v) ⊎ (a ≢ v) → (b ≡ v) ⊎ (b ≢ v)
+            → Stays a b ⊎ (Joins old.constraints a b × ((a ≡ v) ⊎ (b ≡ v)))
         go (inl p) q = inr (h, inl p)
         go (inr p) (inl q) = inr (h, inr q)
         go (inr p) (inr q) = inl (found (index_now a ends.0 p) (index_now b ends.1 q))
@@ -153,28 +171,33 @@ module _ {V : Type 0} (position : V → Point) (old new : Plain V) (was : EachPa
     -- within no constraint
     pub free_number : ((a b : ℕ) → Joins old.constraints a b → ¬ Carries position old value a b) →
         length new.constraints ≡ length old.constraints
-    free_number none = same_number (listed_pairs new.constraints now) (listed_pairs old.constraints was) (λ a b. (
-      (λ h. elim ((splits a b).0 h) [
-        | inl x ↦ x.0
-        | inr x ↦ elim x [
-          | inl half ↦ absurd (none a half.1.0 half.1.1 half.1.2)
-          | inr half ↦ absurd (none b half.1.0 half.1.1 half.1.2)
-        ]
-      ]),
-      (λ h. (splits a b).1 (inl (h, none a b h))),
-    ))
+    free_number none =
+        same_number (listed_pairs new.constraints now) (listed_pairs old.constraints was) (λ a b. (
+          (λ h. elim ((splits a b).0 h) [
+            | inl x ↦ x.0
+            | inr x ↦ elim x [
+              | inl half ↦ absurd (none a half.1.0 half.1.1 half.1.2)
+              | inr half ↦ absurd (none b half.1.0 half.1.1 half.1.2)
+            ]
+          ]),
+          (λ h. (splits a b).1 (inl (h, none a b h))),
+        ))
 
     -- or strictly within one
-    module _ (a b : ℕ) (joined : Joins old.constraints a b) (carries : Carries position old value a b)
-        (only : (x y : ℕ) → Joins old.constraints x y → Carries position old value x y → IsSamePair x y a b) where
+    module _ (a b : ℕ) (joined : Joins old.constraints a b)
+        (carries : Carries position old value a b) (only : (x y : ℕ) → Joins old.constraints x y
+        → Carries position old value x y → IsSamePair x y a b) where
       turned_carries : (x y : ℕ) → Carries position old value x y → Carries position old value y x
       turned_carries x y c =
-          turned_within (place (points_of position old) x) (place (points_of position old) y) (whole (position value)) c
+          turned_within (place (points_of position old) x) (place (points_of position old) y)
+          (whole (position value)) c
 
       carries_as : (x y : ℕ) → IsSamePair x y a b → Carries position old value x y
       carries_as x y (inl s) =
-          subst (λ (q : ℕ × ℕ). Carries position old value q.0 q.1) (λ i. (sym s.0 i, sym s.1 i)) carries
-      carries_as x y (inr s) = subst (λ (q : ℕ × ℕ). Carries position old value q.0 q.1) (λ i. (sym s.0 i, sym s.1 i))
+          subst (λ (q : ℕ × ℕ). Carries position old value q.0 q.1)
+          (λ i. (sym s.0 i, sym s.1 i)) carries
+      carries_as x y (inr s) =
+          subst (λ (q : ℕ × ℕ). Carries position old value q.0 q.1) (λ i. (sym s.0 i, sym s.1 i))
           (turned_carries a b carries)
 
       not_last : (x y : ℕ) → Joins old.constraints x y → (x ≢ n) × (y ≢ n)
@@ -204,7 +227,8 @@ module _ {V : Type 0} (position : V → Point) (old new : Plain V) (was : EachPa
       Halves x y = (Joins old.constraints x y ⊎ IsSamePair x y a n) ⊎ IsSamePair x y b n
 
       half : (x y : ℕ) → IsHalf position old value n x y → IsSamePair x y a n ⊎ IsSamePair x y b n
-      half x y h = elim (only x h.1.0 h.1.1 h.1.2) [ inl s ↦ inl (inl (s.0, h.0)) | inr s ↦ inr (inl (s.0, h.0)) ]
+      half x y h = elim
+          (only x h.1.0 h.1.1 h.1.2) [ inl s ↦ inl (inl (s.0, h.0)) | inr s ↦ inr (inl (s.0, h.0)) ]
 
       placed : (x y : ℕ) → IsSamePair x y a n ⊎ IsSamePair x y b n → Halves x y
       placed x y (inl s) = inl (inr s)

@@ -1,5 +1,6 @@
 -- Paths of constraints that are added to a triangulation, and constraints that are released.
-use Rattle.std.proofs.Common.{◌≡◌, ◌≢◌, ◌⊎◌, ℕ, ◌*◌, ◌<◌, Bool, true, false, List, [], length, map, refl, sym, ap}
+use Rattle.std.proofs.Common.{◌≡◌, ◌≢◌, ◌⊎◌, ◌*◌, ◌<◌, []}
+use Rattle.std.proofs.Common.{ℕ, Bool, true, false, List, length, map, refl, sym, ap}
 use Rattle.std.proofs.Common.{subst, inl, inr}
 use Rattle.std.specs.Prelude.{Contains, Result, Ok}
 use Rattle.half_edge_mesh.specs.Contents.{Contents}
@@ -15,7 +16,8 @@ use Rattle.delaunay_legalization.proofs.Questions.{both_ways}
 use Rattle.delaunay_paths.specs.PathEdges.{AreJoinedAlong, HasPath, LeadAlong}
 use Rattle.delaunay_paths.specs.Releasing.{AddsConstraints, ReleasesEdge}
 use Rattle.delaunay_edit.specs.Constrained.{constrained, constraint_edges, constraints_of}
-use Rattle.delaunay_edit.specs.ConstraintEdits.{AddsConstraint, AddsPathIfFree, FreesEdge, MarksEdges}
+use Rattle.delaunay_edit.specs.ConstraintEdits.{AddsConstraint, AddsPathIfFree, FreesEdge}
+use Rattle.delaunay_edit.specs.ConstraintEdits.{MarksEdges}
 use Rattle.delaunay_edit.specs.ConstraintEdits.{ReleasesConstraint}
 use Rattle.delaunay_edit.specs.Headline.{IsDelaunay}
 
@@ -51,9 +53,10 @@ module _ {V D U F : Type 0} (place : V → Point) where
     unmarked = record { rest = refl; each = λ k d is. inl is }
 
     -- where each piece of the path is a constraint, nothing changes
-    pub nothing_added : {E : Type 0} (from to : ℕ) (result : Result Bool E) → result ≡ Ok false →
-        from < length s.vertices → to < length s.vertices → CanAdd place (constrained s) from to →
-        AreJoinedAlong (map place s.vertices) (constraints_of s) from to → AddsConstraint place from to result s s
+    pub nothing_added : {E : Type 0} (from to : ℕ) (result : Result Bool E) → result ≡ Ok false
+        → from < length s.vertices → to < length s.vertices → CanAdd place (constrained s) from to
+        → AreJoinedAlong (map place s.vertices) (constraints_of s) from to
+        → AddsConstraint place from to result s s
     nothing_added {E} from to result is hi hj free all =
         subst (λ (r : Result Bool E). AddsConstraint place from to r s s) (sym is) (record {
           plain = record {
@@ -68,7 +71,10 @@ module _ {V D U F : Type 0} (place : V → Point) where
               ]),
             );
           };
-          told = ((λ t. absurd (both_ways false t refl)), (λ differ. absurd (differ (λ a b. ((λ x. x), (λ x. x))))));
+          told = (
+            (λ t. absurd (both_ways false t refl)),
+            (λ differ. absurd (differ (λ a b. ((λ x. x), (λ x. x))))),
+          );
           «data» = unmarked;
           err = tt;
         })
@@ -80,12 +86,13 @@ module _ {V D U F : Type 0} (place : V → Point) where
     pub pairs_differ : ¬ AreJoinedAlong (map place old.vertices) (constraints_of old) from to →
         ¬ SamePairs (constraints_of old) (constraints_of new)
     pairs_differ some same = some (λ a b next. (same a b).0
-        ((adds.constraints a b).1 (inr (neighbours_of place (map place old.vertices) from to a b next))))
+        ((adds.constraints a b).1
+        (inr (neighbours_of place (map place old.vertices) from to a b next))))
 
     -- and the path is added, with a result that tells so
-    pub path_added : {E : Type 0} (result : Result Bool E) → result ≡ Ok true →
-        ¬ AreJoinedAlong (map place old.vertices) (constraints_of old) from to → MarksEdges old new →
-        AddsConstraint place from to result old new
+    pub path_added : {E : Type 0} (result : Result Bool E) → result ≡ Ok true
+        → ¬ AreJoinedAlong (map place old.vertices) (constraints_of old) from to
+        → MarksEdges old new → AddsConstraint place from to result old new
     path_added {E} result is some marks =
         subst (λ (r : Result Bool E). AddsConstraint place from to r old new) (sym is) (record {
           plain = adds;
@@ -95,7 +102,8 @@ module _ {V D U F : Type 0} (place : V → Point) where
         })
 
     -- each of its pieces is an edge
-    pub path_is_there : IsDelaunay place constraint_edges new → HasPath (map place new.vertices) new.mesh from to
+    pub path_is_there : IsDelaunay place constraint_edges new
+        → HasPath (map place new.vertices) new.mesh from to
     path_is_there headline a b next = headline.delaunay.kept a b
         ((adds.constraints a b).1 (inr (neighbours_of place (map place old.vertices) from to a b
         (subst (λ (vs : List V). AreNextOn (map place vs) from to a b) adds.vertices next))))
@@ -105,7 +113,8 @@ module _ {V D U F : Type 0} (place : V → Point) where
         LeadAlong (map place new.vertices) new.mesh from to edges → MarksEdges old new →
         AddsPathIfFree place from to edges old new
     path_listed apart free edges along marks = record {
-      refused = λ x. elim x as (λ _. (edges ≡ []) × (new ≡ old)) [ inl e ↦ absurd (apart e) | inr n ↦ absurd (n free) ];
+      refused = λ x. elim x as
+          (λ _. (edges ≡ []) × (new ≡ old)) [ inl e ↦ absurd (apart e) | inr n ↦ absurd (n free) ];
       plain = λ a f. adds;
       along = λ a f. along;
       «data» = marks;
@@ -113,8 +122,9 @@ module _ {V D U F : Type 0} (place : V → Point) where
 
   -- ---- no path is to be added
   -- where one crosses it, or the two are one, there are no edges, and nothing changes
-  pub none_listed : (s : State V D (CdtEdge U) F) (from to : ℕ) (edges : List ℕ) → edges ≡ [] →
-      (from ≡ to) ⊎ (¬ CanAdd place (constrained s) from to) → AddsPathIfFree place from to edges s s
+  pub none_listed : (s : State V D (CdtEdge U) F) (from to : ℕ) (edges : List ℕ) → edges ≡ []
+      → (from ≡ to) ⊎ (¬ CanAdd place (constrained s) from to)
+      → AddsPathIfFree place from to edges s s
   none_listed s from to edges none barred = record {
     refused = λ x. (none, refl);
     plain = λ apart free. absurd (elim barred as (λ _. ⊥) [ inl e ↦ apart e | inr n ↦ n free ]);
@@ -125,8 +135,9 @@ module _ {V D U F : Type 0} (place : V → Point) where
 -- ---- by the mesh
 module _ {V D U F : Type 0} (place : V → Point) (old new : Contents V D (CdtEdge U) F) where
   -- a path of constraints that is added marks edges
-  pub edges_marked : (from to : ℕ) → AddsConstraints place is_constraint (with_mark true) constraint_edges old new from
-      to → MarksEdges (state_of old) (state_of new)
+  pub edges_marked : (from to : ℕ)
+      → AddsConstraints place is_constraint (with_mark true) constraint_edges old new from to
+      → MarksEdges (state_of old) (state_of new)
   edges_marked from to adds = record { rest = ap state_of adds.contents; each = adds.marks_some }
 
   -- an edge that is released is free
@@ -142,21 +153,22 @@ module _ {V D U F : Type 0} (place : V → Point) (old new : Contents V D (CdtEd
 -- ---- an edge is released
 module _ {V D U F : Type 0} (place : V → Point) {E : Type 0} (k : ℕ) (result : Result Bool E) where
   -- an edge that is no constraint is not released
-  pub none_released : (s : State V D (CdtEdge U) F) → result ≡ Ok false → ¬ Contains (constraint_edges s.undirected) k →
-      ReleasesConstraint place k result s s
-  none_released s is none = subst (λ (r : Result Bool E). ReleasesConstraint place k r s s) (sym is) (record {
-    none = λ n. (refl, refl);
-    told = ((λ t. absurd (both_ways false t refl)), (λ h. absurd (none h)));
-    plain = λ h. absurd (none h);
-    «data» = λ h. absurd (none h);
-    err = tt;
-  })
+  pub none_released : (s : State V D (CdtEdge U) F) → result ≡ Ok false
+      → ¬ Contains (constraint_edges s.undirected) k → ReleasesConstraint place k result s s
+  none_released s is none =
+      subst (λ (r : Result Bool E). ReleasesConstraint place k r s s) (sym is) (record {
+        none = λ n. (refl, refl);
+        told = ((λ t. absurd (both_ways false t refl)), (λ h. absurd (none h)));
+        plain = λ h. absurd (none h);
+        «data» = λ h. absurd (none h);
+        err = tt;
+      })
 
   -- an edge that is a constraint is released, and the result tells so
-  pub one_released : (old new : State V D (CdtEdge U) F) → result ≡ Ok true →
-      Contains (constraint_edges old.undirected) k →
-      Releases place (constrained old) (constrained new) (origin old.mesh (2 * k)) (origin old.mesh (rev (2 * k))) →
-      FreesEdge old new k → ReleasesConstraint place k result old new
+  pub one_released : (old new : State V D (CdtEdge U) F) → result ≡ Ok true
+      → Contains (constraint_edges old.undirected) k → Releases place (constrained old)
+      (constrained new) (origin old.mesh (2 * k)) (origin old.mesh (rev (2 * k)))
+      → FreesEdge old new k → ReleasesConstraint place k result old new
   one_released old new is there plain frees =
       subst (λ (r : Result Bool E). ReleasesConstraint place k r old new) (sym is) (record {
         none = λ n. absurd (n there);

@@ -15,22 +15,25 @@ use Rattle.delaunay_edit.specs.Counting.{IsCounted}
 use Rattle.delaunay_edit.proofs.Delaunay.{marked_constrained_delaunay}
 
 -- where their number is none there are no constraints
-pub none_counted : {V D U F : Type 0} (place : V → Point) (constraints : List U → List ℕ) (s : State V D U F)
-    (number : ℕ) → IsCounted place constraints s number → number ≡ 0 → constraints_by constraints s ≡ []
+pub none_counted : {V D U F : Type 0} (place : V → Point) (constraints : List U → List ℕ)
+    (s : State V D U F) (number : ℕ) → IsCounted place constraints s number → number ≡ 0
+    → constraints_by constraints s ≡ []
 none_counted place constraints s number counted none =
     nil_from_length (constraints_by constraints s) (sym counted.counted ∙ none)
 
 -- where there was no constraint, room was made, and a vertex was put in
-pub put_in_free : {V D U F : Type 0} (place : V → Point) (marks : U → Bool) (constraints : List U → List ℕ)
-    → ((ds : List U) → constraints ds ≡ marked_edges marks ds) →
-    (old : State V D U F) (ready mid : Contents V D U F) (value : V) (vertex number : ℕ)
-    → IsCounted place constraints old number → state_of ready ≡ old →
-    TakesVertex place value (state_of ready) (state_of mid) vertex → number ≡ 0
+pub put_in_free : {V D U F : Type 0} (place : V → Point) (marks : U → Bool)
+    (constraints : List U → List ℕ) → ((ds : List U) → constraints ds ≡ marked_edges marks ds)
+    → (old : State V D U F) (ready mid : Contents V D U F) (value : V) (vertex number : ℕ)
+    → IsCounted place constraints old number → state_of ready ≡ old
+    → TakesVertex place value (state_of ready) (state_of mid) vertex → number ≡ 0
     → IsEmptyRound (map place mid.vertices) (faces_of mid.mesh) vertex
-put_in_free place marks constraints marked old ready mid value vertex number counted same takes none =
+put_in_free place marks constraints marked old ready mid value vertex number counted
+    same takes none =
     subst (IsEmptyRound (map place mid.vertices) (faces_of mid.mesh)) (sym takes.is)
     (grown_is_empty place value (state_of ready) (state_of mid) vertex here.legal.kept takes
-    (λ i j k n f h. circles_are_empty (triangulation_of place (state_of ready)) free i j k n f (rw length-map h)))
+    (λ i j k n f h. circles_are_empty (triangulation_of place (state_of ready)) free i j k n f
+    (rw length-map h)))
   where
     here : IsCounted place constraints (state_of ready) number
     here = subst (λ s. IsCounted place constraints s number) (sym same) counted
@@ -39,5 +42,6 @@ put_in_free place marks constraints marked old ready mid value vertex number cou
     none_there = none_counted place constraints (state_of ready) number here none
 
     free : IsConstrainedDelaunay (triangulation_of place (state_of ready)) []
-    free = subst (λ (cs : List (ℕ × ℕ)). IsConstrainedDelaunay (triangulation_of place (state_of ready)) cs) none_there
+    free = subst (λ (cs : List (ℕ × ℕ)). IsConstrainedDelaunay
+        (triangulation_of place (state_of ready)) cs) none_there
         (marked_constrained_delaunay place marks constraints marked (state_of ready) here.legal)

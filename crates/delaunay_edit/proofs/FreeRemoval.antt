@@ -21,10 +21,12 @@ module _ {V D U F : Type 0} (place : V → Point) (marks : U → Bool) (constrai
   Settled = AreSettled (map place s.vertices) (faces_of s.mesh) v border
 
   -- without constraints no vertex is inside the circle of a face
-  pub free_circles : constraints_by constraints s ≡ [] → (i j k n : ℕ) → IsFaceOf (faces_of s.mesh) i j k
-      → n < length (map place s.vertices) → ¬ InsideCircle (at (map place s.vertices) i) (at (map place s.vertices) j)
+  pub free_circles : constraints_by constraints s ≡ [] → (i j k n : ℕ)
+      → IsFaceOf (faces_of s.mesh) i j k → n < length (map place s.vertices)
+      → ¬ InsideCircle (at (map place s.vertices) i) (at (map place s.vertices) j)
       (at (map place s.vertices) k) (at (map place s.vertices) n)
-  free_circles none i j k n f within = circles_are_empty (triangulation_of place s) free i j k n f within
+  free_circles none i j k n f within =
+      circles_are_empty (triangulation_of place s) free i j k n f within
     where
       free : IsConstrainedDelaunay (triangulation_of place s) []
       free = subst (λ (cs : List (ℕ × ℕ)). IsConstrainedDelaunay (triangulation_of place s) cs) none

@@ -1,5 +1,7 @@
 -- Each way in which an insertion ends.
-use Rattle.std.proofs.Common.{◌≡◌, ℕ, ◌<◌, List, length, map, refl, sym, ap, subst, inl, slice_set, Result, Ok, Err}
+use Rattle.std.proofs.Common.{◌≡◌, ◌<◌}
+use Rattle.std.proofs.Common.{ℕ, List, length, map, refl, sym, ap, subst, inl, slice_set, Result}
+use Rattle.std.proofs.Common.{Ok, Err}
 use Rattle.std.proofs.lemmas.List.{length-map}
 use Rattle.plane.specs.Fraction.{Point}
 use Rattle.plane.specs.Pairs.{Joins}
@@ -20,13 +22,15 @@ use Rattle.delaunay_insertion.proofs.DataKept.{overwritten_keeps}
 ok_is_no_error : {E : Type 0} (i : ℕ) (e : E) → ¬ (Ok i ≡ Err e)
 ok_is_no_error i e h = cc
 
-module _ {V D U F : Type 0} (place : V → Point) (constraints : List U → List ℕ) (old : State V D U F) (value : V) where
+module _ {V D U F : Type 0} (place : V → Point) (constraints : List U → List ℕ)
+    (old : State V D U F) (value : V) where
   -- a vertex is overwritten
-  pub overwritten : (new : State V D U F) (i : ℕ) → IsTriangulated place old → InRange (place value) →
-      i < length old.vertices → point_at (map place old.vertices) i ≡ place value →
-      new ≡ record old { vertices = slice_set old.vertices i value }
-      → Replaces place (points_and_constraints_by constraints old) (points_and_constraints_by constraints new) i value →
-      InsertsVertex place constraints value (Ok i) old new
+  pub overwritten : (new : State V D U F) (i : ℕ) → IsTriangulated place old → InRange (place value)
+      → i < length old.vertices → point_at (map place old.vertices) i ≡ place value
+      → new ≡ record old { vertices = slice_set old.vertices i value }
+      → Replaces place (points_and_constraints_by constraints old)
+      (points_and_constraints_by constraints new) i value
+      → InsertsVertex place constraints value (Ok i) old new
   overwritten new i kept near below here same replaces =
       let known : IsKnown (map place old.vertices) (place value) =
       record { index = i; below = rw length-map below; here = here } in
@@ -42,8 +46,9 @@ module _ {V D U F : Type 0} (place : V → Point) (constraints : List U → List
       }
 
   -- a vertex is appended, or there is no room for it
-  pub appended_or_refused : (new : State V D U F) (result : Result ℕ InsertionError) → InRange (place value) →
-      IsApart (map place old.vertices) (place value) → AppendsVertex place constraints value result old new
+  pub appended_or_refused : (new : State V D U F) (result : Result ℕ InsertionError)
+      → InRange (place value) → IsApart (map place old.vertices) (place value)
+      → AppendsVertex place constraints value result old new
       → InsertsVertex place constraints value result old new
   appended_or_refused new result near apart appends =
       let unknown : ¬ IsKnown (map place old.vertices) (place value) =
@@ -52,7 +57,8 @@ module _ {V D U F : Type 0} (place : V → Point) (constraints : List U → List
         too_large = ((λ e. absurd (appends.not_too_large e)), (λ far. absurd (far near)));
         known = λ _ known. absurd (unknown known);
         full = ((λ e. (near, unknown, appends.full.0 e)), (λ h. appends.full.1 h.2));
-        ok = inserted place constraints old new value apart result appends.vertex appends.vertices appends.splits;
+        ok = inserted place constraints old new value apart result appends.vertex appends.vertices
+            appends.splits;
         replaced = λ known. absurd (unknown known);
         outer = appends.outer;
         «data» = appends.«data»;
@@ -60,9 +66,11 @@ module _ {V D U F : Type 0} (place : V → Point) (constraints : List U → List
       }
 
 -- room was made, a vertex was put in, and edges were turned
-pub splits_legalized : {V D U F : Type 0} (place : V → Point) (constraints : List U → List ℕ) (value : V)
-    (ready old mid new : State V D U F) → SplitsConstraints place constraints ready mid value → ready ≡ old →
-    constraints_by constraints new ≡ constraints_by constraints mid → SplitsConstraints place constraints old new value
+pub splits_legalized : {V D U F : Type 0} (place : V → Point) (constraints : List U → List ℕ)
+    (value : V) (ready old mid new : State V D U F)
+    → SplitsConstraints place constraints ready mid value → ready ≡ old
+    → constraints_by constraints new ≡ constraints_by constraints mid
+    → SplitsConstraints place constraints old new value
 splits_legalized place constraints value ready old mid new splits same stays =
     subst (λ s. SplitsConstraints place constraints s new value) same
     (λ i j. (

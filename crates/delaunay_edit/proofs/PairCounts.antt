@@ -1,5 +1,6 @@
 -- How many pairs a relation has.
-use Rattle.std.proofs.Common.{◌≡◌, ◌⊎◌, ◌↔◌, ℕ, suc, ◌+◌, List, [], ◌∷◌, length, refl, sym, ap, ◌∙◌, subst, inl, inr}
+use Rattle.std.proofs.Common.{◌≡◌, ◌⊎◌, ◌↔◌, ◌+◌, [], ◌∷◌, ◌∙◌}
+use Rattle.std.proofs.Common.{ℕ, suc, List, length, refl, sym, ap, subst, inl, inr}
 use Rattle.std.proofs.Common.{arith}
 use Rattle.std.specs.Prelude.{Contains, All}
 use Rattle.std.proofs.lemmas.List.Elements.{All-contains_itself}
@@ -21,7 +22,8 @@ same_length xs ys once also same =
     omega (arith, up, down)
 
 -- two relations that hold of the same pairs have as many
-pub same_number : {J K : ℕ → ℕ → Type 0} {n m : ℕ} → HasPairs J n → HasPairs K m → ((a b : ℕ) → J a b ↔ K a b) → n ≡ m
+pub same_number : {J K : ℕ → ℕ → Type 0} {n m : ℕ} → HasPairs J n → HasPairs K m
+    → ((a b : ℕ) → J a b ↔ K a b) → n ≡ m
 same_number h k same = sym h.count ∙ same_length h.pairs k.pairs h.once k.once
     (λ a b. (
       (λ x. (k.exact a b).1 ((same a b).0 ((h.exact a b).0 x))),
@@ -29,7 +31,8 @@ same_number h k same = sym h.count ∙ same_length h.pairs k.pairs h.once k.once
     )) ∙ k.count
 
 -- a relation that holds of the same pairs has their number
-pub has_pairs_as : {J K : ℕ → ℕ → Type 0} {n : ℕ} → HasPairs J n → ((a b : ℕ) → J a b ↔ K a b) → HasPairs K n
+pub has_pairs_as : {J K : ℕ → ℕ → Type 0} {n : ℕ} → HasPairs J n → ((a b : ℕ) → J a b ↔ K a b)
+    → HasPairs K n
 has_pairs_as h same = record {
   pairs = h.pairs;
   count = h.count;
@@ -49,12 +52,15 @@ no_pairs none = record {
 
 -- a list that has each pair once has as many pairs as entries
 pub listed_pairs : (ps : List (ℕ × ℕ)) → EachPairOnce ps → HasPairs (Joins ps) (length ps)
-listed_pairs ps once = record { pairs = ps; count = refl; once = once; exact = λ a b. ((λ h. h), (λ h. h)) }
+listed_pairs ps once =
+    record { pairs = ps; count = refl; once = once; exact = λ a b. ((λ h. h), (λ h. h)) }
 
-same_ends : (x y a b : ℕ) → (let p : ℕ × ℕ = (a, b) in let q : ℕ × ℕ = (x, y) in p ≡ q) → (x ≡ a) × (y ≡ b)
+same_ends : (x y a b : ℕ) → (let p : ℕ × ℕ = (a, b) in let q : ℕ × ℕ = (x, y) in p ≡ q)
+    → (x ≡ a) × (y ≡ b)
 same_ends x y a b e = (ap (λ (p : ℕ × ℕ). p.0) (sym e), ap (λ (p : ℕ × ℕ). p.1) (sym e))
 
-joins_more : (a b : ℕ) (ps : List (ℕ × ℕ)) (x y : ℕ) → Joins ((a, b) ∷ ps) x y ↔ (Joins ps x y ⊎ IsSamePair x y a b)
+joins_more : (a b : ℕ) (ps : List (ℕ × ℕ)) (x y : ℕ) → Joins ((a, b) ∷ ps) x y
+    ↔ (Joins ps x y ⊎ IsSamePair x y a b)
 joins_more a b ps x y = ((λ h. forth h), (λ h. back h))
   where
     first : Member (x, y) ((a, b) ∷ ps) → Joins ps x y ⊎ IsSamePair x y a b
@@ -76,8 +82,10 @@ joins_more a b ps x y = ((λ h. forth h), (λ h. back h))
     back (inr (inr s)) = inr (contained (y, x) ((a, b) ∷ ps) (inl (λ i. (sym s.1 i, sym s.0 i))))
 
 -- a pair that is not in the list comes before it
-more_once : (a b : ℕ) (ps : List (ℕ × ℕ)) → EachPairOnce ps → ¬ Joins ps a b → EachPairOnce ((a, b) ∷ ps)
-more_once a b ps once new = AllPairs-cons AreDifferent (a, b) ps (λ k d within. apart k d within) once
+more_once : (a b : ℕ) (ps : List (ℕ × ℕ)) → EachPairOnce ps → ¬ Joins ps a b
+    → EachPairOnce ((a, b) ∷ ps)
+more_once a b ps once new =
+    AllPairs-cons AreDifferent (a, b) ps (λ k d within. apart k d within) once
   where
     joined : (q : ℕ × ℕ) → Contains ps q → IsSamePair a b q.0 q.1 → Joins ps a b
     joined q c (inl s) = inl (subst (λ (p : ℕ × ℕ). Contains ps p) (λ i. (sym s.0 i, sym s.1 i)) c)
@@ -97,14 +105,17 @@ one_more {J} {n} h a b new = record {
   count = ap suc h.count;
   once = more_once a b h.pairs h.once (λ j. new ((h.exact a b).0 j));
   exact = λ x y. (
-    (λ j. elim ((joins_more a b h.pairs x y).0 j) [ inl i ↦ inl ((h.exact x y).0 i) | inr s ↦ inr s ]),
-    (λ j. (joins_more a b h.pairs x y).1 (elim j [ inl i ↦ inl ((h.exact x y).1 i) | inr s ↦ inr s ])),
+    (λ j. elim
+        ((joins_more a b h.pairs x y).0 j) [ inl i ↦ inl ((h.exact x y).0 i) | inr s ↦ inr s ]),
+    (λ j. (joins_more a b h.pairs x y).1
+        (elim j [ inl i ↦ inl ((h.exact x y).1 i) | inr s ↦ inr s ])),
   );
 }
 
 -- ---- of two relations without a common pair
 tail_once : (p : ℕ × ℕ) (ps : List (ℕ × ℕ)) → EachPairOnce (p ∷ ps) → EachPairOnce ps
-tail_once p ps once i j d less within = once (suc i) (suc j) d (omega (arith, less)) (omega (arith, within))
+tail_once p ps once i j d less within =
+    once (suc i) (suc j) d (omega (arith, less)) (omega (arith, within))
 
 head_new : (a b : ℕ) (ps : List (ℕ × ℕ)) → EachPairOnce ((a, b) ∷ ps) → ¬ Joins ps a b
 head_new a b ps once (inl c) = once 0 (suc c.0) (a, b) (omega arith) (omega (arith, c.1))
@@ -114,17 +125,22 @@ head_new a b ps once (inr c) = once 0 (suc c.0) (b, a) (omega arith) (omega (ari
 
 and_listed : {J : ℕ → ℕ → Type 0} {n : ℕ} → HasPairs J n → (ps : List (ℕ × ℕ)) → EachPairOnce ps →
     ((a b : ℕ) → Joins ps a b → ¬ J a b) → HasPairs (λ a b. J a b ⊎ Joins ps a b) (length ps + n)
-and_listed {J} {n} h [] once apart = subst (λ (m : ℕ). HasPairs (λ a b. J a b ⊎ Joins [] a b) m) (omega arith)
-    (has_pairs_as h (λ a b. ((λ x. inl x), (λ x. elim x [ inl y ↦ y | inr y ↦ absurd (no_joins a b y) ]))))
+and_listed {J} {n} h [] once apart =
+    subst (λ (m : ℕ). HasPairs (λ a b. J a b ⊎ Joins [] a b) m) (omega arith)
+    (has_pairs_as h
+    (λ a b. ((λ x. inl x), (λ x. elim x [ inl y ↦ y | inr y ↦ absurd (no_joins a b y) ]))))
 and_listed {J} {n} h (p ∷ ps) once apart =
     let rest : HasPairs (λ a b. J a b ⊎ Joins ps a b) (length ps + n) =
-    and_listed h ps (tail_once p ps once) (λ a b j. apart a b ((joins_more p.0 p.1 ps a b).1 (inl j))) in
-    let more : HasPairs (λ x y. (J x y ⊎ Joins ps x y) ⊎ IsSamePair x y p.0 p.1) (suc (length ps + n)) =
+    and_listed h ps (tail_once p ps once)
+    (λ a b j. apart a b ((joins_more p.0 p.1 ps a b).1 (inl j))) in
+    let more :
+    HasPairs (λ x y. (J x y ⊎ Joins ps x y) ⊎ IsSamePair x y p.0 p.1) (suc (length ps + n)) =
     one_more rest p.0 p.1 (λ x. elim x as (λ _. ⊥) [
       | inl y ↦ apart p.0 p.1 ((joins_more p.0 p.1 ps p.0 p.1).1 (inr (inl (refl, refl)))) y
       | inr y ↦ head_new p.0 p.1 ps once y
     ]) in
-    subst (λ (m : ℕ). HasPairs (λ a b. J a b ⊎ Joins (p ∷ ps) a b) m) (omega arith) (has_pairs_as more (λ a b. (
+    subst (λ (m : ℕ). HasPairs (λ a b. J a b ⊎ Joins (p ∷ ps) a b) m) (omega arith)
+    (has_pairs_as more (λ a b. (
       (λ x. elim x [
         | inl y ↦ elim y [ inl z ↦ inl z | inr z ↦ inr ((joins_more p.0 p.1 ps a b).1 (inl z)) ]
         | inr s ↦ inr ((joins_more p.0 p.1 ps a b).1 (inr s))
@@ -139,8 +155,8 @@ and_listed {J} {n} h (p ∷ ps) once apart =
     )))
 
 -- two relations without a common pair have the sum of their numbers
-pub both : {J K : ℕ → ℕ → Type 0} {n m : ℕ} → HasPairs J n → HasPairs K m → ((a b : ℕ) → K a b → ¬ J a b) →
-    HasPairs (λ a b. J a b ⊎ K a b) (m + n)
+pub both : {J K : ℕ → ℕ → Type 0} {n m : ℕ} → HasPairs J n → HasPairs K m
+    → ((a b : ℕ) → K a b → ¬ J a b) → HasPairs (λ a b. J a b ⊎ K a b) (m + n)
 both {J} {K} {n} {m} h k apart =
     subst (λ (l : ℕ). HasPairs (λ a b. J a b ⊎ K a b) (l + n)) k.count
     (has_pairs_as (and_listed h k.pairs k.once (λ a b j. apart a b ((k.exact a b).0 j))) (λ a b. (
@@ -155,8 +171,10 @@ pub renamed : (f : ℕ → ℕ) (ps : List (ℕ × ℕ)) → EachPairOnce ps →
     HasPairs (λ a b. (x : ℕ) × (y : ℕ) × Joins ps x y × IsSamePair a b (f x) (f y)) (length ps)
 renamed f [] once keeps = no_pairs (λ a b h. no_joins h.0 h.1 h.2)
 renamed f (p ∷ ps) once keeps =
-    let rest = renamed f ps (tail_once p ps once) (λ a b c d h k. keeps a b c d (later a b h) (later c d k)) in
-    has_pairs_as (one_more rest (f p.0) (f p.1) (λ h. head_new p.0 p.1 ps once (turned h.0 h.1 h.2 h.3))) (λ a b. (
+    let rest = renamed f ps (tail_once p ps once)
+    (λ a b c d h k. keeps a b c d (later a b h) (later c d k)) in
+    has_pairs_as (one_more rest (f p.0) (f p.1)
+    (λ h. head_new p.0 p.1 ps once (turned h.0 h.1 h.2 h.3))) (λ a b. (
       (λ x. elim x [
         | inl h ↦ (h.0, h.1, later h.0 h.1 h.2, h.3)
         | inr s ↦ (p.0, p.1, (joins_more p.0 p.1 ps p.0 p.1).1 (inr (inl (refl, refl))), s)
@@ -177,7 +195,8 @@ renamed f (p ∷ ps) once keeps =
     turned x y h (inl s) = subst (λ (q : ℕ × ℕ). Joins ps q.0 q.1)
         (λ i. (
           keeps x y p.0 p.1 (later x y h) here (sym s.0) i,
-          keeps y x p.1 p.0 (turned_join (p ∷ ps) x y (later x y h)) (turned_join (p ∷ ps) p.0 p.1 here) (sym s.1) i,
+          keeps y x p.1 p.0 (turned_join (p ∷ ps) x y (later x y h))
+              (turned_join (p ∷ ps) p.0 p.1 here) (sym s.1) i,
         )) h
     turned x y h (inr s) = subst (λ (q : ℕ × ℕ). Joins ps q.0 q.1)
         (λ i. (
@@ -185,7 +204,8 @@ renamed f (p ∷ ps) once keeps =
           keeps x y p.1 p.0 (later x y h) (turned_join (p ∷ ps) p.0 p.1 here) (sym s.1) i,
         )) (turned_join ps x y h)
 
-    through : (x y a b : ℕ) → IsSamePair x y p.0 p.1 → IsSamePair a b (f x) (f y) → IsSamePair a b (f p.0) (f p.1)
+    through : (x y a b : ℕ) → IsSamePair x y p.0 p.1 → IsSamePair a b (f x) (f y)
+        → IsSamePair a b (f p.0) (f p.1)
     through x y a b (inl s) (inl t) = inl (t.0 ∙ ap f s.0, t.1 ∙ ap f s.1)
     through x y a b (inl s) (inr t) = inr (t.0 ∙ ap f s.1, t.1 ∙ ap f s.0)
     through x y a b (inr s) (inl t) = inr (t.0 ∙ ap f s.0, t.1 ∙ ap f s.1)

@@ -1,9 +1,11 @@
 -- The kept number of constraints after an edit.
-use Rattle.std.proofs.Common.{◌≡◌, ℕ, ◌+◌, ◌-◌, ◌*◌, ◌≤◌, Bool, List, [], length, map, sym, ap, arith}
+use Rattle.std.proofs.Common.{◌≡◌, ◌+◌, ◌-◌, ◌*◌, ◌≤◌, []}
+use Rattle.std.proofs.Common.{ℕ, Bool, List, length, map, sym, ap, arith}
 use Rattle.plane.specs.Fraction.{Point}
 use Rattle.plane.specs.Pairs.{EachPairOnce}
 use Rattle.plane.specs.Plain.{Adds, IsPlain, Releases, Removes}
-use Rattle.delaunay_legalization.specs.Constraints.{constraints_by, marked_edges, points_and_constraints_by}
+use Rattle.delaunay_legalization.specs.Constraints.{constraints_by, marked_edges}
+use Rattle.delaunay_legalization.specs.Constraints.{points_and_constraints_by}
 use Rattle.delaunay_legalization.specs.Shape.{IsDelaunayTriangulation}
 use Rattle.delaunay_legalization.specs.State.{State}
 use Rattle.delaunay_legalization.proofs.ConstraintEdges.{constraints_are_edges}
@@ -15,8 +17,9 @@ use Rattle.delaunay_edit.proofs.EditingConstraints.{neighbours_of, next_of}
 use Rattle.delaunay_edit.proofs.PairCounts.{has_pairs_as}
 
 -- no constraint
-pub counted_none : {V D U F : Type 0} (place : V → Point) (constraints : List U → List ℕ) (s : State V D U F) →
-    IsDelaunayTriangulation place constraints s → constraints_by constraints s ≡ [] → IsCounted place constraints s 0
+pub counted_none : {V D U F : Type 0} (place : V → Point) (constraints : List U → List ℕ)
+    (s : State V D U F) → IsDelaunayTriangulation place constraints s
+    → constraints_by constraints s ≡ [] → IsCounted place constraints s 0
 counted_none place constraints s legal none =
     record { legal = legal; counted = ap (λ (ps : List (ℕ × ℕ)). length ps) (sym none) }
 
@@ -41,10 +44,11 @@ module _ {V D U F : Type 0} (place : V → Point) (marks : U → Bool) (constrai
 
   -- a path is added, of which so many pieces were none
   module _ (i j k : ℕ) (adds : Adds place (points_and_constraints_by constraints old)
-      (points_and_constraints_by constraints new) i j)
-      (missing : HasPairs (IsMissing (map place old.vertices) (constraints_by constraints old) i j) k) where
+      (points_and_constraints_by constraints new) i j) (missing :
+      HasPairs (IsMissing (map place old.vertices) (constraints_by constraints old) i j) k) where
     more : length (constraints_by constraints new) ≡ k + length (constraints_by constraints old)
-    more = added_number place (points_and_constraints_by constraints old) (points_and_constraints_by constraints new)
+    more = added_number place (points_and_constraints_by constraints old)
+        (points_and_constraints_by constraints new)
         once_before once_after i j k adds (has_pairs_as missing (λ a b. (
           (λ m. (neighbours_of place (map place old.vertices) i j a b m.0, m.1)),
           (λ m. (next_of place (map place old.vertices) i j a b m.0, m.1)),
@@ -52,7 +56,8 @@ module _ {V D U F : Type 0} (place : V → Point) (marks : U → Bool) (constrai
 
     -- where a path is added whose k pieces were missing, the number is greater by k
     pub counted_added : IsCounted place constraints new (number + k)
-    counted_added = let counted = was.counted in record { legal = legal; counted = omega (arith, more, counted) }
+    counted_added = let counted = was.counted in
+        record { legal = legal; counted = omega (arith, more, counted) }
 
     -- and it is at most three for each vertex
     pub room_for_added : number + k ≤ 3 * length new.vertices
@@ -64,22 +69,25 @@ module _ {V D U F : Type 0} (place : V → Point) (marks : U → Bool) (constrai
 
   -- a vertex goes, with so many
   module _ (v k : ℕ) (removes : Removes place (points_and_constraints_by constraints old)
-      (points_and_constraints_by constraints new) v) (ending : HasPairs (EndsAt (constraints_by constraints old) v) k)
-    where
-      plain : IsPlain place (points_and_constraints_by constraints old)
-      plain = plain_with_edges place old was.legal.kept (constraints_by constraints old)
-          (constraints_are_edges marks constraints marked old.mesh old.undirected was.legal.kept.fits.undirected_fit
-          was.legal.kept.valid)
+      (points_and_constraints_by constraints new) v)
+      (ending : HasPairs (EndsAt (constraints_by constraints old) v) k) where
+    plain : IsPlain place (points_and_constraints_by constraints old)
+    plain = plain_with_edges place old was.legal.kept (constraints_by constraints old)
+        (constraints_are_edges marks constraints marked old.mesh old.undirected
+        was.legal.kept.fits.undirected_fit
+        was.legal.kept.valid)
 
-      fewer : length (constraints_by constraints old) ≡ k + length (constraints_by constraints new)
-      fewer =
-          removed_number place (points_and_constraints_by constraints old) (points_and_constraints_by constraints new)
-          once_before once_after v k plain removes ending
+    fewer : length (constraints_by constraints old) ≡ k + length (constraints_by constraints new)
+    fewer =
+        removed_number place (points_and_constraints_by constraints old)
+        (points_and_constraints_by constraints new)
+        once_before once_after v k plain removes ending
 
-      -- where a vertex goes at which k constraints end, the number is less by k
-      pub counted_removed : IsCounted place constraints new (number - k)
-      counted_removed = let counted = was.counted in record { legal = legal; counted = omega (arith, fewer, counted) }
+    -- where a vertex goes at which k constraints end, the number is less by k
+    pub counted_removed : IsCounted place constraints new (number - k)
+    counted_removed = let counted = was.counted in
+        record { legal = legal; counted = omega (arith, fewer, counted) }
 
-      -- and it was k or more
-      pub some_removed : k ≤ number
-      some_removed = let counted = was.counted in omega (arith, fewer, counted)
+    -- and it was k or more
+    pub some_removed : k ≤ number
+    some_removed = let counted = was.counted in omega (arith, fewer, counted)

@@ -32,7 +32,8 @@ module _ {V D U F : Type 0} (place : V → Point) (marks : U → Bool) (constrai
   well_formed small = record {
     small = small;
     in_range = All-map InRange place s.vertices legal.kept.in_range;
-    plain = plain_with_edges place s legal.kept (constraints_by constraints s) is_delaunay.delaunay.kept;
+    plain = plain_with_edges place s legal.kept
+        (constraints_by constraints s) is_delaunay.delaunay.kept;
     kept = legal.kept;
     headline = is_delaunay;
   }

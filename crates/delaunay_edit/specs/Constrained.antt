@@ -5,7 +5,8 @@ use Rattle.plane.specs.Pairs.{Joins}
 use Rattle.plane.specs.Plain.{Plain}
 use Rattle.delaunay_legalization.specs.declared.cdt_edge.CdtEdge.{CdtEdge}
 use Rattle.delaunay_legalization.specs.CdtEdge.{is_constraint}
-use Rattle.delaunay_legalization.specs.Constraints.{marked_edges, constraints_by, points_and_constraints_by}
+use Rattle.delaunay_legalization.specs.Constraints.{marked_edges, constraints_by}
+use Rattle.delaunay_legalization.specs.Constraints.{points_and_constraints_by}
 use Rattle.delaunay_legalization.specs.State.{State}
 
 -- no edge is a constraint
@@ -29,6 +30,8 @@ abbrev pub IsFree : {U : Type 0} → U → CdtEdge U → Type 0
 IsFree u e = (e.is_constraint_edge ≡ false) × (e.«data» ≡ u)
 
 -- the answer to whether an undirected edge is a constraint, by its data and by what it joins
-pub record TellsConstraint {V D U F : Type 0} (s : State V D (CdtEdge U) F) (edge : ℕ) (answer : Bool) : Type 0 where
+pub record TellsConstraint {V D U F : Type 0} (s : State V D (CdtEdge U) F) (edge : ℕ)
+    (answer : Bool) : Type 0 where
   pub marked : IsTrue answer ↔ Contains (constraint_edges s.undirected) edge
-  pub joined : IsTrue answer ↔ Joins (constraints_of s) (origin s.mesh (2 * edge)) (origin s.mesh (rev (2 * edge)))
+  pub joined : IsTrue answer
+      ↔ Joins (constraints_of s) (origin s.mesh (2 * edge)) (origin s.mesh (rev (2 * edge)))

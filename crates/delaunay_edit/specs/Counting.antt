@@ -21,7 +21,8 @@ pub record HasPairs (J : ℕ → ℕ → Type 0) (n : ℕ) : Type 0 where
   pub exact : (a b : ℕ) → Joins pairs a b ↔ J a b
 
 -- the location is on an edge that is a constraint
-abbrev pub IsOnConstraint : {U : Type 0} → (List U → List ℕ) → List U → PositionInTriangulation → Type 0
+abbrev pub IsOnConstraint : {U : Type 0} → (List U → List ℕ) → List U
+    → PositionInTriangulation → Type 0
 IsOnConstraint constraints ds (OnEdge e) = Contains (constraints ds) (e / 2)
 IsOnConstraint constraints ds (OnVertex v) = ⊥
 IsOnConstraint constraints ds (OnFace f) = ⊥
@@ -29,9 +30,11 @@ IsOnConstraint constraints ds (OutsideOfConvexHull e) = ⊥
 IsOnConstraint constraints ds NoTriangulation = ⊥
 
 -- one where the location is on a constraint, and else none
-abbrev pub IsSplitCount : {U : Type 0} → (List U → List ℕ) → List U → PositionInTriangulation → ℕ → Type 0
+abbrev pub IsSplitCount : {U : Type 0} → (List U → List ℕ) → List U
+    → PositionInTriangulation → ℕ → Type 0
 IsSplitCount constraints ds answer n =
-    (IsOnConstraint constraints ds answer × (n ≡ 1)) ⊎ ((¬ IsOnConstraint constraints ds answer) × (n ≡ 0))
+    (IsOnConstraint constraints ds answer × (n ≡ 1))
+    ⊎ ((¬ IsOnConstraint constraints ds answer) × (n ≡ 0))
 
 -- a constraint joins a and b, of which one is vertex v
 abbrev pub EndsAt : List (ℕ × ℕ) → ℕ → ℕ → ℕ → Type 0
@@ -42,7 +45,7 @@ abbrev pub IsMissing : List Point → List (ℕ × ℕ) → ℕ → ℕ → ℕ 
 IsMissing points pairs i j a b = AreNextOn points i j a b × ¬ Joins pairs a b
 
 -- a triangulation with the number of its constraints
-pub record IsCounted {V D U F : Type 0} (place : V → Point) (constraints : List U → List ℕ) (s : State V D U F)
-    (number : ℕ) : Type 0 where
+pub record IsCounted {V D U F : Type 0} (place : V → Point) (constraints : List U → List ℕ)
+    (s : State V D U F) (number : ℕ) : Type 0 where
   pub legal : IsDelaunayTriangulation place constraints s
   pub counted : number ≡ length (constraints_by constraints s)

@@ -1,5 +1,6 @@
 -- The user's part of the data of edges that may be constraints.
-use Rattle.std.specs.Prelude.{◌≡◌, ℕ, zero, suc, false, List, [], ◌∷◌, refl, slice_set, slice_index_or}
+use Rattle.std.specs.Prelude.{◌≡◌, [], ◌∷◌}
+use Rattle.std.specs.Prelude.{ℕ, zero, suc, false, List, refl, slice_set, slice_index_or}
 use Rattle.delaunay_legalization.specs.declared.cdt_edge.CdtEdge.{CdtEdge}
 use Rattle.delaunay_legalization.specs.CdtEdge.{is_constraint}
 use Rattle.delaunay_legalization.specs.Constraints.{marked_from}
@@ -7,7 +8,8 @@ use Rattle.delaunay_legalization.specs.Constraints.{marked_from}
 -- the data of all edges, with another user's part at one
 abbrev pub with_data : {U : Type 0} → List (CdtEdge U) → ℕ → U → List (CdtEdge U)
 with_data es i w =
-    slice_set es i (record (slice_index_or es i (record { is_constraint_edge = false; «data» = w })) { «data» = w })
+    slice_set es i (record (slice_index_or es i (record { is_constraint_edge = false; «data» = w }))
+    { «data» = w })
 
 -- the same edges are constraints
 pub with_data_marks : {U : Type 0} (first : ℕ) (es : List (CdtEdge U)) (i : ℕ) (w : U) →

@@ -1,6 +1,8 @@
 -- What each edit makes of a triangulation.
-use Rattle.std.specs.Prelude.{◌≡◌, ◌↔◌, ℕ, ◌+◌, ◌*◌, ◌<◌, ◌++◌, ◌∷◌, [], List, length, map, Option, None, Some, Result}
-use Rattle.std.specs.Prelude.{Ok, IsOk, IsErrOf, IfOk, OnOk, OnErr, MatchOption, slice_get, slice_set}
+use Rattle.std.specs.Prelude.{◌≡◌, ◌↔◌, ◌+◌, ◌*◌, ◌<◌, ◌++◌, ◌∷◌, []}
+use Rattle.std.specs.Prelude.{ℕ, List, length, map, Option, None, Some, Result}
+use Rattle.std.specs.Prelude.{Ok, IsOk, IsErrOf, IfOk, OnOk, OnErr, MatchOption, slice_get}
+use Rattle.std.specs.Prelude.{slice_set}
 use Rattle.half_edge_links.specs.declared.room.TheConstants.{MAX_ELEMENTS}
 use Rattle.plane.specs.Fraction.{Point}
 use Rattle.plane.specs.Plain.{Inserts, Removes}
@@ -23,15 +25,17 @@ module _ {V : Type 0} (place : V → Point) (IsSite : Point → Type 0) where
     pub sites : AreSites place IsSite vertices
     pub new_site : InRange (place value) → IsSite (place value)
 
-  -- a value may be inserted among these vertices, and the count of flips has room for those of the insertion
+  -- a value may be inserted among these vertices, and the count of flips has room for those of the
+  -- insertion
   pub record MayInsert (vertices : List V) (value : V) (flips : ℕ) : Type 0 where
     pub sites : AreSitesWith vertices value
     pub fits : FlipsFit (length vertices + 1) flips
 
 module _ {V D U F : Type 0} (place : V → Point) (constraints : List U → List ℕ) where
-  -- an insertion of a value whose position no vertex has gave this result: the index of the new last vertex, or a
-  -- refusal
-  pub record AppendsVertex (value : V) (result : Result ℕ InsertionError) (old new : State V D U F) : Type 0 where
+  -- an insertion of a value whose position no vertex has gave this result: the index of the new
+  -- last vertex, or a refusal
+  pub record AppendsVertex (value : V) (result : Result ℕ InsertionError)
+      (old new : State V D U F) : Type 0 where
     pub full : IsErrOf result OutOfIndexes ↔ (MAX_ELEMENTS < 6 * (length old.vertices + 1))
     pub not_too_large : ¬ IsErrOf result TooLarge
     pub vertex : IfOk result (λ i. i ≡ length old.vertices)
@@ -41,14 +45,16 @@ module _ {V D U F : Type 0} (place : V → Point) (constraints : List U → List
     pub splits : OnOk result (SplitsConstraints place constraints old new value)
     pub err : OnErr result (new ≡ old)
 
-  -- an insertion of a value gave this result. A vertex of its position is overwritten, and all else stays; other edits
-  -- of the
-  -- plain state are as in `Inserts`. What is there before and after keeps its data
-  pub record InsertsVertex (value : V) (result : Result ℕ InsertionError) (old new : State V D U F) : Type 0 where
+  -- an insertion of a value gave this result. A vertex of its position is overwritten, and all else
+  -- stays; other edits of the plain state are as in `Inserts`. What is there before and after keeps
+  -- its data
+  pub record InsertsVertex (value : V) (result : Result ℕ InsertionError)
+      (old new : State V D U F) : Type 0 where
     pub too_large : IsErrOf result TooLarge ↔ ¬ InRange (place value)
     pub known : InRange (place value) → IsKnown (map place old.vertices) (place value) → IsOk result
-    pub full : IsErrOf result OutOfIndexes ↔ (InRange (place value) ×
-        (¬ IsKnown (map place old.vertices) (place value)) × (MAX_ELEMENTS < 6 * (length old.vertices + 1)))
+    pub full : IsErrOf result OutOfIndexes
+        ↔ (InRange (place value) × (¬ IsKnown (map place old.vertices) (place value))
+        × (MAX_ELEMENTS < 6 * (length old.vertices + 1)))
     pub ok : IfOk result (λ i. Inserts place (points_and_constraints_by constraints old)
         (points_and_constraints_by constraints new) value i)
     pub replaced : IsKnown (map place old.vertices) (place value) →
@@ -58,7 +64,8 @@ module _ {V D U F : Type 0} (place : V → Point) (constraints : List U → List
     pub err : OnErr result (new ≡ old)
 
   -- a removal of a vertex gave this result
-  pub record RemovesVertex {E : Type 0} (vertex : ℕ) (result : Result V E) (old new : State V D U F) : Type 0 where
+  pub record RemovesVertex {E : Type 0} (vertex : ℕ) (result : Result V E)
+      (old new : State V D U F) : Type 0 where
     pub value : IfOk result (λ v. slice_get old.vertices vertex ≡ Some v)
     pub plain : OnOk result (Removes place (points_and_constraints_by constraints old)
         (points_and_constraints_by constraints new) vertex)
@@ -67,8 +74,8 @@ module _ {V D U F : Type 0} (place : V → Point) (constraints : List U → List
     pub err : OnErr result (new ≡ old)
 
   -- a removal of the vertex at p gave this result
-  pub record LocatesAndRemoves {E : Type 0} (p : Point) (result : Result (Option V) E) (old new : State V D U F) : Type
-      0 where
+  pub record LocatesAndRemoves {E : Type 0} (p : Point) (result : Result (Option V) E)
+      (old new : State V D U F) : Type 0 where
     pub apart : ¬ IsKnown (map place old.vertices) p → (result ≡ Ok None) × (new ≡ old)
     pub ok : IfOk result (λ r. MatchOption r (¬ IsKnown (map place old.vertices) p)
         (RemovesAt place constraints old new p))

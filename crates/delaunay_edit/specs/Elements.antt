@@ -8,13 +8,20 @@ use Rattle.plane.specs.Fraction.{Point, whole}
 use Rattle.plane.specs.Location.{IsLocation}
 use Rattle.plane.specs.Shape.{IsNearest}
 use Rattle.delaunay_location.specs.declared.position_in_triangulation.PositionInTriangulation.{PositionInTriangulation}
-use Rattle.delaunay_location.specs.declared.position_in_triangulation.PositionInTriangulation.TheVariants.{OnVertex, OnEdge, OnFace, OutsideOfConvexHull, NoTriangulation}
+use Rattle.delaunay_location.specs.declared.position_in_triangulation.PositionInTriangulation.TheVariants.{
+  OnVertex,
+  OnEdge,
+  OnFace,
+  OutsideOfConvexHull,
+  NoTriangulation,
+}
 use Rattle.delaunay_legalization.specs.State.{State, state_of, triangulation_of}
 use Rattle.delaunay_legalization.specs.Known.{point_at}
 use Rattle.delaunay_edit.specs.Location.{location_of}
 
 -- the given are elements of a triangulation in this state: so many, by rising index from first on
-pub record GivesElements {V D U F : Type 0} (s : State V D U F) (first count : ℕ) (given : List (Bor (Contents V D U F) × ℕ)) : Type 0 where
+pub record GivesElements {V D U F : Type 0} (s : State V D U F) (first count : ℕ)
+    (given : List (Bor (Contents V D U F) × ℕ)) : Type 0 where
   pub mesh : Bor (Contents V D U F)
   pub state : state_of mesh.now ≡ s
   pub elements : given ≡ each_in mesh (range_with_len first count)
@@ -28,14 +35,18 @@ HasElement s (OutsideOfConvexHull e) = e < length s.directed
 HasElement s NoTriangulation = Unit {0}
 
 -- the answer is where p is, by an element of the triangulation
-pub record FindsLocation {V D U F : Type 0} (place : V → Point) (s : State V D U F) (p : Point) (answer : PositionInTriangulation) : Type 0 where
+pub record FindsLocation {V D U F : Type 0} (place : V → Point) (s : State V D U F) (p : Point)
+    (answer : PositionInTriangulation) : Type 0 where
   pub location : IsLocation (triangulation_of place s) (whole p) (location_of s.mesh answer)
   pub element : HasElement s answer
 
 -- a mesh in this state, with the index of its vertex at p
-abbrev pub IsVertexAt : {V D U F : Type 0} → (V → Point) → State V D U F → Point → Contents V D U F → ℕ → Type 0
-IsVertexAt place s p c i = (state_of c ≡ s) × (i < length s.vertices) × (point_at (map place s.vertices) i ≡ p)
+abbrev pub IsVertexAt : {V D U F : Type 0} → (V → Point) → State V D U F → Point
+    → Contents V D U F → ℕ → Type 0
+IsVertexAt place s p c i =
+    (state_of c ≡ s) × (i < length s.vertices) × (point_at (map place s.vertices) i ≡ p)
 
 -- a mesh in this state, with the index of a vertex that none is strictly nearer to p than
-abbrev pub IsNearestVertex : {V D U F : Type 0} → (V → Point) → State V D U F → Point → Contents V D U F → ℕ → Type 0
+abbrev pub IsNearestVertex : {V D U F : Type 0} → (V → Point) → State V D U F → Point
+    → Contents V D U F → ℕ → Type 0
 IsNearestVertex place s p c i = (state_of c ≡ s) × IsNearest (triangulation_of place s) (whole p) i

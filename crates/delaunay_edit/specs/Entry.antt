@@ -9,8 +9,8 @@ use Rattle.delaunay_edit.specs.Location.{IsApart, IsLeftOfPlace, Locates}
 use Rattle.delaunay_legalization.specs.Known.{point_at}
 use Rattle.delaunay_legalization.specs.State.{State}
 
--- p is at none of the points, it is at this location, and turns says whether it is strictly on the left of the edge
--- there
+-- p is at none of the points, it is at this location, and turns says whether it is strictly on the
+-- left of the edge there
 pub record IsVacant (points : List Point) (m : Mesh) (p : Point) (answer : PositionInTriangulation)
     (turns : Bool) : Type 0 where
   pub apart : IsApart points p

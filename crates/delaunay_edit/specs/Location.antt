@@ -1,4 +1,5 @@
 -- What an answer to a location says, passed on.
 pub use Rattle.plane.specs.Location.{IsLocation, IsOuter}
-pub use Rattle.delaunay_legalization.specs.Parts.{IsApart, IsWithinEdge, IsInsideFaceOf, IsMeshEdge, IsMeshFace}
+pub use Rattle.delaunay_legalization.specs.Parts.{IsApart, IsWithinEdge, IsInsideFaceOf, IsMeshEdge}
+pub use Rattle.delaunay_legalization.specs.Parts.{IsMeshFace}
 pub use Rattle.delaunay_location.specs.Location.{location_of, HasHandle, Locates, IsLeftOfPlace}

@@ -14,8 +14,8 @@ pub record IsEmptyState {V D U F : Type 0} (IsFirst : F → Type 0) (s : State V
   pub faces : s.faces ≡ []
 
 -- the same vertices, edges and faces, the data of each as these relations say of the former ones
-pub record IsCopy {V D U F : Type 0} (RV : V → V → Type 0) (RD : D → D → Type 0) (RU : U → U → Type 0)
-    (RF : F → F → Type 0) (old new : State V D U F) : Type 0 where
+pub record IsCopy {V D U F : Type 0} (RV : V → V → Type 0) (RD : D → D → Type 0)
+    (RU : U → U → Type 0) (RF : F → F → Type 0) (old new : State V D U F) : Type 0 where
   pub mesh : new.mesh ≡ old.mesh
   pub vertices : AllZip RV old.vertices new.vertices
   pub directed : AllZip RD old.directed new.directed

@@ -1,6 +1,7 @@
 //! New vertices, and new data at a known position.
 ghost use Rattle.std.specs.Prelude.{◌≡◌, ◌↔◌, ℕ, ◌+◌, ◌*◌, ◌<◌, ◌≤◌, ◌++◌, ◌∷◌, []};
-ghost use Rattle.std.specs.Prelude.{length, map, All, IsFalse, IsTrue, Err, IsErrOf, IfOk, OnErr, OnOk};
+ghost use Rattle.std.specs.Prelude.{length, map, All, IsFalse, IsTrue};
+ghost use Rattle.std.specs.Prelude.{Err, IsErrOf, IfOk, OnErr, OnOk};
 ghost use Rattle.std.specs.Prelude.{vec_capacity};
 ghost use Rattle.plane.specs.Tests.{InRange};
 ghost use Rattle.delaunay_core.specs.declared.math.InsertionError.TheVariants.{TooLarge};

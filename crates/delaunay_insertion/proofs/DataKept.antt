@@ -1,5 +1,7 @@
--- Data that stay where they are while a triangulation grows and edges are turned belong to what stands before and after.
-use Rattle.std.proofs.Common.{◌≡◌, ℕ, ◌/◌, ◌<◌, List, [], ◌∷◌, ◌++◌, length, map, get_or, sym, ap, ◌∙◌, subst, Some, inl, inr, arith}
+-- Data that stay where they are while a triangulation grows and edges are turned belong to what
+-- stands before and after.
+use Rattle.std.proofs.Common.{◌≡◌, ◌/◌, ◌<◌, [], ◌∷◌, ◌++◌, ◌∙◌}
+use Rattle.std.proofs.Common.{ℕ, List, length, map, get_or, sym, ap, subst, Some, inl, inr, arith}
 use Rattle.std.specs.Prelude.{slice_get}
 use Rattle.std.proofs.lemmas.List.{length-map}
 use Rattle.std.proofs.lemmas.Option.{slice_get_within, slice_get-get_or}
@@ -14,7 +16,8 @@ use Rattle.mesh_embedding.specs.Drawn.{drawn, faces_of, edges_of}
 use Rattle.mesh_embedding.specs.Stays.{GoSameWay, HaveSameCorners, KeepsIndexes}
 use Rattle.mesh_embedding.proofs.MeshStays.{face_there, turned_back}
 use Rattle.mesh_embedding.proofs.MeshLegal.{own_indexes}
-use Rattle.delaunay_insertion.proofs.NewVertex.{place_stays, place_last, is_vertex, not_within, source_in, target_in}
+use Rattle.delaunay_insertion.proofs.NewVertex.{place_stays, place_last, is_vertex, not_within}
+use Rattle.delaunay_insertion.proofs.NewVertex.{source_in, target_in}
 use Rattle.delaunay_insertion.specs.Data.{KeepsData, KeepsEdge, GrowsAround, IsInCorners}
 use Rattle.delaunay_legalization.specs.Shape.{IsTriangulated}
 use Rattle.delaunay_legalization.specs.State.{State, state_of}
@@ -24,11 +27,15 @@ use Rattle.delaunay_legalization.proofs.MeshParts.{no_side}
 use Rattle.delaunay_legalization.proofs.Shapes.{laid_out_tiles}
 
 -- the mesh and all data stay
-data_same : {V D U F : Type 0} (at : V → Point) (old new : State V D U F) → IsTriangulated at old → new ≡ record old { vertices = new.vertices } → KeepsData old new
+data_same : {V D U F : Type 0} (at : V → Point) (old new : State V D U F) → IsTriangulated at old
+    → new ≡ record old { vertices = new.vertices } → KeepsData old new
 data_same at old new kept same = record {
-  directed = λ g h v w x. ap (λ s. slice_get s.directed h) same ∙ ap (slice_get old.directed) (one g h v w x);
-  undirected = λ g h v w x. ap (λ s. slice_get s.undirected (h / 2)) same ∙ ap (λ (k : ℕ). slice_get old.undirected (k / 2)) (one g h v w x);
-  faces = λ f g t u p q x. ap (λ s. slice_get s.faces g) same ∙ ap (slice_get old.faces) (indexes.faces f g t u p (ap (λ m. slice_get (triangles m) g) (sym mesh) ∙ q) x);
+  directed = λ g h v w x. ap (λ s. slice_get s.directed h) same
+      ∙ ap (slice_get old.directed) (one g h v w x);
+  undirected = λ g h v w x. ap (λ s. slice_get s.undirected (h / 2)) same
+      ∙ ap (λ (k : ℕ). slice_get old.undirected (k / 2)) (one g h v w x);
+  faces = λ f g t u p q x. ap (λ s. slice_get s.faces g) same ∙ ap (slice_get old.faces)
+      (indexes.faces f g t u p (ap (λ m. slice_get (triangles m) g) (sym mesh) ∙ q) x);
   outer = ap (λ s. s.outer) same;
 }
   where
@@ -41,11 +48,16 @@ data_same at old new kept same = record {
     count : length old.directed ≡ length old.mesh.half_edges
     count = kept.fits.directed_fit
 
-    one : (g h : ℕ) → g < length old.directed → h < length new.directed → GoSameWay old.mesh g new.mesh h → h ≡ g
-    one g h v w x = indexes.edges g h (subst (λ n. g < n) count v) (subst (λ n. h < n) (ap (λ s. length s.directed) same ∙ count) w) (subst (λ m. GoSameWay old.mesh g m h) mesh x)
+    one : (g h : ℕ) → g < length old.directed → h < length new.directed
+        → GoSameWay old.mesh g new.mesh h → h ≡ g
+    one g h v w x = indexes.edges g h (subst (λ n. g < n) count v) (subst (λ n. h < n)
+        (ap (λ s. length s.directed) same ∙ count) w) (subst (λ m. GoSameWay old.mesh g m h) mesh x)
 
-module _ {V D U F : Type 0} (at : V → Point) (v : V) (old mid new : State V D U F) (was : IsTriangulated at old) (now : IsTriangulated at new) (vertices : new.vertices ≡ old.vertices ++ v ∷ [])
-    (fits : length mid.directed ≡ length mid.mesh.half_edges) (grows : GrowsAround (map at old.vertices) (at v) old mid) (same : new ≡ record mid { mesh = new.mesh }) (indexes : KeepsIndexes mid.mesh new.mesh) where
+module _ {V D U F : Type 0} (at : V → Point) (v : V) (old mid new : State V D U F)
+    (was : IsTriangulated at old) (now : IsTriangulated at new) (vertices : new.vertices
+    ≡ old.vertices ++ v ∷ []) (fits : length mid.directed ≡ length mid.mesh.half_edges)
+    (grows : GrowsAround (map at old.vertices) (at v) old mid)
+    (same : new ≡ record mid { mesh = new.mesh }) (indexes : KeepsIndexes mid.mesh new.mesh) where
   abbrev before : List Point
   before = map at old.vertices
 
@@ -55,30 +67,43 @@ module _ {V D U F : Type 0} (at : V → Point) (v : V) (old mid new : State V D 
   new_directed : new.directed ≡ mid.directed
   new_directed = ap (λ s. s.directed) same
 
-  data_edges : (g h : ℕ) → g < length old.directed → h < length new.directed → GoSameWay old.mesh g new.mesh h → KeepsEdge old mid g × (h ≡ g)
+  data_edges : (g h : ℕ) → g < length old.directed → h < length new.directed
+      → GoSameWay old.mesh g new.mesh h → KeepsEdge old mid g × (h ≡ g)
   data_edges g h w x way = elim (grows.edges g w) [
     | inl k ↦ (k, indexes.edges g h (still k) there (way.0 ∙ sym k.ends.0, way.1 ∙ sym k.ends.1))
-    | inr inside ↦ absurd (not_within at v old new was now vertices (origin old.mesh g) (origin old.mesh (rev g)) (source_in at v old new was now vertices g w) (target_in at v old new was now vertices g w) (stands (edge_joins new.mesh now.valid.sound h there)) inside)
+    | inr inside ↦ absurd (not_within at v old new was now vertices (origin old.mesh g)
+        (origin old.mesh (rev g)) (source_in at v old new was now vertices g w) (target_in at v old
+        new was now vertices g w) (stands (edge_joins new.mesh now.valid.sound h there)) inside)
   ]
     where
       there : h < length new.mesh.half_edges
       there = subst (λ n. h < n) now.fits.directed_fit x
 
       still : KeepsEdge old mid g → g < length mid.mesh.half_edges
-      still k = let some = slice_get-get_or old.directed g (some_entry old.directed g w) w in subst (λ n. g < n) fits (slice_get_within mid.directed g (get_or old.directed g (some_entry old.directed g w)) (k.directed ∙ some))
+      still k = let some = slice_get-get_or old.directed g (some_entry old.directed g w) w in
+          subst (λ n. g < n) fits (slice_get_within mid.directed g
+          (get_or old.directed g (some_entry old.directed g w)) (k.directed ∙ some))
 
-      stands : Joins (edges_of new.mesh) (origin new.mesh h) (origin new.mesh (rev h)) → IsEdge (drawn after new.mesh) (origin old.mesh g) (origin old.mesh (rev g))
-      stands j = subst (λ (x : ℕ × ℕ). Joins (edges_of new.mesh) x.0 x.1) (λ o. (way.0 o, way.1 o)) j
+      stands : Joins (edges_of new.mesh) (origin new.mesh h) (origin new.mesh (rev h))
+          → IsEdge (drawn after new.mesh) (origin old.mesh g) (origin old.mesh (rev g))
+      stands j =
+          subst (λ (x : ℕ × ℕ). Joins (edges_of new.mesh) x.0 x.1) (λ o. (way.0 o, way.1 o)) j
 
   -- a face that stands afterwards does not have it in
-  not_in_face : (f : ℕ) (t u : Triangle) (g : ℕ) → slice_get (triangles old.mesh) f ≡ Some t → slice_get (triangles new.mesh) g ≡ Some u → HaveSameCorners t u → ¬ IsInCorners before (at v) t
-  not_in_face f t u g p q corners inside = elim (laid_out_tiles after new.mesh now.valid now.shape) as (λ _. ⊥) [
-    | inr line ↦ no_side after new.mesh t.first t.second line.no_face (t.third, listed)
-    | inl tiling ↦ elim (tiling.empty t.first t.second t.third (length old.vertices) listed (is_vertex at v old new was now vertices) moved) as (λ _. ⊥) [
-      | inl e ↦ differs t.first bounds.0 e
-      | inr r ↦ elim r as (λ _. ⊥) [ inl e ↦ differs t.second bounds.1 e | inr e ↦ differs t.third bounds.2 e ]
-    ]
-  ]
+  not_in_face : (f : ℕ) (t u : Triangle) (g : ℕ) → slice_get (triangles old.mesh) f ≡ Some t
+      → slice_get (triangles new.mesh) g ≡ Some u → HaveSameCorners t u
+      → ¬ IsInCorners before (at v) t
+  not_in_face f t u g p q corners inside =
+      elim (laid_out_tiles after new.mesh now.valid now.shape) as (λ _. ⊥) [
+        | inr line ↦ no_side after new.mesh t.first t.second line.no_face (t.third, listed)
+        | inl tiling ↦ elim (tiling.empty t.first t.second t.third (length old.vertices) listed
+            (is_vertex at v old new was now vertices) moved) as (λ _. ⊥) [
+              | inl e ↦ differs t.first bounds.0 e
+              | inr r ↦ elim r as
+                  (λ _. ⊥)
+                  [ inl e ↦ differs t.second bounds.1 e | inr e ↦ differs t.third bounds.2 e ]
+            ]
+      ]
     where
       listed : IsFaceOf (faces_of new.mesh) t.first t.second t.third
       listed = turned_back new.mesh t u corners (face_there new.mesh g u q)
@@ -92,34 +117,59 @@ module _ {V D U F : Type 0} (at : V → Point) (v : V) (old mid new : State V D 
       differs : (i : ℕ) → i < length old.vertices → ¬ (length old.vertices ≡ i)
       differs i l e = omega (arith, l, e)
 
-      bounds : (t.first < length old.vertices) × (t.second < length old.vertices) × (t.third < length old.vertices)
+      bounds : (t.first < length old.vertices) × (t.second < length old.vertices)
+          × (t.third < length old.vertices)
       bounds = elim (laid_out_tiles (map at old.vertices) old.mesh was.valid was.shape) [
-        | inr line ↦ absurd (no_side (map at old.vertices) old.mesh t.first t.second line.no_face (t.third, face_there old.mesh f t p))
-        | inl tiling ↦ let b = tiling.corners t.first t.second t.third (face_there old.mesh f t p) in (below t.first b.0, below t.second b.1, below t.third b.2)
+        | inr line ↦ absurd (no_side (map at old.vertices) old.mesh t.first t.second line.no_face
+            (t.third, face_there old.mesh f t p))
+        | inl tiling ↦ let b =
+            tiling.corners t.first t.second t.third (face_there old.mesh f t p) in
+            (below t.first b.0, below t.second b.1, below t.third b.2)
       ]
 
-      moved : InTriangle (place after t.first) (place after t.second) (place after t.third) (place after (length old.vertices))
-      moved = subst (λ (x : Fraction × Fraction × Fraction × Fraction). InTriangle x.0 x.1 x.2 x.3) (λ o. (place_stays at v old new was now vertices t.first bounds.0 o, place_stays at v old new was now vertices t.second bounds.1 o, place_stays at v old new was now vertices t.third bounds.2 o, place_last at v old new was now vertices o)) inside
+      moved : InTriangle (place after t.first) (place after t.second) (place after t.third)
+          (place after (length old.vertices))
+      moved = subst (λ (x : Fraction × Fraction × Fraction × Fraction). InTriangle x.0 x.1 x.2 x.3)
+          (λ o. (
+            place_stays at v old new was now vertices t.first bounds.0 o,
+            place_stays at v old new was now vertices t.second bounds.1 o,
+            place_stays at v old new
+                was now vertices t.third bounds.2 o,
+            place_last at v old new was now vertices o,
+          )) inside
 
   -- all that stands before and after has the data that it had
   pub data_kept : KeepsData old new
   data_kept = record {
-    directed = λ g h w x way. let d = data_edges g h w x way in ap (λ s. slice_get s.directed h) same ∙ ap (slice_get mid.directed) d.1 ∙ d.0.directed;
-    undirected = λ g h w x way. let d = data_edges g h w x way in ap (λ s. slice_get s.undirected (h / 2)) same ∙ ap (λ (k : ℕ). slice_get mid.undirected (k / 2)) d.1 ∙ d.0.undirected;
+    directed = λ g h w x way. let d = data_edges g h w x way in
+        ap (λ s. slice_get s.directed h) same ∙ ap (slice_get mid.directed) d.1 ∙ d.0.directed;
+    undirected = λ g h w x way. let d = data_edges g h w x way in
+        ap (λ s. slice_get s.undirected (h / 2)) same
+        ∙ ap (λ (k : ℕ). slice_get mid.undirected (k / 2)) d.1 ∙ d.0.undirected;
     faces = λ f g t u p q corners. elim (grows.faces f t p) [
-      | inl k ↦ ap (λ s. slice_get s.faces g) same ∙ ap (slice_get mid.faces) (indexes.faces f g t u (k.corners ∙ p) q corners) ∙ k.value
+      | inl k ↦ ap (λ s. slice_get s.faces g) same
+          ∙ ap (slice_get mid.faces) (indexes.faces f g t u (k.corners ∙ p) q corners) ∙ k.value
       | inr inside ↦ absurd (not_in_face f t u g p q corners inside)
     ];
     outer = ap (λ s. s.outer) same ∙ grows.outer;
   }
 
 -- a vertex was put in the place of another
-pub overwritten_keeps : {V D U F : Type 0} (at : V → Point) (old new : State V D U F) (vertices : List V) → IsTriangulated at old → new ≡ record old { vertices = vertices } → KeepsData old new
-overwritten_keeps at old new vertices kept same = data_same at old new kept (same ∙ ap (λ vs. record old { vertices = vs }) (sym (ap (λ s. s.vertices) same)))
+pub overwritten_keeps :
+    {V D U F : Type 0} (at : V → Point) (old new : State V D U F) (vertices : List V)
+    → IsTriangulated at old → new ≡ record old { vertices = vertices } → KeepsData old new
+overwritten_keeps at old new vertices kept same = data_same at old new kept
+    (same ∙ ap (λ vs. record old { vertices = vs }) (sym (ap (λ s. s.vertices) same)))
 
 -- room was made for a vertex, it was put in, and edges were turned
-pub appended_keeps : {V D U F : Type 0} (at : V → Point) (v : V) (old : State V D U F) (ready mid new : Contents V D U F) → IsTriangulated at old → state_of ready ≡ old → mid.vertices ≡ ready.vertices ++ v ∷ [] → IsTriangulated at (state_of mid) → GrowsAround (map at ready.vertices) (at v) (state_of ready) (state_of mid)
-    → new ≡ record mid { mesh = new.mesh } → KeepsIndexes mid.mesh new.mesh → IsTriangulated at (state_of new) → KeepsData old (state_of new)
+pub appended_keeps : {V D U F : Type 0} (at : V → Point) (v : V) (old : State V D U F)
+    (ready mid new : Contents V D U F) → IsTriangulated at old → state_of ready ≡ old
+    → mid.vertices ≡ ready.vertices ++ v ∷ [] → IsTriangulated at (state_of mid)
+    → GrowsAround (map at ready.vertices) (at v) (state_of ready) (state_of mid)
+    → new ≡ record mid { mesh = new.mesh } → KeepsIndexes mid.mesh new.mesh
+    → IsTriangulated at (state_of new) → KeepsData old (state_of new)
 appended_keeps at v old ready mid new was same vertices kept grows contents indexes now =
-    data_kept at v old (state_of mid) (state_of new) was now (ap (λ c. c.vertices) contents ∙ vertices ∙ ap (λ s. s.vertices ++ v ∷ []) same) kept.fits.directed_fit
-    (subst (λ s. GrowsAround (map at s.vertices) (at v) s (state_of mid)) same grows) (ap state_of contents) indexes
+    data_kept at v old (state_of mid) (state_of new) was now (ap (λ c. c.vertices) contents
+    ∙ vertices ∙ ap (λ s. s.vertices ++ v ∷ []) same) kept.fits.directed_fit
+    (subst (λ s. GrowsAround (map at s.vertices) (at v) s (state_of mid)) same grows)
+    (ap state_of contents) indexes

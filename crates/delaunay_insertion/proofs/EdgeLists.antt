@@ -1,5 +1,6 @@
 -- The edges of a mesh, with their data, where edges are added or one is split.
-use Rattle.std.proofs.Common.{◌≡◌, ◌≢◌, ◌⊎◌, ℕ, zero, suc, ◌+◌, ◌%◌, Bool, true, false, List, [], ◌∷◌, ◌++◌, length}
+use Rattle.std.proofs.Common.{◌≡◌, ◌≢◌, ◌⊎◌, ◌+◌, ◌%◌, [], ◌∷◌, ◌++◌}
+use Rattle.std.proofs.Common.{ℕ, zero, suc, Bool, true, false, List, length}
 use Rattle.std.proofs.Common.{set, refl, sym, ap, ◌∙◌, subst, Some, inl, inr, arith}
 use Rattle.std.specs.Prelude.{All, slice_get, if◌then◌else◌, nat_eq}
 use Rattle.std.proofs.lemmas.Bool.{cases_eq}
@@ -32,18 +33,21 @@ before_or_after (y ∷ xs) ys (suc l) x e = elim (before_or_after xs ys l x e) [
   )
 ]
 
-after_all : {X : Type 0} (xs ys : List X) (i : ℕ) → slice_get (xs ++ ys) (length xs + i) ≡ slice_get ys i
+after_all : {X : Type 0} (xs ys : List X) (i : ℕ)
+    → slice_get (xs ++ ys) (length xs + i) ≡ slice_get ys i
 after_all [] ys i = ap (slice_get ys) (let e : 0 + i ≡ i = omega arith in e)
 after_all (x ∷ xs) ys i = ap (slice_get (x ∷ xs ++ ys))
     (let e : suc (length xs) + i ≡ suc (length xs + i) = omega arith in e) ∙ after_all xs ys i
 
-with_ends_here : {U : Type 0} (xs : List (Edge U)) (k : ℕ) (e : Ends) (x : Edge U) → slice_get xs k ≡ Some x →
-    slice_get (with_ends xs k e) k ≡ Some (edge_with e x.value)
+with_ends_here : {U : Type 0} (xs : List (Edge U)) (k : ℕ) (e : Ends) (x : Edge U)
+    → slice_get xs k ≡ Some x → slice_get (with_ends xs k e) k ≡ Some (edge_with e x.value)
 with_ends_here [] k e x h = cc
-with_ends_here {U = U} (y ∷ ys) zero e x h = ap (λ (z : Edge U). Some (edge_with e z.value)) (one_value y x h)
+with_ends_here {U = U} (y ∷ ys) zero e x h =
+    ap (λ (z : Edge U). Some (edge_with e z.value)) (one_value y x h)
 with_ends_here (y ∷ ys) (suc k) e x h = with_ends_here ys k e x h
 
-length-with_ends : {U : Type 0} (xs : List (Edge U)) (k : ℕ) (e : Ends) → length (with_ends xs k e) ≡ length xs
+length-with_ends : {U : Type 0} (xs : List (Edge U)) (k : ℕ) (e : Ends)
+    → length (with_ends xs k e) ≡ length xs
 length-with_ends [] k e = refl
 length-with_ends (x ∷ xs) zero e = refl
 length-with_ends (x ∷ xs) (suc k) e = ap suc (length-with_ends xs k e)
@@ -61,7 +65,8 @@ module _ {U : Type 0} (P : U → Type 0) where
     -- where edges are added, each other one stays and the new data are as P says
     pub adds_only : (added : List Ends) → AddsEdges P old new added → AddsOnly P old new
     adds_only added a = record {
-      kept = λ l e h. ap (λ xs. slice_get xs l) a.whole ∙ some_before old (edges_of added a.values) l e h;
+      kept = λ l e h. ap (λ xs. slice_get xs l) a.whole
+          ∙ some_before old (edges_of added a.values) l e h;
       added = λ l e h. elim (before_or_after old (edges_of added a.values) l e
           (ap (λ xs. slice_get xs l) (sym a.whole) ∙ h)) [
             | inl was ↦ inl was
@@ -70,7 +75,8 @@ module _ {U : Type 0} (P : U → Type 0) where
     }
 
   -- two such changes one after the other are one
-  pub adds_on : (old mid new : List (Edge U)) → AddsOnly P old mid → AddsOnly P mid new → AddsOnly P old new
+  pub adds_on : (old mid new : List (Edge U)) → AddsOnly P old mid → AddsOnly P mid new
+      → AddsOnly P old new
   adds_on old mid new a b = record {
     kept = λ l e h. b.kept l e (a.kept l e h);
     added = λ l e h. elim (b.added l e h) [ inl x ↦ a.added l e x | inr x ↦ inr x ];
@@ -83,12 +89,13 @@ module _ {U : Type 0} (P : U → Type 0) where
     added = λ l e h. inl (ap (λ xs. slice_get xs l) (sym same) ∙ h);
   }
 
-  module _ (old new : List (Edge U)) (k v near far : ℕ) (has_ends : (e : Edge U) → slice_get old k ≡ Some e →
-      IsSamePair e.source e.target near far) where
+  module _ (old new : List (Edge U)) (k v near far : ℕ) (has_ends : (e : Edge U)
+      → slice_get old k ≡ Some e → IsSamePair e.source e.target near far) where
     -- both halves come after the others, and their edge gives way to one of the new ones
-    pub splits_at : (turned kept other : Ends) (others : List Ends) →
-        SplitsEdge P old new k turned kept (other ∷ others) → IsSamePair kept.source kept.target near v →
-        IsSamePair other.source other.target far v → SplitsAt P old new k v (length old + 1)
+    pub splits_at : (turned kept other : Ends) (others : List Ends)
+        → SplitsEdge P old new k turned kept (other ∷ others)
+        → IsSamePair kept.source kept.target near v → IsSamePair other.source other.target far v
+        → SplitsAt P old new k v (length old + 1)
     splits_at turned kept other others s kept_ends other_ends = go s.values s.count s.each s.whole
       where
         gone : List (Edge U)
@@ -110,31 +117,37 @@ module _ {U : Type 0} (P : U → Type 0) where
           first = length old;
           first_half = edge_with kept s.edge.value;
           first_is = ap (λ xs. slice_get xs (length old)) whole
-              ∙ ap (slice_get (gone ++ tail)) (let e : length old ≡ length gone + 0 = omega (arith, same_length) in e)
+              ∙ ap (slice_get (gone ++ tail))
+              (let e : length old ≡ length gone + 0 = omega (arith, same_length) in e)
               ∙ after_all gone tail 0;
           first_ends = kept_ends;
           first_value = refl;
           second_half = edge_with other u;
           second_is = ap (λ xs. slice_get xs (length old + 1)) whole
-              ∙ ap (slice_get (gone ++ tail)) (let e : length old + 1 ≡ length gone + 1 = omega (arith, same_length) in
+              ∙ ap (slice_get (gone ++ tail))
+              (let e : length old + 1 ≡ length gone + 1 = omega (arith, same_length) in
               e) ∙ after_all gone tail 1;
           second_ends = other_ends;
           second_value = listed_value (other ∷ others) (u ∷ us) 0 (edge_with other u) each refl;
           late = omega arith;
           kept = λ l e n h. ap (λ xs. slice_get xs l) whole
-              ∙ some_before gone tail l e (slice_get-set_other old k l (edge_with turned s.made) n ∙ h);
+              ∙ some_before gone tail l e
+              (slice_get-set_other old k l (edge_with turned s.made) n ∙ h);
           added = λ l e h. elim (cases_eq l (length old)) [
             | inl is ↦ inr (inl is)
-            | inr n ↦ elim (before_or_after gone tail l e (ap (λ xs. slice_get xs l) (sym whole) ∙ h)) [
-              | inl x ↦ elim (cases_eq l k) [
-                | inl is ↦ inr (inr (subst (λ (x : Edge U). P x.value)
-                    (one_value (edge_with turned s.made) e (sym (set_entry old k s.edge (edge_with turned s.made) s.was)
-                    ∙ ap (slice_get gone) (sym is) ∙ x)) s.is_new))
-                | inr o ↦ inl (o, sym (slice_get-set_other old k l (edge_with turned s.made) o) ∙ x)
-              ]
-              | inr x ↦ inr (inr (in_tail x.0 e (λ z. n (let f : length gone + x.0 ≡ l = x.2 in
-                  omega (arith, f, z, same_length))) x.1))
-            ]
+            | inr n ↦
+                elim (before_or_after gone tail l e (ap (λ xs. slice_get xs l) (sym whole) ∙ h)) [
+                  | inl x ↦ elim (cases_eq l k) [
+                    | inl is ↦ inr (inr (subst (λ (x : Edge U). P x.value)
+                        (one_value (edge_with turned s.made) e
+                        (sym (set_entry old k s.edge (edge_with turned s.made) s.was)
+                        ∙ ap (slice_get gone) (sym is) ∙ x)) s.is_new))
+                    | inr o ↦
+                        inl (o, sym (slice_get-set_other old k l (edge_with turned s.made) o) ∙ x)
+                  ]
+                  | inr x ↦ inr (inr (in_tail x.0 e (λ z. n (let f : length gone + x.0 ≡ l = x.2 in
+                      omega (arith, f, z, same_length))) x.1))
+                ]
           ];
         }
           where
@@ -146,10 +159,12 @@ module _ {U : Type 0} (P : U → Type 0) where
             in_tail (suc i) e n h = listed_value (other ∷ others) (u ∷ us) i e each h
 
     -- the first half has the place of the edge, and the second comes last
-    pub splits_in_place : (turned other : Ends) → AddsEdges P (with_ends old k turned) new (other ∷ []) →
-        (edge : Edge U) → slice_get old k ≡ Some edge → IsSamePair turned.source turned.target near v →
-        IsSamePair other.source other.target far v → SplitsAt P old new k v (length old)
-    splits_in_place turned other a edge was turned_ends other_ends = go a.values a.count a.each a.whole
+    pub splits_in_place : (turned other : Ends)
+        → AddsEdges P (with_ends old k turned) new (other ∷ []) → (edge : Edge U)
+        → slice_get old k ≡ Some edge → IsSamePair turned.source turned.target near v
+        → IsSamePair other.source other.target far v → SplitsAt P old new k v (length old)
+    splits_in_place turned other a edge was turned_ends other_ends =
+        go a.values a.count a.each a.whole
       where
         left : List (Edge U)
         left = with_ends old k turned
@@ -168,13 +183,15 @@ module _ {U : Type 0} (P : U → Type 0) where
           ends = has_ends edge was;
           first = k;
           first_half = edge_with turned edge.value;
-          first_is = ap (λ xs. slice_get xs k) whole ∙ some_before left tail k (edge_with turned edge.value)
+          first_is = ap (λ xs. slice_get xs k) whole
+              ∙ some_before left tail k (edge_with turned edge.value)
               (with_ends_here old k turned edge was);
           first_ends = turned_ends;
           first_value = refl;
           second_half = edge_with other u;
           second_is = ap (λ xs. slice_get xs (length old)) whole
-              ∙ ap (slice_get (left ++ tail)) (let e : length old ≡ length left + 0 = omega (arith, same_length) in e)
+              ∙ ap (slice_get (left ++ tail))
+              (let e : length old ≡ length left + 0 = omega (arith, same_length) in e)
               ∙ after_all left tail 0;
           second_ends = other_ends;
           second_value = listed_value (other ∷ []) (u ∷ us) 0 (edge_with other u) each refl;
@@ -183,10 +200,11 @@ module _ {U : Type 0} (P : U → Type 0) where
               ∙ some_before left tail l e (with_ends_other old k l turned n ∙ h);
           added = λ l e h. elim (cases_eq l k) [
             | inl is ↦ inr (inl is)
-            | inr n ↦ elim (before_or_after left tail l e (ap (λ xs. slice_get xs l) (sym whole) ∙ h)) [
-              | inl x ↦ inl (n, sym (with_ends_other old k l turned n) ∙ x)
-              | inr x ↦ inr (inr (listed_value (other ∷ []) (u ∷ us) x.0 e each x.1))
-            ]
+            | inr n ↦
+                elim (before_or_after left tail l e (ap (λ xs. slice_get xs l) (sym whole) ∙ h)) [
+                  | inl x ↦ inl (n, sym (with_ends_other old k l turned n) ∙ x)
+                  | inr x ↦ inr (inr (listed_value (other ∷ []) (u ∷ us) x.0 e each x.1))
+                ]
           ];
         }
           where

@@ -1,5 +1,6 @@
 -- The room for a vertex, and the two sides of an edge.
-use Rattle.std.proofs.Common.{◌≡◌, ℕ, ◌+◌, ◌*◌, ◌<◌, ◌≤◌, [], length, map, ap, sym, ◌∙◌, subst, inl, inr, arith}
+use Rattle.std.proofs.Common.{◌≡◌, ◌+◌, ◌*◌, ◌<◌, ◌≤◌, [], ◌∙◌}
+use Rattle.std.proofs.Common.{ℕ, length, map, ap, sym, subst, inl, inr, arith}
 use Rattle.std.proofs.lemmas.List.{length-map}
 use Rattle.half_edge_mesh.specs.Mesh.{origin, rev, face}
 use Rattle.half_edge_mesh.specs.Room.{HasRoomFor}
@@ -22,7 +23,8 @@ use Rattle.delaunay_legalization.proofs.Shapes.{laid_out_tiles}
 pub positive : (n : ℕ) → ¬ (n ≡ 0) → 0 < n
 positive n h = omega (arith, h)
 
-module _ {V D U F : Type 0} (at : V → Point) (c : Contents V D U F) (kept : IsTriangulated at (state_of c)) where
+module _ {V D U F : Type 0} (at : V → Point) (c : Contents V D U F)
+    (kept : IsTriangulated at (state_of c)) where
   -- ---- room for what a vertex brings, of the room that is reserved for it
   module _ (room : HasRoomFor c.room (length c.vertices + 1) (3 * (length c.vertices + 1))
       (2 * (length c.vertices + 1))) where
@@ -63,19 +65,22 @@ module _ {V D U F : Type 0} (at : V → Point) (c : Contents V D U F) (kept : Is
       IsWithinEdge (map at c.vertices) c.mesh p (rev e)
   within_twin p e w = subst (λ k. WithinSegment (place (map at c.vertices) (origin c.mesh (rev e)))
       (place (map at c.vertices) (origin c.mesh k)) (whole p)) (sym (rev-rev e))
-      (turned_within (place (map at c.vertices) (origin c.mesh e)) (place (map at c.vertices) (origin c.mesh (rev e)))
+      (turned_within (place (map at c.vertices) (origin c.mesh e))
+      (place (map at c.vertices) (origin c.mesh (rev e)))
       (whole p) w)
 
   -- where the mesh lists no face, there is no inner one
   pub no_listed_face : faces_of c.mesh ≡ [] → length c.faces ≡ 0
-  no_listed_face none = kept.fits.faces_fit ∙ sym (length-map c.mesh.face_edges (triangle_at c.mesh))
+  no_listed_face none = kept.fits.faces_fit
+      ∙ sym (length-map c.mesh.face_edges (triangle_at c.mesh))
       ∙ sym (length-map (triangles c.mesh) corners_of) ∙ ap length none
 
   -- where there are faces, an edge has one on its left or on its right
   pub inner_twin : (e : ℕ) → e < length c.directed → ¬ (length c.faces ≡ 0) → face c.mesh e ≡ 0 →
       0 < face c.mesh (rev e)
   inner_twin e within some outer = positive (face c.mesh (rev e))
-      (λ twin_outer. go twin_outer (laid_out_tiles (map at c.vertices) c.mesh kept.valid kept.shape))
+      (λ twin_outer. go twin_outer
+      (laid_out_tiles (map at c.vertices) c.mesh kept.valid kept.shape))
     where
       own : IsMeshEdge (map at c.vertices) c.mesh e
       own = mesh_edge at (state_of c) kept e within
@@ -85,8 +90,10 @@ module _ {V D U F : Type 0} (at : V → Point) (c : Contents V D U F) (kept : Is
 
       go : face c.mesh (rev e) ≡ 0 → IsTiling (drawn (map at c.vertices) c.mesh) → ⊥
       go twin_outer (inr l) = some (no_listed_face l.no_face)
-      go twin_outer (inl t) = elim ((t.sides (origin c.mesh e) (origin c.mesh (rev e))).0 own.joined) [
-        | inl h ↦ own.bare outer h
-        | inr h ↦ twin.bare twin_outer (subst (λ k. HasFace (drawn (map at c.vertices) c.mesh) (origin c.mesh (rev e))
-            (origin c.mesh k)) (sym (rev-rev e)) h)
-      ]
+      go twin_outer (inl t) =
+          elim ((t.sides (origin c.mesh e) (origin c.mesh (rev e))).0 own.joined) [
+            | inl h ↦ own.bare outer h
+            | inr h ↦ twin.bare twin_outer
+                (subst (λ k. HasFace (drawn (map at c.vertices) c.mesh) (origin c.mesh (rev e))
+                (origin c.mesh k)) (sym (rev-rev e)) h)
+          ]

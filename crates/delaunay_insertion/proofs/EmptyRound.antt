@@ -1,5 +1,7 @@
--- Where a vertex was put into a triangulation whose circles are empty, the circles round it are empty.
-use Rattle.std.proofs.Common.{◌≡◌, ◌⊎◌, ℕ, ◌<◌, List, [], ◌∷◌, ◌++◌, length, map, Some, sym, ap, ◌∙◌, subst, inl, inr}
+-- Where a vertex was put into a triangulation whose circles are empty, the circles round it are
+-- empty.
+use Rattle.std.proofs.Common.{◌≡◌, ◌⊎◌, ◌<◌, [], ◌∷◌, ◌++◌, ◌∙◌}
+use Rattle.std.proofs.Common.{ℕ, List, length, map, Some, sym, ap, subst, inl, inr}
 use Rattle.std.proofs.Common.{arith}
 use Rattle.std.specs.Prelude.{Contains, slice_get}
 use Rattle.std.proofs.lemmas.List.{length-map, map-append}
@@ -33,13 +35,16 @@ module _ {V D U F : Type 0} (at : V → Point) (v : V) (old new : State V D U F)
   -- the face i j k stays, or the new vertex is in it
   abbrev StaysOrContains : ℕ → ℕ → ℕ → Type 0
   StaysOrContains i j k =
-      IsFaceOf (faces_of new.mesh) i j k ⊎ InTriangle (place before i) (place before j) (place before k) (whole (at v))
+      IsFaceOf (faces_of new.mesh) i j k
+      ⊎ InTriangle (place before i) (place before j) (place before k) (whole (at v))
 
   turned_stays : (i j k : ℕ) → StaysOrContains i j k → StaysOrContains j k i
   turned_stays i j k (inl f) = inl (turned_faces (faces_of new.mesh) i j k f)
-  turned_stays i j k (inr h) = inr (turned_in (place before i) (place before j) (place before k) (whole (at v)) h)
+  turned_stays i j k (inr h) =
+      inr (turned_in (place before i) (place before j) (place before k) (whole (at v)) h)
 
-  triangle_stays : (t : Triangle) → Contains (triangles old.mesh) t → StaysOrContains t.first t.second t.third
+  triangle_stays : (t : Triangle) → Contains (triangles old.mesh) t
+      → StaysOrContains t.first t.second t.third
   triangle_stays t c = elim (takes.grows.faces c.0 t here) [
     | inl k ↦ inl (face_there new.mesh c.0 t (k.corners ∙ here))
     | inr h ↦ inr h
@@ -55,21 +60,24 @@ module _ {V D U F : Type 0} (at : V → Point) (v : V) (old new : State V D U F)
 
   -- each face of before stays, or has the new vertex in it
   pub face_stays_or_contains : (i j k : ℕ) → IsFaceOf (faces_of old.mesh) i j k
-      → IsFaceOf (faces_of new.mesh) i j k ⊎ InTriangle (place before i) (place before j) (place before k)
-      (whole (at v))
+      → IsFaceOf (faces_of new.mesh) i j k
+      ⊎ InTriangle (place before i) (place before j) (place before k) (whole (at v))
   face_stays_or_contains = turn_of_all (faces_of old.mesh) StaysOrContains turned_stays listed_stays
 
 -- where all circles were empty, the circles round the new vertex are
-pub grown_is_empty : {V D U F : Type 0} (at : V → Point) (v : V) (old new : State V D U F) (vertex : ℕ)
-    → IsTriangulated at old → TakesVertex at v old new vertex
+pub grown_is_empty : {V D U F : Type 0} (at : V → Point) (v : V) (old new : State V D U F)
+    (vertex : ℕ) → IsTriangulated at old → TakesVertex at v old new vertex
     → ((i j k n : ℕ) → IsFaceOf (faces_of old.mesh) i j k → n < length old.vertices
-    → ¬ InsideCircle (place (map at old.vertices) i) (place (map at old.vertices) j) (place (map at old.vertices) k)
-    (place (map at old.vertices) n))
+    → ¬ InsideCircle (place (map at old.vertices) i) (place (map at old.vertices) j)
+    (place (map at old.vertices) k) (place (map at old.vertices) n))
     → IsEmptyRound (map at new.vertices) (faces_of new.mesh) (length old.vertices)
 grown_is_empty at v old new vertex was takes empty =
-    subst (λ (x : List Point × ℕ). IsEmptyRound x.0 (faces_of new.mesh) x.1) (λ o. (sym points o, counted o))
-    (put_in_is_empty before (at v) (faces_of old.mesh) (faces_of new.mesh) (outer_of old.mesh) (outer_of new.mesh)
-    was.shape (subst (λ (ps : List Point). IsMesh ps (faces_of new.mesh) (outer_of new.mesh)) points takes.kept.shape)
+    subst (λ (x : List Point × ℕ). IsEmptyRound x.0 (faces_of new.mesh) x.1)
+    (λ o. (sym points o, counted o))
+    (put_in_is_empty before (at v) (faces_of old.mesh) (faces_of new.mesh) (outer_of old.mesh)
+    (outer_of new.mesh)
+    was.shape (subst (λ (ps : List Point). IsMesh ps (faces_of new.mesh) (outer_of new.mesh)) points
+    takes.kept.shape)
     made.each made.sides (face_stays_or_contains at v old new vertex takes)
     (λ i j k n f h. empty i j k n f (omega (arith, h, counted))))
   where

@@ -1,10 +1,13 @@
 -- A mesh with faces gets one more vertex, inside a face or within an edge.
-use Rattle.std.proofs.Common.{◌≡◌, ℕ, ◌<◌, ◌≤◌, ◌+◌, List, [], ◌∷◌, ◌++◌, length, length-append, sym, ap, ◌∙◌, subst, inl, inr, arith}
+use Rattle.std.proofs.Common.{◌≡◌, ◌<◌, ◌≤◌, ◌+◌, [], ◌∷◌, ◌++◌, ◌∙◌}
+use Rattle.std.proofs.Common.{ℕ, List, length, length-append, sym, ap, subst, inl, inr, arith}
 use Rattle.std.proofs.lemmas.List.{length-map, length-set}
-use Rattle.half_edge_mesh.specs.Mesh.{Mesh, AreSoundLinks, IsValidMesh, IsInnerEdge, origin, next, face_edge, rev}
+use Rattle.half_edge_mesh.specs.Mesh.{Mesh, AreSoundLinks, IsValidMesh, IsInnerEdge, origin, next}
+use Rattle.half_edge_mesh.specs.Mesh.{face_edge, rev}
 use Rattle.half_edge_mesh.specs.Flip.{IsFlippable}
 use Rattle.half_edge_mesh.specs.Grow.{IsHalfSplittable}
-use Rattle.half_edge_mesh.specs.Triangles.{triangle_at, triangles, InsertsTriangles, SplitsTriangles}
+use Rattle.half_edge_mesh.specs.Triangles.{triangle_at, triangles, InsertsTriangles}
+use Rattle.half_edge_mesh.specs.Triangles.{SplitsTriangles}
 use Rattle.half_edge_mesh.specs.Outline.{KeepsOuter, ReplacesOuter, HalfSplitsTriangles}
 use Rattle.half_edge_mesh.specs.Growth.{MovesItem}
 use Rattle.plane.specs.Fraction.{Point, whole, WithinSegment}
@@ -12,40 +15,60 @@ use Rattle.plane.specs.Pairs.{place}
 use Rattle.plane_tiling.specs.Local.{IsMesh, LocalMesh}
 use Rattle.plane_tiling.proofs.Edges.{turned_within}
 use Rattle.mesh_embedding.specs.Drawn.{faces_of, outer_of, corners_of}
-use Rattle.mesh_embedding.proofs.MeshEdits.{insertion_inside, insertion_within_side, insertion_within_outer}
+use Rattle.mesh_embedding.proofs.MeshEdits.{insertion_inside, insertion_within_side}
+use Rattle.mesh_embedding.proofs.MeshEdits.{insertion_within_outer}
 use Rattle.delaunay_legalization.specs.Parts.{IsInsideFaceOf, IsWithinEdge}
 
 -- an item that gives way, and more
-pub length_moved : {X : Type 0} (P : X → Type 0) (old new : List X) (i more : ℕ) → MovesItem P old new i more → length new ≡ length old + more + 1
-length_moved P old new i more g = rw g.whole (simp (length-set, length-append) (omega (arith, g.count)))
+pub length_moved : {X : Type 0} (P : X → Type 0) (old new : List X) (i more : ℕ)
+    → MovesItem P old new i more → length new ≡ length old + more + 1
+length_moved P old new i more g =
+    rw g.whole (simp (length-set, length-append) (omega (arith, g.count)))
 
 -- a mesh with an edge of an inner face is not a line
-with_faces : (points : List Point) (m : Mesh) (e : ℕ) → AreSoundLinks m → IsInnerEdge m e → IsMesh points (faces_of m) (outer_of m) → LocalMesh points (faces_of m) (outer_of m)
+with_faces : (points : List Point) (m : Mesh) (e : ℕ) → AreSoundLinks m → IsInnerEdge m e
+    → IsMesh points (faces_of m) (outer_of m) → LocalMesh points (faces_of m) (outer_of m)
 with_faces points m e s x (inl l) = l
 with_faces points m e s x (inr l) =
-    let bare : length m.face_edges ≡ 0 = sym (length-map m.face_edges (triangle_at m)) ∙ sym (length-map (triangles m) corners_of) ∙ ap length l.0 in
+    let bare : length m.face_edges ≡ 0 = sym (length-map m.face_edges (triangle_at m))
+    ∙ sym (length-map (triangles m) corners_of) ∙ ap length l.0 in
     let f = (s.edges e x.0).face_in in
     let i = x.1 in
     absurd (omega (arith, bare, f, i))
 
-module _ (points : List Point) (q : Point) (m new : Mesh) (v : ℕ) (w : IsValidMesh m) (shape : IsMesh points (faces_of m) (outer_of m)) (last : v ≡ length points) where
+module _ (points : List Point) (q : Point) (m new : Mesh) (v : ℕ) (w : IsValidMesh m)
+    (shape : IsMesh points (faces_of m) (outer_of m)) (last : v ≡ length points) where
   -- strictly inside face f
-  pub inside_shape : (f : ℕ) → 0 < f → f ≤ length m.face_edges → IsInsideFaceOf points m q (face_edge m f) → InsertsTriangles m new v (face_edge m f) → KeepsOuter m new → IsMesh (points ++ q ∷ []) (faces_of new) (outer_of new)
+  pub inside_shape : (f : ℕ) → 0 < f → f ≤ length m.face_edges
+      → IsInsideFaceOf points m q (face_edge m f) → InsertsTriangles m new v (face_edge m f)
+      → KeepsOuter m new → IsMesh (points ++ q ∷ []) (faces_of new) (outer_of new)
   inside_shape f positive within inside change outer =
       let h = w.sound.faces f positive within in
       let x : IsInnerEdge m (face_edge m f) = (h.0, subst (λ k. 0 < k) (sym h.1) positive) in
-      inl (insertion_inside points q m new (face_edge m f) w.sound x (with_faces points m (face_edge m f) w.sound x shape) inside (subst (λ k. InsertsTriangles m new k (face_edge m f)) last change) outer)
+      inl (insertion_inside points q m new (face_edge m f) w.sound x
+      (with_faces points m (face_edge m f) w.sound x shape) inside
+      (subst (λ k. InsertsTriangles m new k (face_edge m f)) last change) outer)
 
   -- strictly within the edge e between two faces
-  pub within_side_shape : (e : ℕ) → IsFlippable m e → IsWithinEdge points m q e → SplitsTriangles m new v e → KeepsOuter m new → IsMesh (points ++ q ∷ []) (faces_of new) (outer_of new)
+  pub within_side_shape : (e : ℕ) → IsFlippable m e → IsWithinEdge points m q e
+      → SplitsTriangles m new v e → KeepsOuter m new
+      → IsMesh (points ++ q ∷ []) (faces_of new) (outer_of new)
   within_side_shape e x within change outer =
-      inl (insertion_within_side points q m new e w.sound x (with_faces points m e w.sound (x.within, x.inner) shape)
-      (subst (λ k. WithinSegment (place points (origin m e)) (place points k) (whole q)) (sym (w.sound.edges e x.within).starts) within)
+      inl (insertion_within_side points q m new e w.sound x
+      (with_faces points m e w.sound (x.within, x.inner) shape)
+      (subst (λ k. WithinSegment (place points (origin m e)) (place points k) (whole q))
+      (sym (w.sound.edges e x.within).starts) within)
       (subst (λ k. SplitsTriangles m new k e) last change) outer)
 
   -- strictly within the edge e, with the outer face on its right
-  pub within_outer_shape : (e a b : ℕ) → IsHalfSplittable m e → length points ≡ length m.out_edges → IsWithinEdge points m q e → HalfSplitsTriangles m new v e → ReplacesOuter m new (rev e) v a b → IsMesh (points ++ q ∷ []) (faces_of new) (outer_of new)
+  pub within_outer_shape : (e a b : ℕ) → IsHalfSplittable m e → length points ≡ length m.out_edges
+      → IsWithinEdge points m q e → HalfSplitsTriangles m new v e
+      → ReplacesOuter m new (rev e) v a b → IsMesh (points ++ q ∷ []) (faces_of new) (outer_of new)
   within_outer_shape e a b x fit within change outer =
-      inl (insertion_within_outer points q m new e a b w.sound x fit (with_faces points m e w.sound (x.within, x.inner) shape)
-      (turned_within (place points (origin m e)) (place points (origin m (next m e))) (whole q) (subst (λ k. WithinSegment (place points (origin m e)) (place points k) (whole q)) (sym (w.sound.edges e x.within).starts) within))
-      (subst (λ k. HalfSplitsTriangles m new k e) last change) (subst (λ k. ReplacesOuter m new (rev e) k a b) last outer))
+      inl (insertion_within_outer points q m new e a b w.sound x fit
+      (with_faces points m e w.sound (x.within, x.inner) shape)
+      (turned_within (place points (origin m e)) (place points (origin m (next m e))) (whole q)
+      (subst (λ k. WithinSegment (place points (origin m e)) (place points k) (whole q))
+      (sym (w.sound.edges e x.within).starts) within))
+      (subst (λ k. HalfSplitsTriangles m new k e) last change)
+      (subst (λ k. ReplacesOuter m new (rev e) k a b) last outer))

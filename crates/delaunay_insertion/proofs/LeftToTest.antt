@@ -1,5 +1,6 @@
 -- Where a vertex was put in, only the edges of the faces at it are left to test.
-use Rattle.std.proofs.Common.{◌≡◌, ◌⊎◌, ℕ, ◌*◌, ◌<◌, Bool, List, [], ◌∷◌, ◌++◌, length, map, sym, ap, ◌∙◌, subst, inl}
+use Rattle.std.proofs.Common.{◌≡◌, ◌⊎◌, ◌*◌, ◌<◌, [], ◌∷◌, ◌++◌, ◌∙◌}
+use Rattle.std.proofs.Common.{ℕ, Bool, List, length, map, sym, ap, subst, inl}
 use Rattle.std.proofs.Common.{inr, arith}
 use Rattle.std.specs.Prelude.{slice_get, Some}
 use Rattle.std.proofs.lemmas.List.{map-append}
@@ -26,22 +27,24 @@ use Rattle.plane_edits.proofs.Legalization.Flipping.{joins_or_not}
 
 module _ {V D U F : Type 0} (at : V → Point) (marks : U → Bool) (constraints : List U → List ℕ)
     (marked : (ds : List U) → constraints ds ≡ marked_edges marks ds) where
-  module _ (v : V) (old new : Contents V D U F) (was : IsTriangulated at (state_of old))
-      (now : IsTriangulated at (state_of new)) (vertices : new.vertices ≡ old.vertices ++ v ∷ []) where
+  module _ (v : V) (old new : Contents V D U F) (was : IsTriangulated at (state_of old)) (now :
+      IsTriangulated at (state_of new)) (vertices : new.vertices ≡ old.vertices ++ v ∷ []) where
     -- the ends of a constraint are vertices
-    ends_in : (i j : ℕ) → Joins (constraints_by constraints (state_of old)) i j → (i < length old.vertices) ×
-        (j < length old.vertices)
+    ends_in : (i j : ℕ) → Joins (constraints_by constraints (state_of old)) i j
+        → (i < length old.vertices) × (j < length old.vertices)
     ends_in i j h = go m.1.ends
       where
         m : (k : ℕ) × JoinsWithMark marks (edges old) k i j
         m = joins_with_mark marks constraints marked old (whole_mesh at old was) i j h
 
-        o : (slice_get old.undirected m.0 ≡ Some m.1.edge.value) ×
-            ((origin old.mesh (2 * m.0) ≡ m.1.edge.source) × (origin old.mesh (rev (2 * m.0)) ≡ m.1.edge.target))
+        o : (slice_get old.undirected m.0 ≡ Some m.1.edge.value)
+            × ((origin old.mesh (2 * m.0) ≡ m.1.edge.source)
+            × (origin old.mesh (rev (2 * m.0)) ≡ m.1.edge.target))
         o = own_ends old (whole_mesh at old was) m.0 m.1.edge m.1.there
 
         inside : 2 * m.0 < length old.directed
-        inside = let b = slice_get_within old.undirected m.0 m.1.edge.value o.0 in let d = was.fits.directed_fit in
+        inside = let b = slice_get_within old.undirected m.0 m.1.edge.value o.0 in
+            let d = was.fits.directed_fit in
             let u = was.fits.undirected_fit in omega (arith, b, d, u)
 
         source : m.1.edge.source < length old.vertices
@@ -55,11 +58,13 @@ module _ {V D U F : Type 0} (at : V → Point) (marks : U → Bool) (constraints
         below : (a b : ℕ) → a ≡ b → b < length old.vertices → a < length old.vertices
         below a b e l = subst (λ (x : ℕ). x < length old.vertices) (sym e) l
 
-        go : IsSamePair i j m.1.edge.source m.1.edge.target → (i < length old.vertices) × (j < length old.vertices)
+        go : IsSamePair i j m.1.edge.source m.1.edge.target
+            → (i < length old.vertices) × (j < length old.vertices)
         go (inl s) = (below i m.1.edge.source s.0 source, below j m.1.edge.target s.1 target)
         go (inr s) = (below i m.1.edge.target s.0 target, below j m.1.edge.source s.1 source)
 
-    side_is_edge : (i j k : ℕ) → IsFaceOf (faces_of new.mesh) i j k → IsEdge (drawn (map at new.vertices) new.mesh) i j
+    side_is_edge : (i j k : ℕ) → IsFaceOf (faces_of new.mesh) i j k
+        → IsEdge (drawn (map at new.vertices) new.mesh) i j
     side_is_edge i j k f =
         let e = edge_of_face new.mesh now.valid.sound i j k f in
         subst (λ (x : ℕ × ℕ). Joins (edges_of new.mesh) x.0 x.1)
@@ -67,9 +72,10 @@ module _ {V D U F : Type 0} (at : V → Point) (marks : U → Bool) (constraints
         (edge_joins new.mesh now.valid.sound e.0 e.1.inner.0)
 
     -- a constraint that is none any more is no side of a face
-    marks_leave : SplitsConstraints at constraints (state_of old) (state_of new) v → (i j : ℕ) →
-        Joins (constraints_by constraints (state_of old)) i j → Joins (constraints_by constraints (state_of new)) i j ⊎
-        ((k : ℕ) → ¬ IsFaceOf (faces_of new.mesh) i j k)
+    marks_leave : SplitsConstraints at constraints (state_of old) (state_of new) v → (i j : ℕ)
+        → Joins (constraints_by constraints (state_of old)) i j
+        → Joins (constraints_by constraints (state_of new)) i j
+        ⊎ ((k : ℕ) → ¬ IsFaceOf (faces_of new.mesh) i j k)
     marks_leave splits i j h = elim (joins_or_not (constraints_by constraints (state_of new)) i j) [
       | inl x ↦ inl x
       | inr n ↦ inr (λ k f. let b = ends_in i j h in
@@ -81,18 +87,24 @@ module _ {V D U F : Type 0} (at : V → Point) (marks : U → Bool) (constraints
     ]
 
   -- where each edge but constraints passed before
-  pub passes_beside : (old : State V D U F) (ready mid : Contents V D U F) (v : V) (k n : ℕ) →
-      IsDelaunayTriangulation at constraints old → state_of ready ≡ old → mid.vertices ≡ ready.vertices ++ v ∷ [] →
-      k ≡ n → MakesFacesAt n (faces_of ready.mesh) (outer_of ready.mesh) (faces_of mid.mesh)
-      → IsTriangulated at (state_of mid) → SplitsConstraints at constraints (state_of ready) (state_of mid) v →
-      AllPassBeside (map at mid.vertices) (faces_of mid.mesh) (constraints_by constraints (state_of mid)) k
+  pub passes_beside : (old : State V D U F) (ready mid : Contents V D U F) (v : V) (k n : ℕ)
+      → IsDelaunayTriangulation at constraints old → state_of ready ≡ old
+      → mid.vertices ≡ ready.vertices ++ v ∷ [] → k ≡ n
+      → MakesFacesAt n (faces_of ready.mesh) (outer_of ready.mesh) (faces_of mid.mesh)
+      → IsTriangulated at (state_of mid)
+      → SplitsConstraints at constraints (state_of ready) (state_of mid) v → AllPassBeside
+      (map at mid.vertices) (faces_of mid.mesh) (constraints_by constraints (state_of mid)) k
   passes_beside old ready mid v k n legal same vertices is made kept splits =
       let here : IsDelaunayTriangulation at constraints (state_of ready) =
       subst (IsDelaunayTriangulation at constraints) (sym same) legal in
-      subst (λ (ps : List Point). AllPassBeside ps (faces_of mid.mesh) (constraints_by constraints (state_of mid)) k)
+      subst (λ (ps : List Point). AllPassBeside ps (faces_of mid.mesh)
+      (constraints_by constraints (state_of mid)) k)
       (sym (ap (map at) vertices ∙ map-append at ready.vertices (v ∷ [])))
-      (made_at_leaves (map at ready.vertices) (at v) (faces_of ready.mesh) (faces_of mid.mesh) (outer_of ready.mesh)
-      (constraints_by constraints (state_of ready)) (constraints_by constraints (state_of mid)) k here.kept.shape
+      (made_at_leaves (map at ready.vertices) (at v) (faces_of ready.mesh) (faces_of mid.mesh)
+      (outer_of ready.mesh)
+      (constraints_by constraints (state_of ready))
+      (constraints_by constraints (state_of mid)) k here.kept.shape
       (λ a b c d f g free _. here.passing a b c d f g free)
-      (subst (λ (x : ℕ). MakesFacesAt x (faces_of ready.mesh) (outer_of ready.mesh) (faces_of mid.mesh)) (sym is) made)
+      (subst (λ (x : ℕ). MakesFacesAt x (faces_of ready.mesh) (outer_of ready.mesh)
+      (faces_of mid.mesh)) (sym is) made)
       (marks_leave v ready mid here.kept kept vertices splits))

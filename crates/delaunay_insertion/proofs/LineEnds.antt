@@ -1,5 +1,7 @@
--- A new vertex is joined to edges of a line: where the next outer edge at an end does not see it, no outer edge there does.
-use Rattle.std.proofs.Common.{◌≡◌, ◌≢◌, ◌⊎◌, ℕ, ◌<◌, List, [], ◌∷◌, ◌++◌, length, refl, sym, ap, ◌∙◌, subst, inl, inr, arith}
+-- A new vertex is joined to edges of a line: where the next outer edge at an end does not see it,
+-- no outer edge there does.
+use Rattle.std.proofs.Common.{◌≡◌, ◌≢◌, ◌⊎◌, ◌<◌, [], ◌∷◌, ◌++◌, ◌∙◌}
+use Rattle.std.proofs.Common.{ℕ, List, length, refl, sym, ap, subst, inl, inr, arith}
 use Rattle.std.specs.Prelude.{ℤ, pos, ◌<ℤ◌, ◌≤ℤ◌, Contains}
 use Rattle.std.proofs.lemmas.Bool.{cases_eq}
 use Rattle.half_edge_mesh.specs.Mesh.{Mesh, IsValidMesh, IsSoundEdge, origin, next, prev, face, rev}
@@ -36,7 +38,8 @@ use Rattle.plane.proofs.Signs.{opposites_not_both_positive, at_most_both_ways}
 use Rattle.half_edge_links.proofs.Removing.Conditions.{alone_at}
 
 -- ---- a vertex of a line has at most two neighbours
-module _ (n : ℕ) (p : ℕ → Point) (outer : List (ℕ × ℕ)) (m : SignLine n p outer) (w a : ℕ) (near : IsNext n p w a) where
+module _ (n : ℕ) (p : ℕ → Point) (outer : List (ℕ × ℕ)) (m : SignLine n p outer) (w a : ℕ)
+    (near : IsNext n p w a) where
   apart : ¬ (p w ≡ p a)
   apart = m.distinct w a near.first near.second near.apart
 
@@ -47,12 +50,15 @@ module _ (n : ℕ) (p : ℕ → Point) (outer : List (ℕ × ℕ)) (m : SignLine
   spot k = place_on (p w) (p a) (at p k)
 
   none_between : (i k : ℕ) → IsNext n p w i → k < n → IsBetween (spot w) (spot i) (spot k) → ⊥
-  none_between i k s h b = s.none_between k h (within_places (p w) (p a) apart (p w) (p i) (p k) (on w near.first) (on i s.second) (on k h) b)
+  none_between i k s h b = s.none_between k h (within_places (p w) (p a) apart (p w) (p i) (p k)
+      (on w near.first) (on i s.second) (on k h) b)
 
   same_spot : (i j : ℕ) → i < n → j < n → spot i ≤ℤ spot j → spot j ≤ℤ spot i → i ≡ j
-  same_spot i j hi hj h k = same_place n p m.distinct (p w) (p a) apart i j hi hj (on i hi) (on j hj) (at_most_both_ways _ _ h k)
+  same_spot i j hi hj h k = same_place n p m.distinct (p w) (p a) apart i j hi hj (on i hi)
+      (on j hj) (at_most_both_ways _ _ h k)
 
-  both_above : (i j : ℕ) → IsNext n p w i → IsNext n p w j → spot w <ℤ spot i → spot w <ℤ spot j → i ≡ j
+  both_above : (i j : ℕ) → IsNext n p w i → IsNext n p w j → spot w <ℤ spot i
+      → spot w <ℤ spot j → i ≡ j
   both_above i j s t h k = go (lt_or_ge_ℤ (spot i) (spot j)) (lt_or_ge_ℤ (spot j) (spot i))
     where
       go : (spot i <ℤ spot j) ⊎ (spot j ≤ℤ spot i) → (spot j <ℤ spot i) ⊎ (spot i ≤ℤ spot j) → i ≡ j
@@ -60,7 +66,8 @@ module _ (n : ℕ) (p : ℕ → Point) (outer : List (ℕ × ℕ)) (m : SignLine
       go (inr o) (inl q) = absurd (none_between i j s t.second (inl (k, q)))
       go (inr o) (inr q) = same_spot i j s.second t.second q o
 
-  both_below : (i j : ℕ) → IsNext n p w i → IsNext n p w j → spot i <ℤ spot w → spot j <ℤ spot w → i ≡ j
+  both_below : (i j : ℕ) → IsNext n p w i → IsNext n p w j → spot i <ℤ spot w
+      → spot j <ℤ spot w → i ≡ j
   both_below i j s t h k = go (lt_or_ge_ℤ (spot i) (spot j)) (lt_or_ge_ℤ (spot j) (spot i))
     where
       go : (spot i <ℤ spot j) ⊎ (spot j ≤ℤ spot i) → (spot j <ℤ spot i) ⊎ (spot i ≤ℤ spot j) → i ≡ j
@@ -71,19 +78,23 @@ module _ (n : ℕ) (p : ℕ → Point) (outer : List (ℕ × ℕ)) (m : SignLine
   off : (i : ℕ) → IsNext n p w i → (spot w <ℤ spot i) ⊎ (spot i <ℤ spot w)
   off i s = go (lt_or_ge_ℤ (spot w) (spot i)) (lt_or_ge_ℤ (spot i) (spot w))
     where
-      go : (spot w <ℤ spot i) ⊎ (spot i ≤ℤ spot w) → (spot i <ℤ spot w) ⊎ (spot w ≤ℤ spot i) → (spot w <ℤ spot i) ⊎ (spot i <ℤ spot w)
+      go : (spot w <ℤ spot i) ⊎ (spot i ≤ℤ spot w) → (spot i <ℤ spot w) ⊎ (spot w ≤ℤ spot i)
+          → (spot w <ℤ spot i) ⊎ (spot i <ℤ spot w)
       go (inl o) q = inl o
       go (inr o) (inl q) = inr q
       go (inr o) (inr q) = absurd (s.apart (same_spot w i near.first s.second q o))
 
   -- where w has two neighbours, each neighbour is one of them
-  pub one_of_two_neighbours : (b c : ℕ) → IsNext n p w b → IsNext n p w c → a ≢ b → (c ≡ a) ⊎ (c ≡ b)
+  pub one_of_two_neighbours : (b c : ℕ) → IsNext n p w b → IsNext n p w c → a ≢ b
+      → (c ≡ a) ⊎ (c ≡ b)
   one_of_two_neighbours b c s t other = go (off b s) (off c t)
     where
       above : spot w <ℤ spot a
-      above = subst (λ z. z <ℤ spot a) (sym (place_of_start (p w) (p a))) (place_of_end (p w) (p a) apart)
+      above = subst (λ z. z <ℤ spot a) (sym (place_of_start (p w) (p a)))
+          (place_of_end (p w) (p a) apart)
 
-      go : (spot w <ℤ spot b) ⊎ (spot b <ℤ spot w) → (spot w <ℤ spot c) ⊎ (spot c <ℤ spot w) → (c ≡ a) ⊎ (c ≡ b)
+      go : (spot w <ℤ spot b) ⊎ (spot b <ℤ spot w) → (spot w <ℤ spot c) ⊎ (spot c <ℤ spot w)
+          → (c ≡ a) ⊎ (c ≡ b)
       go (inl x) y = absurd (other (both_above a b near s above x))
       go (inr x) (inl y) = inl (both_above c a t near y above)
       go (inr x) (inr y) = inr (both_below c b t s y x)
@@ -97,10 +108,18 @@ module _ (points : List Point) (n : ℕ) (outer : List (ℕ × ℕ)) where
     pub seen : TurnsLeft (place points start) (place points (last_of v vs)) (place points n)
 
   last_step_of : (u v : ℕ) (vs : List ℕ) → IsSeenRun points n outer u (v ∷ vs) → IsLastStep u v vs
-  last_step_of u v [] r = record { start = u; step = Contains-head (u, v) []; edge = r.0; seen = r.1 }
-  last_step_of u v (y ∷ ys) r = let t = last_step_of v y ys r.2 in record { start = t.start; step = Contains-later (u, v) (steps v (y ∷ ys)) (t.start, last_of y ys) t.step; edge = t.edge; seen = t.seen }
+  last_step_of u v [] r =
+      record { start = u; step = Contains-head (u, v) []; edge = r.0; seen = r.1 }
+  last_step_of u v (y ∷ ys) r = let t = last_step_of v y ys r.2 in record {
+    start = t.start;
+    step = Contains-later (u, v) (steps v (y ∷ ys)) (t.start, last_of y ys) t.step;
+    edge = t.edge;
+    seen = t.seen;
+  }
 
-module _ (points : List Point) (q : Point) (outer : List (ℕ × ℕ)) (m : Mesh) (u w : ℕ) (straight : LineMesh points outer) (valid : IsValidMesh m) (x : IsExtending points q [] (faces_of m) outer (outer_of m) u w) where
+module _ (points : List Point) (q : Point) (outer : List (ℕ × ℕ)) (m : Mesh) (u w : ℕ)
+    (straight : LineMesh points outer) (valid : IsValidMesh m)
+    (x : IsExtending points q [] (faces_of m) outer (outer_of m) u w) where
   abbrev n : ℕ
   n = length points
 
@@ -108,20 +127,27 @@ module _ (points : List Point) (q : Point) (outer : List (ℕ × ℕ)) (m : Mesh
   p = point_at (points ++ q ∷ [])
 
   abbrev Sees : ℕ → ℕ → Type 0
-  Sees i j = TurnsLeft (place (points ++ q ∷ []) i) (place (points ++ q ∷ []) j) (place (points ++ q ∷ []) (length points))
+  Sees i j = TurnsLeft (place (points ++ q ∷ []) i) (place (points ++ q ∷ []) j)
+      (place (points ++ q ∷ []) (length points))
 
   line : SignLine (length points) (point_at (points ++ q ∷ [])) outer
-  line = same_line (length points) (point_at points) (point_at (points ++ q ∷ [])) outer (kept_point points q) (line_by_signs points outer straight)
+  line = same_line (length points) (point_at points) (point_at (points ++ q ∷ [])) outer
+      (kept_point points q) (line_by_signs points outer straight)
 
   signs : (i j : ℕ) → Sees i j → pos 0 <ℤ bracket (at p i) (at p j) (at p n)
-  signs i j s = if_left (place (points ++ q ∷ []) i) (place (points ++ q ∷ []) j) (place (points ++ q ∷ []) (length points)) s
+  signs i j s = if_left (place (points ++ q ∷ []) i) (place (points ++ q ∷ []) j)
+      (place (points ++ q ∷ []) (length points)) s
 
-  one_way : (i j : ℕ) → pos 0 <ℤ bracket (at p i) (at p j) (at p n) → pos 0 <ℤ bracket (at p j) (at p i) (at p n) → ⊥
-  one_way i j h k = opposites_not_both_positive (bracket (at p i) (at p j) (at p n)) (bracket (at p j) (at p i) (at p n)) (bracket-swap (at p i) (at p j) (at p n)) h k
+  one_way : (i j : ℕ) → pos 0 <ℤ bracket (at p i) (at p j) (at p n)
+      → pos 0 <ℤ bracket (at p j) (at p i) (at p n) → ⊥
+  one_way i j h k = opposites_not_both_positive (bracket (at p i) (at p j) (at p n))
+      (bracket (at p j) (at p i) (at p n)) (bracket-swap (at p i) (at p j) (at p n)) h k
 
   -- a face has no side whose way back sees the new vertex
   unseen_side : (i j k : ℕ) → i < n → j < n → Sees j i → ¬ IsFaceOf (faces_of m) i j k
-  unseen_side i j k hi hj s f = elim (face_from [] (faces_of m) [] (fan n u (x.second ∷ x.rest)) x.faces_change i j k f) [ inl o ↦ absurd (nothing o) | inr o ↦ of_fan o ]
+  unseen_side i j k hi hj s f =
+      elim (face_from [] (faces_of m) [] (fan n u (x.second ∷ x.rest)) x.faces_change i j k f)
+      [ inl o ↦ absurd (nothing o) | inr o ↦ of_fan o ]
     where
       nothing : IsFaceOf [] i j k → ⊥
       nothing (inl c) = absurd (omega (arith, c.1))
@@ -133,19 +159,28 @@ module _ (points : List Point) (q : Point) (outer : List (ℕ × ℕ)) (m : Mesh
 
       of_fan : IsFaceOf (fan n u (x.second ∷ x.rest)) i j k → ⊥
       of_fan (inl c) =
-          let r = fan_from n p outer u (x.second ∷ x.rest) (run_signs points q outer u (x.second ∷ x.rest) x.run) (T.face i j k) c in
-          one_way i j (subst (λ (y : ℕ × ℕ). pos 0 <ℤ bracket (at p y.0) (at p y.1) (at p n)) (λ o. (sym (ap (λ (g : Face). g.a) r.4) o, sym (ap (λ (g : Face). g.b) r.4) o)) r.3) (signs j i s)
+          let r = fan_from n p outer u (x.second ∷ x.rest)
+          (run_signs points q outer u (x.second ∷ x.rest) x.run) (T.face i j k) c in
+          one_way i j (subst (λ (y : ℕ × ℕ). pos 0 <ℤ bracket (at p y.0) (at p y.1) (at p n))
+          (λ o. (sym (ap (λ (g : Face). g.a) r.4) o, sym (ap (λ (g : Face). g.b) r.4) o)) r.3)
+          (signs j i s)
       of_fan (inr (inl c)) =
-          let r = fan_from n p outer u (x.second ∷ x.rest) (run_signs points q outer u (x.second ∷ x.rest) x.run) (T.face j k i) c in
+          let r = fan_from n p outer u (x.second ∷ x.rest)
+          (run_signs points q outer u (x.second ∷ x.rest) x.run) (T.face j k i) c in
           not_new i hi (ap (λ (g : Face). g.c) r.4)
       of_fan (inr (inr c)) =
-          let r = fan_from n p outer u (x.second ∷ x.rest) (run_signs points q outer u (x.second ∷ x.rest) x.run) (T.face k i j) c in
+          let r = fan_from n p outer u (x.second ∷ x.rest)
+          (run_signs points q outer u (x.second ∷ x.rest) x.run) (T.face k i j) c in
           not_new j hj (ap (λ (g : Face). g.c) r.4)
 
-  from_old : (i j : ℕ) → i ≢ n → j ≢ n → Contains (outer_of m) (i, j) → Contains outer (i, j) × ¬ Contains (steps u (x.second ∷ x.rest)) (i, j)
+  from_old : (i j : ℕ) → i ≢ n → j ≢ n → Contains (outer_of m) (i, j)
+      → Contains outer (i, j) × ¬ Contains (steps u (x.second ∷ x.rest)) (i, j)
   from_old i j first second c = elim (x.outer_change.only i j c) [
     | inl o ↦ o
-    | inr o ↦ elim (in_two (u, n) (n, w) (i, j) o) [ inl e ↦ absurd (second (sym (ap (λ (y : ℕ × ℕ). y.1) e))) | inr e ↦ absurd (first (sym (ap (λ (y : ℕ × ℕ). y.0) e))) ]
+    | inr o ↦ elim (in_two (u, n) (n, w) (i, j) o) [
+      | inl e ↦ absurd (second (sym (ap (λ (y : ℕ × ℕ). y.1) e)))
+      | inr e ↦ absurd (first (sym (ap (λ (y : ℕ × ℕ). y.0) e)))
+    ]
   ]
 
   old_end : (k : ℕ) → k < n → k ≢ n
@@ -164,9 +199,16 @@ module _ (points : List Point) (q : Point) (outer : List (ℕ × ℕ)) (m : Mesh
   one : (h g i j : ℕ) → IsOuterEdge m h i j → IsOuterEdge m g i j → h ≡ g
   one = one_edge m x.outer_change.once
 
-  -- the way back of an outer edge that sees the new vertex is an outer edge, where it is one between two vertices of the line
-  back_is_outer : (h i j : ℕ) → i < n → j < n → Sees i j → IsOuterEdge m h i j → IsOuterEdge m (rev h) j i
-  back_is_outer h i j hi hj s o = record { within = t_in; outer = none (cases_eq (face m (rev h)) 0); source = o.target; target = ap (origin m) (rev-rev h) ∙ o.source }
+  -- the way back of an outer edge that sees the new vertex is an outer edge, where it is one
+  -- between two vertices of the line
+  back_is_outer : (h i j : ℕ) → i < n → j < n → Sees i j → IsOuterEdge m h i j
+      → IsOuterEdge m (rev h) j i
+  back_is_outer h i j hi hj s o = record {
+    within = t_in;
+    outer = none (cases_eq (face m (rev h)) 0);
+    source = o.target;
+    target = ap (origin m) (rev-rev h) ∙ o.source;
+  }
     where
       t_in : rev h < length m.half_edges
       t_in = rev_within h (length m.half_edges) valid.sound.even o.within
@@ -180,18 +222,31 @@ module _ (points : List Point) (q : Point) (outer : List (ℕ × ℕ)) (m : Mesh
       none : (face m (rev h) ≡ 0) ⊎ (face m (rev h) ≢ 0) → face m (rev h) ≡ 0
       none (inl e) = e
       none (inr d) = absurd (unseen_side j i (origin m (prev m (rev h))) hj hi s
-          (subst (λ (y : ℕ × ℕ). IsFaceOf (faces_of m) y.0 y.1 (origin m (prev m (rev h)))) (λ t. (o.target t, starts t)) (face_before m (rev h) valid.sound (t_in, positive (face m (rev h)) d))))
+          (subst (λ (y : ℕ × ℕ). IsFaceOf (faces_of m) y.0 y.1 (origin m (prev m (rev h))))
+          (λ t. (o.target t, starts t))
+          (face_before m (rev h) valid.sound (t_in, positive (face m (rev h)) d))))
 
-  -- e goes from the new vertex to w: where the edge after e does not see it, no outer edge from w does
-  pub none_seen_after : (e : ℕ) → IsOuterEdge m e n w → ¬ Sees (origin m (next m e)) (origin m (rev (next m e))) → (y : ℕ) → Contains (outer_of m) (w, y) → ¬ Sees w y
-  none_seen_after e own unseen y c s = elim (cases_eq h.0 (next m e)) [ inl same ↦ unseen (subst (λ (z : ℕ × ℕ). Sees z.0 z.1) (λ t. ((sym h.1.source ∙ ap (origin m) same) t, (sym h.1.target ∙ ap (λ k. origin m (rev k)) same) t)) s) | inr d ↦ other d ]
+  -- e goes from the new vertex to w: where the edge after e does not see it, no outer edge from w
+  -- does
+  pub none_seen_after : (e : ℕ) → IsOuterEdge m e n w
+      → ¬ Sees (origin m (next m e)) (origin m (rev (next m e))) → (y : ℕ)
+      → Contains (outer_of m) (w, y) → ¬ Sees w y
+  none_seen_after e own unseen y c s = elim (cases_eq h.0 (next m e)) [
+    | inl same ↦
+        unseen (subst (λ (z : ℕ × ℕ). Sees z.0 z.1) (λ t. (
+          (sym h.1.source ∙ ap (origin m) same) t,
+          (sym h.1.target ∙ ap (λ k. origin m (rev k)) same) t,
+        )) s)
+    | inr d ↦ other d
+  ]
     where
       h : (g : ℕ) × IsOuterEdge m g w y
       h = real m w y c
 
       -- y is a vertex of the line
       not_last : y ≢ n
-      not_last e = absurd (left_not_zero (signs w y s) (ap (λ i. bracket (at p w) (at p i) (at p n)) e ∙ bracket-last (at p w) (at p n)))
+      not_last e = absurd (left_not_zero (signs w y s)
+          (ap (λ i. bracket (at p w) (at p i) (at p n)) e ∙ bracket-last (at p w) (at p n)))
 
       there : Contains outer (w, y)
       there = (from_old w y (old_end w w_in) not_last c).0
@@ -206,10 +261,12 @@ module _ (points : List Point) (q : Point) (outer : List (ℕ × ℕ)) (m : Mesh
       step_to = subst (λ k. Contains (steps u (x.second ∷ x.rest)) (a, k)) x.last final.step
 
       a_next : IsNext n p w a
-      a_next = next_turned n p a w ((line.neighbours a w).0 (subst (λ k. Contains outer (a, k)) x.last final.edge))
+      a_next = next_turned n p a w
+          ((line.neighbours a w).0 (subst (λ k. Contains outer (a, k)) x.last final.edge))
 
       a_not_y : a ≢ y
-      a_not_y e = one_way a w (signs a w (subst (λ k. Sees a k) x.last final.seen)) (signs w a (subst (λ k. Sees w k) (sym e) s))
+      a_not_y e = one_way a w (signs a w (subst (λ k. Sees a k) x.last final.seen))
+          (signs w a (subst (λ k. Sees w k) (sym e) s))
 
       other : h.0 ≢ next m e → ⊥
       other d = go (cases_eq z n)
@@ -224,36 +281,60 @@ module _ (points : List Point) (q : Point) (outer : List (ℕ × ℕ)) (m : Mesh
           z = origin m k
 
           before : IsOuterEdge m k z w
-          before = record { within = here.prev_in; outer = sym (valid.sound.edges k here.prev_in).same_face ∙ ap (face m) here.next_prev ∙ h.1.outer; source = refl; target = sym (valid.sound.edges k here.prev_in).starts ∙ ap (origin m) here.next_prev ∙ h.1.source }
+          before = record {
+            within = here.prev_in;
+            outer = sym (valid.sound.edges k here.prev_in).same_face
+                ∙ ap (face m) here.next_prev ∙ h.1.outer;
+            source = refl;
+            target = sym (valid.sound.edges k here.prev_in).starts
+                ∙ ap (origin m) here.next_prev ∙ h.1.source;
+          }
 
           back : IsOuterEdge m (rev h.0) y w
           back = back_is_outer h.0 w y w_in y_in s h.1
 
           to_y : z ≡ y → ⊥
           to_y same =
-              let is : rev h.0 ≡ k = one (rev h.0) k y w back (subst (λ i. IsOuterEdge m k i w) same before) in
-              d (sym (alone_at m h.0 valid h.1.within (ap (next m) is ∙ here.next_prev) (next m e) (valid.sound.edges e own.within).next_in ((valid.sound.edges e own.within).starts ∙ own.target ∙ sym h.1.source)))
+              let is : rev h.0 ≡ k =
+              one (rev h.0) k y w back (subst (λ i. IsOuterEdge m k i w) same before) in
+              d (sym (alone_at m h.0 valid h.1.within (ap (next m) is ∙ here.next_prev) (next m e)
+              (valid.sound.edges e own.within).next_in
+              ((valid.sound.edges e own.within).starts ∙ own.target ∙ sym h.1.source)))
 
           go : (z ≡ n) ⊎ (z ≢ n) → ⊥
-          go (inl same) = d (sym here.next_prev ∙ ap (next m) (one k e n w (subst (λ i. IsOuterEdge m k i w) same before) own))
+          go (inl same) = d (sym here.next_prev
+              ∙ ap (next m) (one k e n w (subst (λ i. IsOuterEdge m k i w) same before) own))
           go (inr far) =
               let was = from_old z w far (old_end w w_in) (listed m k z w before) in
               let z_next = next_turned n p z w ((line.neighbours z w).0 was.0) in
-              elim (one_of_two_neighbours n p outer line w a a_next y z ((line.neighbours w y).0 there) z_next a_not_y) [
-                | inl e₁ ↦ was.1 (subst (λ i. Contains (steps u (x.second ∷ x.rest)) (i, w)) (sym e₁) step_to)
+              elim (one_of_two_neighbours n p outer line w a a_next y z
+              ((line.neighbours w y).0 there) z_next a_not_y) [
+                | inl e₁ ↦ was.1
+                    (subst (λ i. Contains (steps u (x.second ∷ x.rest)) (i, w)) (sym e₁) step_to)
                 | inr e₂ ↦ to_y e₂
               ]
 
-  -- e goes from u to the new vertex: where the edge before e does not see it, no outer edge to u does
-  pub none_seen_before : (e : ℕ) → IsOuterEdge m e u n → ¬ Sees (origin m (prev m e)) (origin m (rev (prev m e))) → (y : ℕ) → Contains (outer_of m) (y, u) → ¬ Sees y u
-  none_seen_before e own unseen y c s = elim (cases_eq h.0 (prev m e)) [ inl same ↦ unseen (subst (λ (z : ℕ × ℕ). Sees z.0 z.1) (λ t. ((sym h.1.source ∙ ap (origin m) same) t, (sym h.1.target ∙ ap (λ k. origin m (rev k)) same) t)) s) | inr d ↦ other d ]
+  -- e goes from u to the new vertex: where the edge before e does not see it, no outer edge to u
+  -- does
+  pub none_seen_before : (e : ℕ) → IsOuterEdge m e u n
+      → ¬ Sees (origin m (prev m e)) (origin m (rev (prev m e))) → (y : ℕ)
+      → Contains (outer_of m) (y, u) → ¬ Sees y u
+  none_seen_before e own unseen y c s = elim (cases_eq h.0 (prev m e)) [
+    | inl same ↦
+        unseen (subst (λ (z : ℕ × ℕ). Sees z.0 z.1) (λ t. (
+          (sym h.1.source ∙ ap (origin m) same) t,
+          (sym h.1.target ∙ ap (λ k. origin m (rev k)) same) t,
+        )) s)
+    | inr d ↦ other d
+  ]
     where
       h : (g : ℕ) × IsOuterEdge m g y u
       h = real m y u c
 
       -- y is a vertex of the line
       not_last : y ≢ n
-      not_last e = absurd (left_not_zero (signs y u s) (ap (λ i. bracket (at p i) (at p u) (at p n)) e ∙ bracket-outer (at p n) (at p u)))
+      not_last e = absurd (left_not_zero (signs y u s)
+          (ap (λ i. bracket (at p i) (at p u) (at p n)) e ∙ bracket-outer (at p n) (at p u)))
 
       there : Contains outer (y, u)
       there = (from_old y u not_last (old_end u u_in) c).0
@@ -280,22 +361,33 @@ module _ (points : List Point) (q : Point) (outer : List (ℕ × ℕ)) (m : Mesh
           z = origin m (rev k)
 
           after : IsOuterEdge m k u z
-          after = record { within = here.next_in; outer = here.same_face ∙ h.1.outer; source = here.starts ∙ h.1.target; target = refl }
+          after = record {
+            within = here.next_in;
+            outer = here.same_face ∙ h.1.outer;
+            source = here.starts ∙ h.1.target;
+            target = refl;
+          }
 
           back : IsOuterEdge m (rev h.0) u y
           back = back_is_outer h.0 y u y_in u_in s h.1
 
           to_y : z ≡ y → ⊥
           to_y same =
-              let is : rev h.0 ≡ k = one (rev h.0) k u y back (subst (λ i. IsOuterEdge m k u i) same after) in
-              let own_is : e ≡ rev h.0 = alone_at m (rev h.0) valid back.within (ap (next m) (rev-rev h.0) ∙ sym is) e own.within (own.source ∙ sym back.source) in
+              let is : rev h.0 ≡ k =
+              one (rev h.0) k u y back (subst (λ i. IsOuterEdge m k u i) same after) in
+              let own_is : e ≡ rev h.0 =
+              alone_at m (rev h.0) valid back.within (ap (next m) (rev-rev h.0) ∙ sym is) e
+              own.within (own.source ∙ sym back.source) in
               not_last (sym back.target ∙ ap (λ i. origin m (rev i)) (sym own_is) ∙ own.target)
 
           go : (z ≡ n) ⊎ (z ≢ n) → ⊥
-          go (inl same) = d (sym here.prev_next ∙ ap (prev m) (one k e u n (subst (λ i. IsOuterEdge m k u i) same after) own))
+          go (inl same) = d (sym here.prev_next
+              ∙ ap (prev m) (one k e u n (subst (λ i. IsOuterEdge m k u i) same after) own))
           go (inr far) =
               let was = from_old u z (old_end u u_in) far (listed m k u z after) in
-              elim (one_of_two_neighbours n p outer line u x.second a_next y z (next_turned n p y u ((line.neighbours y u).0 there)) ((line.neighbours u z).0 was.0) a_not_y) [
-                | inl e₁ ↦ was.1 (subst (λ i. Contains (steps u (x.second ∷ x.rest)) (u, i)) (sym e₁) (Contains-head (u, x.second) (steps x.second x.rest)))
+              elim (one_of_two_neighbours n p outer line u x.second a_next y z (next_turned n p y u
+              ((line.neighbours y u).0 there)) ((line.neighbours u z).0 was.0) a_not_y) [
+                | inl e₁ ↦ was.1 (subst (λ i. Contains (steps u (x.second ∷ x.rest)) (u, i))
+                    (sym e₁) (Contains-head (u, x.second) (steps x.second x.rest)))
                 | inr e₂ ↦ to_y e₂
               ]

@@ -1,7 +1,7 @@
--- A new vertex is a corner of each face that is made for it, so that no other edge is left to test. The side opposite
--- it was
--- a side of a face before, or an outer edge.
-use Rattle.std.proofs.Common.{◌≡◌, ◌⊎◌, ℕ, ◌<◌, ◌≤◌, List, [], ◌∷◌, length, map, refl, sym, ap, subst, inl, inr, arith}
+-- A new vertex is a corner of each face that is made for it, so that no other edge is left to test.
+-- The side opposite it was a side of a face before, or an outer edge.
+use Rattle.std.proofs.Common.{◌≡◌, ◌⊎◌, ◌<◌, ◌≤◌, [], ◌∷◌}
+use Rattle.std.proofs.Common.{ℕ, List, length, map, refl, sym, ap, subst, inl, inr, arith}
 use Rattle.std.specs.Prelude.{Contains}
 use Rattle.half_edge_mesh.specs.Mesh.{Mesh, IsValidMesh, IsInnerEdge, face_edge, with_vertex}
 use Rattle.half_edge_mesh.specs.Flip.{IsFlippable}
@@ -16,7 +16,8 @@ use Rattle.plane_edits.specs.Extension.{IsExtending, IsSeenRun, fan}
 use Rattle.plane_edits.proofs.LocalMesh.Changes.{face_from, turn_of_all}
 use Rattle.mesh_embedding.specs.Drawn.{corners_of, faces_of, outer_of}
 use Rattle.mesh_embedding.proofs.FaceChanges.{turned_faces}
-use Rattle.mesh_embedding.proofs.MeshEdits.{inserted_faces, split_faces, half_split_faces, face_before, face_behind}
+use Rattle.mesh_embedding.proofs.MeshEdits.{inserted_faces, split_faces, half_split_faces}
+use Rattle.mesh_embedding.proofs.MeshEdits.{face_before, face_behind}
 use Rattle.delaunay_legalization.specs.Star.{IsOneOf, MakesFacesAt}
 use Rattle.delaunay_legalization.proofs.Stars.{no_face, face_corners}
 
@@ -65,7 +66,8 @@ module _ (old : List Face) (outer : List (ℕ × ℕ)) (v : ℕ) where
   AreFacesAt [] = Unit {0}
   AreFacesAt (f ∷ fs) = IsFaceAt old outer v f.a f.b f.c × AreFacesAt fs
 
-  each_at : (fs : List Face) → AreFacesAt fs → (f : Face) → Contains fs f → IsFaceAt old outer v f.a f.b f.c
+  each_at : (fs : List Face) → AreFacesAt fs → (f : Face) → Contains fs f
+      → IsFaceAt old outer v f.a f.b f.c
   each_at [] a f c = absurd (Contains-none f c)
   each_at (g ∷ gs) a f c = go (Contains-cases g gs f c) (each_at gs a.1 f)
     where
@@ -74,7 +76,8 @@ module _ (old : List Face) (outer : List (ℕ × ℕ)) (v : ℕ) where
       go (inl e) r = subst (λ (h : Face). IsFaceAt old outer v h.a h.b h.c) e a.0
       go (inr k) r = r k
 
-  made_by : (new gone made : List Face) → FacesChange old new gone made → AreFacesAt made → MakesFacesAt v old outer new
+  made_by : (new gone made : List Face) → FacesChange old new gone made → AreFacesAt made
+      → MakesFacesAt v old outer new
   made_by new gone made change all = record {
     each = λ i j k f. elim (face_from old new gone made change i j k f) [
       | inl x ↦ inl x
@@ -90,8 +93,9 @@ module _ (old : List Face) (outer : List (ℕ × ℕ)) (v : ℕ) where
       of_made = turn_of_all made (IsFaceAt old outer v) turned_at (each_at made all)
 
   -- the faces on a run of outer edges
-  fan_at : (points : List Point) (n u : ℕ) (vs : List ℕ) → ((i j : ℕ) → Contains outer (i, j) → (i < v) × (j < v))
-      → IsSeenRun points n outer u vs → AreFacesAt (fan v u vs)
+  fan_at : (points : List Point) (n u : ℕ) (vs : List ℕ)
+      → ((i j : ℕ) → Contains outer (i, j) → (i < v) × (j < v)) → IsSeenRun points n outer u vs
+      → AreFacesAt (fan v u vs)
   fan_at points n u [] ends run = tt
   fan_at points n u (w ∷ ws) ends run =
       let b = ends u w run.0 in
@@ -118,7 +122,8 @@ module _ (points : List Point) (m new : Mesh) (v : ℕ) (w : IsValidMesh m)
     third_side = inl (j, turned_faces (faces_of m) j k i (turned_faces (faces_of m) i j k f))
 
   -- where v is put inside a face, each new face has the corner v
-  pub made_inside : (f : ℕ) → 0 < f → f ≤ length m.face_edges → InsertsTriangles m new v (face_edge m f)
+  pub made_inside : (f : ℕ) → 0 < f → f ≤ length m.face_edges
+      → InsertsTriangles m new v (face_edge m f)
       → MakesFacesAt v (faces_of m) (outer_of m) (faces_of new)
   made_inside f positive within change =
       let h = w.sound.faces f positive within in
@@ -126,9 +131,13 @@ module _ (points : List Point) (m new : Mesh) (v : ℕ) (w : IsValidMesh m)
       let e = face_edge m f in
       let g = face_before m e w.sound x in
       let b = before _ _ _ g in
-      made_by (faces_of m) (outer_of m) v (faces_of new) _ _ (inserted_faces m new v e w.sound x change) (
+      made_by (faces_of m) (outer_of m) v (faces_of new) _ _
+      (inserted_faces m new v e w.sound x change) (
         last_at _ _ v _ _ b.0 b.1 (first_side _ _ _ g),
-        (last_at _ _ v _ _ b.1 b.2 (second_side _ _ _ g), (last_at _ _ v _ _ b.2 b.0 (third_side _ _ _ g), tt)),
+        (
+          last_at _ _ v _ _ b.1 b.2 (second_side _ _ _ g),
+          (last_at _ _ v _ _ b.2 b.0 (third_side _ _ _ g), tt),
+        ),
       )
 
   -- so it has where v splits an edge between two inner faces
@@ -139,11 +148,15 @@ module _ (points : List Point) (m new : Mesh) (v : ℕ) (w : IsValidMesh m)
       let h = face_behind m e w.sound x in
       let b = before _ _ _ g in
       let c = before _ _ _ h in
-      made_by (faces_of m) (outer_of m) v (faces_of new) _ _ (split_faces m new v e w.sound x change) (
+      made_by (faces_of m) (outer_of m) v (faces_of new) _ _
+      (split_faces m new v e w.sound x change) (
         first_at _ _ v _ _ c.2 c.0 (third_side _ _ _ h),
         (
           second_at _ _ v _ _ c.1 c.2 (second_side _ _ _ h),
-          (last_at _ _ v _ _ b.1 b.2 (second_side _ _ _ g), (last_at _ _ v _ _ b.2 b.0 (third_side _ _ _ g), tt)),
+          (
+            last_at _ _ v _ _ b.1 b.2 (second_side _ _ _ g),
+            (last_at _ _ v _ _ b.2 b.0 (third_side _ _ _ g), tt),
+          ),
         ),
       )
 
@@ -153,34 +166,41 @@ module _ (points : List Point) (m new : Mesh) (v : ℕ) (w : IsValidMesh m)
   made_within_outer e x change =
       let g = face_before m e w.sound x in
       let b = before _ _ _ g in
-      made_by (faces_of m) (outer_of m) v (faces_of new) _ _ (half_split_faces m new v e w.sound x change) (
+      made_by (faces_of m) (outer_of m) v (faces_of new) _ _
+      (half_split_faces m new v e w.sound x change) (
         second_at _ _ v _ _ b.2 b.0 (third_side _ _ _ g),
         (first_at _ _ v _ _ b.1 b.2 (second_side _ _ _ g), tt),
       )
 
 -- the new vertex comes last
-pub made_at_count : (old new : List Face) (outer : List (ℕ × ℕ)) (v n : ℕ) → v ≡ n → MakesFacesAt v old outer new
-    → MakesFacesAt n old outer new
+pub made_at_count : (old new : List Face) (outer : List (ℕ × ℕ)) (v n : ℕ) → v ≡ n
+    → MakesFacesAt v old outer new → MakesFacesAt n old outer new
 made_at_count old new outer v n is made = subst (λ (k : ℕ). MakesFacesAt k old outer new) is made
 
 -- on a line there is none
-pub made_none : (m new : Mesh) (v : ℕ) → triangles new ≡ [] → MakesFacesAt v (faces_of m) (outer_of m) (faces_of new)
-made_none m new v none = record { each = λ i j k f. absurd (gone i j k f); sides = λ j k f. absurd (gone v j k f) }
+pub made_none : (m new : Mesh) (v : ℕ) → triangles new ≡ []
+    → MakesFacesAt v (faces_of m) (outer_of m) (faces_of new)
+made_none m new v none =
+    record { each = λ i j k f. absurd (gone i j k f); sides = λ j k f. absurd (gone v j k f) }
   where
     gone : (i j k : ℕ) → ¬ IsFaceOf (faces_of new) i j k
     gone i j k f = no_face i j k (subst (λ fs. IsFaceOf fs i j k) (ap (map corners_of) none) f)
 
 -- a vertex that is added without edges makes no faces
-pub made_first : (m new : Mesh) (v : ℕ) → new ≡ with_vertex m → MakesFacesAt v (faces_of m) (outer_of m) (faces_of new)
-made_first m new v is = subst (λ (x : Mesh). MakesFacesAt v (faces_of m) (outer_of m) (faces_of x)) (sym is)
-    (record { each = λ i j k f. inl f; sides = λ j k f. inl (v, turned_faces (faces_of m) v j k f) })
+pub made_first : (m new : Mesh) (v : ℕ) → new ≡ with_vertex m
+    → MakesFacesAt v (faces_of m) (outer_of m) (faces_of new)
+made_first m new v is =
+    subst (λ (x : Mesh). MakesFacesAt v (faces_of m) (outer_of m) (faces_of x)) (sym is)
+    (record
+    { each = λ i j k f. inl f; sides = λ j k f. inl (v, turned_faces (faces_of m) v j k f) })
 
 -- outside
-pub made_outside : (points : List Point) (q : Point) (faces new : List Face) (outer now : List (ℕ × ℕ)) (u w v : ℕ) →
-    v ≡ length points
+pub made_outside : (points : List Point) (q : Point) (faces new : List Face)
+    (outer now : List (ℕ × ℕ)) (u w v : ℕ) → v ≡ length points
     → IsExtending points q faces new outer now u w → MakesFacesAt v faces outer new
 made_outside points q faces new outer now u w v is x =
     let n = length points in
-    made_at_count faces new outer n v (sym is) (made_by faces outer n new [] (fan n u (x.second ∷ x.rest))
+    made_at_count faces new outer n v (sym is)
+    (made_by faces outer n new [] (fan n u (x.second ∷ x.rest))
     x.faces_change
     (fan_at faces outer n _ n u (x.second ∷ x.rest) x.ends x.run))

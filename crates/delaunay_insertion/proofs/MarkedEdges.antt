@@ -1,5 +1,6 @@
 -- The pairs that constraints join, by the list of edges with their data.
-use Rattle.std.proofs.Common.{◌≡◌, ℕ, ◌*◌, ◌<◌, Bool, true, List, length, sym, ap, ◌∙◌, subst, Some, arith}
+use Rattle.std.proofs.Common.{◌≡◌, ◌*◌, ◌<◌, ◌∙◌}
+use Rattle.std.proofs.Common.{ℕ, Bool, true, List, length, sym, ap, subst, Some, arith}
 use Rattle.std.specs.Prelude.{slice_get}
 use Rattle.std.proofs.lemmas.Option.{slice_get_within}
 use Rattle.half_edge_mesh.specs.Mesh.{origin, rev}
@@ -13,7 +14,8 @@ use Rattle.delaunay_insertion.proofs.DataGrowing.{some_edge, parts_of_edge, ends
 use Rattle.mesh_embedding.proofs.Entries.{one_value}
 
 -- edge k of the list joins a and b, and has the mark
-pub record JoinsWithMark {U : Type 0} (marks : U → Bool) (es : List (Edge U)) (k a b : ℕ) : Type 0 where
+pub record JoinsWithMark {U : Type 0} (marks : U → Bool) (es : List (Edge U))
+    (k a b : ℕ) : Type 0 where
   pub edge : Edge U
   pub there : slice_get es k ≡ Some edge
   pub mark : marks edge.value ≡ true
@@ -27,10 +29,11 @@ own_ends c w k e h = let p = parts_of_edge (ends c.mesh) c.undirected k e h in
     (p.1, ends_are c.mesh w.valid.sound k (record { source = e.source; target = e.target }) p.0)
 
 -- each undirected edge of a mesh is in the list of edges with their data
-pub own_edge : {V D U F : Type 0} (c : Contents V D U F) → IsMeshWithData c → (k : ℕ) → k < length c.undirected →
-    (e : Edge U) × (slice_get (edges c) k ≡ Some e)
+pub own_edge : {V D U F : Type 0} (c : Contents V D U F) → IsMeshWithData c → (k : ℕ)
+    → k < length c.undirected → (e : Edge U) × (slice_get (edges c) k ≡ Some e)
 own_edge c w k h = some_edge (ends c.mesh) c.undirected k
-    (let f = w.fits.undirected_fit in let n = length-ends_twice c.mesh w.valid.sound in omega (arith, f, n, h)) h
+    (let f = w.fits.undirected_fit in let n = length-ends_twice c.mesh w.valid.sound in
+    omega (arith, f, n, h)) h
 
 module _ {U : Type 0} (marks : U → Bool) (constraints : List U → List ℕ)
     (marked : (ds : List U) → constraints ds ≡ marked_edges marks ds) where
@@ -43,14 +46,16 @@ module _ {U : Type 0} (marks : U → Bool) (constraints : List U → List ℕ)
         go : JoinsByMark marks constraints marked c.mesh c.undirected a b →
             (k : ℕ) × JoinsWithMark marks (edges c) k a b
         go j =
-            let e = own_edge c w j.edge (slice_get_within c.undirected j.edge j.is.value j.is.has) in
+            let e =
+            own_edge c w j.edge (slice_get_within c.undirected j.edge j.is.value j.is.has) in
             let o = own_ends c w j.edge e.0 e.1 in (
               j.edge,
               record {
                 edge = e.0;
                 there = e.1;
                 mark = ap marks (one_value e.0.value j.is.value (sym o.0 ∙ j.is.has)) ∙ j.is.mark;
-                ends = subst (λ (x : ℕ × ℕ). IsSamePair a b x.0 x.1) (λ i. (o.1.0 i, o.1.1 i)) j.ends;
+                ends =
+                    subst (λ (x : ℕ × ℕ). IsSamePair a b x.0 x.1) (λ i. (o.1.0 i, o.1.1 i)) j.ends;
               },
             )
 
@@ -62,5 +67,6 @@ module _ {U : Type 0} (marks : U → Bool) (constraints : List U → List ℕ)
         joined_by_mark marks constraints marked c.mesh c.undirected a b (record {
           edge = k;
           is = record { value = j.edge.value; has = o.0; mark = j.mark };
-          ends = subst (λ (x : ℕ × ℕ). IsSamePair a b x.0 x.1) (λ i. (sym o.1.0 i, sym o.1.1 i)) j.ends;
+          ends = subst (λ (x : ℕ × ℕ). IsSamePair a b x.0 x.1)
+              (λ i. (sym o.1.0 i, sym o.1.1 i)) j.ends;
         })

@@ -7,7 +7,8 @@ use Rattle.plane.specs.Fraction.{Point}
 use Rattle.delaunay_legalization.specs.Known.{point_at}
 
 -- the position of a vertex is the point at its index
-pub position_at : {V : Type 0} (at : V → Point) (vs : List V) (k : ℕ) (v : V) (q : Point) → k < length vs
-    → slice_get vs k ≡ Some v → q ≡ at v → q ≡ point_at (map at vs) k
+pub position_at : {V : Type 0} (at : V → Point) (vs : List V) (k : ℕ) (v : V) (q : Point)
+    → k < length vs → slice_get vs k ≡ Some v → q ≡ at v → q ≡ point_at (map at vs) k
 position_at at vs k v q h e is =
-    is ∙ sym (get_or-map at vs k v (record { x = pos 0; y = pos 0 }) h ∙ ap at (get_or_from_slice_get vs k v v e))
+    is ∙ sym (get_or-map at vs k v (record { x = pos 0; y = pos 0 }) h
+    ∙ ap at (get_or_from_slice_get vs k v v e))

@@ -6,9 +6,10 @@ use Rattle.plane.specs.Plain.{Carries, IsHalf}
 use Rattle.delaunay_legalization.specs.Constraints.{constraints_by, points_and_constraints_by}
 use Rattle.delaunay_legalization.specs.State.{State}
 
--- a constraint that v is strictly within became two halves, and the others stay, as the plain state says of a vertex
--- that is appended
-abbrev pub SplitsConstraints : {V D U F : Type 0} → (V → Point) → (List U → List ℕ) → State V D U F → State V D U F →
+-- a constraint that v is strictly within became two halves, and the others stay, as the plain state
+-- says of a vertex that is appended
+abbrev pub SplitsConstraints : {V D U F : Type 0} → (V → Point) → (List U → List ℕ) → State V D U F
+    → State V D U F →
     V → Type 0
 SplitsConstraints at constraints old new v =
     let was = points_and_constraints_by constraints old in let n = length old.vertices in

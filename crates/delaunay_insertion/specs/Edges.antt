@@ -6,12 +6,14 @@ use Rattle.plane.specs.Pairs.{IsSamePair}
 -- each edge stays, and the data of those that are added are as P says
 pub record AddsOnly {U : Type 0} (P : U → Type 0) (old new : List (Edge U)) : Type 0 where
   pub kept : (l : ℕ) (e : Edge U) → slice_get old l ≡ Some e → slice_get new l ≡ Some e
-  pub added : (l : ℕ) (e : Edge U) → slice_get new l ≡ Some e → (slice_get old l ≡ Some e) ⊎ P e.value
+  pub added : (l : ℕ) (e : Edge U) → slice_get new l ≡ Some e
+      → (slice_get old l ≡ Some e) ⊎ P e.value
 
--- edge k, between near and far, is split at vertex v: the first half joins near and v and has its data, and the second,
--- at
--- an index of its own, joins far and v. Each other edge stays, and the data of all that is new are as P says
-pub record SplitsAt {U : Type 0} (P : U → Type 0) (old new : List (Edge U)) (k v second : ℕ) : Type 0 where
+-- edge k, between near and far, is split at vertex v: the first half joins near and v and has its
+-- data, and the second, at an index of its own, joins far and v. Each other edge stays, and the
+-- data of all that is new are as P says
+pub record SplitsAt {U : Type 0} (P : U → Type 0) (old new : List (Edge U))
+    (k v second : ℕ) : Type 0 where
   pub edge : Edge U
   pub was : slice_get old k ≡ Some edge
   pub near : ℕ
@@ -28,5 +30,5 @@ pub record SplitsAt {U : Type 0} (P : U → Type 0) (old new : List (Edge U)) (k
   pub second_value : P second_half.value
   pub late : length old ≤ second
   pub kept : (l : ℕ) (e : Edge U) → l ≢ k → slice_get old l ≡ Some e → slice_get new l ≡ Some e
-  pub added : (l : ℕ) (e : Edge U) → slice_get new l ≡ Some e → ((l ≢ k) × (slice_get old l ≡ Some e)) ⊎
-      ((l ≡ first) ⊎ P e.value)
+  pub added : (l : ℕ) (e : Edge U) → slice_get new l ≡ Some e
+      → ((l ≢ k) × (slice_get old l ≡ Some e)) ⊎ ((l ≡ first) ⊎ P e.value)

@@ -7,4 +7,5 @@ use Rattle.plane.specs.Side.{TurnsLeft}
 
 -- directed edge e has vertex k strictly on its left
 abbrev pub Sees : List Point → Mesh → ℕ → ℕ → Type 0
-Sees points m k e = TurnsLeft (place points (origin m e)) (place points (origin m (rev e))) (place points k)
+Sees points m k e =
+    TurnsLeft (place points (origin m e)) (place points (origin m (rev e))) (place points k)

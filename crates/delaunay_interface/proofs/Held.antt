@@ -1,9 +1,12 @@
 -- The positions that a hint generator holds stay positions of vertices.
-use Rattle.std.proofs.Common.{◌≡◌, ◌∙◌, ◌⊎◌, ℕ, ◌+◌, ◌-◌, ◌<◌, List, [], ◌∷◌, length, map, get_or, Some, sym, ap, subst}
+use Rattle.std.proofs.Common.{◌≡◌, ◌∙◌, ◌⊎◌, ◌+◌, ◌-◌, ◌<◌, [], ◌∷◌}
+use Rattle.std.proofs.Common.{ℕ, List, length, map, get_or, Some, sym, ap, subst}
 use Rattle.std.proofs.Common.{inl, inr, arith}
 use mathlib.Core.Logic.{⊎_elim}
 use Rattle.std.proofs.lemmas.Bool.{cases_eq}
-use Rattle.std.specs.Prelude.{◌≢◌, All, Contains, Option, Result, Ok, Err, IfOk, OnErr, slice_get, swap_remove}
+use Rattle.std.specs.Prelude.{◌≢◌}
+use Rattle.std.specs.Prelude.{All, Contains, Option, Result, Ok, Err, IfOk, OnErr, slice_get}
+use Rattle.std.specs.Prelude.{swap_remove}
 use Rattle.std.proofs.lemmas.List.{length-map, map-append, get_or-map, get_or_default}
 use Rattle.std.proofs.lemmas.List.Elements.{All-contains, Contains-append_left, Contains-push}
 use Rattle.std.proofs.lemmas.Option.{get_or_from_slice_get, slice_get_within}
@@ -21,13 +24,13 @@ use Rattle.delaunay_legalization.specs.State.{State}
 use Rattle.delaunay_edit.specs.Edits.{InsertsVertex}
 
 -- what is held is a site where each vertex is one
-pub held_are_sites : (holds sites : Point → Type 0) (points : List Point) → IsAtMostOf holds points → All sites points →
-    IsAtMost sites holds
+pub held_are_sites : (holds sites : Point → Type 0) (points : List Point) → IsAtMostOf holds points
+    → All sites points → IsAtMost sites holds
 held_are_sites holds sites points held all = λ p h. All-contains sites points p all (held p h)
 
 -- an element that is not the one at i stays where that one goes and the last takes its place
-contains_left : {X : Type 0} (xs : List X) (i : ℕ) (x d : X) → i < length xs → x ≢ get_or xs i d → Contains xs x →
-    Contains (swap_remove xs i d) x
+contains_left : {X : Type 0} (xs : List X) (i : ℕ) (x d : X) → i < length xs → x ≢ get_or xs i d
+    → Contains xs x → Contains (swap_remove xs i d) x
 contains_left xs i x d within apart c =
     let k = c.0 in
     let below = c.1 in
@@ -39,7 +42,8 @@ contains_left xs i x d within apart c =
       i,
       omega (arith, early, fewer),
       get_or_default (swap_remove xs i d) i x d (omega (arith, early, fewer))
-          ∙ get_or-swap_remove_same xs i d early ∙ get_or_default xs (length xs - 1) d x (omega (arith, early))
+          ∙ get_or-swap_remove_same xs i d early
+          ∙ get_or_default xs (length xs - 1) d x (omega (arith, early))
           ∙ ap (λ n. get_or xs n x) (sym last) ∙ c.2,
     ))
     (λ before. let early : k + 1 < length xs = omega (arith, before, below) in (
@@ -52,8 +56,8 @@ contains_left xs i x d within apart c =
     (cases_eq k i)
 
 -- a vertex that is read is at one of the positions
-pub was_listed : {V : Type 0} (place : V → Point) (vs : List V) (i : ℕ) (v : V) → slice_get vs i ≡ Some v →
-    Contains (map place vs) (place v)
+pub was_listed : {V : Type 0} (place : V → Point) (vs : List V) (i : ℕ) (v : V)
+    → slice_get vs i ≡ Some v → Contains (map place vs) (place v)
 was_listed place vs i v had =
     let within = slice_get_within vs i v had in (
       i,
@@ -64,8 +68,8 @@ was_listed place vs i v had =
 
 module _ {V : Type 0} (place : V → Point) (old new : Plain V) where
   -- each position of a vertex is one after an insertion
-  pub stay_listed : (v : V) (i : ℕ) → Inserts place old new v i → (p : Point) → Contains (map place old.vertices) p →
-      Contains (map place new.vertices) p
+  pub stay_listed : (v : V) (i : ℕ) → Inserts place old new v i → (p : Point)
+      → Contains (map place old.vertices) p → Contains (map place new.vertices) p
   stay_listed v i (inl kept) p c = subst (λ (ps : List Point). Contains ps p)
       (sym (ap (map place) kept.vertices ∙ map-set_same place old.vertices i v v (sym kept.same))) c
   stay_listed v i (inr (last, more)) p c = subst (λ (ps : List Point). Contains ps p)
@@ -73,7 +77,8 @@ module _ {V : Type 0} (place : V → Point) (old new : Plain V) where
       (Contains-append_left (map place old.vertices) (place v ∷ []) p c)
 
   -- and so is that of the vertex
-  pub new_is_listed : (v : V) (i : ℕ) → Inserts place old new v i → Contains (map place new.vertices) (place v)
+  pub new_is_listed : (v : V) (i : ℕ) → Inserts place old new v i
+      → Contains (map place new.vertices) (place v)
   new_is_listed v i (inl kept) =
       let here = kept.here in
       subst (λ (ps : List Point). Contains ps (place v))
@@ -103,62 +108,71 @@ module _ {V : Type 0} (place : V → Point) (old new : Plain V) where
       let w = inserted_if_more v r ok err more in
       All-contains InRange (map place new.vertices) (place v) all (new_is_listed v w.0 w.1)
 
-  -- what was a position of a vertex is one after an insertion, whether it was refused or not, and so is a new one
-  pub listed_after_insertion : {E : Type 0} (v : V) (r : Result ℕ E) → IfOk r (Inserts place old new v) →
-      OnErr r (new.vertices ≡ old.vertices) → (p : Point) →
-      (Contains (map place old.vertices) p ⊎ ((length old.vertices < length new.vertices) × (p ≡ place v))) →
-      Contains (map place new.vertices) p
+  -- what was a position of a vertex is one after an insertion, whether it was refused or not, and
+  -- so is a new one
+  pub listed_after_insertion : {E : Type 0} (v : V) (r : Result ℕ E)
+      → IfOk r (Inserts place old new v) → OnErr r (new.vertices ≡ old.vertices) → (p : Point)
+      → (Contains (map place old.vertices) p
+      ⊎ ((length old.vertices < length new.vertices) × (p ≡ place v)))
+      → Contains (map place new.vertices) p
   listed_after_insertion v (Ok i) ok err p (inl c) = stay_listed v i ok p c
   listed_after_insertion v (Ok i) ok err p (inr (more, e)) =
       subst (Contains (map place new.vertices)) (sym e) (new_is_listed v i ok)
-  listed_after_insertion v (Err e) ok err p (inl c) = subst (λ (vs : List V). Contains (map place vs) p) (sym err) c
+  listed_after_insertion v (Err e) ok err p (inl c) =
+      subst (λ (vs : List V). Contains (map place vs) p) (sym err) c
   listed_after_insertion v (Err e) ok err p (inr (more, _)) =
       let same = ap (λ (vs : List V). length vs) err in absurd (omega (arith, same, more))
 
   -- after a removal each other position is one
-  pub others_are_listed : (v : ℕ) (value : V) → slice_get old.vertices v ≡ Some value → Removes place old new v →
-      (p : Point) → p ≢ place value → Contains (map place old.vertices) p → Contains (map place new.vertices) p
+  pub others_are_listed : (v : ℕ) (value : V) → slice_get old.vertices v ≡ Some value
+      → Removes place old new v → (p : Point) → p ≢ place value
+      → Contains (map place old.vertices) p → Contains (map place new.vertices) p
   others_are_listed v value had removes p apart c =
       let within = removes.here in
       let at = get_or-map place old.vertices v value (place value) within
       ∙ ap place (get_or_from_slice_get old.vertices v value value had) in
       subst (λ (ps : List Point). Contains ps p) (sym
       (ap (map place) (removes.vertices value) ∙ mapped_swap_remove place old.vertices v value))
-      (contains_left (map place old.vertices) v p (place value) (omega (arith, within, length-map old.vertices place))
+      (contains_left (map place old.vertices) v p (place value)
+      (omega (arith, within, length-map old.vertices place))
       (λ e. apart (e ∙ at)) c)
 
 -- of an insertion and a removal as their records say
-vertices_if_refused : {V D U F E : Type 0} (old new : State V D U F) (r : Result ℕ E) → OnErr r (new ≡ old) →
-    OnErr r (new.vertices ≡ old.vertices)
+vertices_if_refused : {V D U F E : Type 0} (old new : State V D U F) (r : Result ℕ E)
+    → OnErr r (new ≡ old) → OnErr r (new.vertices ≡ old.vertices)
 vertices_if_refused old new (Ok i) h = tt
 vertices_if_refused old new (Err e) h = ap (λ s. s.vertices) h
 
-module _ {V D U F : Type 0} (place : V → Point) (constraints : List U → List ℕ) (old new : State V D U F) (value : V)
-    (r : Result ℕ InsertionError) (done : InsertsVertex place constraints value r old new) where
+module _ {V D U F : Type 0} (place : V → Point) (constraints : List U → List ℕ)
+    (old new : State V D U F) (value : V) (r : Result ℕ InsertionError)
+    (done : InsertsVertex place constraints value r old new) where
   refused : OnErr r (new.vertices ≡ old.vertices)
   refused = vertices_if_refused old new r done.err
 
   -- where there is a vertex more, and all are in range, the new one is
-  pub inserted_in_range : All InRange (map place new.vertices) → length old.vertices < length new.vertices →
-      InRange (place value)
+  pub inserted_in_range : All InRange (map place new.vertices)
+      → length old.vertices < length new.vertices → InRange (place value)
   inserted_in_range = new_is_in_range place (points_and_constraints_by constraints old)
       (points_and_constraints_by constraints new) value r done.ok refused
 
   -- a position of a vertex before, or that of the new vertex, is one of a vertex afterwards
-  pub listed_then : (p : Point) → (Contains (map place old.vertices) p ⊎
-      ((length old.vertices < length new.vertices) × (p ≡ place value))) → Contains (map place new.vertices) p
+  pub listed_then : (p : Point) → (Contains (map place old.vertices) p
+      ⊎ ((length old.vertices < length new.vertices) × (p ≡ place value)))
+      → Contains (map place new.vertices) p
   listed_then = listed_after_insertion place (points_and_constraints_by constraints old)
       (points_and_constraints_by constraints new) value r done.ok refused
 
-module _ {V D U F : Type 0} (place : V → Point) (constraints : List U → List ℕ) (old new : State V D U F) (v : ℕ)
-    (value : V) (had : slice_get old.vertices v ≡ Some value)
-    (removes : Removes place (points_and_constraints_by constraints old) (points_and_constraints_by constraints new) v)
-  where
-    -- what is held without the position of the vertex that went
-    pub held_then : (held held' : Point → Type 0) (swapped : Option Point) → IsAtMostOf held (map place old.vertices) →
-        ((p : Point) → swapped ≡ Some p → Contains (map place new.vertices) p) →
-        IsAtMostWithout held held' (place value) swapped → IsAtMostOf held' (map place new.vertices)
-    held_then held held' swapped before there told = λ p h.
-        ⊎_elim (λ old_one. others_are_listed place (points_and_constraints_by constraints old)
-        (points_and_constraints_by constraints new) v value had removes p (told p h).1 (before p old_one))
-        (λ e. there p e) (told p h).0
+module _ {V D U F : Type 0} (place : V → Point) (constraints : List U → List ℕ) (old new : State V D
+    U F) (v : ℕ) (value : V) (had : slice_get old.vertices v ≡ Some value) (removes : Removes place
+    (points_and_constraints_by constraints old) (points_and_constraints_by constraints new) v) where
+  -- what is held without the position of the vertex that went
+  pub held_then : (held held' : Point → Type 0) (swapped : Option Point)
+      → IsAtMostOf held (map place old.vertices)
+      → ((p : Point) → swapped ≡ Some p → Contains (map place new.vertices) p)
+      → IsAtMostWithout held held' (place value) swapped
+      → IsAtMostOf held' (map place new.vertices)
+  held_then held held' swapped before there told = λ p h.
+      ⊎_elim (λ old_one. others_are_listed place (points_and_constraints_by constraints old)
+      (points_and_constraints_by constraints new) v value had removes p (told p h).1
+      (before p old_one))
+      (λ e. there p e) (told p h).0

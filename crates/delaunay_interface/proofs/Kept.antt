@@ -11,34 +11,39 @@ use Rattle.delaunay_edit.proofs.Copies.{same_image}
 use Rattle.delaunay_edit.specs.ConstraintEdits.{AddsConstraint, AddsPathIfFree, ReleasesConstraint}
 
 -- what is held is of the new vertices where they are the old ones
-pub held_of_same : {V : Type 0} (place : V → Point) (holds : Point → Type 0) (vs ws : List V) → ws ≡ vs →
-    IsAtMostOf holds (map place vs) → IsAtMostOf holds (map place ws)
-held_of_same place holds vs ws same held = subst (λ (us : List _). IsAtMostOf holds (map place us)) (sym same) held
+pub held_of_same : {V : Type 0} (place : V → Point) (holds : Point → Type 0) (vs ws : List V)
+    → ws ≡ vs → IsAtMostOf holds (map place vs) → IsAtMostOf holds (map place ws)
+held_of_same place holds vs ws same held =
+    subst (λ (us : List _). IsAtMostOf holds (map place us)) (sym same) held
 
 module _ {V D U F E : Type 0} (place : V → Point) (old new : State V D (CdtEdge U) F) where
   -- a constraint that is added leaves the vertices
-  pub vertices_after_adding : (from to : ℕ) (r : Result Bool E) → AddsConstraint place from to r old new →
-      new.vertices ≡ old.vertices
+  pub vertices_after_adding : (from to : ℕ) (r : Result Bool E)
+      → AddsConstraint place from to r old new → new.vertices ≡ old.vertices
   vertices_after_adding from to (Ok made) done = ap (λ s. s.vertices) done.«data».rest
   vertices_after_adding from to (Err e) done = ap (λ s. s.vertices) done.err
 
   -- and so does a path
-  pub vertices_after_path : {X : Type 0} (from to : ℕ) (edges : X → List ℕ) (r : Result X E) →
-      IfOk r (λ x. AddsPathIfFree place from to (edges x) old new) → OnErr r (new ≡ old) → new.vertices ≡ old.vertices
+  pub vertices_after_path : {X : Type 0} (from to : ℕ) (edges : X → List ℕ) (r : Result X E)
+      → IfOk r (λ x. AddsPathIfFree place from to (edges x) old new) → OnErr r (new ≡ old)
+      → new.vertices ≡ old.vertices
   vertices_after_path from to edges (Ok x) done err = ap (λ s. s.vertices) done.«data».rest
   vertices_after_path from to edges (Err e) done err = ap (λ s. s.vertices) err
 
   -- and a release
-  pub vertices_after_release : (edge : ℕ) (r : Result Bool E) → ReleasesConstraint place edge r old new →
-      new.vertices ≡ old.vertices
-  vertices_after_release edge (Ok true) done = ap (λ s. s.vertices) (done.«data» (done.told.0 refl)).rest
+  pub vertices_after_release : (edge : ℕ) (r : Result Bool E)
+      → ReleasesConstraint place edge r old new → new.vertices ≡ old.vertices
+  vertices_after_release edge (Ok true) done =
+      ap (λ s. s.vertices) (done.«data» (done.told.0 refl)).rest
   vertices_after_release edge (Ok false) done =
       ap (λ s. s.vertices) (done.none (λ had. both_ways _ (done.told.1 had) refl)).1
   vertices_after_release edge (Err e) done = ap (λ s. s.vertices) done.err
 
 -- what a duplicate holds is of the copies of the vertices, which have their positions
-pub held_by_copy : {V : Type 0} (place : V → Point) (R : V → V → Type 0) → ((v w : V) → R v w → place w ≡ place v) →
-    (vs ws : List V) → AllZip R vs ws → (held held' : Point → Type 0) → IsAtMostOf held (map place vs) →
-    IsAtMost held held' → IsAtMostOf held' (map place ws)
+pub held_by_copy : {V : Type 0} (place : V → Point) (R : V → V → Type 0)
+    → ((v w : V) → R v w → place w ≡ place v) → (vs ws : List V) → AllZip R vs ws
+    → (held held' : Point → Type 0) → IsAtMostOf held (map place vs) → IsAtMost held held'
+    → IsAtMostOf held' (map place ws)
 held_by_copy place R kept vs ws zip held held' old fewer =
-    λ p h. subst (λ (ps : List Point). Contains ps p) (sym (same_image R place kept vs ws zip)) (old p (fewer p h))
+    λ p h. subst (λ (ps : List Point). Contains ps p) (sym (same_image R place kept vs ws zip))
+    (old p (fewer p h))

@@ -1,5 +1,6 @@
 -- The edges of the hull that an iterator along the outline gives.
-use Rattle.std.proofs.Common.{◌≡◌, ℕ, ◌<◌, List, length, map, inl, inr, refl, sym, ◌∙◌, subst, arith}
+use Rattle.std.proofs.Common.{◌≡◌, ◌<◌, ◌∙◌}
+use Rattle.std.proofs.Common.{ℕ, List, length, map, inl, inr, refl, sym, subst, arith}
 use Rattle.std.specs.Borrow.{Bor}
 use Rattle.half_edge_mesh.specs.Mesh.{face, origin, rev}
 use Rattle.half_edge_mesh.specs.Outline.{IsOuterEdge}
@@ -36,14 +37,16 @@ none_left t (inr line) i j outer k w =
 
 module _ {V D U F : Type 0} (at : V → Point) where
   -- an edge beside the outer face is an outer edge of the triangulation
-  is_outer : (s : State V D U F) → IsTriangulated at s → (h : ℕ) → h < length s.mesh.half_edges → face s.mesh h ≡ 0
+  is_outer : (s : State V D U F) → IsTriangulated at s → (h : ℕ) → h < length s.mesh.half_edges
+      → face s.mesh h ≡ 0
       → IsOuter (triangulation_of at s) (origin s.mesh h) (origin s.mesh (rev h))
   is_outer s kept h w out =
       let edge : IsOuterEdge s.mesh h (origin s.mesh h) (origin s.mesh (rev h)) =
       record { within = w; outer = out; source = refl; target = refl } in
       let here = listed s.mesh h (origin s.mesh h) (origin s.mesh (rev h)) edge in (
         edge_joins s.mesh kept.valid.sound h w,
-        outer_bare (map at s.vertices) s.mesh (origin s.mesh h) (origin s.mesh (rev h)) kept.shape here,
+        outer_bare (map at s.vertices) s.mesh (origin s.mesh h)
+            (origin s.mesh (rev h)) kept.shape here,
       )
 
   outline_at : (d : Bor (Contents V D U F)) (given : List (Bor (Contents V D U F) × ℕ)) →

@@ -6,5 +6,6 @@ use Rattle.half_edge_mesh.specs.Left.{each_in}
 use Rattle.delaunay_interface.specs.declared.inner_faces.InnerFaceIterator.{InnerFaceIterator}
 
 -- the inner faces that an iterator has still to give
-abbrev pub inner_faces_left : {V D U F : Type 0} → InnerFaceIterator V D U F → List (Bor (Contents V D U F) × ℕ)
+abbrev pub inner_faces_left : {V D U F : Type 0} → InnerFaceIterator V D U F
+    → List (Bor (Contents V D U F) × ℕ)
 inner_faces_left it = each_in it.dcel it.rest

@@ -1,19 +1,23 @@
 -- A list of edits that was replayed is a run of those that were made.
-use Rattle.std.proofs.Common.{◌≡◌, ℕ, ◌+◌, List, [], ◌∷◌, ◌++◌, length, refl, arith, sym, ap, subst, append_assoc}
+use Rattle.std.proofs.Common.{◌≡◌, ◌+◌, [], ◌∷◌, ◌++◌}
+use Rattle.std.proofs.Common.{ℕ, List, length, refl, arith, sym, ap, subst, append_assoc}
 use Rattle.std.proofs.Common.{append-nil}
 use Rattle.std.specs.Prelude.{◌↔◌, Contains}
 use Rattle.std.proofs.lemmas.List.{length_push}
-use Rattle.std.proofs.lemmas.List.Elements.{Contains-append_left, Contains-append_right, Contains-push}
+use Rattle.std.proofs.lemmas.List.Elements.{Contains-append_left, Contains-append_right}
+use Rattle.std.proofs.lemmas.List.Elements.{Contains-push}
 use Rattle.plane.specs.Fraction.{Point}
 use Rattle.plane.specs.Pairs.{Joins}
 use Rattle.plane.specs.Plain.{Plain, Edit as PlainEdit, Run}
 use Rattle.delaunay_legalization.specs.Constraints.{points_and_constraints_by}
 use Rattle.delaunay_legalization.specs.State.{State}
 use Rattle.delaunay_journal.specs.declared.edit.Edit.{Edit}
-use Rattle.delaunay_journal.specs.declared.edit.Edit.TheVariants.{Insert, Remove, Replace, Clear, AddConstraint}
+use Rattle.delaunay_journal.specs.declared.edit.Edit.TheVariants.{Insert, Remove, Replace, Clear}
+use Rattle.delaunay_journal.specs.declared.edit.Edit.TheVariants.{AddConstraint}
 use Rattle.delaunay_journal.specs.declared.edit.Edit.TheVariants.{ReleaseConstraint}
 use Rattle.delaunay_journal.specs.declared.edit.Outcome.{Outcome}
-use Rattle.delaunay_journal.specs.declared.edit.Outcome.TheVariants.{Inserted, Removed, Replaced, Cleared, Added}
+use Rattle.delaunay_journal.specs.declared.edit.Outcome.TheVariants.{Inserted, Removed, Replaced}
+use Rattle.delaunay_journal.specs.declared.edit.Outcome.TheVariants.{Cleared, Added}
 use Rattle.delaunay_journal.specs.declared.edit.Outcome.TheVariants.{Released, Refused}
 use Rattle.delaunay_journal.specs.Journal.{Gives, Replays, edit_made, edits_made}
 use Rattle.delaunay_journal.specs.Marking.{Marking}
@@ -23,41 +27,51 @@ module _ {A : Type 0} (left rest : List A) (first : A) (is : left ≡ first ∷ 
   -- the first of what is left is in it
   pub comes_now : (x : A) → first ≡ x → Contains left x
   comes_now x same = subst (λ (xs : List A). Contains xs x) (sym is)
-      (subst (λ (y : A). Contains (y ∷ rest) x) (sym same) (Contains-append_left (x ∷ []) rest x (Contains-push [] x)))
+      (subst (λ (y : A). Contains (y ∷ rest) x) (sym same)
+      (Contains-append_left (x ∷ []) rest x (Contains-push [] x)))
 
   -- and so is each of the rest
   pub comes_later : (x : A) → Contains rest x → Contains left x
-  comes_later x c = subst (λ (xs : List A). Contains xs x) (sym is) (Contains-append_right (first ∷ []) rest x c)
+  comes_later x c =
+      subst (λ (xs : List A). Contains xs x) (sym is) (Contains-append_right (first ∷ []) rest x c)
 
   -- with one more outcome there are as many as there were edits
-  pub counts_on : {B : Type 0} (given more : List B) (next : B) (n : ℕ) → more ≡ given ++ next ∷ [] →
-      length given + length left ≡ n → length more + length rest ≡ n
+  pub counts_on : {B : Type 0} (given more : List B) (next : B) (n : ℕ) → more ≡ given ++ next ∷ []
+      → length given + length left ≡ n → length more + length rest ≡ n
   counts_on given more next n grown was =
       let taken = ap length is in
       let longer = ap length grown in
       omega (arith, was, taken, longer, length_push given next)
 
-module _ {V D U F : Type 0} (place : V → Point) (constraints : List U → List ℕ) (marking : Marking U) where
+module _ {V D U F : Type 0} (place : V → Point) (constraints : List U → List ℕ)
+    (marking : Marking U) where
   abbrev plain_of : State V D U F → Plain V
   plain_of s = points_and_constraints_by constraints s
 
   -- what an edit gave is a step of the definitions, or none
-  goes_on : (e : Edit V) (o : Outcome V) (old middle : State V D U F) (new : Plain V) (steps : List (PlainEdit V)) →
-      Gives place constraints marking e o old middle → Run place steps (plain_of middle) new →
-      Run place (edit_made e o ++ steps) (plain_of old) new
+  goes_on : (e : Edit V) (o : Outcome V) (old middle : State V D U F) (new : Plain V)
+      (steps : List (PlainEdit V)) → Gives place constraints marking e o old middle
+      → Run place steps (plain_of middle) new
+      → Run place (edit_made e o ++ steps) (plain_of old) new
   goes_on e (Refused r) old middle new steps (why, same) rest =
       subst (λ (s : State V D U F). Run place steps (plain_of s) new) same rest
-  goes_on (Insert v) (Inserted i) old middle new steps done rest = (plain_of middle, (i, done.ok), rest)
-  goes_on (Remove i) (Removed v) old middle new steps done rest = (plain_of middle, done.plain, rest)
-  goes_on (Replace i v) (Replaced w) old middle new steps done rest = (plain_of middle, done.plain, rest)
+  goes_on (Insert v) (Inserted i) old middle new steps done rest =
+      (plain_of middle, (i, done.ok), rest)
+  goes_on (Remove i) (Removed v) old middle new steps done rest =
+      (plain_of middle, done.plain, rest)
+  goes_on (Replace i v) (Replaced w) old middle new steps done rest =
+      (plain_of middle, done.plain, rest)
   goes_on Clear Cleared old middle new steps done rest = (plain_of middle, done.plain, rest)
-  goes_on (AddConstraint i j) (Added made) old middle new steps done rest = (plain_of middle, done.plain, rest)
-  goes_on (ReleaseConstraint i j) Released old middle new steps done rest = (plain_of middle, done.plain, rest)
+  goes_on (AddConstraint i j) (Added made) old middle new steps done rest =
+      (plain_of middle, done.plain, rest)
+  goes_on (ReleaseConstraint i j) Released old middle new steps done rest =
+      (plain_of middle, done.plain, rest)
   goes_on e o old middle new steps done rest = absurd done
 
   -- edits and their outcomes are a run
-  pub runs : (es : List (Edit V)) (os : List (Outcome V)) (old new : State V D U F) →
-      Replays place constraints marking es os old new → Run place (edits_made es os) (plain_of old) (plain_of new)
+  pub runs : (es : List (Edit V)) (os : List (Outcome V)) (old new : State V D U F)
+      → Replays place constraints marking es os old new
+      → Run place (edits_made es os) (plain_of old) (plain_of new)
   runs [] [] old new same = record {
     vertices = ap (λ (s : State V D U F). s.vertices) same;
     constraints = λ i j. subst (λ (s : State V D U F). Joins (plain_of s).constraints i j ↔
@@ -69,24 +83,31 @@ module _ {V D U F : Type 0} (place : V → Point) (constraints : List U → List
 
   -- ---- what is left to replay, from what was replayed so far
   -- with outcomes of what is left, those so far are outcomes of all edits
-  pub record IsReplayed (es left : List (Edit V)) (os : List (Outcome V)) (old now : State V D U F) : Type 0 where
-    pub goes : (more : List (Outcome V)) (new : State V D U F) → Replays place constraints marking left more now new →
-        Replays place constraints marking es (os ++ more) old new
+  pub record IsReplayed (es left : List (Edit V)) (os : List (Outcome V))
+      (old now : State V D U F) : Type 0 where
+    pub goes : (more : List (Outcome V)) (new : State V D U F)
+        → Replays place constraints marking left more now new
+        → Replays place constraints marking es (os ++ more) old new
 
   -- the next edit with its outcome is one more
-  pub one_more : (es left rest : List (Edit V)) (os : List (Outcome V)) (old now next : State V D U F) (e : Edit V)
-      (o : Outcome V) → IsReplayed es left os old now → left ≡ e ∷ rest → Gives place constraints marking e o now next →
-      IsReplayed es rest (os ++ o ∷ []) old next
+  pub one_more : (es left rest : List (Edit V)) (os : List (Outcome V))
+      (old now next : State V D U F) (e : Edit V) (o : Outcome V) → IsReplayed es left os old now
+      → left ≡ e ∷ rest → Gives place constraints marking e o now next
+      → IsReplayed es rest (os ++ o ∷ []) old next
   one_more es left rest os old now next e o so is done = record {
-    goes = λ more new r. subst (λ (xs : List (Outcome V)). Replays place constraints marking es xs old new)
+    goes = λ more new r. subst
+        (λ (xs : List (Outcome V)). Replays place constraints marking es xs old new)
         (sym (append_assoc os (o ∷ []) more))
-        (so.goes (o ∷ more) new (subst (λ (xs : List (Edit V)). Replays place constraints marking xs (o ∷ more) now new)
+        (so.goes (o ∷ more) new
+        (subst (λ (xs : List (Edit V)). Replays place constraints marking xs (o ∷ more) now new)
         (sym is) (next, done, r)));
   }
 
   -- where no edit is left, all were replayed
-  pub ends : (es left : List (Edit V)) (os : List (Outcome V)) (old now : State V D U F) →
-      IsReplayed es left os old now → length left ≡ 0 → Replays place constraints marking es os old now
-  ends es [] os old now so none = subst (λ (xs : List (Outcome V)). Replays place constraints marking es xs old now)
+  pub ends : (es left : List (Edit V)) (os : List (Outcome V)) (old now : State V D U F)
+      → IsReplayed es left os old now → length left ≡ 0
+      → Replays place constraints marking es os old now
+  ends es [] os old now so none =
+      subst (λ (xs : List (Outcome V)). Replays place constraints marking es xs old now)
       (append-nil os) (so.goes [] now refl)
   ends es (e ∷ left) os old now so none = absurd (omega (arith, none))

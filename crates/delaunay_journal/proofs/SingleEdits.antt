@@ -1,5 +1,6 @@
 -- What single edits give.
-use Rattle.std.proofs.Common.{◌≡◌, ◌∙◌, ℕ, ◌*◌, ◌/◌, ◌<◌, Bool, List, map, Ok, Err, refl, sym, ap, subst, inl, inr}
+use Rattle.std.proofs.Common.{◌≡◌, ◌∙◌, ◌*◌, ◌/◌, ◌<◌}
+use Rattle.std.proofs.Common.{ℕ, Bool, List, map, Ok, Err, refl, sym, ap, subst, inl, inr}
 use Rattle.half_edge_mesh.specs.Mesh.{origin, rev}
 use Rattle.plane.specs.Fraction.{Point}
 use Rattle.plane.specs.Pairs.{Joins, IsSamePair}
@@ -55,11 +56,13 @@ module _ {V : Type 0} (place : V → Point) (vs : List V) (i j : ℕ) (v : V) (h
 
 module _ {V D U F : Type 0} (place : V → Point) (constraints : List U → List ℕ) where
   -- a refused insertion, in the state that it leaves
-  pub refused_insertion : (old new : State V D U F) (v : V) (e : InsertionError) →
-      InsertsVertex place constraints v (Err e) old new → InsertsVertex place constraints v (Err e) old old ×
-      (new ≡ old)
-  refused_insertion old new v e done =
-      (subst (λ (s : State V D U F). InsertsVertex place constraints v (Err e) old s) done.err done, done.err)
+  pub refused_insertion : (old new : State V D U F) (v : V) (e : InsertionError)
+      → InsertsVertex place constraints v (Err e) old new
+      → InsertsVertex place constraints v (Err e) old old × (new ≡ old)
+  refused_insertion old new v e done = (
+    subst (λ (s : State V D U F). InsertsVertex place constraints v (Err e) old s) done.err done,
+    done.err,
+  )
 
   -- where no edge can be a constraint, an edit of a pair is refused
   pub pair_refused : (s : State V D U F) (e : PairEdit) →
@@ -71,7 +74,8 @@ module _ {V D U F : Type 0} (place : V → Point) (constraints : List U → List
   pub removed_so : {E G : Type 0} (old new : State V D U F) (i : ℕ) (v : V) →
       RemovesVertex place constraints {E = E} i (Ok v) old new →
       RemovesVertex place constraints {E = G} i (Ok v) old new
-  removed_so old new i v r = record { value = r.value; plain = r.plain; outer = r.outer; «data» = r.«data»; err = tt }
+  removed_so old new i v r =
+      record { value = r.value; plain = r.plain; outer = r.outer; «data» = r.«data»; err = tt }
 
 module _ {V D U F : Type 0} (place : V → Point) where
   -- a constraint that was added
@@ -79,39 +83,51 @@ module _ {V D U F : Type 0} (place : V → Point) where
       AddsConstraint place {E = E} i j (Ok made) old new →
       JoinsPair place constraint_edges flag_marking i j made old new
   pair_joined old new i j made a =
-      record { possible = refl; plain = a.plain; told = a.told; rest = a.«data».rest; each = a.«data».each }
+      record {
+        possible = refl;
+        plain = a.plain;
+        told = a.told;
+        rest = a.«data».rest;
+        each = a.«data».each;
+      }
 
   module _ (old : State V D (CdtEdge U) F) (i j : ℕ) where
     -- where no edge joins two vertices, no constraint does
-    pub unjoined_is_free : IsTriangulated place old → AreNotJoined old i j → ¬ Joins (constraints_of old) i j
+    pub unjoined_is_free : IsTriangulated place old → AreNotJoined old i j
+        → ¬ Joins (constraints_of old) i j
     unjoined_is_free kept apart joined =
         let e = joins_edge old.mesh kept.valid.sound i j
         (constraints_are_edges is_constraint constraint_edges (λ ds. refl) old.mesh old.undirected
         kept.fits.undirected_fit kept.valid i j joined) in
         apart e.0 (subst (λ (n : ℕ). e.0 < n) (sym kept.fits.directed_fit) e.1) e.2 e.3
 
-    module _ (h k : ℕ) (half : k ≡ h / 2) (from : origin old.mesh h ≡ i) (to : origin old.mesh (rev h) ≡ j) where
+    module _ (h k : ℕ) (half : k ≡ h / 2) (from : origin old.mesh h ≡ i)
+        (to : origin old.mesh (rev h) ≡ j) where
       -- the ends of an edge, by its undirected edge
       ends : IsSamePair i j (origin old.mesh (2 * k)) (origin old.mesh (rev (2 * k)))
-      ends = subst (λ (l : ℕ). IsSamePair i j (origin old.mesh (2 * l)) (origin old.mesh (rev (2 * l)))) (sym half)
+      ends = subst (λ (l : ℕ). IsSamePair i j (origin old.mesh (2 * l))
+          (origin old.mesh (rev (2 * l)))) (sym half)
           ((half_ends old.mesh h i j i j from to).1 (inl (refl, refl)))
 
       -- the edge is a constraint where its ends are joined by one
-      pub joined_by_edge : Joins (constraints_of old) (origin old.mesh (2 * k)) (origin old.mesh (rev (2 * k))) →
-          Joins (constraints_of old) i j
+      pub joined_by_edge : Joins (constraints_of old) (origin old.mesh (2 * k))
+          (origin old.mesh (rev (2 * k))) → Joins (constraints_of old) i j
       joined_by_edge joined =
-          same_joined (constraints_of old) i j (origin old.mesh (2 * k)) (origin old.mesh (rev (2 * k))) ends joined
+          same_joined (constraints_of old) i j (origin old.mesh (2 * k))
+          (origin old.mesh (rev (2 * k))) ends joined
 
       -- where a constraint joins i and j, it joins the ends of the undirected edge between them
       pub edge_joined_by : Joins (constraints_of old) i j →
           Joins (constraints_of old) (origin old.mesh (2 * k)) (origin old.mesh (rev (2 * k)))
-      edge_joined_by joined = same_joined (constraints_of old) (origin old.mesh (2 * k)) (origin old.mesh (rev (2 * k)))
-          i j (same_pair_back i j (origin old.mesh (2 * k)) (origin old.mesh (rev (2 * k))) ends) joined
+      edge_joined_by joined =
+          same_joined (constraints_of old) (origin old.mesh (2 * k)) (origin old.mesh (rev (2 * k)))
+          i j (same_pair_back i j (origin old.mesh (2 * k)) (origin old.mesh (rev (2 * k))) ends)
+          joined
 
       -- the constraint between two vertices is released, by its edge
-      pub pair_released : (new : State V D (CdtEdge U) F) →
-          Releases place (constrained old) (constrained new) (origin old.mesh (2 * k)) (origin old.mesh (rev (2 * k))) →
-          FreesEdge old new k → ReleasesPair place constraint_edges flag_marking i j old new
+      pub pair_released : (new : State V D (CdtEdge U) F) → Releases place (constrained old)
+          (constrained new) (origin old.mesh (2 * k)) (origin old.mesh (rev (2 * k)))
+          → FreesEdge old new k → ReleasesPair place constraint_edges flag_marking i j old new
       pair_released new r f = record {
         possible = refl;
         plain = go ends;
@@ -124,10 +140,13 @@ module _ {V D U F : Type 0} (place : V → Point) where
         where
           go : IsSamePair i j (origin old.mesh (2 * k)) (origin old.mesh (rev (2 * k))) →
               Releases place (constrained old) (constrained new) i j
-          go (inl s) = subst (λ (x : ℕ). Releases place (constrained old) (constrained new) x j) (sym s.0)
-              (subst (λ (y : ℕ). Releases place (constrained old) (constrained new) (origin old.mesh (2 * k)) y)
+          go (inl s) =
+              subst (λ (x : ℕ). Releases place (constrained old) (constrained new) x j) (sym s.0)
+              (subst (λ (y : ℕ). Releases place (constrained old) (constrained new)
+              (origin old.mesh (2 * k)) y)
               (sym s.1) r)
           go (inr s) = releases_either place (constrained old) (constrained new) j i
               (subst (λ (x : ℕ). Releases place (constrained old) (constrained new) x i) (sym s.1)
-              (subst (λ (y : ℕ). Releases place (constrained old) (constrained new) (origin old.mesh (2 * k)) y)
+              (subst (λ (y : ℕ). Releases place (constrained old) (constrained new)
+              (origin old.mesh (2 * k)) y)
               (sym s.0) r))

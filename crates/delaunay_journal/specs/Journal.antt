@@ -1,10 +1,12 @@
 -- What lists of edits make of a triangulation.
-use Rattle.std.specs.Prelude.{◌≡◌, ◌≢◌, ◌↔◌, ◌<◌, ◌≤◌, ℕ, Bool, true, false, List, [], ◌∷◌, ◌++◌, length, map, Some, Ok}
+use Rattle.std.specs.Prelude.{◌≡◌, ◌≢◌, ◌↔◌, ◌<◌, ◌≤◌, [], ◌∷◌, ◌++◌}
+use Rattle.std.specs.Prelude.{ℕ, Bool, true, false, List, length, map, Some, Ok}
 use Rattle.std.specs.Prelude.{Err, IsTrue, slice_get, slice_set}
 use Rattle.half_edge_mesh.specs.Mesh.{empty}
 use Rattle.plane.specs.Fraction.{Point}
 use Rattle.plane.specs.Pairs.{Joins, SamePairs}
-use Rattle.plane.specs.Plain.{Plain, Edit as PlainEdit, insert, replace, remove, add, release, clear, Adds, CanAdd}
+use Rattle.plane.specs.Plain.{Plain, Edit as PlainEdit, insert, replace, remove, add, release}
+use Rattle.plane.specs.Plain.{clear, Adds, CanAdd}
 use Rattle.plane.specs.Plain.{IsCleared, Releases, Replaces}
 use Rattle.mesh_embedding.specs.Stays.{KeepsIndexes}
 use Rattle.delaunay_legalization.specs.Constraints.{constraints_by, points_and_constraints_by}
@@ -13,16 +15,20 @@ use Rattle.delaunay_legalization.specs.State.{State}
 use Rattle.delaunay_paths.specs.Adding.{MarksSome}
 use Rattle.delaunay_interface.specs.Edits.{InsertsVertex, RemovesVertex}
 use Rattle.delaunay_journal.specs.declared.edit.Edit.{Edit}
-use Rattle.delaunay_journal.specs.declared.edit.Edit.TheVariants.{Insert, Remove, Replace, Clear, AddConstraint}
+use Rattle.delaunay_journal.specs.declared.edit.Edit.TheVariants.{Insert, Remove, Replace, Clear}
+use Rattle.delaunay_journal.specs.declared.edit.Edit.TheVariants.{AddConstraint}
 use Rattle.delaunay_journal.specs.declared.edit.Edit.TheVariants.{ReleaseConstraint}
 use Rattle.delaunay_journal.specs.declared.edit.Outcome.{Outcome}
-use Rattle.delaunay_journal.specs.declared.edit.Outcome.TheVariants.{Inserted, Removed, Replaced, Cleared, Added}
+use Rattle.delaunay_journal.specs.declared.edit.Outcome.TheVariants.{Inserted, Removed, Replaced}
+use Rattle.delaunay_journal.specs.declared.edit.Outcome.TheVariants.{Cleared, Added}
 use Rattle.delaunay_journal.specs.declared.edit.Outcome.TheVariants.{Released, Refused}
 use Rattle.delaunay_journal.specs.declared.edit.PairEdit.{PairEdit}
 use Rattle.delaunay_journal.specs.declared.edit.PairEdit.TheVariants.{Join, Release}
 use Rattle.delaunay_journal.specs.declared.edit.Refusal.{Refusal}
-use Rattle.delaunay_journal.specs.declared.edit.Refusal.TheVariants.{Insertion, NoVertex, OtherPosition, NoConstraints}
-use Rattle.delaunay_journal.specs.declared.edit.Refusal.TheVariants.{Conflict, NotConstrained, OutOfMemory}
+use Rattle.delaunay_journal.specs.declared.edit.Refusal.TheVariants.{Insertion, NoVertex}
+use Rattle.delaunay_journal.specs.declared.edit.Refusal.TheVariants.{OtherPosition, NoConstraints}
+use Rattle.delaunay_journal.specs.declared.edit.Refusal.TheVariants.{Conflict, NotConstrained}
+use Rattle.delaunay_journal.specs.declared.edit.Refusal.TheVariants.{OutOfMemory}
 use Rattle.delaunay_journal.specs.Marking.{Marking}
 
 module _ {V : Type 0} where
@@ -47,7 +53,8 @@ module _ {V : Type 0} where
   edits_made es os = []
 
 -- of a triangulation whose constraints these are, by the data of all edges
-module _ {V D U F : Type 0} (place : V → Point) (constraints : List U → List ℕ) (marking : Marking U) where
+module _ {V D U F : Type 0} (place : V → Point) (constraints : List U → List ℕ)
+    (marking : Marking U) where
   abbrev plain_of : State V D U F → Plain V
   plain_of s = points_and_constraints_by constraints s
 
@@ -62,8 +69,10 @@ module _ {V D U F : Type 0} (place : V → Point) (constraints : List U → List
   IsRefusedFor (AddConstraint i j) NoConstraints s = marking.possible ≡ false
   IsRefusedFor (AddConstraint i j) NoVertex s =
       (marking.possible ≡ true) × ¬ ((i < length s.vertices) × (j < length s.vertices))
-  IsRefusedFor (AddConstraint i j) Conflict s = (marking.possible ≡ true) × ¬ CanAdd place (plain_of s) i j
-  IsRefusedFor (AddConstraint i j) OutOfMemory s = (marking.possible ≡ true) × CanAdd place (plain_of s) i j
+  IsRefusedFor (AddConstraint i j) Conflict s =
+      (marking.possible ≡ true) × ¬ CanAdd place (plain_of s) i j
+  IsRefusedFor (AddConstraint i j) OutOfMemory s =
+      (marking.possible ≡ true) × CanAdd place (plain_of s) i j
   IsRefusedFor (ReleaseConstraint i j) NoConstraints s = marking.possible ≡ false
   IsRefusedFor (ReleaseConstraint i j) NotConstrained s =
       (marking.possible ≡ true) × ¬ Joins (constraints_by constraints s) i j
@@ -80,33 +89,38 @@ module _ {V D U F : Type 0} (place : V → Point) (constraints : List U → List
   -- no vertex is left
   pub record Empties (old new : State V D U F) : Type 0 where
     pub plain : IsCleared place (plain_of new)
-    pub rest : new ≡ record old { vertices = []; mesh = empty; directed = []; undirected = []; faces = [] }
+    pub rest : new
+        ≡ record old { vertices = []; mesh = empty; directed = []; undirected = []; faces = [] }
 
-  -- two vertices are joined by constraints, and it is told whether that made one. Edges may have been flipped, and some
-  -- that were none have the mark; all other data stay, each at its index
+  -- two vertices are joined by constraints, and it is told whether that made one. Edges may have
+  -- been flipped, and some that were none have the mark; all other data stay, each at its index
   pub record JoinsPair (i j : ℕ) (made : Bool) (old new : State V D U F) : Type 0 where
     pub possible : marking.possible ≡ true
     pub plain : Adds place (plain_of old) (plain_of new) i j
-    pub told : IsTrue made ↔ (¬ SamePairs (constraints_by constraints old) (constraints_by constraints new))
+    pub told : IsTrue made
+        ↔ (¬ SamePairs (constraints_by constraints old) (constraints_by constraints new))
     pub rest : new ≡ record old { mesh = new.mesh; undirected = new.undirected }
     pub each : MarksSome marking.marks marking.marked old.undirected new.undirected
 
-  -- two vertices are joined by a constraint no more. Edges may have been flipped, and one has lost the mark; all other
-  -- data stay, each at its index, and an edge or an inner face that is there before and after keeps its index
+  -- two vertices are joined by a constraint no more. Edges may have been flipped, and one has lost
+  -- the mark; all other data stay, each at its index, and an edge or an inner face that is there
+  -- before and after keeps its index
   pub record ReleasesPair (i j : ℕ) (old new : State V D U F) : Type 0 where
     pub possible : marking.possible ≡ true
     pub plain : Releases place (plain_of old) (plain_of new) i j
     pub edge : ℕ
     pub value : U
     pub was : slice_get old.undirected edge ≡ Some value
-    pub rest : new ≡ record old { mesh = new.mesh; undirected = slice_set old.undirected edge (marking.unmarked value) }
+    pub rest : new ≡ record old
+        { mesh = new.mesh; undirected = slice_set old.undirected edge (marking.unmarked value) }
     pub indexes : KeepsIndexes old.mesh new.mesh
 
   -- an edit gave this outcome
   abbrev pub Gives : Edit V → Outcome V → State V D U F → State V D U F → Type 0
   Gives e (Refused r) old new = IsRefusedFor e r old × (new ≡ old)
   Gives (Insert v) (Inserted i) old new = InsertsVertex place constraints v (Ok i) old new
-  Gives (Remove i) (Removed v) old new = RemovesVertex place constraints {E = Unit {0}} i (Ok v) old new
+  Gives (Remove i) (Removed v) old new =
+      RemovesVertex place constraints {E = Unit {0}} i (Ok v) old new
   Gives (Replace i v) (Replaced w) old new = Exchanges i v w old new
   Gives Clear Cleared old new = Empties old new
   Gives (AddConstraint i j) (Added made) old new = JoinsPair i j made old new
@@ -116,5 +130,6 @@ module _ {V D U F : Type 0} (place : V → Point) (constraints : List U → List
   -- edits gave these outcomes, one after another
   abbrev pub Replays : List (Edit V) → List (Outcome V) → State V D U F → State V D U F → Type 0
   Replays [] [] old new = new ≡ old
-  Replays (e ∷ es) (o ∷ os) old new = (middle : State V D U F) × Gives e o old middle × Replays es os middle new
+  Replays (e ∷ es) (o ∷ os) old new =
+      (middle : State V D U F) × Gives e o old middle × Replays es os middle new
   Replays es os old new = ⊥

@@ -16,4 +16,9 @@ no_marking = record { possible = false; marks = λ _. false; marked = λ d. d; u
 
 -- the constrained type: those with the flag have it
 abbrev pub flag_marking : {U : Type 0} → Marking (CdtEdge U)
-flag_marking = record { possible = true; marks = is_constraint; marked = with_mark true; unmarked = with_mark false }
+flag_marking = record {
+  possible = true;
+  marks = is_constraint;
+  marked = with_mark true;
+  unmarked = with_mark false;
+}

@@ -17,4 +17,5 @@ module _ {V D U F : Type 0} (c : Contents V D U F) (w : IsMeshWithData c) where
 
   -- there are as many data of inner faces as faces of the mesh
   pub faces_counted : length c.faces ≡ length (faces_of c.mesh)
-  faces_counted = w.fits.faces_fit ∙ sym (length-map c.mesh.face_edges (triangle_at c.mesh)) ∙ sym (length-map (triangles c.mesh) corners_of)
+  faces_counted = w.fits.faces_fit ∙ sym (length-map c.mesh.face_edges (triangle_at c.mesh))
+      ∙ sym (length-map (triangles c.mesh) corners_of)

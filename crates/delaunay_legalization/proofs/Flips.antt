@@ -13,7 +13,8 @@ half after q few small = omega (arith, few, small)
 pub flips_fit : (n before : ℕ) → n ≤ 4294967295 → before < 2 ^ 63 → FlipsFit (n + 1) before
 flips_fit n before few small =
     below before ((n + 1) * (n + 1 - 1))
-    (mul-le (n + 1) (n + 1 - 1) 4294967296 4294967295 (omega (arith, few)) (omega (arith, few))) small
+    (mul-le (n + 1) (n + 1 - 1) 4294967296 4294967295 (omega (arith, few)) (omega (arith, few)))
+    small
 
 -- with fewer than 2^32 vertices, a count that begins at 0 has room for the flips of one insertion
 pub few_flips_fit : (n : ℕ) → n ≤ 4294967295 → FlipsFit (n + 1) 0

@@ -1,5 +1,6 @@
 -- What the functions of a legalisation need of the mesh that they are handed.
-use Rattle.std.proofs.Common.{◌≡◌, ℕ, suc, ◌+◌, ◌-◌, ◌*◌, ◌/◌, ◌<◌, ◌≤◌, ◌^◌, List, [], ◌∷◌, ◌++◌, length, map, refl, sym, ap, ◌∙◌, subst, arith}
+use Rattle.std.proofs.Common.{◌≡◌, ◌+◌, ◌-◌, ◌*◌, ◌/◌, ◌<◌, ◌≤◌, ◌^◌, [], ◌∷◌, ◌++◌, ◌∙◌}
+use Rattle.std.proofs.Common.{ℕ, suc, List, length, map, refl, sym, ap, subst, arith}
 use mathlib.Core.Logic.{◌≢◌}
 use Rattle.std.specs.Prelude.{Bool, Contains, take}
 use Rattle.std.specs.Bool.{Decides}
@@ -21,7 +22,8 @@ use Rattle.plane_edits.specs.Legal.{AllPassBut}
 use Rattle.plane_edits.proofs.Legalization.Flipping.{none_left}
 use Rattle.std.proofs.lemmas.List.{length-map}
 use Rattle.mesh_embedding.specs.Drawn.{drawn, faces_of, edges_of, outer_of}
-use Rattle.mesh_embedding.specs.Legal.{AreEdges, IsFailing, IsPartlyLegal, Gains, GainsRound, pairs_at, steps_left}
+use Rattle.mesh_embedding.specs.Legal.{AreEdges, IsFailing, IsPartlyLegal, Gains, GainsRound}
+use Rattle.mesh_embedding.specs.Legal.{pairs_at, steps_left}
 use Rattle.mesh_embedding.specs.Stays.{KeepsIndexes}
 use Rattle.mesh_embedding.proofs.MeshEdits.{face_before}
 use Rattle.mesh_embedding.proofs.MeshLegal as M
@@ -31,30 +33,39 @@ use Rattle.delaunay_legalization.specs.Known.{point_at}
 
 -- without its last entry a list of edges is one still
 pub edges_before : (m : Mesh) (ks : List ℕ) (k : ℕ) → AreEdges m (ks ++ k ∷ []) → AreEdges m ks
-edges_before m ks k o = record { within = λ j c. o.within j (contains_before ks k j c); once = once_before ks k o.once }
+edges_before m ks k o =
+    record { within = λ j c. o.within j (contains_before ks k j c); once = once_before ks k o.once }
 
 -- the last of a list of edges is below the number of edges
-pub last_edge_within : (m : Mesh) (ks : List ℕ) (k n : ℕ) → 2 * n ≡ length m.half_edges → AreEdges m (ks ++ k ∷ []) → k < n
+pub last_edge_within : (m : Mesh) (ks : List ℕ) (k n : ℕ) → 2 * n ≡ length m.half_edges
+    → AreEdges m (ks ++ k ∷ []) → k < n
 last_edge_within m ks k n e o = let h = o.within k (contains_last ks k) in omega (arith, h, e)
 
 -- the first direction of the last of a list of edges is below the number of half edges
-pub last_within : (m : Mesh) (ks : List ℕ) (k n : ℕ) → n ≡ length m.half_edges → AreEdges m (ks ++ k ∷ []) → (2 * k) < n
+pub last_within : (m : Mesh) (ks : List ℕ) (k n : ℕ) → n ≡ length m.half_edges
+    → AreEdges m (ks ++ k ∷ []) → (2 * k) < n
 last_within m ks k n e o = let h = o.within k (contains_last ks k) in omega (arith, h, e)
 
-module _ (points : List Point) (m : Mesh) (s : IsValidMesh m) (shape : IsMesh points (faces_of m) (outer_of m)) (e n : ℕ) (count : n ≡ length m.half_edges) (within : e < n) where
+module _ (points : List Point) (m : Mesh) (s : IsValidMesh m) (shape : IsMesh points (faces_of m)
+    (outer_of m)) (e n : ℕ) (count : n ≡ length m.half_edges) (within : e < n) where
   in_mesh : e < length m.half_edges
   in_mesh = omega (arith, count, within)
 
   -- an edge that fails may be turned
   pub failing_flippable : IsFailing points m e → IsFlippable m e
-  failing_flippable x = M.between_inner points m s (M.local_of points m e s.sound shape (in_mesh, x.inner)) e in_mesh x.inner x.twin_inner
+  failing_flippable x = M.between_inner points m s
+      (M.local_of points m e s.sound shape (in_mesh, x.inner)) e in_mesh x.inner x.twin_inner
 
   -- the corners opposite an edge that fails, one on either side, differ
   pub failing_apart : IsFailing points m e → origin m (prev m e) ≢ origin m (prev m (rev e))
-  failing_apart x = M.apart_corners points m s (M.local_of points m e s.sound shape (in_mesh, x.inner)) e in_mesh x
+  failing_apart x = M.apart_corners points m s
+      (M.local_of points m e s.sound shape (in_mesh, x.inner)) e in_mesh x
 
-  module _ (a c d b : Point) (twin prev_edge twin_prev : ℕ) (at_rev : twin ≡ rev e) (at_prev : prev_edge ≡ prev m e) (at_twin : twin_prev ≡ prev m (rev e))
-      (first : a ≡ point_at points (origin m e)) (second : c ≡ point_at points (origin m twin)) (third : d ≡ point_at points (origin m prev_edge)) (fourth : b ≡ point_at points (origin m twin_prev)) where
+  module _ (a c d b : Point) (twin prev_edge twin_prev : ℕ) (at_rev : twin ≡ rev e)
+      (at_prev : prev_edge ≡ prev m e) (at_twin : twin_prev ≡ prev m (rev e))
+      (first : a ≡ point_at points (origin m e)) (second : c ≡ point_at points (origin m twin))
+      (third : d ≡ point_at points (origin m prev_edge))
+      (fourth : b ≡ point_at points (origin m twin_prev)) where
     -- the edge ends where the one after it in its loop starts
     second_corner : c ≡ point_at points (origin m (next m e))
     second_corner = second ∙ ap (λ (z : ℕ). point_at points (origin m z)) at_rev
@@ -62,42 +73,87 @@ module _ (points : List Point) (m : Mesh) (s : IsValidMesh m) (shape : IsMesh po
 
     -- where the edge has an inner face on its left, its corners a, c, d turn left
     pub left_turn : 0 < face m e → TurnsLeft (whole a) (whole c) (whole d)
-    left_turn h = subst (λ (x : Point × Point × Point). TurnsLeft (whole x.0) (whole x.1) (whole x.2)) (λ i. (sym first i, sym second_corner i, sym (third ∙ ap (λ (z : ℕ). point_at points (origin m z)) at_prev) i))
-        (turning_of points (faces_of m) (outer_of m) (M.local_of points m e s.sound shape (in_mesh, h)) (origin m e) (origin m (next m e)) (origin m (prev m e)) (face_before m e s.sound (in_mesh, h)))
+    left_turn h =
+        subst (λ (x : Point × Point × Point). TurnsLeft (whole x.0) (whole x.1) (whole x.2))
+        (λ i. (
+          sym first i,
+          sym second_corner i,
+          sym (third ∙ ap (λ (z : ℕ). point_at points (origin m z)) at_prev) i,
+        ))
+        (turning_of points (faces_of m) (outer_of m)
+        (M.local_of points m e s.sound shape (in_mesh, h)) (origin m e) (origin m (next m e))
+        (origin m (prev m e)) (face_before m e s.sound (in_mesh, h)))
 
-    corners_are : let y : Point × Point × Point × Point = (a, c, d, b) in let z : Point × Point × Point × Point = (point_at points (origin m e), point_at points (origin m (next m e)), point_at points (origin m (prev m e)), point_at points (origin m (prev m (rev e)))) in y ≡ z
-    corners_are = λ i. (first i, second_corner i, (third ∙ ap (λ (z : ℕ). point_at points (origin m z)) at_prev) i, (fourth ∙ ap (λ (z : ℕ). point_at points (origin m z)) at_twin) i)
+    corners_are : let y : Point × Point × Point × Point = (a, c, d, b) in let z : Point × Point
+        × Point × Point = (
+          point_at points (origin m e),
+          point_at points (origin m (next m e)),
+          point_at points (origin m (prev m e)),
+          point_at points (origin m (prev m (rev e))),
+        ) in y ≡ z
+    corners_are = λ i. (
+      first i,
+      second_corner i,
+      (third ∙ ap (λ (z : ℕ). point_at points (origin m z)) at_prev) i,
+      (fourth ∙ ap (λ (z : ℕ). point_at points (origin m z)) at_twin) i,
+    )
 
     -- between inner faces the edge fails if b is inside the circle of a, c, d
-    pub inside_fails : 0 < face m e → 0 < face m (rev e) → InsideCircle (whole a) (whole c) (whole d) (whole b) → IsFailing points m e
-    inside_fails h t x = record { inner = h; twin_inner = t; inside = subst (λ (x : Point × Point × Point × Point). InsideCircle (whole x.0) (whole x.1) (whole x.2) (whole x.3)) corners_are x }
+    pub inside_fails : 0 < face m e → 0 < face m (rev e)
+        → InsideCircle (whole a) (whole c) (whole d) (whole b) → IsFailing points m e
+    inside_fails h t x = record {
+      inner = h;
+      twin_inner = t;
+      inside = subst (λ (x : Point × Point × Point × Point). InsideCircle (whole x.0) (whole x.1)
+          (whole x.2) (whole x.3)) corners_are x;
+    }
 
     -- where the edge fails, b is inside the circle of a, c, d
     pub fails_inside : IsFailing points m e → InsideCircle (whole a) (whole c) (whole d) (whole b)
-    fails_inside x = subst (λ (x : Point × Point × Point × Point). InsideCircle (whole x.0) (whole x.1) (whole x.2) (whole x.3)) (sym corners_are) x.inside
+    fails_inside x = subst (λ (x : Point × Point × Point × Point). InsideCircle (whole x.0)
+        (whole x.1) (whole x.2) (whole x.3)) (sym corners_are) x.inside
 
 -- a number that is not 0 is above it
 pub positive : (n : ℕ) → ¬ (n ≡ 0) → 0 < n
 positive n h = grind arith
 
 -- ---- one step
--- a failing edge is turned and counted, and the edges round it are left: the mesh stays partly legal
-pub turned_by : (points : List Point) (constraints : List (ℕ × ℕ)) (was m new : Mesh) (ks more : List ℕ) (k start before after : ℕ) → IsValidMesh m → new ≡ flipped m (2 * k) → after ≡ before + 1 → IsFailing points m (2 * k) → GainsRound m (2 * k) ks more → AreEdges m more → IsPartlyLegal points constraints was m (ks ++ k ∷ []) start before → IsPartlyLegal points constraints was new more start after
-turned_by points constraints was m new ks more k start before after s e f x g o p = subst (λ (y : Mesh × ℕ). IsPartlyLegal points constraints was y.0 more start y.1) (λ i. (sym e i, sym (f ∙ one_more before) i)) (M.turned points constraints was m ks k start before s p x more g o)
+-- a failing edge is turned and counted, and the edges round it are left: the mesh stays partly
+-- legal
+pub turned_by : (points : List Point) (constraints : List (ℕ × ℕ)) (was m new : Mesh)
+    (ks more : List ℕ) (k start before after : ℕ) → IsValidMesh m → new ≡ flipped m (2 * k)
+    → after ≡ before + 1 → IsFailing points m (2 * k) → GainsRound m (2 * k) ks more
+    → AreEdges m more → IsPartlyLegal points constraints was m (ks ++ k ∷ []) start before
+    → IsPartlyLegal points constraints was new more start after
+turned_by points constraints was m new ks more k start before after s e f x g o p =
+    subst (λ (y : Mesh × ℕ). IsPartlyLegal points constraints was y.0 more start y.1)
+    (λ i. (sym e i, sym (f ∙ one_more before) i))
+    (M.turned points constraints was m ks k start before s p x more g o)
   where
     one_more : (n : ℕ) → n + 1 ≡ suc n
     one_more n = omega arith
 
 -- the turned edge is no constraint, so the constraints keep their ends
-pub fixed_stay : {U : Type 0} (constraints : List U → List ℕ) (points : List Point) (m new : Mesh) (ds after : List U) (k : ℕ) → IsValidMesh m → IsMesh points (faces_of m) (outer_of m) → (2 * k) < length m.half_edges → IsFailing points m (2 * k) → new ≡ flipped m (2 * k) → after ≡ ds → ¬ Contains (constraints ds) k
+pub fixed_stay : {U : Type 0} (constraints : List U → List ℕ) (points : List Point) (m new : Mesh)
+    (ds after : List U) (k : ℕ) → IsValidMesh m → IsMesh points (faces_of m) (outer_of m)
+    → (2 * k) < length m.half_edges → IsFailing points m (2 * k) → new ≡ flipped m (2 * k)
+    → after ≡ ds → ¬ Contains (constraints ds) k
     → constraint_pairs constraints new after ≡ constraint_pairs constraints m ds
 fixed_stay {U = U} constraints points m new ds after k s shape within x e f free =
-    ap (λ (y : Mesh × List U). constraint_pairs constraints y.0 y.1) (λ i. (e i, f i)) ∙ M.pairs_stay points m s (M.local_of points m (2 * k) s.sound shape (within, x.inner)) k within x (constraints ds) free
+    ap (λ (y : Mesh × List U). constraint_pairs constraints y.0 y.1) (λ i. (e i, f i))
+    ∙ M.pairs_stay points m s (M.local_of points m (2 * k) s.sound shape (within, x.inner)) k
+    within x (constraints ds) free
 
 -- a flip of a failing edge leaves fewer steps, whatever edges are put on the list for it
-pub fewer_by : (points : List Point) (m new : Mesh) (ks more : List ℕ) (k : ℕ) → IsValidMesh m → IsMesh points (faces_of m) (outer_of m) → new ≡ flipped m (2 * k) → IsFailing points m (2 * k) → AreEdges m (ks ++ k ∷ []) → AreEdges m more → steps_left points new more < steps_left points m (ks ++ k ∷ [])
-fewer_by points m new ks more k s shape e x own o = subst (λ y. steps_left points y more < steps_left points m (ks ++ k ∷ [])) (sym e)
-    (M.fewer_after_flip points m (flipped m (2 * k)) (ks ++ k ∷ []) more (M.volume_falls points m s local (2 * k) within x) (flips m (2 * k) s.sound (M.can_turn points m s local (2 * k) within x)).edge_count o)
+pub fewer_by : (points : List Point) (m new : Mesh) (ks more : List ℕ) (k : ℕ) → IsValidMesh m
+    → IsMesh points (faces_of m) (outer_of m) → new ≡ flipped m (2 * k) → IsFailing points m (2 * k)
+    → AreEdges m (ks ++ k ∷ []) → AreEdges m more
+    → steps_left points new more < steps_left points m (ks ++ k ∷ [])
+fewer_by points m new ks more k s shape e x own o =
+    subst (λ y. steps_left points y more < steps_left points m (ks ++ k ∷ [])) (sym e)
+    (M.fewer_after_flip points m (flipped m (2 * k)) (ks ++ k ∷ []) more
+    (M.volume_falls points m s local (2 * k) within x)
+    (flips m (2 * k) s.sound (M.can_turn points m s local (2 * k) within x)).edge_count o)
   where
     within : (2 * k) < length m.half_edges
     within = own.within k (contains_last ks k)
@@ -106,60 +162,96 @@ fewer_by points m new ks more k s shape e x own o = subst (λ y. steps_left poin
     local = M.local_of points m (2 * k) s.sound shape (within, x.inner)
 
 -- a list that gains the four edges round an edge one by one has gained its round
-pub round_gained : (m : Mesh) (e a b c d : ℕ) (one two three four five : List ℕ) → a ≡ next m e → b ≡ prev m e → c ≡ next m (rev e) → d ≡ prev m (rev e) → Gains one two (a / 2) → Gains two three (b / 2) → Gains three four (c / 2) → Gains four five (d / 2) → GainsRound m e one five
+pub round_gained : (m : Mesh) (e a b c d : ℕ) (one two three four five : List ℕ) → a ≡ next m e
+    → b ≡ prev m e → c ≡ next m (rev e) → d ≡ prev m (rev e) → Gains one two (a / 2)
+    → Gains two three (b / 2) → Gains three four (c / 2) → Gains four five (d / 2)
+    → GainsRound m e one five
 round_gained m e a b c d one two three four five p q r s f g h i =
-    M.gains_round m e one two three four five (subst (λ (z : ℕ). Gains one two (z / 2)) p f) (subst (λ (z : ℕ). Gains two three (z / 2)) q g) (subst (λ (z : ℕ). Gains three four (z / 2)) r h) (subst (λ (z : ℕ). Gains four five (z / 2)) s i)
+    M.gains_round m e one two three four five (subst (λ (z : ℕ). Gains one two (z / 2)) p f) (subst
+    (λ (z : ℕ). Gains two three (z / 2)) q g) (subst (λ (z : ℕ). Gains three four (z / 2)) r h)
+    (subst (λ (z : ℕ). Gains four five (z / 2)) s i)
 
 -- ---- the loop
 -- what holds from one edge to the next
-pub record IsUnderway {V D U F : Type 0} (fix : List U → List ℕ) (points : List Point) (was now : Contents V D U F) (ks : List ℕ) (room_was room start flips : ℕ) : Type 0 where
+pub record IsUnderway {V D U F : Type 0} (fix : List U → List ℕ) (points : List Point)
+    (was now : Contents V D U F) (ks : List ℕ) (room_was room start flips : ℕ) : Type 0 where
   pub contents : now ≡ record was { mesh = now.mesh }
-  pub constraints : constraint_pairs fix now.mesh now.undirected ≡ constraint_pairs fix was.mesh was.undirected
-  pub legal : IsPartlyLegal points (constraint_pairs fix was.mesh was.undirected) was.mesh now.mesh ks start flips
+  pub constraints : constraint_pairs fix now.mesh now.undirected
+      ≡ constraint_pairs fix was.mesh was.undirected
+  pub legal : IsPartlyLegal points
+      (constraint_pairs fix was.mesh was.undirected) was.mesh now.mesh ks start flips
   pub room_stays : room ≡ room_was
 
-one_more_fits : (points : List Point) (constraints : List (ℕ × ℕ)) (was m : Mesh) (ks : List ℕ) (k start flips n : ℕ) → IsValidMesh m → IsPartlyLegal points constraints was m (ks ++ k ∷ []) start flips → length points ≡ n → 2 * start + n * (n - 1) < 2 ^ 65 → IsFailing points m (2 * k) → flips + 1 < 2 ^ 64
-one_more_fits points constraints was m ks k start flips n s p e h x = fits start (length p.away) flips (n * (n - 1)) p.count h (subst (λ (z : ℕ). 2 * suc (length p.away) ≤ z * (z - 1)) e (M.one_more_flip points constraints was m ks k start flips s p x))
+one_more_fits : (points : List Point) (constraints : List (ℕ × ℕ)) (was m : Mesh) (ks : List ℕ)
+    (k start flips n : ℕ) → IsValidMesh m
+    → IsPartlyLegal points constraints was m (ks ++ k ∷ []) start flips → length points ≡ n
+    → 2 * start + n * (n - 1) < 2 ^ 65 → IsFailing points m (2 * k) → flips + 1 < 2 ^ 64
+one_more_fits points constraints was m ks k start flips n s p e h x = fits start (length p.away)
+    flips (n * (n - 1)) p.count h (subst (λ (z : ℕ). 2 * suc (length p.away) ≤ z * (z - 1)) e
+    (M.one_more_flip points constraints was m ks k start flips s p x))
   where
-    fits : (start a flips q : ℕ) → start + a ≡ flips → 2 * start + q < 2 ^ 65 → 2 * suc a ≤ q → flips + 1 < 2 ^ 64
+    fits : (start a flips q : ℕ) → start + a ≡ flips → 2 * start + q < 2 ^ 65 → 2 * suc a ≤ q
+        → flips + 1 < 2 ^ 64
     fits start a flips q c h b = omega arith
 
 -- an edge that was not listed is gained at the end of the list
-pub gained : (ks more : List ℕ) (k l : ℕ) → l ≡ k → more ≡ ks ++ l ∷ [] → ¬ Contains ks l → Gains ks more k
-gained ks more k l e f n = subst (λ (z : ℕ). Gains ks more z) e (subst (λ (zs : List ℕ). Gains ks zs l) (sym f) (M.gains_last ks l n))
+pub gained : (ks more : List ℕ) (k l : ℕ) → l ≡ k → more ≡ ks ++ l ∷ [] → ¬ Contains ks l
+    → Gains ks more k
+gained ks more k l e f n = subst (λ (z : ℕ). Gains ks more z) e
+    (subst (λ (zs : List ℕ). Gains ks zs l) (sym f) (M.gains_last ks l n))
 
 -- an edge that was listed is gained by leaving the list as it is
 pub kept : (ks : List ℕ) (k l : ℕ) → l ≡ k → Contains ks l → Gains ks ks k
 kept ks k l e c = subst (λ (z : ℕ). Gains ks ks z) e (M.gains_none ks l c)
 
 -- the first direction of a half edge is one of the mesh
-pub half_within : (m : Mesh) (h n k : ℕ) → n ≡ length m.half_edges → h < n → k ≡ h / 2 → (2 * k) < length m.half_edges
+pub half_within : (m : Mesh) (h n k : ℕ) → n ≡ length m.half_edges → h < n → k ≡ h / 2
+    → (2 * k) < length m.half_edges
 half_within m h n k e l f = grind arith
 
 -- a list of edges that gains the edge of a half edge is one still
-pub edges_gained : (m : Mesh) (old new : List ℕ) (h n : ℕ) → n ≡ length m.half_edges → h < n → AreEdges m old → Gains old new (h / 2) → AreEdges m new
-edges_gained m old new h n e l o g = M.gains_edges m old new (h / 2) o (half_within m h n (h / 2) e l refl) g
+pub edges_gained : (m : Mesh) (old new : List ℕ) (h n : ℕ) → n ≡ length m.half_edges → h < n
+    → AreEdges m old → Gains old new (h / 2) → AreEdges m new
+edges_gained m old new h n e l o g =
+    M.gains_edges m old new (h / 2) o (half_within m h n (h / 2) e l refl) g
 
 -- a list of edges without this one has room for it
-pub fits_one : (m : Mesh) (ks : List ℕ) (h n d k room : ℕ) → d ≡ length m.half_edges → 2 * n ≡ length m.half_edges → h < d → k ≡ h / 2 → AreEdges m ks → n ≤ room → ¬ Contains ks k → length ks < room
-fits_one m ks h n d k room e f l r o b c = let w = half_within m h d k e l r in below (length ks) n room (M.room_for_one m ks n k f o (omega (arith, w, f)) c) b
+pub fits_one : (m : Mesh) (ks : List ℕ) (h n d k room : ℕ) → d ≡ length m.half_edges
+    → 2 * n ≡ length m.half_edges → h < d → k ≡ h / 2 → AreEdges m ks → n ≤ room → ¬ Contains ks k
+    → length ks < room
+fits_one m ks h n d k room e f l r o b c = let w = half_within m h d k e l r in
+    below (length ks) n room (M.room_for_one m ks n k f o (omega (arith, w, f)) c) b
   where
     below : (a n room : ℕ) → a < n → n ≤ room → a < room
     below a n room h k = omega arith
 
 -- whether a list holds a number is what `any` answers of it
-pub found : (xs ys : List ℕ) (x : ℕ) (r : Bool) → ys ≡ xs → IsAnyAnswer (λ y t. eqb y x ≡ t) ys r → Decides r (Contains xs x)
-found xs ys x r e h = subst (λ zs. Decides r (Contains zs x)) e (Decides-contains ys x r (contains_decides eqb Decides-eqb ys x r h))
+pub found : (xs ys : List ℕ) (x : ℕ) (r : Bool) → ys ≡ xs → IsAnyAnswer (λ y t. eqb y x ≡ t) ys r
+    → Decides r (Contains xs x)
+found xs ys x r e h = subst (λ zs. Decides r (Contains zs x)) e
+    (Decides-contains ys x r (contains_decides eqb Decides-eqb ys x r h))
 
 -- a list with room for one more has a length below the room
 pub fits_len : (xs ys : List ℕ) (v room : ℕ) → ys ≡ xs → length ys ≡ v → length xs < room → v < room
 fits_len xs ys v room e f h = subst (λ (z : ℕ). z < room) (sym (ap (λ zs. length zs) e) ∙ f) h
 
 -- before the first edge nothing has changed yet
-pub underway_begins : {V D U F : Type 0} (fix : List U → List ℕ) (points : List Point) (c : Contents V D U F) (ks : List ℕ) (room start : ℕ) → IsMesh points (faces_of c.mesh) (outer_of c.mesh) → AreEdges c.mesh ks → AllPassBut points (faces_of c.mesh) (constraint_pairs fix c.mesh c.undirected) (pairs_at c.mesh ks) → IsUnderway fix points c c ks room room start start
-underway_begins fix points c ks room start shape edges passing = record { contents = refl; constraints = refl; legal = M.begins points (constraint_pairs fix c.mesh c.undirected) c.mesh ks start shape edges passing; room_stays = refl }
+pub underway_begins : {V D U F : Type 0} (fix : List U → List ℕ) (points : List Point)
+    (c : Contents V D U F) (ks : List ℕ) (room start : ℕ)
+    → IsMesh points (faces_of c.mesh) (outer_of c.mesh) → AreEdges c.mesh ks → AllPassBut points
+    (faces_of c.mesh) (constraint_pairs fix c.mesh c.undirected) (pairs_at c.mesh ks)
+    → IsUnderway fix points c c ks room room start start
+underway_begins fix points c ks room start shape edges passing = record {
+  contents = refl;
+  constraints = refl;
+  legal = M.begins points
+      (constraint_pairs fix c.mesh c.undirected) c.mesh ks start shape edges passing;
+  room_stays = refl;
+}
 
-module _ {V D U F : Type 0} (at : V → Point) (fix : List U → List ℕ) (was now : Contents V D U F) (all : List ℕ) (room_was room start flips : ℕ) (u : IsUnderway fix (map at was.vertices) was now all room_was room start flips) where
+module _ {V D U F : Type 0} (at : V → Point) (fix : List U → List ℕ) (was now : Contents V D U F)
+    (all : List ℕ) (room_was room start flips : ℕ)
+    (u : IsUnderway fix (map at was.vertices) was now all room_was room start flips) where
   abbrev fixed_first : List (ℕ × ℕ)
   fixed_first = constraint_pairs fix was.mesh was.undirected
 
@@ -167,39 +259,63 @@ module _ {V D U F : Type 0} (at : V → Point) (fix : List U → List ℕ) (was 
   same_vertices = ap (λ (c : Contents V D U F). c.vertices) u.contents
 
   module _ (ks : List ℕ) (k : ℕ) (popped : all ≡ ks ++ k ∷ []) where
-    before_step : IsPartlyLegal (map at was.vertices) fixed_first was.mesh now.mesh (ks ++ k ∷ []) start flips
-    before_step = subst (λ (zs : List ℕ). IsPartlyLegal (map at was.vertices) fixed_first was.mesh now.mesh zs start flips) popped u.legal
+    before_step :
+        IsPartlyLegal (map at was.vertices) fixed_first was.mesh now.mesh (ks ++ k ∷ []) start flips
+    before_step = subst (λ (zs : List ℕ). IsPartlyLegal
+        (map at was.vertices) fixed_first was.mesh now.mesh zs start flips) popped u.legal
 
     -- where the edge taken fails, the count has room for one more flip
-    pub step_fits : IsValidMesh now.mesh → 2 * start + length was.vertices * (length was.vertices - 1) < 2 ^ 65 → IsFailing (map at now.vertices) now.mesh (2 * k) → flips + 1 < 2 ^ 64
-    step_fits s h x = one_more_fits (map at was.vertices) fixed_first was.mesh now.mesh ks k start flips (length was.vertices) s before_step (length-map was.vertices at) h (subst (λ (vs : List V). IsFailing (map at vs) now.mesh (2 * k)) same_vertices x)
+    pub step_fits : IsValidMesh now.mesh
+        → 2 * start + length was.vertices * (length was.vertices - 1) < 2 ^ 65
+        → IsFailing (map at now.vertices) now.mesh (2 * k) → flips + 1 < 2 ^ 64
+    step_fits s h x = one_more_fits (map at was.vertices) fixed_first was.mesh now.mesh ks k start
+        flips (length was.vertices) s before_step (length-map was.vertices at) h
+        (subst (λ (vs : List V). IsFailing (map at vs) now.mesh (2 * k)) same_vertices x)
 
-    -- a step after which the mesh is partly legal, with all else as it was, leaves the rest under way
-    pub step_kept : (after : Contents V D U F) (more : List ℕ) (room_after flips_after : ℕ) → after ≡ record now { mesh = after.mesh } → constraint_pairs fix after.mesh after.undirected ≡ constraint_pairs fix now.mesh now.undirected
-        → ((first : Mesh) (start : ℕ) → IsPartlyLegal (map at now.vertices) (constraint_pairs fix now.mesh now.undirected) first now.mesh (ks ++ k ∷ []) start flips → IsPartlyLegal (map at now.vertices) (constraint_pairs fix now.mesh now.undirected) first after.mesh more start flips_after)
-        → room_after ≡ room → IsUnderway fix (map at was.vertices) was after more room_was room_after start flips_after
+    -- a step after which the mesh is partly legal, with all else as it was, leaves the rest under
+    -- way
+    pub step_kept : (after : Contents V D U F) (more : List ℕ) (room_after flips_after : ℕ) → after
+        ≡ record now { mesh = after.mesh } → constraint_pairs fix after.mesh after.undirected
+        ≡ constraint_pairs fix now.mesh now.undirected
+        → ((first : Mesh) (start : ℕ) → IsPartlyLegal (map at now.vertices)
+        (constraint_pairs fix now.mesh now.undirected) first now.mesh (ks ++ k ∷ []) start flips
+        → IsPartlyLegal (map at now.vertices)
+        (constraint_pairs fix now.mesh now.undirected) first after.mesh more start flips_after)
+        → room_after ≡ room → IsUnderway fix
+        (map at was.vertices) was after more room_was room_after start flips_after
     step_kept after more room_after flips_after contents constraints legal e = record {
-      contents = contents ∙ ap (λ (c : Contents V D U F). record c { mesh = after.mesh }) u.contents;
+      contents = contents
+          ∙ ap (λ (c : Contents V D U F). record c { mesh = after.mesh }) u.contents;
       constraints = constraints ∙ u.constraints;
-      legal = subst (λ (y : List V × List (ℕ × ℕ)). IsPartlyLegal (map at y.0) y.1 was.mesh after.mesh more start flips_after) same_both
-          (legal was.mesh start (subst (λ (y : List V × List (ℕ × ℕ)). IsPartlyLegal (map at y.0) y.1 was.mesh now.mesh (ks ++ k ∷ []) start flips) (sym same_both) before_step));
+      legal = subst (λ (y : List V × List (ℕ × ℕ)). IsPartlyLegal
+          (map at y.0) y.1 was.mesh after.mesh more start flips_after) same_both
+          (legal was.mesh start (subst (λ (y : List V × List (ℕ × ℕ)). IsPartlyLegal (map at y.0)
+          y.1 was.mesh now.mesh (ks ++ k ∷ []) start flips) (sym same_both) before_step));
       room_stays = e ∙ u.room_stays;
     }
       where
-        same_both : (let a : List V × List (ℕ × ℕ) = (now.vertices, constraint_pairs fix now.mesh now.undirected) in let b : List V × List (ℕ × ℕ) = (was.vertices, fixed_first) in a ≡ b)
+        same_both : (let a : List V × List (ℕ × ℕ) =
+            (now.vertices, constraint_pairs fix now.mesh now.undirected) in
+            let b : List V × List (ℕ × ℕ) = (was.vertices, fixed_first) in a ≡ b)
         same_both = λ i. (same_vertices i, u.constraints i)
 
   -- when no edge is left, the mesh is locally Delaunay with the constraints that it had
-  pub underway_ends : all ≡ [] → IsLocallyDelaunay (drawn (map at was.vertices) now.mesh) fixed_first
-  underway_ends e = none_left (map at was.vertices) (faces_of now.mesh) (edges_of now.mesh) fixed_first (subst (λ (zs : List ℕ). AllPassBut (map at was.vertices) (faces_of now.mesh) fixed_first (pairs_at now.mesh zs)) e u.legal.passing)
+  pub underway_ends : all ≡ []
+      → IsLocallyDelaunay (drawn (map at was.vertices) now.mesh) fixed_first
+  underway_ends e = none_left (map at was.vertices) (faces_of now.mesh)
+      (edges_of now.mesh) fixed_first (subst (λ (zs : List ℕ). AllPassBut (map at was.vertices)
+      (faces_of now.mesh) fixed_first (pairs_at now.mesh zs)) e u.legal.passing)
 
   -- with n vertices there were at most n (n - 1) / 2 flips since the start
   pub underway_counts : 2 * (flips - start) ≤ length was.vertices * (length was.vertices - 1)
-  underway_counts = subst (λ (n : ℕ). 2 * (flips - start) ≤ n * (n - 1)) (length-map was.vertices at) (M.few_flips (map at was.vertices) fixed_first was.mesh now.mesh all start flips u.legal).1
+  underway_counts =
+      subst (λ (n : ℕ). 2 * (flips - start) ≤ n * (n - 1)) (length-map was.vertices at)
+      (M.few_flips (map at was.vertices) fixed_first was.mesh now.mesh all start flips u.legal).1
 
   -- all that stood before, and stands, has its index
   pub underway_keeps : IsValidMesh now.mesh → KeepsIndexes was.mesh now.mesh
-  underway_keeps s = M.indexes_kept (map at was.vertices) fixed_first was.mesh now.mesh all start flips s u.legal
+  underway_keeps s =
+      M.indexes_kept (map at was.vertices) fixed_first was.mesh now.mesh all start flips s u.legal
 
 -- a list whose last entry was taken, and that had none, was empty
 pub drained : (xs ys : List ℕ) (v : ℕ) → xs ≡ ys ++ [] → ys ≡ take (v - 1) xs → v ≡ 0 → xs ≡ []

@@ -1,5 +1,6 @@
 -- The pairs that constraints join, where edges stay, become constraints or cease to be.
-use Rattle.std.proofs.Common.{◌≡◌, ◌≢◌, ◌⊎◌, ◌↔◌, ℕ, zero, suc, ◌*◌, ◌<◌, Bool, true, false, List, [], ◌∷◌, length}
+use Rattle.std.proofs.Common.{◌≡◌, ◌≢◌, ◌⊎◌, ◌↔◌, ◌*◌, ◌<◌, [], ◌∷◌}
+use Rattle.std.proofs.Common.{ℕ, zero, suc, Bool, true, false, List, length}
 use Rattle.std.proofs.Common.{get_or, set, refl, sym, ap, ◌∙◌, subst, inl, inr}
 use Rattle.std.specs.Prelude.{Contains, Some, slice_get}
 use Rattle.std.proofs.lemmas.Bool.{cases_eq}
@@ -12,7 +13,8 @@ use Rattle.mesh_embedding.proofs.Entries.{one_value, some_entry}
 use Rattle.mesh_embedding.proofs.MeshStays.{slice_get-set_other}
 use Rattle.mesh_embedding.proofs.WorkLists.{contains_map, contains_map_from, same_map}
 use Rattle.delaunay_legalization.specs.Constraints.{marked_edges, constraint_pairs, not_both}
-use Rattle.delaunay_legalization.proofs.Constraints.{is_constraint_edge, fixed_edge_is, fixed_within}
+use Rattle.delaunay_legalization.proofs.Constraints.{is_constraint_edge, fixed_edge_is}
+use Rattle.delaunay_legalization.proofs.Constraints.{fixed_within}
 
 -- what was written is read
 pub set_entry : {X : Type 0} (xs : List X) (k : ℕ) (d x : X) → slice_get xs k ≡ Some d →
@@ -52,9 +54,11 @@ module _ {U : Type 0} (marks : U → Bool) (constraints : List U → List ℕ)
           Contains (constraint_pairs constraints m ds) (pair_at m j.edge) →
           Joins (constraint_pairs constraints m ds) a b
       go (inl s) c =
-          inl (subst (λ (p : ℕ × ℕ). Contains (constraint_pairs constraints m ds) p) (λ i. (sym s.0 i, sym s.1 i)) c)
+          inl (subst (λ (p : ℕ × ℕ). Contains (constraint_pairs constraints m ds) p)
+          (λ i. (sym s.0 i, sym s.1 i)) c)
       go (inr s) c =
-          inr (subst (λ (p : ℕ × ℕ). Contains (constraint_pairs constraints m ds) p) (λ i. (sym s.1 i, sym s.0 i)) c)
+          inr (subst (λ (p : ℕ × ℕ). Contains (constraint_pairs constraints m ds) p)
+          (λ i. (sym s.1 i, sym s.0 i)) c)
 
   marked_at : (ds : List U) (k : ℕ) → Contains (constraints ds) k → IsMarked ds k
   marked_at ds k c =
@@ -64,8 +68,8 @@ module _ {U : Type 0} (marks : U → Bool) (constraints : List U → List ℕ)
       record { value = d; has = has; mark = fixed_edge_is marks constraints marked ds k d has c }
 
   -- vertices that a constraint joins are the ends of an edge with the mark
-  pub mark_joins : (m : Mesh) (ds : List U) (a b : ℕ) → Joins (constraint_pairs constraints m ds) a b →
-      JoinsByMark m ds a b
+  pub mark_joins : (m : Mesh) (ds : List U) (a b : ℕ)
+      → Joins (constraint_pairs constraints m ds) a b → JoinsByMark m ds a b
   mark_joins m ds a b (inl h) = let r = contains_map_from (pair_at m) (constraints ds) (a, b) h in
       record {
         edge = r.0;
@@ -80,30 +84,40 @@ module _ {U : Type 0} (marks : U → Bool) (constraints : List U → List ℕ)
       }
 
   -- where each constraint keeps its ends, the pairs stay
-  pub pairs_stay : (m n : Mesh) (ds : List U) → ((k : ℕ) → Contains (constraints ds) k → GoSameWay m (2 * k) n (2 * k))
+  pub pairs_stay : (m n : Mesh) (ds : List U)
+      → ((k : ℕ) → Contains (constraints ds) k → GoSameWay m (2 * k) n (2 * k))
       → constraint_pairs constraints n ds ≡ constraint_pairs constraints m ds
   pairs_stay m n ds same =
-      same_map (pair_at n) (pair_at m) (constraints ds) (λ k c. let s = same k c in λ i. (s.0 i, s.1 i))
+      same_map (pair_at n) (pair_at m) (constraints ds) (λ k c. let s = same k c in
+      λ i. (s.0 i, s.1 i))
 
   -- ---- other data of one edge
   module _ (ds : List U) (k : ℕ) (d x : U) (was : slice_get ds k ≡ Some d) where
     other_stays : (l : ℕ) → l ≢ k → IsMarked ds l → IsMarked (set ds k x) l
-    other_stays l n is = record { value = is.value; has = slice_get-set_other ds k l x n ∙ is.has; mark = is.mark }
+    other_stays l n is =
+        record { value = is.value; has = slice_get-set_other ds k l x n ∙ is.has; mark = is.mark }
 
     other_was : (l : ℕ) → l ≢ k → IsMarked (set ds k x) l → IsMarked ds l
-    other_was l n is = record { value = is.value; has = sym (slice_get-set_other ds k l x n) ∙ is.has; mark = is.mark }
+    other_was l n is = record {
+      value = is.value;
+      has = sym (slice_get-set_other ds k l x n) ∙ is.has;
+      mark = is.mark;
+    }
 
     module _ (m : Mesh) (mark : marks x ≡ true) where
       here : (l : ℕ) → l ≡ k → IsMarked (set ds k x) l
-      here l e = subst (IsMarked (set ds k x)) (sym e) (record { value = x; has = set_entry ds k d x was; mark = mark })
+      here l e = subst (IsMarked (set ds k x)) (sym e)
+          (record { value = x; has = set_entry ds k d x was; mark = mark })
 
       -- with the mark it joins its ends too
-      pub marking_joins : (a b : ℕ) → Joins (constraint_pairs constraints m (set ds k x)) a b ↔
-          (Joins (constraint_pairs constraints m ds) a b ⊎ IsSamePair a b (origin m (2 * k)) (origin m (rev (2 * k))))
+      pub marking_joins : (a b : ℕ) → Joins (constraint_pairs constraints m (set ds k x)) a b
+          ↔ (Joins (constraint_pairs constraints m ds) a b
+          ⊎ IsSamePair a b (origin m (2 * k)) (origin m (rev (2 * k))))
       marking_joins a b = (
         (λ h. let j = mark_joins m (set ds k x) a b h in
             elim (cases_eq j.edge k) [
-              | inl e ↦ inr (subst (λ (l : ℕ). IsSamePair a b (origin m (2 * l)) (origin m (rev (2 * l)))) e j.ends)
+              | inl e ↦ inr (subst
+                  (λ (l : ℕ). IsSamePair a b (origin m (2 * l)) (origin m (rev (2 * l)))) e j.ends)
               | inr n ↦ inl (joined_by_mark m ds a b (record {
                 edge = j.edge;
                 is = other_was j.edge n j.is;
@@ -114,32 +128,38 @@ module _ {U : Type 0} (marks : U → Bool) (constraints : List U → List ℕ)
           | inl was_joined ↦ (let j = mark_joins m ds a b was_joined in
               joined_by_mark m (set ds k x) a b (record {
                 edge = j.edge;
-                is = elim (cases_eq j.edge k) [ inl e ↦ here j.edge e | inr n ↦ other_stays j.edge n j.is ];
+                is = elim (cases_eq j.edge k)
+                    [ inl e ↦ here j.edge e | inr n ↦ other_stays j.edge n j.is ];
                 ends = j.ends;
               }))
-          | inr same ↦ joined_by_mark m (set ds k x) a b (record { edge = k; is = here k refl; ends = same })
+          | inr same ↦
+              joined_by_mark m (set ds k x) a b (record { edge = k; is = here k refl; ends = same })
         ]),
       )
 
     -- without it the others stay, where no other edge has its ends
-    pub unmarking_leaves : (m : Mesh) → marks x ≡ false →
-        ((l : ℕ) → l < length ds → IsSamePair (origin m (2 * l)) (origin m (rev (2 * l))) (origin m (2 * k))
-        (origin m (rev (2 * k))) → l ≡ k)
-        → (a b : ℕ) → Joins (constraint_pairs constraints m (set ds k x)) a b ↔
-        (Joins (constraint_pairs constraints m ds) a b × ¬ IsSamePair a b (origin m (2 * k)) (origin m (rev (2 * k))))
+    pub unmarking_leaves : (m : Mesh) → marks x ≡ false
+        → ((l : ℕ) → l < length ds → IsSamePair (origin m (2 * l)) (origin m (rev (2 * l)))
+        (origin m (2 * k)) (origin m (rev (2 * k))) → l ≡ k) → (a b : ℕ)
+        → Joins (constraint_pairs constraints m (set ds k x)) a b
+        ↔ (Joins (constraint_pairs constraints m ds) a b
+        × ¬ IsSamePair a b (origin m (2 * k)) (origin m (rev (2 * k))))
     unmarking_leaves m free only a b = (
       (λ h. let j = mark_joins m (set ds k x) a b h in
           let n : j.edge ≢ k = λ e. not_here j.edge e j.is in
           let was_marked = other_was j.edge n j.is in (
             joined_by_mark m ds a b (record { edge = j.edge; is = was_marked; ends = j.ends }),
             (λ same. n (only j.edge (slice_get_within ds j.edge was_marked.value was_marked.has)
-                (same_as_third a b (origin m (2 * j.edge)) (origin m (rev (2 * j.edge))) (origin m (2 * k))
+                (same_as_third a b (origin m (2 * j.edge)) (origin m (rev (2 * j.edge)))
+                (origin m (2 * k))
                 (origin m (rev (2 * k))) j.ends same))),
           )),
       (λ h. let j = mark_joins m ds a b h.0 in
           let n : j.edge ≢ k =
-          λ e. h.1 (subst (λ (l : ℕ). IsSamePair a b (origin m (2 * l)) (origin m (rev (2 * l)))) e j.ends) in
-          joined_by_mark m (set ds k x) a b (record { edge = j.edge; is = other_stays j.edge n j.is; ends = j.ends })),
+          λ e. h.1 (subst
+          (λ (l : ℕ). IsSamePair a b (origin m (2 * l)) (origin m (rev (2 * l)))) e j.ends) in
+          joined_by_mark m (set ds k x) a b
+          (record { edge = j.edge; is = other_stays j.edge n j.is; ends = j.ends })),
     )
       where
         not_here : (l : ℕ) → l ≡ k → ¬ IsMarked (set ds k x) l

@@ -21,8 +21,8 @@ abbrev pub HasOpposite : Mesh → ℕ → List ℕ → Type 0
 HasOpposite m v ks = (h : ℕ) → h < length m.half_edges → origin m h ≡ v → Contains ks (next m h / 2)
 
 -- the edges opposite the vertex v join the two other corners of its faces
-opposite_joined : (m : Mesh) → AreSoundLinks m → (v : ℕ) (ks : List ℕ) → HasOpposite m v ks → (j k : ℕ)
-    → IsFaceOf (faces_of m) v j k → Joins (pairs_at m ks) j k
+opposite_joined : (m : Mesh) → AreSoundLinks m → (v : ℕ) (ks : List ℕ) → HasOpposite m v ks
+    → (j k : ℕ) → IsFaceOf (faces_of m) v j k → Joins (pairs_at m ks) j k
 opposite_joined m s v ks has j k f =
     let e = edge_of_face m s v j k f in
     let t = T.triangle_at m e.0 s e.1.inner.0 e.1.inner.1 in
@@ -32,8 +32,9 @@ opposite_joined m s v ks has j k f =
     (joins_directed m ks (next m e.0) (has e.0 e.1.inner.0 e.1.first))
 
 -- so these edges are left where only they fail
-pub opposite_begins : (points : List Point) (constraints : List (ℕ × ℕ)) (m : Mesh) → AreSoundLinks m → (v : ℕ)
-    (ks : List ℕ) → IsMesh points (faces_of m) (outer_of m) → IsEmptyRound points (faces_of m) v → HasOpposite m v ks
+pub opposite_begins : (points : List Point) (constraints : List (ℕ × ℕ)) (m : Mesh)
+    → AreSoundLinks m → (v : ℕ) (ks : List ℕ) → IsMesh points (faces_of m) (outer_of m)
+    → IsEmptyRound points (faces_of m) v → HasOpposite m v ks
     → AllPassBut points (faces_of m) constraints (pairs_at m ks)
 opposite_begins points constraints m s v ks shape empty has =
     opposite_left points (faces_of m) (outer_of m) constraints (pairs_at m ks) v shape empty
@@ -43,4 +44,5 @@ opposite_begins points constraints m s v ks shape empty has =
 -- what a link of an edge gives, where the mesh and the edge are known by other names
 pub link_read : (link : Mesh → ℕ → ℕ) (m seen : Mesh) (index handle edge h : ℕ) → index ≡ handle
     → handle ≡ link seen edge → seen ≡ m → edge ≡ h → index ≡ link m h
-link_read link m seen index handle edge h is read same from = is ∙ read ∙ (λ i. link (same i) (from i))
+link_read link m seen index handle edge h is read same from =
+    is ∙ read ∙ (λ i. link (same i) (from i))

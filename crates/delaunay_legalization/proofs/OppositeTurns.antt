@@ -2,7 +2,8 @@
 use Rattle.std.proofs.Common.{◌≡◌, ℕ, ◌*◌, ◌/◌, ◌<◌, List, length, sym, ap, ◌∙◌, subst}
 use mathlib.Core.Logic.{◌≢◌, inl, inr}
 use Rattle.std.proofs.lemmas.Bool.{cases_eq}
-use Rattle.half_edge_mesh.specs.Mesh.{Mesh, origin, next, prev, face, rev, edge_at, HasLinks, IsValidMesh}
+use Rattle.half_edge_mesh.specs.Mesh.{Mesh, origin, next, prev, face, rev, edge_at, HasLinks}
+use Rattle.half_edge_mesh.specs.Mesh.{IsValidMesh}
 use Rattle.half_edge_mesh.specs.Flip.{Flips, flipped}
 use Rattle.half_edge_links.specs.declared.records.HalfEdge.{HalfEdge}
 use Rattle.half_edge_links.proofs.Faces.FlipLemmas.{flips_is}
@@ -26,13 +27,16 @@ use Rattle.delaunay_legalization.proofs.Spokes.{ComesBetween}
 
 -- ---- an edge fails in both of its directions
 -- and so does its other direction
-pub failing_twin : (points : List Point) (m : Mesh) → IsValidMesh m → IsMesh points (faces_of m) (outer_of m) → (e : ℕ)
-    → e < length m.half_edges → IsFailing points m e → IsFailing points m (rev e)
+pub failing_twin : (points : List Point) (m : Mesh) → IsValidMesh m
+    → IsMesh points (faces_of m) (outer_of m) → (e : ℕ) → e < length m.half_edges
+    → IsFailing points m e → IsFailing points m (rev e)
 failing_twin points m s shape e within x = record {
   inner = x.twin_inner;
   twin_inner = subst (λ z. 0 < face m z) (sym (rev-rev e)) x.inner;
-  inside = subst (λ (z : ℕ). InsideCircle (place points (origin m (rev e))) (place points (origin m (next m (rev e))))
-      (place points (origin m (prev m (rev e)))) (place points (origin m (prev m z)))) (sym (rev-rev e))
+  inside = subst (λ (z : ℕ). InsideCircle (place points (origin m (rev e)))
+      (place points (origin m (next m (rev e))))
+      (place points (origin m (prev m (rev e)))) (place points (origin m (prev m z))))
+      (sym (rev-rev e))
       (right_by_edges points m s shape e within x);
 }
 
@@ -63,7 +67,8 @@ by_twin : (m new : Mesh) (e : ℕ) → Flips m new (rev e) → TurnsOpposite m n
 by_twin m new e f = record {
   edge_count = f.edge_count;
   others = λ j k. f.other_edges j k.twin (λ q. k.edge (q ∙ rev-rev e)) k.twin_next
-      (λ q. k.edge_next (q ∙ ap (next m) (rev-rev e))) k.twin_prev (λ q. k.edge_prev (q ∙ ap (prev m) (rev-rev e)));
+      (λ q. k.edge_next (q ∙ ap (next m) (rev-rev e))) k.twin_prev
+      (λ q. k.edge_prev (q ∙ ap (prev m) (rev-rev e)));
   before_origin = before.origin;
   before_next = before.next;
   before_prev = before.prev;
@@ -73,16 +78,19 @@ by_twin m new e f = record {
 }
   where
     edge : HasLinks new e (origin m (prev m e)) (prev m (rev e)) (next m e) (face m e)
-    edge = subst (λ (z : ℕ). HasLinks new z (origin m (prev m z)) (prev m (rev e)) (next m z) (face m z)) (rev-rev e)
+    edge = subst (λ (z : ℕ). HasLinks new z (origin m (prev m z)) (prev m (rev e)) (next m z)
+        (face m z)) (rev-rev e)
         f.twin
 
     before : HasLinks new (prev m e) (origin m (prev m e)) (next m (rev e)) (rev e) (face m (rev e))
-    before = subst (λ (z : ℕ). HasLinks new (prev m z) (origin m (prev m z)) (next m (rev e)) (rev e) (face m (rev e)))
+    before = subst (λ (z : ℕ). HasLinks new (prev m z) (origin m (prev m z)) (next m (rev e))
+        (rev e) (face m (rev e)))
         (rev-rev e) f.twin_prev
 
 -- ---- the edge opposite the vertex where edge h starts, in the face on the left of h, fails
-module _ (points : List Point) (m : Mesh) (s : IsValidMesh m) (shape : IsMesh points (faces_of m) (outer_of m)) (h : ℕ)
-    (within : h < length m.half_edges) (x : IsFailing points m (next m h)) where
+module _ (points : List Point) (m : Mesh) (s : IsValidMesh m)
+    (shape : IsMesh points (faces_of m) (outer_of m)) (h : ℕ) (within : h < length m.half_edges)
+    (x : IsFailing points m (next m h)) where
   abbrev e : ℕ
   e = next m h
 
@@ -118,7 +126,8 @@ module _ (points : List Point) (m : Mesh) (s : IsValidMesh m) (shape : IsMesh po
       × (origin m (prev m e) ≢ origin m e)
   differ = corners_differ (point_at points) (origin m e) (origin m (next m e)) (origin m (prev m e))
       (C.turn_left_of (length points) (point_at points) (faces_of m) (outer_of m)
-      (by_signs points (faces_of m) (outer_of m) local) (origin m e) (origin m (next m e)) (origin m (prev m e))
+      (by_signs points (faces_of m) (outer_of m) local) (origin m e) (origin m (next m e))
+      (origin m (prev m e))
       (face_before m e s.sound (e_in, x.inner)))
 
   -- the corner beyond the edge is not the vertex
@@ -150,7 +159,8 @@ module _ (points : List Point) (m : Mesh) (s : IsValidMesh m) (shape : IsMesh po
           (turned ∙ ap (flipped m) q))
     ]
 
-    stays : (j : ℕ) → origin m j ≡ origin m h → j ≢ h → edge_at new.half_edges j ≡ edge_at m.half_edges j
+    stays : (j : ℕ) → origin m j ≡ origin m h → j ≢ h
+        → edge_at new.half_edges j ≡ edge_at m.half_edges j
     stays j at off = turns.others j (away j at off)
 
     -- the turned edge comes behind h

@@ -10,22 +10,32 @@ use Rattle.delaunay_legalization.specs.Between.{IsInBox}
 use Rattle.delaunay_legalization.specs.Known.{point_at}
 use Rattle.delaunay_legalization.proofs.Between.{within_of_box, box_of_within}
 
--- a point on the line through two others, in their box and at neither, is strictly between them, by the side
-pub within_if : (u v p : Point) → u ≢ v → p ≢ u → p ≢ v → side (whole u) (whole v) (whole p) ≡ on → IsInBox u v p → WithinSegment (whole u) (whole v) (whole p)
-within_if u v p apart from_u from_v flat box = within_of_box u v p apart from_u from_v (if_on (whole u) (whole v) (whole p) flat) box
+-- a point on the line through two others, in their box and at neither, is strictly between them, by
+-- the side
+pub within_if : (u v p : Point) → u ≢ v → p ≢ u → p ≢ v → side (whole u) (whole v) (whole p) ≡ on
+    → IsInBox u v p → WithinSegment (whole u) (whole v) (whole p)
+within_if u v p apart from_u from_v flat box =
+    within_of_box u v p apart from_u from_v (if_on (whole u) (whole v) (whole p) flat) box
 
 -- a point strictly between two others is on the line through them and in their box
-pub if_within : (u v p : Point) → WithinSegment (whole u) (whole v) (whole p) → (side (whole u) (whole v) (whole p) ≡ on) × IsInBox u v p
-if_within u v p w = (on_if (whole u) (whole v) (whole p) (within_on u v (whole p) w), box_of_within u v p w)
+pub if_within : (u v p : Point) → WithinSegment (whole u) (whole v) (whole p)
+    → (side (whole u) (whole v) (whole p) ≡ on) × IsInBox u v p
+if_within u v p w =
+    (on_if (whole u) (whole v) (whole p) (within_on u v (whole p) w), box_of_within u v p w)
 
 -- no truth value is both true and false
 pub both_ways : (b : Bool) → b ≡ true → b ≡ false → ⊥
 both_ways b t f = cc
 
 -- a vertex of covered sites is covered
-pub covered_at : (IsCovered IsSite : Point → Type 0) → ((p : Point) → IsSite p → IsCovered p) → (points : List Point) (i : ℕ) (q : Point) → All IsSite points → i < length points → q ≡ point_at points i → IsCovered q
-covered_at IsCovered IsSite covers points i q sites h e = subst IsCovered (sym e) (covers (point_at points i) (All-get_or IsSite points i (record { x = pos 0; y = pos 0 }) h sites))
+pub covered_at : (IsCovered IsSite : Point → Type 0) → ((p : Point) → IsSite p → IsCovered p)
+    → (points : List Point) (i : ℕ) (q : Point) → All IsSite points → i < length points
+    → q ≡ point_at points i → IsCovered q
+covered_at IsCovered IsSite covers points i q sites h e =
+    subst IsCovered (sym e) (covers (point_at points i)
+    (All-get_or IsSite points i (record { x = pos 0; y = pos 0 }) h sites))
 
 -- a listed site is covered
-pub covered_in : (IsCovered IsSite : Point → Type 0) → ((p : Point) → IsSite p → IsCovered p) → (points : List Point) (q : Point) → All IsSite points → Contains points q → IsCovered q
+pub covered_in : (IsCovered IsSite : Point → Type 0) → ((p : Point) → IsSite p → IsCovered p)
+    → (points : List Point) (q : Point) → All IsSite points → Contains points q → IsCovered q
 covered_in IsCovered IsSite covers points q sites c = covers q (subst IsSite c.2 (sites c.0 q c.1))

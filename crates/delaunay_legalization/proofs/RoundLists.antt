@@ -35,7 +35,8 @@ put_last [] k o = (
 )
 put_last (i ∷ ks) k o = go (put_last ks k (once_tail i ks o)) (cases_eq i k)
   where
-    go : (rest : List ℕ) × PutsLast ks k rest → (i ≡ k) ⊎ (i ≢ k) → (rest : List ℕ) × PutsLast (i ∷ ks) k rest
+    go : (rest : List ℕ) × PutsLast ks k rest → (i ≡ k) ⊎ (i ≢ k)
+        → (rest : List ℕ) × PutsLast (i ∷ ks) k rest
     go (rest, p) (inl e) = (
       rest,
       record {
@@ -70,14 +71,16 @@ none_in [] n = refl
 none_in (k ∷ ks) n = absurd (n k (Contains-head k ks))
 
 -- where more edges are left to test, a mesh is partly legal still
-pub legal_with_more : (points : List Point) (constraints : List (ℕ × ℕ)) (was m : Mesh) (ks more : List ℕ)
-    (start flips : ℕ)
-    → AreEdges m more → ((j : ℕ) → Contains ks j → Contains more j)
-    → IsPartlyLegal points constraints was m ks start flips → IsPartlyLegal points constraints was m more start flips
+pub legal_with_more : (points : List Point) (constraints : List (ℕ × ℕ)) (was m : Mesh)
+    (ks more : List ℕ) (start flips : ℕ) → AreEdges m more
+    → ((j : ℕ) → Contains ks j → Contains more j)
+    → IsPartlyLegal points constraints was m ks start flips
+    → IsPartlyLegal points constraints was m more start flips
 legal_with_more points constraints was m ks more start flips edges kept p = record {
   shape = p.shape;
   edges = edges;
-  passing = λ i j k l f g free untested. p.passing i j k l f g free (λ joined. untested (still i j joined));
+  passing = λ i j k l f g free untested. p.passing i j k l f g free
+      (λ joined. untested (still i j joined));
   away = p.away;
   are_away = p.are_away;
   count = p.count;
@@ -105,8 +108,8 @@ pub record HasAllOpposite (m : Mesh) (hs ks : List ℕ) : Type 0 where
   pub all : (h : ℕ) → Contains hs h → Contains ks (next m h / 2)
 
 -- there is such a list
-pub opposites : (m : Mesh) → IsValidMesh m → (hs : List ℕ) → ((h : ℕ) → Contains hs h → h < length m.half_edges)
-    → (ks : List ℕ) × HasAllOpposite m hs ks
+pub opposites : (m : Mesh) → IsValidMesh m → (hs : List ℕ)
+    → ((h : ℕ) → Contains hs h → h < length m.half_edges) → (ks : List ℕ) × HasAllOpposite m hs ks
 opposites m s [] within = (
   [],
   record {
@@ -120,7 +123,8 @@ opposites m s (h ∷ hs) within = go (opposites m s hs (λ g c. within g (Contai
     go : (ks : List ℕ) × HasAllOpposite m hs ks → (more : List ℕ) × HasAllOpposite m (h ∷ hs) more
     go (ks, p) = gain (with_one ks (next m h / 2))
       where
-        gain : (more : List ℕ) × Gains ks more (next m h / 2) → (more : List ℕ) × HasAllOpposite m (h ∷ hs) more
+        gain : (more : List ℕ) × Gains ks more (next m h / 2)
+            → (more : List ℕ) × HasAllOpposite m (h ∷ hs) more
         gain (more, g) = (
           more,
           record {

@@ -26,12 +26,16 @@ use Rattle.delaunay_legalization.specs.Constraints.{constraint_pairs}
 use Rattle.delaunay_legalization.specs.Flips.{FlipsFit}
 use Rattle.delaunay_legalization.specs.Known.{point_at}
 use Rattle.delaunay_legalization.specs.Sides.{HasLegalized}
-use Rattle.delaunay_legalization.proofs.FarSides.{GainsFarSides, flip_keeps_empty, turned_far, with_one}
-use Rattle.delaunay_legalization.proofs.Legalizing.{IsUnderway, edges_gained, half_within, step_fits, step_kept}
+use Rattle.delaunay_legalization.proofs.FarSides.{GainsFarSides, flip_keeps_empty, turned_far}
+use Rattle.delaunay_legalization.proofs.FarSides.{with_one}
+use Rattle.delaunay_legalization.proofs.Legalizing.{IsUnderway, edges_gained, half_within}
+use Rattle.delaunay_legalization.proofs.Legalizing.{step_fits, step_kept}
 use Rattle.delaunay_legalization.proofs.Legalizing.{turned_by, underway_begins}
 use Rattle.delaunay_legalization.proofs.OppositeSides.{opposite_begins}
-use Rattle.delaunay_legalization.proofs.OppositeTurns.{beyond_differs, comes_between, either_in, failing_either}
-use Rattle.delaunay_legalization.proofs.OppositeTurns.{failing_twin, opposite_behind, opposite_here, opposite_others}
+use Rattle.delaunay_legalization.proofs.OppositeTurns.{beyond_differs, comes_between, either_in}
+use Rattle.delaunay_legalization.proofs.OppositeTurns.{failing_either}
+use Rattle.delaunay_legalization.proofs.OppositeTurns.{failing_twin, opposite_behind, opposite_here}
+use Rattle.delaunay_legalization.proofs.OppositeTurns.{opposite_others}
 use Rattle.delaunay_legalization.proofs.Pushing.{no_edges}
 use Rattle.plane.proofs.Indexes.{turned_join}
 use Rattle.delaunay_legalization.proofs.Spokes.{AreLeft, ComesBetween, all_left, count_left}
@@ -43,8 +47,8 @@ use Rattle.delaunay_legalization.proofs.RoundLists.{opposites, put_last}
 
 -- ---- from edge to edge
 -- from edge h on the edges opposite vertex v are left to test, until its edge first comes again
-pub record IsTurningRound {V D U F : Type 0} (at : V → Point) (fix : List U → List ℕ) (was now : Contents V D U F)
-    (v first h start flips : ℕ) : Type 0 where
+pub record IsTurningRound {V D U F : Type 0} (at : V → Point) (fix : List U → List ℕ)
+    (was now : Contents V D U F) (v first h start flips : ℕ) : Type 0 where
   pub behind : List ℕ
   pub left : AreLeft now.mesh v first h behind
   pub first_in : first < length now.mesh.half_edges
@@ -58,14 +62,16 @@ pub record IsTurningRound {V D U F : Type 0} (at : V → Point) (fix : List U �
 abbrev pub tests_left : List Point → Mesh → ℕ → ℕ → ℕ
 tests_left points m first h = 2 * lifted_volume points (faces_of m) + how_many_left m first h
 
-module _ {V D U F : Type 0} (at : V → Point) (fix : List U → List ℕ) (was : Contents V D U F) (v first start : ℕ) where
+module _ {V D U F : Type 0} (at : V → Point) (fix : List U → List ℕ) (was : Contents V D U F)
+    (v first start : ℕ) where
   -- at first all of them
   pub turning_begins : IsValidMesh was.mesh → CanGoRound at was v first start
       → IsTurningRound at fix was was v first first start start
   turning_begins s can = go (all_left was.mesh s v first can.named)
     where
-      go : (gs : List ℕ) × AreLeft was.mesh v first first gs × ((h : ℕ) → h < length was.mesh.half_edges
-          → origin was.mesh h ≡ v → Contains (first ∷ gs) h) → IsTurningRound at fix was was v first first start start
+      go : (gs : List ℕ) × AreLeft was.mesh v first first gs × ((h : ℕ)
+          → h < length was.mesh.half_edges → origin was.mesh h ≡ v → Contains (first ∷ gs) h)
+          → IsTurningRound at fix was was v first first start start
       go (gs, left, all) =
           let o = opposites was.mesh s (first ∷ gs) left.within in
           record {
@@ -76,7 +82,8 @@ module _ {V D U F : Type 0} (at : V → Point) (fix : List U → List ℕ) (was 
             ks = o.0;
             opposite = o.1.only;
             underway = underway_begins fix (map at was.vertices) was o.0 0 start can.shape o.1.edges
-                (opposite_begins (map at was.vertices) (constraint_pairs fix was.mesh was.undirected) was.mesh s.sound v
+                (opposite_begins (map at was.vertices)
+                (constraint_pairs fix was.mesh was.undirected) was.mesh s.sound v
                 o.0 can.shape can.empty (λ h w e. o.1.all h (all h w e)));
             empty = can.empty;
           }
@@ -96,7 +103,8 @@ module _ {V D U F : Type 0} (at : V → Point) (fix : List U → List ℕ) (was 
     same_points = ap (λ (c : Contents V D U F). map at c.vertices) t.underway.contents
 
     shape : IsMesh points (faces_of m) (outer_of m)
-    shape = subst (λ ps. IsMesh ps (faces_of m) (outer_of m)) (sym same_points) t.underway.legal.shape
+    shape =
+        subst (λ ps. IsMesh ps (faces_of m) (outer_of m)) (sym same_points) t.underway.legal.shape
 
     empty : IsEmptyRound points (faces_of m) v
     empty = subst (λ ps. IsEmptyRound ps (faces_of m) v) (sym same_points) t.empty
@@ -109,7 +117,8 @@ module _ {V D U F : Type 0} (at : V → Point) (fix : List U → List ℕ) (was 
     h_starts = t.left.starts h (Contains-head h t.behind)
 
     -- it starts at the vertex, which is where it was
-    pub centre_is : (q : Point) → q ≡ point_at (map at was.vertices) v → q ≡ point_at points (origin m h)
+    pub centre_is : (q : Point) → q ≡ point_at (map at was.vertices) v
+        → q ≡ point_at points (origin m h)
     centre_is q is = is ∙ (λ i. point_at (sym same_points i) (sym h_starts i))
 
     -- and it is listed still
@@ -141,7 +150,10 @@ module _ {V D U F : Type 0} (at : V → Point) (fix : List U → List ℕ) (was 
 
     rest_edges : AreEdges m rest
     unfolding rest
-    rest_edges = record { within = λ j c. t.underway.legal.edges.within j (put.1.from j c); once = put.1.once }
+    rest_edges = record {
+      within = λ j c. t.underway.legal.edges.within j (put.1.from j c);
+      once = put.1.once;
+    }
 
     -- the edge opposite is the last that is left to test
     with_last : IsUnderway fix (map at was.vertices) was now (rest ++ e / 2 ∷ []) 0 0 start flips
@@ -149,7 +161,8 @@ module _ {V D U F : Type 0} (at : V → Point) (fix : List U → List ℕ) (was 
     with_last = record {
       contents = t.underway.contents;
       constraints = t.underway.constraints;
-      legal = legal_with_more (map at was.vertices) (constraint_pairs fix was.mesh was.undirected) was.mesh m t.ks
+      legal = legal_with_more (map at was.vertices)
+          (constraint_pairs fix was.mesh was.undirected) was.mesh m t.ks
           (rest ++ e / 2 ∷ []) start flips listed put.1.kept t.underway.legal;
       room_stays = refl;
     }
@@ -160,7 +173,8 @@ module _ {V D U F : Type 0} (at : V → Point) (fix : List U → List ℕ) (was 
     rest_behind j c =
         let y = t.opposite j (put.1.from j c) in
         elim (Contains-cases h t.behind y.0 y.1) [
-          | inl q ↦ absurd (put.1.off (subst (Contains rest) (y.2 ∙ ap (λ z. next m z / 2) (sym q)) c))
+          | inl q ↦
+              absurd (put.1.off (subst (Contains rest) (y.2 ∙ ap (λ z. next m z / 2) (sym q)) c))
           | inr d ↦ (y.0, d, y.2)
         ]
 
@@ -169,13 +183,16 @@ module _ {V D U F : Type 0} (at : V → Point) (fix : List U → List ℕ) (was 
     may_turn fit = record {
       within = h_in;
       shape = shape;
-      fits = λ x. step_fits at fix was now (rest ++ e / 2 ∷ []) 0 0 start flips with_last rest (e / 2) refl s fit
+      fits = λ x. step_fits at fix was now (rest ++ e / 2 ∷ []) 0 0 start flips with_last rest
+          (e / 2) refl s fit
           (failing_either points m s shape h h_in x);
     }
 
     -- ---- it was turned
-    module _ (after : Contents V D U F) (flips_after : ℕ) (contents : after ≡ record now { mesh = after.mesh })
-        (constraints : constraint_pairs fix after.mesh after.undirected ≡ constraint_pairs fix m now.undirected)
+    module _ (after : Contents V D U F) (flips_after : ℕ)
+        (contents : after ≡ record now { mesh = after.mesh })
+        (constraints : constraint_pairs fix after.mesh after.undirected
+        ≡ constraint_pairs fix m now.undirected)
         (turns : Turns points m after.mesh h flips flips_after) where
       abbrev x : IsFailing points m e
       x = turns.failing
@@ -196,7 +213,8 @@ module _ {V D U F : Type 0} (at : V → Point) (fix : List U → List ℕ) (was 
       more_edges =
           let twin = s.sound.edges (rev e) twin_in in
           edges_gained m more_once.0 more (prev m (rev e)) (length m.half_edges) refl twin.prev_in
-          (edges_gained m rest more_once.0 (next m (rev e)) (length m.half_edges) refl twin.next_in rest_edges
+          (edges_gained m rest more_once.0 (next m (rev e))
+          (length m.half_edges) refl twin.next_in rest_edges
           more_once.1) more_twice.1
 
       next_there : Contains more (next m (rev e) / 2)
@@ -210,7 +228,8 @@ module _ {V D U F : Type 0} (at : V → Point) (fix : List U → List ℕ) (was 
             subst (λ z. Contains more (next m (rev z) / 2)) (sym q) next_there,
             subst (λ z. Contains more (prev m (rev z) / 2)) (sym q) more_twice.1.there,
           );
-          near = λ off. absurd (off (ap (λ z. origin m (prev m z)) q ∙ ap (origin m) h_is ∙ h_starts));
+          near =
+              λ off. absurd (off (ap (λ z. origin m (prev m z)) q ∙ ap (origin m) h_is ∙ h_starts));
         }
         | inr q ↦ record {
           kept = λ j c. more_twice.1.kept j (more_once.1.kept j c);
@@ -223,17 +242,21 @@ module _ {V D U F : Type 0} (at : V → Point) (fix : List U → List ℕ) (was 
         }
       ]
 
-      legal_after : (first : Mesh) (begin : ℕ)
-          → IsPartlyLegal points (constraint_pairs fix m now.undirected) first m (rest ++ e / 2 ∷ []) begin flips
-          → IsPartlyLegal points (constraint_pairs fix m now.undirected) first after.mesh more begin flips_after
+      legal_after : (first : Mesh) (begin : ℕ) → IsPartlyLegal points
+          (constraint_pairs fix m now.undirected) first m (rest ++ e / 2 ∷ []) begin flips
+          → IsPartlyLegal points
+          (constraint_pairs fix m now.undirected) first after.mesh more begin flips_after
       legal_after first begin p =
           let k_in = either_in points m s shape h h_in x in
           let k_fails = failing_either points m s shape h h_in x in
-          subst (λ (y : Mesh). IsPartlyLegal points (constraint_pairs fix m now.undirected) first y more begin
+          subst (λ (y : Mesh). IsPartlyLegal points
+          (constraint_pairs fix m now.undirected) first y more begin
           flips_after)
           (sym turns.turned) (turned_far points m s shape (2 * (e / 2)) k_in k_fails v empty
-          (constraint_pairs fix m now.undirected) first begin flips_after rest more far_sides more_edges
-          (λ all round edges. turned_by points (constraint_pairs fix m now.undirected) first m (flipped m (2 * (e / 2)))
+          (constraint_pairs fix m now.undirected) first begin flips_after rest more
+          far_sides more_edges
+          (λ all round edges. turned_by points (constraint_pairs fix m now.undirected) first m
+          (flipped m (2 * (e / 2)))
           rest all (e / 2) begin flips flips_after s refl turns.counted k_fails round edges p))
 
       opposite_after : AreOpposite after.mesh (h ∷ e ∷ t.behind) more
@@ -241,19 +264,22 @@ module _ {V D U F : Type 0} (at : V → Point) (fix : List U → List ℕ) (was 
         | inl q ↦ (
           e,
           Contains-later h (e ∷ t.behind) e (Contains-head e t.behind),
-          q ∙ ap (λ z. z / 2) (sym (opposite_behind points m s shape h h_in x after.mesh turns.turned)),
+          q ∙ ap (λ z. z / 2)
+              (sym (opposite_behind points m s shape h h_in x after.mesh turns.turned)),
         )
         | inr d ↦ elim (more_once.1.only j d) [
           | inl q ↦ (
             h,
             Contains-head h (e ∷ t.behind),
-            q ∙ ap (λ z. z / 2) (sym (opposite_here points m s shape h h_in x after.mesh turns.turned)),
+            q ∙ ap (λ z. z / 2)
+                (sym (opposite_here points m s shape h h_in x after.mesh turns.turned)),
           )
           | inr r ↦
               let y = rest_behind j r in (
                 y.0,
                 Contains-later h (e ∷ t.behind) y.0 (Contains-later e t.behind y.0 y.1),
-                y.2 ∙ ap (λ z. z / 2) (sym (opposite_others points m s shape h h_in x after.mesh turns.turned y.0
+                y.2 ∙ ap (λ z. z / 2)
+                    (sym (opposite_others points m s shape h h_in x after.mesh turns.turned y.0
                     (t.left.starts y.0 (Contains-later h t.behind y.0 y.1) ∙ sym h_starts)
                     (λ i. once_head h t.behind t.left.once (subst (Contains t.behind) i y.1)))),
               )
@@ -276,7 +302,8 @@ module _ {V D U F : Type 0} (at : V → Point) (fix : List U → List ℕ) (was 
         first_starts = between.origins first t.first_in t.first_starts;
         ks = more;
         opposite = opposite_after;
-        underway = step_kept at fix was now (rest ++ e / 2 ∷ []) 0 0 start flips with_last rest (e / 2) refl after
+        underway = step_kept at fix was now (rest ++ e / 2 ∷ []) 0 0 start flips with_last rest
+            (e / 2) refl after
             more 0
             flips_after contents constraints legal_after refl;
         empty = subst (λ (ps : List Point). IsEmptyRound ps (faces_of after.mesh) v) same_points
@@ -286,49 +313,70 @@ module _ {V D U F : Type 0} (at : V → Point) (fix : List U → List ℕ) (was 
       }
 
       -- with fewer tests left
-      pub fewer_turned : tests_left (map at after.vertices) after.mesh first h < tests_left points m first h
+      pub fewer_turned : tests_left (map at after.vertices) after.mesh first h
+          < tests_left points m first h
       fewer_turned =
           let k_in = either_in points m s shape h h_in x in
           let k_fails = failing_either points m s shape h h_in x in
-          let falls = M.volume_falls points m s (M.local_of points m e s.sound shape (e_in, x.inner)) (2 * (e / 2)) k_in
+          let falls = M.volume_falls points m s
+          (M.local_of points m e s.sound shape (e_in, x.inner)) (2 * (e / 2)) k_in
           k_fails in
           let before = count_left m v first h t.behind t.left in
           let now_left = count_left after.mesh v first h (e ∷ t.behind) left_after in
-          let volume : lifted_volume (map at after.vertices) (faces_of after.mesh) < lifted_volume points (faces_of m) =
-          subst (λ (y : List Point × Mesh). lifted_volume y.0 (faces_of y.1) < lifted_volume points (faces_of m))
-          (λ i. (sym (ap (λ (c : Contents V D U F). map at c.vertices) contents) i, sym turns.turned i)) falls in
-          smaller (lifted_volume (map at after.vertices) (faces_of after.mesh)) (lifted_volume points (faces_of m))
-          (how_many_left after.mesh first h) (how_many_left m first h) (length t.behind) volume now_left before
+          let volume : lifted_volume (map at after.vertices) (faces_of after.mesh)
+          < lifted_volume points (faces_of m) =
+          subst (λ (y : List Point × Mesh). lifted_volume y.0 (faces_of y.1)
+          < lifted_volume points (faces_of m))
+          (λ i. (
+            sym (ap (λ (c : Contents V D U F). map at c.vertices) contents) i,
+            sym turns.turned i,
+          )) falls in
+          smaller (lifted_volume (map at after.vertices) (faces_of after.mesh))
+          (lifted_volume points (faces_of m))
+          (how_many_left after.mesh first h) (how_many_left m first h)
+          (length t.behind) volume now_left before
         where
           smaller : (v w a b n : ℕ) → v < w → a ≡ suc (suc n) → b ≡ suc n → 2 * v + a < 2 * w + b
           smaller v w a b n l p q = omega (arith, l, p, q)
 
     -- ---- it stayed
-    module _ (after : Contents V D U F) (flips_after : ℕ) (contents : after ≡ record now { mesh = after.mesh })
-        (stays : Stays points (constraint_pairs fix m now.undirected) m after.mesh h flips flips_after) where
+    module _ (after : Contents V D U F) (flips_after : ℕ)
+        (contents : after ≡ record now { mesh = after.mesh })
+        (stays : Stays points
+        (constraint_pairs fix m now.undirected) m after.mesh h flips flips_after) where
       passes_either : ¬ Joins (constraint_pairs fix m now.undirected) (origin m (2 * (e / 2)))
           (origin m (rev (2 * (e / 2))))
           → ¬ IsFailing points m (2 * (e / 2))
       passes_either free fails = elim (halved e) [
-        | inl q ↦ stays.passes (λ joined. free (subst (λ z. Joins (constraint_pairs fix m now.undirected) (origin m z)
+        | inl q ↦ stays.passes
+            (λ joined. free (subst (λ z. Joins (constraint_pairs fix m now.undirected) (origin m z)
             (origin m (rev z))) (sym q) joined)) (subst (IsFailing points m) q fails)
-        | inr q ↦ stays.passes (λ joined. free (subst (λ z. Joins (constraint_pairs fix m now.undirected) (origin m z)
-            (origin m (rev z))) (sym q) (subst (λ z. Joins (constraint_pairs fix m now.undirected) (origin m (rev e))
+        | inr q ↦ stays.passes
+            (λ joined. free (subst (λ z. Joins (constraint_pairs fix m now.undirected) (origin m z)
+            (origin m (rev z))) (sym q)
+            (subst (λ z. Joins (constraint_pairs fix m now.undirected) (origin m (rev e))
             (origin m z)) (sym (rev-rev e))
-            (turned_join (constraint_pairs fix m now.undirected) (origin m e) (origin m (rev e)) joined))))
-            (subst (IsFailing points m) (rev-rev e) (failing_twin points m s shape (rev e) (rev_within e
+            (turned_join (constraint_pairs fix m now.undirected) (origin m e)
+            (origin m (rev e)) joined))))
+            (subst (IsFailing points m) (rev-rev e)
+            (failing_twin points m s shape (rev e) (rev_within e
             (length m.half_edges) s.sound.even e_in) (subst (IsFailing points m) q fails)))
       ]
 
       without_last : IsUnderway fix (map at was.vertices) was now rest 0 0 start flips
-      without_last = step_kept at fix was now (rest ++ e / 2 ∷ []) 0 0 start flips with_last rest (e / 2) refl now
-          rest 0 flips refl refl (λ first begin p. M.dropped points (constraint_pairs fix m now.undirected) first m
+      without_last = step_kept at fix was now (rest ++ e / 2 ∷ []) 0 0 start flips with_last rest
+          (e / 2) refl now
+          rest 0 flips refl refl
+          (λ first begin p. M.dropped points (constraint_pairs fix m now.undirected) first m
           rest (e / 2)
           begin flips s p passes_either) refl
 
       same_state : let a : Contents V D U F × ℕ = (now, flips) in
           let b : Contents V D U F × ℕ = (after, flips_after) in a ≡ b
-      same_state = sym (λ i. ((contents ∙ ap (λ (y : Mesh). record now { mesh = y }) stays.same) i, stays.counted i))
+      same_state = sym (λ i. (
+        (contents ∙ ap (λ (y : Mesh). record now { mesh = y }) stays.same) i,
+        stays.counted i,
+      ))
 
       next_turning : turn m h ≢ first → IsTurningRound at fix was now v first (turn m h) start flips
       next_turning off = go (next_is_left m v first h t.behind t.left off)
@@ -354,14 +402,17 @@ module _ {V D U F : Type 0} (at : V → Point) (fix : List U → List ℕ) (was 
       pub turning_goes_next : (g : ℕ) → g ≡ turn after.mesh h → g ≢ first
           → IsTurningRound at fix was after v first g start flips_after
       turning_goes_next g is off =
-          subst (λ (y : ℕ). IsTurningRound at fix was after v first y start flips_after) (sym (same_turn g is))
-          (subst (λ (y : Contents V D U F × ℕ). IsTurningRound at fix was y.0 v first (turn m h) start y.1) same_state
+          subst (λ (y : ℕ). IsTurningRound at fix was after v first y start flips_after)
+          (sym (same_turn g is))
+          (subst (λ (y : Contents V D U F × ℕ). IsTurningRound at fix was y.0 v first
+          (turn m h) start y.1) same_state
           (next_turning (λ q. off (same_turn g is ∙ q))))
 
       -- with fewer tests left
       pub fewer_next : (g : ℕ) → g ≡ turn after.mesh h → g ≢ first
           → tests_left (map at after.vertices) after.mesh first g < tests_left points m first h
-      fewer_next g is off = go (next_is_left m v first h t.behind t.left (λ q. off (same_turn g is ∙ q)))
+      fewer_next g is off =
+          go (next_is_left m v first h t.behind t.left (λ q. off (same_turn g is ∙ q)))
         where
           smaller : (v a b n : ℕ) → a ≡ suc n → b ≡ suc (suc n) → 2 * v + a < 2 * v + b
           smaller v a b n p q = omega (arith, p, q)
@@ -369,16 +420,20 @@ module _ {V D U F : Type 0} (at : V → Point) (fix : List U → List ℕ) (was 
           go : (others : List ℕ) × (t.behind ≡ turn m h ∷ others)
               → tests_left (map at after.vertices) after.mesh first g < tests_left points m first h
           go (others, q) =
-              let here : AreLeft m v first h (turn m h ∷ others) = subst (AreLeft m v first h) q t.left in
+              let here : AreLeft m v first h (turn m h ∷ others) =
+              subst (AreLeft m v first h) q t.left in
               let before = count_left m v first h (turn m h ∷ others) here in
-              let behind = count_left m v first (turn m h) others (one_fewer m v first h (turn m h) others here) in
-              subst (λ (y : List Point × Mesh × ℕ). tests_left y.0 y.1 first y.2 < tests_left points m first h)
+              let behind = count_left m v first (turn m h) others
+              (one_fewer m v first h (turn m h) others here) in
+              subst (λ (y : List Point × Mesh × ℕ). tests_left y.0 y.1 first y.2
+              < tests_left points m first h)
               (λ i. (
                 ap (λ (c : Contents V D U F × ℕ). map at c.0.vertices) same_state i,
                 sym stays.same i,
                 sym (same_turn g is) i,
               ))
-              (smaller (lifted_volume points (faces_of m)) (how_many_left m first (turn m h)) (how_many_left m first h)
+              (smaller (lifted_volume points (faces_of m)) (how_many_left m first (turn m h))
+              (how_many_left m first h)
               (length others) behind before)
 
       -- back at the first edge, the mesh is legalized
@@ -386,7 +441,8 @@ module _ {V D U F : Type 0} (at : V → Point) (fix : List U → List ℕ) (was 
           → HasLegalized at fix was after start flips_after
       turning_ends g is back whole = steps_end Round at fix was 0 start after rest 0 flips_after
           (record {
-            underway = subst (λ (y : Contents V D U F × ℕ). IsUnderway fix (map at was.vertices) was y.0 rest 0 0
+            underway = subst
+                (λ (y : Contents V D U F × ℕ). IsUnderway fix (map at was.vertices) was y.0 rest 0 0
                 start y.1)
                 same_state without_last;
             suffice = tt;
@@ -395,13 +451,17 @@ module _ {V D U F : Type 0} (at : V → Point) (fix : List U → List ℕ) (was 
           (none_behind m v first h t.behind t.left (sym (same_turn g is) ∙ back)) y.1)))
 
   -- a vertex without edges leaves nothing to test
-  pub none_to_turn : IsMeshWithData was → IsMesh (map at was.vertices) (faces_of was.mesh) (outer_of was.mesh)
+  pub none_to_turn : IsMeshWithData was
+      → IsMesh (map at was.vertices) (faces_of was.mesh) (outer_of was.mesh)
       → IsEmptyRound (map at was.vertices) (faces_of was.mesh) v → IsNone (out_edge was.mesh v)
       → HasLegalized at fix was was start start
   none_to_turn whole shape empty none = steps_end Round at fix was 0 start was [] 0 start (record {
-    underway = underway_begins fix (map at was.vertices) was [] 0 start shape (no_edges was.mesh) (opposite_begins
-        (map at was.vertices) (constraint_pairs fix was.mesh was.undirected) was.mesh whole.valid.sound v [] shape empty
-        (λ h w is. absurd (neither (out_edge was.mesh v) none (subst (λ u. IsSome (out_edge was.mesh u)) is
+    underway = underway_begins fix (map at was.vertices) was [] 0 start shape (no_edges was.mesh)
+        (opposite_begins
+        (map at was.vertices) (constraint_pairs fix was.mesh was.undirected) was.mesh
+        whole.valid.sound v [] shape empty
+        (λ h w is. absurd
+        (neither (out_edge was.mesh v) none (subst (λ u. IsSome (out_edge was.mesh u)) is
         (whole.valid.sound.edges h w).has_out))));
     suffice = tt;
   }) whole refl

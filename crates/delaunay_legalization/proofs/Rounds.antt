@@ -1,6 +1,7 @@
 -- Going through the edges of a vertex, one after another, from any of them.
 use Rattle.std.proofs.Common.{◌≡◌, ◌⊎◌, ℕ, ◌<◌, List, [], ◌∷◌, ◌∙◌}
-use Rattle.std.proofs.Common.{length, map, Option, Some, None, IsSome, refl, sym, ap, subst, inl, inr, arith}
+use Rattle.std.proofs.Common.{length, map, Option, Some, None, IsSome, refl, sym, ap, subst, inl}
+use Rattle.std.proofs.Common.{inr, arith}
 use Rattle.std.specs.Prelude.{Contains}
 use Rattle.std.specs.Borrow.{Bor}
 use Rattle.std.specs.List.{range_with_len}
@@ -95,11 +96,13 @@ module _ {V D U F : Type 0} (c : Contents V D U F) (v : ℕ) where
           once = once_none;
         };
         all = λ h w e.
-            absurd (no_out (subst (λ (x : ℕ). IsSome (out_edge c.mesh x)) e (valid.sound.edges h w).has_out));
+            absurd (no_out
+            (subst (λ (x : ℕ). IsSome (out_edge c.mesh x)) e (valid.sound.edges h w).has_out));
       }
         where
           no_out : ¬ IsSome (out_edge c.mesh v)
-          no_out x = not_some (out_edge c.mesh v) (ap (λ (m : Mesh). out_edge m v) (sym mesh_is) ∙ is) x
+          no_out x =
+              not_some (out_edge c.mesh v) (ap (λ (m : Mesh). out_edge m v) (sym mesh_is) ∙ is) x
       go (Some first) is = record {
         rest = spokes;
         are_left = record {
@@ -111,14 +114,16 @@ module _ {V D U F : Type 0} (c : Contents V D U F) (v : ℕ) where
               (subst (λ (k : ℕ). k < length d.now.mesh.half_edges) y.2 (r.1.within y.0));
           starts = λ h x.
               let y = contains_map_from (spoke d.now.mesh first) (range_with_len 0 r.0) h x in
-              ap (λ (m : Mesh). origin m h) (sym mesh_is) ∙ ap (origin d.now.mesh) (sym y.2) ∙ r.1.starts y.0;
+              ap (λ (m : Mesh). origin m h) (sym mesh_is) ∙ ap (origin d.now.mesh) (sym y.2)
+              ∙ r.1.starts y.0;
           once = spokes_once d.now.mesh v first r.0 r.1;
         };
         all = λ h w e.
             let i = r.1.all h (subst (λ (m : Mesh). h < length m.half_edges) (sym mesh_is) w)
             (ap (λ (m : Mesh). origin m h) mesh_is ∙ e) in
             subst (λ (k : ℕ). Contains spokes k) (sym i.2)
-            (contains_map (spoke d.now.mesh first) (range_with_len 0 r.0) i.0 (index_listed r.0 i.0 i.1));
+            (contains_map (spoke d.now.mesh first) (range_with_len 0 r.0) i.0
+            (index_listed r.0 i.0 i.1));
       }
         where
           r : (count : ℕ) × IsRound d.now.mesh v first count
@@ -128,23 +133,28 @@ module _ {V D U F : Type 0} (c : Contents V D U F) (v : ℕ) where
           spokes : List ℕ
           spokes = map (spoke d.now.mesh first) (range_with_len 0 r.0)
 
-  module _ (given : List (Bor (Contents V D U F) × ℕ)) (rest : List ℕ) (p : IsLeftOfRound c v given rest) where
+  module _ (given : List (Bor (Contents V D U F) × ℕ)) (rest : List ℕ)
+      (p : IsLeftOfRound c v given rest) where
     -- the next one, and what is left after it
     pub one_less_left : (x : Bor (Contents V D U F) × ℕ) (left : List (Bor (Contents V D U F) × ℕ))
-        → given ≡ x ∷ left → (others : List ℕ) × (rest ≡ x.1 ∷ others) × IsLeftOfRound c v left others
+        → given ≡ x ∷ left
+        → (others : List ℕ) × (rest ≡ x.1 ∷ others) × IsLeftOfRound c v left others
     one_less_left x left e = (
       s.1,
       first,
       record {
         mesh = p.mesh;
         left = s.4;
-        within = λ h y. p.within h (subst (λ (xs : List ℕ). Contains xs h) (sym s.2) (Contains-later s.0 s.1 h y));
-        starts = λ h y. p.starts h (subst (λ (xs : List ℕ). Contains xs h) (sym s.2) (Contains-later s.0 s.1 h y));
+        within = λ h y. p.within h
+            (subst (λ (xs : List ℕ). Contains xs h) (sym s.2) (Contains-later s.0 s.1 h y));
+        starts = λ h y. p.starts h
+            (subst (λ (xs : List ℕ). Contains xs h) (sym s.2) (Contains-later s.0 s.1 h y));
         once = once_tail s.0 s.1 (subst (λ (xs : List ℕ). IsOnce xs) s.2 p.once);
       },
     )
       where
-        s : (i : ℕ) × (others : List ℕ) × (rest ≡ i ∷ others) × ((p.mesh, i) ≡ x) × (each_in p.mesh others ≡ left)
+        s : (i : ℕ) × (others : List ℕ) × (rest ≡ i ∷ others) × ((p.mesh, i) ≡ x)
+            × (each_in p.mesh others ≡ left)
         s = first_left p.mesh rest x left (p.left ∙ e)
 
         first : rest ≡ x.1 ∷ s.1
@@ -186,7 +196,8 @@ module _ {V D U F : Type 0} (c : Contents V D U F) (v : ℕ) (Seen : ℕ → Typ
       each = λ h w is. elim (p.each h w is) [ inl y ↦ inl y | inr y ↦ inr (same h y) ];
     }
 
-    module _ (x : Bor (Contents V D U F) × ℕ) (left : List (Bor (Contents V D U F) × ℕ)) (e : given ≡ x ∷ left) where
+    module _ (x : Bor (Contents V D U F) × ℕ) (left : List (Bor (Contents V D U F) × ℕ))
+        (e : given ≡ x ∷ left) where
       -- the next one is an edge of the mesh
       pub next_within : x.1 < length c.mesh.half_edges
       next_within = p.are_left.within x.1 (next_left c v given p.rest p.are_left x left e)
@@ -203,16 +214,18 @@ module _ {V D U F : Type 0} (c : Contents V D U F) (v : ℕ) (Seen : ℕ → Typ
             rest = s.0;
             are_left = s.2;
             each = λ h w is. elim (p.each h w is) [
-              | inl y ↦ elim (Contains-cases x.1 s.0 h (subst (λ (xs : List ℕ). Contains xs h) s.1 y)) [
-                | inl z ↦ inr (subst Seen z seen)
-                | inr z ↦ inl z
-              ]
+              | inl y ↦
+                  elim (Contains-cases x.1 s.0 h (subst (λ (xs : List ℕ). Contains xs h) s.1 y)) [
+                    | inl z ↦ inr (subst Seen z seen)
+                    | inr z ↦ inl z
+                  ]
               | inr y ↦ inr y
             ];
           }
 
     -- when none is left, each edge of the vertex was seen
-    pub round_ends : given ≡ [] → (h : ℕ) → h < length c.mesh.half_edges → origin c.mesh h ≡ v → Seen h
+    pub round_ends : given ≡ [] → (h : ℕ) → h < length c.mesh.half_edges
+        → origin c.mesh h ≡ v → Seen h
     round_ends e h w is = elim (p.each h w is) [
       | inl y ↦
           let none = none_is_left c v given p.rest p.are_left e in

@@ -1,6 +1,7 @@
 -- Edges of a vertex that follow one another against the clock, until a first one comes again.
 use Rattle.std.proofs.Common.{◌≡◌, ◌≢◌, ◌⊎◌, ℕ, zero, suc, ◌+◌, ◌<◌, ◌≤◌, ◌==◌, true, false}
-use Rattle.std.proofs.Common.{List, [], ◌∷◌, length, map, Some, refl, sym, ap, ◌∙◌, subst, inl, inr, arith}
+use Rattle.std.proofs.Common.{[], ◌∷◌, ◌∙◌}
+use Rattle.std.proofs.Common.{List, length, map, Some, refl, sym, ap, subst, inl, inr, arith}
 use Rattle.std.specs.Prelude.{Contains}
 use Rattle.std.specs.List.{range_with_len}
 use Rattle.std.proofs.lemmas.Bool.{eq-eqb}
@@ -40,7 +41,8 @@ module _ (m : Mesh) (v first count : ℕ) (round : IsRound m v first count) wher
   round_follows i (suc k) e =
       let q : suc i + 1 ≡ suc (suc i) = omega arith in (
         refl,
-        subst (λ j. Follow m first (spoke m first (suc i)) (map (spoke m first) (range_with_len j k))) (sym q)
+        subst (λ j. Follow m first (spoke m first (suc i))
+            (map (spoke m first) (range_with_len j k))) (sym q)
             (round_follows (suc i) k (omega (arith, e))),
       )
 
@@ -118,12 +120,13 @@ module _ (m : Mesh) (v first h : ℕ) where
   unfolding Follow
   none_behind [] left back = refl
   none_behind (g ∷ gs) left back =
-      absurd (left.before (subst (Contains (g ∷ gs)) (sym left.follow.0 ∙ back) (Contains-head g gs)))
+      absurd
+      (left.before (subst (Contains (g ∷ gs)) (sym left.follow.0 ∙ back) (Contains-head g gs)))
 
 -- ---- how many are left
 -- the walk along the edges that are left comes to just these
-walk_along : (m : Mesh) (first : ℕ) (gs : List ℕ) (h fuel : ℕ) → Follow m first h gs → ¬ Contains gs first
-    → length (h ∷ gs) ≤ fuel → walk (turn m) first fuel h ≡ h ∷ gs
+walk_along : (m : Mesh) (first : ℕ) (gs : List ℕ) (h fuel : ℕ) → Follow m first h gs
+    → ¬ Contains gs first → length (h ∷ gs) ≤ fuel → walk (turn m) first fuel h ≡ h ∷ gs
 unfolding Follow
 walk_along m first gs h zero f n enough = absurd (omega (arith, enough))
 walk_along m first [] h (suc k) f n enough =
@@ -133,7 +136,8 @@ walk_along m first (g ∷ gs) h (suc k) f n enough = elim (eqb_tells (turn m h) 
   | inl q ↦ absurd (n (subst (Contains (g ∷ gs)) (sym f.0 ∙ q.1) (Contains-head g gs)))
   | inr q ↦
       let away : turn m h == first ≡ false = q.0 in
-      rw (away, f.0) (ap (λ xs. h ∷ xs) (walk_along m first gs g k f.1 (λ c. n (Contains-later g gs first c))
+      rw (away, f.0)
+      (ap (λ xs. h ∷ xs) (walk_along m first gs g k f.1 (λ c. n (Contains-later g gs first c))
       (omega (arith, enough))))
 ]
 
@@ -143,7 +147,8 @@ how_many_left m first h = length (walk (turn m) first (length m.half_edges) h)
 
 pub count_left : (m : Mesh) (v first h : ℕ) (gs : List ℕ) → AreLeft m v first h gs
     → how_many_left m first h ≡ suc (length gs)
-count_left m v first h gs left = ap (λ xs. length xs) (walk_along m first gs h (length m.half_edges) left.follow
+count_left m v first h gs left =
+    ap (λ xs. length xs) (walk_along m first gs h (length m.half_edges) left.follow
     left.before (at_most_so_many (h ∷ gs) (length m.half_edges) left.once left.within))
 
 -- ---- one comes in between
@@ -158,10 +163,12 @@ pub record ComesBetween (m new : Mesh) (v h g : ℕ) : Type 0 where
   pub origins : (j : ℕ) → j < length m.half_edges → origin m j ≡ v → origin new j ≡ v
   pub others : (j : ℕ) → j < length m.half_edges → origin m j ≡ v → j ≢ h → turn new j ≡ turn m j
 
-module _ (m new : Mesh) (v first h g : ℕ) (first_starts : origin m first ≡ v) (c : ComesBetween m new v h g) where
+module _ (m new : Mesh) (v first h g : ℕ) (first_starts : origin m first ≡ v)
+    (c : ComesBetween m new v h g) where
   -- edges that stay follow as they did
-  still_follow : (gs : List ℕ) (i j : ℕ) → turn new j ≡ turn m i → ((k : ℕ) → Contains gs k → turn new k ≡ turn m k)
-      → Follow m first i gs → Follow new first j gs
+  still_follow : (gs : List ℕ) (i j : ℕ) → turn new j ≡ turn m i
+      → ((k : ℕ) → Contains gs k → turn new k ≡ turn m k) → Follow m first i gs
+      → Follow new first j gs
   unfolding Follow
   still_follow [] i j same stay f = same ∙ f
   still_follow (k ∷ gs) i j same stay f = (
@@ -175,7 +182,8 @@ module _ (m new : Mesh) (v first h g : ℕ) (first_starts : origin m first ≡ v
     follow = (
       c.here,
       still_follow gs h g c.behind (λ k d. c.others k (left.within k (Contains-later h gs k d))
-          (left.starts k (Contains-later h gs k d)) (λ e. once_head h gs left.once (subst (Contains gs) e d)))
+          (left.starts k (Contains-later h gs k d))
+          (λ e. once_head h gs left.once (subst (Contains gs) e d)))
           left.follow,
     );
     within = λ k d. subst (λ n. k < n) (sym c.edge_count) (within k (cases k d));
@@ -183,7 +191,8 @@ module _ (m new : Mesh) (v first h g : ℕ) (first_starts : origin m first ≡ v
     once = once_cons h (g ∷ gs) (λ d. elim (Contains-cases g gs h d) [
       | inl e ↦ c.fresh (ap (origin m) e ∙ left.starts h (Contains-head h gs))
       | inr d ↦ once_head h gs left.once d
-    ]) (once_cons g gs (λ d. c.fresh (left.starts g (Contains-later h gs g d))) (once_tail h gs left.once));
+    ]) (once_cons g gs (λ d. c.fresh (left.starts g (Contains-later h gs g d)))
+        (once_tail h gs left.once));
     before = λ d. elim (Contains-cases g gs first d) [
       | inl e ↦ c.fresh (ap (origin m) e ∙ first_starts)
       | inr d ↦ left.before d

@@ -1,4 +1,5 @@
--- A legalization from its first work list to its end, by the sides of a turned edge that it leaves to test.
+-- A legalization from its first work list to its end, by the sides of a turned edge that it leaves
+-- to test.
 use Rattle.std.proofs.Common.{◌≡◌, ℕ, ◌+◌, ◌*◌, ◌<◌, ◌≤◌, List, [], ◌∷◌, ◌++◌}
 use Rattle.std.proofs.Common.{length, map, refl, sym, ap, subst, arith}
 use Rattle.std.proofs.lemmas.List.{length-append}
@@ -18,27 +19,29 @@ use Rattle.delaunay_legalization.specs.Constraints.{constraint_pairs}
 use Rattle.delaunay_legalization.specs.Flips.{FlipsFit}
 use Rattle.delaunay_legalization.specs.Legalized.{Legalizes}
 use Rattle.delaunay_legalization.specs.Shape.{IsTriangulated}
-use Rattle.delaunay_legalization.specs.Sides.{Suffice, GainsSides, CanStep, HasStepped, CanLegalize, HasLegalized}
+use Rattle.delaunay_legalization.specs.Sides.{Suffice, GainsSides, CanStep, HasStepped, CanLegalize}
+use Rattle.delaunay_legalization.specs.Sides.{HasLegalized}
 use Rattle.delaunay_legalization.specs.State.{state_of}
 use Rattle.delaunay_legalization.proofs.AmongSteps.{six, moves, only_stay, legal_among}
-use Rattle.delaunay_legalization.proofs.Legalizing.{IsUnderway, underway_begins, step_fits, step_kept}
+use Rattle.delaunay_legalization.proofs.Legalizing.{IsUnderway, underway_begins, step_fits}
+use Rattle.delaunay_legalization.proofs.Legalizing.{step_kept}
 use Rattle.delaunay_legalization.proofs.Legalizing.{underway_ends, underway_counts, underway_keeps}
 use Rattle.delaunay_legalization.proofs.Legalizing.{turned_by, fewer_by}
 use Rattle.delaunay_legalization.proofs.WorkList.{legalized}
 
 -- ---- one step
-module _ (points : List Point) (m : Mesh) (s : IsValidMesh m) (shape : IsMesh points (faces_of m) (outer_of m)) (e : ℕ)
-    (within : e < length m.half_edges) (x : IsFailing points m e) where
+module _ (points : List Point) (m : Mesh) (s : IsValidMesh m) (shape : IsMesh points (faces_of m)
+    (outer_of m)) (e : ℕ) (within : e < length m.half_edges) (x : IsFailing points m e) where
   -- sides that were enough to test still are after a flip
   suffice_still : (sides : Sides) → Suffice sides points m → Suffice sides points (flipped m e)
   suffice_still Round enough = enough
   suffice_still (Among hs) enough = only_stay points m s shape e within x hs.now enough
 
   -- where these sides are enough, the others need not be in the work list
-  left_by : (constraints : List (ℕ × ℕ)) (was : Mesh) → IsValidMesh (flipped m e) → (start flips : ℕ) (ks more : List ℕ)
-      (sides : Sides) → Suffice sides points m → GainsSides sides m e ks more → AreEdges m more
-      → ((all : List ℕ) → GainsRound m e ks all → AreEdges m all
-      → IsPartlyLegal points constraints was (flipped m e) all start flips)
+  left_by : (constraints : List (ℕ × ℕ)) (was : Mesh) → IsValidMesh (flipped m e)
+      → (start flips : ℕ) (ks more : List ℕ) (sides : Sides) → Suffice sides points m
+      → GainsSides sides m e ks more → AreEdges m more → ((all : List ℕ) → GainsRound m e ks all
+      → AreEdges m all → IsPartlyLegal points constraints was (flipped m e) all start flips)
       → IsPartlyLegal points constraints was (flipped m e) more start flips
   left_by constraints was valid start flips ks more Round enough g own legal = legal more g own
   left_by constraints was valid start flips ks more (Among hs) enough g own legal =
@@ -46,13 +49,14 @@ module _ (points : List Point) (m : Mesh) (s : IsValidMesh m) (shape : IsMesh po
       (six points m s shape e within x) (moves points m s shape e within x).edge_count
       (only_stay points m s shape e within x hs.now enough) g own legal
 
-module _ (sides : Sides) (points : List Point) (constraints : List (ℕ × ℕ)) (m : Mesh) (s : IsValidMesh m) (ks : List ℕ)
-    (k before : ℕ) (can : CanStep sides points m ks k before) where
+module _ (sides : Sides) (points : List Point) (constraints : List (ℕ × ℕ)) (m : Mesh) (s :
+    IsValidMesh m) (ks : List ℕ) (k before : ℕ) (can : CanStep sides points m ks k before) where
   last_within : (2 * k) < length m.half_edges
   last_within = can.edges.within k (contains_last ks k)
 
   -- an edge that is a constraint or does not fail leaves the work list
-  pub step_drops : (¬ Joins constraints (origin m (2 * k)) (origin m (rev (2 * k))) → ¬ IsFailing points m (2 * k))
+  pub step_drops : (¬ Joins constraints (origin m (2 * k)) (origin m (rev (2 * k)))
+      → ¬ IsFailing points m (2 * k))
       → HasStepped sides points constraints m m (ks ++ k ∷ []) ks before before
   step_drops passes = record {
     legal = λ was start p. dropped points constraints was m ks k start before s p passes;
@@ -64,14 +68,18 @@ module _ (sides : Sides) (points : List Point) (constraints : List (ℕ × ℕ))
       less q a b e = omega (arith, e)
 
   -- one that fails is turned and counted, and the sides that it leaves are in the work list
-  pub step_turns : (new : Mesh) → IsValidMesh new → (more : List ℕ) (after : ℕ) → new ≡ flipped m (2 * k)
-      → after ≡ before + 1 → IsFailing points m (2 * k) → GainsSides sides m (2 * k) ks more → AreEdges m more
+  pub step_turns : (new : Mesh) → IsValidMesh new → (more : List ℕ) (after : ℕ)
+      → new ≡ flipped m (2 * k) → after ≡ before + 1 → IsFailing points m (2 * k)
+      → GainsSides sides m (2 * k) ks more → AreEdges m more
       → HasStepped sides points constraints m new (ks ++ k ∷ []) more before after
   step_turns new valid more after e f x g own = record {
-    legal = λ was start p. subst (λ (y : Mesh). IsPartlyLegal points constraints was y more start after) (sym e)
-        (left_by points m s can.shape (2 * k) last_within x constraints was (subst IsValidMesh e valid) start after ks
+    legal = λ was start p. subst
+        (λ (y : Mesh). IsPartlyLegal points constraints was y more start after) (sym e)
+        (left_by points m s can.shape (2 * k) last_within x constraints was
+        (subst IsValidMesh e valid) start after ks
         more sides can.suffice g own (λ all round edges.
-        turned_by points constraints was m (flipped m (2 * k)) ks all k start before after s refl f x round edges p));
+        turned_by points constraints was m
+        (flipped m (2 * k)) ks all k start before after s refl f x round edges p));
     suffice = subst (Suffice sides points) (sym e)
         (suffice_still points m s can.shape (2 * k) last_within x sides can.suffice);
     fewer = fewer_by points m new ks more k s can.shape e x can.edges own;
@@ -84,13 +92,14 @@ pub record IsUnderwayBy {V D U F : Type 0} (sides : Sides) (at : V → Point) (f
   pub underway : IsUnderway fix (map at was.vertices) was now ks room_was room start flips
   pub suffice : Suffice sides (map at was.vertices) now.mesh
 
-module _ {V D U F : Type 0} (sides : Sides) (at : V → Point) (fix : List U → List ℕ) (was : Contents V D U F)
-    (room_was start : ℕ) where
+module _ {V D U F : Type 0} (sides : Sides) (at : V → Point) (fix : List U → List ℕ)
+    (was : Contents V D U F) (room_was start : ℕ) where
   -- at first the edges of the work list are left
   pub steps_begin : (ks : List ℕ) → CanLegalize at fix sides was ks start
       → IsUnderwayBy sides at fix was was ks room_was room_was start start
   steps_begin ks can = record {
-    underway = underway_begins fix (map at was.vertices) was ks room_was start can.shape can.left.edges can.left.passing;
+    underway = underway_begins fix
+        (map at was.vertices) was ks room_was start can.shape can.left.edges can.left.passing;
     suffice = can.suffice;
   }
 
@@ -113,13 +122,14 @@ module _ {V D U F : Type 0} (sides : Sides) (at : V → Point) (fix : List U →
 
       -- after it the rest is under way
       pub steps_go_on : (after : Contents V D U F) (more : List ℕ) (room_after flips_after : ℕ)
-          → after ≡ record now { mesh = after.mesh }
-          → constraint_pairs fix after.mesh after.undirected ≡ constraint_pairs fix now.mesh now.undirected
-          → HasStepped sides (map at now.vertices) (constraint_pairs fix now.mesh now.undirected) now.mesh after.mesh
-          (ks ++ k ∷ []) more flips flips_after
-          → room_after ≡ room → IsUnderwayBy sides at fix was after more room_was room_after start flips_after
+          → after ≡ record now { mesh = after.mesh } → constraint_pairs fix after.mesh
+          after.undirected ≡ constraint_pairs fix now.mesh now.undirected
+          → HasStepped sides (map at now.vertices) (constraint_pairs fix now.mesh now.undirected)
+          now.mesh after.mesh (ks ++ k ∷ []) more flips flips_after → room_after ≡ room
+          → IsUnderwayBy sides at fix was after more room_was room_after start flips_after
       steps_go_on after more room_after flips_after contents constraints step stays = record {
-        underway = step_kept at fix was now all room_was room start flips u.underway ks k popped after more
+        underway =
+            step_kept at fix was now all room_was room start flips u.underway ks k popped after more
             room_after flips_after contents constraints step.legal stays;
         suffice = subst (λ ps. Suffice sides ps after.mesh) same_points step.suffice;
       }
@@ -143,9 +153,9 @@ module _ {V D U F : Type 0} (sides : Sides) (at : V → Point) (fix : List U →
         grows a e = omega (arith, e)
 
 -- a triangulation whose mesh is legalized is a Delaunay one
-pub triangulation_legalized : {V D U F : Type 0} (at : V → Point) (fix : List U → List ℕ) (old new : Contents V D U F)
-    (start flips : ℕ) → IsTriangulated at (state_of old) → HasLegalized at fix old new start flips
-    → Legalizes at fix old new start flips
+pub triangulation_legalized : {V D U F : Type 0} (at : V → Point) (fix : List U → List ℕ)
+    (old new : Contents V D U F) (start flips : ℕ) → IsTriangulated at (state_of old)
+    → HasLegalized at fix old new start flips → Legalizes at fix old new start flips
 triangulation_legalized at fix old new start flips kept h = record {
   contents = h.contents;
   legal = legalized at fix old new kept h.contents h.whole h.shape h.constraints h.passing;

@@ -1,4 +1,5 @@
--- Meshes where only some edges may fail: each other edge between two faces has an empty circle on one of its sides.
+-- Meshes where only some edges may fail: each other edge between two faces has an empty circle on
+-- one of its sides.
 use Rattle.std.specs.Prelude.{◌≡◌, ◌⊎◌, ℕ, ◌*◌, ◌<◌, List, length, Contains}
 use Rattle.half_edge_mesh.specs.Mesh.{Mesh, origin, next, prev, face, rev}
 use Rattle.plane.specs.Circle.{InsideCircle}
@@ -22,8 +23,10 @@ IsQuietEdge points m k = IsQuiet points m (2 * k) ⊎ IsQuiet points m (rev (2 *
 
 -- each undirected edge is among hs by its first direction, or quiet on one of its sides
 abbrev pub FailOnlyAmong : List Point → Mesh → List ℕ → Type 0
-FailOnlyAmong points m hs = (k : ℕ) → (2 * k) < length m.half_edges → Contains hs (2 * k) ⊎ IsQuietEdge points m k
+FailOnlyAmong points m hs =
+    (k : ℕ) → (2 * k) < length m.half_edges → Contains hs (2 * k) ⊎ IsQuietEdge points m k
 
 -- each undirected edge is one of ks, or quiet on one of its sides
 abbrev pub FailOnlyOf : List Point → Mesh → List ℕ → Type 0
-FailOnlyOf points m ks = (k : ℕ) → (2 * k) < length m.half_edges → Contains ks k ⊎ IsQuietEdge points m k
+FailOnlyOf points m ks = (k : ℕ) → (2 * k) < length m.half_edges
+    → Contains ks k ⊎ IsQuietEdge points m k

@@ -1,5 +1,7 @@
--- A legalization round a vertex: what becomes of the edge opposite it in the face of one of its edges.
-use Rattle.std.specs.Prelude.{◌≡◌, ◌↔◌, ◌⊎◌, ℕ, ℤ, ◌+◌, ◌*◌, ◌/◌, ◌<◌, ◌^◌, List, length, map, Contains, IsTrue, Some}
+-- A legalization round a vertex: what becomes of the edge opposite it in the face of one of its
+-- edges.
+use Rattle.std.specs.Prelude.{◌≡◌, ◌↔◌, ◌⊎◌, ◌+◌, ◌*◌, ◌/◌, ◌<◌, ◌^◌}
+use Rattle.std.specs.Prelude.{ℕ, ℤ, List, length, map, Contains, IsTrue, Some}
 use Rattle.half_edge_mesh.specs.Contents.{Contents}
 use Rattle.half_edge_mesh.specs.Flip.{flipped}
 use Rattle.half_edge_mesh.specs.Mesh.{Mesh, origin, next, prev, face, rev, out_edge}
@@ -25,13 +27,14 @@ pub record IsListedAt (points : List Point) (v : ℕ) (p : Point) : Type 0 where
   pub place : p ≡ point_at points v
   pub listed : Contains points p
 
--- it was read whether a face beside that edge is the outer one, and where the edge's ends and the corner beyond it are
-pub record IsOpposite {S : Type 0} (number : S → ℤ) (points : List Point) (m : Mesh) (h : ℕ) (it : Opposite S) : Type 0
-  where
-    pub outer : IsTrue it.is_outer ↔ ((face m h ≡ 0) ⊎ (face m (rev (next m h)) ≡ 0))
-    pub from : IsListedAt points (origin m (next m h)) (place_of number it.from)
-    pub to : IsListedAt points (origin m (rev (next m h))) (place_of number it.to)
-    pub beyond : IsListedAt points (origin m (prev m (rev (next m h)))) (place_of number it.beyond)
+-- it was read whether a face beside that edge is the outer one, and where the edge's ends and the
+-- corner beyond it are
+pub record IsOpposite {S : Type 0} (number : S → ℤ) (points : List Point) (m : Mesh) (h : ℕ)
+    (it : Opposite S) : Type 0 where
+  pub outer : IsTrue it.is_outer ↔ ((face m h ≡ 0) ⊎ (face m (rev (next m h)) ≡ 0))
+  pub from : IsListedAt points (origin m (next m h)) (place_of number it.from)
+  pub to : IsListedAt points (origin m (rev (next m h))) (place_of number it.to)
+  pub beyond : IsListedAt points (origin m (prev m (rev (next m h)))) (place_of number it.beyond)
 
 -- it failed, was turned and counted
 pub record Turns (points : List Point) (old new : Mesh) (h before after : ℕ) : Type 0 where
@@ -40,14 +43,17 @@ pub record Turns (points : List Point) (old new : Mesh) (h before after : ℕ) :
   pub counted : after ≡ before + 1
 
 -- it stays, since it is a constraint or does not fail
-pub record Stays (points : List Point) (constraints : List (ℕ × ℕ)) (old new : Mesh) (h before after : ℕ) : Type 0 where
+pub record Stays (points : List Point) (constraints : List (ℕ × ℕ)) (old new : Mesh)
+    (h before after : ℕ) : Type 0 where
   pub same : new ≡ old
   pub counted : after ≡ before
   pub passes : ¬ Joins constraints (origin old (next old h)) (origin old (rev (next old h)))
       → ¬ IsFailing points old (next old h)
 
--- vertex v, from its edge first on, lies in empty circles, and each flip that may be needed can be counted
-pub record CanGoRound {V D U F : Type 0} (place : V → Point) (c : Contents V D U F) (v first flips : ℕ) : Type 0 where
+-- vertex v, from its edge first on, lies in empty circles, and each flip that may be needed can be
+-- counted
+pub record CanGoRound {V D U F : Type 0} (place : V → Point) (c : Contents V D U F)
+    (v first flips : ℕ) : Type 0 where
   pub named : out_edge c.mesh v ≡ Some first
   pub shape : IsMesh (map place c.vertices) (faces_of c.mesh) (outer_of c.mesh)
   pub empty : IsEmptyRound (map place c.vertices) (faces_of c.mesh) v

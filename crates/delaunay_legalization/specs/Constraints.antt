@@ -37,5 +37,7 @@ abbrev pub constraints_by : {V D U F : Type 0} → (List U → List ℕ) → Sta
 constraints_by constraints s = constraint_pairs constraints s.mesh s.undirected
 
 -- the vertices, with the pairs that constraints join as the constraints
-abbrev pub points_and_constraints_by : {V D U F : Type 0} → (List U → List ℕ) → State V D U F → Plain V
-points_and_constraints_by constraints s = record { vertices = s.vertices; constraints = constraints_by constraints s }
+abbrev pub points_and_constraints_by : {V D U F : Type 0} → (List U → List ℕ)
+    → State V D U F → Plain V
+points_and_constraints_by constraints s =
+    record { vertices = s.vertices; constraints = constraints_by constraints s }

@@ -13,6 +13,7 @@ pub record Legalizes {V D U F : Type 0} (place : V → Point) (constraints_of : 
     (old new : Contents V D U F) (flips_before flips_after : ℕ) : Type 0 where
   pub contents : new ≡ record old { mesh = new.mesh }
   pub legal : IsDelaunayTriangulation place constraints_of (state_of new)
-  pub constraints : constraints_by constraints_of (state_of new) ≡ constraints_by constraints_of (state_of old)
+  pub constraints : constraints_by constraints_of (state_of new)
+      ≡ constraints_by constraints_of (state_of old)
   pub counted : CountsFlips (length old.vertices) flips_before flips_after
   pub indexes : KeepsIndexes old.mesh new.mesh

@@ -16,7 +16,8 @@ pub record IsApart (points : List Point) (p : Point) : Type 0 where
 
 -- p is strictly within directed edge e
 abbrev pub IsWithinEdge : List Point → Mesh → Point → ℕ → Type 0
-IsWithinEdge points m p e = WithinSegment (place points (origin m e)) (place points (origin m (rev e))) (whole p)
+IsWithinEdge points m p e =
+    WithinSegment (place points (origin m e)) (place points (origin m (rev e))) (whole p)
 
 -- p is strictly inside the triangle of the face on the left of directed edge e
 abbrev pub IsInsideFaceOf : List Point → Mesh → Point → ℕ → Type 0
@@ -38,7 +39,7 @@ pub record IsMeshFace (points : List Point) (m : Mesh) (f : ℕ) : Type 0 where
   pub first : origin m (face_edge m f) < length points
   pub second : origin m (next m (face_edge m f)) < length points
   pub third : origin m (prev m (face_edge m f)) < length points
-  pub listed : IsFace (drawn points m) (origin m (face_edge m f)) (origin m (next m (face_edge m f)))
-      (origin m (prev m (face_edge m f)))
-  pub turning : TurnsLeft (place points (origin m (face_edge m f))) (place points (origin m (next m (face_edge m f))))
-      (place points (origin m (prev m (face_edge m f))))
+  pub listed : IsFace (drawn points m) (origin m (face_edge m f))
+      (origin m (next m (face_edge m f))) (origin m (prev m (face_edge m f)))
+  pub turning : TurnsLeft (place points (origin m (face_edge m f))) (place points
+      (origin m (next m (face_edge m f)))) (place points (origin m (prev m (face_edge m f))))

@@ -5,7 +5,8 @@ use Rattle.half_edge_mesh.specs.Mesh.{Mesh, next, prev, rev}
 use Rattle.mesh_embedding.specs.Legal.{AreEdges}
 
 -- a list of edges of a mesh has room for each of them, and directed edge e is in the mesh
-pub record CanGain {V D U F : Type 0} (c : Contents V D U F) (e : ℕ) (ks : List ℕ) (capacity : ℕ) : Type 0 where
+pub record CanGain {V D U F : Type 0} (c : Contents V D U F) (e : ℕ) (ks : List ℕ)
+    (capacity : ℕ) : Type 0 where
   pub within : e < length c.directed
   pub edges : AreEdges c.mesh ks
   pub room : length c.undirected ≤ capacity

@@ -16,10 +16,13 @@ pub record IsTriangulated {V D U F : Type 0} (place : V → Point) (s : State V 
   pub few_edges : length s.undirected ≤ 3 * length s.vertices
   pub few_faces : length s.faces ≤ 2 * length s.vertices
   pub valid : IsValidMesh s.mesh
-  pub fits : FitsMesh s.mesh (length s.vertices) (length s.directed) (length s.undirected) (length s.faces)
+  pub fits :
+      FitsMesh s.mesh (length s.vertices) (length s.directed) (length s.undirected) (length s.faces)
   pub shape : IsMesh (map place s.vertices) (faces_of s.mesh) (outer_of s.mesh)
 
--- and what holds of it between edits: each edge between two faces that is no constraint passes the circle test
-pub record IsDelaunayTriangulation {V D U F : Type 0} (place : V → Point) (constraints : List U → List ℕ) (s : State V D U F) : Type 0 where
+-- and what holds of it between edits: each edge between two faces that is no constraint passes the
+-- circle test
+pub record IsDelaunayTriangulation {V D U F : Type 0} (place : V → Point)
+    (constraints : List U → List ℕ) (s : State V D U F) : Type 0 where
   pub kept : IsTriangulated place s
   pub passing : IsLocallyDelaunay (triangulation_of place s) (constraints_by constraints s)

@@ -7,7 +7,8 @@ use Rattle.plane.specs.Fraction.{Point}
 use Rattle.plane_tiling.specs.Local.{IsMesh}
 use Rattle.plane_edits.specs.Legal.{AllPassBut}
 use Rattle.mesh_embedding.specs.Drawn.{drawn, faces_of, outer_of}
-use Rattle.mesh_embedding.specs.Legal.{AreEdges, GainsRound, IsFailing, IsPartlyLegal, pairs_at, steps_left}
+use Rattle.mesh_embedding.specs.Legal.{AreEdges, GainsRound, IsFailing, IsPartlyLegal, pairs_at}
+use Rattle.mesh_embedding.specs.Legal.{steps_left}
 use Rattle.mesh_embedding.specs.Stays.{KeepsIndexes}
 use Rattle.delaunay_legalization.specs.declared.sides.Sides.{Sides}
 use Rattle.delaunay_legalization.specs.declared.sides.Sides.TheVariants.{Round, Among}
@@ -27,16 +28,18 @@ GainsSides Round m e old new = GainsRound m e old new
 GainsSides (Among hs) m e old new = GainsRoundAmong m hs.now e old new
 
 -- undirected edge k, the last of the work list, may be tested and turned
-pub record CanStep (sides : Sides) (points : List Point) (m : Mesh) (ks : List ℕ) (k flips : ℕ) : Type 0 where
+pub record CanStep (sides : Sides) (points : List Point) (m : Mesh) (ks : List ℕ)
+    (k flips : ℕ) : Type 0 where
   pub shape : IsMesh points (faces_of m) (outer_of m)
   pub suffice : Suffice sides points m
   pub edges : AreEdges m (ks ++ k ∷ [])
   pub fits : IsFailing points m (2 * k) → flips + 1 < 2 ^ 64
 
 -- so it was: a mesh that was partly legal still is, with fewer steps left
-pub record HasStepped (sides : Sides) (points : List Point) (constraints : List (ℕ × ℕ)) (old new : Mesh)
-    (before after : List ℕ) (flips_before flips_after : ℕ) : Type 0 where
-  pub legal : (was : Mesh) (start : ℕ) → IsPartlyLegal points constraints was old before start flips_before
+pub record HasStepped (sides : Sides) (points : List Point) (constraints : List (ℕ × ℕ))
+    (old new : Mesh) (before after : List ℕ) (flips_before flips_after : ℕ) : Type 0 where
+  pub legal : (was : Mesh) (start : ℕ)
+      → IsPartlyLegal points constraints was old before start flips_before
       → IsPartlyLegal points constraints was new after start flips_after
   pub suffice : Suffice sides points new
   pub fewer : steps_left points new after < steps_left points old before
@@ -48,15 +51,17 @@ pub record AreLeftToTest {V D U F : Type 0} (place : V → Point) (constraints_o
   pub passing : AllPassBut (map place c.vertices) (faces_of c.mesh)
       (constraint_pairs constraints_of c.mesh c.undirected) (pairs_at c.mesh ks)
 
--- before perhaps only the edges of the work list fail, and each flip that may be needed can be counted
-pub record CanLegalize {V D U F : Type 0} (place : V → Point) (constraints_of : List U → List ℕ) (sides : Sides)
-    (c : Contents V D U F) (ks : List ℕ) (flips : ℕ) : Type 0 where
+-- before perhaps only the edges of the work list fail, and each flip that may be needed can be
+-- counted
+pub record CanLegalize {V D U F : Type 0} (place : V → Point) (constraints_of : List U → List ℕ)
+    (sides : Sides) (c : Contents V D U F) (ks : List ℕ) (flips : ℕ) : Type 0 where
   pub shape : IsMesh (map place c.vertices) (faces_of c.mesh) (outer_of c.mesh)
   pub left : AreLeftToTest place constraints_of c ks
   pub suffice : Suffice sides (map place c.vertices) c.mesh
   pub fits : FlipsFit (length c.vertices) flips
 
--- by flips alone, which were counted, each edge passes but the outer ones and the constraints, which are the same
+-- by flips alone, which were counted, each edge passes but the outer ones and the constraints,
+-- which are the same
 pub record HasLegalized {V D U F : Type 0} (place : V → Point) (constraints_of : List U → List ℕ)
     (old new : Contents V D U F) (flips_before flips_after : ℕ) : Type 0 where
   pub contents : new ≡ record old { mesh = new.mesh }

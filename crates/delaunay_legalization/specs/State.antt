@@ -7,8 +7,8 @@ use Rattle.plane.specs.Fraction.{Point}
 use Rattle.plane.specs.Plain.{Plain}
 use Rattle.plane.specs.Tiling.{Triangulation}
 
--- the vertices, the mesh of their indexes, and the data of its directed and undirected edges, of the outer face and of
--- the faces from face 1 on
+-- the vertices, the mesh of their indexes, and the data of its directed and undirected edges, of
+-- the outer face and of the faces from face 1 on
 pub record State (V D U F : Type 0) : Type 0 where
   pub vertices : List V
   pub mesh : Mesh
@@ -19,7 +19,14 @@ pub record State (V D U F : Type 0) : Type 0 where
 
 -- all that a mesh with data holds but its room
 abbrev pub state_of : {V D U F : Type 0} → Contents V D U F → State V D U F
-state_of c = record { vertices = c.vertices; mesh = c.mesh; directed = c.directed; undirected = c.undirected; outer = c.outer; faces = c.faces }
+state_of c = record {
+  vertices = c.vertices;
+  mesh = c.mesh;
+  directed = c.directed;
+  undirected = c.undirected;
+  outer = c.outer;
+  faces = c.faces;
+}
 
 -- the positions of the vertices, with the faces and the edges
 abbrev pub triangulation_of : {V D U F : Type 0} → (V → Point) → State V D U F → Triangulation

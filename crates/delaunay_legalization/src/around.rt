@@ -47,9 +47,9 @@ fn opposite_of<V: HasPosition, DE, UE, F>(
     }
 }
 
-// Turns the edge opposite a vertex, in the face on the left of one of the vertex's edges, if it lies
-// between two inner faces, of which one has its third corner inside the circle of the other, and is
-// no constraint; tells whether it did.
+// Turns the edge opposite a vertex, in the face on the left of one of the vertex's edges, if it
+// lies between two inner faces, of which one has its third corner inside the circle of the other,
+// and is no constraint; tells whether it did.
 fn turn_opposite<M: ConstraintMarker<UE>, V: HasPosition, DE, UE, F, P: PlaneTests<V::Scalar>>(
     dcel: &mut Dcel<V, DE, UE, F>,
     spoke: FixedDirectedEdgeHandle,

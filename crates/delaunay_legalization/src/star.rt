@@ -1,5 +1,6 @@
 //! A legalization that begins at one vertex, where only edges of the faces there may fail.
-ghost use Rattle.std.specs.Prelude.{◌≡◌, ◌*◌, ◌<◌, ◌≤◌, length, map, All, IsFalse, IsTrue, vec_capacity};
+ghost use Rattle.std.specs.Prelude.{◌≡◌, ◌*◌, ◌<◌, ◌≤◌};
+ghost use Rattle.std.specs.Prelude.{length, map, All, IsFalse, IsTrue, vec_capacity};
 ghost use Rattle.mesh_embedding.specs.Drawn.{faces_of};
 ghost use Rattle.mesh_embedding.specs.Legal.{AreEdges};
 ghost use Rattle.delaunay_legalization.specs.Constraints.{constraints_by};

@@ -1,5 +1,6 @@
 -- What is left of a walk from one item to the next.
-use Rattle.std.proofs.Common.{◌≡◌, ◌≢◌, ◌⊎◌, ℕ, ◌+◌, ◌-◌, ◌<◌, ◌≤◌, List, [], ◌∷◌, length, map, Option, Some, None}
+use Rattle.std.proofs.Common.{◌≡◌, ◌≢◌, ◌⊎◌, ◌+◌, ◌-◌, ◌<◌, ◌≤◌, [], ◌∷◌}
+use Rattle.std.proofs.Common.{ℕ, List, length, map, Option, Some, None}
 use Rattle.std.proofs.Common.{refl, sym, ap, subst, inl, inr, arith}
 use Rattle.std.proofs.lemmas.List.{length-map}
 use Rattle.half_edge_mesh.specs.Contents.{Contents}
@@ -8,7 +9,8 @@ use Rattle.plane.specs.Line.{Item, IsLineList, at_vertex}
 use Rattle.plane_segments.specs.Steps.{IsWalk, IsFirst}
 use Rattle.plane_segments.proofs.Walking.Steps.{first_item}
 use Rattle.plane_segments.proofs.First.LineStarts.{first_on_line, equal_ends}
-use Rattle.plane_segments.proofs.Walking.WalkSteps.{each_segment_has_walk, rest_falls, line_list_is_the_walk}
+use Rattle.plane_segments.proofs.Walking.WalkSteps.{each_segment_has_walk, rest_falls}
+use Rattle.plane_segments.proofs.Walking.WalkSteps.{line_list_is_the_walk}
 use Rattle.plane_segments.specs.WalkLaws.{IsLaid}
 use Rattle.plane.specs.Tiling.{Triangulation, IsVertex, vertex}
 use Rattle.plane.proofs.Decisions.{decide_point}
@@ -24,9 +26,9 @@ use Rattle.delaunay_lines.specs.Steps.{IsOverMesh, IsNext}
 use Rattle.delaunay_lines.specs.Walk.{ComeAfter, AreFrom, Starts}
 use Rattle.delaunay_lines.proofs.MeshSteps.{laid}
 
-module _ {V D U F : Type 0} (at : V → Point) (IsSite IsCovered : Point → Type 0) (c : Contents V D U F) (p q : Point)
-    (over : IsOverMesh at IsSite IsCovered c p q) (i : FixedIntersection) (items : List Item)
-    (left : AreFrom at c p q (Some i) items) where
+module _ {V D U F : Type 0} (at : V → Point) (IsSite IsCovered : Point → Type 0)
+    (c : Contents V D U F) (p q : Point) (over : IsOverMesh at IsSite IsCovered c p q)
+    (i : FixedIntersection) (items : List Item) (left : AreFrom at c p q (Some i) items) where
   -- the others are left after the current one
   abbrev pub Others : Option FixedIntersection → Type 0
   Others r = (others : List Item) × (items ≡ item_of c.mesh i ∷ others) × AreFrom at c p q r others
@@ -36,17 +38,21 @@ module _ {V D U F : Type 0} (at : V → Point) (IsSite IsCovered : Point → Typ
   none_further same = (left.1.0, left.1.1, left.1.2.alone same)
 
   -- from p to another point q those from the next item on are left
-  pub one_further : (apart : p ≢ q) (r : Option FixedIntersection) → IsNext at c p q (item_of c.mesh i) r → Others r
+  pub one_further : (apart : p ≢ q) (r : Option FixedIntersection)
+      → IsNext at c p q (item_of c.mesh i) r → Others r
   one_further apart None last = (
     left.1.0,
     left.1.1,
     (rest_falls (drawn (map at c.vertices) c.mesh) (laid at IsSite IsCovered c p q over)
-        (whole p) (whole q) (λ e. apart (one_point p q e))).2 (item_of c.mesh i) left.1.0 (left.1.2.goes_on apart)
+        (whole p) (whole q) (λ e. apart (one_point p q e))).2 (item_of c.mesh i) left.1.0
+        (left.1.2.goes_on apart)
         last,
   )
   one_further apart (Some n) next =
-      let f = (rest_falls (drawn (map at c.vertices) c.mesh) (laid at IsSite IsCovered c p q over) (whole p) (whole q)
-      (λ e. apart (one_point p q e))).1 (item_of c.mesh i) (item_of c.mesh n) left.1.0 (left.1.2.goes_on apart)
+      let f = (rest_falls (drawn (map at c.vertices) c.mesh) (laid at IsSite IsCovered c p q over)
+      (whole p) (whole q)
+      (λ e. apart (one_point p q e))).1 (item_of c.mesh i) (item_of c.mesh n) left.1.0
+      (left.1.2.goes_on apart)
       next.1 in (
         left.1.0,
         left.1.1,
@@ -65,22 +71,23 @@ module _ {V D U F : Type 0} (at : V → Point) (IsSite IsCovered : Point → Typ
       )
 
   -- either way those from what was found next are left
-  pub further : (r : Option FixedIntersection) → (p ≡ q → r ≡ None) → (p ≢ q → IsNext at c p q (item_of c.mesh i) r) →
-      Others r
+  pub further : (r : Option FixedIntersection) → (p ≡ q → r ≡ None)
+      → (p ≢ q → IsNext at c p q (item_of c.mesh i) r) → Others r
   further r alone next = elim (decide_point p q) [
     | inl same ↦ subst Others (sym (alone same)) (none_further same)
     | inr apart ↦ one_further apart r (next apart)
   ]
 
 -- one item fewer
-pub one_fewer : (items others : List Item) (k : Item) (n : ℕ) → items ≡ k ∷ others → length items ≤ n →
-    length others ≤ n - 1
+pub one_fewer : (items others : List Item) (k : Item) (n : ℕ) → items ≡ k ∷ others
+    → length items ≤ n → length others ≤ n - 1
 one_fewer items others k n is few =
     let e = ap (λ (xs : List Item). length xs) is in
     omega (arith, e, few)
 
 -- where items are left, a bound on their number is at least 1
-pub some_left : (items others : List Item) (k : Item) (n : ℕ) → items ≡ k ∷ others → length items ≤ n → 1 ≤ n
+pub some_left : (items others : List Item) (k : Item) (n : ℕ) → items ≡ k ∷ others
+    → length items ≤ n → 1 ≤ n
 some_left items others k n is few =
     let e = ap (λ (xs : List Item). length xs) is in
     omega (arith, e, few)
@@ -94,17 +101,17 @@ pub record Begins (t : Triangulation) (p q : Point) (k : Item) : Type 0 where
   pub few : length (k ∷ others) ≤ length t.points + length t.edges
 
 -- an item that a segment meets first begins its line list
-pub first_of : (t : Triangulation) (p q : Point) → IsLaid t → p ≢ q → (k : Item) → IsFirst t (whole p) (whole q) k →
-    Begins t p q k
+pub first_of : (t : Triangulation) (p q : Point) → IsLaid t → p ≢ q → (k : Item)
+    → IsFirst t (whole p) (whole q) k → Begins t p q k
 first_of t p q laid apart k first = go walks.0
   where
     ways_apart : ¬ IsSame (whole p) (whole q)
     ways_apart e = apart (one_point p q e)
 
-    walks : ((items : List Item) × IsWalk t (whole p) (whole q) items)
-        × ((items more : List Item) → IsWalk t (whole p) (whole q) items → IsWalk t (whole p) (whole q) more →
-        items ≡ more)
-        × ((items : List Item) → IsWalk t (whole p) (whole q) items → length items ≤ length t.points + length t.edges)
+    walks : ((items : List Item) × IsWalk t (whole p) (whole q) items) × ((items more : List Item)
+        → IsWalk t (whole p) (whole q) items → IsWalk t (whole p) (whole q) more → items ≡ more)
+        × ((items : List Item) → IsWalk t (whole p) (whole q) items
+        → length items ≤ length t.points + length t.edges)
     walks = each_segment_has_walk t laid (whole p) (whole q) ways_apart
 
     go : (items : List Item) × IsWalk t (whole p) (whole q) items → Begins t p q k
@@ -113,33 +120,37 @@ first_of t p q laid apart k first = go walks.0
         let walk = subst (IsWalk t (whole p) (whole q)) r.1 w.1 in
         record {
           others = r.0;
-          line_list = (line_list_is_the_walk t laid (whole p) (whole q) ways_apart (k ∷ r.0)).1 walk;
-          after = record { met = λ _. first.met; goes_on = λ _. r.2; alone = λ e. absurd (apart e) };
+          line_list =
+              (line_list_is_the_walk t laid (whole p) (whole q) ways_apart (k ∷ r.0)).1 walk;
+          after =
+              record { met = λ _. first.met; goes_on = λ _. r.2; alone = λ e. absurd (apart e) };
           few = walks.2 (k ∷ r.0) walk;
         }
 
 first_vertex : (t : Triangulation) (p q : Point) → IsLaid t → p ≢ q → (v : ℕ) → IsVertex t v →
     IsSame (whole p) (vertex t v) → IsFirst t (whole p) (whole q) (at_vertex v)
-first_vertex t p q (inl h) apart v is at = (first_item t h (whole p) (whole q) (λ e. apart (one_point p q e))).0 v is at
+first_vertex t p q (inl h) apart v is at =
+    (first_item t h (whole p) (whole q) (λ e. apart (one_point p q e))).0 v is at
 first_vertex t p q (inr l) apart v is at =
     (first_on_line t l.0 l.1 l.2 (whole p) (whole q) (λ e. apart (one_point p q e))).0 v is at
 
 -- at a vertex
-begins_at_vertex : (t : Triangulation) (p q : Point) → IsLaid t → (p ≡ q) ⊎ (p ≢ q) → (v : ℕ) → IsVertex t v →
-    IsSame (whole p) (vertex t v) → Begins t p q (at_vertex v)
+begins_at_vertex : (t : Triangulation) (p q : Point) → IsLaid t → (p ≡ q) ⊎ (p ≢ q) → (v : ℕ)
+    → IsVertex t v → IsSame (whole p) (vertex t v) → Begins t p q (at_vertex v)
 begins_at_vertex t p q laid (inr apart) v is at =
     first_of t p q laid apart (at_vertex v) (first_vertex t p q laid apart v is at)
 begins_at_vertex t p q laid (inl same) v is at = record {
   others = [];
-  line_list = (equal_ends t (whole p) (whole q) (subst (λ (z : Point). IsSame (whole p) (whole z)) same
+  line_list =
+      (equal_ends t (whole p) (whole q) (subst (λ (z : Point). IsSame (whole p) (whole z)) same
       (same-refl (whole p)))).0 v is at;
   after = record { met = λ n. absurd (n same); goes_on = λ n. absurd (n same); alone = λ _. refl };
   few = omega (arith, is);
 }
 
 -- ---- the same of a mesh
-module _ {V D U F : Type 0} (at : V → Point) (IsSite IsCovered : Point → Type 0) (c : Contents V D U F) (p q : Point)
-    (over : IsOverMesh at IsSite IsCovered c p q) where
+module _ {V D U F : Type 0} (at : V → Point) (IsSite IsCovered : Point → Type 0)
+    (c : Contents V D U F) (p q : Point) (over : IsOverMesh at IsSite IsCovered c p q) where
   few_in : (n : ℕ) → n ≤ length (map at c.vertices) + length (edges_of c.mesh) →
       n ≤ length c.vertices + length c.undirected
   few_in n h =
@@ -161,7 +172,8 @@ module _ {V D U F : Type 0} (at : V → Point) (IsSite IsCovered : Point → Typ
   pub starts_at_vertex : (v : ℕ) → v < length c.vertices → p ≡ point_at (map at c.vertices) v →
       Starts at c p q (Some (Vertex v))
   starts_at_vertex v here is = starts_with (Vertex v) here
-      (begins_at_vertex (drawn (map at c.vertices) c.mesh) p q (laid at IsSite IsCovered c p q over) (decide_point p q)
+      (begins_at_vertex (drawn (map at c.vertices) c.mesh) p q (laid at IsSite IsCovered c p q over)
+      (decide_point p q)
       v
       (subst (λ (n : ℕ). v < n) (sym (length-map c.vertices at)) here)
       (subst (λ (z : Point). IsSame (whole p) (whole z)) is (same-refl (whole p))))

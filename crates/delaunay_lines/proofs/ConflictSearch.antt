@@ -1,5 +1,6 @@
 -- The search for the next conflict along a walk.
-use Rattle.std.proofs.Common.{append-nil, ◌≡◌, ℕ, ◌/◌, ◌<◌, ◌≤◌, List, [], ◌∷◌, ◌++◌, length, Some, None, refl, sym, ap}
+use Rattle.std.proofs.Common.{◌≡◌, ◌/◌, ◌<◌, ◌≤◌, [], ◌∷◌, ◌++◌}
+use Rattle.std.proofs.Common.{append-nil, ℕ, List, length, Some, None, refl, sym, ap}
 use Rattle.std.proofs.Common.{◌∙◌, subst, append_assoc, inl, inr, arith}
 use Rattle.std.specs.Prelude.{ℤ, Contains}
 use Rattle.std.specs.Borrow.{Bor}
@@ -16,7 +17,8 @@ use Rattle.mesh_embedding.proofs.Entries.{one_value}
 use Rattle.mesh_embedding.proofs.MeshStays.{one_way}
 use Rattle.delaunay_core.specs.Place.{place_of}
 use Rattle.delaunay_lines.specs.declared.intersection.Intersection.{Intersection}
-use Rattle.delaunay_lines.specs.declared.intersection.Intersection.TheVariants.{EdgeIntersection, VertexIntersection}
+use Rattle.delaunay_lines.specs.declared.intersection.Intersection.TheVariants.{EdgeIntersection}
+use Rattle.delaunay_lines.specs.declared.intersection.Intersection.TheVariants.{VertexIntersection}
 use Rattle.delaunay_lines.specs.declared.intersection.Intersection.TheVariants.{EdgeOverlap}
 use Rattle.delaunay_lines.specs.declared.iterator.LineIntersectionIterator.{LineIntersectionIterator}
 use Rattle.delaunay_lines.specs.Conflicts.{IsConflict, IsConflictOf, HasNoConflict, GivesConflict}
@@ -47,8 +49,9 @@ some_none x e = cc
 none_some : {X : Type 0} (x : X) → ¬ (None ≡ Some x)
 none_some x e = cc
 
-module _ {V D U F : Type 0} (at : V → Point) (IsSite IsCovered : Point → Type 0) (c : Contents V D U F) (p q : Point)
-    (over : IsOverMesh at IsSite IsCovered c p q) (constraints : List U → List ℕ) where
+module _ {V D U F : Type 0} (at : V → Point) (IsSite IsCovered : Point → Type 0)
+    (c : Contents V D U F) (p q : Point) (over : IsOverMesh at IsSite IsCovered c p q)
+    (constraints : List U → List ℕ) where
   once : EachPairOnce (edges_of c.mesh)
   once = elim (laid at IsSite IsCovered c p q over) [
     | inl tiles ↦ tiles.once
@@ -58,30 +61,33 @@ module _ {V D U F : Type 0} (at : V → Point) (IsSite IsCovered : Point → Typ
   -- an edge that is no constraint is no conflict
   unmarked : (e : ℕ) → e < length c.directed → ¬ Contains (constraints c.undirected) (e / 2)
       → ¬ IsConflict constraints c (across (origin c.mesh e) (origin c.mesh (rev e)))
-  unmarked e within off k = off (subst (λ (x : ℕ). Contains (constraints c.undirected) (x / 2)) same k.3)
+  unmarked e within off k =
+      off (subst (λ (x : ℕ). Contains (constraints c.undirected) (x / 2)) same k.3)
     where
       same : k.0 ≡ e
-      same = one_way c.mesh over.mesh.valid once e k.0 (in_mesh at IsSite IsCovered c p q over e within)
-          (in_mesh at IsSite IsCovered c p q over k.0 k.1) (sym (ap first_end k.2), sym (ap second_end k.2))
+      same = one_way c.mesh over.mesh.valid once e k.0
+          (in_mesh at IsSite IsCovered c p q over e within)
+          (in_mesh at IsSite IsCovered c p q over k.0 k.1)
+          (sym (ap first_end k.2), sym (ap second_end k.2))
 
   -- nor is a vertex or an overlap
   no_crossing : (k : Item) → ¬ IsCrossing k → ¬ IsConflict constraints c k
   no_crossing k n x = n (subst IsCrossing (sym x.2) tt)
 
-module _ {V D U F P S : Type 0} (at : V → Point) (number : S → ℤ) (IsSite IsCovered : P → Point → Type 0)
-    (constraints : List U → List ℕ) where
+module _ {V D U F P S : Type 0} (at : V → Point) (number : S → ℤ)
+    (IsSite IsCovered : P → Point → Type 0) (constraints : List U → List ℕ) where
   -- what was passed of the walk
   pub record IsSearching (start now : LineIntersectionIterator V D U F P S) : Type 0 where
     pub ready : IsReady at number IsSite IsCovered now
     pub same_mesh : now.dcel ≡ start.dcel
     pub fewer : now.left ≤ start.left
-    pub passed : (items : List Item) → AreLeft at number start items → (passed : List Item) × (others : List Item) ×
-        (items ≡ passed ++ others)
+    pub passed : (items : List Item) → AreLeft at number start items
+        → (passed : List Item) × (others : List Item) × (items ≡ passed ++ others)
         × HasNoConflict constraints start.dcel.now passed × AreLeft at number now others
 
   -- a search begins before the first item
-  pub searching_begins : (start : LineIntersectionIterator V D U F P S) → IsReady at number IsSite IsCovered start →
-      IsSearching start start
+  pub searching_begins : (start : LineIntersectionIterator V D U F P S)
+      → IsReady at number IsSite IsCovered start → IsSearching start start
   searching_begins start ready = record {
     ready = ready;
     same_mesh = refl;
@@ -90,36 +96,44 @@ module _ {V D U F P S : Type 0} (at : V → Point) (number : S → ℤ) (IsSite 
   }
 
   -- one more item, which is no conflict
-  one_more : (c : Contents V D U F) (passed : List Item) (k : Item) → HasNoConflict constraints c passed →
-      ¬ IsConflict constraints c k → HasNoConflict constraints c (passed ++ k ∷ [])
-  one_more c passed k none clear j x = elim (Contains-push_cases passed k j x) as (λ _. ¬ IsConflict constraints c j) [
-    | inl y ↦ none j y
-    | inr e ↦ subst (λ (z : Item). ¬ IsConflict constraints c z) e clear
-  ]
+  one_more : (c : Contents V D U F) (passed : List Item) (k : Item)
+      → HasNoConflict constraints c passed → ¬ IsConflict constraints c k
+      → HasNoConflict constraints c (passed ++ k ∷ [])
+  one_more c passed k none clear j x =
+      elim (Contains-push_cases passed k j x) as (λ _. ¬ IsConflict constraints c j) [
+        | inl y ↦ none j y
+        | inr e ↦ subst (λ (z : Item). ¬ IsConflict constraints c z) e clear
+      ]
 
-  module _ (start now : LineIntersectionIterator V D U F P S) (searching : IsSearching start now) where
-    -- no conflict of the mesh of the walk: neither a vertex nor an overlap, nor an edge that is no constraint
+  module _ (start now : LineIntersectionIterator V D U F P S)
+      (searching : IsSearching start now) where
+    -- no conflict of the mesh of the walk: neither a vertex nor an overlap, nor an edge that is no
+    -- constraint
     no_crossing_item : (x : Intersection V D U F) → crossed_edge x ≡ None → mesh_of x ≡ now.dcel →
         ¬ IsConflict constraints start.dcel.now (item_in x)
     no_crossing_item (EdgeIntersection e) is mesh k = absurd (some_none e is)
     no_crossing_item (VertexIntersection v) is mesh k = subst IsCrossing (sym k.2) tt
     no_crossing_item (EdgeOverlap e) is mesh k = subst IsCrossing (sym k.2) tt
 
-    unmarked_item : (x : Intersection V D U F) (e : DirectedEdgeHandle V D U F) → crossed_edge x ≡ Some e →
-        mesh_of x ≡ now.dcel
-        → ¬ Contains (constraints e.dcel.now.undirected) (e.index / 2) →
-        ¬ IsConflict constraints start.dcel.now (item_in x)
+    unmarked_item : (x : Intersection V D U F) (e : DirectedEdgeHandle V D U F)
+        → crossed_edge x ≡ Some e → mesh_of x ≡ now.dcel
+        → ¬ Contains (constraints e.dcel.now.undirected) (e.index / 2)
+        → ¬ IsConflict constraints start.dcel.now (item_in x)
     unmarked_item (EdgeIntersection y) e is mesh off k =
-        unmarked at (IsSite now.tests.now) (IsCovered now.tests.now) now.dcel.now (place_of number now.from)
+        unmarked at (IsSite now.tests.now) (IsCovered now.tests.now) now.dcel.now
+        (place_of number now.from)
         (place_of number now.to) searching.ready.over constraints y.index
         (subst (λ (d : Bor (Contents V D U F)). y.index < length d.now.directed) mesh y.in_range)
-        (λ z. off (subst (λ (h : DirectedEdgeHandle V D U F). Contains (constraints h.dcel.now.undirected)
+        (λ z. off
+        (subst (λ (h : DirectedEdgeHandle V D U F). Contains (constraints h.dcel.now.undirected)
         (h.index / 2)) (one_value y e is) (subst (λ (d : Bor (Contents V D U F)).
         Contains (constraints d.now.undirected) (y.index / 2)) (sym mesh) z)))
         (subst (λ (d : Bor (Contents V D U F)). IsConflict constraints d.now
-        (across (origin d.now.mesh y.index) (origin d.now.mesh (rev y.index)))) (sym searching.same_mesh)
+        (across (origin d.now.mesh y.index) (origin d.now.mesh (rev y.index))))
+        (sym searching.same_mesh)
         (subst (λ (d : Bor (Contents V D U F)). IsConflict constraints start.dcel.now
-        (across (origin d.now.mesh y.index) (origin d.now.mesh (rev y.index)))) (mesh ∙ searching.same_mesh) k))
+        (across (origin d.now.mesh y.index) (origin d.now.mesh (rev y.index))))
+        (mesh ∙ searching.same_mesh) k))
     unmarked_item (VertexIntersection v) e is mesh off k = subst IsCrossing (sym k.2) tt
     unmarked_item (EdgeOverlap o) e is mesh off k = subst IsCrossing (sym k.2) tt
 
@@ -128,7 +142,8 @@ module _ {V D U F P S : Type 0} (at : V → Point) (number : S → ℤ) (IsSite 
         (gives : GivesNext at number now (Some x) after) where
       missed : (z : Intersection V D U F) → mesh_of z ≡ now.dcel → IsConflictOf constraints z None →
           ¬ IsConflict constraints start.dcel.now (item_in z)
-      missed (EdgeIntersection y) mesh none = unmarked_item (EdgeIntersection y) y refl mesh (none y refl)
+      missed (EdgeIntersection y) mesh none =
+          unmarked_item (EdgeIntersection y) y refl mesh (none y refl)
       missed (VertexIntersection v) mesh none = no_crossing_item (VertexIntersection v) refl mesh
       missed (EdgeOverlap o) mesh none = no_crossing_item (EdgeOverlap o) refl mesh
 
@@ -153,7 +168,8 @@ module _ {V D U F P S : Type 0} (at : V → Point) (number : S → ℤ) (IsSite 
             );
       }
         where
-          push_middle : (xs : List Item) (k : Item) (ys : List Item) → xs ++ k ∷ ys ≡ (xs ++ k ∷ []) ++ ys
+          push_middle : (xs : List Item) (k : Item) (ys : List Item)
+              → xs ++ k ∷ ys ≡ (xs ++ k ∷ []) ++ ys
           push_middle xs k ys = sym (append_assoc xs (k ∷ []) ys)
 
     -- the first conflict
@@ -171,10 +187,13 @@ module _ {V D U F P S : Type 0} (at : V → Point) (number : S → ℤ) (IsSite 
             record {
               passed = b.0;
               others = n.1.0;
-              all = subst (λ (d : Bor (Contents V D U F)). items ≡ b.0 ++ across (origin d.now.mesh y.index)
-                  (origin d.now.mesh (rev y.index)) ∷ n.1.0) mesh (b.2 ∙ ap (λ (l : List Item). b.0 ++ l) n.1.1);
+              all = subst
+                  (λ (d : Bor (Contents V D U F)). items ≡ b.0 ++ across (origin d.now.mesh y.index)
+                  (origin d.now.mesh (rev y.index))
+                  ∷ n.1.0) mesh (b.2 ∙ ap (λ (l : List Item). b.0 ++ l) n.1.1);
               none_passed = b.3;
-              constraint = subst (λ (d : Bor (Contents V D U F)). Contains (constraints d.now.undirected) (y.index / 2))
+              constraint = subst (λ (d : Bor (Contents V D U F)). Contains
+                  (constraints d.now.undirected) (y.index / 2))
                   mesh marked;
               are_left = n.1.2;
             },
@@ -188,7 +207,8 @@ module _ {V D U F P S : Type 0} (at : V → Point) (number : S → ℤ) (IsSite 
         → Contains (constraints e.dcel.now.undirected) (e.index / 2) →
         GivesConflict at number constraints start (Some e) after
     found (EdgeIntersection y) e after gives is marked =
-        subst (λ (h : DirectedEdgeHandle V D U F). GivesConflict at number constraints start (Some h) after) same
+        subst (λ (h : DirectedEdgeHandle V D U F). GivesConflict at number constraints start
+        (Some h) after) same
         (found_here y after gives (subst (λ (h : DirectedEdgeHandle V D U F).
         Contains (constraints h.dcel.now.undirected) (h.index / 2)) (sym same) marked))
       where
@@ -198,8 +218,8 @@ module _ {V D U F P S : Type 0} (at : V → Point) (number : S → ℤ) (IsSite 
     found (EdgeOverlap o) e after gives is marked = absurd (none_some e is)
 
     -- where no item is left, there is no conflict
-    pub searching_ends : (after : LineIntersectionIterator V D U F P S) → GivesNext at number now None after →
-        GivesConflict at number constraints start None after
+    pub searching_ends : (after : LineIntersectionIterator V D U F P S)
+        → GivesNext at number now None after → GivesConflict at number constraints start None after
     searching_ends after gives = record {
       same_mesh = gives.same_mesh ∙ searching.same_mesh;
       gives = λ items left.

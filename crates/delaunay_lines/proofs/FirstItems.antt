@@ -1,5 +1,6 @@
 -- What a segment meets first, by where in a mesh it starts.
-use Rattle.std.proofs.Common.{◌≡◌, ◌≢◌, ◌⊎◌, ℕ, ◌<◌, List, [], ◌∷◌, length, map, Some, None, refl, sym, ap, ◌∙◌, subst}
+use Rattle.std.proofs.Common.{◌≡◌, ◌≢◌, ◌⊎◌, ◌<◌, [], ◌∷◌, ◌∙◌}
+use Rattle.std.proofs.Common.{ℕ, List, length, map, Some, None, refl, sym, ap, subst}
 use Rattle.std.proofs.Common.{inl, inr, arith}
 use Rattle.std.proofs.lemmas.List.{length-map}
 use Rattle.half_edge_mesh.specs.Mesh.{Mesh, origin, next, prev, rev}
@@ -23,17 +24,22 @@ use Rattle.plane_segments.proofs.First.LineStarts.{equal_ends}
 use Rattle.plane_segments.proofs.Walking.WalkSteps.{line_list_is_the_walk}
 use Rattle.mesh_embedding.specs.Drawn.{drawn}
 use Rattle.delaunay_lines.specs.declared.intersection.FixedIntersection.{FixedIntersection}
-use Rattle.delaunay_lines.specs.declared.intersection.FixedIntersection.TheVariants.{Edge, Vertex, Overlap}
+use Rattle.delaunay_lines.specs.declared.intersection.FixedIntersection.TheVariants.{
+  Edge,
+  Vertex,
+  Overlap,
+}
 use Rattle.delaunay_lines.specs.Items.{item_of, IsHandleOf}
 use Rattle.delaunay_lines.specs.Steps.{IsOverMesh, IsLeftOf}
 use Rattle.delaunay_lines.specs.Starts.{StartsWithin, StartsInside, GoesOver}
 use Rattle.delaunay_lines.specs.Walk.{Starts}
 use Rattle.delaunay_lines.proofs.Advance.{first_of, starts_with}
-use Rattle.delaunay_lines.proofs.MeshSteps.{laid, in_mesh, of_mesh, joined, tiles_with, face_at, twin_of_prev}
+use Rattle.delaunay_lines.proofs.MeshSteps.{laid, in_mesh, of_mesh, joined, tiles_with, face_at}
+use Rattle.delaunay_lines.proofs.MeshSteps.{twin_of_prev}
 use Rattle.delaunay_lines.proofs.MeshSteps.{twin_of_next, start_in, not_same}
 
-module _ {V D U F : Type 0} (at : V → Point) (IsSite IsCovered : Point → Type 0) (c : Contents V D U F) (p q : Point)
-    (over : IsOverMesh at IsSite IsCovered c p q) where
+module _ {V D U F : Type 0} (at : V → Point) (IsSite IsCovered : Point → Type 0)
+    (c : Contents V D U F) (p q : Point) (over : IsOverMesh at IsSite IsCovered c p q) where
   abbrev m : Mesh
   m = c.mesh
 
@@ -47,8 +53,8 @@ module _ {V D U F : Type 0} (at : V → Point) (IsSite IsCovered : Point → Typ
   start h = place points (origin m h)
 
   -- from p to another point q the walk starts at the item that the segment meets first
-  pub starts_first : p ≢ q → (i : FixedIntersection) → IsHandleOf c i → IsFirst t (whole p) (whole q) (item_of m i) →
-      Starts at c p q (Some i)
+  pub starts_first : p ≢ q → (i : FixedIntersection) → IsHandleOf c i
+      → IsFirst t (whole p) (whole q) (item_of m i) → Starts at c p q (Some i)
   starts_first apart i here first = starts_with at IsSite IsCovered c p q over i here
       (first_of t p q (laid at IsSite IsCovered c p q over) apart (item_of m i) first)
 
@@ -58,7 +64,8 @@ module _ {V D U F : Type 0} (at : V → Point) (IsSite IsCovered : Point → Typ
 
   -- without items that the segment from p to another point meets it starts nowhere
   pub nothing_met : p ≢ q → IsWalk t (whole p) (whole q) [] → Starts at c p q None
-  nothing_met apart w = nothing ((line_list_is_the_walk t (laid at IsSite IsCovered c p q over) (whole p) (whole q)
+  nothing_met apart w =
+      nothing ((line_list_is_the_walk t (laid at IsSite IsCovered c p q over) (whole p) (whole q)
       (not_same p q apart) []).1 w)
 
   -- equal ends are at the same place
@@ -72,49 +79,62 @@ module _ {V D U F : Type 0} (at : V → Point) (IsSite IsCovered : Point → Typ
     alone_on_edge e = record {
       items = along (origin m h) (origin m (rev h)) ∷ [];
       line_list = (equal_ends t (whole p) (whole q) (same_ends e)).1 (origin m h) (origin m (rev h))
-          (joined at IsSite IsCovered c p q over h (in_mesh at IsSite IsCovered c p q over h within)) here;
-      are_from =
-          (within, ([], refl, record { met = λ n. absurd (n e); goes_on = λ n. absurd (n e); alone = λ _. refl }));
-      few = let some = start_in at IsSite IsCovered c p q over h (in_mesh at IsSite IsCovered c p q over h within) in
+          (joined at IsSite IsCovered c p q over h
+          (in_mesh at IsSite IsCovered c p q over h within)) here;
+      are_from = (
+        within,
+        (
+          [],
+          refl,
+          record { met = λ n. absurd (n e); goes_on = λ n. absurd (n e); alone = λ _. refl },
+        ),
+      );
+      few = let some = start_in at IsSite IsCovered c p q over h
+          (in_mesh at IsSite IsCovered c p q over h within) in
           let count = length-map c.vertices at in omega (arith, some, count);
     }
 
     module _ (apart : p ≢ q) where
-      law : (side (start h) (start (rev h)) (whole q) ≡ left →
-          IsFirst t (whole p) (whole q) (across (origin m h) (origin m (rev h))))
-          × (side (start h) (start (rev h)) (whole q) ≡ right →
-          IsFirst t (whole p) (whole q) (across (origin m (rev h)) (origin m h)))
-          × (side (start h) (start (rev h)) (whole q) ≡ on → IsAhead (whole p) (start (rev h)) (whole q) →
-          IsFirst t (whole p) (whole q) (along (origin m h) (origin m (rev h))))
-          × (side (start h) (start (rev h)) (whole q) ≡ on → IsAhead (whole p) (start (rev h)) (whole q) ⊎
-          IsAhead (whole p) (start h) (whole q))
-      law = first_from_an_edge t (laid at IsSite IsCovered c p q over) (whole p) (whole q) (not_same p q apart)
+      law : (side (start h) (start (rev h)) (whole q) ≡ left
+          → IsFirst t (whole p) (whole q) (across (origin m h) (origin m (rev h))))
+          × (side (start h) (start (rev h)) (whole q) ≡ right
+          → IsFirst t (whole p) (whole q) (across (origin m (rev h)) (origin m h)))
+          × (side (start h) (start (rev h)) (whole q) ≡ on → IsAhead (whole p) (start (rev h))
+          (whole q) → IsFirst t (whole p) (whole q) (along (origin m h) (origin m (rev h))))
+          × (side (start h) (start (rev h)) (whole q) ≡ on
+          → IsAhead (whole p) (start (rev h)) (whole q) ⊎ IsAhead (whole p) (start h) (whole q))
+      law = first_from_an_edge t (laid at IsSite IsCovered c p q over) (whole p) (whole q)
+          (not_same p q apart)
           (origin m h) (origin m (rev h)) (joined at IsSite IsCovered c p q over h
           (in_mesh at IsSite IsCovered c p q over h within)) here
 
       back : side (start (rev h)) (start h) (whole q) ≡ on → IsAhead (whole p) (start h) (whole q) →
           IsFirst t (whole p) (whole q) (along (origin m (rev h)) (origin m h))
-      back = (first_from_an_edge t (laid at IsSite IsCovered c p q over) (whole p) (whole q) (not_same p q apart)
+      back = (first_from_an_edge t (laid at IsSite IsCovered c p q over) (whole p) (whole q)
+          (not_same p q apart)
           (origin m (rev h)) (origin m h) (edge_flipped t (origin m h) (origin m (rev h))
-          (joined at IsSite IsCovered c p q over h (in_mesh at IsSite IsCovered c p q over h within)))
+          (joined at IsSite IsCovered c p q over h
+          (in_mesh at IsSite IsCovered c p q over h within)))
           (turned_within (start h) (start (rev h)) (whole p) here)).2
 
       twice : origin m h ≡ origin m (rev (rev h))
       twice = ap (origin m) (sym (rev-rev h))
 
       -- with q on the left of the edge it starts by crossing it
-      pub over_edge : side (start h) (start (rev h)) (whole q) ≡ left → Starts at c p q (Some (Edge h))
+      pub over_edge : side (start h) (start (rev h)) (whole q) ≡ left
+          → Starts at c p q (Some (Edge h))
       over_edge s = starts_first apart (Edge h) within (law.0 s)
 
       -- with q on its right it starts by crossing its twin
       pub over_twin : rev h < length c.directed → side (start h) (start (rev h)) (whole q) ≡ right →
           Starts at c p q (Some (Edge (rev h)))
       over_twin r s = starts_first apart (Edge (rev h)) r
-          (subst (λ (x : ℕ). IsFirst t (whole p) (whole q) (across (origin m (rev h)) x)) twice (law.1 s))
+          (subst (λ (x : ℕ). IsFirst t (whole p) (whole q) (across (origin m (rev h)) x))
+          twice (law.1 s))
 
       -- with q ahead on its line it starts along the edge
-      pub along_edge : side (start h) (start (rev h)) (whole q) ≡ on → IsAhead (whole p) (start (rev h)) (whole q) →
-          Starts at c p q (Some (Overlap h))
+      pub along_edge : side (start h) (start (rev h)) (whole q) ≡ on
+          → IsAhead (whole p) (start (rev h)) (whole q) → Starts at c p q (Some (Overlap h))
       along_edge s a = starts_first apart (Overlap h) within (law.2 s a)
 
       -- with q behind on its line it starts along the twin
@@ -131,13 +151,15 @@ module _ {V D U F : Type 0} (at : V → Point) (IsSite IsCovered : Point → Typ
 
   -- ---- strictly inside a face
   -- the same face from its next edge on
-  pub inside_after : (h : ℕ) → h < length c.directed → StartsInside points m p h → StartsInside points m p (next m h)
+  pub inside_after : (h : ℕ) → h < length c.directed → StartsInside points m p h
+      → StartsInside points m p (next m h)
   inside_after h within i =
       let w = in_mesh at IsSite IsCovered c p q over h within in
       let r = T.triangle_at m h over.mesh.valid.sound w i.inner in record {
         inner = subst (λ (x : ℕ). 0 < x) (sym r.face_next) i.inner;
         inside =
-            subst (λ (x : ℕ × ℕ × ℕ). InsideTriangle (place points x.0) (place points x.1) (place points x.2) (whole p))
+            subst (λ (x : ℕ × ℕ × ℕ). InsideTriangle (place points x.0) (place points x.1)
+            (place points x.2) (whole p))
             (λ k. (
               sym (over.mesh.valid.sound.edges h w).starts k,
               sym (twin_of_next at IsSite IsCovered c p q over h w i.inner) k,
@@ -147,9 +169,11 @@ module _ {V D U F : Type 0} (at : V → Point) (IsSite IsCovered : Point → Typ
       }
 
   -- and from the edge before it
-  pub inside_before : (h : ℕ) → h < length c.directed → StartsInside points m p h → StartsInside points m p (prev m h)
+  pub inside_before : (h : ℕ) → h < length c.directed → StartsInside points m p h
+      → StartsInside points m p (prev m h)
   inside_before h within i =
-      let r = T.triangle_at m h over.mesh.valid.sound (in_mesh at IsSite IsCovered c p q over h within) i.inner in
+      let r = T.triangle_at m h over.mesh.valid.sound
+      (in_mesh at IsSite IsCovered c p q over h within) i.inner in
       subst (StartsInside points m p) r.next_next (inside_after (next m h)
       (of_mesh at IsSite IsCovered c p q over (next m h) r.next_in) (inside_after h within i))
 
@@ -161,11 +185,13 @@ module _ {V D U F : Type 0} (at : V → Point) (IsSite IsCovered : Point → Typ
     is_face = face_at at IsSite IsCovered c p q over h w i.inner
 
     tiles : TilesHull t
-    tiles = tiles_with at IsSite IsCovered c p q over (origin m h) (origin m (rev h)) (origin m (prev m h)) is_face
+    tiles = tiles_with at IsSite IsCovered c p q over (origin m h) (origin m (rev h))
+        (origin m (prev m h)) is_face
 
     -- from p to itself the walk meets nothing
     pub alone_inside : p ≡ q → Starts at c p q None
-    alone_inside e = nothing ((equal_ends t (whole p) (whole q) (same_ends e)).2 tiles (origin m h) (origin m (rev h))
+    alone_inside e = nothing
+        ((equal_ends t (whole p) (whole q) (same_ends e)).2 tiles (origin m h) (origin m (rev h))
         (origin m (prev m h)) is_face i.inside)
 
     module _ (apart : p ≢ q) where
@@ -178,16 +204,16 @@ module _ {V D U F : Type 0} (at : V → Point) (IsSite IsCovered : Point → Typ
       abbrev C : Fraction
       C = start (prev m h)
 
-      face_law : (side (whole p) (whole q) B ≡ left
-          → (side (whole p) (whole q) A ≢ left → side A B (whole q) ≡ left → IsWalk t (whole p) (whole q) [])
-          × (side (whole p) (whole q) A ≡ on → side A B (whole q) ≢ left →
-          IsFirst t (whole p) (whole q) (at_vertex (origin m h)))
-          × (side (whole p) (whole q) A ≡ right → side A B (whole q) ≢ left →
-          IsFirst t (whole p) (whole q) (across (origin m (rev h)) (origin m h))))
-          × (((side (whole p) (whole q) A ≢ left) × (side (whole p) (whole q) B ≡ left)) ⊎
-          (((side (whole p) (whole q) B ≢ left) × (side (whole p) (whole q) C ≡ left)) ⊎
-          ((side (whole p) (whole q) C ≢ left) × (side (whole p) (whole q) A ≡ left))))
-      face_law = first_from_a_face t tiles (whole p) (whole q) (not_same p q apart) (origin m h) (origin m (rev h))
+      face_law : (side (whole p) (whole q) B ≡ left → (side (whole p) (whole q) A ≢ left → side A B
+          (whole q) ≡ left → IsWalk t (whole p) (whole q) []) × (side (whole p) (whole q) A ≡ on
+          → side A B (whole q) ≢ left → IsFirst t (whole p) (whole q) (at_vertex (origin m h)))
+          × (side (whole p) (whole q) A ≡ right → side A B (whole q) ≢ left
+          → IsFirst t (whole p) (whole q) (across (origin m (rev h)) (origin m h))))
+          × (((side (whole p) (whole q) A ≢ left) × (side (whole p) (whole q) B ≡ left))
+          ⊎ (((side (whole p) (whole q) B ≢ left) × (side (whole p) (whole q) C ≡ left))
+          ⊎ ((side (whole p) (whole q) C ≢ left) × (side (whole p) (whole q) A ≡ left))))
+      face_law = first_from_a_face t tiles (whole p) (whole q) (not_same p q apart) (origin m h)
+          (origin m (rev h))
           (origin m (prev m h)) is_face i.inside
 
       -- one of its sides goes over the segment
@@ -218,16 +244,18 @@ module _ {V D U F : Type 0} (at : V → Point) (IsSite IsCovered : Point → Typ
         ends_in_face l = nothing_met apart ((face_law.0 o.end).0 o.start l)
 
         -- with q beyond it, and its start on the way, the walk starts at this vertex
-        pub through_start : ¬ IsLeftOf points m q h → side (whole p) (whole q) A ≡ on → origin m h < length c.vertices →
-            Starts at c p q (Some (Vertex (origin m h)))
-        through_start n s v_in = starts_first apart (Vertex (origin m h)) v_in ((face_law.0 o.end).1 s n)
+        pub through_start : ¬ IsLeftOf points m q h → side (whole p) (whole q) A ≡ on
+            → origin m h < length c.vertices → Starts at c p q (Some (Vertex (origin m h)))
+        through_start n s v_in =
+            starts_first apart (Vertex (origin m h)) v_in ((face_law.0 o.end).1 s n)
 
         -- with q beyond it, and its start off the way, the walk starts by crossing its twin
-        pub through_side : rev h < length c.directed → ¬ IsLeftOf points m q h → side (whole p) (whole q) A ≢ on →
-            Starts at c p q (Some (Edge (rev h)))
+        pub through_side : rev h < length c.directed → ¬ IsLeftOf points m q h
+            → side (whole p) (whole q) A ≢ on → Starts at c p q (Some (Edge (rev h)))
         through_side r n s = starts_first apart (Edge (rev h)) r
             (subst (λ (x : ℕ). IsFirst t (whole p) (whole q) (across (origin m (rev h)) x))
-            (ap (origin m) (sym (rev-rev h))) ((face_law.0 o.end).2 (below (side (whole p) (whole q) A) o.start s) n))
+            (ap (origin m) (sym (rev-rev h)))
+            ((face_law.0 o.end).2 (below (side (whole p) (whole q) A) o.start s) n))
           where
             below : (z : Side) → z ≢ left → z ≢ on → z ≡ right
             below left a b = absurd (a (λ _. left))

@@ -1,5 +1,6 @@
 -- Whether a segment meets a constraint, by the first conflict of its walk.
-use Rattle.std.proofs.Common.{◌≡◌, ◌≢◌, ◌⊎◌, ℕ, ◌*◌, ◌/◌, ◌<◌, ◌↔◌, Bool, IsTrue, List, [], ◌∷◌, ◌++◌, length, map}
+use Rattle.std.proofs.Common.{◌≡◌, ◌≢◌, ◌⊎◌, ◌*◌, ◌/◌, ◌<◌, ◌↔◌, [], ◌∷◌, ◌++◌}
+use Rattle.std.proofs.Common.{ℕ, Bool, IsTrue, List, length, map}
 use Rattle.std.proofs.Common.{Option, Some, None, is_some, sym, ap, subst, inl, inr, arith}
 use Rattle.std.specs.Prelude.{ℤ, Contains}
 use Rattle.std.proofs.lemmas.List.Elements.{Contains-append_right}
@@ -22,7 +23,8 @@ use Rattle.delaunay_legalization.specs.State.{State, triangulation_of}
 use Rattle.delaunay_legalization.proofs.Constraints.{fixed_within}
 use Rattle.delaunay_legalization.proofs.Questions.{both_ways}
 use Rattle.delaunay_lines.specs.declared.iterator.LineIntersectionIterator.{LineIntersectionIterator}
-use Rattle.delaunay_lines.specs.Conflicts.{GivesConflict, HasNoConflict, IntersectsConstraint, IsConflict}
+use Rattle.delaunay_lines.specs.Conflicts.{GivesConflict, HasNoConflict, IntersectsConstraint}
+use Rattle.delaunay_lines.specs.Conflicts.{IsConflict}
 use Rattle.delaunay_lines.specs.Walk.{IsReady, WalksLine}
 use Rattle.delaunay_lines.proofs.EitherWay.{crossed_either_way}
 use Rattle.delaunay_lines.proofs.MeshSteps.{in_mesh, joined, ends_apart, not_same}
@@ -42,9 +44,9 @@ none_across t p (along i j ∷ k ∷ passed) others a b x = x
 below : (h n count : ℕ) → h / 2 < n → 2 * n ≡ count → h < count
 below h n count less e = omega (arith, less, e)
 
-module _ {V D U F P S : Type 0} (at : V → Point) (number : S → ℤ) (IsSite IsCovered : P → Point → Type 0)
-    (marks : U → Bool) (constraints : List U → List ℕ)
-    (marked : (ds : List U) → constraints ds ≡ marked_edges marks ds) (it : LineIntersectionIterator V D U F P S)
+module _ {V D U F P S : Type 0} (at : V → Point) (number : S → ℤ) (IsSite IsCovered : P → Point
+    → Type 0) (marks : U → Bool) (constraints : List U → List ℕ) (marked : (ds : List U)
+    → constraints ds ≡ marked_edges marks ds) (it : LineIntersectionIterator V D U F P S)
     (ready : IsReady at number IsSite IsCovered it) where
   abbrev c : Contents V D U F
   c = it.dcel.now
@@ -59,8 +61,9 @@ module _ {V D U F P S : Type 0} (at : V → Point) (number : S → ℤ) (IsSite 
   ks = constraints c.undirected
 
   module _ (p q : Point) (items : List Item) (list : IsLineList t (whole p) (whole q) items) where
-    conflict_is : (passed others : List Item) (h : ℕ) → items ≡ passed ++ across (origin m h) (origin m (rev h)) ∷
-        others → Contains ks (h / 2) → IntersectsConstraint t (pairs_at m ks) p q
+    conflict_is : (passed others : List Item) (h : ℕ)
+        → items ≡ passed ++ across (origin m h) (origin m (rev h)) ∷ others → Contains ks (h / 2)
+        → IntersectsConstraint t (pairs_at m ks) p q
     conflict_is passed others h all listed = record {
       apart = apart;
       from = origin m h;
@@ -75,25 +78,31 @@ module _ {V D U F P S : Type 0} (at : V → Point) (number : S → ℤ) (IsSite 
             (subst (λ (z : Point). IsSame (whole p) (whole z)) e (same-refl (whole p)))))
 
         here : Contains items (across (origin m h) (origin m (rev h)))
-        here = subst (λ (xs : List Item). Contains xs (across (origin m h) (origin m (rev h)))) (sym all)
+        here = subst
+            (λ (xs : List Item). Contains xs (across (origin m h) (origin m (rev h)))) (sym all)
             (Contains-append_right passed (across (origin m h) (origin m (rev h)) ∷ others)
-            (across (origin m h) (origin m (rev h))) (Contains-head (across (origin m h) (origin m (rev h)))
+            (across (origin m h) (origin m (rev h)))
+            (Contains-head (across (origin m h) (origin m (rev h)))
             others))
 
     -- an edge of a constraint, in this direction or the other
     edge_in : (h : ℕ) → Contains ks (h / 2) → h < length c.directed
     edge_in h listed = subst (λ (n : ℕ). h < n) (sym ready.over.mesh.fits.directed_fit)
         (below h (length c.undirected) (length m.half_edges)
-        (fixed_within marks constraints marked c.undirected (h / 2) listed) ready.over.mesh.fits.undirected_fit)
+        (fixed_within marks constraints marked c.undirected (h / 2) listed)
+        ready.over.mesh.fits.undirected_fit)
 
     is_conflict : (i j h : ℕ) → IsListedEdge m ks i j h → IsConflict constraints c (across i j)
-    is_conflict i j h e = (h, edge_in h e.listed, (λ k. across (sym e.start k) (sym e.end k)), e.listed)
+    is_conflict i j h e =
+        (h, edge_in h e.listed, (λ k. across (sym e.start k) (sym e.end k)), e.listed)
 
     none_is : HasNoConflict constraints c items → ¬ IntersectsConstraint t (pairs_at m ks) p q
     none_is none x = elim ways as (λ _. ⊥) [
-      | inl met ↦ none (across x.from x.to) (list.complete (not_same p q x.apart) (across x.from x.to) met)
+      | inl met ↦
+          none (across x.from x.to) (list.complete (not_same p q x.apart) (across x.from x.to) met)
           (is_conflict x.from x.to there.0 there.1)
-      | inr met ↦ none (across x.to x.from) (list.complete (not_same p q x.apart) (across x.to x.from) met)
+      | inr met ↦
+          none (across x.to x.from) (list.complete (not_same p q x.apart) (across x.to x.from) met)
           (is_conflict x.to x.from back.0 back.1)
     ]
       where
@@ -121,37 +130,44 @@ module _ {V D U F P S : Type 0} (at : V → Point) (number : S → ℤ) (IsSite 
         place_at k = point_at (map at c.vertices) k
 
         two : place_at x.from ≢ place_at x.to
-        two = ends_apart at (IsSite it.tests.now) (IsCovered it.tests.now) c (place_of number it.from)
+        two =
+            ends_apart at (IsSite it.tests.now) (IsCovered it.tests.now) c (place_of number it.from)
             (place_of number it.to) ready.over there.0 h_in
-            (place_at x.from) (place_at x.to) (ap place_at (sym there.1.start)) (ap place_at (sym there.1.end))
+            (place_at x.from) (place_at x.to) (ap place_at (sym there.1.start))
+            (ap place_at (sym there.1.end))
 
-        ways : Meets t (whole p) (whole q) (across x.from x.to) ⊎ Meets t (whole p) (whole q) (across x.to x.from)
+        ways : Meets t (whole p) (whole q) (across x.from x.to)
+            ⊎ Meets t (whole p) (whole q) (across x.to x.from)
         ways = crossed_either_way t (whole p) (whole q) (not_same p q x.apart) x.from x.to edge
             (not_same (place_at x.from) (place_at x.to) two) x.met
 
   module _ (s : State V D U F) (p q : Point) (line : WalksLine at number s p q it)
       (after : LineIntersectionIterator V D U F P S) where
     list_here : IsLineList t (whole p) (whole q) line.items
-    list_here = subst (λ (z : State V D U F). IsLineList (triangulation_of at z) (whole p) (whole q) line.items)
+    list_here = subst
+        (λ (z : State V D U F). IsLineList (triangulation_of at z) (whole p) (whole q) line.items)
         (sym line.state) line.line_list
 
     abbrev Intersects : State V D U F → Type 0
     Intersects z = IntersectsConstraint (triangulation_of at z) (constraints_by constraints z) p q
 
     -- where a conflict was found, the segment intersects a constraint
-    pub crosses_one : (e : DirectedEdgeHandle V D U F) → GivesConflict at number constraints it (Some e) after →
-        Intersects s
+    pub crosses_one : (e : DirectedEdgeHandle V D U F)
+        → GivesConflict at number constraints it (Some e) after → Intersects s
     crosses_one e gives =
         let f = (gives.gives line.items line.are_left).1 in
-        subst Intersects line.state (conflict_is p q line.items list_here f.passed f.others e.index f.all f.constraint)
+        subst Intersects line.state
+        (conflict_is p q line.items list_here f.passed f.others e.index f.all f.constraint)
 
     -- where none was found, it intersects none
     pub crosses_none : GivesConflict at number constraints it None after → ¬ Intersects s
     crosses_none gives x =
-        none_is p q line.items list_here (gives.gives line.items line.are_left).0 (subst Intersects (sym line.state) x)
+        none_is p q line.items list_here (gives.gives line.items line.are_left).0
+        (subst Intersects (sym line.state) x)
 
     -- so whether one was found tells whether it does
     pub first_decides : (r : Option (DirectedEdgeHandle V D U F)) (b : Bool) → b ≡ is_some r →
         GivesConflict at number constraints it r after → IsTrue b ↔ Intersects s
-    first_decides None b is gives = ((λ yes. absurd (both_ways b yes is)), (λ x. absurd (crosses_none gives x)))
+    first_decides None b is gives =
+        ((λ yes. absurd (both_ways b yes is)), (λ x. absurd (crosses_none gives x)))
     first_decides (Some e) b is gives = ((λ _. crosses_one e gives), (λ _. is))

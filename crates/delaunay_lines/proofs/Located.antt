@@ -6,7 +6,8 @@ use Rattle.plane.specs.Fraction.{Point, whole, IsSame, OnSegment, WithinSegment,
 use Rattle.plane.specs.Side.{Side, side, left, on, TurnsLeft}
 use Rattle.plane.specs.Pairs.{place}
 use Rattle.plane.specs.Tiling.{Triangulation, IsVertex, IsEdge, vertex, TilesHull}
-use Rattle.plane.specs.Location.{Location, IsLocation, IsOuter, IsPast, on_vertex, on_edge, on_face, outside_hull}
+use Rattle.plane.specs.Location.{Location, IsLocation, IsOuter, IsPast, on_vertex, on_edge, on_face}
+use Rattle.plane.specs.Location.{outside_hull}
 use Rattle.plane.specs.Location.{no_triangulation}
 use Rattle.plane.proofs.Bracket.{vec}
 use Rattle.plane.proofs.BracketIdentities.{bracket-same}
@@ -56,8 +57,8 @@ too_few t i j k a b turns few = left_not_zero
 not_left : (z : Side) → z ≡ on → z ≡ left → ⊥
 not_left z e f = cc
 
-module _ {V D U F : Type 0} (at : V → Point) (IsSite IsCovered : Point → Type 0) (c : Contents V D U F) (p q : Point)
-    (over : IsOverMesh at IsSite IsCovered c p q) where
+module _ {V D U F : Type 0} (at : V → Point) (IsSite IsCovered : Point → Type 0)
+    (c : Contents V D U F) (p q : Point) (over : IsOverMesh at IsSite IsCovered c p q) where
   abbrev m : Mesh
   m = c.mesh
 
@@ -72,22 +73,26 @@ module _ {V D U F : Type 0} (at : V → Point) (IsSite IsCovered : Point → Typ
       (own_edges m over.mesh.valid) (whole p)).1
 
   -- located on a vertex, p is where this vertex is
-  pub on_that_vertex : (v : ℕ) → Locates points m p (OnVertex v) → (v < length c.vertices) × (point_at points v ≡ p)
+  pub on_that_vertex : (v : ℕ) → Locates points m p (OnVertex v)
+      → (v < length c.vertices) × (point_at points v ≡ p)
   on_that_vertex v l = (
     subst (λ (n : ℕ). v < n) (sym over.mesh.fits.vertices_fit) l.handle,
     sym (one_point p (point_at points v) l.location.1),
   )
 
   -- located on an edge, p is strictly within it
-  pub within_that_edge : (e : ℕ) → Locates points m p (OnEdge e) → (e < length c.directed) × StartsWithin points m p e
+  pub within_that_edge : (e : ℕ) → Locates points m p (OnEdge e)
+      → (e < length c.directed) × StartsWithin points m p e
   within_that_edge e l = (of_mesh at IsSite IsCovered c p q over e l.handle, l.location.1)
 
   -- located in a face, p is strictly inside it
-  pub inside_that_face : (f : ℕ) → Locates points m p (OnFace f) → StartsInside points m p (face_edge m f)
+  pub inside_that_face : (f : ℕ) → Locates points m p (OnFace f)
+      → StartsInside points m p (face_edge m f)
   inside_that_face f l =
       let r = over.mesh.valid.sound.faces f l.handle.0 l.handle.1 in record {
         inner = subst (λ (k : ℕ). 0 < k) (sym r.1) l.handle.0;
-        inside = subst (λ (k : ℕ). InsideTriangle (place points (origin m (face_edge m f))) (place points k)
+        inside = subst
+            (λ (k : ℕ). InsideTriangle (place points (origin m (face_edge m f))) (place points k)
             (place points (origin m (prev m (face_edge m f)))) (whole p))
             (over.mesh.valid.sound.edges (face_edge m f) r.0).starts l.location.1;
       }
@@ -107,13 +112,14 @@ module _ {V D U F : Type 0} (at : V → Point) (IsSite IsCovered : Point → Typ
 
   no_edge_there : (l : Location) → IsAway l → IsLocation t (whole p) l → (i j : ℕ) → IsEdge t i j →
       ¬ OnSegment (vertex t i) (vertex t j) (whole p)
-  no_edge_there l away is i j e o = elim (on_parts (vertex t i) (vertex t j) (whole p) o) as (λ _. ⊥) [
-    | inl s ↦ no_vertex_there l away is i (start_of_edge i j e) s
-    | inr x ↦ elim x as (λ _. ⊥) [
-      | inl s ↦ no_vertex_there l away is j (start_of_edge j i (edge_flipped t i j e)) s
-      | inr w ↦ within l away is w
-    ]
-  ]
+  no_edge_there l away is i j e o =
+      elim (on_parts (vertex t i) (vertex t j) (whole p) o) as (λ _. ⊥) [
+        | inl s ↦ no_vertex_there l away is i (start_of_edge i j e) s
+        | inr x ↦ elim x as (λ _. ⊥) [
+          | inl s ↦ no_vertex_there l away is j (start_of_edge j i (edge_flipped t i j e)) s
+          | inr w ↦ within l away is w
+        ]
+      ]
     where
       within : (l : Location) → IsAway l → IsLocation t (whole p) l →
           WithinSegment (vertex t i) (vertex t j) (whole p) → ⊥

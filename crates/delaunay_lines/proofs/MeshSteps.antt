@@ -1,5 +1,6 @@
 -- From an item that a segment meets to the next, by the links of a mesh.
-use Rattle.std.proofs.Common.{◌≡◌, ◌≢◌, ◌⊎◌, ◌↔◌, ℕ, ◌<◌, List, length, map, Option, Some, None, sym, ap, ◌∙◌, subst}
+use Rattle.std.proofs.Common.{◌≡◌, ◌≢◌, ◌⊎◌, ◌↔◌, ◌<◌, ◌∙◌}
+use Rattle.std.proofs.Common.{ℕ, List, length, map, Option, Some, None, sym, ap, subst}
 use Rattle.std.proofs.Common.{inl, inr, arith}
 use Rattle.std.proofs.lemmas.List.{length-map}
 use Rattle.half_edge_mesh.specs.Mesh.{Mesh, IsValidMesh, origin, next, prev, face, rev}
@@ -14,7 +15,8 @@ use Rattle.plane.specs.Line.{Item, Meets, at_vertex, across, along}
 use Rattle.plane_segments.specs.Steps.{ComesNext, IsLast, IsAhead}
 use Rattle.plane_segments.specs.WalkLaws.{IsLaid}
 use Rattle.plane_segments.proofs.Walking.LaidMeshes.{meshes_are_laid}
-use Rattle.plane_segments.proofs.Walking.Steps.{next_after_crossing, last_crossing, next_after_overlap}
+use Rattle.plane_segments.proofs.Walking.Steps.{next_after_crossing, last_crossing}
+use Rattle.plane_segments.proofs.Walking.Steps.{next_after_overlap}
 use Rattle.plane_segments.proofs.Walking.Steps.{next_after_vertex, last_vertex, overlap_ahead}
 use Rattle.plane_segments.proofs.Walking.OneLine.{steps_on_one_line}
 use Rattle.plane_segments.proofs.First.LineStarts.{next_on_line}
@@ -28,14 +30,15 @@ use Rattle.mesh_embedding.proofs.OwnEdges.{own_edges}
 use Rattle.delaunay_legalization.specs.Known.{point_at}
 use Rattle.delaunay_lines.specs.declared.intersection.FixedIntersection.{FixedIntersection}
 use Rattle.delaunay_lines.specs.Items.{item_of, IsHandleOf}
-use Rattle.delaunay_lines.specs.Steps.{IsOverMesh, IsNext, IsLeftOf, LeavesBy, IsEdgeAhead, IsInCone, LeadsTo}
+use Rattle.delaunay_lines.specs.Steps.{IsOverMesh, IsNext, IsLeftOf, LeavesBy, IsEdgeAhead}
+use Rattle.delaunay_lines.specs.Steps.{IsInCone, LeadsTo}
 
 -- a number that is not 0 is positive
 pub positive : (n : ℕ) → (n ≡ 0 → ⊥) → 0 < n
 positive n h = omega (arith, h)
 
-module _ {V D U F : Type 0} (at : V → Point) (IsSite IsCovered : Point → Type 0) (c : Contents V D U F) (p q : Point)
-    (over : IsOverMesh at IsSite IsCovered c p q) where
+module _ {V D U F : Type 0} (at : V → Point) (IsSite IsCovered : Point → Type 0)
+    (c : Contents V D U F) (p q : Point) (over : IsOverMesh at IsSite IsCovered c p q) where
   abbrev m : Mesh
   m = c.mesh
 
@@ -76,7 +79,8 @@ module _ {V D U F : Type 0} (at : V → Point) (IsSite IsCovered : Point → Typ
   ]
 
   -- no face is where the outer one is
-  pub bare : (h : ℕ) → h < length m.half_edges → face m h ≡ 0 → ¬ HasFace t (origin m h) (origin m (rev h))
+  pub bare : (h : ℕ) → h < length m.half_edges → face m h ≡ 0
+      → ¬ HasFace t (origin m h) (origin m (rev h))
   bare h w o f = elim over.shape as (λ _. ⊥) [
     | inl l ↦ no_outer_face points m s l h w o f.0 f.1
     | inr l ↦ line_has_none m (origin m h) (origin m (rev h)) f.0 l.0 f.1
@@ -85,37 +89,42 @@ module _ {V D U F : Type 0} (at : V → Point) (IsSite IsCovered : Point → Typ
   -- the inner face on the left of a directed edge, from this edge on
   pub face_at : (h : ℕ) → h < length m.half_edges → 0 < face m h →
       IsFace t (origin m h) (origin m (rev h)) (origin m (prev m h))
-  face_at h w inner = subst (λ (b : ℕ). IsFace t (origin m h) b (origin m (prev m h))) (s.sound.edges h w).starts
+  face_at h w inner =
+      subst (λ (b : ℕ). IsFace t (origin m h) b (origin m (prev m h))) (s.sound.edges h w).starts
       (face_before m h s.sound (w, inner))
 
   -- the ends of an edge are at two positions
   pub start_in : (h : ℕ) → h < length m.half_edges → origin m h < length points
-  start_in h w = starts_within m s.sound (length points) (length-map c.vertices at ∙ over.mesh.fits.vertices_fit) h w
+  start_in h w = starts_within m s.sound (length points)
+      (length-map c.vertices at ∙ over.mesh.fits.vertices_fit) h w
 
   -- the two ends of a directed edge are different points
-  pub ends_apart : (h : ℕ) → h < length c.directed → (u v : Point) → u ≡ point_at points (origin m h) →
-      v ≡ point_at points (origin m (rev h)) → u ≢ v
+  pub ends_apart : (h : ℕ) → h < length c.directed → (u v : Point)
+      → u ≡ point_at points (origin m h) → v ≡ point_at points (origin m (rev h)) → u ≢ v
   ends_apart h within u v e f o = distinct (ap whole (sym e ∙ o ∙ f))
     where
       w : h < length m.half_edges
       w = in_mesh h within
 
       distinct : place points (origin m h) ≢ place points (origin m (rev h))
-      distinct = elim over.shape as (λ _. place points (origin m h) ≢ place points (origin m (rev h))) [
-        | inl l ↦ l.distinct (origin m h) (origin m (rev h)) (start_in h w)
-            (start_in (rev h) (rev_within h (length m.half_edges) s.sound.even w)) (s.apart h w)
-        | inr l ↦ l.1.distinct (origin m h) (origin m (rev h)) (start_in h w)
-            (start_in (rev h) (rev_within h (length m.half_edges) s.sound.even w)) (s.apart h w)
-      ]
+      distinct =
+          elim over.shape as (λ _. place points (origin m h) ≢ place points (origin m (rev h))) [
+            | inl l ↦ l.distinct (origin m h) (origin m (rev h)) (start_in h w)
+                (start_in (rev h) (rev_within h (length m.half_edges) s.sound.even w)) (s.apart h w)
+            | inr l ↦ l.1.distinct (origin m h) (origin m (rev h)) (start_in h w)
+                (start_in (rev h) (rev_within h (length m.half_edges) s.sound.even w)) (s.apart h w)
+          ]
 
   -- where the sides of a face start
-  pub twin_of_prev : (h : ℕ) → h < length m.half_edges → 0 < face m h → origin m (rev (prev m h)) ≡ origin m h
+  pub twin_of_prev : (h : ℕ) → h < length m.half_edges → 0 < face m h
+      → origin m (rev (prev m h)) ≡ origin m h
   twin_of_prev h w inner =
       let r = T.triangle_at m h s.sound w inner in
       sym (s.sound.edges (prev m h) r.prev_in).starts ∙ ap (origin m) r.next_prev
 
   -- the side after a side of an inner face ends at the third corner
-  pub twin_of_next : (h : ℕ) → h < length m.half_edges → 0 < face m h → origin m (rev (next m h)) ≡ origin m (prev m h)
+  pub twin_of_next : (h : ℕ) → h < length m.half_edges → 0 < face m h
+      → origin m (rev (next m h)) ≡ origin m (prev m h)
   twin_of_next h w inner =
       let r = T.triangle_at m h s.sound w inner in
       sym (s.sound.edges (next m h) r.next_in).starts ∙ ap (origin m) r.next_next
@@ -142,16 +151,21 @@ module _ {V D U F : Type 0} (at : V → Point) (IsSite IsCovered : Point → Typ
       w = in_mesh h within
 
       -- an edge whose line q is on, or with the outer face on its left, is the last item
-      pub last_at_edge : (side (start h) (start (rev h)) (whole q) ≡ on) ⊎ (face m h ≡ 0) → Last (crossed h)
+      pub last_at_edge : (side (start h) (start (rev h)) (whole q) ≡ on) ⊎ (face m h ≡ 0)
+          → Last (crossed h)
       last_at_edge x = go laid x
         where
-          go : IsLaid t → (side (start h) (start (rev h)) (whole q) ≡ on) ⊎ (face m h ≡ 0) → Last (crossed h)
+          go : IsLaid t → (side (start h) (start (rev h)) (whole q) ≡ on) ⊎ (face m h ≡ 0)
+              → Last (crossed h)
           go (inl tiles) (inl flat) =
-              (last_crossing t tiles (whole p) (whole q) ways_apart (origin m h) (origin m (rev h)) met).0 flat
-          go (inl tiles) (inr outer) = (last_crossing t tiles (whole p) (whole q) ways_apart (origin m h)
+              (last_crossing t tiles (whole p) (whole q) ways_apart (origin m h)
+              (origin m (rev h)) met).0 flat
+          go (inl tiles) (inr outer) =
+              (last_crossing t tiles (whole p) (whole q) ways_apart (origin m h)
               (origin m (rev h)) met).1 (joined h w, bare h w outer)
           go (inr l) _ =
-              (steps_on_one_line t l.0 l.1 l.2 (whole p) (whole q) ways_apart).1 (origin m h) (origin m (rev h)) met
+              (steps_on_one_line t l.0 l.1 l.2 (whole p) (whole q) ways_apart).1 (origin m h)
+              (origin m (rev h)) met
 
       module _ (inner : 0 < face m h) where
         abbrev a : ℕ
@@ -163,21 +177,23 @@ module _ {V D U F : Type 0} (at : V → Point) (IsSite IsCovered : Point → Typ
         abbrev d : ℕ
         d = origin m (prev m h)
 
-        law : (side (whole p) (whole q) (place points d) ≡ left → side (place points b) (place points d) (whole q)
-            ≢ left → Next (across a b) (across d b))
-            × (side (whole p) (whole q) (place points d) ≡ right → side (place points d) (place points a) (whole q)
-            ≢ left → Next (across a b) (across a d))
-            × (side (whole p) (whole q) (place points d) ≡ on → side (place points b) (place points d) (whole q)
-            ≢ left → Next (across a b) (at_vertex d))
-            × (side (whole p) (whole q) (place points d) ≢ right → side (place points b) (place points d) (whole q)
-            ≡ left → Last (across a b))
-            × (side (whole p) (whole q) (place points d) ≡ right → side (place points d) (place points a) (whole q)
-            ≡ left → Last (across a b))
-        law = next_after_crossing t (tiles_with a b d (face_at h w inner)) (whole p) (whole q) ways_apart a b d met
+        law : (side (whole p) (whole q) (place points d) ≡ left → side (place points b)
+            (place points d) (whole q) ≢ left → Next (across a b) (across d b))
+            × (side (whole p) (whole q) (place points d) ≡ right → side (place points d)
+            (place points a) (whole q) ≢ left → Next (across a b) (across a d))
+            × (side (whole p) (whole q) (place points d) ≡ on → side (place points b)
+            (place points d) (whole q) ≢ left → Next (across a b) (at_vertex d))
+            × (side (whole p) (whole q) (place points d) ≢ right
+            → side (place points b) (place points d) (whole q) ≡ left → Last (across a b))
+            × (side (whole p) (whole q) (place points d) ≡ right
+            → side (place points d) (place points a) (whole q) ≡ left → Last (across a b))
+        law = next_after_crossing t (tiles_with a b d (face_at h w inner)) (whole p)
+            (whole q) ways_apart a b d met
             (face_at h w inner)
 
         -- the side after edge h, and the one before it
-        side_after : IsLeftOf points m q (next m h) ↔ (side (place points b) (place points d) (whole q) ≡ left)
+        side_after : IsLeftOf points m q (next m h)
+            ↔ (side (place points b) (place points d) (whole q) ≡ left)
         side_after = (
           (λ x. subst (λ (y : ℕ × ℕ). side (place points y.0) (place points y.1) (whole q) ≡ left)
               (λ i. (starts i, ends i)) x),
@@ -191,37 +207,48 @@ module _ {V D U F : Type 0} (at : V → Point) (IsSite IsCovered : Point → Typ
             ends : origin m (rev (next m h)) ≡ d
             ends = twin_of_next h w inner
 
-        side_before : IsLeftOf points m q (prev m h) ↔ (side (place points d) (place points a) (whole q) ≡ left)
+        side_before : IsLeftOf points m q (prev m h)
+            ↔ (side (place points d) (place points a) (whole q) ≡ left)
         side_before = (
-          (λ x. subst (λ (y : ℕ). side (place points d) (place points y) (whole q) ≡ left) (twin_of_prev h w inner) x),
+          (λ x. subst (λ (y : ℕ). side (place points d) (place points y) (whole q) ≡ left)
+              (twin_of_prev h w inner) x),
           (λ x. subst (λ (y : ℕ). side (place points d) (place points y) (whole q) ≡ left)
               (sym (twin_of_prev h w inner)) x),
         )
 
         across_next : crossed (rev (next m h)) ≡ across d b
         across_next =
-            λ i. across (twin_of_next h w inner i) ((ap (origin m) (rev-rev (next m h)) ∙ (s.sound.edges h w).starts) i)
+            λ i. across (twin_of_next h w inner i)
+            ((ap (origin m) (rev-rev (next m h)) ∙ (s.sound.edges h w).starts) i)
 
         across_prev : crossed (rev (prev m h)) ≡ across a d
         across_prev = λ i. across (twin_of_prev h w inner i) (ap (origin m) (rev-rev (prev m h)) i)
 
-        -- the opposite corner is on the right: the side before h is next, or none if q is inside of it
-        pub through_right : side (whole p) (whole q) (place points d) ≡ right → (r : Option FixedIntersection) →
-            LeavesBy at c q (prev m h) r → IsNext at c p q (crossed h) r
+        -- the opposite corner is on the right: the side before h is next, or none if q is inside of
+        -- it
+        pub through_right : side (whole p) (whole q) (place points d) ≡ right
+            → (r : Option FixedIntersection) → LeavesBy at c q (prev m h) r
+            → IsNext at c p q (crossed h) r
         through_right x None l = law.4 x (side_before.0 l)
         through_right x (Some n) l =
-            subst (λ (k : FixedIntersection). IsHandleOf c k × Next (across a b) (item_of m k)) (sym l.0)
-            (l.1, subst (Next (across a b)) (sym across_prev) (law.1 x (λ y. l.2 (side_before.1 y))))
+            subst (λ (k : FixedIntersection). IsHandleOf c k
+            × Next (across a b) (item_of m k)) (sym l.0) (
+              l.1,
+              subst (Next (across a b)) (sym across_prev) (law.1 x (λ y. l.2 (side_before.1 y))),
+            )
 
-        -- the opposite corner is on the left: the side after h is next, or none if q is inside of it
-        pub through_left : side (whole p) (whole q) (place points d) ≡ left → (r : Option FixedIntersection) →
-            LeavesBy at c q (next m h) r → IsNext at c p q (crossed h) r
+        -- the opposite corner is on the left: the side after h is next, or none if q is inside of
+        -- it
+        pub through_left : side (whole p) (whole q) (place points d) ≡ left
+            → (r : Option FixedIntersection) → LeavesBy at c q (next m h) r
+            → IsNext at c p q (crossed h) r
         through_left x None l = law.3 (λ y. differ (sym x ∙ y)) (side_after.0 l)
           where
             differ : left ≡ right → ⊥
             differ e = cc
         through_left x (Some n) l =
-            subst (λ (k : FixedIntersection). IsHandleOf c k × Next (across a b) (item_of m k)) (sym l.0)
+            subst (λ (k : FixedIntersection). IsHandleOf c k
+            × Next (across a b) (item_of m k)) (sym l.0)
             (l.1, subst (Next (across a b)) (sym across_next) (law.0 x (λ y. l.2 (side_after.1 y))))
 
         flat : (z : Side) → z ≢ right → z ≢ left → z ≡ on
@@ -229,30 +256,37 @@ module _ {V D U F : Type 0} (at : V → Point) (IsSite IsCovered : Point → Typ
         flat right r l = absurd (r (λ _. right))
         flat on r l = λ _. on
 
-        -- that corner is not on the right, and q is inside the side after h: the edge is the last item
-        pub ends_inside : side (whole p) (whole q) (place points d) ≢ right → IsLeftOf points m q (next m h) →
-            Last (crossed h)
+        -- that corner is not on the right, and q is inside the side after h: the edge is the last
+        -- item
+        pub ends_inside : side (whole p) (whole q) (place points d) ≢ right
+            → IsLeftOf points m q (next m h) → Last (crossed h)
         ends_inside x l = law.3 x (side_after.0 l)
 
         -- that corner is on the line, and q is not inside the side after h: the corner is next
-        pub at_corner : side (whole p) (whole q) (place points d) ≢ right → side (whole p) (whole q) (place points d)
-            ≢ left → ¬ IsLeftOf points m q (next m h) → Next (crossed h) (at_vertex d)
-        at_corner x y l = law.2 (flat (side (whole p) (whole q) (place points d)) x y) (λ z. l (side_after.1 z))
+        pub at_corner : side (whole p) (whole q) (place points d) ≢ right
+            → side (whole p) (whole q) (place points d) ≢ left → ¬ IsLeftOf points m q (next m h)
+            → Next (crossed h) (at_vertex d)
+        at_corner x y l =
+            law.2 (flat (side (whole p) (whole q) (place points d)) x y) (λ z. l (side_after.1 z))
 
     -- ---- after an edge that is overlapped
     abbrev overlapped : ℕ → Item
     overlapped h = along (origin m h) (origin m (rev h))
 
     module _ (h : ℕ) (met : Met (overlapped h)) where
-      overlap_law : (WithinSegment (start h) (start (rev h)) (whole q) → Last (overlapped h)) ×
-          (¬ WithinSegment (start h) (start (rev h)) (whole q) → Next (overlapped h) (at_vertex (origin m (rev h))))
+      overlap_law : (WithinSegment (start h) (start (rev h)) (whole q) → Last (overlapped h))
+          × (¬ WithinSegment (start h) (start (rev h)) (whole q)
+          → Next (overlapped h) (at_vertex (origin m (rev h))))
       overlap_law = elim laid [
-        | inl tiles ↦ next_after_overlap t tiles (whole p) (whole q) ways_apart (origin m h) (origin m (rev h)) met
-        | inr l ↦ (steps_on_one_line t l.0 l.1 l.2 (whole p) (whole q) ways_apart).2 (origin m h) (origin m (rev h)) met
+        | inl tiles ↦ next_after_overlap t tiles (whole p) (whole q) ways_apart (origin m h)
+            (origin m (rev h)) met
+        | inr l ↦ (steps_on_one_line t l.0 l.1 l.2 (whole p) (whole q) ways_apart).2 (origin m h)
+            (origin m (rev h)) met
       ]
 
       -- with q strictly within it, it is the last item
-      pub last_within_overlap : WithinSegment (start h) (start (rev h)) (whole q) → Last (overlapped h)
+      pub last_within_overlap : WithinSegment (start h) (start (rev h)) (whole q)
+          → Last (overlapped h)
       last_within_overlap x = overlap_law.0 x
 
       -- else its end is next
@@ -271,32 +305,42 @@ module _ {V D U F : Type 0} (at : V → Point) (IsSite IsCovered : Point → Typ
 
       module _ (before_end : ¬ IsSame (place points v) (whole q)) where
         -- before q, a vertex is the last item if no edge from it leads towards q
-        pub last_if_none_leads : ((h : ℕ) → h < length c.directed → origin m h ≡ v → ¬ LeadsTo points m q h) →
-            Last (at_vertex v)
+        pub last_if_none_leads : ((h : ℕ) → h < length c.directed → origin m h ≡ v
+            → ¬ LeadsTo points m q h) → Last (at_vertex v)
         last_if_none_leads none = elim laid [
-          | inl tiles ↦ last_vertex t tiles (whole p) (whole q) ways_apart v met before_end none_ahead none_into
-          | inr l ↦ (next_on_line t l.0 l.1 l.2 (whole p) (whole q) ways_apart v met).2 before_end none_ahead
+          | inl tiles ↦ last_vertex t tiles (whole p)
+              (whole q) ways_apart v met before_end none_ahead none_into
+          | inr l ↦ (next_on_line t l.0 l.1 l.2 (whole p) (whole q) ways_apart v met).2
+              before_end none_ahead
         ]
           where
-            none_ahead : (b : ℕ) → IsEdge t v b → ¬ IsAhead (place points v) (place points b) (whole q)
+            none_ahead : (b : ℕ) → IsEdge t v b
+                → ¬ IsAhead (place points v) (place points b) (whole q)
             none_ahead b e x =
                 let h = joins_edge m s.sound v b e in
                 none h.0 (of_mesh h.0 h.1) h.2
                 (inl (subst (λ (y : ℕ × ℕ). IsAhead (place points y.0) (place points y.1) (whole q))
                 (λ i. (sym h.2 i, sym h.3 i)) x))
 
-            none_into : (b d : ℕ) → IsFace t v b d → side (place points v) (place points b) (whole q) ≡ left →
-                side (place points d) (place points v) (whole q) ≢ left
+            none_into : (b d : ℕ) → IsFace t v b d
+                → side (place points v) (place points b) (whole q) ≡ left
+                → side (place points d) (place points v) (whole q) ≢ left
             none_into b d f x y =
                 let h = edge_of_face m s.sound v b d f in
                 let k = h.0 in
                 let k_in = h.1.inner.0 in
                 none k (of_mesh k k_in) h.1.first (inr (record {
                   inner = h.1.inner.1;
-                  left = subst (λ (z : ℕ × ℕ). side (place points z.0) (place points z.1) (whole q) ≡ left)
-                      (λ i. (sym h.1.first i, (sym h.1.second ∙ (s.sound.edges k k_in).starts) i)) x;
-                  right = subst (λ (z : ℕ × ℕ). side (place points z.0) (place points z.1) (whole q) ≡ left)
-                      (λ i. (sym h.1.third i, (sym h.1.first ∙ sym (twin_of_prev k k_in h.1.inner.1)) i)) y;
+                  left = subst
+                      (λ (z : ℕ × ℕ). side (place points z.0) (place points z.1) (whole q) ≡ left)
+                      (λ i. (sym h.1.first i, (sym h.1.second ∙ (s.sound.edges k k_in).starts) i))
+                      x;
+                  right = subst
+                      (λ (z : ℕ × ℕ). side (place points z.0) (place points z.1) (whole q) ≡ left)
+                      (λ i. (
+                        sym h.1.third i,
+                        (sym h.1.first ∙ sym (twin_of_prev k k_in h.1.inner.1)) i,
+                      )) y;
                 }))
 
     -- where directed edge h starts at the vertex
@@ -308,10 +352,13 @@ module _ {V D U F : Type 0} (at : V → Point) (IsSite IsCovered : Point → Typ
       -- where q is ahead along the edge, this is overlapped next
       pub along_ahead : IsEdgeAhead points m q h → Next (at_vertex (origin m h)) (overlapped h)
       along_ahead x = elim laid [
-        | inl tiles ↦ (next_after_vertex t tiles (whole p) (whole q) ways_apart (origin m h) met).1 (origin m (rev h))
-            (overlap_ahead t tiles (whole p) (whole q) ways_apart (origin m h) (origin m (rev h)) met before_end
+        | inl tiles ↦ (next_after_vertex t tiles (whole p) (whole q) ways_apart (origin m h) met).1
+            (origin m (rev h))
+            (overlap_ahead t tiles (whole p) (whole q) ways_apart (origin m h)
+            (origin m (rev h)) met before_end
             (joined h v_in) x)
-        | inr l ↦ (next_on_line t l.0 l.1 l.2 (whole p) (whole q) ways_apart (origin m h) met).1 (origin m (rev h))
+        | inr l ↦ (next_on_line t l.0 l.1 l.2 (whole p) (whole q) ways_apart (origin m h) met).1
+            (origin m (rev h))
             before_end (joined h v_in) x
       ]
 
@@ -322,21 +369,26 @@ module _ {V D U F : Type 0} (at : V → Point) (IsSite IsCovered : Point → Typ
         abbrev e : ℕ
         e = origin m (prev m h)
 
-        cone_law : (side (place points f) (place points e) (whole q) ≡ left → Last (at_vertex (origin m h))) ×
-            (side (place points f) (place points e) (whole q) ≢ left → Next (at_vertex (origin m h)) (across e f))
+        cone_law : (side (place points f) (place points e) (whole q) ≡ left
+            → Last (at_vertex (origin m h))) × (side (place points f) (place points e) (whole q)
+            ≢ left → Next (at_vertex (origin m h)) (across e f))
         cone_law =
             let is = face_at h v_in cone.inner in
-            (next_after_vertex t (tiles_with (origin m h) f e is) (whole p) (whole q) ways_apart (origin m h) met).2 f e
+            (next_after_vertex t (tiles_with (origin m h) f e is) (whole p) (whole q) ways_apart
+            (origin m h) met).2 f e
             is cone.left
-            (subst (λ (y : ℕ). side (place points e) (place points y) (whole q) ≡ left) (twin_of_prev h v_in cone.inner)
+            (subst (λ (y : ℕ). side (place points e) (place points y) (whole q) ≡ left)
+            (twin_of_prev h v_in cone.inner)
             cone.right)
 
-        far_side : IsLeftOf points m q (next m h) ↔ (side (place points f) (place points e) (whole q) ≡ left)
+        far_side : IsLeftOf points m q (next m h)
+            ↔ (side (place points f) (place points e) (whole q) ≡ left)
         far_side = (
           (λ x. subst (λ (y : ℕ × ℕ). side (place points y.0) (place points y.1) (whole q) ≡ left)
               (λ i. ((s.sound.edges h v_in).starts i, twin_of_next h v_in cone.inner i)) x),
           (λ x. subst (λ (y : ℕ × ℕ). side (place points y.0) (place points y.1) (whole q) ≡ left)
-              (λ i. (sym (s.sound.edges h v_in).starts i, sym (twin_of_next h v_in cone.inner) i)) x),
+              (λ i. (sym (s.sound.edges h v_in).starts i, sym (twin_of_next h v_in cone.inner) i))
+              x),
         )
 
         across_far : crossed (rev (next m h)) ≡ across e f
@@ -348,21 +400,27 @@ module _ {V D U F : Type 0} (at : V → Point) (IsSite IsCovered : Point → Typ
             IsNext at c p q (at_vertex (origin m h)) r
         into_face None l = cone_law.0 (far_side.0 l)
         into_face (Some n) l =
-            subst (λ (k : FixedIntersection). IsHandleOf c k × Next (at_vertex (origin m h)) (item_of m k)) (sym l.0)
-            (l.1, subst (Next (at_vertex (origin m h))) (sym across_far) (cone_law.1 (λ y. l.2 (far_side.1 y))))
+            subst (λ (k : FixedIntersection). IsHandleOf c k
+            × Next (at_vertex (origin m h)) (item_of m k)) (sym l.0) (
+              l.1,
+              subst (Next (at_vertex (origin m h))) (sym across_far)
+                  (cone_law.1 (λ y. l.2 (far_side.1 y))),
+            )
 
 -- ---- questions about an edge, by where its ends are
 -- what tells whether q lies in the direction from a to b tells it by equal points, too
-pub same_ahead : (a b q a' b' : Point) (T : Type 0) → a ≡ a' → b ≡ b' → T ↔ IsAhead (whole a) (whole b) (whole q) →
-    T ↔ IsAhead (whole a') (whole b') (whole q)
+pub same_ahead : (a b q a' b' : Point) (T : Type 0) → a ≡ a' → b ≡ b' → T
+    ↔ IsAhead (whole a) (whole b) (whole q) → T ↔ IsAhead (whole a') (whole b') (whole q)
 same_ahead a b q a' b' T e f w =
     subst (λ (x : Point × Point). T ↔ IsAhead (whole x.0) (whole x.1) (whole q)) (λ i. (e i, f i)) w
 
 -- what tells whether q is strictly within a segment tells it by equal ends, too
-pub same_within : (a b q a' b' : Point) (T : Type 0) → a ≡ a' → b ≡ b' →
-    T ↔ WithinSegment (whole a) (whole b) (whole q) → T ↔ WithinSegment (whole a') (whole b') (whole q)
+pub same_within : (a b q a' b' : Point) (T : Type 0) → a ≡ a' → b ≡ b' → T
+    ↔ WithinSegment (whole a) (whole b) (whole q) → T
+    ↔ WithinSegment (whole a') (whole b') (whole q)
 same_within a b q a' b' T e f w =
-    subst (λ (x : Point × Point). T ↔ WithinSegment (whole x.0) (whole x.1) (whole q)) (λ i. (e i, f i)) w
+    subst (λ (x : Point × Point). T ↔ WithinSegment (whole x.0) (whole x.1) (whole q))
+    (λ i. (e i, f i)) w
 
 -- different points are not at the same place of the plane
 pub not_same : (p q : Point) → p ≢ q → ¬ IsSame (whole p) (whole q)

@@ -1,5 +1,6 @@
 -- What a segment meets first from outside a mesh.
-use Rattle.std.proofs.Common.{◌≡◌, ◌≢◌, ◌⊎◌, ℕ, ◌+◌, ◌<◌, ◌≤◌, List, length, map, Option, Some, None, sym, ap, ◌∙◌}
+use Rattle.std.proofs.Common.{◌≡◌, ◌≢◌, ◌⊎◌, ◌+◌, ◌<◌, ◌≤◌, ◌∙◌}
+use Rattle.std.proofs.Common.{ℕ, List, length, map, Option, Some, None, sym, ap}
 use Rattle.std.proofs.Common.{subst, inl, inr, arith, below_more}
 use Rattle.std.specs.Prelude.{IfSome, ℤ, ◌<ℤ◌}
 use Rattle.std.proofs.lemmas.Int.{ints}
@@ -80,7 +81,8 @@ module _ (points : List Point) (p q : Point) where
     -- else the nearest stays so
     pub still_nearest : (r : Option ℕ) → IsNearestOf points n p q r → ¬ IsBetter points p q v r →
         IsNearestOf points (n + 1) p q r
-    still_nearest None before worse = below_more (λ k. ¬ On k) n before (subst (λ k. ¬ On k) is (λ on. worse (on, tt)))
+    still_nearest None before worse =
+        below_more (λ k. ¬ On k) n before (subst (λ k. ¬ On k) is (λ on. worse (on, tt)))
     still_nearest (Some o) before worse = (
       (let less = before.0 in omega (arith, less)),
       before.1,
@@ -89,7 +91,8 @@ module _ (points : List Point) (p q : Point) where
     )
 
   -- the nearest of the first vertices is one of them all
-  pub within_of : (n count : ℕ) → n ≤ count → (r : Option ℕ) → IsNearestOf points n p q r → IfSome r (λ o. o < count)
+  pub within_of : (n count : ℕ) → n ≤ count → (r : Option ℕ) → IsNearestOf points n p q r
+      → IfSome r (λ o. o < count)
   within_of n count few None x = tt
   within_of n count few (Some o) x = let less = x.0 in omega (arith, few, less)
 
@@ -98,8 +101,9 @@ pub same_count : (n count : ℕ) → n ≤ count → count ≤ n → n ≡ count
 same_count n count h k = omega (arith, h, k)
 
 -- ---- the first item
-module _ {V D U F : Type 0} (at : V → Point) (IsSite IsCovered : Point → Type 0) (c : Contents V D U F) (p q : Point)
-    (over : IsOverMesh at IsSite IsCovered c p q) (outside : StartsOutside (drawn (map at c.vertices) c.mesh) p) where
+module _ {V D U F : Type 0} (at : V → Point) (IsSite IsCovered : Point → Type 0)
+    (c : Contents V D U F) (p q : Point) (over : IsOverMesh at IsSite IsCovered c p q)
+    (outside : StartsOutside (drawn (map at c.vertices) c.mesh) p) where
   abbrev m : Mesh
   m = c.mesh
 
@@ -116,9 +120,12 @@ module _ {V D U F : Type 0} (at : V → Point) (IsSite IsCovered : Point → Typ
   pub alone_outside : p ≡ q → Starts at c p q None
   alone_outside e = nothing at IsSite IsCovered c p q over (elim t_laid [
     | inl tiles ↦ (let l = outside.left_of tiles in
-        (equal_ends t (whole p) (whole q) (same_ends at IsSite IsCovered c p q over e)).3 tiles l.0 l.1 l.2 l.3)
-    | inr line ↦ (equal_ends t (whole p) (whole q) (same_ends at IsSite IsCovered c p q over e)).4 line.0
-        outside.no_vertex (λ i j edge w. outside.no_edge i j edge (on_of_within (vertex t i) (vertex t j) (whole p) w))
+        (equal_ends t (whole p) (whole q) (same_ends at IsSite IsCovered c p q over e)).3 tiles
+        l.0 l.1 l.2 l.3)
+    | inr line ↦
+        (equal_ends t (whole p) (whole q) (same_ends at IsSite IsCovered c p q over e)).4 line.0
+        outside.no_vertex (λ i j edge w. outside.no_edge i j edge
+        (on_of_within (vertex t i) (vertex t j) (whole p) w))
   ])
 
   module _ (apart : p ≢ q) where
@@ -128,33 +135,43 @@ module _ {V D U F : Type 0} (at : V → Point) (IsSite IsCovered : Point → Typ
     met_if : (h : ℕ) → h < length m.half_edges → IsCrossed points m p q h →
         Meets t (whole p) (whole q) (across (origin m h) (origin m (rev h)))
     met_if h w x = elim t_laid [
-      | inl tiles ↦ (crossing_by_sides t tiles (whole p) (whole q) ways_apart (origin m h) (origin m (rev h))
+      | inl tiles ↦
+          (crossing_by_sides t tiles (whole p) (whole q) ways_apart (origin m h) (origin m (rev h))
           (joined at IsSite IsCovered c p q over h w)).1 (x.0.start, x.0.end, x.1.from, x.1.to)
-      | inr l ↦ ((crossing_on_line t l.0 l.1 l.2).0 (whole p) (whole q) ways_apart (origin m h) (origin m (rev h))
+      | inr l ↦ ((crossing_on_line t l.0 l.1 l.2).0 (whole p) (whole q) ways_apart (origin m h)
+          (origin m (rev h))
           (joined at IsSite IsCovered c p q over h w)).1 (x.0.start, x.0.end, x.1.from, x.1.to)
     ]
 
-    crossed_if : (h : ℕ) → h < length m.half_edges →
-        Meets t (whole p) (whole q) (across (origin m h) (origin m (rev h))) → IsCrossed points m p q h
+    crossed_if : (h : ℕ) → h < length m.half_edges
+        → Meets t (whole p) (whole q) (across (origin m h) (origin m (rev h)))
+        → IsCrossed points m p q h
     crossed_if h w x = elim t_laid [
-      | inl tiles ↦ of_four ((crossing_by_sides t tiles (whole p) (whole q) ways_apart (origin m h) (origin m (rev h))
+      | inl tiles ↦ of_four
+          ((crossing_by_sides t tiles (whole p) (whole q) ways_apart (origin m h) (origin m (rev h))
           (joined at IsSite IsCovered c p q over h w)).0 x)
-      | inr l ↦ of_four (((crossing_on_line t l.0 l.1 l.2).0 (whole p) (whole q) ways_apart (origin m h)
+      | inr l ↦
+          of_four (((crossing_on_line t l.0 l.1 l.2).0 (whole p) (whole q) ways_apart (origin m h)
           (origin m (rev h)) (joined at IsSite IsCovered c p q over h w)).0 x)
     ]
       where
-        of_four : (side (whole p) (whole q) (vertex t (origin m h)) ≡ left) ×
-            (side (whole p) (whole q) (vertex t (origin m (rev h))) ≡ right) ×
-            (side (vertex t (origin m h)) (vertex t (origin m (rev h))) (whole p) ≢ left) ×
-            (side (vertex t (origin m h)) (vertex t (origin m (rev h))) (whole q) ≢ right) → IsCrossed points m p q h
+        of_four : (side (whole p) (whole q) (vertex t (origin m h)) ≡ left)
+            × (side (whole p) (whole q) (vertex t (origin m (rev h))) ≡ right)
+            × (side (vertex t (origin m h)) (vertex t (origin m (rev h))) (whole p) ≢ left)
+            × (side (vertex t (origin m h)) (vertex t (origin m (rev h))) (whole q) ≢ right)
+            → IsCrossed points m p q h
         of_four y = (record { start = y.0; end = y.1 }, record { from = y.2; to = y.3 })
 
     -- an edge through which the segment enters is where the walk starts
-    pub enters : (h : ℕ) → h < length c.directed → IsEntered points m p q h → Starts at c p q (Some (Edge h))
-    enters h within x = starts_first at IsSite IsCovered c p q over apart (Edge h) within (elim t_laid [
-      | inl tiles ↦ (first_item t tiles (whole p) (whole q) ways_apart).3 (origin m (rev h)) (origin m h) met outer
-      | inr l ↦ ((first_on_line t l.0 l.1 l.2 (whole p) (whole q) ways_apart).2 (origin m h) (origin m (rev h)) met).0
-    ])
+    pub enters : (h : ℕ) → h < length c.directed → IsEntered points m p q h
+        → Starts at c p q (Some (Edge h))
+    enters h within x =
+        starts_first at IsSite IsCovered c p q over apart (Edge h) within (elim t_laid [
+          | inl tiles ↦ (first_item t tiles (whole p) (whole q) ways_apart).3 (origin m (rev h))
+              (origin m h) met outer
+          | inr l ↦ ((first_on_line t l.0 l.1 l.2 (whole p) (whole q) ways_apart).2 (origin m h)
+              (origin m (rev h)) met).0
+        ])
       where
         w : h < length m.half_edges
         w = in_mesh at IsSite IsCovered c p q over h within
@@ -167,13 +184,15 @@ module _ {V D U F : Type 0} (at : V → Point) (IsSite IsCovered : Point → Typ
 
         outer : IsOuter t (origin m (rev h)) (origin m h)
         outer = (
-          edge_flipped t (origin m h) (origin m (rev h)) (joined at IsSite IsCovered c p q over h w),
+          edge_flipped t (origin m h) (origin m (rev h))
+              (joined at IsSite IsCovered c p q over h w),
           subst (λ (k : ℕ). ¬ HasFace t (origin m (rev h)) (origin m k)) (rev-rev h)
               (bare at IsSite IsCovered c p q over (rev h) r_in x.0),
         )
 
     module _ (none : (h : ℕ) → h < length c.directed → ¬ IsEntered points m p q h) where
-      no_outer_crossed : TilesHull t → (a b : ℕ) → IsOuter t a b → ¬ Meets t (whole p) (whole q) (across b a)
+      no_outer_crossed : TilesHull t → (a b : ℕ) → IsOuter t a b
+          → ¬ Meets t (whole p) (whole q) (across b a)
       no_outer_crossed tiles a b outer met =
           let h = joins_edge m over.mesh.valid.sound b a met.0 in
           none h.0 (of_mesh at IsSite IsCovered c p q over h.0 h.1) (
@@ -182,11 +201,12 @@ module _ {V D U F : Type 0} (at : V → Point) (IsSite IsCovered : Point → Typ
                 (λ i. (sym h.2 i, sym h.3 i)) met),
           )
         where
-          twin_is_outer : (h : ℕ) → h < length m.half_edges → origin m h ≡ b → origin m (rev h) ≡ a →
-              (face m (rev h) ≡ 0) ⊎ (0 < face m (rev h)) → face m (rev h) ≡ 0
+          twin_is_outer : (h : ℕ) → h < length m.half_edges → origin m h ≡ b → origin m (rev h) ≡ a
+              → (face m (rev h) ≡ 0) ⊎ (0 < face m (rev h)) → face m (rev h) ≡ 0
           twin_is_outer h w e f (inl o) = o
           twin_is_outer h w e f (inr inner) = absurd (outer.1
-              (subst (λ (x : ℕ × ℕ). HasFace t x.0 x.1) (λ i. (f i, (ap (origin m) (rev-rev h) ∙ e) i)) (
+              (subst (λ (x : ℕ × ℕ). HasFace t x.0 x.1)
+              (λ i. (f i, (ap (origin m) (rev-rev h) ∙ e) i)) (
                 origin m (prev m (rev h)),
                 face_at at IsSite IsCovered c p q over (rev h)
                     (rev_within h (length m.half_edges) over.mesh.valid.sound.even w) inner,
@@ -201,11 +221,13 @@ module _ {V D U F : Type 0} (at : V → Point) (IsSite IsCovered : Point → Typ
                 (λ i. (sym h.2 i, sym h.3 i)) met),
           )
         where
-          twin_is_outer : (h : ℕ) → h < length m.half_edges → (face m (rev h) ≡ 0) ⊎ (0 < face m (rev h)) →
-              face m (rev h) ≡ 0
+          twin_is_outer : (h : ℕ) → h < length m.half_edges
+              → (face m (rev h) ≡ 0) ⊎ (0 < face m (rev h)) → face m (rev h) ≡ 0
           twin_is_outer h w (inl o) = o
-          twin_is_outer h w (inr inner) = absurd (line_has_none m (origin m (rev h)) (origin m (rev (rev h)))
-              (origin m (prev m (rev h))) line.no_face (face_at at IsSite IsCovered c p q over (rev h)
+          twin_is_outer h w (inr inner) =
+              absurd (line_has_none m (origin m (rev h)) (origin m (rev (rev h)))
+              (origin m (prev m (rev h))) line.no_face
+              (face_at at IsSite IsCovered c p q over (rev h)
               (rev_within h (length m.half_edges) over.mesh.valid.sound.even w) inner))
 
       vertex_in : (v : ℕ) → Meets t (whole p) (whole q) (at_vertex v) → v < length c.vertices
@@ -214,24 +236,30 @@ module _ {V D U F : Type 0} (at : V → Point) (IsSite IsCovered : Point → Typ
       -- where it enters through none, the walk starts at the nearest vertex on it
       pub nearest_is_first : (v : ℕ) → IsNearestOf points (length c.vertices) p q (Some v) →
           Starts at c p q (Some (Vertex v))
-      nearest_is_first v x = starts_first at IsSite IsCovered c p q over apart (Vertex v) x.0 (elim t_laid [
-        | inl tiles ↦ (let l = outside.left_of tiles in
-            (first_from_the_outside t tiles (whole p) (whole q) ways_apart l.0 l.1 l.2 l.3 (no_outer_crossed tiles)).0 v
-            met nearest)
-        | inr l ↦ ((first_on_line t l.0 l.1 l.2 (whole p) (whole q) ways_apart).3 outside.no_edge).0 v met nearest
-      ])
+      nearest_is_first v x =
+          starts_first at IsSite IsCovered c p q over apart (Vertex v) x.0 (elim t_laid [
+            | inl tiles ↦ (let l = outside.left_of tiles in
+                (first_from_the_outside t tiles (whole p) (whole q) ways_apart l.0 l.1 l.2 l.3
+                (no_outer_crossed tiles)).0 v
+                met nearest)
+            | inr l ↦
+                ((first_on_line t l.0 l.1 l.2 (whole p) (whole q) ways_apart).3 outside.no_edge).0
+                v met nearest
+          ])
         where
           met : Meets t (whole p) (whole q) (at_vertex v)
           met = (subst (λ (n : ℕ). v < n) (sym (length-map c.vertices at)) x.0, x.1)
 
-          nearest : (k : ℕ) → Meets t (whole p) (whole q) (at_vertex k) → ¬ IsNearer (whole p) (vertex t k) (vertex t v)
+          nearest : (k : ℕ) → Meets t (whole p) (whole q) (at_vertex k)
+              → ¬ IsNearer (whole p) (vertex t k) (vertex t v)
           nearest k y = x.2 k (vertex_in k y) y.1
 
       -- and with no vertex on it the segment meets nothing
       pub none_is_first : IsNearestOf points (length c.vertices) p q None → Starts at c p q None
       none_is_first x = nothing_met at IsSite IsCovered c p q over apart (elim t_laid [
         | inl tiles ↦ (let l = outside.left_of tiles in
-            (first_from_the_outside t tiles (whole p) (whole q) ways_apart l.0 l.1 l.2 l.3 (no_outer_crossed tiles)).1
+            (first_from_the_outside t tiles (whole p) (whole q) ways_apart l.0 l.1 l.2 l.3
+            (no_outer_crossed tiles)).1
             (λ v y. x v (vertex_in v y) y.1))
         | inr l ↦ ((first_on_line t l.0 l.1 l.2 (whole p) (whole q) ways_apart).3 outside.no_edge).1
             (λ v y. x v (vertex_in v y) y.1) (no_crossed_on_line l.0)

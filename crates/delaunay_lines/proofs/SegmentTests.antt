@@ -4,7 +4,8 @@ use Rattle.std.specs.Prelude.{ℤ, pos, ◌<ℤ◌, ◌*ℤ◌}
 use Rattle.std.proofs.lemmas.Int.{ints}
 use Rattle.plane.specs.Fraction.{Point, whole, IsSame, OnSegment, WithinSegment}
 use Rattle.plane.proofs.Decisions.{Decision, decide_point}
-use Rattle.plane.proofs.Segments.{reach, reach-start, within_segment_is, start_on_segment, end_on_segment}
+use Rattle.plane.proofs.Segments.{reach, reach-start, within_segment_is, start_on_segment}
+use Rattle.plane.proofs.Segments.{end_on_segment}
 use Rattle.plane_segments.proofs.Crossing.EitherWay.{one_point}
 use Rattle.plane_segments.proofs.Constraints.Pieces.{on_parts}
 
@@ -20,7 +21,8 @@ module _ (u v : Point) (apart : u ≢ v) where
 
   -- an end is not strictly within
   not_start : ¬ WithinSegment (whole u) (whole v) (whole u)
-  not_start w = none_below (reach (whole u) (whole v) (whole u)) (pos 0) (reach-start (whole u) (whole v))
+  not_start w =
+      none_below (reach (whole u) (whole v) (whole u)) (pos 0) (reach-start (whole u) (whole v))
       ((within_segment_is (whole u) (whole v) (whole u) ways_apart).0 w).1
 
   not_end : ¬ WithinSegment (whole u) (whole v) (whole v)
@@ -28,7 +30,8 @@ module _ (u v : Point) (apart : u ≢ v) where
       ((within_segment_is (whole u) (whole v) (whole v) ways_apart).0 w).2
 
   -- a point strictly within the segment is neither of its ends
-  pub differs_if_within : (p : Point) → WithinSegment (whole u) (whole v) (whole p) → (p ≢ u) × (p ≢ v)
+  pub differs_if_within : (p : Point) → WithinSegment (whole u) (whole v) (whole p)
+      → (p ≢ u) × (p ≢ v)
   differs_if_within p w = (
     (λ e. not_start (subst (λ (x : Point). WithinSegment (whole u) (whole v) (whole x)) e w)),
     (λ e. not_end (subst (λ (x : Point). WithinSegment (whole u) (whole v) (whole x)) e w)),
@@ -47,12 +50,15 @@ within_if_differs u v p a b o = elim (on_parts (whole u) (whole v) (whole p) o) 
 
 on_if_same : (u v p : Point) → (p ≡ u) ⊎ (p ≡ v) → OnSegment (whole u) (whole v) (whole p)
 on_if_same u v p (inl e) =
-    subst (λ (x : Point). OnSegment (whole u) (whole v) (whole x)) (sym e) (start_on_segment (whole u) (whole v))
+    subst (λ (x : Point). OnSegment (whole u) (whole v) (whole x)) (sym e)
+    (start_on_segment (whole u) (whole v))
 on_if_same u v p (inr e) =
-    subst (λ (x : Point). OnSegment (whole u) (whole v) (whole x)) (sym e) (end_on_segment (whole u) (whole v))
+    subst (λ (x : Point). OnSegment (whole u) (whole v) (whole x)) (sym e)
+    (end_on_segment (whole u) (whole v))
 
 -- a point that does not differ from both ends is on the segment
-pub on_if_not_apart : (u v p : Point) → (p ≢ u → p ≢ v → ⊥) → OnSegment (whole u) (whole v) (whole p)
+pub on_if_not_apart : (u v p : Point) → (p ≢ u → p ≢ v → ⊥)
+    → OnSegment (whole u) (whole v) (whole p)
 on_if_not_apart u v p both = go (decide_point p u) (decide_point p v)
   where
     go : Decision (p ≡ u) → Decision (p ≡ v) → OnSegment (whole u) (whole v) (whole p)

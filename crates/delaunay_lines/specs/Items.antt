@@ -6,10 +6,15 @@ use Rattle.half_edge_mesh.specs.Contents.{Contents}
 use Rattle.half_edge_views.specs.declared.edge.DirectedEdgeHandle.{DirectedEdgeHandle}
 use Rattle.plane.specs.Line.{Item, at_vertex, across, along}
 use Rattle.delaunay_lines.specs.declared.intersection.Intersection.{Intersection}
-use Rattle.delaunay_lines.specs.declared.intersection.Intersection.TheVariants.{EdgeIntersection, VertexIntersection}
+use Rattle.delaunay_lines.specs.declared.intersection.Intersection.TheVariants.{EdgeIntersection}
+use Rattle.delaunay_lines.specs.declared.intersection.Intersection.TheVariants.{VertexIntersection}
 use Rattle.delaunay_lines.specs.declared.intersection.Intersection.TheVariants.{EdgeOverlap}
 use Rattle.delaunay_lines.specs.declared.intersection.FixedIntersection.{FixedIntersection}
-use Rattle.delaunay_lines.specs.declared.intersection.FixedIntersection.TheVariants.{Edge, Vertex, Overlap}
+use Rattle.delaunay_lines.specs.declared.intersection.FixedIntersection.TheVariants.{
+  Edge,
+  Vertex,
+  Overlap,
+}
 
 -- the item that handles of mesh m name
 abbrev pub item_of : Mesh → FixedIntersection → Item
@@ -31,12 +36,15 @@ mesh_of (EdgeOverlap e) = e.dcel
 
 -- its item
 abbrev pub item_in : {V D U F : Type 0} → Intersection V D U F → Item
-item_in (EdgeIntersection e) = across (origin e.dcel.now.mesh e.index) (origin e.dcel.now.mesh (rev e.index))
+item_in (EdgeIntersection e) =
+    across (origin e.dcel.now.mesh e.index) (origin e.dcel.now.mesh (rev e.index))
 item_in (VertexIntersection v) = at_vertex v.index
-item_in (EdgeOverlap e) = along (origin e.dcel.now.mesh e.index) (origin e.dcel.now.mesh (rev e.index))
+item_in (EdgeOverlap e) =
+    along (origin e.dcel.now.mesh e.index) (origin e.dcel.now.mesh (rev e.index))
 
 -- the edge that is crossed, if the item is one
-abbrev pub crossed_edge : {V D U F : Type 0} → Intersection V D U F → Option (DirectedEdgeHandle V D U F)
+abbrev pub crossed_edge : {V D U F : Type 0} → Intersection V D U F
+    → Option (DirectedEdgeHandle V D U F)
 crossed_edge (EdgeIntersection e) = Some e
 crossed_edge (VertexIntersection v) = None
 crossed_edge (EdgeOverlap e) = None

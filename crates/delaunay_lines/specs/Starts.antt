@@ -10,7 +10,8 @@ use Rattle.plane.specs.Location.{IsOuter}
 
 -- p is strictly within directed edge h
 abbrev pub StartsWithin : List Point → Mesh → Point → ℕ → Type 0
-StartsWithin points m p h = WithinSegment (place points (origin m h)) (place points (origin m (rev h))) (whole p)
+StartsWithin points m p h =
+    WithinSegment (place points (origin m h)) (place points (origin m (rev h))) (whole p)
 
 -- p is strictly inside the face on the left of directed edge h
 pub record StartsInside (points : List Point) (m : Mesh) (p : Point) (h : ℕ) : Type 0 where
@@ -18,7 +19,8 @@ pub record StartsInside (points : List Point) (m : Mesh) (p : Point) (h : ℕ) :
   pub inside : InsideTriangle (place points (origin m h)) (place points (origin m (rev h)))
       (place points (origin m (prev m h))) (whole p)
 
--- directed edge h starts on the right of the segment from p to q, or on its line, and ends on its left
+-- directed edge h starts on the right of the segment from p to q, or on its line, and ends on its
+-- left
 pub record GoesOver (points : List Point) (m : Mesh) (p q : Point) (h : ℕ) : Type 0 where
   pub start : side (whole p) (whole q) (place points (origin m h)) ≢ left
   pub end : side (whole p) (whole q) (place points (origin m (rev h))) ≡ left
@@ -41,23 +43,29 @@ IsCrossed points m p q h = GoesRight points m p q h × HasEndsOnSides points m p
 abbrev pub IsEntered : List Point → Mesh → Point → Point → ℕ → Type 0
 IsEntered points m p q h = (face m (rev h) ≡ 0) × IsCrossed points m p q h
 
--- p is outside: no vertex is there, no edge carries it, and off one line it is on the left of an outer edge
+-- p is outside: no vertex is there, no edge carries it, and off one line it is on the left of an
+-- outer edge
 pub record StartsOutside (t : Triangulation) (p : Point) : Type 0 where
   pub no_vertex : (k : ℕ) → IsVertex t k → ¬ IsSame (whole p) (vertex t k)
   pub no_edge : (i j : ℕ) → IsEdge t i j → ¬ OnSegment (vertex t i) (vertex t j) (whole p)
-  pub left_of : TilesHull t → (i : ℕ) × (j : ℕ) × IsOuter t i j × TurnsLeft (vertex t i) (vertex t j) (whole p)
+  pub left_of : TilesHull t
+      → (i : ℕ) × (j : ℕ) × IsOuter t i j × TurnsLeft (vertex t i) (vertex t j) (whole p)
 
--- of the first n vertices, v is on the segment from p to q, and none on it is nearer to p; or none of them is on it
+-- of the first n vertices, v is on the segment from p to q, and none on it is nearer to p; or none
+-- of them is on it
 abbrev pub IsNearestOf : List Point → ℕ → Point → Point → Option ℕ → Type 0
-IsNearestOf points n p q r = MatchOption r ((k : ℕ) → k < n → ¬ OnSegment (whole p) (whole q) (place points k))
+IsNearestOf points n p q r =
+    MatchOption r ((k : ℕ) → k < n → ¬ OnSegment (whole p) (whole q) (place points k))
     (λ v. (v < n) × OnSegment (whole p) (whole q) (place points v) ×
     ((k : ℕ) → k < n → OnSegment (whole p) (whole q) (place points k) →
     ¬ IsNearer (whole p) (place points k) (place points v)))
 
 -- vertex v is nearer to p than the other one, if there is one
 abbrev pub IsNearerVertex : List Point → Point → ℕ → Option ℕ → Type 0
-IsNearerVertex points p v r = MatchOption r ⊤ (λ o. gap (whole p) (place points v) <ℤ gap (whole p) (place points o))
+IsNearerVertex points p v r =
+    MatchOption r ⊤ (λ o. gap (whole p) (place points v) <ℤ gap (whole p) (place points o))
 
 -- and it is on the segment from p to q
 abbrev pub IsBetter : List Point → Point → Point → ℕ → Option ℕ → Type 0
-IsBetter points p q v r = OnSegment (whole p) (whole q) (place points v) × IsNearerVertex points p v r
+IsBetter points p q v r = OnSegment (whole p) (whole q) (place points v)
+    × IsNearerVertex points p v r

@@ -13,9 +13,10 @@ use Rattle.delaunay_lines.specs.declared.intersection.FixedIntersection.{FixedIn
 use Rattle.delaunay_lines.specs.declared.intersection.FixedIntersection.TheVariants.{Edge}
 use Rattle.delaunay_lines.specs.Items.{item_of, IsHandleOf}
 
--- the mesh of a triangulation whose vertices are sites, and two covered points, the ends of a segment
-pub record IsOverMesh {V D U F : Type 0} (at : V → Point) (IsSite IsCovered : Point → Type 0) (c : Contents V D U F)
-    (p q : Point) : Type 0 where
+-- the mesh of a triangulation whose vertices are sites, and two covered points, the ends of a
+-- segment
+pub record IsOverMesh {V D U F : Type 0} (at : V → Point) (IsSite IsCovered : Point → Type 0)
+    (c : Contents V D U F) (p q : Point) : Type 0 where
   pub mesh : IsMeshWithData c
   pub shape : IsMesh (map at c.vertices) (faces_of c.mesh) (outer_of c.mesh)
   pub sites : All IsSite (map at c.vertices)
@@ -24,26 +25,32 @@ pub record IsOverMesh {V D U F : Type 0} (at : V → Point) (IsSite IsCovered : 
 
 -- q is on the left of directed edge h
 abbrev pub IsLeftOf : List Point → Mesh → Point → ℕ → Type 0
-IsLeftOf points m q h = TurnsLeft (place points (origin m h)) (place points (origin m (rev h))) (whole q)
+IsLeftOf points m q h =
+    TurnsLeft (place points (origin m h)) (place points (origin m (rev h))) (whole q)
 
 -- of the items that the segment from p to q meets, this comes next after item k, or k is the last
 abbrev pub IsNext : {V D U F : Type 0} → (V → Point) → Contents V D U F → Point → Point → Item →
     Option FixedIntersection → Type 0
-IsNext at c p q k r = MatchOption r (IsLast (drawn (map at c.vertices) c.mesh) (whole p) (whole q) k)
-    (λ n. IsHandleOf c n × ComesNext (drawn (map at c.vertices) c.mesh) (whole p) (whole q) k (item_of c.mesh n))
+IsNext at c p q k r =
+    MatchOption r (IsLast (drawn (map at c.vertices) c.mesh) (whole p) (whole q) k)
+    (λ n. IsHandleOf c n
+    × ComesNext (drawn (map at c.vertices) c.mesh) (whole p) (whole q) k (item_of c.mesh n))
 
 -- the other way of side h of a face, or nothing where q is on the left of h
-abbrev pub LeavesBy : {V D U F : Type 0} → (V → Point) → Contents V D U F → Point → ℕ → Option FixedIntersection →
+abbrev pub LeavesBy : {V D U F : Type 0} → (V → Point) → Contents V D U F → Point → ℕ
+    → Option FixedIntersection →
     Type 0
 LeavesBy at c q h r = MatchOption r (IsLeftOf (map at c.vertices) c.mesh q h)
-    (λ n. (n ≡ Edge (rev h)) × (rev h < length c.directed) × (¬ IsLeftOf (map at c.vertices) c.mesh q h))
+    (λ n. (n ≡ Edge (rev h)) × (rev h < length c.directed)
+    × (¬ IsLeftOf (map at c.vertices) c.mesh q h))
 
 -- q lies in the direction of directed edge h from where it starts
 abbrev pub IsEdgeAhead : List Point → Mesh → Point → ℕ → Type 0
-IsEdgeAhead points m q h = IsAhead (place points (origin m h)) (place points (origin m (rev h))) (whole q)
+IsEdgeAhead points m q h =
+    IsAhead (place points (origin m h)) (place points (origin m (rev h))) (whole q)
 
--- directed edge h has an inner face on its left, and q is strictly between the two sides of this face that start where
--- h does
+-- directed edge h has an inner face on its left, and q is strictly between the two sides of this
+-- face that start where h does
 pub record IsInCone (points : List Point) (m : Mesh) (q : Point) (h : ℕ) : Type 0 where
   pub inner : 0 < face m h
   pub left : IsLeftOf points m q h

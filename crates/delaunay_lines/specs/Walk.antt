@@ -1,5 +1,6 @@
 -- What is left of the walk along a segment over a mesh.
-use Rattle.std.specs.Prelude.{◌≡◌, ℕ, ◌+◌, ◌≤◌, List, [], ◌∷◌, ℤ, length, map, Option, Some, None, MatchOption}
+use Rattle.std.specs.Prelude.{◌≡◌, ◌+◌, ◌≤◌, [], ◌∷◌}
+use Rattle.std.specs.Prelude.{ℕ, List, ℤ, length, map, Option, Some, None, MatchOption}
 use Rattle.half_edge_mesh.specs.Contents.{Contents}
 use Rattle.plane.specs.Fraction.{Point, whole}
 use Rattle.plane.specs.Tiling.{Triangulation}
@@ -16,13 +17,15 @@ use Rattle.delaunay_lines.specs.Items.{item_of, item_in, mesh_of, IsHandleOf}
 use Rattle.delaunay_lines.specs.Steps.{IsOverMesh}
 
 -- of the line list from p to q these items come after item k; from a point to itself none does
-pub record ComeAfter (t : Triangulation) (p q : Point) (k : Item) (others : List Item) : Type 0 where
+pub record ComeAfter (t : Triangulation) (p q : Point) (k : Item)
+    (others : List Item) : Type 0 where
   pub met : ¬ (p ≡ q) → Meets t (whole p) (whole q) k
   pub goes_on : ¬ (p ≡ q) → GoesOn t (whole p) (whole q) k others
   pub alone : p ≡ q → others ≡ []
 
 -- these items are the one that the handle names and those after it; without a handle, none
-abbrev pub AreFrom : {V D U F : Type 0} → (V → Point) → Contents V D U F → Point → Point → Option FixedIntersection →
+abbrev pub AreFrom : {V D U F : Type 0} → (V → Point) → Contents V D U F → Point → Point
+    → Option FixedIntersection →
     List Item → Type 0
 AreFrom at c p q None items = items ≡ []
 AreFrom at c p q (Some i) items = IsHandleOf c i ×
@@ -38,12 +41,14 @@ pub record Starts {V D U F : Type 0} (at : V → Point) (c : Contents V D U F) (
   pub few : length items ≤ length c.vertices + length c.undirected
 
 -- these items are left of an iterator
-abbrev pub AreLeft : {V D U F P S : Type 0} → (V → Point) → (S → ℤ) → LineIntersectionIterator V D U F P S → List Item →
+abbrev pub AreLeft : {V D U F P S : Type 0} → (V → Point) → (S → ℤ)
+    → LineIntersectionIterator V D U F P S → List Item →
     Type 0
-AreLeft at number it items = AreFrom at it.dcel.now (place_of number it.from) (place_of number it.to) it.current items
+AreLeft at number it items =
+    AreFrom at it.dcel.now (place_of number it.from) (place_of number it.to) it.current items
 
--- a call gives the first of the items that are left, as a part of the same mesh, and leaves the others; or nothing is
--- left
+-- a call gives the first of the items that are left, as a part of the same mesh, and leaves the
+-- others; or nothing is left
 pub record GivesNext {V D U F P S : Type 0} (at : V → Point) (number : S → ℤ)
     (it : LineIntersectionIterator V D U F P S) (r : Option (Intersection V D U F))
     (after : LineIntersectionIterator V D U F P S) : Type 0 where
@@ -53,26 +58,27 @@ pub record GivesNext {V D U F P S : Type 0} (at : V → Point) (number : S → �
       (λ x. (mesh_of x ≡ it.dcel) × ((others : List Item) × (items ≡ item_in x ∷ others) ×
       AreLeft at number after others))
 
--- an iterator over a mesh whose vertices are sites of its tests, which cover its ends; some items are left, no more
--- than it counts
-pub record IsReady {V D U F P S : Type 0} (at : V → Point) (number : S → ℤ) (IsSite IsCovered : P → Point → Type 0)
-    (it : LineIntersectionIterator V D U F P S) : Type 0 where
-  pub over : IsOverMesh at (IsSite it.tests.now) (IsCovered it.tests.now) it.dcel.now (place_of number it.from)
-      (place_of number it.to)
+-- an iterator over a mesh whose vertices are sites of its tests, which cover its ends; some items
+-- are left, no more than it counts
+pub record IsReady {V D U F P S : Type 0} (at : V → Point) (number : S → ℤ) (IsSite IsCovered : P
+    → Point → Type 0) (it : LineIntersectionIterator V D U F P S) : Type 0 where
+  pub over : IsOverMesh at (IsSite it.tests.now) (IsCovered it.tests.now) it.dcel.now
+      (place_of number it.from) (place_of number it.to)
   pub items : List Item
   pub are_left : AreLeft at number it items
   pub few : length items ≤ it.left
 
 -- the line list from p to q in a triangulation is left of the iterator, which is over its mesh
-pub record WalksLine {V D U F P S : Type 0} (at : V → Point) (number : S → ℤ) (s : State V D U F) (p q : Point)
-    (it : LineIntersectionIterator V D U F P S) : Type 0 where
+pub record WalksLine {V D U F P S : Type 0} (at : V → Point) (number : S → ℤ) (s : State V D U F)
+    (p q : Point) (it : LineIntersectionIterator V D U F P S) : Type 0 where
   pub state : state_of it.dcel.now ≡ s
   pub items : List Item
   pub line_list : IsLineList (triangulation_of at s) (whole p) (whole q) items
   pub are_left : AreLeft at number it items
 
 -- the same from vertex i to vertex j
-abbrev pub WalksBetween : {V D U F P S : Type 0} → (V → Point) → (S → ℤ) → State V D U F → (i j : ℕ) →
+abbrev pub WalksBetween : {V D U F P S : Type 0} → (V → Point) → (S → ℤ)
+    → State V D U F → (i j : ℕ) →
     LineIntersectionIterator V D U F P S → Type 0
 WalksBetween at number s i j it =
     WalksLine at number s (point_at (map at s.vertices) i) (point_at (map at s.vertices) j) it

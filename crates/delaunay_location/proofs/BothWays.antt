@@ -1,13 +1,17 @@
--- Going through the edges of a vertex both ways at once, from a first one on until the two ways meet.
+-- Going through the edges of a vertex both ways at once, from a first one on until the two ways
+-- meet.
 use Rattle.std.proofs.Common.{◌≡◌, ◌≢◌, ℕ, zero, suc, ◌+◌, ◌-◌, ◌<◌, ◌≤◌, ◌==◌, true, false}
-use Rattle.std.proofs.Common.{length, map, Some, IsSome, IsNone, refl, sym, ap, ◌∙◌, subst, inl, inr, arith}
+use Rattle.std.proofs.Common.{◌∙◌}
+use Rattle.std.proofs.Common.{length, map, Some, IsSome, IsNone, refl, sym, ap, subst, inl, inr}
+use Rattle.std.proofs.Common.{arith}
 use Rattle.std.specs.List.{range_with_len}
 use Rattle.std.proofs.Math.Nat.{eq-or-lt_of_le}
 use Rattle.std.proofs.lemmas.Bool.{cases_lt}
 use Rattle.std.proofs.lemmas.Bool.{eq-eqb}
 use Rattle.std.proofs.lemmas.Bool.Decides.{eqb_tells}
 use Rattle.std.proofs.lemmas.List.FromFn.{length-map-range_with_len}
-use Rattle.half_edge_mesh.specs.Mesh.{Mesh, IsValidMesh, AreSoundLinks, origin, next, prev, rev, out_edge}
+use Rattle.half_edge_mesh.specs.Mesh.{Mesh, IsValidMesh, AreSoundLinks, origin, next, prev, rev}
+use Rattle.half_edge_mesh.specs.Mesh.{out_edge}
 use Rattle.half_edge_mesh.specs.Peel.{turn, spoke}
 use Rattle.half_edge_mesh.specs.Round.{IsRound}
 use Rattle.half_edge_mesh.specs.Rounds.{walk}
@@ -15,8 +19,9 @@ use Rattle.half_edge_links.proofs.Lists.Rev.{rev-rev}
 use Rattle.mesh_embedding.proofs.WorkLists.{contains_map_from, at_most_so_many}
 use Rattle.delaunay_legalization.proofs.Rounds.{round_at, spokes_once}
 
--- edges left and right of vertex v lie at two places of the round against the clock that begins with the first edge
--- and comes to it again, and P holds of all from the first to the one on the right and from the one on the left on
+-- edges left and right of vertex v lie at two places of the round against the clock that begins
+-- with the first edge and comes to it again, and P holds of all from the first to the one on the
+-- right and from the one on the left on
 pub record IsClosingIn (m : Mesh) (v first : ℕ) (P : ℕ → Type 0) (left right : ℕ) : Type 0 where
   pub count : ℕ
   pub round : IsRound m v first count
@@ -34,15 +39,16 @@ abbrev pub how_many_before : Mesh → ℕ → ℕ → ℕ
 how_many_before m first h = length (walk (turn m) h (length m.half_edges) first)
 
 -- a vertex that names no edge has none
-pub no_edges : (m : Mesh) → IsValidMesh m → (v h : ℕ) → IsNone (out_edge m v) → h < length m.half_edges
-    → origin m h ≢ v
+pub no_edges : (m : Mesh) → IsValidMesh m → (v h : ℕ) → IsNone (out_edge m v)
+    → h < length m.half_edges → origin m h ≢ v
 no_edges m valid v h none within starts =
-    let some = subst (λ (x : ℕ). IsSome (out_edge m x)) starts (valid.sound.edges h within).has_out in
+    let some =
+    subst (λ (x : ℕ). IsSome (out_edge m x)) starts (valid.sound.edges h within).has_out in
     absurd (cc (some, none))
 
 -- a vertex as a handle gave it names this edge
-pub named_first : (m seen : Mesh) (v vertex first edge : ℕ) → seen ≡ m → vertex ≡ v → out_edge seen vertex ≡ Some edge
-    → first ≡ edge → out_edge m v ≡ Some first
+pub named_first : (m seen : Mesh) (v vertex first edge : ℕ) → seen ≡ m → vertex ≡ v
+    → out_edge seen vertex ≡ Some edge → first ≡ edge → out_edge m v ≡ Some first
 named_first m seen v vertex first edge same at named is =
     (λ i. out_edge (sym same i) (sym at i)) ∙ named ∙ ap Some (sym is)
 
@@ -55,14 +61,16 @@ module _ (m : Mesh) (v first count : ℕ) (round : IsRound m v first count) wher
   count_fits : count ≤ length m.half_edges
   count_fits =
       let size = length-map-range_with_len (spoke m first) 0 count in
-      let fits = at_most_so_many (map (spoke m first) (range_with_len 0 count)) (length m.half_edges)
+      let fits =
+      at_most_so_many (map (spoke m first) (range_with_len 0 count)) (length m.half_edges)
       (spokes_once m v first count round) (λ k c.
       let y = contains_map_from (spoke m first) (range_with_len 0 count) k c in
       subst (λ (z : ℕ). z < length m.half_edges) y.2 (round.within y.0)) in
       omega (arith, size, fits)
 
   -- the edge before the i-th, clockwise
-  one_back : AreSoundLinks m → (i h : ℕ) → h ≡ spoke m first (suc i) → next m (rev h) ≡ spoke m first i
+  one_back : AreSoundLinks m → (i h : ℕ) → h ≡ spoke m first (suc i)
+      → next m (rev h) ≡ spoke m first i
   one_back sound i h here =
       ap (λ k. next m (rev k)) here ∙ ap (next m) (rev-rev (prev m (spoke m first i)))
       ∙ (sound.edges (spoke m first i) (round.within i)).next_prev
@@ -81,17 +89,21 @@ module _ (m : Mesh) (v first count : ℕ) (round : IsRound m v first count) wher
   walk_length n k i h zero here is among enough = absurd (omega (arith, enough))
   walk_length zero k i h (suc f) here is among enough =
       let q : suc k ≡ i = omega (arith, is) in
-      let home : turn m (spoke m first k) == h ≡ true = eq-eqb _ _ (ap (spoke m first) q ∙ sym here) in
+      let home : turn m (spoke m first k) == h ≡ true =
+      eq-eqb _ _ (ap (spoke m first) q ∙ sym here) in
       rw home refl
-  walk_length (suc n) k i h (suc f) here is among enough = elim (eqb_tells (turn m (spoke m first k)) h) [
-    | inl q ↦ absurd (apart_from (suc k) i (omega arith) (omega (arith, is)) among (q.1 ∙ here))
-    | inr q ↦
-        let away : turn m (spoke m first k) == h ≡ false = q.0 in
-        rw away (ap suc (walk_length n (suc k) i h f here (omega (arith, is)) among (omega (arith, enough))))
-  ]
+  walk_length (suc n) k i h (suc f) here is among enough =
+      elim (eqb_tells (turn m (spoke m first k)) h) [
+        | inl q ↦ absurd (apart_from (suc k) i (omega arith) (omega (arith, is)) among (q.1 ∙ here))
+        | inr q ↦
+            let away : turn m (spoke m first k) == h ≡ false = q.0 in
+            rw away (ap suc
+            (walk_length n (suc k) i h f here (omega (arith, is)) among (omega (arith, enough))))
+      ]
 
   -- so many edges come before the i-th
-  so_many_before : (i h : ℕ) → h ≡ spoke m first i → 0 < i → i ≤ count → how_many_before m first h ≡ i
+  so_many_before : (i h : ℕ) → h ≡ spoke m first i → 0 < i → i ≤ count
+      → how_many_before m first h ≡ i
   so_many_before zero h here some among = absurd (omega (arith, some))
   so_many_before (suc n) h here some among =
       walk_length n 0 (suc n) h (length m.half_edges) here (omega arith) among
@@ -113,7 +125,8 @@ module _ (m : Mesh) (valid : IsValidMesh m) (v first : ℕ) (P : ℕ → Type 0)
         at_right = refl;
         above = λ j over under. subst P (sym (comes_again m v first r.0 r.1)
             ∙ ap (spoke m first) (let q : r.0 ≡ j = omega (arith, over, under) in q)) seen;
-        below = λ j under. subst P (ap (spoke m first) (let q : 0 ≡ j = omega (arith, under) in q)) seen;
+        below = λ j under. subst P
+            (ap (spoke m first) (let q : 0 ≡ j = omega (arith, under) in q)) seen;
       }
 
   module _ (left right : ℕ) (w : IsClosingIn m v first P left right) where
@@ -122,7 +135,8 @@ module _ (m : Mesh) (valid : IsValidMesh m) (v first : ℕ) (P : ℕ → Type 0)
     left_within = subst (λ (k : ℕ). k < length m.half_edges) (sym w.at_left) (w.round.within w.high)
 
     pub right_within : right < length m.half_edges
-    right_within = subst (λ (k : ℕ). k < length m.half_edges) (sym w.at_right) (w.round.within w.low)
+    right_within =
+        subst (λ (k : ℕ). k < length m.half_edges) (sym w.at_right) (w.round.within w.low)
 
     -- the place of the edge after the left one, clockwise
     one_less : ℕ
@@ -134,7 +148,8 @@ module _ (m : Mesh) (valid : IsValidMesh m) (v first : ℕ) (P : ℕ → Type 0)
 
     next_left : next m (rev left) ≡ spoke m first one_less
     next_left =
-        one_back m v first w.count w.round valid.sound one_less left (w.at_left ∙ ap (spoke m first) place_is)
+        one_back m v first w.count w.round valid.sound one_less left
+        (w.at_left ∙ ap (spoke m first) place_is)
 
     less_among : one_less ≤ w.count
     less_among = let among = w.among in omega (arith, among, place_is)
@@ -154,7 +169,8 @@ module _ (m : Mesh) (valid : IsValidMesh m) (v first : ℕ) (P : ℕ → Type 0)
     right_starts = ap (origin m) next_right ∙ w.round.starts (suc w.low)
 
     -- where no edge is left between them all edges of the vertex were seen
-    module _ (closed : w.high ≤ suc w.low) (g : ℕ) (within : g < length m.half_edges) (starts : origin m g ≡ v) where
+    module _ (closed : w.high ≤ suc w.low) (g : ℕ) (within : g < length m.half_edges)
+        (starts : origin m g ≡ v) where
       any : (i : ℕ) → i < w.count → P (spoke m first i)
       any i among = elim (cases_lt w.low i) [
         | inl over ↦ w.above i (omega (arith, over, closed)) (omega (arith, among))
@@ -165,17 +181,21 @@ module _ (m : Mesh) (valid : IsValidMesh m) (v first : ℕ) (P : ℕ → Type 0)
       all_seen = let i = w.round.all g within starts in subst P (sym i.2) (any i.0 i.1)
 
     -- so it is where the next edge on one way is that of the other
-    pub seen_where_left_meets : next m (rev left) ≡ right → (g : ℕ) → g < length m.half_edges → origin m g ≡ v → P g
+    pub seen_where_left_meets : next m (rev left) ≡ right → (g : ℕ) → g < length m.half_edges
+        → origin m g ≡ v → P g
     seen_where_left_meets same = all_seen (elim (eq-or-lt_of_le not_passed) [
       | inl e ↦ omega (arith, e, place_is)
-      | inr less ↦ absurd (w.round.apart w.low one_less less (let among = w.among in omega (arith, among, place_is))
+      | inr less ↦ absurd
+          (w.round.apart w.low one_less less (let among = w.among in omega (arith, among, place_is))
           (sym w.at_right ∙ sym same ∙ next_left))
     ])
 
-    pub seen_where_right_meets : rev (prev m right) ≡ left → (g : ℕ) → g < length m.half_edges → origin m g ≡ v → P g
+    pub seen_where_right_meets : rev (prev m right) ≡ left → (g : ℕ) → g < length m.half_edges
+        → origin m g ≡ v → P g
     seen_where_right_meets same = all_seen (elim (eq-or-lt_of_le w.order) [
       | inl e ↦ omega (arith, e)
-      | inr less ↦ absurd (apart_from m v first w.count w.round (suc w.low) w.high (omega arith) less w.among
+      | inr less ↦
+          absurd (apart_from m v first w.count w.round (suc w.low) w.high (omega arith) less w.among
           (sym next_right ∙ same ∙ w.at_left))
     ])
 
@@ -209,13 +229,16 @@ module _ (m : Mesh) (valid : IsValidMesh m) (v first : ℕ) (P : ℕ → Type 0)
       fewer_before =
           let less = still_apart in
           let among = w.among in
-          let new = so_many_before m v first w.count w.round one_less l (is ∙ next_left) (omega (arith, less))
+          let new = so_many_before m v first w.count w.round one_less l (is ∙ next_left)
+          (omega (arith, less))
           less_among in
-          let old = so_many_before m v first w.count w.round w.high left w.at_left (omega (arith, place_is)) among in
+          let old = so_many_before m v first w.count w.round w.high left w.at_left
+          (omega (arith, place_is)) among in
           omega (arith, new, old, place_is)
 
     -- so does the right one
-    pub right_goes_on : (r : ℕ) → r ≡ rev (prev m right) → r ≢ left → P r → IsClosingIn m v first P left r
+    pub right_goes_on : (r : ℕ) → r ≡ rev (prev m right) → r ≢ left → P r
+        → IsClosingIn m v first P left r
     right_goes_on r is away seen = record {
       count = w.count;
       round = w.round;

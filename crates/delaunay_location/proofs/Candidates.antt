@@ -1,5 +1,7 @@
 -- Candidates for the vertex that is nearest to a position.
-use Rattle.std.proofs.Common.{◌≡◌, ◌⊎◌, ℕ, ◌<◌, List, length, map, sym, ap, ◌∙◌, subst, inl, inr, to_z, of_z, w64, arith}
+use Rattle.std.proofs.Common.{◌≡◌, ◌⊎◌, ◌<◌, ◌∙◌}
+use Rattle.std.proofs.Common.{ℕ, List, length, map, sym, ap, subst, inl, inr, to_z, of_z, w64}
+use Rattle.std.proofs.Common.{arith}
 use Rattle.std.proofs.lemmas.List.{length-map}
 use Rattle.std.proofs.lemmas.List.Elements.{All-get_or, All-map}
 use Rattle.std.specs.Prelude.{pos, ◌<ℤ◌}
@@ -15,7 +17,8 @@ use Rattle.delaunay_core.proofs.Projections.{gap_passes}
 use Rattle.delaunay_legalization.specs.Known.{point_at}
 use Rattle.delaunay_legalization.specs.Shape.{IsTriangulated}
 use Rattle.delaunay_legalization.specs.State.{State}
-use Rattle.delaunay_location.specs.Candidate.{EndsNoNearer, IsCandidate, IsCandidateFrom, IsNearerCandidate}
+use Rattle.delaunay_location.specs.Candidate.{EndsNoNearer, IsCandidate, IsCandidateFrom}
+use Rattle.delaunay_location.specs.Candidate.{IsNearerCandidate}
 use Rattle.delaunay_location.specs.declared.nearest_walk.Candidate.{Candidate}
 
 module _ (points : List Point) (m : Mesh) (p : Point) where
@@ -23,34 +26,41 @@ module _ (points : List Point) (m : Mesh) (p : Point) where
   nearer_by_gap : (v w : ℕ) → gap (whole p) (place points v) <ℤ gap (whole p) (place points w)
       → IsNearer (whole p) (place points v) (place points w)
   nearer_by_gap v w less =
-      record { nearer = less_with_ones (gap (whole p) (place points v)) (gap (whole p) (place points w)) less }
+      record {
+        nearer =
+            less_with_ones (gap (whole p) (place points v)) (gap (whole p) (place points w)) less;
+      }
 
   -- of three vertices that are nearer one by one the first is nearer than the last
   nearer_than_both : (u v w : ℕ) → IsNearer (whole p) (place points u) (place points v)
-      → IsNearer (whole p) (place points v) (place points w) → IsNearer (whole p) (place points u) (place points w)
+      → IsNearer (whole p) (place points v) (place points w)
+      → IsNearer (whole p) (place points u) (place points w)
   nearer_than_both u v w one two =
       let far = λ (i : ℕ). gap (whole p) (place points i) in
       nearer_by_gap u w (<ℤ-≤ℤ_trans (less_without_ones (far u) (far v) one.nearer)
       (less_is_at_most (less_without_ones (far v) (far w) two.nearer)))
 
-  module _ (e : ℕ) (c : Candidate) (is : c.spoke ≡ rev e)
-      (less : gap (whole p) (place points (origin m (rev e))) <ℤ gap (whole p) (place points (origin m e))) where
+  module _ (e : ℕ) (c : Candidate) (is : c.spoke ≡ rev e) (less : gap (whole p)
+      (place points (origin m (rev e))) <ℤ gap (whole p) (place points (origin m e))) where
     -- the other direction of an edge that ends nearer ends no nearer
     back_no_nearer : EndsNoNearer points m p c.spoke
     back_no_nearer = subst (EndsNoNearer points m p) (sym is) (λ back.
-        let again = subst (λ h. gap (whole p) (place points (origin m h)) <ℤ gap (whole p) (place points (origin m (rev e))))
+        let again = subst (λ h. gap (whole p) (place points (origin m h))
+        <ℤ gap (whole p) (place points (origin m (rev e))))
         (rev-rev e) back in at_most_and_more _ _ (less_is_at_most less) again)
 
     -- the end of such an edge is a nearer candidate
     pub candidate_at_end : rev e < length m.half_edges
-        → c.distance_2 ≡ gap (whole p) (place points (origin m (rev e))) → IsNearerCandidate points m p (origin m e) c
+        → c.distance_2 ≡ gap (whole p) (place points (origin m (rev e)))
+        → IsNearerCandidate points m p (origin m e) c
     candidate_at_end within distance = record {
       candidate = record {
         within = subst (λ h. h < length m.half_edges) (sym is) within;
         distance = distance ∙ ap (λ h. gap (whole p) (place points (origin m h))) (sym is);
         ends = back_no_nearer;
       };
-      nearer = subst (λ h. IsNearer (whole p) (place points (origin m h)) (place points (origin m e))) (sym is)
+      nearer = subst
+          (λ h. IsNearer (whole p) (place points (origin m h)) (place points (origin m e))) (sym is)
           (nearer_by_gap (origin m (rev e)) (origin m e) less);
     }
 
@@ -60,35 +70,40 @@ module _ (points : List Point) (m : Mesh) (p : Point) where
   nearer_than_same v w c same near = subst (λ x. IsNearerCandidate points m p x c) same near
 
   -- a nearer candidate is one to go on from
-  pub candidate_from_nearer : (v : ℕ) (c : Candidate) → IsNearerCandidate points m p v c → IsCandidateFrom points m p v c
+  pub candidate_from_nearer : (v : ℕ) (c : Candidate) → IsNearerCandidate points m p v c
+      → IsCandidateFrom points m p v c
   candidate_from_nearer v c near = record { candidate = near.candidate; nearer = inr near.nearer }
 
   -- a candidate to go on from at a vertex is one to go on from where that vertex is no farther
-  pub candidate_from_other : (v w : ℕ) (c : Candidate) → IsCandidateFrom points m p w c
-      → (w ≡ v) ⊎ IsNearer (whole p) (place points w) (place points v) → IsCandidateFrom points m p v c
+  pub candidate_from_other : (v w : ℕ) (c : Candidate) → IsCandidateFrom points m p w c → (w ≡ v)
+      ⊎ IsNearer (whole p) (place points w) (place points v) → IsCandidateFrom points m p v c
   candidate_from_other v w c from other = record {
     candidate = from.candidate;
     nearer = elim other [
-      | inl same ↦ subst (λ x. (origin m c.spoke ≡ x) ⊎ IsNearer (whole p) (place points (origin m c.spoke))
+      | inl same ↦
+          subst (λ x. (origin m c.spoke ≡ x) ⊎ IsNearer (whole p) (place points (origin m c.spoke))
           (place points x)) same from.nearer
       | inr nearer ↦ elim from.nearer [
-        | inl here ↦ inr (subst (λ x. IsNearer (whole p) (place points x) (place points v)) (sym here) nearer)
+        | inl here ↦ inr
+            (subst (λ x. IsNearer (whole p) (place points x) (place points v)) (sym here) nearer)
         | inr still ↦ inr (nearer_than_both (origin m c.spoke) w v still nearer)
       ]
     ];
   }
 
 -- a candidate in the mesh of a triangulation is one of its vertices
-pub vertex_within : {V D U F : Type 0} (at : V → Point) (s : State V D U F) → IsTriangulated at s → (p : Point)
-    (c : Candidate) → IsCandidate (map at s.vertices) s.mesh p c → origin s.mesh c.spoke < length (map at s.vertices)
+pub vertex_within : {V D U F : Type 0} (at : V → Point) (s : State V D U F) → IsTriangulated at s
+    → (p : Point) (c : Candidate) → IsCandidate (map at s.vertices) s.mesh p c
+    → origin s.mesh c.spoke < length (map at s.vertices)
 vertex_within at s kept p c is =
     let w = (kept.valid.sound.edges c.spoke is.within).origin_in in
     let fit = kept.fits.vertices_fit in
     omega (arith, w, fit, length-map s.vertices at)
 
 -- its squared distance, read as 64 bits, is that of where an edge of its vertex starts
-pub distance_read : {V D U F : Type 0} (at : V → Point) (s : State V D U F) → IsTriangulated at s → (p : Point) → InRange p
-    → (c : Candidate) → IsCandidate (map at s.vertices) s.mesh p c → (h : ℕ) → origin s.mesh h ≡ origin s.mesh c.spoke
+pub distance_read : {V D U F : Type 0} (at : V → Point) (s : State V D U F) → IsTriangulated at s
+    → (p : Point) → InRange p → (c : Candidate) → IsCandidate (map at s.vertices) s.mesh p c
+    → (h : ℕ) → origin s.mesh h ≡ origin s.mesh c.spoke
     → to_z w64 (of_z w64 c.distance_2) ≡ gap (whole p) (place (map at s.vertices) (origin s.mesh h))
 distance_read at s kept p in_range c is h same =
     let points = map at s.vertices in

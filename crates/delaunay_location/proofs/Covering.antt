@@ -12,25 +12,28 @@ use Rattle.delaunay_location.specs.declared.steps.Stop.{Stop}
 use Rattle.delaunay_location.specs.Search.{IsSearch}
 use Rattle.delaunay_location.specs.Stop.{IsStopOf}
 
-module _ {V D U F P S : Type 0} (at : V → Point) (number : S → ℤ) (IsSite IsCovered : P → Point → Type 0)
-    (covers : (t : P) → (p : Point) → IsSite t p → IsCovered t p) (s : Search V D U F P S)
+module _ {V D U F P S : Type 0} (at : V → Point) (number : S → ℤ) (IsSite IsCovered : P → Point
+    → Type 0) (covers : (t : P) → (p : Point) → IsSite t p → IsCovered t p) (s : Search V D U F P S)
     (search : IsSearch at number IsSite IsCovered s) where
   -- the position of a vertex is covered
   pub vertex_covered : (i : ℕ) (q : Point) → i < length (map at s.dcel.now.vertices)
       → q ≡ point_at (map at s.dcel.now.vertices) i → IsCovered s.tests.now q
   vertex_covered i q h e =
       let t = s.tests.now in
-      covered_at (IsCovered t) (IsSite t) (covers t) (map at s.dcel.now.vertices) i q search.sites h e
+      covered_at (IsCovered t) (IsSite t) (covers t)
+      (map at s.dcel.now.vertices) i q search.sites h e
 
   -- so is a position that is listed
-  pub listed_covered : (q : Point) → Contains (map at s.dcel.now.vertices) q → IsCovered s.tests.now q
+  pub listed_covered : (q : Point) → Contains (map at s.dcel.now.vertices) q
+      → IsCovered s.tests.now q
   listed_covered q c =
       let t = s.tests.now in
       covered_in (IsCovered t) (IsSite t) (covers t) (map at s.dcel.now.vertices) q search.sites c
 
   -- and so are the ends of the edge where a walk is
-  pub ends_covered : (stop : Stop S) → IsStopOf at number s stop →
-      IsCovered s.tests.now (place_of number stop.from) × IsCovered s.tests.now (place_of number stop.to)
+  pub ends_covered : (stop : Stop S) → IsStopOf at number s stop
+      → IsCovered s.tests.now (place_of number stop.from)
+      × IsCovered s.tests.now (place_of number stop.to)
   ends_covered stop h =
       let edge = mesh_edge at (state_of s.dcel.now) search.kept stop.edge h.within in
       (vertex_covered _ _ edge.source h.from, vertex_covered _ _ edge.target h.to)

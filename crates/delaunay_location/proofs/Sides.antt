@@ -1,4 +1,5 @@
--- The sides of the face on the left of an edge: the edges beyond them, and when a position is inside it.
+-- The sides of the face on the left of an edge: the edges beyond them, and when a position is
+-- inside it.
 use Rattle.std.proofs.Common.{◌≡◌, ◌⊎◌, ℕ, ◌<◌, ◌≤◌, List, length, map}
 use Rattle.std.proofs.Common.{sym, ap, ◌∙◌, subst, inl, inr, arith}
 use Rattle.std.specs.Prelude.{ℤ}
@@ -33,8 +34,10 @@ module _ {V D U F : Type 0} (at : V → Point) (s : State V D U F) (kept : IsTri
   half_edge_in e w = let f = kept.fits.directed_fit in omega (arith, f, w)
 
   -- the other direction of an edge, with the positions of its ends
-  pub across_edge : {S : Type 0} (number : S → ℤ) (e : ℕ) (from to : Point2 S) → e < length s.directed
-      → place_of number from ≡ point_at points (origin m e) → place_of number to ≡ point_at points (origin m (rev e))
+  pub across_edge : {S : Type 0} (number : S → ℤ) (e : ℕ) (from to : Point2 S)
+      → e < length s.directed
+      → place_of number from ≡ point_at points (origin m e)
+      → place_of number to ≡ point_at points (origin m (rev e))
       → IsStop number points m (length s.directed) (record { edge = rev e; from = to; to = from })
   across_edge number e from to w starts ends = record {
     within =
@@ -48,8 +51,9 @@ module _ {V D U F : Type 0} (at : V → Point) (s : State V D U F) (kept : IsTri
   -- a position that was found strictly on the left of an edge is there
   pub left_of_stop : {S : Type 0} (number : S → ℤ) (p : Point) (stop : Stop S)
       → IsStop number points m (length s.directed) stop → (found : Side)
-      → found ≡ side (whole (place_of number stop.from)) (whole (place_of number stop.to)) (whole p) → found ≡ left
-      → TurnsLeft (place points (origin m stop.edge)) (place points (origin m (rev stop.edge))) (whole p)
+      → found ≡ side (whole (place_of number stop.from)) (whole (place_of number stop.to)) (whole p)
+      → found ≡ left → TurnsLeft (place points (origin m stop.edge))
+      (place points (origin m (rev stop.edge))) (whole p)
   left_of_stop number p stop h found is at_left = rw (← h.from, ← h.to) (sym is ∙ at_left)
 
   module _ (e : ℕ) (w : e < length s.directed) (inner : 0 < face m e) where
@@ -62,10 +66,12 @@ module _ {V D U F : Type 0} (at : V → Point) (s : State V D U F) (kept : IsTri
     next_starts = (kept.valid.sound.edges e round.h_in).starts
 
     next_ends : origin m (rev (next m e)) ≡ origin m (prev m e)
-    next_ends = sym (kept.valid.sound.edges (next m e) round.next_in).starts ∙ ap (origin m) round.next_next
+    next_ends = sym (kept.valid.sound.edges (next m e) round.next_in).starts
+        ∙ ap (origin m) round.next_next
 
     prev_ends : origin m (rev (prev m e)) ≡ origin m e
-    prev_ends = sym (kept.valid.sound.edges (prev m e) round.prev_in).starts ∙ ap (origin m) round.next_prev
+    prev_ends = sym (kept.valid.sound.edges (prev m e) round.prev_in).starts
+        ∙ ap (origin m) round.next_prev
 
     -- the edge after an edge of an inner face, with the positions of its ends
     pub next_side : {S : Type 0} (number : S → ℤ) (h : ℕ) (to corner : Point2 S) → h ≡ next m e
@@ -95,7 +101,8 @@ module _ {V D U F : Type 0} (at : V → Point) (s : State V D U F) (kept : IsTri
       IsLeft i j = TurnsLeft (place points i) (place points j) (whole p)
 
       abbrev IsLeftOfSides : ℕ → Type 0
-      IsLeftOfSides h = IsLeft (origin m h) (origin m (next m h)) × IsLeft (origin m (next m h)) (origin m (prev m h))
+      IsLeftOfSides h = IsLeft (origin m h) (origin m (next m h))
+          × IsLeft (origin m (next m h)) (origin m (prev m h))
           × IsLeft (origin m (prev m h)) (origin m h)
 
       face_in : face m e ≤ length s.faces
@@ -112,12 +119,15 @@ module _ {V D U F : Type 0} (at : V → Point) (s : State V D U F) (kept : IsTri
               ((face_edge m (face m e) ≡ next m e) ⊎ (face_edge m (face m e) ≡ prev m e))
               → IsLeftOfSides (face_edge m (face m e))
           go (inl i) = subst IsLeftOfSides (sym i) l
-          go (inr (inl i)) = subst IsLeftOfSides (sym i) (rw (round.next_next, round.prev_next) (l.1, l.2, l.0))
-          go (inr (inr i)) = subst IsLeftOfSides (sym i) (rw (round.next_prev, round.prev_prev) (l.2, l.0, l.1))
+          go (inr (inl i)) =
+              subst IsLeftOfSides (sym i) (rw (round.next_next, round.prev_next) (l.1, l.2, l.0))
+          go (inr (inr i)) =
+              subst IsLeftOfSides (sym i) (rw (round.next_prev, round.prev_prev) (l.2, l.0, l.1))
 
       inside_named : IsLeftOfSides e → IsInsideFaceOf points m p (face_edge m (face m e))
       inside_named l =
-          (inside_is_sides _ _ _ _ (mesh_face at s kept (face m e) inner face_in).turning).1 (named_sides l)
+          (inside_is_sides _ _ _ _ (mesh_face at s kept (face m e) inner face_in).turning).1
+          (named_sides l)
 
       -- p is strictly on the left of an edge
       abbrev IsLeftOf : ℕ → Type 0
@@ -131,8 +141,8 @@ module _ {V D U F : Type 0} (at : V → Point) (s : State V D U F) (kept : IsTri
       )
 
       -- a position strictly on the left of the three sides of an inner face is located in it
-      pub located_inside : (f g h : ℕ) → f ≡ face m e → AreOtherSides m e g h → IsLeftOf e → IsLeftOf g → IsLeftOf h
-          → Locates points m p (OnFace f)
+      pub located_inside : (f g h : ℕ) → f ≡ face m e → AreOtherSides m e g h → IsLeftOf e
+          → IsLeftOf g → IsLeftOf h → Locates points m p (OnFace f)
       located_inside f g h same others at_e at_g at_h =
           rw same (in_face at s kept p (face m e) inner face_in (inside_named (go others)))
         where

@@ -33,7 +33,8 @@ module _ {V D U F : Type 0} (at : V → Point) (s : State V D U F) (kept : IsTri
     where
       one : (a b : Location) → IsLocation (drawn points s.mesh) (whole p) a →
           IsLocation (drawn points s.mesh) (whole p) b → IsSameLocation a b
-      one = (each_point_has_one_location points (faces_of s.mesh) (outer_of s.mesh) (edges_of s.mesh) kept.shape
+      one = (each_point_has_one_location points (faces_of s.mesh) (outer_of s.mesh)
+          (edges_of s.mesh) kept.shape
           (own_edges s.mesh kept.valid) (whole p)).1
 
       there : (k : ℕ) → point_at points k ≡ p → IsSame (whole p) (whole (point_at points k))

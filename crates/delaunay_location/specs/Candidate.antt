@@ -12,14 +12,16 @@ module _ (points : List Point) (m : Mesh) (p : Point) where
   -- edge h does not end nearer to p than it starts
   abbrev pub EndsNoNearer : ℕ → Type 0
   EndsNoNearer h =
-      ¬ (gap (whole p) (place points (origin m (rev h))) <ℤ gap (whole p) (place points (origin m h)))
+      ¬ (gap (whole p) (place points (origin m (rev h)))
+      <ℤ gap (whole p) (place points (origin m h)))
 
   -- no neighbour of vertex v is nearer to p than it
   abbrev pub HasNoNearerNeighbor : ℕ → Type 0
   HasNoNearerNeighbor v =
       (k : ℕ) → IsEdge (drawn points m) v k → ¬ IsNearer (whole p) (place points k) (place points v)
 
-  -- it names an edge that does not end nearer to p than it starts, and has the start's squared distance
+  -- it names an edge that does not end nearer to p than it starts, and has the start's squared
+  -- distance
   pub record IsCandidate (c : Candidate) : Type 0 where
     pub within : c.spoke < length m.half_edges
     pub distance : c.distance_2 ≡ gap (whole p) (place points (origin m c.spoke))

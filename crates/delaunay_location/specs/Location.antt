@@ -6,7 +6,8 @@ use Rattle.plane.specs.Fraction.{Point, whole}
 use Rattle.plane.specs.Side.{TurnsLeft}
 use Rattle.plane.specs.Circle.{gap}
 use Rattle.plane.specs.Pairs.{place}
-use Rattle.plane.specs.Location.{Location, IsLocation, on_vertex, on_edge, on_face, outside_hull, no_triangulation}
+use Rattle.plane.specs.Location.{Location, IsLocation, on_vertex, on_edge, on_face, outside_hull}
+use Rattle.plane.specs.Location.{no_triangulation}
 use Rattle.delaunay_location.specs.declared.position_in_triangulation.PositionInTriangulation.{PositionInTriangulation}
 use Rattle.delaunay_location.specs.declared.position_in_triangulation.PositionInTriangulation.TheVariants.{OnVertex}
 use Rattle.delaunay_location.specs.declared.position_in_triangulation.PositionInTriangulation.TheVariants.{OnEdge}
@@ -33,14 +34,16 @@ HasHandle m (OutsideOfConvexHull e) = (e < length m.half_edges) × (face m e ≡
 HasHandle m NoTriangulation = Unit {0}
 
 -- the answer is where p is
-pub record Locates (points : List Point) (m : Mesh) (p : Point) (answer : PositionInTriangulation) : Type 0 where
+pub record Locates (points : List Point) (m : Mesh) (p : Point)
+    (answer : PositionInTriangulation) : Type 0 where
   pub handle : HasHandle m answer
   pub location : IsLocation (drawn points m) (whole p) (location_of m answer)
 
 -- directed edge e has the outer face on its left, and p strictly on its left
 abbrev IsLeftOfEdge : List Point → Mesh → Point → ℕ → Type 0
 IsLeftOfEdge points m p e =
-    (face m e ≡ 0) × TurnsLeft (place points (origin m e)) (place points (origin m (rev e))) (whole p)
+    (face m e ≡ 0)
+    × TurnsLeft (place points (origin m e)) (place points (origin m (rev e))) (whole p)
 
 -- p is neither
 pub record IsClearOfEdge (points : List Point) (m : Mesh) (p : Point) (e : ℕ) : Type 0 where

@@ -10,9 +10,10 @@ use Rattle.delaunay_location.specs.Location.{Locates, IsClearOfEdge}
 use Rattle.delaunay_location.specs.declared.position_in_triangulation.PositionInTriangulation.{PositionInTriangulation}
 use Rattle.delaunay_location.specs.declared.search.Search.{Search}
 
--- it is in the mesh of a triangulation whose vertices are sites of its tests, which cover the position
-pub record IsSearch {V D U F P S : Type 0} (at : V → Point) (number : S → ℤ) (IsSite IsCovered : P → Point → Type 0)
-    (s : Search V D U F P S) : Type 0 where
+-- it is in the mesh of a triangulation whose vertices are sites of its tests, which cover the
+-- position
+pub record IsSearch {V D U F P S : Type 0} (at : V → Point) (number : S → ℤ)
+    (IsSite IsCovered : P → Point → Type 0) (s : Search V D U F P S) : Type 0 where
   pub kept : IsTriangulated at (state_of s.dcel.now)
   pub sites : All (IsSite s.tests.now) (map at s.dcel.now.vertices)
   pub covered : IsCovered s.tests.now (place_of number s.point)

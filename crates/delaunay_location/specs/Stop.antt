@@ -14,7 +14,8 @@ use Rattle.delaunay_location.specs.declared.walk.Walked.{Walked}
 use Rattle.delaunay_location.specs.declared.walk.Walked.TheVariants.{Ended, Reached}
 
 -- one of the n directed edges of a mesh, with the positions of its ends
-pub record IsStop {S : Type 0} (number : S → ℤ) (points : List Point) (m : Mesh) (n : ℕ) (stop : Stop S) : Type 0 where
+pub record IsStop {S : Type 0} (number : S → ℤ) (points : List Point) (m : Mesh) (n : ℕ)
+    (stop : Stop S) : Type 0 where
   pub within : stop.edge < n
   pub from : place_of number stop.from ≡ point_at points (origin m stop.edge)
   pub to : place_of number stop.to ≡ point_at points (origin m (rev stop.edge))
@@ -31,7 +32,8 @@ module _ {V D U F P S : Type 0} (at : V → Point) (number : S → ℤ) (s : Sea
   -- on this side of it is the position
   abbrev pub IsSideAt : Stop S → Side → Type 0
   IsSideAt stop found =
-      found ≡ side (whole (place_of number stop.from)) (whole (place_of number stop.to)) (whole (place_of number s.point))
+      found ≡ side (whole (place_of number stop.from)) (whole (place_of number stop.to))
+      (whole (place_of number s.point))
 
   -- a step leads to such an edge, or to where the position is
   abbrev pub IsStepOf : Step S → Type 0

@@ -79,8 +79,8 @@ fn end_after<V, DE, UE, F>(
     edge.prev_from().fix()
 }
 
-// A candidate to begin with: a vertex, or a neighbour that is nearer. There is none where the vertex
-// has no edge.
+// A candidate to begin with: a vertex, or a neighbour that is nearer. There is none where the
+// vertex has no edge.
 fn first_candidate<V: HasPosition, DE, UE, F>(
     dcel: &Dcel<V, DE, UE, F>,
     from: FixedVertexHandle,
@@ -199,8 +199,8 @@ fn nearest_from<V: HasPosition, DE, UE, F>(
     dcel.directed_edge(nearest.spoke).from().fix()
 }
 
-/// The vertex that is nearest to a position, by a walk from `start` to nearer neighbours until there
-/// is none. It adds the number of its moves to `moves`: fewer than there are vertices.
+/// The vertex that is nearest to a position, by a walk from `start` to nearer neighbours until
+/// there is none. It adds the number of its moves to `moves`: fewer than there are vertices.
 pub fn nearest_by_neighbors<V: HasPosition, DE, UE, F>(
     dcel: &Dcel<V, DE, UE, F>,
     start: FixedVertexHandle,

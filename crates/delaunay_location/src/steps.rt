@@ -119,8 +119,8 @@ impl<'a, V: HasPosition, DE, UE, F, P: PlaneTests<V::Scalar>> Search<'a, V, DE, 
         Step::OnSide
     }
 
-    // The way from the inner face on the left of an edge to a position outside it: across a side that
-    // has the position strictly on its right.
+    // The way from the inner face on the left of an edge to a position outside it: across a side
+    // that has the position strictly on its right.
     #[inline(always)]
     fn way_through(&self, stop: Stop<V::Scalar>) -> Step<V::Scalar>
         requires search { IsSearch V.place V.Scalar.whole P.sites P.covered self.now }
@@ -175,8 +175,8 @@ impl<'a, V: HasPosition, DE, UE, F, P: PlaneTests<V::Scalar>> Search<'a, V, DE, 
     // is on the left of the edge.
     //
     // A face near the hull is told apart before it is known which side leads on. So the records of
-    // both sides are asked for while the corner between them is on its way from memory, and the next
-    // step does not wait for its own.
+    // both sides are asked for while the corner between them is on its way from memory, and the
+    // next step does not wait for its own.
     #[inline(always)]
     pub(crate) fn way_out(&self, stop: Stop<V::Scalar>) -> Step<V::Scalar>
         requires search { IsSearch V.place V.Scalar.whole P.sites P.covered self.now }

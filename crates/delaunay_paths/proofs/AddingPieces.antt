@@ -1,5 +1,6 @@
 -- Pieces of a path that become edges and constraints, one after another.
-use Rattle.std.proofs.Common.{◌≡◌, ◌≢◌, ◌⊎◌, ◌↔◌, ℕ, ◌*◌, ◌/◌, ◌<◌, ◌≤◌, List, [], length, map, set, refl, sym, ap, ◌∙◌}
+use Rattle.std.proofs.Common.{◌≡◌, ◌≢◌, ◌⊎◌, ◌↔◌, ◌*◌, ◌/◌, ◌<◌, ◌≤◌, [], ◌∙◌}
+use Rattle.std.proofs.Common.{ℕ, List, length, map, set, refl, sym, ap}
 use Rattle.std.proofs.Common.{subst, inl, inr, arith}
 use Rattle.std.specs.Prelude.{Bool, true, false, All, nat_abs}
 use Rattle.std.proofs.lemmas.List.{length-set}
@@ -16,7 +17,8 @@ use Rattle.plane_tiling.proofs.Totals.{Contains-none}
 use Rattle.plane_tiling.specs.Local.{IsMesh}
 use Rattle.plane_segments.specs.Constraints.{AreNextOn, ArePlacedApart}
 use Rattle.plane_segments.specs.Path.{IsFreeOfVertices}
-use Rattle.plane_segments.proofs.Constraints.Adding.{IsAddingPath, adding_begins, adding_goes_on, adding_ends}
+use Rattle.plane_segments.proofs.Constraints.Adding.{IsAddingPath, adding_begins, adding_goes_on}
+use Rattle.plane_segments.proofs.Constraints.Adding.{adding_ends}
 use Rattle.plane_segments.proofs.Constraints.Adding.{adding_adds, piece_is_clear}
 use Rattle.plane_segments.proofs.Crossing.PathFlips.{piece_is_free}
 use Rattle.plane_segments.proofs.Constraints.Shorter.{path_shortens}
@@ -55,9 +57,11 @@ turned_ends u v i j a b e f = (
 pub half_ends : (m : Mesh) (h i j a b : ℕ) → origin m h ≡ i → origin m (rev h) ≡ j →
     IsSamePair a b (origin m (2 * (h / 2))) (origin m (rev (2 * (h / 2)))) ↔ IsSamePair a b i j
 half_ends m h i j a b e f = elim (halved h) [
-  | inl k ↦ same_ends (origin m (2 * (h / 2))) (origin m (rev (2 * (h / 2)))) i j a b (ap (origin m) k ∙ e)
+  | inl k ↦ same_ends (origin m (2 * (h / 2))) (origin m (rev (2 * (h / 2)))) i j a b
+      (ap (origin m) k ∙ e)
       (ap (λ (x : ℕ). origin m (rev x)) k ∙ f)
-  | inr k ↦ turned_ends (origin m (2 * (h / 2))) (origin m (rev (2 * (h / 2)))) i j a b (ap (origin m) k ∙ f)
+  | inr k ↦ turned_ends (origin m (2 * (h / 2))) (origin m (rev (2 * (h / 2)))) i j a b
+      (ap (origin m) k ∙ f)
       (ap (λ (x : ℕ). origin m (rev x)) k ∙ ap (origin m) (rev-rev h) ∙ e)
 ]
 
@@ -66,17 +70,20 @@ half_ends m h i j a b e f = elim (halved h) [
 abbrev AddsPair : List (ℕ × ℕ) → List (ℕ × ℕ) → ℕ → ℕ → Type 0
 AddsPair old new i j = (a b : ℕ) → Joins new a b ↔ (Joins old a b ⊎ IsSamePair a b i j)
 
--- one piece became a constraint: the data of directed edges and of faces stay, and the number of edges
-pub record AddsPiece {V D U F : Type 0} (marks : U → Bool) (marked : U → U) (constraints : List U → List ℕ)
-    (old new : Contents V D U F) (i j : ℕ) : Type 0 where
+-- one piece became a constraint: the data of directed edges and of faces stay, and the number of
+-- edges
+pub record AddsPiece {V D U F : Type 0} (marks : U → Bool) (marked : U → U)
+    (constraints : List U → List ℕ) (old new : Contents V D U F) (i j : ℕ) : Type 0 where
   pub contents : new ≡ record old { mesh = new.mesh; undirected = new.undirected }
   pub count : length new.undirected ≡ length old.undirected
   pub marks_some : MarksSome marks marked old.undirected new.undirected
-  pub pair : AddsPair (constraints_by constraints (state_of old)) (constraints_by constraints (state_of new)) i j
+  pub pair : AddsPair (constraints_by constraints (state_of old))
+      (constraints_by constraints (state_of new)) i j
 
 -- a piece became a constraint, and each edge that may fail is left to test
 pub record LeavesPiece {V D U F : Type 0} (points : List Point) (marks : U → Bool) (marked : U → U)
-    (constraints : List U → List ℕ) (old new : Contents V D U F) (i j : ℕ) (was left : List ℕ) : Type 0 where
+    (constraints : List U → List ℕ) (old new : Contents V D U F) (i j : ℕ)
+    (was left : List ℕ) : Type 0 where
   pub adds : AddsPiece marks marked constraints old new i j
   pub mesh : IsMeshWithData new
   pub shape : IsMesh points (faces_of new.mesh) (outer_of new.mesh)
@@ -86,7 +93,8 @@ pub record LeavesPiece {V D U F : Type 0} (points : List Point) (marks : U → B
 module _ {U : Type 0} (marks : U → Bool) (constraints : List U → List ℕ)
     (marked : (ds : List U) → constraints ds ≡ marked_edges marks ds) where
   module _ {V D F : Type 0} (at : V → Point) (old mid new : Contents V D U F) (i j e k : ℕ)
-      (flipped : mid ≡ record old { mesh = mid.mesh }) (change : U → U) (written : HasEdgeData change mid new k) where
+      (flipped : mid ≡ record old { mesh = mid.mesh }) (change : U → U)
+      (written : HasEdgeData change mid new k) where
     abbrev entry : U
     entry = change written.value
 
@@ -101,8 +109,10 @@ module _ {U : Type 0} (marks : U → Bool) (constraints : List U → List ℕ)
 
     contents : new ≡ record old { mesh = new.mesh; undirected = new.undirected }
     contents =
-        written.whole ∙ ap (λ (c : Contents V D U F). record c { undirected = set mid.undirected k entry }) flipped
-        ∙ ap (λ (y : Mesh × List U). record old { mesh = y.0; undirected = y.1 }) (λ o. (sym mesh_is o, sym data_are o))
+        written.whole ∙ ap
+        (λ (c : Contents V D U F). record c { undirected = set mid.undirected k entry }) flipped
+        ∙ ap (λ (y : Mesh × List U). record old { mesh = y.0; undirected = y.1 })
+        (λ o. (sym mesh_is o, sym data_are o))
 
     count : length new.undirected ≡ length old.undirected
     count = ap length data_are ∙ length-set mid.undirected k entry ∙ ap length data_were
@@ -112,28 +122,31 @@ module _ {U : Type 0} (marks : U → Bool) (constraints : List U → List ℕ)
     piece_whole w = subst (λ (c : Contents V D U F). IsMeshWithData c) (sym written.whole)
         (record { valid = w.valid; fits = rw (length-set mid.undirected k entry) w.fits })
 
-    module _ (kept : KeepsUncrossed (map at old.vertices) old.mesh mid.mesh i j)
-        (clear : NoneCrosses (map at old.vertices) (constraints_by constraints (state_of old)) i j) where
-      stays : constraint_pairs constraints mid.mesh mid.undirected ≡ constraint_pairs constraints old.mesh
-          old.undirected
+    module _ (kept : KeepsUncrossed (map at old.vertices) old.mesh mid.mesh i j) (clear :
+        NoneCrosses (map at old.vertices) (constraints_by constraints (state_of old)) i j) where
+      stays : constraint_pairs constraints mid.mesh mid.undirected
+          ≡ constraint_pairs constraints old.mesh old.undirected
       stays = ap (constraint_pairs constraints mid.mesh) data_were
           ∙ pairs_stay marks constraints marked old.mesh mid.mesh old.undirected
           (λ l c. kept (2 * l) (clear (origin old.mesh (2 * l)) (origin old.mesh (rev (2 * l)))
           (joins_edge old.mesh (constraints old.undirected) l c)))
 
-      now_is : constraint_pairs constraints new.mesh new.undirected ≡ constraint_pairs constraints mid.mesh
-          (set mid.undirected k entry)
-      now_is = ap (λ (y : Mesh × List U). constraint_pairs constraints y.0 y.1) (λ o. (mesh_is o, data_are o))
+      now_is : constraint_pairs constraints new.mesh new.undirected
+          ≡ constraint_pairs constraints mid.mesh (set mid.undirected k entry)
+      now_is = ap (λ (y : Mesh × List U). constraint_pairs constraints y.0 y.1)
+          (λ o. (mesh_is o, data_are o))
 
       -- where edge e joins i and j and its data have the mark now, the piece between them is added
-      pub piece_added : (marked_as : U → U) → marks entry ≡ true → (entry ≡ written.value) ⊎
-          ((marks written.value ≡ false) × (entry ≡ marked_as written.value)) → origin mid.mesh e ≡ i →
-          origin mid.mesh (rev e) ≡ j → k ≡ e / 2 → AddsPiece marks marked_as constraints old new i j
+      pub piece_added : (marked_as : U → U) → marks entry ≡ true → (entry ≡ written.value)
+          ⊎ ((marks written.value ≡ false) × (entry ≡ marked_as written.value))
+          → origin mid.mesh e ≡ i → origin mid.mesh (rev e) ≡ j → k ≡ e / 2
+          → AddsPiece marks marked_as constraints old new i j
       piece_added marked_as mark same_as source target half = record {
         contents = contents;
         count = count;
         marks_some = subst (λ (x : List U × List U). MarksSome marks marked_as x.0 x.1)
-            (λ o. (data_were o, sym data_are o)) (marks_one marks marked_as mid.undirected k written.value entry
+            (λ o. (data_were o, sym data_are o))
+            (marks_one marks marked_as mid.undirected k written.value entry
             written.was same_as);
         pair = λ a b. (
           (λ h. elim ((joined a b).0 (subst (λ (ps : List (ℕ × ℕ)). Joins ps a b) now_is h)) [
@@ -147,20 +160,24 @@ module _ {U : Type 0} (marks : U → Bool) (constraints : List U → List ℕ)
         );
       }
         where
-          joined : (a b : ℕ) → Joins (constraint_pairs constraints mid.mesh (set mid.undirected k entry)) a b ↔
-              (Joins (constraint_pairs constraints mid.mesh mid.undirected) a b ⊎
-              IsSamePair a b (origin mid.mesh (2 * k)) (origin mid.mesh (rev (2 * k))))
-          joined = marking_joins marks constraints marked mid.undirected k written.value entry written.was mid.mesh mark
+          joined : (a b : ℕ)
+              → Joins (constraint_pairs constraints mid.mesh (set mid.undirected k entry)) a b
+              ↔ (Joins (constraint_pairs constraints mid.mesh mid.undirected) a b
+              ⊎ IsSamePair a b (origin mid.mesh (2 * k)) (origin mid.mesh (rev (2 * k))))
+          joined = marking_joins marks constraints marked mid.undirected k written.value entry
+              written.was mid.mesh mark
 
-          ends : (a b : ℕ) → IsSamePair a b (origin mid.mesh (2 * k)) (origin mid.mesh (rev (2 * k))) ↔
-              IsSamePair a b i j
-          ends a b = subst (λ (l : ℕ). IsSamePair a b (origin mid.mesh (2 * l)) (origin mid.mesh (rev (2 * l))) ↔
+          ends : (a b : ℕ)
+              → IsSamePair a b (origin mid.mesh (2 * k)) (origin mid.mesh (rev (2 * k)))
+              ↔ IsSamePair a b i j
+          ends a b = subst
+              (λ (l : ℕ). IsSamePair a b (origin mid.mesh (2 * l)) (origin mid.mesh (rev (2 * l))) ↔
               IsSamePair a b i j) (sym half) (half_ends mid.mesh e i j a b source target)
 
   -- ---- the loop
   -- the pieces from i to w are added, and those from w to j are to come
-  pub record IsAddingTo {V D F : Type 0} (at : V → Point) (marked_as : U → U) (old now : Contents V D U F)
-      (i j w : ℕ) : Type 0 where
+  pub record IsAddingTo {V D F : Type 0} (at : V → Point) (marked_as : U → U)
+      (old now : Contents V D U F) (i j w : ℕ) : Type 0 where
     pub contents : now ≡ record old { mesh = now.mesh; undirected = now.undirected }
     pub count : length now.undirected ≡ length old.undirected
     pub marks_some : MarksSome marks marked_as old.undirected now.undirected
@@ -170,8 +187,9 @@ module _ {U : Type 0} (marks : U → Bool) (constraints : List U → List ℕ)
         (constraints_by constraints (state_of now)) i j w
 
   -- at its start the path has no piece yet
-  pub adding_to_begins : {V D F : Type 0} (at : V → Point) (marked_as : U → U) (old : Contents V D U F) (i j : ℕ) →
-      IsTriangulated at (state_of old) → i < length old.vertices → IsAddingTo at marked_as old old i j i
+  pub adding_to_begins : {V D F : Type 0} (at : V → Point) (marked_as : U → U)
+      (old : Contents V D U F) (i j : ℕ) → IsTriangulated at (state_of old)
+      → i < length old.vertices → IsAddingTo at marked_as old old i j i
   adding_to_begins at marked_as old i j kept within = record {
     contents = refl;
     count = refl;
@@ -182,8 +200,9 @@ module _ {U : Type 0} (marks : U → Bool) (constraints : List U → List ℕ)
         (in_map at old.vertices i within);
   }
 
-  module _ {V D F : Type 0} (at : V → Point) (marked_as : U → U) (old now : Contents V D U F) (i j w : ℕ)
-      (hi : i < length old.vertices) (hj : j < length old.vertices) (p : IsAddingTo at marked_as old now i j w) where
+  module _ {V D F : Type 0} (at : V → Point) (marked_as : U → U) (old now : Contents V D U F)
+      (i j w : ℕ) (hi : i < length old.vertices) (hj : j < length old.vertices)
+      (p : IsAddingTo at marked_as old now i j w) where
     abbrev points : List Point
     points = map at old.vertices
 
@@ -192,13 +211,15 @@ module _ {U : Type 0} (marks : U → Bool) (constraints : List U → List ℕ)
     same = ap (λ (c : Contents V D U F). c.vertices) p.contents
 
     -- so they are sites if they were
-    pub adding_sites : (IsSite : Point → Type 0) → All IsSite (map at old.vertices) → All IsSite (map at now.vertices)
+    pub adding_sites : (IsSite : Point → Type 0) → All IsSite (map at old.vertices)
+        → All IsSite (map at now.vertices)
     adding_sites IsSite sites = subst (λ (vs : List V). All IsSite (map at vs)) (sym same) sites
 
     -- the mesh is one of all vertices
     pub adding_shape : IsMesh (map at now.vertices) (faces_of now.mesh) (outer_of now.mesh)
     adding_shape =
-        subst (λ (vs : List V). IsMesh (map at vs) (faces_of now.mesh) (outer_of now.mesh)) (sym same) p.shape
+        subst (λ (vs : List V). IsMesh (map at vs) (faces_of now.mesh) (outer_of now.mesh))
+        (sym same) p.shape
 
     -- a vertex of before is one now
     pub adding_index : (k : ℕ) → k < length old.vertices → k < length now.vertices
@@ -222,16 +243,19 @@ module _ {U : Type 0} (marks : U → Bool) (constraints : List U → List ℕ)
       ),
     )
       where
-        h : (e : ℕ) × (e < length now.mesh.half_edges) × (origin now.mesh e ≡ a) × (origin now.mesh (rev e) ≡ b)
+        h : (e : ℕ) × (e < length now.mesh.half_edges) × (origin now.mesh e ≡ a)
+            × (origin now.mesh (rev e) ≡ b)
         h = E.joins_edge now.mesh p.whole.valid.sound a b
-            (constraints_are_edges marks constraints marked now.mesh now.undirected p.whole.fits.undirected_fit
+            (constraints_are_edges marks constraints marked now.mesh now.undirected
+            p.whole.fits.undirected_fit
             p.whole.valid a b joined)
 
         edge : IsSoundEdge now.mesh h.0
         edge = p.whole.valid.sound.edges h.0 h.1
 
         twin : IsSoundEdge now.mesh (rev h.0)
-        twin = p.whole.valid.sound.edges (rev h.0) (rev_within h.0 (length now.mesh.half_edges) p.whole.valid.sound.even
+        twin = p.whole.valid.sound.edges (rev h.0)
+            (rev_within h.0 (length now.mesh.half_edges) p.whole.valid.sound.even
             h.1)
 
         there : (k : ℕ) → k < length now.mesh.out_edges → IsIndex points k
@@ -250,16 +274,18 @@ module _ {U : Type 0} (marks : U → Bool) (constraints : List U → List ℕ)
       pub adding_clear : CanAddPath at constraints old i j →
           NoneCrosses (map at now.vertices) (constraints_by constraints (state_of now)) w v
       adding_clear free =
-          subst (λ (vs : List V). NoneCrosses (map at vs) (constraints_by constraints (state_of now)) w v) (sym same)
+          subst (λ (vs : List V). NoneCrosses (map at vs)
+          (constraints_by constraints (state_of now)) w v) (sym same)
           (λ a b joined. let e = constraint_ends a b joined in
           piece_is_clear points distinct (constraints_by constraints (state_of old))
           (constraints_by constraints (state_of now)) i j w (in_map at old.vertices i hi)
           (in_map at old.vertices j hj) p.path v on_way next_here free a b joined e.0 e.1.0 e.1.1)
 
       -- with the next piece added the path reaches the next vertex
-      pub adding_to_goes_on : ((x : U) → marks (marked_as x) ≡ true) → (new : Contents V D U F) →
-          AddsPiece marks marked_as constraints now new w v → IsMeshWithData new →
-          IsMesh (map at now.vertices) (faces_of new.mesh) (outer_of new.mesh) → IsAddingTo at marked_as old new i j v
+      pub adding_to_goes_on : ((x : U) → marks (marked_as x) ≡ true) → (new : Contents V D U F)
+          → AddsPiece marks marked_as constraints now new w v → IsMeshWithData new
+          → IsMesh (map at now.vertices) (faces_of new.mesh) (outer_of new.mesh)
+          → IsAddingTo at marked_as old new i j v
       adding_to_goes_on has new adds whole shape = record {
         contents = adds.contents ∙ ap (λ (c : Contents V D U F). record c {
           mesh = new.mesh;
@@ -267,23 +293,27 @@ module _ {U : Type 0} (marks : U → Bool) (constraints : List U → List ℕ)
         }) p.contents;
         count = adds.count ∙ p.count;
         marks_some =
-            marks_more marks marked_as has old.undirected now.undirected new.undirected p.marks_some adds.marks_some;
+            marks_more marks marked_as has old.undirected now.undirected new.undirected p.marks_some
+            adds.marks_some;
         whole = whole;
-        shape = subst (λ (vs : List V). IsMesh (map at vs) (faces_of new.mesh) (outer_of new.mesh)) same shape;
+        shape = subst (λ (vs : List V). IsMesh (map at vs) (faces_of new.mesh) (outer_of new.mesh))
+            same shape;
         path = adding_goes_on points distinct (constraints_by constraints (state_of old))
             (constraints_by constraints (state_of now)) i j w (in_map at old.vertices i hi)
-            (in_map at old.vertices j hj) p.path v on_way next_here (constraints_by constraints (state_of new))
+            (in_map at old.vertices j hj) p.path v on_way next_here
+            (constraints_by constraints (state_of new))
             adds.pair;
       }
 
       -- from the next vertex the way to j is shorter
       pub adding_shortens : nat_abs (squared_way (point_of points v) (point_of points j))
           < nat_abs (squared_way (point_of points w) (point_of points j))
-      adding_shortens = path_shortens points w j v distinct p.path.within (in_map at old.vertices j hj) on_way next_here
+      adding_shortens = path_shortens points w j v distinct p.path.within
+          (in_map at old.vertices j hj) on_way next_here
 
     -- where j is reached, the path from i to j is added
-    pub adding_to_ends : w ≡ j → IsTriangulated at (state_of old) → CanAddPath at constraints old i j →
-        AddsPath at marks marked_as constraints old now i j
+    pub adding_to_ends : w ≡ j → IsTriangulated at (state_of old)
+        → CanAddPath at constraints old i j → AddsPath at marks marked_as constraints old now i j
     adding_to_ends is kept free = record {
       contents = p.contents;
       marks_some = p.marks_some;
@@ -295,7 +325,8 @@ module _ {U : Type 0} (marks : U → Bool) (constraints : List U → List ℕ)
       kept = record {
         in_range = subst (λ (vs : List V). All (λ v. InRange (at v)) vs) (sym same) kept.in_range;
         few_edges = rw (p.count, ap length same) kept.few_edges;
-        few_faces = rw (ap (λ (c : Contents V D U F). length c.faces) p.contents, ap length same) kept.few_faces;
+        few_faces = rw (ap (λ (c : Contents V D U F). length c.faces) p.contents, ap length same)
+            kept.few_faces;
         valid = p.whole.valid;
         fits = p.whole.fits;
         shape = adding_shape;
@@ -309,38 +340,45 @@ piece_leaves : {V D U F : Type 0} (points : List Point) (marks : U → Bool) (ma
     MakesEdge points old mid i j was left → new.mesh ≡ mid.mesh
     → AddsPiece marks marked_as constraints old new i j → IsMeshWithData new →
     LeavesPiece points marks marked_as constraints old new i j was left
-piece_leaves points marks marked_as constraints old mid new i j was left makes same adds mesh = record {
-  adds = adds;
-  mesh = mesh;
-  shape = subst (λ (m : Mesh). IsMesh points (faces_of m) (outer_of m)) (sym same) makes.shape;
-  edges = subst (λ (m : Mesh). AreEdges m left) (sym same) makes.edges;
-  leaves = λ pairs passing. subst (λ (m : Mesh). AllPassBut points (faces_of m) pairs (pairs_at m left)) (sym same)
-      (makes.leaves pairs passing);
-}
+piece_leaves points marks marked_as constraints old mid new i j was left makes same adds mesh =
+    record {
+      adds = adds;
+      mesh = mesh;
+      shape = subst (λ (m : Mesh). IsMesh points (faces_of m) (outer_of m)) (sym same) makes.shape;
+      edges = subst (λ (m : Mesh). AreEdges m left) (sym same) makes.edges;
+      leaves = λ pairs passing. subst
+          (λ (m : Mesh). AllPassBut points (faces_of m) pairs (pairs_at m left)) (sym same)
+          (makes.leaves pairs passing);
+    }
 
 -- a piece that is made an edge and gets the mark
 pub piece_made : {V D U F : Type 0} (marks : U → Bool) (constraints : List U → List ℕ)
-    (are_marked : (ds : List U) → constraints ds ≡ marked_edges marks ds)
-    (at : V → Point) (marked_as : U → U) (old mid new : Contents V D U F) (i j : ℕ) (was left : List ℕ) →
-    MakesEdge (map at old.vertices) old mid i j was left
-    → IsMeshWithData mid → MarksBetween marks marked_as mid new i j →
-    NoneCrosses (map at old.vertices) (constraints_by constraints (state_of old)) i j
+    (are_marked : (ds : List U) → constraints ds ≡ marked_edges marks ds) (at : V → Point)
+    (marked_as : U → U) (old mid new : Contents V D U F) (i j : ℕ) (was left : List ℕ)
+    → MakesEdge (map at old.vertices) old mid i j was left → IsMeshWithData mid
+    → MarksBetween marks marked_as mid new i j
+    → NoneCrosses (map at old.vertices) (constraints_by constraints (state_of old)) i j
     → LeavesPiece (map at old.vertices) marks marked_as constraints old new i j was left
-piece_made {V = V} {D = D} {U = U} {F = F} marks constraints are_marked at marked_as old mid new i j was left makes
+piece_made {V = V} {D = D} {U = U} {F = F} marks constraints are_marked at marked_as old mid new i j
+    was left makes
     whole by clear =
     piece_leaves (map at old.vertices) marks marked_as constraints old mid new i j was left makes
     (ap (λ (c : Contents V D U F). c.mesh) by.marks_edge.whole)
-    (piece_added marks constraints are_marked at old mid new i j by.edge (by.edge / 2) makes.contents
+    (piece_added marks constraints are_marked at old mid new i j by.edge
+    (by.edge / 2) makes.contents
     (λ _. by.marks_edge.after) written
     makes.kept clear marked_as by.marks_edge.mark by.marks_edge.same by.source by.target refl)
-    (piece_whole marks constraints are_marked at old mid new i j by.edge (by.edge / 2) makes.contents
+    (piece_whole marks constraints are_marked at old mid new i j by.edge
+    (by.edge / 2) makes.contents
     (λ _. by.marks_edge.after) written whole)
   where
     written : HasEdgeData (λ _. by.marks_edge.after) mid new (by.edge / 2)
-    written = record { value = by.marks_edge.value; was = by.marks_edge.was; whole = by.marks_edge.whole }
+    written =
+        record { value = by.marks_edge.value; was = by.marks_edge.was; whole = by.marks_edge.whole }
 
 -- where nothing has changed, no edge is left to test
-pub none_is_left : {V D U F : Type 0} (all : List Point) (old : Contents V D U F) → LeavesToTest all old old []
+pub none_is_left : {V D U F : Type 0} (all : List Point) (old : Contents V D U F)
+    → LeavesToTest all old old []
 none_is_left all old = record { edges = no_edges old.mesh; leaves = λ pairs passing. passing }
   where
     no_edges : (m : Mesh) → AreEdges m []
@@ -353,17 +391,21 @@ pub more_is_left : {V D U F : Type 0} (at : V → Point) (marks : U → Bool) (m
     → LeavesToTest (map at old.vertices) old now was →
     LeavesPiece (map at now.vertices) marks marked_as constraints now new i j was left →
     LeavesToTest (map at old.vertices) old new left
-more_is_left {V = V} at marks marked_as constraints old now new i j was left same first piece = record {
-  edges = piece.edges;
-  leaves = λ pairs passing. subst (λ (vs : List V). AllPassBut (map at vs) (faces_of new.mesh) pairs
-      (pairs_at new.mesh left)) same
-      (piece.leaves pairs (subst (λ (vs : List V). AllPassBut (map at vs) (faces_of now.mesh) pairs
-      (pairs_at now.mesh was)) (sym same) (first.leaves pairs passing)));
-}
+more_is_left {V = V} at marks marked_as constraints old now new i j was left same first piece =
+    record {
+      edges = piece.edges;
+      leaves =
+          λ pairs passing. subst (λ (vs : List V). AllPassBut (map at vs) (faces_of new.mesh) pairs
+          (pairs_at new.mesh left)) same
+          (piece.leaves pairs
+          (subst (λ (vs : List V). AllPassBut (map at vs) (faces_of now.mesh) pairs
+          (pairs_at now.mesh was)) (sym same) (first.leaves pairs passing)));
+    }
 
 -- the work list keeps its room for each edge
-pub work_fits : {V D U F : Type 0} (old now : Contents V D U F) (left : List ℕ) (room_was room : ℕ) →
-    length now.undirected ≡ length old.undirected → length old.undirected ≤ 3 * length old.vertices →
-    3 * length old.vertices ≤ room_was → room ≡ room_was → AreEdges now.mesh left → IsWorkList now left room
+pub work_fits : {V D U F : Type 0} (old now : Contents V D U F) (left : List ℕ) (room_was room : ℕ)
+    → length now.undirected ≡ length old.undirected
+    → length old.undirected ≤ 3 * length old.vertices → 3 * length old.vertices ≤ room_was
+    → room ≡ room_was → AreEdges now.mesh left → IsWorkList now left room
 work_fits old now left room_was room count few fits same edges =
     record { edges = edges; room = omega (arith, count, few, fits, same) }

@@ -1,5 +1,7 @@
--- The constraint between two vertices, by the edge between them; a path whose pieces are constraints.
-use Rattle.std.proofs.Common.{◌≡◌, ◌≢◌, ◌↔◌, ℕ, ◌*◌, ◌/◌, ◌<◌, List, length, refl, sym, ap, ◌∙◌, subst, inl, inr, arith}
+-- The constraint between two vertices, by the edge between them; a path whose pieces are
+-- constraints.
+use Rattle.std.proofs.Common.{◌≡◌, ◌≢◌, ◌↔◌, ◌*◌, ◌/◌, ◌<◌, ◌∙◌}
+use Rattle.std.proofs.Common.{ℕ, List, length, refl, sym, ap, subst, inl, inr, arith}
 use Rattle.std.specs.Prelude.{Bool, Contains}
 use Rattle.std.proofs.lemmas.Option.{slice_get_within}
 use Rattle.half_edge_mesh.specs.Mesh.{origin, rev}
@@ -29,10 +31,11 @@ module _ {V D U F : Type 0} (at : V → Point) (marks : U → Bool) (constraints
   half_in h within = let f = kept.fits.undirected_fit in omega (arith, f, within)
 
   -- the edge from a to b is a constraint exactly if one joins these
-  pub edge_joins : (a b h : ℕ) → h < length c.mesh.half_edges → origin c.mesh h ≡ a → origin c.mesh (rev h) ≡ b →
-      Contains (constraints c.undirected) (h / 2) ↔ Joins pairs a b
+  pub edge_joins : (a b h : ℕ) → h < length c.mesh.half_edges → origin c.mesh h ≡ a
+      → origin c.mesh (rev h) ≡ b → Contains (constraints c.undirected) (h / 2) ↔ Joins pairs a b
   edge_joins a b h within starts ends = (
-    (λ there. same_joined pairs a b (origin c.mesh (2 * (h / 2))) (origin c.mesh (rev (2 * (h / 2)))) here
+    (λ there. same_joined pairs a b (origin c.mesh (2 * (h / 2)))
+        (origin c.mesh (rev (2 * (h / 2)))) here
         (joins_edge c.mesh (constraints c.undirected) (h / 2) there)),
     (λ joined. found (mark_joins marks constraints marked c.mesh c.undirected a b joined)),
   )
@@ -40,40 +43,51 @@ module _ {V D U F : Type 0} (at : V → Point) (marks : U → Bool) (constraints
       here : IsSamePair a b (origin c.mesh (2 * (h / 2))) (origin c.mesh (rev (2 * (h / 2))))
       here = (half_ends c.mesh h a b a b starts ends).1 (inl (refl, refl))
 
-      found : JoinsByMark marks constraints marked c.mesh c.undirected a b → Contains (constraints c.undirected) (h / 2)
+      found : JoinsByMark marks constraints marked c.mesh c.undirected a b
+          → Contains (constraints c.undirected) (h / 2)
       found j = subst (λ (k : ℕ). Contains (constraints c.undirected) k)
           (one_edge at c kept (h / 2) j.edge (half_in h within)
           (slice_get_within c.undirected j.edge j.is.value j.is.has)
           (same_as_third a b (origin c.mesh (2 * j.edge)) (origin c.mesh (rev (2 * j.edge)))
           (origin c.mesh (2 * (h / 2))) (origin c.mesh (rev (2 * (h / 2)))) j.ends here))
-          (is_constraint_edge marks constraints marked c.undirected j.edge j.is.value j.is.has j.is.mark)
+          (is_constraint_edge marks constraints marked c.undirected j.edge j.is.value
+          j.is.has j.is.mark)
 
   -- where no edge goes from a to b, no constraint joins these
   pub no_edge_joins : (a b : ℕ) → ((h : ℕ) → h < length c.mesh.half_edges → origin c.mesh h ≡ a →
       origin c.mesh (rev h) ≢ b) → ¬ Joins pairs a b
-  no_edge_joins a b none joined = go (mark_joins marks constraints marked c.mesh c.undirected a b joined)
+  no_edge_joins a b none joined =
+      go (mark_joins marks constraints marked c.mesh c.undirected a b joined)
     where
       at_ends : (k : ℕ) → 2 * k < length c.mesh.half_edges →
           IsSamePair a b (origin c.mesh (2 * k)) (origin c.mesh (rev (2 * k))) → ⊥
       at_ends k within (inl s) = none (2 * k) within (sym s.0) (sym s.1)
-      at_ends k within (inr s) = none (rev (2 * k)) (rev_within (2 * k) (length c.mesh.half_edges) kept.valid.sound.even
+      at_ends k within (inr s) =
+          none (rev (2 * k)) (rev_within (2 * k) (length c.mesh.half_edges) kept.valid.sound.even
           within) (sym s.0) (ap (origin c.mesh) (rev-rev (2 * k)) ∙ sym s.1)
 
       go : JoinsByMark marks constraints marked c.mesh c.undirected a b → ⊥
-      go j = at_ends j.edge (double at c kept j.edge (slice_get_within c.undirected j.edge j.is.value j.is.has)) j.ends
+      go j = at_ends j.edge (double at c kept j.edge
+          (slice_get_within c.undirected j.edge j.is.value j.is.has)) j.ends
 
 -- ---- a path whose pieces are pairs of a list
 module _ (points : List Point) (distinct : ArePlacedApart points) (pairs : List (ℕ × ℕ)) (i j w : ℕ)
-    (hi : IsIndex points i) (hj : IsIndex points j) (p : IsAddingPath points pairs pairs i j w) where
+    (hi : IsIndex points i) (hj : IsIndex points j)
+    (p : IsAddingPath points pairs pairs i j w) where
   -- where j is reached, each piece of the path is one of the pairs
   pub all_joined : w ≡ j → AreJoinedAlong points pairs i j
-  all_joined is a b next = (adding_ends points distinct pairs pairs i j w hi hj p is a b).1 (inr next)
+  all_joined is a b next =
+      (adding_ends points distinct pairs pairs i j w hi hj p is a b).1 (inr next)
 
   module _ (v : ℕ) (on_way : w ≢ j) (next : AreNextOn points w j w v) where
     -- where the next piece is one of the pairs, the path goes on from its end
     pub joined_further : Joins pairs w v → IsAddingPath points pairs pairs i j v
-    joined_further here = adding_goes_on points distinct pairs pairs i j w hi hj p v on_way next pairs
-        (λ a b. ((λ x. inl x), (λ x. elim x [ inl y ↦ y | inr s ↦ same_joined pairs a b w v s here ])))
+    joined_further here =
+        adding_goes_on points distinct pairs pairs i j w hi hj p v on_way next pairs
+        (λ a b. (
+          (λ x. inl x),
+          (λ x. elim x [ inl y ↦ y | inr s ↦ same_joined pairs a b w v s here ]),
+        ))
 
     -- where the next piece is none of them, not all pieces are
     pub one_not_joined : ¬ Joins pairs w v → ¬ AreJoinedAlong points pairs i j

@@ -1,5 +1,6 @@
 -- The edges along a path, listed one after another.
-use Rattle.std.proofs.Common.{◌≡◌, ◌≢◌, ◌⊎◌, ℕ, ◌+◌, ◌<◌, ◌≤◌, List, [], ◌∷◌, ◌++◌, length, sym, ◌∙◌, subst, inl, inr}
+use Rattle.std.proofs.Common.{◌≡◌, ◌≢◌, ◌⊎◌, ◌+◌, ◌<◌, ◌≤◌, [], ◌∷◌, ◌++◌, ◌∙◌}
+use Rattle.std.proofs.Common.{ℕ, List, length, sym, subst, inl, inr}
 use Rattle.std.proofs.Common.{arith, append_assoc, append-nil, length-append}
 use Rattle.std.specs.Prelude.{ℤ, pos, negsuc, ◌*ℤ◌, ◌≤ℤ◌, ◌<ℤ◌, nat_abs}
 use Rattle.std.proofs.lemmas.Bool.{cases_eq}
@@ -29,7 +30,8 @@ less_of_abs (negsuc a) y h k l = absurd (omega (arith, ints, h))
 by_one : (x : ℤ) → x *ℤ (pos 1 *ℤ pos 1) ≡ x
 by_one x = omega (arith, ints)
 
-nearer_by_way : (j v w : Point) → squared_way v j <ℤ squared_way w j → IsNearer (whole j) (whole v) (whole w)
+nearer_by_way : (j v w : Point) → squared_way v j <ℤ squared_way w j
+    → IsNearer (whole j) (whole v) (whole w)
 nearer_by_way j v w h = record {
   nearer = subst (λ (x : ℤ × ℤ). x.0 <ℤ x.1)
       (λ o. (
@@ -44,15 +46,19 @@ module _ (points : List Point) (m : Mesh) where
   pub record IsListing (i j w : ℕ) (listed : List ℕ) (room_was room : ℕ) : Type 0 where
     pub within : IsIndex points w
     pub rest : (a b : ℕ) → AreNextOn points w j a b → AreNextOn points i j a b
-    pub so_far : (more : List ℕ) → LeadAlong points m w j more → LeadAlong points m i j (listed ++ more)
-    pub few : (w ≡ j) ⊎ (length listed + nearer_count (drawn points m) (place points j) w < length points)
+    pub so_far : (more : List ℕ) → LeadAlong points m w j more
+        → LeadAlong points m i j (listed ++ more)
+    pub few : (w ≡ j)
+        ⊎ (length listed + nearer_count (drawn points m) (place points j) w < length points)
     pub room_stays : room ≡ room_was
 
-  module _ (distinct : ArePlacedApart points) (i j : ℕ) (hi : IsIndex points i) (hj : IsIndex points j) where
-    falls : (w v : ℕ) → IsIndex points w → w ≢ j → AreNextOn points w j w v →
-        (nearer_count (drawn points m) (place points j) v < nearer_count (drawn points m) (place points j) w) ×
-        (nearer_count (drawn points m) (place points j) w < length points)
-    falls w v hw on_way next = nearer_count_falls (drawn points m) (place points j) w v hw next.second_index
+  module _ (distinct : ArePlacedApart points) (i j : ℕ) (hi : IsIndex points i)
+      (hj : IsIndex points j) where
+    falls : (w v : ℕ) → IsIndex points w → w ≢ j → AreNextOn points w j w v
+        → (nearer_count (drawn points m) (place points j) v < nearer_count (drawn points m)
+        (place points j) w) × (nearer_count (drawn points m) (place points j) w < length points)
+    falls w v hw on_way next =
+        nearer_count_falls (drawn points m) (place points j) w v hw next.second_index
         (nearer_by_way (point_of points j) (point_of points v) (point_of points w)
         (less_of_abs (squared_way (point_of points v) (point_of points j))
         (squared_way (point_of points w) (point_of points j))
@@ -70,30 +76,36 @@ module _ (points : List Point) (m : Mesh) where
           so_far = λ more x. x;
           few = elim (cases_eq i j) [
             | inl e ↦ inl e
-            | inr n ↦ (let b = path_begins points i j distinct hi hj n in let f = falls i b.0 hi n b.1 in let g = f.1 in
+            | inr n ↦ (let b = path_begins points i j distinct hi hj n in
+                let f = falls i b.0 hi n b.1 in let g = f.1 in
                 inr (omega (arith, g)))
           ];
           room_stays = stays;
         })
 
-    module _ (w : ℕ) (listed : List ℕ) (room_was room : ℕ) (p : IsListing i j w listed room_was room) where
+    module _ (w : ℕ) (listed : List ℕ) (room_was room : ℕ)
+        (p : IsListing i j w listed room_was room) where
       module _ (v : ℕ) (on_way : w ≢ j) (next : AreNextOn points w j w v) where
         few_now : length listed + nearer_count (drawn points m) (place points j) w < length points
         few_now = elim p.few [ inl e ↦ absurd (on_way e) | inr f ↦ f ]
 
         -- before j there is room for one more edge
         pub listing_has_room : (n : ℕ) → length points ≡ n → n ≤ room_was → length listed < room
-        listing_has_room n count enough = let f = few_now in let s = p.room_stays in omega (arith, f, count, enough, s)
+        listing_has_room n count enough =
+            let f = few_now in let s = p.room_stays in omega (arith, f, count, enough, s)
 
         -- an edge from w to the next vertex brings the list to this vertex
-        pub listing_goes_on : (h : ℕ) (more : List ℕ) (room_now : ℕ) → h < length m.half_edges → origin m h ≡ w →
-            origin m (rev h) ≡ v → more ≡ listed ++ h ∷ [] → room_now ≡ room → IsListing i j v more room_was room_now
+        pub listing_goes_on : (h : ℕ) (more : List ℕ) (room_now : ℕ) → h < length m.half_edges
+            → origin m h ≡ w → origin m (rev h) ≡ v → more ≡ listed ++ h ∷ [] → room_now ≡ room
+            → IsListing i j v more room_was room_now
         listing_goes_on h more room_now within source target is stays =
             subst (λ (hs : List ℕ). IsListing i j v hs room_was room_now) (sym is) (record {
               within = next.second_index;
-              rest = λ a b x. p.rest a b ((path_goes_on points w j v distinct hj on_way next a b).1 (inr x));
+              rest = λ a b x. p.rest a b
+                  ((path_goes_on points w j v distinct hj on_way next a b).1 (inr x));
               so_far =
-                  λ rest x. subst (λ (hs : List ℕ). LeadAlong points m i j hs) (sym (append_assoc listed (h ∷ []) rest))
+                  λ rest x. subst (λ (hs : List ℕ). LeadAlong points m i j hs)
+                  (sym (append_assoc listed (h ∷ []) rest))
                   (p.so_far (h ∷ rest) (
                     within,
                     source,

@@ -1,5 +1,6 @@
 -- Data that get the mark.
-use Rattle.std.proofs.Common.{◌≡◌, ◌⊎◌, ℕ, zero, suc, Bool, true, false, List, [], ◌∷◌, set, refl, sym, ap, ◌∙◌, subst}
+use Rattle.std.proofs.Common.{◌≡◌, ◌⊎◌, [], ◌∷◌, ◌∙◌}
+use Rattle.std.proofs.Common.{ℕ, zero, suc, Bool, true, false, List, set, refl, sym, ap, subst}
 use Rattle.std.proofs.Common.{inl, inr}
 use Rattle.std.specs.Prelude.{Some, slice_get}
 use Rattle.std.proofs.lemmas.Bool.{cases_eq}
@@ -17,8 +18,8 @@ set_same [] k d e = refl
 set_same (x ∷ xs) zero d e = ap (λ y. y ∷ xs) (sym (one_value x d e))
 set_same (x ∷ xs) (suc k) d e = ap (λ ys. x ∷ ys) (set_same xs k d e)
 
-module _ {V D U F : Type 0} (marks : U → Bool) (marked : U → U) (old new : Contents V D U F) (k : ℕ) (d : U)
-    (was : slice_get old.undirected k ≡ Some d) where
+module _ {V D U F : Type 0} (marks : U → Bool) (marked : U → U) (old new : Contents V D U F) (k : ℕ)
+    (d : U) (was : slice_get old.undirected k ≡ Some d) where
   -- an edge that has the mark
   pub has_mark : marks d ≡ true → MarksEdge marks marked old old k
   has_mark mark = record {
@@ -27,18 +28,23 @@ module _ {V D U F : Type 0} (marks : U → Bool) (marked : U → U) (old new : C
     after = d;
     mark = mark;
     same = inl refl;
-    whole = ap (λ (us : List U). record old { undirected = us }) (sym (set_same old.undirected k d was));
+    whole = ap (λ (us : List U). record old { undirected = us })
+        (sym (set_same old.undirected k d was));
   }
 
   -- and one that gets it
-  pub gets_mark : marks d ≡ false → ((x : U) → marks (marked x) ≡ true) → HasEdgeData marked old new k →
-      MarksEdge marks marked old new k
+  pub gets_mark : marks d ≡ false → ((x : U) → marks (marked x) ≡ true)
+      → HasEdgeData marked old new k → MarksEdge marks marked old new k
   gets_mark free has written = record {
     value = written.value;
     was = written.was;
     after = marked written.value;
     mark = has written.value;
-    same = inr (subst (λ (x : U). marks x ≡ false) (one_value d written.value (sym was ∙ written.was)) free, refl);
+    same = inr (
+      subst (λ (x : U). marks x ≡ false)
+          (one_value d written.value (sym was ∙ written.was)) free,
+      refl,
+    );
     whole = written.whole;
   }
 
@@ -48,8 +54,9 @@ module _ {U : Type 0} (marks : U → Bool) (marked : U → U) where
   marks_none ds k d e = inl e
 
   -- one entry that stays, or gets the mark that it did not have
-  pub marks_one : (ds : List U) (k : ℕ) (value after : U) → slice_get ds k ≡ Some value →
-      (after ≡ value) ⊎ ((marks value ≡ false) × (after ≡ marked value)) → MarksSome marks marked ds (set ds k after)
+  pub marks_one : (ds : List U) (k : ℕ) (value after : U) → slice_get ds k ≡ Some value
+      → (after ≡ value) ⊎ ((marks value ≡ false) × (after ≡ marked value))
+      → MarksSome marks marked ds (set ds k after)
   marks_one ds k value after was same l d e = elim (cases_eq l k) [
     | inr n ↦ inl (slice_get-set_other ds k l after n ∙ e)
     | inl is ↦ (
@@ -66,8 +73,9 @@ module _ {U : Type 0} (marks : U → Bool) (marked : U → U) where
   ]
 
   -- one such change after another
-  pub marks_more : ((x : U) → marks (marked x) ≡ true) → (old now new : List U) → MarksSome marks marked old now →
-      MarksSome marks marked now new → MarksSome marks marked old new
+  pub marks_more : ((x : U) → marks (marked x) ≡ true) → (old now new : List U)
+      → MarksSome marks marked old now → MarksSome marks marked now new
+      → MarksSome marks marked old new
   marks_more has old now new a b k d e = elim (a k d e) [
     | inl x ↦ b k d x
     | inr x ↦ elim (b k (marked d) x.1) [

@@ -1,14 +1,17 @@
 -- The first vertex of a walk after its start is the next one of the path.
-use Rattle.std.proofs.Common.{◌≡◌, ◌≢◌, ◌⊎◌, ℕ, ◌<◌, List, [], ◌∷◌, ◌++◌, length, map, Some, None, sym, ap, subst, inl}
+use Rattle.std.proofs.Common.{◌≡◌, ◌≢◌, ◌⊎◌, ◌<◌, [], ◌∷◌, ◌++◌}
+use Rattle.std.proofs.Common.{ℕ, List, length, map, Some, None, sym, ap, subst, inl}
 use Rattle.std.proofs.Common.{inr}
 use Rattle.std.specs.Prelude.{ℤ, Contains}
-use Rattle.std.proofs.lemmas.List.Elements.{Contains-append_cases, Contains-append_left, Contains-append_right}
+use Rattle.std.proofs.lemmas.List.Elements.{Contains-append_cases, Contains-append_left}
+use Rattle.std.proofs.lemmas.List.Elements.{Contains-append_right}
 use Rattle.std.proofs.lemmas.List.Elements.{Contains-push_cases}
 use Rattle.half_edge_mesh.specs.Mesh.{Mesh}
 use Rattle.half_edge_mesh.specs.Contents.{Contents}
 use Rattle.plane.specs.Circle.{IsNearer}
 use Rattle.plane.specs.Fraction.{Point, Fraction, whole, IsSame, OnSegment, WithinSegment}
-use Rattle.plane.specs.Line.{Item, IsLineList, IsBefore, IsVertexThenOverlap, at_vertex, across, along}
+use Rattle.plane.specs.Line.{Item, IsLineList, IsBefore, IsVertexThenOverlap, at_vertex, across}
+use Rattle.plane.specs.Line.{along}
 use Rattle.plane.specs.Pairs.{place}
 use Rattle.plane.specs.Tiling.{Triangulation}
 use Rattle.plane.proofs.Segments.{on_of_within, start_on_segment, end_on_segment, within_segment_is}
@@ -27,14 +30,16 @@ use Rattle.delaunay_lines.specs.declared.iterator.LineIntersectionIterator.{Line
 use Rattle.delaunay_lines.specs.Items.{item_in}
 use Rattle.delaunay_lines.specs.Walk.{GivesNext, IsReady, WalksLine}
 use Rattle.delaunay_paths.specs.Items.{IsOtherVertex}
-use Rattle.delaunay_paths.proofs.Passing.{HasPassed, all_passed, later_ones, list_with, none_passed, one_more_passed}
+use Rattle.delaunay_paths.proofs.Passing.{HasPassed, all_passed, later_ones, list_with, none_passed}
+use Rattle.delaunay_paths.proofs.Passing.{one_more_passed}
 use Rattle.delaunay_paths.proofs.Places.{no_same_place}
 use Rattle.delaunay_paths.proofs.Walking.{in_map, nested, not_start, not_end, of_map, placed_apart}
 
 -- strictly within a segment is nearer than its end
 within_is_nearer : (p q x : Fraction) → ¬ IsSame p q → WithinSegment p q x → IsNearer p x q
 within_is_nearer p q x apart w =
-    nearer_if p q apart x q (on_of_within p q x w) (end_on_segment p q) ((within_segment_is p q x apart).0 w).2
+    nearer_if p q apart x q (on_of_within p q x w) (end_on_segment p q)
+    ((within_segment_is p q x apart).0 w).2
 
 abbrev vertex_of : Item → ℕ
 vertex_of (at_vertex v) = v
@@ -50,19 +55,20 @@ no_other_yet : (i : ℕ) → HasNoOther [] i
 no_other_yet i v c = absurd (Contains-none (at_vertex v) c)
 
 -- items without another vertex than i get none with an item that is none
-still_no_other : (passed : List Item) (k : Item) (i : ℕ) → HasNoOther passed i → ((v : ℕ) → k ≡ at_vertex v → v ≡ i) →
-    HasNoOther (passed ++ k ∷ []) i
+still_no_other : (passed : List Item) (k : Item) (i : ℕ) → HasNoOther passed i
+    → ((v : ℕ) → k ≡ at_vertex v → v ≡ i) → HasNoOther (passed ++ k ∷ []) i
 still_no_other passed k i none this v c = elim (Contains-push_cases passed k (at_vertex v) c) [
   | inl x ↦ none v x
   | inr e ↦ this v e
 ]
 
-module _ (points : List Point) (m : Mesh) (distinct : ArePlacedApart points) (i j : ℕ) (hi : i < length points)
-    (hj : j < length points) (i_not_j : i ≢ j) where
+module _ (points : List Point) (m : Mesh) (distinct : ArePlacedApart points) (i j : ℕ)
+    (hi : i < length points) (hj : j < length points) (i_not_j : i ≢ j) where
   abbrev t : Triangulation
   t = drawn points m
 
-  different : (a b : ℕ) → a < length points → b < length points → a ≢ b → ¬ (point_at points a ≡ point_at points b)
+  different : (a b : ℕ) → a < length points → b < length points → a ≢ b
+      → ¬ (point_at points a ≡ point_at points b)
   different a b ha hb n e = distinct a b ha hb n (ap whole e)
 
   -- the ends of the segment are at two places
@@ -71,15 +77,16 @@ module _ (points : List Point) (m : Mesh) (distinct : ArePlacedApart points) (i 
 
   -- ---- no other vertex was passed, and none is left
   -- the line list of the segment has another vertex than i
-  pub none_is_left : (items : List Item) → IsLineList t (place points i) (place points j) items → HasNoOther items i → ⊥
+  pub none_is_left : (items : List Item) → IsLineList t (place points i) (place points j) items
+      → HasNoOther items i → ⊥
   none_is_left items list none =
-      i_not_j (sym (none j (list.complete two (at_vertex j) (hj, end_on_segment (place points i) (place points j)))))
+      i_not_j (sym (none j
+      (list.complete two (at_vertex j) (hj, end_on_segment (place points i) (place points j)))))
 
   -- ---- vertex v comes next
-  module _ (passed others : List Item) (v : ℕ) (other : v ≢ i)
-      (list : IsLineList t (place points i) (place points j) ((passed ++ at_vertex v ∷ []) ++ others))
-      (none : HasNoOther passed i)
-      (met : (v < length points) × OnSegment (place points i) (place points j) (place points v)) where
+  module _ (passed others : List Item) (v : ℕ) (other : v ≢ i) (list : IsLineList t (place points i)
+      (place points j) ((passed ++ at_vertex v ∷ []) ++ others)) (none : HasNoOther passed i) (met :
+      (v < length points) × OnSegment (place points i) (place points j) (place points v)) where
     away : i ≢ v
     away e = other (sym e)
 
@@ -88,47 +95,59 @@ module _ (points : List Point) (m : Mesh) (distinct : ArePlacedApart points) (i 
         OnSegment (place points i) (place points j) (place points k)
     on_whole k w = go (on_parts (place points i) (place points j) (place points v) met.1)
       where
-        go : IsSame (place points v) (place points i) ⊎
-            (IsSame (place points v) (place points j) ⊎ WithinSegment (place points i) (place points j)
-            (place points v)) → OnSegment (place points i) (place points j) (place points k)
+        go : IsSame (place points v) (place points i) ⊎ (IsSame (place points v) (place points j)
+            ⊎ WithinSegment (place points i) (place points j) (place points v))
+            → OnSegment (place points i) (place points j) (place points k)
         go (inl e) = absurd (no_same_place points distinct v i met.0 hi other e)
         go (inr (inl e)) = on_of_within (place points i) (place points j) (place points k)
             (subst (λ (x : Point). WithinSegment (place points i) (whole x) (place points k))
             (one_point (point_at points v) (point_at points j) e) w)
         go (inr (inr h)) = on_of_within (place points i) (place points j) (place points k)
-            (nested (point_at points i) (point_at points j) (different i j hi hj i_not_j) (point_at points v)
+            (nested (point_at points i) (point_at points j) (different i j hi hj i_not_j)
+            (point_at points v)
             (point_at points k) h w)
 
     -- it does not come after v
-    not_after : (k : ℕ) → k < length points → WithinSegment (place points i) (place points v) (place points k) →
-        IsBefore t (place points i) (place points j) (at_vertex v) (at_vertex k) → ⊥
+    not_after : (k : ℕ) → k < length points
+        → WithinSegment (place points i) (place points v) (place points k)
+        → IsBefore t (place points i) (place points j) (at_vertex v) (at_vertex k) → ⊥
     not_after k hk w o = go o.order
       where
         go : IsNearer (place points i) o.first o.second ⊎
             (IsSame o.first o.second × IsVertexThenOverlap (at_vertex v) (at_vertex k)) → ⊥
-        go (inl n) = not_both_nearer (place points i) (place points j) two (place points k) (place points v)
+        go (inl n) =
+            not_both_nearer (place points i) (place points j) two (place points k) (place points v)
             (within_is_nearer (place points i) (place points v) (place points k)
             (no_same_place points distinct i v hi met.0 away) w)
-            (nearer-same_first (place points i) (place points j) two o.first (place points v) (place points k)
+            (nearer-same_first (place points i) (place points j) two o.first (place points v)
+            (place points k)
             o.first_begins.shared met.1 (on_whole k w) o.first_begins.of_item
-            (nearer-same_second (place points i) (place points j) two o.first o.second (place points k)
+            (nearer-same_second (place points i) (place points j) two o.first o.second
+            (place points k)
             o.first_begins.shared o.second_begins.shared (on_whole k w) o.second_begins.of_item n))
         go (inr x) = x.1
 
-    none_between : (k : ℕ) → k < length points → ¬ WithinSegment (place points i) (place points v) (place points k)
-    none_between k hk w = go (Contains-append_cases (passed ++ at_vertex v ∷ []) others (at_vertex k)
+    none_between : (k : ℕ) → k < length points
+        → ¬ WithinSegment (place points i) (place points v) (place points k)
+    none_between k hk w =
+        go (Contains-append_cases (passed ++ at_vertex v ∷ []) others (at_vertex k)
         (list.complete two (at_vertex k) (hk, on_whole k w)))
       where
         before : Contains passed (at_vertex k) ⊎ (at_vertex v ≡ at_vertex k) → ⊥
-        before (inl c) = not_start (point_at points i) (point_at points v) (different i v hi met.0 away)
-            (subst (λ (x : ℕ). WithinSegment (place points i) (place points v) (place points x)) (none k c) w)
-        before (inr e) = not_end (point_at points i) (point_at points v) (different i v hi met.0 away)
-            (subst (λ (x : ℕ). WithinSegment (place points i) (place points v) (place points x)) (sym (ap vertex_of e))
+        before (inl c) =
+            not_start (point_at points i) (point_at points v) (different i v hi met.0 away)
+            (subst (λ (x : ℕ). WithinSegment (place points i) (place points v) (place points x))
+            (none k c) w)
+        before (inr e) =
+            not_end (point_at points i) (point_at points v) (different i v hi met.0 away)
+            (subst (λ (x : ℕ). WithinSegment (place points i) (place points v) (place points x))
+            (sym (ap vertex_of e))
             w)
 
         go : Contains (passed ++ at_vertex v ∷ []) (at_vertex k) ⊎ Contains others (at_vertex k) → ⊥
         go (inl c) = before (Contains-push_cases passed (at_vertex v) (at_vertex k) c)
-        go (inr c) = not_after k hk w (later_ones (IsBefore t (place points i) (place points j)) passed (at_vertex v)
+        go (inr c) = not_after k hk w
+            (later_ones (IsBefore t (place points i) (place points j)) passed (at_vertex v)
             others (list.ordered two) (at_vertex k) c)
 
     -- the first other vertex on the line list is next to i on the segment
@@ -143,24 +162,27 @@ module _ (points : List Point) (m : Mesh) (distinct : ArePlacedApart points) (i 
     }
 
 -- ---- the walk to it
-module _ {V D U F P S : Type 0} (at : V → Point) (number : S → ℤ) (IsSite IsCovered : P → Point → Type 0)
-    (c : Contents V D U F) (i j : ℕ) where
+module _ {V D U F P S : Type 0} (at : V → Point) (number : S → ℤ)
+    (IsSite IsCovered : P → Point → Type 0) (c : Contents V D U F) (i j : ℕ) where
   abbrev points : List Point
   points = map at c.vertices
 
   -- no other vertex than i was passed
   pub record SeeksNext (now : LineIntersectionIterator V D U F P S) : Type 0 where
     pub passed : List Item
-    pub so_far : HasPassed at number IsSite IsCovered (state_of c) (point_at points i) (point_at points j) passed now
+    pub so_far : HasPassed at number IsSite IsCovered (state_of c) (point_at points i)
+        (point_at points j) passed now
     pub ready : IsReady at number IsSite IsCovered now
     pub none : HasNoOther passed i
 
   -- at the beginning nothing was passed
-  pub seeking_begins : (it : LineIntersectionIterator V D U F P S) → IsReady at number IsSite IsCovered it →
-      WalksLine at number (state_of c) (point_at points i) (point_at points j) it → SeeksNext it
+  pub seeking_begins : (it : LineIntersectionIterator V D U F P S)
+      → IsReady at number IsSite IsCovered it
+      → WalksLine at number (state_of c) (point_at points i) (point_at points j) it → SeeksNext it
   seeking_begins it ready walks = record {
     passed = [];
-    so_far = none_passed at number IsSite IsCovered (state_of c) (point_at points i) (point_at points j) it ready
+    so_far = none_passed at number IsSite IsCovered (state_of c) (point_at points i)
+        (point_at points j) it ready
         walks;
     ready = ready;
     none = no_other_yet i;
@@ -169,42 +191,53 @@ module _ {V D U F P S : Type 0} (at : V → Point) (number : S → ℤ) (IsSite 
   module _ (now : LineIntersectionIterator V D U F P S) (seeks : SeeksNext now)
       (after : LineIntersectionIterator V D U F P S) where
     -- an item that is no other vertex is passed
-    pub seeking_goes_on : (x : Intersection V D U F) → GivesNext at number now (Some x) after →
-        IsReady at number IsSite IsCovered after → IsOtherVertex (item_in x) i None → SeeksNext after
+    pub seeking_goes_on : (x : Intersection V D U F) → GivesNext at number now (Some x) after
+        → IsReady at number IsSite IsCovered after → IsOtherVertex (item_in x) i None
+        → SeeksNext after
     seeking_goes_on x gives ready none = record {
       passed = seeks.passed ++ item_in x ∷ [];
-      so_far = one_more_passed at number IsSite IsCovered (state_of c) (point_at points i) (point_at points j)
+      so_far = one_more_passed at number IsSite IsCovered (state_of c) (point_at points i)
+          (point_at points j)
           seeks.passed now after seeks.so_far x gives ready;
       ready = ready;
       none = still_no_other seeks.passed (item_in x) i seeks.none none;
     }
 
-    module _ (shape : IsMesh points (faces_of c.mesh) (outer_of c.mesh)) (hi : i < length c.vertices)
-        (hj : j < length c.vertices) (i_not_j : i ≢ j) where
+    module _ (shape : IsMesh points (faces_of c.mesh) (outer_of c.mesh))
+        (hi : i < length c.vertices) (hj : j < length c.vertices) (i_not_j : i ≢ j) where
       -- the other vertex that a call gives is next to i on the segment
-      pub seeking_finds : (x : Intersection V D U F) → GivesNext at number now (Some x) after → (v : ℕ) →
-          IsOtherVertex (item_in x) i (Some v) → AreNextOn points i j i v
+      pub seeking_finds : (x : Intersection V D U F) → GivesNext at number now (Some x) after
+          → (v : ℕ) → IsOtherVertex (item_in x) i (Some v) → AreNextOn points i j i v
       seeking_finds x gives v other =
-          let l = list_with at number IsSite IsCovered (state_of c) (point_at points i) (point_at points j) seeks.passed
+          let l = list_with at number IsSite IsCovered (state_of c) (point_at points i)
+          (point_at points j) seeks.passed
           now after seeks.so_far x gives in
-          let list = subst (λ (k : Item). IsLineList (drawn points c.mesh) (place points i) (place points j)
+          let list = subst
+          (λ (k : Item). IsLineList (drawn points c.mesh) (place points i) (place points j)
           ((seeks.passed ++ k ∷ []) ++ l.0)) other.0 l.1 in
-          comes_next points c.mesh (placed_apart points (faces_of c.mesh) (outer_of c.mesh) shape) i j
-          (in_map at c.vertices i hi) (in_map at c.vertices j hj) i_not_j seeks.passed l.0 v other.1 list seeks.none
-          (list.met (two points c.mesh (placed_apart points (faces_of c.mesh) (outer_of c.mesh) shape) i j
+          comes_next points c.mesh
+          (placed_apart points (faces_of c.mesh) (outer_of c.mesh) shape) i j
+          (in_map at c.vertices i hi)
+          (in_map at c.vertices j hj) i_not_j seeks.passed l.0 v other.1 list seeks.none
+          (list.met
+          (two points c.mesh (placed_apart points (faces_of c.mesh) (outer_of c.mesh) shape) i j
           (in_map at c.vertices i hi) (in_map at c.vertices j hj) i_not_j) (at_vertex v)
           (Contains-append_left (seeks.passed ++ at_vertex v ∷ []) l.0 (at_vertex v)
-          (Contains-append_right seeks.passed (at_vertex v ∷ []) (at_vertex v) (Contains-head (at_vertex v) []))))
+          (Contains-append_right seeks.passed (at_vertex v ∷ []) (at_vertex v)
+          (Contains-head (at_vertex v) []))))
 
       -- and it is one of the vertices
-      pub seeking_finds_index : (x : Intersection V D U F) → GivesNext at number now (Some x) after → (v : ℕ) →
-          IsOtherVertex (item_in x) i (Some v) → v < length c.vertices
-      seeking_finds_index x gives v other = of_map at c.vertices v (seeking_finds x gives v other).second_index
+      pub seeking_finds_index : (x : Intersection V D U F) → GivesNext at number now (Some x) after
+          → (v : ℕ) → IsOtherVertex (item_in x) i (Some v) → v < length c.vertices
+      seeking_finds_index x gives v other =
+          of_map at c.vertices v (seeking_finds x gives v other).second_index
 
       -- the items do not end before another vertex
       pub seeking_never_ends : GivesNext at number now None after → ⊥
       seeking_never_ends gives =
-          none_is_left points c.mesh (placed_apart points (faces_of c.mesh) (outer_of c.mesh) shape) i j
+          none_is_left points c.mesh
+          (placed_apart points (faces_of c.mesh) (outer_of c.mesh) shape) i j
           (in_map at c.vertices i hi) (in_map at c.vertices j hj) i_not_j seeks.passed
-          (all_passed at number IsSite IsCovered (state_of c) (point_at points i) (point_at points j) seeks.passed now
+          (all_passed at number IsSite IsCovered (state_of c) (point_at points i)
+          (point_at points j) seeks.passed now
           after seeks.so_far gives) seeks.none

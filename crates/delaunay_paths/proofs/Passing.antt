@@ -1,5 +1,6 @@
 -- What a walk along a segment has passed, and what is left of it.
-use Rattle.std.proofs.Common.{append-nil, ◌≡◌, suc, List, [], ◌∷◌, ◌++◌, Some, None, sym, ap, ◌∙◌, subst, append_assoc}
+use Rattle.std.proofs.Common.{◌≡◌, [], ◌∷◌, ◌++◌, ◌∙◌}
+use Rattle.std.proofs.Common.{append-nil, suc, List, Some, None, sym, ap, subst, append_assoc}
 use Rattle.std.proofs.Common.{arith}
 use Rattle.std.specs.Prelude.{ℤ, Contains, AllPairs}
 use Rattle.std.specs.Borrow.{Bor}
@@ -15,14 +16,17 @@ use Rattle.delaunay_lines.specs.Walk.{AreLeft, GivesNext, IsReady, WalksLine}
 -- each later one of a list in an order comes after the one in the middle
 pub later_ones : {X : Type 0} (R : X → X → Type 0) (passed : List X) (k : X) (others : List X) →
     AllPairs R ((passed ++ k ∷ []) ++ others) → (x : X) → Contains others x → R k x
-later_ones R [] k others o x c = subst (R k) c.2 (o 0 (suc c.0) x (omega arith) (omega (arith, c.1)))
+later_ones R [] k others o x c =
+    subst (R k) c.2 (o 0 (suc c.0) x (omega arith) (omega (arith, c.1)))
 later_ones R (y ∷ ys) k others o x c =
-    later_ones R ys k others (λ i j d lt within. o (suc i) (suc j) d (omega (arith, lt)) (omega (arith, within))) x c
+    later_ones R ys k others
+    (λ i j d lt within. o (suc i) (suc j) d (omega (arith, lt)) (omega (arith, within))) x c
 
-module _ {V D U F P S : Type 0} (at : V → Point) (number : S → ℤ) (IsSite IsCovered : P → Point → Type 0)
-    (s : State V D U F) (p q : Point) where
+module _ {V D U F P S : Type 0} (at : V → Point) (number : S → ℤ)
+    (IsSite IsCovered : P → Point → Type 0) (s : State V D U F) (p q : Point) where
   -- these items have been passed
-  pub record HasPassed (passed : List Item) (now : LineIntersectionIterator V D U F P S) : Type 0 where
+  pub record HasPassed (passed : List Item)
+      (now : LineIntersectionIterator V D U F P S) : Type 0 where
     pub ready : IsReady at number IsSite IsCovered now
     pub state : state_of now.dcel.now ≡ s
     pub others : List Item
@@ -30,8 +34,8 @@ module _ {V D U F P S : Type 0} (at : V → Point) (number : S → ℤ) (IsSite 
     pub are_left : AreLeft at number now others
 
   -- at the beginning no item has been passed
-  pub none_passed : (it : LineIntersectionIterator V D U F P S) → IsReady at number IsSite IsCovered it →
-      WalksLine at number s p q it → HasPassed [] it
+  pub none_passed : (it : LineIntersectionIterator V D U F P S)
+      → IsReady at number IsSite IsCovered it → WalksLine at number s p q it → HasPassed [] it
   none_passed it ready walks = record {
     ready = ready;
     state = walks.state;
@@ -40,23 +44,28 @@ module _ {V D U F P S : Type 0} (at : V → Point) (number : S → ℤ) (IsSite 
     are_left = walks.are_left;
   }
 
-  module _ (passed : List Item) (now after : LineIntersectionIterator V D U F P S) (so_far : HasPassed passed now) where
+  module _ (passed : List Item) (now after : LineIntersectionIterator V D U F P S)
+      (so_far : HasPassed passed now) where
     -- one more
     module _ (x : Intersection V D U F) (gives : GivesNext at number now (Some x) after) where
       -- the item that a call gives is of the same triangulation
       pub item_state : state_of (mesh_of x).now ≡ s
-      item_state = ap (λ (d : Bor (Contents V D U F)). state_of d.now) (gives.gives so_far.others so_far.are_left).0
+      item_state = ap (λ (d : Bor (Contents V D U F)). state_of d.now)
+          (gives.gives so_far.others so_far.are_left).0
           ∙ so_far.state
 
       -- after the call it has been passed, too
-      pub one_more_passed : IsReady at number IsSite IsCovered after → HasPassed (passed ++ item_in x ∷ []) after
+      pub one_more_passed : IsReady at number IsSite IsCovered after
+          → HasPassed (passed ++ item_in x ∷ []) after
       one_more_passed ready =
           let n = gives.gives so_far.others so_far.are_left in record {
             ready = ready;
-            state = ap (λ (d : Bor (Contents V D U F)). state_of d.now) gives.same_mesh ∙ so_far.state;
+            state = ap (λ (d : Bor (Contents V D U F)). state_of d.now) gives.same_mesh
+                ∙ so_far.state;
             others = n.1.0;
             line_list = subst (IsLineList (triangulation_of at s) (whole p) (whole q))
-                (ap (λ (l : List Item). passed ++ l) n.1.1 ∙ sym (append_assoc passed (item_in x ∷ []) n.1.0))
+                (ap (λ (l : List Item). passed ++ l) n.1.1
+                ∙ sym (append_assoc passed (item_in x ∷ []) n.1.0))
                 so_far.line_list;
             are_left = n.1.2;
           }
@@ -68,12 +77,15 @@ module _ {V D U F P S : Type 0} (at : V → Point) (number : S → ℤ) (IsSite 
           let n = gives.gives so_far.others so_far.are_left in (
             n.1.0,
             subst (IsLineList (triangulation_of at s) (whole p) (whole q))
-                (ap (λ (l : List Item). passed ++ l) n.1.1 ∙ sym (append_assoc passed (item_in x ∷ []) n.1.0))
+                (ap (λ (l : List Item). passed ++ l) n.1.1
+                ∙ sym (append_assoc passed (item_in x ∷ []) n.1.0))
                 so_far.line_list,
           )
 
     -- all of them
-    pub all_passed : GivesNext at number now None after → IsLineList (triangulation_of at s) (whole p) (whole q) passed
+    pub all_passed : GivesNext at number now None after
+        → IsLineList (triangulation_of at s) (whole p) (whole q) passed
     all_passed gives = subst (IsLineList (triangulation_of at s) (whole p) (whole q))
-        (ap (λ (l : List Item). passed ++ l) (gives.gives so_far.others so_far.are_left).0 ∙ append-nil passed)
+        (ap (λ (l : List Item). passed ++ l) (gives.gives so_far.others so_far.are_left).0
+        ∙ append-nil passed)
         so_far.line_list

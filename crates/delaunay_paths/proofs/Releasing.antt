@@ -1,5 +1,6 @@
 -- A constraint that is released, and what is left to test then.
-use Rattle.std.proofs.Common.{◌≡◌, ◌≢◌, ◌⊎◌, ◌↔◌, ℕ, ◌*◌, ◌<◌, ◌≤◌, List, [], ◌∷◌, length, map, set, sym, ap, ◌∙◌}
+use Rattle.std.proofs.Common.{◌≡◌, ◌≢◌, ◌⊎◌, ◌↔◌, ◌*◌, ◌<◌, ◌≤◌, [], ◌∷◌, ◌∙◌}
+use Rattle.std.proofs.Common.{ℕ, List, length, map, set, sym, ap}
 use Rattle.std.proofs.Common.{subst, inl, inr, arith}
 use Rattle.std.specs.Prelude.{Bool, false, All, Contains}
 use Rattle.std.proofs.lemmas.Bool.{cases_eq}
@@ -35,7 +36,8 @@ use Rattle.mesh_embedding.proofs.EdgePairs.{rev_of_even}
 pub same_pair_or_not : (a b u v : ℕ) → IsSamePair a b u v ⊎ (¬ IsSamePair a b u v)
 same_pair_or_not a b u v = go (cases_eq a u) (cases_eq b v) (cases_eq a v) (cases_eq b u)
   where
-    second : (a ≡ v) ⊎ (a ≢ v) → (b ≡ u) ⊎ (b ≢ u) → ¬ ((a ≡ u) × (b ≡ v)) → IsSamePair a b u v ⊎ (¬ IsSamePair a b u v)
+    second : (a ≡ v) ⊎ (a ≢ v) → (b ≡ u) ⊎ (b ≢ u) → ¬ ((a ≡ u) × (b ≡ v))
+        → IsSamePair a b u v ⊎ (¬ IsSamePair a b u v)
     second (inl e) (inl f) n = inl (inr (e, f))
     second (inl e) (inr f) n = inr (λ s. elim s as (λ _. ⊥) [ inl x ↦ n x | inr x ↦ f x.1 ])
     second (inr e) q n = inr (λ s. elim s as (λ _. ⊥) [ inl x ↦ n x | inr x ↦ e x.0 ])
@@ -47,7 +49,8 @@ same_pair_or_not a b u v = go (cases_eq a u) (cases_eq b v) (cases_eq a v) (case
     go (inr e) f q r = second q r (λ x. e x.0)
 
 -- an edge has the ends of no other
-module _ {V D U F : Type 0} (at : V → Point) (c : Contents V D U F) (kept : IsTriangulated at (state_of c)) where
+module _ {V D U F : Type 0} (at : V → Point) (c : Contents V D U F)
+    (kept : IsTriangulated at (state_of c)) where
   indexes : KeepsIndexes c.mesh c.mesh
   indexes = own_indexes (map at c.vertices) c.mesh kept.valid kept.shape
 
@@ -69,14 +72,15 @@ module _ {V D U F : Type 0} (at : V → Point) (c : Contents V D U F) (kept : Is
       omega (arith, r, f)
 
 module _ {V D U F : Type 0} (at : V → Point) (marks : U → Bool) (constraints : List U → List ℕ)
-    (marked : (ds : List U) → constraints ds ≡ marked_edges marks ds) (old : Contents V D U F) (k : ℕ)
-    (there : Contains (constraints old.undirected) k) where
+    (marked : (ds : List U) → constraints ds ≡ marked_edges marks ds) (old : Contents V D U F)
+    (k : ℕ) (there : Contains (constraints old.undirected) k) where
   -- the constraint is one of the undirected edges
   pub edge_there : k < length old.undirected
   edge_there = fixed_within marks constraints marked old.undirected k there
 
-  module _ (legal : IsDelaunayTriangulation at constraints (state_of old)) (mid : Contents V D U F) (change : U → U)
-      (free : (d : U) → marks (change d) ≡ false) (written : HasEdgeData change old mid k) where
+  module _ (legal : IsDelaunayTriangulation at constraints (state_of old)) (mid : Contents V D U F)
+      (change : U → U) (free : (d : U) → marks (change d) ≡ false)
+      (written : HasEdgeData change old mid k) where
     same : mid.mesh ≡ old.mesh
     same = ap (λ (c : Contents V D U F). c.mesh) written.whole
 
@@ -86,14 +90,15 @@ module _ {V D U F : Type 0} (at : V → Point) (marks : U → Bool) (constraints
 
     -- a triangulation stays one
     pub released_kept : IsTriangulated at (state_of mid)
-    released_kept = subst (λ (c : Contents V D U F). IsTriangulated at (state_of c)) (sym written.whole) (record {
-      in_range = legal.kept.in_range;
-      few_edges = rw (length-set old.undirected k (change written.value)) legal.kept.few_edges;
-      few_faces = legal.kept.few_faces;
-      valid = legal.kept.valid;
-      fits = rw (length-set old.undirected k (change written.value)) legal.kept.fits;
-      shape = legal.kept.shape;
-    })
+    released_kept = subst (λ (c : Contents V D U F). IsTriangulated at (state_of c))
+        (sym written.whole) (record {
+          in_range = legal.kept.in_range;
+          few_edges = rw (length-set old.undirected k (change written.value)) legal.kept.few_edges;
+          few_faces = legal.kept.few_faces;
+          valid = legal.kept.valid;
+          fits = rw (length-set old.undirected k (change written.value)) legal.kept.fits;
+          shape = legal.kept.shape;
+        })
 
     abbrev u : ℕ
     u = origin old.mesh (2 * k)
@@ -101,16 +106,20 @@ module _ {V D U F : Type 0} (at : V → Point) (marks : U → Bool) (constraints
     abbrev v : ℕ
     v = origin old.mesh (rev (2 * k))
 
-    now_is : constraint_pairs constraints mid.mesh mid.undirected ≡ constraint_pairs constraints old.mesh
-        (set old.undirected k (change written.value))
-    now_is = ap (λ (c : Contents V D U F). constraint_pairs constraints c.mesh c.undirected) written.whole
+    now_is : constraint_pairs constraints mid.mesh mid.undirected
+        ≡ constraint_pairs constraints old.mesh (set old.undirected k (change written.value))
+    now_is = ap
+        (λ (c : Contents V D U F). constraint_pairs constraints c.mesh c.undirected) written.whole
 
     leaves : (a b : ℕ) → Joins (constraint_pairs constraints mid.mesh mid.undirected) a b ↔
         (Joins (constraint_pairs constraints old.mesh old.undirected) a b × ¬ IsSamePair a b u v)
     leaves a b = subst (λ (ps : List (ℕ × ℕ)). Joins ps a b ↔
-        (Joins (constraint_pairs constraints old.mesh old.undirected) a b × ¬ IsSamePair a b u v)) (sym now_is)
-        (unmarking_leaves marks constraints marked old.undirected k written.value (change written.value) written.was
-        old.mesh (free written.value) (λ l within. one_edge at old legal.kept k l edge_there within) a b)
+        (Joins (constraint_pairs constraints old.mesh old.undirected) a b
+        × ¬ IsSamePair a b u v)) (sym now_is)
+        (unmarking_leaves marks constraints marked old.undirected k written.value
+        (change written.value) written.was
+        old.mesh (free written.value)
+        (λ l within. one_edge at old legal.kept k l edge_there within) a b)
 
     here : Joins (pairs_at old.mesh (k ∷ [])) u v
     here = joins_edge old.mesh (k ∷ []) k (Contains-head k [])
@@ -134,26 +143,32 @@ module _ {V D U F : Type 0} (at : V → Point) (marks : U → Bool) (constraints
     pub left_to_test : AreEdges mid.mesh (k ∷ [])
     left_to_test = subst (λ (m : Mesh). AreEdges m (k ∷ [])) (sym same) (record {
       within = λ l c. elim (Contains-cases k [] l c) [
-        | inl e ↦ subst (λ (x : ℕ). 2 * x < length old.mesh.half_edges) e (double at old legal.kept k edge_there)
+        | inl e ↦ subst (λ (x : ℕ). 2 * x < length old.mesh.half_edges) e
+            (double at old legal.kept k edge_there)
         | inr n ↦ absurd (Contains-none l n)
       ];
       once = once_after [] k once_none (λ c. Contains-none k c);
     })
 
     -- after flips that make it Delaunay again, the constraint is released
-    pub released : (new : Contents V D U F) → new ≡ record mid { mesh = new.mesh } → KeepsIndexes mid.mesh new.mesh →
-        constraint_pairs constraints new.mesh new.undirected ≡ constraint_pairs constraints mid.mesh mid.undirected →
-        IsDelaunayTriangulation at constraints (state_of new) → ReleasesEdge at change constraints old new k
+    pub released : (new : Contents V D U F) → new ≡ record mid { mesh = new.mesh }
+        → KeepsIndexes mid.mesh new.mesh →
+        constraint_pairs constraints new.mesh new.undirected
+        ≡ constraint_pairs constraints mid.mesh mid.undirected →
+        IsDelaunayTriangulation at constraints (state_of new)
+        → ReleasesEdge at change constraints old new k
     released new contents indexes constraints_stay now_legal = record {
       value = written.value;
       was = written.was;
-      contents = contents ∙ ap (λ (c : Contents V D U F). record c { mesh = new.mesh }) written.whole;
+      contents = contents
+          ∙ ap (λ (c : Contents V D U F). record c { mesh = new.mesh }) written.whole;
       indexes = subst (λ (m : Mesh). KeepsIndexes m new.mesh) same indexes;
       plain = record {
         there = joins_edge old.mesh (constraints old.undirected) k there;
         vertices = ap (λ (c : Contents V D U F). c.vertices) contents ∙ same_vertices;
         constraints = λ a b. subst (λ (ps : List (ℕ × ℕ)). Joins ps a b ↔
-            (Joins (constraint_pairs constraints old.mesh old.undirected) a b × ¬ IsSamePair a b u v))
+            (Joins (constraint_pairs constraints old.mesh old.undirected) a b
+            × ¬ IsSamePair a b u v))
             (sym constraints_stay) (leaves a b);
       };
       legal = now_legal;
@@ -170,7 +185,8 @@ module _ {V D U F : Type 0} (old mid : Contents V D U F)
   room_on room h = subst (λ (vs : List V). 3 * length vs ≤ room) (sym stay) h
 
   -- flips that fit in the count fit in it afterwards
-  pub fits_on : (flips : ℕ) → FlipsFit (length old.vertices) flips → FlipsFit (length mid.vertices) flips
+  pub fits_on : (flips : ℕ) → FlipsFit (length old.vertices) flips
+      → FlipsFit (length mid.vertices) flips
   fits_on flips h = subst (λ (vs : List V). FlipsFit (length vs) flips) (sym stay) h
 
   -- a count of the flips afterwards is one of before
@@ -181,19 +197,24 @@ module _ {V D U F : Type 0} (old mid : Contents V D U F)
 module _ {V D U F : Type 0} (at : V → Point) (old mid : Contents V D U F)
     (stays : mid ≡ record old { mesh = mid.mesh; undirected = mid.undirected }) where
   -- vertices that are sites are sites afterwards
-  pub sites_on : (IsSite : Point → Type 0) → All IsSite (map at old.vertices) → All IsSite (map at mid.vertices)
+  pub sites_on : (IsSite : Point → Type 0) → All IsSite (map at old.vertices)
+      → All IsSite (map at mid.vertices)
   sites_on IsSite sites =
-      subst (λ (vs : List V). All IsSite (map at vs)) (sym (ap (λ (c : Contents V D U F). c.vertices) stays)) sites
+      subst (λ (vs : List V). All IsSite (map at vs))
+      (sym (ap (λ (c : Contents V D U F). c.vertices) stays)) sites
 
 -- a path was added, and edges were flipped
 pub constraints_added : {V D U F : Type 0} (at : V → Point) (marks : U → Bool) (marked : U → U)
-    (constraints : List U → List ℕ) (old mid new : Contents V D U F) (i j : ℕ) →
-    AddsPath at marks marked constraints old mid i j → new ≡ record mid { mesh = new.mesh }
-    → constraints_by constraints (state_of new) ≡ constraints_by constraints (state_of mid) →
-    IsDelaunayTriangulation at constraints (state_of new) → AddsConstraints at marks marked constraints old new i j
-constraints_added {V = V} {D = D} {U = U} {F = F} at marks marked constraints old mid new i j adds contents same legal =
+    (constraints : List U → List ℕ) (old mid new : Contents V D U F) (i j : ℕ)
+    → AddsPath at marks marked constraints old mid i j → new ≡ record mid { mesh = new.mesh }
+    → constraints_by constraints (state_of new) ≡ constraints_by constraints (state_of mid)
+    → IsDelaunayTriangulation at constraints (state_of new)
+    → AddsConstraints at marks marked constraints old new i j
+constraints_added {V = V} {D = D} {U = U} {F = F} at marks marked constraints old mid new i j adds
+    contents same legal =
     record {
-      contents = contents ∙ ap (λ (c : Contents V D U F). record c { mesh = new.mesh }) adds.contents
+      contents = contents
+          ∙ ap (λ (c : Contents V D U F). record c { mesh = new.mesh }) adds.contents
           ∙ ap (λ (us : List U). record old { mesh = new.mesh; undirected = us })
           (sym (ap (λ (c : Contents V D U F). c.undirected) contents));
       marks_some = subst (λ (us : List U). MarksSome marks marked old.undirected us)
@@ -204,7 +225,8 @@ constraints_added {V = V} {D = D} {U = U} {F = F} at marks marked constraints ol
         vertices = ap (λ (c : Contents V D U F). c.vertices) contents ∙ adds.plain.vertices;
         constraints = λ a b. subst (λ (ps : List (ℕ × ℕ)). Joins ps a b ↔
             (Joins (constraints_by constraints (state_of old)) a b ⊎
-            AreNeighboursOn at (points_of at (points_and_constraints_by constraints (state_of old))) i j a b))
+            AreNeighboursOn at
+            (points_of at (points_and_constraints_by constraints (state_of old))) i j a b))
             (sym same)
             (adds.plain.constraints a b);
       };
@@ -212,20 +234,24 @@ constraints_added {V = V} {D = D} {U = U} {F = F} at marks marked constraints ol
     }
 
 -- ---- after a path was added
-module _ {V D U F : Type 0} (at : V → Point) (marks : U → Bool) (marked : U → U) (constraints : List U → List ℕ)
-    (old mid : Contents V D U F) (i j : ℕ) (adds : AddsPath at marks marked constraints old mid i j) (left : List ℕ)
+module _ {V D U F : Type 0} (at : V → Point) (marks : U → Bool) (marked : U → U)
+    (constraints : List U → List ℕ) (old mid : Contents V D U F) (i j : ℕ)
+    (adds : AddsPath at marks marked constraints old mid i j) (left : List ℕ)
     (leaves : LeavesToTest (map at old.vertices) old mid left) where
   -- all passed but the constraints, and these are constraints still
-  pub added_passing : IsDelaunayTriangulation at constraints (state_of old) →
-      AllPassBut (map at mid.vertices) (faces_of mid.mesh) (constraint_pairs constraints mid.mesh mid.undirected)
-      (pairs_at mid.mesh left)
+  pub added_passing : IsDelaunayTriangulation at constraints (state_of old)
+      → AllPassBut (map at mid.vertices) (faces_of mid.mesh)
+      (constraint_pairs constraints mid.mesh mid.undirected) (pairs_at mid.mesh left)
   added_passing legal = subst (λ (vs : List V). AllPassBut (map at vs) (faces_of mid.mesh)
-      (constraint_pairs constraints mid.mesh mid.undirected) (pairs_at mid.mesh left)) (sym adds.plain.vertices)
-      (λ a b k l f g free untested. leaves.leaves (constraint_pairs constraints old.mesh old.undirected)
+      (constraint_pairs constraints mid.mesh mid.undirected) (pairs_at mid.mesh left))
+      (sym adds.plain.vertices)
+      (λ a b k l f g free untested. leaves.leaves
+      (constraint_pairs constraints old.mesh old.undirected)
       (λ a b k l f g unmarked _. legal.passing a b k l f g unmarked) a b k l f g
       (λ x. free ((adds.plain.constraints a b).1 (inl x))) untested)
 
   -- what has room for three edges for each vertex has room for the edges afterwards
   pub added_room : (room : ℕ) → 3 * length old.vertices ≤ room → length mid.undirected ≤ room
   added_room room fits =
-      let few = adds.kept.few_edges in let same = ap length adds.plain.vertices in omega (arith, few, same, fits)
+      let few = adds.kept.few_edges in let same = ap length adds.plain.vertices in
+      omega (arith, few, same, fits)

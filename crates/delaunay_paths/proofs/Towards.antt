@@ -1,8 +1,10 @@
 -- The last edge of a mesh that crosses a segment is turned.
-use Rattle.std.proofs.Common.{◌≡◌, ◌≢◌, ◌⊎◌, ℕ, ◌*◌, ◌/◌, ◌<◌, [], ◌∷◌, List, length, sym, ap, ◌∙◌, subst}
+use Rattle.std.proofs.Common.{◌≡◌, ◌≢◌, ◌⊎◌, ◌*◌, ◌/◌, ◌<◌, [], ◌∷◌, ◌∙◌}
+use Rattle.std.proofs.Common.{ℕ, List, length, sym, ap, subst}
 use mathlib.Core.Logic.{inl, inr}
 use Rattle.std.specs.Prelude.{Contains}
-use Rattle.half_edge_mesh.specs.Mesh.{Mesh, AreSoundLinks, IsValidMesh, origin, next, prev, face, rev}
+use Rattle.half_edge_mesh.specs.Mesh.{Mesh, AreSoundLinks, IsValidMesh, origin, next, prev, face}
+use Rattle.half_edge_mesh.specs.Mesh.{rev}
 use Rattle.half_edge_mesh.specs.Flip.{IsFlippable, Flips, flipped}
 use Rattle.half_edge_mesh.specs.Outline.{KeepsOuter}
 use Rattle.half_edge_mesh.specs.Triangles.{FlipsTriangles}
@@ -24,7 +26,8 @@ use Rattle.plane_edits.specs.Change.{FacesChange}
 use Rattle.plane_edits.specs.Legal.{point_of}
 use Rattle.plane_edits.proofs.LocalMesh.Kept.{flip_kept}
 use Rattle.plane_segments.specs.Measure.{crossing_sum}
-use Rattle.plane_segments.specs.Path.{IsFreeOfVertices, IsCrossing, IsLastRight, IsLastLeft, ComesAfterOnRight, ComesAfterOnLeft}
+use Rattle.plane_segments.specs.Path.{IsFreeOfVertices, IsCrossing, IsLastRight, IsLastLeft}
+use Rattle.plane_segments.specs.Path.{ComesAfterOnRight, ComesAfterOnLeft}
 use Rattle.plane_segments.proofs.Crossing.EitherWay.{crossing_is_either_way, edge_back}
 use Rattle.plane_segments.proofs.Crossing.Lowering.{chosen_flip_lowers}
 use Rattle.plane_segments.proofs.Crossing.Order.{last_has_none_after}
@@ -48,8 +51,14 @@ use Rattle.mesh_embedding.proofs.EdgePairs.{edge_joins, joins_edge}
 
 -- ---- the ends of edges that are not turned
 -- a directed edge keeps its ends where another one, not its reverse, is flipped
-others_stay : (m new : Mesh) (e : ℕ) → AreSoundLinks m → IsFlippable m e → Flips m new e → (h : ℕ) → h ≢ e → h ≢ rev e → GoSameWay m h new h
-others_stay m new e s can f h n t = (origin_kept m new e s can f h n t, origin_kept m new e s can f (rev h) (λ r. t (sym (rev-rev h) ∙ ap rev r)) (λ r. n (sym (rev-rev h) ∙ ap rev r ∙ rev-rev e)))
+others_stay : (m new : Mesh) (e : ℕ) → AreSoundLinks m → IsFlippable m e → Flips m new e → (h : ℕ)
+    → h ≢ e → h ≢ rev e → GoSameWay m h new h
+others_stay m new e s can f h n t = (
+  origin_kept m new e s can f h n t,
+  origin_kept m new e s can f
+      (rev h) (λ r. t (sym (rev-rev h) ∙ ap rev r))
+      (λ r. n (sym (rev-rev h) ∙ ap rev r ∙ rev-rev e)),
+)
 
 -- ---- crossing edges, as the laws of the plane have them
 module _ (points : List Point) (m : Mesh) (s : IsValidMesh m) (i j : ℕ) where
@@ -57,37 +66,59 @@ module _ (points : List Point) (m : Mesh) (s : IsValidMesh m) (i j : ℕ) where
   t = drawn points m
 
   -- an edge of the mesh that crosses from the right is an edge that crosses
-  pub crossing : (h : ℕ) → h < length m.half_edges → CrossesFromRight points m i j h → IsCrossing t i j (origin m h) (origin m (rev h))
-  crossing h within c = record { edge = edge_joins m s.sound h within; from_right = c.from_right; to_left = c.to_left; start = c.start; end = c.end }
+  pub crossing : (h : ℕ) → h < length m.half_edges → CrossesFromRight points m i j h
+      → IsCrossing t i j (origin m h) (origin m (rev h))
+  crossing h within c = record {
+    edge = edge_joins m s.sound h within;
+    from_right = c.from_right;
+    to_left = c.to_left;
+    start = c.start;
+    end = c.end;
+  }
 
   -- and each edge that crosses is one of the mesh that crosses from the right
-  pub crossing_at : (v y : ℕ) → IsCrossing t i j v y → (h : ℕ) × (h < length m.half_edges) × (origin m h ≡ v) × (origin m (rev h) ≡ y) × CrossesFromRight points m i j h
+  pub crossing_at : (v y : ℕ) → IsCrossing t i j v y → (h : ℕ) × (h < length m.half_edges)
+      × (origin m h ≡ v) × (origin m (rev h) ≡ y) × CrossesFromRight points m i j h
   crossing_at v y c =
       let h = joins_edge m s.sound v y c.edge in
-      let at = subst (λ (x : ℕ × ℕ). At x.0 x.1) (λ k. (sym h.2 k, sym h.3 k)) (c.from_right, c.to_left, c.start, c.end) in
+      let at = subst (λ (x : ℕ × ℕ). At x.0 x.1) (λ k. (sym h.2 k, sym h.3 k))
+      (c.from_right, c.to_left, c.start, c.end) in
       (h.0, h.1, h.2, h.3, record { from_right = at.0; to_left = at.1; start = at.2; end = at.3 })
     where
       At : ℕ → ℕ → Type 0
-      At v y = (side (place points i) (place points j) (place points v) ≡ right) × TurnsLeft (place points i) (place points j) (place points y) × TurnsLeft (place points v) (place points y) (place points i) × (side (place points v) (place points y) (place points j) ≡ right)
+      At v y = (side (place points i) (place points j) (place points v) ≡ right)
+          × TurnsLeft (place points i) (place points j) (place points y)
+          × TurnsLeft (place points v) (place points y) (place points i)
+          × (side (place points v) (place points y) (place points j) ≡ right)
 
   -- where an edge crosses, not all vertices are on one line
-  pub local_if_crossed : IsMesh points (faces_of m) (outer_of m) → length points ≡ length m.out_edges → IsFreeOfVertices t i j → (h : ℕ) → h < length m.half_edges → CrossesFromRight points m i j h → LocalMesh points (faces_of m) (outer_of m)
+  pub local_if_crossed : IsMesh points (faces_of m) (outer_of m) → length points
+      ≡ length m.out_edges → IsFreeOfVertices t i j → (h : ℕ) → h < length m.half_edges
+      → CrossesFromRight points m i j h → LocalMesh points (faces_of m) (outer_of m)
   local_if_crossed (inl local) count free h within c = local
-  local_if_crossed (inr line) count free h within c = absurd (level (sym (line.1.straight i j (origin m h) free.first free.second (subst (λ (n : ℕ). origin m h < n) (sym count) (s.sound.edges h within).origin_in)) ∙ c.from_right))
+  local_if_crossed (inr line) count free h within c =
+      absurd (level (sym (line.1.straight i j (origin m h) free.first free.second (subst
+      (λ (n : ℕ). origin m h < n) (sym count) (s.sound.edges h within).origin_in)) ∙ c.from_right))
     where
       level : on ≡ right → ⊥
       level e = cc
 
   -- ---- none crosses
   -- where none crosses from the right, and no vertex is between, the segment is an edge
-  pub edge_if_none : IsMesh points (faces_of m) (outer_of m) → IsFreeOfVertices t i j → ((h : ℕ) → h < length m.half_edges → ¬ CrossesFromRight points m i j h) → IsEdge t i j
-  edge_if_none shape free none = elim (meshes_tile points (faces_of m) (outer_of m) (edges_of m) shape (own_edges m s)) [
-    | inl hull ↦ uncrossed_is_edge t i j hull free (λ v y c. let h = crossing_at v y c in none h.0 h.1 h.4)
-    | inr line ↦ piece_on_line_is_edge t i j line free
-  ]
+  pub edge_if_none : IsMesh points (faces_of m) (outer_of m) → IsFreeOfVertices t i j
+      → ((h : ℕ) → h < length m.half_edges → ¬ CrossesFromRight points m i j h) → IsEdge t i j
+  edge_if_none shape free none =
+      elim (meshes_tile points (faces_of m) (outer_of m) (edges_of m) shape (own_edges m s)) [
+        | inl hull ↦
+            uncrossed_is_edge t i j hull free (λ v y c. let h = crossing_at v y c in
+            none h.0 h.1 h.4)
+        | inr line ↦ piece_on_line_is_edge t i j line free
+      ]
 
   -- ---- the last one
-  module _ (local : LocalMesh points (faces_of m) (outer_of m)) (free : IsFreeOfVertices t i j) (e : ℕ) (within : e < length m.half_edges) (last : IsLastBelow points m i j (length m.half_edges) e) where
+  module _ (local : LocalMesh points (faces_of m) (outer_of m)) (free : IsFreeOfVertices t i j)
+      (e : ℕ) (within : e < length m.half_edges)
+      (last : IsLastBelow points m i j (length m.half_edges) e) where
     tiled : TilesHull t
     tiled = mesh_tiles points (faces_of m) (outer_of m) (edges_of m) local (own_edges m s)
 
@@ -110,18 +141,23 @@ module _ (points : List Point) (m : Mesh) (s : IsValidMesh m) (i j : ℕ) where
     twin_within = rev_within e (length m.half_edges) s.sound.even within
 
     inner : 0 < face m e
-    inner = positive (face m e) (λ o. local.supporting (origin m e, origin m (rev e)) (listed m e (origin m e) (origin m (rev e)) (own_ends m e within o)) i free.first last.crosses.start)
+    inner = positive (face m e) (λ o. local.supporting (origin m e, origin m (rev e)) (listed m e
+        (origin m e) (origin m (rev e)) (own_ends m e within o)) i free.first last.crosses.start)
 
     twin_inner : 0 < face m (rev e)
     twin_inner = positive (face m (rev e)) (λ o.
-        local.supporting (origin m (rev e), origin m e) (subst (λ (k : ℕ). Contains (outer_of m) (origin m (rev e), origin m k)) (rev-rev e) (listed m (rev e) (origin m (rev e)) (origin m (rev (rev e))) (own_ends m (rev e) twin_within o))) j free.second
-        (side_swapped (place points (origin m e)) (place points (origin m (rev e))) (place points j) ∙ ap opposite last.crosses.end))
+        local.supporting (origin m (rev e), origin m e) (subst (λ (k : ℕ). Contains (outer_of m)
+        (origin m (rev e), origin m k)) (rev-rev e) (listed m (rev e) (origin m (rev e))
+        (origin m (rev (rev e))) (own_ends m (rev e) twin_within o))) j free.second
+        (side_swapped (place points (origin m e)) (place points (origin m (rev e))) (place points j)
+        ∙ ap opposite last.crosses.end))
 
     flippable : IsFlippable m e
     flippable = between_inner points m s local e within inner twin_inner
 
     twin_flippable : IsFlippable m (rev e)
-    twin_flippable = between_inner points m s local (rev e) twin_within twin_inner (subst (λ (k : ℕ). 0 < face m k) (sym (rev-rev e)) inner)
+    twin_flippable = between_inner points m s local (rev e) twin_within twin_inner
+        (subst (λ (k : ℕ). 0 < face m k) (sym (rev-rev e)) inner)
 
     before : IsFace t v x y
     before = turned_faces (faces_of m) y v x (face_behind m e s.sound flippable)
@@ -135,18 +171,28 @@ module _ (points : List Point) (m : Mesh) (s : IsValidMesh m) (i j : ℕ) where
     last_right : IsLastRight t i j v
     last_right = (last_has_none_after t i j v y).0 (λ u w c a.
         let h = crossing_at u w c in
-        last.none_after h.0 h.1 h.4 (inl (subst (λ (k : ℕ). ComesAfterOnRight (point_of points i) (point_of points v) (point_of points k)) (sym h.2) a)))
+        last.none_after h.0 h.1 h.4 (inl (subst (λ (k : ℕ). ComesAfterOnRight (point_of points i)
+        (point_of points v) (point_of points k)) (sym h.2) a)))
 
     last_left : IsLastLeft t i j v y
     last_left = (last_has_none_after t i j v y).1 (λ w c a.
         let h = crossing_at v w c in
-        last.none_after h.0 h.1 h.4 (inr (ap (point_of points) (sym h.2), subst (λ (k : ℕ × ℕ). ComesAfterOnLeft (point_of points i) (point_of points k.0) (point_of points k.1)) (λ k. (sym meets k, sym h.3 k)) a)))
+        last.none_after h.0 h.1 h.4 (inr (
+          ap (point_of points) (sym h.2),
+          subst (λ (k : ℕ × ℕ). ComesAfterOnLeft (point_of points i) (point_of points k.0)
+              (point_of points k.1)) (λ k. (sym meets k, sym h.3 k)) a,
+        )))
 
-    convex : TurnsLeft (vertex t v) (vertex t x) (vertex t z) × TurnsLeft (vertex t x) (vertex t y) (vertex t z)
-    convex = chosen_flip_is_convex t i j v x y z tiled free crosses before after last_right last_left
+    convex : TurnsLeft (vertex t v) (vertex t x) (vertex t z)
+        × TurnsLeft (vertex t x) (vertex t y) (vertex t z)
+    convex =
+        chosen_flip_is_convex t i j v x y z tiled free crosses before after last_right last_left
 
     corners_apart : x ≢ z
-    corners_apart same = left_not_zero (left_turn (point_of points v) (point_of points x) (point_of points z) convex.0) (ap (λ (k : ℕ). turn_at (point_of points v) (point_of points x) (point_of points k)) (sym same) ∙ turn-same (point_of points v) (point_of points x))
+    corners_apart same = left_not_zero
+        (left_turn (point_of points v) (point_of points x) (point_of points z) convex.0)
+        (ap (λ (k : ℕ). turn_at (point_of points v) (point_of points x) (point_of points k))
+        (sym same) ∙ turn-same (point_of points v) (point_of points x))
 
     -- edge h may be turned, and the corners opposite it differ
     abbrev pub CanTurn : ℕ → Type 0
@@ -156,16 +202,25 @@ module _ (points : List Point) (m : Mesh) (s : IsValidMesh m) (i j : ℕ) where
     pub can_turn_last : CanTurn (2 * (e / 2))
     can_turn_last = elim (halved e) [
       | inl q ↦ subst CanTurn (sym q) (flippable, λ o. corners_apart (sym o))
-      | inr q ↦ subst CanTurn (sym q) (twin_flippable, λ o. corners_apart (o ∙ ap (λ (k : ℕ). origin m (prev m k)) (rev-rev e)))
+      | inr q ↦ subst CanTurn (sym q)
+          (twin_flippable, λ o. corners_apart (o ∙ ap (λ (k : ℕ). origin m (prev m k)) (rev-rev e)))
     ]
 
     abbrev Change : Mesh → Type 0
-    Change new = FacesChange (faces_of m) (faces_of new) (corners v x y ∷ corners v y z ∷ []) (corners v x z ∷ corners x y z ∷ [])
+    Change new = FacesChange (faces_of m) (faces_of new) (corners v x y ∷ corners v y z ∷ [])
+        (corners v x z ∷ corners x y z ∷ [])
 
     by_twin : (new : Mesh) → FlipsTriangles m new (rev e) → Change new
     by_twin new change = from_other_side (faces_of m) (faces_of new) v x y z
-        (subst (λ (k : ℕ × ℕ × ℕ × ℕ). FacesChange (faces_of m) (faces_of new) (corners k.0 k.1 k.2 ∷ corners k.0 k.2 k.3 ∷ []) (corners k.0 k.1 k.3 ∷ corners k.1 k.2 k.3 ∷ []))
-        (λ k. (meets k, origin m (prev m (rev-rev e k)), ((s.sound.edges (rev e) twin_within).starts ∙ ap (origin m) (rev-rev e)) k, x)) (flipped_faces m new (rev e) s.sound twin_flippable change))
+        (subst (λ (k : ℕ × ℕ × ℕ × ℕ). FacesChange (faces_of m) (faces_of new) (corners k.0 k.1 k.2
+        ∷ corners k.0 k.2 k.3 ∷ []) (corners k.0 k.1 k.3 ∷ corners k.1 k.2 k.3 ∷ []))
+        (λ k. (
+          meets k,
+          origin m (prev m (rev-rev e k)),
+          ((s.sound.edges (rev e) twin_within).starts ∙ ap (origin m) (rev-rev e)) k,
+          x,
+        ))
+        (flipped_faces m new (rev e) s.sound twin_flippable change))
 
     change_by : (new : Mesh) → FlipsTriangles m new (2 * (e / 2)) → Change new
     change_by new change = elim (halved e) [
@@ -175,19 +230,28 @@ module _ (points : List Point) (m : Mesh) (s : IsValidMesh m) (i j : ℕ) where
 
     module _ (new : Mesh) (change : FlipsTriangles m new (2 * (e / 2))) where
       -- the sum falls
-      pub turned_lower : crossing_sum points (faces_of new) i j < crossing_sum points (faces_of m) i j
-      turned_lower = chosen_flip_lowers t (faces_of new) i j v x y z tiled free crosses before after last_right last_left (change_by new change)
+      pub turned_lower : crossing_sum points (faces_of new) i j
+          < crossing_sum points (faces_of m) i j
+      turned_lower = chosen_flip_lowers t (faces_of new) i j v x y z tiled free crosses before after
+          last_right last_left (change_by new change)
 
       -- the mesh stays local
       pub turned_local : KeepsOuter m new → LocalMesh points (faces_of new) (outer_of new)
-      turned_local outer = flip_kept points (faces_of m) (faces_of new) (outer_of m) (outer_of new) v x y z local before after convex.0 convex.1 (change_by new change) (outer_kept m new local.once outer)
+      turned_local outer =
+          flip_kept points (faces_of m) (faces_of new) (outer_of m) (outer_of new) v x y z local
+          before after convex.0 convex.1 (change_by new change) (outer_kept m new local.once outer)
 
     -- ---- what does not cross stays
     crosses_at : (h : ℕ) → (h ≡ e) ⊎ (h ≡ rev e) → CrossesSegment points m i j h
-    crosses_at h (inl q) = subst (λ (k : ℕ). CrossesSegment points m i j k) (sym q) ((crossing_is_either_way t i j v (origin m (rev e)) tiled free (edge_joins m s.sound e within)).1 (inl (crossing e within last.crosses)))
+    crosses_at h (inl q) = subst (λ (k : ℕ). CrossesSegment points m i j k) (sym q)
+        ((crossing_is_either_way t i j v (origin m (rev e)) tiled free
+        (edge_joins m s.sound e within)).1 (inl (crossing e within last.crosses)))
     crosses_at h (inr q) = subst (λ (k : ℕ). CrossesSegment points m i j k) (sym q)
-        (subst (λ (k : ℕ). Cross (vertex t i) (vertex t j) (vertex t (origin m (rev e))) (vertex t (origin m k))) (sym (rev-rev e))
-        ((crossing_is_either_way t i j (origin m (rev e)) v tiled free (edge_back t.edges v (origin m (rev e)) (edge_joins m s.sound e within))).1 (inr (crossing e within last.crosses))))
+        (subst (λ (k : ℕ). Cross (vertex t i) (vertex t j) (vertex t (origin m (rev e)))
+        (vertex t (origin m k))) (sym (rev-rev e))
+        ((crossing_is_either_way t i j (origin m (rev e)) v tiled free
+        (edge_back t.edges v (origin m (rev e)) (edge_joins m s.sound e within))).1
+        (inr (crossing e within last.crosses))))
 
     twins : (h : ℕ) → (h ≡ 2 * (e / 2)) ⊎ (h ≡ rev (2 * (e / 2))) → (h ≡ e) ⊎ (h ≡ rev e)
     twins h o = elim (halved e) [
@@ -196,7 +260,9 @@ module _ (points : List Point) (m : Mesh) (s : IsValidMesh m) (i j : ℕ) where
     ]
 
     -- the turn of edge e keeps each edge that does not cross the segment
-    pub turned_keeps : (new : Mesh) → new ≡ flipped m (2 * (e / 2)) → KeepsUncrossed points m new i j
+    pub turned_keeps : (new : Mesh) → new ≡ flipped m (2 * (e / 2))
+        → KeepsUncrossed points m new i j
     turned_keeps new is h clear =
-        others_stay m new (2 * (e / 2)) s.sound can_turn_last.0 (flips_is m new (2 * (e / 2)) s.sound can_turn_last.0 is) h
+        others_stay m new (2 * (e / 2)) s.sound can_turn_last.0
+        (flips_is m new (2 * (e / 2)) s.sound can_turn_last.0 is) h
         (λ q. clear (crosses_at h (twins h (inl q)))) (λ q. clear (crosses_at h (twins h (inr q))))

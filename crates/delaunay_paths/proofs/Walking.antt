@@ -37,8 +37,10 @@ module _ (a b : Point) (apart : ¬ (a ≡ b)) where
     where
       go : IsBetween (F a) (F b) (F k) ⊎ ((F a ≡ F k) × (F k ≡ F b)) → (F a <ℤ F k) × (F k <ℤ F b)
       go (inl (inl h)) = h
-      go (inl (inr h)) = absurd (back (F a) (F b) (F k) (place_of_start a b) (place_of_end a b apart) h.0 h.1)
-      go (inr h) = absurd (level (F a) (F b) (F k) (place_of_start a b) (place_of_end a b apart) h.0 h.1)
+      go (inl (inr h)) =
+          absurd (back (F a) (F b) (F k) (place_of_start a b) (place_of_end a b apart) h.0 h.1)
+      go (inr h) =
+          absurd (level (F a) (F b) (F k) (place_of_start a b) (place_of_end a b apart) h.0 h.1)
 
   -- is neither end
   pub not_start : ¬ WithinSegment (whole a) (whole b) (whole a)
@@ -49,8 +51,11 @@ module _ (a b : Point) (apart : ¬ (a ≡ b)) where
   not_end w = itself (F b) (ordered b w).1
 
   -- within a part is within the whole
-  pub nested : (k x : Point) → WithinSegment (whole a) (whole b) (whole k) → WithinSegment (whole a) (whole k) (whole x) → WithinSegment (whole a) (whole b) (whole x)
-  nested k x h w = within_places a b apart a b x (bracket-outer (lift a) (lift b)) (bracket-last (lift a) (lift b)) (on_of_mean a b apart a k x (bracket-outer (lift a) (lift b)) (within_on a b (whole k) h) w) (go (place_within a b a k x w))
+  pub nested : (k x : Point) → WithinSegment (whole a) (whole b) (whole k)
+      → WithinSegment (whole a) (whole k) (whole x) → WithinSegment (whole a) (whole b) (whole x)
+  nested k x h w = within_places a b apart a b x (bracket-outer (lift a) (lift b))
+      (bracket-last (lift a) (lift b)) (on_of_mean a b apart a k x (bracket-outer (lift a) (lift b))
+      (within_on a b (whole k) h) w) (go (place_within a b a k x w))
     where
       far : (x y z : ℤ) → y <ℤ z → z <ℤ x → x <ℤ y → ⊥
       far x y z e h k = omega (arith, ints)
@@ -74,10 +79,13 @@ module _ {V : Type 0} (at : V → Point) (vs : List V) where
   of_map k h = subst (λ (n : ℕ). k < n) (length-map vs at) h
 
   -- the point of a vertex that is read by its index is among the points
-  pub listed_data : (k : ℕ) (v : V) (q : Point) → slice_get vs k ≡ Some v → q ≡ at v → Contains (map at vs) q
-  listed_data k v q e is = Contains-map at vs k v q (slice_get_within vs k v e) (ap at (get_or_from_slice_get vs k v v e) ∙ sym is)
+  pub listed_data : (k : ℕ) (v : V) (q : Point) → slice_get vs k ≡ Some v → q ≡ at v
+      → Contains (map at vs) q
+  listed_data k v q e is = Contains-map at vs k v q (slice_get_within vs k v e)
+      (ap at (get_or_from_slice_get vs k v v e) ∙ sym is)
 
 -- no two points of a mesh are the same
-pub placed_apart : (points : List Point) (faces : List Face) (outer : List (ℕ × ℕ)) → IsMesh points faces outer → ArePlacedApart points
+pub placed_apart : (points : List Point) (faces : List Face) (outer : List (ℕ × ℕ))
+    → IsMesh points faces outer → ArePlacedApart points
 placed_apart points faces outer (inl m) = m.distinct
 placed_apart points faces outer (inr m) = m.1.distinct

@@ -1,5 +1,7 @@
--- What becomes of a triangulation where the pieces of a path between two of its vertices become constraints.
-use Rattle.std.specs.Prelude.{◌≡◌, ◌⊎◌, ℕ, ◌/◌, ◌<◌, Bool, true, false, List, length, Some, slice_get, slice_set}
+-- What becomes of a triangulation where the pieces of a path between two of its vertices become
+-- constraints.
+use Rattle.std.specs.Prelude.{◌≡◌, ◌⊎◌, ◌/◌, ◌<◌}
+use Rattle.std.specs.Prelude.{ℕ, Bool, true, false, List, length, Some, slice_get, slice_set}
 use Rattle.half_edge_mesh.specs.Contents.{Contents}
 use Rattle.half_edge_mesh.specs.Mesh.{origin, rev}
 use Rattle.plane.specs.Crossing.{Cross}
@@ -13,23 +15,25 @@ use Rattle.delaunay_legalization.specs.State.{state_of}
 -- no pair crosses the segment of i and j
 abbrev pub NoneCrosses : List Point → List (ℕ × ℕ) → ℕ → ℕ → Type 0
 NoneCrosses points pairs i j =
-    (a b : ℕ) → Joins pairs a b → ¬ Cross (place points i) (place points j) (place points a) (place points b)
+    (a b : ℕ) → Joins pairs a b
+    → ¬ Cross (place points i) (place points j) (place points a) (place points b)
 
 -- the same of a mesh, in the words of plain states
-abbrev pub CanAddPath : {V D U F : Type 0} → (V → Point) → (List U → List ℕ) → Contents V D U F → ℕ → ℕ → Type 0
+abbrev pub CanAddPath : {V D U F : Type 0} → (V → Point) → (List U → List ℕ) → Contents V D U F
+    → ℕ → ℕ → Type 0
 CanAddPath at constraints c i j = CanAdd at (points_and_constraints_by constraints (state_of c)) i j
 
 -- i and j are vertices, and no constraint crosses their segment
-pub record HasFreeWay {V D U F : Type 0} (at : V → Point) (constraints : List U → List ℕ) (c : Contents V D U F)
-    (i j : ℕ) : Type 0 where
+pub record HasFreeWay {V D U F : Type 0} (at : V → Point) (constraints : List U → List ℕ)
+    (c : Contents V D U F) (i j : ℕ) : Type 0 where
   pub from : i < length c.vertices
   pub to : j < length c.vertices
   pub free : CanAddPath at constraints c i j
 
--- undirected edge k has the mark: its data are the old ones, or these with the mark where they had none. All else is as
--- it was
-pub record MarksEdge {V D U F : Type 0} (marks : U → Bool) (marked : U → U) (old new : Contents V D U F) (k : ℕ) : Type
-    0 where
+-- undirected edge k has the mark: its data are the old ones, or these with the mark where they had
+-- none. All else is as it was
+pub record MarksEdge {V D U F : Type 0} (marks : U → Bool) (marked : U → U)
+    (old new : Contents V D U F) (k : ℕ) : Type 0 where
   pub value : U
   pub was : slice_get old.undirected k ≡ Some value
   pub after : U
@@ -39,12 +43,13 @@ pub record MarksEdge {V D U F : Type 0} (marks : U → Bool) (marked : U → U) 
 
 -- each edge has the data that it had, or these with the mark where they had none
 abbrev pub MarksSome : {U : Type 0} → (U → Bool) → (U → U) → List U → List U → Type 0
-MarksSome {U = U} marks marked old new = (k : ℕ) (d : U) → slice_get old k ≡ Some d → (slice_get new k ≡ Some d) ⊎
+MarksSome {U = U} marks marked old new =
+    (k : ℕ) (d : U) → slice_get old k ≡ Some d → (slice_get new k ≡ Some d) ⊎
     ((marks d ≡ false) × (slice_get new k ≡ Some (marked d)))
 
 -- the edge that joins i and j has it
-pub record MarksBetween {V D U F : Type 0} (marks : U → Bool) (marked : U → U) (old new : Contents V D U F)
-    (i j : ℕ) : Type 0 where
+pub record MarksBetween {V D U F : Type 0} (marks : U → Bool) (marked : U → U)
+    (old new : Contents V D U F) (i j : ℕ) : Type 0 where
   pub edge : ℕ
   pub source : origin old.mesh edge ≡ i
   pub target : origin old.mesh (rev edge) ≡ j

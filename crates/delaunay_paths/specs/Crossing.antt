@@ -10,20 +10,27 @@ use Rattle.delaunay_legalization.specs.Known.{point_at}
 
 -- directed edge h and the segment from i to j have a point strictly within both
 abbrev pub CrossesSegment : List Point → Mesh → ℕ → ℕ → ℕ → Type 0
-CrossesSegment points m i j h = Cross (place points i) (place points j) (place points (origin m h)) (place points (origin m (rev h)))
+CrossesSegment points m i j h = Cross (place points i) (place points j) (place points (origin m h))
+    (place points (origin m (rev h)))
 
--- directed edge h goes from the right of the way from i to j to its left, with i on its own left and j on its right
+-- directed edge h goes from the right of the way from i to j to its left, with i on its own left
+-- and j on its right
 pub record CrossesFromRight (points : List Point) (m : Mesh) (i j h : ℕ) : Type 0 where
   pub from_right : side (place points i) (place points j) (place points (origin m h)) ≡ right
   pub to_left : TurnsLeft (place points i) (place points j) (place points (origin m (rev h)))
-  pub start : TurnsLeft (place points (origin m h)) (place points (origin m (rev h))) (place points i)
-  pub end : side (place points (origin m h)) (place points (origin m (rev h))) (place points j) ≡ right
+  pub start :
+      TurnsLeft (place points (origin m h)) (place points (origin m (rev h))) (place points i)
+  pub end : side (place points (origin m h)) (place points (origin m (rev h))) (place points j)
+      ≡ right
 
--- seen from i, directed edge h starts after directed edge g, or where it starts, and then ends after it
+-- seen from i, directed edge h starts after directed edge g, or where it starts, and then ends
+-- after it
 abbrev pub ComesAfter : List Point → Mesh → ℕ → ℕ → ℕ → Type 0
 ComesAfter points m i g h =
-    ComesAfterOnRight (point_at points i) (point_at points (origin m g)) (point_at points (origin m h))
-    ⊎ ((point_at points (origin m g) ≡ point_at points (origin m h)) × ComesAfterOnLeft (point_at points i) (point_at points (origin m (rev g))) (point_at points (origin m (rev h))))
+    ComesAfterOnRight (point_at points i) (point_at points (origin m g))
+    (point_at points (origin m h))
+    ⊎ ((point_at points (origin m g) ≡ point_at points (origin m h)) × ComesAfterOnLeft (point_at
+    points i) (point_at points (origin m (rev g))) (point_at points (origin m (rev h))))
 
 -- of the directed edges below n that cross, none comes after g
 pub record IsLastBelow (points : List Point) (m : Mesh) (i j n g : ℕ) : Type 0 where
@@ -32,4 +39,5 @@ pub record IsLastBelow (points : List Point) (m : Mesh) (i j n g : ℕ) : Type 0
 
 -- the last of the directed edges below n that cross, if one does
 abbrev pub IsLastCrossing : List Point → Mesh → ℕ → ℕ → ℕ → Option ℕ → Type 0
-IsLastCrossing points m i j n r = MatchOption r ((h : ℕ) → h < n → ¬ CrossesFromRight points m i j h) (λ g. (g < n) × IsLastBelow points m i j n g)
+IsLastCrossing points m i j n r = MatchOption r ((h : ℕ) → h < n
+    → ¬ CrossesFromRight points m i j h) (λ g. (g < n) × IsLastBelow points m i j n g)

@@ -8,7 +8,8 @@ use Rattle.delaunay_paths.specs.Crossing.{ComesAfter}
 
 -- item k is this vertex, which is not i, or no other vertex than i
 abbrev pub IsOtherVertex : Item → ℕ → Option ℕ → Type 0
-IsOtherVertex k i r = MatchOption r ((v : ℕ) → k ≡ at_vertex v → v ≡ i) (λ v. (k ≡ at_vertex v) × (v ≢ i))
+IsOtherVertex k i r =
+    MatchOption r ((v : ℕ) → k ≡ at_vertex v → v ≡ i) (λ v. (k ≡ at_vertex v) × (v ≢ i))
 
 -- the segment crosses the twin of directed edge h
 abbrev pub crossed_twin : Mesh → ℕ → Item
@@ -17,14 +18,17 @@ crossed_twin m h = across (origin m (rev h)) (origin m h)
 -- item k is that of directed edge h, or no edge that is crossed
 abbrev pub IsCrossedTwin : {V D U F : Type 0} → Contents V D U F → Item → Option ℕ → Type 0
 IsCrossedTwin c k r =
-    MatchOption r ((a b : ℕ) → ¬ (k ≡ across a b)) (λ h. (h < length c.directed) × (k ≡ crossed_twin c.mesh h))
+    MatchOption r ((a b : ℕ) → ¬ (k ≡ across a b))
+    (λ h. (h < length c.directed) × (k ≡ crossed_twin c.mesh h))
 
 -- of directed edge h and the last so far, if there is one, e comes later
 abbrev pub IsLater : List Point → Mesh → ℕ → Option ℕ → ℕ → ℕ → Type 0
 IsLater points m i last h e =
-    MatchOption last (e ≡ h) (λ g. ((e ≡ h) × ComesAfter points m i g h) ⊎ ((e ≡ g) × ¬ ComesAfter points m i g h))
+    MatchOption last (e ≡ h)
+    (λ g. ((e ≡ h) × ComesAfter points m i g h) ⊎ ((e ≡ g) × ¬ ComesAfter points m i g h))
 
 -- the last so far, with item k, of the directed edges below n
 abbrev pub IsLastWith : List Point → Mesh → ℕ → ℕ → Option ℕ → Item → Option ℕ → Type 0
 IsLastWith points m i n last k r = (((a b : ℕ) → ¬ (k ≡ across a b)) × (r ≡ last))
-    ⊎ ((h : ℕ) × (e : ℕ) × (h < n) × (k ≡ crossed_twin m h) × (r ≡ Some e) × IsLater points m i last h e)
+    ⊎ ((h : ℕ) × (e : ℕ) × (h < n) × (k ≡ crossed_twin m h) × (r ≡ Some e)
+    × IsLater points m i last h e)

@@ -7,4 +7,5 @@ use Rattle.delaunay_paths.specs.Crossing.{CrossesSegment}
 
 -- each edge that does not cross the segment from i to j joins what it joined, under its index
 abbrev pub KeepsUncrossed : List Point → Mesh → Mesh → ℕ → ℕ → Type 0
-KeepsUncrossed points old new i j = (h : ℕ) → ¬ CrossesSegment points old i j h → GoSameWay old h new h
+KeepsUncrossed points old new i j =
+    (h : ℕ) → ¬ CrossesSegment points old i j h → GoSameWay old h new h

@@ -14,30 +14,34 @@ use Rattle.mesh_embedding.specs.Drawn.{drawn, faces_of, outer_of}
 use Rattle.mesh_embedding.specs.Legal.{AreEdges, pairs_at}
 use Rattle.delaunay_paths.specs.Kept.{KeepsUncrossed}
 
--- each edge between two faces passes, but perhaps constraints, those that are left to test, and those that cross the
--- segment from i to j
+-- each edge between two faces passes, but perhaps constraints, those that are left to test, and
+-- those that cross the segment from i to j
 abbrev pub AllPassBeyond : List Point → List Face → List (ℕ × ℕ) → List (ℕ × ℕ) → ℕ → ℕ → Type 0
-AllPassBeyond points faces constraints left i j = (a b k l : ℕ) → IsFaceOf faces a b k → IsFaceOf faces b a l →
-    ¬ Cross (place points i) (place points j) (place points a) (place points b) → ¬ Joins constraints a b →
+AllPassBeyond points faces constraints left i j =
+    (a b k l : ℕ) → IsFaceOf faces a b k → IsFaceOf faces b a l →
+    ¬ Cross (place points i) (place points j) (place points a) (place points b)
+    → ¬ Joins constraints a b →
     ¬ Joins left a b → Pass points a b k l
 
 -- the work list is one of edges of the mesh, each once, and has room for all
-pub record IsWorkList {V D U F : Type 0} (c : Contents V D U F) (items : List ℕ) (capacity : ℕ) : Type 0 where
+pub record IsWorkList {V D U F : Type 0} (c : Contents V D U F) (items : List ℕ)
+    (capacity : ℕ) : Type 0 where
   pub edges : AreEdges c.mesh items
   pub room : length c.undirected ≤ capacity
 
--- a flip towards the segment from i to j: the sum over the edges that cross it falls, and each edge that does not cross
--- it and may
--- fail is left to test, whatever the constraints are
-pub record TurnsTowards {V D U F : Type 0} (points : List Point) (old new : Contents V D U F) (i j : ℕ)
-    (was left : List ℕ) : Type 0 where
+-- a flip towards the segment from i to j: the sum over the edges that cross it falls, and each edge
+-- that does not cross it and may fail is left to test, whatever the constraints are
+pub record TurnsTowards {V D U F : Type 0} (points : List Point) (old new : Contents V D U F)
+    (i j : ℕ) (was left : List ℕ) : Type 0 where
   pub contents : new ≡ record old { mesh = new.mesh }
   pub shape : IsMesh points (faces_of new.mesh) (outer_of new.mesh)
   pub kept : KeepsUncrossed points old.mesh new.mesh i j
-  pub lower : crossing_sum points (faces_of new.mesh) i j < crossing_sum points (faces_of old.mesh) i j
+  pub lower : crossing_sum points (faces_of new.mesh) i j
+      < crossing_sum points (faces_of old.mesh) i j
   pub edges : AreEdges new.mesh left
-  pub leaves : (constraints : List (ℕ × ℕ)) → AllPassBeyond points (faces_of old.mesh) constraints
-      (pairs_at old.mesh was) i j → AllPassBeyond points (faces_of new.mesh) constraints (pairs_at new.mesh left) i j
+  pub leaves : (constraints : List (ℕ × ℕ))
+      → AllPassBeyond points (faces_of old.mesh) constraints (pairs_at old.mesh was) i j
+      → AllPassBeyond points (faces_of new.mesh) constraints (pairs_at new.mesh left) i j
 
 -- each edge between two faces that may fail is left to test, whatever the constraints are
 abbrev pub LeavesFailing : List Point → (old new : Mesh) → (was left : List ℕ) → Type 0
@@ -45,7 +49,8 @@ LeavesFailing points old new was left =
     (constraints : List (ℕ × ℕ)) → AllPassBut points (faces_of old) constraints (pairs_at old was)
     → AllPassBut points (faces_of new) constraints (pairs_at new left)
 
--- the segment from i to j is made an edge, and each edge that may fail is left to test, whatever the constraints are
+-- the segment from i to j is made an edge, and each edge that may fail is left to test, whatever
+-- the constraints are
 pub record MakesEdge {V D U F : Type 0} (points : List Point) (old new : Contents V D U F) (i j : ℕ)
     (was left : List ℕ) : Type 0 where
   pub contents : new ≡ record old { mesh = new.mesh }
@@ -56,8 +61,8 @@ pub record MakesEdge {V D U F : Type 0} (points : List Point) (old new : Content
   pub leaves : LeavesFailing points old.mesh new.mesh was left
 
 -- where all passed before, only these edges are left to test
-pub record LeavesToTest {V D U F : Type 0} (points : List Point) (old new : Contents V D U F) (left : List ℕ) : Type
-    0 where
+pub record LeavesToTest {V D U F : Type 0} (points : List Point) (old new : Contents V D U F)
+    (left : List ℕ) : Type 0 where
   pub edges : AreEdges new.mesh left
   pub leaves : (pairs : List (ℕ × ℕ)) → AllPassBut points (faces_of old.mesh) pairs [] →
       AllPassBut points (faces_of new.mesh) pairs (pairs_at new.mesh left)

@@ -1,5 +1,6 @@
 -- An inner vertex with four neighbours, strictly between two of them.
-use Rattle.std.proofs.Common.{◌≡◌, ◌≢◌, ◌↔◌, ℕ, ◌<◌, List, length, sym, ap, ◌∙◌, subst, arith, inl, inr}
+use Rattle.std.proofs.Common.{◌≡◌, ◌≢◌, ◌↔◌, ◌<◌, ◌∙◌}
+use Rattle.std.proofs.Common.{ℕ, List, length, sym, ap, subst, arith, inl, inr}
 use Rattle.half_edge_mesh.specs.Mesh.{Mesh, AreSoundLinks, IsValidMesh, origin, rev}
 use Rattle.half_edge_mesh.specs.Peel.{turn, spoke}
 use Rattle.half_edge_mesh.specs.Round.{neighbour}
@@ -13,16 +14,23 @@ use Rattle.delaunay_removal.proofs.InnerStars.{ends_differ}
 use Rattle.delaunay_removal.proofs.InnerHoles.{between_first_or_next}
 
 -- edges of different vertices start at different positions
-pub starts_apart : (points : List Point) (m : Mesh) → AreSoundLinks m → length m.out_edges ≡ length points → LocalMesh points (faces_of m) (outer_of m) → (a b : ℕ) → a < length m.half_edges → b < length m.half_edges → origin m a ≢ origin m b
-    → (p q : Point) → p ≡ point_at points (origin m a) → q ≡ point_at points (origin m b) → p ≢ q
+pub starts_apart : (points : List Point) (m : Mesh) → AreSoundLinks m
+    → length m.out_edges ≡ length points → LocalMesh points (faces_of m) (outer_of m) → (a b : ℕ)
+    → a < length m.half_edges → b < length m.half_edges → origin m a ≢ origin m b → (p q : Point)
+    → p ≡ point_at points (origin m a) → q ≡ point_at points (origin m b) → p ≢ q
 starts_apart points m s count local a b a_in b_in differ p q at_p at_q e =
     local.distinct (origin m a) (origin m b)
-    (subst (λ (n : ℕ). origin m a < n) count (s.edges a a_in).origin_in) (subst (λ (n : ℕ). origin m b < n) count (s.edges b b_in).origin_in)
+    (subst (λ (n : ℕ). origin m a < n) count (s.edges a a_in).origin_in)
+    (subst (λ (n : ℕ). origin m b < n) count (s.edges b b_in).origin_in)
     differ (ap whole (sym at_p ∙ e ∙ at_q))
 
--- ---- what is read at an edge of a vertex with four neighbours: its ends, and the end of the edge after the next
-module _ (points : List Point) (m : Mesh) (valid : IsValidMesh m) (count : length m.out_edges ≡ length points) (v h opposite : ℕ) (star : IsInnerStar points m v h 4) (is : opposite ≡ turn m (turn m h))
-    (p a b : Point) (at_p : p ≡ point_at points (origin m h)) (at_a : a ≡ point_at points (origin m (rev h))) (at_b : b ≡ point_at points (origin m (rev opposite))) where
+-- ---- what is read at an edge of a vertex with four neighbours: its ends, and the end of the edge
+-- after the next
+module _ (points : List Point) (m : Mesh) (valid : IsValidMesh m)
+    (count : length m.out_edges ≡ length points) (v h opposite : ℕ)
+    (star : IsInnerStar points m v h 4) (is : opposite ≡ turn m (turn m h)) (p a b : Point)
+    (at_p : p ≡ point_at points (origin m h)) (at_a : a ≡ point_at points (origin m (rev h)))
+    (at_b : b ≡ point_at points (origin m (rev opposite))) where
   at_end : b ≡ point_at points (neighbour m h 2)
   at_end = at_b ∙ ap (λ e. point_at points (origin m (rev e))) is
 
@@ -37,26 +45,36 @@ module _ (points : List Point) (m : Mesh) (valid : IsValidMesh m) (count : lengt
 
   -- the ends of the two edges that face one another are different points
   pub ends_apart : a ≢ b
-  ends_apart = starts_apart points m valid.sound count star.shape (rev h) (rev (spoke m h 2)) back_in far_in (ends_differ points m valid v h 4 star (omega arith)) a b at_a at_end
+  ends_apart = starts_apart points m valid.sound count star.shape (rev h) (rev (spoke m h 2))
+      back_in far_in (ends_differ points m valid v h 4 star (omega arith)) a b at_a at_end
 
   -- the vertex is not where the one is
   pub not_from : p ≢ a
-  not_from = starts_apart points m valid.sound count star.shape h (rev h) h_in back_in (valid.apart h h_in) p a at_p at_a
+  not_from = starts_apart points m valid.sound count star.shape h (rev h) h_in back_in
+      (valid.apart h h_in) p a at_p at_a
 
   -- and not where the other is
   pub not_to : p ≢ b
-  not_to = starts_apart points m valid.sound count star.shape h (rev (spoke m h 2)) h_in far_in (λ e. valid.apart (spoke m h 2) (star.round.within 2) (star.round.starts 2 ∙ sym (star.round.starts 0) ∙ e)) p b at_p at_end
+  not_to = starts_apart points m valid.sound count star.shape h (rev (spoke m h 2)) h_in far_in
+      (λ e. valid.apart (spoke m h 2) (star.round.within 2)
+      (star.round.starts 2 ∙ sym (star.round.starts 0) ∙ e)) p b at_p at_end
 
   -- the point of the vertex is strictly between them exactly if the vertex is so at edge h
   pub between_read : WithinSegment (whole a) (whole b) (whole p) ↔ IsBetweenAt points m h
   between_read = (
-    (λ w. subst (λ (x : Point × Point × Point). WithinSegment (whole x.0) (whole x.1) (whole x.2)) (λ i. (at_a i, at_end i, at_p i)) w),
-    (λ w. subst (λ (x : Point × Point × Point). WithinSegment (whole x.0) (whole x.1) (whole x.2)) (λ i. (sym at_a i, sym at_end i, sym at_p i)) w),
+    (λ w. subst (λ (x : Point × Point × Point). WithinSegment (whole x.0) (whole x.1) (whole x.2))
+        (λ i. (at_a i, at_end i, at_p i)) w),
+    (λ w. subst (λ (x : Point × Point × Point). WithinSegment (whole x.0) (whole x.1) (whole x.2))
+        (λ i. (sym at_a i, sym at_end i, sym at_p i)) w),
   )
 
 -- where the vertex is not between the end of one edge and the opposite one, it is so at the next
-pub between_at_next : (points : List Point) (m : Mesh) (v first after : ℕ) → IsInnerStar points m v first 4 → StandsBetween points m v first 4 → ¬ IsBetweenAt points m first → after ≡ turn m first → IsBetweenAt points m after
-between_at_next points m v first after star between not is = subst (IsBetweenAt points m) (sym is) (elim (between_first_or_next points m v first star between) as (λ _. IsBetweenAt points m (turn m first)) [
-  | inl h ↦ absurd (not h)
-  | inr h ↦ h
-])
+pub between_at_next : (points : List Point) (m : Mesh) (v first after : ℕ)
+    → IsInnerStar points m v first 4 → StandsBetween points m v first 4
+    → ¬ IsBetweenAt points m first → after ≡ turn m first → IsBetweenAt points m after
+between_at_next points m v first after star between not is =
+    subst (IsBetweenAt points m) (sym is) (elim (between_first_or_next points m v first star
+    between) as (λ _. IsBetweenAt points m (turn m first)) [
+      | inl h ↦ absurd (not h)
+      | inr h ↦ h
+    ])

@@ -1,5 +1,7 @@
--- A vertex has no more edges than there are vertices, so a list with room for these has room for a pair at each edge.
-use Rattle.std.proofs.Common.{◌≡◌, ℕ, zero, suc, ◌<◌, ◌≤◌, true, false, eqb, List, [], ◌∷◌, length, get_or, map, refl}
+-- A vertex has no more edges than there are vertices, so a list with room for these has room for a
+-- pair at each edge.
+use Rattle.std.proofs.Common.{◌≡◌, ◌<◌, ◌≤◌, [], ◌∷◌}
+use Rattle.std.proofs.Common.{ℕ, zero, suc, true, false, eqb, List, length, get_or, map, refl}
 use Rattle.std.proofs.Common.{sym, ap, ◌∙◌, subst, inl, inr, arith}
 use Rattle.std.specs.List.{list_any}
 use Rattle.std.proofs.lemmas.Bool.{eqb-true}
@@ -34,16 +36,17 @@ get_or-values f zero i d within = absurd (omega arith)
 get_or-values f (suc m) zero d within = refl
 get_or-values f (suc m) (suc i) d within = get_or-values (λ i. f (suc i)) m i d (omega arith)
 
-module _ (f : ℕ → ℕ) (m n : ℕ) (below : (i : ℕ) → i < m → f i < n) (apart : (i j : ℕ) → i < m → j < m → f i ≡ f j →
-    i ≡ j) where
-  differ : (i j d : ℕ) → i < j → j < length (values f m) → eqb (get_or (values f m) i d) (get_or (values f m) j d)
-      ≡ false
+module _ (f : ℕ → ℕ) (m n : ℕ) (below : (i : ℕ) → i < m → f i < n)
+    (apart : (i j : ℕ) → i < m → j < m → f i ≡ f j → i ≡ j) where
+  differ : (i j d : ℕ) → i < j → j < length (values f m)
+      → eqb (get_or (values f m) i d) (get_or (values f m) j d) ≡ false
   differ i j d less within =
       let j_in : j < m = rw length-values at within in
       let i_in : i < m = omega (arith, less, j_in) in
       elim (eqb_tells (get_or (values f m) i d) (get_or (values f m) j d)) [
         | inl q ↦ absurd (let same = apart i j i_in j_in
-            (sym (get_or-values f m i d i_in) ∙ q.1 ∙ get_or-values f m j d j_in) in omega (arith, same, less))
+            (sym (get_or-values f m i d i_in) ∙ q.1 ∙ get_or-values f m j d j_in) in
+            omega (arith, same, less))
         | inr q ↦ q.0
       ]
 
@@ -59,7 +62,8 @@ module _ (f : ℕ → ℕ) (m n : ℕ) (below : (i : ℕ) → i < m → f i < n)
   at_most : m ≤ n
   at_most =
       let few =
-      length-le_from_distinct_below (values f m) n (IsDistinct-from_apart eqb (values f m) differ) all_below in
+      length-le_from_distinct_below (values f m) n
+      (IsDistinct-from_apart eqb (values f m) differ) all_below in
       omega (arith, few, length-values f m)
 
 module _ {V D U F : Type 0} (place : V → Point) (c : Contents V D U F) (whole : IsMeshWithData c)
@@ -70,7 +74,8 @@ module _ {V D U F : Type 0} (place : V → Point) (c : Contents V D U F) (whole 
       let sound = whole.valid.sound in
       at_most (neighbour c.mesh first) count (length c.vertices)
       (λ i less. subst (λ (n : ℕ). neighbour c.mesh first i < n) (sym whole.fits.vertices_fit)
-      (sound.edges (rev (spoke c.mesh first i)) (rev_within (spoke c.mesh first i) (length c.mesh.half_edges)
+      (sound.edges (rev (spoke c.mesh first i))
+      (rev_within (spoke c.mesh first i) (length c.mesh.half_edges)
       sound.even (round.within i))).origin_in)
       (neighbours_apart (map place c.vertices) c.mesh whole.valid shape v first count round)
 

@@ -1,5 +1,6 @@
 -- The edges round a vertex cease to be constraints, one after another.
-use Rattle.std.proofs.Common.{◌≡◌, ◌≢◌, ℕ, ◌+◌, ◌*◌, ◌/◌, ◌<◌, List, length, set, Some, refl, sym, ap, ◌∙◌, subst, inl}
+use Rattle.std.proofs.Common.{◌≡◌, ◌≢◌, ◌+◌, ◌*◌, ◌/◌, ◌<◌, ◌∙◌}
+use Rattle.std.proofs.Common.{ℕ, List, length, set, Some, refl, sym, ap, subst, inl}
 use Rattle.std.proofs.Common.{inr, arith}
 use Rattle.std.specs.Prelude.{Bool, true, false, [], Contains, Option, None, IsSome, slice_get}
 use Rattle.std.proofs.lemmas.Bool.{cases_eq}
@@ -49,11 +50,13 @@ module _ {V D U F : Type 0} (marks : U → Bool) (old : Contents V D U F) (first
   same_directed now contents = ap (λ (c : Contents V D U F). c.directed) contents
 
   -- the mesh stays
-  pub same_mesh : (now : Contents V D U F) → now ≡ record old { undirected = now.undirected } → now.mesh ≡ old.mesh
+  pub same_mesh : (now : Contents V D U F) → now ≡ record old { undirected = now.undirected }
+      → now.mesh ≡ old.mesh
   same_mesh now contents = ap (λ (c : Contents V D U F). c.mesh) contents
 
-  module _ (now new : Contents V D U F) (i edge : ℕ) (freeing : IsFreeing now i edge) (change : U → U)
-      (free : (d : U) → marks (change d) ≡ false) (written : HasEdgeData change now new (edge / 2)) where
+  module _ (now new : Contents V D U F) (i edge : ℕ) (freeing : IsFreeing now i edge)
+      (change : U → U) (free : (d : U) → marks (change d) ≡ false)
+      (written : HasEdgeData change now new (edge / 2)) where
     abbrev x : U
     x = change written.value
 
@@ -77,7 +80,8 @@ module _ {V D U F : Type 0} (marks : U → Bool) (old : Contents V D U F) (first
         ap marks read ∙ free written.value
 
     unmarked_still : (k : ℕ) → k ≢ edge / 2 → IsUnmarked marks now k → IsUnmarked marks new k
-    unmarked_still k off was d is = was d (sym (slice_get-set_other now.undirected (edge / 2) k x off)
+    unmarked_still k off was d is =
+        was d (sym (slice_get-set_other now.undirected (edge / 2) k x off)
         ∙ subst (λ (us : List U). slice_get us k ≡ Some d) data_are is)
 
     -- with the mark of the edge gone, the edge that it turns to is the next one
@@ -87,7 +91,8 @@ module _ {V D U F : Type 0} (marks : U → Bool) (old : Contents V D U F) (first
       contents = contents_are;
       count = ap length data_are ∙ length-set now.undirected (edge / 2) x ∙ freeing.count;
       within = subst (λ (ds : List D). after < length ds) (same_directed new contents_are) within;
-      here = is ∙ ap (λ (m : Mesh). turn m edge) (same_mesh new contents_are) ∙ ap (turn old.mesh) freeing.here
+      here = is ∙ ap (λ (m : Mesh). turn m edge) (same_mesh new contents_are)
+          ∙ ap (turn old.mesh) freeing.here
           ∙ ap (spoke old.mesh first) (sym (add-one i));
       done = λ j less. elim (cases_eq (spoke old.mesh first j / 2) (edge / 2)) [
         | inl e ↦ subst (IsUnmarked marks new) (sym e) unmarked_here
@@ -100,26 +105,32 @@ module _ {V D U F : Type 0} (marks : U → Bool) (old : Contents V D U F) (first
       where
         before : (j : ℕ) → j < i + 1 → spoke old.mesh first j / 2 ≢ edge / 2 → j < i
         before j less n = elim (cases_eq j i) [
-          | inl e ↦ absurd (n (ap (λ (k : ℕ). spoke old.mesh first k / 2) e ∙ ap (λ (h : ℕ). h / 2) (sym freeing.here)))
+          | inl e ↦ absurd (n (ap (λ (k : ℕ). spoke old.mesh first k / 2) e
+              ∙ ap (λ (h : ℕ). h / 2) (sym freeing.here)))
           | inr m ↦ omega (arith, less, m)
         ]
 
   -- all edges of the vertex are free
-  module _ (whole : IsMeshWithData old) (v count : ℕ) (round : IsRound old.mesh v first count) (now : Contents V D U F)
-      (i edge : ℕ) (freeing : IsFreeing now i edge) (all : (j : ℕ) → j < count → j < i) where
+  module _ (whole : IsMeshWithData old) (v count : ℕ) (round : IsRound old.mesh v first count)
+      (now : Contents V D U F) (i edge : ℕ) (freeing : IsFreeing now i edge)
+      (all : (j : ℕ) → j < count → j < i) where
     double : (k : ℕ) → k < length old.undirected → 2 * k < length old.mesh.half_edges
     double k within = let f = whole.fits.undirected_fit in omega (arith, f, within)
 
-    by_spoke : (h k : ℕ) → h < length old.mesh.half_edges → origin old.mesh h ≡ v → h / 2 ≡ k → IsUnmarked marks now k
+    by_spoke : (h k : ℕ) → h < length old.mesh.half_edges → origin old.mesh h ≡ v → h / 2 ≡ k
+        → IsUnmarked marks now k
     by_spoke h k within at half =
         let s = round.all h within at in
-        subst (IsUnmarked marks now) (ap (λ (g : ℕ). g / 2) (sym s.2) ∙ half) (freeing.done s.0 (all s.0 s.1))
+        subst (IsUnmarked marks now) (ap (λ (g : ℕ). g / 2) (sym s.2) ∙ half)
+        (freeing.done s.0 (all s.0 s.1))
 
-    not_round : (k : ℕ) → origin old.mesh (2 * k) ≢ v → origin old.mesh (rev (2 * k)) ≢ v → (j : ℕ) →
-        spoke old.mesh first j / 2 ≢ k
+    not_round : (k : ℕ) → origin old.mesh (2 * k) ≢ v → origin old.mesh (rev (2 * k)) ≢ v → (j : ℕ)
+        → spoke old.mesh first j / 2 ≢ k
     not_round k starts ends j half = elim (even_or_odd (spoke old.mesh first j)) as (λ _. ⊥) [
-      | inl q ↦ starts (ap (origin old.mesh) (sym (q.0 ∙ ap (λ (n : ℕ). 2 * n) half)) ∙ round.starts j)
-      | inr q ↦ ends (ap (origin old.mesh) (rev_of_even k ∙ sym (q.0 ∙ ap (λ (n : ℕ). 2 * n + 1) half))
+      | inl q ↦
+          starts (ap (origin old.mesh) (sym (q.0 ∙ ap (λ (n : ℕ). 2 * n) half)) ∙ round.starts j)
+      | inr q ↦
+          ends (ap (origin old.mesh) (rev_of_even k ∙ sym (q.0 ∙ ap (λ (n : ℕ). 2 * n + 1) half))
           ∙ round.starts j)
     ]
 
@@ -130,17 +141,19 @@ module _ {V D U F : Type 0} (marks : U → Bool) (old : Contents V D U F) (first
       count = freeing.count;
       starting = λ k within at. by_spoke (2 * k) k (double k within) at (half_of_even k);
       ending = λ k within at. by_spoke (rev (2 * k)) k
-          (rev_within (2 * k) (length old.mesh.half_edges) whole.valid.sound.even (double k within)) at
+          (rev_within (2 * k) (length old.mesh.half_edges) whole.valid.sound.even (double k within))
+          at
           (ap (λ (h : ℕ). h / 2) (rev_of_even k) ∙ half_of_odd k);
       others = λ k starts ends. freeing.others k (not_round k starts ends);
     }
 
 -- a vertex without edges has none to free
-module _ {V D U F : Type 0} (marks : U → Bool) (old : Contents V D U F) (v : ℕ) (whole : IsMeshWithData old)
-    (none : out_edge old.mesh v ≡ None) where
+module _ {V D U F : Type 0} (marks : U → Bool) (old : Contents V D U F) (v : ℕ)
+    (whole : IsMeshWithData old) (none : out_edge old.mesh v ≡ None) where
   not_at : (h : ℕ) → h < length old.mesh.half_edges → origin old.mesh h ≡ v → ⊥
   not_at h within at = nothing (out_edge old.mesh v) none
-      (subst (λ (x : ℕ). IsSome (out_edge old.mesh x)) at (whole.valid.sound.edges h within).has_out)
+      (subst (λ (x : ℕ). IsSome (out_edge old.mesh x)) at
+      (whole.valid.sound.edges h within).has_out)
     where
       nothing : (o : Option ℕ) → o ≡ None → IsSome o → ⊥
       nothing None e had = absurd (cc)
@@ -153,7 +166,8 @@ module _ {V D U F : Type 0} (marks : U → Bool) (old : Contents V D U F) (v : �
     count = refl;
     starting = λ k within at. absurd (not_at (2 * k) (double k within) at);
     ending = λ k within at. absurd (not_at (rev (2 * k))
-        (rev_within (2 * k) (length old.mesh.half_edges) whole.valid.sound.even (double k within)) at);
+        (rev_within (2 * k) (length old.mesh.half_edges) whole.valid.sound.even (double k within))
+        at);
     others = λ k starts ends. refl;
   }
     where
@@ -162,8 +176,8 @@ module _ {V D U F : Type 0} (marks : U → Bool) (old : Contents V D U F) (v : �
 
 -- where there are no constraints there are none to free
 module _ {V D U F : Type 0} (marks : U → Bool) (constraints : List U → List ℕ)
-    (marked : (ds : List U) → constraints ds ≡ marked_edges marks ds) (old : Contents V D U F) (v : ℕ)
-    (none : constraint_pairs constraints old.mesh old.undirected ≡ []) where
+    (marked : (ds : List U) → constraints ds ≡ marked_edges marks ds) (old : Contents V D U F)
+    (v : ℕ) (none : constraint_pairs constraints old.mesh old.undirected ≡ []) where
   unmarked : (k : ℕ) → IsUnmarked marks old k
   unmarked k d is = go (marks d) refl
     where

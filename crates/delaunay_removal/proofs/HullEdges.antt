@@ -8,7 +8,8 @@ use Rattle.half_edge_links.proofs.Lists.Rev.{rev-rev}
 use Rattle.delaunay_removal.specs.Star.{HasInnerFaces}
 
 -- where none has it, the faces round the vertex are inner ones
-pub faces_inner : (m : Mesh) (v first count : ℕ) → AreSoundLinks m → IsRound m v first count → ((i : ℕ) → i < count → ¬ (face m (rev (spoke m first i)) ≡ 0)) → HasInnerFaces m v
+pub faces_inner : (m : Mesh) (v first count : ℕ) → AreSoundLinks m → IsRound m v first count
+    → ((i : ℕ) → i < count → ¬ (face m (rev (spoke m first i)) ≡ 0)) → HasInnerFaces m v
 faces_inner m v first count s round none h within starts = go (face m h) refl_face
   where
     at : (i : ℕ) × (i < count) × (h ≡ spoke m first i)
@@ -17,12 +18,15 @@ faces_inner m v first count s round none h within starts = go (face m h) refl_fa
     -- the face on the left of an edge is on the right of the next one round
     beside : (i : ℕ) → face m (rev (spoke m first (suc i))) ≡ face m (spoke m first i)
     beside i = ap (face m) (rev-rev (prev m (spoke m first i)))
-        ∙ sym (ap (face m) (sym (s.edges (spoke m first i) (round.within i)).next_prev) ∙ (s.edges (prev m (spoke m first i)) (s.edges (spoke m first i) (round.within i)).prev_in).same_face)
+        ∙ sym (ap (face m) (sym (s.edges (spoke m first i) (round.within i)).next_prev)
+        ∙ (s.edges (prev m (spoke m first i))
+        (s.edges (spoke m first i) (round.within i)).prev_in).same_face)
 
     not_outer : (i : ℕ) → i < count → ¬ (face m (spoke m first i) ≡ 0)
     not_outer i less zero_face = elim (cases_lt (suc i) count) [
       | inl l ↦ none (suc i) l (beside i ∙ zero_face)
-      | inr l ↦ none 0 round.some (ap (λ x. face m (rev x)) (sym (round.back 0) ∙ ap (spoke m first) (let e : 0 + count ≡ suc i = omega (arith, l, less) in e)) ∙ beside i ∙ zero_face)
+      | inr l ↦ none 0 round.some (ap (λ x. face m (rev x)) (sym (round.back 0) ∙ ap (spoke m first)
+          (let e : 0 + count ≡ suc i = omega (arith, l, less) in e)) ∙ beside i ∙ zero_face)
     ]
 
     refl_face : face m h ≡ face m h

@@ -15,12 +15,15 @@ use Rattle.delaunay_removal.proofs.HullStars.{flat_has_three}
 use Rattle.delaunay_removal.proofs.HullSides.{corner_read}
 use Rattle.delaunay_removal.proofs.InnerHoles.{isolates_from}
 
-module _ {V D U F : Type 0} (place : V → Point) (old mid : Contents V D U F) (whole : IsMeshWithData mid) (v first count : ℕ) (contents : mid ≡ record old { mesh = mid.mesh }) (star : IsHullStar (map place mid.vertices) mid.mesh v first count) where
+module _ {V D U F : Type 0} (place : V → Point) (old mid : Contents V D U F) (whole :
+    IsMeshWithData mid) (v first count : ℕ) (contents : mid ≡ record old { mesh = mid.mesh })
+    (star : IsHullStar (map place mid.vertices) mid.mesh v first count) where
   same : mid.vertices ≡ old.vertices
   same = ap (λ (c : Contents V D U F). c.vertices) contents
 
   -- the vertices are sites as they were
-  pub hull_sites : (IsSite : Point → Type 0) → All IsSite (map place old.vertices) → All IsSite (map place mid.vertices)
+  pub hull_sites : (IsSite : Point → Type 0) → All IsSite (map place old.vertices)
+      → All IsSite (map place mid.vertices)
   hull_sites IsSite sites = subst (λ (vs : List V). All IsSite (map place vs)) (sym same) sites
 
   -- edge first is one of the directed edges
@@ -36,26 +39,44 @@ module _ {V D U F : Type 0} (place : V → Point) (old mid : Contents V D U F) (
       omega (arith, few, fit, kept, fits)
 
   -- the star by another name of the vertex
-  pub hull_named : (vertex : ℕ) → v ≡ vertex → IsHullStar (map place mid.vertices) mid.mesh vertex first count
-  hull_named vertex named = subst (λ (x : ℕ). IsHullStar (map place mid.vertices) mid.mesh x first count) named star
+  pub hull_named : (vertex : ℕ) → v ≡ vertex
+      → IsHullStar (map place mid.vertices) mid.mesh vertex first count
+  hull_named vertex named =
+      subst (λ (x : ℕ). IsHullStar (map place mid.vertices) mid.mesh x first count) named star
 
   -- no corner, and no edge to turn: a flat side with two faces
-  module _ (bent : HasNoFlippableEdge (map place mid.vertices) mid.mesh first count) (not : ¬ IsCornerAt (map place mid.vertices) mid.mesh first) (vertex : ℕ) (named : v ≡ vertex) where
-    flat : (count ≡ 3) × (side (at (map place mid.vertices) (neighbour mid.mesh first 0)) (at (map place mid.vertices) v) (at (map place mid.vertices) (neighbour mid.mesh first (count - 1))) ≡ on)
-    flat = flat_has_three (map place mid.vertices) mid.mesh whole.valid v first count star bent (λ t. not ((corner_read (map place mid.vertices) mid.mesh whole.valid v first count star).1 t))
+  module _ (bent : HasNoFlippableEdge (map place mid.vertices) mid.mesh first count) (not :
+      ¬ IsCornerAt (map place mid.vertices) mid.mesh first) (vertex : ℕ) (named : v ≡ vertex) where
+    flat : (count ≡ 3) × (side (at (map place mid.vertices) (neighbour mid.mesh first 0))
+        (at (map place mid.vertices) v)
+        (at (map place mid.vertices) (neighbour mid.mesh first (count - 1))) ≡ on)
+    flat = flat_has_three
+        (map place mid.vertices) mid.mesh whole.valid v first count star bent (λ t. not
+        ((corner_read (map place mid.vertices) mid.mesh whole.valid v first count star).1 t))
 
     -- off a corner, with no edge to turn, the vertex has three edges
     pub flat_star : IsHullStar (map place mid.vertices) mid.mesh vertex first 3
-    flat_star = subst (λ (n : ℕ). IsHullStar (map place mid.vertices) mid.mesh vertex first n) flat.0 (hull_named vertex named)
+    flat_star = subst (λ (n : ℕ). IsHullStar (map place mid.vertices) mid.mesh vertex first n)
+        flat.0 (hull_named vertex named)
 
     -- and it is on the line of the ends of the first and the last
-    pub flat_side : side (at (map place mid.vertices) (neighbour mid.mesh first 0)) (at (map place mid.vertices) vertex) (at (map place mid.vertices) (neighbour mid.mesh first 2)) ≡ on
-    flat_side = subst (λ (x : ℕ × ℕ). side (at (map place mid.vertices) (neighbour mid.mesh first 0)) (at (map place mid.vertices) x.0) (at (map place mid.vertices) (neighbour mid.mesh first x.1)) ≡ on) (λ i. (named i, two i)) flat.1
+    pub flat_side : side (at (map place mid.vertices) (neighbour mid.mesh first 0))
+        (at (map place mid.vertices) vertex)
+        (at (map place mid.vertices) (neighbour mid.mesh first 2)) ≡ on
+    flat_side = subst (λ (x : ℕ × ℕ). side
+        (at (map place mid.vertices) (neighbour mid.mesh first 0)) (at (map place mid.vertices) x.0)
+        (at (map place mid.vertices) (neighbour mid.mesh first x.1)) ≡ on)
+        (λ i. (named i, two i)) flat.1
       where
         two : count - 1 ≡ 2
         two = let e = flat.0 in omega (arith, e)
 
   -- what is left is what the turns and the rest left
-  pub hull_isolates : (new : Contents V D U F) (vertex : ℕ) → v ≡ vertex → (first second pairs : List (ℕ × ℕ)) → KeepsPairs first pairs → KeepsPairs second pairs → StandsBeside old mid v first → IsolatesVertex (map place mid.vertices) mid new vertex second → IsolatesVertex (map place old.vertices) old new vertex pairs
+  pub hull_isolates : (new : Contents V D U F) (vertex : ℕ) → v ≡ vertex
+      → (first second pairs : List (ℕ × ℕ)) → KeepsPairs first pairs → KeepsPairs second pairs
+      → StandsBeside old mid v first → IsolatesVertex (map place mid.vertices) mid new vertex second
+      → IsolatesVertex (map place old.vertices) old new vertex pairs
   hull_isolates new vertex named first second pairs has_first has_second stands isolates =
-      isolates_from (map place old.vertices) old mid new vertex first second pairs has_first has_second contents (subst (λ (x : ℕ). StandsBeside old mid x first) named stands) (subst (λ (vs : List V). IsolatesVertex (map place vs) mid new vertex second) same isolates)
+      isolates_from (map place old.vertices) old mid new vertex first second pairs has_first
+      has_second contents (subst (λ (x : ℕ). StandsBeside old mid x first) named stands) (subst
+      (λ (vs : List V). IsolatesVertex (map place vs) mid new vertex second) same isolates)

@@ -1,5 +1,6 @@
 -- A vertex on the hull loses a neighbour by a turn of an edge.
-use Rattle.std.proofs.Common.{◌≡◌, ◌≢◌, ℕ, zero, suc, ◌-◌, ◌*◌, ◌/◌, ◌<◌, ◌≤◌, List, length, refl, sym, ap, ◌∙◌, subst, arith, inl, inr}
+use Rattle.std.proofs.Common.{◌≡◌, ◌≢◌, ◌-◌, ◌*◌, ◌/◌, ◌<◌, ◌≤◌, ◌∙◌}
+use Rattle.std.proofs.Common.{ℕ, zero, suc, List, length, refl, sym, ap, subst, arith, inl, inr}
 use Rattle.std.specs.Prelude.{Contains}
 use Rattle.std.proofs.lemmas.Bool.{cases_lt}
 use Rattle.half_edge_mesh.specs.Mesh.{Mesh, IsValidMesh, origin, face, rev}
@@ -16,7 +17,8 @@ use Rattle.plane_tiling.proofs.Covering.{no_outer_back}
 use Rattle.plane_tiling.proofs.Tiles.{point_at, by_signs}
 use Rattle.plane_edits.specs.RemovalHull as P
 use Rattle.plane_edits.specs.StarFlips.{IsStarFlip}
-use Rattle.plane_edits.proofs.Removal.HullVertex.{corner_or_flat, corner_star_flips, flat_star_flips}
+use Rattle.plane_edits.proofs.Removal.HullVertex.{corner_or_flat, corner_star_flips}
+use Rattle.plane_edits.proofs.Removal.HullVertex.{flat_star_flips}
 use Rattle.mesh_embedding.specs.Drawn.{faces_of, outer_of}
 use Rattle.mesh_embedding.proofs.MeshStars.{hull_star, hull_strip, neighbours_apart}
 use Rattle.mesh_embedding.proofs.MeshStarFlips.{star_flip, star_flip_local, one_hull_neighbour_less}
@@ -25,7 +27,8 @@ use Rattle.delaunay_removal.specs.Hull.{IsHullStar, HasNoFlippableEdge}
 use Rattle.delaunay_legalization.proofs.Rounds.{round_at}
 
 -- ---- what the edges of a vertex on the hull know
-module _ (points : List Point) (m : Mesh) (valid : IsValidMesh m) (v first count : ℕ) (star : IsHullStar points m v first count) where
+module _ (points : List Point) (m : Mesh) (valid : IsValidMesh m) (v first count : ℕ)
+    (star : IsHullStar points m v first count) where
   -- its star is one on the hull of the plane
   pub hull_in_plane : P.IsHullStar (faces_of m) (outer_of m) v (count - 1) (neighbour m first)
   hull_in_plane = hull_star points m valid star.shape v first count star.round star.outer
@@ -39,8 +42,11 @@ module _ (points : List Point) (m : Mesh) (valid : IsValidMesh m) (v first count
   has_two = at_least count refl
     where
       only_one : count ≡ 1 → ⊥
-      only_one is = no_outer_back (length points) (point_at points) (faces_of m) (outer_of m) (by_signs points (faces_of m) (outer_of m) star.shape) (neighbour m first 0) v hull_in_plane.arrives
-          (subst (λ (i : ℕ). Contains (outer_of m) (v, neighbour m first i)) (let e : count - 1 ≡ 0 = omega (arith, is) in e) hull_in_plane.leaves)
+      only_one is = no_outer_back (length points) (point_at points) (faces_of m) (outer_of m)
+          (by_signs points (faces_of m) (outer_of m) star.shape)
+          (neighbour m first 0) v hull_in_plane.arrives
+          (subst (λ (i : ℕ). Contains (outer_of m) (v, neighbour m first i))
+          (let e : count - 1 ≡ 0 = omega (arith, is) in e) hull_in_plane.leaves)
 
       at_least : (n : ℕ) → count ≡ n → 2 ≤ count
       at_least zero is = absurd (let s = star.round.some in omega (arith, s, is))
@@ -48,31 +54,48 @@ module _ (points : List Point) (m : Mesh) (valid : IsValidMesh m) (v first count
       at_least (suc (suc n)) is = omega (arith, is)
 
   -- the ends of two edges with one between them differ
-  pub hull_ends_differ : (i : ℕ) → suc (suc i) < count → neighbour m first i ≢ neighbour m first (suc (suc i))
-  hull_ends_differ i less e = absurd (let q = neighbours_apart points m valid star.shape v first count star.round i (suc (suc i)) (omega (arith, less)) less e in omega (arith, q))
+  pub hull_ends_differ : (i : ℕ) → suc (suc i) < count
+      → neighbour m first i ≢ neighbour m first (suc (suc i))
+  hull_ends_differ i less e = absurd (let q = neighbours_apart points m valid star.shape v first
+      count star.round i (suc (suc i)) (omega (arith, less)) less e in omega (arith, q))
 
   -- a corner of the hull where no edge can be turned
   module _ (bent : HasNoFlippableEdge points m first count) where
     -- at a corner no three neighbours in a row turn left
-    pub none_turns : TurnsLeft (place points v) (place points (neighbour m first 0)) (place points (neighbour m first (count - 1))) → P.NoneTurnsLeft points (count - 1) (neighbour m first)
+    pub none_turns : TurnsLeft (place points v) (place points (neighbour m first 0))
+        (place points (neighbour m first (count - 1)))
+        → P.NoneTurnsLeft points (count - 1) (neighbour m first)
     none_turns corner i less far = bent i (omega (arith, less)) (record {
       far = far;
-      near = subst (λ (x : ℕ). TurnsLeft (place points x) (place points (neighbour m first i)) (place points (neighbour m first (suc (suc i))))) (sym (star.round.starts i))
-          (corner_star_flips points (faces_of m) (outer_of m) v (count - 1) (neighbour m first) star.shape hull_in_plane corner i less);
+      near = subst (λ (x : ℕ). TurnsLeft (place points x) (place points (neighbour m first i))
+          (place points (neighbour m first (suc (suc i))))) (sym (star.round.starts i))
+          (corner_star_flips points (faces_of m) (outer_of m) v (count - 1)
+          (neighbour m first) star.shape hull_in_plane corner i less);
     })
 
     -- or a flat side, where three edges are left
-    pub flat_has_three : ¬ TurnsLeft (place points v) (place points (neighbour m first 0)) (place points (neighbour m first (count - 1))) → (count ≡ 3) × (side (place points (neighbour m first 0)) (place points v) (place points (neighbour m first (count - 1))) ≡ on)
-    flat_has_three not = elim (corner_or_flat points (faces_of m) (outer_of m) v (count - 1) (neighbour m first) star.shape hull_in_plane) [
-      | inl corner ↦ absurd (not corner)
-      | inr flat ↦ (three flat.0 flat.1, flat.0)
-    ]
+    pub flat_has_three : ¬ TurnsLeft (place points v) (place points (neighbour m first 0))
+        (place points (neighbour m first (count - 1)))
+        → (count ≡ 3) × (side (place points (neighbour m first 0)) (place points v)
+        (place points (neighbour m first (count - 1))) ≡ on)
+    flat_has_three not = elim (corner_or_flat points (faces_of m) (outer_of m) v (count - 1)
+        (neighbour m first) star.shape hull_in_plane) [
+          | inl corner ↦ absurd (not corner)
+          | inr flat ↦ (three flat.0 flat.1, flat.0)
+        ]
       where
-        three : side (place points (neighbour m first 0)) (place points v) (place points (neighbour m first (count - 1))) ≡ on → 2 ≤ count - 1 → count ≡ 3
+        three : side (place points (neighbour m first 0)) (place points v)
+            (place points (neighbour m first (count - 1))) ≡ on → 2 ≤ count - 1 → count ≡ 3
         three flat two = elim (cases_lt (count - 1) 3) [
           | inl few ↦ omega (arith, few, two)
-          | inr many ↦ (let r = flat_star_flips points (faces_of m) (outer_of m) v (count - 1) (neighbour m first) star.shape hull_in_plane many flat in
-              absurd (bent r.0 (let l = r.1 in omega (arith, l)) (record { far = r.2; near = subst (λ (x : ℕ). TurnsLeft (place points x) (place points (neighbour m first r.0)) (place points (neighbour m first (suc (suc r.0))))) (sym (star.round.starts r.0)) r.3 })))
+          | inr many ↦ (let r = flat_star_flips points (faces_of m) (outer_of m) v (count - 1)
+              (neighbour m first) star.shape hull_in_plane many flat in
+              absurd (bent r.0 (let l = r.1 in omega (arith, l)) (record {
+                far = r.2;
+                near = subst (λ (x : ℕ). TurnsLeft (place points x) (place points
+                    (neighbour m first r.0)) (place points (neighbour m first (suc (suc r.0)))))
+                    (sym (star.round.starts r.0)) r.3;
+              })))
         ]
 
   -- ---- a turn of edge i + 1
@@ -85,13 +108,20 @@ module _ (points : List Point) (m : Mesh) (valid : IsValidMesh m) (v first count
     pub right_of : 0 < face m (spoke m first (suc i))
     right_of = strip_of.inner (suc i) (omega (arith, less))
 
-    module _ (new : Mesh) (after : IsValidMesh new) (convex : IsConvexAt points m (spoke m first i)) (triangles : FlipsTriangles m new (2 * (spoke m first (suc i) / 2))) (outer : KeepsOuter m new) where
-      flip : IsStarFlip points (faces_of m) (faces_of new) (outer_of m) (outer_of new) v (neighbour m first) i
-      flip = star_flip points m valid star.shape v first count star.round i left_of right_of new triangles outer convex.far
-          (subst (λ (x : ℕ). TurnsLeft (place points x) (place points (neighbour m first i)) (place points (neighbour m first (suc (suc i))))) (star.round.starts i) convex.near)
+    module _ (new : Mesh) (after : IsValidMesh new) (convex : IsConvexAt points m (spoke m first i))
+        (triangles : FlipsTriangles m new (2 * (spoke m first (suc i) / 2)))
+        (outer : KeepsOuter m new) where
+      flip : IsStarFlip points (faces_of m) (faces_of new) (outer_of m) (outer_of new) v
+          (neighbour m first) i
+      flip = star_flip points m valid star.shape v first count star.round i left_of right_of new
+          triangles outer convex.far
+          (subst (λ (x : ℕ). TurnsLeft (place points x) (place points (neighbour m first i))
+          (place points (neighbour m first (suc (suc i))))) (star.round.starts i) convex.near)
 
       shape_after : LocalMesh points (faces_of new) (outer_of new)
-      shape_after = star_flip_local points (faces_of m) (faces_of new) (outer_of m) (outer_of new) v (neighbour m first) i star.shape (hull_in_plane.around i (omega (arith, less))) (hull_in_plane.around (suc i) (omega (arith, less))) flip
+      shape_after = star_flip_local points (faces_of m) (faces_of new) (outer_of m) (outer_of new) v
+          (neighbour m first) i star.shape (hull_in_plane.around i (omega (arith, less)))
+          (hull_in_plane.around (suc i) (omega (arith, less))) flip
 
       back_after : IsOuterEdge new (rev first) (neighbour m first 0) v
       back_after = outer.kept (rev first) (neighbour m first 0) v (record {
@@ -102,14 +132,22 @@ module _ (points : List Point) (m : Mesh) (valid : IsValidMesh m) (v first count
       })
 
       first_after : first < length new.half_edges
-      first_after = subst (λ (h : ℕ). h < length new.half_edges) (rev-rev first) (rev_within (rev first) (length new.half_edges) after.sound.even back_after.within)
+      first_after = subst (λ (h : ℕ). h < length new.half_edges) (rev-rev first)
+          (rev_within (rev first) (length new.half_edges) after.sound.even back_after.within)
 
       starts_after : origin new first ≡ v
       starts_after = ap (origin new) (sym (rev-rev first)) ∙ back_after.target
 
       -- leaves one neighbour less
       pub hull_star_less : IsHullStar points new v first (count - 1)
-      hull_star_less = record { shape = shape_after; outer = back_after.outer; round = subst (λ (n : ℕ). IsRound new v first n) (fewer (one_hull_neighbour_less points (faces_of m) (faces_of new) (outer_of m) (outer_of new) v (count - 1) (r.0 - 1) (neighbour m first) (neighbour new first) i star.shape hull_in_plane (omega (arith, less)) flip again).0 r.1.some) r.1 }
+      hull_star_less = record {
+        shape = shape_after;
+        outer = back_after.outer;
+        round = subst (λ (n : ℕ). IsRound new v first n)
+            (fewer (one_hull_neighbour_less points (faces_of m) (faces_of new) (outer_of m)
+            (outer_of new) v (count - 1) (r.0 - 1) (neighbour m first) (neighbour new first) i
+            star.shape hull_in_plane (omega (arith, less)) flip again).0 r.1.some) r.1;
+      }
         where
           r : (n : ℕ) × IsRound new v first n
           r = round_at new after v first first_after starts_after

@@ -9,49 +9,73 @@ use Rattle.half_edge_mesh.specs.Removal.{FillsHole}
 use Rattle.plane.specs.Fraction.{Point}
 use Rattle.delaunay_removal.specs.Data.{StandsBeside}
 use Rattle.delaunay_removal.specs.Pairs.{KeepsPairs}
-use Rattle.delaunay_removal.specs.Star.{HasInnerFaces, IsInnerStar, IsReduced, IsolatesVertex, StandsBetween}
+use Rattle.delaunay_removal.specs.Star.{HasInnerFaces, IsInnerStar, IsReduced, IsolatesVertex}
+use Rattle.delaunay_removal.specs.Star.{StandsBetween}
 use Rattle.delaunay_removal.proofs.InnerHoles.{wheel_at, three_isolate, isolates_from}
 
 -- the faces round the vertex, by its name
-pub inner_as : (m : Mesh) (v first : ℕ) → origin m first ≡ v → HasInnerFaces m v → HasInnerFaces m (origin m first)
+pub inner_as : (m : Mesh) (v first : ℕ) → origin m first ≡ v → HasInnerFaces m v
+    → HasInnerFaces m (origin m first)
 inner_as m v first starts inner = subst (HasInnerFaces m) (sym starts) inner
 
-module _ {V D U F : Type 0} {pairs : List (ℕ × ℕ)} (place : V → Point) (old mid : Contents V D U F) (v first count : ℕ) (contents : mid ≡ record old { mesh = mid.mesh }) (stands : StandsBeside old mid v pairs) (star : IsInnerStar (map place old.vertices) mid.mesh v first count) where
+module _ {V D U F : Type 0} {pairs : List (ℕ × ℕ)} (place : V → Point) (old mid : Contents V D U F)
+    (v first count : ℕ) (contents : mid ≡ record old { mesh = mid.mesh }) (stands : StandsBeside old
+    mid v pairs) (star : IsInnerStar (map place old.vertices) mid.mesh v first count) where
   same : mid.vertices ≡ old.vertices
   same = ap (λ (c : Contents V D U F). c.vertices) contents
 
   -- the vertices are sites as they were
-  pub same_sites : (IsSite : Point → Type 0) → All IsSite (map place old.vertices) → All IsSite (map place mid.vertices)
+  pub same_sites : (IsSite : Point → Type 0) → All IsSite (map place old.vertices)
+      → All IsSite (map place mid.vertices)
   same_sites IsSite sites = subst (λ (vs : List V). All IsSite (map place vs)) (sym same) sites
 
   -- ---- three edges are left
   -- three edges that are left go round with three inner faces
   pub three_wheel : IsMeshWithData mid → count ≡ 3 → IsWheel mid.mesh first
-  three_wheel whole three = wheel_at (map place old.vertices) mid whole v first (subst (λ (n : ℕ). IsInnerStar (map place old.vertices) mid.mesh v first n) three star)
+  three_wheel whole three = wheel_at (map place old.vertices) mid whole v first
+      (subst (λ (n : ℕ). IsInnerStar (map place old.vertices) mid.mesh v first n) three star)
 
   -- where one face fills their hole, the vertex has lost the edges of before
-  pub three_isolates : (new : Contents V D U F) → IsMeshWithData mid → IsMeshWithData new → count ≡ 3 → (vertex : ℕ) → v ≡ vertex → FillsHole mid new vertex (neighbour mid.mesh first) → IsolatesVertex (map place old.vertices) old new vertex pairs
-  three_isolates new whole after three vertex named hole = isolates_from (map place old.vertices) old mid new vertex pairs pairs pairs (λ i j p. p) (λ i j p. p) contents (subst (λ (x : ℕ). StandsBeside old mid x pairs) named stands)
-      (three_isolate (map place old.vertices) mid new whole after vertex first (subst (λ (x : ℕ × ℕ). IsInnerStar (map place old.vertices) mid.mesh x.0 first x.1) (λ i. (named i, three i)) star) hole pairs)
+  pub three_isolates : (new : Contents V D U F) → IsMeshWithData mid → IsMeshWithData new
+      → count ≡ 3 → (vertex : ℕ) → v ≡ vertex → FillsHole mid new vertex (neighbour mid.mesh first)
+      → IsolatesVertex (map place old.vertices) old new vertex pairs
+  three_isolates new whole after three vertex named hole =
+      isolates_from (map place old.vertices) old mid new vertex pairs pairs pairs (λ i j p. p)
+      (λ i j p. p) contents (subst (λ (x : ℕ). StandsBeside old mid x pairs) named stands)
+      (three_isolate (map place old.vertices) mid new whole after vertex first
+      (subst (λ (x : ℕ × ℕ). IsInnerStar (map place old.vertices) mid.mesh x.0 first x.1)
+      (λ i. (named i, three i)) star) hole pairs)
 
   -- ---- or four
-  module _ (reduced : IsReduced (map place old.vertices) mid.mesh v first count) (more : count ≢ 3) where
+  module _ (reduced : IsReduced (map place old.vertices) mid.mesh v first count)
+      (more : count ≢ 3) where
     four : (count ≡ 4) × StandsBetween (map place old.vertices) mid.mesh v first 4
     four = elim reduced [ inl e ↦ absurd (more e) | inr r ↦ r ]
 
     -- else four edges are left
     pub four_star : IsInnerStar (map place mid.vertices) mid.mesh (origin mid.mesh first) first 4
-    four_star = subst (λ (x : List V × ℕ × ℕ). IsInnerStar (map place x.0) mid.mesh x.1 first x.2) (λ i. (sym same i, sym (star.round.starts 0) i, four.0 i)) star
+    four_star = subst (λ (x : List V × ℕ × ℕ). IsInnerStar (map place x.0) mid.mesh x.1 first x.2)
+        (λ i. (sym same i, sym (star.round.starts 0) i, four.0 i)) star
 
     -- and the vertex is strictly between two of their ends
-    pub four_between : StandsBetween (map place mid.vertices) mid.mesh (origin mid.mesh first) first 4
-    four_between = subst (λ (x : List V × ℕ). StandsBetween (map place x.0) mid.mesh x.1 first 4) (λ i. (sym same i, sym (star.round.starts 0) i)) four.1
+    pub four_between :
+        StandsBetween (map place mid.vertices) mid.mesh (origin mid.mesh first) first 4
+    four_between = subst (λ (x : List V × ℕ). StandsBetween (map place x.0) mid.mesh x.1 first 4)
+        (λ i. (sym same i, sym (star.round.starts 0) i)) four.1
 
     -- the star by another name of the vertex
-    pub four_star_named : (h vertex : ℕ) → v ≡ vertex → IsInnerStar (map place mid.vertices) mid.mesh (origin mid.mesh first) h 4 → IsInnerStar (map place mid.vertices) mid.mesh vertex h 4
-    four_star_named h vertex named s = subst (λ (x : ℕ). IsInnerStar (map place mid.vertices) mid.mesh x h 4) (star.round.starts 0 ∙ named) s
+    pub four_star_named : (h vertex : ℕ) → v ≡ vertex
+        → IsInnerStar (map place mid.vertices) mid.mesh (origin mid.mesh first) h 4
+        → IsInnerStar (map place mid.vertices) mid.mesh vertex h 4
+    four_star_named h vertex named s =
+        subst (λ (x : ℕ). IsInnerStar (map place mid.vertices) mid.mesh x h 4)
+        (star.round.starts 0 ∙ named) s
 
     -- a vertex that loses these four has lost the edges of before
-    pub four_isolates : (new : Contents V D U F) (vertex : ℕ) → v ≡ vertex → (more : List (ℕ × ℕ)) → KeepsPairs pairs more → IsolatesVertex (map place mid.vertices) mid new vertex more → IsolatesVertex (map place old.vertices) old new vertex more
+    pub four_isolates : (new : Contents V D U F) (vertex : ℕ) → v ≡ vertex → (more : List (ℕ × ℕ))
+        → KeepsPairs pairs more → IsolatesVertex (map place mid.vertices) mid new vertex more
+        → IsolatesVertex (map place old.vertices) old new vertex more
     four_isolates new vertex named more has isolates =
-        isolates_from (map place old.vertices) old mid new vertex pairs more more has (λ i j p. p) contents (subst (λ (x : ℕ). StandsBeside old mid x pairs) named stands) (subst (λ (vs : List V). IsolatesVertex (map place vs) mid new vertex more) same isolates)
+        isolates_from (map place old.vertices) old mid new vertex pairs more more has (λ i j p. p)
+        contents (subst (λ (x : ℕ). StandsBeside old mid x pairs) named stands) (subst
+        (λ (vs : List V). IsolatesVertex (map place vs) mid new vertex more) same isolates)

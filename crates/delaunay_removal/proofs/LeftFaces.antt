@@ -1,12 +1,14 @@
--- The faces that a vertex leaves: each was there, or each of its sides lay opposite the vertex or is what a turned edge
--- joins.
-use Rattle.std.proofs.Common.{◌≡◌, ◌≢◌, ◌⊎◌, ℕ, ◌-◌, ◌<◌, List, [], length, map, sym, ap, ◌∙◌, subst, inl, inr, arith}
+-- The faces that a vertex leaves: each was there, or each of its sides lay opposite the vertex or
+-- is what a turned edge joins.
+use Rattle.std.proofs.Common.{◌≡◌, ◌≢◌, ◌⊎◌, ◌-◌, ◌<◌, [], ◌∙◌}
+use Rattle.std.proofs.Common.{ℕ, List, length, map, sym, ap, subst, inl, inr, arith}
 use Rattle.std.specs.Prelude.{Bool, Contains}
 use Rattle.std.proofs.lemmas.List.{length-map}
 use Rattle.half_edge_mesh.specs.Renames.{moved}
 use Rattle.half_edge_mesh.specs.Triangles.{Triangle, triangles}
 use Rattle.half_edge_mesh.specs.Contents.{Contents, IsMeshWithData}
-use Rattle.half_edge_mesh.specs.Removal.{FullFace, full_faces, renumbered_face, DropsVertex, LeavesMesh}
+use Rattle.half_edge_mesh.specs.Removal.{FullFace, full_faces, renumbered_face, DropsVertex}
+use Rattle.half_edge_mesh.specs.Removal.{LeavesMesh}
 use Rattle.plane.specs.Fraction.{Point}
 use Rattle.plane.specs.Tiling.{Face}
 use Rattle.plane_tiling.proofs.Totals.{Contains-none}
@@ -26,18 +28,19 @@ use Rattle.delaunay_removal.proofs.DataStays.{none_to_keep}
 use Rattle.delaunay_removal.proofs.MadeFaces.{full_listed, no_face_listed}
 
 -- a face where no vertex is one of it
-without_corners : (v : ℕ) (points : List Point) (faces : List Face) (outer : List (ℕ × ℕ)) →
-    IsMeshWithout v points faces outer → (f : Face) → Contains faces f → ((f.a < length points) × (f.a ≢ v)) ×
-    ((f.b < length points) × (f.b ≢ v)) × ((f.c < length points) × (f.c ≢ v))
+without_corners : (v : ℕ) (points : List Point) (faces : List Face) (outer : List (ℕ × ℕ))
+    → IsMeshWithout v points faces outer → (f : Face) → Contains faces f
+    → ((f.a < length points) × (f.a ≢ v)) × ((f.b < length points) × (f.b ≢ v))
+    × ((f.c < length points) × (f.c ≢ v))
 without_corners v points faces outer (inl m) f h = m.corners f h
 without_corners v points faces outer (inr m) f h =
     absurd (Contains-none f (subst (λ (fs : List Face). Contains fs f) m.0 h))
 
-module _ {V D U F : Type 0} (points : List Point) (old mid new : Contents V D U F) (v : ℕ) (value : V)
-    (before : IsMeshWithData old) (middle : IsMeshWithData mid) (after : IsMeshWithData new)
-    (pairs : List (ℕ × ℕ)) (isolates : IsolatesVertex points old mid v pairs)
-    (count : length points ≡ length old.vertices) (here : v < length old.vertices)
-    (drops : DropsVertex mid new v value) where
+module _ {V D U F : Type 0} (points : List Point) (old mid new : Contents V D U F) (v : ℕ)
+    (value : V) (before : IsMeshWithData old) (middle : IsMeshWithData mid)
+    (after : IsMeshWithData new) (pairs : List (ℕ × ℕ))
+    (isolates : IsolatesVertex points old mid v pairs) (count : length points ≡ length old.vertices)
+    (here : v < length old.vertices) (drops : DropsVertex mid new v value) where
   abbrev last : ℕ
   last = length old.vertices - 1
 
@@ -55,7 +58,8 @@ module _ {V D U F : Type 0} (points : List Point) (old mid new : Contents V D U 
   -- a face without its new indexes
   came : (g : Face) → Contains (faces_of mid.mesh) g → Was g.a g.b g.c
   came g h =
-      let off = without_corners v points (faces_of mid.mesh) (outer_of mid.mesh) isolates.shape g h in
+      let off =
+      without_corners v points (faces_of mid.mesh) (outer_of mid.mesh) isolates.shape g h in
       elim (isolates.beside.made.each g.a g.b g.c (inl h)) as (λ _. Was g.a g.b g.c) [
         | inl x ↦ inl x
         | inr x ↦ inr (
@@ -66,14 +70,17 @@ module _ {V D U F : Type 0} (points : List Point) (old mid new : Contents V D U 
       ]
 
   back : (k : ℕ) → (k < length points) × (k ≢ v) → former_index v last (moved last v k) ≡ k
-  back k (within, other) = (there_and_back v last k (omega (arith, here)) (omega (arith, within, count)) other).1
+  back k (within, other) =
+      (there_and_back v last k (omega (arith, here)) (omega (arith, within, count)) other).1
 
   abbrev Now : ℕ → ℕ → ℕ → Type 0
   Now i j k = Was (former_index v last i) (former_index v last j) (former_index v last k)
 
-  renamed : (g : Face) → Contains (faces_of mid.mesh) g → Now (moved last v g.a) (moved last v g.b) (moved last v g.c)
+  renamed : (g : Face) → Contains (faces_of mid.mesh) g
+      → Now (moved last v g.a) (moved last v g.b) (moved last v g.c)
   renamed g h =
-      let off = without_corners v points (faces_of mid.mesh) (outer_of mid.mesh) isolates.shape g h in
+      let off =
+      without_corners v points (faces_of mid.mesh) (outer_of mid.mesh) isolates.shape g h in
       subst (λ (x : ℕ × ℕ × ℕ). Was x.0 x.1 x.2) (λ i.
       (sym (back g.a off.0) i, sym (back g.b off.1) i, sym (back g.c off.2) i)) (came g h)
 
@@ -87,7 +94,8 @@ module _ {V D U F : Type 0} (points : List Point) (old mid new : Contents V D U 
       (subst (λ (ts : List Triangle). Contains ts t.0) (sym (whole_faces new after)) t.1) in
       let y = contains_map_from (renumbered_face (length mid.vertices - 1) v) (full_faces mid) x.0
       (subst (λ (fs : List (FullFace F)). Contains fs x.0) drops.faces x.1) in
-      subst (λ (g : Face). Now g.a g.b g.c) (ap (λ n. corners_of (renumbered_face n v y.0).corners) (sym last_is)
+      subst (λ (g : Face). Now g.a g.b g.c)
+      (ap (λ n. corners_of (renumbered_face n v y.0).corners) (sym last_is)
       ∙ ap (λ (z : FullFace F). corners_of z.corners) y.2 ∙ ap corners_of x.2 ∙ t.2)
       (renamed (corners_of y.0.corners) (full_listed mid middle y.0 y.1))
 
@@ -99,34 +107,41 @@ module _ {V D U F : Type 0} (points : List Point) (old mid new : Contents V D U 
   pub faces_leave : LeavesFaces (state_of old) (state_of new) v pairs
   faces_leave = record {
     each = λ i j k f. turn_of_all (faces_of new.mesh) Now
-        (λ a b c. was_turned (former_index v last a) (former_index v last b) (former_index v last c)) listed i j k f;
+        (λ a b c. was_turned (former_index v last a) (former_index v last b)
+        (former_index v last c)) listed i j k f;
   }
 
 -- the removal of a vertex of the plane keeps each face that does not have it as a corner
-pub plane_faces_leave : {V D U F : Type 0} (place : V → Point) (old mid new : Contents V D U F) (v : ℕ) (value : V) →
-    IsTriangulated place (state_of old) → IsMeshWithData mid → IsTriangulated place (state_of new) →
-    v < length old.vertices → (pairs : List (ℕ × ℕ)) → IsolatesVertex (map place old.vertices) old mid v pairs →
-    DropsVertex mid new v value → LeavesFaces (state_of old) (state_of new) v pairs
+pub plane_faces_leave : {V D U F : Type 0} (place : V → Point) (old mid new : Contents V D U F)
+    (v : ℕ) (value : V) → IsTriangulated place (state_of old) → IsMeshWithData mid
+    → IsTriangulated place (state_of new) → v < length old.vertices → (pairs : List (ℕ × ℕ))
+    → IsolatesVertex (map place old.vertices) old mid v pairs → DropsVertex mid new v value
+    → LeavesFaces (state_of old) (state_of new) v pairs
 plane_faces_leave place old mid new v value before middle after here pairs isolates drops =
-    faces_leave (map place old.vertices) old mid new v value (record { valid = before.valid; fits = before.fits })
-    middle (record { valid = after.valid; fits = after.fits }) pairs isolates (length-map old.vertices place) here
+    faces_leave (map place old.vertices) old mid new v value
+    (record { valid = before.valid; fits = before.fits })
+    middle (record { valid = after.valid; fits = after.fits }) pairs isolates
+    (length-map old.vertices place) here
     drops
 
 -- ---- on a line there are no faces
 -- so it is of a line, which has no faces
-pub line_faces_leave : {V D U F : Type 0} (old new : Contents V D U F) (v : ℕ) (value : V) → IsMeshWithData new →
-    length old.faces ≡ 0 → LeavesMesh old new v value → LeavesFaces (state_of old) (state_of new) v []
+pub line_faces_leave : {V D U F : Type 0} (old new : Contents V D U F) (v : ℕ) (value : V)
+    → IsMeshWithData new → length old.faces ≡ 0 → LeavesMesh old new v value
+    → LeavesFaces (state_of old) (state_of new) v []
 line_faces_leave old new v value after none leaves =
     record {
       each = λ i j k f. absurd (no_face_listed new after
-          (ap (λ c. length c.faces) leaves.drops.contents ∙ ap (λ c. length c.faces) leaves.leaves.contents ∙ none) i j
+          (ap (λ c. length c.faces) leaves.drops.contents
+          ∙ ap (λ c. length c.faces) leaves.leaves.contents ∙ none) i j
           k f);
     }
 
 -- ---- whatever is in the list
 module _ {V D U F : Type 0} (old new : Contents V D U F) (v : ℕ) (pairs : List (ℕ × ℕ))
     (leaves : LeavesFaces (state_of old) (state_of new) v []) where
-  more_side : (i j : ℕ) → IsHoleSide (faces_of old.mesh) v [] i j → IsHoleSide (faces_of old.mesh) v pairs i j
+  more_side : (i j : ℕ) → IsHoleSide (faces_of old.mesh) v [] i j
+      → IsHoleSide (faces_of old.mesh) v pairs i j
   more_side i j (inl h) = inl (none_to_keep pairs i j h)
   more_side i j (inr f) = inr f
 
@@ -143,15 +158,19 @@ module _ {V D U F : Type 0} (old new : Contents V D U F) (v : ℕ) (pairs : List
   pub leaves_more : LeavesFaces (state_of old) (state_of new) v pairs
   leaves_more = record {
     each = λ i j k f. more_sides (former_index v (length old.vertices - 1) i)
-        (former_index v (length old.vertices - 1) j) (former_index v (length old.vertices - 1) k) (leaves.each i j k f);
+        (former_index v (length old.vertices - 1) j) (former_index v (length old.vertices - 1) k)
+        (leaves.each i j k f);
   }
 
 -- ---- before the edges of the vertex cease to be constraints
 -- so it is where edges at the vertex were freed before
-pub freed_faces_leave : {V D U F : Type 0} (marks : U → Bool) (old mid new : Contents V D U F) (v : ℕ)
-    (pairs : List (ℕ × ℕ)) → FreesEdgesAt marks old mid v → LeavesFaces (state_of mid) (state_of new) v pairs →
-    LeavesFaces (state_of old) (state_of new) v pairs
+pub freed_faces_leave : {V D U F : Type 0} (marks : U → Bool) (old mid new : Contents V D U F)
+    (v : ℕ) (pairs : List (ℕ × ℕ)) → FreesEdgesAt marks old mid v
+    → LeavesFaces (state_of mid) (state_of new) v pairs
+    → LeavesFaces (state_of old) (state_of new) v pairs
 freed_faces_leave {V = V} {D = D} {U = U} {F = F} marks old mid new v pairs frees leaves =
-    let left : LeavesFaces (state_of (record old { undirected = mid.undirected })) (state_of new) v pairs =
-    subst (λ (c : Contents V D U F). LeavesFaces (state_of c) (state_of new) v pairs) frees.contents leaves in
+    let left :
+    LeavesFaces (state_of (record old { undirected = mid.undirected })) (state_of new) v pairs =
+    subst (λ (c : Contents V D U F). LeavesFaces (state_of c) (state_of new) v pairs)
+    frees.contents leaves in
     record { each = left.each }

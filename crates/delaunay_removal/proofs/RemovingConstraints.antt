@@ -1,5 +1,6 @@
 -- A vertex whose edges have ceased to be constraints goes.
-use Rattle.std.proofs.Common.{◌≡◌, ◌≢◌, ◌⊎◌, ◌↔◌, ℕ, ◌-◌, ◌*◌, ◌/◌, ◌<◌, List, length, sym, ap, ◌∙◌, subst, inl, inr}
+use Rattle.std.proofs.Common.{◌≡◌, ◌≢◌, ◌⊎◌, ◌↔◌, ◌-◌, ◌*◌, ◌/◌, ◌<◌, ◌∙◌}
+use Rattle.std.proofs.Common.{ℕ, List, length, sym, ap, subst, inl, inr}
 use Rattle.std.proofs.Common.{arith}
 use Rattle.std.specs.Prelude.{Bool, false, Contains, nat_eq, if◌then◌else◌, slice_get, swap_remove}
 use Rattle.half_edge_mesh.specs.Contents.{Contents, IsMeshWithData}
@@ -8,7 +9,8 @@ use Rattle.half_edge_mesh.specs.Removal.{FullEdge, full_edges}
 use Rattle.plane.specs.Fraction.{Point}
 use Rattle.plane.specs.Pairs.{Joins, IsSamePair}
 use Rattle.plane.specs.Plain.{Removes}
-use Rattle.delaunay_legalization.specs.Constraints.{marked_edges, constraint_pairs, points_and_constraints_by}
+use Rattle.delaunay_legalization.specs.Constraints.{marked_edges, constraint_pairs}
+use Rattle.delaunay_legalization.specs.Constraints.{points_and_constraints_by}
 use Rattle.delaunay_legalization.specs.Shape.{IsTriangulated}
 use Rattle.delaunay_legalization.specs.State.{state_of, points_and_constraints}
 use Rattle.delaunay_legalization.proofs.MarkedPairs.{JoinsByMark, mark_joins, joined_by_mark}
@@ -18,8 +20,8 @@ use Rattle.delaunay_removal.proofs.DataReads.{edge_read, even_or_odd, rev_of_eve
 use Rattle.delaunay_removal.proofs.LeavingConstraints.{constraints_left, back_and_there}
 
 module _ {V D U F : Type 0} (place : V → Point) (marks : U → Bool) (constraints : List U → List ℕ)
-    (marked : (ds : List U) → constraints ds ≡ marked_edges marks ds) (old mid : Contents V D U F) (v : ℕ)
-    (frees : FreesEdgesAt marks old mid v) (whole : IsMeshWithData mid)
+    (marked : (ds : List U) → constraints ds ≡ marked_edges marks ds) (old mid : Contents V D U F)
+    (v : ℕ) (frees : FreesEdgesAt marks old mid v) (whole : IsMeshWithData mid)
     (kept : IsTriangulated place (state_of old)) where
   same_mesh : mid.mesh ≡ old.mesh
   same_mesh = ap (λ (c : Contents V D U F). c.mesh) frees.contents
@@ -34,17 +36,19 @@ module _ {V D U F : Type 0} (place : V → Point) (marks : U → Bool) (constrai
 
   -- a triangulation stays one
   pub freed_kept : IsTriangulated place (state_of mid)
-  freed_kept = subst (λ (c : Contents V D U F). IsTriangulated place (state_of c)) (sym frees.contents) (record {
-    in_range = kept.in_range;
-    few_edges = rw frees.count kept.few_edges;
-    few_faces = kept.few_faces;
-    valid = kept.valid;
-    fits = rw frees.count kept.fits;
-    shape = kept.shape;
-  })
+  freed_kept = subst (λ (c : Contents V D U F). IsTriangulated place (state_of c))
+      (sym frees.contents) (record {
+        in_range = kept.in_range;
+        few_edges = rw frees.count kept.few_edges;
+        few_faces = kept.few_faces;
+        valid = kept.valid;
+        fits = rw frees.count kept.fits;
+        shape = kept.shape;
+      })
 
   -- no edge at the vertex is a constraint
-  unmarked : (e : FullEdge D U) → Contains (full_edges mid) e → (e.source ≡ v) ⊎ (e.target ≡ v) → marks e.value ≡ false
+  unmarked : (e : FullEdge D U) → Contains (full_edges mid) e → (e.source ≡ v) ⊎ (e.target ≡ v)
+      → marks e.value ≡ false
   unmarked e h at =
       let is = edge_read mid whole h.0 e h.1 h.2 in
       let within = is.within in
@@ -53,9 +57,11 @@ module _ {V D U F : Type 0} (place : V → Point) (marks : U → Bool) (constrai
       let inside : h.0 < length old.undirected =
       subst (λ (n : ℕ). h.0 < n) frees.count (omega (arith, within, ds, us)) in
       elim at [
-        | inl q ↦ frees.starting h.0 inside (ap (λ (m : Mesh). origin m (2 * h.0)) (sym same_mesh) ∙ is.source ∙ q)
+        | inl q ↦ frees.starting h.0 inside
+            (ap (λ (m : Mesh). origin m (2 * h.0)) (sym same_mesh) ∙ is.source ∙ q)
             e.value is.value
-        | inr q ↦ frees.ending h.0 inside (ap (λ (m : Mesh). origin m (rev (2 * h.0))) (sym same_mesh)
+        | inr q ↦
+            frees.ending h.0 inside (ap (λ (m : Mesh). origin m (rev (2 * h.0))) (sym same_mesh)
             ∙ ap (origin mid.mesh) (rev_of_even h.0) ∙ is.target ∙ q) e.value is.value
       ]
 
@@ -74,11 +80,17 @@ module _ {V D U F : Type 0} (place : V → Point) (marks : U → Bool) (constrai
   beside_now a b na nb joined =
       let j : JoinsByMark marks constraints marked old.mesh old.undirected a b =
       mark_joins marks constraints marked old.mesh old.undirected a b joined in
-      let o = off a b (origin old.mesh (2 * j.edge)) (origin old.mesh (rev (2 * j.edge))) j.ends na nb in
+      let o = off a b (origin old.mesh (2 * j.edge))
+      (origin old.mesh (rev (2 * j.edge))) j.ends na nb in
       joined_by_mark marks constraints marked mid.mesh mid.undirected a b (record {
         edge = j.edge;
-        is = record { value = j.is.value; has = frees.others j.edge o.0 o.1 ∙ j.is.has; mark = j.is.mark };
-        ends = subst (λ (m : Mesh). IsSamePair a b (origin m (2 * j.edge)) (origin m (rev (2 * j.edge))))
+        is = record {
+          value = j.is.value;
+          has = frees.others j.edge o.0 o.1 ∙ j.is.has;
+          mark = j.is.mark;
+        };
+        ends = subst
+            (λ (m : Mesh). IsSamePair a b (origin m (2 * j.edge)) (origin m (rev (2 * j.edge))))
             (sym same_mesh) j.ends;
       })
 
@@ -86,12 +98,19 @@ module _ {V D U F : Type 0} (place : V → Point) (marks : U → Bool) (constrai
   beside_was a b na nb joined =
       let j : JoinsByMark marks constraints marked mid.mesh mid.undirected a b =
       mark_joins marks constraints marked mid.mesh mid.undirected a b joined in
-      let ends : IsSamePair a b (origin old.mesh (2 * j.edge)) (origin old.mesh (rev (2 * j.edge))) =
-      subst (λ (m : Mesh). IsSamePair a b (origin m (2 * j.edge)) (origin m (rev (2 * j.edge)))) same_mesh j.ends in
-      let o = off a b (origin old.mesh (2 * j.edge)) (origin old.mesh (rev (2 * j.edge))) ends na nb in
+      let ends :
+      IsSamePair a b (origin old.mesh (2 * j.edge)) (origin old.mesh (rev (2 * j.edge))) =
+      subst (λ (m : Mesh). IsSamePair a b (origin m (2 * j.edge)) (origin m (rev (2 * j.edge))))
+      same_mesh j.ends in
+      let o =
+      off a b (origin old.mesh (2 * j.edge)) (origin old.mesh (rev (2 * j.edge))) ends na nb in
       joined_by_mark marks constraints marked old.mesh old.undirected a b (record {
         edge = j.edge;
-        is = record { value = j.is.value; has = sym (frees.others j.edge o.0 o.1) ∙ j.is.has; mark = j.is.mark };
+        is = record {
+          value = j.is.value;
+          has = sym (frees.others j.edge o.0 o.1) ∙ j.is.has;
+          mark = j.is.mark;
+        };
         ends = ends;
       })
 
@@ -104,12 +123,14 @@ module _ {V D U F : Type 0} (place : V → Point) (marks : U → Bool) (constrai
   -- ---- and the vertex goes
   module _ (new : Contents V D U F) (after : IsMeshWithData new) where
     -- the removal of v from the vertices alone is one from them with the constraints of before
-    pub plain_left : Removes place (points_and_constraints (state_of mid)) (points_and_constraints (state_of new)) v →
-        RenumbersEdges mid new v → Removes place (points_and_constraints_by constraints (state_of old))
+    pub plain_left : Removes place (points_and_constraints (state_of mid))
+        (points_and_constraints (state_of new)) v → RenumbersEdges mid new v
+        → Removes place (points_and_constraints_by constraints (state_of old))
         (points_and_constraints_by constraints (state_of new)) v
     plain_left removes renumbers = record {
       here = here;
-      vertices = λ d. subst (λ (vs : List V). new.vertices ≡ swap_remove vs v d) freed_vertices (removes.vertices d);
+      vertices = λ d. subst (λ (vs : List V). new.vertices ≡ swap_remove vs v d) freed_vertices
+          (removes.vertices d);
       constraints = λ a b. ((λ h. came a b h), (λ h. goes a b h.0 h.1 h.2));
     }
       where
@@ -118,13 +139,16 @@ module _ {V D U F : Type 0} (place : V → Point) (marks : U → Bool) (constrai
 
         left : (a b : ℕ) → Joins (constraint_pairs constraints new.mesh new.undirected) a b ↔
             ((a < last) × (b < last) × Joins now (old_index a) (old_index b))
-        left a b = subst (λ (vs : List V). Joins (constraint_pairs constraints new.mesh new.undirected) a b ↔
-            ((a < length vs - 1) × (b < length vs - 1) × Joins now (if nat_eq a v then length vs - 1 else a)
+        left a b = subst
+            (λ (vs : List V). Joins (constraint_pairs constraints new.mesh new.undirected) a b ↔
+            ((a < length vs - 1) × (b < length vs - 1)
+            × Joins now (if nat_eq a v then length vs - 1 else a)
             (if nat_eq b v then length vs - 1 else b))) freed_vertices
-            (constraints_left marks constraints marked mid new whole after v removes.here unmarked renumbers a b)
+            (constraints_left marks constraints marked mid new whole after v removes.here unmarked
+            renumbers a b)
 
-        came : (a b : ℕ) → Joins (constraint_pairs constraints new.mesh new.undirected) a b → (a < last) × (b < last) ×
-            Joins was (old_index a) (old_index b)
+        came : (a b : ℕ) → Joins (constraint_pairs constraints new.mesh new.undirected) a b
+            → (a < last) × (b < last) × Joins was (old_index a) (old_index b)
         came a b h =
             let k = (left a b).0 h in (
               k.0,
@@ -152,11 +176,14 @@ module _ {V D U F : Type 0} (place : V → Point) (marks : U → Bool) (constrai
     ]
 
     -- all that keeps its data beside v keeps those of before
-    pub data_left : KeepsDataBeside (state_of mid) (state_of new) v → KeepsDataBeside (state_of old) (state_of new) v
+    pub data_left : KeepsDataBeside (state_of mid) (state_of new) v
+        → KeepsDataBeside (state_of old) (state_of new) v
     data_left beside =
-        go (subst (λ (c : Contents V D U F). KeepsDataBeside (state_of c) (state_of new) v) frees.contents beside)
+        go (subst (λ (c : Contents V D U F). KeepsDataBeside (state_of c) (state_of new) v)
+        frees.contents beside)
       where
-        go : KeepsDataBeside (state_of (record old { undirected = mid.undirected })) (state_of new) v →
+        go : KeepsDataBeside (state_of (record old { undirected = mid.undirected }))
+            (state_of new) v →
             KeepsDataBeside (state_of old) (state_of new) v
         go b = record {
           edges = λ g within starts ends.

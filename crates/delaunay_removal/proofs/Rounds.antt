@@ -1,5 +1,6 @@
 -- The count of the edges of a vertex.
-use Rattle.std.proofs.Common.{◌≡◌, ◌≢◌, ℕ, ◌+◌, ◌<◌, length, refl, sym, ap, ◌∙◌, subst, arith, inl, inr}
+use Rattle.std.proofs.Common.{◌≡◌, ◌≢◌, ◌+◌, ◌<◌, ◌∙◌}
+use Rattle.std.proofs.Common.{ℕ, length, refl, sym, ap, subst, arith, inl, inr}
 use Rattle.std.proofs.lemmas.Bool.{cases_eq, cases_lt}
 use Rattle.std.proofs.Math.Numerals.{add-one}
 use Rattle.half_edge_mesh.specs.Mesh.{Mesh, IsValidMesh, origin}
@@ -8,17 +9,25 @@ use Rattle.half_edge_mesh.specs.Round.{IsRound}
 use Rattle.half_edge_views.proofs.Loops.{round_fits}
 use Rattle.delaunay_legalization.proofs.Rounds.{round_at}
 
--- after so many steps from edge first on the walk is at an edge, and none of the steps before led to first
+-- after so many steps from edge first on the walk is at an edge, and none of the steps before led
+-- to first
 pub record IsCounting (m : Mesh) (first count edge : ℕ) : Type 0 where
   pub within : edge < length m.half_edges
   pub some : 0 < count
   pub here : edge ≡ spoke m first count
   pub before : (j : ℕ) → 0 < j → j < count → spoke m first j ≢ first
 
-module _ (m : Mesh) (valid : IsValidMesh m) (first : ℕ) (first_in : first < length m.half_edges) where
+module _ (m : Mesh) (valid : IsValidMesh m) (first : ℕ)
+    (first_in : first < length m.half_edges) where
   -- with the first edge counted, the walk is at the edge that it turns to
-  pub counting_begins : (edge : ℕ) → edge < length m.half_edges → edge ≡ turn m first → IsCounting m first 1 edge
-  counting_begins edge within is = record { within = within; some = omega arith; here = is; before = λ j some less. absurd (omega (arith, some, less)) }
+  pub counting_begins : (edge : ℕ) → edge < length m.half_edges → edge ≡ turn m first
+      → IsCounting m first 1 edge
+  counting_begins edge within is = record {
+    within = within;
+    some = omega arith;
+    here = is;
+    before = λ j some less. absurd (omega (arith, some, less));
+  }
 
   module _ (count edge : ℕ) (counting : IsCounting m first count edge) where
     round : (n : ℕ) × IsRound m (origin m first) first n
@@ -40,7 +49,8 @@ module _ (m : Mesh) (valid : IsValidMesh m) (first : ℕ) (first_in : first < le
         same : round.0 ≡ count
         same = elim (cases_lt round.0 count) [
           | inl l ↦ absurd (not_past l)
-          | inr l ↦ elim (cases_lt count round.0) [ inl k ↦ absurd (not_short k) | inr k ↦ omega (arith, l, k) ]
+          | inr l ↦ elim (cases_lt count round.0)
+              [ inl k ↦ absurd (not_short k) | inr k ↦ omega (arith, l, k) ]
         ]
 
     module _ (off : edge ≢ first) where
@@ -50,11 +60,16 @@ module _ (m : Mesh) (valid : IsValidMesh m) (first : ℕ) (first_in : first < le
           let fits = round_fits m (origin m first) first round.0 valid round.1 in
           elim (cases_lt count round.0) [
             | inl l ↦ omega (arith, l, fits)
-            | inr l ↦ elim (cases_lt round.0 count) [ inl k ↦ absurd (not_past k) | inr k ↦ absurd (off (counting.here ∙ ap (spoke m first) (let e : count ≡ round.0 = omega (arith, l, k) in e) ∙ home)) ]
+            | inr l ↦ elim (cases_lt round.0 count) [
+              | inl k ↦ absurd (not_past k)
+              | inr k ↦ absurd (off (counting.here
+                  ∙ ap (spoke m first) (let e : count ≡ round.0 = omega (arith, l, k) in e) ∙ home))
+            ]
           ]
 
       -- with one edge more counted, the walk is at the edge that it turns to
-      pub counting_goes_on : (after : ℕ) → after < length m.half_edges → after ≡ turn m edge → IsCounting m first (count + 1) after
+      pub counting_goes_on : (after : ℕ) → after < length m.half_edges → after ≡ turn m edge
+          → IsCounting m first (count + 1) after
       counting_goes_on after within is = record {
         within = within;
         some = omega arith;

@@ -1,5 +1,6 @@
 -- The loop that turns edges of an inner vertex away.
-use Rattle.std.proofs.Common.{◌≡◌, ℕ, ◌+◌, ◌-◌, ◌*◌, ◌/◌, ◌<◌, ◌≤◌, List, [], ◌∷◌, ◌++◌, length, map, sym, ap, ◌∙◌, subst, arith, inl}
+use Rattle.std.proofs.Common.{◌≡◌, ◌+◌, ◌-◌, ◌*◌, ◌/◌, ◌<◌, ◌≤◌, [], ◌∷◌, ◌++◌, ◌∙◌}
+use Rattle.std.proofs.Common.{ℕ, List, length, map, sym, ap, subst, arith, inl}
 use Rattle.std.specs.Prelude.{All}
 use Rattle.half_edge_mesh.specs.Mesh.{origin}
 use Rattle.half_edge_mesh.specs.Flip.{flipped}
@@ -13,50 +14,77 @@ use Rattle.delaunay_removal.specs.Star.{IsConvexAt, IsInnerStar, IsReduced}
 use Rattle.delaunay_removal.proofs.DataStays.{stands_turned}
 use Rattle.delaunay_removal.proofs.InnerStars.{star_from, star_shrinks, has_three, none_left}
 
--- vertex v lost edges by turns, and still has so many, from edge first on; what the turned ones join is listed, with room for
--- one more at each edge
-pub record IsShrinking {V D U F : Type 0} (place : V → Point) (old now : Contents V D U F) (v first count : ℕ) (turned : List (ℕ × ℕ)) (listed capacity : ℕ) : Type 0 where
+-- vertex v lost edges by turns, and still has so many, from edge first on; what the turned ones
+-- join is listed, with room for one more at each edge
+pub record IsShrinking {V D U F : Type 0} (place : V → Point) (old now : Contents V D U F)
+    (v first count : ℕ) (turned : List (ℕ × ℕ)) (listed capacity : ℕ) : Type 0 where
   pub contents : now ≡ record old { mesh = now.mesh }
   pub star : IsInnerStar (map place now.vertices) now.mesh v first count
   pub beside : StandsBeside old now v turned
   pub room : listed + count ≤ capacity
 
-module _ {V D U F : Type 0} {turned : List (ℕ × ℕ)} {listed capacity : ℕ} (place : V → Point) (old now : Contents V D U F) (v first count : ℕ) (shrinking : IsShrinking place old now v first count turned listed capacity) where
+module _ {V D U F : Type 0} {turned : List (ℕ × ℕ)} {listed capacity : ℕ} (place : V → Point)
+    (old now : Contents V D U F) (v first count : ℕ)
+    (shrinking : IsShrinking place old now v first count turned listed capacity) where
   -- the vertices stay
   pub vertices_stay : now.vertices ≡ old.vertices
   vertices_stay = ap (λ (c : Contents V D U F). c.vertices) shrinking.contents
 
   -- they are sites as they were
-  pub sites_stay : (IsSite : Point → Type 0) → All IsSite (map place old.vertices) → All IsSite (map place now.vertices)
-  sites_stay IsSite sites = subst (λ (vs : List V). All IsSite (map place vs)) (sym vertices_stay) sites
+  pub sites_stay : (IsSite : Point → Type 0) → All IsSite (map place old.vertices)
+      → All IsSite (map place now.vertices)
+  sites_stay IsSite sites =
+      subst (λ (vs : List V). All IsSite (map place vs)) (sym vertices_stay) sites
 
   -- the star that is left is one over the points of before
   pub star_stays : IsInnerStar (map place old.vertices) now.mesh v first count
-  star_stays = subst (λ (vs : List V). IsInnerStar (map place vs) now.mesh v first count) vertices_stay shrinking.star
+  star_stays = subst (λ (vs : List V). IsInnerStar (map place vs) now.mesh v first count)
+      vertices_stay shrinking.star
 
   module _ (whole : IsMeshWithData now) where
     -- the star from an edge that was found
-    pub star_at : (edge : ℕ) → (i : ℕ) × (i < count) × (edge ≡ spoke now.mesh first i) → IsInnerStar (map place now.vertices) now.mesh v edge count
-    star_at edge (i, less, is) = star_from (map place now.vertices) now.mesh whole.valid v first count shrinking.star edge
+    pub star_at : (edge : ℕ) → (i : ℕ) × (i < count) × (edge ≡ spoke now.mesh first i)
+        → IsInnerStar (map place now.vertices) now.mesh v edge count
+    star_at edge (i, less, is) =
+        star_from (map place now.vertices) now.mesh whole.valid v first count shrinking.star edge
         (subst (λ (h : ℕ). h < length now.mesh.half_edges) (sym is) (shrinking.star.round.within i))
         (ap (origin now.mesh) is ∙ shrinking.star.round.starts i)
 
     -- one more turn
-    pub shrinking_goes_on : (new : Contents V D U F) → IsMeshWithData new → 3 < count → (edge : ℕ) → (i : ℕ) × (i < count) × (edge ≡ spoke now.mesh first i) → IsConvexAt (map place now.vertices) now.mesh edge
-        → new.mesh ≡ flipped now.mesh (2 * (turn now.mesh edge / 2)) → new ≡ record now { mesh = new.mesh } → FlipsTriangles now.mesh new.mesh (2 * (turn now.mesh edge / 2)) → KeepsOuter now.mesh new.mesh → (p : ℕ × ℕ) → StandsBeside now new (origin now.mesh edge) (p ∷ []) → (more : List (ℕ × ℕ)) (listed_now capacity_now : ℕ) → more ≡ turned ++ p ∷ [] → listed_now ≡ listed + 1 → capacity_now ≡ capacity
+    pub shrinking_goes_on : (new : Contents V D U F) → IsMeshWithData new → 3 < count → (edge : ℕ)
+        → (i : ℕ) × (i < count) × (edge ≡ spoke now.mesh first i)
+        → IsConvexAt (map place now.vertices) now.mesh edge → new.mesh
+        ≡ flipped now.mesh (2 * (turn now.mesh edge / 2)) → new ≡ record now { mesh = new.mesh }
+        → FlipsTriangles now.mesh new.mesh (2 * (turn now.mesh edge / 2))
+        → KeepsOuter now.mesh new.mesh → (p : ℕ × ℕ)
+        → StandsBeside now new (origin now.mesh edge) (p ∷ [])
+        → (more : List (ℕ × ℕ)) (listed_now capacity_now : ℕ) → more ≡ turned ++ p ∷ []
+        → listed_now ≡ listed + 1 → capacity_now ≡ capacity
         → IsShrinking place old new v edge (count - 1) more listed_now capacity_now
-    shrinking_goes_on new after many edge at convex flips contents triangles outer p stands more listed_now capacity_now put one_more same = record {
-      contents = contents ∙ ap (λ (c : Contents V D U F). record c { mesh = new.mesh }) shrinking.contents;
-      star = subst (λ (vs : List V). IsInnerStar (map place vs) new.mesh v edge (count - 1)) (sym (ap (λ (c : Contents V D U F). c.vertices) contents))
-          (star_shrinks (map place now.vertices) now.mesh new.mesh whole.valid v edge count (star_at edge at) many flips outer after.valid triangles convex);
-      beside = stands_turned old now new v turned more p put shrinking.beside (subst (λ (x : ℕ). StandsBeside now new x (p ∷ [])) (ap (origin now.mesh) at.2 ∙ shrinking.star.round.starts at.0) stands);
-      room = let fits = shrinking.room in omega (arith, fits, many, one_more, same);
-    }
+    shrinking_goes_on new after many edge at convex flips contents triangles outer p stands more
+        listed_now capacity_now put one_more same = record {
+          contents = contents
+              ∙ ap (λ (c : Contents V D U F). record c { mesh = new.mesh }) shrinking.contents;
+          star = subst (λ (vs : List V). IsInnerStar (map place vs) new.mesh v edge (count - 1))
+              (sym (ap (λ (c : Contents V D U F). c.vertices) contents))
+              (star_shrinks (map place now.vertices) now.mesh new.mesh whole.valid v edge count
+              (star_at edge at) many flips outer after.valid triangles convex);
+          beside = stands_turned old now new v turned more p put shrinking.beside
+              (subst (λ (x : ℕ). StandsBeside now new x (p ∷ []))
+              (ap (origin now.mesh) at.2 ∙ shrinking.star.round.starts at.0) stands);
+          room = let fits = shrinking.room in omega (arith, fits, many, one_more, same);
+        }
 
     -- no edge can be turned any more
-    pub shrinking_stops : 3 < count → ((i : ℕ) → i < count → ¬ IsConvexAt (map place now.vertices) now.mesh (spoke now.mesh first i)) → IsReduced (map place old.vertices) now.mesh v first count
-    shrinking_stops many none = subst (λ (vs : List V). IsReduced (map place vs) now.mesh v first count) vertices_stay (none_left (map place now.vertices) now whole v first count shrinking.star many none)
+    pub shrinking_stops : 3 < count → ((i : ℕ) → i < count
+        → ¬ IsConvexAt (map place now.vertices) now.mesh (spoke now.mesh first i))
+        → IsReduced (map place old.vertices) now.mesh v first count
+    shrinking_stops many none =
+        subst (λ (vs : List V). IsReduced (map place vs) now.mesh v first count) vertices_stay
+        (none_left (map place now.vertices) now whole v first count shrinking.star many none)
 
     -- three edges are left
     pub shrinking_ends : count ≤ 3 → IsReduced (map place old.vertices) now.mesh v first count
-    shrinking_ends few = let many = has_three (map place now.vertices) now.mesh whole.valid v first count shrinking.star in inl (omega (arith, few, many))
+    shrinking_ends few = let many =
+        has_three (map place now.vertices) now.mesh whole.valid v first count shrinking.star in
+        inl (omega (arith, few, many))

@@ -11,8 +11,10 @@ use Rattle.mesh_embedding.proofs.MeshStarFlips.{can_turn_spoke}
 use Rattle.delaunay_legalization.proofs.Rounds.{round_at}
 
 -- the edge after h, where the ends beside it differ
-pub may_turn : (points : List Point) (m : Mesh) → IsValidMesh m → LocalMesh points (faces_of m) (outer_of m) → (h : ℕ) → h < length m.half_edges → 0 < face m h → 0 < face m (turn m h) → neighbour m h 0 ≢ neighbour m h 2
-    → IsFlippable m (2 * (turn m h / 2)) × (origin m (prev m (2 * (turn m h / 2))) ≢ origin m (prev m (rev (2 * (turn m h / 2)))))
+pub may_turn : (points : List Point) (m : Mesh) → IsValidMesh m
+    → LocalMesh points (faces_of m) (outer_of m) → (h : ℕ) → h < length m.half_edges → 0 < face m h
+    → 0 < face m (turn m h) → neighbour m h 0 ≢ neighbour m h 2 → IsFlippable m (2 * (turn m h / 2))
+    × (origin m (prev m (2 * (turn m h / 2))) ≢ origin m (prev m (rev (2 * (turn m h / 2)))))
 may_turn points m valid local h within left right apart =
     let r = round_at m valid (origin m h) h within refl in
     can_turn_spoke points m valid local (origin m h) h r.0 r.1 0 left right apart

@@ -26,11 +26,13 @@ pub record IsHullStar (points : List Point) (m : Mesh) (v first count : ℕ) : T
 
 -- none of its edges lies across a strictly convex quadrilateral
 abbrev pub HasNoFlippableEdge : List Point → Mesh → ℕ → ℕ → Type 0
-HasNoFlippableEdge points m first count = (i : ℕ) → suc (suc i) < count → ¬ IsConvexAt points m (spoke m first i)
+HasNoFlippableEdge points m first count =
+    (i : ℕ) → suc (suc i) < count → ¬ IsConvexAt points m (spoke m first i)
 
 -- the vertex where edge first starts, with the outer face on its right, is a corner of the hull
 abbrev pub IsCornerAt : List Point → Mesh → ℕ → Type 0
-IsCornerAt points m first = TurnsLeft (place points (origin m first)) (place points (neighbour m first 0)) (place points (origin m (rev (next m (rev first)))))
+IsCornerAt points m first = TurnsLeft (place points (origin m first))
+    (place points (neighbour m first 0)) (place points (origin m (rev (next m (rev first)))))
 
 -- the sides opposite a vertex, from its edge first on
 pub record AreSides (m : Mesh) (first count : ℕ) (sides : List ℕ) : Type 0 where

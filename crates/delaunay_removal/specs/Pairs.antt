@@ -1,7 +1,7 @@
--- The pairs of vertices that bound the faces made where a vertex goes: the sides of its hole, and what its edges join
--- once they
--- are turned.
-use Rattle.std.specs.Prelude.{◌≡◌, ◌⊎◌, ℕ, ◌+◌, ◌-◌, ◌*◌, ◌<◌, ◌≤◌, List, length, map, nat_eq, if◌then◌else◌}
+-- The pairs of vertices that bound the faces made where a vertex goes: the sides of its hole, and
+-- what its edges join once they are turned.
+use Rattle.std.specs.Prelude.{◌≡◌, ◌⊎◌, ◌+◌, ◌-◌, ◌*◌, ◌<◌, ◌≤◌, if◌then◌else◌}
+use Rattle.std.specs.Prelude.{ℕ, List, length, map, nat_eq}
 use Rattle.half_edge_mesh.specs.Mesh.{Mesh, origin, rev}
 use Rattle.half_edge_mesh.specs.Peel.{turn}
 use Rattle.half_edge_mesh.specs.Renames.{moved}
@@ -24,7 +24,8 @@ IsHoleSide faces v pairs i j = Joins pairs i j ⊎ IsFaceOf faces v i j
 abbrev pub IsStarSide : List Face → ℕ → List (ℕ × ℕ) → ℕ → ℕ → Type 0
 IsStarSide faces v pairs i j = ((i ≡ v) ⊎ (j ≡ v)) ⊎ IsHoleSide faces v pairs i j
 
--- each face is an old one, or each of its sides is one of the pairs, lay opposite vertex v, or ends at v
+-- each face is an old one, or each of its sides is one of the pairs, lay opposite vertex v, or ends
+-- at v
 pub record MakesFaces (v : ℕ) (pairs : List (ℕ × ℕ)) (old new : List Face) : Type 0 where
   pub each : (i j k : ℕ) → IsFaceOf new i j k → IsFaceOf old i j k ⊎
       (IsStarSide old v pairs i j × IsStarSide old v pairs j k × IsStarSide old v pairs k i)
@@ -35,22 +36,25 @@ KeepsPairs old new = (i j : ℕ) → Joins old i j → Joins new i j
 
 -- a list of so many pairs has room for one more at each edge of vertex v
 abbrev pub HasRoomAt : Mesh → ℕ → ℕ → ℕ → Type 0
-HasRoomAt m v listed capacity = (first count : ℕ) → IsRound m v first count → listed + count ≤ capacity
+HasRoomAt m v listed capacity =
+    (first count : ℕ) → IsRound m v first count → listed + count ≤ capacity
 
--- the ends of each edge of vertex v and of the edge after it are one of the pairs: so are the sides opposite v
+-- the ends of each edge of vertex v and of the edge after it are one of the pairs: so are the sides
+-- opposite v
 abbrev pub HasBorder : Mesh → ℕ → List (ℕ × ℕ) → Type 0
 HasBorder m v pairs =
-    (h : ℕ) → h < length m.half_edges → origin m h ≡ v → Joins pairs (origin m (rev h)) (origin m (rev (turn m h)))
+    (h : ℕ) → h < length m.half_edges → origin m h ≡ v
+    → Joins pairs (origin m (rev h)) (origin m (rev (turn m h)))
 
 -- ---- where it has gone
 -- the former index of vertex k, where v has gone and vertex `last` has taken index v
 abbrev pub former_index : ℕ → ℕ → ℕ → ℕ
 former_index v last k = if nat_eq k v then last else k
 
--- vertex v went and the last vertex took its index: each face was there by the former indexes of its corners, or by
--- these each
--- of its sides is one of the pairs or lay opposite v
-pub record LeavesFaces {V D U F : Type 0} (old new : State V D U F) (v : ℕ) (pairs : List (ℕ × ℕ)) : Type 0 where
+-- vertex v went and the last vertex took its index: each face was there by the former indexes of
+-- its corners, or by these each of its sides is one of the pairs or lay opposite v
+pub record LeavesFaces {V D U F : Type 0} (old new : State V D U F) (v : ℕ)
+    (pairs : List (ℕ × ℕ)) : Type 0 where
   pub each : (i j k : ℕ) → IsFaceOf (faces_of new.mesh) i j k →
       let was = former_index v (length old.vertices - 1) in
       let faces = faces_of old.mesh in
@@ -65,7 +69,8 @@ pair_left last v p = (moved last v p.0, moved last v p.1)
 abbrev pub pairs_left : ℕ → ℕ → List (ℕ × ℕ) → List (ℕ × ℕ)
 pairs_left last v pairs = map (pair_left last v) pairs
 
--- each undirected edge joins one of the pairs, or is outer or has an empty circle on one of its sides
+-- each undirected edge joins one of the pairs, or is outer or has an empty circle on one of its
+-- sides
 abbrev pub FailOnlyAt : List Point → Mesh → List (ℕ × ℕ) → Type 0
 FailOnlyAt points m pairs = (k : ℕ) → (2 * k) < length m.half_edges →
     Joins pairs (origin m (2 * k)) (origin m (rev (2 * k))) ⊎
@@ -74,7 +79,8 @@ FailOnlyAt points m pairs = (k : ℕ) → (2 * k) < length m.half_edges →
 -- an edge from i to j is among ks, if there is one
 abbrev pub HasEdgeOf : Mesh → ℕ → ℕ → List ℕ → Type 0
 HasEdgeOf m i j ks =
-    (h : ℕ) → h < length m.half_edges → origin m h ≡ i → origin m (rev h) ≡ j → Joins (pairs_at m ks) i j
+    (h : ℕ) → h < length m.half_edges → origin m h ≡ i → origin m (rev h) ≡ j
+    → Joins (pairs_at m ks) i j
 
 -- so for each of the pairs
 abbrev pub HasEdgesOf : Mesh → List (ℕ × ℕ) → List ℕ → Type 0

@@ -1,5 +1,6 @@
 -- The edges and faces round a vertex that is to go.
-use Rattle.std.specs.Prelude.{◌≡◌, ◌⊎◌, ℕ, suc, ◌+◌, ◌*◌, ◌/◌, ◌<◌, ◌++◌, ◌∷◌, List, [], length, map, vec_capacity, vec_len}
+use Rattle.std.specs.Prelude.{◌≡◌, ◌⊎◌, ◌+◌, ◌*◌, ◌/◌, ◌<◌, ◌++◌, ◌∷◌, []}
+use Rattle.std.specs.Prelude.{ℕ, suc, List, length, map, vec_capacity, vec_len}
 use Rattle.std.specs.Global.{Vec}
 use Rattle.half_edge_mesh.specs.Flip.{flipped}
 use Rattle.half_edge_mesh.specs.Mesh.{Mesh, origin, face, IsAlone}
@@ -17,11 +18,13 @@ use Rattle.plane_edits.specs.Removal.{LocalMeshWithout, LineMeshWithout}
 use Rattle.mesh_embedding.specs.Drawn.{faces_of, outer_of}
 use Rattle.delaunay_removal.specs.Data.{StandsBeside}
 
--- the edge after edge h, round the vertex where they start, lies across a strictly convex quadrilateral: its corners are
--- this vertex and the ends of h and of the two edges after it
+-- the edge after edge h, round the vertex where they start, lies across a strictly convex
+-- quadrilateral: its corners are this vertex and the ends of h and of the two edges after it
 pub record IsConvexAt (points : List Point) (m : Mesh) (h : ℕ) : Type 0 where
-  pub far : TurnsLeft (place points (neighbour m h 0)) (place points (neighbour m h 1)) (place points (neighbour m h 2))
-  pub near : TurnsLeft (place points (origin m h)) (place points (neighbour m h 0)) (place points (neighbour m h 2))
+  pub far : TurnsLeft (place points (neighbour m h 0)) (place points (neighbour m h 1))
+      (place points (neighbour m h 2))
+  pub near : TurnsLeft (place points (origin m h)) (place points (neighbour m h 0))
+      (place points (neighbour m h 2))
 
 -- the faces round vertex v are inner ones
 abbrev pub HasInnerFaces : Mesh → ℕ → Type 0
@@ -35,11 +38,14 @@ pub record IsInnerStar (points : List Point) (m : Mesh) (v first count : ℕ) : 
 
 -- the vertex where edge h starts is strictly between the ends of h and of the edge after the next
 abbrev pub IsBetweenAt : List Point → Mesh → ℕ → Type 0
-IsBetweenAt points m h = WithinSegment (place points (neighbour m h 0)) (place points (neighbour m h 2)) (place points (origin m h))
+IsBetweenAt points m h = WithinSegment (place points (neighbour m h 0))
+    (place points (neighbour m h 2)) (place points (origin m h))
 
 -- so is vertex v at one of its edges
 abbrev pub StandsBetween : List Point → Mesh → ℕ → ℕ → ℕ → Type 0
-StandsBetween points m v first count = (i : ℕ) × (i < count) × WithinSegment (place points (neighbour m first i)) (place points (neighbour m first (suc (suc i)))) (place points v)
+StandsBetween points m v first count =
+    (i : ℕ) × (i < count) × WithinSegment (place points (neighbour m first i))
+    (place points (neighbour m first (suc (suc i)))) (place points v)
 
 -- there are three edges, or four with vertex v strictly between two ends
 abbrev pub IsReduced : List Point → Mesh → ℕ → ℕ → ℕ → Type 0
@@ -47,29 +53,35 @@ IsReduced points m v first count = (count ≡ 3) ⊎ ((count ≡ 4) × StandsBet
 
 -- a mesh of all vertices but v, in the plane or on a line
 abbrev pub IsMeshWithout : ℕ → List Point → List Face → List (ℕ × ℕ) → Type 0
-IsMeshWithout v points faces outer = LocalMeshWithout v points faces outer ⊎ ((faces ≡ []) × LineMeshWithout v points outer)
+IsMeshWithout v points faces outer =
+    LocalMeshWithout v points faces outer ⊎ ((faces ≡ []) × LineMeshWithout v points outer)
 
--- vertex v has lost its edges, the mesh is one of the other vertices, the edges and faces beside v keep their data, and the
--- pairs are what turned edges join
-pub record IsolatesVertex {V D U F : Type 0} (points : List Point) (old new : Contents V D U F) (v : ℕ) (pairs : List (ℕ × ℕ)) : Type 0 where
-  pub contents : new ≡ record old { mesh = new.mesh; directed = new.directed; undirected = new.undirected; faces = new.faces }
+-- vertex v has lost its edges, the mesh is one of the other vertices, the edges and faces beside v
+-- keep their data, and the pairs are what turned edges join
+pub record IsolatesVertex {V D U F : Type 0} (points : List Point) (old new : Contents V D U F)
+    (v : ℕ) (pairs : List (ℕ × ℕ)) : Type 0 where
+  pub contents : new ≡ record old
+      { mesh = new.mesh; directed = new.directed; undirected = new.undirected; faces = new.faces }
   pub alone : IsAlone new.mesh v
   pub shape : IsMeshWithout v points (faces_of new.mesh) (outer_of new.mesh)
   pub beside : StandsBeside old new v pairs
 
 -- so it has, where the mesh has the vertices of before
-abbrev pub LosesEdges : {V D U F : Type 0} → (V → Point) → Contents V D U F → Contents V D U F → ℕ → List (ℕ × ℕ)
+abbrev pub LosesEdges : {V D U F : Type 0} → (V → Point) → Contents V D U F → Contents V D U F → ℕ
+    → List (ℕ × ℕ)
     → Type 0
 LosesEdges place old new v pairs = IsolatesVertex (map place old.vertices) old new v pairs
 
--- the edge after edge h, round the vertex where they start, was turned so that it leaves this vertex, and a list got what it
--- joins then
-pub record TurnsAway {V D U F : Type 0} (old new : Contents V D U F) (h : ℕ) (listed list : Vec (ℕ × ℕ)) : Type 0 where
+-- the edge after edge h, round the vertex where they start, was turned so that it leaves this
+-- vertex, and a list got what it joins then
+pub record TurnsAway {V D U F : Type 0} (old new : Contents V D U F) (h : ℕ)
+    (listed list : Vec (ℕ × ℕ)) : Type 0 where
   pub mesh : new.mesh ≡ flipped old.mesh (2 * (turn old.mesh h / 2))
   pub contents : new ≡ record old { mesh = new.mesh }
   pub triangles : FlipsTriangles old.mesh new.mesh (2 * (turn old.mesh h / 2))
   pub outer : KeepsOuter old.mesh new.mesh
-  pub beside : StandsBeside old new (origin old.mesh h) ((neighbour old.mesh h 0, neighbour old.mesh h 2) ∷ [])
+  pub beside : StandsBeside old new (origin old.mesh h)
+      ((neighbour old.mesh h 0, neighbour old.mesh h 2) ∷ [])
   pub items : list.items ≡ listed.items ++ (neighbour old.mesh h 0, neighbour old.mesh h 2) ∷ []
   pub len : vec_len list ≡ vec_len listed + 1
   pub capacity : vec_capacity list ≡ vec_capacity listed

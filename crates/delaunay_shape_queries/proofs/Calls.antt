@@ -17,29 +17,34 @@ use Rattle.delaunay_shapes.specs.Tests.{corners}
 use Rattle.delaunay_shape_queries.specs.Found.{FindsEdges, FindsVertices}
 
 -- what holds of all corners of a rectangle holds of the lower one
-pub lower_corner : (C : Point → Type 0) (lower upper : Point) → All C (corners lower upper) → C lower
+pub lower_corner : (C : Point → Type 0) (lower upper : Point)
+    → All C (corners lower upper) → C lower
 lower_corner C lower upper all = all 0 lower (omega arith)
 
 -- what holds of all corners of a rectangle holds of the upper one
-pub upper_corner : (C : Point → Type 0) (lower upper : Point) → All C (corners lower upper) → C upper
+pub upper_corner : (C : Point → Type 0) (lower upper : Point)
+    → All C (corners lower upper) → C upper
 upper_corner C lower upper all = all 2 upper (omega arith)
 
 -- corners by other names of the same points
-pub same_corners : (C : Point → Type 0) (l m u v : Point) → l ≡ m → u ≡ v → All C (corners m v) → All C (corners l u)
+pub same_corners : (C : Point → Type 0) (l m u v : Point) → l ≡ m → u ≡ v → All C (corners m v)
+    → All C (corners l u)
 same_corners C l m u v e f all =
-    subst (λ (x : Point). All C (corners x u)) (sym e) (subst (λ (y : Point). All C (corners m y)) (sym f) all)
+    subst (λ (x : Point). All C (corners x u)) (sym e)
+    (subst (λ (y : Point). All C (corners m y)) (sym f) all)
 
 -- a circle and a rectangle by other names of the same numbers
-pub same_circle : (Q : (Fraction → Type 0) → Type 0) (c d : Point) (r s : ℤ) → c ≡ d → r ≡ s → Q (InClosedCircle c r) →
-    Q (InClosedCircle d s)
+pub same_circle : (Q : (Fraction → Type 0) → Type 0) (c d : Point) (r s : ℤ) → c ≡ d → r ≡ s
+    → Q (InClosedCircle c r) → Q (InClosedCircle d s)
 same_circle Q c d r s e f q =
     subst (λ (x : ℤ). Q (InClosedCircle d x)) f (subst (λ (x : Point). Q (InClosedCircle x r)) e q)
 
 -- what holds of a rectangle holds of the one with equal corners
-pub same_rectangle : (Q : (Fraction → Type 0) → Type 0) (l m u v : Point) → l ≡ m → u ≡ v → Q (InClosedRectangle l u) →
-    Q (InClosedRectangle m v)
+pub same_rectangle : (Q : (Fraction → Type 0) → Type 0) (l m u v : Point) → l ≡ m → u ≡ v
+    → Q (InClosedRectangle l u) → Q (InClosedRectangle m v)
 same_rectangle Q l m u v e f q =
-    subst (λ (x : Point). Q (InClosedRectangle m x)) f (subst (λ (x : Point). Q (InClosedRectangle x u)) e q)
+    subst (λ (x : Point). Q (InClosedRectangle m x)) f
+    (subst (λ (x : Point). Q (InClosedRectangle x u)) e q)
 
 module _ {V D U F : Type 0} (place : V → Point) (s : State V D U F) (mesh : Bor (Contents V D U F))
     (same : state_of mesh.now ≡ s) where
@@ -48,10 +53,11 @@ module _ {V D U F : Type 0} (place : V → Point) (s : State V D U F) (mesh : Bo
   kept_in_mesh kept = subst (IsTriangulated place) (sym same) kept
 
   -- and its vertices are sites as those of the state are
-  pub sites_in_mesh : (Sites : Point → Type 0) → IsTriangulated place s → AreSites place Sites s.vertices →
-      All Sites (map place mesh.now.vertices)
+  pub sites_in_mesh : (Sites : Point → Type 0) → IsTriangulated place s
+      → AreSites place Sites s.vertices → All Sites (map place mesh.now.vertices)
   sites_in_mesh Sites kept sites =
-      subst (λ x. All Sites (map place x.vertices)) (sym same) (sites (All-map InRange place s.vertices kept.in_range))
+      subst (λ x. All Sites (map place x.vertices)) (sym same)
+      (sites (All-map InRange place s.vertices kept.in_range))
 
   module _ {E : Type 0} (Shape : Fraction → Type 0) where
     -- the edges that a search of the mesh gives are those of the triangulation in the shape

@@ -1,17 +1,21 @@
 -- Lists of what has a point in a shape, as they grow.
-use Rattle.std.proofs.Common.{◌≡◌, ◌↔◌, ℕ, ◌+◌, ◌<◌, ◌≤◌, List, [], ◌∷◌, ◌++◌, length, get_or, replicate, set, refl}
+use Rattle.std.proofs.Common.{◌≡◌, ◌↔◌, ◌+◌, ◌<◌, ◌≤◌, [], ◌∷◌, ◌++◌}
+use Rattle.std.proofs.Common.{ℕ, List, length, get_or, replicate, set, refl}
 use Rattle.std.proofs.Common.{sym, ap, ◌∙◌, subst, arith, append_assoc, length-append, ◌*◌, ◌/◌}
 use mathlib.Core.Logic.{inl, inr, ◌≢◌}
 use mathlib.Core.Bool.{Bool, true, false}
 use Rattle.std.specs.Prelude.{Contains}
 use Rattle.std.proofs.lemmas.Bool.{cases_eq}
-use Rattle.std.proofs.lemmas.List.{get_or-set_same, get_or-set_other, get_or_append_left, length-set, length-replicate}
+use Rattle.std.proofs.lemmas.List.{get_or-set_same, get_or-set_other, get_or_append_left}
+use Rattle.std.proofs.lemmas.List.{length-set, length-replicate}
 use Rattle.std.proofs.lemmas.List.{get_or-replicate, append-nil}
 use Rattle.half_edge_mesh.specs.Mesh.{Mesh, next, prev, rev}
 use Rattle.plane_tiling.proofs.Totals.{Contains-none, get_or_any}
 use Rattle.plane_edits.proofs.LocalMesh.Changes.{IsOnce, once_none}
-use Rattle.mesh_embedding.proofs.WorkLists.{contains_last, contains_before, last_or_before, once_after}
-use Rattle.delaunay_shapes.specs.Flood.{IsAsked, IsFlooding, GoesOn, Asks, AsksBeside, AreAskedBeside, IsSpread}
+use Rattle.mesh_embedding.proofs.WorkLists.{contains_last, contains_before, last_or_before}
+use Rattle.mesh_embedding.proofs.WorkLists.{once_after}
+use Rattle.delaunay_shapes.specs.Flood.{IsAsked, IsFlooding, GoesOn, Asks, AsksBeside}
+use Rattle.delaunay_shapes.specs.Flood.{AreAskedBeside, IsSpread}
 
 -- ---- a filter
 -- of the numbers below i those that are inside, each once
@@ -33,8 +37,9 @@ not_below : (k i : ℕ) → k ≡ i → k < i → ⊥
 not_below k i e h = omega (arith, e, h)
 
 -- a filter that comes to a number inside has found this one, too
-pub filter_finds : (Inside : ℕ → Type 0) (i k : ℕ) (found found' : List ℕ) → IsFilteredTo Inside i found → k ≡ i →
-    Inside k → found' ≡ found ++ k ∷ [] → IsFilteredTo Inside (i + 1) found'
+pub filter_finds : (Inside : ℕ → Type 0) (i k : ℕ) (found found' : List ℕ)
+    → IsFilteredTo Inside i found → k ≡ i → Inside k → found' ≡ found ++ k ∷ []
+    → IsFilteredTo Inside (i + 1) found'
 filter_finds Inside i k found found' f is inside grown =
     subst (IsFilteredTo Inside (i + 1)) (sym grown)
     (record {
@@ -51,12 +56,13 @@ filter_finds Inside i k found found' f is inside grown =
     back : (j : ℕ) → (j < i + 1) × Inside j → Contains (found ++ k ∷ []) j
     back j p = elim (cases_eq j k) as (λ _. Contains (found ++ k ∷ []) j) [
       | inl e ↦ subst (Contains (found ++ k ∷ [])) (sym e) (contains_last found k)
-      | inr n ↦ contains_before found k j ((f.exact j).1 (below_other j i p.0 (λ e. n (e ∙ sym is)), p.1))
+      | inr n ↦
+          contains_before found k j ((f.exact j).1 (below_other j i p.0 (λ e. n (e ∙ sym is)), p.1))
     ]
 
 -- a filter that comes to a number outside has found what it had
-pub filter_passes : (Inside : ℕ → Type 0) (i k : ℕ) (found : List ℕ) → IsFilteredTo Inside i found → k ≡ i →
-    ¬ Inside k → IsFilteredTo Inside (i + 1) found
+pub filter_passes : (Inside : ℕ → Type 0) (i k : ℕ) (found : List ℕ) → IsFilteredTo Inside i found
+    → k ≡ i → ¬ Inside k → IsFilteredTo Inside (i + 1) found
 filter_passes Inside i k found f is out = record { once = f.once; exact = λ j. (there j, back j) }
   where
     there : (j : ℕ) → Contains found j → (j < i + 1) × Inside j
@@ -70,9 +76,8 @@ filter_passes Inside i k found f is out = record { once = f.once; exact = λ j. 
 
 -- ---- a flood before its first question
 -- a flood begins with nothing asked of and nothing found
-pub none_asked : (Inside : ℕ → Type 0) (count n : ℕ) (asked : List Bool) (found : List ℕ) → asked ≡ replicate n false →
-    n ≡ count
-    → found ≡ [] → IsFlooding Inside count asked found
+pub none_asked : (Inside : ℕ → Type 0) (count n : ℕ) (asked : List Bool) (found : List ℕ)
+    → asked ≡ replicate n false → n ≡ count → found ≡ [] → IsFlooding Inside count asked found
 none_asked Inside count n asked found a e f =
     subst (λ (c : ℕ). IsFlooding Inside c asked found) e
     (subst (λ xs. IsFlooding Inside n xs found) (sym a)
@@ -82,7 +87,8 @@ none_asked Inside count n asked found a e f =
       within = λ k c. absurd (Contains-none k c);
       inside = λ k c. absurd (Contains-none k c);
       marked = λ k c. absurd (Contains-none k c);
-      complete = λ k h m p. let same : false ≡ true = sym (get_or-replicate n k false false h) ∙ m in absurd (cc);
+      complete = λ k h m p. let same : false ≡ true =
+          sym (get_or-replicate n k false false h) ∙ m in absurd (cc);
     })))
 
 -- ---- a question of a flood
@@ -91,23 +97,26 @@ module _ (Inside : ℕ → Type 0) (count : ℕ) where
   goes_nowhere asked found = record { kept = λ k h. h; more = []; grown = sym (append-nil found) }
 
   -- asked of before, the edge changes nothing
-  pub asked_before : (asked : List Bool) (found : List ℕ) (k : ℕ) → IsFlooding Inside count asked found →
-      IsAsked asked k → Asks Inside count asked asked found found k
+  pub asked_before : (asked : List Bool) (found : List ℕ) (k : ℕ)
+      → IsFlooding Inside count asked found → IsAsked asked k
+      → Asks Inside count asked asked found found k
   asked_before asked found k f h = record { flooding = f; on = goes_nowhere asked found; there = h }
 
-  marks_more : (asked : List Bool) (k j : ℕ) → k < length asked → IsAsked asked j → IsAsked (set asked k true) j
+  marks_more : (asked : List Bool) (k j : ℕ) → k < length asked → IsAsked asked j
+      → IsAsked (set asked k true) j
   marks_more asked k j w h = elim (cases_eq j k) as (λ _. IsAsked (set asked k true) j) [
     | inl e ↦ subst (IsAsked (set asked k true)) (sym e) (get_or-set_same asked k true false w)
     | inr n ↦ get_or-set_other asked k j true false n ∙ h
   ]
 
-  marks_other : (asked : List Bool) (k j : ℕ) → j ≢ k → IsAsked (set asked k true) j → IsAsked asked j
+  marks_other : (asked : List Bool) (k j : ℕ) → j ≢ k → IsAsked (set asked k true) j
+      → IsAsked asked j
   marks_other asked k j n h = sym (get_or-set_other asked k j true false n) ∙ h
 
   -- asked of now, and inside, it is found
-  pub asked_inside : (asked asked' : List Bool) (found found' : List ℕ) (k : ℕ) → IsFlooding Inside count asked found →
-      k < count → ¬ IsAsked asked k → Inside k → asked' ≡ set asked k true → found' ≡ found ++ k ∷ []
-      → Asks Inside count asked asked' found found' k
+  pub asked_inside : (asked asked' : List Bool) (found found' : List ℕ) (k : ℕ)
+      → IsFlooding Inside count asked found → k < count → ¬ IsAsked asked k → Inside k → asked'
+      ≡ set asked k true → found' ≡ found ++ k ∷ [] → Asks Inside count asked asked' found found' k
   asked_inside asked asked' found found' k f w new inside e grown =
       let here : k < length asked = let l = f.marks in omega (arith, l, w) in
       subst (λ a. Asks Inside count asked a found found' k) (sym e)
@@ -116,7 +125,8 @@ module _ (Inside : ℕ → Type 0) (count : ℕ) where
           marks = length-set asked k true ∙ f.marks;
           once = once_after found k f.once (λ c. new (f.marked k c));
           within = λ j c. elim (last_or_before found k j c) as
-              (λ _. j < count) [ inl e ↦ subst (λ (x : ℕ). x < count) (sym e) w | inr d ↦ f.within j d ];
+              (λ _. j < count)
+              [ inl e ↦ subst (λ (x : ℕ). x < count) (sym e) w | inr d ↦ f.within j d ];
           inside = λ j c. elim (last_or_before found k j c) as (λ _. Inside j) [
             | inl e ↦ subst Inside (sym e) inside
             | inr d ↦ f.inside j d
@@ -137,8 +147,9 @@ module _ (Inside : ℕ → Type 0) (count : ℕ) where
       }))
 
   -- asked of now, and not inside, it is not found
-  pub asked_outside : (asked asked' : List Bool) (found : List ℕ) (k : ℕ) → IsFlooding Inside count asked found →
-      k < count → ¬ Inside k → asked' ≡ set asked k true → Asks Inside count asked asked' found found k
+  pub asked_outside : (asked asked' : List Bool) (found : List ℕ) (k : ℕ)
+      → IsFlooding Inside count asked found → k < count → ¬ Inside k → asked' ≡ set asked k true
+      → Asks Inside count asked asked' found found k
   asked_outside asked asked' found k f w out e =
       let here : k < length asked = let l = f.marks in omega (arith, l, w) in
       subst (λ a. Asks Inside count asked a found found k) (sym e) (record {
@@ -153,14 +164,18 @@ module _ (Inside : ℕ → Type 0) (count : ℕ) where
             | inr n ↦ f.complete j h (marks_other asked k j n m) p
           ];
         };
-        on = record { kept = λ j h. marks_more asked k j here h; more = []; grown = sym (append-nil found) };
+        on = record {
+          kept = λ j h. marks_more asked k j here h;
+          more = [];
+          grown = sym (append-nil found);
+        };
         there = get_or-set_same asked k true false here;
       })
 
 -- ---- questions one after the other
 -- a flood that goes on twice has gone on
-pub goes_on_twice : (asked mid asked' : List Bool) (found more found' : List ℕ) → GoesOn asked mid found more →
-    GoesOn mid asked' more found' → GoesOn asked asked' found found'
+pub goes_on_twice : (asked mid asked' : List Bool) (found more found' : List ℕ)
+    → GoesOn asked mid found more → GoesOn mid asked' more found' → GoesOn asked asked' found found'
 goes_on_twice asked mid asked' found more found' a b = record {
   kept = λ k h. b.kept k (a.kept k h);
   more = a.more ++ b.more;
@@ -176,13 +191,16 @@ stays_beside m asked asked' found found' h on b =
 -- both edges beside an edge, one after the other
 pub asked_both : (Inside : ℕ → Type 0) (m : Mesh) (count : ℕ) (asked mid asked' : List Bool)
     (found more found' : List ℕ) (h after before : ℕ) → after ≡ next m h / 2 → before ≡ prev m h / 2
-    → Asks Inside count asked mid found more after → Asks Inside count mid asked' more found' before →
-    AsksBeside Inside m count asked asked' found found' h
+    → Asks Inside count asked mid found more after → Asks Inside count mid asked' more found' before
+    → AsksBeside Inside m count asked asked' found found' h
 asked_both Inside m count asked mid asked' found more found' h after before e f a b = record {
   flooding = b.flooding;
   on = goes_on_twice asked mid asked' found more found' a.on b.on;
   beside =
-      record { after = subst (IsAsked asked') e (b.on.kept after a.there); before = subst (IsAsked asked') f b.there };
+      record {
+        after = subst (IsAsked asked') e (b.on.kept after a.there);
+        before = subst (IsAsked asked') f b.there;
+      };
 }
 
 -- ---- a flood that has spread from the first i edges
@@ -192,15 +210,17 @@ pub record IsSpreadTo (m : Mesh) (asked : List Bool) (found : List ℕ) (i : ℕ
   pub left : (j : ℕ) → j < i → AreAskedBeside m asked (2 * get_or found j 0)
   pub right : (j : ℕ) → j < i → AreAskedBeside m asked (rev (2 * get_or found j 0))
 
-kept_place : (asked asked' : List Bool) (found found' : List ℕ) (j : ℕ) → GoesOn asked asked' found found' →
-    j < length found → get_or found' j 0 ≡ get_or found j 0
-kept_place asked asked' found found' j on h = ap (λ xs. get_or xs j 0) on.grown ∙ get_or_append_left found on.more 0 j h
+kept_place : (asked asked' : List Bool) (found found' : List ℕ) (j : ℕ)
+    → GoesOn asked asked' found found' → j < length found → get_or found' j 0 ≡ get_or found j 0
+kept_place asked asked' found found' j on h =
+    ap (λ xs. get_or xs j 0) on.grown ∙ get_or_append_left found on.more 0 j h
 
 -- a flood that asks beside both directions of the next edge found has spread from one edge more
 pub spread_more : (Inside : ℕ → Type 0) (m : Mesh) (count : ℕ) (asked mid asked' : List Bool)
     (found more found' : List ℕ) (i d : ℕ) → IsSpreadTo m asked found i → i < length found
-    → AsksBeside Inside m count asked mid found more (2 * get_or found i d) →
-    AsksBeside Inside m count mid asked' more found' (rev (2 * get_or found i d)) → IsSpreadTo m asked' found' (i + 1)
+    → AsksBeside Inside m count asked mid found more (2 * get_or found i d)
+    → AsksBeside Inside m count mid asked' more found' (rev (2 * get_or found i d))
+    → IsSpreadTo m asked' found' (i + 1)
 spread_more Inside m count asked mid asked' found more found' i d s here a b = record {
   bound = let l = ap length on.grown ∙ length-append found on.more in omega (arith, l, here);
   left = λ j h. elim (cases_eq j i) as (λ _. AreAskedBeside m asked' (2 * get_or found' j 0)) [
@@ -208,14 +228,17 @@ spread_more Inside m count asked mid asked' found more found' i d s here a b = r
         (sym (place j (within j h) ∙ ap (λ k. get_or found k 0) e ∙ same))
         (stays_beside m mid asked' more found' (2 * get_or found i d) b.on a.beside)
     | inr n ↦ subst (λ k. AreAskedBeside m asked' (2 * k)) (sym (place j (within j h)))
-        (stays_beside m asked asked' found found' (2 * get_or found j 0) on (s.left j (before j h n)))
+        (stays_beside m asked asked' found found' (2 * get_or found j 0) on
+        (s.left j (before j h n)))
   ];
-  right = λ j h. elim (cases_eq j i) as (λ _. AreAskedBeside m asked' (rev (2 * get_or found' j 0))) [
-    | inl e ↦ subst (λ k. AreAskedBeside m asked' (rev (2 * k)))
-        (sym (place j (within j h) ∙ ap (λ k. get_or found k 0) e ∙ same)) b.beside
-    | inr n ↦ subst (λ k. AreAskedBeside m asked' (rev (2 * k))) (sym (place j (within j h)))
-        (stays_beside m asked asked' found found' (rev (2 * get_or found j 0)) on (s.right j (before j h n)))
-  ];
+  right =
+      λ j h. elim (cases_eq j i) as (λ _. AreAskedBeside m asked' (rev (2 * get_or found' j 0))) [
+        | inl e ↦ subst (λ k. AreAskedBeside m asked' (rev (2 * k)))
+            (sym (place j (within j h) ∙ ap (λ k. get_or found k 0) e ∙ same)) b.beside
+        | inr n ↦ subst (λ k. AreAskedBeside m asked' (rev (2 * k))) (sym (place j (within j h)))
+            (stays_beside m asked asked' found found' (rev (2 * get_or found j 0)) on
+            (s.right j (before j h n)))
+      ];
 }
   where
     on : GoesOn asked asked' found found'
@@ -234,34 +257,38 @@ spread_more Inside m count asked mid asked' found more found' i d s here a b = r
     place j h = kept_place asked asked' found found' j on h
 
 -- a flood that has spread from the first i edges found, where these are all, has spread from each
-pub spread_ends : (m : Mesh) (asked : List Bool) (found : List ℕ) (i : ℕ) → IsSpreadTo m asked found i →
-    length found ≤ i → IsSpread m asked found
+pub spread_ends : (m : Mesh) (asked : List Bool) (found : List ℕ) (i : ℕ)
+    → IsSpreadTo m asked found i → length found ≤ i → IsSpread m asked found
 spread_ends m asked found i s last = record {
-  left = λ k c. let w = c.1 in subst (λ x. AreAskedBeside m asked (2 * x)) (get_or_any found c.0 0 k c.1 ∙ c.2)
+  left = λ k c. let w = c.1 in
+      subst (λ x. AreAskedBeside m asked (2 * x)) (get_or_any found c.0 0 k c.1 ∙ c.2)
       (s.left c.0 (omega (arith, w, last)));
-  right = λ k c. let w = c.1 in subst (λ x. AreAskedBeside m asked (rev (2 * x))) (get_or_any found c.0 0 k c.1 ∙ c.2)
+  right = λ k c. let w = c.1 in
+      subst (λ x. AreAskedBeside m asked (rev (2 * x))) (get_or_any found c.0 0 k c.1 ∙ c.2)
       (s.right c.0 (omega (arith, w, last)));
 }
 
 -- ---- one after the other, of a list
 -- the flood has asked of the first i of the starts
-pub record AreAskedTo (Inside : ℕ → Type 0) (count : ℕ) (asked : List Bool) (found starts : List ℕ) (i : ℕ) : Type
-    0 where
+pub record AreAskedTo (Inside : ℕ → Type 0) (count : ℕ) (asked : List Bool) (found starts : List ℕ)
+    (i : ℕ) : Type 0 where
   pub flooding : IsFlooding Inside count asked found
   pub all : (j : ℕ) → j < i → IsAsked asked (get_or starts j 0)
 
 -- before the first question none of the starts needs an answer
 pub ask_first : (Inside : ℕ → Type 0) (count : ℕ) (asked : List Bool) (found starts : List ℕ) →
     IsFlooding Inside count asked found → AreAskedTo Inside count asked found starts 0
-ask_first Inside count asked found starts f = record { flooding = f; all = λ j h. absurd (never j h) }
+ask_first Inside count asked found starts f =
+    record { flooding = f; all = λ j h. absurd (never j h) }
   where
     never : (j : ℕ) → j < 0 → ⊥
     never j h = omega (arith, h)
 
 -- once one more of the starts is asked of, one more has its answer
-pub ask_more : (Inside : ℕ → Type 0) (count : ℕ) (asked asked' : List Bool) (found found' starts : List ℕ) (i k d : ℕ) →
-    AreAskedTo Inside count asked found starts i → k ≡ get_or starts i d → i < length starts
-    → Asks Inside count asked asked' found found' k → AreAskedTo Inside count asked' found' starts (i + 1)
+pub ask_more : (Inside : ℕ → Type 0) (count : ℕ) (asked asked' : List Bool)
+    (found found' starts : List ℕ) (i k d : ℕ) → AreAskedTo Inside count asked found starts i
+    → k ≡ get_or starts i d → i < length starts → Asks Inside count asked asked' found found' k
+    → AreAskedTo Inside count asked' found' starts (i + 1)
 ask_more Inside count asked asked' found found' starts i k d s is here a = record {
   flooding = a.flooding;
   all = λ j h. elim (cases_eq j i) as (λ _. IsAsked asked' (get_or starts j 0)) [
@@ -272,7 +299,9 @@ ask_more Inside count asked asked' found found' starts i k d s is here a = recor
 }
 
 -- once the end of the starts is reached, each of them has been asked of
-pub ask_last : (Inside : ℕ → Type 0) (count : ℕ) (asked : List Bool) (found starts : List ℕ) (i : ℕ) →
-    AreAskedTo Inside count asked found starts i → length starts ≤ i → (k : ℕ) → Contains starts k → IsAsked asked k
+pub ask_last : (Inside : ℕ → Type 0) (count : ℕ) (asked : List Bool) (found starts : List ℕ) (i : ℕ)
+    → AreAskedTo Inside count asked found starts i → length starts ≤ i → (k : ℕ) → Contains starts k
+    → IsAsked asked k
 ask_last Inside count asked found starts i s last k c =
-    let w = c.1 in subst (IsAsked asked) (get_or_any starts c.0 0 k c.1 ∙ c.2) (s.all c.0 (omega (arith, w, last)))
+    let w = c.1 in subst (IsAsked asked) (get_or_any starts c.0 0 k c.1 ∙ c.2)
+    (s.all c.0 (omega (arith, w, last)))

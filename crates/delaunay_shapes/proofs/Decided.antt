@@ -19,29 +19,36 @@ decides_not true h = ((λ e. absurd (cc)), (λ n. absurd (n (h.0 refl))))
 decides_not false h = ((λ e x. absurd (cc (h.1 x))), (λ n. refl))
 
 -- two tests joined by `or` decide whether one of two statements holds
-pub decides_or : {A B : Type 0} (a b : Bool) → (IsTrue a ↔ A) → (IsTrue b ↔ B) → IsTrue (a || b) ↔ (A ⊎ B)
+pub decides_or : {A B : Type 0} (a b : Bool) → (IsTrue a ↔ A) → (IsTrue b ↔ B)
+    → IsTrue (a || b) ↔ (A ⊎ B)
 decides_or true b h i = ((λ e. inl (h.0 refl)), (λ x. refl))
 decides_or false b h i = ((λ e. inr (i.0 e)), elim [ inl x ↦ absurd (cc (h.1 x)) | inr y ↦ i.1 y ])
 
 -- two tests joined by `and` decide whether both statements hold
-pub decides_and : {A B : Type 0} (a b : Bool) → (IsTrue a ↔ A) → (IsTrue b ↔ B) → IsTrue (a && b) ↔ (A × B)
+pub decides_and : {A B : Type 0} (a b : Bool) → (IsTrue a ↔ A) → (IsTrue b ↔ B)
+    → IsTrue (a && b) ↔ (A × B)
 decides_and true b h i = ((λ e. (h.0 refl, i.0 e)), (λ p. i.1 p.1))
 decides_and false b h i = ((λ e. absurd (cc)), (λ p. h.1 p.0))
 
 -- four at once
-pub decides_and_4 : {A B C D : Type 0} (a b c d : Bool) → (IsTrue a ↔ A) → (IsTrue b ↔ B) → (IsTrue c ↔ C) → (IsTrue d ↔ D) → IsTrue (a && (b && (c && d))) ↔ (A × B × C × D)
+pub decides_and_4 : {A B C D : Type 0} (a b c d : Bool) → (IsTrue a ↔ A) → (IsTrue b ↔ B)
+    → (IsTrue c ↔ C) → (IsTrue d ↔ D) → IsTrue (a && (b && (c && d))) ↔ (A × B × C × D)
 decides_and_4 a b c d h i j k =
-    let all = decides_and a (b && (c && d)) h (decides_and b (c && d) i (decides_and c d j k)) in
-    ((λ e. let p = all.0 e in (p.0, p.1.0, p.1.1.0, p.1.1.1)), (λ p. all.1 (p.0, (p.1, (p.2, p.3)))))
+    let all = decides_and a (b && (c && d)) h (decides_and b (c && d) i (decides_and c d j k)) in (
+      (λ e. let p = all.0 e in (p.0, p.1.0, p.1.1.0, p.1.1.1)),
+      (λ p. all.1 (p.0, (p.1, (p.2, p.3)))),
+    )
 
 -- what is told of two points is told of points that are the same
 pub at_ends : {X : Type 0} (P : X → X → Type 0) {p q r s : X} → p ≡ r → q ≡ s → P p q → P r s
 at_ends P {p} {q} {r} {s} e f t = subst (λ z. P r z) f (subst (λ z. P z q) e t)
 
 -- the point of an index in range
-pub end_is : {X Y : Type 0} (f : X → Y) (xs : List X) (k : ℕ) (x : X) (d : Y) → k < length xs → f (get_or xs k x) ≡ get_or (map f xs) k d
+pub end_is : {X Y : Type 0} (f : X → Y) (xs : List X) (k : ℕ) (x : X) (d : Y) → k < length xs
+    → f (get_or xs k x) ≡ get_or (map f xs) k d
 end_is f xs k x d h = search (rules, common_steps)
 
 -- a test passed, and another
-pub and_also : {A B : Type 0} (a b : Bool) → a ≡ true → (IsTrue a ↔ A) → (IsTrue b ↔ B) → IsTrue b ↔ (A × B)
+pub and_also : {A B : Type 0} (a b : Bool) → a ≡ true → (IsTrue a ↔ A) → (IsTrue b ↔ B)
+    → IsTrue b ↔ (A × B)
 and_also a b t h i = ((λ e. (h.0 t, i.0 e)), (λ p. i.1 p.1))

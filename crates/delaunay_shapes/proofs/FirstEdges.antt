@@ -8,10 +8,15 @@ use Rattle.delaunay_shapes.specs.Start.{HasSides}
 pub three_sides : (m : Mesh) (h x y z : ℕ) → x ≡ h / 2 → y ≡ next m h / 2 → z ≡ prev m h / 2 →
     HasSides m (x ∷ y ∷ z ∷ []) h
 three_sides m h x y z a b c =
-    record { first = (0, omega arith, a); second = (1, omega arith, b); third = (2, omega arith, c) }
+    record {
+      first = (0, omega arith, a);
+      second = (1, omega arith, b);
+      third = (2, omega arith, c);
+    }
 
 -- of a result
-pub if_ok : {T E : Type 0} (P Q : T → Type 0) (r : Result T E) → ((x : T) → P x → Q x) → IfOk r P → IfOk r Q
+pub if_ok : {T E : Type 0} (P Q : T → Type 0) (r : Result T E) → ((x : T) → P x → Q x)
+    → IfOk r P → IfOk r Q
 if_ok P Q (Ok x) into p = into x p
 if_ok P Q (Err e) into p = p
 

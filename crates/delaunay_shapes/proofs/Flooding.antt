@@ -1,5 +1,7 @@
--- A flood over a mesh that has spread is a flood round the triangulation, and has each edge in its region.
-use Rattle.std.proofs.Common.{◌≡◌, ◌⊎◌, ℕ, ◌*◌, ◌/◌, ◌<◌, List, length, refl, sym, ap, ◌∙◌, subst, arith, eq-eqb}
+-- A flood over a mesh that has spread is a flood round the triangulation, and has each edge in its
+-- region.
+use Rattle.std.proofs.Common.{◌≡◌, ◌⊎◌, ◌*◌, ◌/◌, ◌<◌, ◌∙◌}
+use Rattle.std.proofs.Common.{ℕ, List, length, refl, sym, ap, subst, arith, eq-eqb}
 use mathlib.Core.Logic.{inl, inr, ◌≢◌}
 use mathlib.Core.Bool.{Bool}
 use Rattle.std.specs.Prelude.{Contains, ◌==◌}
@@ -28,7 +30,8 @@ use Rattle.mesh_embedding.proofs.LineNeighbours.{two_neighbours}
 use Rattle.mesh_embedding.proofs.WorkLists.{contains_map, contains_map_from}
 use Rattle.delaunay_shapes.specs.Known.{point_at}
 use Rattle.delaunay_shapes.specs.InShape.{IsEdgeInShape, AreEdgesInShape}
-use Rattle.delaunay_shapes.specs.Flood.{IsAsked, IsFlooding, AreAskedBeside, IsSpread, IsRegion, IsBegunBy}
+use Rattle.delaunay_shapes.specs.Flood.{IsAsked, IsFlooding, AreAskedBeside, IsSpread, IsRegion}
+use Rattle.delaunay_shapes.specs.Flood.{IsBegunBy}
 
 half_of_even : (k : ℕ) → (2 * k) / 2 ≡ k
 half_of_even k = omega arith
@@ -39,7 +42,8 @@ half_of_rev k = grind (arith, common_steps)
 half_below : (h n : ℕ) → h < 2 * n → h / 2 < n
 half_below h n w = omega (arith, w)
 
-module _ (points : List Point) (m : Mesh) (v : IsValidMesh m) (shape : IsMesh points (faces_of m) (outer_of m)) where
+module _ (points : List Point) (m : Mesh) (v : IsValidMesh m)
+    (shape : IsMesh points (faces_of m) (outer_of m)) where
   abbrev t : Triangulation
   t = drawn points m
 
@@ -47,15 +51,16 @@ module _ (points : List Point) (m : Mesh) (v : IsValidMesh m) (shape : IsMesh po
   pub tiles : IsTiling t
   tiles = meshes_tile points (faces_of m) (outer_of m) (edges_of m) shape (own_edges m v)
 
-  one_edge : (g h : ℕ) → g < length m.half_edges → h < length m.half_edges → origin m h ≡ origin m g →
-      origin m (rev h) ≡ origin m (rev g) → h ≡ g
+  one_edge : (g h : ℕ) → g < length m.half_edges → h < length m.half_edges → origin m h ≡ origin m g
+      → origin m (rev h) ≡ origin m (rev g) → h ≡ g
   one_edge g h a b e f = (own_indexes points m v shape).edges g h a b (e, f)
 
   rev_in : (h : ℕ) → h < length m.half_edges → rev h < length m.half_edges
   rev_in h w = rev_within h (length m.half_edges) v.sound.even w
 
   -- the undirected edge of a directed one is below their count
-  pub below_half : (count : ℕ) → 2 * count ≡ length m.half_edges → (h : ℕ) → h < length m.half_edges → h / 2 < count
+  pub below_half : (count : ℕ) → 2 * count ≡ length m.half_edges → (h : ℕ) → h < length m.half_edges
+      → h / 2 < count
   below_half count even h w = half_below h count (subst (λ z. h < z) (sym even) w)
 
   -- where the edge after h ends, and where the one before it starts
@@ -64,18 +69,21 @@ module _ (points : List Point) (m : Mesh) (v : IsValidMesh m) (shape : IsMesh po
 
   before_ends : (h : ℕ) → h < length m.half_edges → origin m (rev (prev m h)) ≡ origin m h
   before_ends h w =
-      sym (v.sound.edges (prev m h) (v.sound.edges h w).prev_in).starts ∙ ap (origin m) (v.sound.edges h w).next_prev
+      sym (v.sound.edges (prev m h) (v.sound.edges h w).prev_in).starts
+      ∙ ap (origin m) (v.sound.edges h w).next_prev
 
   -- ---- an edge by either of its directions
   module _ (Shape : Fraction → Type 0) where
     abbrev IsIn : ℕ → Type 0
     IsIn h = HasPointIn Shape (point_at points (origin m h)) (point_at points (origin m (rev h)))
 
-    edge_in : (h : ℕ) → h < length m.half_edges → IsIn h → IsEdgeIn Shape t (origin m h) (origin m (rev h))
+    edge_in : (h : ℕ) → h < length m.half_edges → IsIn h
+        → IsEdgeIn Shape t (origin m h) (origin m (rev h))
     edge_in h w p = (edge_joins m v.sound h w, p)
 
     turned_in : (h : ℕ) → h < length m.half_edges → IsIn h → IsIn (rev h)
-    turned_in h w p = subst (λ g. HasPointIn Shape (point_at points (origin m (rev h))) (point_at points (origin m g)))
+    turned_in h w p = subst
+        (λ g. HasPointIn Shape (point_at points (origin m (rev h))) (point_at points (origin m g)))
         (sym (rev-rev h)) (turned_edge t Shape (origin m h) (origin m (rev h)) (edge_in h w p)).1
 
     -- a directed edge with a point in the shape has an undirected edge with one
@@ -86,27 +94,29 @@ module _ (points : List Point) (m : Mesh) (v : IsValidMesh m) (shape : IsMesh po
     ]
 
     -- and a directed edge has a point in it where its undirected edge has
-    pub from_half : (h : ℕ) → h < length m.half_edges → IsEdgeInShape Shape points m (h / 2) → IsIn h
+    pub from_half : (h : ℕ) → h < length m.half_edges
+        → IsEdgeInShape Shape points m (h / 2) → IsIn h
     from_half h w p = elim (halved h) [
       | inl e ↦ subst IsIn e p
       | inr e ↦ subst IsIn (rev-rev h) (turned_in (rev h) (rev_in h w) (subst IsIn e p))
     ]
 
     -- so has the undirected edge of an edge that has one, by the ends of a direction
-    pub half_by_ends : (h i j : ℕ) → h < length m.half_edges → origin m h ≡ i → origin m (rev h) ≡ j →
-        IsEdgeIn Shape t i j → IsEdgeInShape Shape points m (h / 2)
+    pub half_by_ends : (h i j : ℕ) → h < length m.half_edges → origin m h ≡ i → origin m (rev h) ≡ j
+        → IsEdgeIn Shape t i j → IsEdgeInShape Shape points m (h / 2)
     half_by_ends h i j w a b e = to_half h w (subst
         (λ x. HasPointIn Shape (point_at points x) (point_at points (origin m (rev h)))) (sym a)
         (subst (λ x. HasPointIn Shape (point_at points i) (point_at points x)) (sym b) e.1))
 
   -- ---- edges found, as pairs of vertices
-  module _ (found : List ℕ) (within : (k : ℕ) → Contains found k → 2 * k < length m.half_edges) where
+  module _ (found : List ℕ)
+      (within : (k : ℕ) → Contains found k → 2 * k < length m.half_edges) where
     abbrev pairs : List (ℕ × ℕ)
     pairs = pairs_at m found
 
     -- a found pair is a directed edge
-    pub pair_edge : (i j : ℕ) → Joins pairs i j → (h : ℕ) × (h < length m.half_edges) × (origin m h ≡ i) ×
-        (origin m (rev h) ≡ j) × Contains found (h / 2)
+    pub pair_edge : (i j : ℕ) → Joins pairs i j → (h : ℕ) × (h < length m.half_edges)
+        × (origin m h ≡ i) × (origin m (rev h) ≡ j) × Contains found (h / 2)
     pair_edge i j (inl c) =
         let r = contains_map_from (pair_at m) found (i, j) c in (
           2 * r.0,
@@ -126,8 +136,8 @@ module _ (points : List Point) (m : Mesh) (v : IsValidMesh m) (shape : IsMesh po
         )
 
     -- an edge with the ends of a found pair is found
-    pub joined_half : (i j h : ℕ) → h < length m.half_edges → origin m h ≡ i → origin m (rev h) ≡ j → Joins pairs i j →
-        Contains found (h / 2)
+    pub joined_half : (i j h : ℕ) → h < length m.half_edges → origin m h ≡ i → origin m (rev h) ≡ j
+        → Joins pairs i j → Contains found (h / 2)
     joined_half i j h w a b s =
         let r = pair_edge i j s in
         subst (λ g. Contains found (g / 2)) (one_edge h r.0 w r.1 (r.2 ∙ sym a) (r.3 ∙ sym b)) r.4
@@ -138,11 +148,13 @@ module _ (points : List Point) (m : Mesh) (v : IsValidMesh m) (shape : IsMesh po
       | inl e ↦ inl (subst (λ g. Contains pairs (origin m g, origin m (rev g))) e
           (contains_map (pair_at m) found (h / 2) c))
       | inr e ↦ inr (subst (λ g. Contains pairs (origin m (rev h), origin m g)) (rev-rev h)
-          (subst (λ g. Contains pairs (origin m g, origin m (rev g))) e (contains_map (pair_at m) found (h / 2) c)))
+          (subst (λ g. Contains pairs (origin m g, origin m (rev g))) e
+          (contains_map (pair_at m) found (h / 2) c)))
     ]
 
     -- so are two vertices that are its ends
-    pub joined_by_ends : (h i j : ℕ) → origin m h ≡ i → origin m (rev h) ≡ j → Contains found (h / 2) → Joins pairs i j
+    pub joined_by_ends : (h i j : ℕ) → origin m h ≡ i → origin m (rev h) ≡ j
+        → Contains found (h / 2) → Joins pairs i j
     joined_by_ends h i j a b c =
         subst (λ x. Joins pairs x j) a (subst (λ x. Joins pairs (origin m h) x) b (half_joined h c))
 
@@ -153,19 +165,22 @@ module _ (points : List Point) (m : Mesh) (v : IsValidMesh m) (shape : IsMesh po
         (before : (h : ℕ) → h < length m.half_edges → Contains found (h / 2) →
         IsEdgeInShape Shape points m (prev m h / 2) → Contains found (prev m h / 2)) where
       -- through faces
-      face_next : (i j k : ℕ) → IsFace t i j k → Joins pairs i j → IsEdgeIn Shape t j k → Joins pairs j k
+      face_next : (i j k : ℕ) → IsFace t i j k → Joins pairs i j → IsEdgeIn Shape t j k
+          → Joins pairs j k
       face_next i j k f s e =
           let r = edge_of_face m v.sound i j k f in
           let h = r.0 in
           let w = r.1.inner.0 in
           let links = v.sound.edges h w in
           let far : origin m (rev (next m h)) ≡ k =
-          after_ends (next m h) links.next_in ∙ ap (origin m) (links.three r.1.inner.1) ∙ r.1.third in
+          after_ends (next m h) links.next_in ∙ ap (origin m) (links.three r.1.inner.1)
+          ∙ r.1.third in
           joined_by_ends (next m h) j k r.1.second far
           (after h w (joined_half i j h w r.1.first (after_ends h w ∙ r.1.second) s)
           (half_by_ends Shape (next m h) j k links.next_in r.1.second far e))
 
-      face_last : (i j k : ℕ) → IsFace t i j k → Joins pairs i j → IsEdgeIn Shape t k i → Joins pairs k i
+      face_last : (i j k : ℕ) → IsFace t i j k → Joins pairs i j → IsEdgeIn Shape t k i
+          → Joins pairs k i
       face_last i j k f s e =
           let r = edge_of_face m v.sound i j k f in
           let h = r.0 in
@@ -181,18 +196,21 @@ module _ (points : List Point) (m : Mesh) (v : IsValidMesh m) (shape : IsMesh po
       only_back : (h g : ℕ) → h < length m.half_edges → g < length m.half_edges → next m h ≡ rev h →
           origin m g ≡ origin m (rev h) → g ≡ rev h
       only_back h g w u back starts = eqb-true g (rev h)
-          (v.stars (λ a. a == rev h) closed (rev h) g (rev_in h w) u (sym starts) (eq-eqb (rev h) (rev h) refl))
+          (v.stars (λ a. a == rev h) closed (rev h) g (rev_in h w) u (sym starts)
+          (eq-eqb (rev h) (rev h) refl))
         where
           closed : IsClosed m (λ a. a == rev h)
           closed a a_in is = eq-eqb (rev (prev m a)) (rev h)
-              (ap (λ b. rev (prev m b)) (eqb-true a (rev h) is ∙ sym back) ∙ ap rev (v.sound.edges h w).prev_next)
+              (ap (λ b. rev (prev m b)) (eqb-true a (rev h) is ∙ sym back)
+              ∙ ap rev (v.sound.edges h w).prev_next)
 
-      line_next : JoinsLine t → LineMesh points (outer_of m) → (i j k : ℕ) → Joins pairs i j → IsEdgeIn Shape t j k →
-          Joins pairs j k
+      line_next : JoinsLine t → LineMesh points (outer_of m) → (i j k : ℕ) → Joins pairs i j
+          → IsEdgeIn Shape t j k → Joins pairs j k
       line_next line outer i j k s e =
           let r = pair_edge i j s in
           let g = joins_edge m v.sound j k e.0 in
-          go r.0 r.1 r.2 r.3 r.4 g.0 g.1 g.2 g.3 (cases_eq k i) (cases_eq (origin m (rev (next m r.0))) i)
+          go r.0 r.1 r.2 r.3 r.4 g.0 g.1 g.2 g.3 (cases_eq k i)
+          (cases_eq (origin m (rev (next m r.0))) i)
           (cases_eq (origin m (rev (next m r.0))) k)
         where
           near : (a b : ℕ) → IsEdge t a b → Contains (outer_of m) (a, b)
@@ -204,14 +222,17 @@ module _ (points : List Point) (m : Mesh) (v : IsValidMesh m) (shape : IsMesh po
                 none_between = n.none_between;
               })
 
-          go : (h : ℕ) (w : h < length m.half_edges) → origin m h ≡ i → origin m (rev h) ≡ j → Contains found (h / 2) →
-              (g : ℕ) → g < length m.half_edges → origin m g ≡ j → origin m (rev g) ≡ k
-              → (k ≡ i) ⊎ (k ≢ i) → (origin m (rev (next m h)) ≡ i) ⊎ (origin m (rev (next m h)) ≢ i) →
-              (origin m (rev (next m h)) ≡ k) ⊎ (origin m (rev (next m h)) ≢ k) → Joins pairs j k
-          go h w a b c g u p q (inl back) x y = subst (Joins pairs j) (sym back) (turned_join pairs i j s)
+          go : (h : ℕ) (w : h < length m.half_edges) → origin m h ≡ i → origin m (rev h) ≡ j
+              → Contains found (h / 2) → (g : ℕ) → g < length m.half_edges → origin m g ≡ j
+              → origin m (rev g) ≡ k → (k ≡ i) ⊎ (k ≢ i)
+              → (origin m (rev (next m h)) ≡ i) ⊎ (origin m (rev (next m h)) ≢ i)
+              → (origin m (rev (next m h)) ≡ k) ⊎ (origin m (rev (next m h)) ≢ k) → Joins pairs j k
+          go h w a b c g u p q (inl back) x y =
+              subst (Joins pairs j) (sym back) (turned_join pairs i j s)
           go h w a b c g u p q (inr far) (inl x) y =
               let at_j : origin m (next m h) ≡ j = sym (after_ends h w) ∙ b in
-              let nx : next m h ≡ rev h = one_edge (rev h) (next m h) (rev_in h w) (v.sound.edges h w).next_in
+              let nx : next m h ≡ rev h =
+              one_edge (rev h) (next m h) (rev_in h w) (v.sound.edges h w).next_in
               (at_j ∙ sym b) (x ∙ sym a ∙ ap (origin m) (sym (rev-rev h))) in
               let is : g ≡ rev h = only_back h g w u nx (p ∙ sym b) in
               absurd (far (sym q ∙ ap (λ z. origin m (rev z)) is ∙ ap (origin m) (rev-rev h) ∙ a))
@@ -222,12 +243,16 @@ module _ (points : List Point) (m : Mesh) (v : IsValidMesh m) (shape : IsMesh po
           go h w a b c g u p q (inr far) (inr x) (inr y) =
               let at_j : origin m (next m h) ≡ j = sym (after_ends h w) ∙ b in
               let back : IsEdge t j i = subst (λ z. IsEdge t z i) b
-              (subst (λ z. IsEdge t (origin m (rev h)) z) a (turned_join t.edges (origin m h) (origin m (rev h))
+              (subst (λ z. IsEdge t (origin m (rev h)) z) a
+              (turned_join t.edges (origin m h) (origin m (rev h))
               (edge_joins m v.sound h w))) in
-              let there : IsEdge t j (origin m (rev (next m h))) = subst (λ z. IsEdge t z (origin m (rev (next m h))))
+              let there : IsEdge t j (origin m (rev (next m h))) =
+              subst (λ z. IsEdge t z (origin m (rev (next m h))))
               at_j (edge_joins m v.sound (next m h) (v.sound.edges h w).next_in) in
-              absurd (two_neighbours points (outer_of m) outer j i (origin m (rev (next m h))) k (near j i back)
-              (near j (origin m (rev (next m h))) there) (near j k e.0) (λ z. x (sym z)) y (λ z. far (sym z)))
+              absurd (two_neighbours points (outer_of m) outer j i (origin m (rev (next m h))) k
+              (near j i back)
+              (near j (origin m (rev (next m h))) there) (near j k e.0) (λ z. x (sym z)) y
+              (λ z. far (sym z)))
 
       -- a tiling of the hull has a face, and a line none
       line_of : JoinsLine t → IsMesh points (faces_of m) (outer_of m) → LineMesh points (outer_of m)
@@ -235,23 +260,27 @@ module _ (points : List Point) (m : Mesh) (v : IsValidMesh m) (shape : IsMesh po
       line_of line (inr s) = s.1
 
       -- where the next and the last side in the shape are found with an edge, all round is flooded
-      pub flooded_around : (region : Region) → ((i j : ℕ) → IsEdgeIn (InRegion region) t i j → IsEdgeIn Shape t i j) →
-          IsFloodedAround t region pairs
+      pub flooded_around : (region : Region)
+          → ((i j : ℕ) → IsEdgeIn (InRegion region) t i j → IsEdgeIn Shape t i j)
+          → IsFloodedAround t region pairs
       flooded_around region into = record {
         faces = λ hull. record {
           next = λ i j k f s e. face_next i j k f s (into j k e);
           last = λ i j k f s e. face_last i j k f s (into k i e);
         };
-        line = λ line. record { next = λ i j k s e. line_next line (line_of line shape) i j k s (into j k e) };
+        line = λ line. record {
+          next = λ i j k s e. line_next line (line_of line shape) i j k s (into j k e);
+        };
       }
 
   -- ---- a flood that has spread
   -- a flood that has spread from where a region begins has found all edges in it
-  pub spread_finds_all : (Shape : Fraction → Type 0) → IsRegion Shape → (count : ℕ) → 2 * count ≡ length m.half_edges →
-      (starts : List ℕ) (asked : List Bool) (found : List ℕ) →
-      IsFlooding (IsEdgeInShape Shape points m) count asked found → IsSpread m asked found
-      → IsBegunBy (IsEdgeInShape Shape points m) count starts →
-      ((k : ℕ) → Contains starts k → (k < count) × IsAsked asked k) → AreEdgesInShape Shape points m found
+  pub spread_finds_all : (Shape : Fraction → Type 0) → IsRegion Shape → (count : ℕ)
+      → 2 * count ≡ length m.half_edges → (starts : List ℕ) (asked : List Bool) (found : List ℕ)
+      → IsFlooding (IsEdgeInShape Shape points m) count asked found → IsSpread m asked found
+      → IsBegunBy (IsEdgeInShape Shape points m) count starts
+      → ((k : ℕ) → Contains starts k → (k < count) × IsAsked asked k)
+      → AreEdgesInShape Shape points m found
   spread_finds_all Shape shaped count even starts asked found flooding spread begun tried = record {
     once = flooding.once;
     exact = λ k. ((λ c. (within k c, flooding.inside k c)), (λ p. back k p.0 p.1));
@@ -280,9 +309,11 @@ module _ (points : List Point) (m : Mesh) (v : IsValidMesh m) (shape : IsMesh po
 
       around : IsFloodedAround t region (pairs found within)
       around = flooded_around found within Shape
-          (λ h w c p. flooding.complete (next m h / 2) (below (next m h) (v.sound.edges h w).next_in) (beside h c).after
+          (λ h w c p. flooding.complete (next m h / 2)
+          (below (next m h) (v.sound.edges h w).next_in) (beside h c).after
           p)
-          (λ h w c p. flooding.complete (prev m h / 2) (below (prev m h) (v.sound.edges h w).prev_in)
+          (λ h w c p. flooding.complete (prev m h / 2)
+          (below (prev m h) (v.sound.edges h w).prev_in)
           (beside h c).before p)
           region into
 
@@ -290,21 +321,29 @@ module _ (points : List Point) (m : Mesh) (v : IsValidMesh m) (shape : IsMesh po
       sound i j s =
           let r = pair_edge found within i j s in
           let p = edge_in Shape r.0 r.1 (from_half Shape r.0 r.1 (flooding.inside (r.0 / 2) r.4)) in
-          out_of i j (subst (λ x. IsEdgeIn Shape t x j) r.2 (subst (λ x. IsEdgeIn Shape t (origin m r.0) x) r.3 p))
+          out_of i j (subst (λ x. IsEdgeIn Shape t x j) r.2
+          (subst (λ x. IsEdgeIn Shape t (origin m r.0) x) r.3 p))
 
-      reach : IsTiling t → (i j a b : ℕ) → Joins (pairs found within) i j → IsEdgeIn (InRegion region) t a b →
-          Joins (pairs found within) a b
+      reach : IsTiling t → (i j a b : ℕ) → Joins (pairs found within) i j
+          → IsEdgeIn (InRegion region) t a b → Joins (pairs found within) a b
       reach (inl h) i j a b s e =
-          flood_finds_region t h region (pairs found within) (around.faces h) i j a b s (sound i j s) e
+          flood_finds_region t h region (pairs found within) (around.faces h) i j a b s
+          (sound i j s) e
       reach (inr h) i j a b s e =
-          flood_finds_on_line t h region (pairs found within) (around.line h) i j a b s (sound i j s) e
+          flood_finds_on_line t h region (pairs found within) (around.line h) i j a b s
+          (sound i j s) e
 
-      back : (k : ℕ) → 2 * k < length m.half_edges → IsEdgeInShape Shape points m k → Contains found k
+      back : (k : ℕ) → 2 * k < length m.half_edges → IsEdgeInShape Shape points m k
+          → Contains found k
       back k w p =
-          let first = begun.begun k (subst (λ (x : ℕ). x < count) (half_of_even k) (below (2 * k) w)) p in
-          let here = flooding.complete first.0 (tried first.0 first.1).0 (tried first.0 first.1).1 first.2 in
-          let s = half_joined found within (2 * first.0) (subst (Contains found) (sym (half_of_even first.0)) here) in
+          let first =
+          begun.begun k (subst (λ (x : ℕ). x < count) (half_of_even k) (below (2 * k) w)) p in
+          let here = flooding.complete first.0 (tried first.0 first.1).0
+          (tried first.0 first.1).1 first.2 in
+          let s = half_joined found within (2 * first.0)
+          (subst (Contains found) (sym (half_of_even first.0)) here) in
           let e = out_of (origin m (2 * k)) (origin m (rev (2 * k))) (edge_in Shape (2 * k) w p) in
-          subst (Contains found) (half_of_even k) (joined_half found within (origin m (2 * k)) (origin m (rev (2 * k)))
+          subst (Contains found) (half_of_even k)
+          (joined_half found within (origin m (2 * k)) (origin m (rev (2 * k)))
           (2 * k) w refl refl (reach tiles (origin m (2 * first.0)) (origin m (rev (2 * first.0)))
           (origin m (2 * k)) (origin m (rev (2 * k))) s e))

@@ -1,5 +1,6 @@
 -- What a handle tells, of the mesh and the index that it has.
-use Rattle.std.proofs.Common.{◌≡◌, ◌↔◌, ℕ, ◌*◌, ◌/◌, ◌<◌, ◌≤◌, List, length, map, get_or, set, sym, ap, ◌∙◌, subst}
+use Rattle.std.proofs.Common.{◌≡◌, ◌↔◌, ◌*◌, ◌/◌, ◌<◌, ◌≤◌, ◌∙◌}
+use Rattle.std.proofs.Common.{ℕ, List, length, map, get_or, set, sym, ap, subst}
 use Rattle.std.proofs.Common.{arith}
 use mathlib.Core.Bool.{Bool, true, false}
 use Rattle.std.specs.Prelude.{pos, All, IsTrue}
@@ -12,7 +13,8 @@ use Rattle.plane_delaunay.specs.EdgeTests.{HasPointIn}
 use Rattle.plane_tiling.proofs.Totals.{get_or_any}
 use Rattle.mesh_embedding.proofs.WorkLists.{at_most_so_many}
 use Rattle.delaunay_shapes.specs.Known.{point_at}
-use Rattle.delaunay_shapes.specs.InShape.{IsEdgeInShape, AreEdgesInShape, AreVerticesInShape, IsInside}
+use Rattle.delaunay_shapes.specs.InShape.{IsEdgeInShape, AreEdgesInShape, AreVerticesInShape}
+use Rattle.delaunay_shapes.specs.InShape.{IsInside}
 use Rattle.delaunay_shapes.specs.Flood.{IsAsked, IsFlooding}
 use Rattle.delaunay_shapes.proofs.Asking.{IsFilteredTo}
 
@@ -31,7 +33,8 @@ module _ {V D U F : Type 0} (place : V → Point) (d : Bor (Contents V D U F)) w
       j ≡ origin e.now.mesh (rev i) → p ≡ point_at (map place v.now.vertices) j →
       p ≡ point_at (map place d.now.vertices) (origin d.now.mesh (rev h))
   end_is e v h i j p same index at ends is =
-      let j_is : j ≡ origin d.now.mesh (rev h) = ends ∙ (λ t. origin (same t).now.mesh (rev (index t))) in
+      let j_is : j ≡ origin d.now.mesh (rev h) =
+      ends ∙ (λ t. origin (same t).now.mesh (rev (index t))) in
       let v_is : v ≡ d = at ∙ same in
       is ∙ (λ t. point_at (map place (v_is t).now.vertices) (j_is t))
 
@@ -40,54 +43,61 @@ module _ {V D U F : Type 0} (place : V → Point) (d : Bor (Contents V D U F)) w
       All C (map place d.now.vertices) → e ≡ d → v ≡ e → j < length v.now.vertices →
       p ≡ point_at (map place v.now.vertices) j → C p
   end_covered C e v j p all same at within is =
-      subst C (sym is) (subst (λ (x : Bor (Contents V D U F)). All C (map place x.now.vertices)) (sym (at ∙ same)) all j
+      subst C (sym is) (subst (λ (x : Bor (Contents V D U F)). All C (map place x.now.vertices))
+      (sym (at ∙ same)) all j
       (record { x = pos 0; y = pos 0 }) (omega (arith, within, length-map v.now.vertices place)))
 
   -- an answer to a handle
-  pub edge_told : (b : Bool) (Shape : Fraction → Type 0) (e : Bor (Contents V D U F)) (i k : ℕ) → e ≡ d → i ≡ k →
-      (IsTrue b ↔ IsEdgeInShape Shape (map place e.now.vertices) e.now.mesh i) → IsTrue b ↔ IsInside Shape place d.now k
-  edge_told b Shape e i k same index told = subst (λ (x : ℕ). IsTrue b ↔ IsInside Shape place d.now x) index
+  pub edge_told : (b : Bool) (Shape : Fraction → Type 0) (e : Bor (Contents V D U F)) (i k : ℕ)
+      → e ≡ d → i ≡ k → (IsTrue b ↔ IsEdgeInShape Shape (map place e.now.vertices) e.now.mesh i)
+      → IsTrue b ↔ IsInside Shape place d.now k
+  edge_told b Shape e i k same index told =
+      subst (λ (x : ℕ). IsTrue b ↔ IsInside Shape place d.now x) index
       (subst (λ (x : Bor (Contents V D U F)). IsTrue b ↔ IsInside Shape place x.now i) same told)
 
   -- a test of the point of a vertex, by handles, tells whether the vertex is in the shape
-  pub vertex_told : (b : Bool) (Shape : Fraction → Type 0) (e : Bor (Contents V D U F)) (i k : ℕ) (p : Point) → e ≡ d →
-      i ≡ k → p ≡ point_at (map place e.now.vertices) i → (IsTrue b ↔ Shape (whole p)) →
-      IsTrue b ↔ Shape (whole (point_at (map place d.now.vertices) k))
+  pub vertex_told :
+      (b : Bool) (Shape : Fraction → Type 0) (e : Bor (Contents V D U F)) (i k : ℕ) (p : Point)
+      → e ≡ d → i ≡ k → p ≡ point_at (map place e.now.vertices) i → (IsTrue b ↔ Shape (whole p))
+      → IsTrue b ↔ Shape (whole (point_at (map place d.now.vertices) k))
   vertex_told b Shape e i k p same index is told =
       let at : p ≡ point_at (map place d.now.vertices) k =
       is ∙ (λ t. point_at (map place (same t).now.vertices) (index t)) in
       subst (λ (x : Point). IsTrue b ↔ Shape (whole x)) at told
 
   -- the undirected edges after and before a directed edge
-  pub after_is : (e n u : Bor (Contents V D U F)) (h i j k r : ℕ) → e ≡ d → i ≡ h → j ≡ next e.now.mesh i → k ≡ j / 2 →
-      r ≡ k → r ≡ next d.now.mesh h / 2
+  pub after_is : (e n u : Bor (Contents V D U F)) (h i j k r : ℕ) → e ≡ d → i ≡ h
+      → j ≡ next e.now.mesh i → k ≡ j / 2 → r ≡ k → r ≡ next d.now.mesh h / 2
   after_is e n u h i j k r same index to half is =
       is ∙ half ∙ ap (λ (x : ℕ). x / 2) (to ∙ (λ t. next (same t).now.mesh (index t)))
 
   -- the undirected edge before a directed one, by handles, is that in the mesh
-  pub before_is : (e n u : Bor (Contents V D U F)) (h i j k r : ℕ) → e ≡ d → i ≡ h → j ≡ prev e.now.mesh i → k ≡ j / 2 →
-      r ≡ k → r ≡ prev d.now.mesh h / 2
+  pub before_is : (e n u : Bor (Contents V D U F)) (h i j k r : ℕ) → e ≡ d → i ≡ h
+      → j ≡ prev e.now.mesh i → k ≡ j / 2 → r ≡ k → r ≡ prev d.now.mesh h / 2
   before_is e n u h i j k r same index to half is =
       is ∙ half ∙ ap (λ (x : ℕ). x / 2) (to ∙ (λ t. prev (same t).now.mesh (index t)))
 
   -- an edge of the mesh of a handle is one of the same mesh
-  pub within_same : (e : Bor (Contents V D U F)) (h : ℕ) → e ≡ d → h < length e.now.directed → h < length d.now.directed
+  pub within_same : (e : Bor (Contents V D U F)) (h : ℕ) → e ≡ d → h < length e.now.directed
+      → h < length d.now.directed
   within_same e h same w = subst (λ (x : Bor (Contents V D U F)). h < length x.now.directed) same w
 
 -- an edge by its ends
-pub ends_told : (b : Bool) (Shape : Fraction → Type 0) (points : List Point) (m : Mesh) (k : ℕ) (p q : Point) →
-    p ≡ point_at points (origin m (2 * k)) → q ≡ point_at points (origin m (rev (2 * k))) →
-    (IsTrue b ↔ HasPointIn Shape p q) → IsTrue b ↔ IsEdgeInShape Shape points m k
+pub ends_told :
+    (b : Bool) (Shape : Fraction → Type 0) (points : List Point) (m : Mesh) (k : ℕ) (p q : Point)
+    → p ≡ point_at points (origin m (2 * k)) → q ≡ point_at points (origin m (rev (2 * k)))
+    → (IsTrue b ↔ HasPointIn Shape p q) → IsTrue b ↔ IsEdgeInShape Shape points m k
 ends_told b Shape points m k p q e f told = subst (λ (x : Point). IsTrue b ↔
     HasPointIn Shape (point_at points (origin m (2 * k))) x) f
     (subst (λ (x : Point). IsTrue b ↔ HasPointIn Shape x q) e told)
 
 -- ---- what a filter found
 -- each number that a filter below i has found is below any bound that is at least i
-pub filtered_within : (Inside : ℕ → Type 0) (i n : ℕ) (found : List ℕ) → IsFilteredTo Inside i found → i ≤ n →
-    (k d : ℕ) → k < length found → get_or found k d < n
+pub filtered_within : (Inside : ℕ → Type 0) (i n : ℕ) (found : List ℕ) → IsFilteredTo Inside i found
+    → i ≤ n → (k d : ℕ) → k < length found → get_or found k d < n
 filtered_within Inside i n found f last k d h = let low =
-    ((f.exact (get_or found k d)).0 (k, h, get_or_any found k (get_or found k d) d h)).0 in omega (arith, low, last)
+    ((f.exact (get_or found k d)).0 (k, h, get_or_any found k (get_or found k d) d h)).0 in
+    omega (arith, low, last)
 
 same_bound : (i n : ℕ) → i ≡ n → (k : ℕ) → k < i → k < n
 same_bound i n e k h = omega (arith, e, h)
@@ -99,21 +109,23 @@ half_below : (k n b : ℕ) → 2 * n ≡ b → (2 * k) < b → k < n
 half_below k n b e h = omega (arith, e, h)
 
 -- a filter that has come to the last edge has found the edges in the shape, each once
-pub filtered_edges : (Shape : Fraction → Type 0) (points : List Point) (m : Mesh) (i n : ℕ) (found : List ℕ) →
-    IsFilteredTo (IsEdgeInShape Shape points m) i found → i ≡ n → 2 * n ≡ length m.half_edges →
-    AreEdgesInShape Shape points m found
+pub filtered_edges : (Shape : Fraction → Type 0) (points : List Point) (m : Mesh) (i n : ℕ)
+    (found : List ℕ) → IsFilteredTo (IsEdgeInShape Shape points m) i found → i ≡ n
+    → 2 * n ≡ length m.half_edges → AreEdgesInShape Shape points m found
 filtered_edges Shape points m i n found f last even = record {
   once = f.once;
   exact = λ k. (
-    (λ c. let h = (f.exact k).0 c in (double_below k n (length m.half_edges) even (same_bound i n last k h.0), h.1)),
-    (λ p. (f.exact k).1 (same_bound n i (sym last) k (half_below k n (length m.half_edges) even p.0), p.1)),
+    (λ c. let h = (f.exact k).0 c in
+        (double_below k n (length m.half_edges) even (same_bound i n last k h.0), h.1)),
+    (λ p. (f.exact k).1
+        (same_bound n i (sym last) k (half_below k n (length m.half_edges) even p.0), p.1)),
   );
 }
 
 -- a filter that has come to the last vertex has found the vertices in the shape, each once
-pub filtered_vertices : (Shape : Fraction → Type 0) (points : List Point) (i n : ℕ) (found : List ℕ) →
-    IsFilteredTo (λ k. Shape (whole (point_at points k))) i found → i ≡ n → n ≡ length points →
-    AreVerticesInShape Shape points found
+pub filtered_vertices : (Shape : Fraction → Type 0) (points : List Point) (i n : ℕ) (found : List ℕ)
+    → IsFilteredTo (λ k. Shape (whole (point_at points k))) i found → i ≡ n → n ≡ length points
+    → AreVerticesInShape Shape points found
 filtered_vertices Shape points i n found f last all = record {
   once = f.once;
   exact = λ k. (
@@ -124,13 +136,15 @@ filtered_vertices Shape points i n found f last all = record {
 
 -- ---- what a flood found
 -- a number whose mark is false was not asked of
-pub not_asked : (asked : List Bool) (k i : ℕ) (b : Bool) → i ≡ k → b ≡ false → b ≡ get_or asked i false →
-    IsAsked asked k → ⊥
+pub not_asked : (asked : List Bool) (k i : ℕ) (b : Bool) → i ≡ k → b ≡ false
+    → b ≡ get_or asked i false → IsAsked asked k → ⊥
 not_asked asked k i b e off is there =
-    let same : false ≡ true = sym off ∙ is ∙ ap (λ (x : ℕ). get_or asked x false) e ∙ there in absurd (cc)
+    let same : false ≡ true = sym off ∙ is ∙ ap (λ (x : ℕ). get_or asked x false) e ∙ there in
+    absurd (cc)
 
 -- the marks with one more, by the index of its handle
-pub marked_by : (asked asked' : List Bool) (k i : ℕ) → i ≡ k → asked' ≡ set asked i true → asked' ≡ set asked k true
+pub marked_by : (asked asked' : List Bool) (k i : ℕ) → i ≡ k → asked' ≡ set asked i true
+    → asked' ≡ set asked k true
 marked_by asked asked' k i e is = is ∙ ap (λ (x : ℕ). set asked x true) e
 
 -- each index that a flood has found is below the count

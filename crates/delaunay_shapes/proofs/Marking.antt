@@ -1,5 +1,7 @@
--- Lists of what a test says of the numbers below a count: at a number, of a test that none passes, and with one more.
-use Rattle.std.proofs.Common.{List, ◌≡◌, ◌⊎◌, ℕ, ◌<◌, length, get_or, set, replicate, refl, sym, ◌∙◌, subst, eq-eqb}
+-- Lists of what a test says of the numbers below a count: at a number, of a test that none passes,
+-- and with one more.
+use Rattle.std.proofs.Common.{◌≡◌, ◌⊎◌, ◌<◌, ◌∙◌}
+use Rattle.std.proofs.Common.{List, ℕ, length, get_or, set, replicate, refl, sym, subst, eq-eqb}
 use Rattle.std.proofs.Common.{arith}
 use mathlib.Core.Logic.{inl, inr, ◌≢◌}
 use mathlib.Core.Bool.{Bool, true, false}
@@ -27,9 +29,11 @@ pub test_within : (n : ℕ) (f : ℕ → Bool) (k : ℕ) → k < length (tests_b
 test_within n f k h = test_at n f k (below_count n (length (tests_below n f)) k (tests_count n f) h)
 
 -- a test that none passes
-pub none_passes : (n : ℕ) (f : ℕ → Bool) → ((k : ℕ) → f k ≡ false) → tests_below n f ≡ replicate n false
+pub none_passes : (n : ℕ) (f : ℕ → Bool) → ((k : ℕ) → f k ≡ false)
+    → tests_below n f ≡ replicate n false
 none_passes n f none =
-    ext_get_or false (tests_below n f) (replicate n false) (tests_count n f ∙ sym (length-replicate n false)) same
+    ext_get_or false (tests_below n f) (replicate n false)
+    (tests_count n f ∙ sym (length-replicate n false)) same
   where
     same : (i : ℕ) → i < length (tests_below n f)
         → get_or (tests_below n f) i false ≡ get_or (replicate n false) i false
@@ -54,10 +58,12 @@ one_more n f f' k more =
         let now : f' i ≡ true = subst (λ b. f' i ≡ cond b true (f i)) e (more i) in
         let w = below_count (length old) n i (sym (tests_count n f)) h in
         let there : get_or (set old i true) i false ≡ true = get_or-set_same old i true false w in
-        test_at n f' i h ∙ now ∙ sym (subst (λ x. get_or (set old x true) i false ≡ true) (sym is) there)
+        test_at n f' i h ∙ now
+        ∙ sym (subst (λ x. get_or (set old x true) i false ≡ true) (sym is) there)
     was i h (inr e) =
         let now : f' i ≡ f i = subst (λ b. f' i ≡ cond b true (f i)) e (more i) in
-        let apart : i ≢ k = λ same. let t : nat_eq k i ≡ true = eq-eqb k i (sym same) in absurd (cc) in
+        let apart : i ≢ k = λ same. let t : nat_eq k i ≡ true = eq-eqb k i (sym same) in
+        absurd (cc) in
         test_at n f' i h ∙ now ∙ sym (get_or-set_other old k i true false apart ∙ test_at n f i h)
 
     either : (b : Bool) → (b ≡ true) ⊎ (b ≡ false)
@@ -66,4 +72,5 @@ one_more n f f' k more =
 
     same : (i : ℕ) → i < length (tests_below n f')
         → get_or (tests_below n f') i false ≡ get_or (set old k true) i false
-    same i h = was i (below_count n (length (tests_below n f')) i (tests_count n f') h) (either (nat_eq k i))
+    same i h = was i (below_count n (length (tests_below n f')) i (tests_count n f') h)
+        (either (nat_eq k i))

@@ -8,18 +8,21 @@ use Rattle.delaunay_shapes.specs.Flood.{IsRegion}
 use Rattle.delaunay_shapes.specs.Start.{BeginsAt}
 
 -- a closed circle and a closed rectangle are regions with a start
-pub circle_begins : (centre : Point) (radius_2 : ℤ) → BeginsAt (InClosedCircle centre radius_2) centre
+pub circle_begins : (centre : Point) (radius_2 : ℤ)
+    → BeginsAt (InClosedCircle centre radius_2) centre
 circle_begins centre radius_2 =
     record { region = circle centre radius_2; same = λ q. ((λ x. x), (λ x. x)); start = refl }
 
 -- a closed rectangle is a region that starts at its lower corner
 pub rectangle_begins : (lower upper : Point) → BeginsAt (InClosedRectangle lower upper) lower
-rectangle_begins lower upper = record { region = rectangle lower upper; same = λ q. ((λ x. x), (λ x. x)); start = refl }
+rectangle_begins lower upper =
+    record { region = rectangle lower upper; same = λ q. ((λ x. x), (λ x. x)); start = refl }
 
 -- a shape that starts at a point is a region
 pub region_of_start : (Shape : Fraction → Type 0) (p : Point) → BeginsAt Shape p → IsRegion Shape
 region_of_start Shape p b = record { region = b.region; same = b.same }
 
 -- points of one kind are of another
-pub all_are : (P Q : Point → Type 0) → ((p : Point) → P p → Q p) → (points : List Point) → All P points → All Q points
+pub all_are : (P Q : Point → Type 0) → ((p : Point) → P p → Q p) → (points : List Point)
+    → All P points → All Q points
 all_are P Q into points all = λ i d h. into (get_or points i d) (all i d h)

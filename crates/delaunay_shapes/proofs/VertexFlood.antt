@@ -1,5 +1,6 @@
 -- The vertices in a region as ends of its edges.
-use Rattle.std.proofs.Common.{◌≡◌, ◌⊎◌, ℕ, ◌+◌, ◌*◌, ◌/◌, ◌<◌, ◌≤◌, List, [], length, get_or, sym, ap, ◌∙◌, subst}
+use Rattle.std.proofs.Common.{◌≡◌, ◌⊎◌, ◌+◌, ◌*◌, ◌/◌, ◌<◌, ◌≤◌, [], ◌∙◌}
+use Rattle.std.proofs.Common.{ℕ, List, length, get_or, sym, ap, subst}
 use Rattle.std.proofs.Common.{arith}
 use mathlib.Core.Logic.{inl, inr, ◌≢◌}
 use mathlib.Core.Bool.{Bool}
@@ -36,8 +37,9 @@ never : (j : ℕ) → j < 0 → ⊥
 never j h = omega (arith, h)
 
 -- before the first edge none of the ends needs an answer
-pub ends_first : (Inside : ℕ → Type 0) (m : Mesh) (count : ℕ) (asked : List Bool) (found edges : List ℕ) →
-    IsFlooding Inside count asked found → AreEndsAskedTo Inside m count asked asked found found edges 0
+pub ends_first : (Inside : ℕ → Type 0) (m : Mesh) (count : ℕ) (asked : List Bool)
+    (found edges : List ℕ) → IsFlooding Inside count asked found
+    → AreEndsAskedTo Inside m count asked asked found found edges 0
 ends_first Inside m count asked found edges f = record {
   flooding = f;
   on = record { kept = λ k h. h; more = []; grown = sym (append-nil found) };
@@ -52,31 +54,41 @@ pub ends_more : (Inside : ℕ → Type 0) (m : Mesh) (count : ℕ) (was asked mi
     → a ≡ origin m (2 * get_or edges i d) → b ≡ origin m (rev (2 * get_or edges i d)) →
     Asks Inside count asked mid found more a → Asks Inside count mid asked' more found' b →
     AreEndsAskedTo Inside m count was asked' before found' edges (i + 1)
-ends_more Inside m count was asked mid asked' before found more found' edges i d a b s here p q from to = record {
-  flooding = to.flooding;
-  on = goes_on_twice was asked asked' before found found' s.on
-      (goes_on_twice asked mid asked' found more found' from.on to.on);
-  sources = λ j h. elim (cases_eq j i) as (λ _. IsAsked asked' (origin m (2 * get_or edges j 0))) [
-    | inl e ↦ subst (λ (x : ℕ). IsAsked asked' (origin m (2 * get_or edges x 0))) (sym e)
-        (subst (IsAsked asked') (p ∙ ap (λ (x : ℕ). origin m (2 * x)) (get_or_any edges i d 0 here))
-        (to.on.kept a from.there))
-    | inr n ↦ to.on.kept _ (from.on.kept _ (s.sources j (below_other j i h n)))
-  ];
-  targets = λ j h. elim (cases_eq j i) as (λ _. IsAsked asked' (origin m (rev (2 * get_or edges j 0)))) [
-    | inl e ↦ subst (λ (x : ℕ). IsAsked asked' (origin m (rev (2 * get_or edges x 0)))) (sym e)
-        (subst (IsAsked asked') (q ∙ ap (λ (x : ℕ). origin m (rev (2 * x))) (get_or_any edges i d 0 here)) to.there)
-    | inr n ↦ to.on.kept _ (from.on.kept _ (s.targets j (below_other j i h n)))
-  ];
-}
+ends_more Inside m count was asked mid asked' before found more found' edges i d a b s here p q
+    from to = record {
+      flooding = to.flooding;
+      on = goes_on_twice was asked asked' before found found' s.on
+          (goes_on_twice asked mid asked' found more found' from.on to.on);
+      sources =
+          λ j h. elim (cases_eq j i) as (λ _. IsAsked asked' (origin m (2 * get_or edges j 0))) [
+            | inl e ↦ subst (λ (x : ℕ). IsAsked asked' (origin m (2 * get_or edges x 0))) (sym e)
+                (subst (IsAsked asked')
+                (p ∙ ap (λ (x : ℕ). origin m (2 * x)) (get_or_any edges i d 0 here))
+                (to.on.kept a from.there))
+            | inr n ↦ to.on.kept _ (from.on.kept _ (s.sources j (below_other j i h n)))
+          ];
+      targets =
+          λ j h. elim (cases_eq j i) as
+          (λ _. IsAsked asked' (origin m (rev (2 * get_or edges j 0)))) [
+            | inl e ↦
+                subst (λ (x : ℕ). IsAsked asked' (origin m (rev (2 * get_or edges x 0)))) (sym e)
+                (subst (IsAsked asked')
+                (q ∙ ap (λ (x : ℕ). origin m (rev (2 * x))) (get_or_any edges i d 0 here)) to.there)
+            | inr n ↦ to.on.kept _ (from.on.kept _ (s.targets j (below_other j i h n)))
+          ];
+    }
 
 -- once the end of the edges is reached, both ends of each have been asked of
-pub ends_last : (Inside : ℕ → Type 0) (m : Mesh) (count : ℕ) (was asked : List Bool) (before found edges : List ℕ)
-    (i : ℕ) → AreEndsAskedTo Inside m count was asked before found edges i → length edges ≤ i →
-    HasAskedEnds m asked edges
+pub ends_last : (Inside : ℕ → Type 0) (m : Mesh) (count : ℕ) (was asked : List Bool)
+    (before found edges : List ℕ) (i : ℕ)
+    → AreEndsAskedTo Inside m count was asked before found edges i → length edges ≤ i
+    → HasAskedEnds m asked edges
 ends_last Inside m count was asked before found edges i s last = record {
-  sources = λ k c. subst (λ (x : ℕ). IsAsked asked (origin m (2 * x))) (get_or_any edges c.0 0 k c.1 ∙ c.2)
+  sources = λ k c. subst (λ (x : ℕ). IsAsked asked (origin m (2 * x)))
+      (get_or_any edges c.0 0 k c.1 ∙ c.2)
       (s.sources c.0 (less c.0 c.1));
-  targets = λ k c. subst (λ (x : ℕ). IsAsked asked (origin m (rev (2 * x)))) (get_or_any edges c.0 0 k c.1 ∙ c.2)
+  targets = λ k c. subst (λ (x : ℕ). IsAsked asked (origin m (rev (2 * x))))
+      (get_or_any edges c.0 0 k c.1 ∙ c.2)
       (s.targets c.0 (less c.0 c.1));
 }
   where
@@ -87,11 +99,14 @@ ends_last Inside m count was asked before found edges i s last = record {
 same_number : (a b : ℤ) → (a *ℤ pos 1) ≡ (b *ℤ pos 1) → a ≡ b
 same_number a b e = omega (arith, ints)
 
-module _ (points : List Point) (m : Mesh) (v : IsValidMesh m) (shape : IsMesh points (faces_of m) (outer_of m)) where
-  distinct : (i j : ℕ) → i < length points → j < length points → i ≢ j → place points i ≢ place points j
+module _ (points : List Point) (m : Mesh) (v : IsValidMesh m)
+    (shape : IsMesh points (faces_of m) (outer_of m)) where
+  distinct : (i j : ℕ) → i < length points → j < length points → i ≢ j
+      → place points i ≢ place points j
   distinct = elim shape [ inl s ↦ s.distinct | inr s ↦ s.1.distinct ]
 
-  apart : (i j : ℕ) → i < length points → j < length points → IsSame (place points i) (place points j) → i ≡ j
+  apart : (i j : ℕ) → i < length points → j < length points
+      → IsSame (place points i) (place points j) → i ≡ j
   apart i j a b s = elim (cases_eq i j) [
     | inl e ↦ e
     | inr n ↦ absurd (distinct i j a b n (λ t. whole
@@ -102,10 +117,11 @@ module _ (points : List Point) (m : Mesh) (v : IsValidMesh m) (shape : IsMesh po
   ]
 
   -- asked of both ends of each edge in a region, a flood has found all vertices in it
-  pub ends_are_all : (Shape : Fraction → Type 0) → IsRegion Shape → (edges : List ℕ) →
-      AreEdgesInShape Shape points m edges → (asked : List Bool) (found : List ℕ) →
-      IsFlooding (λ i. Shape (whole (point_at points i))) (length points) asked found
-      → HasAskedEnds m asked edges → (length points ≡ 1 → IsAsked asked 0) → AreVerticesInShape Shape points found
+  pub ends_are_all : (Shape : Fraction → Type 0) → IsRegion Shape → (edges : List ℕ)
+      → AreEdgesInShape Shape points m edges → (asked : List Bool) (found : List ℕ)
+      → IsFlooding (λ i. Shape (whole (point_at points i))) (length points) asked found
+      → HasAskedEnds m asked edges → (length points ≡ 1 → IsAsked asked 0)
+      → AreVerticesInShape Shape points found
   ends_are_all Shape shaped edges exact asked found flooding ends alone = record {
     once = flooding.once;
     exact = λ i. (
@@ -117,7 +133,8 @@ module _ (points : List Point) (m : Mesh) (v : IsValidMesh m) (shape : IsMesh po
       by_edge : (i h : ℕ) → origin m h ≡ i → Contains edges (h / 2) → IsAsked asked i
       by_edge i h at c = elim (halved h) [
         | inl e ↦ subst (IsAsked asked) (ap (origin m) e ∙ at) (ends.sources (h / 2) c)
-        | inr e ↦ subst (IsAsked asked) (ap (λ (x : ℕ). origin m (rev x)) e ∙ ap (origin m) (rev-rev h) ∙ at)
+        | inr e ↦ subst (IsAsked asked)
+            (ap (λ (x : ℕ). origin m (rev x)) e ∙ ap (origin m) (rev-rev h) ∙ at)
             (ends.targets (h / 2) c)
       ]
 
@@ -126,9 +143,11 @@ module _ (points : List Point) (m : Mesh) (v : IsValidMesh m) (shape : IsMesh po
 
       reached : (i : ℕ) → i < length points → Shape (whole (point_at points i)) →
           (1 < length points) ⊎ (length points ≤ 1) → IsAsked asked i
-      reached i w p (inr few) = let o = only i (length points) w few in subst (IsAsked asked) o.1 (alone o.0)
+      reached i w p (inr few) =
+          let o = only i (length points) w few in subst (IsAsked asked) o.1 (alone o.0)
       reached i w p (inl some) =
-          let end = (vertices_are_ends (drawn points m) (tiles points m v shape) apart some shaped.region i).0
+          let end = (vertices_are_ends (drawn points m)
+          (tiles points m v shape) apart some shaped.region i).0
           (w, (shaped.same (whole (point_at points i))).0 p) in
           let r = joins_edge m v.sound i end.1.0 end.1.1.0 in
           let inside = half_by_ends points m v shape Shape r.0 i end.1.0 r.1 r.2 r.3

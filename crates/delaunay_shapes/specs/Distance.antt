@@ -12,9 +12,11 @@ clamped low high a = if int_lt a low then low else (if int_lt high a then high e
 abbrev pub farthest : ℤ
 farthest = pos 9223372036854775807
 
--- the squared distance from the nearest point of the rectangle; the greatest number for a reversed one
+-- the squared distance from the nearest point of the rectangle; the greatest number for a reversed
+-- one
 abbrev pub rectangle_distance : Point → Point → Point → ℤ
-rectangle_distance lower upper p = if is_reversed lower upper then farthest else gap (whole p) (whole (record { x = clamped lower.x upper.x p.x; y = clamped lower.y upper.y p.y }))
+rectangle_distance lower upper p = if is_reversed lower upper then farthest else gap (whole p)
+    (whole (record { x = clamped lower.x upper.x p.x; y = clamped lower.y upper.y p.y }))
 
 -- d is the squared distance from p to the nearest point of a shape
 pub record IsLeastDistance (Shape : Fraction → Type 0) (p : Point) (d : ℤ) : Type 0 where

@@ -16,7 +16,8 @@ abbrev pub IsAsked : List Bool → ℕ → Type 0
 IsAsked asked k = slice_index_or asked k false ≡ true
 
 -- of the edges asked of, those inside were found, each once
-pub record IsFlooding (Inside : ℕ → Type 0) (count : ℕ) (asked : List Bool) (found : List ℕ) : Type 0 where
+pub record IsFlooding (Inside : ℕ → Type 0) (count : ℕ) (asked : List Bool)
+    (found : List ℕ) : Type 0 where
   pub marks : length asked ≡ count
   pub once : AllPairs (λ i j. i ≢ j) found
   pub within : (k : ℕ) → Contains found k → k < count
@@ -31,8 +32,8 @@ pub record GoesOn (asked asked' : List Bool) (found found' : List ℕ) : Type 0 
   pub grown : found' ≡ found ++ more
 
 -- edge k was asked of
-pub record Asks (Inside : ℕ → Type 0) (count : ℕ) (asked asked' : List Bool) (found found' : List ℕ) (k : ℕ) : Type
-    0 where
+pub record Asks (Inside : ℕ → Type 0) (count : ℕ) (asked asked' : List Bool) (found found' : List ℕ)
+    (k : ℕ) : Type 0 where
   pub flooding : IsFlooding Inside count asked' found'
   pub on : GoesOn asked asked' found found'
   pub there : IsAsked asked' k
@@ -48,8 +49,8 @@ pub record IsSpread (m : Mesh) (asked : List Bool) (found : List ℕ) : Type 0 w
   pub right : (k : ℕ) → Contains found k → AreAskedBeside m asked (rev (2 * k))
 
 -- the edges beside directed edge h were asked of
-pub record AsksBeside (Inside : ℕ → Type 0) (m : Mesh) (count : ℕ) (asked asked' : List Bool) (found found' : List ℕ)
-    (h : ℕ) : Type 0 where
+pub record AsksBeside (Inside : ℕ → Type 0) (m : Mesh) (count : ℕ) (asked asked' : List Bool)
+    (found found' : List ℕ) (h : ℕ) : Type 0 where
   pub flooding : IsFlooding Inside count asked' found'
   pub on : GoesOn asked asked' found found'
   pub beside : AreAskedBeside m asked' h
@@ -63,10 +64,10 @@ pub record IsRegion (Shape : Fraction → Type 0) : Type 0 where
 pub record IsBegunBy (Inside : ℕ → Type 0) (count : ℕ) (starts : List ℕ) : Type 0 where
   pub begun : (k : ℕ) → k < count → Inside k → (j : ℕ) × Contains starts j × Inside j
 
--- what a flood needs: the tests cover the shape's own points and the vertices of a mesh, the shape is a region, and the
--- flood begins with edges of the mesh of which one is inside, if any is
-pub record CanFlood {V D U F : Type 0} (IsCovered : Point → Type 0) (own : List Point) (Shape : Fraction → Type 0)
-    (place : V → Point) (c : Contents V D U F) (starts : List ℕ) : Type 0 where
+-- what a flood needs: the tests cover the shape's own points and the vertices of a mesh, the shape
+-- is a region, and the flood begins with edges of the mesh of which one is inside, if any is
+pub record CanFlood {V D U F : Type 0} (IsCovered : Point → Type 0) (own : List Point) (Shape :
+    Fraction → Type 0) (place : V → Point) (c : Contents V D U F) (starts : List ℕ) : Type 0 where
   pub own_covered : All IsCovered own
   pub covered : All IsCovered (map place c.vertices)
   pub shape : IsMesh (map place c.vertices) (faces_of c.mesh) (outer_of c.mesh)
@@ -75,8 +76,8 @@ pub record CanFlood {V D U F : Type 0} (IsCovered : Point → Type 0) (own : Lis
   pub begun : IsBegunBy (IsInside Shape place c) (length c.undirected) starts
 
 -- where any of the edges that are tried first from a location is inside, one of the first is
-pub record HasBegun (Shape : Fraction → Type 0) (points : List Point) (m : Mesh) (starts : List ℕ) (l : Location) : Type
-    0 where
+pub record HasBegun (Shape : Fraction → Type 0) (points : List Point) (m : Mesh) (starts : List ℕ)
+    (l : Location) : Type 0 where
   pub begun : (a b : ℕ) → IsTried (drawn points m) l a b → IsEdgeIn Shape (drawn points m) a b →
       (k : ℕ) × Contains starts k × IsEdgeInShape Shape points m k
 

@@ -9,11 +9,13 @@ use Rattle.delaunay_shapes.specs.declared.in_shape.EdgesInShapeIterator.{EdgesIn
 use Rattle.delaunay_shapes.specs.declared.in_shape.VerticesInShapeIterator.{VerticesInShapeIterator}
 
 -- the edges in a shape that an iterator has still to give
-abbrev pub edges_left : {V D U F : Type 0} → EdgesInShapeIterator V D U F → List (Bor (Contents V D U F) × ℕ)
+abbrev pub edges_left : {V D U F : Type 0} → EdgesInShapeIterator V D U F
+    → List (Bor (Contents V D U F) × ℕ)
 edges_left it = each_in it.dcel (drop it.next it.edges.items)
 
 -- the vertices in a shape that an iterator has still to give
-abbrev pub vertices_left : {V D U F : Type 0} → VerticesInShapeIterator V D U F → List (Bor (Contents V D U F) × ℕ)
+abbrev pub vertices_left : {V D U F : Type 0} → VerticesInShapeIterator V D U F
+    → List (Bor (Contents V D U F) × ℕ)
 vertices_left it = each_in it.dcel (drop it.next it.vertices.items)
 
 -- handles of the edges of a mesh that have a point in the shape, each once

@@ -25,10 +25,11 @@ pub record HasSides (m : Mesh) (starts : List ℕ) (h : ℕ) : Type 0 where
 -- where an outer edge is inside, a listed one is
 abbrev pub HasOuter : (ℕ → Type 0) → Mesh → List ℕ → Type 0
 HasOuter Inside m starts =
-    (h : ℕ) → h < length m.half_edges → face m h ≡ 0 → Inside (h / 2) → (k : ℕ) × Contains starts k × Inside k
+    (h : ℕ) → h < length m.half_edges → face m h ≡ 0 → Inside (h / 2)
+    → (k : ℕ) × Contains starts k × Inside k
 
--- the edges to begin with from a location: one at the vertex, the edge itself, the sides of the face, an outer one that
--- is inside
+-- the edges to begin with from a location: one at the vertex, the edge itself, the sides of the
+-- face, an outer one that is inside
 abbrev pub HasStarts : (ℕ → Type 0) → Mesh → List ℕ → PositionInTriangulation → Type 0
 HasStarts Inside m starts (OnVertex v) = (h : ℕ) → out_edge m v ≡ Some h → Contains starts (h / 2)
 HasStarts Inside m starts (OnEdge e) = Contains starts (e / 2)

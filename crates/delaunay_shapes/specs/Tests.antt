@@ -1,5 +1,6 @@
 -- What the shapes answer of an edge, as tests on whole numbers.
-use Rattle.std.specs.Prelude.{◌⊎◌, List, [], ◌∷◌, ℤ, pos, ◌-ℤ◌, ◌*ℤ◌, ◌<ℤ◌, ◌≤ℤ◌, Bool, true, false, not, ◌&&◌, ◌||◌, int_lt, int_le}
+use Rattle.std.specs.Prelude.{◌⊎◌, [], ◌∷◌, ◌-ℤ◌, ◌*ℤ◌, ◌<ℤ◌, ◌≤ℤ◌, ◌&&◌, ◌||◌}
+use Rattle.std.specs.Prelude.{List, ℤ, pos, Bool, true, false, not, int_lt, int_le}
 use Rattle.plane.specs.Fraction.{Point, whole}
 use Rattle.plane.specs.Side.{Side, left, right, on, side}
 use Rattle.plane.specs.Circle.{gap}
@@ -12,12 +13,16 @@ circle_distance c r p = gap (whole c) (whole p) -ℤ r
 
 -- the centre falls between the ends of an edge with a length, and is near enough to its line
 abbrev falls_near : Point → ℤ → Point → Point → Bool
-falls_near c r p q = int_lt (pos 0) (distance_2 p q) && (int_le (pos 0) (factor p q c) && (int_le (factor p q c) (distance_2 p q)
-    && int_le (distance_2 c p *ℤ distance_2 p q -ℤ factor p q c *ℤ factor p q c) (r *ℤ distance_2 p q)))
+falls_near c r p q = int_lt (pos 0) (distance_2 p q) &&
+    (int_le (pos 0) (factor p q c) && (int_le (factor p q c) (distance_2 p q)
+    && int_le (distance_2 c p *ℤ distance_2 p q -ℤ factor p q c *ℤ factor p q c)
+    (r *ℤ distance_2 p q)))
 
--- the same in the numbers that the code has: where the centre falls, and how far the start is from the rim
+-- the same in the numbers that the code has: where the centre falls, and how far the start is from
+-- the rim
 abbrev pub FallsOn : Point → ℤ → Point → Point → Type 0
-FallsOn c r p q = ((pos 0 ≤ℤ along p q c) × (along p q c ≤ℤ gap (whole p) (whole q))) × ((circle_distance c r p *ℤ gap (whole p) (whole q)) ≤ℤ (along p q c *ℤ along p q c))
+FallsOn c r p q = ((pos 0 ≤ℤ along p q c) × (along p q c ≤ℤ gap (whole p) (whole q)))
+    × ((circle_distance c r p *ℤ gap (whole p) (whole q)) ≤ℤ (along p q c *ℤ along p q c))
 
 -- the edge has a length, and the centre falls on it, near enough to its line
 abbrev FallsNear : Point → ℤ → Point → Point → Type 0
@@ -25,11 +30,13 @@ FallsNear c r p q = (pos 0 <ℤ gap (whole p) (whole q)) × FallsOn c r p q
 
 -- an end is in the circle, or the centre falls near the edge, in the numbers that the code has
 abbrev pub IsEdgeNear : Point → ℤ → Point → Point → Type 0
-IsEdgeNear c r p q = (circle_distance c r p ≤ℤ pos 0) ⊎ ((circle_distance c r q ≤ℤ pos 0) ⊎ FallsNear c r p q)
+IsEdgeNear c r p q = (circle_distance c r p ≤ℤ pos 0)
+    ⊎ ((circle_distance c r q ≤ℤ pos 0) ⊎ FallsNear c r p q)
 
 -- an end is in the circle, or the centre falls near the edge
 abbrev pub meets_circle : Point → ℤ → Point → Point → Bool
-meets_circle c r p q = int_le (distance_2 c p) r || (int_le (distance_2 c q) r || falls_near c r p q)
+meets_circle c r p q =
+    int_le (distance_2 c p) r || (int_le (distance_2 c q) r || falls_near c r p q)
 
 -- the corners are reversed, in one axis or both
 abbrev pub IsReversed : Point → Point → Type 0
@@ -57,13 +64,18 @@ is_right on = false
 
 -- the four corners are all on a side of the line from p to q that the test accepts
 abbrev pub are_corners : (Side → Bool) → Point → Point → Point → Point → Bool
-are_corners accepts lower upper p q = let is_on = λ (x y : ℤ). accepts (side (whole p) (whole q) (whole (record { x = x; y = y }))) in
-    is_on lower.x lower.y && (is_on upper.x lower.y && (is_on upper.x upper.y && is_on lower.x upper.y))
+are_corners accepts lower upper p q =
+    let is_on = λ (x y : ℤ). accepts (side (whole p) (whole q) (whole (record { x = x; y = y }))) in
+    is_on lower.x lower.y &&
+    (is_on upper.x lower.y && (is_on upper.x upper.y && is_on lower.x upper.y))
 
 -- the rectangle is not reversed, the ranges meet, and the corners are not all strictly on one side
 abbrev pub meets_rectangle : Point → Point → Point → Point → Bool
-meets_rectangle lower upper p q = not (is_reversed lower upper) && (range_meets lower.x upper.x p.x q.x && (range_meets lower.y upper.y p.y q.y && (not (are_corners is_left lower upper p q) && not (are_corners is_right lower upper p q))))
+meets_rectangle lower upper p q = not (is_reversed lower upper) &&
+    (range_meets lower.x upper.x p.x q.x && (range_meets lower.y upper.y p.y q.y &&
+    (not (are_corners is_left lower upper p q) && not (are_corners is_right lower upper p q))))
 
 -- the corners of a rectangle
 abbrev pub corners : Point → Point → List Point
-corners lower upper = lower ∷ (record { x = upper.x; y = lower.y }) ∷ upper ∷ (record { x = lower.x; y = upper.y }) ∷ []
+corners lower upper = lower ∷ (record { x = upper.x; y = lower.y }) ∷ upper
+    ∷ (record { x = lower.x; y = upper.y }) ∷ []

@@ -1,5 +1,5 @@
--- Numbers that fit their width keep their value as they are passed on, and so do sums, differences and products of
--- them.
+-- Numbers that fit their width keep their value as they are passed on, and so do sums, differences
+-- and products of them.
 use Rattle.std.proofs.Common.{◌≡◌, ◌≤◌, arith, w64, to_z, of_z}
 use mir.Syntax.{w128}
 use Rattle.std.specs.Prelude.{ℤ, ◌+ℤ◌, ◌-ℤ◌, ◌*ℤ◌, unsigned_abs}
@@ -18,50 +18,54 @@ pub kept_is : (z : ℤ) → unsigned_abs z ≤ 4611686018427387904 → kept z �
 kept_is z h = omega (arith, ints)
 
 -- a product of numbers of absolute value at most 2^30 that were kept in 64 bits is exact
-pub product_of : (a b x y z : ℤ) → unsigned_abs a ≤ 1073741824 → unsigned_abs b ≤ 1073741824 → a ≡ x → b ≡ y →
-    z ≡ kept a *ℤ kept b → z ≡ x *ℤ y
-product_of a b x y z h k e f g = let p = kept_is a (omega (arith, h)) in let q = kept_is b (omega (arith, k)) in cc
+pub product_of : (a b x y z : ℤ) → unsigned_abs a ≤ 1073741824 → unsigned_abs b ≤ 1073741824 → a ≡ x
+    → b ≡ y → z ≡ kept a *ℤ kept b → z ≡ x *ℤ y
+product_of a b x y z h k e f g =
+    let p = kept_is a (omega (arith, h)) in let q = kept_is b (omega (arith, k)) in cc
 
 -- a sum of numbers of absolute value at most 2^60 is exact in 64 bits
-pub sum_of : (a b x y : ℤ) → unsigned_abs a ≤ 1152921504606846976 → unsigned_abs b ≤ 1152921504606846976 → a ≡ x →
-    b ≡ y → kept (kept a +ℤ kept b) ≡ x +ℤ y
+pub sum_of : (a b x y : ℤ) → unsigned_abs a ≤ 1152921504606846976
+    → unsigned_abs b ≤ 1152921504606846976 → a ≡ x → b ≡ y → kept (kept a +ℤ kept b) ≡ x +ℤ y
 sum_of a b x y h k e f = omega (arith, ints)
 
 -- a sum of numbers of absolute value at most 2^60 fits in 64 bits
-pub sum_fits : (a b : ℤ) → unsigned_abs a ≤ 1152921504606846976 → unsigned_abs b ≤ 1152921504606846976 →
-    FitsSigned w64 (kept a +ℤ kept b)
+pub sum_fits : (a b : ℤ) → unsigned_abs a ≤ 1152921504606846976
+    → unsigned_abs b ≤ 1152921504606846976 → FitsSigned w64 (kept a +ℤ kept b)
 sum_fits a b h k = fits_signed_from_abs w64 (kept a +ℤ kept b) (omega (arith, ints))
 
 -- a sum of numbers of absolute value at most 2^60 has one of at most 2^61
-pub sum_bound : (a b : ℤ) → unsigned_abs a ≤ 1152921504606846976 → unsigned_abs b ≤ 1152921504606846976 →
-    unsigned_abs (kept (kept a +ℤ kept b)) ≤ 2305843009213693952
+pub sum_bound : (a b : ℤ) → unsigned_abs a ≤ 1152921504606846976 → unsigned_abs b
+    ≤ 1152921504606846976 → unsigned_abs (kept (kept a +ℤ kept b)) ≤ 2305843009213693952
 sum_bound a b h k = omega (arith, ints)
 
 -- a difference of numbers of absolute value at most 2^60 is exact in 64 bits
-pub difference_of : (a b x y : ℤ) → unsigned_abs a ≤ 1152921504606846976 → unsigned_abs b ≤ 1152921504606846976 →
-    a ≡ x → b ≡ y → kept (kept a -ℤ kept b) ≡ x -ℤ y
+pub difference_of : (a b x y : ℤ) → unsigned_abs a ≤ 1152921504606846976
+    → unsigned_abs b ≤ 1152921504606846976 → a ≡ x → b ≡ y → kept (kept a -ℤ kept b) ≡ x -ℤ y
 difference_of a b x y h k e f = omega (arith, ints)
 
 -- a difference of numbers of absolute value at most 2^60 fits in 64 bits
-pub difference_fits : (a b : ℤ) → unsigned_abs a ≤ 1152921504606846976 → unsigned_abs b ≤ 1152921504606846976 →
-    FitsSigned w64 (kept a -ℤ kept b)
+pub difference_fits : (a b : ℤ) → unsigned_abs a ≤ 1152921504606846976
+    → unsigned_abs b ≤ 1152921504606846976 → FitsSigned w64 (kept a -ℤ kept b)
 difference_fits a b h k = fits_signed_from_abs w64 (kept a -ℤ kept b) (omega (arith, ints))
 
 -- a difference of numbers of absolute value at most 2^60 has one of at most 2^61
-pub difference_bound : (a b : ℤ) → unsigned_abs a ≤ 1152921504606846976 → unsigned_abs b ≤ 1152921504606846976 →
-    unsigned_abs (kept (kept a -ℤ kept b)) ≤ 2305843009213693952
+pub difference_bound : (a b : ℤ) → unsigned_abs a ≤ 1152921504606846976 → unsigned_abs b
+    ≤ 1152921504606846976 → unsigned_abs (kept (kept a -ℤ kept b)) ≤ 2305843009213693952
 difference_bound a b h k = omega (arith, ints)
 
 -- ---- 128 bits
 -- a product of numbers of absolute value at most 2^61 that were kept in 64 bits is exact
-pub term_of : (a b x y z : ℤ) → unsigned_abs a ≤ 2305843009213693952 → unsigned_abs b ≤ 2305843009213693952 → a ≡ x →
-    b ≡ y → z ≡ kept a *ℤ kept b → z ≡ x *ℤ y
-term_of a b x y z h k e f g = let p = kept_is a (omega (arith, h)) in let q = kept_is b (omega (arith, k)) in cc
+pub term_of : (a b x y z : ℤ) → unsigned_abs a ≤ 2305843009213693952
+    → unsigned_abs b ≤ 2305843009213693952 → a ≡ x → b ≡ y → z ≡ kept a *ℤ kept b → z ≡ x *ℤ y
+term_of a b x y z h k e f g =
+    let p = kept_is a (omega (arith, h)) in let q = kept_is b (omega (arith, k)) in cc
 
 -- a difference of numbers of absolute value at most 2^122 fits in 128 bits
-pub long_difference_fits : (a b : ℤ) → unsigned_abs a ≤ 5316911983139663491615228241121378304 →
-    unsigned_abs b ≤ 5316911983139663491615228241121378304 → FitsSigned w128 (kept_long a -ℤ kept_long b)
-long_difference_fits a b h k = fits_signed_from_abs w128 (kept_long a -ℤ kept_long b) (omega (arith, ints))
+pub long_difference_fits : (a b : ℤ) → unsigned_abs a ≤ 5316911983139663491615228241121378304
+    → unsigned_abs b ≤ 5316911983139663491615228241121378304
+    → FitsSigned w128 (kept_long a -ℤ kept_long b)
+long_difference_fits a b h k =
+    fits_signed_from_abs w128 (kept_long a -ℤ kept_long b) (omega (arith, ints))
 
 -- a difference of numbers of absolute value at most 2^122 is exact in 128 bits
 pub long_difference_of : (a b x y : ℤ) → unsigned_abs a ≤ 5316911983139663491615228241121378304 →

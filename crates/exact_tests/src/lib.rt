@@ -47,7 +47,8 @@ fn product(a: i64, b: i64) -> i64
     a * b
 }
 
-// The scalar product of the ways from a point to two others, positive where they make a sharp angle.
+// The scalar product of the ways from a point to two others, positive where they make a sharp
+// angle.
 fn dot_at<S: SpadeNum>(q: Point2<S>, u: Point2<S>, v: Point2<S>) -> i64
     requires q { InRange (place_of S.whole q) }
     requires u { InRange (place_of S.whole u) }

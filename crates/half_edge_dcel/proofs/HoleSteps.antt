@@ -1,16 +1,20 @@
 -- An inner vertex with three faces loses them and its edges, and one face takes their place.
-use Rattle.std.proofs.Common.{◌≡◌, ℕ, ◌+◌, ◌<◌, ◌≤◌, List, [], ◌∷◌, ◌++◌, length, refl, sym, ap, ◌∙◌, inr, arith, subst}
+use Rattle.std.proofs.Common.{◌≡◌, ◌+◌, ◌<◌, ◌≤◌, [], ◌∷◌, ◌++◌, ◌∙◌}
+use Rattle.std.proofs.Common.{ℕ, List, length, refl, sym, ap, inr, arith, subst}
 use Rattle.std.specs.Prelude.{ℤ, pos}
 use Rattle.std.specs.List.{AllZip}
 use Rattle.std.specs.List.Sorted.{IsPermutation}
 use Rattle.std.proofs.lemmas.Int.{ints}
-use Rattle.std.proofs.lemmas.List.Sorted.{IsPermutation-trans, IsPermutation-cons, IsPermutation-to_front}
+use Rattle.std.proofs.lemmas.List.Sorted.{IsPermutation-trans, IsPermutation-cons}
+use Rattle.std.proofs.lemmas.List.Sorted.{IsPermutation-to_front}
 use Rattle.half_edge_links.specs.Flow.{total, around, both_ways}
 use Rattle.half_edge_links.specs.Hull.{KeepsOneOutline}
-use Rattle.half_edge_links.specs.Mesh.{Mesh, origin, next, prev, face, face_edge, rev, AreSoundLinks, IsAlone}
+use Rattle.half_edge_links.specs.Mesh.{Mesh, origin, next, prev, face, face_edge, rev}
+use Rattle.half_edge_links.specs.Mesh.{AreSoundLinks, IsAlone}
 use Rattle.half_edge_links.specs.Outline.{ends}
 use Rattle.half_edge_links.specs.Peel.{IsPeelable, IsWheel, Peels, turn}
-use Rattle.half_edge_links.specs.Remove.{ClosesLoop, IsOpenTriangle, IsRemovable, Opens, Removes, after_removal}
+use Rattle.half_edge_links.specs.Remove.{ClosesLoop, IsOpenTriangle, IsRemovable, Opens, Removes}
+use Rattle.half_edge_links.specs.Remove.{after_removal}
 use Rattle.half_edge_links.specs.Round.{neighbour}
 use Rattle.half_edge_links.specs.Triangles.{triangles, triangle_at}
 use Rattle.half_edge_links.proofs.Removing.CollapseLemmas.{open_triangle, removable_last}
@@ -18,69 +22,113 @@ use Rattle.half_edge_links.proofs.Removing.PeelLemmas.{peels_faces}
 use Rattle.half_edge_links.proofs.Removing.Conditions.{IsFullWheel, full_wheel, peelable, removable}
 use Rattle.half_edge_links.proofs.OuterLoop.OutlineFilled.{outline_filled}
 use Rattle.half_edge_links.proofs.Lists.Rev.{rev-rev}
-use Rattle.half_edge_links.proofs.Removing.WheelEnds.{IsHoleOfFour, IsHoleOfThree, hole_of_four, hole_of_three, closed_corners}
+use Rattle.half_edge_links.proofs.Removing.WheelEnds.{IsHoleOfFour, IsHoleOfThree, hole_of_four}
+use Rattle.half_edge_links.proofs.Removing.WheelEnds.{hole_of_three, closed_corners}
 use Rattle.half_edge_links.proofs.Removing.WheelLemmas as wheel
 use Rattle.half_edge_dcel.specs.Contents.{Contents, IsMeshWithData, KeepsVertices}
 use Rattle.half_edge_dcel.specs.Growth.{joins}
-use Rattle.half_edge_dcel.specs.Removal.{FullFace, IsBetween, HasCorners, LosesEdges, LosesFaces, GivesFace, OuterChanges, FillsHole, full_edges, full_edges_of, full_faces, full_faces_of, spokes_to, faces_between}
+use Rattle.half_edge_dcel.specs.Removal.{FullFace, IsBetween, HasCorners, LosesEdges, LosesFaces}
+use Rattle.half_edge_dcel.specs.Removal.{GivesFace, OuterChanges, FillsHole, full_edges}
+use Rattle.half_edge_dcel.specs.Removal.{full_edges_of, full_faces, full_faces_of, spokes_to}
+use Rattle.half_edge_dcel.specs.Removal.{faces_between}
 use Rattle.half_edge_dcel.proofs.LineSteps.{alone_after}
-use Rattle.half_edge_dcel.proofs.OuterSums.{ends_sum, total_faces, total_lost_faces, total-permutation, total-append, any_corner, outer_sum}
-use Rattle.half_edge_dcel.proofs.StripSteps.{same_but, same_but_edges, same_but_faces, one_more_gone, none_gone}
+use Rattle.half_edge_dcel.proofs.OuterSums.{ends_sum, total_faces, total_lost_faces}
+use Rattle.half_edge_dcel.proofs.OuterSums.{total-permutation, total-append, any_corner, outer_sum}
+use Rattle.half_edge_dcel.proofs.StripSteps.{same_but, same_but_edges, same_but_faces}
+use Rattle.half_edge_dcel.proofs.StripSteps.{one_more_gone, none_gone}
 use Rattle.half_edge_dcel.proofs.TakenEdges.{named_corners}
 
 -- the corners of a face at a vertex with three faces
 module _ (m : Mesh) (o : ℕ) (s : AreSoundLinks m) (w : IsFullWheel m o) where
   -- the corners of the first face are the vertex and the first two neighbours
-  pub first_face : triangle_at m o ≡ record { first = origin m o; second = neighbour m o 0; third = neighbour m o 1 }
-  first_face = λ i. record { first = origin m o; second = (s.edges o w.wheel.within).starts i; third = origin m (wheel.before_o m o s w i) }
+  pub first_face : triangle_at m o
+      ≡ record { first = origin m o; second = neighbour m o 0; third = neighbour m o 1 }
+  first_face = λ i. record {
+    first = origin m o;
+    second = (s.edges o w.wheel.within).starts i;
+    third = origin m (wheel.before_o m o s w i);
+  }
 
   -- the corners of the third face are the vertex, the third neighbour and the one after it
-  pub third_face : triangle_at m (turn m (turn m o)) ≡ record { first = origin m o; second = neighbour m o 2; third = neighbour m o 3 }
+  pub third_face : triangle_at m (turn m (turn m o))
+      ≡ record { first = origin m o; second = neighbour m o 2; third = neighbour m o 3 }
   third_face = λ i. record {
-    first = (wheel.turn_starts m o s w (turn m o) (wheel.a_in m o s w) ∙ wheel.turn_starts m o s w o w.wheel.within) i;
+    first = (wheel.turn_starts m o s w (turn m o) (wheel.a_in m o s w)
+        ∙ wheel.turn_starts m o s w o w.wheel.within) i;
     second = (s.edges _ (wheel.z_in m o s w)).starts i;
     third = (ap (origin m) (sym (rev-rev (prev m (turn m (turn m o)))))) i;
   }
 
 -- a face between two edges of a vertex
-fan_face : (m : Mesh) (a z v c0 c1 c2 : ℕ) → AreSoundLinks m → IsHoleOfFour m a z v c0 c1 c2 → (joins (origin m a) (origin m (rev a)) ≡ joins v c1) × (triangle_at m a ≡ record { first = v; second = c1; third = c2 })
+fan_face : (m : Mesh) (a z v c0 c1 c2 : ℕ) → AreSoundLinks m → IsHoleOfFour m a z v c0 c1 c2
+    → (joins (origin m a) (origin m (rev a)) ≡ joins v c1)
+    × (triangle_at m a ≡ record { first = v; second = c1; third = c2 })
 fan_face m a z v c0 c1 c2 s h =
     let f = h.fan in
     let end : origin m (rev a) ≡ c1 = sym (s.edges a f.peelable.within).starts ∙ h.second in
-    let last : origin m (prev m a) ≡ c2 = ap (origin m) (sym (rev-rev (prev m a)) ∙ ap rev f.spoke) ∙ sym (s.edges z f.within).starts ∙ h.third in
-    (λ i. joins (h.start i) (end i), λ i. record { first = h.start i; second = h.second i; third = last i })
+    let last : origin m (prev m a) ≡ c2 = ap (origin m) (sym (rev-rev (prev m a)) ∙ ap rev f.spoke)
+    ∙ sym (s.edges z f.within).starts ∙ h.third in (
+      λ i. joins (h.start i) (end i),
+      λ i. record { first = h.start i; second = h.second i; third = last i },
+    )
 
 -- the last edge of a vertex in a hole with three corners joins it and the third of them
-last_spoke : (m : Mesh) (z v c0 c1 c2 : ℕ) → AreSoundLinks m → z < length m.half_edges → IsHoleOfThree m z v c0 c1 c2 → joins (origin m z) (origin m (rev z)) ≡ joins v c2
-last_spoke m z v c0 c1 c2 s within h = λ i. joins (h.start i) ((sym (s.edges z within).starts ∙ h.third) i)
+last_spoke : (m : Mesh) (z v c0 c1 c2 : ℕ) → AreSoundLinks m → z < length m.half_edges
+    → IsHoleOfThree m z v c0 c1 c2 → joins (origin m z) (origin m (rev z)) ≡ joins v c2
+last_spoke m z v c0 c1 c2 s within h =
+    λ i. joins (h.start i) ((sym (s.edges z within).starts ∙ h.third) i)
 
 -- ---- the outer edges
-outer_filled : {V D U F : Type 0} (old new : Contents V D U F) (v : ℕ) (n : ℕ → ℕ) (lost : List (FullFace F)) (made : FullFace F) (rest : List (FullFace F)) → n 3 ≡ n 0 → IsMeshWithData old → IsMeshWithData new → LosesEdges old new (spokes_to v n 3)
-    → AllZip HasCorners lost (faces_between v n 3) → HasCorners made (record { first = n 0; second = n 1; third = n 2 }) → IsPermutation (full_faces old) (lost ++ rest) → IsPermutation (full_faces new) (made ∷ rest) → OuterChanges old.mesh new.mesh [] []
+outer_filled : {V D U F : Type 0} (old new : Contents V D U F) (v : ℕ) (n : ℕ → ℕ)
+    (lost : List (FullFace F)) (made : FullFace F) (rest : List (FullFace F)) → n 3 ≡ n 0
+    → IsMeshWithData old → IsMeshWithData new → LosesEdges old new (spokes_to v n 3)
+    → AllZip HasCorners lost (faces_between v n 3)
+    → HasCorners made (record { first = n 0; second = n 1; third = n 2 })
+    → IsPermutation (full_faces old) (lost ++ rest)
+    → IsPermutation (full_faces new) (made ∷ rest) → OuterChanges old.mesh new.mesh [] []
 outer_filled {V} {D} {U} {F} old new v n lost made rest again a b edges lost_are made_is was is f =
     let g : FullFace F → ℤ = λ x. around f x.corners in
     let es = ends_sum f old new _ a b edges in
-    let before = sym (total_faces f old a) ∙ sym (total-permutation g _ _ was) ∙ total-append g lost rest in
+    let before =
+    sym (total_faces f old a) ∙ sym (total-permutation g _ _ was) ∙ total-append g lost rest in
     let after = sym (total_faces f new b) ∙ sym (total-permutation g _ _ is) in
     let gone = total_lost_faces f lost (faces_between v n 3) lost_are in
     let come = any_corner f made (record { first = n 0; second = n 1; third = n 2 }) made_is in
     let ge = total (both_ways f) (spokes_to v n 3) in
-    let o = outer_sum f old.mesh new.mesh a.valid b.valid ge (pos 0) (total g lost) (g made) (omega (arith, ints, es)) (omega (arith, ints, before, after)) in
+    let o = outer_sum f old.mesh new.mesh a.valid b.valid ge (pos 0) (total g lost) (g made)
+    (omega (arith, ints, es)) (omega (arith, ints, before, after)) in
     let wrap : f (n 2) (n 3) ≡ f (n 2) (n 0) = ap (λ k. f (n 2) k) again in
     let back : f (n 3) v ≡ f (n 0) v = ap (λ k. f k v) again in
     omega (arith, ints, o, gone, come, wrap, back)
 
 -- ---- all steps
 -- the steps that take out a vertex with three faces, one after another, leave one face in its place
-fills_hole : {V D U F : Type 0} (c0 c1 c2 c3 c4 c5 : Contents V D U F) (o spoke z : ℕ) (made : FullFace F) → IsMeshWithData c0 → IsMeshWithData c2 → IsMeshWithData c3 → IsMeshWithData c5 → (w : IsFullWheel c0.mesh o)
-    → (h : IsHoleOfFour c2.mesh spoke z (origin c0.mesh o) (neighbour c0.mesh o 0) (neighbour c0.mesh o 1) (neighbour c0.mesh o 2))
+fills_hole : {V D U F : Type 0} (c0 c1 c2 c3 c4 c5 : Contents V D U F) (o spoke z : ℕ)
+    (made : FullFace F) → IsMeshWithData c0 → IsMeshWithData c2 → IsMeshWithData c3
+    → IsMeshWithData c5 → (w : IsFullWheel c0.mesh o)
+    → (h : IsHoleOfFour c2.mesh spoke z (origin c0.mesh o) (neighbour c0.mesh o 0)
+    (neighbour c0.mesh o 1) (neighbour c0.mesh o 2))
     → KeepsVertices c0 c5 → IsAlone c5.mesh (origin c0.mesh o)
-    → full_edges c1 ≡ full_edges c0 → LosesEdges c1 c2 (joins (origin c0.mesh o) (origin c0.mesh (rev o)) ∷ []) → LosesEdges c2 c3 (joins (origin c2.mesh spoke) (origin c2.mesh (rev spoke)) ∷ []) → LosesEdges c3 c4 (joins (origin c0.mesh o) (neighbour c0.mesh o 2) ∷ []) → full_edges c5 ≡ full_edges c4
-    → (third : FullFace F) → third.corners ≡ triangle_at c0.mesh (face_edge c0.mesh (face c0.mesh (turn c0.mesh (turn c0.mesh o)))) → made.value ≡ third.value
-    → IsPermutation (full_faces c0) (third ∷ full_faces c1) → LosesFaces c1 c2 (triangle_at c0.mesh o ∷ []) → LosesFaces c2 c3 (triangle_at c2.mesh spoke ∷ []) → full_faces c4 ≡ full_faces c3 → full_faces c5 ≡ full_faces c4 ++ made ∷ []
-    → HasCorners made (record { first = neighbour c0.mesh o 0; second = neighbour c0.mesh o 1; third = neighbour c0.mesh o 2 }) → KeepsOneOutline c0.mesh c5.mesh
+    → full_edges c1 ≡ full_edges c0
+    → LosesEdges c1 c2 (joins (origin c0.mesh o) (origin c0.mesh (rev o)) ∷ [])
+    → LosesEdges c2 c3 (joins (origin c2.mesh spoke) (origin c2.mesh (rev spoke)) ∷ [])
+    → LosesEdges c3 c4 (joins (origin c0.mesh o) (neighbour c0.mesh o 2) ∷ [])
+    → full_edges c5 ≡ full_edges c4
+    → (third : FullFace F) → third.corners
+    ≡ triangle_at c0.mesh (face_edge c0.mesh (face c0.mesh (turn c0.mesh (turn c0.mesh o))))
+    → made.value ≡ third.value
+    → IsPermutation (full_faces c0) (third ∷ full_faces c1)
+    → LosesFaces c1 c2 (triangle_at c0.mesh o ∷ [])
+    → LosesFaces c2 c3 (triangle_at c2.mesh spoke ∷ []) → full_faces c4 ≡ full_faces c3
+    → full_faces c5 ≡ full_faces c4 ++ made ∷ []
+    → HasCorners made (record {
+      first = neighbour c0.mesh o 0;
+      second = neighbour c0.mesh o 1;
+      third = neighbour c0.mesh o 2;
+    }) → KeepsOneOutline c0.mesh c5.mesh
     → FillsHole c0 c5 (origin c0.mesh o) (neighbour c0.mesh o)
-fills_hole {V} {D} {U} {F} c0 c1 c2 c3 c4 c5 o spoke z made whole0 whole2 whole3 whole5 w h same alone e01 e12 e23 e34 e45 third third_is value_is f01 f12 f23 f34 f45 made_is one_round =
+fills_hole {V} {D} {U} {F} c0 c1 c2 c3 c4 c5 o spoke z made whole0 whole2 whole3 whole5 w h same
+    alone e01 e12 e23 e34 e45 third third_is value_is f01 f12 f23 f34 f45 made_is one_round =
     let m = c0.mesh in
     let s = whole0.valid.sound in
     let v : ℕ = origin m o in
@@ -88,17 +136,28 @@ fills_hole {V} {D} {U} {F} c0 c1 c2 c3 c4 c5 o spoke z made whole0 whole2 whole3
     let at_two = fan_face c2.mesh spoke z v (n 0) (n 1) (n 2) whole2.valid.sound h in
     let a1 : LosesEdges c1 c2 (joins v (n 0) ∷ []) = e12 in
     let a2 : LosesEdges c2 c3 (joins v (n 1) ∷ []) = rw at_two.0 at e23 in
-    let from0 = one_more_gone IsBetween (full_edges c1) (full_edges c1) (full_edges c2) [] (joins v (n 0)) (none_gone IsBetween (full_edges c1)) a1 in
-    let from1 = one_more_gone IsBetween (full_edges c1) (full_edges c2) (full_edges c3) _ (joins v (n 1)) from0 a2 in
-    let from2 = one_more_gone IsBetween (full_edges c1) (full_edges c3) (full_edges c4) _ (joins v (n 2)) from1 e34 in
+    let from0 = one_more_gone IsBetween (full_edges c1) (full_edges c1) (full_edges c2) []
+    (joins v (n 0)) (none_gone IsBetween (full_edges c1)) a1 in
+    let from1 = one_more_gone IsBetween (full_edges c1) (full_edges c2) (full_edges c3) _
+    (joins v (n 1)) from0 a2 in
+    let from2 = one_more_gone IsBetween (full_edges c1) (full_edges c3) (full_edges c4) _
+    (joins v (n 2)) from1 e34 in
     let edges : LosesEdges c0 c5 (spokes_to v n 3) = rw (← e01, e45) from2 in
-    let b1 : LosesFaces c1 c2 (record { first = v; second = n 0; third = n 1 } ∷ []) = rw (first_face m o s w) at f12 in
-    let b2 : LosesFaces c2 c3 (record { first = v; second = n 1; third = n 2 } ∷ []) = rw at_two.1 at f23 in
-    let g0 = one_more_gone HasCorners (full_faces c1) (full_faces c1) (full_faces c2) [] (record { first = v; second = n 0; third = n 1 }) (none_gone HasCorners (full_faces c1)) b1 in
-    let g1 = one_more_gone HasCorners (full_faces c1) (full_faces c2) (full_faces c3) _ (record { first = v; second = n 1; third = n 2 }) g0 b2 in
-    let third_at : HasCorners third (record { first = v; second = n 2; third = n 3 }) = subst (HasCorners third) (third_face m o s w) (named_corners m (turn m (turn m o)) third s (wheel.z_in m o s w) w.wheel.third_inner third_is) in
+    let b1 : LosesFaces c1 c2 (record { first = v; second = n 0; third = n 1 } ∷ []) =
+    rw (first_face m o s w) at f12 in
+    let b2 : LosesFaces c2 c3 (record { first = v; second = n 1; third = n 2 } ∷ []) =
+    rw at_two.1 at f23 in
+    let g0 = one_more_gone HasCorners (full_faces c1) (full_faces c1) (full_faces c2) []
+    (record { first = v; second = n 0; third = n 1 })
+    (none_gone HasCorners (full_faces c1)) b1 in
+    let g1 = one_more_gone HasCorners (full_faces c1) (full_faces c2) (full_faces c3) _
+    (record { first = v; second = n 1; third = n 2 }) g0 b2 in
+    let third_at : HasCorners third (record { first = v; second = n 2; third = n 3 }) =
+    subst (HasCorners third) (third_face m o s w) (named_corners m (turn m (turn m o)) third s
+    (wheel.z_in m o s w) w.wheel.third_inner third_is) in
     let was = IsPermutation-trans _ _ _ f01 (IsPermutation-cons third _ _ g1.2) in
-    let is : IsPermutation (full_faces c5) (made ∷ full_faces c3) = rw (f45, f34) (IsPermutation-to_front (full_faces c3) made) in
+    let is : IsPermutation (full_faces c5) (made ∷ full_faces c3) =
+    rw (f45, f34) (IsPermutation-to_front (full_faces c3) made) in
     record {
       contents = same;
       alone = alone;
@@ -111,12 +170,15 @@ fills_hole {V} {D} {U} {F} c0 c1 c2 c3 c4 c5 o spoke z made whole0 whole2 whole3
       rest = full_faces c3;
       was = was;
       is = is;
-      outer = outer_filled c0 c5 v n (third ∷ g1.0) made (full_faces c3) (ap (λ k. origin m (rev k)) w.wheel.round) whole0 whole5 edges (third_at, g1.1) made_is was is;
+      outer = outer_filled c0 c5 v n (third ∷ g1.0) made (full_faces c3) (ap (λ k. origin m (rev k))
+          w.wheel.round) whole0 whole5 edges (third_at, g1.1) made_is was is;
       outline = one_round;
     }
 
 -- ---- what the calls ensure, and what they ask for
-module _ {V D U F : Type 0} (c0 c1 c2 c3 : Contents V D U F) (o face_is spoke pendant : ℕ) (w0 : IsMeshWithData c0) (round : IsWheel c0.mesh o) (is_third : face_is ≡ face c0.mesh (turn c0.mesh (turn c0.mesh o))) (opens : Opens c0.mesh c1.mesh face_is) where
+module _ {V D U F : Type 0} (c0 c1 c2 c3 : Contents V D U F) (o face_is spoke pendant : ℕ)
+    (w0 : IsMeshWithData c0) (round : IsWheel c0.mesh o) (is_third : face_is
+    ≡ face c0.mesh (turn c0.mesh (turn c0.mesh o))) (opens : Opens c0.mesh c1.mesh face_is) where
   abbrev m : Mesh
   m = c0.mesh
 
@@ -136,17 +198,22 @@ module _ {V D U F : Type 0} (c0 c1 c2 c3 : Contents V D U F) (o face_is spoke pe
   pub first_peelable : IsPeelable c1.mesh o
   first_peelable = peelable c1.mesh o (wheel.peelable_first m o s w c1.mesh opened_third)
 
-  module _ (w1 : IsMeshWithData c1) (one : Peels c1.mesh c2.mesh o) (spoke_is : spoke ≡ after_removal c1.mesh o (turn c1.mesh o)) where
-    four : (z : ℕ) × IsHoleOfFour c2.mesh spoke z (origin m o) (neighbour m o 0) (neighbour m o 1) (neighbour m o 2)
+  module _ (w1 : IsMeshWithData c1) (one : Peels c1.mesh c2.mesh o)
+      (spoke_is : spoke ≡ after_removal c1.mesh o (turn c1.mesh o)) where
+    four : (z : ℕ) × IsHoleOfFour c2.mesh spoke z (origin m o) (neighbour m o 0) (neighbour m o 1)
+        (neighbour m o 2)
     four = hole_of_four m c1.mesh c2.mesh o spoke s w opened_third one spoke_is
 
     -- the second edge may be peeled off once the first is gone
     pub second_peelable : IsPeelable c2.mesh spoke
     second_peelable = peelable c2.mesh spoke four.1.fan.peelable
 
-    module _ (w2 : IsMeshWithData c2) (two : Peels c2.mesh c3.mesh spoke) (pendant_is : pendant ≡ after_removal c2.mesh spoke (turn c2.mesh spoke)) where
-      three : IsHoleOfThree c3.mesh pendant (origin m o) (neighbour m o 0) (neighbour m o 1) (neighbour m o 2)
-      three = hole_of_three c2.mesh c3.mesh spoke four.0 pendant _ _ _ _ w2.valid.sound four.1 two pendant_is
+    module _ (w2 : IsMeshWithData c2) (two : Peels c2.mesh c3.mesh spoke)
+        (pendant_is : pendant ≡ after_removal c2.mesh spoke (turn c2.mesh spoke)) where
+      three : IsHoleOfThree c3.mesh pendant (origin m o) (neighbour m o 0) (neighbour m o 1)
+          (neighbour m o 2)
+      three = hole_of_three c2.mesh c3.mesh spoke four.0 pendant _ _ _ _ w2.valid.sound four.1
+          two pendant_is
 
       -- the last edge is in the mesh that the two steps leave
       pub pendant_within : pendant < length c3.mesh.half_edges
@@ -155,43 +222,111 @@ module _ {V D U F : Type 0} (c0 c1 c2 c3 : Contents V D U F) (o face_is spoke pe
       module _ (w3 : IsMeshWithData c3) where
         -- the last edge may be removed once the two others are gone
         pub pendant_removable : IsRemovable c3.mesh pendant
-        pendant_removable = removable c3.mesh pendant (removable_last c3.mesh pendant w3.valid.sound three.fan)
+        pendant_removable =
+            removable c3.mesh pendant (removable_last c3.mesh pendant w3.valid.sound three.fan)
 
-        module _ (c4 : Contents V D U F) (border : ℕ) (border_is : border ≡ after_removal c3.mesh pendant (next c3.mesh pendant)) (gone : Removes c3.mesh c4.mesh pendant) where
+        module _ (c4 : Contents V D U F) (border : ℕ) (border_is : border ≡ after_removal c3.mesh
+            pendant (next c3.mesh pendant)) (gone : Removes c3.mesh c4.mesh pendant) where
           -- the three edges round the hole are an open triangle once the last edge is gone
           pub border_open : IsOpenTriangle c4.mesh border
-          border_open = rw border_is (open_triangle c3.mesh c4.mesh pendant w3.valid.sound three.fan gone)
+          border_open =
+              rw border_is (open_triangle c3.mesh c4.mesh pendant w3.valid.sound three.fan gone)
 
           -- there is still room for a face before the hole is filled
-          pub has_room : length c1.faces + 1 ≤ c1.room.faces → c2 ≡ record c1 { mesh = c2.mesh; directed = c2.directed; undirected = c2.undirected; faces = c2.faces } → c3 ≡ record c2 { mesh = c3.mesh; directed = c3.directed; undirected = c3.undirected; faces = c3.faces }
-              → c4 ≡ record c3 { mesh = c4.mesh; directed = c4.directed; undirected = c4.undirected } → length c4.faces + 1 ≤ c4.room.faces
+          pub has_room : length c1.faces + 1 ≤ c1.room.faces → c2 ≡ record c1 {
+            mesh = c2.mesh;
+            directed = c2.directed;
+            undirected = c2.undirected;
+            faces = c2.faces;
+          }
+              → c3 ≡ record c2 {
+                mesh = c3.mesh;
+                directed = c3.directed;
+                undirected = c3.undirected;
+                faces = c3.faces;
+              }
+              → c4
+              ≡ record c3 { mesh = c4.mesh; directed = c4.directed; undirected = c4.undirected }
+              → length c4.faces + 1 ≤ c4.room.faces
           has_room spare a b d =
-              let r : c4.room.faces ≡ c1.room.faces = ap (λ (x : Contents V D U F). x.room.faces) d ∙ ap (λ (x : Contents V D U F). x.room.faces) b ∙ ap (λ (x : Contents V D U F). x.room.faces) a in
-              let n : length c4.faces ≡ length c3.faces = ap (λ (x : Contents V D U F). length x.faces) d in
-              omega (arith, spare, r, n, w1.fits.faces_fit, w2.fits.faces_fit, w3.fits.faces_fit, peels_faces _ _ _ one, peels_faces _ _ _ two)
+              let r : c4.room.faces ≡ c1.room.faces = ap (λ (x : Contents V D U F). x.room.faces) d
+              ∙ ap (λ (x : Contents V D U F). x.room.faces) b
+              ∙ ap (λ (x : Contents V D U F). x.room.faces) a in
+              let n : length c4.faces ≡ length c3.faces =
+              ap (λ (x : Contents V D U F). length x.faces) d in
+              omega (
+                arith,
+                spare,
+                r,
+                n,
+                w1.fits.faces_fit,
+                w2.fits.faces_fit,
+                w3.fits.faces_fit,
+                peels_faces _ _ _ one,
+                peels_faces _ _ _ two,
+              )
 
           -- the steps take out the vertex and fill the hole with one face
-          pub collapsed : (c5 : Contents V D U F) (value : F) → IsMeshWithData c5 → c1 ≡ record c0 { mesh = c1.mesh; faces = c1.faces } → GivesFace c0 c1 (triangle_at m (face_edge m face_is)) value → ends c1.mesh ≡ ends m
-              → KeepsVertices c1 c2 → LosesEdges c1 c2 (joins (origin c1.mesh o) (origin c1.mesh (rev o)) ∷ []) → LosesFaces c1 c2 (triangle_at c1.mesh o ∷ [])
-              → KeepsVertices c2 c3 → LosesEdges c2 c3 (joins (origin c2.mesh spoke) (origin c2.mesh (rev spoke)) ∷ []) → LosesFaces c2 c3 (triangle_at c2.mesh spoke ∷ [])
-              → c4 ≡ record c3 { mesh = c4.mesh; directed = c4.directed; undirected = c4.undirected } → LosesEdges c3 c4 (joins (origin c3.mesh pendant) (origin c3.mesh (rev pendant)) ∷ []) → triangles c4.mesh ≡ triangles c3.mesh
-              → ClosesLoop c4.mesh c5.mesh border → c5 ≡ record c4 { mesh = c5.mesh; faces = c5.faces } → full_faces c5 ≡ full_faces c4 ++ record { corners = triangle_at c4.mesh border; value = value } ∷ [] → ends c5.mesh ≡ ends c4.mesh
+          pub collapsed : (c5 : Contents V D U F) (value : F) → IsMeshWithData c5
+              → c1 ≡ record c0 { mesh = c1.mesh; faces = c1.faces }
+              → GivesFace c0 c1 (triangle_at m (face_edge m face_is)) value → ends c1.mesh ≡ ends m
+              → KeepsVertices c1 c2
+              → LosesEdges c1 c2 (joins (origin c1.mesh o) (origin c1.mesh (rev o)) ∷ [])
+              → LosesFaces c1 c2 (triangle_at c1.mesh o ∷ [])
+              → KeepsVertices c2 c3 → LosesEdges c2 c3
+              (joins (origin c2.mesh spoke) (origin c2.mesh (rev spoke)) ∷ [])
+              → LosesFaces c2 c3 (triangle_at c2.mesh spoke ∷ [])
+              → c4
+              ≡ record c3 { mesh = c4.mesh; directed = c4.directed; undirected = c4.undirected }
+              → LosesEdges c3 c4 (joins (origin c3.mesh pendant) (origin c3.mesh (rev pendant))
+              ∷ []) → triangles c4.mesh ≡ triangles c3.mesh
+              → ClosesLoop c4.mesh c5.mesh border → c5
+              ≡ record c4 { mesh = c5.mesh; faces = c5.faces } → full_faces c5 ≡ full_faces c4
+              ++ record { corners = triangle_at c4.mesh border; value = value } ∷ []
+              → ends c5.mesh ≡ ends c4.mesh
               → FillsHole c0 c5 (origin m o) (neighbour m o)
-          collapsed c5 value w5 k01 gives ends01 k12 e12 f12 k23 e23 f23 k34 e34 t34 closes k45 f45 ends45 =
-              let made : FullFace F = record { corners = triangle_at c4.mesh border; value = value } in
-              let third_face : FullFace F = record { corners = triangle_at m (face_edge m (face m third)); value = value } in
+          collapsed c5 value w5 k01 gives ends01 k12 e12 f12 k23 e23 f23 k34 e34 t34 closes
+              k45 f45 ends45 =
+              let made : FullFace F =
+              record { corners = triangle_at c4.mesh border; value = value } in
+              let third_face : FullFace F =
+              record { corners = triangle_at m (face_edge m (face m third)); value = value } in
               let op = opened_third in
-              let a : joins (origin c1.mesh o) (origin c1.mesh (rev o)) ≡ joins (origin m o) (origin m (rev o)) = λ i. joins (op.origin o i) (op.origin (rev o) i) in
-              let b : triangle_at c1.mesh o ≡ triangle_at m o = λ i. record { first = op.origin o i; second = (ap (origin c1.mesh) (op.next o) ∙ op.origin (next m o)) i; third = (ap (origin c1.mesh) (op.prev o) ∙ op.origin (prev m o)) i } in
-              let e01 : full_edges c1 ≡ full_edges c0 = λ i. full_edges_of (ends01 i) (ap (λ (x : Contents V D U F). x.undirected) k01 i) (ap (λ (x : Contents V D U F). x.directed) k01 i) in
-              let e45 : full_edges c5 ≡ full_edges c4 = λ i. full_edges_of (ends45 i) (ap (λ (x : Contents V D U F). x.undirected) k45 i) (ap (λ (x : Contents V D U F). x.directed) k45 i) in
-              let f34 : full_faces c4 ≡ full_faces c3 = λ i. full_faces_of (t34 i) (ap (λ (x : Contents V D U F). x.faces) k34 i) in
-              let last = last_spoke c3.mesh pendant (origin m o) (neighbour m o 0) (neighbour m o 1) (neighbour m o 2) w3.valid.sound pendant_within three in
-              let same = same_but c0 c4 c5 (same_but c0 c3 c4 (same_but c0 c2 c3 (same_but c0 c1 c2 (same_but_faces c0 c1 k01) k12) k23) (same_but_edges c3 c4 k34)) (same_but_faces c4 c5 k45) in
-              let at_v = alone_after c3.mesh c4.mesh pendant w3.valid.sound pendant_removable three.fan.pendant gone in
+              let a : joins (origin c1.mesh o) (origin c1.mesh (rev o)) ≡ joins (origin m o)
+              (origin m (rev o)) = λ i. joins (op.origin o i) (op.origin (rev o) i) in
+              let b : triangle_at c1.mesh o ≡ triangle_at m o = λ i. record {
+                first = op.origin o i;
+                second = (ap (origin c1.mesh) (op.next o) ∙ op.origin (next m o)) i;
+                third = (ap (origin c1.mesh) (op.prev o) ∙ op.origin (prev m o)) i;
+              } in
+              let e01 : full_edges c1 ≡ full_edges c0 =
+              λ i. full_edges_of (ends01 i) (ap (λ (x : Contents V D U F). x.undirected) k01 i)
+              (ap (λ (x : Contents V D U F). x.directed) k01 i) in
+              let e45 : full_edges c5 ≡ full_edges c4 =
+              λ i. full_edges_of (ends45 i) (ap (λ (x : Contents V D U F). x.undirected) k45 i)
+              (ap (λ (x : Contents V D U F). x.directed) k45 i) in
+              let f34 : full_faces c4 ≡ full_faces c3 =
+              λ i. full_faces_of (t34 i) (ap (λ (x : Contents V D U F). x.faces) k34 i) in
+              let last = last_spoke c3.mesh pendant (origin m o) (neighbour m o 0) (neighbour m o 1)
+              (neighbour m o 2) w3.valid.sound pendant_within three in
+              let same = same_but c0 c4 c5 (same_but c0 c3 c4
+              (same_but c0 c2 c3 (same_but c0 c1 c2 (same_but_faces c0 c1 k01) k12) k23)
+              (same_but_edges c3 c4 k34)) (same_but_faces c4 c5 k45) in
+              let at_v = alone_after c3.mesh c4.mesh pendant w3.valid.sound pendant_removable
+              three.fan.pendant gone in
               let alone : IsAlone c5.mesh (origin m o) = rw (closes.outs, ← three.start) at_v in
-              let corners = closed_corners c3.mesh c4.mesh pendant _ _ _ _ w3.valid.sound three gone in
-              let made_is : HasCorners made (record { first = neighbour m o 0; second = neighbour m o 1; third = neighbour m o 2 }) =
-              inr (inr (ap (triangle_at c4.mesh) border_is ∙ (λ i. record { first = corners.0 i; second = corners.1 i; third = corners.2 i }))) in
-              fills_hole c0 c1 c2 c3 c4 c5 o spoke four.0 made w0 w2 w3 w5 w four.1 same alone e01 (rw a at e12) e23 (rw last at e34) e45 third_face refl refl (rw is_third at gives) (rw b at f12) f23 f34 f45 made_is
-              (outline_filled m c1.mesh c2.mesh c3.mesh c4.mesh c5.mesh o spoke pendant border s w op one spoke_is w2.valid.sound two pendant_is w3.valid.sound gone border_is closes)
+              let corners =
+              closed_corners c3.mesh c4.mesh pendant _ _ _ _ w3.valid.sound three gone in
+              let made_is : HasCorners made (record
+              { first = neighbour m o 0; second = neighbour m o 1; third = neighbour m o 2 }) =
+              inr (inr (ap (triangle_at c4.mesh) border_is ∙ (λ i. record {
+                first = corners.0 i;
+                second = corners.1 i;
+                third = corners.2 i;
+              }))) in
+              fills_hole c0 c1 c2 c3 c4 c5 o spoke four.0 made w0 w2 w3 w5 w four.1 same alone e01
+              (rw a at e12) e23 (rw last at e34) e45 third_face refl refl (rw is_third at gives)
+              (rw b at f12) f23 f34 f45 made_is
+              (outline_filled m c1.mesh c2.mesh c3.mesh c4.mesh c5.mesh o spoke pendant border s w
+              op one spoke_is w2.valid.sound two pendant_is w3.valid.sound gone
+              border_is closes)

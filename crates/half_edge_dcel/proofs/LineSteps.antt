@@ -1,11 +1,13 @@
 -- A vertex of a line loses its edges.
-use Rattle.std.proofs.Common.{◌≡◌, ◌≢◌, ◌⊎◌, ℕ, ◌+◌, ◌*◌, ◌/◌, ◌%◌, ◌<◌, List, [], ◌∷◌, length, set, get_or, None, sym, ap, ◌∙◌, inl, inr, arith, map}
+use Rattle.std.proofs.Common.{◌≡◌, ◌≢◌, ◌⊎◌, ◌+◌, ◌*◌, ◌/◌, ◌%◌, ◌<◌, [], ◌∷◌, ◌∙◌}
+use Rattle.std.proofs.Common.{ℕ, List, length, set, get_or, None, sym, ap, inl, inr, arith, map}
 use Rattle.std.proofs.lemmas.Bool.{cases_eq}
 use Rattle.std.proofs.lemmas.Bool.Decides.{nat_tests}
 use Rattle.std.proofs.lemmas.Int.{ints}
 use Rattle.std.specs.Prelude.{ℤ, pos, ◌+ℤ◌}
 use Rattle.half_edge_links.specs.Flow.{total, around, both_ways}
-use Rattle.half_edge_links.specs.Mesh.{Mesh, origin, next, prev, face, out_edge, rev, AreSoundLinks, IsValidMesh}
+use Rattle.half_edge_links.specs.Mesh.{Mesh, origin, next, prev, face, out_edge, rev, AreSoundLinks}
+use Rattle.half_edge_links.specs.Mesh.{IsValidMesh}
 use Rattle.half_edge_links.specs.Outline.{Ends, ends, along, MovesEdge}
 use Rattle.half_edge_links.specs.Pass.{IsPassable, Passes}
 use Rattle.half_edge_links.specs.Peel.{turn}
@@ -18,30 +20,37 @@ use Rattle.half_edge_links.proofs.Growing.Passing.{IsBeside, beside}
 use Rattle.half_edge_links.proofs.Removing.TakenLists.{count_ends}
 use Rattle.half_edge_dcel.specs.Contents.{Contents, IsMeshWithData}
 use Rattle.half_edge_dcel.specs.Growth.{joins}
-use Rattle.half_edge_dcel.specs.Removal.{TakesOut, FullEdge, full_edges, full_edges_of, IsBetween, JoinsNeighbours, OuterChanges, LosesEdges, LeavesLine}
+use Rattle.half_edge_dcel.specs.Removal.{TakesOut, FullEdge, full_edges, full_edges_of, IsBetween}
+use Rattle.half_edge_dcel.specs.Removal.{JoinsNeighbours, OuterChanges, LosesEdges, LeavesLine}
 use Rattle.half_edge_dcel.proofs.TakenOut.{length-full_edges}
 use Rattle.half_edge_dcel.proofs.TakenEdges.{listed_ends, between}
 use Rattle.half_edge_dcel.proofs.TwoEdges.{item_at, one_written_one_taken}
 use Rattle.half_edge_dcel.proofs.Touching.{with_other_ends, full_edges-set}
-use Rattle.half_edge_dcel.proofs.OuterSums.{total-permutation, total_edges, either_way, edge_ends, outer_sum, ends_sum}
+use Rattle.half_edge_dcel.proofs.OuterSums.{total-permutation, total_edges, either_way, edge_ends}
+use Rattle.half_edge_dcel.proofs.OuterSums.{outer_sum, ends_sum}
 use Rattle.half_edge_dcel.proofs.Outlines.{empty_list}
 
 out_self : (e : ℕ) → out_after e e ≡ None
 out_self e = grind (arith, nat_tests)
 
 -- a vertex whose only edge goes has none
-pub alone_after : (m new : Mesh) (e : ℕ) → AreSoundLinks m → IsRemovable m e → next m (rev e) ≡ e → Removes m new e → (origin m e < length new.out_edges) × (out_edge new (origin m e) ≡ None)
+pub alone_after : (m new : Mesh) (e : ℕ) → AreSoundLinks m → IsRemovable m e → next m (rev e) ≡ e
+    → Removes m new e → (origin m e < length new.out_edges) × (out_edge new (origin m e) ≡ None)
 alone_after m new e s can free r =
-    let v_in : origin m e < length new.out_edges = omega (arith, (s.edges e can.within).origin_in, r.vertex_count) in
+    let v_in : origin m e < length new.out_edges =
+    omega (arith, (s.edges e can.within).origin_in, r.vertex_count) in
     let none : out_after e (next m (rev e)) ≡ None = ap (out_after e) free ∙ out_self e in
     (v_in, (r.renames.vertices (origin m e) v_in).out ∙ ap (renamed _) (r.unlinks.out ∙ none))
 
 -- the edge before the other side of an edge comes next to it
-pub after_turn : (m : Mesh) (h g : ℕ) → AreSoundLinks m → h < length m.half_edges → turn m h ≡ g → next m (rev g) ≡ h
-after_turn m h g s within is = ap (next m) (ap rev (sym is) ∙ rev-rev (prev m h)) ∙ (s.edges h within).next_prev
+pub after_turn : (m : Mesh) (h g : ℕ) → AreSoundLinks m → h < length m.half_edges → turn m h ≡ g
+    → next m (rev g) ≡ h
+after_turn m h g s within is =
+    ap (next m) (ap rev (sym is) ∙ rev-rev (prev m h)) ∙ (s.edges h within).next_prev
 
 -- a vertex with two edges can be passed
-pub passable : (m : Mesh) (o : ℕ) → AreSoundLinks m → o < length m.half_edges → m.face_edges ≡ [] → turn m (turn m o) ≡ o → origin m (rev o) ≢ origin m (rev (turn m o)) → IsPassable m (rev o)
+pub passable : (m : Mesh) (o : ℕ) → AreSoundLinks m → o < length m.half_edges → m.face_edges ≡ []
+    → turn m (turn m o) ≡ o → origin m (rev o) ≢ origin m (rev (turn m o)) → IsPassable m (rev o)
 passable m o s within none two corners =
     let twin_in = rev_within o _ s.even within in
     let other_in = rev_within (prev m o) _ s.even (s.edges o within).prev_in in
@@ -55,11 +64,14 @@ passable m o s within none two corners =
     }
 
 -- no inner face
-no_inner : (m : Mesh) (h : ℕ) → AreSoundLinks m → m.face_edges ≡ [] → h < length m.half_edges → face m h ≡ 0
+no_inner : (m : Mesh) (h : ℕ) → AreSoundLinks m → m.face_edges ≡ [] → h < length m.half_edges
+    → face m h ≡ 0
 no_inner m h s none within = omega (arith, (s.edges h within).face_in, ap length none)
 
 -- an end of a line
-pub removable_end : (m : Mesh) (o : ℕ) → IsValidMesh m → o < length m.half_edges → m.face_edges ≡ [] → turn m o ≡ o → (next m o ≡ rev o → prev m o ≡ rev o → length m.half_edges ≡ 2) → IsRemovable m o
+pub removable_end : (m : Mesh) (o : ℕ) → IsValidMesh m → o < length m.half_edges → m.face_edges ≡ []
+    → turn m o ≡ o → (next m o ≡ rev o → prev m o ≡ rev o → length m.half_edges ≡ 2)
+    → IsRemovable m o
 removable_end m o v within none one whole = record {
   within = within;
   outer = no_inner m o v.sound none within;
@@ -68,7 +80,8 @@ removable_end m o v within none one whole = record {
 }
 
 -- the edge that is left hanging after one passed its vertex
-module _ (m mid : Mesh) (e : ℕ) (s : AreSoundLinks m) (can : IsPassable m e) (i : Passes m mid e (rev (next m e)) (next m e)) where
+module _ (m mid : Mesh) (e : ℕ) (s : AreSoundLinks m) (can : IsPassable m e)
+    (i : Passes m mid e (rev (next m e)) (next m e)) where
   t : IsBeside m e
   t = beside m e s can
 
@@ -94,13 +107,17 @@ module _ (m mid : Mesh) (e : ℕ) (s : AreSoundLinks m) (can : IsPassable m e) (
           let here = s.edges e can.within in
           let back = s.edges l p.back_in in
           elim (cases_eq l (prev m (rev l))) [
-            | inl same ↦ here.proper (sym (rev-rev l) ∙ ap rev (sym a ∙ ap (next mid) same ∙ i.next_before) ∙ rev-rev e)
-            | inr off ↦ off (sym back.prev_next ∙ ap (prev m) (sym (i.other_next l p.back_in here.proper off (λ q. rev_differs l (sym q))) ∙ a))
+            | inl same ↦ here.proper
+                (sym (rev-rev l) ∙ ap rev (sym a ∙ ap (next mid) same ∙ i.next_before) ∙ rev-rev e)
+            | inr off ↦ off (sym back.prev_next ∙ ap (prev m)
+                (sym (i.other_next l p.back_in here.proper off (λ q. rev_differs l (sym q))) ∙ a))
           ]
 
 -- ---- the edges with their data
-module _ {V D U F : Type 0} (c0 c2 : Contents V D U F) (mid : Mesh) (e : ℕ) (whole : IsMeshWithData c0) (can : IsPassable c0.mesh e)
-    (moves : MovesEdge c0.mesh mid e (origin c0.mesh e) (origin c0.mesh (rev (next c0.mesh e)))) (taken : TakesOut (full_edges_of (ends mid) c0.undirected c0.directed) (full_edges c2) (next c0.mesh e / 2)) where
+module _ {V D U F : Type 0} (c0 c2 : Contents V D U F) (mid : Mesh) (e : ℕ)
+    (whole : IsMeshWithData c0) (can : IsPassable c0.mesh e) (moves : MovesEdge c0.mesh mid e
+    (origin c0.mesh e) (origin c0.mesh (rev (next c0.mesh e)))) (taken : TakesOut
+    (full_edges_of (ends mid) c0.undirected c0.directed) (full_edges c2) (next c0.mesh e / 2)) where
   abbrev m : Mesh
   m = c0.mesh
 
@@ -129,20 +146,30 @@ module _ {V D U F : Type 0} (c0 c2 : Contents V D U F) (mid : Mesh) (e : ℕ) (w
   abbrev turned : FullEdge D U → FullEdge D U
   turned x = record x { source = (along e u w).source; target = (along e u w).target }
 
-  moved_is : (x : FullEdge D U) → x ≡ get_or old (e / 2) x → ((x.source ≡ u) × (turned x ≡ record x { source = u; target = w })) ⊎ ((x.source ≡ v) × (turned x ≡ record x { source = w; target = u }))
+  moved_is : (x : FullEdge D U) → x ≡ get_or old (e / 2) x
+      → ((x.source ≡ u) × (turned x ≡ record x { source = u; target = w }))
+      ⊎ ((x.source ≡ v) × (turned x ≡ record x { source = w; target = u }))
   moved_is x is =
-      let at = listed_ends m m us us ds ds e s whole.fits.directed_fit whole.fits.undirected_fit can.within x is in
+      let at = listed_ends m m us us ds ds e s whole.fits.directed_fit whole.fits.undirected_fit
+      can.within x is in
       elim (cases_eq (e % 2) 0) [
         | inl q ↦
             let e_is : 2 * (e / 2) ≡ e = omega (arith, q) in
             let p : along e u w ≡ record { source = u; target = w } = grind (arith, nat_tests, q) in
-            inl (at.0 ∙ ap (origin m) e_is, ap (λ (y : Ends). record x { source = y.source; target = y.target }) p)
+            inl (
+              at.0 ∙ ap (origin m) e_is,
+              ap (λ (y : Ends). record x { source = y.source; target = y.target }) p,
+            )
         | inr odd ↦
             let e_is : 2 * (e / 2) + 1 ≡ e = omega (arith, odd) in
             let zero : (2 * (e / 2)) % 2 ≡ 0 = omega arith in
             let t_is : 2 * (e / 2) ≡ rev e = sym (rev_of_odd (2 * (e / 2)) zero) ∙ ap rev e_is in
-            let p : along e u w ≡ record { source = w; target = u } = grind (arith, nat_tests, odd) in
-            inr (at.0 ∙ ap (origin m) t_is, ap (λ (y : Ends). record x { source = y.source; target = y.target }) p)
+            let p : along e u w ≡ record { source = w; target = u } =
+            grind (arith, nat_tests, odd) in
+            inr (
+              at.0 ∙ ap (origin m) t_is,
+              ap (λ (y : Ends). record x { source = y.source; target = y.target }) p,
+            )
       ]
 
   -- the two edges of vertex v give way to one between its neighbours
@@ -158,13 +185,19 @@ module _ {V D U F : Type 0} (c0 c2 : Contents V D U F) (mid : Mesh) (e : ℕ) (w
       let count = length-full_edges (ends m) us ds us_fit ds_fit in
       let in_old : e / 2 < length old = rw count in_ends in
       let x = item_at old (e / 2) in_old in
-      let written : full_edges_of (ends mid) us ds ≡ set old (e / 2) (turned x.0) = ap (λ es. full_edges_of es us ds) moves ∙ full_edges-set (ends m) us ds (e / 2) (along e u w) x.0 us_fit ds_fit in_ends ∙ ap (λ y. set old (e / 2) (turned y)) (sym x.1) in
+      let written : full_edges_of (ends mid) us ds ≡ set old (e / 2) (turned x.0) =
+      ap (λ es. full_edges_of es us ds) moves
+      ∙ full_edges-set (ends m) us ds (e / 2) (along e u w) x.0 us_fit ds_fit in_ends
+      ∙ ap (λ y. set old (e / 2) (turned y)) (sym x.1) in
       let off : e / 2 ≢ next m e / 2 = λ q. halves_apart e (next m e) here.proper can.apart q in
-      let two = one_written_one_taken old (full_edges_of (ends mid) us ds) (full_edges c2) (e / 2) (next m e / 2) x.0 (turned x.0) off in_old x.1 written taken in
-      let lost_is = between m m us us ds ds (next m e) s whole.fits.directed_fit whole.fits.undirected_fit here.next_in two.0 two.1 in
+      let two = one_written_one_taken old (full_edges_of (ends mid) us ds) (full_edges c2) (e / 2)
+      (next m e / 2) x.0 (turned x.0) off in_old x.1 written taken in
+      let lost_is = between m m us us ds ds
+      (next m e) s whole.fits.directed_fit whole.fits.undirected_fit here.next_in two.0 two.1 in
       record {
         kept = x.0;
-        kept_is = between m m us us ds ds e s whole.fits.directed_fit whole.fits.undirected_fit can.within x.0 x.1;
+        kept_is = between m m us us ds ds e s whole.fits.directed_fit whole.fits.undirected_fit
+            can.within x.0 x.1;
         moved = turned x.0;
         moved_is = moved_is x.0 x.1;
         lost = two.0;
@@ -177,7 +210,8 @@ module _ {V D U F : Type 0} (c0 c2 : Contents V D U F) (mid : Mesh) (e : ℕ) (w
       -- two edges with one index as undirected ones are the same or the two sides
       halves_apart : (a b : ℕ) → b ≢ a → b ≢ rev a → a / 2 ≢ b / 2
       halves_apart a b p q same = elim (cases_eq (a % 2) 0) [
-        | inl even ↦ q (let r : b ≡ a + 1 = omega (arith, p, same, even) in r ∙ sym (rev_of_even a even))
+        | inl even ↦
+            q (let r : b ≡ a + 1 = omega (arith, p, same, even) in r ∙ sym (rev_of_even a even))
         | inr odd ↦
             let zero : (2 * (b / 2)) % 2 ≡ 0 = omega arith in
             let a_is : 2 * (b / 2) + 1 ≡ a = omega (arith, same, odd) in
@@ -188,35 +222,50 @@ module _ {V D U F : Type 0} (c0 c2 : Contents V D U F) (mid : Mesh) (e : ℕ) (w
 -- ---- the outer edges
 -- the only edge of a vertex goes
 outer_end : (m new : Mesh) (v u : ℕ) → IsValidMesh m → IsValidMesh new → triangles new ≡ triangles m
-    → ((f : ℕ → ℕ → ℤ) → total (both_ways f) (ends m) ≡ total (both_ways f) (joins v u ∷ []) +ℤ total (both_ways f) (ends new))
-    → OuterChanges m new (joins v u ∷ joins u v ∷ []) []
+    → ((f : ℕ → ℕ → ℤ) → total (both_ways f) (ends m) ≡ total (both_ways f) (joins v u ∷ [])
+    +ℤ total (both_ways f) (ends new)) → OuterChanges m new (joins v u ∷ joins u v ∷ []) []
 outer_end m new v u valid valid' same sums f =
-    let a = outer_sum f m new valid valid' (f v u +ℤ f u v) (pos 0) (pos 0) (pos 0) (omega (arith, ints, sums f)) (ap (λ ts. total (around f) ts +ℤ pos 0) same) in
+    let a = outer_sum f m new valid valid' (f v u +ℤ f u v) (pos 0) (pos 0) (pos 0)
+    (omega (arith, ints, sums f)) (ap (λ ts. total (around f) ts +ℤ pos 0) same) in
     omega (arith, ints, a)
 
 -- two edges of a vertex give way to one
-pub outer_joined : {V D U F : Type 0} (old new : Contents V D U F) (v u w : ℕ) → IsMeshWithData old → IsMeshWithData new → triangles new.mesh ≡ triangles old.mesh → JoinsNeighbours old new v u w
-    → OuterChanges old.mesh new.mesh (joins v u ∷ joins u v ∷ joins v w ∷ joins w v ∷ []) (joins u w ∷ joins w u ∷ [])
+pub outer_joined : {V D U F : Type 0} (old new : Contents V D U F) (v u w : ℕ) → IsMeshWithData old
+    → IsMeshWithData new → triangles new.mesh ≡ triangles old.mesh → JoinsNeighbours old new v u w
+    → OuterChanges old.mesh new.mesh (joins v u ∷ joins u v ∷ joins v w ∷ joins w v ∷ [])
+    (joins u w ∷ joins w u ∷ [])
 outer_joined {V} {D} {U} {F} old new v u w a b same j f =
     let g : FullEdge D U → ℤ = λ x. both_ways f (edge_ends x) in
-    let moved_is : IsBetween j.moved (joins u w) = elim j.moved_is [ inl q ↦ inl (ap (λ (x : FullEdge D U). x.source) q.1, ap (λ (x : FullEdge D U). x.target) q.1) | inr q ↦ inr (ap (λ (x : FullEdge D U). x.source) q.1, ap (λ (x : FullEdge D U). x.target) q.1) ] in
+    let moved_is : IsBetween j.moved (joins u w) = elim j.moved_is [
+      | inl q ↦
+          inl (ap (λ (x : FullEdge D U). x.source) q.1, ap (λ (x : FullEdge D U). x.target) q.1)
+      | inr q ↦
+          inr (ap (λ (x : FullEdge D U). x.source) q.1, ap (λ (x : FullEdge D U). x.target) q.1)
+    ] in
     let before = sym (total_edges f old a) ∙ sym (total-permutation g _ _ j.was) in
     let after = sym (total_edges f new b) ∙ sym (total-permutation g _ _ j.is) in
     let k = either_way f j.kept (joins u v) j.kept_is in
     let n = either_way f j.moved (joins u w) moved_is in
     let l = either_way f j.lost (joins v w) j.lost_is in
-    let all = outer_sum f old.mesh new.mesh a.valid b.valid (g j.lost +ℤ g j.kept) (g j.moved) (pos 0) (pos 0) (omega (arith, ints, before, after)) (ap (λ ts. total (around f) ts +ℤ pos 0) same) in
+    let all = outer_sum f old.mesh new.mesh a.valid b.valid (g j.lost +ℤ g j.kept) (g j.moved)
+    (pos 0) (pos 0) (omega (arith, ints, before, after))
+    (ap (λ ts. total (around f) ts +ℤ pos 0) same) in
     omega (arith, ints, k, n, l, all)
 
 -- ---- the steps
 module _ {V D U F : Type 0} where
   -- a mesh without data of faces has no inner face
-  pub no_inner_face : (c : Contents V D U F) → IsMeshWithData c → length c.faces ≡ 0 → c.mesh.face_edges ≡ []
+  pub no_inner_face : (c : Contents V D U F) → IsMeshWithData c → length c.faces ≡ 0
+      → c.mesh.face_edges ≡ []
   no_inner_face c w none = empty_list c.mesh.face_edges (sym w.fits.faces_fit ∙ none)
 
   -- the only edge of a vertex goes
-  pub end_left : (old new : Contents V D U F) (out : ℕ) → IsMeshWithData old → IsMeshWithData new → turn old.mesh out ≡ out → (can : IsRemovable old.mesh out) → new ≡ record old { mesh = new.mesh; directed = new.directed; undirected = new.undirected } → Removes old.mesh new.mesh out
-      → LosesEdges old new (joins (origin old.mesh out) (origin old.mesh (rev out)) ∷ []) → triangles new.mesh ≡ triangles old.mesh → LeavesLine old new (origin old.mesh out)
+  pub end_left : (old new : Contents V D U F) (out : ℕ) → IsMeshWithData old → IsMeshWithData new
+      → turn old.mesh out ≡ out → (can : IsRemovable old.mesh out)
+      → new ≡ record old { mesh = new.mesh; directed = new.directed; undirected = new.undirected }
+      → Removes old.mesh new.mesh out
+      → LosesEdges old new (joins (origin old.mesh out) (origin old.mesh (rev out)) ∷ [])
+      → triangles new.mesh ≡ triangles old.mesh → LeavesLine old new (origin old.mesh out)
   end_left old new out a b one can contents r edges same =
       let m = old.mesh in
       let v : ℕ = origin m out in
@@ -225,34 +274,58 @@ module _ {V D U F : Type 0} where
       record {
         contents = contents;
         alone = alone_after m new.mesh out s can (after_turn m out out s can.within one) r;
-        how = inr (inl (u, (λ q. a.valid.apart out can.within (sym q)), edges, outer_end m new.mesh v u a.valid b.valid same (λ f. ends_sum f old new _ a b edges)));
+        how = inr (inl (
+          u,
+          (λ q. a.valid.apart out can.within (sym q)),
+          edges,
+          outer_end m new.mesh v u a.valid b.valid same (λ f. ends_sum f old new _ a b edges),
+        ));
       }
 
   -- two edges of a vertex give way to one
-  pub middle_left : (c0 c1 c2 : Contents V D U F) (out lost : ℕ) → IsMeshWithData c0 → IsMeshWithData c1 → IsMeshWithData c2 → (can : IsPassable c0.mesh (rev out)) → lost ≡ next c0.mesh (rev out) → c1 ≡ record c0 { mesh = c1.mesh }
-      → Passes c0.mesh c1.mesh (rev out) (rev (next c0.mesh (rev out))) (next c0.mesh (rev out)) → MovesEdge c0.mesh c1.mesh (rev out) (origin c0.mesh (rev out)) (origin c0.mesh (rev (next c0.mesh (rev out))))
-      → c2 ≡ record c1 { mesh = c2.mesh; directed = c2.directed; undirected = c2.undirected } → Removes c1.mesh c2.mesh lost → TakesOut (full_edges c1) (full_edges c2) (lost / 2) → triangles c2.mesh ≡ triangles c1.mesh → LeavesLine c0 c2 (origin c0.mesh out)
+  pub middle_left : (c0 c1 c2 : Contents V D U F) (out lost : ℕ) → IsMeshWithData c0
+      → IsMeshWithData c1 → IsMeshWithData c2 → (can : IsPassable c0.mesh (rev out))
+      → lost ≡ next c0.mesh (rev out) → c1 ≡ record c0 { mesh = c1.mesh }
+      → Passes c0.mesh c1.mesh (rev out) (rev (next c0.mesh (rev out))) (next c0.mesh (rev out))
+      → MovesEdge c0.mesh c1.mesh (rev out) (origin c0.mesh (rev out))
+      (origin c0.mesh (rev (next c0.mesh (rev out))))
+      → c2 ≡ record c1 { mesh = c2.mesh; directed = c2.directed; undirected = c2.undirected }
+      → Removes c1.mesh c2.mesh lost → TakesOut (full_edges c1) (full_edges c2) (lost / 2)
+      → triangles c2.mesh ≡ triangles c1.mesh → LeavesLine c0 c2 (origin c0.mesh out)
   middle_left c0 c1 c2 out lost w0 w1 w2 can is passed links moves contents r taken same =
       let m = c0.mesh in
       let e : ℕ = rev out in
       let l : ℕ = next m e in
       let s = w0.valid.sound in
       let p : IsBeside m e = beside m e s can in
-      let us_is : c1.undirected ≡ c0.undirected = ap (λ (x : Contents V D U F). x.undirected) passed in
+      let us_is : c1.undirected ≡ c0.undirected =
+      ap (λ (x : Contents V D U F). x.undirected) passed in
       let ds_is : c1.directed ≡ c0.directed = ap (λ (x : Contents V D U F). x.directed) passed in
-      let mid_is : full_edges c1 ≡ full_edges_of (ends c1.mesh) c0.undirected c0.directed = λ i. full_edges_of (ends c1.mesh) (us_is i) (ds_is i) in
-      let taken' : TakesOut (full_edges_of (ends c1.mesh) c0.undirected c0.directed) (full_edges c2) (l / 2) = rw (mid_is, is) at taken in
+      let mid_is : full_edges c1 ≡ full_edges_of (ends c1.mesh) c0.undirected c0.directed =
+      λ i. full_edges_of (ends c1.mesh) (us_is i) (ds_is i) in
+      let taken' : TakesOut (full_edges_of (ends c1.mesh) c0.undirected c0.directed) (full_edges c2)
+      (l / 2) = rw (mid_is, is) at taken in
       let j = are_joined c0 c2 c1.mesh e w0 can moves taken' in
       let u : ℕ = origin m e in
       let w : ℕ = origin m (rev l) in
       let v_is : origin m (rev e) ≡ origin m out = ap (origin m) (rev-rev out) in
       let r' : Removes c1.mesh c2.mesh l = rw is at r in
-      let gone = alone_after c1.mesh c2.mesh l w1.valid.sound (removable_hanging m c1.mesh e s can links) links.next_there r' in
-      let at_v : origin c1.mesh l ≡ origin m out = links.other_origins l p.back_in p.back-twin ∙ p.start ∙ v_is in
-      let none : triangles c2.mesh ≡ triangles m = same ∙ ap (map (triangle_at c1.mesh)) (links.face_edges ∙ can.one_face) ∙ sym (ap (map (triangle_at m)) can.one_face) in
+      let gone = alone_after c1.mesh c2.mesh l w1.valid.sound
+      (removable_hanging m c1.mesh e s can links) links.next_there r' in
+      let at_v : origin c1.mesh l ≡ origin m out =
+      links.other_origins l p.back_in p.back-twin ∙ p.start ∙ v_is in
+      let none : triangles c2.mesh ≡ triangles m = same ∙ ap (map (triangle_at c1.mesh))
+      (links.face_edges ∙ can.one_face) ∙ sym (ap (map (triangle_at m)) can.one_face) in
       let joined : JoinsNeighbours c0 c2 (origin m out) u w = rw v_is at j in
       record {
-        contents = contents ∙ ap (λ (x : Contents V D U F). record x { mesh = c2.mesh; directed = c2.directed; undirected = c2.undirected }) passed;
+        contents = contents ∙ ap (λ (x : Contents V D U F). record x
+            { mesh = c2.mesh; directed = c2.directed; undirected = c2.undirected }) passed;
         alone = rw at_v at gone;
-        how = inr (inr (u, w, can.corners, joined, outer_joined c0 c2 (origin m out) u w w0 w2 none joined));
+        how = inr (inr (
+          u,
+          w,
+          can.corners,
+          joined,
+          outer_joined c0 c2 (origin m out) u w w0 w2 none joined,
+        ));
       }

@@ -1,5 +1,7 @@
 -- A vertex without edges changes no outer edge and no face; the list of outer edges, edge by edge.
-use Rattle.std.proofs.Common.{◌≡◌, ℕ, zero, suc, ◌<◌, List, [], ◌∷◌, ◌++◌, length, get_or, Option, None, refl, ap, inl, inr, arith}
+use Rattle.std.proofs.Common.{◌≡◌, ◌<◌, [], ◌∷◌, ◌++◌}
+use Rattle.std.proofs.Common.{ℕ, zero, suc, List, length, get_or, Option, None, refl, ap, inl, inr}
+use Rattle.std.proofs.Common.{arith}
 use Rattle.std.proofs.lemmas.Bool.{cases_lt}
 use Rattle.std.proofs.lemmas.Bool.Decides.{nat_tests}
 use Rattle.half_edge_links.specs.Flow.{outer_among}
@@ -9,17 +11,22 @@ use Rattle.half_edge_links.specs.Outline.{IsOuterEdge, OuterChanges, KeepsOuter}
 use Rattle.half_edge_links.specs.Triangles.{triangles}
 
 outer_in : (m : Mesh) (h a b : ℕ) → IsOuterEdge m h a b → IsOuterEdge (with_vertex m) h a b
-outer_in m h a b o = record { within = o.within; outer = o.outer; source = o.source; target = o.target }
+outer_in m h a b o =
+    record { within = o.within; outer = o.outer; source = o.source; target = o.target }
 
 outer_out : (m : Mesh) (h a b : ℕ) → IsOuterEdge (with_vertex m) h a b → IsOuterEdge m h a b
-outer_out m h a b o = record { within = o.within; outer = o.outer; source = o.source; target = o.target }
+outer_out m h a b o =
+    record { within = o.within; outer = o.outer; source = o.source; target = o.target }
 
--- what changes the outer edges of a mesh with one more lonely vertex changes those of the mesh alike
-pub outer_changes : (m new : Mesh) (Gone : ℕ → Type 0) (Made : ℕ → ℕ → ℕ → Type 0) → OuterChanges (with_vertex m) new Gone Made → OuterChanges m new Gone Made
+-- what changes the outer edges of a mesh with one more lonely vertex changes those of the mesh
+-- alike
+pub outer_changes : (m new : Mesh) (Gone : ℕ → Type 0) (Made : ℕ → ℕ → ℕ → Type 0)
+    → OuterChanges (with_vertex m) new Gone Made → OuterChanges m new Gone Made
 outer_changes m new Gone Made o = record {
   kept = λ h a b was here. o.kept h a b (outer_in m h a b was) here;
   made = o.made;
-  only = λ h a b is. elim (o.only h a b is) [ inl old ↦ inl (outer_out m h a b old.0, old.1) | inr new ↦ inr new ];
+  only = λ h a b is. elim
+      (o.only h a b is) [ inl old ↦ inl (outer_out m h a b old.0, old.1) | inr new ↦ inr new ];
 }
 
 -- what keeps the outer edges of a mesh with one more lonely vertex keeps those of the mesh
@@ -56,12 +63,14 @@ pub no_faces : (m : Mesh) → AreSoundLinks m → length m.half_edges ≡ 0 → 
 no_faces m s none = empty_list m.face_edges (no_face m s none)
 
 -- an edge to a new vertex makes no face
-pub no_faces_hung : (m : Mesh) (x v : ℕ) → m.face_edges ≡ [] → triangles (hung (with_vertex m) x v) ≡ []
+pub no_faces_hung : (m : Mesh) (x v : ℕ) → m.face_edges ≡ []
+    → triangles (hung (with_vertex m) x v) ≡ []
 unfolding hung
 no_faces_hung m x v none = rw none refl
 
 -- an outer edge comes first, and another edge is passed over
-pub listed : (m : Mesh) (k : ℕ) → face m k ≡ 0 → outer_among m (suc k) ≡ record { source = origin m k; target = origin m (rev k) } ∷ outer_among m k
+pub listed : (m : Mesh) (k : ℕ) → face m k ≡ 0 → outer_among m (suc k)
+    ≡ record { source = origin m k; target = origin m (rev k) } ∷ outer_among m k
 listed m k is = grind (arith, nat_tests)
 
 -- an edge of an inner face is passed over in the list of outer edges

@@ -1,11 +1,17 @@
--- Edges of an inner vertex are turned away from it, one after the other, and what that makes of the lists of edges and faces.
-use Rattle.std.proofs.Common.{◌≡◌, ◌≢◌, ℕ, zero, suc, ◌-◌, ◌/◌, ◌<◌, ◌≤◌, true, false, not, List, ◌∷◌, length, set, get_or, refl, sym, ap, ◌∙◌, inl, inr, arith, subst, ◌+◌, [], ◌++◌}
+-- Edges of an inner vertex are turned away from it, one after the other, and what that makes of the
+-- lists of edges and faces.
+use Rattle.std.proofs.Common.{◌≡◌, ◌≢◌, ◌-◌, ◌/◌, ◌<◌, ◌≤◌, ◌∷◌, ◌∙◌, ◌+◌, [], ◌++◌}
+use Rattle.std.proofs.Common.{ℕ, zero, suc, true, false, not, List, length, set, get_or, refl, sym}
+use Rattle.std.proofs.Common.{ap, inl, inr, arith, subst}
 use Rattle.std.specs.List.{filter, All, AllZip, Contains}
 use Rattle.std.specs.List.Sorted.{IsPermutation}
 use Rattle.std.proofs.lemmas.Bool.{cases_eq}
 use Rattle.std.proofs.lemmas.List.{length-map, length-set, get_or-set_other}
-use Rattle.std.proofs.lemmas.List.Sorted.{IsPermutation-trans, IsPermutation-refl, IsPermutation-cons, IsPermutation-append_right, IsPermutation-middle}
-use Rattle.std.proofs.lemmas.List.Elements.{All-cons, All-nil, All-weaker, Contains-append_right, Contains-get_or}
+use Rattle.std.proofs.lemmas.List.Sorted.{IsPermutation-trans, IsPermutation-refl}
+use Rattle.std.proofs.lemmas.List.Sorted.{IsPermutation-cons, IsPermutation-append_right}
+use Rattle.std.proofs.lemmas.List.Sorted.{IsPermutation-middle}
+use Rattle.std.proofs.lemmas.List.Elements.{All-cons, All-nil, All-weaker, Contains-append_right}
+use Rattle.std.proofs.lemmas.List.Elements.{Contains-get_or}
 use Rattle.half_edge_links.specs.Flow.{outer_among, outline}
 use Rattle.half_edge_links.specs.Mesh.{Mesh, origin, next, prev, face, rev, AreSoundLinks, IsInner}
 use Rattle.half_edge_links.specs.Outline.{Ends, ends, along, KeepsOuter, MovesEdge}
@@ -20,22 +26,31 @@ use Rattle.half_edge_links.specs.Flip.{Flips}
 use Rattle.half_edge_links.specs.Hull.{KeepsOneOutline}
 use Rattle.half_edge_dcel.specs.Contents.{Contents, IsMeshWithData}
 use Rattle.half_edge_dcel.specs.Growth.{joins}
-use Rattle.half_edge_dcel.specs.Removal.{FullEdge, FullFace, IsBetween, HasCorners, full_edges, full_edges_of, full_faces, full_faces_of, spokes_to}
+use Rattle.half_edge_dcel.specs.Removal.{FullEdge, FullFace, IsBetween, HasCorners, full_edges}
+use Rattle.half_edge_dcel.specs.Removal.{full_edges_of, full_faces, full_faces_of, spokes_to}
 use Rattle.half_edge_dcel.proofs.TakenEdges.{listed_face, between, named_corners}
 use Rattle.half_edge_dcel.proofs.TakenOut.{length-full_edges, get_or-full_faces}
 use Rattle.half_edge_dcel.proofs.TwoEdges.{item_at}
 use Rattle.half_edge_dcel.specs.Hole.{IsHub, HasDataOf, HasFreeTip, fan_edges, fan_faces}
 use Rattle.half_edge_dcel.proofs.Outlines.{listed, passed_over}
-use Rattle.half_edge_dcel.proofs.Filtered.{filter_gains, filter_loses, filter_stays, Contains-filter}
-use Rattle.half_edge_dcel.proofs.Touching.{has_corner, lacks_corner, touches, misses, touches_it, touches_not, corner_there, corner_missing, with_other_ends, with_other_corners, full_edges-set, full_faces-set, along_between}
-use Rattle.half_edge_dcel.proofs.Hubs.{count_faces, no_face_of, hub_after, start_after, tip_after, ends_after}
+use Rattle.half_edge_dcel.proofs.Filtered.{filter_gains, filter_loses, filter_stays}
+use Rattle.half_edge_dcel.proofs.Filtered.{Contains-filter}
+use Rattle.half_edge_dcel.proofs.Touching.{has_corner, lacks_corner, touches, misses, touches_it}
+use Rattle.half_edge_dcel.proofs.Touching.{touches_not, corner_there, corner_missing}
+use Rattle.half_edge_dcel.proofs.Touching.{with_other_ends, with_other_corners, full_edges-set}
+use Rattle.half_edge_dcel.proofs.Touching.{full_faces-set, along_between}
+use Rattle.half_edge_dcel.proofs.Hubs.{count_faces, no_face_of, hub_after, start_after, tip_after}
+use Rattle.half_edge_dcel.proofs.Hubs.{ends_after}
 
-other_way : {D U : Type 0} (e : FullEdge D U) (a b : ℕ) → IsBetween e (joins a b) → IsBetween e (joins b a)
+other_way : {D U : Type 0} (e : FullEdge D U) (a b : ℕ) → IsBetween e (joins a b)
+    → IsBetween e (joins b a)
 other_way e a b (inl q) = inr q
 other_way e a b (inr q) = inl q
 
-module _ {V D U F : Type 0} (c new : Contents V D U F) (o l v tip_end first_end next_end : ℕ) (whole : IsMeshWithData c) (w : IsHub c.mesh o (suc l)) (some : 1 < l) (v_is : origin c.mesh o ≡ v)
-    (tip_is : neighbour c.mesh o 0 ≡ tip_end) (first_is : neighbour c.mesh o 1 ≡ first_end) (next_is : neighbour c.mesh o 2 ≡ next_end) (same : new ≡ record c { mesh = new.mesh }) where
+module _ {V D U F : Type 0} (c new : Contents V D U F) (o l v tip_end first_end next_end : ℕ)
+    (whole : IsMeshWithData c) (w : IsHub c.mesh o (suc l)) (some : 1 < l) (v_is : origin c.mesh o
+    ≡ v) (tip_is : neighbour c.mesh o 0 ≡ tip_end) (first_is : neighbour c.mesh o 1 ≡ first_end)
+    (next_is : neighbour c.mesh o 2 ≡ next_end) (same : new ≡ record c { mesh = new.mesh }) where
   abbrev m : Mesh
   m = c.mesh
 
@@ -62,7 +77,8 @@ module _ {V D U F : Type 0} (c new : Contents V D U F) (o l v tip_end first_end 
   after = ap (origin m) (sym (rev-rev (prev m e))) ∙ next_is
 
   before : origin m (prev m (rev e)) ≡ tip_end
-  before = ap (λ h. origin m (prev m h)) twin ∙ ap (origin m) t.prev_prev ∙ (s.edges o w.within).starts ∙ tip_is
+  before = ap (λ h. origin m (prev m h)) twin ∙ ap (origin m) t.prev_prev
+      ∙ (s.edges o w.within).starts ∙ tip_is
 
   back : origin m (next m (rev e)) ≡ v
   back = ap (λ h. origin m (next m h)) twin ∙ ap (origin m) t.next_prev ∙ v_is
@@ -77,7 +93,11 @@ module _ {V D U F : Type 0} (c new : Contents V D U F) (o l v tip_end first_end 
   edge_in : e / 2 < length (full_edges c)
   edge_in =
       let n = count_ends m s in
-      let long = length-full_edges (ends m) c.undirected c.directed (omega (arith, n, whole.fits.undirected_fit)) (omega (arith, n, whole.fits.directed_fit)) in
+      let long = length-full_edges (ends m) c.undirected c.directed (omega (
+        arith,
+        n,
+        whole.fits.undirected_fit,
+      )) (omega (arith, n, whole.fits.directed_fit)) in
       let e_in = (at 1).0 in
       let even = s.even in
       omega (arith, long, n, e_in, even)
@@ -93,8 +113,10 @@ module _ {V D U F : Type 0} (c new : Contents V D U F) (o l v tip_end first_end 
   -- before the turn the edge joins the vertex and the second neighbour
   pub gone_between : IsBetween gone_edge (joins v first_end)
   gone_between =
-      let b = between m m c.undirected c.undirected c.directed c.directed e s whole.fits.directed_fit whole.fits.undirected_fit (at 1).0 gone_edge gone_is in
-      let is : joins (origin m e) (origin m (rev e)) ≡ joins v first_end = λ i. joins ((at 1).1 i) (first_is i) in
+      let b = between m m c.undirected c.undirected c.directed c.directed e s
+      whole.fits.directed_fit whole.fits.undirected_fit (at 1).0 gone_edge gone_is in
+      let is : joins (origin m e) (origin m (rev e)) ≡ joins v first_end =
+      λ i. joins ((at 1).1 i) (first_is i) in
       subst (IsBetween gone_edge) is b
 
   -- the edge after it was turned
@@ -105,15 +127,18 @@ module _ {V D U F : Type 0} (c new : Contents V D U F) (o l v tip_end first_end 
   pub come_between : IsBetween come_edge (joins tip_end next_end)
   unfolding come_edge
   come_between =
-      let is : joins (origin m (prev m e)) (origin m (prev m (rev e))) ≡ joins next_end tip_end = λ i. joins (after i) (before i) in
-      other_way come_edge next_end tip_end (subst (IsBetween come_edge) is (along_between gone_edge e (origin m (prev m e)) (origin m (prev m (rev e)))))
+      let is : joins (origin m (prev m e)) (origin m (prev m (rev e))) ≡ joins next_end tip_end =
+      λ i. joins (after i) (before i) in
+      other_way come_edge next_end tip_end (subst (IsBetween come_edge) is
+      (along_between gone_edge e (origin m (prev m e)) (origin m (prev m (rev e)))))
 
   -- after the turn the edge has all data that it had before
   pub come_data : HasDataOf come_edge gone_edge
   unfolding come_edge with_other_ends
   come_data = refl
 
-  module _ (ends_are : MovesEdge m new.mesh e (origin m (prev m e)) (origin m (prev m (rev e)))) where
+  module _
+      (ends_are : MovesEdge m new.mesh e (origin m (prev m e)) (origin m (prev m (rev e)))) where
     edges_are : full_edges new ≡ set (full_edges c) (e / 2) come_edge
     unfolding come_edge
     edges_are =
@@ -122,19 +147,29 @@ module _ {V D U F : Type 0} (c new : Contents V D U F) (o l v tip_end first_end 
         let e_in = (at 1).0 in
         let t : Ends = along e (origin m (prev m e)) (origin m (prev m (rev e))) in
         (λ i. full_edges_of (ends_are i) ((same i).undirected) ((same i).directed))
-        ∙ full_edges-set (ends m) c.undirected c.directed (e / 2) t gone_edge (omega (arith, n, whole.fits.undirected_fit)) (omega (arith, n, whole.fits.directed_fit)) (omega (arith, n, e_in, even))
+        ∙ full_edges-set (ends m) c.undirected c.directed (e / 2) t gone_edge
+        (omega (arith, n, whole.fits.undirected_fit))
+        (omega (arith, n, whole.fits.directed_fit)) (omega (arith, n, e_in, even))
         ∙ ap (λ x. set (full_edges c) (e / 2) (with_other_ends x t)) (sym gone_is)
 
     -- the edges at the vertex are the former ones but for the one that was turned
-    pub edges_lose : IsPermutation (filter (touches v) (full_edges c)) (gone_edge ∷ filter (touches v) (full_edges new))
+    pub edges_lose : IsPermutation (filter (touches v) (full_edges c))
+        (gone_edge ∷ filter (touches v) (full_edges new))
     edges_lose =
-        let p = filter_loses (touches v) (full_edges c) (e / 2) come_edge gone_edge edge_in (ap (touches v) (sym gone_is) ∙ touches_it v gone_edge (joins v first_end) gone_between (inl refl)) (touches_not v come_edge (joins tip_end next_end) come_between tip_off next_off) in
+        let p = filter_loses (touches v) (full_edges c) (e / 2) come_edge gone_edge edge_in
+        (ap (touches v) (sym gone_is)
+        ∙ touches_it v gone_edge (joins v first_end) gone_between (inl refl))
+        (touches_not v come_edge (joins tip_end next_end) come_between tip_off next_off) in
         rw (edges_are, gone_is) p
 
     -- the edges that miss the vertex are the former ones and the one that was turned
-    pub edges_gain : IsPermutation (filter (misses v) (full_edges new)) (come_edge ∷ filter (misses v) (full_edges c))
+    pub edges_gain : IsPermutation (filter (misses v) (full_edges new))
+        (come_edge ∷ filter (misses v) (full_edges c))
     edges_gain =
-        let p = filter_gains (misses v) (full_edges c) (e / 2) come_edge gone_edge edge_in (ap (misses v) (sym gone_is) ∙ ap not (touches_it v gone_edge (joins v first_end) gone_between (inl refl))) (ap not (touches_not v come_edge (joins tip_end next_end) come_between tip_off next_off)) in
+        let p = filter_gains (misses v) (full_edges c) (e / 2) come_edge gone_edge edge_in
+        (ap (misses v) (sym gone_is)
+        ∙ ap not (touches_it v gone_edge (joins v first_end) gone_between (inl refl))) (ap not
+        (touches_not v come_edge (joins tip_end next_end) come_between tip_off next_off)) in
         rw edges_are p
 
   -- ---- faces
@@ -146,10 +181,18 @@ module _ {V D U F : Type 0} (c new : Contents V D U F) (o l v tip_end first_end 
     b = face m (rev e) - 1
 
     abbrev ta : Triangle
-    ta = record { first = origin m (prev m e); second = origin m (prev m (rev e)); third = origin m (next m e) }
+    ta = record {
+      first = origin m (prev m e);
+      second = origin m (prev m (rev e));
+      third = origin m (next m e);
+    }
 
     abbrev tb : Triangle
-    tb = record { first = origin m (prev m (rev e)); second = origin m (prev m e); third = origin m (next m (rev e)) }
+    tb = record {
+      first = origin m (prev m (rev e));
+      second = origin m (prev m e);
+      third = origin m (next m (rev e));
+    }
 
     twin_face : face m (rev e) ≡ face m o
     twin_face = ap (face m) twin ∙ t.face_prev
@@ -187,47 +230,74 @@ module _ {V D U F : Type 0} (c new : Contents V D U F) (o l v tip_end first_end 
     list_is =
         let n = length-map m.face_edges (triangle_at m) in
         let fit = whole.fits.faces_fit in
-        let one = full_faces-set (triangles m) c.faces a ta d (fit ∙ sym n) (omega (arith, n, inner_e.0, inner_e.1)) in
-        let two = full_faces-set (set (triangles m) a ta) c.faces b tb d (fit ∙ sym n ∙ sym (length-set (triangles m) a ta)) (rw length-set (omega (arith, n, inner_twin.0, inner_twin.1))) in
-        (λ i. full_faces_of (faces_are i) ((same i).faces)) ∙ two ∙ (λ i. set (one i) b (with_other_corners (get_or (one i) b d) tb))
+        let one = full_faces-set (triangles m) c.faces a ta d (fit ∙ sym n)
+        (omega (arith, n, inner_e.0, inner_e.1)) in
+        let two = full_faces-set (set (triangles m) a ta) c.faces b tb d
+        (fit ∙ sym n ∙ sym (length-set (triangles m) a ta))
+        (rw length-set (omega (arith, n, inner_twin.0, inner_twin.1))) in
+        (λ i. full_faces_of (faces_are i) ((same i).faces)) ∙ two
+        ∙ (λ i. set (one i) b (with_other_corners (get_or (one i) b d) tb))
 
     was_there : has_corner v was ≡ true
     unfolding was
-    was_there = corner_there v was (triangle_at m e) (named_corners m e was s (at 1).0 inner_e.0 (ap (λ (x : FullFace F). x.corners) (listed_face m c.faces (face m e) whole.fits.faces_fit inner_e d))) (at 1).1
+    was_there = corner_there v was (triangle_at m e)
+        (named_corners m e was s (at 1).0 inner_e.0 (ap (λ (x : FullFace F). x.corners)
+        (listed_face m c.faces (face m e) whole.fits.faces_fit inner_e d))) (at 1).1
 
     other_there : has_corner v (get_or (full_faces c) b d) ≡ true
     other_there =
-        let at_o = corner_there v (get_or (full_faces c) (face m o - 1) d) (triangle_at m o) (named_corners m o (get_or (full_faces c) (face m o - 1) d) s w.within inner_o.0 (ap (λ (x : FullFace F). x.corners) (listed_face m c.faces (face m o) whole.fits.faces_fit inner_o d))) v_is in
+        let at_o = corner_there v (get_or (full_faces c) (face m o - 1) d) (triangle_at m o)
+        (named_corners m o (get_or (full_faces c) (face m o - 1) d) s w.within inner_o.0
+        (ap (λ (x : FullFace F). x.corners)
+        (listed_face m c.faces (face m o) whole.fits.faces_fit inner_o d))) v_is in
         ap (λ f. has_corner v (get_or (full_faces c) (f - 1) d)) twin_face ∙ at_o
 
     -- the face that leaves the vertex has the first three neighbours as corners
-    pub come_corners : HasCorners come_face (record { first = tip_end; second = first_end; third = next_end })
+    pub come_corners :
+        HasCorners come_face (record { first = tip_end; second = first_end; third = next_end })
     unfolding come_face with_other_corners
-    come_corners = inr (inr (λ i. record { first = after i; second = before i; third = ((s.edges e (at 1).0).starts ∙ first_is) i }))
+    come_corners = inr (inr (λ i. record {
+      first = after i;
+      second = before i;
+      third = ((s.edges e (at 1).0).starts ∙ first_is) i;
+    }))
 
     come_off : has_corner v come_face ≡ false
-    come_off = corner_missing v come_face (record { first = tip_end; second = first_end; third = next_end }) come_corners tip_off (λ q. off_at 1 (first_is ∙ q)) next_off
+    come_off = corner_missing v come_face
+        (record { first = tip_end; second = first_end; third = next_end }) come_corners tip_off
+        (λ q. off_at 1 (first_is ∙ q)) next_off
 
     turned_there : has_corner v turned_face ≡ true
     unfolding turned_face with_other_corners
-    turned_there = corner_there v turned_face (record { first = origin m (next m (rev e)); second = origin m (prev m (rev e)); third = origin m (prev m e) }) (inr (inl refl)) back
+    turned_there = corner_there v turned_face (record {
+      first = origin m (next m (rev e));
+      second = origin m (prev m (rev e));
+      third = origin m (prev m e);
+    }) (inr (inl refl)) back
 
     -- the faces without the vertex as a corner are the former ones and the one that leaves it
-    pub faces_gain : IsPermutation (filter (lacks_corner v) (full_faces new)) (come_face ∷ filter (lacks_corner v) (full_faces c))
+    pub faces_gain : IsPermutation (filter (lacks_corner v) (full_faces new))
+        (come_face ∷ filter (lacks_corner v) (full_faces c))
     unfolding middle was
     faces_gain =
-        let one = filter_gains (lacks_corner v) (full_faces c) a come_face d a_in (ap not was_there) (ap not come_off) in
-        let kept = get_or-set_other (full_faces c) a b come_face d (λ q. faces_apart m e whole.valid (at 1).0 inner_e.0 (omega (arith, q, inner_e.0, inner_twin.0))) in
-        let two = filter_stays (lacks_corner v) middle b turned_face d (rw length-set (omega (arith, long, inner_twin.0, inner_twin.1))) (ap not (ap (has_corner v) kept ∙ other_there)) (ap not turned_there) in
+        let one = filter_gains (lacks_corner v) (full_faces c) a come_face d a_in (ap not was_there)
+        (ap not come_off) in
+        let kept = get_or-set_other (full_faces c) a b come_face d (λ q. faces_apart m e whole.valid
+        (at 1).0 inner_e.0 (omega (arith, q, inner_e.0, inner_twin.0))) in
+        let two = filter_stays (lacks_corner v) middle b turned_face d
+        (rw length-set (omega (arith, long, inner_twin.0, inner_twin.1)))
+        (ap not (ap (has_corner v) kept ∙ other_there)) (ap not turned_there) in
         rw list_is (IsPermutation-trans _ _ _ two one)
 
     -- its data are those of a face at the vertex
-    pub come_at : (a < length (full_faces c)) × (has_corner v (get_or (full_faces c) a d) ≡ true) × (come_face.value ≡ (get_or (full_faces c) a d).value)
+    pub come_at : (a < length (full_faces c)) × (has_corner v (get_or (full_faces c) a d) ≡ true)
+        × (come_face.value ≡ (get_or (full_faces c) a d).value)
     unfolding come_face was with_other_corners
     come_at = (a_in, was_there, refl)
 
     -- no face has got the vertex as a corner
-    pub fewer_there : (i : ℕ) → has_corner v (get_or (full_faces new) i d) ≡ true → has_corner v (get_or (full_faces c) i d) ≡ true
+    pub fewer_there : (i : ℕ) → has_corner v (get_or (full_faces new) i d) ≡ true
+        → has_corner v (get_or (full_faces c) i d) ≡ true
     unfolding middle was
     fewer_there i is =
         elim (cases_eq i a) [
@@ -235,57 +305,78 @@ module _ {V D U F : Type 0} (c new : Contents V D U F) (o l v tip_end first_end 
           | inr p ↦ elim (cases_eq i b) [
             | inl q ↦ ap (λ k. has_corner v (get_or (full_faces c) k d)) q ∙ other_there
             | inr r ↦
-                let kept = get_or-set_other middle b i turned_face d r ∙ get_or-set_other (full_faces c) a i come_face d p in
+                let kept = get_or-set_other middle b i turned_face d r
+                ∙ get_or-set_other (full_faces c) a i come_face d p in
                 ap (has_corner v) (sym kept ∙ ap (λ xs. get_or xs i d) (sym list_is)) ∙ is
           ]
         ]
 
 -- ---- the outer edges stay
-same_among : (m new : Mesh) → KeepsOuter m new → (k : ℕ) → k ≤ length m.half_edges → k ≤ length new.half_edges → outer_among new k ≡ outer_among m k
+same_among : (m new : Mesh) → KeepsOuter m new → (k : ℕ) → k ≤ length m.half_edges
+    → k ≤ length new.half_edges → outer_among new k ≡ outer_among m k
 same_among m new o zero p q = refl
 same_among m new o (suc k) p q =
     let rest = same_among m new o k (omega (arith, p)) (omega (arith, q)) in
     elim (cases_eq (face m k) 0) [
       | inl is ↦
-          let now = o.kept k (origin m k) (origin m (rev k)) (record { within = omega (arith, p); outer = is; source = refl; target = refl }) in
-          listed new k now.outer ∙ (λ i. record { source = now.source i; target = now.target i } ∷ rest i) ∙ sym (listed m k is)
+          let now = o.kept k (origin m k) (origin m (rev k))
+          (record { within = omega (arith, p); outer = is; source = refl; target = refl }) in
+          listed new k now.outer
+          ∙ (λ i. record { source = now.source i; target = now.target i } ∷ rest i)
+          ∙ sym (listed m k is)
       | inr off ↦
-          let still : face new k ≢ 0 = λ z. off (o.only k (origin new k) (origin new (rev k)) (record { within = omega (arith, q); outer = z; source = refl; target = refl })).outer in
-          passed_over new k (omega (arith, still)) ∙ rest ∙ sym (passed_over m k (omega (arith, off)))
+          let still : face new k ≢ 0 =
+          λ z. off (o.only k (origin new k) (origin new (rev k)) (record
+          { within = omega (arith, q); outer = z; source = refl; target = refl })).outer in
+          passed_over new k (omega (arith, still)) ∙ rest
+          ∙ sym (passed_over m k (omega (arith, off)))
     ]
 
--- where the outer edges stay and there are as many directed edges, the list of outer edges is the same
-same_outline : (m new : Mesh) → KeepsOuter m new → length new.half_edges ≡ length m.half_edges → outline new ≡ outline m
-same_outline m new o count = ap (outer_among new) count ∙ same_among m new o (length m.half_edges) (omega arith) (omega (arith, count))
+-- where the outer edges stay and there are as many directed edges, the list of outer edges is the
+-- same
+same_outline : (m new : Mesh) → KeepsOuter m new → length new.half_edges ≡ length m.half_edges
+    → outline new ≡ outline m
+same_outline m new o count = ap (outer_among new) count
+    ∙ same_among m new o (length m.half_edges) (omega arith) (omega (arith, count))
 
 -- ---- several edges
--- a vertex with k faces round it from edge o on has lost so many of its edges, from the second on, and their faces with
--- the vertex; those that are left follow each other as before
+-- a vertex with k faces round it from edge o on has lost so many of its edges, from the second on,
+-- and their faces with the vertex; those that are left follow each other as before
 pub record IsTurned {V D U F : Type 0} (old c : Contents V D U F) (o k turned : ℕ) : Type 0 where
   pub left : ℕ
   pub sum : turned + left ≡ k
   pub hub : IsHub c.mesh o left
   pub start : origin c.mesh o ≡ origin old.mesh o
   pub tip : neighbour c.mesh o 0 ≡ neighbour old.mesh o 0
-  pub ends_at : (i : ℕ) → 0 < i → i ≤ left → neighbour c.mesh o i ≡ neighbour old.mesh o (turned + i)
+  pub ends_at : (i : ℕ) → 0 < i → i ≤ left
+      → neighbour c.mesh o i ≡ neighbour old.mesh o (turned + i)
   pub contents : c ≡ record old { mesh = c.mesh }
   pub outer : outline c.mesh ≡ outline old.mesh
   pub outline : KeepsOneOutline old.mesh c.mesh
   pub lost : List (FullEdge D U)
-  pub lost_are : AllZip IsBetween lost (spokes_to (origin old.mesh o) (λ i. neighbour old.mesh o (suc i)) turned)
-  pub touching : IsPermutation (filter (touches (origin old.mesh o)) (full_edges old)) (lost ++ filter (touches (origin old.mesh o)) (full_edges c))
+  pub lost_are : AllZip IsBetween lost
+      (spokes_to (origin old.mesh o) (λ i. neighbour old.mesh o (suc i)) turned)
+  pub touching : IsPermutation (filter (touches (origin old.mesh o)) (full_edges old))
+      (lost ++ filter (touches (origin old.mesh o)) (full_edges c))
   pub made : List (FullEdge D U)
   pub made_are : AllZip IsBetween made (fan_edges (neighbour old.mesh o) turned)
-  pub missing : IsPermutation (filter (misses (origin old.mesh o)) (full_edges c)) (made ++ filter (misses (origin old.mesh o)) (full_edges old))
+  pub missing : IsPermutation (filter (misses (origin old.mesh o)) (full_edges c))
+      (made ++ filter (misses (origin old.mesh o)) (full_edges old))
   pub former : All (λ e. (f : FullEdge D U) × Contains lost f × HasDataOf e f) made
   pub faces : List (FullFace F)
   pub faces_are : AllZip HasCorners faces (fan_faces (neighbour old.mesh o) turned)
-  pub lacking : IsPermutation (filter (lacks_corner (origin old.mesh o)) (full_faces c)) (faces ++ filter (lacks_corner (origin old.mesh o)) (full_faces old))
-  pub former_faces : All (λ f. (g : FullFace F) × Contains (filter (has_corner (origin old.mesh o)) (full_faces old)) g × (f.value ≡ g.value)) faces
-  pub corners : (i : ℕ) → has_corner (origin old.mesh o) (get_or (full_faces c) i (no_face_of (origin old.mesh o) old.outer)) ≡ true → has_corner (origin old.mesh o) (get_or (full_faces old) i (no_face_of (origin old.mesh o) old.outer)) ≡ true
+  pub lacking : IsPermutation (filter (lacks_corner (origin old.mesh o)) (full_faces c))
+      (faces ++ filter (lacks_corner (origin old.mesh o)) (full_faces old))
+  pub former_faces : All (λ f. (g : FullFace F) × Contains
+      (filter (has_corner (origin old.mesh o)) (full_faces old)) g × (f.value ≡ g.value)) faces
+  pub corners : (i : ℕ) → has_corner (origin old.mesh o)
+      (get_or (full_faces c) i (no_face_of (origin old.mesh o) old.outer)) ≡ true
+      → has_corner (origin old.mesh o)
+      (get_or (full_faces old) i (no_face_of (origin old.mesh o) old.outer)) ≡ true
 
 -- before the first step no edge is turned away from the vertex
-pub turned_none : {V D U F : Type 0} (c : Contents V D U F) (o k : ℕ) → IsHub c.mesh o k → IsTurned c c o k 0
+pub turned_none : {V D U F : Type 0} (c : Contents V D U F) (o k : ℕ) → IsHub c.mesh o k
+    → IsTurned c c o k 0
 turned_none c o k w = record {
   left = k;
   sum = omega arith;
@@ -311,20 +402,28 @@ turned_none c o k w = record {
 }
 
 -- the data of the faces are those of the list
-pub value_at : {V D U F : Type 0} (c : Contents V D U F) → IsMeshWithData c → (i : ℕ) (d : FullFace F) → i < length (full_faces c) → (get_or (full_faces c) i d).value ≡ get_or c.faces i d.value
+pub value_at : {V D U F : Type 0} (c : Contents V D U F) → IsMeshWithData c
+    → (i : ℕ) (d : FullFace F) → i < length (full_faces c)
+    → (get_or (full_faces c) i d).value ≡ get_or c.faces i d.value
 value_at {V} {D} {U} {F} c whole i d within =
     let n = length-map c.mesh.face_edges (triangle_at c.mesh) in
     let long = count_faces c.mesh c.faces whole.fits.faces_fit in
-    ap (λ (x : FullFace F). x.value) (get_or-full_faces (triangles c.mesh) c.faces i d.corners d.value (whole.fits.faces_fit ∙ sym n) (omega (arith, within, long, n)) d)
+    ap (λ (x : FullFace F). x.value) (get_or-full_faces (triangles c.mesh) c.faces i d.corners
+    d.value (whole.fits.faces_fit ∙ sym n) (omega (arith, within, long, n)) d)
 
 -- one more item in front, and one fewer behind
-moves_over : {X : Type 0} (xs ys zs ws : List X) (x : X) → IsPermutation xs (ys ++ zs) → IsPermutation zs (x ∷ ws) → IsPermutation xs ((x ∷ ys) ++ ws)
-moves_over xs ys zs ws x p q = IsPermutation-trans _ _ _ p (IsPermutation-trans _ _ _ (IsPermutation-append_right ys _ _ q) (IsPermutation-middle ys x ws))
+moves_over : {X : Type 0} (xs ys zs ws : List X) (x : X) → IsPermutation xs (ys ++ zs)
+    → IsPermutation zs (x ∷ ws) → IsPermutation xs ((x ∷ ys) ++ ws)
+moves_over xs ys zs ws x p q = IsPermutation-trans _ _ _ p
+    (IsPermutation-trans _ _ _ (IsPermutation-append_right ys _ _ q) (IsPermutation-middle ys x ws))
 
-grows_by : {X : Type 0} (xs ys zs ws : List X) (x : X) → IsPermutation xs (x ∷ ys) → IsPermutation ys (zs ++ ws) → IsPermutation xs ((x ∷ zs) ++ ws)
+grows_by : {X : Type 0} (xs ys zs ws : List X) (x : X) → IsPermutation xs (x ∷ ys)
+    → IsPermutation ys (zs ++ ws) → IsPermutation xs ((x ∷ zs) ++ ws)
 grows_by xs ys zs ws x p q = IsPermutation-trans _ _ _ p (IsPermutation-cons x _ _ q)
 
-module _ {V D U F : Type 0} (old c : Contents V D U F) (o k turned : ℕ) (whole_old : IsMeshWithData old) (whole : IsMeshWithData c) (tip : HasFreeTip (neighbour old.mesh o) k) (f : IsTurned old c o k turned) (more : turned + 3 < k) where
+module _ {V D U F : Type 0} (old c : Contents V D U F) (o k turned : ℕ) (whole_old :
+    IsMeshWithData old) (whole : IsMeshWithData c) (tip : HasFreeTip (neighbour old.mesh o) k)
+    (f : IsTurned old c o k turned) (more : turned + 3 < k) where
   abbrev v : ℕ
   v = origin old.mesh o
 
@@ -347,7 +446,8 @@ module _ {V D U F : Type 0} (old c : Contents V D U F) (o k turned : ℕ) (whole
   end_at i j some less is = f.ends_at i some (rw left_is less) ∙ ap n is
 
   free : HasFreeTip (neighbour c.mesh o) (suc l)
-  free i some less q = tip (turned + i) (omega (arith, some)) (omega (arith, less, f.sum, left_is)) (sym (end_at i (turned + i) (omega (arith, some)) (omega (arith, less)) refl) ∙ q ∙ f.tip)
+  free i some less q = tip (turned + i) (omega (arith, some)) (omega (arith, less, f.sum, left_is))
+      (sym (end_at i (turned + i) (omega (arith, some)) (omega (arith, less)) refl) ∙ q ∙ f.tip)
 
   first_is : neighbour c.mesh o 1 ≡ n (suc turned)
   first_is = end_at 1 (suc turned) (omega arith) (omega (arith, many)) (omega arith)
@@ -355,64 +455,117 @@ module _ {V D U F : Type 0} (old c : Contents V D U F) (o k turned : ℕ) (whole
   next_is : neighbour c.mesh o 2 ≡ n (suc (suc turned))
   next_is = end_at 2 (suc (suc turned)) (omega arith) (omega (arith, many)) (omega arith)
 
-  module _ (new : Contents V D U F) (flip : Flips c.mesh new.mesh (turn c.mesh o)) (same : new ≡ record c { mesh = new.mesh }) (ends_are : MovesEdge c.mesh new.mesh (turn c.mesh o) (origin c.mesh (prev c.mesh (turn c.mesh o))) (origin c.mesh (prev c.mesh (rev (turn c.mesh o)))))
-      (faces_are : FlipsTriangles c.mesh new.mesh (turn c.mesh o)) (outer : KeepsOuter c.mesh new.mesh) (outline_kept : KeepsOneOutline c.mesh new.mesh) where
+  module _ (new : Contents V D U F) (flip : Flips c.mesh new.mesh (turn c.mesh o)) (same : new
+      ≡ record c { mesh = new.mesh }) (ends_are : MovesEdge c.mesh new.mesh (turn c.mesh o) (origin
+      c.mesh (prev c.mesh (turn c.mesh o))) (origin c.mesh (prev c.mesh (rev (turn c.mesh o)))))
+      (faces_are : FlipsTriangles c.mesh new.mesh (turn c.mesh o)) (outer :
+      KeepsOuter c.mesh new.mesh) (outline_kept : KeepsOneOutline c.mesh new.mesh) where
     abbrev d : FullFace F
     d = no_face_of v old.outer
 
     gone : FullEdge D U
-    gone = gone_edge c new o l v (n 0) (n (suc turned)) (n (suc (suc turned))) whole w (omega (arith, many)) f.start f.tip first_is next_is same
+    gone = gone_edge c new o l v (n 0) (n (suc turned)) (n (suc (suc turned))) whole w
+        (omega (arith, many)) f.start f.tip first_is next_is same
 
     come : FullEdge D U
-    come = come_edge c new o l v (n 0) (n (suc turned)) (n (suc (suc turned))) whole w (omega (arith, many)) f.start f.tip first_is next_is same
+    come = come_edge c new o l v (n 0) (n (suc turned)) (n (suc (suc turned))) whole w
+        (omega (arith, many)) f.start f.tip first_is next_is same
 
     come_f : FullFace F
-    come_f = come_face c new o l v (n 0) (n (suc turned)) (n (suc (suc turned))) whole w (omega (arith, many)) f.start f.tip first_is next_is same d faces_are
+    come_f = come_face c new o l v (n 0) (n (suc turned)) (n (suc (suc turned))) whole w
+        (omega (arith, many)) f.start f.tip first_is next_is same d faces_are
 
-    come_f_former : (g : FullFace F) × Contains (filter (has_corner v) (full_faces old)) g × (come_f.value ≡ g.value)
+    come_f_former : (g : FullFace F) × Contains (filter (has_corner v) (full_faces old)) g
+        × (come_f.value ≡ g.value)
     unfolding come_f
     come_f_former =
         let a : ℕ = face c.mesh (turn c.mesh o) - 1 in
-        let at = come_at c new o l v (n 0) (n (suc turned)) (n (suc (suc turned))) whole w (omega (arith, many)) f.start f.tip first_is next_is same d faces_are in
+        let at = come_at c new o l v (n 0) (n (suc turned)) (n (suc (suc turned))) whole w
+        (omega (arith, many)) f.start f.tip first_is next_is same d faces_are in
         let fs : c.faces ≡ old.faces = ap (λ (x : Contents V D U F). x.faces) f.contents in
         let long = count_faces c.mesh c.faces whole.fits.faces_fit in
         let long_old = count_faces old.mesh old.faces whole_old.fits.faces_fit in
         let counts : length c.faces ≡ length old.faces = ap length fs in
-        let inside : a < length (full_faces old) = omega (arith, at.0, long, long_old, counts, whole.fits.faces_fit, whole_old.fits.faces_fit) in
-        let value_is = at.2 ∙ value_at c whole a d at.0 ∙ ap (λ xs. get_or xs a d.value) fs ∙ sym (value_at old whole_old a d inside) in
-        (get_or (full_faces old) a d, Contains-filter (has_corner v) (full_faces old) _ (Contains-get_or (full_faces old) a d inside) (f.corners a at.1), value_is)
+        let inside : a < length (full_faces old) = omega
+        (arith, at.0, long, long_old, counts, whole.fits.faces_fit, whole_old.fits.faces_fit) in
+        let value_is = at.2 ∙ value_at c whole a d at.0 ∙ ap (λ xs. get_or xs a d.value) fs
+        ∙ sym (value_at old whole_old a d inside) in (
+          get_or (full_faces old) a d,
+          Contains-filter (has_corner v) (full_faces old) _
+              (Contains-get_or (full_faces old) a d inside) (f.corners a at.1),
+          value_is,
+        )
 
     -- for the next count of a loop
-    pub turned_next : (next_turned : ℕ) → next_turned ≡ suc turned → IsTurned old new o k next_turned
+    pub turned_next : (next_turned : ℕ) → next_turned ≡ suc turned
+        → IsTurned old new o k next_turned
     unfolding gone come come_f
     turned_next next_turned counted = rw counted (record {
       left = l;
       sum = omega (arith, f.sum, left_is);
       hub = hub_after c.mesh o l whole.valid w (omega (arith, many)) free new.mesh flip many;
-      start = start_after c.mesh o l whole.valid w (omega (arith, many)) free new.mesh flip many ∙ f.start;
-      tip = tip_after c.mesh o l whole.valid w (omega (arith, many)) free new.mesh flip many ∙ f.tip;
-      ends_at = λ i some less. ends_after c.mesh o l whole.valid w (omega (arith, many)) free new.mesh flip many i some less ∙ end_at (suc i) (suc turned + i) (omega arith) (omega (arith, less)) (omega arith);
+      start = start_after c.mesh o l whole.valid w (omega (arith, many)) free new.mesh flip many
+          ∙ f.start;
+      tip =
+          tip_after c.mesh o l whole.valid w (omega (arith, many)) free new.mesh flip many ∙ f.tip;
+      ends_at = λ i some less. ends_after c.mesh o l whole.valid w
+          (omega (arith, many)) free new.mesh flip many i some less
+          ∙ end_at (suc i) (suc turned + i) (omega arith) (omega (arith, less)) (omega arith);
       contents = same ∙ ap (λ (x : Contents V D U F). record x { mesh = new.mesh }) f.contents;
       outer = same_outline c.mesh new.mesh outer flip.edge_count ∙ f.outer;
       outline = λ one. outline_kept (f.outline one);
       lost = gone ∷ f.lost;
-      lost_are = (gone_between c new o l v (n 0) (n (suc turned)) (n (suc (suc turned))) whole w (omega (arith, many)) f.start f.tip first_is next_is same, f.lost_are);
-      touching = moves_over _ f.lost _ _ gone f.touching (edges_lose c new o l v (n 0) (n (suc turned)) (n (suc (suc turned))) whole w (omega (arith, many)) f.start f.tip first_is next_is same ends_are);
+      lost_are = (
+        gone_between c new o l v (n 0) (n (suc turned)) (n (suc (suc turned))) whole w
+            (omega (arith, many)) f.start f.tip first_is next_is same,
+        f.lost_are,
+      );
+      touching = moves_over _ f.lost _ _ gone f.touching
+          (edges_lose c new o l v (n 0) (n (suc turned)) (n (suc (suc turned))) whole w
+          (omega (arith, many)) f.start f.tip first_is next_is same ends_are);
       made = come ∷ f.made;
-      made_are = (come_between c new o l v (n 0) (n (suc turned)) (n (suc (suc turned))) whole w (omega (arith, many)) f.start f.tip first_is next_is same, f.made_are);
-      missing = grows_by _ _ f.made _ come (edges_gain c new o l v (n 0) (n (suc turned)) (n (suc (suc turned))) whole w (omega (arith, many)) f.start f.tip first_is next_is same ends_are) f.missing;
-      former = All-cons (λ e. (x : FullEdge D U) × Contains (gone ∷ f.lost) x × HasDataOf e x) come f.made
-          (gone, (0, omega arith, refl), come_data c new o l v (n 0) (n (suc turned)) (n (suc (suc turned))) whole w (omega (arith, many)) f.start f.tip first_is next_is same)
-          (All-weaker (λ e. (x : FullEdge D U) × Contains f.lost x × HasDataOf e x) (λ e. (x : FullEdge D U) × Contains (gone ∷ f.lost) x × HasDataOf e x) (λ e h. (h.0, Contains-append_right (gone ∷ []) f.lost h.0 h.1, h.2)) f.made f.former);
+      made_are = (
+        come_between c new o l v (n 0) (n (suc turned)) (n (suc (suc turned))) whole w
+            (omega (arith, many)) f.start f.tip first_is next_is same,
+        f.made_are,
+      );
+      missing = grows_by _ _ f.made _ come
+          (edges_gain c new o l v (n 0) (n (suc turned)) (n (suc (suc turned))) whole w
+          (omega (arith, many)) f.start f.tip first_is next_is same ends_are) f.missing;
+      former = All-cons
+          (λ e. (x : FullEdge D U) × Contains (gone ∷ f.lost) x × HasDataOf e x) come f.made (
+            gone,
+            (0, omega arith, refl),
+            come_data c new o l v (n 0) (n (suc turned)) (n
+                (suc (suc turned))) whole w
+                (omega (arith, many)) f.start f.tip first_is next_is same,
+          )
+          (All-weaker (λ e. (x : FullEdge D U) × Contains f.lost x × HasDataOf e x)
+          (λ e. (x : FullEdge D U) × Contains (gone ∷ f.lost) x × HasDataOf e x) (λ e h. (
+            h.0,
+            Contains-append_right (gone ∷ []) f.lost h.0 h.1,
+            h.2,
+          )) f.made f.former);
       faces = come_f ∷ f.faces;
-      faces_are = (come_corners c new o l v (n 0) (n (suc turned)) (n (suc (suc turned))) whole w (omega (arith, many)) f.start f.tip first_is next_is same d faces_are, f.faces_are);
-      lacking = grows_by _ _ f.faces _ come_f (faces_gain c new o l v (n 0) (n (suc turned)) (n (suc (suc turned))) whole w (omega (arith, many)) f.start f.tip first_is next_is same d faces_are) f.lacking;
-      former_faces = All-cons (λ x. (g : FullFace F) × Contains (filter (has_corner v) (full_faces old)) g × (x.value ≡ g.value)) come_f f.faces come_f_former f.former_faces;
-      corners = λ i is. f.corners i (fewer_there c new o l v (n 0) (n (suc turned)) (n (suc (suc turned))) whole w (omega (arith, many)) f.start f.tip first_is next_is same d faces_are i is);
+      faces_are = (
+        come_corners c new o l v (n 0) (n (suc turned)) (n (suc (suc turned))) whole w
+            (omega (arith, many)) f.start f.tip first_is next_is same d faces_are,
+        f.faces_are,
+      );
+      lacking = grows_by _ _ f.faces _ come_f
+          (faces_gain c new o l v (n 0) (n (suc turned)) (n (suc (suc turned))) whole w
+          (omega (arith, many)) f.start f.tip first_is next_is same d faces_are) f.lacking;
+      former_faces =
+          All-cons (λ x. (g : FullFace F) × Contains (filter (has_corner v) (full_faces old)) g
+          × (x.value ≡ g.value)) come_f f.faces come_f_former f.former_faces;
+      corners =
+          λ i is. f.corners i (fewer_there c new o l v (n 0) (n (suc turned)) (n (suc (suc turned)))
+          whole w (omega (arith, many)) f.start f.tip first_is next_is same d faces_are i is);
     })
 
 -- ---- what the steps ask for
-module _ {V D U F : Type 0} (old c : Contents V D U F) (o k turned : ℕ) (f : IsTurned old c o k turned) where
+module _ {V D U F : Type 0} (old c : Contents V D U F) (o k turned : ℕ)
+    (f : IsTurned old c o k turned) where
   -- as long as at least three edges are left, the first one has an inner face
   pub turned_first : turned + 3 ≤ k → 0 < face c.mesh o
   turned_first more = f.hub.inner 0 (omega (arith, f.sum, more))
@@ -422,8 +575,10 @@ module _ {V D U F : Type 0} (old c : Contents V D U F) (o k turned : ℕ) (f : I
   turned_second more = f.hub.inner 1 (omega (arith, f.sum, more))
 
   -- with a free tip and more than three edges left, the third neighbour is not the first one
-  pub turned_corners : HasFreeTip (neighbour old.mesh o) k → turned + 3 < k → neighbour c.mesh o 2 ≢ neighbour c.mesh o 0
-  turned_corners tip more q = tip (turned + 2) (omega arith) (omega (arith, more)) (sym (f.ends_at 2 (omega arith) (omega (arith, f.sum, more))) ∙ q ∙ f.tip)
+  pub turned_corners : HasFreeTip (neighbour old.mesh o) k → turned + 3 < k
+      → neighbour c.mesh o 2 ≢ neighbour c.mesh o 0
+  turned_corners tip more q = tip (turned + 2) (omega arith) (omega (arith, more))
+      (sym (f.ends_at 2 (omega arith) (omega (arith, f.sum, more))) ∙ q ∙ f.tip)
 
   -- once three edges are left, the vertex has three faces round it
   pub turned_wheel : turned + 3 ≡ k → IsWheel c.mesh o
@@ -432,5 +587,6 @@ module _ {V D U F : Type 0} (old c : Contents V D U F) (o k turned : ℕ) (f : I
     first_inner = turned_first (omega (arith, last));
     second_inner = turned_second (omega (arith, last));
     third_inner = f.hub.inner 2 (omega (arith, f.sum, last));
-    round = ap (spoke c.mesh o) (let e : 3 ≡ f.left = omega (arith, f.sum, last) in e) ∙ f.hub.round;
+    round = ap (spoke c.mesh o) (let e : 3 ≡ f.left = omega (arith, f.sum, last) in e)
+        ∙ f.hub.round;
   }

@@ -4,8 +4,8 @@ use Rattle.half_edge_links.specs.Mesh.{Mesh, IsValidMesh}
 use Rattle.half_edge_links.specs.Room.{Room}
 use Rattle.half_edge_links.specs.Outline.{Ends, ends}
 
--- a mesh, the data of its vertices, of its directed and undirected edges, of the outer face and of the
--- faces from face 1 on, and the room that it has
+-- a mesh, the data of its vertices, of its directed and undirected edges, of the outer face and of
+-- the faces from face 1 on, and the room that it has
 pub record Contents (V D U F : Type 0) : Type 0 where
   pub mesh : Mesh
   pub vertices : List V
@@ -25,19 +25,24 @@ pub record FitsMesh (m : Mesh) (vertices directed undirected faces : ℕ) : Type
 -- what always holds of a mesh with data
 pub record IsMeshWithData {V D U F : Type 0} (c : Contents V D U F) : Type 0 where
   pub valid : IsValidMesh c.mesh
-  pub fits : FitsMesh c.mesh (length c.vertices) (length c.directed) (length c.undirected) (length c.faces)
+  pub fits :
+      FitsMesh c.mesh (length c.vertices) (length c.directed) (length c.undirected) (length c.faces)
 
 -- so many more vertices, undirected edges and inner faces fit with no allocation
-pub record HasRoom {V D U F : Type 0} (c : Contents V D U F) (vertices edges faces : ℕ) : Type 0 where
+pub record HasRoom {V D U F : Type 0} (c : Contents V D U F)
+    (vertices edges faces : ℕ) : Type 0 where
   pub vertices_fit : length c.vertices + vertices ≤ c.room.vertices
   pub edges_fit : 2 * (length c.undirected + edges) ≤ c.room.edges
   pub faces_fit : length c.faces + faces ≤ c.room.faces
 
--- the data of vertices and of the outer face, and the room, stay; links and the data of edges and inner faces may change
+-- the data of vertices and of the outer face, and the room, stay; links and the data of edges and
+-- inner faces may change
 abbrev pub KeepsVertices : {V D U F : Type 0} → Contents V D U F → Contents V D U F → Type 0
-KeepsVertices old new = new ≡ record old { mesh = new.mesh; directed = new.directed; undirected = new.undirected; faces = new.faces }
+KeepsVertices old new = new ≡ record old
+    { mesh = new.mesh; directed = new.directed; undirected = new.undirected; faces = new.faces }
 
--- an undirected edge: the vertices that it joins, in the order of its even directed edge, and its data
+-- an undirected edge: the vertices that it joins, in the order of its even directed edge, and its
+-- data
 pub record Edge (U : Type 0) : Type 0 where
   pub source : ℕ
   pub target : ℕ

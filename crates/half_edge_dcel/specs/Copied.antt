@@ -3,8 +3,10 @@ use Rattle.std.specs.Prelude.{◌≡◌}
 use Rattle.std.specs.List.{AllZip}
 use Rattle.half_edge_dcel.specs.Contents.{Contents, HasRoom}
 
--- the same vertices, edges and faces, the data of each as these relations say of the former ones, and room for all
-pub record IsCopied {V D U F : Type 0} (RV : V → V → Type 0) (RD : D → D → Type 0) (RU : U → U → Type 0) (RF : F → F → Type 0) (old new : Contents V D U F) : Type 0 where
+-- the same vertices, edges and faces, the data of each as these relations say of the former ones,
+-- and room for all
+pub record IsCopied {V D U F : Type 0} (RV : V → V → Type 0) (RD : D → D → Type 0)
+    (RU : U → U → Type 0) (RF : F → F → Type 0) (old new : Contents V D U F) : Type 0 where
   pub mesh : new.mesh ≡ old.mesh
   pub vertices : AllZip RV old.vertices new.vertices
   pub directed : AllZip RD old.directed new.directed

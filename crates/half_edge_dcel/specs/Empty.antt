@@ -4,7 +4,8 @@ use Rattle.half_edge_links.specs.Mesh.{empty}
 use Rattle.half_edge_dcel.specs.Contents.{Contents}
 
 -- no vertex and no edge, and the outer face with data that are as they are at first
-pub record IsEmptyMesh {V D U F : Type 0} (IsFirst : F → Type 0) (c : Contents V D U F) : Type 0 where
+pub record IsEmptyMesh {V D U F : Type 0} (IsFirst : F → Type 0)
+    (c : Contents V D U F) : Type 0 where
   pub mesh : c.mesh ≡ empty
   pub vertices : c.vertices ≡ []
   pub directed : c.directed ≡ []

@@ -1,5 +1,5 @@
--- How all data of a mesh change where it grows. New data are as D, U and F say, for directed edges, undirected
--- edges and faces; data of the outer face and room stay.
+-- How all data of a mesh change where it grows. New data are as D, U and F say, for directed edges,
+-- undirected edges and faces; data of the outer face and room stay.
 use Rattle.std.specs.Prelude.{◌≡◌, ℕ, ◌/◌, List}
 use Rattle.half_edge_links.specs.Mesh.{rev}
 use Rattle.half_edge_dcel.specs.Contents.{Contents}
@@ -32,8 +32,8 @@ module _ {V DE UE FA : Type 0} where
     pub directed : Grows D old.directed new.directed 2
     pub undirected : Grows U old.undirected new.undirected 1
 
-  -- these vertex data; the data of edge e move to the first new edge, and so many more directed edges, undirected
-  -- edges and faces follow
+  -- these vertex data; the data of edge e move to the first new edge, and so many more directed
+  -- edges, undirected edges and faces follow
   pub record MovesData (D : DE → Type 0) (U : UE → Type 0) (F : FA → Type 0) (vertices : List V)
       (old new : Contents V DE UE FA) (e d u f : ℕ) : Type 0 where
     pub contents : new ≡ record old {

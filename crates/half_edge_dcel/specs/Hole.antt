@@ -1,5 +1,6 @@
 -- What stands after an inner vertex lost its edges and the hole was filled.
-use Rattle.std.specs.Prelude.{◌≡◌, ◌≢◌, ℕ, zero, suc, ◌-◌, ◌<◌, ◌≤◌, List, [], ◌∷◌, ◌++◌, length, slice_index, All, Contains}
+use Rattle.std.specs.Prelude.{◌≡◌, ◌≢◌, ◌-◌, ◌<◌, ◌≤◌, [], ◌∷◌, ◌++◌}
+use Rattle.std.specs.Prelude.{ℕ, zero, suc, List, length, slice_index, All, Contains}
 use Rattle.std.specs.List.{AllZip}
 use Rattle.std.specs.List.Sorted.{IsPermutation}
 use Rattle.half_edge_links.specs.Hull.{KeepsOneOutline}
@@ -10,7 +11,9 @@ use Rattle.half_edge_links.specs.Round.{neighbour}
 use Rattle.half_edge_links.specs.Triangles.{Triangle}
 use Rattle.half_edge_dcel.specs.Contents.{Contents}
 use Rattle.half_edge_dcel.specs.Growth.{joins}
-use Rattle.half_edge_dcel.specs.Removal.{FullEdge, FullFace, IsBetween, HasCorners, OuterChanges, full_edges, full_faces, spokes_to, faces_between, first_spoke}
+use Rattle.half_edge_dcel.specs.Removal.{FullEdge, FullFace, IsBetween, HasCorners, OuterChanges}
+use Rattle.half_edge_dcel.specs.Removal.{full_edges, full_faces, spokes_to, faces_between}
+use Rattle.half_edge_dcel.specs.Removal.{first_spoke}
 
 -- a vertex with k inner faces, which follow each other round it from edge o on
 pub record IsHub (m : Mesh) (o k : ℕ) : Type 0 where
@@ -18,8 +21,8 @@ pub record IsHub (m : Mesh) (o k : ℕ) : Type 0 where
   pub inner : (i : ℕ) → i < k → 0 < face m (spoke m o i)
   pub round : spoke m o k ≡ o
 
--- the edge after o round its vertex, against the clock, lies between two inner faces, and a turn does not join a vertex
--- to itself
+-- the edge after o round its vertex, against the clock, lies between two inner faces, and a turn
+-- does not join a vertex to itself
 pub record CanTurnAway (m : Mesh) (o : ℕ) : Type 0 where
   pub within : o < length m.half_edges
   pub before : 0 < face m o
@@ -36,7 +39,8 @@ pub record IsBorder (m : Mesh) (border : List ℕ) (v : ℕ) : Type 0 where
   pub within : slice_index border 0 < length m.half_edges
   pub round : IsHub m (first_spoke m border) (length border)
   pub starts : origin m (first_spoke m border) ≡ v
-  pub sides : (i : ℕ) → i < length border → slice_index border i ≡ next m (spoke m (first_spoke m border) i)
+  pub sides : (i : ℕ) → i < length border
+      → slice_index border i ≡ next m (spoke m (first_spoke m border) i)
   pub tip : HasFreeTip (neighbour m (first_spoke m border)) (length border)
 
 -- the first k edges of a fan, from its tip n 0 to n 2, n 3, .., the last of them first
@@ -44,27 +48,31 @@ abbrev pub fan_edges : (ℕ → ℕ) → ℕ → List Ends
 fan_edges n zero = []
 fan_edges n (suc k) = joins (n 0) (n (suc (suc k))) ∷ fan_edges n k
 
--- the first k faces of a fan, between its tip n 0 and two vertices that follow each other from n 1 on, the last of
--- them first
+-- the first k faces of a fan, between its tip n 0 and two vertices that follow each other from n 1
+-- on, the last of them first
 abbrev pub fan_faces : (ℕ → ℕ) → ℕ → List Triangle
 fan_faces n zero = []
-fan_faces n (suc k) = record { first = n 0; second = n (suc k); third = n (suc (suc k)) } ∷ fan_faces n k
+fan_faces n (suc k) = record { first = n 0; second = n (suc k); third = n (suc (suc k)) }
+    ∷ fan_faces n k
 
 -- an edge has all data of another one
 abbrev pub HasDataOf : {D U : Type 0} → FullEdge D U → FullEdge D U → Type 0
 HasDataOf e f = e ≡ record f { source = e.source; target = e.target }
 
--- inner vertex v, with faces between the k vertices n 0, n 1, .. round it, has no edges any more; a fan with the tip n 0
--- takes the place of these faces, each edge with the data of one of these edges, and each face with those of one of
--- these faces
-pub record FillsWithFan {V D U F : Type 0} (old new : Contents V D U F) (v : ℕ) (n : ℕ → ℕ) (k : ℕ) : Type 0 where
-  pub contents : new ≡ record old { mesh = new.mesh; directed = new.directed; undirected = new.undirected; faces = new.faces }
+-- inner vertex v, with faces between the k vertices n 0, n 1, .. round it, has no edges any more; a
+-- fan with the tip n 0 takes the place of these faces, each edge with the data of one of these
+-- edges, and each face with those of one of these faces
+pub record FillsWithFan {V D U F : Type 0} (old new : Contents V D U F) (v : ℕ) (n : ℕ → ℕ)
+    (k : ℕ) : Type 0 where
+  pub contents : new ≡ record old
+      { mesh = new.mesh; directed = new.directed; undirected = new.undirected; faces = new.faces }
   pub alone : IsAlone new.mesh v
   pub lost_edges : List (FullEdge D U)
   pub lost_edges_are : AllZip IsBetween lost_edges (spokes_to v n k)
   pub made_edges : List (FullEdge D U)
   pub made_edges_are : AllZip IsBetween made_edges (fan_edges n (k - 3))
-  pub former_edges : All (λ e. (f : FullEdge D U) × Contains lost_edges f × HasDataOf e f) made_edges
+  pub former_edges :
+      All (λ e. (f : FullEdge D U) × Contains lost_edges f × HasDataOf e f) made_edges
   pub other_edges : List (FullEdge D U)
   pub edges_were : IsPermutation (full_edges old) (lost_edges ++ other_edges)
   pub edges_are : IsPermutation (full_edges new) (made_edges ++ other_edges)
@@ -72,7 +80,8 @@ pub record FillsWithFan {V D U F : Type 0} (old new : Contents V D U F) (v : ℕ
   pub lost_faces_are : AllZip HasCorners lost_faces (faces_between v n k)
   pub made_faces : List (FullFace F)
   pub made_faces_are : AllZip HasCorners made_faces (fan_faces n (k - 2))
-  pub former_faces : All (λ f. (g : FullFace F) × Contains lost_faces g × (f.value ≡ g.value)) made_faces
+  pub former_faces :
+      All (λ f. (g : FullFace F) × Contains lost_faces g × (f.value ≡ g.value)) made_faces
   pub other_faces : List (FullFace F)
   pub faces_were : IsPermutation (full_faces old) (lost_faces ++ other_faces)
   pub faces_are : IsPermutation (full_faces new) (made_faces ++ other_faces)

@@ -1,11 +1,14 @@
--- What calls that grow a mesh do to its links, the corners of its faces and its outer edges; each vertex v is new.
+-- What calls that grow a mesh do to its links, the corners of its faces and its outer edges; each
+-- vertex v is new.
 use Rattle.std.specs.Prelude.{◌≡◌, ℕ, ◌+◌, ◌⊎◌, []}
 use Rattle.half_edge_links.specs.Flip.{flipped}
-use Rattle.half_edge_links.specs.Grow.{with_face_beside, closed, half_split, hung, edge_into, line_split}
+use Rattle.half_edge_links.specs.Grow.{with_face_beside, closed, half_split, hung, edge_into}
+use Rattle.half_edge_links.specs.Grow.{line_split}
 use Rattle.half_edge_links.specs.Hull.{HasOneOutline, KeepsOneOutline}
 use Rattle.half_edge_links.specs.Insert.{inserted}
 use Rattle.half_edge_links.specs.Mesh.{Mesh, with_vertex, connected, origin, next, rev}
-use Rattle.half_edge_links.specs.Outline.{AddsTriangle, ReplacesOuter, ClosesOuter, HalfSplitsTriangles, KeepsOuter}
+use Rattle.half_edge_links.specs.Outline.{AddsTriangle, ReplacesOuter, ClosesOuter}
+use Rattle.half_edge_links.specs.Outline.{HalfSplitsTriangles, KeepsOuter}
 use Rattle.half_edge_links.specs.Outline.{OuterChanges, IsEdge, ExtendsOuter, SplitsOuter}
 use Rattle.half_edge_links.specs.Triangles.{triangles, InsertsTriangles, SplitsTriangles}
 
@@ -33,7 +36,8 @@ pub record AddsFaceTo (old new : Mesh) (n v e : ℕ) : Type 0 where
 -- a new face of outer edge e, the one after it and a new edge, in a mesh of n directed edges
 pub record ClosesTriangle (old new : Mesh) (n e : ℕ) : Type 0 where
   pub mesh : new ≡ closed old e
-  pub triangles : AddsTriangle old new (origin old e) (origin old (next old e)) (origin old (rev (next old e)))
+  pub triangles :
+      AddsTriangle old new (origin old e) (origin old (next old e)) (origin old (rev (next old e)))
   pub outer : ClosesOuter old new e n
   pub outline : KeepsOneOutline old new
 

@@ -1,21 +1,26 @@
 -- One step of an iterator over indexes.
-use Rattle.std.proofs.Common.{◌≡◌, ℕ, List, zero, suc, ◌+◌, ◌-◌, ◌<◌, ◌≤◌, ◌∷◌, [], ◌++◌, length, map, All, refl, ap, arith}
+use Rattle.std.proofs.Common.{◌≡◌, ◌+◌, ◌-◌, ◌<◌, ◌≤◌, ◌∷◌, [], ◌++◌}
+use Rattle.std.proofs.Common.{ℕ, List, zero, suc, length, map, All, refl, ap, arith}
 use Rattle.std.specs.List.{range_with_len}
 use Rattle.std.proofs.lemmas.List.Elements.{All-rest}
 use Rattle.std.proofs.lemmas.List.FromFn.{length-range_with_len, get_or-range_with_len}
 
 -- a range with numbers in it is its first number and the range after it
-pub range_step : (a b : ℕ) → a < b → range_with_len a (b - a) ≡ a ∷ range_with_len (a + 1) (b - (a + 1))
+pub range_step : (a b : ℕ) → a < b
+    → range_with_len a (b - a) ≡ a ∷ range_with_len (a + 1) (b - (a + 1))
 range_step a b less =
     let e : b - a ≡ suc (b - (a + 1)) = omega arith in
     rw e refl
 
 -- fewer are left
-pub length_range_step : (a b : ℕ) → a < b → length (range_with_len (a + 1) (b - (a + 1))) < length (range_with_len a (b - a))
+pub length_range_step : (a b : ℕ) → a < b
+    → length (range_with_len (a + 1) (b - (a + 1))) < length (range_with_len a (b - a))
 length_range_step a b less = rw (range_step a b less) (omega arith)
 
--- the values of a function over a range are that of the first number and those over the range after it
-pub map_range_step : {X : Type 0} (f : ℕ → X) (a b : ℕ) → a < b → map f (range_with_len a (b - a)) ≡ f a ∷ map f (range_with_len (a + 1) (b - (a + 1)))
+-- the values of a function over a range are that of the first number and those over the range after
+-- it
+pub map_range_step : {X : Type 0} (f : ℕ → X) (a b : ℕ) → a < b
+    → map f (range_with_len a (b - a)) ≡ f a ∷ map f (range_with_len (a + 1) (b - (a + 1)))
 map_range_step f a b less = rw (range_step a b less) refl
 
 -- a row with one more at its end
@@ -26,23 +31,31 @@ row_with_last a zero j e =
 row_with_last a (suc n) j e = ap (λ l. a ∷ l) (row_with_last (a + 1) n j (omega arith))
 
 -- those before the last, and the last
-pub range_last : (a b : ℕ) → a < b → range_with_len a (b - a) ≡ range_with_len a (b - 1 - a) ++ (b - 1) ∷ []
+pub range_last : (a b : ℕ) → a < b
+    → range_with_len a (b - a) ≡ range_with_len a (b - 1 - a) ++ (b - 1) ∷ []
 range_last a b less =
     let e : b - a ≡ suc (b - 1 - a) = omega arith in
     rw e (row_with_last a (b - 1 - a) (b - 1) (omega arith))
 
 -- fewer are left
-pub length_range_last : (a b : ℕ) → a < b → length (range_with_len a (b - 1 - a)) < length (range_with_len a (b - a))
-length_range_last a b less = omega (arith, length-range_with_len a (b - 1 - a), length-range_with_len a (b - a))
+pub length_range_last : (a b : ℕ) → a < b
+    → length (range_with_len a (b - 1 - a)) < length (range_with_len a (b - a))
+length_range_last a b less =
+    omega (arith, length-range_with_len a (b - 1 - a), length-range_with_len a (b - a))
 
 -- each is below a bound of the end
 pub range_below : (a e b : ℕ) → e ≤ b → All (λ i. i < b) (range_with_len a (e - a))
-range_below a e b bound = λ k d lt. omega (arith, length-range_with_len a (e - a), get_or-range_with_len a (e - a) k d (omega (arith, length-range_with_len a (e - a))))
+range_below a e b bound = λ k d lt. omega (
+  arith,
+  length-range_with_len a (e - a),
+  get_or-range_with_len a (e - a) k d (omega (arith, length-range_with_len a (e - a))),
+)
 
 -- as many are left as the bounds are apart
 pub range_len : (a b : ℕ) → length (range_with_len a (b - a)) ≡ b - a
 range_len a b = length-range_with_len a (b - a)
 
 -- what is left after the first is below the same bound
-pub rest_below : (b x : ℕ) (xs ys : List ℕ) → ys ≡ x ∷ xs → All (λ i. i < b) ys → All (λ i. i < b) xs
+pub rest_below : (b x : ℕ) (xs ys : List ℕ) → ys ≡ x ∷ xs → All (λ i. i < b) ys
+    → All (λ i. i < b) xs
 rest_below b x xs ys is all = All-rest (λ i. i < b) x xs ys is all

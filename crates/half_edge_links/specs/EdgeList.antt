@@ -1,5 +1,6 @@
 -- A list of directed edges whose first place in memory is free, and how it keeps each of them.
-use Rattle.std.specs.Prelude.{◌≡◌, ℕ, ◌-◌, ◌≤◌, List, [], ◌∷◌, length, map, slice_index_or, slice_set}
+use Rattle.std.specs.Prelude.{◌≡◌, ◌-◌, ◌≤◌, [], ◌∷◌}
+use Rattle.std.specs.Prelude.{ℕ, List, length, map, slice_index_or, slice_set}
 use Rattle.half_edge_links.specs.declared.records.HalfEdge.{HalfEdge}
 use Rattle.half_edge_links.specs.declared.records.StoredEdge.{StoredEdge}
 
@@ -28,7 +29,12 @@ stored_at rs h = slice_index_or rs h no_stored
 
 -- the directed edge that is kept as r: the edge after it says where it starts
 abbrev pub shown_edge : List StoredEdge → StoredEdge → HalfEdge
-shown_edge rs r = record { origin = (stored_at rs r.next).prev_origin; next = r.next; prev = r.prev; face = r.face }
+shown_edge rs r = record {
+  origin = (stored_at rs r.next).prev_origin;
+  next = r.next;
+  prev = r.prev;
+  face = r.face;
+}
 
 -- the directed edges that a list keeps
 unfoldable pub shown : List StoredEdge → List HalfEdge

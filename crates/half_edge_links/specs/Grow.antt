@@ -1,7 +1,9 @@
 -- The mesh after calls that grow it beside the outer face.
-use Rattle.std.specs.Prelude.{◌≡◌, ◌≢◌, ℕ, ◌+◌, ◌<◌, List, [], ◌∷◌, ◌++◌, length, Option, Some, None, IsSome, slice_set}
+use Rattle.std.specs.Prelude.{◌≡◌, ◌≢◌, ◌+◌, ◌<◌, [], ◌∷◌, ◌++◌}
+use Rattle.std.specs.Prelude.{ℕ, List, length, Option, Some, None, IsSome, slice_set}
 use Rattle.half_edge_links.specs.declared.records.HalfEdge.{HalfEdge}
-use Rattle.half_edge_links.specs.Mesh.{Mesh, edge_at, origin, next, prev, face, rev, out_edge, HasLinks}
+use Rattle.half_edge_links.specs.Mesh.{Mesh, edge_at, origin, next, prev, face, rev, out_edge}
+use Rattle.half_edge_links.specs.Mesh.{HasLinks}
 use Rattle.half_edge_links.specs.Flip.{flipped}
 
 -- one link of a directed edge is written
@@ -28,7 +30,8 @@ IsOuter m h = (h < length m.half_edges) × (face m h ≡ 0)
 unfoldable pub hung_edges : List HalfEdge → ℕ → ℕ → ℕ → ℕ → List HalfEdge
 hung_edges hs x y v n =
     with_prev (with_next hs x n) y (n + 1)
-    ++ record { origin = (edge_at hs y).origin; next = n + 1; prev = x; face = (edge_at hs x).face } ∷ []
+    ++ record { origin = (edge_at hs y).origin; next = n + 1; prev = x; face = (edge_at hs x).face }
+    ∷ []
     ++ record { origin = v; next = y; prev = n; face = (edge_at hs x).face } ∷ []
 
 -- the mesh with an edge from the end of edge x to vertex v
@@ -61,23 +64,26 @@ pub record IsClosable (m : Mesh) (e : ℕ) : Type 0 where
   pub outer : face m e ≡ 0
   pub apart : origin m (rev (next m e)) ≢ origin m e
 
--- directed edges where e, second and a new one are the loop of face g, between the edges before and after
+-- directed edges where e, second and a new one are the loop of face g, between the edges before and
+-- after
 unfoldable pub closed_edges : List HalfEdge → ℕ → ℕ → ℕ → ℕ → ℕ → ℕ → List HalfEdge
 closed_edges hs e second before after n g =
-    with_face (with_face (with_prev (with_prev (with_next (with_next hs before (n + 1)) second n) after (n + 1)) e n) e g) second g
+    with_face (with_face (with_prev (with_prev (with_next (with_next hs before (n + 1)) second n)
+    after (n + 1)) e n) e g) second g
     ++ record { origin = (edge_at hs after).origin; next = e; prev = second; face = g } ∷ []
     ++ record { origin = (edge_at hs e).origin; next = after; prev = before; face = 0 } ∷ []
 
 -- the mesh with a new face of edge e, the next one and a new edge
 unfoldable pub closed : Mesh → ℕ → Mesh
 closed m e = record m {
-  half_edges = closed_edges m.half_edges e (next m e) (prev m e) (next m (next m e)) (length m.half_edges) (length m.face_edges + 1);
+  half_edges = closed_edges m.half_edges e (next m e) (prev m e) (next m (next m e))
+      (length m.half_edges) (length m.face_edges + 1);
   outer_edge = Some (length m.half_edges + 1);
   face_edges = m.face_edges ++ e ∷ [];
 }
 
--- what a new face of edge e, the next one and a new edge does, where n is the number of directed edges
--- and g that of the inner faces
+-- what a new face of edge e, the next one and a new edge does, where n is the number of directed
+-- edges and g that of the inner faces
 pub record Closes (old new : Mesh) (e n g : ℕ) : Type 0 where
   pub inside : HasLinks new n (origin old (next old (next old e))) e (next old e) (g + 1)
   pub outside : HasLinks new (n + 1) (origin old e) (next old (next old e)) (prev old e) 0
@@ -103,11 +109,13 @@ pub record IsSlidable (m : Mesh) (e : ℕ) : Type 0 where
   pub apart : next m e ≢ rev e
   pub one_face : m.face_edges ≡ []
 
--- directed edges where e and its other side t end and start at the far end of the edge k after e, whose
--- other side is l; z is the edge before t
+-- directed edges where e and its other side t end and start at the far end of the edge k after e,
+-- whose other side is l; z is the edge before t
 unfoldable pub slid_edges : List HalfEdge → ℕ → ℕ → ℕ → ℕ → ℕ → List HalfEdge
 slid_edges hs e t k l z =
-    with_origin (with_prev (with_prev (with_prev (with_next (with_next (with_next hs e l) z k) k t) l e) k z) t k) t (edge_at hs l).origin
+    with_origin (with_prev
+    (with_prev (with_prev (with_next (with_next (with_next hs e l) z k) k t) l e) k z) t k) t
+    (edge_at hs l).origin
 
 -- the mesh where edge e ends at the far end of the edge after it
 unfoldable pub slid : Mesh → ℕ → Mesh
@@ -116,7 +124,8 @@ slid m e = record m {
   out_edges = slice_set m.out_edges (origin m (next m e)) (Some (next m e));
 }
 
--- what it does that edge e ends at the far end of the edge k after it, where l is the other side of k
+-- what it does that edge e ends at the far end of the edge k after it, where l is the other side of
+-- k
 pub record Slides (old new : Mesh) (e k l : ℕ) : Type 0 where
   pub next_edge : next new e ≡ l
   pub next_before : next new (prev old (rev e)) ≡ k
@@ -124,8 +133,10 @@ pub record Slides (old new : Mesh) (e k l : ℕ) : Type 0 where
   pub prev_back : prev new l ≡ e
   pub prev_there : prev new k ≡ prev old (rev e)
   pub prev_twin : prev new (rev e) ≡ k
-  pub other_next : (h : ℕ) → h < length old.half_edges → h ≢ e → h ≢ prev old (rev e) → h ≢ k → next new h ≡ next old h
-  pub other_prev : (h : ℕ) → h < length old.half_edges → h ≢ l → h ≢ k → h ≢ rev e → prev new h ≡ prev old h
+  pub other_next : (h : ℕ) → h < length old.half_edges → h ≢ e → h ≢ prev old (rev e) → h ≢ k
+      → next new h ≡ next old h
+  pub other_prev : (h : ℕ) → h < length old.half_edges → h ≢ l → h ≢ k → h ≢ rev e
+      → prev new h ≡ prev old h
   pub origin_twin : origin new (rev e) ≡ origin old l
   pub other_origins : (h : ℕ) → h < length old.half_edges → h ≢ rev e → origin new h ≡ origin old h
   pub faces : (h : ℕ) → h < length old.half_edges → face new h ≡ face old h
@@ -140,8 +151,8 @@ pub record Slides (old new : Mesh) (e k l : ℕ) : Type 0 where
 abbrev pub with_face_beside : Mesh → ℕ → ℕ → Mesh
 with_face_beside m e v = closed (hung m e v) e
 
--- what a new face of outer edge e and vertex v does, where n is the number of directed edges and g that
--- of the inner faces
+-- what a new face of outer edge e and vertex v does, where n is the number of directed edges and g
+-- that of the inner faces
 pub record AddsFace (old new : Mesh) (e v n g : ℕ) : Type 0 where
   pub edge : HasLinks new e (origin old e) n (n + 2) (g + 1)
   pub there : HasLinks new n (origin old (next old e)) (n + 2) e (g + 1)
@@ -221,8 +232,8 @@ pub record IsOnLine (m : Mesh) (u : ℕ) : Type 0 where
   pub has_edge : IsSome (out_edge m u)
   pub one_face : m.face_edges ≡ []
 
--- what splitting edge e, with the outer face on its right, at vertex v does, where n is the number of
--- directed edges and g that of the inner faces
+-- what splitting edge e, with the outer face on its right, at vertex v does, where n is the number
+-- of directed edges and g that of the inner faces
 pub record HalfSplits (old new : Mesh) (e v n g : ℕ) : Type 0 where
   pub edge : HasLinks new e (origin old (prev old e)) (n + 2) (next old e) (face old e)
   pub twin : HasLinks new (rev e) v (prev old e) n (g + 1)
@@ -232,9 +243,12 @@ pub record HalfSplits (old new : Mesh) (e v n g : ℕ) : Type 0 where
   pub second : HasLinks new (n + 2) v (next old e) e (face old e)
   pub outer_first : HasLinks new (n + 3) (origin old (rev e)) (n + 1) (prev old (rev e)) 0
   pub outer_second : HasLinks new (n + 1) v (next old (rev e)) (n + 3) 0
-  pub other_next : (h : ℕ) → h < n → h ≢ e → h ≢ rev e → h ≢ next old e → h ≢ prev old e → h ≢ prev old (rev e) → next new h ≡ next old h
-  pub other_prev : (h : ℕ) → h < n → h ≢ e → h ≢ rev e → h ≢ next old e → h ≢ prev old e → h ≢ next old (rev e) → prev new h ≡ prev old h
-  pub other_faces : (h : ℕ) → h < n → h ≢ e → h ≢ rev e → h ≢ next old e → h ≢ prev old e → face new h ≡ face old h
+  pub other_next : (h : ℕ) → h < n → h ≢ e → h ≢ rev e → h ≢ next old e → h ≢ prev old e
+      → h ≢ prev old (rev e) → next new h ≡ next old h
+  pub other_prev : (h : ℕ) → h < n → h ≢ e → h ≢ rev e → h ≢ next old e → h ≢ prev old e
+      → h ≢ next old (rev e) → prev new h ≡ prev old h
+  pub other_faces : (h : ℕ) → h < n → h ≢ e → h ≢ rev e → h ≢ next old e → h ≢ prev old e
+      → face new h ≡ face old h
   pub other_origins : (h : ℕ) → h < n → h ≢ e → h ≢ rev e → origin new h ≡ origin old h
   pub next_before : next new (prev old (rev e)) ≡ n + 3
   pub prev_after : prev new (next old (rev e)) ≡ n + 1

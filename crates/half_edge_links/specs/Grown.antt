@@ -4,8 +4,10 @@ use Rattle.half_edge_links.specs.Mesh.{Mesh, origin, next, rev}
 use Rattle.half_edge_links.specs.Room.{Room, HasEdgeRoom, HasFaceRoom}
 use Rattle.half_edge_links.specs.Hull.{KeepsOneOutline}
 use Rattle.half_edge_links.specs.Triangles.{triangles}
-use Rattle.half_edge_links.specs.Outline.{HangsOuter, ClosesOuter, ReplacesOuter, SplitsOuter, ExtendsOuter}
-use Rattle.half_edge_links.specs.Outline.{AddsTriangle, HalfSplitsTriangles, AddsEdge, AddsTwoEdges, HalfSplitsEnds}
+use Rattle.half_edge_links.specs.Outline.{HangsOuter, ClosesOuter, ReplacesOuter, SplitsOuter}
+use Rattle.half_edge_links.specs.Outline.{ExtendsOuter}
+use Rattle.half_edge_links.specs.Outline.{AddsTriangle, HalfSplitsTriangles, AddsEdge, AddsTwoEdges}
+use Rattle.half_edge_links.specs.Outline.{HalfSplitsEnds}
 use Rattle.half_edge_links.specs.Outline.{SplitsLineEnds}
 use Rattle.half_edge_links.specs.Grow.{Hangs, Closes, AddsFace, HalfSplits, SplitsLine, edge_into}
 
@@ -21,7 +23,8 @@ pub record AreConnectable (m : Mesh) (a b : ℕ) : Type 0 where
   pub to : b < length m.out_edges
   pub apart : a ≢ b
 
--- an edge from the end of outer edge x to vertex v: its links and ends, the faces and the outer edges
+-- an edge from the end of outer edge x to vertex v: its links and ends, the faces and the outer
+-- edges
 pub record HangsEdge (old new : Mesh) (x v : ℕ) : Type 0 where
   pub links : Hangs old new x v (length old.half_edges)
   pub ends : AddsEdge old new (origin old (rev x)) v
@@ -29,17 +32,18 @@ pub record HangsEdge (old new : Mesh) (x v : ℕ) : Type 0 where
   pub outer : HangsOuter old new x v (length old.half_edges)
   pub outline : KeepsOneOutline old new
 
--- a new face of outer edge e, the next one and a new edge: the links and ends of the edge, the corners of
--- the face and the outer edges
+-- a new face of outer edge e, the next one and a new edge: the links and ends of the edge, the
+-- corners of the face and the outer edges
 pub record ClosesCorner (old new : Mesh) (e : ℕ) : Type 0 where
   pub links : Closes old new e (length old.half_edges) (length old.face_edges)
   pub ends : AddsEdge old new (origin old (rev (next old e))) (origin old e)
-  pub corners : AddsTriangle old new (origin old e) (origin old (next old e)) (origin old (rev (next old e)))
+  pub corners :
+      AddsTriangle old new (origin old e) (origin old (next old e)) (origin old (rev (next old e)))
   pub outer : ClosesOuter old new e (length old.half_edges)
   pub outline : KeepsOneOutline old new
 
--- a new face of outer edge e and vertex v: the links and ends of its two new edges, its corners and the
--- outer edges
+-- a new face of outer edge e and vertex v: the links and ends of its two new edges, its corners and
+-- the outer edges
 pub record AddsFaceBeside (old new : Mesh) (e v : ℕ) : Type 0 where
   pub links : AddsFace old new e v (length old.half_edges) (length old.face_edges)
   pub ends : AddsTwoEdges old new (origin old (rev e)) v v (origin old e)
@@ -47,13 +51,14 @@ pub record AddsFaceBeside (old new : Mesh) (e v : ℕ) : Type 0 where
   pub outer : ReplacesOuter old new e v (length old.half_edges + 3) (length old.half_edges + 1)
   pub outline : KeepsOneOutline old new
 
--- edge e, with the outer face on its right, is split at vertex v: the links and ends of the edges, the corners
--- of the faces and the outer edges
+-- edge e, with the outer face on its right, is split at vertex v: the links and ends of the edges,
+-- the corners of the faces and the outer edges
 pub record SplitsHalfEdge (old new : Mesh) (e v : ℕ) : Type 0 where
   pub links : HalfSplits old new e v (length old.half_edges) (length old.face_edges)
   pub ends : HalfSplitsEnds old new e v
   pub corners : HalfSplitsTriangles old new v e
-  pub outer : ReplacesOuter old new (rev e) v (length old.half_edges + 3) (length old.half_edges + 1)
+  pub outer :
+      ReplacesOuter old new (rev e) v (length old.half_edges + 3) (length old.half_edges + 1)
   pub outline : KeepsOneOutline old new
 
 -- an edge from vertex u of a line to vertex v: its links and ends, and the outer edges

@@ -4,11 +4,13 @@ use Rattle.half_edge_links.specs.Mesh.{Mesh, IsValidMesh, next, face, rev, itera
 
 -- a set of edges holds with each outer edge the next one
 abbrev pub IsClosedAlong : Mesh → (ℕ → Bool) → Type 0
-IsClosedAlong m among = (h : ℕ) → h < length m.half_edges → face m h ≡ 0 → among h ≡ true → among (next m h) ≡ true
+IsClosedAlong m among = (h : ℕ) → h < length m.half_edges → face m h ≡ 0 → among h ≡ true
+    → among (next m h) ≡ true
 
 -- the outer face has one loop: a closed set with one outer edge has all
 abbrev pub HasOneOutline : Mesh → Type 0
-HasOneOutline m = (among : ℕ → Bool) → IsClosedAlong m among → (h g : ℕ) → h < length m.half_edges → g < length m.half_edges → face m h ≡ 0 → face m g ≡ 0 → among h ≡ true → among g ≡ true
+HasOneOutline m = (among : ℕ → Bool) → IsClosedAlong m among → (h g : ℕ) → h < length m.half_edges
+    → g < length m.half_edges → face m h ≡ 0 → face m g ≡ 0 → among h ≡ true → among g ≡ true
 
 -- a change that leaves the outer face one loop
 abbrev pub KeepsOneOutline : Mesh → Mesh → Type 0
@@ -29,8 +31,10 @@ pub record IsOutline (m : Mesh) (first count : ℕ) : Type 0 where
   pub within : (i : ℕ) → outer_step m first i < length m.half_edges
   pub outer : (i : ℕ) → face m (outer_step m first i) ≡ 0
   pub apart : (i j : ℕ) → i < j → j < count → outer_step m first i ≢ outer_step m first j
-  pub all : (h : ℕ) → h < length m.half_edges → face m h ≡ 0 → (i : ℕ) × (i < count) × (h ≡ outer_step m first i)
+  pub all : (h : ℕ) → h < length m.half_edges → face m h ≡ 0
+      → (i : ℕ) × (i < count) × (h ≡ outer_step m first i)
 
 -- the outer edges of a mesh with one outer loop are one round
 abbrev pub OutlineGoesRound : Type 0
-OutlineGoesRound = (m : Mesh) → IsValidMesh m → HasOneOutline m → (first : ℕ) → m.outer_edge ≡ Some first → (count : ℕ) × IsOutline m first count
+OutlineGoesRound = (m : Mesh) → IsValidMesh m → HasOneOutline m → (first : ℕ)
+    → m.outer_edge ≡ Some first → (count : ℕ) × IsOutline m first count

@@ -1,10 +1,13 @@
 -- A vertex is put into an inner face.
-use Rattle.std.specs.Prelude.{◌≡◌, ◌≢◌, ℕ, ◌+◌, ◌-◌, ◌<◌, ◌≤◌, List, [], ◌∷◌, ◌++◌, length, Some, slice_set}
+use Rattle.std.specs.Prelude.{◌≡◌, ◌≢◌, ◌+◌, ◌-◌, ◌<◌, ◌≤◌, [], ◌∷◌, ◌++◌}
+use Rattle.std.specs.Prelude.{ℕ, List, length, Some, slice_set}
 use Rattle.half_edge_links.specs.declared.records.HalfEdge.{HalfEdge}
-use Rattle.half_edge_links.specs.Mesh.{Mesh, edge_at, origin, next, prev, face, face_edge, out_edge, HasLinks}
+use Rattle.half_edge_links.specs.Mesh.{Mesh, edge_at, origin, next, prev, face, face_edge, out_edge}
+use Rattle.half_edge_links.specs.Mesh.{HasLinks}
 
 -- directed edges, n of them, after vertex v was put into face f, whose edges are a and these three
-abbrev pub fan_by : List HalfEdge → ℕ → ℕ → ℕ → ℕ → ℕ → HalfEdge → HalfEdge → HalfEdge → List HalfEdge
+abbrev pub fan_by : List HalfEdge → ℕ → ℕ → ℕ → ℕ → ℕ → HalfEdge → HalfEdge → HalfEdge
+    → List HalfEdge
 fan_by hs v f n g a first second third =
     slice_set (slice_set (slice_set hs
     a (record { origin = first.origin; next = n + 2; prev = n + 1; face = f }))
@@ -31,8 +34,8 @@ inserted m v a =
     insert_by m v (face m a) (length m.half_edges) (length m.face_edges) a (edge_at m.half_edges a)
     (edge_at m.half_edges (next m a)) (edge_at m.half_edges (prev m a))
 
--- what putting vertex v into face f does, where a is an edge of f, n the number of directed edges and
--- g that of the inner faces
+-- what putting vertex v into face f does, where a is an edge of f, n the number of directed edges
+-- and g that of the inner faces
 pub record Inserts (old new : Mesh) (v f a n g : ℕ) : Type 0 where
   pub first : HasLinks new a (origin old a) (n + 2) (n + 1) f
   pub second : HasLinks new (next old a) (origin old (next old a)) (n + 4) (n + 3) (g + 1)
@@ -43,7 +46,8 @@ pub record Inserts (old new : Mesh) (v f a n g : ℕ) : Type 0 where
   pub to_second : HasLinks new (n + 3) v (next old a) (n + 4) (g + 1)
   pub from_third : HasLinks new (n + 4) (origin old (prev old a)) (n + 3) (next old a) (g + 1)
   pub to_third : HasLinks new (n + 5) v (prev old a) n (g + 2)
-  pub other_edges : (h : ℕ) → h < n → h ≢ a → h ≢ next old a → h ≢ prev old a → edge_at new.half_edges h ≡ edge_at old.half_edges h
+  pub other_edges : (h : ℕ) → h < n → h ≢ a → h ≢ next old a → h ≢ prev old a
+      → edge_at new.half_edges h ≡ edge_at old.half_edges h
   pub edge_count : length new.half_edges ≡ n + 6
   pub vertex_count : length new.out_edges ≡ length old.out_edges
   pub face_count : length new.face_edges ≡ g + 2

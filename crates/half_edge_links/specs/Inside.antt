@@ -7,7 +7,8 @@ use Rattle.half_edge_links.specs.Outline.{KeepsOuter, MovesEdge, InsertsEnds, Sp
 use Rattle.half_edge_links.specs.Flip.{Flips}
 use Rattle.half_edge_links.specs.Insert.{Inserts}
 
--- edge e is turned: the links, the ends of the edge, the corners of its two faces and the outer edges
+-- edge e is turned: the links, the ends of the edge, the corners of its two faces and the outer
+-- edges
 pub record FlipsEdge (old new : Mesh) (e : ℕ) : Type 0 where
   pub links : Flips old new e
   pub ends : MovesEdge old new e (origin old (prev old e)) (origin old (prev old (rev e)))
@@ -15,8 +16,8 @@ pub record FlipsEdge (old new : Mesh) (e : ℕ) : Type 0 where
   pub outer : KeepsOuter old new
   pub outline : KeepsOneOutline old new
 
--- vertex v is put into the face on the left of edge a: the links, the ends of the new edges, the corners of the
--- three faces and the outer edges
+-- vertex v is put into the face on the left of edge a: the links, the ends of the new edges, the
+-- corners of the three faces and the outer edges
 pub record InsertsBeside (old new : Mesh) (v a : ℕ) : Type 0 where
   pub links : Inserts old new v (face old a) a (length old.half_edges) (length old.face_edges)
   pub ends : InsertsEnds old new v a
@@ -24,8 +25,8 @@ pub record InsertsBeside (old new : Mesh) (v a : ℕ) : Type 0 where
   pub outer : KeepsOuter old new
   pub outline : KeepsOneOutline old new
 
--- edge e, between two inner faces, is split at vertex v: the ends of the edges, the corners of the four faces
--- and the outer edges
+-- edge e, between two inner faces, is split at vertex v: the ends of the edges, the corners of the
+-- four faces and the outer edges
 pub record SplitsInnerEdge (old new : Mesh) (v e : ℕ) : Type 0 where
   pub ends : SplitsEnds old new e v
   pub corners : SplitsTriangles old new v e

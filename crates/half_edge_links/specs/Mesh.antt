@@ -1,10 +1,13 @@
 -- What a contract sees of the links of a mesh.
-use Rattle.std.specs.Prelude.{◌≡◌, ◌≢◌, ◌⊎◌, ℕ, zero, suc, ◌+◌, ◌-◌, ◌%◌, ◌<◌, ◌≤◌, ◌==◌, List, [], ◌∷◌, ◌++◌, length, Option, Some, None, IsSome, slice_index_or, slice_set, if◌then◌else◌, Bool, true}
+use Rattle.std.specs.Prelude.{◌≡◌, ◌≢◌, ◌⊎◌, ◌+◌, ◌-◌, ◌%◌, ◌<◌, ◌≤◌, ◌==◌, [], ◌∷◌, ◌++◌}
+use Rattle.std.specs.Prelude.{if◌then◌else◌}
+use Rattle.std.specs.Prelude.{ℕ, zero, suc, List, length, Option, Some, None, IsSome}
+use Rattle.std.specs.Prelude.{slice_index_or, slice_set, Bool, true}
 use Rattle.half_edge_links.specs.declared.records.HalfEdge.{HalfEdge}
 use Rattle.half_edge_links.specs.declared.room.TheConstants.{MAX_ELEMENTS}
 
--- an out edge of each vertex, the directed edges, and an edge of the outer face and of each face from
--- face 1 on
+-- an out edge of each vertex, the directed edges, and an edge of the outer face and of each face
+-- from face 1 on
 pub record Mesh : Type 0 where
   pub out_edges : List (Option ℕ)
   pub half_edges : List HalfEdge
@@ -59,7 +62,8 @@ pub record IsSoundEdge (m : Mesh) (h : ℕ) : Type 0 where
   pub same_face : face m (next m h) ≡ face m h
   pub three : 0 < face m h → next m (next m h) ≡ prev m h
   pub proper : next m h ≢ h
-  pub owned : 0 < face m h → (face_edge m (face m h) ≡ h) ⊎ ((face_edge m (face m h) ≡ next m h) ⊎ (face_edge m (face m h) ≡ prev m h))
+  pub owned : 0 < face m h → (face_edge m (face m h) ≡ h)
+      ⊎ ((face_edge m (face m h) ≡ next m h) ⊎ (face_edge m (face m h) ≡ prev m h))
   pub has_out : IsSome (out_edge m (origin m h))
 
 -- the links fit together: of each edge, and of what vertices, faces and the outer face name
@@ -67,7 +71,8 @@ pub record AreSoundLinks (m : Mesh) : Type 0 where
   pub even : length m.half_edges % 2 ≡ 0
   pub edges : (h : ℕ) → h < length m.half_edges → IsSoundEdge m h
   pub vertices : (v h : ℕ) → out_edge m v ≡ Some h → (h < length m.half_edges) × (origin m h ≡ v)
-  pub faces : (f : ℕ) → 0 < f → f ≤ length m.face_edges → (face_edge m f < length m.half_edges) × (face m (face_edge m f) ≡ f)
+  pub faces : (f : ℕ) → 0 < f → f ≤ length m.face_edges
+      → (face_edge m f < length m.half_edges) × (face m (face_edge m f) ≡ f)
   pub outer : (h : ℕ) → m.outer_edge ≡ Some h → (h < length m.half_edges) × (face m h ≡ 0)
   pub has_outer : 0 < length m.half_edges → IsSome m.outer_edge
 
@@ -83,11 +88,13 @@ HasApartEnds m = (h : ℕ) → h < length m.half_edges → origin m h ≢ origin
 
 -- a set of edges holds with each edge the next one round its origin, against the clock
 abbrev pub IsClosed : Mesh → (ℕ → Bool) → Type 0
-IsClosed m among = (h : ℕ) → h < length m.half_edges → among h ≡ true → among (rev (prev m h)) ≡ true
+IsClosed m among = (h : ℕ) → h < length m.half_edges → among h ≡ true
+    → among (rev (prev m h)) ≡ true
 
 -- round each vertex goes one round of edges: a closed set with one of them has all
 abbrev pub HasStars : Mesh → Type 0
-HasStars m = (among : ℕ → Bool) → IsClosed m among → (h g : ℕ) → h < length m.half_edges → g < length m.half_edges → origin m h ≡ origin m g → among h ≡ true → among g ≡ true
+HasStars m = (among : ℕ → Bool) → IsClosed m among → (h g : ℕ) → h < length m.half_edges
+    → g < length m.half_edges → origin m h ≡ origin m g → among h ≡ true → among g ≡ true
 
 -- what always holds of a mesh
 pub record IsValidMesh (m : Mesh) : Type 0 where
@@ -126,7 +133,8 @@ with_vertex m = record m { out_edges = m.out_edges ++ None ∷ [] }
 -- the mesh whose first edge, from a to b, was made
 abbrev pub connected : Mesh → ℕ → ℕ → Mesh
 connected m a b = record m {
-  half_edges = record { origin = a; next = 1; prev = 1; face = 0 } ∷ record { origin = b; next = 0; prev = 0; face = 0 } ∷ [];
+  half_edges = record { origin = a; next = 1; prev = 1; face = 0 }
+      ∷ record { origin = b; next = 0; prev = 0; face = 0 } ∷ [];
   out_edges = slice_set (slice_set m.out_edges a (Some 0)) b (Some 1);
   outer_edge = Some 0;
 }

@@ -4,7 +4,8 @@ use Rattle.half_edge_links.specs.declared.records.HalfEdge.{HalfEdge}
 use Rattle.half_edge_links.specs.Mesh.{Mesh, edge_at, origin, next, prev, face, rev, out_edge}
 use Rattle.half_edge_links.specs.Grow.{with_next, with_prev, with_origin}
 
--- the vertex at the end of e has one more edge, to another vertex than the start of e, and there is no inner face
+-- the vertex at the end of e has one more edge, to another vertex than the start of e, and there is
+-- no inner face
 pub record IsPassable (m : Mesh) (e : ℕ) : Type 0 where
   pub within : e < length m.half_edges
   pub two : prev m (rev e) ≡ rev (next m e)
@@ -12,20 +13,25 @@ pub record IsPassable (m : Mesh) (e : ℕ) : Type 0 where
   pub corners : origin m e ≢ origin m (rev (next m e))
   pub one_face : m.face_edges ≡ []
 
--- directed edges where e and its other side t end and start at the far end of the edge l after e, whose other
--- side is k; z is the edge before k
+-- directed edges where e and its other side t end and start at the far end of the edge l after e,
+-- whose other side is k; z is the edge before k
 unfoldable pub passed_edges : List HalfEdge → ℕ → ℕ → ℕ → ℕ → ℕ → List HalfEdge
 passed_edges hs e t k l z =
-    with_origin (with_prev (with_prev (with_prev (with_next (with_next (with_next hs e k) z t) k l) l k) k e) t z) t (edge_at hs k).origin
+    with_origin (with_prev
+    (with_prev (with_prev (with_next (with_next (with_next hs e k) z t) k l) l k) k e) t z) t
+    (edge_at hs k).origin
 
--- the mesh where edge e ends at the far end of the edge after it, at which the vertex between them hangs
+-- the mesh where edge e ends at the far end of the edge after it, at which the vertex between them
+-- hangs
 unfoldable pub passed : Mesh → ℕ → Mesh
 passed m e = record m {
-  half_edges = passed_edges m.half_edges e (rev e) (prev m (rev e)) (next m e) (prev m (prev m (rev e)));
+  half_edges =
+      passed_edges m.half_edges e (rev e) (prev m (rev e)) (next m e) (prev m (prev m (rev e)));
   out_edges = slice_set m.out_edges (origin m (next m e)) (Some (next m e));
 }
 
--- what it does that edge e passes the vertex at its end, where l is the edge after e and k the other side of l
+-- what it does that edge e passes the vertex at its end, where l is the edge after e and k the
+-- other side of l
 pub record Passes (old new : Mesh) (e k l : ℕ) : Type 0 where
   pub next_edge : next new e ≡ k
   pub next_before : next new (prev old k) ≡ rev e
@@ -33,8 +39,10 @@ pub record Passes (old new : Mesh) (e k l : ℕ) : Type 0 where
   pub prev_back : prev new l ≡ k
   pub prev_there : prev new k ≡ e
   pub prev_twin : prev new (rev e) ≡ prev old k
-  pub other_next : (h : ℕ) → h < length old.half_edges → h ≢ e → h ≢ prev old k → h ≢ k → next new h ≡ next old h
-  pub other_prev : (h : ℕ) → h < length old.half_edges → h ≢ l → h ≢ k → h ≢ rev e → prev new h ≡ prev old h
+  pub other_next : (h : ℕ) → h < length old.half_edges → h ≢ e → h ≢ prev old k → h ≢ k
+      → next new h ≡ next old h
+  pub other_prev : (h : ℕ) → h < length old.half_edges → h ≢ l → h ≢ k → h ≢ rev e
+      → prev new h ≡ prev old h
   pub origin_twin : origin new (rev e) ≡ origin old k
   pub other_origins : (h : ℕ) → h < length old.half_edges → h ≢ rev e → origin new h ≡ origin old h
   pub faces : (h : ℕ) → h < length old.half_edges → face new h ≡ face old h

@@ -31,8 +31,8 @@ pub record IsWheel (m : Mesh) (o : ℕ) : Type 0 where
 abbrev pub spoke : Mesh → ℕ → ℕ → ℕ
 spoke m h i = iterate (turn m) i h
 
--- a vertex with k inner faces, one after the other from edge h on, and the outer face between the last edge
--- and h
+-- a vertex with k inner faces, one after the other from edge h on, and the outer face between the
+-- last edge and h
 pub record IsStrip (m : Mesh) (h k : ℕ) : Type 0 where
   pub within : h < length m.half_edges
   pub outer : face m (rev h) ≡ 0

@@ -42,7 +42,8 @@ pub record AreSixPlaces (n a b c d e f : ℕ) : Type 0 where
   pub df : d ≢ f
   pub ef : e ≢ f
 
--- the far end of edge k, which comes after edge e, is free: l is the other side of k, t that of e, and z the edge before t
+-- the far end of edge k, which comes after edge e, is free: l is the other side of k, t that of e,
+-- and z the edge before t
 pub record AreSlidPlaces (hs : List HalfEdge) (e t k l z : ℕ) : Type 0 where
   pub edge_in : e < length hs
   pub twin_in : t < length hs
@@ -58,7 +59,8 @@ pub record AreSlidPlaces (hs : List HalfEdge) (e t k l z : ℕ) : Type 0 where
   pub there-twin : k ≢ t
   pub before-twin : z ≢ t
 
--- edge l comes after edge e, and its other side k before the other side t of e; z is the edge before k
+-- edge l comes after edge e, and its other side k before the other side t of e; z is the edge
+-- before k
 pub record ArePassedPlaces (hs : List HalfEdge) (e t k l z : ℕ) : Type 0 where
   pub edge_in : e < length hs
   pub twin_in : t < length hs

@@ -1,9 +1,13 @@
 -- Edges and faces are taken out of a mesh.
-use Rattle.std.specs.Prelude.{◌≡◌, ◌≢◌, ◌⊎◌, ℕ, ◌+◌, ◌-◌, ◌%◌, ◌<◌, ◌≤◌, ◌==◌, List, [], ◌∷◌, ◌++◌, length, Option, Some, None, IsSome, slice_index_or, slice_set, if◌then◌else◌}
+use Rattle.std.specs.Prelude.{◌≡◌, ◌≢◌, ◌⊎◌, ◌+◌, ◌-◌, ◌%◌, ◌<◌, ◌≤◌, ◌==◌, [], ◌∷◌, ◌++◌}
+use Rattle.std.specs.Prelude.{if◌then◌else◌}
+use Rattle.std.specs.Prelude.{ℕ, List, length, Option, Some, None, IsSome, slice_index_or}
+use Rattle.std.specs.Prelude.{slice_set}
 use Rattle.std.specs.List.{swap_remove}
 use Rattle.half_edge_links.specs.Renames.{Naming, Renames, renamed, pair_moved}
 use Rattle.half_edge_links.specs.declared.records.HalfEdge.{HalfEdge}
-use Rattle.half_edge_links.specs.Mesh.{Mesh, no_edge, edge_at, origin, next, prev, face, face_edge, out_edge, rev, IsSoundEdge}
+use Rattle.half_edge_links.specs.Mesh.{Mesh, no_edge, edge_at, origin, next, prev, face, face_edge}
+use Rattle.half_edge_links.specs.Mesh.{out_edge, rev, IsSoundEdge}
 use Rattle.half_edge_links.specs.Grow.{with_next, with_prev, with_face}
 
 -- directed edge h is in a list, and so are the edges before and after it
@@ -14,12 +18,14 @@ pub record IsLinkedWithin (hs : List HalfEdge) (h : ℕ) : Type 0 where
 
 -- the three edges round the triangle of h get face f
 unfoldable pub with_loop_face : List HalfEdge → ℕ → ℕ → List HalfEdge
-with_loop_face hs h f = with_face (with_face (with_face hs h f) (edge_at hs h).next f) (edge_at hs h).prev f
+with_loop_face hs h f =
+    with_face (with_face (with_face hs h f) (edge_at hs h).next f) (edge_at hs h).prev f
 
 -- the mesh whose face f was given to the outer face, the last face taking its index
 unfoldable pub opened : Mesh → ℕ → Mesh
 opened m f = record m {
-  half_edges = with_loop_face (with_loop_face m.half_edges (face_edge m (length m.face_edges)) f) (face_edge m f) 0;
+  half_edges = with_loop_face (with_loop_face m.half_edges (face_edge m (length m.face_edges)) f)
+      (face_edge m f) 0;
   face_edges = swap_remove m.face_edges (f - 1) 0;
 }
 
@@ -35,8 +41,10 @@ pub record Opens (old new : Mesh) (f : ℕ) : Type 0 where
   pub prev : (k : ℕ) → prev new k ≡ prev old k
   pub origin : (k : ℕ) → origin new k ≡ origin old k
   pub gone : (k : ℕ) → k < length old.half_edges → face old k ≡ f → face new k ≡ 0
-  pub last : (k : ℕ) → k < length old.half_edges → face old k ≡ length old.face_edges → face old k ≢ f → face new k ≡ f
-  pub other : (k : ℕ) → k < length old.half_edges → face old k ≢ f → face old k ≢ length old.face_edges → face new k ≡ face old k
+  pub last : (k : ℕ) → k < length old.half_edges → face old k ≡ length old.face_edges
+      → face old k ≢ f → face new k ≡ f
+  pub other : (k : ℕ) → k < length old.half_edges → face old k ≢ f
+      → face old k ≢ length old.face_edges → face new k ≡ face old k
   pub outs : new.out_edges ≡ old.out_edges
   pub outer_edge : new.outer_edge ≡ old.outer_edge
   pub face_edges : new.face_edges ≡ swap_remove old.face_edges (f - 1) 0
@@ -55,7 +63,8 @@ with_unlinked hs e t =
 abbrev pub out_after : ℕ → ℕ → Option ℕ
 out_after gone other = if other == gone then None else Some other
 
--- the edge that the outer face names once one with reverse t is out: n, or else p, where they are not t
+-- the edge that the outer face names once one with reverse t is out: n, or else p, where they are
+-- not t
 abbrev pub outer_beside : ℕ → ℕ → ℕ → Option ℕ
 outer_beside t n p = if n == t then (if p == t then None else Some p) else Some n
 
@@ -69,7 +78,8 @@ outer_after (Some h) e t n p =
 unfoldable pub unlinked : Mesh → ℕ → Mesh
 unlinked m e = record m {
   half_edges = with_unlinked m.half_edges e (rev e);
-  out_edges = slice_set (slice_set m.out_edges (origin m e) (out_after e (next m (rev e)))) (origin m (rev e)) (out_after (rev e) (next m e));
+  out_edges = slice_set (slice_set m.out_edges (origin m e) (out_after e (next m (rev e))))
+      (origin m (rev e)) (out_after (rev e) (next m e));
   outer_edge = outer_after m.outer_edge e (rev e) (next m e) (prev m e);
 }
 
@@ -89,10 +99,12 @@ pub record Unlinks (old new : Mesh) (e t : ℕ) : Type 0 where
   pub faces : (k : ℕ) → face new k ≡ face old k
   pub before : prev old e ≢ t → next new (prev old e) ≡ next old t
   pub twin_before : prev old t ≢ e → next new (prev old t) ≡ next old e
-  pub other_next : (k : ℕ) → k ≢ e → k ≢ t → k ≢ prev old e → k ≢ prev old t → next new k ≡ next old k
+  pub other_next : (k : ℕ) → k ≢ e → k ≢ t → k ≢ prev old e → k ≢ prev old t
+      → next new k ≡ next old k
   pub after : next old e ≢ t → prev new (next old e) ≡ prev old t
   pub twin_after : next old t ≢ e → prev new (next old t) ≡ prev old e
-  pub other_prev : (k : ℕ) → k ≢ e → k ≢ t → k ≢ next old e → k ≢ next old t → prev new k ≡ prev old k
+  pub other_prev : (k : ℕ) → k ≢ e → k ≢ t → k ≢ next old e → k ≢ next old t
+      → prev new k ≡ prev old k
   pub next_self : next new e ≡ e
   pub prev_self : prev new e ≡ e
   pub twin_next_self : next new t ≡ t
@@ -108,17 +120,22 @@ pub record IsSoundBut (m : Mesh) (hole : ℕ) : Type 0 where
   pub hole_even : hole % 2 ≡ 0
   pub within : hole + 1 < length m.half_edges
   pub edges : (h : ℕ) → h < length m.half_edges → h ≢ hole → h ≢ hole + 1 → IsSoundEdge m h
-  pub next_next : (h : ℕ) → h < length m.half_edges → h ≢ hole → h ≢ hole + 1 → (next m h ≢ hole) × (next m h ≢ hole + 1)
-  pub prev_prev : (h : ℕ) → h < length m.half_edges → h ≢ hole → h ≢ hole + 1 → (prev m h ≢ hole) × (prev m h ≢ hole + 1)
+  pub next_next : (h : ℕ) → h < length m.half_edges → h ≢ hole → h ≢ hole + 1
+      → (next m h ≢ hole) × (next m h ≢ hole + 1)
+  pub prev_prev : (h : ℕ) → h < length m.half_edges → h ≢ hole → h ≢ hole + 1
+      → (prev m h ≢ hole) × (prev m h ≢ hole + 1)
   pub next_self : next m hole ≡ hole
   pub prev_self : prev m hole ≡ hole
   pub twin_next_self : next m (hole + 1) ≡ hole + 1
   pub twin_prev_self : prev m (hole + 1) ≡ hole + 1
   pub origins : (h : ℕ) → h < length m.half_edges → origin m h < length m.out_edges
   pub faces_in : (h : ℕ) → h < length m.half_edges → face m h ≤ length m.face_edges
-  pub vertices : (v h : ℕ) → out_edge m v ≡ Some h → (h < length m.half_edges) × (origin m h ≡ v) × (h ≢ hole) × (h ≢ hole + 1)
-  pub faces : (f : ℕ) → 0 < f → f ≤ length m.face_edges → (face_edge m f < length m.half_edges) × (face m (face_edge m f) ≡ f) × (face_edge m f ≢ hole) × (face_edge m f ≢ hole + 1)
-  pub outer : (h : ℕ) → m.outer_edge ≡ Some h → (h < length m.half_edges) × (face m h ≡ 0) × (h ≢ hole) × (h ≢ hole + 1)
+  pub vertices : (v h : ℕ) → out_edge m v ≡ Some h
+      → (h < length m.half_edges) × (origin m h ≡ v) × (h ≢ hole) × (h ≢ hole + 1)
+  pub faces : (f : ℕ) → 0 < f → f ≤ length m.face_edges → (face_edge m f < length m.half_edges)
+      × (face m (face_edge m f) ≡ f) × (face_edge m f ≢ hole) × (face_edge m f ≢ hole + 1)
+  pub outer : (h : ℕ) → m.outer_edge ≡ Some h
+      → (h < length m.half_edges) × (face m h ≡ 0) × (h ≢ hole) × (h ≢ hole + 1)
   pub has_outer : 2 < length m.half_edges → IsSome m.outer_edge
 
 -- the last edge takes the place of edge hole, and the links to it change
@@ -133,24 +150,35 @@ with_filled hs last hole =
 
 -- vertex v names its edge by the new index, where two directed edges have moved
 unfoldable pub with_out_renamed : List (Option ℕ) → ℕ → ℕ → ℕ → List (Option ℕ)
-with_out_renamed outs v from to = slice_set outs v (renamed (pair_moved from to) (slice_index_or outs v None))
+with_out_renamed outs v from to =
+    slice_set outs v (renamed (pair_moved from to) (slice_index_or outs v None))
 
 -- inner face f names its edge by the new index, where two directed edges have moved
 unfoldable pub with_face_renamed : List ℕ → ℕ → ℕ → ℕ → List ℕ
-with_face_renamed fs f from to = if f == 0 then fs else slice_set fs (f - 1) (pair_moved from to (slice_index_or fs (f - 1) 0))
+with_face_renamed fs f from to =
+    if f == 0 then fs else slice_set fs (f - 1) (pair_moved from to (slice_index_or fs (f - 1) 0))
 
 -- the mesh without edge hole, to which nothing refers: the last edge takes its index
 unfoldable pub filled : Mesh → ℕ → ℕ → Mesh
 filled m last hole = record m {
   half_edges = with_filled m.half_edges last hole;
-  out_edges = with_out_renamed (with_out_renamed m.out_edges (origin m last) last hole) (origin m (last + 1)) last hole;
-  face_edges = with_face_renamed (with_face_renamed m.face_edges (face m last) last hole) (face m (last + 1)) last hole;
+  out_edges = with_out_renamed (with_out_renamed m.out_edges (origin m last) last hole)
+      (origin m (last + 1)) last hole;
+  face_edges = with_face_renamed (with_face_renamed m.face_edges (face m last) last hole)
+      (face m (last + 1)) last hole;
   outer_edge = renamed (pair_moved last hole) m.outer_edge;
 }
 
 -- the new indexes where the last edge takes the place of edge hole
 abbrev pub edge_naming : ℕ → ℕ → Naming
-edge_naming last hole = record { edge = pair_moved last hole; old_edge = pair_moved hole last; vertex = λ v. v; old_vertex = λ v. v; face = λ f. f; old_face = λ f. f }
+edge_naming last hole = record {
+  edge = pair_moved last hole;
+  old_edge = pair_moved hole last;
+  vertex = λ v. v;
+  old_vertex = λ v. v;
+  face = λ f. f;
+  old_face = λ f. f;
+}
 
 -- the mesh without edge e
 abbrev pub removed : Mesh → ℕ → Mesh
@@ -186,7 +214,8 @@ pub record ClosesLoop (old new : Mesh) (h : ℕ) : Type 0 where
   pub nexts : (k : ℕ) → next new k ≡ next old k
   pub prevs : (k : ℕ) → prev new k ≡ prev old k
   pub origins : (k : ℕ) → origin new k ≡ origin old k
-  pub here : (k : ℕ) → (k ≡ h) ⊎ ((k ≡ next old h) ⊎ (k ≡ prev old h)) → face new k ≡ length old.face_edges + 1
+  pub here : (k : ℕ) → (k ≡ h) ⊎ ((k ≡ next old h) ⊎ (k ≡ prev old h))
+      → face new k ≡ length old.face_edges + 1
   pub other : (k : ℕ) → k ≢ h → k ≢ next old h → k ≢ prev old h → face new k ≡ face old k
   pub outs : new.out_edges ≡ old.out_edges
   pub outer_edge : new.outer_edge ≡ old.outer_edge

@@ -1,6 +1,8 @@
 -- A mesh whose elements have new indexes, some of them having gone.
-use Rattle.std.specs.Prelude.{◌≡◌, ℕ, ◌+◌, ◌%◌, ◌<◌, ◌≤◌, ◌==◌, length, Option, Some, None, IsSome, if◌then◌else◌}
-use Rattle.half_edge_links.specs.Mesh.{Mesh, HasLinks, IsSoundEdge, origin, next, prev, face, face_edge, out_edge, rev}
+use Rattle.std.specs.Prelude.{◌≡◌, ◌+◌, ◌%◌, ◌<◌, ◌≤◌, ◌==◌, if◌then◌else◌}
+use Rattle.std.specs.Prelude.{ℕ, length, Option, Some, None, IsSome}
+use Rattle.half_edge_links.specs.Mesh.{Mesh, HasLinks, IsSoundEdge, origin, next, prev, face}
+use Rattle.half_edge_links.specs.Mesh.{face_edge, out_edge, rev}
 
 -- the new index of each old edge, vertex and face, and the old one of each new
 pub record Naming : Type 0 where
@@ -31,7 +33,8 @@ pub record IsKeptEdge (new : Mesh) (r : Naming) (h : ℕ) : Type 0 where
 
 -- new edge h is old edge g, which was sound
 pub record IsRenamedEdge (old new : Mesh) (r : Naming) (h g : ℕ) : Type 0 where
-  pub links : HasLinks new h (r.vertex (origin old g)) (r.edge (next old g)) (r.edge (prev old g)) (r.face (face old g))
+  pub links : HasLinks new h (r.vertex (origin old g)) (r.edge (next old g)) (r.edge (prev old g))
+      (r.face (face old g))
   pub sound : IsSoundEdge old g
   pub back : r.edge g ≡ h
   pub next_kept : IsKeptEdge new r (next old g)
@@ -40,7 +43,8 @@ pub record IsRenamedEdge (old new : Mesh) (r : Naming) (h g : ℕ) : Type 0 wher
   pub origin_in : r.vertex (origin old g) < length new.out_edges
   pub origin_back : r.old_vertex (r.vertex (origin old g)) ≡ origin old g
   pub face_in : r.face (face old g) ≤ length new.face_edges
-  pub face_kept : 0 < r.face (face old g) → (0 < face old g) × (r.old_face (r.face (face old g)) ≡ face old g)
+  pub face_kept : 0 < r.face (face old g)
+      → (0 < face old g) × (r.old_face (r.face (face old g)) ≡ face old g)
 
 -- new face f is old face g
 pub record IsRenamedFace (old new : Mesh) (r : Naming) (f g : ℕ) : Type 0 where

@@ -15,10 +15,13 @@ pub record IsRound (m : Mesh) (u first count : ℕ) : Type 0 where
   pub within : (i : ℕ) → spoke m first i < length m.half_edges
   pub starts : (i : ℕ) → origin m (spoke m first i) ≡ u
   pub apart : (i j : ℕ) → i < j → j < count → spoke m first i ≢ spoke m first j
-  pub all : (h : ℕ) → h < length m.half_edges → origin m h ≡ u → (i : ℕ) × (i < count) × (h ≡ spoke m first i)
-  pub corner : (i : ℕ) → 0 < face m (spoke m first i) → triangle_at m (spoke m first i) ≡ record { first = u; second = neighbour m first i; third = neighbour m first (i + 1) }
+  pub all : (h : ℕ) → h < length m.half_edges → origin m h ≡ u
+      → (i : ℕ) × (i < count) × (h ≡ spoke m first i)
+  pub corner : (i : ℕ) → 0 < face m (spoke m first i) → triangle_at m (spoke m first i)
+      ≡ record { first = u; second = neighbour m first i; third = neighbour m first (i + 1) }
 
--- each vertex with edges has one round of them: an inner face at it lies between two neighbours that follow
--- each other
+-- each vertex with edges has one round of them: an inner face at it lies between two neighbours
+-- that follow each other
 abbrev pub EdgesGoRound : Type 0
-EdgesGoRound = (m : Mesh) → IsValidMesh m → (u first : ℕ) → out_edge m u ≡ Some first → (count : ℕ) × IsRound m u first count
+EdgesGoRound = (m : Mesh) → IsValidMesh m → (u first : ℕ) → out_edge m u ≡ Some first
+    → (count : ℕ) × IsRound m u first count

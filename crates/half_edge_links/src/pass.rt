@@ -18,7 +18,8 @@ use crate::records::{reversed, set_corner, set_next, set_prev};
 fn pass_edges(half_edges: &mut EdgeList, e: u32, t: u32, k: u32, l: u32, z: u32)
     requires joined { AreJoined (shown half_edges.old.items) }
     requires places { ArePassedPlaces (shown half_edges.old.items) e t k l z }
-    ensures items { shown half_edges.new.items ≡ passed_edges (shown half_edges.old.items) e t k l z }
+    ensures items { shown half_edges.new.items ≡
+        passed_edges (shown half_edges.old.items) e t k l z }
     ensures capacity { half_edges.new.capacity ≡ half_edges.old.capacity }
 {
     let start = half_edges.origin(e);

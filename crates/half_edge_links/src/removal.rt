@@ -20,7 +20,8 @@ use crate::vertex_list::VertexList;
 #[tactic(auto, using(crate::proofs::Stored::Shown::joined_reads))]
 pub(crate) fn set_loop_face(half_edges: &mut EdgeList, h: u32, face: u32)
     requires { IsLinkedWithin (shown half_edges.old.items) h }
-    ensures items { shown half_edges.new.items ≡ with_loop_face (shown half_edges.old.items) h face }
+    ensures items { shown half_edges.new.items ≡
+        with_loop_face (shown half_edges.old.items) h face }
     ensures len { length half_edges.new.items ≡ length half_edges.old.items }
     ensures capacity { half_edges.new.capacity ≡ half_edges.old.capacity }
 {
@@ -65,7 +66,8 @@ pub(crate) fn fill(half_edges: &mut EdgeList, last: u32, hole: u32)
     requires last { length half_edges.old.items ≡ last + 2 }
     requires small { length half_edges.old.items ≤ MAX_ELEMENTS }
     requires hole { IsHole (shown half_edges.old.items) hole }
-    ensures items { shown half_edges.new.items ≡ with_filled (shown half_edges.old.items) last hole }
+    ensures items { shown half_edges.new.items ≡
+        with_filled (shown half_edges.old.items) last hole }
     ensures capacity { half_edges.new.capacity ≡ half_edges.old.capacity }
 {
     let even_next = half_edges.next(last);

@@ -127,7 +127,8 @@ impl<V> VertexList<V> {
     pub(crate) fn replace(&mut self, v: u32, value: V) -> V
         requires { v < length self.old.values }
         ensures former { slice_get self.old.values v ≡ Some result }
-        ensures contents { self.new ≡ record self.old { values = slice_set self.old.values v value } }
+        ensures contents { self.new ≡
+            record self.old { values = slice_set self.old.values v value } }
     {
         replace(&mut self.records[v as usize].value, value)
     }

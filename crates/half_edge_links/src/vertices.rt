@@ -1,5 +1,6 @@
 //! Vertices without edges, and new data of vertices.
-ghost use Rattle.std.specs.Prelude.{◌≡◌, ◌-◌, ◌<◌, ◌∷◌, ◌++◌, [], length, Some, slice_get, slice_set};
+ghost use Rattle.std.specs.Prelude.{◌≡◌, ◌-◌, ◌<◌, ◌∷◌, ◌++◌, []};
+ghost use Rattle.std.specs.Prelude.{length, Some, slice_get, slice_set};
 ghost use Rattle.half_edge_links.specs.Hull.{KeepsOneOutline};
 ghost use Rattle.half_edge_links.specs.Mesh.{with_vertex};
 ghost use Rattle.half_edge_links.specs.Room.{HasVertexRoom};
@@ -24,7 +25,8 @@ impl<V> Links<V> {
     pub fn update_vertex(&mut self, v: u32, value: V) -> V
         requires { v < length self.old.values }
         ensures former { slice_get self.old.values v ≡ Some result }
-        ensures contents { self.new ≡ record self.old { values = slice_set self.old.values v value } }
+        ensures contents { self.new ≡
+            record self.old { values = slice_set self.old.values v value } }
     {
         self.vertices.replace(v, value)
     }

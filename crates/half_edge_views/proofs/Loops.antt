@@ -1,8 +1,10 @@
 -- The lists of the edges of a vertex and of the outer loop.
-use Rattle.std.proofs.Common.{◌≡◌, ◌≢◌, ◌⊎◌, ℕ, zero, suc, ◌+◌, ◌-◌, ◌<◌, ◌≤◌, length, Some, None, sym, ap, ◌∙◌, inl, inr, arith}
+use Rattle.std.proofs.Common.{◌≡◌, ◌≢◌, ◌⊎◌, ◌+◌, ◌-◌, ◌<◌, ◌≤◌, ◌∙◌}
+use Rattle.std.proofs.Common.{ℕ, zero, suc, length, Some, None, sym, ap, inl, inr, arith}
 use Rattle.std.specs.Borrow.{Bor}
 use Rattle.std.proofs.lemmas.Bool.{cases_eq, cases_lt}
-use Rattle.half_edge_links.specs.Mesh.{Mesh, AreSoundLinks, IsValidMesh, next, prev, face, out_edge, iterate}
+use Rattle.half_edge_links.specs.Mesh.{Mesh, AreSoundLinks, IsValidMesh, next, prev, face, out_edge}
+use Rattle.half_edge_links.specs.Mesh.{iterate}
 use Rattle.half_edge_links.specs.Hull.{HasOneOutline, IsClosedAlong}
 use Rattle.half_edge_links.specs.Peel.{turn}
 use Rattle.half_edge_links.specs.Round.{IsRound}
@@ -16,16 +18,20 @@ use Rattle.half_edge_views.specs.Rounds.{walk, GivesRound, IsOuterLoop, GivesOut
 use Rattle.half_edge_views.proofs.Walks.{walk-list}
 
 -- a round has no more edges than the mesh
-pub round_fits : (m : Mesh) (u first count : ℕ) → IsValidMesh m → IsRound m u first count → count ≤ length m.half_edges
+pub round_fits : (m : Mesh) (u first count : ℕ) → IsValidMesh m → IsRound m u first count
+    → count ≤ length m.half_edges
 round_fits m u first count v r =
-    let k = comes_back (turn m) (length m.half_edges) (λ a a_in. turn_in m v a a_in) (turn_one m v.sound) first (r.within 0) in
+    let k = comes_back (turn m) (length m.half_edges) (λ a a_in. turn_in m v a a_in)
+    (turn_one m v.sound) first (r.within 0) in
     elim (cases_lt k.0 count) [
       | inl less ↦ absurd (r.apart 0 k.0 k.1 less (sym k.3))
       | inr more ↦ omega (arith, more, k.2)
     ]
 
 -- the walk round a vertex from the edge that it names gives its edges, each once
-pub gives_round : {V D U F : Type 0} (d : Bor (Contents V D U F)) (v first : ℕ) → IsMeshWithData d.now → out_edge d.now.mesh v ≡ Some first → GivesRound d v (each_in d (walk (turn d.now.mesh) first (length d.now.directed) first))
+pub gives_round : {V D U F : Type 0} (d : Bor (Contents V D U F)) (v first : ℕ)
+    → IsMeshWithData d.now → out_edge d.now.mesh v ≡ Some first
+    → GivesRound d v (each_in d (walk (turn d.now.mesh) first (length d.now.directed) first))
 gives_round d v first w named = record {
   alone = λ none. let e : Some first ≡ None = sym named ∙ none in absurd (cc);
   round = λ other is.
@@ -36,19 +42,28 @@ gives_round d v first w named = record {
       let whole : 0 + r.0 ≡ r.0 = omega arith in
       let home = rw whole at (r.1.back 0) in
       let fuel : r.0 ≤ length d.now.directed = omega (arith, enough, w.fits.directed_fit) in
-      let listed = walk-list (turn m) first r.0 (length d.now.directed) (λ i some less back. r.1.apart 0 i some less (sym back)) home r.1.some fuel in
+      let listed = walk-list (turn m) first r.0 (length d.now.directed)
+      (λ i some less back. r.1.apart 0 i some less (sym back)) home r.1.some fuel in
       rw (← same) (r.0, r.1, ap (each_in d) listed);
 }
 
 -- the first number of steps along the outer loop after which it is back
 module _ (m : Mesh) (first : ℕ) where
-  back_up_to : (n : ℕ) → ((k : ℕ) × (0 < k) × (k ≤ n) × (iterate (next m) k first ≡ first) × ((j : ℕ) → 0 < j → j < k → iterate (next m) j first ≢ first)) ⊎ ((j : ℕ) → 0 < j → j ≤ n → iterate (next m) j first ≢ first)
+  back_up_to : (n : ℕ) → ((k : ℕ) × (0 < k) × (k ≤ n) × (iterate (next m) k first ≡ first)
+      × ((j : ℕ) → 0 < j → j < k → iterate (next m) j first ≢ first))
+      ⊎ ((j : ℕ) → 0 < j → j ≤ n → iterate (next m) j first ≢ first)
   back_up_to zero = inr (λ j some less. absurd (omega arith))
   back_up_to (suc n) =
       elim (back_up_to n) [
         | inl found ↦ inl (found.0, found.1, omega (arith, found.2), found.3, found.4)
         | inr none ↦ elim (cases_eq (iterate (next m) (suc n) first) first) [
-          | inl back ↦ inl (suc n, omega arith, omega arith, back, λ j some less. none j some (omega (arith, less)))
+          | inl back ↦ inl (
+            suc n,
+            omega arith,
+            omega arith,
+            back,
+            λ j some less. none j some (omega (arith, less)),
+          )
           | inr off ↦ inr (λ j some less. elim (cases_eq j (suc n)) [
             | inl last ↦ λ q. off (ap (λ i. iterate (next m) i first) (sym last) ∙ q)
             | inr other ↦ none j some (omega (arith, less, other))
@@ -56,7 +71,8 @@ module _ (m : Mesh) (first : ℕ) where
         ]
       ]
 
-  module _ (s : AreSoundLinks m) (first_in : first < length m.half_edges) (first_outer : face m first ≡ 0) where
+  module _ (s : AreSoundLinks m) (first_in : first < length m.half_edges)
+      (first_outer : face m first ≡ 0) where
     along_in : (i : ℕ) → iterate (next m) i first < length m.half_edges
     along_in zero = first_in
     along_in (suc i) = (s.edges _ (along_in i)).next_in
@@ -66,25 +82,36 @@ module _ (m : Mesh) (first : ℕ) where
     along_outer (suc i) = (s.edges _ (along_in i)).same_face ∙ along_outer i
 
     -- equal places are equal so many steps before
-    back_by : (i d : ℕ) → iterate (next m) i first ≡ iterate (next m) (i + d) first → first ≡ iterate (next m) d first
+    back_by : (i d : ℕ) → iterate (next m) i first ≡ iterate (next m) (i + d) first
+        → first ≡ iterate (next m) d first
     back_by zero d same = let e : 0 + d ≡ d = omega arith in rw e at same
     back_by (suc i) d same =
         let e : suc i + d ≡ suc (i + d) = omega arith in
-        let again : next m (iterate (next m) i first) ≡ next m (iterate (next m) (i + d) first) = rw e at same in
-        back_by i d (sym (s.edges _ (along_in i)).prev_next ∙ ap (prev m) again ∙ (s.edges _ (along_in (i + d))).prev_next)
+        let again : next m (iterate (next m) i first) ≡ next m (iterate (next m) (i + d) first) =
+        rw e at same in
+        back_by i d (sym (s.edges _ (along_in i)).prev_next ∙ ap (prev m) again
+        ∙ (s.edges _ (along_in (i + d))).prev_next)
 
     -- where there is one loop, it has each outer edge
-    all_along : (count : ℕ) → 0 < count → iterate (next m) count first ≡ first → HasOneOutline m → (h : ℕ) → h < length m.half_edges → face m h ≡ 0 → (i : ℕ) × (i < count) × (h ≡ iterate (next m) i first)
+    all_along : (count : ℕ) → 0 < count → iterate (next m) count first ≡ first → HasOneOutline m
+        → (h : ℕ) → h < length m.half_edges → face m h ≡ 0
+        → (i : ℕ) × (i < count) × (h ≡ iterate (next m) i first)
     all_along count some back one h within outer =
         let last : suc (count - 1) ≡ count = omega (arith, some) in
-        let round : next m (iterate (next m) (count - 1) first) ≡ first = ap (λ j. iterate (next m) j first) last ∙ back in
-        let closed : IsClosedAlong m (among_steps (next m) first (count - 1)) = λ g g_in zero is. steps_closed (next m) first (count - 1) round g is in
-        let at = from_steps (next m) first (count - 1) h (one (among_steps (next m) first (count - 1)) closed first h first_in within first_outer outer (to_steps (next m) first (count - 1) 0 (omega arith))) in
+        let round : next m (iterate (next m) (count - 1) first) ≡ first =
+        ap (λ j. iterate (next m) j first) last ∙ back in
+        let closed : IsClosedAlong m (among_steps (next m) first (count - 1)) =
+        λ g g_in zero is. steps_closed (next m) first (count - 1) round g is in
+        let at = from_steps (next m) first (count - 1) h
+        (one (among_steps (next m) first (count - 1)) closed first h first_in within first_outer
+        outer (to_steps (next m) first (count - 1) 0 (omega arith))) in
         (at.0, omega (arith, at.1, some), at.2)
 
     outer_loop : (count : ℕ) × IsOuterLoop m first count × (count ≤ length m.half_edges)
     outer_loop =
-        let k = comes_back (next m) (length m.half_edges) (λ a a_in. (s.edges a a_in).next_in) (λ a b a_in b_in same. sym (s.edges a a_in).prev_next ∙ ap (prev m) same ∙ (s.edges b b_in).prev_next) first first_in in
+        let k = comes_back (next m) (length m.half_edges) (λ a a_in. (s.edges a a_in).next_in)
+        (λ a b a_in b_in same. sym (s.edges a a_in).prev_next ∙ ap (prev m) same
+        ∙ (s.edges b b_in).prev_next) first first_in in
         elim (back_up_to (length m.half_edges)) [
           | inr none ↦ absurd (none k.0 k.1 k.2 k.3)
           | inl found ↦ (
@@ -96,7 +123,8 @@ module _ (m : Mesh) (first : ℕ) where
               outer = along_outer;
               apart = λ i j less j_in same.
                   let d : i + (j - i) ≡ j = omega (arith, less) in
-                  found.4 (j - i) (omega (arith, less)) (omega (arith, less, j_in)) (sym (back_by i (j - i) (same ∙ ap (λ q. iterate (next m) q first) (sym d))));
+                  found.4 (j - i) (omega (arith, less)) (omega (arith, less, j_in))
+                  (sym (back_by i (j - i) (same ∙ ap (λ q. iterate (next m) q first) (sym d))));
               all = λ one h within outer. all_along found.0 found.1 found.3 one h within outer;
             },
             found.2,
@@ -104,7 +132,9 @@ module _ (m : Mesh) (first : ℕ) where
         ]
 
 -- the walk from the edge that the outer face names gives the edges of its loop, each once
-pub gives_loop : {V D U F : Type 0} (d : Bor (Contents V D U F)) (first : ℕ) → IsMeshWithData d.now → d.now.mesh.outer_edge ≡ Some first → GivesOuterLoop d (each_in d (walk (next d.now.mesh) first (length d.now.directed) first))
+pub gives_loop : {V D U F : Type 0} (d : Bor (Contents V D U F)) (first : ℕ) → IsMeshWithData d.now
+    → d.now.mesh.outer_edge ≡ Some first
+    → GivesOuterLoop d (each_in d (walk (next d.now.mesh) first (length d.now.directed) first))
 gives_loop d first w named = record {
   empty = λ none. let e : Some first ≡ None = sym named ∙ none in absurd (cc);
   loop = λ other is.
@@ -113,6 +143,7 @@ gives_loop d first w named = record {
       let at = w.valid.sound.outer first named in
       let r = outer_loop m first w.valid.sound at.0 at.1 in
       let fuel : r.0 ≤ length d.now.directed = omega (arith, r.2, w.fits.directed_fit) in
-      let listed = walk-list (next m) first r.0 (length d.now.directed) (λ i some less back. r.1.apart 0 i some less (sym back)) r.1.back r.1.some fuel in
+      let listed = walk-list (next m) first r.0 (length d.now.directed)
+      (λ i some less back. r.1.apart 0 i some less (sym back)) r.1.back r.1.some fuel in
       rw (← same) (r.0, r.1, ap (each_in d) listed);
 }

@@ -4,9 +4,11 @@ use Rattle.half_edge_links.specs.Mesh.{out_edge}
 use Rattle.half_edge_dcel.specs.Contents.{Contents, IsMeshWithData}
 
 -- the edge that a vertex names
-pub out_edge-within : {V D U F : Type 0} (c : Contents V D U F) (v h : ℕ) → IsMeshWithData c → out_edge c.mesh v ≡ Some h → h < length c.directed
+pub out_edge-within : {V D U F : Type 0} (c : Contents V D U F) (v h : ℕ) → IsMeshWithData c
+    → out_edge c.mesh v ≡ Some h → h < length c.directed
 out_edge-within c v h w is = rw w.fits.directed_fit (w.valid.sound.vertices v h is).0
 
 -- the edge that the outer face names
-pub outer_edge-within : {V D U F : Type 0} (c : Contents V D U F) (h : ℕ) → IsMeshWithData c → c.mesh.outer_edge ≡ Some h → h < length c.directed
+pub outer_edge-within : {V D U F : Type 0} (c : Contents V D U F) (h : ℕ) → IsMeshWithData c
+    → c.mesh.outer_edge ≡ Some h → h < length c.directed
 outer_edge-within c h w is = rw w.fits.directed_fit (w.valid.sound.outer h is).0

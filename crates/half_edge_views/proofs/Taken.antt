@@ -1,5 +1,6 @@
 -- Names taken from either end of a list.
-use Rattle.std.proofs.Common.{◌≡◌, ℕ, ◌+◌, ◌<◌, ◌≤◌, List, length, Option, None, Some, All, sym, subst, arith}
+use Rattle.std.proofs.Common.{◌≡◌, ◌+◌, ◌<◌, ◌≤◌}
+use Rattle.std.proofs.Common.{ℕ, List, length, Option, None, Some, All, sym, subst, arith}
 use Rattle.std.specs.List.{range_with_len}
 use Rattle.std.specs.Iterator.{YieldsFirst, YieldsLast}
 use Rattle.std.specs.Borrow.{Bor}
@@ -9,9 +10,14 @@ use Rattle.std.proofs.lemmas.List.FromFn.{length-range_with_len, get_or-range_wi
 use Rattle.half_edge_views.specs.Left.{each_in}
 
 -- indexes in a row are below a bound of their end
-pub row_below : (a n b : ℕ) (xs : List ℕ) → xs ≡ range_with_len a n → a + n ≤ b → All (λ i. i < b) xs
+pub row_below : (a n b : ℕ) (xs : List ℕ) → xs ≡ range_with_len a n → a + n ≤ b
+    → All (λ i. i < b) xs
 row_below a n b xs is bound = rw is (λ k d lt.
-    omega (arith, length-range_with_len a n, get_or-range_with_len a n k d (omega (arith, length-range_with_len a n))))
+    omega (
+      arith,
+      length-range_with_len a n,
+      get_or-range_with_len a n k d (omega (arith, length-range_with_len a n)),
+    ))
 
 module _ (P : ℕ → Type 0) (xs ys : List ℕ) where
   -- what holds of each holds of those that are left after the first is taken

@@ -1,5 +1,6 @@
 -- The positions of a layer's vertices after an insertion or a removal, and in a copy.
-use Rattle.std.proofs.Common.{◌≡◌, ◌∙◌, ◌⊎◌, ℕ, List, [], ◌∷◌, ◌++◌, map, refl, sym, ap, subst, inl, inr}
+use Rattle.std.proofs.Common.{◌≡◌, ◌∙◌, ◌⊎◌, [], ◌∷◌, ◌++◌}
+use Rattle.std.proofs.Common.{ℕ, List, map, refl, sym, ap, subst, inl, inr}
 use Rattle.std.specs.Prelude.{Contains, Result, Ok, Err, IfOk, OnErr}
 use Rattle.std.proofs.lemmas.List.{map-append}
 use Rattle.std.proofs.lemmas.List.Elements.{All-contains, All-contains_itself, All-push}
@@ -17,8 +18,8 @@ use Rattle.hint_hierarchy.proofs.Held.{all_from_each}
 
 module _ {V : Type 0} (place : V → Point) (old new : Plain V) where
   -- after an insertion each position is an old one or the new one
-  pub at_most_with : (v : V) (i : ℕ) → Inserts place old new v i
-      → IsAtMostWith (Contains (map place old.vertices)) (Contains (map place new.vertices)) (place v)
+  pub at_most_with : (v : V) (i : ℕ) → Inserts place old new v i → IsAtMostWith
+      (Contains (map place old.vertices)) (Contains (map place new.vertices)) (place v)
   at_most_with v i (inl kept) = λ p c. inl (subst (λ (ps : List Point). Contains ps p)
       (ap (map place) kept.vertices ∙ map-set_same place old.vertices i v v (sym kept.same)) c)
   at_most_with v i (inr (last, more)) = λ p c.
@@ -29,34 +30,40 @@ module _ {V : Type 0} (place : V → Point) (old new : Plain V) where
       (subst (λ (ps : List Point). Contains ps p)
       (ap (map place) more.vertices ∙ map-append place old.vertices (v ∷ [])) c)
 
-module _ {V D U F : Type 0} (place : V → Point) (constraints : List U → List ℕ) (old new : State V D U F) where
-  result_with : (v : V) (r : Result ℕ InsertionError)
-      → IfOk r (λ i.
-      Inserts place (points_and_constraints_by constraints old) (points_and_constraints_by constraints new) v i)
-      → OnErr r (new ≡ old)
-      → IsAtMostWith (Contains (map place old.vertices)) (Contains (map place new.vertices)) (place v)
+module _ {V D U F : Type 0} (place : V → Point) (constraints : List U → List ℕ)
+    (old new : State V D U F) where
+  result_with : (v : V) (r : Result ℕ InsertionError) → IfOk r (λ i. Inserts place
+      (points_and_constraints_by constraints old) (points_and_constraints_by constraints new) v i)
+      → OnErr r (new ≡ old) → IsAtMostWith (Contains (map place old.vertices))
+      (Contains (map place new.vertices)) (place v)
   result_with v (Ok i) ok err =
-      at_most_with place (points_and_constraints_by constraints old) (points_and_constraints_by constraints new) v i ok
-  result_with v (Err e) ok err = λ p c. inl (subst (λ (s : State V D U F). Contains (map place s.vertices) p) err c)
+      at_most_with place (points_and_constraints_by constraints old)
+      (points_and_constraints_by constraints new) v i ok
+  result_with v (Err e) ok err =
+      λ p c. inl (subst (λ (s : State V D U F). Contains (map place s.vertices) p) err c)
 
   -- whether it was refused or not
-  pub inserted_at_most : (v : V) (r : Result ℕ InsertionError) → InsertsVertex place constraints v r old new
-      → IsAtMostWith (Contains (map place old.vertices)) (Contains (map place new.vertices)) (place v)
+  pub inserted_at_most : (v : V) (r : Result ℕ InsertionError)
+      → InsertsVertex place constraints v r old new → IsAtMostWith
+      (Contains (map place old.vertices)) (Contains (map place new.vertices)) (place v)
   inserted_at_most v r done = result_with v r done.ok done.err
 
   -- after a removal, refused or not, each position is an old one
-  pub removed_at_most : {E : Type 0} (v : ℕ) (r : Result V E) → RemovesVertex place constraints v r old new
+  pub removed_at_most : {E : Type 0} (v : ℕ) (r : Result V E)
+      → RemovesVertex place constraints v r old new
       → IsAtMost (Contains (map place old.vertices)) (Contains (map place new.vertices))
   removed_at_most v (Ok value) done = λ p c.
       All-contains (Contains (map place old.vertices)) (map place new.vertices) p
       (sites_left place constraints old new v value done.plain (Contains (map place old.vertices))
       (All-contains_itself (map place old.vertices))) c
-  removed_at_most v (Err e) done = λ p c. subst (λ (s : State V D U F). Contains (map place s.vertices) p) done.err c
+  removed_at_most v (Err e) done =
+      λ p c. subst (λ (s : State V D U F). Contains (map place s.vertices) p) done.err c
 
 -- a copy, if it was made, has the same positions
-pub copied : {V D U F E Y : Type 0} (RV : V → V → Type 0) (RD : D → D → Type 0) (RU : U → U → Type 0)
-    (RF : F → F → Type 0) (place : V → Y) → ((v w : V) → RV v w → place w ≡ place v)
+pub copied : {V D U F E Y : Type 0} (RV : V → V → Type 0) (RD : D → D → Type 0) (RU : U → U
+    → Type 0) (RF : F → F → Type 0) (place : V → Y) → ((v w : V) → RV v w → place w ≡ place v)
     → (old : State V D U F) (r : Result (State V D U F) E) → IfOk r (IsCopy RV RD RU RF old)
     → IfOk r (λ l. map place l.vertices ≡ map place old.vertices)
-copied RV RD RU RF place same old (Ok l) c = same_image RV place same old.vertices l.vertices c.vertices
+copied RV RD RU RF place same old (Ok l) c =
+    same_image RV place same old.vertices l.vertices c.vertices
 copied RV RD RU RF place same old (Err e) c = tt

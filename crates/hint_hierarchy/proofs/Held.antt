@@ -22,7 +22,8 @@ use Rattle.std.proofs.Common.{
 use Rattle.std.proofs.lemmas.Bool.{cases_eq}
 use Rattle.std.proofs.lemmas.List.{get_or_default}
 use mathlib.Core.Logic.{⊎_elim}
-use Rattle.std.specs.Prelude.{All, Bool, true, false, Contains, Option, Some, if◌then◌else◌, slice_set, take}
+use Rattle.std.specs.Prelude.{if◌then◌else◌}
+use Rattle.std.specs.Prelude.{All, Bool, true, false, Contains, Option, Some, slice_set, take}
 use Rattle.std.proofs.lemmas.List.Elements.{
   All-contains,
   All-contains_itself,
@@ -38,52 +39,62 @@ use Rattle.plane.specs.Hint.{IsAtMost, IsAtMostWith}
 use Rattle.hint_hierarchy.specs.Layers.{IsAtMostOr, IsInSome}
 
 -- a fact of each position that is contained, as one of each position of the list
-pub all_from_each : (P : Point → Type 0) (points : List Point) → ((p : Point) → Contains points p → P p) → All P points
-all_from_each P points each = All-weaker (Contains points) P each points (All-contains_itself points)
+pub all_from_each : (P : Point → Type 0) (points : List Point)
+    → ((p : Point) → Contains points p → P p) → All P points
+all_from_each P points each =
+    All-weaker (Contains points) P each points (All-contains_itself points)
 
 -- nothing is in no list
 pub nothing_contained : {X : Type 0} (x : X) → ¬ Contains [] x
 nothing_contained x h = All-contains (λ _. ⊥) [] x (All-nil _) h
 
 -- sites with one more
-pub sites_with : (sites old now : Point → Type 0) (q : Point) → IsAtMost sites old → sites q → IsAtMostWith old now q
-    → IsAtMost sites now
-sites_with sites old now q held site more = λ p h. ⊎_elim (λ o. held p o) (λ e. subst sites (sym e) site) (more p h)
+pub sites_with : (sites old now : Point → Type 0) (q : Point) → IsAtMost sites old → sites q
+    → IsAtMostWith old now q → IsAtMost sites now
+sites_with sites old now q held site more =
+    λ p h. ⊎_elim (λ o. held p o) (λ e. subst sites (sym e) site) (more p h)
 
 -- and with that of a vertex that is swapped in, if any
 pub sites_or : (sites old now : Point → Type 0) (swapped : Option Point) → IsAtMost sites old
     → ((p : Point) → swapped ≡ Some p → sites p) → IsAtMostOr old now swapped → IsAtMost sites now
-sites_or sites old now swapped held site more = λ p h. ⊎_elim (λ o. held p o) (λ e. site p e) (more p h)
+sites_or sites old now swapped held site more =
+    λ p h. ⊎_elim (λ o. held p o) (λ e. site p e) (more p h)
 
 -- one more, twice the same
-pub with_then_with : (old now later : Point → Type 0) (q : Point) → IsAtMostWith old now q → IsAtMostWith now later q
-    → IsAtMostWith old later q
-with_then_with old now later q first second = λ p h. ⊎_elim (λ o. first p o) (λ e. inr e) (second p h)
+pub with_then_with : (old now later : Point → Type 0) (q : Point) → IsAtMostWith old now q
+    → IsAtMostWith now later q → IsAtMostWith old later q
+with_then_with old now later q first second =
+    λ p h. ⊎_elim (λ o. first p o) (λ e. inr e) (second p h)
 
 module _ {L : Type 0} (positions_of : L → List Point) where
   -- what is held, as a fact of each layer
-  pub all_from_held : (P : Point → Type 0) (layers : List L) → IsAtMost P (IsInSome positions_of layers)
-      → All (λ l. All P (positions_of l)) layers
+  pub all_from_held : (P : Point → Type 0) (layers : List L)
+      → IsAtMost P (IsInSome positions_of layers) → All (λ l. All P (positions_of l)) layers
   all_from_held P layers held = λ k d below.
       all_from_each P (positions_of (get_or layers k d))
-      (λ p at. held p (record { layer = get_or layers k d; among = Contains-get_or layers k d below; vertex = at }))
+      (λ p at. held p (record
+      { layer = get_or layers k d; among = Contains-get_or layers k d below; vertex = at }))
 
   -- and back
-  pub held_from_all : (P : Point → Type 0) (layers : List L) → All (λ l. All P (positions_of l)) layers
-      → IsAtMost P (IsInSome positions_of layers)
+  pub held_from_all : (P : Point → Type 0) (layers : List L)
+      → All (λ l. All P (positions_of l)) layers → IsAtMost P (IsInSome positions_of layers)
   held_from_all P layers all = λ p h.
       All-contains P (positions_of h.layer) p
       (All-contains (λ l. All P (positions_of l)) layers h.layer all h.among) h.vertex
 
   -- the layer at an index that is read
-  pub held_at : (layers : List L) (i : ℕ) (layer : L) → i < length layers → layer ≡ get_or layers i layer
-      → (p : Point) → Contains (positions_of layer) p → IsInSome positions_of layers p
-  held_at layers i layer below here p at = record { layer = layer; among = (i, below, sym here); vertex = at }
+  pub held_at : (layers : List L) (i : ℕ) (layer : L) → i < length layers
+      → layer ≡ get_or layers i layer → (p : Point) → Contains (positions_of layer) p
+      → IsInSome positions_of layers p
+  held_at layers i layer below here p at =
+      record { layer = layer; among = (i, below, sym here); vertex = at }
 
   -- a layer takes the place of one
-  pub held_after_set : (X : Point → Type 0) (layers : List L) (i : ℕ) (old new : L) → i < length layers
-      → old ≡ get_or layers i old → ((p : Point) → Contains (positions_of new) p → Contains (positions_of old) p ⊎ X p)
-      → (p : Point) → IsInSome positions_of (slice_set layers i new) p → IsInSome positions_of layers p ⊎ X p
+  pub held_after_set : (X : Point → Type 0) (layers : List L) (i : ℕ) (old new : L)
+      → i < length layers → old ≡ get_or layers i old
+      → ((p : Point) → Contains (positions_of new) p → Contains (positions_of old) p ⊎ X p)
+      → (p : Point) → IsInSome positions_of (slice_set layers i new) p
+      → IsInSome positions_of layers p ⊎ X p
   held_after_set X layers i old new below here more =
       let P : Point → Type 0 = λ p. IsInSome positions_of layers p ⊎ X p in
       held_from_all P (slice_set layers i new)
@@ -93,18 +104,22 @@ module _ {L : Type 0} (positions_of : L → List Point) where
       (all_from_held P layers (λ p h. inl h)))
 
   -- the same after changes that each add at most X
-  pub held_since : (X : Point → Type 0) (before layers : List L) (i : ℕ) (old new : L) → i < length layers
-      → old ≡ get_or layers i old → ((p : Point) → Contains (positions_of new) p → Contains (positions_of old) p ⊎ X p)
-      → ((p : Point) → IsInSome positions_of layers p → IsInSome positions_of before p ⊎ X p) → (p : Point)
-      → IsInSome positions_of (slice_set layers i new) p → IsInSome positions_of before p ⊎ X p
+  pub held_since : (X : Point → Type 0) (before layers : List L) (i : ℕ) (old new : L)
+      → i < length layers → old ≡ get_or layers i old
+      → ((p : Point) → Contains (positions_of new) p → Contains (positions_of old) p ⊎ X p)
+      → ((p : Point) → IsInSome positions_of layers p → IsInSome positions_of before p ⊎ X p)
+      → (p : Point) → IsInSome positions_of (slice_set layers i new) p
+      → IsInSome positions_of before p ⊎ X p
   held_since X before layers i old new below here more former = λ p h.
       ⊎_elim (λ o. former p o) (λ x. inr x) (held_after_set X layers i old new below here more p h)
 
   -- the positions of a layer that is read are sites where all that is held is
   pub sites_at : (sites : Point → Type 0) (layers : List L) (i : ℕ) (layer : L) → i < length layers
-      → layer ≡ get_or layers i layer → IsAtMost sites (IsInSome positions_of layers) → All sites (positions_of layer)
+      → layer ≡ get_or layers i layer → IsAtMost sites (IsInSome positions_of layers)
+      → All sites (positions_of layer)
   sites_at sites layers i layer below here held =
-      all_from_each sites (positions_of layer) (λ p at. held p (held_at layers i layer below here p at))
+      all_from_each sites (positions_of layer)
+      (λ p at. held p (held_at layers i layer below here p at))
 
   -- none of the layers before one has a vertex at q
   abbrev pub IsVacantBelow : Point → ℕ → List L → Type 0
@@ -119,9 +134,9 @@ module _ {L : Type 0} (positions_of : L → List Point) where
       (subst (λ (l : L). Contains (positions_of l) q) (sym h.among.2) h.vertex)
 
   -- one layer more
-  pub vacant_one_more : (q : Point) (level : ℕ) (layers : List L) (layer : L) → layer ≡ get_or layers level layer
-      → level < length layers → ¬ Contains (positions_of layer) q → IsVacantBelow q level layers
-      → IsVacantBelow q (level + 1) layers
+  pub vacant_one_more : (q : Point) (level : ℕ) (layers : List L) (layer : L) → layer
+      ≡ get_or layers level layer → level < length layers → ¬ Contains (positions_of layer) q
+      → IsVacantBelow q level layers → IsVacantBelow q (level + 1) layers
   vacant_one_more q level layers layer here within apart vacant = λ k d under k-in h.
       ⊎_elim
       (λ same. apart
@@ -140,9 +155,10 @@ module _ {L : Type 0} (positions_of : L → List Point) where
       (All-take (λ l. All held (positions_of l)) n layers (all_from_held held layers (λ p h. h))))
 
   -- a layer is added, if it is, to such whose positions are all among those of H
-  pub pushed_within : (H : Point → Type 0) (layers later : List L) (b : Bool) (layer : L)
-      → later ≡ (if b then layers ++ layer ∷ [] else layers) → IsAtMost H (IsInSome positions_of layers)
-      → ((p : Point) → Contains (positions_of layer) p → H p) → IsAtMost H (IsInSome positions_of later)
+  pub pushed_within : (H : Point → Type 0) (layers later : List L) (b : Bool) (layer : L) → later
+      ≡ (if b then layers ++ layer ∷ [] else layers) → IsAtMost H (IsInSome positions_of layers)
+      → ((p : Point) → Contains (positions_of layer) p → H p)
+      → IsAtMost H (IsInSome positions_of later)
   pushed_within H layers later true layer e within more =
       held_from_all H later
       (subst (All (λ l. All H (positions_of l))) (sym e)

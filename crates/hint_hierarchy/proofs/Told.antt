@@ -10,25 +10,29 @@ use Rattle.delaunay_core.specs.Place.{place_of}
 use Rattle.plane.specs.Hint.{IsAtMost, IsAtMostOf, IsAtMostWith}
 
 -- the position of an element is one of those of the list
-pub element_is_listed : {V : Type 0} (place : V → Point) (vs : List V) (i : ℕ) (v : V) → i < length vs
-    → v ≡ get_or vs i v → Contains (map place vs) (place v)
-element_is_listed place vs i v within here =
-    (i, omega (arith, within, length-map vs place), get_or-map place vs i v (place v) within ∙ ap place (sym here))
+pub element_is_listed : {V : Type 0} (place : V → Point) (vs : List V) (i : ℕ) (v : V)
+    → i < length vs → v ≡ get_or vs i v → Contains (map place vs) (place v)
+element_is_listed place vs i v within here = (
+  i,
+  omega (arith, within, length-map vs place),
+  get_or-map place vs i v (place v) within ∙ ap place (sym here),
+)
 
 -- at most the positions of a list, with one of them more
-pub of_then_with : (now later : Point → Type 0) (points : List Point) (q : Point) → IsAtMostOf now points
-    → Contains points q → IsAtMostWith now later q → IsAtMostOf later points
+pub of_then_with : (now later : Point → Type 0) (points : List Point) (q : Point)
+    → IsAtMostOf now points → Contains points q → IsAtMostWith now later q → IsAtMostOf later points
 of_then_with now later points q held listed more = λ p h.
     ⊎_elim (λ o. held p o) (λ e. subst (Contains points) (sym e) listed) (more p h)
 
 -- they are sites where all are
-pub sites_of : (sites now : Point → Type 0) (points : List Point) → All sites points → IsAtMostOf now points
-    → IsAtMost sites now
+pub sites_of : (sites now : Point → Type 0) (points : List Point) → All sites points
+    → IsAtMostOf now points → IsAtMost sites now
 sites_of sites now points all held = λ p h. All-contains sites points p all (held p h)
 
 -- a clone of a point has its position, where a clone of a number is that number
-pub same_place : {S : Type 0} (number : S → ℤ) (clone : S → S → Type 0) → ((a b : S) → clone a b → b ≡ a)
-    → (v w : Point2 S) → clone v.x w.x × clone v.y w.y → place_of number w ≡ place_of number v
+pub same_place : {S : Type 0} (number : S → ℤ) (clone : S → S → Type 0)
+    → ((a b : S) → clone a b → b ≡ a) → (v w : Point2 S) → clone v.x w.x × clone v.y w.y
+    → place_of number w ≡ place_of number v
 same_place number clone same v w h =
     ap (λ a. place_of number (record { x = a; y = w.y })) (same v.x w.x h.0)
     ∙ ap (λ b. place_of number (record { x = v.x; y = b })) (same v.y w.y h.1)

@@ -13,7 +13,8 @@ abbrev pub IsAt : {S : Type 0} → (S → ℤ) → Layer S → Point → Type 0
 IsAt number layer p = Contains (positions number layer) p
 
 -- p is one of the positions of some layer
-pub record IsInSome {L : Type 0} (positions_of : L → List Point) (layers : List L) (p : Point) : Type 0 where
+pub record IsInSome {L : Type 0} (positions_of : L → List Point) (layers : List L)
+    (p : Point) : Type 0 where
   pub layer : L
   pub among : Contains layers layer
   pub vertex : Contains (positions_of layer) p

@@ -1,5 +1,6 @@
 -- The directed edges of a mesh and the pairs of vertices that its edges join.
-use Rattle.std.proofs.Common.{◌≡◌, ◌≢◌, ◌⊎◌, ℕ, ◌+◌, ◌*◌, ◌/◌, ◌%◌, ◌<◌, List, length, map, get_or, refl, sym, ap, ◌∙◌, inl, inr, arith, [], subst}
+use Rattle.std.proofs.Common.{◌≡◌, ◌≢◌, ◌⊎◌, ◌+◌, ◌*◌, ◌/◌, ◌%◌, ◌<◌, ◌∙◌, []}
+use Rattle.std.proofs.Common.{ℕ, List, length, map, get_or, refl, sym, ap, inl, inr, arith, subst}
 use Rattle.std.specs.Prelude.{Contains}
 use Rattle.std.proofs.lemmas.Bool.{cases_eq}
 use Rattle.std.proofs.lemmas.Grind.{common_steps}
@@ -14,11 +15,14 @@ abbrev no_ends : Ends
 no_ends = record { source = 0; target = 0 }
 
 -- the values of a function over a list contain its value at each place
-pub Contains-map : {X Y : Type 0} (f : X → Y) (xs : List X) (k : ℕ) (d : X) (y : Y) → k < length xs → f (get_or xs k d) ≡ y → Contains (map f xs) y
-Contains-map f xs k d y within e = (k, omega (arith, length-map xs f), get_or-map f xs k d y within ∙ e)
+pub Contains-map : {X Y : Type 0} (f : X → Y) (xs : List X) (k : ℕ) (d : X) (y : Y) → k < length xs
+    → f (get_or xs k d) ≡ y → Contains (map f xs) y
+Contains-map f xs k d y within e =
+    (k, omega (arith, length-map xs f), get_or-map f xs k d y within ∙ e)
 
 -- each of the values of a function over a list is its value at some place
-pub Contains-map_from : {X Y : Type 0} (f : X → Y) (xs : List X) (d : X) (y : Y) → Contains (map f xs) y → (k : ℕ) × (k < length xs) × (f (get_or xs k d) ≡ y)
+pub Contains-map_from : {X Y : Type 0} (f : X → Y) (xs : List X) (d : X) (y : Y)
+    → Contains (map f xs) y → (k : ℕ) × (k < length xs) × (f (get_or xs k d) ≡ y)
 Contains-map_from f xs d y h =
     let within : h.0 < length xs = let l = h.1 in omega (arith, length-map xs f) in
     (h.0, within, sym (get_or-map f xs h.0 d y within) ∙ h.2)
@@ -45,16 +49,21 @@ no_joins i j (inl h) = absurd (omega (arith, h.1))
 no_joins i j (inr h) = absurd (omega (arith, h.1))
 
 -- an edge starts at one of the n vertices
-pub starts_within : (m : Mesh) → AreSoundLinks m → (n : ℕ) → n ≡ length m.out_edges → (h : ℕ) → h < length m.half_edges
-    → origin m h < n
-starts_within m s n count h within = subst (λ (k : ℕ). origin m h < k) (sym count) (s.edges h within).origin_in
+pub starts_within : (m : Mesh) → AreSoundLinks m → (n : ℕ) → n ≡ length m.out_edges → (h : ℕ)
+    → h < length m.half_edges → origin m h < n
+starts_within m s n count h within =
+    subst (λ (k : ℕ). origin m h < k) (sym count) (s.edges h within).origin_in
 
 module _ (m : Mesh) (s : AreSoundLinks m) where
-  pair_there : (k : ℕ) → 2 * k + 1 < length m.half_edges → Contains (edges_of m) (origin m (2 * k), origin m (2 * k + 1))
-  pair_there k within = Contains-map pair_of (ends m) k (record { source = 0; target = 0 }) (origin m (2 * k), origin m (2 * k + 1)) (omega (arith, length-ends_twice m s)) (ap pair_of (get_or-ends m k (record { source = 0; target = 0 }) within))
+  pair_there : (k : ℕ) → 2 * k + 1 < length m.half_edges
+      → Contains (edges_of m) (origin m (2 * k), origin m (2 * k + 1))
+  pair_there k within = Contains-map pair_of (ends m) k (record { source = 0; target = 0 })
+      (origin m (2 * k), origin m (2 * k + 1)) (omega (arith, length-ends_twice m s))
+      (ap pair_of (get_or-ends m k (record { source = 0; target = 0 }) within))
 
   -- each directed edge of sound links joins its start to its end, among the pairs of the edges
-  pub edge_joins : (h : ℕ) → h < length m.half_edges → Joins (edges_of m) (origin m h) (origin m (rev h))
+  pub edge_joins : (h : ℕ) → h < length m.half_edges
+      → Joins (edges_of m) (origin m h) (origin m (rev h))
   edge_joins h within = go (cases_eq (h % 2) 0)
     where
       even : length m.half_edges % 2 ≡ 0
@@ -64,14 +73,17 @@ module _ (m : Mesh) (s : AreSoundLinks m) where
       go (inl e) =
           let here : 2 * (h / 2) ≡ h = omega (arith, e) in
           let there : 2 * (h / 2) + 1 ≡ rev h = grind (arith, common_steps) in
-          inl (rw (ap (origin m) (sym here), ap (origin m) (sym there)) (pair_there (h / 2) (omega (arith, e, even, within))))
+          inl (rw (ap (origin m) (sym here), ap (origin m) (sym there))
+          (pair_there (h / 2) (omega (arith, e, even, within))))
       go (inr n) =
           let here : 2 * (h / 2) + 1 ≡ h = omega (arith, n) in
           let there : 2 * (h / 2) ≡ rev h = grind (arith, common_steps) in
-          inr (rw (ap (origin m) (sym here), ap (origin m) (sym there)) (pair_there (h / 2) (omega (arith, n, even, within))))
+          inr (rw (ap (origin m) (sym here), ap (origin m) (sym there))
+          (pair_there (h / 2) (omega (arith, n, even, within))))
 
   -- two vertices that are joined have a directed edge from the one to the other
-  pub joins_edge : (i j : ℕ) → Joins (edges_of m) i j → (h : ℕ) × (h < length m.half_edges) × (origin m h ≡ i) × (origin m (rev h) ≡ j)
+  pub joins_edge : (i j : ℕ) → Joins (edges_of m) i j
+      → (h : ℕ) × (h < length m.half_edges) × (origin m h ≡ i) × (origin m (rev h) ≡ j)
   joins_edge i j (inl c) =
       let r = Contains-map_from pair_of (ends m) no_ends (i, j) c in
       let k : r.0 < length (ends m) = r.1 in

@@ -1,5 +1,6 @@
 -- A vertex of a line has at most two edges, and an edge that is joined to no other is the only one.
-use Rattle.std.proofs.Common.{◌≡◌, ◌⊎◌, ℕ, ◌<◌, ◌+◌, List, [], length, refl, sym, ap, ◌∙◌, subst, arith}
+use Rattle.std.proofs.Common.{◌≡◌, ◌⊎◌, ◌<◌, ◌+◌, [], ◌∙◌}
+use Rattle.std.proofs.Common.{ℕ, List, length, refl, sym, ap, subst, arith}
 use mathlib.Core.Bool.{true}
 use mathlib.Core.Logic.{inl, inr, ◌≢◌}
 use lib.Dec.{eqb, eqb_refl}
@@ -25,10 +26,11 @@ use Rattle.mesh_embedding.proofs.MeshStays.{neighbours_differ}
 use Rattle.mesh_embedding.proofs.LineNeighbours.{two_neighbours, only_pair}
 
 -- an edge that comes after itself round a vertex is the vertex's only one
-pub only_edge : (m : Mesh) → IsValidMesh m → (g w : ℕ) → origin m g ≡ w → g < length m.half_edges → turn m g ≡ g →
-    (h : ℕ) → h < length m.half_edges → origin m h ≡ w → h ≡ g
+pub only_edge : (m : Mesh) → IsValidMesh m → (g w : ℕ) → origin m g ≡ w → g < length m.half_edges
+    → turn m g ≡ g → (h : ℕ) → h < length m.half_edges → origin m h ≡ w → h ≡ g
 only_edge m valid g w o k one h l e = eqb-true h g
-    (valid.stars (λ x. eqb x g) (λ x _ q. ap (λ y. eqb y g) (ap (turn m) (eqb-true x g q) ∙ one) ∙ own) g h k l
+    (valid.stars (λ x. eqb x g)
+    (λ x _ q. ap (λ y. eqb y g) (ap (turn m) (eqb-true x g q) ∙ one) ∙ own) g h k l
     (o ∙ sym e) own)
   where
     own : eqb g g ≡ true
@@ -44,7 +46,8 @@ module _ (points : List Point) (m : Mesh) (valid : IsValidMesh m) (bare : faces_
   pub is_outer : (h : ℕ) → h < length m.half_edges → face m h ≡ 0
   is_outer h k = let f = (valid.sound.edges h k).face_in in omega (arith, f, no_inner)
 
-  way_listed : (h : ℕ) → h < length m.half_edges → Contains (outer_of m) (origin m h, origin m (rev h))
+  way_listed : (h : ℕ) → h < length m.half_edges
+      → Contains (outer_of m) (origin m h, origin m (rev h))
   way_listed h k = listed m h (origin m h) (origin m (rev h)) (own_ends m h k (is_outer h k))
 
   module _ (v first count : ℕ) (round : IsRound m v first count) where
@@ -53,12 +56,14 @@ module _ (points : List Point) (m : Mesh) (valid : IsValidMesh m) (bare : faces_
 
     leads : (i : ℕ) → Contains (outer_of m) (v, nb i)
     leads i =
-        subst (λ x. Contains (outer_of m) (x, nb i)) (round.starts i) (way_listed (spoke m first i) (round.within i))
+        subst (λ x. Contains (outer_of m) (x, nb i)) (round.starts i)
+        (way_listed (spoke m first i) (round.within i))
 
     not_three : ¬ (2 < count)
     not_three many =
         two_neighbours points (outer_of m) line v (nb 0) (nb 1) (nb 2) (leads 0) (leads 1) (leads 2)
-        (neighbours_differ m valid line_once v first count round 0 1 (omega arith) (omega (arith, many)))
+        (neighbours_differ m valid line_once v first count round 0 1 (omega arith)
+        (omega (arith, many)))
         (neighbours_differ m valid line_once v first count round 1 2 (omega arith) many)
         (neighbours_differ m valid line_once v first count round 0 2 (omega arith) many)
 
@@ -66,8 +71,8 @@ module _ (points : List Point) (m : Mesh) (valid : IsValidMesh m) (bare : faces_
         (origin m (rev first) ≢ origin m (rev (turn m first))))
     few_edges = go (cases_eq count 1)
       where
-        go : (count ≡ 1) ⊎ (count ≢ 1) → (turn m first ≡ first) ⊎
-            ((turn m (turn m first) ≡ first) × (origin m (rev first) ≢ origin m (rev (turn m first))))
+        go : (count ≡ 1) ⊎ (count ≢ 1) → (turn m first ≡ first) ⊎ ((turn m (turn m first) ≡ first)
+            × (origin m (rev first) ≢ origin m (rev (turn m first))))
         go (inl e) = inl (ap (λ n. spoke m first (0 + n)) (sym e) ∙ round.back 0)
         go (inr n) =
             let two : count ≡ 2 = (elim (cases_lt 2 count) as (λ _. count ≡ 2) [
@@ -76,7 +81,8 @@ module _ (points : List Point) (m : Mesh) (valid : IsValidMesh m) (bare : faces_
             ]) in
             inr (
               ap (λ n. spoke m first (0 + n)) (sym two) ∙ round.back 0,
-              neighbours_differ m valid line_once v first count round 0 1 (omega arith) (omega (arith, two)),
+              neighbours_differ m valid line_once v first count round 0 1 (omega arith)
+                  (omega (arith, two)),
             )
 
   -- a vertex of the line
@@ -93,7 +99,8 @@ module _ (points : List Point) (m : Mesh) (valid : IsValidMesh m) (bare : faces_
         ap (prev m) (sym ahead) ∙ (valid.sound.edges first in_mesh).prev_next in
         let one' : turn m (rev first) ≡ rev first = ap rev back_is in
         pair first in_mesh (λ h k. elim (only_pair points (outer_of m) line v u (origin m h)
-        (subst (λ x. Contains (outer_of m) (x, u)) at_v (way_listed first in_mesh)) (only_at first v at_v in_mesh one)
+        (subst (λ x. Contains (outer_of m) (x, u)) at_v (way_listed first in_mesh))
+        (only_at first v at_v in_mesh one)
         (λ j c. only_at (rev first) u refl twin_in one' j c ∙ ap (origin m) (rev-rev first) ∙ at_v)
         (subst (λ n. origin m h < n) (sym counted) (valid.sound.edges h k).origin_in)) as
         (λ _. (h ≡ first) ⊎ (h ≡ rev first)) [
@@ -115,9 +122,10 @@ module _ (points : List Point) (m : Mesh) (valid : IsValidMesh m) (bare : faces_
       pigeons g h (inr a) (inl b) (inl c) = omega (arith, b, c)
       pigeons g h (inr a) (inl b) (inr c) = omega (arith, a, c)
 
-      pair : (g : ℕ) → g < length m.half_edges → ((h : ℕ) → h < length m.half_edges → (h ≡ g) ⊎ (h ≡ rev g)) →
-          length m.half_edges ≡ 2
+      pair : (g : ℕ) → g < length m.half_edges
+          → ((h : ℕ) → h < length m.half_edges → (h ≡ g) ⊎ (h ≡ rev g)) → length m.half_edges ≡ 2
       pair g k all = elim (cases_lt 2 (length m.half_edges)) as (λ _. length m.half_edges ≡ 2) [
-        | inl l ↦ absurd (pigeons g (rev g) (all 0 (omega (arith, l))) (all 1 (omega (arith, l))) (all 2 l))
+        | inl l ↦ absurd
+            (pigeons g (rev g) (all 0 (omega (arith, l))) (all 1 (omega (arith, l))) (all 2 l))
         | inr l ↦ (let even = valid.sound.even in omega (arith, l, even, k))
       ]

@@ -1,4 +1,5 @@
--- A vertex that has lost its edges goes, and the last one takes its index: what is left is a mesh of the other points.
+-- A vertex that has lost its edges goes, and the last one takes its index: what is left is a mesh
+-- of the other points.
 use Rattle.std.proofs.Common.{◌≡◌, ℕ, List, [], map, sym, ap, subst}
 use Rattle.half_edge_mesh.specs.Contents.{Contents, IsMeshWithData}
 use Rattle.half_edge_mesh.specs.Removal.{DropsVertex, LeavesMesh}
@@ -9,22 +10,40 @@ use Rattle.plane_edits.specs.Removal.{LocalMeshWithout, LineMeshWithout}
 use Rattle.mesh_embedding.specs.Drawn.{faces_of, outer_of}
 use Rattle.mesh_embedding.proofs.MeshDrops.{dropped, dropped_faces, dropped_on_line, removes_vertex}
 
-module _ {V D U F : Type 0} (position : V → Point) (old between new : Contents V D U F) (v : ℕ) (value : V) (same : between.vertices ≡ old.vertices) (drops : DropsVertex between new v value) where
+module _ {V D U F : Type 0} (position : V → Point) (old between new : Contents V D U F) (v : ℕ)
+    (value : V) (same : between.vertices ≡ old.vertices)
+    (drops : DropsVertex between new v value) where
   -- in the plane
-  pub vertex_goes : IsMeshWithData between → IsMeshWithData new → LocalMeshWithout v (map position old.vertices) (faces_of between.mesh) (outer_of between.mesh) → LocalMesh (map position new.vertices) (faces_of new.mesh) (outer_of new.mesh)
-  vertex_goes before after m = dropped position between new v value drops before after (subst (λ (vs : List V). LocalMeshWithout v (map position vs) (faces_of between.mesh) (outer_of between.mesh)) (sym same) m)
+  pub vertex_goes : IsMeshWithData between → IsMeshWithData new → LocalMeshWithout v
+      (map position old.vertices) (faces_of between.mesh) (outer_of between.mesh)
+      → LocalMesh (map position new.vertices) (faces_of new.mesh) (outer_of new.mesh)
+  vertex_goes before after m = dropped position between new v value drops before after
+      (subst (λ (vs : List V). LocalMeshWithout v (map position vs) (faces_of between.mesh)
+      (outer_of between.mesh)) (sym same) m)
 
   -- all others are on one line
-  pub vertex_goes_to_line : IsMeshWithData between → IsMeshWithData new → faces_of between.mesh ≡ [] → LineMeshWithout v (map position old.vertices) (outer_of between.mesh) → (faces_of new.mesh ≡ []) × LineMesh (map position new.vertices) (outer_of new.mesh)
+  pub vertex_goes_to_line : IsMeshWithData between → IsMeshWithData new → faces_of between.mesh ≡ []
+      → LineMeshWithout v (map position old.vertices) (outer_of between.mesh)
+      → (faces_of new.mesh ≡ []) × LineMesh (map position new.vertices) (outer_of new.mesh)
   vertex_goes_to_line before after none m = (
     dropped_faces position between new v value drops before after none,
-    dropped_on_line position between new v value drops (subst (λ (vs : List V). LineMeshWithout v (map position vs) (outer_of between.mesh)) (sym same) m),
+    dropped_on_line position between new v value drops (subst (λ (vs : List V). LineMeshWithout v
+        (map position vs) (outer_of between.mesh)) (sym same) m),
   )
 
   -- in the plain state
-  pub plain_removes : Removes position (record { vertices = old.vertices; constraints = [] }) (record { vertices = new.vertices; constraints = [] }) v
-  plain_removes = subst (λ (vs : List V). Removes position (record { vertices = vs; constraints = [] }) (record { vertices = new.vertices; constraints = [] }) v) same (removes_vertex position between new v value drops)
+  pub plain_removes : Removes position (record { vertices = old.vertices; constraints = [] })
+      (record { vertices = new.vertices; constraints = [] }) v
+  plain_removes =
+      subst (λ (vs : List V). Removes position (record { vertices = vs; constraints = [] })
+      (record { vertices = new.vertices; constraints = [] }) v) same
+      (removes_vertex position between new v value drops)
 
 -- a vertex of a line, in the plain state
-pub line_plain_removes : {V D U F : Type 0} (position : V → Point) (old new : Contents V D U F) (v : ℕ) (value : V) → LeavesMesh old new v value → Removes position (record { vertices = old.vertices; constraints = [] }) (record { vertices = new.vertices; constraints = [] }) v
-line_plain_removes {V} {D} {U} {F} position old new v value leaves = plain_removes position old leaves.between new v value (ap (λ (c : Contents V D U F). c.vertices) leaves.leaves.contents) leaves.drops
+pub line_plain_removes : {V D U F : Type 0} (position : V → Point) (old new : Contents V D U F)
+    (v : ℕ) (value : V) → LeavesMesh old new v value
+    → Removes position (record { vertices = old.vertices; constraints = [] })
+    (record { vertices = new.vertices; constraints = [] }) v
+line_plain_removes {V} {D} {U} {F} position old new v value leaves =
+    plain_removes position old leaves.between new v value
+    (ap (λ (c : Contents V D U F). c.vertices) leaves.leaves.contents) leaves.drops

@@ -1,5 +1,6 @@
 -- An edge of a mesh at a vertex is turned: its star in the plane, and what is left of it.
-use Rattle.std.proofs.Common.{◌≡◌, ℕ, suc, ◌<◌, ◌≤◌, ◌-◌, ◌*◌, ◌/◌, List, [], ◌∷◌, length, refl, sym, ap, ◌∙◌, subst, arith}
+use Rattle.std.proofs.Common.{◌≡◌, ◌<◌, ◌≤◌, ◌-◌, ◌*◌, ◌/◌, [], ◌∷◌, ◌∙◌}
+use Rattle.std.proofs.Common.{ℕ, suc, List, length, refl, sym, ap, subst, arith}
 use mathlib.Core.Logic.{inl, inr, ◌≢◌}
 use Rattle.std.specs.Prelude.{ℤ, pos, ◌+ℤ◌}
 use Rattle.std.proofs.lemmas.Int.{ints}
@@ -22,7 +23,8 @@ use Rattle.plane_edits.specs.Removal.{IsStar}
 use Rattle.plane_edits.specs.RemovalHull.{IsHullStar}
 use Rattle.plane_edits.specs.StarFlips.{IsStarFlip, without}
 use Rattle.plane_edits.proofs.LocalMesh.Kept.{flip_kept}
-use Rattle.plane_edits.proofs.Removal.StarFlips.{inner_star_shrinks, stars_agree, hull_star_shrinks, hull_stars_agree}
+use Rattle.plane_edits.proofs.Removal.StarFlips.{inner_star_shrinks, stars_agree, hull_star_shrinks}
+use Rattle.plane_edits.proofs.Removal.StarFlips.{hull_stars_agree}
 use Rattle.mesh_embedding.specs.Drawn.{faces_of, outer_of}
 use Rattle.mesh_embedding.proofs.OuterChanges.{outer_kept}
 use Rattle.mesh_embedding.proofs.FaceChanges.{come_of}
@@ -33,26 +35,38 @@ use Rattle.mesh_embedding.proofs.MeshStays.{halved}
 
 -- ---- the turn of an edge from its other side is the same change of faces
 module _ (old new : List Face) (v b c d : ℕ) where
-  gone_same : (f : Face → ℤ) → IsTurnFree f → f (corners c d v) +ℤ (f (corners c v b) +ℤ pos 0) ≡ f (corners v b c) +ℤ (f (corners v c d) +ℤ pos 0)
-  gone_same f free = swapped (f (corners c d v)) (f (corners c v b)) (f (corners v b c)) (f (corners v c d)) (free v c d) (free v b c ∙ free b c v)
+  gone_same : (f : Face → ℤ) → IsTurnFree f → f (corners c d v) +ℤ (f (corners c v b) +ℤ pos 0)
+      ≡ f (corners v b c) +ℤ (f (corners v c d) +ℤ pos 0)
+  gone_same f free = swapped (f (corners c d v)) (f (corners c v b)) (f (corners v b c))
+      (f (corners v c d)) (free v c d) (free v b c ∙ free b c v)
     where
       swapped : (p q r s : ℤ) → s ≡ p → r ≡ q → p +ℤ (q +ℤ pos 0) ≡ r +ℤ (s +ℤ pos 0)
       swapped p q r s e f = omega (arith, ints)
 
-  made_same : (f : Face → ℤ) → IsTurnFree f → f (corners c d b) +ℤ (f (corners d v b) +ℤ pos 0) ≡ f (corners v b d) +ℤ (f (corners b c d) +ℤ pos 0)
-  made_same f free = swapped (f (corners c d b)) (f (corners d v b)) (f (corners v b d)) (f (corners b c d)) (free b c d) (free v b d ∙ free b d v)
+  made_same : (f : Face → ℤ) → IsTurnFree f → f (corners c d b) +ℤ (f (corners d v b) +ℤ pos 0)
+      ≡ f (corners v b d) +ℤ (f (corners b c d) +ℤ pos 0)
+  made_same f free = swapped (f (corners c d b)) (f (corners d v b)) (f (corners v b d))
+      (f (corners b c d)) (free b c d) (free v b d ∙ free b d v)
     where
       swapped : (p q r s : ℤ) → s ≡ p → r ≡ q → p +ℤ (q +ℤ pos 0) ≡ r +ℤ (s +ℤ pos 0)
       swapped p q r s e f = omega (arith, ints)
 
   -- the turn of c v, read from its other side, is the turn of v c
-  pub from_other_side : FacesChange old new (corners c d v ∷ corners c v b ∷ []) (corners c d b ∷ corners d v b ∷ []) → FacesChange old new (corners v b c ∷ corners v c d ∷ []) (corners v b d ∷ corners b c d ∷ [])
-  from_other_side change = change_as old new (corners c d v ∷ corners c v b ∷ []) (corners c d b ∷ corners d v b ∷ []) (corners v b c ∷ corners v c d ∷ []) (corners v b d ∷ corners b c d ∷ []) change gone_same made_same
-      (come_of (corners c d b ∷ corners d v b ∷ []) (corners v b d ∷ corners b c d ∷ []) (inr (inr (1, omega arith, refl)), (inr (inl (Contains-head (corners c d b) (corners d v b ∷ []))), tt)))
+  pub from_other_side : FacesChange old new (corners c d v ∷ corners c v b ∷ [])
+      (corners c d b ∷ corners d v b ∷ []) → FacesChange old new
+      (corners v b c ∷ corners v c d ∷ []) (corners v b d ∷ corners b c d ∷ [])
+  from_other_side change = change_as old new (corners c d v ∷ corners c v b ∷ [])
+      (corners c d b ∷ corners d v b ∷ []) (corners v b c ∷ corners v c d ∷ [])
+      (corners v b d ∷ corners b c d ∷ []) change gone_same made_same
+      (come_of (corners c d b ∷ corners d v b ∷ []) (corners v b d ∷ corners b c d ∷ []) (
+        inr (inr (1, omega arith, refl)),
+        (inr (inl (Contains-head (corners c d b) (corners d v b ∷ []))), tt),
+      ))
 
 -- ---- the edge from v to neighbour i + 1, between two inner faces
-module _ (points : List Point) (m : Mesh) (valid : IsValidMesh m) (local : LocalMesh points (faces_of m) (outer_of m)) (v first count : ℕ) (round : IsRound m v first count)
-    (i : ℕ) (left : 0 < face m (spoke m first i)) (right : 0 < face m (spoke m first (suc i))) where
+module _ (points : List Point) (m : Mesh) (valid : IsValidMesh m) (local : LocalMesh points
+    (faces_of m) (outer_of m)) (v first count : ℕ) (round : IsRound m v first count) (i : ℕ)
+    (left : 0 < face m (spoke m first i)) (right : 0 < face m (spoke m first (suc i))) where
   abbrev nb : ℕ → ℕ
   nb = neighbour m first
 
@@ -83,10 +97,12 @@ module _ (points : List Point) (m : Mesh) (valid : IsValidMesh m) (local : Local
 
   -- and so may its twin
   pub twin_flippable : IsFlippable m (rev e)
-  twin_flippable = between_inner points m valid local (rev e) twin_in twin_inner (subst (λ x. 0 < face m x) (sym (rev-rev e)) right)
+  twin_flippable = between_inner points m valid local (rev e) twin_in twin_inner
+      (subst (λ x. 0 < face m x) (sym (rev-rev e)) right)
 
   corner_b : origin m (prev m (rev e)) ≡ nb i
-  corner_b = ap (λ x. origin m (prev m x)) twin_is ∙ ap (origin m) t.prev_prev ∙ (valid.sound.edges before (round.within i)).starts
+  corner_b = ap (λ x. origin m (prev m x)) twin_is ∙ ap (origin m) t.prev_prev
+      ∙ (valid.sound.edges before (round.within i)).starts
 
   corner_c : origin m (next m e) ≡ nb (suc i)
   corner_c = (valid.sound.edges e e_in).starts
@@ -95,22 +111,32 @@ module _ (points : List Point) (m : Mesh) (valid : IsValidMesh m) (local : Local
   corner_d = ap (origin m) (sym (rev-rev (prev m e)))
 
   twin_end : origin m (next m (rev e)) ≡ v
-  twin_end = (valid.sound.edges (rev e) twin_in).starts ∙ ap (origin m) (rev-rev e) ∙ round.starts (suc i)
+  twin_end = (valid.sound.edges (rev e) twin_in).starts ∙ ap (origin m) (rev-rev e)
+      ∙ round.starts (suc i)
 
   twin_apex : origin m (prev m (rev (rev e))) ≡ nb (suc (suc i))
   twin_apex = ap (λ x. origin m (prev m x)) (rev-rev e) ∙ corner_d
 
   abbrev StarChange : Mesh → Type 0
-  StarChange new = FacesChange (faces_of m) (faces_of new) (corners v (nb i) (nb (suc i)) ∷ corners v (nb (suc i)) (nb (suc (suc i))) ∷ []) (corners v (nb i) (nb (suc (suc i))) ∷ corners (nb i) (nb (suc i)) (nb (suc (suc i))) ∷ [])
+  StarChange new = FacesChange (faces_of m) (faces_of new)
+      (corners v (nb i) (nb (suc i)) ∷ corners v (nb (suc i)) (nb (suc (suc i))) ∷ [])
+      (corners v (nb i) (nb (suc (suc i))) ∷ corners (nb i) (nb (suc i)) (nb (suc (suc i))) ∷ [])
 
   by_edge : (new : Mesh) → FlipsTriangles m new e → StarChange new
-  by_edge new change = subst (λ (x : ℕ × ℕ × ℕ × ℕ). FacesChange (faces_of m) (faces_of new) (corners x.0 x.1 x.2 ∷ corners x.0 x.2 x.3 ∷ []) (corners x.0 x.1 x.3 ∷ corners x.1 x.2 x.3 ∷ []))
-      (λ j. (round.starts (suc i) j, corner_b j, corner_c j, corner_d j)) (flipped_faces m new e valid.sound spoke_flippable change)
+  by_edge new change =
+      subst (λ (x : ℕ × ℕ × ℕ × ℕ). FacesChange (faces_of m) (faces_of new) (corners x.0 x.1 x.2
+      ∷ corners x.0 x.2 x.3 ∷ []) (corners x.0 x.1 x.3 ∷ corners x.1 x.2 x.3 ∷ []))
+      (λ j. (round.starts (suc i) j, corner_b j, corner_c j, corner_d j))
+      (flipped_faces m new e valid.sound spoke_flippable change)
 
   by_twin : (new : Mesh) → FlipsTriangles m new (rev e) → StarChange new
-  by_twin new change = from_other_side (faces_of m) (faces_of new) v (nb i) (nb (suc i)) (nb (suc (suc i)))
-      (subst (λ (x : ℕ × ℕ × ℕ). FacesChange (faces_of m) (faces_of new) (corners (nb (suc i)) x.0 x.1 ∷ corners (nb (suc i)) x.1 x.2 ∷ []) (corners (nb (suc i)) x.0 x.2 ∷ corners x.0 x.1 x.2 ∷ []))
-      (λ j. (twin_apex j, twin_end j, corner_b j)) (flipped_faces m new (rev e) valid.sound twin_flippable change))
+  by_twin new change =
+      from_other_side (faces_of m) (faces_of new) v (nb i) (nb (suc i)) (nb (suc (suc i)))
+      (subst (λ (x : ℕ × ℕ × ℕ). FacesChange (faces_of m) (faces_of new)
+      (corners (nb (suc i)) x.0 x.1 ∷ corners (nb (suc i)) x.1 x.2 ∷ [])
+      (corners (nb (suc i)) x.0 x.2 ∷ corners x.0 x.1 x.2 ∷ []))
+      (λ j. (twin_apex j, twin_end j, corner_b j))
+      (flipped_faces m new (rev e) valid.sound twin_flippable change))
 
   abbrev CanTurn : ℕ → Type 0
   CanTurn h = IsFlippable m h × (origin m (prev m h) ≢ origin m (prev m (rev h)))
@@ -124,26 +150,41 @@ module _ (points : List Point) (m : Mesh) (valid : IsValidMesh m) (local : Local
 
   -- the turn of its undirected edge
   pub spoke_turned : (new : Mesh) → FlipsTriangles m new (2 * (e / 2)) → StarChange new
-  spoke_turned new change = elim (halved e) [ inl q ↦ by_edge new (subst (FlipsTriangles m new) q change) | inr q ↦ by_twin new (subst (FlipsTriangles m new) q change) ]
+  spoke_turned new change = elim (halved e) [
+    | inl q ↦ by_edge new (subst (FlipsTriangles m new) q change)
+    | inr q ↦ by_twin new (subst (FlipsTriangles m new) q change)
+  ]
 
   -- across a strictly convex quadrilateral
-  pub star_flip : (new : Mesh) → FlipsTriangles m new (2 * (e / 2)) → KeepsOuter m new
-      → TurnsLeft (place points (nb i)) (place points (nb (suc i))) (place points (nb (suc (suc i)))) → TurnsLeft (place points v) (place points (nb i)) (place points (nb (suc (suc i))))
+  pub star_flip : (new : Mesh) → FlipsTriangles m new (2 * (e / 2)) → KeepsOuter m new → TurnsLeft
+      (place points (nb i)) (place points (nb (suc i))) (place points (nb (suc (suc i))))
+      → TurnsLeft (place points v) (place points (nb i)) (place points (nb (suc (suc i))))
       → IsStarFlip points (faces_of m) (faces_of new) (outer_of m) (outer_of new) v nb i
-  star_flip new change outer far near = record { far = far; near = near; faces_change = spoke_turned new change; outer_change = outer_kept m new local.once outer }
+  star_flip new change outer far near = record {
+    far = far;
+    near = near;
+    faces_change = spoke_turned new change;
+    outer_change = outer_kept m new local.once outer;
+  }
 
 -- ---- what is left
 -- a mesh stays local
-pub star_flip_local : (points : List Point) (faces new : List Face) (outer outer' : List (ℕ × ℕ)) (v : ℕ) (nb : ℕ → ℕ) (i : ℕ) → LocalMesh points faces outer
-    → IsFaceOf faces v (nb i) (nb (suc i)) → IsFaceOf faces v (nb (suc i)) (nb (suc (suc i))) → IsStarFlip points faces new outer outer' v nb i → LocalMesh points new outer'
-star_flip_local points faces new outer outer' v nb i local before after flip = flip_kept points faces new outer outer' v (nb i) (nb (suc i)) (nb (suc (suc i))) local before after flip.near flip.far flip.faces_change flip.outer_change
+pub star_flip_local : (points : List Point) (faces new : List Face) (outer outer' : List (ℕ × ℕ))
+    (v : ℕ) (nb : ℕ → ℕ) (i : ℕ) → LocalMesh points faces outer
+    → IsFaceOf faces v (nb i) (nb (suc i)) → IsFaceOf faces v (nb (suc i)) (nb (suc (suc i)))
+    → IsStarFlip points faces new outer outer' v nb i → LocalMesh points new outer'
+star_flip_local points faces new outer outer' v nb i local before after flip =
+    flip_kept points faces new outer outer' v (nb i) (nb (suc i))
+    (nb (suc (suc i))) local before after flip.near flip.far flip.faces_change flip.outer_change
 
 -- and an inner vertex, read again, has one neighbour less
-pub one_neighbour_less : (points : List Point) (faces new : List Face) (outer outer' : List (ℕ × ℕ)) (v k l : ℕ) (nb other : ℕ → ℕ) (i : ℕ) → LocalMesh points faces outer → IsStar faces v k nb → 4 ≤ k
-    → IsStarFlip points faces new outer outer' v nb i → IsStar new v l other → suc l ≡ k
+pub one_neighbour_less : (points : List Point) (faces new : List Face) (outer outer' : List (ℕ × ℕ))
+    (v k l : ℕ) (nb other : ℕ → ℕ) (i : ℕ) → LocalMesh points faces outer → IsStar faces v k nb
+    → 4 ≤ k → IsStarFlip points faces new outer outer' v nb i → IsStar new v l other → suc l ≡ k
 one_neighbour_less points faces new outer outer' v k l nb other i local star four flip again =
     let shrunk = inner_star_shrinks points faces new outer outer' v k nb i local star four flip in
-    let local' = star_flip_local points faces new outer outer' v nb i local (star.around i) (star.around (suc i)) flip in
+    let local' = star_flip_local points faces new outer outer' v nb i local (star.around i)
+    (star.around (suc i)) flip in
     let agree = stars_agree points new outer' v (k - 1) l shrunk.0 other local' shrunk.1 again in
     same agree.0
   where
@@ -151,13 +192,21 @@ one_neighbour_less points faces new outer outer' v k l nb other i local star fou
     same e = omega (arith, e, four)
 
 -- so has a vertex on the hull, with the same first and last
-pub one_hull_neighbour_less : (points : List Point) (faces new : List Face) (outer outer' : List (ℕ × ℕ)) (v k l : ℕ) (nb other : ℕ → ℕ) (i : ℕ) → LocalMesh points faces outer → IsHullStar faces outer v k nb → suc i < k
-    → IsStarFlip points faces new outer outer' v nb i → IsHullStar new outer' v l other → (suc l ≡ k) × (other 0 ≡ nb 0) × (other l ≡ nb k)
+pub one_hull_neighbour_less : (points : List Point) (faces new : List Face)
+    (outer outer' : List (ℕ × ℕ)) (v k l : ℕ) (nb other : ℕ → ℕ) (i : ℕ)
+    → LocalMesh points faces outer → IsHullStar faces outer v k nb → suc i < k
+    → IsStarFlip points faces new outer outer' v nb i → IsHullStar new outer' v l other
+    → (suc l ≡ k) × (other 0 ≡ nb 0) × (other l ≡ nb k)
 one_hull_neighbour_less points faces new outer outer' v k l nb other i local star below flip again =
     let shrunk = hull_star_shrinks points faces new outer outer' v k nb i local star below flip in
-    let local' = star_flip_local points faces new outer outer' v nb i local (star.around i (omega (arith, below))) (star.around (suc i) below) flip in
-    let agree = hull_stars_agree points new outer' v (k - 1) l (without (suc i) nb) other local' shrunk.0 again in
-    (same agree.0, agree.1 0 (omega arith) ∙ shrunk.1, ap other (sym agree.0) ∙ agree.1 (k - 1) (omega arith) ∙ shrunk.2)
+    let local' = star_flip_local points faces new outer outer' v nb i local
+    (star.around i (omega (arith, below))) (star.around (suc i) below) flip in
+    let agree = hull_stars_agree points new outer' v (k - 1) l
+    (without (suc i) nb) other local' shrunk.0 again in (
+      same agree.0,
+      agree.1 0 (omega arith) ∙ shrunk.1,
+      ap other (sym agree.0) ∙ agree.1 (k - 1) (omega arith) ∙ shrunk.2,
+    )
   where
     same : k - 1 ≡ l → suc l ≡ k
     same e = omega (arith, e, below)

@@ -1,10 +1,14 @@
--- The round of a vertex in a mesh is its star in the plane: inside the hull all the way round, on the hull from one outer edge to the other.
-use Rattle.std.proofs.Common.{◌≡◌, ◌⊎◌, ℕ, zero, suc, ◌<◌, ◌+◌, ◌-◌, List, length, get_or, refl, sym, ap, ◌∙◌, subst, arith, zero-add}
+-- The round of a vertex in a mesh is its star in the plane: inside the hull all the way round, on
+-- the hull from one outer edge to the other.
+use Rattle.std.proofs.Common.{◌≡◌, ◌⊎◌, ◌<◌, ◌+◌, ◌-◌, ◌∙◌}
+use Rattle.std.proofs.Common.{ℕ, zero, suc, List, length, get_or, refl, sym, ap, subst, arith}
+use Rattle.std.proofs.Common.{zero-add}
 use mathlib.Core.Logic.{inl, inr, ◌≢◌}
 use Rattle.std.specs.Prelude.{Contains, IsSome}
 use Rattle.std.proofs.Math.Numerals.{add-one}
 use Rattle.std.proofs.lemmas.Bool.{cases_lt}
-use Rattle.half_edge_mesh.specs.Mesh.{Mesh, origin, next, prev, face, rev, out_edge, IsValidMesh, AreSoundLinks, IsInnerEdge}
+use Rattle.half_edge_mesh.specs.Mesh.{Mesh, origin, next, prev, face, rev, out_edge, IsValidMesh}
+use Rattle.half_edge_mesh.specs.Mesh.{AreSoundLinks, IsInnerEdge}
 use Rattle.half_edge_mesh.specs.Outline.{IsOuterEdge}
 use Rattle.half_edge_mesh.specs.Peel.{turn, spoke, IsStrip}
 use Rattle.half_edge_mesh.specs.Round.{IsRound, neighbour}
@@ -40,11 +44,15 @@ pub record IsEdgeOfFace (m : Mesh) (h i j k : ℕ) : Type 0 where
   pub third : origin m (prev m h) ≡ k
 
 -- the face that a listed triangle is of
-listed_edge : (m : Mesh) → AreSoundLinks m → (i j k : ℕ) → Contains (faces_of m) (corners i j k) → (h : ℕ) × IsEdgeOfFace m h i j k
+listed_edge : (m : Mesh) → AreSoundLinks m → (i j k : ℕ) → Contains (faces_of m) (corners i j k)
+    → (h : ℕ) × IsEdgeOfFace m h i j k
 listed_edge m s i j k c = (
   r.0,
   record {
-    inner = (subst (λ x. x < length m.half_edges) same there.0, subst (λ x. 0 < face m x) same (subst (λ x. 0 < x) (sym there.1) (omega arith)));
+    inner = (
+      subst (λ x. x < length m.half_edges) same there.0,
+      subst (λ x. 0 < face m x) same (subst (λ x. 0 < x) (sym there.1) (omega arith)),
+    );
     first = ap (λ (f : Face). f.a) drawn;
     second = ap (λ (f : Face). f.b) drawn;
     third = ap (λ (f : Face). f.c) drawn;
@@ -63,8 +71,11 @@ listed_edge m s i j k c = (
     less : (f : ℕ) → suc f - 1 ≡ f
     less f = omega arith
 
-    there : (get_or m.face_edges r.1.0 0 < length m.half_edges) × (face m (get_or m.face_edges r.1.0 0) ≡ suc r.1.0)
-    there = subst (λ (x : ℕ). (get_or m.face_edges x 0 < length m.half_edges) × (face m (get_or m.face_edges x 0) ≡ suc r.1.0)) (less r.1.0) (s.faces (suc r.1.0) (omega arith) (let w = r.1.1 in omega (arith, w)))
+    there : (get_or m.face_edges r.1.0 0 < length m.half_edges)
+        × (face m (get_or m.face_edges r.1.0 0) ≡ suc r.1.0)
+    there = subst (λ (x : ℕ). (get_or m.face_edges x 0 < length m.half_edges)
+        × (face m (get_or m.face_edges x 0) ≡ suc r.1.0)) (less r.1.0)
+        (s.faces (suc r.1.0) (omega arith) (let w = r.1.1 in omega (arith, w)))
 
     same : get_or m.face_edges r.1.0 0 ≡ r.0
     same = get_or_any m.face_edges r.1.0 0 r.0 r.1.1 ∙ r.1.2
@@ -83,14 +94,18 @@ module _ (m : Mesh) (s : AreSoundLinks m) where
   -- a face has a directed edge from each of its corners
   pub edge_of_face : (i j k : ℕ) → IsFaceOf (faces_of m) i j k → (h : ℕ) × IsEdgeOfFace m h i j k
   edge_of_face i j k (inl c) = listed_edge m s i j k c
-  edge_of_face i j k (inr (inl c)) = let r = listed_edge m s j k i c in (next m (next m r.0), edge_after (next m r.0) k i j (edge_after r.0 j k i r.1))
-  edge_of_face i j k (inr (inr c)) = let r = listed_edge m s k i j c in (next m r.0, edge_after r.0 k i j r.1)
+  edge_of_face i j k (inr (inl c)) = let r = listed_edge m s j k i c in
+      (next m (next m r.0), edge_after (next m r.0) k i j (edge_after r.0 j k i r.1))
+  edge_of_face i j k (inr (inr c)) =
+      let r = listed_edge m s k i j c in (next m r.0, edge_after r.0 k i j r.1)
 
 -- ---- a vertex with its round
-module _ (points : List Point) (m : Mesh) (valid : IsValidMesh m) (local : LocalMesh points (faces_of m) (outer_of m)) where
+module _ (points : List Point) (m : Mesh) (valid : IsValidMesh m)
+    (local : LocalMesh points (faces_of m) (outer_of m)) where
   -- each pair of vertices is joined by at most one edge
   pub pairs_once : EachPairOnce (edges_of m)
-  pairs_once = (mesh_tiles points (faces_of m) (outer_of m) (edges_of m) local (own_edges m valid)).once
+  pairs_once =
+      (mesh_tiles points (faces_of m) (outer_of m) (edges_of m) local (own_edges m valid)).once
 
   module _ (v first count : ℕ) (round : IsRound m v first count) where
     abbrev nb : ℕ → ℕ
@@ -100,11 +115,15 @@ module _ (points : List Point) (m : Mesh) (valid : IsValidMesh m) (local : Local
     next_nb i = ap nb (add-one i)
 
     -- the face on the left of a spoke
-    pub spoke_face : (i : ℕ) → 0 < face m (spoke m first i) → IsFaceOf (faces_of m) v (nb i) (nb (suc i))
-    spoke_face i inner = subst (λ (t : Triangle). IsFaceOf (faces_of m) t.first t.second t.third) (round.corner i inner ∙ (λ j. record { first = v; second = nb i; third = next_nb i j })) (face_before m (spoke m first i) valid.sound (round.within i, inner))
+    pub spoke_face : (i : ℕ) → 0 < face m (spoke m first i)
+        → IsFaceOf (faces_of m) v (nb i) (nb (suc i))
+    spoke_face i inner = subst (λ (t : Triangle). IsFaceOf (faces_of m) t.first t.second t.third)
+        (round.corner i inner ∙ (λ j. record { first = v; second = nb i; third = next_nb i j }))
+        (face_before m (spoke m first i) valid.sound (round.within i, inner))
 
     -- and each face at the vertex is one of these
-    pub face_spoke : (a b : ℕ) → IsFaceOf (faces_of m) v a b → (i : ℕ) × (i < count) × (0 < face m (spoke m first i)) × (nb i ≡ a) × (nb (suc i) ≡ b)
+    pub face_spoke : (a b : ℕ) → IsFaceOf (faces_of m) v a b
+        → (i : ℕ) × (i < count) × (0 < face m (spoke m first i)) × (nb i ≡ a) × (nb (suc i) ≡ b)
     face_spoke a b f =
         let r = edge_of_face m valid.sound v a b f in
         let e = r.1 in
@@ -114,15 +133,20 @@ module _ (points : List Point) (m : Mesh) (valid : IsValidMesh m) (local : Local
           at.0,
           at.1,
           inner,
-          sym (ap (λ (x : Triangle). x.second) t) ∙ ap (λ x. origin m (next m x)) (sym at.2) ∙ e.second,
-          sym (next_nb at.0) ∙ sym (ap (λ (x : Triangle). x.third) t) ∙ ap (λ x. origin m (prev m x)) (sym at.2) ∙ e.third,
+          sym (ap (λ (x : Triangle). x.second) t)
+              ∙ ap (λ x. origin m (next m x)) (sym at.2) ∙ e.second,
+          sym (next_nb at.0) ∙ sym (ap (λ (x : Triangle). x.third) t)
+              ∙ ap (λ x. origin m (prev m x)) (sym at.2) ∙ e.third,
         )
 
     -- the neighbours differ
     pub neighbours_apart : (i j : ℕ) → i < count → j < count → nb i ≡ nb j → i ≡ j
     neighbours_apart i j h k e = elim (cases_lt i j) [
       | inl l ↦ absurd (neighbours_differ m valid pairs_once v first count round i j l k e)
-      | inr l ↦ elim (cases_lt j i) [ inl q ↦ absurd (neighbours_differ m valid pairs_once v first count round j i q h (sym e)) | inr q ↦ omega (arith, l, q) ]
+      | inr l ↦ elim (cases_lt j i) [
+        | inl q ↦ absurd (neighbours_differ m valid pairs_once v first count round j i q h (sym e))
+        | inr q ↦ omega (arith, l, q)
+      ]
     ]
 
     -- a vertex with inner faces all round it
@@ -136,7 +160,9 @@ module _ (points : List Point) (m : Mesh) (valid : IsValidMesh m) (local : Local
 
     -- an outer edge from the vertex
     outer_from : (i : ℕ) → face m (spoke m first i) ≡ 0 → Contains (outer_of m) (v, nb i)
-    outer_from i o = subst (λ x. Contains (outer_of m) (x, nb i)) (round.starts i) (listed m (spoke m first i) (origin m (spoke m first i)) (nb i) (own_ends m (spoke m first i) (round.within i) o))
+    outer_from i o =
+        subst (λ x. Contains (outer_of m) (x, nb i)) (round.starts i) (listed m (spoke m first i)
+        (origin m (spoke m first i)) (nb i) (own_ends m (spoke m first i) (round.within i) o))
 
     -- ---- a vertex whose first edge has the outer face on its right
     module _ (outer : face m (rev first) ≡ 0) where
@@ -147,7 +173,9 @@ module _ (points : List Point) (m : Mesh) (valid : IsValidMesh m) (local : Local
       back_in = rev_within first (length m.half_edges) valid.sound.even first_in
 
       arriving : Contains (outer_of m) (nb 0, v)
-      arriving = subst (λ x. Contains (outer_of m) (nb 0, x)) (ap (origin m) (rev-rev first) ∙ round.starts 0) (listed m (rev first) (origin m (rev first)) (origin m (rev (rev first))) (own_ends m (rev first) back_in outer))
+      arriving = subst (λ x. Contains (outer_of m) (nb 0, x)) (ap (origin m) (rev-rev first)
+          ∙ round.starts 0) (listed m (rev first) (origin m (rev first))
+          (origin m (rev (rev first))) (own_ends m (rev first) back_in outer))
 
       -- the place of the last neighbour in the round of a vertex on the hull
       abbrev pub last : ℕ
@@ -164,10 +192,12 @@ module _ (points : List Point) (m : Mesh) (valid : IsValidMesh m) (local : Local
       prev_last = sym (rev-rev (prev m (spoke m first last))) ∙ ap rev around_last
 
       last_is : next m (rev first) ≡ spoke m first last
-      last_is = ap (next m) (sym prev_last) ∙ (valid.sound.edges (spoke m first last) (round.within last)).next_prev
+      last_is = ap (next m) (sym prev_last)
+          ∙ (valid.sound.edges (spoke m first last) (round.within last)).next_prev
 
       last_outer : face m (spoke m first last) ≡ 0
-      last_outer = ap (face m) (sym last_is) ∙ (valid.sound.edges (rev first) back_in).same_face ∙ outer
+      last_outer = ap (face m) (sym last_is)
+          ∙ (valid.sound.edges (rev first) back_in).same_face ∙ outer
 
       -- and no other one
       inner_before : (i : ℕ) → i < last → 0 < face m (spoke m first i)
@@ -175,18 +205,28 @@ module _ (points : List Point) (m : Mesh) (valid : IsValidMesh m) (local : Local
         where
           go : (x : ℕ) → face m (spoke m first i) ≡ x → 0 < x
           go (suc x) e = omega arith
-          go zero e = absurd (clash (neighbours_apart i last (let c = count_is in omega (arith, c, l)) (let c = count_is in omega (arith, c)) (next_unique (length points) (point_at points) (faces_of m) (outer_of m) (by_signs points (faces_of m) (outer_of m) local) v (nb i) (nb last) (outer_from i e) (outer_from last last_outer))))
+          go zero e =
+              absurd (clash (neighbours_apart i last (let c = count_is in omega (arith, c, l))
+              (let c = count_is in omega (arith, c)) (next_unique (length points) (point_at points)
+              (faces_of m) (outer_of m) (by_signs points (faces_of m) (outer_of m) local) v (nb i)
+              (nb last) (outer_from i e) (outer_from last last_outer))))
             where
               clash : i ≡ last → ⊥
               clash q = omega (arith, l, q)
 
       not_far : next m (spoke m first last) ≢ rev (spoke m first last)
-      not_far e = no_outer_back (length points) (point_at points) (faces_of m) (outer_of m) (by_signs points (faces_of m) (outer_of m) local) v (nb last) (outer_from last last_outer)
-          (subst (λ (x : ℕ). Contains (outer_of m) (nb last, x)) (ap (origin m) (rev-rev (spoke m first last)) ∙ round.starts last)
-          (listed m (rev (spoke m first last)) (origin m (rev (spoke m first last))) (origin m (rev (rev (spoke m first last)))) (own_ends m (rev (spoke m first last)) (rev_within (spoke m first last) (length m.half_edges) valid.sound.even (round.within last)) way_back)))
+      not_far e = no_outer_back (length points) (point_at points) (faces_of m) (outer_of m)
+          (by_signs points (faces_of m) (outer_of m) local) v (nb last) (outer_from last last_outer)
+          (subst (λ (x : ℕ). Contains (outer_of m) (nb last, x))
+          (ap (origin m) (rev-rev (spoke m first last)) ∙ round.starts last)
+          (listed m (rev (spoke m first last)) (origin m (rev (spoke m first last)))
+          (origin m (rev (rev (spoke m first last))))
+          (own_ends m (rev (spoke m first last)) (rev_within (spoke m first last)
+          (length m.half_edges) valid.sound.even (round.within last)) way_back)))
         where
           way_back : face m (rev (spoke m first last)) ≡ 0
-          way_back = ap (face m) (sym e) ∙ (valid.sound.edges (spoke m first last) (round.within last)).same_face ∙ last_outer
+          way_back = ap (face m) (sym e)
+              ∙ (valid.sound.edges (spoke m first last) (round.within last)).same_face ∙ last_outer
 
       -- so its faces are a strip
       pub hull_strip : IsStrip m first last
@@ -211,11 +251,15 @@ module _ (points : List Point) (m : Mesh) (valid : IsValidMesh m) (local : Local
           before : (i : ℕ) → i < count → 0 < face m (spoke m first i) → i < last
           before i h inner = elim (cases_lt i last) [
             | inl l ↦ l
-            | inr l ↦ absurd (let c = count_is in let same : i ≡ last = omega (arith, h, l, c) in let o = ap (λ x. face m (spoke m first x)) same ∙ last_outer in omega (arith, inner, o))
+            | inr l ↦ absurd (let c = count_is in let same : i ≡ last = omega (arith, h, l, c) in
+                let o = ap (λ x. face m (spoke m first x)) same ∙ last_outer in
+                omega (arith, inner, o))
           ]
 
 -- each vertex has an edge
-pub vertex_has_edge : (points : List Point) (m : Mesh) → AreSoundLinks m → LocalMesh points (faces_of m) (outer_of m) → (v : ℕ) → IsIndex points v → IsSome (out_edge m v)
+pub vertex_has_edge : (points : List Point) (m : Mesh) → AreSoundLinks m
+    → LocalMesh points (faces_of m) (outer_of m) → (v : ℕ) → IsIndex points v
+    → IsSome (out_edge m v)
 vertex_has_edge points m s local v here = elim (local.used v here) [
   | inl (f, c, corner) ↦ at_face f (edge_of_face m s f.a f.b f.c (inl c)) corner
   | inr (e, c, end) ↦ at_outer e (real m e.0 e.1 c) end
@@ -224,11 +268,16 @@ vertex_has_edge points m s local v here = elim (local.used v here) [
     some_at : (h : ℕ) → h < length m.half_edges → origin m h ≡ v → IsSome (out_edge m v)
     some_at h k o = subst (λ x. IsSome (out_edge m x)) o (s.edges h k).has_out
 
-    at_face : (f : Face) → (h : ℕ) × IsEdgeOfFace m h f.a f.b f.c → (v ≡ f.a) ⊎ ((v ≡ f.b) ⊎ (v ≡ f.c)) → IsSome (out_edge m v)
+    at_face : (f : Face) → (h : ℕ) × IsEdgeOfFace m h f.a f.b f.c
+        → (v ≡ f.a) ⊎ ((v ≡ f.b) ⊎ (v ≡ f.c)) → IsSome (out_edge m v)
     at_face f r (inl e) = some_at r.0 r.1.inner.0 (r.1.first ∙ sym e)
-    at_face f r (inr (inl e)) = some_at (next m r.0) (s.edges r.0 r.1.inner.0).next_in (r.1.second ∙ sym e)
-    at_face f r (inr (inr e)) = some_at (prev m r.0) (s.edges r.0 r.1.inner.0).prev_in (r.1.third ∙ sym e)
+    at_face f r (inr (inl e)) =
+        some_at (next m r.0) (s.edges r.0 r.1.inner.0).next_in (r.1.second ∙ sym e)
+    at_face f r (inr (inr e)) =
+        some_at (prev m r.0) (s.edges r.0 r.1.inner.0).prev_in (r.1.third ∙ sym e)
 
-    at_outer : (e : ℕ × ℕ) → (h : ℕ) × IsOuterEdge m h e.0 e.1 → (v ≡ e.0) ⊎ (v ≡ e.1) → IsSome (out_edge m v)
+    at_outer : (e : ℕ × ℕ) → (h : ℕ) × IsOuterEdge m h e.0 e.1 → (v ≡ e.0) ⊎ (v ≡ e.1)
+        → IsSome (out_edge m v)
     at_outer e r (inl q) = some_at r.0 r.1.within (r.1.source ∙ sym q)
-    at_outer e r (inr q) = some_at (rev r.0) (rev_within r.0 (length m.half_edges) s.even r.1.within) (r.1.target ∙ sym q)
+    at_outer e r (inr q) = some_at (rev r.0)
+        (rev_within r.0 (length m.half_edges) s.even r.1.within) (r.1.target ∙ sym q)

@@ -1,4 +1,5 @@
--- The outer edges of a mesh of points are one loop: each loop turns up at the lowest vertex, which one of them leaves.
+-- The outer edges of a mesh of points are one loop: each loop turns up at the lowest vertex, which
+-- one of them leaves.
 use Rattle.std.proofs.Common.{ℕ, List, length, sym, subst}
 use mathlib.Core.Logic.{inl, inr}
 use Rattle.std.specs.Prelude.{ℤ, Contains}
@@ -13,7 +14,8 @@ use Rattle.plane_tiling.proofs.Sweep.{IsSweep, sweep}
 use Rattle.plane_edits.proofs.Insertion.Hull.{next_unique}
 use Rattle.mesh_embedding.specs.Drawn.{faces_of, outer_of}
 use Rattle.mesh_embedding.proofs.LowestVertex.{turns_at_lowest}
-use Rattle.mesh_embedding.proofs.OutlineRounds.{IsOut, next_out, end, TurnsUp, outline_by_low, out_pair, same_ends}
+use Rattle.mesh_embedding.proofs.OutlineRounds.{IsOut, next_out, end, TurnsUp, outline_by_low}
+use Rattle.mesh_embedding.proofs.OutlineRounds.{out_pair, same_ends}
 use Rattle.mesh_embedding.proofs.OutlineRounds.{IsLowest, same_low}
 use Rattle.mesh_embedding.proofs.OutlineOnLine.{line_outline}
 
@@ -34,7 +36,8 @@ module _ (points : List Point) (m : Mesh) (s : AreSoundLinks m)
     turns h o up =
         let after = out_pair m s (next m h) (next_out m s h o) in (
           (signs.ends (origin m h, end m h) (out_pair m s h o)).1,
-          turns_at_lowest n p (faces_of m) (outer_of m) signs way height swept _ _ _ (out_pair m s h o) after up.0 up.1,
+          turns_at_lowest n p (faces_of m) (outer_of m) signs way height swept _ _ _
+              (out_pair m s h o) after up.0 up.1,
         )
 
     swept_outline : HasOneOutline m
@@ -45,16 +48,18 @@ module _ (points : List Point) (m : Mesh) (s : AreSoundLinks m)
       turns = turns;
       one = λ h g o q a b.
           let starts = same_low height n swept.distinct (origin m h) (origin m g) a b in
-          let other = subst (λ v. Contains (outer_of m) (v, end m g)) (sym starts) (out_pair m s g q) in
+          let other =
+          subst (λ v. Contains (outer_of m) (v, end m g)) (sym starts) (out_pair m s g q) in
           same_ends m s shape.once h g o q starts
-          (next_unique n p (faces_of m) (outer_of m) signs (origin m h) (end m h) (end m g) (out_pair m s h o) other);
+          (next_unique n p (faces_of m) (outer_of m) signs (origin m h) (end m h) (end m g)
+          (out_pair m s h o) other);
     })
 
   plane_outline : HasOneOutline m
   plane_outline = let w = sweep n p signs.distinct in swept_outline w.0 w.1.0 w.1.1
 
 -- the outer edges of a mesh of points are one loop
-pub one_outline : (points : List Point) (m : Mesh) → IsValidMesh m → IsMesh points (faces_of m) (outer_of m)
-    → HasOneOutline m
+pub one_outline : (points : List Point) (m : Mesh) → IsValidMesh m
+    → IsMesh points (faces_of m) (outer_of m) → HasOneOutline m
 one_outline points m valid (inl shape) = plane_outline points m valid.sound shape
 one_outline points m valid (inr line) = line_outline points m valid line.0 line.1

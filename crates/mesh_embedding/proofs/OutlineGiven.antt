@@ -1,6 +1,7 @@
--- The outer edges of a mesh with one outline, as an iterator along it gives them: each once, and after each its next
--- one.
-use Rattle.std.proofs.Common.{◌≡◌, ◌⊎◌, ℕ, suc, ◌+◌, ◌%◌, ◌<◌, List, [], ◌∷◌, length, map, Option, Some, None, refl}
+-- The outer edges of a mesh with one outline, as an iterator along it gives them: each once, and
+-- after each its next one.
+use Rattle.std.proofs.Common.{◌≡◌, ◌⊎◌, ◌+◌, ◌%◌, ◌<◌, [], ◌∷◌}
+use Rattle.std.proofs.Common.{ℕ, suc, List, length, map, Option, Some, None, refl}
 use Rattle.std.proofs.Common.{sym, ap, ◌∙◌, subst, inl, inr, arith}
 use Rattle.std.specs.Prelude.{Contains, slice_index_or}
 use Rattle.std.specs.Borrow.{Bor}
@@ -28,7 +29,8 @@ pub record IsOutlineList (m : Mesh) (edges : List ℕ) : Type 0 where
 
 -- without an outer edge there is no edge
 none_out : (m : Mesh) → IsValidMesh m → m.outer_edge ≡ None → (h : ℕ) → ¬ IsOut m h
-none_out m v none h o = let w = o.0 in not_some m.outer_edge none (v.sound.has_outer (omega (arith, w)))
+none_out m v none h o = let w = o.0 in
+    not_some m.outer_edge none (v.sound.has_outer (omega (arith, w)))
 
 empty_list : (m : Mesh) → IsValidMesh m → m.outer_edge ≡ None → IsOutlineList m []
 empty_list m v none = record {
@@ -38,7 +40,8 @@ empty_list m v none = record {
   after = λ i w. absurd (omega (arith, w));
 }
 
-module _ (m : Mesh) (first count : ℕ) (loop : IsOuterLoop m first count) (one : HasOneOutline m) where
+module _ (m : Mesh) (first count : ℕ) (loop : IsOuterLoop m first count)
+    (one : HasOneOutline m) where
   abbrev at : ℕ → ℕ
   at i = iterate (next m) i first
 
@@ -67,13 +70,16 @@ module _ (m : Mesh) (first count : ℕ) (loop : IsOuterLoop m first count) (one 
     after = λ i w.
         let i_in : i < count = omega (arith, w, size) in
         let turned = following i i_in in
-        ap (λ n. slice_index_or edges ((i + 1) % n) 0) size ∙ turned ∙ ap (next m) (sym (entry i 0 i_in));
+        ap (λ n. slice_index_or edges ((i + 1) % n) 0) size ∙ turned
+        ∙ ap (next m) (sym (entry i 0 i_in));
   }
     where
       following : (i : ℕ) → i < count → slice_index_or edges ((i + 1) % count) 0 ≡ next m (at i)
       following i w = elim (cases_eq (i + 1) count) [
-        | inl e ↦ ap (λ n. slice_index_or edges (n % count) 0) e ∙ ap (λ n. slice_index_or edges n 0) (mod_self count)
-            ∙ entry 0 0 loop.some ∙ sym loop.back ∙ ap at (sym e) ∙ ap at (let s : i + 1 ≡ suc i = omega arith in s)
+        | inl e ↦ ap (λ n. slice_index_or edges (n % count) 0) e
+            ∙ ap (λ n. slice_index_or edges n 0) (mod_self count)
+            ∙ entry 0 0 loop.some ∙ sym loop.back ∙ ap at (sym e)
+            ∙ ap at (let s : i + 1 ≡ suc i = omega arith in s)
         | inr d ↦
             let l : i + 1 < count = omega (arith, w, d) in
             ap (λ n. slice_index_or edges n 0) (mod-eq_of_lt l) ∙ entry (i + 1) 0 l
@@ -81,7 +87,8 @@ module _ (m : Mesh) (first count : ℕ) (loop : IsOuterLoop m first count) (one 
       ]
 
 -- what is given along the outline
-pub outline_given : {V D U F : Type 0} (d : Bor (Contents V D U F)) (given : List (Bor (Contents V D U F) × ℕ))
+pub outline_given :
+    {V D U F : Type 0} (d : Bor (Contents V D U F)) (given : List (Bor (Contents V D U F) × ℕ))
     → IsValidMesh d.now.mesh → HasOneOutline d.now.mesh → GivesOuterLoop d given
     → (edges : List ℕ) × (given ≡ each_in d edges) × IsOutlineList d.now.mesh edges
 outline_given {V} {D} {U} {F} d given valid one gives = go d.now.mesh.outer_edge refl
@@ -111,8 +118,9 @@ indexes_in d [] = refl
 indexes_in d (i ∷ is) = ap (λ xs. i ∷ xs) (indexes_in d is)
 
 -- before a search along the outline all outer edges are left
-pub along_begins : {V D U F : Type 0} (d : Bor (Contents V D U F)) (given : List (Bor (Contents V D U F) × ℕ))
-    (Seen : ℕ → Type 0) → IsValidMesh d.now.mesh → HasOneOutline d.now.mesh → GivesOuterLoop d given
+pub along_begins : {V D U F : Type 0} (d : Bor (Contents V D U F))
+    (given : List (Bor (Contents V D U F) × ℕ)) (Seen : ℕ → Type 0) → IsValidMesh d.now.mesh
+    → HasOneOutline d.now.mesh → GivesOuterLoop d given
     → IsGoingAlong d.now.mesh Seen (indexes given)
 along_begins d given Seen valid one gives =
     let g = outline_given d given valid one gives in
@@ -124,19 +132,22 @@ module _ {C : Type 0} (m : Mesh) (Seen : ℕ → Type 0) (given : List (Bor C ×
   -- the next edge that is given is an outer one
   pub along_next : (x : Bor C × ℕ) (left : List (Bor C × ℕ)) → given ≡ x ∷ left → IsOut m x.1
   along_next x left e =
-      going.within x.1 (subst (λ xs. Contains (indexes xs) x.1) (sym e) (Contains-head x.1 (indexes left)))
+      going.within x.1
+      (subst (λ xs. Contains (indexes xs) x.1) (sym e) (Contains-head x.1 (indexes left)))
 
   -- once it is seen, the way along the outline goes on with the edges after it
   pub along_goes_on : (x : Bor C × ℕ) (left : List (Bor C × ℕ)) → given ≡ x ∷ left → Seen x.1
       → IsGoingAlong m Seen (indexes left)
   along_goes_on x left e seen = record {
     within =
-        λ h c. going.within h (subst (λ xs. Contains (indexes xs) h) (sym e) (Contains-later x.1 (indexes left) h c));
+        λ h c. going.within h
+        (subst (λ xs. Contains (indexes xs) h) (sym e) (Contains-later x.1 (indexes left) h c));
     each = λ h o. elim (going.each h o) [
-      | inl c ↦ elim (Contains-cases x.1 (indexes left) h (subst (λ xs. Contains (indexes xs) h) e c)) [
-        | inl q ↦ inr (subst Seen q seen)
-        | inr r ↦ inl r
-      ]
+      | inl c ↦
+          elim (Contains-cases x.1 (indexes left) h (subst (λ xs. Contains (indexes xs) h) e c)) [
+            | inl q ↦ inr (subst Seen q seen)
+            | inr r ↦ inl r
+          ]
       | inr s ↦ inr s
     ];
   }

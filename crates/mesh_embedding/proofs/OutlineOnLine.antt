@@ -20,7 +20,8 @@ use Rattle.mesh_embedding.specs.Drawn.{corners_of, faces_of, outer_of}
 use Rattle.mesh_embedding.proofs.LineNeighbours as N
 use Rattle.mesh_embedding.proofs.MeshLineEnds.{only_edge, is_outer}
 use Rattle.mesh_embedding.proofs.OuterEdges.{real, one_edge}
-use Rattle.mesh_embedding.proofs.OutlineRounds.{IsOut, next_out, end, TurnsUp, outline_by_low, out_edge, out_pair}
+use Rattle.mesh_embedding.proofs.OutlineRounds.{IsOut, next_out, end, TurnsUp, outline_by_low}
+use Rattle.mesh_embedding.proofs.OutlineRounds.{out_edge, out_pair}
 use Rattle.mesh_embedding.proofs.OutlineRounds.{same_ends, IsLowest, same_low}
 
 -- ---- a mesh of points on one line: by their places along it
@@ -34,7 +35,8 @@ module _ (points : List Point) (m : Mesh) (valid : IsValidMesh m) (bare : faces_
 
   no_inner : length m.face_edges ≡ 0
   no_inner =
-      sym (length-map m.face_edges (triangle_at m)) ∙ sym (length-map (triangles m) corners_of) ∙ ap length bare
+      sym (length-map m.face_edges (triangle_at m)) ∙ sym (length-map (triangles m) corners_of)
+      ∙ ap length bare
 
   signs : SignLine n p (outer_of m)
   signs = line_by_signs points (outer_of m) line
@@ -50,7 +52,8 @@ module _ (points : List Point) (m : Mesh) (valid : IsValidMesh m) (bare : faces_
     unfolding height
     differ = N.own_spots n p (outer_of m) signs a b a_in b_in apart
 
-    one_up : (v x y : ℕ) → IsNext n p v x → IsNext n p v y → height v <ℤ height x → height v <ℤ height y → x ≡ y
+    one_up : (v x y : ℕ) → IsNext n p v x → IsNext n p v y → height v <ℤ height x
+        → height v <ℤ height y → x ≡ y
     unfolding height
     one_up v x y f g h k = elim (cases_eq x y) [
       | inl e ↦ e
@@ -98,7 +101,8 @@ module _ (points : List Point) (m : Mesh) (valid : IsValidMesh m) (bare : faces_
           let j = down_from (end m h) k (next_to h o).second l d in
           let g = real m (end m h) j.0 j.1 in
           let there = alone_there g.0 g.1.within g.1.source in
-          let ends : j.0 ≡ origin m h = sym g.1.target ∙ ap (λ i. origin m (rev i)) there ∙ ap (origin m) (rev-rev h) in
+          let ends : j.0 ≡ origin m h =
+          sym g.1.target ∙ ap (λ i. origin m (rev i)) there ∙ ap (origin m) (rev-rev h) in
           let below = subst (λ i. height i <ℤ height (end m h)) ends j.2 in
           less_both_ways (height (origin m h)) (height (end m h)) below up.0
 
@@ -111,7 +115,8 @@ module _ (points : List Point) (m : Mesh) (valid : IsValidMesh m) (bare : faces_
         ],
       )
 
-    goes_up : (h : ℕ) → IsOut m h → IsLowest height n (origin m h) → height (origin m h) <ℤ height (end m h)
+    goes_up : (h : ℕ) → IsOut m h → IsLowest height n (origin m h)
+        → height (origin m h) <ℤ height (end m h)
     goes_up h o l =
         let f = next_to h o in
         less_if_not_same (height (origin m h)) (height (end m h)) (l.1 (end m h) f.second)

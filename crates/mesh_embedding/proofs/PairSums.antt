@@ -9,7 +9,8 @@ use Rattle.half_edge_mesh.specs.Outline.{Ends}
 use Rattle.half_edge_mesh.specs.Flow.{outline}
 use Rattle.half_edge_mesh.specs.Removal.{OuterChanges}
 use Rattle.plane_tiling.specs.Local.{total, along}
-use Rattle.plane_tiling.proofs.Flows.{is_pair, is_pair_nonneg, is_pair_own, pair_found, outer_counts}
+use Rattle.plane_tiling.proofs.Flows.{is_pair, is_pair_nonneg, is_pair_own, pair_found}
+use Rattle.plane_tiling.proofs.Flows.{outer_counts}
 use Rattle.plane_tiling.proofs.Loops.{listed_once}
 use Rattle.plane_tiling.proofs.Totals.{total_nonneg, total_positive, total_twice}
 use Rattle.plane_edits.specs.Change.{OuterChange}
@@ -54,7 +55,9 @@ unfolding times
 once_times xs few k l d below within same =
     let e = get_or xs k d in
     clash (total (along (is_pair e.0 e.1)) xs) (few e.0 e.1)
-    (total_twice (along (is_pair e.0 e.1)) xs (λ x _. is_pair_nonneg e.0 e.1 x.0 x.1) k l d below within (is_pair_own e.0 e.1) (ap (along (is_pair e.0 e.1)) (sym same) ∙ is_pair_own e.0 e.1))
+    (total_twice (along (is_pair e.0 e.1)) xs
+    (λ x _. is_pair_nonneg e.0 e.1 x.0 x.1) k l d below within (is_pair_own e.0 e.1)
+    (ap (along (is_pair e.0 e.1)) (sym same) ∙ is_pair_own e.0 e.1))
   where
     clash : (a : ℤ) → a ≤ℤ pos 1 → pos 2 ≤ℤ a → ⊥
     clash a h k = omega (arith, ints)
@@ -65,7 +68,8 @@ HaveNoneIn made gone = (i j : ℕ) → Contains made (i, j) → ¬ Contains gone
 
 -- the sums of four lists of pairs, as a change of lists
 abbrev pub SumsChange : List (ℕ × ℕ) → List (ℕ × ℕ) → List (ℕ × ℕ) → List (ℕ × ℕ) → Type 0
-SumsChange old new gone made = (f : ℕ → ℕ → ℤ) → total (along f) new +ℤ total (along f) gone ≡ total (along f) old +ℤ total (along f) made
+SumsChange old new gone made = (f : ℕ → ℕ → ℤ)
+    → total (along f) new +ℤ total (along f) gone ≡ total (along f) old +ℤ total (along f) made
 
 module _ (old new gone made : List (ℕ × ℕ)) (sums : SumsChange old new gone made) where
   counts : (i j : ℕ) → times new i j +ℤ times gone i j ≡ times old i j +ℤ times made i j
@@ -74,30 +78,41 @@ module _ (old new gone made : List (ℕ × ℕ)) (sums : SumsChange old new gone
 
   -- what goes was there, unless it is made
   pub gone_there : (i j : ℕ) → Contains gone (i, j) → ¬ Contains made (i, j) → Contains old (i, j)
-  gone_there i j c n = listed_times old i j (some (times new i j) (times gone i j) (times old i j) (times made i j) (counts i j) (times_listed gone i j c) (not_listed made i j n) (times_nonneg new i j))
+  gone_there i j c n =
+      listed_times old i j (some (times new i j) (times gone i j) (times old i j) (times made i j)
+      (counts i j) (times_listed gone i j c) (not_listed made i j n) (times_nonneg new i j))
     where
       some : (a b c d : ℤ) → a +ℤ b ≡ c +ℤ d → pos 1 ≤ℤ b → d ≡ pos 0 → pos 0 ≤ℤ a → pos 0 <ℤ c
       some a b c d e h k l = omega (arith, ints)
 
   -- what is there afterwards was there or was made
   pub still_there : (i j : ℕ) → Contains new (i, j) → ¬ Contains made (i, j) → Contains old (i, j)
-  still_there i j c n = listed_times old i j (some (times new i j) (times gone i j) (times old i j) (times made i j) (counts i j) (times_listed new i j c) (not_listed made i j n) (times_nonneg gone i j))
+  still_there i j c n =
+      listed_times old i j (some (times new i j) (times gone i j) (times old i j) (times made i j)
+      (counts i j) (times_listed new i j c) (not_listed made i j n) (times_nonneg gone i j))
     where
       some : (a b c d : ℤ) → a +ℤ b ≡ c +ℤ d → pos 1 ≤ℤ a → d ≡ pos 0 → pos 0 ≤ℤ b → pos 0 <ℤ c
       some a b c d e h k l = omega (arith, ints)
 
   -- what was there and is no more has gone
   pub must_go : (i j : ℕ) → Contains old (i, j) → ¬ Contains new (i, j) → Contains gone (i, j)
-  must_go i j c n = listed_times gone i j (some (times new i j) (times gone i j) (times old i j) (times made i j) (counts i j) (times_listed old i j c) (not_listed new i j n) (times_nonneg made i j))
+  must_go i j c n =
+      listed_times gone i j (some (times new i j) (times gone i j) (times old i j) (times made i j)
+      (counts i j) (times_listed old i j c) (not_listed new i j n) (times_nonneg made i j))
     where
       some : (a b c d : ℤ) → a +ℤ b ≡ c +ℤ d → pos 1 ≤ℤ c → a ≡ pos 0 → pos 0 ≤ℤ d → pos 0 <ℤ b
       some a b c d e h k l = omega (arith, ints)
 
   -- where what is made is fresh, the sums are a change of outer edges
-  pub sums_change : IsOnce old → IsOnce made → HaveNoneIn made old → HaveNoneIn made gone → OuterChange old new gone made
+  pub sums_change : IsOnce old → IsOnce made → HaveNoneIn made old → HaveNoneIn made gone
+      → OuterChange old new gone made
   sums_change once once_made fresh apart = record {
-    kept = λ i j c n. listed_times new i j (kept (times new i j) (times gone i j) (times old i j) (times made i j) (counts i j) (times_listed old i j c) (not_listed gone i j n) (times_nonneg made i j));
-    come = λ i j c. listed_times new i j (come (times new i j) (times gone i j) (times old i j) (times made i j) (counts i j) (times_listed made i j c) (not_listed gone i j (apart i j c)) (times_nonneg old i j));
+    kept = λ i j c n. listed_times new i j
+        (kept (times new i j) (times gone i j) (times old i j) (times made i j) (counts i j)
+        (times_listed old i j c) (not_listed gone i j n) (times_nonneg made i j));
+    come = λ i j c. listed_times new i j
+        (come (times new i j) (times gone i j) (times old i j) (times made i j) (counts i j)
+        (times_listed made i j c) (not_listed gone i j (apart i j c)) (times_nonneg old i j));
     only = λ i j c. from i j c (has_pair_or_not made i j);
     once = once_times new (λ i j. single i j (has_pair_or_not made i j));
   }
@@ -108,12 +123,19 @@ module _ (old new gone made : List (ℕ × ℕ)) (sums : SumsChange old new gone
       come : (a b c d : ℤ) → a +ℤ b ≡ c +ℤ d → pos 1 ≤ℤ d → b ≡ pos 0 → pos 0 ≤ℤ c → pos 0 <ℤ a
       come a b c d e h k l = omega (arith, ints)
 
-      too_many : (a b c d : ℤ) → a +ℤ b ≡ c +ℤ d → pos 1 ≤ℤ a → pos 1 ≤ℤ b → c ≤ℤ pos 1 → d ≡ pos 0 → ⊥
+      too_many : (a b c d : ℤ) → a +ℤ b ≡ c +ℤ d → pos 1 ≤ℤ a → pos 1 ≤ℤ b → c ≤ℤ pos 1
+          → d ≡ pos 0 → ⊥
       too_many a b c d e h k l n = omega (arith, ints)
 
-      from : (i j : ℕ) → Contains new (i, j) → Contains made (i, j) ⊎ (¬ Contains made (i, j)) → (Contains old (i, j) × ¬ Contains gone (i, j)) ⊎ Contains made (i, j)
+      from : (i j : ℕ) → Contains new (i, j) → Contains made (i, j) ⊎ (¬ Contains made (i, j))
+          → (Contains old (i, j) × ¬ Contains gone (i, j)) ⊎ Contains made (i, j)
       from i j c (inl m) = inr m
-      from i j c (inr n) = inl (still_there i j c n, λ g. too_many (times new i j) (times gone i j) (times old i j) (times made i j) (counts i j) (times_listed new i j c) (times_listed gone i j g) (at_most_once old i j once) (not_listed made i j n))
+      from i j c (inr n) = inl (
+        still_there i j c n,
+        λ g. too_many (times new i j) (times gone i j)
+            (times old i j) (times made i j) (counts i j) (times_listed new i j c)
+            (times_listed gone i j g) (at_most_once old i j once) (not_listed made i j n),
+      )
 
       few : (a b c d : ℤ) → a +ℤ b ≡ c +ℤ d → pos 0 ≤ℤ b → c ≤ℤ pos 1 → d ≡ pos 0 → a ≤ℤ pos 1
       few a b c d e h k l = omega (arith, ints)
@@ -122,11 +144,15 @@ module _ (old new gone made : List (ℕ × ℕ)) (sums : SumsChange old new gone
       few_made a b c d e h k l = omega (arith, ints)
 
       single : (i j : ℕ) → Contains made (i, j) ⊎ (¬ Contains made (i, j)) → times new i j ≤ℤ pos 1
-      single i j (inl m) = few_made (times new i j) (times gone i j) (times old i j) (times made i j) (counts i j) (times_nonneg gone i j) (not_listed old i j (fresh i j m)) (at_most_once made i j once_made)
-      single i j (inr n) = few (times new i j) (times gone i j) (times old i j) (times made i j) (counts i j) (times_nonneg gone i j) (at_most_once old i j once) (not_listed made i j n)
+      single i j (inl m) = few_made (times new i j) (times gone i j) (times old i j)
+          (times made i j) (counts i j) (times_nonneg gone i j) (not_listed old i j (fresh i j m))
+          (at_most_once made i j once_made)
+      single i j (inr n) = few (times new i j) (times gone i j) (times old i j) (times made i j)
+          (counts i j) (times_nonneg gone i j) (at_most_once old i j once) (not_listed made i j n)
 
 -- the sums that a call of the mesh gives
-pub outer_sums : (old new : Mesh) (gone made : List Ends) → OuterChanges old new gone made → SumsChange (outer_of old) (outer_of new) (map pair_of gone) (map pair_of made)
+pub outer_sums : (old new : Mesh) (gone made : List Ends) → OuterChanges old new gone made
+    → SumsChange (outer_of old) (outer_of new) (map pair_of gone) (map pair_of made)
 outer_sums old new gone made c f =
     (λ t. total-read (along f) pair_of (outline new) t +ℤ total-read (along f) pair_of gone t)
     ∙ c f

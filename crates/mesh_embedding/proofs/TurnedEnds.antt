@@ -11,7 +11,8 @@ KeepsOtherOrigins m new e = (h : ℕ) → h ≢ e → h ≢ rev e → origin new
 pub other_ends_stay : (m new : Mesh) (e : ℕ) → KeepsOtherOrigins m new e
     → (h : ℕ) → h ≢ e → h ≢ rev e → origin new (rev h) ≡ origin m (rev h)
 other_ends_stay m new e kept h n t =
-    kept (rev h) (λ r. t (sym (rev-rev h) ∙ ap rev r)) (λ r. n (sym (rev-rev h) ∙ ap rev r ∙ rev-rev e))
+    kept (rev h) (λ r. t (sym (rev-rev h) ∙ ap rev r))
+    (λ r. n (sym (rev-rev h) ∙ ap rev r ∙ rev-rev e))
 
 -- a directed edge ends where the next one starts
 pub ends_at_next : (m : Mesh) → AreSoundLinks m → (h i : ℕ) → h < length m.half_edges → next m h ≡ i

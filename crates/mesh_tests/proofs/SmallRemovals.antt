@@ -8,11 +8,21 @@ use Rattle.half_edge_mesh.specs.Hole.{IsBorder}
 use Rattle.half_edge_mesh.specs.Removal.{AreOpposite}
 
 -- one face at a vertex
-pub one_side : (m : Mesh) (e : ℕ) → AreSoundLinks m → e < length m.half_edges → 0 < face m (prev m e) → face m (rev (prev m e)) ≡ 0 → face m (turn m (prev m e)) ≡ 0 → next m (rev (prev m e)) ≡ turn m (prev m e) → next m (turn m (prev m e)) ≢ rev (turn m (prev m e)) → AreOpposite m (e ∷ [])
+pub one_side : (m : Mesh) (e : ℕ) → AreSoundLinks m → e < length m.half_edges
+    → 0 < face m (prev m e) → face m (rev (prev m e)) ≡ 0 → face m (turn m (prev m e)) ≡ 0
+    → next m (rev (prev m e)) ≡ turn m (prev m e)
+    → next m (turn m (prev m e)) ≢ rev (turn m (prev m e)) → AreOpposite m (e ∷ [])
 one_side m e s within inner outer last gap far = record {
   some = omega arith;
   within = within;
-  strip = record { within = (s.edges e within).prev_in; outer = outer; inner = only_first; last = last; gap = gap; far = far };
+  strip = record {
+    within = (s.edges e within).prev_in;
+    outer = outer;
+    inner = only_first;
+    last = last;
+    gap = gap;
+    far = far;
+  };
   sides = only_side;
 }
   where
@@ -25,7 +35,10 @@ one_side m e s within inner outer last gap far = record {
     only_side (suc i) less = absurd (omega (arith, less))
 
 -- three faces round a vertex
-pub three_sides : (m : Mesh) (v o a b c : ℕ) → AreSoundLinks m → o < length m.half_edges → origin m o ≡ v → 0 < face m o → 0 < face m (turn m o) → 0 < face m (turn m (turn m o)) → turn m (turn m (turn m o)) ≡ o → a ≡ next m o → b ≡ next m (turn m o) → c ≡ next m (turn m (turn m o)) → IsBorder m (a ∷ b ∷ c ∷ []) v
+pub three_sides : (m : Mesh) (v o a b c : ℕ) → AreSoundLinks m → o < length m.half_edges
+    → origin m o ≡ v → 0 < face m o → 0 < face m (turn m o) → 0 < face m (turn m (turn m o))
+    → turn m (turn m (turn m o)) ≡ o → a ≡ next m o → b ≡ next m (turn m o)
+    → c ≡ next m (turn m (turn m o)) → IsBorder m (a ∷ b ∷ c ∷ []) v
 three_sides m v o a b c s within starts i1 i2 i3 round at_a at_b at_c =
     let here = s.edges o within in
     let first : prev m a ≡ o = ap (prev m) at_a ∙ here.prev_next in
@@ -51,8 +64,11 @@ three_sides m v o a b c s within starts i1 i2 i3 round at_a at_b at_c =
     all (suc (suc (suc i))) less = absurd (omega (arith, less))
 
 -- four faces round a vertex
-pub four_sides : (m : Mesh) (v o a b c d : ℕ) → AreSoundLinks m → o < length m.half_edges → origin m o ≡ v → 0 < face m o → 0 < face m (spoke m o 1) → 0 < face m (spoke m o 2) → 0 < face m (spoke m o 3) → spoke m o 4 ≡ o → neighbour m o 2 ≢ neighbour m o 0
-    → a ≡ next m o → b ≡ next m (spoke m o 1) → c ≡ next m (spoke m o 2) → d ≡ next m (spoke m o 3) → IsBorder m (a ∷ b ∷ c ∷ d ∷ []) v
+pub four_sides : (m : Mesh) (v o a b c d : ℕ) → AreSoundLinks m → o < length m.half_edges
+    → origin m o ≡ v → 0 < face m o → 0 < face m (spoke m o 1) → 0 < face m (spoke m o 2)
+    → 0 < face m (spoke m o 3) → spoke m o 4 ≡ o → neighbour m o 2 ≢ neighbour m o 0 → a ≡ next m o
+    → b ≡ next m (spoke m o 1) → c ≡ next m (spoke m o 2) → d ≡ next m (spoke m o 3)
+    → IsBorder m (a ∷ b ∷ c ∷ d ∷ []) v
 four_sides m v o a b c d s within starts i1 i2 i3 i4 round corners at_a at_b at_c at_d =
     let here = s.edges o within in
     let first : prev m a ≡ o = ap (prev m) at_a ∙ here.prev_next in
@@ -62,7 +78,8 @@ four_sides m v o a b c d s within starts i1 i2 i3 i4 round corners at_a at_b at_
       round = rw first (record { within = within; inner = each_inner; round = round });
       starts = ap (origin m) first ∙ starts;
       sides = λ i less. all i less ∙ ap (λ j. next m (spoke m j i)) (sym first);
-      tip = rw first (λ i some less q. corners (ap (neighbour m o) (let e : 2 ≡ i = omega (arith, some, less) in e) ∙ q));
+      tip = rw first (λ i some less q. corners
+          (ap (neighbour m o) (let e : 2 ≡ i = omega (arith, some, less) in e) ∙ q));
     }
   where
     each_inner : (i : ℕ) → i < 4 → 0 < face m (spoke m o i)

@@ -30,8 +30,8 @@ pub fn vertex(mesh: &Mesh, index: u32) -> Option<([u8; 2], Option<u32>)> {
 }
 
 /// The start and the end of an edge, the start of the previous one, the next and the previous one,
-/// the other direction, the next ones round its start counterclockwise and clockwise, and the face on
-/// its left.
+/// the other direction, the next ones round its start counterclockwise and clockwise, and the face
+/// on its left.
 pub fn directed_edge(mesh: &Mesh, index: u32) -> Option<[u32; 9]> {
     let Some(edge) = edge_at(mesh, index) else {
         return None;

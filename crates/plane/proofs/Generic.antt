@@ -6,9 +6,11 @@ use Rattle.plane.specs.Fraction.{Point}
 use Rattle.plane.proofs.IntegerOrder.{zero-mul_ℤ, zero_of_mul-zero_ℤ, pos-ne-zero_ℤ}
 use Rattle.plane.proofs.Steps.{three_zero, no_difference}
 use Rattle.plane.proofs.Indexes.{below_or_last}
-use Rattle.plane.proofs.Nudges.{Nudged, nudged_zero, nudged_not_left, nudge_pairs, moved, moved_positive, bracket-moved}
+use Rattle.plane.proofs.Nudges.{Nudged, nudged_zero, nudged_not_left, nudge_pairs, moved}
+use Rattle.plane.proofs.Nudges.{moved_positive, bracket-moved}
 use Rattle.plane.proofs.Bracket.{Vec3, bracket, lift}
-use Rattle.plane.proofs.BracketIdentities.{bracket-turn, bracket-outer, bracket-last, cramer, bracket_at_x, bracket_at_y}
+use Rattle.plane.proofs.BracketIdentities.{bracket-turn, bracket-outer, bracket-last, cramer}
+use Rattle.plane.proofs.BracketIdentities.{bracket_at_x, bracket_at_y}
 
 -- q is strictly inside a b c
 pub record Inside (a b c q : Vec3) : Type 0 where
@@ -33,7 +35,8 @@ abbrev pub IsFresh : {X : Type 0} → ℕ → (ℕ → X) → Type 0
 IsFresh n p = (k : ℕ) → k < n → ¬ (p k ≡ p n)
 
 -- with it they still differ
-pub distinct_with_next : {X : Type 0} (n : ℕ) (p : ℕ → X) → AreDistinct n p → IsFresh n p → AreDistinct (suc n) p
+pub distinct_with_next : {X : Type 0} (n : ℕ) (p : ℕ → X) → AreDistinct n p → IsFresh n p
+    → AreDistinct (suc n) p
 distinct_with_next n p old fresh i j h k a e = go (below_or_last n i h) (below_or_last n j k)
   where
     go : (i < n) ⊎ (i ≡ n) → (j < n) ⊎ (j ≡ n) → ⊥
@@ -54,39 +57,53 @@ pub record IsGeneric (n : ℕ) (p : ℕ → Point) (q : Vec3) : Type 0 where
 -- z is q, moved a little towards d
 pub record IsNudged (n : ℕ) (p : ℕ → Point) (q d z : Vec3) : Type 0 where
   pub weight : pos 0 <ℤ z.w
-  pub sides : (s t : ℕ) → s < n → t < n → Nudged (bracket (lift (p s)) (lift (p t)) q) (bracket (lift (p s)) (lift (p t)) d) (bracket (lift (p s)) (lift (p t)) z)
+  pub sides : (s t : ℕ) → s < n → t < n → Nudged (bracket (lift (p s)) (lift (p t)) q)
+      (bracket (lift (p s)) (lift (p t)) d) (bracket (lift (p s)) (lift (p t)) z)
 
 -- not all three corners are on a line of two points
-pub not_on_line : (a b c : Vec3) (s t : Point) → pos 0 <ℤ bracket a b c → bracket (lift s) (lift t) a ≡ pos 0 → bracket (lift s) (lift t) b ≡ pos 0 → bracket (lift s) (lift t) c ≡ pos 0 → s ≡ t
+pub not_on_line : (a b c : Vec3) (s t : Point) → pos 0 <ℤ bracket a b c
+    → bracket (lift s) (lift t) a ≡ pos 0 → bracket (lift s) (lift t) b ≡ pos 0
+    → bracket (lift s) (lift t) c ≡ pos 0 → s ≡ t
 not_on_line a b c s t h ea eb ec =
     let at : ((e : Vec3) → bracket (lift s) (lift t) e ≡ pos 0) = λ e.
-    zero_of_mul-zero_ℤ (pos-ne-zero_ℤ h) (three_zero (bracket a b c *ℤ bracket (lift s) (lift t) e) (bracket b c e *ℤ bracket (lift s) (lift t) a) (bracket c a e *ℤ bracket (lift s) (lift t) b) (bracket a b e *ℤ bracket (lift s) (lift t) c)
-    (cramer a b c e (lift s) (lift t)) (zero-mul_ℤ (bracket b c e) ea) (zero-mul_ℤ (bracket c a e) eb) (zero-mul_ℤ (bracket a b e) ec)) in
-    let y : s.y ≡ t.y = no_difference s.y t.y (sym (bracket_at_x s t) ∙ at (record { x = pos 1; y = pos 0; w = pos 0 })) in
-    let x : t.x ≡ s.x = no_difference t.x s.x (sym (bracket_at_y s t) ∙ at (record { x = pos 0; y = pos 1; w = pos 0 })) in
+    zero_of_mul-zero_ℤ (pos-ne-zero_ℤ h) (three_zero (bracket a b c *ℤ bracket (lift s) (lift t) e)
+    (bracket b c e *ℤ bracket (lift s) (lift t) a) (bracket c a e
+    *ℤ bracket (lift s) (lift t) b) (bracket a b e *ℤ bracket (lift s) (lift t) c)
+    (cramer a b c e (lift s) (lift t)) (zero-mul_ℤ (bracket b c e) ea)
+    (zero-mul_ℤ (bracket c a e) eb) (zero-mul_ℤ (bracket a b e) ec)) in
+    let y : s.y ≡ t.y = no_difference s.y t.y
+    (sym (bracket_at_x s t) ∙ at (record { x = pos 1; y = pos 0; w = pos 0 })) in
+    let x : t.x ≡ s.x = no_difference t.x s.x
+    (sym (bracket_at_y s t) ∙ at (record { x = pos 0; y = pos 1; w = pos 0 })) in
     λ i. record { x = sym x i; y = y i }
 
 module _ (n : ℕ) (p : ℕ → Point) where
   -- from q towards d there is a vector so near that no strict side of q changes
   pub near : (q d : Vec3) → pos 0 <ℤ q.w → pos 0 <ℤ d.w → (z : Vec3) × IsNudged n p q d z
   near q d h k =
-      let m = nudge_pairs n (λ s t. bracket (lift (p s)) (lift (p t)) q) (λ s t. bracket (lift (p s)) (lift (p t)) d) in (
+      let m = nudge_pairs n (λ s t. bracket (lift (p s)) (lift (p t)) q)
+      (λ s t. bracket (lift (p s)) (lift (p t)) d) in (
         moved m.0 q d,
         record {
           weight = moved_positive m.0 q d m.1 h k;
-          sides = λ s t i j. subst (Nudged (bracket (lift (p s)) (lift (p t)) q) (bracket (lift (p s)) (lift (p t)) d)) (sym (bracket-moved (lift (p s)) (lift (p t)) m.0 q d)) (m.2 s t i j);
+          sides = λ s t i j. subst
+              (Nudged (bracket (lift (p s)) (lift (p t)) q) (bracket (lift (p s)) (lift (p t)) d))
+              (sym (bracket-moved (lift (p s)) (lift (p t)) m.0 q d)) (m.2 s t i j);
         },
       )
 
   -- towards a generic d there is a generic vector so near that no strict side of q changes
-  pub generic_near : (q d : Vec3) → pos 0 <ℤ q.w → IsGeneric n p d → (z : Vec3) × IsNudged n p q d z × IsGeneric n p z
+  pub generic_near : (q d : Vec3) → pos 0 <ℤ q.w → IsGeneric n p d
+      → (z : Vec3) × IsNudged n p q d z × IsGeneric n p z
   generic_near q d h g =
       let z = near q d h g.weight in (
         z.0,
         z.1,
         record {
           weight = z.1.weight;
-          off = λ s t i j a e. g.off s t i j a (nudged_zero (bracket (lift (p s)) (lift (p t)) q) (bracket (lift (p s)) (lift (p t)) d) (bracket (lift (p s)) (lift (p t)) z.0) (z.1.sides s t i j) e).1;
+          off = λ s t i j a e. g.off s t i j a (nudged_zero (bracket (lift (p s)) (lift (p t)) q)
+              (bracket (lift (p s)) (lift (p t)) d) (bracket (lift (p s)) (lift (p t)) z.0)
+              (z.1.sides s t i j) e).1;
         },
       )
 
@@ -94,10 +111,14 @@ module _ (n : ℕ) (p : ℕ → Point) where
   pub record IsSpot (a b c : ℕ) (d : Vec3) : Type 0 where
     pub generic : IsGeneric n p d
     pub inside : Inside (lift (p a)) (lift (p b)) (lift (p c)) d
-    pub not_left : (s t : ℕ) → s < n → t < n → bracket (lift (p s)) (lift (p t)) (lift (p a)) ≤ℤ pos 0 → bracket (lift (p s)) (lift (p t)) (lift (p b)) ≤ℤ pos 0 → bracket (lift (p s)) (lift (p t)) (lift (p c)) ≤ℤ pos 0 → bracket (lift (p s)) (lift (p t)) d ≤ℤ pos 0
+    pub not_left : (s t : ℕ) → s < n → t < n → bracket (lift (p s)) (lift (p t)) (lift (p a))
+        ≤ℤ pos 0 → bracket (lift (p s)) (lift (p t)) (lift (p b)) ≤ℤ pos 0
+        → bracket (lift (p s)) (lift (p t)) (lift (p c)) ≤ℤ pos 0
+        → bracket (lift (p s)) (lift (p t)) d ≤ℤ pos 0
 
   -- each left-turning triangle has a generic point inside
-  pub spot : AreDistinct n p → (a b c : ℕ) → a < n → b < n → c < n → pos 0 <ℤ bracket (lift (p a)) (lift (p b)) (lift (p c)) → (d : Vec3) × IsSpot a b c d
+  pub spot : AreDistinct n p → (a b c : ℕ) → a < n → b < n → c < n
+      → pos 0 <ℤ bracket (lift (p a)) (lift (p b)) (lift (p c)) → (d : Vec3) × IsSpot a b c d
   spot distinct a b c ia ib ic turns =
       let A = lift (p a) in
       let B = lift (p b) in
@@ -109,16 +130,26 @@ module _ (n : ℕ) (p : ℕ → Point) where
           generic = record {
             weight = d.1.weight;
             off = λ s t i j n z.
-                let last = nudged_zero (bracket (lift (p s)) (lift (p t)) e.0) (bracket (lift (p s)) (lift (p t)) A) (bracket (lift (p s)) (lift (p t)) d.0) (d.1.sides s t i j) z in
-                let first = nudged_zero (bracket (lift (p s)) (lift (p t)) C) (bracket (lift (p s)) (lift (p t)) B) (bracket (lift (p s)) (lift (p t)) e.0) (e.1.sides s t i j) last.0 in
+                let last = nudged_zero (bracket (lift (p s)) (lift (p t)) e.0) (bracket (lift (p s))
+                (lift (p t)) A) (bracket (lift (p s)) (lift (p t)) d.0) (d.1.sides s t i j) z in
+                let first = nudged_zero (bracket (lift (p s)) (lift (p t)) C)
+                (bracket (lift (p s)) (lift (p t)) B) (bracket (lift (p s)) (lift (p t)) e.0)
+                (e.1.sides s t i j) last.0 in
                 distinct s t i j n (not_on_line A B C (p s) (p t) turns last.1 first.1 first.0);
           };
           inside = record {
             first = (d.1.sides a b ia ib).left ((e.1.sides a b ia ib).left turns);
-            second = let o = (e.1.sides b c ib ic).on (bracket-last B C) ∙ bracket-outer B C in subst (λ z. pos 0 <ℤ z) (sym ((d.1.sides b c ib ic).on o)) (subst (λ z. pos 0 <ℤ z) (bracket-turn A B C) turns);
-            third = (d.1.sides c a ic ia).left (subst (λ z. pos 0 <ℤ z) (sym ((e.1.sides c a ic ia).on (bracket-outer C A))) (subst (λ z. pos 0 <ℤ z) (bracket-turn A B C ∙ bracket-turn B C A) turns));
+            second = let o = (e.1.sides b c ib ic).on (bracket-last B C) ∙ bracket-outer B C in
+                subst (λ z. pos 0 <ℤ z) (sym ((d.1.sides b c ib ic).on o))
+                (subst (λ z. pos 0 <ℤ z) (bracket-turn A B C) turns);
+            third = (d.1.sides c a ic ia).left
+                (subst (λ z. pos 0 <ℤ z) (sym ((e.1.sides c a ic ia).on (bracket-outer C A)))
+                (subst (λ z. pos 0 <ℤ z) (bracket-turn A B C ∙ bracket-turn B C A) turns));
           };
-          not_left = λ s t i j ha hb hc. nudged_not_left (bracket (lift (p s)) (lift (p t)) e.0) (bracket (lift (p s)) (lift (p t)) A) (bracket (lift (p s)) (lift (p t)) d.0) (d.1.sides s t i j)
-              (nudged_not_left (bracket (lift (p s)) (lift (p t)) C) (bracket (lift (p s)) (lift (p t)) B) (bracket (lift (p s)) (lift (p t)) e.0) (e.1.sides s t i j) hc hb) ha;
+          not_left = λ s t i j ha hb hc. nudged_not_left (bracket (lift (p s)) (lift (p t)) e.0)
+              (bracket (lift (p s)) (lift (p t)) A) (bracket (lift (p s)) (lift (p t)) d.0)
+              (d.1.sides s t i j)
+              (nudged_not_left (bracket (lift (p s)) (lift (p t)) C) (bracket (lift (p s)) (lift
+              (p t)) B) (bracket (lift (p s)) (lift (p t)) e.0) (e.1.sides s t i j) hc hb) ha;
         },
       )

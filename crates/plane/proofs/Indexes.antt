@@ -1,5 +1,6 @@
 -- Small facts of indexes, of pairs of indexes and of lists of them.
-use Rattle.std.proofs.Common.{◌≡◌, ◌≢◌, ◌⊎◌, ℕ, suc, ◌+◌, ◌-◌, ◌<◌, ◌≤◌, List, [], sym, ◌∙◌, subst, arith}
+use Rattle.std.proofs.Common.{◌≡◌, ◌≢◌, ◌⊎◌, ◌+◌, ◌-◌, ◌<◌, ◌≤◌, [], ◌∙◌}
+use Rattle.std.proofs.Common.{ℕ, suc, List, sym, subst, arith}
 use mathlib.Core.Logic.{inl, inr}
 use Rattle.std.specs.Prelude.{AllPairs}
 use Rattle.plane.specs.Pairs.{Joins, IsSamePair}
@@ -45,27 +46,40 @@ turned_join pairs i j (inl h) = inr h
 turned_join pairs i j (inr h) = inl h
 
 -- what has the ends of a listed pair is listed
-pub same_joined : (pairs : List (ℕ × ℕ)) (i j u v : ℕ) → IsSamePair i j u v → Joins pairs u v → Joins pairs i j
-same_joined pairs i j u v (inl e) h = subst (λ (x : ℕ × ℕ). Joins pairs x.0 x.1) (λ o. (sym e.0 o, sym e.1 o)) h
+pub same_joined : (pairs : List (ℕ × ℕ)) (i j u v : ℕ) → IsSamePair i j u v → Joins pairs u v
+    → Joins pairs i j
+same_joined pairs i j u v (inl e) h =
+    subst (λ (x : ℕ × ℕ). Joins pairs x.0 x.1) (λ o. (sym e.0 o, sym e.1 o)) h
 same_joined pairs i j u v (inr e) h =
-    turned_join pairs j i (subst (λ (x : ℕ × ℕ). Joins pairs x.0 x.1) (λ o. (sym e.1 o, sym e.0 o)) h)
+    turned_join pairs j i
+    (subst (λ (x : ℕ × ℕ). Joins pairs x.0 x.1) (λ o. (sym e.1 o, sym e.0 o)) h)
 
 -- ---- triples
 -- a b c is the triple i j k, whichever of the three is named first
 abbrev pub IsTurned : (i j k a b c : ℕ) → Type 0
-IsTurned i j k a b c = ((a ≡ i) × (b ≡ j) × (c ≡ k)) ⊎ (((a ≡ j) × (b ≡ k) × (c ≡ i)) ⊎ ((a ≡ k) × (b ≡ i) × (c ≡ j)))
+IsTurned i j k a b c = ((a ≡ i) × (b ≡ j) × (c ≡ k))
+    ⊎ (((a ≡ j) × (b ≡ k) × (c ≡ i)) ⊎ ((a ≡ k) × (b ≡ i) × (c ≡ j)))
 
 -- two turns of one triple are turns of one another
-pub turns_of_one : (a b c i j k r s t : ℕ) → IsTurned a b c i j k → IsTurned a b c r s t → IsTurned i j k r s t
+pub turns_of_one : (a b c i j k r s t : ℕ) → IsTurned a b c i j k → IsTurned a b c r s t
+    → IsTurned i j k r s t
 turns_of_one a b c i j k r s t (inl e) (inl f) = inl (f.0 ∙ sym e.0, f.1 ∙ sym e.1, f.2 ∙ sym e.2)
-turns_of_one a b c i j k r s t (inl e) (inr (inl f)) = inr (inl (f.0 ∙ sym e.1, f.1 ∙ sym e.2, f.2 ∙ sym e.0))
-turns_of_one a b c i j k r s t (inl e) (inr (inr f)) = inr (inr (f.0 ∙ sym e.2, f.1 ∙ sym e.0, f.2 ∙ sym e.1))
-turns_of_one a b c i j k r s t (inr (inl e)) (inl f) = inr (inr (f.0 ∙ sym e.2, f.1 ∙ sym e.0, f.2 ∙ sym e.1))
-turns_of_one a b c i j k r s t (inr (inl e)) (inr (inl f)) = inl (f.0 ∙ sym e.0, f.1 ∙ sym e.1, f.2 ∙ sym e.2)
-turns_of_one a b c i j k r s t (inr (inl e)) (inr (inr f)) = inr (inl (f.0 ∙ sym e.1, f.1 ∙ sym e.2, f.2 ∙ sym e.0))
-turns_of_one a b c i j k r s t (inr (inr e)) (inl f) = inr (inl (f.0 ∙ sym e.1, f.1 ∙ sym e.2, f.2 ∙ sym e.0))
-turns_of_one a b c i j k r s t (inr (inr e)) (inr (inl f)) = inr (inr (f.0 ∙ sym e.2, f.1 ∙ sym e.0, f.2 ∙ sym e.1))
-turns_of_one a b c i j k r s t (inr (inr e)) (inr (inr f)) = inl (f.0 ∙ sym e.0, f.1 ∙ sym e.1, f.2 ∙ sym e.2)
+turns_of_one a b c i j k r s t (inl e) (inr (inl f)) =
+    inr (inl (f.0 ∙ sym e.1, f.1 ∙ sym e.2, f.2 ∙ sym e.0))
+turns_of_one a b c i j k r s t (inl e) (inr (inr f)) =
+    inr (inr (f.0 ∙ sym e.2, f.1 ∙ sym e.0, f.2 ∙ sym e.1))
+turns_of_one a b c i j k r s t (inr (inl e)) (inl f) =
+    inr (inr (f.0 ∙ sym e.2, f.1 ∙ sym e.0, f.2 ∙ sym e.1))
+turns_of_one a b c i j k r s t (inr (inl e)) (inr (inl f)) =
+    inl (f.0 ∙ sym e.0, f.1 ∙ sym e.1, f.2 ∙ sym e.2)
+turns_of_one a b c i j k r s t (inr (inl e)) (inr (inr f)) =
+    inr (inl (f.0 ∙ sym e.1, f.1 ∙ sym e.2, f.2 ∙ sym e.0))
+turns_of_one a b c i j k r s t (inr (inr e)) (inl f) =
+    inr (inl (f.0 ∙ sym e.1, f.1 ∙ sym e.2, f.2 ∙ sym e.0))
+turns_of_one a b c i j k r s t (inr (inr e)) (inr (inl f)) =
+    inr (inr (f.0 ∙ sym e.2, f.1 ∙ sym e.0, f.2 ∙ sym e.1))
+turns_of_one a b c i j k r s t (inr (inr e)) (inr (inr f)) =
+    inl (f.0 ∙ sym e.0, f.1 ∙ sym e.1, f.2 ∙ sym e.2)
 
 -- three cases, the second of them first
 pub cases_turned : {A B C : Type 0} → A ⊎ (B ⊎ C) → B ⊎ (C ⊎ A)

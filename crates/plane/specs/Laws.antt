@@ -1,6 +1,8 @@
--- What is proved of the definitions of segment, triangle, crossing, side and circle: that they are the usual ones.
+-- What is proved of the definitions of segment, triangle, crossing, side and circle: that they are
+-- the usual ones.
 use Rattle.std.specs.Prelude.{◌≡◌, ◌⊎◌, ◌↔◌, ℤ, pos, ◌+ℤ◌, ◌-ℤ◌, ◌*ℤ◌, ◌<ℤ◌, ◌≤ℤ◌}
-use Rattle.plane.specs.Fraction.{Point, Fraction, whole, IsSame, OnSegment, InTriangle, InsideTriangle}
+use Rattle.plane.specs.Fraction.{Point, Fraction, whole, IsSame, OnSegment, InTriangle}
+use Rattle.plane.specs.Fraction.{InsideTriangle}
 use Rattle.plane.specs.Side.{side, left, right, on, IsSide, TurnsLeft}
 use Rattle.plane.specs.Circle.{IsCentre, InsideCircle, OnCircle}
 use Rattle.plane.specs.Crossing.{Cross}
@@ -30,21 +32,29 @@ SideIsSide = IsSide side
 -- strictly inside a left-turning triangle is left of its three sides, and in it is right of none
 abbrev pub TriangleIsSides : Type 0
 TriangleIsSides = (a b c p : Fraction) → TurnsLeft a b c
-    → (InsideTriangle a b c p ↔ (TurnsLeft a b p × TurnsLeft b c p × TurnsLeft c a p)) × (InTriangle a b c p ↔ ((¬ (side a b p ≡ right)) × (¬ (side b c p ≡ right)) × (¬ (side c a p ≡ right))))
+    → (InsideTriangle a b c p ↔ (TurnsLeft a b p × TurnsLeft b c p × TurnsLeft c a p))
+    × (InTriangle a b c p
+    ↔ ((¬ (side a b p ≡ right)) × (¬ (side b c p ≡ right)) × (¬ (side c a p ≡ right))))
 
 -- the line from s to t has u and v on its two sides
 abbrev pub Parts : Fraction → Fraction → Fraction → Fraction → Type 0
-Parts s t u v = ((side s t u ≡ left) × (side s t v ≡ right)) ⊎ ((side s t u ≡ right) × (side s t v ≡ left))
+Parts s t u v = ((side s t u ≡ left) × (side s t v ≡ right))
+    ⊎ ((side s t u ≡ right) × (side s t v ≡ left))
 
--- two segments, each with different ends, cross exactly if each has the other's ends on its two sides
+-- two segments, each with different ends, cross exactly if each has the other's ends on its two
+-- sides
 abbrev pub CrossingIsSides : Type 0
-CrossingIsSides = (s t u v : Fraction) → ¬ IsSame s t → ¬ IsSame u v → Cross s t u v ↔ (Parts s t u v × Parts u v s t)
+CrossingIsSides = (s t u v : Fraction) → ¬ IsSame s t → ¬ IsSame u v → Cross s t u v
+    ↔ (Parts s t u v × Parts u v s t)
 
 -- a left-turning triple of points has a centre, and no other
 abbrev pub TripleHasOneCentre : Type 0
-TripleHasOneCentre = (u v p : Point) → TurnsLeft (whole u) (whole v) (whole p) → (c : Fraction) × IsCentre (whole u) (whole v) (whole p) c × ((d : Fraction) → IsCentre (whole u) (whole v) (whole p) d → IsSame d c)
+TripleHasOneCentre = (u v p : Point) → TurnsLeft (whole u) (whole v) (whole p)
+    → (c : Fraction) × IsCentre (whole u) (whole v) (whole p) c
+    × ((d : Fraction) → IsCentre (whole u) (whole v) (whole p) d → IsSame d c)
 
--- the squared length of the way from q to p, and twice the signed area of the ways from q to u and to v
+-- the squared length of the way from q to p, and twice the signed area of the ways from q to u and
+-- to v
 abbrev pub squared_way : Point → Point → ℤ
 squared_way q p = (p.x -ℤ q.x) *ℤ (p.x -ℤ q.x) +ℤ (p.y -ℤ q.y) *ℤ (p.y -ℤ q.y)
 
@@ -52,17 +62,23 @@ squared_way q p = (p.x -ℤ q.x) *ℤ (p.x -ℤ q.x) +ℤ (p.y -ℤ q.y) *ℤ (p
 abbrev pub turn_at : Point → Point → Point → ℤ
 turn_at q u v = (u.x -ℤ q.x) *ℤ (v.y -ℤ q.y) -ℤ (u.y -ℤ q.y) *ℤ (v.x -ℤ q.x)
 
--- the third point is on the left of the line from the first to the second exactly if twice the area is positive, on its
--- right exactly if it is negative, and on the line exactly if it is 0
+-- the third point is on the left of the line from the first to the second exactly if twice the area
+-- is positive, on its right exactly if it is negative, and on the line exactly if it is 0
 abbrev pub SideIsDeterminant : Type 0
-SideIsDeterminant = (u v p : Point) → ((side (whole u) (whole v) (whole p) ≡ left) ↔ (pos 0 <ℤ turn_at u v p))
+SideIsDeterminant = (u v p : Point)
+    → ((side (whole u) (whole v) (whole p) ≡ left) ↔ (pos 0 <ℤ turn_at u v p))
     × ((side (whole u) (whole v) (whole p) ≡ right) ↔ (turn_at u v p <ℤ pos 0))
     × ((side (whole u) (whole v) (whole p) ≡ on) ↔ (turn_at u v p ≡ pos 0))
 
--- the determinant of three rows: for each of u, v and p its way from q, x and y, and the way's squared length
+-- the determinant of three rows: for each of u, v and p its way from q, x and y, and the way's
+-- squared length
 abbrev pub lifted_determinant : Point → Point → Point → Point → ℤ
-lifted_determinant u v p q = squared_way q u *ℤ turn_at q v p +ℤ squared_way q v *ℤ turn_at q p u +ℤ squared_way q p *ℤ turn_at q u v
+lifted_determinant u v p q = squared_way q u *ℤ turn_at q v p +ℤ squared_way q v *ℤ turn_at q p u
+    +ℤ squared_way q p *ℤ turn_at q u v
 
--- a point is inside the circle exactly if the determinant is positive, and carried exactly if it is 0
+-- a point is inside the circle exactly if the determinant is positive, and carried exactly if it is
+-- 0
 abbrev pub CircleIsDeterminant : Type 0
-CircleIsDeterminant = (u v p q : Point) → TurnsLeft (whole u) (whole v) (whole p) → (InsideCircle (whole u) (whole v) (whole p) (whole q) ↔ (pos 0 <ℤ lifted_determinant u v p q)) × (OnCircle (whole u) (whole v) (whole p) (whole q) ↔ (lifted_determinant u v p q ≡ pos 0))
+CircleIsDeterminant = (u v p q : Point) → TurnsLeft (whole u) (whole v) (whole p)
+    → (InsideCircle (whole u) (whole v) (whole p) (whole q) ↔ (pos 0 <ℤ lifted_determinant u v p q))
+    × (OnCircle (whole u) (whole v) (whole p) (whole q) ↔ (lifted_determinant u v p q ≡ pos 0))

@@ -8,7 +8,8 @@ use Rattle.plane.specs.Delaunay.{IsConstrainedDelaunay}
 use Rattle.plane.specs.Location.{no_triangulation, on_edge, outside_hull, IsLocation}
 use Rattle.plane.specs.Line.{at_vertex, across, along, Meets, IsBefore}
 use Rattle.plane.specs.Plain.{Plain, Appends, Removes}
-use Rattle.plane.specs.Sheets.{point, grid, five, seven, grid_table, grid_lines, five_table, left_of_seven}
+use Rattle.plane.specs.Sheets.{point, grid, five, seven, grid_table, grid_lines, five_table}
+use Rattle.plane.specs.Sheets.{left_of_seven}
 use Rattle.plane.specs.Sheets.{lines_of_seven, TableHolds, TurnLeft, AreOn}
 
 -- a point of whole coordinates
@@ -29,12 +30,17 @@ corner = record {
 
 -- two vertices (0,0) (4,0) and their edge
 abbrev pub two : Triangulation
-two = record { points = point (pos 0) (pos 0) ∷ point (pos 4) (pos 0) ∷ []; faces = []; edges = (0, 1) ∷ [] }
+two = record {
+  points = point (pos 0) (pos 0) ∷ point (pos 4) (pos 0) ∷ [];
+  faces = [];
+  edges = (0, 1) ∷ [];
+}
 
 -- two faces; the circle of the first contains the vertex (0,0) of the second
 abbrev pub hidden : Triangulation
 hidden = record {
-  points = point (negsuc 0) (negsuc 0) ∷ point (pos 0) (negsuc 0) ∷ point (pos 1) (pos 0) ∷ point (pos 0) (pos 0) ∷ [];
+  points = point (negsuc 0) (negsuc 0) ∷ point (pos 0) (negsuc 0) ∷ point (pos 1) (pos 0)
+      ∷ point (pos 0) (pos 0) ∷ [];
   faces = face 0 1 2 ∷ face 0 2 3 ∷ [];
   edges = (0, 1) ∷ (1, 2) ∷ (2, 0) ∷ (2, 3) ∷ (3, 0) ∷ [];
 }
@@ -45,7 +51,10 @@ constraints = (0, 2) ∷ []
 
 -- a constraint from (-1,0) to (1,0)
 abbrev pub before : Plain Point
-before = record { vertices = point (negsuc 0) (pos 0) ∷ point (pos 1) (pos 0) ∷ []; constraints = (0, 1) ∷ [] }
+before = record {
+  vertices = point (negsuc 0) (pos 0) ∷ point (pos 1) (pos 0) ∷ [];
+  constraints = (0, 1) ∷ [];
+}
 
 -- a point on it
 abbrev pub new_point : Point
@@ -88,8 +97,10 @@ pub record DefinitionsHold : Type 0 where
   pub segment_overlaps_edge : Meets two (at (pos 1) (pos 0)) (at (pos 3) (pos 0)) (along 0 1)
   pub start_is_before_overlap : IsBefore two (vertex two 0) (vertex two 1) (at_vertex 0) (along 0 1)
   pub overlap_is_before_end : IsBefore two (vertex two 0) (vertex two 1) (along 0 1) (at_vertex 1)
-  pub diagonals_cross : Cross (at (negsuc 0) (pos 0)) (at (pos 1) (pos 0)) (at (pos 0) (pos 1)) (at (pos 0) (negsuc 0))
-  pub vertex_in_circle : InsideCircle (vertex hidden 0) (vertex hidden 1) (vertex hidden 2) (vertex hidden 3)
+  pub diagonals_cross : Cross (at (negsuc 0) (pos 0)) (at (pos 1) (pos 0)) (at (pos 0) (pos 1))
+      (at (pos 0) (negsuc 0))
+  pub vertex_in_circle :
+      InsideCircle (vertex hidden 0) (vertex hidden 1) (vertex hidden 2) (vertex hidden 3)
   pub constraint_hides_it : IsTiling hidden → IsConstrainedDelaunay hidden constraints
   pub insert_splits : Appends itself before after new_point
   pub removal_renames_last : Removes itself four three 1

@@ -24,14 +24,18 @@ last_of u (v ∷ vs) = last_of v vs
 -- the edges of the path are outer edges that have the point n on their left
 abbrev pub IsSeenRun : List Point → ℕ → List (ℕ × ℕ) → ℕ → List ℕ → Type 0
 IsSeenRun points n outer u [] = Unit {0}
-IsSeenRun points n outer u (v ∷ vs) = Contains outer (u, v) × TurnsLeft (place points u) (place points v) (place points n) × IsSeenRun points n outer v vs
+IsSeenRun points n outer u (v ∷ vs) = Contains outer (u, v)
+    × TurnsLeft (place points u) (place points v) (place points n) × IsSeenRun points n outer v vs
 
--- the new vertex q is joined to the outer edges from u to w, all of which it sees: faces and outer edges before and now
-pub record IsExtending (points : List Point) (q : Point) (faces new : List Face) (outer now : List (ℕ × ℕ)) (u w : ℕ) : Type 0 where
+-- the new vertex q is joined to the outer edges from u to w, all of which it sees: faces and outer
+-- edges before and now
+pub record IsExtending (points : List Point) (q : Point) (faces new : List Face)
+    (outer now : List (ℕ × ℕ)) (u w : ℕ) : Type 0 where
   pub second : ℕ
   pub rest : List ℕ
   pub last : last_of second rest ≡ w
   pub ends : (i j : ℕ) → Contains outer (i, j) → (i < length points) × (j < length points)
   pub run : IsSeenRun (points ++ q ∷ []) (length points) outer u (second ∷ rest)
   pub faces_change : FacesChange faces new [] (fan (length points) u (second ∷ rest))
-  pub outer_change : OuterChange outer now (steps u (second ∷ rest)) ((u, length points) ∷ (length points, w) ∷ [])
+  pub outer_change :
+      OuterChange outer now (steps u (second ∷ rest)) ((u, length points) ∷ (length points, w) ∷ [])

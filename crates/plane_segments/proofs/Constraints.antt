@@ -1,4 +1,5 @@
--- Constraints as paths of edges: their pieces, and what a split, a flip and a removal leave of them.
+-- Constraints as paths of edges: their pieces, and what a split, a flip and a removal leave of
+-- them.
 pub mod Parts
 pub mod Splits
 pub mod Pieces

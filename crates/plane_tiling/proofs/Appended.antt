@@ -8,11 +8,13 @@ use Rattle.plane.specs.Fraction.{Point}
 use Rattle.plane_tiling.proofs.Tiles.{point_at}
 
 -- one point at the end makes a list longer by one
-pub length_appended : (points : List Point) (q : Point) → length (points ++ q ∷ []) ≡ suc (length points)
+pub length_appended : (points : List Point) (q : Point)
+    → length (points ++ q ∷ []) ≡ suc (length points)
 length_appended points q = omega (arith, length-append points (q ∷ []))
 
 -- the points before stand where they stood
-pub kept_point : (points : List Point) (q : Point) (k : ℕ) → k < length points → point_at points k ≡ point_at (points ++ q ∷ []) k
+pub kept_point : (points : List Point) (q : Point) (k : ℕ) → k < length points
+    → point_at points k ≡ point_at (points ++ q ∷ []) k
 kept_point points q k h = sym (get_or-append points (q ∷ []) (record { x = pos 0; y = pos 0 }) k h)
 
 -- and the new one comes last

@@ -11,8 +11,11 @@ use Rattle.plane.specs.Tiling.{Face, face}
 use Rattle.plane_tiling.specs.Local.{total, around, along, IsAntisymmetric, AreBalanced}
 use Rattle.plane.proofs.IntegerOrder.{lt_or_ge_ℤ}
 use Rattle.plane.proofs.Steps.{product_zero_left}
-use Rattle.plane_tiling.proofs.Totals.{Contains-none, total_agree, total-difference, total_at_least, total_nonneg, total_positive, total_single, total_exchanged}
-use Rattle.plane.proofs.Signs.{at_least_one_through, first_of_three_counts, one_is_above_zero, second_of_three_counts, sum_of_three_not_negative, third_of_three_counts}
+use Rattle.plane_tiling.proofs.Totals.{Contains-none, total_agree, total-difference, total_at_least}
+use Rattle.plane_tiling.proofs.Totals.{total_nonneg, total_positive, total_single, total_exchanged}
+use Rattle.plane.proofs.Signs.{at_least_one_through, first_of_three_counts, one_is_above_zero}
+use Rattle.plane.proofs.Signs.{second_of_three_counts, sum_of_three_not_negative}
+use Rattle.plane.proofs.Signs.{third_of_three_counts}
 use Rattle.plane.proofs.IntegerLaws.{one-*ℤ}
 pub use Rattle.plane.proofs.Crossings.{is_true}
 
@@ -78,35 +81,47 @@ swapped_difference a b c d e f = omega (arith, ints)
 
 one_way_antisymmetric : (u v : ℕ) → IsAntisymmetric (one_way u v)
 unfolding one_way
-one_way_antisymmetric u v s t = swapped_difference (is_pair u v s t) (is_pair v u s t) (is_pair u v t s) (is_pair v u t s) (is_pair_back u v s t) (is_pair_back v u s t)
+one_way_antisymmetric u v s t = swapped_difference (is_pair u v s t) (is_pair v u s t)
+    (is_pair u v t s) (is_pair v u t s) (is_pair_back u v s t) (is_pair_back v u s t)
 
-three_differences : (a b c a' b' c' : ℤ) → (a -ℤ a') +ℤ (b -ℤ b') +ℤ (c -ℤ c') ≡ (a +ℤ b +ℤ c) -ℤ (a' +ℤ b' +ℤ c')
+three_differences : (a b c a' b' c' : ℤ)
+    → (a -ℤ a') +ℤ (b -ℤ b') +ℤ (c -ℤ c') ≡ (a +ℤ b +ℤ c) -ℤ (a' +ℤ b' +ℤ c')
 three_differences a b c a' b' c' = omega (arith, ints)
 
-around_one_way : (u v : ℕ) (f : Face) → around (one_way u v) f ≡ around (is_pair u v) f -ℤ around (is_pair v u) f
+around_one_way : (u v : ℕ) (f : Face)
+    → around (one_way u v) f ≡ around (is_pair u v) f -ℤ around (is_pair v u) f
 unfolding one_way
-around_one_way u v f = three_differences (is_pair u v f.a f.b) (is_pair u v f.b f.c) (is_pair u v f.c f.a) (is_pair v u f.a f.b) (is_pair v u f.b f.c) (is_pair v u f.c f.a)
+around_one_way u v f = three_differences (is_pair u v f.a f.b) (is_pair u v f.b f.c)
+    (is_pair u v f.c f.a) (is_pair v u f.a f.b) (is_pair v u f.b f.c) (is_pair v u f.c f.a)
 
 moved_over : (s t a b c d : ℤ) → s +ℤ t ≡ pos 0 → s ≡ a -ℤ b → t ≡ c -ℤ d → a +ℤ c ≡ b +ℤ d
 moved_over s t a b c d e h k = omega (arith, ints)
 
 -- as many sides and outer edges go from u to v as from v to u
 as_many_back : (faces : List Face) (outer : List (ℕ × ℕ)) → AreBalanced faces outer → (u v : ℕ)
-    → total (around (is_pair u v)) faces +ℤ total (along (is_pair u v)) outer ≡ total (around (is_pair v u)) faces +ℤ total (along (is_pair v u)) outer
+    → total (around (is_pair u v)) faces +ℤ total (along (is_pair u v)) outer
+    ≡ total (around (is_pair v u)) faces +ℤ total (along (is_pair v u)) outer
 unfolding one_way
 as_many_back faces outer balanced u v =
-    moved_over (total (around (one_way u v)) faces) (total (along (one_way u v)) outer) (total (around (is_pair u v)) faces) (total (around (is_pair v u)) faces) (total (along (is_pair u v)) outer) (total (along (is_pair v u)) outer)
+    moved_over (total (around (one_way u v)) faces) (total (along (one_way u v)) outer)
+    (total (around (is_pair u v)) faces) (total (around (is_pair v u)) faces)
+    (total (along (is_pair u v)) outer) (total (along (is_pair v u)) outer)
     (balanced (one_way u v) (one_way_antisymmetric u v))
-    (total_agree (around (one_way u v)) (λ f. around (is_pair u v) f -ℤ around (is_pair v u) f) faces (λ f _. around_one_way u v f) ∙ total-difference (around (is_pair u v)) (around (is_pair v u)) faces)
+    (total_agree (around (one_way u v))
+    (λ f. around (is_pair u v) f -ℤ around (is_pair v u) f) faces (λ f _. around_one_way u v f)
+    ∙ total-difference (around (is_pair u v)) (around (is_pair v u)) faces)
     (total-difference (along (is_pair u v)) (along (is_pair v u)) outer)
 
 -- round a face, the sum of these numbers is not below 0
 pub around_nonneg : (u v : ℕ) (f : Face) → pos 0 ≤ℤ around (is_pair u v) f
-around_nonneg u v f = sum_of_three_not_negative (is_pair u v f.a f.b) (is_pair u v f.b f.c) (is_pair u v f.c f.a) (is_pair_nonneg u v f.a f.b) (is_pair_nonneg u v f.b f.c) (is_pair_nonneg u v f.c f.a)
+around_nonneg u v f =
+    sum_of_three_not_negative (is_pair u v f.a f.b) (is_pair u v f.b f.c) (is_pair u v f.c f.a)
+    (is_pair_nonneg u v f.a f.b) (is_pair_nonneg u v f.b f.c) (is_pair_nonneg u v f.c f.a)
 
 -- i j k is a face, in this rotation or another
 abbrev pub IsTurnOf : List Face → ℕ → ℕ → ℕ → Type 0
-IsTurnOf faces i j k = Contains faces (face i j k) ⊎ (Contains faces (face j k i) ⊎ Contains faces (face k i j))
+IsTurnOf faces i j k = Contains faces (face i j k)
+    ⊎ (Contains faces (face j k i) ⊎ Contains faces (face k i j))
 
 -- the way from u to v is a side of one of the faces
 abbrev pub HasSide : List Face → ℕ → ℕ → Type 0
@@ -125,38 +140,58 @@ turned faces i j k (inr (inl h)) = inl h
 turned faces i j k (inr (inr h)) = inr (inl h)
 
 -- where a sum of three is above 0, one of them is
-pub one_of_three : (a b c : ℤ) → pos 0 <ℤ (a +ℤ b +ℤ c) → (pos 0 <ℤ a) ⊎ ((pos 0 <ℤ b) ⊎ (pos 0 <ℤ c))
+pub one_of_three : (a b c : ℤ) → pos 0 <ℤ (a +ℤ b +ℤ c)
+    → (pos 0 <ℤ a) ⊎ ((pos 0 <ℤ b) ⊎ (pos 0 <ℤ c))
 one_of_three a b c h = go (lt_or_ge_ℤ (pos 0) a) (lt_or_ge_ℤ (pos 0) b)
   where
-    go : (pos 0 <ℤ a) ⊎ (a ≤ℤ pos 0) → (pos 0 <ℤ b) ⊎ (b ≤ℤ pos 0) → (pos 0 <ℤ a) ⊎ ((pos 0 <ℤ b) ⊎ (pos 0 <ℤ c))
+    go : (pos 0 <ℤ a) ⊎ (a ≤ℤ pos 0) → (pos 0 <ℤ b) ⊎ (b ≤ℤ pos 0)
+        → (pos 0 <ℤ a) ⊎ ((pos 0 <ℤ b) ⊎ (pos 0 <ℤ c))
     go (inl k) l = inl k
     go (inr k) (inl l) = inr (inl l)
     go (inr k) (inr l) = inr (inr (omega (arith, ints)))
 
 -- a face that counts has the side
-pub side_found : (faces : List Face) (u v : ℕ) (f : Face) → Contains faces f → pos 0 <ℤ around (is_pair u v) f → HasSide faces u v
-side_found faces u v f here h = go (one_of_three (is_pair u v f.a f.b) (is_pair u v f.b f.c) (is_pair u v f.c f.a) h)
+pub side_found : (faces : List Face) (u v : ℕ) (f : Face) → Contains faces f
+    → pos 0 <ℤ around (is_pair u v) f → HasSide faces u v
+side_found faces u v f here h =
+    go (one_of_three (is_pair u v f.a f.b) (is_pair u v f.b f.c) (is_pair u v f.c f.a) h)
   where
-    go : (pos 0 <ℤ is_pair u v f.a f.b) ⊎ ((pos 0 <ℤ is_pair u v f.b f.c) ⊎ (pos 0 <ℤ is_pair u v f.c f.a)) → HasSide faces u v
-    go (inl k) = let e = pair_found u v f.a f.b k in (f.c, inl (subst (Contains faces) (λ i. face (e.0 i) (e.1 i) f.c) here))
-    go (inr (inl k)) = let e = pair_found u v f.b f.c k in (f.a, inr (inr (subst (Contains faces) (λ i. face f.a (e.0 i) (e.1 i)) here)))
-    go (inr (inr k)) = let e = pair_found u v f.c f.a k in (f.b, inr (inl (subst (Contains faces) (λ i. face (e.1 i) f.b (e.0 i)) here)))
+    go : (pos 0 <ℤ is_pair u v f.a f.b)
+        ⊎ ((pos 0 <ℤ is_pair u v f.b f.c) ⊎ (pos 0 <ℤ is_pair u v f.c f.a)) → HasSide faces u v
+    go (inl k) = let e = pair_found u v f.a f.b k in
+        (f.c, inl (subst (Contains faces) (λ i. face (e.0 i) (e.1 i) f.c) here))
+    go (inr (inl k)) = let e = pair_found u v f.b f.c k in
+        (f.a, inr (inr (subst (Contains faces) (λ i. face f.a (e.0 i) (e.1 i)) here)))
+    go (inr (inr k)) = let e = pair_found u v f.c f.a k in
+        (f.b, inr (inl (subst (Contains faces) (λ i. face (e.1 i) f.b (e.0 i)) here)))
 
 -- and a side counts
-pub side_counts : (faces : List Face) (u v : ℕ) → HasSide faces u v → pos 1 ≤ℤ total (around (is_pair u v)) faces
+pub side_counts : (faces : List Face) (u v : ℕ) → HasSide faces u v
+    → pos 1 ≤ℤ total (around (is_pair u v)) faces
 side_counts faces u v s = go s.1
   where
-    by : (f : Face) → Contains faces f → pos 1 ≤ℤ around (is_pair u v) f → pos 1 ≤ℤ total (around (is_pair u v)) faces
-    by f here h = at_least_one_through (around (is_pair u v) f) (total (around (is_pair u v)) faces) h (total_at_least (around (is_pair u v)) faces (λ g _. around_nonneg u v g) f here)
+    by : (f : Face) → Contains faces f → pos 1 ≤ℤ around (is_pair u v) f
+        → pos 1 ≤ℤ total (around (is_pair u v)) faces
+    by f here h =
+        at_least_one_through (around (is_pair u v) f) (total (around (is_pair u v)) faces) h
+        (total_at_least (around (is_pair u v)) faces (λ g _. around_nonneg u v g) f here)
 
     go : IsTurnOf faces u v s.0 → pos 1 ≤ℤ total (around (is_pair u v)) faces
-    go (inl h) = by (face u v s.0) h (first_of_three_counts (is_pair u v u v) (is_pair u v v s.0) (is_pair u v s.0 u) (is_pair_own u v) (is_pair_nonneg u v v s.0) (is_pair_nonneg u v s.0 u))
-    go (inr (inl h)) = by (face v s.0 u) h (third_of_three_counts (is_pair u v v s.0) (is_pair u v s.0 u) (is_pair u v u v) (is_pair_own u v) (is_pair_nonneg u v v s.0) (is_pair_nonneg u v s.0 u))
-    go (inr (inr h)) = by (face s.0 u v) h (second_of_three_counts (is_pair u v s.0 u) (is_pair u v u v) (is_pair u v v s.0) (is_pair_own u v) (is_pair_nonneg u v s.0 u) (is_pair_nonneg u v v s.0))
+    go (inl h) = by (face u v s.0) h (first_of_three_counts (is_pair u v u v) (is_pair u v v s.0)
+        (is_pair u v s.0 u) (is_pair_own u v) (is_pair_nonneg u v v s.0) (is_pair_nonneg u v s.0 u))
+    go (inr (inl h)) =
+        by (face v s.0 u) h (third_of_three_counts (is_pair u v v s.0) (is_pair u v s.0 u)
+        (is_pair u v u v) (is_pair_own u v) (is_pair_nonneg u v v s.0) (is_pair_nonneg u v s.0 u))
+    go (inr (inr h)) =
+        by (face s.0 u v) h (second_of_three_counts (is_pair u v s.0 u) (is_pair u v u v)
+        (is_pair u v v s.0) (is_pair_own u v) (is_pair_nonneg u v s.0 u) (is_pair_nonneg u v v s.0))
 
 -- an outer edge is counted at least once among the outer edges
-pub outer_counts : (outer : List (ℕ × ℕ)) (u v : ℕ) → Contains outer (u, v) → pos 1 ≤ℤ total (along (is_pair u v)) outer
-outer_counts outer u v h = from (total (along (is_pair u v)) outer) (is_pair u v u v) (is_pair_own u v) (total_at_least (along (is_pair u v)) outer (λ e _. is_pair_nonneg u v e.0 e.1) (u, v) h)
+pub outer_counts : (outer : List (ℕ × ℕ)) (u v : ℕ) → Contains outer (u, v)
+    → pos 1 ≤ℤ total (along (is_pair u v)) outer
+outer_counts outer u v h =
+    from (total (along (is_pair u v)) outer) (is_pair u v u v) (is_pair_own u v)
+    (total_at_least (along (is_pair u v)) outer (λ e _. is_pair_nonneg u v e.0 e.1) (u, v) h)
   where
     from : (t a : ℤ) → a ≡ pos 1 → a ≤ℤ t → pos 1 ≤ℤ t
     from t a e h = omega (arith, ints)
@@ -170,9 +205,13 @@ either a b c d h e = go (lt_or_ge_ℤ (pos 0) c)
     go (inr k) = inr (omega (arith, ints))
 
 -- a pair that is counted among sides or outer edges is a side or an outer edge
-pub back_from_count : (faces : List Face) (outer : List (ℕ × ℕ)) (u v : ℕ) → (pos 0 <ℤ total (around (is_pair u v)) faces) ⊎ (pos 0 <ℤ total (along (is_pair u v)) outer) → HasSide faces u v ⊎ Contains outer (u, v)
-back_from_count faces outer u v (inl h) = let r = total_positive (around (is_pair u v)) faces h in inl (side_found faces u v r.0 r.1 r.2)
-back_from_count faces outer u v (inr h) = let r = total_positive (along (is_pair u v)) outer h in let e = pair_found u v r.0.0 r.0.1 r.2 in inr (subst (Contains outer) (λ i. (e.0 i, e.1 i)) r.1)
+pub back_from_count : (faces : List Face) (outer : List (ℕ × ℕ)) (u v : ℕ)
+    → (pos 0 <ℤ total (around (is_pair u v)) faces) ⊎ (pos 0 <ℤ total (along (is_pair u v)) outer)
+    → HasSide faces u v ⊎ Contains outer (u, v)
+back_from_count faces outer u v (inl h) =
+    let r = total_positive (around (is_pair u v)) faces h in inl (side_found faces u v r.0 r.1 r.2)
+back_from_count faces outer u v (inr h) = let r = total_positive (along (is_pair u v)) outer h in
+    let e = pair_found u v r.0.0 r.0.1 r.2 in inr (subst (Contains outer) (λ i. (e.0 i, e.1 i)) r.1)
 
 plus_nonneg : (a b : ℤ) → pos 1 ≤ℤ a → pos 0 ≤ℤ b → pos 1 ≤ℤ (a +ℤ b)
 plus_nonneg a b h k = omega (arith, ints)
@@ -181,18 +220,29 @@ plus_nonneg' : (a b : ℤ) → pos 0 ≤ℤ a → pos 1 ≤ℤ b → pos 1 ≤�
 plus_nonneg' a b h k = omega (arith, ints)
 
 -- the way back of a side, or of an outer edge, is a side or an outer edge
-pub back_of_side : (faces : List Face) (outer : List (ℕ × ℕ)) → AreBalanced faces outer → (u v : ℕ) → HasSide faces u v → HasSide faces v u ⊎ Contains outer (v, u)
-back_of_side faces outer balanced u v s = back_from_count faces outer v u (either (total (around (is_pair u v)) faces) (total (along (is_pair u v)) outer) (total (around (is_pair v u)) faces) (total (along (is_pair v u)) outer)
-    (plus_nonneg (total (around (is_pair u v)) faces) (total (along (is_pair u v)) outer) (side_counts faces u v s) (total_nonneg (along (is_pair u v)) outer (λ e _. is_pair_nonneg u v e.0 e.1))) (as_many_back faces outer balanced u v))
+pub back_of_side : (faces : List Face) (outer : List (ℕ × ℕ)) → AreBalanced faces outer → (u v : ℕ)
+    → HasSide faces u v → HasSide faces v u ⊎ Contains outer (v, u)
+back_of_side faces outer balanced u v s = back_from_count faces outer v u
+    (either (total (around (is_pair u v)) faces) (total (along (is_pair u v)) outer)
+    (total (around (is_pair v u)) faces) (total (along (is_pair v u)) outer)
+    (plus_nonneg (total (around (is_pair u v)) faces) (total (along (is_pair u v)) outer)
+    (side_counts faces u v s) (total_nonneg (along (is_pair u v)) outer
+    (λ e _. is_pair_nonneg u v e.0 e.1))) (as_many_back faces outer balanced u v))
 
 -- the way back of an outer edge is a side or an outer edge
-pub back_of_outer : (faces : List Face) (outer : List (ℕ × ℕ)) → AreBalanced faces outer → (u v : ℕ) → Contains outer (u, v) → HasSide faces v u ⊎ Contains outer (v, u)
-back_of_outer faces outer balanced u v s = back_from_count faces outer v u (either (total (around (is_pair u v)) faces) (total (along (is_pair u v)) outer) (total (around (is_pair v u)) faces) (total (along (is_pair v u)) outer)
-    (plus_nonneg' (total (around (is_pair u v)) faces) (total (along (is_pair u v)) outer) (total_nonneg (around (is_pair u v)) faces (λ f _. around_nonneg u v f)) (outer_counts outer u v s)) (as_many_back faces outer balanced u v))
+pub back_of_outer : (faces : List Face) (outer : List (ℕ × ℕ)) → AreBalanced faces outer → (u v : ℕ)
+    → Contains outer (u, v) → HasSide faces v u ⊎ Contains outer (v, u)
+back_of_outer faces outer balanced u v s = back_from_count faces outer v u
+    (either (total (around (is_pair u v)) faces) (total (along (is_pair u v)) outer)
+    (total (around (is_pair v u)) faces) (total (along (is_pair v u)) outer)
+    (plus_nonneg' (total (around (is_pair u v)) faces) (total (along (is_pair u v)) outer)
+    (total_nonneg (around (is_pair u v)) faces (λ f _. around_nonneg u v f))
+    (outer_counts outer u v s)) (as_many_back faces outer balanced u v))
 
 -- ---- two lists of pairs with the same entries, each once
 is_pair_other : (u v s t : ℕ) → (s ≡ u → t ≡ v → ⊥) → is_pair u v s t ≡ pos 0
-is_pair_other u v s t n = elim (is_pair_is u v s t) [ inl e ↦ e | inr e ↦ absurd (let f = pair_found u v s t (one_is_above_zero e) in n f.0 f.1) ]
+is_pair_other u v s t n = elim (is_pair_is u v s t)
+    [ inl e ↦ e | inr e ↦ absurd (let f = pair_found u v s t (one_is_above_zero e) in n f.0 f.1) ]
 
 one_times : (b z : ℤ) → b ≡ pos 1 → b *ℤ z ≡ z
 one_times b z e = ap (λ t. t *ℤ z) e ∙ one-*ℤ z
@@ -204,20 +254,29 @@ only f x y = is_pair x.0 x.1 y.0 y.1 *ℤ f y
 only_other : (f : ℕ × ℕ → ℤ) (x y : ℕ × ℕ) → (y ≡ x) ⊎ ((y ≢ x) × (only f x y ≡ pos 0))
 only_other f x y = go (cases_eq y.0 x.0) (cases_eq y.1 x.1)
   where
-    apart : ¬ (y ≡ x) → (y.0 ≡ x.0 → y.1 ≡ x.1 → ⊥) → (y ≡ x) ⊎ ((y ≢ x) × (is_pair x.0 x.1 y.0 y.1 *ℤ f y ≡ pos 0))
+    apart : ¬ (y ≡ x) → (y.0 ≡ x.0 → y.1 ≡ x.1 → ⊥)
+        → (y ≡ x) ⊎ ((y ≢ x) × (is_pair x.0 x.1 y.0 y.1 *ℤ f y ≡ pos 0))
     apart n k = inr (n, product_zero_left (f y) (is_pair_other x.0 x.1 y.0 y.1 k))
 
-    go : (y.0 ≡ x.0) ⊎ (y.0 ≡ x.0 → ⊥) → (y.1 ≡ x.1) ⊎ (y.1 ≡ x.1 → ⊥) → (y ≡ x) ⊎ ((y ≢ x) × (is_pair x.0 x.1 y.0 y.1 *ℤ f y ≡ pos 0))
+    go : (y.0 ≡ x.0) ⊎ (y.0 ≡ x.0 → ⊥) → (y.1 ≡ x.1) ⊎ (y.1 ≡ x.1 → ⊥)
+        → (y ≡ x) ⊎ ((y ≢ x) × (is_pair x.0 x.1 y.0 y.1 *ℤ f y ≡ pos 0))
     go (inl a) (inl b) = inl (λ i. (a i, b i))
     go (inr a) b = apart (λ e. a (ap (λ o. o.0) e)) (λ e d. a e)
     go (inl a) (inr b) = apart (λ e. b (ap (λ o. o.1) e)) (λ e d. b d)
 
 other_only : (f : ℕ × ℕ → ℤ) (x y : ℕ × ℕ) → (x ≡ y) ⊎ ((x ≢ y) × (only f x y ≡ pos 0))
-other_only f x y = elim (only_other f x y) [ inl e ↦ inl (sym e) | inr e ↦ inr ((λ s. e.0 (sym s)), e.1) ]
+other_only f x y =
+    elim (only_other f x y) [ inl e ↦ inl (sym e) | inr e ↦ inr ((λ s. e.0 (sym s)), e.1) ]
 
 -- two lists with the same entries, each once, have one total
-pub total_of_same_entries : (f : ℕ × ℕ → ℤ) (xs ys : List (ℕ × ℕ)) → AllPairs (λ d e. d ≢ e) xs → AllPairs (λ d e. d ≢ e) ys → ((e : ℕ × ℕ) → Contains xs e ↔ Contains ys e) → total f xs ≡ total f ys
+pub total_of_same_entries : (f : ℕ × ℕ → ℤ) (xs ys : List (ℕ × ℕ)) → AllPairs (λ d e. d ≢ e) xs
+    → AllPairs (λ d e. d ≢ e) ys → ((e : ℕ × ℕ) → Contains xs e ↔ Contains ys e)
+    → total f xs ≡ total f ys
 total_of_same_entries f xs ys once once' same =
-    total_agree f (λ x. total (only f x) ys) xs (λ x h. sym (total_single (only f x) ys x (f x) ((same x).0 h) once' (one_times (is_pair x.0 x.1 x.0 x.1) (f x) (is_pair_own x.0 x.1)) (λ y k. only_other f x y)))
+    total_agree f (λ x. total (only f x) ys) xs
+    (λ x h. sym (total_single (only f x) ys x (f x) ((same x).0 h) once' (one_times
+    (is_pair x.0 x.1 x.0 x.1) (f x) (is_pair_own x.0 x.1)) (λ y k. only_other f x y)))
     ∙ total_exchanged (only f) xs ys
-    ∙ total_agree (λ y. total (λ x. only f x y) xs) f ys (λ y h. total_single (λ x. only f x y) xs y (f y) ((same y).1 h) once (one_times (is_pair y.0 y.1 y.0 y.1) (f y) (is_pair_own y.0 y.1)) (λ x k. other_only f x y))
+    ∙ total_agree (λ y. total (λ x. only f x y) xs) f ys
+    (λ y h. total_single (λ x. only f x y) xs y (f y) ((same y).1 h) once
+    (one_times (is_pair y.0 y.1 y.0 y.1) (f y) (is_pair_own y.0 y.1)) (λ x k. other_only f x y))

@@ -7,10 +7,16 @@ use Rattle.plane_tiling.specs.Local.{IsMesh, LineMesh, AreEdgesOf}
 use Rattle.plane_tiling.proofs.Loops.{mesh_tiles}
 use Rattle.plane_tiling.proofs.LineMeshes.{joins_line}
 
-on_line : (points : List Point) (faces : List Face) (outer edges : List (ℕ × ℕ)) → faces ≡ [] → LineMesh points outer → AreEdgesOf faces outer edges → IsTiling (record { points = points; faces = faces; edges = edges })
-on_line points faces outer edges e m own = subst (λ f. IsTiling (record { points = points; faces = f; edges = edges })) (sym e) (inr (joins_line points outer edges m (subst (λ f. AreEdgesOf f outer edges) e own)))
+on_line : (points : List Point) (faces : List Face) (outer edges : List (ℕ × ℕ)) → faces ≡ []
+    → LineMesh points outer → AreEdgesOf faces outer edges
+    → IsTiling (record { points = points; faces = faces; edges = edges })
+on_line points faces outer edges e m own =
+    subst (λ f. IsTiling (record { points = points; faces = f; edges = edges })) (sym e)
+    (inr (joins_line points outer edges m (subst (λ f. AreEdgesOf f outer edges) e own)))
 
 -- with its own edges a mesh tiles the hull, or joins the points of the line to their neighbours
-pub meshes_tile : (points : List Point) (faces : List Face) (outer edges : List (ℕ × ℕ)) → IsMesh points faces outer → AreEdgesOf faces outer edges → IsTiling (record { points = points; faces = faces; edges = edges })
+pub meshes_tile : (points : List Point) (faces : List Face) (outer edges : List (ℕ × ℕ))
+    → IsMesh points faces outer → AreEdgesOf faces outer edges
+    → IsTiling (record { points = points; faces = faces; edges = edges })
 meshes_tile points faces outer edges (inl m) own = inl (mesh_tiles points faces outer edges m own)
 meshes_tile points faces outer edges (inr m) own = on_line points faces outer edges m.0 m.1 own

@@ -10,11 +10,14 @@ use Rattle.delaunay_shapes.specs.Tests.{corners}
 use Rattle.delaunay_shapes.proofs.Shapes.{rectangle_begins}
 
 -- a rectangle's search begins at its lower corner
-pub begins_at : (lower upper corner : Point) → lower ≡ corner → BeginsAt (InClosedRectangle lower upper) corner
-begins_at lower upper corner e = subst (BeginsAt (InClosedRectangle lower upper)) e (rectangle_begins lower upper)
+pub begins_at : (lower upper corner : Point) → lower ≡ corner
+    → BeginsAt (InClosedRectangle lower upper) corner
+begins_at lower upper corner e =
+    subst (BeginsAt (InClosedRectangle lower upper)) e (rectangle_begins lower upper)
 
 -- all four corners are in range where two opposite ones are
-pub corners_in_range : (lower upper : Point) → InRange lower → InRange upper → All InRange (corners lower upper)
+pub corners_in_range : (lower upper : Point) → InRange lower → InRange upper
+    → All InRange (corners lower upper)
 corners_in_range lower upper low high =
     let right : Point = record { x = upper.x; y = lower.y } in
     let left : Point = record { x = lower.x; y = upper.y } in

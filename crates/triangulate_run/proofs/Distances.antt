@@ -1,6 +1,7 @@
 -- How far the nearest vertex is.
 use Rattle.std.proofs.Common.{◌≡◌, ◌∙◌, ℕ, ◌<◌, List, length, map, inl, inr, ap, sym, subst, arith}
-use Rattle.std.specs.Prelude.{◌⊎◌, ◌+◌, ◌≤◌, ℤ, ◌≤ℤ◌, pos, Option, None, Some, slice_get, All, MatchOption}
+use Rattle.std.specs.Prelude.{◌⊎◌, ◌+◌, ◌≤◌, ◌≤ℤ◌}
+use Rattle.std.specs.Prelude.{ℤ, pos, Option, None, Some, slice_get, All, MatchOption}
 use Rattle.std.proofs.lemmas.Bool.{cases_lt}
 use Rattle.std.proofs.lemmas.Int.{ints}
 use Rattle.std.proofs.lemmas.List.{length-map}
@@ -21,19 +22,27 @@ use Rattle.triangulate_run.specs.Stage.{position}
 use Rattle.triangulate_run.specs.Answer.{IsLeastDistance}
 
 -- a vertex is in range where all are
-pub vertex_in_range : (vs : List (Point2 ℤ)) (i : ℕ) (v : Point2 ℤ) → i < length (map position vs) → slice_get vs i ≡ Some v → All InRange (map position vs) → InRange (position v)
-vertex_in_range vs i v within e all = subst InRange (read_place position vs i v e) (All-get_or InRange (map position vs) i (record { x = pos 0; y = pos 0 }) within all)
+pub vertex_in_range : (vs : List (Point2 ℤ)) (i : ℕ) (v : Point2 ℤ) → i < length (map position vs)
+    → slice_get vs i ≡ Some v → All InRange (map position vs) → InRange (position v)
+vertex_in_range vs i v within e all = subst InRange (read_place position vs i v e)
+    (All-get_or InRange (map position vs) i (record { x = pos 0; y = pos 0 }) within all)
 
 -- the squared distance of a vertex that is nearest to p is the least
-pub least_distance : (t : Triangulation) (p q : Point) (i : ℕ) (d : ℤ) → IsNearest t (whole p) i → point_at t.points i ≡ q → d ≡ gap (whole p) (whole q) → IsLeastDistance t p d
-least_distance t p q i d near at is = record { nearest = i; is_nearest = near; distance = is ∙ ap (λ (r : Point). gap (whole p) (whole r)) (sym at) }
+pub least_distance : (t : Triangulation) (p q : Point) (i : ℕ) (d : ℤ) → IsNearest t (whole p) i
+    → point_at t.points i ≡ q → d ≡ gap (whole p) (whole q) → IsLeastDistance t p d
+least_distance t p q i d near at is = record {
+  nearest = i;
+  is_nearest = near;
+  distance = is ∙ ap (λ (r : Point). gap (whole p) (whole r)) (sym at);
+}
 
 -- without vertices no index is that of a vertex
 pub no_vertex : (vs : List (Point2 ℤ)) → length vs ≡ 0 → (i : ℕ) → ¬ (i < length (map position vs))
 no_vertex vs none i h = omega (arith, none, h, length-map vs position)
 
 -- a listed point is covered
-pub covered_if_listed : (covered : Point → Type 0) (points : List SheetPoint) (p : Point) → All (λ s. covered (place s)) points → IsListed points p → covered p
+pub covered_if_listed : (covered : Point → Type 0) (points : List SheetPoint) (p : Point)
+    → All (λ s. covered (place s)) points → IsListed points p → covered p
 covered_if_listed covered points p all (i, (h, at)) = subst covered at (all i nowhere h)
 
 -- ---- by a look at all vertices
@@ -55,8 +64,8 @@ IsLesser first second d =
 
 module _ (points : List Point) (p : Point) (n : ℕ) where
   -- with one more point
-  one_more : (d : ℤ) → ((k : ℕ) → k < n → d ≤ℤ gap (whole p) (at points k)) → d ≤ℤ gap (whole p) (at points n)
-      → (k : ℕ) → k < n + 1 → d ≤ℤ gap (whole p) (at points k)
+  one_more : (d : ℤ) → ((k : ℕ) → k < n → d ≤ℤ gap (whole p) (at points k))
+      → d ≤ℤ gap (whole p) (at points n) → (k : ℕ) → k < n + 1 → d ≤ℤ gap (whole p) (at points k)
   one_more d others next k h = elim (cases_lt k n) [
     | inl below ↦ others k below
     | inr beyond ↦ (let same : n ≡ k = omega (arith, h, beyond) in
@@ -77,27 +86,35 @@ module _ (points : List Point) (p : Point) (n : ℕ) where
   new_least : (d : ℤ) → n < length points → d ≡ gap (whole p) (at points n)
       → ((k : ℕ) → k < n → d ≤ℤ gap (whole p) (at points k)) → IsLeastBefore points p (n + 1) d
   new_least d within is others =
-      record { index = n; within = within; distance = is; least = one_more d others (omega (arith, ints, is)) }
+      record {
+        index = n;
+        within = within;
+        distance = is;
+        least = one_more d others (omega (arith, ints, is));
+      }
 
   -- with the distance of one point more the lesser of the two is the least so far
-  pub least_goes_on : (least : Option ℤ) (here d : ℤ) → IsLeastSoFar points p n least → n < length points
-      → here ≡ gap (whole p) (at points n) → IsLesser least here d → IsLeastSoFar points p (n + 1) (Some d)
+  pub least_goes_on : (least : Option ℤ) (here d : ℤ) → IsLeastSoFar points p n least
+      → n < length points → here ≡ gap (whole p) (at points n) → IsLesser least here d
+      → IsLeastSoFar points p (n + 1) (Some d)
   least_goes_on None here d none within is lesser =
       new_least d within (lesser ∙ is) (λ k h. absurd (omega (arith, h, none)))
   least_goes_on (Some x) here d so_far within is (inl (e, le)) =
-      subst (IsLeastBefore points p (n + 1)) (sym e) (kept_least x so_far (subst (λ (g : ℤ). x ≤ℤ g) is le))
+      subst (IsLeastBefore points p (n + 1)) (sym e)
+      (kept_least x so_far (subst (λ (g : ℤ). x ≤ℤ g) is le))
   least_goes_on (Some x) here d so_far within is (inr (e, le)) =
       new_least d within (e ∙ is) (λ k h. let l = so_far.least k h in omega (arith, ints, l, e, le))
 
 -- the least of all is the distance of a nearest vertex
-least_of_all : (t : Triangulation) (p : Point) (n : ℕ) (d : ℤ) → length t.points ≤ n → IsLeastBefore t.points p n d
-    → IsLeastDistance t p d
+least_of_all : (t : Triangulation) (p : Point) (n : ℕ) (d : ℤ) → length t.points ≤ n
+    → IsLeastBefore t.points p n d → IsLeastDistance t p d
 least_of_all t p n d all least = record {
   nearest = least.index;
   is_nearest = record {
     is_vertex = least.within;
     none_nearer = λ k within nearer.
-        let less = less_without_ones (gap (whole p) (at t.points k)) (gap (whole p) (at t.points least.index))
+        let less = less_without_ones (gap (whole p) (at t.points k))
+        (gap (whole p) (at t.points least.index))
         nearer.nearer in
         let bound = least.least k (omega (arith, within, all)) in
         let is = least.distance in
@@ -106,8 +123,10 @@ least_of_all t p n d all least = record {
   distance = least.distance;
 }
 
--- the least of all distances looked at is that of a nearest vertex; it is missing without vertices alone
-pub least_found : (t : Triangulation) (p : Point) (n count : ℕ) (least : Option ℤ) → count ≡ length t.points
-    → count ≤ n → IsLeastSoFar t.points p n least → MatchOption least (count ≡ 0) (IsLeastDistance t p)
+-- the least of all distances looked at is that of a nearest vertex; it is missing without vertices
+-- alone
+pub least_found : (t : Triangulation) (p : Point) (n count : ℕ) (least : Option ℤ)
+    → count ≡ length t.points → count ≤ n → IsLeastSoFar t.points p n least
+    → MatchOption least (count ≡ 0) (IsLeastDistance t p)
 least_found t p n count None is all none = omega (arith, none, all)
 least_found t p n count (Some d) is all least = least_of_all t p n d (omega (arith, is, all)) least

@@ -1,5 +1,7 @@
 -- The faces of a mesh, one after another, as rows of corners.
-use Rattle.std.proofs.Common.{◌≡◌, ℕ, ◌+◌, ◌-◌, ◌<◌, List, [], ◌∷◌, ◌++◌, length, map, get_or, refl, sym, ◌∙◌, ap, arith, append_assoc, append-nil}
+use Rattle.std.proofs.Common.{◌≡◌, ◌+◌, ◌-◌, ◌<◌, [], ◌∷◌, ◌++◌, ◌∙◌}
+use Rattle.std.proofs.Common.{ℕ, List, length, map, get_or, refl, sym, ap, arith, append_assoc}
+use Rattle.std.proofs.Common.{append-nil}
 use Rattle.std.specs.List.{range_with_len}
 use Rattle.std.proofs.lemmas.List.{get_or-map, length-map, same_lists}
 use Rattle.std.proofs.Math.ListN.{get_or-map as get_or-map-default}
@@ -13,42 +15,59 @@ use Rattle.triangulate_run.specs.MeshFaces.{row_of, row_at}
 use Rattle.mesh_embedding.specs.Drawn.{corners_of}
 
 module _ (m : Mesh) (points : List Point) where
-  row_same : (k : ℕ) (d : Corners) → k < length m.face_edges → get_or (map row_of (triangles m)) k d ≡ row_at m (k + 1)
+  row_same : (k : ℕ) (d : Corners) → k < length m.face_edges
+      → get_or (map row_of (triangles m)) k d ≡ row_at m (k + 1)
   row_same k d h =
       let t = triangle_at m 0 in
       let same : k + 1 - 1 ≡ k = omega arith in
-      get_or-map row_of (triangles m) k t d (omega (arith, h, length-map m.face_edges (triangle_at m)))
+      get_or-map row_of (triangles m) k t d
+      (omega (arith, h, length-map m.face_edges (triangle_at m)))
       ∙ ap row_of (get_or-map (triangle_at m) m.face_edges k 0 t h)
       ∙ ap (λ i. row_of (triangle_at m (get_or m.face_edges i 0))) (sym same)
 
   -- the rows of all inner faces, by their indexes, are those of the triangles
-  pub rows_by_index : (n : ℕ) → n ≡ length m.face_edges → map (row_at m) (range_with_len 1 n) ≡ map row_of (triangles m)
+  pub rows_by_index : (n : ℕ) → n ≡ length m.face_edges
+      → map (row_at m) (range_with_len 1 n) ≡ map row_of (triangles m)
   rows_by_index n e = same_lists (map (row_at m) (range_with_len 1 n)) (map row_of (triangles m))
-      (omega (arith, e, length-map-range_with_len (row_at m) 1 n, length-map (triangles m) row_of, length-map m.face_edges (triangle_at m)))
+      (omega (
+        arith,
+        e,
+        length-map-range_with_len (row_at m) 1 n,
+        length-map (triangles m) row_of,
+        length-map m.face_edges (triangle_at m),
+      ))
       (λ k d h. let below : k < n = omega (arith, h, length-map-range_with_len (row_at m) 1 n) in
-      get_or-map-range_with_len (row_at m) 1 n k (k + 1) d below (omega arith) ∙ sym (row_same k d (omega (arith, below, e))))
+      get_or-map-range_with_len (row_at m) 1 n k (k + 1) d below (omega arith)
+      ∙ sym (row_same k d (omega (arith, below, e))))
 
   -- the rows of the corners of triangles are those of the triangles
-  pub twice : (ts : List Triangle) → map (λ f. least_first f.a f.b f.c) (map corners_of ts) ≡ map row_of ts
+  pub twice : (ts : List Triangle)
+      → map (λ f. least_first f.a f.b f.c) (map corners_of ts) ≡ map row_of ts
   twice [] = refl
   twice (t ∷ ts) = ap (λ ys. row_of t ∷ ys) (twice ts)
 
 -- the name of an element of a list, by the list of their names
-pub name_at : {X : Type 0} (f : X → ℕ) (xs : List X) (k : ℕ) (d : X) (names : List ℕ) → map f xs ≡ names → f (get_or xs k d) ≡ get_or names k (f d)
+pub name_at : {X : Type 0} (f : X → ℕ) (xs : List X) (k : ℕ) (d : X) (names : List ℕ)
+    → map f xs ≡ names → f (get_or xs k d) ≡ get_or names k (f d)
 name_at f xs k d names m = sym (get_or-map-default f xs k d) ∙ ap (λ ys. get_or ys k (f d)) m
 
 -- one more row
-pub row_more : (row : ℕ → Corners) (done : List Corners) (r : Corners) (rest others : List ℕ) (k : ℕ) (all : List Corners) → rest ≡ k ∷ others → r ≡ row k
-    → done ++ map row rest ≡ all → (done ++ r ∷ []) ++ map row others ≡ all
+pub row_more : (row : ℕ → Corners) (done : List Corners) (r : Corners) (rest others : List ℕ)
+    (k : ℕ) (all : List Corners) → rest ≡ k ∷ others → r ≡ row k → done ++ map row rest ≡ all
+    → (done ++ r ∷ []) ++ map row others ≡ all
 row_more row done r rest others k all split e so_far =
-    append_assoc done (r ∷ []) (map row others) ∙ ap (λ x. done ++ (x ∷ map row others)) e ∙ ap (λ ys. done ++ map row ys) (sym split) ∙ so_far
+    append_assoc done (r ∷ []) (map row others) ∙ ap (λ x. done ++ (x ∷ map row others)) e
+    ∙ ap (λ ys. done ++ map row ys) (sym split) ∙ so_far
 
 -- where no face is left, the rows so far are all
-pub rows_end : (row : ℕ → Corners) (done : List Corners) (rest : List ℕ) (all : List Corners) → rest ≡ [] → done ++ map row rest ≡ all → done ≡ all
-rows_end row done rest all e so_far = sym (append-nil done) ∙ ap (λ ys. done ++ map row ys) (sym e) ∙ so_far
+pub rows_end : (row : ℕ → Corners) (done : List Corners) (rest : List ℕ) (all : List Corners)
+    → rest ≡ [] → done ++ map row rest ≡ all → done ≡ all
+rows_end row done rest all e so_far =
+    sym (append-nil done) ∙ ap (λ ys. done ++ map row ys) (sym e) ∙ so_far
 
 -- the row of a face whose corners are these
-pub row_if : (m : Mesh) (f a b c : ℕ) → (let t = triangle_at m (face_edge m f) in (a ≡ t.first) × (b ≡ t.second) × (c ≡ t.third)) → least_first a b c ≡ row_at m f
+pub row_if : (m : Mesh) (f a b c : ℕ) → (let t = triangle_at m (face_edge m f) in
+    (a ≡ t.first) × (b ≡ t.second) × (c ≡ t.third)) → least_first a b c ≡ row_at m f
 row_if m f a b c (ea, eb, ec) = rw (ea, eb, ec) refl
 
 -- the row of a face depends on the mesh and its index alone

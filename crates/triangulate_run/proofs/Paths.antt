@@ -1,5 +1,6 @@
 -- The edges of a path, as a reply names them, and what becomes of the stage.
-use Rattle.std.proofs.Common.{◌≡◌, ◌≢◌, ℕ, ◌<◌, Bool, true, false, List, [], ◌∷◌, ◌++◌, length, map, refl, inl, inr, ap}
+use Rattle.std.proofs.Common.{◌≡◌, ◌≢◌, ◌<◌, [], ◌∷◌, ◌++◌}
+use Rattle.std.proofs.Common.{ℕ, Bool, true, false, List, length, map, refl, inl, inr, ap}
 use Rattle.std.proofs.Common.{sym, ◌∙◌, subst}
 use Rattle.std.specs.Prelude.{◌⊎◌, ℤ, All, Result, Err, IsOk}
 use Rattle.std.specs.List.{flat_map}
@@ -25,7 +26,8 @@ use Rattle.triangulate_run.specs.Reply.{piece_text}
 use Rattle.triangulate_run.specs.Stage.{position}
 
 -- neighbours on a segment, in the words of plain states
-neighbours : (points : List Point) (i j a b : ℕ) → AreNextOn points i j a b → AreNeighboursOn position points i j a b
+neighbours : (points : List Point) (i j a b : ℕ) → AreNextOn points i j a b
+    → AreNeighboursOn position points i j a b
 neighbours points i j a b h =
     record {
       apart = h.apart;
@@ -37,29 +39,36 @@ neighbours points i j a b h =
     }
 
 -- edges that lead along a segment have ends that lead along it
-pub leads : (points : List Point) (m : Mesh) (i j : ℕ) (edges : List ℕ) → LeadAlong points m i j edges
-    → LeadsTo points i j (ends_in m edges)
+pub leads : (points : List Point) (m : Mesh) (i j : ℕ) (edges : List ℕ)
+    → LeadAlong points m i j edges → LeadsTo points i j (ends_in m edges)
 leads points m i j [] h = h
-leads points m i j (e ∷ es) (within, from, next, rest) =
-    (from, neighbours points i j i (origin m (rev e)) next, leads points m (origin m (rev e)) j es rest)
+leads points m i j (e ∷ es) (within, from, next, rest) = (
+  from,
+  neighbours points i j i (origin m (rev e)) next,
+  leads points m (origin m (rev e)) j es rest,
+)
 
 -- they are edges of the mesh
-leads_within : (points : List Point) (m : Mesh) (i j : ℕ) (edges : List ℕ) → LeadAlong points m i j edges
-    → All (λ h. h < length m.half_edges) edges
+leads_within : (points : List Point) (m : Mesh) (i j : ℕ) (edges : List ℕ)
+    → LeadAlong points m i j edges → All (λ h. h < length m.half_edges) edges
 leads_within points m i j [] h = All-nil (λ h. h < length m.half_edges)
 leads_within points m i j (e ∷ es) (within, from, next, rest) =
-    All-cons (λ h. h < length m.half_edges) e es within (leads_within points m (origin m (rev e)) j es rest)
+    All-cons (λ h. h < length m.half_edges) e es within
+    (leads_within points m (origin m (rev e)) j es rest)
 
 -- what is not denied of all crossings holds of all
-pub can_add : {V : Type 0} (at : V → Point) (s : Plain V) (i j : ℕ) → ¬ ¬ CanAdd at s i j → CanAdd at s i j
+pub can_add : {V : Type 0} (at : V → Point) (s : Plain V) (i j : ℕ) → ¬ ¬ CanAdd at s i j
+    → CanAdd at s i j
 can_add at s i j h = λ a b joined crossing. h (λ can. can a b joined crossing)
 
 -- whether there are edges, by their number
-pub no_edges : (edges : List ℕ) (n : ℕ) (b : Bool) → length edges ≡ n → b ≡ (n == 0) → b ≡ true → edges ≡ []
+pub no_edges : (edges : List ℕ) (n : ℕ) (b : Bool) → length edges ≡ n → b ≡ (n == 0)
+    → b ≡ true → edges ≡ []
 no_edges edges n b is e t = nil_from_length edges (is ∙ eqb-true n 0 (sym e ∙ t))
 
 -- a path whose number of edges is not 0 has edges
-pub some_edges : (edges : List ℕ) (n : ℕ) (b : Bool) → length edges ≡ n → b ≡ (n == 0) → b ≡ false → edges ≢ []
+pub some_edges : (edges : List ℕ) (n : ℕ) (b : Bool) → length edges ≡ n → b ≡ (n == 0)
+    → b ≡ false → edges ≢ []
 some_edges edges n b is e f none = eqb-false n 0 (sym e ∙ f) (sym is ∙ ap length none)
 
 -- the text of the ends of an edge
@@ -67,7 +76,8 @@ abbrev pub edge_piece : Mesh → ℕ → List ℕ
 edge_piece m h = piece_text (origin m h, origin m (rev h))
 
 -- the texts of the edges, by the mesh, are those of the pairs of their ends
-pub pieces_text : (m : Mesh) (edges : List ℕ) → flat_map (edge_piece m) edges ≡ flat_map piece_text (ends_in m edges)
+pub pieces_text : (m : Mesh) (edges : List ℕ)
+    → flat_map (edge_piece m) edges ≡ flat_map piece_text (ends_in m edges)
 pieces_text m [] = refl
 pieces_text m (e ∷ es) = ap (λ ys. edge_piece m e ++ ys) (pieces_text m es)
 
@@ -77,7 +87,8 @@ module _ {D U F : Type 0} (old new : State (Point2 ℤ) D (CdtEdge U) F) (i j : 
     -- without edges there was nothing to join
     pub joins_none : edges ≡ [] → i < length old.vertices → j < length old.vertices
         → MayRefuse (stage_by constraint_edges old) i j NoPath (stage_by constraint_edges new)
-    joins_none none i_in j_in = ((i_in, j_in), barred, ap (stage_by constraint_edges) (adds.refused barred).1)
+    joins_none none i_in j_in =
+        ((i_in, j_in), barred, ap (stage_by constraint_edges) (adds.refused barred).1)
       where
         barred : (i ≡ j) ⊎ (¬ CanAdd position (constrained old) i j)
         barred = elim (cases_eq i j) [
@@ -96,7 +107,8 @@ module _ {D U F : Type 0} (old new : State (Point2 ℤ) D (CdtEdge U) F) (i j : 
 
       -- each of the edges is one of the mesh
       pub edges_within : All (λ h. h < length new.mesh.half_edges) edges
-      edges_within = leads_within (map position new.vertices) new.mesh i j edges (adds.along apart free)
+      edges_within =
+          leads_within (map position new.vertices) new.mesh i j edges (adds.along apart free)
 
       -- the stage has the path with the ends of these edges
       pub joins_some : AddsPath (stage_by constraint_edges old) i j (ends_in new.mesh edges)
@@ -106,15 +118,17 @@ module _ {D U F : Type 0} (old new : State (Point2 ℤ) D (CdtEdge U) F) (i j : 
           record {
             apart = apart;
             adds = plain;
-            leads = subst (λ (vs : List (Point2 ℤ)). LeadsTo (map position vs) i j (ends_in new.mesh edges))
-                plain.vertices (leads (map position new.vertices) new.mesh i j edges (adds.along apart free));
+            leads = subst
+                (λ (vs : List (Point2 ℤ)). LeadsTo (map position vs) i j (ends_in new.mesh edges))
+                plain.vertices
+                (leads (map position new.vertices) new.mesh i j edges (adds.along apart free));
           }
 
   -- memory was refused
   pub joins_refused : {X E : Type 0} (r : Result X E) (e : E) → r ≡ Err e
       → ((i ≡ j) ⊎ (¬ CanAdd position (constrained old) i j) → IsOk r) → i < length old.vertices
-      → j < length old.vertices → new ≡ old
-      → MayRefuse (stage_by constraint_edges old) i j (Refused OutOfMemory) (stage_by constraint_edges new)
+      → j < length old.vertices → new ≡ old → MayRefuse (stage_by constraint_edges old) i j
+      (Refused OutOfMemory) (stage_by constraint_edges new)
   joins_refused {X} {E} r e is none i_in j_in same = (
     (i_in, j_in),
     inr (λ barred. (let no = subst (λ (q : Result X E). IsOk q) is (none barred) in cc)),

@@ -1,5 +1,7 @@
 -- The states of a run, one after another.
-use Rattle.std.proofs.Common.{◌≡◌, ◌≢◌, ℕ, true, false, List, [], ◌∷◌, ◌++◌, Option, Some, None, refl, sym, ◌∙◌, ap, subst, arith, append_assoc, append-nil}
+use Rattle.std.proofs.Common.{◌≡◌, ◌≢◌, [], ◌∷◌, ◌++◌, ◌∙◌}
+use Rattle.std.proofs.Common.{ℕ, true, false, List, Option, Some, None, refl, sym, ap, subst, arith}
+use Rattle.std.proofs.Common.{append_assoc, append-nil}
 use Rattle.std.specs.List.{flat_map}
 use Rattle.std.specs.Io.KnownBytes.{Appends, Consumes, IsAtEnd}
 use Rattle.std.proofs.lemmas.Grind.{flat_map-append}
@@ -12,11 +14,14 @@ use Rattle.triangulate_run.specs.declared.points.SheetPoint.{SheetPoint}
 use Rattle.triangulate_run.specs.Stage.{Stage, first_stage, Fits}
 use Rattle.triangulate_run.specs.Line.{kept, push_kept}
 use Rattle.triangulate_run.specs.Output.{AppendsPart}
-use Rattle.triangulate_run.specs.Run.{Cut, IsOneLine, Answers, AnswersAll, IsAllowed, end_text, RanToEnd, RanInPart}
+use Rattle.triangulate_run.specs.Run.{Cut, IsOneLine, Answers, AnswersAll, IsAllowed, end_text}
+use Rattle.triangulate_run.specs.Run.{RanToEnd, RanInPart}
 use Rattle.triangulate_run.proofs.OutputLemmas.{appends_more, appends_nil, part_more}
 
 -- between two bytes: these lines were read and answered, and this much of the next
-pub record IsRunning {R W : Type 0} (points : List SheetPoint) (remaining : R → Option (List ℕ)) (contents : W → Option (List ℕ)) (r0 r1 : Watched R) (w0 w1 : Watched W) (line : Option (List ℕ)) (stage : Stage) : Type 0 where
+pub record IsRunning {R W : Type 0} (points : List SheetPoint) (remaining : R → Option (List ℕ))
+    (contents : W → Option (List ℕ)) (r0 r1 : Watched R) (w0 w1 : Watched W)
+    (line : Option (List ℕ)) (stage : Stage) : Type 0 where
   pub input : List ℕ
   pub lines : List (List ℕ)
   pub rest : List ℕ
@@ -35,14 +40,17 @@ consumes_nil None = tt
 consumes_nil (Some xs) = refl
 
 -- a text that is read behind another one is read with it
-consumes_more : (a b c : Option (List ℕ)) (s t : List ℕ) → Consumes a b s → Consumes b c t → Consumes a c (s ++ t)
+consumes_more : (a b c : Option (List ℕ)) (s t : List ℕ) → Consumes a b s → Consumes b c t
+    → Consumes a c (s ++ t)
 consumes_more None b c s t h k = tt
 consumes_more (Some xs) None c s t h k = absurd h
 consumes_more (Some xs) (Some ys) None s t h k = absurd k
-consumes_more (Some xs) (Some ys) (Some zs) s t h k = h ∙ ap (λ us. s ++ us) k ∙ sym (append_assoc s t zs)
+consumes_more (Some xs) (Some ys) (Some zs) s t h k =
+    h ∙ ap (λ us. s ++ us) k ∙ sym (append_assoc s t zs)
 
 -- a byte that is read and equal to 10 is byte 10 read
-pub consumes_break : (a b : Option (List ℕ)) (byte : ℕ) → byte ≡ 10 → Consumes a b (byte ∷ []) → Consumes a b (10 ∷ [])
+pub consumes_break : (a b : Option (List ℕ)) (byte : ℕ) → byte ≡ 10 → Consumes a b (byte ∷ [])
+    → Consumes a b (10 ∷ [])
 consumes_break a b byte e h = subst (λ (x : ℕ). Consumes a b (x ∷ [])) e h
 
 -- a line that is kept and gets a byte is the longer line as it is kept
@@ -50,32 +58,57 @@ kept_push : (line : List ℕ) (b : ℕ) → push_kept (kept line) b ≡ kept (li
 kept_push line b = grind (arith, nat_tests, length_push)
 
 -- one more line is answered
-answers_more : (points : List SheetPoint) (old : Stage) (lines : List (List ℕ)) (text : List ℕ) (mid : Stage) (line first : List ℕ) (new : Stage)
-    → AnswersAll points old lines text mid → Answers points mid line first new → Fits new → AnswersAll points old (lines ++ line ∷ []) (text ++ first) new
-answers_more points old [] text mid line first new h k fits =
-    (first, [], new, ap (λ ys. ys ++ first) h.0 ∙ sym (append-nil first), subst (λ (m : Stage). Answers points m line first new) h.1 k, fits, (refl, refl))
-answers_more points old (l ∷ lines) text mid line first new (one, others, next, e, here, fit, after) k fits =
-    (one, others ++ first, next, ap (λ ys. ys ++ first) e ∙ append_assoc one others first, here, fit, answers_more points next lines others mid line first new after k fits)
+answers_more : (points : List SheetPoint) (old : Stage) (lines : List (List ℕ)) (text : List ℕ)
+    (mid : Stage) (line first : List ℕ) (new : Stage) → AnswersAll points old lines text mid
+    → Answers points mid line first new → Fits new
+    → AnswersAll points old (lines ++ line ∷ []) (text ++ first) new
+answers_more points old [] text mid line first new h k fits = (
+  first,
+  [],
+  new,
+  ap (λ ys. ys ++ first) h.0 ∙ sym (append-nil first),
+  subst (λ (m : Stage). Answers points m line first new) h.1 k,
+  fits,
+  (refl, refl),
+)
+answers_more points old (l ∷ lines) text mid line first new
+    (one, others, next, e, here, fit, after) k fits = (
+      one,
+      others ++ first,
+      next,
+      ap (λ ys. ys ++ first) e ∙ append_assoc one others first,
+      here,
+      fit,
+      answers_more points next lines others mid line first new after k fits,
+    )
 
-cut_byte : (input : List ℕ) (lines : List (List ℕ)) (rest : List ℕ) (b : ℕ) → Cut input lines rest → b ≢ 10 → Cut (input ++ b ∷ []) lines (rest ++ b ∷ [])
+cut_byte : (input : List ℕ) (lines : List (List ℕ)) (rest : List ℕ) (b : ℕ) → Cut input lines rest
+    → b ≢ 10 → Cut (input ++ b ∷ []) lines (rest ++ b ∷ [])
 cut_byte input lines rest b cut ne = record {
-  whole = ap (λ ys. ys ++ b ∷ []) cut.whole ∙ append_assoc (flat_map (λ line. line ++ 10 ∷ []) lines) rest (b ∷ []);
+  whole = ap (λ ys. ys ++ b ∷ []) cut.whole
+      ∙ append_assoc (flat_map (λ line. line ++ 10 ∷ []) lines) rest (b ∷ []);
   each = cut.each;
   last = All-push (λ (x : ℕ). x ≢ 10) rest b cut.last ne;
 }
 
-cut_line : (input : List ℕ) (lines : List (List ℕ)) (rest : List ℕ) → Cut input lines rest → Cut (input ++ 10 ∷ []) (lines ++ rest ∷ []) []
+cut_line : (input : List ℕ) (lines : List (List ℕ)) (rest : List ℕ) → Cut input lines rest
+    → Cut (input ++ 10 ∷ []) (lines ++ rest ∷ []) []
 cut_line input lines rest cut = record {
-  whole = ap (λ ys. ys ++ 10 ∷ []) cut.whole ∙ append_assoc (flat_map (λ line. line ++ 10 ∷ []) lines) rest (10 ∷ [])
-      ∙ ap (λ ys. flat_map (λ line. line ++ 10 ∷ []) lines ++ ys) (sym (append-nil (rest ++ 10 ∷ [])))
-      ∙ sym (flat_map-append (λ line. line ++ 10 ∷ []) lines (rest ∷ [])) ∙ sym (append-nil (flat_map (λ line. line ++ 10 ∷ []) (lines ++ rest ∷ [])));
+  whole = ap (λ ys. ys ++ 10 ∷ []) cut.whole
+      ∙ append_assoc (flat_map (λ line. line ++ 10 ∷ []) lines) rest (10 ∷ [])
+      ∙ ap (λ ys. flat_map (λ line. line ++ 10 ∷ []) lines ++ ys)
+      (sym (append-nil (rest ++ 10 ∷ [])))
+      ∙ sym (flat_map-append (λ line. line ++ 10 ∷ []) lines (rest ∷ []))
+      ∙ sym (append-nil (flat_map (λ line. line ++ 10 ∷ []) (lines ++ rest ∷ [])));
   each = All-push IsOneLine lines rest cut.each cut.last;
   last = All-nil (λ (x : ℕ). x ≢ 10);
 }
 
 -- a run begins with nothing read, nothing written and no vertices
-pub start : {R W : Type 0} (remaining : R → Option (List ℕ)) (contents : W → Option (List ℕ)) (r : Watched R) (w : Watched W) (line : Option (List ℕ)) (points : List SheetPoint) (stage : Stage)
-    → line ≡ Some [] → stage ≡ first_stage → has_failed r ≡ false → has_failed w ≡ false → IsRunning points remaining contents r r w w line stage
+pub start : {R W : Type 0} (remaining : R → Option (List ℕ)) (contents : W → Option (List ℕ))
+    (r : Watched R) (w : Watched W) (line : Option (List ℕ)) (points : List SheetPoint)
+    (stage : Stage) → line ≡ Some [] → stage ≡ first_stage → has_failed r ≡ false
+    → has_failed w ≡ false → IsRunning points remaining contents r r w w line stage
 start remaining contents r w line points stage e f hr hw = record {
   input = [];
   lines = [];
@@ -91,9 +124,12 @@ start remaining contents r w line points stage e f hr hw = record {
 }
 
 -- a run goes on where one more byte, which ends no line, is read and kept
-pub byte_more : {R W : Type 0} {remaining : R → Option (List ℕ)} {contents : W → Option (List ℕ)} {r0 r1 : Watched R} {w0 w1 : Watched W} {line : Option (List ℕ)} {points : List SheetPoint} {stage : Stage}
-    → IsRunning points remaining contents r0 r1 w0 w1 line stage → (r2 : Watched R) (b : ℕ) (after : Option (List ℕ))
-    → Consumes (remaining (inner_of r1)) (remaining (inner_of r2)) (b ∷ []) → has_failed r2 ≡ false → b ≢ 10 → after ≡ push_kept line b
+pub byte_more : {R W : Type 0} {remaining : R → Option (List ℕ)} {contents : W → Option (List ℕ)}
+    {r0 r1 : Watched R} {w0 w1 : Watched W} {line : Option (List ℕ)} {points : List SheetPoint}
+    {stage : Stage} → IsRunning points remaining contents r0 r1 w0 w1 line stage
+    → (r2 : Watched R) (b : ℕ) (after : Option (List ℕ))
+    → Consumes (remaining (inner_of r1)) (remaining (inner_of r2)) (b ∷ []) → has_failed r2 ≡ false
+    → b ≢ 10 → after ≡ push_kept line b
     → IsRunning points remaining contents r0 r2 w0 w1 after stage
 byte_more s r2 b after took works ne e = record {
   input = s.input ++ b ∷ [];
@@ -110,56 +146,70 @@ byte_more s r2 b after took works ne e = record {
 }
 
 -- a run goes on where the end of a line is read and its answer is written
-pub line_more : {R W : Type 0} {remaining : R → Option (List ℕ)} {contents : W → Option (List ℕ)} {r0 r1 : Watched R} {w0 w1 : Watched W} {line : Option (List ℕ)} {points : List SheetPoint} {stage : Stage}
-    (s : IsRunning points remaining contents r0 r1 w0 w1 line stage) → (r2 : Watched R) (w2 : Watched W) (first : List ℕ) (new : Stage) (after : Option (List ℕ))
+pub line_more : {R W : Type 0} {remaining : R → Option (List ℕ)} {contents : W → Option (List ℕ)}
+    {r0 r1 : Watched R} {w0 w1 : Watched W} {line : Option (List ℕ)} {points : List SheetPoint}
+    {stage : Stage} (s : IsRunning points remaining contents r0 r1 w0 w1 line stage)
+    → (r2 : Watched R) (w2 : Watched W) (first : List ℕ) (new : Stage) (after : Option (List ℕ))
     → Consumes (remaining (inner_of r1)) (remaining (inner_of r2)) (10 ∷ []) → has_failed r2 ≡ false
-    → Answers points stage s.rest first new → Fits new → Appends (contents (inner_of w1)) (contents (inner_of w2)) first → has_failed w2 ≡ false → after ≡ Some []
-    → IsRunning points remaining contents r0 r2 w0 w2 after new
-line_more {points = points} {stage = stage} s r2 w2 first new after took works answer fits wrote still e = record {
-  input = s.input ++ 10 ∷ [];
-  lines = s.lines ++ s.rest ∷ [];
-  rest = [];
-  text = s.text ++ first;
-  read = consumes_more _ _ _ s.input (10 ∷ []) s.read took;
-  written = appends_more _ _ _ s.text first s.written wrote;
-  cut = cut_line s.input s.lines s.rest s.cut;
-  answered = answers_more points first_stage s.lines s.text stage s.rest first new s.answered answer fits;
-  held = e;
-  reader_works = works;
-  writer_works = still;
-}
+    → Answers points stage s.rest first new → Fits new
+    → Appends (contents (inner_of w1)) (contents (inner_of w2)) first → has_failed w2 ≡ false
+    → after ≡ Some [] → IsRunning points remaining contents r0 r2 w0 w2 after new
+line_more {points = points} {stage = stage} s r2 w2 first new after took works answer fits wrote
+    still e = record {
+      input = s.input ++ 10 ∷ [];
+      lines = s.lines ++ s.rest ∷ [];
+      rest = [];
+      text = s.text ++ first;
+      read = consumes_more _ _ _ s.input (10 ∷ []) s.read took;
+      written = appends_more _ _ _ s.text first s.written wrote;
+      cut = cut_line s.input s.lines s.rest s.cut;
+      answered =
+          answers_more points first_stage s.lines s.text stage s.rest first new
+          s.answered answer fits;
+      held = e;
+      reader_works = works;
+      writer_works = still;
+    }
 
-part_behind : (a b c : Option (List ℕ)) (s t : List ℕ) → Appends a b s → AppendsPart b c t → AppendsPart a c (s ++ t)
-part_behind a b c s t h p = subst (λ (ys : List ℕ). AppendsPart a c (s ++ ys)) (append-nil t) (part_more a b c s t [] h p)
+part_behind : (a b c : Option (List ℕ)) (s t : List ℕ) → Appends a b s → AppendsPart b c t
+    → AppendsPart a c (s ++ t)
+part_behind a b c s t h p =
+    subst (λ (ys : List ℕ). AppendsPart a c (s ++ ys)) (append-nil t) (part_more a b c s t [] h p)
 
 -- a run ends where the writer fails within the answer to a line
-pub line_fault : {R W : Type 0} {remaining : R → Option (List ℕ)} {contents : W → Option (List ℕ)} {r0 r1 : Watched R} {w0 w1 : Watched W} {line : Option (List ℕ)} {points : List SheetPoint} {stage : Stage}
-    (s : IsRunning points remaining contents r0 r1 w0 w1 line stage) → (r2 : Watched R) (w2 : Watched W) (first : List ℕ) (new : Stage)
+pub line_fault : {R W : Type 0} {remaining : R → Option (List ℕ)} {contents : W → Option (List ℕ)}
+    {r0 r1 : Watched R} {w0 w1 : Watched W} {line : Option (List ℕ)} {points : List SheetPoint}
+    {stage : Stage} (s : IsRunning points remaining contents r0 r1 w0 w1 line stage)
+    → (r2 : Watched R) (w2 : Watched W) (first : List ℕ) (new : Stage)
     → Consumes (remaining (inner_of r1)) (remaining (inner_of r2)) (10 ∷ []) → has_failed r2 ≡ false
-    → Answers points stage s.rest first new → Fits new → AppendsPart (contents (inner_of w1)) (contents (inner_of w2)) first → has_failed w2 ≡ true
+    → Answers points stage s.rest first new → Fits new
+    → AppendsPart (contents (inner_of w1)) (contents (inner_of w2)) first → has_failed w2 ≡ true
     → RanInPart points remaining contents r0 r2 w0 w2
-line_fault {points = points} {stage = stage} s r2 w2 first new took works answer fits wrote failed = record {
-  input = s.input ++ 10 ∷ [];
-  text = s.text ++ first;
-  read = consumes_more _ _ _ s.input (10 ∷ []) s.read took;
-  written = part_behind _ _ _ s.text first s.written wrote;
-  allowed = record {
-    lines = s.lines ++ s.rest ∷ [];
-    rest = [];
-    before = s.text ++ first;
-    stage = new;
-    cut = cut_line s.input s.lines s.rest s.cut;
-    answered = answers_more points first_stage s.lines s.text stage s.rest first new s.answered answer fits;
-    whole = sym (append-nil (s.text ++ first));
-  };
-  reader_works = works;
-  writer_failed = failed;
-}
+line_fault {points = points} {stage = stage} s r2 w2 first new took works answer fits wrote failed =
+    record {
+      input = s.input ++ 10 ∷ [];
+      text = s.text ++ first;
+      read = consumes_more _ _ _ s.input (10 ∷ []) s.read took;
+      written = part_behind _ _ _ s.text first s.written wrote;
+      allowed = record {
+        lines = s.lines ++ s.rest ∷ [];
+        rest = [];
+        before = s.text ++ first;
+        stage = new;
+        cut = cut_line s.input s.lines s.rest s.cut;
+        answered = answers_more points first_stage s.lines s.text stage s.rest first new
+            s.answered answer fits;
+        whole = sym (append-nil (s.text ++ first));
+      };
+      reader_works = works;
+      writer_failed = failed;
+    }
 
--- what was written so far, with what is written at the end of the input, is allowed for what was read
+-- what was written so far, with what is written at the end of the input, is allowed for what was
+-- read
 allowed_to_end : {R W : Type 0} {remaining : R → Option (List ℕ)} {contents : W → Option (List ℕ)}
-    {r0 r1 : Watched R} {w0 w1 : Watched W} {line : Option (List ℕ)} {points : List SheetPoint} {stage : Stage}
-    (s : IsRunning points remaining contents r0 r1 w0 w1 line stage)
+    {r0 r1 : Watched R} {w0 w1 : Watched W} {line : Option (List ℕ)} {points : List SheetPoint}
+    {stage : Stage} (s : IsRunning points remaining contents r0 r1 w0 w1 line stage)
     → IsAllowed points (s.input ++ []) (s.text ++ end_text s.rest)
 allowed_to_end {stage = stage} s = record {
   lines = s.lines;
@@ -172,11 +222,13 @@ allowed_to_end {stage = stage} s = record {
 }
 
 -- a run ends where the writer fails within what is written at the end of the input
-pub end_fault : {R W : Type 0} {remaining : R → Option (List ℕ)} {contents : W → Option (List ℕ)} {r0 r1 : Watched R} {w0 w1 : Watched W} {line : Option (List ℕ)} {points : List SheetPoint} {stage : Stage}
-    (s : IsRunning points remaining contents r0 r1 w0 w1 line stage) → (r2 : Watched R) (w2 : Watched W)
+pub end_fault : {R W : Type 0} {remaining : R → Option (List ℕ)} {contents : W → Option (List ℕ)}
+    {r0 r1 : Watched R} {w0 w1 : Watched W} {line : Option (List ℕ)} {points : List SheetPoint}
+    {stage : Stage} (s : IsRunning points remaining contents r0 r1 w0 w1 line stage)
+    → (r2 : Watched R) (w2 : Watched W)
     → Consumes (remaining (inner_of r1)) (remaining (inner_of r2)) [] → has_failed r2 ≡ false
-    → AppendsPart (contents (inner_of w1)) (contents (inner_of w2)) (end_text s.rest) → has_failed w2 ≡ true
-    → RanInPart points remaining contents r0 r2 w0 w2
+    → AppendsPart (contents (inner_of w1)) (contents (inner_of w2)) (end_text s.rest)
+    → has_failed w2 ≡ true → RanInPart points remaining contents r0 r2 w0 w2
 end_fault s r2 w2 took works wrote failed = record {
   input = s.input ++ [];
   text = s.text ++ end_text s.rest;
@@ -188,11 +240,14 @@ end_fault s r2 w2 took works wrote failed = record {
 }
 
 -- a run ends where the input does and what is written at its end is written
-pub end_more : {R W : Type 0} {remaining : R → Option (List ℕ)} {contents : W → Option (List ℕ)} {r0 r1 : Watched R} {w0 w1 : Watched W} {line : Option (List ℕ)} {points : List SheetPoint} {stage : Stage}
-    (s : IsRunning points remaining contents r0 r1 w0 w1 line stage) → (r2 : Watched R) (w2 : Watched W)
-    → Consumes (remaining (inner_of r1)) (remaining (inner_of r2)) [] → IsAtEnd (remaining (inner_of r2)) → has_failed r2 ≡ false
-    → Appends (contents (inner_of w1)) (contents (inner_of w2)) (end_text s.rest) → has_failed w2 ≡ false
-    → RanToEnd points remaining contents r0 r2 w0 w2
+pub end_more : {R W : Type 0} {remaining : R → Option (List ℕ)} {contents : W → Option (List ℕ)}
+    {r0 r1 : Watched R} {w0 w1 : Watched W} {line : Option (List ℕ)} {points : List SheetPoint}
+    {stage : Stage} (s : IsRunning points remaining contents r0 r1 w0 w1 line stage)
+    → (r2 : Watched R) (w2 : Watched W)
+    → Consumes (remaining (inner_of r1)) (remaining (inner_of r2)) []
+    → IsAtEnd (remaining (inner_of r2)) → has_failed r2 ≡ false
+    → Appends (contents (inner_of w1)) (contents (inner_of w2)) (end_text s.rest)
+    → has_failed w2 ≡ false → RanToEnd points remaining contents r0 r2 w0 w2
 end_more s r2 w2 took end works wrote still = record {
   input = s.input ++ [];
   text = s.text ++ end_text s.rest;

@@ -11,7 +11,8 @@ use Rattle.delaunay_edit.specs.Constrained.{none, constrained, constraint_edges}
 use Rattle.delaunay_edit.specs.Data.{HasOtherEdgeData}
 use Rattle.delaunay_edit.specs.Headline.{IsWellFormed}
 use Rattle.command_grammar.specs.declared.command.Command.{Command}
-use Rattle.command_grammar.specs.declared.command.Command.TheVariants.{Insert, Remove, Constrain, Release, Locate}
+use Rattle.command_grammar.specs.declared.command.Command.TheVariants.{Insert, Remove, Constrain}
+use Rattle.command_grammar.specs.declared.command.Command.TheVariants.{Release, Locate}
 use Rattle.command_grammar.specs.declared.command.Command.TheVariants.{Nearest, Line, Counts, Faces}
 use Rattle.triangulate_run.specs.declared.points.SheetPoint.{SheetPoint}
 use Rattle.triangulate_run.specs.declared.reply.Reply.{Reply}
@@ -41,14 +42,16 @@ fits constraints s formed = record {
 }
 
 -- the path is the same where the stage and the ends are
-pub joins_there : (old before : Stage) → old ≡ before → (i j k l : ℕ) → i ≡ k → j ≡ l → (text : List ℕ) (new : Stage)
-    → MayJoin old i j text new → MayJoin before k l text new
+pub joins_there : (old before : Stage) → old ≡ before → (i j k l : ℕ) → i ≡ k → j ≡ l
+    → (text : List ℕ) (new : Stage) → MayJoin old i j text new → MayJoin before k l text new
 joins_there old before e i j k l f h text new joins =
     subst (λ (s : Stage). MayJoin s k l text new) e
-    (subst (λ (b : ℕ). MayJoin old k b text new) h (subst (λ (a : ℕ). MayJoin old a j text new) f joins))
+    (subst (λ (b : ℕ). MayJoin old k b text new) h
+    (subst (λ (a : ℕ). MayJoin old a j text new) f joins))
 
 -- a command that gets a reply is answered by its text
-pub answered_so : (points : List SheetPoint) (old : Stage) (command : Command) (r : Reply) (new : Stage)
+pub answered_so :
+    (points : List SheetPoint) (old : Stage) (command : Command) (r : Reply) (new : Stage)
     → MayReply points old command r new → MayAnswer points old command (reply_text r) new
 answered_so points old (Insert p) r new h = (r, h, refl)
 answered_so points old (Remove i) r new h = (r, h, refl)
@@ -61,8 +64,8 @@ answered_so points old Counts r new h = (r, h, refl)
 answered_so points old Faces r new h = (r, h, refl)
 
 -- what a line meets is the same where its ends are
-pub walks_there : (points : List SheetPoint) (t : Triangulation) (p q u v : Point2 ℤ) → p ≡ u → q ≡ v
-    → (text : List ℕ) → MayWalk points t (position p) (position q) text
+pub walks_there : (points : List SheetPoint) (t : Triangulation) (p q u v : Point2 ℤ) → p ≡ u
+    → q ≡ v → (text : List ℕ) → MayWalk points t (position p) (position q) text
     → MayWalk points t (position u) (position v) text
 walks_there points t p q u v e f text walks =
     subst (λ (z : Point2 ℤ). MayWalk points t (position u) (position z) text) f

@@ -1,7 +1,9 @@
 -- The tables of the sheets pass the tests.
 use Rattle.std.proofs.Common.{◌≡◌, true, refl}
 use Rattle.plane.specs.Side.{side}
-use Rattle.triangulate_run.specs.declared.table.TheConstants.{G_POINTS, B_POINTS, R_POINTS, L_POINTS, X_POINTS, GRID_CIRCLES, L_CIRCLES, X_CIRCLES}
+use Rattle.triangulate_run.specs.declared.table.TheConstants.{G_POINTS, B_POINTS, R_POINTS}
+use Rattle.triangulate_run.specs.declared.table.TheConstants.{L_POINTS, X_POINTS, GRID_CIRCLES}
+use Rattle.triangulate_run.specs.declared.table.TheConstants.{L_CIRCLES, X_CIRCLES}
 use Rattle.triangulate_run.proofs.Rule.{sides_agree, side_agrees, circles_agree, circle_agrees}
 use Rattle.triangulate_run.proofs.Level.{are_level}
 

@@ -6,13 +6,16 @@ use Rattle.plane.specs.Circle.{InsideCircle}
 use Rattle.triangulate_run.specs.declared.sheet.Sheet.{Sheet}
 use Rattle.triangulate_run.specs.declared.sheet.Sheet.TheVariants.{G, B, R, L, X}
 use Rattle.triangulate_run.specs.declared.circles.Circle.{Circle}
-use Rattle.triangulate_run.specs.declared.table.TheConstants.{G_POINTS, B_POINTS, R_POINTS, L_POINTS, X_POINTS, GRID_CIRCLES, L_CIRCLES, X_CIRCLES}
+use Rattle.triangulate_run.specs.declared.table.TheConstants.{G_POINTS, B_POINTS, R_POINTS}
+use Rattle.triangulate_run.specs.declared.table.TheConstants.{L_POINTS, X_POINTS, GRID_CIRCLES}
+use Rattle.triangulate_run.specs.declared.table.TheConstants.{L_CIRCLES, X_CIRCLES}
 use Rattle.triangulate_run.specs.Points.{IsAt, IsSiteAt}
 use Rattle.triangulate_run.specs.Sheet.{points_of, circles_of}
 use Rattle.triangulate_run.specs.Table.{side_in, is_inside_in}
 use Rattle.triangulate_run.proofs.Rule.{SidesAreTrue, CirclesAreTrue, sides_true, circles_true}
 use Rattle.triangulate_run.proofs.Level.{level_sides_true, level_circles_true}
-use Rattle.triangulate_run.proofs.Tables.{g_sides, g_circles, b_sides, b_circles, l_sides, l_circles, x_sides, x_circles, r_level}
+use Rattle.triangulate_run.proofs.Tables.{g_sides, g_circles, b_sides, b_circles, l_sides}
+use Rattle.triangulate_run.proofs.Tables.{l_circles, x_sides, x_circles, r_level}
 
 -- the side that the table of a sheet tells of three of its points is their side in the plane
 sides_are_true : (s : Sheet) → SidesAreTrue (points_of s) (circles_of s)
@@ -26,19 +29,30 @@ sides_are_true X = sides_true X_POINTS X_CIRCLES x_sides
 -- what the table of a sheet tells of circles of its sites holds in the plane
 circles_are_true : (s : Sheet) → CirclesAreTrue (points_of s) (circles_of s)
 unfolding points_of circles_of
-circles_are_true G = circles_true G_POINTS GRID_CIRCLES (sides_true G_POINTS GRID_CIRCLES g_sides) g_circles
-circles_are_true B = circles_true B_POINTS GRID_CIRCLES (sides_true B_POINTS GRID_CIRCLES b_sides) b_circles
+circles_are_true G =
+    circles_true G_POINTS GRID_CIRCLES (sides_true G_POINTS GRID_CIRCLES g_sides) g_circles
+circles_are_true B =
+    circles_true B_POINTS GRID_CIRCLES (sides_true B_POINTS GRID_CIRCLES b_sides) b_circles
 circles_are_true R = level_circles_true R_POINTS r_level
-circles_are_true L = circles_true L_POINTS L_CIRCLES (sides_true L_POINTS L_CIRCLES l_sides) l_circles
-circles_are_true X = circles_true X_POINTS X_CIRCLES (sides_true X_POINTS X_CIRCLES x_sides) x_circles
+circles_are_true L =
+    circles_true L_POINTS L_CIRCLES (sides_true L_POINTS L_CIRCLES l_sides) l_circles
+circles_are_true X =
+    circles_true X_POINTS X_CIRCLES (sides_true X_POINTS X_CIRCLES x_sides) x_circles
 
 -- at points that stand in the list
-pub side_from : (s : Sheet) (circles : List Circle) (r : Side) (a b c : Point) (i j k : ℕ) → circles ≡ circles_of s → IsAt (points_of s) i a → IsAt (points_of s) j b → IsAt (points_of s) k c → r ≡ side_in circles i j k → r ≡ side (whole a) (whole b) (whole c)
-side_from s circles r a b c i j k table ha hb hc e = rw (← ha.1, ← hb.1, ← hc.1) (e ∙ ap (λ t. side_in t i j k) table ∙ sides_are_true s i j k ha.0 hb.0 hc.0)
+pub side_from : (s : Sheet) (circles : List Circle) (r : Side) (a b c : Point) (i j k : ℕ)
+    → circles ≡ circles_of s → IsAt (points_of s) i a → IsAt (points_of s) j b
+    → IsAt (points_of s) k c → r ≡ side_in circles i j k → r ≡ side (whole a) (whole b) (whole c)
+side_from s circles r a b c i j k table ha hb hc e = rw (← ha.1, ← hb.1, ← hc.1)
+    (e ∙ ap (λ t. side_in t i j k) table ∙ sides_are_true s i j k ha.0 hb.0 hc.0)
 
 -- the answer of the table tells whether site q is inside the circle of three sites that turn left
-pub inside_from : (s : Sheet) (circles : List Circle) (r : Bool) (a b c q : Point) (i j k l : ℕ) → circles ≡ circles_of s → IsSiteAt (points_of s) i a → IsSiteAt (points_of s) j b → IsSiteAt (points_of s) k c → IsSiteAt (points_of s) l q
-    → TurnsLeft (whole a) (whole b) (whole c) → r ≡ is_inside_in circles i j k l → IsTrue r ↔ InsideCircle (whole a) (whole b) (whole c) (whole q)
+pub inside_from : (s : Sheet) (circles : List Circle) (r : Bool) (a b c q : Point) (i j k l : ℕ)
+    → circles ≡ circles_of s → IsSiteAt (points_of s) i a → IsSiteAt (points_of s) j b
+    → IsSiteAt (points_of s) k c → IsSiteAt (points_of s) l q
+    → TurnsLeft (whole a) (whole b) (whole c) → r ≡ is_inside_in circles i j k l → IsTrue r
+    ↔ InsideCircle (whole a) (whole b) (whole c) (whole q)
 inside_from s circles r a b c q i j k l table ha hb hc hq turns e =
     rw (e, table, ← ha.0.1, ← hb.0.1, ← hc.0.1, ← hq.0.1)
-    (circles_are_true s i j k l ha.0.0 hb.0.0 hc.0.0 hq.0.0 ha.1 hb.1 hc.1 hq.1 (rw (ha.0.1, hb.0.1, hc.0.1) turns))
+    (circles_are_true s i j k l ha.0.0 hb.0.0 hc.0.0 hq.0.0 ha.1 hb.1 hc.1 hq.1
+    (rw (ha.0.1, hb.0.1, hc.0.1) turns))

@@ -1,5 +1,6 @@
 -- The items of a line, as they are put one after another.
-use Rattle.std.proofs.Common.{◌≡◌, ℕ, List, [], ◌∷◌, ◌++◌, Option, Some, None, refl, sym, ◌∙◌, ap, subst, append_assoc}
+use Rattle.std.proofs.Common.{◌≡◌, [], ◌∷◌, ◌++◌, ◌∙◌}
+use Rattle.std.proofs.Common.{ℕ, List, Option, Some, None, refl, sym, ap, subst, append_assoc}
 use Rattle.std.proofs.Common.{append-nil}
 use Rattle.std.specs.Prelude.{ℤ, codes}
 use Rattle.std.specs.List.{flat_map}
@@ -16,8 +17,9 @@ use Rattle.triangulate_run.proofs.OutputLemmas.{passes_nil, passes_more, passes_
 use Rattle.triangulate_run.proofs.OutputLemmas.{first_fails, second_fails, third_fails, all_passed}
 
 -- of the items that were left, these were put, and those are left
-pub record PutsSome {V D U F P S : Type 0} (at : V → Point) (number : S → ℤ) (before now : Option (List ℕ))
-    (held kept : List ℕ) (it : LineIntersectionIterator V D U F P S) (items : List Item) : Type 0 where
+pub record PutsSome {V D U F P S : Type 0} (at : V → Point) (number : S → ℤ)
+    (before now : Option (List ℕ)) (held kept : List ℕ) (it : LineIntersectionIterator V D U F P S)
+    (items : List Item) : Type 0 where
   pub done : List Item
   pub rest : List Item
   pub all : items ≡ done ++ rest
@@ -25,16 +27,23 @@ pub record PutsSome {V D U F P S : Type 0} (at : V → Point) (number : S → �
   pub passes : Passes before now held kept (flat_map next_text done)
 
 -- of any items that were left before, the first have been put, and the others are left now
-abbrev pub PutsEach : {V D U F P S : Type 0} → (V → Point) → (S → ℤ) → Option (List ℕ) → Option (List ℕ) → List ℕ
+abbrev pub PutsEach : {V D U F P S : Type 0} → (V → Point) → (S → ℤ) → Option (List ℕ)
+    → Option (List ℕ) → List ℕ
     → List ℕ → LineIntersectionIterator V D U F P S → LineIntersectionIterator V D U F P S → Type 0
 PutsEach at number before now held kept old it = (items : List Item) → AreLeft at number old items
     → PutsSome at number before now held kept it items
 
-module _ {V D U F P S : Type 0} (at : V → Point) (number : S → ℤ) (a b c : Option (List ℕ)) (held mid kept : List ℕ)
-    (old it after : LineIntersectionIterator V D U F P S) where
+module _ {V D U F P S : Type 0} (at : V → Point) (number : S → ℤ) (a b c : Option (List ℕ))
+    (held mid kept : List ℕ) (old it after : LineIntersectionIterator V D U F P S) where
   -- at the beginning nothing has been put, and all items are left
   pub puts_begin : PutsEach at number a a held held old old
-  puts_begin = λ items left. record { done = []; rest = items; all = refl; are_left = left; passes = passes_nil a held }
+  puts_begin = λ items left. record {
+    done = [];
+    rest = items;
+    all = refl;
+    are_left = left;
+    passes = passes_nil a held;
+  }
 
   text_more : (done : List Item) (m : Item)
       → flat_map next_text (done ++ m ∷ []) ≡ flat_map next_text done ++ next_text m
@@ -54,12 +63,14 @@ module _ {V D U F P S : Type 0} (at : V → Point) (number : S → ℤ) (a b c :
         all = p.all ∙ ap (λ ys. p.done ++ ys) s.1 ∙ sym (append_assoc p.done (item_in x ∷ []) s.0);
         are_left = s.2;
         passes = subst (λ (t : List ℕ). Passes a c held kept t) (sym (text_more p.done (item_in x)))
-            (passes_more a b c held mid kept (flat_map next_text p.done) (next_text (item_in x)) p.passes put);
+            (passes_more a b c held mid kept (flat_map next_text p.done)
+            (next_text (item_in x)) p.passes put);
       }
 
   -- where no item is left, the text of all has been put
-  pub puts_end : PutsEach at number a b held mid old it → GivesNext at number it None after → (items : List Item)
-      → AreLeft at number old items → Passes a b held mid (flat_map next_text items)
+  pub puts_end : PutsEach at number a b held mid old it → GivesNext at number it None after
+      → (items : List Item) → AreLeft at number old items
+      → Passes a b held mid (flat_map next_text items)
   puts_end so_far step items left =
       let p = so_far items left in
       let none = (step.gives p.rest p.are_left).0 in
@@ -68,8 +79,8 @@ module _ {V D U F P S : Type 0} (at : V → Point) (number : S → ℤ) (a b c :
 
   -- where the writer fails at the next item, a beginning of the text of all was put
   pub puts_part : PutsEach at number a b held mid old it → (x : Intersection V D U F)
-      → GivesNext at number it (Some x) after
-      → AppendsPart b c (mid ++ next_text (item_in x)) → (items : List Item) → AreLeft at number old items
+      → GivesNext at number it (Some x) after → AppendsPart b c (mid ++ next_text (item_in x))
+      → (items : List Item) → AreLeft at number old items
       → AppendsPart a c (held ++ flat_map next_text items)
   puts_part so_far x step part items left =
       let p = so_far items left in
@@ -81,61 +92,71 @@ module _ {V D U F P S : Type 0} (at : V → Point) (number : S → ℤ) (a b c :
       ap (flat_map next_text) (p.all ∙ ap (λ ys. p.done ++ ys) s.1)
       ∙ flat_map-append next_text p.done (item_in x ∷ s.0) in
       let whole : (held ++ (before ++ here)) ++ behind ≡ held ++ flat_map next_text items =
-      append_assoc held (before ++ here) behind ∙ ap (λ ys. held ++ ys) (append_assoc before here behind ∙ sym all) in
+      append_assoc held (before ++ here) behind
+      ∙ ap (λ ys. held ++ ys) (append_assoc before here behind ∙ sym all) in
       subst (λ (t : List ℕ). AppendsPart a c t) whole
-      (part_longer a c (held ++ (before ++ here)) behind (passes_part a b c held mid before here p.passes part))
+      (part_longer a c (held ++ (before ++ here)) behind
+      (passes_part a b c held mid before here p.passes part))
 
 -- ---- a whole line
-module _ {V D U F P S : Type 0} (at : V → Point) (number : S → ℤ) (it after : LineIntersectionIterator V D U F P S)
-  where
-    -- what holds of the text of no items holds of what is left where there is none
-    pub line_none : (X : List ℕ → Type 0) → GivesNext at number it None after → X (codes "nothing\n")
+module _ {V D U F P S : Type 0} (at : V → Point) (number : S → ℤ)
+    (it after : LineIntersectionIterator V D U F P S) where
+  -- what holds of the text of no items holds of what is left where there is none
+  pub line_none : (X : List ℕ → Type 0) → GivesNext at number it None after
+      → X (codes "nothing\n") → (items : List Item) → AreLeft at number it items
+      → X (line_text items)
+  line_none X step x items left =
+      subst (λ (ys : List Item). X (line_text ys)) (sym (step.gives items left).0) x
+
+  module _ (x : Intersection V D U F) (step : GivesNext at number it (Some x) after) where
+    -- the text of a line by its first item and the others
+    by_first : (X : List ℕ → Type 0)
+        → ((others : List Item) → AreLeft at number after others
+        → X (item_text (item_in x) ++ (flat_map next_text others ++ codes "\n")))
         → (items : List Item) → AreLeft at number it items → X (line_text items)
-    line_none X step x items left = subst (λ (ys : List Item). X (line_text ys)) (sym (step.gives items left).0) x
+    by_first X all items left = let s = (step.gives items left).1 in
+        subst (λ (ys : List Item). X (line_text ys)) (sym s.1)
+        (subst X (sym (append_assoc (item_text (item_in x)) (flat_map next_text s.0)
+        (codes "\n"))) (all s.0 s.2))
 
-    module _ (x : Intersection V D U F) (step : GivesNext at number it (Some x) after) where
-      -- the text of a line by its first item and the others
-      by_first : (X : List ℕ → Type 0)
-          → ((others : List Item) → AreLeft at number after others
-          → X (item_text (item_in x) ++ (flat_map next_text others ++ codes "\n")))
-          → (items : List Item) → AreLeft at number it items → X (line_text items)
-      by_first X all items left = let s = (step.gives items left).1 in
-          subst (λ (ys : List Item). X (line_text ys)) (sym s.1)
-          (subst X (sym (append_assoc (item_text (item_in x)) (flat_map next_text s.0) (codes "\n"))) (all s.0 s.2))
+    module _ (a b c : Option (List ℕ)) (held mid : List ℕ) where
+      -- where the writer fails at the first item, a beginning of the line was put
+      pub line_first_fails : AppendsPart a b (held ++ item_text (item_in x)) → (items : List Item)
+          → AreLeft at number it items → AppendsPart a b (held ++ line_text items)
+      line_first_fails part = by_first (λ t. AppendsPart a b (held ++ t))
+          (λ others left. first_fails a b c held mid (item_text (item_in x))
+          (flat_map next_text others)
+          (codes "\n") part)
 
-      module _ (a b c : Option (List ℕ)) (held mid : List ℕ) where
-        -- where the writer fails at the first item, a beginning of the line was put
-        pub line_first_fails : AppendsPart a b (held ++ item_text (item_in x)) → (items : List Item)
-            → AreLeft at number it items → AppendsPart a b (held ++ line_text items)
-        line_first_fails part = by_first (λ t. AppendsPart a b (held ++ t))
-            (λ others left. first_fails a b c held mid (item_text (item_in x)) (flat_map next_text others)
-            (codes "\n") part)
+      -- so it was where the first item was passed on and the writer fails at the others
+      pub line_others_fail : Passes a b held mid (item_text (item_in x)) → ((others : List Item)
+          → AreLeft at number after others → AppendsPart b c (mid ++ flat_map next_text others))
+          → (items : List Item) → AreLeft at number it items
+          → AppendsPart a c (held ++ line_text items)
+      line_others_fail first part =
+          by_first (λ t. AppendsPart a c (held ++ t))
+          (λ others left. second_fails a b c held mid (item_text (item_in x))
+          (flat_map next_text others)
+          (codes "\n") first (part others left))
 
-        -- so it was where the first item was passed on and the writer fails at the others
-        pub line_others_fail : Passes a b held mid (item_text (item_in x))
-            → ((others : List Item) → AreLeft at number after others →
-            AppendsPart b c (mid ++ flat_map next_text others))
-            → (items : List Item) → AreLeft at number it items → AppendsPart a c (held ++ line_text items)
-        line_others_fail first part =
-            by_first (λ t. AppendsPart a c (held ++ t))
-            (λ others left. second_fails a b c held mid (item_text (item_in x)) (flat_map next_text others)
-            (codes "\n") first (part others left))
+    module _ (a b c d : Option (List ℕ)) (held mid then : List ℕ)
+        (first : Passes a b held mid (item_text (item_in x)))
+        (rest : (others : List Item) → AreLeft at number after others
+        → Passes b c mid then (flat_map next_text others))
+      where
+        -- so it was where all items were passed on and the writer fails at the end of the line
+        pub line_end_fails : AppendsPart c d (then ++ codes "\n") → (items : List Item)
+            → AreLeft at number it items → AppendsPart a d (held ++ line_text items)
+        line_end_fails part = by_first (λ t. AppendsPart a d (held ++ t))
+            (λ others left. third_fails a b c d held mid then (item_text (item_in x))
+            (flat_map next_text others)
+            (codes "\n") first (rest others left) part)
 
-      module _ (a b c d : Option (List ℕ)) (held mid then : List ℕ)
-          (first : Passes a b held mid (item_text (item_in x)))
-          (rest : (others : List Item) → AreLeft at number after others
-          → Passes b c mid then (flat_map next_text others))
-        where
-          -- so it was where all items were passed on and the writer fails at the end of the line
-          pub line_end_fails : AppendsPart c d (then ++ codes "\n") → (items : List Item) → AreLeft at number it items
-              → AppendsPart a d (held ++ line_text items)
-          line_end_fails part = by_first (λ t. AppendsPart a d (held ++ t))
-              (λ others left. third_fails a b c d held mid then (item_text (item_in x)) (flat_map next_text others)
-              (codes "\n") first (rest others left) part)
-
-          -- where the end of the line is passed on, the line is
-          pub line_passed : (kept : List ℕ) → Passes c d then kept (codes "\n") → (items : List Item)
-              → AreLeft at number it items → Passes a d held kept (line_text items)
-          line_passed kept end = by_first (λ t. Passes a d held kept t)
-              (λ others left. all_passed a b c d held mid then (item_text (item_in x)) (flat_map next_text others)
-              (codes "\n") first (rest others left) kept end)
+        -- where the end of the line is passed on, the line is
+        pub line_passed : (kept : List ℕ) → Passes c d then kept (codes "\n")
+            → (items : List Item) → AreLeft at number it items
+            → Passes a d held kept (line_text items)
+        line_passed kept end = by_first (λ t. Passes a d held kept t)
+            (λ others left. all_passed a b c d held mid then (item_text (item_in x))
+            (flat_map next_text others)
+            (codes "\n") first (rest others left) kept end)

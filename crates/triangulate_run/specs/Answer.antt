@@ -1,19 +1,25 @@
 -- Which reply a command may get, and what it makes of the stage.
-use Rattle.std.specs.Prelude.{◌≡◌, ◌≢◌, ◌⊎◌, ◌↔◌, ℕ, ◌<◌, ◌+◌, ◌*◌, ℤ, List, [], ◌∷◌, Some, length, slice_get, All, AllPairs, Contains, ⊤}
+use Rattle.std.specs.Prelude.{◌≡◌, ◌≢◌, ◌⊎◌, ◌↔◌, ◌<◌, ◌+◌, ◌*◌, [], ◌∷◌}
+use Rattle.std.specs.Prelude.{ℕ, ℤ, List, Some, length, slice_get, All, AllPairs, Contains, ⊤}
 use Rattle.plane.specs.Fraction.{Point, whole}
 use Rattle.plane.specs.Line.{Item, IsLineList}
 use Rattle.plane.specs.Pairs.{Joins, SamePairs, EachPairOnce}
-use Rattle.plane.specs.Plain.{Replaces, Appends, Removes, Adds, CanAdd, Releases, AreNeighboursOn, DifferInPosition, points_of}
+use Rattle.plane.specs.Plain.{Replaces, Appends, Removes, Adds, CanAdd, Releases, AreNeighboursOn}
+use Rattle.plane.specs.Plain.{DifferInPosition, points_of}
 use Rattle.plane.specs.Tests.{InRange}
 use Rattle.plane.specs.Circle.{gap}
 use Rattle.plane.specs.Shape.{IsNearest}
 use Rattle.plane.specs.Tiling.{Triangulation, IsEdge, IsFace, IsVertex, vertex}
-use Rattle.plane.specs.Location.{IsLocation, on_vertex, on_edge, on_face, outside_hull, no_triangulation}
+use Rattle.plane.specs.Location.{IsLocation, on_vertex, on_edge, on_face, outside_hull}
+use Rattle.plane.specs.Location.{no_triangulation}
 use Rattle.delaunay_core.specs.declared.point.Point2.{Point2}
-use Rattle.delaunay_core.specs.declared.math.InsertionError.TheVariants.{TooLarge, OutOfMemory, OutOfIndexes}
+use Rattle.delaunay_core.specs.declared.math.InsertionError.TheVariants.{TooLarge, OutOfMemory}
+use Rattle.delaunay_core.specs.declared.math.InsertionError.TheVariants.{OutOfIndexes}
 use Rattle.command_grammar.specs.declared.command.Coordinates.{Coordinates}
 use Rattle.command_grammar.specs.declared.command.Command.{Command}
-use Rattle.command_grammar.specs.declared.command.Command.TheVariants.{Insert, Remove, Constrain, Release, Locate, Nearest, Line, Counts, Faces}
+use Rattle.command_grammar.specs.declared.command.Command.TheVariants.{Insert, Remove, Constrain}
+use Rattle.command_grammar.specs.declared.command.Command.TheVariants.{Release, Locate, Nearest}
+use Rattle.command_grammar.specs.declared.command.Command.TheVariants.{Line, Counts, Faces}
 use Rattle.triangulate_run.specs.declared.points.SheetPoint.{SheetPoint}
 use Rattle.triangulate_run.specs.declared.corners.Corners.{Corners}
 use Rattle.triangulate_run.specs.declared.reply.Reply.{Reply}
@@ -42,26 +48,33 @@ abbrev IsFull : Stage → Type 0
 IsFull s = most_elements < 6 * (length s.plain.vertices + 1)
 
 -- p is a new site, and takes the next index
-pub record AddsVertex (points : List SheetPoint) (old : Stage) (p : Point2 ℤ) (i : ℕ) (new : Stage) : Type 0 where
+pub record AddsVertex (points : List SheetPoint) (old : Stage) (p : Point2 ℤ) (i : ℕ)
+    (new : Stage) : Type 0 where
   pub new_site : IsNewSite points old p
   pub room : ¬ IsFull old
   pub index : i ≡ length old.plain.vertices
   pub appended : Appends position old.plain new.plain p
 
 -- p is where vertex i is; faces and edges stay
-pub record KeepsVertex (points : List SheetPoint) (old : Stage) (p : Point2 ℤ) (i : ℕ) (new : Stage) : Type 0 where
+pub record KeepsVertex (points : List SheetPoint) (old : Stage) (p : Point2 ℤ) (i : ℕ)
+    (new : Stage) : Type 0 where
   pub in_range : InRange (position p)
   pub site : IsListedSite points (position p)
   pub replaced : Replaces position old.plain new.plain i p
   pub same : new.triangulation ≡ old.triangulation
 
--- what an insertion at p may be answered, and what it leaves: a vertex there, or the old stage and why
+-- what an insertion at p may be answered, and what it leaves: a vertex there, or the old stage and
+-- why
 abbrev pub MayInsert : List SheetPoint → Stage → Point2 ℤ → Reply → Stage → Type 0
-MayInsert points old p (reply.Vertex i) new = KeepsVertex points old p i new ⊎ AddsVertex points old p i new
+MayInsert points old p (reply.Vertex i) new =
+    KeepsVertex points old p i new ⊎ AddsVertex points old p i new
 MayInsert points old p (reply.Refused TooLarge) new = (¬ InRange (position p)) × (new ≡ old)
-MayInsert points old p reply.UnknownPoint new = InRange (position p) × (¬ IsListedSite points (position p)) × (new ≡ old)
-MayInsert points old p (reply.Refused OutOfIndexes) new = IsNewSite points old p × IsFull old × (new ≡ old)
-MayInsert points old p (reply.Refused OutOfMemory) new = IsNewSite points old p × (¬ IsFull old) × (new ≡ old)
+MayInsert points old p reply.UnknownPoint new =
+    InRange (position p) × (¬ IsListedSite points (position p)) × (new ≡ old)
+MayInsert points old p (reply.Refused OutOfIndexes) new =
+    IsNewSite points old p × IsFull old × (new ≡ old)
+MayInsert points old p (reply.Refused OutOfMemory) new =
+    IsNewSite points old p × (¬ IsFull old) × (new ≡ old)
 MayInsert points old p _ new = ⊥
 
 -- vertex i goes, which is p, and the last vertex takes its index
@@ -90,7 +103,8 @@ pub record IsFaceFromLeast (t : Triangulation) (c : Corners) : Type 0 where
 abbrev pub IsThere : Triangulation → Point → Reply → Type 0
 IsThere t p (reply.Vertex i) = IsLocation t (whole p) (on_vertex i)
 IsThere t p (reply.Edge i j) = IsLocation t (whole p) (on_edge i j) × (i < j)
-IsThere t p (reply.Face c) = IsLocation t (whole p) (on_face c.first c.second c.third) × IsFaceFromLeast t c
+IsThere t p (reply.Face c) =
+    IsLocation t (whole p) (on_face c.first c.second c.third) × IsFaceFromLeast t c
 IsThere t p reply.Outside = (i : ℕ) × (j : ℕ) × IsLocation t (whole p) (outside_hull i j)
 IsThere t p reply.NoTriangulation = IsLocation t (whole p) no_triangulation
 IsThere t p _ = ⊥
@@ -151,7 +165,8 @@ AreVertices s i j = HasVertex s i × HasVertex s j
 abbrev HasNoPath : Stage → ℕ → ℕ → Type 0
 HasNoPath s i j = (i ≡ j) ⊎ (¬ CanAdd position s.plain i j)
 
--- why two vertices are not joined. Where there is nothing to join, memory may be refused for the first constraint alone
+-- why two vertices are not joined. Where there is nothing to join, memory may be refused for the
+-- first constraint alone
 abbrev pub MayRefuse : Stage → ℕ → ℕ → Reply → Stage → Type 0
 MayRefuse old i j reply.NoVertex new = (¬ AreVertices old i j) × (new ≡ old)
 MayRefuse old i j reply.NoPath new = AreVertices old i j × HasNoPath old i j × (new ≡ old)
@@ -159,28 +174,35 @@ MayRefuse old i j (reply.Refused OutOfMemory) new =
     AreVertices old i j × ((old.plain.constraints ≡ []) ⊎ (¬ HasNoPath old i j)) × (new ≡ old)
 MayRefuse old i j _ new = ⊥
 
--- from i to j by these pairs, each of two vertices next to one another on what is left of the segment
+-- from i to j by these pairs, each of two vertices next to one another on what is left of the
+-- segment
 abbrev pub LeadsTo : List Point → ℕ → ℕ → List (ℕ × ℕ) → Type 0
 LeadsTo points i j [] = i ≡ j
-LeadsTo points i j (p ∷ path) = (p.0 ≡ i) × AreNeighboursOn position points i j i p.1 × LeadsTo points p.1 j path
+LeadsTo points i j (p ∷ path) =
+    (p.0 ≡ i) × AreNeighboursOn position points i j i p.1 × LeadsTo points p.1 j path
 
--- the vertices on the segment of i and j are joined, each to the next, and these pairs lead from i to j
+-- the vertices on the segment of i and j are joined, each to the next, and these pairs lead from i
+-- to j
 pub record AddsPath (old : Stage) (i j : ℕ) (path : List (ℕ × ℕ)) (new : Stage) : Type 0 where
   pub apart : i ≢ j
   pub adds : Adds position old.plain new.plain i j
   pub leads : LeadsTo (points_of position old.plain) i j path
 
--- what a constraint of i and j may be answered, and what it leaves: a path, or the old stage and why
+-- what a constraint of i and j may be answered, and what it leaves: a path, or the old stage and
+-- why
 abbrev pub MayJoin : Stage → ℕ → ℕ → List ℕ → Stage → Type 0
 MayJoin old i j text new =
     ((path : List (ℕ × ℕ)) × AddsPath old i j path new × (text ≡ path_text path))
     ⊎ ((reply : Reply) × MayRefuse old i j reply new × (text ≡ reply_text reply))
 
--- what a release of i and j may be answered, and what it leaves: it released, or the old stage and why
+-- what a release of i and j may be answered, and what it leaves: it released, or the old stage and
+-- why
 abbrev pub MayRelease : Stage → ℕ → ℕ → Reply → Stage → Type 0
 MayRelease old i j reply.NoVertex new = (¬ AreVertices old i j) × (new ≡ old)
-MayRelease old i j reply.NoEdge new = AreVertices old i j × (¬ IsEdge old.triangulation i j) × (new ≡ old)
-MayRelease old i j reply.NotConstrained new = IsEdge old.triangulation i j × (¬ Joins old.plain.constraints i j)
+MayRelease old i j reply.NoEdge new =
+    AreVertices old i j × (¬ IsEdge old.triangulation i j) × (new ≡ old)
+MayRelease old i j reply.NotConstrained new =
+    IsEdge old.triangulation i j × (¬ Joins old.plain.constraints i j)
     × (new ≡ old)
 MayRelease old i j reply.Released new = Releases position old.plain new.plain i j
 MayRelease old i j (reply.Refused OutOfMemory) new = Joins old.plain.constraints i j × (new ≡ old)
@@ -189,17 +211,21 @@ MayRelease old i j _ new = ⊥
 -- what the way from p to q meets, if both are in the list
 abbrev pub MayWalk : List SheetPoint → Triangulation → Point → Point → List ℕ → Type 0
 MayWalk points t p q text =
-    ((items : List Item) × IsListed points p × IsListed points q × IsLineList t (whole p) (whole q) items
+    ((items : List Item) × IsListed points p × IsListed points q
+    × IsLineList t (whole p) (whole q) items
     × (text ≡ line_text items))
     ⊎ ((¬ (IsListed points p × IsListed points q)) × (text ≡ reply_text reply.UnknownPoint))
 
--- the command may get the reply where old stood, and leave new. The others don't get their answers so
+-- the command may get the reply where old stood, and leave new. The others don't get their answers
+-- so
 abbrev pub MayReply : List SheetPoint → Stage → Command → Reply → Stage → Type 0
 MayReply points old (Insert c) r new = MayInsert points old (point_at c) r new
 MayReply points old (Remove i) r new = MayRemove old i r new
 MayReply points old (Release i j) r new = MayRelease old i j r new
-MayReply points old (Locate c) r new = MayLocate points old.triangulation (position (point_at c)) r × (new ≡ old)
-MayReply points old (Nearest c) r new = MayMeasure points old.triangulation (position (point_at c)) r × (new ≡ old)
+MayReply points old (Locate c) r new =
+    MayLocate points old.triangulation (position (point_at c)) r × (new ≡ old)
+MayReply points old (Nearest c) r new =
+    MayMeasure points old.triangulation (position (point_at c)) r × (new ≡ old)
 MayReply points old Counts r new = MayCount old r × (new ≡ old)
 MayReply points old Faces r new = MayList old.triangulation r × (new ≡ old)
 MayReply points old (Constrain i j) r new = ⊥
@@ -215,6 +241,7 @@ IsReplied command = ⊤
 abbrev pub MayAnswer : List SheetPoint → Stage → Command → List ℕ → Stage → Type 0
 MayAnswer points old (Constrain i j) text new = MayJoin old i j text new
 MayAnswer points old (Line c d) text new =
-    MayWalk points old.triangulation (position (point_at c)) (position (point_at d)) text × (new ≡ old)
+    MayWalk points old.triangulation (position (point_at c)) (position (point_at d)) text
+    × (new ≡ old)
 MayAnswer points old command text new =
     (reply : Reply) × MayReply points old command reply new × (text ≡ reply_text reply)

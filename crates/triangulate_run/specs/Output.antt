@@ -12,10 +12,13 @@ pub record AppendsPart (old new : Option (List ℕ)) (text : List ℕ) : Type 0 
   pub written : Appends old new part
 
 -- a call wrote the text, or the writer failed, and a beginning of the text was written
-abbrev pub Writes : {W T E : Type 0} → (W → Option (List ℕ)) → Watched W → Watched W → Result T E → List ℕ → Type 0
+abbrev pub Writes : {W T E : Type 0} → (W → Option (List ℕ)) → Watched W → Watched W → Result T E
+    → List ℕ → Type 0
 Writes contents old new result text = MatchResult result
-    (λ _. Appends (contents (inner_of old)) (contents (inner_of new)) text × (has_failed new ≡ false))
-    (λ _. AppendsPart (contents (inner_of old)) (contents (inner_of new)) text × (has_failed new ≡ true))
+    (λ _. Appends (contents (inner_of old)) (contents (inner_of new)) text
+    × (has_failed new ≡ false))
+    (λ _. AppendsPart (contents (inner_of old)) (contents (inner_of new)) text
+    × (has_failed new ≡ true))
 
 -- the text was put behind what was held, and what is not held any more was written
 pub record Passes (old new : Option (List ℕ)) (held kept text : List ℕ) : Type 0 where
@@ -23,8 +26,12 @@ pub record Passes (old new : Option (List ℕ)) (held kept text : List ℕ) : Ty
   pub whole : held ++ text ≡ part ++ kept
   pub written : Appends old new part
 
--- a call put the text behind what was held, or the writer failed, and a beginning of both was written
-abbrev pub Puts : {W T E : Type 0} → (W → Option (List ℕ)) → Watched W → Watched W → List ℕ → List ℕ → Result T E → List ℕ → Type 0
+-- a call put the text behind what was held, or the writer failed, and a beginning of both was
+-- written
+abbrev pub Puts : {W T E : Type 0} → (W → Option (List ℕ)) → Watched W → Watched W → List ℕ → List ℕ
+    → Result T E → List ℕ → Type 0
 Puts contents old new held kept result text = MatchResult result
-    (λ _. Passes (contents (inner_of old)) (contents (inner_of new)) held kept text × (has_failed new ≡ false))
-    (λ _. AppendsPart (contents (inner_of old)) (contents (inner_of new)) (held ++ text) × (has_failed new ≡ true))
+    (λ _. Passes (contents (inner_of old)) (contents (inner_of new)) held kept text
+    × (has_failed new ≡ false))
+    (λ _. AppendsPart (contents (inner_of old)) (contents (inner_of new)) (held ++ text)
+    × (has_failed new ≡ true))

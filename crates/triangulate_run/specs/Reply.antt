@@ -4,7 +4,8 @@ use Rattle.std.specs.Fmt.{signed_decimal}
 use Rattle.std.specs.List.{flat_map}
 use Rattle.plane.specs.Line.{Item, at_vertex, across, along}
 use Rattle.delaunay_core.specs.declared.math.InsertionError.{InsertionError}
-use Rattle.delaunay_core.specs.declared.math.InsertionError.TheVariants.{TooLarge, OutOfMemory, OutOfIndexes}
+use Rattle.delaunay_core.specs.declared.math.InsertionError.TheVariants.{TooLarge, OutOfMemory}
+use Rattle.delaunay_core.specs.declared.math.InsertionError.TheVariants.{OutOfIndexes}
 use Rattle.triangulate_run.specs.declared.corners.Corners.{Corners}
 use Rattle.triangulate_run.specs.declared.reply.Reply.{Reply}
 use Rattle.triangulate_run.specs.declared.reply.Reply.TheVariants as reply
@@ -17,7 +18,8 @@ name_of OutOfIndexes = codes "OutOfIndexes"
 
 -- three corners with spaces between them and a line's end behind
 abbrev pub corners_text : Corners → List ℕ
-corners_text c = decimal c.first ++ codes " " ++ decimal c.second ++ codes " " ++ decimal c.third ++ codes "\n"
+corners_text c = decimal c.first ++ codes " " ++ decimal c.second ++ codes " "
+    ++ decimal c.third ++ codes "\n"
 
 -- the text of a reply, each of its lines with its end
 abbrev pub reply_text : Reply → List ℕ
@@ -31,13 +33,15 @@ reply_text reply.Outside = codes "outside\n"
 reply_text reply.NoTriangulation = codes "no triangulation\n"
 reply_text (reply.Distance d) = codes "distance " ++ signed_decimal d ++ codes "\n"
 reply_text reply.NoNeighbor = codes "none\n"
-reply_text (reply.Removed x y) = codes "removed " ++ signed_decimal x ++ codes " " ++ signed_decimal y ++ codes "\n"
+reply_text (reply.Removed x y) =
+    codes "removed " ++ signed_decimal x ++ codes " " ++ signed_decimal y ++ codes "\n"
 reply_text reply.NoVertex = codes "no vertex\n"
 reply_text reply.Released = codes "released\n"
 reply_text reply.NotConstrained = codes "not constrained\n"
 reply_text reply.NoEdge = codes "no edge\n"
 reply_text reply.NoPath = codes "none\n"
-reply_text (reply.Counts v e f c) = decimal v ++ codes " " ++ decimal e ++ codes " " ++ decimal f ++ codes " " ++ decimal c ++ codes "\n"
+reply_text (reply.Counts v e f c) = decimal v ++ codes " " ++ decimal e ++ codes " " ++ decimal f
+    ++ codes " " ++ decimal c ++ codes "\n"
 reply_text (reply.Faces faces) = flat_map corners_text faces.items ++ codes "end\n"
 
 -- the edges of a path, by the ends of each

@@ -1,5 +1,6 @@
 -- What a run reads and writes.
-use Rattle.std.specs.Prelude.{◌≡◌, ◌≢◌, ℕ, ◌⊎◌, true, false, List, [], ◌∷◌, ◌++◌, codes, Option, Result, Ok, Err, All}
+use Rattle.std.specs.Prelude.{◌≡◌, ◌≢◌, ◌⊎◌, [], ◌∷◌, ◌++◌}
+use Rattle.std.specs.Prelude.{ℕ, true, false, List, codes, Option, Result, Ok, Err, All}
 use Rattle.std.specs.List.{flat_map}
 use Rattle.std.specs.Io.KnownBytes.{Consumes, Appends, IsAtEnd}
 use Rattle.watched.specs.declared.Watched.{Watched}
@@ -29,7 +30,8 @@ pub record Cut (input : List ℕ) (lines : List (List ℕ)) (rest : List ℕ) : 
 
 -- there is at most one way to cut an input into lines and a rest
 abbrev pub IsCutInOneWay : Type 0
-IsCutInOneWay = (input : List ℕ) (lines others : List (List ℕ)) (rest end : List ℕ) → Cut input lines rest → Cut input others end → (lines ≡ others) × (rest ≡ end)
+IsCutInOneWay = (input : List ℕ) (lines others : List (List ℕ)) (rest end : List ℕ)
+    → Cut input lines rest → Cut input others end → (lines ≡ others) × (rest ≡ end)
 
 -- what is written at the end of the input, with what stands behind the last byte 10
 abbrev pub end_text : List ℕ → List ℕ
@@ -47,7 +49,8 @@ module _ (points : List SheetPoint) where
   abbrev pub AnswersAll : Stage → List (List ℕ) → List ℕ → Stage → Type 0
   AnswersAll old [] text new = (text ≡ []) × (new ≡ old)
   AnswersAll old (line ∷ lines) text new = (first : List ℕ) × (others : List ℕ) × (mid : Stage)
-      × (text ≡ first ++ others) × Answers old line first mid × Fits mid × AnswersAll mid lines others new
+      × (text ≡ first ++ others) × Answers old line first mid × Fits mid
+      × AnswersAll mid lines others new
 
   -- the text is allowed for the complete lines of the input
   pub record IsAllowedSoFar (input text : List ℕ) : Type 0 where
@@ -68,7 +71,8 @@ module _ (points : List SheetPoint) where
     pub whole : text ≡ before ++ end_text rest
 
 -- the whole input was read, and answered
-pub record RanToEnd {R W : Type 0} (points : List SheetPoint) (remaining : R → Option (List ℕ)) (contents : W → Option (List ℕ)) (r0 r1 : Watched R) (w0 w1 : Watched W) : Type 0 where
+pub record RanToEnd {R W : Type 0} (points : List SheetPoint) (remaining : R → Option (List ℕ))
+    (contents : W → Option (List ℕ)) (r0 r1 : Watched R) (w0 w1 : Watched W) : Type 0 where
   pub input : List ℕ
   pub text : List ℕ
   pub read : Consumes (remaining (inner_of r0)) (remaining (inner_of r1)) input
@@ -79,7 +83,8 @@ pub record RanToEnd {R W : Type 0} (points : List SheetPoint) (remaining : R →
   pub writer_works : has_failed w1 ≡ false
 
 -- the reader failed, and each complete line was answered
-pub record RanToFault {R W : Type 0} (points : List SheetPoint) (remaining : R → Option (List ℕ)) (contents : W → Option (List ℕ)) (r0 r1 : Watched R) (w0 w1 : Watched W) : Type 0 where
+pub record RanToFault {R W : Type 0} (points : List SheetPoint) (remaining : R → Option (List ℕ))
+    (contents : W → Option (List ℕ)) (r0 r1 : Watched R) (w0 w1 : Watched W) : Type 0 where
   pub input : List ℕ
   pub text : List ℕ
   pub read : Consumes (remaining (inner_of r0)) (remaining (inner_of r1)) input
@@ -89,7 +94,8 @@ pub record RanToFault {R W : Type 0} (points : List SheetPoint) (remaining : R �
   pub writer_works : has_failed w1 ≡ false
 
 -- the writer failed within the answers to what was read
-pub record RanInPart {R W : Type 0} (points : List SheetPoint) (remaining : R → Option (List ℕ)) (contents : W → Option (List ℕ)) (r0 r1 : Watched R) (w0 w1 : Watched W) : Type 0 where
+pub record RanInPart {R W : Type 0} (points : List SheetPoint) (remaining : R → Option (List ℕ))
+    (contents : W → Option (List ℕ)) (r0 r1 : Watched R) (w0 w1 : Watched W) : Type 0 where
   pub input : List ℕ
   pub text : List ℕ
   pub read : Consumes (remaining (inner_of r0)) (remaining (inner_of r1)) input
@@ -99,7 +105,10 @@ pub record RanInPart {R W : Type 0} (points : List SheetPoint) (remaining : R �
   pub writer_failed : has_failed w1 ≡ true
 
 -- what a run that ended so has read and written
-abbrev pub Ran : {R W T : Type 0} → List SheetPoint → (R → Option (List ℕ)) → (W → Option (List ℕ)) → Watched R → Watched R → Watched W → Watched W → Result T RunError → Type 0
+abbrev pub Ran : {R W T : Type 0} → List SheetPoint → (R → Option (List ℕ)) → (W → Option (List ℕ))
+    → Watched R → Watched R → Watched W → Watched W → Result T RunError → Type 0
 Ran points remaining contents r0 r1 w0 w1 (Ok x) = RanToEnd points remaining contents r0 r1 w0 w1
-Ran points remaining contents r0 r1 w0 w1 (Err Read) = RanToFault points remaining contents r0 r1 w0 w1
-Ran points remaining contents r0 r1 w0 w1 (Err Write) = RanInPart points remaining contents r0 r1 w0 w1
+Ran points remaining contents r0 r1 w0 w1 (Err Read) =
+    RanToFault points remaining contents r0 r1 w0 w1
+Ran points remaining contents r0 r1 w0 w1 (Err Write) =
+    RanInPart points remaining contents r0 r1 w0 w1

@@ -18,12 +18,16 @@ pub record Stage : Type 0 where
 
 -- before the first line
 abbrev pub first_stage : Stage
-first_stage = record { plain = record { vertices = []; constraints = [] }; triangulation = record { points = []; faces = []; edges = [] } }
+first_stage = record {
+  plain = record { vertices = []; constraints = [] };
+  triangulation = record { points = []; faces = []; edges = [] };
+}
 
--- the triangulation is a constrained Delaunay one of these vertices and constraints, and without constraints each strictly
--- empty triple is a face of it
+-- the triangulation is a constrained Delaunay one of these vertices and constraints, and without
+-- constraints each strictly empty triple is a face of it
 pub record Fits (s : Stage) : Type 0 where
   pub is_plain : IsPlain position s.plain
   pub points : s.triangulation.points ≡ map position s.plain.vertices
   pub delaunay : IsConstrainedDelaunay s.triangulation s.plain.constraints
-  pub empty_triples : s.plain.constraints ≡ [] → (i j k : ℕ) → IsStrictlyEmpty s.triangulation i j k → IsFace s.triangulation i j k
+  pub empty_triples : s.plain.constraints ≡ [] → (i j k : ℕ) → IsStrictlyEmpty s.triangulation i j k
+      → IsFace s.triangulation i j k

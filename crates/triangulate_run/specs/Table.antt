@@ -1,4 +1,5 @@
--- What a table says, by the indexes of points: a listed triple turns left, its rotations too, their three other orders turn right, and the rest is on.
+-- What a table says, by the indexes of points: a listed triple turns left, its rotations too, their
+-- three other orders turn right, and the rest is on.
 use Rattle.std.specs.Prelude.{ℕ, ◌==◌, Bool, false, ◌&&◌, ◌||◌, if◌then◌else◌, List, get_or}
 use Rattle.std.specs.List.{list_any}
 use Rattle.plane.specs.Side.{Side, left, right, on}
@@ -22,8 +23,10 @@ is_left_in circles i j k = list_any (λ c. lists c.triples i j k) circles
 
 -- the side that the table tells of i, j, k: left, right, or on the line
 abbrev pub side_in : List Circle → ℕ → ℕ → ℕ → Side
-side_in circles i j k = if is_left_in circles i j k then left else (if is_left_in circles i k j then right else on)
+side_in circles i j k =
+    if is_left_in circles i j k then left else (if is_left_in circles i k j then right else on)
 
 -- l is inside the circle of the listed triple i j k
 abbrev pub is_inside_in : List Circle → ℕ → ℕ → ℕ → ℕ → Bool
-is_inside_in circles i j k l = list_any (λ c. lists c.triples i j k && get_or c.inside l false) circles
+is_inside_in circles i j k l =
+    list_any (λ c. lists c.triples i j k && get_or c.inside l false) circles

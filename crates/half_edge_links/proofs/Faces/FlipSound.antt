@@ -1,13 +1,16 @@
 -- Turning an edge keeps a mesh sound.
-use Rattle.std.proofs.Common.{◌≡◌, ◌≢◌, ◌⊎◌, ℕ, ◌<◌, length, Some, refl, sym, ap, ◌∙◌, inl, inr, arith}
+use Rattle.std.proofs.Common.{◌≡◌, ◌≢◌, ◌⊎◌, ◌<◌, ◌∙◌}
+use Rattle.std.proofs.Common.{ℕ, length, Some, refl, sym, ap, inl, inr, arith}
 use Rattle.std.proofs.lemmas.Bool.{cases_eq}
 use Rattle.half_edge_links.proofs.Lists.Cases.{◌or_else◌}
 use Rattle.half_edge_links.specs.declared.records.HalfEdge.{HalfEdge}
-use Rattle.half_edge_links.specs.Mesh.{Mesh, edge_at, origin, next, prev, face, face_edge, out_edge, rev, AreSoundLinks, IsSoundEdge}
+use Rattle.half_edge_links.specs.Mesh.{Mesh, edge_at, origin, next, prev, face, face_edge, out_edge}
+use Rattle.half_edge_links.specs.Mesh.{rev, AreSoundLinks, IsSoundEdge}
 use Rattle.half_edge_links.specs.Flip.{IsFlippable, Flips}
 use Rattle.half_edge_links.proofs.Lists.Rev.{rev-rev}
 use Rattle.half_edge_links.specs.Places.{AreSixPlaces}
-use Rattle.half_edge_links.proofs.Sound.Parts.{sound_kept, loop_sound, KeepsBusy, KeepsOutEdges, NamesFaces, NamesOutEdges, NamesOuterEdge}
+use Rattle.half_edge_links.proofs.Sound.Parts.{sound_kept, loop_sound, KeepsBusy, KeepsOutEdges}
+use Rattle.half_edge_links.proofs.Sound.Parts.{NamesFaces, NamesOutEdges, NamesOuterEdge}
 use Rattle.half_edge_links.proofs.Sound.Triangles.{IsTriangle, triangle_at, same_loop, six_round}
 
 -- an edge is none of the six round e
@@ -19,9 +22,11 @@ pub record IsAway (m : Mesh) (e h : ℕ) : Type 0 where
   pub edge_prev : h ≢ prev m e
   pub twin_prev : h ≢ prev m (rev e)
 
-module _ (m new : Mesh) (e : ℕ) (s : AreSoundLinks m) (can : IsFlippable m e) (f : Flips m new e) where
+module _ (m new : Mesh) (e : ℕ) (s : AreSoundLinks m) (can : IsFlippable m e)
+    (f : Flips m new e) where
   -- the edges of the two faces beside e are six different ones of the mesh
-  pub six : AreSixPlaces (length m.half_edges) e (rev e) (next m e) (next m (rev e)) (prev m e) (prev m (rev e))
+  pub six : AreSixPlaces (length m.half_edges) e (rev e) (next m e) (next m (rev e)) (prev m e)
+      (prev m (rev e))
   six = six_round m e s can
 
   -- the face on the left of e is a loop of three edges
@@ -46,7 +51,8 @@ module _ (m new : Mesh) (e : ℕ) (s : AreSoundLinks m) (can : IsFlippable m e) 
         twin_prev = λ same. b (cc);
       }
 
-  away_face : (h : ℕ) → h < length m.half_edges → IsAway m e h → (face m h ≢ face m e) × (face m h ≢ face m (rev e))
+  away_face : (h : ℕ) → h < length m.half_edges → IsAway m e h
+      → (face m h ≢ face m e) × (face m h ≢ face m (rev e))
   away_face h within a = (
     λ same. elim (same_loop m e h s can.within within can.inner same) [
       | inl x ↦ a.edge x
@@ -80,16 +86,20 @@ module _ (m new : Mesh) (e : ℕ) (s : AreSoundLinks m) (can : IsFlippable m e) 
   -- any edge but the two sides of e starts where it did
   pub origin_kept : (h : ℕ) → h ≢ e → h ≢ rev e → origin new h ≡ origin m h
   origin_kept h a b =
-      elim (cases_eq h (next m e) or_else cases_eq h (next m (rev e)) or_else cases_eq h (prev m e) or_else cases_eq h (prev m (rev e))) [
+      elim (cases_eq h (next m e) or_else cases_eq h (next m (rev e)) or_else cases_eq h
+      (prev m e) or_else cases_eq h (prev m (rev e))) [
         | inl same ↦ cc (f.edge_next.origin)
         | inr (c, inl same) ↦ cc (f.twin_next.origin)
         | inr (c, inr (d, inl same)) ↦ cc (f.edge_prev.origin)
         | inr (c, inr (d, inr (x, inl same))) ↦ cc (f.twin_prev.origin)
-        | inr (c, inr (d, inr (x, inr y))) ↦ ap (λ (i : HalfEdge). i.origin) (f.other_edges h a b c d x y)
+        | inr (c, inr (d, inr (x, inr y))) ↦
+            ap (λ (i : HalfEdge). i.origin) (f.other_edges h a b c d x y)
       ]
 
   -- what a vertex names afterwards
-  outs : (v : ℕ) → ((v ≢ origin m e) × (v ≢ origin m (rev e)) × (out_edge new v ≡ out_edge m v)) ⊎ (((v ≡ origin m e) × (out_edge new v ≡ Some (next m (rev e)))) ⊎ ((v ≡ origin m (rev e)) × (out_edge new v ≡ Some (next m e))))
+  outs : (v : ℕ) → ((v ≢ origin m e) × (v ≢ origin m (rev e)) × (out_edge new v ≡ out_edge m v))
+      ⊎ (((v ≡ origin m e) × (out_edge new v ≡ Some (next m (rev e))))
+      ⊎ ((v ≡ origin m (rev e)) × (out_edge new v ≡ Some (next m e))))
   outs v =
       elim (cases_eq v (origin m (rev e)) or_else cases_eq v (origin m e)) [
         | inl same ↦ inr (inr (same, cc f.twin_origin_out))
@@ -111,8 +121,10 @@ module _ (m new : Mesh) (e : ℕ) (s : AreSoundLinks m) (can : IsFlippable m e) 
         edge = kept h a;
         at_next = kept (next m h) (next_away h within a);
         at_prev = kept (prev m h) (prev_away h within a);
-        at_rev = origin_kept (rev h) (λ same. a.twin (sym (rev-rev h) ∙ ap rev same)) (λ same. a.edge (sym (rev-rev h) ∙ ap rev same ∙ rev-rev e));
-        named = λ some. let differ = away_face h within a in f.other_faces (face m h) some differ.0 differ.1;
+        at_rev = origin_kept (rev h) (λ same. a.twin (sym (rev-rev h) ∙ ap rev same))
+            (λ same. a.edge (sym (rev-rev h) ∙ ap rev same ∙ rev-rev e));
+        named = λ some. let differ = away_face h within a in
+            f.other_faces (face m h) some differ.0 differ.1;
         out = has_out (origin m h) here.has_out;
         edges = omega (arith, f.edge_count);
         vertices = omega (arith, f.vertex_count);
@@ -120,42 +132,71 @@ module _ (m new : Mesh) (e : ℕ) (s : AreSoundLinks m) (can : IsFlippable m e) 
       })
 
   busy : KeepsBusy m new
-  busy h within = let here = s.edges h within in record { within = rw f.vertex_count here.origin_in; has_out = has_out (origin m h) here.has_out }
+  busy h within = let here = s.edges h within in record {
+    within = rw f.vertex_count here.origin_in;
+    has_out = has_out (origin m h) here.has_out;
+  }
 
   -- the far end of one of the four edges beside e
-  end_kept : (h : ℕ) → h < length m.half_edges → h ≢ e → h ≢ rev e → origin new (rev h) ≡ origin m (next m h)
-  end_kept h within off_e off_twin = origin_kept (rev h) (λ q. off_twin (sym (rev-rev h) ∙ ap rev q)) (λ q. off_e (sym (rev-rev h) ∙ ap rev q ∙ rev-rev e)) ∙ sym (s.edges h within).starts
+  end_kept : (h : ℕ) → h < length m.half_edges → h ≢ e → h ≢ rev e
+      → origin new (rev h) ≡ origin m (next m h)
+  end_kept h within off_e off_twin =
+      origin_kept (rev h) (λ q. off_twin (sym (rev-rev h) ∙ ap rev q))
+      (λ q. off_e (sym (rev-rev h) ∙ ap rev q ∙ rev-rev e)) ∙ sym (s.edges h within).starts
 
   left_sound : IsSoundEdge new e × IsSoundEdge new (prev m (rev e)) × IsSoundEdge new (next m e)
   left_sound =
-      loop_sound new e (prev m (rev e)) (next m e) (origin m (prev m e)) (origin m (prev m (rev e))) (origin m (next m e)) (face m e) (record {
+      loop_sound new e (prev m (rev e)) (next m e) (origin m (prev m e)) (origin m (prev m (rev e)))
+      (origin m (next m e)) (face m e) (record {
         first = f.edge;
         second = f.twin_prev;
         third = f.edge_next;
         within = rw f.edge_count (six.a_in, six.f_in, six.c_in);
         apart = (six.af, λ q. six.cf (sym q), λ q. six.ac (sym q));
-        ends = (f.twin.origin, end_kept (prev m (rev e)) six.f_in (λ q. six.af (sym q)) (λ q. six.bf (sym q)) ∙ ap (origin m) right.next_prev ∙ sym (s.edges e six.a_in).starts, end_kept (next m e) six.c_in (λ q. six.ac (sym q)) (λ q. six.bc (sym q)) ∙ ap (origin m) left.next_next);
+        ends = (
+          f.twin.origin,
+          end_kept (prev m (rev e)) six.f_in (λ q. six.af (sym q))
+              (λ q. six.bf (sym q)) ∙ ap (origin m) right.next_prev
+              ∙ sym (s.edges e six.a_in).starts,
+          end_kept (next m e) six.c_in (λ q. six.ac (sym q)) (λ q. six.bc (sym q))
+              ∙ ap (origin m) left.next_next,
+        );
         busy = (busy (prev m e) six.e_in, busy (prev m (rev e)) six.f_in, busy (next m e) six.c_in);
         face_in = rw f.face_count (s.edges e six.a_in).face_in;
       }) f.left_face
 
-  right_sound : IsSoundEdge new (rev e) × IsSoundEdge new (prev m e) × IsSoundEdge new (next m (rev e))
+  right_sound : IsSoundEdge new (rev e) × IsSoundEdge new (prev m e)
+      × IsSoundEdge new (next m (rev e))
   right_sound =
-      let start : origin m (next m (rev e)) ≡ origin m e = (s.edges (rev e) six.b_in).starts ∙ ap (origin m) (rev-rev e) in
-      loop_sound new (rev e) (prev m e) (next m (rev e)) (origin m (prev m (rev e))) (origin m (prev m e)) (origin m (next m (rev e))) (face m (rev e)) (record {
+      let start : origin m (next m (rev e)) ≡ origin m e =
+      (s.edges (rev e) six.b_in).starts ∙ ap (origin m) (rev-rev e) in
+      loop_sound new (rev e) (prev m e) (next m (rev e)) (origin m (prev m (rev e)))
+      (origin m (prev m e)) (origin m (next m (rev e))) (face m (rev e)) (record {
         first = f.twin;
         second = f.edge_prev;
         third = f.twin_next;
         within = rw f.edge_count (six.b_in, six.e_in, six.d_in);
         apart = (six.be, λ q. six.de (sym q), λ q. six.bd (sym q));
-        ends = (ap (origin new) (rev-rev e) ∙ f.edge.origin, end_kept (prev m e) six.e_in (λ q. six.ae (sym q)) (λ q. six.be (sym q)) ∙ ap (origin m) left.next_prev ∙ sym start, end_kept (next m (rev e)) six.d_in (λ q. six.ad (sym q)) (λ q. six.bd (sym q)) ∙ ap (origin m) right.next_next);
-        busy = (busy (prev m (rev e)) six.f_in, busy (prev m e) six.e_in, busy (next m (rev e)) six.d_in);
+        ends = (
+          ap (origin new) (rev-rev e) ∙ f.edge.origin,
+          end_kept (prev m e) six.e_in
+              (λ q. six.ae (sym q)) (λ q. six.be (sym q))
+              ∙ ap (origin m) left.next_prev ∙ sym start,
+          end_kept (next m (rev e)) six.d_in (λ q. six.ad (sym q)) (λ q. six.bd (sym q))
+              ∙ ap (origin m) right.next_next,
+        );
+        busy = (
+          busy (prev m (rev e)) six.f_in,
+          busy (prev m e) six.e_in,
+          busy (next m (rev e)) six.d_in,
+        );
         face_in = rw f.face_count (s.edges (rev e) six.b_in).face_in;
       }) f.right_face
 
   sound_at : (h : ℕ) → h < length m.half_edges → IsSoundEdge new h
   sound_at h within =
-      elim (cases_eq e h or_else cases_eq (rev e) h or_else cases_eq (next m e) h or_else cases_eq (next m (rev e)) h or_else cases_eq (prev m e) h or_else cases_eq (prev m (rev e)) h) [
+      elim (cases_eq e h or_else cases_eq (rev e) h or_else cases_eq (next m e) h or_else cases_eq
+      (next m (rev e)) h or_else cases_eq (prev m e) h or_else cases_eq (prev m (rev e)) h) [
         | inl same ↦ rw (← same) left_sound.0
         | inr (a, inl same) ↦ rw (← same) right_sound.0
         | inr (a, inr (b, inl same)) ↦ rw (← same) left_sound.2
@@ -209,7 +250,8 @@ module _ (m new : Mesh) (e : ℕ) (s : AreSoundLinks m) (can : IsFlippable m e) 
   outer_kept : NamesOuterEdge new
   outer_kept h named =
       let had = s.outer h (cc) in
-      let at = kept h (away_by_face h (λ q. absurd (omega (arith, can.inner))) (λ q. absurd (omega (arith, can.twin_inner)))) in
+      let at = kept h (away_by_face h (λ q. absurd (omega (arith, can.inner)))
+      (λ q. absurd (omega (arith, can.twin_inner)))) in
       (omega (arith, f.edge_count, had.0), cc)
 
   -- a sound mesh stays sound when an edge between two inner faces is turned

@@ -1,26 +1,38 @@
--- An edge is split by putting a vertex into the face on its left and turning it: that it can be turned, and what
--- becomes of the faces, of the ends of the edges and of the outer edges.
-use Rattle.std.proofs.Common.{◌≡◌, ℕ, ◌-◌, ◌<◌, List, [], ◌∷◌, ◌++◌, length, set, refl, sym, ap, ◌∙◌, ◌≢◌, arith, ◌/◌}
+-- An edge is split by putting a vertex into the face on its left and turning it: that it can be
+-- turned, and what becomes of the faces, of the ends of the edges and of the outer edges.
+use Rattle.std.proofs.Common.{◌≡◌, ◌-◌, ◌<◌, [], ◌∷◌, ◌++◌, ◌∙◌, ◌≢◌, ◌/◌}
+use Rattle.std.proofs.Common.{ℕ, List, length, set, refl, sym, ap, arith}
 use Rattle.std.proofs.lemmas.List.{set-set, set-append_left, length-set, length-map}
 use Rattle.half_edge_links.specs.declared.records.HalfEdge.{HalfEdge}
-use Rattle.half_edge_links.specs.Mesh.{Mesh, edge_at, origin, next, prev, face, rev, AreSoundLinks, IsAlone, IsInnerEdge}
+use Rattle.half_edge_links.specs.Mesh.{Mesh, edge_at, origin, next, prev, face, rev, AreSoundLinks}
+use Rattle.half_edge_links.specs.Mesh.{IsAlone, IsInnerEdge}
 use Rattle.half_edge_links.specs.Flip.{IsFlippable, flipped}
 use Rattle.half_edge_links.specs.Insert.{Inserts, inserted}
-use Rattle.half_edge_links.specs.Triangles.{triangle_at, triangles, InsertsTriangles, FlipsTriangles, SplitsTriangles}
+use Rattle.half_edge_links.specs.Triangles.{triangle_at, triangles, InsertsTriangles}
+use Rattle.half_edge_links.specs.Triangles.{FlipsTriangles, SplitsTriangles}
 use Rattle.half_edge_links.proofs.Lists.Rev.{rev_within}
 use Rattle.half_edge_links.proofs.Growing.FaceBeside.{differs_alone}
 use Rattle.half_edge_links.proofs.Faces.InsertLemmas.{inserts}
-use Rattle.half_edge_links.proofs.Faces.InsertSound.{kept, away_by_face, origin_kept, sound_after_insert}
+use Rattle.half_edge_links.proofs.Faces.InsertSound.{kept, away_by_face, origin_kept}
+use Rattle.half_edge_links.proofs.Faces.InsertSound.{sound_after_insert}
 use Rattle.half_edge_links.proofs.Faces.InsertTriangles.{triangles_inserted}
 use Rattle.half_edge_links.proofs.Faces.FlipTriangles.{triangles_flipped}
-use Rattle.half_edge_links.specs.Outline.{ends, along, KeepsOuter, InsertsEnds, MovesEdge, SplitsEnds}
+use Rattle.half_edge_links.specs.Outline.{ends, along, KeepsOuter, InsertsEnds, MovesEdge}
+use Rattle.half_edge_links.specs.Outline.{SplitsEnds}
 use Rattle.half_edge_links.proofs.Sound.Ends.{length-ends}
 use Rattle.half_edge_links.proofs.Faces.InsertSound as inserting
 
-overwritten : {X : Type 0} (xs ys : List X) (i j : ℕ) (a b c : X) → i < length xs → j < length xs → set (set (set xs i a ++ ys) i b) j c ≡ set (set xs i b) j c ++ ys
-overwritten xs ys i j a b c i_in j_in = rw (set-append_left (set xs i a) ys i b (rw length-set i_in), set-set xs i a b, set-append_left (set xs i b) ys j c (rw length-set j_in))
+overwritten : {X : Type 0} (xs ys : List X) (i j : ℕ) (a b c : X) → i < length xs → j < length xs
+    → set (set (set xs i a ++ ys) i b) j c ≡ set (set xs i b) j c ++ ys
+overwritten xs ys i j a b c i_in j_in =
+    rw (
+      set-append_left (set xs i a) ys i b (rw length-set i_in),
+      set-set xs i a b,
+      set-append_left (set xs i b) ys j c (rw length-set j_in),
+    )
 
-module _ (m : Mesh) (v e : ℕ) (s : AreSoundLinks m) (can : IsFlippable m e) (alone : IsAlone m v) where
+module _ (m : Mesh) (v e : ℕ) (s : AreSoundLinks m) (can : IsFlippable m e)
+    (alone : IsAlone m v) where
   inner : IsInnerEdge m e
   inner = (can.within, can.inner)
 
@@ -32,7 +44,8 @@ module _ (m : Mesh) (v e : ℕ) (s : AreSoundLinks m) (can : IsFlippable m e) (a
 
   twin_kept : edge_at (inserted m v e).half_edges (rev e) ≡ edge_at m.half_edges (rev e)
   twin_kept =
-      let away = away_by_face m (inserted m v e) v _ e _ _ s inner alone refl refl refl i (rev e) (λ same. can.apart (sym same)) in
+      let away = away_by_face m (inserted m v e) v _ e _ _ s inner alone refl refl refl i (rev e)
+      (λ same. can.apart (sym same)) in
       kept m (inserted m v e) v _ e _ _ s inner alone refl refl refl i (rev e) twin_in away
 
   -- the edge can still be turned once the vertex is in the face on its left
@@ -49,13 +62,16 @@ module _ (m : Mesh) (v e : ℕ) (s : AreSoundLinks m) (can : IsFlippable m e) (a
       }
 
   -- the corners opposite the two sides of the edge differ once the vertex is in the face
-  pub corners_inserted : origin (inserted m v e) (prev (inserted m v e) e) ≢ origin (inserted m v e) (prev (inserted m v e) (rev e))
+  pub corners_inserted : origin (inserted m v e) (prev (inserted m v e) e)
+      ≢ origin (inserted m v e) (prev (inserted m v e) (rev e))
   corners_inserted same =
       let mid : Mesh = inserted m v e in
       let opposite = (s.edges (rev e) twin_in).prev_in in
-      let kept_there = origin_kept m mid v _ e _ _ s inner alone refl refl refl i (prev m (rev e)) opposite in
+      let kept_there =
+      origin_kept m mid v _ e _ _ s inner alone refl refl refl i (prev m (rev e)) opposite in
       let twin : prev mid (rev e) ≡ prev m (rev e) = ap (λ (w : HalfEdge). w.prev) twin_kept in
-      differs_alone m (prev m (rev e)) v s opposite alone (sym kept_there ∙ ap (origin mid) (sym twin) ∙ sym same ∙ ap (origin mid) i.first.prev ∙ i.to_first.origin)
+      differs_alone m (prev m (rev e)) v s opposite alone (sym kept_there ∙ ap (origin mid)
+      (sym twin) ∙ sym same ∙ ap (origin mid) i.first.prev ∙ i.to_first.origin)
 
   splits_triangles : SplitsTriangles m (flipped (inserted m v e) e) v e
   splits_triangles =
@@ -65,17 +81,36 @@ module _ (m : Mesh) (v e : ℕ) (s : AreSoundLinks m) (can : IsFlippable m e) (a
       let to_v = i.to_first in
       let from_b = i.from_second in
       let twin_links = s.edges (rev e) twin_in in
-      let o1 = origin_kept m mid v _ e _ _ s inner alone refl refl refl i (prev m (rev e)) twin_links.prev_in in
-      let o2 = origin_kept m mid v _ e _ _ s inner alone refl refl refl i (next m (rev e)) twin_links.next_in in
+      let o1 = origin_kept m mid v _ e _ _ s inner alone refl refl refl i
+      (prev m (rev e)) twin_links.prev_in in
+      let o2 = origin_kept m mid v _ e _ _ s inner alone refl refl refl i
+      (next m (rev e)) twin_links.next_in in
       let put : InsertsTriangles m mid v e = triangles_inserted m mid v e s inner alone refl in
-      let turned : FlipsTriangles mid (flipped mid e) e = triangles_flipped mid (flipped mid e) e (sound_after_insert m mid v _ e _ _ s inner alone refl refl refl i) flippable_inserted refl in
-      let left_in : face m e - 1 < length (triangles m) = omega (arith, length-map m.face_edges (triangle_at m), (s.edges e can.within).face_in, can.inner) in
-      let right_in : face m (rev e) - 1 < length (triangles m) = omega (arith, length-map m.face_edges (triangle_at m), twin_links.face_in, can.twin_inner) in
-      let cut = overwritten (triangles m) (record { first = origin m (next m e); second = origin m (prev m e); third = v } ∷ record { first = origin m (prev m e); second = origin m e; third = v } ∷ []) (face m e - 1) (face m (rev e) - 1) (record { first = origin m e; second = origin m (next m e); third = v }) (record { first = v; second = origin m (prev m (rev e)); third = origin m (next m e) }) (record { first = origin m (prev m (rev e)); second = v; third = origin m (next m (rev e)) }) left_in right_in in
+      let turned : FlipsTriangles mid (flipped mid e) e = triangles_flipped mid (flipped mid e) e
+      (sound_after_insert m mid v _ e _ _ s inner alone refl refl refl i)
+      flippable_inserted refl in
+      let left_in : face m e - 1 < length (triangles m) = omega (
+        arith,
+        length-map m.face_edges (triangle_at m),
+        (s.edges e can.within).face_in,
+        can.inner,
+      ) in
+      let right_in : face m (rev e) - 1 < length (triangles m) = omega
+      (arith, length-map m.face_edges (triangle_at m), twin_links.face_in, can.twin_inner) in
+      let cut = overwritten (triangles m)
+      (record { first = origin m (next m e); second = origin m (prev m e); third = v }
+      ∷ record { first = origin m (prev m e); second = origin m e; third = v } ∷ [])
+      (face m e - 1) (face m (rev e) - 1)
+      (record { first = origin m e; second = origin m (next m e); third = v }) (record
+      { first = v; second = origin m (prev m (rev e)); third = origin m (next m e) }) (record
+      { first = origin m (prev m (rev e)); second = v; third = origin m (next m (rev e)) })
+      left_in right_in in
       cc
 
--- an edge between two inner faces that is split leaves four faces round v, and changes no other corners
-pub splits_triangles_is : (m new : Mesh) (v e : ℕ) → AreSoundLinks m → IsFlippable m e → IsAlone m v → new ≡ flipped (inserted m v e) e → SplitsTriangles m new v e
+-- an edge between two inner faces that is split leaves four faces round v, and changes no other
+-- corners
+pub splits_triangles_is : (m new : Mesh) (v e : ℕ) → AreSoundLinks m → IsFlippable m e → IsAlone m v
+    → new ≡ flipped (inserted m v e) e → SplitsTriangles m new v e
 splits_triangles_is m new v e s can alone is = rw is (splits_triangles m v e s can alone)
 
 -- two changes one after the other keep the outer edges if each does
@@ -86,12 +121,20 @@ kept_twice m mid new a b = record {
 }
 
 -- an edge that is split at v makes way for edges from v to the four corners; no other ends change
-pub ends_split : (m mid new : Mesh) (v e : ℕ) → AreSoundLinks m → IsFlippable m e → IsAlone m v → mid ≡ inserted m v e → InsertsEnds m mid v e → MovesEdge mid new e (origin mid (prev mid e)) (origin mid (prev mid (rev e))) → SplitsEnds m new e v
+pub ends_split : (m mid new : Mesh) (v e : ℕ) → AreSoundLinks m → IsFlippable m e → IsAlone m v
+    → mid ≡ inserted m v e → InsertsEnds m mid v e
+    → MovesEdge mid new e (origin mid (prev mid e)) (origin mid (prev mid (rev e)))
+    → SplitsEnds m new e v
 ends_split m mid new v e s can alone is a b =
     let i = inserts m v e s (can.within, can.inner) alone in
     let twin_in : rev e < length m.half_edges = rev_within e _ s.even can.within in
     let same = twin_kept m v e s can alone in
-    let at_v : origin mid (prev mid e) ≡ v = rw is (ap (origin (inserted m v e)) i.first.prev ∙ i.to_first.origin) in
-    let far : origin mid (prev mid (rev e)) ≡ origin m (prev m (rev e)) = rw is (ap (λ (x : HalfEdge). origin (inserted m v e) x.prev) same ∙ inserting.origin_kept m (inserted m v e) v _ e _ _ s (can.within, can.inner) alone refl refl refl i (prev m (rev e)) (s.edges (rev e) twin_in).prev_in) in
+    let at_v : origin mid (prev mid e) ≡ v =
+    rw is (ap (origin (inserted m v e)) i.first.prev ∙ i.to_first.origin) in
+    let far : origin mid (prev mid (rev e)) ≡ origin m (prev m (rev e)) =
+    rw is (ap (λ (x : HalfEdge). origin (inserted m v e) x.prev) same
+    ∙ inserting.origin_kept m (inserted m v e) v _ e _ _ s (can.within, can.inner) alone refl
+    refl refl i (prev m (rev e)) (s.edges (rev e) twin_in).prev_in) in
     let place : e / 2 < length (ends m) = length-ends m e s can.within in
-    rw (b, a, at_v, far) (set-append_left (ends m) _ (e / 2) (along e v (origin m (prev m (rev e)))) place)
+    rw (b, a, at_v, far)
+    (set-append_left (ends m) _ (e / 2) (along e v (origin m (prev m (rev e)))) place)

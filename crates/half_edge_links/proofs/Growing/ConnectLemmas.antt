@@ -1,11 +1,15 @@
 -- The first edge.
-use Rattle.std.proofs.Common.{◌≡◌, ℕ, zero, suc, ◌<◌, [], length, Some, None, IsSome, set, refl, sym, ap, ◌∙◌, inl, inr, arith}
+use Rattle.std.proofs.Common.{◌≡◌, ◌<◌, [], ◌∙◌}
+use Rattle.std.proofs.Common.{ℕ, zero, suc, length, Some, None, IsSome, set, refl, sym, ap, inl}
+use Rattle.std.proofs.Common.{inr, arith}
 use Rattle.std.proofs.lemmas.List.{get_or-set_same, get_or-set_other, length-set}
 use Rattle.std.proofs.lemmas.Bool.{cases_eq}
 use Rattle.half_edge_links.proofs.Lists.Cases.{◌or_else◌}
-use Rattle.half_edge_links.specs.Mesh.{Mesh, AreSoundLinks, IsSoundEdge, origin, out_edge, connected}
+use Rattle.half_edge_links.specs.Mesh.{Mesh, AreSoundLinks, IsSoundEdge, origin, out_edge}
+use Rattle.half_edge_links.specs.Mesh.{connected}
 
-module _ (m : Mesh) (a b : ℕ) (s : AreSoundLinks m) (none : m.half_edges ≡ []) (a_in : a < length m.out_edges) (b_in : b < length m.out_edges) where
+module _ (m : Mesh) (a b : ℕ) (s : AreSoundLinks m) (none : m.half_edges ≡ [])
+    (a_in : a < length m.out_edges) (b_in : b < length m.out_edges) where
   no_edge_at : (h : ℕ) → h < length m.half_edges → ⊥
   no_edge_at h within = let empty : length m.half_edges ≡ 0 = ap length none in omega arith
 
@@ -16,7 +20,10 @@ module _ (m : Mesh) (a b : ℕ) (s : AreSoundLinks m) (none : m.half_edges ≡ [
   at_a =
       elim (cases_eq a b) [
         | inl same ↦ rw (ap (out_edge (connected m a b)) same ∙ at_b) refl
-        | inr differs ↦ rw (get_or-set_other (set m.out_edges a (Some 0)) b a (Some 1) None differs, get_or-set_same m.out_edges a (Some 0) None a_in) refl
+        | inr differs ↦ rw (
+          get_or-set_other (set m.out_edges a (Some 0)) b a (Some 1) None differs,
+          get_or-set_same m.out_edges a (Some 0) None a_in,
+        ) refl
       ]
 
   sound_at : (h : ℕ) → h < 2 → IsSoundEdge (connected m a b) h
@@ -50,7 +57,8 @@ module _ (m : Mesh) (a b : ℕ) (s : AreSoundLinks m) (none : m.half_edges ≡ [
   }
   sound_at (suc (suc h)) within = absurd (omega arith)
 
-  vertices_named : (v h : ℕ) → out_edge (connected m a b) v ≡ Some h → (h < 2) × (origin (connected m a b) h ≡ v)
+  vertices_named : (v h : ℕ) → out_edge (connected m a b) v ≡ Some h
+      → (h < 2) × (origin (connected m a b) h ≡ v)
   vertices_named v h named =
       elim (cases_eq v b or_else cases_eq v a) [
         | inl same ↦
@@ -64,7 +72,8 @@ module _ (m : Mesh) (a b : ℕ) (s : AreSoundLinks m) (none : m.half_edges ≡ [
             rw (← is) (omega arith, sym same)
         | inr (differs, inr other) ↦
             let at = get_or-set_other (set m.out_edges a (Some 0)) b v (Some 1) None differs in
-            absurd (no_edge_at h (s.vertices v h (sym (get_or-set_other m.out_edges a v (Some 0) None other) ∙ sym at ∙ named)).0)
+            absurd (no_edge_at h (s.vertices v h
+            (sym (get_or-set_other m.out_edges a v (Some 0) None other) ∙ sym at ∙ named)).0)
       ]
 
   -- a sound mesh without edges stays sound when its first edge is made

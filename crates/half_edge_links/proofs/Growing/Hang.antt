@@ -1,16 +1,23 @@
 -- An edge to a lonely vertex, beside the outer face.
-use Rattle.std.proofs.Common.{◌≡◌, ◌≢◌, ℕ, ◌+◌, ◌<◌, ◌≤◌, List, length, None, refl, sym, ap, ◌∙◌, inl, inr, arith}
+use Rattle.std.proofs.Common.{◌≡◌, ◌≢◌, ◌+◌, ◌<◌, ◌≤◌, ◌∙◌}
+use Rattle.std.proofs.Common.{ℕ, List, length, None, refl, sym, ap, inl, inr, arith}
 use Rattle.std.proofs.lemmas.Bool.{cases_eq}
 use Rattle.std.proofs.lemmas.List.{get_or-set_same, get_or-set_other, length-set}
 use Rattle.half_edge_links.proofs.Lists.Cases.{◌or_else◌}
 use Rattle.half_edge_links.specs.declared.records.HalfEdge.{HalfEdge}
-use Rattle.half_edge_links.specs.Mesh.{Mesh, no_edge, edge_at, origin, next, prev, face, face_edge, rev, AreSoundLinks, IsSoundEdge, IsAlone}
+use Rattle.half_edge_links.specs.Mesh.{Mesh, no_edge, edge_at, origin, next, prev, face, face_edge}
+use Rattle.half_edge_links.specs.Mesh.{rev, AreSoundLinks, IsSoundEdge, IsAlone}
 use Rattle.half_edge_links.specs.Grow.{with_next, with_prev, IsOuter, hung_edges, hung, Hangs}
 use Rattle.half_edge_links.proofs.Lists.Rev.{rev_within}
 use Rattle.half_edge_links.proofs.Faces.FlipLemmas.{links_from}
-use Rattle.half_edge_links.proofs.Sound.FieldWrites.{writes_next, writes_prev, next_link, prev_link, face_link, origin_link}
+use Rattle.half_edge_links.proofs.Sound.FieldWrites.{writes_next, writes_prev, next_link, prev_link}
+use Rattle.half_edge_links.proofs.Sound.FieldWrites.{face_link, origin_link}
 use Rattle.half_edge_links.proofs.Lists.Writes.{length-two, two_before, two_at_0, two_at_1}
-use Rattle.half_edge_links.proofs.Sound.Parts.{rev_of_even, rev_of_odd, IsInMesh, IsInnerSound, sound_from, next_kept, inner_kept, next_at, prev_sound, grown_cases, still_out, still_named, EachEdgeIsSound, EachNextIsSound, KeepsEnds, KeepsOutEdges, NamesOutEdges}
+use Rattle.half_edge_links.proofs.Sound.Parts.{rev_of_even, rev_of_odd, IsInMesh, IsInnerSound}
+use Rattle.half_edge_links.proofs.Sound.Parts.{sound_from, next_kept, inner_kept, next_at}
+use Rattle.half_edge_links.proofs.Sound.Parts.{prev_sound, grown_cases, still_out, still_named}
+use Rattle.half_edge_links.proofs.Sound.Parts.{EachEdgeIsSound, EachNextIsSound, KeepsEnds}
+use Rattle.half_edge_links.proofs.Sound.Parts.{KeepsOutEdges, NamesOutEdges}
 
 module _ (hs : List HalfEdge) (x y v : ℕ) (x_in : x < length hs) (y_in : y < length hs) where
   abbrev first : List HalfEdge
@@ -33,37 +40,59 @@ module _ (hs : List HalfEdge) (x y v : ℕ) (x_in : x < length hs) (y_in : y < l
 
   -- the first new edge comes after x
   pub next_x : (edge_at (hung_edges hs x y v (length hs)) x).next ≡ length hs
-  next_x = ap next_link (before x x_in) ∙ (writes_prev first y _).kept next_link refl x ∙ ap next_link ((writes_next hs x _).here x_in)
+  next_x = ap next_link (before x x_in) ∙ (writes_prev first y _).kept next_link refl x
+      ∙ ap next_link ((writes_next hs x _).here x_in)
 
   -- the edge after any other edge stays
-  pub next_other : (h : ℕ) → h < length hs → h ≢ x → (edge_at (hung_edges hs x y v (length hs)) h).next ≡ (edge_at hs h).next
-  next_other h within differs = ap next_link (before h within) ∙ (writes_prev first y _).kept next_link refl h ∙ ap next_link ((writes_next hs x _).other h differs)
+  pub next_other : (h : ℕ) → h < length hs → h ≢ x
+      → (edge_at (hung_edges hs x y v (length hs)) h).next ≡ (edge_at hs h).next
+  next_other h within differs =
+      ap next_link (before h within) ∙ (writes_prev first y _).kept next_link refl h
+      ∙ ap next_link ((writes_next hs x _).other h differs)
 
   prev_y : (edge_at (hung_edges hs x y v (length hs)) y).prev ≡ length hs + 1
-  prev_y = ap prev_link (before y y_in) ∙ ap prev_link ((writes_prev first y _).here (rw (writes_next hs x _).count y_in))
+  prev_y = ap prev_link (before y y_in)
+      ∙ ap prev_link ((writes_prev first y _).here (rw (writes_next hs x _).count y_in))
 
-  prev_other : (h : ℕ) → h < length hs → h ≢ y → (edge_at (hung_edges hs x y v (length hs)) h).prev ≡ (edge_at hs h).prev
-  prev_other h within differs = ap prev_link (before h within) ∙ ap prev_link ((writes_prev first y _).other h differs) ∙ (writes_next hs x _).kept prev_link refl h
+  prev_other : (h : ℕ) → h < length hs → h ≢ y
+      → (edge_at (hung_edges hs x y v (length hs)) h).prev ≡ (edge_at hs h).prev
+  prev_other h within differs =
+      ap prev_link (before h within) ∙ ap prev_link ((writes_prev first y _).other h differs)
+      ∙ (writes_next hs x _).kept prev_link refl h
 
   -- each edge starts where it did
-  pub origin_kept : (h : ℕ) → h < length hs → (edge_at (hung_edges hs x y v (length hs)) h).origin ≡ (edge_at hs h).origin
-  origin_kept h within = ap origin_link (before h within) ∙ (writes_prev first y _).kept origin_link refl h ∙ (writes_next hs x _).kept origin_link refl h
+  pub origin_kept : (h : ℕ) → h < length hs
+      → (edge_at (hung_edges hs x y v (length hs)) h).origin ≡ (edge_at hs h).origin
+  origin_kept h within = ap origin_link (before h within) ∙ (writes_prev first y _).kept origin_link
+      refl h ∙ (writes_next hs x _).kept origin_link refl h
 
-  face_kept : (h : ℕ) → h < length hs → (edge_at (hung_edges hs x y v (length hs)) h).face ≡ (edge_at hs h).face
-  face_kept h within = ap face_link (before h within) ∙ (writes_prev first y _).kept face_link refl h ∙ (writes_next hs x _).kept face_link refl h
+  face_kept : (h : ℕ) → h < length hs
+      → (edge_at (hung_edges hs x y v (length hs)) h).face ≡ (edge_at hs h).face
+  face_kept h within = ap face_link (before h within)
+      ∙ (writes_prev first y _).kept face_link refl h ∙ (writes_next hs x _).kept face_link refl h
 
   -- the edge to v
-  pub at_0 : edge_at (hung_edges hs x y v (length hs)) (length hs) ≡ record { origin = (edge_at hs y).origin; next = length hs + 1; prev = x; face = (edge_at hs x).face }
+  pub at_0 : edge_at (hung_edges hs x y v (length hs)) (length hs) ≡ record {
+    origin = (edge_at hs y).origin;
+    next = length hs + 1;
+    prev = x;
+    face = (edge_at hs x).face;
+  }
   unfolding hung_edges
-  at_0 = ap (λ q. edge_at (hung_edges hs x y v (length hs)) q) (sym length-written) ∙ two_at_0 written _ _ no_edge
+  at_0 = ap (λ q. edge_at (hung_edges hs x y v (length hs)) q) (sym length-written)
+      ∙ two_at_0 written _ _ no_edge
 
   -- the edge back from v
-  pub at_1 : edge_at (hung_edges hs x y v (length hs)) (length hs + 1) ≡ record { origin = v; next = y; prev = length hs; face = (edge_at hs x).face }
+  pub at_1 : edge_at (hung_edges hs x y v (length hs)) (length hs + 1)
+      ≡ record { origin = v; next = y; prev = length hs; face = (edge_at hs x).face }
   unfolding hung_edges
-  at_1 = ap (λ q. edge_at (hung_edges hs x y v (length hs)) (q + 1)) (sym length-written) ∙ two_at_1 written _ _ no_edge
+  at_1 = ap (λ q. edge_at (hung_edges hs x y v (length hs)) (q + 1)) (sym length-written)
+      ∙ two_at_1 written _ _ no_edge
 
--- an edge from the end of an outer edge to a lonely vertex changes the links round it, and no others
-pub hangs : (m : Mesh) (x v : ℕ) → AreSoundLinks m → IsOuter m x → IsAlone m v → Hangs m (hung m x v) x v (length m.half_edges)
+-- an edge from the end of an outer edge to a lonely vertex changes the links round it, and no
+-- others
+pub hangs : (m : Mesh) (x v : ℕ) → AreSoundLinks m → IsOuter m x → IsAlone m v
+    → Hangs m (hung m x v) x v (length m.half_edges)
 unfolding hung
 hangs m x v s out alone =
     let y_in = (s.edges x out.0).next_in in
@@ -84,7 +113,8 @@ hangs m x v s out alone =
       outer_edge = refl;
     }
 
-module _ (m new : Mesh) (x v : ℕ) (s : AreSoundLinks m) (outer : IsOuter m x) (alone : IsAlone m v) (i : Hangs m new x v (length m.half_edges)) where
+module _ (m new : Mesh) (x v : ℕ) (s : AreSoundLinks m) (outer : IsOuter m x) (alone : IsAlone m v)
+    (i : Hangs m new x v (length m.half_edges)) where
   at_x : IsSoundEdge m x
   at_x = s.edges x outer.0
 
@@ -111,21 +141,32 @@ module _ (m new : Mesh) (x v : ℕ) (s : AreSoundLinks m) (outer : IsOuter m x) 
   next_ok h within =
       elim (cases_eq (length m.half_edges) h or_else cases_eq (length m.half_edges + 1) h) [
         | inl same ↦ rw (← same) (
-            next_at new (length m.half_edges) (length m.half_edges + 1) i.there.next (omega (arith, i.edge_count)) i.back.prev (sym (ap (origin new) (rev_of_even (length m.half_edges) s.even))) (i.back.face ∙ sym i.there.face)
+            next_at new (length m.half_edges) (length m.half_edges + 1) i.there.next
+            (omega (arith, i.edge_count)) i.back.prev
+            (sym (ap (origin new) (rev_of_even (length m.half_edges) s.even)))
+            (i.back.face ∙ sym i.there.face)
             (λ q. absurd (omega arith)))
         | inr (not_there, inl same) ↦ rw (← same) (
-            next_at new (length m.half_edges + 1) (next m x) i.back.next (omega (arith, at_x.next_in, more)) i.prev_at (i.origins _ at_x.next_in ∙ sym (ap (origin new) (rev_of_odd (length m.half_edges) s.even) ∙ i.there.origin))
-            (i.faces _ at_x.next_in ∙ at_x.same_face ∙ sym i.back.face) (λ q. absurd (omega (arith, at_x.next_in, q))))
+            next_at new (length m.half_edges + 1) (next m x) i.back.next
+            (omega (arith, at_x.next_in, more)) i.prev_at (i.origins _ at_x.next_in
+            ∙ sym (ap (origin new) (rev_of_odd (length m.half_edges) s.even) ∙ i.there.origin))
+            (i.faces _ at_x.next_in ∙ at_x.same_face ∙ sym i.back.face)
+            (λ q. absurd (omega (arith, at_x.next_in, q))))
         | inr (not_there, inr not_back) ↦
             let h_in : h < length m.half_edges = omega (arith, i.edge_count) in
             let here = s.edges h h_in in
             elim (cases_eq x h) [
               | inl same ↦ rw (← same) (
-                  next_at new x (length m.half_edges) i.next_at (omega (arith, i.edge_count)) i.there.prev (i.there.origin ∙ at_x.starts ∙ sym (rev_kept x outer.0)) (i.there.face ∙ sym (i.faces x outer.0))
+                  next_at new x (length m.half_edges) i.next_at (omega (arith, i.edge_count))
+                  i.there.prev (i.there.origin ∙ at_x.starts ∙ sym (rev_kept x outer.0))
+                  (i.there.face ∙ sym (i.faces x outer.0))
                   (λ q. absurd (omega (arith, outer.0, q))))
               | inr differs ↦
-                  next_kept m new h here (i.other_next h h_in (λ q. differs (sym q))) (i.other_prev (next m h) here.next_in (λ q. differs (sym at_x.prev_next ∙ ap (prev m) (sym q) ∙ here.prev_next)))
-                  (i.origins (next m h) here.next_in) (rev_kept h h_in) (i.faces h h_in) (i.faces (next m h) here.next_in) more
+                  next_kept m new h here (i.other_next h h_in (λ q. differs (sym q)))
+                  (i.other_prev (next m h) here.next_in
+                  (λ q. differs (sym at_x.prev_next ∙ ap (prev m) (sym q) ∙ here.prev_next)))
+                  (i.origins (next m h) here.next_in) (rev_kept h h_in) (i.faces h h_in)
+                  (i.faces (next m h) here.next_in) more
             ]
       ]
 
@@ -137,7 +178,8 @@ module _ (m new : Mesh) (x v : ℕ) (s : AreSoundLinks m) (outer : IsOuter m x) 
       (i.other_next h within (λ q. absurd (omega (arith, was, ap (face m) q, outer.1))))
       (i.other_prev h within (λ q. absurd (omega (arith, was, ap (face m) q, after_outer))))
       (i.faces h within)
-      (i.other_next (next m h) here.next_in (λ q. absurd (omega (arith, was, here.same_face, ap (face m) q, outer.1))))
+      (i.other_next (next m h) here.next_in
+      (λ q. absurd (omega (arith, was, here.same_face, ap (face m) q, outer.1))))
       (named (face m h))
 
   in_mesh : (h : ℕ) → h < length new.half_edges → IsInMesh new h
@@ -166,14 +208,18 @@ module _ (m new : Mesh) (x v : ℕ) (s : AreSoundLinks m) (outer : IsOuter m x) 
 
   sound_at : EachEdgeIsSound new
   sound_at h within =
-      sound_from new h (in_mesh h within) (next_ok h within) (prev_sound new next_ok h within) (λ some. elim (grown_cases h (length m.half_edges) (rw i.edge_count at within)) [
+      sound_from new h (in_mesh h within) (next_ok h within) (prev_sound new next_ok h within)
+      (λ some. elim (grown_cases h (length m.half_edges) (rw i.edge_count at within)) [
         | inl old ↦ inner_ok h old some
-        | inr (inl there) ↦ absurd (omega (arith, some, ap (face new) there ∙ i.there.face ∙ outer.1))
+        | inr (inl there) ↦
+            absurd (omega (arith, some, ap (face new) there ∙ i.there.face ∙ outer.1))
         | inr (inr back) ↦ absurd (omega (arith, some, ap (face new) back ∙ i.back.face ∙ outer.1))
       ])
 
   vertices_kept : NamesOutEdges new
-  vertices_kept = still_named m new v (length m.half_edges + 1) i.out i.other_outs s (omega (arith, i.edge_count)) i.back.origin (λ h within off. (omega (arith, i.edge_count, within), i.origins h within))
+  vertices_kept = still_named m new v (length m.half_edges + 1) i.out i.other_outs s
+      (omega (arith, i.edge_count)) i.back.origin
+      (λ h within off. (omega (arith, i.edge_count, within), i.origins h within))
 
   -- a sound mesh stays sound when an edge to a lonely vertex is made beside the outer face
   pub sound_after_hang : AreSoundLinks new

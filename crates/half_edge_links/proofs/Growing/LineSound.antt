@@ -3,9 +3,12 @@ use Rattle.std.proofs.Common.{◌≡◌, ◌≢◌, ℕ, ◌<◌, [], length, So
 use Rattle.std.proofs.lemmas.Bool.{cases_eq}
 use Rattle.half_edge_links.specs.Mesh.{Mesh, origin, next, face, out_edge, rev, AreSoundLinks}
 use Rattle.half_edge_links.proofs.Lists.Rev.{rev_same, rev_within}
-use Rattle.half_edge_links.proofs.Sound.Parts.{IsNextSound, IsInMesh, sound_from, prev_sound, still_out, still_named, HasNoFace, KeepsOutEdges, NamesOutEdges}
+use Rattle.half_edge_links.proofs.Sound.Parts.{IsNextSound, IsInMesh, sound_from, prev_sound}
+use Rattle.half_edge_links.proofs.Sound.Parts.{still_out, still_named, HasNoFace, KeepsOutEdges}
+use Rattle.half_edge_links.proofs.Sound.Parts.{NamesOutEdges}
 
--- the other side of edge e starts where edge x does now, and the vertex where it started names the edge after e
+-- the other side of edge e starts where edge x does now, and the vertex where it started names the
+-- edge after e
 pub record MovesEnd (m new : Mesh) (e x : ℕ) : Type 0 where
   pub one_face : m.face_edges ≡ []
   pub after_in : next m e < length m.half_edges
@@ -32,15 +35,18 @@ module _ (m new : Mesh) (e x : ℕ) (s : AreSoundLinks m) (i : MovesEnd m new e 
   zero_after h within = i.faces h within ∙ face_zero h within
 
   -- any two edges have the same face now
-  pub no_face : (h g : ℕ) → h < length m.half_edges → g < length m.half_edges → face new h ≡ face new g
+  pub no_face : (h g : ℕ) → h < length m.half_edges → g < length m.half_edges
+      → face new h ≡ face new g
   no_face h g h_in g_in = zero_after h h_in ∙ sym (zero_after g g_in)
 
   -- the end of any other edge than e stays
   pub origin_rev : (h : ℕ) → h < length m.half_edges → h ≢ e → origin new (rev h) ≡ origin m (rev h)
-  origin_rev h within differs = i.other_origins (rev h) (rev_within h _ s.even within) (λ q. differs (rev_same h e q))
+  origin_rev h within differs =
+      i.other_origins (rev h) (rev_within h _ s.even within) (λ q. differs (rev_same h e q))
 
   -- an old edge that starts where edge h does now
-  origin_of : (h : ℕ) → h < length m.half_edges → (g : ℕ) × (g < length m.half_edges) × (origin new h ≡ origin m g)
+  origin_of : (h : ℕ) → h < length m.half_edges
+      → (g : ℕ) × (g < length m.half_edges) × (origin new h ≡ origin m g)
   origin_of h within =
       elim (cases_eq h (rev e)) [
         | inl same ↦ (x, i.start_in, ap (origin new) same ∙ i.origin_twin)
@@ -62,8 +68,12 @@ module _ (m new : Mesh) (e x : ℕ) (s : AreSoundLinks m) (i : MovesEnd m new e 
 
   vertices_kept : NamesOutEdges new
   vertices_kept =
-      still_named m new (origin m (next m e)) (next m e) i.out i.other_outs s (omega (arith, i.edge_count, i.after_in)) (i.other_origins _ i.after_in i.after_off)
-      (λ h within off. (omega (arith, i.edge_count, within), i.other_origins h within (λ q. off (ap (origin m) q ∙ sym i.start))))
+      still_named m new (origin m (next m e)) (next m e) i.out i.other_outs s
+      (omega (arith, i.edge_count, i.after_in)) (i.other_origins _ i.after_in i.after_off)
+      (λ h within off. (
+        omega (arith, i.edge_count, within),
+        i.other_origins h within (λ q. off (ap (origin m) q ∙ sym i.start)),
+      ))
 
   -- the new mesh is sound if each edge and the one after it fit together
   pub sound_with : ((h : ℕ) → h < length new.half_edges → IsNextSound new h) → AreSoundLinks new
@@ -71,9 +81,11 @@ module _ (m new : Mesh) (e x : ℕ) (s : AreSoundLinks m) (i : MovesEnd m new e 
     even = rw i.edge_count s.even;
     edges = λ h within.
         let old : h < length m.half_edges = rw i.edge_count at within in
-        sound_from new h (in_mesh h old) (next_ok h within) (prev_sound new next_ok h within) (λ some. absurd (omega (arith, some, zero_after h old)));
+        sound_from new h (in_mesh h old) (next_ok h within) (prev_sound new next_ok h within)
+        (λ some. absurd (omega (arith, some, zero_after h old)));
     vertices = vertices_kept;
-    faces = λ k some within. absurd (omega (arith, ap length (i.face_edges ∙ i.one_face), some, within));
+    faces = λ k some within. absurd
+        (omega (arith, ap length (i.face_edges ∙ i.one_face), some, within));
     outer = λ h is.
         let had = s.outer h (sym i.outer_edge ∙ is) in
         (omega (arith, i.edge_count, had.0), zero_after h had.0);

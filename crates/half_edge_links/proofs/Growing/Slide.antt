@@ -1,5 +1,6 @@
 -- An edge that is moved to the far end of the next one.
-use Rattle.std.proofs.Common.{◌≡◌, ◌≢◌, ℕ, ◌<◌, length, Some, None, refl, sym, ap, ◌∙◌, inl, inr, arith}
+use Rattle.std.proofs.Common.{◌≡◌, ◌≢◌, ◌<◌, ◌∙◌}
+use Rattle.std.proofs.Common.{ℕ, length, Some, None, refl, sym, ap, inl, inr, arith}
 use Rattle.std.proofs.lemmas.Bool.{cases_eq}
 use Rattle.std.proofs.lemmas.List.{get_or-set_same, get_or-set_other, length-set}
 use Rattle.half_edge_links.proofs.Lists.Cases.{◌or_else◌}
@@ -30,21 +31,25 @@ pub record IsTail (m : Mesh) (e : ℕ) : Type 0 where
   pub back-twin : next m (next m e) ≢ rev e
   pub there-twin : next m e ≢ rev e
 
--- where an edge can be moved to the far end of the next one, the edges beside it are in the mesh and differ
+-- where an edge can be moved to the far end of the next one, the edges beside it are in the mesh
+-- and differ
 pub tail : (m : Mesh) (e : ℕ) → AreSoundLinks m → IsSlidable m e → IsTail m e
 tail m e s can =
     let here = s.edges e can.within in
     let there = s.edges (next m e) here.next_in in
     let twin_in : rev e < length m.half_edges = rev_within e _ s.even can.within in
     let twin = s.edges (rev e) twin_in in
-    let off_twin : next m (next m e) ≢ rev e = λ q. here.proper (sym (rev-rev (next m e)) ∙ ap rev (sym can.pendant ∙ q) ∙ rev-rev e) in
+    let off_twin : next m (next m e) ≢ rev e =
+    λ q. here.proper (sym (rev-rev (next m e)) ∙ ap rev (sym can.pendant ∙ q) ∙ rev-rev e) in
     let edge_before : e ≢ prev m (rev e) = λ q. can.apart (ap (next m) q ∙ twin.next_prev) in
     let edge_there : e ≢ next m e = λ q. here.proper (sym q) in
-    let before_there : prev m (rev e) ≢ next m e = λ q. off_twin (ap (next m) (sym q) ∙ twin.next_prev) in
+    let before_there : prev m (rev e) ≢ next m e =
+    λ q. off_twin (ap (next m) (sym q) ∙ twin.next_prev) in
     assumption (can, here, there, twin, twin_in, off_twin, edge_before, edge_there, before_there)
 
 -- the edges beside an edge that can be moved are those that the writes to the list ask for
-pub slid_places : (m : Mesh) (e : ℕ) → AreSoundLinks m → IsSlidable m e → AreSlidPlaces m.half_edges e (rev e) (next m e) (next m (next m e)) (prev m (rev e))
+pub slid_places : (m : Mesh) (e : ℕ) → AreSoundLinks m → IsSlidable m e
+    → AreSlidPlaces m.half_edges e (rev e) (next m e) (next m (next m e)) (prev m (rev e))
 slid_places m e s can =
     let t = tail m e s can in
     let twin = s.edges (rev e) t.twin_in in
@@ -65,17 +70,24 @@ slid_places m e s can =
     }
 
 -- an edge that is moved to the far end of the next one changes the links beside it, and no others
-pub slides : (m : Mesh) (e : ℕ) → AreSoundLinks m → IsSlidable m e → Slides m (slid m e) e (next m e) (next m (next m e))
+pub slides : (m : Mesh) (e : ℕ) → AreSoundLinks m → IsSlidable m e
+    → Slides m (slid m e) e (next m e) (next m (next m e))
 unfolding slid slid_edges
 slides m e s can =
     let t = tail m e s can in
-    let r = relinks m.half_edges e (rev e) (next m e) (next m (next m e)) (prev m (rev e)) (next m (next m e)) (next m e) (rev e) e (prev m (rev e)) (next m e) (origin m (next m (next m e))) can.within t.twin_in t.there_in t.back_in t.before_in t.edge-before t.edge-there t.before-there t.back-there t.back-twin t.there-twin in
+    let r = relinks m.half_edges e (rev e) (next m e) (next m (next m e)) (prev m (rev e))
+    (next m (next m e)) (next m e) (rev e) e (prev m (rev e)) (next m e)
+    (origin m (next m (next m e))) can.within t.twin_in t.there_in t.back_in t.before_in
+    t.edge-before t.edge-there t.before-there t.back-there t.back-twin t.there-twin in
     let count = length-set m.out_edges (origin m (next m e)) (Some (next m e)) in
-    let out = get_or-set_same m.out_edges (origin m (next m e)) (Some (next m e)) None (s.edges (next m e) t.there_in).origin_in in
-    let others = λ (u : ℕ). get_or-set_other m.out_edges (origin m (next m e)) u (Some (next m e)) None in
+    let out = get_or-set_same m.out_edges (origin m (next m e)) (Some (next m e)) None
+    (s.edges (next m e) t.there_in).origin_in in
+    let others =
+    λ (u : ℕ). get_or-set_other m.out_edges (origin m (next m e)) u (Some (next m e)) None in
     assumption (r, count, out, others)
 
-module _ (m new : Mesh) (e : ℕ) (s : AreSoundLinks m) (can : IsSlidable m e) (i : Slides m new e (next m e) (next m (next m e))) where
+module _ (m new : Mesh) (e : ℕ) (s : AreSoundLinks m) (can : IsSlidable m e)
+    (i : Slides m new e (next m e) (next m (next m e))) where
   t : IsTail m e
   t = tail m e s can
 
@@ -91,21 +103,35 @@ module _ (m new : Mesh) (e : ℕ) (s : AreSoundLinks m) (can : IsSlidable m e) (
       let here = s.edges h within in
       elim (cases_eq e h or_else cases_eq (prev m (rev e)) h or_else cases_eq (next m e) h) [
         | inl same ↦ rw (← same) (
-            next_at new e (next m (next m e)) i.next_edge (rw i.edge_count t.back_in) i.prev_back (i.other_origins _ t.back_in t.back-twin ∙ sym i.origin_twin) (no_face _ e t.back_in can.within)
+            next_at new e (next m (next m e)) i.next_edge (rw i.edge_count t.back_in) i.prev_back
+            (i.other_origins _ t.back_in t.back-twin ∙ sym i.origin_twin)
+            (no_face _ e t.back_in can.within)
             (λ q. t.there-twin (sym (rev-rev (next m e)) ∙ ap rev (sym t.back_is ∙ q))))
         | inr (not_edge, inl same) ↦ rw (← same) (
-            next_at new (prev m (rev e)) (next m e) i.next_before (rw i.edge_count t.there_in) i.prev_there
-            (i.other_origins _ t.there_in t.there-twin ∙ t.start ∙ sym (ap (origin m) t.before_next) ∙ (s.edges _ t.before_in).starts ∙ sym (origin_rev _ t.before_in (λ q. t.edge-before (sym q))))
+            next_at new (prev m (rev e)) (next m e) i.next_before
+            (rw i.edge_count t.there_in) i.prev_there
+            (i.other_origins _ t.there_in t.there-twin ∙ t.start ∙ sym (ap (origin m) t.before_next)
+            ∙ (s.edges _ t.before_in).starts
+            ∙ sym (origin_rev _ t.before_in (λ q. t.edge-before (sym q))))
             (no_face _ _ t.there_in t.before_in) (λ q. t.before-there (sym q)))
         | inr (not_edge, inr (not_before, inl same)) ↦ rw (← same) (
-            next_at new (next m e) (rev e) i.next_there (rw i.edge_count t.twin_in) i.prev_twin (i.origin_twin ∙ ap (origin m) t.back_is ∙ sym (origin_rev _ t.there_in (λ q. t.edge-there (sym q))))
+            next_at new (next m e) (rev e) i.next_there (rw i.edge_count t.twin_in) i.prev_twin
+            (i.origin_twin ∙ ap (origin m) t.back_is
+            ∙ sym (origin_rev _ t.there_in (λ q. t.edge-there (sym q))))
             (no_face _ _ t.twin_in t.there_in) (λ q. t.there-twin (sym q)))
         | inr (not_edge, inr (not_before, inr not_there)) ↦
-            let off_back : next m h ≢ next m (next m e) = λ q. not_there (sym t.there_back ∙ ap (prev m) (sym q) ∙ here.prev_next) in
-            let off_there : next m h ≢ next m e = λ q. not_edge (sym t.there_prev ∙ ap (prev m) (sym q) ∙ here.prev_next) in
-            let off_twin : next m h ≢ rev e = λ q. not_before (ap (prev m) (sym q) ∙ here.prev_next) in
-            next_kept m new h here (i.other_next h within (λ q. not_edge (sym q)) (λ q. not_before (sym q)) (λ q. not_there (sym q))) (i.other_prev (next m h) here.next_in off_back off_there off_twin)
-            (i.other_origins (next m h) here.next_in off_twin) (origin_rev h within (λ q. not_edge (sym q))) (i.faces h within) (i.faces (next m h) here.next_in) (omega (arith, i.edge_count))
+            let off_back : next m h ≢ next m (next m e) =
+            λ q. not_there (sym t.there_back ∙ ap (prev m) (sym q) ∙ here.prev_next) in
+            let off_there : next m h ≢ next m e =
+            λ q. not_edge (sym t.there_prev ∙ ap (prev m) (sym q) ∙ here.prev_next) in
+            let off_twin : next m h ≢ rev e =
+            λ q. not_before (ap (prev m) (sym q) ∙ here.prev_next) in
+            next_kept m new h here (i.other_next h within (λ q. not_edge (sym q))
+            (λ q. not_before (sym q)) (λ q. not_there (sym q)))
+            (i.other_prev (next m h) here.next_in off_back off_there off_twin)
+            (i.other_origins (next m h) here.next_in off_twin)
+            (origin_rev h within (λ q. not_edge (sym q))) (i.faces h within)
+            (i.faces (next m h) here.next_in) (omega (arith, i.edge_count))
       ]
 
   -- a sound mesh stays sound when an edge is moved to the far end of the next one

@@ -1,11 +1,13 @@
 -- One more vertex.
-use Rattle.std.proofs.Common.{◌≡◌, ℕ, zero, suc, List, [], ◌∷◌, ◌++◌, Option, None, get_or, refl, arith, length-append}
+use Rattle.std.proofs.Common.{◌≡◌, [], ◌∷◌, ◌++◌}
+use Rattle.std.proofs.Common.{ℕ, zero, suc, List, Option, None, get_or, refl, arith, length-append}
 use Rattle.std.proofs.lemmas.List.{get_or_append_left}
 use Rattle.half_edge_links.specs.Mesh.{Mesh, AreSoundLinks, with_vertex}
 use Rattle.half_edge_links.proofs.Sound.Parts.{sound_kept}
 
 -- one more `None` changes no read
-get_or-push_none : {X : Type 0} (xs : List (Option X)) (v : ℕ) → get_or (xs ++ None ∷ []) v None ≡ get_or xs v None
+get_or-push_none : {X : Type 0} (xs : List (Option X)) (v : ℕ)
+    → get_or (xs ++ None ∷ []) v None ≡ get_or xs v None
 get_or-push_none [] zero = refl
 get_or-push_none [] (suc v) = refl
 get_or-push_none (x ∷ xs) zero = refl

@@ -1,4 +1,5 @@
--- One element is moved in a walk: a set that is closed under the new walk gives one that is closed under the old.
+-- One element is moved in a walk: a set that is closed under the new walk gives one that is closed
+-- under the old.
 use Rattle.std.proofs.Common.{◌≡◌, ◌≢◌, ℕ, ◌<◌, Bool, true, refl, sym, ap, ◌∙◌, inl, inr}
 use Rattle.std.proofs.lemmas.Bool.{cases_eq}
 use Rattle.half_edge_links.proofs.Lists.Cases.{◌or_else◌}
@@ -20,7 +21,8 @@ pub record IsMoved (n : ℕ) (old new : ℕ → ℕ) (t p q r s : ℕ) : Type 0 
   pub s_off : s ≢ t
   pub other : (h : ℕ) → h < n → h ≢ t → h ≢ p → h ≢ r → (new h ≡ old h) × (old h ≢ t)
 
-module _ (n : ℕ) (old new : ℕ → ℕ) (t p q r s : ℕ) (w : IsMoved n old new t p q r s) (among : ℕ → Bool) (closed : (h : ℕ) → h < n → among h ≡ true → among (new h) ≡ true) where
+module _ (n : ℕ) (old new : ℕ → ℕ) (t p q r s : ℕ) (w : IsMoved n old new t p q r s)
+    (among : ℕ → Bool) (closed : (h : ℕ) → h < n → among h ≡ true → among (new h) ≡ true) where
   -- t stands for what came after it
   abbrev pub before : ℕ → Bool
   before h = stand_in among t t q q h
@@ -47,8 +49,12 @@ module _ (n : ℕ) (old new : ℕ → ℕ) (t p q r s : ℕ) (w : IsMoved n old 
   pub closed_before : (h : ℕ) → h < n → before h ≡ true → before (old h) ≡ true
   closed_before h within is =
       elim (cases_eq h t or_else cases_eq h p or_else cases_eq h r) [
-        | inl same ↦ ap before (ap old same ∙ w.was_before) ∙ plain q w.q_off ∙ sym at_t ∙ ap before (sym same) ∙ is
-        | inr (a, inl same) ↦ ap before (ap old same ∙ w.was_after) ∙ at_t ∙ step p q w.p_in w.are_joined (ap among (sym same) ∙ sym (plain h a) ∙ is)
-        | inr (a, inr (b, inl same)) ↦ ap before (ap old same ∙ w.were_joined) ∙ from_moved (to_moved (ap before (sym same) ∙ is))
-        | inr (a, inr (b, inr c)) ↦ let o = w.other h within a b c in plain (old h) o.1 ∙ step h (old h) within o.0 (sym (plain h a) ∙ is)
+        | inl same ↦ ap before (ap old same ∙ w.was_before) ∙ plain q w.q_off ∙ sym at_t
+            ∙ ap before (sym same) ∙ is
+        | inr (a, inl same) ↦ ap before (ap old same ∙ w.was_after) ∙ at_t
+            ∙ step p q w.p_in w.are_joined (ap among (sym same) ∙ sym (plain h a) ∙ is)
+        | inr (a, inr (b, inl same)) ↦ ap before (ap old same ∙ w.were_joined)
+            ∙ from_moved (to_moved (ap before (sym same) ∙ is))
+        | inr (a, inr (b, inr c)) ↦ let o = w.other h within a b c in
+            plain (old h) o.1 ∙ step h (old h) within o.0 (sym (plain h a) ∙ is)
       ]

@@ -1,5 +1,7 @@
--- A list of vertices after writes, as the list of the edges that they name and the list of their data.
-use Rattle.std.proofs.Common.{◌≡◌, ℕ, ◌-◌, ◌<◌, List, [], ◌∷◌, length, get_or, set, map, refl, sym, ap, ◌∙◌, arith}
+-- A list of vertices after writes, as the list of the edges that they name and the list of their
+-- data.
+use Rattle.std.proofs.Common.{◌≡◌, ◌-◌, ◌<◌, [], ◌∷◌, ◌∙◌}
+use Rattle.std.proofs.Common.{ℕ, List, length, get_or, set, map, refl, sym, ap, arith}
 use Rattle.std.proofs.lemmas.List.{map-set, take-map, length-map, get_or-map}
 use Rattle.std.proofs.Math.Seq.{map-set_same}
 use Rattle.std.specs.List.{swap_remove, AllZip}
@@ -8,17 +10,28 @@ use Rattle.half_edge_links.specs.VertexList.{IsCopiedVertex, named_by, out_edges
 
 module _ {V : Type 0} where
   -- another edge that one vertex names changes the edges there, and no data
-  pub set_named : (vs : List (Vertex V)) (i : ℕ) (at : Vertex V) (n : ℕ) → at ≡ get_or vs i at → (out_edges_of (set vs i (record at { out_edge = n })) ≡ set (out_edges_of vs) i (named_by n)) × (values_of (set vs i (record at { out_edge = n })) ≡ values_of vs)
-  set_named vs i at n is =
-      (map-set (λ (v : Vertex V). named_by v.out_edge) vs i (record at { out_edge = n }), map-set_same (λ (v : Vertex V). v.value) vs i (record at { out_edge = n }) at (ap (λ (v : Vertex V). v.value) is))
+  pub set_named : (vs : List (Vertex V)) (i : ℕ) (at : Vertex V) (n : ℕ) → at ≡ get_or vs i at
+      → (out_edges_of (set vs i (record at { out_edge = n })) ≡ set (out_edges_of vs) i
+      (named_by n)) × (values_of (set vs i (record at { out_edge = n })) ≡ values_of vs)
+  set_named vs i at n is = (
+    map-set (λ (v : Vertex V). named_by v.out_edge) vs i (record at { out_edge = n }),
+    map-set_same (λ (v : Vertex V). v.value) vs i (record at { out_edge = n }) at
+        (ap (λ (v : Vertex V). v.value) is),
+  )
 
   -- other data of one vertex change the data there, and no edge that is named
-  pub set_value : (vs : List (Vertex V)) (i : ℕ) (at : Vertex V) (value : V) → at ≡ get_or vs i at → (out_edges_of (set vs i (record at { value = value })) ≡ out_edges_of vs) × (values_of (set vs i (record at { value = value })) ≡ set (values_of vs) i value)
-  set_value vs i at value is =
-      (map-set_same (λ (v : Vertex V). named_by v.out_edge) vs i (record at { value = value }) at (ap (λ (v : Vertex V). named_by v.out_edge) is), map-set (λ (v : Vertex V). v.value) vs i (record at { value = value }))
+  pub set_value : (vs : List (Vertex V)) (i : ℕ) (at : Vertex V) (value : V) → at ≡ get_or vs i at
+      → (out_edges_of (set vs i (record at { value = value })) ≡ out_edges_of vs)
+      × (values_of (set vs i (record at { value = value })) ≡ set (values_of vs) i value)
+  set_value vs i at value is = (
+    map-set_same (λ (v : Vertex V). named_by v.out_edge) vs i (record at { value = value }) at
+        (ap (λ (v : Vertex V). named_by v.out_edge) is),
+    map-set (λ (v : Vertex V). v.value) vs i (record at { value = value }),
+  )
 
   -- copied vertices name the same edges
-  pub copied_out_edges : (R : V → V → Type 0) (old new : List (Vertex V)) → AllZip (IsCopiedVertex R) old new → out_edges_of new ≡ out_edges_of old
+  pub copied_out_edges : (R : V → V → Type 0) (old new : List (Vertex V))
+      → AllZip (IsCopiedVertex R) old new → out_edges_of new ≡ out_edges_of old
   copied_out_edges R [] [] each = refl
   copied_out_edges R [] (n ∷ new) each = absurd each
   copied_out_edges R (o ∷ old) [] each = absurd each
@@ -26,14 +39,18 @@ module _ {V : Type 0} where
       rw (each.0.out_edge, copied_out_edges R old new each.1) refl
 
   -- copied vertices have copied data
-  pub copied_values : (R : V → V → Type 0) (old new : List (Vertex V)) → AllZip (IsCopiedVertex R) old new → AllZip R (values_of old) (values_of new)
+  pub copied_values : (R : V → V → Type 0) (old new : List (Vertex V))
+      → AllZip (IsCopiedVertex R) old new → AllZip R (values_of old) (values_of new)
   copied_values R [] [] each = tt
   copied_values R [] (n ∷ new) each = absurd each
   copied_values R (o ∷ old) [] each = absurd each
   copied_values R (o ∷ old) (n ∷ new) each = (each.0.value, copied_values R old new each.1)
 
 -- an element taken out of a list is taken out of what its elements are turned into
-pub swap_remove-map : {X Y : Type 0} (f : X → Y) (xs : List X) (i : ℕ) (d : X) → 0 < length xs → map f (swap_remove xs i d) ≡ swap_remove (map f xs) i (f d)
+pub swap_remove-map : {X Y : Type 0} (f : X → Y) (xs : List X) (i : ℕ) (d : X) → 0 < length xs
+    → map f (swap_remove xs i d) ≡ swap_remove (map f xs) i (f d)
 swap_remove-map f xs i d some =
-    let last : get_or (map f xs) (length xs - 1) (f d) ≡ f (get_or xs (length xs - 1) d) = get_or-map f xs (length xs - 1) d (f d) (omega arith) in
-    sym (take-map f (length xs - 1) (set xs i (get_or xs (length xs - 1) d))) ∙ rw (length-map xs f, last, map-set f xs i (get_or xs (length xs - 1) d)) refl
+    let last : get_or (map f xs) (length xs - 1) (f d) ≡ f (get_or xs (length xs - 1) d) =
+    get_or-map f xs (length xs - 1) d (f d) (omega arith) in
+    sym (take-map f (length xs - 1) (set xs i (get_or xs (length xs - 1) d)))
+    ∙ rw (length-map xs f, last, map-set f xs i (get_or xs (length xs - 1) d)) refl

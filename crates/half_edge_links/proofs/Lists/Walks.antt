@@ -1,5 +1,6 @@
 -- The places that a one-to-one walk over finitely many numbers goes through.
-use Rattle.std.proofs.Common.{◌≡◌, ◌≢◌, ◌⊎◌, ℕ, zero, suc, ◌+◌, ◌-◌, ◌<◌, ◌≤◌, Bool, true, false, ◌==◌, if◌then◌else◌, refl, sym, ap, ◌∙◌, inl, inr, arith}
+use Rattle.std.proofs.Common.{◌≡◌, ◌≢◌, ◌⊎◌, ◌+◌, ◌-◌, ◌<◌, ◌≤◌, ◌==◌, if◌then◌else◌, ◌∙◌}
+use Rattle.std.proofs.Common.{ℕ, zero, suc, Bool, true, false, refl, sym, ap, inl, inr, arith}
 use Rattle.std.proofs.lemmas.Bool.{cases_eq, eq-eqb, eqb-true}
 use Rattle.half_edge_links.specs.Mesh.{iterate}
 use Rattle.half_edge_links.proofs.Lists.Orbits.{IsPeriod, step_add, step_back}
@@ -38,29 +39,39 @@ module _ (f : ℕ → ℕ) where
   ]
 
   -- the places up to a step from which the walk comes back hold with each place the next one
-  pub steps_closed : (o k : ℕ) → f (iterate f k o) ≡ o → (g : ℕ) → among_steps o k g ≡ true → among_steps o k (f g) ≡ true
+  pub steps_closed : (o k : ℕ) → f (iterate f k o) ≡ o → (g : ℕ) → among_steps o k g ≡ true
+      → among_steps o k (f g) ≡ true
   steps_closed o k round g is =
       let i = from_steps o k g is in
       elim (cases_eq i.0 k) [
-        | inl last ↦ ap (λ j. among_steps o k (f j)) (i.2 ∙ ap (λ j. iterate f j o) last) ∙ ap (among_steps o k) round ∙ to_steps o k 0 (omega arith)
-        | inr before ↦ ap (λ j. among_steps o k (f j)) i.2 ∙ to_steps o k (suc i.0) (omega (arith, i.1, before))
+        | inl last ↦ ap (λ j. among_steps o k (f j)) (i.2 ∙ ap (λ j. iterate f j o) last)
+            ∙ ap (among_steps o k) round ∙ to_steps o k 0 (omega arith)
+        | inr before ↦ ap (λ j. among_steps o k (f j)) i.2
+            ∙ to_steps o k (suc i.0) (omega (arith, i.1, before))
       ]
 
-  module _ (n : ℕ) (stays : (a : ℕ) → a < n → f a < n) (one_to_one : (a b : ℕ) → a < n → b < n → f a ≡ f b → a ≡ b) where
+  module _ (n : ℕ) (stays : (a : ℕ) → a < n → f a < n)
+      (one_to_one : (a b : ℕ) → a < n → b < n → f a ≡ f b → a ≡ b) where
     -- places at different steps before the first return differ
-    pub steps_apart : (o k i j : ℕ) → o < n → IsPeriod f o k → i < j → j < k → iterate f i o ≢ iterate f j o
+    pub steps_apart : (o k i j : ℕ) → o < n → IsPeriod f o k → i < j → j < k
+        → iterate f i o ≢ iterate f j o
     steps_apart o k i j within p less j_in same =
         let d : i + (j - i) ≡ j = omega (arith, less) in
-        p.first (j - i) (omega (arith, less)) (omega (arith, less, j_in)) (sym (step_back f n stays one_to_one o i (j - i) within (same ∙ ap (λ q. iterate f q o) (sym d))))
+        p.first (j - i) (omega (arith, less)) (omega (arith, less, j_in)) (sym (step_back f n stays
+        one_to_one o i (j - i) within (same ∙ ap (λ q. iterate f q o) (sym d))))
 
   -- after the first return the same places come again
   pub steps_again : (o k i : ℕ) → IsPeriod f o k → iterate f (i + k) o ≡ iterate f i o
   steps_again o k i p = step_add f o i k ∙ ap (iterate f i) p.back
 
   -- what a closed set that holds o has is one of the places
-  pub in_period : (o k g : ℕ) → IsPeriod f o k → among_steps o (k - 1) g ≡ true → (i : ℕ) × (i < k) × (g ≡ iterate f i o)
-  in_period o k g p is = let found = from_steps o (k - 1) g is in (found.0, omega (arith, found.1, p.some), found.2)
+  pub in_period : (o k g : ℕ) → IsPeriod f o k → among_steps o (k - 1) g ≡ true
+      → (i : ℕ) × (i < k) × (g ≡ iterate f i o)
+  in_period o k g p is = let found = from_steps o (k - 1) g is in
+      (found.0, omega (arith, found.1, p.some), found.2)
 
   -- the places before the first return hold with each place the next one
-  pub period_closed : (o k : ℕ) → IsPeriod f o k → (g : ℕ) → among_steps o (k - 1) g ≡ true → among_steps o (k - 1) (f g) ≡ true
-  period_closed o k p = steps_closed o (k - 1) (let e : suc (k - 1) ≡ k = omega (arith, p.some) in ap (λ j. iterate f j o) e ∙ p.back)
+  pub period_closed : (o k : ℕ) → IsPeriod f o k → (g : ℕ) → among_steps o (k - 1) g ≡ true
+      → among_steps o (k - 1) (f g) ≡ true
+  period_closed o k p = steps_closed o (k - 1) (let e : suc (k - 1) ≡ k = omega (arith, p.some) in
+      ap (λ j. iterate f j o) e ∙ p.back)

@@ -1,12 +1,16 @@
 -- Giving an inner face to the outer one keeps a mesh sound.
-use Rattle.std.proofs.Common.{◌≡◌, ◌≢◌, ℕ, ◌+◌, ◌-◌, ◌<◌, ◌≤◌, List, length, get_or, set, take, Option, Some, None, refl, sym, ap, ◌∙◌, inl, inr, arith}
+use Rattle.std.proofs.Common.{◌≡◌, ◌≢◌, ◌+◌, ◌-◌, ◌<◌, ◌≤◌, ◌∙◌}
+use Rattle.std.proofs.Common.{ℕ, List, length, get_or, set, take, Option, Some, None, refl, sym, ap}
+use Rattle.std.proofs.Common.{inl, inr, arith}
 use Rattle.std.proofs.lemmas.Bool.{cases_eq}
 use Rattle.std.proofs.lemmas.Bool.Decides.{nat_tests}
-use Rattle.std.proofs.lemmas.List.{get_or-set_same, get_or-set_other, get_or-take, length-set, length-take, get_or_read, get_or_default}
+use Rattle.std.proofs.lemmas.List.{get_or-set_same, get_or-set_other, get_or-take, length-set}
+use Rattle.std.proofs.lemmas.List.{length-take, get_or_read, get_or_default}
 use Rattle.std.specs.List.{swap_remove}
 use Rattle.half_edge_links.proofs.Lists.Cases.{◌or_else◌}
 use Rattle.half_edge_links.specs.declared.records.HalfEdge.{HalfEdge}
-use Rattle.half_edge_links.specs.Mesh.{Mesh, IsSmall, edge_at, next, prev, face, face_edge, out_edge, AreSoundLinks, IsInner}
+use Rattle.half_edge_links.specs.Mesh.{Mesh, IsSmall, edge_at, next, prev, face, face_edge}
+use Rattle.half_edge_links.specs.Mesh.{out_edge, AreSoundLinks, IsInner}
 use Rattle.half_edge_links.specs.Renames.{Naming, Renames, IsKeptEdge, moved, renamed}
 use Rattle.half_edge_links.specs.Remove.{opened, opened_face, with_loop_face, Opens}
 use Rattle.half_edge_links.proofs.Sound.Triangles.{triangle_at, same_loop}
@@ -19,20 +23,34 @@ same_renamed None = refl
 same_renamed (Some h) = refl
 
 -- the last takes the place of the one that goes
-pub get_or-swap_remove_same : {X : Type 0} (xs : List X) (i : ℕ) (d : X) → i + 1 < length xs → get_or (swap_remove xs i d) i d ≡ get_or xs (length xs - 1) d
-get_or-swap_remove_same xs i d within = get_or-take (length xs - 1) (set xs i (get_or xs (length xs - 1) d)) i d (omega arith) ∙ get_or-set_same xs i _ d (omega arith)
+pub get_or-swap_remove_same : {X : Type 0} (xs : List X) (i : ℕ) (d : X) → i + 1 < length xs
+    → get_or (swap_remove xs i d) i d ≡ get_or xs (length xs - 1) d
+get_or-swap_remove_same xs i d within =
+    get_or-take (length xs - 1) (set xs i (get_or xs (length xs - 1) d)) i d (omega arith)
+    ∙ get_or-set_same xs i _ d (omega arith)
 
 -- after the element at i is taken out, each other one but the last is where it was
-pub get_or-swap_remove_other : {X : Type 0} (xs : List X) (i k : ℕ) (d : X) → k + 1 < length xs → k ≢ i → get_or (swap_remove xs i d) k d ≡ get_or xs k d
-get_or-swap_remove_other xs i k d within differs = get_or-take (length xs - 1) (set xs i (get_or xs (length xs - 1) d)) k d (omega arith) ∙ get_or-set_other xs i k _ d differs
+pub get_or-swap_remove_other : {X : Type 0} (xs : List X) (i k : ℕ) (d : X) → k + 1 < length xs
+    → k ≢ i → get_or (swap_remove xs i d) k d ≡ get_or xs k d
+get_or-swap_remove_other xs i k d within differs =
+    get_or-take (length xs - 1) (set xs i (get_or xs (length xs - 1) d)) k d (omega arith)
+    ∙ get_or-set_other xs i k _ d differs
 
 -- what is left of a list with elements once one is taken out does not depend on the default
-pub swap_remove_default : {X : Type 0} (xs : List X) (i : ℕ) (d e : X) → 0 < length xs → swap_remove xs i d ≡ swap_remove xs i e
-swap_remove_default xs i d e some = ap (λ x. take (length xs - 1) (set xs i x)) (get_or_default xs (length xs - 1) d e (omega arith))
+pub swap_remove_default : {X : Type 0} (xs : List X) (i : ℕ) (d e : X) → 0 < length xs
+    → swap_remove xs i d ≡ swap_remove xs i e
+swap_remove_default xs i d e some = ap (λ x. take (length xs - 1) (set xs i x))
+    (get_or_default xs (length xs - 1) d e (omega arith))
 
 -- a list is one shorter once an element is taken out
-pub length-swap_remove : {X : Type 0} (xs : List X) (i : ℕ) (d : X) → length (swap_remove xs i d) ≡ length xs - 1
-length-swap_remove xs i d = omega (arith, length-take (length xs - 1) (set xs i (get_or xs (length xs - 1) d)), length-set xs i (get_or xs (length xs - 1) d))
+pub length-swap_remove : {X : Type 0} (xs : List X) (i : ℕ) (d : X)
+    → length (swap_remove xs i d) ≡ length xs - 1
+length-swap_remove xs i d =
+    omega (
+      arith,
+      length-take (length xs - 1) (set xs i (get_or xs (length xs - 1) d)),
+      length-set xs i (get_or xs (length xs - 1) d),
+    )
 
 module _ (m : Mesh) (f : ℕ) (s : AreSoundLinks m) (inner : IsInner m f) where
   -- the writes of the code give face f to the outer one, and its index to the last face
@@ -49,20 +67,23 @@ module _ (m : Mesh) (f : ℕ) (s : AreSoundLinks m) (inner : IsInner m f) where
       let mid : List HalfEdge = with_loop_face m.half_edges a f in
       let b_next = one.next b in
       let b_prev = one.prev b in
-      let two = sets_loop_face mid b 0 (rw one.count tb.h_in) (rw (b_next, one.count) tb.next_in) (rw (b_prev, one.count) tb.prev_in) in
+      let two = sets_loop_face mid b 0 (rw one.count tb.h_in) (rw (b_next, one.count) tb.next_in)
+      (rw (b_prev, one.count) tb.prev_in) in
       record {
         edge_count = two.count ∙ one.count;
         face_count = omega (arith, length-swap_remove m.face_edges (f - 1) 0, inner.0, inner.1);
         next = λ k. two.next k ∙ one.next k;
         prev = λ k. two.prev k ∙ one.prev k;
         origin = λ k. two.origin k ∙ one.origin k;
-        gone = λ k within was. two.face k (rw (b_next, b_prev) (same_loop m b k s tb.h_in within (omega (arith, inner.0, here.1)) (was ∙ sym here.1)));
+        gone = λ k within was. two.face k (rw (b_next, b_prev)
+            (same_loop m b k s tb.h_in within (omega (arith, inner.0, here.1)) (was ∙ sym here.1)));
         last = λ k within was differs.
             let off = λ (q : face m k ≡ f). differs (q) in
             let n1 = λ (q : k ≡ b). differs (ap (face m) q ∙ here.1) in
             let n2 = λ (q : k ≡ next m b). differs (ap (face m) q ∙ tb.face_next ∙ here.1) in
             let n3 = λ (q : k ≡ prev m b). differs (ap (face m) q ∙ tb.face_prev ∙ here.1) in
-            two.other k n1 (rw b_next n2) (rw b_prev n3) ∙ one.face k (same_loop m a k s ta.h_in within (omega (arith, inner.0, inner.1, last_in.1)) (was ∙ sym last_in.1));
+            two.other k n1 (rw b_next n2) (rw b_prev n3) ∙ one.face k (same_loop m a k s ta.h_in
+            within (omega (arith, inner.0, inner.1, last_in.1)) (was ∙ sym last_in.1));
         other = λ k within a_differs b_differs.
             let n1 = λ (q : k ≡ b). a_differs (ap (face m) q ∙ here.1) in
             let n2 = λ (q : k ≡ next m b). a_differs (ap (face m) q ∙ tb.face_next ∙ here.1) in
@@ -105,39 +126,55 @@ module _ (g f : ℕ) where
   opened_in : (x : ℕ) → 0 < f → f ≤ g → x ≤ g → opened_face g f x + 1 ≤ g
   opened_in x some within x_in = grind (arith, nat_tests)
 
-  opened_kept : (x : ℕ) → 0 < f → f ≤ g → 0 < opened_face g f x → (0 < x) × (moved f g (opened_face g f x) ≡ x)
+  opened_kept : (x : ℕ) → 0 < f → f ≤ g → 0 < opened_face g f x
+      → (0 < x) × (moved f g (opened_face g f x) ≡ x)
   opened_kept x some within kept = grind (arith, nat_tests)
 
   opened_back : (x : ℕ) → f ≤ g → x < g → opened_face g f (moved f g x) ≡ x
   opened_back x within x_in = grind (arith, nat_tests)
 
-module _ (m new : Mesh) (f : ℕ) (s : AreSoundLinks m) (inner : IsInner m f) (o : Opens m new f) where
+module _ (m new : Mesh) (f : ℕ) (s : AreSoundLinks m) (inner : IsInner m f)
+    (o : Opens m new f) where
   abbrev names : Naming
-  names = record { edge = λ h. h; old_edge = λ h. h; vertex = λ v. v; old_vertex = λ v. v; face = opened_face (length m.face_edges) f; old_face = moved f (length m.face_edges) }
+  names = record {
+    edge = λ h. h;
+    old_edge = λ h. h;
+    vertex = λ v. v;
+    old_vertex = λ v. v;
+    face = opened_face (length m.face_edges) f;
+    old_face = moved f (length m.face_edges);
+  }
 
   -- each edge of f has the outer face now, each of the last face has f, and others keep theirs
-  pub face_opened : (k : ℕ) → k < length m.half_edges → face new k ≡ opened_face (length m.face_edges) f (face m k)
+  pub face_opened : (k : ℕ) → k < length m.half_edges
+      → face new k ≡ opened_face (length m.face_edges) f (face m k)
   face_opened k within =
       elim (cases_eq (face m k) f or_else cases_eq (face m k) (length m.face_edges)) [
-        | inl is ↦ o.gone k within is ∙ sym (ap (opened_face (length m.face_edges) f) is ∙ opened_gone (length m.face_edges) f)
-        | inr (a, inl is) ↦ o.last k within is a ∙ sym (opened_last (length m.face_edges) f (face m k) is a)
-        | inr (a, inr b) ↦ o.other k within a b ∙ sym (opened_other (length m.face_edges) f (face m k) b a)
+        | inl is ↦ o.gone k within is ∙ sym
+            (ap (opened_face (length m.face_edges) f) is ∙ opened_gone (length m.face_edges) f)
+        | inr (a, inl is) ↦
+            o.last k within is a ∙ sym (opened_last (length m.face_edges) f (face m k) is a)
+        | inr (a, inr b) ↦
+            o.other k within a b ∙ sym (opened_other (length m.face_edges) f (face m k) b a)
       ]
 
   kept : (h : ℕ) → h < length m.half_edges → IsKeptEdge new names h
   kept h within = record { within = rw o.edge_count within; back = refl }
 
   -- a face that is left names the edge that it named under its old index
-  pub face_named : (x : ℕ) → 0 < x → x + 1 ≤ length m.face_edges → face_edge new x ≡ face_edge m (moved f (length m.face_edges) x)
+  pub face_named : (x : ℕ) → 0 < x → x + 1 ≤ length m.face_edges
+      → face_edge new x ≡ face_edge m (moved f (length m.face_edges) x)
   face_named x some within =
       elim (cases_eq x f) [
         | inl is ↦
             let at = moved_hit f (length m.face_edges) x is in
             let place : x - 1 ≡ f - 1 = omega arith in
-            rw (at, o.face_edges, place) (get_or-swap_remove_same m.face_edges (f - 1) 0 (omega arith))
+            rw (at, o.face_edges, place)
+            (get_or-swap_remove_same m.face_edges (f - 1) 0 (omega arith))
         | inr differs ↦
             let at = moved_miss f (length m.face_edges) x differs in
-            rw (at, o.face_edges) (get_or-swap_remove_other m.face_edges (f - 1) (x - 1) 0 (omega arith) (λ q. differs (omega (arith, inner.0))))
+            rw (at, o.face_edges) (get_or-swap_remove_other m.face_edges (f - 1) (x - 1) 0
+            (omega arith) (λ q. differs (omega (arith, inner.0))))
       ]
 
   renames_opened : Renames m new names
@@ -148,7 +185,12 @@ module _ (m new : Mesh) (f : ℕ) (s : AreSoundLinks m) (inner : IsInner m f) (o
         let here = s.edges h within' in
         let face_in = opened_in (length m.face_edges) f (face m h) inner.0 inner.1 here.face_in in
         record {
-          links = record { origin = o.origin h; next = o.next h; prev = o.prev h; face = face_opened h within' };
+          links = record {
+            origin = o.origin h;
+            next = o.next h;
+            prev = o.prev h;
+            face = face_opened h within';
+          };
           sound = here;
           back = refl;
           next_kept = kept (next m h) here.next_in;
@@ -176,7 +218,8 @@ module _ (m new : Mesh) (f : ℕ) (s : AreSoundLinks m) (inner : IsInner m f) (o
         };
     outer = rw o.outer_edge (same_renamed m.outer_edge);
     outer_kept = λ h named. let had = s.outer h named in (kept h had.0, had.1);
-    outer_face = opened_other (length m.face_edges) f 0 (omega (arith, inner.0, inner.1)) (omega (arith, inner.0));
+    outer_face = opened_other (length m.face_edges) f 0 (omega (arith, inner.0, inner.1))
+        (omega (arith, inner.0));
     has_outer = λ some. s.has_outer (rw o.edge_count at some);
   }
 
@@ -193,18 +236,28 @@ small_opened m new f o small = record {
 }
 
 -- the same for the code's reads
-pub opened-is : (m : Mesh) (f last edge d : ℕ) (hs one : List HalfEdge) (fs : List ℕ) → IsInner m f → last ≡ get_or m.face_edges (length m.face_edges - 1) last → edge ≡ get_or m.face_edges (f - 1) edge → one ≡ with_loop_face m.half_edges last f → hs ≡ with_loop_face one edge 0 → fs ≡ swap_remove m.face_edges (f - 1) d → (let new : Mesh = record m { half_edges = hs; face_edges = fs } in new) ≡ opened m f
+pub opened-is : (m : Mesh) (f last edge d : ℕ) (hs one : List HalfEdge) (fs : List ℕ) → IsInner m f
+    → last ≡ get_or m.face_edges (length m.face_edges - 1) last
+    → edge ≡ get_or m.face_edges (f - 1) edge → one ≡ with_loop_face m.half_edges last f
+    → hs ≡ with_loop_face one edge 0 → fs ≡ swap_remove m.face_edges (f - 1) d
+    → (let new : Mesh = record m { half_edges = hs; face_edges = fs } in new) ≡ opened m f
 unfolding opened
 opened-is m f last edge d hs one fs inner a b p q r =
     let r' = r ∙ swap_remove_default m.face_edges (f - 1) d 0 (omega (arith, inner.0, inner.1)) in
-    let a' = get_or_read m.face_edges (length m.face_edges - 1) last (omega (arith, inner.0, inner.1)) a 0 in
+    let a' = get_or_read m.face_edges (length m.face_edges - 1) last
+    (omega (arith, inner.0, inner.1)) a 0 in
     let b' = get_or_read m.face_edges (f - 1) edge (omega (arith, inner.0, inner.1)) b 0 in
     cc
 
 -- the loop of a face after the first write
-pub in_loop : (m : Mesh) (f last edge : ℕ) (one : List HalfEdge) → AreSoundLinks m → IsInner m f → last ≡ get_or m.face_edges (length m.face_edges - 1) last → edge ≡ get_or m.face_edges (f - 1) edge → one ≡ with_loop_face m.half_edges last f → (edge < length one) × ((edge_at one edge).next < length one) × ((edge_at one edge).prev < length one)
+pub in_loop : (m : Mesh) (f last edge : ℕ) (one : List HalfEdge) → AreSoundLinks m → IsInner m f
+    → last ≡ get_or m.face_edges (length m.face_edges - 1) last
+    → edge ≡ get_or m.face_edges (f - 1) edge → one ≡ with_loop_face m.half_edges last f
+    → (edge < length one) × ((edge_at one edge).next < length one)
+    × ((edge_at one edge).prev < length one)
 in_loop m f last edge one s inner a b p =
-    let a' = get_or_read m.face_edges (length m.face_edges - 1) last (omega (arith, inner.0, inner.1)) a 0 in
+    let a' = get_or_read m.face_edges (length m.face_edges - 1) last
+    (omega (arith, inner.0, inner.1)) a 0 in
     let b' = get_or_read m.face_edges (f - 1) edge (omega (arith, inner.0, inner.1)) b 0 in
     let last_at = s.faces (length m.face_edges) (omega (arith, inner.0, inner.1)) (omega arith) in
     let last_in = rw (← a') at last_at.0 in

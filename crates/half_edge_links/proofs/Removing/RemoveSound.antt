@@ -3,7 +3,8 @@ use Rattle.std.proofs.Common.{◌≡◌, ℕ, ◌+◌, ◌-◌, ◌%◌, ◌<◌
 use Rattle.half_edge_links.specs.declared.records.HalfEdge.{HalfEdge}
 use Rattle.half_edge_links.specs.Mesh.{Mesh, IsSmall, edge_at, rev, AreSoundLinks, IsValidMesh}
 use Rattle.half_edge_links.specs.Places.{AreJoined, AreUnlinkedPlaces, IsHole}
-use Rattle.half_edge_links.specs.Remove.{with_unlinked, unlinked, removed, edge_naming, IsRemovable, IsSoundBut, Removes}
+use Rattle.half_edge_links.specs.Remove.{with_unlinked, unlinked, removed, edge_naming, IsRemovable}
+use Rattle.half_edge_links.specs.Remove.{IsSoundBut, Removes}
 use Rattle.half_edge_links.proofs.Removing.Conditions.{IsUnlinkable, unlinkable}
 use Rattle.half_edge_links.proofs.Sound.RenameSound.{sound_renamed}
 use Rattle.half_edge_links.proofs.Removing.UnlinkSound.{unlinks, sound_but}
@@ -24,7 +25,8 @@ module _ (m : Mesh) (e : ℕ) (s : AreSoundLinks m) (can : IsUnlinkable m e) whe
   at_last : length (unlinked m e).half_edges ≡ length m.half_edges - 2 + 2
   at_last = let even = s.even in omega (arith, (unlinks m e s can).edge_count, can.within)
 
-  in_range_unlinked : (k : ℕ) → k < length m.half_edges → IsInRange m (with_unlinked m.half_edges e (rev e)) k
+  in_range_unlinked : (k : ℕ) → k < length m.half_edges
+      → IsInRange m (with_unlinked m.half_edges e (rev e)) k
   unfolding unlinked
   in_range_unlinked k within =
       let u = unlinks m e s can in
@@ -53,31 +55,55 @@ module _ (m : Mesh) (e : ℕ) (s : AreSoundLinks m) (can : IsUnlinkable m e) whe
       }
 
 -- the list whose edge e was taken out is joined, and the edge is a hole in it
-pub joined_unlinked : (m : Mesh) (e t : ℕ) (hs : List HalfEdge) → IsValidMesh m → IsRemovable m e → t ≡ rev e → hs ≡ with_unlinked m.half_edges e t → AreJoined hs × IsHole hs (e - e % 2)
+pub joined_unlinked : (m : Mesh) (e t : ℕ) (hs : List HalfEdge) → IsValidMesh m → IsRemovable m e
+    → t ≡ rev e → hs ≡ with_unlinked m.half_edges e t → AreJoined hs × IsHole hs (e - e % 2)
 unfolding unlinked
 joined_unlinked m e t hs v can at_t is =
     let full = unlinkable m e v can in
     let b = but m e v.sound full in
-    let hole : IsHole (with_unlinked m.half_edges e (rev e)) (e - e % 2) = record { even = b.even; hole_even = b.hole_even; within = b.within; next_self = b.next_self; twin_next_self = b.twin_next_self } in
-    rw (is, at_t) (joined_but (unlinked m e) (length m.half_edges - 2) (e - e % 2) b (at_last m e v.sound full), hole)
+    let hole : IsHole (with_unlinked m.half_edges e (rev e)) (e - e % 2) = record {
+      even = b.even;
+      hole_even = b.hole_even;
+      within = b.within;
+      next_self = b.next_self;
+      twin_next_self = b.twin_next_self;
+    } in
+    rw (is, at_t) (
+      joined_but (unlinked m e) (length m.half_edges - 2) (e - e % 2) b
+          (at_last m e v.sound full),
+      hole,
+    )
 
 -- what taking an edge out of its loops asks of the list
-pub unlinked_places : (m : Mesh) (e : ℕ) → AreSoundLinks m → IsRemovable m e → AreUnlinkedPlaces m.half_edges e (rev e)
+pub unlinked_places : (m : Mesh) (e : ℕ) → AreSoundLinks m → IsRemovable m e
+    → AreUnlinkedPlaces m.half_edges e (rev e)
 unlinked_places m e s can =
     let t_in = rev_within e (length m.half_edges) s.even can.within in
-    record { edge_in = can.within; twin_in = t_in; differ = λ q. rev_differs e (sym q); edge_proper = (s.edges e can.within).proper; twin_proper = (s.edges (rev e) t_in).proper }
+    record {
+      edge_in = can.within;
+      twin_in = t_in;
+      differ = λ q. rev_differs e (sym q);
+      edge_proper = (s.edges e can.within).proper;
+      twin_proper = (s.edges (rev e) t_in).proper;
+    }
 
 -- in the list whose edge e was taken out, the last edge and its other side name what there is
-pub last_in_range : (m : Mesh) (e t n : ℕ) (hs : List HalfEdge) → IsValidMesh m → IsRemovable m e → t ≡ rev e → n ≡ length m.half_edges → hs ≡ with_unlinked m.half_edges e t → IsInRange m hs (n - 2) × IsInRange m hs (n - 2 + 1)
+pub last_in_range : (m : Mesh) (e t n : ℕ) (hs : List HalfEdge) → IsValidMesh m → IsRemovable m e
+    → t ≡ rev e → n ≡ length m.half_edges → hs ≡ with_unlinked m.half_edges e t
+    → IsInRange m hs (n - 2) × IsInRange m hs (n - 2 + 1)
 last_in_range m e t n hs v can at_t at_n is =
     let full = unlinkable m e v can in
     let within = full.within in
     let even = v.sound.even in
-    rw (is, at_t) (in_range_unlinked m e v.sound full (n - 2) (omega arith), in_range_unlinked m e v.sound full (n - 2 + 1) (omega arith))
+    rw (is, at_t) (
+      in_range_unlinked m e v.sound full (n - 2) (omega arith),
+      in_range_unlinked m e v.sound full (n - 2 + 1) (omega arith),
+    )
 
 -- the mesh that is left once an edge is removed is sound
 pub sound_removed : (m new : Mesh) (e : ℕ) → Removes m new e → AreSoundLinks new
-sound_removed m new e r = sound_renamed r.between new (edge_naming (length m.half_edges - 2) (e - e % 2)) r.renames
+sound_removed m new e r =
+    sound_renamed r.between new (edge_naming (length m.half_edges - 2) (e - e % 2)) r.renames
 
 -- a small mesh stays small when an edge is removed
 pub small_removed : (m new : Mesh) (e : ℕ) → Removes m new e → IsSmall m → IsSmall new

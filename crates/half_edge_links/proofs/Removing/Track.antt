@@ -1,5 +1,6 @@
 -- The edges that are left once one was removed, under their new indexes.
-use Rattle.std.proofs.Common.{◌≡◌, ◌≢◌, ℕ, ◌-◌, ◌%◌, ◌<◌, ◌≤◌, length, Some, sym, ap, ◌∙◌, inl, inr, arith}
+use Rattle.std.proofs.Common.{◌≡◌, ◌≢◌, ◌-◌, ◌%◌, ◌<◌, ◌≤◌, ◌∙◌}
+use Rattle.std.proofs.Common.{ℕ, length, Some, sym, ap, inl, inr, arith}
 use Rattle.half_edge_links.specs.Mesh.{Mesh, origin, next, prev, face, rev, AreSoundLinks}
 use Rattle.half_edge_links.specs.Renames.{IsKeptEdge, IsRenamedEdge, pair_moved, renamed}
 use Rattle.half_edge_links.specs.Remove.{Removes, edge_naming, outer_after}
@@ -31,7 +32,8 @@ last_pair m = length m.half_edges - 2
 abbrev pub pair_at : ℕ → ℕ
 pair_at e = e - e % 2
 
-module _ (m new : Mesh) (e : ℕ) (s : AreSoundLinks m) (can : IsUnlinkable m e) (r : Removes m new e) where
+module _ (m new : Mesh) (e : ℕ) (s : AreSoundLinks m) (can : IsUnlinkable m e)
+    (r : Removes m new e) where
   -- the new index
   abbrev pub name : ℕ → ℕ
   name k = pair_moved (last_pair m) (pair_at e) k
@@ -48,7 +50,8 @@ module _ (m new : Mesh) (e : ℕ) (s : AreSoundLinks m) (can : IsUnlinkable m e)
   kept_left : (k : ℕ) → IsLeft m e k → IsKeptEdge new (edge_naming (last_pair m) (pair_at e)) k
   kept_left k l =
       let off = sides_back m r.between e s can r.unlinks k l.other l.other_side in
-      let n = new_left (last_pair m) (pair_at e) last_even hole_even below k (omega (arith, l.within)) off.0 off.1 in
+      let n = new_left (last_pair m) (pair_at e) last_even hole_even below k
+      (omega (arith, l.within)) off.0 off.1 in
       record { within = omega (arith, n.0, r.edge_count); back = n.1 }
 
   -- the new index is one of the new mesh
@@ -57,10 +60,13 @@ module _ (m new : Mesh) (e : ℕ) (s : AreSoundLinks m) (can : IsUnlinkable m e)
 
   -- edges that are left with the same new index are the same
   pub name_same : (a b : ℕ) → IsLeft m e a → IsLeft m e b → name a ≡ name b → a ≡ b
-  name_same a b p q same = sym (kept_left a p).back ∙ ap (pair_moved (pair_at e) (last_pair m)) same ∙ (kept_left b q).back
+  name_same a b p q same = sym (kept_left a p).back ∙ ap (pair_moved (pair_at e) (last_pair m)) same
+      ∙ (kept_left b q).back
 
-  links : (k : ℕ) → IsLeft m e k → IsRenamedEdge r.between new (edge_naming (last_pair m) (pair_at e)) (name k) k
-  links k l = kept_edge r.between new (edge_naming (last_pair m) (pair_at e)) r.renames k (kept_left k l)
+  links : (k : ℕ) → IsLeft m e k
+      → IsRenamedEdge r.between new (edge_naming (last_pair m) (pair_at e)) (name k) k
+  links k l =
+      kept_edge r.between new (edge_naming (last_pair m) (pair_at e)) r.renames k (kept_left k l)
 
   -- an edge that is left starts where it did
   pub origin_at : (k : ℕ) → IsLeft m e k → origin new (name k) ≡ origin m k
@@ -71,35 +77,49 @@ module _ (m new : Mesh) (e : ℕ) (s : AreSoundLinks m) (can : IsUnlinkable m e)
   face_at k l = (links k l).links.face ∙ r.unlinks.faces k
 
   -- the same edge comes next, unless e or its other side came next
-  pub next_at : (k : ℕ) → IsLeft m e k → k ≢ prev m e → k ≢ prev m (rev e) → next new (name k) ≡ name (next m k)
-  next_at k l a b = (links k l).links.next ∙ ap (pair_moved (last_pair m) (pair_at e)) (r.unlinks.other_next k l.other l.other_side a b)
+  pub next_at : (k : ℕ) → IsLeft m e k → k ≢ prev m e → k ≢ prev m (rev e)
+      → next new (name k) ≡ name (next m k)
+  next_at k l a b = (links k l).links.next
+      ∙ ap (pair_moved (last_pair m) (pair_at e)) (r.unlinks.other_next k l.other l.other_side a b)
 
   -- after the edge before e comes the one after the other side of e
-  pub next_before : (k : ℕ) → IsLeft m e k → k ≡ prev m e → next new (name k) ≡ name (next m (rev e))
-  next_before k l is = (links k l).links.next ∙ ap (pair_moved (last_pair m) (pair_at e)) (ap (next r.between) is ∙ r.unlinks.before (λ z. l.other_side (is ∙ z)))
+  pub next_before : (k : ℕ) → IsLeft m e k → k ≡ prev m e
+      → next new (name k) ≡ name (next m (rev e))
+  next_before k l is = (links k l).links.next ∙ ap (pair_moved (last_pair m) (pair_at e))
+      (ap (next r.between) is ∙ r.unlinks.before (λ z. l.other_side (is ∙ z)))
 
   -- after the edge before the other side of e comes the one after e
-  pub next_twin_before : (k : ℕ) → IsLeft m e k → k ≡ prev m (rev e) → next new (name k) ≡ name (next m e)
-  next_twin_before k l is = (links k l).links.next ∙ ap (pair_moved (last_pair m) (pair_at e)) (ap (next r.between) is ∙ r.unlinks.twin_before (λ z. l.other (is ∙ z)))
+  pub next_twin_before : (k : ℕ) → IsLeft m e k → k ≡ prev m (rev e)
+      → next new (name k) ≡ name (next m e)
+  next_twin_before k l is = (links k l).links.next ∙ ap (pair_moved (last_pair m) (pair_at e))
+      (ap (next r.between) is ∙ r.unlinks.twin_before (λ z. l.other (is ∙ z)))
 
   -- each edge of the new mesh is one that is left
-  pub old_at : (h : ℕ) → h < length new.half_edges → IsLeft m e (pair_moved (pair_at e) (last_pair m) h) × (name (pair_moved (pair_at e) (last_pair m) h) ≡ h)
+  pub old_at : (h : ℕ) → h < length new.half_edges
+      → IsLeft m e (pair_moved (pair_at e) (last_pair m) h)
+      × (name (pair_moved (pair_at e) (last_pair m) h) ≡ h)
   old_at h within =
-      let o = old_left (last_pair m) (pair_at e) last_even hole_even below h (omega (arith, r.edge_count)) in
-      let off = sides m r.between e s can r.unlinks (pair_moved (pair_at e) (last_pair m) h) o.1 o.2 in
+      let o = old_left (last_pair m) (pair_at e) last_even hole_even below h
+      (omega (arith, r.edge_count)) in
+      let off =
+      sides m r.between e s can r.unlinks (pair_moved (pair_at e) (last_pair m) h) o.1 o.2 in
       (record { within = omega (arith, o.0); other = off.0; other_side = off.1 }, o.3)
 
   -- the other side of an edge that is left is the same edge as before
   pub rev_at : (k : ℕ) → IsLeft m e k → rev (name k) ≡ name (rev k)
   rev_at k l =
-      let o = old_at (rev (name k)) (rev_within (name k) (length new.half_edges) r.renames.even (name_in k l)) in
-      sym o.1 ∙ ap (pair_moved (last_pair m) (pair_at e)) (old_rev (last_pair m) (pair_at e) last_even hole_even below (name k) ∙ ap rev (kept_left k l).back)
+      let o = old_at (rev (name k))
+      (rev_within (name k) (length new.half_edges) r.renames.even (name_in k l)) in
+      sym o.1 ∙ ap (pair_moved (last_pair m) (pair_at e)) (old_rev (last_pair m)
+      (pair_at e) last_even hole_even below (name k) ∙ ap rev (kept_left k l).back)
 
   -- the outer face names the same edge, if this is left
   pub outer_at : (k : ℕ) → IsLeft m e k → m.outer_edge ≡ Some k → new.outer_edge ≡ Some (name k)
   outer_at k l is =
-      let after = r.unlinks.outer_edge ∙ ap (λ o. outer_after o e (rev e) (next m e) (prev m e)) is in
+      let after =
+      r.unlinks.outer_edge ∙ ap (λ o. outer_after o e (rev e) (next m e) (prev m e)) is in
       elim (after_cases k e (rev e) (next m e) (prev m e)) [
         | inl i ↦ absurd (elim i.0 [ inl z ↦ l.other z | inr z ↦ l.other_side z ])
-        | inr i ↦ r.renames.outer ∙ ap (renamed (pair_moved (last_pair m) (pair_at e))) (after ∙ i.2)
+        | inr i ↦ r.renames.outer
+            ∙ ap (renamed (pair_moved (last_pair m) (pair_at e))) (after ∙ i.2)
       ]

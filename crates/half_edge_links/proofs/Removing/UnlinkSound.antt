@@ -1,18 +1,23 @@
 -- Taking an edge out of its loops leaves the rest of a mesh sound.
-use Rattle.std.proofs.Common.{◌≡◌, ◌≢◌, ◌⊎◌, ℕ, ◌+◌, ◌-◌, ◌%◌, ◌<◌, List, length, get_or, set, Option, Some, None, IsSome, refl, sym, ap, ◌∙◌, inl, inr, arith}
+use Rattle.std.proofs.Common.{◌≡◌, ◌≢◌, ◌⊎◌, ◌+◌, ◌-◌, ◌%◌, ◌<◌, ◌∙◌}
+use Rattle.std.proofs.Common.{ℕ, List, length, get_or, set, Option, Some, None, IsSome, refl, sym}
+use Rattle.std.proofs.Common.{ap, inl, inr, arith}
 use Rattle.std.proofs.lemmas.Bool.{cases_eq}
 use Rattle.std.proofs.lemmas.Bool.Decides.{nat_tests}
 use Rattle.std.proofs.lemmas.List.{get_or-set_same, get_or-set_other, length-set}
 use Rattle.half_edge_links.proofs.Lists.Cases.{◌or_else◌}
 use Rattle.half_edge_links.specs.declared.records.HalfEdge.{HalfEdge}
-use Rattle.half_edge_links.specs.Mesh.{Mesh, edge_at, origin, next, prev, face, face_edge, out_edge, rev, AreSoundLinks, IsSoundEdge}
+use Rattle.half_edge_links.specs.Mesh.{Mesh, edge_at, origin, next, prev, face, face_edge, out_edge}
+use Rattle.half_edge_links.specs.Mesh.{rev, AreSoundLinks, IsSoundEdge}
 use Rattle.half_edge_links.specs.Grow.{with_next, with_prev}
-use Rattle.half_edge_links.specs.Remove.{with_unlinked, unlinked, out_after, outer_after, outer_beside, Unlinks, IsSoundBut}
+use Rattle.half_edge_links.specs.Remove.{with_unlinked, unlinked, out_after, outer_after}
+use Rattle.half_edge_links.specs.Remove.{outer_beside, Unlinks, IsSoundBut}
 use Rattle.half_edge_links.proofs.Removing.Conditions.{IsUnlinkable}
 use Rattle.half_edge_links.proofs.Lists.Rev.{rev-rev, rev_within, rev_differs}
 use Rattle.half_edge_links.proofs.Lists.Orbits.{reached}
 use Rattle.half_edge_links.proofs.Sound.Parts.{sound_from, next_at, inner_kept}
-use Rattle.half_edge_links.proofs.Sound.FieldWrites.{writes_next, writes_prev, next_link, prev_link, face_link, origin_link}
+use Rattle.half_edge_links.proofs.Sound.FieldWrites.{writes_next, writes_prev, next_link, prev_link}
+use Rattle.half_edge_links.proofs.Sound.FieldWrites.{face_link, origin_link}
 
 -- the edge after edge k in a list of directed edges
 abbrev pub next_of : List HalfEdge → ℕ → ℕ
@@ -33,27 +38,33 @@ module _ (hs : List HalfEdge) (h x k y : ℕ) where
 
   -- the edge after h is the written one
   pub next_both : h < length hs → next_of (both hs h x k y) h ≡ x
-  next_both within = (writes_prev (with_next hs h x) k y).kept next_link refl h ∙ ap next_link ((writes_next hs h x).here within)
+  next_both within = (writes_prev (with_next hs h x) k y).kept next_link refl h
+      ∙ ap next_link ((writes_next hs h x).here within)
 
   -- the edge after any other edge than h stays
   pub next_both_other : (j : ℕ) → j ≢ h → next_of (both hs h x k y) j ≡ next_of hs j
-  next_both_other j differs = (writes_prev (with_next hs h x) k y).kept next_link refl j ∙ ap next_link ((writes_next hs h x).other j differs)
+  next_both_other j differs = (writes_prev (with_next hs h x) k y).kept next_link refl j
+      ∙ ap next_link ((writes_next hs h x).other j differs)
 
   -- the edge before k is the written one
   pub prev_both : k < length hs → prev_of (both hs h x k y) k ≡ y
-  prev_both within = ap prev_link ((writes_prev (with_next hs h x) k y).here (rw (writes_next hs h x).count within))
+  prev_both within = ap prev_link
+      ((writes_prev (with_next hs h x) k y).here (rw (writes_next hs h x).count within))
 
   -- the edge before any other edge than k stays
   pub prev_both_other : (j : ℕ) → j ≢ k → prev_of (both hs h x k y) j ≡ prev_of hs j
-  prev_both_other j differs = ap prev_link ((writes_prev (with_next hs h x) k y).other j differs) ∙ (writes_next hs h x).kept prev_link refl j
+  prev_both_other j differs = ap prev_link ((writes_prev (with_next hs h x) k y).other j differs)
+      ∙ (writes_next hs h x).kept prev_link refl j
 
   -- the writes of both links leave the origins
   pub origin_both : (j : ℕ) → (edge_at (both hs h x k y) j).origin ≡ (edge_at hs j).origin
-  origin_both j = (writes_prev (with_next hs h x) k y).kept origin_link refl j ∙ (writes_next hs h x).kept origin_link refl j
+  origin_both j = (writes_prev (with_next hs h x) k y).kept origin_link refl j
+      ∙ (writes_next hs h x).kept origin_link refl j
 
   -- the writes of both links leave the faces
   pub face_both : (j : ℕ) → (edge_at (both hs h x k y) j).face ≡ (edge_at hs j).face
-  face_both j = (writes_prev (with_next hs h x) k y).kept face_link refl j ∙ (writes_next hs h x).kept face_link refl j
+  face_both j = (writes_prev (with_next hs h x) k y).kept face_link refl j
+      ∙ (writes_next hs h x).kept face_link refl j
 
 module _ (m : Mesh) (e : ℕ) (s : AreSoundLinks m) (can : IsUnlinkable m e) where
   -- the writes of the code take the edge and its other side out of their loops
@@ -77,31 +88,42 @@ module _ (m : Mesh) (e : ℕ) (s : AreSoundLinks m) (can : IsUnlinkable m e) whe
       let nc : length c ≡ length hs = length_both b e e e e ∙ nb in
       let et : e ≢ rev e = λ z. rev_differs e (sym z) in
       let q_e : q ≢ e = λ z. can.ends (sym (ap (origin m) z) ∙ at_e.starts) in
-      let y_t : y ≢ t = λ z. can.ends (sym (at_t.starts ∙ ap (origin m) (rev-rev e)) ∙ ap (origin m) z) in
+      let y_t : y ≢ t =
+      λ z. can.ends (sym (at_t.starts ∙ ap (origin m) (rev-rev e)) ∙ ap (origin m) z) in
       let p_e : p ≢ e = λ z. q_e (sym (ap (next m) z) ∙ at_e.next_prev) in
       let x_t : x ≢ t = λ z. y_t (sym (ap (next m) z) ∙ at_t.next_prev) in
       let p_x : p ≢ x = λ z. et (sym at_e.next_prev ∙ ap (next m) z ∙ at_t.next_prev) in
       let y_q : y ≢ q = λ z. et (sym at_e.prev_next ∙ sym (ap (prev m) z) ∙ at_t.prev_next) in
-      let to_in : origin m (rev e) < length (set m.out_edges (origin m e) (out_after e y)) = rw length-set at_t.origin_in in
+      let to_in : origin m (rev e) < length (set m.out_edges (origin m e) (out_after e y)) =
+      rw length-set at_t.origin_in in
       record {
         edge_count = length_both c t t t t ∙ nc;
         vertex_count = simp length-set;
         face_edges = refl;
-        origins = λ k. origin_both c t t t t k ∙ origin_both b e e e e k ∙ origin_both a x q q x k ∙ origin_both hs p y y p k;
-        faces = λ k. face_both c t t t t k ∙ face_both b e e e e k ∙ face_both a x q q x k ∙ face_both hs p y y p k;
-        before = λ d. next_both_other c t t t t p d ∙ next_both_other b e e e e p p_e ∙ next_both_other a x q q x p p_x ∙ next_both hs p y y p at_e.prev_in;
-        twin_before = λ d. next_both_other c t t t t x x_t ∙ next_both_other b e e e e x d ∙ next_both a x q q x (rw na at_t.prev_in);
-        other_next = λ k k_e k_t k_p k_x. next_both_other c t t t t k k_t ∙ next_both_other b e e e e k k_e ∙ next_both_other a x q q x k k_x ∙ next_both_other hs p y y p k k_p;
-        after = λ d. prev_both_other c t t t t q d ∙ prev_both_other b e e e e q q_e ∙ prev_both a x q q x (rw na at_e.next_in);
-        twin_after = λ d. prev_both_other c t t t t y y_t ∙ prev_both_other b e e e e y d ∙ prev_both_other a x q q x y y_q ∙ prev_both hs p y y p at_t.next_in;
-        other_prev = λ k k_e k_t k_q k_y. prev_both_other c t t t t k k_t ∙ prev_both_other b e e e e k k_e ∙ prev_both_other a x q q x k k_q ∙ prev_both_other hs p y y p k k_y;
+        origins = λ k. origin_both c t t t t k ∙ origin_both b e e e e k ∙ origin_both a x q q x k
+            ∙ origin_both hs p y y p k;
+        faces = λ k. face_both c t t t t k ∙ face_both b e e e e k ∙ face_both a x q q x k
+            ∙ face_both hs p y y p k;
+        before = λ d. next_both_other c t t t t p d ∙ next_both_other b e e e e p p_e
+            ∙ next_both_other a x q q x p p_x ∙ next_both hs p y y p at_e.prev_in;
+        twin_before = λ d. next_both_other c t t t t x x_t ∙ next_both_other b e e e e x d
+            ∙ next_both a x q q x (rw na at_t.prev_in);
+        other_next = λ k k_e k_t k_p k_x. next_both_other c t t t t k k_t ∙ next_both_other b e e e
+            e k k_e ∙ next_both_other a x q q x k k_x ∙ next_both_other hs p y y p k k_p;
+        after = λ d. prev_both_other c t t t t q d ∙ prev_both_other b e e e e q q_e
+            ∙ prev_both a x q q x (rw na at_e.next_in);
+        twin_after = λ d. prev_both_other c t t t t y y_t ∙ prev_both_other b e e e e y d
+            ∙ prev_both_other a x q q x y y_q ∙ prev_both hs p y y p at_t.next_in;
+        other_prev = λ k k_e k_t k_q k_y. prev_both_other c t t t t k k_t ∙ prev_both_other b e e e
+            e k k_e ∙ prev_both_other a x q q x k k_q ∙ prev_both_other hs p y y p k k_y;
         next_self = next_both_other c t t t t e et ∙ next_both b e e e e (rw nb can.within);
         prev_self = prev_both_other c t t t t e et ∙ prev_both b e e e e (rw nb can.within);
         twin_next_self = next_both c t t t t (rw nc t_in);
         twin_prev_self = prev_both c t t t t (rw nc t_in);
         out = get_or-set_other _ _ _ _ None can.ends ∙ get_or-set_same _ _ _ None at_e.origin_in;
         twin_out = get_or-set_same _ _ _ None to_in;
-        other_outs = λ v v_a v_b. get_or-set_other _ _ v _ None v_b ∙ get_or-set_other _ _ v _ None v_a;
+        other_outs = λ v v_a v_b. get_or-set_other _ _ v _ None v_b
+            ∙ get_or-set_other _ _ v _ None v_a;
         outer_edge = refl;
       }
 
@@ -110,18 +132,25 @@ pub some_same : (a b : ℕ) → (let o : Option ℕ = Some a in o) ≡ Some b �
 some_same a b same = cc
 
 -- the two sides of an edge
-pub halves : (e : ℕ) → ((e ≡ e - e % 2) × (rev e ≡ e - e % 2 + 1)) ⊎ ((e ≡ e - e % 2 + 1) × (rev e ≡ e - e % 2))
+pub halves : (e : ℕ)
+    → ((e ≡ e - e % 2) × (rev e ≡ e - e % 2 + 1)) ⊎ ((e ≡ e - e % 2 + 1) × (rev e ≡ e - e % 2))
 halves e = grind (arith, nat_tests)
 
-beside_cases : (t n p : ℕ) → ((n ≢ t) × (outer_beside t n p ≡ Some n)) ⊎ (((n ≡ t) × (p ≢ t) × (outer_beside t n p ≡ Some p)) ⊎ ((n ≡ t) × (p ≡ t) × (outer_beside t n p ≡ None)))
+beside_cases : (t n p : ℕ) → ((n ≢ t) × (outer_beside t n p ≡ Some n))
+    ⊎ (((n ≡ t) × (p ≢ t) × (outer_beside t n p ≡ Some p))
+    ⊎ ((n ≡ t) × (p ≡ t) × (outer_beside t n p ≡ None)))
 beside_cases t n p = grind (arith, nat_tests)
 
--- the outer face names one beside edge e once e is out, if it named e or its reverse t, or else what it did
-pub after_cases : (h e t n p : ℕ) → (((h ≡ e) ⊎ (h ≡ t)) × (outer_after (Some h) e t n p ≡ outer_beside t n p)) ⊎ ((h ≢ e) × (h ≢ t) × (outer_after (Some h) e t n p ≡ Some h))
+-- the outer face names one beside edge e once e is out, if it named e or its reverse t, or else
+-- what it did
+pub after_cases : (h e t n p : ℕ)
+    → (((h ≡ e) ⊎ (h ≡ t)) × (outer_after (Some h) e t n p ≡ outer_beside t n p))
+    ⊎ ((h ≢ e) × (h ≢ t) × (outer_after (Some h) e t n p ≡ Some h))
 after_cases h e t n p = grind (arith, nat_tests)
 
 -- what the rest of a mesh is when edge e, with other side t, was taken out
-module _ (m new : Mesh) (e : ℕ) (s : AreSoundLinks m) (can : IsUnlinkable m e) (u : Unlinks m new e (rev e)) where
+module _ (m new : Mesh) (e : ℕ) (s : AreSoundLinks m) (can : IsUnlinkable m e)
+    (u : Unlinks m new e (rev e)) where
   -- the other side of e is in the mesh
   pub t_in : rev e < length m.half_edges
   t_in = rev_within e (length m.half_edges) s.even can.within
@@ -150,7 +179,8 @@ module _ (m new : Mesh) (e : ℕ) (s : AreSoundLinks m) (can : IsUnlinkable m e)
   p_face = sym (s.edges (prev m e) at_e.prev_in).same_face ∙ ap (face m) at_e.next_prev ∙ can.outer
 
   x_face : face m (prev m (rev e)) ≡ 0
-  x_face = sym (s.edges (prev m (rev e)) at_t.prev_in).same_face ∙ ap (face m) at_t.next_prev ∙ can.twin_outer
+  x_face = sym (s.edges (prev m (rev e)) at_t.prev_in).same_face ∙ ap (face m) at_t.next_prev
+      ∙ can.twin_outer
 
   -- an edge that is left, and what is after it now
   pub record IsAfter (h n : ℕ) : Type 0 where
@@ -172,7 +202,8 @@ module _ (m new : Mesh) (e : ℕ) (s : AreSoundLinks m) (can : IsUnlinkable m e)
         n_t = y_t;
         next_is = u.before p_t;
         prev_is = u.twin_after y_e;
-        starts = y_starts ∙ sym (ap (origin m) at_e.next_prev) ∙ (s.edges (prev m e) at_e.prev_in).starts;
+        starts = y_starts ∙ sym (ap (origin m) at_e.next_prev)
+            ∙ (s.edges (prev m e) at_e.prev_in).starts;
         same_face = at_t.same_face ∙ can.twin_outer ∙ sym p_face;
         differs = can.start_free;
       }
@@ -186,20 +217,25 @@ module _ (m new : Mesh) (e : ℕ) (s : AreSoundLinks m) (can : IsUnlinkable m e)
         n_t = q_t;
         next_is = u.twin_before x_e;
         prev_is = u.after q_t;
-        starts = at_e.starts ∙ sym (ap (origin m) at_t.next_prev) ∙ (s.edges (prev m (rev e)) at_t.prev_in).starts;
+        starts = at_e.starts ∙ sym (ap (origin m) at_t.next_prev)
+            ∙ (s.edges (prev m (rev e)) at_t.prev_in).starts;
         same_face = at_e.same_face ∙ can.outer ∙ sym x_face;
         differs = λ z. can.end_free (sym z);
       }
 
-  after_other : (h : ℕ) → h < length m.half_edges → h ≢ e → h ≢ rev e → h ≢ prev m e → h ≢ prev m (rev e) → IsAfter h (next m h)
+  after_other : (h : ℕ) → h < length m.half_edges → h ≢ e → h ≢ rev e → h ≢ prev m e
+      → h ≢ prev m (rev e) → IsAfter h (next m h)
   after_other h within h_e h_t h_p h_x =
       let here = s.edges h within in
       let n_e : next m h ≢ e = λ z. h_p (sym here.prev_next ∙ ap (prev m) z) in
       let n_t : next m h ≢ rev e = λ z. h_x (sym here.prev_next ∙ ap (prev m) z) in
-      let n_q : next m h ≢ next m e = λ z. h_e (sym here.prev_next ∙ ap (prev m) z ∙ at_e.prev_next) in
-      let n_y : next m h ≢ next m (rev e) = λ z. h_t (sym here.prev_next ∙ ap (prev m) z ∙ at_t.prev_next) in
+      let n_q : next m h ≢ next m e =
+      λ z. h_e (sym here.prev_next ∙ ap (prev m) z ∙ at_e.prev_next) in
+      let n_y : next m h ≢ next m (rev e) =
+      λ z. h_t (sym here.prev_next ∙ ap (prev m) z ∙ at_t.prev_next) in
       let next_is = u.other_next h h_e h_t h_p h_x in
-      let prev_is : prev new (next m h) ≡ h = u.other_prev (next m h) n_e n_t n_q n_y ∙ here.prev_next in
+      let prev_is : prev new (next m h) ≡ h =
+      u.other_prev (next m h) n_e n_t n_q n_y ∙ here.prev_next in
       assumption (here, n_e, n_t, next_is, prev_is)
 
   -- what is after an edge that is left
@@ -220,18 +256,22 @@ module _ (m new : Mesh) (e : ℕ) (s : AreSoundLinks m) (can : IsUnlinkable m e)
     pub next_is : next new b ≡ h
 
   -- from each edge, also those taken out, one comes back by the edge before
-  back : (h : ℕ) → h < length m.half_edges → (next new h < length m.half_edges) × (prev new (next new h) ≡ h)
+  back : (h : ℕ) → h < length m.half_edges
+      → (next new h < length m.half_edges) × (prev new (next new h) ≡ h)
   back h within =
       elim (cases_eq h e or_else cases_eq h (rev e)) [
         | inl is ↦ rw (is, u.next_self) (can.within, u.prev_self)
         | inr (h_e, inl is) ↦ rw (is, u.twin_next_self) (t_in, u.twin_prev_self)
-        | inr (h_e, inr h_t) ↦ let a = after h within h_e h_t in rw a.1.next_is (a.1.n_in, a.1.prev_is)
+        | inr (h_e, inr h_t) ↦ let a = after h within h_e h_t in
+            rw a.1.next_is (a.1.n_in, a.1.prev_is)
       ]
 
   -- each edge but the two sides of e has an edge before it now
   pub before : (h : ℕ) → h < length m.half_edges → h ≢ e → h ≢ rev e → (b : ℕ) × IsBefore h b
   before h within h_e h_t =
-      let b = reached (next new) (length m.half_edges) (λ k k_in. (back k k_in).0) (λ k l k_in l_in same. sym (back k k_in).1 ∙ ap (prev new) same ∙ (back l l_in).1) h within in (
+      let b = reached (next new) (length m.half_edges) (λ k k_in. (back k k_in).0)
+      (λ k l k_in l_in same. sym (back k k_in).1 ∙ ap (prev new) same
+      ∙ (back l l_in).1) h within in (
         b.0,
         record {
           b_in = b.1;
@@ -245,12 +285,18 @@ module _ (m new : Mesh) (e : ℕ) (s : AreSoundLinks m) (can : IsUnlinkable m e)
   -- the loop of an inner face is as it was
   pub inner_next : (h : ℕ) → h < length m.half_edges → 0 < face m h → next new h ≡ next m h
   inner_next h within inner =
-      u.other_next h (λ z. absurd (omega (arith, can.outer, ap (face m) z))) (λ z. absurd (omega (arith, can.twin_outer, ap (face m) z))) (λ z. absurd (omega (arith, p_face, ap (face m) z))) (λ z. absurd (omega (arith, x_face, ap (face m) z)))
+      u.other_next h (λ z. absurd (omega (arith, can.outer, ap (face m) z)))
+      (λ z. absurd (omega (arith, can.twin_outer, ap (face m) z)))
+      (λ z. absurd (omega (arith, p_face, ap (face m) z)))
+      (λ z. absurd (omega (arith, x_face, ap (face m) z)))
 
   -- an edge of an inner face keeps the edge before it
   pub inner_prev : (h : ℕ) → h < length m.half_edges → 0 < face m h → prev new h ≡ prev m h
   inner_prev h within inner =
-      u.other_prev h (λ z. absurd (omega (arith, can.outer, ap (face m) z))) (λ z. absurd (omega (arith, can.twin_outer, ap (face m) z))) (λ z. absurd (omega (arith, at_e.same_face, can.outer, ap (face m) z))) (λ z. absurd (omega (arith, at_t.same_face, can.twin_outer, ap (face m) z)))
+      u.other_prev h (λ z. absurd (omega (arith, can.outer, ap (face m) z)))
+      (λ z. absurd (omega (arith, can.twin_outer, ap (face m) z)))
+      (λ z. absurd (omega (arith, at_e.same_face, can.outer, ap (face m) z)))
+      (λ z. absurd (omega (arith, at_t.same_face, can.twin_outer, ap (face m) z)))
 
   some_after : (gone other : ℕ) → other ≢ gone → out_after gone other ≡ Some other
   some_after gone other differs = grind (arith, nat_tests)
@@ -258,7 +304,8 @@ module _ (m new : Mesh) (e : ℕ) (s : AreSoundLinks m) (can : IsUnlinkable m e)
   none_after : (gone other : ℕ) → other ≡ gone → out_after gone other ≡ None
   none_after gone other same = grind (arith, nat_tests)
 
-  has_out : (h : ℕ) → h < length m.half_edges → h ≢ e → h ≢ rev e → IsSome (out_edge new (origin m h))
+  has_out : (h : ℕ) → h < length m.half_edges → h ≢ e → h ≢ rev e
+      → IsSome (out_edge new (origin m h))
   has_out h within h_e h_t =
       elim (cases_eq (origin m h) (origin m e)) [
         | inl is ↦ elim (cases_eq (next m (rev e)) e) [
@@ -284,10 +331,17 @@ module _ (m new : Mesh) (e : ℕ) (s : AreSoundLinks m) (can : IsUnlinkable m e)
         face_in = rw (u.faces h, ap length u.face_edges) here.face_in;
         has_out = rw (u.origins h) (has_out h within h_e h_t);
       })
-      (next_at new h a.0 a.1.next_is (rw u.edge_count a.1.n_in) a.1.prev_is (u.origins a.0 ∙ a.1.starts ∙ sym (u.origins (rev h))) (u.faces a.0 ∙ a.1.same_face ∙ sym (u.faces h)) a.1.differs)
-      (record { prev_in = rw (b.1.prev_is, u.edge_count) b.1.b_in; next_prev = ap (next new) b.1.prev_is ∙ b.1.next_is }) (λ inner.
+      (next_at new h a.0 a.1.next_is (rw u.edge_count a.1.n_in) a.1.prev_is
+      (u.origins a.0 ∙ a.1.starts ∙ sym (u.origins (rev h)))
+      (u.faces a.0 ∙ a.1.same_face ∙ sym (u.faces h)) a.1.differs)
+      (record {
+        prev_in = rw (b.1.prev_is, u.edge_count) b.1.b_in;
+        next_prev = ap (next new) b.1.prev_is ∙ b.1.next_is;
+      }) (λ inner.
       let was : 0 < face m h = rw (← u.faces h) inner in
-      inner_kept m new h here was (inner_next h within was) (inner_prev h within was) (u.faces h) (inner_next (next m h) here.next_in (omega (arith, here.same_face))) (ap (λ l. get_or l (face m h - 1) 0) u.face_edges))
+      inner_kept m new h here was (inner_next h within was) (inner_prev h within was) (u.faces h)
+      (inner_next (next m h) here.next_in (omega (arith, here.same_face)))
+      (ap (λ l. get_or l (face m h - 1) 0) u.face_edges))
 
   -- the two sides of e, in order
   pub sides : (h : ℕ) → h ≢ e - e % 2 → h ≢ e - e % 2 + 1 → (h ≢ e) × (h ≢ rev e)
@@ -309,46 +363,62 @@ module _ (m new : Mesh) (e : ℕ) (s : AreSoundLinks m) (can : IsUnlinkable m e)
     | inr i ↦ (rw (← i.1) b, rw (← i.0) a)
   ]
 
-  named_now : (v h : ℕ) → out_edge new v ≡ Some h → (h < length m.half_edges) × (origin m h ≡ v) × (h ≢ e) × (h ≢ rev e)
+  named_now : (v h : ℕ) → out_edge new v ≡ Some h
+      → (h < length m.half_edges) × (origin m h ≡ v) × (h ≢ e) × (h ≢ rev e)
   named_now v h named =
       elim (cases_eq v (origin m e)) [
         | inl is ↦ elim (cases_eq (next m (rev e)) e) [
-          | inl alone ↦ let none = sym named ∙ ap (out_edge new) is ∙ u.out ∙ none_after e (next m (rev e)) alone in absurd (cc)
+          | inl alone ↦ let none = sym named ∙ ap (out_edge new) is ∙ u.out
+              ∙ none_after e (next m (rev e)) alone in absurd (cc)
           | inr differs ↦
-              let same : h ≡ next m (rev e) = some_same _ _ (sym named ∙ ap (out_edge new) is ∙ u.out ∙ some_after e (next m (rev e)) differs) in
+              let same : h ≡ next m (rev e) = some_same _ _ (sym named ∙ ap (out_edge new) is
+              ∙ u.out ∙ some_after e (next m (rev e)) differs) in
               rw same (at_t.next_in, y_starts ∙ sym is, differs, y_t)
         ]
         | inr a ↦ elim (cases_eq v (origin m (rev e))) [
           | inl is ↦ elim (cases_eq (next m e) (rev e)) [
-            | inl alone ↦ let none = sym named ∙ ap (out_edge new) is ∙ u.twin_out ∙ none_after (rev e) (next m e) alone in absurd (cc)
+            | inl alone ↦ let none = sym named ∙ ap (out_edge new) is ∙ u.twin_out
+                ∙ none_after (rev e) (next m e) alone in absurd (cc)
             | inr differs ↦
-                let same : h ≡ next m e = some_same _ _ (sym named ∙ ap (out_edge new) is ∙ u.twin_out ∙ some_after (rev e) (next m e) differs) in
+                let same : h ≡ next m e = some_same _ _ (sym named ∙ ap (out_edge new) is
+                ∙ u.twin_out ∙ some_after (rev e) (next m e) differs) in
                 rw same (at_e.next_in, at_e.starts ∙ sym is, q_e, differs)
           ]
           | inr b ↦
-              let had = s.vertices v h (sym (u.other_outs v a b) ∙ named) in
-              (had.0, had.1, λ z. a (sym had.1 ∙ ap (origin m) z), λ z. b (sym had.1 ∙ ap (origin m) z))
+              let had = s.vertices v h (sym (u.other_outs v a b) ∙ named) in (
+                had.0,
+                had.1,
+                λ z. a (sym had.1 ∙ ap (origin m) z),
+                λ z. b (sym had.1 ∙ ap (origin m) z),
+              )
         ]
       ]
 
-  beside_now : (h : ℕ) → outer_beside (rev e) (next m e) (prev m e) ≡ Some h → (h < length m.half_edges) × (face m h ≡ 0) × (h ≢ e) × (h ≢ rev e)
+  beside_now : (h : ℕ) → outer_beside (rev e) (next m e) (prev m e) ≡ Some h
+      → (h < length m.half_edges) × (face m h ≡ 0) × (h ≢ e) × (h ≢ rev e)
   beside_now h named =
       elim (beside_cases (rev e) (next m e) (prev m e)) [
-        | inl i ↦ let same : h ≡ next m e = some_same _ _ (sym named ∙ i.1) in rw same (at_e.next_in, at_e.same_face ∙ can.outer, q_e, i.0)
-        | inr (inl i) ↦ let same : h ≡ prev m e = some_same _ _ (sym named ∙ i.2) in rw same (at_e.prev_in, p_face, p_e, i.1)
+        | inl i ↦ let same : h ≡ next m e = some_same _ _ (sym named ∙ i.1) in
+            rw same (at_e.next_in, at_e.same_face ∙ can.outer, q_e, i.0)
+        | inr (inl i) ↦ let same : h ≡ prev m e = some_same _ _ (sym named ∙ i.2) in
+            rw same (at_e.prev_in, p_face, p_e, i.1)
         | inr (inr i) ↦ let none = sym named ∙ i.2 in absurd (cc)
       ]
 
-  outer_now : (o : Option ℕ) (h : ℕ) → m.outer_edge ≡ o → outer_after o e (rev e) (next m e) (prev m e) ≡ Some h → (h < length m.half_edges) × (face m h ≡ 0) × (h ≢ e) × (h ≢ rev e)
+  outer_now : (o : Option ℕ) (h : ℕ) → m.outer_edge ≡ o
+      → outer_after o e (rev e) (next m e) (prev m e) ≡ Some h
+      → (h < length m.half_edges) × (face m h ≡ 0) × (h ≢ e) × (h ≢ rev e)
   outer_now None h was named = absurd (cc)
   outer_now (Some k) h was named =
       let had = s.outer k was in
       elim (after_cases k e (rev e) (next m e) (prev m e)) [
         | inl i ↦ beside_now h (sym i.1 ∙ named)
-        | inr i ↦ let same : h ≡ k = some_same _ _ (sym named ∙ i.2) in rw same (had.0, had.1, i.0, i.1)
+        | inr i ↦ let same : h ≡ k = some_same _ _ (sym named ∙ i.2) in
+            rw same (had.0, had.1, i.0, i.1)
       ]
 
-  some_outer_now : (o : Option ℕ) → IsSome o → 2 < length m.half_edges → IsSome (outer_after o e (rev e) (next m e) (prev m e))
+  some_outer_now : (o : Option ℕ) → IsSome o → 2 < length m.half_edges
+      → IsSome (outer_after o e (rev e) (next m e) (prev m e))
   some_outer_now None had more = absurd (cc)
   some_outer_now (Some k) had more =
       elim (after_cases k e (rev e) (next m e) (prev m e)) [
@@ -371,7 +441,8 @@ module _ (m new : Mesh) (e : ℕ) (s : AreSoundLinks m) (can : IsUnlinkable m e)
         even = rw u.edge_count s.even;
         hole_even = omega arith;
         within = rw u.edge_count (omega arith);
-        edges = λ h within h_a h_b. let off = sides h h_a h_b in sound_edge h (rw u.edge_count at within) off.0 off.1;
+        edges = λ h within h_a h_b. let off = sides h h_a h_b in
+            sound_edge h (rw u.edge_count at within) off.0 off.1;
         next_next = λ h within h_a h_b.
             let off = sides h h_a h_b in
             let a = after h (rw u.edge_count at within) off.0 off.1 in
@@ -384,16 +455,21 @@ module _ (m new : Mesh) (e : ℕ) (s : AreSoundLinks m) (can : IsUnlinkable m e)
         prev_self = b.0;
         twin_next_self = n.1;
         twin_prev_self = b.1;
-        origins = λ h within. rw (u.origins h, u.vertex_count) (s.edges h (rw u.edge_count at within)).origin_in;
-        faces_in = λ h within. rw (u.faces h, ap length u.face_edges) (s.edges h (rw u.edge_count at within)).face_in;
+        origins = λ h within. rw (u.origins h, u.vertex_count)
+            (s.edges h (rw u.edge_count at within)).origin_in;
+        faces_in = λ h within. rw (u.faces h, ap length u.face_edges)
+            (s.edges h (rw u.edge_count at within)).face_in;
         vertices = λ v h named.
             let now = named_now v h named in
             let off = sides_back h now.2 now.3 in
             (rw u.edge_count now.0, u.origins h ∙ now.1, off.0, off.1);
         faces = λ f some within.
             let had = s.faces f some (rw (ap length u.face_edges) at within) in
-            let named : face_edge new f ≡ face_edge m f = ap (λ l. get_or l (f - 1) 0) u.face_edges in
-            let off = sides_back (face_edge m f) (λ z. absurd (omega (arith, had.1, can.outer, ap (face m) z))) (λ z. absurd (omega (arith, had.1, can.twin_outer, ap (face m) z))) in
+            let named : face_edge new f ≡ face_edge m f =
+            ap (λ l. get_or l (f - 1) 0) u.face_edges in
+            let off = sides_back (face_edge m f)
+            (λ z. absurd (omega (arith, had.1, can.outer, ap (face m) z)))
+            (λ z. absurd (omega (arith, had.1, can.twin_outer, ap (face m) z))) in
             rw (named, u.edge_count, u.faces (face_edge m f)) (had.0, had.1, off.0, off.1);
         outer = λ h named.
             let now = outer_now m.outer_edge h refl (sym u.outer_edge ∙ named) in

@@ -5,13 +5,16 @@ use Rattle.half_edge_links.proofs.Lists.Cases.{◌each_with◌}
 use Rattle.half_edge_links.specs.Mesh.{Mesh, origin, next, prev, face, rev, AreSoundLinks, IsInner}
 use Rattle.half_edge_links.specs.Peel.{turn}
 use Rattle.half_edge_links.specs.Remove.{Opens, Removes}
-use Rattle.half_edge_links.proofs.Removing.Conditions.{IsUnlinkable, IsHullEdge, IsFullWheel, IsFanOfTwo, spoke_at}
+use Rattle.half_edge_links.proofs.Removing.Conditions.{IsUnlinkable, IsHullEdge, IsFullWheel}
+use Rattle.half_edge_links.proofs.Removing.Conditions.{IsFanOfTwo, spoke_at}
 use Rattle.half_edge_links.proofs.Lists.Rev.{rev-rev}
 use Rattle.half_edge_links.proofs.Sound.Triangles.{IsTriangle, triangle_at}
 use Rattle.half_edge_links.proofs.Removing.OpenSound.{sound_opened}
 use Rattle.half_edge_links.proofs.Removing.RemoveSound.{sound_removed}
 use Rattle.half_edge_links.proofs.Removing.PeelLemmas.{removable_opened}
-use Rattle.half_edge_links.proofs.Removing.Track.{IsLeft, name, name_in, name_same, origin_at, face_at, next_at, next_before, next_twin_before, old_at, rev_at, outer_at}
+use Rattle.half_edge_links.proofs.Removing.Track.{IsLeft, name, name_in, name_same, origin_at}
+use Rattle.half_edge_links.proofs.Removing.Track.{face_at, next_at, next_before, next_twin_before}
+use Rattle.half_edge_links.proofs.Removing.Track.{old_at, rev_at, outer_at}
 use Rattle.half_edge_links.proofs.Removing.CollapseLemmas.{outer_of}
 use Rattle.half_edge_links.proofs.Removing.UnlinkSound.{some_same}
 
@@ -25,9 +28,11 @@ module _ (m new : Mesh) (f : ℕ) (o : Opens m new f) (some : 0 < f) where
       ]
 
   -- edges of two other faces are still of two
-  pub still_apart : (k l : ℕ) → k < length m.half_edges → l < length m.half_edges → face m k ≢ f → face m l ≢ f → face m k ≢ face m l → face new k ≢ face new l
+  pub still_apart : (k l : ℕ) → k < length m.half_edges → l < length m.half_edges → face m k ≢ f
+      → face m l ≢ f → face m k ≢ face m l → face new k ≢ face new l
   still_apart k l k_in l_in p q differ same =
-      elim (cases_eq (face m k) (length m.face_edges) each_with cases_eq (face m l) (length m.face_edges)) [
+      elim (cases_eq (face m k) (length m.face_edges) each_with cases_eq (face m l)
+      (length m.face_edges)) [
         | inl (i, inl j) ↦ differ (i ∙ sym j)
         | inl (i, inr j) ↦ q (sym (o.other l l_in q j) ∙ sym same ∙ o.last k k_in i p)
         | inr (i, inl j) ↦ p (sym (o.other k k_in p i) ∙ same ∙ o.last l l_in j q)
@@ -83,8 +88,10 @@ module _ (m : Mesh) (o : ℕ) (s : AreSoundLinks m) (w : IsFullWheel m o) where
     pub peelable_first : IsHullEdge m1 o
     peelable_first = record {
       within = rw op.edge_count w.wheel.within;
-      inner = still_inner m m1 _ op w.wheel.third_inner o w.wheel.within w.wheel.first_inner (λ q. w.third_apart (sym q));
-      outer = op.gone (rev o) (rw (← before_z) (t3).prev_in) (ap (face m) (sym before_z) ∙ (t3).face_prev);
+      inner = still_inner m m1 _ op w.wheel.third_inner o w.wheel.within w.wheel.first_inner
+          (λ q. w.third_apart (sym q));
+      outer = op.gone (rev o)
+          (rw (← before_z) (t3).prev_in) (ap (face m) (sym before_z) ∙ (t3).face_prev);
       ends = λ q. w.first_end (sym (op.origin (rev o)) ∙ sym q ∙ op.origin o);
     }
 
@@ -95,7 +102,8 @@ module _ (m : Mesh) (o : ℕ) (s : AreSoundLinks m) (w : IsFullWheel m o) where
     module _ (mid new : Mesh) (oq : Opens m1 mid (face m1 o)) (r : Removes mid new o) where
       -- the mesh in which the first face is open too is sound
       pub s2 : AreSoundLinks mid
-      s2 = sound_opened m1 mid (face m1 o) s1 (peelable_first.inner, (s1.edges o peelable_first.within).face_in) oq
+      s2 = sound_opened m1 mid (face m1 o) s1
+          (peelable_first.inner, (s1.edges o peelable_first.within).face_in) oq
 
       -- the first spoke can be taken out of its loops once both its faces are open
       pub can : IsUnlinkable mid o
@@ -124,26 +132,33 @@ module _ (m : Mesh) (o : ℕ) (s : AreSoundLinks m) (w : IsFullWheel m o) where
 
       -- the second spoke is left once the first is gone
       pub a_left : IsLeft mid o (turn m o)
-      a_left = left _ a_in (λ q. w.first_apart (sym (ap (face m) q))) (λ q. w.second_apart (ap (face m) q ∙ twin_face))
+      a_left = left _ a_in (λ q. w.first_apart (sym (ap (face m) q)))
+          (λ q. w.second_apart (ap (face m) q ∙ twin_face))
 
       -- the third spoke is left once the first is gone
       pub z_left : IsLeft mid o (turn m (turn m o))
-      z_left = left _ z_in (λ q. w.third_apart (ap (face m) q)) (λ q. (t3).prev_differs (before_z ∙ sym q))
+      z_left = left _ z_in (λ q. w.third_apart (ap (face m) q))
+          (λ q. (t3).prev_differs (before_z ∙ sym q))
 
       -- the edge after the first spoke is left once this is gone
       pub b1_left : IsLeft mid o (next m o)
-      b1_left = left _ (t1).next_in (t1).next_differs (λ q. w.third_apart (sym (sym (t1).face_next ∙ ap (face m) q ∙ twin_face)))
+      b1_left = left _ (t1).next_in (t1).next_differs
+          (λ q. w.third_apart (sym (sym (t1).face_next ∙ ap (face m) q ∙ twin_face)))
 
       -- the edge after the third spoke is left once the first is gone
       pub b3_left : IsLeft mid o (next m (turn m (turn m o)))
-      b3_left = left _ (t3).next_in (λ q. w.third_apart (sym (t3).face_next ∙ ap (face m) q)) (λ q. (t3).both_differ (q ∙ sym before_z))
+      b3_left = left _ (t3).next_in (λ q. w.third_apart (sym (t3).face_next ∙ ap (face m) q))
+          (λ q. (t3).both_differ (q ∙ sym before_z))
 
       -- the other sides of the two spokes that are left
       pub ra_left : IsLeft mid o (rev (turn m o))
-      ra_left = rw (← before_o) (left (prev m o) (t1).prev_in (t1).prev_differs (λ q. w.third_apart (sym (sym (t1).face_prev ∙ ap (face m) q ∙ twin_face))))
+      ra_left = rw (← before_o) (left (prev m o) (t1).prev_in (t1).prev_differs
+          (λ q. w.third_apart (sym (sym (t1).face_prev ∙ ap (face m) q ∙ twin_face))))
 
       rz_left : IsLeft mid o (rev (turn m (turn m o)))
-      rz_left = rw (← before_a) (left (prev m (turn m o)) (t2).prev_in (λ q. w.first_apart (sym (sym (t2).face_prev ∙ ap (face m) q))) (λ q. w.second_apart (sym (t2).face_prev ∙ ap (face m) q ∙ twin_face)))
+      rz_left = rw (← before_a) (left (prev m (turn m o))
+          (t2).prev_in (λ q. w.first_apart (sym (sym (t2).face_prev ∙ ap (face m) q)))
+          (λ q. w.second_apart (sym (t2).face_prev ∙ ap (face m) q ∙ twin_face)))
 
       ra_face : face m (rev (turn m o)) ≡ face m o
       ra_face = ap (face m) (sym before_o) ∙ (t1).face_prev
@@ -159,25 +174,33 @@ module _ (m : Mesh) (o : ℕ) (s : AreSoundLinks m) (w : IsFullWheel m o) where
       pub mid_twin_before : prev mid (rev o) ≡ next m (turn m (turn m o))
       mid_twin_before = prev_is (rev o) ∙ ap (prev m) (sym before_z) ∙ (t3).prev_prev
 
-      step : (k : ℕ) → IsLeft mid o k → k ≢ rev (turn m o) → k ≢ next m (turn m (turn m o)) → next new (nm k) ≡ nm (next m k)
-      step k l p q = next_at mid new o s2 can r k l (λ i. p (i ∙ mid_before)) (λ i. q (i ∙ mid_twin_before)) ∙ ap nm (next_is k)
+      step : (k : ℕ) → IsLeft mid o k → k ≢ rev (turn m o) → k ≢ next m (turn m (turn m o))
+          → next new (nm k) ≡ nm (next m k)
+      step k l p q = next_at mid new o s2 can r k l (λ i. p (i ∙ mid_before))
+          (λ i. q (i ∙ mid_twin_before)) ∙ ap nm (next_is k)
 
       gap : next new (nm (rev (turn m o))) ≡ nm (turn m (turn m o))
-      gap = next_before mid new o s2 can r _ ra_left (sym mid_before) ∙ ap nm (next_is (rev o) ∙ ap (next m) (sym before_z) ∙ (t3).next_prev)
+      gap = next_before mid new o s2 can r _ ra_left (sym mid_before)
+          ∙ ap nm (next_is (rev o) ∙ ap (next m) (sym before_z) ∙ (t3).next_prev)
 
       -- the same edge comes after the third spoke as before
       pub nz : next new (nm (turn m (turn m o))) ≡ nm (next m (turn m (turn m o)))
-      nz = step _ z_left (λ q. w.third_apart (ap (face m) q ∙ ra_face)) (λ q. (t3).next_differs (sym q))
+      nz = step _ z_left (λ q. w.third_apart (ap (face m) q ∙ ra_face))
+          (λ q. (t3).next_differs (sym q))
 
       -- after the edge after the third spoke comes the one that came after the first
       pub n3 : next new (nm (next m (turn m (turn m o)))) ≡ nm (next m o)
       n3 = next_twin_before mid new o s2 can r _ b3_left (sym mid_twin_before) ∙ ap nm (next_is o)
 
       n1 : next new (nm (next m o)) ≡ nm (rev (turn m o))
-      n1 = step _ b1_left (λ q. (t1).both_differ (q ∙ sym before_o)) (λ q. w.third_apart (sym (sym (t1).face_next ∙ ap (face m) q ∙ (t3).face_next))) ∙ ap nm ((t1).next_next ∙ before_o)
+      n1 = step _ b1_left (λ q. (t1).both_differ (q ∙ sym before_o))
+          (λ q. w.third_apart (sym (sym (t1).face_next ∙ ap (face m) q ∙ (t3).face_next)))
+          ∙ ap nm ((t1).next_next ∙ before_o)
 
       nrz : next new (nm (rev (turn m (turn m o)))) ≡ nm (turn m o)
-      nrz = step _ rz_left (λ q. w.first_apart (sym (sym rz_face ∙ ap (face m) q ∙ ra_face))) (λ q. w.second_apart (sym rz_face ∙ ap (face m) q ∙ (t3).face_next)) ∙ ap nm (ap (next m) (sym before_a) ∙ (t2).next_prev)
+      nrz = step _ rz_left (λ q. w.first_apart (sym (sym rz_face ∙ ap (face m) q ∙ ra_face)))
+          (λ q. w.second_apart (sym rz_face ∙ ap (face m) q ∙ (t3).face_next))
+          ∙ ap nm (ap (next m) (sym before_a) ∙ (t2).next_prev)
 
       -- the mesh without the first spoke is sound
       pub s3 : AreSoundLinks new
@@ -199,15 +222,19 @@ module _ (m : Mesh) (o : ℕ) (s : AreSoundLinks m) (w : IsFullWheel m o) where
 
       a_face : 0 < face mid (turn m o)
       a_face =
-          let one = still_inner m m1 _ op w.wheel.third_inner (turn m o) a_in w.wheel.second_inner w.second_apart in
-          still_inner m1 mid _ oq peelable_first.inner (turn m o) (rw op.edge_count a_in) one (still_apart m m1 _ op w.wheel.third_inner (turn m o) o a_in w.wheel.within w.second_apart (λ q. w.third_apart (sym q)) (λ q. w.first_apart (sym q)))
+          let one = still_inner m m1 _ op w.wheel.third_inner
+          (turn m o) a_in w.wheel.second_inner w.second_apart in
+          still_inner m1 mid _ oq peelable_first.inner (turn m o) (rw op.edge_count a_in) one
+          (still_apart m m1 _ op w.wheel.third_inner (turn m o) o a_in w.wheel.within
+          w.second_apart (λ q. w.third_apart (sym q)) (λ q. w.first_apart (sym q)))
 
       ra_outer : face mid (rev (turn m o)) ≡ 0
       ra_outer =
           let p_in = peelable_first.within in
           let at = s1.edges o p_in in
           let to : prev m1 o ≡ rev (turn m o) = op.prev o ∙ before_o in
-          let same_face : face m1 (prev m1 o) ≡ face m1 o = sym (s1.edges (prev m1 o) at.prev_in).same_face ∙ ap (face m1) at.next_prev in
+          let same_face : face m1 (prev m1 o) ≡ face m1 o =
+          sym (s1.edges (prev m1 o) at.prev_in).same_face ∙ ap (face m1) at.next_prev in
           oq.gone (rev (turn m o)) (rw (← to) at.prev_in) (ap (face m1) (sym to) ∙ same_face)
 
       -- what is left of a vertex with three edges has two of them, and a face between them
@@ -216,38 +243,51 @@ module _ (m : Mesh) (o : ℕ) (s : AreSoundLinks m) (w : IsFullWheel m o) where
           let v_a = turn_starts o w.wheel.within in
           let v_z = turn_starts (turn m o) a_in ∙ v_a in
           let at_a = origin_now _ a_left ∙ v_a in
-          let to1 : next new (next new (nm (turn m (turn m o)))) ≡ nm (next m o) = ap (next new) nz ∙ n3 in
+          let to1 : next new (next new (nm (turn m (turn m o)))) ≡ nm (next m o) =
+          ap (next new) nz ∙ n3 in
           let k = outer_of m o s w.wheel.within in
           let had = s.outer k.0 k.1 in
-          let out = λ (x : ℕ) (some : 0 < face m x) (q : k.0 ≡ x). let no : ⊥ = omega (arith, some, had.1, ap (face m) q) in no in
-          let l : IsLeft mid o k.0 = left k.0 had.0 (out o w.wheel.first_inner) (out (rev o) (rw twin_face w.wheel.third_inner)) in
+          let out = λ (x : ℕ) (some : 0 < face m x) (q : k.0 ≡ x). let no : ⊥ =
+          omega (arith, some, had.1, ap (face m) q) in no in
+          let l : IsLeft mid o k.0 = left k.0 had.0 (out o w.wheel.first_inner)
+          (out (rev o) (rw twin_face w.wheel.third_inner)) in
           record {
             peelable = record {
               within = name_in mid new o s2 can r _ a_left;
               inner = rw (face_at mid new o s2 can r _ a_left) a_face;
               outer = ap (face new) rev_a ∙ face_at mid new o s2 can r _ ra_left ∙ ra_outer;
-              ends = λ q. w.second_end (sym (origin_now _ ra_left) ∙ sym (ap (origin new) rev_a) ∙ sym q ∙ at_a);
+              ends = λ q. w.second_end
+                  (sym (origin_now _ ra_left) ∙ sym (ap (origin new) rev_a) ∙ sym q ∙ at_a);
             };
-            spoke = ap rev (ap (prev new) (sym nrz) ∙ (s3.edges _ (name_in mid new o s2 can r _ rz_left)).prev_next) ∙ rev_at mid new o s2 can r _ rz_left ∙ ap nm (rev-rev (turn m (turn m o)));
+            spoke = ap rev (ap (prev new) (sym nrz)
+                ∙ (s3.edges _ (name_in mid new o s2 can r _ rz_left)).prev_next)
+                ∙ rev_at mid new o s2 can r _ rz_left ∙ ap nm (rev-rev (turn m (turn m o)));
             within = name_in mid new o s2 can r _ z_left;
             same = origin_now _ z_left ∙ v_z ∙ sym at_a;
-            ends = λ q. w.third_end (sym (origin_now _ rz_left) ∙ sym (ap (origin new) rev_z) ∙ q ∙ at_a);
+            ends = λ q. w.third_end
+                (sym (origin_now _ rz_left) ∙ sym (ap (origin new) rev_z) ∙ q ∙ at_a);
             gap = ap (next new) rev_a ∙ gap;
             round = ap (next new) to1 ∙ n1 ∙ sym rev_a;
-            off = λ q. w.first_end (sym (s.edges o w.wheel.within).starts ∙ sym (origin_now _ b1_left) ∙ sym (ap (origin new) to1) ∙ q ∙ at_a);
-            apart = λ q. w.third_apart (sym (sym (t1).face_next ∙ ap (face m) (same _ _ b1_left b3_left (sym to1 ∙ q ∙ nz)) ∙ (t3).face_next));
+            off = λ q. w.first_end (sym (s.edges o w.wheel.within).starts
+                ∙ sym (origin_now _ b1_left) ∙ sym (ap (origin new) to1) ∙ q ∙ at_a);
+            apart = λ q. w.third_apart (sym (sym (t1).face_next
+                ∙ ap (face m) (same _ _ b1_left b3_left (sym to1 ∙ q ∙ nz)) ∙ (t3).face_next));
             only = λ h within is.
                 let old = old_at mid new o s2 can r h within in
                 let at = sym (origin_now _ old.0) ∙ ap (origin new) old.1 ∙ is ∙ at_a in
                 elim (w.only _ (rw (← count) old.0.within) at) [
                   | inl q ↦ absurd (old.0.other q)
-                  | inr j ↦ elim j [ inl q ↦ inl (sym old.1 ∙ ap nm q) | inr q ↦ inr (sym old.1 ∙ ap nm q) ]
+                  | inr j ↦ elim j
+                      [ inl q ↦ inl (sym old.1 ∙ ap nm q) | inr q ↦ inr (sym old.1 ∙ ap nm q) ]
                 ];
             unnamed = λ j is.
-                let to : nm k.0 ≡ j = some_same _ _ (sym (outer_at mid new o s2 can r k.0 l (oq.outer_edge ∙ op.outer_edge ∙ k.1)) ∙ is) in (
+                let to : nm k.0 ≡ j = some_same _ _ (sym (outer_at mid new o s2 can r k.0 l
+                (oq.outer_edge ∙ op.outer_edge ∙ k.1)) ∙ is) in (
                   λ q. out _ (rw ra_face w.wheel.first_inner) (same _ _ l ra_left (to ∙ q ∙ rev_a)),
                   λ q. out _ w.wheel.third_inner (same _ _ l z_left (to ∙ q)),
-                  λ q. out _ (rw (t3).face_next w.wheel.third_inner) (same _ _ l b3_left (to ∙ q ∙ nz)),
-                  λ q. out _ (rw (t1).face_next w.wheel.first_inner) (same _ _ l b1_left (to ∙ q ∙ to1)),
+                  λ q. out _ (rw (t3).face_next w.wheel.third_inner)
+                      (same _ _ l b3_left (to ∙ q ∙ nz)),
+                  λ q. out _ (rw (t1).face_next w.wheel.first_inner)
+                      (same _ _ l b1_left (to ∙ q ∙ to1)),
                 );
           }

@@ -1,8 +1,11 @@
 -- No edge joins a vertex to itself after a change.
-use Rattle.std.proofs.Common.{◌≡◌, ◌≢◌, ℕ, zero, suc, ◌+◌, ◌<◌, length, refl, sym, ap, ◌∙◌, inl, inr, arith, true, ◌==◌}
+use Rattle.std.proofs.Common.{◌≡◌, ◌≢◌, ◌+◌, ◌<◌, ◌∙◌, ◌==◌}
+use Rattle.std.proofs.Common.{ℕ, zero, suc, length, refl, sym, ap, inl, inr, arith, true}
 use Rattle.std.proofs.lemmas.Bool.{cases_eq, eq-eqb, eqb-true}
 use Rattle.half_edge_links.proofs.Lists.Cases.{◌or_else◌}
-use Rattle.half_edge_links.specs.Mesh.{Mesh, origin, next, prev, face, rev, AreSoundLinks, IsInnerEdge, IsAlone, HasApartEnds, HasStars, IsClosed, connected}
+use Rattle.half_edge_links.specs.Mesh.{Mesh, origin, next, prev, face, rev, AreSoundLinks}
+use Rattle.half_edge_links.specs.Mesh.{IsInnerEdge, IsAlone, HasApartEnds, HasStars, IsClosed}
+use Rattle.half_edge_links.specs.Mesh.{connected}
 use Rattle.half_edge_links.specs.Flip.{IsFlippable, Flips}
 use Rattle.half_edge_links.specs.Insert.{Inserts}
 use Rattle.half_edge_links.specs.Grow.{IsOuter, IsClosable, IsSlidable, Hangs, Closes, Slides}
@@ -15,89 +18,122 @@ use Rattle.half_edge_links.proofs.Growing.Close.{IsCorner, corner}
 use Rattle.half_edge_links.proofs.Growing.Slide.{IsTail, tail}
 
 -- an edge whose ends stay
-apart_kept : (m new : Mesh) (h : ℕ) → HasApartEnds m → h < length m.half_edges → origin new h ≡ origin m h → origin new (rev h) ≡ origin m (rev h) → origin new h ≢ origin new (rev h)
+apart_kept : (m new : Mesh) (h : ℕ) → HasApartEnds m → h < length m.half_edges → origin new h
+    ≡ origin m h → origin new (rev h) ≡ origin m (rev h) → origin new h ≢ origin new (rev h)
 apart_kept m new h apart within a b same = apart h within (sym a ∙ same ∙ b)
 
 -- the two sides of an edge have different ends
-both_sides : (new : Mesh) (h k : ℕ) → rev h ≡ k → origin new h ≢ origin new k → origin new h ≢ origin new (rev h)
+both_sides : (new : Mesh) (h k : ℕ) → rev h ≡ k → origin new h ≢ origin new k
+    → origin new h ≢ origin new (rev h)
 both_sides new h k is differs = rw is differs
 
 neq : {X : Type 0} {a b : X} → a ≢ b → b ≢ a
 neq differs same = differs (sym same)
 
 -- no edge joins a vertex to itself after a flip, where the corners that it joins differ
-pub apart_flipped : (m new : Mesh) (e : ℕ) → AreSoundLinks m → IsFlippable m e → Flips m new e → origin m (prev m e) ≢ origin m (prev m (rev e)) → HasApartEnds m → HasApartEnds new
+pub apart_flipped : (m new : Mesh) (e : ℕ) → AreSoundLinks m → IsFlippable m e → Flips m new e
+    → origin m (prev m e) ≢ origin m (prev m (rev e)) → HasApartEnds m → HasApartEnds new
 apart_flipped m new e s can f corners apart h within =
     elim (cases_eq h e or_else cases_eq h (rev e)) [
-      | inl same ↦ λ q. corners (sym f.edge.origin ∙ ap (origin new) (sym same) ∙ q ∙ ap (λ k. origin new (rev k)) same ∙ f.twin.origin)
-      | inr (a, inl same) ↦ λ q. corners (sym (sym f.twin.origin ∙ ap (origin new) (sym same) ∙ q ∙ ap (λ k. origin new (rev k)) same ∙ ap (origin new) (rev-rev e) ∙ f.edge.origin))
+      | inl same ↦ λ q. corners (sym f.edge.origin ∙ ap (origin new) (sym same) ∙ q
+          ∙ ap (λ k. origin new (rev k)) same ∙ f.twin.origin)
+      | inr (a, inl same) ↦ λ q. corners (sym (sym f.twin.origin ∙ ap (origin new) (sym same) ∙ q
+          ∙ ap (λ k. origin new (rev k)) same ∙ ap (origin new) (rev-rev e) ∙ f.edge.origin))
       | inr (a, inr b) ↦
-          apart_kept m new h apart (omega (arith, within, f.edge_count)) (origin_kept m new e s can f h a b)
-          (origin_kept m new e s can f (rev h) (λ q. b (sym (rev-rev h) ∙ ap rev q)) (λ q. a (sym (rev-rev h) ∙ ap rev q ∙ rev-rev e)))
+          apart_kept m new h apart (omega (arith, within, f.edge_count))
+          (origin_kept m new e s can f h a b)
+          (origin_kept m new e s can f (rev h) (λ q. b (sym (rev-rev h) ∙ ap rev q))
+          (λ q. a (sym (rev-rev h) ∙ ap rev q ∙ rev-rev e)))
     ]
 
 -- no edge joins a vertex to itself once a lonely vertex is joined to the end of an outer edge
-pub apart_hung : (m new : Mesh) (x v : ℕ) → AreSoundLinks m → IsOuter m x → IsAlone m v → Hangs m new x v (length m.half_edges) → HasApartEnds m → HasApartEnds new
+pub apart_hung : (m new : Mesh) (x v : ℕ) → AreSoundLinks m → IsOuter m x → IsAlone m v
+    → Hangs m new x v (length m.half_edges) → HasApartEnds m → HasApartEnds new
 apart_hung m new x v s outer alone i apart h within =
-    let there : origin new (length m.half_edges) ≢ origin new (length m.half_edges + 1) = λ q. differs_alone m (next m x) v s (s.edges x outer.0).next_in alone (sym i.there.origin ∙ q ∙ i.back.origin) in
+    let there : origin new (length m.half_edges) ≢ origin new (length m.half_edges + 1) =
+    λ q. differs_alone m (next m x) v s (s.edges x outer.0).next_in alone
+    (sym i.there.origin ∙ q ∙ i.back.origin) in
     elim (grown_cases h _ (omega (arith, within, i.edge_count))) [
-      | inl old ↦ apart_kept m new h apart old (i.origins h old) (i.origins (rev h) (rev_within _ _ s.even old))
+      | inl old ↦ apart_kept m new h apart old (i.origins h old)
+          (i.origins (rev h) (rev_within _ _ s.even old))
       | inr (inl is) ↦ rw is (both_sides new _ _ (rev_of_even _ s.even) there)
       | inr (inr is) ↦ rw is (both_sides new _ _ (rev_of_odd _ s.even) (neq there))
     ]
 
 -- no edge joins a vertex to itself once an outer edge, the next one and a new one get a face
-pub apart_closed : (m new : Mesh) (e : ℕ) → AreSoundLinks m → IsClosable m e → Closes m new e (length m.half_edges) (length m.face_edges) → HasApartEnds m → HasApartEnds new
+pub apart_closed : (m new : Mesh) (e : ℕ) → AreSoundLinks m → IsClosable m e
+    → Closes m new e (length m.half_edges) (length m.face_edges) → HasApartEnds m → HasApartEnds new
 apart_closed m new e s can i apart h within =
     let c : IsCorner m e = corner m e s can in
-    let there : origin new (length m.half_edges) ≢ origin new (length m.half_edges + 1) = λ q. can.apart (sym c.end ∙ sym i.inside.origin ∙ q ∙ i.outside.origin) in
+    let there : origin new (length m.half_edges) ≢ origin new (length m.half_edges + 1) =
+    λ q. can.apart (sym c.end ∙ sym i.inside.origin ∙ q ∙ i.outside.origin) in
     elim (grown_cases h _ (omega (arith, within, i.edge_count))) [
-      | inl old ↦ apart_kept m new h apart old (i.origins h old) (i.origins (rev h) (rev_within _ _ s.even old))
+      | inl old ↦ apart_kept m new h apart old (i.origins h old)
+          (i.origins (rev h) (rev_within _ _ s.even old))
       | inr (inl is) ↦ rw is (both_sides new _ _ (rev_of_even _ s.even) there)
       | inr (inr is) ↦ rw is (both_sides new _ _ (rev_of_odd _ s.even) (neq there))
     ]
 
 -- the moved edge starts at no vertex with one edge
-start_off : (m : Mesh) (e : ℕ) → AreSoundLinks m → IsSlidable m e → HasStars m → origin m e ≢ origin m (next m (next m e))
+start_off : (m : Mesh) (e : ℕ) → AreSoundLinks m → IsSlidable m e → HasStars m
+    → origin m e ≢ origin m (next m (next m e))
 start_off m e s can stars same =
     let t : IsTail m e = tail m e s can in
     let l : ℕ = next m (next m e) in
     let turned : rev (prev m l) ≡ l = ap rev t.there_back ∙ sym t.back_is in
-    let closed : IsClosed m (λ k. k == l) = λ h within is. eq-eqb (rev (prev m h)) l (ap (λ k. rev (prev m k)) (eqb-true h l is) ∙ turned) in
-    let is : (e == l) ≡ true = stars (λ k. k == l) closed l e t.back_in can.within (sym same) (eq-eqb l l refl) in
+    let closed : IsClosed m (λ k. k == l) = λ h within is. eq-eqb (rev (prev m h)) l
+    (ap (λ k. rev (prev m k)) (eqb-true h l is) ∙ turned) in
+    let is : (e == l) ≡ true =
+    stars (λ k. k == l) closed l e t.back_in can.within (sym same) (eq-eqb l l refl) in
     let at : e ≡ l = eqb-true e l is in
     can.apart (sym (rev-rev (next m e)) ∙ ap rev (sym t.back_is) ∙ ap rev (sym at))
 
 -- no edge joins a vertex to itself once an edge is moved to the far end of the next one
-pub apart_slid : (m new : Mesh) (e : ℕ) → AreSoundLinks m → IsSlidable m e → Slides m new e (next m e) (next m (next m e)) → HasStars m → HasApartEnds m → HasApartEnds new
+pub apart_slid : (m new : Mesh) (e : ℕ) → AreSoundLinks m → IsSlidable m e
+    → Slides m new e (next m e) (next m (next m e)) → HasStars m → HasApartEnds m → HasApartEnds new
 apart_slid m new e s can i stars apart h within =
     let t : IsTail m e = tail m e s can in
     let h_in : h < length m.half_edges = omega (arith, within, i.edge_count) in
     let off : e ≢ rev e = λ q. apart e can.within (ap (origin m) q) in
-    let moved : origin new e ≢ origin new (rev e) = λ q. start_off m e s can stars (sym (i.other_origins e can.within off) ∙ q ∙ i.origin_twin) in
+    let moved : origin new e ≢ origin new (rev e) = λ q. start_off m e s can stars
+    (sym (i.other_origins e can.within off) ∙ q ∙ i.origin_twin) in
     elim (cases_eq h (rev e) or_else cases_eq h e) [
       | inl same ↦ rw same (both_sides new _ _ (rev-rev e) (neq moved))
       | inr (a, inl same) ↦ rw same moved
-      | inr (a, inr b) ↦ apart_kept m new h apart h_in (i.other_origins h h_in a) (i.other_origins (rev h) (rev_within _ _ s.even h_in) (λ q. b (sym (rev-rev h) ∙ ap rev q ∙ rev-rev e)))
+      | inr (a, inr b) ↦ apart_kept m new h apart h_in (i.other_origins h h_in a) (i.other_origins
+          (rev h) (rev_within _ _ s.even h_in) (λ q. b (sym (rev-rev h) ∙ ap rev q ∙ rev-rev e)))
     ]
 
 -- no edge joins a vertex to itself once a vertex is put into an inner face
-pub apart_inserted : (m new : Mesh) (v a : ℕ) → AreSoundLinks m → IsInnerEdge m a → IsAlone m v → Inserts m new v (face m a) a (length m.half_edges) (length m.face_edges) → HasApartEnds m → HasApartEnds new
+pub apart_inserted : (m new : Mesh) (v a : ℕ) → AreSoundLinks m → IsInnerEdge m a → IsAlone m v
+    → Inserts m new v (face m a) a (length m.half_edges) (length m.face_edges) → HasApartEnds m
+    → HasApartEnds new
 apart_inserted m new v a s inner alone i apart h within =
     let n : ℕ = length m.half_edges in
     let here = s.edges a inner.0 in
-    let kept = inserting.origin_kept m new v (face m a) a n (length m.face_edges) s inner alone refl refl refl i in
-    let first : origin new n ≢ origin new (n + 1) = λ q. differs_alone m a v s inner.0 alone (sym i.from_first.origin ∙ q ∙ i.to_first.origin) in
-    let second : origin new (n + 2) ≢ origin new (n + 3) = λ q. differs_alone m (next m a) v s here.next_in alone (sym i.from_second.origin ∙ q ∙ i.to_second.origin) in
-    let third : origin new (n + 4) ≢ origin new (n + 5) = λ q. differs_alone m (prev m a) v s here.prev_in alone (sym i.from_third.origin ∙ q ∙ i.to_third.origin) in
+    let kept = inserting.origin_kept m new v (face m a) a n
+    (length m.face_edges) s inner alone refl refl refl i in
+    let first : origin new n ≢ origin new (n + 1) = λ q. differs_alone m a v s inner.0 alone
+    (sym i.from_first.origin ∙ q ∙ i.to_first.origin) in
+    let second : origin new (n + 2) ≢ origin new (n + 3) = λ q. differs_alone m
+    (next m a) v s here.next_in alone (sym i.from_second.origin ∙ q ∙ i.to_second.origin) in
+    let third : origin new (n + 4) ≢ origin new (n + 5) = λ q. differs_alone m
+    (prev m a) v s here.prev_in alone (sym i.from_third.origin ∙ q ∙ i.to_third.origin) in
     elim (late_cases h n (omega (arith, within, i.edge_count))) [
-      | inl old ↦ apart_kept m new h apart old (kept h old) (kept (rev h) (rev_within _ _ s.even old))
-      | inr (inl is) ↦ rw is (both_sides new _ _ (inserting.rev0 m new v (face m a) a n (length m.face_edges) s inner alone refl refl refl i) first)
-      | inr (inr (inl is)) ↦ rw is (both_sides new _ _ (inserting.rev2 m new v (face m a) a n (length m.face_edges) s inner alone refl refl refl i) second)
-      | inr (inr (inr (inl is))) ↦ rw is (both_sides new _ _ (inserting.rev4 m new v (face m a) a n (length m.face_edges) s inner alone refl refl refl i) third)
-      | inr (inr (inr (inr (inl is)))) ↦ rw is (both_sides new _ _ (inserting.rev1 m new v (face m a) a n (length m.face_edges) s inner alone refl refl refl i) (neq first))
-      | inr (inr (inr (inr (inr (inl is))))) ↦ rw is (both_sides new _ _ (inserting.rev3 m new v (face m a) a n (length m.face_edges) s inner alone refl refl refl i) (neq second))
-      | inr (inr (inr (inr (inr (inr is))))) ↦ rw is (both_sides new _ _ (inserting.rev5 m new v (face m a) a n (length m.face_edges) s inner alone refl refl refl i) (neq third))
+      | inl old ↦
+          apart_kept m new h apart old (kept h old) (kept (rev h) (rev_within _ _ s.even old))
+      | inr (inl is) ↦ rw is (both_sides new _ _ (inserting.rev0 m new v (face m a) a n
+          (length m.face_edges) s inner alone refl refl refl i) first)
+      | inr (inr (inl is)) ↦ rw is (both_sides new _ _ (inserting.rev2 m new v (face m a) a n
+          (length m.face_edges) s inner alone refl refl refl i) second)
+      | inr (inr (inr (inl is))) ↦ rw is (both_sides new _ _ (inserting.rev4 m new v (face m a) a n
+          (length m.face_edges) s inner alone refl refl refl i) third)
+      | inr (inr (inr (inr (inl is)))) ↦ rw is (both_sides new _ _ (inserting.rev1 m new v
+          (face m a) a n (length m.face_edges) s inner alone refl refl refl i) (neq first))
+      | inr (inr (inr (inr (inr (inl is))))) ↦ rw is (both_sides new _ _ (inserting.rev3 m new v
+          (face m a) a n (length m.face_edges) s inner alone refl refl refl i) (neq second))
+      | inr (inr (inr (inr (inr (inr is))))) ↦ rw is (both_sides new _ _ (inserting.rev5 m new v
+          (face m a) a n (length m.face_edges) s inner alone refl refl refl i) (neq third))
     ]
 
 -- the first edge joins no vertex to itself, where its two ends differ
@@ -110,6 +146,7 @@ apart_connected m a b differs (suc (suc h)) within = absurd (omega arith)
 pub stars_connected : (m : Mesh) (a b : ℕ) → a ≢ b → HasStars (connected m a b)
 stars_connected m a b differs among closed zero zero h_in g_in same is = is
 stars_connected m a b differs among closed zero (suc zero) h_in g_in same is = absurd (differs same)
-stars_connected m a b differs among closed (suc zero) zero h_in g_in same is = absurd (differs (sym same))
+stars_connected m a b differs among closed (suc zero) zero h_in g_in same is =
+    absurd (differs (sym same))
 stars_connected m a b differs among closed (suc zero) (suc zero) h_in g_in same is = is
 stars_connected m a b differs among closed h g h_in g_in same is = absurd (omega arith)

@@ -28,7 +28,8 @@ pub record Writes (old new : List HalfEdge) (h : ℕ) (x : HalfEdge) : Type 0 wh
   pub count : length new ≡ length old
   pub here : h < length old → edge_at new h ≡ x
   pub other : (k : ℕ) → k ≢ h → edge_at new k ≡ edge_at old k
-  pub kept : (link : HalfEdge → ℕ) → link x ≡ link (edge_at old h) → (k : ℕ) → link (edge_at new k) ≡ link (edge_at old k)
+  pub kept : (link : HalfEdge → ℕ) → link x ≡ link (edge_at old h) → (k : ℕ)
+      → link (edge_at new k) ≡ link (edge_at old k)
 
 writes : (hs : List HalfEdge) (h : ℕ) (x : HalfEdge) → Writes hs (set hs h x) h x
 writes hs h x = record {
@@ -71,20 +72,25 @@ pub record SetsLoopFace (old new : List HalfEdge) (h x : ℕ) : Type 0 where
   pub next : (k : ℕ) → (edge_at new k).next ≡ (edge_at old k).next
   pub prev : (k : ℕ) → (edge_at new k).prev ≡ (edge_at old k).prev
   pub origin : (k : ℕ) → (edge_at new k).origin ≡ (edge_at old k).origin
-  pub face : (k : ℕ) → (k ≡ h) ⊎ ((k ≡ (edge_at old h).next) ⊎ (k ≡ (edge_at old h).prev)) → (edge_at new k).face ≡ x
-  pub other : (k : ℕ) → k ≢ h → k ≢ (edge_at old h).next → k ≢ (edge_at old h).prev → (edge_at new k).face ≡ (edge_at old k).face
+  pub face : (k : ℕ) → (k ≡ h) ⊎ ((k ≡ (edge_at old h).next) ⊎ (k ≡ (edge_at old h).prev))
+      → (edge_at new k).face ≡ x
+  pub other : (k : ℕ) → k ≢ h → k ≢ (edge_at old h).next → k ≢ (edge_at old h).prev
+      → (edge_at new k).face ≡ (edge_at old k).face
 
 -- edge k has face x after a write of x, if it had it before or is the one that is written
-face_more : (hs : List HalfEdge) (h x k : ℕ) → h < length hs → (k ≡ h) ⊎ ((edge_at hs k).face ≡ x) → (edge_at (with_face hs h x) k).face ≡ x
+face_more : (hs : List HalfEdge) (h x k : ℕ) → h < length hs → (k ≡ h) ⊎ ((edge_at hs k).face ≡ x)
+    → (edge_at (with_face hs h x) k).face ≡ x
 face_more hs h x k within had =
     let w = writes_face hs h x in
     elim (cases_eq k h) [
       | inl is ↦ rw is (ap face_link (w.here within))
-      | inr differs ↦ elim had [ inl is ↦ absurd (differs is) | inr was ↦ ap face_link (w.other k differs) ∙ was ]
+      | inr differs ↦ elim had
+          [ inl is ↦ absurd (differs is) | inr was ↦ ap face_link (w.other k differs) ∙ was ]
     ]
 
 -- writes at an edge, the next one and the one before give all three face x, and change nothing else
-pub sets_loop_face : (hs : List HalfEdge) (h x : ℕ) → h < length hs → (edge_at hs h).next < length hs → (edge_at hs h).prev < length hs → SetsLoopFace hs (with_loop_face hs h x) h x
+pub sets_loop_face : (hs : List HalfEdge) (h x : ℕ) → h < length hs → (edge_at hs h).next
+    < length hs → (edge_at hs h).prev < length hs → SetsLoopFace hs (with_loop_face hs h x) h x
 unfolding with_loop_face
 sets_loop_face hs h x h_in n_in p_in =
     let a : List HalfEdge = with_face hs h x in
@@ -96,11 +102,15 @@ sets_loop_face hs h x h_in n_in p_in =
     let p_in_b : (edge_at hs h).prev < length b = rw (two.count, one.count) p_in in
     record {
       count = three.count ∙ two.count ∙ one.count;
-      next = λ k. three.kept next_link refl k ∙ two.kept next_link refl k ∙ one.kept next_link refl k;
-      prev = λ k. three.kept prev_link refl k ∙ two.kept prev_link refl k ∙ one.kept prev_link refl k;
-      origin = λ k. three.kept origin_link refl k ∙ two.kept origin_link refl k ∙ one.kept origin_link refl k;
+      next = λ k. three.kept next_link refl k ∙ two.kept next_link refl k
+          ∙ one.kept next_link refl k;
+      prev = λ k. three.kept prev_link refl k ∙ two.kept prev_link refl k
+          ∙ one.kept prev_link refl k;
+      origin = λ k. three.kept origin_link refl k ∙ two.kept origin_link refl k
+          ∙ one.kept origin_link refl k;
       face = λ k round. elim round [
-        | inl is ↦ face_more b _ x k p_in_b (inr (face_more a _ x k n_in_a (inr (face_more hs h x k h_in (inl is)))))
+        | inl is ↦ face_more b _ x k p_in_b
+            (inr (face_more a _ x k n_in_a (inr (face_more hs h x k h_in (inl is)))))
         | inr (inl is) ↦ face_more b _ x k p_in_b (inr (face_more a _ x k n_in_a (inl is)))
         | inr (inr is) ↦ face_more b _ x k p_in_b (inl is)
       ];

@@ -1,8 +1,11 @@
--- The parts of an edge's soundness, for changes that write single links, or nothing beside the edge.
-use Rattle.std.proofs.Common.{◌≡◌, ◌≢◌, ◌⊎◌, ℕ, ◌+◌, ◌%◌, ◌<◌, ◌≤◌, length, Some, IsSome, refl, inl, inr, sym, ap, ◌∙◌, arith}
+-- The parts of an edge's soundness, for changes that write single links, or nothing beside the
+-- edge.
+use Rattle.std.proofs.Common.{◌≡◌, ◌≢◌, ◌⊎◌, ◌+◌, ◌%◌, ◌<◌, ◌≤◌, ◌∙◌}
+use Rattle.std.proofs.Common.{ℕ, length, Some, IsSome, refl, inl, inr, sym, ap, arith}
 use Rattle.std.proofs.lemmas.Bool.{cases_eq}
 use Rattle.std.proofs.lemmas.Grind.{common_steps}
-use Rattle.half_edge_links.specs.Mesh.{Mesh, origin, next, prev, face, face_edge, out_edge, rev, AreSoundLinks, IsSoundEdge, HasLinks, edge_at}
+use Rattle.half_edge_links.specs.Mesh.{Mesh, origin, next, prev, face, face_edge, out_edge, rev}
+use Rattle.half_edge_links.specs.Mesh.{AreSoundLinks, IsSoundEdge, HasLinks, edge_at}
 use Rattle.half_edge_links.proofs.Lists.Orbits.{reached}
 
 -- an edge of a mesh with two more is old or one of the two
@@ -14,7 +17,8 @@ abbrev pub IsSpoke : ℕ → ℕ → Type 0
 IsSpoke n h = (h ≡ n + 1) ⊎ ((h ≡ n + 3) ⊎ (h ≡ n + 5))
 
 -- an edge of a mesh with six more
-pub late_cases : (h n : ℕ) → h < n + 6 → (h < n) ⊎ ((h ≡ n) ⊎ ((h ≡ n + 2) ⊎ ((h ≡ n + 4) ⊎ IsSpoke n h)))
+pub late_cases : (h n : ℕ) → h < n + 6
+    → (h < n) ⊎ ((h ≡ n) ⊎ ((h ≡ n + 2) ⊎ ((h ≡ n + 4) ⊎ IsSpoke n h)))
 late_cases h n within = grind arith
 
 -- the two sides of a new edge
@@ -41,7 +45,8 @@ pub record IsPrevSound (m : Mesh) (h : ℕ) : Type 0 where
 -- the loop of h has three edges, and its face names one of them
 pub record IsInnerSound (m : Mesh) (h : ℕ) : Type 0 where
   pub three : next m (next m h) ≡ prev m h
-  pub owned : (face_edge m (face m h) ≡ h) ⊎ ((face_edge m (face m h) ≡ next m h) ⊎ (face_edge m (face m h) ≡ prev m h))
+  pub owned : (face_edge m (face m h) ≡ h)
+      ⊎ ((face_edge m (face m h) ≡ next m h) ⊎ (face_edge m (face m h) ≡ prev m h))
 
 -- the origin of h, which names an edge, and the face of h are in the mesh
 pub record IsInMesh (m : Mesh) (h : ℕ) : Type 0 where
@@ -49,8 +54,10 @@ pub record IsInMesh (m : Mesh) (h : ℕ) : Type 0 where
   pub face_in : face m h ≤ length m.face_edges
   pub has_out : IsSome (out_edge m (origin m h))
 
--- an edge whose parts are sound is sound, where the part of an inner face is asked for such a face alone
-pub sound_from : (m : Mesh) (h : ℕ) → IsInMesh m h → IsNextSound m h → IsPrevSound m h → (0 < face m h → IsInnerSound m h) → IsSoundEdge m h
+-- an edge whose parts are sound is sound, where the part of an inner face is asked for such a face
+-- alone
+pub sound_from : (m : Mesh) (h : ℕ) → IsInMesh m h → IsNextSound m h → IsPrevSound m h
+    → (0 < face m h → IsInnerSound m h) → IsSoundEdge m h
 sound_from m h a n p inner =
     let three = λ (some : 0 < face m h). (inner some).three in
     let owned = λ (some : 0 < face m h). (inner some).owned in
@@ -58,7 +65,10 @@ sound_from m h a n p inner =
 
 module _ (old new : Mesh) (h : ℕ) (here : IsSoundEdge old h) where
   -- edge h and the one after it still fit together where the links that this is about stay
-  pub next_kept : next new h ≡ next old h → prev new (next old h) ≡ prev old (next old h) → origin new (next old h) ≡ origin old (next old h) → origin new (rev h) ≡ origin old (rev h) → face new h ≡ face old h → face new (next old h) ≡ face old (next old h) → length old.half_edges ≤ length new.half_edges → IsNextSound new h
+  pub next_kept : next new h ≡ next old h → prev new (next old h) ≡ prev old (next old h)
+      → origin new (next old h) ≡ origin old (next old h) → origin new (rev h) ≡ origin old (rev h)
+      → face new h ≡ face old h → face new (next old h) ≡ face old (next old h)
+      → length old.half_edges ≤ length new.half_edges → IsNextSound new h
   next_kept a b c d x y more = record {
     next_in = omega (arith, a, here.next_in, more);
     prev_next = cc here.prev_next;
@@ -68,14 +78,17 @@ module _ (old new : Mesh) (h : ℕ) (here : IsSoundEdge old h) where
   }
 
   -- edge h still comes after the one before it where both links stay
-  pub prev_kept : prev new h ≡ prev old h → next new (prev old h) ≡ next old (prev old h) → length old.half_edges ≤ length new.half_edges → IsPrevSound new h
+  pub prev_kept : prev new h ≡ prev old h → next new (prev old h) ≡ next old (prev old h)
+      → length old.half_edges ≤ length new.half_edges → IsPrevSound new h
   prev_kept a b more = record {
     prev_in = omega (arith, a, here.prev_in, more);
     next_prev = cc here.next_prev;
   }
 
   -- the loop of an inner face is still sound where its links and the edge that the face names stay
-  pub inner_kept : 0 < face old h → next new h ≡ next old h → prev new h ≡ prev old h → face new h ≡ face old h → next new (next old h) ≡ next old (next old h) → face_edge new (face old h) ≡ face_edge old (face old h) → IsInnerSound new h
+  pub inner_kept : 0 < face old h → next new h ≡ next old h → prev new h ≡ prev old h
+      → face new h ≡ face old h → next new (next old h) ≡ next old (next old h)
+      → face_edge new (face old h) ≡ face_edge old (face old h) → IsInnerSound new h
   inner_kept some a b c d named = record {
     three = let t = here.three some in cc;
     owned = elim (here.owned some) [
@@ -86,10 +99,17 @@ module _ (old new : Mesh) (h : ℕ) (here : IsSoundEdge old h) where
 
 -- a sound edge and the edge after it fit together
 pub next_of_sound : (m : Mesh) (h : ℕ) → IsSoundEdge m h → IsNextSound m h
-next_of_sound m h s = record { next_in = s.next_in; prev_next = s.prev_next; starts = s.starts; same_face = s.same_face; proper = s.proper }
+next_of_sound m h s = record {
+  next_in = s.next_in;
+  prev_next = s.prev_next;
+  starts = s.starts;
+  same_face = s.same_face;
+  proper = s.proper;
+}
 
 -- an edge with its next one
-pub next_at : (m : Mesh) (h n : ℕ) → next m h ≡ n → n < length m.half_edges → prev m n ≡ h → origin m n ≡ origin m (rev h) → face m n ≡ face m h → n ≢ h → IsNextSound m h
+pub next_at : (m : Mesh) (h n : ℕ) → next m h ≡ n → n < length m.half_edges → prev m n ≡ h
+    → origin m n ≡ origin m (rev h) → face m n ≡ face m h → n ≢ h → IsNextSound m h
 next_at m h n at within back starts same differs = record {
   next_in = rw at within;
   prev_next = ap (prev m) at ∙ back;
@@ -99,9 +119,12 @@ next_at m h n at within back starts same differs = record {
 }
 
 -- where each edge is before its next one, each is after the one before it: there are finitely many
-pub prev_sound : (m : Mesh) → ((h : ℕ) → h < length m.half_edges → IsNextSound m h) → (h : ℕ) → h < length m.half_edges → IsPrevSound m h
+pub prev_sound : (m : Mesh) → ((h : ℕ) → h < length m.half_edges → IsNextSound m h) → (h : ℕ)
+    → h < length m.half_edges → IsPrevSound m h
 prev_sound m ok h within =
-    let g = reached (next m) (length m.half_edges) (λ a a_in. (ok a a_in).next_in) (λ a b a_in b_in same. sym (ok a a_in).prev_next ∙ ap (prev m) same ∙ (ok b b_in).prev_next) h within in
+    let g = reached (next m) (length m.half_edges) (λ a a_in. (ok a a_in).next_in)
+    (λ a b a_in b_in same. sym (ok a a_in).prev_next ∙ ap (prev m) same
+    ∙ (ok b b_in).prev_next) h within in
     let at : prev m h ≡ g.0 = ap (prev m) (sym g.2) ∙ (ok g.0 g.1).prev_next in
     record { prev_in = rw at g.1; next_prev = ap (next m) at ∙ g.2 }
 
@@ -124,7 +147,8 @@ NamesOutEdges m = (u h : ℕ) → out_edge m u ≡ Some h → (h < length m.half
 
 -- the edge that a face names is on its loop
 abbrev pub NamesFaces : Mesh → Type 0
-NamesFaces m = (k : ℕ) → 0 < k → k ≤ length m.face_edges → (face_edge m k < length m.half_edges) × (face m (face_edge m k) ≡ k)
+NamesFaces m = (k : ℕ) → 0 < k → k ≤ length m.face_edges
+    → (face_edge m k < length m.half_edges) × (face m (face_edge m k) ≡ k)
 
 -- the edge that the outer face names is one of its edges
 abbrev pub NamesOuterEdge : Mesh → Type 0
@@ -164,7 +188,8 @@ pub record IsLoop (m : Mesh) (a b c x y z f : ℕ) : Type 0 where
 turned_loop : (m : Mesh) (a b c x y z f : ℕ) → IsLoop m a b c x y z f → IsLoop m b c a y z x f
 turned_loop m a b c x y z f l = assumption l
 
-first_sound : (m : Mesh) (a b c x y z f : ℕ) → IsLoop m a b c x y z f → (face_edge m f ≡ a) ⊎ ((face_edge m f ≡ b) ⊎ (face_edge m f ≡ c)) → IsSoundEdge m a
+first_sound : (m : Mesh) (a b c x y z f : ℕ) → IsLoop m a b c x y z f
+    → (face_edge m f ≡ a) ⊎ ((face_edge m f ≡ b) ⊎ (face_edge m f ≡ c)) → IsSoundEdge m a
 first_sound m a b c x y z f l named =
     let p = l.first in
     let q = l.second in
@@ -184,7 +209,8 @@ first_sound m a b c x y z f l named =
     }
 
 -- the three edges round a face that names the first one are sound
-pub loop_sound : (m : Mesh) (a b c x y z f : ℕ) → IsLoop m a b c x y z f → face_edge m f ≡ a → IsSoundEdge m a × IsSoundEdge m b × IsSoundEdge m c
+pub loop_sound : (m : Mesh) (a b c x y z f : ℕ) → IsLoop m a b c x y z f → face_edge m f ≡ a
+    → IsSoundEdge m a × IsSoundEdge m b × IsSoundEdge m c
 loop_sound m a b c x y z f l named =
     let second = turned_loop m a b c x y z f l in (
       first_sound m a b c x y z f l (inl named),
@@ -193,7 +219,8 @@ loop_sound m a b c x y z f l named =
     )
 
 -- what the vertices name, where vertex v names edge x now
-module _ (m new : Mesh) (v x : ℕ) (out : out_edge new v ≡ Some x) (others : (u : ℕ) → u ≢ v → out_edge new u ≡ out_edge m u) where
+module _ (m new : Mesh) (v x : ℕ) (out : out_edge new v ≡ Some x)
+    (others : (u : ℕ) → u ≢ v → out_edge new u ≡ out_edge m u) where
   -- a vertex that named an edge names one still
   pub still_out : KeepsOutEdges m new
   still_out u had =
@@ -203,7 +230,10 @@ module _ (m new : Mesh) (v x : ℕ) (out : out_edge new v ≡ Some x) (others : 
       ]
 
   -- each named edge starts at its vertex, where x starts at v and edges of other vertices stay
-  pub still_named : AreSoundLinks m → x < length new.half_edges → origin new x ≡ v → ((h : ℕ) → h < length m.half_edges → origin m h ≢ v → (h < length new.half_edges) × (origin new h ≡ origin m h)) → (u h : ℕ) → out_edge new u ≡ Some h → (h < length new.half_edges) × (origin new h ≡ u)
+  pub still_named : AreSoundLinks m → x < length new.half_edges → origin new x ≡ v
+      → ((h : ℕ) → h < length m.half_edges → origin m h ≢ v
+      → (h < length new.half_edges) × (origin new h ≡ origin m h)) → (u h : ℕ)
+      → out_edge new u ≡ Some h → (h < length new.half_edges) × (origin new h ≡ u)
   still_named s x_in at kept u h is =
       elim (cases_eq u v) [
         | inl same ↦ let now : x ≡ h = cc out in rw (← now, same) (x_in, at)

@@ -1,5 +1,6 @@
 -- A mesh stays sound under new indexes, also where elements go to which nothing refers.
-use Rattle.std.proofs.Common.{◌≡◌, ℕ, length, Option, Some, None, IsSome, refl, sym, ap, ◌∙◌, inl, inr}
+use Rattle.std.proofs.Common.{◌≡◌, ◌∙◌}
+use Rattle.std.proofs.Common.{ℕ, length, Option, Some, None, IsSome, refl, sym, ap, inl, inr}
 use Rattle.std.proofs.lemmas.Bool.{cases_lt}
 use Rattle.std.proofs.lemmas.List.{get_or_past}
 use Rattle.half_edge_links.specs.Mesh.{Mesh, origin, next, prev, face, rev, AreSoundLinks}
@@ -12,7 +13,8 @@ is_some f None had = had
 is_some f (Some x) had = refl
 
 -- what a renamed option was
-some_was : (f : ℕ → ℕ) (o : Option ℕ) (k : ℕ) → renamed f o ≡ Some k → (h : ℕ) × (o ≡ Some h) × (f h ≡ k)
+some_was : (f : ℕ → ℕ) (o : Option ℕ) (k : ℕ) → renamed f o ≡ Some k
+    → (h : ℕ) × (o ≡ Some h) × (f h ≡ k)
 some_was f None k same = absurd (cc)
 some_was f (Some x) k same = (x, refl, cc)
 
@@ -46,7 +48,8 @@ module _ (old new : Mesh) (r : Naming) (n : Renames old new r) where
         next_prev = cc (at_h.prev, at_prev.next, was.next_prev, back);
         starts = cc (at_h.next, at_next.origin, was.starts, at_rev.origin, rev_is);
         same_face = cc (at_h.next, at_next.face, was.same_face, at_h.face);
-        three = λ inner. let t = was.three (here.face_kept (rw at_h.face at inner)).0 in cc (at_h.next, at_next.next, at_h.prev);
+        three = λ inner. let t = was.three (here.face_kept (rw at_h.face at inner)).0 in
+            cc (at_h.next, at_next.next, at_h.prev);
         proper = λ same. was.proper (cc (at_h.next, next_back));
         owned = λ inner.
             let some = rw at_h.face at inner in
@@ -55,10 +58,17 @@ module _ (old new : Mesh) (r : Naming) (n : Renames old new r) where
             let same = f.1 in
             elim (was.owned f.0) [
               | inl x ↦ inl (cc (at_h.face, named, same, x, back))
-              | inr y ↦ elim y [ inl x ↦ inr (inl (cc (at_h.face, named, same, x, at_h.next))) | inr x ↦ inr (inr (cc (at_h.face, named, same, x, at_h.prev))) ]
+              | inr y ↦ elim y [
+                | inl x ↦ inr (inl (cc (at_h.face, named, same, x, at_h.next)))
+                | inr x ↦ inr (inr (cc (at_h.face, named, same, x, at_h.prev)))
+              ]
             ];
         has_out =
-            rw (at_h.origin, (n.vertices (r.vertex (origin old g)) here.origin_in).out, here.origin_back) (is_some r.edge _ was.has_out);
+            rw (
+              at_h.origin,
+              (n.vertices (r.vertex (origin old g)) here.origin_in).out,
+              here.origin_back,
+            ) (is_some r.edge _ was.has_out);
       }
 
   sound_vertex : NamesOutEdges new
@@ -68,8 +78,11 @@ module _ (old new : Mesh) (r : Naming) (n : Renames old new r) where
             let vertex = n.vertices v within in
             let was = some_was r.edge _ k (sym vertex.out ∙ named) in
             let kept = vertex.kept was.0 was.1 in
-            let is = was.2 in
-            (rw (← is) kept.0.within, rw (← is) ((kept_edge was.0 kept.0).links.origin ∙ ap r.vertex kept.1 ∙ vertex.back))
+            let is = was.2 in (
+              rw (← is) kept.0.within,
+              rw (← is)
+                  ((kept_edge was.0 kept.0).links.origin ∙ ap r.vertex kept.1 ∙ vertex.back),
+            )
         | inr past ↦
             let none = get_or_past new.out_edges v None past in
             absurd (cc)
@@ -82,12 +95,16 @@ module _ (old new : Mesh) (r : Naming) (n : Renames old new r) where
     edges = sound_edge;
     vertices = sound_vertex;
     faces = λ f some within.
-        let here = n.faces f some within in
-        (rw here.named here.kept.within, rw here.named ((kept_edge _ here.kept).links.face ∙ ap r.face here.of ∙ here.back));
+        let here = n.faces f some within in (
+          rw here.named here.kept.within,
+          rw here.named ((kept_edge _ here.kept).links.face ∙ ap r.face here.of ∙ here.back),
+        );
     outer = λ k named.
         let was = some_was r.edge _ k (sym n.outer ∙ named) in
         let kept = n.outer_kept was.0 was.1 in
-        let is = was.2 in
-        (rw (← is) kept.0.within, rw (← is) ((kept_edge was.0 kept.0).links.face ∙ ap r.face kept.1 ∙ n.outer_face));
+        let is = was.2 in (
+          rw (← is) kept.0.within,
+          rw (← is) ((kept_edge was.0 kept.0).links.face ∙ ap r.face kept.1 ∙ n.outer_face),
+        );
     has_outer = λ some. rw n.outer (is_some r.edge _ (n.has_outer some));
   }

@@ -21,7 +21,8 @@ pub record IsTriangle (m : Mesh) (h : ℕ) : Type 0 where
   pub prev_prev : prev m (prev m h) ≡ next m h
 
 -- in a sound mesh, each edge of an inner face is one of three edges round it
-pub triangle_at : (m : Mesh) (h : ℕ) → AreSoundLinks m → h < length m.half_edges → 0 < face m h → IsTriangle m h
+pub triangle_at : (m : Mesh) (h : ℕ) → AreSoundLinks m → h < length m.half_edges → 0 < face m h
+    → IsTriangle m h
 triangle_at m h s within inner =
     let here = s.edges h within in
     let at_next = s.edges (next m h) here.next_in in
@@ -34,7 +35,9 @@ triangle_at m h s within inner =
     assumption (here, three, face_prev, differs, both_differ, prev_prev)
 
 -- edges with one inner face lie in one loop
-pub same_loop : (m : Mesh) (h g : ℕ) → AreSoundLinks m → h < length m.half_edges → g < length m.half_edges → 0 < face m h → face m g ≡ face m h → (g ≡ h) ⊎ ((g ≡ next m h) ⊎ (g ≡ prev m h))
+pub same_loop : (m : Mesh) (h g : ℕ) → AreSoundLinks m → h < length m.half_edges
+    → g < length m.half_edges → 0 < face m h → face m g ≡ face m h
+    → (g ≡ h) ⊎ ((g ≡ next m h) ⊎ (g ≡ prev m h))
 same_loop m h g s h_in g_in inner same =
     let t = triangle_at m h s h_in inner in
     let g_inner : 0 < face m g = omega arith in
@@ -42,16 +45,27 @@ same_loop m h g s h_in g_in inner same =
     let a = (s.edges h h_in).owned inner in
     let b = (s.edges g g_in).owned g_inner in
     elim a [
-      | inl a1 ↦ elim b [ inl b1 ↦ inl (cc) | inr b2 ↦ elim b2 [ inl b3 ↦ inr (inr (cc)) | inr b3 ↦ inr (inl (cc)) ] ]
-      | inr (inl a3) ↦ elim b [ inl b1 ↦ inr (inl (cc)) | inr b2 ↦ elim b2 [ inl b3 ↦ inl (cc) | inr b3 ↦ inr (inr (cc)) ] ]
-      | inr (inr a3) ↦ elim b [ inl b1 ↦ inr (inr (cc)) | inr b2 ↦ elim b2 [ inl b3 ↦ inr (inl (cc)) | inr b3 ↦ inl (cc) ] ]
+      | inl a1 ↦ elim b [
+        | inl b1 ↦ inl (cc)
+        | inr b2 ↦ elim b2 [ inl b3 ↦ inr (inr (cc)) | inr b3 ↦ inr (inl (cc)) ]
+      ]
+      | inr (inl a3) ↦ elim b [
+        | inl b1 ↦ inr (inl (cc))
+        | inr b2 ↦ elim b2 [ inl b3 ↦ inl (cc) | inr b3 ↦ inr (inr (cc)) ]
+      ]
+      | inr (inr a3) ↦ elim b [
+        | inl b1 ↦ inr (inr (cc))
+        | inr b2 ↦ elim b2 [ inl b3 ↦ inr (inl (cc)) | inr b3 ↦ inl (cc) ]
+      ]
     ]
 
 -- the six edges round an edge that may be turned
-pub six_round : (m : Mesh) (e : ℕ) → AreSoundLinks m → IsFlippable m e → AreSixPlaces (length m.half_edges) e (rev e) (next m e) (next m (rev e)) (prev m e) (prev m (rev e))
+pub six_round : (m : Mesh) (e : ℕ) → AreSoundLinks m → IsFlippable m e → AreSixPlaces
+    (length m.half_edges) e (rev e) (next m e) (next m (rev e)) (prev m e) (prev m (rev e))
 six_round m e s f =
     let t = triangle_at m e s f.within f.inner in
-    let u = triangle_at m (rev e) s (rev_within e (length m.half_edges) s.even f.within) f.twin_inner in
+    let u =
+    triangle_at m (rev e) s (rev_within e (length m.half_edges) s.even f.within) f.twin_inner in
     record {
       a_in = f.within;
       b_in = u.h_in;

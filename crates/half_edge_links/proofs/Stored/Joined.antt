@@ -18,11 +18,14 @@ joined_sound m s = record {
 }
 
 -- an edge that a list shows is kept in it, and so is the edge after it
-pub kept_in : (rs : List StoredEdge) (h : ℕ) → AreJoined (shown rs) → h < length (shown rs) → (h < length rs) × ((edge_at (shown rs) h).next < length rs)
+pub kept_in : (rs : List StoredEdge) (h : ℕ) → AreJoined (shown rs) → h < length (shown rs)
+    → (h < length rs) × ((edge_at (shown rs) h).next < length rs)
 kept_in rs h j within = (rw length_shown at within, rw length_shown at (j.next_in h within))
 
 -- links stay joined where no edge gets another one after or before it
-pub joined_kept : (old new : List HalfEdge) → length new ≡ length old → ((k : ℕ) → (edge_at new k).next ≡ (edge_at old k).next) → ((k : ℕ) → (edge_at new k).prev ≡ (edge_at old k).prev) → AreJoined old → AreJoined new
+pub joined_kept : (old new : List HalfEdge) → length new ≡ length old
+    → ((k : ℕ) → (edge_at new k).next ≡ (edge_at old k).next)
+    → ((k : ℕ) → (edge_at new k).prev ≡ (edge_at old k).prev) → AreJoined old → AreJoined new
 joined_kept old new count nexts prevs j = record {
   next_in = λ h within. rw (count, nexts h) (j.next_in h (rw count at within));
   prev_in = λ h within. rw (count, prevs h) (j.prev_in h (rw count at within));
@@ -32,4 +35,10 @@ joined_kept old new count nexts prevs j = record {
 
 -- the three edges round an inner face are a loop of three in the list
 pub loop_of_three : (m : Mesh) (h : ℕ) → IsTriangle m h → IsLoopOfThree m.half_edges h
-loop_of_three m h t = record { within = t.h_in; three = t.next_next; next_differs = t.next_differs; prev_differs = t.prev_differs; both_differ = t.both_differ }
+loop_of_three m h t = record {
+  within = t.h_in;
+  three = t.next_next;
+  next_differs = t.next_differs;
+  prev_differs = t.prev_differs;
+  both_differ = t.both_differ;
+}

@@ -11,7 +11,9 @@ use Rattle.half_edge_links.specs.Pass.{passed_edges}
 use Rattle.half_edge_links.specs.Places.{AreJoined, AreSlidPlaces, ArePassedPlaces}
 use Rattle.half_edge_links.specs.EdgeList.{shown, stored_next, stored_prev, stored_corner}
 use Rattle.half_edge_links.proofs.Sound.Relinks.{Relinks, relinks}
-use Rattle.half_edge_links.proofs.Stored.Keeps.{keeps_shown, keeps_next, keeps_prev, keeps_corner, keeps_origin, shown_is, corner_shown, corners_of, count_corners, SayOrigins, apart_joined}
+use Rattle.half_edge_links.proofs.Stored.Keeps.{keeps_shown, keeps_next, keeps_prev, keeps_corner}
+use Rattle.half_edge_links.proofs.Stored.Keeps.{keeps_origin, shown_is, corner_shown, corners_of}
+use Rattle.half_edge_links.proofs.Stored.Keeps.{count_corners, SayOrigins, apart_joined}
 
 -- three places of a list that differ
 pub record AreThree (n x y w : ℕ) : Type 0 where
@@ -22,17 +24,24 @@ pub record AreThree (n x y w : ℕ) : Type 0 where
   pub x-w : x ≢ w
   pub y-w : y ≢ w
 
-module _ (hs new : List HalfEdge) (cs : List ℕ) (e t k l z x y w p q r o : ℕ) (i : Relinks hs new e t k l z x y w p q r o) (j : AreJoined hs) (count : length cs ≡ length hs) (say : SayOrigins hs cs) where
+module _ (hs new : List HalfEdge) (cs : List ℕ) (e t k l z x y w p q r o : ℕ)
+    (i : Relinks hs new e t k l z x y w p q r o) (j : AreJoined hs) (count : length cs ≡ length hs)
+    (say : SayOrigins hs cs) where
   abbrev n_t : ℕ
   n_t = (edge_at hs t).next
 
-  -- where the edges before those of the list start once e, z and k come before x, y and w, and t starts at o
+  -- where the edges before those of the list start once e, z and k come before x, y and w, and t
+  -- starts at o
   abbrev pub relinked_corners : List ℕ
-  relinked_corners = set (set (set (set cs x (edge_at hs e).origin) y (edge_at hs z).origin) w (edge_at hs k).origin) n_t o
+  relinked_corners = set (set (set (set cs x (edge_at hs e).origin) y (edge_at hs z).origin) w
+      (edge_at hs k).origin) n_t o
 
-  -- the records say of each edge where it starts, if no other edges than e, z and k came before x, y and w
-  pub say_relinked : e < length hs → t < length hs → k < length hs → z < length hs → AreThree (length hs) x y w → t ≢ e → t ≢ z → t ≢ k →
-      ((h : ℕ) → h < length hs → h ≢ e → h ≢ z → h ≢ k → ((edge_at hs h).next ≢ x) × ((edge_at hs h).next ≢ y) × ((edge_at hs h).next ≢ w)) → SayOrigins new relinked_corners
+  -- the records say of each edge where it starts, if no other edges than e, z and k came before x,
+  -- y and w
+  pub say_relinked : e < length hs → t < length hs → k < length hs → z < length hs
+      → AreThree (length hs) x y w → t ≢ e → t ≢ z → t ≢ k
+      → ((h : ℕ) → h < length hs → h ≢ e → h ≢ z → h ≢ k → ((edge_at hs h).next ≢ x)
+      × ((edge_at hs h).next ≢ y) × ((edge_at hs h).next ≢ w)) → SayOrigins new relinked_corners
   say_relinked e_in t_in k_in z_in three t_e t_z t_k off h new_in =
       let within : h < length hs = rw i.count at new_in in
       let a : List ℕ = set cs x (edge_at hs e).origin in
@@ -42,19 +51,27 @@ module _ (hs new : List HalfEdge) (cs : List ℕ) (e t k l z x y w p q r o : ℕ
       let nb : length b ≡ length hs = length-set a y _ ∙ na in
       let nc : length c ≡ length hs = length-set b w _ ∙ nb in
       let t_off = off t t_in t_e t_z t_k in
-      let past = λ (q : ℕ) (off_x : q ≢ x) (off_y : q ≢ y) (off_w : q ≢ w) (off_t : q ≢ n_t). get_or-set_other c n_t q o 0 off_t ∙ get_or-set_other b w q _ 0 off_w ∙ get_or-set_other a y q _ 0 off_y ∙ get_or-set_other cs x q _ 0 off_x in
+      let past = λ (q : ℕ) (off_x : q ≢ x) (off_y : q ≢ y) (off_w : q ≢ w) (off_t :
+      q ≢ n_t). get_or-set_other c n_t q o 0 off_t ∙ get_or-set_other b w q _ 0 off_w
+      ∙ get_or-set_other a y q _ 0 off_y ∙ get_or-set_other cs x q _ 0 off_x in
       elim (cases_eq h e or_else cases_eq h z or_else cases_eq h k or_else cases_eq h t) [
         | inl is ↦ rw (is, i.next_e, i.other_origin e e_in (λ q. t_e (sym q))) (
-            get_or-set_other c n_t x o 0 (λ q. t_off.0 (sym q)) ∙ get_or-set_other b w x _ 0 three.x-w ∙ get_or-set_other a y x _ 0 three.x-y ∙ get_or-set_same cs x _ 0 (rw count three.x_in))
+            get_or-set_other c n_t x o 0 (λ q. t_off.0 (sym q))
+            ∙ get_or-set_other b w x _ 0 three.x-w ∙ get_or-set_other a y x _ 0 three.x-y
+            ∙ get_or-set_same cs x _ 0 (rw count three.x_in))
         | inr (_, inl is) ↦ rw (is, i.next_z, i.other_origin z z_in (λ q. t_z (sym q))) (
-            get_or-set_other c n_t y o 0 (λ q. t_off.1 (sym q)) ∙ get_or-set_other b w y _ 0 three.y-w ∙ get_or-set_same a y _ 0 (rw na three.y_in))
+            get_or-set_other c n_t y o 0 (λ q. t_off.1 (sym q))
+            ∙ get_or-set_other b w y _ 0 three.y-w ∙ get_or-set_same a y _ 0 (rw na three.y_in))
         | inr (_, inr (_, inl is)) ↦ rw (is, i.next_k, i.other_origin k k_in (λ q. t_k (sym q))) (
-            get_or-set_other c n_t w o 0 (λ q. t_off.2 (sym q)) ∙ get_or-set_same b w _ 0 (rw nb three.w_in))
-        | inr (_, inr (_, inr (_, inl is))) ↦ rw (is, i.other_next t t_in t_e t_z t_k, i.origin_t) (get_or-set_same c n_t o 0 (rw nc (j.next_in t t_in)))
+            get_or-set_other c n_t w o 0 (λ q. t_off.2 (sym q))
+            ∙ get_or-set_same b w _ 0 (rw nb three.w_in))
+        | inr (_, inr (_, inr (_, inl is))) ↦ rw (is, i.other_next t t_in t_e t_z t_k, i.origin_t)
+            (get_or-set_same c n_t o 0 (rw nc (j.next_in t t_in)))
         | inr (h_e, inr (h_z, inr (h_k, inr h_t))) ↦
             let h_off = off h within h_e h_z h_k in
             rw (i.other_next h within h_e h_z h_k, i.other_origin h within h_t) (
-            past (edge_at hs h).next h_off.0 h_off.1 h_off.2 (λ q. h_t (apart_joined hs j h t within t_in q)) ∙ say h within)
+            past (edge_at hs h).next h_off.0 h_off.1 h_off.2
+            (λ q. h_t (apart_joined hs j h t within t_in q)) ∙ say h within)
       ]
 
 module _ (rs : List StoredEdge) (e t k l z : ℕ) (j : AreJoined (shown rs)) where
@@ -62,9 +79,11 @@ module _ (rs : List StoredEdge) (e t k l z : ℕ) (j : AreJoined (shown rs)) whe
   hs = shown rs
 
   -- the records after an edge was slid show it
-  pub shows_slid : AreSlidPlaces (shown rs) e t k l z →
-      shown (stored_corner (stored_corner (stored_corner (stored_corner (stored_prev (stored_prev (stored_prev (stored_next (stored_next (stored_next rs e l) z k) k t) l e) k z) t k)
-      l (edge_at (shown rs) e).origin) k (edge_at (shown rs) z).origin) t (edge_at (shown rs) k).origin) (edge_at (shown rs) t).next (edge_at (shown rs) l).origin)
+  pub shows_slid : AreSlidPlaces (shown rs) e t k l z
+      → shown (stored_corner (stored_corner (stored_corner (stored_corner (stored_prev (stored_prev
+      (stored_prev (stored_next (stored_next (stored_next rs e l) z k) k t) l e) k z) t k) l
+      (edge_at (shown rs) e).origin) k (edge_at (shown rs) z).origin) t
+      (edge_at (shown rs) k).origin) (edge_at (shown rs) t).next (edge_at (shown rs) l).origin)
       ≡ slid_edges (shown rs) e t k l z
   unfolding slid_edges
   shows_slid p =
@@ -72,21 +91,37 @@ module _ (rs : List StoredEdge) (e t k l z : ℕ) (j : AreJoined (shown rs)) whe
       let l_in : l < length hs = rw p.back_is (j.next_in k k_in) in
       let z_in : z < length hs = rw p.before_is (j.prev_in t p.twin_in) in
       let next_z : (edge_at hs z).next ≡ t = rw p.before_is (j.next_prev t p.twin_in) in
-      let r = relinks hs e t k l z l k t e z k (edge_at hs l).origin p.edge_in p.twin_in k_in l_in z_in p.edge-before p.edge-there p.before-there p.back-there p.back-twin p.there-twin in
-      let three : AreThree (length hs) l k t = record { x_in = l_in; y_in = k_in; w_in = p.twin_in; x-y = p.back-there; x-w = p.back-twin; y-w = p.there-twin } in
+      let r = relinks hs e t k l z l k t e z k (edge_at hs l).origin p.edge_in p.twin_in k_in l_in
+      z_in p.edge-before p.edge-there p.before-there p.back-there p.back-twin p.there-twin in
+      let three : AreThree (length hs) l k t = record {
+        x_in = l_in;
+        y_in = k_in;
+        w_in = p.twin_in;
+        x-y = p.back-there;
+        x-w = p.back-twin;
+        y-w = p.there-twin;
+      } in
       shown_is _ _ _ (
-      keeps_corner _ _ _ (keeps_corner _ _ _ (keeps_corner _ _ _ (keeps_corner _ _ _ (keeps_origin _ _ _ (
-      keeps_prev _ _ _ (keeps_prev _ _ _ (keeps_prev _ _ _ (keeps_next _ _ _ (keeps_next _ _ _ (keeps_next _ _ _ (keeps_shown rs) _ _) _ _) _ _) _ _) _ _) _ _) _ _) _ _) _ _) _ _) _ _) (
-      say_relinked hs _ (corners_of rs) e t k l z l k t e z k (edge_at hs l).origin r j (count_corners rs) (corner_shown rs) p.edge_in p.twin_in k_in z_in three (λ q. p.edge-twin (sym q)) (λ q. p.before-twin (sym q)) (λ q. p.there-twin (sym q)) (λ h within h_e h_z h_k. (
+      keeps_corner _ _ _
+      (keeps_corner _ _ _ (keeps_corner _ _ _ (keeps_corner _ _ _ (keeps_origin _ _ _ (
+      keeps_prev _ _ _ (keeps_prev _ _ _ (keeps_prev _ _ _ (keeps_next _ _ _
+      (keeps_next _ _ _ (keeps_next _ _ _ (keeps_shown rs) _ _) _ _) _ _) _ _) _ _) _ _) _ _) _
+      _) _ _) _ _) _ _) (
+      say_relinked hs _ (corners_of rs) e t k l z l k t e z k (edge_at hs l).origin r j
+      (count_corners rs) (corner_shown rs) p.edge_in p.twin_in k_in z_in three
+      (λ q. p.edge-twin (sym q)) (λ q. p.before-twin (sym q)) (λ q. p.there-twin (sym q))
+      (λ h within h_e h_z h_k. (
         λ q. h_k (apart_joined hs j h k within k_in (q ∙ p.back_is)),
         λ q. h_e (apart_joined hs j h e within p.edge_in (q ∙ p.there_is)),
         λ q. h_z (apart_joined hs j h z within z_in (q ∙ sym next_z)),
       )))
 
   -- the records after an edge passed a vertex show it
-  pub shows_passed : ArePassedPlaces (shown rs) e t k l z →
-      shown (stored_corner (stored_corner (stored_corner (stored_corner (stored_prev (stored_prev (stored_prev (stored_next (stored_next (stored_next rs e k) z t) k l) l k) k e) t z)
-      k (edge_at (shown rs) e).origin) t (edge_at (shown rs) z).origin) l (edge_at (shown rs) k).origin) (edge_at (shown rs) t).next (edge_at (shown rs) k).origin)
+  pub shows_passed : ArePassedPlaces (shown rs) e t k l z
+      → shown (stored_corner (stored_corner (stored_corner (stored_corner (stored_prev (stored_prev
+      (stored_prev (stored_next (stored_next (stored_next rs e k) z t) k l) l k) k e) t z) k
+      (edge_at (shown rs) e).origin) t (edge_at (shown rs) z).origin) l
+      (edge_at (shown rs) k).origin) (edge_at (shown rs) t).next (edge_at (shown rs) k).origin)
       ≡ passed_edges (shown rs) e t k l z
   unfolding passed_edges
   shows_passed p =
@@ -95,12 +130,26 @@ module _ (rs : List StoredEdge) (e t k l z : ℕ) (j : AreJoined (shown rs)) whe
       let z_in : z < length hs = rw p.before_is (j.prev_in k k_in) in
       let next_k : (edge_at hs k).next ≡ t = rw p.there_is (j.next_prev t p.twin_in) in
       let next_z : (edge_at hs z).next ≡ k = rw p.before_is (j.next_prev k k_in) in
-      let r = relinks hs e t k l z k t l k e z (edge_at hs k).origin p.edge_in p.twin_in k_in l_in z_in p.edge-before p.edge-there p.before-there p.back-there p.back-twin p.there-twin in
-      let three : AreThree (length hs) k t l = record { x_in = k_in; y_in = p.twin_in; w_in = l_in; x-y = p.there-twin; x-w = λ q. p.back-there (sym q); y-w = λ q. p.back-twin (sym q) } in
+      let r = relinks hs e t k l z k t l k e z (edge_at hs k).origin p.edge_in p.twin_in k_in l_in
+      z_in p.edge-before p.edge-there p.before-there p.back-there p.back-twin p.there-twin in
+      let three : AreThree (length hs) k t l = record {
+        x_in = k_in;
+        y_in = p.twin_in;
+        w_in = l_in;
+        x-y = p.there-twin;
+        x-w = λ q. p.back-there (sym q);
+        y-w = λ q. p.back-twin (sym q);
+      } in
       shown_is _ _ _ (
-      keeps_corner _ _ _ (keeps_corner _ _ _ (keeps_corner _ _ _ (keeps_corner _ _ _ (keeps_origin _ _ _ (
-      keeps_prev _ _ _ (keeps_prev _ _ _ (keeps_prev _ _ _ (keeps_next _ _ _ (keeps_next _ _ _ (keeps_next _ _ _ (keeps_shown rs) _ _) _ _) _ _) _ _) _ _) _ _) _ _) _ _) _ _) _ _) _ _) (
-      say_relinked hs _ (corners_of rs) e t k l z k t l k e z (edge_at hs k).origin r j (count_corners rs) (corner_shown rs) p.edge_in p.twin_in k_in z_in three (λ q. p.edge-twin (sym q)) (λ q. p.before-twin (sym q)) (λ q. p.there-twin (sym q)) (λ h within h_e h_z h_k. (
+      keeps_corner _ _ _
+      (keeps_corner _ _ _ (keeps_corner _ _ _ (keeps_corner _ _ _ (keeps_origin _ _ _ (
+      keeps_prev _ _ _ (keeps_prev _ _ _ (keeps_prev _ _ _ (keeps_next _ _ _
+      (keeps_next _ _ _ (keeps_next _ _ _ (keeps_shown rs) _ _) _ _) _ _) _ _) _ _) _ _) _ _) _
+      _) _ _) _ _) _ _) (
+      say_relinked hs _ (corners_of rs) e t k l z k t l k e z (edge_at hs k).origin r j
+      (count_corners rs) (corner_shown rs) p.edge_in p.twin_in k_in z_in three
+      (λ q. p.edge-twin (sym q)) (λ q. p.before-twin (sym q)) (λ q. p.there-twin (sym q))
+      (λ h within h_e h_z h_k. (
         λ q. h_z (apart_joined hs j h z within z_in (q ∙ sym next_z)),
         λ q. h_k (apart_joined hs j h k within k_in (q ∙ sym next_k)),
         λ q. h_e (apart_joined hs j h e within p.edge_in (q ∙ p.back_is)),

@@ -1,4 +1,5 @@
--- The circle of three fraction points as a linear form: a vertex is inside where the form is above 0. Its facts are those of homogeneous triples.
+-- The circle of three fraction points as a linear form: a vertex is inside where the form is above
+-- 0. Its facts are those of homogeneous triples.
 use Prim.Native.Nat.{◌+◌}
 use lib.IntN.{ℤ, pos, ◌+ℤ◌, ◌*ℤ◌}
 use lib.Signed.{◌<ℤ◌}
@@ -45,26 +46,39 @@ unfolding lift
 lift-third a b c = C.incircle-third (vec a) (vec b) (vec c)
 
 -- the circles of two triples at the edge a b
-pub lift-across : (a b c d p : Fraction) → bracket b a d *ℤ lift a b c p ≡ bracket a b c *ℤ lift b a d p +ℤ bracket b a p *ℤ lift a b c d
+pub lift-across : (a b c d p : Fraction)
+    → bracket b a d *ℤ lift a b c p ≡ bracket a b c *ℤ lift b a d p +ℤ bracket b a p *ℤ lift a b c d
 unfolding lift bracket
 lift-across a b c d p = C.incircle-across (vec a) (vec b) (vec c) (vec d) (vec p)
 
 -- ---- vertices
 -- for the ring solver
 abbrev pub pointᵖ : Shape
-pointᵖ = record { Value = Point; Syntax = Syntax; width = 2; flat = λ a. a.x ∷ a.y ∷ []; fresh = λ i. record { x = var i; y = var (i + 1); w = num 1 } }
+pointᵖ = record {
+  Value = Point;
+  Syntax = Syntax;
+  width = 2;
+  flat = λ a. a.x ∷ a.y ∷ [];
+  fresh = λ i. record { x = var i; y = var (i + 1); w = num 1 };
+}
 
 -- a vertex is inside the circle of a left-turning triple exactly if its lift is above 0
-pub inside_is_lift : (u p q r : Point) → TurnsLeft (whole u) (whole p) (whole q) → InsideCircle (whole u) (whole p) (whole q) (whole r) ↔ (pos 0 <ℤ lift (whole u) (whole p) (whole q) (whole r))
+pub inside_is_lift : (u p q r : Point) → TurnsLeft (whole u) (whole p) (whole q)
+    → InsideCircle (whole u) (whole p) (whole q) (whole r)
+    ↔ (pos 0 <ℤ lift (whole u) (whole p) (whole q) (whole r))
 unfolding lift
 inside_is_lift u p q r turns = C.inside_is_incircle u p q r turns
 
 -- what the circle carries is as far from the centre as the first corner
-pub far_if_none : (u p q r : Point) (turns : TurnsLeft (whole u) (whole p) (whole q)) → lift (whole u) (whole p) (whole q) (whole r) ≡ pos 0 → AreEquallyFar (centre u p q turns) (whole r) (whole u)
+pub far_if_none : (u p q r : Point) (turns : TurnsLeft (whole u) (whole p) (whole q))
+    → lift (whole u) (whole p) (whole q) (whole r) ≡ pos 0
+    → AreEquallyFar (centre u p q turns) (whole r) (whole u)
 unfolding lift
 far_if_none u p q r turns h = C.far_if_carried u p q r turns h
 
 -- the circle of a left-turning triple carries a vertex exactly if its lift is 0
-pub on_is_lift : (u p q r : Point) → TurnsLeft (whole u) (whole p) (whole q) → OnCircle (whole u) (whole p) (whole q) (whole r) ↔ (lift (whole u) (whole p) (whole q) (whole r) ≡ pos 0)
+pub on_is_lift : (u p q r : Point) → TurnsLeft (whole u) (whole p) (whole q)
+    → OnCircle (whole u) (whole p) (whole q) (whole r)
+    ↔ (lift (whole u) (whole p) (whole q) (whole r) ≡ pos 0)
 unfolding lift
 on_is_lift u p q r turns = C.on_is_incircle u p q r turns

@@ -48,10 +48,14 @@ flag-lt : (b c : ℤ) → b <ℤ c → flag b b < flag b c
 flag-lt b c h = omega (arith, not_below b b (omega (arith, ints)), below b c h)
 
 -- from a vertex to a nearer one the number of nearer vertices falls, and it is below that of all
-pub nearer_count_falls : (t : Triangulation) (p : Fraction) (i k : ℕ) → IsVertex t i → IsVertex t k → IsNearer p (vertex t k) (vertex t i) → (nearer_count t p k < nearer_count t p i) × (nearer_count t p i < length t.points)
+pub nearer_count_falls : (t : Triangulation) (p : Fraction) (i k : ℕ) → IsVertex t i → IsVertex t k
+    → IsNearer p (vertex t k) (vertex t i)
+    → (nearer_count t p k < nearer_count t p i) × (nearer_count t p i < length t.points)
 nearer_count_falls t p i k hi hk near = (
-  sum_by-lt (counted k) (counted i) (spot k) t.points (λ q. flag-le (far q) (far (spot k)) (far (spot i)) near.nearer) (listed k hk) (flag-lt (far (spot k)) (far (spot i)) near.nearer),
-  subst (λ n. nearer_count t p i < n) (ones t.points) (sum_by-lt (counted i) (λ _. 1) (spot i) t.points (λ q. flag-most (far q) (far (spot i))) (listed i hi) (flag-none (far (spot i)))),
+  sum_by-lt (counted k) (counted i) (spot k) t.points (λ q. flag-le (far q) (far (spot k))
+      (far (spot i)) near.nearer) (listed k hk) (flag-lt (far (spot k)) (far (spot i)) near.nearer),
+  subst (λ n. nearer_count t p i < n) (ones t.points) (sum_by-lt (counted i) (λ _. 1) (spot i)
+      t.points (λ q. flag-most (far q) (far (spot i))) (listed i hi) (flag-none (far (spot i)))),
 )
   where
     origin : Point

@@ -24,8 +24,10 @@ nudged n (pos (suc m)) (pos k) h i = omega (arith, ints)
 nudged n (pos (suc m)) (negsuc k) h i = omega (arith, ints)
 nudged n (negsuc m) z h i = absurd (omega (arith, ints))
 
--- where n is larger than the size of z and n y + z not below 0, y is above 0, or 0 with z not below 0
-pub germ_sign : (n : ℕ) (y z : ℤ) → size z < n → pos 0 ≤ℤ (pos n *ℤ y +ℤ z) → (pos 0 <ℤ y) ⊎ ((y ≡ pos 0) × (pos 0 ≤ℤ z))
+-- where n is larger than the size of z and n y + z not below 0, y is above 0, or 0 with z not below
+-- 0
+pub germ_sign : (n : ℕ) (y z : ℤ) → size z < n → pos 0 ≤ℤ (pos n *ℤ y +ℤ z)
+    → (pos 0 <ℤ y) ⊎ ((y ≡ pos 0) × (pos 0 ≤ℤ z))
 unfolding size
 germ_sign n (pos zero) z i h = inr (refl, omega (arith, ints))
 germ_sign n (pos (suc m)) z i h = inl (omega (arith, ints))
@@ -33,24 +35,31 @@ germ_sign n (negsuc m) (pos k) i h = absurd (omega (arith, ints))
 germ_sign n (negsuc m) (negsuc k) i h = absurd (omega (arith, ints))
 
 -- n v + w is above 0 where v and w are
-pub nudge_positive : (n : ℕ) (v w : ℤ) → pos 0 <ℤ v → pos 0 <ℤ w → pos 0 <ℤ (pos n *ℤ v +ℤ pos 1 *ℤ w)
-nudge_positive n v w h i = let p : pos 0 ≤ℤ (pos n *ℤ v) = mul-nonneg_ℤ {a = pos n} {b = v} (omega (arith, ints)) (omega (arith, ints)) in omega (arith, ints)
+pub nudge_positive : (n : ℕ) (v w : ℤ) → pos 0 <ℤ v → pos 0 <ℤ w
+    → pos 0 <ℤ (pos n *ℤ v +ℤ pos 1 *ℤ w)
+nudge_positive n v w h i = let p : pos 0 ≤ℤ (pos n *ℤ v) =
+    mul-nonneg_ℤ {a = pos n} {b = v} (omega (arith, ints)) (omega (arith, ints)) in
+    omega (arith, ints)
 
 -- x, moved a little towards m where n is large
 unfoldable pub nudge : ℕ → Fraction → Fraction → Fraction
 nudge n x m = mixed (pos n) x (pos 1) m (nudge_positive n x.w m.w x.positive m.positive)
 
 -- the bracket of a nudged point is n times the point's own, and that of the point it goes towards
-pub bracket-nudge : (u v : Fraction) (n : ℕ) (x m : Fraction) → bracket u v (nudge n x m) ≡ pos n *ℤ bracket u v x +ℤ bracket u v m
+pub bracket-nudge : (u v : Fraction) (n : ℕ) (x m : Fraction)
+    → bracket u v (nudge n x m) ≡ pos n *ℤ bracket u v x +ℤ bracket u v m
 unfolding nudge
-bracket-nudge u v n x m = bracket-mixed u v (pos n) x (pos 1) m (nudge_positive n x.w m.w x.positive m.positive) ∙ one (pos n *ℤ bracket u v x) (bracket u v m)
+bracket-nudge u v n x m = bracket-mixed u v (pos n) x (pos 1) m
+    (nudge_positive n x.w m.w x.positive m.positive) ∙ one (pos n *ℤ bracket u v x) (bracket u v m)
   where
     one : (a b : ℤ) → a +ℤ pos 1 *ℤ b ≡ a +ℤ b
     one a b = omega (arith, ints)
 
 -- a point left of a line stays left of it, where n is larger than the bracket of m
-pub nudge-above : (u v : Fraction) (n : ℕ) (x m : Fraction) → pos 0 <ℤ bracket u v x → size (bracket u v m) < n → pos 0 <ℤ bracket u v (nudge n x m)
-nudge-above u v n x m h i = subst (λ t. pos 0 <ℤ t) (sym (bracket-nudge u v n x m)) (nudged n (bracket u v x) (bracket u v m) h i)
+pub nudge-above : (u v : Fraction) (n : ℕ) (x m : Fraction) → pos 0 <ℤ bracket u v x
+    → size (bracket u v m) < n → pos 0 <ℤ bracket u v (nudge n x m)
+nudge-above u v n x m h i = subst (λ t. pos 0 <ℤ t) (sym (bracket-nudge u v n x m))
+    (nudged n (bracket u v x) (bracket u v m) h i)
 
 from_none : (n : ℕ) (y z : ℤ) → y ≡ pos 0 → pos n *ℤ y +ℤ z ≡ z
 from_none n y z e = ap (λ t. pos n *ℤ t +ℤ z) e ∙ none
@@ -59,15 +68,19 @@ from_none n y z e = ap (λ t. pos n *ℤ t +ℤ z) e ∙ none
     none = omega (arith, ints)
 
 -- a point on a line, nudged towards m, has the bracket of m
-pub nudge-on : (u v : Fraction) (n : ℕ) (x m : Fraction) → bracket u v x ≡ pos 0 → bracket u v (nudge n x m) ≡ bracket u v m
+pub nudge-on : (u v : Fraction) (n : ℕ) (x m : Fraction) → bracket u v x ≡ pos 0
+    → bracket u v (nudge n x m) ≡ bracket u v m
 nudge-on u v n x m e = bracket-nudge u v n x m ∙ from_none n (bracket u v x) (bracket u v m) e
 
 least : (n : ℕ) (y z : ℤ) → pos 0 ≤ℤ y → pos 0 <ℤ z → pos 0 <ℤ (pos n *ℤ y +ℤ z)
-least n y z h i = let p : pos 0 ≤ℤ (pos n *ℤ y) = mul-nonneg_ℤ {a = pos n} {b = y} (omega (arith, ints)) h in omega (arith, ints)
+least n y z h i = let p : pos 0 ≤ℤ (pos n *ℤ y) =
+    mul-nonneg_ℤ {a = pos n} {b = y} (omega (arith, ints)) h in omega (arith, ints)
 
 -- a point that is not right of a line, nudged towards a point left of it, is left of it
-pub nudge-least : (u v : Fraction) (n : ℕ) (x m : Fraction) → pos 0 ≤ℤ bracket u v x → pos 0 <ℤ bracket u v m → pos 0 <ℤ bracket u v (nudge n x m)
-nudge-least u v n x m h i = subst (λ t. pos 0 <ℤ t) (sym (bracket-nudge u v n x m)) (least n (bracket u v x) (bracket u v m) h i)
+pub nudge-least : (u v : Fraction) (n : ℕ) (x m : Fraction) → pos 0 ≤ℤ bracket u v x
+    → pos 0 <ℤ bracket u v m → pos 0 <ℤ bracket u v (nudge n x m)
+nudge-least u v n x m h i = subst (λ t. pos 0 <ℤ t) (sym (bracket-nudge u v n x m))
+    (least n (bracket u v x) (bracket u v m) h i)
 
 -- ---- closed and open triangles
 -- x is in the closed triangle of a, b and c
@@ -99,7 +112,8 @@ pub room : (a b c m : Fraction) → ℕ
 room a b c m = suc (size (bracket a b m) + size (bracket b c m) + size (bracket c a m))
 
 -- a point strictly inside stays so, nudged towards m, where n is at least the room for m
-pub inside-nudge : (a b c x m : Fraction) (n : ℕ) → Inside a b c x → room a b c m ≤ n → Inside a b c (nudge n x m)
+pub inside-nudge : (a b c x m : Fraction) (n : ℕ) → Inside a b c x → room a b c m ≤ n
+    → Inside a b c (nudge n x m)
 unfolding room
 inside-nudge a b c x m n h r = record {
   first = nudge-above a b n x m h.first (omega arith);

@@ -1,12 +1,17 @@
--- At a vertex: a face whose closed cone holds the way to a point of the hull. At a directed side: one face, and another across it where a vertex is there.
+-- At a vertex: a face whose closed cone holds the way to a point of the hull. At a directed side:
+-- one face, and another across it where a vertex is there.
 use Rattle.std.proofs.Common.{◌≡◌, ℕ, suc, ◌+◌, arith, ap, sym, ◌∙◌, subst}
 use mathlib.Core.Logic.{◌⊎◌, inl, inr}
 use Rattle.std.specs.Prelude.{◌≢◌, pos, ◌<ℤ◌, ◌≤ℤ◌, map}
 use Rattle.plane.proofs.Steps.{weak, left_not_zero}
 use Rattle.plane.proofs.Sides.{if_right, not_right_if}
 use Rattle.plane_delaunay.proofs.Points.Bracket.{bracket, bracket-first, bracket-second}
-use Rattle.plane_delaunay.proofs.Points.Nudges.{Inside, size, nudge, nudge-above, nudge-least, nudge-on}
-use Rattle.plane_delaunay.proofs.Tilings.Faces.{Tiling, Between, between-on, between-second, between-third, middle, middle-inside, Germ, StartsFrom, germ, germ-turned, germ-closed, turned-above}
+use Rattle.plane_delaunay.proofs.Points.Nudges.{Inside, size, nudge, nudge-above, nudge-least}
+use Rattle.plane_delaunay.proofs.Points.Nudges.{nudge-on}
+use Rattle.plane_delaunay.proofs.Tilings.Faces.{Tiling, Between, between-on, between-second}
+use Rattle.plane_delaunay.proofs.Tilings.Faces.{between-third, middle, middle-inside, Germ}
+use Rattle.plane_delaunay.proofs.Tilings.Faces.{StartsFrom, germ, germ-turned, germ-closed}
+use Rattle.plane_delaunay.proofs.Tilings.Faces.{turned-above}
 use Rattle.plane_delaunay.proofs.Tilings.Beyond.{halfway, between-halfway, face_across}
 use Rattle.plane_delaunay.proofs.Tilings.Ground.{tiling}
 use Rattle.plane.proofs.Indexes.{IsTurned}
@@ -25,20 +30,26 @@ module _ (T : Tiling) where
     pub first : pos 0 ≤ℤ bracket (at v) (at b) z
     pub second : pos 0 ≤ℤ bracket (at c) (at v) z
 
-  from_germ : (v : ℕ) (z : Fraction) (i j : ℕ) → StartsFrom T (at v) z i j → bracket (at i) (at j) (at v) ≡ pos 0 → pos 0 ≤ℤ bracket (at i) (at j) z
+  from_germ : (v : ℕ) (z : Fraction) (i j : ℕ) → StartsFrom T (at v) z i j
+      → bracket (at i) (at j) (at v) ≡ pos 0 → pos 0 ≤ℤ bracket (at i) (at j) z
   from_germ v z i j s e = go s.starts
     where
-      go : (pos 0 <ℤ bracket (at i) (at j) (at v)) ⊎ ((bracket (at i) (at j) (at v) ≡ pos 0) × (pos 0 ≤ℤ bracket (at i) (at j) z)) → pos 0 ≤ℤ bracket (at i) (at j) z
+      go : (pos 0 <ℤ bracket (at i) (at j) (at v))
+          ⊎ ((bracket (at i) (at j) (at v) ≡ pos 0) × (pos 0 ≤ℤ bracket (at i) (at j) z))
+          → pos 0 ≤ℤ bracket (at i) (at j) z
       go (inl h) = absurd (left_not_zero h e)
       go (inr h) = h.1
 
-  at_corner : (v : ℕ) (z : Fraction) (i j k : ℕ) → IsFace i j k → Germ T (at v) z i j k → v ≡ i → Cone v z
+  at_corner : (v : ℕ) (z : Fraction) (i j k : ℕ) → IsFace i j k → Germ T (at v) z i j k
+      → v ≡ i → Cone v z
   at_corner v z i j k f g e = record {
     b = j;
     c = k;
     is_face = subst (λ i. IsFace i j k) (sym e) f;
-    first = subst (λ i. pos 0 ≤ℤ bracket (at i) (at j) z) (sym e) (from_germ v z i j g.first (ap (λ n. bracket (at i) (at j) (at n)) e ∙ bracket-first (at i) (at j)));
-    second = subst (λ i. pos 0 ≤ℤ bracket (at k) (at i) z) (sym e) (from_germ v z k i g.third (ap (λ n. bracket (at k) (at i) (at n)) e ∙ bracket-second (at k) (at i)));
+    first = subst (λ i. pos 0 ≤ℤ bracket (at i) (at j) z) (sym e) (from_germ v z i j g.first
+        (ap (λ n. bracket (at i) (at j) (at n)) e ∙ bracket-first (at i) (at j)));
+    second = subst (λ i. pos 0 ≤ℤ bracket (at k) (at i) z) (sym e) (from_germ v z k i g.third
+        (ap (λ n. bracket (at k) (at i) (at n)) e ∙ bracket-second (at k) (at i)));
   }
 
   -- from a vertex, each point of the hull lies in the cone of a face or along an edge
@@ -50,12 +61,20 @@ module _ (T : Tiling) where
         where
           pick : (v ≡ i) ⊎ ((v ≡ j) ⊎ (v ≡ k)) → Cone v z
           pick (inl e) = at_corner v z i j k f g e
-          pick (inr (inl e)) = at_corner v z j k i (T.turned i j k f) (germ-turned T (at v) z i j k g) e
-          pick (inr (inr e)) = at_corner v z k i j (T.turned j k i (T.turned i j k f)) (germ-turned T (at v) z j k i (germ-turned T (at v) z i j k g)) e
+          pick (inr (inl e)) =
+              at_corner v z j k i (T.turned i j k f) (germ-turned T (at v) z i j k g) e
+          pick (inr (inr e)) = at_corner v z k i j (T.turned j k i (T.turned i j k f))
+              (germ-turned T (at v) z j k i (germ-turned T (at v) z i j k g)) e
 
   -- halfway along a side and a little to the left: strictly inside each face there
-  beside : (a b c d : ℕ) → IsFace a b c → IsFace a b d → (x : Fraction) × Inside (at a) (at b) (at c) x × Inside (at a) (at b) (at d) x
-  beside a b c d f g = (nudge n h m, inside c (T.turns a b c f) (λ u v i k. nudge-least u v n h m (weak i) k) i.second i.third, far)
+  beside : (a b c d : ℕ) → IsFace a b c → IsFace a b d
+      → (x : Fraction) × Inside (at a) (at b) (at c) x × Inside (at a) (at b) (at d) x
+  beside a b c d f g = (
+    nudge n h m,
+    inside c (T.turns a b c f)
+        (λ u v i k. nudge-least u v n h m (weak i) k) i.second i.third,
+    far,
+  )
     where
       h : Fraction
       h = halfway (at a) (at b)
@@ -73,17 +92,26 @@ module _ (T : Tiling) where
       i = middle-inside (at a) (at b) (at c) (T.turns a b c f)
 
       first : pos 0 <ℤ bracket (at a) (at b) (nudge n h m)
-      first = subst (λ t. pos 0 <ℤ t) (sym (nudge-on (at a) (at b) n h m (between-on (at a) (at b) h between))) i.first
+      first = subst (λ t. pos 0 <ℤ t)
+          (sym (nudge-on (at a) (at b) n h m (between-on (at a) (at b) h between))) i.first
 
-      inside : (e : ℕ) → pos 0 <ℤ bracket (at a) (at b) (at e) → ((u v : Fraction) → pos 0 <ℤ bracket u v h → pos 0 <ℤ bracket u v m → pos 0 <ℤ bracket u v (nudge n h m))
-          → pos 0 <ℤ bracket (at b) (at e) m → pos 0 <ℤ bracket (at e) (at a) m → Inside (at a) (at b) (at e) (nudge n h m)
-      inside e t move p q = record { first = first; second = move (at b) (at e) (between-second (at a) (at b) (at e) h between t) p; third = move (at e) (at a) (between-third (at a) (at b) (at e) h between t) q }
+      inside : (e : ℕ) → pos 0 <ℤ bracket (at a) (at b) (at e) → ((u v : Fraction)
+          → pos 0 <ℤ bracket u v h → pos 0 <ℤ bracket u v m → pos 0 <ℤ bracket u v (nudge n h m))
+          → pos 0 <ℤ bracket (at b) (at e) m → pos 0 <ℤ bracket (at e) (at a) m
+          → Inside (at a) (at b) (at e) (nudge n h m)
+      inside e t move p q = record {
+        first = first;
+        second = move (at b) (at e) (between-second (at a) (at b) (at e) h between t) p;
+        third = move (at e) (at a) (between-third (at a) (at b) (at e) h between t) q;
+      }
 
       far : Inside (at a) (at b) (at d) (nudge n h m)
       far = record {
         first = first;
-        second = nudge-above (at b) (at d) n h m (between-second (at a) (at b) (at d) h between (T.turns a b d g)) (omega arith);
-        third = nudge-above (at d) (at a) n h m (between-third (at a) (at b) (at d) h between (T.turns a b d g)) (omega arith);
+        second = nudge-above (at b) (at d) n h m
+            (between-second (at a) (at b) (at d) h between (T.turns a b d g)) (omega arith);
+        third = nudge-above (at d) (at a) n h m
+            (between-third (at a) (at b) (at d) h between (T.turns a b d g)) (omega arith);
       }
 
   -- a directed side has one face
@@ -91,7 +119,8 @@ module _ (T : Tiling) where
   one_at_side a b c d f g = let x = beside a b c d f g in go (T.apart a b c a b d f g x.0 x.1 x.2)
     where
       flat : a ≡ b → ⊥
-      flat e = left_not_zero (turned-above (at a) (at b) (at c) (T.turns a b c f)) (ap (λ i. bracket (at b) (at c) (at i)) e ∙ bracket-first (at b) (at c))
+      flat e = left_not_zero (turned-above (at a) (at b) (at c) (T.turns a b c f))
+          (ap (λ i. bracket (at b) (at c) (at i)) e ∙ bracket-first (at b) (at c))
 
       go : IsTurned a b c a b d → c ≡ d
       go (inl e) = sym e.2
@@ -101,9 +130,17 @@ module _ (T : Tiling) where
 -- ---- in the definitions' words
 module _ (t : Triangulation) (h : TilesHull t) where
   -- a face at a vertex whose closed cone holds a point of the hull
-  pub cone_at_vertex : (i : ℕ) (p : Fraction) → IsVertex t i → InHull (map whole t.points) p → (j k : ℕ) × IsFace t i j k × (side (vertex t i) (vertex t j) p ≢ right) × (side (vertex t k) (vertex t i) p ≢ right)
+  pub cone_at_vertex : (i : ℕ) (p : Fraction) → IsVertex t i → InHull (map whole t.points) p
+      → (j k : ℕ) × IsFace t i j k × (side (vertex t i) (vertex t j) p ≢ right)
+      × (side (vertex t k) (vertex t i) p ≢ right)
   unfolding tiling bracket
-  cone_at_vertex i p hi hp = let c = cone (tiling t h) i p hi hp in (c.b, c.c, c.is_face, not_right_if (vertex t i) (vertex t c.b) p c.first, not_right_if (vertex t c.c) (vertex t i) p c.second)
+  cone_at_vertex i p hi hp = let c = cone (tiling t h) i p hi hp in (
+    c.b,
+    c.c,
+    c.is_face,
+    not_right_if (vertex t i) (vertex t c.b) p c.first,
+    not_right_if (vertex t c.c) (vertex t i) p c.second,
+  )
 
   -- a side has one face on its left
   pub one_face_at_side : (i j k n : ℕ) → IsFace t i j k → IsFace t i j n → k ≡ n
@@ -111,6 +148,8 @@ module _ (t : Triangulation) (h : TilesHull t) where
   one_face_at_side i j k n f g = one_at_side (tiling t h) i j k n f g
 
   -- a side with a vertex on its right has a face there
-  pub face_on_right : (i j k n : ℕ) → IsFace t i j k → IsVertex t n → side (vertex t i) (vertex t j) (vertex t n) ≡ right → HasFace t j i
+  pub face_on_right : (i j k n : ℕ) → IsFace t i j k → IsVertex t n
+      → side (vertex t i) (vertex t j) (vertex t n) ≡ right → HasFace t j i
   unfolding tiling bracket
-  face_on_right i j k n f hn r = face_across (tiling t h) i j k n f hn (if_right (vertex t i) (vertex t j) (vertex t n) r)
+  face_on_right i j k n f hn r =
+      face_across (tiling t h) i j k n f hn (if_right (vertex t i) (vertex t j) (vertex t n) r)

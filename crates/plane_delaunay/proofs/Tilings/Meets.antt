@@ -7,11 +7,16 @@ use mathlib.Core.Logic.{◌⊎◌, inl, inr}
 use native.Mathlib.Omega.{arith}
 use borrow.Author.Differences.{ints}
 use Rattle.plane_delaunay.proofs.Points.Numbers.{sum_least, sum_none}
-use Rattle.plane.proofs.Steps.{weak, zero_weak_left, left_not_zero, right_not_above, product_zero_left, not_right_strict}
-use Rattle.plane.proofs.IntegerOrder.{mul-pos_ℤ, mul-nonneg_ℤ, nonneg_of_mul-nonneg_ℤ, zero_of_mul-zero_ℤ, pos-ne-zero_ℤ, Sign, sign, below, none, above, zero-mul_ℤ}
-use Rattle.plane_delaunay.proofs.Points.Bracket.{bracket, bracket-first, bracket-second, cramer, cramer-w}
+use Rattle.plane.proofs.Steps.{weak, zero_weak_left, left_not_zero, right_not_above}
+use Rattle.plane.proofs.Steps.{product_zero_left, not_right_strict}
+use Rattle.plane.proofs.IntegerOrder.{mul-pos_ℤ, mul-nonneg_ℤ, nonneg_of_mul-nonneg_ℤ}
+use Rattle.plane.proofs.IntegerOrder.{zero_of_mul-zero_ℤ, pos-ne-zero_ℤ, Sign, sign, below, none}
+use Rattle.plane.proofs.IntegerOrder.{above, zero-mul_ℤ}
+use Rattle.plane_delaunay.proofs.Points.Bracket.{bracket, bracket-first, bracket-second, cramer}
+use Rattle.plane_delaunay.proofs.Points.Bracket.{cramer-w}
 use Rattle.plane_delaunay.proofs.Points.Nudges.{Closed, Inside}
-use Rattle.plane_delaunay.proofs.Tilings.Faces.{Tiling, AreWeights, Between, none_within, side_not_inside, turned-above, corner_2}
+use Rattle.plane_delaunay.proofs.Tilings.Faces.{Tiling, AreWeights, Between, none_within}
+use Rattle.plane_delaunay.proofs.Tilings.Faces.{side_not_inside, turned-above, corner_2}
 use Rattle.plane_delaunay.proofs.Tilings.Across.{sides_same}
 use Rattle.plane_delaunay.proofs.Tilings.Beyond.{not_second}
 use Rattle.plane.specs.Fraction.{Fraction}
@@ -38,13 +43,23 @@ pub record IsAt (v x : Fraction) : Type 0 where
 
 -- a point of the closed segment of a and b is one of that of b and a
 pub on_side-swapped : (a b x : Fraction) → OnSide a b x → OnSide b a x
-on_side-swapped a b x h = record { n = h.n; k = h.l; l = h.k; n_above = h.n_above; k_least = h.l_least; l_least = h.k_least; along = λ u v. swapped_sum _ (h.k *ℤ bracket u v a) (h.l *ℤ bracket u v b) (h.along u v); weight = swapped_sum _ (h.k *ℤ a.w) (h.l *ℤ b.w) h.weight }
+on_side-swapped a b x h = record {
+  n = h.n;
+  k = h.l;
+  l = h.k;
+  n_above = h.n_above;
+  k_least = h.l_least;
+  l_least = h.k_least;
+  along = λ u v. swapped_sum _ (h.k *ℤ bracket u v a) (h.l *ℤ bracket u v b) (h.along u v);
+  weight = swapped_sum _ (h.k *ℤ a.w) (h.l *ℤ b.w) h.weight;
+}
 
 second_only : (n x k a l b : ℤ) → n *ℤ x ≡ k *ℤ a +ℤ l *ℤ b → k ≡ pos 0 → n *ℤ x ≡ l *ℤ b
 second_only n x k a l b e z = let p = product_zero_left a z in omega (arith, ints)
 
 above_second : (n x l b : ℤ) → n *ℤ x ≡ l *ℤ b → pos 0 <ℤ n → pos 0 <ℤ x → pos 0 ≤ℤ l → pos 0 <ℤ l
-above_second n x l b e hn hx hl = not_right_strict hl (λ z. left_not_zero (mul-pos_ℤ hn hx) (e ∙ product_zero_left b z))
+above_second n x l b e hn hx hl =
+    not_right_strict hl (λ z. left_not_zero (mul-pos_ℤ hn hx) (e ∙ product_zero_left b z))
 
 -- where a point of a closed segment is: at an end, or strictly between the two
 pub data Place (a b x : Fraction) : Type 0 where
@@ -53,7 +68,15 @@ pub data Place (a b x : Fraction) : Type 0 where
   within : Between a b x → Place a b x
 
 at_end : (a b x : Fraction) (h : OnSide a b x) → h.k ≡ pos 0 → IsAt b x
-at_end a b x h z = record { n = h.n; k = h.l; n_above = h.n_above; k_above = above_second h.n x.w h.l b.w (second_only h.n x.w h.k a.w h.l b.w h.weight z) h.n_above x.positive h.l_least; along = λ s u. second_only h.n (bracket s u x) h.k (bracket s u a) h.l (bracket s u b) (h.along s u) z }
+at_end a b x h z = record {
+  n = h.n;
+  k = h.l;
+  n_above = h.n_above;
+  k_above = above_second h.n x.w h.l b.w
+      (second_only h.n x.w h.k a.w h.l b.w h.weight z) h.n_above x.positive h.l_least;
+  along = λ s u. second_only h.n (bracket s u x) h.k (bracket s u a) h.l (bracket s u b)
+      (h.along s u) z;
+}
 
 -- a point of a closed segment is at an end or strictly between the two
 pub place_of : (a b x : Fraction) → OnSide a b x → Place a b x
@@ -65,24 +88,36 @@ place_of a b x h = go (sign h.k) (sign h.l)
     go p (below q) = absurd (right_not_above q h.l_least)
     go (none p) q = at_second (at_end a b x h p)
     go (above p) (none q) = at_first (at_end b a x (on_side-swapped a b x h) q)
-    go (above p) (above q) = within (record { n = h.n; k = h.k; l = h.l; n_above = h.n_above; k_above = p; l_above = q; along = h.along })
+    go (above p) (above q) = within (record {
+      n = h.n;
+      k = h.k;
+      l = h.l;
+      n_above = h.n_above;
+      k_above = p;
+      l_above = q;
+      along = h.along;
+    })
 
 on_side-none : (a b x : Fraction) → OnSide a b x → bracket a b x ≡ pos 0
-on_side-none a b x h = sum_none h.n h.k h.l _ _ _ h.n_above (h.along a b) (bracket-first a b) (bracket-second a b)
+on_side-none a b x h =
+    sum_none h.n h.k h.l _ _ _ h.n_above (h.along a b) (bracket-first a b) (bracket-second a b)
 
 -- where a b c turns left, a point of the closed segment of a and b is in the closed triangle
 pub on_side-closed : (a b c x : Fraction) → OnSide a b x → pos 0 <ℤ bracket a b c → Closed a b c x
 on_side-closed a b c x h t = record {
   first = zero_weak_left (on_side-none a b x h);
-  second = sum_least h.n h.k h.l _ _ _ h.n_above (h.along b c) h.k_least (weak (turned-above a b c t)) h.l_least (zero_weak_left (bracket-first b c));
-  third = sum_least h.n h.k h.l _ _ _ h.n_above (h.along c a) h.k_least (zero_weak_left (bracket-second c a)) h.l_least (weak (turned-above b c a (turned-above a b c t)));
+  second = sum_least h.n h.k h.l _ _ _ h.n_above (h.along b c) h.k_least
+      (weak (turned-above a b c t)) h.l_least (zero_weak_left (bracket-first b c));
+  third = sum_least h.n h.k h.l _ _ _ h.n_above (h.along c a) h.k_least (zero_weak_left
+      (bracket-second c a)) h.l_least (weak (turned-above b c a (turned-above a b c t)));
 }
 
 two_of_three : (d x a b c : ℤ) → d *ℤ x ≡ a +ℤ b +ℤ c → c ≡ pos 0 → d *ℤ x ≡ a +ℤ b
 two_of_three d x a b c e z = omega (arith, ints)
 
 -- a point of a closed triangle on the line of its first side is on that side
-pub on_side_of_closed : (a b c x : Fraction) → pos 0 <ℤ bracket a b c → Closed a b c x → bracket a b x ≡ pos 0 → OnSide a b x
+pub on_side_of_closed : (a b c x : Fraction) → pos 0 <ℤ bracket a b c → Closed a b c x
+    → bracket a b x ≡ pos 0 → OnSide a b x
 on_side_of_closed a b c x t h z = record {
   n = bracket a b c;
   k = bracket b c x;
@@ -90,20 +125,27 @@ on_side_of_closed a b c x t h z = record {
   n_above = t;
   k_least = h.second;
   l_least = h.third;
-  along = λ u v. two_of_three (bracket a b c) (bracket u v x) (bracket b c x *ℤ bracket u v a) (bracket c a x *ℤ bracket u v b) (bracket a b x *ℤ bracket u v c) (cramer a b c x u v) (product_zero_left _ z);
-  weight = two_of_three (bracket a b c) x.w (bracket b c x *ℤ a.w) (bracket c a x *ℤ b.w) (bracket a b x *ℤ c.w) (cramer-w a b c x) (product_zero_left _ z);
+  along = λ u v. two_of_three (bracket a b c) (bracket u v x) (bracket b c x *ℤ bracket u v a)
+      (bracket c a x *ℤ bracket u v b) (bracket a b x *ℤ bracket u v c) (cramer a b c x u v)
+      (product_zero_left _ z);
+  weight = two_of_three (bracket a b c) x.w (bracket b c x *ℤ a.w) (bracket c a x *ℤ b.w)
+      (bracket a b x *ℤ c.w) (cramer-w a b c x) (product_zero_left _ z);
 }
 
 -- x's values are those of v
 at_none : (v x s u : Fraction) → IsAt v x → bracket s u x ≡ pos 0 → bracket s u v ≡ pos 0
-at_none v x s u h z = zero_of_mul-zero_ℤ {k = h.k} {x = bracket s u v} (pos-ne-zero_ℤ h.k_above) (sym (h.along s u) ∙ zero-mul_ℤ h.n z)
+at_none v x s u h z = zero_of_mul-zero_ℤ {k = h.k} {x = bracket s u v} (pos-ne-zero_ℤ h.k_above)
+    (sym (h.along s u) ∙ zero-mul_ℤ h.n z)
 
 at_least_there : (v x s u : Fraction) → IsAt v x → pos 0 ≤ℤ bracket s u x → pos 0 ≤ℤ bracket s u v
-at_least_there v x s u h z = nonneg_of_mul-nonneg_ℤ {k = h.k} {x = bracket s u v} h.k_above (subst (λ t. pos 0 ≤ℤ t) (h.along s u) (mul-nonneg_ℤ {a = h.n} {b = bracket s u x} (weak h.n_above) z))
+at_least_there v x s u h z =
+    nonneg_of_mul-nonneg_ℤ {k = h.k} {x = bracket s u v} h.k_above (subst (λ t. pos 0 ≤ℤ t)
+    (h.along s u) (mul-nonneg_ℤ {a = h.n} {b = bracket s u x} (weak h.n_above) z))
 
 -- a linear form that is 0 at v is 0 at x, which is where v is
 pub at_here : (v x s u : Fraction) → IsAt v x → bracket s u v ≡ pos 0 → bracket s u x ≡ pos 0
-at_here v x s u h z = zero_of_mul-zero_ℤ {k = h.n} {x = bracket s u x} (pos-ne-zero_ℤ h.n_above) (h.along s u ∙ zero-mul_ℤ h.k z)
+at_here v x s u h z = zero_of_mul-zero_ℤ {k = h.n} {x = bracket s u x} (pos-ne-zero_ℤ h.n_above)
+    (h.along s u ∙ zero-mul_ℤ h.k z)
 
 module _ (T : Tiling) where
   open T use {at, IsVertex, IsFace}
@@ -118,8 +160,13 @@ module _ (T : Tiling) where
   edge-swapped a b (inr e) = inl e
 
   -- a vertex on a side is an end of it
-  end_of_face : (e u v w : ℕ) (x : Fraction) → IsVertex e → IsFace u v w → IsAt (at e) x → OnSide (at u) (at v) x → (e ≡ u) ⊎ (e ≡ v)
-  end_of_face e u v w x he f i o = go (T.empty u v w e f he (record { first = zero_weak_left zero; second = at_least_there (at e) x (at v) (at w) i closed.second; third = at_least_there (at e) x (at w) (at u) i closed.third }))
+  end_of_face : (e u v w : ℕ) (x : Fraction) → IsVertex e → IsFace u v w → IsAt (at e) x
+      → OnSide (at u) (at v) x → (e ≡ u) ⊎ (e ≡ v)
+  end_of_face e u v w x he f i o = go (T.empty u v w e f he (record {
+    first = zero_weak_left zero;
+    second = at_least_there (at e) x (at v) (at w) i closed.second;
+    third = at_least_there (at e) x (at w) (at u) i closed.third;
+  }))
     where
       t : pos 0 <ℤ bracket (at u) (at v) (at w)
       t = T.turns u v w f
@@ -133,12 +180,15 @@ module _ (T : Tiling) where
       go : (e ≡ u) ⊎ ((e ≡ v) ⊎ (e ≡ w)) → (e ≡ u) ⊎ (e ≡ v)
       go (inl p) = inl p
       go (inr (inl p)) = inr p
-      go (inr (inr p)) = absurd (left_not_zero t (ap (λ i. bracket (at u) (at v) (at i)) (sym p) ∙ zero))
+      go (inr (inr p)) =
+          absurd (left_not_zero t (ap (λ i. bracket (at u) (at v) (at i)) (sym p) ∙ zero))
 
   -- a vertex on an edge is one of its ends
-  pub end_of_edge : (e u v : ℕ) (x : Fraction) → IsVertex e → IsEdge u v → IsAt (at e) x → OnSide (at u) (at v) x → (e ≡ u) ⊎ (e ≡ v)
+  pub end_of_edge : (e u v : ℕ) (x : Fraction) → IsVertex e → IsEdge u v → IsAt (at e) x
+      → OnSide (at u) (at v) x → (e ≡ u) ⊎ (e ≡ v)
   end_of_edge e u v x he (inl f) i o = end_of_face e u v f.0 x he f.1 i o
-  end_of_edge e u v x he (inr f) i o = turned (end_of_face e v u f.0 x he f.1 i (on_side-swapped (at u) (at v) x o))
+  end_of_edge e u v x he (inr f) i o =
+      turned (end_of_face e v u f.0 x he f.1 i (on_side-swapped (at u) (at v) x o))
     where
       turned : (e ≡ v) ⊎ (e ≡ u) → (e ≡ u) ⊎ (e ≡ v)
       turned (inl p) = inr p
@@ -148,12 +198,16 @@ module _ (T : Tiling) where
   pub data Shared (a b u v : ℕ) (x : Fraction) : Type 0 where
     same : (u ≡ a) → (v ≡ b) → Shared a b u v x
     reversed : (u ≡ b) → (v ≡ a) → Shared a b u v x
-    at_vertex : (e : ℕ) → IsVertex e → IsAt (at e) x → (e ≡ a) ⊎ (e ≡ b) → (e ≡ u) ⊎ (e ≡ v) → Shared a b u v x
+    at_vertex : (e : ℕ) → IsVertex e → IsAt (at e) x → (e ≡ a) ⊎ (e ≡ b) → (e ≡ u) ⊎ (e ≡ v)
+        → Shared a b u v x
 
-  within_both : (a b c u v w : ℕ) (x : Fraction) → IsFace a b c → IsFace u v w → Between (at a) (at b) x → OnSide (at u) (at v) x → Shared a b u v x
+  within_both : (a b c u v w : ℕ) (x : Fraction) → IsFace a b c → IsFace u v w
+      → Between (at a) (at b) x → OnSide (at u) (at v) x → Shared a b u v x
   within_both a b c u v w x f g m o = go (sides_same T a b c u v w x f g m zero
-      (not_right_strict closed.second (not_second T a b u v w x (λ n. none_within T a b c n f) g m zero))
-      (not_right_strict closed.third (λ y. not_second T a b w u v x (λ n. none_within T a b c n f) (T.turned v w u (T.turned u v w g)) m y zero)))
+      (not_right_strict closed.second
+      (not_second T a b u v w x (λ n. none_within T a b c n f) g m zero))
+      (not_right_strict closed.third (λ y. not_second T a b w u v x (λ n. none_within T a b c n f)
+      (T.turned v w u (T.turned u v w g)) m y zero)))
     where
       zero : bracket (at u) (at v) x ≡ pos 0
       zero = on_side-none (at u) (at v) x o
@@ -165,12 +219,15 @@ module _ (T : Tiling) where
       go (inl e) = same e.0 e.1
       go (inr e) = reversed e.0 e.1
 
-  faces_meet : (a b c u v w : ℕ) (x : Fraction) → IsFace a b c → IsFace u v w → OnSide (at a) (at b) x → OnSide (at u) (at v) x → Shared a b u v x
+  faces_meet : (a b c u v w : ℕ) (x : Fraction) → IsFace a b c → IsFace u v w
+      → OnSide (at a) (at b) x → OnSide (at u) (at v) x → Shared a b u v x
   faces_meet a b c u v w x f g h o = go (place_of (at a) (at b) x h)
     where
       go : Place (at a) (at b) x → Shared a b u v x
-      go (at_first i) = at_vertex a (T.corner a b c f) i (inl refl) (end_of_face a u v w x (T.corner a b c f) g i o)
-      go (at_second i) = at_vertex b (corner_2 T a b c f) i (inr refl) (end_of_face b u v w x (corner_2 T a b c f) g i o)
+      go (at_first i) = at_vertex a (T.corner a b c f) i (inl refl)
+          (end_of_face a u v w x (T.corner a b c f) g i o)
+      go (at_second i) = at_vertex b (corner_2 T a b c f) i (inr refl)
+          (end_of_face b u v w x (corner_2 T a b c f) g i o)
       go (within m) = within_both a b c u v w x f g m o
 
   flip_end : {e a b : ℕ} → (e ≡ a) ⊎ (e ≡ b) → (e ≡ b) ⊎ (e ≡ a)
@@ -188,13 +245,23 @@ module _ (T : Tiling) where
   flip_second a b u v x (at_vertex e h i p q) = at_vertex e h i p (flip_end q)
 
   -- two edges with a common point share an end there, or are one
-  pub edges_meet : (a b u v : ℕ) (x : Fraction) → IsEdge a b → IsEdge u v → OnSide (at a) (at b) x → OnSide (at u) (at v) x → Shared a b u v x
+  pub edges_meet : (a b u v : ℕ) (x : Fraction) → IsEdge a b → IsEdge u v → OnSide (at a) (at b) x
+      → OnSide (at u) (at v) x → Shared a b u v x
   edges_meet a b u v x (inl f) (inl g) h o = faces_meet a b f.0 u v g.0 x f.1 g.1 h o
-  edges_meet a b u v x (inl f) (inr g) h o = flip_second a b v u x (faces_meet a b f.0 v u g.0 x f.1 g.1 h (on_side-swapped (at u) (at v) x o))
-  edges_meet a b u v x (inr f) (inl g) h o = flip_first b a u v x (faces_meet b a f.0 u v g.0 x f.1 g.1 (on_side-swapped (at a) (at b) x h) o)
-  edges_meet a b u v x (inr f) (inr g) h o = flip_first b a u v x (flip_second b a v u x (faces_meet b a f.0 v u g.0 x f.1 g.1 (on_side-swapped (at a) (at b) x h) (on_side-swapped (at u) (at v) x o)))
+  edges_meet a b u v x (inl f) (inr g) h o = flip_second a b v u x
+      (faces_meet a b f.0 v u g.0 x f.1 g.1 h (on_side-swapped (at u) (at v) x o))
+  edges_meet a b u v x (inr f) (inl g) h o = flip_first b a u v x
+      (faces_meet b a f.0 u v g.0 x f.1 g.1 (on_side-swapped (at a) (at b) x h) o)
+  edges_meet a b u v x (inr f) (inr g) h o =
+      flip_first b a u v x (flip_second b a v u x (faces_meet b a f.0 v u g.0 x f.1 g.1
+      (on_side-swapped (at a) (at b) x h) (on_side-swapped (at u) (at v) x o)))
 
   -- a point of an edge is strictly inside no face
-  pub edge_outside : (a b d e f : ℕ) (x : Fraction) → IsEdge a b → IsFace d e f → OnSide (at a) (at b) x → ¬ Inside (at d) (at e) (at f) x
-  edge_outside a b d e f x (inl s) g h = side_not_inside T a b s.0 d e f s.1 g x (on_side-closed (at a) (at b) (at s.0) x h (T.turns a b s.0 s.1)) (on_side-none (at a) (at b) x h)
-  edge_outside a b d e f x (inr s) g h = let h' = on_side-swapped (at a) (at b) x h in side_not_inside T b a s.0 d e f s.1 g x (on_side-closed (at b) (at a) (at s.0) x h' (T.turns b a s.0 s.1)) (on_side-none (at b) (at a) x h')
+  pub edge_outside : (a b d e f : ℕ) (x : Fraction) → IsEdge a b → IsFace d e f
+      → OnSide (at a) (at b) x → ¬ Inside (at d) (at e) (at f) x
+  edge_outside a b d e f x (inl s) g h =
+      side_not_inside T a b s.0 d e f s.1 g x (on_side-closed (at a) (at b) (at s.0) x h
+      (T.turns a b s.0 s.1)) (on_side-none (at a) (at b) x h)
+  edge_outside a b d e f x (inr s) g h = let h' = on_side-swapped (at a) (at b) x h in
+      side_not_inside T b a s.0 d e f s.1 g x (on_side-closed (at b) (at a) (at s.0) x h'
+      (T.turns b a s.0 s.1)) (on_side-none (at b) (at a) x h')

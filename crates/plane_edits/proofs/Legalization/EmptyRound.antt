@@ -1,5 +1,6 @@
 -- Flips round a new point: only edges opposite it fail, and the circles stay empty.
-use Rattle.std.proofs.Common.{◌≡◌, ◌⊎◌, ℕ, ◌<◌, List, [], ◌∷◌, length, refl, sym, ◌∙◌, subst, inl, inr}
+use Rattle.std.proofs.Common.{◌≡◌, ◌⊎◌, ◌<◌, [], ◌∷◌, ◌∙◌}
+use Rattle.std.proofs.Common.{ℕ, List, length, refl, sym, subst, inl, inr}
 use mathlib.Core.Logic.{◌≢◌}
 use Rattle.std.specs.Prelude.{pos, ◌+ℤ◌, ◌*ℤ◌, ◌<ℤ◌}
 use Rattle.std.proofs.lemmas.Bool.{cases_eq}
@@ -29,59 +30,69 @@ use Rattle.plane_edits.proofs.Legalization.Flipping.{one_question, failing_is_co
 
 -- ---- two circles
 -- the circles of a b o and of a b v, compared at n
-two_circles : (a b o v n : Vec3)
-    → bracket a b v *ℤ incircle a b o n ≡ bracket a b o *ℤ incircle a b v n +ℤ bracket a b n *ℤ incircle a b o v
+two_circles : (a b o v n : Vec3) → bracket a b v *ℤ incircle a b o n
+    ≡ bracket a b o *ℤ incircle a b v n +ℤ bracket a b n *ℤ incircle a b o v
 unfolding incircle bracket
 two_circles a b o v n = ring_over vec3 [] (a ∷ b ∷ o ∷ v ∷ n ∷ [])
     (λ a b o v n. bracketᵖ a b v ⊗ incircleᵖ a b o n)
     (λ a b o v n. bracketᵖ a b o ⊗ incircleᵖ a b v n ⊕ bracketᵖ a b n ⊗ incircleᵖ a b o v) tt
 
 -- so by the signs
-circle_sign : (a b o v n : Vec3) → pos 0 <ℤ bracket a b o → pos 0 <ℤ bracket a b v → pos 0 <ℤ bracket a b n
-    → pos 0 <ℤ incircle a b o v → pos 0 <ℤ incircle a b v n → pos 0 <ℤ incircle a b o n
-circle_sign a b o v n abo abv abn inside deep = pos_of_mul-pos_ℤ {k = bracket a b v} {x = incircle a b o n} abv
+circle_sign : (a b o v n : Vec3) → pos 0 <ℤ bracket a b o → pos 0 <ℤ bracket a b v
+    → pos 0 <ℤ bracket a b n → pos 0 <ℤ incircle a b o v → pos 0 <ℤ incircle a b v n
+    → pos 0 <ℤ incircle a b o n
+circle_sign a b o v n abo abv abn inside deep =
+    pos_of_mul-pos_ℤ {k = bracket a b v} {x = incircle a b o n} abv
     (subst (λ z. pos 0 <ℤ z) (sym (two_circles a b o v n))
-    (sum_is_positive (bracket a b o *ℤ incircle a b v n) (bracket a b n *ℤ incircle a b o v) (mul-pos_ℤ abo deep)
+    (sum_is_positive (bracket a b o *ℤ incircle a b v n) (bracket a b n *ℤ incircle a b o v)
+    (mul-pos_ℤ abo deep)
     (mul-pos_ℤ abn inside)))
 
--- of two circles through a and b, what lies on the left of a b and inside that of v is inside that of o, where v is
--- inside it
-pub deeper : (a b o v n : Point) → TurnsLeft (whole a) (whole b) (whole o) → TurnsLeft (whole a) (whole b) (whole v) →
-    TurnsLeft (whole a) (whole b) (whole n)
-    → InsideCircle (whole a) (whole b) (whole o) (whole v) → InsideCircle (whole a) (whole b) (whole v) (whole n) →
-    InsideCircle (whole a) (whole b) (whole o) (whole n)
+-- of two circles through a and b, what lies on the left of a b and inside that of v is inside that
+-- of o, where v is inside it
+pub deeper : (a b o v n : Point) → TurnsLeft (whole a) (whole b) (whole o)
+    → TurnsLeft (whole a) (whole b) (whole v) → TurnsLeft (whole a) (whole b) (whole n)
+    → InsideCircle (whole a) (whole b) (whole o) (whole v)
+    → InsideCircle (whole a) (whole b) (whole v) (whole n)
+    → InsideCircle (whole a) (whole b) (whole o) (whole n)
 deeper a b o v n abo abv abn inside deep =
     let left =
-    λ (p : Point). λ (h : TurnsLeft (whole a) (whole b) (whole p)). if_left (whole a) (whole b) (whole p) h in
-    (inside_is_incircle a b o n abo).1 (circle_sign (lift a) (lift b) (lift o) (lift v) (lift n) (left o abo)
+    λ (p : Point). λ (h : TurnsLeft (whole a) (whole b) (whole p)). if_left (whole a) (whole b)
+    (whole p) h in
+    (inside_is_incircle a b o n abo).1
+    (circle_sign (lift a) (lift b) (lift o) (lift v) (lift n) (left o abo)
     (left v abv) (left n abn)
     ((inside_is_incircle a b o v abo).0 inside) ((inside_is_incircle a b v n abv).0 deep))
 
 -- a left turn, read from its second corner
 left_turned : (p q r : Fraction) → TurnsLeft p q r → TurnsLeft q r p
-left_turned p q r h = left_if q r p (subst (λ z. pos 0 <ℤ z) (bracket-turn (vec p) (vec q) (vec r)) (if_left p q r h))
+left_turned p q r h =
+    left_if q r p (subst (λ z. pos 0 <ℤ z) (bracket-turn (vec p) (vec q) (vec r)) (if_left p q r h))
 
 -- the same of a circle
 inside_turned : {p q r n : Fraction} → InsideCircle p q r n → InsideCircle q r p n
 inside_turned {p} {q} {r} {n} h = circle_turned p q r n h
 
--- of two faces a b d and b c d, what is beyond the side opposite b and inside the circle is inside that of a c d, where
--- b is
-inside_old : (a b c d n : Point) → TurnsLeft (whole a) (whole c) (whole d) → TurnsLeft (whole a) (whole b) (whole d)
-    → TurnsLeft (whole b) (whole c) (whole d) → InsideCircle (whole a) (whole c) (whole d) (whole b)
-    → (TurnsLeft (whole d) (whole a) (whole n) → InsideCircle (whole b) (whole d) (whole a) (whole n)
-    → InsideCircle (whole a) (whole c) (whole d) (whole n))
-    × (TurnsLeft (whole c) (whole d) (whole n) → InsideCircle (whole b) (whole c) (whole d) (whole n)
-    → InsideCircle (whole a) (whole c) (whole d) (whole n))
+-- of two faces a b d and b c d, what is beyond the side opposite b and inside the circle is inside
+-- that of a c d, where b is
+inside_old : (a b c d n : Point) → TurnsLeft (whole a) (whole c) (whole d)
+    → TurnsLeft (whole a) (whole b) (whole d) → TurnsLeft (whole b) (whole c) (whole d)
+    → InsideCircle (whole a) (whole c) (whole d) (whole b)
+    → (TurnsLeft (whole d) (whole a) (whole n) → InsideCircle (whole b) (whole d) (whole a)
+    (whole n) → InsideCircle (whole a) (whole c) (whole d) (whole n))
+    × (TurnsLeft (whole c) (whole d) (whole n) → InsideCircle (whole b) (whole c) (whole d)
+    (whole n) → InsideCircle (whole a) (whole c) (whole d) (whole n))
 inside_old a b c d n acd abd bcd failing =
     let cda = left_turned (whole a) (whole c) (whole d) acd in
     let dac = left_turned (whole c) (whole d) (whole a) cda in
-    let dab = left_turned (whole b) (whole d) (whole a) (left_turned (whole a) (whole b) (whole d) abd) in
+    let dab =
+    left_turned (whole b) (whole d) (whole a) (left_turned (whole a) (whole b) (whole d) abd) in
     let cdb = left_turned (whole b) (whole c) (whole d) bcd in
     let cda_b = inside_turned failing in
     let dac_b = inside_turned cda_b in (
       (λ dan h. inside_turned (deeper d a c b n dac dab dan dac_b (inside_turned h))),
-      (λ cdn h. inside_turned (inside_turned (deeper c d a b n cda cdb cdn cda_b (inside_turned h)))),
+      (λ cdn h. inside_turned
+          (inside_turned (deeper c d a b n cda cdb cdn cda_b (inside_turned h)))),
     )
 
 -- ---- edges at the point
@@ -90,14 +101,17 @@ abbrev IsOrNot : ℕ → ℕ → Type 0
 IsOrNot i j = (i ≡ j) ⊎ (i ≡ j → ⊥)
 
 -- the corners of a face differ
-corners_apart : (points : List Point) (faces : List Face) (outer : List (ℕ × ℕ)) → LocalMesh points faces outer
-    → (i j k : ℕ) → IsFaceOf faces i j k → (i ≢ j) × (j ≢ k) × (k ≢ i)
+corners_apart : (points : List Point) (faces : List Face) (outer : List (ℕ × ℕ))
+    → LocalMesh points faces outer → (i j k : ℕ) → IsFaceOf faces i j k
+    → (i ≢ j) × (j ≢ k) × (k ≢ i)
 corners_apart points faces outer m i j k f = corners_differ (point_at points) i j k
-    (if_left (place points i) (place points j) (place points k) (turning_of points faces outer m i j k f))
+    (if_left (place points i) (place points j) (place points k)
+    (turning_of points faces outer m i j k f))
 
 -- an edge from the point passes
-spoke_passes : (points : List Point) (faces : List Face) (outer : List (ℕ × ℕ)) (v : ℕ) → LocalMesh points faces outer
-    → IsEmptyRound points faces v → (j k l : ℕ) → IsFaceOf faces v j k → IsFaceOf faces j v l → Pass points v j k l
+spoke_passes : (points : List Point) (faces : List Face) (outer : List (ℕ × ℕ)) (v : ℕ)
+    → LocalMesh points faces outer → IsEmptyRound points faces v → (j k l : ℕ)
+    → IsFaceOf faces v j k → IsFaceOf faces j v l → Pass points v j k l
 spoke_passes points faces outer v m empty j k l f g = (outside, (λ h. outside (other h)))
   where
     vjk : TurnsLeft (place points v) (place points j) (place points k)
@@ -119,24 +133,31 @@ spoke_passes points faces outer v m empty j k l f g = (outside, (λ h. outside (
 
     other : InsideCircle (place points j) (place points v) (place points l) (place points k)
         → InsideCircle (place points v) (place points j) (place points k) (place points l)
-    other = (one_question (point_at points v) (point_at points j) (point_at points k) (point_at points l) vjk jvl).1
+    other = (one_question (point_at points v) (point_at points j) (point_at points k)
+        (point_at points l) vjk jvl).1
 
 -- each edge at the point passes
-pub spokes_pass : (points : List Point) (faces : List Face) (outer : List (ℕ × ℕ)) (v : ℕ) →
-    LocalMesh points faces outer → IsEmptyRound points faces v
-    → (i j k l : ℕ) → IsFaceOf faces i j k → IsFaceOf faces j i l → (i ≡ v) ⊎ (j ≡ v) → Pass points i j k l
+pub spokes_pass : (points : List Point) (faces : List Face) (outer : List (ℕ × ℕ)) (v : ℕ)
+    → LocalMesh points faces outer → IsEmptyRound points faces v → (i j k l : ℕ)
+    → IsFaceOf faces i j k → IsFaceOf faces j i l → (i ≡ v) ⊎ (j ≡ v) → Pass points i j k l
 spokes_pass points faces outer v m empty i j k l f g at =
-    elim at [ inl e ↦ from_first i j k l f g e | inr e ↦ (let x = from_first j i l k g f e in (x.1, x.0)) ]
+    elim at [
+      | inl e ↦ from_first i j k l f g e
+      | inr e ↦ (let x = from_first j i l k g f e in (x.1, x.0))
+    ]
   where
-    from_first : (i j k l : ℕ) → IsFaceOf faces i j k → IsFaceOf faces j i l → i ≡ v → Pass points i j k l
+    from_first : (i j k l : ℕ) → IsFaceOf faces i j k → IsFaceOf faces j i l → i ≡ v
+        → Pass points i j k l
     from_first i j k l f g e = subst (λ x. Pass points x j k l) (sym e)
         (spoke_passes points faces outer v m empty j k l (subst (λ x. IsFaceOf faces x j k) e f)
         (subst (λ x. IsFaceOf faces j x l) e g))
 
 -- an edge that fails lies opposite the point
-pub failing_is_opposite : (points : List Point) (faces : List Face) (outer : List (ℕ × ℕ)) (a b c d v : ℕ) →
-    LocalMesh points faces outer → IsEmptyRound points faces v → IsFaceOf faces a b c → IsFaceOf faces a c d
-    → InsideCircle (place points a) (place points c) (place points d) (place points b) → (b ≡ v) ⊎ (d ≡ v)
+pub failing_is_opposite : (points : List Point) (faces : List Face) (outer : List (ℕ × ℕ))
+    (a b c d v : ℕ) → LocalMesh points faces outer → IsEmptyRound points faces v
+    → IsFaceOf faces a b c → IsFaceOf faces a c d
+    → InsideCircle (place points a) (place points c) (place points d) (place points b)
+    → (b ≡ v) ⊎ (d ≡ v)
 failing_is_opposite points faces outer a b c d v m empty first second failing =
     go (cases_eq b v) (cases_eq d v) (cases_eq a v) (cases_eq c v)
   where
@@ -151,20 +172,24 @@ failing_is_opposite points faces outer a b c d v m empty first second failing =
     go (inr _) (inr _) (inl e) _ = absurd (passing (inl e))
     go (inr _) (inr _) (inr _) (inl e) = absurd (passing (inr e))
     go (inr nb) (inr nd) (inr na) (inr nc) =
-        absurd (empty.beside a c d b second na nc nd (index_of points faces outer m a b c first).1 nb failing)
+        absurd (empty.beside a c d b second na nc nd
+        (index_of points faces outer m a b c first).1 nb failing)
 
 -- ---- the flip of an edge that fails
 -- what lies beyond the side opposite i of the face i j k is outside its circle
 abbrev IsOutside : List Point → ℕ → ℕ → ℕ → ℕ → Type 0
 IsOutside points v i j k =
-    (n : ℕ) → n < length points → n ≢ v → TurnsLeft (place points j) (place points k) (place points n)
+    (n : ℕ) → n < length points → n ≢ v
+    → TurnsLeft (place points j) (place points k) (place points n)
     → ¬ InsideCircle (place points i) (place points j) (place points k) (place points n)
 
--- so it is of the faces a b d and b c d that were made, seen from b, where the face a c d has no corner v
-made_outside : (points : List Point) (faces : List Face) (v : ℕ) → IsEmptyRound points faces v → (a b c d : ℕ)
-    → IsFaceOf faces a c d → a ≢ v → c ≢ v → d ≢ v → TurnsLeft (place points a) (place points c) (place points d)
-    → TurnsLeft (place points a) (place points b) (place points d) →
-    TurnsLeft (place points b) (place points c) (place points d)
+-- so it is of the faces a b d and b c d that were made, seen from b, where the face a c d has no
+-- corner v
+made_outside : (points : List Point) (faces : List Face) (v : ℕ) → IsEmptyRound points faces v
+    → (a b c d : ℕ) → IsFaceOf faces a c d → a ≢ v → c ≢ v → d ≢ v
+    → TurnsLeft (place points a) (place points c) (place points d)
+    → TurnsLeft (place points a) (place points b) (place points d)
+    → TurnsLeft (place points b) (place points c) (place points d)
     → InsideCircle (place points a) (place points c) (place points d) (place points b)
     → IsOutside points v b d a × IsOutside points v b c d
 made_outside points faces v empty a b c d f na nc nd acd abd bcd failing =
@@ -206,7 +231,8 @@ module _ (points : List Point) (faces new : List Face) (outer : List (ℕ × ℕ
   apart_acd = corners_apart points faces outer m a c d second
 
   apart_abd : (a ≢ b) × (b ≢ d) × (d ≢ a)
-  apart_abd = corners_differ P a b d (if_left (place points a) (place points b) (place points d) convex.0)
+  apart_abd =
+      corners_differ P a b d (if_left (place points a) (place points b) (place points d) convex.0)
 
   -- the ends of the edge that failed are not the point
   not_first : a ≢ v
@@ -249,7 +275,8 @@ module _ (points : List Point) (faces new : List Face) (outer : List (ℕ × ℕ
       if_second e =
           let nd : d ≢ v = λ s. apart_abd.1 (e ∙ sym s) in
           let x =
-          made_outside points faces v empty a b c d second not_first not_third nd acd convex.0 convex.1 failing in (
+          made_outside points faces v empty a b c d second not_first not_third nd acd convex.0
+          convex.1 failing in (
             ((λ s. absurd (not_first s)), (λ _. x.0), (λ s. absurd (nd s))),
             ((λ _. x.1), (λ s. absurd (not_third s)), (λ s. absurd (nd s))),
           )
@@ -264,7 +291,8 @@ module _ (points : List Point) (faces new : List Face) (outer : List (ℕ × ℕ
           let dab = left_turned (place points b) (place points d) (place points a) bda in
           let inside = (one_question (P a) (P c) (P d) (P b) acd cab).0 failing in
           let f = turned faces b c a (turned faces a b c first) in
-          let x = made_outside points faces v empty c d a b f not_third not_first nb cab cdb dab inside in (
+          let x = made_outside points faces v empty c d a b f not_third not_first nb cab cdb
+          dab inside in (
             ((λ s. absurd (not_first s)), (λ s. absurd (nb s)), (λ _. x.1)),
             ((λ s. absurd (nb s)), (λ s. absurd (not_third s)), (λ _. x.0)),
           )
@@ -277,49 +305,55 @@ module _ (points : List Point) (faces new : List Face) (outer : List (ℕ × ℕ
   still_empty : IsEmptyRound points new v
   still_empty = record { beside = beside; beyond = beyond }
     where
-      beside : (i j k n : ℕ) → IsFaceOf new i j k → i ≢ v → j ≢ v → k ≢ v → n < length points → n ≢ v
-          → ¬ InsideCircle (place points i) (place points j) (place points k) (place points n)
-      beside i j k n f ni nj nk h nv = elim (face_from faces new (face a b c ∷ face a c d ∷ []) made change i j k f) [
-        | inl o ↦ empty.beside i j k n o ni nj nk h nv
-        | inr o ↦ absurd (elim (made_at_point i j k o) [
-          | inl e ↦ ni e
-          | inr x ↦ elim x [ inl e ↦ nj e | inr e ↦ nk e ]
-        ])
-      ]
+      beside : (i j k n : ℕ) → IsFaceOf new i j k → i ≢ v → j ≢ v → k ≢ v → n < length points → n
+          ≢ v → ¬ InsideCircle (place points i) (place points j) (place points k) (place points n)
+      beside i j k n f ni nj nk h nv =
+          elim (face_from faces new (face a b c ∷ face a c d ∷ []) made change i j k f) [
+            | inl o ↦ empty.beside i j k n o ni nj nk h nv
+            | inr o ↦ absurd (elim (made_at_point i j k o) [
+              | inl e ↦ ni e
+              | inr x ↦ elim x [ inl e ↦ nj e | inr e ↦ nk e ]
+            ])
+          ]
 
       beyond : (j k n : ℕ) → IsFaceOf new v j k → n < length points → n ≢ v
           → TurnsLeft (place points j) (place points k) (place points n)
           → ¬ InsideCircle (place points v) (place points j) (place points k) (place points n)
-      beyond j k n f = elim (face_from faces new (face a b c ∷ face a c d ∷ []) made change v j k f) [
-        | inl o ↦ empty.beyond j k n o
-        | inr o ↦ (made_is_outside v j k o).0 refl n
-      ]
+      beyond j k n f =
+          elim (face_from faces new (face a b c ∷ face a c d ∷ []) made change v j k f) [
+            | inl o ↦ empty.beyond j k n o
+            | inr o ↦ (made_is_outside v j k o).0 refl n
+          ]
 
 -- the flip of an edge that fails keeps the circles empty
-pub flip_stays_empty : (points : List Point) (faces new : List Face) (outer : List (ℕ × ℕ)) (a b c d v : ℕ) →
-    LocalMesh points faces outer → IsFaceOf faces a b c → IsFaceOf faces a c d
-    → FacesChange faces new (face a b c ∷ face a c d ∷ []) (face a b d ∷ face b c d ∷ []) →
-    InsideCircle (place points a) (place points c) (place points d) (place points b)
+pub flip_stays_empty : (points : List Point) (faces new : List Face) (outer : List (ℕ × ℕ))
+    (a b c d v : ℕ) → LocalMesh points faces outer → IsFaceOf faces a b c → IsFaceOf faces a c d
+    → FacesChange faces new (face a b c ∷ face a c d ∷ []) (face a b d ∷ face b c d ∷ [])
+    → InsideCircle (place points a) (place points c) (place points d) (place points b)
     → IsEmptyRound points faces v → IsEmptyRound points new v
 flip_stays_empty points faces new outer a b c d v m first second change failing empty =
     still_empty points faces new outer a b c d v m first second change failing empty
 
 -- ---- after the insertion
 -- at first the edges opposite the point are left to test
-pub opposite_left : (points : List Point) (faces : List Face) (outer constraints left : List (ℕ × ℕ)) (v : ℕ) →
-    IsMesh points faces outer → IsEmptyRound points faces v
+pub opposite_left :
+    (points : List Point) (faces : List Face) (outer constraints left : List (ℕ × ℕ)) (v : ℕ)
+    → IsMesh points faces outer → IsEmptyRound points faces v
     → ((j k : ℕ) → IsFaceOf faces v j k → Joins left j k) → AllPassBut points faces constraints left
 opposite_left points faces outer constraints left v m empty there =
     elim m as (λ _. AllPassBut points faces constraints left) [
       | inl mesh ↦ in_mesh mesh
-      | inr line ↦ (λ i j k l f g free untested. absurd (no_turn i j k (subst (λ fs. IsFaceOf fs i j k) line.0 f)))
+      | inr line ↦ (λ i j k l f g free untested. absurd
+          (no_turn i j k (subst (λ fs. IsFaceOf fs i j k) line.0 f)))
     ]
   where
     in_mesh : LocalMesh points faces outer → AllPassBut points faces constraints left
-    in_mesh mesh i j k l f g free untested = go (cases_eq i v) (cases_eq j v) (cases_eq k v) (cases_eq l v)
+    in_mesh mesh i j k l f g free untested =
+        go (cases_eq i v) (cases_eq j v) (cases_eq k v) (cases_eq l v)
       where
         joined : (i j k : ℕ) → IsFaceOf faces i j k → k ≡ v → Joins left i j
-        joined i j k f e = there i j (subst (λ x. IsFaceOf faces x i j) e (turned faces j k i (turned faces i j k f)))
+        joined i j k f e = there i j
+            (subst (λ x. IsFaceOf faces x i j) e (turned faces j k i (turned faces i j k f)))
 
         go : IsOrNot i v → IsOrNot j v → IsOrNot k v → IsOrNot l v → Pass points i j k l
         go (inl e) _ _ _ = spokes_pass points faces outer v mesh empty i j k l f g (inl e)

@@ -1,26 +1,36 @@
--- A legal flip: an edge that fails the circle's test lies across a strictly convex quadrilateral, whose two halvings cover the same points.
+-- A legal flip: an edge that fails the circle's test lies across a strictly convex quadrilateral,
+-- whose two halvings cover the same points.
 use Rattle.std.proofs.Common.{◌≡◌, ◌⊎◌, [], ◌∷◌, ap, sym, ◌∙◌, subst, arith}
 use mathlib.Core.Logic.{inl, inr}
 use Rattle.std.specs.Prelude.{ℤ, pos, ◌+ℤ◌, ◌-ℤ◌, ◌*ℤ◌, neg_ℤ, ◌<ℤ◌, ◌≤ℤ◌}
 use Rattle.std.proofs.lemmas.Int.{ints}
 use Rattle.plane.specs.Fraction.{Point}
 use Rattle.plane.specs.Laws.{squared_way}
-use Rattle.plane.proofs.IntegerOrder.{mul-nonneg_ℤ, mul-nonpos_of_nonneg_nonpos_ℤ, nonneg_of_mul-nonneg_ℤ, square-nonneg_ℤ, lt_or_ge_ℤ, zero-mul_ℤ}
+use Rattle.plane.proofs.IntegerOrder.{mul-nonneg_ℤ, mul-nonpos_of_nonneg_nonpos_ℤ}
+use Rattle.plane.proofs.IntegerOrder.{nonneg_of_mul-nonneg_ℤ, square-nonneg_ℤ, lt_or_ge_ℤ}
+use Rattle.plane.proofs.IntegerOrder.{zero-mul_ℤ}
 use Rattle.plane.proofs.Steps.{weak, negated_below, weak_right, zero_weak_left}
 use Rattle.plane.proofs.Solver.{num, ◌⊕◌, ◌⊖◌, ◌⊗◌, ⊝, ring_in_from}
 use Rattle.plane.proofs.Bracket.{Vec3, bracket, lift}
-use Rattle.plane.proofs.BracketIdentities.{bracket-turn, bracket-swap, cramer, bracket-outer, bracket-last}
+use Rattle.plane.proofs.BracketIdentities.{bracket-turn, bracket-swap, cramer, bracket-outer}
+use Rattle.plane.proofs.BracketIdentities.{bracket-last}
 use Rattle.plane.proofs.Circles.{incircle, incircle-opposite, incircle-from_first}
 use Rattle.plane.proofs.Signs.{sum_not_negative}
 
 -- the failing test, from a
-incircle_from_first : (a b c d : Point) → squared_way a c *ℤ bracket (lift a) (lift b) (lift d) ≡ incircle (lift a) (lift b) (lift c) (lift d) +ℤ (squared_way a b *ℤ bracket (lift a) (lift c) (lift d) +ℤ squared_way a d *ℤ bracket (lift a) (lift b) (lift c))
+incircle_from_first : (a b c d : Point) → squared_way a c *ℤ bracket (lift a) (lift b) (lift d)
+    ≡ incircle (lift a) (lift b) (lift c) (lift d) +ℤ (squared_way a b
+    *ℤ bracket (lift a) (lift c) (lift d) +ℤ squared_way a d *ℤ bracket (lift a) (lift b) (lift c))
 incircle_from_first a b c d =
-    let swapped = bracket-turn (lift a) (lift d) (lift c) ∙ bracket-swap (lift d) (lift c) (lift a) ∙ ap neg_ℤ (sym (bracket-turn (lift a) (lift c) (lift d))) in
-    ring_in_from (squared_way a c ∷ bracket (lift a) (lift b) (lift d) ∷ incircle (lift a) (lift b) (lift c) (lift d) ∷ squared_way a b ∷ bracket (lift a) (lift c) (lift d) ∷ bracket (lift a) (lift d) (lift c) ∷ squared_way a d ∷ bracket (lift a) (lift b) (lift c) ∷ [])
+    let swapped = bracket-turn (lift a) (lift d) (lift c) ∙ bracket-swap (lift d) (lift c) (lift a)
+    ∙ ap neg_ℤ (sym (bracket-turn (lift a) (lift c) (lift d))) in
+    ring_in_from (squared_way a c ∷ bracket (lift a) (lift b) (lift d) ∷ incircle (lift a) (lift b)
+    (lift c) (lift d) ∷ squared_way a b ∷ bracket (lift a) (lift c) (lift d) ∷ bracket (lift a)
+    (lift d) (lift c) ∷ squared_way a d ∷ bracket (lift a) (lift b) (lift c) ∷ [])
     (λ ac abd o ab acd adc ad abc. ac ⊗ abd)
     (λ ac abd o ab acd adc ad abc. o ⊕ (ab ⊗ acd ⊕ ad ⊗ abc))
-    (λ ac abd o ab acd adc ad abc. (⊝ (num 1), o, adc ⊗ ab ⊕ abd ⊗ ac ⊖ abc ⊗ ad) ∷ (⊝ ab, adc, ⊝ acd) ∷ []) (incircle-from_first a b c d, (swapped, tt)) tt
+    (λ ac abd o ab acd adc ad abc. (⊝ (num 1), o, adc ⊗ ab ⊕ abd ⊗ ac ⊖ abc ⊗ ad)
+    ∷ (⊝ ab, adc, ⊝ acd) ∷ []) (incircle-from_first a b c d, (swapped, tt)) tt
 
 sum_positive : (s e a b : ℤ) → s ≡ e +ℤ (a +ℤ b) → pos 0 <ℤ e → pos 0 ≤ℤ a → pos 0 ≤ℤ b → pos 0 <ℤ s
 sum_positive s e a b h k l m = omega (arith, ints)
@@ -38,18 +48,30 @@ other_positive k x h p = go (lt_or_ge_ℤ (pos 0) x)
 
 -- a squared distance is not negative
 pub squared_way_nonneg : (q p : Point) → pos 0 ≤ℤ squared_way q p
-squared_way_nonneg q p = sum_not_negative ((p.x -ℤ q.x) *ℤ (p.x -ℤ q.x)) ((p.y -ℤ q.y) *ℤ (p.y -ℤ q.y)) (square-nonneg_ℤ (p.x -ℤ q.x)) (square-nonneg_ℤ (p.y -ℤ q.y))
+squared_way_nonneg q p = sum_not_negative ((p.x -ℤ q.x) *ℤ (p.x -ℤ q.x))
+    ((p.y -ℤ q.y) *ℤ (p.y -ℤ q.y)) (square-nonneg_ℤ (p.x -ℤ q.x)) (square-nonneg_ℤ (p.y -ℤ q.y))
 
 -- where the faces a b c and a c d fail at their common edge, a b d turns left
-pub convex_at_first : (a b c d : Point) → pos 0 <ℤ bracket (lift a) (lift b) (lift c) → pos 0 <ℤ bracket (lift a) (lift c) (lift d) → pos 0 <ℤ incircle (lift a) (lift b) (lift c) (lift d) → pos 0 <ℤ bracket (lift a) (lift b) (lift d)
-convex_at_first a b c d abc acd e = other_positive (squared_way a c) (bracket (lift a) (lift b) (lift d)) (squared_way_nonneg a c)
-    (sum_positive (squared_way a c *ℤ bracket (lift a) (lift b) (lift d)) (incircle (lift a) (lift b) (lift c) (lift d)) (squared_way a b *ℤ bracket (lift a) (lift c) (lift d)) (squared_way a d *ℤ bracket (lift a) (lift b) (lift c))
-    (incircle_from_first a b c d) e (mul-nonneg_ℤ (squared_way_nonneg a b) (weak acd)) (mul-nonneg_ℤ (squared_way_nonneg a d) (weak abc)))
+pub convex_at_first : (a b c d : Point) → pos 0 <ℤ bracket (lift a) (lift b) (lift c) → pos 0
+    <ℤ bracket (lift a) (lift c) (lift d) → pos 0 <ℤ incircle (lift a) (lift b) (lift c) (lift d)
+    → pos 0 <ℤ bracket (lift a) (lift b) (lift d)
+convex_at_first a b c d abc acd e =
+    other_positive (squared_way a c) (bracket (lift a) (lift b) (lift d)) (squared_way_nonneg a c)
+    (sum_positive (squared_way a c *ℤ bracket (lift a) (lift b) (lift d)) (incircle (lift a)
+    (lift b) (lift c) (lift d)) (squared_way a b *ℤ bracket (lift a) (lift c) (lift d))
+    (squared_way a d *ℤ bracket (lift a) (lift b) (lift c))
+    (incircle_from_first a b c d) e (mul-nonneg_ℤ (squared_way_nonneg a b) (weak acd))
+    (mul-nonneg_ℤ (squared_way_nonneg a d) (weak abc)))
 
 -- and from c
-pub convex_at_third : (a b c d : Point) → pos 0 <ℤ bracket (lift a) (lift b) (lift c) → pos 0 <ℤ bracket (lift a) (lift c) (lift d) → pos 0 <ℤ incircle (lift a) (lift b) (lift c) (lift d) → pos 0 <ℤ bracket (lift b) (lift c) (lift d)
-convex_at_third a b c d abc acd e = subst (λ z. pos 0 <ℤ z) (sym (bracket-turn (lift b) (lift c) (lift d)))
-    (convex_at_first c d a b (subst (λ z. pos 0 <ℤ z) (bracket-turn (lift a) (lift c) (lift d)) acd) (subst (λ z. pos 0 <ℤ z) (bracket-turn (lift a) (lift b) (lift c) ∙ bracket-turn (lift b) (lift c) (lift a)) abc)
+pub convex_at_third : (a b c d : Point) → pos 0 <ℤ bracket (lift a) (lift b) (lift c) → pos 0
+    <ℤ bracket (lift a) (lift c) (lift d) → pos 0 <ℤ incircle (lift a) (lift b) (lift c) (lift d)
+    → pos 0 <ℤ bracket (lift b) (lift c) (lift d)
+convex_at_third a b c d abc acd e =
+    subst (λ z. pos 0 <ℤ z) (sym (bracket-turn (lift b) (lift c) (lift d)))
+    (convex_at_first c d a b (subst (λ z. pos 0 <ℤ z) (bracket-turn (lift a) (lift c) (lift d)) acd)
+    (subst (λ z. pos 0 <ℤ z)
+    (bracket-turn (lift a) (lift b) (lift c) ∙ bracket-turn (lift b) (lift c) (lift a)) abc)
     (subst (λ z. pos 0 <ℤ z) (incircle-opposite (lift a) (lift b) (lift c) (lift d)) e))
 
 -- ---- the two halvings
@@ -63,17 +85,31 @@ three_nonneg : (s a b c : ℤ) → s ≡ a +ℤ b +ℤ c → pos 0 ≤ℤ a → 
 three_nonneg s a b c e h k l = omega (arith, ints)
 
 -- a point of a b d is in a b c or in a c d
-pub halved : (a b c d z : Vec3) → pos 0 <ℤ bracket a b c → pos 0 <ℤ bracket a c d → pos 0 <ℤ bracket a b d → pos 0 <ℤ bracket b c d → InClosed a b d z → InClosed a b c z ⊎ InClosed a c d z
+pub halved : (a b c d z : Vec3) → pos 0 <ℤ bracket a b c → pos 0 <ℤ bracket a c d
+    → pos 0 <ℤ bracket a b d → pos 0 <ℤ bracket b c d → InClosed a b d z
+    → InClosed a b c z ⊎ InClosed a c d z
 halved a b c d z abc acd abd bcd i = go (lt_or_ge_ℤ (bracket a c z) (pos 0))
   where
     left_of_bc : pos 0 ≤ℤ bracket b c z
-    left_of_bc = nonneg_of_mul-nonneg_ℤ abd (three_nonneg (bracket a b d *ℤ bracket b c z) (bracket b d z *ℤ bracket b c a) (bracket d a z *ℤ bracket b c b) (bracket a b z *ℤ bracket b c d) (cramer a b d z b c)
-        (mul-nonneg_ℤ i.second (subst (λ y. pos 0 ≤ℤ y) (bracket-turn a b c) (weak abc))) (zero_weak_left (zero-mul_ℤ (bracket d a z) (bracket-outer b c))) (mul-nonneg_ℤ i.first (weak bcd)))
+    left_of_bc = nonneg_of_mul-nonneg_ℤ abd
+        (three_nonneg (bracket a b d *ℤ bracket b c z) (bracket b d z *ℤ bracket b c a)
+        (bracket d a z *ℤ bracket b c b) (bracket a b z *ℤ bracket b c d) (cramer a b d z b c)
+        (mul-nonneg_ℤ i.second (subst (λ y. pos 0 ≤ℤ y) (bracket-turn a b c) (weak abc)))
+        (zero_weak_left (zero-mul_ℤ (bracket d a z) (bracket-outer b c)))
+        (mul-nonneg_ℤ i.first (weak bcd)))
 
     left_of_cd : pos 0 ≤ℤ bracket c d z
-    left_of_cd = nonneg_of_mul-nonneg_ℤ abd (three_nonneg (bracket a b d *ℤ bracket c d z) (bracket b d z *ℤ bracket c d a) (bracket d a z *ℤ bracket c d b) (bracket a b z *ℤ bracket c d d) (cramer a b d z c d)
-        (mul-nonneg_ℤ i.second (subst (λ y. pos 0 ≤ℤ y) (bracket-turn a c d) (weak acd))) (mul-nonneg_ℤ i.third (subst (λ y. pos 0 ≤ℤ y) (bracket-turn b c d) (weak bcd))) (zero_weak_left (zero-mul_ℤ (bracket a b z) (bracket-last c d))))
+    left_of_cd = nonneg_of_mul-nonneg_ℤ abd
+        (three_nonneg (bracket a b d *ℤ bracket c d z) (bracket b d z *ℤ bracket c d a)
+        (bracket d a z *ℤ bracket c d b) (bracket a b z *ℤ bracket c d d) (cramer a b d z c d)
+        (mul-nonneg_ℤ i.second (subst (λ y. pos 0 ≤ℤ y) (bracket-turn a c d) (weak acd)))
+        (mul-nonneg_ℤ i.third (subst (λ y. pos 0 ≤ℤ y) (bracket-turn b c d) (weak bcd)))
+        (zero_weak_left (zero-mul_ℤ (bracket a b z) (bracket-last c d))))
 
     go : (bracket a c z <ℤ pos 0) ⊎ (pos 0 ≤ℤ bracket a c z) → InClosed a b c z ⊎ InClosed a c d z
-    go (inl l) = inl (record { first = i.first; second = left_of_bc; third = negated_below (bracket-swap c a z) (weak_right l) })
+    go (inl l) = inl (record {
+      first = i.first;
+      second = left_of_bc;
+      third = negated_below (bracket-swap c a z) (weak_right l);
+    })
     go (inr l) = inr (record { first = l; second = left_of_cd; third = i.third })

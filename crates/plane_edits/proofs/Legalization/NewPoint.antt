@@ -1,5 +1,6 @@
 -- A point put into a mesh whose circles are empty leaves the circles round it empty.
-use Rattle.std.proofs.Common.{◌≡◌, ◌⊎◌, ℕ, ◌<◌, List, [], ◌∷◌, ◌++◌, length, sym, ◌∙◌, ap, subst, arith}
+use Rattle.std.proofs.Common.{◌≡◌, ◌⊎◌, ◌<◌, [], ◌∷◌, ◌++◌, ◌∙◌}
+use Rattle.std.proofs.Common.{ℕ, List, length, sym, ap, subst, arith}
 use mathlib.Core.Logic.{inl, inr, ◌≢◌}
 use Rattle.std.specs.Prelude.{ℤ, pos, ◌+ℤ◌, ◌-ℤ◌, ◌*ℤ◌, ◌≤ℤ◌, ◌<ℤ◌, Contains}
 use Rattle.std.proofs.lemmas.Int.{ints}
@@ -45,8 +46,10 @@ way_positive q p apart = go (zero_or_left (squared_way_nonneg q p))
     both : (a b : ℤ) → a *ℤ a +ℤ b *ℤ b ≡ pos 0 → (a ≡ pos 0) × (b ≡ pos 0)
     both a b e =
         let h = square-nonneg_ℤ a in
-        let k = square-nonneg_ℤ b in
-        (zero_of_square a (first (a *ℤ a) (b *ℤ b) e h k), zero_of_square b (second (a *ℤ a) (b *ℤ b) e h k))
+        let k = square-nonneg_ℤ b in (
+          zero_of_square a (first (a *ℤ a) (b *ℤ b) e h k),
+          zero_of_square b (second (a *ℤ a) (b *ℤ b) e h k),
+        )
 
     go : (squared_way q p ≡ pos 0) ⊎ (pos 0 <ℤ squared_way q p) → pos 0 <ℤ squared_way q p
     go (inl e) =
@@ -68,10 +71,11 @@ not_lowered x k h l = less ((x -ℤ pos 1) *ℤ k) (x *ℤ k) k (mul-nonneg_ℤ 
     parted = ring_in (x ∷ k ∷ []) (λ x k. (x ⊖ num 1) ⊗ k) (λ x k. x ⊗ k ⊖ k) tt
 
 -- three numbers that are not negative, with a positive sum, have one under positive factors too
-weighted_positive : (x y z k l m : ℤ) → pos 0 <ℤ x → pos 0 <ℤ y → pos 0 <ℤ z → pos 0 ≤ℤ k → pos 0 ≤ℤ l → pos 0 ≤ℤ m
-    → pos 0 <ℤ (k +ℤ l +ℤ m) → pos 0 <ℤ (x *ℤ k +ℤ y *ℤ l +ℤ z *ℤ m)
+weighted_positive : (x y z k l m : ℤ) → pos 0 <ℤ x → pos 0 <ℤ y → pos 0 <ℤ z → pos 0 ≤ℤ k
+    → pos 0 ≤ℤ l → pos 0 ≤ℤ m → pos 0 <ℤ (k +ℤ l +ℤ m) → pos 0 <ℤ (x *ℤ k +ℤ y *ℤ l +ℤ z *ℤ m)
 weighted_positive x y z k l m hx hy hz hk hl hm some =
-    above (x *ℤ k) (y *ℤ l) (z *ℤ m) (not_lowered x k hx hk) (not_lowered y l hy hl) (not_lowered z m hz hm)
+    above (x *ℤ k) (y *ℤ l) (z *ℤ m) (not_lowered x k hx hk) (not_lowered y l hy hl)
+    (not_lowered z m hz hm)
   where
     above : (a b c : ℤ) → k ≤ℤ a → l ≤ℤ b → m ≤ℤ c → pos 0 <ℤ (a +ℤ b +ℤ c)
     above a b c f g h = omega (arith, ints)
@@ -84,8 +88,10 @@ IsNotRight u v q = pos 0 ≤ℤ bracket (lift u) (lift v) (lift q)
 corner_or_inside_circle : (a b c q : Point) → TurnsLeft (whole a) (whole b) (whole c)
     → InTriangle (whole a) (whole b) (whole c) (whole q) → ¬ (q ≡ a) → ¬ (q ≡ b) → ¬ (q ≡ c)
     → InsideCircle (whole a) (whole b) (whole c) (whole q)
-corner_or_inside_circle a b c q turns within no_a no_b no_c = (inside_is_determinant a b c q turns).1
-    (weighted_positive (squared_way q a) (squared_way q b) (squared_way q c) (turn_at q b c) (turn_at q c a)
+corner_or_inside_circle a b c q turns within no_a no_b no_c =
+    (inside_is_determinant a b c q turns).1
+    (weighted_positive (squared_way q a) (squared_way q b) (squared_way q c) (turn_at q b c)
+    (turn_at q c a)
     (turn_at q a b)
     (way_positive q a no_a) (way_positive q b no_b) (way_positive q c no_c)
     (not_negative b c signs.1) (not_negative c a signs.2) (not_negative a b signs.0) whole_positive)
@@ -112,16 +118,19 @@ none_in_empty i j k (inr (inl c)) = Contains-none (face j k i) c
 none_in_empty i j k (inr (inr c)) = Contains-none (face k i j) c
 
 -- a mesh with a face is in the plane
-local_of_face : (points : List Point) (faces : List Face) (outer : List (ℕ × ℕ)) → IsMesh points faces outer
-    → (i j k : ℕ) → IsFaceOf faces i j k → LocalMesh points faces outer
+local_of_face : (points : List Point) (faces : List Face) (outer : List (ℕ × ℕ))
+    → IsMesh points faces outer → (i j k : ℕ) → IsFaceOf faces i j k → LocalMesh points faces outer
 local_of_face points faces outer (inl m) i j k f = m
-local_of_face points faces outer (inr m) i j k f = absurd (none_in_empty i j k (subst (λ fs. IsFaceOf fs i j k) m.0 f))
+local_of_face points faces outer (inr m) i j k f =
+    absurd (none_in_empty i j k (subst (λ fs. IsFaceOf fs i j k) m.0 f))
 
 -- the two ends of an outer edge are indexes, and no point is strictly on its left
-outer_has_none_left : (points : List Point) (faces : List Face) (outer : List (ℕ × ℕ)) → IsMesh points faces outer
-    → (j k : ℕ) → Contains outer (j, k) → (j < length points) × (k < length points)
+outer_has_none_left : (points : List Point) (faces : List Face) (outer : List (ℕ × ℕ))
+    → IsMesh points faces outer → (j k : ℕ) → Contains outer (j, k)
+    → (j < length points) × (k < length points)
     × ((n : ℕ) → n < length points → ¬ TurnsLeft (place points j) (place points k) (place points n))
-outer_has_none_left points faces outer (inl m) j k c = let e = m.ends (j, k) c in (e.0, e.1, m.supporting (j, k) c)
+outer_has_none_left points faces outer (inl m) j k c =
+    let e = m.ends (j, k) c in (e.0, e.1, m.supporting (j, k) c)
 outer_has_none_left points faces outer (inr m) j k c =
     let e = (m.1.neighbours j k).0 c in
     (e.first, e.second, λ n h. straight n (m.1.straight j k n e.first e.second h))
@@ -129,7 +138,8 @@ outer_has_none_left points faces outer (inr m) j k c =
     straight : (n : ℕ) → side (place points j) (place points k) (place points n) ≡ on
         → ¬ TurnsLeft (place points j) (place points k) (place points n)
     straight n flat left =
-        zero_is_not_above (bracket (lift (point_at points j)) (lift (point_at points k)) (lift (point_at points n)))
+        zero_is_not_above (bracket (lift (point_at points j)) (lift (point_at points k))
+        (lift (point_at points n)))
         (if_on (place points j) (place points k) (place points n) flat)
         (if_left (place points j) (place points k) (place points n) left)
 
@@ -184,12 +194,14 @@ module _ (points : List Point) (q : Point) (old new : List Face) (outer now : Li
       go (inl g) =
           let c = index_of points old outer (local_of_face points old outer m i j k g) i j k g in
           let l = below n h dn in
-          empty i j k n g l (subst IsCircleOf (λ o. (kept i c.0 o, kept j c.1 o, kept k c.2 o, kept n l o)) inside)
+          empty i j k n g l (subst IsCircleOf
+          (λ o. (kept i c.0 o, kept j c.1 o, kept k c.2 o, kept n l o)) inside)
       go (inr (inl e)) = di e
       go (inr (inr (inl e))) = dj e
       go (inr (inr (inr e))) = dk e
 
-  module _ (j k n : ℕ) (f : IsFaceOf new v j k) (h : n < v) (left : TurnsLeft (place all j) (place all k) (place all n))
+  module _ (j k n : ℕ) (f : IsFaceOf new v j k) (h : n < v)
+      (left : TurnsLeft (place all j) (place all k) (place all n))
       (inside : InsideCircle (place all v) (place all j) (place all k) (place all n)) where
     left_of_old : j < v → k < v → TurnsLeft (place points j) (place points k) (place points n)
     left_of_old hj hk = subst AreLeft (λ o. (kept j hj o, kept k hk o, kept n h o)) left
@@ -199,7 +211,8 @@ module _ (points : List Point) (q : Point) (old new : List Face) (outer now : Li
 
     -- the point is none of the old ones
     fresh : (i : ℕ) → i < v → ¬ (q ≡ point_at points i)
-    fresh i hi e = mesh.distinct v i last_within (within_all i hi) (differ v hi) (last ∙ ap whole e ∙ sym (kept i hi))
+    fresh i hi e = mesh.distinct v i last_within (within_all i hi) (differ v hi)
+        (last ∙ ap whole e ∙ sym (kept i hi))
       where
         differ : (v : ℕ) → i < v → v ≡ i → ⊥
         differ v l d = omega arith
@@ -225,7 +238,8 @@ module _ (points : List Point) (q : Point) (old new : List Face) (outer now : Li
       stays : ¬ IsFaceOf new j k o
       stays g' =
           let signs = by_signs all new now mesh in
-          clash v (third_unique (length all) (point_at all) new now signs j k o v g' (turned new v j k f)) corners.2
+          clash v (third_unique (length all) (point_at all) new now signs j k o v g'
+          (turned new v j k f)) corners.2
         where
           clash : (v : ℕ) → o ≡ v → o < v → ⊥
           clash v e l = omega arith
@@ -238,19 +252,21 @@ module _ (points : List Point) (q : Point) (old new : List Face) (outer now : Li
           let on_no_corner = corner_or_inside_circle a b c q turning t in
           let shallow = on_no_corner (fresh j corners.0) (fresh k corners.1) (fresh o corners.2) in
           empty j k o n g h
-          (deeper a b c q (point_at points n) turning moved (left_of_old corners.0 corners.1) shallow deep)
+          (deeper a b c q (point_at points n) turning moved
+          (left_of_old corners.0 corners.1) shallow deep)
 
     none_beyond : ⊥
     none_beyond = go (across j k f)
       where
-        of_old : (o : ℕ) (g : IsFaceOf old j k o)
-            → IsFaceOf new j k o ⊎ InTriangle (place points j) (place points k) (place points o) (whole q) → ⊥
+        of_old : (o : ℕ) (g : IsFaceOf old j k o) → IsFaceOf new j k o
+            ⊎ InTriangle (place points j) (place points k) (place points o) (whole q) → ⊥
         of_old o g (inl y) = stays o g y
         of_old o g (inr y) = contained o g y
 
         go : ((o : ℕ) × IsFaceOf old j k o) ⊎ Contains outer (j, k) → ⊥
         go (inl x) = of_old x.0 x.1 (stays_or_contains j k x.0 x.1)
-        go (inr c) = let e = outer_has_none_left points old outer m j k c in e.2 n h (left_of_old e.0 e.1)
+        go (inr c) = let e = outer_has_none_left points old outer m j k c in
+            e.2 n h (left_of_old e.0 e.1)
 
   round_is_empty : IsEmptyRound all new v
   round_is_empty = record {
@@ -258,17 +274,17 @@ module _ (points : List Point) (q : Point) (old new : List Face) (outer now : Li
     beyond = λ j k n f h d left inside. none_beyond j k n f (below n h d) left inside;
   }
 
--- where a point is put into faces that contain it, or beyond outer edges, of a mesh whose circles are empty, the
--- circles round it are empty
-pub put_in_is_empty : (points : List Point) (q : Point) (old new : List Face) (outer now : List (ℕ × ℕ)) →
-    IsMesh points old outer → IsMesh (points ++ q ∷ []) new now
-    → ((i j k : ℕ) → IsFaceOf new i j k → IsFaceOf old i j k ⊎
-    ((i ≡ length points) ⊎ ((j ≡ length points) ⊎ (k ≡ length points))))
-    → ((j k : ℕ) → IsFaceOf new (length points) j k → ((o : ℕ) × IsFaceOf old j k o) ⊎ Contains outer (j, k))
-    → ((i j k : ℕ) → IsFaceOf old i j k → IsFaceOf new i j k ⊎
-    InTriangle (place points i) (place points j) (place points k) (whole q))
-    → ((i j k n : ℕ) → IsFaceOf old i j k → n < length points →
-    ¬ InsideCircle (place points i) (place points j) (place points k) (place points n))
+-- where a point is put into faces that contain it, or beyond outer edges, of a mesh whose circles
+-- are empty, the circles round it are empty
+pub put_in_is_empty : (points : List Point) (q : Point) (old new : List Face)
+    (outer now : List (ℕ × ℕ)) → IsMesh points old outer → IsMesh (points ++ q ∷ []) new now
+    → ((i j k : ℕ) → IsFaceOf new i j k
+    → IsFaceOf old i j k ⊎ ((i ≡ length points) ⊎ ((j ≡ length points) ⊎ (k ≡ length points))))
+    → ((j k : ℕ) → IsFaceOf new (length points) j k
+    → ((o : ℕ) × IsFaceOf old j k o) ⊎ Contains outer (j, k)) → ((i j k : ℕ) → IsFaceOf old i j k
+    → IsFaceOf new i j k ⊎ InTriangle (place points i) (place points j) (place points k) (whole q))
+    → ((i j k n : ℕ) → IsFaceOf old i j k → n < length points
+    → ¬ InsideCircle (place points i) (place points j) (place points k) (place points n))
     → IsEmptyRound (points ++ q ∷ []) new (length points)
 put_in_is_empty points q old new outer now m after only across stays_or_contains empty =
     round_is_empty points q old new outer now m after only across stays_or_contains empty

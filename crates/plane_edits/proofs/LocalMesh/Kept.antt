@@ -16,7 +16,8 @@ use Rattle.plane_tiling.proofs.Tiles.{point_at, by_signs, inside_signs, in_signs
 use Rattle.plane_tiling.proofs.Appended.{length_appended, kept_point, last_point}
 use Rattle.plane_tiling.proofs.OneFace.{by_words, same_points}
 use Rattle.plane_edits.specs.Change.{IsFaceOf, OuterChange}
-use Rattle.plane_edits.specs.Laws.{InsertionInsideKeeps, InsertionWithinSideKeeps, InsertionWithinOuterKeeps, FlipKeeps, FlipCovers}
+use Rattle.plane_edits.specs.Laws.{InsertionInsideKeeps, InsertionWithinSideKeeps}
+use Rattle.plane_edits.specs.Laws.{InsertionWithinOuterKeeps, FlipKeeps, FlipCovers}
 use Rattle.plane_tiling.proofs.Totals.{Contains-none}
 use Rattle.plane_edits.proofs.LocalMesh.Changes.{IsOnce}
 use Rattle.plane_edits.proofs.Insertion.Insertions as I
@@ -25,25 +26,42 @@ use Rattle.plane_edits.proofs.Legalization.Legal.{InClosed, halved}
 
 -- ---- one more point
 -- the mesh, read with the new point
-pub with_last : (points : List Point) (q : Point) (faces : List Face) (outer : List (ℕ × ℕ)) → LocalMesh points faces outer → SignMesh (length points) (point_at (points ++ q ∷ [])) faces outer
-with_last points q faces outer m = same_points (length points) (point_at points) (point_at (points ++ q ∷ [])) faces outer (kept_point points q) (by_signs points faces outer m)
+pub with_last : (points : List Point) (q : Point) (faces : List Face) (outer : List (ℕ × ℕ))
+    → LocalMesh points faces outer
+    → SignMesh (length points) (point_at (points ++ q ∷ [])) faces outer
+with_last points q faces outer m = same_points (length points) (point_at points)
+    (point_at (points ++ q ∷ [])) faces outer (kept_point points q) (by_signs points faces outer m)
 
 -- the mesh of the points with q last, read by signs, is a local mesh
-pub from_last : (points : List Point) (q : Point) (faces : List Face) (outer : List (ℕ × ℕ)) → SignMesh (suc (length points)) (point_at (points ++ q ∷ [])) faces outer → LocalMesh (points ++ q ∷ []) faces outer
-from_last points q faces outer m = by_words (points ++ q ∷ []) faces outer (subst (λ n. SignMesh n (point_at (points ++ q ∷ [])) faces outer) (sym (length_appended points q)) m)
+pub from_last : (points : List Point) (q : Point) (faces : List Face) (outer : List (ℕ × ℕ))
+    → SignMesh (suc (length points)) (point_at (points ++ q ∷ [])) faces outer
+    → LocalMesh (points ++ q ∷ []) faces outer
+from_last points q faces outer m = by_words (points ++ q ∷ []) faces outer (subst
+    (λ n. SignMesh n (point_at (points ++ q ∷ [])) faces outer) (sym (length_appended points q)) m)
 
 -- the faces of a local mesh turn left, in each rotation
-pub turning_of : (points : List Point) (faces : List Face) (outer : List (ℕ × ℕ)) → LocalMesh points faces outer → (a b c : ℕ) → IsFaceOf faces a b c → TurnsLeft (place points a) (place points b) (place points c)
-turning_of points faces outer m a b c h = left_if (place points a) (place points b) (place points c) (C.turn_left_of (length points) (point_at points) faces outer (by_signs points faces outer m) a b c h)
+pub turning_of : (points : List Point) (faces : List Face) (outer : List (ℕ × ℕ))
+    → LocalMesh points faces outer → (a b c : ℕ) → IsFaceOf faces a b c
+    → TurnsLeft (place points a) (place points b) (place points c)
+turning_of points faces outer m a b c h =
+    left_if (place points a) (place points b) (place points c) (C.turn_left_of (length points)
+    (point_at points) faces outer (by_signs points faces outer m) a b c h)
 
 -- the corners of a face of a local mesh are indexes of points, in each rotation
-pub index_of : (points : List Point) (faces : List Face) (outer : List (ℕ × ℕ)) → LocalMesh points faces outer → (a b c : ℕ) → IsFaceOf faces a b c → (a < length points) × (b < length points) × (c < length points)
-index_of points faces outer m a b c h = C.turn_corners (length points) (point_at points) faces outer (by_signs points faces outer m) a b c h
+pub index_of : (points : List Point) (faces : List Face) (outer : List (ℕ × ℕ))
+    → LocalMesh points faces outer → (a b c : ℕ) → IsFaceOf faces a b c
+    → (a < length points) × (b < length points) × (c < length points)
+index_of points faces outer m a b c h = C.turn_corners (length points) (point_at points) faces outer
+    (by_signs points faces outer m) a b c h
 
 -- a vertex of two, with a new point
-within_last : (points : List Point) (q : Point) (a b : ℕ) → a < length points → b < length points → WithinSegment (place points a) (place points b) (whole q)
-    → WithinSegment (whole (point_at (points ++ q ∷ []) a)) (whole (point_at (points ++ q ∷ []) b)) (whole (point_at (points ++ q ∷ []) (length points)))
-within_last points q a b ha hb w = subst (λ (x : Point × Point × Point). WithinSegment (whole x.0) (whole x.1) (whole x.2)) (λ i. (kept_point points q a ha i, kept_point points q b hb i, sym (last_point points q) i)) w
+within_last : (points : List Point) (q : Point) (a b : ℕ) → a < length points → b < length points
+    → WithinSegment (place points a) (place points b) (whole q)
+    → WithinSegment (whole (point_at (points ++ q ∷ []) a)) (whole (point_at (points ++ q ∷ []) b))
+    (whole (point_at (points ++ q ∷ []) (length points)))
+within_last points q a b ha hb w =
+    subst (λ (x : Point × Point × Point). WithinSegment (whole x.0) (whole x.1) (whole x.2))
+    (λ i. (kept_point points q a ha i, kept_point points q b hb i, sym (last_point points q) i)) w
 
 -- ---- insertions
 -- a vertex put into a face leaves a mesh
@@ -52,35 +70,61 @@ inside_face_kept points faces new outer outer' q a b c m f inside change edges =
     let p = point_at (points ++ q ∷ []) in
     let n = length points in
     let x = index_of points faces outer m a b c f in
-    let s = inside_signs (place points a) (place points b) (place points c) (whole q) (turning_of points faces outer m a b c f) inside in
-    from_last points q new outer' (I.inside_kept n p faces new outer outer' (with_last points q faces outer m) a b c f
-    (record { first = moved a b x.0 x.1 s.first; second = moved b c x.1 x.2 s.second; third = moved c a x.2 x.0 s.third }) change edges)
+    let s = inside_signs (place points a) (place points b) (place points c) (whole q)
+    (turning_of points faces outer m a b c f) inside in
+    from_last points q new outer'
+    (I.inside_kept n p faces new outer outer' (with_last points q faces outer m) a b c f
+    (record {
+      first = moved a b x.0 x.1 s.first;
+      second = moved b c x.1 x.2 s.second;
+      third = moved c a x.2 x.0 s.third;
+    }) change edges)
   where
-    moved : (i j : ℕ) → i < length points → j < length points → pos 0 <ℤ bracket (vec (place points i)) (vec (place points j)) (vec (whole q)) → pos 0 <ℤ bracket (at (point_at (points ++ q ∷ [])) i) (at (point_at (points ++ q ∷ [])) j) (at (point_at (points ++ q ∷ [])) (length points))
-    moved i j hi hj h = subst (λ (x : Point × Point × Point). pos 0 <ℤ bracket (vec (whole x.0)) (vec (whole x.1)) (vec (whole x.2))) (λ o. (kept_point points q i hi o, kept_point points q j hj o, sym (last_point points q) o)) h
+    moved : (i j : ℕ) → i < length points → j < length points
+        → pos 0 <ℤ bracket (vec (place points i)) (vec (place points j)) (vec (whole q))
+        → pos 0 <ℤ bracket (at (point_at (points ++ q ∷ [])) i) (at (point_at (points ++ q ∷ [])) j)
+        (at (point_at (points ++ q ∷ [])) (length points))
+    moved i j hi hj h = subst (λ (x : Point × Point × Point). pos 0 <ℤ bracket (vec (whole x.0))
+        (vec (whole x.1)) (vec (whole x.2))) (λ o. (
+          kept_point points q i hi o,
+          kept_point points q j hj o,
+          sym (last_point points q) o,
+        )) h
 
--- a vertex strictly within the side of two faces is joined to their four corners, the mesh stays local
+-- a vertex strictly within the side of two faces is joined to their four corners, the mesh stays
+-- local
 pub within_side_kept : InsertionWithinSideKeeps
 within_side_kept points faces new outer outer' q a b c d m f g within change edges =
     let x = index_of points faces outer m a b c f in
-    from_last points q new outer' (I.side_kept (length points) (point_at (points ++ q ∷ [])) faces new outer outer' (with_last points q faces outer m) a b c d f g (within_last points q a b x.0 x.1 within) change edges)
+    from_last points q new outer' (I.side_kept (length points) (point_at (points ++ q ∷ [])) faces
+    new outer outer' (with_last points q faces outer m) a b c d f g
+    (within_last points q a b x.0 x.1 within) change edges)
 
 -- a vertex strictly within an outer edge makes two halves of it, and the mesh stays local
 pub within_outer_kept : InsertionWithinOuterKeeps
 within_outer_kept points faces new outer outer' q u v c m own f within change edges =
     let x = index_of points faces outer m v u c f in
-    from_last points q new outer' (I.hull_kept (length points) (point_at (points ++ q ∷ [])) faces new outer outer' (with_last points q faces outer m) u v c own f (within_last points q u v x.1 x.0 within) change edges)
+    from_last points q new outer' (I.hull_kept (length points) (point_at (points ++ q ∷ [])) faces
+    new outer outer' (with_last points q faces outer m) u v c own f
+    (within_last points q u v x.1 x.0 within) change edges)
 
 -- ---- flips
 -- the outer edges stay as they are
 pub same_outer : (outer : List (ℕ × ℕ)) → IsOnce outer → OuterChange outer outer [] []
-same_outer outer once = record { kept = λ i j h _. h; come = λ i j h. absurd (Contains-none (i, j) h); only = λ i j h. inl (h, λ x. Contains-none (i, j) x); once = once }
+same_outer outer once = record {
+  kept = λ i j h _. h;
+  come = λ i j h. absurd (Contains-none (i, j) h);
+  only = λ i j h. inl (h, λ x. Contains-none (i, j) x);
+  once = once;
+}
 
 -- a flip across a strictly convex quadrilateral keeps the mesh local
 pub flip_kept : FlipKeeps
 flip_kept points faces new outer outer' a b c d m f g left right change edges =
-    by_words points new outer' (F.flipped (length points) (point_at points) faces new outer outer' (by_signs points faces outer m) edges a b c d change f g
-    (if_left (place points a) (place points b) (place points d) left) (if_left (place points b) (place points c) (place points d) right))
+    by_words points new outer' (F.flipped (length points) (point_at points) faces new outer outer'
+    (by_signs points faces outer m) edges a b c d change f g
+    (if_left (place points a) (place points b) (place points d) left)
+    (if_left (place points b) (place points c) (place points d) right))
 
 -- the two halvings of a strictly convex quadrilateral cover the same points
 pub flip_covers : FlipCovers
@@ -89,16 +133,21 @@ flip_covers a b c d p abc acd abd bcd = ((λ h. forth h), (λ h. back h))
     Closed : Fraction → Fraction → Fraction → Type 0
     Closed a b c = InClosed (vec a) (vec b) (vec c) (vec p)
 
-    turned : (a b c : Fraction) → pos 0 <ℤ bracket (vec a) (vec b) (vec c) → pos 0 <ℤ bracket (vec b) (vec c) (vec a)
+    turned : (a b c : Fraction) → pos 0 <ℤ bracket (vec a) (vec b) (vec c)
+        → pos 0 <ℤ bracket (vec b) (vec c) (vec a)
     turned a b c h = subst (λ z. pos 0 <ℤ z) (bracket-turn (vec a) (vec b) (vec c)) h
 
-    reads : (a b c : Fraction) → TurnsLeft a b c → InTriangle a b c p → InClosed (vec a) (vec b) (vec c) (vec p)
-    reads a b c t h = let s = in_signs a b c p t h in record { first = s.0; second = s.1; third = s.2 }
+    reads : (a b c : Fraction) → TurnsLeft a b c → InTriangle a b c p
+        → InClosed (vec a) (vec b) (vec c) (vec p)
+    reads a b c t h = let s = in_signs a b c p t h in
+        record { first = s.0; second = s.1; third = s.2 }
 
-    says : (a b c : Fraction) → TurnsLeft a b c → InClosed (vec a) (vec b) (vec c) (vec p) → InTriangle a b c p
+    says : (a b c : Fraction) → TurnsLeft a b c → InClosed (vec a) (vec b) (vec c) (vec p)
+        → InTriangle a b c p
     says a b c t h = signs_in a b c p t h.first h.second h.third
 
-    turned_closed : (a b c : Fraction) → InClosed (vec a) (vec b) (vec c) (vec p) → InClosed (vec b) (vec c) (vec a) (vec p)
+    turned_closed : (a b c : Fraction) → InClosed (vec a) (vec b) (vec c) (vec p)
+        → InClosed (vec b) (vec c) (vec a) (vec p)
     turned_closed a b c h = record { first = h.second; second = h.third; third = h.first }
 
     sabc : pos 0 <ℤ bracket (vec a) (vec b) (vec c)
@@ -114,18 +163,25 @@ flip_covers a b c d p abc acd abd bcd = ((λ h. forth h), (λ h. back h))
     sbcd = if_left b c d bcd
 
     back : InTriangle a b d p ⊎ InTriangle b c d p → InTriangle a b c p ⊎ InTriangle a c d p
-    back (inl h) = elim (halved (vec a) (vec b) (vec c) (vec d) (vec p) sabc sacd sabd sbcd (reads a b d abd h)) [ inl x ↦ inl (says a b c abc x) | inr x ↦ inr (says a c d acd x) ]
-    back (inr h) = elim (halved (vec c) (vec d) (vec a) (vec b) (vec p) (turned a c d sacd) (turned b c a (turned a b c sabc)) (turned b c d sbcd) (turned b d a (turned a b d sabd)) (turned_closed b c d (reads b c d bcd h))) [
-      | inl x ↦ inr (says a c d acd (turned_closed d a c (turned_closed c d a x)))
-      | inr x ↦ inl (says a b c abc (turned_closed c a b x))
-    ]
+    back (inl h) = elim (halved (vec a) (vec b) (vec c) (vec d) (vec p) sabc sacd sabd sbcd
+        (reads a b d abd h)) [ inl x ↦ inl (says a b c abc x) | inr x ↦ inr (says a c d acd x) ]
+    back (inr h) = elim (halved (vec c) (vec d) (vec a) (vec b) (vec p) (turned a c d sacd)
+        (turned b c a (turned a b c sabc)) (turned b c d sbcd) (turned b d a (turned a b d sabd))
+        (turned_closed b c d (reads b c d bcd h))) [
+          | inl x ↦ inr (says a c d acd (turned_closed d a c (turned_closed c d a x)))
+          | inr x ↦ inl (says a b c abc (turned_closed c a b x))
+        ]
 
     forth : InTriangle a b c p ⊎ InTriangle a c d p → InTriangle a b d p ⊎ InTriangle b c d p
-    forth (inl h) = elim (halved (vec b) (vec c) (vec d) (vec a) (vec p) sbcd (turned a b d sabd) (turned a b c sabc) (turned a c d sacd) (turned_closed a b c (reads a b c abc h))) [
-      | inl x ↦ inr (says b c d bcd x)
-      | inr x ↦ inl (says a b d abd (turned_closed d a b (turned_closed b d a x)))
-    ]
-    forth (inr h) = elim (halved (vec d) (vec a) (vec b) (vec c) (vec p) (turned b d a (turned a b d sabd)) (turned c d b (turned b c d sbcd)) (turned c d a (turned a c d sacd)) sabc (turned_closed c d a (turned_closed a c d (reads a c d acd h)))) [
-      | inl x ↦ inl (says a b d abd (turned_closed d a b x))
-      | inr x ↦ inr (says b c d bcd (turned_closed d b c x))
-    ]
+    forth (inl h) = elim (halved (vec b) (vec c) (vec d) (vec a) (vec p) sbcd (turned a b d sabd)
+        (turned a b c sabc) (turned a c d sacd) (turned_closed a b c (reads a b c abc h))) [
+          | inl x ↦ inr (says b c d bcd x)
+          | inr x ↦ inl (says a b d abd (turned_closed d a b (turned_closed b d a x)))
+        ]
+    forth (inr h) =
+        elim (halved (vec d) (vec a) (vec b) (vec c) (vec p) (turned b d a (turned a b d sabd))
+        (turned c d b (turned b c d sbcd)) (turned c d a (turned a c d sacd)) sabc
+        (turned_closed c d a (turned_closed a c d (reads a c d acd h)))) [
+          | inl x ↦ inl (says a b d abd (turned_closed d a b x))
+          | inr x ↦ inr (says b c d bcd (turned_closed d b c x))
+        ]

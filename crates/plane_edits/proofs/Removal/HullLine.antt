@@ -1,5 +1,7 @@
--- A corner of the hull goes with all faces: the other vertices are on one line, in the order of its neighbours.
-use Rattle.std.proofs.Common.{◌≡◌, ◌⊎◌, ℕ, suc, ◌<◌, ◌≤◌, List, [], ◌∷◌, length, refl, sym, ap, ◌∙◌, subst, arith}
+-- A corner of the hull goes with all faces: the other vertices are on one line, in the order of its
+-- neighbours.
+use Rattle.std.proofs.Common.{◌≡◌, ◌⊎◌, ◌<◌, ◌≤◌, [], ◌∷◌, ◌∙◌}
+use Rattle.std.proofs.Common.{ℕ, suc, List, length, refl, sym, ap, subst, arith}
 use mathlib.Core.Logic.{inl, inr, ◌≢◌}
 use Rattle.std.specs.Prelude.{ℤ, pos, ◌+ℤ◌, ◌*ℤ◌, ◌<ℤ◌, ◌≤ℤ◌, Contains}
 use Rattle.std.proofs.lemmas.Bool.{cases_eq, cases_lt}
@@ -28,10 +30,13 @@ use Rattle.plane_edits.proofs.Removal.HullCut as T
 use Rattle.plane_edits.proofs.Removal.StarFlips.{DifferUpTo, neighbours_differ}
 use Rattle.plane.proofs.Signs.{sum_without_first}
 
-module _ (points : List Point) (old new : List Face) (outer outer' : List (ℕ × ℕ)) (m : LocalMesh points old outer) (v k : ℕ) (nb : ℕ → ℕ) (star : IsHullStar old outer v k nb)
-    (corner : pos 0 <ℤ bracket (at (point_at points) v) (at (point_at points) (nb 0)) (at (point_at points) (nb k)))
-    (bent : (j : ℕ) → suc j < k → bracket (at (point_at points) (nb j)) (at (point_at points) (nb (suc j))) (at (point_at points) (nb (suc (suc j)))) ≤ℤ pos 0)
-    (change : FacesChange old new (strip v nb k) []) (outer_change : OuterChange outer outer' ((nb 0, v) ∷ (v, nb k) ∷ []) (chain nb k)) (empty : new ≡ []) where
+module _ (points : List Point) (old new : List Face) (outer outer' : List (ℕ × ℕ)) (m : LocalMesh
+    points old outer) (v k : ℕ) (nb : ℕ → ℕ) (star : IsHullStar old outer v k nb) (corner : pos 0
+    <ℤ bracket (at (point_at points) v) (at (point_at points) (nb 0)) (at (point_at points) (nb k)))
+    (bent : (j : ℕ) → suc j < k → bracket (at (point_at points) (nb j))
+    (at (point_at points) (nb (suc j))) (at (point_at points) (nb (suc (suc j)))) ≤ℤ pos 0)
+    (change : FacesChange old new (strip v nb k) []) (outer_change :
+    OuterChange outer outer' ((nb 0, v) ∷ (v, nb k) ∷ []) (chain nb k)) (empty : new ≡ []) where
   abbrev n : ℕ
   n = length points
 
@@ -42,7 +47,8 @@ module _ (points : List Point) (old new : List Face) (outer outer' : List (ℕ �
   signs = by_signs points old outer m
 
   gone_all : (a b c : ℕ) → IsTurnOf old a b c → IsTurnOf (strip v nb k) a b c
-  gone_all a b c h = elim (face_kept old new (strip v nb k) [] change a b c h) [ inl o ↦ absurd (no_turn a b c (subst (λ l. IsTurnOf l a b c) empty o)) | inr o ↦ o ]
+  gone_all a b c h = elim (face_kept old new (strip v nb k) [] change a b c h)
+      [ inl o ↦ absurd (no_turn a b c (subst (λ l. IsTurnOf l a b c) empty o)) | inr o ↦ o ]
 
   not_v : (i : ℕ) → i ≤ k → nb i ≢ v
   not_v = T.not_v points old new outer outer' m v k nb star
@@ -54,7 +60,13 @@ module _ (points : List Point) (old new : List Face) (outer outer' : List (ℕ �
   differ = neighbours_differ points old outer m v k nb star
 
   same_at : (a b : ℕ) → a ≤ k → b ≤ k → nb a ≡ nb b → a ≡ b
-  same_at a b ha hb e = elim (cases_eq a b) [ inl q ↦ q | inr ne ↦ elim (cases_lt a b) [ inl l ↦ absurd (differ a b l hb e) | inr l ↦ absurd (differ b a (strict ne l) ha (sym e)) ] ]
+  same_at a b ha hb e = elim (cases_eq a b) [
+    | inl q ↦ q
+    | inr ne ↦ elim (cases_lt a b) [
+      | inl l ↦ absurd (differ a b l hb e)
+      | inr l ↦ absurd (differ b a (strict ne l) ha (sym e))
+    ]
+  ]
     where
       strict : a ≢ b → b ≤ a → b < a
       strict ne l = omega arith
@@ -69,7 +81,10 @@ module _ (points : List Point) (old new : List Face) (outer outer' : List (ℕ �
   named : (z : ℕ) → z < n → z ≢ v → Named z
   named z h a =
       let f = C.face_at n p old outer signs z h in
-      (turn_of_all (strip v nb k) Names (λ i j l e. (e.1, e.2, e.0)) (T.each_strip points old new outer outer' m v k nb star (λ f. Names f.a f.b f.c) k (λ i h. ((λ a. absurd (a refl)), (λ _. (i, weaker i h, refl)), (λ _. (suc i, h, refl))))) z f.0 f.1 (gone_all z f.0 f.1 f.2)).0 a
+      (turn_of_all (strip v nb k) Names (λ i j l e. (e.1, e.2, e.0))
+      (T.each_strip points old new outer outer' m v k nb star (λ f. Names f.a f.b f.c) k
+      (λ i h. ((λ a. absurd (a refl)), (λ _. (i, weaker i h, refl)), (λ _. (suc i, h, refl)))))
+      z f.0 f.1 (gone_all z f.0 f.1 f.2)).0 a
     where
       weaker : (i : ℕ) → i < k → i ≤ k
       weaker i h = omega arith
@@ -83,95 +98,155 @@ module _ (points : List Point) (old new : List Face) (outer outer' : List (ℕ �
 
   no_face_behind : (i : ℕ) → i < k → ¬ HasSide old (nb (suc i)) (nb i)
   no_face_behind i h s = by ((turn_of_all (strip v nb k) Ways (λ i j l e. (e.1, e.2, e.0))
-      (T.each_strip points old new outer outer' m v k nb star (λ f. Ways f.a f.b f.c) k (λ i h. ((λ a _. absurd (a refl)), (λ _ _. (i, h, refl, refl)), (λ _ a. absurd (a refl))))) (nb (suc i)) (nb i) s.0 (gone_all (nb (suc i)) (nb i) s.0 s.1)).0
+      (T.each_strip points old new outer outer' m v k nb star (λ f. Ways f.a f.b f.c) k
+      (λ i h. (
+        (λ a _. absurd (a refl)),
+        (λ _ _. (i, h, refl, refl)),
+        (λ _ a. absurd (a refl)),
+      ))) (nb (suc i)) (nb i) s.0
+      (gone_all (nb (suc i)) (nb i) s.0 s.1)).0
       (not_v (suc i) h) (not_v i (omega arith)))
     where
       clash : (i j : ℕ) → suc i ≡ j → i ≡ suc j → ⊥
       clash i j e f = omega arith
 
       by : Way (nb (suc i)) (nb i) → ⊥
-      by (j, l, e, f) = clash i j (same_at (suc i) j h (omega arith) e) (same_at i (suc j) (omega arith) l f)
+      by (j, l, e, f) =
+          clash i j (same_at (suc i) j h (omega arith) e) (same_at i (suc j) (omega arith) l f)
 
   back : (i : ℕ) → i < k → Contains outer (nb (suc i), nb i)
-  back i h = elim (C.behind_side n p old outer signs (nb i) (nb (suc i)) (T.side_there points old new outer outer' m v k nb star i h)) [ inl s ↦ absurd (no_face_behind i h s) | inr o ↦ o ]
+  back i h = elim (C.behind_side n p old outer signs (nb i) (nb (suc i)) (T.side_there points old
+      new outer outer' m v k nb star i h)) [ inl s ↦ absurd (no_face_behind i h s) | inr o ↦ o ]
 
   some : 0 < k
-  some = elim (cases_lt 0 k) [ inl l ↦ l | inr l ↦ absurd (left_not_zero corner (ap (λ o. bracket (at p v) (at p (nb 0)) (at p (nb o))) (none l) ∙ O.turn_own n p old outer signs v (nb 0))) ]
+  some = elim (cases_lt 0 k) [
+    | inl l ↦ l
+    | inr l ↦ absurd (left_not_zero corner (ap (λ o. bracket (at p v) (at p (nb 0)) (at p (nb o)))
+        (none l) ∙ O.turn_own n p old outer signs v (nb 0)))
+  ]
     where
       none : k ≤ 0 → k ≡ 0
       none l = omega arith
 
   -- all others are on the line of neighbours 0 and 1
   on_line : (z : ℕ) → IsOther points v z → bracket (at p (nb 0)) (at p (nb 1)) (at p z) ≡ pos 0
-  on_line z h = between_zero (H.not_beyond n p old outer signs v k nb star corner bent 0 some z h.0 h.1) (negated_below (bracket-swap (at p (nb 0)) (at p (nb 1)) (at p z)) (signs.supporting (nb 1, nb 0) (back 0 some) z h.0))
+  on_line z h =
+      between_zero (H.not_beyond n p old outer signs v k nb star corner bent 0 some z h.0 h.1)
+      (negated_below (bracket-swap (at p (nb 0)) (at p (nb 1)) (at p z))
+      (signs.supporting (nb 1, nb 0) (back 0 some) z h.0))
 
-  level : (a b c : ℕ) → IsOther points v a → IsOther points v b → IsOther points v c → bracket (at p a) (at p b) (at p c) ≡ pos 0
-  level a b c x y z = flat (p (nb 0)) (p (nb 1)) (at p a) (at p b) (at p c) (signs.distinct (nb 0) (nb 1) (other 0 (omega arith)).0 (other 1 some).0 (differ 0 1 (omega arith) some)) (on_line a x) (on_line b y) (on_line c z)
+  level : (a b c : ℕ) → IsOther points v a → IsOther points v b → IsOther points v c
+      → bracket (at p a) (at p b) (at p c) ≡ pos 0
+  level a b c x y z = flat (p (nb 0)) (p (nb 1)) (at p a) (at p b) (at p c) (signs.distinct (nb 0)
+      (nb 1) (other 0 (omega arith)).0 (other 1 some).0 (differ 0 1 (omega arith) some))
+      (on_line a x) (on_line b y) (on_line c z)
 
   -- a neighbour is strictly between the one before and each one that is further on
-  between : (i j : ℕ) → suc i < j → j ≤ k → WithinSegment (whole (p (nb i))) (whole (p (nb j))) (whole (p (nb (suc i))))
-  between i j h l = mean_of_two IsPositive (whole (p (nb i))) (whole (p (nb j))) (whole (p (nb (suc i)))) (record {
-    k = bracket (at p (nb j)) (at p v) (at p (nb (suc i)));
-    l = bracket (at p v) (at p (nb i)) (at p (nb (suc i)));
-    n = bracket (at p v) (at p (nb i)) (at p (nb j));
-    k_allowed = subst (λ z. pos 0 <ℤ z) (bracket-turn (at p v) (at p (nb (suc i))) (at p (nb j)) ∙ bracket-turn (at p (nb (suc i))) (at p (nb j)) (at p v)) (H.later_left n p old outer signs v k nb star corner (suc i) j h l);
-    l_allowed = H.step n p old outer signs v k nb star i (omega arith);
-    positive = H.later_left n p old outer signs v k nb star corner i j (omega arith) l;
-    x = mean (bracket (at p v) (at p (nb i)) (at p (nb j)) *ℤ (p (nb (suc i))).x) (p v).x (bracket (at p (nb j)) (at p v) (at p (nb (suc i))) *ℤ (p (nb i)).x) (bracket (at p v) (at p (nb i)) (at p (nb (suc i))) *ℤ (p (nb j)).x) (cramer_x (at p v) (at p (nb i)) (at p (nb j)) (at p (nb (suc i))));
-    y = mean (bracket (at p v) (at p (nb i)) (at p (nb j)) *ℤ (p (nb (suc i))).y) (p v).y (bracket (at p (nb j)) (at p v) (at p (nb (suc i))) *ℤ (p (nb i)).y) (bracket (at p v) (at p (nb i)) (at p (nb (suc i))) *ℤ (p (nb j)).y) (cramer_y (at p v) (at p (nb i)) (at p (nb j)) (at p (nb (suc i))));
-    w = mean (bracket (at p v) (at p (nb i)) (at p (nb j)) *ℤ pos 1) (pos 1) (bracket (at p (nb j)) (at p v) (at p (nb (suc i))) *ℤ pos 1) (bracket (at p v) (at p (nb i)) (at p (nb (suc i))) *ℤ pos 1) (cramer_w (at p v) (at p (nb i)) (at p (nb j)) (at p (nb (suc i))));
-  })
+  between : (i j : ℕ) → suc i < j → j ≤ k
+      → WithinSegment (whole (p (nb i))) (whole (p (nb j))) (whole (p (nb (suc i))))
+  between i j h l = mean_of_two IsPositive (whole (p (nb i))) (whole (p (nb j)))
+      (whole (p (nb (suc i)))) (record {
+        k = bracket (at p (nb j)) (at p v) (at p (nb (suc i)));
+        l = bracket (at p v) (at p (nb i)) (at p (nb (suc i)));
+        n = bracket (at p v) (at p (nb i)) (at p (nb j));
+        k_allowed = subst (λ z. pos 0 <ℤ z) (bracket-turn (at p v) (at p (nb (suc i))) (at p (nb j))
+            ∙ bracket-turn (at p (nb (suc i))) (at p (nb j)) (at p v))
+            (H.later_left n p old outer signs v k nb star corner (suc i) j h l);
+        l_allowed = H.step n p old outer signs v k nb star i (omega arith);
+        positive = H.later_left n p old outer signs v k nb star corner i j (omega arith) l;
+        x = mean (bracket (at p v) (at p (nb i)) (at p (nb j)) *ℤ (p (nb (suc i))).x) (p v).x
+            (bracket (at p (nb j)) (at p v) (at p (nb (suc i))) *ℤ (p (nb i)).x)
+            (bracket (at p v) (at p (nb i)) (at p (nb (suc i))) *ℤ (p (nb j)).x)
+            (cramer_x (at p v) (at p (nb i)) (at p (nb j)) (at p (nb (suc i))));
+        y = mean (bracket (at p v) (at p (nb i)) (at p (nb j)) *ℤ (p (nb (suc i))).y) (p v).y
+            (bracket (at p (nb j)) (at p v) (at p (nb (suc i))) *ℤ (p (nb i)).y)
+            (bracket (at p v) (at p (nb i)) (at p (nb (suc i))) *ℤ (p (nb j)).y)
+            (cramer_y (at p v) (at p (nb i)) (at p (nb j)) (at p (nb (suc i))));
+        w = mean (bracket (at p v) (at p (nb i)) (at p (nb j)) *ℤ pos 1) (pos 1)
+            (bracket (at p (nb j)) (at p v) (at p (nb (suc i))) *ℤ pos 1)
+            (bracket (at p v) (at p (nb i)) (at p (nb (suc i))) *ℤ pos 1)
+            (cramer_w (at p v) (at p (nb i)) (at p (nb j)) (at p (nb (suc i))));
+      })
     where
-      mean : (s x a b : ℤ) → s ≡ bracket (at p (nb i)) (at p (nb j)) (at p (nb (suc i))) *ℤ x +ℤ a +ℤ b → s ≡ a +ℤ b
-      mean s x a b e = sum_without_first s (bracket (at p (nb i)) (at p (nb j)) (at p (nb (suc i))) *ℤ x) a b e (product_zero_left x (level (nb i) (nb j) (nb (suc i)) (other i (omega arith)) (other j l) (other (suc i) (omega arith))))
+      mean : (s x a b : ℤ)
+          → s ≡ bracket (at p (nb i)) (at p (nb j)) (at p (nb (suc i))) *ℤ x +ℤ a +ℤ b → s ≡ a +ℤ b
+      mean s x a b e = sum_without_first s (bracket (at p (nb i)) (at p (nb j)) (at p (nb (suc i)))
+          *ℤ x) a b e (product_zero_left x (level (nb i) (nb j) (nb (suc i)) (other i (omega arith))
+          (other j l) (other (suc i) (omega arith))))
 
-  joined : (i j : ℕ) → i < j → j ≤ k → ((z : ℕ) → IsOther points v z → ¬ WithinSegment (place points (nb i)) (place points (nb j)) (place points z)) → suc i ≡ j
-  joined i j h l none = elim (cases_eq (suc i) j) [ inl e ↦ e | inr ne ↦ absurd (none (nb (suc i)) (other (suc i) (omega arith)) (between i j (short ne) l)) ]
+  joined : (i j : ℕ) → i < j → j ≤ k → ((z : ℕ) → IsOther points v z
+      → ¬ WithinSegment (place points (nb i)) (place points (nb j)) (place points z)) → suc i ≡ j
+  joined i j h l none = elim (cases_eq (suc i) j) [
+    | inl e ↦ e
+    | inr ne ↦ absurd (none (nb (suc i)) (other (suc i) (omega arith)) (between i j (short ne) l))
+  ]
     where
       short : suc i ≢ j → suc i < j
       short ne = omega arith
 
   -- the outer edges that are left are the two ways between neighbours
   back_kept : (i : ℕ) → i < k → Contains outer' (nb (suc i), nb i)
-  back_kept i h = outer_change.kept (nb (suc i)) (nb i) (back i h) (λ c. elim (each AtV (nb 0, v) ((v, nb k) ∷ []) (inr refl) (each AtV (v, nb k) [] (inl refl) (each_none AtV)) (nb (suc i), nb i) c) [ inl e ↦ not_v (suc i) h e | inr e ↦ not_v i (omega arith) e ])
+  back_kept i h = outer_change.kept (nb (suc i)) (nb i) (back i h) (λ c. elim (each AtV (nb 0, v)
+      ((v, nb k) ∷ []) (inr refl) (each AtV (v, nb k) [] (inl refl) (each_none AtV))
+      (nb (suc i), nb i) c) [ inl e ↦ not_v (suc i) h e | inr e ↦ not_v i (omega arith) e ])
     where
       AtV : ℕ × ℕ → Type 0
       AtV e = (e.0 ≡ v) ⊎ (e.1 ≡ v)
 
   edge_of : (a b : ℕ) → Contains outer' (a, b) → AreNeighboursBut v points a b
   edge_of a b h = elim (outer_change.only a b h) [
-    | inl o ↦ (let c = m.ends (a, b) o.0 in let d = T.own_all points old new outer outer' m v k nb star (a, b) o.0 o.1 in record { apart = c.2; first = (c.0, d.0); second = (c.1, d.1); none_between = λ z l. m.bare (a, b) o.0 z l.0 })
-    | inr o ↦ T.each_chain points old new outer outer' m v k nb star (λ e. AreNeighboursBut v points e.0 e.1) k (λ i h. record {
-      apart = differ i (suc i) (omega arith) h;
-      first = other i (omega arith);
-      second = other (suc i) h;
-      none_between = λ z l. E.side_bare n p old outer signs (nb i) (nb (suc i)) z (inl (T.side_there points old new outer outer' m v k nb star i h)) l.0;
-    }) (a, b) o
+    | inl o ↦ (let c = m.ends (a, b) o.0 in
+        let d = T.own_all points old new outer outer' m v k nb star (a, b) o.0 o.1 in record {
+          apart = c.2;
+          first = (c.0, d.0);
+          second = (c.1, d.1);
+          none_between = λ z l. m.bare (a, b) o.0 z l.0;
+        })
+    | inr o ↦ T.each_chain points old new outer outer' m v k nb star
+        (λ e. AreNeighboursBut v points e.0 e.1) k (λ i h. record {
+          apart = differ i (suc i) (omega arith) h;
+          first = other i (omega arith);
+          second = other (suc i) h;
+          none_between = λ z l. E.side_bare n p old outer signs (nb i) (nb (suc i)) z
+              (inl (T.side_there points old new outer outer' m v k nb star i h)) l.0;
+        }) (a, b) o
   ]
 
   of_edge : (a b : ℕ) → AreNeighboursBut v points a b → Contains outer' (a, b)
   of_edge a b s = go (named a s.first.0 s.first.1) (named b s.second.0 s.second.1)
     where
       go : Named a → Named b → Contains outer' (a, b)
-      go (i, hi, ea) (j, hj, eb) = elim (cases_eq i j) [ inl e ↦ absurd (s.apart (ea ∙ ap nb e ∙ sym eb)) | inr ne ↦ elim (cases_lt i j) [ inl l ↦ up l | inr l ↦ down (strict ne l) ] ]
+      go (i, hi, ea) (j, hj, eb) = elim (cases_eq i j) [
+        | inl e ↦ absurd (s.apart (ea ∙ ap nb e ∙ sym eb))
+        | inr ne ↦ elim (cases_lt i j) [ inl l ↦ up l | inr l ↦ down (strict ne l) ]
+      ]
         where
           strict : i ≢ j → j ≤ i → j < i
           strict ne l = omega arith
 
-          none : (z : ℕ) → IsOther points v z → ¬ WithinSegment (place points (nb i)) (place points (nb j)) (place points z)
-          none z o w = s.none_between z o (subst (λ (q : ℕ × ℕ). WithinSegment (place points q.0) (place points q.1) (place points z)) (λ t. (sym ea t, sym eb t)) w)
+          none : (z : ℕ) → IsOther points v z
+              → ¬ WithinSegment (place points (nb i)) (place points (nb j)) (place points z)
+          none z o w = s.none_between z o (subst (λ (q : ℕ × ℕ). WithinSegment (place points q.0)
+              (place points q.1) (place points z)) (λ t. (sym ea t, sym eb t)) w)
 
           up : i < j → Contains outer' (a, b)
-          up l = subst (λ (q : ℕ × ℕ). Contains outer' q) (λ t. (sym ea t, (ap nb (joined i j l hj none) ∙ sym eb) t)) (outer_change.come (nb i) (nb (suc i)) (T.in_chain points old new outer outer' m v k nb star k i (omega arith)))
+          up l = subst (λ (q : ℕ × ℕ). Contains outer' q)
+              (λ t. (sym ea t, (ap nb (joined i j l hj none) ∙ sym eb) t)) (outer_change.come (nb i)
+              (nb (suc i)) (T.in_chain points old new outer outer' m v k nb star k i (omega arith)))
 
           down : j < i → Contains outer' (a, b)
-          down l = subst (λ (q : ℕ × ℕ). Contains outer' q) (λ t. ((ap nb (joined j i l hi (λ z o w. none z o (within_turned (p (nb j)) (p (nb i)) (p z) w))) ∙ sym ea) t, sym eb t)) (back_kept j (omega arith))
+          down l = subst (λ (q : ℕ × ℕ). Contains outer' q) (λ t. (
+            (ap nb (joined j i l hi
+                (λ z o w. none z o (within_turned (p (nb j)) (p (nb i)) (p z) w))) ∙ sym ea) t,
+            sym eb t,
+          )) (back_kept j (omega arith))
 
   -- without the vertex the others form a line
   pub line_left : LineMeshWithout v points outer'
   line_left = record {
     distinct = λ i j h l. m.distinct i j h.0 l.0;
-    straight = λ i j l a b c. on_if (place points i) (place points j) (place points l) (level i j l a b c);
+    straight =
+        λ i j l a b c. on_if (place points i) (place points j) (place points l) (level i j l a b c);
     neighbours = λ i j. (edge_of i j, of_edge i j);
     once = outer_change.once;
   }

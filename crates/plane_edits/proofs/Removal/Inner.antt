@@ -1,5 +1,7 @@
--- An inner vertex with four neighbours or more: one of its edges can be flipped, or there are four and it is strictly between two opposite ones.
-use Rattle.std.proofs.Common.{◌≡◌, ◌⊎◌, ℕ, zero, suc, ◌<◌, ◌≤◌, List, [], ◌∷◌, sym, ap, ◌∙◌, subst, arith}
+-- An inner vertex with four neighbours or more: one of its edges can be flipped, or there are four
+-- and it is strictly between two opposite ones.
+use Rattle.std.proofs.Common.{◌≡◌, ◌⊎◌, ◌<◌, ◌≤◌, [], ◌∷◌, ◌∙◌}
+use Rattle.std.proofs.Common.{ℕ, zero, suc, List, sym, ap, subst, arith}
 use Prim.Native.Nat.{◌+◌, ◌-◌}
 use mathlib.Core.Logic.{inl, inr, ◌≢◌}
 use Rattle.std.specs.Prelude.{ℤ, pos, ◌-ℤ◌, ◌*ℤ◌, ◌≤ℤ◌, ◌<ℤ◌, neg_ℤ}
@@ -10,7 +12,8 @@ use Rattle.plane.specs.Tiling.{Face}
 use Rattle.plane.proofs.IntegerOrder.{lt_or_ge_ℤ}
 use Rattle.plane.proofs.Solver.{◌⊕◌, ◌⊖◌, ◌⊗◌, ring_over}
 use Rattle.plane.proofs.Bracket.{Vec3, bracket, bracketᵖ, vec3, lift}
-use Rattle.plane.proofs.BracketIdentities.{bracket-turn, bracket-swap, bracket-outer, bracket-last, form}
+use Rattle.plane.proofs.BracketIdentities.{bracket-turn, bracket-swap, bracket-outer, bracket-last}
+use Rattle.plane.proofs.BracketIdentities.{form}
 use Rattle.plane_tiling.proofs.Flows.{IsTurnOf}
 use Rattle.plane_tiling.proofs.Counting.{at, SignMesh}
 use Rattle.plane_tiling.proofs.Covering as C
@@ -20,7 +23,8 @@ use Rattle.plane.proofs.Signs.{zero_below_positive}
 
 -- ---- a search among some numbers in a row
 -- of the numbers from low on, count many, one has P, or all have Q
-pub search : (P Q : ℕ → Type 0) → ((i : ℕ) → P i ⊎ Q i) → (low count : ℕ) → ((i : ℕ) × (low ≤ i) × (i < low + count) × P i) ⊎ ((i : ℕ) → low ≤ i → i < low + count → Q i)
+pub search : (P Q : ℕ → Type 0) → ((i : ℕ) → P i ⊎ Q i) → (low count : ℕ)
+    → ((i : ℕ) × (low ≤ i) × (i < low + count) × P i) ⊎ ((i : ℕ) → low ≤ i → i < low + count → Q i)
 search P Q d low zero = inr (λ i h k. absurd (omega arith))
 search P Q d low (suc count) = go (search P Q d low count) (d (low + count))
   where
@@ -30,34 +34,56 @@ search P Q d low (suc count) = go (search P Q d low count) (d (low + count))
     wide : (i : ℕ) → i < low + count → i < low + suc count
     wide i h = omega arith
 
-    go : ((i : ℕ) × (low ≤ i) × (i < low + count) × P i) ⊎ ((i : ℕ) → low ≤ i → i < low + count → Q i) → P (low + count) ⊎ Q (low + count) → ((i : ℕ) × (low ≤ i) × (i < low + suc count) × P i) ⊎ ((i : ℕ) → low ≤ i → i < low + suc count → Q i)
+    go : ((i : ℕ) × (low ≤ i) × (i < low + count) × P i)
+        ⊎ ((i : ℕ) → low ≤ i → i < low + count → Q i) → P (low + count) ⊎ Q (low + count)
+        → ((i : ℕ) × (low ≤ i) × (i < low + suc count) × P i)
+        ⊎ ((i : ℕ) → low ≤ i → i < low + suc count → Q i)
     go (inl (i, h, k, x)) y = inl (i, h, wide i k, x)
     go (inr none) (inl x) = inl (low + count, omega arith, omega arith, x)
-    go (inr none) (inr y) = inr (λ i h k. elim (last_or i k) [ inl l ↦ none i h l | inr e ↦ subst Q (sym e) y ])
+    go (inr none) (inr y) =
+        inr (λ i h k. elim (last_or i k) [ inl l ↦ none i h l | inr e ↦ subst Q (sym e) y ])
 
 -- a bracket as a linear form of its last point
-bracket_is_form : (a b z : Vec3) → bracket a b z ≡ form (a.y *ℤ b.w -ℤ a.w *ℤ b.y) (a.w *ℤ b.x -ℤ a.x *ℤ b.w) (a.x *ℤ b.y -ℤ a.y *ℤ b.x) z
+bracket_is_form : (a b z : Vec3) → bracket a b z
+    ≡ form (a.y *ℤ b.w -ℤ a.w *ℤ b.y) (a.w *ℤ b.x -ℤ a.x *ℤ b.w) (a.x *ℤ b.y -ℤ a.y *ℤ b.x) z
 unfolding bracket
-bracket_is_form a b z = ring_over vec3 [] (a ∷ b ∷ z ∷ []) bracketᵖ (λ a b z. (a.y ⊗ b.w ⊖ a.w ⊗ b.y) ⊗ z.x ⊕ (a.w ⊗ b.x ⊖ a.x ⊗ b.w) ⊗ z.y ⊕ (a.x ⊗ b.y ⊖ a.y ⊗ b.x) ⊗ z.w) tt
+bracket_is_form a b z =
+    ring_over vec3 [] (a ∷ b ∷ z ∷ []) bracketᵖ (λ a b z. (a.y ⊗ b.w ⊖ a.w ⊗ b.y) ⊗ z.x
+    ⊕ (a.w ⊗ b.x ⊖ a.x ⊗ b.w) ⊗ z.y ⊕ (a.x ⊗ b.y ⊖ a.y ⊗ b.x) ⊗ z.w) tt
 
 -- a point is farthest left of the way to b: less than before, and not less than after
-pub turns_at_farthest : (o v a b c : Point) → pos 0 <ℤ bracket (lift v) (lift a) (lift b) → pos 0 <ℤ bracket (lift v) (lift b) (lift c) → pos 0 <ℤ bracket (lift o) (lift v) (lift b)
-    → bracket (lift o) (lift v) (lift a) <ℤ bracket (lift o) (lift v) (lift b) → bracket (lift o) (lift v) (lift c) ≤ℤ bracket (lift o) (lift v) (lift b) → pos 0 <ℤ bracket (lift a) (lift b) (lift c)
+pub turns_at_farthest : (o v a b c : Point) → pos 0 <ℤ bracket (lift v) (lift a) (lift b)
+    → pos 0 <ℤ bracket (lift v) (lift b) (lift c) → pos 0 <ℤ bracket (lift o) (lift v) (lift b)
+    → bracket (lift o) (lift v) (lift a) <ℤ bracket (lift o) (lift v) (lift b)
+    → bracket (lift o) (lift v) (lift c) ≤ℤ bracket (lift o) (lift v) (lift b)
+    → pos 0 <ℤ bracket (lift a) (lift b) (lift c)
 turns_at_farthest o v a b c ab bc at_b low not_high =
     let k = o.y *ℤ pos 1 -ℤ pos 1 *ℤ v.y in
     let l = pos 1 *ℤ v.x -ℤ o.x *ℤ pos 1 in
     let w = o.x *ℤ v.y -ℤ o.y *ℤ v.x in
-    first_maximum k l w v a b c ab bc (sym (bracket_is_form (lift o) (lift v) (lift v)) ∙ bracket-last (lift o) (lift v)) (subst (λ z. pos 0 <ℤ z) (bracket_is_form (lift o) (lift v) (lift b)) at_b)
-    (subst (λ (z : ℤ × ℤ). z.0 <ℤ z.1) (λ i. (bracket_is_form (lift o) (lift v) (lift a) i, bracket_is_form (lift o) (lift v) (lift b) i)) low)
-    (subst (λ (z : ℤ × ℤ). z.0 ≤ℤ z.1) (λ i. (bracket_is_form (lift o) (lift v) (lift c) i, bracket_is_form (lift o) (lift v) (lift b) i)) not_high)
+    first_maximum k l w v a b c ab bc
+    (sym (bracket_is_form (lift o) (lift v) (lift v)) ∙ bracket-last (lift o) (lift v))
+    (subst (λ z. pos 0 <ℤ z) (bracket_is_form (lift o) (lift v) (lift b)) at_b)
+    (subst (λ (z : ℤ × ℤ). z.0 <ℤ z.1) (λ i. (
+      bracket_is_form (lift o) (lift v) (lift a) i,
+      bracket_is_form (lift o) (lift v) (lift b) i,
+    )) low)
+    (subst (λ (z : ℤ × ℤ). z.0 ≤ℤ z.1) (λ i. (
+      bracket_is_form (lift o) (lift v) (lift c) i,
+      bracket_is_form (lift o) (lift v) (lift b) i,
+    )) not_high)
 
--- numbers that begin at or below 0, and do not rise at their end, which is above 0: somewhere they rise, and then do not
-pub descend : (g : ℕ → ℤ) → g 1 ≤ℤ pos 0 → (t : ℕ) → pos 0 <ℤ g (suc (suc t)) → g (suc (suc (suc t))) ≤ℤ g (suc (suc t)) → (s : ℕ) × (s ≤ t) × (pos 0 <ℤ g (suc (suc s))) × (g (suc s) <ℤ g (suc (suc s))) × (g (suc (suc (suc s))) ≤ℤ g (suc (suc s)))
+-- numbers that begin at or below 0, and do not rise at their end, which is above 0: somewhere they
+-- rise, and then do not
+pub descend : (g : ℕ → ℤ) → g 1 ≤ℤ pos 0 → (t : ℕ) → pos 0 <ℤ g (suc (suc t))
+    → g (suc (suc (suc t))) ≤ℤ g (suc (suc t)) → (s : ℕ) × (s ≤ t) × (pos 0 <ℤ g (suc (suc s)))
+    × (g (suc s) <ℤ g (suc (suc s))) × (g (suc (suc (suc s))) ≤ℤ g (suc (suc s)))
 descend g low zero h k = (0, omega arith, h, below (g 1) (g 2) low h, k)
   where
     below : (a b : ℤ) → a ≤ℤ pos 0 → pos 0 <ℤ b → a <ℤ b
     below a b h k = omega (arith, ints)
-descend g low (suc t) h k = go (descend g low t) (lt_or_ge_ℤ (g (suc (suc t))) (g (suc (suc (suc t)))))
+descend g low (suc t) h k =
+    go (descend g low t) (lt_or_ge_ℤ (g (suc (suc t))) (g (suc (suc (suc t)))))
   where
     above : (a b : ℤ) → b ≤ℤ a → pos 0 <ℤ b → pos 0 <ℤ a
     above a b h k = omega (arith, ints)
@@ -65,12 +91,18 @@ descend g low (suc t) h k = go (descend g low t) (lt_or_ge_ℤ (g (suc (suc t)))
     wider : {s : ℕ} → s ≤ t → s ≤ suc t
     wider h = omega arith
 
-    go : (pos 0 <ℤ g (suc (suc t)) → g (suc (suc (suc t))) ≤ℤ g (suc (suc t)) → (s : ℕ) × (s ≤ t) × (pos 0 <ℤ g (suc (suc s))) × (g (suc s) <ℤ g (suc (suc s))) × (g (suc (suc (suc s))) ≤ℤ g (suc (suc s))))
-        → (g (suc (suc t)) <ℤ g (suc (suc (suc t)))) ⊎ (g (suc (suc (suc t))) ≤ℤ g (suc (suc t))) → (s : ℕ) × (s ≤ suc t) × (pos 0 <ℤ g (suc (suc s))) × (g (suc s) <ℤ g (suc (suc s))) × (g (suc (suc (suc s))) ≤ℤ g (suc (suc s)))
+    go : (pos 0 <ℤ g (suc (suc t)) → g (suc (suc (suc t))) ≤ℤ g (suc (suc t))
+        → (s : ℕ) × (s ≤ t) × (pos 0 <ℤ g (suc (suc s))) × (g (suc s) <ℤ g (suc (suc s)))
+        × (g (suc (suc (suc s))) ≤ℤ g (suc (suc s))))
+        → (g (suc (suc t)) <ℤ g (suc (suc (suc t)))) ⊎ (g (suc (suc (suc t))) ≤ℤ g (suc (suc t)))
+        → (s : ℕ) × (s ≤ suc t) × (pos 0 <ℤ g (suc (suc s))) × (g (suc s) <ℤ g (suc (suc s)))
+        × (g (suc (suc (suc s))) ≤ℤ g (suc (suc s)))
     go rest (inl l) = (suc t, omega arith, h, l, k)
-    go rest (inr l) = let r = rest (above (g (suc (suc t))) (g (suc (suc (suc t)))) l h) l in (r.0, wider r.1, r.2, r.3, r.4)
+    go rest (inr l) = let r = rest (above (g (suc (suc t))) (g (suc (suc (suc t)))) l h) l in
+        (r.0, wider r.1, r.2, r.3, r.4)
 
-module _ (n : ℕ) (p : ℕ → Point) (faces : List Face) (outer : List (ℕ × ℕ)) (m : SignMesh n p faces outer) (v : ℕ) where
+module _ (n : ℕ) (p : ℕ → Point) (faces : List Face) (outer : List (ℕ × ℕ))
+    (m : SignMesh n p faces outer) (v : ℕ) where
   abbrev turn : ℕ → ℕ → ℤ
   turn i j = bracket (at p v) (at p i) (at p j)
 
@@ -80,11 +112,15 @@ module _ (n : ℕ) (p : ℕ → Point) (faces : List Face) (outer : List (ℕ ×
 
   -- the edge to neighbour i + 1 can be flipped
   abbrev pub CanFlip : (ℕ → ℕ) → ℕ → Type 0
-  CanFlip nb i = (pos 0 <ℤ bracket (at p (nb i)) (at p (nb (suc i))) (at p (nb (suc (suc i))))) × (pos 0 <ℤ turn (nb i) (nb (suc (suc i))))
+  CanFlip nb i = (pos 0 <ℤ bracket (at p (nb i)) (at p (nb (suc i))) (at p (nb (suc (suc i)))))
+      × (pos 0 <ℤ turn (nb i) (nb (suc (suc i))))
 
   -- all corners but those at neighbours 0 and 1 turn left, seen from v
-  among_good : (nb : ℕ → ℕ) (t : ℕ) → IsRound nb → nb (suc (suc (suc t))) ≡ nb 0 → ((i : ℕ) → i ≤ t → pos 0 <ℤ turn (nb (suc i)) (nb (suc (suc (suc i))))) → (i : ℕ) × CanFlip nb i
-  among_good nb t round again good = go (descend (λ i. bracket (at p (nb 0)) (at p v) (at p (nb i))) first t last ended)
+  among_good : (nb : ℕ → ℕ) (t : ℕ) → IsRound nb → nb (suc (suc (suc t))) ≡ nb 0
+      → ((i : ℕ) → i ≤ t → pos 0 <ℤ turn (nb (suc i)) (nb (suc (suc (suc i)))))
+      → (i : ℕ) × CanFlip nb i
+  among_good nb t round again good =
+      go (descend (λ i. bracket (at p (nb 0)) (at p v) (at p (nb i))) first t last ended)
     where
       step : (i : ℕ) → pos 0 <ℤ turn (nb i) (nb (suc i))
       step i = C.turn_left_of n p faces outer m v (nb i) (nb (suc i)) (round i)
@@ -93,28 +129,55 @@ module _ (n : ℕ) (p : ℕ → Point) (faces : List Face) (outer : List (ℕ ×
       weak_right' a b e h = omega (arith, ints)
 
       first : bracket (at p (nb 0)) (at p v) (at p (nb 1)) ≤ℤ pos 0
-      first = weak_right' (bracket (at p (nb 0)) (at p v) (at p (nb 1))) (turn (nb 0) (nb 1)) (bracket-swap (at p (nb 0)) (at p v) (at p (nb 1))) (step 0)
+      first = weak_right' (bracket (at p (nb 0)) (at p v) (at p (nb 1))) (turn (nb 0) (nb 1))
+          (bracket-swap (at p (nb 0)) (at p v) (at p (nb 1))) (step 0)
 
       -- neighbour 0 comes after the last
       last : pos 0 <ℤ bracket (at p (nb 0)) (at p v) (at p (nb (suc (suc t))))
-      last = subst (λ z. pos 0 <ℤ z) ((λ i. turn (nb (suc (suc t))) (again i)) ∙ bracket-turn (at p v) (at p (nb (suc (suc t)))) (at p (nb 0)) ∙ bracket-turn (at p (nb (suc (suc t)))) (at p (nb 0)) (at p v)) (step (suc (suc t)))
+      last = subst (λ z. pos 0 <ℤ z) ((λ i. turn (nb (suc (suc t))) (again i))
+          ∙ bracket-turn (at p v) (at p (nb (suc (suc t)))) (at p (nb 0))
+          ∙ bracket-turn (at p (nb (suc (suc t)))) (at p (nb 0)) (at p v)) (step (suc (suc t)))
 
-      ended : bracket (at p (nb 0)) (at p v) (at p (nb (suc (suc (suc t))))) ≤ℤ bracket (at p (nb 0)) (at p v) (at p (nb (suc (suc t))))
-      ended = zero_below_positive (bracket (at p (nb 0)) (at p v) (at p (nb (suc (suc (suc t)))))) (bracket (at p (nb 0)) (at p v) (at p (nb (suc (suc t))))) (ap (λ o. bracket (at p (nb 0)) (at p v) (at p o)) again ∙ bracket-outer (at p (nb 0)) (at p v)) last
+      ended : bracket (at p (nb 0)) (at p v) (at p (nb (suc (suc (suc t)))))
+          ≤ℤ bracket (at p (nb 0)) (at p v) (at p (nb (suc (suc t))))
+      ended = zero_below_positive (bracket (at p (nb 0)) (at p v) (at p (nb (suc (suc (suc t))))))
+          (bracket (at p (nb 0)) (at p v) (at p (nb (suc (suc t)))))
+          (ap (λ o. bracket (at p (nb 0)) (at p v) (at p o)) again
+          ∙ bracket-outer (at p (nb 0)) (at p v)) last
 
-      go : (s : ℕ) × (s ≤ t) × (pos 0 <ℤ bracket (at p (nb 0)) (at p v) (at p (nb (suc (suc s))))) × (bracket (at p (nb 0)) (at p v) (at p (nb (suc s))) <ℤ bracket (at p (nb 0)) (at p v) (at p (nb (suc (suc s))))) × (bracket (at p (nb 0)) (at p v) (at p (nb (suc (suc (suc s))))) ≤ℤ bracket (at p (nb 0)) (at p v) (at p (nb (suc (suc s)))))
-          → (i : ℕ) × CanFlip nb i
-      go (s, h, high, low, not_high) = (suc s, (turns_at_farthest (p (nb 0)) (p v) (p (nb (suc s))) (p (nb (suc (suc s)))) (p (nb (suc (suc (suc s))))) (step (suc s)) (step (suc (suc s))) high low not_high, good s h))
+      go : (s : ℕ) × (s ≤ t) × (pos 0 <ℤ bracket (at p (nb 0)) (at p v) (at p (nb (suc (suc s)))))
+          × (bracket (at p (nb 0)) (at p v) (at p (nb (suc s)))
+          <ℤ bracket (at p (nb 0)) (at p v) (at p (nb (suc (suc s)))))
+          × (bracket (at p (nb 0)) (at p v) (at p (nb (suc (suc (suc s)))))
+          ≤ℤ bracket (at p (nb 0)) (at p v) (at p (nb (suc (suc s))))) → (i : ℕ) × CanFlip nb i
+      go (s, h, high, low, not_high) = (
+        suc s,
+        (
+          turns_at_farthest (p (nb 0)) (p v) (p (nb (suc s))) (p (nb (suc (suc s)))) (p (nb
+              (suc (suc (suc s))))) (step (suc s)) (step (suc (suc s))) high low not_high,
+          good s h,
+        ),
+      )
 
-  -- a corner that does not turn left, and one two steps on or more, on the same round: they are opposite in a star of four
+  -- a corner that does not turn left, and one two steps on or more, on the same round: they are
+  -- opposite in a star of four
   pub record IsFour (nb : ℕ → ℕ) (k i : ℕ) : Type 0 where
     pub four : k ≡ 4
     pub between : WithinSegment (whole (p (nb i))) (whole (p (nb (suc (suc i))))) (whole (p v))
 
-  opposite : (nb : ℕ → ℕ) (k j : ℕ) → IsRound nb → ((i : ℕ) → nb (i + k) ≡ nb i) → ((i j : ℕ) → i < k → j < k → nb i ≡ nb j → i ≡ j) → 2 ≤ j → j + 2 ≤ k → turn (nb 0) (nb 2) ≤ℤ pos 0 → turn (nb j) (nb (suc (suc j))) ≤ℤ pos 0 → IsFour nb k 0
+  opposite : (nb : ℕ → ℕ) (k j : ℕ) → IsRound nb → ((i : ℕ) → nb (i + k) ≡ nb i)
+      → ((i j : ℕ) → i < k → j < k → nb i ≡ nb j → i ≡ j) → 2 ≤ j → j + 2 ≤ k
+      → turn (nb 0) (nb 2) ≤ℤ pos 0 → turn (nb j) (nb (suc (suc j))) ≤ℤ pos 0 → IsFour nb k 0
   opposite nb k j round again apart low high bad bad' = record {
     four = lengths (apart 2 j (omega arith) (omega arith) meet) (at_end (cases_eq (j + 2) k));
-    between = O.between n p faces outer m v (nb 0) (nb 1) (nb 2) (nb j) (nb (suc j)) (nb (suc (suc j))) (nb 3) (nb (suc (suc (suc j)))) (round 0) (round 1) (round 2) bad (round j) (round (suc j)) (round (suc (suc j))) bad' (differ 0 j (omega arith) (omega arith) (λ e. omega arith)) (differ 0 (suc j) (omega arith) (omega arith) (λ e. omega arith)) (differ 1 j (omega arith) (omega arith) (λ e. omega arith)) (differ 1 (suc j) (omega arith) (omega arith) (λ e. omega arith)) (differ 2 (suc j) (omega arith) (omega arith) (λ e. omega arith)) after_not_first;
+    between =
+        O.between n p faces outer m v (nb 0) (nb 1) (nb 2) (nb j) (nb (suc j)) (nb (suc (suc j)))
+        (nb 3) (nb (suc (suc (suc j)))) (round 0) (round 1) (round 2) bad (round j) (round (suc j))
+        (round (suc (suc j))) bad' (differ 0 j (omega arith) (omega arith) (λ e. omega arith))
+        (differ 0 (suc j) (omega arith) (omega arith) (λ e. omega arith))
+        (differ 1 j (omega arith) (omega arith) (λ e. omega arith))
+        (differ 1 (suc j) (omega arith) (omega arith) (λ e. omega arith))
+        (differ 2 (suc j) (omega arith) (omega arith) (λ e. omega arith)) after_not_first;
   }
     where
       differ : (a b : ℕ) → a < k → b < k → a ≢ b → nb a ≢ nb b
@@ -128,25 +191,41 @@ module _ (n : ℕ) (p : ℕ → Point) (faces : List Face) (outer : List (ℕ ×
           short h n = omega arith
 
           go : (j + 2 ≡ k) ⊎ (j + 2 ≡ k → ⊥) → ⊥
-          go (inl s) = differ 0 1 (omega arith) (omega arith) (λ e. omega arith) (sym (again 0) ∙ ap nb (wrapped s) ∙ e)
+          go (inl s) = differ 0 1 (omega arith) (omega arith) (λ e. omega arith)
+              (sym (again 0) ∙ ap nb (wrapped s) ∙ e)
             where
               wrapped : j + 2 ≡ k → 0 + k ≡ suc (suc j)
               wrapped s = omega arith
           go (inr s) = differ (suc (suc j)) 1 (short high s) (omega arith) (λ e. omega arith) e
 
       meet : nb 2 ≡ nb j
-      meet = O.corners_meet n p faces outer m v (nb 0) (nb 1) (nb 2) (nb j) (nb (suc j)) (nb (suc (suc j))) (nb 3) (nb (suc (suc (suc j)))) (round 0) (round 1) (round 2) bad (round j) (round (suc j)) (round (suc (suc j))) bad' (differ 0 j (omega arith) (omega arith) (λ e. omega arith)) (differ 0 (suc j) (omega arith) (omega arith) (λ e. omega arith)) (differ 1 j (omega arith) (omega arith) (λ e. omega arith)) (differ 1 (suc j) (omega arith) (omega arith) (λ e. omega arith)) (differ 2 (suc j) (omega arith) (omega arith) (λ e. omega arith)) after_not_first
+      meet = O.corners_meet n p faces outer m v (nb 0) (nb 1) (nb 2) (nb j) (nb (suc j))
+          (nb (suc (suc j))) (nb 3) (nb (suc (suc (suc j)))) (round 0) (round 1) (round 2) bad
+          (round j) (round (suc j)) (round (suc (suc j))) bad'
+          (differ 0 j (omega arith) (omega arith) (λ e. omega arith))
+          (differ 0 (suc j) (omega arith) (omega arith) (λ e. omega arith))
+          (differ 1 j (omega arith) (omega arith) (λ e. omega arith))
+          (differ 1 (suc j) (omega arith) (omega arith) (λ e. omega arith))
+          (differ 2 (suc j) (omega arith) (omega arith) (λ e. omega arith)) after_not_first
 
       lengths : 2 ≡ j → j + 2 ≡ k → k ≡ 4
       lengths h e = omega arith
 
       -- seen from the second corner, the round ends where it began
       meet' : suc (suc j) < k → nb (suc (suc j)) ≡ nb 0
-      meet' h = O.corners_meet n p faces outer m v (nb j) (nb (suc j)) (nb (suc (suc j))) (nb 0) (nb 1) (nb 2) (nb (suc (suc (suc j)))) (nb 3) (round j) (round (suc j)) (round (suc (suc j))) bad' (round 0) (round 1) (round 2) bad (differ j 0 (omega arith) (omega arith) (λ e. omega arith)) (differ j 1 (omega arith) (omega arith) (λ e. omega arith)) (differ (suc j) 0 (omega arith) (omega arith) (λ e. omega arith)) (differ (suc j) 1 (omega arith) (omega arith) (λ e. omega arith)) after_not_first (differ 2 (suc j) (omega arith) (omega arith) (λ e. omega arith))
+      meet' h = O.corners_meet n p faces outer m v (nb j) (nb (suc j)) (nb (suc (suc j))) (nb 0)
+          (nb 1) (nb 2) (nb (suc (suc (suc j)))) (nb 3) (round j) (round (suc j))
+          (round (suc (suc j))) bad' (round 0) (round 1) (round 2) bad
+          (differ j 0 (omega arith) (omega arith) (λ e. omega arith))
+          (differ j 1 (omega arith) (omega arith) (λ e. omega arith))
+          (differ (suc j) 0 (omega arith) (omega arith) (λ e. omega arith))
+          (differ (suc j) 1 (omega arith) (omega arith) (λ e. omega arith)) after_not_first
+          (differ 2 (suc j) (omega arith) (omega arith) (λ e. omega arith))
 
       at_end : (j + 2 ≡ k) ⊎ (j + 2 ≡ k → ⊥) → j + 2 ≡ k
       at_end (inl s) = s
-      at_end (inr s) = absurd (differ (suc (suc j)) 0 (short high s) (omega arith) (λ e. omega arith) (meet' (short high s)))
+      at_end (inr s) = absurd (differ (suc (suc j)) 0 (short high s) (omega arith)
+          (λ e. omega arith) (meet' (short high s)))
         where
           short : j + 2 ≤ k → j + 2 ≢ k → suc (suc j) < k
           short h n = omega arith
@@ -178,7 +257,8 @@ module _ (n : ℕ) (p : ℕ → Point) (faces : List Face) (outer : List (ℕ ×
   begun_at : (nb : ℕ → ℕ) (k s : ℕ) → IsCycle nb k → s < k → IsCycle (from_step nb s) k
   unfolding from_step
   begun_at nb k s c h = record {
-    round = λ i. subst (λ o. IsTurnOf faces v (nb (i + s)) o) (sym (one_on nb s i)) (c.round (i + s));
+    round =
+        λ i. subst (λ o. IsTurnOf faces v (nb (i + s)) o) (sym (one_on nb s i)) (c.round (i + s));
     again = λ i. ap nb (swapped i) ∙ c.again (i + s);
     apart = λ i j a b e. same i j a b (cases_lt (i + s) k) (cases_lt (j + s) k) e;
   }
@@ -204,22 +284,31 @@ module _ (n : ℕ) (p : ℕ → Point) (faces : List Face) (outer : List (ℕ ×
       mixed : (i j : ℕ) → i < k → s < k → i + s < k → k ≤ j + s → i + s ≡ j + s - k → j < k → ⊥
       mixed i j a h l r e q = omega arith
 
-      same : (i j : ℕ) → i < k → j < k → (i + s < k) ⊎ (k ≤ i + s) → (j + s < k) ⊎ (k ≤ j + s) → nb (i + s) ≡ nb (j + s) → i ≡ j
+      same : (i j : ℕ) → i < k → j < k → (i + s < k) ⊎ (k ≤ i + s) → (j + s < k) ⊎ (k ≤ j + s)
+          → nb (i + s) ≡ nb (j + s) → i ≡ j
       same i j a b (inl x) (inl y) e = both_low i j (c.apart (i + s) (j + s) x y e)
-      same i j a b (inr x) (inr y) e = both_high i j x y (c.apart (i + s - k) (j + s - k) (short i a h x) (short j b h y) (sym (back i x) ∙ e ∙ back j y))
-      same i j a b (inl x) (inr y) e = absurd (mixed i j a h x y (c.apart (i + s) (j + s - k) x (short j b h y) (e ∙ back j y)) b)
-      same i j a b (inr x) (inl y) e = absurd (mixed j i b h y x (c.apart (j + s) (i + s - k) y (short i a h x) (sym e ∙ back i x)) a)
+      same i j a b (inr x) (inr y) e = both_high i j x y (c.apart (i + s - k) (j + s - k)
+          (short i a h x) (short j b h y) (sym (back i x) ∙ e ∙ back j y))
+      same i j a b (inl x) (inr y) e = absurd
+          (mixed i j a h x y (c.apart (i + s) (j + s - k) x (short j b h y) (e ∙ back j y)) b)
+      same i j a b (inr x) (inl y) e = absurd
+          (mixed j i b h y x (c.apart (j + s) (i + s - k) y (short i a h x) (sym e ∙ back i x)) a)
 
   flip_there : (nb : ℕ → ℕ) (s i : ℕ) → CanFlip (from_step nb s) i → CanFlip nb (i + s)
   unfolding from_step
   flip_there nb s i c = (
-    subst (λ (o : ℕ × ℕ). pos 0 <ℤ bracket (at p (nb (i + s))) (at p o.0) (at p o.1)) (λ j. (one_on nb s i j, two_on nb s i j)) c.0,
+    subst (λ (o : ℕ × ℕ). pos 0 <ℤ bracket (at p (nb (i + s))) (at p o.0) (at p o.1))
+        (λ j. (one_on nb s i j, two_on nb s i j)) c.0,
     subst (λ o. pos 0 <ℤ turn (nb (i + s)) o) (two_on nb s i) c.1,
   )
 
   four_there : (nb : ℕ → ℕ) (k s i : ℕ) → IsFour (from_step nb s) k i → IsFour nb k (i + s)
   unfolding from_step
-  four_there nb k s i f = record { four = f.four; between = subst (λ o. WithinSegment (whole (p (nb (i + s)))) (whole (p o)) (whole (p v))) (two_on nb s i) f.between }
+  four_there nb k s i f = record {
+    four = f.four;
+    between = subst (λ o. WithinSegment (whole (p (nb (i + s)))) (whole (p o)) (whole (p v)))
+        (two_on nb s i) f.between;
+  }
 
   -- an edge of the star can be turned away, or four faces are left beside a line
   abbrev pub Answer : (ℕ → ℕ) → ℕ → Type 0
@@ -236,11 +325,14 @@ module _ (n : ℕ) (p : ℕ → Point) (faces : List Face) (outer : List (ℕ ×
   Good nb i = pos 0 <ℤ turn (nb i) (nb (suc (suc i)))
 
   bad_or_good : (nb : ℕ → ℕ) (i : ℕ) → Bad nb i ⊎ Good nb i
-  bad_or_good nb i = elim (lt_or_ge_ℤ (pos 0) (turn (nb i) (nb (suc (suc i))))) [ inl l ↦ inr l | inr l ↦ inl l ]
+  bad_or_good nb i =
+      elim (lt_or_ge_ℤ (pos 0) (turn (nb i) (nb (suc (suc i))))) [ inl l ↦ inr l | inr l ↦ inl l ]
 
   -- all corners turn left but perhaps those at neighbours 1 and 2
-  two_left : (nb : ℕ → ℕ) (t : ℕ) → IsCycle nb (suc (suc (suc t))) → ((i : ℕ) → 2 ≤ i → i < suc (suc (suc t)) → Good nb i) → Answer nb (suc (suc (suc t)))
-  two_left nb t c good = inl (up (among_good (λ i. nb (suc i)) t (λ i. c.round (suc i)) (ap nb wrapped ∙ c.again 1) (λ i h. good (suc (suc i)) (omega arith) (omega arith))))
+  two_left : (nb : ℕ → ℕ) (t : ℕ) → IsCycle nb (suc (suc (suc t)))
+      → ((i : ℕ) → 2 ≤ i → i < suc (suc (suc t)) → Good nb i) → Answer nb (suc (suc (suc t)))
+  two_left nb t c good = inl (up (among_good (λ i. nb (suc i)) t (λ i. c.round (suc i))
+      (ap nb wrapped ∙ c.again 1) (λ i h. good (suc (suc i)) (omega arith) (omega arith))))
     where
       wrapped : suc (suc (suc (suc t))) ≡ 1 + suc (suc (suc t))
       wrapped = omega arith
@@ -249,7 +341,8 @@ module _ (n : ℕ) (p : ℕ → Point) (faces : List Face) (outer : List (ℕ ×
       up (i, c) = (suc i, c)
 
   -- begun one neighbour earlier
-  earlier_next : (nb : ℕ → ℕ) (t : ℕ) → IsCycle nb (suc (suc (suc t))) → (i : ℕ) → from_step nb (suc (suc t)) (suc i) ≡ nb i
+  earlier_next : (nb : ℕ → ℕ) (t : ℕ) → IsCycle nb (suc (suc (suc t))) → (i : ℕ)
+      → from_step nb (suc (suc t)) (suc i) ≡ nb i
   unfolding from_step
   earlier_next nb t c i = ap nb (moved i) ∙ c.again i
     where
@@ -263,21 +356,32 @@ module _ (n : ℕ) (p : ℕ → Point) (faces : List Face) (outer : List (ℕ ×
       moved : (t : ℕ) → 0 + suc (suc t) ≡ suc (suc t)
       moved t = omega arith
 
-  earlier_good : (nb : ℕ → ℕ) (t : ℕ) → IsCycle nb (suc (suc (suc t))) → (i : ℕ) → Good nb i → Good (from_step nb (suc (suc t))) (suc i)
-  earlier_good nb t c i g = subst (λ (o : ℕ × ℕ). pos 0 <ℤ turn o.0 o.1) (λ j. (sym (earlier_next nb t c i) j, sym (earlier_next nb t c (suc (suc i))) j)) g
+  earlier_good : (nb : ℕ → ℕ) (t : ℕ) → IsCycle nb (suc (suc (suc t))) → (i : ℕ) → Good nb i
+      → Good (from_step nb (suc (suc t))) (suc i)
+  earlier_good nb t c i g = subst (λ (o : ℕ × ℕ). pos 0 <ℤ turn o.0 o.1)
+      (λ j. (sym (earlier_next nb t c i) j, sym (earlier_next nb t c (suc (suc i))) j)) g
 
-  earlier_bad : (nb : ℕ → ℕ) (t : ℕ) → IsCycle nb (suc (suc (suc t))) → (i : ℕ) → Bad nb i → Bad (from_step nb (suc (suc t))) (suc i)
-  earlier_bad nb t c i g = subst (λ (o : ℕ × ℕ). turn o.0 o.1 ≤ℤ pos 0) (λ j. (sym (earlier_next nb t c i) j, sym (earlier_next nb t c (suc (suc i))) j)) g
+  earlier_bad : (nb : ℕ → ℕ) (t : ℕ) → IsCycle nb (suc (suc (suc t))) → (i : ℕ) → Bad nb i
+      → Bad (from_step nb (suc (suc t))) (suc i)
+  earlier_bad nb t c i g = subst (λ (o : ℕ × ℕ). turn o.0 o.1 ≤ℤ pos 0)
+      (λ j. (sym (earlier_next nb t c i) j, sym (earlier_next nb t c (suc (suc i))) j)) g
 
-  earlier_bad_first : (nb : ℕ → ℕ) (t : ℕ) → IsCycle nb (suc (suc (suc t))) → Bad nb (suc (suc t)) → Bad (from_step nb (suc (suc t))) 0
-  earlier_bad_first nb t c b = subst (λ (o : ℕ × ℕ). turn o.0 o.1 ≤ℤ pos 0) (λ j. (sym (earlier_first nb t) j, (ap nb moved ∙ c.again 1 ∙ sym (earlier_next nb t c 1)) j)) b
+  earlier_bad_first : (nb : ℕ → ℕ) (t : ℕ) → IsCycle nb (suc (suc (suc t))) → Bad nb (suc (suc t))
+      → Bad (from_step nb (suc (suc t))) 0
+  earlier_bad_first nb t c b =
+      subst (λ (o : ℕ × ℕ). turn o.0 o.1 ≤ℤ pos 0) (λ j. (
+        sym (earlier_first nb t) j,
+        (ap nb moved ∙ c.again 1 ∙ sym (earlier_next nb t c 1)) j,
+      )) b
     where
       moved : suc (suc (suc (suc t))) ≡ 1 + suc (suc (suc t))
       moved = omega arith
 
   -- the corner at neighbour 1 does not turn left
-  one_bad : (nb : ℕ → ℕ) (t : ℕ) → 1 ≤ t → IsCycle nb (suc (suc (suc t))) → Bad nb 0 → Answer nb (suc (suc (suc t)))
-  one_bad nb t four c bad = go (search (Bad nb) (Good nb) (bad_or_good nb) 2 t) (bad_or_good nb (suc (suc t))) (bad_or_good nb 1)
+  one_bad : (nb : ℕ → ℕ) (t : ℕ) → 1 ≤ t → IsCycle nb (suc (suc (suc t))) → Bad nb 0
+      → Answer nb (suc (suc (suc t)))
+  one_bad nb t four c bad = go (search (Bad nb) (Good nb) (bad_or_good nb) 2 t)
+      (bad_or_good nb (suc (suc t))) (bad_or_good nb 1)
     where
       fits : (j : ℕ) → j < 2 + t → j + 2 ≤ suc (suc (suc t))
       fits j h = omega arith
@@ -288,9 +392,13 @@ module _ (n : ℕ) (p : ℕ → Point) (faces : List Face) (outer : List (ℕ ×
       earlier : IsCycle (from_step nb (suc (suc t))) (suc (suc (suc t)))
       earlier = begun_at nb (suc (suc (suc t))) (suc (suc t)) c (omega arith)
 
-      good_earlier : ((i : ℕ) → 2 ≤ i → i < 2 + t → Good nb i) → Good nb 1 → (i : ℕ) → 2 ≤ i → i < suc (suc (suc t)) → Good (from_step nb (suc (suc t))) i
+      good_earlier : ((i : ℕ) → 2 ≤ i → i < 2 + t → Good nb i) → Good nb 1 → (i : ℕ) → 2 ≤ i
+          → i < suc (suc (suc t)) → Good (from_step nb (suc (suc t))) i
       good_earlier good one zero h l = absurd (omega arith)
-      good_earlier good one (suc i) h l = elim (cases_eq i 1) [ inl e ↦ earlier_good nb t c i (subst (λ o. Good nb o) (sym e) one) | inr e ↦ earlier_good nb t c i (good i (two i h e) (below i l)) ]
+      good_earlier good one (suc i) h l = elim (cases_eq i 1) [
+        | inl e ↦ earlier_good nb t c i (subst (λ o. Good nb o) (sym e) one)
+        | inr e ↦ earlier_good nb t c i (good i (two i h e) (below i l))
+      ]
         where
           two : (i : ℕ) → 2 ≤ suc i → i ≢ 1 → 2 ≤ i
           two i h e = omega arith
@@ -298,14 +406,26 @@ module _ (n : ℕ) (p : ℕ → Point) (faces : List Face) (outer : List (ℕ ×
           below : (i : ℕ) → suc i < suc (suc (suc t)) → i < 2 + t
           below i l = omega arith
 
-      go : ((i : ℕ) × (2 ≤ i) × (i < 2 + t) × Bad nb i) ⊎ ((i : ℕ) → 2 ≤ i → i < 2 + t → Good nb i) → Bad nb (suc (suc t)) ⊎ Good nb (suc (suc t)) → Bad nb 1 ⊎ Good nb 1 → Answer nb (suc (suc (suc t)))
-      go (inl (j, low, high, b)) x y = inr (0, opposite nb (suc (suc (suc t))) j c.round c.again c.apart low (fits j high) bad b)
-      go (inr good) (inr x) y = two_left nb t c (λ i h l. elim (last_or i l) [ inl z ↦ good i h z | inr e ↦ subst (λ o. Good nb o) (sym e) x ])
-      go (inr good) (inl x) (inl y) = answer_there nb (suc (suc (suc t))) (suc (suc t)) (inr (0, opposite (from_step nb (suc (suc t))) (suc (suc (suc t))) 2 earlier.round earlier.again earlier.apart (omega arith) (omega arith) (earlier_bad_first nb t c x) (earlier_bad nb t c 1 y)))
-      go (inr good) (inl x) (inr y) = answer_there nb (suc (suc (suc t))) (suc (suc t)) (two_left (from_step nb (suc (suc t))) t earlier (good_earlier good y))
+      go : ((i : ℕ) × (2 ≤ i) × (i < 2 + t) × Bad nb i) ⊎ ((i : ℕ) → 2 ≤ i → i < 2 + t → Good nb i)
+          → Bad nb (suc (suc t)) ⊎ Good nb (suc (suc t)) → Bad nb 1 ⊎ Good nb 1
+          → Answer nb (suc (suc (suc t)))
+      go (inl (j, low, high, b)) x y =
+          inr (0, opposite nb (suc (suc (suc t))) j c.round c.again c.apart low (fits j high) bad b)
+      go (inr good) (inr x) y = two_left nb t c (λ i h l. elim
+          (last_or i l) [ inl z ↦ good i h z | inr e ↦ subst (λ o. Good nb o) (sym e) x ])
+      go (inr good) (inl x) (inl y) =
+          answer_there nb (suc (suc (suc t))) (suc (suc t)) (inr (
+            0,
+            opposite (from_step nb
+                (suc (suc t))) (suc (suc (suc t))) 2 earlier.round earlier.again earlier.apart
+                (omega arith) (omega arith) (earlier_bad_first nb t c x) (earlier_bad nb t c 1 y),
+          ))
+      go (inr good) (inl x) (inr y) = answer_there nb (suc (suc (suc t))) (suc (suc t))
+          (two_left (from_step nb (suc (suc t))) t earlier (good_earlier good y))
 
   -- the theorem
-  pub flip_or_four : (nb : ℕ → ℕ) (t : ℕ) → 1 ≤ t → IsCycle nb (suc (suc (suc t))) → Answer nb (suc (suc (suc t)))
+  pub flip_or_four : (nb : ℕ → ℕ) (t : ℕ) → 1 ≤ t → IsCycle nb (suc (suc (suc t)))
+      → Answer nb (suc (suc (suc t)))
   unfolding from_step
   flip_or_four nb t four c = go (search (Bad nb) (Good nb) (bad_or_good nb) 0 (suc (suc (suc t))))
     where
@@ -318,12 +438,18 @@ module _ (n : ℕ) (p : ℕ → Point) (faces : List Face) (outer : List (ℕ ×
       below : (s : ℕ) → s < 0 + suc (suc (suc t)) → s < suc (suc (suc t))
       below s h = omega arith
 
-      go : ((i : ℕ) × (0 ≤ i) × (i < 0 + suc (suc (suc t))) × Bad nb i) ⊎ ((i : ℕ) → 0 ≤ i → i < 0 + suc (suc (suc t)) → Good nb i) → Answer nb (suc (suc (suc t)))
-      go (inl (s, low, high, b)) = answer_there nb (suc (suc (suc t))) s (one_bad (from_step nb s) t four (begun_at nb (suc (suc (suc t))) s c (below s high)) (subst (λ (o : ℕ × ℕ). turn o.0 o.1 ≤ℤ pos 0) (λ j. (sym (start s) j, sym (two_on nb s 0 ∙ ap (λ o. nb (suc (suc o))) (none s)) j)) b))
+      go : ((i : ℕ) × (0 ≤ i) × (i < 0 + suc (suc (suc t))) × Bad nb i)
+          ⊎ ((i : ℕ) → 0 ≤ i → i < 0 + suc (suc (suc t)) → Good nb i)
+          → Answer nb (suc (suc (suc t)))
+      go (inl (s, low, high, b)) =
+          answer_there nb (suc (suc (suc t))) s (one_bad (from_step nb s) t four (begun_at nb
+          (suc (suc (suc t))) s c (below s high)) (subst (λ (o : ℕ × ℕ). turn o.0 o.1 ≤ℤ pos 0)
+          (λ j. (sym (start s) j, sym (two_on nb s 0 ∙ ap (λ o. nb (suc (suc o))) (none s)) j)) b))
         where
           none : (s : ℕ) → 0 + s ≡ s
           none s = omega arith
 
           start : (s : ℕ) → nb (0 + s) ≡ nb s
           start s = ap nb (none s)
-      go (inr good) = inl (among_good nb t c.round (sym (ap nb closed) ∙ c.again 0) (λ i h. good (suc i) (omega arith) (upto i h)))
+      go (inr good) = inl (among_good nb t c.round (sym (ap nb closed) ∙ c.again 0)
+          (λ i h. good (suc i) (omega arith) (upto i h)))

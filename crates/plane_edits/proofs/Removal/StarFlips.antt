@@ -1,5 +1,6 @@
 -- The star of a vertex after a flip of one of its edges, and that a vertex has one star.
-use Rattle.std.proofs.Common.{◌≡◌, ◌⊎◌, ℕ, zero, suc, ◌<◌, ◌≤◌, List, [], ◌∷◌, length, refl, sym, ap, ◌∙◌, subst, arith}
+use Rattle.std.proofs.Common.{◌≡◌, ◌⊎◌, ◌<◌, ◌≤◌, [], ◌∷◌, ◌∙◌}
+use Rattle.std.proofs.Common.{ℕ, zero, suc, List, length, refl, sym, ap, subst, arith}
 use Prim.Native.Nat.{◌+◌, ◌-◌}
 use mathlib.Core.Logic.{inl, inr, ◌≢◌}
 use Rattle.std.specs.Prelude.{pos, ◌<ℤ◌, Contains, nat_eq, if◌then◌else◌}
@@ -19,14 +20,16 @@ use Rattle.plane_tiling.proofs.Totals.{Contains-head, Contains-none}
 use Rattle.plane_edits.specs.Change.{IsFaceOf, FacesChange}
 use Rattle.plane_edits.specs.Removal.{IsStar}
 use Rattle.plane_edits.specs.RemovalHull.{IsHullStar}
-use Rattle.plane_edits.specs.StarFlips.{IsStarFlip, InnerStarShrinks, without, HullStarShrinks, StarsAgree, HullStarsAgree}
+use Rattle.plane_edits.specs.StarFlips.{IsStarFlip, InnerStarShrinks, without, HullStarShrinks}
+use Rattle.plane_edits.specs.StarFlips.{StarsAgree, HullStarsAgree}
 use Rattle.plane_edits.proofs.LocalMesh.Changes.{face_from, face_kept, each, each_none, turn_of_all}
 use Rattle.plane_edits.proofs.LocalMesh.Kept.{flip_kept}
 use Rattle.plane_edits.proofs.Removal.Star.{IsInAngle, same_angle}
 use Rattle.plane.proofs.Indexes.{less_or_more, next_sum}
 
 -- ---- one face on each side
-module _ (points : List Point) (faces : List Face) (outer : List (ℕ × ℕ)) (m : LocalMesh points faces outer) where
+module _ (points : List Point) (faces : List Face) (outer : List (ℕ × ℕ))
+    (m : LocalMesh points faces outer) where
   abbrev p : ℕ → Point
   p = point_at points
 
@@ -34,23 +37,31 @@ module _ (points : List Point) (faces : List Face) (outer : List (ℕ × ℕ)) (
   signs = by_signs points faces outer m
 
   differ : (a b c : ℕ) → IsFaceOf faces a b c → (a ≢ b) × (b ≢ c) × (c ≢ a)
-  differ a b c f = corners_differ (point_at points) a b c (C.turn_left_of (length points) (point_at points) faces outer signs a b c f)
+  differ a b c f = corners_differ (point_at points) a b c
+      (C.turn_left_of (length points) (point_at points) faces outer signs a b c f)
 
-  starts : (v a b : ℕ) → IsFaceOf faces v a b → IsInAngle (length points) (point_at points) faces outer signs v a b (at p a)
+  starts : (v a b : ℕ) → IsFaceOf faces v a b
+      → IsInAngle (length points) (point_at points) faces outer signs v a b (at p a)
   starts v a b f = record {
     from = zero_weak_left (bracket-last (at p v) (at p a));
-    to = subst (λ z. pos 0 <ℤ z) (bracket-turn (at p v) (at p a) (at p b) ∙ bracket-turn (at p a) (at p b) (at p v)) (C.turn_left_of (length points) (point_at points) faces outer signs v a b f);
+    to = subst (λ z. pos 0 <ℤ z)
+        (bracket-turn (at p v) (at p a) (at p b) ∙ bracket-turn (at p a) (at p b) (at p v))
+        (C.turn_left_of (length points) (point_at points) faces outer signs v a b f);
   }
 
   one_third : (v a b c : ℕ) → IsFaceOf faces v a b → IsFaceOf faces v a c → b ≡ c
-  one_third v a b c f g = (same_angle (length points) (point_at points) faces outer signs v a b a c f g (at p a) (record { lt = tt }) (starts v a b f) (starts v a c g)).1
+  one_third v a b c f g = (same_angle (length points) (point_at points) faces outer signs v a b a c
+      f g (at p a) (record { lt = tt }) (starts v a b f) (starts v a c g)).1
 
   one_second : (v a b c : ℕ) → IsFaceOf faces v a c → IsFaceOf faces v b c → a ≡ b
-  one_second v a b c f g = one_third c v a b (turned faces a c v (turned faces v a c f)) (turned faces b c v (turned faces v b c g))
+  one_second v a b c f g = one_third c v a b (turned faces a c v (turned faces v a c f))
+      (turned faces b c v (turned faces v b c g))
 
 -- ---- the faces v a b and v b c become v a c and a b c
-module _ (points : List Point) (faces new : List Face) (outer outer' : List (ℕ × ℕ)) (v a b c : ℕ) (m : LocalMesh points faces outer) (after : LocalMesh points new outer') (first : IsFaceOf faces v a b) (second : IsFaceOf faces v b c)
-    (change : FacesChange faces new (face v a b ∷ face v b c ∷ []) (face v a c ∷ face a b c ∷ [])) where
+module _ (points : List Point) (faces new : List Face) (outer outer' : List (ℕ × ℕ)) (v a b c : ℕ)
+    (m : LocalMesh points faces outer) (after : LocalMesh points new outer')
+    (first : IsFaceOf faces v a b) (second : IsFaceOf faces v b c) (change :
+    FacesChange faces new (face v a b ∷ face v b c ∷ []) (face v a c ∷ face a b c ∷ [])) where
   made : IsFaceOf new v a c
   made = change.come v a c (inl (Contains-head (face v a c) (face a b c ∷ [])))
 
@@ -68,29 +79,49 @@ module _ (points : List Point) (faces new : List Face) (outer outer' : List (ℕ
 
   -- of the faces at v the two go
   other_stays : (x y : ℕ) → IsFaceOf faces v x y → x ≢ a → x ≢ b → IsFaceOf new v x y
-  other_stays x y f na nb = elim (face_kept faces new (face v a b ∷ face v b c ∷ []) (face v a c ∷ face a b c ∷ []) change v x y f) [
-    | inl o ↦ o
-    | inr o ↦ absurd (elim ((turn_of_all (face v a b ∷ face v b c ∷ []) Begin (λ i j k s. (s.1, s.2, s.0))
-        (each Begins (face v a b) (face v b c ∷ []) (λ _. inl refl, λ e. absurd (v_a (sym e)), λ e. absurd (v_b (sym e)))
-        (each Begins (face v b c) [] (λ _. inr refl, λ e. absurd (v_b (sym e)), λ e. absurd (v_c (sym e))) (each_none Begins))) v x y o).0 refl) [ inl e ↦ na e | inr e ↦ nb e ])
-  ]
+  other_stays x y f na nb = elim (face_kept faces new (face v a b ∷ face v b c ∷ [])
+      (face v a c ∷ face a b c ∷ []) change v x y f) [
+        | inl o ↦ o
+        | inr o ↦
+            absurd (elim
+            ((turn_of_all (face v a b ∷ face v b c ∷ []) Begin (λ i j k s. (s.1, s.2, s.0))
+            (each Begins (face v a b) (face v b c ∷ [])
+            (λ _. inl refl, λ e. absurd (v_a (sym e)), λ e. absurd (v_b (sym e)))
+            (each Begins (face v b c) [] (
+              λ _. inr refl,
+              λ e. absurd (v_b (sym e)),
+              λ e. absurd
+                  (v_c (sym e)),
+            ) (each_none Begins))) v x y o).0 refl) [ inl e ↦ na e | inr e ↦ nb e ])
+      ]
     where
       Begin : ℕ → ℕ → ℕ → Type 0
-      Begin i j k = (i ≡ v → (j ≡ a) ⊎ (j ≡ b)) × (j ≡ v → (k ≡ a) ⊎ (k ≡ b)) × (k ≡ v → (i ≡ a) ⊎ (i ≡ b))
+      Begin i j k = (i ≡ v → (j ≡ a) ⊎ (j ≡ b)) × (j ≡ v → (k ≡ a) ⊎ (k ≡ b))
+          × (k ≡ v → (i ≡ a) ⊎ (i ≡ b))
 
       Begins : Face → Type 0
       Begins f = Begin f.a f.b f.c
 
   -- and one comes
-  came : (x y : ℕ) → IsFaceOf new v x y → ((x ≡ a) × (y ≡ c)) ⊎ (IsFaceOf faces v x y × (x ≢ a) × (x ≢ b))
+  came : (x y : ℕ) → IsFaceOf new v x y
+      → ((x ≡ a) × (y ≡ c)) ⊎ (IsFaceOf faces v x y × (x ≢ a) × (x ≢ b))
   came x y f = elim (cases_eq x a) [
-    | inl e ↦ inl (e, one_third points new outer' after v a y c (subst (λ z. IsFaceOf new v z y) e f) made)
-    | inr na ↦ elim (face_from faces new (face v a b ∷ face v b c ∷ []) (face v a c ∷ face a b c ∷ []) change v x y f) [
-      | inl o ↦ inr (o, na, λ e. not_second e o)
-      | inr o ↦ absurd (na ((turn_of_all (face v a c ∷ face a b c ∷ []) Begin (λ i j k s. (s.1, s.2, s.0))
-          (each Begins (face v a c) (face a b c ∷ []) (λ _. refl, λ e. absurd (v_a (sym e)), λ e. absurd (v_c (sym e)))
-          (each Begins (face a b c) [] (λ e. absurd (v_a (sym e)), λ e. absurd (v_b (sym e)), λ e. absurd (v_c (sym e))) (each_none Begins))) v x y o).0 refl))
-    ]
+    | inl e ↦ inl
+        (e, one_third points new outer' after v a y c (subst (λ z. IsFaceOf new v z y) e f) made)
+    | inr na ↦ elim (face_from faces new (face v a b ∷ face v b c ∷ [])
+        (face v a c ∷ face a b c ∷ []) change v x y f) [
+          | inl o ↦ inr (o, na, λ e. not_second e o)
+          | inr o ↦
+              absurd (na
+              ((turn_of_all (face v a c ∷ face a b c ∷ []) Begin (λ i j k s. (s.1, s.2, s.0))
+              (each Begins (face v a c) (face a b c ∷ [])
+              (λ _. refl, λ e. absurd (v_a (sym e)), λ e. absurd (v_c (sym e)))
+              (each Begins (face a b c) [] (
+                λ e. absurd (v_a (sym e)),
+                λ e. absurd (v_b (sym e)),
+                λ e. absurd (v_c (sym e)),
+              ) (each_none Begins))) v x y o).0 refl))
+        ]
   ]
     where
       Begin : ℕ → ℕ → ℕ → Type 0
@@ -101,18 +132,23 @@ module _ (points : List Point) (faces new : List Face) (outer outer' : List (ℕ
 
       not_second : x ≡ b → IsFaceOf faces v x y → ⊥
       not_second e o =
-          let y_is = one_third points faces outer m v b y c (subst (λ z. IsFaceOf faces v z y) e o) second in
-          a_b (one_second points new outer' after v a b c made (subst (λ z. IsFaceOf new v z c) e (subst (λ z. IsFaceOf new v x z) y_is f)))
+          let y_is = one_third points faces outer m v b y c
+          (subst (λ z. IsFaceOf faces v z y) e o) second in
+          a_b (one_second points new outer' after v a b c made
+          (subst (λ z. IsFaceOf new v z c) e (subst (λ z. IsFaceOf new v x z) y_is f)))
 
 -- ---- on the hull
 -- numbers 0 to k differ
 abbrev pub DifferUpTo : ℕ → (ℕ → ℕ) → Type 0
 DifferUpTo k nb = (i j : ℕ) → i < j → j ≤ k → nb i ≢ nb j
 
-module _ (points : List Point) (faces : List Face) (outer : List (ℕ × ℕ)) (m : LocalMesh points faces outer) (v k : ℕ) (nb : ℕ → ℕ) (star : IsHullStar faces outer v k nb) where
+module _ (points : List Point) (faces : List Face) (outer : List (ℕ × ℕ)) (m : LocalMesh points
+    faces outer) (v k : ℕ) (nb : ℕ → ℕ) (star : IsHullStar faces outer v k nb) where
   -- the last neighbour does not come earlier
   last_once : (i : ℕ) → i < k → nb i ≢ nb k
-  last_once i h e = L.outer_is_no_side (length points) (point_at points) faces outer (by_signs points faces outer m) v (nb k) star.leaves (subst (λ z. HasSide faces v z) e (nb (suc i), star.around i h))
+  last_once i h e = L.outer_is_no_side (length points) (point_at points) faces outer
+      (by_signs points faces outer m) v (nb k) star.leaves
+      (subst (λ z. HasSide faces v z) e (nb (suc i), star.around i h))
 
   -- nor does another one
   later_differs : (d i j : ℕ) → i < j → j + d ≡ k → nb i ≢ nb j
@@ -121,14 +157,17 @@ module _ (points : List Point) (faces : List Face) (outer : List (ℕ × ℕ)) (
       own : (j : ℕ) → j + 0 ≡ k → j ≡ k
       own j e = omega arith
   later_differs (suc d) i j h e s = later_differs d (suc i) (suc j) (omega arith) (omega arith)
-      (one_third points faces outer m v (nb i) (nb (suc i)) (nb (suc j)) (star.around i (omega arith)) (subst (λ z. IsFaceOf faces v z (nb (suc j))) (sym s) (star.around j (omega arith))))
+      (one_third points faces outer m v (nb i) (nb (suc i)) (nb (suc j))
+      (star.around i (omega arith))
+      (subst (λ z. IsFaceOf faces v z (nb (suc j))) (sym s) (star.around j (omega arith))))
 
   -- so each neighbour comes once
   pub neighbours_differ : DifferUpTo k nb
   neighbours_differ i j h l = later_differs (k - j) i j h (omega arith)
 
   apart : (i j : ℕ) → i ≢ j → i ≤ k → j ≤ k → nb i ≢ nb j
-  apart i j n hi hj e = elim (less_or_more i j n) [ inl l ↦ neighbours_differ i j l hj e | inr l ↦ neighbours_differ j i l hi (sym e) ]
+  apart i j n hi hj e = elim (less_or_more i j n)
+      [ inl l ↦ neighbours_differ i j l hj e | inr l ↦ neighbours_differ j i l hi (sym e) ]
 
 without_before : (i : ℕ) (nb : ℕ → ℕ) (j : ℕ) → j < i → without i nb j ≡ nb j
 without_before i nb j h = grind (arith, nat_tests)
@@ -136,12 +175,17 @@ without_before i nb j h = grind (arith, nat_tests)
 without_from : (i : ℕ) (nb : ℕ → ℕ) (j : ℕ) → i ≤ j → without i nb j ≡ nb (suc j)
 without_from i nb j h = grind (arith, nat_tests)
 
-abbrev mesh_after : (points : List Point) (faces new : List Face) (outer outer' : List (ℕ × ℕ)) (v i : ℕ) (nb : ℕ → ℕ) → LocalMesh points faces outer → IsFaceOf faces v (nb i) (nb (suc i)) → IsFaceOf faces v (nb (suc i)) (nb (suc (suc i))) → IsStarFlip points faces new outer outer' v nb i → LocalMesh points new outer'
-mesh_after points faces new outer outer' v i nb m f g s = flip_kept points faces new outer outer' v (nb i) (nb (suc i)) (nb (suc (suc i))) m f g s.near s.far s.faces_change s.outer_change
+abbrev mesh_after : (points : List Point) (faces new : List Face) (outer outer' : List (ℕ × ℕ))
+    (v i : ℕ) (nb : ℕ → ℕ) → LocalMesh points faces outer → IsFaceOf faces v (nb i) (nb (suc i))
+    → IsFaceOf faces v (nb (suc i)) (nb (suc (suc i)))
+    → IsStarFlip points faces new outer outer' v nb i → LocalMesh points new outer'
+mesh_after points faces new outer outer' v i nb m f g s = flip_kept points faces new outer outer' v
+    (nb i) (nb (suc i)) (nb (suc (suc i))) m f g s.near s.far s.faces_change s.outer_change
 
 -- a flip at a vertex of the hull leaves out one neighbour; the first and the last stay
 pub hull_star_shrinks : HullStarShrinks
-hull_star_shrinks points faces new outer outer' v k nb i m star inside s = (record { around = around; only = only; arrives = arrives; leaves = leaves }, at_start, at_end)
+hull_star_shrinks points faces new outer outer' v k nb i m star inside s =
+    (record { around = around; only = only; arrives = arrives; leaves = leaves }, at_start, at_end)
   where
     f : IsFaceOf faces v (nb i) (nb (suc i))
     f = star.around i (omega arith)
@@ -162,38 +206,61 @@ hull_star_shrinks points faces new outer outer' v k nb i m star inside s = (reco
     late j h = without_from (suc i) nb j h
 
     stays : (j : ℕ) → j < k → j ≢ i → j ≢ suc i → IsFaceOf new v (nb j) (nb (suc j))
-    stays j h n n' = other_stays points faces new outer outer' v (nb i) (nb (suc i)) (nb (suc (suc i))) m after f g s.faces_change (nb j) (nb (suc j)) (star.around j h)
-        (apart points faces outer m v k nb star j i n (omega arith) (omega arith)) (apart points faces outer m v k nb star j (suc i) n' (omega arith) (omega arith))
+    stays j h n n' = other_stays points faces new outer outer' v (nb i) (nb (suc i))
+        (nb (suc (suc i))) m after f g s.faces_change (nb j) (nb (suc j)) (star.around j h)
+        (apart points faces outer m v k nb star j i n (omega arith) (omega arith))
+        (apart points faces outer m v k nb star j (suc i) n' (omega arith) (omega arith))
 
-    face_at : (j x y : ℕ) → without (suc i) nb j ≡ x → without (suc i) nb (suc j) ≡ y → IsFaceOf new v x y → IsFaceOf new v (without (suc i) nb j) (without (suc i) nb (suc j))
-    face_at j x y e d h = subst (λ z. IsFaceOf new v z (without (suc i) nb (suc j))) (sym e) (subst (IsFaceOf new v x) (sym d) h)
+    face_at : (j x y : ℕ) → without (suc i) nb j ≡ x → without (suc i) nb (suc j) ≡ y
+        → IsFaceOf new v x y → IsFaceOf new v (without (suc i) nb j) (without (suc i) nb (suc j))
+    face_at j x y e d h = subst (λ z. IsFaceOf new v z (without (suc i) nb (suc j))) (sym e)
+        (subst (IsFaceOf new v x) (sym d) h)
 
-    around : (j : ℕ) → j < k - 1 → IsFaceOf new v (without (suc i) nb j) (without (suc i) nb (suc j))
+    around : (j : ℕ) → j < k - 1
+        → IsFaceOf new v (without (suc i) nb j) (without (suc i) nb (suc j))
     around j h = go (three j i)
       where
         three : (j i : ℕ) → (j < i) ⊎ ((j ≡ i) ⊎ (i < j))
         three j i = grind arith
 
-        go : (j < i) ⊎ ((j ≡ i) ⊎ (i < j)) → IsFaceOf new v (without (suc i) nb j) (without (suc i) nb (suc j))
-        go (inl l) = face_at j (nb j) (nb (suc j)) (early j (omega arith)) (early (suc j) (omega arith)) (stays j (omega arith) (λ e. omega arith) (λ e. omega arith))
-        go (inr (inl e)) = subst (λ z. IsFaceOf new v (without (suc i) nb z) (without (suc i) nb (suc z))) (sym e)
-            (face_at i (nb i) (nb (suc (suc i))) (early i (omega arith)) (late (suc i) (omega arith)) (made points faces new outer outer' v (nb i) (nb (suc i)) (nb (suc (suc i))) m after f g s.faces_change))
-        go (inr (inr l)) = face_at j (nb (suc j)) (nb (suc (suc j))) (late j (omega arith)) (late (suc j) (omega arith)) (stays (suc j) (omega arith) (λ e. omega arith) (λ e. omega arith))
+        go : (j < i) ⊎ ((j ≡ i) ⊎ (i < j))
+            → IsFaceOf new v (without (suc i) nb j) (without (suc i) nb (suc j))
+        go (inl l) =
+            face_at j (nb j) (nb (suc j)) (early j (omega arith)) (early (suc j) (omega arith))
+            (stays j (omega arith) (λ e. omega arith) (λ e. omega arith))
+        go (inr (inl e)) =
+            subst (λ z. IsFaceOf new v (without (suc i) nb z) (without (suc i) nb (suc z))) (sym e)
+            (face_at i (nb i) (nb (suc (suc i))) (early i (omega arith))
+            (late (suc i) (omega arith)) (made points faces new outer outer' v (nb i)
+            (nb (suc i)) (nb (suc (suc i))) m after f g s.faces_change))
+        go (inr (inr l)) =
+            face_at j (nb (suc j)) (nb (suc (suc j))) (late j (omega arith)) (late (suc j)
+            (omega arith)) (stays (suc j) (omega arith) (λ e. omega arith) (λ e. omega arith))
 
-    only : (x y : ℕ) → IsFaceOf new v x y → (j : ℕ) × (j < k - 1) × (without (suc i) nb j ≡ x) × (without (suc i) nb (suc j) ≡ y)
-    only x y h = go (came points faces new outer outer' v (nb i) (nb (suc i)) (nb (suc (suc i))) m after f g s.faces_change x y h)
+    only : (x y : ℕ) → IsFaceOf new v x y
+        → (j : ℕ) × (j < k - 1) × (without (suc i) nb j ≡ x) × (without (suc i) nb (suc j) ≡ y)
+    only x y h = go (came points faces new outer outer' v (nb i) (nb (suc i))
+        (nb (suc (suc i))) m after f g s.faces_change x y h)
       where
-        old : (j : ℕ) → j < k → nb j ≡ x → nb (suc j) ≡ y → x ≢ nb i → x ≢ nb (suc i) → (j < i) ⊎ (suc i < j) → (j : ℕ) × (j < k - 1) × (without (suc i) nb j ≡ x) × (without (suc i) nb (suc j) ≡ y)
-        old j l e d na nc (inl q) = (j, omega arith, early j (omega arith) ∙ e, early (suc j) (omega arith) ∙ d)
+        old : (j : ℕ) → j < k → nb j ≡ x → nb (suc j) ≡ y → x ≢ nb i → x ≢ nb (suc i)
+            → (j < i) ⊎ (suc i < j)
+            → (j : ℕ) × (j < k - 1) × (without (suc i) nb j ≡ x) × (without (suc i) nb (suc j) ≡ y)
+        old j l e d na nc (inl q) =
+            (j, omega arith, early j (omega arith) ∙ e, early (suc j) (omega arith) ∙ d)
         old zero l e d na nc (inr q) = absurd (omega arith)
-        old (suc j) l e d na nc (inr q) = (j, omega arith, late j (omega arith) ∙ e, late (suc j) (omega arith) ∙ d)
+        old (suc j) l e d na nc (inr q) =
+            (j, omega arith, late j (omega arith) ∙ e, late (suc j) (omega arith) ∙ d)
 
         placed : (j : ℕ) → j ≢ i → j ≢ suc i → (j < i) ⊎ (suc i < j)
         placed j n n' = grind arith
 
-        go : ((x ≡ nb i) × (y ≡ nb (suc (suc i)))) ⊎ (IsFaceOf faces v x y × (x ≢ nb i) × (x ≢ nb (suc i))) → (j : ℕ) × (j < k - 1) × (without (suc i) nb j ≡ x) × (without (suc i) nb (suc j) ≡ y)
-        go (inl e) = (i, omega arith, early i (omega arith) ∙ sym e.0, late (suc i) (omega arith) ∙ sym e.1)
-        go (inr (o, na, nc)) = let r = star.only x y o in old r.0 r.1 r.2 r.3 na nc (placed r.0 (λ e. na (sym r.2 ∙ ap nb e)) (λ e. nc (sym r.2 ∙ ap nb e)))
+        go : ((x ≡ nb i) × (y ≡ nb (suc (suc i))))
+            ⊎ (IsFaceOf faces v x y × (x ≢ nb i) × (x ≢ nb (suc i)))
+            → (j : ℕ) × (j < k - 1) × (without (suc i) nb j ≡ x) × (without (suc i) nb (suc j) ≡ y)
+        go (inl e) =
+            (i, omega arith, early i (omega arith) ∙ sym e.0, late (suc i) (omega arith) ∙ sym e.1)
+        go (inr (o, na, nc)) = let r = star.only x y o in old r.0 r.1 r.2 r.3 na nc
+            (placed r.0 (λ e. na (sym r.2 ∙ ap nb e)) (λ e. nc (sym r.2 ∙ ap nb e)))
 
     at_start : without (suc i) nb 0 ≡ nb 0
     at_start = early 0 (omega arith)
@@ -205,17 +272,25 @@ hull_star_shrinks points faces new outer outer' v k nb i m star inside s = (reco
     at_end = late (k - 1) (omega arith) ∙ ap nb (last_is k inside)
 
     arrives : Contains outer' (without (suc i) nb 0, v)
-    arrives = subst (λ z. Contains outer' (z, v)) (sym at_start) (s.outer_change.kept (nb 0) v star.arrives (λ x. Contains-none (nb 0, v) x))
+    arrives = subst (λ z. Contains outer' (z, v)) (sym at_start)
+        (s.outer_change.kept (nb 0) v star.arrives (λ x. Contains-none (nb 0, v) x))
 
     leaves : Contains outer' (v, without (suc i) nb (k - 1))
-    leaves = subst (λ z. Contains outer' (v, z)) (sym at_end) (s.outer_change.kept v (nb k) star.leaves (λ x. Contains-none (v, nb k) x))
+    leaves = subst (λ z. Contains outer' (v, z)) (sym at_end)
+        (s.outer_change.kept v (nb k) star.leaves (λ x. Contains-none (v, nb k) x))
 
 -- ---- a star that begins elsewhere
 from_none : (n : ℕ) → n ≡ 0 + n
 from_none n = omega arith
 
-star_turned_once : (faces : List Face) (v k : ℕ) (nb : ℕ → ℕ) → IsStar faces v k nb → IsStar faces v k (λ j. nb (suc j))
-star_turned_once faces v k nb star = record { around = λ i. star.around (suc i); again = λ i. ap nb (next_sum i k) ∙ star.again (suc i); apart = apart; only = only }
+star_turned_once : (faces : List Face) (v k : ℕ) (nb : ℕ → ℕ) → IsStar faces v k nb
+    → IsStar faces v k (λ j. nb (suc j))
+star_turned_once faces v k nb star = record {
+  around = λ i. star.around (suc i);
+  again = λ i. ap nb (next_sum i k) ∙ star.again (suc i);
+  apart = apart;
+  only = only;
+}
   where
     apart : (i j : ℕ) → i < k → j < k → nb (suc i) ≡ nb (suc j) → i ≡ j
     apart i j hi hj e = go (last_or i hi) (last_or j hj)
@@ -227,7 +302,8 @@ star_turned_once faces v k nb star = record { around = λ i. star.around (suc i)
         back i j e = omega arith
 
         not_first : (j : ℕ) → suc j < k → nb (suc j) ≡ nb k → ⊥
-        not_first j h e = none (star.apart (suc j) 0 h (omega arith) (e ∙ ap nb (from_none k) ∙ star.again 0))
+        not_first j h e =
+            none (star.apart (suc j) 0 h (omega arith) (e ∙ ap nb (from_none k) ∙ star.again 0))
           where
             none : suc j ≡ 0 → ⊥
             none e = omega arith
@@ -238,11 +314,18 @@ star_turned_once faces v k nb star = record { around = λ i. star.around (suc i)
         go (inr l) (inl o) = absurd (not_first j o (sym e ∙ ap nb l))
         go (inr l) (inr o) = back i j (l ∙ sym o)
 
-    only : (a b : ℕ) → IsFaceOf faces v a b → (i : ℕ) × (i < k) × (nb (suc i) ≡ a) × (nb (suc (suc i)) ≡ b)
+    only : (a b : ℕ) → IsFaceOf faces v a b
+        → (i : ℕ) × (i < k) × (nb (suc i) ≡ a) × (nb (suc (suc i)) ≡ b)
     only a b f = go (star.only a b f)
       where
-        go : (i : ℕ) × (i < k) × (nb i ≡ a) × (nb (suc i) ≡ b) → (i : ℕ) × (i < k) × (nb (suc i) ≡ a) × (nb (suc (suc i)) ≡ b)
-        go (zero, h, e, d) = (k - 1, omega arith, ap nb (last k h ∙ from_none k) ∙ star.again 0 ∙ e, ap nb (next_last k h) ∙ star.again 1 ∙ d)
+        go : (i : ℕ) × (i < k) × (nb i ≡ a) × (nb (suc i) ≡ b)
+            → (i : ℕ) × (i < k) × (nb (suc i) ≡ a) × (nb (suc (suc i)) ≡ b)
+        go (zero, h, e, d) = (
+          k - 1,
+          omega arith,
+          ap nb (last k h ∙ from_none k) ∙ star.again 0 ∙ e,
+          ap nb (next_last k h) ∙ star.again 1 ∙ d,
+        )
           where
             last : (k : ℕ) → 0 < k → suc (k - 1) ≡ k
             last k h = omega arith
@@ -251,12 +334,14 @@ star_turned_once faces v k nb star = record { around = λ i. star.around (suc i)
             next_last k h = omega arith
         go (suc i, h, e, d) = (i, omega arith, e, d)
 
-star_turned : (faces : List Face) (v k : ℕ) (nb : ℕ → ℕ) → IsStar faces v k nb → (s : ℕ) → IsStar faces v k (λ j. nb (j + s))
+star_turned : (faces : List Face) (v k : ℕ) (nb : ℕ → ℕ) → IsStar faces v k nb → (s : ℕ)
+    → IsStar faces v k (λ j. nb (j + s))
 star_turned faces v k nb star zero = subst (IsStar faces v k) (λ o j. nb (none j o)) star
   where
     none : (j : ℕ) → j ≡ j + 0
     none j = omega arith
-star_turned faces v k nb star (suc s) = subst (IsStar faces v k) (λ o j. nb (one j o)) (star_turned_once faces v k (λ j. nb (j + s)) (star_turned faces v k nb star s))
+star_turned faces v k nb star (suc s) = subst (IsStar faces v k) (λ o j. nb (one j o))
+    (star_turned_once faces v k (λ j. nb (j + s)) (star_turned faces v k nb star s))
   where
     one : (j : ℕ) → suc j + s ≡ j + suc s
     one j = omega arith
@@ -278,7 +363,11 @@ after_other t x n = grind (arith, nat_tests)
 round_fits : (t j : ℕ) → round t j ≤ t
 unfolding round
 round_fits t zero = omega arith
-round_fits t (suc j) = elim (cases_eq (round t j) t) [ inl e ↦ first (after_in t (round t j)) (after_last t (round t j) e) | inr n ↦ later (round t j) (after_in t (round t j)) (round_fits t j) n (after_other t (round t j) n) ]
+round_fits t (suc j) = elim (cases_eq (round t j) t) [
+  | inl e ↦ first (after_in t (round t j)) (after_last t (round t j) e)
+  | inr n ↦
+      later (round t j) (after_in t (round t j)) (round_fits t j) n (after_other t (round t j) n)
+]
   where
     first : (x : ℕ) → x ≡ 0 → x ≤ t
     first x e = omega arith
@@ -296,23 +385,34 @@ round_own t (suc j) h = ap (after_in t) (round_own t j (omega arith)) ∙ after_
 
 round_again : (t j : ℕ) → round t (j + suc t) ≡ round t j
 unfolding round
-round_again t zero = ap (round t) (sym (from_none (suc t))) ∙ ap (after_in t) (round_own t t (omega arith)) ∙ after_last t t refl
+round_again t zero = ap (round t) (sym (from_none (suc t)))
+    ∙ ap (after_in t) (round_own t t (omega arith)) ∙ after_last t t refl
 round_again t (suc j) = ap (round t) (sym (next_sum j (suc t))) ∙ ap (after_in t) (round_again t j)
 
 -- ---- at an inner vertex
 -- the star begins after the edge that is flipped
-module _ (points : List Point) (faces new : List Face) (outer outer' : List (ℕ × ℕ)) (v a b c t : ℕ) (nb : ℕ → ℕ) (m : LocalMesh points faces outer) (after : LocalMesh points new outer') (star : IsStar faces v (suc (suc t)) nb)
-    (at_a : nb t ≡ a) (at_b : nb (suc t) ≡ b) (at_c : nb 0 ≡ c) (first : IsFaceOf faces v a b) (second : IsFaceOf faces v b c) (change : FacesChange faces new (face v a b ∷ face v b c ∷ []) (face v a c ∷ face a b c ∷ [])) where
+module _ (points : List Point) (faces new : List Face) (outer outer' : List (ℕ × ℕ)) (v a b c t : ℕ)
+    (nb : ℕ → ℕ) (m : LocalMesh points faces outer) (after : LocalMesh points new outer')
+    (star : IsStar faces v (suc (suc t)) nb) (at_a : nb t ≡ a) (at_b : nb (suc t) ≡ b)
+    (at_c : nb 0 ≡ c) (first : IsFaceOf faces v a b) (second : IsFaceOf faces v b c) (change :
+    FacesChange faces new (face v a b ∷ face v b c ∷ []) (face v a c ∷ face a b c ∷ [])) where
   shrunk : IsStar new v (suc t) (λ j. nb (round t j))
   unfolding round
-  shrunk = record { around = around; again = λ j. ap nb (round_again t j); apart = apart'; only = only }
+  shrunk =
+      record { around = around; again = λ j. ap nb (round_again t j); apart = apart'; only = only }
     where
       around : (j : ℕ) → IsFaceOf new v (nb (round t j)) (nb (after_in t (round t j)))
       around j = elim (cases_eq (round t j) t) [
-        | inl e ↦ subst (λ z. IsFaceOf new v (nb (round t j)) (nb z)) (sym (after_last t (round t j) e))
-            (subst (λ z. IsFaceOf new v z (nb 0)) (sym at_a ∙ ap nb (sym e)) (subst (IsFaceOf new v a) (sym at_c) (made points faces new outer outer' v a b c m after first second change)))
-        | inr n ↦ subst (λ z. IsFaceOf new v (nb (round t j)) (nb z)) (sym (after_other t (round t j) n))
-            (other_stays points faces new outer outer' v a b c m after first second change (nb (round t j)) (nb (suc (round t j))) (star.around (round t j)) (not_a (round t j) (round_fits t j) n) (not_b (round t j) (round_fits t j)))
+        | inl e ↦
+            subst (λ z. IsFaceOf new v (nb (round t j)) (nb z)) (sym (after_last t (round t j) e))
+            (subst (λ z. IsFaceOf new v z (nb 0)) (sym at_a ∙ ap nb (sym e))
+            (subst (IsFaceOf new v a) (sym at_c)
+            (made points faces new outer outer' v a b c m after first second change)))
+        | inr n ↦
+            subst (λ z. IsFaceOf new v (nb (round t j)) (nb z)) (sym (after_other t (round t j) n))
+            (other_stays points faces new outer outer' v a b c m after first second change
+            (nb (round t j)) (nb (suc (round t j))) (star.around (round t j))
+            (not_a (round t j) (round_fits t j) n) (not_b (round t j) (round_fits t j)))
       ]
         where
           not_a : (x : ℕ) → x ≤ t → x ≢ t → nb x ≢ a
@@ -325,22 +425,43 @@ module _ (points : List Point) (faces new : List Face) (outer outer' : List (ℕ
               short e = omega arith
 
       apart' : (i j : ℕ) → i < suc t → j < suc t → nb (round t i) ≡ nb (round t j) → i ≡ j
-      apart' i j hi hj e = star.apart i j (omega arith) (omega arith) (ap nb (sym (round_own t i (omega arith))) ∙ e ∙ ap nb (round_own t j (omega arith)))
+      apart' i j hi hj e = star.apart i j (omega arith) (omega arith)
+          (ap nb (sym (round_own t i (omega arith))) ∙ e ∙ ap nb (round_own t j (omega arith)))
 
-      only : (x y : ℕ) → IsFaceOf new v x y → (j : ℕ) × (j < suc t) × (nb (round t j) ≡ x) × (nb (after_in t (round t j)) ≡ y)
+      only : (x y : ℕ) → IsFaceOf new v x y
+          → (j : ℕ) × (j < suc t) × (nb (round t j) ≡ x) × (nb (after_in t (round t j)) ≡ y)
       only x y h = go (came points faces new outer outer' v a b c m after first second change x y h)
         where
-          old : (j : ℕ) → j < suc (suc t) → j ≢ t → j ≢ suc t → nb j ≡ x → nb (suc j) ≡ y → (j : ℕ) × (j < suc t) × (nb (round t j) ≡ x) × (nb (after_in t (round t j)) ≡ y)
-          old j l n n' e d = (j, omega arith, ap nb (round_own t j (omega arith)) ∙ e, ap (λ z. nb (after_in t z)) (round_own t j (omega arith)) ∙ ap nb (after_other t j n) ∙ d)
+          old : (j : ℕ) → j < suc (suc t) → j ≢ t → j ≢ suc t → nb j ≡ x → nb (suc j) ≡ y
+              → (j : ℕ) × (j < suc t) × (nb (round t j) ≡ x) × (nb (after_in t (round t j)) ≡ y)
+          old j l n n' e d = (
+            j,
+            omega arith,
+            ap nb (round_own t j (omega arith)) ∙ e,
+            ap (λ z. nb (after_in t z))
+                (round_own t j (omega arith)) ∙ ap nb (after_other t j n) ∙ d,
+          )
 
-          go : ((x ≡ a) × (y ≡ c)) ⊎ (IsFaceOf faces v x y × (x ≢ a) × (x ≢ b)) → (j : ℕ) × (j < suc t) × (nb (round t j) ≡ x) × (nb (after_in t (round t j)) ≡ y)
-          go (inl e) = (t, omega arith, ap nb (round_own t t (omega arith)) ∙ at_a ∙ sym e.0, ap (λ z. nb (after_in t z)) (round_own t t (omega arith)) ∙ ap nb (after_last t t refl) ∙ at_c ∙ sym e.1)
-          go (inr (o, na, nc)) = let r = star.only x y o in old r.0 r.1 (λ e. na (sym r.2 ∙ ap nb e ∙ at_a)) (λ e. nc (sym r.2 ∙ ap nb e ∙ at_b)) r.2 r.3
+          go : ((x ≡ a) × (y ≡ c)) ⊎ (IsFaceOf faces v x y × (x ≢ a) × (x ≢ b))
+              → (j : ℕ) × (j < suc t) × (nb (round t j) ≡ x) × (nb (after_in t (round t j)) ≡ y)
+          go (inl e) = (
+            t,
+            omega arith,
+            ap nb (round_own t t (omega arith)) ∙ at_a ∙ sym e.0,
+            ap (λ z. nb (after_in t z)) (round_own t t (omega arith))
+                ∙ ap nb (after_last t t refl) ∙ at_c ∙ sym e.1,
+          )
+          go (inr (o, na, nc)) = let r = star.only x y o in old r.0 r.1
+              (λ e. na (sym r.2 ∙ ap nb e ∙ at_a)) (λ e. nc (sym r.2 ∙ ap nb e ∙ at_b)) r.2 r.3
 
 -- a flip at an inner vertex leaves out one neighbour, and the star goes on from the next
 pub inner_star_shrinks : InnerStarShrinks
-inner_star_shrinks points faces new outer outer' v k nb i m star four s =
-    ((λ j. nb (round (k - 2) j + suc (suc i))), subst (λ z. IsStar new v z (λ j. nb (round (k - 2) j + suc (suc i)))) (one_less k four) star', λ j h. ap (λ z. nb (z + suc (suc i))) (round_own (k - 2) j (omega arith)))
+inner_star_shrinks points faces new outer outer' v k nb i m star four s = (
+  (λ j. nb (round (k - 2) j + suc (suc i))),
+  subst
+      (λ z. IsStar new v z (λ j. nb (round (k - 2) j + suc (suc i)))) (one_less k four) star',
+  λ j h. ap (λ z. nb (z + suc (suc i))) (round_own (k - 2) j (omega arith)),
+)
   where
     one_less : (k : ℕ) → 4 ≤ k → suc (k - 2) ≡ k - 1
     one_less k h = omega arith
@@ -361,27 +482,35 @@ inner_star_shrinks points faces new outer outer' v k nb i m star four s =
     g = star.around (suc i)
 
     star' : IsStar new v (suc (k - 2)) (λ j. nb (round (k - 2) j + suc (suc i)))
-    star' = shrunk points faces new outer outer' v (nb i) (nb (suc i)) (nb (suc (suc i))) (k - 2) (λ j. nb (j + suc (suc i))) m (mesh_after points faces new outer outer' v i nb m f g s)
-        (subst (λ z. IsStar faces v z (λ j. nb (j + suc (suc i)))) (two_less k four) (star_turned faces v k nb star (suc (suc i))))
-        (ap nb (before_last k four) ∙ star.again i) (ap nb (at_last k four) ∙ star.again (suc i)) (ap nb (sym (from_none (suc (suc i))))) f g s.faces_change
+    star' = shrunk points faces new outer outer' v (nb i) (nb (suc i)) (nb (suc (suc i))) (k - 2)
+        (λ j. nb (j + suc (suc i))) m (mesh_after points faces new outer outer' v i nb m f g s)
+        (subst (λ z. IsStar faces v z (λ j. nb (j + suc (suc i)))) (two_less k four)
+        (star_turned faces v k nb star (suc (suc i))))
+        (ap nb (before_last k four) ∙ star.again i) (ap nb (at_last k four) ∙ star.again (suc i))
+        (ap nb (sym (from_none (suc (suc i))))) f g s.faces_change
 
 -- ---- one star
 -- two lists of a vertex's star hold the same faces
 pub stars_agree : StarsAgree
-stars_agree points faces outer v k l nb other m star star' = (same (cases_lt k l) (cases_lt l k), (begins.0, begins.1, along))
+stars_agree points faces outer v k l nb other m star star' =
+    (same (cases_lt k l) (cases_lt l k), (begins.0, begins.1, along))
   where
     begins : (i : ℕ) × (i < k) × (nb i ≡ other 0) × (nb (suc i) ≡ other 1)
     begins = star.only (other 0) (other 1) (star'.around 0)
 
     along : (i : ℕ) → other i ≡ nb (i + begins.0)
     along zero = sym begins.2 ∙ ap nb (from_none begins.0)
-    along (suc i) = one_third points faces outer m v (other i) (other (suc i)) (nb (suc (i + begins.0))) (star'.around i) (subst (λ z. IsFaceOf faces v z (nb (suc (i + begins.0)))) (sym (along i)) (star.around (i + begins.0))) ∙ ap nb (next_sum i begins.0)
+    along (suc i) =
+        one_third points faces outer m v (other i) (other (suc i)) (nb (suc (i + begins.0)))
+        (star'.around i) (subst (λ z. IsFaceOf faces v z (nb (suc (i + begins.0)))) (sym (along i))
+        (star.around (i + begins.0))) ∙ ap nb (next_sum i begins.0)
 
     own : (i : ℕ) × (i < l) × (other i ≡ other 0) × (other (suc i) ≡ other 1)
     own = star'.only (other 0) (other 1) (star'.around 0)
 
     shorter : k < l → ⊥
-    shorter h = none (star'.apart k 0 h (omega arith) (along k ∙ ap nb (swapped k begins.0) ∙ star.again begins.0 ∙ begins.2))
+    shorter h = none (star'.apart k 0 h (omega arith)
+        (along k ∙ ap nb (swapped k begins.0) ∙ star.again begins.0 ∙ begins.2))
       where
         swapped : (k s : ℕ) → k + s ≡ s + k
         swapped k s = omega arith
@@ -390,7 +519,8 @@ stars_agree points faces outer v k l nb other m star star' = (same (cases_lt k l
         none e = let f = begins.1 in omega arith
 
     longer : l < k → ⊥
-    longer h = none ((star_turned faces v k nb star begins.0).apart l 0 h (omega arith) (sym (along l) ∙ ap other (from_none l) ∙ star'.again 0 ∙ along 0))
+    longer h = none ((star_turned faces v k nb star begins.0).apart l 0 h (omega arith)
+        (sym (along l) ∙ ap other (from_none l) ∙ star'.again 0 ∙ along 0))
       where
         none : l ≡ 0 → ⊥
         none e = let f = own.1 in omega arith
@@ -400,13 +530,16 @@ stars_agree points faces outer v k l nb other m star star' = (same (cases_lt k l
     same (inr h) (inl o) = absurd (longer o)
     same (inr h) (inr o) = omega arith
 
-module _ (points : List Point) (faces : List Face) (outer : List (ℕ × ℕ)) (m : LocalMesh points faces outer) (v k l : ℕ) (nb other : ℕ → ℕ) (star : IsHullStar faces outer v k nb) (star' : IsHullStar faces outer v l other) where
+module _ (points : List Point) (faces : List Face) (outer : List (ℕ × ℕ))
+    (m : LocalMesh points faces outer) (v k l : ℕ) (nb other : ℕ → ℕ)
+    (star : IsHullStar faces outer v k nb) (star' : IsHullStar faces outer v l other) where
   signs_of : SignMesh (length points) (point_at points) faces outer
   signs_of = by_signs points faces outer m
 
   some_face : 0 < k
   some_face =
-      let s = C.behind_outer (length points) (point_at points) faces outer signs_of v (nb k) star.leaves in
+      let s = C.behind_outer (length points) (point_at points) faces outer signs_of v
+      (nb k) star.leaves in
       let o = star.only s.0 (nb k) (turned faces (nb k) v s.0 s.1) in
       above o.0 o.1
     where
@@ -418,19 +551,31 @@ module _ (points : List Point) (faces : List Face) (outer : List (ℕ × ℕ)) (
     where
       go : (j : ℕ) × (j < l) × (other j ≡ nb 0) × (other (suc j) ≡ nb 1) → other 0 ≡ nb 0
       go (zero, h, e, d) = e
-      go (suc j, h, e, d) = absurd (L.outer_is_no_side (length points) (point_at points) faces outer signs_of (nb 0) v star.arrives
-          (subst (λ z. HasSide faces z v) e (other j, turned faces (other j) (other (suc j)) v (turned faces v (other j) (other (suc j)) (star'.around j (omega arith))))))
+      go (suc j, h, e, d) = absurd (L.outer_is_no_side (length points)
+          (point_at points) faces outer signs_of (nb 0) v star.arrives
+          (subst (λ z. HasSide faces z v) e (
+            other j,
+            turned faces (other j) (other (suc j)) v
+                (turned faces v (other j) (other (suc j)) (star'.around j (omega arith))),
+          )))
 
   each_is : (i : ℕ) → i ≤ k → i ≤ l → other i ≡ nb i
   each_is zero h e = first_is
-  each_is (suc i) h e = one_third points faces outer m v (other i) (other (suc i)) (nb (suc i)) (star'.around i (omega arith)) (subst (λ z. IsFaceOf faces v z (nb (suc i))) (sym (each_is i (omega arith) (omega arith))) (star.around i (omega arith)))
+  each_is (suc i) h e = one_third points faces outer m v (other i) (other (suc i)) (nb (suc i))
+      (star'.around i (omega arith)) (subst (λ z. IsFaceOf faces v z (nb (suc i)))
+      (sym (each_is i (omega arith) (omega arith))) (star.around i (omega arith)))
 
   not_longer : k < l → ⊥
-  not_longer h = L.outer_is_no_side (length points) (point_at points) faces outer signs_of v (nb k) star.leaves (subst (λ z. HasSide faces v z) (each_is k (omega arith) (omega arith)) (other (suc k), star'.around k h))
+  not_longer h = L.outer_is_no_side (length points) (point_at points) faces outer signs_of v
+      (nb k) star.leaves (subst (λ z. HasSide faces v z) (each_is k (omega arith) (omega arith))
+      (other (suc k), star'.around k h))
 
 -- two readings of the faces round a vertex of the hull are one
 pub hull_stars_agree : HullStarsAgree
-hull_stars_agree points faces outer v k l nb other m star star' = (same (cases_lt k l) (cases_lt l k), λ i h. each_is points faces outer m v k l nb other star star' i h (fits i h (cases_lt l k)))
+hull_stars_agree points faces outer v k l nb other m star star' = (
+  same (cases_lt k l) (cases_lt l k),
+  λ i h. each_is points faces outer m v k l nb other star star' i h (fits i h (cases_lt l k)),
+)
   where
     shorter : k < l → ⊥
     shorter = not_longer points faces outer m v k l nb other star star'

@@ -19,38 +19,65 @@ use Rattle.plane_segments.proofs.Constraints.Pieces.{on_parts}
 use Rattle.plane.proofs.Signs.{less_by_difference, sum_is_positive, lower_magnitude}
 use Rattle.plane_edits.proofs.Legalization.Legal.{squared_way_nonneg}
 
-scaled : (n k l i j w : ℤ) → n *ℤ w ≡ k *ℤ i +ℤ l *ℤ j → n *ℤ pos 1 ≡ k *ℤ pos 1 +ℤ l *ℤ pos 1 → n *ℤ (j -ℤ w) ≡ k *ℤ (j -ℤ i)
-scaled n k l i j w e d = ring_in_from (n ∷ k ∷ l ∷ i ∷ j ∷ w ∷ []) (λ n k l i j w. n ⊗ (j ⊖ w)) (λ n k l i j w. k ⊗ (j ⊖ i))
-    (λ n k l i j w. (num 0 ⊖ num 1, n ⊗ w, k ⊗ i ⊕ l ⊗ j) ∷ (j, n ⊗ num 1, k ⊗ num 1 ⊕ l ⊗ num 1) ∷ []) (e, (d, tt)) tt
+scaled : (n k l i j w : ℤ) → n *ℤ w ≡ k *ℤ i +ℤ l *ℤ j → n *ℤ pos 1 ≡ k *ℤ pos 1 +ℤ l *ℤ pos 1
+    → n *ℤ (j -ℤ w) ≡ k *ℤ (j -ℤ i)
+scaled n k l i j w e d = ring_in_from (n ∷ k ∷ l ∷ i ∷ j ∷ w ∷ []) (λ n k l i j w. n ⊗ (j ⊖ w))
+    (λ n k l i j w. k ⊗ (j ⊖ i))
+    (λ n k l i j w. (num 0 ⊖ num 1, n ⊗ w, k ⊗ i ⊕ l ⊗ j) ∷ (j, n ⊗ num 1, k ⊗ num 1 ⊕ l ⊗ num 1)
+    ∷ []) (e, (d, tt)) tt
 
-difference : (n k s t : ℤ) → (n *ℤ n) *ℤ s ≡ (k *ℤ k) *ℤ t → (n *ℤ n) *ℤ (t -ℤ s) ≡ ((n -ℤ k) *ℤ (n +ℤ k)) *ℤ t
-difference n k s t e = ring_in_from (n ∷ k ∷ s ∷ t ∷ []) (λ n k s t. (n ⊗ n) ⊗ (t ⊖ s)) (λ n k s t. ((n ⊖ k) ⊗ (n ⊕ k)) ⊗ t) (λ n k s t. (num 0 ⊖ num 1, (n ⊗ n) ⊗ s, (k ⊗ k) ⊗ t) ∷ []) (e, tt) tt
+difference : (n k s t : ℤ) → (n *ℤ n) *ℤ s ≡ (k *ℤ k) *ℤ t
+    → (n *ℤ n) *ℤ (t -ℤ s) ≡ ((n -ℤ k) *ℤ (n +ℤ k)) *ℤ t
+difference n k s t e = ring_in_from (n ∷ k ∷ s ∷ t ∷ []) (λ n k s t. (n ⊗ n) ⊗ (t ⊖ s))
+    (λ n k s t. ((n ⊖ k) ⊗ (n ⊕ k)) ⊗ t)
+    (λ n k s t. (num 0 ⊖ num 1, (n ⊗ n) ⊗ s, (k ⊗ k) ⊗ t) ∷ []) (e, tt) tt
 
 way_above : (q p : Point) → ¬ (q ≡ p) → pos 0 <ℤ squared_way q p
-way_above q p n = elim (zero_or_left (squared_way_nonneg q p)) [ inl e ↦ absurd (n (let b = not_both (p.x -ℤ q.x) (p.y -ℤ q.y) e in λ i. record { x = one_number q.x p.x b.0 i; y = one_number q.y p.y b.1 i })) | inr h ↦ h ]
+way_above q p n = elim (zero_or_left (squared_way_nonneg q p)) [
+  | inl e ↦ absurd (n (let b = not_both (p.x -ℤ q.x) (p.y -ℤ q.y) e in
+      λ i. record { x = one_number q.x p.x b.0 i; y = one_number q.y p.y b.1 i }))
+  | inr h ↦ h
+]
 
 way_none : (p : Point) → squared_way p p ≡ pos 0
-way_none p = ring_over points_shape [] (p ∷ []) (λ p. (p.x ⊖ p.x) ⊗ (p.x ⊖ p.x) ⊕ (p.y ⊖ p.y) ⊗ (p.y ⊖ p.y)) (λ p. num 0) tt
+way_none p = ring_over points_shape [] (p ∷ [])
+    (λ p. (p.x ⊖ p.x) ⊗ (p.x ⊖ p.x) ⊕ (p.y ⊖ p.y) ⊗ (p.y ⊖ p.y)) (λ p. num 0) tt
 
 -- from a point strictly within it is nearer to the end
-within_nearer : (i j w : Point) → ¬ (i ≡ j) → WithinSegment (whole i) (whole j) (whole w) → squared_way w j <ℤ squared_way i j
+within_nearer : (i j w : Point) → ¬ (i ≡ j) → WithinSegment (whole i) (whole j) (whole w)
+    → squared_way w j <ℤ squared_way i j
 within_nearer i j w apart h =
     let t = two_weights IsPositive (whole i) (whole j) (whole w) h in
-    let e = same_values t.n t.k (j.x -ℤ w.x) (j.y -ℤ w.y) (j.x -ℤ i.x) (j.y -ℤ i.y) (scaled t.n t.k t.l i.x j.x w.x t.x t.w) (scaled t.n t.k t.l i.y j.y w.y t.y t.w) in
-    less_by_difference (squared_way w j) (squared_way i j) (pos_of_mul-pos_ℤ (mul-pos_ℤ t.positive t.positive) (subst (λ z. pos 0 <ℤ z) (sym (difference t.n t.k (squared_way w j) (squared_way i j) e))
-    (mul-pos_ℤ (mul-pos_ℤ (falls t.n t.k t.l t.w t.l_allowed) (sum_is_positive t.n t.k t.positive t.k_allowed)) (way_above i j apart))))
+    let e = same_values t.n t.k (j.x -ℤ w.x) (j.y -ℤ w.y) (j.x -ℤ i.x) (j.y -ℤ i.y)
+    (scaled t.n t.k t.l i.x j.x w.x t.x t.w) (scaled t.n t.k t.l i.y j.y w.y t.y t.w) in
+    less_by_difference (squared_way w j) (squared_way i j)
+    (pos_of_mul-pos_ℤ (mul-pos_ℤ t.positive t.positive)
+    (subst (λ z. pos 0 <ℤ z) (sym (difference t.n t.k (squared_way w j) (squared_way i j) e))
+    (mul-pos_ℤ (mul-pos_ℤ (falls t.n t.k t.l t.w t.l_allowed)
+    (sum_is_positive t.n t.k t.positive t.k_allowed)) (way_above i j apart))))
   where
     falls : (n k l : ℤ) → n *ℤ pos 1 ≡ k *ℤ pos 1 +ℤ l *ℤ pos 1 → pos 0 <ℤ l → pos 0 <ℤ (n -ℤ k)
     falls n k l e h = omega (arith, ints)
 
 -- the path from the end of its first piece is shorter
 pub path_shortens : PathShortens
-path_shortens points i j w distinct hi hj ij n = lower_magnitude (squared_way (point_of points w) (point_of points j)) (squared_way (point_of points i) (point_of points j)) (squared_way_nonneg (point_of points w) (point_of points j)) (go (on_parts (place points i) (place points j) (place points w) n.second))
+path_shortens points i j w distinct hi hj ij n =
+    lower_magnitude (squared_way (point_of points w) (point_of points j))
+    (squared_way (point_of points i) (point_of points j)) (squared_way_nonneg (point_of points w)
+    (point_of points j)) (go (on_parts (place points i) (place points j) (place points w) n.second))
   where
     apart : ¬ (point_of points i ≡ point_of points j)
     apart e = distinct i j hi hj ij (ap whole e)
 
-    go : IsSame (place points w) (place points i) ⊎ (IsSame (place points w) (place points j) ⊎ WithinSegment (place points i) (place points j) (place points w)) → squared_way (point_of points w) (point_of points j) <ℤ squared_way (point_of points i) (point_of points j)
-    go (inl s) = absurd (distinct w i n.second_index hi (λ e. n.apart (sym e)) (ap whole (one_point (point_of points w) (point_of points i) s)))
-    go (inr (inl s)) = subst (λ z. z <ℤ squared_way (point_of points i) (point_of points j)) (sym (ap (λ (q : Point). squared_way q (point_of points j)) (one_point (point_of points w) (point_of points j) s) ∙ way_none (point_of points j))) (way_above (point_of points i) (point_of points j) apart)
-    go (inr (inr h)) = within_nearer (point_of points i) (point_of points j) (point_of points w) apart h
+    go : IsSame (place points w) (place points i) ⊎ (IsSame (place points w) (place points j)
+        ⊎ WithinSegment (place points i) (place points j) (place points w))
+        → squared_way (point_of points w) (point_of points j)
+        <ℤ squared_way (point_of points i) (point_of points j)
+    go (inl s) = absurd (distinct w i n.second_index hi (λ e. n.apart (sym e))
+        (ap whole (one_point (point_of points w) (point_of points i) s)))
+    go (inr (inl s)) = subst (λ z. z <ℤ squared_way (point_of points i) (point_of points j))
+        (sym (ap (λ (q : Point). squared_way q (point_of points j))
+        (one_point (point_of points w) (point_of points j) s) ∙ way_none (point_of points j)))
+        (way_above (point_of points i) (point_of points j) apart)
+    go (inr (inr h)) =
+        within_nearer (point_of points i) (point_of points j) (point_of points w) apart h

@@ -1,4 +1,5 @@
--- The path to a constraint, in the words of specs/: where nothing crosses, an edge; else a flip that can be made.
+-- The path to a constraint, in the words of specs/: where nothing crosses, an edge; else a flip
+-- that can be made.
 use Rattle.std.proofs.Common.{◌≡◌, ℕ, [], ◌∷◌, sym, ap, ◌∙◌}
 use mathlib.Core.Logic.{inl, inr}
 use Rattle.std.specs.Prelude.{ℤ, pos, ◌+ℤ◌, ◌-ℤ◌, ◌*ℤ◌, ◌≤ℤ◌}
@@ -9,7 +10,8 @@ use Rattle.plane.proofs.Sides.{on_if, if_not_right}
 use Rattle.plane.proofs.Means.{mean_of_two}
 use Rattle.plane.proofs.IntegerOrder.{lt_or_ge_ℤ}
 use Rattle.plane.proofs.Solver.{num, ◌⊕◌, ◌⊖◌, ◌⊗◌, ring_over, ring_in_from}
-use Rattle.plane_delaunay.proofs.Points.Bracket.{fraction, bracket, bracketᵖ, left_if_above, above_if_left}
+use Rattle.plane_delaunay.proofs.Points.Bracket.{fraction, bracket, bracketᵖ, left_if_above}
+use Rattle.plane_delaunay.proofs.Points.Bracket.{above_if_left}
 use Rattle.plane_delaunay.proofs.Tilings.Faces.{Between}
 use Rattle.plane_delaunay.proofs.Tilings.Ground.{tiling}
 use Rattle.plane.proofs.Triangles.{turned_face}
@@ -28,21 +30,30 @@ spot x y = record { x = x; y = y; w = pos 1; positive = record { lt = tt } }
 
 read_y : (z : Fraction) → bracket (spot (pos 0) (pos 0)) (spot (pos 1) (pos 0)) z ≡ z.y
 unfolding spot bracket
-read_y z = ring_over fraction [] (z ∷ []) (λ z. bracketᵖ (record { x = num 0; y = num 0; w = num 1 }) (record { x = num 1; y = num 0; w = num 1 }) z) (λ z. z.y) tt
+read_y z =
+    ring_over fraction [] (z ∷ []) (λ z. bracketᵖ (record { x = num 0; y = num 0; w = num 1 })
+    (record { x = num 1; y = num 0; w = num 1 }) z) (λ z. z.y) tt
 
 read_x : (z : Fraction) → bracket (spot (pos 0) (pos 1)) (spot (pos 0) (pos 0)) z ≡ z.x
 unfolding spot bracket
-read_x z = ring_over fraction [] (z ∷ []) (λ z. bracketᵖ (record { x = num 0; y = num 1; w = num 1 }) (record { x = num 0; y = num 0; w = num 1 }) z) (λ z. z.x) tt
+read_x z =
+    ring_over fraction [] (z ∷ []) (λ z. bracketᵖ (record { x = num 0; y = num 1; w = num 1 })
+    (record { x = num 0; y = num 0; w = num 1 }) z) (λ z. z.x) tt
 
-read_w : (z : Fraction) → bracket (spot (pos 1) (pos 0)) (spot (pos 0) (pos 1)) z ≡ z.w -ℤ z.x -ℤ z.y
+read_w : (z : Fraction)
+    → bracket (spot (pos 1) (pos 0)) (spot (pos 0) (pos 1)) z ≡ z.w -ℤ z.x -ℤ z.y
 unfolding spot bracket
-read_w z = ring_over fraction [] (z ∷ []) (λ z. bracketᵖ (record { x = num 1; y = num 0; w = num 1 }) (record { x = num 0; y = num 1; w = num 1 }) z) (λ z. z.w ⊖ z.x ⊖ z.y) tt
+read_w z =
+    ring_over fraction [] (z ∷ []) (λ z. bracketᵖ (record { x = num 1; y = num 0; w = num 1 })
+    (record { x = num 0; y = num 1; w = num 1 }) z) (λ z. z.w ⊖ z.x ⊖ z.y) tt
 
-same_sum : (n k l c a b c' a' b' : ℤ) → c ≡ c' → a ≡ a' → b ≡ b' → n *ℤ c ≡ k *ℤ a +ℤ l *ℤ b → n *ℤ c' ≡ k *ℤ a' +ℤ l *ℤ b'
+same_sum : (n k l c a b c' a' b' : ℤ) → c ≡ c' → a ≡ a' → b ≡ b' → n *ℤ c ≡ k *ℤ a +ℤ l *ℤ b
+    → n *ℤ c' ≡ k *ℤ a' +ℤ l *ℤ b'
 same_sum n k l c a b c' a' b' e f g h = ap (λ z. n *ℤ z) (sym e) ∙ h ∙ (λ i. k *ℤ f i +ℤ l *ℤ g i)
 
 -- a positive combination of two vertices is strictly between them
-within_of_between : (a b c : Point) → Between (whole a) (whole b) (whole c) → WithinSegment (whole a) (whole b) (whole c)
+within_of_between : (a b c : Point) → Between (whole a) (whole b) (whole c)
+    → WithinSegment (whole a) (whole b) (whole c)
 within_of_between a b c h = mean_of_two IsPositive (whole a) (whole b) (whole c) (record {
   k = h.k;
   l = h.l;
@@ -52,18 +63,39 @@ within_of_between a b c h = mean_of_two IsPositive (whole a) (whole b) (whole c)
   positive = h.n_above;
   x = x;
   y = y;
-  w = ones h.n h.k h.l c.x c.y a.x a.y b.x b.y (same_sum h.n h.k h.l (bracket (spot (pos 1) (pos 0)) (spot (pos 0) (pos 1)) (whole c)) (bracket (spot (pos 1) (pos 0)) (spot (pos 0) (pos 1)) (whole a)) (bracket (spot (pos 1) (pos 0)) (spot (pos 0) (pos 1)) (whole b)) (pos 1 -ℤ c.x -ℤ c.y) (pos 1 -ℤ a.x -ℤ a.y) (pos 1 -ℤ b.x -ℤ b.y) (read_w (whole c)) (read_w (whole a)) (read_w (whole b)) (h.along (spot (pos 1) (pos 0)) (spot (pos 0) (pos 1)))) x y;
+  w = ones h.n h.k h.l c.x c.y a.x a.y b.x b.y
+      (same_sum h.n h.k h.l (bracket (spot (pos 1) (pos 0)) (spot (pos 0) (pos 1)) (whole c))
+      (bracket (spot (pos 1) (pos 0)) (spot (pos 0) (pos 1)) (whole a))
+      (bracket (spot (pos 1) (pos 0)) (spot (pos 0) (pos 1)) (whole b)) (pos 1 -ℤ c.x -ℤ c.y)
+      (pos 1 -ℤ a.x -ℤ a.y) (pos 1 -ℤ b.x -ℤ b.y) (read_w (whole c)) (read_w (whole a))
+      (read_w (whole b)) (h.along (spot (pos 1) (pos 0)) (spot (pos 0) (pos 1)))) x y;
 })
   where
     x : h.n *ℤ c.x ≡ h.k *ℤ a.x +ℤ h.l *ℤ b.x
-    x = same_sum h.n h.k h.l (bracket (spot (pos 0) (pos 1)) (spot (pos 0) (pos 0)) (whole c)) (bracket (spot (pos 0) (pos 1)) (spot (pos 0) (pos 0)) (whole a)) (bracket (spot (pos 0) (pos 1)) (spot (pos 0) (pos 0)) (whole b)) c.x a.x b.x (read_x (whole c)) (read_x (whole a)) (read_x (whole b)) (h.along (spot (pos 0) (pos 1)) (spot (pos 0) (pos 0)))
+    x = same_sum h.n h.k h.l (bracket (spot (pos 0) (pos 1)) (spot (pos 0) (pos 0)) (whole c))
+        (bracket (spot (pos 0) (pos 1)) (spot (pos 0) (pos 0)) (whole a))
+        (bracket (spot (pos 0) (pos 1)) (spot (pos 0) (pos 0)) (whole b)) c.x a.x b.x
+        (read_x (whole c)) (read_x (whole a)) (read_x (whole b))
+        (h.along (spot (pos 0) (pos 1)) (spot (pos 0) (pos 0)))
 
     y : h.n *ℤ c.y ≡ h.k *ℤ a.y +ℤ h.l *ℤ b.y
-    y = same_sum h.n h.k h.l (bracket (spot (pos 0) (pos 0)) (spot (pos 1) (pos 0)) (whole c)) (bracket (spot (pos 0) (pos 0)) (spot (pos 1) (pos 0)) (whole a)) (bracket (spot (pos 0) (pos 0)) (spot (pos 1) (pos 0)) (whole b)) c.y a.y b.y (read_y (whole c)) (read_y (whole a)) (read_y (whole b)) (h.along (spot (pos 0) (pos 0)) (spot (pos 1) (pos 0)))
+    y = same_sum h.n h.k h.l (bracket (spot (pos 0) (pos 0)) (spot (pos 1) (pos 0)) (whole c))
+        (bracket (spot (pos 0) (pos 0)) (spot (pos 1) (pos 0)) (whole a))
+        (bracket (spot (pos 0) (pos 0)) (spot (pos 1) (pos 0)) (whole b)) c.y a.y b.y
+        (read_y (whole c)) (read_y (whole a)) (read_y (whole b))
+        (h.along (spot (pos 0) (pos 0)) (spot (pos 1) (pos 0)))
 
-    ones : (n k l cx cy ax ay bx by : ℤ) → n *ℤ (pos 1 -ℤ cx -ℤ cy) ≡ k *ℤ (pos 1 -ℤ ax -ℤ ay) +ℤ l *ℤ (pos 1 -ℤ bx -ℤ by) → n *ℤ cx ≡ k *ℤ ax +ℤ l *ℤ bx → n *ℤ cy ≡ k *ℤ ay +ℤ l *ℤ by → n *ℤ pos 1 ≡ k *ℤ pos 1 +ℤ l *ℤ pos 1
-    ones n k l cx cy ax ay bx by e f g = ring_in_from (n ∷ k ∷ l ∷ cx ∷ cy ∷ ax ∷ ay ∷ bx ∷ by ∷ []) (λ n k l cx cy ax ay bx by. n ⊗ num 1) (λ n k l cx cy ax ay bx by. k ⊗ num 1 ⊕ l ⊗ num 1)
-        (λ n k l cx cy ax ay bx by. (num 1, n ⊗ (num 1 ⊖ cx ⊖ cy), k ⊗ (num 1 ⊖ ax ⊖ ay) ⊕ l ⊗ (num 1 ⊖ bx ⊖ by)) ∷ (num 1, n ⊗ cx, k ⊗ ax ⊕ l ⊗ bx) ∷ (num 1, n ⊗ cy, k ⊗ ay ⊕ l ⊗ by) ∷ []) (e, (f, (g, tt))) tt
+    ones : (n k l cx cy ax ay bx by : ℤ) → n *ℤ (pos 1 -ℤ cx -ℤ cy)
+        ≡ k *ℤ (pos 1 -ℤ ax -ℤ ay) +ℤ l *ℤ (pos 1 -ℤ bx -ℤ by) → n *ℤ cx ≡ k *ℤ ax +ℤ l *ℤ bx
+        → n *ℤ cy ≡ k *ℤ ay +ℤ l *ℤ by → n *ℤ pos 1 ≡ k *ℤ pos 1 +ℤ l *ℤ pos 1
+    ones n k l cx cy ax ay bx by e f g = ring_in_from (n ∷ k ∷ l ∷ cx ∷ cy ∷ ax ∷ ay ∷ bx ∷ by ∷ [])
+        (λ n k l cx cy ax ay bx by. n ⊗ num 1) (λ n k l cx cy ax ay bx by. k ⊗ num 1 ⊕ l ⊗ num 1)
+        (λ n k l cx cy ax ay bx by. (
+          num 1,
+          n ⊗ (num 1 ⊖ cx ⊖ cy),
+          k ⊗ (num 1 ⊖ ax ⊖ ay) ⊕ l ⊗ (num 1 ⊖ bx ⊖ by),
+        ) ∷ (num 1, n ⊗ cx, k ⊗ ax ⊕ l ⊗ bx)
+        ∷ (num 1, n ⊗ cy, k ⊗ ay ⊕ l ⊗ by) ∷ []) (e, (f, (g, tt))) tt
 
 -- ---- the words of specs/ and those of the theorems on tilings
 above_if_not : (a b c : Fraction) → ¬ (side a b c ≡ right) → pos 0 ≤ℤ bracket a b c
@@ -75,7 +107,8 @@ unfolding bracket
 on_if_none a b c h = on_if a b c h
 
 not_above : (a b c : Fraction) → ¬ TurnsLeft a b c → bracket a b c ≤ℤ pos 0
-not_above a b c h = elim (lt_or_ge_ℤ (pos 0) (bracket a b c)) [ inl k ↦ absurd (h (left_if_above a b c k)) | inr k ↦ k ]
+not_above a b c h = elim
+    (lt_or_ge_ℤ (pos 0) (bracket a b c)) [ inl k ↦ absurd (h (left_if_above a b c k)) | inr k ↦ k ]
 
 module _ (t : Triangulation) (h : TilesHull t) (i j : ℕ) (free : IsFreeOfVertices t i j) where
   -- the first end is a vertex of the tiling
@@ -89,9 +122,11 @@ module _ (t : Triangulation) (h : TilesHull t) (i j : ℕ) (free : IsFreeOfVerti
   at_second = free.second
 
   -- no vertex of the tiling is between the ends
-  pub clear : (n : ℕ) → (tiling t h).IsVertex n → ¬ Between ((tiling t h).at i) ((tiling t h).at j) ((tiling t h).at n)
+  pub clear : (n : ℕ) → (tiling t h).IsVertex n
+      → ¬ Between ((tiling t h).at i) ((tiling t h).at j) ((tiling t h).at n)
   unfolding tiling
-  clear n v b = free.none_between n v (within_of_between (point_of t.points i) (point_of t.points j) (point_of t.points n) b)
+  clear n v b = free.none_between n v
+      (within_of_between (point_of t.points i) (point_of t.points j) (point_of t.points n) b)
 
   abbrev Across : ℕ → ℕ → Type 0
   Across v y = Crosses (tiling t h) i j at_first at_second clear v y
@@ -119,29 +154,41 @@ module _ (t : Triangulation) (h : TilesHull t) (i j : ℕ) (free : IsFreeOfVerti
   }
 
   -- the last on the right by sides is so in the tiling
-  pub last_right : (v : ℕ) → IsLastRight t i j v → F.IsLastRight (tiling t h) i j at_first at_second clear v
+  pub last_right : (v : ℕ) → IsLastRight t i j v
+      → F.IsLastRight (tiling t h) i j at_first at_second clear v
   unfolding tiling
   last_right v l = record {
-    around = λ u w c. above_if_not (vertex t i) (vertex t v) (vertex t u) (l.around u w (crossing u w c));
-    nearer = λ u w c e. l.nearer u w (crossing u w c) (on_if_none (vertex t i) (vertex t v) (vertex t u) e);
+    around = λ u w c. above_if_not (vertex t i) (vertex t v) (vertex t u)
+        (l.around u w (crossing u w c));
+    nearer = λ u w c e. l.nearer u w (crossing u w c)
+        (on_if_none (vertex t i) (vertex t v) (vertex t u) e);
   }
 
   -- the last on the left by sides is so in the tiling
-  pub last_left : (v y : ℕ) → IsLastLeft t i j v y → F.IsLastLeft (tiling t h) i j at_first at_second clear v y
+  pub last_left : (v y : ℕ) → IsLastLeft t i j v y
+      → F.IsLastLeft (tiling t h) i j at_first at_second clear v y
   unfolding tiling
   last_left v y l = record {
     around = λ w c. not_above (vertex t i) (vertex t y) (vertex t w) (l.around w (crossing v w c));
-    nearer = λ w c e. l.nearer w (crossing v w c) (on_if_none (vertex t i) (vertex t y) (vertex t w) e);
+    nearer =
+        λ w c e. l.nearer w (crossing v w c) (on_if_none (vertex t i) (vertex t y) (vertex t w) e);
   }
 
 -- where no edge crosses the segment of two vertices with none strictly between, they are joined
 pub uncrossed_is_edge : UncrossedIsEdge
 unfolding tiling
-uncrossed_is_edge t i j h free none = (h.sides i j).1 (edge_if_uncrossed (tiling t h) i j (at_first t h i j free) (at_second t h i j free) (λ e. free.apart (sym e)) (clear t h i j free) (λ v y c. none v y (crossing t h i j free v y c)))
+uncrossed_is_edge t i j h free none = (h.sides i j).1 (edge_if_uncrossed (tiling t h) i j
+    (at_first t h i j free) (at_second t h i j free) (λ e. free.apart (sym e)) (clear t h i j free)
+    (λ v y c. none v y (crossing t h i j free v y c)))
 
 -- the edge from the last right end to the last left end is across a strictly convex quadrilateral
 pub chosen_flip_is_convex : ChosenFlipIsConvex
 unfolding tiling
 chosen_flip_is_convex t i j v x y z h free c f g last_v last_y =
-    let e = F.flip_exists (tiling t h) i j (at_first t h i j free) (at_second t h i j free) (clear t h i j free) v x y z (crosses t h i j free v y c) (turned_face t x y v (turned_face t v x y f)) g (last_right t h i j free v last_v) (last_left t h i j free v y last_y) in
-    (left_if_above (vertex t v) (vertex t x) (vertex t z) e.0, left_if_above (vertex t x) (vertex t y) (vertex t z) e.1)
+    let e = F.flip_exists (tiling t h) i j (at_first t h i j free) (at_second t h i j free)
+    (clear t h i j free) v x y z (crosses t h i j free v y c)
+    (turned_face t x y v (turned_face t v x y f)) g (last_right t h i j free v last_v)
+    (last_left t h i j free v y last_y) in (
+      left_if_above (vertex t v) (vertex t x) (vertex t z) e.0,
+      left_if_above (vertex t x) (vertex t y) (vertex t z) e.1,
+    )

@@ -1,14 +1,18 @@
--- What a segment meets first from strictly inside a face: nothing, a corner, or a side that it crosses.
+-- What a segment meets first from strictly inside a face: nothing, a corner, or a side that it
+-- crosses.
 use Rattle.std.proofs.Common.{◌≡◌, ℕ, [], ◌∷◌, arith, ap, sym, ◌∙◌}
 use mathlib.Core.Logic.{◌⊎◌, inl, inr}
 use lib.IntN.{neg_ℤ}
 use Rattle.std.specs.Prelude.{◌≢◌, ℤ, pos, ◌<ℤ◌, ◌≤ℤ◌, ◌+ℤ◌, ◌-ℤ◌, ◌*ℤ◌}
 use Rattle.std.proofs.lemmas.Int.{ints}
 use Rattle.plane.proofs.IntegerLaws.{neg-mul_ℤ}
-use Rattle.plane.proofs.IntegerOrder.{lt_or_ge_ℤ, trichotomy_ℤ, mul-pos_ℤ, mul-nonneg_ℤ, pos_of_mul-pos_ℤ}
-use Rattle.plane.proofs.IntegerOrder.{mul-nonpos_of_nonneg_nonpos_ℤ, mul-neg_of_pos_neg_ℤ, mul_cancel_ℤ, pos-ne-zero_ℤ}
+use Rattle.plane.proofs.IntegerOrder.{lt_or_ge_ℤ, trichotomy_ℤ, mul-pos_ℤ, mul-nonneg_ℤ}
+use Rattle.plane.proofs.IntegerOrder.{pos_of_mul-pos_ℤ}
+use Rattle.plane.proofs.IntegerOrder.{mul-nonpos_of_nonneg_nonpos_ℤ, mul-neg_of_pos_neg_ℤ}
+use Rattle.plane.proofs.IntegerOrder.{mul_cancel_ℤ, pos-ne-zero_ℤ}
 use Rattle.plane.proofs.IntegerOrder.{zero-mul_ℤ}
-use Rattle.plane.proofs.Steps.{weak, weak_right, zero_weak_left, left_not_below, product_zero_left, right_not_above}
+use Rattle.plane.proofs.Steps.{weak, weak_right, zero_weak_left, left_not_below, product_zero_left}
+use Rattle.plane.proofs.Steps.{right_not_above}
 use Rattle.plane.proofs.Solver.{num, ◌⊖◌, ◌⊗◌, ring_in_from}
 use Rattle.plane.specs.Fraction.{Fraction, IsSame, OnSegment}
 use Rattle.plane.specs.Circle.{IsNearer}
@@ -16,8 +20,10 @@ use Rattle.plane.specs.Side.{side, left}
 use Rattle.plane.specs.Tiling.{Triangulation, IsFace, vertex, TilesHull}
 use Rattle.plane.specs.Line.{Item, Meets, IsBefore, IsVertexThenOverlap}
 use Rattle.plane.specs.Line as L
-use Rattle.plane_delaunay.proofs.Points.Bracket.{bracket, bracket-swapped, bracket-first, bracket-second, meeting}
-use Rattle.plane_delaunay.proofs.Points.Bracket.{meeting-x, meeting-y, meeting-w, cramer, above_if_left, left_if_above}
+use Rattle.plane_delaunay.proofs.Points.Bracket.{bracket, bracket-swapped, bracket-first}
+use Rattle.plane_delaunay.proofs.Points.Bracket.{bracket-second, meeting}
+use Rattle.plane_delaunay.proofs.Points.Bracket.{meeting-x, meeting-y, meeting-w, cramer}
+use Rattle.plane_delaunay.proofs.Points.Bracket.{above_if_left, left_if_above}
 use Rattle.plane_delaunay.proofs.Points.Nudges.{Inside}
 use Rattle.plane_delaunay.proofs.Tilings.Faces.{turned-above}
 use Rattle.plane_delaunay.proofs.Floods.Flooded.{segment_from}
@@ -31,40 +37,51 @@ use Rattle.plane_segments.proofs.Items.Begins.{bare_inside}
 use Rattle.plane_segments.proofs.Items.Orders.{nearer-same_second}
 use Rattle.plane_segments.proofs.First.Firsts.{first_from_face}
 use Rattle.plane.proofs.Signs.{negation_not_negative, opposite_of_zero_of, not_positive_or_positive}
-use Rattle.plane.proofs.Signs.{positive_times_not_positive, opposite_of_positive, opposite_of_not_positive}
+use Rattle.plane.proofs.Signs.{positive_times_not_positive, opposite_of_positive}
+use Rattle.plane.proofs.Signs.{opposite_of_not_positive}
 
 -- ---- left at the start, and not right at a point: left at each point between
--- a point of the segment before one that is not right of a line, from a start on its left, is on the left
-pub still_left : (p q : Fraction) (apart : ¬ IsSame p q) (u v z x : Fraction) → OnSegment p q z → OnSegment p q x →
-    IsNearer p z x → pos 0 <ℤ bracket u v p → pos 0 ≤ℤ bracket u v x → pos 0 <ℤ bracket u v z
+-- a point of the segment before one that is not right of a line, from a start on its left, is on
+-- the left
+pub still_left : (p q : Fraction) (apart : ¬ IsSame p q) (u v z x : Fraction) → OnSegment p q z
+    → OnSegment p q x → IsNearer p z x → pos 0 <ℤ bracket u v p → pos 0 ≤ℤ bracket u v x
+    → pos 0 <ℤ bracket u v z
 unfolding slope
 still_left p q apart u v z x hz hx near hp least = go (lt_or_ge_ℤ (slope u v p q) (pos 0))
   where
-    risen : (f g pw qw : ℤ) → pos 0 ≤ℤ (f *ℤ pw -ℤ g *ℤ qw) → pos 0 <ℤ g → pos 0 <ℤ pw → pos 0 <ℤ qw → pos 0 <ℤ f
-    risen f g pw qw h hg hp hq = pos_of_mul-pos_ℤ {k = pw} {x = f} hp (let m = mul-pos_ℤ {a = g} {b = qw} hg hq in
+    risen : (f g pw qw : ℤ) → pos 0 ≤ℤ (f *ℤ pw -ℤ g *ℤ qw) → pos 0 <ℤ g → pos 0 <ℤ pw
+        → pos 0 <ℤ qw → pos 0 <ℤ f
+    risen f g pw qw h hg hp hq =
+        pos_of_mul-pos_ℤ {k = pw} {x = f} hp (let m = mul-pos_ℤ {a = g} {b = qw} hg hq in
         let c = lib.IntN.*ℤ_comm f pw in omega (arith, ints))
 
     swapped : (f g f' g' pw qw : ℤ) → f' ≡ neg_ℤ f → g' ≡ neg_ℤ g → (f *ℤ pw -ℤ g *ℤ qw) <ℤ pos 0 →
         pos 0 <ℤ (f' *ℤ pw -ℤ g' *ℤ qw)
     swapped f g f' g' pw qw e d h = let a : f' *ℤ pw ≡ neg_ℤ f *ℤ pw = ap (λ n. n *ℤ pw) e in
-        let b : g' *ℤ qw ≡ neg_ℤ g *ℤ qw = ap (λ n. n *ℤ qw) d in omega (arith, ints, neg-mul_ℤ f pw, neg-mul_ℤ g qw)
+        let b : g' *ℤ qw ≡ neg_ℤ g *ℤ qw = ap (λ n. n *ℤ qw) d in
+        omega (arith, ints, neg-mul_ℤ f pw, neg-mul_ℤ g qw)
 
-    falls : slope u v p q <ℤ pos 0 → (bracket u v z ≤ℤ pos 0) ⊎ (pos 0 <ℤ bracket u v z) → pos 0 <ℤ bracket u v z
+    falls : slope u v p q <ℤ pos 0 → (bracket u v z ≤ℤ pos 0) ⊎ (pos 0 <ℤ bracket u v z)
+        → pos 0 <ℤ bracket u v z
     falls s (inr h) = h
     falls s (inl h) = absurd (right_not_above (opposite_of_positive _ _ (bracket-swapped v u x)
-        (later_is_higher p q apart v u z x hz hx near (swapped (bracket u v q) (bracket u v p) (bracket v u q)
+        (later_is_higher p q apart v u z x hz hx near
+        (swapped (bracket u v q) (bracket u v p) (bracket v u q)
         (bracket v u p) p.w q.w (bracket-swapped u v q) (bracket-swapped u v p) s)
         (opposite_of_not_positive _ _ (bracket-swapped u v z) h))) least)
 
     go : (slope u v p q <ℤ pos 0) ⊎ (pos 0 ≤ℤ slope u v p q) → pos 0 <ℤ bracket u v z
     go (inl s) = falls s (not_positive_or_positive (bracket u v z))
     go (inr s) =
-        left_along p q apart u v z hz hp (risen (bracket u v q) (bracket u v p) p.w q.w s hp p.positive q.positive)
+        left_along p q apart u v z hz hp
+        (risen (bracket u v q) (bracket u v p) p.w q.w s hp p.positive q.positive)
 
 -- ---- numbers
-kept : (f g x y r : ℤ) → f *ℤ x -ℤ g *ℤ y ≡ r → pos 0 <ℤ f → pos 0 <ℤ g → pos 0 <ℤ x → r ≤ℤ pos 0 → pos 0 <ℤ y
+kept : (f g x y r : ℤ) → f *ℤ x -ℤ g *ℤ y ≡ r → pos 0 <ℤ f → pos 0 <ℤ g → pos 0 <ℤ x
+    → r ≤ℤ pos 0 → pos 0 <ℤ y
 kept f g x y r e hf hg hx hr =
-    pos_of_mul-pos_ℤ {k = g} {x = y} hg (let m = mul-pos_ℤ {a = f} {b = x} hf hx in omega (arith, ints))
+    pos_of_mul-pos_ℤ {k = g} {x = y} hg (let m = mul-pos_ℤ {a = f} {b = x} hf hx in
+    omega (arith, ints))
 
 falls_second : (k a l b : ℤ) → k ≤ℤ pos 0 → pos 0 ≤ℤ a → b ≡ pos 0 → (k *ℤ a -ℤ l *ℤ b) ≤ℤ pos 0
 falls_second k a l b hk ha e = let m = mul-nonpos_of_nonneg_nonpos_ℤ {a = a} {b = k} ha hk in
@@ -77,50 +94,63 @@ falls_third k a l b e hl hb =
 turned_most : (x y : ℤ) → x ≡ neg_ℤ y → pos 0 ≤ℤ y → x ≤ℤ pos 0
 turned_most x y e h = omega (arith, ints)
 
-module _ (p q : Fraction) (apart : ¬ IsSame p q) (A B C : Fraction) (turning : pos 0 <ℤ bracket A B C)
-    (inside : Inside A B C p) where
+module _ (p q : Fraction) (apart : ¬ IsSame p q) (A B C : Fraction)
+    (turning : pos 0 <ℤ bracket A B C) (inside : Inside A B C p) where
   -- where the segment goes towards the side from A to B and does not reach it, it ends inside
-  pub ends_inside : bracket p q A ≤ℤ pos 0 → pos 0 <ℤ bracket p q B → pos 0 <ℤ bracket A B q → Inside A B C q
+  pub ends_inside : bracket p q A ≤ℤ pos 0 → pos 0 <ℤ bracket p q B → pos 0 <ℤ bracket A B q
+      → Inside A B C q
   ends_inside low high side = record {
     first = side;
-    second = kept (bracket A B q) (bracket A B p) (bracket B C p) (bracket B C q) _ (meeting A B p q B C) side
+    second = kept (bracket A B q) (bracket A B p) (bracket B C p) (bracket B C q) _
+        (meeting A B p q B C) side
         inside.first inside.second
         (falls_second (bracket q p B) (bracket B C A) (bracket q p A) (bracket B C B)
         (turned_most _ _ (bracket-swapped p q B) (weak high)) (weak (turned-above A B C turning))
         (bracket-first B C));
-    third = kept (bracket A B q) (bracket A B p) (bracket C A p) (bracket C A q) _ (meeting A B p q C A) side
+    third = kept (bracket A B q) (bracket A B p) (bracket C A p) (bracket C A q) _
+        (meeting A B p q C A) side
         inside.first inside.third
-        (falls_third (bracket q p B) (bracket C A A) (bracket q p A) (bracket C A B) (bracket-second C A)
+        (falls_third (bracket q p B) (bracket C A A) (bracket q p A) (bracket C A B)
+        (bracket-second C A)
         (opposite_of_not_positive _ _ (bracket-swapped p q A) low)
         (weak (turned-above B C A (turned-above A B C turning))));
   }
 
   -- or it reaches the corner A
-  pub reaches_corner : bracket p q A ≡ pos 0 → pos 0 <ℤ bracket p q B → bracket A B q ≤ℤ pos 0 → OnSegment p q A
-  reaches_corner level high past = segment_from (bracket p q B) (neg_ℤ (bracket A B q)) (bracket A B p) p q A high
+  pub reaches_corner : bracket p q A ≡ pos 0 → pos 0 <ℤ bracket p q B → bracket A B q ≤ℤ pos 0
+      → OnSegment p q A
+  reaches_corner level high past =
+      segment_from (bracket p q B) (neg_ℤ (bracket A B q)) (bracket A B p) p q A high
       (negation_not_negative (bracket A B q) past) (weak inside.first)
-      (λ u v. parts (bracket A B q) (bracket A B p) (bracket u v p) (bracket u v q) (bracket q p B) (bracket u v A)
+      (λ u v. parts (bracket A B q) (bracket A B p) (bracket u v p) (bracket u v q) (bracket q p B)
+      (bracket u v A)
       (bracket q p A) (bracket u v B) (bracket p q B) (meeting A B p q u v)
       (opposite_of_zero_of (bracket-swapped p q A) level) (bracket-swapped p q B))
     where
-      parts : (f g x y k z l w n : ℤ) → f *ℤ x -ℤ g *ℤ y ≡ k *ℤ z -ℤ l *ℤ w → l ≡ pos 0 → k ≡ neg_ℤ n →
-          n *ℤ z ≡ neg_ℤ f *ℤ x +ℤ g *ℤ y
-      parts f g x y k z l w n e d c = let a = product_zero_left {a = l} w d in let b : k *ℤ z ≡ neg_ℤ n *ℤ z =
+      parts : (f g x y k z l w n : ℤ) → f *ℤ x -ℤ g *ℤ y ≡ k *ℤ z -ℤ l *ℤ w → l ≡ pos 0
+          → k ≡ neg_ℤ n → n *ℤ z ≡ neg_ℤ f *ℤ x +ℤ g *ℤ y
+      parts f g x y k z l w n e d c =
+          let a = product_zero_left {a = l} w d in let b : k *ℤ z ≡ neg_ℤ n *ℤ z =
           ap (λ m. m *ℤ z) c in omega (arith, ints, neg-mul_ℤ n z, neg-mul_ℤ f x)
 
   -- the line of the segment does not have two corners
   not_both : bracket p q A ≡ pos 0 → bracket p q B ≡ pos 0 → ⊥
   not_both ea eb = apart (record {
-    x = one (bracket A B q) (bracket A B p) p.x p.w q.x q.w (bracket q p B) A.x (bracket q p A) B.x A.w B.w
-        (opposite_of_zero_of (bracket-swapped p q B) eb) (opposite_of_zero_of (bracket-swapped p q A) ea)
+    x = one (bracket A B q) (bracket A B p) p.x p.w q.x q.w (bracket q p B) A.x
+        (bracket q p A) B.x A.w B.w
+        (opposite_of_zero_of (bracket-swapped p q B) eb)
+        (opposite_of_zero_of (bracket-swapped p q A) ea)
         (meeting-x A B p q) (meeting-w A B p q) inside.first;
-    y = one (bracket A B q) (bracket A B p) p.y p.w q.y q.w (bracket q p B) A.y (bracket q p A) B.y A.w B.w
-        (opposite_of_zero_of (bracket-swapped p q B) eb) (opposite_of_zero_of (bracket-swapped p q A) ea)
+    y = one (bracket A B q) (bracket A B p) p.y p.w q.y q.w (bracket q p B) A.y
+        (bracket q p A) B.y A.w B.w
+        (opposite_of_zero_of (bracket-swapped p q B) eb)
+        (opposite_of_zero_of (bracket-swapped p q A) ea)
         (meeting-y A B p q) (meeting-w A B p q) inside.first;
   })
     where
-      one : (f g px pw qx qw k ax l bx aw bw : ℤ) → k ≡ pos 0 → l ≡ pos 0 → f *ℤ px -ℤ g *ℤ qx ≡ k *ℤ ax -ℤ l *ℤ bx →
-          f *ℤ pw -ℤ g *ℤ qw ≡ k *ℤ aw -ℤ l *ℤ bw → pos 0 <ℤ g → px *ℤ qw ≡ qx *ℤ pw
+      one : (f g px pw qx qw k ax l bx aw bw : ℤ) → k ≡ pos 0 → l ≡ pos 0
+          → f *ℤ px -ℤ g *ℤ qx ≡ k *ℤ ax -ℤ l *ℤ bx → f *ℤ pw -ℤ g *ℤ qw ≡ k *ℤ aw -ℤ l *ℤ bw
+          → pos 0 <ℤ g → px *ℤ qw ≡ qx *ℤ pw
       one f g px pw qx qw k ax l bx aw bw ek el e d hg =
           mul_cancel_ℤ {k = g} (pos-ne-zero_ℤ hg) (times f g px pw qx qw
           (level (k *ℤ ax) (l *ℤ bx) (product_zero_left ax ek) (product_zero_left bx el) e)
@@ -129,8 +159,10 @@ module _ (p q : Fraction) (apart : ¬ IsSame p q) (A B C : Fraction) (turning : 
           level : {x y : ℤ} (a b : ℤ) → a ≡ pos 0 → b ≡ pos 0 → x -ℤ y ≡ a -ℤ b → x ≡ y
           level a b ea eb e = omega (arith, ints)
 
-          times : (f g px pw qx qw : ℤ) → f *ℤ px ≡ g *ℤ qx → f *ℤ pw ≡ g *ℤ qw → g *ℤ (px *ℤ qw) ≡ g *ℤ (qx *ℤ pw)
-          times f g px pw qx qw e d = ring_in_from (f ∷ g ∷ px ∷ pw ∷ qx ∷ qw ∷ []) (λ f g px pw qx qw. g ⊗ (px ⊗ qw))
+          times : (f g px pw qx qw : ℤ) → f *ℤ px ≡ g *ℤ qx → f *ℤ pw ≡ g *ℤ qw
+              → g *ℤ (px *ℤ qw) ≡ g *ℤ (qx *ℤ pw)
+          times f g px pw qx qw e d =
+              ring_in_from (f ∷ g ∷ px ∷ pw ∷ qx ∷ qw ∷ []) (λ f g px pw qx qw. g ⊗ (px ⊗ qw))
               (λ f g px pw qx qw. g ⊗ (qx ⊗ pw)) (λ f g px pw qx qw. (pw, f ⊗ px, g ⊗ qx) ∷
               (num 0 ⊖ px, f ⊗ pw, g ⊗ qw) ∷ []) (e, (d, tt)) tt
 
@@ -141,12 +173,13 @@ data Turn (a b c : ℤ) : Type 0 where
   third_turn : c ≤ℤ pos 0 → pos 0 <ℤ a → Turn a b c
 
 -- three numbers that have sum 0 under positive weights, not all 0
-turn : (x y z a b c : ℤ) → x *ℤ a +ℤ y *ℤ b +ℤ z *ℤ c ≡ pos 0 → pos 0 <ℤ x → pos 0 <ℤ y → pos 0 <ℤ z →
-    ((a ≡ pos 0) → (b ≡ pos 0) → ⊥) → Turn a b c
+turn : (x y z a b c : ℤ) → x *ℤ a +ℤ y *ℤ b +ℤ z *ℤ c ≡ pos 0 → pos 0 <ℤ x → pos 0 <ℤ y → pos 0 <ℤ z
+    → ((a ≡ pos 0) → (b ≡ pos 0) → ⊥) → Turn a b c
 turn x y z a b c e hx hy hz some =
     go (not_positive_or_positive a) (not_positive_or_positive b) (not_positive_or_positive c)
   where
-    zero_of : (x a b c : ℤ) → pos 0 <ℤ x → a ≤ℤ pos 0 → x *ℤ a +ℤ b +ℤ c ≡ pos 0 → b ≤ℤ pos 0 → c ≤ℤ pos 0 → a ≡ pos 0
+    zero_of : (x a b c : ℤ) → pos 0 <ℤ x → a ≤ℤ pos 0 → x *ℤ a +ℤ b +ℤ c ≡ pos 0 → b ≤ℤ pos 0
+        → c ≤ℤ pos 0 → a ≡ pos 0
     zero_of x a b c hx ha e hb hc = pick (trichotomy_ℤ a)
       where
         low : a <ℤ pos 0 → ⊥
@@ -160,7 +193,8 @@ turn x y z a b c e hx hy hz some =
     swapped : (u v w : ℤ) → u +ℤ v +ℤ w ≡ pos 0 → v +ℤ u +ℤ w ≡ pos 0
     swapped u v w e = omega (arith, ints)
 
-    go : (a ≤ℤ pos 0) ⊎ (pos 0 <ℤ a) → (b ≤ℤ pos 0) ⊎ (pos 0 <ℤ b) → (c ≤ℤ pos 0) ⊎ (pos 0 <ℤ c) → Turn a b c
+    go : (a ≤ℤ pos 0) ⊎ (pos 0 <ℤ a) → (b ≤ℤ pos 0) ⊎ (pos 0 <ℤ b)
+        → (c ≤ℤ pos 0) ⊎ (pos 0 <ℤ c) → Turn a b c
     go (inl h) (inr k) m = first_turn h k
     go h (inl k) (inr m) = second_turn k m
     go (inr h) k (inl m) = third_turn m h
@@ -169,11 +203,12 @@ turn x y z a b c e hx hy hz some =
         (zero_of y b (x *ℤ a) (z *ℤ c) hy k (swapped (x *ℤ a) (y *ℤ b) (z *ℤ c) e)
         (positive_times_not_positive x a hx h) (positive_times_not_positive z c hz m)))
     go (inr h) (inr k) (inr m) =
-        absurd (let i = mul-pos_ℤ hx h in let j = mul-pos_ℤ hy k in let l = mul-pos_ℤ hz m in omega (arith, ints))
+        absurd (let i = mul-pos_ℤ hx h in let j = mul-pos_ℤ hy k in let l = mul-pos_ℤ hz m in
+        omega (arith, ints))
 
 -- ---- the items
-module _ (t : Triangulation) (h : TilesHull t) (p q : Fraction) (apart : ¬ IsSame p q) (a b c : ℕ) (f : IsFace t a b c)
-    (inside : Inside (vertex t a) (vertex t b) (vertex t c) p) where
+module _ (t : Triangulation) (h : TilesHull t) (p q : Fraction) (apart : ¬ IsSame p q) (a b c : ℕ)
+    (f : IsFace t a b c) (inside : Inside (vertex t a) (vertex t b) (vertex t c) p) where
   abbrev A : Fraction
   A = vertex t a
 
@@ -199,21 +234,26 @@ module _ (t : Triangulation) (h : TilesHull t) (p q : Fraction) (apart : ¬ IsSa
 
   -- through the corner
   pub first_corner : OnSegment p q A → IsFirst t p q (L.at_vertex a)
-  first_corner there = record { met = ((h.corners a b c f).0, there); none_before = λ k met o. none k met o o.order }
+  first_corner there =
+      record { met = ((h.corners a b c f).0, there); none_before = λ k met o. none k met o o.order }
     where
-      none : (k : Item) → Meets t p q k → (o : IsBefore t p q k (L.at_vertex a)) → IsNearer p o.first o.second ⊎
-          (IsSame o.first o.second × IsVertexThenOverlap k (L.at_vertex a)) → ⊥
-      none k met o (inl n) = bare_inside t h p q k met o.first o.first_begins.of_item a b c f (record {
-        first = still_left p q apart A B o.first A o.first_begins.shared there near inside.first
-            (zero_weak_left (bracket-first A B));
-        second = still_left p q apart B C o.first A o.first_begins.shared there near inside.second
-            (weak (turned-above A B C turning));
-        third = still_left p q apart C A o.first A o.first_begins.shared there near inside.third
-            (zero_weak_left (bracket-second C A));
-      })
+      none : (k : Item) → Meets t p q k → (o : IsBefore t p q k (L.at_vertex a))
+          → IsNearer p o.first o.second
+          ⊎ (IsSame o.first o.second × IsVertexThenOverlap k (L.at_vertex a)) → ⊥
+      none k met o (inl n) =
+          bare_inside t h p q k met o.first o.first_begins.of_item a b c f (record {
+            first = still_left p q apart A B o.first A o.first_begins.shared there near inside.first
+                (zero_weak_left (bracket-first A B));
+            second =
+                still_left p q apart B C o.first A o.first_begins.shared there near inside.second
+                (weak (turned-above A B C turning));
+            third = still_left p q apart C A o.first A o.first_begins.shared there near inside.third
+                (zero_weak_left (bracket-second C A));
+          })
         where
           near : IsNearer p o.first A
-          near = nearer-same_second p q apart o.first o.second A o.first_begins.shared o.second_begins.shared there
+          near = nearer-same_second p q apart o.first o.second A o.first_begins.shared
+              o.second_begins.shared there
               o.second_begins.of_item n
       none (L.at_vertex i) met o (inr w) = w.1
       none (L.across i j) met o (inr w) = w.1
@@ -222,16 +262,19 @@ module _ (t : Triangulation) (h : TilesHull t) (p q : Fraction) (apart : ¬ IsSa
   -- across the side
   pub first_side : bracket p q A <ℤ pos 0 → pos 0 <ℤ bracket p q B → bracket A B q ≤ℤ pos 0 →
       IsFirst t p q (L.across b a)
-  first_side low high past = first_from_face t p q apart h a b ((h.sides a b).1 (inl (c, f))) (record {
-    left = high;
-    right = low;
-    start = weak_right (opposite_of_positive _ _ (bracket-swapped A B p) inside.first);
-    end = opposite_of_not_positive _ _ (bracket-swapped A B q) past;
-  }) c f inside
+  first_side low high past =
+      first_from_face t p q apart h a b ((h.sides a b).1 (inl (c, f))) (record {
+        left = high;
+        right = low;
+        start = weak_right (opposite_of_positive _ _ (bracket-swapped A B p) inside.first);
+        end = opposite_of_not_positive _ _ (bracket-swapped A B q) past;
+      }) c f inside
 
   a_turn : Turn (bracket p q A) (bracket p q B) (bracket p q C)
-  a_turn = turn (bracket B C p) (bracket C A p) (bracket A B p) (bracket p q A) (bracket p q B) (bracket p q C)
-      (sym (cramer A B C p p q) ∙ zero-mul_ℤ (bracket A B C) (bracket-first p q)) inside.second inside.third
+  a_turn = turn (bracket B C p) (bracket C A p) (bracket A B p) (bracket p q A) (bracket p q B)
+      (bracket p q C)
+      (sym (cramer A B C p p q) ∙ zero-mul_ℤ (bracket A B C) (bracket-first p q))
+      inside.second inside.third
       inside.first (not_both p q apart A B C turning inside)
 
 -- from strictly inside a face, the segment ends there, goes through a corner or crosses a side
@@ -239,10 +282,12 @@ pub first_from_a_face : FirstFromFace
 first_from_a_face t h p q apart a b c f within = (
   (λ high. (
     (λ n e. bare_within t h p q apart a b c f inside
-        (ends_inside p q apart (vertex t a) (vertex t b) (vertex t c) turns inside (not_left p q (vertex t a) n)
+        (ends_inside p q apart (vertex t a) (vertex t b) (vertex t c) turns inside
+        (not_left p q (vertex t a) n)
         (above_if_left p q (vertex t b) high) (above_if_left (vertex t a) (vertex t b) q e))),
     (λ z n. first_corner t h p q apart a b c f inside
-        (reaches_corner p q apart (vertex t a) (vertex t b) (vertex t c) turns inside (none_if_on p q (vertex t a) z)
+        (reaches_corner p q apart (vertex t a) (vertex t b) (vertex t c) turns inside
+        (none_if_on p q (vertex t a) z)
         (above_if_left p q (vertex t b) high) (not_left (vertex t a) (vertex t b) q n))),
     (λ low n. first_side t h p q apart a b c f inside (below_if_right p q (vertex t a) low)
         (above_if_left p q (vertex t b) high) (not_left (vertex t a) (vertex t b) q n)),

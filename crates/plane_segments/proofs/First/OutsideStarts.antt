@@ -1,12 +1,13 @@
--- What a segment meets first from outside the hull, where it crosses no outer edge from there: a nearest vertex, or
--- nothing.
+-- What a segment meets first from outside the hull, where it crosses no outer edge from there: a
+-- nearest vertex, or nothing.
 use Rattle.std.proofs.Common.{◌≡◌, ℕ, List, [], ◌∷◌, arith, refl, sym, ◌∙◌, subst}
 use mathlib.Core.Logic.{◌⊎◌, inl, inr}
 use lib.IntN.{neg_ℤ}
 use Rattle.std.specs.Prelude.{ℤ, pos, ◌<ℤ◌, ◌≤ℤ◌, ◌+ℤ◌, ◌-ℤ◌, ◌*ℤ◌}
 use Rattle.std.proofs.lemmas.Int.{ints}
 use Rattle.plane.proofs.IntegerLaws.{neg-mul_ℤ, mul-neg_ℤ}
-use Rattle.plane.proofs.IntegerOrder.{lt_or_ge_ℤ, trichotomy_ℤ, mul-pos_ℤ, mul-nonneg_ℤ, mul-nonpos_of_nonneg_nonpos_ℤ}
+use Rattle.plane.proofs.IntegerOrder.{lt_or_ge_ℤ, trichotomy_ℤ, mul-pos_ℤ, mul-nonneg_ℤ}
+use Rattle.plane.proofs.IntegerOrder.{mul-nonpos_of_nonneg_nonpos_ℤ}
 use Rattle.plane.proofs.IntegerOrder.{mul-neg_of_pos_neg_ℤ, zero-mul_ℤ}
 use Rattle.plane.proofs.Steps.{weak, weak_right, zero_weak, zero_weak_left, product_zero_left}
 use Rattle.plane.proofs.Nearer.{same_not_nearer}
@@ -17,18 +18,22 @@ use Rattle.plane.specs.Tiling.{Triangulation, IsEdge, IsFace, HasFace, InCorners
 use Rattle.plane.specs.Location.{IsOuter}
 use Rattle.plane.specs.Line.{Item, Meets, BeginsAt, IsBefore, IsVertexThenOverlap}
 use Rattle.plane.specs.Line as L
-use Rattle.plane_delaunay.proofs.Points.Bracket.{bracket, bracket-swapped, bracket-first, meeting, cramer}
+use Rattle.plane_delaunay.proofs.Points.Bracket.{bracket, bracket-swapped, bracket-first, meeting}
+use Rattle.plane_delaunay.proofs.Points.Bracket.{cramer}
 use Rattle.plane_delaunay.proofs.Points.Bracket.{above_if_left}
-use Rattle.plane_delaunay.proofs.Tilings.Faces.{Between, between-second, between-third, between-swapped}
+use Rattle.plane_delaunay.proofs.Tilings.Faces.{Between, between-second, between-third}
+use Rattle.plane_delaunay.proofs.Tilings.Faces.{between-swapped}
 use Rattle.plane_delaunay.proofs.Floods.Flooded.{side_of_segment, segment_from}
-use Rattle.plane_delaunay.proofs.Tilings.Ground.{triangle_of_closed, sides_of, face_of_side, side_listed}
+use Rattle.plane_delaunay.proofs.Tilings.Ground.{triangle_of_closed, sides_of, face_of_side}
+use Rattle.plane_delaunay.proofs.Tilings.Ground.{side_listed}
 use Rattle.plane.proofs.Triangles.{turned_face}
 use Rattle.plane_delaunay.proofs.Points.Members.{Member}
 use Rattle.plane_delaunay.proofs.Tilings.Meets.{on_side-closed}
 use Rattle.plane_delaunay.proofs.Tilings.OuterEdges.{face_not_left_of_outer}
 use Rattle.plane_delaunay.proofs.Tilings.Where.{listed_or_not}
 use Rattle.plane_delaunay.proofs.Points.AlongSegment.{first_on, none_sooner}
-use Rattle.plane_delaunay.proofs.Segments.LineItems.{Begins, begins, Meeting, meeting_of_hull, between_of, met_within}
+use Rattle.plane_delaunay.proofs.Segments.LineItems.{Begins, begins, Meeting, meeting_of_hull}
+use Rattle.plane_delaunay.proofs.Segments.LineItems.{between_of, met_within}
 use Rattle.plane_delaunay.proofs.Segments.LineItems.{turned_segment, line_items_are_ordered}
 use Rattle.plane_segments.specs.Steps.{IsFirst, IsWalk}
 use Rattle.plane_segments.specs.WalkLaws.{FirstFromOutside}
@@ -37,22 +42,29 @@ use Rattle.plane_segments.proofs.Items.Begins.{edge_flipped, Signs, signs_of, me
 use Rattle.plane_segments.proofs.Items.Orders.{nearer-same_first, nearer-same_second}
 use Rattle.plane_segments.proofs.Walking.Steps.{edge_apart}
 use Rattle.plane_segments.proofs.Walking.EachWalk.{each_walk}
-use Rattle.plane.proofs.Signs.{negated_negative, opposite_of_zero_of, opposite_of_negative, opposite_of_not_positive}
+use Rattle.plane.proofs.Signs.{negated_negative, opposite_of_zero_of, opposite_of_negative}
+use Rattle.plane.proofs.Signs.{opposite_of_not_positive}
 
 -- ---- any triangulation whose items have their order
 -- of the vertices that are met the nearest one is the first item
 abbrev pub NearestIsFirst : Triangulation → Fraction → Fraction → Type 0
 NearestIsFirst t p q = (v : ℕ) → Meets t p q (L.at_vertex v)
-    → ((w : ℕ) → Meets t p q (L.at_vertex w) → ¬ IsNearer p (vertex t w) (vertex t v)) → IsFirst t p q (L.at_vertex v)
+    → ((w : ℕ) → Meets t p q (L.at_vertex w) → ¬ IsNearer p (vertex t w) (vertex t v))
+    → IsFirst t p q (L.at_vertex v)
 
 module _ (t : Triangulation) (c₀ : Meeting t) (p q : Fraction) (apart : ¬ IsSame p q) where
-  vertex_begins : (v : ℕ) → Meets t p q (L.at_vertex v) → BeginsAt t p q (L.at_vertex v) (vertex t v)
+  vertex_begins : (v : ℕ) → Meets t p q (L.at_vertex v)
+      → BeginsAt t p q (L.at_vertex v) (vertex t v)
   vertex_begins v m =
-      record { shared = m.1; of_item = same-refl (vertex t v); first = λ r _ e. same_not_nearer p r (vertex t v) e }
+      record {
+        shared = m.1;
+        of_item = same-refl (vertex t v);
+        first = λ r _ e. same_not_nearer p r (vertex t v) e;
+      }
 
   -- where no edge carries the start, an overlap is not the first
-  pub overlap_not_first : ((i j : ℕ) → IsEdge t i j → ¬ OnSegment (vertex t i) (vertex t j) p) → (i j : ℕ) →
-      ¬ IsFirst t p q (L.along i j)
+  pub overlap_not_first : ((i j : ℕ) → IsEdge t i j → ¬ OnSegment (vertex t i) (vertex t j) p)
+      → (i j : ℕ) → ¬ IsFirst t p q (L.along i j)
   overlap_not_first off i j f = f.none_before (L.at_vertex i) there (record {
     first = vertex t i;
     second = vertex t i;
@@ -66,18 +78,24 @@ module _ (t : Triangulation) (c₀ : Meeting t) (p q : Fraction) (apart : ¬ IsS
   })
     where
       there : Meets t p q (L.at_vertex i)
-      there = ((c₀.ends i j f.met.0).0, first_on p q (vertex t i) (vertex t j) f.met.1 (off i j f.met.0))
+      there = (
+        (c₀.ends i j f.met.0).0,
+        first_on p q (vertex t i) (vertex t j) f.met.1 (off i j f.met.0),
+      )
 
   -- of two vertices the one before is nearer
   pub before_nearer : (v w : ℕ) → Meets t p q (L.at_vertex v) → Meets t p q (L.at_vertex w) →
       IsBefore t p q (L.at_vertex v) (L.at_vertex w) → IsNearer p (vertex t v) (vertex t w)
   before_nearer v w mv mw o = go o.order
     where
-      go : IsNearer p o.first o.second ⊎ (IsSame o.first o.second × IsVertexThenOverlap (L.at_vertex v) (L.at_vertex w))
+      go : IsNearer p o.first o.second
+          ⊎ (IsSame o.first o.second × IsVertexThenOverlap (L.at_vertex v) (L.at_vertex w))
           → IsNearer p (vertex t v) (vertex t w)
-      go (inl n) = nearer-same_first p q apart o.first (vertex t v) (vertex t w) o.first_begins.shared mv.1 mw.1
+      go (inl n) = nearer-same_first p q apart o.first (vertex t v)
+          (vertex t w) o.first_begins.shared mv.1 mw.1
           o.first_begins.of_item
-          (nearer-same_second p q apart o.first o.second (vertex t w) o.first_begins.shared o.second_begins.shared mw.1
+          (nearer-same_second p q apart o.first o.second
+          (vertex t w) o.first_begins.shared o.second_begins.shared mw.1
           o.second_begins.of_item n)
       go (inr w) = absurd w.1
 
@@ -85,13 +103,15 @@ module _ (t : Triangulation) (c₀ : Meeting t) (p q : Fraction) (apart : ¬ IsS
   module _ (only : (m : Item) → IsFirst t p q m → (v : ℕ) × (m ≡ L.at_vertex v)) where
     -- the nearest vertex that is met comes first
     pub nearest_first : NearestIsFirst t p q
-    nearest_first v met nearest = go (each_walk t c₀ p q apart).items (each_walk t c₀ p q apart).walk
+    nearest_first v met nearest =
+        go (each_walk t c₀ p q apart).items (each_walk t c₀ p q apart).walk
       where
         at_first : (w : ℕ) → IsFirst t p q (L.at_vertex w) → IsFirst t p q (L.at_vertex v)
-        at_first w f = pick (line_items_are_ordered t c₀ p q apart (L.at_vertex w) (L.at_vertex v) f.met met)
+        at_first w f =
+            pick (line_items_are_ordered t c₀ p q apart (L.at_vertex w) (L.at_vertex v) f.met met)
           where
-            pick : (L.at_vertex w ≡ L.at_vertex v) ⊎ (IsBefore t p q (L.at_vertex w) (L.at_vertex v) ⊎
-                IsBefore t p q (L.at_vertex v) (L.at_vertex w)) → IsFirst t p q (L.at_vertex v)
+            pick : (L.at_vertex w ≡ L.at_vertex v) ⊎ (IsBefore t p q (L.at_vertex w) (L.at_vertex v)
+                ⊎ IsBefore t p q (L.at_vertex v) (L.at_vertex w)) → IsFirst t p q (L.at_vertex v)
             pick (inl e) = subst (IsFirst t p q) e f
             pick (inr (inl o)) = absurd (nearest w f.met (before_nearer w v f.met met o))
             pick (inr (inr o)) = absurd (f.none_before (L.at_vertex v) met o)
@@ -109,21 +129,23 @@ module _ (t : Triangulation) (c₀ : Meeting t) (p q : Fraction) (apart : ¬ IsS
         go (m ∷ ms) w = let o = only m w.0 in absurd (bare o.0 (subst (Meets t p q) o.1 w.0.met))
 
 -- ---- numbers: a x + b y + c z = 0
-not_least : (a x b y c z : ℤ) → a *ℤ x +ℤ b *ℤ y +ℤ c *ℤ z ≡ pos 0 → x <ℤ pos 0 → pos 0 <ℤ y → pos 0 ≤ℤ c → pos 0 ≤ℤ z →
-    pos 0 ≤ℤ b → pos 0 ≤ℤ a
+not_least : (a x b y c z : ℤ) → a *ℤ x +ℤ b *ℤ y +ℤ c *ℤ z ≡ pos 0 → x <ℤ pos 0 → pos 0 <ℤ y
+    → pos 0 ≤ℤ c → pos 0 ≤ℤ z → pos 0 ≤ℤ b → pos 0 ≤ℤ a
 not_least a x b y c z e hx hy hc hz hb = go (lt_or_ge_ℤ a (pos 0))
   where
     low : a <ℤ pos 0 → ⊥
-    low h = let m = mul-pos_ℤ {a = neg_ℤ a} {b = neg_ℤ x} (omega (arith, ints)) (omega (arith, ints)) in
-        let n = mul-nonneg_ℤ {a = b} {b = y} hb (weak hy) in let o = mul-nonneg_ℤ {a = c} {b = z} hc hz in
+    low h = let m =
+        mul-pos_ℤ {a = neg_ℤ a} {b = neg_ℤ x} (omega (arith, ints)) (omega (arith, ints)) in
+        let n = mul-nonneg_ℤ {a = b} {b = y} hb (weak hy) in
+        let o = mul-nonneg_ℤ {a = c} {b = z} hc hz in
         let i = neg-mul_ℤ a (neg_ℤ x) in let j = mul-neg_ℤ a x in omega (arith, ints)
 
     go : (a <ℤ pos 0) ⊎ (pos 0 ≤ℤ a) → pos 0 ≤ℤ a
     go (inl h) = absurd (low h)
     go (inr h) = h
 
-not_least_other : (a x b y c z : ℤ) → a *ℤ x +ℤ b *ℤ y +ℤ c *ℤ z ≡ pos 0 → x <ℤ pos 0 → pos 0 <ℤ y → pos 0 ≤ℤ c →
-    z <ℤ pos 0 → pos 0 ≤ℤ a → pos 0 ≤ℤ b
+not_least_other : (a x b y c z : ℤ) → a *ℤ x +ℤ b *ℤ y +ℤ c *ℤ z ≡ pos 0 → x <ℤ pos 0 → pos 0 <ℤ y
+    → pos 0 ≤ℤ c → z <ℤ pos 0 → pos 0 ≤ℤ a → pos 0 ≤ℤ b
 not_least_other a x b y c z e hx hy hc hz ha = go (lt_or_ge_ℤ b (pos 0))
   where
     low : b <ℤ pos 0 → ⊥
@@ -143,15 +165,18 @@ module _ (t : Triangulation) (h : TilesHull t) (p q : Fraction) (apart : ¬ IsSa
   off_edges i j e there = go ((h.sides i j).0 e)
     where
       at_face : (i j k : ℕ) → IsFace t i j k → OnSegment (vertex t i) (vertex t j) p → ⊥
-      at_face i j k f on = out i j k f (triangle_of_closed (vertex t i) (vertex t j) (vertex t k) p (h.turning i j k f)
-          (on_side-closed (vertex t i) (vertex t j) (vertex t k) p (side_of_segment (vertex t i) (vertex t j) p on)
+      at_face i j k f on = out i j k f
+          (triangle_of_closed (vertex t i) (vertex t j) (vertex t k) p (h.turning i j k f)
+          (on_side-closed (vertex t i) (vertex t j) (vertex t k) p
+          (side_of_segment (vertex t i) (vertex t j) p on)
           (above_if_left (vertex t i) (vertex t j) (vertex t k) (h.turning i j k f))))
 
       go : HasFace t i j ⊎ HasFace t j i → ⊥
       go (inl f) = at_face i j f.0 f.1 there
       go (inr f) = at_face j i f.0 f.1 (turned_segment (vertex t i) (vertex t j) p there)
 
-  -- an edge that is crossed from a face on the start's side is not the first: something of that face is met before
+  -- an edge that is crossed from a face on the start's side is not the first: something of that
+  -- face is met before
   module _ (i j k : ℕ) (f : IsFace t j i k) (s : Signs p q (vertex t i) (vertex t j))
       (first : IsFirst t p q (L.across i j)) where
     abbrev I : Fraction
@@ -166,7 +191,8 @@ module _ (t : Triangulation) (h : TilesHull t) (p q : Fraction) (apart : ¬ IsSa
     turning : pos 0 <ℤ bracket J I K
     turning = above_if_left J I K (h.turning j i k f)
 
-    sum : bracket I K p *ℤ bracket p q J +ℤ bracket K J p *ℤ bracket p q I +ℤ bracket J I p *ℤ bracket p q K ≡ pos 0
+    sum : bracket I K p *ℤ bracket p q J +ℤ bracket K J p *ℤ bracket p q I +ℤ bracket J I p
+        *ℤ bracket p q K ≡ pos 0
     sum = sym (cramer J I K p p q) ∙ zero-mul_ℤ (bracket J I K) (bracket-first p q)
 
     near_side : pos 0 ≤ℤ bracket J I p
@@ -181,7 +207,8 @@ module _ (t : Triangulation) (h : TilesHull t) (p q : Fraction) (apart : ¬ IsSa
       where
         go : (bracket K J p <ℤ pos 0) ⊎ (pos 0 ≤ℤ bracket K J p) → bracket K J p <ℤ pos 0
         go (inl b) = b
-        go (inr b) = absurd (not_in (not_least (bracket I K p) (bracket p q J) (bracket K J p) (bracket p q I)
+        go (inr b) = absurd
+            (not_in (not_least (bracket I K p) (bracket p q J) (bracket K J p) (bracket p q I)
             (bracket J I p) (bracket p q K) sum s.right s.left near_side d b) b)
 
     right_of_second : bracket p q K <ℤ pos 0 → bracket I K p <ℤ pos 0
@@ -189,7 +216,8 @@ module _ (t : Triangulation) (h : TilesHull t) (p q : Fraction) (apart : ¬ IsSa
       where
         go : (bracket I K p <ℤ pos 0) ⊎ (pos 0 ≤ℤ bracket I K p) → bracket I K p <ℤ pos 0
         go (inl a) = a
-        go (inr a) = absurd (not_in a (not_least_other (bracket I K p) (bracket p q J) (bracket K J p) (bracket p q I)
+        go (inr a) = absurd (not_in a
+            (not_least_other (bracket I K p) (bracket p q J) (bracket K J p) (bracket p q I)
             (bracket J I p) (bracket p q K) sum s.right s.left near_side d a))
 
     -- where the edge is crossed
@@ -198,26 +226,31 @@ module _ (t : Triangulation) (h : TilesHull t) (p q : Fraction) (apart : ¬ IsSa
 
     between : Between J I y.at
     between = between-swapped I J y.at (between_of I J y.at
-        (met_within t (meeting_of_hull t h) p q apart i j first.met y.at y.begins.shared y.begins.of_item))
+        (met_within t
+        (meeting_of_hull t h) p q apart i j first.met y.at y.begins.shared y.begins.of_item))
 
-    end_left : (u v : Fraction) → bracket u v p <ℤ pos 0 → pos 0 <ℤ bracket u v y.at → pos 0 ≤ℤ bracket u v q
+    end_left : (u v : Fraction) → bracket u v p <ℤ pos 0 → pos 0 <ℤ bracket u v y.at
+        → pos 0 ≤ℤ bracket u v q
     end_left u v low high = go (lt_or_ge_ℤ (bracket u v q) (pos 0))
       where
         both : {z : ℤ} → z <ℤ pos 0 → pos 0 <ℤ z → ⊥
         both h k = omega (arith, ints)
 
         go : (bracket u v q <ℤ pos 0) ⊎ (pos 0 ≤ℤ bracket u v q) → pos 0 ≤ℤ bracket u v q
-        go (inl l) = absurd (both low (left_before p q apart u v y.at y.begins.shared high (weak_right l)))
+        go (inl l) =
+            absurd (both low (left_before p q apart u v y.at y.begins.shared high (weak_right l)))
         go (inr l) = l
 
-    -- a point on a side that has the start on its right and the crossing on its left comes before the crossing
+    -- a point on a side that has the start on its right and the crossing on its left comes before
+    -- the crossing
     sooner : (u v z : Fraction) → OnSegment p q z → bracket u v z ≡ pos 0 → bracket u v p <ℤ pos 0 →
         pos 0 <ℤ bracket u v y.at → IsNearer p z y.at
     sooner u v z hz on low high = higher_is_later p q apart u v z y.at hz y.begins.shared
         (slope_above u v p q low (end_left u v low high)) (zero_weak on) high
 
-    earlier_edge : (a b : ℕ) → IsEdge t a b → pos 0 <ℤ bracket p q (vertex t a) → bracket p q (vertex t b) <ℤ pos 0 →
-        bracket (vertex t a) (vertex t b) p <ℤ pos 0 → pos 0 <ℤ bracket (vertex t a) (vertex t b) y.at → ⊥
+    earlier_edge : (a b : ℕ) → IsEdge t a b → pos 0 <ℤ bracket p q (vertex t a)
+        → bracket p q (vertex t b) <ℤ pos 0 → bracket (vertex t a) (vertex t b) p <ℤ pos 0
+        → pos 0 <ℤ bracket (vertex t a) (vertex t b) y.at → ⊥
     earlier_edge a b e l r low high = go met (begins t p q (L.across a b) met)
       where
         met : Meets t p q (L.across a b)
@@ -250,12 +283,15 @@ module _ (t : Triangulation) (h : TilesHull t) (p q : Fraction) (apart : ¬ IsSa
       where
         parts : (f g x y k z l w : ℤ) → f *ℤ x -ℤ g *ℤ y ≡ k *ℤ z -ℤ l *ℤ w → l ≡ pos 0 →
             k *ℤ z ≡ f *ℤ x +ℤ neg_ℤ g *ℤ y
-        parts f g x y k z l w e d = let a = product_zero_left {a = l} w d in omega (arith, ints, neg-mul_ℤ g y)
+        parts f g x y k z l w e d =
+            let a = product_zero_left {a = l} w d in omega (arith, ints, neg-mul_ℤ g y)
 
         there : OnSegment p q K
         there = segment_from (bracket q p J) (bracket K J q) (neg_ℤ (bracket K J p)) p q K
-            (opposite_of_negative _ _ (bracket-swapped p q J) s.right) (end_left K J low high) (negated_negative low)
-            (λ u v. parts (bracket K J q) (bracket K J p) (bracket u v p) (bracket u v q) (bracket q p J)
+            (opposite_of_negative _ _ (bracket-swapped p q J) s.right) (end_left K J low high)
+            (negated_negative low)
+            (λ u v. parts (bracket K J q) (bracket K J p) (bracket u v p) (bracket u v q)
+            (bracket q p J)
             (bracket u v K) (bracket q p K) (bracket u v J) (meeting K J p q u v)
             (opposite_of_zero_of (bracket-swapped p q K) level))
 
@@ -273,17 +309,21 @@ module _ (t : Triangulation) (h : TilesHull t) (p q : Fraction) (apart : ¬ IsSa
         third = (h.sides k j).1 (inl (i, turned_face t i k j (turned_face t j i k f)))
 
         go : (bracket p q K <ℤ pos 0) ⊎ ((bracket p q K ≡ pos 0) ⊎ (pos 0 <ℤ bracket p q K)) → ⊥
-        go (inl d) = earlier_edge i k second s.left d (right_of_second d) (between-second J I K y.at between turning)
+        go (inl d) = earlier_edge i k second s.left d (right_of_second d)
+            (between-second J I K y.at between turning)
         go (inr (inl d)) =
-            earlier_vertex d (right_of_third (zero_weak_left d)) (between-third J I K y.at between turning)
+            earlier_vertex d (right_of_third (zero_weak_left d))
+            (between-third J I K y.at between turning)
         go (inr (inr d)) =
-            earlier_edge k j third d s.right (right_of_third (weak d)) (between-third J I K y.at between turning)
+            earlier_edge k j third d s.right (right_of_third (weak d))
+            (between-third J I K y.at between turning)
 
   -- where no outer edge is crossed from outside, the first is a vertex
-  only_vertex : ((a b : ℕ) → IsOuter t a b → ¬ Meets t p q (L.across b a)) → (m : Item) → IsFirst t p q m →
-      (v : ℕ) × (m ≡ L.at_vertex v)
+  only_vertex : ((a b : ℕ) → IsOuter t a b → ¬ Meets t p q (L.across b a)) → (m : Item)
+      → IsFirst t p q m → (v : ℕ) × (m ≡ L.at_vertex v)
   only_vertex none (L.at_vertex v) f = (v, refl)
-  only_vertex none (L.along i j) f = absurd (overlap_not_first t (meeting_of_hull t h) p q apart off_edges i j f)
+  only_vertex none (L.along i j) f =
+      absurd (overlap_not_first t (meeting_of_hull t h) p q apart off_edges i j f)
   only_vertex none (L.across i j) f = absurd (go (listed_or_not j i (sides_of t.faces)))
     where
       go : Member (j, i) (sides_of t.faces) ⊎ (¬ Member (j, i) (sides_of t.faces)) → ⊥
@@ -291,7 +331,8 @@ module _ (t : Triangulation) (h : TilesHull t) (p q : Fraction) (apart : ¬ IsSa
           (signs_of t p q apart i j (edge_apart t h i j f.met.0) f.met) f
       go (inr n) = none j i (edge_flipped t i j f.met.0, λ g. n (side_listed t h j i g.0 g.1)) f.met
 
--- from outside, where no outer edge is crossed inwards, the nearest vertex on the segment comes first
+-- from outside, where no outer edge is crossed inwards, the nearest vertex on the segment comes
+-- first
 pub first_from_the_outside : FirstFromOutside
 first_from_the_outside t h p q apart i j outer turns none = (
   nearest_first t (meeting_of_hull t h) p q apart (only_vertex t h p q apart out none),

@@ -13,7 +13,8 @@ use Rattle.plane_delaunay.proofs.Points.Bracket.{bracket, left_if_above}
 pub not_left : (u v x : Fraction) → side u v x ≢ left → bracket u v x ≤ℤ pos 0
 not_left u v x n = go (trichotomy_ℤ (bracket u v x))
   where
-    go : (bracket u v x <ℤ pos 0) ⊎ ((bracket u v x ≡ pos 0) ⊎ (pos 0 <ℤ bracket u v x)) → bracket u v x ≤ℤ pos 0
+    go : (bracket u v x <ℤ pos 0) ⊎ ((bracket u v x ≡ pos 0) ⊎ (pos 0 <ℤ bracket u v x))
+        → bracket u v x ≤ℤ pos 0
     go (inl h) = weak_right h
     go (inr (inl h)) = zero_weak h
     go (inr (inr h)) = absurd (n (left_if_above u v x h))

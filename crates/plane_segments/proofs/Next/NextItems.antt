@@ -4,7 +4,9 @@ use mathlib.Core.Logic.{◌⊎◌, inl, inr}
 use lib.IntN.{neg_ℤ}
 use Rattle.std.specs.Prelude.{ℤ, pos, ◌<ℤ◌, ◌≤ℤ◌, ◌+ℤ◌, ◌-ℤ◌, ◌*ℤ◌}
 use Rattle.std.proofs.lemmas.Int.{ints}
-use Rattle.plane.proofs.IntegerOrder.{mul-pos_ℤ, mul-nonneg_ℤ, trichotomy_ℤ, mul-nonpos_of_nonneg_nonpos_ℤ, mul-nonneg_of_nonpos_ℤ, mul-neg_of_pos_neg_ℤ, zero-mul_ℤ, neg-pos_ℤ}
+use Rattle.plane.proofs.IntegerOrder.{mul-pos_ℤ, mul-nonneg_ℤ, trichotomy_ℤ}
+use Rattle.plane.proofs.IntegerOrder.{mul-nonpos_of_nonneg_nonpos_ℤ, mul-nonneg_of_nonpos_ℤ}
+use Rattle.plane.proofs.IntegerOrder.{mul-neg_of_pos_neg_ℤ, zero-mul_ℤ, neg-pos_ℤ}
 use Rattle.plane.proofs.Solver.{num, ◌⊕◌, ◌⊖◌, ◌⊗◌, ⊝, ring_in_from}
 use Rattle.plane.proofs.Nearer.{same_not_nearer}
 use Rattle.plane.proofs.Steps.{weak, weak_right, zero_weak, zero_weak_left, left_not_zero}
@@ -14,27 +16,37 @@ use Rattle.plane.specs.Circle.{IsNearer}
 use Rattle.plane.specs.Tiling.{Triangulation, IsEdge, IsFace, vertex, TilesHull}
 use Rattle.plane.specs.Line.{Item, Meets, BeginsAt, IsBefore, IsVertexThenOverlap}
 use Rattle.plane.specs.Line as L
-use Rattle.plane_delaunay.proofs.Points.Bracket.{bracket, bracket-swapped, bracket-first, cramer, meeting, above_if_left}
+use Rattle.plane_delaunay.proofs.Points.Bracket.{bracket, bracket-swapped, bracket-first, cramer}
+use Rattle.plane_delaunay.proofs.Points.Bracket.{meeting, above_if_left}
 use Rattle.plane_delaunay.proofs.Points.Nudges.{Inside}
-use Rattle.plane_delaunay.proofs.Tilings.Faces.{Between, between-swapped, between-second, between-third, turned-above}
+use Rattle.plane_delaunay.proofs.Tilings.Faces.{Between, between-swapped, between-second}
+use Rattle.plane_delaunay.proofs.Tilings.Faces.{between-third, turned-above}
 use Rattle.plane.proofs.Triangles.{turned_face}
 use Rattle.plane_delaunay.proofs.Floods.Flooded.{segment_from}
-use Rattle.plane_delaunay.proofs.Segments.LineItems.{Begins, begins, between_of, met_within, meeting_of_hull}
+use Rattle.plane_delaunay.proofs.Segments.LineItems.{Begins, begins, between_of, met_within}
+use Rattle.plane_delaunay.proofs.Segments.LineItems.{meeting_of_hull}
 use Rattle.plane_segments.specs.Steps.{ComesNext, IsLast}
-use Rattle.plane_segments.proofs.Items.Slopes.{slope, slope_above, later_is_higher, higher_is_later, left_before, left_from}
-use Rattle.plane_segments.proofs.Items.Begins.{edge_flipped, Signs, met_if, rising, above-same, begins_once, on_line, after_crossing, before_crossing, bare_inside}
-use Rattle.plane.proofs.Signs.{negated_not_negative, opposite_of_positive, opposite_of_negative, opposite_of_not_positive}
+use Rattle.plane_segments.proofs.Items.Slopes.{slope, slope_above, later_is_higher, higher_is_later}
+use Rattle.plane_segments.proofs.Items.Slopes.{left_before, left_from}
+use Rattle.plane_segments.proofs.Items.Begins.{edge_flipped, Signs, met_if, rising, above-same}
+use Rattle.plane_segments.proofs.Items.Begins.{begins_once, on_line, after_crossing}
+use Rattle.plane_segments.proofs.Items.Begins.{before_crossing, bare_inside}
+use Rattle.plane.proofs.Signs.{negated_not_negative, opposite_of_positive, opposite_of_negative}
+use Rattle.plane.proofs.Signs.{opposite_of_not_positive}
 
 -- ends on two sides of a line differ
-pub ends_apart : (p q a b : Fraction) → pos 0 <ℤ bracket p q a → bracket p q b <ℤ pos 0 → ¬ IsSame a b
+pub ends_apart : (p q a b : Fraction) → pos 0 <ℤ bracket p q a → bracket p q b <ℤ pos 0
+    → ¬ IsSame a b
 ends_apart p q a b l r e = both (above-same p q a b e l) r
   where
     both : pos 0 <ℤ bracket p q b → bracket p q b <ℤ pos 0 → ⊥
     both h k = omega (arith, ints, h, k)
 
--- ---- the triangle a b d, and z on the line p q, which parts a and b: 0 = second A + third B + first D
+-- ---- the triangle a b d, and z on the line p q, which parts a and b: 0 = second A + third B +
+-- first D
 -- where d is not right of the line
-third_by : (n s t f A B D : ℤ) → n *ℤ pos 0 ≡ s *ℤ A +ℤ t *ℤ B +ℤ f *ℤ D → pos 0 <ℤ s → pos 0 <ℤ A → pos 0 <ℤ f → pos 0 ≤ℤ D → B <ℤ pos 0 → pos 0 <ℤ t
+third_by : (n s t f A B D : ℤ) → n *ℤ pos 0 ≡ s *ℤ A +ℤ t *ℤ B +ℤ f *ℤ D → pos 0 <ℤ s → pos 0 <ℤ A
+    → pos 0 <ℤ f → pos 0 ≤ℤ D → B <ℤ pos 0 → pos 0 <ℤ t
 third_by n s t f A B D e hs hA hf hD hB = go (trichotomy_ℤ t)
   where
     none : t ≤ℤ pos 0 → ⊥
@@ -51,7 +63,8 @@ third_by n s t f A B D e hs hA hf hD hB = go (trichotomy_ℤ t)
     go (inr (inr h)) = h
 
 -- where d is not left of it
-second_by : (n s t f A B D : ℤ) → n *ℤ pos 0 ≡ s *ℤ A +ℤ t *ℤ B +ℤ f *ℤ D → pos 0 <ℤ t → pos 0 <ℤ A → pos 0 <ℤ f → D ≤ℤ pos 0 → B <ℤ pos 0 → pos 0 <ℤ s
+second_by : (n s t f A B D : ℤ) → n *ℤ pos 0 ≡ s *ℤ A +ℤ t *ℤ B +ℤ f *ℤ D → pos 0 <ℤ t → pos 0 <ℤ A
+    → pos 0 <ℤ f → D ≤ℤ pos 0 → B <ℤ pos 0 → pos 0 <ℤ s
 second_by n s t f A B D e ht hA hf hD hB = go (trichotomy_ℤ s)
   where
     none : s ≤ℤ pos 0 → ⊥
@@ -68,10 +81,13 @@ second_by n s t f A B D e ht hA hf hD hB = go (trichotomy_ℤ s)
     go (inr (inl h)) = absurd (none (zero_weak h))
     go (inr (inr h)) = h
 
-seen_by : (a b d z p q : Fraction) → OnSegment p q z → bracket a b d *ℤ pos 0 ≡ bracket b d z *ℤ bracket p q a +ℤ bracket d a z *ℤ bracket p q b +ℤ bracket a b z *ℤ bracket p q d
+seen_by : (a b d z p q : Fraction) → OnSegment p q z → bracket a b d *ℤ pos 0 ≡ bracket b d z
+    *ℤ bracket p q a +ℤ bracket d a z *ℤ bracket p q b +ℤ bracket a b z *ℤ bracket p q d
 seen_by a b d z p q h = ap (λ n. bracket a b d *ℤ n) (sym (on_line p q z h)) ∙ cramer a b d z p q
 
-module _ (t : Triangulation) (h : TilesHull t) (p q : Fraction) (apart : ¬ IsSame p q) (a b d : ℕ) (m : Meets t p q (L.across a b)) (s : Signs p q (vertex t a) (vertex t b)) (f : IsFace t a b d) where
+module _ (t : Triangulation) (h : TilesHull t) (p q : Fraction) (apart : ¬ IsSame p q) (a b d : ℕ)
+    (m : Meets t p q (L.across a b)) (s : Signs p q (vertex t a) (vertex t b))
+    (f : IsFace t a b d) where
   -- the edge's first end
   abbrev pub A : Fraction
   A = vertex t a
@@ -111,24 +127,42 @@ module _ (t : Triangulation) (h : TilesHull t) (p q : Fraction) (apart : ¬ IsSa
   third_edge = (h.sides d a).1 (inl (b, turned_face t b d a (turned_face t a b d f)))
 
   -- what begins between the crossing and the other sides is strictly inside the face
-  inside_left : (z : Fraction) → OnSegment p q z → pos 0 ≤ℤ bracket p q D → pos 0 <ℤ bracket A B z → pos 0 <ℤ bracket B D z → Inside A B D z
-  inside_left z hz hd first second = record { first = first; second = second; third = third_by (bracket A B D) (bracket B D z) (bracket D A z) (bracket A B z) (bracket p q A) (bracket p q B) (bracket p q D) (seen_by A B D z p q hz) second s.left first hd s.right }
+  inside_left : (z : Fraction) → OnSegment p q z → pos 0 ≤ℤ bracket p q D → pos 0 <ℤ bracket A B z
+      → pos 0 <ℤ bracket B D z → Inside A B D z
+  inside_left z hz hd first second = record {
+    first = first;
+    second = second;
+    third = third_by (bracket A B D) (bracket B D z) (bracket D A z) (bracket A B z) (bracket p q A)
+        (bracket p q B) (bracket p q D) (seen_by A B D z p q hz) second s.left first hd s.right;
+  }
 
-  inside_right : (z : Fraction) → OnSegment p q z → bracket p q D ≤ℤ pos 0 → pos 0 <ℤ bracket A B z → pos 0 <ℤ bracket D A z → Inside A B D z
-  inside_right z hz hd first third = record { first = first; second = second_by (bracket A B D) (bracket B D z) (bracket D A z) (bracket A B z) (bracket p q A) (bracket p q B) (bracket p q D) (seen_by A B D z p q hz) third s.left first hd s.right; third = third }
+  inside_right : (z : Fraction) → OnSegment p q z → bracket p q D ≤ℤ pos 0 → pos 0 <ℤ bracket A B z
+      → pos 0 <ℤ bracket D A z → Inside A B D z
+  inside_right z hz hd first third = record {
+    first = first;
+    second =
+        second_by (bracket A B D) (bracket B D z) (bracket D A z) (bracket A B z) (bracket p q A)
+        (bracket p q B) (bracket p q D) (seen_by A B D z p q hz) third s.left first hd s.right;
+    third = third;
+  }
 
   -- n is left of the crossed edge where it begins: it comes after
-  comes_after : (n : Item) (y : Fraction) → BeginsAt t p q n y → pos 0 <ℤ bracket A B y → IsBefore t p q (L.across a b) n
+  comes_after : (n : Item) (y : Fraction) → BeginsAt t p q n y → pos 0 <ℤ bracket A B y
+      → IsBefore t p q (L.across a b) n
   comes_after n y by high = let x = begins t p q (L.across a b) m in record {
     first = x.at;
     second = y;
     first_begins = x.begins;
     second_begins = by;
-    order = inl (higher_is_later p q apart A B x.at y x.begins.shared by.shared (rising p q A B s.left s.right) (zero_weak (on_line A B x.at x.begins.of_item)) high);
+    order = inl (higher_is_later p q apart A B x.at y x.begins.shared by.shared
+        (rising p q A B s.left s.right) (zero_weak (on_line A B x.at x.begins.of_item)) high);
   }
 
-  begun : (k : Item) → Meets t p q k → IsBefore t p q (L.across a b) k → (z : Fraction) → BeginsAt t p q k z → pos 0 <ℤ bracket A B z
-  begun k met o z bz = above-same A B o.second z (begins_once t p q apart k o.second z o.second_begins bz) (after_crossing t p q apart a b s k o)
+  begun : (k : Item) → Meets t p q k → IsBefore t p q (L.across a b) k → (z : Fraction)
+      → BeginsAt t p q k z → pos 0 <ℤ bracket A B z
+  begun k met o z bz =
+      above-same A B o.second z (begins_once t p q apart k o.second z o.second_begins bz)
+      (after_crossing t p q apart a b s k o)
 
   -- d on the left: the second side is crossed
   module _ (left : pos 0 <ℤ bracket p q D) (past : bracket B D q ≤ℤ pos 0) where
@@ -136,7 +170,8 @@ module _ (t : Triangulation) (h : TilesHull t) (p q : Fraction) (apart : ¬ IsSa
     second_signs = record {
       left = left;
       right = s.right;
-      start = weak_right (opposite_of_positive _ _ (bracket-swapped B D p) (left_before p q apart B D crossed on_way second_there past));
+      start = weak_right (opposite_of_positive _ _ (bracket-swapped B D p)
+          (left_before p q apart B D crossed on_way second_there past));
       end = opposite_of_not_positive _ _ (bracket-swapped B D q) past;
     }
 
@@ -148,12 +183,18 @@ module _ (t : Triangulation) (h : TilesHull t) (p q : Fraction) (apart : ¬ IsSa
     next_left = record {
       met = second_met;
       after = go (begins t p q (L.across d b) second_met);
-      none_between = λ k met after before. bare_inside t h p q k met before.first before.first_begins.of_item a b d f
-          (inside_left before.first before.first_begins.shared (weak left) (begun k met after before.first before.first_begins) (before_crossing t p q apart d b second_signs k before));
+      none_between = λ k met after before. bare_inside t h p q k met before.first
+          before.first_begins.of_item a b d f
+          (inside_left before.first before.first_begins.shared (weak left)
+          (begun k met after before.first before.first_begins)
+          (before_crossing t p q apart d b second_signs k before));
     }
       where
         go : Begins t p q (L.across d b) → IsBefore t p q (L.across a b) (L.across d b)
-        go y = comes_after (L.across d b) y.at y.begins (between-third B D A y.at (between-swapped D B y.at (between_of D B y.at (met_within t (meeting_of_hull t h) p q apart d b second_met y.at y.begins.shared y.begins.of_item))) (turned-above A B D turning))
+        go y = comes_after (L.across d b) y.at y.begins
+            (between-third B D A y.at (between-swapped D B y.at (between_of D B y.at (met_within t
+            (meeting_of_hull t h) p q apart d b second_met y.at y.begins.shared y.begins.of_item)))
+            (turned-above A B D turning))
 
   -- d on the right: the third side
   module _ (right : bracket p q D <ℤ pos 0) (past : bracket D A q ≤ℤ pos 0) where
@@ -161,7 +202,8 @@ module _ (t : Triangulation) (h : TilesHull t) (p q : Fraction) (apart : ¬ IsSa
     third_signs = record {
       left = s.left;
       right = right;
-      start = weak_right (opposite_of_positive _ _ (bracket-swapped D A p) (left_before p q apart D A crossed on_way third_there past));
+      start = weak_right (opposite_of_positive _ _ (bracket-swapped D A p)
+          (left_before p q apart D A crossed on_way third_there past));
       end = opposite_of_not_positive _ _ (bracket-swapped D A q) past;
     }
 
@@ -173,41 +215,64 @@ module _ (t : Triangulation) (h : TilesHull t) (p q : Fraction) (apart : ¬ IsSa
     next_right = record {
       met = third_met;
       after = go (begins t p q (L.across a d) third_met);
-      none_between = λ k met after before. bare_inside t h p q k met before.first before.first_begins.of_item a b d f
-          (inside_right before.first before.first_begins.shared (weak_right right) (begun k met after before.first before.first_begins) (before_crossing t p q apart a d third_signs k before));
+      none_between = λ k met after before. bare_inside t h p q k met before.first
+          before.first_begins.of_item a b d f
+          (inside_right before.first before.first_begins.shared (weak_right right)
+          (begun k met after before.first before.first_begins)
+          (before_crossing t p q apart a d third_signs k before));
     }
       where
         go : Begins t p q (L.across a d) → IsBefore t p q (L.across a b) (L.across a d)
-        go y = comes_after (L.across a d) y.at y.begins (between-second D A B y.at (between-swapped A D y.at (between_of A D y.at (met_within t (meeting_of_hull t h) p q apart a d third_met y.at y.begins.shared y.begins.of_item))) (turned-above B D A (turned-above A B D turning)))
+        go y = comes_after (L.across a d) y.at y.begins
+            (between-second D A B y.at (between-swapped A D y.at (between_of A D y.at (met_within t
+            (meeting_of_hull t h) p q apart a d third_met y.at y.begins.shared y.begins.of_item)))
+            (turned-above B D A (turned-above A B D turning)))
 
   -- d on the line: the vertex
   module _ (level : bracket p q D ≡ pos 0) (past : bracket B D q ≤ℤ pos 0) where
     corner_on : OnSegment p q D
-    corner_on = segment_from (neg_ℤ (bracket p q B)) (neg_ℤ (bracket B D q)) (bracket B D p) p q D (neg-pos_ℤ s.right) (negated_not_negative past) (weak (left_before p q apart B D crossed on_way second_there past))
-        (λ u v. weights (bracket B D q) (bracket B D p) (bracket u v p) (bracket u v q) (bracket q p D) (bracket u v B) (bracket q p B) (bracket u v D) (bracket p q B) (meeting B D p q u v) (bracket-swapped p q D ∙ ap neg_ℤ level) (bracket-swapped p q B))
+    corner_on = segment_from (neg_ℤ (bracket p q B)) (neg_ℤ (bracket B D q)) (bracket B D p) p q D
+        (neg-pos_ℤ s.right) (negated_not_negative past)
+        (weak (left_before p q apart B D crossed on_way second_there past))
+        (λ u v. weights (bracket B D q) (bracket B D p) (bracket u v p) (bracket u v q)
+        (bracket q p D) (bracket u v B) (bracket q p B) (bracket u v D) (bracket p q B)
+        (meeting B D p q u v) (bracket-swapped p q D ∙ ap neg_ℤ level) (bracket-swapped p q B))
       where
-        weights : (x y up uq d ub b ud r : ℤ) → x *ℤ up -ℤ y *ℤ uq ≡ d *ℤ ub -ℤ b *ℤ ud → d ≡ pos 0 → b ≡ neg_ℤ r → neg_ℤ r *ℤ ud ≡ neg_ℤ x *ℤ up +ℤ y *ℤ uq
-        weights x y up uq d ub b ud r e c i = ring_in_from (x ∷ y ∷ up ∷ uq ∷ d ∷ ub ∷ b ∷ ud ∷ r ∷ [])
+        weights : (x y up uq d ub b ud r : ℤ) → x *ℤ up -ℤ y *ℤ uq ≡ d *ℤ ub -ℤ b *ℤ ud → d ≡ pos 0
+            → b ≡ neg_ℤ r → neg_ℤ r *ℤ ud ≡ neg_ℤ x *ℤ up +ℤ y *ℤ uq
+        weights x y up uq d ub b ud r e c i =
+            ring_in_from (x ∷ y ∷ up ∷ uq ∷ d ∷ ub ∷ b ∷ ud ∷ r ∷ [])
             (λ x y up uq d ub b ud r. ⊝ r ⊗ ud) (λ x y up uq d ub b ud r. ⊝ x ⊗ up ⊕ y ⊗ uq)
-            (λ x y up uq d ub b ud r. (num 1, x ⊗ up ⊖ y ⊗ uq, d ⊗ ub ⊖ b ⊗ ud) ∷ (ub, d, num 0) ∷ (⊝ ud, b, ⊝ r) ∷ []) (e, (c, (i, tt))) tt
+            (λ x y up uq d ub b ud r. (num 1, x ⊗ up ⊖ y ⊗ uq, d ⊗ ub ⊖ b ⊗ ud) ∷ (ub, d, num 0)
+            ∷ (⊝ ud, b, ⊝ r) ∷ []) (e, (c, (i, tt))) tt
 
     corner_met : Meets t p q (L.at_vertex d)
     corner_met = ((h.corners a b d f).2, corner_on)
 
     corner_begins : BeginsAt t p q (L.at_vertex d) D
-    corner_begins = record { shared = corner_on; of_item = same-refl D; first = λ r _ e. same_not_nearer p r D e }
+    corner_begins = record {
+      shared = corner_on;
+      of_item = same-refl D;
+      first = λ r _ e. same_not_nearer p r D e;
+    }
 
     -- the vertex d comes next
     pub next_vertex : ComesNext t p q (L.across a b) (L.at_vertex d)
-    next_vertex = record { met = corner_met; after = comes_after (L.at_vertex d) D corner_begins turning; none_between = none }
+    next_vertex = record {
+      met = corner_met;
+      after = comes_after (L.at_vertex d) D corner_begins turning;
+      none_between = none;
+    }
       where
         up : pos 0 <ℤ slope D B p q
         up = falls (left_before p q apart B D crossed on_way second_there past)
           where
             falls : pos 0 <ℤ bracket B D p → pos 0 <ℤ slope D B p q
-            falls h = slope_above D B p q (opposite_of_positive _ _ (bracket-swapped B D p) h) (opposite_of_not_positive _ _ (bracket-swapped B D q) past)
+            falls h = slope_above D B p q (opposite_of_positive _ _ (bracket-swapped B D p) h)
+                (opposite_of_not_positive _ _ (bracket-swapped B D q) past)
 
-        right_before : (z y : Fraction) → OnSegment p q z → OnSegment p q y → IsNearer p z y → IsSame y D → pos 0 <ℤ bracket B D z
+        right_before : (z y : Fraction) → OnSegment p q z → OnSegment p q y → IsNearer p z y
+            → IsSame y D → pos 0 <ℤ bracket B D z
         right_before z y hz hy near e = go (trichotomy_ℤ (bracket D B z))
           where
             none_there : ¬ (pos 0 <ℤ bracket D B y)
@@ -216,17 +281,24 @@ module _ (t : Triangulation) (h : TilesHull t) (p q : Fraction) (apart : ¬ IsSa
             not_high : ¬ (pos 0 ≤ℤ bracket D B z)
             not_high high = none_there (later_is_higher p q apart D B z y hz hy near up high)
 
-            go : (bracket D B z <ℤ pos 0) ⊎ ((bracket D B z ≡ pos 0) ⊎ (pos 0 <ℤ bracket D B z)) → pos 0 <ℤ bracket B D z
+            go : (bracket D B z <ℤ pos 0) ⊎ ((bracket D B z ≡ pos 0) ⊎ (pos 0 <ℤ bracket D B z))
+                → pos 0 <ℤ bracket B D z
             go (inl x) = opposite_of_negative _ _ (bracket-swapped D B z) x
             go (inr (inl x)) = absurd (not_high (zero_weak_left x))
             go (inr (inr x)) = absurd (not_high (weak x))
 
-        none : (k : Item) → Meets t p q k → IsBefore t p q (L.across a b) k → ¬ IsBefore t p q k (L.at_vertex d)
+        none : (k : Item) → Meets t p q k → IsBefore t p q (L.across a b) k
+            → ¬ IsBefore t p q k (L.at_vertex d)
         none k met after before = pick k met after before before.order
           where
-            pick : (k : Item) → Meets t p q k → IsBefore t p q (L.across a b) k → (o : IsBefore t p q k (L.at_vertex d)) → IsNearer p o.first o.second ⊎ (IsSame o.first o.second × IsVertexThenOverlap k (L.at_vertex d)) → ⊥
-            pick k met after o (inl n) = bare_inside t h p q k met o.first o.first_begins.of_item a b d f
-                (inside_left o.first o.first_begins.shared (zero_weak_left level) (begun k met after o.first o.first_begins) (right_before o.first o.second o.first_begins.shared o.second_begins.shared n o.second_begins.of_item))
+            pick : (k : Item) → Meets t p q k → IsBefore t p q (L.across a b) k
+                → (o : IsBefore t p q k (L.at_vertex d)) → IsNearer p o.first o.second
+                ⊎ (IsSame o.first o.second × IsVertexThenOverlap k (L.at_vertex d)) → ⊥
+            pick k met after o (inl n) =
+                bare_inside t h p q k met o.first o.first_begins.of_item a b d f
+                (inside_left o.first o.first_begins.shared (zero_weak_left level)
+                (begun k met after o.first o.first_begins) (right_before o.first o.second
+                o.first_begins.shared o.second_begins.shared n o.second_begins.of_item))
             pick (L.at_vertex i) met after o (inr w) = absurd w.1
             pick (L.across i j) met after o (inr w) = absurd w.1
             pick (L.along i j) met after o (inr w) = absurd w.1
@@ -237,13 +309,15 @@ module _ (t : Triangulation) (h : TilesHull t) (p q : Fraction) (apart : ¬ IsSa
     where
       none : (k : Item) → Meets t p q k → ¬ IsBefore t p q (L.across a b) k
       none k met o = bare_inside t h p q k met o.second o.second_begins.of_item a b d f
-          (inside_left o.second o.second_begins.shared left high (left_from p q apart B D crossed o.second on_way o.second_begins.shared near second_there ends))
+          (inside_left o.second o.second_begins.shared left high (left_from p q apart B D crossed
+          o.second on_way o.second_begins.shared near second_there ends))
         where
           high : pos 0 <ℤ bracket A B o.second
           high = after_crossing t p q apart a b s k o
 
           near : IsNearer p crossed o.second
-          near = higher_is_later p q apart A B crossed o.second on_way o.second_begins.shared (rising p q A B s.left s.right) (zero_weak (on_line A B crossed m.1.meet.second)) high
+          near = higher_is_later p q apart A B crossed o.second on_way o.second_begins.shared
+              (rising p q A B s.left s.right) (zero_weak (on_line A B crossed m.1.meet.second)) high
 
   -- a segment that ends within the face, with d not on its left, crosses nothing more
   pub last_right : bracket p q D ≤ℤ pos 0 → pos 0 <ℤ bracket D A q → IsLast t p q (L.across a b)
@@ -251,10 +325,12 @@ module _ (t : Triangulation) (h : TilesHull t) (p q : Fraction) (apart : ¬ IsSa
     where
       none : (k : Item) → Meets t p q k → ¬ IsBefore t p q (L.across a b) k
       none k met o = bare_inside t h p q k met o.second o.second_begins.of_item a b d f
-          (inside_right o.second o.second_begins.shared right high (left_from p q apart D A crossed o.second on_way o.second_begins.shared near third_there ends))
+          (inside_right o.second o.second_begins.shared right high (left_from p q apart D A crossed
+          o.second on_way o.second_begins.shared near third_there ends))
         where
           high : pos 0 <ℤ bracket A B o.second
           high = after_crossing t p q apart a b s k o
 
           near : IsNearer p crossed o.second
-          near = higher_is_later p q apart A B crossed o.second on_way o.second_begins.shared (rising p q A B s.left s.right) (zero_weak (on_line A B crossed m.1.meet.second)) high
+          near = higher_is_later p q apart A B crossed o.second on_way o.second_begins.shared
+              (rising p q A B s.left s.right) (zero_weak (on_line A B crossed m.1.meet.second)) high

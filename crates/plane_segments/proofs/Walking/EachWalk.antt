@@ -1,10 +1,13 @@
--- Each segment has a walk: what it meets of vertices and edges, one by one, is put in a list in order.
-use Rattle.std.proofs.Common.{◌≡◌, ℕ, zero, suc, ◌<◌, ◌≤◌, ◌+◌, List, [], ◌∷◌, length, arith, ap, refl, sym, ◌∙◌, subst}
+-- Each segment has a walk: what it meets of vertices and edges, one by one, is put in a list in
+-- order.
+use Rattle.std.proofs.Common.{◌≡◌, ◌<◌, ◌≤◌, ◌+◌, [], ◌∷◌, ◌∙◌}
+use Rattle.std.proofs.Common.{ℕ, zero, suc, List, length, arith, ap, refl, sym, subst}
 use Rattle.std.proofs.Common.{subst₂}
 use mathlib.Core.Logic.{◌⊎◌, inl, inr}
 use native.Mathlib.Decide.{dec_lt}
 use Rattle.std.specs.Prelude.{pos, ◌*ℤ◌, ⊤}
-use Rattle.plane.proofs.Decisions.{Decision, decided_by, decide_both, decide_either, decide_on_segment}
+use Rattle.plane.proofs.Decisions.{Decision, decided_by, decide_both, decide_either}
+use Rattle.plane.proofs.Decisions.{decide_on_segment}
 use Rattle.plane.proofs.Decisions.{decide_meets_within, decide_turns_left, decide_below}
 use Rattle.plane.proofs.Segments.{reach, within_itself, same-refl}
 use Rattle.plane.proofs.Sides.{if_right, right_if}
@@ -18,7 +21,8 @@ use Rattle.plane.specs.Line as L
 use Rattle.plane_delaunay.proofs.Points.Bracket.{bracket}
 use Rattle.plane_delaunay.proofs.Points.Members.{Member, member, contained}
 use Rattle.plane_delaunay.proofs.Points.AlongSegment.{before}
-use Rattle.plane_delaunay.proofs.Segments.LineItems.{Meeting, turned_segment, not_met_once, line_items_are_ordered}
+use Rattle.plane_delaunay.proofs.Segments.LineItems.{Meeting, turned_segment, not_met_once}
+use Rattle.plane_delaunay.proofs.Segments.LineItems.{line_items_are_ordered}
 use Rattle.plane_segments.specs.Steps.{GoesOn, IsWalk}
 use Rattle.plane_segments.proofs.Items.Begins.{signs_of}
 use Rattle.plane_segments.proofs.Items.Orders.{not_both_before, before_through}
@@ -29,7 +33,8 @@ use Rattle.plane.proofs.Steps.{both_signs}
 -- on the right of a line, or not
 decide_right : (u v x : Fraction) → Decision (side u v x ≡ right)
 unfolding bracket
-decide_right u v x = decided_by (if_right u v x, right_if u v x) (decide_below (bracket u v x) (pos 0))
+decide_right u v x =
+    decided_by (if_right u v x, right_if u v x) (decide_below (bracket u v x) (pos 0))
 
 decide_vertex : (t : Triangulation) (i : ℕ) → Decision (IsVertex t i)
 decide_vertex t i = go (dec_lt i (length t.points))
@@ -53,7 +58,8 @@ module _ (t : Triangulation) (c₀ : Meeting t) (p q : Fraction) (apart : ¬ IsS
   decide_across : (i j : ℕ) → IsEdge t i j → Decision (Meets t p q (L.across i j))
   decide_across i j e = go (decide_meets_within p q (vertex t i) (vertex t j))
       (decide_either (decide_turns_left (vertex t i) (vertex t j) q)
-      (decide_both (decide_on_segment (vertex t i) (vertex t j) q) (decide_right (vertex t i) (vertex t j) p)))
+      (decide_both (decide_on_segment (vertex t i) (vertex t j) q)
+      (decide_right (vertex t i) (vertex t j) p)))
     where
       go : Decision (MeetsWithin p q (vertex t i) (vertex t j)) →
           Decision (TurnsLeft (vertex t i) (vertex t j) q ⊎
@@ -66,7 +72,8 @@ module _ (t : Triangulation) (c₀ : Meeting t) (p q : Fraction) (apart : ¬ IsS
   decide_along : (i j : ℕ) → IsEdge t i j → Decision (Meets t p q (L.along i j))
   decide_along i j e = go (decide_overlap p q (vertex t i) (vertex t j) apart)
     where
-      go : Decision (L.OverlapAlong p q (vertex t i) (vertex t j)) → Decision (Meets t p q (L.along i j))
+      go : Decision (L.OverlapAlong p q (vertex t i) (vertex t j))
+          → Decision (Meets t p q (L.along i j))
       go (inl o) = inl (e, o)
       go (inr n) = inr (λ m. n m.1)
 
@@ -80,50 +87,63 @@ module _ (t : Triangulation) (c₀ : Meeting t) (p q : Fraction) (apart : ¬ IsS
       (reach p q (vertex t i) *ℤ (vertex t j).w) (before p q (vertex t i) (vertex t j) m.1)
       (before p q (vertex t j) (vertex t i) n.1)
 
-  not_across_and_along : (a b c d i j : ℕ) → IsSamePair a b i j → IsSamePair c d i j → Meets t p q (L.across a b) →
-      Meets t p q (L.along c d) → ⊥
+  not_across_and_along : (a b c d i j : ℕ) → IsSamePair a b i j → IsSamePair c d i j
+      → Meets t p q (L.across a b) → Meets t p q (L.along c d) → ⊥
   not_across_and_along a b c d i j (inl r) (inl s) m n =
-      not_met_once t c₀ p q apart a b c d m n (λ x h. subst₂ (λ k l. OnSegment (vertex t k) (vertex t l) x)
+      not_met_once t c₀ p q apart a b c d m n
+      (λ x h. subst₂ (λ k l. OnSegment (vertex t k) (vertex t l) x)
       (s.0 ∙ sym r.0) (s.1 ∙ sym r.1) h)
   not_across_and_along a b c d i j (inr r) (inr s) m n =
-      not_met_once t c₀ p q apart a b c d m n (λ x h. subst₂ (λ k l. OnSegment (vertex t k) (vertex t l) x)
+      not_met_once t c₀ p q apart a b c d m n
+      (λ x h. subst₂ (λ k l. OnSegment (vertex t k) (vertex t l) x)
       (s.0 ∙ sym r.0) (s.1 ∙ sym r.1) h)
   not_across_and_along a b c d i j (inl r) (inr s) m n =
-      not_met_once t c₀ p q apart a b c d m n (λ x h. subst₂ (λ k l. OnSegment (vertex t k) (vertex t l) x)
+      not_met_once t c₀ p q apart a b c d m n
+      (λ x h. subst₂ (λ k l. OnSegment (vertex t k) (vertex t l) x)
       (s.1 ∙ sym r.0) (s.0 ∙ sym r.1) (turned_segment (vertex t c) (vertex t d) x h))
   not_across_and_along a b c d i j (inr r) (inl s) m n =
-      not_met_once t c₀ p q apart a b c d m n (λ x h. subst₂ (λ k l. OnSegment (vertex t k) (vertex t l) x)
+      not_met_once t c₀ p q apart a b c d m n
+      (λ x h. subst₂ (λ k l. OnSegment (vertex t k) (vertex t l) x)
       (s.1 ∙ sym r.0) (s.0 ∙ sym r.1) (turned_segment (vertex t c) (vertex t d) x h))
 
-  one_of_pair : (i j : ℕ) (m k : Item) → OfPair i j m → OfPair i j k → Meets t p q m → Meets t p q k → m ≡ k
+  one_of_pair : (i j : ℕ) (m k : Item) → OfPair i j m → OfPair i j k → Meets t p q m
+      → Meets t p q k → m ≡ k
   one_of_pair i j (L.at_vertex a) k r s hm hk = absurd r
   one_of_pair i j (L.across a b) (L.at_vertex c) r s hm hk = absurd s
   one_of_pair i j (L.along a b) (L.at_vertex c) r s hm hk = absurd s
-  one_of_pair i j (L.across a b) (L.along c d) r s hm hk = absurd (not_across_and_along a b c d i j r s hm hk)
-  one_of_pair i j (L.along a b) (L.across c d) r s hm hk = absurd (not_across_and_along c d a b i j s r hk hm)
+  one_of_pair i j (L.across a b) (L.along c d) r s hm hk =
+      absurd (not_across_and_along a b c d i j r s hm hk)
+  one_of_pair i j (L.along a b) (L.across c d) r s hm hk =
+      absurd (not_across_and_along c d a b i j s r hk hm)
   one_of_pair i j (L.across a b) (L.across c d) (inl r) (inl s) hm hk =
       λ n. L.across ((r.0 ∙ sym s.0) n) ((r.1 ∙ sym s.1) n)
   one_of_pair i j (L.across a b) (L.across c d) (inr r) (inr s) hm hk =
       λ n. L.across ((r.0 ∙ sym s.0) n) ((r.1 ∙ sym s.1) n)
   one_of_pair i j (L.across a b) (L.across c d) (inl r) (inr s) hm hk =
-      absurd (not_across_both a b hm (subst₂ (λ k l. Meets t p q (L.across k l)) (s.0 ∙ sym r.1) (s.1 ∙ sym r.0) hk))
+      absurd (not_across_both a b hm
+      (subst₂ (λ k l. Meets t p q (L.across k l)) (s.0 ∙ sym r.1) (s.1 ∙ sym r.0) hk))
   one_of_pair i j (L.across a b) (L.across c d) (inr r) (inl s) hm hk =
-      absurd (not_across_both a b hm (subst₂ (λ k l. Meets t p q (L.across k l)) (s.0 ∙ sym r.1) (s.1 ∙ sym r.0) hk))
+      absurd (not_across_both a b hm
+      (subst₂ (λ k l. Meets t p q (L.across k l)) (s.0 ∙ sym r.1) (s.1 ∙ sym r.0) hk))
   one_of_pair i j (L.along a b) (L.along c d) (inl r) (inl s) hm hk =
       λ n. L.along ((r.0 ∙ sym s.0) n) ((r.1 ∙ sym s.1) n)
   one_of_pair i j (L.along a b) (L.along c d) (inr r) (inr s) hm hk =
       λ n. L.along ((r.0 ∙ sym s.0) n) ((r.1 ∙ sym s.1) n)
   one_of_pair i j (L.along a b) (L.along c d) (inl r) (inr s) hm hk =
-      absurd (not_along_both a b hm (subst₂ (λ k l. Meets t p q (L.along k l)) (s.0 ∙ sym r.1) (s.1 ∙ sym r.0) hk))
+      absurd (not_along_both a b hm
+      (subst₂ (λ k l. Meets t p q (L.along k l)) (s.0 ∙ sym r.1) (s.1 ∙ sym r.0) hk))
   one_of_pair i j (L.along a b) (L.along c d) (inr r) (inl s) hm hk =
-      absurd (not_along_both a b hm (subst₂ (λ k l. Meets t p q (L.along k l)) (s.0 ∙ sym r.1) (s.1 ∙ sym r.0) hk))
+      absurd (not_along_both a b hm
+      (subst₂ (λ k l. Meets t p q (L.along k l)) (s.0 ∙ sym r.1) (s.1 ∙ sym r.0) hk))
 
   -- which item an edge is, if any
   abbrev ItemOf : ℕ → ℕ → Type 0
-  ItemOf i j = ((m : Item) × OfPair i j m × Meets t p q m) ⊎ ((m : Item) → OfPair i j m → ¬ Meets t p q m)
+  ItemOf i j = ((m : Item) × OfPair i j m × Meets t p q m)
+      ⊎ ((m : Item) → OfPair i j m → ¬ Meets t p q m)
 
   item_of : (i j : ℕ) → IsEdge t i j → IsEdge t j i → ItemOf i j
-  item_of i j e f = go (decide_across i j e) (decide_across j i f) (decide_along i j e) (decide_along j i f)
+  item_of i j e f =
+      go (decide_across i j e) (decide_across j i f) (decide_along i j e) (decide_along j i f)
     where
       go : Decision (Meets t p q (L.across i j)) → Decision (Meets t p q (L.across j i)) →
           Decision (Meets t p q (L.along i j)) → Decision (Meets t p q (L.along j i)) → ItemOf i j
@@ -135,8 +155,10 @@ module _ (t : Triangulation) (c₀ : Meeting t) (p q : Fraction) (apart : ¬ IsS
         where
           none : (m : Item) → OfPair i j m → ¬ Meets t p q m
           none (L.at_vertex k) r met = r
-          none (L.across k l) (inl r) met = a (subst₂ (λ k l. Meets t p q (L.across k l)) r.0 r.1 met)
-          none (L.across k l) (inr r) met = b (subst₂ (λ k l. Meets t p q (L.across k l)) r.0 r.1 met)
+          none (L.across k l) (inl r) met =
+              a (subst₂ (λ k l. Meets t p q (L.across k l)) r.0 r.1 met)
+          none (L.across k l) (inr r) met =
+              b (subst₂ (λ k l. Meets t p q (L.across k l)) r.0 r.1 met)
           none (L.along k l) (inl r) met = c (subst₂ (λ k l. Meets t p q (L.along k l)) r.0 r.1 met)
           none (L.along k l) (inr r) met = d (subst₂ (λ k l. Meets t p q (L.along k l)) r.0 r.1 met)
 
@@ -147,7 +169,8 @@ module _ (t : Triangulation) (c₀ : Meeting t) (p q : Fraction) (apart : ¬ IsS
   InOrder (m ∷ ms) = Meets t p q m × ((k : Item) → Member k ms → IsBefore t p q m k) × InOrder ms
 
   not_itself : (m n : Item) → m ≡ n → ¬ IsBefore t p q m n
-  not_itself m n e r = let s = subst (IsBefore t p q m) (sym e) r in not_both_before t p q apart m m s s
+  not_itself m n e r = let s = subst (IsBefore t p q m) (sym e) r in
+      not_both_before t p q apart m m s s
 
   record Inserted (m : Item) (ms : List Item) : Type 0 where
     list : List Item
@@ -166,7 +189,8 @@ module _ (t : Triangulation) (c₀ : Meeting t) (p q : Fraction) (apart : ¬ IsS
     only = λ k i. i;
     short = omega arith;
   }
-  insert m met (n ∷ ms) o = go (line_items_are_ordered t c₀ p q apart m n met o.0) (insert m met ms o.2)
+  insert m met (n ∷ ms) o =
+      go (line_items_are_ordered t c₀ p q apart m n met o.0) (insert m met ms o.2)
     where
       go : (m ≡ n) ⊎ (IsBefore t p q m n ⊎ IsBefore t p q n m) → Inserted m ms → Inserted m (n ∷ ms)
       go (inl e) rest = record {
@@ -228,12 +252,14 @@ module _ (t : Triangulation) (c₀ : Meeting t) (p q : Fraction) (apart : ¬ IsS
       none (L.at_vertex i) h met = omega (arith, h)
       none (L.across i j) h met = h
       none (L.along i j) h met = h
-  vertices (suc n) = go (vertices n) (decide_both (decide_vertex t n) (decide_on_segment p q (vertex t n)))
+  vertices (suc n) =
+      go (vertices n) (decide_both (decide_vertex t n) (decide_on_segment p q (vertex t n)))
     where
       last : (i : ℕ) → i < suc n → (i ≡ n) ⊎ (i < n)
       last i h = grind arith
 
-      go : Collected (IsBelow n) n → Decision (Meets t p q (L.at_vertex n)) → Collected (IsBelow (suc n)) (suc n)
+      go : Collected (IsBelow n) n → Decision (Meets t p q (L.at_vertex n))
+          → Collected (IsBelow (suc n)) (suc n)
       go c (inl met) = with_it (insert (L.at_vertex n) met c.list c.in_order)
         where
           with_it : Inserted (L.at_vertex n) c.list → Collected (IsBelow (suc n)) (suc n)
@@ -252,7 +278,12 @@ module _ (t : Triangulation) (c₀ : Meeting t) (p q : Fraction) (apart : ¬ IsS
               complete (L.across i j) h met = absurd h
               complete (L.along i j) h met = absurd h
       go c (inr none) =
-          record { list = c.list; in_order = c.in_order; complete = complete; short = omega (arith, c.short) }
+          record {
+            list = c.list;
+            in_order = c.in_order;
+            complete = complete;
+            short = omega (arith, c.short);
+          }
         where
           complete : (k : Item) → IsBelow (suc n) k → Meets t p q k → Member k c.list
           complete (L.at_vertex i) h met = elim (last i h) [
@@ -268,7 +299,8 @@ module _ (t : Triangulation) (c₀ : Meeting t) (p q : Fraction) (apart : ¬ IsS
   IsListed es (L.across i j) = Member (i, j) es ⊎ Member (j, i) es
   IsListed es (L.along i j) = Member (i, j) es ⊎ Member (j, i) es
 
-  first_or_later : (e : ℕ × ℕ) (es : List (ℕ × ℕ)) (k : Item) → IsListed (e ∷ es) k → OfPair e.0 e.1 k ⊎ IsListed es k
+  first_or_later : (e : ℕ × ℕ) (es : List (ℕ × ℕ)) (k : Item) → IsListed (e ∷ es) k
+      → OfPair e.0 e.1 k ⊎ IsListed es k
   first_or_later e es (L.at_vertex i) h = absurd h
   first_or_later e es (L.across i j) (inl (inl r)) =
       inl (inl (ap (λ (s : ℕ × ℕ). s.0) (sym r), ap (λ (s : ℕ × ℕ). s.1) (sym r)))
@@ -286,9 +318,15 @@ module _ (t : Triangulation) (c₀ : Meeting t) (p q : Fraction) (apart : ¬ IsS
   abbrev Rest : ℕ → List (ℕ × ℕ) → Type 0
   Rest n es = Collected (λ k. IsListed es k ⊎ IsBelow n k) (length es + n)
 
-  edges : (n : ℕ) → Collected (IsBelow n) n → (es : List (ℕ × ℕ)) → ((i j : ℕ) → Member (i, j) es → IsEdge t i j) →
-      Collected (λ k. IsListed es k ⊎ IsBelow n k) (length es + n)
-  edges n c [] h = record { list = c.list; in_order = c.in_order; complete = complete; short = omega (arith, c.short) }
+  edges : (n : ℕ) → Collected (IsBelow n) n → (es : List (ℕ × ℕ))
+      → ((i j : ℕ) → Member (i, j) es → IsEdge t i j)
+      → Collected (λ k. IsListed es k ⊎ IsBelow n k) (length es + n)
+  edges n c [] h = record {
+    list = c.list;
+    in_order = c.in_order;
+    complete = complete;
+    short = omega (arith, c.short);
+  }
     where
       complete : (k : Item) → IsListed [] k ⊎ IsBelow n k → Meets t p q k → Member k c.list
       complete k (inr b) met = c.complete k b met
@@ -315,19 +353,27 @@ module _ (t : Triangulation) (c₀ : Meeting t) (p q : Fraction) (apart : ¬ IsS
             short = omega (arith, s.short, r.short);
           }
             where
-              complete : (k : Item) → IsListed (e ∷ es) k ⊎ IsBelow n k → Meets t p q k → Member k s.list
+              complete : (k : Item) → IsListed (e ∷ es) k ⊎ IsBelow n k → Meets t p q k
+                  → Member k s.list
               complete k (inr b) hk = s.keeps k (r.complete k (inr b) hk)
               complete k (inl l) hk = elim (first_or_later e es k l) [
                 | inl o ↦ subst (λ x. Member x s.list) (one_of_pair e.0 e.1 m k of o met hk) s.has
                 | inr later ↦ s.keeps k (r.complete k (inl later) hk)
               ]
       go r (inr none) =
-          record { list = r.list; in_order = r.in_order; complete = complete; short = omega (arith, r.short) }
+          record {
+            list = r.list;
+            in_order = r.in_order;
+            complete = complete;
+            short = omega (arith, r.short);
+          }
         where
-          complete : (k : Item) → IsListed (e ∷ es) k ⊎ IsBelow n k → Meets t p q k → Member k r.list
+          complete : (k : Item) → IsListed (e ∷ es) k ⊎ IsBelow n k → Meets t p q k
+              → Member k r.list
           complete k (inr b) hk = r.complete k (inr b) hk
           complete k (inl l) hk =
-              elim (first_or_later e es k l) [ inl o ↦ absurd (none k o hk) | inr later ↦ r.complete k (inl later) hk ]
+              elim (first_or_later e es k l)
+              [ inl o ↦ absurd (none k o hk) | inr later ↦ r.complete k (inl later) hk ]
 
   -- ---- from a list in order that has all to the walk
   goes_on : (m : Item) (ms : List Item) → InOrder (m ∷ ms) →
@@ -339,7 +385,8 @@ module _ (t : Triangulation) (c₀ : Meeting t) (p q : Fraction) (apart : ¬ IsS
       after = o.1 n (inl refl);
       none_between = λ k met r. not_before k (all k met r);
     },
-    goes_on n ms o.2 (λ k met r. later k r (all k met (before_through t p q apart m n k (o.1 n (inl refl)) r))),
+    goes_on n ms o.2
+        (λ k met r. later k r (all k met (before_through t p q apart m n k (o.1 n (inl refl)) r))),
   )
     where
       not_before : (k : Item) → Member k (n ∷ ms) → ¬ IsBefore t p q k n
@@ -351,7 +398,8 @@ module _ (t : Triangulation) (c₀ : Meeting t) (p q : Fraction) (apart : ¬ IsS
       later k r (inr i) = i
 
   -- a list in order of all that is met is the walk
-  pub walk_of : (ms : List Item) → InOrder ms → ((k : Item) → Meets t p q k → Member k ms) → IsWalk t p q ms
+  pub walk_of : (ms : List Item) → InOrder ms → ((k : Item) → Meets t p q k → Member k ms)
+      → IsWalk t p q ms
   walk_of [] o all = λ m met. all m met
   walk_of (m ∷ ms) o all = (
     record { met = o.0; none_before = λ k met. not_before k (all k met) },
@@ -375,10 +423,16 @@ module _ (t : Triangulation) (c₀ : Meeting t) (p q : Fraction) (apart : ¬ IsS
   -- each segment has a walk
   pub each_walk : Walked
   each_walk =
-      go (edges (length t.points) (vertices (length t.points)) t.edges (λ i j m. inl (contained (i, j) t.edges m)))
+      go (edges (length t.points) (vertices (length t.points)) t.edges
+      (λ i j m. inl (contained (i, j) t.edges m)))
     where
-      go : Collected (λ k. IsListed t.edges k ⊎ IsBelow (length t.points) k) (length t.edges + length t.points) → Walked
-      go c = record { items = c.list; walk = walk_of c.list c.in_order all; short = omega (arith, c.short) }
+      go : Collected (λ k. IsListed t.edges k ⊎ IsBelow (length t.points) k)
+          (length t.edges + length t.points) → Walked
+      go c = record {
+        items = c.list;
+        walk = walk_of c.list c.in_order all;
+        short = omega (arith, c.short);
+      }
         where
           listed : (i j : ℕ) → IsEdge t i j → Member (i, j) t.edges ⊎ Member (j, i) t.edges
           listed i j (inl h) = inl (member (i, j) t.edges h)

@@ -14,14 +14,16 @@ use Rattle.plane_segments.proofs.Crossing.EitherWay.{one_point}
 
 -- the faces of a mesh tile the hull, or all vertices are on one line and its edges meet at vertices
 pub meshes_are_laid : MeshesAreLaid
-meshes_are_laid points faces outer edges mesh own = go (meshes_tile points faces outer edges mesh own)
+meshes_are_laid points faces outer edges mesh own =
+    go (meshes_tile points faces outer edges mesh own)
   where
     distinct : IsMesh points faces outer → (i j : ℕ) → IsIndex points i → IsIndex points j → i ≢ j →
         place points i ≢ place points j
     distinct (inl m) = m.distinct
     distinct (inr m) = m.1.distinct
 
-    apart : (i j : ℕ) → IsIndex points i → IsIndex points j → IsSame (place points i) (place points j) → i ≡ j
+    apart : (i j : ℕ) → IsIndex points i → IsIndex points j
+        → IsSame (place points i) (place points j) → i ≡ j
     apart i j hi hj e = pick (ℕ_discrete i j)
       where
         pick : Dec (i ≡ j) → i ≡ j

@@ -1,12 +1,14 @@
 -- A segment's walk is one, its rest gets shorter at each step, and the line list is the walk.
-use Rattle.std.proofs.Common.{◌≡◌, suc, ◌<◌, ◌≤◌, ◌+◌, List, [], ◌∷◌, length, arith, ap, ap₂, refl, sym, subst}
+use Rattle.std.proofs.Common.{◌≡◌, ◌<◌, ◌≤◌, ◌+◌, [], ◌∷◌}
+use Rattle.std.proofs.Common.{suc, List, length, arith, ap, ap₂, refl, sym, subst}
 use mathlib.Core.Logic.{◌⊎◌, inl, inr}
 use Rattle.std.specs.Prelude.{AllPairs}
 use Rattle.plane.specs.Fraction.{Fraction, IsSame}
 use Rattle.plane.specs.Tiling.{Triangulation}
 use Rattle.plane.specs.Line.{Item, Meets, IsBefore, IsLineList}
 use Rattle.plane_delaunay.proofs.Points.Members.{Member, member, contained}
-use Rattle.plane_delaunay.proofs.Segments.LineItems.{Meeting, meeting_of_hull, line_items_are_ordered}
+use Rattle.plane_delaunay.proofs.Segments.LineItems.{Meeting, meeting_of_hull}
+use Rattle.plane_delaunay.proofs.Segments.LineItems.{line_items_are_ordered}
 use Rattle.plane_segments.specs.Steps.{ComesNext, IsLast, IsFirst, GoesOn, IsWalk}
 use Rattle.plane_segments.specs.WalkLaws.{IsLaid, EachSegmentHasWalk, RestFalls, LineListIsWalk}
 use Rattle.plane_segments.proofs.Walking.EachWalk.{each_walk, InOrder, walk_of}
@@ -43,10 +45,12 @@ module _ (t : Triangulation) (c₀ : Meeting t) (p q : Fraction) (apart : ¬ IsS
       (later : List Item) × (rest ≡ n ∷ later) × GoesOn t p q n later
   next_at_head m n [] g c = absurd (g.none_after n c.met c.after)
   next_at_head m n (k ∷ ks) g c =
-      let e = next_is_one m k n g.0 c in (ks, ap (λ x. x ∷ ks) e, subst (λ x. GoesOn t p q x ks) e g.1)
+      let e = next_is_one m k n g.0 c in
+      (ks, ap (λ x. x ∷ ks) e, subst (λ x. GoesOn t p q x ks) e g.1)
 
   -- after the last item nothing is left
-  pub none_at_last : (m : Item) (rest : List Item) → GoesOn t p q m rest → IsLast t p q m → rest ≡ []
+  pub none_at_last : (m : Item) (rest : List Item) → GoesOn t p q m rest
+      → IsLast t p q m → rest ≡ []
   none_at_last m [] g l = refl
   none_at_last m (k ∷ ks) g l = absurd (l.none_after k g.0.met g.0.after)
 
@@ -55,7 +59,8 @@ module _ (t : Triangulation) (c₀ : Meeting t) (p q : Fraction) (apart : ¬ IsS
       (rest : List Item) × (items ≡ m ∷ rest) × GoesOn t p q m rest
   first_at_head m [] w f = absurd (w m f.met)
   first_at_head m (k ∷ ks) w f =
-      let e = first_is_one k m w.0 f in (ks, ap (λ x. x ∷ ks) e, subst (λ x. GoesOn t p q x ks) e w.1)
+      let e = first_is_one k m w.0 f in
+      (ks, ap (λ x. x ∷ ks) e, subst (λ x. GoesOn t p q x ks) e w.1)
 
   one_rest : (m : Item) (xs ys : List Item) → GoesOn t p q m xs → GoesOn t p q m ys → xs ≡ ys
   one_rest m [] ys g h = sym (none_at_last m ys h g)
@@ -72,7 +77,8 @@ module _ (t : Triangulation) (c₀ : Meeting t) (p q : Fraction) (apart : ¬ IsS
       ap₂ (λ a l. a ∷ l) e (one_rest y xs ys (subst (λ a. GoesOn t p q a xs) e g.1) h.1)
 
   -- a walk has no more items than there are vertices and edges
-  pub walk_is_short : (items : List Item) → IsWalk t p q items → length items ≤ length t.points + length t.edges
+  pub walk_is_short : (items : List Item) → IsWalk t p q items
+      → length items ≤ length t.points + length t.edges
   walk_is_short items w = subst (λ xs. length xs ≤ length t.points + length t.edges)
       (one_walk (each_walk t c₀ p q apart).items items (each_walk t c₀ p q apart).walk w)
       (each_walk t c₀ p q apart).short
@@ -82,17 +88,21 @@ module _ (t : Triangulation) (c₀ : Meeting t) (p q : Fraction) (apart : ¬ IsS
       (rest : List Item) × GoesOn t p q k rest × (length rest ≤ length ms)
   rest_after m [] g k i = absurd i
   rest_after m (n ∷ ns) g k (inl e) = (ns, subst (λ x. GoesOn t p q x ns) e g.1, omega arith)
-  rest_after m (n ∷ ns) g k (inr i) = let r = rest_after n ns g.1 k i in (r.0, r.1, omega (arith, r.2))
+  rest_after m (n ∷ ns) g k (inr i) =
+      let r = rest_after n ns g.1 k i in (r.0, r.1, omega (arith, r.2))
 
   -- from each item that is met the walk goes on, by fewer items than there are vertices and edges
   pub rest_from : (m : Item) → Meets t p q m → (rest : List Item) × GoesOn t p q m rest ×
       (length rest < length t.points + length t.edges)
-  rest_from m met = go (each_walk t c₀ p q apart).items (each_walk t c₀ p q apart).walk (each_walk t c₀ p q apart).short
+  rest_from m met = go (each_walk t c₀ p q apart).items (each_walk t c₀ p q apart).walk
+      (each_walk t c₀ p q apart).short
     where
-      go : (items : List Item) → IsWalk t p q items → length items ≤ length t.points + length t.edges →
-          (rest : List Item) × GoesOn t p q m rest × (length rest < length t.points + length t.edges)
+      go : (items : List Item) → IsWalk t p q items
+          → length items ≤ length t.points + length t.edges → (rest : List Item)
+          × GoesOn t p q m rest × (length rest < length t.points + length t.edges)
       go [] w s = absurd (w m met)
-      go (x ∷ xs) w s = pick (member m (x ∷ xs) ((walk_is_line_list t c₀ p q apart (x ∷ xs) w).complete apart m met))
+      go (x ∷ xs) w s = pick
+          (member m (x ∷ xs) ((walk_is_line_list t c₀ p q apart (x ∷ xs) w).complete apart m met))
         where
           pick : Member m (x ∷ xs) → (rest : List Item) × GoesOn t p q m rest ×
               (length rest < length t.points + length t.edges)
@@ -100,19 +110,21 @@ module _ (t : Triangulation) (c₀ : Meeting t) (p q : Fraction) (apart : ¬ IsS
           pick (inr i) = let r = rest_after x xs w.1 m i in (r.0, r.1, omega (arith, r.2, s))
 
   -- ---- the line list
-  in_order_of : (items : List Item) → ((m : Item) → Member m items → Meets t p q m) → AllPairs (IsBefore t p q) items →
-      InOrder t c₀ p q apart items
+  in_order_of : (items : List Item) → ((m : Item) → Member m items → Meets t p q m)
+      → AllPairs (IsBefore t p q) items → InOrder t c₀ p q apart items
   in_order_of [] met o = tt
   in_order_of (m ∷ ms) met o = (
     met m (inl refl),
     later,
-    in_order_of ms (λ k i. met k (inr i)) (λ i j d lt within. o (suc i) (suc j) d (omega (arith, lt))
+    in_order_of ms (λ k i. met k (inr i))
+        (λ i j d lt within. o (suc i) (suc j) d (omega (arith, lt))
         (omega (arith, within))),
   )
     where
       later : (k : Item) → Member k ms → IsBefore t p q m k
       later k i =
-          let c = contained k ms i in subst (IsBefore t p q m) c.2 (o 0 (suc c.0) k (omega arith) (omega (arith, c.1)))
+          let c = contained k ms i in
+          subst (IsBefore t p q m) c.2 (o 0 (suc c.0) k (omega arith) (omega (arith, c.1)))
 
   -- a line list is a walk
   pub line_list_is_walk : (items : List Item) → IsLineList t p q items → IsWalk t p q items
@@ -142,5 +154,7 @@ rest_falls t h p q apart = (
 
 -- a list is the line list of a segment exactly if it is the walk
 pub line_list_is_the_walk : LineListIsWalk
-line_list_is_the_walk t h p q apart items =
-    (line_list_is_walk t (meeting_of t h) p q apart items, walk_is_line_list t (meeting_of t h) p q apart items)
+line_list_is_the_walk t h p q apart items = (
+  line_list_is_walk t (meeting_of t h) p q apart items,
+  walk_is_line_list t (meeting_of t h) p q apart items,
+)

@@ -13,21 +13,27 @@ returns-then-not-is_ascii_digit-clause-none c = λ n h.
 
 pub overflow_mul-number : goal.overflow_mul-number
 overflow_mul-number c =
-    let small = value_lt _ _ 17 _ c.loop-digit.invariant.digits (omega arith) (omega arith) c.loop-digit.invariant.value in
+    let small = value_lt _ _ 17 _ c.loop-digit.invariant.digits (omega arith)
+    (omega arith) c.loop-digit.invariant.value in
     omega (arith, small)
 
 pub overflow_add-number : goal.overflow_add-number
 overflow_add-number c =
-    let small = value_lt _ _ 17 _ c.loop-digit.invariant.digits (omega arith) (omega arith) c.loop-digit.invariant.value in
-    let r = digit_in_range (get_or c.args.word.now c.loop-digit.digit-index 0) (sym c.is_ascii_digit.ensures.value ∙ c.if-not-is_ascii_digit.false) in
+    let small = value_lt _ _ 17 _ c.loop-digit.invariant.digits (omega arith)
+    (omega arith) c.loop-digit.invariant.value in
+    let r = digit_in_range (get_or c.args.word.now c.loop-digit.digit-index 0)
+    (sym c.is_ascii_digit.ensures.value ∙ c.if-not-is_ascii_digit.false) in
     omega (arith, small, r, c.from.ensures)
 
 pub loop-digit-preserved : goal.loop-digit-preserved
 loop-digit-preserved c =
-    let r = digit_in_range (get_or c.args.word.now c.loop-digit.digit-index 0) (sym c.is_ascii_digit.ensures.value ∙ c.if-not-is_ascii_digit.false) in
-    let p = one_more _ _ _ _ c.loop-digit-test.true refl (omega (arith, r)) (omega (arith, r)) c.loop-digit.invariant.digits c.loop-digit.invariant.value in
+    let r = digit_in_range (get_or c.args.word.now c.loop-digit.digit-index 0)
+    (sym c.is_ascii_digit.ensures.value ∙ c.if-not-is_ascii_digit.false) in
+    let p = one_more _ _ _ _ c.loop-digit-test.true refl (omega (arith, r))
+    (omega (arith, r)) c.loop-digit.invariant.digits c.loop-digit.invariant.value in
     record { digits = p.0; value = ap (λ x. c.loop-digit.number * 10 + x) c.from.ensures ∙ p.1 }
 
 pub returns-clause-small : goal.returns-clause-small
 returns-clause-small c =
-    value_lt _ _ 18 _ c.loop-digit.invariant.digits (omega arith) (omega arith) c.loop-digit.invariant.value
+    value_lt _ _ 18 _ c.loop-digit.invariant.digits (omega arith)
+    (omega arith) c.loop-digit.invariant.value

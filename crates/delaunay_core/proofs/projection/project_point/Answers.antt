@@ -5,7 +5,8 @@ use Rattle.plane.specs.Circle.{gap}
 use Rattle.plane.specs.Tests.{InRange}
 use Rattle.delaunay_core.specs.Place.{place_of}
 use Rattle.delaunay_core.specs.Projection.{along}
-use Rattle.delaunay_core.proofs.Projections.{product_of_ways, sum_of_products, along_bound, rest_bound, gap_passes}
+use Rattle.delaunay_core.proofs.Projections.{product_of_ways, sum_of_products, along_bound}
+use Rattle.delaunay_core.proofs.Projections.{rest_bound, gap_passes}
 use Rattle.delaunay_core.proofs.projection.project_point.Goals as goal
 
 pub returns-clause-factor : goal.returns-clause-factor
@@ -14,11 +15,15 @@ returns-clause-factor g c =
     let q = place_of g.S.SpadeNum.whole c.args.p2 in
     let r = place_of g.S.SpadeNum.whole c.args.query_point in
     sum_of_products _ _ _ _ c.product.ensures.bound c.product-2.ensures.bound
-    (product_of_ways _ _ _ p.x q.x r.x c.difference.ensures.bound c.difference-2.ensures.bound c.difference.ensures.value c.difference-2.ensures.value c.product.ensures.value)
-    (product_of_ways _ _ _ p.y q.y r.y c.difference-3.ensures.bound c.difference-4.ensures.bound c.difference-3.ensures.value c.difference-4.ensures.value c.product-2.ensures.value)
+    (product_of_ways _ _ _ p.x q.x r.x c.difference.ensures.bound c.difference-2.ensures.bound
+    c.difference.ensures.value c.difference-2.ensures.value c.product.ensures.value)
+    (product_of_ways _ _ _ p.y q.y r.y c.difference-3.ensures.bound c.difference-4.ensures.bound
+    c.difference-3.ensures.value c.difference-4.ensures.value c.product-2.ensures.value)
 
 -- numbers that are the dot product and the squared length fit
-both_fit : (p q r : Point) (f l : ℤ) → InRange p → InRange q → InRange r → f ≡ along p q r → l ≡ gap (fraction p) (fraction q) → (unsigned_abs f ≤ 2305843009213693952) × (unsigned_abs (l -ℤ f) ≤ 2305843009213693952)
+both_fit : (p q r : Point) (f l : ℤ) → InRange p → InRange q → InRange r → f ≡ along p q r
+    → l ≡ gap (fraction p) (fraction q)
+    → (unsigned_abs f ≤ 2305843009213693952) × (unsigned_abs (l -ℤ f) ≤ 2305843009213693952)
 both_fit p q r f l h i j e d = (rw e (along_bound p q r h i j), rw (e, d) (rest_bound p q r h i j))
 
 pub invariant_of-result : goal.invariant_of-result
@@ -26,7 +31,12 @@ invariant_of-result g c =
     let p = place_of g.S.SpadeNum.whole c.args.p1 in
     let q = place_of g.S.SpadeNum.whole c.args.p2 in
     let r = place_of g.S.SpadeNum.whole c.args.query_point in
-    let fit = both_fit p q r _ _ c.requires.p1_in_range c.requires.p2_in_range c.requires.query_in_range (sum_of_products _ _ _ _ c.product.ensures.bound c.product-2.ensures.bound
-    (product_of_ways _ _ _ p.x q.x r.x c.difference.ensures.bound c.difference-2.ensures.bound c.difference.ensures.value c.difference-2.ensures.value c.product.ensures.value)
-    (product_of_ways _ _ _ p.y q.y r.y c.difference-3.ensures.bound c.difference-4.ensures.bound c.difference-3.ensures.value c.difference-4.ensures.value c.product-2.ensures.value)) (gap_passes _ p q c.requires.p1_in_range c.requires.p2_in_range c.distance_2.ensures) in
+    let fit =
+    both_fit p q r _ _ c.requires.p1_in_range c.requires.p2_in_range c.requires.query_in_range
+    (sum_of_products _ _ _ _ c.product.ensures.bound c.product-2.ensures.bound
+    (product_of_ways _ _ _ p.x q.x r.x c.difference.ensures.bound c.difference-2.ensures.bound
+    c.difference.ensures.value c.difference-2.ensures.value c.product.ensures.value)
+    (product_of_ways _ _ _ p.y q.y r.y c.difference-3.ensures.bound c.difference-4.ensures.bound
+    c.difference-3.ensures.value c.difference-4.ensures.value c.product-2.ensures.value))
+    (gap_passes _ p q c.requires.p1_in_range c.requires.p2_in_range c.distance_2.ensures) in
     record { factor_fits = fit.0; rest_fits = fit.1 }

@@ -4,4 +4,5 @@ use Rattle.delaunay_edit.proofs.counting.count_constraints_at.Given as goal
 
 abbrev pub invariant-loop-edge : goal.invariant-loop-edge
 invariant-loop-edge g l =
-    IsCountingAt g.M.ConstraintMarker.constraints l.dcel l.fn.vertex (out_edges_left l.edge-iterator) l.count
+    IsCountingAt g.M.ConstraintMarker.constraints l.dcel l.fn.vertex
+    (out_edges_left l.edge-iterator) l.count

@@ -6,7 +6,8 @@ use Rattle.delaunay_legalization.specs.Constraints.{constraints_by}
 use Rattle.delaunay_legalization.specs.State.{state_of}
 use Rattle.delaunay_legalization.proofs.Questions.{both_ways}
 use Rattle.delaunay_paths.proofs.Walking.{in_map, placed_apart}
-use Rattle.delaunay_edit.proofs.CountingPath.{walk_begins, walk_shortens, walk_goes_past, walk_goes_on, walk_ends}
+use Rattle.delaunay_edit.proofs.CountingPath.{walk_begins, walk_shortens, walk_goes_past}
+use Rattle.delaunay_edit.proofs.CountingPath.{walk_goes_on, walk_ends}
 use Rattle.delaunay_edit.proofs.counting.count_missing.Goals as goal
 
 pub loop-to-init : goal.loop-to-init
@@ -14,19 +15,22 @@ loop-to-init g c =
     let at = g.V.HasPosition.place in
     let d = c.args.dcel.now in
     let points = map at d.vertices in
-    walk_begins points (placed_apart points (faces_of d.mesh) (outer_of d.mesh) c.requires.kept.shape)
+    walk_begins points
+    (placed_apart points (faces_of d.mesh) (outer_of d.mesh) c.requires.kept.shape)
     (constraints_by g.M.ConstraintMarker.constraints (state_of d)) c.args.to
     (in_map at d.vertices c.args.to c.requires.to_in)
     c.args.from (in_map at d.vertices c.args.from c.requires.from_in)
     (All-map InRange at d.vertices c.requires.kept.in_range)
 
-pub loop-to-smaller-then-not-is_constraint_between : goal.loop-to-smaller-then-not-is_constraint_between
+pub loop-to-smaller-then-not-is_constraint_between :
+    goal.loop-to-smaller-then-not-is_constraint_between
 loop-to-smaller-then-not-is_constraint_between g c =
     let at = g.V.HasPosition.place in
     let d = c.args.dcel.now in
     let points = map at d.vertices in
     let apart : c.loop-to.at ≢ c.args.to = search rules in
-    walk_shortens points (placed_apart points (faces_of d.mesh) (outer_of d.mesh) c.requires.kept.shape)
+    walk_shortens points
+    (placed_apart points (faces_of d.mesh) (outer_of d.mesh) c.requires.kept.shape)
     (constraints_by g.M.ConstraintMarker.constraints (state_of d)) c.args.to
     (in_map at d.vertices c.args.to c.requires.to_in)
     c.args.from c.loop-to.at c.loop-to.count c.loop-to.invariant c.next_on_path-next.result apart
@@ -38,19 +42,22 @@ loop-to-smaller g c =
     let d = c.args.dcel.now in
     let points = map at d.vertices in
     let apart : c.loop-to.at ≢ c.args.to = search rules in
-    walk_shortens points (placed_apart points (faces_of d.mesh) (outer_of d.mesh) c.requires.kept.shape)
+    walk_shortens points
+    (placed_apart points (faces_of d.mesh) (outer_of d.mesh) c.requires.kept.shape)
     (constraints_by g.M.ConstraintMarker.constraints (state_of d)) c.args.to
     (in_map at d.vertices c.args.to c.requires.to_in)
     c.args.from c.loop-to.at c.loop-to.count c.loop-to.invariant c.next_on_path-next.result apart
     c.next_on_path-next.ensures.next
 
-pub loop-to-preserved-then-not-is_constraint_between : goal.loop-to-preserved-then-not-is_constraint_between
+pub loop-to-preserved-then-not-is_constraint_between :
+    goal.loop-to-preserved-then-not-is_constraint_between
 loop-to-preserved-then-not-is_constraint_between g c =
     let at = g.V.HasPosition.place in
     let d = c.args.dcel.now in
     let points = map at d.vertices in
     let apart : c.loop-to.at ≢ c.args.to = search rules in
-    walk_goes_on points (placed_apart points (faces_of d.mesh) (outer_of d.mesh) c.requires.kept.shape)
+    walk_goes_on points
+    (placed_apart points (faces_of d.mesh) (outer_of d.mesh) c.requires.kept.shape)
     (constraints_by g.M.ConstraintMarker.constraints (state_of d)) c.args.to
     (in_map at d.vertices c.args.to c.requires.to_in)
     c.args.from c.loop-to.at c.loop-to.count c.loop-to.invariant c.next_on_path-next.result apart
@@ -63,7 +70,8 @@ loop-to-preserved g c =
     let d = c.args.dcel.now in
     let points = map at d.vertices in
     let apart : c.loop-to.at ≢ c.args.to = search rules in
-    walk_goes_past points (placed_apart points (faces_of d.mesh) (outer_of d.mesh) c.requires.kept.shape)
+    walk_goes_past points
+    (placed_apart points (faces_of d.mesh) (outer_of d.mesh) c.requires.kept.shape)
     (constraints_by g.M.ConstraintMarker.constraints (state_of d)) c.args.to
     (in_map at d.vertices c.args.to c.requires.to_in)
     c.args.from c.loop-to.at c.loop-to.count c.loop-to.invariant c.next_on_path-next.result apart

@@ -10,7 +10,8 @@ use Rattle.delaunay_edit.proofs.counting.count_missing.Given as goal
 abbrev pub invariant-loop-to : goal.invariant-loop-to
 invariant-loop-to g l =
     let points = map g.V.HasPosition.place l.dcel.vertices in
-    IsWalking points (constraints_by g.M.ConstraintMarker.constraints (state_of l.dcel)) l.fn.from l.to l.at l.count
+    IsWalking points (constraints_by g.M.ConstraintMarker.constraints (state_of l.dcel)) l.fn.from
+    l.to l.at l.count
 
 abbrev pub decreases-loop-to : goal.decreases-loop-to
 decreases-loop-to g l =

@@ -15,7 +15,8 @@ is_constraint_edge-requires g c =
 pub returns-then-is_constraint_edge : goal.returns-then-is_constraint_edge
 returns-then-is_constraint_edge g c =
     let marks = g.M.ConstraintMarker.constraints c.args.dcel.now.undirected in
-    subst (λ l. IsSplitCount g.M.ConstraintMarker.constraints c.args.dcel.now.undirected l 1) (sym c.in-OnEdge.is)
+    subst (λ l. IsSplitCount g.M.ConstraintMarker.constraints c.args.dcel.now.undirected l 1)
+    (sym c.in-OnEdge.is)
     (inl (
       subst (λ (k : ℕ). Contains marks k) c.as_undirected.ensures
           (c.is_constraint_edge.ensures.0 c.if-is_constraint_edge.true),
@@ -25,9 +26,11 @@ returns-then-is_constraint_edge g c =
 pub returns-else-is_constraint_edge : goal.returns-else-is_constraint_edge
 returns-else-is_constraint_edge g c =
     let marks = g.M.ConstraintMarker.constraints c.args.dcel.now.undirected in
-    subst (λ l. IsSplitCount g.M.ConstraintMarker.constraints c.args.dcel.now.undirected l 0) (sym c.in-OnEdge.is)
+    subst (λ l. IsSplitCount g.M.ConstraintMarker.constraints c.args.dcel.now.undirected l 0)
+    (sym c.in-OnEdge.is)
     (inr (
       (λ m. both_ways _ (c.is_constraint_edge.ensures.1
-          (subst (λ (k : ℕ). Contains marks k) (sym c.as_undirected.ensures) m)) c.if-is_constraint_edge.false),
+          (subst (λ (k : ℕ). Contains marks k) (sym c.as_undirected.ensures) m))
+          c.if-is_constraint_edge.false),
       refl,
     ))

@@ -14,15 +14,19 @@ pub split_edge-vertex-requires-clause-flippable : goal.split_edge-vertex-require
 split_edge-vertex-requires-clause-flippable g c =
     let old = c.args.dcel.now in
     let here : c.args.edge < length old.mesh.half_edges =
-    let w = c.requires.can.within in let f = c.requires.can.takes.kept.fits.directed_fit in omega (arith, w, f) in
-    flippable old.mesh c.args.edge c.requires.can.takes.kept.valid here c.requires.inner c.requires.twin_inner
+    let w = c.requires.can.within in let f = c.requires.can.takes.kept.fits.directed_fit in
+    omega (arith, w, f) in
+    flippable old.mesh c.args.edge c.requires.can.takes.kept.valid here c.requires.inner
+    c.requires.twin_inner
 
 pub returns-clause-edges : goal.returns-clause-edges
 returns-clause-edges g c =
     let old = c.args.dcel.now in
-    inner_split old c.split_edge-vertex.new.self (whole_mesh g.V.HasPosition.place old c.requires.can.takes.kept) _
+    inner_split old c.split_edge-vertex.new.self
+    (whole_mesh g.V.HasPosition.place old c.requires.can.takes.kept) _
     c.args.edge c.split_edge-vertex.result.0 c.requires.can.within c.as_undirected.result _ _
-    (c.as_undirected.ensures ∙ ap (λ xs. get_or xs 1 c.index-parts-1.result / 2) c.split_edge-vertex.ensures.parts)
+    (c.as_undirected.ensures
+    ∙ ap (λ xs. get_or xs 1 c.index-parts-1.result / 2) c.split_edge-vertex.ensures.parts)
     c.split_edge-vertex.ensures.edges
 
 pub returns-clause-takes : goal.returns-clause-takes
@@ -36,18 +40,23 @@ returns-clause-takes g c =
           let done = c.split_edge-vertex.ensures in
           let places = length-map old.vertices g.V.HasPosition.place in
           let edges : length new.undirected ≤ length old.undirected + 3 =
-          let f = length_moved _ old.undirected new.undirected _ 2 done.data.undirected in omega (arith, f) in
+          let f = length_moved _ old.undirected new.undirected _ 2 done.data.undirected in
+          omega (arith, f) in
           let faces : length new.faces ≤ length old.faces + 2 =
           let f = length-grown _ old.faces new.faces 2 done.data.faces in omega (arith, f) in
           let here : c.args.edge < length old.mesh.half_edges = let w = c.requires.can.within in
           let f = c.requires.can.takes.kept.fits.directed_fit in omega (arith, w, f) in
           grown g.V.HasPosition.place old new c.args.value c.requires.can.takes.kept
-          (ap (λ d. d.vertices) done.data.contents) c.requires.can.takes.in_range c.recall_invariant.ensures.whole
+          (ap (λ d. d.vertices) done.data.contents) c.requires.can.takes.in_range
+          c.recall_invariant.ensures.whole
           edges faces
-          (within_side_shape (map g.V.HasPosition.place old.vertices) (g.V.HasPosition.place c.args.value) old.mesh
-          new.mesh c.split_edge-vertex.result.0 c.requires.can.takes.kept.valid c.requires.can.takes.kept.shape
+          (within_side_shape (map g.V.HasPosition.place old.vertices)
+          (g.V.HasPosition.place c.args.value) old.mesh
+          new.mesh c.split_edge-vertex.result.0 c.requires.can.takes.kept.valid
+          c.requires.can.takes.kept.shape
           (done.vertex ∙ sym places)
-          c.args.edge (flippable old.mesh c.args.edge c.requires.can.takes.kept.valid here c.requires.inner
+          c.args.edge
+          (flippable old.mesh c.args.edge c.requires.can.takes.kept.valid here c.requires.inner
           c.requires.twin_inner) c.requires.can.on_edge done.links.triangles done.links.outer);
       grows =
           let old = c.args.dcel.now in
@@ -55,7 +64,8 @@ returns-clause-takes g c =
           let here : c.args.edge < length old.mesh.half_edges = let w = c.requires.can.within in
           let f = c.requires.can.takes.kept.fits.directed_fit in omega (arith, w, f) in
           grows_within_side old c.split_edge-vertex.new.self c.requires.can.takes.kept.valid
-          c.requires.can.takes.kept.fits c.recall_invariant.ensures.whole (map g.V.HasPosition.place old.vertices)
+          c.requires.can.takes.kept.fits c.recall_invariant.ensures.whole
+          (map g.V.HasPosition.place old.vertices)
           (g.V.HasPosition.place c.args.value) _ _ _ c.args.edge _ _ _ _ _ _ here c.requires.inner
           c.requires.twin_inner c.requires.can.on_edge done.data.directed done.data.faces done.edges
           done.links.triangles (ap (λ d. d.outer) done.data.contents);
@@ -64,9 +74,13 @@ returns-clause-takes g c =
           let done = c.split_edge-vertex.ensures in
           let here : c.args.edge < length old.mesh.half_edges = let w = c.requires.can.within in
           let f = c.requires.can.takes.kept.fits.directed_fit in omega (arith, w, f) in
-          made_at_count _ _ _ _ _ done.vertex (made_within_side (map g.V.HasPosition.place old.vertices) old.mesh
-          c.split_edge-vertex.new.self.mesh c.split_edge-vertex.result.0 c.requires.can.takes.kept.valid
-          c.requires.can.takes.kept.shape (done.vertex ∙ sym (length-map old.vertices g.V.HasPosition.place))
-          c.args.edge (flippable old.mesh c.args.edge c.requires.can.takes.kept.valid here c.requires.inner
+          made_at_count _ _ _ _ _ done.vertex
+          (made_within_side (map g.V.HasPosition.place old.vertices) old.mesh
+          c.split_edge-vertex.new.self.mesh c.split_edge-vertex.result.0
+          c.requires.can.takes.kept.valid
+          c.requires.can.takes.kept.shape
+          (done.vertex ∙ sym (length-map old.vertices g.V.HasPosition.place))
+          c.args.edge
+          (flippable old.mesh c.args.edge c.requires.can.takes.kept.valid here c.requires.inner
           c.requires.twin_inner) done.links.triangles);
     }

@@ -20,18 +20,23 @@ returns-clause-takes g c =
           let e = ap (λ d. length d.undirected) is in omega (arith, e) in
           let faces : length new.faces ≤ length old.faces + 2 =
           let e = ap (λ d. length d.faces) is in omega (arith, e) in
-          grown g.V.HasPosition.place old new c.args.value c.requires.can.kept (ap (λ d. d.vertices) is)
+          grown g.V.HasPosition.place old new c.args.value c.requires.can.kept
+          (ap (λ d. d.vertices) is)
           c.requires.can.in_range c.recall_invariant.ensures.whole edges faces
-          (subst (λ m. IsMesh (map g.V.HasPosition.place old.vertices ++ g.V.HasPosition.place c.args.value ∷ [])
+          (subst (λ m. IsMesh
+          (map g.V.HasPosition.place old.vertices ++ g.V.HasPosition.place c.args.value ∷ [])
           (faces_of m) (outer_of m)) (sym (ap (λ d. d.mesh) is))
-          (first_shape (map g.V.HasPosition.place old.vertices) (g.V.HasPosition.place c.args.value) old.mesh
-          (length-map old.vertices g.V.HasPosition.place ∙ c.requires.none) c.requires.can.kept.shape));
+          (first_shape (map g.V.HasPosition.place old.vertices)
+          (g.V.HasPosition.place c.args.value) old.mesh
+          (length-map old.vertices g.V.HasPosition.place ∙ c.requires.none)
+          c.requires.can.kept.shape));
       grows =
           let old = c.args.dcel.now in
           let new = c.append_unconnected_vertex-vertex.new.self in
           grows_from_one old new c.requires.can.kept.valid c.requires.can.kept.fits
           (map g.V.HasPosition.place old.vertices) (g.V.HasPosition.place c.args.value)
-          (omega (arith, c.requires.none)) (ap (λ d. d.outer) c.append_unconnected_vertex-vertex.ensures.contents);
+          (omega (arith, c.requires.none))
+          (ap (λ d. d.outer) c.append_unconnected_vertex-vertex.ensures.contents);
       made = made_first c.args.dcel.now.mesh c.append_unconnected_vertex-vertex.new.self.mesh _
           (ap (λ d. d.mesh) c.append_unconnected_vertex-vertex.ensures.contents);
     }

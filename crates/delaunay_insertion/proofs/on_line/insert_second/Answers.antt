@@ -33,20 +33,25 @@ returns-clause-takes g c =
           let a = c.from_index.result in
           let b = c.append_unconnected_vertex-vertex.result in
           let places = length-map old.vertices g.V.HasPosition.place in
-          let edges : length new.undirected ≤ length old.undirected + 3 = let e = ap (λ d. length d.undirected) is in
+          let edges : length new.undirected ≤ length old.undirected + 3 = let e =
+          ap (λ d. length d.undirected) is in
           let f = length-grown _ middle.undirected new.undirected 1
           c.setup_initial_two_vertices.ensures.data.undirected in omega (arith, e, f) in
           let faces : length new.faces ≤ length old.faces + 2 =
-          let e = ap (λ d. length d.faces) is in let f = ap (λ d. length d.faces) then in omega (arith, e, f) in
+          let e = ap (λ d. length d.faces) is in let f = ap (λ d. length d.faces) then in
+          omega (arith, e, f) in
           grown g.V.HasPosition.place old new c.args.value c.requires.can.kept
           (ap (λ d. d.vertices) then ∙ ap (λ d. d.vertices) is) c.requires.can.in_range
           c.recall_invariant-2.ensures.whole edges faces
-          (second_shape (map g.V.HasPosition.place old.vertices) (g.V.HasPosition.place c.args.value) old.mesh new.mesh
+          (second_shape (map g.V.HasPosition.place old.vertices)
+          (g.V.HasPosition.place c.args.value) old.mesh new.mesh
           a b (places ∙ c.requires.one) c.requires.can.kept.valid.sound
-          (places ∙ c.requires.can.kept.fits.vertices_fit) c.requires.can.kept.shape c.requires.apart
+          (places ∙ c.requires.can.kept.fits.vertices_fit) c.requires.can.kept.shape
+          c.requires.apart
           c.from_index.ensures (c.append_unconnected_vertex-vertex.ensures.vertex ∙ sym places)
           c.setup_initial_two_vertices.ensures.links.triangles
-          (subst (λ m. OuterChanges m new.mesh (λ h. ⊥) (λ h i j. IsEdge 0 a b h i j ⊎ IsEdge 1 b a h i j))
+          (subst (λ m. OuterChanges m new.mesh (λ h. ⊥)
+          (λ h i j. IsEdge 0 a b h i j ⊎ IsEdge 1 b a h i j))
           (ap (λ d. d.mesh) is) c.setup_initial_two_vertices.ensures.links.outer));
       grows =
           let old = c.args.dcel.now in

@@ -4,8 +4,10 @@ use Rattle.half_edge_mesh.specs.Mesh.{next}
 use Rattle.half_edge_dcel.proofs.Fits.{length-grown}
 use Rattle.delaunay_legalization.specs.State.{state_of}
 use Rattle.delaunay_insertion.proofs.DataGrowing.{grows_by_face, grows_on}
-use Rattle.delaunay_insertion.proofs.Joining.{IsJoining, IsJoiningBack, joining_begins, joining_ends, room_for_face}
-use Rattle.delaunay_insertion.proofs.Joining.{unseen_as, sites_grown, grown_count, has_vertex, ahead_apart, step_ahead}
+use Rattle.delaunay_insertion.proofs.Joining.{IsJoining, IsJoiningBack, joining_begins}
+use Rattle.delaunay_insertion.proofs.Joining.{joining_ends, room_for_face}
+use Rattle.delaunay_insertion.proofs.Joining.{unseen_as, sites_grown, grown_count, has_vertex}
+use Rattle.delaunay_insertion.proofs.Joining.{ahead_apart, step_ahead}
 use Rattle.delaunay_insertion.proofs.Joining.{before_outer, before_apart, step_behind}
 use Rattle.mesh_embedding.specs.Drawn.{faces_of, outer_of}
 use Rattle.delaunay_insertion.proofs.MadeFaces.{made_outside}
@@ -34,22 +36,28 @@ loop-after-init g c =
           (omega (arith, w, f)) c.requires.outer c.requires.turns done.vertex
           (ap (λ d. d.vertices) done.data.contents) (ap (λ d. d.room) done.data.contents) count
           (length-grown _ old.undirected new.undirected 2 done.data.undirected)
-          (length-grown _ old.faces new.faces 1 done.data.faces) done.links.triangles done.links.outer),
-      grows_by_face old new c.requires.can.kept.valid c.requires.can.kept.fits c.num_directed_edges-edges.ensures.whole
-          (map g.V.HasPosition.place old.vertices) (g.V.HasPosition.place c.args.value) _ _ _ _ _ _ _ _ _
-          done.data.directed done.data.faces done.edges done.links.triangles (ap (λ d. d.outer) done.data.contents),
+          (length-grown _ old.faces new.faces 1 done.data.faces) done.links.triangles
+          done.links.outer),
+      grows_by_face old new c.requires.can.kept.valid c.requires.can.kept.fits
+          c.num_directed_edges-edges.ensures.whole
+          (map g.V.HasPosition.place old.vertices)
+          (g.V.HasPosition.place c.args.value) _ _ _ _ _ _ _ _ _
+          done.data.directed done.data.faces done.edges done.links.triangles
+          (ap (λ d. d.outer) done.data.contents),
       adds_only _ (edges old) (edges new) _ done.edges,
     )
 
 pub if_seen-requires-clause-sites : goal.if_seen-requires-clause-sites
 if_seen-requires-clause-sites g c =
-    sites_grown g.V.HasPosition.place c.args.dcel.now c.args.value (g.P.PlaneTests.sites c.args.tests.now)
+    sites_grown g.V.HasPosition.place c.args.dcel.now c.args.value
+    (g.P.PlaneTests.sites c.args.tests.now)
     c.loop-after.dcel c.loop-after.invariant.0.vertices c.requires.sites.0 c.requires.sites.1
 
 pub create_single_face_between_edge_and_next-ahead-requires-clause-apart :
     goal.create_single_face_between_edge_and_next-ahead-requires-clause-apart
 create_single_face_between_edge_and_next-ahead-requires-clause-apart g c =
-    ahead_apart g.V.HasPosition.place c.args.dcel.now c.args.value c.loop-after.dcel c.loop-after.ahead
+    ahead_apart g.V.HasPosition.place c.args.dcel.now c.args.value c.loop-after.dcel
+    c.loop-after.ahead
     c.from_index-behind.result c.create_new_face_adjacent_to_edge-vertex.result c.in-Some._after
     c.loop-after.invariant.0 c.create_new_face_adjacent_to_edge-vertex.ensures.vertex
     (c.in-Some.ensures.is ∙ c.edge_after.ensures.0) c.in-Some.ensures.some
@@ -57,7 +65,8 @@ create_single_face_between_edge_and_next-ahead-requires-clause-apart g c =
 pub create_single_face_between_edge_and_next-ahead-requires-clause-room :
     goal.create_single_face_between_edge_and_next-ahead-requires-clause-room
 create_single_face_between_edge_and_next-ahead-requires-clause-room g c =
-    room_for_face g.V.HasPosition.place c.args.dcel.now c.args.value c.loop-after.dcel c.loop-after.ahead
+    room_for_face g.V.HasPosition.place c.args.dcel.now c.args.value c.loop-after.dcel
+    c.loop-after.ahead
     c.from_index-behind.result c.loop-after.invariant.0 c.in-Some.ensures.whole c.requires.room
 
 pub loop-after-smaller : goal.loop-after-smaller
@@ -65,9 +74,11 @@ loop-after-smaller g c =
     let now = c.loop-after.dcel in
     let new = c.create_single_face_between_edge_and_next-ahead.new.self in
     let done = c.create_single_face_between_edge_and_next-ahead.ensures in
-    (step_ahead g.V.HasPosition.place c.args.dcel.now c.args.value now c.loop-after.ahead c.from_index-behind.result
+    (step_ahead g.V.HasPosition.place c.args.dcel.now c.args.value now c.loop-after.ahead
+    c.from_index-behind.result
     c.create_new_face_adjacent_to_edge-vertex.result c.in-Some._after c.loop-after.invariant.0
-    c.create_new_face_adjacent_to_edge-vertex.ensures.vertex (c.in-Some.ensures.is ∙ c.edge_after.ensures.0)
+    c.create_new_face_adjacent_to_edge-vertex.ensures.vertex
+    (c.in-Some.ensures.is ∙ c.edge_after.ensures.0)
     c.in-Some.ensures.some new c.in-Some.ensures.whole done.data.contents
     (length-grown _ now.directed new.directed 2 done.data.directed)
     (length-grown _ now.undirected new.undirected 1 done.data.undirected)
@@ -78,20 +89,27 @@ loop-after-preserved g c =
     let now = c.loop-after.dcel in
     let new = c.create_single_face_between_edge_and_next-ahead.new.self in
     let done = c.create_single_face_between_edge_and_next-ahead.ensures in (
-      subst (λ k. IsJoining g.V.HasPosition.place c.args.dcel.now new c.args.value k c.from_index-behind.result)
-          (sym done.edge) (step_ahead g.V.HasPosition.place c.args.dcel.now c.args.value now c.loop-after.ahead
-          c.from_index-behind.result c.create_new_face_adjacent_to_edge-vertex.result c.in-Some._after
+      subst (λ k. IsJoining g.V.HasPosition.place c.args.dcel.now new c.args.value k
+          c.from_index-behind.result)
+          (sym done.edge)
+          (step_ahead g.V.HasPosition.place c.args.dcel.now c.args.value now c.loop-after.ahead
+          c.from_index-behind.result c.create_new_face_adjacent_to_edge-vertex.result
+          c.in-Some._after
           c.loop-after.invariant.0 c.create_new_face_adjacent_to_edge-vertex.ensures.vertex
-          (c.in-Some.ensures.is ∙ c.edge_after.ensures.0) c.in-Some.ensures.some new c.in-Some.ensures.whole
+          (c.in-Some.ensures.is ∙ c.edge_after.ensures.0) c.in-Some.ensures.some new
+          c.in-Some.ensures.whole
           done.data.contents
           (length-grown _ now.directed new.directed 2 done.data.directed)
           (length-grown _ now.undirected new.undirected 1 done.data.undirected)
-          (length-grown _ now.faces new.faces 1 done.data.faces) done.links.triangles done.links.outer).0,
-      grows_on (map g.V.HasPosition.place c.args.dcel.now.vertices) (g.V.HasPosition.place c.args.value)
+          (length-grown _ now.faces new.faces 1 done.data.faces) done.links.triangles
+          done.links.outer).0,
+      grows_on (map g.V.HasPosition.place c.args.dcel.now.vertices)
+          (g.V.HasPosition.place c.args.value)
           (state_of c.args.dcel.now) (state_of now) (state_of new) c.loop-after.invariant.1
           (grows_by_face now new c.in-Some.ensures.whole.valid c.in-Some.ensures.whole.fits
           c.recall_invariant.ensures.whole (map g.V.HasPosition.place c.args.dcel.now.vertices)
-          (g.V.HasPosition.place c.args.value) _ _ _ _ _ _ _ _ _ done.data.directed done.data.faces done.edges
+          (g.V.HasPosition.place c.args.value) _ _ _ _ _ _ _ _ _ done.data.directed
+          done.data.faces done.edges
           done.links.triangles (ap (λ d. d.outer) done.data.contents)),
       adds_on _ (edges c.args.dcel.now) (edges now) (edges new) c.loop-after.invariant.2
           (adds_only _ (edges now) (edges new) _ done.edges),
@@ -103,7 +121,8 @@ loop-before-init g c = (
     ahead = c.loop-after.ahead;
     joining = c.loop-after.invariant.0;
     unseen = unseen_as g.V.HasPosition.place c.args.dcel.now c.args.value c.loop-after.dcel
-        c.create_new_face_adjacent_to_edge-vertex.result (next c.loop-after.dcel.mesh c.loop-after.ahead)
+        c.create_new_face_adjacent_to_edge-vertex.result
+        (next c.loop-after.dcel.mesh c.loop-after.ahead)
         c.loop-after.invariant.0.vertices c.create_new_face_adjacent_to_edge-vertex.ensures.vertex
         (rw c.edge_after.ensures.0 at c.in_default.ensures.none);
   },
@@ -115,7 +134,8 @@ pub edge_before-requires : goal.edge_before-requires
 edge_before-requires g c =
     c.loop-before.invariant.0.joining.behind_in
 
-pub if_seen-requires-in-loop-before-clause-vertex : goal.if_seen-requires-in-loop-before-clause-vertex
+pub if_seen-requires-in-loop-before-clause-vertex :
+    goal.if_seen-requires-in-loop-before-clause-vertex
 if_seen-requires-in-loop-before-clause-vertex g c =
     let k = grown_count g.V.HasPosition.place c.args.dcel.now c.args.value c.loop-before.dcel
     c.loop-before.invariant.0.joining.vertices in
@@ -124,14 +144,18 @@ if_seen-requires-in-loop-before-clause-vertex g c =
 
 pub if_seen-requires-in-loop-before-clause-sites : goal.if_seen-requires-in-loop-before-clause-sites
 if_seen-requires-in-loop-before-clause-sites g c =
-    sites_grown g.V.HasPosition.place c.args.dcel.now c.args.value (g.P.PlaneTests.sites c.args.tests.now)
-    c.loop-before.dcel c.loop-before.invariant.0.joining.vertices c.requires.sites.0 c.requires.sites.1
+    sites_grown g.V.HasPosition.place c.args.dcel.now c.args.value
+    (g.P.PlaneTests.sites c.args.tests.now)
+    c.loop-before.dcel c.loop-before.invariant.0.joining.vertices c.requires.sites.0
+    c.requires.sites.1
 
 pub create_single_face_between_edge_and_next-behind-requires-clause-outer :
     goal.create_single_face_between_edge_and_next-behind-requires-clause-outer
 create_single_face_between_edge_and_next-behind-requires-clause-outer g c =
-    before_outer g.V.HasPosition.place c.args.dcel.now c.args.value c.loop-before.dcel c.loop-before.behind
-    c.create_new_face_adjacent_to_edge-vertex.result c.in-Some-if_seen.before c.loop-before.invariant.0
+    before_outer g.V.HasPosition.place c.args.dcel.now c.args.value c.loop-before.dcel
+    c.loop-before.behind
+    c.create_new_face_adjacent_to_edge-vertex.result c.in-Some-if_seen.before
+    c.loop-before.invariant.0
     c.create_new_face_adjacent_to_edge-vertex.ensures.vertex
     (c.in-Some-if_seen.ensures.is ∙ c.edge_before.ensures.0) c.in-Some-if_seen.ensures.some
     c.in-Some-if_seen.ensures.whole
@@ -139,8 +163,10 @@ create_single_face_between_edge_and_next-behind-requires-clause-outer g c =
 pub create_single_face_between_edge_and_next-behind-requires-clause-apart :
     goal.create_single_face_between_edge_and_next-behind-requires-clause-apart
 create_single_face_between_edge_and_next-behind-requires-clause-apart g c =
-    before_apart g.V.HasPosition.place c.args.dcel.now c.args.value c.loop-before.dcel c.loop-before.behind
-    c.create_new_face_adjacent_to_edge-vertex.result c.in-Some-if_seen.before c.loop-before.invariant.0
+    before_apart g.V.HasPosition.place c.args.dcel.now c.args.value c.loop-before.dcel
+    c.loop-before.behind
+    c.create_new_face_adjacent_to_edge-vertex.result c.in-Some-if_seen.before
+    c.loop-before.invariant.0
     c.create_new_face_adjacent_to_edge-vertex.ensures.vertex
     (c.in-Some-if_seen.ensures.is ∙ c.edge_before.ensures.0) c.in-Some-if_seen.ensures.some
     c.in-Some-if_seen.ensures.whole
@@ -148,43 +174,56 @@ create_single_face_between_edge_and_next-behind-requires-clause-apart g c =
 pub create_single_face_between_edge_and_next-behind-requires-clause-room :
     goal.create_single_face_between_edge_and_next-behind-requires-clause-room
 create_single_face_between_edge_and_next-behind-requires-clause-room g c =
-    room_for_face g.V.HasPosition.place c.args.dcel.now c.args.value c.loop-before.dcel c.loop-before.invariant.0.ahead
-    c.loop-before.behind c.loop-before.invariant.0.joining c.in-Some-if_seen.ensures.whole c.requires.room
+    room_for_face g.V.HasPosition.place c.args.dcel.now c.args.value c.loop-before.dcel
+    c.loop-before.invariant.0.ahead
+    c.loop-before.behind c.loop-before.invariant.0.joining c.in-Some-if_seen.ensures.whole
+    c.requires.room
 
 pub loop-before-smaller : goal.loop-before-smaller
 loop-before-smaller g c =
     let now = c.loop-before.dcel in
     let new = c.create_single_face_between_edge_and_next-behind.new.self in
     let done = c.create_single_face_between_edge_and_next-behind.ensures in
-    (step_behind g.V.HasPosition.place c.args.dcel.now c.args.value c.loop-before.dcel c.loop-before.behind
-    c.create_new_face_adjacent_to_edge-vertex.result c.in-Some-if_seen.before c.loop-before.invariant.0
+    (step_behind g.V.HasPosition.place c.args.dcel.now c.args.value c.loop-before.dcel
+    c.loop-before.behind
+    c.create_new_face_adjacent_to_edge-vertex.result c.in-Some-if_seen.before
+    c.loop-before.invariant.0
     c.create_new_face_adjacent_to_edge-vertex.ensures.vertex
     (c.in-Some-if_seen.ensures.is ∙ c.edge_before.ensures.0) c.in-Some-if_seen.ensures.some
     c.in-Some-if_seen.ensures.whole new done.data.contents
     (length-grown _ now.directed new.directed 2 done.data.directed)
     (length-grown _ now.undirected new.undirected 1 done.data.undirected)
-    (length-grown _ now.faces new.faces 1 done.data.faces) done.links.triangles done.links.outer done.links.mesh).1
+    (length-grown _ now.faces new.faces 1 done.data.faces) done.links.triangles done.links.outer
+    done.links.mesh).1
 
 pub loop-before-preserved : goal.loop-before-preserved
 loop-before-preserved g c =
     let now = c.loop-before.dcel in
     let new = c.create_single_face_between_edge_and_next-behind.new.self in
     let done = c.create_single_face_between_edge_and_next-behind.ensures in (
-      subst (λ k. IsJoiningBack g.V.HasPosition.place c.args.dcel.now new c.args.value k) (sym done.edge)
-          (step_behind g.V.HasPosition.place c.args.dcel.now c.args.value c.loop-before.dcel c.loop-before.behind
-          c.create_new_face_adjacent_to_edge-vertex.result c.in-Some-if_seen.before c.loop-before.invariant.0
+      subst (λ k. IsJoiningBack g.V.HasPosition.place c.args.dcel.now new c.args.value k)
+          (sym done.edge)
+          (step_behind g.V.HasPosition.place c.args.dcel.now c.args.value c.loop-before.dcel
+          c.loop-before.behind
+          c.create_new_face_adjacent_to_edge-vertex.result c.in-Some-if_seen.before
+          c.loop-before.invariant.0
           c.create_new_face_adjacent_to_edge-vertex.ensures.vertex
           (c.in-Some-if_seen.ensures.is ∙ c.edge_before.ensures.0) c.in-Some-if_seen.ensures.some
           c.in-Some-if_seen.ensures.whole new done.data.contents
           (length-grown _ now.directed new.directed 2 done.data.directed)
           (length-grown _ now.undirected new.undirected 1 done.data.undirected)
-          (length-grown _ now.faces new.faces 1 done.data.faces) done.links.triangles done.links.outer
+          (length-grown _ now.faces new.faces 1 done.data.faces) done.links.triangles
+          done.links.outer
           done.links.mesh).0,
-      grows_on (map g.V.HasPosition.place c.args.dcel.now.vertices) (g.V.HasPosition.place c.args.value)
+      grows_on (map g.V.HasPosition.place c.args.dcel.now.vertices)
+          (g.V.HasPosition.place c.args.value)
           (state_of c.args.dcel.now) (state_of now) (state_of new) c.loop-before.invariant.1
-          (grows_by_face now new c.in-Some-if_seen.ensures.whole.valid c.in-Some-if_seen.ensures.whole.fits
-          c.recall_invariant-in-Some-if_seen.ensures.whole (map g.V.HasPosition.place c.args.dcel.now.vertices)
-          (g.V.HasPosition.place c.args.value) _ _ _ _ _ _ _ _ _ done.data.directed done.data.faces done.edges
+          (grows_by_face now new c.in-Some-if_seen.ensures.whole.valid
+          c.in-Some-if_seen.ensures.whole.fits
+          c.recall_invariant-in-Some-if_seen.ensures.whole
+          (map g.V.HasPosition.place c.args.dcel.now.vertices)
+          (g.V.HasPosition.place c.args.value) _ _ _ _ _ _ _ _ _ done.data.directed
+          done.data.faces done.edges
           done.links.triangles (ap (λ d. d.outer) done.data.contents)),
       adds_on _ (edges c.args.dcel.now) (edges now) (edges new) c.loop-before.invariant.2
           (adds_only _ (edges now) (edges new) _ done.edges),
@@ -202,11 +241,13 @@ if_seen-requires-clause-vertex g c =
 
 pub create_single_face_between_edge_and_next-ahead-requires-clause-within :
     goal.create_single_face_between_edge_and_next-ahead-requires-clause-within
-create_single_face_between_edge_and_next-ahead-requires-clause-within g c = c.loop-after.invariant.0.ahead_in
+create_single_face_between_edge_and_next-ahead-requires-clause-within g c =
+    c.loop-after.invariant.0.ahead_in
 
 pub create_single_face_between_edge_and_next-ahead-requires-clause-outer :
     goal.create_single_face_between_edge_and_next-ahead-requires-clause-outer
-create_single_face_between_edge_and_next-ahead-requires-clause-outer g c = c.loop-after.invariant.0.ahead_outer.outer
+create_single_face_between_edge_and_next-ahead-requires-clause-outer g c =
+    c.loop-after.invariant.0.ahead_outer.outer
 
 pub create_new_face_adjacent_to_edge-vertex-requires-clause-outer :
     goal.create_new_face_adjacent_to_edge-vertex-requires-clause-outer
@@ -232,8 +273,10 @@ returns-clause-takes g c =
       grows = c.loop-before.invariant.1;
       made =
           let old = c.args.dcel.now in
-          made_outside (map g.V.HasPosition.place old.vertices) (g.V.HasPosition.place c.args.value) (faces_of old.mesh)
-          (faces_of c.loop-before.dcel.mesh) (outer_of old.mesh) (outer_of c.loop-before.dcel.mesh) _ _
+          made_outside (map g.V.HasPosition.place old.vertices) (g.V.HasPosition.place c.args.value)
+          (faces_of old.mesh)
+          (faces_of c.loop-before.dcel.mesh) (outer_of old.mesh)
+          (outer_of c.loop-before.dcel.mesh) _ _
           (length old.vertices) (sym (length-map old.vertices g.V.HasPosition.place))
           c.loop-before.invariant.0.joining.extending;
     }

@@ -8,13 +8,20 @@ use Rattle.delaunay_insertion.proofs.Joining.{IsJoining, IsJoiningBack}
 use Rattle.delaunay_insertion.proofs.outside.join_outside.Given as goal
 
 abbrev pub invariant-loop-after : goal.invariant-loop-after
-invariant-loop-after g l = IsJoining g.V.HasPosition.place l.fn.dcel l.dcel l.fn.value l.ahead l.behind × GrowsAround (map g.V.HasPosition.place l.fn.dcel.vertices) (g.V.HasPosition.place l.fn.value) (state_of l.fn.dcel) (state_of l.dcel) × AddsOnly g.UE.Default.is_default (edges l.fn.dcel) (edges l.dcel)
+invariant-loop-after g l =
+    IsJoining g.V.HasPosition.place l.fn.dcel l.dcel l.fn.value l.ahead l.behind
+    × GrowsAround (map g.V.HasPosition.place l.fn.dcel.vertices) (g.V.HasPosition.place l.fn.value)
+    (state_of l.fn.dcel) (state_of l.dcel)
+    × AddsOnly g.UE.Default.is_default (edges l.fn.dcel) (edges l.dcel)
 
 abbrev pub decreases-loop-after : goal.decreases-loop-after
 decreases-loop-after g l = length (outer_of l.dcel.mesh)
 
 abbrev pub invariant-loop-before : goal.invariant-loop-before
-invariant-loop-before g l = IsJoiningBack g.V.HasPosition.place l.fn.dcel l.dcel l.fn.value l.behind × GrowsAround (map g.V.HasPosition.place l.fn.dcel.vertices) (g.V.HasPosition.place l.fn.value) (state_of l.fn.dcel) (state_of l.dcel) × AddsOnly g.UE.Default.is_default (edges l.fn.dcel) (edges l.dcel)
+invariant-loop-before g l = IsJoiningBack g.V.HasPosition.place l.fn.dcel l.dcel l.fn.value l.behind
+    × GrowsAround (map g.V.HasPosition.place l.fn.dcel.vertices) (g.V.HasPosition.place l.fn.value)
+    (state_of l.fn.dcel) (state_of l.dcel)
+    × AddsOnly g.UE.Default.is_default (edges l.fn.dcel) (edges l.dcel)
 
 abbrev pub decreases-loop-before : goal.decreases-loop-before
 decreases-loop-before g l = length (outer_of l.dcel.mesh)

@@ -11,11 +11,14 @@ abbrev pub invariant-loop-edit : goal.invariant-loop-edit
 invariant-loop-edit g l =
     (goal.iterator-loop-edit g).can_next l.edit-iterator
     × (goal.iterator-loop-edit g).is_finite l.edit-iterator
-    × IsReplayed g.T.Vertex.HasPosition.place g.T.Constraints.ConstraintMarker.constraints g.T.Replayable.marking
+    × IsReplayed g.T.Vertex.HasPosition.place g.T.Constraints.ConstraintMarker.constraints
+    g.T.Replayable.marking
     l.fn.edits.items (into_iter_items l.edit-iterator)
     l.outcomes.items (g.T.Triangulation.state l.fn.points) (g.T.Triangulation.state l.points)
     × (length l.outcomes.items + length (into_iter_items l.edit-iterator) ≡ length l.fn.edits.items)
     × (length l.fn.edits.items ≤ vec_capacity l.outcomes)
-    × ((v : _) → Contains (into_iter_items l.edit-iterator) (Insert v) → InRange (g.T.Vertex.HasPosition.place v) →
+    × ((v : _) → Contains (into_iter_items l.edit-iterator) (Insert v)
+    → InRange (g.T.Vertex.HasPosition.place v) →
     g.P.PlaneTests.sites l.tests (g.T.Vertex.HasPosition.place v))
-    × AreSites g.T.Vertex.HasPosition.place (g.P.PlaneTests.sites l.tests) (g.T.Triangulation.state l.points).vertices
+    × AreSites g.T.Vertex.HasPosition.place (g.P.PlaneTests.sites l.tests)
+    (g.T.Triangulation.state l.points).vertices

@@ -10,7 +10,8 @@ insert-requires-clause-new_site g c = c.requires.new_site c.in-Insert.value c.in
 
 pub returns-in-Replace-clause-sites : goal.returns-in-Replace-clause-sites
 returns-in-Replace-clause-sites g c =
-    subst (λ ps. All InRange ps → All (g.P.PlaneTests.sites c.args.tests.now) ps) (sym c.replace.ensures.places)
+    subst (λ ps. All InRange ps → All (g.P.PlaneTests.sites c.args.tests.now) ps)
+    (sym c.replace.ensures.places)
     c.requires.sites
 
 pub returns-in-Clear-clause-gives : goal.returns-in-Clear-clause-gives

@@ -16,7 +16,8 @@ returns-in-Ok-clause-gives g c = removed_so _ _ _ _ _ _ c.in-Ok.ensures.removes
 pub returns-in-Ok-clause-sites : goal.returns-in-Ok-clause-sites
 returns-in-Ok-clause-sites g c = λ _.
     sites_left g.T.Vertex.HasPosition.place g.T.Constraints.ConstraintMarker.constraints
-    (g.T.Triangulation.state c.args.points.now) (g.T.Triangulation.state c.remove.new.self) c.args.vertex c.in-Ok.value
+    (g.T.Triangulation.state c.args.points.now)
+    (g.T.Triangulation.state c.remove.new.self) c.args.vertex c.in-Ok.value
     c.in-Ok.ensures.removes.plain
     (g.P.PlaneTests.sites c.args.tests.now) (c.requires.sites c.recall_invariant.ensures.in_range)
 

@@ -17,9 +17,14 @@ returns-then-not-is_same-clause-gives g c =
     let index = c.index.ensures in
     let count = c.num_vertices.ensures.value in
     let same =
-    position_same g.T.Vertex.HasPosition.place (g.T.Triangulation.state c.args.points.now).vertices c.args.vertex
-    c.vertex.result.index c.args.value _ _ c.vertex_position-here.ensures c.vertex.ensures.index c.position.ensures in (
-      (omega (arith, below, index, count), (λ e. both_ways _ (c.is_same.ensures.1 (same e)) c.if-not-is_same.true)),
+    position_same g.T.Vertex.HasPosition.place
+    (g.T.Triangulation.state c.args.points.now).vertices c.args.vertex
+    c.vertex.result.index c.args.value _ _ c.vertex_position-here.ensures c.vertex.ensures.index
+    c.position.ensures in (
+      (
+        omega (arith, below, index, count),
+        (λ e. both_ways _ (c.is_same.ensures.1 (same e)) c.if-not-is_same.true),
+      ),
       refl,
     )
 
@@ -31,7 +36,10 @@ returns-clause-gives g c =
 pub returns-clause-places : goal.returns-clause-places
 returns-clause-places g c =
     ap (λ s. map g.T.Vertex.HasPosition.place s.vertices) c.replace_vertex.ensures.new
-    ∙ same_places g.T.Vertex.HasPosition.place (g.T.Triangulation.state c.args.points.now).vertices c.args.vertex
-    c.args.value (same_position g.T.Vertex.HasPosition.place (g.T.Triangulation.state c.args.points.now).vertices
-    c.args.vertex c.vertex.result.index c.args.value _ _ c.vertex_position-here.ensures c.vertex.ensures.index
+    ∙ same_places g.T.Vertex.HasPosition.place
+    (g.T.Triangulation.state c.args.points.now).vertices c.args.vertex
+    c.args.value (same_position g.T.Vertex.HasPosition.place
+    (g.T.Triangulation.state c.args.points.now).vertices
+    c.args.vertex c.vertex.result.index c.args.value _ _ c.vertex_position-here.ensures
+    c.vertex.ensures.index
     c.position.ensures (c.is_same.ensures.0 c.if-not-is_same.false))

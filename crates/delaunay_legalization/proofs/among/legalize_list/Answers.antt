@@ -19,9 +19,12 @@ pub legalize_by-requires-clause-can : goal.legalize_by-requires-clause-can
 legalize_by-requires-clause-can g c = record {
   shape = c.requires.kept.shape;
   left = c.requires.left;
-  suffice = only_among (map g.V.HasPosition.place c.args.dcel.now.vertices) c.args.dcel.now.mesh c.args.work.now.items _
-      (λ k l. subst (λ (zs : List ℕ). Contains zs (2 * k)) (sym {A = List ℕ} c.as_slice-then-is_free.ensures.value)
-      (c.list_directions.ensures k (subst (λ (zs : List ℕ). Contains zs k) (sym {A = List ℕ} c.as_slice.ensures.value)
+  suffice = only_among (map g.V.HasPosition.place c.args.dcel.now.vertices) c.args.dcel.now.mesh
+      c.args.work.now.items _
+      (λ k l. subst (λ (zs : List ℕ). Contains zs (2 * k))
+      (sym {A = List ℕ} c.as_slice-then-is_free.ensures.value)
+      (c.list_directions.ensures k
+      (subst (λ (zs : List ℕ). Contains zs k) (sym {A = List ℕ} c.as_slice.ensures.value)
       l))) (c.requires.only c.if-is_free.true);
   fits = c.requires.fits;
 }
@@ -40,7 +43,8 @@ legalize_by-requires-else-is_free-clause-can g c = record {
   fits = c.requires.fits;
 }
 
-pub legalize_by-requires-else-is_free-clause-room : goal.legalize_by-requires-else-is_free-clause-room
+pub legalize_by-requires-else-is_free-clause-room :
+    goal.legalize_by-requires-else-is_free-clause-room
 legalize_by-requires-else-is_free-clause-room g c =
     let few = c.requires.kept.few_edges in
     let room = c.requires.room in
@@ -48,13 +52,17 @@ legalize_by-requires-else-is_free-clause-room g c =
 
 pub returns-then-is_free : goal.returns-then-is_free
 returns-then-is_free g c = record {
-  legalizes = triangulation_legalized g.V.HasPosition.place g.M.ConstraintMarker.constraints c.args.dcel.now
-      c.legalize_by.new.dcel c.args.flips.now c.legalize_by.new.flips c.requires.kept c.legalize_by.ensures.has;
+  legalizes =
+      triangulation_legalized g.V.HasPosition.place g.M.ConstraintMarker.constraints c.args.dcel.now
+      c.legalize_by.new.dcel c.args.flips.now c.legalize_by.new.flips c.requires.kept
+      c.legalize_by.ensures.has;
 }
 
 pub returns-else-is_free : goal.returns-else-is_free
 returns-else-is_free g c = record {
-  legalizes = triangulation_legalized g.V.HasPosition.place g.M.ConstraintMarker.constraints c.args.dcel.now
-      c.legalize_by-else-is_free.new.dcel c.args.flips.now c.legalize_by-else-is_free.new.flips c.requires.kept
+  legalizes =
+      triangulation_legalized g.V.HasPosition.place g.M.ConstraintMarker.constraints c.args.dcel.now
+      c.legalize_by-else-is_free.new.dcel c.args.flips.now c.legalize_by-else-is_free.new.flips
+      c.requires.kept
       c.legalize_by-else-is_free.ensures.has;
 }

@@ -6,11 +6,13 @@ use Rattle.delaunay_legalization.proofs.among.push_among.Goals as goal
 
 pub returns-then-contains-clause-gains : goal.returns-then-contains-clause-gains
 returns-then-contains-clause-gains g c =
-    gains_among c.args.among.now c.args.work.now.items c.push_side.new.work.items c.args.edge c.push_side.ensures.gains
+    gains_among c.args.among.now c.args.work.now.items c.push_side.new.work.items c.args.edge
+    c.push_side.ensures.gains
 
 pub returns-else-contains-clause-gains : goal.returns-else-contains-clause-gains
 returns-else-contains-clause-gains g c =
     gains_none_among c.args.among.now c.args.work.now.items c.args.edge c.as_directed-first.result
     (c.as_directed-first.ensures ∙ ap (λ (k : ℕ). 2 * k) c.as_undirected.ensures)
-    (λ h. both_ways _ ((found c.args.among.now c.args.among.now c.as_directed-first.result c.contains.result refl
+    (λ h. both_ways _
+    ((found c.args.among.now c.args.among.now c.as_directed-first.result c.contains.result refl
     c.contains.ensures.cases).1 h) c.if-contains.false)

@@ -6,9 +6,12 @@ use Rattle.delaunay_legalization.proofs.around.legalize_round.Given as goal
 
 abbrev pub invariant-loop-next : goal.invariant-loop-next
 invariant-loop-next g l =
-    IsTurningRound g.V.HasPosition.place g.M.ConstraintMarker.constraints l.fn.dcel l.dcel (origin l.fn.dcel.mesh l.first)
+    IsTurningRound g.V.HasPosition.place g.M.ConstraintMarker.constraints l.fn.dcel l.dcel
+    (origin l.fn.dcel.mesh l.first)
     l.first l.spoke l.fn.flips l.flips
-    × IsOpposite g.V.Scalar.SpadeNum.whole (map g.V.HasPosition.place l.dcel.vertices) l.dcel.mesh l.spoke l.opposite
+    × IsOpposite g.V.Scalar.SpadeNum.whole
+    (map g.V.HasPosition.place l.dcel.vertices) l.dcel.mesh l.spoke l.opposite
 
 abbrev pub decreases-loop-next : goal.decreases-loop-next
-decreases-loop-next g l = tests_left (map g.V.HasPosition.place l.dcel.vertices) l.dcel.mesh l.first l.spoke
+decreases-loop-next g l =
+    tests_left (map g.V.HasPosition.place l.dcel.vertices) l.dcel.mesh l.first l.spoke

@@ -5,9 +5,13 @@ use Rattle.delaunay_legalization.proofs.legalization.flip.Goals as goal
 pub flip_cw-requires-clause-flippable : goal.flip_cw-requires-clause-flippable
 flip_cw-requires-clause-flippable g c =
     let w = c.recall_invariant.ensures.whole in
-    failing_flippable (map g.V.HasPosition.place c.args.dcel.now.vertices) c.args.dcel.now.mesh w.valid c.requires.shape (2 * c.args.edge) (length c.args.dcel.now.directed) w.fits.directed_fit c.requires.within c.requires.failing
+    failing_flippable (map g.V.HasPosition.place c.args.dcel.now.vertices) c.args.dcel.now.mesh
+    w.valid c.requires.shape (2 * c.args.edge)
+    (length c.args.dcel.now.directed) w.fits.directed_fit c.requires.within c.requires.failing
 
 pub flip_cw-requires-clause-corners : goal.flip_cw-requires-clause-corners
 flip_cw-requires-clause-corners g c =
     let w = c.recall_invariant.ensures.whole in
-    failing_apart (map g.V.HasPosition.place c.args.dcel.now.vertices) c.args.dcel.now.mesh w.valid c.requires.shape (2 * c.args.edge) (length c.args.dcel.now.directed) w.fits.directed_fit c.requires.within c.requires.failing
+    failing_apart (map g.V.HasPosition.place c.args.dcel.now.vertices) c.args.dcel.now.mesh w.valid
+    c.requires.shape (2 * c.args.edge)
+    (length c.args.dcel.now.directed) w.fits.directed_fit c.requires.within c.requires.failing

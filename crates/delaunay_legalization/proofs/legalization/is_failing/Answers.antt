@@ -10,12 +10,15 @@ use Rattle.delaunay_legalization.proofs.legalization.is_failing.Goals.{then-is_o
 pub is_in_circle-requires-clause-left_turn : goal.is_in_circle-requires-clause-left_turn
 is_in_circle-requires-clause-left_turn g c =
     let w = c.recall_invariant.ensures.whole in
-    let within = subst (λ (e : ℕ). e < length c.args.dcel.now.directed) (sym c.as_directed-edge.ensures)
+    let within =
+    subst (λ (e : ℕ). e < length c.args.dcel.now.directed) (sym c.as_directed-edge.ensures)
     c.requires.within in
-    left_turn (map g.V.HasPosition.place c.args.dcel.now.vertices) c.args.dcel.now.mesh w.valid c.requires.shape
+    left_turn (map g.V.HasPosition.place c.args.dcel.now.vertices) c.args.dcel.now.mesh w.valid
+    c.requires.shape
     c.as_directed-edge.result (length c.args.dcel.now.directed) w.fits.directed_fit within
     _ _ _ _ _ _ _ c.rev-twin.ensures refl
-    (ap (prev c.args.dcel.now.mesh) c.rev-twin.ensures) c.start_of-from.ensures.place c.start_of-to.ensures.place
+    (ap (prev c.args.dcel.now.mesh) c.rev-twin.ensures) c.start_of-from.ensures.place
+    c.start_of-to.ensures.place
     c.start_before-left.ensures.place c.start_before-right.ensures.place
     (positive (face c.args.dcel.now.mesh c.as_directed-edge.result)
     (λ z. both_ways _ (c.is_outer.ensures.1 z) c.if-is_outer.false))
@@ -24,7 +27,8 @@ pub returns-then-is_outer : goal.returns-then-is_outer
 returns-then-is_outer g c = (
   (λ h. absurd (both_ways _ h refl)),
   (λ x.
-      let fails = subst (IsFailing (map g.V.HasPosition.place c.args.dcel.now.vertices) c.args.dcel.now.mesh)
+      let fails = subst
+      (IsFailing (map g.V.HasPosition.place c.args.dcel.now.vertices) c.args.dcel.now.mesh)
       (sym c.as_directed-edge.ensures) x in
       elim c.then-is_outer.branch [
         | then-is_outer-via-then-is_outer w ↦
@@ -42,14 +46,19 @@ returns-then-is_outer g c = (
 pub returns : goal.returns
 returns g c =
     let w = c.recall_invariant.ensures.whole in
-    let within = subst (λ (e : ℕ). e < length c.args.dcel.now.directed) (sym c.as_directed-edge.ensures)
+    let within =
+    subst (λ (e : ℕ). e < length c.args.dcel.now.directed) (sym c.as_directed-edge.ensures)
     c.requires.within in (
-      (λ h. subst (IsFailing (map g.V.HasPosition.place c.args.dcel.now.vertices) c.args.dcel.now.mesh)
+      (λ h. subst
+          (IsFailing (map g.V.HasPosition.place c.args.dcel.now.vertices) c.args.dcel.now.mesh)
           c.as_directed-edge.ensures
-          (inside_fails (map g.V.HasPosition.place c.args.dcel.now.vertices) c.args.dcel.now.mesh w.valid
-          c.requires.shape c.as_directed-edge.result (length c.args.dcel.now.directed) w.fits.directed_fit within
+          (inside_fails (map g.V.HasPosition.place c.args.dcel.now.vertices)
+          c.args.dcel.now.mesh w.valid
+          c.requires.shape c.as_directed-edge.result
+          (length c.args.dcel.now.directed) w.fits.directed_fit within
           _ _ _ _ _ _ _ c.rev-twin.ensures refl
-          (ap (prev c.args.dcel.now.mesh) c.rev-twin.ensures) c.start_of-from.ensures.place c.start_of-to.ensures.place
+          (ap (prev c.args.dcel.now.mesh) c.rev-twin.ensures) c.start_of-from.ensures.place
+          c.start_of-to.ensures.place
           c.start_before-left.ensures.place c.start_before-right.ensures.place
           (positive (face c.args.dcel.now.mesh c.as_directed-edge.result)
           (λ z. both_ways _ (c.is_outer.ensures.1 z) c.if-is_outer.false))
@@ -58,11 +67,15 @@ returns g c =
           (λ z. both_ways _ (c.is_outer-else-is_outer.ensures.1 z) c.if-is_outer-2.false)))
           (c.is_in_circle.ensures.0 h))),
       (λ x. c.is_in_circle.ensures.1
-          (fails_inside (map g.V.HasPosition.place c.args.dcel.now.vertices) c.args.dcel.now.mesh w.valid
-          c.requires.shape c.as_directed-edge.result (length c.args.dcel.now.directed) w.fits.directed_fit within
+          (fails_inside (map g.V.HasPosition.place c.args.dcel.now.vertices)
+          c.args.dcel.now.mesh w.valid
+          c.requires.shape c.as_directed-edge.result
+          (length c.args.dcel.now.directed) w.fits.directed_fit within
           _ _ _ _ _ _ _ c.rev-twin.ensures refl
-          (ap (prev c.args.dcel.now.mesh) c.rev-twin.ensures) c.start_of-from.ensures.place c.start_of-to.ensures.place
+          (ap (prev c.args.dcel.now.mesh) c.rev-twin.ensures) c.start_of-from.ensures.place
+          c.start_of-to.ensures.place
           c.start_before-left.ensures.place c.start_before-right.ensures.place
-          (subst (IsFailing (map g.V.HasPosition.place c.args.dcel.now.vertices) c.args.dcel.now.mesh)
+          (subst
+          (IsFailing (map g.V.HasPosition.place c.args.dcel.now.vertices) c.args.dcel.now.mesh)
           (sym c.as_directed-edge.ensures) x))),
     )

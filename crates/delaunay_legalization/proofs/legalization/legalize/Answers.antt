@@ -11,8 +11,10 @@ legalize_by-requires-clause-can g c = record {
 
 pub returns : goal.returns
 returns g c = record {
-  legalizes = triangulation_legalized g.V.HasPosition.place g.M.ConstraintMarker.constraints c.args.dcel.now
-      c.legalize_by.new.dcel c.args.flips.now c.legalize_by.new.flips c.requires.kept c.legalize_by.ensures.has;
+  legalizes =
+      triangulation_legalized g.V.HasPosition.place g.M.ConstraintMarker.constraints c.args.dcel.now
+      c.legalize_by.new.dcel c.args.flips.now c.legalize_by.new.flips c.requires.kept
+      c.legalize_by.ensures.has;
   done = c.legalize_by.ensures.done;
   capacity = c.legalize_by.ensures.capacity;
 }

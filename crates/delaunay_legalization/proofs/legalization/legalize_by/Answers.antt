@@ -5,19 +5,25 @@ use Rattle.delaunay_legalization.proofs.legalization.legalize_by.Goals as goal
 
 pub loop-edge-init : goal.loop-edge-init
 loop-edge-init g c =
-    steps_begin c.args.sides.now g.V.HasPosition.place g.M.ConstraintMarker.constraints c.args.dcel.now
+    steps_begin c.args.sides.now g.V.HasPosition.place g.M.ConstraintMarker.constraints
+    c.args.dcel.now
     (vec_capacity c.args.work.now) c.args.flips.now c.args.work.now.items c.requires.can
 
 pub legalize_edge-requires-clause-step : goal.legalize_edge-requires-clause-step
 legalize_edge-requires-clause-step g c =
-    can_step c.args.sides.now g.V.HasPosition.place g.M.ConstraintMarker.constraints c.args.dcel.now _ c.args.flips.now
-    c.loop-edge.dcel c.loop-edge.work.items _ c.loop-edge.flips c.loop-edge.invariant c.pop.new.self.items
-    c.in-Some.edge c.in-Some.ensures.items c.recall_invariant.ensures.whole.valid c.requires.can.fits
+    can_step c.args.sides.now g.V.HasPosition.place g.M.ConstraintMarker.constraints c.args.dcel.now
+    _ c.args.flips.now
+    c.loop-edge.dcel c.loop-edge.work.items _ c.loop-edge.flips c.loop-edge.invariant
+    c.pop.new.self.items
+    c.in-Some.edge c.in-Some.ensures.items c.recall_invariant.ensures.whole.valid
+    c.requires.can.fits
 
 pub loop-edge-preserved : goal.loop-edge-preserved
 loop-edge-preserved g c =
-    steps_go_on c.args.sides.now g.V.HasPosition.place g.M.ConstraintMarker.constraints c.args.dcel.now _
-    c.args.flips.now c.loop-edge.dcel c.loop-edge.work.items _ c.loop-edge.flips c.loop-edge.invariant
+    steps_go_on c.args.sides.now g.V.HasPosition.place g.M.ConstraintMarker.constraints
+    c.args.dcel.now _
+    c.args.flips.now c.loop-edge.dcel c.loop-edge.work.items _ c.loop-edge.flips
+    c.loop-edge.invariant
     c.pop.new.self.items
     c.in-Some.edge c.in-Some.ensures.items c.legalize_edge.new.dcel c.legalize_edge.new.work.items _
     c.legalize_edge.new.flips c.legalize_edge.ensures.contents c.legalize_edge.ensures.constraints
@@ -25,8 +31,10 @@ loop-edge-preserved g c =
 
 pub returns-clause-has : goal.returns-clause-has
 returns-clause-has g c =
-    steps_end c.args.sides.now g.V.HasPosition.place g.M.ConstraintMarker.constraints c.args.dcel.now _ c.args.flips.now
+    steps_end c.args.sides.now g.V.HasPosition.place g.M.ConstraintMarker.constraints
+    c.args.dcel.now _ c.args.flips.now
     c.loop-edge.dcel c.loop-edge.work.items _ c.loop-edge.flips c.loop-edge.invariant
     c.recall_invariant-2.ensures.whole
-    (drained c.loop-edge.work.items c.pop.new.self.items _ c.in_default.ensures.items c.in_default.ensures.rest
+    (drained c.loop-edge.work.items c.pop.new.self.items _ c.in_default.ensures.items
+    c.in_default.ensures.rest
     c.in_default.ensures.cases.0)

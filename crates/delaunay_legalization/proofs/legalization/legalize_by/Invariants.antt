@@ -5,8 +5,10 @@ use Rattle.delaunay_legalization.proofs.legalization.legalize_by.Given as goal
 
 abbrev pub invariant-loop-edge : goal.invariant-loop-edge
 invariant-loop-edge g l =
-    IsUnderwayBy l.sides g.V.HasPosition.place g.M.ConstraintMarker.constraints l.fn.dcel l.dcel l.work.items
+    IsUnderwayBy l.sides g.V.HasPosition.place g.M.ConstraintMarker.constraints l.fn.dcel
+    l.dcel l.work.items
     (vec_capacity l.fn.work) (vec_capacity l.work) l.fn.flips l.flips
 
 abbrev pub decreases-loop-edge : goal.decreases-loop-edge
-decreases-loop-edge g l = steps_left (map g.V.HasPosition.place l.dcel.vertices) l.dcel.mesh l.work.items
+decreases-loop-edge g l =
+    steps_left (map g.V.HasPosition.place l.dcel.vertices) l.dcel.mesh l.work.items

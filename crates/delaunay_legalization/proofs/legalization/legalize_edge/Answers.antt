@@ -2,35 +2,43 @@ use Rattle.std.proofs.Common.{◌<◌, ℕ, length, map, subst, sym, ap}
 use Rattle.mesh_embedding.proofs.MeshLegal.{joins_edge}
 use Rattle.mesh_embedding.proofs.WorkLists.{contains_last}
 use Rattle.delaunay_legalization.specs.Sides.{GainsSides}
-use Rattle.delaunay_legalization.proofs.Legalizing.{edges_before, last_within, last_edge_within, fixed_stay}
+use Rattle.delaunay_legalization.proofs.Legalizing.{edges_before, last_within, last_edge_within}
+use Rattle.delaunay_legalization.proofs.Legalizing.{fixed_stay}
 use Rattle.delaunay_legalization.proofs.Questions.{both_ways}
 use Rattle.delaunay_legalization.proofs.Stepping.{step_drops, step_turns}
 use Rattle.delaunay_legalization.proofs.legalization.legalize_edge.Goals as goal
 
 pub is_constraint_edge-requires : goal.is_constraint_edge-requires
 is_constraint_edge-requires g c =
-    last_edge_within c.args.dcel.now.mesh c.args.work.now.items c.args.edge (length c.args.dcel.now.undirected)
+    last_edge_within c.args.dcel.now.mesh c.args.work.now.items c.args.edge
+    (length c.args.dcel.now.undirected)
     c.recall_invariant.ensures.whole.fits.undirected_fit c.requires.step.edges
 
 pub returns-then-is_constraint_edge-clause-step : goal.returns-then-is_constraint_edge-clause-step
 returns-then-is_constraint_edge-clause-step g c =
-    step_drops c.args.sides.now (map g.V.HasPosition.place c.args.dcel.now.vertices) _ c.args.dcel.now.mesh
-    c.recall_invariant.ensures.whole.valid c.args.work.now.items c.args.edge c.args.flips.now c.requires.step
-    (λ free. absurd (free (joins_edge c.args.dcel.now.mesh (g.M.ConstraintMarker.constraints c.args.dcel.now.undirected)
+    step_drops c.args.sides.now
+    (map g.V.HasPosition.place c.args.dcel.now.vertices) _ c.args.dcel.now.mesh
+    c.recall_invariant.ensures.whole.valid c.args.work.now.items c.args.edge c.args.flips.now
+    c.requires.step
+    (λ free. absurd (free (joins_edge c.args.dcel.now.mesh
+    (g.M.ConstraintMarker.constraints c.args.dcel.now.undirected)
     c.args.edge (c.is_constraint_edge.ensures.0 c.if-is_constraint_edge.true))))
 
 pub is_failing-requires-clause-within : goal.is_failing-requires-clause-within
 is_failing-requires-clause-within g c =
-    last_within c.args.dcel.now.mesh c.args.work.now.items c.args.edge (length c.args.dcel.now.directed)
+    last_within c.args.dcel.now.mesh c.args.work.now.items c.args.edge
+    (length c.args.dcel.now.directed)
     c.recall_invariant.ensures.whole.fits.directed_fit c.requires.step.edges
 
 pub push_left-requires : goal.push_left-requires
 push_left-requires g c = record {
   gain = record {
     within = subst (λ (e : ℕ). e < length c.args.dcel.now.directed) (sym c.as_directed.ensures)
-        (last_within c.args.dcel.now.mesh c.args.work.now.items c.args.edge (length c.args.dcel.now.directed)
+        (last_within c.args.dcel.now.mesh c.args.work.now.items c.args.edge
+        (length c.args.dcel.now.directed)
         c.recall_invariant.ensures.whole.fits.directed_fit c.requires.step.edges);
-    edges = edges_before c.args.dcel.now.mesh c.args.work.now.items c.args.edge c.requires.step.edges;
+    edges =
+        edges_before c.args.dcel.now.mesh c.args.work.now.items c.args.edge c.requires.step.edges;
     room = c.requires.room;
   };
 }
@@ -41,7 +49,8 @@ flip-requires-clause-failing g c = c.is_failing.ensures.0 c.if-is_failing.true
 pub returns-then-is_failing-clause-constraints : goal.returns-then-is_failing-clause-constraints
 returns-then-is_failing-clause-constraints g c =
     fixed_stay g.M.ConstraintMarker.constraints (map g.V.HasPosition.place c.args.dcel.now.vertices)
-    c.args.dcel.now.mesh c.flip.new.dcel.mesh c.args.dcel.now.undirected c.flip.new.dcel.undirected c.args.edge
+    c.args.dcel.now.mesh c.flip.new.dcel.mesh c.args.dcel.now.undirected
+    c.flip.new.dcel.undirected c.args.edge
     c.recall_invariant.ensures.whole.valid c.requires.step.shape
     (c.requires.step.edges.within c.args.edge (contains_last c.args.work.now.items c.args.edge))
     (c.is_failing.ensures.0 c.if-is_failing.true) c.flip.ensures.mesh
@@ -50,16 +59,23 @@ returns-then-is_failing-clause-constraints g c =
 
 pub returns-then-is_failing-clause-step : goal.returns-then-is_failing-clause-step
 returns-then-is_failing-clause-step g c =
-    step_turns c.args.sides.now (map g.V.HasPosition.place c.args.dcel.now.vertices) _ c.args.dcel.now.mesh
-    c.recall_invariant.ensures.whole.valid c.args.work.now.items c.args.edge c.args.flips.now c.requires.step
-    c.flip.new.dcel.mesh c.recall_invariant-then-is_failing.ensures.whole.valid c.push_left.new.work.items
-    c.flip.new.flips c.flip.ensures.mesh c.flip.ensures.flips (c.is_failing.ensures.0 c.if-is_failing.true)
+    step_turns c.args.sides.now
+    (map g.V.HasPosition.place c.args.dcel.now.vertices) _ c.args.dcel.now.mesh
+    c.recall_invariant.ensures.whole.valid c.args.work.now.items c.args.edge c.args.flips.now
+    c.requires.step
+    c.flip.new.dcel.mesh c.recall_invariant-then-is_failing.ensures.whole.valid
+    c.push_left.new.work.items
+    c.flip.new.flips c.flip.ensures.mesh c.flip.ensures.flips
+    (c.is_failing.ensures.0 c.if-is_failing.true)
     (subst (λ (e : ℕ).
-    GainsSides c.args.sides.now c.args.dcel.now.mesh e c.args.work.now.items c.push_left.new.work.items)
+    GainsSides c.args.sides.now c.args.dcel.now.mesh e c.args.work.now.items
+    c.push_left.new.work.items)
     c.as_directed.ensures c.push_left.ensures.gains) c.push_left.ensures.edges
 
 pub returns-else-is_failing-clause-step : goal.returns-else-is_failing-clause-step
 returns-else-is_failing-clause-step g c =
-    step_drops c.args.sides.now (map g.V.HasPosition.place c.args.dcel.now.vertices) _ c.args.dcel.now.mesh
-    c.recall_invariant.ensures.whole.valid c.args.work.now.items c.args.edge c.args.flips.now c.requires.step
+    step_drops c.args.sides.now
+    (map g.V.HasPosition.place c.args.dcel.now.vertices) _ c.args.dcel.now.mesh
+    c.recall_invariant.ensures.whole.valid c.args.work.now.items c.args.edge c.args.flips.now
+    c.requires.step
     (λ free x. both_ways _ (c.is_failing.ensures.1 x) c.if-is_failing.false)

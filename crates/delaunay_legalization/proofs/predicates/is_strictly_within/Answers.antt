@@ -4,7 +4,8 @@ use Rattle.delaunay_legalization.proofs.predicates.is_strictly_within.Goals as g
 
 pub returns-then-is_on_line : goal.returns-then-is_on_line
 returns-then-is_on_line g c = (
-  (λ t. within_if _ _ _ c.requires.ends_apart c.requires.not_from c.requires.not_to (sym c.side.ensures ∙ c.is_on_line.ensures.0 c.if-is_on_line.true) (c.is_in_box.ensures.0 t)),
+  (λ t. within_if _ _ _ c.requires.ends_apart c.requires.not_from c.requires.not_to
+      (sym c.side.ensures ∙ c.is_on_line.ensures.0 c.if-is_on_line.true) (c.is_in_box.ensures.0 t)),
   (λ w. c.is_in_box.ensures.1 (if_within _ _ _ w).1),
 )
 

@@ -5,5 +5,6 @@ use Rattle.delaunay_legalization.proofs.Pushing.{IsPushing}
 use Rattle.delaunay_legalization.proofs.star.push_star.Given as goal
 
 abbrev pub invariant-loop-edge : goal.invariant-loop-edge
-invariant-loop-edge g l = IsPushing l.dcel l.fn.vertex (HasSidesAt l.dcel.mesh) [] (out_edges_left l.edge-iterator)
+invariant-loop-edge g l =
+    IsPushing l.dcel l.fn.vertex (HasSidesAt l.dcel.mesh) [] (out_edges_left l.edge-iterator)
     l.work.items (vec_capacity l.fn.work) (vec_capacity l.work)

@@ -2,7 +2,8 @@ use Rattle.delaunay_lines.proofs.ConflictSearch.{IsSearching}
 use Rattle.delaunay_lines.proofs.conflicts.next_conflict.Given as goal
 
 abbrev pub invariant-loop-item : goal.invariant-loop-item
-invariant-loop-item g l = IsSearching g.V.HasPosition.place g.V.Scalar.SpadeNum.whole g.P.PlaneTests.sites
+invariant-loop-item g l =
+    IsSearching g.V.HasPosition.place g.V.Scalar.SpadeNum.whole g.P.PlaneTests.sites
     g.P.PlaneTests.covered g.M.ConstraintMarker.constraints l.fn.line l.line
 
 abbrev pub decreases-loop-item : goal.decreases-loop-item

@@ -9,7 +9,8 @@ use Rattle.delaunay_location.proofs.location.edge_from_nearest.Given as goal
 
 abbrev pub invariant-loop-index : goal.invariant-loop-index
 invariant-loop-index g l =
-    let at = λ (e : ℕ). gap (whole (place_of g.V.Scalar.SpadeNum.whole l.point)) (place (map g.V.HasPosition.place l.dcel.vertices) (origin l.dcel.mesh e)) in
+    let at = λ (e : ℕ). gap (whole (place_of g.V.Scalar.SpadeNum.whole l.point))
+    (place (map g.V.HasPosition.place l.dcel.vertices) (origin l.dcel.mesh e)) in
     record {
       within : l.nearest < length l.dcel.directed;
       nearest : (h : ℕ) → h < l.index → at l.nearest ≤ℤ at h;

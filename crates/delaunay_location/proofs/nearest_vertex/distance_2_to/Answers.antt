@@ -9,4 +9,9 @@ pub distance_2-requires-clause-other_in_range : goal.distance_2-requires-clause-
 distance_2-requires-clause-other_in_range g c =
     let at = g.V.HasPosition.place in
     let vertices = c.args.dcel.now.vertices in
-    subst InRange (sym c.position_of.ensures.place) (All-get_or InRange (map at vertices) c.args.vertex (record { x = pos 0; y = pos 0 }) (omega (arith, c.requires.within, length-map vertices at)) (All-map InRange at vertices c.requires.kept.in_range))
+    subst InRange (sym c.position_of.ensures.place) (All-get_or InRange (map at vertices)
+    c.args.vertex (record { x = pos 0; y = pos 0 }) (omega (
+      arith,
+      c.requires.within,
+      length-map vertices at,
+    )) (All-map InRange at vertices c.requires.kept.in_range))

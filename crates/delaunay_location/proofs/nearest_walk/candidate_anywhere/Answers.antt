@@ -13,9 +13,11 @@ returns-in-Some g c =
     let points = map g.V.HasPosition.place c.args.dcel.now.vertices in
     let m = c.args.dcel.now.mesh in
     let p = place_of g.V.Scalar.SpadeNum.whole c.args.point in
-    let here = link_read origin m _ _ _ _ c.args.from.spoke c.fix-vertex.ensures.value c.from.ensures.index
+    let here =
+    link_read origin m _ _ _ _ c.args.from.spoke c.fix-vertex.ensures.value c.from.ensures.index
     (ap (λ d. d.now.mesh) c.directed_edge.ensures.dcel) c.directed_edge.ensures.index in
-    candidate_from_other points m p (origin m c.args.from.spoke) c.nearer_sample-sample.result c.in-Some.candidate
+    candidate_from_other points m p
+    (origin m c.args.from.spoke) c.nearer_sample-sample.result c.in-Some.candidate
     c.in-Some.ensures
     (subst (λ (v : ℕ). (c.nearer_sample-sample.result ≡ v)
     ⊎ IsNearer (whole p) (place points c.nearer_sample-sample.result) (place points v)) here

@@ -17,7 +17,8 @@ returns-in_err-out_edge g c =
     let none = subst (λ (x : Mesh × ℕ). IsNone (out_edge x.0 x.1))
     (λ i. (ap (λ d. d.now.mesh) c.vertex.ensures.dcel i, c.vertex.ensures.index i))
     (c.in_err-out_edge.ensures.none.0 refl) in
-    rw c.from_residual.ensures (no_nearer_neighbour (map g.V.HasPosition.place c.args.dcel.now.vertices) m
+    rw c.from_residual.ensures
+    (no_nearer_neighbour (map g.V.HasPosition.place c.args.dcel.now.vertices) m
     (place_of g.V.Scalar.SpadeNum.whole c.args.point) c.args.from c.requires.kept.valid.sound
     (λ h within starts. absurd (no_edges m c.requires.kept.valid c.args.from h none within starts)))
 
@@ -28,7 +29,8 @@ nearer_end-requires-clause-start g c =
     let named = c.requires.kept.valid.sound.vertices c.args.from c.fix-spoke.result
     (named_first _ _ _ _ _ _ (ap (λ d. d.now.mesh) c.vertex.ensures.dcel) c.vertex.ensures.index
     c.in_ok-out_edge.ensures.edge.1 c.fix-spoke.ensures.value) in
-    to_z-of_z w64 c.distance_2_to-distance_2.result (record { sfits = c.distance_2_to-distance_2.type_inv })
+    to_z-of_z w64 c.distance_2_to-distance_2.result
+    (record { sfits = c.distance_2_to-distance_2.type_inv })
     ∙ c.distance_2_to-distance_2.ensures ∙ ap far (sym named.1)
 
 pub returns-in-Some : goal.returns-in-Some
@@ -40,7 +42,8 @@ returns-in-Some g c =
     (named_first _ _ _ _ _ _ (ap (λ d. d.now.mesh) c.vertex.ensures.dcel) c.vertex.ensures.index
     c.in_ok-out_edge.ensures.edge.1 c.fix-spoke.ensures.value) in
     candidate_from_nearer points m p c.args.from c.in-Some.nearer
-    (nearer_than_same points m p (origin m c.fix-spoke.result) c.args.from c.in-Some.nearer named.1 c.in-Some.ensures)
+    (nearer_than_same points m p
+    (origin m c.fix-spoke.result) c.args.from c.in-Some.nearer named.1 c.in-Some.ensures)
 
 pub returns-in-None : goal.returns-in-None
 returns-in-None g c =
@@ -53,7 +56,8 @@ returns-in-None g c =
       candidate = record {
         within = named.0;
         distance =
-            to_z-of_z w64 c.distance_2_to-distance_2.result (record { sfits = c.distance_2_to-distance_2.type_inv })
+            to_z-of_z w64 c.distance_2_to-distance_2.result
+            (record { sfits = c.distance_2_to-distance_2.type_inv })
             ∙ c.distance_2_to-distance_2.ensures ∙ ap far (sym named.1);
         ends = c.in-None.ensures;
       };

@@ -6,7 +6,8 @@ use Rattle.delaunay_legalization.specs.State.{state_of}
 use Rattle.delaunay_legalization.proofs.OppositeSides.{link_read}
 use Rattle.delaunay_location.specs.Candidate.{EndsNoNearer}
 use Rattle.delaunay_location.proofs.BothWays.{closing_in_begins, fewer_before, left_goes_on}
-use Rattle.delaunay_location.proofs.BothWays.{left_starts, left_within, right_goes_on, right_starts, right_within}
+use Rattle.delaunay_location.proofs.BothWays.{left_starts, left_within, right_goes_on, right_starts}
+use Rattle.delaunay_location.proofs.BothWays.{right_within}
 use Rattle.delaunay_location.proofs.BothWays.{seen_where_left_meets, seen_where_right_meets}
 use Rattle.delaunay_location.proofs.Candidates.{distance_read, nearer_than_same}
 use Rattle.delaunay_location.proofs.Neighbours.{no_nearer_neighbour}
@@ -14,9 +15,12 @@ use Rattle.delaunay_location.proofs.nearest_walk.nearer_neighbor.Goals as goal
 
 pub loop-point-init : goal.loop-point-init
 loop-point-init g c =
-    closing_in_begins c.args.dcel.now.mesh c.requires.kept.valid (origin c.args.dcel.now.mesh c.args.from.now.spoke)
-    c.args.from.now.spoke (EndsNoNearer (map g.V.HasPosition.place c.args.dcel.now.vertices) c.args.dcel.now.mesh
-    (place_of g.V.Scalar.SpadeNum.whole c.args.point)) c.requires.from.within refl c.requires.from.ends
+    closing_in_begins c.args.dcel.now.mesh c.requires.kept.valid
+    (origin c.args.dcel.now.mesh c.args.from.now.spoke)
+    c.args.from.now.spoke
+    (EndsNoNearer (map g.V.HasPosition.place c.args.dcel.now.vertices) c.args.dcel.now.mesh
+    (place_of g.V.Scalar.SpadeNum.whole c.args.point)) c.requires.from.within refl
+    c.requires.from.ends
 
 pub directed_edge-requires : goal.directed_edge-requires
 directed_edge-requires g c =
@@ -26,8 +30,10 @@ directed_edge-requires g c =
 
 pub returns-then-index : goal.returns-then-index
 returns-then-index g c =
-    let is = link_read (λ x h. next x (rev h)) c.args.dcel.now.mesh _ _ _ _ c.loop-point.left c.fix-next.ensures.value
-    c.cw.ensures.index (ap (λ d. d.now.mesh) c.directed_edge.ensures.dcel) c.directed_edge.ensures.index in
+    let is = link_read (λ x h. next x (rev h)) c.args.dcel.now.mesh _ _ _ _ c.loop-point.left
+    c.fix-next.ensures.value
+    c.cw.ensures.index
+    (ap (λ d. d.now.mesh) c.directed_edge.ensures.dcel) c.directed_edge.ensures.index in
     no_nearer_neighbour _ _ _ _ c.requires.kept.valid.sound
     (seen_where_left_meets _ c.requires.kept.valid _ _ _ _ _ c.loop-point.invariant
     (sym is ∙ sym c.index.ensures ∙ c.if-index.true ∙ c.index-in-loop-point.ensures))
@@ -36,18 +42,23 @@ pub nearer_end-requires-clause-start : goal.nearer_end-requires-clause-start
 nearer_end-requires-clause-start g c =
     let m = c.args.dcel.now.mesh in
     let is = link_read (λ x h. next x (rev h)) m _ _ _ _ c.loop-point.left c.fix-next.ensures.value
-    c.cw.ensures.index (ap (λ d. d.now.mesh) c.directed_edge.ensures.dcel) c.directed_edge.ensures.index in
+    c.cw.ensures.index
+    (ap (λ d. d.now.mesh) c.directed_edge.ensures.dcel) c.directed_edge.ensures.index in
     distance_read g.V.HasPosition.place (state_of c.args.dcel.now) c.requires.kept
-    (place_of g.V.Scalar.SpadeNum.whole c.args.point) c.requires.in_range c.args.from.now c.requires.from
-    c.fix-next.result (ap (origin m) is ∙ left_starts _ c.requires.kept.valid _ _ _ _ _ c.loop-point.invariant)
+    (place_of g.V.Scalar.SpadeNum.whole c.args.point) c.requires.in_range c.args.from.now
+    c.requires.from
+    c.fix-next.result
+    (ap (origin m) is ∙ left_starts _ c.requires.kept.valid _ _ _ _ _ c.loop-point.invariant)
 
 pub returns-in-Some : goal.returns-in-Some
 returns-in-Some g c =
     let m = c.args.dcel.now.mesh in
     let is = link_read (λ x h. next x (rev h)) m _ _ _ _ c.loop-point.left c.fix-next.ensures.value
-    c.cw.ensures.index (ap (λ d. d.now.mesh) c.directed_edge.ensures.dcel) c.directed_edge.ensures.index in
+    c.cw.ensures.index
+    (ap (λ d. d.now.mesh) c.directed_edge.ensures.dcel) c.directed_edge.ensures.index in
     nearer_than_same _ _ _ _ _ _
-    (ap (origin m) is ∙ left_starts _ c.requires.kept.valid _ _ _ _ _ c.loop-point.invariant) c.in-Some.ensures
+    (ap (origin m) is ∙ left_starts _ c.requires.kept.valid _ _ _ _ _ c.loop-point.invariant)
+    c.in-Some.ensures
 
 pub directed_edge-requires-in-loop-point : goal.directed_edge-requires-in-loop-point
 directed_edge-requires-in-loop-point g c =
@@ -59,44 +70,53 @@ pub returns-then-index-2 : goal.returns-then-index-2
 returns-then-index-2 g c =
     let m = c.args.dcel.now.mesh in
     let is = link_read (λ x h. next x (rev h)) m _ _ _ _ c.loop-point.left c.fix-next.ensures.value
-    c.cw.ensures.index (ap (λ d. d.now.mesh) c.directed_edge.ensures.dcel) c.directed_edge.ensures.index in
+    c.cw.ensures.index
+    (ap (λ d. d.now.mesh) c.directed_edge.ensures.dcel) c.directed_edge.ensures.index in
     let away : c.fix-next.result ≢ c.loop-point.right =
     λ e. c.if-index.false (c.index.ensures ∙ e ∙ sym c.index-in-loop-point.ensures) in
-    let r_is = link_read (λ x h. rev (prev x h)) m _ _ _ _ c.loop-point.right c.fix-next-in-loop-point.ensures.value
+    let r_is = link_read
+    (λ x h. rev (prev x h)) m _ _ _ _ c.loop-point.right c.fix-next-in-loop-point.ensures.value
     c.ccw.ensures.index (ap (λ d. d.now.mesh) c.directed_edge-in-loop-point.ensures.dcel)
     c.directed_edge-in-loop-point.ensures.index in
     no_nearer_neighbour _ _ _ _ c.requires.kept.valid.sound
     (seen_where_right_meets _ c.requires.kept.valid _ _ _ _ _
     (left_goes_on _ c.requires.kept.valid _ _ _ _ _ c.loop-point.invariant c.fix-next.result is away
     c.in_default.ensures)
-    (sym r_is ∙ sym c.index-in-loop-point-2.ensures ∙ c.if-index-2.true ∙ c.index-in-loop-point-3.ensures))
+    (sym r_is ∙ sym c.index-in-loop-point-2.ensures ∙ c.if-index-2.true
+    ∙ c.index-in-loop-point-3.ensures))
 
 pub nearer_end-requires-in-loop-point-clause-end : goal.nearer_end-requires-in-loop-point-clause-end
 nearer_end-requires-in-loop-point-clause-end g c =
     let m = c.args.dcel.now.mesh in
-    let r_is = link_read (λ x h. rev (prev x h)) m _ _ _ _ c.loop-point.right c.fix-next-in-loop-point.ensures.value
+    let r_is = link_read
+    (λ x h. rev (prev x h)) m _ _ _ _ c.loop-point.right c.fix-next-in-loop-point.ensures.value
     c.ccw.ensures.index (ap (λ d. d.now.mesh) c.directed_edge-in-loop-point.ensures.dcel)
     c.directed_edge-in-loop-point.ensures.index in
     let here = c.directed_edge-in-loop-point-2.ensures in
     let end_is : c.fix-end.result ≡ origin m (prev m c.loop-point.right) =
     c.fix-end.ensures.value ∙ rw (here.dcel, here.index) at c.prev_from.ensures.index in
-    end_is ∙ ap (origin m) (sym (rev-rev (prev m c.loop-point.right))) ∙ ap (λ h. origin m (rev h)) (sym r_is)
+    end_is ∙ ap (origin m) (sym (rev-rev (prev m c.loop-point.right)))
+    ∙ ap (λ h. origin m (rev h)) (sym r_is)
 
-pub nearer_end-requires-in-loop-point-clause-start : goal.nearer_end-requires-in-loop-point-clause-start
+pub nearer_end-requires-in-loop-point-clause-start :
+    goal.nearer_end-requires-in-loop-point-clause-start
 nearer_end-requires-in-loop-point-clause-start g c =
     let m = c.args.dcel.now.mesh in
-    let r_is = link_read (λ x h. rev (prev x h)) m _ _ _ _ c.loop-point.right c.fix-next-in-loop-point.ensures.value
+    let r_is = link_read
+    (λ x h. rev (prev x h)) m _ _ _ _ c.loop-point.right c.fix-next-in-loop-point.ensures.value
     c.ccw.ensures.index (ap (λ d. d.now.mesh) c.directed_edge-in-loop-point.ensures.dcel)
     c.directed_edge-in-loop-point.ensures.index in
     distance_read g.V.HasPosition.place (state_of c.args.dcel.now) c.requires.kept
-    (place_of g.V.Scalar.SpadeNum.whole c.args.point) c.requires.in_range c.args.from.now c.requires.from
+    (place_of g.V.Scalar.SpadeNum.whole c.args.point) c.requires.in_range c.args.from.now
+    c.requires.from
     c.fix-next-in-loop-point.result
     (ap (origin m) r_is ∙ right_starts _ c.requires.kept.valid _ _ _ _ _ c.loop-point.invariant)
 
 pub returns-in-Some-nearer_end : goal.returns-in-Some-nearer_end
 returns-in-Some-nearer_end g c =
     let m = c.args.dcel.now.mesh in
-    let r_is = link_read (λ x h. rev (prev x h)) m _ _ _ _ c.loop-point.right c.fix-next-in-loop-point.ensures.value
+    let r_is = link_read
+    (λ x h. rev (prev x h)) m _ _ _ _ c.loop-point.right c.fix-next-in-loop-point.ensures.value
     c.ccw.ensures.index (ap (λ d. d.now.mesh) c.directed_edge-in-loop-point.ensures.dcel)
     c.directed_edge-in-loop-point.ensures.index in
     nearer_than_same _ _ _ _ _ _
@@ -105,8 +125,10 @@ returns-in-Some-nearer_end g c =
 
 pub loop-point-smaller : goal.loop-point-smaller
 loop-point-smaller g c =
-    let is = link_read (λ x h. next x (rev h)) c.args.dcel.now.mesh _ _ _ _ c.loop-point.left c.fix-next.ensures.value
-    c.cw.ensures.index (ap (λ d. d.now.mesh) c.directed_edge.ensures.dcel) c.directed_edge.ensures.index in
+    let is = link_read (λ x h. next x (rev h)) c.args.dcel.now.mesh _ _ _ _ c.loop-point.left
+    c.fix-next.ensures.value
+    c.cw.ensures.index
+    (ap (λ d. d.now.mesh) c.directed_edge.ensures.dcel) c.directed_edge.ensures.index in
     let away : c.fix-next.result ≢ c.loop-point.right =
     λ e. c.if-index.false (c.index.ensures ∙ e ∙ sym c.index-in-loop-point.ensures) in
     fewer_before _ c.requires.kept.valid _ _ _ _ _ c.loop-point.invariant c.fix-next.result is away
@@ -115,14 +137,18 @@ pub loop-point-preserved : goal.loop-point-preserved
 loop-point-preserved g c =
     let m = c.args.dcel.now.mesh in
     let is = link_read (λ x h. next x (rev h)) m _ _ _ _ c.loop-point.left c.fix-next.ensures.value
-    c.cw.ensures.index (ap (λ d. d.now.mesh) c.directed_edge.ensures.dcel) c.directed_edge.ensures.index in
+    c.cw.ensures.index
+    (ap (λ d. d.now.mesh) c.directed_edge.ensures.dcel) c.directed_edge.ensures.index in
     let away : c.fix-next.result ≢ c.loop-point.right =
     λ e. c.if-index.false (c.index.ensures ∙ e ∙ sym c.index-in-loop-point.ensures) in
-    let r_is = link_read (λ x h. rev (prev x h)) m _ _ _ _ c.loop-point.right c.fix-next-in-loop-point.ensures.value
+    let r_is = link_read
+    (λ x h. rev (prev x h)) m _ _ _ _ c.loop-point.right c.fix-next-in-loop-point.ensures.value
     c.ccw.ensures.index (ap (λ d. d.now.mesh) c.directed_edge-in-loop-point.ensures.dcel)
     c.directed_edge-in-loop-point.ensures.index in
     let r_away : c.fix-next-in-loop-point.result ≢ c.fix-next.result =
-    λ e. c.if-index-2.false (c.index-in-loop-point-2.ensures ∙ e ∙ sym c.index-in-loop-point-3.ensures) in
+    λ e. c.if-index-2.false
+    (c.index-in-loop-point-2.ensures ∙ e ∙ sym c.index-in-loop-point-3.ensures) in
     right_goes_on _ c.requires.kept.valid _ _ _ _ _
     (left_goes_on _ c.requires.kept.valid _ _ _ _ _ c.loop-point.invariant c.fix-next.result is away
-    c.in_default.ensures) c.fix-next-in-loop-point.result r_is r_away c.in_default-nearer_end.ensures
+    c.in_default.ensures) c.fix-next-in-loop-point.result r_is r_away
+    c.in_default-nearer_end.ensures

@@ -8,7 +8,8 @@ use Rattle.delaunay_core.specs.Place.{place_of}
 use Rattle.delaunay_legalization.specs.State.{state_of, triangulation_of}
 use Rattle.delaunay_legalization.proofs.OppositeSides.{link_read}
 use Rattle.delaunay_location.proofs.Candidates.{vertex_within}
-use Rattle.delaunay_location.proofs.Neighbours.{walking_begins, walking_goes_on, walking_ends, nearer_falls}
+use Rattle.delaunay_location.proofs.Neighbours.{walking_begins, walking_goes_on, walking_ends}
+use Rattle.delaunay_location.proofs.Neighbours.{nearer_falls}
 use Rattle.delaunay_location.proofs.Neighbours.{nearer_falls_or_stays, walking_jumps, move_fits}
 use Rattle.delaunay_location.proofs.nearest_walk.nearest_from.Goals as goal
 
@@ -27,7 +28,8 @@ nearer_neighbor-requires-clause-from g c = c.loop-nearer.invariant.0
 pub loop-nearer-preserved : goal.loop-nearer-preserved
 loop-nearer-preserved g c = (
   c.in-Some.ensures.candidate,
-  walking_goes_on _ _ _ _ _ c.loop-nearer.invariant.1 (origin c.args.dcel.now.mesh c.in-Some.nearer.spoke)
+  walking_goes_on _ _ _ _ _ c.loop-nearer.invariant.1
+      (origin c.args.dcel.now.mesh c.in-Some.nearer.spoke)
       (vertex_within _ _ c.requires.kept _ _ c.in-Some.ensures.candidate) c.in-Some.ensures.nearer,
 )
 
@@ -35,17 +37,20 @@ pub loop-nearer-preserved-then-moves-eq0 : goal.loop-nearer-preserved-then-moves
 loop-nearer-preserved-then-moves-eq0 g c =
     let near = c.in-Some.ensures in
     let moved = walking_goes_on _ _ _ _ _ c.loop-nearer.invariant.1
-    (origin c.args.dcel.now.mesh c.in-Some.nearer.spoke) (vertex_within _ _ c.requires.kept _ _ near.candidate)
+    (origin c.args.dcel.now.mesh c.in-Some.nearer.spoke)
+    (vertex_within _ _ c.requires.kept _ _ near.candidate)
     near.nearer in
     let jump = c.candidate_anywhere-nearest.ensures in (
       jump.candidate,
-      walking_jumps _ _ _ _ _ moved (origin c.args.dcel.now.mesh c.candidate_anywhere-nearest.result.spoke)
+      walking_jumps _ _ _ _ _ moved
+          (origin c.args.dcel.now.mesh c.candidate_anywhere-nearest.result.spoke)
           (vertex_within _ _ c.requires.kept _ _ jump.candidate) jump.nearer,
     )
 
 pub loop-nearer-smaller : goal.loop-nearer-smaller
 loop-nearer-smaller g c =
-    nearer_falls _ _ _ _ _ c.loop-nearer.invariant.1 (origin c.args.dcel.now.mesh c.in-Some.nearer.spoke)
+    nearer_falls _ _ _ _ _ c.loop-nearer.invariant.1
+    (origin c.args.dcel.now.mesh c.in-Some.nearer.spoke)
     (vertex_within _ _ c.requires.kept _ _ c.in-Some.ensures.candidate) c.in-Some.ensures.nearer
 
 pub loop-nearer-smaller-then-moves-eq0 : goal.loop-nearer-smaller-then-moves-eq0
@@ -66,7 +71,8 @@ pub overflow_add-moves : goal.overflow_add-moves
 overflow_add-moves g c =
     let count = length-map c.args.dcel.now.vertices g.V.HasPosition.place in
     let near = c.in-Some.ensures in
-    let m = move_fits _ _ _ _ _ c.loop-nearer.invariant.1 (origin c.args.dcel.now.mesh c.in-Some.nearer.spoke)
+    let m = move_fits _ _ _ _ _ c.loop-nearer.invariant.1
+    (origin c.args.dcel.now.mesh c.in-Some.nearer.spoke)
     (vertex_within _ _ c.requires.kept _ _ near.candidate) near.nearer
     (subst (λ (n : ℕ). c.args.moves.now + n ≤ 2 ^ 64) (sym count) c.requires.fits) in
     omega (arith, m)
@@ -81,10 +87,13 @@ pub returns-clause-nearest : goal.returns-clause-nearest
 returns-clause-nearest g c =
     let t = triangulation_of g.V.HasPosition.place (state_of c.args.dcel.now) in
     let p = whole (place_of g.V.Scalar.SpadeNum.whole c.args.point) in
-    let here = link_read origin c.args.dcel.now.mesh _ _ _ _ c.loop-nearer.nearest.spoke c.fix.ensures.value
-    c.from.ensures.index (ap (λ d. d.now.mesh) c.directed_edge.ensures.dcel) c.directed_edge.ensures.index in
+    let here = link_read origin c.args.dcel.now.mesh _ _ _ _ c.loop-nearer.nearest.spoke
+    c.fix.ensures.value
+    c.from.ensures.index
+    (ap (λ d. d.now.mesh) c.directed_edge.ensures.dcel) c.directed_edge.ensures.index in
     subst (IsNearest t p) (sym here) (nearest_by_neighbours t c.requires.delaunay p
-    (origin c.args.dcel.now.mesh c.loop-nearer.nearest.spoke) c.loop-nearer.invariant.1.within c.in_default.ensures)
+    (origin c.args.dcel.now.mesh c.loop-nearer.nearest.spoke) c.loop-nearer.invariant.1.within
+    c.in_default.ensures)
 
 pub returns-clause-counted : goal.returns-clause-counted
 returns-clause-counted g c = (

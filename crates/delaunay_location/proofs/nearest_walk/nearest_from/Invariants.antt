@@ -10,9 +10,11 @@ use Rattle.delaunay_location.proofs.nearest_walk.nearest_from.Given as goal
 
 abbrev pub invariant-loop-nearer : goal.invariant-loop-nearer
 invariant-loop-nearer g l =
-    IsCandidate (map g.V.HasPosition.place l.dcel.vertices) l.dcel.mesh (place_of g.V.Scalar.SpadeNum.whole l.point)
+    IsCandidate (map g.V.HasPosition.place l.dcel.vertices) l.dcel.mesh
+    (place_of g.V.Scalar.SpadeNum.whole l.point)
     l.nearest × IsWalking (triangulation_of g.V.HasPosition.place (state_of l.dcel))
-    (place_of g.V.Scalar.SpadeNum.whole l.point) (origin l.dcel.mesh l.nearest.spoke) l.fn.moves l.moves
+    (place_of g.V.Scalar.SpadeNum.whole l.point)
+    (origin l.dcel.mesh l.nearest.spoke) l.fn.moves l.moves
 
 abbrev pub decreases-loop-nearer : goal.decreases-loop-nearer
 decreases-loop-nearer g l = nearer_count (triangulation_of g.V.HasPosition.place (state_of l.dcel))

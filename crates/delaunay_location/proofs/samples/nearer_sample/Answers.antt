@@ -25,7 +25,12 @@ loop-index-preserved g c =
     (place (map g.V.HasPosition.place c.args.dcel.now.vertices) i) in
     elim c.if-is_nearer.branch [
       | then-is_nearer w ↦ rw w.nearest-is (record {
-        within = omega (arith, c.from_index-vertex.ensures, c.loop-index-test.true, c.num_vertices-count.ensures.value);
+        within = omega (
+          arith,
+          c.from_index-vertex.ensures,
+          c.loop-index-test.true,
+          c.num_vertices-count.ensures.value,
+        );
         nearer = inr (less_than_first at c.from_index-vertex.result c.loop-index.nearest c.args.from
             (c.is_nearer.ensures.0 w.if-is_nearer.true) c.loop-index.invariant.nearer);
       })

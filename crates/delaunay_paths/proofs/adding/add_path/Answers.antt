@@ -1,8 +1,11 @@
 use Rattle.std.proofs.Common.{ℕ, List, map, sym, ◌∙◌, subst}
 use Rattle.delaunay_paths.specs.Leaving.{LeavesToTest}
-use Rattle.delaunay_paths.proofs.AddingPieces.{piece_made, more_is_left, none_is_left, same, work_fits}
-use Rattle.delaunay_paths.proofs.AddingPieces.{adding_to_begins, adding_sites, adding_shape, adding_index, adding_at}
-use Rattle.delaunay_paths.proofs.AddingPieces.{adding_free, adding_clear, adding_to_goes_on, adding_shortens}
+use Rattle.delaunay_paths.proofs.AddingPieces.{piece_made, more_is_left, none_is_left, same}
+use Rattle.delaunay_paths.proofs.AddingPieces.{work_fits}
+use Rattle.delaunay_paths.proofs.AddingPieces.{adding_to_begins, adding_sites, adding_shape}
+use Rattle.delaunay_paths.proofs.AddingPieces.{adding_index, adding_at}
+use Rattle.delaunay_paths.proofs.AddingPieces.{adding_free, adding_clear, adding_to_goes_on}
+use Rattle.delaunay_paths.proofs.AddingPieces.{adding_shortens}
 use Rattle.delaunay_paths.proofs.AddingPieces.{adding_to_ends}
 use Rattle.delaunay_paths.proofs.adding.add_path.Goals as goal
 
@@ -10,9 +13,11 @@ pub loop-next-init : goal.loop-next-init
 loop-next-init g c =
     let m = g.M.ConstraintMarker in
     let marked = g.met.M.ConstraintMarker.constraints_are_marked in (
-      adding_to_begins m.marks m.constraints marked g.V.HasPosition.place m.marked c.args.dcel.now c.args.from c.args.to
+      adding_to_begins m.marks m.constraints marked g.V.HasPosition.place m.marked c.args.dcel.now
+          c.args.from c.args.to
           c.requires.kept c.requires.way.from,
-      subst (λ (ks : List ℕ). LeavesToTest (map g.V.HasPosition.place c.args.dcel.now.vertices) c.args.dcel.now
+      subst (λ (ks : List ℕ). LeavesToTest
+          (map g.V.HasPosition.place c.args.dcel.now.vertices) c.args.dcel.now
           c.args.dcel.now ks) (sym {A = List ℕ} c.clear.ensures.items)
           (none_is_left (map g.V.HasPosition.place c.args.dcel.now.vertices) c.args.dcel.now),
       c.clear.ensures.capacity,
@@ -20,60 +25,74 @@ loop-next-init g c =
 
 pub make_edge-requires-clause-work : goal.make_edge-requires-clause-work
 make_edge-requires-clause-work g c =
-    work_fits c.args.dcel.now c.loop-next.dcel c.loop-next.work.items _ _ c.loop-next.invariant.0.count
+    work_fits c.args.dcel.now c.loop-next.dcel c.loop-next.work.items _ _
+    c.loop-next.invariant.0.count
     c.requires.kept.few_edges c.requires.room c.loop-next.invariant.2 c.loop-next.invariant.1.edges
 
 pub next_piece-requires-clause-from_in : goal.next_piece-requires-clause-from_in
 next_piece-requires-clause-from_in g c =
     let m = g.M.ConstraintMarker in
     let marked = g.met.M.ConstraintMarker.constraints_are_marked in
-    adding_at m.marks m.constraints marked g.V.HasPosition.place m.marked c.args.dcel.now c.loop-next.dcel c.args.from
+    adding_at m.marks m.constraints marked g.V.HasPosition.place m.marked c.args.dcel.now
+    c.loop-next.dcel c.args.from
     c.args.to c.loop-next.at c.requires.way.from c.requires.way.to c.loop-next.invariant.0
 
 pub next_piece-requires-clause-to_in : goal.next_piece-requires-clause-to_in
 next_piece-requires-clause-to_in g c =
     let m = g.M.ConstraintMarker in
     let marked = g.met.M.ConstraintMarker.constraints_are_marked in
-    adding_index m.marks m.constraints marked g.V.HasPosition.place m.marked c.args.dcel.now c.loop-next.dcel
-    c.args.from c.args.to c.loop-next.at c.requires.way.from c.requires.way.to c.loop-next.invariant.0 c.args.to
+    adding_index m.marks m.constraints marked g.V.HasPosition.place m.marked c.args.dcel.now
+    c.loop-next.dcel
+    c.args.from c.args.to c.loop-next.at c.requires.way.from c.requires.way.to
+    c.loop-next.invariant.0 c.args.to
     c.requires.way.to
 
 pub next_piece-requires-clause-shape : goal.next_piece-requires-clause-shape
 next_piece-requires-clause-shape g c =
     let m = g.M.ConstraintMarker in
     let marked = g.met.M.ConstraintMarker.constraints_are_marked in
-    adding_shape m.marks m.constraints marked g.V.HasPosition.place m.marked c.args.dcel.now c.loop-next.dcel
-    c.args.from c.args.to c.loop-next.at c.requires.way.from c.requires.way.to c.loop-next.invariant.0
+    adding_shape m.marks m.constraints marked g.V.HasPosition.place m.marked c.args.dcel.now
+    c.loop-next.dcel
+    c.args.from c.args.to c.loop-next.at c.requires.way.from c.requires.way.to
+    c.loop-next.invariant.0
 
 pub next_piece-requires-clause-sites : goal.next_piece-requires-clause-sites
 next_piece-requires-clause-sites g c =
     let m = g.M.ConstraintMarker in
     let marked = g.met.M.ConstraintMarker.constraints_are_marked in
-    adding_sites m.marks m.constraints marked g.V.HasPosition.place m.marked c.args.dcel.now c.loop-next.dcel
-    c.args.from c.args.to c.loop-next.at c.requires.way.from c.requires.way.to c.loop-next.invariant.0
+    adding_sites m.marks m.constraints marked g.V.HasPosition.place m.marked c.args.dcel.now
+    c.loop-next.dcel
+    c.args.from c.args.to c.loop-next.at c.requires.way.from c.requires.way.to
+    c.loop-next.invariant.0
     (g.P.PlaneTests.sites c.args.tests.now) c.requires.sites
 
 pub make_edge-requires-clause-free : goal.make_edge-requires-clause-free
 make_edge-requires-clause-free g c =
     let m = g.M.ConstraintMarker in
     let marked = g.met.M.ConstraintMarker.constraints_are_marked in
-    adding_free m.marks m.constraints marked g.V.HasPosition.place m.marked c.args.dcel.now c.loop-next.dcel c.args.from
-    c.args.to c.loop-next.at c.requires.way.from c.requires.way.to c.loop-next.invariant.0 c.in-Some.next
+    adding_free m.marks m.constraints marked g.V.HasPosition.place m.marked c.args.dcel.now
+    c.loop-next.dcel c.args.from
+    c.args.to c.loop-next.at c.requires.way.from c.requires.way.to c.loop-next.invariant.0
+    c.in-Some.next
     c.in-Some.ensures.apart c.in-Some.ensures.next
 
 pub make_edge-requires-clause-shape : goal.make_edge-requires-clause-shape
 make_edge-requires-clause-shape g c =
     let m = g.M.ConstraintMarker in
     let marked = g.met.M.ConstraintMarker.constraints_are_marked in
-    adding_shape m.marks m.constraints marked g.V.HasPosition.place m.marked c.args.dcel.now c.loop-next.dcel
-    c.args.from c.args.to c.loop-next.at c.requires.way.from c.requires.way.to c.loop-next.invariant.0
+    adding_shape m.marks m.constraints marked g.V.HasPosition.place m.marked c.args.dcel.now
+    c.loop-next.dcel
+    c.args.from c.args.to c.loop-next.at c.requires.way.from c.requires.way.to
+    c.loop-next.invariant.0
 
 pub make_edge-requires-clause-sites : goal.make_edge-requires-clause-sites
 make_edge-requires-clause-sites g c =
     let m = g.M.ConstraintMarker in
     let marked = g.met.M.ConstraintMarker.constraints_are_marked in
-    adding_sites m.marks m.constraints marked g.V.HasPosition.place m.marked c.args.dcel.now c.loop-next.dcel
-    c.args.from c.args.to c.loop-next.at c.requires.way.from c.requires.way.to c.loop-next.invariant.0
+    adding_sites m.marks m.constraints marked g.V.HasPosition.place m.marked c.args.dcel.now
+    c.loop-next.dcel
+    c.args.from c.args.to c.loop-next.at c.requires.way.from c.requires.way.to
+    c.loop-next.invariant.0
     (g.P.PlaneTests.sites c.args.tests.now) c.requires.sites
 
 pub mark_between-requires-clause-joined : goal.mark_between-requires-clause-joined
@@ -84,21 +103,31 @@ loop-next-preserved g c =
     let m = g.M.ConstraintMarker in
     let marked = g.met.M.ConstraintMarker.constraints_are_marked in
     let clear =
-    adding_clear m.marks m.constraints marked g.V.HasPosition.place m.marked c.args.dcel.now c.loop-next.dcel
-    c.args.from c.args.to c.loop-next.at c.requires.way.from c.requires.way.to c.loop-next.invariant.0 c.in-Some.next
+    adding_clear m.marks m.constraints marked g.V.HasPosition.place m.marked c.args.dcel.now
+    c.loop-next.dcel
+    c.args.from c.args.to c.loop-next.at c.requires.way.from c.requires.way.to
+    c.loop-next.invariant.0 c.in-Some.next
     c.in-Some.ensures.apart c.in-Some.ensures.next c.requires.way.free in
     let piece =
-    piece_made m.marks m.constraints marked g.V.HasPosition.place m.marked c.loop-next.dcel c.make_edge.new.dcel
-    c.mark_between.new.dcel c.loop-next.at c.in-Some.next c.loop-next.work.items c.make_edge.new.work.items
+    piece_made m.marks m.constraints marked g.V.HasPosition.place m.marked c.loop-next.dcel
+    c.make_edge.new.dcel
+    c.mark_between.new.dcel c.loop-next.at c.in-Some.next c.loop-next.work.items
+    c.make_edge.new.work.items
     c.make_edge.ensures.makes c.mark_between.ensures.whole c.mark_between.ensures.marks clear in (
-      adding_to_goes_on m.marks m.constraints marked g.V.HasPosition.place m.marked c.args.dcel.now c.loop-next.dcel
-          c.args.from c.args.to c.loop-next.at c.requires.way.from c.requires.way.to c.loop-next.invariant.0
+      adding_to_goes_on m.marks m.constraints marked g.V.HasPosition.place m.marked c.args.dcel.now
+          c.loop-next.dcel
+          c.args.from c.args.to c.loop-next.at c.requires.way.from c.requires.way.to
+          c.loop-next.invariant.0
           c.in-Some.next c.in-Some.ensures.apart c.in-Some.ensures.next
-          (λ x. g.met.M.ConstraintMarker.marked_has_mark x c.requires.can_mark) c.mark_between.new.dcel piece.adds
+          (λ x. g.met.M.ConstraintMarker.marked_has_mark x c.requires.can_mark)
+          c.mark_between.new.dcel piece.adds
           piece.mesh piece.shape,
-      more_is_left g.V.HasPosition.place m.marks m.marked m.constraints c.args.dcel.now c.loop-next.dcel
-          c.mark_between.new.dcel c.loop-next.at c.in-Some.next c.loop-next.work.items c.make_edge.new.work.items
-          (same m.marks m.constraints marked g.V.HasPosition.place m.marked c.args.dcel.now c.loop-next.dcel c.args.from
+      more_is_left g.V.HasPosition.place m.marks m.marked m.constraints c.args.dcel.now
+          c.loop-next.dcel
+          c.mark_between.new.dcel c.loop-next.at c.in-Some.next c.loop-next.work.items
+          c.make_edge.new.work.items
+          (same m.marks m.constraints marked g.V.HasPosition.place m.marked c.args.dcel.now
+          c.loop-next.dcel c.args.from
           c.args.to c.loop-next.at c.requires.way.from c.requires.way.to c.loop-next.invariant.0)
           c.loop-next.invariant.1 piece,
       c.make_edge.ensures.capacity ∙ c.loop-next.invariant.2,
@@ -108,14 +137,18 @@ pub loop-next-smaller : goal.loop-next-smaller
 loop-next-smaller g c =
     let m = g.M.ConstraintMarker in
     let marked = g.met.M.ConstraintMarker.constraints_are_marked in
-    adding_shortens m.marks m.constraints marked g.V.HasPosition.place m.marked c.args.dcel.now c.loop-next.dcel
-    c.args.from c.args.to c.loop-next.at c.requires.way.from c.requires.way.to c.loop-next.invariant.0
+    adding_shortens m.marks m.constraints marked g.V.HasPosition.place m.marked c.args.dcel.now
+    c.loop-next.dcel
+    c.args.from c.args.to c.loop-next.at c.requires.way.from c.requires.way.to
+    c.loop-next.invariant.0
     c.in-Some.next c.in-Some.ensures.apart c.in-Some.ensures.next
 
 pub returns-clause-adds : goal.returns-clause-adds
 returns-clause-adds g c =
     let m = g.M.ConstraintMarker in
     let marked = g.met.M.ConstraintMarker.constraints_are_marked in
-    adding_to_ends m.marks m.constraints marked g.V.HasPosition.place m.marked c.args.dcel.now c.loop-next.dcel
-    c.args.from c.args.to c.loop-next.at c.requires.way.from c.requires.way.to c.loop-next.invariant.0
+    adding_to_ends m.marks m.constraints marked g.V.HasPosition.place m.marked c.args.dcel.now
+    c.loop-next.dcel
+    c.args.from c.args.to c.loop-next.at c.requires.way.from c.requires.way.to
+    c.loop-next.invariant.0
     c.in_default.ensures.end c.requires.kept c.requires.way.free

@@ -8,11 +8,13 @@ use Rattle.delaunay_paths.proofs.adding.add_path.Given as goal
 
 abbrev pub invariant-loop-next : goal.invariant-loop-next
 invariant-loop-next g l = IsAddingTo g.M.ConstraintMarker.marks g.M.ConstraintMarker.constraints
-    g.met.M.ConstraintMarker.constraints_are_marked g.V.HasPosition.place g.M.ConstraintMarker.marked l.fn.dcel l.dcel
+    g.met.M.ConstraintMarker.constraints_are_marked g.V.HasPosition.place
+    g.M.ConstraintMarker.marked l.fn.dcel l.dcel
     l.fn.from l.fn.to l.at
     × LeavesToTest (map g.V.HasPosition.place l.fn.dcel.vertices) l.fn.dcel l.dcel l.work.items ×
     (vec_capacity l.work ≡ vec_capacity l.fn.work)
 
 abbrev pub decreases-loop-next : goal.decreases-loop-next
-decreases-loop-next g l = nat_abs (squared_way (point_of (map g.V.HasPosition.place l.fn.dcel.vertices) l.at)
+decreases-loop-next g l =
+    nat_abs (squared_way (point_of (map g.V.HasPosition.place l.fn.dcel.vertices) l.at)
     (point_of (map g.V.HasPosition.place l.fn.dcel.vertices) l.fn.to))

@@ -6,7 +6,9 @@ use Rattle.delaunay_paths.proofs.Making.{IsMaking}
 use Rattle.delaunay_paths.proofs.flips.make_edge.Given as goal
 
 abbrev pub invariant-loop-from : goal.invariant-loop-from
-invariant-loop-from g l = IsMaking g.V.HasPosition.place l.fn.dcel l.dcel l.from l.to l.fn.work.items l.work.items (vec_capacity l.fn.work) (vec_capacity l.work)
+invariant-loop-from g l = IsMaking g.V.HasPosition.place l.fn.dcel l.dcel l.from l.to
+    l.fn.work.items l.work.items (vec_capacity l.fn.work) (vec_capacity l.work)
 
 abbrev pub decreases-loop-from : goal.decreases-loop-from
-decreases-loop-from g l = crossing_sum (map g.V.HasPosition.place l.dcel.vertices) (faces_of l.dcel.mesh) l.from l.to
+decreases-loop-from g l =
+    crossing_sum (map g.V.HasPosition.place l.dcel.vertices) (faces_of l.dcel.mesh) l.from l.to

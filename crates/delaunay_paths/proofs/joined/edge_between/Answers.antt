@@ -7,7 +7,8 @@ get_edge_from_neighbors-requires g c =
     let w = c.recall_invariant.ensures.whole in
     let e = joins_edge c.args.dcel.now.mesh w.valid.sound c.args.from c.args.to c.requires in
     subst (λ (n : ℕ). c.args.from < n) (sym w.fits.vertices_fit)
-    (subst (λ (k : ℕ). k < length c.args.dcel.now.mesh.out_edges) e.2 (w.valid.sound.edges e.0 e.1).origin_in)
+    (subst (λ (k : ℕ). k < length c.args.dcel.now.mesh.out_edges) e.2
+    (w.valid.sound.edges e.0 e.1).origin_in)
 
 pub unreachable-requires : goal.unreachable-requires
 unreachable-requires g c =

@@ -13,5 +13,6 @@ invariant-loop-next g l =
     IsAddingPath (map g.V.HasPosition.place l.dcel.vertices) pairs pairs l.fn.from l.to l.at
 
 abbrev pub decreases-loop-next : goal.decreases-loop-next
-decreases-loop-next g l = nat_abs (squared_way (point_of (map g.V.HasPosition.place l.dcel.vertices) l.at)
+decreases-loop-next g l =
+    nat_abs (squared_way (point_of (map g.V.HasPosition.place l.dcel.vertices) l.at)
     (point_of (map g.V.HasPosition.place l.dcel.vertices) l.to))

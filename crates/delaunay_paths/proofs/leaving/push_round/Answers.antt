@@ -14,4 +14,5 @@ returns-clause-gains g c =
     }
 
 pub returns-clause-own : goal.returns-clause-own
-returns-clause-own g c = c.push_sides.ensures.gains.kept (c.args.edge / 2) c.push_side.ensures.gains.there
+returns-clause-own g c =
+    c.push_sides.ensures.gains.kept (c.args.edge / 2) c.push_side.ensures.gains.there

@@ -6,9 +6,12 @@ use Rattle.delaunay_paths.proofs.ListingPath.{IsListing}
 use Rattle.delaunay_paths.proofs.path_edges.edges_along.Given as goal
 
 abbrev pub invariant-loop-next : goal.invariant-loop-next
-invariant-loop-next g l = IsListing (map g.V.HasPosition.place l.dcel.vertices) l.dcel.mesh l.fn.from l.to l.at
-    l.edges.items (vec_capacity l.fn.edges) (vec_capacity l.edges) × (vec_len l.edges ≡ length l.edges.items)
+invariant-loop-next g l =
+    IsListing (map g.V.HasPosition.place l.dcel.vertices) l.dcel.mesh l.fn.from l.to l.at
+    l.edges.items (vec_capacity l.fn.edges) (vec_capacity l.edges)
+    × (vec_len l.edges ≡ length l.edges.items)
 
 abbrev pub decreases-loop-next : goal.decreases-loop-next
-decreases-loop-next g l = nat_abs (squared_way (point_of (map g.V.HasPosition.place l.dcel.vertices) l.at)
+decreases-loop-next g l =
+    nat_abs (squared_way (point_of (map g.V.HasPosition.place l.dcel.vertices) l.at)
     (point_of (map g.V.HasPosition.place l.dcel.vertices) l.to))

@@ -8,7 +8,8 @@ loop-i-init g c =
     let m = c.args.dcel.now.mesh in
     let was = c.in_ok-border.ensures in
     let room = was.capacity in
-    gathering_begins m (origin m c.args.first) c.args.first c.count_edges-count.result c.count_edges-count.ensures
+    gathering_begins m
+    (origin m c.args.first) c.args.first c.count_edges-count.result c.count_edges-count.ensures
     c.count_edges-count.result c.in_ok-border.border.items (vec_len c.in_ok-border.border)
     (vec_capacity c.in_ok-border.border) was.len (omega (arith, room))
 
@@ -35,10 +36,13 @@ pub loop-i-preserved : goal.loop-i-preserved
 loop-i-preserved g c =
     let m = c.args.dcel.now.mesh in
     let fit = c.recall_invariant.ensures.whole.fits.directed_fit in
-    gathering_goes_on m (origin m c.args.first) c.args.first c.count_edges-count.result c.count_edges-count.ensures
-    c.count_edges-count.result c.loop-i.i c.loop-i.edge c.loop-i.border.items (vec_len c.loop-i.border)
+    gathering_goes_on m
+    (origin m c.args.first) c.args.first c.count_edges-count.result c.count_edges-count.ensures
+    c.count_edges-count.result c.loop-i.i c.loop-i.edge c.loop-i.border.items
+    (vec_len c.loop-i.border)
     (vec_capacity c.loop-i.border) c.loop-i.invariant
-    c.vertex_at_end.result c.vertex_at_end-in-loop-i.result c.edge_after-after.result c.push_reserved.new.self.items
+    c.vertex_at_end.result c.vertex_at_end-in-loop-i.result c.edge_after-after.result
+    c.push_reserved.new.self.items
     (vec_len c.push_reserved.new.self) (vec_capacity c.push_reserved.new.self)
     c.vertex_at_end.ensures c.vertex_at_end-in-loop-i.ensures
     (subst (λ (n : ℕ). c.edge_after-after.result < n) fit c.edge_after-after.ensures.within)
@@ -48,6 +52,8 @@ loop-i-preserved g c =
 pub returns : goal.returns
 returns g c =
     let m = c.args.dcel.now.mesh in
-    gathering_ends m (origin m c.args.first) c.args.first c.count_edges-count.result c.count_edges-count.ensures
-    c.count_edges-count.result c.loop-i.i c.loop-i.edge c.loop-i.border.items (vec_len c.loop-i.border)
+    gathering_ends m
+    (origin m c.args.first) c.args.first c.count_edges-count.result c.count_edges-count.ensures
+    c.count_edges-count.result c.loop-i.i c.loop-i.edge c.loop-i.border.items
+    (vec_len c.loop-i.border)
     (vec_capacity c.loop-i.border) c.loop-i.invariant c.loop-i-test.false

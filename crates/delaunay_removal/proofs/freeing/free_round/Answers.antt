@@ -1,7 +1,8 @@
 use Rattle.std.proofs.Common.{◌<◌, length, sym, ap, ◌∙◌, subst, arith}
 use Rattle.half_edge_mesh.specs.Mesh.{origin}
 use Rattle.delaunay_legalization.specs.Marking.{HasEdgeData}
-use Rattle.delaunay_removal.proofs.FreedEdges.{freeing_begins, freeing_goes_on, freeing_ends, same_directed}
+use Rattle.delaunay_removal.proofs.FreedEdges.{freeing_begins, freeing_goes_on, freeing_ends}
+use Rattle.delaunay_removal.proofs.FreedEdges.{same_directed}
 use Rattle.delaunay_removal.proofs.freeing.free_round.Goals as goal
 
 pub loop-i-init : goal.loop-i-init
@@ -25,14 +26,18 @@ edge_after-edge-requires g c =
 pub loop-i-preserved : goal.loop-i-preserved
 loop-i-preserved g c =
     let m = g.M.ConstraintMarker in
-    freeing_goes_on m.marks c.args.dcel.now c.args.first c.loop-i.dcel c.free_edge.new.dcel c.loop-i.i c.loop-i.edge
+    freeing_goes_on m.marks c.args.dcel.now c.args.first c.loop-i.dcel c.free_edge.new.dcel
+    c.loop-i.i c.loop-i.edge
     c.loop-i.invariant m.unmarked g.met.M.ConstraintMarker.unmarked_has_none
-    (subst (HasEdgeData m.unmarked c.loop-i.dcel c.free_edge.new.dcel) c.as_undirected.ensures c.free_edge.ensures)
+    (subst (HasEdgeData m.unmarked c.loop-i.dcel c.free_edge.new.dcel) c.as_undirected.ensures
+    c.free_edge.ensures)
     c.edge_after-edge.result c.edge_after-edge.ensures.within c.edge_after-edge.ensures.value
 
 pub returns-clause-frees : goal.returns-clause-frees
 returns-clause-frees g c =
-    freeing_ends g.M.ConstraintMarker.marks c.args.dcel.now c.args.first c.recall_invariant.ensures.whole
-    (origin c.args.dcel.now.mesh c.args.first) c.count_edges-count.result c.count_edges-count.ensures
+    freeing_ends g.M.ConstraintMarker.marks c.args.dcel.now c.args.first
+    c.recall_invariant.ensures.whole
+    (origin c.args.dcel.now.mesh c.args.first) c.count_edges-count.result
+    c.count_edges-count.ensures
     c.loop-i.dcel c.loop-i.i c.loop-i.edge c.loop-i.invariant
     (λ j less. let e = c.loop-i-test.false in omega (arith, e, less))

@@ -17,25 +17,32 @@ legalize_list-requires-clause-left g c =
     let m = c.args.dcel.now.mesh in
     record {
       edges = c.push_pairs-2.ensures.edges;
-      passing = pairs_are_left m c.requires.kept.valid.sound (length c.args.dcel.now.vertices) c.args.vertex
-          c.args.border.now c.as_slice.result.now c.push_pairs.new.work.items c.push_pairs-2.new.work.items
+      passing = pairs_are_left m c.requires.kept.valid.sound
+          (length c.args.dcel.now.vertices) c.args.vertex
+          c.args.border.now c.as_slice.result.now c.push_pairs.new.work.items
+          c.push_pairs-2.new.work.items
           c.push_pairs.ensures.there c.push_pairs-2.ensures.kept c.push_pairs-2.ensures.there
           (map g.V.HasPosition.place c.args.dcel.now.vertices)
           (constraint_pairs g.M.ConstraintMarker.constraints m c.args.dcel.now.undirected)
-          (subst (λ (turned : List (ℕ × ℕ)). AllPassBut (map g.V.HasPosition.place c.args.dcel.now.vertices)
-          (faces_of m) (constraint_pairs g.M.ConstraintMarker.constraints m c.args.dcel.now.undirected)
-          (pairs_left (length c.args.dcel.now.vertices) c.args.vertex (c.args.border.now ++ turned)))
+          (subst (λ (turned : List (ℕ × ℕ)). AllPassBut
+          (map g.V.HasPosition.place c.args.dcel.now.vertices)
+          (faces_of m)
+          (constraint_pairs g.M.ConstraintMarker.constraints m c.args.dcel.now.undirected)
+          (pairs_left (length c.args.dcel.now.vertices) c.args.vertex
+          (c.args.border.now ++ turned)))
           (sym {A = List (ℕ × ℕ)} c.as_slice.ensures.value) c.requires.passing);
     }
 
 pub legalize_list-requires-clause-only : goal.legalize_list-requires-clause-only
 legalize_list-requires-clause-only g c free =
     let m = c.args.dcel.now.mesh in
-    only_listed m c.requires.kept.valid.sound (length c.args.dcel.now.vertices) c.args.vertex c.args.border.now
+    only_listed m c.requires.kept.valid.sound
+    (length c.args.dcel.now.vertices) c.args.vertex c.args.border.now
     c.as_slice.result.now c.push_pairs.new.work.items c.push_pairs-2.new.work.items
     c.push_pairs.ensures.there c.push_pairs-2.ensures.kept c.push_pairs-2.ensures.there
     (map g.V.HasPosition.place c.args.dcel.now.vertices) c.requires.kept.valid c.requires.kept.shape
     c.push_pairs-2.ensures.edges
-    (subst (λ (turned : List (ℕ × ℕ)). FailOnlyAt (map g.V.HasPosition.place c.args.dcel.now.vertices) m
+    (subst (λ (turned : List (ℕ × ℕ)). FailOnlyAt
+    (map g.V.HasPosition.place c.args.dcel.now.vertices) m
     (pairs_left (length c.args.dcel.now.vertices) c.args.vertex (c.args.border.now ++ turned)))
     (sym {A = List (ℕ × ℕ)} c.as_slice.ensures.value) (c.requires.only free))

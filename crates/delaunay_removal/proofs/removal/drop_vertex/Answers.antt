@@ -5,8 +5,13 @@ pub returns-clause-value : goal.returns-clause-value
 returns-clause-value g c = c.swap_remove_vertex-value.ensures.drops.had
 
 pub returns-clause-plain : goal.returns-clause-plain
-returns-clause-plain g c = dropped_plain g.V.HasPosition.place c.args.dcel.now c.swap_remove_vertex-value.new.self c.args.vertex c.swap_remove_vertex-value.result c.swap_remove_vertex-value.ensures.drops
+returns-clause-plain g c =
+    dropped_plain g.V.HasPosition.place c.args.dcel.now c.swap_remove_vertex-value.new.self
+    c.args.vertex c.swap_remove_vertex-value.result c.swap_remove_vertex-value.ensures.drops
 
 pub returns-clause-kept : goal.returns-clause-kept
 returns-clause-kept g c =
-    dropped_kept g.V.HasPosition.place c.args.dcel.now c.swap_remove_vertex-value.new.self c.args.vertex c.swap_remove_vertex-value.result c.swap_remove_vertex-value.ensures.drops c.recall_invariant.ensures.whole c.recall_invariant-2.ensures.whole c.requires.in_range c.requires.shape
+    dropped_kept g.V.HasPosition.place c.args.dcel.now c.swap_remove_vertex-value.new.self
+    c.args.vertex c.swap_remove_vertex-value.result c.swap_remove_vertex-value.ensures.drops
+    c.recall_invariant.ensures.whole c.recall_invariant-2.ensures.whole c.requires.in_range
+    c.requires.shape

@@ -4,7 +4,8 @@ use Rattle.delaunay_removal.proofs.removal.free_unless.Goals as goal
 pub returns-then-is_free-clause-frees : goal.returns-then-is_free-clause-frees
 returns-then-is_free-clause-frees g c =
     let m = g.M.ConstraintMarker in
-    free_already m.marks m.constraints g.met.M.ConstraintMarker.constraints_are_marked c.args.dcel.now c.args.vertex
+    free_already m.marks m.constraints g.met.M.ConstraintMarker.constraints_are_marked
+    c.args.dcel.now c.args.vertex
     (c.requires.free c.if-is_free.true)
 
 pub returns-clause-frees : goal.returns-clause-frees

@@ -4,12 +4,14 @@ use Rattle.delaunay_removal.proofs.LeftFaces.{leaves_more, plane_faces_leave}
 use Rattle.delaunay_removal.proofs.removal.take_vertex.Goals as goal
 
 pub drop_vertex-requires-clause-in_range : goal.drop_vertex-requires-clause-in_range
-drop_vertex-requires-clause-in_range g c = ranged_as g.V.HasPosition.place c.args.dcel.now c.isolate.new.dcel
+drop_vertex-requires-clause-in_range g c =
+    ranged_as g.V.HasPosition.place c.args.dcel.now c.isolate.new.dcel
     c.args.vertex c.isolate.ensures.isolates c.requires.kept.in_range
 
 pub drop_vertex-requires-clause-shape : goal.drop_vertex-requires-clause-shape
 drop_vertex-requires-clause-shape g c =
-    shape_as g.V.HasPosition.place c.args.dcel.now c.isolate.new.dcel c.args.vertex c.isolate.ensures.isolates
+    shape_as g.V.HasPosition.place c.args.dcel.now c.isolate.new.dcel c.args.vertex
+    c.isolate.ensures.isolates
 
 pub returns-clause-takes : goal.returns-clause-takes
 returns-clause-takes g c =
@@ -34,10 +36,12 @@ returns-clause-takes g c =
 
 pub returns-clause-edges : goal.returns-clause-edges
 returns-clause-edges g c = plane_renumbers g.V.HasPosition.place c.args.dcel.now c.isolate.new.dcel
-    c.drop_vertex.new.dcel c.args.vertex c.drop_vertex.result c.requires.kept c.drop_vertex.ensures.kept
+    c.drop_vertex.new.dcel c.args.vertex c.drop_vertex.result c.requires.kept
+    c.drop_vertex.ensures.kept
     c.isolate.ensures.isolates c.drop_vertex.ensures.drops
 
-pub returns-then-num_inner_faces-eq0-clause-takes : goal.returns-then-num_inner_faces-eq0-clause-takes
+pub returns-then-num_inner_faces-eq0-clause-takes :
+    goal.returns-then-num_inner_faces-eq0-clause-takes
 returns-then-num_inner_faces-eq0-clause-takes g c =
     let takes = c.remove_on_line.ensures.takes in
     record {

@@ -6,14 +6,20 @@ use Rattle.delaunay_removal.proofs.HullEdges.{faces_inner}
 use Rattle.delaunay_removal.proofs.removal_hull.outer_edge_beside.Goals as goal
 
 pub returns-then-is_outer-clause-starts : goal.returns-then-is_outer-clause-starts
-returns-then-is_outer-clause-starts g c = ap (origin c.args.dcel.now.mesh) c.loop-i.invariant.here ∙ c.requires.round.starts c.loop-i.i
+returns-then-is_outer-clause-starts g c =
+    ap (origin c.args.dcel.now.mesh) c.loop-i.invariant.here ∙ c.requires.round.starts c.loop-i.i
 
 pub loop-i-preserved : goal.loop-i-preserved
 loop-i-preserved g c =
-    search_goes_on (λ h. face c.args.dcel.now.mesh (rev h) ≡ 0) (length c.args.dcel.now.directed) c.args.dcel.now.mesh c.args.first c.loop-i.i c.loop-i.edge c.edge_after-edge.result c.loop-i.invariant
-    (λ z. both_ways _ (c.is_outer.ensures.1 (ap (face c.args.dcel.now.mesh) (c.fix.ensures.value ∙ c.rev.ensures.index ∙ ap rev c.directed_edge.ensures.index) ∙ z)) c.if-is_outer.false) c.edge_after-edge.ensures.within c.edge_after-edge.ensures.value
+    search_goes_on (λ h. face c.args.dcel.now.mesh (rev h) ≡ 0)
+    (length c.args.dcel.now.directed) c.args.dcel.now.mesh c.args.first c.loop-i.i c.loop-i.edge
+    c.edge_after-edge.result c.loop-i.invariant
+    (λ z. both_ways _ (c.is_outer.ensures.1 (ap (face c.args.dcel.now.mesh) (c.fix.ensures.value
+    ∙ c.rev.ensures.index ∙ ap rev c.directed_edge.ensures.index) ∙ z)) c.if-is_outer.false)
+    c.edge_after-edge.ensures.within c.edge_after-edge.ensures.value
 
 pub returns-clause-none : goal.returns-clause-none
 returns-clause-none g c =
-    faces_inner c.args.dcel.now.mesh (origin c.args.dcel.now.mesh c.args.first) c.args.first c.args.count c.recall_invariant.ensures.whole.valid.sound c.requires.round
+    faces_inner c.args.dcel.now.mesh (origin c.args.dcel.now.mesh c.args.first) c.args.first
+    c.args.count c.recall_invariant.ensures.whole.valid.sound c.requires.round
     (λ i less. c.loop-i.invariant.none i (let e = c.loop-i-test.false in omega (arith, e, less)))

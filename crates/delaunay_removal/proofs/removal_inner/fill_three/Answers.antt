@@ -3,10 +3,16 @@ use Rattle.delaunay_removal.proofs.removal_inner.fill_three.Goals as goal
 
 pub isolate_vertex_and_fill_hole-requires : goal.isolate_vertex_and_fill_hole-requires
 isolate_vertex_and_fill_hole-requires g c =
-    border_read c.args.dcel.now.mesh c.args.vertex c.args.first c.edge_after-second.result c.edge_after-third.result c.opposite_side.result c.opposite_side-2.result c.opposite_side-3.result
-    c.recall_invariant.ensures.whole.valid.sound c.requires.wheel c.requires.starts c.edge_after-second.ensures.value c.edge_after-third.ensures.value c.opposite_side.ensures c.opposite_side-2.ensures c.opposite_side-3.ensures
+    border_read c.args.dcel.now.mesh c.args.vertex c.args.first c.edge_after-second.result
+    c.edge_after-third.result c.opposite_side.result c.opposite_side-2.result
+    c.opposite_side-3.result
+    c.recall_invariant.ensures.whole.valid.sound c.requires.wheel c.requires.starts
+    c.edge_after-second.ensures.value c.edge_after-third.ensures.value c.opposite_side.ensures
+    c.opposite_side-2.ensures c.opposite_side-3.ensures
 
 pub returns-clause-hole : goal.returns-clause-hole
 returns-clause-hole g c =
-    hole_read c.args.dcel.now c.isolate_vertex_and_fill_hole.new.self c.args.vertex c.args.first c.opposite_side.result c.opposite_side-2.result c.opposite_side-3.result
-    c.recall_invariant.ensures.whole.valid.sound c.requires.wheel c.opposite_side.ensures c.isolate_vertex_and_fill_hole.ensures.hole
+    hole_read c.args.dcel.now c.isolate_vertex_and_fill_hole.new.self c.args.vertex c.args.first
+    c.opposite_side.result c.opposite_side-2.result c.opposite_side-3.result
+    c.recall_invariant.ensures.whole.valid.sound c.requires.wheel c.opposite_side.ensures
+    c.isolate_vertex_and_fill_hole.ensures.hole

@@ -3,41 +3,51 @@ use Rattle.half_edge_mesh.specs.Mesh.{origin}
 use Rattle.half_edge_mesh.specs.Round.{neighbour}
 use Rattle.delaunay_removal.proofs.DataStays.{all_stands}
 use Rattle.delaunay_removal.proofs.InnerStars.{spokes_inner, ends_differ}
-use Rattle.delaunay_removal.proofs.Shrinking.{star_at, shrinking_goes_on, shrinking_stops, shrinking_ends}
+use Rattle.delaunay_removal.proofs.Shrinking.{star_at, shrinking_goes_on, shrinking_stops}
+use Rattle.delaunay_removal.proofs.Shrinking.{shrinking_ends}
 use Rattle.delaunay_removal.proofs.removal_inner.shrink_star.Goals as goal
 
 pub loop-count-init : goal.loop-count-init
 loop-count-init g c = record {
   contents = refl;
   star = c.requires.star;
-  beside = all_stands c.args.dcel.now (origin c.args.dcel.now.mesh c.args.first) c.args.turned.now.items;
+  beside =
+      all_stands c.args.dcel.now (origin c.args.dcel.now.mesh c.args.first) c.args.turned.now.items;
   room = c.requires.room c.args.first c.args.count c.requires.star.round;
 }
 
 pub find_convex-requires-clause-within : goal.find_convex-requires-clause-within
-find_convex-requires-clause-within g c = subst (λ (n : ℕ). c.loop-count.first < n) (sym c.recall_invariant.ensures.whole.fits.directed_fit) (c.loop-count.invariant.star.round.within 0)
+find_convex-requires-clause-within g c = subst (λ (n : ℕ). c.loop-count.first < n)
+    (sym c.recall_invariant.ensures.whole.fits.directed_fit)
+    (c.loop-count.invariant.star.round.within 0)
 
 pub turn_away-requires-clause-left : goal.turn_away-requires-clause-left
 turn_away-requires-clause-left g c =
     let w = c.recall_invariant.ensures.whole in
     let v = origin c.args.dcel.now.mesh c.args.first in
-    spokes_inner (map g.V.HasPosition.place c.loop-count.dcel.vertices) c.loop-count.dcel.mesh w.valid v c.in-Some.edge c.loop-count.count
-    (star_at g.V.HasPosition.place c.args.dcel.now c.loop-count.dcel v c.loop-count.first c.loop-count.count c.loop-count.invariant w c.in-Some.edge c.in-Some.ensures.place) 0
+    spokes_inner (map g.V.HasPosition.place c.loop-count.dcel.vertices) c.loop-count.dcel.mesh
+    w.valid v c.in-Some.edge c.loop-count.count
+    (star_at g.V.HasPosition.place c.args.dcel.now c.loop-count.dcel v c.loop-count.first
+    c.loop-count.count c.loop-count.invariant w c.in-Some.edge c.in-Some.ensures.place) 0
 
 pub turn_away-requires-clause-right : goal.turn_away-requires-clause-right
 turn_away-requires-clause-right g c =
     let w = c.recall_invariant.ensures.whole in
     let v = origin c.args.dcel.now.mesh c.args.first in
-    spokes_inner (map g.V.HasPosition.place c.loop-count.dcel.vertices) c.loop-count.dcel.mesh w.valid v c.in-Some.edge c.loop-count.count
-    (star_at g.V.HasPosition.place c.args.dcel.now c.loop-count.dcel v c.loop-count.first c.loop-count.count c.loop-count.invariant w c.in-Some.edge c.in-Some.ensures.place) 1
+    spokes_inner (map g.V.HasPosition.place c.loop-count.dcel.vertices) c.loop-count.dcel.mesh
+    w.valid v c.in-Some.edge c.loop-count.count
+    (star_at g.V.HasPosition.place c.args.dcel.now c.loop-count.dcel v c.loop-count.first
+    c.loop-count.count c.loop-count.invariant w c.in-Some.edge c.in-Some.ensures.place) 1
 
 pub turn_away-requires-clause-apart : goal.turn_away-requires-clause-apart
 turn_away-requires-clause-apart g c =
     let w = c.recall_invariant.ensures.whole in
     let v = origin c.args.dcel.now.mesh c.args.first in
     let many : 3 ≤ c.loop-count.count = let t = c.loop-count-test.true in omega (arith, t) in
-    ends_differ (map g.V.HasPosition.place c.loop-count.dcel.vertices) c.loop-count.dcel.mesh w.valid v c.in-Some.edge c.loop-count.count
-    (star_at g.V.HasPosition.place c.args.dcel.now c.loop-count.dcel v c.loop-count.first c.loop-count.count c.loop-count.invariant w c.in-Some.edge c.in-Some.ensures.place) many
+    ends_differ (map g.V.HasPosition.place c.loop-count.dcel.vertices) c.loop-count.dcel.mesh
+    w.valid v c.in-Some.edge c.loop-count.count
+    (star_at g.V.HasPosition.place c.args.dcel.now c.loop-count.dcel v c.loop-count.first
+    c.loop-count.count c.loop-count.invariant w c.in-Some.edge c.in-Some.ensures.place) many
 
 pub turn_away-requires-clause-room : goal.turn_away-requires-clause-room
 turn_away-requires-clause-room g c =
@@ -48,15 +58,28 @@ turn_away-requires-clause-room g c =
 pub loop-count-preserved : goal.loop-count-preserved
 loop-count-preserved g c =
     let turned = c.turn_away.ensures.turns in
-    shrinking_goes_on g.V.HasPosition.place c.args.dcel.now c.loop-count.dcel (origin c.args.dcel.now.mesh c.args.first) c.loop-count.first c.loop-count.count c.loop-count.invariant c.turn_away.ensures.whole
-    c.turn_away.new.dcel c.recall_invariant-in-Some.ensures.whole c.loop-count-test.true c.in-Some.edge c.in-Some.ensures.place c.in-Some.ensures.convex
-    turned.mesh turned.contents turned.triangles turned.outer (neighbour c.loop-count.dcel.mesh c.in-Some.edge 0, neighbour c.loop-count.dcel.mesh c.in-Some.edge 2) turned.beside
-    c.turn_away.new.turned.items (vec_len c.turn_away.new.turned) (vec_capacity c.turn_away.new.turned) turned.items turned.len turned.capacity
+    shrinking_goes_on g.V.HasPosition.place c.args.dcel.now c.loop-count.dcel
+    (origin c.args.dcel.now.mesh c.args.first) c.loop-count.first c.loop-count.count
+    c.loop-count.invariant c.turn_away.ensures.whole
+    c.turn_away.new.dcel c.recall_invariant-in-Some.ensures.whole c.loop-count-test.true
+    c.in-Some.edge c.in-Some.ensures.place c.in-Some.ensures.convex
+    turned.mesh turned.contents turned.triangles turned.outer (
+      neighbour c.loop-count.dcel.mesh
+          c.in-Some.edge 0,
+      neighbour c.loop-count.dcel.mesh c.in-Some.edge 2,
+    ) turned.beside
+    c.turn_away.new.turned.items (vec_len c.turn_away.new.turned)
+    (vec_capacity c.turn_away.new.turned) turned.items turned.len turned.capacity
 
 pub returns-in-None-clause-reduced : goal.returns-in-None-clause-reduced
 returns-in-None-clause-reduced g c =
-    shrinking_stops g.V.HasPosition.place c.args.dcel.now c.loop-count.dcel (origin c.args.dcel.now.mesh c.args.first) c.loop-count.first c.loop-count.count c.loop-count.invariant c.recall_invariant.ensures.whole c.loop-count-test.true c.in-None.ensures.none
+    shrinking_stops g.V.HasPosition.place c.args.dcel.now c.loop-count.dcel
+    (origin c.args.dcel.now.mesh c.args.first) c.loop-count.first c.loop-count.count
+    c.loop-count.invariant c.recall_invariant.ensures.whole c.loop-count-test.true
+    c.in-None.ensures.none
 
 pub returns-clause-reduced : goal.returns-clause-reduced
 returns-clause-reduced g c =
-    shrinking_ends g.V.HasPosition.place c.args.dcel.now c.loop-count.dcel (origin c.args.dcel.now.mesh c.args.first) c.loop-count.first c.loop-count.count c.loop-count.invariant c.recall_invariant-2.ensures.whole c.loop-count-test.false
+    shrinking_ends g.V.HasPosition.place c.args.dcel.now c.loop-count.dcel
+    (origin c.args.dcel.now.mesh c.args.first) c.loop-count.first c.loop-count.count
+    c.loop-count.invariant c.recall_invariant-2.ensures.whole c.loop-count-test.false

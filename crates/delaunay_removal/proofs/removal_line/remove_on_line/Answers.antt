@@ -4,8 +4,10 @@ use Rattle.delaunay_removal.proofs.DataDrops.{line_data_kept, line_renumbers}
 use Rattle.delaunay_removal.proofs.LeftFaces.{line_faces_leave}
 use Rattle.delaunay_removal.proofs.removal_line.remove_on_line.Goals as goal
 
-pub remove_when_degenerate-value-requires-clause-few : goal.remove_when_degenerate-value-requires-clause-few
-remove_when_degenerate-value-requires-clause-few g c = few_edges_of g.V.HasPosition.place c.args.dcel.now c.requires.kept c.requires.one_face c.args.vertex
+pub remove_when_degenerate-value-requires-clause-few :
+    goal.remove_when_degenerate-value-requires-clause-few
+remove_when_degenerate-value-requires-clause-few g c = few_edges_of g.V.HasPosition.place
+    c.args.dcel.now c.requires.kept c.requires.one_face c.args.vertex
 
 pub returns-clause-takes : goal.returns-clause-takes
 returns-clause-takes g c =
@@ -27,4 +29,7 @@ returns-clause-takes g c =
 
 pub returns-clause-edges : goal.returns-clause-edges
 returns-clause-edges g c =
-    line_renumbers c.args.dcel.now c.remove_when_degenerate-value.new.self (record { valid = c.requires.kept.valid; fits = c.requires.kept.fits }) c.recall_invariant.ensures.whole c.requires.one_face c.args.vertex c.remove_when_degenerate-value.result c.remove_when_degenerate-value.ensures.leaves
+    line_renumbers c.args.dcel.now c.remove_when_degenerate-value.new.self
+    (record { valid = c.requires.kept.valid; fits = c.requires.kept.fits })
+    c.recall_invariant.ensures.whole c.requires.one_face c.args.vertex
+    c.remove_when_degenerate-value.result c.remove_when_degenerate-value.ensures.leaves

@@ -5,7 +5,9 @@ use Rattle.delaunay_removal.proofs.star.count_edges.Goals as goal
 pub overflow_add-count : goal.overflow_add-count
 overflow_add-count g c =
     let w = c.recall_invariant.ensures.whole in
-    let few = counting_fits c.args.dcel.now.mesh w.valid c.args.first (subst (λ (n : ℕ). c.args.first < n) w.fits.directed_fit c.requires) c.loop-first.count c.loop-first.edge c.loop-first.invariant
+    let few = counting_fits c.args.dcel.now.mesh w.valid c.args.first
+    (subst (λ (n : ℕ). c.args.first < n) w.fits.directed_fit c.requires) c.loop-first.count
+    c.loop-first.edge c.loop-first.invariant
     (λ e. c.loop-first-test.true (c.index.ensures ∙ e ∙ sym c.index-in-loop-first.ensures)) in
     let small = c.recall_invariant.ensures.few_edges in
     let fit = w.fits.directed_fit in
@@ -14,7 +16,9 @@ overflow_add-count g c =
 pub loop-first-smaller : goal.loop-first-smaller
 loop-first-smaller g c =
     let w = c.recall_invariant.ensures.whole in
-    let few = counting_fits c.args.dcel.now.mesh w.valid c.args.first (subst (λ (n : ℕ). c.args.first < n) w.fits.directed_fit c.requires) c.loop-first.count c.loop-first.edge c.loop-first.invariant
+    let few = counting_fits c.args.dcel.now.mesh w.valid c.args.first
+    (subst (λ (n : ℕ). c.args.first < n) w.fits.directed_fit c.requires) c.loop-first.count
+    c.loop-first.edge c.loop-first.invariant
     (λ e. c.loop-first-test.true (c.index.ensures ∙ e ∙ sym c.index-in-loop-first.ensures)) in
     let fit = w.fits.directed_fit in
     omega (arith, few, fit)
@@ -22,12 +26,16 @@ loop-first-smaller g c =
 pub loop-first-preserved : goal.loop-first-preserved
 loop-first-preserved g c =
     let w = c.recall_invariant.ensures.whole in
-    counting_goes_on c.args.dcel.now.mesh w.valid c.args.first (subst (λ (n : ℕ). c.args.first < n) w.fits.directed_fit c.requires) c.loop-first.count c.loop-first.edge c.loop-first.invariant
+    counting_goes_on c.args.dcel.now.mesh w.valid c.args.first (subst (λ (n : ℕ). c.args.first < n)
+    w.fits.directed_fit c.requires) c.loop-first.count c.loop-first.edge c.loop-first.invariant
     (λ e. c.loop-first-test.true (c.index.ensures ∙ e ∙ sym c.index-in-loop-first.ensures))
-    c.edge_after-edge-in-loop-first.result (subst (λ (n : ℕ). c.edge_after-edge-in-loop-first.result < n) w.fits.directed_fit c.edge_after-edge-in-loop-first.ensures.within) c.edge_after-edge-in-loop-first.ensures.value
+    c.edge_after-edge-in-loop-first.result (subst (λ (n : ℕ). c.edge_after-edge-in-loop-first.result
+    < n) w.fits.directed_fit c.edge_after-edge-in-loop-first.ensures.within)
+    c.edge_after-edge-in-loop-first.ensures.value
 
 pub returns : goal.returns
 returns g c =
     let w = c.recall_invariant.ensures.whole in
-    counted c.args.dcel.now.mesh w.valid c.args.first (subst (λ (n : ℕ). c.args.first < n) w.fits.directed_fit c.requires) c.loop-first.count c.loop-first.edge c.loop-first.invariant
+    counted c.args.dcel.now.mesh w.valid c.args.first (subst (λ (n : ℕ). c.args.first < n)
+    w.fits.directed_fit c.requires) c.loop-first.count c.loop-first.edge c.loop-first.invariant
     (sym c.index.ensures ∙ c.loop-first-test.false ∙ c.index-in-loop-first.ensures)

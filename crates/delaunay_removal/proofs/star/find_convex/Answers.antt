@@ -5,9 +5,16 @@ use Rattle.delaunay_legalization.proofs.Questions.{both_ways}
 use Rattle.delaunay_removal.proofs.star.find_convex.Goals as goal
 
 pub loop-i-init : goal.loop-i-init
-loop-i-init g c = record { within = c.requires.within; here = refl; none = λ k less. absurd (omega (arith, less)) }
+loop-i-init g c = record {
+  within = c.requires.within;
+  here = refl;
+  none = λ k less. absurd (omega (arith, less));
+}
 
 pub loop-i-preserved : goal.loop-i-preserved
 loop-i-preserved g c =
-    search_goes_on (IsConvexAt (map g.V.HasPosition.place c.args.dcel.now.vertices) c.args.dcel.now.mesh) (length c.args.dcel.now.directed) c.args.dcel.now.mesh c.args.first c.loop-i.i c.loop-i.edge c.edge_after-edge.result c.loop-i.invariant
-    (λ x. both_ways _ (c.is_convex_at.ensures.1 x) c.if-is_convex_at.false) c.edge_after-edge.ensures.within c.edge_after-edge.ensures.value
+    search_goes_on (IsConvexAt (map g.V.HasPosition.place c.args.dcel.now.vertices)
+    c.args.dcel.now.mesh) (length c.args.dcel.now.directed) c.args.dcel.now.mesh c.args.first
+    c.loop-i.i c.loop-i.edge c.edge_after-edge.result c.loop-i.invariant
+    (λ x. both_ways _ (c.is_convex_at.ensures.1 x) c.if-is_convex_at.false)
+    c.edge_after-edge.ensures.within c.edge_after-edge.ensures.value

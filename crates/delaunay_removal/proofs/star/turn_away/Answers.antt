@@ -9,14 +9,21 @@ use Rattle.delaunay_removal.proofs.star.turn_away.Goals as goal
 pub flip_cw-requires-clause-flippable : goal.flip_cw-requires-clause-flippable
 flip_cw-requires-clause-flippable g c =
     let w = c.recall_invariant.ensures.whole in
-    subst (λ (k : ℕ). IsFlippable c.args.dcel.now.mesh (2 * k)) (sym (c.as_undirected.ensures ∙ ap (λ e. e / 2) c.edge_after-after.ensures.value))
-    (may_turn (map g.V.HasPosition.place c.args.dcel.now.vertices) c.args.dcel.now.mesh w.valid c.requires.shape c.args.edge (subst (λ (n : ℕ). c.args.edge < n) w.fits.directed_fit c.requires.within) c.requires.left c.requires.right c.requires.apart).0
+    subst (λ (k : ℕ). IsFlippable c.args.dcel.now.mesh (2 * k))
+    (sym (c.as_undirected.ensures ∙ ap (λ e. e / 2) c.edge_after-after.ensures.value))
+    (may_turn (map g.V.HasPosition.place c.args.dcel.now.vertices) c.args.dcel.now.mesh w.valid
+    c.requires.shape c.args.edge (subst (λ (n : ℕ). c.args.edge < n) w.fits.directed_fit
+    c.requires.within) c.requires.left c.requires.right c.requires.apart).0
 
 pub flip_cw-requires-clause-corners : goal.flip_cw-requires-clause-corners
 flip_cw-requires-clause-corners g c =
     let w = c.recall_invariant.ensures.whole in
-    subst (λ (k : ℕ). origin c.args.dcel.now.mesh (prev c.args.dcel.now.mesh (2 * k)) ≢ origin c.args.dcel.now.mesh (prev c.args.dcel.now.mesh (rev (2 * k)))) (sym (c.as_undirected.ensures ∙ ap (λ e. e / 2) c.edge_after-after.ensures.value))
-    (may_turn (map g.V.HasPosition.place c.args.dcel.now.vertices) c.args.dcel.now.mesh w.valid c.requires.shape c.args.edge (subst (λ (n : ℕ). c.args.edge < n) w.fits.directed_fit c.requires.within) c.requires.left c.requires.right c.requires.apart).1
+    subst (λ (k : ℕ). origin c.args.dcel.now.mesh (prev c.args.dcel.now.mesh (2 * k))
+    ≢ origin c.args.dcel.now.mesh (prev c.args.dcel.now.mesh (rev (2 * k))))
+    (sym (c.as_undirected.ensures ∙ ap (λ e. e / 2) c.edge_after-after.ensures.value))
+    (may_turn (map g.V.HasPosition.place c.args.dcel.now.vertices) c.args.dcel.now.mesh w.valid
+    c.requires.shape c.args.edge (subst (λ (n : ℕ). c.args.edge < n) w.fits.directed_fit
+    c.requires.within) c.requires.left c.requires.right c.requires.apart).1
 
 pub returns-clause-turns : goal.returns-clause-turns
 returns-clause-turns g c =
@@ -25,11 +32,16 @@ returns-clause-turns g c =
     record {
       mesh = c.flip_cw.ensures.mesh ∙ ap (λ (k : ℕ). flipped m (2 * k)) crossed;
       contents = c.flip_cw.ensures.contents;
-      triangles = subst (λ (k : ℕ). FlipsTriangles m c.flip_cw.new.self.mesh (2 * k)) crossed c.flip_cw.ensures.triangles;
+      triangles = subst (λ (k : ℕ). FlipsTriangles m c.flip_cw.new.self.mesh (2 * k)) crossed
+          c.flip_cw.ensures.triangles;
       outer = c.flip_cw.ensures.outer;
-      beside = turned_stands (map g.V.HasPosition.place c.args.dcel.now.vertices) c.args.dcel.now c.flip_cw.new.self c.recall_invariant.ensures.whole c.requires.shape c.args.edge c.requires.within c.requires.left c.requires.right c.requires.apart
-          c.as_undirected.result crossed c.flip_cw.ensures.mesh c.flip_cw.ensures.contents c.flip_cw.ensures.triangles;
-      items = c.push_reserved.ensures.items ∙ ap (λ (p : ℕ × ℕ). c.args.turned.now.items ++ p ∷ []) c.ends_beside.ensures;
+      beside = turned_stands (map g.V.HasPosition.place c.args.dcel.now.vertices) c.args.dcel.now
+          c.flip_cw.new.self c.recall_invariant.ensures.whole c.requires.shape c.args.edge
+          c.requires.within c.requires.left c.requires.right c.requires.apart
+          c.as_undirected.result crossed c.flip_cw.ensures.mesh c.flip_cw.ensures.contents
+          c.flip_cw.ensures.triangles;
+      items = c.push_reserved.ensures.items
+          ∙ ap (λ (p : ℕ × ℕ). c.args.turned.now.items ++ p ∷ []) c.ends_beside.ensures;
       len = c.push_reserved.ensures.len;
       capacity = c.push_reserved.ensures.capacity;
     }

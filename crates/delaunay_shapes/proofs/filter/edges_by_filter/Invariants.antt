@@ -4,4 +4,5 @@ use Rattle.delaunay_shapes.proofs.filter.edges_by_filter.Given as goal
 
 abbrev pub invariant-loop-index : goal.invariant-loop-index
 invariant-loop-index g l =
-    IsFilteredTo (IsInside (g.M.DistanceMetric.shape l.metric) g.V.HasPosition.place l.dcel) l.index l.edges.items
+    IsFilteredTo (IsInside (g.M.DistanceMetric.shape l.metric) g.V.HasPosition.place l.dcel)
+    l.index l.edges.items

@@ -4,7 +4,8 @@ use Rattle.plane.specs.Fraction.{whole}
 use Rattle.delaunay_core.specs.Place.{place_of}
 use Rattle.delaunay_shapes.specs.Known.{point_at}
 use Rattle.delaunay_shapes.proofs.Asking.{IsFilteredTo, filter_finds, filter_passes}
-use Rattle.delaunay_shapes.proofs.Handles.{end_covered, vertex_told, filtered_within, filtered_vertices}
+use Rattle.delaunay_shapes.proofs.Handles.{end_covered, vertex_told, filtered_within}
+use Rattle.delaunay_shapes.proofs.Handles.{filtered_vertices}
 use Rattle.delaunay_shapes.proofs.filter.vertices_by_filter.Goals.{then-is_point_inside+in_ok-push}
 use Rattle.delaunay_shapes.proofs.filter.vertices_by_filter.Goals.{else-is_point_inside}
 use Rattle.delaunay_shapes.proofs.filter.vertices_by_filter.Goals as goal
@@ -15,15 +16,19 @@ loop-index-preserved g c =
     (whole (point_at (map g.V.HasPosition.place c.args.dcel.now.vertices) i)) in
     let told = vertex_told g.V.HasPosition.place c.args.dcel c.is_point_inside.result
     (g.M.DistanceMetric.shape c.args.metric.now) c.vertex.result.dcel c.vertex.result.index
-    c.from_index-vertex.result (place_of g.V.Scalar.SpadeNum.whole c.position_of.result) c.vertex.ensures.dcel
+    c.from_index-vertex.result
+    (place_of g.V.Scalar.SpadeNum.whole c.position_of.result) c.vertex.ensures.dcel
     c.vertex.ensures.index c.position_of.ensures c.is_point_inside.ensures.inside in
     elim c.if-is_point_inside.branch [
-      | then-is_point_inside+in_ok-push w ↦ filter_finds Inside c.loop-index.index c.from_index-vertex.result
+      | then-is_point_inside+in_ok-push w ↦
+          filter_finds Inside c.loop-index.index c.from_index-vertex.result
           c.loop-index.vertices.items c.if-is_point_inside.vertices.items c.loop-index.invariant
           c.from_index-vertex.ensures (told.0 w.if-is_point_inside.true)
           (ap (λ x. x.items) w.vertices-is ∙ w.in_ok-push.ensures.items)
-      | else-is_point_inside w ↦ subst (λ (xs : List ℕ). IsFilteredTo Inside (c.loop-index.index + 1) xs)
-          (sym (ap (λ x. x.items) w.vertices-is)) (filter_passes Inside c.loop-index.index c.from_index-vertex.result
+      | else-is_point_inside w ↦
+          subst (λ (xs : List ℕ). IsFilteredTo Inside (c.loop-index.index + 1) xs)
+          (sym (ap (λ x. x.items) w.vertices-is))
+          (filter_passes Inside c.loop-index.index c.from_index-vertex.result
           c.loop-index.vertices.items c.loop-index.invariant c.from_index-vertex.ensures
           (λ p. let on = told.1 p in let off = w.if-is_point_inside.false in absurd (cc)))
     ]
@@ -48,7 +53,8 @@ returns g c =
       vertices = c.loop-index.vertices.items;
       listed = refl;
       exact = filtered_vertices (g.M.DistanceMetric.shape c.args.metric.now)
-          (map g.V.HasPosition.place c.args.dcel.now.vertices) c.loop-index.index (length c.args.dcel.now.vertices)
+          (map g.V.HasPosition.place c.args.dcel.now.vertices) c.loop-index.index
+          (length c.args.dcel.now.vertices)
           c.loop-index.vertices.items c.loop-index.invariant (omega (arith, fits, last, over))
           (sym (length-map c.args.dcel.now.vertices g.V.HasPosition.place));
     }
@@ -57,6 +63,7 @@ pub is_point_inside-requires : goal.is_point_inside-requires
 is_point_inside-requires g c =
     let at = place_of g.V.Scalar.SpadeNum.whole c.position_of.result in
     g.met.P.PlaneTests.covered_are_in_range c.args.tests.now at
-    (end_covered g.V.HasPosition.place c.args.dcel (g.P.PlaneTests.covered c.args.tests.now) c.args.dcel
+    (end_covered g.V.HasPosition.place c.args.dcel
+    (g.P.PlaneTests.covered c.args.tests.now) c.args.dcel
     c.vertex.result.dcel c.vertex.result.index at
     c.requires refl c.vertex.ensures.dcel c.vertex.result.in_range c.position_of.ensures)

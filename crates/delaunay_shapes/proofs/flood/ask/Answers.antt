@@ -7,24 +7,35 @@ use Rattle.delaunay_shapes.proofs.flood.ask.Goals as goal
 pub returns-in_ok-push : goal.returns-in_ok-push
 returns-in_ok-push g c =
     let told = edge_told g.V.HasPosition.place c.args.dcel c.is_handle_inside.result
-    (g.M.DistanceMetric.shape c.args.metric.now) c.undirected_edge.result.dcel c.undirected_edge.result.index
-    c.args.edge c.undirected_edge.ensures.dcel c.undirected_edge.ensures.index c.is_handle_inside.ensures.inside in
-    asked_inside (IsInside (g.M.DistanceMetric.shape c.args.metric.now) g.V.HasPosition.place c.args.dcel.now)
-    (length c.args.dcel.now.undirected) c.args.asked.now _ c.args.found.now.items c.push.new.self.items c.args.edge
+    (g.M.DistanceMetric.shape c.args.metric.now) c.undirected_edge.result.dcel
+    c.undirected_edge.result.index
+    c.args.edge c.undirected_edge.ensures.dcel c.undirected_edge.ensures.index
+    c.is_handle_inside.ensures.inside in
+    asked_inside (IsInside (g.M.DistanceMetric.shape c.args.metric.now) g.V.HasPosition.place
+    c.args.dcel.now)
+    (length c.args.dcel.now.undirected) c.args.asked.now _ c.args.found.now.items
+    c.push.new.self.items c.args.edge
     c.requires.flooding c.requires.within
-    (not_asked c.args.asked.now c.args.edge c.index-index.result c.is_marked.result c.index-index.ensures.value
+    (not_asked c.args.asked.now c.args.edge c.index-index.result c.is_marked.result
+    c.index-index.ensures.value
     c.if-is_marked.false c.is_marked.ensures) (told.0 c.if-is_handle_inside.true)
-    (marked_by c.args.asked.now c.mark.new.self c.args.edge c.index-index.result c.index-index.ensures.value
+    (marked_by c.args.asked.now c.mark.new.self c.args.edge c.index-index.result
+    c.index-index.ensures.value
     c.in_ok-mark.ensures) c.in_ok-push.ensures.items
 
 pub returns-else-is_handle_inside : goal.returns-else-is_handle_inside
 returns-else-is_handle_inside g c =
     let told = edge_told g.V.HasPosition.place c.args.dcel c.is_handle_inside.result
-    (g.M.DistanceMetric.shape c.args.metric.now) c.undirected_edge.result.dcel c.undirected_edge.result.index
-    c.args.edge c.undirected_edge.ensures.dcel c.undirected_edge.ensures.index c.is_handle_inside.ensures.inside in
-    asked_outside (IsInside (g.M.DistanceMetric.shape c.args.metric.now) g.V.HasPosition.place c.args.dcel.now)
-    (length c.args.dcel.now.undirected) c.args.asked.now _ c.args.found.now.items c.args.edge c.requires.flooding
+    (g.M.DistanceMetric.shape c.args.metric.now) c.undirected_edge.result.dcel
+    c.undirected_edge.result.index
+    c.args.edge c.undirected_edge.ensures.dcel c.undirected_edge.ensures.index
+    c.is_handle_inside.ensures.inside in
+    asked_outside (IsInside (g.M.DistanceMetric.shape c.args.metric.now) g.V.HasPosition.place
+    c.args.dcel.now)
+    (length c.args.dcel.now.undirected) c.args.asked.now _ c.args.found.now.items c.args.edge
+    c.requires.flooding
     c.requires.within
     (λ p. let on = told.1 p in let off = c.if-is_handle_inside.false in absurd (cc))
-    (marked_by c.args.asked.now c.mark.new.self c.args.edge c.index-index.result c.index-index.ensures.value
+    (marked_by c.args.asked.now c.mark.new.self c.args.edge c.index-index.result
+    c.index-index.ensures.value
     c.in_ok-mark.ensures)

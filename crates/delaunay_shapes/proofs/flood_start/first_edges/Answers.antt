@@ -12,7 +12,8 @@ use Rattle.delaunay_shapes.proofs.flood_start.first_edges.Goals as goal
 pub edges_at-requires-clause-covered : goal.edges_at-requires-clause-covered
 edges_at-requires-clause-covered g c =
     let t = c.args.tests.now in
-    all_are (g.P.PlaneTests.sites t) (g.P.PlaneTests.covered t) (g.met.P.PlaneTests.sites_are_covered t)
+    all_are (g.P.PlaneTests.sites t) (g.P.PlaneTests.covered t)
+    (g.met.P.PlaneTests.sites_are_covered t)
     (map g.V.HasPosition.place c.args.dcel.now.vertices) c.requires.sites
 
 pub returns : goal.returns
@@ -26,16 +27,19 @@ returns g c =
     let place = c.locate_with_hint.result in
     if_both (λ v. HasStarts (IsInside Shape at d) d.mesh v.items place)
     (λ v. All (λ e. e < length d.undirected) v.items)
-    (λ v. CanFlood (g.P.PlaneTests.covered t) (g.M.DistanceMetric.own_points c.args.metric.now) Shape at d v.items)
+    (λ v. CanFlood (g.P.PlaneTests.covered t)
+    (g.M.DistanceMetric.own_points c.args.metric.now) Shape at d v.items)
     c.edges_at.result
     (λ v starts within. record {
       own_covered = c.requires.own_covered;
-      covered = all_are (g.P.PlaneTests.sites t) (g.P.PlaneTests.covered t) (g.met.P.PlaneTests.sites_are_covered t)
+      covered = all_are (g.P.PlaneTests.sites t) (g.P.PlaneTests.covered t)
+          (g.met.P.PlaneTests.sites_are_covered t)
           (map at d.vertices) c.requires.sites;
       shape = kept.shape;
       region = region_of_start Shape start c.requires.begins;
       within = within;
-      begun = begun_by_starts (map at d.vertices) d.mesh kept.valid kept.shape Shape v.items start c.requires.begins
+      begun = begun_by_starts
+          (map at d.vertices) d.mesh kept.valid kept.shape Shape v.items start c.requires.begins
           place c.locate_with_hint.ensures starts (length d.undirected) kept.fits.undirected_fit;
     })
     c.edges_at.ensures.starts c.edges_at.ensures.within

@@ -12,13 +12,16 @@ loop-edge-init g c =
     let points = map g.V.HasPosition.place c.args.dcel.now.vertices in
     along_begins c.args.dcel (hull_left c.into_iter-edge-iterator.result) _ kept.valid
     (one_outline points c.args.dcel.now.mesh kept.valid kept.shape)
-    (subst (λ it. GivesOuterLoop c.args.dcel (hull_left it)) (sym c.into_iter-edge-iterator.ensures.into_iter_gives)
+    (subst (λ it. GivesOuterLoop c.args.dcel (hull_left it))
+    (sym c.into_iter-edge-iterator.ensures.into_iter_gives)
     c.convex_hull-edge-items.ensures)
 
 pub has_point_inside-requires-clause-within : goal.has_point_inside-requires-clause-within
 has_point_inside-requires-clause-within g c =
-    let o = along_next c.args.dcel.now.mesh _ (hull_left c.loop-edge.edge-iterator) c.loop-edge.invariant
-    (c.in-Some.edge.dcel, c.in-Some.edge.index) (hull_left c.next.new.self) c.in-Some.ensures.steps in
+    let o = along_next c.args.dcel.now.mesh _
+    (hull_left c.loop-edge.edge-iterator) c.loop-edge.invariant
+    (c.in-Some.edge.dcel, c.in-Some.edge.index)
+    (hull_left c.next.new.self) c.in-Some.ensures.steps in
     let w = o.0 in
     let fit = c.requires.kept.fits.directed_fit in
     let is = c.fix-edge.ensures.value in
@@ -26,7 +29,8 @@ has_point_inside-requires-clause-within g c =
 
 pub loop-edge-preserved : goal.loop-edge-preserved
 loop-edge-preserved g c =
-    let Inside = λ (h : ℕ). IsInside (g.M.DistanceMetric.shape c.args.metric.now) g.V.HasPosition.place c.args.dcel.now
+    let Inside = λ (h : ℕ). IsInside
+    (g.M.DistanceMetric.shape c.args.metric.now) g.V.HasPosition.place c.args.dcel.now
     (h / 2) in
     along_goes_on c.args.dcel.now.mesh (λ (h : ℕ). ¬ Inside h) (hull_left c.loop-edge.edge-iterator)
     c.loop-edge.invariant
@@ -36,8 +40,10 @@ loop-edge-preserved g c =
 
 pub returns-then-has_point_inside-clause-some : goal.returns-then-has_point_inside-clause-some
 returns-then-has_point_inside-clause-some g c =
-    let o = along_next c.args.dcel.now.mesh _ (hull_left c.loop-edge.edge-iterator) c.loop-edge.invariant
-    (c.in-Some.edge.dcel, c.in-Some.edge.index) (hull_left c.next.new.self) c.in-Some.ensures.steps in
+    let o = along_next c.args.dcel.now.mesh _
+    (hull_left c.loop-edge.edge-iterator) c.loop-edge.invariant
+    (c.in-Some.edge.dcel, c.in-Some.edge.index)
+    (hull_left c.next.new.self) c.in-Some.ensures.steps in
     let w = o.0 in
     let fit = c.requires.kept.fits.directed_fit in
     let is = c.fix-edge.ensures.value in

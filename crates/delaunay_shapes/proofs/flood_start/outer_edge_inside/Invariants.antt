@@ -6,6 +6,7 @@ use Rattle.delaunay_shapes.proofs.flood_start.outer_edge_inside.Given as goal
 
 abbrev pub invariant-loop-edge : goal.invariant-loop-edge
 invariant-loop-edge g l =
-    IsGoingAlong l.dcel.mesh (λ (h : ℕ). ¬ IsInside (g.M.DistanceMetric.shape l.metric) g.V.HasPosition.place l.dcel
+    IsGoingAlong l.dcel.mesh
+    (λ (h : ℕ). ¬ IsInside (g.M.DistanceMetric.shape l.metric) g.V.HasPosition.place l.dcel
     (h / 2))
     (indexes (hull_left l.edge-iterator))

@@ -17,5 +17,6 @@ returns-clause-starts g c =
     let third = c.fix-third.ensures.value ∙ c.as_undirected-3.ensures.index
     ∙ ap half (c.prev.ensures.index ∙ (λ t. prev (same t).now.mesh (index t))) in
     subst (λ starts. HasSides m starts (face_edge m c.args.face)) (sym c.in_ok-starts.ensures.items)
-    (three_sides m (face_edge m c.args.face) c.fix-first.result c.fix-second.result c.fix-third.result first second
+    (three_sides m (face_edge m c.args.face) c.fix-first.result c.fix-second.result
+    c.fix-third.result first second
     third)

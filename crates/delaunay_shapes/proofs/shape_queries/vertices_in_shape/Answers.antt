@@ -22,5 +22,6 @@ vertices_by_flood-requires g c =
     let IsCovered = g.P.PlaneTests.covered c.args.tests.now in
     let own = g.M.DistanceMetric.own_points c.args.metric.now in
     let Shape = g.M.DistanceMetric.shape c.args.metric.now in
-    subst (CanFlood IsCovered own Shape g.V.HasPosition.place c.args.dcel.now) (sym c.as_slice.ensures.value)
+    subst (CanFlood IsCovered own Shape g.V.HasPosition.place c.args.dcel.now)
+    (sym c.as_slice.ensures.value)
     c.in_ok-starts.ensures

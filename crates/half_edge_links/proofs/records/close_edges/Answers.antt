@@ -6,7 +6,8 @@ use Rattle.half_edge_links.proofs.records.close_edges.Goals as goal
 
 pub returns-clause-items : goal.returns-clause-items
 returns-clause-items c =
-    let n : c.len-n.result ≡ length (shown c.args.half_edges.now.items) = omega (arith, length_shown c.args.half_edges.now.items) in
+    let n : c.len-n.result ≡ length (shown c.args.half_edges.now.items) =
+    omega (arith, length_shown c.args.half_edges.now.items) in
     rw (
       c.push_reserved-2.ensures.items,
       c.push_reserved.ensures.items,
@@ -25,4 +26,5 @@ returns-clause-items c =
       c.origin-start_before.ensures,
       c.get-edge.ensures,
     ) (
-    shows_closed c.args.half_edges.now.items c.args.e c.args.after c.len-n.result c.args.g c.requires.joined (rw length_shown c.requires.within) n c.requires.after c.requires.apart)
+    shows_closed c.args.half_edges.now.items c.args.e c.args.after c.len-n.result c.args.g
+    c.requires.joined (rw length_shown c.requires.within) n c.requires.after c.requires.apart)

@@ -20,4 +20,5 @@ returns-clause-items c =
       c.origin-start_before.ensures,
       c.next-after_twin.ensures,
     ) (
-    shows_slid c.args.half_edges.now.items c.args.e c.args.t c.args.k c.args.l c.args.z c.requires.joined c.requires.places)
+    shows_slid c.args.half_edges.now.items c.args.e c.args.t c.args.k c.args.l c.args.z
+    c.requires.joined c.requires.places)

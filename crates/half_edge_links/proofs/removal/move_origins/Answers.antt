@@ -14,14 +14,24 @@ set_origin-requires-clause-joined c =
 
 pub returns-then-h-first-clause-moves : goal.returns-then-h-first-clause-moves
 returns-then-h-first-clause-moves c =
-    let at : c.reversed-h.result ≡ turn_of (with_origin (shown c.loop-i.half_edges.items) c.loop-i.h c.args.v) c.loop-i.h = cc in
-    rw c.set_origin.ensures.items (walk_ends _ (shown c.loop-i.half_edges.items) c.args.first c.args.v c.loop-i._i c.loop-i.h c.requires.walk c.loop-i.invariant.0 c.reversed-h.result at c.if-h-first.true)
+    let at : c.reversed-h.result ≡ turn_of
+    (with_origin (shown c.loop-i.half_edges.items) c.loop-i.h c.args.v) c.loop-i.h = cc in
+    rw c.set_origin.ensures.items
+    (walk_ends _ (shown c.loop-i.half_edges.items) c.args.first c.args.v c.loop-i._i c.loop-i.h
+    c.requires.walk c.loop-i.invariant.0 c.reversed-h.result at c.if-h-first.true)
 
 pub loop-i-preserved : goal.loop-i-preserved
 loop-i-preserved c =
-    let at : c.reversed-h.result ≡ turn_of (with_origin (shown c.loop-i.half_edges.items) c.loop-i.h c.args.v) c.loop-i.h = cc in
-    let w = walk_more _ (shown c.loop-i.half_edges.items) c.args.first c.args.v c.loop-i._i c.loop-i.h c.requires.walk c.loop-i.invariant.0 c.reversed-h.result at c.if-h-first.false in
-    (rw c.set_origin.ensures.items w, c.set_origin.ensures.capacity ∙ c.loop-i.invariant.1, c.loop-i.invariant.2)
+    let at : c.reversed-h.result ≡ turn_of
+    (with_origin (shown c.loop-i.half_edges.items) c.loop-i.h c.args.v) c.loop-i.h = cc in
+    let w = walk_more _ (shown c.loop-i.half_edges.items) c.args.first c.args.v c.loop-i._i
+    c.loop-i.h c.requires.walk c.loop-i.invariant.0 c.reversed-h.result at c.if-h-first.false in (
+      rw c.set_origin.ensures.items w,
+      c.set_origin.ensures.capacity ∙ c.loop-i.invariant.1,
+      c.loop-i.invariant.2,
+    )
 
 pub returns-clause-moves : goal.returns-clause-moves
-returns-clause-moves c = absurd (no_end _ (shown c.loop-i.half_edges.items) c.args.first c.args.v c.loop-i._i c.loop-i.h c.requires.walk c.loop-i.invariant.0 (rw length_shown c.requires.first) (omega (arith, c.loop-i.invariant.2, length_shown c.args.half_edges.now.items)))
+returns-clause-moves c = absurd (no_end _ (shown c.loop-i.half_edges.items) c.args.first c.args.v
+    c.loop-i._i c.loop-i.h c.requires.walk c.loop-i.invariant.0 (rw length_shown c.requires.first)
+    (omega (arith, c.loop-i.invariant.2, length_shown c.args.half_edges.now.items)))

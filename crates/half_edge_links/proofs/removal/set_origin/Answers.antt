@@ -4,4 +4,5 @@ use Rattle.half_edge_links.proofs.removal.set_origin.Goals as goal
 
 pub returns-clause-items : goal.returns-clause-items
 returns-clause-items c =
-    rw (c.set_corner.ensures.items, c.next-next.ensures) (shows_origin c.args.half_edges.now.items c.args.h c.args.v c.requires.joined (rw length_shown c.requires.within))
+    rw (c.set_corner.ensures.items, c.next-next.ensures) (shows_origin c.args.half_edges.now.items
+    c.args.h c.args.v c.requires.joined (rw length_shown c.requires.within))

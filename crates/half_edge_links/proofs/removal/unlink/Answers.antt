@@ -21,4 +21,5 @@ returns-clause-items c =
       c.get-edge.ensures,
       c.get-twin.ensures,
     ) (
-    shows_unlinked c.args.half_edges.now.items c.args.e c.args.t c.requires.joined c.requires.places)
+    shows_unlinked c.args.half_edges.now.items c.args.e c.args.t c.requires.joined
+    c.requires.places)

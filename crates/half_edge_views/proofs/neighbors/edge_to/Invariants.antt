@@ -9,5 +9,6 @@ invariant-loop g l = record {
   starts : origin l.mesh.mesh l.edge ≡ origin l.mesh.mesh l.fn.first;
   reached : l.edge ≡ spoke l.mesh.mesh l.fn.first l.counter;
   ends : l.end ≡ origin l.mesh.mesh (rev l.edge);
-  missed : (j : ℕ) → j < l.counter → origin l.mesh.mesh (rev (spoke l.mesh.mesh l.fn.first j)) ≢ l.to;
+  missed : (j : ℕ) → j < l.counter
+      → origin l.mesh.mesh (rev (spoke l.mesh.mesh l.fn.first j)) ≢ l.to;
 }

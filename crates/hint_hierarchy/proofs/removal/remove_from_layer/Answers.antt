@@ -12,7 +12,8 @@ remove-requires-then-insert g c =
     let number = g.S.SpadeNum.whole in
     let sites = g.P.PlaneTests.sites c.args.tests.now in
     all_from_each sites (positions number c.insert.new.self)
-    (sites_with sites (Contains (positions number c.args.layer.now)) (Contains (positions number c.insert.new.self))
+    (sites_with sites (Contains (positions number c.args.layer.now))
+    (Contains (positions number c.insert.new.self))
     (place_of number c.in-Some-None-Some.position)
     (λ p h. All-contains sites (positions number c.args.layer.now) p c.requires.sites h)
     (c.requires.swapped_site (place_of number c.in-Some-None-Some.position)
@@ -26,4 +27,5 @@ returns-then-insert g c = λ p h.
 
 pub returns-else-insert : goal.returns-else-insert
 returns-else-insert g c = λ p h.
-    ⊎_elim (λ o. inl o) (λ e. inr (rw c.in-Some-None-Some.is-2 (ap Some (sym e)))) (c.insert.ensures p h)
+    ⊎_elim (λ o. inl o) (λ e. inr (rw c.in-Some-None-Some.is-2 (ap Some (sym e))))
+    (c.insert.ensures p h)

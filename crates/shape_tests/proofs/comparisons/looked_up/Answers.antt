@@ -3,7 +3,8 @@ use Rattle.plane.specs.Tests.{InRange}
 use Rattle.delaunay_core.specs.Place.{place_of}
 use Rattle.shape_tests.proofs.comparisons.looked_up.Goals as goal
 
-pub edges_by_filter-edges-requires-clause-covered : goal.edges_by_filter-edges-requires-clause-covered
+pub edges_by_filter-edges-requires-clause-covered :
+    goal.edges_by_filter-edges-requires-clause-covered
 edges_by_filter-edges-requires-clause-covered g c =
     All-map InRange (place_of (λ z. z)) c.args.mesh.now.vertices c.requires.covered
 

@@ -5,7 +5,8 @@ use Rattle.triangulate_run.specs.declared.reply.Reply.TheVariants.{NoPath, Refus
 use Rattle.triangulate_run.specs.Engine.{ends_in}
 use Rattle.triangulate_run.specs.Output.{Writes}
 use Rattle.triangulate_run.specs.Reply.{path_text, reply_text}
-use Rattle.triangulate_run.proofs.Paths.{no_edges, some_edges, joins_none, joins_some, joins_refused, edges_within}
+use Rattle.triangulate_run.proofs.Paths.{no_edges, some_edges, joins_none, joins_some}
+use Rattle.triangulate_run.proofs.Paths.{joins_refused, edges_within}
 use Rattle.triangulate_run.proofs.constraints.constrain.Goals as goal
 
 pub returns-then-is_empty-clause-answered : goal.returns-then-is_empty-clause-answered
@@ -30,7 +31,8 @@ returns-in-Err-clause-answered g c = (
   inr (
     Refused OutOfMemory,
     joins_refused c.args.triangulation.now c.try_add_constraint.new.self c.args.from
-        c.args.to c.try_add_constraint.result c.in-Err.field-0 c.in-Err.is c.try_add_constraint.ensures.none
+        c.args.to c.try_add_constraint.result c.in-Err.field-0 c.in-Err.is
+        c.try_add_constraint.ensures.none
         c.requires.from_in c.requires.to_in c.in-Err.ensures.err,
     refl,
   ),
@@ -58,8 +60,10 @@ returns-else-is_empty-clause-answered g c =
     some_edges edges.items edges.len c.is_empty.result (omega (arith, edges.ok)) c.is_empty.ensures
     c.if-is_empty.false in
     let path = ends_in new.mesh edges.items in
-    let wrote = subst (λ (hs : List ℕ). Writes g.W.Write.contents c.args.writer.now c.write_path.new.writer
-    c.write_path.result (path_text (ends_in new.mesh hs))) c.as_slice.ensures.value c.write_path.ensures in (
+    let wrote =
+    subst (λ (hs : List ℕ). Writes g.W.Write.contents c.args.writer.now c.write_path.new.writer
+    c.write_path.result
+    (path_text (ends_in new.mesh hs))) c.as_slice.ensures.value c.write_path.ensures in (
       path_text path,
       inl (
         path,

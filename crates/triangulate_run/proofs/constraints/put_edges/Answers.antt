@@ -16,10 +16,12 @@ loop-edge-preserved g c =
     let put = c.in_ok-put_edge.ensures in
     let m = c.args.triangulation.now.mesh in
     let here = subst (λ (h : ℕ). Passes (g.W.Write.contents (inner_of c.loop-edge.writer))
-    (g.W.Write.contents (inner_of c.put_edge.new.writer)) c.loop-edge.held.items c.put_edge.new.held.items
+    (g.W.Write.contents (inner_of c.put_edge.new.writer)) c.loop-edge.held.items
+    c.put_edge.new.held.items
     (edge_piece m h)) c.edge-item.is put.0 in
     record {
-      so_far = passes_at (edge_piece m) c.args.path.now c.loop-edge.edge-index c.edge-item.result _ _ _ _ _ _
+      so_far = passes_at
+          (edge_piece m) c.args.path.now c.loop-edge.edge-index c.edge-item.result _ _ _ _ _ _
           c.loop-edge-test.true c.loop-edge.invariant.so_far here;
       works = put.1;
     }
@@ -30,13 +32,15 @@ returns-in_err-put_edge g c =
     let put = c.in_err-put_edge.ensures in
     let m = c.args.triangulation.now.mesh in
     let here = subst (λ (h : ℕ). AppendsPart (g.W.Write.contents (inner_of c.loop-edge.writer))
-    (g.W.Write.contents (inner_of c.put_edge.new.writer)) (c.loop-edge.held.items ++ edge_piece m h))
+    (g.W.Write.contents (inner_of c.put_edge.new.writer))
+    (c.loop-edge.held.items ++ edge_piece m h))
     c.edge-item.is put.0 in
     rw p.1 (
       subst (λ (t : List ℕ). AppendsPart (g.W.Write.contents (inner_of c.args.writer.now))
           (g.W.Write.contents (inner_of c.put_edge.new.writer)) (c.args.held.now.items ++ t))
           (pieces_text m c.args.path.now)
-          (part_at (edge_piece m) c.args.path.now c.loop-edge.edge-index c.edge-item.result _ _ _ _ _
+          (part_at (edge_piece m) c.args.path.now c.loop-edge.edge-index
+          c.edge-item.result _ _ _ _ _
           c.loop-edge-test.true c.loop-edge.invariant.so_far here),
       put.1,
     )
@@ -47,7 +51,8 @@ returns g c =
     let path = c.args.path.now in
     let all = take_all c.loop-edge.edge-index path c.loop-edge-test.false in (
       subst (λ (t : List ℕ). Passes (g.W.Write.contents (inner_of c.args.writer.now))
-          (g.W.Write.contents (inner_of c.loop-edge.writer)) c.args.held.now.items c.loop-edge.held.items t)
+          (g.W.Write.contents (inner_of c.loop-edge.writer)) c.args.held.now.items
+          c.loop-edge.held.items t)
           (ap (flat_map (edge_piece m)) all ∙ pieces_text m path) c.loop-edge.invariant.so_far,
       c.loop-edge.invariant.works,
     )

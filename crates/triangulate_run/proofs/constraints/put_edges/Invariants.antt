@@ -7,7 +7,8 @@ use Rattle.triangulate_run.proofs.constraints.put_edges.Given as goal
 
 abbrev pub invariant-loop-edge : goal.invariant-loop-edge
 invariant-loop-edge g l = record {
-  so_far : Passes (g.W.Write.contents (inner_of l.fn.writer)) (g.W.Write.contents (inner_of l.writer))
-      l.fn.held.items l.held.items (flat_map (edge_piece l.triangulation.mesh) (take l.edge-index l.path));
+  so_far : Passes (g.W.Write.contents (inner_of l.fn.writer))
+      (g.W.Write.contents (inner_of l.writer)) l.fn.held.items l.held.items
+      (flat_map (edge_piece l.triangulation.mesh) (take l.edge-index l.path));
   works : has_failed l.writer ≡ false;
 }

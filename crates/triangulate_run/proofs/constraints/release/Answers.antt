@@ -18,7 +18,8 @@ returns-in-Ok-true-clause-reply g c =
     let h = c.in-Some.edge.index in
     let within = subst (λ s. h < length s.directed) is.0 c.in-Some.edge.in_range in
     let half = c.as_undirected-edge.ensures ∙ ap (λ (k : ℕ). k / 2) c.fix.ensures.value in
-    is_released old c.remove_constraint_edge.new.self c.recall_invariant.ensures.kept c.args.from c.args.to h within
+    is_released old c.remove_constraint_edge.new.self c.recall_invariant.ensures.kept c.args.from
+    c.args.to h within
     is.1 is.2 c.as_undirected-edge.result half
     c.remove_constraint_edge.result c.remove_constraint_edge.ensures.releases
     (c.in-Ok-true.is ∙ ap Ok c.in-Ok-true.field-0-test)
@@ -30,7 +31,8 @@ returns-in-Ok-false-clause-reply g c =
     let h = c.in-Some.edge.index in
     let within = subst (λ s. h < length s.directed) is.0 c.in-Some.edge.in_range in
     let half = c.as_undirected-edge.ensures ∙ ap (λ (k : ℕ). k / 2) c.fix.ensures.value in
-    is_none old c.remove_constraint_edge.new.self c.recall_invariant.ensures.kept c.args.from c.args.to h within
+    is_none old c.remove_constraint_edge.new.self c.recall_invariant.ensures.kept c.args.from
+    c.args.to h within
     is.1 is.2 c.as_undirected-edge.result half
     c.remove_constraint_edge.result c.remove_constraint_edge.ensures.releases
     (c.in-Ok-false.is ∙ ap Ok c.in-Ok-false.field-0-test)
@@ -42,6 +44,8 @@ returns-in-Err-clause-reply g c =
     let h = c.in-Some.edge.index in
     let within = subst (λ s. h < length s.directed) is.0 c.in-Some.edge.in_range in
     let half = c.as_undirected-edge.ensures ∙ ap (λ (k : ℕ). k / 2) c.fix.ensures.value in
-    not_released old c.remove_constraint_edge.new.self c.recall_invariant.ensures.kept c.args.from c.args.to h
+    not_released old c.remove_constraint_edge.new.self c.recall_invariant.ensures.kept
+    c.args.from c.args.to h
     within is.1 is.2 c.as_undirected-edge.result half
-    c.remove_constraint_edge.result c.remove_constraint_edge.ensures.releases c.in-Err.field-0 c.in-Err.is
+    c.remove_constraint_edge.result c.remove_constraint_edge.ensures.releases
+    c.in-Err.field-0 c.in-Err.is

@@ -22,8 +22,10 @@ loop-item-preserved g c =
     record {
       ready = c.in-Some.ensures.goes.keeps;
       so_far = puts_one position (λ z. z) (g.W.Write.contents (inner_of c.args.writer.now))
-          (g.W.Write.contents (inner_of c.loop-item.writer)) (g.W.Write.contents (inner_of c.put_item.new.writer))
-          c.args.held.now.items c.loop-item.held.items c.put_item.new.held.items c.args.line.now c.loop-item.line
+          (g.W.Write.contents (inner_of c.loop-item.writer))
+          (g.W.Write.contents (inner_of c.put_item.new.writer))
+          c.args.held.now.items c.loop-item.held.items c.put_item.new.held.items c.args.line.now
+          c.loop-item.line
           c.next.new.self i.so_far c.in-Some.item c.in-Some.ensures.steps put.0;
       works = put.1;
     }
@@ -34,17 +36,22 @@ returns-in_err-put_item g c =
     let put = c.in_err-put_item.ensures in
     rw p.1 (λ items left. (
       puts_part position (λ z. z) (g.W.Write.contents (inner_of c.args.writer.now))
-          (g.W.Write.contents (inner_of c.loop-item.writer)) (g.W.Write.contents (inner_of c.put_item.new.writer))
-          c.args.held.now.items c.loop-item.held.items c.put_item.new.held.items c.args.line.now c.loop-item.line
-          c.next.new.self c.loop-item.invariant.so_far c.in-Some.item c.in-Some.ensures.steps put.0 items left,
+          (g.W.Write.contents (inner_of c.loop-item.writer))
+          (g.W.Write.contents (inner_of c.put_item.new.writer))
+          c.args.held.now.items c.loop-item.held.items c.put_item.new.held.items c.args.line.now
+          c.loop-item.line
+          c.next.new.self c.loop-item.invariant.so_far c.in-Some.item c.in-Some.ensures.steps
+          put.0 items left,
       put.1,
     ))
 
 pub returns : goal.returns
 returns g c = λ items left. (
   puts_end position (λ z. z) (g.W.Write.contents (inner_of c.args.writer.now))
-      (g.W.Write.contents (inner_of c.loop-item.writer)) (g.W.Write.contents (inner_of c.loop-item.writer))
-      c.args.held.now.items c.loop-item.held.items c.loop-item.held.items c.args.line.now c.loop-item.line
+      (g.W.Write.contents (inner_of c.loop-item.writer))
+      (g.W.Write.contents (inner_of c.loop-item.writer))
+      c.args.held.now.items c.loop-item.held.items c.loop-item.held.items c.args.line.now
+      c.loop-item.line
       c.next.new.self c.loop-item.invariant.so_far c.in_default.ensures.steps items left,
   c.loop-item.invariant.works,
 )

@@ -5,7 +5,8 @@ use Rattle.triangulate_run.specs.Output.{AppendsPart, Writes}
 use Rattle.triangulate_run.specs.Reply.{line_text}
 use Rattle.triangulate_run.specs.Stage.{position}
 use Rattle.triangulate_run.proofs.OutputLemmas.{writes_held}
-use Rattle.triangulate_run.proofs.Walks.{line_none, line_first_fails, line_others_fail, line_end_fails, line_passed}
+use Rattle.triangulate_run.proofs.Walks.{line_none, line_first_fails, line_others_fail}
+use Rattle.triangulate_run.proofs.Walks.{line_end_fails, line_passed}
 use Rattle.triangulate_run.proofs.line.write_items.Goals as goal
 
 pub returns-in_default : goal.returns-in_default
@@ -29,7 +30,8 @@ returns-in_err-put_item g c =
 
 pub returns-in_err-put_items : goal.returns-in_err-put_items
 returns-in_err-put_items g c =
-    let p = err_from_is_err_and c.from_residual-in_err-put_items.result c.from_residual-in_err-put_items.ensures.1 in
+    let p = err_from_is_err_and c.from_residual-in_err-put_items.result
+    c.from_residual-in_err-put_items.ensures.1 in
     let put = c.in_err-put_items.ensures in
     let ready = c.in-Some.ensures.goes.keeps in
     let old = g.W.Write.contents (inner_of c.args.writer.now) in
@@ -49,30 +51,38 @@ put_pieces-requires g c = let ready = c.in-Some.ensures.goes.keeps in
 
 pub returns-in_err-put_pieces : goal.returns-in_err-put_pieces
 returns-in_err-put_pieces g c =
-    let p = err_from_is_err_and c.from_residual-in_err-put_pieces.result c.from_residual-in_err-put_pieces.ensures.1 in
+    let p = err_from_is_err_and c.from_residual-in_err-put_pieces.result
+    c.from_residual-in_err-put_pieces.ensures.1 in
     let put = c.in_err-put_pieces.ensures in
     let old = g.W.Write.contents (inner_of c.args.writer.now) in
     let new = g.W.Write.contents (inner_of c.put_pieces.new.writer) in
     rw p.1 (λ items left. (
       subst (λ (ys : List ℕ). AppendsPart old new (ys ++ line_text items)) c.new-held.ensures
-          (line_end_fails position (λ z. z) c.args.line.now c.next.new.self c.in-Some.first c.in-Some.ensures.steps
+          (line_end_fails position
+          (λ z. z) c.args.line.now c.next.new.self c.in-Some.first c.in-Some.ensures.steps
           old (g.W.Write.contents (inner_of c.put_item.new.writer))
           (g.W.Write.contents (inner_of c.put_items.new.writer)) new
           c.new-held.result.items c.put_item.new.held.items c.put_items.new.held.items
-          c.in_ok-put_item.ensures.0 (λ others rest. (c.in_ok-put_items.ensures others rest).0) put.0 items left),
+          c.in_ok-put_item.ensures.0
+          (λ others rest. (c.in_ok-put_items.ensures others rest).0) put.0 items left),
       put.1,
     ))
 
 pub returns : goal.returns
 returns g c = λ items left.
-    let wrote = subst (λ (ys : List ℕ). Writes g.W.Write.contents c.put_pieces.new.writer c.write_all-2.new.writer
+    let wrote = subst
+    (λ (ys : List ℕ). Writes g.W.Write.contents c.put_pieces.new.writer c.write_all-2.new.writer
     c.write_all-2.result ys) c.as_slice.ensures.value c.write_all-2.ensures in
     writes_held {W = g.row.W.Denot} g.W.Write.contents c.args.writer.now c.put_pieces.new.writer
-    c.write_all-2.new.writer c.write_all-2.result c.new-held.result.items c.put_pieces.new.held.items
+    c.write_all-2.new.writer c.write_all-2.result c.new-held.result.items
+    c.put_pieces.new.held.items
     (line_text items) c.new-held.ensures
-    (line_passed position (λ z. z) c.args.line.now c.next.new.self c.in-Some.first c.in-Some.ensures.steps
-    (g.W.Write.contents (inner_of c.args.writer.now)) (g.W.Write.contents (inner_of c.put_item.new.writer))
-    (g.W.Write.contents (inner_of c.put_items.new.writer)) (g.W.Write.contents (inner_of c.put_pieces.new.writer))
+    (line_passed position
+    (λ z. z) c.args.line.now c.next.new.self c.in-Some.first c.in-Some.ensures.steps
+    (g.W.Write.contents (inner_of c.args.writer.now))
+    (g.W.Write.contents (inner_of c.put_item.new.writer))
+    (g.W.Write.contents (inner_of c.put_items.new.writer))
+    (g.W.Write.contents (inner_of c.put_pieces.new.writer))
     c.new-held.result.items c.put_item.new.held.items c.put_items.new.held.items
     c.in_ok-put_item.ensures.0 (λ others rest. (c.in_ok-put_items.ensures others rest).0)
     c.put_pieces.new.held.items c.in_ok-put_pieces.ensures.0 items left) wrote

@@ -7,7 +7,8 @@ use Rattle.triangulate_run.proofs.line.write_line.Goals as goal
 pub returns : goal.returns
 returns g c =
     let line = c.new-line.ensures.line in
-    let from = listed_if_known c.args.points.now (position c.args.from) c.index_of.result c.if-is_none.ensures
+    let from = listed_if_known c.args.points.now
+    (position c.args.from) c.index_of.result c.if-is_none.ensures
     c.index_of.ensures in
     let to = listed_if_known c.args.points.now (position c.args.to) c.index_of-else-is_none.result
     c.if-is_none-2.ensures c.index_of-else-is_none.ensures in (

@@ -1,4 +1,5 @@
-use Rattle.std.proofs.Common.{◌≡◌, ◌∙◌, ◌+◌, length, map, ap, sym, subst, arith, rules, SFits, w64, to_z-of_z}
+use Rattle.std.proofs.Common.{◌≡◌, ◌∙◌, ◌+◌}
+use Rattle.std.proofs.Common.{length, map, ap, sym, subst, arith, rules, SFits, w64, to_z-of_z}
 use Rattle.std.specs.Prelude.{ℤ, slice_get, Some}
 use Rattle.std.proofs.lemmas.List.{length-map}
 use Rattle.plane.specs.Fraction.{whole}
@@ -6,7 +7,8 @@ use Rattle.plane.specs.Circle.{gap}
 use Rattle.delaunay_legalization.specs.State.{triangulation_of}
 use Rattle.delaunay_edit.proofs.Removing.{read_place}
 use Rattle.triangulate_run.specs.Stage.{position}
-use Rattle.triangulate_run.proofs.Distances.{IsLeastBefore, IsLesser, vertex_in_range, least_goes_on, least_found}
+use Rattle.triangulate_run.proofs.Distances.{IsLeastBefore, IsLesser, vertex_in_range}
+use Rattle.triangulate_run.proofs.Distances.{least_goes_on, least_found}
 use Rattle.triangulate_run.proofs.nearest.least_distance.Goals as goal
 
 pub distance_2-requires-clause-other_in_range : goal.distance_2-requires-clause-other_in_range
@@ -16,9 +18,15 @@ distance_2-requires-clause-other_in_range g c =
     let dcel = c.vertex-vertex.result.dcel.now in
     let here : slice_get vs i ≡ Some c.data.result.now =
     ap (λ s. slice_get s.vertices i) (sym c.vertex-vertex.ensures.state)
-    ∙ ap (slice_get dcel.vertices) (sym (c.vertex-vertex.ensures.index ∙ c.from_index.ensures)) ∙ c.data.ensures in
+    ∙ ap (slice_get dcel.vertices) (sym (c.vertex-vertex.ensures.index ∙ c.from_index.ensures))
+    ∙ c.data.ensures in
     vertex_in_range vs i c.data.result.now
-    (omega (arith, length-map vs position, c.loop-index-test.true, c.num_vertices-index-end.ensures.value)) here
+    (omega (
+      arith,
+      length-map vs position,
+      c.loop-index-test.true,
+      c.num_vertices-index-end.ensures.value,
+    )) here
     c.recall_invariant.ensures.in_range
 
 pub loop-index-preserved : goal.loop-index-preserved
@@ -28,9 +36,12 @@ loop-index-preserved g c =
     let i = c.loop-index.index in
     let v = c.data.result.now in
     let dcel = c.vertex-vertex.result.dcel.now in
-    let here : slice_get vs i ≡ Some v = ap (λ s. slice_get s.vertices i) (sym c.vertex-vertex.ensures.state)
-    ∙ ap (slice_get dcel.vertices) (sym (c.vertex-vertex.ensures.index ∙ c.from_index.ensures)) ∙ c.data.ensures in
-    let is = c.distance_2.ensures ∙ ap (λ q. gap (whole p) (whole q)) (sym (read_place position vs i v here)) in
+    let here : slice_get vs i ≡ Some v =
+    ap (λ s. slice_get s.vertices i) (sym c.vertex-vertex.ensures.state)
+    ∙ ap (slice_get dcel.vertices) (sym (c.vertex-vertex.ensures.index ∙ c.from_index.ensures))
+    ∙ c.data.ensures in
+    let is = c.distance_2.ensures
+    ∙ ap (λ q. gap (whole p) (whole q)) (sym (read_place position vs i v here)) in
     let fits : SFits w64 c.distance_2.result = search rules in
     let lesser = subst (λ (d : ℤ). IsLesser c.loop-index.least d c.lesser.result)
     (to_z-of_z {w = w64} {z = c.distance_2.result} fits) c.lesser.ensures in
@@ -39,11 +50,18 @@ loop-index-preserved g c =
     (sym (to_z-of_z {w = w64} {z = c.lesser.result} stays))
     (least_goes_on (map position vs) p i c.loop-index.least c.distance_2.result c.lesser.result
     c.loop-index.invariant
-    (omega (arith, length-map vs position, c.loop-index-test.true, c.num_vertices-index-end.ensures.value)) is lesser)
+    (omega (
+      arith,
+      length-map vs position,
+      c.loop-index-test.true,
+      c.num_vertices-index-end.ensures.value,
+    )) is lesser)
 
 pub returns : goal.returns
 returns g c =
     let s = g.T.Triangulation.state c.args.triangulation.now in
-    least_found (triangulation_of position s) (position c.args.point) c.loop-index.index (length s.vertices)
+    least_found (triangulation_of position s) (position c.args.point) c.loop-index.index
+    (length s.vertices)
     c.loop-index.least (sym (length-map s.vertices position))
-    (omega (arith, c.loop-index-test.false, c.num_vertices-index-end.ensures.value)) c.loop-index.invariant
+    (omega (arith, c.loop-index-test.false, c.num_vertices-index-end.ensures.value))
+    c.loop-index.invariant

@@ -5,4 +5,5 @@ use Rattle.triangulate_run.proofs.nearest.least_distance.Given as goal
 
 abbrev pub invariant-loop-index : goal.invariant-loop-index
 invariant-loop-index g l =
-    IsLeastSoFar (map position (g.T.Triangulation.state l.triangulation).vertices) (position l.point) l.index l.least
+    IsLeastSoFar (map position (g.T.Triangulation.state l.triangulation).vertices)
+    (position l.point) l.index l.least

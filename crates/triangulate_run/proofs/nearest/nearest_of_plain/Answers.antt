@@ -11,7 +11,8 @@ use Rattle.triangulate_run.proofs.nearest.nearest_of_plain.Goals as goal
 pub distance_2-requires-clause-in_range : goal.distance_2-requires-clause-in_range
 distance_2-requires-clause-in_range g c =
     let p = position c.args.point in
-    let listed = listed_if_known c.args.points.now p c.index_of.result c.if-is_none.ensures c.index_of.ensures in
+    let listed = listed_if_known c.args.points.now p c.index_of.result c.if-is_none.ensures
+    c.index_of.ensures in
     g.met.P.PlaneTests.covered_are_in_range c.args.tests.now p
     (covered_if_listed (g.P.PlaneTests.covered c.args.tests.now) c.args.points.now p
     c.requires.ready.points_covered listed)
@@ -22,7 +23,8 @@ distance_2-requires-clause-other_in_range g c =
     let i = c.in-Some.vertex.index in
     let v = c.data.result.now in
     vertex_in_range vertices i v c.in-Some.ensures.1.is_vertex
-    (subst (λ vs. slice_get vs i ≡ Some v) (ap (λ s. s.vertices) c.in-Some.ensures.0) c.data.ensures)
+    (subst (λ vs. slice_get vs i ≡ Some v)
+    (ap (λ s. s.vertices) c.in-Some.ensures.0) c.data.ensures)
     c.recall_invariant.ensures.in_range
 
 pub returns-in-Some : goal.returns-in-Some
@@ -32,9 +34,11 @@ returns-in-Some g c =
     let v = c.data.result.now in
     let d = c.distance_2.result in
     let t = triangulation_of position c.args.triangulation.now in
-    let listed = listed_if_known c.args.points.now p c.index_of.result c.if-is_none.ensures c.index_of.ensures in
+    let listed = listed_if_known c.args.points.now p c.index_of.result c.if-is_none.ensures
+    c.index_of.ensures in
     let at = read_place position c.args.triangulation.now.vertices i v
-    (subst (λ vs. slice_get vs i ≡ Some v) (ap (λ s. s.vertices) c.in-Some.ensures.0) c.data.ensures) in
+    (subst (λ vs. slice_get vs i ≡ Some v)
+    (ap (λ s. s.vertices) c.in-Some.ensures.0) c.data.ensures) in
     let fits : SFits w64 d = search rules in (
       listed,
       subst (IsLeastDistance t p) (sym (to_z-of_z {w = w64} {z = d} fits))
@@ -44,5 +48,6 @@ returns-in-Some g c =
 pub nearest_neighbor-requires-clause-covered : goal.nearest_neighbor-requires-clause-covered
 nearest_neighbor-requires-clause-covered g c =
     let p = position c.args.point in
-    covered_if_listed (g.P.PlaneTests.covered c.args.tests.now) c.args.points.now p c.requires.ready.points_covered
+    covered_if_listed (g.P.PlaneTests.covered c.args.tests.now) c.args.points.now p
+    c.requires.ready.points_covered
     (listed_if_known c.args.points.now p c.index_of.result c.if-is_none.ensures c.index_of.ensures)

@@ -16,7 +16,8 @@ pub loop-piece-preserved : goal.loop-piece-preserved
 loop-piece-preserved g c =
     let put = c.in_ok-put_piece.ensures in
     record {
-      so_far = passes_at text_of c.args.pieces.now c.loop-piece.piece-index _ _ _ _ _ _ _ c.loop-piece-test.true
+      so_far = passes_at text_of c.args.pieces.now c.loop-piece.piece-index _ _ _ _ _ _ _
+          c.loop-piece-test.true
           c.loop-piece.invariant.so_far put.0;
       works = put.1;
     }
@@ -35,7 +36,8 @@ pub returns : goal.returns
 returns g c =
     let all = take_all c.loop-piece.piece-index c.args.pieces.now c.loop-piece-test.false in (
       subst (λ (ys : List Piece). Passes (g.W.Write.contents (inner_of c.args.writer.now))
-          (g.W.Write.contents (inner_of c.loop-piece.writer)) c.args.held.now.items c.loop-piece.held.items
+          (g.W.Write.contents (inner_of c.loop-piece.writer)) c.args.held.now.items
+          c.loop-piece.held.items
           (flat_map text_of ys)) all c.loop-piece.invariant.so_far,
       c.loop-piece.invariant.works,
     )

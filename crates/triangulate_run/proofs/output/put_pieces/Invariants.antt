@@ -7,7 +7,8 @@ use Rattle.triangulate_run.proofs.output.put_pieces.Given as goal
 
 abbrev pub invariant-loop-piece : goal.invariant-loop-piece
 invariant-loop-piece g l = record {
-  so_far : Passes (g.W.Write.contents (inner_of l.fn.writer)) (g.W.Write.contents (inner_of l.writer)) l.fn.held.items
-      l.held.items (flat_map text_of (take l.piece-index l.pieces));
+  so_far : Passes (g.W.Write.contents (inner_of l.fn.writer))
+      (g.W.Write.contents (inner_of l.writer)) l.fn.held.items l.held.items
+      (flat_map text_of (take l.piece-index l.pieces));
   works : has_failed l.writer ≡ false;
 }

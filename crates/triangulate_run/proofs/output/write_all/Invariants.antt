@@ -6,7 +6,8 @@ use Rattle.triangulate_run.proofs.output.write_all.Given as goal
 abbrev pub invariant-loop-written : goal.invariant-loop-written
 invariant-loop-written g l = record {
   within : l.written ≤ length l.bytes;
-  so_far : Appends (g.W.Write.contents (inner_of l.fn.writer)) (g.W.Write.contents (inner_of l.writer)) (take l.written l.bytes);
+  so_far : Appends (g.W.Write.contents (inner_of l.fn.writer))
+      (g.W.Write.contents (inner_of l.writer)) (take l.written l.bytes);
   works : has_failed l.writer ≡ false;
 }
 

@@ -35,8 +35,11 @@ pub returns : goal.returns
 returns g c =
     let faces = c.args.faces.now in
     let all = take_all c.loop-corners.corners-index faces c.loop-corners-test.false in
-    let so_far = subst (λ (ys : List Corners). Passes (g.W.Write.contents (inner_of c.args.writer.now))
-    (g.W.Write.contents (inner_of c.loop-corners.writer)) c.args.held.now.items c.loop-corners.held.items
+    let so_far =
+    subst (λ (ys : List Corners). Passes (g.W.Write.contents (inner_of c.args.writer.now))
+    (g.W.Write.contents (inner_of c.loop-corners.writer)) c.args.held.now.items
+    c.loop-corners.held.items
     (flat_map corners_text ys)) all c.loop-corners.invariant.so_far in
-    puts_behind {W = g.row.W.Denot} g.W.Write.contents c.args.writer.now c.loop-corners.writer c.put_pieces.new.writer
+    puts_behind {W = g.row.W.Denot} g.W.Write.contents c.args.writer.now c.loop-corners.writer
+    c.put_pieces.new.writer
     c.put_pieces.result _ _ _ (flat_map corners_text faces) _ so_far c.put_pieces.ensures

@@ -7,7 +7,8 @@ use Rattle.triangulate_run.proofs.reply.put_faces.Given as goal
 
 abbrev pub invariant-loop-corners : goal.invariant-loop-corners
 invariant-loop-corners g l = record {
-  so_far : Passes (g.W.Write.contents (inner_of l.fn.writer)) (g.W.Write.contents (inner_of l.writer)) l.fn.held.items
-      l.held.items (flat_map corners_text (take l.corners-index l.faces));
+  so_far : Passes (g.W.Write.contents (inner_of l.fn.writer))
+      (g.W.Write.contents (inner_of l.writer)) l.fn.held.items l.held.items
+      (flat_map corners_text (take l.corners-index l.faces));
   works : has_failed l.writer ≡ false;
 }

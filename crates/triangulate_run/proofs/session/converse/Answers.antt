@@ -1,7 +1,8 @@
 use Rattle.std.proofs.Common.{List, refl, subst, ◌∙◌}
 use Rattle.triangulate_run.specs.declared.points.SheetPoint.{SheetPoint}
 use Rattle.triangulate_run.specs.Run.{Answers}
-use Rattle.triangulate_run.proofs.RunLemmas.{start, consumes_break, byte_more, line_more, line_fault, end_fault, end_more}
+use Rattle.triangulate_run.proofs.RunLemmas.{start, consumes_break, byte_more, line_more}
+use Rattle.triangulate_run.proofs.RunLemmas.{line_fault, end_fault, end_more}
 use Rattle.triangulate_run.proofs.session.converse.Goals as goal
 
 pub loop-engine-init : goal.loop-engine-init
@@ -9,7 +10,8 @@ loop-engine-init g c = record {
   ready = c.requires.ready;
   listed = refl;
   fits = c.requires.fits;
-  running = start _ _ c.args.reader.now c.args.writer.now _ _ _ c.new-line.ensures c.requires.first c.requires.reader_works c.requires.writer_works;
+  running = start _ _ c.args.reader.now c.args.writer.now _ _ _ c.new-line.ensures c.requires.first
+      c.requires.reader_works c.requires.writer_works;
 }
 
 pub loop-engine-preserved : goal.loop-engine-preserved
@@ -20,7 +22,8 @@ loop-engine-preserved g c =
       ready = i.ready;
       listed = i.listed;
       fits = i.fits;
-      running = byte_more i.running c.next_byte.new.reader c.in-Ok-Some.byte c.push.new.self took.2 took.0 c.in-Ok-Some.byte-test.1 c.push.ensures;
+      running = byte_more i.running c.next_byte.new.reader c.in-Ok-Some.byte c.push.new.self took.2
+          took.0 c.in-Ok-Some.byte-test.1 c.push.ensures;
     }
 
 pub loop-engine-preserved-in-Ok : goal.loop-engine-preserved-in-Ok
@@ -28,13 +31,17 @@ loop-engine-preserved-in-Ok g c =
     let i = c.loop-engine.invariant in
     let took = rw c.in-Ok-Some-eq10.field-0-is at c.in-Ok-Some-eq10.ensures in
     let told = c.in-Ok.ensures.answered i.running.rest i.running.held in
-    let answer = subst (λ (points : List SheetPoint). Answers points (g.E.Engine.stage c.loop-engine.engine) i.running.rest told.0 (g.E.Engine.stage c.answer.new.engine)) i.listed told.1 in
+    let answer =
+    subst (λ (points : List SheetPoint). Answers points (g.E.Engine.stage c.loop-engine.engine)
+    i.running.rest told.0 (g.E.Engine.stage c.answer.new.engine)) i.listed told.1 in
     record {
       ready = c.in-Ok.ensures.ready;
       listed = c.in-Ok.ensures.listed ∙ i.listed;
       fits = c.in-Ok.ensures.fits;
-      running = line_more i.running c.next_byte.new.reader c.answer.new.writer told.0 (g.E.Engine.stage c.answer.new.engine) c.clear.new.self
-          (consumes_break _ _ _ c.in-Ok-Some-eq10.field-0-0-test took.2) took.0 answer c.in-Ok.ensures.fits told.2.0 told.2.1 c.clear.ensures;
+      running = line_more i.running c.next_byte.new.reader c.answer.new.writer told.0
+          (g.E.Engine.stage c.answer.new.engine) c.clear.new.self
+          (consumes_break _ _ _ c.in-Ok-Some-eq10.field-0-0-test took.2) took.0 answer
+          c.in-Ok.ensures.fits told.2.0 told.2.1 c.clear.ensures;
     }
 
 pub returns-in-Err-answer : goal.returns-in-Err-answer
@@ -42,16 +49,21 @@ returns-in-Err-answer g c =
     let i = c.loop-engine.invariant in
     let took = rw c.in-Ok-Some-eq10.field-0-is at c.in-Ok-Some-eq10.ensures in
     let told = c.in-Err-answer.ensures.answered i.running.rest i.running.held in
-    let answer = subst (λ (points : List SheetPoint). Answers points (g.E.Engine.stage c.loop-engine.engine) i.running.rest told.0 (g.E.Engine.stage c.answer.new.engine)) i.listed told.1 in
-    line_fault i.running c.next_byte.new.reader c.answer.new.writer told.0 (g.E.Engine.stage c.answer.new.engine)
-    (consumes_break _ _ _ c.in-Ok-Some-eq10.field-0-0-test took.2) took.0 answer c.in-Err-answer.ensures.fits told.2.0 told.2.1
+    let answer =
+    subst (λ (points : List SheetPoint). Answers points (g.E.Engine.stage c.loop-engine.engine)
+    i.running.rest told.0 (g.E.Engine.stage c.answer.new.engine)) i.listed told.1 in
+    line_fault i.running c.next_byte.new.reader c.answer.new.writer told.0
+    (g.E.Engine.stage c.answer.new.engine)
+    (consumes_break _ _ _ c.in-Ok-Some-eq10.field-0-0-test took.2) took.0 answer
+    c.in-Err-answer.ensures.fits told.2.0 told.2.1
 
 pub returns-in-Ok-finish : goal.returns-in-Ok-finish
 returns-in-Ok-finish g c =
     let i = c.loop-engine.invariant in
     let took = rw c.in-Ok-None.field-0-is at c.in-Ok-None.ensures in
     let wrote = c.in-Ok-finish.ensures i.running.rest i.running.held in
-    end_more i.running c.next_byte.new.reader c.finish.new.writer took.2.0 took.2.1 took.0 wrote.0 wrote.1
+    end_more i.running c.next_byte.new.reader c.finish.new.writer took.2.0 took.2.1 took.0
+    wrote.0 wrote.1
 
 pub returns-in-Err-finish : goal.returns-in-Err-finish
 returns-in-Err-finish g c =

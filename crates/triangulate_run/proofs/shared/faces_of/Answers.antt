@@ -11,7 +11,8 @@ use Rattle.delaunay_legalization.specs.State.{triangulation_of}
 use Rattle.mesh_embedding.specs.Drawn.{corners_of}
 use Rattle.triangulate_run.specs.MeshFaces.{row_at}
 use Rattle.delaunay_legalization.proofs.Rounds.{first_left, none_left}
-use Rattle.triangulate_run.proofs.MeshFaces.{row_more, rows_end, rows_by_index, row_same_mesh, twice}
+use Rattle.triangulate_run.proofs.MeshFaces.{row_more, rows_end, rows_by_index, row_same_mesh}
+use Rattle.triangulate_run.proofs.MeshFaces.{twice}
 use Rattle.triangulate_run.proofs.FaceList.{lists_faces, rows_differ}
 use Rattle.triangulate_run.proofs.shared.faces_of.Goals as goal
 
@@ -22,7 +23,8 @@ loop-face-init g c =
       mesh = it.mesh;
       same = it.state;
       rest = range_with_len 1 (length (g.T.Triangulation.state c.args.triangulation.now).faces);
-      left = sym it.elements ∙ ap inner_faces_left (sym c.into_iter-face-iterator.ensures.into_iter_gives);
+      left = sym it.elements
+          ∙ ap inner_faces_left (sym c.into_iter-face-iterator.ensures.into_iter_gives);
       so_far = ap (λ ys. ys ++ map (row_at it.mesh.now.mesh)
           (range_with_len 1 (length (g.T.Triangulation.state c.args.triangulation.now).faces)))
           c.in_ok-faces.ensures.items;
@@ -36,7 +38,8 @@ loop-face-preserved g c =
     (i.left ∙ c.in-Some.ensures.steps.0) in
     let mesh_is = ap (λ p. p.0) step.3 in
     let index_is = ap (λ p. p.1) step.3 in
-    let row = c.corners_of.ensures ∙ row_same_mesh i.mesh.now.mesh face.dcel.now.mesh step.0 face.index
+    let row =
+    c.corners_of.ensures ∙ row_same_mesh i.mesh.now.mesh face.dcel.now.mesh step.0 face.index
     (ap (λ d. d.now.mesh) mesh_is) index_is in
     record {
       mesh = i.mesh;
@@ -44,7 +47,8 @@ loop-face-preserved g c =
       rest = step.1;
       left = step.4;
       so_far = ap (λ ys. ys ++ map (row_at i.mesh.now.mesh) step.1) c.in_ok-push.ensures.items
-          ∙ row_more (row_at i.mesh.now.mesh) c.loop-face.faces.items c.corners_of.result i.rest step.1 step.0 _ step.2
+          ∙ row_more (row_at i.mesh.now.mesh) c.loop-face.faces.items c.corners_of.result i.rest
+          step.1 step.0 _ step.2
           row i.so_far;
     }
 
@@ -75,6 +79,8 @@ returns g c =
     (triangles (g.T.Triangulation.state c.args.triangulation.now).mesh)) in
     let tiles = c.recall_invariant.ensures.headline.tiling in
     let list = c.sort_faces.new.faces.items in
-    let apart = subst (λ (ys : List Corners). AllPairs (λ c d. c ≢ d) ys) (sym all) (rows_differ t tiles) in
-    lists_faces t tiles list (subst (λ (ys : List Corners). IsPermutation ys list) all c.sort_faces.ensures.permutation)
+    let apart =
+    subst (λ (ys : List Corners). AllPairs (λ c d. c ≢ d) ys) (sym all) (rows_differ t tiles) in
+    lists_faces t tiles list
+    (subst (λ (ys : List Corners). IsPermutation ys list) all c.sort_faces.ensures.permutation)
     (c.in_ok-sort_faces.ensures.sorted apart)

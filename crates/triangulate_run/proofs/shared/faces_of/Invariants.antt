@@ -14,6 +14,6 @@ invariant-loop-face g l = record {
   same : state_of mesh.now ≡ (g.T.Triangulation.state l.triangulation);
   rest : List ℕ;
   left : each_in mesh rest ≡ inner_faces_left l.face-iterator;
-  so_far : l.faces.items ++ map (row_at mesh.now.mesh) rest
-      ≡ map (row_at mesh.now.mesh) (range_with_len 1 (length (g.T.Triangulation.state l.triangulation).faces));
+  so_far : l.faces.items ++ map (row_at mesh.now.mesh) rest ≡ map (row_at mesh.now.mesh)
+      (range_with_len 1 (length (g.T.Triangulation.state l.triangulation).faces));
 }

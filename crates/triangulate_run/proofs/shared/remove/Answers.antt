@@ -1,4 +1,5 @@
-use Rattle.std.proofs.Common.{ℕ, ℤ, List, ◌≡◌, ◌∙◌, ap, sym, subst, rules, SFits, w64, to_z, of_z, to_z-of_z}
+use Rattle.std.proofs.Common.{◌≡◌, ◌∙◌}
+use Rattle.std.proofs.Common.{ℕ, ℤ, List, ap, sym, subst, rules, SFits, w64, to_z, of_z, to_z-of_z}
 use Rattle.std.specs.Prelude.{slice_get, Some}
 use Rattle.delaunay_core.specs.declared.point.Point2.{Point2}
 use Rattle.plane.specs.Plain.{Removes}
@@ -11,15 +12,20 @@ abbrev point_with : ℤ → ℤ → Point2 ℤ
 point_with x y = record { x = x; y = y }
 
 -- the coordinates that were read are those of the point
-read_point : (vs : List (Point2 ℤ)) (i : ℕ) (p : Point2 ℤ) → SFits w64 p.x → SFits w64 p.y → slice_get vs i ≡ Some p → slice_get vs i ≡ Some (point_with (to_z w64 (of_z w64 p.x)) (to_z w64 (of_z w64 p.y)))
-read_point vs i p x_fits y_fits e = e ∙ ap (λ (x : ℤ). Some (point_with x p.y)) (sym (to_z-of_z {w = w64} {z = p.x} x_fits))
-    ∙ ap (λ (y : ℤ). Some (point_with (to_z w64 (of_z w64 p.x)) y)) (sym (to_z-of_z {w = w64} {z = p.y} y_fits))
+read_point : (vs : List (Point2 ℤ)) (i : ℕ) (p : Point2 ℤ) → SFits w64 p.x → SFits w64 p.y
+    → slice_get vs i ≡ Some p
+    → slice_get vs i ≡ Some (point_with (to_z w64 (of_z w64 p.x)) (to_z w64 (of_z w64 p.y)))
+read_point vs i p x_fits y_fits e =
+    e ∙ ap (λ (x : ℤ). Some (point_with x p.y)) (sym (to_z-of_z {w = w64} {z = p.x} x_fits))
+    ∙ ap (λ (y : ℤ). Some (point_with (to_z w64 (of_z w64 p.x)) y))
+    (sym (to_z-of_z {w = w64} {z = p.y} y_fits))
 
 pub returns-in-Ok-clause-sites : goal.returns-in-Ok-clause-sites
 returns-in-Ok-clause-sites g c =
     sites_left position g.T.Constraints.ConstraintMarker.constraints
     (g.T.Triangulation.state c.args.triangulation.now) (g.T.Triangulation.state c.remove.new.self) _
-    c.in-Ok.point c.in-Ok.ensures.removes.plain (g.P.PlaneTests.sites c.args.tests.now) c.requires.sites
+    c.in-Ok.point c.in-Ok.ensures.removes.plain
+    (g.P.PlaneTests.sites c.args.tests.now) c.requires.sites
 
 pub returns-in-Ok-clause-reply : goal.returns-in-Ok-clause-reply
 returns-in-Ok-clause-reply g c =
@@ -28,7 +34,9 @@ returns-in-Ok-clause-reply g c =
     let x_fits : SFits w64 c.in-Ok.point.x = search rules in
     let y_fits : SFits w64 c.in-Ok.point.y = search rules in
     record {
-      was = read_point old.vertices c.args.index c.in-Ok.point x_fits y_fits (subst (λ (i : ℕ). slice_get old.vertices i ≡ Some c.in-Ok.point) c.from_index-vertex.ensures c.in-Ok.ensures.removes.value);
+      was = read_point old.vertices c.args.index c.in-Ok.point x_fits y_fits
+          (subst (λ (i : ℕ). slice_get old.vertices i ≡ Some c.in-Ok.point)
+          c.from_index-vertex.ensures c.in-Ok.ensures.removes.value);
       removed = subst (λ (i : ℕ). Removes position
           (points_and_constraints_by g.T.Constraints.ConstraintMarker.constraints old)
           (points_and_constraints_by g.T.Constraints.ConstraintMarker.constraints new) i)

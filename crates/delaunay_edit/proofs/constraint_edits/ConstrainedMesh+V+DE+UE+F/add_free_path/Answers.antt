@@ -7,5 +7,6 @@ pub edges_along-requires-clause-joined : goal.edges_along-requires-clause-joined
 edges_along-requires-clause-joined g c =
     let at = g.V.HasPosition.place in
     subst (λ s. HasPath (map at s.vertices) s.mesh c.args.from c.args.to) (sym c.self-2.view_is)
-    (path_is_there at c.args.self.now c.add_path.new.self c.args.from c.args.to c.in_ok-add_path.ensures.plain
+    (path_is_there at c.args.self.now c.add_path.new.self c.args.from c.args.to
+    c.in_ok-add_path.ensures.plain
     c.recall_invariant-2.ensures.headline)

@@ -13,20 +13,23 @@ pub add_constraints-requires-clause-way : goal.add_constraints-requires-clause-w
 add_constraints-requires-clause-way g c = record {
   from = subst (λ s. c.args.from < length s.vertices) (sym c.self.view_is) c.requires.from_in;
   to = subst (λ s. c.args.to < length s.vertices) (sym c.self.view_is) c.requires.to_in;
-  free = subst (λ s. CanAdd g.V.HasPosition.place (constrained s) c.args.from c.args.to) (sym c.self.view_is)
+  free = subst (λ s. CanAdd g.V.HasPosition.place (constrained s) c.args.from c.args.to)
+      (sym c.self.view_is)
       c.requires.free;
 }
 
 pub returns-clause-data : goal.returns-clause-data
 returns-clause-data g c =
     subst (λ s. MarksEdges s (state_of c.add_constraints.new.dcel)) c.self.view_is
-    (edges_marked g.V.HasPosition.place c.self.inside.dcel c.add_constraints.new.dcel c.args.from c.args.to
+    (edges_marked g.V.HasPosition.place c.self.inside.dcel c.add_constraints.new.dcel
+    c.args.from c.args.to
     c.add_constraints.ensures.adds)
 
 pub overflow_add-self : goal.overflow_add-self
 overflow_add-self g c =
     let room =
-    room_for_added g.V.HasPosition.place is_constraint constraint_edges (λ ds. refl) (state_of c.self.inside.dcel)
+    room_for_added g.V.HasPosition.place is_constraint constraint_edges (λ ds. refl)
+    (state_of c.self.inside.dcel)
     (state_of c.add_constraints.new.dcel) c.self.inside.num_constraints c.self.invariant
     c.add_constraints.ensures.adds.legal c.args.from c.args.to c.count_missing-missing.result
     c.add_constraints.ensures.adds.plain c.count_missing-missing.ensures in
@@ -36,7 +39,8 @@ overflow_add-self g c =
 
 pub invariant_of-self-2 : goal.invariant_of-self-2
 invariant_of-self-2 g c =
-    counted_added g.V.HasPosition.place is_constraint constraint_edges (λ ds. refl) (state_of c.self.inside.dcel)
+    counted_added g.V.HasPosition.place is_constraint constraint_edges (λ ds. refl)
+    (state_of c.self.inside.dcel)
     (state_of c.add_constraints.new.dcel) c.self.inside.num_constraints c.self.invariant
     c.add_constraints.ensures.adds.legal c.args.from c.args.to c.count_missing-missing.result
     c.add_constraints.ensures.adds.plain c.count_missing-missing.ensures

@@ -6,4 +6,5 @@ use Rattle.delaunay_edit.proofs.constraint_edits.ConstrainedMesh+V+DE+UE+F.can_a
 
 pub returns : goal.returns
 returns g c = subst (λ s. IsTrue c.can_add_path.result ↔
-    CanAdd g.V.HasPosition.place (constrained s) c.args.from c.args.to) c.self.view_is c.can_add_path.ensures
+    CanAdd g.V.HasPosition.place
+    (constrained s) c.args.from c.args.to) c.self.view_is c.can_add_path.ensures

@@ -15,6 +15,7 @@ returns-clause-data g c =
 
 pub invariant_of-self-2 : goal.invariant_of-self-2
 invariant_of-self-2 g c =
-    counted_released g.V.HasPosition.place is_constraint constraint_edges (λ ds. refl) (state_of c.self.inside.dcel)
+    counted_released g.V.HasPosition.place is_constraint constraint_edges (λ ds. refl)
+    (state_of c.self.inside.dcel)
     (state_of c.release_constraint.new.dcel) c.self.inside.num_constraints c.self.invariant
     c.release_constraint.ensures.releases.legal _ _ c.release_constraint.ensures.releases.plain

@@ -7,7 +7,8 @@ use Rattle.delaunay_edit.proofs.constraint_edits.ConstrainedMesh+V+DE+UE+F.try_a
 use Rattle.delaunay_edit.proofs.constraint_edits.ConstrainedMesh+V+DE+UE+F.try_add_constraint.Goals.{then-eq-via-else-eq+then-not-can_add_constraint}
 
 pub add_free_path-edges-requires-clause-free : goal.add_free_path-edges-requires-clause-free
-add_free_path-edges-requires-clause-free g c = c.can_add_constraint.ensures.0 c.if-not-can_add_constraint.false
+add_free_path-edges-requires-clause-free g c =
+    c.can_add_constraint.ensures.0 c.if-not-can_add_constraint.false
 
 pub returns-clause-none : goal.returns-clause-none
 returns-clause-none g c = λ barred. absurd (elim barred as (λ _. ⊥) [
@@ -21,5 +22,6 @@ returns-then-eq-clause-path g c =
     (elim c.then-eq.branch [
       | then-eq-via-then-eq w ↦ inl (eqb-true _ _ (sym c.eq.ensures ∙ w.if-eq.true))
       | then-eq-via-else-eq+then-not-can_add_constraint w ↦
-          inr (λ free. both_ways _ (w.can_add_constraint.ensures.1 free) w.if-not-can_add_constraint.true)
+          inr (λ free. both_ways _
+          (w.can_add_constraint.ensures.1 free) w.if-not-can_add_constraint.true)
     ])

@@ -12,14 +12,17 @@ returns g c =
     let marks = is_constraint in
     let constraints = constraint_edges in
     let s = c.args.self.now in
-    let marked : IsTrue c.is_constraint_edge.result ↔ Contains (constraint_edges s.undirected) c.args.edge =
+    let marked : IsTrue c.is_constraint_edge.result
+    ↔ Contains (constraint_edges s.undirected) c.args.edge =
     rw (← c.self.view_is) c.is_constraint_edge.ensures in
     record {
       marked = marked;
       joined = (
-        (λ t. joined_by marks constraints (λ ds. refl) s.mesh s.undirected _ _ c.args.edge (marked.0 t)
+        (λ t. joined_by marks constraints
+            (λ ds. refl) s.mesh s.undirected _ _ c.args.edge (marked.0 t)
             (inl (refl, refl))),
         (λ j. marked.1 (fixed_if_joined at marks constraints (λ ds. refl) s
-            (subst (IsTriangulated at) c.self.view_is c.self.invariant.legal.kept) c.args.edge c.requires j)),
+            (subst (IsTriangulated at) c.self.view_is c.self.invariant.legal.kept) c.args.edge
+            c.requires j)),
       );
     }

@@ -16,12 +16,15 @@ use Rattle.delaunay_edit.proofs.edited_mesh.EditedMesh.append.Goals as goal
 
 pub insert_at-vertex-requires-clause-vacant : goal.insert_at-vertex-requires-clause-vacant
 insert_at-vertex-requires-clause-vacant g c =
-    subst (λ s. IsVacant (map g.V.HasPosition.place s.vertices) s.mesh (g.V.HasPosition.place c.args.value)
-    c.args.location c.args.turns) (sym (c.reserve_for_vertex.ensures.same ∙ c.self.view_is)) c.requires.vacant
+    subst (λ s. IsVacant (map g.V.HasPosition.place s.vertices) s.mesh
+    (g.V.HasPosition.place c.args.value)
+    c.args.location c.args.turns)
+    (sym (c.reserve_for_vertex.ensures.same ∙ c.self.view_is)) c.requires.vacant
 
 pub legalize_vertex-requires-clause-sites : goal.legalize_vertex-requires-clause-sites
 legalize_vertex-requires-clause-sites g c =
-    sites_after g.V.HasPosition.place (g.P.PlaneTests.sites c.args.tests.now) c.args.self.now.vertices
+    sites_after g.V.HasPosition.place
+    (g.P.PlaneTests.sites c.args.tests.now) c.args.self.now.vertices
     c.insert_at-vertex.new.dcel.vertices c.args.value
     (c.insert_at-vertex.ensures.takes.vertices ∙ ap (λ s. s.vertices ++ c.args.value ∷ [])
     (c.reserve_for_vertex.ensures.same ∙ c.self.view_is)) c.requires.sites c.requires.new_site
@@ -31,16 +34,20 @@ legalize_vertex-requires-clause-passing g c =
     passes_beside g.V.HasPosition.place g.M.ConstraintMarker.marks g.M.ConstraintMarker.constraints
     g.met.M.ConstraintMarker.constraints_are_marked c.args.self.now c.reserve_for_vertex.new.dcel
     c.insert_at-vertex.new.dcel c.args.value c.insert_at-vertex.result _
-    (subst (IsDelaunayTriangulation g.V.HasPosition.place g.M.ConstraintMarker.constraints) c.self.view_is
+    (subst (IsDelaunayTriangulation g.V.HasPosition.place g.M.ConstraintMarker.constraints)
+    c.self.view_is
     c.self.invariant.legal) (c.reserve_for_vertex.ensures.same ∙ c.self.view_is)
-    c.insert_at-vertex.ensures.takes.vertices c.insert_at-vertex.ensures.takes.is c.insert_at-vertex.ensures.takes.made
+    c.insert_at-vertex.ensures.takes.vertices c.insert_at-vertex.ensures.takes.is
+    c.insert_at-vertex.ensures.takes.made
     c.insert_at-vertex.ensures.takes.kept c.insert_at-vertex.ensures.constraints
 
 pub legalize_vertex-requires-clause-empty : goal.legalize_vertex-requires-clause-empty
 legalize_vertex-requires-clause-empty g c none =
     put_in_free g.V.HasPosition.place g.M.ConstraintMarker.marks g.M.ConstraintMarker.constraints
-    g.met.M.ConstraintMarker.constraints_are_marked (state_of c.self.inside.dcel) c.reserve_for_vertex.new.dcel
-    c.insert_at-vertex.new.dcel c.args.value c.insert_at-vertex.result c.self.inside.num_constraints c.self.invariant
+    g.met.M.ConstraintMarker.constraints_are_marked
+    (state_of c.self.inside.dcel) c.reserve_for_vertex.new.dcel
+    c.insert_at-vertex.new.dcel c.args.value c.insert_at-vertex.result c.self.inside.num_constraints
+    c.self.invariant
     c.reserve_for_vertex.ensures.same c.insert_at-vertex.ensures.takes (eqb-true _ _ none)
 
 pub returns-clause-appends : goal.returns-clause-appends
@@ -55,18 +62,22 @@ returns-clause-appends g c =
           ∙ c.insert_at-vertex.ensures.takes.grows.outer
           ∙ ap (λ s. s.outer) (c.reserve_for_vertex.ensures.same ∙ c.self.view_is);
       «data» =
-          appended_keeps g.V.HasPosition.place c.args.value c.args.self.now c.reserve_for_vertex.new.dcel
+          appended_keeps g.V.HasPosition.place c.args.value c.args.self.now
+          c.reserve_for_vertex.new.dcel
           c.insert_at-vertex.new.dcel c.legalize_vertex.new.dcel
           (subst (IsTriangulated g.V.HasPosition.place) c.self.view_is c.self.invariant.legal.kept)
           (c.reserve_for_vertex.ensures.same ∙ c.self.view_is)
           c.insert_at-vertex.ensures.takes.vertices c.insert_at-vertex.ensures.takes.kept
           c.insert_at-vertex.ensures.takes.grows c.legalize_vertex.ensures.legalizes.contents
-          c.legalize_vertex.ensures.legalizes.indexes c.legalize_vertex.ensures.legalizes.legal.kept;
+          c.legalize_vertex.ensures.legalizes.indexes
+          c.legalize_vertex.ensures.legalizes.legal.kept;
       splits =
           splits_legalized g.V.HasPosition.place g.M.ConstraintMarker.constraints c.args.value
-          (state_of c.reserve_for_vertex.new.dcel) c.args.self.now (state_of c.insert_at-vertex.new.dcel)
+          (state_of c.reserve_for_vertex.new.dcel) c.args.self.now
+          (state_of c.insert_at-vertex.new.dcel)
           (state_of c.legalize_vertex.new.dcel) c.insert_at-vertex.ensures.constraints
-          (c.reserve_for_vertex.ensures.same ∙ c.self.view_is) c.legalize_vertex.ensures.legalizes.constraints;
+          (c.reserve_for_vertex.ensures.same ∙ c.self.view_is)
+          c.legalize_vertex.ensures.legalizes.constraints;
       err = tt;
     }
 
@@ -76,8 +87,10 @@ invariant_of-self-2 g c =
     let marker = g.M.ConstraintMarker in
     let old = c.reserve_for_vertex.new.dcel in
     let same = c.reserve_for_vertex.ensures.same ∙ c.self.view_is in
-    counted_split at marker.marks marker.constraints g.met.M.ConstraintMarker.constraints_are_marked old
-    (state_of c.insert_at-vertex.new.dcel) (subst (IsTriangulated at) (sym c.reserve_for_vertex.ensures.same)
+    counted_split at marker.marks marker.constraints
+    g.met.M.ConstraintMarker.constraints_are_marked old
+    (state_of c.insert_at-vertex.new.dcel)
+    (subst (IsTriangulated at) (sym c.reserve_for_vertex.ensures.same)
     c.self.invariant.legal.kept)
     c.insert_at-vertex.ensures.takes.kept c.args.value c.args.location
     (subst (λ s. Locates (map at s.vertices) s.mesh (at c.args.value) c.args.location) (sym same)
@@ -100,6 +113,7 @@ overflow_add-self g c =
     let size = ap (λ s. length s.vertices) c.reserve_for_vertex.ensures.same in
     let value = c.num_vertices.ensures.value in
     let small = c.num_vertices.ensures.small in
-    let split = few_split marker.constraints c.reserve_for_vertex.new.dcel.undirected c.args.location _
+    let split =
+    few_split marker.constraints c.reserve_for_vertex.new.dcel.undirected c.args.location _
     c.count_split-split.ensures in
     omega (arith, few, counted, edges, size, value, small, split)

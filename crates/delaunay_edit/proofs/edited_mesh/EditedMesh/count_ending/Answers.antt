@@ -15,7 +15,8 @@ returns-then-self-eq0 g c =
     let v = c.args.vertex in
     subst (λ s. HasPairs (EndsAt (constraints_by constraints s) v) 0) c.self.view_is
     (no_pairs (λ a b h. no_joins a b (subst (λ (ps : List (ℕ × ℕ)). Joins ps a b)
-    (none_counted g.V.HasPosition.place constraints (state_of here.dcel) here.num_constraints c.self.invariant
+    (none_counted g.V.HasPosition.place constraints
+    (state_of here.dcel) here.num_constraints c.self.invariant
     c.if-self-eq0.true) h.0)))
 
 pub returns : goal.returns
@@ -23,4 +24,5 @@ returns g c =
     let constraints = g.M.ConstraintMarker.constraints in
     let v = c.args.vertex in
     let n = c.count_constraints_at.result in
-    subst (λ s. HasPairs (EndsAt (constraints_by constraints s) v) n) c.self.view_is c.count_constraints_at.ensures
+    subst (λ s. HasPairs (EndsAt (constraints_by constraints s) v) n) c.self.view_is
+    c.count_constraints_at.ensures

@@ -3,4 +3,6 @@ use Rattle.delaunay_legalization.proofs.MeshParts.{mesh_edge}
 use Rattle.delaunay_edit.proofs.edited_mesh.EditedMesh.ends_of.Goals as goal
 
 pub returns-clause-edge : goal.returns-clause-edge
-returns-clause-edge g c = rw (← c.self.view_is) (mesh_edge g.V.HasPosition.place (state_of c.self.inside.dcel) c.self.invariant.legal.kept c.args.edge (rw (← c.self.view_is) at c.requires))
+returns-clause-edge g c =
+    rw (← c.self.view_is) (mesh_edge g.V.HasPosition.place (state_of c.self.inside.dcel)
+    c.self.invariant.legal.kept c.args.edge (rw (← c.self.view_is) at c.requires))

@@ -9,7 +9,8 @@ locate_with_hint-requires-clause-kept g c = c.self.invariant.legal.kept
 
 pub locate_with_hint-requires-clause-sites : goal.locate_with_hint-requires-clause-sites
 locate_with_hint-requires-clause-sites g c = subst
-    (λ s. All (g.P.PlaneTests.sites c.args.tests.now) (map g.V.HasPosition.place s.vertices)) (sym c.self.view_is)
+    (λ s. All (g.P.PlaneTests.sites c.args.tests.now) (map g.V.HasPosition.place s.vertices))
+    (sym c.self.view_is)
     c.requires.sites
 
 pub returns : goal.returns

@@ -4,8 +4,10 @@ use Rattle.delaunay_edit.proofs.edited_mesh.EditedMesh.insert_from.Goals as goal
 
 pub returns-in-Vacant-clause-inserts : goal.returns-in-Vacant-clause-inserts
 returns-in-Vacant-clause-inserts g c =
-    appended_or_refused g.V.HasPosition.place g.M.ConstraintMarker.constraints c.args.self.now c.args.value
-    c.append-appended.new.self c.append-appended.result (c.in_ok-validate_vertex.ensures.exactly.0 refl)
+    appended_or_refused g.V.HasPosition.place g.M.ConstraintMarker.constraints
+    c.args.self.now c.args.value
+    c.append-appended.new.self c.append-appended.result
+    (c.in_ok-validate_vertex.ensures.exactly.0 refl)
     c.in-Vacant.ensures.apart
     c.append-appended.ensures.appends
 
@@ -14,7 +16,8 @@ returns-in-Occupied-clause-inserts g c =
     overwritten g.V.HasPosition.place g.M.ConstraintMarker.constraints c.args.self.now c.args.value
     c.replace_vertex.new.self c.in-Occupied.vertex c.recall_invariant.ensures.kept
     (c.in_ok-validate_vertex.ensures.exactly.0 refl)
-    c.in-Occupied.ensures.0 c.in-Occupied.ensures.1 c.replace_vertex.ensures.new c.replace_vertex.ensures.plain
+    c.in-Occupied.ensures.0 c.in-Occupied.ensures.1 c.replace_vertex.ensures.new
+    c.replace_vertex.ensures.plain
 
 pub returns-in-Occupied-clause-counted : goal.returns-in-Occupied-clause-counted
 returns-in-Occupied-clause-counted g c = record { grows = omega arith; few = omega arith }

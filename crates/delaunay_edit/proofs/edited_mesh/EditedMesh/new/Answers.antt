@@ -6,17 +6,23 @@ use Rattle.delaunay_edit.proofs.edited_mesh.EditedMesh.new.Goals as goal
 
 pub invariant_of-result : goal.invariant_of-result
 invariant_of-result g c = counted_none g.V.HasPosition.place g.M.ConstraintMarker.constraints
-    (state_of c.new-dcel.result) (legal_empty g.V.HasPosition.place g.M.ConstraintMarker.constraints c.new-dcel.result
-    c.new-dcel.ensures.mesh c.new-dcel.ensures.vertices c.new-dcel.ensures.undirected c.new-dcel.ensures.faces
+    (state_of c.new-dcel.result)
+    (legal_empty g.V.HasPosition.place g.M.ConstraintMarker.constraints c.new-dcel.result
+    c.new-dcel.ensures.mesh c.new-dcel.ensures.vertices c.new-dcel.ensures.undirected
+    c.new-dcel.ensures.faces
     c.recall_invariant.ensures.whole)
     (none_without_edges g.M.ConstraintMarker.marks g.M.ConstraintMarker.constraints
-    g.met.M.ConstraintMarker.constraints_are_marked (state_of c.new-dcel.result) c.new-dcel.ensures.undirected)
+    g.met.M.ConstraintMarker.constraints_are_marked
+    (state_of c.new-dcel.result) c.new-dcel.ensures.undirected)
 
 pub returns-clause-constraints : goal.returns-clause-constraints
-returns-clause-constraints g c = none_without_edges g.M.ConstraintMarker.marks g.M.ConstraintMarker.constraints
-    g.met.M.ConstraintMarker.constraints_are_marked (state_of c.new-dcel.result) c.new-dcel.ensures.undirected
+returns-clause-constraints g c =
+    none_without_edges g.M.ConstraintMarker.marks g.M.ConstraintMarker.constraints
+    g.met.M.ConstraintMarker.constraints_are_marked
+    (state_of c.new-dcel.result) c.new-dcel.ensures.undirected
 
 pub returns-clause-headline : goal.returns-clause-headline
 returns-clause-headline g c = is_delaunay g.V.HasPosition.place g.M.ConstraintMarker.marks
-    g.M.ConstraintMarker.constraints g.met.M.ConstraintMarker.constraints_are_marked (state_of c.new-dcel.result)
+    g.M.ConstraintMarker.constraints g.met.M.ConstraintMarker.constraints_are_marked
+    (state_of c.new-dcel.result)
     (invariant_of-result g c).legal

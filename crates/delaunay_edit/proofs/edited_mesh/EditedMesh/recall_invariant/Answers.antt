@@ -4,6 +4,8 @@ use Rattle.delaunay_edit.proofs.edited_mesh.EditedMesh.recall_invariant.Goals as
 
 pub returns : goal.returns
 returns g c =
-    rw (← c.self.view_is) (well_formed g.V.HasPosition.place g.M.ConstraintMarker.marks g.M.ConstraintMarker.constraints
-    g.met.M.ConstraintMarker.constraints_are_marked (state_of c.self.inside.dcel) c.self.invariant.legal
+    rw (← c.self.view_is) (well_formed g.V.HasPosition.place g.M.ConstraintMarker.marks
+    g.M.ConstraintMarker.constraints
+    g.met.M.ConstraintMarker.constraints_are_marked
+    (state_of c.self.inside.dcel) c.self.invariant.legal
     c.recall_invariant.ensures.few_vertices)

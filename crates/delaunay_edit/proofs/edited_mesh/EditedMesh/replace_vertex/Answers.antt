@@ -10,8 +10,10 @@ invariant_of-self g c =
     subst (λ d. IsCounted g.V.HasPosition.place g.M.ConstraintMarker.constraints (state_of d)
     c.self.inside.num_constraints) (sym c.update_vertex-former.ensures.contents)
     (record {
-      legal = legal_overwritten g.V.HasPosition.place g.M.ConstraintMarker.constraints c.self.inside.dcel
-          c.args.vertex c.args.value c.self.invariant.legal (rw (← c.self.view_is) at c.requires.within)
+      legal = legal_overwritten g.V.HasPosition.place g.M.ConstraintMarker.constraints
+          c.self.inside.dcel
+          c.args.vertex c.args.value c.self.invariant.legal
+          (rw (← c.self.view_is) at c.requires.within)
           (rw (← c.self.view_is) at c.requires.same);
       counted = c.self.invariant.counted;
     })
@@ -23,5 +25,6 @@ pub returns-clause-new : goal.returns-clause-new
 returns-clause-new g c = rw (← c.self.view_is) (ap state_of c.update_vertex-former.ensures.contents)
 
 pub returns-clause-plain : goal.returns-clause-plain
-returns-clause-plain g c = overwriting_replaces g.V.HasPosition.place g.M.ConstraintMarker.constraints c.args.self.now _
+returns-clause-plain g c =
+    overwriting_replaces g.V.HasPosition.place g.M.ConstraintMarker.constraints c.args.self.now _
     c.args.vertex c.args.value c.requires.within c.requires.same (returns-clause-new g c)

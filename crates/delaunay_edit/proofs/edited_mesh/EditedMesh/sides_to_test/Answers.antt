@@ -12,7 +12,8 @@ returns-then-self-eq0 g c =
     let constraints = g.M.ConstraintMarker.constraints in
     let here = c.self.inside in
     inl (subst (λ s. constraints_by constraints s ≡ []) c.self.view_is
-    (none_counted g.V.HasPosition.place constraints (state_of here.dcel) here.num_constraints c.self.invariant
+    (none_counted g.V.HasPosition.place constraints
+    (state_of here.dcel) here.num_constraints c.self.invariant
     c.if-self-eq0.true))
 
 pub returns : goal.returns
@@ -21,6 +22,8 @@ returns g c =
     let sides = c.sides_of_hole.result in
     let v = c.args.vertex in
     let s = state_of c.self.inside.dcel in
-    subst (λ s. IfOk sides (λ ps. (constraints_by constraints s ≡ []) ⊎ HasBorder s.mesh v ps.items)) c.self.view_is
+    subst (λ s. IfOk sides
+    (λ ps. (constraints_by constraints s ≡ []) ⊎ HasBorder s.mesh v ps.items)) c.self.view_is
     (IfOk-weaker sides (λ ps. HasBorder s.mesh v ps.items)
-    (λ ps. (constraints_by constraints s ≡ []) ⊎ HasBorder s.mesh v ps.items) (λ ps h. inr h) c.sides_of_hole.ensures)
+    (λ ps. (constraints_by constraints s ≡ []) ⊎ HasBorder s.mesh v ps.items)
+    (λ ps h. inr h) c.sides_of_hole.ensures)

@@ -19,10 +19,12 @@ pub legalize_pairs-requires-clause-sites : goal.legalize_pairs-requires-clause-s
 legalize_pairs-requires-clause-sites g c =
     let at = g.V.HasPosition.place in
     let constraints = g.M.ConstraintMarker.constraints in
-    sites_left at constraints c.args.self.now (state_of c.remove_vertex-value.new.dcel) c.args.vertex
+    sites_left at constraints c.args.self.now
+    (state_of c.remove_vertex-value.new.dcel) c.args.vertex
     c.remove_vertex-value.result
     (subst (λ s. Removes at (points_and_constraints_by constraints s)
-    (points_and_constraints_by constraints (state_of c.remove_vertex-value.new.dcel)) c.args.vertex) c.self.view_is
+    (points_and_constraints_by constraints (state_of c.remove_vertex-value.new.dcel)) c.args.vertex)
+    c.self.view_is
     c.remove_vertex-value.ensures.takes.plain)
     (g.P.PlaneTests.sites c.args.tests.now) c.requires.sites
 
@@ -37,9 +39,11 @@ pub returns-clause-plain : goal.returns-clause-plain
 returns-clause-plain g c =
     let at = g.V.HasPosition.place in
     let constraints = g.M.ConstraintMarker.constraints in
-    removed_on at constraints c.args.self.now c.remove_vertex-value.new.dcel c.legalize_pairs.new.dcel c.args.vertex
+    removed_on at constraints c.args.self.now c.remove_vertex-value.new.dcel
+    c.legalize_pairs.new.dcel c.args.vertex
     (subst (λ s. Removes at (points_and_constraints_by constraints s)
-    (points_and_constraints_by constraints (state_of c.remove_vertex-value.new.dcel)) c.args.vertex) c.self.view_is
+    (points_and_constraints_by constraints (state_of c.remove_vertex-value.new.dcel)) c.args.vertex)
+    c.self.view_is
     c.remove_vertex-value.ensures.takes.plain)
     c.legalize_pairs.ensures.legalizes.contents c.legalize_pairs.ensures.legalizes.constraints
 
@@ -47,14 +51,16 @@ pub returns-clause-data : goal.returns-clause-data
 returns-clause-data g c =
     legalized_keeps_others g.V.HasPosition.place c.args.self.now c.remove_vertex-value.new.dcel
     c.legalize_pairs.new.dcel c.args.vertex
-    (subst (λ s. KeepsDataBeside s (state_of c.remove_vertex-value.new.dcel) c.args.vertex) c.self.view_is
+    (subst (λ s. KeepsDataBeside s (state_of c.remove_vertex-value.new.dcel) c.args.vertex)
+    c.self.view_is
     c.remove_vertex-value.ensures.takes.beside)
     c.remove_vertex-value.ensures.takes.kept c.legalize_pairs.ensures.legalizes.legal.kept
     c.legalize_pairs.ensures.legalizes.contents c.legalize_pairs.ensures.legalizes.indexes
 
 pub remove_vertex-value-requires-clause-free : goal.remove_vertex-value-requires-clause-free
 remove_vertex-value-requires-clause-free g c free =
-    none_counted g.V.HasPosition.place g.M.ConstraintMarker.constraints (state_of c.self.inside.dcel)
+    none_counted g.V.HasPosition.place g.M.ConstraintMarker.constraints
+    (state_of c.self.inside.dcel)
     c.self.inside.num_constraints c.self.invariant (eqb-true _ _ free)
 
 pub legalize_pairs-requires-clause-passing : goal.legalize_pairs-requires-clause-passing
@@ -66,11 +72,13 @@ legalize_pairs-requires-clause-passing g c =
     (constraints_by constraints (state_of ds)) (pairs_left (length ds.vertices) c.args.vertex
     (ps ++ c.remove_vertex-value.new.lists.turned.items)))
     (sym {A = List (ℕ × ℕ)} c.as_slice.ensures.value)
-    (passes_but at constraints (state_of c.self.inside.dcel) (state_of ds) c.args.vertex c.remove_vertex-value.result
+    (passes_but at constraints (state_of c.self.inside.dcel)
+    (state_of ds) c.args.vertex c.remove_vertex-value.result
     c.self.invariant.legal c.remove_vertex-value.ensures.takes.kept
     c.remove_vertex-value.ensures.takes.plain c.in_ok-border.border.items
     c.remove_vertex-value.new.lists.turned.items c.remove_vertex-value.ensures.takes.faces
-    (sides_settle at g.M.ConstraintMarker.marks constraints g.met.M.ConstraintMarker.constraints_are_marked
+    (sides_settle at g.M.ConstraintMarker.marks constraints
+    g.met.M.ConstraintMarker.constraints_are_marked
     (state_of c.self.inside.dcel) c.self.invariant.legal c.args.vertex c.in_ok-border.border.items
     c.in_ok-border.ensures))
 
@@ -95,24 +103,30 @@ legalize_pairs-requires-clause-only g c free =
     let ds = c.remove_vertex-value.new.dcel in
     let border = c.in_ok-border.border.items in
     subst (λ (ps : List (ℕ × ℕ)). FailOnlyAt (map at ds.vertices) ds.mesh
-    (pairs_left (length ds.vertices) c.args.vertex (ps ++ c.remove_vertex-value.new.lists.turned.items)))
+    (pairs_left (length ds.vertices) c.args.vertex
+    (ps ++ c.remove_vertex-value.new.lists.turned.items)))
     (sym {A = List (ℕ × ℕ)} c.as_slice.ensures.value)
-    (fails_only_at at constraints old (state_of ds) c.args.vertex c.remove_vertex-value.result c.self.invariant.legal
+    (fails_only_at at constraints old
+    (state_of ds) c.args.vertex c.remove_vertex-value.result c.self.invariant.legal
     c.remove_vertex-value.ensures.takes.kept
     c.remove_vertex-value.ensures.takes.plain border c.remove_vertex-value.new.lists.turned.items
     c.remove_vertex-value.ensures.takes.faces
-    (sides_settle at g.M.ConstraintMarker.marks constraints g.met.M.ConstraintMarker.constraints_are_marked old
+    (sides_settle at g.M.ConstraintMarker.marks constraints
+    g.met.M.ConstraintMarker.constraints_are_marked old
     c.self.invariant.legal c.args.vertex border c.in_ok-border.ensures)
-    (free_circles at g.M.ConstraintMarker.marks constraints g.met.M.ConstraintMarker.constraints_are_marked old
+    (free_circles at g.M.ConstraintMarker.marks constraints
+    g.met.M.ConstraintMarker.constraints_are_marked old
     c.self.invariant.legal c.args.vertex border
-    (none_counted at constraints old c.self.inside.num_constraints c.self.invariant (eqb-true _ _ free))))
+    (none_counted at constraints old c.self.inside.num_constraints c.self.invariant
+    (eqb-true _ _ free))))
 
 pub overflow_sub-self : goal.overflow_sub-self
 overflow_sub-self g c =
     let at = g.V.HasPosition.place in
     let marker = g.M.ConstraintMarker in
     some_removed at marker.marks marker.constraints g.met.M.ConstraintMarker.constraints_are_marked
-    (state_of c.self.inside.dcel) (state_of c.legalize_pairs.new.dcel) c.self.inside.num_constraints c.self.invariant
+    (state_of c.self.inside.dcel)
+    (state_of c.legalize_pairs.new.dcel) c.self.inside.num_constraints c.self.invariant
     c.legalize_pairs.ensures.legalizes.legal c.args.vertex c.count_ending-ending.result
     (removed_on at marker.constraints (state_of c.self.inside.dcel) c.remove_vertex-value.new.dcel
     c.legalize_pairs.new.dcel c.args.vertex c.remove_vertex-value.ensures.takes.plain
@@ -123,8 +137,10 @@ pub invariant_of-self-4 : goal.invariant_of-self-4
 invariant_of-self-4 g c =
     let at = g.V.HasPosition.place in
     let marker = g.M.ConstraintMarker in
-    counted_removed at marker.marks marker.constraints g.met.M.ConstraintMarker.constraints_are_marked
-    (state_of c.self.inside.dcel) (state_of c.legalize_pairs.new.dcel) c.self.inside.num_constraints c.self.invariant
+    counted_removed at marker.marks marker.constraints
+    g.met.M.ConstraintMarker.constraints_are_marked
+    (state_of c.self.inside.dcel)
+    (state_of c.legalize_pairs.new.dcel) c.self.inside.num_constraints c.self.invariant
     c.legalize_pairs.ensures.legalizes.legal c.args.vertex c.count_ending-ending.result
     (removed_on at marker.constraints (state_of c.self.inside.dcel) c.remove_vertex-value.new.dcel
     c.legalize_pairs.new.dcel c.args.vertex c.remove_vertex-value.ensures.takes.plain

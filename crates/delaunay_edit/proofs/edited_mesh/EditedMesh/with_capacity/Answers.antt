@@ -7,7 +7,8 @@ pub invariant_of-result : goal.invariant_of-result
 invariant_of-result g c =
     let e = c.in_ok-dcel.ensures.ok in
     counted_none g.V.HasPosition.place g.M.ConstraintMarker.constraints (state_of c.in_ok-dcel.dcel)
-    (legal_empty g.V.HasPosition.place g.M.ConstraintMarker.constraints c.in_ok-dcel.dcel e.mesh e.vertices
+    (legal_empty g.V.HasPosition.place g.M.ConstraintMarker.constraints c.in_ok-dcel.dcel
+    e.mesh e.vertices
     e.undirected e.faces c.recall_invariant.ensures.whole)
     (none_without_edges g.M.ConstraintMarker.marks g.M.ConstraintMarker.constraints
     g.met.M.ConstraintMarker.constraints_are_marked (state_of c.in_ok-dcel.dcel) e.undirected)

@@ -4,7 +4,8 @@ use Rattle.delaunay_edit.specs.Writing.{with_face_data}
 use Rattle.delaunay_edit.proofs.writing.EditedMeshWriteData.face_data_mut.Goals as goal
 
 pub invariant_of-self-lent : goal.invariant_of-self-lent
-invariant_of-self-lent g c = λ w. counted_with_face _ _ c.self.inside.dcel c.args.face w _ c.self.invariant
+invariant_of-self-lent g c =
+    λ w. counted_with_face _ _ c.self.inside.dcel c.args.face w _ c.self.invariant
 
 pub returns : goal.returns
 returns g c = (

@@ -8,12 +8,16 @@ use Rattle.delaunay_interface.proofs.constraint_edges.ConstrainedDelaunayTriangu
 pub returns-in_err-join_vertices-clause-closes : goal.returns-in_err-join_vertices-clause-closes
 returns-in_err-join_vertices-clause-closes g c =
     let p = err_from_is_err_and c.from_residual.result c.from_residual.ensures.1 in
-    rw (p.1, p.2) (cannot_close g.V.HasPosition.place c.args.closed c.args.first c.args.last c.args.self.now _
+    rw (p.1, p.2)
+    (cannot_close g.V.HasPosition.place c.args.closed c.args.first c.args.last c.args.self.now _
     c.join_vertices.new.self c.if-not-closed.false
-    (λ same. absurd (both_ways _ (c.eq.ensures ∙ eq-eqb _ _ same) c.if-eq.false)) c.in_err-join_vertices.ensures.joins)
+    (λ same. absurd (both_ways _ (c.eq.ensures ∙ eq-eqb _ _ same) c.if-eq.false))
+    c.in_err-join_vertices.ensures.joins)
 
 pub returns-clause-closes : goal.returns-clause-closes
 returns-clause-closes g c =
-    closes g.V.HasPosition.place c.args.closed c.args.first c.args.last c.args.self.now c.in_ok-join_vertices.field-0
+    closes g.V.HasPosition.place c.args.closed c.args.first c.args.last c.args.self.now
+    c.in_ok-join_vertices.field-0
     c.join_vertices.new.self c.if-not-closed.false
-    (λ same. absurd (both_ways _ (c.eq.ensures ∙ eq-eqb _ _ same) c.if-eq.false)) c.in_ok-join_vertices.ensures.joins
+    (λ same. absurd (both_ways _ (c.eq.ensures ∙ eq-eqb _ _ same) c.if-eq.false))
+    c.in_ok-join_vertices.ensures.joins

@@ -8,17 +8,20 @@ use Rattle.delaunay_interface.proofs.constraint_paths.ConstrainedDelaunayTriangu
 pub invariant_of-self : goal.invariant_of-self
 invariant_of-self g c =
     let at = g.V.HasPosition.place in
-    held_of_same at (g.L.HintGenerator.holds c.self.inside.hint_generator) c.self.inside.edited.vertices
+    held_of_same at
+    (g.L.HintGenerator.holds c.self.inside.hint_generator) c.self.inside.edited.vertices
     c.add_constraint.new.self.vertices
     (vertices_after_adding at c.self.inside.edited c.add_constraint.new.self c.args.from c.args.to
     c.add_constraint.result c.add_constraint.ensures.adds) c.self.invariant
 
 pub add_constraint-requires-clause-free : goal.add_constraint-requires-clause-free
 add_constraint-requires-clause-free g c =
-    subst (λ s. CanAdd g.V.HasPosition.place (constrained s) c.args.from c.args.to) (sym c.self.view_is) c.requires.free
+    subst (λ s. CanAdd g.V.HasPosition.place (constrained s) c.args.from c.args.to)
+    (sym c.self.view_is) c.requires.free
 
 pub add_constraint-requires-clause-ends : goal.add_constraint-requires-clause-ends
 add_constraint-requires-clause-ends g c =
-    subst (λ s. MayJoin g.V.HasPosition.place (g.P.PlaneTests.sites c.args.tests.now) s c.args.from c.args.to)
+    subst (λ s. MayJoin g.V.HasPosition.place
+    (g.P.PlaneTests.sites c.args.tests.now) s c.args.from c.args.to)
     (sym c.self.view_is)
     (record { from_in = c.requires.from_in; to_in = c.requires.to_in; sites = c.requires.sites })

@@ -7,10 +7,12 @@ use Rattle.delaunay_interface.proofs.constraint_paths.ConstrainedDelaunayTriangu
 
 pub returns : goal.returns
 returns g c = subst (λ s. IsTrue c.can_add_constraint.result ↔
-    CanAdd g.V.HasPosition.place (constrained s) c.args.from c.args.to) c.self.view_is c.can_add_constraint.ensures
+    CanAdd g.V.HasPosition.place
+    (constrained s) c.args.from c.args.to) c.self.view_is c.can_add_constraint.ensures
 
 pub can_add_constraint-requires : goal.can_add_constraint-requires
 can_add_constraint-requires g c =
-    subst (λ s. MayJoin g.V.HasPosition.place (g.P.PlaneTests.sites c.args.tests.now) s c.args.from c.args.to)
+    subst (λ s. MayJoin g.V.HasPosition.place
+    (g.P.PlaneTests.sites c.args.tests.now) s c.args.from c.args.to)
     (sym c.self.view_is)
     (record { from_in = c.requires.from_in; to_in = c.requires.to_in; sites = c.requires.sites })

@@ -9,7 +9,8 @@ use Rattle.delaunay_interface.proofs.constraint_paths.ConstrainedDelaunayTriangu
 pub invariant_of-self : goal.invariant_of-self
 invariant_of-self g c =
     let at = g.V.HasPosition.place in
-    held_of_same at (g.L.HintGenerator.holds c.self.inside.hint_generator) c.self.inside.edited.vertices
+    held_of_same at
+    (g.L.HintGenerator.holds c.self.inside.hint_generator) c.self.inside.edited.vertices
     c.try_add_constraint.new.self.vertices
     (vertices_after_path at c.self.inside.edited c.try_add_constraint.new.self c.args.from c.args.to
     (λ edges. edges.items) c.try_add_constraint.result c.try_add_constraint.ensures.path
@@ -17,11 +18,13 @@ invariant_of-self g c =
 
 pub returns-clause-none : goal.returns-clause-none
 returns-clause-none g c =
-    subst (λ s. ((c.args.from ≡ c.args.to) ⊎ (¬ CanAdd g.V.HasPosition.place (constrained s) c.args.from c.args.to)) →
+    subst (λ s. ((c.args.from ≡ c.args.to)
+    ⊎ (¬ CanAdd g.V.HasPosition.place (constrained s) c.args.from c.args.to)) →
     IsOk c.try_add_constraint.result) c.self.view_is c.try_add_constraint.ensures.none
 
 pub try_add_constraint-requires : goal.try_add_constraint-requires
 try_add_constraint-requires g c =
-    subst (λ s. MayJoin g.V.HasPosition.place (g.P.PlaneTests.sites c.args.tests.now) s c.args.from c.args.to)
+    subst (λ s. MayJoin g.V.HasPosition.place
+    (g.P.PlaneTests.sites c.args.tests.now) s c.args.from c.args.to)
     (sym c.self.view_is)
     (record { from_in = c.requires.from_in; to_in = c.requires.to_in; sites = c.requires.sites })

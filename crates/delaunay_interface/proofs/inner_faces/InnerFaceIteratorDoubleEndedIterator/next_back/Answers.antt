@@ -5,5 +5,6 @@ use Rattle.delaunay_interface.proofs.inner_faces.InnerFaceIteratorDoubleEndedIte
 pub invariant_of-self : goal.invariant_of-self
 invariant_of-self g c =
     let it = c.args.self.now in
-    let kept = front_holds (λ i. (0 < i) × (i ≤ length it.dcel.now.faces)) _ _ _ c.next_back.ensures.steps it.inner in
+    let kept = front_holds
+    (λ i. (0 < i) × (i ≤ length it.dcel.now.faces)) _ _ _ c.next_back.ensures.steps it.inner in
     record { inner = kept }

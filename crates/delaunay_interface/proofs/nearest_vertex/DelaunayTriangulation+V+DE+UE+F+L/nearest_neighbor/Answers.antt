@@ -12,21 +12,28 @@ use Rattle.delaunay_interface.proofs.nearest_vertex.DelaunayTriangulation+V+DE+U
 
 pub get_hint-hint-requires-clause-held : goal.get_hint-hint-requires-clause-held
 get_hint-hint-requires-clause-held g c =
-    let sites = subst (λ s. AreSites g.V.HasPosition.place (g.P.PlaneTests.sites c.args.tests.now) s.vertices)
+    let sites = subst
+    (λ s. AreSites g.V.HasPosition.place (g.P.PlaneTests.sites c.args.tests.now) s.vertices)
     (sym c.self.view_is) c.requires.sites in
     held_are_sites _ _ _ c.self.invariant (sites c.recall_invariant.ensures.in_range)
 
-pub nearest_by_neighbors-nearest-requires-clause-kept : goal.nearest_by_neighbors-nearest-requires-clause-kept
+pub nearest_by_neighbors-nearest-requires-clause-kept :
+    goal.nearest_by_neighbors-nearest-requires-clause-kept
 nearest_by_neighbors-nearest-requires-clause-kept g c =
-    subst (IsTriangulated g.V.HasPosition.place) (sym c.mesh-mesh.ensures) c.recall_invariant.ensures.kept
+    subst (IsTriangulated g.V.HasPosition.place)
+    (sym c.mesh-mesh.ensures) c.recall_invariant.ensures.kept
 
-pub nearest_by_neighbors-nearest-requires-clause-delaunay : goal.nearest_by_neighbors-nearest-requires-clause-delaunay
+pub nearest_by_neighbors-nearest-requires-clause-delaunay :
+    goal.nearest_by_neighbors-nearest-requires-clause-delaunay
 nearest_by_neighbors-nearest-requires-clause-delaunay g c =
-    subst (λ s. IsConstrainedDelaunay (triangulation_of g.V.HasPosition.place s) []) (sym c.mesh-mesh.ensures)
+    subst (λ s. IsConstrainedDelaunay (triangulation_of g.V.HasPosition.place s) [])
+    (sym c.mesh-mesh.ensures)
     c.recall_invariant.ensures.headline.delaunay
 
-pub nearest_by_neighbors-nearest-requires-clause-in_range : goal.nearest_by_neighbors-nearest-requires-clause-in_range
-nearest_by_neighbors-nearest-requires-clause-in_range g c = g.met.P.PlaneTests.covered_are_in_range c.args.tests.now
+pub nearest_by_neighbors-nearest-requires-clause-in_range :
+    goal.nearest_by_neighbors-nearest-requires-clause-in_range
+nearest_by_neighbors-nearest-requires-clause-in_range g c =
+    g.met.P.PlaneTests.covered_are_in_range c.args.tests.now
     (place_of g.V.Scalar.SpadeNum.whole c.args.point) c.requires.covered
 
 pub vertex-requires : goal.vertex-requires
@@ -39,6 +46,7 @@ returns g c =
     rw c.vertex.ensures.index (
       ap (λ m. state_of m.now) c.vertex.ensures.dcel ∙ c.mesh-mesh.ensures ∙ c.self.view_is,
       subst (λ s. IsNearest (triangulation_of g.V.HasPosition.place s)
-          (whole (place_of g.V.Scalar.SpadeNum.whole c.args.point)) c.nearest_by_neighbors-nearest.result)
+          (whole (place_of g.V.Scalar.SpadeNum.whole c.args.point))
+          c.nearest_by_neighbors-nearest.result)
           (c.mesh-mesh.ensures ∙ c.self.view_is) c.nearest_by_neighbors-nearest.ensures.nearest,
     )

@@ -22,12 +22,14 @@ not_both : left ≡ on → ⊥
 not_both e = cc
 
 -- all vertices are on one line where there is no face, and nowhere else
-line_by_faces : (t : Triangulation) → IsTiling t → (n : ℕ) → n ≡ length t.faces → IsTrue (eqb n 0) ↔ AreOnLine t
+line_by_faces : (t : Triangulation) → IsTiling t → (n : ℕ) → n ≡ length t.faces
+    → IsTrue (eqb n 0) ↔ AreOnLine t
 unfolding tiling
 line_by_faces t (inl tiles) n count =
     let s = tiles.spread in
     let f = tiles.covering (vertex t s.0) ((tiling t tiles).vertex_in_hull s.0 s.3) in (
-      (λ zero. absurd (no_face t (nil_from_length t.faces (sym count ∙ zero_if n zero)) f.0 f.1 f.2 f.3)),
+      (λ zero. absurd
+          (no_face t (nil_from_length t.faces (sym count ∙ zero_if n zero)) f.0 f.1 f.2 f.3)),
       (λ line. absurd (not_both (sym s.6 ∙ line s.0 s.1 s.2 s.3 s.4 s.5))),
     )
 line_by_faces t (inr line) n count = (
@@ -37,5 +39,7 @@ line_by_faces t (inr line) n count = (
 
 pub returns : goal.returns
 returns g c =
-    line_by_faces (triangulation_of g.Self.Vertex.HasPosition.place (g.Self.Triangulation.state c.args.self.now))
-    c.recall_invariant.ensures.headline.tiling c.num_inner_faces.result c.num_inner_faces.ensures.value
+    line_by_faces (triangulation_of g.Self.Vertex.HasPosition.place
+    (g.Self.Triangulation.state c.args.self.now))
+    c.recall_invariant.ensures.headline.tiling c.num_inner_faces.result
+    c.num_inner_faces.ensures.value

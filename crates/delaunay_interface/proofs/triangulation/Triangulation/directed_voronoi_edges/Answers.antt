@@ -4,4 +4,5 @@ use Rattle.delaunay_interface.proofs.triangulation.Triangulation.directed_vorono
 
 pub returns : goal.returns
 returns g c =
-    gives_elements _ _ 0 _ _ _ c.directed_voronoi_edges.ensures c.s.ensures (ap (λ s. length s.directed) c.s.ensures)
+    gives_elements _ _ 0 _ _ _ c.directed_voronoi_edges.ensures c.s.ensures
+    (ap (λ s. length s.directed) c.s.ensures)

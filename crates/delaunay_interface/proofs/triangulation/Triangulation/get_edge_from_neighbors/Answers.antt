@@ -8,11 +8,13 @@ use Rattle.delaunay_legalization.specs.State.{State, state_of}
 use Rattle.delaunay_interface.specs.Views.{AreNotJoined, IsEdgeBetween}
 use Rattle.delaunay_interface.proofs.triangulation.Triangulation.get_edge_from_neighbors.Goals as goal
 
-module _ {V D U F : Type 0} (s : State V D U F) (d : Bor (Contents V D U F)) (same : state_of d.now ≡ s) (i j : ℕ) where
+module _ {V D U F : Type 0} (s : State V D U F) (d : Bor (Contents V D U F))
+    (same : state_of d.now ≡ s) (i j : ℕ) where
   -- an edge that a mesh has, or that it has none, said of the triangulation that it holds
-  edge_or_none : (found : Option (DirectedEdgeHandle V D U F))
-      → IfSome found (λ e. (e.dcel ≡ d) × (origin d.now.mesh e.index ≡ i) × (origin d.now.mesh (rev e.index) ≡ j))
-      → IfNone found ((h : ℕ) → h < length d.now.directed → origin d.now.mesh h ≡ i → origin d.now.mesh (rev h) ≢ j)
+  edge_or_none : (found : Option (DirectedEdgeHandle V D U F)) → IfSome found
+      (λ e. (e.dcel ≡ d) × (origin d.now.mesh e.index ≡ i) × (origin d.now.mesh (rev e.index) ≡ j))
+      → IfNone found ((h : ℕ) → h < length d.now.directed → origin d.now.mesh h ≡ i
+      → origin d.now.mesh (rev h) ≢ j)
       → MatchOption found (AreNotJoined s i j) (λ e. IsEdgeBetween s i j e.dcel.now e.index)
   edge_or_none None some none = subst (λ (t : State V D U F). AreNotJoined t i j) same none
   edge_or_none (Some e) some none =
@@ -24,5 +26,7 @@ module _ {V D U F : Type 0} (s : State V D U F) (d : Bor (Contents V D U F)) (sa
 
 pub returns : goal.returns
 returns g c =
-    edge_or_none (g.Self.Triangulation.state c.args.self.now) c.s.result c.s.ensures c.args.from c.args.to
-    c.get_edge_from_neighbors.result c.get_edge_from_neighbors.ensures.some c.get_edge_from_neighbors.ensures.none
+    edge_or_none
+    (g.Self.Triangulation.state c.args.self.now) c.s.result c.s.ensures c.args.from c.args.to
+    c.get_edge_from_neighbors.result c.get_edge_from_neighbors.ensures.some
+    c.get_edge_from_neighbors.ensures.none

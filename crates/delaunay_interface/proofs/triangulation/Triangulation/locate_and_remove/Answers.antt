@@ -5,11 +5,13 @@ use Rattle.delaunay_edit.proofs.Removing.{read_place}
 use Rattle.delaunay_edit.proofs.Vertices.{here_if_on_vertex, unknown_elsewhere}
 use Rattle.delaunay_interface.proofs.triangulation.Triangulation.locate_and_remove.Goals as goal
 
-pub returns-in_ok-remove-in-OnVertex-clause-removes : goal.returns-in_ok-remove-in-OnVertex-clause-removes
+pub returns-in_ok-remove-in-OnVertex-clause-removes :
+    goal.returns-in_ok-remove-in-OnVertex-clause-removes
 returns-in_ok-remove-in-OnVertex-clause-removes g c =
     let removed = c.in_ok-remove-in-OnVertex.ensures.removes in
     let at = g.Self.Vertex.HasPosition.place in
-    let here = here_if_on_vertex at (g.Self.Triangulation.state c.args.self.now) _ c.in-OnVertex.vertex
+    let here =
+    here_if_on_vertex at (g.Self.Triangulation.state c.args.self.now) _ c.in-OnVertex.vertex
     c.in-OnVertex.ensures.location in
     record {
       apart = λ unknown. absurd (unknown (record {
@@ -19,7 +21,8 @@ returns-in_ok-remove-in-OnVertex-clause-removes g c =
       }));
       ok = record {
         index = c.in-OnVertex.vertex;
-        here = sym (read_place at (g.Self.Triangulation.state c.args.self.now).vertices c.in-OnVertex.vertex
+        here = sym (read_place at
+            (g.Self.Triangulation.state c.args.self.now).vertices c.in-OnVertex.vertex
             c.in_ok-remove-in-OnVertex.field-0 removed.value) ∙ here.1;
         had = removed.value;
         plain = removed.plain;
@@ -29,10 +32,12 @@ returns-in_ok-remove-in-OnVertex-clause-removes g c =
       err = tt;
     }
 
-pub returns-in_err-remove-in-OnVertex-clause-removes : goal.returns-in_err-remove-in-OnVertex-clause-removes
+pub returns-in_err-remove-in-OnVertex-clause-removes :
+    goal.returns-in_err-remove-in-OnVertex-clause-removes
 returns-in_err-remove-in-OnVertex-clause-removes g c =
     let removed = c.in_err-remove-in-OnVertex.ensures.removes in
-    let here = here_if_on_vertex g.Self.Vertex.HasPosition.place (g.Self.Triangulation.state c.args.self.now) _
+    let here = here_if_on_vertex g.Self.Vertex.HasPosition.place
+    (g.Self.Triangulation.state c.args.self.now) _
     c.in-OnVertex.vertex c.in-OnVertex.ensures.location in
     let p = err_from_is_err_and c.from_residual.result c.from_residual.ensures.1 in
     rw p.1 (record {
@@ -50,8 +55,10 @@ pub returns-in_default : goal.returns-in_default
 returns-in_default g c = record {
   removes = record {
     apart = λ unknown. (refl, refl);
-    ok = unknown_elsewhere g.Self.Vertex.HasPosition.place (g.Self.Triangulation.state c.args.self.now)
-        c.recall_invariant.ensures.kept _ c.locate.result c.locate.ensures.location c.in_default.not-OnVertex;
+    ok = unknown_elsewhere g.Self.Vertex.HasPosition.place
+        (g.Self.Triangulation.state c.args.self.now)
+        c.recall_invariant.ensures.kept _ c.locate.result c.locate.ensures.location
+        c.in_default.not-OnVertex;
     outer = refl;
     err = tt;
   };

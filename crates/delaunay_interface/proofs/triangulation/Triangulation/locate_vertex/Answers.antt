@@ -3,7 +3,8 @@ use Rattle.delaunay_interface.proofs.triangulation.Triangulation.locate_vertex.G
 
 pub returns-in-OnVertex : goal.returns-in-OnVertex
 returns-in-OnVertex g c =
-    let here = here_if_on_vertex _ (g.Self.Triangulation.state c.args.self.now) _ c.in-OnVertex.vertex
+    let here =
+    here_if_on_vertex _ (g.Self.Triangulation.state c.args.self.now) _ c.in-OnVertex.vertex
     c.in-OnVertex.ensures.location in
     rw c.vertex.ensures.index (c.vertex.ensures.state, here.0, here.1)
 

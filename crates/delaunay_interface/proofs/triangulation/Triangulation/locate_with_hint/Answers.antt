@@ -2,7 +2,8 @@ use Rattle.delaunay_interface.proofs.Locating.{element_in, finds_in}
 use Rattle.delaunay_interface.proofs.triangulation.Triangulation.locate_with_hint.Goals as goal
 
 pub vertex_near-vertex-requires : goal.vertex_near-vertex-requires
-vertex_near-vertex-requires g c = element_in _ _ c.recall_invariant.ensures.kept _ _ c.s-mesh.result.now
+vertex_near-vertex-requires g c =
+    element_in _ _ c.recall_invariant.ensures.kept _ _ c.s-mesh.result.now
     c.s-mesh.ensures c.locate_with_hint-answer.ensures
 
 pub returns : goal.returns

@@ -4,4 +4,5 @@ use Rattle.delaunay_interface.proofs.triangulation.Triangulation.undirected_edge
 
 pub returns : goal.returns
 returns g c =
-    gives_elements _ _ 0 _ _ _ c.undirected_edges.ensures c.s.ensures (ap (λ s. length s.undirected) c.s.ensures)
+    gives_elements _ _ 0 _ _ _ c.undirected_edges.ensures c.s.ensures
+    (ap (λ s. length s.undirected) c.s.ensures)

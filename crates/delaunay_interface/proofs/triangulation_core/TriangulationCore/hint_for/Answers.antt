@@ -5,6 +5,7 @@ use Rattle.delaunay_interface.proofs.triangulation_core.TriangulationCore.hint_f
 
 pub get_hint-requires-clause-held : goal.get_hint-requires-clause-held
 get_hint-requires-clause-held g c =
-    let sites = subst (λ s. AreSites g.V.HasPosition.place (g.P.PlaneTests.sites c.args.tests.now) s.vertices)
+    let sites = subst
+    (λ s. AreSites g.V.HasPosition.place (g.P.PlaneTests.sites c.args.tests.now) s.vertices)
     (sym c.self.view_is) c.requires.sites.sites in
     held_are_sites _ _ _ c.self.invariant (sites c.recall_invariant.ensures.in_range)

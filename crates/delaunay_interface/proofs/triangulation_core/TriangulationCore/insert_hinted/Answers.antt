@@ -4,7 +4,8 @@ use Rattle.delaunay_interface.proofs.triangulation_core.TriangulationCore.insert
 
 pub insert_told-requires-clause-fits : goal.insert_told-requires-clause-fits
 insert_told-requires-clause-fits g c =
-    rw (← c.self.view_is) (few_flips_fit (length c.self.inside.edited.vertices) c.recall_invariant.ensures.small)
+    rw (← c.self.view_is)
+    (few_flips_fit (length c.self.inside.edited.vertices) c.recall_invariant.ensures.small)
 
 pub returns-clause-inserts : goal.returns-clause-inserts
 returns-clause-inserts g c = c.insert_told.ensures.inserts

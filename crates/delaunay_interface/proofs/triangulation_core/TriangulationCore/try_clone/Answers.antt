@@ -4,4 +4,5 @@ use Rattle.delaunay_interface.proofs.triangulation_core.TriangulationCore.try_cl
 pub invariant_of-result : goal.invariant_of-result
 invariant_of-result g c =
     held_by_copy g.V.HasPosition.place _ c.requires.places c.self.inside.edited.vertices
-    c.in_ok-try_clone.field-0.vertices c.in_ok-try_clone.ensures.vertices _ _ c.self.invariant c.duplicate.ensures
+    c.in_ok-try_clone.field-0.vertices c.in_ok-try_clone.ensures.vertices _ _ c.self.invariant
+    c.duplicate.ensures

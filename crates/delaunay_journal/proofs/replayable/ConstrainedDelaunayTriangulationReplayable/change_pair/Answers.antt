@@ -1,11 +1,13 @@
 use Rattle.std.proofs.Common.{◌∙◌, refl, arith}
 use Rattle.delaunay_legalization.proofs.Questions.{both_ways}
-use Rattle.delaunay_journal.proofs.SingleEdits.{edge_joined_by, joined_by_edge, pair_joined, pair_released}
+use Rattle.delaunay_journal.proofs.SingleEdits.{edge_joined_by, joined_by_edge, pair_joined}
+use Rattle.delaunay_journal.proofs.SingleEdits.{pair_released}
 use Rattle.delaunay_journal.proofs.SingleEdits.{unjoined_is_free}
 use Rattle.delaunay_journal.proofs.replayable.ConstrainedDelaunayTriangulationReplayable.change_pair.Goals as goal
 
 pub add_constraint-requires-clause-free : goal.add_constraint-requires-clause-free
-add_constraint-requires-clause-free g c = c.can_add_constraint.ensures.0 c.if-not-can_add_constraint.false
+add_constraint-requires-clause-free g c =
+    c.can_add_constraint.ensures.0 c.if-not-can_add_constraint.false
 
 pub returns-in-Ok-clause-gives : goal.returns-in-Ok-clause-gives
 returns-in-Ok-clause-gives g c =
@@ -23,36 +25,47 @@ returns-then-index-count-3-clause-gives g c =
     let index = c.index-in-Release.ensures in
     let count = c.num_vertices-count.ensures.value in
     let pairs = c.recall_invariant.ensures.plain.pairs c.in-Release.from c.in-Release.to in
-    rw c.in-Release.is ((refl, (λ j. let below = (pairs j).0 in omega (arith, below, past, index, count))), refl)
+    rw c.in-Release.is
+    ((refl, (λ j. let below = (pairs j).0 in omega (arith, below, past, index, count))), refl)
 
 pub returns-in_default-clause-gives : goal.returns-in_default-clause-gives
 returns-in_default-clause-gives g c =
-    let free = unjoined_is_free g.V.HasPosition.place c.args.self.now c.in-Release.from c.in-Release.to
+    let free =
+    unjoined_is_free g.V.HasPosition.place c.args.self.now c.in-Release.from c.in-Release.to
     c.recall_invariant.ensures.kept c.in_default.ensures in
     rw c.in-Release.is ((refl, free), refl)
 
-pub returns-then-not-is_constraint_edge-clause-gives : goal.returns-then-not-is_constraint_edge-clause-gives
+pub returns-then-not-is_constraint_edge-clause-gives :
+    goal.returns-then-not-is_constraint_edge-clause-gives
 returns-then-not-is_constraint_edge-clause-gives g c =
     let joined =
-    edge_joined_by g.V.HasPosition.place c.args.self.now c.in-Release.from c.in-Release.to c.in-Some.edge.index
+    edge_joined_by g.V.HasPosition.place c.args.self.now c.in-Release.from c.in-Release.to
+    c.in-Some.edge.index
     c.fix-edge.result (c.fix-edge.ensures.value ∙ c.as_undirected.ensures.index) c.in-Some.ensures.1
     c.in-Some.ensures.2 in
     let marked = c.is_constraint_edge.ensures.joined.1 in
-    rw c.in-Release.is ((refl, (λ j. both_ways _ (marked (joined j)) c.if-not-is_constraint_edge.true)), refl)
+    rw c.in-Release.is
+    ((refl, (λ j. both_ways _ (marked (joined j)) c.if-not-is_constraint_edge.true)), refl)
 
-pub returns-in-Ok-remove_constraint_edge-clause-gives : goal.returns-in-Ok-remove_constraint_edge-clause-gives
+pub returns-in-Ok-remove_constraint_edge-clause-gives :
+    goal.returns-in-Ok-remove_constraint_edge-clause-gives
 returns-in-Ok-remove_constraint_edge-clause-gives g c =
     let marked = c.is_constraint_edge.ensures.marked.0 c.if-not-is_constraint_edge.false in
     let released = c.in-Ok-remove_constraint_edge.ensures.releases in
-    rw c.in-Release.is (pair_released g.V.HasPosition.place c.args.self.now c.in-Release.from c.in-Release.to
-    c.in-Some.edge.index c.fix-edge.result (c.fix-edge.ensures.value ∙ c.as_undirected.ensures.index)
-    c.in-Some.ensures.1 c.in-Some.ensures.2 c.remove_constraint_edge.new.self (released.plain marked)
+    rw c.in-Release.is
+    (pair_released g.V.HasPosition.place c.args.self.now c.in-Release.from c.in-Release.to
+    c.in-Some.edge.index c.fix-edge.result
+    (c.fix-edge.ensures.value ∙ c.as_undirected.ensures.index)
+    c.in-Some.ensures.1 c.in-Some.ensures.2 c.remove_constraint_edge.new.self
+    (released.plain marked)
     (released.«data» marked))
 
-pub returns-in-Err-remove_constraint_edge-clause-gives : goal.returns-in-Err-remove_constraint_edge-clause-gives
+pub returns-in-Err-remove_constraint_edge-clause-gives :
+    goal.returns-in-Err-remove_constraint_edge-clause-gives
 returns-in-Err-remove_constraint_edge-clause-gives g c =
     let joined =
-    joined_by_edge g.V.HasPosition.place c.args.self.now c.in-Release.from c.in-Release.to c.in-Some.edge.index
+    joined_by_edge g.V.HasPosition.place c.args.self.now c.in-Release.from c.in-Release.to
+    c.in-Some.edge.index
     c.fix-edge.result (c.fix-edge.ensures.value ∙ c.as_undirected.ensures.index) c.in-Some.ensures.1
     c.in-Some.ensures.2 in
     let there = joined (c.is_constraint_edge.ensures.joined.0 c.if-not-is_constraint_edge.false) in

@@ -6,33 +6,39 @@ use Rattle.delaunay_lines.proofs.segment.Segment.after.Goals as goal
 
 pub after_crossing-requires : goal.after_crossing-requires
 after_crossing-requires g c =
-    subst (λ (i : FixedIntersection). IsAt g.V.HasPosition.place g.V.Scalar.SpadeNum.whole g.P.PlaneTests.sites
+    subst (λ (i : FixedIntersection). IsAt g.V.HasPosition.place g.V.Scalar.SpadeNum.whole
+    g.P.PlaneTests.sites
     g.P.PlaneTests.covered c.args.self.now i) c.in-Edge.is
     (record {
       over = c.requires.over;
       within = c.requires.within;
       apart = λ e. both_ways _ (c.is_same_point.ensures.1 e) c.if-is_same_point.false;
-      met = c.requires.met (λ e. both_ways _ (c.is_same_point.ensures.1 e) c.if-is_same_point.false);
+      met =
+          c.requires.met (λ e. both_ways _ (c.is_same_point.ensures.1 e) c.if-is_same_point.false);
     })
 
 pub after_vertex-requires : goal.after_vertex-requires
 after_vertex-requires g c =
-    subst (λ (i : FixedIntersection). IsAt g.V.HasPosition.place g.V.Scalar.SpadeNum.whole g.P.PlaneTests.sites
+    subst (λ (i : FixedIntersection). IsAt g.V.HasPosition.place g.V.Scalar.SpadeNum.whole
+    g.P.PlaneTests.sites
     g.P.PlaneTests.covered c.args.self.now i) c.in-Vertex.is
     (record {
       over = c.requires.over;
       within = c.requires.within;
       apart = λ e. both_ways _ (c.is_same_point.ensures.1 e) c.if-is_same_point.false;
-      met = c.requires.met (λ e. both_ways _ (c.is_same_point.ensures.1 e) c.if-is_same_point.false);
+      met =
+          c.requires.met (λ e. both_ways _ (c.is_same_point.ensures.1 e) c.if-is_same_point.false);
     })
 
 pub after_overlap-requires : goal.after_overlap-requires
 after_overlap-requires g c =
-    subst (λ (i : FixedIntersection). IsAt g.V.HasPosition.place g.V.Scalar.SpadeNum.whole g.P.PlaneTests.sites
+    subst (λ (i : FixedIntersection). IsAt g.V.HasPosition.place g.V.Scalar.SpadeNum.whole
+    g.P.PlaneTests.sites
     g.P.PlaneTests.covered c.args.self.now i) c.in-Overlap.is
     (record {
       over = c.requires.over;
       within = c.requires.within;
       apart = λ e. both_ways _ (c.is_same_point.ensures.1 e) c.if-is_same_point.false;
-      met = c.requires.met (λ e. both_ways _ (c.is_same_point.ensures.1 e) c.if-is_same_point.false);
+      met =
+          c.requires.met (λ e. both_ways _ (c.is_same_point.ensures.1 e) c.if-is_same_point.false);
     })

@@ -17,7 +17,8 @@ use Rattle.delaunay_lines.proofs.segment.Segment.after_overlap.Goals as goal
 pub has_within-requires-clause-covered : goal.has_within-requires-clause-covered
 has_within-requires-clause-covered g c =
     let at = place_of g.V.Scalar.SpadeNum.whole in
-    subst (λ tests. g.P.PlaneTests.covered tests (at c.args.self.now.to)) (sym c.way_along.ensures.tests)
+    subst (λ tests. g.P.PlaneTests.covered tests (at c.args.self.now.to))
+    (sym c.way_along.ensures.tests)
     c.requires.over.to
 
 pub returns-then-has_within : goal.returns-then-has_within
@@ -25,7 +26,8 @@ returns-then-has_within g c =
     let points = map g.V.HasPosition.place c.args.self.now.dcel.now.vertices in
     let m = c.args.self.now.dcel.now.mesh in
     let is = same_within _ _ (place_of g.V.Scalar.SpadeNum.whole c.args.self.now.to)
-    (point_at points (origin m c.args.edge)) (point_at points (origin m (rev c.args.edge))) (IsTrue c.has_within.result)
+    (point_at points (origin m c.args.edge)) (point_at points (origin m (rev c.args.edge)))
+    (IsTrue c.has_within.result)
     c.way_along.ensures.from c.way_along.ensures.to c.has_within.ensures in
     last_within_overlap _ _ _ _ _ _ c.requires.over c.requires.apart c.args.edge c.requires.met
     (is.0 c.if-has_within.true)
@@ -40,8 +42,10 @@ returns g c =
     let twin = c.twin_of-twin.ensures.value in
     let is = same_within _ _ (at c.args.self.now.to) (point_at points (origin m edge))
     (point_at points (origin m (rev edge)))
-    (IsTrue c.has_within.result) c.way_along.ensures.from c.way_along.ensures.to c.has_within.ensures in
-    subst (λ (i : FixedIntersection). IsHandleOf now i × ComesNext (drawn points m) (whole (at c.args.self.now.from))
+    (IsTrue c.has_within.result) c.way_along.ensures.from c.way_along.ensures.to
+    c.has_within.ensures in
+    subst (λ (i : FixedIntersection). IsHandleOf now i
+    × ComesNext (drawn points m) (whole (at c.args.self.now.from))
     (whole (at c.args.self.now.to)) (along (origin m edge) (origin m (rev edge))) (item_of m i))
     (sym (c.start_item.ensures.item ∙ ap (λ (h : ℕ). Vertex (origin m h)) twin)) (
       subst (λ (h : ℕ). origin m h < length now.vertices) twin c.start_item.ensures.within,

@@ -16,11 +16,13 @@ returns-then-is_same_point g c =
     let at = point_at (map g.V.HasPosition.place c.args.self.now.dcel.now.vertices) c.args.vertex in
     last_at_end _ _ _ _ _ _ c.requires.over c.requires.apart c.args.vertex c.requires.met
     (subst (λ (z : Point). IsSame (whole at) (whole z))
-    (sym c.position_of.ensures.place ∙ c.is_same_point.ensures.0 c.if-is_same_point.true) (same-refl (whole at)))
+    (sym c.position_of.ensures.place ∙ c.is_same_point.ensures.0 c.if-is_same_point.true)
+    (same-refl (whole at)))
 
 pub edge_towards-requires-clause-apart : goal.edge_towards-requires-clause-apart
 edge_towards-requires-clause-apart g c =
-    λ e. both_ways _ (c.is_same_point.ensures.1 (c.position_of.ensures.place ∙ e)) c.if-is_same_point.false
+    λ e. both_ways _
+    (c.is_same_point.ensures.1 (c.position_of.ensures.place ∙ e)) c.if-is_same_point.false
 
 pub along_or_into-requires-clause-at : goal.along_or_into-requires-clause-at
 along_or_into-requires-clause-at g c =
@@ -30,7 +32,8 @@ along_or_into-requires-clause-at g c =
 pub along_or_into-requires-clause-starts_apart : goal.along_or_into-requires-clause-starts_apart
 along_or_into-requires-clause-starts_apart g c =
     λ e. both_ways _ (c.is_same_point.ensures.1 (c.position_of.ensures.place
-    ∙ ap (point_at (map g.V.HasPosition.place c.args.self.now.dcel.now.vertices)) (sym c.in-Some.ensures.1) ∙ e))
+    ∙ ap (point_at (map g.V.HasPosition.place c.args.self.now.dcel.now.vertices))
+    (sym c.in-Some.ensures.1) ∙ e))
     c.if-is_same_point.false
 
 pub returns-in-Some : goal.returns-in-Some

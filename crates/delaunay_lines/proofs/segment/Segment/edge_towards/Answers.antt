@@ -4,7 +4,8 @@ use Rattle.half_edge_mesh.specs.Rounds.{GivesRound, out_edges_left}
 use Rattle.delaunay_core.specs.Place.{place_of}
 use Rattle.delaunay_legalization.specs.Known.{point_at}
 use Rattle.delaunay_legalization.proofs.Questions.{both_ways}
-use Rattle.delaunay_legalization.proofs.Rounds.{round_begins, next_within, next_starts, round_goes_on, round_ends}
+use Rattle.delaunay_legalization.proofs.Rounds.{round_begins, next_within, next_starts}
+use Rattle.delaunay_legalization.proofs.Rounds.{round_goes_on, round_ends}
 use Rattle.delaunay_lines.specs.Steps.{LeadsTo}
 use Rattle.delaunay_lines.proofs.segment.Segment.edge_towards.Goals as goal
 
@@ -18,13 +19,16 @@ loop-edge-init g c =
     c.requires.over.mesh.valid
     (subst (λ it. GivesRound d c.args.vertex (out_edges_left it))
     (sym c.into_iter-edge-iterator.ensures.into_iter_gives)
-    (subst (λ (v : ℕ). GivesRound d v (out_edges_left c.out_edges-edge-items.result)) c.vertex.ensures.index
+    (subst (λ (v : ℕ). GivesRound d v (out_edges_left c.out_edges-edge-items.result))
+    c.vertex.ensures.index
     c.out_edges-edge-items.ensures))
 
 pub leads_to-requires-clause-within : goal.leads_to-requires-clause-within
 leads_to-requires-clause-within g c =
-    let w = next_within c.args.self.now.dcel.now c.args.vertex _ (out_edges_left c.loop-edge.edge-iterator)
-    c.loop-edge.invariant (c.in-Some.edge.dcel, c.in-Some.edge.index) (out_edges_left c.next.new.self)
+    let w = next_within c.args.self.now.dcel.now c.args.vertex _
+    (out_edges_left c.loop-edge.edge-iterator)
+    c.loop-edge.invariant (c.in-Some.edge.dcel, c.in-Some.edge.index)
+    (out_edges_left c.next.new.self)
     c.in-Some.ensures.steps in
     let fit = c.requires.over.mesh.fits.directed_fit in
     let is = c.fix-edge.ensures.value in
@@ -33,36 +37,47 @@ leads_to-requires-clause-within g c =
 pub leads_to-requires-clause-starts_apart : goal.leads_to-requires-clause-starts_apart
 leads_to-requires-clause-starts_apart g c =
     let points = map g.V.HasPosition.place c.args.self.now.dcel.now.vertices in
-    let o = next_starts c.args.self.now.dcel.now c.args.vertex _ (out_edges_left c.loop-edge.edge-iterator)
-    c.loop-edge.invariant (c.in-Some.edge.dcel, c.in-Some.edge.index) (out_edges_left c.next.new.self)
+    let o = next_starts c.args.self.now.dcel.now c.args.vertex _
+    (out_edges_left c.loop-edge.edge-iterator)
+    c.loop-edge.invariant (c.in-Some.edge.dcel, c.in-Some.edge.index)
+    (out_edges_left c.next.new.self)
     c.in-Some.ensures.steps in
-    λ e. c.requires.apart (ap (point_at points) (sym (ap (origin c.args.self.now.dcel.now.mesh) c.fix-edge.ensures.value
+    λ e. c.requires.apart (ap (point_at points)
+    (sym (ap (origin c.args.self.now.dcel.now.mesh) c.fix-edge.ensures.value
     ∙ o)) ∙ e)
 
 pub loop-edge-preserved : goal.loop-edge-preserved
 loop-edge-preserved g c =
-    round_goes_on c.args.self.now.dcel.now c.args.vertex _ (out_edges_left c.loop-edge.edge-iterator)
-    c.loop-edge.invariant (c.in-Some.edge.dcel, c.in-Some.edge.index) (out_edges_left c.next.new.self)
+    round_goes_on c.args.self.now.dcel.now c.args.vertex _
+    (out_edges_left c.loop-edge.edge-iterator)
+    c.loop-edge.invariant (c.in-Some.edge.dcel, c.in-Some.edge.index)
+    (out_edges_left c.next.new.self)
     c.in-Some.ensures.steps
     (λ x. both_ways _ (c.leads_to.ensures.1 (subst
-    (λ (h : ℕ). LeadsTo (map g.V.HasPosition.place c.args.self.now.dcel.now.vertices) c.args.self.now.dcel.now.mesh
+    (λ (h : ℕ). LeadsTo
+    (map g.V.HasPosition.place c.args.self.now.dcel.now.vertices) c.args.self.now.dcel.now.mesh
     (place_of g.V.Scalar.SpadeNum.whole c.args.self.now.to) h) (sym c.fix-edge.ensures.value) x))
     c.if-leads_to.false)
 
 pub returns : goal.returns
 returns g c =
-    λ h within starts. round_ends c.args.self.now.dcel.now c.args.vertex _ (out_edges_left c.loop-edge.edge-iterator)
+    λ h within starts. round_ends c.args.self.now.dcel.now c.args.vertex _
+    (out_edges_left c.loop-edge.edge-iterator)
     c.loop-edge.invariant c.in-None.ensures.steps.0 h
     (subst (λ (n : ℕ). h < n) c.requires.over.mesh.fits.directed_fit within) starts
 
 pub returns-then-leads_to : goal.returns-then-leads_to
 returns-then-leads_to g c =
     let m = c.args.self.now.dcel.now.mesh in
-    let o = next_starts c.args.self.now.dcel.now c.args.vertex _ (out_edges_left c.loop-edge.edge-iterator)
-    c.loop-edge.invariant (c.in-Some.edge.dcel, c.in-Some.edge.index) (out_edges_left c.next.new.self)
+    let o = next_starts c.args.self.now.dcel.now c.args.vertex _
+    (out_edges_left c.loop-edge.edge-iterator)
+    c.loop-edge.invariant (c.in-Some.edge.dcel, c.in-Some.edge.index)
+    (out_edges_left c.next.new.self)
     c.in-Some.ensures.steps in
-    let w = next_within c.args.self.now.dcel.now c.args.vertex _ (out_edges_left c.loop-edge.edge-iterator)
-    c.loop-edge.invariant (c.in-Some.edge.dcel, c.in-Some.edge.index) (out_edges_left c.next.new.self)
+    let w = next_within c.args.self.now.dcel.now c.args.vertex _
+    (out_edges_left c.loop-edge.edge-iterator)
+    c.loop-edge.invariant (c.in-Some.edge.dcel, c.in-Some.edge.index)
+    (out_edges_left c.next.new.self)
     c.in-Some.ensures.steps in
     let fit = c.requires.over.mesh.fits.directed_fit in
     let is = c.fix-edge.ensures.value in (

@@ -8,7 +8,8 @@ pub loop-index-preserved : goal.loop-index-preserved
 loop-index-preserved g c =
     let at = place_of g.V.Scalar.SpadeNum.whole in
     below_more (λ h. ¬ IsEntered (map g.V.HasPosition.place c.args.self.now.dcel.now.vertices)
-    c.args.self.now.dcel.now.mesh (at c.args.self.now.from) (at c.args.self.now.to) h) c.loop-index.index
+    c.args.self.now.dcel.now.mesh (at c.args.self.now.from)
+    (at c.args.self.now.to) h) c.loop-index.index
     c.loop-index.invariant
     (λ x. both_ways _ (c.is_entered.ensures.1 (subst
     (λ (h : ℕ). IsEntered (map g.V.HasPosition.place c.args.self.now.dcel.now.vertices)

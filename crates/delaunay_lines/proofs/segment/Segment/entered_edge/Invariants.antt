@@ -6,4 +6,5 @@ use Rattle.delaunay_lines.proofs.segment.Segment.entered_edge.Given as goal
 abbrev pub invariant-loop-index : goal.invariant-loop-index
 invariant-loop-index g l = (h : ℕ) → h < l.index →
     ¬ IsEntered (map g.V.HasPosition.place l.self.dcel.now.vertices) l.self.dcel.now.mesh
-    (place_of g.V.Scalar.SpadeNum.whole l.self.from) (place_of g.V.Scalar.SpadeNum.whole l.self.to) h
+    (place_of g.V.Scalar.SpadeNum.whole l.self.from)
+    (place_of g.V.Scalar.SpadeNum.whole l.self.to) h

@@ -10,11 +10,13 @@ use Rattle.delaunay_lines.specs.declared.intersection.FixedIntersection.TheVaria
 use Rattle.delaunay_lines.specs.Walk.{Starts}
 use Rattle.delaunay_lines.proofs.SegmentTests.{differs_if_within}
 use Rattle.delaunay_lines.proofs.MeshSteps.{ends_apart}
-use Rattle.delaunay_lines.proofs.FirstItems.{on_if_neither, alone_on_edge, over_edge, over_twin, along_edge, along_twin}
+use Rattle.delaunay_lines.proofs.FirstItems.{on_if_neither, alone_on_edge, over_edge, over_twin}
+use Rattle.delaunay_lines.proofs.FirstItems.{along_edge, along_twin}
 use Rattle.delaunay_lines.proofs.segment.Segment.first_on_edge.Goals as goal
 
 pub returns-then-is_same_point : goal.returns-then-is_same_point
-returns-then-is_same_point g c = alone_on_edge _ _ _ _ _ _ c.requires.over c.args.edge c.requires.within
+returns-then-is_same_point g c =
+    alone_on_edge _ _ _ _ _ _ c.requires.over c.args.edge c.requires.within
     c.requires.start (c.is_same_point.ensures.0 c.if-is_same_point.true)
 
 pub returns-then-is_on_left_side : goal.returns-then-is_on_left_side
@@ -26,7 +28,8 @@ returns-then-is_on_left_side g c =
 pub returns-then-is_on_right_side : goal.returns-then-is_on_right_side
 returns-then-is_on_right_side g c =
     let at = place_of g.V.Scalar.SpadeNum.whole in
-    subst (λ (k : ℕ). Starts g.V.HasPosition.place c.args.self.now.dcel.now (at c.args.self.now.from)
+    subst
+    (λ (k : ℕ). Starts g.V.HasPosition.place c.args.self.now.dcel.now (at c.args.self.now.from)
     (at c.args.self.now.to) (Some (Edge k))) (sym c.twin_of-twin.ensures.value)
     (over_twin _ _ _ _ _ _ c.requires.over c.args.edge c.requires.within c.requires.start
     (λ e. both_ways _ (c.is_same_point.ensures.1 e) c.if-is_same_point.false)
@@ -43,31 +46,39 @@ goes_towards-requires-clause-way g c =
     let at = place_of g.V.Scalar.SpadeNum.whole in
     let start = point_at points (origin m c.args.edge) in
     let end = point_at points (origin m (rev c.args.edge)) in
-    let ends = ends_apart _ _ _ _ _ _ c.requires.over c.args.edge c.requires.within start end (λ _. start) (λ _. end) in
-    let is = c.start_of.ensures.place ∙ ap (λ (h : ℕ). point_at points (origin m h)) c.twin_of-twin.ensures.value in
+    let ends = ends_apart _ _ _ _ _ _ c.requires.over c.args.edge c.requires.within start end
+    (λ _. start) (λ _. end) in
+    let is = c.start_of.ensures.place
+    ∙ ap (λ (h : ℕ). point_at points (origin m h)) c.twin_of-twin.ensures.value in
     record {
       from = c.requires.over.from;
       to = covered_in (g.P.PlaneTests.covered tests) (g.P.PlaneTests.sites tests)
           (g.met.P.PlaneTests.sites_are_covered tests)
           points (at c.start_of.result) c.requires.over.sites c.start_of.ensures.listed;
-      apart = λ e. (differs_if_within start end ends (at c.args.self.now.from) c.requires.start).1 (e ∙ is);
+      apart = λ e. (differs_if_within start end ends (at c.args.self.now.from) c.requires.start).1
+          (e ∙ is);
     }
 
 pub goes_towards-requires-clause-apart : goal.goes_towards-requires-clause-apart
-goes_towards-requires-clause-apart g c = λ e. both_ways _ (c.is_same_point.ensures.1 e) c.if-is_same_point.false
+goes_towards-requires-clause-apart g c =
+    λ e. both_ways _ (c.is_same_point.ensures.1 e) c.if-is_same_point.false
 
 pub returns-then-goes_towards : goal.returns-then-goes_towards
 returns-then-goes_towards g c =
     let points = map g.V.HasPosition.place c.args.self.now.dcel.now.vertices in
     let m = c.args.self.now.dcel.now.mesh in
     let at = place_of g.V.Scalar.SpadeNum.whole in
-    let is = c.start_of.ensures.place ∙ ap (λ (h : ℕ). point_at points (origin m h)) c.twin_of-twin.ensures.value in
+    let is = c.start_of.ensures.place
+    ∙ ap (λ (h : ℕ). point_at points (origin m h)) c.twin_of-twin.ensures.value in
     along_edge _ _ _ _ _ _ c.requires.over c.args.edge c.requires.within c.requires.start
     (λ e. both_ways _ (c.is_same_point.ensures.1 e) c.if-is_same_point.false)
-    (on_if_neither _ (λ e. both_ways _ (c.is_on_left_side.ensures.1 (c.side_of_edge-side.ensures ∙ e))
-    c.if-is_on_left_side.false) (λ e. both_ways _ (c.is_on_right_side.ensures.1 (c.side_of_edge-side.ensures ∙ e))
+    (on_if_neither _
+    (λ e. both_ways _ (c.is_on_left_side.ensures.1 (c.side_of_edge-side.ensures ∙ e))
+    c.if-is_on_left_side.false)
+    (λ e. both_ways _ (c.is_on_right_side.ensures.1 (c.side_of_edge-side.ensures ∙ e))
     c.if-is_on_right_side.false))
-    (subst (λ (z : Point). IsAhead (whole (at c.args.self.now.from)) (whole z) (whole (at c.args.self.now.to))) is
+    (subst (λ (z : Point). IsAhead (whole (at c.args.self.now.from)) (whole z)
+    (whole (at c.args.self.now.to))) is
     (c.goes_towards.ensures.0 c.if-goes_towards.true))
 
 pub returns-else-goes_towards : goal.returns-else-goes_towards
@@ -75,16 +86,21 @@ returns-else-goes_towards g c =
     let points = map g.V.HasPosition.place c.args.self.now.dcel.now.vertices in
     let m = c.args.self.now.dcel.now.mesh in
     let at = place_of g.V.Scalar.SpadeNum.whole in
-    let is = c.start_of.ensures.place ∙ ap (λ (h : ℕ). point_at points (origin m h)) c.twin_of-twin.ensures.value in
-    subst (λ (k : ℕ). Starts g.V.HasPosition.place c.args.self.now.dcel.now (at c.args.self.now.from)
+    let is = c.start_of.ensures.place
+    ∙ ap (λ (h : ℕ). point_at points (origin m h)) c.twin_of-twin.ensures.value in
+    subst
+    (λ (k : ℕ). Starts g.V.HasPosition.place c.args.self.now.dcel.now (at c.args.self.now.from)
     (at c.args.self.now.to) (Some (Overlap k))) (sym c.twin_of-twin.ensures.value)
     (along_twin _ _ _ _ _ _ c.requires.over c.args.edge c.requires.within c.requires.start
     (λ e. both_ways _ (c.is_same_point.ensures.1 e) c.if-is_same_point.false)
     (subst (λ (k : ℕ). k < length c.args.self.now.dcel.now.directed) c.twin_of-twin.ensures.value
     c.twin_of-twin.ensures.within)
-    (on_if_neither _ (λ e. both_ways _ (c.is_on_left_side.ensures.1 (c.side_of_edge-side.ensures ∙ e))
-    c.if-is_on_left_side.false) (λ e. both_ways _ (c.is_on_right_side.ensures.1 (c.side_of_edge-side.ensures ∙ e))
+    (on_if_neither _
+    (λ e. both_ways _ (c.is_on_left_side.ensures.1 (c.side_of_edge-side.ensures ∙ e))
+    c.if-is_on_left_side.false)
+    (λ e. both_ways _ (c.is_on_right_side.ensures.1 (c.side_of_edge-side.ensures ∙ e))
     c.if-is_on_right_side.false))
     (λ a. both_ways _ (c.goes_towards.ensures.1 (subst
-    (λ (z : Point). IsAhead (whole (at c.args.self.now.from)) (whole z) (whole (at c.args.self.now.to))) (sym is)
+    (λ (z : Point). IsAhead (whole (at c.args.self.now.from)) (whole z)
+    (whole (at c.args.self.now.to))) (sym is)
     a)) c.if-goes_towards.false))

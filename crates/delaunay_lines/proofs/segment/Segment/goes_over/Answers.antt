@@ -11,8 +11,10 @@ pub returns-then-is_on_right_side_or_on_line : goal.returns-then-is_on_right_sid
 returns-then-is_on_right_side_or_on_line g c =
     let at = place_of g.V.Scalar.SpadeNum.whole in
     let end = subst (λ (k : ℕ). c.side_of_start-end.result ≡ side (whole (at c.args.self.now.from))
-    (whole (at c.args.self.now.to)) (place (map g.V.HasPosition.place c.args.self.now.dcel.now.vertices)
-    (origin c.args.self.now.dcel.now.mesh k))) c.twin_of.ensures.value c.side_of_start-end.ensures in (
+    (whole (at c.args.self.now.to))
+    (place (map g.V.HasPosition.place c.args.self.now.dcel.now.vertices)
+    (origin c.args.self.now.dcel.now.mesh k))) c.twin_of.ensures.value
+    c.side_of_start-end.ensures in (
       (λ t. record {
         start = λ e. c.is_on_right_side_or_on_line.ensures.0 c.if-is_on_right_side_or_on_line.true
             (c.side_of_start-start.ensures ∙ e);
@@ -24,5 +26,6 @@ returns-then-is_on_right_side_or_on_line g c =
 pub returns-else-is_on_right_side_or_on_line : goal.returns-else-is_on_right_side_or_on_line
 returns-else-is_on_right_side_or_on_line g c = (
   (λ t. absurd (both_ways _ t c.if-is_on_right_side_or_on_line.false)),
-  (λ x. c.is_on_right_side_or_on_line.ensures.1 (λ e. x.start (sym c.side_of_start-start.ensures ∙ e))),
+  (λ x. c.is_on_right_side_or_on_line.ensures.1
+      (λ e. x.start (sym c.side_of_start-start.ensures ∙ e))),
 )

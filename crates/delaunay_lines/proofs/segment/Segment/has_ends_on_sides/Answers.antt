@@ -16,5 +16,6 @@ returns-then-is_on_right_side_or_on_line g c = (
 pub returns-else-is_on_right_side_or_on_line : goal.returns-else-is_on_right_side_or_on_line
 returns-else-is_on_right_side_or_on_line g c = (
   (λ t. absurd (both_ways _ t c.if-is_on_right_side_or_on_line.false)),
-  (λ x. c.is_on_right_side_or_on_line.ensures.1 (λ e. x.from (sym c.side_of_edge-start.ensures ∙ e))),
+  (λ x. c.is_on_right_side_or_on_line.ensures.1
+      (λ e. x.from (sym c.side_of_edge-start.ensures ∙ e))),
 )

@@ -8,4 +8,5 @@ returns-then-goes_right g c = (
 )
 
 pub returns-else-goes_right : goal.returns-else-goes_right
-returns-else-goes_right g c = ((λ t. absurd (both_ways _ t c.if-goes_right.false)), (λ x. c.goes_right.ensures.1 x.0))
+returns-else-goes_right g c =
+    ((λ t. absurd (both_ways _ t c.if-goes_right.false)), (λ x. c.goes_right.ensures.1 x.0))

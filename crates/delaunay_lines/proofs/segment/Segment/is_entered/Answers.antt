@@ -16,6 +16,7 @@ returns-then-is_outer g c = (
 pub returns-else-is_outer : goal.returns-else-is_outer
 returns-else-is_outer g c = (
   (λ t. absurd (both_ways _ t c.if-is_outer.false)),
-  (λ x. c.is_outer.ensures.1 (subst (λ (k : ℕ). face c.args.self.now.dcel.now.mesh k ≡ 0) (sym c.twin_of.ensures.value)
+  (λ x. c.is_outer.ensures.1
+      (subst (λ (k : ℕ). face c.args.self.now.dcel.now.mesh k ≡ 0) (sym c.twin_of.ensures.value)
       x.0)),
 )

@@ -3,7 +3,8 @@ use Rattle.delaunay_legalization.proofs.Questions.{both_ways}
 use Rattle.delaunay_lines.proofs.segment.Segment.leads_to.Goals as goal
 
 pub returns-then-is_edge_ahead : goal.returns-then-is_edge_ahead
-returns-then-is_edge_ahead g c = ((λ t. inl (c.is_edge_ahead.ensures.0 c.if-is_edge_ahead.true)), (λ x. search rules))
+returns-then-is_edge_ahead g c =
+    ((λ t. inl (c.is_edge_ahead.ensures.0 c.if-is_edge_ahead.true)), (λ x. search rules))
 
 pub returns-else-is_edge_ahead : goal.returns-else-is_edge_ahead
 returns-else-is_edge_ahead g c = (

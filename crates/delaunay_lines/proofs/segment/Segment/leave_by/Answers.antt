@@ -9,6 +9,7 @@ returns-then-ends_left_of g c = c.ends_left_of.ensures.0 c.if-ends_left_of.true
 pub returns : goal.returns
 returns g c = (
   ap Edge c.twin_of.ensures.value,
-  subst (λ (k : ℕ). k < length c.args.self.now.dcel.now.directed) c.twin_of.ensures.value c.twin_of.ensures.within,
+  subst (λ (k : ℕ). k < length c.args.self.now.dcel.now.directed) c.twin_of.ensures.value
+      c.twin_of.ensures.within,
   (λ l. both_ways _ (c.ends_left_of.ensures.1 l) c.if-ends_left_of.false),
 )

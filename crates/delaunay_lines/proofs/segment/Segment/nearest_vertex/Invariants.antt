@@ -5,4 +5,5 @@ use Rattle.delaunay_lines.proofs.segment.Segment.nearest_vertex.Given as goal
 
 abbrev pub invariant-loop-index : goal.invariant-loop-index
 invariant-loop-index g l = IsNearestOf (map g.V.HasPosition.place l.self.dcel.now.vertices) l.index
-    (place_of g.V.Scalar.SpadeNum.whole l.self.from) (place_of g.V.Scalar.SpadeNum.whole l.self.to) l.nearest
+    (place_of g.V.Scalar.SpadeNum.whole l.self.from)
+    (place_of g.V.Scalar.SpadeNum.whole l.self.to) l.nearest

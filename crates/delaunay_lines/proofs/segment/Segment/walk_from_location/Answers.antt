@@ -10,7 +10,8 @@ walk_from_outside-requires-clause-start g c =
     let located = Locates (map g.V.HasPosition.place d.vertices) d.mesh
     (place_of g.V.Scalar.SpadeNum.whole c.args.self.now.from) in
     elim c.in-OutsideOfConvexHull.is [
-      | inl a ↦ outside_that_edge _ _ _ _ _ _ c.requires.over a.0 (subst located a.1 c.requires.start)
+      | inl a ↦
+          outside_that_edge _ _ _ _ _ _ c.requires.over a.0 (subst located a.1 c.requires.start)
       | inr e ↦ without_triangulation _ _ _ _ _ _ c.requires.over (subst located e c.requires.start)
     ]
 

@@ -13,7 +13,8 @@ returns-clause-way g c =
     let at = place_of g.V.Scalar.SpadeNum.whole in
     let covered = covered_in (g.P.PlaneTests.covered tests) (g.P.PlaneTests.sites tests)
     (g.met.P.PlaneTests.sites_are_covered tests) points in
-    let ends = ap (λ (h : ℕ). point_at points (origin c.args.self.now.dcel.now.mesh h)) c.twin_of.ensures.value in
+    let ends = ap (λ (h : ℕ). point_at points (origin c.args.self.now.dcel.now.mesh h))
+    c.twin_of.ensures.value in
     record {
       from = covered (at c.start_of.result) c.requires.over.sites c.start_of.ensures.listed;
       to = covered (at c.start_of-2.result) c.requires.over.sites c.start_of-2.ensures.listed;

@@ -9,7 +9,9 @@ returns-then-ends_elsewhere g c = c.is_strictly_within.ensures
 pub returns-else-ends_elsewhere : goal.returns-else-ends_elsewhere
 returns-else-ends_elsewhere g c = (
   (λ t. absurd (both_ways _ t c.if-ends_elsewhere.false)),
-  (λ w. c.ends_elsewhere.ensures.1 (differs_if_within (place_of g.S.SpadeNum.whole c.args.self.now.from)
-      (place_of g.S.SpadeNum.whole c.args.self.now.to) c.requires.way.apart (place_of g.S.SpadeNum.whole c.args.point)
+  (λ w. c.ends_elsewhere.ensures.1
+      (differs_if_within (place_of g.S.SpadeNum.whole c.args.self.now.from)
+      (place_of g.S.SpadeNum.whole c.args.self.now.to) c.requires.way.apart
+      (place_of g.S.SpadeNum.whole c.args.point)
       w)),
 )

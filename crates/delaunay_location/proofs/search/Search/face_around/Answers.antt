@@ -8,8 +8,10 @@ pub loop-index-preserved : goal.loop-index-preserved
 loop-index-preserved g c =
     let at = g.V.HasPosition.place in
     let number = g.V.Scalar.SpadeNum.whole in
-    next_face (λ f. ¬ IsInFace at number c.args.self.now f) c.loop-index.index c.loop-index.invariant
-    (λ i. both_ways _ (c.is_inside_face.ensures.1 (rw c.from_index-face.ensures i)) c.if-is_inside_face.false)
+    next_face
+    (λ f. ¬ IsInFace at number c.args.self.now f) c.loop-index.index c.loop-index.invariant
+    (λ i. both_ways _
+    (c.is_inside_face.ensures.1 (rw c.from_index-face.ensures i)) c.if-is_inside_face.false)
 
 pub returns : goal.returns
 returns g c f positive h =

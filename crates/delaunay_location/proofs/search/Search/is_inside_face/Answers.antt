@@ -25,7 +25,8 @@ is_strictly_inside-requires-clause-c_covered g c =
 pub is_strictly_inside-requires-clause-turns : goal.is_strictly_inside-requires-clause-turns
 is_strictly_inside-requires-clause-turns g c =
     let corners = c.corners_of-a.ensures in
-    turns_as_face _ _ (place_of g.V.Scalar.SpadeNum.whole c.args.self.now.point) _ _ _ _ corners.face
+    turns_as_face _ _
+    (place_of g.V.Scalar.SpadeNum.whole c.args.self.now.point) _ _ _ _ corners.face
     corners.first corners.second corners.third
 
 pub returns : goal.returns
@@ -37,5 +38,6 @@ returns g c =
     let third = point_of c.corners_of-a.result.2 in
     let corners = c.corners_of-a.ensures in
     both_iff c.is_strictly_inside.ensures
-    (inside_face (map g.V.HasPosition.place d.vertices) d.mesh (point_of c.args.self.now.point) first second third
+    (inside_face (map g.V.HasPosition.place d.vertices) d.mesh
+    (point_of c.args.self.now.point) first second third
     c.args.face corners.first corners.second corners.third)

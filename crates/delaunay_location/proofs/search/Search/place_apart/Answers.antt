@@ -16,14 +16,16 @@ edge_from_nearest-requires-clause-some g c =
     let p = place_of g.V.Scalar.SpadeNum.whole c.args.self.now.point in
     let several : 2 ≤ length c.args.self.now.dcel.now.vertices =
     omega (arith, c.num_vertices.ensures.value, c.if-num_vertices-lt2.false) in
-    some_edge _ s c.requires.search.kept p c.requires.apart c.in-None.ensures c.in-None-face_around.ensures several
+    some_edge _ s c.requires.search.kept p c.requires.apart c.in-None.ensures
+    c.in-None-face_around.ensures several
 
 pub returns-in-None-face_around : goal.returns-in-None-face_around
 returns-in-None-face_around g c =
     let s = state_of c.args.self.now.dcel.now in
     let several : 2 ≤ length c.args.self.now.dcel.now.vertices =
     omega (arith, c.num_vertices.ensures.value, c.if-num_vertices-lt2.false) in
-    past_end _ s c.requires.search.kept _ c.requires.apart c.in-None.ensures c.in-None-face_around.ensures several
+    past_end _ s c.requires.search.kept _ c.requires.apart c.in-None.ensures
+    c.in-None-face_around.ensures several
     c.edge_from_nearest.result c.edge_from_nearest.ensures
 
 pub edge_from_nearest-requires-clause-in_range : goal.edge_from_nearest-requires-clause-in_range

@@ -6,15 +6,19 @@ use Rattle.delaunay_location.proofs.search.Search.place_at_edge.Goals.{else-is_o
 use Rattle.delaunay_location.proofs.search.Search.place_at_edge.Goals.{else-is_outer-via-else-is_outer}
 use Rattle.delaunay_location.proofs.search.Search.place_at_edge.Goals as goal
 
-pub is_strictly_within-requires-clause-from_covered : goal.is_strictly_within-requires-clause-from_covered
+pub is_strictly_within-requires-clause-from_covered :
+    goal.is_strictly_within-requires-clause-from_covered
 is_strictly_within-requires-clause-from_covered g c =
     let ends = c.ends_of.ensures in
-    vertex_covered _ _ _ _ g.met.P.PlaneTests.sites_are_covered _ c.requires.search _ _ ends.edge.source ends.from
+    vertex_covered _ _ _ _ g.met.P.PlaneTests.sites_are_covered _ c.requires.search _ _
+    ends.edge.source ends.from
 
-pub is_strictly_within-requires-clause-to_covered : goal.is_strictly_within-requires-clause-to_covered
+pub is_strictly_within-requires-clause-to_covered :
+    goal.is_strictly_within-requires-clause-to_covered
 is_strictly_within-requires-clause-to_covered g c =
     let ends = c.ends_of.ensures in
-    vertex_covered _ _ _ _ g.met.P.PlaneTests.sites_are_covered _ c.requires.search _ _ ends.edge.target ends.to
+    vertex_covered _ _ _ _ g.met.P.PlaneTests.sites_are_covered _ c.requires.search _ _
+    ends.edge.target ends.to
 
 pub is_strictly_within-requires-clause-not_from : goal.is_strictly_within-requires-clause-not_from
 is_strictly_within-requires-clause-not_from g c same =
@@ -29,12 +33,14 @@ is_strictly_within-requires-clause-not_to g c same =
 pub turns_left-requires-clause-a_covered : goal.turns_left-requires-clause-a_covered
 turns_left-requires-clause-a_covered g c =
     let ends = c.ends_of.ensures in
-    vertex_covered _ _ _ _ g.met.P.PlaneTests.sites_are_covered _ c.requires.search _ _ ends.edge.source ends.from
+    vertex_covered _ _ _ _ g.met.P.PlaneTests.sites_are_covered _ c.requires.search _ _
+    ends.edge.source ends.from
 
 pub turns_left-requires-clause-b_covered : goal.turns_left-requires-clause-b_covered
 turns_left-requires-clause-b_covered g c =
     let ends = c.ends_of.ensures in
-    vertex_covered _ _ _ _ g.met.P.PlaneTests.sites_are_covered _ c.requires.search _ _ ends.edge.target ends.to
+    vertex_covered _ _ _ _ g.met.P.PlaneTests.sites_are_covered _ c.requires.search _ _
+    ends.edge.target ends.to
 
 pub returns-then-turns_left : goal.returns-then-turns_left
 returns-then-turns_left g c =
@@ -51,5 +57,6 @@ returns g c =
     (λ l. elim c.else-is_outer.branch [
       | else-is_outer-via-then-is_outer+else-turns_left w ↦
           both_ways _ (w.turns_left.ensures.1 l.1) w.if-turns_left.false
-      | else-is_outer-via-else-is_outer w ↦ both_ways _ (c.is_outer.ensures.1 l.0) w.if-is_outer.false
+      | else-is_outer-via-else-is_outer w ↦
+          both_ways _ (c.is_outer.ensures.1 l.0) w.if-is_outer.false
     ])

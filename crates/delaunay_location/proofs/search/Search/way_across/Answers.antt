@@ -9,21 +9,24 @@ pub returns-then-is_on_right_side : goal.returns-then-is_on_right_side
 returns-then-is_on_right_side g c =
     let stop = c.requires.first_stop in
     rw c.beyond.ensures (across_edge g.V.HasPosition.place (state_of c.args.self.now.dcel.now)
-    c.requires.search.kept g.V.Scalar.SpadeNum.whole c.args.first.edge c.args.first.from c.args.first.to
+    c.requires.search.kept g.V.Scalar.SpadeNum.whole c.args.first.edge c.args.first.from
+    c.args.first.to
     stop.within stop.from stop.to)
 
 pub returns-then-is_on_right_side-2 : goal.returns-then-is_on_right_side-2
 returns-then-is_on_right_side-2 g c =
     let stop = c.requires.second_stop in
     rw c.beyond-then-is_on_right_side-2.ensures (across_edge g.V.HasPosition.place
-    (state_of c.args.self.now.dcel.now) c.requires.search.kept g.V.Scalar.SpadeNum.whole c.args.second.edge
+    (state_of c.args.self.now.dcel.now) c.requires.search.kept g.V.Scalar.SpadeNum.whole
+    c.args.second.edge
     c.args.second.from c.args.second.to stop.within stop.from stop.to)
 
 pub returns-then-is_on_right_side-3 : goal.returns-then-is_on_right_side-3
 returns-then-is_on_right_side-3 g c =
     let stop = c.requires.stop in
     rw c.beyond-then-is_on_right_side-3.ensures (across_edge g.V.HasPosition.place
-    (state_of c.args.self.now.dcel.now) c.requires.search.kept g.V.Scalar.SpadeNum.whole c.args.stop.edge
+    (state_of c.args.self.now.dcel.now) c.requires.search.kept g.V.Scalar.SpadeNum.whole
+    c.args.stop.edge
     c.args.stop.from c.args.stop.to stop.within stop.from stop.to)
 
 pub returns-then-is_on_left_side-3 : goal.returns-then-is_on_left_side-3
@@ -36,9 +39,11 @@ returns-then-is_on_left_side-3 g c =
     let p = place_of number c.args.self.now.point in
     let face_is : c.fix-face.result ≡ face c.args.self.now.dcel.now.mesh c.args.stop.edge =
     c.fix-face.ensures.value ∙ rw (here.dcel, here.index) at c.face.ensures.index in
-    located_inside at s kept c.args.stop.edge c.requires.stop.within c.requires.inner p c.fix-face.result
+    located_inside at s kept c.args.stop.edge c.requires.stop.within c.requires.inner p
+    c.fix-face.result
     c.args.first.edge c.args.second.edge face_is c.requires.others
-    (left_of_stop at s kept number p c.args.stop c.requires.stop c.side_at-at_stop.result c.side_at-at_stop.ensures
+    (left_of_stop at s kept number p c.args.stop c.requires.stop c.side_at-at_stop.result
+    c.side_at-at_stop.ensures
     (c.is_on_left_side-then-is_on_left_side-2.ensures.0 c.if-is_on_left_side-3.true))
     (left_of_stop at s kept number p c.args.first c.requires.first_stop c.side_at-at_first.result
     c.side_at-at_first.ensures (c.is_on_left_side.ensures.0 c.if-is_on_left_side.true))

@@ -19,7 +19,8 @@ pub returns-then-turns_left : goal.returns-then-turns_left
 returns-then-turns_left g c =
     let s = state_of c.args.self.now.dcel.now in
     let stop = c.requires.stop in
-    let edge = mesh_edge g.V.HasPosition.place s c.requires.search.kept c.args.stop.edge stop.within in
+    let edge =
+    mesh_edge g.V.HasPosition.place s c.requires.search.kept c.args.stop.edge stop.within in
     let is_left = c.turns_left.ensures.0 c.if-turns_left.true in
     located_left _ _ _ _ _ _ stop.from stop.to edge c.requires.outer is_left
 
@@ -27,5 +28,6 @@ pub returns : goal.returns
 returns g c =
     let stop = c.requires.stop in
     rw c.beyond.ensures (across_edge g.V.HasPosition.place (state_of c.args.self.now.dcel.now)
-    c.requires.search.kept g.V.Scalar.SpadeNum.whole c.args.stop.edge c.args.stop.from c.args.stop.to
+    c.requires.search.kept g.V.Scalar.SpadeNum.whole c.args.stop.edge c.args.stop.from
+    c.args.stop.to
     stop.within stop.from stop.to)

@@ -10,8 +10,10 @@ way_across-requires-clause-first_stop g c =
     let m = c.args.self.now.dcel.now.mesh in
     let is : c.fix.result ≡ prev m c.args.stop.edge =
     c.fix.ensures.value ∙ rw (here.dcel, here.index) at c.prev.ensures.index in
-    prev_side g.V.HasPosition.place (state_of c.args.self.now.dcel.now) c.requires.search.kept c.args.stop.edge
-    c.requires.stop.within c.requires.inner g.V.Scalar.SpadeNum.whole c.fix.result c.start_before-across.result
+    prev_side g.V.HasPosition.place
+    (state_of c.args.self.now.dcel.now) c.requires.search.kept c.args.stop.edge
+    c.requires.stop.within c.requires.inner g.V.Scalar.SpadeNum.whole c.fix.result
+    c.start_before-across.result
     c.args.stop.from is c.start_before-across.ensures.place c.requires.stop.from
 
 pub way_across-requires-clause-second_stop : goal.way_across-requires-clause-second_stop
@@ -20,6 +22,8 @@ way_across-requires-clause-second_stop g c =
     let m = c.args.self.now.dcel.now.mesh in
     let is : c.fix-2.result ≡ next m c.args.stop.edge =
     c.fix-2.ensures.value ∙ rw (here.dcel, here.index) at c.next.ensures.index in
-    next_side g.V.HasPosition.place (state_of c.args.self.now.dcel.now) c.requires.search.kept c.args.stop.edge
-    c.requires.stop.within c.requires.inner g.V.Scalar.SpadeNum.whole c.fix-2.result c.args.stop.to c.start_before-across.result
+    next_side g.V.HasPosition.place
+    (state_of c.args.self.now.dcel.now) c.requires.search.kept c.args.stop.edge
+    c.requires.stop.within c.requires.inner g.V.Scalar.SpadeNum.whole c.fix-2.result c.args.stop.to
+    c.start_before-across.result
     is c.requires.stop.to c.start_before-across.ensures.place

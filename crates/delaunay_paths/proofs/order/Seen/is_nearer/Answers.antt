@@ -5,5 +5,6 @@ use Rattle.delaunay_paths.proofs.order.Seen.is_nearer.Goals as goal
 
 pub returns : goal.returns
 returns g c = nearer_by (place_of g.S.SpadeNum.whole c.args.self.now.from)
-    (place_of g.S.SpadeNum.whole c.args.self.now.point) (place_of g.S.SpadeNum.whole c.args.self.now.other)
+    (place_of g.S.SpadeNum.whole c.args.self.now.point)
+    (place_of g.S.SpadeNum.whole c.args.self.now.other)
     (IsTrue c.has_less_distance.result) c.has_less_distance.ensures

@@ -12,12 +12,14 @@ use Rattle.delaunay_shape_queries.proofs.float_triangulation.FloatTriangulation.
 
 pub vertices_in_shape-requires-clause-sites : goal.vertices_in_shape-requires-clause-sites
 vertices_in_shape-requires-clause-sites g c = sites_in_mesh g.Self.Vertex.HasPosition.place
-    (g.Self.Triangulation.state c.args.self.now) c.s.result c.s.ensures (g.P.PlaneTests.sites c.args.tests.now)
+    (g.Self.Triangulation.state c.args.self.now) c.s.result c.s.ensures
+    (g.P.PlaneTests.sites c.args.tests.now)
     c.recall_invariant.ensures.kept c.requires.sites
 
 pub vertices_in_shape-requires-clause-begins : goal.vertices_in_shape-requires-clause-begins
 vertices_in_shape-requires-clause-begins g c =
-    subst (λ p. BeginsAt (InClosedCircle (place_of g.Self.Vertex.Scalar.SpadeNum.whole c.new-circle.result.center)
+    subst (λ p. BeginsAt
+    (InClosedCircle (place_of g.Self.Vertex.Scalar.SpadeNum.whole c.new-circle.result.center)
     c.new-circle.result.radius_2) p) (ap (λ p. place_of g.Self.Vertex.Scalar.SpadeNum.whole p)
     c.new-circle.ensures.center) (circle_begins (place_of g.Self.Vertex.Scalar.SpadeNum.whole
     c.new-circle.result.center) c.new-circle.result.radius_2)
@@ -25,11 +27,14 @@ vertices_in_shape-requires-clause-begins g c =
 pub returns : goal.returns
 returns g c =
     same_circle (λ Shape. IfOk c.vertices_in_shape.result
-    (λ it. FindsVertices g.Self.Vertex.HasPosition.place (g.Self.Triangulation.state c.args.self.now) Shape
+    (λ it. FindsVertices g.Self.Vertex.HasPosition.place
+    (g.Self.Triangulation.state c.args.self.now) Shape
     (vertices_left it))) (place_of g.Self.Vertex.Scalar.SpadeNum.whole c.new-circle.result.center)
-    (place_of g.Self.Vertex.Scalar.SpadeNum.whole c.args.center) c.new-circle.result.radius_2 c.args.radius_2
+    (place_of g.Self.Vertex.Scalar.SpadeNum.whole c.args.center) c.new-circle.result.radius_2
+    c.args.radius_2
     (ap (λ p. place_of g.Self.Vertex.Scalar.SpadeNum.whole p) c.new-circle.ensures.center)
     (c.new-circle.ensures.radius_2 ∙ to_z-of_z w64 c.args.radius_2 c.ranges.radius_2)
-    (vertices_found g.Self.Vertex.HasPosition.place (g.Self.Triangulation.state c.args.self.now) c.s.result c.s.ensures
+    (vertices_found g.Self.Vertex.HasPosition.place
+    (g.Self.Triangulation.state c.args.self.now) c.s.result c.s.ensures
     (InClosedCircle (place_of g.Self.Vertex.Scalar.SpadeNum.whole c.new-circle.result.center)
     c.new-circle.result.radius_2) c.vertices_in_shape.result c.vertices_in_shape.ensures)

@@ -15,12 +15,14 @@ pub overflow_sub-result : goal.overflow_sub-result
 overflow_sub-result g c =
     let centre = whole (place_of g.S.SpadeNum.whole c.args.self.now.center) in
     let point = whole (place_of g.S.SpadeNum.whole c.args.point) in
-    rim_fits c.distance_2.result c.args.self.now.radius_2 _ (gap_not_negative centre point) c.distance_2.ensures
+    rim_fits c.distance_2.result c.args.self.now.radius_2 _
+    (gap_not_negative centre point) c.distance_2.ensures
     (record { sfits = c.distance_2.type_inv }) c.args.self.now.not_negative (search rules)
 
 pub returns : goal.returns
 returns g c =
     let centre = whole (place_of g.S.SpadeNum.whole c.args.self.now.center) in
     let point = whole (place_of g.S.SpadeNum.whole c.args.point) in
-    rim_is c.distance_2.result c.args.self.now.radius_2 _ (gap_not_negative centre point) c.distance_2.ensures
+    rim_is c.distance_2.result c.args.self.now.radius_2 _
+    (gap_not_negative centre point) c.distance_2.ensures
     (record { sfits = c.distance_2.type_inv }) c.args.self.now.not_negative (search rules)

@@ -8,24 +8,31 @@ is_edge_inside-requires-clause-start_covered g c =
     end_covered g.V.HasPosition.place c.args.handle.dcel (g.P.PlaneTests.covered c.args.tests.now)
     c.as_directed-edge.result.dcel c.from.result.dcel c.from.result.index
     (place_of g.S.SpadeNum.whole c.position_of.result)
-    c.requires.covered c.as_directed-edge.ensures.dcel c.from.ensures.dcel c.from.result.in_range c.position_of.ensures
+    c.requires.covered c.as_directed-edge.ensures.dcel c.from.ensures.dcel c.from.result.in_range
+    c.position_of.ensures
 
 pub is_edge_inside-requires-clause-end_covered : goal.is_edge_inside-requires-clause-end_covered
 is_edge_inside-requires-clause-end_covered g c =
     end_covered g.V.HasPosition.place c.args.handle.dcel (g.P.PlaneTests.covered c.args.tests.now)
     c.as_directed-edge.result.dcel c.to.result.dcel c.to.result.index
     (place_of g.S.SpadeNum.whole c.position_of-2.result)
-    c.requires.covered c.as_directed-edge.ensures.dcel c.to.ensures.dcel c.to.result.in_range c.position_of-2.ensures
+    c.requires.covered c.as_directed-edge.ensures.dcel c.to.ensures.dcel c.to.result.in_range
+    c.position_of-2.ensures
 
 pub returns : goal.returns
 returns g c = record {
   inside = ends_told c.is_edge_inside.result (g.Self.DistanceMetric.shape c.args.self.now)
-      (map g.V.HasPosition.place c.args.handle.dcel.now.vertices) c.args.handle.dcel.now.mesh c.args.handle.index
-      (place_of g.S.SpadeNum.whole c.position_of.result) (place_of g.S.SpadeNum.whole c.position_of-2.result)
-      (start_is g.V.HasPosition.place c.args.handle.dcel c.as_directed-edge.result.dcel c.from.result.dcel _
+      (map g.V.HasPosition.place c.args.handle.dcel.now.vertices) c.args.handle.dcel.now.mesh
+      c.args.handle.index
+      (place_of g.S.SpadeNum.whole c.position_of.result)
+      (place_of g.S.SpadeNum.whole c.position_of-2.result)
+      (start_is g.V.HasPosition.place c.args.handle.dcel c.as_directed-edge.result.dcel
+      c.from.result.dcel _
       c.as_directed-edge.result.index c.from.result.index _ c.as_directed-edge.ensures.dcel
-      c.as_directed-edge.ensures.index c.from.ensures.dcel c.from.ensures.index c.position_of.ensures)
-      (end_is g.V.HasPosition.place c.args.handle.dcel c.as_directed-edge.result.dcel c.to.result.dcel _
+      c.as_directed-edge.ensures.index c.from.ensures.dcel c.from.ensures.index
+      c.position_of.ensures)
+      (end_is g.V.HasPosition.place c.args.handle.dcel c.as_directed-edge.result.dcel
+      c.to.result.dcel _
       c.as_directed-edge.result.index c.to.result.index _ c.as_directed-edge.ensures.dcel
       c.as_directed-edge.ensures.index c.to.ensures.dcel c.to.ensures.index c.position_of-2.ensures)
       c.is_edge_inside.ensures.inside;

@@ -1,7 +1,8 @@
 use Rattle.std.proofs.Common.{◌∙◌, ap, rules}
 use Rattle.delaunay_core.specs.Place.{place_of}
 use Rattle.delaunay_core.proofs.Projections.{gap_passes}
-use Rattle.delaunay_shapes.proofs.Distances.{IsNearestIn, nearest_in_range, nearest_value, nearest_distance, nearest_inside}
+use Rattle.delaunay_shapes.proofs.Distances.{IsNearestIn, nearest_in_range, nearest_value}
+use Rattle.delaunay_shapes.proofs.Distances.{nearest_distance, nearest_inside}
 use Rattle.delaunay_shapes.proofs.rectangle.RectangleMetricDistanceMetric.distance_to_point.Goals as goal
 
 pub returns-clause-value : goal.returns-clause-value
@@ -11,8 +12,13 @@ returns-clause-value g c =
     let u = place_of number c.args.self.now.upper in
     let p = place_of number c.args.point in
     let n = place_of number c.new.result in
-    let s : IsNearestIn l u p n = record { sorted = search rules; x = ap number c.new.ensures.x ∙ c.clamp.ensures; y = ap number c.new.ensures.y ∙ c.clamp-2.ensures } in
-    gap_passes _ p n c.requires (nearest_in_range c.args.self.now.lower_in_range c.args.self.now.upper_in_range c.requires s) c.distance_2.ensures ∙ nearest_value s
+    let s : IsNearestIn l u p n = record {
+      sorted = search rules;
+      x = ap number c.new.ensures.x ∙ c.clamp.ensures;
+      y = ap number c.new.ensures.y ∙ c.clamp-2.ensures;
+    } in
+    gap_passes _ p n c.requires (nearest_in_range c.args.self.now.lower_in_range
+    c.args.self.now.upper_in_range c.requires s) c.distance_2.ensures ∙ nearest_value s
 
 pub returns-clause-inside : goal.returns-clause-inside
 returns-clause-inside g c =
@@ -21,8 +27,13 @@ returns-clause-inside g c =
     let u = place_of number c.args.self.now.upper in
     let p = place_of number c.args.point in
     let n = place_of number c.new.result in
-    let s : IsNearestIn l u p n = record { sorted = search rules; x = ap number c.new.ensures.x ∙ c.clamp.ensures; y = ap number c.new.ensures.y ∙ c.clamp-2.ensures } in
-    nearest_inside _ s (gap_passes _ p n c.requires (nearest_in_range c.args.self.now.lower_in_range c.args.self.now.upper_in_range c.requires s) c.distance_2.ensures)
+    let s : IsNearestIn l u p n = record {
+      sorted = search rules;
+      x = ap number c.new.ensures.x ∙ c.clamp.ensures;
+      y = ap number c.new.ensures.y ∙ c.clamp-2.ensures;
+    } in
+    nearest_inside _ s (gap_passes _ p n c.requires (nearest_in_range c.args.self.now.lower_in_range
+    c.args.self.now.upper_in_range c.requires s) c.distance_2.ensures)
 
 pub returns-clause-nearest : goal.returns-clause-nearest
 returns-clause-nearest g c =
@@ -31,5 +42,11 @@ returns-clause-nearest g c =
     let u = place_of number c.args.self.now.upper in
     let p = place_of number c.args.point in
     let n = place_of number c.new.result in
-    let s : IsNearestIn l u p n = record { sorted = search rules; x = ap number c.new.ensures.x ∙ c.clamp.ensures; y = ap number c.new.ensures.y ∙ c.clamp-2.ensures } in
-    λ _. nearest_distance _ s (gap_passes _ p n c.requires (nearest_in_range c.args.self.now.lower_in_range c.args.self.now.upper_in_range c.requires s) c.distance_2.ensures)
+    let s : IsNearestIn l u p n = record {
+      sorted = search rules;
+      x = ap number c.new.ensures.x ∙ c.clamp.ensures;
+      y = ap number c.new.ensures.y ∙ c.clamp-2.ensures;
+    } in
+    λ _. nearest_distance _ s
+    (gap_passes _ p n c.requires (nearest_in_range c.args.self.now.lower_in_range
+    c.args.self.now.upper_in_range c.requires s) c.distance_2.ensures)

@@ -10,7 +10,8 @@ returns-clause-faces g c =
     let m : Mesh = c.self.inside.links.mesh in
     let fits = c.self.invariant.faces_fit ∙ sym (length-map m.face_edges (triangle_at m)) in
     rw (← c.self.view_is, c.close_face.ensures.closes.corners, c.push_reserved.ensures.items)
-    (full_faces-append (triangles m) (triangle_at m c.args.edge ∷ []) c.self.inside.faces.items (c.args.value ∷ [])
+    (full_faces-append (triangles m) (triangle_at m c.args.edge ∷ []) c.self.inside.faces.items
+    (c.args.value ∷ [])
     fits)
 
 pub returns-clause-closes : goal.returns-clause-closes

@@ -7,22 +7,26 @@ pub returns-clause-edges : goal.returns-clause-edges
 returns-clause-edges g c =
     let ends_are = rw (c.push_vertex-v.ensures.mesh, c.index.ensures, ← c.from_index.ensures) at
     c.add_face_beside.ensures.adds.ends in
-    rw (← c.self.view_is) (adds_edges _ _ _ _ _ _ 2 (length-ends c.self.inside.links.mesh _ _ _ _ c.self.invariant) refl
+    rw (← c.self.view_is) (adds_edges _ _ _ _ _ _ 2
+    (length-ends c.self.inside.links.mesh _ _ _ _ c.self.invariant) refl
     ends_are c.push_defaults-2.ensures.grows)
 
 pub add_face_beside-requires-clause-outer : goal.add_face_beside-requires-clause-outer
 add_face_beside-requires-clause-outer g c =
     let within = rw (← c.self.view_is) at c.requires.within in
     let outer = rw (← c.self.view_is) at c.requires.outer in
-    rw (c.push_vertex-v.ensures.mesh, c.index.ensures) (omega (arith, within, c.self.invariant.directed_fit), outer)
+    rw (c.push_vertex-v.ensures.mesh, c.index.ensures)
+    (omega (arith, within, c.self.invariant.directed_fit), outer)
 
 pub returns-clause-links : goal.returns-clause-links
 returns-clause-links g c =
-    let put = rw (c.push_vertex-v.ensures.mesh, c.index.ensures, ← c.from_index.ensures) at c.add_face_beside.ensures in
+    let put = rw (c.push_vertex-v.ensures.mesh, c.index.ensures, ← c.from_index.ensures) at
+    c.add_face_beside.ensures in
     rw (← c.self.view_is) (record {
       mesh = put.mesh;
       triangles = put.adds.corners;
-      outer = outer_changes c.self.inside.links.mesh _ _ _ (rw (← c.self.invariant.directed_fit) at put.adds.outer);
+      outer = outer_changes c.self.inside.links.mesh _ _ _
+          (rw (← c.self.invariant.directed_fit) at put.adds.outer);
       outline = λ one. c.add_face_beside.ensures.adds.outline (c.push_vertex-v.ensures.outline one);
     })
 

@@ -5,13 +5,15 @@ use Rattle.half_edge_dcel.proofs.dcel.Dcel.create_single_face_between_edge_and_n
 pub returns-clause-edges : goal.returns-clause-edges
 returns-clause-edges g c =
     let ends_are = rw c.index.ensures at c.close.ensures.closes.ends in
-    rw (← c.self.view_is) (adds_edges _ _ _ _ _ _ 1 (length-ends c.self.inside.links.mesh _ _ _ _ c.self.invariant) refl
+    rw (← c.self.view_is) (adds_edges _ _ _ _ _ _ 1
+    (length-ends c.self.inside.links.mesh _ _ _ _ c.self.invariant) refl
     ends_are c.push_defaults-2.ensures.grows)
 
 pub returns-clause-edge : goal.returns-clause-edge
 returns-clause-edge g c =
     let fits = c.self.invariant.directed_fit in
-    rw (← c.self.view_is) (omega (arith, c.from_index.ensures, c.half_edge_count-n.ensures.value, fits))
+    rw (← c.self.view_is)
+    (omega (arith, c.from_index.ensures, c.half_edge_count-n.ensures.value, fits))
 
 pub returns-clause-links : goal.returns-clause-links
 returns-clause-links g c =

@@ -8,15 +8,19 @@ pub returns-clause-edges : goal.returns-clause-edges
 returns-clause-edges g c =
     let ends_are = rw (c.push_vertex-v.ensures.mesh, c.index.ensures, ← c.from_index.ensures) at
     c.extend_line.ensures.extends.ends in
-    rw (← c.self.view_is) (adds_edges _ _ _ _ _ _ 1 (length-ends c.self.inside.links.mesh _ _ _ _ c.self.invariant) refl
+    rw (← c.self.view_is) (adds_edges _ _ _ _ _ _ 1
+    (length-ends c.self.inside.links.mesh _ _ _ _ c.self.invariant) refl
     ends_are c.push_defaults-2.ensures.grows)
 
 pub returns-clause-links : goal.returns-clause-links
 returns-clause-links g c =
     let m : Mesh = c.self.inside.links.mesh in
-    let one_face : length c.self.inside.faces.items ≡ 0 = rw (← c.self.view_is) at c.requires.one_face in
-    let none : m.face_edges ≡ [] = empty_list m.face_edges (omega (arith, one_face, c.self.invariant.faces_fit)) in
-    let put = rw (c.push_vertex-v.ensures.mesh, c.index.ensures, ← c.from_index.ensures) at c.extend_line.ensures in
+    let one_face : length c.self.inside.faces.items ≡ 0 =
+    rw (← c.self.view_is) at c.requires.one_face in
+    let none : m.face_edges ≡ [] =
+    empty_list m.face_edges (omega (arith, one_face, c.self.invariant.faces_fit)) in
+    let put = rw (c.push_vertex-v.ensures.mesh, c.index.ensures, ← c.from_index.ensures) at
+    c.extend_line.ensures in
     rw (← c.self.view_is) (record {
       mesh = rw edge_into_kept at put.mesh;
       triangles = rw put.mesh (no_faces_hung m _ _ none);

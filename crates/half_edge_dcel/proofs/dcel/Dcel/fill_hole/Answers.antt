@@ -1,6 +1,7 @@
 use Rattle.std.proofs.Common.{◌-◌, arith}
 use Rattle.half_edge_dcel.proofs.HoleFilled.{hole_filled_by}
-use Rattle.half_edge_dcel.proofs.TurnedEdge.{turned_none, turned_next, turned_first, turned_second, turned_corners, turned_wheel}
+use Rattle.half_edge_dcel.proofs.TurnedEdge.{turned_none, turned_next, turned_first, turned_second}
+use Rattle.half_edge_dcel.proofs.TurnedEdge.{turned_corners, turned_wheel}
 use Rattle.half_edge_dcel.proofs.dcel.Dcel.fill_hole.Goals as goal
 
 pub loop-init : goal.loop-init
@@ -11,22 +12,31 @@ turn_away-requires g c =
     let f = c.loop.invariant in
     record {
       within = f.hub.within;
-      before = turned_first c.args.self.now c.loop.self c.args.first c.args.count (c.loop.counter - 3) f (omega arith);
-      behind = turned_second c.args.self.now c.loop.self c.args.first c.args.count (c.loop.counter - 3) f (omega arith);
-      corners = turned_corners c.args.self.now c.loop.self c.args.first c.args.count (c.loop.counter - 3) f c.requires.tip (omega arith);
+      before = turned_first c.args.self.now c.loop.self c.args.first c.args.count
+          (c.loop.counter - 3) f (omega arith);
+      behind = turned_second c.args.self.now c.loop.self c.args.first c.args.count
+          (c.loop.counter - 3) f (omega arith);
+      corners = turned_corners c.args.self.now c.loop.self c.args.first c.args.count
+          (c.loop.counter - 3) f c.requires.tip (omega arith);
     }
 
 pub loop-preserved : goal.loop-preserved
 loop-preserved g c =
     let t = c.turn_away.ensures in
-    turned_next c.args.self.now c.loop.self c.args.first c.args.count (c.loop.counter - 3) c.recall_invariant.ensures.whole t.whole c.requires.tip c.loop.invariant (omega arith) c.turn_away.new.self t.flips t.contents t.ends t.triangles t.outer t.outline _ (omega arith)
+    turned_next c.args.self.now c.loop.self c.args.first c.args.count (c.loop.counter - 3)
+    c.recall_invariant.ensures.whole t.whole c.requires.tip c.loop.invariant (omega arith)
+    c.turn_away.new.self t.flips t.contents t.ends t.triangles t.outer t.outline _ (omega arith)
 
 pub collapse-requires : goal.collapse-requires
 collapse-requires g c =
     let last = c.loop.auto.counter-end c.requires.many in
-    turned_wheel c.args.self.now c.loop.self c.args.first c.args.count (c.loop.counter - 3) c.loop.invariant (omega (arith, last))
+    turned_wheel c.args.self.now c.loop.self c.args.first c.args.count
+    (c.loop.counter - 3) c.loop.invariant (omega (arith, last))
 
 pub returns : goal.returns
 returns g c =
     let last = c.loop.auto.counter-end c.requires.many in
-    hole_filled_by c.args.self.now c.loop.self c.collapse.new.self c.args.first c.args.count (c.loop.counter - 3) (omega (arith, last)) c.recall_invariant.ensures.whole c.recall_invariant-2.ensures.whole c.recall_invariant-3.ensures.whole c.requires.hub c.requires.tip c.loop.invariant c.collapse.ensures
+    hole_filled_by c.args.self.now c.loop.self c.collapse.new.self c.args.first c.args.count
+    (c.loop.counter - 3) (omega (arith, last)) c.recall_invariant.ensures.whole
+    c.recall_invariant-2.ensures.whole c.recall_invariant-3.ensures.whole c.requires.hub
+    c.requires.tip c.loop.invariant c.collapse.ensures

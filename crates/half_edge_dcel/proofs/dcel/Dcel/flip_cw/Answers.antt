@@ -5,14 +5,16 @@ use Rattle.half_edge_dcel.proofs.dcel.Dcel.flip_cw.Goals as goal
 pub returns-clause-edges : goal.returns-clause-edges
 returns-clause-edges g c =
     let half : (2 * c.args.edge) / 2 ≡ c.args.edge = omega arith in
-    let ends_are = rw (c.index.ensures, c.as_directed.ensures, half, along-even) at c.flip.ensures.flips.ends in
+    let ends_are = rw
+    (c.index.ensures, c.as_directed.ensures, half, along-even) at c.flip.ensures.flips.ends in
     rw (← c.self.view_is, ends_are) (edges_of-set _ _ _ _)
 
 pub returns-clause-outline : goal.returns-clause-outline
 returns-clause-outline g c = rw (← c.self.view_is) c.flip.ensures.flips.outline
 
 pub returns-clause-contents : goal.returns-clause-contents
-returns-clause-contents g c = rw (← c.self.view_is, c.flip.ensures.rest.room, c.flip.ensures.rest.values) refl
+returns-clause-contents g c =
+    rw (← c.self.view_is, c.flip.ensures.rest.room, c.flip.ensures.rest.values) refl
 
 pub flip-requires-clause-flippable : goal.flip-requires-clause-flippable
 flip-requires-clause-flippable g c =
@@ -23,11 +25,13 @@ flip-requires-clause-corners g c =
     rw (c.index.ensures, c.as_directed.ensures) (rw (← c.self.view_is) at c.requires.corners)
 
 pub returns-clause-mesh : goal.returns-clause-mesh
-returns-clause-mesh g c = rw (← c.self.view_is) (rw (c.index.ensures, c.as_directed.ensures) at c.flip.ensures.mesh)
+returns-clause-mesh g c =
+    rw (← c.self.view_is) (rw (c.index.ensures, c.as_directed.ensures) at c.flip.ensures.mesh)
 
 pub returns-clause-triangles : goal.returns-clause-triangles
 returns-clause-triangles g c =
-    rw (← c.self.view_is) (rw (c.index.ensures, c.as_directed.ensures) at c.flip.ensures.flips.corners)
+    rw (← c.self.view_is)
+    (rw (c.index.ensures, c.as_directed.ensures) at c.flip.ensures.flips.corners)
 
 pub returns-clause-outer : goal.returns-clause-outer
 returns-clause-outer g c = rw (← c.self.view_is) c.flip.ensures.flips.outer

@@ -7,24 +7,29 @@ pub returns-clause-edges : goal.returns-clause-edges
 returns-clause-edges g c =
     let named = rw (← c.self.view_is, c.index.ensures) at c.face_edge-edge.ensures.value in
     let ends_are =
-    rw (c.push_vertex-v.ensures.mesh, named, ← c.from_index.ensures) at c.insert_beside.ensures.inserts.ends in
-    rw (← c.self.view_is) (adds_edges _ _ _ _ _ _ 3 (length-ends c.self.inside.links.mesh _ _ _ _ c.self.invariant) refl
+    rw (c.push_vertex-v.ensures.mesh, named, ← c.from_index.ensures) at
+    c.insert_beside.ensures.inserts.ends in
+    rw (← c.self.view_is) (adds_edges _ _ _ _ _ _ 3
+    (length-ends c.self.inside.links.mesh _ _ _ _ c.self.invariant) refl
     ends_are c.push_defaults-2.ensures.grows)
 
 pub returns-clause-face : goal.returns-clause-face
 returns-clause-face g c =
     let w = c.face_edge-edge.ensures.whole in
-    (w.valid.sound.faces c.args.triangle c.requires.inner (rw w.fits.faces_fit at c.requires.within)).1
+    (w.valid.sound.faces c.args.triangle c.requires.inner
+    (rw w.fits.faces_fit at c.requires.within)).1
 
 pub returns-clause-links : goal.returns-clause-links
 returns-clause-links g c =
     let named = rw (← c.self.view_is, c.index.ensures) at c.face_edge-edge.ensures.value in
-    let put = rw (c.push_vertex-v.ensures.mesh, named, ← c.from_index.ensures) at c.insert_beside.ensures in
+    let put = rw
+    (c.push_vertex-v.ensures.mesh, named, ← c.from_index.ensures) at c.insert_beside.ensures in
     rw (← c.self.view_is) (record {
       mesh = put.mesh;
       triangles = put.inserts.corners;
       outer = keeps_outer c.self.inside.links.mesh _ put.inserts.outer;
-      outline = λ one. c.insert_beside.ensures.inserts.outline (c.push_vertex-v.ensures.outline one);
+      outline =
+          λ one. c.insert_beside.ensures.inserts.outline (c.push_vertex-v.ensures.outline one);
     })
 
 pub returns-clause-data : goal.returns-clause-data

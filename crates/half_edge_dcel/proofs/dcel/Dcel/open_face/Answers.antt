@@ -7,10 +7,13 @@ pub returns-clause-faces : goal.returns-clause-faces
 returns-clause-faces g c =
     let fits = c.self.invariant.faces_fit in
     let inner = rw (← c.self.view_is) at c.requires in
-    rw (← c.self.view_is) (gives_face c.self.inside.links.mesh c.open_face.new.self.mesh c.self.inside.faces.items
-    c.swap_remove.new.self.items c.args.face c.open_face.ensures.sound fits inner c.swap_remove.result
+    rw (← c.self.view_is)
+    (gives_face c.self.inside.links.mesh c.open_face.new.self.mesh c.self.inside.faces.items
+    c.swap_remove.new.self.items c.args.face c.open_face.ensures.sound fits inner
+    c.swap_remove.result
     c.swap_remove.ensures.value c.open_face.ensures.opens.corners
-    (rw c.swap_remove.ensures.items (takes_out c.self.inside.faces.items (c.args.face - 1) c.swap_remove.result
+    (rw c.swap_remove.ensures.items
+    (takes_out c.self.inside.faces.items (c.args.face - 1) c.swap_remove.result
     (omega (arith, fits, inner.0, inner.1)))))
 
 pub returns-clause-opens : goal.returns-clause-opens

@@ -9,16 +9,28 @@ returns-clause-edges g c =
     let m : Mesh = c.self.inside.links.mesh in
     let fit = c.self.invariant in
     let can = rw (← c.self.view_is) at c.requires in
-    rw (← c.self.view_is) (loses_edge m c.remove_edge.new.self.mesh c.self.inside.undirected.items c.swap_remove.new.self.items c.self.inside.directed.items c.remove_pair.new.items.items c.args.edge c.remove_edge.ensures.sound fit.directed_fit fit.undirected_fit can.within c.remove_edge.ensures.removes.ends
-    (rw c.swap_remove.ensures.items (takes_out c.self.inside.undirected.items (c.args.edge / 2) c.swap_remove.result (omega (arith, fit.undirected_fit, can.within, c.remove_edge.ensures.sound.even)))) c.remove_pair.ensures.takes)
+    rw (← c.self.view_is) (loses_edge m c.remove_edge.new.self.mesh c.self.inside.undirected.items
+    c.swap_remove.new.self.items c.self.inside.directed.items c.remove_pair.new.items.items
+    c.args.edge c.remove_edge.ensures.sound fit.directed_fit fit.undirected_fit can.within
+    c.remove_edge.ensures.removes.ends
+    (rw c.swap_remove.ensures.items
+    (takes_out c.self.inside.undirected.items (c.args.edge / 2) c.swap_remove.result
+    (omega (arith, fit.undirected_fit, can.within, c.remove_edge.ensures.sound.even))))
+    c.remove_pair.ensures.takes)
 
 pub returns-clause-taken : goal.returns-clause-taken
 returns-clause-taken g c =
     let m : Mesh = c.self.inside.links.mesh in
     let fit = c.self.invariant in
     let can = rw (← c.self.view_is) at c.requires in
-    rw (← c.self.view_is) (takes_edge m c.remove_edge.new.self.mesh c.self.inside.undirected.items c.swap_remove.new.self.items c.self.inside.directed.items c.remove_pair.new.items.items c.args.edge c.remove_edge.ensures.sound fit.directed_fit fit.undirected_fit can.within c.remove_edge.ensures.removes.ends
-    (rw c.swap_remove.ensures.items (takes_out c.self.inside.undirected.items (c.args.edge / 2) c.swap_remove.result (omega (arith, fit.undirected_fit, can.within, c.remove_edge.ensures.sound.even)))) c.remove_pair.ensures.takes)
+    rw (← c.self.view_is) (takes_edge m c.remove_edge.new.self.mesh c.self.inside.undirected.items
+    c.swap_remove.new.self.items c.self.inside.directed.items c.remove_pair.new.items.items
+    c.args.edge c.remove_edge.ensures.sound fit.directed_fit fit.undirected_fit can.within
+    c.remove_edge.ensures.removes.ends
+    (rw c.swap_remove.ensures.items
+    (takes_out c.self.inside.undirected.items (c.args.edge / 2) c.swap_remove.result
+    (omega (arith, fit.undirected_fit, can.within, c.remove_edge.ensures.sound.even))))
+    c.remove_pair.ensures.takes)
 
 pub returns-clause-outline : goal.returns-clause-outline
 returns-clause-outline g c = rw (← c.self.view_is) c.remove_edge.ensures.removes.outline

@@ -6,7 +6,8 @@ use Rattle.half_edge_dcel.proofs.dcel.Dcel.setup_initial_two_vertices.Goals as g
 pub returns-clause-links : goal.returns-clause-links
 returns-clause-links g c =
     let m : Mesh = c.self.inside.links.mesh in
-    let no_edges : length c.self.inside.undirected.items ≡ 0 = rw (← c.self.view_is) at c.requires.no_edges in
+    let no_edges : length c.self.inside.undirected.items ≡ 0 =
+    rw (← c.self.view_is) at c.requires.no_edges in
     let none : length m.half_edges ≡ 0 = omega (arith, no_edges, c.self.invariant.undirected_fit) in
     rw (← c.self.view_is) (record {
       mesh = rw (c.index.ensures, c.index-2.ensures) at c.connect.ensures.mesh;
@@ -17,7 +18,12 @@ returns-clause-links g c =
 
 pub returns-clause-data : goal.returns-clause-data
 returns-clause-data g c = rw (← c.self.view_is) (record {
-  contents = rw (c.connect.ensures.rest.room, c.connect.ensures.rest.values, c.push_defaults.ensures.capacity, c.push_defaults-2.ensures.capacity) refl;
+  contents = rw (
+    c.connect.ensures.rest.room,
+    c.connect.ensures.rest.values,
+    c.push_defaults.ensures.capacity,
+    c.push_defaults-2.ensures.capacity,
+  ) refl;
   directed = c.push_defaults.ensures.grows;
   undirected = c.push_defaults-2.ensures.grows;
 })

@@ -1,6 +1,7 @@
 use Rattle.std.proofs.Common.{refl, ap, ◌∙◌, length, arith}
 use Rattle.std.proofs.lemmas.List.{length_push}
-use Rattle.half_edge_dcel.proofs.Fits.{fits_as, fits_vertex, fits_flipped, fits_inserted, length-grown, length_moved}
+use Rattle.half_edge_dcel.proofs.Fits.{fits_as, fits_vertex, fits_flipped, fits_inserted}
+use Rattle.half_edge_dcel.proofs.Fits.{length-grown, length_moved}
 use Rattle.half_edge_dcel.proofs.Fits.{length_moved_two}
 use Rattle.half_edge_dcel.proofs.EdgeLists.{splits_edge, length-ends}
 use Rattle.half_edge_dcel.proofs.Outlines.{keeps_outer}
@@ -11,14 +12,16 @@ invariant_of-self g c =
     rw (c.split_edge.ensures.mesh, c.push_vertex-v.ensures.mesh)
     (fits_as _ _ _ _ _ _ _ _ _ (fits_flipped _ _ _ _ _ _
     (fits_inserted _ _ _ _ _ _ _ (fits_vertex _ _ _ _ _ c.self.invariant)))
-    (ap length c.split_edge.ensures.rest.values ∙ ap length c.push_vertex-v.ensures.values ∙ length_push _ _)
+    (ap length c.split_edge.ensures.rest.values ∙ ap length c.push_vertex-v.ensures.values
+    ∙ length_push _ _)
     (omega (arith, length_moved_two _ _ _ _ _ _ c.move_two_items.ensures.moves))
     (omega (arith, length_moved _ _ _ _ _ c.move_item.ensures.moves))
     (length-grown _ _ _ _ c.push_defaults.ensures.grows))
 
 pub returns-clause-edges : goal.returns-clause-edges
 returns-clause-edges g c =
-    let ends_are = rw (c.push_vertex-v.ensures.mesh, c.index.ensures, ← c.split_handles.ensures.vertex) at
+    let ends_are =
+    rw (c.push_vertex-v.ensures.mesh, c.index.ensures, ← c.split_handles.ensures.vertex) at
     c.split_edge.ensures.splits.ends in
     let moves = rw c.index-4.ensures at c.move_item.ensures.moves in
     rw (← c.self.view_is) (splits_edge _ _ _ _ _ _ _ 2 _ _
@@ -27,7 +30,8 @@ returns-clause-edges g c =
 pub returns-clause-links : goal.returns-clause-links
 returns-clause-links g c =
     let split =
-    rw (c.push_vertex-v.ensures.mesh, c.index.ensures, ← c.split_handles.ensures.vertex) at c.split_edge.ensures in
+    rw (c.push_vertex-v.ensures.mesh, c.index.ensures, ← c.split_handles.ensures.vertex) at
+    c.split_edge.ensures in
     rw (← c.self.view_is) (record {
       mesh = split.mesh;
       triangles = split.splits.corners;
@@ -46,7 +50,8 @@ returns-clause-data g c = rw (← c.self.view_is) (record {
     c.move_item.ensures.capacity,
     c.push_defaults.ensures.capacity,
   ) refl;
-  directed = rw (c.index-2.ensures, c.index-3.ensures, c.rev.ensures) at c.move_two_items.ensures.moves;
+  directed =
+      rw (c.index-2.ensures, c.index-3.ensures, c.rev.ensures) at c.move_two_items.ensures.moves;
   undirected = rw c.index-4.ensures at c.move_item.ensures.moves;
   faces = c.push_defaults.ensures.grows;
 })

@@ -6,10 +6,12 @@ use Rattle.half_edge_dcel.proofs.dcel.Dcel.split_edge_when_all_vertices_on_line.
 
 pub returns-clause-edges : goal.returns-clause-edges
 returns-clause-edges g c =
-    let ends_are = rw (c.push_vertex-v.ensures.mesh, c.index.ensures, ← c.split_handles.ensures.vertex) at
+    let ends_are =
+    rw (c.push_vertex-v.ensures.mesh, c.index.ensures, ← c.split_handles.ensures.vertex) at
     c.split_line-parts.ensures.splits.ends in
     rw (← c.self.view_is, ← edges_of-set) (adds_edges _ _ _ _ _ _ 1
-    (length-ends c.self.inside.links.mesh _ _ _ _ c.self.invariant ∙ sym (length-set _ _ _)) refl ends_are
+    (length-ends c.self.inside.links.mesh _ _ _ _ c.self.invariant
+    ∙ sym (length-set _ _ _)) refl ends_are
     c.push_defaults-2.ensures.grows)
 
 pub returns-clause-parts : goal.returns-clause-parts
@@ -20,13 +22,16 @@ returns-clause-parts g c =
 
 pub returns-clause-links : goal.returns-clause-links
 returns-clause-links g c =
-    let split = rw (c.push_vertex-v.ensures.mesh, c.index.ensures, ← c.split_handles.ensures.vertex) at
+    let split =
+    rw (c.push_vertex-v.ensures.mesh, c.index.ensures, ← c.split_handles.ensures.vertex) at
     c.split_line-parts.ensures in
     rw (← c.self.view_is) (record {
       mesh = split.mesh;
       triangles = search rules;
-      outer = outer_changes c.self.inside.links.mesh _ _ _ (rw (← c.self.invariant.directed_fit) at split.splits.outer);
-      outline = λ one. c.split_line-parts.ensures.splits.outline (c.push_vertex-v.ensures.outline one);
+      outer = outer_changes c.self.inside.links.mesh _ _ _
+          (rw (← c.self.invariant.directed_fit) at split.splits.outer);
+      outline =
+          λ one. c.split_line-parts.ensures.splits.outline (c.push_vertex-v.ensures.outline one);
     })
 
 pub returns-clause-data : goal.returns-clause-data

@@ -8,14 +8,16 @@ pub flip-requires-clause-flippable : goal.flip-requires-clause-flippable
 flip-requires-clause-flippable g c =
     let m : Mesh = c.self.inside.links.mesh in
     let can = rw (← c.self.view_is) at c.requires in
-    let is : c.reversed-spoke.result ≡ turn m c.args.first = c.reversed-spoke.ensures ∙ ap rev c.prev.ensures.value in
+    let is : c.reversed-spoke.result ≡ turn m c.args.first =
+    c.reversed-spoke.ensures ∙ ap rev c.prev.ensures.value in
     rw is (turnable m c.args.first c.prev.ensures.valid can.within can.before can.behind)
 
 pub flip-requires-clause-corners : goal.flip-requires-clause-corners
 flip-requires-clause-corners g c =
     let m : Mesh = c.self.inside.links.mesh in
     let can = rw (← c.self.view_is) at c.requires in
-    let is : c.reversed-spoke.result ≡ turn m c.args.first = c.reversed-spoke.ensures ∙ ap rev c.prev.ensures.value in
+    let is : c.reversed-spoke.result ≡ turn m c.args.first =
+    c.reversed-spoke.ensures ∙ ap rev c.prev.ensures.value in
     rw is (turn_corners m c.args.first c.prev.ensures.valid can.within can.before can.corners)
 
 pub returns-clause-outline : goal.returns-clause-outline

@@ -11,7 +11,8 @@ returns g c =
     let small = c.self.invariant.small.edges in
     record {
       cases = rw (← c.self.view_is) (record {
-        mesh = rw (named.out_edges, edges.items, same_from_all_zip _ _ _ faces.0 (λ x y same. same)) refl;
+        mesh = rw
+            (named.out_edges, edges.items, same_from_all_zip _ _ _ faces.0 (λ x y same. same)) refl;
         values = search rules;
         vertices_fit = search rules;
         edges_fit = omega (arith, edges.fit, length_shown c.self.inside.half_edges.items);

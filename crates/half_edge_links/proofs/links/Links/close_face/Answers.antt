@@ -10,7 +10,8 @@ use Rattle.half_edge_links.proofs.links.Links.close_face.Goals as goal
 
 pub set_loop_face-requires : goal.set_loop_face-requires
 set_loop_face-requires g c =
-    let can : IsOpenTriangle (mesh_in c.self.inside) c.args.h = rw (← c.self.view_is) at c.requires.open in
+    let can : IsOpenTriangle (mesh_in c.self.inside) c.args.h =
+    rw (← c.self.view_is) at c.requires.open in
     let at = round (mesh_in c.self.inside) c.args.h c.self.invariant.sound can in
     record { edge = can.within; next = at.next_in; prev = at.prev_in }
 
@@ -25,7 +26,8 @@ pub returns-clause-closes : goal.returns-clause-closes
 returns-clause-closes g c =
     let m : Mesh = mesh_in c.self.inside in
     let can : IsOpenTriangle m c.args.h = rw (← c.self.view_is) at c.requires.open in
-    let links = rw (← (rw (← c.self.view_is) at (returns-clause-mesh g c))) at (closes m c.args.h c.self.invariant.sound can) in
+    let links = rw (← (rw (← c.self.view_is) at (returns-clause-mesh g c))) at
+    (closes m c.args.h c.self.invariant.sound can) in
     rw (← c.self.view_is) (record {
       links = links;
       ends = ends_loop_closed m _ c.args.h links;
@@ -38,4 +40,5 @@ invariant_of-self g c =
     let m : Mesh = mesh_in c.self.inside in
     let can : IsOpenTriangle m c.args.h = rw (← c.self.view_is) at c.requires.open in
     let room = rw (← c.self.view_is) at c.requires.room in
-    valid_loop_closed m _ c.args.h c.self.invariant can (rw (← c.self.view_is) at (returns-clause-closes g c)).links (omega (arith, room))
+    valid_loop_closed m _ c.args.h c.self.invariant can
+    (rw (← c.self.view_is) at (returns-clause-closes g c)).links (omega (arith, room))

@@ -17,7 +17,8 @@ pub get-edge-requires : goal.get-edge-requires
 get-edge-requires g c =
     let m : Mesh = mesh_in c.self.inside in
     let can = rw (← c.self.view_is) at c.requires.flippable in
-    let k = kept_in c.self.inside.half_edges.items c.args.e (joined_sound m c.self.invariant.sound) can.within in
+    let k = kept_in c.self.inside.half_edges.items c.args.e
+    (joined_sound m c.self.invariant.sound) can.within in
     record { within = k.0; next_within = k.1 }
 
 pub get-twin-requires : goal.get-twin-requires
@@ -25,7 +26,8 @@ get-twin-requires g c =
     let m : Mesh = mesh_in c.self.inside in
     let s = c.self.invariant.sound in
     let can = rw (← c.self.view_is) at c.requires.flippable in
-    let k = kept_in c.self.inside.half_edges.items (rev c.args.e) (joined_sound m s) (six_round m c.args.e s can).b_in in
+    let k = kept_in c.self.inside.half_edges.items (rev c.args.e) (joined_sound m s)
+    (six_round m c.args.e s can).b_in in
     rw c.reversed-t.ensures (record { within = k.0; next_within = k.1 })
 
 pub turn_edges-requires : goal.turn_edges-requires
@@ -36,12 +38,20 @@ turn_edges-requires g c =
     let six = six_round m c.args.e s can in
     let left = triangle_at m c.args.e s can.within can.inner in
     let right = triangle_at m (rev c.args.e) s six.b_in can.twin_inner in
-    rw c.reversed-t.ensures (record { joined = joined_sound m s; edge = loop_of_three m c.args.e left; twin = loop_of_three m (rev c.args.e) right; apart = six; start = (s.edges (rev c.args.e) six.b_in).starts ∙ ap (origin m) (rev-rev c.args.e); end = (s.edges c.args.e can.within).starts })
+    rw c.reversed-t.ensures (record {
+      joined = joined_sound m s;
+      edge = loop_of_three m c.args.e left;
+      twin = loop_of_three m (rev c.args.e) right;
+      apart = six;
+      start = (s.edges (rev c.args.e) six.b_in).starts ∙ ap (origin m) (rev-rev c.args.e);
+      end = (s.edges c.args.e can.within).starts;
+    })
 
 pub set_out_edge-requires-clause-nameable : goal.set_out_edge-requires-clause-nameable
 set_out_edge-requires-clause-nameable g c =
     let m : Mesh = mesh_in c.self.inside in
-    let six = six_round m c.args.e c.self.invariant.sound (rw (← c.self.view_is) at c.requires.flippable) in
+    let six = six_round m c.args.e c.self.invariant.sound
+    (rw (← c.self.view_is) at c.requires.flippable) in
     let twin : c.get-twin.result ≡ edge_at m.half_edges c.reversed-t.result = c.get-twin.ensures in
     rw (twin, c.reversed-t.ensures) (omega (arith, six.d_in, c.self.invariant.small.edges))
 
@@ -51,11 +61,22 @@ returns-clause-mesh g c =
     let m : Mesh = mesh_in c.self.inside in
     let edge : c.get-edge.result ≡ edge_at m.half_edges c.args.e = c.get-edge.ensures in
     let twin : c.get-twin.result ≡ edge_at m.half_edges c.reversed-t.result = c.get-twin.ensures in
-    rw (← c.self.view_is, c.set_out_edge-2.ensures, c.set_out_edge.ensures, c.turn_edges.ensures.items, twin, edge, c.reversed-t.ensures) (refl {a = flipped m c.args.e})
+    rw (
+      ← c.self.view_is,
+      c.set_out_edge-2.ensures,
+      c.set_out_edge.ensures,
+      c.turn_edges.ensures.items,
+      twin,
+      edge,
+      c.reversed-t.ensures,
+    )
+    (refl {a = flipped m c.args.e})
 
 pub invariant_of-self : goal.invariant_of-self
 invariant_of-self g c =
-    valid_as _ _ (rw (← c.self.view_is) at (returns-clause-mesh g c)) (valid_flipped (mesh_in c.self.inside) c.args.e c.self.invariant (rw (← c.self.view_is) at c.requires.flippable) (rw (← c.self.view_is) at c.requires.corners))
+    valid_as _ _ (rw (← c.self.view_is) at (returns-clause-mesh g c))
+    (valid_flipped (mesh_in c.self.inside) c.args.e c.self.invariant (rw (← c.self.view_is) at
+    c.requires.flippable) (rw (← c.self.view_is) at c.requires.corners))
 
 pub returns-clause-flips : goal.returns-clause-flips
 returns-clause-flips g c =

@@ -13,8 +13,13 @@ returns-clause-mesh g c =
 
 pub invariant_of-self : goal.invariant_of-self
 invariant_of-self g c =
-    valid_as _ _ (rw (← c.self.view_is) at (returns-clause-mesh g c)) (valid_hung (mesh_in c.self.inside) c.args.x c.args.v c.self.invariant (rw (← c.self.view_is) at c.requires.outer) (rw (← c.self.view_is) at c.requires.alone) (omega (arith, rw (← c.self.view_is) at c.requires.edge_room)))
+    valid_as _ _ (rw (← c.self.view_is) at (returns-clause-mesh g c))
+    (valid_hung (mesh_in c.self.inside) c.args.x c.args.v c.self.invariant
+    (rw (← c.self.view_is) at c.requires.outer) (rw (← c.self.view_is) at c.requires.alone)
+    (omega (arith, rw (← c.self.view_is) at c.requires.edge_room)))
 
 pub returns-clause-hangs : goal.returns-clause-hangs
 returns-clause-hangs g c =
-    rw (← c.self.view_is) (hangs_edge (mesh_in c.self.inside) _ c.args.x c.args.v c.self.invariant.sound (rw (← c.self.view_is) at c.requires.outer) (rw (← c.self.view_is) at c.requires.alone) (rw (← c.self.view_is) at (returns-clause-mesh g c)))
+    rw (← c.self.view_is) (hangs_edge (mesh_in c.self.inside) _ c.args.x c.args.v
+    c.self.invariant.sound (rw (← c.self.view_is) at c.requires.outer) (rw (← c.self.view_is) at
+    c.requires.alone) (rw (← c.self.view_is) at (returns-clause-mesh g c)))

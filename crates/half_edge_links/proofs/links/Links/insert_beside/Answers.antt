@@ -18,11 +18,27 @@ returns-clause-mesh g c =
     let n_is : c.len-n.result ≡ length m.half_edges = omega arith in
     let g_is : c.len-g.result ≡ length m.face_edges = omega arith in
     let rs = c.self.inside.half_edges.items in
-    rw (← c.self.view_is, c.set_out_edge.ensures, c.push_reserved-2.ensures.items, c.push_reserved.ensures.items, c.fan_edges.ensures.items, c.stored-first.ensures, ← next_shown rs c.args.edge, ← prev_shown rs c.args.edge, ← face_shown rs c.args.edge, n_is, g_is) (refl {a = inserted m c.args.v c.args.edge})
+    rw (
+      ← c.self.view_is,
+      c.set_out_edge.ensures,
+      c.push_reserved-2.ensures.items,
+      c.push_reserved.ensures.items,
+      c.fan_edges.ensures.items,
+      c.stored-first.ensures,
+      ← next_shown rs c.args.edge,
+      ← prev_shown rs c.args.edge,
+      ← face_shown rs c.args.edge,
+      n_is,
+      g_is,
+    ) (refl {a = inserted m c.args.v c.args.edge})
 
 pub invariant_of-self : goal.invariant_of-self
 invariant_of-self g c =
-    valid_as _ _ (rw (← c.self.view_is) at (returns-clause-mesh g c)) (valid_inserted (mesh_in c.self.inside) c.args.v c.args.edge c.self.invariant (rw (← c.self.view_is) at c.requires.inner) (rw (← c.self.view_is) at c.requires.alone) (omega (arith, rw (← c.self.view_is) at c.requires.edge_room)) (omega (arith, rw (← c.self.view_is) at c.requires.face_room)))
+    valid_as _ _ (rw (← c.self.view_is) at (returns-clause-mesh g c))
+    (valid_inserted (mesh_in c.self.inside) c.args.v c.args.edge c.self.invariant
+    (rw (← c.self.view_is) at c.requires.inner) (rw (← c.self.view_is) at c.requires.alone)
+    (omega (arith, rw (← c.self.view_is) at c.requires.edge_room))
+    (omega (arith, rw (← c.self.view_is) at c.requires.face_room)))
 
 pub returns-clause-inserts : goal.returns-clause-inserts
 returns-clause-inserts g c =

@@ -12,7 +12,10 @@ set_loop_face-requires-2 g c =
     let m : Mesh = mesh_in c.self.inside in
     let inner : IsInner m c.args.f = rw (← c.self.view_is) at c.requires in
     let count : c.len.result ≡ length m.face_edges = omega arith in
-    let l = in_loop m c.args.f c.index-last.result.now c.index-edge.result.now (shown c.set_loop_face.new.half_edges.items) c.self.invariant.sound inner (c.index-last.ensures ∙ ap (λ n. get_or m.face_edges (n - 1) c.index-last.result.now) count) c.index-edge.ensures c.set_loop_face.ensures.items in
+    let l = in_loop m c.args.f c.index-last.result.now c.index-edge.result.now
+    (shown c.set_loop_face.new.half_edges.items) c.self.invariant.sound inner
+    (c.index-last.ensures ∙ ap (λ n. get_or m.face_edges (n - 1) c.index-last.result.now) count)
+    c.index-edge.ensures c.set_loop_face.ensures.items in
     record { edge = l.0; next = l.1; prev = l.2 }
 
 pub returns : goal.returns
@@ -21,7 +24,10 @@ returns g c =
     let s = c.self.invariant.sound in
     let inner : IsInner m c.args.f = rw (← c.self.view_is) at c.requires in
     let count : c.len.result ≡ length m.face_edges = omega arith in
-    let mesh = opened-is m c.args.f c.index-last.result.now c.index-edge.result.now _ _ (shown c.set_loop_face.new.half_edges.items) _ inner (c.index-last.ensures ∙ ap (λ n. get_or m.face_edges (n - 1) c.index-last.result.now) count) c.index-edge.ensures c.set_loop_face.ensures.items c.set_loop_face-2.ensures.items c.swap_remove.ensures.items in
+    let mesh = opened-is m c.args.f c.index-last.result.now c.index-edge.result.now _ _
+    (shown c.set_loop_face.new.half_edges.items) _ inner (c.index-last.ensures
+    ∙ ap (λ n. get_or m.face_edges (n - 1) c.index-last.result.now) count) c.index-edge.ensures
+    c.set_loop_face.ensures.items c.set_loop_face-2.ensures.items c.swap_remove.ensures.items in
     let o = rw (← mesh) at (opens m c.args.f s inner) in
     rw (← c.self.view_is) (record {
       mesh = mesh;
@@ -37,4 +43,5 @@ returns g c =
     })
 
 pub invariant_of-self : goal.invariant_of-self
-invariant_of-self g c = valid_opened (mesh_in c.self.inside) _ c.args.f c.self.invariant (rw (← c.self.view_is) at c.requires) (rw (← c.self.view_is) at (returns g c).opens.links)
+invariant_of-self g c = valid_opened (mesh_in c.self.inside) _ c.args.f c.self.invariant
+    (rw (← c.self.view_is) at c.requires) (rw (← c.self.view_is) at (returns g c).opens.links)

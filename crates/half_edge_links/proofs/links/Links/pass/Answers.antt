@@ -20,7 +20,8 @@ pass_edges-requires-clause-places g c =
     let l : c.next-l.result ≡ next m c.args.e = c.next-l.ensures in
     let k : c.prev-k.result ≡ prev m c.reversed-t.result = c.prev-k.ensures in
     let z : c.prev-z.result ≡ prev m c.prev-k.result = c.prev-z.ensures in
-    rw (z, k, l, c.reversed-t.ensures) (passed_places m c.args.e c.self.invariant.sound (rw (← c.self.view_is) at c.requires))
+    rw (z, k, l, c.reversed-t.ensures)
+    (passed_places m c.args.e c.self.invariant.sound (rw (← c.self.view_is) at c.requires))
 
 pub returns-clause-mesh : goal.returns-clause-mesh
 unfolding passed
@@ -30,22 +31,35 @@ returns-clause-mesh g c =
     let k : c.prev-k.result ≡ prev m c.reversed-t.result = c.prev-k.ensures in
     let z : c.prev-z.result ≡ prev m c.prev-k.result = c.prev-z.ensures in
     let start : c.origin-passed.result ≡ origin m c.next-l.result = c.origin-passed.ensures in
-    rw (← c.self.view_is, c.set_out_edge.ensures, c.pass_edges.ensures.items, start, z, k, l, c.reversed-t.ensures) refl
+    rw (
+      ← c.self.view_is,
+      c.set_out_edge.ensures,
+      c.pass_edges.ensures.items,
+      start,
+      z,
+      k,
+      l,
+      c.reversed-t.ensures,
+    ) refl
 
 pub invariant_of-self : goal.invariant_of-self
 invariant_of-self g c =
-    valid_as _ _ (rw (← c.self.view_is) at (returns-clause-mesh g c)) (valid_passed (mesh_in c.self.inside) c.args.e c.self.invariant (rw (← c.self.view_is) at c.requires))
+    valid_as _ _ (rw (← c.self.view_is) at (returns-clause-mesh g c)) (valid_passed
+    (mesh_in c.self.inside) c.args.e c.self.invariant (rw (← c.self.view_is) at c.requires))
 
 pub returns-clause-links : goal.returns-clause-links
 returns-clause-links g c =
     let can = rw (← c.self.view_is) at c.requires in
-    rw (returns-clause-mesh g c, ← c.self.view_is, ← can.two) (passes (mesh_in c.self.inside) c.args.e c.self.invariant.sound can)
+    rw (returns-clause-mesh g c, ← c.self.view_is, ← can.two)
+    (passes (mesh_in c.self.inside) c.args.e c.self.invariant.sound can)
 
 pub returns-clause-ends : goal.returns-clause-ends
 returns-clause-ends g c =
-    rw (← c.self.view_is) (ends_passed_is (mesh_in c.self.inside) _ c.args.e c.self.invariant.sound (rw (← c.self.view_is) at c.requires) (rw (← c.self.view_is) at (returns-clause-mesh g c)))
+    rw (← c.self.view_is) (ends_passed_is (mesh_in c.self.inside) _ c.args.e c.self.invariant.sound
+    (rw (← c.self.view_is) at c.requires) (rw (← c.self.view_is) at (returns-clause-mesh g c)))
 
 pub returns-clause-outline : goal.returns-clause-outline
 returns-clause-outline g c =
     let can = rw (← c.self.view_is) at c.requires in
-    rw (← c.self.view_is) (outline_passed (mesh_in c.self.inside) _ c.args.e c.self.invariant.sound can (rw (← c.self.view_is, ← can.two) at (returns-clause-links g c)))
+    rw (← c.self.view_is) (outline_passed (mesh_in c.self.inside) _ c.args.e c.self.invariant.sound
+    can (rw (← c.self.view_is, ← can.two) at (returns-clause-links g c)))

@@ -12,14 +12,19 @@ pub remove_edge-requires : goal.remove_edge-requires
 remove_edge-requires g c =
     let q = ap (λ (e : HalfEdge). e.face) c.half_edge-edge.ensures.value in
     let v = c.half_edge-edge.ensures.valid in
-    removable _ _ (removable_opened _ _ c.args.h v.sound (hull_edge _ _ v c.requires) (rw q at c.open_face.ensures.opens.links))
+    removable _ _ (removable_opened _ _ c.args.h v.sound (hull_edge _ _ v c.requires)
+    (rw q at c.open_face.ensures.opens.links))
 
 pub returns : goal.returns
 returns g c =
     let v = c.half_edge-edge.ensures.valid in
     let can = hull_edge _ _ v c.requires in
     let q = ap (λ (e : HalfEdge). e.face) c.half_edge-edge.ensures.value in
-    let peels : Peels c.args.self.now.mesh c.remove_edge.new.self.mesh c.args.h = record { opened = c.open_face.new.self.mesh; opens = rw q at c.open_face.ensures.opens.links; removes = c.remove_edge.ensures.removes.links } in
+    let peels : Peels c.args.self.now.mesh c.remove_edge.new.self.mesh c.args.h = record {
+      opened = c.open_face.new.self.mesh;
+      opens = rw q at c.open_face.ensures.opens.links;
+      removes = c.remove_edge.ensures.removes.links;
+    } in
     let sound = sound_removed _ _ c.args.h c.remove_edge.ensures.removes.links in
     record {
       peels = record {

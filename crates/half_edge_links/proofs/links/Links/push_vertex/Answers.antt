@@ -5,7 +5,8 @@ use Rattle.half_edge_links.proofs.links.Links.push_vertex.Goals as goal
 
 pub invariant_of-self : goal.invariant_of-self
 invariant_of-self g c =
-    rw c.push_reserved.ensures (valid_with_vertex (mesh_in c.self.inside) c.self.invariant (omega (arith, rw (← c.self.view_is) at c.requires)))
+    rw c.push_reserved.ensures (valid_with_vertex (mesh_in c.self.inside) c.self.invariant
+    (omega (arith, rw (← c.self.view_is) at c.requires)))
 
 pub returns-clause-outline : goal.returns-clause-outline
 returns-clause-outline g c = rw (← c.self.view_is) (λ one. one)

@@ -21,7 +21,8 @@ slide_edges-requires-clause-places g c =
     let k : c.next-k.result ≡ next m c.args.e = c.next-k.ensures in
     let there : c.get-there.result ≡ edge_at m.half_edges c.next-k.result = c.get-there.ensures in
     let z : c.prev-z.result ≡ prev m c.reversed-t.result = c.prev-z.ensures in
-    rw (z, there, k, c.reversed-t.ensures) (slid_places m c.args.e c.self.invariant.sound (rw (← c.self.view_is) at c.requires))
+    rw (z, there, k, c.reversed-t.ensures)
+    (slid_places m c.args.e c.self.invariant.sound (rw (← c.self.view_is) at c.requires))
 
 pub returns-clause-mesh : goal.returns-clause-mesh
 unfolding slid
@@ -30,19 +31,32 @@ returns-clause-mesh g c =
     let k : c.next-k.result ≡ next m c.args.e = c.next-k.ensures in
     let there : c.get-there.result ≡ edge_at m.half_edges c.next-k.result = c.get-there.ensures in
     let z : c.prev-z.result ≡ prev m c.reversed-t.result = c.prev-z.ensures in
-    rw (← c.self.view_is, c.set_out_edge.ensures, c.slide_edges.ensures.items, z, there, k, c.reversed-t.ensures) refl
+    rw (
+      ← c.self.view_is,
+      c.set_out_edge.ensures,
+      c.slide_edges.ensures.items,
+      z,
+      there,
+      k,
+      c.reversed-t.ensures,
+    ) refl
 
 pub invariant_of-self : goal.invariant_of-self
 invariant_of-self g c =
-    valid_as _ _ (rw (← c.self.view_is) at (returns-clause-mesh g c)) (valid_slid (mesh_in c.self.inside) c.args.e c.self.invariant (rw (← c.self.view_is) at c.requires))
+    valid_as _ _ (rw (← c.self.view_is) at (returns-clause-mesh g c)) (valid_slid
+    (mesh_in c.self.inside) c.args.e c.self.invariant (rw (← c.self.view_is) at c.requires))
 
 pub returns-clause-links : goal.returns-clause-links
 returns-clause-links g c =
-    rw (returns-clause-mesh g c, ← c.self.view_is) (slides (mesh_in c.self.inside) c.args.e c.self.invariant.sound (rw (← c.self.view_is) at c.requires))
+    rw (returns-clause-mesh g c, ← c.self.view_is) (slides (mesh_in c.self.inside) c.args.e
+    c.self.invariant.sound (rw (← c.self.view_is) at c.requires))
 
 pub returns-clause-ends : goal.returns-clause-ends
 returns-clause-ends g c =
-    rw (← c.self.view_is) (ends_slid (mesh_in c.self.inside) _ c.args.e c.self.invariant.sound (rw (← c.self.view_is) at c.requires) (rw (← c.self.view_is) at (returns-clause-links g c)))
+    rw (← c.self.view_is) (ends_slid (mesh_in c.self.inside) _ c.args.e c.self.invariant.sound
+    (rw (← c.self.view_is) at c.requires) (rw (← c.self.view_is) at (returns-clause-links g c)))
 
 pub returns-clause-outline : goal.returns-clause-outline
-returns-clause-outline g c = rw (← c.self.view_is) (outline_slid (mesh_in c.self.inside) _ c.args.e c.self.invariant.sound (rw (← c.self.view_is) at c.requires) (rw (← c.self.view_is) at (returns-clause-links g c)))
+returns-clause-outline g c =
+    rw (← c.self.view_is) (outline_slid (mesh_in c.self.inside) _ c.args.e c.self.invariant.sound
+    (rw (← c.self.view_is) at c.requires) (rw (← c.self.view_is) at (returns-clause-links g c)))

@@ -19,7 +19,8 @@ returns g c =
       sound = s;
       splits = record {
         links = links;
-        ends = ends_line _ _ c.slide.new.self.mesh _ _ s line hung.links hung.ends c.slide.ensures.ends;
+        ends = ends_line _ _ c.slide.new.self.mesh _ _ s line hung.links hung.ends
+            c.slide.ensures.ends;
         outer = splits_outer _ _ _ _ _ s line c.requires.alone hung.links links;
         outline = λ one. c.slide.ensures.outline (hung.outline one);
       };

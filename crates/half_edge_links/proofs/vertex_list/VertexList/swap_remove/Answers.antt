@@ -13,12 +13,17 @@ returns g c =
     let edge = λ (v : Vertex g.row.V.Denot). named_by v.out_edge in
     let value = λ (v : Vertex g.row.V.Denot). v.value in
     let out = c.swap_remove.result in
-    let within : c.args.v < length vs = omega (arith, length-map vs edge, rw (← c.self.view_is) at c.requires) in
+    let within : c.args.v < length vs =
+    omega (arith, length-map vs edge, rw (← c.self.view_is) at c.requires) in
     rw (← c.self.view_is) (record {
       values = record {
-        was = slice_get-map value vs c.args.v ∙ ap (λ o. option_map value o) (slice_get_read _ _ _ _ refl within c.swap_remove.ensures.value);
-        now = ap (λ l. map value l) c.swap_remove.ensures.items ∙ swap_remove-map value vs c.args.v out (omega (arith, within));
+        was = slice_get-map value vs c.args.v ∙ ap (λ o. option_map value o)
+            (slice_get_read _ _ _ _ refl within c.swap_remove.ensures.value);
+        now = ap (λ l. map value l) c.swap_remove.ensures.items
+            ∙ swap_remove-map value vs c.args.v out (omega (arith, within));
       };
-      out_edges = ap (λ l. map edge l) c.swap_remove.ensures.items ∙ swap_remove-map edge vs c.args.v out (omega (arith, within)) ∙ swap_remove_default _ c.args.v (named_by out.out_edge) None (omega (arith, length-map vs edge, within));
+      out_edges = ap (λ l. map edge l) c.swap_remove.ensures.items
+          ∙ swap_remove-map edge vs c.args.v out (omega (arith, within)) ∙ swap_remove_default _
+          c.args.v (named_by out.out_edge) None (omega (arith, length-map vs edge, within));
       capacity = c.swap_remove.ensures.capacity;
     })

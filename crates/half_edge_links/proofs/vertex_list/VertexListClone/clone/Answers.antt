@@ -8,11 +8,14 @@ use Rattle.half_edge_links.proofs.vertex_list.VertexListClone.clone.Goals as goa
 pub returns : goal.returns
 returns g c =
     let each = c.in_ok-clone.ensures.cases.0 in
-    let long = AllZip-long (IsCopiedVertex g.V.Clone.is_clone) c.self.inside.records.items c.in_ok-clone.field-0.items each in
+    let long = AllZip-long (IsCopiedVertex g.V.Clone.is_clone) c.self.inside.records.items
+    c.in_ok-clone.field-0.items each in
     record {
       cases = rw (← c.self.view_is) (record {
-        out_edges = copied_out_edges g.V.Clone.is_clone c.self.inside.records.items c.in_ok-clone.field-0.items each;
-        values = copied_values g.V.Clone.is_clone c.self.inside.records.items c.in_ok-clone.field-0.items each;
+        out_edges = copied_out_edges g.V.Clone.is_clone c.self.inside.records.items
+            c.in_ok-clone.field-0.items each;
+        values = copied_values g.V.Clone.is_clone c.self.inside.records.items
+            c.in_ok-clone.field-0.items each;
         fit = simp length-map (omega (arith, long, c.in_ok-clone.field-0.ok));
       });
     }

@@ -5,5 +5,6 @@ use Rattle.half_edge_views.proofs.iterators.FaceIteratorDoubleEndedIterator.next
 pub invariant_of-self : goal.invariant_of-self
 invariant_of-self g c =
     let it = c.args.self.now in
-    let kept = front_holds (λ i. i ≤ length it.dcel.now.faces) _ _ _ c.next_back.ensures.steps it.in_range in
+    let kept = front_holds
+    (λ i. i ≤ length it.dcel.now.faces) _ _ _ c.next_back.ensures.steps it.in_range in
     record { in_range = kept }

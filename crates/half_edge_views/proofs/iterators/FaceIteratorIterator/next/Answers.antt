@@ -5,7 +5,8 @@ use Rattle.half_edge_views.proofs.iterators.FaceIteratorIterator.next.Goals as g
 pub invariant_of-self : goal.invariant_of-self
 invariant_of-self g c =
     let it = c.args.self.now in
-    let kept = rest_holds (λ i. i ≤ length it.dcel.now.faces) _ _ _ c.next.ensures.steps it.in_range in
+    let kept =
+    rest_holds (λ i. i ≤ length it.dcel.now.faces) _ _ _ c.next.ensures.steps it.in_range in
     record { in_range = kept }
 
 pub returns-in_err-face-clause-steps : goal.returns-in_err-face-clause-steps

@@ -5,5 +5,6 @@ use Rattle.half_edge_views.proofs.iterators.UndirectedEdgeIteratorIterator.next.
 pub invariant_of-self : goal.invariant_of-self
 invariant_of-self g c =
     let it = c.args.self.now in
-    let kept = rest_holds (λ i. i < length it.dcel.now.undirected) _ _ _ c.next.ensures.steps it.in_range in
+    let kept = rest_holds
+    (λ i. i < length it.dcel.now.undirected) _ _ _ c.next.ensures.steps it.in_range in
     record { in_range = kept }

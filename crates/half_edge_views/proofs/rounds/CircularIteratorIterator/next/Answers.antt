@@ -8,12 +8,14 @@ returns-clause-steps g c =
     let went = c.go_on.ensures in
     let after = rw (at.dcel, at.index) at c.ccw-after.ensures.index in
     rw (at.dcel, at.index)
-    (walk_goes_on turn c.args.self.now.walk c.go_on.new.self _ at.some went.dcel went.first went.next went.left after)
+    (walk_goes_on turn c.args.self.now.walk c.go_on.new.self _ at.some went.dcel went.first
+    went.next went.left after)
 
 pub returns-clause-goes : goal.returns-clause-goes
 returns-clause-goes g c =
     let at = c.in_ok-edge.ensures in
     let went = c.go_on.ensures in
     let after = rw (at.dcel, at.index) at c.ccw-after.ensures.index in
-    let less = less_is_left turn c.args.self.now.walk c.go_on.new.self _ at.some went.dcel went.first went.next went.left after in
+    let less = less_is_left turn c.args.self.now.walk c.go_on.new.self _ at.some went.dcel
+    went.first went.next went.left after in
     record { on = λ _. (tt, tt, less); keeps = tt; rests = λ _. tt }

@@ -7,7 +7,8 @@ use Rattle.half_edge_views.proofs.Walks.{walk_left_is, none_left}
 use Rattle.half_edge_views.proofs.vertex.VertexHandle.out_edges.Goals as goal
 
 pub from-requires : goal.from-requires
-from-requires g c = out_edge-within c.args.self.now.dcel.now _ _ c.in-Some.ensures.whole (sym c.in-Some.ensures.value)
+from-requires g c = out_edge-within c.args.self.now.dcel.now _ _ c.in-Some.ensures.whole
+    (sym c.in-Some.ensures.value)
 
 pub returns-in-Some : goal.returns-in-Some
 returns-in-Some g c =

@@ -7,13 +7,15 @@ use Rattle.half_edge_views.proofs.Walks.{walk_left_is, none_left}
 use Rattle.half_edge_views.proofs.views.DcelMeshViews.convex_hull.Goals as goal
 
 pub from-requires : goal.from-requires
-from-requires g c = outer_edge-within c.args.self.now _ c.in-Some.ensures.whole (sym c.in-Some.ensures.value)
+from-requires g c =
+    outer_edge-within c.args.self.now _ c.in-Some.ensures.whole (sym c.in-Some.ensures.value)
 
 pub returns-in-Some : goal.returns-in-Some
 returns-in-Some g c =
     let made = c.from.ensures in
     subst (GivesOuterLoop c.args.self)
-    (sym (walk_left_is next c.from.result c.args.self _ _ _ made.dcel made.first made.left made.next))
+    (sym (walk_left_is next c.from.result c.args.self _ _ _ made.dcel made.first
+    made.left made.next))
     (gives_loop c.args.self _ c.in-Some.ensures.whole (sym c.in-Some.ensures.value))
 
 pub returns : goal.returns

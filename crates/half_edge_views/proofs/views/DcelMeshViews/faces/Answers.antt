@@ -4,5 +4,6 @@ use Rattle.half_edge_views.proofs.views.DcelMeshViews.faces.Goals as goal
 
 pub invariant_of-result : goal.invariant_of-result
 invariant_of-result g c =
-    let all = row_below 0 _ (length c.args.self.now.faces + 1) _ c.fixed_faces.ensures (omega arith) in
+    let all =
+    row_below 0 _ (length c.args.self.now.faces + 1) _ c.fixed_faces.ensures (omega arith) in
     record { in_range = λ k d lt. omega (arith, all k d lt) }

@@ -3,4 +3,5 @@ use Rattle.half_edge_voronoi.proofs.voronoi.VoronoiVertex.out_edges.Goals as goa
 
 pub returns : goal.returns
 returns g c =
-    rw (sym c.as_delaunay_face.ensures ∙ c.unwrap.ensures) (c.edges_out_of.ensures.dcel, c.edges_out_of.ensures.indexes)
+    rw (sym c.as_delaunay_face.ensures ∙ c.unwrap.ensures)
+    (c.edges_out_of.ensures.dcel, c.edges_out_of.ensures.indexes)

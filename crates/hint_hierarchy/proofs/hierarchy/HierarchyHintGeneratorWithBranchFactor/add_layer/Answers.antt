@@ -21,7 +21,8 @@ returns-then-insert g c =
     let number = g.S.SpadeNum.whole in
     let layers = c.args.self.now.layers.items in
     let H : Point → Type 0 = λ p. IsHeld number layers p ⊎ (p ≡ place_of number c.args.position) in
-    pushed_within (positions number) H layers c.push.new.self.items _ c.insert.new.self c.push.ensures.items
+    pushed_within
+    (positions number) H layers c.push.new.self.items _ c.insert.new.self c.push.ensures.items
     (λ p h. inl h)
     (λ p h. ⊎_elim
     (λ old. absurd (nothing_contained p

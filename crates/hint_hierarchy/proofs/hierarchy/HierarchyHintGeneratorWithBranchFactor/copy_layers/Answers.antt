@@ -14,7 +14,9 @@ loop-layer-preserved g c =
     let here : c.layer-item.result ≡ get_or layers c.loop-layer.layer-index c.layer-item.result =
     subst (λ ls. c.layer-item.result ≡ get_or ls c.loop-layer.layer-index c.layer-item.result)
     c.deref-layer-items.ensures.value c.layer-item.is in
-    pushed_within (positions number) (IsHeld number layers) c.loop-layer.copies.items c.push.new.self.items _
+    pushed_within (positions number)
+    (IsHeld number layers) c.loop-layer.copies.items c.push.new.self.items _
     c.in_ok-try_clone.field-0 c.push.ensures.items c.loop-layer.invariant
-    (λ p h. held_at (positions number) layers c.loop-layer.layer-index c.layer-item.result within here p
+    (λ p h. held_at
+    (positions number) layers c.loop-layer.layer-index c.layer-item.result within here p
     (subst (λ (ps : List Point). Contains ps p) c.in_ok-try_clone.ensures h))

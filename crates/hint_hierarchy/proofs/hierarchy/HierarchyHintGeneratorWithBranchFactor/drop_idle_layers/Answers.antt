@@ -5,5 +5,6 @@ use Rattle.hint_hierarchy.proofs.hierarchy.HierarchyHintGeneratorWithBranchFacto
 
 pub returns-then-num_vertices-lt2 : goal.returns-then-num_vertices-lt2
 returns-then-num_vertices-lt2 g c =
-    held_in_first (positions g.S.SpadeNum.whole) (c.len-layers.result - 1) c.args.self.now.layers.items
+    held_in_first (positions g.S.SpadeNum.whole)
+    (c.len-layers.result - 1) c.args.self.now.layers.items
     c.truncate.new.self.items c.truncate.ensures.items

@@ -10,6 +10,7 @@ pub returns-else-is_empty : goal.returns-else-is_empty
 returns-else-is_empty g c =
     let below : 0 < length c.args.self.now.layers.items = grind (arith, common_steps) in
     ⊎_elim
-    (λ at. inl (held_at (positions g.S.SpadeNum.whole) c.args.self.now.layers.items 0 c.index.result.now below
+    (λ at. inl (held_at (positions g.S.SpadeNum.whole) c.args.self.now.layers.items 0
+    c.index.result.now below
     c.index.ensures (place_of g.S.SpadeNum.whole c.first_position.result) at))
     (λ e. inr e) c.first_position.ensures

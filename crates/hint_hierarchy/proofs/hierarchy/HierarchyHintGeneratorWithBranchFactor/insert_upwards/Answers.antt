@@ -11,7 +11,8 @@ insert-requires-clause-sites g c =
     let sites = g.P.PlaneTests.sites c.args.tests.now in
     let layers = c.loop-level.self.layers.items in
     let below : c.loop-level.level < length layers = grind (arith, common_steps) in
-    sites_at (positions number) sites layers c.loop-level.level c.index_mut.result.now below c.index_mut.ensures.value
+    sites_at (positions number) sites layers c.loop-level.level c.index_mut.result.now below
+    c.index_mut.ensures.value
     (sites_with sites (IsHeld number c.args.self.now.layers.items) (IsHeld number layers)
     (place_of number c.args.position) c.requires.held c.requires.site c.loop-level.invariant.more)
 
@@ -22,8 +23,10 @@ loop-level-preserved g c =
     let below : c.loop-level.level < length layers = grind (arith, common_steps) in
     record {
       as_many = grind (arith, common_steps);
-      more = held_since (positions number) (λ p. p ≡ place_of number c.args.position) c.args.self.now.layers.items
-          layers c.loop-level.level c.index_mut.result.now c.insert.new.self below c.index_mut.ensures.value
+      more = held_since (positions number)
+          (λ p. p ≡ place_of number c.args.position) c.args.self.now.layers.items
+          layers c.loop-level.level c.index_mut.result.now c.insert.new.self below
+          c.index_mut.ensures.value
           c.insert.ensures c.loop-level.invariant.more;
     }
 
@@ -32,8 +35,10 @@ returns-then-not-insert g c =
     let number = g.S.SpadeNum.whole in
     let layers = c.loop-level.self.layers.items in
     let below : c.loop-level.level < length layers = grind (arith, common_steps) in
-    held_since (positions number) (λ p. p ≡ place_of number c.args.position) c.args.self.now.layers.items layers
-    c.loop-level.level c.index_mut.result.now c.insert.new.self below c.index_mut.ensures.value c.insert.ensures
+    held_since (positions number)
+    (λ p. p ≡ place_of number c.args.position) c.args.self.now.layers.items layers
+    c.loop-level.level c.index_mut.result.now c.insert.new.self below c.index_mut.ensures.value
+    c.insert.ensures
     c.loop-level.invariant.more
 
 pub add_layer-requires : goal.add_layer-requires
@@ -41,8 +46,10 @@ add_layer-requires g c =
     let number = g.S.SpadeNum.whole in (
       omega arith,
       (
-        sites_with (g.P.PlaneTests.sites c.args.tests.now) (IsHeld number c.args.self.now.layers.items)
-            (IsHeld number c.loop-level.self.layers.items) (place_of number c.args.position) c.requires.held
+        sites_with (g.P.PlaneTests.sites c.args.tests.now)
+            (IsHeld number c.args.self.now.layers.items)
+            (IsHeld number c.loop-level.self.layers.items)
+            (place_of number c.args.position) c.requires.held
             c.requires.site c.loop-level.invariant.more,
         c.requires.site,
       ),
@@ -51,6 +58,8 @@ add_layer-requires g c =
 pub returns : goal.returns
 returns g c =
     let number = g.S.SpadeNum.whole in
-    with_then_with (IsHeld number c.args.self.now.layers.items) (IsHeld number c.loop-level.self.layers.items)
-    (IsHeld number c.add_layer.new.self.layers.items) (place_of number c.args.position) c.loop-level.invariant.more
+    with_then_with (IsHeld number c.args.self.now.layers.items)
+    (IsHeld number c.loop-level.self.layers.items)
+    (IsHeld number c.add_layer.new.self.layers.items)
+    (place_of number c.args.position) c.loop-level.invariant.more
     c.add_layer.ensures

@@ -11,9 +11,11 @@ remove_from_layer-requires-clause-sites g c =
     let sites = g.P.PlaneTests.sites c.args.tests.now in
     let layers = c.loop-level.self.layers.items in
     let below : c.loop-level.level < length layers = grind (arith, common_steps) in
-    sites_at (positions number) sites layers c.loop-level.level c.index_mut.result.now below c.index_mut.ensures.value
+    sites_at (positions number) sites layers c.loop-level.level c.index_mut.result.now below
+    c.index_mut.ensures.value
     (sites_or sites (IsHeld number c.args.self.now.layers.items) (IsHeld number layers)
-    (place_if number c.args.swapped_in) c.requires.held c.requires.swapped_site c.loop-level.invariant.more)
+    (place_if number c.args.swapped_in) c.requires.held c.requires.swapped_site
+    c.loop-level.invariant.more)
 
 pub loop-level-preserved : goal.loop-level-preserved
 loop-level-preserved g c =
@@ -23,7 +25,8 @@ loop-level-preserved g c =
     record {
       as_many = grind (arith, common_steps);
       more = held_since (positions number) (λ p. place_if number c.args.swapped_in ≡ Some p)
-          c.args.self.now.layers.items layers c.loop-level.level c.index_mut.result.now c.remove_from_layer.new.layer
+          c.args.self.now.layers.items layers c.loop-level.level c.index_mut.result.now
+          c.remove_from_layer.new.layer
           below c.index_mut.ensures.value c.remove_from_layer.ensures c.loop-level.invariant.more;
     }
 
@@ -32,6 +35,8 @@ returns-then-not-remove_from_layer g c =
     let number = g.S.SpadeNum.whole in
     let layers = c.loop-level.self.layers.items in
     let below : c.loop-level.level < length layers = grind (arith, common_steps) in
-    held_since (positions number) (λ p. place_if number c.args.swapped_in ≡ Some p) c.args.self.now.layers.items layers
-    c.loop-level.level c.index_mut.result.now c.remove_from_layer.new.layer below c.index_mut.ensures.value
+    held_since (positions number)
+    (λ p. place_if number c.args.swapped_in ≡ Some p) c.args.self.now.layers.items layers
+    c.loop-level.level c.index_mut.result.now c.remove_from_layer.new.layer below
+    c.index_mut.ensures.value
     c.remove_from_layer.ensures c.loop-level.invariant.more

@@ -18,13 +18,16 @@ append-requires g c =
     let points = c.args.positions.now in
     let below : c.loop-position.position-index < length points = grind (arith, common_steps) in
     let listed : Contains (places number points) (place_of number c.position-item.result) =
-    element_is_listed (place_of number) points c.loop-position.position-index c.position-item.result below
+    element_is_listed
+    (place_of number) points c.loop-position.position-index c.position-item.result below
     c.position-item.is in (
       omega arith,
       (
-        sites_of sites (IsHeld number c.loop-position.hierarchy.layers.items) (places number points) c.requires.sites
+        sites_of sites (IsHeld number c.loop-position.hierarchy.layers.items)
+            (places number points) c.requires.sites
             c.loop-position.invariant,
-        All-contains sites (places number points) (place_of number c.position-item.result) c.requires.sites listed,
+        All-contains sites (places number points)
+            (place_of number c.position-item.result) c.requires.sites listed,
       ),
     )
 
@@ -34,8 +37,10 @@ loop-position-preserved g c =
     let points = c.args.positions.now in
     let below : c.loop-position.position-index < length points = grind (arith, common_steps) in
     let listed : Contains (places number points) (place_of number c.position-item.result) =
-    element_is_listed (place_of number) points c.loop-position.position-index c.position-item.result below
+    element_is_listed
+    (place_of number) points c.loop-position.position-index c.position-item.result below
     c.position-item.is in
-    of_then_with (IsHeld number c.loop-position.hierarchy.layers.items) (IsHeld number c.append.new.self.layers.items)
+    of_then_with (IsHeld number c.loop-position.hierarchy.layers.items)
+    (IsHeld number c.append.new.self.layers.items)
     (places number points) (place_of number c.position-item.result) c.loop-position.invariant listed
     c.append.ensures

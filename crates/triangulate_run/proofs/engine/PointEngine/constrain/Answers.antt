@@ -14,9 +14,13 @@ pub returns-in-Plain-clause-answered : goal.returns-in-Plain-clause-answered
 returns-in-Plain-clause-answered g c =
     let old = stage_of c.args.self.now.triangulation in
     let same = c.take_constraints.ensures.stage in
-    let none : old.plain.constraints ≡ [] = ap (λ s. s.plain.constraints) (sym same ∙ ap stage_of c.in-Plain.is) in
-    let refused = Refused OutOfMemory in
-    (reply_text refused, inr (refused, (c.in-Some.ensures.2, inl none, same), refl), c.write_reply-in-Plain.ensures)
+    let none : old.plain.constraints ≡ [] =
+    ap (λ s. s.plain.constraints) (sym same ∙ ap stage_of c.in-Plain.is) in
+    let refused = Refused OutOfMemory in (
+      reply_text refused,
+      inr (refused, (c.in-Some.ensures.2, inl none, same), refl),
+      c.write_reply-in-Plain.ensures,
+    )
 
 pub returns-in-Constrained-clause-answered : goal.returns-in-Constrained-clause-answered
 returns-in-Constrained-clause-answered g c =

@@ -7,7 +7,8 @@ use Rattle.triangulate_run.proofs.engine.PointEngine.recall_invariant.Goals as g
 
 pub returns-in-Plain : goal.returns-in-Plain
 returns-in-Plain g c =
-    subst Fits (ap stage_of (sym c.in-Plain.is)) (fits none c.in-Plain.plain c.recall_invariant.ensures)
+    subst Fits (ap stage_of (sym c.in-Plain.is))
+    (fits none c.in-Plain.plain c.recall_invariant.ensures)
 
 pub returns-in-Constrained : goal.returns-in-Constrained
 returns-in-Constrained g c =

@@ -9,5 +9,6 @@ pub returns-in-Insert-clause-reply : goal.returns-in-Insert-clause-reply
 returns-in-Insert-clause-reply g c =
     let old = stage_of c.args.self.now.triangulation in
     let new = stage_of c.insert.new.self.triangulation in
-    rw c.in-Insert.is (subst (λ (p : Point2 ℤ). MayInsert c.args.self.now.points.now old p c.insert.result new)
+    rw c.in-Insert.is
+    (subst (λ (p : Point2 ℤ). MayInsert c.args.self.now.points.now old p c.insert.result new)
     c.point_of.ensures c.insert.ensures.reply)

@@ -3,7 +3,8 @@ use Rattle.triangulate_run.specs.Engine.{stage_of}
 use Rattle.triangulate_run.specs.Reply.{reply_text}
 use Rattle.triangulate_run.proofs.Stages.{answered_so, walks_there}
 use Rattle.triangulate_run.proofs.engine.PointEngineEngine.answer.Goals as goal
-use Rattle.triangulate_run.proofs.engine.PointEngineEngine.answer.Goals.{in-Constrain, in-Line, in_default+in-Faces-1}
+use Rattle.triangulate_run.proofs.engine.PointEngineEngine.answer.Goals.{in-Constrain, in-Line}
+use Rattle.triangulate_run.proofs.engine.PointEngineEngine.answer.Goals.{in_default+in-Faces-1}
 use Rattle.triangulate_run.proofs.engine.PointEngineEngine.answer.Goals.{in_default+in-BadLine-1}
 
 pub returns-clause-answered : goal.returns-clause-answered
@@ -12,16 +13,20 @@ returns-clause-answered g c =
     let old = stage_of c.args.self.now.triangulation in
     elim c.match-command.branch [
       | in-Constrain w ↦
-          rw (w.in-Constrain.is, w.self-is, w.writer-is, w.answered-is) w.constrain-answered.ensures.answered
+          rw (w.in-Constrain.is, w.self-is, w.writer-is, w.answered-is)
+          w.constrain-answered.ensures.answered
       | in-Line w ↦ rw (w.in-Line.is, w.self-is, w.writer-is, w.answered-is) (
           let told = w.line-answered.ensures.answered in
-          let met = walks_there points old.triangulation _ _ _ _ w.point_of.ensures w.point_of-in-Line.ensures told.0
+          let met = walks_there points old.triangulation _ _ _ _ w.point_of.ensures
+          w.point_of-in-Line.ensures told.0
           told.1 in
           (told.0, (met, refl), told.2))
       | in_default+in-Faces-1 w ↦ rw (w.self-is, w.writer-is, w.answered-is) (
-          let so = answered_so points old c.args.command w.reply_to-reply.result _ w.reply_to-reply.ensures.reply in
+          let so = answered_so points old c.args.command w.reply_to-reply.result _
+          w.reply_to-reply.ensures.reply in
           (reply_text w.reply_to-reply.result, so, w.write_reply-answered.ensures))
       | in_default+in-BadLine-1 w ↦ rw (w.self-is, w.writer-is, w.answered-is) (
-          let so = answered_so points old c.args.command w.reply_to-reply.result _ w.reply_to-reply.ensures.reply in
+          let so = answered_so points old c.args.command w.reply_to-reply.result _
+          w.reply_to-reply.ensures.reply in
           (reply_text w.reply_to-reply.result, so, w.write_reply-answered.ensures))
     ]
