@@ -1,5 +1,5 @@
 //! The lists that removals work with.
-ghost use Rattle.std.specs.Prelude.{OnOk};
+ghost use Rattle.std.specs.Prelude.{◌≡◌, [], OnOk};
 ghost use Rattle.delaunay_removal.specs.Lists.{HasRoomToRemove};
 
 use crate::pairs::VertexPair;
@@ -17,8 +17,11 @@ pub struct RemovalLists {
 }
 
 impl RemovalLists {
-    /// Lists without room.
-    pub fn new(alloc: Global) -> Self {
+    /// Empty lists, without room.
+    pub fn new(alloc: Global) -> Self
+        ensures sides { result.sides.items ≡ [] }
+        ensures turned { result.turned.items ≡ [] }
+    {
         RemovalLists {
             sides: Vec::new(alloc),
             turned: Vec::new(alloc),
