@@ -1,8 +1,8 @@
 -- How many edges are constraints, which vertices they join, and other data for which none is.
-use Rattle.std.proofs.Common.{◌≡◌, ◌+◌, ◌*◌, ◌<◌, ◌≤◌, [], ◌∷◌}
+use Rattle.std.proofs.Common.{◌≡◌, ◌*◌, ◌<◌, ◌≤◌, [], ◌∷◌}
 use Rattle.std.proofs.Common.{ℕ, zero, suc, Bool, true, false, List, length, map}
 use Rattle.std.proofs.Common.{refl, sym, ap, ◌∙◌, subst, arith, inl, inr}
-use Rattle.std.specs.Prelude.{Contains, Some, slice_get, if◌then◌else◌}
+use Rattle.std.specs.Prelude.{Contains, if◌then◌else◌}
 use Rattle.std.specs.List.{AllZip}
 use Rattle.std.proofs.lemmas.List.{length-map}
 use Rattle.half_edge_mesh.specs.Mesh.{Mesh, origin, rev}
@@ -24,7 +24,6 @@ use Rattle.delaunay_legalization.specs.Shape.{IsTriangulated, IsDelaunayTriangul
 use Rattle.delaunay_legalization.specs.State.{State, state_of}
 use Rattle.delaunay_edit.specs.Data.{HasOtherEdgeData}
 use Rattle.mesh_embedding.proofs.EdgePairs.{rev_of_even}
-use Rattle.mesh_embedding.proofs.Entries.{one_value}
 
 -- ---- how many there are
 abbrev add_mark : Bool → ℕ → ℕ
@@ -38,47 +37,6 @@ marks_before marks (d ∷ ds) zero = 0
 marks_before marks (d ∷ ds) (suc k) = add_mark (marks d) (marks_before marks ds k)
 
 module _ {U : Type 0} (marks : U → Bool) where
-  -- before the first edge none has the mark
-  pub no_marks : (ds : List U) → marks_before marks ds 0 ≡ 0
-  no_marks [] = refl
-  no_marks (d ∷ ds) = refl
-
-  add_first : (ds : List U) (b : Bool) → add_mark b (marks_before marks ds 0) ≡ add_mark b 0
-  add_first ds b = ap (add_mark b) (no_marks ds)
-
-  swap_marks : (b c : Bool) (n : ℕ) → add_mark b (add_mark c n) ≡ add_mark c (add_mark b n)
-  swap_marks true true n = refl
-  swap_marks true false n = refl
-  swap_marks false true n = refl
-  swap_marks false false n = refl
-
-  next_mark : (ds : List U) (k : ℕ) (d : U) → slice_get ds k ≡ Some d →
-      marks_before marks ds (suc k) ≡ add_mark (marks d) (marks_before marks ds k)
-  next_mark [] k d e = absurd (cc)
-  next_mark (x ∷ xs) zero d e =
-      add_first xs (marks x) ∙ ap (λ (b : Bool). add_mark b 0) (ap marks (one_value x d e))
-  next_mark (x ∷ xs) (suc k) d e =
-      ap (add_mark (marks x)) (next_mark xs k d e)
-      ∙ swap_marks (marks x) (marks d) (marks_before marks xs k)
-
-  -- an edge with the mark is one more
-  pub marked_next : (ds : List U) (k : ℕ) (d : U) (n : ℕ) → n ≡ marks_before marks ds k
-      → slice_get ds k ≡ Some d → marks d ≡ true → n + 1 ≡ marks_before marks ds (k + 1)
-  marked_next ds k d n is e t =
-      let one : suc k ≡ k + 1 = omega arith in
-      let two : n + 1 ≡ suc n = omega arith in
-      two ∙ ap suc is
-      ∙ sym (next_mark ds k d e ∙ ap (λ (b : Bool). add_mark b (marks_before marks ds k)) t)
-      ∙ ap (marks_before marks ds) one
-
-  -- an edge without it is none
-  pub free_next : (ds : List U) (k : ℕ) (d : U) (n : ℕ) → n ≡ marks_before marks ds k
-      → slice_get ds k ≡ Some d → marks d ≡ false → n ≡ marks_before marks ds (k + 1)
-  free_next ds k d n is e t =
-      let one : suc k ≡ k + 1 = omega arith in
-      is ∙ sym (next_mark ds k d e ∙ ap (λ (b : Bool). add_mark b (marks_before marks ds k)) t)
-      ∙ ap (marks_before marks ds) one
-
   one_more : (b : Bool) (first : ℕ) (ks : List ℕ) (n : ℕ) → n ≡ length ks →
       add_mark b n ≡ length (if b then first ∷ ks else ks)
   one_more true first ks n e = ap suc e

@@ -161,15 +161,6 @@ module _ {V D U F : Type 0} (place : V → Point) (marks : U → Bool) (constrai
         → given ≡ x ∷ left → x.1 < length c.mesh.half_edges
     next_at x left e = p.are_left.within x.1 (next_left c v given p.rest p.are_left x left e)
 
-    -- and with it at most all directed edges are counted
-    pub room_at : (x : Bor (Contents V D U F) × ℕ) (left : List (Bor (Contents V D U F) × ℕ))
-        → given ≡ x ∷ left → count + 1 ≤ length c.mesh.half_edges
-    room_at x left e =
-        let s = one_less_left c v given p.rest p.are_left x left e in
-        let size : length p.rest ≡ suc (length s.0) = ap length s.1 in
-        let few = p.few in
-        omega (arith, size, few)
-
     module _ (x : Bor (Contents V D U F) × ℕ) (left : List (Bor (Contents V D U F) × ℕ))
         (e : given ≡ x ∷ left) where
       s : (others : List ℕ) × (p.rest ≡ x.1 ∷ others) × IsLeftOfRound c v left others

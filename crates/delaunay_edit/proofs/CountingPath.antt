@@ -83,10 +83,6 @@ module _ (points : List Point) (distinct : ArePlacedApart points) (pairs : List 
           < nat_abs (squared_way (point_of points at) (point_of points to))
       walk_shortens = path_shortens points at to next distinct p.within to_in apart first
 
-      -- the count has room for one more
-      pub walk_has_room : count + 1 ≤ 2305843009213693952
-      walk_has_room = let few = p.few in let falls = walk_shortens in omega (arith, few, falls)
-
       pieces : (a b : ℕ) → AreNextOn points at to a b
           ↔ (IsSamePair a b at next ⊎ AreNextOn points next to a b)
       pieces = path_goes_on points at to next distinct to_in apart first

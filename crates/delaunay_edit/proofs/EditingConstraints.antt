@@ -1,19 +1,18 @@
 -- Paths of constraints that are added to a triangulation, and constraints that are released.
-use Rattle.std.proofs.Common.{◌≡◌, ◌≢◌, ◌⊎◌, ◌*◌, ◌<◌, []}
+use Rattle.std.proofs.Common.{◌≡◌, ◌⊎◌, ◌<◌, []}
 use Rattle.std.proofs.Common.{ℕ, Bool, true, false, List, length, map, refl, sym, ap}
 use Rattle.std.proofs.Common.{subst, inl, inr}
 use Rattle.std.specs.Prelude.{Contains, Result, Ok}
 use Rattle.half_edge_mesh.specs.Contents.{Contents}
-use Rattle.half_edge_mesh.specs.Mesh.{origin, rev}
 use Rattle.plane.specs.Fraction.{Point}
 use Rattle.plane.specs.Pairs.{SamePairs}
-use Rattle.plane.specs.Plain.{Adds, AreNeighboursOn, CanAdd, Releases}
+use Rattle.plane.specs.Plain.{Adds, AreNeighboursOn, CanAdd}
 use Rattle.plane_segments.specs.Constraints.{AreNextOn}
 use Rattle.delaunay_legalization.specs.declared.cdt_edge.CdtEdge.{CdtEdge}
 use Rattle.delaunay_legalization.specs.CdtEdge.{is_constraint, with_mark}
 use Rattle.delaunay_legalization.specs.State.{State, state_of}
 use Rattle.delaunay_legalization.proofs.Questions.{both_ways}
-use Rattle.delaunay_paths.specs.PathEdges.{AreJoinedAlong, HasPath, LeadAlong}
+use Rattle.delaunay_paths.specs.PathEdges.{AreJoinedAlong, HasPath}
 use Rattle.delaunay_paths.specs.Releasing.{AddsConstraints, ReleasesEdge}
 use Rattle.delaunay_edit.specs.Constrained.{constrained, constraint_edges, constraints_of}
 use Rattle.delaunay_edit.specs.ConstraintEdits.{AddsConstraint, AddsPathIfFree, FreesEdge}
@@ -108,18 +107,6 @@ module _ {V D U F : Type 0} (place : V → Point) where
         ((adds.constraints a b).1 (inr (neighbours_of place (map place old.vertices) from to a b
         (subst (λ (vs : List V). AreNextOn (map place vs) from to a b) adds.vertices next))))
 
-    -- between two vertices whose segment no constraint crosses, the edges along it are given
-    pub path_listed : from ≢ to → CanAdd place (constrained old) from to → (edges : List ℕ) →
-        LeadAlong (map place new.vertices) new.mesh from to edges → MarksEdges old new →
-        AddsPathIfFree place from to edges old new
-    path_listed apart free edges along marks = record {
-      refused = λ x. elim x as
-          (λ _. (edges ≡ []) × (new ≡ old)) [ inl e ↦ absurd (apart e) | inr n ↦ absurd (n free) ];
-      plain = λ a f. adds;
-      along = λ a f. along;
-      «data» = marks;
-    }
-
   -- ---- no path is to be added
   -- where one crosses it, or the two are one, there are no edges, and nothing changes
   pub none_listed : (s : State V D (CdtEdge U) F) (from to : ℕ) (edges : List ℕ) → edges ≡ []
@@ -161,19 +148,5 @@ module _ {V D U F : Type 0} (place : V → Point) {E : Type 0} (k : ℕ) (result
         told = ((λ t. absurd (both_ways false t refl)), (λ h. absurd (none h)));
         plain = λ h. absurd (none h);
         «data» = λ h. absurd (none h);
-        err = tt;
-      })
-
-  -- an edge that is a constraint is released, and the result tells so
-  pub one_released : (old new : State V D (CdtEdge U) F) → result ≡ Ok true
-      → Contains (constraint_edges old.undirected) k → Releases place (constrained old)
-      (constrained new) (origin old.mesh (2 * k)) (origin old.mesh (rev (2 * k)))
-      → FreesEdge old new k → ReleasesConstraint place k result old new
-  one_released old new is there plain frees =
-      subst (λ (r : Result Bool E). ReleasesConstraint place k r old new) (sym is) (record {
-        none = λ n. absurd (n there);
-        told = ((λ t. there), (λ h. refl));
-        plain = λ h. plain;
-        «data» = λ h. frees;
         err = tt;
       })

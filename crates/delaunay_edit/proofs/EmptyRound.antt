@@ -1,5 +1,5 @@
 -- Without constraints the circles round a vertex that was put in are empty.
-use Rattle.std.proofs.Common.{◌≡◌, ◌∙◌, ℕ, Bool, List, [], length, map, sym, subst}
+use Rattle.std.proofs.Common.{◌≡◌, ◌∙◌, ℕ, Bool, List, [], map, sym, subst}
 use Rattle.std.proofs.lemmas.List.{length-map, nil_from_length}
 use Rattle.half_edge_mesh.specs.Contents.{Contents}
 use Rattle.plane.specs.Fraction.{Point}

@@ -64,9 +64,6 @@ module _ {V D U F : Type 0} (at : V → Point) (v : V) (old mid new : State V D 
   abbrev after : List Point
   after = map at new.vertices
 
-  new_directed : new.directed ≡ mid.directed
-  new_directed = ap (λ s. s.directed) same
-
   data_edges : (g h : ℕ) → g < length old.directed → h < length new.directed
       → GoSameWay old.mesh g new.mesh h → KeepsEdge old mid g × (h ≡ g)
   data_edges g h w x way = elim (grows.edges g w) [

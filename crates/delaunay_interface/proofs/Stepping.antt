@@ -121,12 +121,6 @@ module _ {V D U F : Type 0} (place : V → Point) (from to : ℕ) where
         adds = record { plain = added.plain; told = added.told; «data» = added.«data»; err = tt };
       })
 
-  -- to join leaves the vertices, and a refusal all
-  pub joined_vertices : (s new : State V D (CdtEdge U) F) (result : Result Bool ConstraintError) →
-      JoinsVertices place from to result s new → new.vertices ≡ s.vertices
-  joined_vertices s new (Ok made) j = j.adds.plain.vertices
-  joined_vertices s new (Err e) j = ap (λ (t : State V D (CdtEdge U) F). t.vertices) j.adds.err
-
 -- ---- what calls of an iterator gave
 module _ {I V : Type 0} (steps : I → Option V → I → Type 0) where
   -- an item that the next call gives is taken after the others
@@ -225,12 +219,6 @@ module _ {V D U F : Type 0} (place : V → Point) where
 
   -- ---- the end of a path
   module _ (closed : Bool) (first last : ℕ) (s : State V D (CdtEdge U) F) where
-    -- a path that is not to be closed, or whose ends are one, stays as it is
-    pub stays_open : (¬ (IsTrue closed × (last ≢ first)))
-        → ClosesPath place closed first last (Ok tt) s s
-    stays_open none =
-        record { joins = λ c apart. absurd (none (c, apart)); stays = λ _. (refl, refl) }
-
     -- a path to be closed is so where its ends are joined
     pub closes : (made : Bool) (new : State V D (CdtEdge U) F) → IsTrue closed → last ≢ first
         → JoinsVertices place last first (Ok made) s new

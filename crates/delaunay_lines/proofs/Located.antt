@@ -25,14 +25,13 @@ use Rattle.mesh_embedding.proofs.EdgePairs.{joins_edge}
 use Rattle.mesh_embedding.proofs.OwnEdges.{own_edges}
 use Rattle.delaunay_legalization.specs.Known.{point_at}
 use Rattle.delaunay_location.specs.declared.position_in_triangulation.PositionInTriangulation.TheVariants.{OnVertex}
-use Rattle.delaunay_location.specs.declared.position_in_triangulation.PositionInTriangulation.TheVariants.{OnEdge}
 use Rattle.delaunay_location.specs.declared.position_in_triangulation.PositionInTriangulation.TheVariants.{OnFace}
 use Rattle.delaunay_location.specs.declared.position_in_triangulation.PositionInTriangulation.TheVariants.{OutsideOfConvexHull}
 use Rattle.delaunay_location.specs.declared.position_in_triangulation.PositionInTriangulation.TheVariants.{NoTriangulation}
 use Rattle.delaunay_location.specs.Location.{Locates}
-use Rattle.delaunay_lines.specs.Starts.{StartsWithin, StartsInside, StartsOutside}
+use Rattle.delaunay_lines.specs.Starts.{StartsInside, StartsOutside}
 use Rattle.delaunay_lines.specs.Steps.{IsOverMesh}
-use Rattle.delaunay_lines.proofs.MeshSteps.{of_mesh, start_in}
+use Rattle.delaunay_lines.proofs.MeshSteps.{start_in}
 
 -- neither on a vertex, nor on an edge, nor in a face
 abbrev IsAway : Location → Type 0
@@ -79,11 +78,6 @@ module _ {V D U F : Type 0} (at : V → Point) (IsSite IsCovered : Point → Typ
     subst (λ (n : ℕ). v < n) (sym over.mesh.fits.vertices_fit) l.handle,
     sym (one_point p (point_at points v) l.location.1),
   )
-
-  -- located on an edge, p is strictly within it
-  pub within_that_edge : (e : ℕ) → Locates points m p (OnEdge e)
-      → (e < length c.directed) × StartsWithin points m p e
-  within_that_edge e l = (of_mesh at IsSite IsCovered c p q over e l.handle, l.location.1)
 
   -- located in a face, p is strictly inside it
   pub inside_that_face : (f : ℕ) → Locates points m p (OnFace f)

@@ -1,15 +1,14 @@
 -- One call of the iterator along a segment.
-use Rattle.std.proofs.Common.{◌≡◌, ◌≢◌, ◌-◌, ◌≤◌, [], ◌∷◌, ◌∙◌}
-use Rattle.std.proofs.Common.{List, map, Option, Some, None, refl, sym, ap, subst}
+use Rattle.std.proofs.Common.{◌≡◌, ◌≢◌, ◌-◌, ◌≤◌, ◌∷◌, ◌∙◌}
+use Rattle.std.proofs.Common.{List, Option, Some, None, refl, sym, ap, subst}
 use Rattle.std.specs.Prelude.{ℤ}
-use Rattle.plane.specs.Fraction.{Point, whole}
-use Rattle.plane.specs.Line.{Item, Meets}
-use Rattle.mesh_embedding.specs.Drawn.{drawn}
+use Rattle.plane.specs.Fraction.{Point}
+use Rattle.plane.specs.Line.{Item}
 use Rattle.delaunay_core.specs.Place.{place_of}
 use Rattle.delaunay_lines.specs.declared.intersection.Intersection.{Intersection}
 use Rattle.delaunay_lines.specs.declared.intersection.FixedIntersection.{FixedIntersection}
 use Rattle.delaunay_lines.specs.declared.iterator.LineIntersectionIterator.{LineIntersectionIterator}
-use Rattle.delaunay_lines.specs.Items.{item_of, item_in, mesh_of, IsHandleOf}
+use Rattle.delaunay_lines.specs.Items.{item_of, item_in, mesh_of}
 use Rattle.delaunay_lines.specs.Steps.{IsNext}
 use Rattle.delaunay_lines.specs.Walk.{AreFrom, AreLeft, GivesNext, IsReady}
 use Rattle.delaunay_lines.proofs.Advance.{further, one_fewer, some_left}
@@ -22,36 +21,12 @@ module _ {V D U F P S : Type 0} (at : V → Point) (number : S → ℤ)
   abbrev q : Point
   q = place_of number it.to
 
-  -- nothing is left without a current item
-  pub gives_none : it.current ≡ None → GivesNext at number it None it
-  gives_none is = record {
-    same_mesh = refl;
-    gives = λ items left. (
-      none items left,
-      subst (λ (o : Option FixedIntersection). AreFrom at it.dcel.now p q o [])
-          (sym is) refl,
-    );
-  }
-    where
-      none : (items : List Item) → AreLeft at number it items → items ≡ []
-      none items left =
-          subst (λ (o : Option FixedIntersection). AreFrom at it.dcel.now p q o items) is left
-
   module _ (ready : IsReady at number IsSite IsCovered it) (i : FixedIntersection)
       (is : it.current ≡ Some i) where
     from_here : (items : List Item) → AreLeft at number it items
         → AreFrom at it.dcel.now p q (Some i) items
     from_here items left =
         subst (λ (o : Option FixedIntersection). AreFrom at it.dcel.now p q o items) is left
-
-    -- the current handle is one of the mesh
-    pub handle_here : IsHandleOf it.dcel.now i
-    handle_here = (from_here ready.items ready.are_left).0
-
-    -- the segment between different points meets the current item
-    pub met_here : p ≢ q → Meets (drawn (map at it.dcel.now.vertices) it.dcel.now.mesh) (whole p)
-        (whole q) (item_of it.dcel.now.mesh i)
-    met_here apart = (from_here ready.items ready.are_left).1.2.met apart
 
     -- the bound on the items that are left is at least 1
     pub counts_more : 1 ≤ it.left

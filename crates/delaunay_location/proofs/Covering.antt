@@ -1,12 +1,12 @@
 -- The points that the tests of a search cover.
 use Rattle.std.proofs.Common.{◌≡◌, ℕ, ◌<◌, length, map}
-use Rattle.std.specs.Prelude.{ℤ, Contains}
+use Rattle.std.specs.Prelude.{ℤ}
 use Rattle.plane.specs.Fraction.{Point}
 use Rattle.delaunay_core.specs.Place.{place_of}
 use Rattle.delaunay_legalization.specs.Known.{point_at}
 use Rattle.delaunay_legalization.specs.State.{state_of}
 use Rattle.delaunay_legalization.proofs.MeshParts.{mesh_edge}
-use Rattle.delaunay_legalization.proofs.Questions.{covered_at, covered_in}
+use Rattle.delaunay_legalization.proofs.Questions.{covered_at}
 use Rattle.delaunay_location.specs.declared.search.Search.{Search}
 use Rattle.delaunay_location.specs.declared.steps.Stop.{Stop}
 use Rattle.delaunay_location.specs.Search.{IsSearch}
@@ -22,13 +22,6 @@ module _ {V D U F P S : Type 0} (at : V → Point) (number : S → ℤ) (IsSite 
       let t = s.tests.now in
       covered_at (IsCovered t) (IsSite t) (covers t)
       (map at s.dcel.now.vertices) i q search.sites h e
-
-  -- so is a position that is listed
-  pub listed_covered : (q : Point) → Contains (map at s.dcel.now.vertices) q
-      → IsCovered s.tests.now q
-  listed_covered q c =
-      let t = s.tests.now in
-      covered_in (IsCovered t) (IsSite t) (covers t) (map at s.dcel.now.vertices) q search.sites c
 
   -- and so are the ends of the edge where a walk is
   pub ends_covered : (stop : Stop S) → IsStopOf at number s stop

@@ -5,10 +5,7 @@ use Rattle.half_edge_mesh.specs.Mesh.{Mesh, origin, next, prev, face, face_edge,
 use Rattle.plane.specs.Fraction.{Point, whole, WithinSegment, InsideTriangle}
 use Rattle.plane.specs.Side.{TurnsLeft}
 use Rattle.plane.specs.Pairs.{place}
-use Rattle.delaunay_location.specs.declared.position_in_triangulation.PositionInTriangulation.TheVariants.{
-  OnEdge,
-  OutsideOfConvexHull,
-}
+use Rattle.delaunay_location.specs.declared.position_in_triangulation.PositionInTriangulation.TheVariants.{OutsideOfConvexHull}
 use Rattle.delaunay_legalization.specs.Known.{point_at}
 use Rattle.delaunay_legalization.specs.Parts.{IsMeshEdge, IsMeshFace, IsWithinEdge, IsInsideFaceOf}
 use Rattle.delaunay_location.specs.Location.{Locates, IsClearOfEdge}
@@ -23,11 +20,6 @@ module _ (points : List Point) (m : Mesh) (p a b : Point) (e : ℕ)
   pub left_of_edge : TurnsLeft (whole a) (whole b) (whole p)
       ↔ TurnsLeft (place points (origin m e)) (place points (origin m (rev e))) (whole p)
   left_of_edge = ((λ w. rw (← from, ← to) w), (λ w. rw (from, to) w))
-
-  -- a position strictly within an edge of the mesh is located on it
-  pub located_within : IsMeshEdge points m e → WithinSegment (whole a) (whole b) (whole p)
-      → Locates points m p (OnEdge e)
-  located_within f w = record { handle = f.within; location = (f.joined, within_edge.0 w) }
 
   -- a position on the left of an outer edge is located outside the hull, by this edge
   pub located_left : IsMeshEdge points m e → face m e ≡ 0 → TurnsLeft (whole a) (whole b) (whole p)

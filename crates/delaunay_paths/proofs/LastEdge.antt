@@ -33,13 +33,13 @@ use Rattle.delaunay_legalization.specs.Known.{point_at}
 use Rattle.delaunay_legalization.specs.State.{state_of}
 use Rattle.delaunay_lines.specs.declared.intersection.Intersection.{Intersection}
 use Rattle.delaunay_lines.specs.declared.iterator.LineIntersectionIterator.{LineIntersectionIterator}
-use Rattle.delaunay_lines.specs.Items.{item_in, mesh_of}
+use Rattle.delaunay_lines.specs.Items.{item_in}
 use Rattle.delaunay_lines.specs.Walk.{GivesNext, IsReady, WalksLine}
 use Rattle.delaunay_lines.proofs.EitherWay.{crossed_either_way}
 use Rattle.delaunay_paths.specs.Crossing.{CrossesFromRight, ComesAfter, IsLastCrossing}
 use Rattle.delaunay_paths.specs.Items.{crossed_twin, IsLastWith, IsLater}
 use Rattle.delaunay_paths.proofs.InTheWay.{meets_is_cross}
-use Rattle.delaunay_paths.proofs.Passing.{HasPassed, all_passed, item_state, list_with, none_passed}
+use Rattle.delaunay_paths.proofs.Passing.{HasPassed, all_passed, list_with, none_passed}
 use Rattle.delaunay_paths.proofs.Passing.{one_more_passed}
 use Rattle.delaunay_paths.proofs.Places.{no_same_place}
 use Rattle.delaunay_paths.proofs.Towards.{crossing, local_if_crossed}
@@ -310,13 +310,6 @@ module _ {V D U F P S : Type 0} (at : V → Point) (number : S → ℤ)
         go (Some g) among = among.0
 
     module _ (after : LineIntersectionIterator V D U F P S) where
-      -- what a call gives is of the same triangulation
-      pub seeking_state : (x : Intersection V D U F) → GivesNext at number now (Some x) after
-          → state_of (mesh_of x).now ≡ state_of c
-      seeking_state x gives =
-          item_state at number IsSite IsCovered (state_of c) (point_at points_of_mesh i)
-          (point_at points_of_mesh j) seeks.passed now after seeks.so_far x gives
-
       module _ (whole_mesh : IsMeshWithData c)
           (free : IsFreeOfVertices (drawn points_of_mesh c.mesh) i j)
           (shape : IsMesh points_of_mesh (faces_of c.mesh) (outer_of c.mesh)) where

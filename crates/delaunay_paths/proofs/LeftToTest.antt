@@ -146,13 +146,6 @@ module _ (m : Mesh) (s : IsValidMesh m) (e : ℕ) (can : IsFlippable m e) (after
 -- ---- before and after all flips towards a segment
 module _ (points : List Point) (m : Mesh) (s : IsValidMesh m) (shape : IsMesh points (faces_of m)
     (outer_of m)) (i j : ℕ) (apart : ¬ (point_at points i ≡ point_at points j)) where
-  -- what passes with no exception passes with one
-  pub passing_begins : (constraints left : List (ℕ × ℕ))
-      → AllPassBut points (faces_of m) constraints left
-      → AllPassBeyond points (faces_of m) constraints left i j
-  passing_begins constraints left passing u v k l f g clear free untested =
-      passing u v k l f g free untested
-
   -- where the segment is an edge, none crosses it
   none_crosses : IsEdge (drawn points m) i j → (u v : ℕ) → IsEdge (drawn points m) u v →
       ¬ Cross (place points i) (place points j) (place points u) (place points v)

@@ -10,7 +10,7 @@ use Rattle.plane.specs.Line.{Item, IsLineList}
 use Rattle.delaunay_legalization.specs.State.{State, state_of, triangulation_of}
 use Rattle.delaunay_lines.specs.declared.intersection.Intersection.{Intersection}
 use Rattle.delaunay_lines.specs.declared.iterator.LineIntersectionIterator.{LineIntersectionIterator}
-use Rattle.delaunay_lines.specs.Items.{item_in, mesh_of}
+use Rattle.delaunay_lines.specs.Items.{item_in}
 use Rattle.delaunay_lines.specs.Walk.{AreLeft, GivesNext, IsReady, WalksLine}
 
 -- each later one of a list in an order comes after the one in the middle
@@ -48,12 +48,6 @@ module _ {V D U F P S : Type 0} (at : V → Point) (number : S → ℤ)
       (so_far : HasPassed passed now) where
     -- one more
     module _ (x : Intersection V D U F) (gives : GivesNext at number now (Some x) after) where
-      -- the item that a call gives is of the same triangulation
-      pub item_state : state_of (mesh_of x).now ≡ s
-      item_state = ap (λ (d : Bor (Contents V D U F)). state_of d.now)
-          (gives.gives so_far.others so_far.are_left).0
-          ∙ so_far.state
-
       -- after the call it has been passed, too
       pub one_more_passed : IsReady at number IsSite IsCovered after
           → HasPassed (passed ++ item_in x ∷ []) after

@@ -180,10 +180,6 @@ module _ {V D U F : Type 0} (old mid : Contents V D U F)
   stay : mid.vertices ≡ old.vertices
   stay = ap (λ (c : Contents V D U F). c.vertices) stays
 
-  -- what has room for three edges for each vertex has it afterwards
-  pub room_on : (room : ℕ) → 3 * length old.vertices ≤ room → 3 * length mid.vertices ≤ room
-  room_on room h = subst (λ (vs : List V). 3 * length vs ≤ room) (sym stay) h
-
   -- flips that fit in the count fit in it afterwards
   pub fits_on : (flips : ℕ) → FlipsFit (length old.vertices) flips
       → FlipsFit (length mid.vertices) flips

@@ -1,10 +1,9 @@
 -- Points strictly within segments, and the points of vertices.
-use Rattle.std.proofs.Common.{◌≡◌, ◌⊎◌, ℕ, ◌<◌, List, length, map, sym, ap, ◌∙◌, subst, arith}
+use Rattle.std.proofs.Common.{◌≡◌, ◌⊎◌, ℕ, ◌<◌, List, length, map, sym, subst, arith}
 use mathlib.Core.Logic.{inl, inr}
-use Rattle.std.specs.Prelude.{ℤ, pos, ◌<ℤ◌, Contains, Some, slice_get}
+use Rattle.std.specs.Prelude.{ℤ, pos, ◌<ℤ◌}
 use Rattle.std.proofs.lemmas.Int.{ints}
 use Rattle.std.proofs.lemmas.List.{length-map}
-use Rattle.std.proofs.lemmas.Option.{slice_get_within, get_or_from_slice_get}
 use Rattle.plane.specs.Fraction.{Point, whole, WithinSegment}
 use Rattle.plane.specs.Tiling.{Face}
 use Rattle.plane.proofs.Bracket.{lift}
@@ -15,7 +14,6 @@ use Rattle.plane_tiling.specs.Local.{IsMesh}
 use Rattle.plane_tiling.proofs.Edges.{within_on}
 use Rattle.plane_segments.proofs.Constraints.Pieces.{on_of_mean}
 use Rattle.plane_segments.specs.Constraints.{ArePlacedApart}
-use Rattle.mesh_embedding.proofs.EdgePairs.{Contains-map}
 use Rattle.plane.proofs.Signs.{less_through}
 
 -- ---- points strictly within a segment
@@ -77,12 +75,6 @@ module _ {V : Type 0} (at : V → Point) (vs : List V) where
   -- and an index of a point is one of its vertex
   pub of_map : (k : ℕ) → k < length (map at vs) → k < length vs
   of_map k h = subst (λ (n : ℕ). k < n) (length-map vs at) h
-
-  -- the point of a vertex that is read by its index is among the points
-  pub listed_data : (k : ℕ) (v : V) (q : Point) → slice_get vs k ≡ Some v → q ≡ at v
-      → Contains (map at vs) q
-  listed_data k v q e is = Contains-map at vs k v q (slice_get_within vs k v e)
-      (ap at (get_or_from_slice_get vs k v v e) ∙ sym is)
 
 -- no two points of a mesh are the same
 pub placed_apart : (points : List Point) (faces : List Face) (outer : List (ℕ × ℕ))

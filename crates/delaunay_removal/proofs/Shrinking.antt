@@ -1,7 +1,6 @@
 -- The loop that turns edges of an inner vertex away.
 use Rattle.std.proofs.Common.{◌≡◌, ◌+◌, ◌-◌, ◌*◌, ◌/◌, ◌<◌, ◌≤◌, [], ◌∷◌, ◌++◌, ◌∙◌}
 use Rattle.std.proofs.Common.{ℕ, List, length, map, sym, ap, subst, arith, inl}
-use Rattle.std.specs.Prelude.{All}
 use Rattle.half_edge_mesh.specs.Mesh.{origin}
 use Rattle.half_edge_mesh.specs.Flip.{flipped}
 use Rattle.half_edge_mesh.specs.Outline.{KeepsOuter}
@@ -29,17 +28,6 @@ module _ {V D U F : Type 0} {turned : List (ℕ × ℕ)} {listed capacity : ℕ}
   -- the vertices stay
   pub vertices_stay : now.vertices ≡ old.vertices
   vertices_stay = ap (λ (c : Contents V D U F). c.vertices) shrinking.contents
-
-  -- they are sites as they were
-  pub sites_stay : (IsSite : Point → Type 0) → All IsSite (map place old.vertices)
-      → All IsSite (map place now.vertices)
-  sites_stay IsSite sites =
-      subst (λ (vs : List V). All IsSite (map place vs)) (sym vertices_stay) sites
-
-  -- the star that is left is one over the points of before
-  pub star_stays : IsInnerStar (map place old.vertices) now.mesh v first count
-  star_stays = subst (λ (vs : List V). IsInnerStar (map place vs) now.mesh v first count)
-      vertices_stay shrinking.star
 
   module _ (whole : IsMeshWithData now) where
     -- the star from an edge that was found

@@ -93,15 +93,6 @@ none_asked Inside count n asked found a e f =
 
 -- ---- a question of a flood
 module _ (Inside : ℕ → Type 0) (count : ℕ) where
-  goes_nowhere : (asked : List Bool) (found : List ℕ) → GoesOn asked asked found found
-  goes_nowhere asked found = record { kept = λ k h. h; more = []; grown = sym (append-nil found) }
-
-  -- asked of before, the edge changes nothing
-  pub asked_before : (asked : List Bool) (found : List ℕ) (k : ℕ)
-      → IsFlooding Inside count asked found → IsAsked asked k
-      → Asks Inside count asked asked found found k
-  asked_before asked found k f h = record { flooding = f; on = goes_nowhere asked found; there = h }
-
   marks_more : (asked : List Bool) (k j : ℕ) → k < length asked → IsAsked asked j
       → IsAsked (set asked k true) j
   marks_more asked k j w h = elim (cases_eq j k) as (λ _. IsAsked (set asked k true) j) [

@@ -77,11 +77,6 @@ module _ {V D U F : Type 0} (place : V → Point) (d : Bor (Contents V D U F)) w
   before_is e n u h i j k r same index to half is =
       is ∙ half ∙ ap (λ (x : ℕ). x / 2) (to ∙ (λ t. prev (same t).now.mesh (index t)))
 
-  -- an edge of the mesh of a handle is one of the same mesh
-  pub within_same : (e : Bor (Contents V D U F)) (h : ℕ) → e ≡ d → h < length e.now.directed
-      → h < length d.now.directed
-  within_same e h same w = subst (λ (x : Bor (Contents V D U F)). h < length x.now.directed) same w
-
 -- an edge by its ends
 pub ends_told :
     (b : Bool) (Shape : Fraction → Type 0) (points : List Point) (m : Mesh) (k : ℕ) (p q : Point)

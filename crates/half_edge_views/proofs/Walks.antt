@@ -32,10 +32,6 @@ module _ {X : Type 0} (g : ℕ → X) (f : ℕ → ℕ) (stop k h k' h' : ℕ) (
       rw (left, after) refl in
       ap (map g) (walk_step f stop k h some ∙ rest)
 
-  -- the rest of a walk is shorter
-  pub length_walk_step : length (map g (walk f stop k' h')) < length (map g (walk f stop k h))
-  length_walk_step = rw map_walk_step (omega arith)
-
 module _ {V D U F : Type 0} (f : Mesh → ℕ → ℕ) (w : EdgeWalk V D U F) where
   -- what is left of a walk, by the mesh, the first edge, the number and the edge that it has
   pub walk_left_is : (d : Bor (Contents V D U F)) (first n h : ℕ) → w.dcel ≡ d → w.first ≡ first

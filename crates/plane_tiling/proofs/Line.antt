@@ -433,9 +433,6 @@ module _ (n : ℕ) (p : ℕ → Point) (outer new : List (ℕ × ℕ)) (m : Sign
         jb = elim (outside b s.second)
             [ inl k ↦ absurd (let q = middle.0 in omega (arith, ints)) | inr k ↦ k ]
 
-        across : mark i <ℤ mark j
-        across = let q = middle.0 in let r = middle.1 in omega (arith, ints)
-
         first : (mark a <ℤ mark i) ⊎ (mark i ≤ℤ mark a) → a ≡ i
         first (inl l) =
             absurd (s.none_between i own_next.first (marked a b i (wider s.first) (wider s.second)

@@ -442,12 +442,6 @@ module _ (n : ℕ) (p : ℕ → Point) (faces : List Face) (outer : List (ℕ ×
   pub vertex_unique : (a b : IsAtVertex n p faces outer m y) → a.v ≡ b.v
   vertex_unique a b = one_vertex_at n p m.distinct y a.v b.v a.index b.index a.same b.same
 
-  -- y is within one side at most, in either direction
-  pub side_unique : (a b : IsOnSide n p faces outer m y)
-      → ((b.u ≡ a.u) × (b.v ≡ a.v)) ⊎ ((b.u ≡ a.v) × (b.v ≡ a.u))
-  side_unique a b =
-      E.sides_meet n p faces outer m y a.u a.v b.u b.v (inl a.side) (inl b.side) a.within b.within
-
   -- the entry of which i j k is a turn
   record Turn (i j k : ℕ) : Type 0 where
     f : Face

@@ -156,9 +156,6 @@ module _ (T : Tiling) where
             left_not_zero (T.turns a b c f) (sym (bracket-turned (at a) (at b) (at c))
             ∙ ap (λ i. bracket (at b) (at c) (at i)) (sym e) ∙ bracket-first (at b) (at c))
 
-        Goes : ℕ → Type 0
-        Goes m = (y : Fraction) → Here y → separation T y z < m → S v d
-
         -- at a face v a b whose two sides at v are found
         onwards : (m : ℕ) → ((y : Fraction) → Here y → separation T y z < m → S v d)
             → (a b : ℕ) (y : Fraction) → IsFace v a b → Germ T y z v a b → Here y

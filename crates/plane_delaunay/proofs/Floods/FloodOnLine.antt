@@ -374,14 +374,6 @@ module _ (t : Triangulation) (h : JoinsLine t) where
               none m hm a b =
                   ((h.neighbours k n).0 d.0).none_between m hm (inner_within k n m hk hn hm a b)
 
-              low : (a b c z : ℤ) → a ≤ℤ b → b <ℤ c → c ≤ℤ z → (a <ℤ b → b <ℤ z → ⊥) → a ≡ b
-              low a b c z h l m out = by (compare a b)
-                where
-                  by : Compared a b → a ≡ b
-                  by (less o) = absurd (out o (omega (arith, ints)))
-                  by (equal o) = o
-                  by (more o) = absurd (omega (arith, ints))
-
               high : (a b c z : ℤ) → a ≤ℤ b → b <ℤ c → c ≤ℤ z → (a <ℤ c → c <ℤ z → ⊥) → z ≡ c
               high a b c z h l m out = by (compare c z)
                 where

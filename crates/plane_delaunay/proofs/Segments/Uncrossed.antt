@@ -2,11 +2,11 @@
 use Prim.Native.Nat.{ℕ}
 use lib.IntN.{ℤ, pos, ◌+ℤ◌, ◌*ℤ◌, neg_ℤ}
 use lib.Signed.{◌<ℤ◌, ◌≤ℤ◌}
-use mathlib.Core.Path.{◌≡◌, sym, ◌∙◌, ap, subst}
+use mathlib.Core.Path.{◌≡◌, sym, subst}
 use mathlib.Core.Logic.{◌⊎◌, inl, inr}
 use native.Mathlib.Omega.{arith}
 use borrow.Author.Differences.{ints}
-use Rattle.plane.proofs.Steps.{weak, zero_weak_left, left_not_zero, right_not_above}
+use Rattle.plane.proofs.Steps.{weak, zero_weak_left, right_not_above}
 use Rattle.plane.proofs.Steps.{product_zero_left}
 use Rattle.plane.proofs.IntegerLaws.{neg-mul_ℤ}
 use Rattle.plane.proofs.IntegerOrder.{mul-pos_ℤ, Sign, sign, below, none, above, neg-pos_ℤ}
@@ -61,13 +61,6 @@ module _ (T : Tiling) (s t : ℕ) (hs : T.IsVertex s) (ht : T.IsVertex t) (two :
 
       hc : IsVertex c
       hc = T.corner c s b f₃
-
-      not_b : bracket (at s) (at b) (at t) ≡ pos 0 → t ≡ c → ⊥
-      not_b z e = left_not_zero sbc (ap (λ i. bracket (at s) (at b) (at i)) (sym e) ∙ z)
-
-      not_c : bracket (at c) (at s) (at t) ≡ pos 0 → t ≡ b → ⊥
-      not_c z e = left_not_zero (turned-above _ _ _ (turned-above _ _ _ sbc))
-          (ap (λ i. bracket (at c) (at s) (at i)) (sym e) ∙ z)
 
       corner : pos 0 ≤ℤ bracket (at b) (at c) (at t) → (t ≡ s) ⊎ ((t ≡ b) ⊎ (t ≡ c))
       corner h = T.empty s b c t f ht (record { first = h₁; second = h; third = h₂ })

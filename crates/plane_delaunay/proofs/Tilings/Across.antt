@@ -238,9 +238,6 @@ module _ (T : Tiling) where
   sides_same a b c u v w x f g m z h k =
       go (opposite_signs m.n m.k m.l _ _ _ m.n_above m.k_above m.l_above (m.along (at u) (at v)) z)
     where
-      t : pos 0 <ℤ bracket (at a) (at b) (at c)
-      t = T.turns a b c f
-
       va : IsVertex a
       va = T.corner a b c f
 

@@ -4,20 +4,18 @@ use Rattle.std.proofs.Common.{◌≡◌, ℕ, suc, ◌+◌, arith, ap, sym, ◌�
 use mathlib.Core.Logic.{◌⊎◌, inl, inr}
 use Rattle.std.specs.Prelude.{◌≢◌, pos, ◌<ℤ◌, ◌≤ℤ◌, map}
 use Rattle.plane.proofs.Steps.{weak, left_not_zero}
-use Rattle.plane.proofs.Sides.{if_right, not_right_if}
+use Rattle.plane.proofs.Sides.{not_right_if}
 use Rattle.plane_delaunay.proofs.Points.Bracket.{bracket, bracket-first, bracket-second}
 use Rattle.plane_delaunay.proofs.Points.Nudges.{Inside, size, nudge, nudge-above, nudge-least}
 use Rattle.plane_delaunay.proofs.Points.Nudges.{nudge-on}
 use Rattle.plane_delaunay.proofs.Tilings.Faces.{Tiling, Between, between-on, between-second}
 use Rattle.plane_delaunay.proofs.Tilings.Faces.{between-third, middle, middle-inside, Germ}
 use Rattle.plane_delaunay.proofs.Tilings.Faces.{StartsFrom, germ, germ-turned, germ-closed}
-use Rattle.plane_delaunay.proofs.Tilings.Faces.{turned-above}
-use Rattle.plane_delaunay.proofs.Tilings.Beyond.{halfway, between-halfway, face_across}
+use Rattle.plane_delaunay.proofs.Tilings.Beyond.{halfway, between-halfway}
 use Rattle.plane_delaunay.proofs.Tilings.Ground.{tiling}
-use Rattle.plane.proofs.Indexes.{IsTurned}
 use Rattle.plane.specs.Fraction.{Fraction, whole, InHull}
 use Rattle.plane.specs.Side.{side, right}
-use Rattle.plane.specs.Tiling.{Triangulation, IsVertex, vertex, IsFace, HasFace, TilesHull}
+use Rattle.plane.specs.Tiling.{Triangulation, IsVertex, vertex, IsFace, TilesHull}
 
 module _ (T : Tiling) where
   open T use {at, IsVertex, IsFace, InHull}
@@ -114,19 +112,6 @@ module _ (T : Tiling) where
             (between-third (at a) (at b) (at d) h between (T.turns a b d g)) (omega arith);
       }
 
-  -- a directed side has one face
-  pub one_at_side : (a b c d : ℕ) → IsFace a b c → IsFace a b d → c ≡ d
-  one_at_side a b c d f g = let x = beside a b c d f g in go (T.apart a b c a b d f g x.0 x.1 x.2)
-    where
-      flat : a ≡ b → ⊥
-      flat e = left_not_zero (turned-above (at a) (at b) (at c) (T.turns a b c f))
-          (ap (λ i. bracket (at b) (at c) (at i)) e ∙ bracket-first (at b) (at c))
-
-      go : IsTurned a b c a b d → c ≡ d
-      go (inl e) = sym e.2
-      go (inr (inl e)) = absurd (flat e.0)
-      go (inr (inr e)) = absurd (flat (sym e.1))
-
 -- ---- in the definitions' words
 module _ (t : Triangulation) (h : TilesHull t) where
   -- a face at a vertex whose closed cone holds a point of the hull
@@ -141,15 +126,3 @@ module _ (t : Triangulation) (h : TilesHull t) where
     not_right_if (vertex t i) (vertex t c.b) p c.first,
     not_right_if (vertex t c.c) (vertex t i) p c.second,
   )
-
-  -- a side has one face on its left
-  pub one_face_at_side : (i j k n : ℕ) → IsFace t i j k → IsFace t i j n → k ≡ n
-  unfolding tiling
-  one_face_at_side i j k n f g = one_at_side (tiling t h) i j k n f g
-
-  -- a side with a vertex on its right has a face there
-  pub face_on_right : (i j k n : ℕ) → IsFace t i j k → IsVertex t n
-      → side (vertex t i) (vertex t j) (vertex t n) ≡ right → HasFace t j i
-  unfolding tiling bracket
-  face_on_right i j k n f hn r =
-      face_across (tiling t h) i j k n f hn (if_right (vertex t i) (vertex t j) (vertex t n) r)

@@ -101,9 +101,6 @@ generic_point [] ls a b c q t inside left = (q, inside, left, tt)
 generic_point (m ∷ ms) ls a b c q t inside left =
     go (λ ls q i l. generic_point ms ls a b c q t i l) (find ls a b c m.0 m.1 q t inside left)
   where
-    Result : List (Fraction × Fraction) → List (Fraction × Fraction) → Type 0
-    Result ls ms = (q' : Fraction) × Inside a b c q' × AllLeft ls q' × AllOff ms q'
-
     go : ((ls : List (Fraction × Fraction)) (q : Fraction) → Inside a b c q → AllLeft ls q
         → (q' : Fraction) × Inside a b c q' × AllLeft ls q' × AllOff ms q') → Found ls a b c m.0 m.1
         → (q' : Fraction) × Inside a b c q' × AllLeft ls q' × AllOff (m ∷ ms) q'

@@ -183,17 +183,6 @@ module _ (T : Tiling) where
       go (inr (inr p)) =
           absurd (left_not_zero t (ap (λ i. bracket (at u) (at v) (at i)) (sym p) ∙ zero))
 
-  -- a vertex on an edge is one of its ends
-  pub end_of_edge : (e u v : ℕ) (x : Fraction) → IsVertex e → IsEdge u v → IsAt (at e) x
-      → OnSide (at u) (at v) x → (e ≡ u) ⊎ (e ≡ v)
-  end_of_edge e u v x he (inl f) i o = end_of_face e u v f.0 x he f.1 i o
-  end_of_edge e u v x he (inr f) i o =
-      turned (end_of_face e v u f.0 x he f.1 i (on_side-swapped (at u) (at v) x o))
-    where
-      turned : (e ≡ v) ⊎ (e ≡ u) → (e ≡ u) ⊎ (e ≡ v)
-      turned (inl p) = inr p
-      turned (inr p) = inl p
-
   -- how two edges that share x are: one edge, or two at a vertex where x is
   pub data Shared (a b u v : ℕ) (x : Fraction) : Type 0 where
     same : (u ≡ a) → (v ≡ b) → Shared a b u v x

@@ -351,9 +351,6 @@ module _ (n : ℕ) (p : ℕ → Point) (faces : List Face) (outer : List (ℕ ×
               (mul-nonpos_of_nonneg_nonpos_ℤ (weak to_v) (m.supporting (s, r) other u index.0))
               (mul-nonpos_of_nonneg_nonpos_ℤ from_u (m.supporting (s, r) other v index.1)))
 
-          D : ℤ
-          D = bracket (lift q) (at p u) (at p v)
-
           coordinate : (a b c e : ℤ) → bracket (lift q) (at p u) (at p v) *ℤ a
               ≡ bracket (at p u) (at p v) (at p s) *ℤ b +ℤ bracket (at p v) (lift q) (at p s) *ℤ c
               +ℤ bracket (lift q) (at p u) (at p s) *ℤ e → bracket (lift q) (at p u) (at p v) *ℤ a

@@ -81,9 +81,6 @@ pub past_end : InsertionPastEndKeeps
 past_end points outer now q i m h fresh past c = line_extended points q outer now m i h fresh past
     (λ a b. ((λ x. there a b x), (λ x. back a b x))) c.once
   where
-    n : ℕ
-    n = length points
-
     there : (a b : ℕ) → Contains now (a, b)
         → Contains outer (a, b) ⊎ IsSamePair a b i (length points)
     there a b x =

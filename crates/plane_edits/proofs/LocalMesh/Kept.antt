@@ -130,9 +130,6 @@ flip_kept points faces new outer outer' a b c d m f g left right change edges =
 pub flip_covers : FlipCovers
 flip_covers a b c d p abc acd abd bcd = ((λ h. forth h), (λ h. back h))
   where
-    Closed : Fraction → Fraction → Fraction → Type 0
-    Closed a b c = InClosed (vec a) (vec b) (vec c) (vec p)
-
     turned : (a b c : Fraction) → pos 0 <ℤ bracket (vec a) (vec b) (vec c)
         → pos 0 <ℤ bracket (vec b) (vec c) (vec a)
     turned a b c h = subst (λ z. pos 0 <ℤ z) (bracket-turn (vec a) (vec b) (vec c)) h

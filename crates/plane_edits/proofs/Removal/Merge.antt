@@ -152,9 +152,6 @@ module _ (n : ℕ) (p : ℕ → Point) (old new : List Face) (outer outer' : Lis
     abbrev one_made : List Face
     one_made = face (nb 0) (nb 1) (nb 2) ∷ []
 
-    three_at : (i : ℕ) → IsTurnOf old v (nb i) (nb (suc i))
-    three_at = star.around
-
     third : IsTurnOf old v (nb 2) (nb 0)
     third = subst (λ o. IsTurnOf old v (nb 2) o) (star.again 0) (star.around 2)
 

@@ -347,9 +347,6 @@ pub left_place : (points : List Point) (v : ℕ) (d : Point) → v < length poin
     → place (swap_remove points v d) j ≡ place points (old_index v (length points - 1) j)
 left_place points v d h j l = ap whole (go (cases_eq j v))
   where
-    z : Point
-    z = record { x = pos 0; y = pos 0 }
-
     last_index : length points - 1 < length points
     last_index = omega arith
 

@@ -196,9 +196,6 @@ hull_star_shrinks points faces new outer outer' v k nb i m star inside s =
     after : LocalMesh points new outer'
     after = mesh_after points faces new outer outer' v i nb m f g s
 
-    w : ℕ → ℕ
-    w = without (suc i) nb
-
     early : (j : ℕ) → j ≤ i → without (suc i) nb j ≡ nb j
     early j h = without_before (suc i) nb j (omega arith)
 

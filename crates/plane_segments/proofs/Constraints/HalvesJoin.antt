@@ -139,9 +139,6 @@ module _ {V : Type 0} where
       → ArePlacedApart (points_of position s)
   placed_apart position s plain i j hi hj n e = go (less_or_more i j n)
     where
-      vs : List V
-      vs = s.vertices
-
       count : length (map position s.vertices) ≡ length s.vertices
       count = length-map s.vertices position
 

@@ -79,9 +79,6 @@ within_parts a b v x hv hx = split (decide_point a b)
         on_x : bracket (lift a) (lift b) (vec x) ≡ pos 0
         on_x = within_on a b x hx
 
-        of_v : (pos 0 <ℤ ahead a b (whole a) (whole v)) × (pos 0 <ℤ ahead a b (whole v) (whole b))
-        of_v = between_ahead a b n (whole v) hv
-
         of_x : (pos 0 <ℤ ahead a b (whole a) x) × (pos 0 <ℤ ahead a b x (whole b))
         of_x = between_ahead a b n x hx
 

@@ -213,9 +213,6 @@ module _ (t : Triangulation) (c₀ : Meeting t) (p q : Fraction) (apart : ¬ IsS
     not_at_last : ¬ IsSame p B
     not_at_last s = c₀.none_within a b b e (c₀.ends a b e).1 (within_segment-same A B p B s here)
 
-    not_at_first : ¬ IsSame p A
-    not_at_first s = c₀.none_within a b a e (c₀.ends a b e).0 (within_segment-same A B p A s here)
-
     w : TwoWeights IsPositive A B p
     w = two_weights IsPositive A B p here
 

@@ -12,7 +12,7 @@ use Rattle.plane.specs.Fraction.{IsPositive}
 use Rattle.plane.specs.Pairs.{IsSamePair}
 use Rattle.plane_tiling.specs.Laws.{EdgesMeetAtVertices}
 use Rattle.plane.specs.Tiling.{Triangulation, IsVertex, IsEdge, vertex, JoinsLine}
-use Rattle.plane.specs.Line.{Item, IsPointOf, Meets, IsBefore}
+use Rattle.plane.specs.Line.{Item, IsPointOf, Meets}
 use Rattle.plane.specs.Line as L
 use Rattle.plane_delaunay.proofs.Points.Bracket.{bracket}
 use Rattle.plane_delaunay.proofs.Points.Numbers.{sum_none}
