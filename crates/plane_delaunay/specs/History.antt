@@ -5,8 +5,8 @@ use Rattle.plane.specs.Fraction.{Fraction, InsideTriangle, OnSegment}
 use Rattle.plane.specs.Side.{TurnsLeft}
 use Rattle.plane.specs.Circle.{AreEquallyFar, IsCentre, InsideCircle, OnCircle}
 use Rattle.plane.specs.Pairs.{Joins}
-use Rattle.plane.specs.Tiling.{Triangulation, IsVertex, IsFace, vertex}
-use Rattle.plane.specs.Delaunay.{IsSeen}
+use Rattle.plane.specs.Tiling.{Triangulation, IsVertex, IsFace, vertex, InsideCorners}
+use Rattle.plane.specs.Delaunay.{IsSeen, IsConstrainedDelaunay}
 
 -- a left-turning triple that no constraint enters, and whose circle neither contains nor carries a
 -- further vertex that is seen from inside the triple
@@ -50,3 +50,15 @@ pub record HaveOneCircle (a b c d e f : Fraction) : Type 0 where
   pub of_first : IsCentre a b c centre
   pub of_second : IsCentre d e f centre
   pub far : AreEquallyFar centre a d
+
+-- the faces of t depend on its vertices and constraints alone: each visibly empty triple is one;
+-- each other constrained Delaunay triangulation of the same state has the same, by position, where
+-- no four vertices are on one circle; and a face of each that overlap have one circle
+pub record IsHistoryFree (t : Triangulation) (constraints : List (ℕ × ℕ)) : Type 0 where
+  pub visible : (i j k : ℕ) → IsVisiblyEmpty t constraints i j k → IsFace t i j k
+  pub unique : (s : Triangulation) (others : List (ℕ × ℕ)) → AreOneState t constraints s others
+      → IsConstrainedDelaunay s others → NoFourOnCircle t → HasFacesOf s t × HasFacesOf t s
+  pub tied : (s : Triangulation) (others : List (ℕ × ℕ)) → AreOneState t constraints s others
+      → IsConstrainedDelaunay s others → (i j k l m n : ℕ) (q : Fraction) → IsFace t i j k
+      → IsFace s l m n → InsideCorners t i j k q → InsideCorners s l m n q
+      → HaveOneCircle (vertex t i) (vertex t j) (vertex t k) (vertex s l) (vertex s m) (vertex s n)

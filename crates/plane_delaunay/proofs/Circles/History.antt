@@ -22,7 +22,7 @@ use Rattle.plane.specs.Tiling.{Triangulation, IsVertex, vertex, IsFace, InsideCo
 use Rattle.plane.specs.Tiling.{IsTiling}
 use Rattle.plane.specs.Delaunay.{IsSeen, IsConstrainedDelaunay}
 use Rattle.plane_delaunay.specs.History.{IsVisiblyEmpty, IsPartOf, AreOneState, HasFacesOf}
-use Rattle.plane_delaunay.specs.History.{NoFourOnCircle, HaveOneCircle}
+use Rattle.plane_delaunay.specs.History.{NoFourOnCircle, HaveOneCircle, IsHistoryFree}
 
 -- no constraint enters the triple u v w of points, and no vertex that is seen from inside it is
 -- inside its circle
@@ -215,3 +215,12 @@ pub overlapping_faces_tie : (s t : Triangulation) (d c : List (ℕ × ℕ)) → 
     → IsFace s i j k → IsFace t l m n → InsideCorners s i j k q → InsideCorners t l m n q
     → HaveOneCircle (vertex s i) (vertex s j) (vertex s k) (vertex t l) (vertex t m) (vertex t n)
 overlapping_faces_tie s t d c same D E = faces_tie s t d c same.0 same.1 D E
+
+-- a constrained Delaunay triangulation is history-free
+pub history_free : (t : Triangulation) (c : List (ℕ × ℕ)) → IsConstrainedDelaunay t c
+    → IsHistoryFree t c
+history_free t c D = record {
+  visible = λ i j k s. visibly_empty_is_face t c i j k s D;
+  unique = λ s d same E general. faces_are_unique t s c d same D E general;
+  tied = λ s d same E. overlapping_faces_tie t s c d same D E;
+}
