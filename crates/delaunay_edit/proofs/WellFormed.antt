@@ -5,6 +5,7 @@ use Rattle.half_edge_links.specs.declared.room.TheConstants.{MAX_ELEMENTS}
 use Rattle.plane.specs.Fraction.{Point}
 use Rattle.plane.specs.Tests.{InRange}
 use Rattle.plane.specs.Delaunay.{IsConstrainedDelaunay}
+use Rattle.plane_delaunay.proofs.Circles.History.{history_free}
 use Rattle.delaunay_legalization.specs.Constraints.{marked_edges, constraints_by}
 use Rattle.delaunay_legalization.specs.Shape.{IsDelaunayTriangulation}
 use Rattle.delaunay_legalization.specs.State.{State, triangulation_of}
@@ -25,6 +26,7 @@ module _ {V D U F : Type 0} (place : V → Point) (marks : U → Bool) (constrai
         tiling = laid_out_tiles (map place s.vertices) s.mesh legal.kept.valid legal.kept.shape;
         delaunay = all;
         empty_triples = λ none. empty_triple_is_face place constraints s all none;
+        history_free = history_free (triangulation_of place s) (constraints_by constraints s) all;
       }
 
   -- with no more vertices than there are indexes, it is well-formed, too

@@ -6,6 +6,7 @@ use Rattle.plane.specs.Plain.{IsPlain}
 use Rattle.plane.specs.Tests.{InRange}
 use Rattle.plane.specs.Tiling.{IsTiling, IsFace}
 use Rattle.plane.specs.Delaunay.{IsConstrainedDelaunay, IsStrictlyEmpty}
+use Rattle.plane_delaunay.specs.History.{IsHistoryFree}
 use Rattle.delaunay_legalization.specs.Constraints.{constraints_by, points_and_constraints_by}
 use Rattle.delaunay_legalization.specs.Shape.{IsTriangulated}
 use Rattle.delaunay_legalization.specs.State.{State, triangulation_of}
@@ -13,13 +14,14 @@ use Rattle.delaunay_legalization.specs.State.{State, triangulation_of}
 -- this is the constrained Delaunay triangulation of its points with its constraints: the faces tile
 -- the hull; the constraints are edges, and no face has a vertex strictly inside its circle that is
 -- seen past them; without constraints, three points whose circle is strictly empty are the corners
--- of a face
+-- of a face; and the faces depend on points and constraints alone, not on the edits that led here
 pub record IsDelaunay {V D U F : Type 0} (place : V → Point) (constraints : List U → List ℕ)
     (s : State V D U F) : Type 0 where
   pub tiling : IsTiling (triangulation_of place s)
   pub delaunay : IsConstrainedDelaunay (triangulation_of place s) (constraints_by constraints s)
   pub empty_triples : constraints_by constraints s ≡ [] → (i j k : ℕ) →
       IsStrictlyEmpty (triangulation_of place s) i j k → IsFace (triangulation_of place s) i j k
+  pub history_free : IsHistoryFree (triangulation_of place s) (constraints_by constraints s)
 
 -- and what else callers may rely on: every vertex has an index and is in range, the positions
 -- differ, and the mesh is sound

@@ -6,6 +6,7 @@ mod dialogue;
 mod failures;
 mod faults;
 mod grammar;
+mod histories;
 mod orders;
 mod sheets;
 
@@ -42,5 +43,6 @@ fn main(rt: HostRuntime) -> io::Result<()> {
     print_checks(&rt, &faults::checks(rt.alloc()))?;
     print_checks(&rt, &grammar::checks())?;
     print_checks(&rt, &orders::checks(rt.alloc()))?;
+    print_checks(&rt, &histories::checks(rt.alloc()))?;
     print_checks(&rt, &sheets::checks(rt.alloc()))
 }

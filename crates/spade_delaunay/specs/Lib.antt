@@ -10,6 +10,7 @@ pub use Rattle.plane.specs.Shape
 pub use Rattle.plane.specs.Side
 pub use Rattle.plane.specs.Tests
 pub use Rattle.plane.specs.Tiling
+pub use Rattle.plane_delaunay.specs.History
 pub use Rattle.half_edge_mesh.specs.Contents
 pub use Rattle.half_edge_mesh.specs.Left
 pub use Rattle.half_edge_mesh.specs.Mesh

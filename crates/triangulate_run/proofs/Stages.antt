@@ -39,6 +39,7 @@ fits constraints s formed = record {
   points = refl;
   delaunay = formed.headline.delaunay;
   empty_triples = formed.headline.empty_triples;
+  history_free = formed.headline.history_free;
 }
 
 -- the path is the same where the stage and the ends are

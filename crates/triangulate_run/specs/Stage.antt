@@ -4,6 +4,7 @@ use Rattle.plane.specs.Fraction.{Point}
 use Rattle.plane.specs.Plain.{Plain, IsPlain}
 use Rattle.plane.specs.Tiling.{Triangulation, IsFace}
 use Rattle.plane.specs.Delaunay.{IsConstrainedDelaunay, IsStrictlyEmpty}
+use Rattle.plane_delaunay.specs.History.{IsHistoryFree}
 use Rattle.delaunay_core.specs.declared.point.Point2.{Point2}
 use Rattle.delaunay_core.specs.Place.{place_of}
 
@@ -23,11 +24,13 @@ first_stage = record {
   triangulation = record { points = []; faces = []; edges = [] };
 }
 
--- the triangulation is a constrained Delaunay one of these vertices and constraints, and without
--- constraints each strictly empty triple is a face of it
+-- the triangulation is a constrained Delaunay one of these vertices and constraints, without
+-- constraints each strictly empty triple is a face of it, and its faces depend on them alone, not on
+-- the lines that led here
 pub record Fits (s : Stage) : Type 0 where
   pub is_plain : IsPlain position s.plain
   pub points : s.triangulation.points ≡ map position s.plain.vertices
   pub delaunay : IsConstrainedDelaunay s.triangulation s.plain.constraints
   pub empty_triples : s.plain.constraints ≡ [] → (i j k : ℕ) → IsStrictlyEmpty s.triangulation i j k
       → IsFace s.triangulation i j k
+  pub history_free : IsHistoryFree s.triangulation s.plain.constraints
