@@ -1,2 +1,3 @@
 pub mod Journal
 pub mod Marking
+pub mod Laws

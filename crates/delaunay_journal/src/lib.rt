@@ -2,6 +2,7 @@
 #![tactic(auto)]
 
 mod edit;
+pub mod law;
 mod replayable;
 mod replaying;
 mod steps;
