@@ -16,8 +16,7 @@ use Rattle.delaunay_paths.specs.PathEdges.{AreJoinedAlong, HasPath}
 use Rattle.delaunay_paths.specs.Releasing.{AddsConstraints, ReleasesEdge}
 use Rattle.delaunay_edit.specs.Constrained.{constrained, constraint_edges, constraints_of}
 use Rattle.delaunay_edit.specs.ConstraintEdits.{AddsConstraint, AddsPathIfFree, FreesEdge}
-use Rattle.delaunay_edit.specs.ConstraintEdits.{MarksEdges}
-use Rattle.delaunay_edit.specs.ConstraintEdits.{ReleasesConstraint}
+use Rattle.delaunay_edit.specs.ConstraintEdits.{MarksEdges, ReleasesConstraint}
 use Rattle.delaunay_edit.specs.Headline.{IsDelaunay}
 
 -- ---- pieces of a path are neighbours on its segment

@@ -1,8 +1,7 @@
 -- What each edit makes of a triangulation.
 use Rattle.std.specs.Prelude.{◌≡◌, ◌↔◌, ◌+◌, ◌*◌, ◌<◌, ◌++◌, ◌∷◌, []}
-use Rattle.std.specs.Prelude.{ℕ, List, length, map, Option, None, Some, Result}
-use Rattle.std.specs.Prelude.{Ok, IsOk, IsErrOf, IfOk, OnOk, OnErr, MatchOption, slice_get}
-use Rattle.std.specs.Prelude.{slice_set}
+use Rattle.std.specs.Prelude.{ℕ, List, length, map, Option, None, Some, Result, Ok, IsOk, IsErrOf}
+use Rattle.std.specs.Prelude.{IfOk, OnOk, OnErr, MatchOption, slice_get, slice_set}
 use Rattle.half_edge_links.specs.declared.room.TheConstants.{MAX_ELEMENTS}
 use Rattle.plane.specs.Fraction.{Point}
 use Rattle.plane.specs.Plain.{Inserts, Removes}

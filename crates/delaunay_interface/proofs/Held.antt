@@ -1,7 +1,6 @@
 -- The positions that a hint generator holds stay positions of vertices.
 use Rattle.std.proofs.Common.{◌≡◌, ◌∙◌, ◌⊎◌, ◌+◌, ◌-◌, ◌<◌, [], ◌∷◌}
-use Rattle.std.proofs.Common.{ℕ, List, length, map, get_or, Some, sym, ap, subst}
-use Rattle.std.proofs.Common.{inl, inr, arith}
+use Rattle.std.proofs.Common.{ℕ, List, length, map, get_or, Some, sym, ap, subst, inl, inr, arith}
 use mathlib.Core.Logic.{⊎_elim}
 use Rattle.std.proofs.lemmas.Bool.{cases_eq}
 use Rattle.std.specs.Prelude.{◌≢◌}

@@ -1,8 +1,7 @@
 -- Steps of edits that insert vertices and join them.
 use Rattle.std.proofs.Common.{◌≡◌, ◌≢◌, ◌∙◌, ◌<◌, ◌≤◌, [], ◌∷◌, ◌++◌}
-use Rattle.std.proofs.Common.{ℕ, Bool, List, length, map, Result, Ok, Err}
-use Rattle.std.proofs.Common.{Option, None, Some, refl, sym, ap, subst, inl, inr, append_assoc}
-use Rattle.std.proofs.Common.{append-nil, arith}
+use Rattle.std.proofs.Common.{ℕ, Bool, List, length, map, Result, Ok, Err, Option, None, Some, refl}
+use Rattle.std.proofs.Common.{sym, ap, subst, inl, inr, append_assoc, append-nil, arith}
 use Rattle.std.specs.Prelude.{All, IsTrue}
 use Rattle.std.specs.Iterator.{Drains, Yields}
 use Rattle.std.proofs.lemmas.List.{length-set, length_push, map-append}

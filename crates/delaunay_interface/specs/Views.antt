@@ -1,7 +1,6 @@
 -- What reads of a triangulation give.
 use Rattle.std.specs.Prelude.{◌≡◌, ◌≢◌, ◌↔◌, ◌+◌, ◌%◌, ◌<◌, ◌∷◌, []}
-use Rattle.std.specs.Prelude.{ℕ, List, length, map, Contains, AllPairs}
-use Rattle.std.specs.Prelude.{slice_index_or}
+use Rattle.std.specs.Prelude.{ℕ, List, length, map, Contains, AllPairs, slice_index_or}
 use Rattle.std.specs.Borrow.{Bor}
 use Rattle.half_edge_mesh.specs.Mesh.{origin, rev, next, prev, face, face_edge}
 use Rattle.half_edge_mesh.specs.Contents.{Contents}

@@ -13,8 +13,7 @@ use Rattle.delaunay_legalization.specs.Constraints.{points_and_constraints_by}
 use Rattle.delaunay_legalization.specs.State.{State}
 use Rattle.delaunay_journal.specs.declared.edit.Edit.{Edit}
 use Rattle.delaunay_journal.specs.declared.edit.Edit.TheVariants.{Insert, Remove, Replace, Clear}
-use Rattle.delaunay_journal.specs.declared.edit.Edit.TheVariants.{AddConstraint}
-use Rattle.delaunay_journal.specs.declared.edit.Edit.TheVariants.{ReleaseConstraint}
+use Rattle.delaunay_journal.specs.declared.edit.Edit.TheVariants.{AddConstraint, ReleaseConstraint}
 use Rattle.delaunay_journal.specs.declared.edit.Outcome.{Outcome}
 use Rattle.delaunay_journal.specs.declared.edit.Outcome.TheVariants.{Inserted, Removed, Replaced}
 use Rattle.delaunay_journal.specs.declared.edit.Outcome.TheVariants.{Cleared, Added}

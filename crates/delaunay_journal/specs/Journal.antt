@@ -6,8 +6,7 @@ use Rattle.half_edge_mesh.specs.Mesh.{empty}
 use Rattle.plane.specs.Fraction.{Point}
 use Rattle.plane.specs.Pairs.{Joins, SamePairs}
 use Rattle.plane.specs.Plain.{Plain, Edit as PlainEdit, insert, replace, remove, add, release}
-use Rattle.plane.specs.Plain.{clear, Adds, CanAdd}
-use Rattle.plane.specs.Plain.{IsCleared, Releases, Replaces}
+use Rattle.plane.specs.Plain.{clear, Adds, CanAdd, IsCleared, Releases, Replaces}
 use Rattle.mesh_embedding.specs.Stays.{KeepsIndexes}
 use Rattle.delaunay_legalization.specs.Constraints.{constraints_by, points_and_constraints_by}
 use Rattle.delaunay_legalization.specs.Known.{point_at}
@@ -16,8 +15,7 @@ use Rattle.delaunay_paths.specs.Adding.{MarksSome}
 use Rattle.delaunay_interface.specs.Edits.{InsertsVertex, RemovesVertex}
 use Rattle.delaunay_journal.specs.declared.edit.Edit.{Edit}
 use Rattle.delaunay_journal.specs.declared.edit.Edit.TheVariants.{Insert, Remove, Replace, Clear}
-use Rattle.delaunay_journal.specs.declared.edit.Edit.TheVariants.{AddConstraint}
-use Rattle.delaunay_journal.specs.declared.edit.Edit.TheVariants.{ReleaseConstraint}
+use Rattle.delaunay_journal.specs.declared.edit.Edit.TheVariants.{AddConstraint, ReleaseConstraint}
 use Rattle.delaunay_journal.specs.declared.edit.Outcome.{Outcome}
 use Rattle.delaunay_journal.specs.declared.edit.Outcome.TheVariants.{Inserted, Removed, Replaced}
 use Rattle.delaunay_journal.specs.declared.edit.Outcome.TheVariants.{Cleared, Added}

@@ -35,8 +35,7 @@ use Rattle.delaunay_lines.specs.Starts.{StartsWithin, StartsInside, GoesOver}
 use Rattle.delaunay_lines.specs.Walk.{Starts}
 use Rattle.delaunay_lines.proofs.Advance.{first_of, starts_with}
 use Rattle.delaunay_lines.proofs.MeshSteps.{laid, in_mesh, of_mesh, joined, tiles_with, face_at}
-use Rattle.delaunay_lines.proofs.MeshSteps.{twin_of_prev}
-use Rattle.delaunay_lines.proofs.MeshSteps.{twin_of_next, start_in, not_same}
+use Rattle.delaunay_lines.proofs.MeshSteps.{twin_of_prev, twin_of_next, start_in, not_same}
 
 module _ {V D U F : Type 0} (at : V → Point) (IsSite IsCovered : Point → Type 0)
     (c : Contents V D U F) (p q : Point) (over : IsOverMesh at IsSite IsCovered c p q) where

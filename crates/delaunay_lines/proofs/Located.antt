@@ -7,8 +7,7 @@ use Rattle.plane.specs.Side.{Side, side, left, on, TurnsLeft}
 use Rattle.plane.specs.Pairs.{place}
 use Rattle.plane.specs.Tiling.{Triangulation, IsVertex, IsEdge, vertex, TilesHull}
 use Rattle.plane.specs.Location.{Location, IsLocation, IsOuter, IsPast, on_vertex, on_edge, on_face}
-use Rattle.plane.specs.Location.{outside_hull}
-use Rattle.plane.specs.Location.{no_triangulation}
+use Rattle.plane.specs.Location.{outside_hull, no_triangulation}
 use Rattle.plane.proofs.Bracket.{vec}
 use Rattle.plane.proofs.BracketIdentities.{bracket-same}
 use Rattle.plane.proofs.Sides.{if_left}

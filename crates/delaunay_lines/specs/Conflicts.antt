@@ -1,7 +1,6 @@
 -- The constraints that a segment crosses.
 use Rattle.std.specs.Prelude.{◌≡◌, ◌≢◌, ◌/◌, ◌<◌, [], ◌∷◌, ◌++◌}
-use Rattle.std.specs.Prelude.{ℕ, List, length, ℤ, Option, Some, MatchOption}
-use Rattle.std.specs.Prelude.{Contains}
+use Rattle.std.specs.Prelude.{ℕ, List, length, ℤ, Option, Some, MatchOption, Contains}
 use Rattle.half_edge_mesh.specs.Mesh.{origin, rev}
 use Rattle.half_edge_mesh.specs.Contents.{Contents}
 use Rattle.half_edge_views.specs.declared.edge.DirectedEdgeHandle.{DirectedEdgeHandle}

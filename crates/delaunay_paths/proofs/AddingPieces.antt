@@ -1,7 +1,6 @@
 -- Pieces of a path that become edges and constraints, one after another.
 use Rattle.std.proofs.Common.{◌≡◌, ◌≢◌, ◌⊎◌, ◌↔◌, ◌*◌, ◌/◌, ◌<◌, ◌≤◌, [], ◌∙◌}
-use Rattle.std.proofs.Common.{ℕ, List, length, map, set, refl, sym, ap}
-use Rattle.std.proofs.Common.{subst, inl, inr, arith}
+use Rattle.std.proofs.Common.{ℕ, List, length, map, set, refl, sym, ap, subst, inl, inr, arith}
 use Rattle.std.specs.Prelude.{Bool, true, false, All, nat_abs}
 use Rattle.std.proofs.lemmas.List.{length-set}
 use Rattle.half_edge_mesh.specs.Mesh.{Mesh, IsSoundEdge, origin, rev}
@@ -18,8 +17,7 @@ use Rattle.plane_tiling.specs.Local.{IsMesh}
 use Rattle.plane_segments.specs.Constraints.{AreNextOn, ArePlacedApart}
 use Rattle.plane_segments.specs.Path.{IsFreeOfVertices}
 use Rattle.plane_segments.proofs.Constraints.Adding.{IsAddingPath, adding_begins, adding_goes_on}
-use Rattle.plane_segments.proofs.Constraints.Adding.{adding_ends}
-use Rattle.plane_segments.proofs.Constraints.Adding.{adding_adds, piece_is_clear}
+use Rattle.plane_segments.proofs.Constraints.Adding.{adding_ends, adding_adds, piece_is_clear}
 use Rattle.plane_segments.proofs.Crossing.PathFlips.{piece_is_free}
 use Rattle.plane_segments.proofs.Constraints.Shorter.{path_shortens}
 use Rattle.mesh_embedding.specs.Drawn.{drawn, faces_of, outer_of}

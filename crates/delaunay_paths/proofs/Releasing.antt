@@ -1,7 +1,6 @@
 -- A constraint that is released, and what is left to test then.
 use Rattle.std.proofs.Common.{◌≡◌, ◌≢◌, ◌⊎◌, ◌↔◌, ◌*◌, ◌<◌, ◌≤◌, [], ◌∷◌, ◌∙◌}
-use Rattle.std.proofs.Common.{ℕ, List, length, map, set, sym, ap}
-use Rattle.std.proofs.Common.{subst, inl, inr, arith}
+use Rattle.std.proofs.Common.{ℕ, List, length, map, set, sym, ap, subst, inl, inr, arith}
 use Rattle.std.specs.Prelude.{Bool, false, All, Contains}
 use Rattle.std.proofs.lemmas.Bool.{cases_eq}
 use Rattle.std.proofs.lemmas.List.{length-set}

@@ -19,7 +19,7 @@ use Rattle.half_edge_dcel.proofs.TakenOut.{length-full_edges, get_or-full_edges,
 use Rattle.half_edge_dcel.proofs.TwoEdges.{item_at}
 use Rattle.delaunay_legalization.specs.State.{state_of}
 use Rattle.delaunay_removal.specs.Data.{HasDataOfEdge, HasDataOfFace}
-use Rattle.mesh_embedding.proofs.EdgePairs.{rev_of_odd}
+use Rattle.mesh_embedding.proofs.EdgePairs.{rev_of_even, rev_of_odd, half_of_even}
 
 -- undirected edge k, with all its data
 pub record IsEdgeAt {V D U F : Type 0} (c : Contents V D U F) (k : ℕ)
@@ -140,17 +140,9 @@ even_or_odd g = elim (cases_eq (g % 2) 0) [
   | inr q ↦ inr (omega (arith, q), grind (arith, common_steps))
 ]
 
--- the other direction of an edge's first direction is its second
-pub rev_of_even : (j : ℕ) → rev (2 * j) ≡ 2 * j + 1
-rev_of_even j = grind (arith, common_steps)
-
 -- the edge of a second direction
 pub half_of_odd : (j : ℕ) → (2 * j + 1) / 2 ≡ j
 half_of_odd j = omega arith
-
--- the edge of a first direction
-pub half_of_even : (j : ℕ) → (2 * j) / 2 ≡ j
-half_of_even j = omega arith
 
 -- ---- an item of one list with an item of the other
 module _ {V D U F : Type 0} (old new : Contents V D U F) (last v : ℕ) where

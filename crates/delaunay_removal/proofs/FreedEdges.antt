@@ -1,7 +1,6 @@
 -- The edges round a vertex cease to be constraints, one after another.
 use Rattle.std.proofs.Common.{◌≡◌, ◌≢◌, ◌+◌, ◌*◌, ◌/◌, ◌<◌, ◌∙◌}
-use Rattle.std.proofs.Common.{ℕ, List, length, set, Some, refl, sym, ap, subst, inl}
-use Rattle.std.proofs.Common.{inr, arith}
+use Rattle.std.proofs.Common.{ℕ, List, length, set, Some, refl, sym, ap, subst, inl, inr, arith}
 use Rattle.std.specs.Prelude.{Bool, true, false, [], Contains, Option, None, IsSome, slice_get}
 use Rattle.std.proofs.lemmas.Bool.{cases_eq}
 use Rattle.std.proofs.lemmas.List.{length-set, get_or-set_same}
@@ -20,7 +19,8 @@ use Rattle.delaunay_legalization.specs.Constraints.{marked_edges, constraint_pai
 use Rattle.delaunay_legalization.specs.Marking.{HasEdgeData}
 use Rattle.delaunay_legalization.proofs.Constraints.{is_constraint_edge}
 use Rattle.delaunay_removal.specs.Freeing.{IsUnmarked, FreesEdgesAt}
-use Rattle.delaunay_removal.proofs.DataReads.{even_or_odd, rev_of_even, half_of_even, half_of_odd}
+use Rattle.mesh_embedding.proofs.EdgePairs.{rev_of_even, half_of_even}
+use Rattle.delaunay_removal.proofs.DataReads.{even_or_odd, half_of_odd}
 
 module _ {V D U F : Type 0} (marks : U → Bool) (old : Contents V D U F) (first : ℕ) where
   -- the first i edges from edge first on have no mark

@@ -1,7 +1,6 @@
 -- The constraints that are left where a vertex goes that has none.
 use Rattle.std.proofs.Common.{◌≡◌, ◌≢◌, ◌⊎◌, ◌↔◌, ◌+◌, ◌-◌, ◌*◌, ◌<◌, ◌∙◌}
-use Rattle.std.proofs.Common.{ℕ, suc, List, length, Some, refl, sym, ap}
-use Rattle.std.proofs.Common.{subst, inl, inr, arith}
+use Rattle.std.proofs.Common.{ℕ, suc, List, length, Some, refl, sym, ap, subst, inl, inr, arith}
 use Rattle.std.specs.Prelude.{Bool, true, false, nat_eq, if◌then◌else◌, Contains}
 use Rattle.std.proofs.lemmas.Bool.{cases_eq}
 use Rattle.std.proofs.lemmas.Bool.Decides.{nat_tests}
@@ -16,8 +15,8 @@ use Rattle.delaunay_legalization.specs.Constraints.{marked_edges, constraint_pai
 use Rattle.delaunay_legalization.proofs.MarkedPairs.{JoinsByMark, mark_joins, joined_by_mark}
 use Rattle.delaunay_legalization.proofs.Questions.{both_ways}
 use Rattle.delaunay_removal.specs.Data.{RenumbersEdges}
-use Rattle.delaunay_removal.proofs.DataReads.{IsEdgeAt, edge_of, edge_read, rev_of_even}
-use Rattle.delaunay_removal.proofs.DataReads.{half_of_even}
+use Rattle.mesh_embedding.proofs.EdgePairs.{rev_of_even, half_of_even}
+use Rattle.delaunay_removal.proofs.DataReads.{IsEdgeAt, edge_of, edge_read}
 
 -- ---- the indexes
 abbrev old_index : ℕ → ℕ → ℕ → ℕ

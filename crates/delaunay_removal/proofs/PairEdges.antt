@@ -1,12 +1,12 @@
 -- The edges of some pairs of vertices, where only these may fail the circle test.
 use Rattle.std.proofs.Common.{◌≡◌, ◌⊎◌, ◌+◌, ◌*◌, ◌/◌, ◌<◌, ◌≤◌, ◌++◌, ◌∙◌}
-use Rattle.std.proofs.Common.{ℕ, List, length, get_or, refl, sym, ap}
-use Rattle.std.proofs.Common.{subst, inl, inr, arith}
+use Rattle.std.proofs.Common.{ℕ, List, length, get_or, refl, sym, ap, subst, inl, inr, arith}
 use Rattle.std.specs.Prelude.{Contains}
 use Rattle.std.proofs.lemmas.Bool.{cases_eq}
 use Rattle.std.proofs.lemmas.List.Elements.{Contains-append_cases}
 use Rattle.half_edge_links.proofs.Lists.Rev.{rev-rev, rev_within}
 use Rattle.half_edge_mesh.specs.Mesh.{Mesh, AreSoundLinks, IsValidMesh, origin, rev}
+use Rattle.plane.proofs.Indexes.{turned_join}
 use Rattle.plane.specs.Fraction.{Point}
 use Rattle.plane.specs.Pairs.{Joins}
 use Rattle.plane_tiling.specs.Local.{IsMesh}
@@ -21,11 +21,6 @@ use Rattle.mesh_embedding.proofs.MeshStays.{half_same}
 use Rattle.mesh_embedding.proofs.WorkLists.{contains_map, contains_map_from}
 use Rattle.delaunay_legalization.specs.Among.{FailOnlyOf}
 use Rattle.delaunay_removal.specs.Pairs.{FailOnlyAt, HasEdgeOf, HasEdgesOf, pair_left, pairs_left}
-
--- a pair in the other order
-pub joins_turned : (pairs : List (ℕ × ℕ)) (i j : ℕ) → Joins pairs i j → Joins pairs j i
-joins_turned pairs i j (inl h) = inr h
-joins_turned pairs i j (inr h) = inl h
 
 -- a longer list has an edge too
 longer : (m : Mesh) (i j : ℕ) (ks more : List ℕ) → ((k : ℕ) → Contains ks k → Contains more k) →
@@ -104,7 +99,7 @@ module _ (m : Mesh) (last v : ℕ) (pairs : List (ℕ × ℕ)) (was : List ℕ) 
         → HasEdgesOf m (pairs_left last v pairs) ks
     listing_ends s all a b (inl h) = one_way all a b h
     listing_ends s all a b (inr h) = λ e within starts ends.
-        joins_turned (pairs_at m ks) b a
+        turned_join (pairs_at m ks) b a
         (one_way all b a h (rev e) (rev_within e (length m.half_edges) s.even within)
         ends (ap (origin m) (rev-rev e) ∙ starts))
 

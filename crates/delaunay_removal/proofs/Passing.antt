@@ -1,7 +1,6 @@
 -- What is left to test where a vertex has gone: what its turned edges join, and sides of its hole.
 use Rattle.std.proofs.Common.{◌≡◌, ◌≢◌, ◌⊎◌, ◌-◌, ◌*◌, ◌<◌, ◌++◌, ◌∙◌}
-use Rattle.std.proofs.Common.{ℕ, List, length, get_or, map, sym, ap, subst}
-use Rattle.std.proofs.Common.{inl, inr, arith}
+use Rattle.std.proofs.Common.{ℕ, List, length, get_or, map, sym, ap, subst, inl, inr, arith}
 use Rattle.std.specs.Prelude.{Contains, pos, swap_remove}
 use Rattle.std.proofs.lemmas.Bool.{cases_eq}
 use Rattle.std.proofs.lemmas.List.{length-map}
@@ -10,10 +9,10 @@ use Rattle.half_edge_mesh.specs.Mesh.{Mesh, AreSoundLinks, origin, next, prev, f
 use Rattle.half_edge_links.proofs.Lists.Rev.{rev-rev, rev_within}
 use Rattle.half_edge_links.proofs.Removing.OpenSound.{length-swap_remove, get_or-swap_remove_same}
 use Rattle.half_edge_links.proofs.Removing.OpenSound.{get_or-swap_remove_other, swap_remove_default}
+use Rattle.plane.proofs.Indexes.{turned_join}
 use Rattle.plane.specs.Circle.{InsideCircle}
 use Rattle.plane.specs.Fraction.{Point, Fraction, whole}
-use Rattle.plane.specs.Pairs.{Joins}
-use Rattle.plane.specs.Pairs.{place as at}
+use Rattle.plane.specs.Pairs.{Joins, place as at}
 use Rattle.plane.specs.Plain.{Removes}
 use Rattle.plane.specs.Side.{TurnsLeft}
 use Rattle.plane.specs.Tiling.{Face}
@@ -34,11 +33,9 @@ use Rattle.delaunay_legalization.specs.Shape.{IsTriangulated, IsDelaunayTriangul
 use Rattle.delaunay_legalization.specs.State.{State}
 use Rattle.delaunay_legalization.proofs.Stars.{face_corners, no_face}
 use Rattle.delaunay_removal.specs.Pairs.{FailOnlyAt, HasBorder, IsHoleSide, LeavesFaces}
-use Rattle.delaunay_removal.specs.Pairs.{former_index, pair_left}
-use Rattle.delaunay_removal.specs.Pairs.{pairs_left}
+use Rattle.delaunay_removal.specs.Pairs.{former_index, pair_left, pairs_left}
 use Rattle.delaunay_removal.proofs.InnerStars.{no_way_back}
 use Rattle.delaunay_removal.proofs.LeavingConstraints.{back_and_there, old_of_freed, old_of_other}
-use Rattle.delaunay_removal.proofs.PairEdges.{joins_turned}
 
 -- ---- the points that are left
 former_below : (v last k n : ℕ) → k < n → last < n → former_index v last k < n
@@ -235,7 +232,7 @@ module _ {V D U F : Type 0} (place : V → Point) (constraints : List U → List
 
       no_pair_back : Joins border (was j) (was i) ⊎ Joins turned (was j) (was i)
           → Pass (map place new.vertices) i j k l
-      no_pair_back h = absurd (untested (joins_turned (pairs_left last v (border ++ turned)) j i
+      no_pair_back h = absurd (untested (turned_join (pairs_left last v (border ++ turned)) j i
           (either j i (below j one.1) (below i one.0) h)))
 
       -- a side of the hole, with a face that was there on its other side
@@ -359,7 +356,7 @@ module _ {V D U F : Type 0} (place : V → Point) (constraints : List U → List
 
       pair_back : Joins turned (was j) (was i) → Found
       pair_back x = inl
-          (joins_turned (pairs_left last v (border ++ turned)) j i (either j i j_low i_low (inr x)))
+          (turned_join (pairs_left last v (border ++ turned)) j i (either j i j_low i_low (inr x)))
 
       go : Was i j (origin new.mesh (prev new.mesh h))
           → Was j i (origin new.mesh (prev new.mesh (rev h))) → Found

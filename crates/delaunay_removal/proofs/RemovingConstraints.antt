@@ -1,7 +1,6 @@
 -- A vertex whose edges have ceased to be constraints goes.
 use Rattle.std.proofs.Common.{◌≡◌, ◌≢◌, ◌⊎◌, ◌↔◌, ◌-◌, ◌*◌, ◌/◌, ◌<◌, ◌∙◌}
-use Rattle.std.proofs.Common.{ℕ, List, length, sym, ap, subst, inl, inr}
-use Rattle.std.proofs.Common.{arith}
+use Rattle.std.proofs.Common.{ℕ, List, length, sym, ap, subst, inl, inr, arith}
 use Rattle.std.specs.Prelude.{Bool, false, Contains, nat_eq, if◌then◌else◌, slice_get, swap_remove}
 use Rattle.half_edge_mesh.specs.Contents.{Contents, IsMeshWithData}
 use Rattle.half_edge_mesh.specs.Mesh.{Mesh, origin, rev}
@@ -16,7 +15,8 @@ use Rattle.delaunay_legalization.specs.State.{state_of, points_and_constraints}
 use Rattle.delaunay_legalization.proofs.MarkedPairs.{JoinsByMark, mark_joins, joined_by_mark}
 use Rattle.delaunay_removal.specs.Data.{KeepsDataBeside, RenumbersEdges}
 use Rattle.delaunay_removal.specs.Freeing.{FreesEdgesAt}
-use Rattle.delaunay_removal.proofs.DataReads.{edge_read, even_or_odd, rev_of_even}
+use Rattle.mesh_embedding.proofs.EdgePairs.{rev_of_even}
+use Rattle.delaunay_removal.proofs.DataReads.{edge_read, even_or_odd}
 use Rattle.delaunay_removal.proofs.LeavingConstraints.{constraints_left, back_and_there}
 
 module _ {V D U F : Type 0} (place : V → Point) (marks : U → Bool) (constraints : List U → List ℕ)

@@ -7,8 +7,7 @@ use mathlib.Core.Bool.{Bool, true, false}
 use Rattle.std.specs.Prelude.{Contains}
 use Rattle.std.proofs.lemmas.Bool.{cases_eq}
 use Rattle.std.proofs.lemmas.List.{get_or-set_same, get_or-set_other, get_or_append_left}
-use Rattle.std.proofs.lemmas.List.{length-set, length-replicate}
-use Rattle.std.proofs.lemmas.List.{get_or-replicate, append-nil}
+use Rattle.std.proofs.lemmas.List.{length-set, length-replicate, get_or-replicate, append-nil}
 use Rattle.half_edge_mesh.specs.Mesh.{Mesh, next, prev, rev}
 use Rattle.plane_tiling.proofs.Totals.{Contains-none, get_or_any}
 use Rattle.plane_edits.proofs.LocalMesh.Changes.{IsOnce, once_none}

@@ -1,7 +1,6 @@
 -- The vertices in a region as ends of its edges.
 use Rattle.std.proofs.Common.{◌≡◌, ◌⊎◌, ◌+◌, ◌*◌, ◌/◌, ◌<◌, ◌≤◌, [], ◌∙◌}
-use Rattle.std.proofs.Common.{ℕ, List, length, get_or, sym, ap, subst}
-use Rattle.std.proofs.Common.{arith}
+use Rattle.std.proofs.Common.{ℕ, List, length, get_or, sym, ap, subst, arith}
 use mathlib.Core.Logic.{inl, inr, ◌≢◌}
 use mathlib.Core.Bool.{Bool}
 use Rattle.std.specs.Prelude.{ℤ, pos, ◌*ℤ◌, Contains}

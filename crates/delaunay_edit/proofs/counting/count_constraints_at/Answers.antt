@@ -3,8 +3,7 @@ use Rattle.std.specs.Prelude.{Contains}
 use Rattle.half_edge_mesh.specs.Rounds.{GivesRound, out_edges_left}
 use Rattle.delaunay_legalization.proofs.Questions.{both_ways}
 use Rattle.delaunay_edit.proofs.CountingAt.{counting_begins, next_at, counting_goes_past}
-use Rattle.delaunay_edit.proofs.CountingAt.{counting_goes_on}
-use Rattle.delaunay_edit.proofs.CountingAt.{counting_ends}
+use Rattle.delaunay_edit.proofs.CountingAt.{counting_goes_on, counting_ends}
 use Rattle.delaunay_edit.proofs.counting.count_constraints_at.Goals as goal
 
 pub loop-edge-init : goal.loop-edge-init

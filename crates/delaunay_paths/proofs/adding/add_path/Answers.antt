@@ -1,11 +1,9 @@
 use Rattle.std.proofs.Common.{ℕ, List, map, sym, ◌∙◌, subst}
 use Rattle.delaunay_paths.specs.Leaving.{LeavesToTest}
 use Rattle.delaunay_paths.proofs.AddingPieces.{piece_made, more_is_left, none_is_left, same}
-use Rattle.delaunay_paths.proofs.AddingPieces.{work_fits}
-use Rattle.delaunay_paths.proofs.AddingPieces.{adding_to_begins, adding_sites, adding_shape}
-use Rattle.delaunay_paths.proofs.AddingPieces.{adding_index, adding_at}
-use Rattle.delaunay_paths.proofs.AddingPieces.{adding_free, adding_clear, adding_to_goes_on}
-use Rattle.delaunay_paths.proofs.AddingPieces.{adding_shortens}
+use Rattle.delaunay_paths.proofs.AddingPieces.{work_fits, adding_to_begins, adding_sites}
+use Rattle.delaunay_paths.proofs.AddingPieces.{adding_shape, adding_index, adding_at, adding_free}
+use Rattle.delaunay_paths.proofs.AddingPieces.{adding_clear, adding_to_goes_on, adding_shortens}
 use Rattle.delaunay_paths.proofs.AddingPieces.{adding_to_ends}
 use Rattle.delaunay_paths.proofs.adding.add_path.Goals as goal
 

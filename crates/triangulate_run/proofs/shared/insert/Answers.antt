@@ -4,9 +4,8 @@ use Rattle.triangulate_run.specs.Stage.{position}
 use Rattle.delaunay_legalization.specs.Constraints.{points_and_constraints_by}
 use Rattle.mesh_embedding.specs.Drawn.{drawn}
 use Rattle.triangulate_run.proofs.Insertions.{unknown_if_fresh, known_if_there, may_refuse}
-use Rattle.triangulate_run.proofs.Insertions.{site_if_listed}
-use Rattle.triangulate_run.proofs.Insertions.{listed_if_found, mesh_kept, places_kept, sites_kept}
-use Rattle.triangulate_run.proofs.Insertions.{sites_more}
+use Rattle.triangulate_run.proofs.Insertions.{site_if_listed, listed_if_found, mesh_kept}
+use Rattle.triangulate_run.proofs.Insertions.{places_kept, sites_kept, sites_more}
 use Rattle.triangulate_run.proofs.shared.insert.Goals as goal
 
 pub returns-in-Ok-clause-ready : goal.returns-in-Ok-clause-ready

@@ -1,8 +1,7 @@
 use Rattle.std.proofs.Common.{[], ◌∷◌, refl}
 use Rattle.std.proofs.lemmas.Result.{err_from_is_err_and}
 use Rattle.delaunay_interface.proofs.Stepping.{all_joined, may_come, may_come_later, none_inserted}
-use Rattle.delaunay_interface.proofs.Stepping.{some_joined}
-use Rattle.delaunay_interface.proofs.Stepping.{taken_anyhow}
+use Rattle.delaunay_interface.proofs.Stepping.{some_joined, taken_anyhow}
 use Rattle.delaunay_interface.proofs.constraint_edges.ConstrainedDelaunayTriangulation+V+DE+UE+F+L.add_constraint_edges.Goals as goal
 
 pub insert_end-requires-clause-new_site : goal.insert_end-requires-clause-new_site

@@ -1,8 +1,7 @@
 use Rattle.std.proofs.Common.{[], ◌∷◌, ◌++◌, arith}
 use Rattle.std.proofs.lemmas.Result.{err_from_is_err_and}
 use Rattle.delaunay_interface.proofs.Stepping.{all_taken, begins, comes_now, ends, one_more}
-use Rattle.delaunay_interface.proofs.Stepping.{stops_at_join}
-use Rattle.delaunay_interface.proofs.Stepping.{stops_at_vertex, taken_with}
+use Rattle.delaunay_interface.proofs.Stepping.{stops_at_join, stops_at_vertex, taken_with}
 use Rattle.delaunay_interface.proofs.constraint_edges.ConstrainedDelaunayTriangulation+V+DE+UE+F+L.extend_path.Goals as goal
 
 pub loop-vertex-init : goal.loop-vertex-init

@@ -7,8 +7,7 @@ use Rattle.delaunay_shapes.specs.Start.{BeginsAt}
 use Rattle.delaunay_shapes.proofs.Shapes.{rectangle_begins}
 use Rattle.delaunay_shape_queries.specs.Found.{FindsEdges}
 use Rattle.delaunay_shape_queries.proofs.Calls.{lower_corner, upper_corner, same_corners}
-use Rattle.delaunay_shape_queries.proofs.Calls.{same_rectangle, sites_in_mesh}
-use Rattle.delaunay_shape_queries.proofs.Calls.{edges_found}
+use Rattle.delaunay_shape_queries.proofs.Calls.{same_rectangle, sites_in_mesh, edges_found}
 use Rattle.delaunay_shape_queries.proofs.float_triangulation.FloatTriangulation.get_edges_in_rectangle.Goals as goal
 
 pub new-rectangle-requires-clause-lower_in_range : goal.new-rectangle-requires-clause-lower_in_range
