@@ -2,10 +2,10 @@
 //! locations and nearest vertices and for the edges in circles and squares, and removes vertices at
 //! random, all of them where no number says how many. HINTS is `last`, or the branch factor of a
 //! hierarchy, and NUMBERS `i32` or `i64`, the type of coordinates. Without words it runs each order
-//! with few points, with each of the two kinds of hints. Standard output has what was found, so that
-//! other programs can be compared, and standard error the figures: the thread's nanoseconds a call,
-//! and the peak of resident bytes a vertex. The stored output is that of `compare/cgal.cpp`, which
-//! does the same with another library.
+//! with few points, with each of the two kinds of hints. Standard output has what was found, so
+//! that other programs can be compared, and standard error the figures: the thread's nanoseconds a
+//! call, and the peak of resident bytes a vertex. The stored output is that of `compare/cgal.cpp`,
+//! which does the same with another library.
 #![tactic(auto)]
 
 mod calls;

@@ -4,8 +4,8 @@ use Rattle.plane.specs.Fraction.{Point}
 use Rattle.plane.specs.Pairs.{Joins}
 use Rattle.plane.specs.Plain.{Plain, IsPlain, IsSameState, Appends, Carries, Removes}
 
--- a vertex that is put in where it is strictly within no pair, and taken out again, leaves the state
--- as it was
+-- a vertex that is put in where it is strictly within no pair, and taken out again, leaves the
+-- state as it was
 abbrev pub RemovalUndoesInsertion : Type 0 → Type 0
 RemovalUndoesInsertion V = (position : V → Point) (old mid new : Plain V) (v : V)
     → IsPlain position old → Appends position old mid v

@@ -25,8 +25,8 @@ first_stage = record {
 }
 
 -- the triangulation is a constrained Delaunay one of these vertices and constraints, without
--- constraints each strictly empty triple is a face of it, and its faces depend on them alone, not on
--- the lines that led here
+-- constraints each strictly empty triple is a face of it, and its faces depend on them alone, not
+-- on the lines that led here
 pub record Fits (s : Stage) : Type 0 where
   pub is_plain : IsPlain position s.plain
   pub points : s.triangulation.points ≡ map position s.plain.vertices
