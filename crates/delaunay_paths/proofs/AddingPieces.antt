@@ -1,15 +1,19 @@
 -- Pieces of a path that become edges and constraints, one after another.
-use Rattle.std.proofs.Common.{◌≡◌, ◌≢◌, ◌⊎◌, ◌↔◌, ◌*◌, ◌/◌, ◌<◌, ◌≤◌, [], ◌∙◌}
+use Rattle.std.proofs.Common.{◌≡◌, ◌≢◌, ◌⊎◌, ◌↔◌, ◌*◌, ◌/◌, ◌%◌, ◌<◌, ◌≤◌, [], ◌∙◌}
 use Rattle.std.proofs.Common.{ℕ, List, length, map, set, refl, sym, ap, subst, inl, inr, arith}
 use Rattle.std.specs.Prelude.{Bool, true, false, All, nat_abs}
-use Rattle.std.proofs.lemmas.List.{length-set}
-use Rattle.half_edge_mesh.specs.Mesh.{Mesh, IsSoundEdge, origin, rev}
+use Rattle.std.proofs.lemmas.Bool.{cases_lt}
+use Rattle.std.proofs.lemmas.List.{get_or_past, length-set}
+use Rattle.half_edge_links.specs.declared.records.HalfEdge.{HalfEdge}
+use Rattle.half_edge_mesh.specs.Mesh.{Mesh, IsSoundEdge, no_edge, origin, rev}
 use Rattle.half_edge_links.proofs.Lists.Rev.{rev-rev, rev_within}
 use Rattle.half_edge_mesh.specs.Contents.{Contents, IsMeshWithData}
+use Rattle.plane.specs.Crossing.{Cross}
 use Rattle.plane.specs.Fraction.{Point}
 use Rattle.plane.specs.Laws.{squared_way}
-use Rattle.plane.specs.Pairs.{Joins, IsSamePair, IsIndex}
+use Rattle.plane.specs.Pairs.{Joins, IsSamePair, IsIndex, place}
 use Rattle.plane.specs.Tests.{InRange}
+use Rattle.plane_edits.specs.Change.{IsFaceOf}
 use Rattle.plane_edits.specs.Legal.{AllPassBut, point_of}
 use Rattle.plane_edits.proofs.LocalMesh.Changes.{once_none}
 use Rattle.plane_tiling.proofs.Totals.{Contains-none}
@@ -19,12 +23,17 @@ use Rattle.plane_segments.specs.Path.{IsFreeOfVertices}
 use Rattle.plane_segments.proofs.Constraints.Adding.{IsAddingPath, adding_begins, adding_goes_on}
 use Rattle.plane_segments.proofs.Constraints.Adding.{adding_ends, adding_adds, piece_is_clear}
 use Rattle.plane_segments.proofs.Crossing.PathFlips.{piece_is_free}
+use Rattle.plane_segments.proofs.Constraints.Pieces.{path_ends}
 use Rattle.plane_segments.proofs.Constraints.Shorter.{path_shortens}
+use Rattle.plane_segments.proofs.Constraints.Whole.{piece_crosses_whole}
 use Rattle.mesh_embedding.specs.Drawn.{drawn, faces_of, outer_of}
 use Rattle.mesh_embedding.specs.Legal.{AreEdges, pairs_at}
+use Rattle.mesh_embedding.specs.Stays.{GoSameWay}
 use Rattle.mesh_embedding.proofs.EdgePairs as E
+use Rattle.mesh_embedding.proofs.FaceChanges.{turned_faces}
 use Rattle.mesh_embedding.proofs.MeshLegal.{joins_edge}
-use Rattle.mesh_embedding.proofs.MeshStays.{halved}
+use Rattle.mesh_embedding.proofs.MeshStars.{edge_of_face}
+use Rattle.mesh_embedding.proofs.MeshStays.{face_there, halved}
 use Rattle.delaunay_legalization.specs.Constraints.{marked_edges, constraint_pairs, constraints_by}
 use Rattle.delaunay_legalization.specs.Constraints.{points_and_constraints_by}
 use Rattle.delaunay_legalization.specs.Marking.{HasEdgeData}
@@ -33,8 +42,9 @@ use Rattle.delaunay_legalization.specs.State.{state_of}
 use Rattle.delaunay_legalization.proofs.ConstraintEdges.{constraints_are_edges}
 use Rattle.delaunay_legalization.proofs.MarkedPairs.{pairs_stay, marking_joins}
 use Rattle.delaunay_paths.specs.Adding.{NoneCrosses, CanAddPath, MarksBetween, MarksSome, AddsPath}
-use Rattle.delaunay_paths.specs.Kept.{KeepsUncrossed}
+use Rattle.delaunay_paths.specs.Kept.{KeepsUncrossed, KeepsUncrossedFaces}
 use Rattle.delaunay_paths.specs.Leaving.{IsWorkList, LeavesFailing, LeavesToTest, MakesEdge}
+use Rattle.delaunay_paths.proofs.Making.{kept_on, faces_kept_on}
 use Rattle.delaunay_paths.proofs.Marks.{marks_none, marks_one, marks_more}
 use Rattle.delaunay_paths.proofs.Walking.{in_map, of_map, placed_apart}
 
@@ -63,6 +73,31 @@ half_ends m h i j a b e f = elim (halved h) [
       (ap (λ (x : ℕ). origin m (rev x)) k ∙ ap (origin m) (rev-rev h) ∙ e)
 ]
 
+-- past the last directed edge, meshes with the same number of them read the same
+past_edges_stay : (old new : Mesh) → length old.half_edges % 2 ≡ 0
+    → length new.half_edges ≡ length old.half_edges → (h : ℕ) → length old.half_edges ≤ h
+    → GoSameWay old h new h
+past_edges_stay old new even count h past = (
+  same_start h past,
+  same_start (rev h) (elim (cases_lt (rev h) (length old.half_edges)) [
+    | inl within ↦ absurd (back (subst (λ (k : ℕ). k < length old.half_edges) (rev-rev h)
+        (rev_within (rev h) (length old.half_edges) even within)))
+    | inr beyond ↦ beyond
+  ]),
+)
+  where
+    back : ¬ (h < length old.half_edges)
+    back within = omega (arith, past, within)
+
+    starts_none : (m : Mesh) (k : ℕ) → length m.half_edges ≤ k → origin m k ≡ 0
+    starts_none m k beyond =
+        ap (λ (x : HalfEdge). x.origin) (get_or_past m.half_edges k no_edge beyond)
+
+    same_start : (k : ℕ) → length old.half_edges ≤ k → origin new k ≡ origin old k
+    same_start k beyond =
+        starts_none new k (subst (λ (n : ℕ). n ≤ k) (sym count) beyond)
+        ∙ sym (starts_none old k beyond)
+
 -- ---- one piece
 -- i and j are joined by a constraint too
 abbrev AddsPair : List (ℕ × ℕ) → List (ℕ × ℕ) → ℕ → ℕ → Type 0
@@ -78,13 +113,16 @@ pub record AddsPiece {V D U F : Type 0} (marks : U → Bool) (marked : U → U)
   pub pair : AddsPair (constraints_by constraints (state_of old))
       (constraints_by constraints (state_of new)) i j
 
--- a piece became a constraint, and each edge that may fail is left to test
+-- a piece became a constraint, what does not cross it stays, and each edge that may fail is left
+-- to test
 pub record LeavesPiece {V D U F : Type 0} (points : List Point) (marks : U → Bool) (marked : U → U)
     (constraints : List U → List ℕ) (old new : Contents V D U F) (i j : ℕ)
     (was left : List ℕ) : Type 0 where
   pub adds : AddsPiece marks marked constraints old new i j
   pub mesh : IsMeshWithData new
   pub shape : IsMesh points (faces_of new.mesh) (outer_of new.mesh)
+  pub kept : KeepsUncrossed points old.mesh new.mesh i j
+  pub faces_kept : KeepsUncrossedFaces points old.mesh new.mesh i j
   pub edges : AreEdges new.mesh left
   pub leaves : LeavesFailing points old.mesh new.mesh was left
 
@@ -173,7 +211,8 @@ module _ {U : Type 0} (marks : U → Bool) (constraints : List U → List ℕ)
               IsSamePair a b i j) (sym half) (half_ends mid.mesh e i j a b source target)
 
   -- ---- the loop
-  -- the pieces from i to w are added, and those from w to j are to come
+  -- the pieces from i to w are added, and those from w to j are to come; what does not cross the
+  -- segment from i to j stays
   pub record IsAddingTo {V D F : Type 0} (at : V → Point) (marked_as : U → U)
       (old now : Contents V D U F) (i j w : ℕ) : Type 0 where
     pub contents : now ≡ record old { mesh = now.mesh; undirected = now.undirected }
@@ -183,6 +222,8 @@ module _ {U : Type 0} (marks : U → Bool) (constraints : List U → List ℕ)
     pub shape : IsMesh (map at old.vertices) (faces_of now.mesh) (outer_of now.mesh)
     pub path : IsAddingPath (map at old.vertices) (constraints_by constraints (state_of old))
         (constraints_by constraints (state_of now)) i j w
+    pub edges_kept : KeepsUncrossed (map at old.vertices) old.mesh now.mesh i j
+    pub faces_kept : KeepsUncrossedFaces (map at old.vertices) old.mesh now.mesh i j
 
   -- at its start the path has no piece yet
   pub adding_to_begins : {V D F : Type 0} (at : V → Point) (marked_as : U → U)
@@ -196,6 +237,8 @@ module _ {U : Type 0} (marks : U → Bool) (constraints : List U → List ℕ)
     shape = kept.shape;
     path = adding_begins (map at old.vertices) (constraints_by constraints (state_of old)) i j
         (in_map at old.vertices i within);
+    edges_kept = λ h clear. (refl, refl);
+    faces_kept = λ f t there first second third. there;
   }
 
   module _ {V D F : Type 0} (at : V → Point) (marked_as : U → U) (old now : Contents V D U F)
@@ -230,39 +273,94 @@ module _ {U : Type 0} (marks : U → Bool) (constraints : List U → List ℕ)
     distinct : ArePlacedApart points
     distinct = placed_apart points (faces_of now.mesh) (outer_of now.mesh) p.shape
 
-    -- the ends of a constraint are two vertices
-    constraint_ends : (a b : ℕ) → Joins (constraints_by constraints (state_of now)) a b →
-        IsIndex points a × (IsIndex points b × (a ≢ b))
-    constraint_ends a b joined = (
-      there a (subst (λ (k : ℕ). k < length now.mesh.out_edges) h.2 edge.origin_in),
+    -- a and b are two vertices
+    abbrev AreTwo : ℕ → ℕ → Type 0
+    AreTwo a b = IsIndex points a × (IsIndex points b × (a ≢ b))
+
+    -- the ends of an edge are two vertices
+    edge_ends : (h a b : ℕ) → h < length now.mesh.half_edges → origin now.mesh h ≡ a
+        → origin now.mesh (rev h) ≡ b → AreTwo a b
+    edge_ends h a b within starts ends = (
+      there a (subst (λ (k : ℕ). k < length now.mesh.out_edges) starts edge.origin_in),
       (
-        there b (subst (λ (k : ℕ). k < length now.mesh.out_edges) h.3 twin.origin_in),
-        (λ is. p.whole.valid.apart h.0 h.1 (h.2 ∙ is ∙ sym h.3)),
+        there b (subst (λ (k : ℕ). k < length now.mesh.out_edges) ends twin.origin_in),
+        (λ is. p.whole.valid.apart h within (starts ∙ is ∙ sym ends)),
       ),
     )
       where
-        h : (e : ℕ) × (e < length now.mesh.half_edges) × (origin now.mesh e ≡ a)
-            × (origin now.mesh (rev e) ≡ b)
-        h = E.joins_edge now.mesh p.whole.valid.sound a b
-            (constraints_are_edges marks constraints marked now.mesh now.undirected
-            p.whole.fits.undirected_fit
-            p.whole.valid a b joined)
+        edge : IsSoundEdge now.mesh h
+        edge = p.whole.valid.sound.edges h within
 
-        edge : IsSoundEdge now.mesh h.0
-        edge = p.whole.valid.sound.edges h.0 h.1
-
-        twin : IsSoundEdge now.mesh (rev h.0)
-        twin = p.whole.valid.sound.edges (rev h.0)
-            (rev_within h.0 (length now.mesh.half_edges) p.whole.valid.sound.even
-            h.1)
+        twin : IsSoundEdge now.mesh (rev h)
+        twin = p.whole.valid.sound.edges (rev h)
+            (rev_within h (length now.mesh.half_edges) p.whole.valid.sound.even within)
 
         there : (k : ℕ) → k < length now.mesh.out_edges → IsIndex points k
         there k l = in_map at old.vertices k (subst (λ (vs : List V). k < length vs) same
             (subst (λ (n : ℕ). k < n) (sym p.whole.fits.vertices_fit) l))
 
+    -- the ends of a constraint are two vertices
+    constraint_ends : (a b : ℕ) → Joins (constraints_by constraints (state_of now)) a b
+        → AreTwo a b
+    constraint_ends a b joined =
+        let h = E.joins_edge now.mesh p.whole.valid.sound a b
+        (constraints_are_edges marks constraints marked now.mesh now.undirected
+        p.whole.fits.undirected_fit p.whole.valid a b joined) in
+        edge_ends h.0 a b h.1 h.2 h.3
+
+    -- the ends of a side of a face are two vertices
+    side_ends : (a b c : ℕ) → IsFaceOf (faces_of now.mesh) a b c → AreTwo a b
+    side_ends a b c f =
+        let h = edge_of_face now.mesh p.whole.valid.sound a b c f in
+        edge_ends h.0 a b h.1.inner.0 h.1.first
+        (sym (p.whole.valid.sound.edges h.0 h.1.inner.0).starts ∙ h.1.second)
+
     module _ (v : ℕ) (on_way : w ≢ j) (next : AreNextOn (map at now.vertices) w j w v) where
       next_here : AreNextOn points w j w v
       next_here = subst (λ (vs : List V). AreNextOn (map at vs) w j w v) same next
+
+      -- the path has a piece, so its ends differ
+      ends_apart : i ≢ j
+      ends_apart e = path_ends points j distinct w v
+          (subst (λ (k : ℕ). AreNextOn points k j w v) e (p.path.rest w v next_here))
+
+      -- two vertices whose segment does not cross the whole segment are clear of the next piece
+      clear_of_piece : (a b : ℕ) → AreTwo a b
+          → ¬ Cross (place points i) (place points j) (place points a) (place points b)
+          → ¬ Cross (place points w) (place points v) (place points a) (place points b)
+      clear_of_piece a b two clear cross = clear (piece_crosses_whole points i j w v a b distinct
+          (in_map at old.vertices i hi) (in_map at old.vertices j hj) ends_apart two.0 two.1.0
+          two.1.1 (p.path.rest w v next_here) cross)
+
+      -- ---- what does not cross the whole segment stays where the next piece is made
+      module _ (new : Contents V D U F) (directed : new.directed ≡ now.directed)
+          (whole : IsMeshWithData new) where
+        -- the number of edges stays
+        same_count : length new.mesh.half_edges ≡ length now.mesh.half_edges
+        same_count = sym whole.fits.directed_fit ∙ ap length directed ∙ p.whole.fits.directed_fit
+
+        -- edges that do not cross the whole segment
+        kept_of_whole : KeepsUncrossed points now.mesh new.mesh w v
+            → KeepsUncrossed points now.mesh new.mesh i j
+        kept_of_whole kept h clear = elim (cases_lt h (length now.mesh.half_edges)) [
+          | inl within ↦ kept h (clear_of_piece (origin now.mesh h) (origin now.mesh (rev h))
+              (edge_ends h (origin now.mesh h) (origin now.mesh (rev h)) within refl refl) clear)
+          | inr past ↦ past_edges_stay now.mesh new.mesh p.whole.valid.sound.even same_count h past
+        ]
+
+        -- faces with no side that crosses it
+        faces_kept_of_whole : KeepsUncrossedFaces points now.mesh new.mesh w v
+            → KeepsUncrossedFaces points now.mesh new.mesh i j
+        faces_kept_of_whole kept f t there first second third = kept f t there
+            (clear_of_piece t.first t.second (side_ends t.first t.second t.third face) first)
+            (clear_of_piece t.second t.third (side_ends t.second t.third t.first
+            (turned_faces (faces_of now.mesh) t.first t.second t.third face)) second)
+            (clear_of_piece t.third t.first (side_ends t.third t.first t.second
+            (turned_faces (faces_of now.mesh) t.second t.third t.first
+            (turned_faces (faces_of now.mesh) t.first t.second t.third face))) third)
+          where
+            face : IsFaceOf (faces_of now.mesh) t.first t.second t.third
+            face = face_there now.mesh f t there
 
       -- no vertex is strictly between it and the next one on the way
       pub adding_free : IsFreeOfVertices (drawn (map at now.vertices) now.mesh) w v
@@ -281,27 +379,36 @@ module _ {U : Type 0} (marks : U → Bool) (constraints : List U → List ℕ)
 
       -- with the next piece added the path reaches the next vertex
       pub adding_to_goes_on : ((x : U) → marks (marked_as x) ≡ true) → (new : Contents V D U F)
-          → AddsPiece marks marked_as constraints now new w v → IsMeshWithData new
-          → IsMesh (map at now.vertices) (faces_of new.mesh) (outer_of new.mesh)
+          → (was left : List ℕ)
+          → LeavesPiece (map at now.vertices) marks marked_as constraints now new w v was left
           → IsAddingTo at marked_as old new i j v
-      adding_to_goes_on has new adds whole shape = record {
-        contents = adds.contents ∙ ap (λ (c : Contents V D U F). record c {
+      adding_to_goes_on has new was left piece = record {
+        contents = piece.adds.contents ∙ ap (λ (c : Contents V D U F). record c {
           mesh = new.mesh;
           undirected = new.undirected;
         }) p.contents;
-        count = adds.count ∙ p.count;
+        count = piece.adds.count ∙ p.count;
         marks_some =
             marks_more marks marked_as has old.undirected now.undirected new.undirected p.marks_some
-            adds.marks_some;
-        whole = whole;
+            piece.adds.marks_some;
+        whole = piece.mesh;
         shape = subst (λ (vs : List V). IsMesh (map at vs) (faces_of new.mesh) (outer_of new.mesh))
-            same shape;
+            same piece.shape;
         path = adding_goes_on points distinct (constraints_by constraints (state_of old))
             (constraints_by constraints (state_of now)) i j w (in_map at old.vertices i hi)
             (in_map at old.vertices j hj) p.path v on_way next_here
             (constraints_by constraints (state_of new))
-            adds.pair;
+            piece.adds.pair;
+        edges_kept = kept_on points old.mesh now.mesh new.mesh i j p.edges_kept
+            (kept_of_whole new directed piece.mesh (subst (λ (vs : List V).
+            KeepsUncrossed (map at vs) now.mesh new.mesh w v) same piece.kept));
+        faces_kept = faces_kept_on points old.mesh now.mesh new.mesh i j p.faces_kept
+            (faces_kept_of_whole new directed piece.mesh (subst (λ (vs : List V).
+            KeepsUncrossedFaces (map at vs) now.mesh new.mesh w v) same piece.faces_kept));
       }
+        where
+          directed : new.directed ≡ now.directed
+          directed = ap (λ (c : Contents V D U F). c.directed) piece.adds.contents
 
       -- from the next vertex the way to j is shorter
       pub adding_shortens : nat_abs (squared_way (point_of points v) (point_of points j))
@@ -329,6 +436,8 @@ module _ {U : Type 0} (marks : U → Bool) (constraints : List U → List ℕ)
         fits = p.whole.fits;
         shape = adding_shape;
       };
+      edges_kept = p.edges_kept;
+      faces_kept = p.faces_kept;
     }
 
 -- ---- what is left to test
@@ -343,6 +452,9 @@ piece_leaves points marks marked_as constraints old mid new i j was left makes s
       adds = adds;
       mesh = mesh;
       shape = subst (λ (m : Mesh). IsMesh points (faces_of m) (outer_of m)) (sym same) makes.shape;
+      kept = subst (λ (m : Mesh). KeepsUncrossed points old.mesh m i j) (sym same) makes.kept;
+      faces_kept = subst (λ (m : Mesh). KeepsUncrossedFaces points old.mesh m i j) (sym same)
+          makes.faces_kept;
       edges = subst (λ (m : Mesh). AreEdges m left) (sym same) makes.edges;
       leaves = λ pairs passing. subst
           (λ (m : Mesh). AllPassBut points (faces_of m) pairs (pairs_at m left)) (sym same)
@@ -374,22 +486,32 @@ piece_made {V = V} {D = D} {U = U} {F = F} marks constraints are_marked at marke
     written =
         record { value = by.marks_edge.value; was = by.marks_edge.was; whole = by.marks_edge.whole }
 
--- where nothing has changed, no edge is left to test
-pub none_is_left : {V D U F : Type 0} (all : List Point) (old : Contents V D U F)
-    → LeavesToTest all old old []
-none_is_left all old = record { edges = no_edges old.mesh; leaves = λ pairs passing. passing }
+-- where nothing has changed, the edges that were given are left to test
+pub same_are_left : {V D U F : Type 0} (all : List Point) (old : Contents V D U F) (was : List ℕ)
+    → AreEdges old.mesh was → LeavesToTest all old old was was
+same_are_left all old was edges = record { edges = edges; leaves = λ pairs passing. passing }
+
+-- a list that was cleared is a work list with no edge in it
+pub cleared_work : {V D U F : Type 0} (old : Contents V D U F) (left : List ℕ) (room_was room : ℕ)
+    → length old.undirected ≤ 3 * length old.vertices → 3 * length old.vertices ≤ room_was
+    → room ≡ room_was → left ≡ [] → IsWorkList old left room
+cleared_work old left room_was room few fits same cleared = record {
+  edges = subst (AreEdges old.mesh) (sym cleared) none;
+  room = omega (arith, few, fits, same);
+}
   where
-    no_edges : (m : Mesh) → AreEdges m []
-    no_edges m = record { within = λ k c. absurd (Contains-none k c); once = once_none }
+    none : AreEdges old.mesh []
+    none = record { within = λ k c. absurd (Contains-none k c); once = once_none }
 
 -- the edges that the last piece of a path leaves to test are all that are left
 pub more_is_left : {V D U F : Type 0} (at : V → Point) (marks : U → Bool) (marked_as : U → U)
-    (constraints : List U → List ℕ) (old now new : Contents V D U F) (i j : ℕ) (was left : List ℕ) →
-    now.vertices ≡ old.vertices
-    → LeavesToTest (map at old.vertices) old now was →
-    LeavesPiece (map at now.vertices) marks marked_as constraints now new i j was left →
-    LeavesToTest (map at old.vertices) old new left
-more_is_left {V = V} at marks marked_as constraints old now new i j was left same first piece =
+    (constraints : List U → List ℕ) (old now new : Contents V D U F) (i j : ℕ)
+    (given was left : List ℕ) → now.vertices ≡ old.vertices
+    → LeavesToTest (map at old.vertices) old now given was
+    → LeavesPiece (map at now.vertices) marks marked_as constraints now new i j was left
+    → LeavesToTest (map at old.vertices) old new given left
+more_is_left {V = V} at marks marked_as constraints old now new i j given was left same first
+    piece =
     record {
       edges = piece.edges;
       leaves =
@@ -401,9 +523,9 @@ more_is_left {V = V} at marks marked_as constraints old now new i j was left sam
     }
 
 -- the work list keeps its room for each edge
-pub work_fits : {V D U F : Type 0} (old now : Contents V D U F) (left : List ℕ) (room_was room : ℕ)
-    → length now.undirected ≡ length old.undirected
-    → length old.undirected ≤ 3 * length old.vertices → 3 * length old.vertices ≤ room_was
-    → room ≡ room_was → AreEdges now.mesh left → IsWorkList now left room
-work_fits old now left room_was room count few fits same edges =
-    record { edges = edges; room = omega (arith, count, few, fits, same) }
+pub work_fits : {V D U F : Type 0} (old now : Contents V D U F) (was left : List ℕ)
+    (room_was room : ℕ) → length now.undirected ≡ length old.undirected
+    → IsWorkList old was room_was → room ≡ room_was → AreEdges now.mesh left
+    → IsWorkList now left room
+work_fits old now was left room_was room count work same edges =
+    let fits = work.room in record { edges = edges; room = omega (arith, count, fits, same) }

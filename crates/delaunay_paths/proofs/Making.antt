@@ -25,7 +25,7 @@ use Rattle.mesh_embedding.proofs.MeshEdits.{flipped_faces}
 use Rattle.delaunay_legalization.specs.Known.{point_at}
 use Rattle.delaunay_legalization.proofs.Questions.{both_ways}
 use Rattle.delaunay_paths.specs.Crossing.{CrossesFromRight, IsLastBelow}
-use Rattle.delaunay_paths.specs.Kept.{KeepsUncrossed}
+use Rattle.delaunay_paths.specs.Kept.{KeepsUncrossed, KeepsUncrossedFaces}
 use Rattle.delaunay_paths.specs.Leaving.{AllPassBeyond, IsWorkList, MakesEdge, TurnsTowards}
 use Rattle.delaunay_paths.proofs.LeftToTest.{flip_leaves, passing_ends}
 use Rattle.delaunay_paths.proofs.Walking.{placed_apart}
@@ -42,8 +42,9 @@ free_on points m n i j free = record {
 }
 
 -- what stays twice stays
-kept_on : (points : List Point) (old now new : Mesh) (i j : ℕ) → KeepsUncrossed points old now i j
-    → KeepsUncrossed points now new i j → KeepsUncrossed points old new i j
+pub kept_on : (points : List Point) (old now new : Mesh) (i j : ℕ)
+    → KeepsUncrossed points old now i j → KeepsUncrossed points now new i j
+    → KeepsUncrossed points old new i j
 kept_on points old now new i j first second h clear =
     let a = first h clear in
     let b =
@@ -52,6 +53,13 @@ kept_on points old now new i j first second h clear =
   where
     Crossed : ℕ → ℕ → Type 0
     Crossed v y = Cross (place points i) (place points j) (place points v) (place points y)
+
+-- faces that stay twice stay
+pub faces_kept_on : (points : List Point) (old now new : Mesh) (i j : ℕ)
+    → KeepsUncrossedFaces points old now i j → KeepsUncrossedFaces points now new i j
+    → KeepsUncrossedFaces points old new i j
+faces_kept_on points old now new i j before after f t there first second third =
+    after f t (before f t there first second third) first second third
 
 -- ---- one turn
 module _ {V D U F : Type 0} (at : V → Point) (c : Contents V D U F) (mesh : IsMeshWithData c)
@@ -92,6 +100,13 @@ module _ {V D U F : Type 0} (at : V → Point) (c : Contents V D U F) (mesh : Is
       turns : FlipsTriangles c.mesh new (2 * (e / 2))
       turns = subst (λ (l : ℕ). FlipsTriangles c.mesh new (2 * l)) is change
 
+      -- each inner face with no side that crosses has its corners
+      pub turn_keeps_faces : new ≡ flipped c.mesh (2 * k)
+          → KeepsUncrossedFaces points c.mesh new i j
+      turn_keeps_faces turned =
+          T.turned_keeps_faces points c.mesh mesh.valid i j local free e e_in last_of_all new
+          (turned ∙ ap (λ (l : ℕ). flipped c.mesh (2 * l)) is) turns
+
       -- the sum over the edges that cross falls
       pub turn_lowers : crossing_sum points (faces_of new) i j
           < crossing_sum points (faces_of c.mesh) i j
@@ -117,6 +132,7 @@ module _ {V D U F : Type 0} (at : V → Point) (c : Contents V D U F) (mesh : Is
       contents = contents;
       shape = turn_has_shape k is new.mesh change outer;
       kept = turn_keeps k is new.mesh turned;
+      faces_kept = turn_keeps_faces k is new.mesh change turned;
       lower = turn_lowers k is new.mesh change;
       edges = record {
         within =
@@ -146,6 +162,7 @@ pub record IsMaking {V D U F : Type 0} (at : V → Point) (old now : Contents V 
   pub contents : now ≡ record old { mesh = now.mesh }
   pub shape : IsMesh (map at old.vertices) (faces_of now.mesh) (outer_of now.mesh)
   pub kept : KeepsUncrossed (map at old.vertices) old.mesh now.mesh i j
+  pub faces_kept : KeepsUncrossedFaces (map at old.vertices) old.mesh now.mesh i j
   pub edges : AreEdges now.mesh left
   pub leaves : (constraints : List (ℕ × ℕ))
       → AllPassBut (map at old.vertices) (faces_of old.mesh) constraints (pairs_at old.mesh was)
@@ -161,6 +178,7 @@ making_begins at old i j was room shape work = record {
   contents = refl;
   shape = shape;
   kept = λ h clear. (refl, refl);
+  faces_kept = λ f t there first second third. there;
   edges = work.edges;
   leaves = λ constraints passing u v k l f g clear free untested. passing u v k l f g free untested;
   same_room = refl;
@@ -207,6 +225,7 @@ module _ {V D U F : Type 0} (at : V → Point) (old now : Contents V D U F) (i j
         shape = making.shape;
         edge = edge_is;
         kept = making.kept;
+        faces_kept = making.faces_kept;
         edges = making.edges;
         leaves = λ constraints passing. passing_ends
             (map at old.vertices) now.mesh mesh.valid making.shape i j apart constraints
@@ -232,6 +251,9 @@ module _ {V D U F : Type 0} (at : V → Point) (old now : Contents V D U F) (i j
           same turns.shape;
       kept = kept_on (map at old.vertices) old.mesh now.mesh new.mesh i j making.kept (subst
           (λ (vs : List V). KeepsUncrossed (map at vs) now.mesh new.mesh i j) same turns.kept);
+      faces_kept = faces_kept_on (map at old.vertices) old.mesh now.mesh new.mesh i j
+          making.faces_kept (subst (λ (vs : List V).
+          KeepsUncrossedFaces (map at vs) now.mesh new.mesh i j) same turns.faces_kept);
       edges = turns.edges;
       leaves = λ constraints passing. subst (λ (vs : List V). AllPassBeyond (map at vs)
           (faces_of new.mesh) constraints (pairs_at new.mesh more) i j) same

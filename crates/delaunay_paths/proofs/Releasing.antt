@@ -231,8 +231,8 @@ constraints_added {V = V} {D = D} {U = U} {F = F} at marks marked constraints ol
 -- ---- after a path was added
 module _ {V D U F : Type 0} (at : V → Point) (marks : U → Bool) (marked : U → U)
     (constraints : List U → List ℕ) (old mid : Contents V D U F) (i j : ℕ)
-    (adds : AddsPath at marks marked constraints old mid i j) (left : List ℕ)
-    (leaves : LeavesToTest (map at old.vertices) old mid left) where
+    (adds : AddsPath at marks marked constraints old mid i j) (was left : List ℕ)
+    (leaves : LeavesToTest (map at old.vertices) old mid was left) where
   -- all passed but the constraints, and these are constraints still
   pub added_passing : IsDelaunayTriangulation at constraints (state_of old)
       → AllPassBut (map at mid.vertices) (faces_of mid.mesh)

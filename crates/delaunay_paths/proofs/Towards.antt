@@ -1,18 +1,18 @@
 -- The last edge of a mesh that crosses a segment is turned.
 use Rattle.std.proofs.Common.{◌≡◌, ◌≢◌, ◌⊎◌, ◌*◌, ◌/◌, ◌<◌, [], ◌∷◌, ◌∙◌}
-use Rattle.std.proofs.Common.{ℕ, List, length, sym, ap, subst}
+use Rattle.std.proofs.Common.{ℕ, List, length, refl, sym, ap, subst}
 use mathlib.Core.Logic.{inl, inr}
-use Rattle.std.specs.Prelude.{Contains}
+use Rattle.std.specs.Prelude.{Contains, Some, slice_get}
 use Rattle.half_edge_mesh.specs.Mesh.{Mesh, AreSoundLinks, IsValidMesh, origin, next, prev, face}
 use Rattle.half_edge_mesh.specs.Mesh.{rev}
 use Rattle.half_edge_mesh.specs.Flip.{IsFlippable, Flips, flipped}
 use Rattle.half_edge_mesh.specs.Outline.{KeepsOuter}
-use Rattle.half_edge_mesh.specs.Triangles.{FlipsTriangles}
+use Rattle.half_edge_mesh.specs.Triangles.{FlipsTriangles, triangles}
 use Rattle.half_edge_links.proofs.Faces.FlipLemmas.{flips_is}
 use Rattle.half_edge_links.proofs.Faces.FlipSound.{origin_kept}
 use Rattle.half_edge_links.proofs.Lists.Rev.{rev-rev, rev_within}
 use Rattle.plane.specs.Fraction.{Point}
-use Rattle.plane.specs.Pairs.{place}
+use Rattle.plane.specs.Pairs.{place, Joins}
 use Rattle.plane.specs.Side.{side, right, on, opposite, TurnsLeft}
 use Rattle.plane.specs.Laws.{turn_at}
 use Rattle.plane.specs.Crossing.{Cross}
@@ -24,6 +24,7 @@ use Rattle.plane_tiling.proofs.Loops.{mesh_tiles}
 use Rattle.plane_tiling.proofs.Meshes.{meshes_tile}
 use Rattle.plane_edits.specs.Change.{FacesChange}
 use Rattle.plane_edits.specs.Legal.{point_of}
+use Rattle.plane_edits.proofs.LocalMesh.Changes.{each, each_none}
 use Rattle.plane_edits.proofs.LocalMesh.Kept.{flip_kept}
 use Rattle.plane_segments.specs.Measure.{crossing_sum}
 use Rattle.plane_segments.specs.Path.{IsFreeOfVertices, IsCrossing, IsLastRight, IsLastLeft}
@@ -35,18 +36,19 @@ use Rattle.plane_segments.proofs.Crossing.PathFlips.{piece_on_line_is_edge}
 use Rattle.plane_segments.proofs.Crossing.Paths.{chosen_flip_is_convex, uncrossed_is_edge}
 use Rattle.plane_segments.proofs.Crossing.Turns.{left_turn, turn-same}
 use Rattle.mesh_embedding.specs.Drawn.{drawn, faces_of, edges_of, outer_of}
-use Rattle.mesh_embedding.specs.Stays.{GoSameWay}
+use Rattle.mesh_embedding.specs.Stays.{GoSameWay, HasSideIn, StaysBut}
 use Rattle.mesh_embedding.proofs.FaceChanges.{turned_faces}
 use Rattle.mesh_embedding.proofs.MeshEdits.{face_before, face_behind, flipped_faces}
 use Rattle.mesh_embedding.proofs.MeshLegal.{between_inner}
 use Rattle.mesh_embedding.proofs.MeshStarFlips.{from_other_side}
-use Rattle.mesh_embedding.proofs.MeshStays.{halved}
+use Rattle.mesh_embedding.proofs.MeshStays.{halved, stays_none, stays_turned}
 use Rattle.mesh_embedding.proofs.OuterChanges.{own_ends, outer_kept}
 use Rattle.mesh_embedding.proofs.OuterEdges.{listed}
 use Rattle.mesh_embedding.proofs.OwnEdges.{own_edges}
+use Rattle.mesh_embedding.proofs.WorkLists.{contains_last}
 use Rattle.delaunay_legalization.proofs.Legalizing.{positive}
 use Rattle.delaunay_paths.specs.Crossing.{CrossesFromRight, CrossesSegment, IsLastBelow}
-use Rattle.delaunay_paths.specs.Kept.{KeepsUncrossed}
+use Rattle.delaunay_paths.specs.Kept.{KeepsUncrossed, KeepsUncrossedFaces}
 use Rattle.mesh_embedding.proofs.EdgePairs.{edge_joins, joins_edge}
 
 -- ---- the ends of edges that are not turned
@@ -266,3 +268,76 @@ module _ (points : List Point) (m : Mesh) (s : IsValidMesh m) (i j : ℕ) where
         others_stay m new (2 * (e / 2)) s.sound can_turn_last.0
         (flips_is m new (2 * (e / 2)) s.sound can_turn_last.0 is) h
         (λ q. clear (crosses_at h (twins h (inl q)))) (λ q. clear (crosses_at h (twins h (inr q))))
+
+    -- the directed edge that is turned
+    abbrev turned : ℕ
+    turned = 2 * (e / 2)
+
+    -- it can be turned
+    can : IsFlippable m turned
+    can = can_turn_last.0
+
+    -- it ends where the next edge starts
+    ends_next : origin m (next m turned) ≡ origin m (rev turned)
+    ends_next = (s.sound.edges turned can.within).starts
+
+    -- the segment crosses that of two vertices, in either order
+    abbrev BothCross : ℕ → ℕ → Type 0
+    BothCross k l = Cross (place points i) (place points j) (place points k) (place points l)
+        × Cross (place points i) (place points j) (place points l) (place points k)
+
+    -- its pair
+    abbrev turned_pair : List (ℕ × ℕ)
+    turned_pair = (origin m turned, origin m (next m turned)) ∷ []
+
+    -- the segment crosses it
+    both_cross : BothCross (origin m turned) (origin m (next m turned))
+    both_cross = subst (λ (k : ℕ). BothCross (origin m turned) k) (sym ends_next) (
+      crosses_at turned (twins turned (inl refl)),
+      subst (λ (k : ℕ). Cross (place points i) (place points j)
+          (place points (origin m (rev turned))) (place points (origin m k))) (rev-rev turned)
+          (crosses_at (rev turned) (twins (rev turned) (inr refl))),
+    )
+
+    -- and so each entry of the list of its pair
+    listed_crosses : (y : ℕ × ℕ) → Contains turned_pair y → BothCross y.0 y.1
+    listed_crosses = each (λ (y : ℕ × ℕ). BothCross y.0 y.1)
+        (origin m turned, origin m (next m turned)) [] both_cross
+        (each_none (λ (y : ℕ × ℕ). BothCross y.0 y.1))
+
+    -- the segment crosses each pair that is joined by it
+    joined_crosses : (k l : ℕ) → Joins turned_pair k l
+        → Cross (place points i) (place points j) (place points k) (place points l)
+    joined_crosses k l (inl c) = (listed_crosses (k, l) c).0
+    joined_crosses k l (inr c) = (listed_crosses (l, k) c).1
+
+    -- an empty list has no other entry
+    none_listed : (y : ℕ × ℕ) → Contains [] y → Contains turned_pair y
+    none_listed = each_none (λ (y : ℕ × ℕ). Contains turned_pair y)
+
+    -- and joins no other pair
+    none_joined : (k l : ℕ) → Joins [] k l → Joins turned_pair k l
+    none_joined k l (inl c) = inl (none_listed (k, l) c)
+    none_joined k l (inr c) = inr (none_listed (l, k) c)
+
+    -- the turn of edge e keeps each inner face with no side that crosses the segment
+    pub turned_keeps_faces : (new : Mesh) → new ≡ flipped m turned → FlipsTriangles m new turned
+        → KeepsUncrossedFaces points m new i j
+    turned_keeps_faces new is change f corners there first second third =
+        go (stays.faces f corners there)
+      where
+        moves : Flips m new turned
+        moves = flips_is m new turned s.sound can is
+
+        stays : StaysBut turned_pair m new
+        stays = stays_turned m m new [] turned_pair turned s.sound can.within can.inner
+            can.twin_inner moves.edge_count (others_stay m new turned s.sound can moves) change
+            (inl (contains_last [] (origin m turned, origin m (next m turned)))) none_joined
+            (stays_none m)
+
+        go : (slice_get (triangles new) f ≡ Some corners) ⊎ HasSideIn turned_pair corners
+            → slice_get (triangles new) f ≡ Some corners
+        go (inl same) = same
+        go (inr (inl c)) = absurd (first (joined_crosses corners.first corners.second c))
+        go (inr (inr (inl c))) = absurd (second (joined_crosses corners.second corners.third c))
+        go (inr (inr (inr c))) = absurd (third (joined_crosses corners.third corners.first c))

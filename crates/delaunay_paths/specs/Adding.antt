@@ -1,7 +1,7 @@
 -- What becomes of a triangulation where the pieces of a path between two of its vertices become
 -- constraints.
 use Rattle.std.specs.Prelude.{◌≡◌, ◌⊎◌, ◌/◌, ◌<◌}
-use Rattle.std.specs.Prelude.{ℕ, Bool, true, false, List, length, Some, slice_get, slice_set}
+use Rattle.std.specs.Prelude.{ℕ, Bool, true, false, List, length, map, Some, slice_get, slice_set}
 use Rattle.half_edge_mesh.specs.Contents.{Contents}
 use Rattle.half_edge_mesh.specs.Mesh.{origin, rev}
 use Rattle.plane.specs.Crossing.{Cross}
@@ -11,6 +11,7 @@ use Rattle.plane.specs.Plain.{CanAdd, Adds}
 use Rattle.delaunay_legalization.specs.Constraints.{points_and_constraints_by}
 use Rattle.delaunay_legalization.specs.Shape.{IsTriangulated}
 use Rattle.delaunay_legalization.specs.State.{state_of}
+use Rattle.delaunay_paths.specs.Kept.{KeepsUncrossed, KeepsUncrossedFaces}
 
 -- no pair crosses the segment of i and j
 abbrev pub NoneCrosses : List Point → List (ℕ × ℕ) → ℕ → ℕ → Type 0
@@ -55,7 +56,7 @@ pub record MarksBetween {V D U F : Type 0} (marks : U → Bool) (marked : U → 
   pub target : origin old.mesh (rev edge) ≡ j
   pub marks_edge : MarksEdge marks marked old new (edge / 2)
 
--- the pieces of the path from i to j became constraints
+-- the pieces of the path from i to j became constraints, and what does not cross it stays
 pub record AddsPath {V D U F : Type 0} (at : V → Point) (marks : U → Bool) (marked : U → U)
     (constraints : List U → List ℕ) (old new : Contents V D U F) (i j : ℕ) : Type 0 where
   pub contents : new ≡ record old { mesh = new.mesh; undirected = new.undirected }
@@ -63,3 +64,5 @@ pub record AddsPath {V D U F : Type 0} (at : V → Point) (marks : U → Bool) (
   pub plain : Adds at (points_and_constraints_by constraints (state_of old))
       (points_and_constraints_by constraints (state_of new)) i j
   pub kept : IsTriangulated at (state_of new)
+  pub edges_kept : KeepsUncrossed (map at old.vertices) old.mesh new.mesh i j
+  pub faces_kept : KeepsUncrossedFaces (map at old.vertices) old.mesh new.mesh i j

@@ -1,7 +1,10 @@
 -- What stays where a segment between two vertices is made an edge.
-use Rattle.std.specs.Prelude.{ℕ, List}
+use Rattle.std.specs.Prelude.{◌≡◌, ℕ, List, Some, slice_get}
 use Rattle.half_edge_mesh.specs.Mesh.{Mesh}
+use Rattle.half_edge_mesh.specs.Triangles.{Triangle, triangles}
+use Rattle.plane.specs.Crossing.{Cross}
 use Rattle.plane.specs.Fraction.{Point}
+use Rattle.plane.specs.Pairs.{place}
 use Rattle.mesh_embedding.specs.Stays.{GoSameWay}
 use Rattle.delaunay_paths.specs.Crossing.{CrossesSegment}
 
@@ -9,3 +12,13 @@ use Rattle.delaunay_paths.specs.Crossing.{CrossesSegment}
 abbrev pub KeepsUncrossed : List Point → Mesh → Mesh → ℕ → ℕ → Type 0
 KeepsUncrossed points old new i j =
     (h : ℕ) → ¬ CrossesSegment points old i j h → GoSameWay old h new h
+
+-- each inner face with no side that crosses the segment from i to j has its corners, under its
+-- index
+abbrev pub KeepsUncrossedFaces : List Point → Mesh → Mesh → ℕ → ℕ → Type 0
+KeepsUncrossedFaces points old new i j =
+    (f : ℕ) (t : Triangle) → slice_get (triangles old) f ≡ Some t
+    → ¬ Cross (place points i) (place points j) (place points t.first) (place points t.second)
+    → ¬ Cross (place points i) (place points j) (place points t.second) (place points t.third)
+    → ¬ Cross (place points i) (place points j) (place points t.third) (place points t.first)
+    → slice_get (triangles new) f ≡ Some t

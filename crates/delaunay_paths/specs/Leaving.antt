@@ -1,5 +1,5 @@
 -- What a path leaves to the circle test.
-use Rattle.std.specs.Prelude.{◌≡◌, ℕ, ◌<◌, ◌≤◌, List, [], length}
+use Rattle.std.specs.Prelude.{◌≡◌, ℕ, ◌<◌, ◌≤◌, List, length}
 use Rattle.half_edge_mesh.specs.Contents.{Contents}
 use Rattle.half_edge_mesh.specs.Mesh.{Mesh}
 use Rattle.plane.specs.Crossing.{Cross}
@@ -12,7 +12,7 @@ use Rattle.plane_tiling.specs.Local.{IsMesh}
 use Rattle.plane_segments.specs.Measure.{crossing_sum}
 use Rattle.mesh_embedding.specs.Drawn.{drawn, faces_of, outer_of}
 use Rattle.mesh_embedding.specs.Legal.{AreEdges, pairs_at}
-use Rattle.delaunay_paths.specs.Kept.{KeepsUncrossed}
+use Rattle.delaunay_paths.specs.Kept.{KeepsUncrossed, KeepsUncrossedFaces}
 
 -- each edge between two faces passes, but perhaps constraints, those that are left to test, and
 -- those that cross the segment from i to j
@@ -36,6 +36,7 @@ pub record TurnsTowards {V D U F : Type 0} (points : List Point) (old new : Cont
   pub contents : new ≡ record old { mesh = new.mesh }
   pub shape : IsMesh points (faces_of new.mesh) (outer_of new.mesh)
   pub kept : KeepsUncrossed points old.mesh new.mesh i j
+  pub faces_kept : KeepsUncrossedFaces points old.mesh new.mesh i j
   pub lower : crossing_sum points (faces_of new.mesh) i j
       < crossing_sum points (faces_of old.mesh) i j
   pub edges : AreEdges new.mesh left
@@ -57,12 +58,13 @@ pub record MakesEdge {V D U F : Type 0} (points : List Point) (old new : Content
   pub shape : IsMesh points (faces_of new.mesh) (outer_of new.mesh)
   pub edge : IsEdge (drawn points new.mesh) i j
   pub kept : KeepsUncrossed points old.mesh new.mesh i j
+  pub faces_kept : KeepsUncrossedFaces points old.mesh new.mesh i j
   pub edges : AreEdges new.mesh left
   pub leaves : LeavesFailing points old.mesh new.mesh was left
 
--- where all passed before, only these edges are left to test
+-- the edges that are left to test are edges of the mesh, each once, and each edge that may fail is
+-- one of them
 pub record LeavesToTest {V D U F : Type 0} (points : List Point) (old new : Contents V D U F)
-    (left : List ℕ) : Type 0 where
+    (was left : List ℕ) : Type 0 where
   pub edges : AreEdges new.mesh left
-  pub leaves : (pairs : List (ℕ × ℕ)) → AllPassBut points (faces_of old.mesh) pairs [] →
-      AllPassBut points (faces_of new.mesh) pairs (pairs_at new.mesh left)
+  pub leaves : LeavesFailing points old.mesh new.mesh was left

@@ -1,5 +1,5 @@
 //! Constraints along the path between two vertices.
-ghost use Rattle.std.specs.Prelude.{◌≡◌, ◌≢◌, ◌↔◌, ◌*◌, ◌<◌, ◌≤◌};
+ghost use Rattle.std.specs.Prelude.{◌≡◌, ◌≢◌, ◌↔◌, ◌<◌};
 ghost use Rattle.std.specs.Prelude.{true, length, map, All, IsTrue, IfNone, IfSome, vec_capacity};
 ghost use Rattle.half_edge_mesh.specs.Contents.{IsMeshWithData};
 ghost use Rattle.plane.specs.Pairs.{Joins};
@@ -10,7 +10,7 @@ ghost use Rattle.delaunay_legalization.specs.Shape.{IsTriangulated};
 ghost use Rattle.delaunay_legalization.specs.State.{state_of};
 ghost use Rattle.delaunay_paths.specs.Adding.{AddsPath, CanAddPath, HasFreeWay, MarksBetween};
 ghost use Rattle.delaunay_paths.specs.Adding.{MarksEdge};
-ghost use Rattle.delaunay_paths.specs.Leaving.{LeavesToTest};
+ghost use Rattle.delaunay_paths.specs.Leaving.{IsWorkList, LeavesToTest};
 
 use crate::flips::make_edge;
 use crate::joined::edge_between;
@@ -95,9 +95,10 @@ pub(crate) fn next_piece<V: HasPosition, DE, UE, F, P: PlaneTests<V::Scalar>>(
 }
 
 /// Makes constraints of the pieces of the path between two vertices, whose segment no constraint
-/// crosses: each of its vertices is joined to the next. Edges that cross a piece are flipped, and
-/// no circle test is made: where each edge passed before, only those that are then in `work`, which
-/// has room for each edge, may fail.
+/// crosses: each of its vertices is joined to the next. Edges that cross a piece are flipped; each
+/// edge that does not cross the segment keeps its index, and so does each face with no side that
+/// crosses it. No circle test is made: where only edges in `work`, which has room for each edge,
+/// may fail before, only edges in it may fail afterwards.
 pub fn add_path<M: ConstraintMarker<UE>, V: HasPosition, DE, UE, F, P: PlaneTests<V::Scalar>>(
     dcel: &mut Dcel<V, DE, UE, F>,
     from: FixedVertexHandle,
@@ -109,13 +110,13 @@ pub fn add_path<M: ConstraintMarker<UE>, V: HasPosition, DE, UE, F, P: PlaneTest
     requires way { HasFreeWay V.place M.constraints dcel.old from to }
     requires kept { IsTriangulated V.place (state_of dcel.old) }
     requires sites { All (P.sites tests.now) (map V.place dcel.old.vertices) }
-    requires room { 3 * length dcel.old.vertices ≤ vec_capacity work.old }
+    requires work { IsWorkList dcel.old work.old.items (vec_capacity work.old) }
 
     ensures adds { AddsPath V.place M.marks M.marked M.constraints dcel.old dcel.new from to }
-    ensures leaves { LeavesToTest (map V.place dcel.old.vertices) dcel.old dcel.new work.new.items }
+    ensures leaves { LeavesToTest (map V.place dcel.old.vertices) dcel.old dcel.new work.old.items
+        work.new.items }
     ensures capacity { vec_capacity work.new ≡ vec_capacity work.old }
 {
-    work.clear();
     let mut at = from;
     while let Some(next) = next_piece(dcel, at, to, tests) {
         make_edge(dcel, at, next, tests, work);

@@ -42,6 +42,7 @@ pub fn add_constraints<
         to }
     ensures counted { CountsFlips (length dcel.old.vertices) flips.old flips.new }
 {
+    work.clear();
     add_path::<M, _, _, _, _, _>(dcel, from, to, tests, work);
     legalize::<M, _, _, _, _, _>(dcel, tests, work, flips);
     dcel.recall_invariant();

@@ -40,8 +40,8 @@ fn turn_last<V: HasPosition, DE, UE, F, P: PlaneTests<V::Scalar>>(
 }
 
 /// Makes an edge of the segment between two vertices with none strictly between. Each edge that
-/// does not cross the segment stays, under its index. `work` has room for each edge; each that may
-/// fail the circle test is put in.
+/// does not cross the segment stays, under its index, and so does each face with no side that does.
+/// `work` has room for each edge; each that may fail the circle test is put in.
 pub fn make_edge<V: HasPosition, DE, UE, F, P: PlaneTests<V::Scalar>>(
     dcel: &mut Dcel<V, DE, UE, F>,
     from: FixedVertexHandle,

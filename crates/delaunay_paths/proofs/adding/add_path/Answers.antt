@@ -1,6 +1,5 @@
-use Rattle.std.proofs.Common.{ℕ, List, map, sym, ◌∙◌, subst}
-use Rattle.delaunay_paths.specs.Leaving.{LeavesToTest}
-use Rattle.delaunay_paths.proofs.AddingPieces.{piece_made, more_is_left, none_is_left, same}
+use Rattle.std.proofs.Common.{map, refl, ◌∙◌}
+use Rattle.delaunay_paths.proofs.AddingPieces.{piece_made, more_is_left, same_are_left, same}
 use Rattle.delaunay_paths.proofs.AddingPieces.{work_fits, adding_to_begins, adding_sites}
 use Rattle.delaunay_paths.proofs.AddingPieces.{adding_shape, adding_index, adding_at, adding_free}
 use Rattle.delaunay_paths.proofs.AddingPieces.{adding_clear, adding_to_goes_on, adding_shortens}
@@ -14,18 +13,16 @@ loop-next-init g c =
       adding_to_begins m.marks m.constraints marked g.V.HasPosition.place m.marked c.args.dcel.now
           c.args.from c.args.to
           c.requires.kept c.requires.way.from,
-      subst (λ (ks : List ℕ). LeavesToTest
-          (map g.V.HasPosition.place c.args.dcel.now.vertices) c.args.dcel.now
-          c.args.dcel.now ks) (sym {A = List ℕ} c.clear.ensures.items)
-          (none_is_left (map g.V.HasPosition.place c.args.dcel.now.vertices) c.args.dcel.now),
-      c.clear.ensures.capacity,
+      same_are_left (map g.V.HasPosition.place c.args.dcel.now.vertices) c.args.dcel.now
+          c.args.work.now.items c.requires.work.edges,
+      refl,
     )
 
 pub make_edge-requires-clause-work : goal.make_edge-requires-clause-work
 make_edge-requires-clause-work g c =
-    work_fits c.args.dcel.now c.loop-next.dcel c.loop-next.work.items _ _
-    c.loop-next.invariant.0.count
-    c.requires.kept.few_edges c.requires.room c.loop-next.invariant.2 c.loop-next.invariant.1.edges
+    work_fits c.args.dcel.now c.loop-next.dcel c.args.work.now.items c.loop-next.work.items _ _
+    c.loop-next.invariant.0.count c.requires.work c.loop-next.invariant.2
+    c.loop-next.invariant.1.edges
 
 pub next_piece-requires-clause-from_in : goal.next_piece-requires-clause-from_in
 next_piece-requires-clause-from_in g c =
@@ -118,12 +115,11 @@ loop-next-preserved g c =
           c.loop-next.invariant.0
           c.in-Some.next c.in-Some.ensures.apart c.in-Some.ensures.next
           (λ x. g.met.M.ConstraintMarker.marked_has_mark x c.requires.can_mark)
-          c.mark_between.new.dcel piece.adds
-          piece.mesh piece.shape,
+          c.mark_between.new.dcel c.loop-next.work.items c.make_edge.new.work.items piece,
       more_is_left g.V.HasPosition.place m.marks m.marked m.constraints c.args.dcel.now
           c.loop-next.dcel
-          c.mark_between.new.dcel c.loop-next.at c.in-Some.next c.loop-next.work.items
-          c.make_edge.new.work.items
+          c.mark_between.new.dcel c.loop-next.at c.in-Some.next c.args.work.now.items
+          c.loop-next.work.items c.make_edge.new.work.items
           (same m.marks m.constraints marked g.V.HasPosition.place m.marked c.args.dcel.now
           c.loop-next.dcel c.args.from
           c.args.to c.loop-next.at c.requires.way.from c.requires.way.to c.loop-next.invariant.0)

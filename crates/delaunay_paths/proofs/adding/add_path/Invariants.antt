@@ -11,8 +11,8 @@ invariant-loop-next g l = IsAddingTo g.M.ConstraintMarker.marks g.M.ConstraintMa
     g.met.M.ConstraintMarker.constraints_are_marked g.V.HasPosition.place
     g.M.ConstraintMarker.marked l.fn.dcel l.dcel
     l.fn.from l.fn.to l.at
-    × LeavesToTest (map g.V.HasPosition.place l.fn.dcel.vertices) l.fn.dcel l.dcel l.work.items ×
-    (vec_capacity l.work ≡ vec_capacity l.fn.work)
+    × LeavesToTest (map g.V.HasPosition.place l.fn.dcel.vertices) l.fn.dcel l.dcel l.fn.work.items
+    l.work.items × (vec_capacity l.work ≡ vec_capacity l.fn.work)
 
 abbrev pub decreases-loop-next : goal.decreases-loop-next
 decreases-loop-next g l =
