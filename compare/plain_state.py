@@ -21,9 +21,14 @@ class PlainState:
                     self.walls = self.walls - {(i, j)} | {(i, new), (j, new)}
         return self.points.index(p)
 
+    def halves(self, i):
+        """The far ends of the two constraints at vertex i, as a pair, where these are halves of a straight one."""
+        far = [k if m == i else m for k, m in self.walls if i in (k, m)]
+        return [tuple(far)] if len(far) == 2 and carries(*(self.points[k] for k in far), self.points[i]) else []
+
     def remove(self, i):
         last, gone = len(self.points) - 1, self.points[i]
-        kept = [wall for wall in self.walls if i not in wall]
+        kept = [wall for wall in self.walls if i not in wall] + self.halves(i)
         self.walls = {tuple(sorted(i if k == last else k for k in wall)) for wall in kept}
         self.points[i] = self.points[last]
         self.points.pop()

@@ -7,7 +7,7 @@ use Rattle.std.proofs.lemmas.Bool.Decides.{eqb_tells}
 use Rattle.plane.specs.Fraction.{Point, whole}
 use Rattle.plane.specs.Pairs.{Joins, IsSamePair, EachPairOnce, place}
 use Rattle.plane.specs.Plain.{Plain, Adds, AreNeighboursOn, Carries, IsHalf, IsPlain, Releases}
-use Rattle.plane.specs.Plain.{Removes, points_of}
+use Rattle.plane.specs.Plain.{TakesOut, points_of}
 use Rattle.plane.proofs.Indexes.{pair_turned, same_joined}
 use Rattle.plane_tiling.proofs.Edges.{turned_within}
 use Rattle.plane_edits.proofs.Legalization.Flipping.{joins_or_not}
@@ -45,7 +45,7 @@ module _ {V : Type 0} (position : V → Point) (old new : Plain V)
       ))
 
   -- those that end at a vertex go with it
-  module _ (v k : ℕ) (plain : IsPlain position old) (removes : Removes position old new v)
+  module _ (v k : ℕ) (plain : IsPlain position old) (removes : TakesOut position old new v)
       (ending : HasPairs (EndsAt old.constraints v) k) where
     abbrev last : ℕ
     last = length old.vertices - 1

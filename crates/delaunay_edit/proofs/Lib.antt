@@ -22,3 +22,9 @@ pub mod CountingSplits
 pub mod Recounted
 pub mod EmptyRound
 pub mod FreeRemoval
+pub mod SeekingEnds
+pub mod FarEnds
+pub mod JoinedHalves
+pub mod JoiningData
+pub mod Settling
+pub mod JoinedPath

@@ -3,16 +3,14 @@ use Rattle.std.proofs.Common.{◌≡◌, ◌+◌, ◌-◌, ◌*◌, ◌≤◌, [
 use Rattle.std.proofs.Common.{ℕ, Bool, List, length, map, sym, ap, arith}
 use Rattle.plane.specs.Fraction.{Point}
 use Rattle.plane.specs.Pairs.{EachPairOnce}
-use Rattle.plane.specs.Plain.{Adds, IsPlain, Releases, Removes}
+use Rattle.plane.specs.Plain.{Adds, Releases}
 use Rattle.delaunay_legalization.specs.Constraints.{constraints_by, marked_edges}
 use Rattle.delaunay_legalization.specs.Constraints.{points_and_constraints_by}
 use Rattle.delaunay_legalization.specs.Shape.{IsDelaunayTriangulation}
 use Rattle.delaunay_legalization.specs.State.{State}
-use Rattle.delaunay_legalization.proofs.ConstraintEdges.{constraints_are_edges}
-use Rattle.delaunay_edit.specs.Counting.{EndsAt, HasPairs, IsCounted, IsMissing}
-use Rattle.delaunay_edit.proofs.Constrained.{plain_with_edges}
+use Rattle.delaunay_edit.specs.Counting.{HasPairs, IsCounted, IsMissing}
 use Rattle.delaunay_edit.proofs.DifferentConstraints.{constraints_once, few_constraints}
-use Rattle.delaunay_edit.proofs.EditCounts.{added_number, released_number, removed_number}
+use Rattle.delaunay_edit.proofs.EditCounts.{added_number, released_number}
 use Rattle.delaunay_edit.proofs.EditingConstraints.{neighbours_of, next_of}
 use Rattle.delaunay_edit.proofs.PairCounts.{has_pairs_as}
 
@@ -66,28 +64,3 @@ module _ {V D U F : Type 0} (place : V → Point) (marks : U → Bool) (constrai
         let few = few_constraints place marks constraints marked new legal.kept in
         let edges = legal.kept.few_edges in
         omega (arith, more, counted, few, edges)
-
-  -- a vertex goes, with so many
-  module _ (v k : ℕ) (removes : Removes place (points_and_constraints_by constraints old)
-      (points_and_constraints_by constraints new) v)
-      (ending : HasPairs (EndsAt (constraints_by constraints old) v) k) where
-    plain : IsPlain place (points_and_constraints_by constraints old)
-    plain = plain_with_edges place old was.legal.kept (constraints_by constraints old)
-        (constraints_are_edges marks constraints marked old.mesh old.undirected
-        was.legal.kept.fits.undirected_fit
-        was.legal.kept.valid)
-
-    fewer : length (constraints_by constraints old) ≡ k + length (constraints_by constraints new)
-    fewer =
-        removed_number place (points_and_constraints_by constraints old)
-        (points_and_constraints_by constraints new)
-        once_before once_after v k plain removes ending
-
-    -- where a vertex goes at which k constraints end, the number is less by k
-    pub counted_removed : IsCounted place constraints new (number - k)
-    counted_removed = let counted = was.counted in
-        record { legal = legal; counted = omega (arith, fewer, counted) }
-
-    -- and it was k or more
-    pub some_removed : k ≤ number
-    some_removed = let counted = was.counted in omega (arith, fewer, counted)

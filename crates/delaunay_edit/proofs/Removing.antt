@@ -8,7 +8,7 @@ use Rattle.half_edge_links.proofs.Removing.OpenSound.{length-swap_remove}
 use Rattle.mesh_embedding.proofs.MeshDrops.{mapped_swap_remove}
 use Rattle.half_edge_mesh.specs.Contents.{Contents}
 use Rattle.plane.specs.Fraction.{Point}
-use Rattle.plane.specs.Plain.{Removes}
+use Rattle.plane.specs.Plain.{Drops}
 use Rattle.delaunay_legalization.specs.Known.{point_at}
 use Rattle.delaunay_legalization.specs.Constraints.{constraints_by, points_and_constraints_by}
 use Rattle.delaunay_legalization.specs.State.{State, state_of}
@@ -23,7 +23,7 @@ read_place place vs i v e =
 
 -- ---- what is left
 module _ {V D U F : Type 0} (place : V → Point) (constraints : List U → List ℕ)
-    (old new : State V D U F) (v : ℕ) (value : V) (removes : Removes place
+    (old new : State V D U F) (v : ℕ) (value : V) {J : ℕ → ℕ → Type 0} (removes : Drops place J
     (points_and_constraints_by constraints old) (points_and_constraints_by constraints new) v) where
   count : length new.vertices ≡ length old.vertices - 1
   count = ap (λ vs. length vs) (removes.vertices value) ∙ length-swap_remove old.vertices v value
@@ -45,13 +45,14 @@ module _ {V D U F : Type 0} (place : V → Point) (constraints : List U → List
 
 -- edges are flipped afterwards
 pub removed_on : {V D U F : Type 0} (place : V → Point) (constraints : List U → List ℕ)
-    (old : State V D U F) (mid new : Contents V D U F) (v : ℕ)
-    → Removes place (points_and_constraints_by constraints old)
+    (old : State V D U F) (mid new : Contents V D U F) (v : ℕ) {J : ℕ → ℕ → Type 0}
+    → Drops place J (points_and_constraints_by constraints old)
     (points_and_constraints_by constraints (state_of mid)) v → new ≡ record mid { mesh = new.mesh }
     → constraints_by constraints (state_of new) ≡ constraints_by constraints (state_of mid)
-    → Removes place (points_and_constraints_by constraints old)
+    → Drops place J (points_and_constraints_by constraints old)
     (points_and_constraints_by constraints (state_of new)) v
-removed_on {V = V} {D = D} {U = U} {F = F} place constraints old mid new v removes contents pairs =
-    subst (λ (x : List V × List (ℕ × ℕ)). Removes place (points_and_constraints_by constraints old)
+removed_on {V = V} {D = D} {U = U} {F = F} place constraints old mid new v {J = J} removes contents
+    pairs =
+    subst (λ (x : List V × List (ℕ × ℕ)). Drops place J (points_and_constraints_by constraints old)
     (record { vertices = x.0; constraints = x.1 }) v)
     (λ o. (sym (ap (λ (c : Contents V D U F). c.vertices) contents) o, sym pairs o)) removes

@@ -12,3 +12,4 @@ pub mod Writing
 pub mod Storage
 pub mod ConstraintEdits
 pub mod Counting
+pub mod Halves

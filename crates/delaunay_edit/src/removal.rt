@@ -10,14 +10,17 @@ ghost use Rattle.delaunay_removal.specs.Data.{KeepsDataOfOthers};
 ghost use Rattle.delaunay_removal.specs.Pairs.{HasBorder};
 ghost use Rattle.delaunay_edit.specs.Counting.{EndsAt, HasPairs};
 ghost use Rattle.delaunay_edit.specs.Edits.{RemovesVertex};
+ghost use Rattle.delaunay_edit.specs.Halves.{AreHalvesAt, IsLoss};
 ghost use Rattle.delaunay_edit.specs.Headline.{AreSites, IsDelaunay};
 
 use crate::counting::count_constraints_at;
 use crate::edited_mesh::EditedMesh;
+use crate::halves::straight_halves;
+use crate::joining::settle;
 use delaunay_core::math::PlaneTests;
 use delaunay_core::point::HasPosition;
 use delaunay_legalization::ConstraintMarker;
-use delaunay_removal::{VertexPair, legalize_pairs, remove_vertex, sides_of_hole};
+use delaunay_removal::{VertexPair, remove_vertex, sides_of_hole};
 use half_edge_mesh::FixedVertexHandle;
 use std::alloc::AllocError;
 
@@ -72,8 +75,39 @@ impl<V: HasPosition, DE: Drop, UE: Drop, F: Drop, M: ConstraintMarker<UE>> Edite
         count_constraints_at::<M, _, _, _, _>(&self.dcel, vertex)
     }
 
-    // Takes a vertex out and tests what its turned edges join, and beside constraints the sides of
-    // its hole, or a refusal that changes nothing.
+    // The far ends of the halves of a straight constraint whose middle is a vertex, if it is that
+    // of one. Where there is no constraint it looks at no edge.
+    fn halves_at<P: PlaneTests<V::Scalar>>(
+        &self,
+        vertex: FixedVertexHandle,
+        tests: &P,
+    ) -> Option<VertexPair>
+        requires within { vertex < length self.now.vertices }
+        requires sites { All (P.sites tests.now) (map V.place self.now.vertices) }
+        ensures { AreHalvesAt V.place (points_and_constraints_by M.constraints self.now) vertex
+            result }
+    {
+        self.dcel.recall_invariant();
+        if self.num_constraints == 0 {
+            return None;
+        }
+        straight_halves::<M, _, _, _, _, _>(&self.dcel, vertex, tests)
+    }
+
+    // How many constraints fewer there are when a vertex goes.
+    fn count_lost(&self, vertex: FixedVertexHandle, halves: &Option<VertexPair>) -> usize
+        requires { vertex < length self.now.vertices }
+        ensures { IsLoss (constraints_by M.constraints self.now) vertex halves.now result }
+    {
+        match halves {
+            Some(_) => 1,
+            None => self.count_ending(vertex),
+        }
+    }
+
+    // Takes a vertex out, joins the halves of a straight constraint whose middle it is, and tests
+    // what its turned edges join, and beside constraints the sides of its hole; or a refusal that
+    // changes nothing.
     fn take_out<P: PlaneTests<V::Scalar>>(
         &mut self,
         vertex: FixedVertexHandle,
@@ -92,7 +126,8 @@ impl<V: HasPosition, DE: Drop, UE: Drop, F: Drop, M: ConstraintMarker<UE>> Edite
         self.work.reserve(3 * self.dcel.num_vertices())?;
         self.lists.reserve_for(&self.dcel)?;
         let border = self.sides_to_test(vertex)?;
-        let ending = self.count_ending(vertex);
+        let halves = self.halves_at(vertex, tests);
+        let lost = self.count_lost(vertex, &halves);
         let is_free = self.num_constraints == 0;
         let value = remove_vertex::<M, _, _, _, _, _>(
             &mut self.dcel,
@@ -102,9 +137,10 @@ impl<V: HasPosition, DE: Drop, UE: Drop, F: Drop, M: ConstraintMarker<UE>> Edite
             &mut self.lists,
         );
         let mut flips = 0;
-        legalize_pairs::<M, _, _, _, _, _>(
+        settle::<M, _, _, _, _, _>(
             &mut self.dcel,
             vertex,
+            halves,
             is_free,
             border.as_slice(),
             tests,
@@ -112,15 +148,16 @@ impl<V: HasPosition, DE: Drop, UE: Drop, F: Drop, M: ConstraintMarker<UE>> Edite
             &mut self.work,
             &mut flips,
         );
-        self.num_constraints -= ending;
+        self.num_constraints -= lost;
         Ok(value)
     }
 
     /// Removes a vertex, with the constraints that end at it, and gives it back; the last vertex
-    /// takes its handle. Handles of edges and faces change too. Each other constraint stays. An
-    /// edge that did not end at the vertex, or a face without that corner, that is there before and
-    /// after keeps its data, and so does the outer face. It gives `AllocError` where memory was
-    /// refused, and then nothing changes.
+    /// takes its handle. Where exactly two constraints end at it, and it is strictly between their
+    /// other ends, a constraint joins these then. Handles of edges and faces change too. Each other
+    /// constraint stays. An edge that did not end at the vertex, or a face without that corner,
+    /// that is there before and after keeps its data, and so does the outer face. It gives
+    /// `AllocError` where memory was refused, and then nothing changes.
     pub fn remove<P: PlaneTests<V::Scalar>>(
         &mut self,
         vertex: FixedVertexHandle,

@@ -175,10 +175,11 @@ pub trait Triangulation: Drop + sealed::Sealed {
             (state self.new) };
 
     /// Removes a vertex, with the constraints that end at it, and gives it back; the last vertex
-    /// takes its handle, and the hint generator is told. Handles of edges and faces change too.
-    /// Each other constraint stays. An edge that did not end at the vertex, or a face without that
-    /// corner, that is there before and after keeps its data, and so does the outer face. It gives
-    /// `AllocError` where memory was refused, and then nothing changes.
+    /// takes its handle, and the hint generator is told. Where exactly two constraints end at it,
+    /// and it is strictly between their other ends, a constraint joins these then. Handles of edges
+    /// and faces change too. Each other constraint stays. An edge that did not end at the vertex,
+    /// or a face without that corner, that is there before and after keeps its data, and so does
+    /// the outer face. It gives `AllocError` where memory was refused, and then nothing changes.
     ///
     /// ```
     /// if (vertex.index() as usize) < points.num_vertices() {

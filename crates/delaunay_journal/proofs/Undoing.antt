@@ -1,13 +1,18 @@
 -- A vertex that is put in and taken out again leaves the plain state as it was.
-use Rattle.std.proofs.Common.{◌≡◌, ◌≢◌, ◌-◌, ◌<◌, [], ◌∷◌, ◌++◌, ◌∙◌}
-use Rattle.std.proofs.Common.{ℕ, List, length, take, set, get_or, refl, sym, ap, subst, subst₂}
+use Rattle.std.proofs.Common.{◌≡◌, ◌≢◌, ◌⊎◌, ◌-◌, ◌<◌, [], ◌∷◌, ◌++◌, ◌∙◌}
+use Rattle.std.proofs.Common.{ℕ, List, length, map, take, set, get_or, refl, sym, ap, subst, subst₂}
 use Rattle.std.proofs.Common.{inl, inr, arith}
-use Rattle.std.specs.Prelude.{nat_eq, if◌then◌else◌, swap_remove}
+use Rattle.std.specs.Prelude.{nat_eq, if◌then◌else◌, pos, swap_remove}
 use Rattle.std.proofs.lemmas.Bool.Decides.{nat_tests}
-use Rattle.std.proofs.lemmas.List.{length-append}
-use Rattle.plane.specs.Fraction.{Point}
-use Rattle.plane.specs.Pairs.{Joins}
-use Rattle.plane.specs.Plain.{Plain, IsPlain, IsSameState, Appends, Carries, IsHalf, Removes}
+use Rattle.std.proofs.lemmas.List.{length-append, length-map, map-append, get_or_append_left}
+use Rattle.std.proofs.lemmas.List.{get_or_push}
+use Rattle.plane.specs.Fraction.{Point, whole, IsPositive, WithinSegment}
+use Rattle.plane.specs.Pairs.{Joins, IsSamePair, place}
+use Rattle.plane.specs.Plain.{Plain, IsPlain, IsSameState, points_of, Appends, Carries}
+use Rattle.plane.specs.Plain.{AreStraightHalves, Removes}
+use Rattle.plane.proofs.Means.{turned_mean_of_two}
+use Rattle.plane.proofs.Indexes.{turned_join}
+use Rattle.plane.proofs.Decisions.{Decision, decide_within_segment}
 
 -- without its last entry, which was put in behind it, a list is as it was
 without_last : {X : Type 0} (xs : List X) (x y : X)
@@ -27,53 +32,152 @@ taken_out xs x d =
 same_index : (n last k : ℕ) → k < n → (if nat_eq k n then last else k) ≡ k
 same_index n last k h = grind (arith, nat_tests)
 
+-- no index is below itself
+not_below_itself : (n k : ℕ) → k < n → k ≢ n
+not_below_itself n k h e = omega arith
+
 module _ {V : Type 0} (position : V → Point) (old mid new : Plain V) (v : V)
     (plain : IsPlain position old) (appends : Appends position old mid v)
-    (none : (i j : ℕ) → Joins old.constraints i j → ¬ Carries position old v i j)
+    (one : (i j k l : ℕ) → Joins old.constraints i j → Carries position old v i j
+    → Joins old.constraints k l → Carries position old v k l → IsSamePair i j k l)
     (removes : Removes position mid new (length old.vertices)) where
   last : length mid.vertices - 1 ≡ length old.vertices
   last = ap (λ vs. length vs - 1) appends.vertices ∙ one_longer old.vertices v
 
-  -- no pair became two halves
-  no_half : (i m : ℕ) → ¬ IsHalf position old v (length old.vertices) i m
-  no_half i m h = none i h.1.0 h.1.1 h.1.2
+  -- ---- places
+  -- the position of v comes last
+  points : points_of position mid ≡ points_of position old ++ position v ∷ []
+  points = ap (map position) appends.vertices ∙ map-append position old.vertices (v ∷ [])
 
-  joined : (i j : ℕ) → Joins mid.constraints i j → Joins old.constraints i j
-  joined i j h = elim ((appends.constraints i j).0 h) [
+  -- there are as many as vertices
+  count : length (points_of position old) ≡ length old.vertices
+  count = length-map old.vertices position
+
+  -- the places of the others are as they were
+  place_kept : (k : ℕ) → k < length old.vertices
+      → place (points_of position mid) k ≡ place (points_of position old) k
+  place_kept k h = ap (λ ps. place ps k) points
+      ∙ ap whole (get_or_append_left (points_of position old) (position v ∷ [])
+      (record { x = pos 0; y = pos 0 }) k (subst (λ n. k < n) (sym count) h))
+
+  -- and v is at its own
+  place_of_new : place (points_of position mid) (length old.vertices) ≡ whole (position v)
+  place_of_new = ap (λ ps. place ps (length old.vertices)) points
+      ∙ ap whole (get_or_push (points_of position old) (position v)
+      (record { x = pos 0; y = pos 0 }) (length old.vertices) count)
+
+  -- ---- pairs
+  -- a pair of others than v was there before
+  joined : (i j : ℕ) → i < length old.vertices → j < length old.vertices
+      → Joins mid.constraints i j → Joins old.constraints i j
+  joined i j hi hj h = elim ((appends.constraints i j).0 h) [
     | inl k ↦ k.0
-    | inr k ↦ absurd (elim k [ inl a ↦ no_half i j a | inr b ↦ no_half j i b ])
+    | inr k ↦ absurd (elim k [
+      | inl a ↦ not_below_itself (length old.vertices) j hj a.0
+      | inr b ↦ not_below_itself (length old.vertices) i hi b.0
+    ])
   ]
 
-  -- the state is as it was
+  -- what is joined to v is an end of a pair that carries it
+  half_of : (k : ℕ) → Joins mid.constraints (length old.vertices) k
+      → (l : ℕ) × Joins old.constraints k l × Carries position old v k l
+  half_of k h = elim ((appends.constraints (length old.vertices) k).0 h) [
+    | inl p ↦ absurd (no_pair k p.0)
+    | inr p ↦ elim p [ inl a ↦ absurd (no_pair a.1.0 a.1.1) | inr b ↦ b.1 ]
+  ]
+    where
+      no_pair : (l : ℕ) → ¬ Joins old.constraints (length old.vertices) l
+      no_pair l p = not_below_itself (length old.vertices) (length old.vertices)
+          (plain.pairs (length old.vertices) l p).0 refl
+
+  -- whichever end is named first
+  carries_turned : (i j : ℕ) → Carries position old v i j → Carries position old v j i
+  carries_turned i j c = turned_mean_of_two IsPositive (place (points_of position old) i)
+      (place (points_of position old) j) (whole (position v)) c
+
+  -- a pair that carries v became straight halves
+  halves : (i j : ℕ) → Joins old.constraints i j → Carries position old v i j
+      → AreStraightHalves position mid (length old.vertices) i j
+  halves i j h c = record {
+    apart = ends.2;
+    first = half i j h c;
+    second = half j i (turned_join old.constraints i j h) (carries_turned i j c);
+    only = λ k p. let l = half_of k p in end_of k l.0 (one k l.0 i j l.1 l.2 h c);
+    within = subst (λ z. WithinSegment (place (points_of position mid) i)
+        (place (points_of position mid) j) z) (sym place_of_new) (subst₂ (λ a b. WithinSegment a b
+        (whole (position v))) (sym (place_kept i ends.0)) (sym (place_kept j ends.1)) c);
+  }
+    where
+      ends : (i < length old.vertices) × (j < length old.vertices) × (i ≢ j)
+      ends = plain.pairs i j h
+
+      half : (a b : ℕ) → Joins old.constraints a b → Carries position old v a b
+          → Joins mid.constraints (length old.vertices) a
+      half a b p q = (appends.constraints (length old.vertices) a).1 (inr (inr (refl, (b, p, q))))
+
+      end_of : (k l : ℕ) → IsSamePair k l i j → (k ≡ i) ⊎ (k ≡ j)
+      end_of k l (inl s) = inl s.0
+      end_of k l (inr s) = inr s.0
+
+  -- the ends of straight halves at v are those of a pair
+  halves_were_one : (i j : ℕ) → AreStraightHalves position mid (length old.vertices) i j
+      → Joins old.constraints i j
+  halves_were_one i j h =
+      let a = half_of i h.first in
+      let b = half_of j h.second in
+      elim (one i a.0 j b.0 a.1 a.2 b.1 b.2) [
+        | inl s ↦ absurd (h.apart s.0)
+        | inr s ↦ subst (λ z. Joins old.constraints i z) s.1 a.1
+      ]
+
+  -- ---- the state is as it was
+  -- what the removal of v leaves as a pair
+  abbrev IsPairNow : ℕ → ℕ → Type 0
+  IsPairNow a b = Joins mid.constraints a b
+      ⊎ AreStraightHalves position mid (length old.vertices) a b
+
+  -- a pair that is left was there before
+  back : (i j : ℕ) → i < length old.vertices → j < length old.vertices → IsPairNow i j
+      → Joins old.constraints i j
+  back i j hi hj (inl h) = joined i j hi hj h
+  back i j hi hj (inr h) = halves_were_one i j h
+
+  -- a pair that was there is left
+  there : (i j : ℕ) → Joins old.constraints i j → Decision (Carries position old v i j)
+      → IsPairNow i j
+  there i j h (inl c) = inr (halves i j h c)
+  there i j h (inr n) = inl ((appends.constraints i j).1 (inl (h, n)))
+
+  -- vertices and pairs are as they were
   pub removal_undoes_appending : IsSameState position old new
   removal_undoes_appending = record {
     vertices = removes.vertices v
         ∙ ap (λ vs. swap_remove vs (length old.vertices) v) appends.vertices
         ∙ taken_out old.vertices v v;
     constraints = λ i j. (
-      (λ h. back i j ((removes.constraints i j).0 h)),
-      (λ h. there i j h (plain.pairs i j h)),
+      (λ h. let r = (removes.constraints i j).0 h in left i j (subst (λ n. i < n) last r.0)
+          (subst (λ n. j < n) last r.1) r.2),
+      (λ h. stays i j h (plain.pairs i j h)),
     );
   }
     where
-      back : (i j : ℕ) → (i < length mid.vertices - 1) × (j < length mid.vertices - 1)
-          × Joins mid.constraints
-          (if nat_eq i (length old.vertices) then length mid.vertices - 1 else i)
-          (if nat_eq j (length old.vertices) then length mid.vertices - 1 else j)
-          → Joins old.constraints i j
-      back i j h = joined i j (subst₂ (λ a b. Joins mid.constraints a b)
-          (same_index (length old.vertices) (length mid.vertices - 1) i
-          (subst (λ n. i < n) last h.0)) (same_index (length old.vertices)
-          (length mid.vertices - 1) j (subst (λ n. j < n) last h.1)) h.2)
+      old_index : ℕ → ℕ
+      old_index k = if nat_eq k (length old.vertices) then length mid.vertices - 1 else k
 
-      there : (i j : ℕ) → Joins old.constraints i j
+      same : (k : ℕ) → k < length old.vertices → old_index k ≡ k
+      same k h = same_index (length old.vertices) (length mid.vertices - 1) k h
+
+      left : (i j : ℕ) → i < length old.vertices → j < length old.vertices
+          → IsPairNow (old_index i) (old_index j) → Joins old.constraints i j
+      left i j hi hj h = back i j hi hj (subst₂ IsPairNow (same i hi) (same j hj) h)
+
+      stays : (i j : ℕ) → Joins old.constraints i j
           → (i < length old.vertices) × (j < length old.vertices) × (i ≢ j)
           → Joins new.constraints i j
-      there i j h w = (removes.constraints i j).1 (
+      stays i j h w = (removes.constraints i j).1 (
         subst (λ n. i < n) (sym last) w.0,
         subst (λ n. j < n) (sym last) w.1,
-        subst₂ (λ a b. Joins mid.constraints a b)
-            (sym (same_index (length old.vertices) (length mid.vertices - 1) i w.0))
-            (sym (same_index (length old.vertices) (length mid.vertices - 1) j w.1))
-            ((appends.constraints i j).1 (inl (h, none i j h))),
+        subst₂ IsPairNow (sym (same i w.0)) (sym (same j w.1)) (there i j h (decide_within_segment
+            (place (points_of position old) i) (place (points_of position old) j)
+            (whole (position v)))),
       )

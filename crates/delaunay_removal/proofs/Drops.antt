@@ -6,7 +6,7 @@ use Rattle.std.proofs.lemmas.Option.{slice_get_within}
 use Rattle.half_edge_mesh.specs.Contents.{Contents, IsMeshWithData}
 use Rattle.half_edge_mesh.specs.Removal.{DropsVertex}
 use Rattle.plane.specs.Fraction.{Point}
-use Rattle.plane.specs.Plain.{Removes}
+use Rattle.plane.specs.Plain.{TakesOut}
 use Rattle.plane.specs.Tests.{InRange}
 use Rattle.plane_tiling.specs.Local.{LocalMesh}
 use Rattle.mesh_embedding.specs.Drawn.{faces_of, outer_of}
@@ -23,7 +23,7 @@ module _ {V D U F : Type 0} (place : V → Point) (old new : Contents V D U F) (
   vertices_left = ap (λ (c : Contents V D U F). c.vertices) drops.contents
 
   -- of the plain state without constraints, vertex v goes
-  pub dropped_plain : Removes place (record { vertices = old.vertices; constraints = [] })
+  pub dropped_plain : TakesOut place (record { vertices = old.vertices; constraints = [] })
       (record { vertices = new.vertices; constraints = [] }) v
   dropped_plain = plain_removes place old old new v value (λ i. old.vertices) drops
 
@@ -73,12 +73,12 @@ module _ {V D U F : Type 0} {pairs : List (ℕ × ℕ)} (place : V → Point) (o
 
   -- a removal from the plain state of then is one from that of before
   pub plain_as : (new : Contents V D U F)
-      → Removes place (record { vertices = mid.vertices; constraints = [] })
+      → TakesOut place (record { vertices = mid.vertices; constraints = [] })
       (record { vertices = new.vertices; constraints = [] }) v
-      → Removes place (record { vertices = old.vertices; constraints = [] })
+      → TakesOut place (record { vertices = old.vertices; constraints = [] })
       (record { vertices = new.vertices; constraints = [] }) v
   plain_as new removes =
-      subst (λ (vs : List V). Removes place (record { vertices = vs; constraints = [] })
+      subst (λ (vs : List V). TakesOut place (record { vertices = vs; constraints = [] })
       (record { vertices = new.vertices; constraints = [] }) v) same_vertices removes
 
 -- ---- with inner faces the mesh is one in the plane

@@ -13,7 +13,7 @@ use Rattle.plane.proofs.Indexes.{turned_join}
 use Rattle.plane.specs.Circle.{InsideCircle}
 use Rattle.plane.specs.Fraction.{Point, Fraction, whole}
 use Rattle.plane.specs.Pairs.{Joins, place as at}
-use Rattle.plane.specs.Plain.{Removes}
+use Rattle.plane.specs.Plain.{TakesOut}
 use Rattle.plane.specs.Side.{TurnsLeft}
 use Rattle.plane.specs.Tiling.{Face}
 use Rattle.plane_tiling.specs.Local.{IsMesh}
@@ -44,7 +44,7 @@ former_below v last k n h l = elim (cases_eq k v) [
   | inr e ↦ subst (λ (x : ℕ). x < n) (sym (old_of_other v last k e)) h
 ]
 
-left_point : (points : List Point) (v : ℕ) (d : Point) (j : ℕ) → v < length points
+pub left_point : (points : List Point) (v : ℕ) (d : Point) (j : ℕ) → v < length points
     → j < length points - 1 →
     get_or (swap_remove points v d) j (record { x = pos 0; y = pos 0 })
     ≡ get_or points (former_index v (length points - 1) j) (record { x = pos 0; y = pos 0 })
@@ -93,7 +93,7 @@ face_turns points faces outer (inr m) i j k f =
 
 module _ {V D U F : Type 0} (place : V → Point) (constraints : List U → List ℕ) (old new :
     State V D U F) (v : ℕ) (value : V) (legal : IsDelaunayTriangulation place constraints old)
-    (kept : IsTriangulated place new) (removes : Removes place
+    (kept : IsTriangulated place new) (removes : TakesOut place
     (points_and_constraints_by constraints old) (points_and_constraints_by constraints new) v)
     (border turned : List (ℕ × ℕ)) (leaves : LeavesFaces old new v turned)
     (settled : AreSettled (map place old.vertices) (faces_of old.mesh) v border) where

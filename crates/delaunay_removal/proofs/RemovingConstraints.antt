@@ -7,7 +7,7 @@ use Rattle.half_edge_mesh.specs.Mesh.{Mesh, origin, rev}
 use Rattle.half_edge_mesh.specs.Removal.{FullEdge, full_edges}
 use Rattle.plane.specs.Fraction.{Point}
 use Rattle.plane.specs.Pairs.{Joins, IsSamePair}
-use Rattle.plane.specs.Plain.{Removes}
+use Rattle.plane.specs.Plain.{TakesOut}
 use Rattle.delaunay_legalization.specs.Constraints.{marked_edges, constraint_pairs}
 use Rattle.delaunay_legalization.specs.Constraints.{points_and_constraints_by}
 use Rattle.delaunay_legalization.specs.Shape.{IsTriangulated}
@@ -123,9 +123,9 @@ module _ {V D U F : Type 0} (place : V → Point) (marks : U → Bool) (constrai
   -- ---- and the vertex goes
   module _ (new : Contents V D U F) (after : IsMeshWithData new) where
     -- the removal of v from the vertices alone is one from them with the constraints of before
-    pub plain_left : Removes place (points_and_constraints (state_of mid))
+    pub plain_left : TakesOut place (points_and_constraints (state_of mid))
         (points_and_constraints (state_of new)) v → RenumbersEdges mid new v
-        → Removes place (points_and_constraints_by constraints (state_of old))
+        → TakesOut place (points_and_constraints_by constraints (state_of old))
         (points_and_constraints_by constraints (state_of new)) v
     plain_left removes renumbers = record {
       here = here;

@@ -1,7 +1,7 @@
 -- What becomes of a triangulation when a vertex goes.
 use Rattle.std.specs.Prelude.{◌≡◌, ℕ, List, Some, slice_get}
 use Rattle.plane.specs.Fraction.{Point}
-use Rattle.plane.specs.Plain.{Plain, Removes}
+use Rattle.plane.specs.Plain.{Plain, TakesOut}
 use Rattle.delaunay_legalization.specs.Shape.{IsTriangulated}
 use Rattle.delaunay_legalization.specs.State.{State}
 use Rattle.delaunay_removal.specs.Data.{KeepsDataBeside}
@@ -14,7 +14,7 @@ pub record TakesVertexOut {V D U F : Type 0} (place : V → Point)
     (plain_of : State V D U F → Plain V) (old new : State V D U F) (v : ℕ)
     (value_of : V) (pairs : List (ℕ × ℕ)) : Type 0 where
   pub value : slice_get old.vertices v ≡ Some value_of
-  pub plain : Removes place (plain_of old) (plain_of new) v
+  pub plain : TakesOut place (plain_of old) (plain_of new) v
   pub kept : IsTriangulated place new
   pub beside : KeepsDataBeside old new v
   pub faces : LeavesFaces old new v pairs

@@ -13,5 +13,5 @@ mod star;
 
 pub use border::sides_of_hole;
 pub use lists::RemovalLists;
-pub use pairs::{VertexPair, legalize_pairs};
+pub use pairs::{VertexPair, index_left, legalize_pairs, list_pairs};
 pub use removal::remove_vertex;

@@ -8,10 +8,12 @@ ghost use Rattle.half_edge_mesh.specs.Round.{neighbour};
 ghost use Rattle.plane_edits.specs.Legal.{AllPassBut};
 ghost use Rattle.mesh_embedding.specs.Drawn.{faces_of};
 ghost use Rattle.mesh_embedding.specs.Legal.{AreEdges};
+ghost use Rattle.delaunay_legalization.specs.Among.{FailOnlyOf};
 ghost use Rattle.delaunay_legalization.specs.Constraints.{constraints_by};
 ghost use Rattle.delaunay_legalization.specs.Flips.{FlipsFit};
 ghost use Rattle.delaunay_legalization.specs.Legalized.{Legalizes};
 ghost use Rattle.delaunay_legalization.specs.Shape.{IsTriangulated};
+ghost use Rattle.delaunay_legalization.specs.Sides.{AreLeftToTest};
 ghost use Rattle.delaunay_legalization.specs.State.{state_of};
 ghost use Rattle.delaunay_removal.specs.Pairs.{FailOnlyAt, HasEdgeOf, HasEdgesOf};
 ghost use Rattle.delaunay_removal.specs.Pairs.{pairs_left};
@@ -53,8 +55,8 @@ pub(crate) fn ends_beside<V, DE, UE, F>(
     (vertex_at_end(dcel, edge), vertex_at_end(dcel, after))
 }
 
-// The index of a vertex once `vertex` has gone and the last vertex has taken this index.
-fn index_left<V, DE, UE, F>(
+/// The index of a vertex once `vertex` has gone and the last vertex has taken this index.
+pub fn index_left<V, DE, UE, F>(
     dcel: &Dcel<V, DE, UE, F>,
     former: FixedVertexHandle,
     vertex: FixedVertexHandle,
@@ -136,11 +138,37 @@ fn push_pairs<V, DE, UE, F>(
     dcel.recall_invariant();
 }
 
-/// Tests the edges of some pairs, where each other edge passes, and flips those that fail and are
-/// no constraints until none does. The pairs go by the indexes that the vertices had before
-/// `vertex` went: the sides of its hole, and what `lists` has of its edges that were turned. Where
-/// each other edge has an empty circle on one of its sides, as `is_free` may say, it is not tested
-/// again; `lists` has room for the edges then.
+/// Puts the edges that may fail where a vertex went into a work list, in place of what was there:
+/// those of some pairs, where each other edge passes. The pairs go by the indexes that the vertices
+/// had before `vertex` went: the sides of its hole, and what `lists` has of its edges that were
+/// turned.
+pub fn list_pairs<M: ConstraintMarker<UE>, V: HasPosition, DE, UE, F>(
+    dcel: &Dcel<V, DE, UE, F>,
+    vertex: FixedVertexHandle,
+    border: &[VertexPair],
+    lists: &RemovalLists,
+    work: &mut Vec<FixedUndirectedEdgeHandle>,
+)
+    requires kept { IsTriangulated V.place (state_of dcel.now) }
+    requires passing { AllPassBut (map V.place dcel.now.vertices) (faces_of dcel.now.mesh)
+        (constraints_by M.constraints (state_of dcel.now))
+        (pairs_left (length dcel.now.vertices) vertex (border.now ++ lists.now.turned.items)) }
+    requires room { 3 * length dcel.now.vertices ≤ vec_capacity work.old }
+
+    ensures left { AreLeftToTest V.place M.constraints dcel.now work.new.items }
+    ensures only { FailOnlyAt (map V.place dcel.now.vertices) dcel.now.mesh
+        (pairs_left (length dcel.now.vertices) vertex (border.now ++ lists.now.turned.items)) →
+        FailOnlyOf (map V.place dcel.now.vertices) dcel.now.mesh work.new.items }
+    ensures capacity { vec_capacity work.new ≡ vec_capacity work.old }
+{
+    work.clear();
+    push_pairs(dcel, vertex, border, work);
+    push_pairs(dcel, vertex, lists.turned.as_slice(), work);
+}
+
+/// Tests the edges that `list_pairs` lists, and flips those that fail and are no constraints until
+/// none does. Where each other edge has an empty circle on one of its sides, as `is_free` may say,
+/// it is not tested again; `lists` has room for the edges then.
 pub fn legalize_pairs<M: ConstraintMarker<UE>, V: HasPosition, DE, UE, F, P: PlaneTests<V::Scalar>>(
     dcel: &mut Dcel<V, DE, UE, F>,
     vertex: FixedVertexHandle,
@@ -164,8 +192,6 @@ pub fn legalize_pairs<M: ConstraintMarker<UE>, V: HasPosition, DE, UE, F, P: Pla
 
     ensures legalizes { Legalizes V.place M.constraints dcel.old dcel.new flips.old flips.new }
 {
-    work.clear();
-    push_pairs(dcel, vertex, border, work);
-    push_pairs(dcel, vertex, lists.turned.as_slice(), work);
+    list_pairs::<M, _, _, _, _>(dcel, vertex, border, lists, work);
     legalize_list::<M, _, _, _, _, _>(dcel, is_free, tests, &mut lists.sides, work, flips);
 }

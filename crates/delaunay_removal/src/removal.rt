@@ -5,7 +5,7 @@ ghost use Rattle.std.specs.Prelude.{vec_capacity};
 ghost use Rattle.half_edge_mesh.specs.Contents.{IsMeshWithData};
 ghost use Rattle.half_edge_mesh.specs.Mesh.{origin, out_edge, IsAlone};
 ghost use Rattle.half_edge_mesh.specs.Removal.{DropsVertex};
-ghost use Rattle.plane.specs.Plain.{Removes};
+ghost use Rattle.plane.specs.Plain.{TakesOut};
 ghost use Rattle.plane.specs.Tests.{InRange};
 ghost use Rattle.mesh_embedding.specs.Drawn.{faces_of, outer_of};
 ghost use Rattle.delaunay_legalization.specs.Constraints.{constraints_by};
@@ -57,7 +57,7 @@ fn drop_vertex<V: HasPosition, DE, UE, F>(
     requires shape { IsMeshWithout vertex (map V.place dcel.old.vertices) (faces_of dcel.old.mesh)
         (outer_of dcel.old.mesh) }
     ensures value { slice_get dcel.old.vertices vertex ≡ Some result }
-    ensures plain { Removes V.place (points_and_constraints (state_of dcel.old))
+    ensures plain { TakesOut V.place (points_and_constraints (state_of dcel.old))
         (points_and_constraints (state_of dcel.new)) vertex }
     ensures kept { IsTriangulated V.place (state_of dcel.new) }
     ensures drops { DropsVertex dcel.old dcel.new vertex result }

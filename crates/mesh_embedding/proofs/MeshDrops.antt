@@ -16,7 +16,7 @@ use Rattle.half_edge_mesh.specs.Removal.{FullFace, full_faces, full_faces_of, re
 use Rattle.half_edge_mesh.specs.Removal.{renumbered_face, DropsVertex}
 use Rattle.half_edge_dcel.proofs.Dropped.{renumbered_triangle}
 use Rattle.plane.specs.Fraction.{Point}
-use Rattle.plane.specs.Plain.{Removes}
+use Rattle.plane.specs.Plain.{TakesOut}
 use Rattle.plane.specs.Tiling.{Face}
 use Rattle.plane_tiling.specs.Local.{LocalMesh, LineMesh}
 use Rattle.plane_edits.specs.Removal.{LocalMeshWithout, LineMeshWithout, renumbered}
@@ -154,7 +154,7 @@ module _ {V D U F : Type 0} (position : V → Point) (old new : Contents V D U F
         ∙ ap (map (renumbered v (length (map position old.vertices) - 1))) none
 
   -- the plain state without constraints
-  pub removes_vertex : Removes position (record { vertices = old.vertices; constraints = [] })
+  pub removes_vertex : TakesOut position (record { vertices = old.vertices; constraints = [] })
       (record { vertices = new.vertices; constraints = [] }) v
   removes_vertex = record {
     here = index_within;

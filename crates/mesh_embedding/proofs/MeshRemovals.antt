@@ -4,7 +4,7 @@ use Rattle.std.proofs.Common.{◌≡◌, ℕ, List, [], map, sym, ap, subst}
 use Rattle.half_edge_mesh.specs.Contents.{Contents, IsMeshWithData}
 use Rattle.half_edge_mesh.specs.Removal.{DropsVertex, LeavesMesh}
 use Rattle.plane.specs.Fraction.{Point}
-use Rattle.plane.specs.Plain.{Removes}
+use Rattle.plane.specs.Plain.{TakesOut}
 use Rattle.plane_tiling.specs.Local.{LocalMesh, LineMesh}
 use Rattle.plane_edits.specs.Removal.{LocalMeshWithout, LineMeshWithout}
 use Rattle.mesh_embedding.specs.Drawn.{faces_of, outer_of}
@@ -32,17 +32,17 @@ module _ {V D U F : Type 0} (position : V → Point) (old between new : Contents
   )
 
   -- in the plain state
-  pub plain_removes : Removes position (record { vertices = old.vertices; constraints = [] })
+  pub plain_removes : TakesOut position (record { vertices = old.vertices; constraints = [] })
       (record { vertices = new.vertices; constraints = [] }) v
   plain_removes =
-      subst (λ (vs : List V). Removes position (record { vertices = vs; constraints = [] })
+      subst (λ (vs : List V). TakesOut position (record { vertices = vs; constraints = [] })
       (record { vertices = new.vertices; constraints = [] }) v) same
       (removes_vertex position between new v value drops)
 
 -- a vertex of a line, in the plain state
 pub line_plain_removes : {V D U F : Type 0} (position : V → Point) (old new : Contents V D U F)
     (v : ℕ) (value : V) → LeavesMesh old new v value
-    → Removes position (record { vertices = old.vertices; constraints = [] })
+    → TakesOut position (record { vertices = old.vertices; constraints = [] })
     (record { vertices = new.vertices; constraints = [] }) v
 line_plain_removes {V} {D} {U} {F} position old new v value leaves =
     plain_removes position old leaves.between new v value

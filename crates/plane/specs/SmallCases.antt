@@ -104,6 +104,7 @@ pub record DefinitionsHold : Type 0 where
   pub constraint_hides_it : IsTiling hidden → IsConstrainedDelaunay hidden constraints
   pub insert_splits : Appends itself before after new_point
   pub removal_renames_last : Removes itself four three 1
+  pub removal_joins_halves : Removes itself after before 2
   pub grid_circles : TableHolds (grid (pos 1)) grid_table
   pub large_grid_circles : TableHolds (grid (pos 536870912)) grid_table
   pub grid_on_lines : AreOn (grid (pos 1)) grid_lines

@@ -4,7 +4,7 @@ use Rattle.std.specs.Prelude.{◌≡◌, ◌≢◌, ◌⊎◌, ◌↔◌, ℕ, �
 use Rattle.plane.specs.Fraction.{Point, WithinSegment}
 use Rattle.plane.specs.Crossing.{Cross}
 use Rattle.plane.specs.Pairs.{Joins, IsSamePair, place}
-use Rattle.plane.specs.Plain.{Plain, IsPlain, points_of, Removes, CanAdd, AreNeighboursOn, Adds}
+use Rattle.plane.specs.Plain.{Plain, IsPlain, points_of, TakesOut, CanAdd, AreNeighboursOn, Adds}
 use Rattle.plane.specs.Tiling.{Face, face, Triangulation, IsEdge, TilesHull, JoinsLine, vertex}
 use Rattle.plane_tiling.specs.Laws.{EdgesMeetAtVertices}
 use Rattle.plane_tiling.specs.Local.{LocalMesh, IsCorner}
@@ -66,5 +66,5 @@ StraightHalvesJoinAfterRemoval V = (position : V → Point) (old new : Plain V) 
     → Joins old.constraints a v → Joins old.constraints v b
     → WithinSegment (place (points_of position old) a) (place (points_of position old) b)
     (place (points_of position old) v)
-    → Removes position old new v → CanBeJoined position new
+    → TakesOut position old new v → CanBeJoined position new
     (new_index v (length old.vertices - 1) a) (new_index v (length old.vertices - 1) b)

@@ -25,6 +25,7 @@ returns c = record {
   };
   insert_splits = Small.splits;
   removal_renames_last = Small.removed_second;
+  removal_joins_halves = Small.removed_middle;
   grid_circles = Sheets.grid_holds;
   large_grid_circles = Sheets.large_grid_holds;
   grid_on_lines = Sheets.grid_lines_hold;

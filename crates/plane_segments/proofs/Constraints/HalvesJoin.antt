@@ -12,7 +12,7 @@ use Rattle.std.proofs.lemmas.List.{length-map, take-map, map-set, get_or-map}
 use Rattle.plane.specs.Fraction.{Point, whole, WithinSegment}
 use Rattle.plane.specs.Crossing.{Cross}
 use Rattle.plane.specs.Pairs.{Joins, IsSamePair, place, IsIndex}
-use Rattle.plane.specs.Plain.{Plain, IsPlain, points_of, Removes, CanAdd, AreNeighboursOn}
+use Rattle.plane.specs.Plain.{Plain, IsPlain, points_of, TakesOut, CanAdd, AreNeighboursOn}
 use Rattle.plane.specs.Tiling.{Face}
 use Rattle.plane.proofs.Segments.{only_point, same-refl, on_of_within, start_on_segment}
 use Rattle.plane.proofs.Segments.{end_on_segment}
@@ -158,7 +158,7 @@ module _ {V : Type 0} where
       go (inr l) = let d = some_of s.vertices i (here i hi) in plain.distinct j i d l (here i hi)
           (sym (at j (here j hj) d) ∙ sym one ∙ at i (here i hi) d)
 
-  module _ (position : V → Point) (old new : Plain V) (v : ℕ) (r : Removes position old new v) where
+  module _ (position : V → Point) (old new : Plain V) (v : ℕ) (r : TakesOut position old new v) where
     d : V
     d = some_of old.vertices v r.here
 
@@ -201,7 +201,7 @@ module _ {V : Type 0} (position : V → Point) (old new : Plain V) (faces : List
     (kept : (c d : ℕ) → Joins old.constraints c d → Joins edges c d)
     (first : Joins old.constraints a v) (second : Joins old.constraints v b) (within :
     WithinSegment (place (points_of position old) a) (place (points_of position old) b)
-    (place (points_of position old) v)) (r : Removes position old new v) where
+    (place (points_of position old) v)) (r : TakesOut position old new v) where
   abbrev last : ℕ
   last = length old.vertices - 1
 

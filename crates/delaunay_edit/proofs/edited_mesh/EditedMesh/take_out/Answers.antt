@@ -1,61 +1,39 @@
 use Rattle.std.proofs.Common.{ℕ, List, ◌++◌, length, map, refl, sym, subst, arith, vec_capacity}
 use Rattle.std.proofs.lemmas.Bool.{eqb-true}
-use Rattle.plane.specs.Plain.{Removes}
+use Rattle.plane.specs.Plain.{Removes, TakesOut}
 use Rattle.plane_edits.specs.Legal.{AllPassBut}
 use Rattle.mesh_embedding.specs.Drawn.{faces_of}
 use Rattle.delaunay_legalization.specs.Constraints.{constraints_by, points_and_constraints_by}
 use Rattle.delaunay_legalization.specs.State.{state_of}
-use Rattle.delaunay_removal.specs.Data.{KeepsDataBeside}
 use Rattle.delaunay_removal.specs.Pairs.{FailOnlyAt, pairs_left}
-use Rattle.delaunay_removal.proofs.DataLegalized.{legalized_keeps_others}
+use Rattle.delaunay_removal.specs.Data.{KeepsDataOfOthers}
 use Rattle.delaunay_removal.proofs.Passing.{fails_only_at, passes_but}
 use Rattle.delaunay_edit.proofs.EmptyRound.{none_counted}
 use Rattle.delaunay_edit.proofs.FreeRemoval.{free_circles, sides_settle}
-use Rattle.delaunay_edit.proofs.Removing.{sites_left, room_left, removed_on}
-use Rattle.delaunay_edit.proofs.Recounted.{counted_removed, some_removed}
+use Rattle.delaunay_edit.proofs.Removing.{sites_left, room_left}
+use Rattle.delaunay_edit.proofs.Settling.{can_settle, counted_settled, settled_keeps}
+use Rattle.delaunay_edit.proofs.Settling.{settled_removes, some_settled}
 use Rattle.delaunay_edit.proofs.edited_mesh.EditedMesh.take_out.Goals as goal
 
-pub legalize_pairs-requires-clause-sites : goal.legalize_pairs-requires-clause-sites
-legalize_pairs-requires-clause-sites g c =
+pub settle-requires-clause-sites : goal.settle-requires-clause-sites
+settle-requires-clause-sites g c =
     let at = g.V.HasPosition.place in
     let constraints = g.M.ConstraintMarker.constraints in
     sites_left at constraints c.args.self.now
     (state_of c.remove_vertex-value.new.dcel) c.args.vertex
     c.remove_vertex-value.result
-    (subst (λ s. Removes at (points_and_constraints_by constraints s)
+    (subst (λ s. TakesOut at (points_and_constraints_by constraints s)
     (points_and_constraints_by constraints (state_of c.remove_vertex-value.new.dcel)) c.args.vertex)
     c.self.view_is
     c.remove_vertex-value.ensures.takes.plain)
     (g.P.PlaneTests.sites c.args.tests.now) c.requires.sites
 
-pub legalize_pairs-requires-clause-room : goal.legalize_pairs-requires-clause-room
-legalize_pairs-requires-clause-room g c =
+pub settle-requires-clause-room : goal.settle-requires-clause-room
+settle-requires-clause-room g c =
     room_left g.V.HasPosition.place g.M.ConstraintMarker.constraints (state_of c.self.inside.dcel)
     (state_of c.remove_vertex-value.new.dcel) c.args.vertex c.remove_vertex-value.result
     c.remove_vertex-value.ensures.takes.plain _ _ _ c.num_vertices.ensures.value
     c.in_ok-reserve.ensures.ok
-
-pub returns-clause-plain : goal.returns-clause-plain
-returns-clause-plain g c =
-    let at = g.V.HasPosition.place in
-    let constraints = g.M.ConstraintMarker.constraints in
-    removed_on at constraints c.args.self.now c.remove_vertex-value.new.dcel
-    c.legalize_pairs.new.dcel c.args.vertex
-    (subst (λ s. Removes at (points_and_constraints_by constraints s)
-    (points_and_constraints_by constraints (state_of c.remove_vertex-value.new.dcel)) c.args.vertex)
-    c.self.view_is
-    c.remove_vertex-value.ensures.takes.plain)
-    c.legalize_pairs.ensures.legalizes.contents c.legalize_pairs.ensures.legalizes.constraints
-
-pub returns-clause-data : goal.returns-clause-data
-returns-clause-data g c =
-    legalized_keeps_others g.V.HasPosition.place c.args.self.now c.remove_vertex-value.new.dcel
-    c.legalize_pairs.new.dcel c.args.vertex
-    (subst (λ s. KeepsDataBeside s (state_of c.remove_vertex-value.new.dcel) c.args.vertex)
-    c.self.view_is
-    c.remove_vertex-value.ensures.takes.beside)
-    c.remove_vertex-value.ensures.takes.kept c.legalize_pairs.ensures.legalizes.legal.kept
-    c.legalize_pairs.ensures.legalizes.contents c.legalize_pairs.ensures.legalizes.indexes
 
 pub remove_vertex-value-requires-clause-free : goal.remove_vertex-value-requires-clause-free
 remove_vertex-value-requires-clause-free g c free =
@@ -63,12 +41,21 @@ remove_vertex-value-requires-clause-free g c free =
     (state_of c.self.inside.dcel)
     c.self.inside.num_constraints c.self.invariant (eqb-true _ _ free)
 
-pub legalize_pairs-requires-clause-passing : goal.legalize_pairs-requires-clause-passing
-legalize_pairs-requires-clause-passing g c =
+pub settle-requires-clause-can : goal.settle-requires-clause-can
+settle-requires-clause-can g c =
     let at = g.V.HasPosition.place in
-    let constraints = g.M.ConstraintMarker.constraints in
+    let marker = g.M.ConstraintMarker in
+    let constraints = marker.constraints in
     let ds = c.remove_vertex-value.new.dcel in
-    subst (λ (ps : List (ℕ × ℕ)). AllPassBut (map at ds.vertices) (faces_of ds.mesh)
+    can_settle at marker.marks marker.can_mark marker.marked constraints
+    g.met.M.ConstraintMarker.constraints_are_marked
+    g.met.M.ConstraintMarker.can_mark_where_marked g.met.M.ConstraintMarker.marked_has_mark
+    (state_of c.self.inside.dcel) c.self.invariant.legal c.args.vertex ds
+    c.remove_vertex-value.result c.remove_vertex-value.new.lists.turned.items
+    c.remove_vertex-value.ensures.takes c.halves_at-halves.result
+    c.halves_at-halves.ensures
+    (c.as_slice.result.now ++ c.remove_vertex-value.new.lists.turned.items)
+    (subst (λ (ps : List (ℕ × ℕ)). AllPassBut (map at ds.vertices) (faces_of ds.mesh)
     (constraints_by constraints (state_of ds)) (pairs_left (length ds.vertices) c.args.vertex
     (ps ++ c.remove_vertex-value.new.lists.turned.items)))
     (sym {A = List (ℕ × ℕ)} c.as_slice.ensures.value)
@@ -77,16 +64,16 @@ legalize_pairs-requires-clause-passing g c =
     c.self.invariant.legal c.remove_vertex-value.ensures.takes.kept
     c.remove_vertex-value.ensures.takes.plain c.in_ok-border.border.items
     c.remove_vertex-value.new.lists.turned.items c.remove_vertex-value.ensures.takes.faces
-    (sides_settle at g.M.ConstraintMarker.marks constraints
+    (sides_settle at marker.marks constraints
     g.met.M.ConstraintMarker.constraints_are_marked
     (state_of c.self.inside.dcel) c.self.invariant.legal c.args.vertex c.in_ok-border.border.items
-    c.in_ok-border.ensures))
+    c.in_ok-border.ensures)))
 
 pub remove_vertex-value-requires-clause-room : goal.remove_vertex-value-requires-clause-room
 remove_vertex-value-requires-clause-room g c = c.in_ok-reserve_for.ensures
 
-pub legalize_pairs-requires-clause-room_among : goal.legalize_pairs-requires-clause-room_among
-legalize_pairs-requires-clause-room_among g c =
+pub settle-requires-clause-room_among : goal.settle-requires-clause-room_among
+settle-requires-clause-room_among g c =
     let tested = c.in_ok-reserve_for.ensures.tested in
     let same = c.remove_vertex-value.ensures.capacity in
     room_left g.V.HasPosition.place g.M.ConstraintMarker.constraints (state_of c.self.inside.dcel)
@@ -95,8 +82,8 @@ legalize_pairs-requires-clause-room_among g c =
     (length c.self.inside.dcel.vertices) 0 (vec_capacity c.remove_vertex-value.new.lists.sides) refl
     (omega (arith, tested, same))
 
-pub legalize_pairs-requires-clause-only : goal.legalize_pairs-requires-clause-only
-legalize_pairs-requires-clause-only g c free =
+pub settle-requires-clause-only : goal.settle-requires-clause-only
+settle-requires-clause-only g c free =
     let at = g.V.HasPosition.place in
     let constraints = g.M.ConstraintMarker.constraints in
     let old = state_of c.self.inside.dcel in
@@ -120,29 +107,57 @@ legalize_pairs-requires-clause-only g c free =
     (none_counted at constraints old c.self.inside.num_constraints c.self.invariant
     (eqb-true _ _ free))))
 
+pub returns-clause-plain : goal.returns-clause-plain
+returns-clause-plain g c =
+    let at = g.V.HasPosition.place in
+    let marker = g.M.ConstraintMarker in
+    subst (λ s. Removes at (points_and_constraints_by marker.constraints s)
+    (points_and_constraints_by marker.constraints (state_of c.settle.new.dcel)) c.args.vertex)
+    c.self.view_is (settled_removes at marker.marks marker.can_mark marker.marked marker.constraints
+    g.met.M.ConstraintMarker.constraints_are_marked
+    g.met.M.ConstraintMarker.can_mark_where_marked g.met.M.ConstraintMarker.marked_has_mark
+    (state_of c.self.inside.dcel) c.self.invariant.legal c.args.vertex
+    c.remove_vertex-value.new.dcel c.remove_vertex-value.result
+    c.remove_vertex-value.new.lists.turned.items c.remove_vertex-value.ensures.takes
+    c.settle.new.dcel _ _ c.halves_at-halves.result c.halves_at-halves.ensures c.settle.ensures)
+
+pub returns-clause-data : goal.returns-clause-data
+returns-clause-data g c =
+    let at = g.V.HasPosition.place in
+    let marker = g.M.ConstraintMarker in
+    subst (λ s. KeepsDataOfOthers s (state_of c.settle.new.dcel) c.args.vertex)
+    c.self.view_is (settled_keeps at marker.marks marker.can_mark marker.marked marker.constraints
+    g.met.M.ConstraintMarker.constraints_are_marked
+    g.met.M.ConstraintMarker.can_mark_where_marked g.met.M.ConstraintMarker.marked_has_mark
+    (state_of c.self.inside.dcel) c.self.invariant.legal c.args.vertex
+    c.remove_vertex-value.new.dcel c.remove_vertex-value.result
+    c.remove_vertex-value.new.lists.turned.items c.remove_vertex-value.ensures.takes
+    c.settle.new.dcel _ _ c.halves_at-halves.result c.halves_at-halves.ensures c.settle.ensures)
+
 pub overflow_sub-self : goal.overflow_sub-self
 overflow_sub-self g c =
     let at = g.V.HasPosition.place in
     let marker = g.M.ConstraintMarker in
-    some_removed at marker.marks marker.constraints g.met.M.ConstraintMarker.constraints_are_marked
-    (state_of c.self.inside.dcel)
-    (state_of c.legalize_pairs.new.dcel) c.self.inside.num_constraints c.self.invariant
-    c.legalize_pairs.ensures.legalizes.legal c.args.vertex c.count_ending-ending.result
-    (removed_on at marker.constraints (state_of c.self.inside.dcel) c.remove_vertex-value.new.dcel
-    c.legalize_pairs.new.dcel c.args.vertex c.remove_vertex-value.ensures.takes.plain
-    c.legalize_pairs.ensures.legalizes.contents c.legalize_pairs.ensures.legalizes.constraints)
-    c.count_ending-ending.ensures
+    some_settled at marker.marks marker.can_mark marker.marked marker.constraints
+    g.met.M.ConstraintMarker.constraints_are_marked
+    g.met.M.ConstraintMarker.can_mark_where_marked g.met.M.ConstraintMarker.marked_has_mark
+    (state_of c.self.inside.dcel) c.self.invariant.legal c.args.vertex
+    c.remove_vertex-value.new.dcel c.remove_vertex-value.result
+    c.remove_vertex-value.new.lists.turned.items c.remove_vertex-value.ensures.takes
+    c.settle.new.dcel _ _ c.halves_at-halves.result c.halves_at-halves.ensures c.settle.ensures
+    c.count_lost-lost.result c.count_lost-lost.ensures c.self.inside.num_constraints
+    c.self.invariant
 
-pub invariant_of-self-4 : goal.invariant_of-self-4
-invariant_of-self-4 g c =
+pub invariant_of-self-5 : goal.invariant_of-self-5
+invariant_of-self-5 g c =
     let at = g.V.HasPosition.place in
     let marker = g.M.ConstraintMarker in
-    counted_removed at marker.marks marker.constraints
+    counted_settled at marker.marks marker.can_mark marker.marked marker.constraints
     g.met.M.ConstraintMarker.constraints_are_marked
-    (state_of c.self.inside.dcel)
-    (state_of c.legalize_pairs.new.dcel) c.self.inside.num_constraints c.self.invariant
-    c.legalize_pairs.ensures.legalizes.legal c.args.vertex c.count_ending-ending.result
-    (removed_on at marker.constraints (state_of c.self.inside.dcel) c.remove_vertex-value.new.dcel
-    c.legalize_pairs.new.dcel c.args.vertex c.remove_vertex-value.ensures.takes.plain
-    c.legalize_pairs.ensures.legalizes.contents c.legalize_pairs.ensures.legalizes.constraints)
-    c.count_ending-ending.ensures
+    g.met.M.ConstraintMarker.can_mark_where_marked g.met.M.ConstraintMarker.marked_has_mark
+    (state_of c.self.inside.dcel) c.self.invariant.legal c.args.vertex
+    c.remove_vertex-value.new.dcel c.remove_vertex-value.result
+    c.remove_vertex-value.new.lists.turned.items c.remove_vertex-value.ensures.takes
+    c.settle.new.dcel _ _ c.halves_at-halves.result c.halves_at-halves.ensures c.settle.ensures
+    c.count_lost-lost.result c.count_lost-lost.ensures c.self.inside.num_constraints
+    c.self.invariant

@@ -1,0 +1,37 @@
+-- What a path leaves to the circle test where a list of edges was left before.
+use Rattle.std.proofs.Common.{◌≡◌, ℕ, Bool, List, map, sym, ap, subst, subst₂, inl}
+use Rattle.half_edge_mesh.specs.Contents.{Contents}
+use Rattle.plane.specs.Fraction.{Point}
+use Rattle.plane_edits.specs.Legal.{AllPassBut}
+use Rattle.mesh_embedding.specs.Drawn.{faces_of}
+use Rattle.mesh_embedding.specs.Legal.{pairs_at}
+use Rattle.delaunay_legalization.specs.Constraints.{constraint_pairs}
+use Rattle.delaunay_legalization.specs.Sides.{AreLeftToTest}
+use Rattle.delaunay_paths.specs.Adding.{AddsPath}
+use Rattle.delaunay_paths.specs.Leaving.{LeavesToTest}
+
+-- with more constraints no more edges are to be tested
+pub path_leaves : {V D U F : Type 0} (place : V → Point) (marks : U → Bool) (mark : U → U)
+    (constraints : List U → List ℕ) (old new : Contents V D U F) (i j : ℕ) (was left : List ℕ)
+    → AddsPath place marks mark constraints old new i j
+    → LeavesToTest (map place old.vertices) old new was left
+    → AreLeftToTest place constraints old was → AreLeftToTest place constraints new left
+path_leaves {V = V} {D = D} {U = U} {F = F} place marks mark constraints old new i j was left path
+    leaves before = record {
+      edges = leaves.edges;
+      passing =
+          subst (λ (vs : List V). AllPassBut (map place vs) (faces_of new.mesh)
+          (constraint_pairs constraints new.mesh new.undirected) (pairs_at new.mesh left))
+          (sym (ap (λ (c : Contents V D U F). c.vertices) path.contents))
+          (leaves.leaves (constraint_pairs constraints new.mesh new.undirected)
+          (λ a b k l f g free untested. before.passing a b k l f g
+          (λ h. free ((path.plain.constraints a b).1 (inl h))) untested));
+    }
+
+-- the path between two vertices, by other names of them
+pub path_renamed : {V D U F : Type 0} (place : V → Point) (marks : U → Bool) (mark : U → U)
+    (constraints : List U → List ℕ) (old new : Contents V D U F) (i j k l : ℕ) → i ≡ k → j ≡ l
+    → AddsPath place marks mark constraints old new i j
+    → AddsPath place marks mark constraints old new k l
+path_renamed place marks mark constraints old new i j k l e f path =
+    subst₂ (AddsPath place marks mark constraints old new) e f path

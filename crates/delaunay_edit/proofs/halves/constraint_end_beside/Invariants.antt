@@ -1,0 +1,8 @@
+use Rattle.half_edge_mesh.specs.Rounds.{out_edges_left}
+use Rattle.delaunay_edit.proofs.SeekingEnds.{IsSeekingEnd}
+use Rattle.delaunay_edit.proofs.halves.constraint_end_beside.Given as goal
+
+abbrev pub invariant-loop-edge : goal.invariant-loop-edge
+invariant-loop-edge g l =
+    IsSeekingEnd g.M.ConstraintMarker.constraints l.dcel l.fn.vertex l.one l.other
+    (out_edges_left l.edge-iterator)

@@ -1,0 +1,106 @@
+//! The halves of a straight constraint, whose middle is a vertex.
+ghost use Rattle.std.specs.Prelude.{◌≡◌, ◌⊎◌, ◌↔◌, ◌<◌, length, map, All, IsTrue};
+ghost use Rattle.delaunay_legalization.specs.Constraints.{constraints_by};
+ghost use Rattle.delaunay_legalization.specs.Constraints.{points_and_constraints_by};
+ghost use Rattle.delaunay_legalization.specs.Shape.{IsTriangulated};
+ghost use Rattle.delaunay_legalization.specs.State.{state_of};
+ghost use Rattle.delaunay_edit.specs.Halves.{AreHalvesAt, AreTwoEnds, IsEndBeside};
+ghost use Rattle.delaunay_edit.specs.Halves.{LeadsBeside};
+
+use delaunay_core::math::PlaneTests;
+use delaunay_core::point::HasPosition;
+use delaunay_legalization::{
+    ConstraintMarker, is_constraint_edge, is_strictly_within, position_of,
+};
+use delaunay_removal::VertexPair;
+use half_edge_mesh::{Dcel, FixedDirectedEdgeHandle, FixedVertexHandle, MeshViews};
+
+// Whether a vertex is one of two.
+fn is_either(vertex: FixedVertexHandle, one: FixedVertexHandle, other: FixedVertexHandle) -> bool
+    ensures { IsTrue result ↔ ((vertex ≡ one) ⊎ (vertex ≡ other)) }
+{
+    vertex == one || vertex == other
+}
+
+// Whether an edge is a constraint that ends at neither of two vertices.
+fn leads_beside<M: ConstraintMarker<UE>, V: HasPosition, DE, UE, F>(
+    dcel: &Dcel<V, DE, UE, F>,
+    edge: FixedDirectedEdgeHandle,
+    one: FixedVertexHandle,
+    other: FixedVertexHandle,
+) -> bool
+    requires within { edge < length dcel.now.directed }
+    requires kept { IsTriangulated V.place (state_of dcel.now) }
+    ensures { IsTrue result ↔ LeadsBeside M.constraints dcel.now one other edge }
+{
+    let end = dcel.directed_edge(edge).to().fix();
+    if is_either(end, one, other) {
+        return false;
+    }
+    is_constraint_edge::<M, _, _, _, _>(dcel, edge.as_undirected())
+}
+
+// The far end of a constraint at a vertex that is neither of two others, if there is one.
+fn constraint_end_beside<M: ConstraintMarker<UE>, V: HasPosition, DE, UE, F>(
+    dcel: &Dcel<V, DE, UE, F>,
+    vertex: FixedVertexHandle,
+    one: FixedVertexHandle,
+    other: FixedVertexHandle,
+) -> Option<FixedVertexHandle>
+    requires within { vertex < length dcel.now.vertices }
+    requires kept { IsTriangulated V.place (state_of dcel.now) }
+    ensures { IsEndBeside (constraints_by M.constraints (state_of dcel.now)) vertex one other
+        result }
+{
+    dcel.recall_invariant();
+    for edge in dcel.vertex(vertex).out_edges() {
+        let edge = edge.fix();
+        if leads_beside::<M, _, _, _, _>(dcel, edge, one, other) {
+            return Some(dcel.directed_edge(edge).to().fix());
+        }
+    }
+    None
+}
+
+// The far ends of the constraints at a vertex, if there are exactly two.
+fn two_constraint_ends<M: ConstraintMarker<UE>, V: HasPosition, DE, UE, F>(
+    dcel: &Dcel<V, DE, UE, F>,
+    vertex: FixedVertexHandle,
+) -> Option<VertexPair>
+    requires within { vertex < length dcel.now.vertices }
+    requires kept { IsTriangulated V.place (state_of dcel.now) }
+    ensures { AreTwoEnds (constraints_by M.constraints (state_of dcel.now)) vertex result }
+{
+    let first = constraint_end_beside::<M, _, _, _, _>(dcel, vertex, vertex, vertex)?;
+    let second = constraint_end_beside::<M, _, _, _, _>(dcel, vertex, first, first)?;
+    match constraint_end_beside::<M, _, _, _, _>(dcel, vertex, first, second) {
+        Some(_) => None,
+        None => Some((first, second)),
+    }
+}
+
+/// The far ends of the halves of a straight constraint whose middle is a vertex, if it is that of
+/// one.
+pub(crate) fn straight_halves<
+    M: ConstraintMarker<UE>,
+    V: HasPosition,
+    DE,
+    UE,
+    F,
+    P: PlaneTests<V::Scalar>,
+>(dcel: &Dcel<V, DE, UE, F>, vertex: FixedVertexHandle, tests: &P) -> Option<VertexPair>
+    requires within { vertex < length dcel.now.vertices }
+    requires kept { IsTriangulated V.place (state_of dcel.now) }
+    requires sites { All (P.sites tests.now) (map V.place dcel.now.vertices) }
+    ensures { AreHalvesAt V.place (points_and_constraints_by M.constraints (state_of dcel.now))
+        vertex result }
+{
+    let (first, second) = two_constraint_ends::<M, _, _, _, _>(dcel, vertex)?;
+    let from = position_of(dcel, first);
+    let to = position_of(dcel, second);
+    if is_strictly_within(from, to, position_of(dcel, vertex), tests) {
+        Some((first, second))
+    } else {
+        None
+    }
+}

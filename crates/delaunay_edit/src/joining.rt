@@ -1,0 +1,80 @@
+//! What is left to do where a vertex went: the halves of a straight constraint are joined, and each
+//! edge is made to pass the circle test.
+ghost use Rattle.std.specs.Prelude.{◌≡◌, ◌*◌, ◌≤◌, ◌++◌};
+ghost use Rattle.std.specs.Prelude.{true, length, map, All, IsTrue, Some, vec_capacity};
+ghost use Rattle.half_edge_mesh.specs.Renames.{moved};
+ghost use Rattle.delaunay_legalization.specs.Flips.{FlipsFit};
+ghost use Rattle.delaunay_removal.specs.Pairs.{FailOnlyAt, pairs_left};
+ghost use Rattle.delaunay_edit.specs.Halves.{CanSettle, Settles};
+
+use delaunay_core::math::PlaneTests;
+use delaunay_core::point::HasPosition;
+use delaunay_legalization::{ConstraintMarker, legalize};
+use delaunay_paths::add_path;
+use delaunay_removal::{RemovalLists, VertexPair, index_left, legalize_pairs, list_pairs};
+use half_edge_mesh::{Dcel, FixedUndirectedEdgeHandle, FixedVertexHandle};
+
+// Makes a constraint of the segment between the far ends of straight halves, whose middle `vertex`
+// went, before it tests the edges that `list_pairs` lists and those that were turned for it: so an
+// edge that is there before and after has not gone in between.
+fn join_halves<M: ConstraintMarker<UE>, V: HasPosition, DE, UE, F, P: PlaneTests<V::Scalar>>(
+    dcel: &mut Dcel<V, DE, UE, F>,
+    vertex: FixedVertexHandle,
+    ends: VertexPair,
+    border: &[VertexPair],
+    tests: &P,
+    lists: &RemovalLists,
+    work: &mut Vec<FixedUndirectedEdgeHandle>,
+    flips: &mut u64,
+)
+    requires can { CanSettle V.place M.can_mark M.constraints dcel.old vertex (Some ends)
+        (border.now ++ lists.now.turned.items) }
+    requires sites { All (P.sites tests.now) (map V.place dcel.old.vertices) }
+    requires room { 3 * length dcel.old.vertices ≤ vec_capacity work.old }
+    requires fits { FlipsFit (length dcel.old.vertices) flips.old }
+
+    ensures { Settles V.place M.marks M.marked M.constraints dcel.old dcel.new vertex (Some ends)
+        flips.old flips.new }
+{
+    list_pairs::<M, _, _, _, _>(dcel, vertex, border, lists, work);
+    let from = index_left(dcel, ends.0, vertex);
+    let to = index_left(dcel, ends.1, vertex);
+    add_path::<M, _, _, _, _, _>(dcel, from, to, tests, work);
+    legalize::<M, _, _, _, _, _>(dcel, tests, work, flips);
+}
+
+/// Joins the far ends of straight halves, whose middle `vertex` went, if there are such, and flips
+/// edges until each that is no constraint passes the circle test. `border`, `is_free` and the lists
+/// are as `legalize_pairs` has them.
+pub(crate) fn settle<M: ConstraintMarker<UE>, V: HasPosition, DE, UE, F, P: PlaneTests<V::Scalar>>(
+    dcel: &mut Dcel<V, DE, UE, F>,
+    vertex: FixedVertexHandle,
+    halves: Option<VertexPair>,
+    is_free: bool,
+    border: &[VertexPair],
+    tests: &P,
+    lists: &mut RemovalLists,
+    work: &mut Vec<FixedUndirectedEdgeHandle>,
+    flips: &mut u64,
+)
+    requires can { CanSettle V.place M.can_mark M.constraints dcel.old vertex halves
+        (border.now ++ lists.old.turned.items) }
+    requires only { IsTrue is_free → FailOnlyAt (map V.place dcel.old.vertices) dcel.old.mesh
+        (pairs_left (length dcel.old.vertices) vertex (border.now ++ lists.old.turned.items)) }
+    requires sites { All (P.sites tests.now) (map V.place dcel.old.vertices) }
+    requires room { 3 * length dcel.old.vertices ≤ vec_capacity work.old }
+    requires room_among { 3 * length dcel.old.vertices ≤ vec_capacity lists.old.sides }
+    requires fits { FlipsFit (length dcel.old.vertices) flips.old }
+
+    ensures { Settles V.place M.marks M.marked M.constraints dcel.old dcel.new vertex halves
+        flips.old flips.new }
+{
+    match halves {
+        Some(ends) => {
+            join_halves::<M, _, _, _, _, _>(dcel, vertex, ends, border, tests, lists, work, flips);
+        }
+        None => legalize_pairs::<M, _, _, _, _, _>(
+            dcel, vertex, is_free, border, tests, lists, work, flips,
+        ),
+    }
+}
