@@ -20,7 +20,7 @@ use Rattle.plane_segments.specs.PathSteps.{CanBeJoined}
 use Rattle.plane_segments.proofs.Constraints.HalvesJoin.{straight_halves_join_after_removal}
 use Rattle.plane_segments.proofs.Constraints.Splits.{straight_halves_join}
 use Rattle.mesh_embedding.specs.Drawn.{edges_of, faces_of, outer_of}
-use Rattle.mesh_embedding.proofs.MeshDrops.{mapped_swap_remove}
+use Rattle.half_edge_links.proofs.Removing.ShrinkTriangles.{map-swap_remove}
 use Rattle.mesh_embedding.proofs.OwnEdges.{own_edges}
 use Rattle.delaunay_legalization.specs.Constraints.{constraints_by, marked_edges}
 use Rattle.delaunay_legalization.specs.Constraints.{points_and_constraints_by}
@@ -109,7 +109,7 @@ module _ {V D U F : Type 0} (place : V → Point) (marks : U → Bool) (constrai
 
     points_left : after ≡ swap_remove before v (place value)
     points_left = ap (map place) (takes.plain.vertices value)
-        ∙ mapped_swap_remove place old.vertices v value
+        ∙ map-swap_remove place old.vertices v value
 
     -- each other vertex is where it was
     pub placed : (k : ℕ) → k < length old.vertices → k ≢ v

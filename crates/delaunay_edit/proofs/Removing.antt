@@ -5,7 +5,7 @@ use Rattle.std.specs.Prelude.{All, pos, slice_get}
 use Rattle.std.proofs.lemmas.List.{length-map, get_or-map}
 use Rattle.std.proofs.lemmas.Option.{get_or_from_slice_get, slice_get_within}
 use Rattle.half_edge_links.proofs.Removing.OpenSound.{length-swap_remove}
-use Rattle.mesh_embedding.proofs.MeshDrops.{mapped_swap_remove}
+use Rattle.half_edge_links.proofs.Removing.ShrinkTriangles.{map-swap_remove}
 use Rattle.half_edge_mesh.specs.Contents.{Contents}
 use Rattle.plane.specs.Fraction.{Point}
 use Rattle.plane.specs.Plain.{Drops}
@@ -34,7 +34,7 @@ module _ {V D U F : Type 0} (place : V → Point) (constraints : List U → List
   sites_left sites all =
       let within = removes.here in
       subst (λ (ps : List Point). All sites ps) (sym (ap (map place) (removes.vertices value)
-      ∙ mapped_swap_remove place old.vertices v value))
+      ∙ map-swap_remove place old.vertices v value))
       (all_left sites (map place old.vertices) v (place value)
       (omega (arith, within, length-map old.vertices place)) all)
 

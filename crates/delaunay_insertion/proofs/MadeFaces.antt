@@ -19,7 +19,8 @@ use Rattle.mesh_embedding.proofs.FaceChanges.{turned_faces}
 use Rattle.mesh_embedding.proofs.MeshEdits.{inserted_faces, split_faces, half_split_faces}
 use Rattle.mesh_embedding.proofs.MeshEdits.{face_before, face_behind}
 use Rattle.delaunay_legalization.specs.Star.{IsOneOf, MakesFacesAt}
-use Rattle.delaunay_legalization.proofs.Stars.{no_face, face_corners}
+use Rattle.plane_edits.proofs.Legalization.NewPoint.{none_in_empty}
+use Rattle.delaunay_legalization.proofs.Stars.{face_corners}
 
 -- ---- faces with one corner in common
 -- j k was a side of a face, or an outer edge
@@ -184,7 +185,8 @@ made_none m new v none =
     record { each = λ i j k f. absurd (gone i j k f); sides = λ j k f. absurd (gone v j k f) }
   where
     gone : (i j k : ℕ) → ¬ IsFaceOf (faces_of new) i j k
-    gone i j k f = no_face i j k (subst (λ fs. IsFaceOf fs i j k) (ap (map corners_of) none) f)
+    gone i j k f =
+        none_in_empty i j k (subst (λ fs. IsFaceOf fs i j k) (ap (map corners_of) none) f)
 
 -- a vertex that is added without edges makes no faces
 pub made_first : (m new : Mesh) (v : ℕ) → new ≡ with_vertex m

@@ -12,7 +12,7 @@ use Rattle.std.proofs.lemmas.Option.{get_or_from_slice_get, slice_get_within}
 use Rattle.std.proofs.Math.Seq.{map-set_same}
 use Rattle.half_edge_links.proofs.Removing.OpenSound.{length-swap_remove, get_or-swap_remove_same}
 use Rattle.half_edge_links.proofs.Removing.OpenSound.{get_or-swap_remove_other}
-use Rattle.mesh_embedding.proofs.MeshDrops.{mapped_swap_remove}
+use Rattle.half_edge_links.proofs.Removing.ShrinkTriangles.{map-swap_remove}
 use Rattle.plane.specs.Fraction.{Point}
 use Rattle.plane.specs.Hint.{IsAtMost, IsAtMostOf, IsAtMostWithout}
 use Rattle.plane.specs.Plain.{Plain, Inserts, Removes}
@@ -131,7 +131,7 @@ module _ {V : Type 0} (place : V → Point) (old new : Plain V) where
       let at = get_or-map place old.vertices v value (place value) within
       ∙ ap place (get_or_from_slice_get old.vertices v value value had) in
       subst (λ (ps : List Point). Contains ps p) (sym
-      (ap (map place) (removes.vertices value) ∙ mapped_swap_remove place old.vertices v value))
+      (ap (map place) (removes.vertices value) ∙ map-swap_remove place old.vertices v value))
       (contains_left (map place old.vertices) v p (place value)
       (omega (arith, within, length-map old.vertices place))
       (λ e. apart (e ∙ at)) c)

@@ -10,7 +10,7 @@ use Rattle.half_edge_links.proofs.Sound.Triangles as T
 use Rattle.plane.specs.Fraction.{Point, Fraction, whole}
 use Rattle.plane.specs.Circle.{InsideCircle}
 use Rattle.plane.specs.Pairs.{place, Joins}
-use Rattle.plane.specs.Tiling.{Face, face as corners}
+use Rattle.plane.specs.Tiling.{Face}
 use Rattle.plane_tiling.specs.Local.{IsMesh}
 use Rattle.plane_tiling.proofs.Appended.{kept_point}
 use Rattle.plane_tiling.proofs.Totals.{Contains-none}
@@ -23,12 +23,7 @@ use Rattle.mesh_embedding.proofs.MeshStars.{IsEdgeOfFace, edge_of_face}
 use Rattle.delaunay_legalization.specs.Star.{IsOneOf, MakesFacesAt, AllPassBeside, HasSidesAt}
 use Rattle.delaunay_legalization.specs.Star.{HasStar}
 use Rattle.plane_edits.proofs.LocalMesh.Kept.{index_of}
-
--- no face is in the empty list
-pub no_face : (i j k : ℕ) → ¬ IsFaceOf [] i j k
-no_face i j k (inl c) = Contains-none (corners i j k) c
-no_face i j k (inr (inl c)) = Contains-none (corners j k i) c
-no_face i j k (inr (inr c)) = Contains-none (corners k i j) c
+use Rattle.plane_edits.proofs.Legalization.NewPoint.{none_in_empty}
 
 -- the corners of a face are points
 pub face_corners : (points : List Point) (faces : List Face) (outer : List (ℕ × ℕ))
@@ -36,7 +31,7 @@ pub face_corners : (points : List Point) (faces : List Face) (outer : List (ℕ 
     → (i < length points) × (j < length points) × (k < length points)
 face_corners points faces outer (inl m) i j k f = index_of points faces outer m i j k f
 face_corners points faces outer (inr m) i j k f =
-    absurd (no_face i j k (subst (λ fs. IsFaceOf fs i j k) m.0 f))
+    absurd (none_in_empty i j k (subst (λ fs. IsFaceOf fs i j k) m.0 f))
 
 place_kept : (points : List Point) (q : Point) (k : ℕ) → k < length points
     → place points k ≡ place (points ++ q ∷ []) k

@@ -22,7 +22,7 @@ use Rattle.plane_edits.specs.Legal.{AllPassBut, Pass, point_of}
 use Rattle.plane_edits.proofs.Legalization.Flipping.{one_question}
 use Rattle.plane_edits.proofs.LocalMesh.Kept.{turning_of}
 use Rattle.mesh_embedding.specs.Drawn.{faces_of, outer_of}
-use Rattle.mesh_embedding.proofs.MeshDrops.{mapped_swap_remove}
+use Rattle.half_edge_links.proofs.Removing.ShrinkTriangles.{map-swap_remove}
 use Rattle.mesh_embedding.proofs.MeshEdits.{face_before}
 use Rattle.mesh_embedding.proofs.MeshLegal.{none_or_some}
 use Rattle.mesh_embedding.proofs.MeshStars.{edge_of_face}
@@ -31,7 +31,8 @@ use Rattle.delaunay_legalization.specs.Among.{IsQuiet}
 use Rattle.delaunay_legalization.specs.Constraints.{constraints_by, points_and_constraints_by}
 use Rattle.delaunay_legalization.specs.Shape.{IsTriangulated, IsDelaunayTriangulation}
 use Rattle.delaunay_legalization.specs.State.{State}
-use Rattle.delaunay_legalization.proofs.Stars.{face_corners, no_face}
+use Rattle.plane_edits.proofs.Legalization.NewPoint.{none_in_empty}
+use Rattle.delaunay_legalization.proofs.Stars.{face_corners}
 use Rattle.delaunay_removal.specs.Pairs.{FailOnlyAt, HasBorder, IsHoleSide, LeavesFaces}
 use Rattle.delaunay_removal.specs.Pairs.{former_index, pair_left, pairs_left}
 use Rattle.delaunay_removal.proofs.InnerStars.{no_way_back}
@@ -89,7 +90,7 @@ face_turns : (points : List Point) (faces : List Face) (outer : List (ℕ × ℕ
     → TurnsLeft (at points i) (at points j) (at points k)
 face_turns points faces outer (inl m) i j k f = turning_of points faces outer m i j k f
 face_turns points faces outer (inr m) i j k f =
-    absurd (no_face i j k (subst (λ fs. IsFaceOf fs i j k) m.0 f))
+    absurd (none_in_empty i j k (subst (λ fs. IsFaceOf fs i j k) m.0 f))
 
 module _ {V D U F : Type 0} (place : V → Point) (constraints : List U → List ℕ) (old new :
     State V D U F) (v : ℕ) (value : V) (legal : IsDelaunayTriangulation place constraints old)
@@ -112,7 +113,7 @@ module _ {V D U F : Type 0} (place : V → Point) (constraints : List U → List
 
   points_left : map place new.vertices ≡ swap_remove (map place old.vertices) v (place value)
   points_left = ap (map place) (removes.vertices value)
-      ∙ mapped_swap_remove place old.vertices v value
+      ∙ map-swap_remove place old.vertices v value
 
   same_place : (k : ℕ) → k < length (map place new.vertices) →
       at (map place old.vertices) (was k) ≡ at (map place new.vertices) k

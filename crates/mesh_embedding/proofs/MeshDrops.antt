@@ -1,11 +1,10 @@
 -- A vertex without edges goes, and the last one takes its index: in the faces and the outer edges,
 -- the points and the plain state.
 use Rattle.std.proofs.Common.{◌≡◌, ◌<◌, ◌-◌, [], ◌∷◌, ◌∙◌}
-use Rattle.std.proofs.Common.{ℕ, zero, suc, List, length, map, get_or, set, refl, sym, ap, subst}
+use Rattle.std.proofs.Common.{ℕ, List, length, map, refl, sym, ap, subst}
 use Rattle.std.proofs.Common.{arith}
-use Rattle.std.specs.Prelude.{Contains, swap_remove, take, nat_eq, if◌then◌else◌}
+use Rattle.std.specs.Prelude.{Contains, swap_remove, nat_eq, if◌then◌else◌}
 use Rattle.std.proofs.lemmas.Option.{slice_get_within}
-use Rattle.std.proofs.lemmas.List.{take-map}
 use Rattle.half_edge_mesh.specs.Mesh.{Mesh, AreSoundLinks, IsAlone, origin, out_edge}
 use Rattle.half_edge_mesh.specs.Outline.{Ends}
 use Rattle.half_edge_mesh.specs.Flow.{outline}
@@ -28,7 +27,7 @@ use Rattle.mesh_embedding.proofs.EdgePairs.{no_joins}
 use Rattle.mesh_embedding.proofs.Entries.{not_some}
 use Rattle.mesh_embedding.proofs.OuterEdges.{real}
 use Rattle.mesh_embedding.proofs.FaceChanges.{length_map}
-use Rattle.half_edge_links.proofs.Removing.ShrinkTriangles.{get_map}
+use Rattle.half_edge_links.proofs.Removing.ShrinkTriangles.{map-swap_remove}
 
 -- no outer edge starts at a vertex without edges
 pub alone_has_none : (m : Mesh) (v j : ℕ) → AreSoundLinks m → IsAlone m v
@@ -39,22 +38,6 @@ alone_has_none m v j s alone c =
     not_some (out_edge m (origin m r.0)) (ap (out_edge m) r.1.source ∙ alone.1) some
 
 -- ---- lists
-mapped_set : {X Y : Type 0} (f : X → Y) (xs : List X) (k : ℕ) (x : X)
-    → map f (set xs k x) ≡ set (map f xs) k (f x)
-mapped_set f [] k x = refl
-mapped_set f (y ∷ ys) zero x = refl
-mapped_set f (y ∷ ys) (suc k) x = ap (λ zs. f y ∷ zs) (mapped_set f ys k x)
-
--- an item may be taken out before a function is applied to the list, or after
-pub mapped_swap_remove : {X Y : Type 0} (f : X → Y) (xs : List X) (k : ℕ) (d : X)
-    → map f (swap_remove xs k d) ≡ swap_remove (map f xs) k (f d)
-mapped_swap_remove f xs k d =
-    sym (take-map f (length xs - 1) (set xs k (get_or xs (length xs - 1) d)))
-    ∙ ap (take (length xs - 1)) (mapped_set f xs k (get_or xs (length xs - 1) d)
-    ∙ ap (set (map f xs) k) (sym (get_map f xs (length xs - 1) d)))
-    ∙ ap (λ n. take (n - 1) (set (map f xs) k (get_or (map f xs) (n - 1) (f d))))
-    (sym (length_map f xs))
-
 -- two functions applied one after the other to a list are one function applied to it
 pub mapped_twice : {X Y Z : Type 0} (f : X → Y) (g : Y → Z) (h : X → Z) (xs : List X)
     → ((x : X) → g (f x) ≡ h x) → map g (map f xs) ≡ map h xs
@@ -101,7 +84,7 @@ module _ {V D U F : Type 0} (position : V → Point) (old new : Contents V D U F
 
   points_left : map position new.vertices
       ≡ swap_remove (map position old.vertices) v (position value)
-  points_left = ap (map position) vertices_left ∙ mapped_swap_remove position old.vertices v value
+  points_left = ap (map position) vertices_left ∙ map-swap_remove position old.vertices v value
 
   outer_left : outer_of new.mesh
       ≡ map (renumbered_pair v (length (map position old.vertices) - 1)) (outer_of old.mesh)

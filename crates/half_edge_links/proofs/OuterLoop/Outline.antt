@@ -112,7 +112,8 @@ outline_inserted m new v a s inner alone i =
       there = λ h within outer.
           let off : (k : ℕ) → face m k ≡ face m a
           → h ≢ k = λ k is q. absurd (omega (arith, inner.1, is, ap (face m) q, outer)) in
-          let same = i.other_edges h within (off a refl) (off _ t.face_next) (off _ t.face_prev) in (
+          let same = i.other_edges h within (off a refl) (off _ t.face_next) (off _ t.face_prev)
+          in (
             omega (arith, within, i.edge_count),
             ap (λ (w : HalfEdge). w.face) same ∙ outer,
             ap (λ (w : HalfEdge). w.next) same,

@@ -37,7 +37,8 @@ get_map f [] n d = refl
 get_map f (x ∷ xs) zero d = refl
 get_map f (x ∷ xs) (suc n) d = get_map f xs n d
 
-map-swap_remove : {X Y : Type 0} (f : X → Y) (xs : List X) (i : ℕ) (d : X)
+-- an item may be taken out before a function is applied to the list, or after
+pub map-swap_remove : {X Y : Type 0} (f : X → Y) (xs : List X) (i : ℕ) (d : X)
     → map f (swap_remove xs i d) ≡ swap_remove (map f xs) i (f d)
 map-swap_remove f xs i d =
     let n = length-map xs f in

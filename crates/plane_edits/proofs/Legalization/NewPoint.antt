@@ -10,9 +10,9 @@ use Rattle.plane.specs.Circle.{InsideCircle}
 use Rattle.plane.specs.Laws.{squared_way, turn_at}
 use Rattle.plane.specs.Pairs.{place}
 use Rattle.plane.specs.Tiling.{Face, face}
-use Rattle.plane.proofs.IntegerOrder.{mul-nonneg_ℤ, square-nonneg_ℤ}
+use Rattle.plane.proofs.IntegerOrder.{mul-nonneg_ℤ}
 use Rattle.plane.proofs.Steps.{zero_or_left, one_number}
-use Rattle.plane.proofs.Signs.{zero_of_square, zero_is_not_above}
+use Rattle.plane.proofs.Signs.{squares_vanish, zero_is_not_above}
 use Rattle.plane.proofs.Indexes.{below_or_last}
 use Rattle.plane.proofs.Solver.{num, ◌⊖◌, ◌⊗◌, ring_in}
 use Rattle.plane.proofs.Bracket.{bracket, lift}
@@ -34,26 +34,12 @@ use Rattle.plane_edits.proofs.Legalization.Legal.{squared_way_nonneg}
 
 -- ---- a closed triangle and its circle
 -- different points are some way apart
-way_positive : (q p : Point) → ¬ (q ≡ p) → pos 0 <ℤ squared_way q p
+pub way_positive : (q p : Point) → ¬ (q ≡ p) → pos 0 <ℤ squared_way q p
 way_positive q p apart = go (zero_or_left (squared_way_nonneg q p))
   where
-    first : (s t : ℤ) → s +ℤ t ≡ pos 0 → pos 0 ≤ℤ s → pos 0 ≤ℤ t → s ≡ pos 0
-    first s t e h k = omega (arith, ints)
-
-    second : (s t : ℤ) → s +ℤ t ≡ pos 0 → pos 0 ≤ℤ s → pos 0 ≤ℤ t → t ≡ pos 0
-    second s t e h k = omega (arith, ints)
-
-    both : (a b : ℤ) → a *ℤ a +ℤ b *ℤ b ≡ pos 0 → (a ≡ pos 0) × (b ≡ pos 0)
-    both a b e =
-        let h = square-nonneg_ℤ a in
-        let k = square-nonneg_ℤ b in (
-          zero_of_square a (first (a *ℤ a) (b *ℤ b) e h k),
-          zero_of_square b (second (a *ℤ a) (b *ℤ b) e h k),
-        )
-
     go : (squared_way q p ≡ pos 0) ⊎ (pos 0 <ℤ squared_way q p) → pos 0 <ℤ squared_way q p
     go (inl e) =
-        let b = both (p.x -ℤ q.x) (p.y -ℤ q.y) e in
+        let b = squares_vanish (p.x -ℤ q.x) (p.y -ℤ q.y) e in
         absurd (apart (λ i. record { x = one_number q.x p.x b.0 i; y = one_number q.y p.y b.1 i }))
     go (inr h) = h
 
@@ -112,7 +98,7 @@ corner_or_inside_circle a b c q turns within no_a no_b no_c =
 
 -- ---- the circles round the point
 -- no face is in the empty list
-none_in_empty : (i j k : ℕ) → ¬ IsFaceOf [] i j k
+pub none_in_empty : (i j k : ℕ) → ¬ IsFaceOf [] i j k
 none_in_empty i j k (inl c) = Contains-none (face i j k) c
 none_in_empty i j k (inr (inl c)) = Contains-none (face j k i) c
 none_in_empty i j k (inr (inr c)) = Contains-none (face k i j) c

@@ -158,7 +158,8 @@ module _ {V : Type 0} where
       go (inr l) = let d = some_of s.vertices i (here i hi) in plain.distinct j i d l (here i hi)
           (sym (at j (here j hj) d) ∙ sym one ∙ at i (here i hi) d)
 
-  module _ (position : V → Point) (old new : Plain V) (v : ℕ) (r : TakesOut position old new v) where
+  module _ (position : V → Point) (old new : Plain V) (v : ℕ)
+      (r : TakesOut position old new v) where
     d : V
     d = some_of old.vertices v r.here
 

@@ -7,17 +7,17 @@ use Rattle.plane.specs.Fraction.{Point, whole, IsSame, IsPositive, WithinSegment
 use Rattle.plane.specs.Laws.{squared_way}
 use Rattle.plane.specs.Pairs.{place}
 use Rattle.plane.proofs.IntegerOrder.{mul-pos_ℤ, pos_of_mul-pos_ℤ}
-use Rattle.plane.proofs.Steps.{zero_or_left, one_number}
 use Rattle.plane.proofs.Solver.{num, ◌⊕◌, ◌⊖◌, ◌⊗◌, ring_in_from, ring_over}
 use Rattle.plane.proofs.Bracket.{points as points_shape}
 use Rattle.plane.proofs.Means.{two_weights}
 use Rattle.plane_edits.specs.Legal.{point_of}
 use Rattle.plane_segments.specs.Constraints.{PathShortens}
 use Rattle.plane_segments.proofs.Crossing.EitherWay.{one_point}
-use Rattle.plane_segments.proofs.Crossing.Falling.{same_values, not_both}
+use Rattle.plane_segments.proofs.Crossing.Falling.{same_values}
 use Rattle.plane_segments.proofs.Constraints.Pieces.{on_parts}
 use Rattle.plane.proofs.Signs.{less_by_difference, sum_is_positive, lower_magnitude}
 use Rattle.plane_edits.proofs.Legalization.Legal.{squared_way_nonneg}
+use Rattle.plane_edits.proofs.Legalization.NewPoint.{way_positive}
 
 scaled : (n k l i j w : ℤ) → n *ℤ w ≡ k *ℤ i +ℤ l *ℤ j → n *ℤ pos 1 ≡ k *ℤ pos 1 +ℤ l *ℤ pos 1
     → n *ℤ (j -ℤ w) ≡ k *ℤ (j -ℤ i)
@@ -31,13 +31,6 @@ difference : (n k s t : ℤ) → (n *ℤ n) *ℤ s ≡ (k *ℤ k) *ℤ t
 difference n k s t e = ring_in_from (n ∷ k ∷ s ∷ t ∷ []) (λ n k s t. (n ⊗ n) ⊗ (t ⊖ s))
     (λ n k s t. ((n ⊖ k) ⊗ (n ⊕ k)) ⊗ t)
     (λ n k s t. (num 0 ⊖ num 1, (n ⊗ n) ⊗ s, (k ⊗ k) ⊗ t) ∷ []) (e, tt) tt
-
-way_above : (q p : Point) → ¬ (q ≡ p) → pos 0 <ℤ squared_way q p
-way_above q p n = elim (zero_or_left (squared_way_nonneg q p)) [
-  | inl e ↦ absurd (n (let b = not_both (p.x -ℤ q.x) (p.y -ℤ q.y) e in
-      λ i. record { x = one_number q.x p.x b.0 i; y = one_number q.y p.y b.1 i }))
-  | inr h ↦ h
-]
 
 way_none : (p : Point) → squared_way p p ≡ pos 0
 way_none p = ring_over points_shape [] (p ∷ [])
@@ -54,7 +47,7 @@ within_nearer i j w apart h =
     (pos_of_mul-pos_ℤ (mul-pos_ℤ t.positive t.positive)
     (subst (λ z. pos 0 <ℤ z) (sym (difference t.n t.k (squared_way w j) (squared_way i j) e))
     (mul-pos_ℤ (mul-pos_ℤ (falls t.n t.k t.l t.w t.l_allowed)
-    (sum_is_positive t.n t.k t.positive t.k_allowed)) (way_above i j apart))))
+    (sum_is_positive t.n t.k t.positive t.k_allowed)) (way_positive i j apart))))
   where
     falls : (n k l : ℤ) → n *ℤ pos 1 ≡ k *ℤ pos 1 +ℤ l *ℤ pos 1 → pos 0 <ℤ l → pos 0 <ℤ (n -ℤ k)
     falls n k l e h = omega (arith, ints)
@@ -78,6 +71,6 @@ path_shortens points i j w distinct hi hj ij n =
     go (inr (inl s)) = subst (λ z. z <ℤ squared_way (point_of points i) (point_of points j))
         (sym (ap (λ (q : Point). squared_way q (point_of points j))
         (one_point (point_of points w) (point_of points j) s) ∙ way_none (point_of points j)))
-        (way_above (point_of points i) (point_of points j) apart)
+        (way_positive (point_of points i) (point_of points j) apart)
     go (inr (inr h)) =
         within_nearer (point_of points i) (point_of points j) (point_of points w) apart h

@@ -22,7 +22,7 @@ use Rattle.plane_segments.proofs.Crossing.Turns.{turnᵖ, turn-same}
 use Rattle.plane_segments.specs.Measure.{comes_before, is_right, one_if, rank_below}
 use Rattle.plane.proofs.Signs.{at_most_both_ways, difference_of_zeros, negated_negative}
 use Rattle.plane.proofs.Signs.{negated_not_negative, same_after_shift, same_have_no_difference}
-use Rattle.plane.proofs.Signs.{sum_not_negative_of, sum_of_zeros_from, zero_of_square}
+use Rattle.plane.proofs.Signs.{squares_vanish, sum_not_negative_of, sum_of_zeros_from}
 use Rattle.plane.proofs.Signs.{at_most_itself}
 use Rattle.plane.proofs.Sides.{test_false, test_true, less_by_test}
 use lib.IntN.{*ℤ_comm}
@@ -305,19 +305,6 @@ equal_squares f g s hf hg hs e = go (trichotomy_ℤ (f -ℤ g))
     go d = no_difference f g (zero_of_mul-zero_ℤ (λ z. right_not_zero factor z) (*ℤ_comm ((f +ℤ g)
         *ℤ s) (f -ℤ g) ∙ product f g s ∙ same_have_no_difference ((f *ℤ f) *ℤ s) ((g *ℤ g) *ℤ s) e))
 
--- where the sum of two squares is 0, both numbers are
-pub not_both : (a b : ℤ) → a *ℤ a +ℤ b *ℤ b ≡ pos 0 → (a ≡ pos 0) × (b ≡ pos 0)
-not_both a b e = (
-  zero_of_square a (first (a *ℤ a) (b *ℤ b) e (square-nonneg_ℤ a) (square-nonneg_ℤ b)),
-  zero_of_square b (second (a *ℤ a) (b *ℤ b) e (square-nonneg_ℤ a) (square-nonneg_ℤ b)),
-)
-  where
-    first : (p q : ℤ) → p +ℤ q ≡ pos 0 → pos 0 ≤ℤ p → pos 0 ≤ℤ q → p ≡ pos 0
-    first p q e h k = omega (arith, ints)
-
-    second : (p q : ℤ) → p +ℤ q ≡ pos 0 → pos 0 ≤ℤ p → pos 0 ≤ℤ q → q ≡ pos 0
-    second p q e h k = omega (arith, ints)
-
 -- of two different points on one ray from i, the one that is not farther from i is nearer
 pub strictly_nearer : (i j v z : Point) → turn_at i v z ≡ pos 0 → turn_at i j z <ℤ pos 0
     → turn_at i j v <ℤ pos 0 → squared_way i z ≤ℤ squared_way i v → ¬ (z ≡ v)
@@ -363,7 +350,7 @@ strictly_nearer i j v z tie hz hv near apart =
         → squared_way i z <ℤ squared_way i v
     go (inl h) k = h
     go (inr h) (inr k) = absurd (clash h k)
-    go (inr h) (inl e) = absurd (let b = not_both (v.x -ℤ i.x) (v.y -ℤ i.y) e in
+    go (inr h) (inl e) = absurd (let b = squares_vanish (v.x -ℤ i.x) (v.y -ℤ i.y) e in
         right_not_zero hv (no_turn (j.x -ℤ i.x) (v.y -ℤ i.y) (j.y -ℤ i.y) (v.x -ℤ i.x) b.1 b.0))
       where
         no_turn : (p b q a : ℤ) → b ≡ pos 0 → a ≡ pos 0 → p *ℤ b -ℤ q *ℤ a ≡ pos 0
