@@ -19,7 +19,19 @@ use half_edge_mesh::{Dcel, FixedVertexHandle};
 
 impl<V: HasPosition, DE, UE, F, L: HintGenerator<V::Scalar>, M: EdgeData<UE>> HasMesh<V, DE, UE, F>
     for TriangulationCore<V, DE, UE, F, L, M> {
-    ghost state = { λ s. s };
+    ghost mesh_state = { λ s. s };
+
+    fn search_start<P: PlaneTests<V::Scalar>>(
+        &self,
+        position: Point2<V::Scalar>,
+        tests: &P,
+    ) -> FixedVertexHandle
+        requires sites { AreSites V.place (P.sites tests.now) self.now.vertices }
+        requires covered { P.covered tests.now (place_of V.Scalar.whole position) }
+    {
+        self.edited.recall_invariant();
+        self.hint_generator.get_hint(position, tests)
+    }
 
     fn mesh(&self) -> &Dcel<V, DE, UE, F> {
         self.edited.recall_invariant();
@@ -36,7 +48,8 @@ impl<V: HasPosition, DE, UE, F, L: HintGenerator<V::Scalar>> ConstrainedDelaunay
 > {
     /// Whether two positions that the tests cover differ and the segment between them meets a
     /// constraint in one point, strictly within the constraint. A constraint along the segment does
-    /// not count, nor one that only ends on it.
+    /// not count, nor one that only ends on it. The hint generator says where the search for the
+    /// first position begins.
     pub fn intersects_constraint<P: PlaneTests<V::Scalar>>(
         &self,
         from: Point2<V::Scalar>,
@@ -51,11 +64,14 @@ impl<V: HasPosition, DE, UE, F, L: HintGenerator<V::Scalar>> ConstrainedDelaunay
             (constraints_of self.now) (place_of whole from) (place_of whole to) }
     {
         self.edited.recall_invariant();
-        intersects_constraint::<EdgeConstraints, _, _, _, _, _>(self.edited.mesh(), from, to, tests)
+        let start = self.search_start(from, tests);
+        let mesh = self.edited.mesh();
+        intersects_constraint::<EdgeConstraints, _, _, _, _, _>(mesh, from, to, start, tests)
     }
 
     /// The constraints that the segment from one position to another meets in one point strictly
-    /// within them, in the order along the segment. The tests cover both positions.
+    /// within them, in the order along the segment. The tests cover both positions. The hint
+    /// generator says where the search for the first begins.
     ///
     /// ```
     /// for wall in site.get_conflicting_edges_between_points(from, to, &ExactTests) {
@@ -76,7 +92,8 @@ impl<V: HasPosition, DE, UE, F, L: HintGenerator<V::Scalar>> ConstrainedDelaunay
         ensures ready { IsReady V.place V.Scalar.whole P.sites P.covered result.line }
     {
         self.edited.recall_invariant();
-        ConflictingEdgesIterator::between_points(self.edited.mesh(), from, to, tests)
+        let start = self.search_start(from, tests);
+        ConflictingEdgesIterator::between_points(self.edited.mesh(), from, to, start, tests)
     }
 
     /// The same for the segment from one vertex to another.

@@ -69,12 +69,13 @@ impl<'a, V: HasPosition, DE, UE, F, P: PlaneTests<V::Scalar>> Segment<'a, V, DE,
     }
 }
 
-/// What the segment from one position to another meets. Where it starts is looked for from vertex 0
-/// on.
+/// What the segment from one position to another meets. Where it starts is looked for from the
+/// vertex `hint` on, or from vertex 0 where there is no such vertex.
 pub fn line_between<'a, V: HasPosition, DE, UE, F, P: PlaneTests<V::Scalar>>(
     dcel: &'a Dcel<V, DE, UE, F>,
     from: Point2<V::Scalar>,
     to: Point2<V::Scalar>,
+    hint: FixedVertexHandle,
     tests: &'a P,
 ) -> LineIntersectionIterator<'a, V, DE, UE, F, P>
     requires kept { IsTriangulated V.place (state_of dcel.now) }
@@ -92,8 +93,7 @@ pub fn line_between<'a, V: HasPosition, DE, UE, F, P: PlaneTests<V::Scalar>>(
         from,
         to,
     };
-    let first = FixedVertexHandle::from_index(0);
-    segment.walk_from_location(locate_with_hint(dcel, from, first, tests))
+    segment.walk_from_location(locate_with_hint(dcel, from, hint, tests))
 }
 
 /// What the segment from one vertex to another meets, from the vertex on: of a vertex to itself,

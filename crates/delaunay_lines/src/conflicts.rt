@@ -114,11 +114,13 @@ impl<
         }
     }
 
-    /// The constraints that the segment between two positions crosses.
+    /// The constraints that the segment between two positions crosses. The search for the first
+    /// position begins at the vertex `hint`, or at vertex 0 where there is no such vertex.
     pub fn between_points(
         dcel: &'a Dcel<V, DE, UE, F>,
         from: Point2<V::Scalar>,
         to: Point2<V::Scalar>,
+        hint: FixedVertexHandle,
         tests: &'a P,
     ) -> Self
         requires kept { IsTriangulated V.place (state_of dcel.now) }
@@ -130,14 +132,15 @@ impl<
         ensures ready { IsReady V.place V.Scalar.whole P.sites P.covered result.line }
     {
         ConflictingEdgesIterator {
-            line: line_between(dcel, from, to, tests),
+            line: line_between(dcel, from, to, hint, tests),
             marks: PhantomData,
         }
     }
 }
 
 /// Whether two positions differ and the segment between them meets a constraint in one point,
-/// strictly within the constraint.
+/// strictly within the constraint. The search for the first position begins at the vertex `hint`,
+/// or at vertex 0 where there is no such vertex.
 pub fn intersects_constraint<
     M: ConstraintMarker<UE>,
     V: HasPosition,
@@ -145,7 +148,13 @@ pub fn intersects_constraint<
     UE,
     F,
     P: PlaneTests<V::Scalar>,
->(dcel: &Dcel<V, DE, UE, F>, from: Point2<V::Scalar>, to: Point2<V::Scalar>, tests: &P) -> bool
+>(
+    dcel: &Dcel<V, DE, UE, F>,
+    from: Point2<V::Scalar>,
+    to: Point2<V::Scalar>,
+    hint: FixedVertexHandle,
+    tests: &P,
+) -> bool
     requires kept { IsTriangulated V.place (state_of dcel.now) }
     requires sites { All (P.sites tests.now) (map V.place dcel.now.vertices) }
     requires from_covered { P.covered tests.now (place_of V.Scalar.whole from) }
@@ -155,7 +164,7 @@ pub fn intersects_constraint<
         (constraints_by M.constraints s) (place_of V.Scalar.whole from)
         (place_of V.Scalar.whole to) }
 {
-    let mut line = line_between(dcel, from, to, tests);
+    let mut line = line_between(dcel, from, to, hint, tests);
     next_conflict::<M, _, _, _, _, _>(&mut line).is_some()
 }
 
