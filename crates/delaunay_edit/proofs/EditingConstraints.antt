@@ -73,6 +73,7 @@ module _ {V D U F : Type 0} (place : V → Point) where
             (λ t. absurd (both_ways false t refl)),
             (λ differ. absurd (differ (λ a b. ((λ x. x), (λ x. x))))),
           );
+          none_made = λ not_made. refl;
           «data» = unmarked;
           err = tt;
         })
@@ -95,6 +96,7 @@ module _ {V D U F : Type 0} (place : V → Point) where
         subst (λ (r : Result Bool E). AddsConstraint place from to r old new) (sym is) (record {
           plain = adds;
           told = ((λ t. pairs_differ some), (λ differ. refl));
+          none_made = λ not_made. absurd (not_made refl);
           «data» = marks;
           err = tt;
         })

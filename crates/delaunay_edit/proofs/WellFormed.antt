@@ -37,5 +37,6 @@ module _ {V D U F : Type 0} (place : V → Point) (marks : U → Bool) (constrai
     plain = plain_with_edges place s legal.kept
         (constraints_by constraints s) is_delaunay.delaunay.kept;
     kept = legal.kept;
+    passing = legal.passing;
     headline = is_delaunay;
   }

@@ -51,6 +51,7 @@ module _ {V D U F : Type 0} (place : V → Point) where
     pub plain : OnOk result (Adds place (constrained old) (constrained new) from to)
     pub told :
         IfOk result (λ made. IsTrue made ↔ (¬ SamePairs (constraints_of old) (constraints_of new)))
+    pub none_made : IfOk result (λ made. (¬ IsTrue made) → new ≡ old)
     pub «data» : OnOk result (MarksEdges old new)
     pub err : OnErr result (new ≡ old)
 

@@ -5,7 +5,7 @@ use Rattle.plane.specs.Fraction.{Point}
 use Rattle.plane.specs.Plain.{IsPlain}
 use Rattle.plane.specs.Tests.{InRange}
 use Rattle.plane.specs.Tiling.{IsTiling, IsFace}
-use Rattle.plane.specs.Delaunay.{IsConstrainedDelaunay, IsStrictlyEmpty}
+use Rattle.plane.specs.Delaunay.{IsConstrainedDelaunay, IsLocallyDelaunay, IsStrictlyEmpty}
 use Rattle.plane_delaunay.specs.History.{IsHistoryFree}
 use Rattle.delaunay_legalization.specs.Constraints.{constraints_by, points_and_constraints_by}
 use Rattle.delaunay_legalization.specs.Shape.{IsTriangulated}
@@ -24,13 +24,15 @@ pub record IsDelaunay {V D U F : Type 0} (place : V → Point) (constraints : Li
   pub history_free : IsHistoryFree (triangulation_of place s) (constraints_by constraints s)
 
 -- and what else callers may rely on: every vertex has an index and is in range, the positions
--- differ, and the mesh is sound
+-- differ, the mesh is sound, and each edge between two faces that is no constraint passes the
+-- circle test
 pub record IsWellFormed {V D U F : Type 0} (place : V → Point) (constraints : List U → List ℕ)
     (s : State V D U F) : Type 0 where
   pub small : length s.vertices ≤ MAX_ELEMENTS
   pub in_range : All InRange (map place s.vertices)
   pub plain : IsPlain place (points_and_constraints_by constraints s)
   pub kept : IsTriangulated place s
+  pub passing : IsLocallyDelaunay (triangulation_of place s) (constraints_by constraints s)
   pub headline : IsDelaunay place constraints s
 
 -- where all vertices are in range, as those of a triangulation are, they are sites

@@ -1,5 +1,6 @@
 //! The user's part of the data of an edge.
-ghost use Rattle.std.specs.Prelude.{◌≡◌, ◌<◌, ℕ, List, length, refl, slice_set};
+ghost use Rattle.std.specs.Prelude.{◌≡◌, ◌<◌, ℕ, List, length, map, refl, Some};
+ghost use Rattle.std.specs.Prelude.{slice_get, slice_set};
 ghost use Rattle.std.proofs.Common.{length-set};
 ghost use Rattle.std.specs.Borrow.{Lends, sem};
 ghost use Rattle.half_edge_dcel.specs.contracts.dcel.Dcel.{the_row};
@@ -13,6 +14,9 @@ use half_edge_mesh::{Dcel, FixedUndirectedEdgeHandle};
 pub trait EdgeData<UE>: ConstraintMarker<UE> {
     type User;
 
+    // The user's part of the data of an edge.
+    ghost user: { UE → Self.User };
+
     // The data of all edges, with another user's part at one.
     ghost with_user: { List UE → ℕ → Self.User → List UE };
 
@@ -24,7 +28,8 @@ pub trait EdgeData<UE>: ConstraintMarker<UE> {
         requires { edge < length dcel.old.undirected }
         ensures* writes_back { sem 𝓛 (Lends (the_row V.row DE.row UE.row F.row) Self.User.row
             dcel.entry result (λ w. record dcel.old
-            { undirected = with_user dcel.old.undirected edge w })) };
+            { undirected = with_user dcel.old.undirected edge w })) }
+        ensures value { slice_get (map user dcel.old.undirected) edge ≡ Some result.now };
 
     ghost with_user_length: { (es : List UE) (i : ℕ) (w : Self.User) →
         length (with_user es i w) ≡ length es };
@@ -35,6 +40,8 @@ pub trait EdgeData<UE>: ConstraintMarker<UE> {
 
 impl<UE> EdgeData<UE> for NoConstraints {
     type User = UE;
+
+    ghost user = { λ d. d };
 
     ghost with_user = { slice_set };
 
@@ -52,6 +59,8 @@ impl<UE> EdgeData<UE> for NoConstraints {
 
 impl<UE> EdgeData<CdtEdge<UE>> for EdgeConstraints {
     type User = UE;
+
+    ghost user = { λ d. d.«data» };
 
     ghost with_user = { with_data };
 

@@ -1,5 +1,5 @@
 //! References for writing to the data of edges and faces.
-ghost use Rattle.std.specs.Prelude.{◌≡◌, ◌<◌, ◌≤◌, ◌∷◌, ℕ, length, Some, slice_get};
+ghost use Rattle.std.specs.Prelude.{◌≡◌, ◌<◌, ◌≤◌, ◌∷◌, ℕ, length, map, Some, slice_get};
 ghost use Rattle.std.specs.Borrow.{Lends, sem};
 ghost use Rattle.delaunay_legalization.specs.State.{State};
 ghost use Rattle.delaunay_edit.specs.Writing.{with_directed_data, with_undirected_data};
@@ -29,6 +29,8 @@ pub trait WriteData {
     // What it ends as, with other data of a directed edge, of the user's of an edge, or of a face.
     ghost with_directed: { Self → ℕ → Self.DirectedEdge → Self };
 
+    ghost user: { Self.UndirectedEdge → Self.User };
+
     ghost with_user: { Self → ℕ → Self.User → Self };
 
     ghost with_face: { Self → ℕ → Self.Face → Self };
@@ -44,7 +46,9 @@ pub trait WriteData {
     fn undirected_edge_data_mut(&mut self, edge: FixedUndirectedEdgeHandle) -> &mut Self::User
         requires { edge < length (written self.old).undirected }
         ensures* writes_back { sem 𝓛 (Lends Self.row Self.User.row self.entry result
-            (with_user self.entry.now edge)) };
+            (with_user self.entry.now edge)) }
+        ensures value { slice_get (map user (written self.old).undirected) edge ≡ Some
+            result.now };
 
     /// The data of a face, the outer one among them, for writing.
     fn face_data_mut(&mut self, face: FixedFaceHandle) -> &mut Self::Face
@@ -69,6 +73,8 @@ impl<V: HasPosition, DE, UE, F, M: EdgeData<UE>> WriteData for EditedMesh<V, DE,
     ghost written = { λ s. s };
 
     ghost with_directed = { with_directed_data };
+
+    ghost user = { M.user };
 
     ghost with_user = { λ s e w. with_undirected_data s (M.with_user s.undirected e w) };
 

@@ -91,7 +91,7 @@ module _ {V D U F : Type 0} (place : V → Point) (from to : ℕ) where
       (sym is) (record {
         conflict = ((λ e. barred), (λ n. refl));
         memory = inl refl;
-        adds = record { plain = tt; told = tt; «data» = tt; err = refl };
+        adds = record { plain = tt; told = tt; none_made = tt; «data» = tt; err = refl };
       })
 
   -- memory was refused
@@ -103,7 +103,7 @@ module _ {V D U F : Type 0} (place : V → Point) (from to : ℕ) where
       (sym is) (record {
         conflict = ((λ e. absurd (cc)), (λ barred. absurd (barred free)));
         memory = inr refl;
-        adds = record { plain = tt; told = tt; «data» = tt; err = same };
+        adds = record { plain = tt; told = tt; none_made = tt; «data» = tt; err = same };
       })
 
   -- the vertices were joined
@@ -117,7 +117,13 @@ module _ {V D U F : Type 0} (place : V → Point) (from to : ℕ) where
       (sym is) (record {
         conflict = ((λ e. absurd (cc)), (λ barred. absurd (barred free)));
         memory = tt;
-        adds = record { plain = added.plain; told = added.told; «data» = added.«data»; err = tt };
+        adds = record {
+          plain = added.plain;
+          told = added.told;
+          none_made = added.none_made;
+          «data» = added.«data»;
+          err = tt;
+        };
       })
 
 -- ---- what calls of an iterator gave

@@ -1,4 +1,5 @@
 //! The calls of the trait, for the struct that both triangulation types are.
+ghost use Rattle.std.specs.Prelude.{refl};
 ghost use Rattle.delaunay_edit.specs.Writing.{with_directed_data, with_undirected_data};
 ghost use Rattle.delaunay_edit.specs.Writing.{with_face_data};
 
@@ -41,6 +42,8 @@ impl<
     type Constraints = M;
 
     ghost state = { λ t. t };
+
+    ghost state_is_of_mesh = { λ _. refl };
 
     ghost with_directed = { with_directed_data };
 

@@ -37,6 +37,7 @@ use delaunay_core::HintGenerator;
 use delaunay_core::math::{InsertionError, PlaneTests};
 use delaunay_core::point::{HasPosition, Point2};
 use delaunay_edit::EdgeData;
+use delaunay_lines::HasMesh;
 use delaunay_location::{PositionInTriangulation, locate_with_hint};
 use half_edge_mesh::{
     Dcel, DirectedEdgeHandle, FaceHandle, FixedDirectedEdgeHandle, FixedDirectedEdgeIterator,
@@ -68,7 +69,10 @@ pub(crate) mod sealed {
 /// Calls that ask tests want each vertex to be a site of them, and each position that is asked for
 /// to be covered by them. Handles are those of this triangulation: `get_vertex` and the counts tell
 /// whether they are in range.
-pub trait Triangulation: Drop + sealed::Sealed {
+pub trait Triangulation:
+    Drop
+    + sealed::Sealed
+    + HasMesh<Self::Vertex, Self::DirectedEdge, Self::UndirectedEdge, Self::Face> {
     type Vertex: HasPosition + Drop;
 
     type DirectedEdge: Default + Drop;
@@ -247,7 +251,9 @@ pub trait Triangulation: Drop + sealed::Sealed {
         requires { edge < length (state self.old).undirected }
         ensures* writes_back { sem 𝓛
             (Lends Self.row Self.UndirectedUserData.row self.entry result
-            (with_user self.entry.now edge)) };
+            (with_user self.entry.now edge)) }
+        ensures value { slice_get (map Self.Constraints.user (state self.old).undirected) edge ≡
+            Some result.now };
 
     /// The data of a face, the outer one among them, for writing.
     fn face_data_mut(&mut self, face: FixedFaceHandle) -> &mut Self::Face
@@ -256,6 +262,8 @@ pub trait Triangulation: Drop + sealed::Sealed {
             (Lends Self.row Self.Face.row self.entry result (with_face self.entry.now face)) }
         ensures value { slice_get ((state self.old).outer ∷ (state self.old).faces) face ≡ Some
             result.now };
+
+    ghost state_is_of_mesh: { (t : Self) → Self.HasMesh.mesh_state t ≡ state t };
 
     final fn num_vertices(&self) -> usize
         ensures value { result ≡ length (state self.now).vertices }
