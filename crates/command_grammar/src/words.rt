@@ -27,12 +27,14 @@ impl<'a> Model for Words<'a> {
 }
 
 impl<'a> Words<'a> {
+    /// The words of this line, from the first on.
     pub fn new(line: &'a [u8]) -> Self
         ensures { result ≡ words_of line.now }
     {
         Words { rest: Some(line) }
     }
 
+    /// Whether no word is left.
     pub fn is_empty(&self) -> bool
         ensures { IsTrue result ↔ (self.now ≡ []) }
     {

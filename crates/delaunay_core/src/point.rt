@@ -103,6 +103,7 @@ pub struct Point2<S> {
 }
 
 impl<S> Point2<S> {
+    /// The point with these coordinates.
     pub const fn new(x: S, y: S) -> Self
         ensures x { result.x ≡ x }
         ensures y { result.y ≡ y }
@@ -187,10 +188,12 @@ impl<S: SpadeNum> From<Point2<S>> for (S, S) {
 /// }
 /// ```
 pub trait HasPosition {
+    /// The type of the coordinates of the position.
     type Scalar: SpadeNum;
 
     ghost place: { Self → Point };
 
+    /// The position of the value.
     fn position(&self) -> Point2<Self::Scalar>
         ensures { place_of Self.Scalar.whole result ≡ place self.now };
 }

@@ -18,7 +18,8 @@ use half_edge_mesh::{
     Dcel, FixedDirectedEdgeHandle, FixedFaceHandle, FixedUndirectedEdgeHandle, FixedVertexHandle,
 };
 
-// A vertex strictly inside an inner face, joined to its corners.
+/// Puts a vertex strictly inside an inner face, joins it to the corners of the face, and gives its
+/// handle.
 pub fn insert_inside_face<V: HasPosition, DE: Default, UE: Default, F: Default>(
     dcel: &mut Dcel<V, DE, UE, F>,
     face: FixedFaceHandle,
@@ -101,7 +102,9 @@ fn split_at<V: HasPosition, DE: Default, UE: Default, F: Default>(
     }
 }
 
-// A vertex strictly within an edge. Where the edge was a constraint, both halves are.
+/// Splits an edge at a vertex strictly within it, joins the vertex to the corner opposite the edge
+/// in each inner face beside it, and gives its handle. Where the edge was a constraint, both halves
+/// are.
 pub fn insert_within_edge<
     M: FreeByDefault<UE>,
     V: HasPosition,

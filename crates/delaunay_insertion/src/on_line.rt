@@ -15,7 +15,7 @@ use half_edge_mesh::{
     Dcel, FixedDirectedEdgeHandle, FixedUndirectedEdgeHandle, FixedVertexHandle, MeshViews,
 };
 
-// The first vertex.
+/// Puts the first vertex into an empty mesh and gives its handle.
 pub fn insert_first<V: HasPosition, DE, UE: Default, F>(
     dcel: &mut Dcel<V, DE, UE, F>,
     value: V,
@@ -31,7 +31,7 @@ pub fn insert_first<V: HasPosition, DE, UE: Default, F>(
     vertex
 }
 
-// The second vertex, joined to the first.
+/// Puts the second vertex into a mesh, joins it to the first, and gives its handle.
 pub fn insert_second<V: HasPosition, DE: Default, UE: Default, F>(
     dcel: &mut Dcel<V, DE, UE, F>,
     value: V,
@@ -50,7 +50,8 @@ pub fn insert_second<V: HasPosition, DE: Default, UE: Default, F>(
     vertex
 }
 
-// A vertex past the end of the line of all vertices, joined to that end.
+/// Puts a vertex past the end of the line of all vertices at which `edge` starts, joins it to that
+/// end, and gives its handle.
 pub fn insert_past_end<V: HasPosition, DE: Default, UE: Default, F>(
     dcel: &mut Dcel<V, DE, UE, F>,
     edge: FixedDirectedEdgeHandle,

@@ -82,8 +82,8 @@ fn if_seen<V: HasPosition, DE, UE, F, P: PlaneTests<V::Scalar>>(
     }
 }
 
-// A vertex strictly on the left of an outer edge, joined to each outer edge that has it on its
-// left.
+/// Puts a vertex strictly on the left of an outer edge, makes a face of it and each outer edge that
+/// has it on its left, and gives its handle.
 pub fn join_outside<V: HasPosition, DE: Default, UE: Default, F: Default, P: PlaneTests<V::Scalar>>(
     dcel: &mut Dcel<V, DE, UE, F>,
     edge: FixedDirectedEdgeHandle,

@@ -8,7 +8,9 @@ ghost use Rattle.delaunay_legalization.specs.State.{state_of};
 use delaunay_core::math::InsertionError;
 use half_edge_mesh::{Dcel, MAX_ELEMENTS, ReserveError};
 
-// Makes room for one more vertex, with the edges and faces that it can bring.
+/// Makes room for one more vertex, with the edges and faces that it can bring. After an error the
+/// mesh is as it was: `OutOfIndexes` comes exactly where six times the new number of vertices
+/// passes `MAX_ELEMENTS`, and `OutOfMemory` where memory was refused.
 pub fn reserve_for_vertex<V, DE, UE, F>(dcel: &mut Dcel<V, DE, UE, F>) -> Result<(), InsertionError>
     ensures same { state_of dcel.new ≡ state_of dcel.old }
     ensures full { IsErrOf result OutOfIndexes ↔

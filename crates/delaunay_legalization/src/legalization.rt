@@ -24,7 +24,7 @@ use half_edge_mesh::{
     Dcel, FixedDirectedEdgeHandle, FixedUndirectedEdgeHandle, FixedVertexHandle, MeshViews,
 };
 
-// The position of a vertex.
+/// The position of a vertex.
 pub fn position_of<V: HasPosition, DE, UE, F>(
     dcel: &Dcel<V, DE, UE, F>,
     vertex: FixedVertexHandle,
@@ -37,7 +37,7 @@ pub fn position_of<V: HasPosition, DE, UE, F>(
     dcel.vertex_data(vertex).position()
 }
 
-// The position where an edge starts.
+/// The position where an edge starts.
 pub fn start_of<V: HasPosition, DE, UE, F>(
     dcel: &Dcel<V, DE, UE, F>,
     edge: FixedDirectedEdgeHandle,
@@ -50,7 +50,7 @@ pub fn start_of<V: HasPosition, DE, UE, F>(
     position_of(dcel, dcel.directed_edge(edge).from().fix())
 }
 
-// The position where an edge ends, which is where the edge after it starts.
+/// The position where an edge ends, which is where the edge after it starts.
 pub fn end_of<V: HasPosition, DE, UE, F>(
     dcel: &Dcel<V, DE, UE, F>,
     edge: FixedDirectedEdgeHandle,
@@ -63,7 +63,8 @@ pub fn end_of<V: HasPosition, DE, UE, F>(
     start_of(dcel, dcel.directed_edge(edge).next().fix())
 }
 
-// The position where the edge before an edge starts: in an inner face the corner opposite the edge.
+/// The position where the edge before an edge starts: in an inner face the corner opposite the
+/// edge.
 pub fn start_before<V: HasPosition, DE, UE, F>(
     dcel: &Dcel<V, DE, UE, F>,
     edge: FixedDirectedEdgeHandle,
@@ -76,7 +77,7 @@ pub fn start_before<V: HasPosition, DE, UE, F>(
     position_of(dcel, dcel.directed_edge(edge).prev_from().fix())
 }
 
-// Whether an edge has the outer face on its left.
+/// Whether an edge has the outer face on its left.
 pub fn is_outer<V, DE, UE, F>(dcel: &Dcel<V, DE, UE, F>, edge: FixedDirectedEdgeHandle) -> bool
     requires { edge < length dcel.now.directed }
     ensures { IsTrue result ↔ (face dcel.now.mesh edge ≡ 0) }
@@ -112,7 +113,7 @@ pub(crate) fn sides_round<V, DE, UE, F>(
     )
 }
 
-// Whether an edge is a constraint, by its data.
+/// Whether an edge is a constraint, by its data.
 pub fn is_constraint_edge<M: ConstraintMarker<UE>, V, DE, UE, F>(
     dcel: &Dcel<V, DE, UE, F>,
     edge: FixedUndirectedEdgeHandle,
@@ -170,7 +171,8 @@ pub(crate) fn flip<V: HasPosition, DE, UE, F>(
     *flips += 1;
 }
 
-// Puts an edge into a work list, unless it is there.
+/// Puts the undirected edge of an edge into a work list, unless it is there. The list has room for
+/// each edge of the mesh.
 pub fn push_side<V, DE, UE, F>(
     dcel: &Dcel<V, DE, UE, F>,
     edge: FixedDirectedEdgeHandle,
@@ -190,7 +192,8 @@ pub fn push_side<V, DE, UE, F>(
     }
 }
 
-// Puts the four edges round an edge into a work list, unless they are there.
+/// Puts the four edges round an edge into a work list, unless they are there. The list has room for
+/// each edge of the mesh.
 pub fn push_sides<V, DE, UE, F>(
     dcel: &Dcel<V, DE, UE, F>,
     edge: FixedDirectedEdgeHandle,
@@ -273,9 +276,9 @@ pub(crate) fn legalize_by<
     dcel.recall_invariant();
 }
 
-// Flips edges until each passes the circle test, but for the outer ones and the constraints, where
-// before perhaps only those of the work list fail. The work list has room for each edge of the
-// mesh. A constraint keeps its ends and its index.
+/// Flips edges until each passes the circle test, but for the outer ones and the constraints, where
+/// before perhaps only those of the work list fail; each flip adds 1 to `flips`. The work list has
+/// room for each edge of the mesh. A constraint keeps its ends and its index.
 pub fn legalize<M: ConstraintMarker<UE>, V: HasPosition, DE, UE, F, P: PlaneTests<V::Scalar>>(
     dcel: &mut Dcel<V, DE, UE, F>,
     tests: &P,

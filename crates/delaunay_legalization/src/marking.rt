@@ -5,7 +5,7 @@ ghost use Rattle.delaunay_legalization.specs.Marking.{HasEdgeData};
 use crate::constraint_marker::ConstraintMarker;
 use half_edge_mesh::{Dcel, FixedUndirectedEdgeHandle};
 
-// Makes an edge a constraint, where data can have the mark.
+/// Makes an edge a constraint, where data can have the mark.
 pub fn make_constraint<M: ConstraintMarker<UE>, V, DE, UE, F>(
     dcel: &mut Dcel<V, DE, UE, F>,
     edge: FixedUndirectedEdgeHandle,
@@ -16,7 +16,7 @@ pub fn make_constraint<M: ConstraintMarker<UE>, V, DE, UE, F>(
     M::make_constraint(dcel.undirected_edge_data_mut(edge));
 }
 
-// Makes an edge none.
+/// Makes an edge no constraint.
 pub fn free_edge<M: ConstraintMarker<UE>, V, DE, UE, F>(
     dcel: &mut Dcel<V, DE, UE, F>,
     edge: FixedUndirectedEdgeHandle,

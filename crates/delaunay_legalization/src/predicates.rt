@@ -8,7 +8,7 @@ ghost use Rattle.delaunay_legalization.specs.Between.{IsFrom, IsInBox};
 use delaunay_core::math::PlaneTests;
 use delaunay_core::point::{Point2, SpadeNum};
 
-// Whether two points are one.
+/// Whether two points are one.
 pub fn is_same_point<S: SpadeNum>(a: Point2<S>, b: Point2<S>) -> bool
     ensures { IsTrue result ↔ (place_of S.whole a ≡ place_of S.whole b) }
 {
@@ -31,7 +31,8 @@ fn is_in_box<S: SpadeNum>(from: Point2<S>, to: Point2<S>, point: Point2<S>) -> b
     is_from(from.x, to.x, point.x) && is_from(from.y, to.y, point.y)
 }
 
-// Whether a point is strictly within the segment of two others, from which it differs.
+/// Whether a point is strictly within the segment of two others, which differ from it and from each
+/// other.
 pub fn is_strictly_within<S: SpadeNum, P: PlaneTests<S>>(
     from: Point2<S>,
     to: Point2<S>,
@@ -51,7 +52,7 @@ pub fn is_strictly_within<S: SpadeNum, P: PlaneTests<S>>(
     tests.side(from, to, point).is_on_line() && is_in_box(from, to, point)
 }
 
-// Whether three points turn left.
+/// Whether three points turn left.
 pub fn turns_left<S: SpadeNum, P: PlaneTests<S>>(
     a: Point2<S>,
     b: Point2<S>,
@@ -68,7 +69,7 @@ pub fn turns_left<S: SpadeNum, P: PlaneTests<S>>(
     tests.side(a, b, c).is_on_left_side()
 }
 
-// Whether a point is strictly inside the triangle of three others, which turn left.
+/// Whether a point is strictly inside the triangle of three others, which turn left.
 pub fn is_strictly_inside<S: SpadeNum, P: PlaneTests<S>>(
     a: Point2<S>,
     b: Point2<S>,

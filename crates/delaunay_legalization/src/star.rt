@@ -58,9 +58,9 @@ fn push_star<V, DE, UE, F>(
     }
 }
 
-// Tests the edges of the faces at a new vertex, or, where no circle of the other faces contains a
-// vertex, those opposite it alone, and flips those that fail and are no constraints until none
-// does.
+/// Tests the edges of the faces at a new vertex, or, where no circle of the other faces contains a
+/// vertex, those opposite it alone, and flips those that fail and are no constraints until none
+/// does; each flip adds 1 to `flips`.
 pub fn legalize_vertex<
     M: ConstraintMarker<UE>,
     V: HasPosition,

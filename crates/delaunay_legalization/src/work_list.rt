@@ -5,7 +5,8 @@ ghost use Rattle.delaunay_core.specs.declared.math.InsertionError.TheVariants.{O
 use delaunay_core::math::InsertionError;
 use half_edge_mesh::FixedUndirectedEdgeHandle;
 
-// Makes room for so many edges.
+/// Makes room for so many edges. It gives `OutOfMemory` where memory was refused, and no other
+/// error.
 pub fn reserve_for_edges(
     work: &mut Vec<FixedUndirectedEdgeHandle>,
     edges: usize,

@@ -82,6 +82,7 @@ impl<V, DE, UE, F> Dcel<V, DE, UE, F> {
         let _ = self.links.inner_face_count();
     }
 
+    /// How many vertices there are.
     pub fn num_vertices(&self) -> usize
         ensures value { result ≡ length self.now.vertices }
         ensures small { result ≤ MAX_ELEMENTS }
@@ -90,6 +91,7 @@ impl<V, DE, UE, F> Dcel<V, DE, UE, F> {
         self.links.vertex_count()
     }
 
+    /// How many directed edges there are, two for each undirected one.
     pub fn num_directed_edges(&self) -> usize
         ensures value { result ≡ length self.now.directed }
         ensures small { result ≤ MAX_ELEMENTS }
@@ -98,6 +100,7 @@ impl<V, DE, UE, F> Dcel<V, DE, UE, F> {
         self.links.half_edge_count()
     }
 
+    /// How many undirected edges there are.
     pub fn num_undirected_edges(&self) -> usize
         ensures value { result ≡ length self.now.undirected }
         ensures small { 2 * result ≤ MAX_ELEMENTS }

@@ -20,12 +20,14 @@ impl Model for FixedVertexHandle {
 }
 
 impl FixedVertexHandle {
+    /// The vertex with this index.
     pub fn from_index(index: u32) -> Self
         ensures { result ≡ index }
     {
         FixedVertexHandle { index }
     }
 
+    /// The index of the vertex.
     pub fn index(self) -> u32
         ensures { result ≡ self }
     {
@@ -49,12 +51,14 @@ impl Model for FixedDirectedEdgeHandle {
 }
 
 impl FixedDirectedEdgeHandle {
+    /// The directed edge with this index.
     pub fn from_index(index: u32) -> Self
         ensures { result ≡ index }
     {
         FixedDirectedEdgeHandle { index }
     }
 
+    /// The index of the directed edge.
     pub fn index(self) -> u32
         ensures { result ≡ self }
     {
@@ -70,6 +74,7 @@ impl FixedDirectedEdgeHandle {
         }
     }
 
+    /// The edge without its direction.
     pub fn as_undirected(self) -> FixedUndirectedEdgeHandle
         ensures { result ≡ self / 2 }
     {
@@ -96,6 +101,7 @@ impl Model for FixedUndirectedEdgeHandle {
 }
 
 impl FixedUndirectedEdgeHandle {
+    /// The undirected edge with this index. The index has to be below 2 to the 31st.
     pub fn from_index(index: u32) -> Self
         requires { index < 2 ^ 31 }
         ensures { result ≡ index }
@@ -103,6 +109,7 @@ impl FixedUndirectedEdgeHandle {
         FixedUndirectedEdgeHandle { index }
     }
 
+    /// The index of the undirected edge, which is below 2 to the 31st.
     pub fn index(self) -> u32
         ensures value { result ≡ self }
         ensures small { result < 2 ^ 31 }
@@ -135,18 +142,21 @@ impl Model for FixedFaceHandle {
 }
 
 impl FixedFaceHandle {
+    /// The face with this index, which is 0 for the outer face.
     pub fn from_index(index: u32) -> Self
         ensures { result ≡ index }
     {
         FixedFaceHandle { index }
     }
 
+    /// The index of the face, which is 0 for the outer face.
     pub fn index(self) -> u32
         ensures { result ≡ self }
     {
         self.index
     }
 
+    /// Whether this is the outer face.
     pub fn is_outer(self) -> bool
         ensures { IsTrue result ↔ (self ≡ 0) }
     {

@@ -131,6 +131,7 @@ impl<V> Links<V> {
         self.half_edges.stored(h).prev_origin
     }
 
+    /// How many directed edges there are.
     pub fn half_edge_count(&self) -> usize
         ensures value { result ≡ length self.now.mesh.half_edges }
         ensures sound { AreSoundLinks self.now.mesh }
@@ -141,6 +142,7 @@ impl<V> Links<V> {
         self.half_edges.len()
     }
 
+    /// How many vertices there are.
     pub fn vertex_count(&self) -> usize
         ensures value { result ≡ length self.now.mesh.out_edges }
         ensures values { result ≡ length self.now.values }
@@ -168,6 +170,7 @@ impl<V> Links<V> {
         self.face_edges[f as usize - 1]
     }
 
+    /// An edge that starts at vertex `v`, if there is one.
     pub fn out_edge(&self, v: u32) -> Option<u32>
         requires { v < length self.now.mesh.out_edges }
         ensures value { result ≡ out_edge self.now.mesh v }

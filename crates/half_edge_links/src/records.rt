@@ -46,7 +46,7 @@ pub(crate) fn linked(prev_origin: u32, next: u32, prev: u32, face: u32) -> Store
     }
 }
 
-// The other side of a directed edge.
+/// The other direction of directed edge `h`.
 pub fn reversed(h: u32) -> u32
     ensures { result ≡ rev h }
 {

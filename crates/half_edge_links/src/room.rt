@@ -47,7 +47,9 @@ impl<V> Links<V> {
         self.face_edges.clear();
     }
 
-    /// Makes room for these totals.
+    /// Makes room for these totals, the outer face among them. After an error the mesh is as it
+    /// was: `TooMany` comes where a total, that of the directed edges too, passes `MAX_ELEMENTS`,
+    /// and is looked at first, and `OutOfMemory` where a list answers `AllocError`.
     pub fn reserve(
         &mut self,
         vertices: usize,

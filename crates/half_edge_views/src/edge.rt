@@ -40,6 +40,7 @@ impl<'a, V, DE, UE, F> DirectedEdgeHandle<'a, V, DE, UE, F> {
         FixedDirectedEdgeHandle::from_index(self.index)
     }
 
+    /// The data of the directed edge.
     pub fn data(&self) -> &'a DE
         ensures { slice_get self.now.dcel.now.directed self.now.index ≡ Some result.now }
     {
@@ -221,6 +222,7 @@ impl<'a, V, DE, UE, F> UndirectedEdgeHandle<'a, V, DE, UE, F> {
         FixedUndirectedEdgeHandle::from_index(self.index)
     }
 
+    /// The data of the undirected edge.
     pub fn data(&self) -> &'a UE
         ensures { slice_get self.now.dcel.now.undirected self.now.index ≡ Some result.now }
     {

@@ -41,6 +41,7 @@ impl<'a, V, DE, UE, F> FaceHandle<'a, V, DE, UE, F> {
         FixedFaceHandle::from_index(self.index)
     }
 
+    /// The data of the face.
     pub fn data(&self) -> &'a F
         ensures { slice_get (self.now.dcel.now.outer ∷ self.now.dcel.now.faces) self.now.index ≡
             Some result.now }
@@ -48,6 +49,7 @@ impl<'a, V, DE, UE, F> FaceHandle<'a, V, DE, UE, F> {
         self.dcel.face_data(self.fix())
     }
 
+    /// Whether this is the outer face.
     pub fn is_outer(&self) -> bool
         ensures { IsTrue result ↔ (self.now.index ≡ 0) }
     {

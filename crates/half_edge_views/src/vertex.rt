@@ -40,6 +40,7 @@ impl<'a, V, DE, UE, F> VertexHandle<'a, V, DE, UE, F> {
         FixedVertexHandle::from_index(self.index)
     }
 
+    /// The data of the vertex.
     pub fn data(&self) -> &'a V
         ensures { slice_get self.now.dcel.now.vertices self.now.index ≡ Some result.now }
     {

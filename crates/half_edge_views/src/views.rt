@@ -27,24 +27,29 @@ use half_edge_dcel::{
 pub trait MeshViews<V, DE, UE, F> {
     ghost contents: { Self → Contents V DE UE F };
 
+    /// The vertex with this name, which has to be one of this mesh.
     fn vertex(&self, vertex: FixedVertexHandle) -> VertexHandle<'_, V, DE, UE, F>
         requires { vertex < length (contents self.now).vertices };
 
     /// The vertex with this name, if there is one.
     fn get_vertex(&self, vertex: FixedVertexHandle) -> Option<VertexHandle<'_, V, DE, UE, F>>;
 
+    /// The directed edge with this name, which has to be one of this mesh.
     fn directed_edge(&self, edge: FixedDirectedEdgeHandle) -> DirectedEdgeHandle<'_, V, DE, UE, F>
         requires { edge < length (contents self.now).directed };
 
+    /// The undirected edge with this name, which has to be one of this mesh.
     fn undirected_edge(
         &self,
         edge: FixedUndirectedEdgeHandle,
     ) -> UndirectedEdgeHandle<'_, V, DE, UE, F>
         requires { edge < length (contents self.now).undirected };
 
+    /// The face with this name, which has to be one of this mesh.
     fn face(&self, face: FixedFaceHandle) -> FaceHandle<'_, V, DE, UE, F>
         requires { face ≤ length (contents self.now).faces };
 
+    /// The outer face, whose index is 0.
     fn outer_face(&self) -> FaceHandle<'_, V, DE, UE, F>;
 
     /// The edge from one vertex to another, if they are joined.

@@ -45,6 +45,7 @@ pub enum VoronoiVertex<'a, V, DE, UE, F> {
 
 /// What a face of the Voronoi diagram belongs to.
 pub trait AsVoronoiFace {
+    /// The type of the face of the Voronoi diagram.
     type Face;
 
     /// The face of the Voronoi diagram that belongs to the vertex.
@@ -53,6 +54,7 @@ pub trait AsVoronoiFace {
 
 /// What an edge of the Voronoi diagram lies across.
 pub trait AsVoronoiEdge {
+    /// The type of the edge of the Voronoi diagram.
     type Edge;
 
     /// The edge of the Voronoi diagram between the two faces beside this edge, of a directed one
@@ -62,6 +64,7 @@ pub trait AsVoronoiEdge {
 
 /// What a vertex of the Voronoi diagram belongs to.
 pub trait AsVoronoiVertex {
+    /// The type of the vertex of the Voronoi diagram.
     type Vertex;
 
     ghost has_vertex: { Self → Type 0 };
