@@ -1,3 +1,4 @@
 pub mod Held
 pub mod Edited
 pub mod Told
+pub mod Widths

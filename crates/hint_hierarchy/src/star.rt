@@ -1,17 +1,22 @@
 //! A vertex of a layer with its neighbours, in one place.
+ghost use Rattle.plane.specs.Tests.{IsCoordinate, InRange};
+ghost use Rattle.delaunay_core.specs.Place.{place_of};
 
+use delaunay_core::math::MAX_ALLOWED_VALUE;
 use delaunay_core::point::{Point2, SpadeNum};
 use half_edge_mesh::{FixedVertexHandle, VertexHandle};
 
 /// How many neighbours are kept with a vertex. About one vertex in a hundred has more.
 const KEPT: usize = 9;
 
-/// A vertex of a layer, and where it is. Each coordinate in range fits.
+/// A vertex of a layer, and where it is. Its coordinates are in range, so they fit.
 #[derive(Clone, Copy)]
 pub(crate) struct PlacedVertex {
     vertex: u32,
     x: i32,
     y: i32,
+    ghost x_in_range: { IsCoordinate x },
+    ghost y_in_range: { IsCoordinate y },
 }
 
 /// A vertex, and the square of its distance from a position.
@@ -30,9 +35,11 @@ pub(crate) struct Star {
     ends: [PlacedVertex; KEPT],
 }
 
-// A coordinate in range, or 0 for what does not fit.
-fn narrow(coordinate: i64) -> i32 {
-    i32::try_from(coordinate).unwrap_or(0)
+// A coordinate in range, or the nearest that is.
+fn narrow(coordinate: i64) -> i32
+    ensures { IsCoordinate result }
+{
+    coordinate.clamp(-MAX_ALLOWED_VALUE, MAX_ALLOWED_VALUE) as i32
 }
 
 impl PlacedVertex {
@@ -48,10 +55,12 @@ impl PlacedVertex {
 
     // The square of the distance from a position in range.
     #[inline(always)]
-    fn distance_2(&self, position: Point2<i64>) -> i64 {
-        let dx = i64::from(self.x).wrapping_sub(position.x);
-        let dy = i64::from(self.y).wrapping_sub(position.y);
-        dx.wrapping_mul(dx).wrapping_add(dy.wrapping_mul(dy))
+    fn distance_2(&self, position: Point2<i64>) -> i64
+        requires { InRange (place_of (λ z. z) position) }
+    {
+        let dx = i64::from(self.x) - position.x;
+        let dy = i64::from(self.y) - position.y;
+        dx * dx + dy * dy
     }
 }
 
@@ -118,7 +127,9 @@ impl Star {
     }
 
     /// The vertex itself, as a candidate.
-    pub(crate) fn candidate(&self, position: Point2<i64>) -> Candidate {
+    pub(crate) fn candidate(&self, position: Point2<i64>) -> Candidate
+        requires { InRange (place_of (λ z. z) position) }
+    {
         Candidate {
             vertex: self.centre.vertex,
             distance_2: self.centre.distance_2(position),
@@ -127,7 +138,9 @@ impl Star {
 
     /// The nearest of the neighbours that are kept, or another candidate if none is nearer.
     #[inline(always)]
-    pub(crate) fn nearest_or(&self, other: Candidate, position: Point2<i64>) -> Candidate {
+    pub(crate) fn nearest_or(&self, other: Candidate, position: Point2<i64>) -> Candidate
+        requires { InRange (place_of (λ z. z) position) }
+    {
         let mut nearest = other;
         for end in self.kept() {
             let distance_2 = end.distance_2(position);

@@ -1,5 +1,7 @@
 //! The stars of a layer's vertices, each in one place, so that a search waits for memory about once
 //! a vertex that it passes, and not once for each edge and each neighbour.
+ghost use Rattle.plane.specs.Tests.{InRange};
+ghost use Rattle.delaunay_core.specs.Place.{place_of};
 
 use crate::star::{PlacedVertex, Star};
 use delaunay_core::point::{Point2, SpadeNum};
@@ -91,7 +93,9 @@ impl Stars {
 
     /// A vertex that none of its neighbours that are kept is nearer to a position than, by moves
     /// from `start` to the nearest neighbour.
-    pub(crate) fn near(&self, start: u32, position: Point2<i64>) -> u32 {
+    pub(crate) fn near(&self, start: u32, position: Point2<i64>) -> u32
+        requires { InRange (place_of (λ z. z) position) }
+    {
         let Some(star) = self.stars.get(start as usize) else {
             return 0;
         };
