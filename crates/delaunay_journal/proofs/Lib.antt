@@ -1,3 +1,4 @@
+pub mod Inserted
 pub mod Runs
 pub mod SingleEdits
 pub mod Undoing

@@ -4,8 +4,7 @@ use Rattle.std.proofs.Common.{ℕ, List, length, map, take, set, get_or, refl, s
 use Rattle.std.proofs.Common.{inl, inr, arith}
 use Rattle.std.specs.Prelude.{nat_eq, if◌then◌else◌, pos, swap_remove}
 use Rattle.std.proofs.lemmas.Bool.Decides.{nat_tests}
-use Rattle.std.proofs.lemmas.List.{length-append, length-map, map-append, get_or_append_left}
-use Rattle.std.proofs.lemmas.List.{get_or_push}
+use Rattle.std.proofs.lemmas.List.{length-append, length-map, get_or_append_left}
 use Rattle.plane.specs.Fraction.{Point, whole, IsPositive, WithinSegment}
 use Rattle.plane.specs.Pairs.{Joins, IsSamePair, place}
 use Rattle.plane.specs.Plain.{Plain, IsPlain, IsSameState, points_of, Appends, Carries}
@@ -13,6 +12,13 @@ use Rattle.plane.specs.Plain.{AreStraightHalves, Removes}
 use Rattle.plane.proofs.Means.{turned_mean_of_two}
 use Rattle.plane.proofs.Indexes.{turned_join}
 use Rattle.plane.proofs.Decisions.{Decision, decide_within_segment}
+use Rattle.plane_tiling.proofs.Locations.{no_edges_cross}
+use Rattle.mesh_embedding.specs.Drawn.{faces_of, edges_of, outer_of}
+use Rattle.mesh_embedding.proofs.OwnEdges.{own_edges}
+use Rattle.delaunay_legalization.specs.Constraints.{points_and_constraints_by}
+use Rattle.delaunay_legalization.specs.State.{State}
+use Rattle.delaunay_interface.specs.Headline.{IsWellFormed}
+use Rattle.delaunay_journal.proofs.Inserted.{appended_point, appended_points}
 
 -- without its last entry, which was put in behind it, a list is as it was
 without_last : {X : Type 0} (xs : List X) (x y : X)
@@ -45,10 +51,6 @@ module _ {V : Type 0} (position : V → Point) (old mid new : Plain V) (v : V)
   last = ap (λ vs. length vs - 1) appends.vertices ∙ one_longer old.vertices v
 
   -- ---- places
-  -- the position of v comes last
-  points : points_of position mid ≡ points_of position old ++ position v ∷ []
-  points = ap (map position) appends.vertices ∙ map-append position old.vertices (v ∷ [])
-
   -- there are as many as vertices
   count : length (points_of position old) ≡ length old.vertices
   count = length-map old.vertices position
@@ -56,15 +58,13 @@ module _ {V : Type 0} (position : V → Point) (old mid new : Plain V) (v : V)
   -- the places of the others are as they were
   place_kept : (k : ℕ) → k < length old.vertices
       → place (points_of position mid) k ≡ place (points_of position old) k
-  place_kept k h = ap (λ ps. place ps k) points
+  place_kept k h = ap (λ ps. place ps k) (appended_points position old mid v appends)
       ∙ ap whole (get_or_append_left (points_of position old) (position v ∷ [])
       (record { x = pos 0; y = pos 0 }) k (subst (λ n. k < n) (sym count) h))
 
   -- and v is at its own
   place_of_new : place (points_of position mid) (length old.vertices) ≡ whole (position v)
-  place_of_new = ap (λ ps. place ps (length old.vertices)) points
-      ∙ ap whole (get_or_push (points_of position old) (position v)
-      (record { x = pos 0; y = pos 0 }) (length old.vertices) count)
+  place_of_new = ap whole (appended_point position old mid v appends)
 
   -- ---- pairs
   -- a pair of others than v was there before
@@ -181,3 +181,24 @@ module _ {V : Type 0} (position : V → Point) (old mid new : Plain V) (v : V)
             (place (points_of position old) i) (place (points_of position old) j)
             (whole (position v)))),
       )
+
+-- ---- in a triangulation
+module _ {V D U F : Type 0} (position : V → Point) (constraints : List U → List ℕ)
+    (s : State V D U F) (formed : IsWellFormed position constraints s) where
+  abbrev plain_of : Plain V
+  plain_of = points_and_constraints_by constraints s
+
+  -- a value is strictly within one constraint at most
+  carried_by_one : (v : V) (i j k l : ℕ) → Joins plain_of.constraints i j
+      → Carries position plain_of v i j → Joins plain_of.constraints k l
+      → Carries position plain_of v k l → IsSamePair i j k l
+  carried_by_one v i j k l p c q d = (no_edges_cross (map position s.vertices) (faces_of s.mesh)
+      (outer_of s.mesh) (edges_of s.mesh) formed.kept.shape (own_edges s.mesh formed.kept.valid)).1
+      k l i j (formed.headline.delaunay.kept k l q) (formed.headline.delaunay.kept i j p)
+      (whole (position v)) d c
+
+  -- so a vertex that is put in and taken out again leaves vertices and constraints as they were
+  pub removal_undoes_insertion : (mid new : Plain V) (v : V) → Appends position plain_of mid v
+      → Removes position mid new (length s.vertices) → IsSameState position plain_of new
+  removal_undoes_insertion mid new v appends removes = removal_undoes_appending position plain_of
+      mid new v formed.plain appends (carried_by_one v) removes
