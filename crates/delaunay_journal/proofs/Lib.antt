@@ -1,4 +1,5 @@
 pub mod Inserted
 pub mod Runs
 pub mod SingleEdits
+pub mod Symmetric
 pub mod Undoing
