@@ -1,11 +1,7 @@
--- A running search for the least of some numbers, and the vertex at the least distance.
+-- A running search for the least of some numbers.
 use Rattle.std.proofs.Common.{◌≡◌, ◌⊎◌, ℕ, ◌+◌, ◌<◌, arith, below_more, subst, inl, inr}
-use Rattle.std.specs.Prelude.{ℤ, pos, ◌*ℤ◌, ◌<ℤ◌, ◌≤ℤ◌, length}
+use Rattle.std.specs.Prelude.{ℤ, ◌<ℤ◌, ◌≤ℤ◌}
 use Rattle.std.proofs.lemmas.Int.{ints}
-use Rattle.plane.specs.Fraction.{Point, whole}
-use Rattle.plane.specs.Circle.{gap}
-use Rattle.plane.specs.Shape.{IsNearest}
-use Rattle.plane.specs.Tiling.{Triangulation, vertex}
 use Rattle.plane.proofs.Signs.{at_most_if_not_less, less_through}
 
 itself : (a : ℤ) → a ≤ℤ a
@@ -39,16 +35,3 @@ module _ (at : ℕ → ℤ) where
   less_than_first e least first less (inl same) = subst (λ k. at e <ℤ at k) same less
   less_than_first e least first less (inr below) =
       less_through (at e) (at least) (at first) less below
-
-not_nearer : (a b : ℤ) → a ≤ℤ b → ¬ ((b *ℤ (pos 1 *ℤ pos 1)) <ℤ (a *ℤ (pos 1 *ℤ pos 1)))
-not_nearer a b least nearer = omega (arith, ints)
-
--- a vertex is nearest to p if its squared distance is at most that of each vertex
-pub nearest_if_least : (t : Triangulation) (p : Point) (i : ℕ) → i < length t.points
-    → ((k : ℕ) → k < length t.points → gap (whole p) (vertex t i) ≤ℤ gap (whole p) (vertex t k))
-    → IsNearest t (whole p) i
-nearest_if_least t p i within least = record {
-  is_vertex = within;
-  none_nearer = λ k below h. not_nearer (gap (whole p) (vertex t i)) (gap (whole p) (vertex t k))
-      (least k below) h.nearer;
-}

@@ -3,18 +3,17 @@
 #![tactic(auto)]
 
 mod location;
-mod nearest_vertex;
 mod nearest_walk;
 mod parts;
 mod position_in_triangulation;
 mod samples;
 mod search;
 mod steps;
+mod vertex_distance;
 mod walk;
 
 pub use position_in_triangulation::PositionInTriangulation;
 
 // For the crates of edits, and not for users.
-pub use nearest_vertex::nearest_neighbor;
 pub use nearest_walk::nearest_by_neighbors;
-pub use walk::{locate_vertex, locate_with_hint};
+pub use walk::locate_with_hint;

@@ -13,9 +13,9 @@ ghost use Rattle.delaunay_legalization.specs.State.{state_of, triangulation_of};
 ghost use Rattle.delaunay_location.specs.Candidate.{EndsNoNearer, HasNoNearerNeighbor, IsCandidate};
 ghost use Rattle.delaunay_location.specs.Candidate.{IsCandidateFrom, IsNearerCandidate};
 
-use crate::nearest_vertex::distance_2_to;
 use crate::parts::end_vertex;
 use crate::samples::nearer_sample;
+use crate::vertex_distance::distance_2_to;
 use delaunay_core::point::{HasPosition, Point2};
 use half_edge_mesh::{Dcel, FixedDirectedEdgeHandle, FixedVertexHandle, MeshViews};
 

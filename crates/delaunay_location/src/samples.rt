@@ -8,7 +8,7 @@ ghost use Rattle.delaunay_core.specs.Place.{place_of};
 ghost use Rattle.delaunay_legalization.specs.Shape.{IsTriangulated};
 ghost use Rattle.delaunay_legalization.specs.State.{state_of, triangulation_of};
 
-use crate::nearest_vertex::is_nearer;
+use crate::vertex_distance::is_nearer;
 use delaunay_core::point::{HasPosition, Point2};
 use half_edge_mesh::{Dcel, FixedVertexHandle};
 

@@ -1,9 +1,7 @@
 //! Where a position is, by a walk from face to face.
-ghost use Rattle.std.specs.Prelude.{◌≡◌, ◌<◌, length, map, All, IfSome, MatchOption};
+ghost use Rattle.std.specs.Prelude.{◌<◌, length, map, All, IfSome};
 ghost use Rattle.plane.specs.Tests.{InRange};
 ghost use Rattle.delaunay_core.specs.Place.{place_of};
-ghost use Rattle.delaunay_legalization.specs.Known.{point_at};
-ghost use Rattle.delaunay_legalization.specs.Parts.{IsApart};
 ghost use Rattle.delaunay_legalization.specs.Shape.{IsTriangulated};
 ghost use Rattle.delaunay_legalization.specs.State.{state_of};
 ghost use Rattle.delaunay_location.specs.Location.{Locates};
@@ -173,26 +171,5 @@ pub fn locate_with_hint<V: HasPosition, DE, UE, F, P: PlaneTests<V::Scalar>>(
     match search.walk_from(hint) {
         Some(place) => place,
         None => search.place_by_scan(),
-    }
-}
-
-/// The vertex at a position, if there is one. The search begins at the vertex `hint`, or at vertex
-/// 0.
-pub fn locate_vertex<V: HasPosition, DE, UE, F, P: PlaneTests<V::Scalar>>(
-    dcel: &Dcel<V, DE, UE, F>,
-    point: Point2<V::Scalar>,
-    hint: FixedVertexHandle,
-    tests: &P,
-) -> Option<FixedVertexHandle>
-    requires kept { IsTriangulated V.place (state_of dcel.now) }
-    requires sites { All (P.sites tests.now) (map V.place dcel.now.vertices) }
-    requires covered { P.covered tests.now (place_of V.Scalar.whole point) }
-    ensures { let points = map V.place dcel.now.vertices in let p = place_of V.Scalar.whole point in
-        MatchOption result (IsApart points p) (λ v. (v < length dcel.now.vertices) ×
-        (point_at points v ≡ p)) }
-{
-    match locate_with_hint(dcel, point, hint, tests) {
-        PositionInTriangulation::OnVertex(vertex) => Some(vertex),
-        _ => None,
     }
 }

@@ -3,7 +3,7 @@ use Rattle.std.specs.Prelude.{pos}
 use Rattle.std.proofs.lemmas.List.{length-map}
 use Rattle.std.proofs.lemmas.List.Elements.{All-get_or, All-map}
 use Rattle.plane.specs.Tests.{InRange}
-use Rattle.delaunay_location.proofs.nearest_vertex.distance_2_to.Goals as goal
+use Rattle.delaunay_location.proofs.vertex_distance.distance_2_to.Goals as goal
 
 pub distance_2-requires-clause-other_in_range : goal.distance_2-requires-clause-other_in_range
 distance_2-requires-clause-other_in_range g c =

@@ -1,0 +1,45 @@
+//! Squared distances from a position to vertices.
+ghost use Rattle.std.specs.Prelude.{◌≡◌, ◌↔◌, ℕ, ◌<◌, ◌<ℤ◌, length, map, IsTrue};
+ghost use Rattle.plane.specs.Fraction.{whole as fraction};
+ghost use Rattle.plane.specs.Circle.{gap};
+ghost use Rattle.plane.specs.Pairs.{place};
+ghost use Rattle.plane.specs.Tests.{InRange};
+ghost use Rattle.delaunay_core.specs.Place.{place_of};
+ghost use Rattle.delaunay_legalization.specs.Shape.{IsTriangulated};
+ghost use Rattle.delaunay_legalization.specs.State.{state_of};
+
+use delaunay_core::point::{HasPosition, Point2};
+use delaunay_legalization::position_of;
+use half_edge_mesh::{Dcel, FixedVertexHandle};
+
+// The squared distance from a position to a vertex.
+pub(crate) fn distance_2_to<V: HasPosition, DE, UE, F>(
+    dcel: &Dcel<V, DE, UE, F>,
+    vertex: FixedVertexHandle,
+    point: Point2<V::Scalar>,
+) -> i64
+    requires kept { IsTriangulated V.place (state_of dcel.now) }
+    requires within { vertex < length dcel.now.vertices }
+    requires in_range { InRange (place_of V.Scalar.whole point) }
+    ensures { result ≡ gap (fraction (place_of V.Scalar.whole point))
+        (place (map V.place dcel.now.vertices) vertex) }
+{
+    point.distance_2(position_of(dcel, vertex))
+}
+
+// Whether a vertex is nearer to a position than another.
+pub(crate) fn is_nearer<V: HasPosition, DE, UE, F>(
+    dcel: &Dcel<V, DE, UE, F>,
+    vertex: FixedVertexHandle,
+    other: FixedVertexHandle,
+    point: Point2<V::Scalar>,
+) -> bool
+    requires kept { IsTriangulated V.place (state_of dcel.now) }
+    requires vertex_in { vertex < length dcel.now.vertices }
+    requires other_in { other < length dcel.now.vertices }
+    requires in_range { InRange (place_of V.Scalar.whole point) }
+    ensures { let at = λ (i : ℕ). gap (fraction (place_of V.Scalar.whole point))
+        (place (map V.place dcel.now.vertices) i) in IsTrue result ↔ (at vertex <ℤ at other) }
+{
+    distance_2_to(dcel, vertex, point) < distance_2_to(dcel, other, point)
+}
