@@ -32,7 +32,7 @@ pub(crate) struct Candidate {
 }
 
 // The end of an edge as a candidate, if it is nearer than the edge's start, which has the squared
-// distance `distance_2`.
+// distance `distance_2`. Both distances are squared, so no root is taken.
 #[inline(always)]
 fn nearer_end<V: HasPosition, DE, UE, F>(
     dcel: &Dcel<V, DE, UE, F>,
@@ -52,11 +52,11 @@ fn nearer_end<V: HasPosition, DE, UE, F>(
         MatchOption result (EndsNoNearer points dcel.now.mesh p edge)
         (IsNearerCandidate points dcel.now.mesh p (origin dcel.now.mesh edge)) }
 {
-    let at_end = distance_2_to(dcel, end, point);
-    if at_end < distance_2 {
+    let at_end_2 = distance_2_to(dcel, end, point);
+    if at_end_2 < distance_2 {
         return Some(Candidate {
             spoke: edge.rev(),
-            distance_2: at_end,
+            distance_2: at_end_2,
         });
     }
     None

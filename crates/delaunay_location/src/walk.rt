@@ -153,8 +153,10 @@ fn first_edge<V, DE, UE, F>(
     Some(vertex.out_edge()?.fix())
 }
 
-/// Where a position is. The search begins at the vertex `hint`, or at vertex 0 where there is no
-/// such vertex: the nearer it is, the shorter the way.
+/// Where a position is: the vertex, edge or face that it is on or strictly inside of, or an edge of
+/// the outline that it is beyond. The tests have to cover the position, and have the vertices as
+/// sites. The search begins at the vertex `hint`, or at vertex 0 where there is no such vertex: the
+/// nearer it is, the shorter the way, and the answer is right whatever it is. It takes no memory.
 pub fn locate_with_hint<V: HasPosition, DE, UE, F, P: PlaneTests<V::Scalar>>(
     dcel: &Dcel<V, DE, UE, F>,
     point: Point2<V::Scalar>,

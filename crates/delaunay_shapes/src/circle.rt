@@ -39,7 +39,8 @@ impl<S: SpadeNum> Clone for CircleMetric<S> {
 }
 
 impl<S: SpadeNum> CircleMetric<S> {
-    /// The circle round a centre in range, by its squared radius, which is not negative.
+    /// The circle round a centre in range, by its squared radius, which is not negative: a squared
+    /// length in the unit of the coordinates.
     pub fn new(center: Point2<S>, radius_2: i64) -> Self
         requires in_range { InRange (place_of S.whole center) }
         requires not_negative { pos 0 ≤ℤ radius_2 }
@@ -49,8 +50,9 @@ impl<S: SpadeNum> CircleMetric<S> {
         CircleMetric { center, radius_2 }
     }
 
-    // The squared distance from the centre, less the squared radius.
-    fn distance_to_rim(&self, point: Point2<S>) -> i64
+    // The squared distance from the centre, less the squared radius: a difference of squared
+    // lengths, and not the square of the distance from the rim.
+    fn rim_excess_2(&self, point: Point2<S>) -> i64
         requires { InRange (place_of S.whole point) }
         ensures { result ≡ circle_distance (place_of S.whole self.now.center) self.now.radius_2
             (place_of S.whole point) }
@@ -58,16 +60,18 @@ impl<S: SpadeNum> CircleMetric<S> {
         self.center.distance_2(point) - self.radius_2
     }
 
+    // Whether a point is inside the circle or on its rim.
     fn is_rim_near(&self, point: Point2<S>) -> bool
         requires { InRange (place_of S.whole point) }
         ensures { IsTrue result ↔
             (circle_distance (place_of S.whole self.now.center) self.now.radius_2
             (place_of S.whole point) ≤ℤ pos 0) }
     {
-        self.distance_to_rim(point) <= 0
+        self.rim_excess_2(point) <= 0
     }
 
-    // Whether the centre falls on an edge with a length, and is near enough to its line.
+    // Whether the centre falls on an edge with a length, and is near enough to its line. The three
+    // numbers that are compared are in the squared unit of the coordinates.
     fn falls_on(&self, from: Point2<S>, to: Point2<S>) -> bool
         requires from_in_range { InRange (place_of S.whole from) }
         requires to_in_range { InRange (place_of S.whole to) }
@@ -79,8 +83,8 @@ impl<S: SpadeNum> CircleMetric<S> {
     {
         let projection = project_point(from, to, self.center);
         let (factor, length_2) = projection.relative_position();
-        let distance_2 = self.distance_to_rim(from);
-        projection.is_on_edge() && is_at_most(distance_2, length_2, factor)
+        let excess_2 = self.rim_excess_2(from);
+        projection.is_on_edge() && is_at_most(excess_2, length_2, factor)
     }
 
     // Whether an end is in the circle, or the centre falls near the edge.
@@ -119,6 +123,8 @@ impl<S: SpadeNum> DistanceMetric<S> for CircleMetric<S> {
 
     ghost distance = { λ m. circle_distance (place_of S.whole m.center) m.radius_2 };
 
+    /// Whether the closed edge with these ends, which the tests cover, has a point inside the
+    /// circle or on its rim. No test is asked.
     fn is_edge_inside<P: PlaneTests<S>>(&self, points: (Point2<S>, Point2<S>), _tests: &P) -> bool
         requires own_covered { All (P.covered _tests.now) [] }
         requires start_covered { P.covered _tests.now (place_of S.whole points.0) }
@@ -133,6 +139,9 @@ impl<S: SpadeNum> DistanceMetric<S> for CircleMetric<S> {
         self.meets(from, to)
     }
 
+    /// The squared distance from the centre to a point in range, less the squared radius: a
+    /// difference of squared lengths in the unit of the coordinates, below 0 inside the circle, 0
+    /// on its rim, and above 0 outside.
     fn distance_to_point(&self, point: Point2<S>) -> i64
         requires { InRange (place_of S.whole point) }
         ensures value { result ≡ circle_distance (place_of S.whole self.now.center)
@@ -141,6 +150,6 @@ impl<S: SpadeNum> DistanceMetric<S> for CircleMetric<S> {
             InClosedCircle (place_of S.whole self.now.center) self.now.radius_2
             (fraction (place_of S.whole point)) }
     {
-        self.distance_to_rim(point)
+        self.rim_excess_2(point)
     }
 }

@@ -11,7 +11,8 @@ use delaunay_core::math::PlaneTests;
 use delaunay_core::point::{HasPosition, Point2, SpadeNum};
 use half_edge_mesh::UndirectedEdgeHandle;
 
-/// A closed shape. It tells how far a point is from it, and whether an edge has a point in it.
+/// A closed shape. It tells how far a point is from it, as a squared length, and whether an edge
+/// has a point in it.
 ///
 /// ```
 /// let circle = CircleMetric::new(Point2::new(0, 0), 25);
@@ -29,7 +30,8 @@ pub trait DistanceMetric<S: SpadeNum>: Drop {
 
     ghost distance: { Self → Point → ℤ };
 
-    /// Whether the closed edge with these ends has a point in the shape.
+    /// Whether the closed edge with these ends has a point in the shape. The tests have to cover
+    /// the ends and the shape's own points: no point of a circle, the four corners of a rectangle.
     fn is_edge_inside<P: PlaneTests<S>>(&self, points: (Point2<S>, Point2<S>), tests: &P) -> bool
         requires own_covered { All (P.covered tests.now) (own_points self.now) }
         requires start_covered { P.covered tests.now (place_of S.whole points.0) }
@@ -39,7 +41,10 @@ pub trait DistanceMetric<S: SpadeNum>: Drop {
         ensures inside { IsTrue result ↔
             HasPointIn (shape self.now) (place_of S.whole points.0) (place_of S.whole points.1) };
 
-    /// How far a point in range is from the shape, at most 0 in it.
+    /// How far a point in range is from the shape: at most 0 in it, above 0 outside. It is not a
+    /// length but is made of squared ones, in the squared unit of the coordinates: of a circle the
+    /// squared distance from the centre less the squared radius, of a rectangle the squared
+    /// distance from its nearest point.
     fn distance_to_point(&self, point: Point2<S>) -> i64
         requires { InRange (place_of S.whole point) }
         ensures value { result ≡ distance self.now (place_of S.whole point) }
@@ -54,7 +59,8 @@ pub trait DistanceMetric<S: SpadeNum>: Drop {
         self.distance_to_point(point) <= 0
     }
 
-    /// Whether the closed edge of a handle has a point in the shape.
+    /// Whether the closed edge of a handle has a point in the shape. The tests have to cover the
+    /// shape's own points and the vertices of the mesh.
     final fn is_handle_inside<V: HasPosition<Scalar = S>, DE, UE, F, P: PlaneTests<S>>(
         &self,
         handle: UndirectedEdgeHandle<'_, V, DE, UE, F>,

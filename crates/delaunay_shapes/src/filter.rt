@@ -11,7 +11,11 @@ use delaunay_core::point::HasPosition;
 use half_edge_mesh::{Dcel, FixedUndirectedEdgeHandle, FixedVertexHandle, MeshViews};
 use std::alloc::{AllocError, Global};
 
-// The edges with a point in a shape.
+/// The edges with a point in a shape, each once, by a look at all edges. The tests have to cover
+/// the shape's own points and the vertices.
+///
+/// `AllocError` comes where memory for the list of these edges is refused, and only from this call:
+/// the iterator takes none.
 pub fn edges_by_filter<
     'a,
     V: HasPosition,
@@ -45,7 +49,11 @@ pub fn edges_by_filter<
     })
 }
 
-// The vertices in a shape.
+/// The vertices in a shape, each once, by a look at all vertices. The tests have to cover these,
+/// and none is asked.
+///
+/// `AllocError` comes where memory for the list of these vertices is refused, and only from this
+/// call: the iterator takes none.
 pub fn vertices_by_filter<
     'a,
     V: HasPosition,

@@ -146,8 +146,11 @@ pub(crate) fn flood<
     Ok(edges)
 }
 
-/// The edges with a point in a closed circle or rectangle, found from a list of edges of which one
-/// has, if any has.
+/// The edges with a point in a closed circle or rectangle, each once, found from a list of edges of
+/// which one has, if any has. The tests have to cover the shape's own points and the vertices.
+///
+/// `AllocError` comes where memory for the marks of the edges that were asked of, or for the list
+/// of those found, is refused, and only from this call: the iterator takes none.
 pub fn edges_by_flood<
     'a,
     V: HasPosition,

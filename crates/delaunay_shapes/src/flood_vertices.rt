@@ -90,8 +90,11 @@ fn ask_ends<V: HasPosition, DE, UE, F, M: DistanceMetric<V::Scalar>>(
     Ok(())
 }
 
-/// The vertices in a closed circle or rectangle, found from a list of edges of which one has a
-/// point in it, if any has.
+/// The vertices in a closed circle or rectangle, each once, found from a list of edges of which one
+/// has a point in it, if any has. The tests have to cover the shape's own points and the vertices.
+///
+/// `AllocError` comes where memory for the marks of the edges and vertices that were asked of, or
+/// for the lists of those found, is refused, and only from this call: the iterator takes none.
 pub fn vertices_by_flood<
     'a,
     V: HasPosition,

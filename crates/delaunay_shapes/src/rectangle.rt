@@ -43,7 +43,8 @@ impl<S: SpadeNum> Clone for RectangleMetric<S> {
 }
 
 impl<S: SpadeNum> RectangleMetric<S> {
-    /// The rectangle between two corners in range.
+    /// The rectangle between two corners in range. One whose `upper` is less than its `lower` in an
+    /// axis has no point.
     pub fn new(lower: Point2<S>, upper: Point2<S>) -> Self
         requires lower_in_range { InRange (place_of S.whole lower) }
         requires upper_in_range { InRange (place_of S.whole upper) }
@@ -169,6 +170,9 @@ impl<S: SpadeNum> DistanceMetric<S> for RectangleMetric<S> {
     ghost distance = { λ m.
         rectangle_distance (place_of S.whole m.lower) (place_of S.whole m.upper) };
 
+    /// Whether the closed edge with these ends has a point in the rectangle. The tests have to
+    /// cover the ends and the rectangle's four corners, and say on which sides of the edge these
+    /// are.
     fn is_edge_inside<P: PlaneTests<S>>(&self, points: (Point2<S>, Point2<S>), tests: &P) -> bool
         requires own_covered { All (P.covered tests.now)
             (corners (place_of S.whole self.now.lower) (place_of S.whole self.now.upper)) }
@@ -186,7 +190,8 @@ impl<S: SpadeNum> DistanceMetric<S> for RectangleMetric<S> {
         self.meets(from, to, tests)
     }
 
-    /// The squared distance to the nearest point of the rectangle; `i64::MAX` from a reversed one.
+    /// The squared distance from a point in range to the nearest point of the rectangle, in the
+    /// squared unit of the coordinates: 0 in the rectangle, and `i64::MAX` from a reversed one.
     fn distance_to_point(&self, point: Point2<S>) -> i64
         requires { InRange (place_of S.whole point) }
         ensures value { result ≡ rectangle_distance (place_of S.whole self.now.lower)

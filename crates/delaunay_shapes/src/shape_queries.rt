@@ -19,8 +19,12 @@ use std::alloc::{AllocError, Global};
 
 /// The edges with a point in a shape, each once. The shape is a closed circle, and `start` its
 /// centre, or a closed rectangle, and `start` its lower corner. The search begins at the vertex
-/// `hint`, or at vertex 0 where there is no such vertex. Memory is refused here alone: the iterator
-/// takes none.
+/// `hint`, or at vertex 0 where there is no such vertex. The tests have to cover the shape's own
+/// points and `start`, and have the vertices as sites.
+///
+/// `AllocError` comes where memory for the edges to begin with, for the marks of those that were
+/// asked of, or for the list of those found is refused, and only from this call: the iterator takes
+/// none.
 pub fn edges_in_shape<
     'a,
     V: HasPosition,
@@ -51,7 +55,12 @@ pub fn edges_in_shape<
 
 /// The vertices in a shape, each once. The shape is a closed circle, and `start` its centre, or a
 /// closed rectangle, and `start` its lower corner. The search begins at the vertex `hint`, or at
-/// vertex 0 where there is no such vertex. Memory is refused here alone: the iterator takes none.
+/// vertex 0 where there is no such vertex. The tests have to cover the shape's own points and
+/// `start`, and have the vertices as sites.
+///
+/// `AllocError` comes where memory for the edges to begin with, for the marks of the edges and
+/// vertices that were asked of, or for the lists of those found is refused, and only from this
+/// call: the iterator takes none.
 pub fn vertices_in_shape<
     'a,
     V: HasPosition,

@@ -6,12 +6,12 @@ use Rattle.delaunay_shapes.proofs.circle.CircleMetricDistanceMetric.distance_to_
 
 pub returns-clause-value : goal.returns-clause-value
 returns-clause-value g c =
-    to_z-of_z w64 c.distance_to_rim.result (record { sfits = c.distance_to_rim.type_inv })
-    ∙ c.distance_to_rim.ensures
+    to_z-of_z w64 c.rim_excess_2.result (record { sfits = c.rim_excess_2.type_inv })
+    ∙ c.rim_excess_2.ensures
 
 pub returns-clause-inside : goal.returns-clause-inside
 returns-clause-inside g c =
     rim_inside (place_of g.S.SpadeNum.whole c.args.self.now.center) c.args.self.now.radius_2
     (place_of g.S.SpadeNum.whole c.args.point) _
-    (to_z-of_z w64 c.distance_to_rim.result (record { sfits = c.distance_to_rim.type_inv })
-    ∙ c.distance_to_rim.ensures)
+    (to_z-of_z w64 c.rim_excess_2.result (record { sfits = c.rim_excess_2.type_inv })
+    ∙ c.rim_excess_2.ensures)

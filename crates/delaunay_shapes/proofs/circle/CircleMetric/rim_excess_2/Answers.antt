@@ -3,7 +3,7 @@ use Rattle.plane.specs.Fraction.{whole}
 use Rattle.plane.proofs.Nearer.{gap_not_negative}
 use Rattle.delaunay_core.specs.Place.{place_of}
 use Rattle.delaunay_shapes.proofs.Rims.{rim_fits, rim_is}
-use Rattle.delaunay_shapes.proofs.circle.CircleMetric.distance_to_rim.Goals as goal
+use Rattle.delaunay_shapes.proofs.circle.CircleMetric.rim_excess_2.Goals as goal
 
 pub distance_2-requires-clause-in_range : goal.distance_2-requires-clause-in_range
 distance_2-requires-clause-in_range g c = c.args.self.now.center_in_range
