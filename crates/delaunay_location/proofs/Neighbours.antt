@@ -1,15 +1,20 @@
 -- A walk from vertex to nearer neighbour.
-use Rattle.std.proofs.Common.{◌≡◌, ◌⊎◌, ℕ, ◌+◌, ◌^◌, ◌<◌, ◌≤◌, List, length}
-use Rattle.std.proofs.Common.{sym, ap, subst, inl, inr, arith}
-use Rattle.std.specs.Prelude.{◌<ℤ◌}
+use Rattle.std.proofs.Common.{◌≡◌, ◌⊎◌, ℕ, ◌+◌, ◌<◌, ◌≤◌, List, length}
+use Rattle.std.proofs.Common.{sym, subst, ◌∙◌, inl, inr, arith}
+use Rattle.std.specs.Prelude.{ℤ, pos, ◌*ℤ◌, ◌<ℤ◌, Bool, true, false, cond, sum_by, slice_index_or}
+use Rattle.std.proofs.lemmas.Int.{ints}
+use Rattle.std.proofs.lemmas.List.{get_or_default}
+use Rattle.std.proofs.lemmas.List.Sums.{count_by-le-length}
 use Rattle.half_edge_mesh.specs.Mesh.{Mesh, origin, AreSoundLinks}
-use Rattle.plane.specs.Fraction.{Point, whole}
+use Rattle.plane.specs.Fraction.{Point, Fraction, whole}
 use Rattle.plane.specs.Circle.{gap, IsNearer}
 use Rattle.plane.specs.Pairs.{place}
 use Rattle.plane.specs.Tiling.{Triangulation, vertex}
-use Rattle.plane_delaunay.specs.Nearer.{nearer_count}
+use Rattle.plane.proofs.Sides.{test_false}
+use Rattle.plane_delaunay.specs.Nearer.{is_nearer, nearer_count}
 use Rattle.plane_delaunay.proofs.Circles.NearerCount.{nearer_count_falls}
-use Rattle.delaunay_location.specs.Candidate.{EndsNoNearer, HasNoNearerNeighbor}
+use Rattle.plane_delaunay.proofs.Points.Members.{member, sum_by-lt}
+use Rattle.delaunay_location.specs.Candidate.{EndsNoNearer, HasNoNearerNeighbor, IsMoveCount}
 use Rattle.mesh_embedding.proofs.EdgePairs.{joins_edge}
 use Rattle.plane.proofs.Signs.{less_with_ones, less_without_ones}
 
@@ -33,101 +38,138 @@ no_nearer_neighbour points m p v sound none k edge near =
     (subst (λ x. gap (whole p) (place points x) <ℤ gap (whole p) (place points (origin m h.0)))
     (sym h.3) from_here)
 
-counts : (moves was k here n : ℕ) → moves ≡ was → k < here → here < n → moves + 1 + k < was + n
-counts moves was k here n e a b = omega (arith, e, a, b)
+-- a vertex that is another one or nearer is nearer where its index is not that one's
+pub nearer_if_other : (points : List Point) (p : Point) (k w v i j : ℕ)
+    → (k ≡ w) ⊎ IsNearer (whole p) (place points k) (place points w) → w ≡ v → i ≡ k → j ≡ w
+    → ¬ (i ≡ j) → IsNearer (whole p) (place points k) (place points v)
+nearer_if_other points p k w v i j (inl same) is first second other =
+    absurd (other (first ∙ same ∙ sym second))
+nearer_if_other points p k w v i j (inr near) is first second other =
+    subst (λ x. IsNearer (whole p) (place points k) (place points x)) is near
 
-counts_on : (moves was k here n : ℕ) → moves + here < was + n → k < here → moves + 1 + k < was + n
-counts_on moves was k here n l a = omega (arith, l, a)
+at_most_one : (b : Bool) → cond b 1 0 ≤ 1
+at_most_one true = omega arith
+at_most_one false = omega arith
 
-below_by : (a b c d : ℕ) → a + b < c → c ≤ d → a < d
-below_by a b c d h l = omega (arith, h, l)
+none_if : (b : Bool) → b ≡ false → cond b 1 0 < 1
+none_if b e = subst (λ (x : Bool). cond x 1 0 < 1) (sym e) (omega arith)
 
-still_below : (moves k here n : ℕ) → k ≤ here → moves + here < n → moves + k < n
-still_below moves k here n a l = omega (arith, a, l)
+less_and_most : (a b c : ℕ) → a < b → b ≤ c → a < c
+less_and_most a b c l m = omega (arith, l, m)
 
-some_more : (moves was here n : ℕ) → moves ≡ was → here < n → moves < was + n
-some_more moves was here n e v = omega (arith, e, v)
+-- the vertices that are nearer than a vertex are fewer than all
+pub nearer_count_below : (t : Triangulation) (p : Fraction) (i : ℕ) → i < length t.points
+    → nearer_count t p i < length t.points
+nearer_count_below t p i within = less_and_most (nearer_count t p i) (sum_by (λ _. 1) t.points)
+    (length t.points) (sum_by-lt (λ q. cond (is_nearer p (whole q) (vertex t i)) 1 0) (λ _. 1) spot
+    t.points (λ q. at_most_one (is_nearer p (whole q) (vertex t i)))
+    (member spot t.points (i, within, get_or_default t.points i spot origin within)) not_itself)
+    (count_by-le-length (λ _. true) t.points)
+  where
+    origin : Point
+    origin = record { x = pos 0; y = pos 0 }
 
--- after the moves since `was` the walk is at vertex `here`: with the vertices that are nearer than
--- it, they are fewer than all vertices, once there was a move
-pub record IsWalking (t : Triangulation) (p : Point) (here was moves : ℕ) : Type 0 where
-  pub within : here < length t.points
-  pub grown : was ≤ moves
-  pub fewer : (moves ≡ was) ⊎ (moves + nearer_count t (whole p) here < was + length t.points)
+    spot : Point
+    spot = slice_index_or t.points i (record { x = pos 0; y = pos 0 })
 
-module _ (t : Triangulation) (p : Point) (was : ℕ) where
-  -- a walk begins at any vertex, before the first move
-  pub walking_begins : (start moves : ℕ) → start < length t.points → moves ≡ was
-      → IsWalking t p start was moves
-  walking_begins start moves h same =
-      record { within = h; grown = omega (arith, same); fewer = inl same }
+    far : ℤ
+    far = gap p (vertex t i) *ℤ (pos 1 *ℤ pos 1)
 
-  module _ (here moves : ℕ) (w : IsWalking t p here was moves) where
-    module _ (k : ℕ) (h : k < length t.points)
-        (near : IsNearer (whole p) (vertex t k) (vertex t here)) where
-      -- a nearer vertex has fewer vertices that are nearer than it
-      pub nearer_falls : nearer_count t (whole p) k < nearer_count t (whole p) here
-      nearer_falls = (nearer_count_falls t (whole p) here k w.within h near).0
+    not_itself : cond (is_nearer p (whole spot) (vertex t i)) 1 0 < 1
+    not_itself = none_if (is_nearer p (whole spot) (vertex t i))
+        (test_false far far (omega (arith, ints)))
 
-      still_fewer : moves + 1 + nearer_count t (whole p) k < was + length t.points
-      still_fewer = go w.fewer
-        where
-          f : (nearer_count t (whole p) k < nearer_count t (whole p) here) ×
-              (nearer_count t (whole p) here < length t.points)
-          f = nearer_count_falls t (whole p) here k w.within h near
+more : (was now later k w v : ℕ) → later + k ≤ now + w → now + w ≤ was + v → later + k ≤ was + v
+more was now later k w v a b = omega (arith, a, b)
 
-          go : (moves ≡ was) ⊎ (moves + nearer_count t (whole p) here < was + length t.points) →
-              moves + 1 + nearer_count t (whole p) k < was + length t.points
-          go (inl e) = let a = f.0 in let b = f.1 in counts moves was (nearer_count t (whole p) k)
-              (nearer_count t (whole p) here) (length t.points) e a b
-          go (inr l) = let a = f.0 in
-              counts_on moves was (nearer_count t (whole p) k) (nearer_count t (whole p) here)
-              (length t.points) l a
+no_more : (was now w v : ℕ) → was ≤ now → now + w ≤ was + v → w ≤ v
+no_more was now w v a b = omega (arith, a, b)
 
-      -- the count of the moves has room for a move to a nearer vertex
-      pub move_fits : was + length t.points ≤ 2 ^ 64 → moves + 1 < 2 ^ 64
-      move_fits fits =
-          below_by (moves + 1) (nearer_count t (whole p) k) (was + length t.points)
-          (2 ^ 64) still_fewer fits
+one_more : (was now x k v : ℕ) → now + x ≤ was + k → k < v → now + 1 + x ≤ was + v
+one_more was now x k v a b = omega (arith, a, b)
 
-      -- after such a move the walk is at the nearer vertex
-      pub walking_goes_on : IsWalking t p k was (moves + 1)
-      walking_goes_on = record {
-        within = h;
-        grown = (let g = w.grown in omega (arith, g));
-        fewer = inr still_fewer;
-      }
+at_most_through : (a b c : ℕ) → a ≤ b → b ≤ c → a ≤ c
+at_most_through a b c h k = omega (arith, h, k)
 
-    module _ (k : ℕ) (h : k < length t.points)
-        (at_most : (k ≡ here) ⊎ IsNearer (whole p) (vertex t k) (vertex t here)) where
-      -- the same vertex or a nearer one has no more vertices that are nearer than it
-      pub nearer_falls_or_stays : nearer_count t (whole p) k ≤ nearer_count t (whole p) here
-      nearer_falls_or_stays = go at_most
-        where
-          go : (k ≡ here) ⊎ IsNearer (whole p) (vertex t k) (vertex t here) →
-              nearer_count t (whole p) k ≤ nearer_count t (whole p) here
-          go (inl e) = let c : nearer_count t (whole p) k ≡ nearer_count t (whole p) here =
-              ap (nearer_count t (whole p)) e in omega (arith, c)
-          go (inr near) = let f = nearer_falls k h near in omega (arith, f)
+fewer_fit : (was k n limit : ℕ) → k < n → was + n ≤ limit → was + k < limit
+fewer_fit was k n limit a b = omega (arith, a, b)
 
-      -- the walk can go on from there without a move
-      pub walking_jumps : IsWalking t p k was moves
-      walking_jumps = record { within = h; grown = w.grown; fewer = go w.fewer }
-        where
-          go : (moves ≡ was) ⊎ (moves + nearer_count t (whole p) here < was + length t.points) →
-              (moves ≡ was) ⊎ (moves + nearer_count t (whole p) k < was + length t.points)
-          go (inl e) = inl e
-          go (inr l) =
-              inr (still_below moves (nearer_count t (whole p) k) (nearer_count t (whole p) here)
-              (was + length t.points) nearer_falls_or_stays l)
+fewer_than : (was now w k n : ℕ) → now + w ≤ was + k → k < n → now < was + n
+fewer_than was now w k n a b = omega (arith, a, b)
 
-    -- there were fewer moves than there are vertices
-    pub walking_ends : moves < was + length t.points
-    walking_ends = go w.fewer
-      where
-        go : (moves ≡ was) ⊎ (moves + nearer_count t (whole p) here < was + length t.points) →
-            moves < was + length t.points
-        go (inl e) = let v = w.within in some_more moves was here (length t.points) e v
-        go (inr l) = below_by moves (nearer_count t (whole p) here) (was + length t.points)
-            (was + length t.points) l
-            (omega arith)
+less_by_some : (a b c n : ℕ) → a + b < n → c ≤ a + b → c < n
+less_by_some a b c n h l = omega (arith, h, l)
+
+module _ (t : Triangulation) (p : Point) where
+  -- where there is no move the count stays
+  pub none_counted : (v was : ℕ) → IsMoveCount t p v v was was
+  none_counted v was = record { grown = omega arith; fewer = omega arith }
+
+  module _ (v w was now : ℕ) (c : IsMoveCount t p v w was now) where
+    -- moves that follow others are counted with them
+    pub more_counted : (k later : ℕ) → IsMoveCount t p w k now later → IsMoveCount t p v k was later
+    more_counted k later d = record {
+      grown = (let a = c.grown in let b = d.grown in omega (arith, a, b));
+      fewer = more was now later (nearer_count t (whole p) k) (nearer_count t (whole p) w)
+          (nearer_count t (whole p) v) d.fewer c.fewer;
+    }
+
+    -- no more vertices are nearer than where the moves lead
+    pub count_stays : nearer_count t (whole p) w ≤ nearer_count t (whole p) v
+    count_stays = no_more was now (nearer_count t (whole p) w) (nearer_count t (whole p) v)
+        c.grown c.fewer
+
+    -- there is room for further moves
+    pub room_stays : (n : ℕ) → was + nearer_count t (whole p) v < n
+        → now + nearer_count t (whole p) w < n
+    room_stays n h = less_by_some was (nearer_count t (whole p) v)
+        (now + nearer_count t (whole p) w) n h c.fewer
+
+  module _ (v k : ℕ) (here : v < length t.points) (there : k < length t.points)
+      (near : IsNearer (whole p) (vertex t k) (vertex t v)) where
+    -- a nearer vertex has fewer vertices that are nearer than it
+    pub nearer_falls : nearer_count t (whole p) k < nearer_count t (whole p) v
+    nearer_falls = (nearer_count_falls t (whole p) v k here there near).0
+
+    -- a move to a nearer vertex, and moves from there, are one more
+    pub one_more_counted : (w was now : ℕ) → IsMoveCount t p k w was now
+        → IsMoveCount t p v w was (now + 1)
+    one_more_counted w was now c = record {
+      grown = (let a = c.grown in omega (arith, a));
+      fewer = one_more was now (nearer_count t (whole p) w) (nearer_count t (whole p) k)
+          (nearer_count t (whole p) v) c.fewer nearer_falls;
+    }
+
+    -- the count has room for that move
+    pub one_more_fits : (w was now n : ℕ) → IsMoveCount t p k w was now
+        → was + nearer_count t (whole p) v < n → now + 1 < n
+    one_more_fits w was now n c h =
+        let m = (one_more_counted w was now c).fewer in
+        less_by_some was (nearer_count t (whole p) v) (now + 1) n h
+        (let l : now + 1 ≤ now + 1 + nearer_count t (whole p) w = omega arith in
+        at_most_through (now + 1) (now + 1 + nearer_count t (whole p) w)
+        (was + nearer_count t (whole p) v) l m)
+
+    -- it has room for the moves from there
+    pub room_there : (was n : ℕ) → was + nearer_count t (whole p) v < n
+        → was + nearer_count t (whole p) k < n
+    room_there was n h = less_by_some was (nearer_count t (whole p) v)
+        (was + nearer_count t (whole p) k) n h (let f = nearer_falls in omega (arith, f))
+
+  module _ (v n : ℕ) (count : length t.points ≡ n) (within : v < n) where
+    few : nearer_count t (whole p) v < n
+    few = subst (λ (l : ℕ). nearer_count t (whole p) v < l) count
+        (nearer_count_below t (whole p) v (subst (λ (l : ℕ). v < l) (sym count) within))
+
+    -- where the count has room for all vertices it has room for those that are nearer
+    pub room_at : (was limit : ℕ) → was + n ≤ limit → was + nearer_count t (whole p) v < limit
+    room_at was limit fits = fewer_fit was (nearer_count t (whole p) v) n limit few fits
+
+    -- the moves are fewer than the vertices
+    pub fewer_moves : (w was now : ℕ) → IsMoveCount t p v w was now
+        → (was ≤ now) × (now < was + n)
+    fewer_moves w was now c = (
+      c.grown,
+      fewer_than was now (nearer_count t (whole p) w)
+          (nearer_count t (whole p) v) n c.fewer few,
+    )

@@ -1,10 +1,11 @@
 -- A vertex that may be the nearest one to a position.
-use Rattle.std.specs.Prelude.{◌≡◌, ◌⊎◌, ℕ, ◌<◌, ◌<ℤ◌, List, length}
+use Rattle.std.specs.Prelude.{◌≡◌, ◌⊎◌, ℕ, ◌+◌, ◌<◌, ◌≤◌, ◌<ℤ◌, List, length}
 use Rattle.half_edge_mesh.specs.Mesh.{Mesh, origin, rev}
 use Rattle.plane.specs.Fraction.{Point, whole}
 use Rattle.plane.specs.Circle.{gap, IsNearer}
 use Rattle.plane.specs.Pairs.{place}
-use Rattle.plane.specs.Tiling.{IsEdge}
+use Rattle.plane.specs.Tiling.{IsEdge, Triangulation}
+use Rattle.plane_delaunay.specs.Nearer.{nearer_count}
 use Rattle.mesh_embedding.specs.Drawn.{drawn}
 use Rattle.delaunay_location.specs.declared.nearest_walk.Candidate.{Candidate}
 
@@ -37,3 +38,9 @@ module _ (points : List Point) (m : Mesh) (p : Point) where
     pub candidate : IsCandidate c
     pub nearer : (origin m c.spoke ≡ v) ⊎
         IsNearer (whole p) (place points (origin m c.spoke)) (place points v)
+
+-- moves from vertex v to vertex w were counted: the count did not fall, and rose by at most the
+-- number of vertices that are nearer to p than v and not nearer than w
+pub record IsMoveCount (t : Triangulation) (p : Point) (v w was now : ℕ) : Type 0 where
+  pub grown : was ≤ now
+  pub fewer : now + nearer_count t (whole p) w ≤ was + nearer_count t (whole p) v

@@ -7,11 +7,13 @@ ghost use Rattle.plane.specs.Pairs.{place};
 ghost use Rattle.plane.specs.Delaunay.{IsConstrainedDelaunay};
 ghost use Rattle.plane.specs.Shape.{IsNearest};
 ghost use Rattle.plane.specs.Tests.{InRange};
+ghost use Rattle.plane_delaunay.specs.Nearer.{nearer_count};
 ghost use Rattle.delaunay_core.specs.Place.{place_of};
 ghost use Rattle.delaunay_legalization.specs.Shape.{IsTriangulated};
 ghost use Rattle.delaunay_legalization.specs.State.{state_of, triangulation_of};
 ghost use Rattle.delaunay_location.specs.Candidate.{EndsNoNearer, HasNoNearerNeighbor, IsCandidate};
-ghost use Rattle.delaunay_location.specs.Candidate.{IsCandidateFrom, IsNearerCandidate};
+ghost use Rattle.delaunay_location.specs.Candidate.{IsCandidateFrom, IsMoveCount};
+ghost use Rattle.delaunay_location.specs.Candidate.{IsNearerCandidate};
 
 use crate::parts::end_vertex;
 use crate::samples::nearer_sample;
@@ -79,26 +81,35 @@ fn end_after<V, DE, UE, F>(
     edge.prev_from().fix()
 }
 
-// A candidate to begin with: a vertex, or a neighbour that is nearer. There is none where the
-// vertex has no edge.
+// A candidate to begin with: a vertex, or a neighbour that is nearer, to which it is a move. There
+// is none where the vertex has no edge.
 fn first_candidate<V: HasPosition, DE, UE, F>(
     dcel: &Dcel<V, DE, UE, F>,
     from: FixedVertexHandle,
     point: Point2<V::Scalar>,
+    moves: &mut u64,
 ) -> Option<Candidate>
     requires kept { IsTriangulated V.place (state_of dcel.now) }
     requires within { from < length dcel.now.vertices }
     requires in_range { InRange (place_of V.Scalar.whole point) }
-    ensures { let points = map V.place dcel.now.vertices in
+    requires fits { moves.old + nearer_count (triangulation_of V.place (state_of dcel.now))
+        (fraction (place_of V.Scalar.whole point)) from < 2 ^ 64 }
+    ensures candidate { let points = map V.place dcel.now.vertices in
         let p = place_of V.Scalar.whole point in
         MatchOption result (HasNoNearerNeighbor points dcel.now.mesh p from)
         (IsCandidateFrom points dcel.now.mesh p from) }
+    ensures counted { MatchOption result (moves.new ≡ moves.old)
+        (λ c. IsMoveCount (triangulation_of V.place (state_of dcel.now))
+        (place_of V.Scalar.whole point) from (origin dcel.now.mesh c.spoke) moves.old moves.new) }
 {
     let spoke = dcel.vertex(from).out_edge()?.fix();
     let distance_2 = distance_2_to(dcel, from, point);
     let end = end_vertex(dcel, spoke);
     match nearer_end(dcel, spoke, end, distance_2, point) {
-        Some(nearer) => Some(nearer),
+        Some(nearer) => {
+            *moves += 1;
+            Some(nearer)
+        }
         None => Some(Candidate { spoke, distance_2 }),
     }
 }
@@ -147,31 +158,44 @@ fn nearer_neighbor<V: HasPosition, DE, UE, F>(
 }
 
 // A candidate anywhere in the mesh that is nearer than this one, if one of those looked at is, or
-// this one.
+// this one. To go to such a vertex is a move, and to go on to its neighbour another one.
 #[inline(never)]
 fn candidate_anywhere<V: HasPosition, DE, UE, F>(
     dcel: &Dcel<V, DE, UE, F>,
     from: Candidate,
     point: Point2<V::Scalar>,
+    moves: &mut u64,
 ) -> Candidate
     requires kept { IsTriangulated V.place (state_of dcel.now) }
     requires in_range { InRange (place_of V.Scalar.whole point) }
     requires from { IsCandidate (map V.place dcel.now.vertices) dcel.now.mesh
         (place_of V.Scalar.whole point) from }
-    ensures { IsCandidateFrom (map V.place dcel.now.vertices) dcel.now.mesh
+    requires fits { moves.old + nearer_count (triangulation_of V.place (state_of dcel.now))
+        (fraction (place_of V.Scalar.whole point)) (origin dcel.now.mesh from.spoke) < 2 ^ 64 }
+    ensures candidate { IsCandidateFrom (map V.place dcel.now.vertices) dcel.now.mesh
         (place_of V.Scalar.whole point) (origin dcel.now.mesh from.spoke) result }
+    ensures counted { IsMoveCount (triangulation_of V.place (state_of dcel.now))
+        (place_of V.Scalar.whole point) (origin dcel.now.mesh from.spoke)
+        (origin dcel.now.mesh result.spoke) moves.old moves.new }
 {
     let vertex = dcel.directed_edge(from.spoke).from().fix();
     let sample = nearer_sample(dcel, vertex, point);
-    match first_candidate(dcel, sample, point) {
-        Some(candidate) => candidate,
+    if sample.index() == vertex.index() {
+        return from;
+    }
+    match first_candidate(dcel, sample, point, moves) {
+        Some(candidate) => {
+            *moves += 1;
+            candidate
+        }
         None => from,
     }
 }
 
 // The vertex that is nearest to a position, by a walk from a candidate to nearer neighbours until
-// there is none. It adds the number of its moves to `moves`: fewer than there are vertices. At each
-// sixteenth move it goes on at a vertex anywhere in the mesh, if one of those looked at is nearer.
+// there is none. It adds the number of its moves to `moves`, of those all over the mesh too. Where
+// one to a neighbour makes that a multiple of sixteen, it goes on at a vertex anywhere in the mesh,
+// if one of those looked at is nearer.
 fn nearest_from<V: HasPosition, DE, UE, F>(
     dcel: &Dcel<V, DE, UE, F>,
     start: Candidate,
@@ -183,24 +207,29 @@ fn nearest_from<V: HasPosition, DE, UE, F>(
     requires start { IsCandidate (map V.place dcel.now.vertices) dcel.now.mesh
         (place_of V.Scalar.whole point) start }
     requires in_range { InRange (place_of V.Scalar.whole point) }
-    requires fits { moves.old + length dcel.now.vertices ≤ 2 ^ 64 }
+    requires fits { moves.old + nearer_count (triangulation_of V.place (state_of dcel.now))
+        (fraction (place_of V.Scalar.whole point)) (origin dcel.now.mesh start.spoke) < 2 ^ 64 }
     ensures nearest { IsNearest (triangulation_of V.place (state_of dcel.now))
         (fraction (place_of V.Scalar.whole point)) result }
-    ensures counted { (moves.old ≤ moves.new) × (moves.new < moves.old + length dcel.now.vertices) }
+    ensures counted { IsMoveCount (triangulation_of V.place (state_of dcel.now))
+        (place_of V.Scalar.whole point) (origin dcel.now.mesh start.spoke) result moves.old
+        moves.new }
 {
     let mut nearest = start;
     while let Some(nearer) = nearer_neighbor(dcel, &nearest, point) {
         *moves += 1;
         nearest = nearer;
         if *moves % FEW_MOVES == 0 {
-            nearest = candidate_anywhere(dcel, nearest, point);
+            nearest = candidate_anywhere(dcel, nearest, point, moves);
         }
     }
     dcel.directed_edge(nearest.spoke).from().fix()
 }
 
-/// The vertex that is nearest to a position, by a walk from `start` to nearer neighbours until
-/// there is none. It adds the number of its moves to `moves`: fewer than there are vertices.
+/// The vertex that is nearest to a position in range, by a walk from `start` to nearer neighbours
+/// until there is none: one of them, where several are. It adds the number of its moves to `moves`,
+/// one for each step to another vertex, which is strictly nearer: a neighbour, or after a long way
+/// one of some all over the mesh. So they are fewer than there are vertices. It takes no memory.
 pub fn nearest_by_neighbors<V: HasPosition, DE, UE, F>(
     dcel: &Dcel<V, DE, UE, F>,
     start: FixedVertexHandle,
@@ -216,7 +245,7 @@ pub fn nearest_by_neighbors<V: HasPosition, DE, UE, F>(
         (fraction (place_of V.Scalar.whole point)) result }
     ensures counted { (moves.old ≤ moves.new) × (moves.new < moves.old + length dcel.now.vertices) }
 {
-    match first_candidate(dcel, start, point) {
+    match first_candidate(dcel, start, point, moves) {
         Some(candidate) => nearest_from(dcel, candidate, point, moves),
         None => start,
     }

@@ -1,4 +1,6 @@
-use Rattle.std.proofs.Common.{ℕ, map, IsNone, refl, sym, ap, ◌∙◌, subst, inl, w64}
+use Rattle.std.proofs.Common.{ℕ, ◌<◌, ◌^◌, map, length, IsNone, refl, sym, ap, ◌∙◌, subst, inl, w64}
+use Rattle.std.proofs.Common.{arith}
+use Rattle.std.proofs.lemmas.List.{length-map}
 use Rattle.std.proofs.lemmas.Int.{to_z-of_z}
 use Rattle.std.specs.Prelude.{ℤ}
 use Rattle.half_edge_mesh.specs.Mesh.{Mesh, origin, out_edge}
@@ -7,8 +9,12 @@ use Rattle.plane.specs.Circle.{gap}
 use Rattle.plane.specs.Pairs.{place}
 use Rattle.delaunay_core.specs.Place.{place_of}
 use Rattle.delaunay_location.proofs.BothWays.{named_first, no_edges}
+use Rattle.delaunay_legalization.specs.State.{state_of, triangulation_of}
+use Rattle.delaunay_location.specs.Candidate.{IsMoveCount}
 use Rattle.delaunay_location.proofs.Candidates.{candidate_from_nearer, nearer_than_same}
-use Rattle.delaunay_location.proofs.Neighbours.{no_nearer_neighbour}
+use Rattle.delaunay_location.proofs.Candidates.{vertex_within}
+use Rattle.delaunay_location.proofs.Neighbours.{no_nearer_neighbour, none_counted}
+use Rattle.delaunay_location.proofs.Neighbours.{one_more_counted, one_more_fits}
 use Rattle.delaunay_location.proofs.nearest_walk.first_candidate.Goals as goal
 
 pub returns-in_err-out_edge : goal.returns-in_err-out_edge
@@ -17,10 +23,13 @@ returns-in_err-out_edge g c =
     let none = subst (λ (x : Mesh × ℕ). IsNone (out_edge x.0 x.1))
     (λ i. (ap (λ d. d.now.mesh) c.vertex.ensures.dcel i, c.vertex.ensures.index i))
     (c.in_err-out_edge.ensures.none.0 refl) in
-    rw c.from_residual.ensures
-    (no_nearer_neighbour (map g.V.HasPosition.place c.args.dcel.now.vertices) m
-    (place_of g.V.Scalar.SpadeNum.whole c.args.point) c.args.from c.requires.kept.valid.sound
-    (λ h within starts. absurd (no_edges m c.requires.kept.valid c.args.from h none within starts)))
+    rw c.from_residual.ensures (record {
+      candidate = no_nearer_neighbour (map g.V.HasPosition.place c.args.dcel.now.vertices) m
+          (place_of g.V.Scalar.SpadeNum.whole c.args.point) c.args.from c.requires.kept.valid.sound
+          (λ h within starts.
+          absurd (no_edges m c.requires.kept.valid c.args.from h none within starts));
+      counted = refl;
+    })
 
 pub nearer_end-requires-clause-start : goal.nearer_end-requires-clause-start
 nearer_end-requires-clause-start g c =
@@ -33,17 +42,47 @@ nearer_end-requires-clause-start g c =
     (record { sfits = c.distance_2_to-distance_2.type_inv })
     ∙ c.distance_2_to-distance_2.ensures ∙ ap far (sym named.1)
 
+pub overflow_add-moves : goal.overflow_add-moves
+overflow_add-moves g c =
+    let points = map g.V.HasPosition.place c.args.dcel.now.vertices in
+    let m = c.args.dcel.now.mesh in
+    let p = place_of g.V.Scalar.SpadeNum.whole c.args.point in
+    let t = triangulation_of g.V.HasPosition.place (state_of c.args.dcel.now) in
+    let named = c.requires.kept.valid.sound.vertices c.args.from c.fix-spoke.result
+    (named_first _ _ _ _ _ _ (ap (λ d. d.now.mesh) c.vertex.ensures.dcel) c.vertex.ensures.index
+    c.in_ok-out_edge.ensures.edge.1 c.fix-spoke.ensures.value) in
+    let near = nearer_than_same points m p
+    (origin m c.fix-spoke.result) c.args.from c.in-Some.nearer named.1 c.in-Some.ensures in
+    let k = origin m c.in-Some.nearer.spoke in
+    let w = c.requires.within in
+    let here : c.args.from < length t.points =
+    omega (arith, w, length-map c.args.dcel.now.vertices g.V.HasPosition.place) in
+    let there = vertex_within _ _ c.requires.kept _ _ near.candidate in
+    let fits = one_more_fits t p c.args.from k here there near.nearer k c.args.moves.now
+    c.args.moves.now (2 ^ 64) (none_counted t p k c.args.moves.now) c.requires.fits in
+    omega (arith, fits)
+
 pub returns-in-Some : goal.returns-in-Some
 returns-in-Some g c =
     let points = map g.V.HasPosition.place c.args.dcel.now.vertices in
     let m = c.args.dcel.now.mesh in
     let p = place_of g.V.Scalar.SpadeNum.whole c.args.point in
+    let t = triangulation_of g.V.HasPosition.place (state_of c.args.dcel.now) in
     let named = c.requires.kept.valid.sound.vertices c.args.from c.fix-spoke.result
     (named_first _ _ _ _ _ _ (ap (λ d. d.now.mesh) c.vertex.ensures.dcel) c.vertex.ensures.index
     c.in_ok-out_edge.ensures.edge.1 c.fix-spoke.ensures.value) in
-    candidate_from_nearer points m p c.args.from c.in-Some.nearer
-    (nearer_than_same points m p
-    (origin m c.fix-spoke.result) c.args.from c.in-Some.nearer named.1 c.in-Some.ensures)
+    let near = nearer_than_same points m p
+    (origin m c.fix-spoke.result) c.args.from c.in-Some.nearer named.1 c.in-Some.ensures in
+    let k = origin m c.in-Some.nearer.spoke in
+    let w = c.requires.within in
+    let here : c.args.from < length t.points =
+    omega (arith, w, length-map c.args.dcel.now.vertices g.V.HasPosition.place) in
+    record {
+      candidate = candidate_from_nearer points m p c.args.from c.in-Some.nearer near;
+      counted = one_more_counted t p c.args.from k here
+          (vertex_within _ _ c.requires.kept _ _ near.candidate) near.nearer k c.args.moves.now
+          c.args.moves.now (none_counted t p k c.args.moves.now);
+    }
 
 pub returns-in-None : goal.returns-in-None
 returns-in-None g c =
@@ -52,14 +91,21 @@ returns-in-None g c =
     let named = c.requires.kept.valid.sound.vertices c.args.from c.fix-spoke.result
     (named_first _ _ _ _ _ _ (ap (λ d. d.now.mesh) c.vertex.ensures.dcel) c.vertex.ensures.index
     c.in_ok-out_edge.ensures.edge.1 c.fix-spoke.ensures.value) in
+    let t = triangulation_of g.V.HasPosition.place (state_of c.args.dcel.now) in
+    let p = place_of g.V.Scalar.SpadeNum.whole c.args.point in
+    let was = c.args.moves.now in
     record {
       candidate = record {
-        within = named.0;
-        distance =
-            to_z-of_z w64 c.distance_2_to-distance_2.result
-            (record { sfits = c.distance_2_to-distance_2.type_inv })
-            ∙ c.distance_2_to-distance_2.ensures ∙ ap far (sym named.1);
-        ends = c.in-None.ensures;
+        candidate = record {
+          within = named.0;
+          distance =
+              to_z-of_z w64 c.distance_2_to-distance_2.result
+              (record { sfits = c.distance_2_to-distance_2.type_inv })
+              ∙ c.distance_2_to-distance_2.ensures ∙ ap far (sym named.1);
+          ends = c.in-None.ensures;
+        };
+        nearer = inl named.1;
       };
-      nearer = inl named.1;
+      counted = subst (λ (w : ℕ). IsMoveCount t p c.args.from w was was) (sym named.1)
+          (none_counted t p c.args.from was);
     }

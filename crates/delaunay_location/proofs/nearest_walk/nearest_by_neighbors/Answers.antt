@@ -1,10 +1,41 @@
-use Rattle.std.proofs.Common.{arith}
+use Rattle.std.proofs.Common.{◌^◌, length, arith}
 use Rattle.std.proofs.lemmas.List.{length-map}
+use Rattle.half_edge_mesh.specs.Mesh.{origin}
 use Rattle.plane.specs.Fraction.{whole}
 use Rattle.plane_delaunay.proofs.Circles.Nearest.{nearest_by_neighbours}
 use Rattle.delaunay_core.specs.Place.{place_of}
 use Rattle.delaunay_legalization.specs.State.{state_of, triangulation_of}
+use Rattle.delaunay_location.proofs.Neighbours.{fewer_moves, more_counted, room_at, room_stays}
 use Rattle.delaunay_location.proofs.nearest_walk.nearest_by_neighbors.Goals as goal
+
+pub first_candidate-requires-clause-fits : goal.first_candidate-requires-clause-fits
+first_candidate-requires-clause-fits g c =
+    room_at (triangulation_of g.V.HasPosition.place (state_of c.args.dcel.now))
+    (place_of g.V.Scalar.SpadeNum.whole c.args.point) c.args.start
+    (length c.args.dcel.now.vertices)
+    (length-map c.args.dcel.now.vertices g.V.HasPosition.place) c.requires.within
+    c.args.moves.now (2 ^ 64) c.requires.fits
+
+pub nearest_from-requires-clause-fits : goal.nearest_from-requires-clause-fits
+nearest_from-requires-clause-fits g c =
+    let t = triangulation_of g.V.HasPosition.place (state_of c.args.dcel.now) in
+    let p = place_of g.V.Scalar.SpadeNum.whole c.args.point in
+    room_stays t p c.args.start (origin c.args.dcel.now.mesh c.in-Some.candidate.spoke)
+    c.args.moves.now c.first_candidate.new.moves c.in-Some.ensures.counted (2 ^ 64)
+    (room_at t p c.args.start (length c.args.dcel.now.vertices)
+    (length-map c.args.dcel.now.vertices g.V.HasPosition.place) c.requires.within
+    c.args.moves.now (2 ^ 64) c.requires.fits)
+
+pub returns-in-Some-clause-counted : goal.returns-in-Some-clause-counted
+returns-in-Some-clause-counted g c =
+    let t = triangulation_of g.V.HasPosition.place (state_of c.args.dcel.now) in
+    let p = place_of g.V.Scalar.SpadeNum.whole c.args.point in
+    fewer_moves t p c.args.start (length c.args.dcel.now.vertices)
+    (length-map c.args.dcel.now.vertices g.V.HasPosition.place) c.requires.within
+    c.nearest_from.result c.args.moves.now c.nearest_from.new.moves
+    (more_counted t p c.args.start (origin c.args.dcel.now.mesh c.in-Some.candidate.spoke)
+    c.args.moves.now c.first_candidate.new.moves c.in-Some.ensures.counted
+    c.nearest_from.result c.nearest_from.new.moves c.nearest_from.ensures.counted)
 
 pub returns-in-None-clause-nearest : goal.returns-in-None-clause-nearest
 returns-in-None-clause-nearest g c =
@@ -13,4 +44,4 @@ returns-in-None-clause-nearest g c =
     (whole (place_of g.V.Scalar.SpadeNum.whole c.args.point)) c.args.start
     (let w = c.requires.within in
     omega (arith, w, length-map c.args.dcel.now.vertices g.V.HasPosition.place))
-    c.in-None.ensures
+    c.in-None.ensures.candidate

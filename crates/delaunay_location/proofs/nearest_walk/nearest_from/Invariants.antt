@@ -4,16 +4,15 @@ use Rattle.plane.specs.Fraction.{whole}
 use Rattle.plane_delaunay.specs.Nearer.{nearer_count}
 use Rattle.delaunay_core.specs.Place.{place_of}
 use Rattle.delaunay_legalization.specs.State.{state_of, triangulation_of}
-use Rattle.delaunay_location.specs.Candidate.{IsCandidate}
-use Rattle.delaunay_location.proofs.Neighbours.{IsWalking}
+use Rattle.delaunay_location.specs.Candidate.{IsCandidate, IsMoveCount}
 use Rattle.delaunay_location.proofs.nearest_walk.nearest_from.Given as goal
 
 abbrev pub invariant-loop-nearer : goal.invariant-loop-nearer
 invariant-loop-nearer g l =
     IsCandidate (map g.V.HasPosition.place l.dcel.vertices) l.dcel.mesh
     (place_of g.V.Scalar.SpadeNum.whole l.point)
-    l.nearest × IsWalking (triangulation_of g.V.HasPosition.place (state_of l.dcel))
-    (place_of g.V.Scalar.SpadeNum.whole l.point)
+    l.nearest × IsMoveCount (triangulation_of g.V.HasPosition.place (state_of l.dcel))
+    (place_of g.V.Scalar.SpadeNum.whole l.point) (origin l.dcel.mesh l.fn.start.spoke)
     (origin l.dcel.mesh l.nearest.spoke) l.fn.moves l.moves
 
 abbrev pub decreases-loop-nearer : goal.decreases-loop-nearer
