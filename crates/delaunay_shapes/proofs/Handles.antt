@@ -6,7 +6,8 @@ use Rattle.std.specs.Prelude.{pos, All, IsTrue}
 use Rattle.std.specs.Borrow.{Bor}
 use Rattle.std.proofs.lemmas.List.{length-map}
 use Rattle.half_edge_mesh.specs.Mesh.{Mesh, origin, next, prev, rev}
-use Rattle.half_edge_mesh.specs.Contents.{Contents}
+use Rattle.half_edge_mesh.specs.Contents.{Contents, IsMeshWithData}
+use Rattle.half_edge_links.proofs.Lists.Rev.{rev_within}
 use Rattle.plane.specs.Fraction.{Point, Fraction, whole}
 use Rattle.plane_delaunay.specs.EdgeTests.{HasPointIn}
 use Rattle.plane_tiling.proofs.Totals.{get_or_any}
@@ -16,6 +17,9 @@ use Rattle.delaunay_shapes.specs.InShape.{IsEdgeInShape, AreEdgesInShape, AreVer
 use Rattle.delaunay_shapes.specs.InShape.{IsInside}
 use Rattle.delaunay_shapes.specs.Flood.{IsAsked, IsFlooding}
 use Rattle.delaunay_shapes.proofs.Asking.{IsFilteredTo}
+
+double_below : (k n b : ℕ) → 2 * n ≡ b → k < n → (2 * k) < b
+double_below k n b e h = omega (arith, e, h)
 
 module _ {V D U F : Type 0} (place : V → Point) (d : Bor (Contents V D U F)) where
   -- the start and the end of a directed edge
@@ -38,13 +42,46 @@ module _ {V D U F : Type 0} (place : V → Point) (d : Bor (Contents V D U F)) w
       is ∙ (λ t. point_at (map place (v_is t).now.vertices) (j_is t))
 
   -- the position of a vertex is covered where those of all vertices are
-  pub end_covered : (C : Point → Type 0) (e v : Bor (Contents V D U F)) (j : ℕ) (p : Point) →
+  pub vertex_covered : (C : Point → Type 0) (e v : Bor (Contents V D U F)) (j : ℕ) (p : Point) →
       All C (map place d.now.vertices) → e ≡ d → v ≡ e → j < length v.now.vertices →
       p ≡ point_at (map place v.now.vertices) j → C p
-  end_covered C e v j p all same at within is =
+  vertex_covered C e v j p all same at within is =
       subst C (sym is) (subst (λ (x : Bor (Contents V D U F)). All C (map place x.now.vertices))
       (sym (at ∙ same)) all j
       (record { x = pos 0; y = pos 0 }) (omega (arith, within, length-map v.now.vertices place)))
+
+  -- the ends of an edge, by its handle, are covered where all vertices are
+  module _ (C : Point → Type 0) (all : All C (map place d.now.vertices))
+      (whole : IsMeshWithData d.now) (e : Bor (Contents V D U F)) (i k : ℕ)
+      (within : k < length d.now.undirected) (same : e ≡ d) (index : i ≡ k) where
+    origin_covered : (h : ℕ) → h < length d.now.mesh.half_edges
+        → C (point_at (map place d.now.vertices) (origin d.now.mesh h))
+    origin_covered h low =
+        let o = (whole.valid.sound.edges h low).origin_in in
+        let fit = whole.fits.vertices_fit in
+        all (origin d.now.mesh h) (record { x = pos 0; y = pos 0 })
+        (omega (arith, o, fit, length-map d.now.vertices place))
+
+    below_edges : (2 * k) < length d.now.mesh.half_edges
+    below_edges = let fit = whole.fits.undirected_fit in
+        double_below k (length d.now.undirected) (length d.now.mesh.half_edges) fit within
+
+    by_handle : (f : ℕ → ℕ) → f k < length d.now.mesh.half_edges
+        → C (point_at (map place e.now.vertices) (origin e.now.mesh (f i)))
+    by_handle f low = subst
+        (λ (x : Bor (Contents V D U F)).
+        C (point_at (map place x.now.vertices) (origin x.now.mesh (f i)))) (sym same)
+        (subst (λ (x : ℕ). C (point_at (map place d.now.vertices) (origin d.now.mesh (f x))))
+        (sym index) (origin_covered (f k) low))
+
+    -- the start of the edge's even direction
+    pub start_covered : C (point_at (map place e.now.vertices) (origin e.now.mesh (2 * i)))
+    start_covered = by_handle (λ x. 2 * x) below_edges
+
+    -- and its end
+    pub end_covered : C (point_at (map place e.now.vertices) (origin e.now.mesh (rev (2 * i))))
+    end_covered = by_handle (λ x. rev (2 * x))
+        (rev_within (2 * k) _ whole.valid.sound.even below_edges)
 
   -- an answer to a handle
   pub edge_told : (b : Bool) (Shape : Fraction → Type 0) (e : Bor (Contents V D U F)) (i k : ℕ)
@@ -95,9 +132,6 @@ filtered_within Inside i n found f last k d h = let low =
 
 same_bound : (i n : ℕ) → i ≡ n → (k : ℕ) → k < i → k < n
 same_bound i n e k h = omega (arith, e, h)
-
-double_below : (k n b : ℕ) → 2 * n ≡ b → k < n → (2 * k) < b
-double_below k n b e h = omega (arith, e, h)
 
 half_below : (k n b : ℕ) → 2 * n ≡ b → (2 * k) < b → k < n
 half_below k n b e h = omega (arith, e, h)

@@ -1,10 +1,13 @@
 //! The trait of closed shapes.
-ghost use Rattle.std.specs.Prelude.{◌≡◌, ◌↔◌, List, Bool, ℤ, pos, ◌≤ℤ◌, map, int_le, All, IsTrue};
+ghost use Rattle.std.specs.Prelude.{◌≡◌, ◌↔◌, ◌*◌, List, Bool, ℤ, pos, ◌≤ℤ◌, map, int_le};
+ghost use Rattle.std.specs.Prelude.{All, IsTrue};
+ghost use Rattle.half_edge_mesh.specs.Mesh.{origin, rev};
 ghost use Rattle.plane.specs.Fraction.{Point, Fraction, whole as fraction};
 ghost use Rattle.plane.specs.Tests.{InRange};
 ghost use Rattle.plane_delaunay.specs.EdgeTests.{HasPointIn};
 ghost use Rattle.delaunay_core.specs.Place.{place_of};
 ghost use Rattle.delaunay_shapes.specs.InShape.{IsEdgeInShape};
+ghost use Rattle.delaunay_shapes.specs.Known.{point_at};
 
 use crate::positions::position_of;
 use delaunay_core::math::PlaneTests;
@@ -60,14 +63,19 @@ pub trait DistanceMetric<S: SpadeNum>: Drop {
     }
 
     /// Whether the closed edge of a handle has a point in the shape. The tests have to cover the
-    /// shape's own points and the vertices of the mesh.
+    /// shape's own points and the ends of this edge alone.
     final fn is_handle_inside<V: HasPosition<Scalar = S>, DE, UE, F, P: PlaneTests<S>>(
         &self,
         handle: UndirectedEdgeHandle<'_, V, DE, UE, F>,
         tests: &P,
     ) -> bool
         requires own_covered { All (P.covered tests.now) (own_points self.now) }
-        requires covered { All (P.covered tests.now) (map V.place handle.dcel.now.vertices) }
+        requires start_covered { P.covered tests.now (point_at
+            (map V.place handle.dcel.now.vertices)
+            (origin handle.dcel.now.mesh (2 * handle.index))) }
+        requires end_covered { P.covered tests.now (point_at
+            (map V.place handle.dcel.now.vertices)
+            (origin handle.dcel.now.mesh (rev (2 * handle.index)))) }
         ensures inside { IsTrue result ↔
             IsEdgeInShape (shape self.now) (map V.place handle.entry.dcel.now.vertices)
             handle.entry.dcel.now.mesh handle.entry.index }

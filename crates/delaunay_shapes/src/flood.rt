@@ -37,6 +37,7 @@ fn ask<V: HasPosition, DE, UE, F, M: DistanceMetric<V::Scalar>, P: PlaneTests<V:
         return Ok(());
     }
     asked.mark(index)?;
+    dcel.recall_invariant();
     if metric.is_handle_inside(dcel.undirected_edge(edge), tests) {
         found.push(edge)?;
     }

@@ -87,6 +87,7 @@ fn has_point_inside<
     requires within { edge < length dcel.now.directed }
     ensures { IsTrue result ↔ IsInside (M.shape metric.now) V.place dcel.now (edge / 2) }
 {
+    dcel.recall_invariant();
     let edge = dcel.directed_edge(edge);
     metric.is_handle_inside(edge.as_undirected(), tests)
 }

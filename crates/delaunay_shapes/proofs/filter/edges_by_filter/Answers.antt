@@ -1,10 +1,30 @@
 use Rattle.std.proofs.Common.{ℕ, ◌+◌, List, ◌∙◌, refl, sym, ap, map, length, subst, arith}
 use Rattle.delaunay_shapes.specs.InShape.{IsInside}
 use Rattle.delaunay_shapes.proofs.Asking.{IsFilteredTo, filter_finds, filter_passes}
-use Rattle.delaunay_shapes.proofs.Handles.{edge_told, filtered_within, filtered_edges}
+use Rattle.delaunay_shapes.proofs.Handles.{edge_told, end_covered, filtered_within, filtered_edges}
+use Rattle.delaunay_shapes.proofs.Handles.{start_covered}
 use Rattle.delaunay_shapes.proofs.filter.edges_by_filter.Goals.{then-is_handle_inside+in_ok-push}
 use Rattle.delaunay_shapes.proofs.filter.edges_by_filter.Goals.{else-is_handle_inside}
 use Rattle.delaunay_shapes.proofs.filter.edges_by_filter.Goals as goal
+
+pub is_handle_inside-requires-clause-start_covered :
+    goal.is_handle_inside-requires-clause-start_covered
+is_handle_inside-requires-clause-start_covered g c =
+    start_covered g.V.HasPosition.place c.args.dcel (g.P.PlaneTests.covered c.args.tests.now)
+    c.requires.covered c.num_undirected_edges-index-end.ensures.whole
+    c.undirected_edge.result.dcel c.undirected_edge.result.index c.from_index-edge.result
+    (let count = c.num_undirected_edges-index-end.ensures.value in
+    omega (arith, count, c.loop-index-test.true, c.from_index-edge.ensures))
+    c.undirected_edge.ensures.dcel c.undirected_edge.ensures.index
+
+pub is_handle_inside-requires-clause-end_covered : goal.is_handle_inside-requires-clause-end_covered
+is_handle_inside-requires-clause-end_covered g c =
+    end_covered g.V.HasPosition.place c.args.dcel (g.P.PlaneTests.covered c.args.tests.now)
+    c.requires.covered c.num_undirected_edges-index-end.ensures.whole
+    c.undirected_edge.result.dcel c.undirected_edge.result.index c.from_index-edge.result
+    (let count = c.num_undirected_edges-index-end.ensures.value in
+    omega (arith, count, c.loop-index-test.true, c.from_index-edge.ensures))
+    c.undirected_edge.ensures.dcel c.undirected_edge.ensures.index
 
 pub loop-index-preserved : goal.loop-index-preserved
 loop-index-preserved g c =

@@ -4,7 +4,7 @@ use Rattle.plane.specs.Fraction.{whole}
 use Rattle.delaunay_core.specs.Place.{place_of}
 use Rattle.delaunay_shapes.specs.Known.{point_at}
 use Rattle.delaunay_shapes.proofs.Asking.{IsFilteredTo, filter_finds, filter_passes}
-use Rattle.delaunay_shapes.proofs.Handles.{end_covered, vertex_told, filtered_within}
+use Rattle.delaunay_shapes.proofs.Handles.{vertex_covered, vertex_told, filtered_within}
 use Rattle.delaunay_shapes.proofs.Handles.{filtered_vertices}
 use Rattle.delaunay_shapes.proofs.filter.vertices_by_filter.Goals.{then-is_point_inside+in_ok-push}
 use Rattle.delaunay_shapes.proofs.filter.vertices_by_filter.Goals.{else-is_point_inside}
@@ -63,7 +63,7 @@ pub is_point_inside-requires : goal.is_point_inside-requires
 is_point_inside-requires g c =
     let at = place_of g.V.Scalar.SpadeNum.whole c.position_of.result in
     g.met.P.PlaneTests.covered_are_in_range c.args.tests.now at
-    (end_covered g.V.HasPosition.place c.args.dcel
+    (vertex_covered g.V.HasPosition.place c.args.dcel
     (g.P.PlaneTests.covered c.args.tests.now) c.args.dcel
     c.vertex.result.dcel c.vertex.result.index at
     c.requires refl c.vertex.ensures.dcel c.vertex.result.in_range c.position_of.ensures)

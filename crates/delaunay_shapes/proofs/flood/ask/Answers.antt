@@ -1,8 +1,24 @@
 use Rattle.std.proofs.Common.{length}
 use Rattle.delaunay_shapes.specs.InShape.{IsInside}
 use Rattle.delaunay_shapes.proofs.Asking.{asked_inside, asked_outside}
-use Rattle.delaunay_shapes.proofs.Handles.{edge_told, marked_by, not_asked}
+use Rattle.delaunay_shapes.proofs.Handles.{edge_told, end_covered, marked_by, not_asked}
+use Rattle.delaunay_shapes.proofs.Handles.{start_covered}
 use Rattle.delaunay_shapes.proofs.flood.ask.Goals as goal
+
+pub is_handle_inside-requires-clause-start_covered :
+    goal.is_handle_inside-requires-clause-start_covered
+is_handle_inside-requires-clause-start_covered g c =
+    start_covered g.V.HasPosition.place c.args.dcel (g.P.PlaneTests.covered c.args.tests.now)
+    c.requires.covered c.recall_invariant.ensures.whole c.undirected_edge.result.dcel
+    c.undirected_edge.result.index c.args.edge c.requires.within
+    c.undirected_edge.ensures.dcel c.undirected_edge.ensures.index
+
+pub is_handle_inside-requires-clause-end_covered : goal.is_handle_inside-requires-clause-end_covered
+is_handle_inside-requires-clause-end_covered g c =
+    end_covered g.V.HasPosition.place c.args.dcel (g.P.PlaneTests.covered c.args.tests.now)
+    c.requires.covered c.recall_invariant.ensures.whole c.undirected_edge.result.dcel
+    c.undirected_edge.result.index c.args.edge c.requires.within
+    c.undirected_edge.ensures.dcel c.undirected_edge.ensures.index
 
 pub returns-in_ok-push : goal.returns-in_ok-push
 returns-in_ok-push g c =

@@ -3,12 +3,12 @@ use Rattle.plane.specs.Tests.{InRange}
 use Rattle.delaunay_core.specs.Place.{place_of}
 use Rattle.delaunay_shapes.specs.InShape.{IsVertexInside}
 use Rattle.delaunay_shapes.proofs.Asking.{asked_inside, asked_outside}
-use Rattle.delaunay_shapes.proofs.Handles.{end_covered, marked_by, not_asked, vertex_told}
+use Rattle.delaunay_shapes.proofs.Handles.{vertex_covered, marked_by, not_asked, vertex_told}
 use Rattle.delaunay_shapes.proofs.flood_vertices.ask_vertex.Goals as goal
 
 pub is_point_inside-requires : goal.is_point_inside-requires
 is_point_inside-requires g c =
-    end_covered g.V.HasPosition.place c.args.dcel InRange c.args.dcel c.vertex.result.dcel
+    vertex_covered g.V.HasPosition.place c.args.dcel InRange c.args.dcel c.vertex.result.dcel
     c.vertex.result.index
     (place_of g.V.Scalar.SpadeNum.whole c.position_of.result) c.requires.in_range refl
     c.vertex.ensures.dcel

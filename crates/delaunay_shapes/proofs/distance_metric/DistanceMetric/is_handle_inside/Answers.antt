@@ -1,23 +1,25 @@
-use Rattle.std.proofs.Common.{map}
+use Rattle.std.proofs.Common.{map, sym, subst}
 use Rattle.delaunay_core.specs.Place.{place_of}
-use Rattle.delaunay_shapes.proofs.Handles.{start_is, end_is, end_covered, ends_told}
+use Rattle.delaunay_shapes.proofs.Handles.{start_is, end_is, ends_told}
 use Rattle.delaunay_shapes.proofs.distance_metric.DistanceMetric.is_handle_inside.Goals as goal
 
 pub is_edge_inside-requires-clause-start_covered : goal.is_edge_inside-requires-clause-start_covered
 is_edge_inside-requires-clause-start_covered g c =
-    end_covered g.V.HasPosition.place c.args.handle.dcel (g.P.PlaneTests.covered c.args.tests.now)
-    c.as_directed-edge.result.dcel c.from.result.dcel c.from.result.index
-    (place_of g.S.SpadeNum.whole c.position_of.result)
-    c.requires.covered c.as_directed-edge.ensures.dcel c.from.ensures.dcel c.from.result.in_range
-    c.position_of.ensures
+    subst (g.P.PlaneTests.covered c.args.tests.now)
+    (sym (start_is g.V.HasPosition.place c.args.handle.dcel c.as_directed-edge.result.dcel
+    c.from.result.dcel _
+    c.as_directed-edge.result.index c.from.result.index _ c.as_directed-edge.ensures.dcel
+    c.as_directed-edge.ensures.index c.from.ensures.dcel c.from.ensures.index
+    c.position_of.ensures)) c.requires.start_covered
 
 pub is_edge_inside-requires-clause-end_covered : goal.is_edge_inside-requires-clause-end_covered
 is_edge_inside-requires-clause-end_covered g c =
-    end_covered g.V.HasPosition.place c.args.handle.dcel (g.P.PlaneTests.covered c.args.tests.now)
-    c.as_directed-edge.result.dcel c.to.result.dcel c.to.result.index
-    (place_of g.S.SpadeNum.whole c.position_of-2.result)
-    c.requires.covered c.as_directed-edge.ensures.dcel c.to.ensures.dcel c.to.result.in_range
-    c.position_of-2.ensures
+    subst (g.P.PlaneTests.covered c.args.tests.now)
+    (sym (end_is g.V.HasPosition.place c.args.handle.dcel c.as_directed-edge.result.dcel
+    c.to.result.dcel _
+    c.as_directed-edge.result.index c.to.result.index _ c.as_directed-edge.ensures.dcel
+    c.as_directed-edge.ensures.index c.to.ensures.dcel c.to.ensures.index
+    c.position_of-2.ensures)) c.requires.end_covered
 
 pub returns : goal.returns
 returns g c = record {
