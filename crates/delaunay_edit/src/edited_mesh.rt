@@ -84,6 +84,7 @@ impl<V: HasPosition, DE, UE, F, M: ConstraintMarker<UE>> EditedMesh<V, DE, UE, F
         self.dcel.recall_invariant();
     }
 
+    /// How many vertices there are.
     pub fn num_vertices(&self) -> usize
         ensures value { result ≡ length self.now.vertices }
         ensures small { result ≤ MAX_ELEMENTS }

@@ -78,7 +78,7 @@ impl<
     M: EdgeData<UE>,
 > EditedMesh<V, DE, UE, F, M> {
     /// A copy with clones of all data, where a clone of a vertex has its position and one of an
-    /// edge's data its mark.
+    /// edge's data its mark. It gives `AllocError` where memory was refused.
     pub fn try_clone(&self) -> Result<Self, AllocError>
         requires places { (v w : V) → V.is_clone v w → V.place w ≡ V.place v }
         requires marks { (d e : UE) → UE.is_clone d e → M.marks e ≡ M.marks d }

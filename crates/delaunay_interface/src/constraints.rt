@@ -35,7 +35,7 @@ impl<V: HasPosition, DE, UE, F, L: HintGenerator<V::Scalar>> ConstrainedDelaunay
         self.edited.is_constraint_edge(edge)
     }
 
-    /// How many edges are constraints. The number is kept, so this takes constant time.
+    /// How many edges are constraints. The number is kept, so no edge is looked at.
     pub fn num_constraints(&self) -> usize
         ensures { result ≡ length (constraints_of self.now) }
     {

@@ -265,6 +265,7 @@ pub trait Triangulation:
 
     ghost state_is_of_mesh: { (t : Self) → Self.HasMesh.mesh_state t ≡ state t };
 
+    /// How many vertices there are.
     final fn num_vertices(&self) -> usize
         ensures value { result ≡ length (state self.now).vertices }
         ensures small { result ≤ MAX_ELEMENTS }
@@ -272,6 +273,7 @@ pub trait Triangulation:
         self.s().num_vertices()
     }
 
+    /// How many undirected edges there are.
     final fn num_undirected_edges(&self) -> usize
         ensures value { result ≡ length
             (triangulation_of Self.Vertex.place (state self.now)).edges }
@@ -332,6 +334,7 @@ pub trait Triangulation:
         self.num_inner_faces() == 0
     }
 
+    /// The vertex with a handle of this triangulation.
     final fn vertex(
         &self,
         vertex: FixedVertexHandle,
@@ -356,6 +359,7 @@ pub trait Triangulation:
         self.s().get_vertex(vertex)
     }
 
+    /// The directed edge with a handle of this triangulation.
     final fn directed_edge(
         &self,
         edge: FixedDirectedEdgeHandle,
@@ -367,6 +371,7 @@ pub trait Triangulation:
         self.s().directed_edge(edge)
     }
 
+    /// The undirected edge with a handle of this triangulation.
     final fn undirected_edge(
         &self,
         edge: FixedUndirectedEdgeHandle,
@@ -405,6 +410,7 @@ pub trait Triangulation:
         self.s().get_edge_from_neighbors(from, to)
     }
 
+    /// The face with a handle of this triangulation, the outer one among them.
     final fn face(
         &self,
         face: FixedFaceHandle,
@@ -416,6 +422,7 @@ pub trait Triangulation:
         self.s().face(face)
     }
 
+    /// The outer face, whose index is 0.
     final fn outer_face(
         &self,
     ) -> FaceHandle<'_, Self::Vertex, Self::DirectedEdge, Self::UndirectedEdge, Self::Face>

@@ -20,8 +20,7 @@ use delaunay_legalization::is_same_point;
 use half_edge_mesh::{Dcel, FixedVertexHandle};
 
 /// The vertices and edges that a segment meets, in the order along the segment. No call takes
-/// memory, and the cost of a call of `next` does not grow with the mesh, but with the edges of one
-/// vertex.
+/// memory. A call of `next` looks at the edges of one vertex at most.
 ///
 /// ```
 /// for item in LineIntersectionIterator::new(&points, from, to, &ExactTests) {

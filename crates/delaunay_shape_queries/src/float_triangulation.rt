@@ -58,7 +58,7 @@ pub type VerticesIn<'a, T> = VerticesInShapeIterator<
 /// ```
 pub trait FloatTriangulation: Triangulation {
     /// The edges with a point in a closed rectangle, each once: none where `upper` is left of
-    /// `lower` or below it.
+    /// `lower` or below it. It gives `AllocError` where memory was refused.
     final fn get_edges_in_rectangle<P: PlaneTests<ScalarOf<Self>>>(
         &self,
         lower: PointOf<Self>,
@@ -81,7 +81,7 @@ pub trait FloatTriangulation: Triangulation {
     }
 
     /// The vertices in a closed rectangle, each once: none where `upper` is left of `lower` or
-    /// below it.
+    /// below it. It gives `AllocError` where memory was refused.
     final fn get_vertices_in_rectangle<P: PlaneTests<ScalarOf<Self>>>(
         &self,
         lower: PointOf<Self>,
@@ -104,6 +104,7 @@ pub trait FloatTriangulation: Triangulation {
     }
 
     /// The edges with a point in a closed circle, each once. The squared radius is not negative.
+    /// It gives `AllocError` where memory was refused.
     final fn get_edges_in_circle<P: PlaneTests<ScalarOf<Self>>>(
         &self,
         center: PointOf<Self>,
@@ -124,7 +125,8 @@ pub trait FloatTriangulation: Triangulation {
         edges_in_shape(self.s(), &circle, center, hint, tests, alloc)
     }
 
-    /// The vertices in a closed circle, each once. The squared radius is not negative.
+    /// The vertices in a closed circle, each once. The squared radius is not negative. It gives
+    /// `AllocError` where memory was refused.
     final fn get_vertices_in_circle<P: PlaneTests<ScalarOf<Self>>>(
         &self,
         center: PointOf<Self>,
