@@ -4,7 +4,7 @@ use crate::chains::{add_edge, add_edges, insert_from, remove_at};
 use crate::edits::{
     add, can_add, counts, exists, is_constraint, print_constraints, release, try_add,
 };
-use spade_delaunay::{HintGenerator, Point2, Triangulation};
+use spade_delaunay::{ConstraintError, HintGenerator, Point2, Triangulation};
 use std::alloc::Global;
 use std::io;
 use std::mem::swap;
@@ -94,6 +94,19 @@ fn read<L: HintGenerator<i64>>(
     }
 }
 
+// Prints what the error of a refused constraint says.
+fn tell_refusal(
+    rt: &impl Print,
+    call: &Call<'_>,
+    answer: Option<Result<bool, ConstraintError>>,
+) -> io::Result<()> {
+    let line = call.line;
+    match answer {
+        Some(Err(error)) => println!(rt; "{line} > {error}"),
+        _ => println!(rt; "{line} > none"),
+    }
+}
+
 // Makes the edit of constraints that a line asks for, and prints what it gives.
 fn constrain<L: HintGenerator<i64>>(
     rt: &(impl Print + AllocGlobal),
@@ -114,6 +127,10 @@ fn constrain<L: HintGenerator<i64>>(
                 rt,
                 &add_edges(points, path, call.name == "add_closed_edges"),
             )
+        }
+        "refusal" => {
+            let ends = call.positions(alloc)?;
+            tell_refusal(rt, call, add_edge(points, ends.as_slice()))
         }
         "remove_constraint_edge" => call.tell(rt, &release(points, from, to)),
         "clear" => {
