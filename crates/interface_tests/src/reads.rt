@@ -107,19 +107,23 @@ fn print_refusal<T: Triangulation>(rt: &HostRuntime) -> io::Result<()> {
     }
 }
 
-// The counts of a triangulation with no room.
-fn print_no_room<T: Triangulation>(rt: &HostRuntime) -> io::Result<()> {
-    match T::with_capacity(rt.alloc(), 0, 0, 0) {
+// The counts of a triangulation with room for so many vertices, edges and faces.
+fn print_room<T: Triangulation>(
+    rt: &HostRuntime,
+    [vertices, edges, faces]: [usize; 3],
+) -> io::Result<()> {
+    match T::with_capacity(rt.alloc(), vertices, edges, faces) {
         Ok(points) => print_counts(rt, &points),
         Err(_) => Err(refused()),
     }
 }
 
-/// What is read where there is nothing, and of a square with its centre.
+/// What is read where there is nothing, with room and without, and of a square with its centre.
 pub fn print_square<T: Triangulation<Vertex = Point2<i64>>>(
     rt: &HostRuntime,
     points: &mut T,
 ) -> io::Result<()> {
+    print_room::<T>(rt, [100, 294, 196])?;
     print_all(rt, points)?;
     insert_square(points)?;
     print_all(rt, points)
@@ -133,5 +137,6 @@ pub fn print_constrained<T: Triangulation + HasConstraints>(
     print_all(rt, points)?;
     println!(rt; "{} constraints", points.constraints())?;
     print_refusal::<T>(rt)?;
-    print_no_room::<T>(rt)
+    print_room::<T>(rt, [0, 0, 0])?;
+    print_room::<T>(rt, [100, 294, 196])
 }

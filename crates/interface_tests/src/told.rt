@@ -36,17 +36,24 @@ fn print_told<T: Triangulation<HintGenerator = Listing>>(
 fn print_asked<T: Triangulation<HintGenerator = Listing>>(
     rt: &HostRuntime,
     points: &T,
+    when: &str,
 ) -> io::Result<()> {
     let asked = points.hint_generator().asked.get();
-    println!(rt; "asked {asked} times before constraints")
+    println!(rt; "asked {asked} times {when}")
 }
 
-// Asks three times for the origin.
-fn ask<T: Triangulation<Vertex = Point2<i64>> + FindsNearest>(points: &T) {
+// Asks three times for the origin, and prints after each question how often hints were asked for.
+fn print_questions<T: Triangulation<Vertex = Point2<i64>, HintGenerator = Listing> + FindsNearest>(
+    rt: &HostRuntime,
+    points: &T,
+) -> io::Result<()> {
     let center = Point2::new(0, 0);
     let _ = points.locate(center, &ExactTests);
+    print_asked(rt, points, "after locate")?;
     let _ = points.locate_vertex(center, &ExactTests);
+    print_asked(rt, points, "after locate_vertex")?;
     let _ = points.distance(center);
+    print_asked(rt, points, "after nearest_neighbor")
 }
 
 // What is told of three insertions and an overwrite, and, after some questions, of a removal.
@@ -56,7 +63,7 @@ fn print_edits<T: Triangulation<Vertex = Point2<i64>, HintGenerator = Listing> +
 ) -> io::Result<()> {
     insert_all(points, &[(0, 1), (1, 1), (1, 0), (1, 1)])?;
     print_told(rt, points)?;
-    ask(points);
+    print_questions(rt, points)?;
     remove(points, 0)?;
     print_told(rt, points)
 }
@@ -79,7 +86,7 @@ fn print_copies(
 ) -> io::Result<()> {
     print_copy(rt, &copy, points)?;
     match Constrained::from_delaunay(copy) {
-        Ok(points) => print_asked(rt, &points),
+        Ok(points) => print_asked(rt, &points, "before constraints"),
         Err(_) => Err(refused()),
     }
 }
