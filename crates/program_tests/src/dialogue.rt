@@ -1,7 +1,9 @@
 //! Dialogues with the program.
 
 use odd_hints::{Always1000, EachInTurn};
-use spade_delaunay::{HintGenerator, LastUsedVertexHintGenerator};
+use spade_delaunay::{
+    HierarchyHintGeneratorWithBranchFactor as Hierarchy, HintGenerator, LastUsedVertexHintGenerator,
+};
 use std::alloc::{AllocError, Global};
 use triangulate_run::session::run;
 use triangulate_run::sheet::{Sheet, letter_named};
@@ -67,7 +69,8 @@ fn is_allowed<L: HintGenerator<i64>>(alloc: Global, sheet: Sheet, dialogue: &Dia
 }
 
 /// Whether the program answers as the dialogue says, whose first line begins with the sheet's
-/// letter: with its own hints, with those from 0 to 20 in turn, and with one that names no vertex.
+/// letter: with its own hints, with those from 0 to 20 in turn, with one that names no vertex, and
+/// with those of hierarchies.
 pub(crate) fn is_answered(alloc: Global, text: &str) -> Result<bool, AllocError> {
     let (heading, lines) = text.split_once('\n').unwrap_or((text, ""));
     let letter = heading
@@ -80,6 +83,8 @@ pub(crate) fn is_answered(alloc: Global, text: &str) -> Result<bool, AllocError>
     Ok(
         is_allowed::<LastUsedVertexHintGenerator>(alloc, sheet, &dialogue)
             && is_allowed::<EachInTurn>(alloc, sheet, &dialogue)
-            && is_allowed::<Always1000>(alloc, sheet, &dialogue),
+            && is_allowed::<Always1000>(alloc, sheet, &dialogue)
+            && is_allowed::<Hierarchy<i64, 2>>(alloc, sheet, &dialogue)
+            && is_allowed::<Hierarchy<i64, 16>>(alloc, sheet, &dialogue),
     )
 }
