@@ -3,12 +3,12 @@
 use crate::items::{Item, item_of};
 use crate::segment::Segment;
 use exact_tests::ExactTests;
-use spade_delaunay::{HasMesh, HintGenerator, LineIntersectionIterator, Point2};
+use spade_delaunay::{HintGenerator, LineIntersectionIterator, Point2, Triangulation};
 use std::alloc::Global;
 use test_points::{Plain, both, both_in_range};
 
 /// What a segment meets whose ends are in range.
-pub fn walk<DE, UE, F, T: HasMesh<Point2<i64>, DE, UE, F>>(
+pub fn walk<T: Triangulation<Vertex = Point2<i64>>>(
     points: &T,
     segment: Segment,
     alloc: Global,

@@ -6,7 +6,7 @@ use crate::items::tell_items;
 use crate::points::{walk, walk_between};
 use crate::segment::Segment;
 use crate::sheets::{compare_conflicts, compare_walks};
-use spade_delaunay::{HasMesh, HintGenerator, Point2, Triangulation};
+use spade_delaunay::{HintGenerator, Point2, Triangulation};
 use std::alloc::Global;
 use std::io;
 use test_points::{Constrained, Plain, add_constraints, clear, constrain, counts, insert, remove};
@@ -77,10 +77,7 @@ impl<L: HintGenerator<i64>> Answers for Session<L> {
     }
 }
 
-fn edit<
-    T: Triangulation<Vertex = Point2<i64>>
-        + HasMesh<Point2<i64>, T::DirectedEdge, T::UndirectedEdge, T::Face>,
->(
+fn edit<T: Triangulation<Vertex = Point2<i64>>>(
     rt: &(impl Print + AllocGlobal),
     points: &mut T,
     sheet: &[Point2<i64>],
@@ -96,10 +93,7 @@ fn edit<
     }
 }
 
-fn read<
-    T: Triangulation<Vertex = Point2<i64>>
-        + HasMesh<Point2<i64>, T::DirectedEdge, T::UndirectedEdge, T::Face>,
->(
+fn read<T: Triangulation<Vertex = Point2<i64>>>(
     rt: &(impl Print + AllocGlobal),
     points: &T,
     sheet: &[Point2<i64>],

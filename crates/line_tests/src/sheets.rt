@@ -5,7 +5,7 @@ use crate::drawing::{Drawing, constraints_of};
 use crate::filter::is_met;
 use crate::points::walk;
 use crate::segment::Segment;
-use spade_delaunay::{HasMesh, HintGenerator, Point2, Triangulation};
+use spade_delaunay::{HintGenerator, Point2, Triangulation};
 use std::alloc::{AllocError, Global};
 use test_points::Constrained;
 
@@ -37,7 +37,7 @@ fn segments_of(sheet: &[Point2<i64>], alloc: Global) -> Result<Vec<Segment>, All
 }
 
 // Whether the walk along a segment gives just what the filter does.
-fn walk_agrees<DE, UE, F, T: HasMesh<Point2<i64>, DE, UE, F>>(
+fn walk_agrees<T: Triangulation<Vertex = Point2<i64>>>(
     points: &T,
     drawing: &Drawing,
     segment: Segment,
@@ -48,7 +48,7 @@ fn walk_agrees<DE, UE, F, T: HasMesh<Point2<i64>, DE, UE, F>>(
 }
 
 // Compares all walks over a triangulation that is drawn.
-fn compare_drawn<DE, UE, F, T: HasMesh<Point2<i64>, DE, UE, F>>(
+fn compare_drawn<T: Triangulation<Vertex = Point2<i64>>>(
     points: &T,
     drawing: &Drawing,
     segments: Vec<Segment>,
@@ -62,10 +62,11 @@ fn compare_drawn<DE, UE, F, T: HasMesh<Point2<i64>, DE, UE, F>>(
 }
 
 /// Compares all walks.
-pub fn compare_walks<
-    T: Triangulation<Vertex = Point2<i64>>
-        + HasMesh<Point2<i64>, T::DirectedEdge, T::UndirectedEdge, T::Face>,
->(points: &T, sheet: &[Point2<i64>], alloc: Global) -> Result<Agreement, AllocError> {
+pub fn compare_walks<T: Triangulation<Vertex = Point2<i64>>>(
+    points: &T,
+    sheet: &[Point2<i64>],
+    alloc: Global,
+) -> Result<Agreement, AllocError> {
     let drawing = Drawing::of(points, alloc)?;
     let segments = segments_of(sheet, alloc)?;
     Ok(compare_drawn(points, &drawing, segments, alloc))
