@@ -22,7 +22,7 @@ returns-in_err-to-clause-adds g c =
 pub join_vertices-requires-clause-from_in : goal.join_vertices-requires-clause-from_in
 join_vertices-requires-clause-from_in g c =
     let below = c.in_ok-from.ensures.within in let more = c.in_ok-to.ensures.ready.grows in
-    omega (arith, below, more)
+    let here = c.in_ok-to.ensures.within in omega (arith, below, more, here)
 
 pub returns-clause-adds : goal.returns-clause-adds
 returns-clause-adds g c =

@@ -30,6 +30,12 @@ nearest_by_neighbors-nearest-requires-clause-delaunay g c =
     (sym c.mesh-mesh.ensures)
     c.recall_invariant.ensures.headline.delaunay
 
+pub nearest_by_neighbors-nearest-requires-clause-within :
+    goal.nearest_by_neighbors-nearest-requires-clause-within
+nearest_by_neighbors-nearest-requires-clause-within g c =
+    let below = c.start_at.ensures in let count = c.num_vertices-count.ensures.value in
+    omega (arith, below, count)
+
 pub nearest_by_neighbors-nearest-requires-clause-in_range :
     goal.nearest_by_neighbors-nearest-requires-clause-in_range
 nearest_by_neighbors-nearest-requires-clause-in_range g c =
