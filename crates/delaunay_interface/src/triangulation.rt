@@ -69,8 +69,7 @@ pub(crate) mod sealed {
 /// Calls that ask tests want each vertex to be a site of them, and each position that is asked for
 /// to be covered by them. Handles are those of this triangulation: `get_vertex` and the counts tell
 /// whether they are in range.
-pub trait Triangulation:
-    Drop
+pub trait Triangulation: Drop
     + sealed::Sealed
     + HasMesh<Self::Vertex, Self::DirectedEdge, Self::UndirectedEdge, Self::Face> {
     type Vertex: HasPosition + Drop;
