@@ -1,7 +1,9 @@
-"""What compare/refusals, compare/refused_calls and compare/refused_commands share: a program whose growths can be refused.
+"""What compare/refused_calls and compare/refused_commands share: a program whose growths can be
+refused.
 
-A growth is a call of `malloc` or `realloc`. A small library (compiled by gcc) stands before these two: it counts growths,
-and refuses the one whose number is asked for, or all of them. It and the script share a page of memory.
+A growth is a call of `malloc` or `realloc`. A small library (compiled by gcc) stands before these
+two: it counts growths, and refuses the one whose number is asked for, or all of them. It and the
+script share a page of memory.
 """
 import mmap
 import os
