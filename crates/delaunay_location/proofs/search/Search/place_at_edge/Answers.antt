@@ -1,24 +1,36 @@
 use Rattle.std.proofs.Common.{sym, ◌∙◌}
+use Rattle.delaunay_core.specs.Place.{place_of}
 use Rattle.delaunay_legalization.proofs.Questions.{both_ways}
 use Rattle.delaunay_location.proofs.Covering.{vertex_covered}
 use Rattle.delaunay_location.proofs.Questions.{clear, located_left}
 use Rattle.delaunay_location.proofs.search.Search.place_at_edge.Goals.{else-is_outer-via-then-is_outer+else-turns_left}
 use Rattle.delaunay_location.proofs.search.Search.place_at_edge.Goals.{else-is_outer-via-else-is_outer}
+use Rattle.delaunay_location.proofs.search.Search.place_at_edge.Given.{Over}
+use Rattle.delaunay_location.proofs.search.Search.place_at_edge.Goals.{After-ends_of}
 use Rattle.delaunay_location.proofs.search.Search.place_at_edge.Goals as goal
+
+-- the tests cover both ends of the edge
+ends_are_covered : (g : Over) (c : After-ends_of g) → let t = c.args.self.now.tests.now in
+    let number = g.V.Scalar.SpadeNum.whole in
+    g.P.PlaneTests.covered t (place_of number c.ends_of.result.0)
+    × g.P.PlaneTests.covered t (place_of number c.ends_of.result.1)
+ends_are_covered g c =
+    let covers = g.met.P.PlaneTests.sites_are_covered in
+    let ends = c.ends_of.ensures in (
+      vertex_covered _ _ _ _ covers _ c.requires.search _ _ ends.edge.source ends.from,
+      vertex_covered _ _ _ _ covers _ c.requires.search _ _ ends.edge.target ends.to,
+    )
 
 pub is_strictly_within-requires-clause-from_covered :
     goal.is_strictly_within-requires-clause-from_covered
 is_strictly_within-requires-clause-from_covered g c =
-    let ends = c.ends_of.ensures in
-    vertex_covered _ _ _ _ g.met.P.PlaneTests.sites_are_covered _ c.requires.search _ _
-    ends.edge.source ends.from
+    (ends_are_covered g
+    (goal.at.is_strictly_within-requires-clause-from_covered g c).After-ends_of).0
 
 pub is_strictly_within-requires-clause-to_covered :
     goal.is_strictly_within-requires-clause-to_covered
 is_strictly_within-requires-clause-to_covered g c =
-    let ends = c.ends_of.ensures in
-    vertex_covered _ _ _ _ g.met.P.PlaneTests.sites_are_covered _ c.requires.search _ _
-    ends.edge.target ends.to
+    (ends_are_covered g (goal.at.is_strictly_within-requires-clause-to_covered g c).After-ends_of).1
 
 pub is_strictly_within-requires-clause-not_from : goal.is_strictly_within-requires-clause-not_from
 is_strictly_within-requires-clause-not_from g c same =
@@ -32,15 +44,11 @@ is_strictly_within-requires-clause-not_to g c same =
 
 pub turns_left-requires-clause-a_covered : goal.turns_left-requires-clause-a_covered
 turns_left-requires-clause-a_covered g c =
-    let ends = c.ends_of.ensures in
-    vertex_covered _ _ _ _ g.met.P.PlaneTests.sites_are_covered _ c.requires.search _ _
-    ends.edge.source ends.from
+    (ends_are_covered g (goal.at.turns_left-requires-clause-a_covered g c).After-ends_of).0
 
 pub turns_left-requires-clause-b_covered : goal.turns_left-requires-clause-b_covered
 turns_left-requires-clause-b_covered g c =
-    let ends = c.ends_of.ensures in
-    vertex_covered _ _ _ _ g.met.P.PlaneTests.sites_are_covered _ c.requires.search _ _
-    ends.edge.target ends.to
+    (ends_are_covered g (goal.at.turns_left-requires-clause-b_covered g c).After-ends_of).1
 
 pub returns-then-turns_left : goal.returns-then-turns_left
 returns-then-turns_left g c =
