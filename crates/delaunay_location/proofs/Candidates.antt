@@ -16,10 +16,11 @@ use Rattle.plane.proofs.Signs.{at_most_and_more, less_is_at_most, less_with_ones
 use Rattle.delaunay_core.proofs.Projections.{gap_passes}
 use Rattle.delaunay_legalization.specs.Known.{point_at}
 use Rattle.delaunay_legalization.specs.Shape.{IsTriangulated}
-use Rattle.delaunay_legalization.specs.State.{State}
+use Rattle.delaunay_legalization.specs.State.{State, triangulation_of}
 use Rattle.delaunay_location.specs.Candidate.{EndsNoNearer, IsCandidate, IsCandidateFrom}
 use Rattle.delaunay_location.specs.Candidate.{IsNearerCandidate}
 use Rattle.delaunay_location.specs.declared.nearest_walk.Candidate.{Candidate}
+use Rattle.delaunay_location.proofs.Neighbours.{IsMove, nearer_if_other}
 
 module _ (points : List Point) (m : Mesh) (p : Point) where
   -- a vertex with less squared distance is nearer
@@ -91,24 +92,49 @@ module _ (points : List Point) (m : Mesh) (p : Point) where
     ];
   }
 
--- a candidate in the mesh of a triangulation is one of its vertices
-pub vertex_within : {V D U F : Type 0} (at : V → Point) (s : State V D U F) → IsTriangulated at s
-    → (p : Point) (c : Candidate) → IsCandidate (map at s.vertices) s.mesh p c
-    → origin s.mesh c.spoke < length (map at s.vertices)
-vertex_within at s kept p c is =
-    let w = (kept.valid.sound.edges c.spoke is.within).origin_in in
-    let fit = kept.fits.vertices_fit in
-    omega (arith, w, fit, length-map s.vertices at)
+-- a vertex of the mesh is one of the points
+pub place_within : {V : Type 0} (at : V → Point) (vertices : List V) (v : ℕ) → v < length vertices
+    → v < length (map at vertices)
+place_within at vertices v w = omega (arith, w, length-map vertices at)
 
--- its squared distance, read as 64 bits, is that of where an edge of its vertex starts
-pub distance_read : {V D U F : Type 0} (at : V → Point) (s : State V D U F) → IsTriangulated at s
-    → (p : Point) → InRange p → (c : Candidate) → IsCandidate (map at s.vertices) s.mesh p c
-    → (h : ℕ) → origin s.mesh h ≡ origin s.mesh c.spoke
-    → to_z w64 (of_z w64 c.distance_2) ≡ gap (whole p) (place (map at s.vertices) (origin s.mesh h))
-distance_read at s kept p in_range c is h same =
-    let points = map at s.vertices in
-    let v = origin s.mesh c.spoke in
-    gap_passes c.distance_2 p (point_at points v) in_range
-    (All-get_or InRange points v (record { x = pos 0; y = pos 0 }) (vertex_within at s kept p c is)
-    (All-map InRange at s.vertices kept.in_range))
-    is.distance ∙ ap (λ (i : ℕ). gap (whole p) (place points i)) (sym same)
+module _ {V D U F : Type 0} (at : V → Point) (s : State V D U F) (kept : IsTriangulated at s)
+    (p : Point) where
+  -- a candidate is one of the points
+  pub vertex_within : (c : Candidate) → IsCandidate (map at s.vertices) s.mesh p c
+      → origin s.mesh c.spoke < length (map at s.vertices)
+  vertex_within c is =
+      let w = (kept.valid.sound.edges c.spoke is.within).origin_in in
+      let fit = kept.fits.vertices_fit in
+      omega (arith, w, fit, length-map s.vertices at)
+
+  -- its squared distance, read as 64 bits, is that of where an edge of its vertex starts
+  pub distance_read : InRange p → (c : Candidate) → IsCandidate (map at s.vertices) s.mesh p c
+      → (h : ℕ) → origin s.mesh h ≡ origin s.mesh c.spoke → to_z w64 (of_z w64 c.distance_2)
+      ≡ gap (whole p) (place (map at s.vertices) (origin s.mesh h))
+  distance_read in_range c is h same =
+      let points = map at s.vertices in
+      let v = origin s.mesh c.spoke in
+      gap_passes c.distance_2 p (point_at points v) in_range
+      (All-get_or InRange points v (record { x = pos 0; y = pos 0 }) (vertex_within c is)
+      (All-map InRange at s.vertices kept.in_range))
+      is.distance ∙ ap (λ (i : ℕ). gap (whole p) (place points i)) (sym same)
+
+  -- to go from a vertex to a candidate that is nearer is a move
+  pub move_to_nearer : (v : ℕ) (n : Candidate) → v < length (map at s.vertices)
+      → IsNearerCandidate (map at s.vertices) s.mesh p v n
+      → IsMove (triangulation_of at s) p v (origin s.mesh n.spoke)
+  move_to_nearer v n here near =
+      record { here = here; there = vertex_within n near.candidate; nearer = near.nearer }
+
+  -- so it is to go from a candidate to a vertex found that is its own or nearer, if not its own
+  pub move_to_found : (c : Candidate) → IsCandidate (map at s.vertices) s.mesh p c → (k w i j : ℕ)
+      → k < length s.vertices
+      → (k ≡ w) ⊎ IsNearer (whole p) (place (map at s.vertices) k) (place (map at s.vertices) w)
+      → w ≡ origin s.mesh c.spoke → i ≡ k → j ≡ w → ¬ (i ≡ j)
+      → IsMove (triangulation_of at s) p (origin s.mesh c.spoke) k
+  move_to_found c is k w i j within found same first second other = record {
+    here = vertex_within c is;
+    there = place_within at s.vertices k within;
+    nearer = nearer_if_other (map at s.vertices) p k w (origin s.mesh c.spoke) i j found same
+        first second other;
+  }

@@ -1,7 +1,8 @@
 -- A walk from vertex to nearer neighbour.
 use Rattle.std.proofs.Common.{◌≡◌, ◌⊎◌, ℕ, ◌+◌, ◌<◌, ◌≤◌, List, length}
 use Rattle.std.proofs.Common.{sym, subst, ◌∙◌, inl, inr, arith}
-use Rattle.std.specs.Prelude.{ℤ, pos, ◌*ℤ◌, ◌<ℤ◌, Bool, true, false, cond, sum_by, slice_index_or}
+use Rattle.std.specs.Prelude.{ℤ, pos, ◌*ℤ◌, ◌<ℤ◌, Bool, true, false, cond, slice_index_or}
+use Rattle.std.proofs.Math.Nat.{lt_of_lt_of_le}
 use Rattle.std.proofs.lemmas.Int.{ints}
 use Rattle.std.proofs.lemmas.List.{get_or_default}
 use Rattle.std.proofs.lemmas.List.Sums.{count_by-le-length}
@@ -54,14 +55,11 @@ at_most_one false = omega arith
 none_if : (b : Bool) → b ≡ false → cond b 1 0 < 1
 none_if b e = subst (λ (x : Bool). cond x 1 0 < 1) (sym e) (omega arith)
 
-less_and_most : (a b c : ℕ) → a < b → b ≤ c → a < c
-less_and_most a b c l m = omega (arith, l, m)
-
 -- the vertices that are nearer than a vertex are fewer than all
-pub nearer_count_below : (t : Triangulation) (p : Fraction) (i : ℕ) → i < length t.points
+nearer_count_below : (t : Triangulation) (p : Fraction) (i : ℕ) → i < length t.points
     → nearer_count t p i < length t.points
-nearer_count_below t p i within = less_and_most (nearer_count t p i) (sum_by (λ _. 1) t.points)
-    (length t.points) (sum_by-lt (λ q. cond (is_nearer p (whole q) (vertex t i)) 1 0) (λ _. 1) spot
+nearer_count_below t p i within = lt_of_lt_of_le
+    (sum_by-lt (λ q. cond (is_nearer p (whole q) (vertex t i)) 1 0) (λ _. 1) spot
     t.points (λ q. at_most_one (is_nearer p (whole q) (vertex t i)))
     (member spot t.points (i, within, get_or_default t.points i spot origin within)) not_itself)
     (count_by-le-length (λ _. true) t.points)
@@ -88,9 +86,6 @@ no_more was now w v a b = omega (arith, a, b)
 one_more : (was now x k v : ℕ) → now + x ≤ was + k → k < v → now + 1 + x ≤ was + v
 one_more was now x k v a b = omega (arith, a, b)
 
-at_most_through : (a b c : ℕ) → a ≤ b → b ≤ c → a ≤ c
-at_most_through a b c h k = omega (arith, h, k)
-
 fewer_fit : (was k n limit : ℕ) → k < n → was + n ≤ limit → was + k < limit
 fewer_fit was k n limit a b = omega (arith, a, b)
 
@@ -100,7 +95,16 @@ fewer_than was now w k n a b = omega (arith, a, b)
 less_by_some : (a b c n : ℕ) → a + b < n → c ≤ a + b → c < n
 less_by_some a b c n h l = omega (arith, h, l)
 
+less_without : (a b n : ℕ) → a + b < n → a < n
+less_without a b n h = omega (arith, h)
+
 module _ (t : Triangulation) (p : Point) where
+  -- to go from vertex v to vertex k, which is nearer, is a move
+  pub record IsMove (v k : ℕ) : Type 0 where
+    pub here : v < length t.points
+    pub there : k < length t.points
+    pub nearer : IsNearer (whole p) (vertex t k) (vertex t v)
+
   -- where there is no move the count stays
   pub none_counted : (v was : ℕ) → IsMoveCount t p v v was was
   none_counted v was = record { grown = omega arith; fewer = omega arith }
@@ -125,32 +129,34 @@ module _ (t : Triangulation) (p : Point) where
     room_stays n h = less_by_some was (nearer_count t (whole p) v)
         (now + nearer_count t (whole p) w) n h c.fewer
 
-  module _ (v k : ℕ) (here : v < length t.points) (there : k < length t.points)
-      (near : IsNearer (whole p) (vertex t k) (vertex t v)) where
-    -- a nearer vertex has fewer vertices that are nearer than it
-    pub nearer_falls : nearer_count t (whole p) k < nearer_count t (whole p) v
-    nearer_falls = (nearer_count_falls t (whole p) v k here there near).0
+    -- the count has room for the moves
+    pub moves_fit : (n : ℕ) → was + nearer_count t (whole p) v < n → now < n
+    moves_fit n h = less_without now (nearer_count t (whole p) w) n (room_stays n h)
 
-    -- a move to a nearer vertex, and moves from there, are one more
-    pub one_more_counted : (w was now : ℕ) → IsMoveCount t p k w was now
+  module _ (v k : ℕ) (move : IsMove v k) where
+    -- a move leads to where fewer vertices are nearer
+    pub nearer_falls : nearer_count t (whole p) k < nearer_count t (whole p) v
+    nearer_falls = (nearer_count_falls t (whole p) v k move.here move.there move.nearer).0
+
+    -- moves after it are counted with it
+    pub counted_after : (w was now : ℕ) → IsMoveCount t p k w was now
         → IsMoveCount t p v w was (now + 1)
-    one_more_counted w was now c = record {
+    counted_after w was now c = record {
       grown = (let a = c.grown in omega (arith, a));
       fewer = one_more was now (nearer_count t (whole p) w) (nearer_count t (whole p) k)
           (nearer_count t (whole p) v) c.fewer nearer_falls;
     }
 
-    -- the count has room for that move
-    pub one_more_fits : (w was now n : ℕ) → IsMoveCount t p k w was now
-        → was + nearer_count t (whole p) v < n → now + 1 < n
-    one_more_fits w was now n c h =
-        let m = (one_more_counted w was now c).fewer in
-        less_by_some was (nearer_count t (whole p) v) (now + 1) n h
-        (let l : now + 1 ≤ now + 1 + nearer_count t (whole p) w = omega arith in
-        at_most_through (now + 1) (now + 1 + nearer_count t (whole p) w)
-        (was + nearer_count t (whole p) v) l m)
+    -- it is one more move
+    pub one_counted : (was : ℕ) → IsMoveCount t p v k was (was + 1)
+    one_counted was = counted_after k was was (none_counted k was)
 
-    -- it has room for the moves from there
+    -- moves before it are counted with it
+    pub counted_before : (u was now : ℕ) → IsMoveCount t p u v was now
+        → IsMoveCount t p u k was (now + 1)
+    counted_before u was now c = more_counted u v was now c k (now + 1) (one_counted now)
+
+    -- the count has room for the moves from where it leads
     pub room_there : (was n : ℕ) → was + nearer_count t (whole p) v < n
         → was + nearer_count t (whole p) k < n
     room_there was n h = less_by_some was (nearer_count t (whole p) v)

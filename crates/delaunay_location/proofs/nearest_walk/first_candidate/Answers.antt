@@ -1,9 +1,8 @@
-use Rattle.std.proofs.Common.{ℕ, ◌<◌, ◌^◌, map, length, IsNone, refl, sym, ap, ◌∙◌, subst, inl, w64}
-use Rattle.std.proofs.Common.{arith}
-use Rattle.std.proofs.lemmas.List.{length-map}
+use Rattle.std.proofs.Common.{ℕ, ◌^◌, map, IsNone, refl, sym, ap, ◌∙◌, subst, inl}
+use Rattle.std.proofs.Common.{arith, w64}
 use Rattle.std.proofs.lemmas.Int.{to_z-of_z}
 use Rattle.std.specs.Prelude.{ℤ}
-use Rattle.half_edge_mesh.specs.Mesh.{Mesh, origin, out_edge}
+use Rattle.half_edge_mesh.specs.Mesh.{Mesh, out_edge}
 use Rattle.plane.specs.Fraction.{whole}
 use Rattle.plane.specs.Circle.{gap}
 use Rattle.plane.specs.Pairs.{place}
@@ -12,9 +11,9 @@ use Rattle.delaunay_location.proofs.BothWays.{named_first, no_edges}
 use Rattle.delaunay_legalization.specs.State.{state_of, triangulation_of}
 use Rattle.delaunay_location.specs.Candidate.{IsMoveCount}
 use Rattle.delaunay_location.proofs.Candidates.{candidate_from_nearer, nearer_than_same}
-use Rattle.delaunay_location.proofs.Candidates.{vertex_within}
-use Rattle.delaunay_location.proofs.Neighbours.{no_nearer_neighbour, none_counted}
-use Rattle.delaunay_location.proofs.Neighbours.{one_more_counted, one_more_fits}
+use Rattle.delaunay_location.proofs.Candidates.{move_to_nearer, place_within}
+use Rattle.delaunay_location.proofs.Neighbours.{moves_fit, no_nearer_neighbour, none_counted}
+use Rattle.delaunay_location.proofs.Neighbours.{one_counted}
 use Rattle.delaunay_location.proofs.nearest_walk.first_candidate.Goals as goal
 
 pub returns-in_err-out_edge : goal.returns-in_err-out_edge
@@ -44,44 +43,24 @@ nearer_end-requires-clause-start g c =
 
 pub overflow_add-moves : goal.overflow_add-moves
 overflow_add-moves g c =
-    let points = map g.V.HasPosition.place c.args.dcel.now.vertices in
-    let m = c.args.dcel.now.mesh in
-    let p = place_of g.V.Scalar.SpadeNum.whole c.args.point in
-    let t = triangulation_of g.V.HasPosition.place (state_of c.args.dcel.now) in
     let named = c.requires.kept.valid.sound.vertices c.args.from c.fix-spoke.result
     (named_first _ _ _ _ _ _ (ap (λ d. d.now.mesh) c.vertex.ensures.dcel) c.vertex.ensures.index
     c.in_ok-out_edge.ensures.edge.1 c.fix-spoke.ensures.value) in
-    let near = nearer_than_same points m p
-    (origin m c.fix-spoke.result) c.args.from c.in-Some.nearer named.1 c.in-Some.ensures in
-    let k = origin m c.in-Some.nearer.spoke in
-    let w = c.requires.within in
-    let here : c.args.from < length t.points =
-    omega (arith, w, length-map c.args.dcel.now.vertices g.V.HasPosition.place) in
-    let there = vertex_within _ _ c.requires.kept _ _ near.candidate in
-    let fits = one_more_fits t p c.args.from k here there near.nearer k c.args.moves.now
-    c.args.moves.now (2 ^ 64) (none_counted t p k c.args.moves.now) c.requires.fits in
+    let move = move_to_nearer _ _ c.requires.kept _ _ _ (place_within _ _ _ c.requires.within)
+    (nearer_than_same _ _ _ _ _ _ named.1 c.in-Some.ensures) in
+    let fits = moves_fit _ _ _ _ _ _ (one_counted _ _ _ _ move _) (2 ^ 64) c.requires.fits in
     omega (arith, fits)
 
 pub returns-in-Some : goal.returns-in-Some
 returns-in-Some g c =
-    let points = map g.V.HasPosition.place c.args.dcel.now.vertices in
-    let m = c.args.dcel.now.mesh in
-    let p = place_of g.V.Scalar.SpadeNum.whole c.args.point in
-    let t = triangulation_of g.V.HasPosition.place (state_of c.args.dcel.now) in
     let named = c.requires.kept.valid.sound.vertices c.args.from c.fix-spoke.result
     (named_first _ _ _ _ _ _ (ap (λ d. d.now.mesh) c.vertex.ensures.dcel) c.vertex.ensures.index
     c.in_ok-out_edge.ensures.edge.1 c.fix-spoke.ensures.value) in
-    let near = nearer_than_same points m p
-    (origin m c.fix-spoke.result) c.args.from c.in-Some.nearer named.1 c.in-Some.ensures in
-    let k = origin m c.in-Some.nearer.spoke in
-    let w = c.requires.within in
-    let here : c.args.from < length t.points =
-    omega (arith, w, length-map c.args.dcel.now.vertices g.V.HasPosition.place) in
+    let near = nearer_than_same _ _ _ _ _ _ named.1 c.in-Some.ensures in
+    let here = place_within _ _ _ c.requires.within in
     record {
-      candidate = candidate_from_nearer points m p c.args.from c.in-Some.nearer near;
-      counted = one_more_counted t p c.args.from k here
-          (vertex_within _ _ c.requires.kept _ _ near.candidate) near.nearer k c.args.moves.now
-          c.args.moves.now (none_counted t p k c.args.moves.now);
+      candidate = candidate_from_nearer _ _ _ _ _ near;
+      counted = one_counted _ _ _ _ (move_to_nearer _ _ c.requires.kept _ _ _ here near) _;
     }
 
 pub returns-in-None : goal.returns-in-None

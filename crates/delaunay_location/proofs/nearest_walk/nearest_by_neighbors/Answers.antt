@@ -1,10 +1,11 @@
-use Rattle.std.proofs.Common.{◌^◌, length, arith}
+use Rattle.std.proofs.Common.{◌^◌, length}
 use Rattle.std.proofs.lemmas.List.{length-map}
 use Rattle.half_edge_mesh.specs.Mesh.{origin}
 use Rattle.plane.specs.Fraction.{whole}
 use Rattle.plane_delaunay.proofs.Circles.Nearest.{nearest_by_neighbours}
 use Rattle.delaunay_core.specs.Place.{place_of}
 use Rattle.delaunay_legalization.specs.State.{state_of, triangulation_of}
+use Rattle.delaunay_location.proofs.Candidates.{place_within}
 use Rattle.delaunay_location.proofs.Neighbours.{fewer_moves, more_counted, room_at, room_stays}
 use Rattle.delaunay_location.proofs.nearest_walk.nearest_by_neighbors.Goals as goal
 
@@ -42,6 +43,5 @@ returns-in-None-clause-nearest g c =
     nearest_by_neighbours
     (triangulation_of g.V.HasPosition.place (state_of c.args.dcel.now)) c.requires.delaunay
     (whole (place_of g.V.Scalar.SpadeNum.whole c.args.point)) c.args.start
-    (let w = c.requires.within in
-    omega (arith, w, length-map c.args.dcel.now.vertices g.V.HasPosition.place))
+    (place_within g.V.HasPosition.place _ _ c.requires.within)
     c.in-None.ensures.candidate
