@@ -5,6 +5,8 @@ use crate::segment::Segment;
 use exact_tests::ExactTests;
 use spade_delaunay::{HintGenerator, LineIntersectionIterator, Point2, Triangulation};
 use std::alloc::Global;
+use std::fmt::Debug;
+use std::io;
 use test_points::{Plain, both, both_in_range};
 
 /// What a segment meets whose ends are in range.
@@ -34,4 +36,22 @@ pub fn walk_between<L: HintGenerator<i64>>(
         items.push(item_of(&item)).ok()?;
     }
     Some(items)
+}
+
+fn print_item<T: Debug>(rt: &impl Print, item: &T) -> io::Result<()> {
+    println!(rt; "{item:?}")
+}
+
+/// Prints each item as it is, of a segment whose ends are in range.
+pub fn print_walk<T: Triangulation<Vertex = Point2<i64>>>(
+    rt: &impl Print,
+    points: &T,
+    segment: Segment,
+) -> io::Result<()> {
+    if let Some((from, to)) = both_in_range(segment.ends()) {
+        for item in LineIntersectionIterator::new(points, from, to, &ExactTests) {
+            print_item(rt, &item)?;
+        }
+    }
+    Ok(())
 }

@@ -3,7 +3,7 @@
 use crate::conflicts::{conflicts, conflicts_between, intersects};
 use crate::elements::{faces_of, locate};
 use crate::items::tell_items;
-use crate::points::{walk, walk_between};
+use crate::points::{print_walk, walk, walk_between};
 use crate::segment::Segment;
 use crate::sheets::{compare_conflicts, compare_walks};
 use spade_delaunay::{HintGenerator, Point2, Triangulation};
@@ -105,6 +105,7 @@ fn read<T: Triangulation<Vertex = Point2<i64>>>(
         "faces" => call.tell(rt, &faces_of(points, alloc)?),
         "locate" => call.tell(rt, &locate(points, segment.from)),
         "line" | "constrained_line" => tell_items(rt, call, walk(points, segment, alloc)),
+        "items" => print_walk(rt, points, segment),
         "agree" | "constrained_agree" => call.tell(rt, &compare_walks(points, sheet, alloc)?),
         _ => call.tell(rt, &"no such call"),
     }
