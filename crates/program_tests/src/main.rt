@@ -41,7 +41,7 @@ fn main(rt: HostRuntime) -> io::Result<()> {
     print_dialogues(&rt, script.as_str())?;
     print_checks(&rt, &failures::checks())?;
     print_checks(&rt, &faults::checks(rt.alloc()))?;
-    print_checks(&rt, &grammar::checks())?;
+    print_checks(&rt, &grammar::checks(rt.alloc()))?;
     print_checks(&rt, &orders::checks(rt.alloc()))?;
     print_checks(&rt, &histories::checks(rt.alloc()))?;
     print_checks(&rt, &sheets::checks(rt.alloc()))
