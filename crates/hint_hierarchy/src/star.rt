@@ -1,4 +1,5 @@
 //! A vertex of a layer with its neighbours, in one place.
+ghost use Rattle.std.specs.Prelude.{◌≡◌};
 ghost use Rattle.plane.specs.Tests.{IsCoordinate, InRange};
 ghost use Rattle.delaunay_core.specs.Place.{place_of};
 
@@ -37,7 +38,8 @@ pub(crate) struct Star {
 
 // A coordinate in range, or the nearest that is.
 fn narrow(coordinate: i64) -> i32
-    ensures { IsCoordinate result }
+    ensures in_range { IsCoordinate result }
+    ensures same { IsCoordinate coordinate → result ≡ coordinate }
 {
     coordinate.clamp(-MAX_ALLOWED_VALUE, MAX_ALLOWED_VALUE) as i32
 }
