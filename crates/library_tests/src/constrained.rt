@@ -2,9 +2,10 @@
 
 use crate::points::ConstrainedPoints;
 use crate::tagged_vertex::TaggedVertex;
+use exact_tests::ExactTests;
 use spade_delaunay::Triangulation;
 use spade_delaunay::handles::{FixedUndirectedEdgeHandle, FixedVertexHandle};
-use test_points::element_counts;
+use test_points::{both, element_counts};
 
 /// How many vertices, undirected edges, directed edges, inner faces, faces, directed edges beside
 /// the outer face and constraints there are.
@@ -54,4 +55,14 @@ pub fn listed<T: Triangulation>(points: &T) -> (bool, bool, bool) {
         points.inner_faces().next().is_some(),
         points.outer_face().is_outer(),
     )
+}
+
+/// How many edges the path between two vertices has, which are constraints from now on: none where
+/// a constraint crosses, and nothing where a vertex is not there or no memory.
+pub fn constrain(points: &mut ConstrainedPoints, from: u32, to: u32) -> Option<usize> {
+    let (from, to) = both(points, from, to)?;
+    match points.try_add_constraint(from, to, &ExactTests) {
+        Ok(path) => Some(path.len()),
+        Err(_) => None,
+    }
 }

@@ -13,6 +13,11 @@ fn edge(is_constraint: bool, data: u32) -> CdtEdge<u32> {
     edge
 }
 
+/// An edge that is no constraint, and one that is.
+pub fn free_and_fixed() -> [CdtEdge<u32>; 2] {
+    [edge(false, 7), edge(true, 8)]
+}
+
 /// Whether an edge is a constraint when it is new, made one and unmade; and whether the default
 /// edge is a new one of 0.
 pub fn made_and_unmade() -> [bool; 4] {

@@ -1,10 +1,11 @@
 //! Where a point of the rows is, at each kind of answer, and which vertex is nearest to it.
+ghost use Rattle.spade_delaunay.specs.Elements.{HasElement};
 
 use crate::elements::ends_of;
 use crate::points::{Points, Refusal, is_elsewhere};
 use crate::tagged_vertex::TaggedVertex;
 use exact_tests::ExactTests;
-use spade_delaunay::handles::FixedVertexHandle;
+use spade_delaunay::handles::{FixedDirectedEdgeHandle, FixedFaceHandle, FixedVertexHandle};
 use spade_delaunay::{Point2, PositionInTriangulation, Triangulation, validate_vertex};
 use test_points::corners_of;
 
@@ -19,15 +20,14 @@ pub enum Place {
     Nowhere,
 }
 
-/// Where a point of the rows is.
-pub fn place_at<T: Triangulation<Vertex = TaggedVertex>>(
+/// The place that an answer names.
+pub fn place_of_answer<T: Triangulation<Vertex = TaggedVertex>>(
     points: &T,
-    point: Point2<i64>,
-) -> Result<Place, Refusal> {
-    if is_elsewhere(point) || validate_vertex(&point).is_err() {
-        return Err(Refusal::NotListed);
-    }
-    Ok(match points.locate(point, &ExactTests) {
+    answer: PositionInTriangulation,
+) -> Place
+    requires { HasElement (T.state points.now) answer }
+{
+    match answer {
         PositionInTriangulation::OnVertex(vertex) => Place::Vertex(vertex.index()),
         PositionInTriangulation::OnEdge(edge) => {
             let (a, b) = ends_of(&points.directed_edge(edge));
@@ -39,7 +39,29 @@ pub fn place_at<T: Triangulation<Vertex = TaggedVertex>>(
             Place::Outside(a, b)
         }
         PositionInTriangulation::NoTriangulation => Place::Nowhere,
-    })
+    }
+}
+
+/// Where a point of the rows is.
+pub fn place_at<T: Triangulation<Vertex = TaggedVertex>>(
+    points: &T,
+    point: Point2<i64>,
+) -> Result<Place, Refusal> {
+    if is_elsewhere(point) || validate_vertex(&point).is_err() {
+        return Err(Refusal::NotListed);
+    }
+    Ok(place_of_answer(points, points.locate(point, &ExactTests)))
+}
+
+/// Each kind of answer, with another index in each.
+pub fn each_answer() -> [PositionInTriangulation; 5] {
+    [
+        PositionInTriangulation::OnVertex(FixedVertexHandle::from_index(0)),
+        PositionInTriangulation::OnEdge(FixedDirectedEdgeHandle::from_index(1)),
+        PositionInTriangulation::OnFace(FixedFaceHandle::from_index(2)),
+        PositionInTriangulation::OutsideOfConvexHull(FixedDirectedEdgeHandle::from_index(3)),
+        PositionInTriangulation::NoTriangulation,
+    ]
 }
 
 /// Where a point of the rows is, as it is answered.

@@ -5,6 +5,7 @@
 mod constrained;
 mod constraint_edges;
 mod elements;
+mod given_hints;
 mod hints;
 mod locations;
 mod points;

@@ -50,6 +50,19 @@ pub fn insert<T: Triangulation<Vertex = TaggedVertex>>(
     }
 }
 
+/// Inserts a vertex at any point, by a search from the vertex `hint`, and gives its index.
+pub fn insert_from<T: Triangulation<Vertex = TaggedVertex>>(
+    points: &mut T,
+    value: TaggedVertex,
+    hint: u32,
+) -> Result<u32, InsertionError> {
+    let hint = FixedVertexHandle::from_index(hint);
+    match points.insert_with_hint(value, hint, &ExactTests) {
+        Ok(vertex) => Ok(vertex.index()),
+        Err(error) => Err(error),
+    }
+}
+
 /// What an insertion past the largest coordinate gives, and how many vertices there are then.
 pub fn insert_out_of_range<T: Triangulation<Vertex = TaggedVertex>>(
     points: &mut T,

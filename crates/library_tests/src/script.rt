@@ -1,15 +1,17 @@
 //! A line of the script: the name of a call and up to four numbers, and what the call gives.
 
-use crate::constrained::{all_counts, is_constraint, listed, position_at};
-use crate::constraint_edges::{made_and_unmade, markers, order, written};
+use crate::constrained::{all_counts, constrain, is_constraint, listed, position_at};
+use crate::constraint_edges::{free_and_fixed, made_and_unmade, markers, order, written};
 use crate::elements::{print_edges, print_faces, print_vertices};
+use crate::given_hints::found_from_all;
 use crate::hints;
-use crate::locations::{locate, locate_vertex, nearest, place_at};
+use crate::locations::{each_answer, locate, locate_vertex, nearest, place_at};
 use crate::points::{
-    ConstrainedPoints, Points, clear, empty, insert, insert_out_of_range, remove, remove_at,
-    replace,
+    ConstrainedPoints, Points, clear, empty, insert, insert_from, insert_out_of_range, remove,
+    remove_at, replace,
 };
 use crate::segments::{crossings, joined, next};
+use crate::tagged_vertex::TaggedVertex;
 use crate::triples::counts_of_triples;
 use delaunay_core::LastUsedVertexHintGenerator;
 use spade_delaunay::{InsertionError, Point2};
@@ -71,11 +73,18 @@ pub fn answer(
     session: &mut Session,
     call: &Call<'_>,
 ) -> io::Result<()> {
-    let [x, y, c, ..] = call.numbers;
+    let [x, y, c, hint, ..] = call.numbers;
     let point = Point2::new(x, y);
     let points = &mut session.points;
     match call.name {
         "insert" => call.tell(rt, &insert(points, point, tag(c))),
+        "insert_with_hint" => {
+            let value = TaggedVertex {
+                position: point,
+                tag: tag(c),
+            };
+            call.tell(rt, &insert_from(points, value, index(hint)))
+        }
         "replace_vertex" => call.tell(rt, &replace(points, index(x), tag(y))),
         "remove" => call.tell(rt, &remove(points, index(x))),
         "locate_and_remove" => call.tell(rt, &remove_at(points, point)),
@@ -97,6 +106,7 @@ fn read(rt: &(impl Print + AllocGlobal), session: &mut Session, call: &Call<'_>)
     match call.name {
         "counts" => call.tell(rt, &element_counts(points)),
         "locate" => call.tell(rt, &place_at(points, point)),
+        "locate_with_hint" => call.tell(rt, &found_from_all(points, point)),
         "nearest_neighbor" => call.tell(rt, &nearest(points, point)),
         "triples" => call.tell(rt, &counts_of_triples(rt.alloc(), points)),
         "vertices" => print_vertices(rt, points),
@@ -124,8 +134,10 @@ fn answer_constrained(
             rt,
             &is_constraint(points, u16::try_from(x).unwrap_or(u16::MAX)),
         ),
+        "constrained_add" => call.tell(rt, &constrain(points, index(x), index(y))),
         "constrained_lists" => call.tell(rt, &listed(points)),
         "constrained_locate" => call.tell(rt, &locate(points, point)),
+        "constrained_locate_with_hint" => call.tell(rt, &found_from_all(points, point)),
         "constrained_locate_vertex" => call.tell(rt, &locate_vertex(points, point)),
         "constrained_replace_vertex" => call.tell(rt, &replace(points, index(x), tag(y))),
         "constrained_clear" => {
@@ -158,6 +170,8 @@ fn answer_beside(
             call.tell(rt, &joined(paths, rt.alloc(), (from, to), second))
         }
         "edges_made_constraints" => call.tell(rt, &made_and_unmade()),
+        "edges_shown" => call.tell(rt, &free_and_fixed()),
+        "answers_shown" => call.tell(rt, &each_answer()),
         "edges_written" => call.tell(rt, &written()),
         "markers" => call.tell(rt, &markers()),
         "edges_ordered" => call.tell(rt, &order()),
