@@ -1,5 +1,6 @@
 //! Runs a script of insertions, and of edits of constraints, and prints each line with what its
-//! call gives. Lines that start with `#` are printed as they are.
+//! call gives. All calls are made with a hierarchy of hints too, and `hints_agree` tells how many
+//! have given the same. Lines that start with `#` are printed as they are.
 #![tactic(auto)]
 
 mod chains;
@@ -7,11 +8,14 @@ mod edits;
 mod script;
 
 use script::Session;
-use spade_delaunay::LastUsedVertexHintGenerator;
+use spade_delaunay::{HierarchyHintGeneratorWithBranchFactor, LastUsedVertexHintGenerator};
 use std::io;
-use test_script::run;
+use test_script::{Twice, run};
+
+type Hierarchy = HierarchyHintGeneratorWithBranchFactor<i64, 2>;
 
 fn main(rt: HostRuntime) -> io::Result<()> {
-    let mut session: Session<LastUsedVertexHintGenerator> = Session::new(rt.alloc());
-    run(&rt, &mut session)
+    let first: Session<LastUsedVertexHintGenerator> = Session::new(rt.alloc());
+    let second: Session<Hierarchy> = Session::new(rt.alloc());
+    run(&rt, &mut Twice::new(first, second))
 }

@@ -2,10 +2,13 @@
 //! call gives. Lines that start with `#` are printed as they are.
 #![tactic(auto)]
 
+mod twice;
+
 use delaunay_core::point::Point2;
 use std::alloc::{AllocError, Global};
 use std::fmt::Debug;
 use std::io;
+pub use twice::Twice;
 
 /// A call by its name, with the line that asks for it.
 #[derive(Drop)]
