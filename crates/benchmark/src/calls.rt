@@ -5,8 +5,8 @@ use crate::random::Random;
 use exact_tests::ExactTests;
 use spade_delaunay::handles::FixedVertexHandle;
 use spade_delaunay::{
-    DelaunayTriangulation, FloatTriangulation, HintGenerator, InsertionError,
-    PositionInTriangulation, SpadeNum, Triangulation, validate_vertex,
+    DelaunayTriangulation, FloatTriangulation, HierarchyHintGenerator, HintGenerator,
+    InsertionError, PositionInTriangulation, SpadeNum, Triangulation, validate_vertex,
 };
 use std::alloc::{AllocError, Global};
 
@@ -21,6 +21,37 @@ pub fn insert_all<V: Site, T: Triangulation<Vertex = V>>(
         triangulation.insert(*point, &ExactTests)?;
     }
     Ok(())
+}
+
+/// Inserts points, each by a search from the vertex at its place in a list.
+pub fn insert_all_from<V: Site, T: Triangulation<Vertex = V>>(
+    triangulation: &mut T,
+    points: &[V],
+    hints: &[FixedVertexHandle],
+) -> Result<(), InsertionError> {
+    for (point, hint) in points.iter().zip(hints) {
+        triangulation.insert_with_hint(*point, *hint, &ExactTests)?;
+    }
+    Ok(())
+}
+
+/// Of each point the nearest of the vertices that the points before it are.
+pub fn nearest_before_each<V: Site>(
+    alloc: Global,
+    points: &[V],
+) -> anyhow::Result<Vec<FixedVertexHandle>> {
+    let mut triangulation: Points<V, HierarchyHintGenerator<V::Scalar>> = Points::new(alloc);
+    let mut hints = Vec::new(alloc);
+    for point in points {
+        validate_vertex(point)?;
+        let hint = match triangulation.nearest_neighbor(point.position(), &ExactTests) {
+            Some(vertex) => vertex.fix(),
+            None => FixedVertexHandle::from_index(0),
+        };
+        hints.push(hint)?;
+        triangulation.insert(*point, &ExactTests)?;
+    }
+    Ok(hints)
 }
 
 /// How many points are on vertices, on edges or in faces, and outside of the hull. Edges and faces

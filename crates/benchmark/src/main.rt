@@ -1,11 +1,12 @@
 //! `benchmark ORDER N [REMOVALS [HINTS [NUMBERS]]]` inserts N points in an order, asks for as many
 //! locations and nearest vertices and for the edges in circles and squares, and removes vertices at
-//! random, all of them where no number says how many. HINTS is `last`, or the branch factor of a
-//! hierarchy, and NUMBERS `i32` or `i64`, the type of coordinates. Without words it runs each order
-//! with few points, with each of the two kinds of hints. Standard output has what was found, so
-//! that other programs can be compared, and standard error the figures: the thread's nanoseconds a
-//! call, and the peak of resident bytes a vertex. The stored output is that of `compare/cgal.cpp`,
-//! which does the same with another library.
+//! random, all of them where no number says how many. HINTS is `last`, the branch factor of a
+//! hierarchy, or `nearest`, by which insertions get the best hint for nothing, and NUMBERS `i32` or
+//! `i64`, the type of coordinates. Without words it runs each order with few points, with hints of
+//! the last vertex and of a hierarchy. Standard output has what was found, so that other programs
+//! can be compared, and standard error the figures: the thread's nanoseconds a call, and the peak
+//! of resident bytes a vertex. The stored output is that of `compare/cgal.cpp`, which does the same
+//! with another library.
 #![tactic(auto)]
 
 mod calls;
@@ -16,13 +17,15 @@ mod orders;
 mod random;
 
 use crate::calls::{
-    Points, edges_in_circles, edges_in_squares, insert_all, locate_all, nearest_all, remove_some,
+    Points, edges_in_circles, edges_in_squares, insert_all, insert_all_from, locate_all,
+    nearest_all, nearest_before_each, remove_some,
 };
 use crate::hints::Hints;
 use crate::memory::{peak_bytes, resident_bytes};
 use crate::numbers::{Numbers, Site};
 use crate::orders::{Order, Purpose};
 use crate::random::Random;
+use spade_delaunay::handles::FixedVertexHandle;
 use spade_delaunay::{
     FloatTriangulation, HierarchyHintGeneratorWithBranchFactor as Hierarchy, HintGenerator,
     LastUsedVertexHintGenerator, Point2, Triangulation,
@@ -36,7 +39,7 @@ const FEW: u32 = 200;
 /// How many of them are left at the end.
 const LEFT: u32 = 50;
 
-/// How many circles and squares are asked for at most, since each takes a mark an edge of the mesh.
+/// How many circles and squares are asked for at most, so that a run stays short.
 const SHAPES: usize = 1000;
 
 /// What the first words ask for.
@@ -96,14 +99,19 @@ fn tell_counts<T: Triangulation>(
     )
 }
 
+// Inserts points, from hints that were found beforehand where there are such.
 fn insert<V: Site, T: Triangulation<Vertex = V>>(
     rt: &HostRuntime,
     triangulation: &mut T,
     points: &[V],
+    hints: Option<Vec<FixedVertexHandle>>,
 ) -> anyhow::Result<()> {
     let before = resident_bytes(rt);
     let start = rt.thread_cpu_time()?;
-    insert_all(triangulation, points)?;
+    match &hints {
+        Some(hints) => insert_all_from(triangulation, points, hints.as_slice())?,
+        None => insert_all(triangulation, points)?,
+    }
     let nanoseconds = nanoseconds_a_call(rt, start, points.len())?;
     let bytes = peak_bytes(rt).saturating_sub(before) / (points.len() as u64).max(1);
     eprintln!(rt; "insert {nanoseconds} ns")?;
@@ -186,7 +194,11 @@ fn make_all_calls<V: Site, L: HintGenerator<V::Scalar>>(
     let (alloc, order, count) = (rt.alloc(), task.order, task.count);
     let points = order.points(Purpose::Insert, alloc, count, &mut random)?;
     let queries = order.points(Purpose::Ask, alloc, count, &mut random)?;
-    insert(rt, triangulation, points.as_slice())?;
+    let hints = match task.hints {
+        Hints::Nearest => Some(nearest_before_each(alloc, points.as_slice())?),
+        _ => None,
+    };
+    insert(rt, triangulation, points.as_slice(), hints)?;
     locate(rt, triangulation, queries.as_slice())?;
     find_nearest(rt, triangulation, queries.as_slice())?;
     let centers = &queries.as_slice()[..queries.len().min(SHAPES)];
@@ -204,7 +216,7 @@ fn measure<V: Site, L: HintGenerator<V::Scalar>>(
 
 fn measure_by<V: Site>(rt: &HostRuntime, task: &Task) -> anyhow::Result<()> {
     match task.hints {
-        Hints::LastUsed => measure::<V, LastUsedVertexHintGenerator>(rt, task),
+        Hints::LastUsed | Hints::Nearest => { measure::<V, LastUsedVertexHintGenerator>(rt, task) }
         Hints::By8 => measure::<V, Hierarchy<V::Scalar, 8>>(rt, task),
         Hints::By16 => measure::<V, Hierarchy<V::Scalar, 16>>(rt, task),
         Hints::By32 => measure::<V, Hierarchy<V::Scalar, 32>>(rt, task),

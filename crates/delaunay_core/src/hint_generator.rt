@@ -11,8 +11,8 @@ use half_edge_handles::FixedVertexHandle;
 use std::alloc::Global;
 
 /// Tells a search at which vertex to begin. A triangulation tells its generator once of each
-/// appended and of each removed vertex. Any handle may be answered, and no call is refused: a
-/// generator that finds no memory holds less.
+/// appended and of each removed vertex, and makes a new one where it is cleared. Any handle may be
+/// answered, and no call is refused: a generator that finds no memory holds less.
 ///
 /// ```
 /// // Searches begin where the generator says, here a hierarchy:

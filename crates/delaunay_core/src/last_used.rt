@@ -12,8 +12,9 @@ use half_edge_handles::FixedVertexHandle;
 use std::alloc::Global;
 use std::cell::Cell;
 
-/// Gives the last vertex that was inserted or looked up, and after a removal the one before the
-/// removed. It holds no position, and takes no memory.
+/// Gives the last vertex that was inserted or looked up, and after a removal the one with the index
+/// before the removed one's; vertex 0 at first, and where vertex 0 was removed. It holds no
+/// position, and takes no memory.
 ///
 /// ```
 /// type Points = DelaunayTriangulation<Point2<i64>, (), (), (), LastUsedVertexHintGenerator>;

@@ -28,10 +28,11 @@ pub enum InsertionError {
     /// A coordinate is out of range.
     #[error("TooLarge")]
     TooLarge,
-    /// A growth was refused.
+    /// Memory was refused.
     #[error("OutOfMemory")]
     OutOfMemory,
-    /// The mesh has no index left for the new elements.
+    /// The mesh might have too few indexes: six times the new number of vertices, or a total that
+    /// was asked for, with edges counted twice, passes the largest number of elements.
     #[error("OutOfIndexes")]
     OutOfIndexes,
 }

@@ -50,7 +50,7 @@ impl<S> fmt::Debug for PointProjection<S> {
 
 /// Where `query_point` falls on the line of the edge from `p1` to `p2`, all three in range. The
 /// factor is the dot product of the ways from `p1` to the two others, and `length_2` is the squared
-/// length of the edge.
+/// length of the edge. Where `p1` and `p2` are equal, both are 0.
 pub fn project_point<S: SpadeNum>(
     p1: Point2<S>,
     p2: Point2<S>,

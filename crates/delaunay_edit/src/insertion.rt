@@ -139,9 +139,11 @@ impl<V: HasPosition + Drop, DE: Default, UE: Default, F: Default, M: FreeByDefau
     /// where a coordinate is out of range; the handle of the vertex at its position, which it
     /// replaces; `OutOfIndexes` where the mesh is full; `OutOfMemory` where memory was refused;
     /// else the handle of the new last vertex. A constraint that the new vertex is strictly within
-    /// becomes two, and no other edge becomes one. A refused vertex is dropped, and nothing else
-    /// changes. The search for the position begins at a vertex, or at vertex 0 where there is no
-    /// such vertex. The number of flips is added to `flips`.
+    /// becomes two, and no other edge becomes one. Handles of vertices stay, and those of edges and
+    /// faces may change. An edge or a face that is there before and after keeps its data, and so
+    /// does the outer face. A refused vertex is dropped, and nothing else changes. The search for
+    /// the position begins at a vertex, or at vertex 0 where there is no such vertex. The number of
+    /// flips is added to `flips`.
     pub fn insert_from<P: PlaneTests<V::Scalar>>(
         &mut self,
         value: V,

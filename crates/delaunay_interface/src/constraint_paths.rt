@@ -37,9 +37,10 @@ impl<V: HasPosition, DE, UE, F, L: HintGenerator<V::Scalar>> ConstrainedDelaunay
     }
 
     /// Makes constraints of the edges between neighbours among the vertices on the segment between
-    /// two, which no constraint crosses. It tells whether that made a constraint of an edge that
-    /// was none, and gives `AllocError` where memory was refused; then nothing changes, and so
-    /// where it made none.
+    /// two, which no constraint crosses; of a vertex and itself it makes none. Edges may be
+    /// flipped, and all data but the marks of the new constraints stay, each under its handle. It
+    /// tells whether that made a constraint of an edge that was none, and gives `AllocError` where
+    /// memory was refused; then nothing changes, and so where it made none.
     pub fn add_constraint<P: PlaneTests<V::Scalar>>(
         &mut self,
         from: FixedVertexHandle,

@@ -70,8 +70,9 @@ impl<V: HasPosition, DE, UE, F, L: HintGenerator<V::Scalar>> ConstrainedDelaunay
     }
 
     /// The constraints that the segment from one position to another meets in one point strictly
-    /// within them, in the order along the segment. The tests cover both positions. The hint
-    /// generator says where the search for the first begins.
+    /// within them, in the order along the segment, each in the direction of its
+    /// `EdgeIntersection`. The tests cover both positions. The hint generator says where the search
+    /// for the first begins.
     ///
     /// ```
     /// for wall in site.get_conflicting_edges_between_points(from, to, &ExactTests) {

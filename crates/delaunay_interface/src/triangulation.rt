@@ -140,8 +140,10 @@ pub trait Triangulation: Drop
     /// where a coordinate is out of range; the handle of the vertex at its position, which it
     /// replaces; `OutOfIndexes` where the mesh is full; `OutOfMemory` where memory was refused;
     /// else the handle of the new last vertex, of which the hint generator is told. A constraint
-    /// that the new vertex is strictly within becomes two, and no other edge becomes one. A refused
-    /// vertex is dropped, and nothing else changes.
+    /// that the new vertex is strictly within becomes two, and no other edge becomes one. Handles
+    /// of vertices stay, and those of edges and faces may change. An edge or a face that is there
+    /// before and after keeps its data, and so does the outer face. A refused vertex is dropped,
+    /// and nothing else changes.
     ///
     /// ```
     /// let first = points.insert(Point2::new(0, 0), &ExactTests)?; // vertex 0

@@ -33,9 +33,9 @@ pub enum PairEdit {
 /// Why an edit was not made. It changed nothing then.
 #[derive(Clone, Copy, Debug, PartialEq, Eq, Drop)]
 pub enum Refusal {
-    /// The vertex was not inserted.
+    /// The vertex was not inserted, for want of memory too.
     Insertion(InsertionError),
-    /// There is no vertex with that handle.
+    /// There is no vertex with that handle. A release gives `NotConstrained` then.
     NoVertex,
     /// The vertex that is to be replaced is elsewhere.
     OtherPosition,
@@ -43,9 +43,9 @@ pub enum Refusal {
     NoConstraints,
     /// A constraint crosses the segment.
     Conflict,
-    /// No constraint joins the two vertices.
+    /// No constraint joins the two vertices, of which one may not be there.
     NotConstrained,
-    /// Memory was refused.
+    /// Memory was refused to an edit that is no insertion.
     OutOfMemory,
 }
 

@@ -73,8 +73,8 @@ fn list_directions(
 
 /// Tests the edges of a work list, where each other edge passes, and flips those that fail and are
 /// no constraints until none does; each flip adds 1 to `flips`. Where each other edge has an empty
-/// circle on one of its sides, as `is_free` may say, it is not tested again; `among` has room for
-/// the list then.
+/// circle on one of its sides, as `is_free` may say, it is not tested again. `work` and `among`
+/// have room for three times as many edges as there are vertices.
 pub fn legalize_list<M: ConstraintMarker<UE>, V: HasPosition, DE, UE, F, P: PlaneTests<V::Scalar>>(
     dcel: &mut Dcel<V, DE, UE, F>,
     is_free: bool,

@@ -58,9 +58,11 @@ fn push_star<V, DE, UE, F>(
     }
 }
 
-/// Tests the edges of the faces at a new vertex, or, where no circle of the other faces contains a
-/// vertex, those opposite it alone, and flips those that fail and are no constraints until none
-/// does; each flip adds 1 to `flips`.
+/// Tests the edges of the faces at a new vertex and flips those that fail and are no constraints
+/// until none does; each flip adds 1 to `flips`. `is_free` may say that no other vertex is inside
+/// the circle of a face without this vertex, nor inside that of a face at it beyond the side
+/// opposite it: then those sides alone are tested. Else `work` has room for three times as many
+/// edges as there are vertices, and what was in it goes.
 pub fn legalize_vertex<
     M: ConstraintMarker<UE>,
     V: HasPosition,

@@ -38,7 +38,7 @@ impl<'a, V, DE, UE, F> Intersection<'a, V, DE, UE, F> {
     }
 }
 
-/// The same by names alone, without the mesh.
+/// The same by fixed handles alone, without the mesh.
 #[derive(Clone, Copy)]
 pub enum FixedIntersection {
     Edge(FixedDirectedEdgeHandle),

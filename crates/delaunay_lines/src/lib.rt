@@ -19,6 +19,6 @@ pub use intersection::{FixedIntersection, Intersection};
 pub use iterator::LineIntersectionIterator;
 pub use lines::HasMesh;
 
-// For the crate of the struct, and not for users.
+// For the crates of paths and of the struct, and not for users.
 pub use between::{line_between, line_between_vertices};
 pub use conflicts::intersects_constraint;

@@ -205,8 +205,9 @@ impl<'a, V: HasPosition, DE, UE, F, P: PlaneTests<V::Scalar>> Segment<'a, V, DE,
         }
     }
 
-    /// What it meets, from outside the triangulation: of a point to itself, nothing. It looks at
-    /// all outer edges, and, where the segment crosses none, at all vertices.
+    /// What it meets, from outside the triangulation: of a point to itself, nothing. It goes
+    /// through all directed edges up to one that the segment enters by, and, where there is none,
+    /// through all vertices.
     pub(crate) fn walk_from_outside(&self) -> LineIntersectionIterator<'a, V, DE, UE, F, P>
         requires over { IsOver V.place V.Scalar.whole P.sites P.covered self.now }
         requires start { StartsOutside (drawn (map V.place self.now.dcel.now.vertices)

@@ -83,8 +83,9 @@ impl<'a, V: HasPosition, DE, UE, F, P: PlaneTests<V::Scalar>> Search<'a, V, DE, 
         self.tests.side(stop.from, stop.to, self.point)
     }
 
-    // The way from the inner face on the left of an edge to a position outside it, of whose two
-    // other sides `first` is looked at first.
+    // The step from the inner face on the left of an edge: across a side that has the position
+    // strictly on its right, of which `first` is looked at first and the edge itself last; else the
+    // face, where the position is strictly inside, or that it is on a side.
     #[inline(always)]
     fn way_across(
         &self,
@@ -119,8 +120,8 @@ impl<'a, V: HasPosition, DE, UE, F, P: PlaneTests<V::Scalar>> Search<'a, V, DE, 
         Step::OnSide
     }
 
-    // The way from the inner face on the left of an edge to a position outside it: across a side
-    // that has the position strictly on its right.
+    // The step from the inner face on the left of an edge: across a side that has the position
+    // strictly on its right, or the end of the walk.
     #[inline(always)]
     fn way_through(&self, stop: Stop<V::Scalar>) -> Step<V::Scalar>
         requires search { IsSearch V.place V.Scalar.whole P.sites P.covered self.now }
@@ -170,9 +171,9 @@ impl<'a, V: HasPosition, DE, UE, F, P: PlaneTests<V::Scalar>> Search<'a, V, DE, 
         self.way_through(stop)
     }
 
-    // The way from the face on the left of an edge to a position outside it: across a side that has
-    // the position strictly on its right. From the outer face it leads inside, unless the position
-    // is on the left of the edge.
+    // The step from the face on the left of an edge: across a side that has the position strictly
+    // on its right, or the end of the walk. From the outer face it leads inside, unless the
+    // position is strictly on the left of the edge.
     //
     // A face near the hull is told apart before it is known which side leads on. So the records of
     // both sides are asked for while the corner between them is on its way from memory, and the

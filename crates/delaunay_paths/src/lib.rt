@@ -12,7 +12,7 @@ mod order;
 mod path;
 mod path_edges;
 
-// For the crates of edits, and not for users.
+// For the crates of edits and for tests, and not for users.
 pub use adding::{add_path, can_add_path};
 pub use constraints::{add_constraints, release_constraint};
 pub use crossing::crosses_segment;

@@ -30,8 +30,9 @@ fn collect_border<V, DE, UE, F>(
     Ok(border)
 }
 
-/// Lists the sides opposite a vertex in its faces, by the vertices that they join. It gives
-/// `AllocError` where memory was refused.
+/// Lists the ends of each edge of a vertex and of the edge after it round the vertex: so each side
+/// opposite the vertex in a face, and across the outer face a pair that need not be joined. It
+/// gives `AllocError` where memory was refused.
 pub fn sides_of_hole<V, DE, UE, F>(
     dcel: &Dcel<V, DE, UE, F>,
     vertex: FixedVertexHandle,

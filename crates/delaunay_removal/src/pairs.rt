@@ -55,7 +55,8 @@ pub(crate) fn ends_beside<V, DE, UE, F>(
     (vertex_at_end(dcel, edge), vertex_at_end(dcel, after))
 }
 
-/// The index of a vertex once `vertex` has gone and the last vertex has taken this index.
+/// The index that a vertex has once `vertex` has gone and the last vertex has taken its index:
+/// `former` is the one that it had before, and `dcel` is the mesh as it is since.
 pub fn index_left<V, DE, UE, F>(
     dcel: &Dcel<V, DE, UE, F>,
     former: FixedVertexHandle,
@@ -168,7 +169,8 @@ pub fn list_pairs<M: ConstraintMarker<UE>, V: HasPosition, DE, UE, F>(
 
 /// Tests the edges that `list_pairs` lists, and flips those that fail and are no constraints until
 /// none does. Where each other edge has an empty circle on one of its sides, as `is_free` may say,
-/// it is not tested again; `lists` has room for the edges then.
+/// it is not tested again. `work` and `lists` have room for three times as many edges as there are
+/// vertices.
 pub fn legalize_pairs<M: ConstraintMarker<UE>, V: HasPosition, DE, UE, F, P: PlaneTests<V::Scalar>>(
     dcel: &mut Dcel<V, DE, UE, F>,
     vertex: FixedVertexHandle,

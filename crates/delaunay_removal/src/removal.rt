@@ -140,8 +140,8 @@ fn free_unless<M: ConstraintMarker<UE>, V, DE, UE, F>(
 
 /// Removes a vertex with the constraints that end at it, and gives its data back. The hole or the
 /// gap that its faces leave is filled so that the others have a mesh, and the last vertex takes its
-/// index. Each other constraint stays; `is_free` may say that there is none. `lists` gets what each
-/// edge joins that was turned away.
+/// index. Each other constraint stays; `is_free` may say that the mesh has no constraint at all.
+/// `lists` gets what each edge joins that was turned away.
 pub fn remove_vertex<
     M: ConstraintMarker<UE>,
     V: HasPosition,

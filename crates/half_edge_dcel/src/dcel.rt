@@ -1,7 +1,7 @@
 //! The mesh with its data, and reads of them.
 ghost use Rattle.std.specs.Prelude.{◌≡◌, ◌<◌, ◌≤◌, ◌+◌, ◌*◌, ◌∷◌, []};
 ghost use Rattle.std.specs.Prelude.{length, Some, slice_get, slice_set};
-ghost use Rattle.half_edge_links.specs.Mesh.{empty, IsInner, edge_at, face_edge, out_edge};
+ghost use Rattle.half_edge_links.specs.Mesh.{empty, edge_at, face_edge, out_edge};
 ghost use Rattle.half_edge_links.specs.Mesh.{origin, next, prev, face};
 ghost use Rattle.half_edge_links.specs.declared.room.TheConstants.{MAX_ELEMENTS};
 ghost use Rattle.half_edge_dcel.specs.Contents.{IsMeshWithData};

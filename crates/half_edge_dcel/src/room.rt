@@ -10,8 +10,8 @@ use std::alloc::Global;
 
 impl<V, DE, UE, F> Dcel<V, DE, UE, F> {
     /// Makes room for these totals, the outer face among them. After an error the mesh is as it
-    /// was: `TooMany` comes where a total passes `MAX_ELEMENTS`, and is looked at first, and
-    /// `OutOfMemory` where memory was refused.
+    /// was: `TooMany` comes where a total, with edges counted twice, passes `MAX_ELEMENTS`, and is
+    /// looked at first, and `OutOfMemory` where memory was refused.
     pub fn reserve_capacity(
         &mut self,
         vertices: usize,
@@ -40,7 +40,8 @@ impl<V, DE, UE, F> Dcel<V, DE, UE, F> {
         Ok(())
     }
 
-    /// Takes out all vertices and edges. The outer face keeps its data, and the room stays.
+    /// Takes out all vertices, edges and inner faces. The outer face keeps its data, and the room
+    /// stays.
     pub fn clear(&mut self)
     where
         V: Drop,

@@ -129,15 +129,8 @@ impl<V, DE, UE, F> Dcel<V, DE, UE, F> {
         ensures value { let m = self.now.mesh in result ≡ after_removal m edge (next m edge) }
         ensures whole { IsMeshWithData self.now }
     {
-        let last = self.num_directed_edges() as u32 - 2;
-        let hole = edge - edge % 2;
-        let after = self.next_edge(edge);
-        if after == last {
-            hole
-        } else if after == last + 1 {
-            hole + 1
-        } else {
-            after
-        }
+        self.recall_invariant();
+        let after = self.links.next(edge);
+        self.links.index_after_removal(edge, after)
     }
 }

@@ -1,4 +1,4 @@
-//! Iterators over the names of the parts of a mesh.
+//! Iterators over the fixed handles of the parts of a mesh.
 #![tactic(auto, using(crate::proofs::Steps::range_below))]
 
 ghost use Rattle.std.specs.Prelude.{◌≡◌, ◌-◌, ◌^◌, ◌≤◌, ⊤};
@@ -172,7 +172,8 @@ impl Model for FixedUndirectedEdgeIterator {
 }
 
 impl FixedUndirectedEdgeIterator {
-    /// The undirected edges from index `next` on, up to the one before `end`.
+    /// The undirected edges from index `next` on, up to the one before `end`, which is at most 2 to
+    /// the 31st.
     pub fn new(next: u32, end: u32) -> Self
         requires { end ≤ 2 ^ 31 }
         ensures { result ≡ range_with_len next (end - next) }

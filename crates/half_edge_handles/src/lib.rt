@@ -1,4 +1,4 @@
-//! Names of the parts of a mesh, and iterators over them.
+//! Fixed handles of the parts of a mesh, and iterators over them.
 #![tactic(auto)]
 
 mod fixed_iterators;

@@ -122,7 +122,7 @@ impl<V> Links<V> {
     }
 
     /// Splits `edge`, between two inner faces, at vertex `v`: the first half of it is the next new
-    /// edge, and `edge` itself becomes the one from the corner on its right to `v`.
+    /// edge, and `edge` itself becomes the one from `v` to the corner on its right.
     pub fn split_edge(&mut self, v: u32, edge: u32)
         requires flippable { IsFlippable self.old.mesh edge }
         requires alone { IsAlone self.old.mesh v }

@@ -1,5 +1,5 @@
 //! The vertices, edges and faces of a mesh, and reads of them.
-ghost use Rattle.std.specs.Prelude.{◌≡◌, ◌+◌, ◌-◌, ◌<◌, ◌≤◌, length, [], slice_get, Some};
+ghost use Rattle.std.specs.Prelude.{◌≡◌, ◌-◌, ◌<◌, ◌≤◌, length, [], slice_get, Some};
 ghost use Rattle.half_edge_links.specs.Mesh.{edge_at, empty, IsInner, AreSoundLinks, IsValidMesh};
 ghost use Rattle.half_edge_links.specs.Mesh.{face_edge, out_edge, origin, next, prev, face};
 

@@ -1,5 +1,5 @@
 //! An edge of a line that passes a vertex.
-ghost use Rattle.std.specs.Prelude.{◌≡◌, ◌<◌, length};
+ghost use Rattle.std.specs.Prelude.{◌≡◌, ◌<◌};
 ghost use Rattle.half_edge_links.specs.Hull.{KeepsOneOutline};
 ghost use Rattle.half_edge_links.specs.Mesh.{origin, next, rev, AreSoundLinks};
 ghost use Rattle.half_edge_links.specs.Outline.{MovesEdge};

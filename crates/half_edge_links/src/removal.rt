@@ -1,5 +1,5 @@
 //! Writes to the lists of a mesh that take an edge, a face or a vertex out of it.
-ghost use Rattle.std.specs.Prelude.{◌≡◌, ◌≢◌, ℕ, ◌+◌, ◌-◌, ◌<◌, ◌≤◌};
+ghost use Rattle.std.specs.Prelude.{◌≡◌, ℕ, ◌+◌, ◌-◌, ◌<◌, ◌≤◌};
 ghost use Rattle.std.specs.Prelude.{length, Option, Some, None, vec_capacity};
 ghost use Rattle.half_edge_links.specs.EdgeList.{shown};
 ghost use Rattle.half_edge_links.specs.Places.{AreJoined, AreUnlinkedPlaces, IsHole};

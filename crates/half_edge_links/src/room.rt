@@ -11,8 +11,9 @@ pub const MAX_ELEMENTS: usize = 4294967295;
 /// Why room was refused.
 #[derive(Clone, Copy, PartialEq, Eq, Debug)]
 pub enum ReserveError {
-    /// A total passes `MAX_ELEMENTS`.
+    /// A total, with edges counted twice, passes `MAX_ELEMENTS`.
     TooMany,
+    /// Memory was refused.
     OutOfMemory,
 }
 

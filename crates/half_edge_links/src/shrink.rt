@@ -80,9 +80,9 @@ impl<V> Links<V> {
         fill(&mut self.half_edges, last, hole);
     }
 
-    // The index of edge `h` once edge `e` was removed.
+    /// The index of edge `h` once edge `e` was removed.
     #[tactic(auto, using(crate::proofs::Stored::Shown::shown_reads))]
-    fn index_after_removal(&self, e: u32, h: u32) -> u32
+    pub fn index_after_removal(&self, e: u32, h: u32) -> u32
         requires { e < length self.now.mesh.half_edges }
         ensures value { result ≡ after_removal self.now.mesh e h }
         ensures sound { AreSoundLinks self.now.mesh }

@@ -1,8 +1,8 @@
 //! Faces together with the mesh that they lie in.
-ghost use Rattle.std.specs.Prelude.{◌≡◌, ◌≢◌, ℕ, ◌+◌, ◌*◌, ◌/◌, ◌<◌, ◌≤◌, ◌∷◌, [], length};
-ghost use Rattle.std.specs.Prelude.{slice_get, Some, ⊤, All, map, IsNone, IsSome, IfSome, IsTrue};
+ghost use Rattle.std.specs.Prelude.{◌≡◌, ◌<◌, ◌≤◌, ◌∷◌, [], length};
+ghost use Rattle.std.specs.Prelude.{slice_get, Some, ⊤, All, map, IsTrue};
 ghost use Rattle.std.specs.Prelude.{◌↔◌};
-ghost use Rattle.half_edge_links.specs.Mesh.{origin, next, prev, face, rev, face_edge, out_edge};
+ghost use Rattle.half_edge_links.specs.Mesh.{next, prev, face_edge};
 ghost use Rattle.half_edge_links.specs.Triangles.{triangle_at};
 ghost use Rattle.half_edge_dcel.specs.Contents.{IsMeshWithData};
 

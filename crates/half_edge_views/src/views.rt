@@ -52,7 +52,7 @@ pub trait MeshViews<V, DE, UE, F> {
     /// The outer face, whose index is 0.
     fn outer_face(&self) -> FaceHandle<'_, V, DE, UE, F>;
 
-    /// The edge from one vertex to another, if they are joined.
+    /// The edge from one vertex, which has to be one of this mesh, to another, if they are joined.
     fn get_edge_from_neighbors(
         &self,
         from: FixedVertexHandle,

@@ -1,6 +1,6 @@
 //! The Voronoi forms of vertices, edges and faces: a face for each vertex, an edge across each
 //! edge, a vertex for each inner face.
-ghost use Rattle.std.specs.Prelude.{◌≡◌, ◌+◌, ◌*◌, ◌/◌, ◌<◌, ◌∷◌, [], ◌↔◌};
+ghost use Rattle.std.specs.Prelude.{◌≡◌, ◌*◌, ◌/◌, ◌<◌, ◌∷◌, [], ◌↔◌};
 ghost use Rattle.std.specs.Prelude.{All, map, IsNone, IsSome, IfSome};
 ghost use Rattle.half_edge_links.specs.Mesh.{next, prev, rev, origin, face_edge};
 
@@ -267,7 +267,8 @@ impl<'a, V, DE, UE, F> VoronoiVertex<'a, V, DE, UE, F> {
         }
     }
 
-    /// An edge that starts at a vertex of an inner face.
+    /// An edge that starts at this vertex, if it is that of an inner face. Of a far end it gives
+    /// none, though one starts there.
     pub fn out_edge(&self) -> Option<DirectedVoronoiEdge<'a, V, DE, UE, F>>
         ensures none { IsNone result ↔ IsNone (inner_face self.now) }
         ensures edge { IfSome result (GoesOut (inner_face self.now)) }

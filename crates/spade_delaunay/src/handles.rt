@@ -1,12 +1,12 @@
-//! Names of vertices, edges and faces, and the elements themselves together with the mesh that they
-//! lie in.
+//! Handles of vertices, edges and faces: fixed ones, which are indexes, and those that borrow the
+//! triangulation and go from element to element.
 //!
-//! A name is an index, which stays good while no edit takes its element away; a handle borrows the
-//! triangulation, and goes from element to element:
+//! An insertion keeps the fixed handles of vertices, and a removal gives that of the vertex that
+//! goes to the last one. Those of edges and faces may be others after an edit:
 //!
 //! ```
-//! let name = FixedVertexHandle::from_index(2);
-//! if let Some(vertex) = points.get_vertex(name) {
+//! let third = FixedVertexHandle::from_index(2);
+//! if let Some(vertex) = points.get_vertex(third) {
 //!     println!(rt; "{} {}", vertex.data().x, vertex.data().y)?;
 //!     for edge in vertex.out_edges() {
 //!         println!(rt; "joined to {}", edge.to().fix().index())?;

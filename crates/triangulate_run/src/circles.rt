@@ -5,9 +5,10 @@ ghost use Rattle.triangulate_run.specs.Table.{is_inside_in};
 
 use delaunay_core::line_side_info::LineSideInfo;
 
-/// Left-turning triples on one circle, and a mark for each point inside it.
+/// Left-turning triples on one circle, and a mark for each point inside it; or triples with a point
+/// that is no site, whose circles are never asked for, and no mark.
 pub(crate) struct Circle {
-    /// Four triples; a triple whose circle carries no further point stands four times.
+    /// Four triples; where there are fewer, one stands more than once.
     pub triples: [[usize; 3]; 4],
     /// By the index of the point.
     pub inside: [bool; 9],

@@ -19,9 +19,9 @@ use watched::{Failed, Watched};
 pub enum Reply {
     /// The line is no command.
     BadLine,
-    /// The point isn't one that the tests know.
+    /// The point is not in the list, or, of a vertex to insert, is there and no site.
     UnknownPoint,
-    /// The vertex, or the list of faces, couldn't be had.
+    /// An edit was refused, or the list of faces.
     Refused(InsertionError),
     /// The vertex that was inserted, or that is there.
     Vertex(u64),
