@@ -3,7 +3,9 @@
 
 use exact_tests::ExactTests;
 use spade_delaunay::handles::FixedVertexHandle;
-use spade_delaunay::{ConstraintError, HintGenerator, Point2, Triangulation, validate_vertex};
+use spade_delaunay::{
+    ConstraintError, HintGenerator, InsertionError, Point2, Triangulation, validate_vertex,
+};
 use test_points::Constrained;
 
 /// The index of a vertex that a search from another one inserted, which need not be there.
@@ -11,25 +13,25 @@ pub fn insert_from<T: Triangulation<Vertex = Point2<i64>>>(
     points: &mut T,
     position: Point2<i64>,
     hint: u32,
-) -> Option<u32> {
+) -> Result<u32, InsertionError> {
     let hint = FixedVertexHandle::from_index(hint);
     match points.insert_with_hint(position, hint, &ExactTests) {
-        Ok(vertex) => Some(vertex.index()),
-        Err(_) => None,
+        Ok(vertex) => Ok(vertex.index()),
+        Err(error) => Err(error),
     }
 }
 
-/// The position of the vertex that was removed there, or nothing where none is.
+/// The position of the vertex that was removed there, or nothing where none is. A position out of
+/// range is refused.
 pub fn remove_at<T: Triangulation<Vertex = Point2<i64>>>(
     points: &mut T,
     position: Point2<i64>,
-) -> Option<(i64, i64)> {
-    if validate_vertex(&position).is_err() {
-        return None;
-    }
+) -> Result<Option<(i64, i64)>, InsertionError> {
+    validate_vertex(&position)?;
     match points.locate_and_remove(position, &ExactTests) {
-        Ok(Some(point)) => Some((point.x, point.y)),
-        _ => None,
+        Ok(Some(point)) => Ok(Some((point.x, point.y))),
+        Ok(None) => Ok(None),
+        Err(_) => Err(InsertionError::OutOfMemory),
     }
 }
 

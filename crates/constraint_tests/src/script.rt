@@ -68,7 +68,7 @@ fn edit<T: Triangulation<Vertex = Point2<i64>>>(
     let ([x, y, ..], [index, _, hint]) = (call.numbers, call.indexes());
     let position = Point2::new(x, y);
     match call.name {
-        "insert" | "insert_beside" => call.tell(rt, &insert(points, x, y).ok()),
+        "insert" | "insert_beside" => call.tell(rt, &insert(points, x, y)),
         "insert_with_hint" => call.tell(rt, &insert_from(points, position, hint)),
         "remove" => call.tell(rt, &remove(points, index)),
         "locate_and_remove" => call.tell(rt, &remove_at(points, position)),

@@ -105,18 +105,18 @@ pub fn remove<T: Triangulation<Vertex = TaggedVertex>>(points: &mut T, index: u3
     }
 }
 
-/// Removes the vertex at a point of the rows and gives its number, or nothing where there is none
-/// or no memory.
+/// Removes the vertex at a point of the rows and gives its number, or nothing where there is none.
 pub fn remove_at<T: Triangulation<Vertex = TaggedVertex>>(
     points: &mut T,
     position: Point2<i64>,
-) -> Option<u64> {
+) -> Result<Option<u64>, Refusal> {
     if is_elsewhere(position) || validate_vertex(&position).is_err() {
-        return None;
+        return Err(Refusal::NotListed);
     }
     match points.locate_and_remove(position, &ExactTests) {
-        Ok(Some(value)) => Some(value.tag),
-        _ => None,
+        Ok(Some(value)) => Ok(Some(value.tag)),
+        Ok(None) => Ok(None),
+        Err(_) => Err(Refusal::Refused(InsertionError::OutOfMemory)),
     }
 }
 
