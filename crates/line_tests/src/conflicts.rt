@@ -3,7 +3,7 @@ ghost use Rattle.std.specs.Iterator.{IsFinite};
 
 use crate::drawing::Drawing;
 use crate::filter::is_in_order;
-use crate::items::{Item, ends_of};
+use crate::items::{Item, ends_of, within_hint};
 use crate::segment::Segment;
 use exact_tests::ExactTests;
 use spade_delaunay::HintGenerator;
@@ -11,7 +11,7 @@ use spade_delaunay::handles::DirectedEdgeHandle;
 use std::alloc::Global;
 use test_points::{Constrained, both, both_in_range};
 
-// The edges that an iterator gives.
+// The edges that an iterator gives, if they are as many as it said before.
 fn listed<
     'a,
     V: 'a,
@@ -23,12 +23,13 @@ fn listed<
     requires can_next { I.can_next edges }
     requires finite { IsFinite (I.remaining edges) }
 {
+    let hint = edges.size_hint();
     let mut items = Vec::new(alloc);
     for edge in edges {
         let (from, to) = ends_of(&edge);
         items.push(Item::Edge(from, to)).ok()?;
     }
-    Some(items)
+    within_hint(items, hint)
 }
 
 /// The constraints that a segment crosses whose ends are in range.

@@ -44,6 +44,19 @@ pub fn item_of<V, DE, UE, F>(item: &Intersection<'_, V, DE, UE, F>) -> Item {
     }
 }
 
+/// All items that an iterator gave, if they are as many as its `size_hint` said before the first.
+pub fn within_hint(items: Vec<Item>, (least, most): (usize, Option<usize>)) -> Option<Vec<Item>> {
+    let is_at_most = match most {
+        Some(most) => items.len() <= most,
+        None => true,
+    };
+    if is_at_most && least <= items.len() {
+        Some(items)
+    } else {
+        None
+    }
+}
+
 /// Prints the line of a call and the items that it gave.
 pub fn tell_items(rt: &impl Print, call: &Call<'_>, items: Option<Vec<Item>>) -> io::Result<()> {
     let line = call.line;

@@ -3,7 +3,7 @@
 use crate::conflicts::{conflicts, conflicts_between, intersects};
 use crate::elements::{faces_of, locate};
 use crate::items::tell_items;
-use crate::points::{print_walk, walk, walk_between};
+use crate::points::{constrained_walk_between, print_walk, walk, walk_between};
 use crate::segment::Segment;
 use crate::sheets::{compare_conflicts, compare_walks};
 use spade_delaunay::{HintGenerator, Point2, Triangulation};
@@ -72,6 +72,13 @@ impl<L: HintGenerator<i64>> Answers for Session<L> {
                 find_conflicts(rt, constrained, sheet.as_slice(), call)
             }
             "line_of_handles" => tell_items(rt, call, walk_between(plain, from, to, alloc)),
+            "constrained_line_of_handles" => {
+                tell_items(
+                    rt,
+                    call,
+                    constrained_walk_between(constrained, from, to, alloc),
+                )
+            }
             _ => edit(rt, plain, sheet.as_slice(), call),
         }
     }
