@@ -3,6 +3,7 @@
 use delaunay_journal::Edit;
 use spade_delaunay::Point2;
 use spade_delaunay::handles::FixedVertexHandle;
+use test_script::{Call, index};
 
 /// What a line asks for.
 #[derive(Drop)]
@@ -14,21 +15,14 @@ pub enum Request {
     Edit(Edit<Point2<i64>>),
 }
 
-// What is not given is 0.
-fn number(word: Option<&str>) -> i64 {
-    match word {
-        Some(word) => word.parse().unwrap_or(0),
-        None => 0,
-    }
-}
-
-fn vertex(index: i64) -> FixedVertexHandle {
-    FixedVertexHandle::from_index(u32::try_from(index).unwrap_or(u32::MAX))
+fn vertex(number: i64) -> FixedVertexHandle {
+    FixedVertexHandle::from_index(index(number))
 }
 
 // Nothing where the name is that of no edit.
-fn edit(name: &str, [first, second, third]: [i64; 3]) -> Option<Edit<Point2<i64>>> {
-    match name {
+fn edit(call: &Call<'_>) -> Option<Edit<Point2<i64>>> {
+    let [first, second, third, ..] = call.numbers;
+    match call.name {
         "insert" => Some(Edit::Insert(Point2::new(first, second))),
         "remove" => Some(Edit::Remove(vertex(first))),
         "replace" => Some(Edit::Replace(vertex(first), Point2::new(second, third))),
@@ -39,25 +33,14 @@ fn edit(name: &str, [first, second, third]: [i64; 3]) -> Option<Edit<Point2<i64>
     }
 }
 
-// Nothing where the line is no edit.
-fn parse_edit(line: &str) -> Option<Edit<Point2<i64>>> {
-    let mut words = line.split_whitespace();
-    let name = words.next()?;
-    let numbers = [
-        number(words.next()),
-        number(words.next()),
-        number(words.next()),
-    ];
-    edit(name, numbers)
-}
-
 /// Nothing where the line is a remark.
 pub fn parse(line: &str) -> Option<Request> {
+    let call = Call::parse(line)?;
     match line {
         "replay plain" => Some(Request::ReplayPlain),
         "replay constrained" => Some(Request::ReplayConstrained),
         "faces plain" => Some(Request::FacesPlain),
         "faces constrained" => Some(Request::FacesConstrained),
-        line => Some(Request::Edit(parse_edit(line)?)),
+        _ => Some(Request::Edit(edit(&call)?)),
     }
 }
