@@ -1,6 +1,9 @@
 //! A line of the script: the name of a call and up to eight numbers, and what the call gives.
 
-use crate::comparisons::{compare_points, errors, metrics};
+use crate::comparisons::{
+    compare_circles, compare_errors, compare_points, compare_projections, compare_rectangles,
+    errors, metrics,
+};
 use crate::points::{convert, distance_2, project, small_scalars};
 use crate::shapes::{circle, circle_edge, rectangle, rectangle_edge};
 use crate::sides::{is_ordered_ccw, side_infos};
@@ -18,6 +21,8 @@ pub fn answer(rt: &impl Print, call: &Call<'_>) -> io::Result<()> {
         "distance_2" => call.tell(rt, &distance_2((a, b), (c, d))),
         "small_scalars" => call.tell(rt, &small_scalars()),
         "compare_points" => call.tell(rt, &compare_points((a, b), (c, d))),
+        "compare_projections" => call.tell(rt, &compare_projections((a, b), (c, d))),
+        "compare_errors" => call.tell(rt, &compare_errors(a, b)),
         "convert" => call.tell(rt, &convert((a, b))),
         "side_infos" => call.tell(rt, &side_infos()),
         "errors" => errors(rt),
@@ -39,6 +44,10 @@ fn answer_in_plane(
         "circle_edge" => call.tell(rt, &circle_edge((a, b), c, [(d, e), (f, g)])),
         "rectangle" => call.tell(rt, &rectangle([(a, b), (c, d)], (e, f))),
         "rectangle_edge" => { call.tell(rt, &rectangle_edge([(a, b), (c, d)], [(e, f), (g, h)])) }
+        "compare_circles" => call.tell(rt, &compare_circles(((a, b), c), ((d, e), f))),
+        "compare_rectangles" => {
+            call.tell(rt, &compare_rectangles([(a, b), (c, d)], [(e, f), (g, h)]))
+        }
         _ => call.tell(rt, &"no such call"),
     }
 }

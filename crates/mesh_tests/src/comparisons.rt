@@ -7,14 +7,9 @@ use half_edge_mesh::{
 };
 use std::cmp::Ordering;
 use std::fmt::Debug;
-use std::hash::{DefaultHasher, Hash, Hasher};
+use std::hash::Hash;
 use std::io;
-
-fn hash_of<T: Hash>(value: &T) -> u64 {
-    let mut state = DefaultHasher::new();
-    value.hash(&mut state);
-    state.finish()
-}
+use test_script::hash_of;
 
 /// Whether a value equals its copy, hashes as that does, equals another, and hashes as that does;
 /// and the order of both.

@@ -2,9 +2,11 @@
 //! call gives. Lines that start with `#` are printed as they are.
 #![tactic(auto)]
 
+mod hashes;
 mod twice;
 
 use delaunay_core::point::Point2;
+pub use hashes::hash_of;
 use std::alloc::{AllocError, Global};
 use std::fmt::Debug;
 use std::io;
