@@ -1,11 +1,15 @@
-//! What a generator is told of insertions, an overwrite and a removal, and how often it is asked.
+//! What a generator is told of insertions, an overwrite and a removal, and how often it is asked by
+//! each call that looks for a place.
 
 use crate::changes::{Constrained, Hinted, insert_all, refused, remove};
 use crate::generators::{Listing, Told};
 use crate::searches::FindsNearest;
 use exact_tests::ExactTests;
-use spade_delaunay::{Point2, Triangulation};
+use spade_delaunay::{
+    FloatTriangulation, LineIntersectionIterator, Point2, Triangulation, validate_vertex,
+};
 use std::io;
+use test_points::both_in_range;
 
 fn print_vertex(rt: &HostRuntime, change: &str, vertex: u32, (x, y): (i64, i64)) -> io::Result<()> {
     println!(rt; "{change} {vertex} at {x} {y}")
@@ -42,7 +46,52 @@ fn print_asked<T: Triangulation<HintGenerator = Listing>>(
     println!(rt; "asked {asked} times {when}")
 }
 
-// Asks three times for the origin, and prints after each question how often hints were asked for.
+// Asks for what is in a rectangle between two corners, and prints after each question how often
+// hints were asked for.
+fn print_rectangle<T: FloatTriangulation<Vertex = Point2<i64>, HintGenerator = Listing>>(
+    rt: &HostRuntime,
+    points: &T,
+    corners: (Point2<i64>, Point2<i64>),
+) -> io::Result<()> {
+    let Some((lower, upper)) = both_in_range(corners) else {
+        return Err(refused());
+    };
+    let _ = points.get_edges_in_rectangle(lower, upper, &ExactTests, rt.alloc())?;
+    print_asked(rt, points, "after get_edges_in_rectangle")?;
+    let _ = points.get_vertices_in_rectangle(lower, upper, &ExactTests, rt.alloc())?;
+    print_asked(rt, points, "after get_vertices_in_rectangle")
+}
+
+// The same in a circle, by its centre and squared radius.
+fn print_circle<T: FloatTriangulation<Vertex = Point2<i64>, HintGenerator = Listing>>(
+    rt: &HostRuntime,
+    points: &T,
+    (center, radius_2): (Point2<i64>, i64),
+) -> io::Result<()> {
+    if validate_vertex(&center).is_err() || radius_2 < 0 {
+        return Err(refused());
+    }
+    let _ = points.get_edges_in_circle(center, radius_2, &ExactTests, rt.alloc())?;
+    print_asked(rt, points, "after get_edges_in_circle")?;
+    let _ = points.get_vertices_in_circle(center, radius_2, &ExactTests, rt.alloc())?;
+    print_asked(rt, points, "after get_vertices_in_circle")
+}
+
+// The same along a segment, in a rectangle and in a circle. Here alone is a triangulation seen as
+// one that is asked for shapes.
+fn print_segment_and_shapes<T: Triangulation<Vertex = Point2<i64>, HintGenerator = Listing>>(
+    rt: &HostRuntime,
+    points: &T,
+) -> io::Result<()> {
+    let (from, to) = (Point2::new(0, 0), Point2::new(1, 1));
+    let _ = LineIntersectionIterator::new(points, from, to, &ExactTests);
+    print_asked(rt, points, "after a walk along a line")?;
+    print_rectangle(rt, points, (from, to))?;
+    print_circle(rt, points, (from, 1))
+}
+
+// Asks three times for the origin, and then along a segment and in shapes, and prints after each
+// question how often hints were asked for.
 fn print_questions<T: Triangulation<Vertex = Point2<i64>, HintGenerator = Listing> + FindsNearest>(
     rt: &HostRuntime,
     points: &T,
@@ -53,7 +102,8 @@ fn print_questions<T: Triangulation<Vertex = Point2<i64>, HintGenerator = Listin
     let _ = points.locate_vertex(center, &ExactTests);
     print_asked(rt, points, "after locate_vertex")?;
     let _ = points.distance(center);
-    print_asked(rt, points, "after nearest_neighbor")
+    print_asked(rt, points, "after nearest_neighbor")?;
+    print_segment_and_shapes(rt, points)
 }
 
 // What is told of three insertions and an overwrite, and, after some questions, of a removal.
@@ -79,6 +129,16 @@ fn print_copy<T: Triangulation<HintGenerator = Listing>>(
     print_told(rt, points)
 }
 
+// Asks twice for constraints across a segment.
+fn print_conflicts(rt: &HostRuntime, points: &Constrained<Listing>) -> io::Result<()> {
+    print_asked(rt, points, "before constraints")?;
+    let (from, to) = (Point2::new(0, 0), Point2::new(1, 1));
+    let _ = points.intersects_constraint(from, to, &ExactTests);
+    print_asked(rt, points, "after intersects_constraint")?;
+    let _ = points.get_conflicting_edges_between_points(from, to, &ExactTests);
+    print_asked(rt, points, "after get_conflicting_edges_between_points")
+}
+
 fn print_copies(
     rt: &HostRuntime,
     copy: Hinted<Listing>,
@@ -86,7 +146,7 @@ fn print_copies(
 ) -> io::Result<()> {
     print_copy(rt, &copy, points)?;
     match Constrained::from_delaunay(copy) {
-        Ok(points) => print_asked(rt, &points, "before constraints"),
+        Ok(points) => print_conflicts(rt, &points),
         Err(_) => Err(refused()),
     }
 }
