@@ -2,7 +2,7 @@
 //! fact of one call is carried to the next.
 
 use exact_tests::ExactTests;
-use spade_delaunay::handles::FixedVertexHandle;
+use spade_delaunay::handles::{FixedUndirectedEdgeHandle, FixedVertexHandle};
 use spade_delaunay::{
     ConstrainedDelaunayTriangulation, DelaunayTriangulation, HintGenerator, Point2, Triangulation,
 };
@@ -14,14 +14,63 @@ pub type Hinted<L> = DelaunayTriangulation<Point2<i64>, u32, u32, u32, L>;
 /// The same with constraints.
 pub type Constrained<L> = ConstrainedDelaunayTriangulation<Point2<i64>, u32, u32, u32, L>;
 
-/// The number of constraints, for tests that are generic over both types.
+/// Calls for constraints, for tests that are generic over both types.
 pub trait HasConstraints {
+    /// How many there are.
     fn constraints(&self) -> usize;
+
+    /// Inserts two vertices and joins them. It tells whether that made a constraint.
+    fn add_edge(&mut self, ends: [(i64, i64); 2]) -> io::Result<bool>;
+
+    /// Releases the edge between two vertices. It tells whether that was a constraint.
+    fn release(&mut self, from: u32, to: u32) -> io::Result<bool>;
+}
+
+/// The edge between two vertices, if they are joined.
+pub fn edge_between<T: Triangulation>(
+    points: &T,
+    from: u32,
+    to: u32,
+) -> Option<FixedUndirectedEdgeHandle> {
+    if from as usize >= points.num_vertices() {
+        return None;
+    }
+    let from = FixedVertexHandle::from_index(from);
+    let Some(edge) = points.get_edge_from_neighbors(from, FixedVertexHandle::from_index(to)) else {
+        return None;
+    };
+    Some(edge.as_undirected().fix())
+}
+
+// Whether an edge was a constraint, which is released.
+fn release_edge<L: HintGenerator<i64>>(
+    points: &mut Constrained<L>,
+    edge: FixedUndirectedEdgeHandle,
+) -> io::Result<bool> {
+    if edge.index() as usize >= points.num_undirected_edges() {
+        return Err(refused());
+    }
+    Ok(points.remove_constraint_edge(edge, &ExactTests)?)
 }
 
 impl<L: HintGenerator<i64>> HasConstraints for Constrained<L> {
     fn constraints(&self) -> usize {
         self.num_constraints()
+    }
+
+    fn add_edge(&mut self, ends: [(i64, i64); 2]) -> io::Result<bool> {
+        let [(a, b), (c, d)] = ends;
+        match self.add_constraint_edge(Point2::new(a, b), Point2::new(c, d), &ExactTests) {
+            Ok(made) => Ok(made),
+            Err(_) => Err(refused()),
+        }
+    }
+
+    fn release(&mut self, from: u32, to: u32) -> io::Result<bool> {
+        match edge_between(self, from, to) {
+            Some(edge) => release_edge(self, edge),
+            None => Err(refused()),
+        }
     }
 }
 

@@ -1,28 +1,13 @@
 //! Data of an edge and of the outer face, written, and read after an insertion and its removal.
 
-use crate::changes::{HasConstraints, insert, insert_all, remove};
-use spade_delaunay::handles::{
-    FixedDirectedEdgeHandle, FixedFaceHandle, FixedUndirectedEdgeHandle, FixedVertexHandle,
-};
+use crate::changes::{HasConstraints, edge_between, insert, insert_all, remove};
+use spade_delaunay::handles::{FixedDirectedEdgeHandle, FixedFaceHandle};
 use spade_delaunay::{CdtEdge, Point2, Triangulation};
 use std::io;
 
-// The edge between the first two vertices, if there is one.
-fn first_edge<T: Triangulation>(points: &T) -> Option<FixedUndirectedEdgeHandle> {
-    if points.num_vertices() < 2 {
-        return None;
-    }
-    let first = FixedVertexHandle::from_index(0);
-    let second = FixedVertexHandle::from_index(1);
-    let Some(edge) = points.get_edge_from_neighbors(first, second) else {
-        return None;
-    };
-    Some(edge.as_undirected().fix())
-}
-
-// Its data.
+// The data of the edge between the first two vertices, if there is one.
 fn edge_data<T: Triangulation<UndirectedEdge = u32>>(points: &T) -> Option<u32> {
-    match first_edge(points) {
+    match edge_between(points, 0, 1) {
         Some(edge) if (edge.index() as usize) < points.num_undirected_edges() => {
             Some(*points.undirected_edge(edge).data())
         }
@@ -32,7 +17,7 @@ fn edge_data<T: Triangulation<UndirectedEdge = u32>>(points: &T) -> Option<u32> 
 
 // The same where edges have a mark too.
 fn user_data<T: Triangulation<UndirectedEdge = CdtEdge<u32>>>(points: &T) -> Option<u32> {
-    match first_edge(points) {
+    match edge_between(points, 0, 1) {
         Some(edge) if (edge.index() as usize) < points.num_undirected_edges() => {
             Some(*points.undirected_edge(edge).data().data())
         }
@@ -54,7 +39,7 @@ fn print_data<T: Triangulation<UndirectedEdge = u32, Face = u32>>(
 
 // Writes this to that edge.
 fn write_edge<T: Triangulation<UndirectedUserData = u32>>(points: &mut T, value: u32) {
-    if let Some(edge) = first_edge(points) {
+    if let Some(edge) = edge_between(points, 0, 1) {
         if (edge.index() as usize) < points.num_undirected_edges() {
             *points.undirected_edge_data_mut(edge) = value;
         }

@@ -1,7 +1,7 @@
-//! What a generator is told of insertions, an overwrite and a removal, and how often it is asked by
-//! each call that looks for a place.
+//! What a generator is told of insertions, an overwrite, removals, a constraint and its release, and
+//! how often it is asked by each call that looks for a place.
 
-use crate::changes::{Constrained, Hinted, insert_all, refused, remove};
+use crate::changes::{Constrained, HasConstraints, Hinted, insert, insert_all, refused, remove};
 use crate::generators::{Listing, Told};
 use crate::searches::FindsNearest;
 use exact_tests::ExactTests;
@@ -129,7 +129,8 @@ fn print_copy<T: Triangulation<HintGenerator = Listing>>(
     print_told(rt, points)
 }
 
-// Asks twice for constraints across a segment.
+// Asks twice for constraints across a segment, and prints before that and after each question how
+// often hints were asked for.
 fn print_conflicts(rt: &HostRuntime, points: &Constrained<Listing>) -> io::Result<()> {
     print_asked(rt, points, "before constraints")?;
     let (from, to) = (Point2::new(0, 0), Point2::new(1, 1));
@@ -139,6 +140,33 @@ fn print_conflicts(rt: &HostRuntime, points: &Constrained<Listing>) -> io::Resul
     print_asked(rt, points, "after get_conflicting_edges_between_points")
 }
 
+// What is told of a constraint between two new vertices, an insertion, a removal, a release and a
+// removal of the last vertex.
+fn print_constraint_edits<
+    T: Triangulation<Vertex = Point2<i64>, HintGenerator = Listing> + HasConstraints,
+>(rt: &HostRuntime, points: &mut T) -> io::Result<()> {
+    let made = points.add_edge([(0, 0), (0, 1)])?;
+    println!(rt;
+        "constraint made: {made}, {} constraints",
+        points.constraints()
+    )?;
+    insert(points, (2, 2))?;
+    remove(points, 1)?;
+    let released = points.release(2, 3)?;
+    println!(rt;
+        "constraint released: {released}, {} constraints",
+        points.constraints()
+    )?;
+    remove(points, 3)?;
+    print_told(rt, points)
+}
+
+// What is asked and told where there are constraints.
+fn print_constrained(rt: &HostRuntime, points: &mut Constrained<Listing>) -> io::Result<()> {
+    print_conflicts(rt, points)?;
+    print_constraint_edits(rt, points)
+}
+
 fn print_copies(
     rt: &HostRuntime,
     copy: Hinted<Listing>,
@@ -146,7 +174,7 @@ fn print_copies(
 ) -> io::Result<()> {
     print_copy(rt, &copy, points)?;
     match Constrained::from_delaunay(copy) {
-        Ok(points) => print_conflicts(rt, &points),
+        Ok(mut points) => print_constrained(rt, &mut points),
         Err(_) => Err(refused()),
     }
 }
