@@ -2,11 +2,14 @@
 //! fact of one call is carried to the next.
 
 use exact_tests::ExactTests;
-use spade_delaunay::handles::{FixedUndirectedEdgeHandle, FixedVertexHandle};
+use spade_delaunay::handles::{
+    FixedDirectedEdgeHandle, FixedUndirectedEdgeHandle, FixedVertexHandle,
+};
 use spade_delaunay::{
     ConstrainedDelaunayTriangulation, DelaunayTriangulation, HintGenerator, Point2, Triangulation,
 };
 use std::io;
+use test_points::both;
 
 /// A triangulation with data, and with hints of this type.
 pub type Hinted<L> = DelaunayTriangulation<Point2<i64>, u32, u32, u32, L>;
@@ -21,6 +24,9 @@ pub trait HasConstraints {
 
     /// Inserts two vertices and joins them. It tells whether that made a constraint.
     fn add_edge(&mut self, ends: [(i64, i64); 2]) -> io::Result<bool>;
+
+    /// Makes constraints of the path between two vertices, and tells how many edges it has.
+    fn constrain(&mut self, from: u32, to: u32) -> io::Result<usize>;
 
     /// Releases the edge between two vertices. It tells whether that was a constraint.
     fn release(&mut self, from: u32, to: u32) -> io::Result<bool>;
@@ -40,6 +46,17 @@ pub fn edge_between<T: Triangulation>(
         return None;
     };
     Some(edge.as_undirected().fix())
+}
+
+// The path between two vertices, which becomes constraints: nothing where a vertex is not there or
+// no memory.
+fn constrain_path<L: HintGenerator<i64>>(
+    points: &mut Constrained<L>,
+    from: u32,
+    to: u32,
+) -> Option<Vec<FixedDirectedEdgeHandle>> {
+    let (from, to) = both(points, from, to)?;
+    points.try_add_constraint(from, to, &ExactTests).ok()
 }
 
 // Whether an edge was a constraint, which is released.
@@ -63,6 +80,13 @@ impl<L: HintGenerator<i64>> HasConstraints for Constrained<L> {
         match self.add_constraint_edge(Point2::new(a, b), Point2::new(c, d), &ExactTests) {
             Ok(made) => Ok(made),
             Err(_) => Err(refused()),
+        }
+    }
+
+    fn constrain(&mut self, from: u32, to: u32) -> io::Result<usize> {
+        match constrain_path(self, from, to) {
+            Some(path) => Ok(path.len()),
+            None => Err(refused()),
         }
     }
 

@@ -15,9 +15,13 @@ fn edge_data<T: Triangulation<UndirectedEdge = u32>>(points: &T) -> Option<u32> 
     }
 }
 
-// The same where edges have a mark too.
-fn user_data<T: Triangulation<UndirectedEdge = CdtEdge<u32>>>(points: &T) -> Option<u32> {
-    match edge_between(points, 0, 1) {
+/// The data of the edge between two vertices, if they are joined, where edges have a mark too.
+pub fn data_between<T: Triangulation<UndirectedEdge = CdtEdge<u32>>>(
+    points: &T,
+    from: u32,
+    to: u32,
+) -> Option<u32> {
+    match edge_between(points, from, to) {
         Some(edge) if (edge.index() as usize) < points.num_undirected_edges() => {
             Some(*points.undirected_edge(edge).data().data())
         }
@@ -96,12 +100,12 @@ pub fn print_changes<
     }
 }
 
-/// Writes 70 to that edge, and prints what is there then.
+/// Writes 70 to the edge between the first two vertices, and prints what is there then.
 pub fn print_constrained<
     T: Triangulation<UndirectedEdge = CdtEdge<u32>, UndirectedUserData = u32> + HasConstraints,
 >(rt: &HostRuntime, points: &mut T) -> io::Result<()> {
     write_edge(points, 70);
-    match user_data(points) {
+    match data_between(points, 0, 1) {
         Some(data) => println!(rt; "edge {data}, {} constraints", points.constraints()),
         None => Ok(()),
     }

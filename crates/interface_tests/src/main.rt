@@ -8,6 +8,7 @@ mod ends;
 mod flips;
 mod generators;
 mod hull;
+mod kept;
 mod lasts;
 mod positions;
 mod reads;
@@ -50,11 +51,20 @@ fn run_plain<
 
 // What it does then with the same vertices, of which no edge is a constraint.
 fn run_constrained<
-    T: Triangulation<Vertex = Point2<i64>, UndirectedEdge = CdtEdge<u32>, UndirectedUserData = u32>
+    T: Triangulation<
+        Vertex = Point2<i64>,
+        DirectedEdge = u32,
+        UndirectedEdge = CdtEdge<u32>,
+        UndirectedUserData = u32,
+        Face = u32,
+    >
         + HasConstraints,
 >(rt: &HostRuntime, name: &str, points: &mut T) -> io::Result<()> {
     match name {
-        "data" => data::print_constrained(rt, points),
+        "data" => {
+            data::print_constrained(rt, points)?;
+            kept::print_kept(rt, points)
+        }
         "reads" => reads::print_constrained(rt, points),
         "ends" => ends::print_ends(rt, points, 4),
         "positions" => positions::print_square(rt, points),

@@ -1,5 +1,5 @@
-//! What a generator is told of insertions, an overwrite, removals, a constraint and its release, and
-//! how often it is asked by each call that looks for a place.
+//! What a generator is told of insertions, an overwrite, removals, a constraint and its release,
+//! and how often it is asked by each call that looks for a place.
 
 use crate::changes::{Constrained, HasConstraints, Hinted, insert, insert_all, refused, remove};
 use crate::generators::{Listing, Told};
