@@ -2,14 +2,11 @@
 //! fact of one call is carried to the next.
 
 use exact_tests::ExactTests;
-use spade_delaunay::handles::{
-    FixedDirectedEdgeHandle, FixedUndirectedEdgeHandle, FixedVertexHandle,
-};
+use spade_delaunay::handles::{FixedUndirectedEdgeHandle, FixedVertexHandle};
 use spade_delaunay::{
     ConstrainedDelaunayTriangulation, DelaunayTriangulation, HintGenerator, Point2, Triangulation,
 };
 use std::io;
-use test_points::both;
 
 /// A triangulation with data, and with hints of this type.
 pub type Hinted<L> = DelaunayTriangulation<Point2<i64>, u32, u32, u32, L>;
@@ -28,46 +25,8 @@ pub trait HasConstraints {
     /// Makes constraints of the path between two vertices, and tells how many edges it has.
     fn constrain(&mut self, from: u32, to: u32) -> io::Result<usize>;
 
-    /// Releases the edge between two vertices. It tells whether that was a constraint.
-    fn release(&mut self, from: u32, to: u32) -> io::Result<bool>;
-}
-
-/// The edge between two vertices, if they are joined.
-pub fn edge_between<T: Triangulation>(
-    points: &T,
-    from: u32,
-    to: u32,
-) -> Option<FixedUndirectedEdgeHandle> {
-    if from as usize >= points.num_vertices() {
-        return None;
-    }
-    let from = FixedVertexHandle::from_index(from);
-    let Some(edge) = points.get_edge_from_neighbors(from, FixedVertexHandle::from_index(to)) else {
-        return None;
-    };
-    Some(edge.as_undirected().fix())
-}
-
-// The path between two vertices, which becomes constraints: nothing where a vertex is not there or
-// no memory.
-fn constrain_path<L: HintGenerator<i64>>(
-    points: &mut Constrained<L>,
-    from: u32,
-    to: u32,
-) -> Option<Vec<FixedDirectedEdgeHandle>> {
-    let (from, to) = both(points, from, to)?;
-    points.try_add_constraint(from, to, &ExactTests).ok()
-}
-
-// Whether an edge was a constraint, which is released.
-fn release_edge<L: HintGenerator<i64>>(
-    points: &mut Constrained<L>,
-    edge: FixedUndirectedEdgeHandle,
-) -> io::Result<bool> {
-    if edge.index() as usize >= points.num_undirected_edges() {
-        return Err(refused());
-    }
-    Ok(points.remove_constraint_edge(edge, &ExactTests)?)
+    /// Releases an edge. It tells whether that was a constraint.
+    fn release_edge(&mut self, edge: FixedUndirectedEdgeHandle) -> io::Result<bool>;
 }
 
 impl<L: HintGenerator<i64>> HasConstraints for Constrained<L> {
@@ -84,18 +43,38 @@ impl<L: HintGenerator<i64>> HasConstraints for Constrained<L> {
     }
 
     fn constrain(&mut self, from: u32, to: u32) -> io::Result<usize> {
-        match constrain_path(self, from, to) {
-            Some(path) => Ok(path.len()),
-            None => Err(refused()),
+        let count = self.num_vertices();
+        if from as usize >= count || to as usize >= count {
+            return Err(refused());
         }
+        let from = FixedVertexHandle::from_index(from);
+        let to = FixedVertexHandle::from_index(to);
+        let path = self.try_add_constraint(from, to, &ExactTests)?;
+        Ok(path.len())
     }
 
-    fn release(&mut self, from: u32, to: u32) -> io::Result<bool> {
-        match edge_between(self, from, to) {
-            Some(edge) => release_edge(self, edge),
-            None => Err(refused()),
+    fn release_edge(&mut self, edge: FixedUndirectedEdgeHandle) -> io::Result<bool> {
+        if edge.index() as usize >= self.num_undirected_edges() {
+            return Err(refused());
         }
+        Ok(self.remove_constraint_edge(edge, &ExactTests)?)
     }
+}
+
+/// The edge between two vertices, if they are joined.
+pub fn edge_between<T: Triangulation>(
+    points: &T,
+    from: u32,
+    to: u32,
+) -> Option<FixedUndirectedEdgeHandle> {
+    if from as usize >= points.num_vertices() {
+        return None;
+    }
+    let from = FixedVertexHandle::from_index(from);
+    let Some(edge) = points.get_edge_from_neighbors(from, FixedVertexHandle::from_index(to)) else {
+        return None;
+    };
+    Some(edge.as_undirected().fix())
 }
 
 /// What a test ends with where a call refuses.
@@ -138,4 +117,16 @@ pub fn remove<T: Triangulation<Vertex = Point2<i64>>>(
         points.remove(FixedVertexHandle::from_index(index), &ExactTests)?;
     }
     Ok(())
+}
+
+/// Releases the edge between two vertices, and tells whether it was a constraint.
+pub fn release<T: Triangulation + HasConstraints>(
+    points: &mut T,
+    from: u32,
+    to: u32,
+) -> io::Result<bool> {
+    match edge_between(points, from, to) {
+        Some(edge) => points.release_edge(edge),
+        None => Err(refused()),
+    }
 }

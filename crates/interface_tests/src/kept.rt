@@ -9,7 +9,7 @@
 //! 0 to 2 strictly within both, at (1/2, 1/2). So for a constraint along it that edge is flipped,
 //! and no other. Once it is released, it is flipped back.
 
-use crate::changes::{HasConstraints, insert, refused};
+use crate::changes::{HasConstraints, insert, refused, release};
 use crate::data::data_between;
 use spade_delaunay::handles::{
     FixedDirectedEdgeHandle, FixedFaceHandle, FixedUndirectedEdgeHandle,
@@ -92,7 +92,7 @@ fn print_released<
     T: Triangulation<DirectedEdge = u32, UndirectedEdge = CdtEdge<u32>, Face = u32>
         + HasConstraints,
 >(rt: &HostRuntime, points: &mut T, from: u32, to: u32) -> io::Result<()> {
-    let released = points.release(from, to)?;
+    let released = release(points, from, to)?;
     println!(rt; "constraint from {from} to {to} released: {released}")?;
     print_all(rt, points)
 }

@@ -1,7 +1,9 @@
 //! What a generator is told of insertions, an overwrite, removals, a constraint and its release,
 //! and how often it is asked by each call that looks for a place.
 
-use crate::changes::{Constrained, HasConstraints, Hinted, insert, insert_all, refused, remove};
+use crate::changes::{
+    Constrained, HasConstraints, Hinted, insert, insert_all, refused, release, remove,
+};
 use crate::generators::{Listing, Told};
 use crate::searches::FindsNearest;
 use exact_tests::ExactTests;
@@ -152,7 +154,7 @@ fn print_constraint_edits<
     )?;
     insert(points, (2, 2))?;
     remove(points, 1)?;
-    let released = points.release(2, 3)?;
+    let released = release(points, 2, 3)?;
     println!(rt;
         "constraint released: {released}, {} constraints",
         points.constraints()
