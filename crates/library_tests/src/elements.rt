@@ -5,12 +5,7 @@ use crate::tagged_vertex::TaggedVertex;
 use spade_delaunay::Triangulation;
 use spade_delaunay::handles::{DirectedEdgeHandle, FaceHandle, VertexHandle};
 use std::io;
-use test_points::corners_of;
-
-/// The ends of an edge by their indexes, in its direction.
-pub fn ends_of<V, DE, UE, F>(edge: &DirectedEdgeHandle<'_, V, DE, UE, F>) -> (u32, u32) {
-    (edge.from().index, edge.to().index)
-}
+use test_points::{corners_of, ends_of};
 
 /// Prints each vertex with its position, its number and the edge that it names.
 pub fn print_vertices<T: Triangulation<Vertex = TaggedVertex>>(

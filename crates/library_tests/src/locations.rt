@@ -1,13 +1,12 @@
 //! Where a point of the rows is, at each kind of answer, and which vertex is nearest to it.
 ghost use Rattle.spade_delaunay.specs.Elements.{HasElement};
 
-use crate::elements::ends_of;
 use crate::points::{Points, Refusal, is_elsewhere};
 use crate::tagged_vertex::TaggedVertex;
 use exact_tests::ExactTests;
 use spade_delaunay::handles::{FixedDirectedEdgeHandle, FixedFaceHandle, FixedVertexHandle};
 use spade_delaunay::{Point2, PositionInTriangulation, Triangulation, validate_vertex};
-use test_points::corners_of;
+use test_points::{corners_of, ends_of};
 
 /// A location by the indexes of vertices, an edge and a face from their least index on.
 #[derive(Clone, Copy, Debug, PartialEq, Eq)]

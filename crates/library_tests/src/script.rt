@@ -10,7 +10,7 @@ use crate::points::{
     ConstrainedPoints, Points, clear, empty, insert, insert_from, insert_out_of_range, remove,
     remove_at, replace,
 };
-use crate::segments::{crossings, joined, next};
+use crate::segments::{joined, next};
 use crate::tagged_vertex::TaggedVertex;
 use crate::triples::counts_of_triples;
 use delaunay_core::LastUsedVertexHintGenerator;
@@ -164,7 +164,6 @@ fn answer_beside(
         }
         "path_insert" => call.tell(rt, &insert(paths, Point2::new(x, y), 0).is_ok()),
         "next_on_path" => call.tell(rt, &next(paths, from, to)),
-        "crosses_segment" => call.tell(rt, &crossings(paths, from, to)),
         "make_edge" => {
             let second = (index(c), index(d));
             call.tell(rt, &joined(paths, rt.alloc(), (from, to), second))

@@ -1,5 +1,4 @@
-//! Segments between vertices: the next vertex on the way, what crosses one, and flips that make it
-//! an edge.
+//! Segments between vertices: the next vertex on the way, and flips that make one an edge.
 ghost use Rattle.std.specs.Prelude.{◌≡◌, ◌≢◌, ◌<◌, length, map, All, IfSome, vec_capacity};
 ghost use Rattle.plane.specs.Tests.{InRange};
 ghost use Rattle.plane_tiling.specs.Local.{IsMesh};
@@ -9,11 +8,9 @@ ghost use Rattle.library_tests.specs.Vertices.{position_of};
 
 use crate::points::Points;
 use crate::tagged_vertex::TaggedVertex;
-use delaunay_paths::{crosses_segment, make_edge, next_on_path};
+use delaunay_paths::{make_edge, next_on_path};
 use exact_tests::ExactTests;
-use half_edge_mesh::{
-    Dcel, FixedDirectedEdgeHandle, FixedUndirectedEdgeHandle, FixedVertexHandle, MeshViews,
-};
+use half_edge_mesh::{Dcel, FixedUndirectedEdgeHandle, FixedVertexHandle, MeshViews};
 use spade_delaunay::Triangulation;
 use std::alloc::Global;
 
@@ -52,20 +49,6 @@ pub fn next(points: &Points, from: u32, to: u32) -> Option<u32> {
     let (start, end) = ends(points, from, to)?;
     let mesh = mesh_at(points, start);
     Some(next_on_path(mesh, start, end, &ExactTests).index())
-}
-
-/// How many directed edges cross the segment between two different vertices.
-pub fn crossings(points: &Points, from: u32, to: u32) -> Option<u64> {
-    let (start, end) = ends(points, from, to)?;
-    let mesh = mesh_at(points, start);
-    let mut crossings = 0u64;
-    for index in 0..mesh.num_directed_edges() {
-        let edge = FixedDirectedEdgeHandle::from_index(index as u32);
-        if crosses_segment(mesh, edge, start, end, &ExactTests) {
-            crossings = crossings.wrapping_add(1);
-        }
-    }
-    Some(crossings)
 }
 
 // A copy of a mesh, or nothing where memory was refused.

@@ -3,13 +3,13 @@ ghost use Rattle.std.specs.Iterator.{IsFinite};
 
 use crate::drawing::Drawing;
 use crate::filter::is_in_order;
-use crate::items::{Item, ends_of, within_hint};
+use crate::items::{Item, within_hint};
 use crate::segment::Segment;
 use exact_tests::ExactTests;
 use spade_delaunay::HintGenerator;
 use spade_delaunay::handles::DirectedEdgeHandle;
 use std::alloc::Global;
-use test_points::{Constrained, both, both_in_range};
+use test_points::{Constrained, both, both_in_range, ends_of};
 
 // The edges that an iterator gives, if they are as many as it said before.
 fn listed<

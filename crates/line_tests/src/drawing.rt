@@ -1,9 +1,9 @@
 //! A triangulation drawn: where its vertices are, and which of them its edges join.
 
-use crate::items::ends_of;
 use crate::segment::Segment;
 use spade_delaunay::{CdtEdge, Point2, Triangulation};
 use std::alloc::{AllocError, Global};
+use test_points::ends_of;
 
 /// The vertices by their positions, and the directed edges by their ends, each by rising index.
 #[derive(Drop)]

@@ -2,12 +2,11 @@
 ghost use Rattle.std.specs.Prelude.{◌<◌};
 ghost use Rattle.delaunay_edit.specs.Elements.{HasElement};
 
-use crate::items::ends_of;
 use exact_tests::ExactTests;
 use spade_delaunay::handles::FaceHandle;
 use spade_delaunay::{Point2, PositionInTriangulation, Triangulation, validate_vertex};
 use std::alloc::{AllocError, Global};
-use test_points::corners_of;
+use test_points::{corners_of, ends_of};
 
 /// The corners of a face, the least first.
 pub type Corners = (u32, u32, u32);

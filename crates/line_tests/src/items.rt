@@ -1,9 +1,9 @@
 //! What a segment meets, by the indexes of vertices.
 
 use spade_delaunay::Intersection;
-use spade_delaunay::handles::DirectedEdgeHandle;
 use std::fmt::{Display, Formatter, Write};
 use std::{fmt, io};
+use test_points::ends_of;
 use test_script::Call;
 
 /// A vertex, or an edge from one vertex to another.
@@ -22,11 +22,6 @@ impl Display for Item {
             Item::Overlap(from, to) => write!(f, "o {from}>{to}"),
         }
     }
-}
-
-/// The ends of an edge by their indexes, in its direction.
-pub fn ends_of<V, DE, UE, F>(edge: &DirectedEdgeHandle<'_, V, DE, UE, F>) -> (u32, u32) {
-    (edge.from().fix().index(), edge.to().fix().index())
 }
 
 /// An item of a walk by its indexes.

@@ -70,7 +70,7 @@ fn is_allowed<L: HintGenerator<i64>>(alloc: Global, sheet: Sheet, dialogue: &Dia
 
 /// Whether the program answers as the dialogue says, whose first line begins with the sheet's
 /// letter: with its own hints, with those from 0 to 20 in turn, with one that names no vertex, and
-/// with those of hierarchies.
+/// with those of hierarchies by 0, 1, 2, 3 and 16.
 pub(crate) fn is_answered(alloc: Global, text: &str) -> Result<bool, AllocError> {
     let (heading, lines) = text.split_once('\n').unwrap_or((text, ""));
     let letter = heading
@@ -84,7 +84,10 @@ pub(crate) fn is_answered(alloc: Global, text: &str) -> Result<bool, AllocError>
         is_allowed::<LastUsedVertexHintGenerator>(alloc, sheet, &dialogue)
             && is_allowed::<EachInTurn>(alloc, sheet, &dialogue)
             && is_allowed::<Always1000>(alloc, sheet, &dialogue)
+            && is_allowed::<Hierarchy<i64, 0>>(alloc, sheet, &dialogue)
+            && is_allowed::<Hierarchy<i64, 1>>(alloc, sheet, &dialogue)
             && is_allowed::<Hierarchy<i64, 2>>(alloc, sheet, &dialogue)
+            && is_allowed::<Hierarchy<i64, 3>>(alloc, sheet, &dialogue)
             && is_allowed::<Hierarchy<i64, 16>>(alloc, sheet, &dialogue),
     )
 }

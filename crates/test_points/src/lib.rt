@@ -6,7 +6,9 @@ ghost use Rattle.plane.specs.Tests.{InRange};
 ghost use Rattle.delaunay_core.specs.Place.{place_of};
 
 use exact_tests::ExactTests;
-use spade_delaunay::handles::{FaceHandle, FixedDirectedEdgeHandle, FixedVertexHandle};
+use spade_delaunay::handles::{
+    DirectedEdgeHandle, FaceHandle, FixedDirectedEdgeHandle, FixedVertexHandle,
+};
 use spade_delaunay::{
     ConstrainedDelaunayTriangulation, DelaunayTriangulation, HintGenerator, InsertionError, Point2,
     Triangulation, validate_vertex,
@@ -52,6 +54,11 @@ pub fn element_counts<T: Triangulation>(points: &T) -> [usize; 6] {
         points.num_all_faces(),
         points.convex_hull_size(),
     ]
+}
+
+/// The ends of an edge by their indexes, in its direction.
+pub fn ends_of<V, DE, UE, F>(edge: &DirectedEdgeHandle<'_, V, DE, UE, F>) -> (u32, u32) {
+    (edge.from().index, edge.to().index)
 }
 
 /// The corners of an inner face by their indexes, the least first.
