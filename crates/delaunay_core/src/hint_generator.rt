@@ -14,6 +14,12 @@ use std::alloc::Global;
 /// appended and of each removed vertex, and makes a new one where it is cleared. Any handle may be
 /// answered, and no call is refused: a generator that finds no memory holds less.
 ///
+/// It may keep positions of vertices, and the contracts say which at most: none where it is new,
+/// those of the original in a copy, one more after an insertion, never a removed one, and those
+/// handed in where it is initialised. Calls that are handed tests want the positions that it keeps,
+/// and those of vertices that they tell of, to be sites of the tests, and a position that they ask
+/// about to be covered. A triangulation sees to that.
+///
 /// ```
 /// // Searches begin where the generator says, here a hierarchy:
 /// let mut points: DelaunayTriangulation<Point2<i64>, (), (), (), HierarchyHintGenerator<i64>> =

@@ -1,9 +1,9 @@
 //! The generator that keeps the last vertex.
-ghost use Rattle.std.specs.Prelude.{◌≡◌, All, Some};
+ghost use Rattle.std.specs.Prelude.{◌≡◌, Some};
 ghost use Rattle.plane.specs.Fraction.{Point};
-ghost use Rattle.plane.specs.Hint.{IsAtMostOf, IsAtMostWith, IsAtMostWithout};
+ghost use Rattle.plane.specs.Hint.{IsAtMostWith, IsAtMostWithout};
 ghost use Rattle.delaunay_core.specs.Place.{place_of};
-ghost use Rattle.delaunay_core.specs.Held.{AreDistinct, place_if, places};
+ghost use Rattle.delaunay_core.specs.Held.{place_if};
 
 use crate::hint_generator::HintGenerator;
 use crate::math::PlaneTests;

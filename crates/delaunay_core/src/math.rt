@@ -66,7 +66,8 @@ pub fn validate_vertex<V: HasPosition>(vertex: &V) -> Result<(), InsertionError>
 }
 
 /// True answers to side and circle tests, which the caller hands in: of sides at its covered
-/// points, of circles at its sites. The crate has no implementation of its own.
+/// points, of circles at its sites. Each site is covered, and each covered point is in range. The
+/// crate has no implementation of its own.
 ///
 /// ```
 /// let (from, to) = (Point2::new(0, 0), Point2::new(1, 0));

@@ -82,18 +82,6 @@ module _ {V D U F : Type 0} (place : V → Point) (constraints : List U → List
 
 -- ---- joining
 module _ {V D U F : Type 0} (place : V → Point) (from to : ℕ) where
-  -- a constraint crosses
-  pub conflicts : (s : State V D (CdtEdge U) F) (result : Result Bool ConstraintError)
-      → result ≡ Err Conflict → ¬ CanAdd place (constrained s) from to
-      → JoinsVertices place from to result s s
-  conflicts s result is barred =
-      subst (λ (r : Result Bool ConstraintError). JoinsVertices place from to r s s)
-      (sym is) (record {
-        conflict = ((λ e. barred), (λ n. refl));
-        memory = inl refl;
-        adds = record { plain = tt; told = tt; none_made = tt; «data» = tt; err = refl };
-      })
-
   -- memory was refused
   pub lacks_memory : (s : State V D (CdtEdge U) F) (new : State V D (CdtEdge U) F)
       (result : Result Bool ConstraintError) → result ≡ Err (Insertion OutOfMemory) →

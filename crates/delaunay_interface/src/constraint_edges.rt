@@ -152,7 +152,7 @@ impl<
     /// `add_constraint` does, and at last, where `closed` says so, the last to the first, unless
     /// they are one. It gives `Insertion` where a vertex was refused, or where memory was refused
     /// when two were to be joined, and `Conflict` exactly where a constraint crosses their segment.
-    /// What was inserted and joined before a refusal stays.
+    /// What was inserted and joined before a refusal stays. The iterator has to be one that ends.
     ///
     /// ```
     /// let corners = [Point2::new(0, 0), Point2::new(4, 0), Point2::new(0, 4)];

@@ -51,6 +51,12 @@ impl<
 
     ghost with_face = { with_face_data };
 
+    ghost writes_directed = { λ _ _ _. refl };
+
+    ghost writes_user = { λ _ _ _. refl };
+
+    ghost writes_face = { λ _ _ _. refl };
+
     fn s(&self) -> &Dcel<V, DE, UE, F> {
         self.edited.mesh()
     }

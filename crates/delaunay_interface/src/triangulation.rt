@@ -23,6 +23,8 @@ ghost use Rattle.delaunay_edit.specs.Edits.{InsertsVertex, LocatesAndRemoves, Re
 ghost use Rattle.delaunay_edit.specs.Elements.{FindsLocation, GivesElements, IsVertexAt};
 ghost use Rattle.delaunay_edit.specs.Headline.{AreSites, IsDelaunay, IsWellFormed};
 ghost use Rattle.delaunay_edit.specs.Hull.{CountsHullEdges};
+ghost use Rattle.delaunay_edit.specs.Writing.{with_directed_data, with_undirected_data};
+ghost use Rattle.delaunay_edit.specs.Writing.{with_face_data};
 ghost use Rattle.delaunay_interface.specs.InnerFaces.{inner_faces_left};
 ghost use Rattle.delaunay_interface.specs.Views.{AreNotJoined, AreOnLine, GivesOutline};
 ghost use Rattle.delaunay_interface.specs.Views.{IsEdgeBetween, IsElement, corners_at, ends_at};
@@ -66,23 +68,28 @@ pub(crate) mod sealed {
 /// }
 /// ```
 ///
-/// Calls that ask tests want each vertex to be a site of them, and each position that is asked for
-/// to be covered by them. Handles are those of this triangulation: `get_vertex` and the counts tell
-/// whether they are in range.
+/// Calls that ask tests want each vertex to be a site of them, and so a position in range that is
+/// inserted, and each position that is asked for to be covered by them. Handles are those of this
+/// triangulation: `get_vertex` and the counts tell whether they are in range.
 pub trait Triangulation: Drop
     + sealed::Sealed
     + HasMesh<Self::Vertex, Self::DirectedEdge, Self::UndirectedEdge, Self::Face> {
+    /// What a vertex is: it has a position.
     type Vertex: HasPosition + Drop;
 
+    /// The data of a directed edge.
     type DirectedEdge: Default + Drop;
 
+    /// The data of an edge, with the mark of a constraint where edges may be constraints.
     type UndirectedEdge: Default + Drop;
 
     /// The user's part of the data of an edge.
     type UndirectedUserData;
 
+    /// The data of a face.
     type Face: Default + Drop;
 
+    /// Tells at which vertex a search begins.
     type HintGenerator: HintGenerator<<Self::Vertex as HasPosition>::Scalar>;
 
     /// Which edges are constraints.
@@ -265,6 +272,17 @@ pub trait Triangulation: Drop
             result.now };
 
     ghost state_is_of_mesh: { (t : Self) → Self.HasMesh.mesh_state t ≡ state t };
+
+    // Where data are written through a reference, all else is as it was.
+    ghost writes_directed: { (t : Self) (e : ℕ) (w : Self.DirectedEdge) →
+        state (with_directed t e w) ≡ with_directed_data (state t) e w };
+
+    ghost writes_user: { (t : Self) (e : ℕ) (w : Self.UndirectedUserData) →
+        state (with_user t e w) ≡
+        with_undirected_data (state t) (Self.Constraints.with_user (state t).undirected e w) };
+
+    ghost writes_face: { (t : Self) (f : ℕ) (w : Self.Face) →
+        state (with_face t f w) ≡ with_face_data (state t) f w };
 
     /// How many vertices there are.
     final fn num_vertices(&self) -> usize

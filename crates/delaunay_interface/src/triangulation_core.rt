@@ -42,7 +42,8 @@ impl<V: HasPosition, DE, UE, F, L: HintGenerator<V::Scalar>, M: EdgeData<UE>> Mo
 
 /// A triangulation of vertices with different positions. Its inner faces turn left and tile the
 /// hull of the positions, and none has a vertex strictly inside its circle; where the positions are
-/// on one line there is no inner face, and edges join the neighbours.
+/// on one line there is no inner face, and edges join the neighbours. What its calls ask of handles
+/// and of tests is what those of the trait `Triangulation` ask.
 ///
 /// Here a square of four points and its centre, and the vertex that is nearest to `(3, 1)`:
 ///
@@ -60,7 +61,10 @@ pub type DelaunayTriangulation<V, DE = (), UE = (), F = (), L = LastUsedVertexHi
 /// A triangulation of vertices with different positions, some of whose edges are constraints, which
 /// stay edges. Its inner faces turn left and tile the hull of the positions, and none has a vertex
 /// strictly inside its circle that is seen from inside the face past the constraints; where the
-/// positions are on one line there is no inner face, and edges join the neighbours.
+/// positions are on one line there is no inner face, and edges join the neighbours. What its calls
+/// ask of handles and of tests is what those of the trait `Triangulation` ask: handles in range,
+/// sites for its vertices and for positions in range that are inserted, and that positions asked
+/// for are covered.
 ///
 /// Here a wall from vertex 0 to vertex 2, where no other constraint crosses it:
 ///
