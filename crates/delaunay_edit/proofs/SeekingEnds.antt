@@ -155,12 +155,3 @@ module _ (pairs : List (ℕ × ℕ)) (v : ℕ) where
     more_than_two z third a b ends =
         three_ends a b x y z (ends.only x first.0) (ends.only y second.0) (ends.only z third.0)
         second.1 third.1 third.2
-
-    -- without a third there are two
-    pub exactly_two : IsEndBeside pairs v x y None → AreTwoEnds pairs v (Some (x, y))
-    exactly_two none = record {
-      apart = λ e. second.1 (sym e);
-      first = first.0;
-      second = second.0;
-      only = none;
-    }

@@ -1,15 +1,11 @@
 //! New vertices, and new data at a known position.
 ghost use Rattle.std.specs.Prelude.{◌≡◌, ◌↔◌, ℕ, ◌+◌, ◌*◌, ◌<◌, ◌≤◌, ◌++◌, ◌∷◌, []};
 ghost use Rattle.std.specs.Prelude.{length, map, All, IsFalse, IsTrue};
-ghost use Rattle.std.specs.Prelude.{Err, IsErrOf, IfOk, OnErr, OnOk};
+ghost use Rattle.std.specs.Prelude.{Err, OnErr, OnOk};
 ghost use Rattle.std.specs.Prelude.{vec_capacity};
 ghost use Rattle.plane.specs.Tests.{InRange};
-ghost use Rattle.delaunay_core.specs.declared.math.InsertionError.TheVariants.{TooLarge};
 ghost use Rattle.delaunay_core.specs.declared.math.InsertionError.TheVariants.{OutOfMemory};
-ghost use Rattle.delaunay_core.specs.declared.math.InsertionError.TheVariants.{OutOfIndexes};
-ghost use Rattle.delaunay_insertion.specs.Constraints.{SplitsConstraints};
 ghost use Rattle.delaunay_legalization.specs.Flips.{CountsFlips, FlipsFit};
-ghost use Rattle.delaunay_edit.specs.Data.{KeepsData};
 ghost use Rattle.delaunay_edit.specs.Edits.{AppendsVertex, InsertsVertex, MayInsert};
 ghost use Rattle.delaunay_edit.specs.Entry.{IsEntry, IsVacant};
 ghost use Rattle.delaunay_edit.specs.Headline.{IsDelaunay};

@@ -1,8 +1,7 @@
 //! What is left to do where a vertex went: the halves of a straight constraint are joined, and each
 //! edge is made to pass the circle test.
 ghost use Rattle.std.specs.Prelude.{◌≡◌, ◌*◌, ◌≤◌, ◌++◌};
-ghost use Rattle.std.specs.Prelude.{true, length, map, All, IsTrue, Some, vec_capacity};
-ghost use Rattle.half_edge_mesh.specs.Renames.{moved};
+ghost use Rattle.std.specs.Prelude.{length, map, All, IsTrue, Some, vec_capacity};
 ghost use Rattle.delaunay_legalization.specs.Flips.{FlipsFit};
 ghost use Rattle.delaunay_removal.specs.Pairs.{FailOnlyAt, pairs_left};
 ghost use Rattle.delaunay_edit.specs.Halves.{CanSettle, Settles};

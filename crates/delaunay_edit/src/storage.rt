@@ -4,7 +4,6 @@ ghost use Rattle.half_edge_mesh.specs.Room.{AreFewEnough};
 ghost use Rattle.delaunay_core.specs.declared.math.InsertionError.TheVariants.{TooLarge};
 ghost use Rattle.delaunay_core.specs.declared.math.InsertionError.TheVariants.{OutOfIndexes};
 ghost use Rattle.delaunay_legalization.specs.State.{state_of};
-ghost use Rattle.delaunay_edit.specs.Headline.{IsDelaunay};
 ghost use Rattle.delaunay_edit.specs.Storage.{IsCopy, IsEmptyState};
 
 use crate::edge_data::EdgeData;

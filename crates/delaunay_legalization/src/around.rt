@@ -1,14 +1,10 @@
 //! A legalization round a vertex, where only edges opposite it may fail.
-ghost use Rattle.std.specs.Prelude.{◌≡◌, ◌↔◌, ◌<◌, length, map, All, Contains, IsTrue, IsFalse};
-ghost use Rattle.half_edge_mesh.specs.Mesh.{origin, next, prev, rev};
-ghost use Rattle.plane_tiling.specs.Local.{IsMesh};
-ghost use Rattle.mesh_embedding.specs.Drawn.{faces_of, outer_of};
-ghost use Rattle.mesh_embedding.specs.Legal.{IsFailing};
+ghost use Rattle.std.specs.Prelude.{◌≡◌, ◌↔◌, ◌<◌, length, map, All, IsTrue, IsFalse};
+ghost use Rattle.half_edge_mesh.specs.Mesh.{origin, next, rev};
 ghost use Rattle.delaunay_core.specs.Place.{place_of};
 ghost use Rattle.delaunay_legalization.specs.Around.{CanGoRound, CanTurn, IsListedAt, IsOpposite};
 ghost use Rattle.delaunay_legalization.specs.Around.{Stays, Turns};
 ghost use Rattle.delaunay_legalization.specs.Constraints.{constraint_pairs};
-ghost use Rattle.delaunay_legalization.specs.Known.{point_at};
 ghost use Rattle.delaunay_legalization.specs.Sides.{HasLegalized};
 
 use crate::constraint_marker::ConstraintMarker;

@@ -70,10 +70,6 @@ module _ {V D U F : Type 0} (at : V → Point) (IsSite IsCovered : Point → Typ
           (in_mesh at IsSite IsCovered c p q over k.0 k.1)
           (sym (ap first_end k.2), sym (ap second_end k.2))
 
-  -- nor is a vertex or an overlap
-  no_crossing : (k : Item) → ¬ IsCrossing k → ¬ IsConflict constraints c k
-  no_crossing k n x = n (subst IsCrossing (sym x.2) tt)
-
 module _ {V D U F P S : Type 0} (at : V → Point) (number : S → ℤ)
     (IsSite IsCovered : P → Point → Type 0) (constraints : List U → List ℕ) where
   -- what was passed of the walk

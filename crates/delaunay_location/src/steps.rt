@@ -1,8 +1,6 @@
 //! The steps of a walk from face to face towards a position.
-ghost use Rattle.std.specs.Prelude.{◌≡◌, ◌<◌, length, map, IsFalse};
-ghost use Rattle.half_edge_mesh.specs.Mesh.{face, origin, prev, rev};
-ghost use Rattle.delaunay_core.specs.Place.{place_of};
-ghost use Rattle.delaunay_legalization.specs.Known.{point_at};
+ghost use Rattle.std.specs.Prelude.{◌≡◌, ◌<◌, length, IsFalse};
+ghost use Rattle.half_edge_mesh.specs.Mesh.{face, prev, rev};
 ghost use Rattle.delaunay_location.specs.Search.{IsSearch};
 ghost use Rattle.delaunay_location.specs.Stop.{AreOtherSides, IsSideAt, IsStepOf, IsStopOf};
 ghost use Rattle.delaunay_location.specs.declared.steps.Step.TheVariants.{Beyond};

@@ -1,7 +1,7 @@
 -- The last of the edges that cross a segment, by the walk along it.
 use Rattle.std.proofs.Common.{◌≡◌, ◌⊎◌, ◌<◌, [], ◌∷◌, ◌++◌, ◌∙◌}
 use Rattle.std.proofs.Common.{ℕ, List, length, map, Option, Some, None, sym, ap, subst, inl, inr}
-use Rattle.std.specs.Prelude.{ℤ, Contains, IfSome, MatchOption}
+use Rattle.std.specs.Prelude.{ℤ, Contains, MatchOption}
 use Rattle.std.proofs.lemmas.List.Elements.{Contains-append_left, Contains-append_right}
 use Rattle.std.proofs.lemmas.List.Elements.{Contains-push_cases}
 use Rattle.std.proofs.lemmas.List.{length-map}
@@ -14,7 +14,7 @@ use Rattle.plane.specs.Laws.{Parts}
 use Rattle.plane.specs.Line.{Item, IsLineList, Meets, at_vertex, across, along}
 use Rattle.plane.specs.Pairs.{place}
 use Rattle.plane.specs.Side.{side, left, right, on}
-use Rattle.plane.specs.Tiling.{Triangulation, IsEdge}
+use Rattle.plane.specs.Tiling.{IsEdge}
 use Rattle.plane.proofs.Meetings.{crossing_is_sides}
 use Rattle.plane.proofs.Segments.{same-sym}
 use Rattle.plane_tiling.specs.Local.{IsMesh}
@@ -66,9 +66,6 @@ on_not_right : on ≡ right → ⊥
 on_not_right e = cc
 
 module _ (points : List Point) (m : Mesh) (i j : ℕ) where
-  abbrev t : Triangulation
-  t = drawn points m
-
   abbrev Crosses : ℕ → Type 0
   Crosses h = CrossesFromRight points m i j h
 
@@ -299,16 +296,6 @@ module _ {V D U F P S : Type 0} (at : V → Point) (number : S → ℤ)
 
   module _ (last : Option ℕ) (now : LineIntersectionIterator V D U F P S)
       (seeks : SeeksLast last now) where
-    -- the last so far is one of the directed edges
-    pub last_in : IfSome last (λ g. g < length c.directed)
-    last_in = go last seeks.among
-      where
-        go : (l : Option ℕ)
-            → IsLastAmong points_of_mesh c.mesh i j (length c.directed) seeks.passed l
-            → IfSome l (λ g. g < length c.directed)
-        go None among = tt
-        go (Some g) among = among.0
-
     module _ (after : LineIntersectionIterator V D U F P S) where
       module _ (whole_mesh : IsMeshWithData c)
           (free : IsFreeOfVertices (drawn points_of_mesh c.mesh) i j)

@@ -4,7 +4,6 @@
 
 mod adding;
 mod constraints;
-mod crossing;
 mod flips;
 mod joined;
 mod leaving;
@@ -15,7 +14,6 @@ mod path_edges;
 // For the crates of edits and for tests, and not for users.
 pub use adding::{add_path, can_add_path};
 pub use constraints::{add_constraints, release_constraint};
-pub use crossing::crosses_segment;
 pub use flips::make_edge;
 pub use joined::{is_constraint_between, is_path_constrained};
 pub use path::next_on_path;

@@ -1,5 +1,7 @@
 //! The last of the edges that cross the segment between two vertices.
-ghost use Rattle.std.specs.Prelude.{◌≡◌, ◌↔◌, ◌<ℤ◌, ◌<◌, length, map, All, IfSome, IsTrue};
+ghost use Rattle.std.specs.Prelude.{◌≡◌, ◌↔◌, ◌<ℤ◌, ◌<◌};
+ghost use Rattle.std.specs.Prelude.{length, map, All, Contains, IfSome, IsTrue};
+ghost use Rattle.half_edge_mesh.specs.Mesh.{origin, rev};
 ghost use Rattle.plane.specs.Fraction.{whole as fraction};
 ghost use Rattle.plane.specs.Circle.{gap};
 ghost use Rattle.plane.specs.Laws.{squared_way};
@@ -7,18 +9,18 @@ ghost use Rattle.plane_tiling.specs.Local.{IsMesh};
 ghost use Rattle.plane_segments.specs.Path.{ComesAfterOnRight, ComesAfterOnLeft, IsFreeOfVertices};
 ghost use Rattle.mesh_embedding.specs.Drawn.{drawn, faces_of, outer_of};
 ghost use Rattle.delaunay_core.specs.Place.{place_of};
+ghost use Rattle.delaunay_legalization.specs.Known.{point_at};
 ghost use Rattle.delaunay_legalization.specs.State.{state_of};
 ghost use Rattle.delaunay_lines.specs.Items.{item_in, mesh_of};
 ghost use Rattle.delaunay_paths.specs.Crossing.{ComesAfter, IsLastCrossing};
 ghost use Rattle.delaunay_paths.specs.Items.{IsCrossedTwin, IsLastWith, IsLater};
 ghost use Rattle.delaunay_paths.specs.Seen.{IsCovered};
 
-use crate::crossing::ends_of;
 use delaunay_core::math::PlaneTests;
 use delaunay_core::point::{HasPosition, Point2, SpadeNum};
-use delaunay_legalization::{is_same_point, position_of};
+use delaunay_legalization::{is_same_point, position_of, start_of};
 use delaunay_lines::{Intersection, line_between_vertices};
-use half_edge_mesh::{Dcel, FixedDirectedEdgeHandle, FixedVertexHandle};
+use half_edge_mesh::{Dcel, FixedDirectedEdgeHandle, FixedVertexHandle, MeshViews};
 
 // Two points as they are seen from a position, with the tests that say on which sides they are.
 #[derive(Drop)]
@@ -70,6 +72,24 @@ impl<'a, S: SpadeNum, P: PlaneTests<S>> Seen<'a, S, P> {
         let side = self.tests.side(self.from, self.point, self.other);
         side.is_on_left_side() || (side.is_on_line() && self.is_nearer())
     }
+}
+
+// The positions where an edge starts and ends.
+fn ends_of<V: HasPosition, DE, UE, F>(
+    dcel: &Dcel<V, DE, UE, F>,
+    edge: FixedDirectedEdgeHandle,
+) -> (Point2<V::Scalar>, Point2<V::Scalar>)
+    requires { edge < length dcel.now.directed }
+    ensures start { place_of V.Scalar.whole result.0 ≡
+        point_at (map V.place dcel.now.vertices) (origin dcel.now.mesh edge) }
+    ensures end { place_of V.Scalar.whole result.1 ≡
+        point_at (map V.place dcel.now.vertices) (origin dcel.now.mesh (rev edge)) }
+    ensures listed { let points = map V.place dcel.now.vertices in
+        Contains points (place_of V.Scalar.whole result.0) ×
+        Contains points (place_of V.Scalar.whole result.1) }
+{
+    let twin = dcel.directed_edge(edge).rev().fix();
+    (start_of(dcel, edge), start_of(dcel, twin))
 }
 
 // Whether another edge comes after an edge, by where they start, or else by where they end.

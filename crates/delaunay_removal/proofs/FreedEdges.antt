@@ -68,9 +68,6 @@ module _ {V D U F : Type 0} (marks : U → Bool) (old : Contents V D U F) (first
         record c { undirected = set now.undirected (edge / 2) x }) freeing.contents
         ∙ ap (λ (us : List U). record old { undirected = us }) (sym data_are)
 
-    some_same : (p q : U) → Some p ≡ Some q → p ≡ q
-    some_same p q e = cc
-
     unmarked_here : IsUnmarked marks new (edge / 2)
     unmarked_here d is =
         let inside = slice_get_within now.undirected (edge / 2) written.value written.was in

@@ -19,16 +19,6 @@ pub record IsCounting (m : Mesh) (first count edge : ℕ) : Type 0 where
 
 module _ (m : Mesh) (valid : IsValidMesh m) (first : ℕ)
     (first_in : first < length m.half_edges) where
-  -- with the first edge counted, the walk is at the edge that it turns to
-  pub counting_begins : (edge : ℕ) → edge < length m.half_edges → edge ≡ turn m first
-      → IsCounting m first 1 edge
-  counting_begins edge within is = record {
-    within = within;
-    some = omega arith;
-    here = is;
-    before = λ j some less. absurd (omega (arith, some, less));
-  }
-
   module _ (count edge : ℕ) (counting : IsCounting m first count edge) where
     round : (n : ℕ) × IsRound m (origin m first) first n
     round = round_at m valid (origin m first) first first_in refl

@@ -1,6 +1,6 @@
 //! A vertex inside the hull loses its edges.
 ghost use Rattle.std.specs.Prelude.{◌≡◌, ◌↔◌, ◌+◌, ◌<◌, ◌≤◌};
-ghost use Rattle.std.specs.Prelude.{length, map, All, IsTrue, vec_capacity, vec_len};
+ghost use Rattle.std.specs.Prelude.{map, All, IsTrue, vec_capacity, vec_len};
 ghost use Rattle.half_edge_mesh.specs.Mesh.{origin};
 ghost use Rattle.half_edge_mesh.specs.Peel.{IsWheel};
 ghost use Rattle.half_edge_mesh.specs.Round.{IsRound, neighbour};

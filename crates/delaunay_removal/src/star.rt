@@ -1,15 +1,13 @@
 //! The edges round a vertex, and turns of them.
 ghost use Rattle.std.specs.Prelude.{◌≡◌, ◌≢◌, ◌↔◌, ℕ, ◌<◌};
-ghost use Rattle.std.specs.Prelude.{length, map, All, Contains, IsTrue, IfSome, IfNone};
+ghost use Rattle.std.specs.Prelude.{length, map, All, IsTrue, IfSome, IfNone};
 ghost use Rattle.std.specs.Prelude.{vec_capacity, vec_len};
-ghost use Rattle.half_edge_mesh.specs.Mesh.{origin, next, face, rev};
+ghost use Rattle.half_edge_mesh.specs.Mesh.{origin, next, face};
 ghost use Rattle.half_edge_mesh.specs.Peel.{spoke, turn};
 ghost use Rattle.half_edge_mesh.specs.Round.{IsRound, neighbour};
 ghost use Rattle.half_edge_mesh.specs.Contents.{IsMeshWithData};
 ghost use Rattle.plane_tiling.specs.Local.{LocalMesh};
 ghost use Rattle.mesh_embedding.specs.Drawn.{faces_of, outer_of};
-ghost use Rattle.delaunay_core.specs.Place.{place_of};
-ghost use Rattle.delaunay_legalization.specs.Known.{point_at};
 ghost use Rattle.delaunay_removal.specs.Star.{IsConvexAt, TurnsAway};
 
 use crate::pairs::{VertexPair, ends_beside};

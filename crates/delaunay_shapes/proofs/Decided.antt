@@ -1,6 +1,5 @@
 -- What tests on whole numbers decide, and tests made of them.
-use Rattle.std.proofs.Common.{◌≡◌, ℕ, ◌<◌, List, length, map, get_or, refl, subst, rules}
-use Rattle.std.proofs.lemmas.Grind.{common_steps}
+use Rattle.std.proofs.Common.{◌≡◌, refl, rules}
 use mathlib.Core.Logic.{◌⊎◌, ◌↔◌, inl, inr}
 use mathlib.Core.Bool.{Bool, true, false, not, ◌&&◌, ◌||◌}
 use Rattle.std.specs.Prelude.{ℤ, ◌<ℤ◌, ◌≤ℤ◌, int_lt, int_le, IsTrue}
@@ -38,15 +37,6 @@ decides_and_4 a b c d h i j k =
       (λ e. let p = all.0 e in (p.0, p.1.0, p.1.1.0, p.1.1.1)),
       (λ p. all.1 (p.0, (p.1, (p.2, p.3)))),
     )
-
--- what is told of two points is told of points that are the same
-pub at_ends : {X : Type 0} (P : X → X → Type 0) {p q r s : X} → p ≡ r → q ≡ s → P p q → P r s
-at_ends P {p} {q} {r} {s} e f t = subst (λ z. P r z) f (subst (λ z. P z q) e t)
-
--- the point of an index in range
-pub end_is : {X Y : Type 0} (f : X → Y) (xs : List X) (k : ℕ) (x : X) (d : Y) → k < length xs
-    → f (get_or xs k x) ≡ get_or (map f xs) k d
-end_is f xs k x d h = search (rules, common_steps)
 
 -- a test passed, and another
 pub and_also : {A B : Type 0} (a b : Bool) → a ≡ true → (IsTrue a ↔ A) → (IsTrue b ↔ B)

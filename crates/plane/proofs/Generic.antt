@@ -18,10 +18,6 @@ pub record Inside (a b c q : Vec3) : Type 0 where
   pub second : pos 0 <ℤ bracket b c q
   pub third : pos 0 <ℤ bracket c a q
 
--- of the triangle turned
-pub inside-turned : {a b c q : Vec3} → Inside a b c q → Inside b c a q
-inside-turned i = record { first = i.second; second = i.third; third = i.first }
-
 -- the first n differ
 abbrev pub AreDistinct : {X : Type 0} → ℕ → (ℕ → X) → Type 0
 AreDistinct n p = (i j : ℕ) → i < n → j < n → i ≢ j → ¬ (p i ≡ p j)

@@ -1,22 +1,19 @@
 -- What balance says of one pair of indexes: as many sides and outer edges go one way as the other.
-use Rattle.std.proofs.Common.{◌≡◌, ◌⊎◌, ◌↔◌, ℕ, List, [], refl, sym, ap, ◌∙◌, subst, arith}
-use mathlib.Core.Logic.{inl, inr, ◌≢◌}
+use Rattle.std.proofs.Common.{◌≡◌, ◌⊎◌, ℕ, List, [], refl, ap, ◌∙◌, subst, arith}
+use mathlib.Core.Logic.{inl, inr}
 use mathlib.Core.Bool.{Bool, true, false, ◌&&◌}
 use lib.Dec.{eqb, eqb_refl}
 use borrow.Author.Tests.{eqb-true}
-use Rattle.std.specs.Prelude.{ℤ, pos, ◌+ℤ◌, ◌-ℤ◌, ◌*ℤ◌, ◌≤ℤ◌, ◌<ℤ◌, neg_ℤ, Contains, AllPairs}
+use Rattle.std.specs.Prelude.{ℤ, pos, ◌+ℤ◌, ◌-ℤ◌, ◌≤ℤ◌, ◌<ℤ◌, neg_ℤ, Contains}
 use Rattle.std.proofs.lemmas.Int.{ints}
-use Rattle.std.proofs.lemmas.Bool.{cases_eq}
 use Rattle.plane.specs.Tiling.{Face, face}
 use Rattle.plane_tiling.specs.Local.{total, around, along, IsAntisymmetric, AreBalanced}
 use Rattle.plane.proofs.IntegerOrder.{lt_or_ge_ℤ}
-use Rattle.plane.proofs.Steps.{product_zero_left}
 use Rattle.plane_tiling.proofs.Totals.{Contains-none, total_agree, total-difference, total_at_least}
-use Rattle.plane_tiling.proofs.Totals.{total_nonneg, total_positive, total_single, total_exchanged}
-use Rattle.plane.proofs.Signs.{at_least_one_through, first_of_three_counts, one_is_above_zero}
+use Rattle.plane_tiling.proofs.Totals.{total_nonneg, total_positive}
+use Rattle.plane.proofs.Signs.{at_least_one_through, first_of_three_counts}
 use Rattle.plane.proofs.Signs.{second_of_three_counts, sum_of_three_not_negative}
 use Rattle.plane.proofs.Signs.{third_of_three_counts}
-use Rattle.plane.proofs.IntegerLaws.{one-*ℤ}
 pub use Rattle.plane.proofs.Crossings.{is_true}
 
 -- a truth value as a whole number: 1 where it holds, 0 where it fails
@@ -238,45 +235,3 @@ back_of_outer faces outer balanced u v s = back_from_count faces outer v u
     (plus_nonneg' (total (around (is_pair u v)) faces) (total (along (is_pair u v)) outer)
     (total_nonneg (around (is_pair u v)) faces (λ f _. around_nonneg u v f))
     (outer_counts outer u v s)) (as_many_back faces outer balanced u v))
-
--- ---- two lists of pairs with the same entries, each once
-is_pair_other : (u v s t : ℕ) → (s ≡ u → t ≡ v → ⊥) → is_pair u v s t ≡ pos 0
-is_pair_other u v s t n = elim (is_pair_is u v s t)
-    [ inl e ↦ e | inr e ↦ absurd (let f = pair_found u v s t (one_is_above_zero e) in n f.0 f.1) ]
-
-one_times : (b z : ℤ) → b ≡ pos 1 → b *ℤ z ≡ z
-one_times b z e = ap (λ t. t *ℤ z) e ∙ one-*ℤ z
-
--- f of y, where x is y
-abbrev only : (ℕ × ℕ → ℤ) → ℕ × ℕ → ℕ × ℕ → ℤ
-only f x y = is_pair x.0 x.1 y.0 y.1 *ℤ f y
-
-only_other : (f : ℕ × ℕ → ℤ) (x y : ℕ × ℕ) → (y ≡ x) ⊎ ((y ≢ x) × (only f x y ≡ pos 0))
-only_other f x y = go (cases_eq y.0 x.0) (cases_eq y.1 x.1)
-  where
-    apart : ¬ (y ≡ x) → (y.0 ≡ x.0 → y.1 ≡ x.1 → ⊥)
-        → (y ≡ x) ⊎ ((y ≢ x) × (is_pair x.0 x.1 y.0 y.1 *ℤ f y ≡ pos 0))
-    apart n k = inr (n, product_zero_left (f y) (is_pair_other x.0 x.1 y.0 y.1 k))
-
-    go : (y.0 ≡ x.0) ⊎ (y.0 ≡ x.0 → ⊥) → (y.1 ≡ x.1) ⊎ (y.1 ≡ x.1 → ⊥)
-        → (y ≡ x) ⊎ ((y ≢ x) × (is_pair x.0 x.1 y.0 y.1 *ℤ f y ≡ pos 0))
-    go (inl a) (inl b) = inl (λ i. (a i, b i))
-    go (inr a) b = apart (λ e. a (ap (λ o. o.0) e)) (λ e d. a e)
-    go (inl a) (inr b) = apart (λ e. b (ap (λ o. o.1) e)) (λ e d. b d)
-
-other_only : (f : ℕ × ℕ → ℤ) (x y : ℕ × ℕ) → (x ≡ y) ⊎ ((x ≢ y) × (only f x y ≡ pos 0))
-other_only f x y =
-    elim (only_other f x y) [ inl e ↦ inl (sym e) | inr e ↦ inr ((λ s. e.0 (sym s)), e.1) ]
-
--- two lists with the same entries, each once, have one total
-pub total_of_same_entries : (f : ℕ × ℕ → ℤ) (xs ys : List (ℕ × ℕ)) → AllPairs (λ d e. d ≢ e) xs
-    → AllPairs (λ d e. d ≢ e) ys → ((e : ℕ × ℕ) → Contains xs e ↔ Contains ys e)
-    → total f xs ≡ total f ys
-total_of_same_entries f xs ys once once' same =
-    total_agree f (λ x. total (only f x) ys) xs
-    (λ x h. sym (total_single (only f x) ys x (f x) ((same x).0 h) once' (one_times
-    (is_pair x.0 x.1 x.0 x.1) (f x) (is_pair_own x.0 x.1)) (λ y k. only_other f x y)))
-    ∙ total_exchanged (only f) xs ys
-    ∙ total_agree (λ y. total (λ x. only f x y) xs) f ys
-    (λ y h. total_single (λ x. only f x y) xs y (f y) ((same y).1 h) once
-    (one_times (is_pair y.0 y.1 y.0 y.1) (f y) (is_pair_own y.0 y.1)) (λ x k. other_only f x y))

@@ -7,7 +7,7 @@ pub mod Tiles
 pub mod Loops
 pub mod Edges
 pub mod Places
-pub mod OneFace
+pub mod Readings
 pub mod Line
 pub mod Appended
 pub mod LineMeshes

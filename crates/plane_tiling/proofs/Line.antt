@@ -77,12 +77,6 @@ not_above x y z a h k l (inl (inl b)) = let c = b.1 in omega (arith, ints)
 not_above x y z a h k l (inl (inr b)) = let c = b.1 in omega (arith, ints)
 not_above x y z a h k l (inr b) = let c = b.0 in omega (arith, ints)
 
--- nor below both
-not_below : (x y z a : ℤ) → a ≤ℤ x → a ≤ℤ y → z <ℤ a → IsBetween x y z ⊎ ((x ≡ z) × (z ≡ y)) → ⊥
-not_below x y z a h k l (inl (inl b)) = let c = b.0 in omega (arith, ints)
-not_below x y z a h k l (inl (inr b)) = let c = b.0 in omega (arith, ints)
-not_below x y z a h k l (inr b) = let c = b.0 in omega (arith, ints)
-
 module _ (n : ℕ) (p : ℕ → Point) (outer new : List (ℕ × ℕ)) (m : SignLine n p outer) where
   wider : {k : ℕ} → k < n → k < suc n
   wider h = omega arith

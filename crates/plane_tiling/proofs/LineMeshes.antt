@@ -169,9 +169,6 @@ joins_line points outer edges m own = record {
     }
 
 module _ (points : List Point) (q : Point) (old new : List (ℕ × ℕ)) (m : LineMesh points old) where
-  appended : ℕ → Point
-  appended = point_at (points ++ q ∷ [])
-
   own : SignLine (length points) (point_at (points ++ q ∷ [])) old
   own = same_line (length points) (point_at points) (point_at (points ++ q ∷ [])) old
       (kept_point points q) (line_by_signs points old m)

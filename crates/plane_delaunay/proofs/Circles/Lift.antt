@@ -16,10 +16,6 @@ use Rattle.plane.proofs.Circles as C
 pub use Rattle.plane.proofs.Circles.{heightᵖ, incircleᵖ as liftᵖ}
 use Rattle.plane_delaunay.proofs.Points.Bracket.{Syntax, bracket}
 
--- the squared length of (x, y), whatever the weight
-abbrev pub height : Fraction → ℤ
-height p = p.x *ℤ p.x +ℤ p.y *ℤ p.y
-
 -- how far the plane through the lifted corners a b c is above the lifted point d, times the bracket
 unfoldable pub lift : Fraction → Fraction → Fraction → Fraction → ℤ
 unfolding C.incircle

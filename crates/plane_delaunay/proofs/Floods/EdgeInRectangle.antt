@@ -357,9 +357,6 @@ module _ (lower upper : Point) (wide : lower.x ≤ℤ upper.x) (high : lower.y �
     below : lower.y ≤ℤ k.y
     above : k.y ≤ℤ upper.y
 
-  at : ℤ → ℤ → Fraction
-  at x y = whole (record { x = x; y = y })
-
   -- all of the rectangle is on one side of the line, as o sees it from g
   record OneSide (g o : Fraction) : Type 0 where
     sign : ℤ

@@ -1,17 +1,12 @@
--- At a vertex: a face whose closed cone holds the way to a point of the hull. At a directed side:
--- one face, and another across it where a vertex is there.
-use Rattle.std.proofs.Common.{◌≡◌, ℕ, suc, ◌+◌, arith, ap, sym, ◌∙◌, subst}
+-- At a vertex: a face whose closed cone holds the way to a point of the hull.
+use Rattle.std.proofs.Common.{◌≡◌, ℕ, ap, sym, ◌∙◌, subst}
 use mathlib.Core.Logic.{◌⊎◌, inl, inr}
 use Rattle.std.specs.Prelude.{◌≢◌, pos, ◌<ℤ◌, ◌≤ℤ◌, map}
-use Rattle.plane.proofs.Steps.{weak, left_not_zero}
+use Rattle.plane.proofs.Steps.{left_not_zero}
 use Rattle.plane.proofs.Sides.{not_right_if}
 use Rattle.plane_delaunay.proofs.Points.Bracket.{bracket, bracket-first, bracket-second}
-use Rattle.plane_delaunay.proofs.Points.Nudges.{Inside, size, nudge, nudge-above, nudge-least}
-use Rattle.plane_delaunay.proofs.Points.Nudges.{nudge-on}
-use Rattle.plane_delaunay.proofs.Tilings.Faces.{Tiling, Between, between-on, between-second}
-use Rattle.plane_delaunay.proofs.Tilings.Faces.{between-third, middle, middle-inside, Germ}
-use Rattle.plane_delaunay.proofs.Tilings.Faces.{StartsFrom, germ, germ-turned, germ-closed}
-use Rattle.plane_delaunay.proofs.Tilings.Beyond.{halfway, between-halfway}
+use Rattle.plane_delaunay.proofs.Tilings.Faces.{Tiling, Germ, StartsFrom}
+use Rattle.plane_delaunay.proofs.Tilings.Faces.{germ, germ-turned, germ-closed}
 use Rattle.plane_delaunay.proofs.Tilings.Ground.{tiling}
 use Rattle.plane.specs.Fraction.{Fraction, whole, InHull}
 use Rattle.plane.specs.Side.{side, right}
@@ -63,54 +58,6 @@ module _ (T : Tiling) where
               at_corner v z j k i (T.turned i j k f) (germ-turned T (at v) z i j k g) e
           pick (inr (inr e)) = at_corner v z k i j (T.turned j k i (T.turned i j k f))
               (germ-turned T (at v) z j k i (germ-turned T (at v) z i j k g)) e
-
-  -- halfway along a side and a little to the left: strictly inside each face there
-  beside : (a b c d : ℕ) → IsFace a b c → IsFace a b d
-      → (x : Fraction) × Inside (at a) (at b) (at c) x × Inside (at a) (at b) (at d) x
-  beside a b c d f g = (
-    nudge n h m,
-    inside c (T.turns a b c f)
-        (λ u v i k. nudge-least u v n h m (weak i) k) i.second i.third,
-    far,
-  )
-    where
-      h : Fraction
-      h = halfway (at a) (at b)
-
-      m : Fraction
-      m = middle (at a) (at b) (at c)
-
-      n : ℕ
-      n = suc (size (bracket (at b) (at d) m) + size (bracket (at d) (at a) m))
-
-      between : Between (at a) (at b) h
-      between = between-halfway (at a) (at b)
-
-      i : Inside (at a) (at b) (at c) m
-      i = middle-inside (at a) (at b) (at c) (T.turns a b c f)
-
-      first : pos 0 <ℤ bracket (at a) (at b) (nudge n h m)
-      first = subst (λ t. pos 0 <ℤ t)
-          (sym (nudge-on (at a) (at b) n h m (between-on (at a) (at b) h between))) i.first
-
-      inside : (e : ℕ) → pos 0 <ℤ bracket (at a) (at b) (at e) → ((u v : Fraction)
-          → pos 0 <ℤ bracket u v h → pos 0 <ℤ bracket u v m → pos 0 <ℤ bracket u v (nudge n h m))
-          → pos 0 <ℤ bracket (at b) (at e) m → pos 0 <ℤ bracket (at e) (at a) m
-          → Inside (at a) (at b) (at e) (nudge n h m)
-      inside e t move p q = record {
-        first = first;
-        second = move (at b) (at e) (between-second (at a) (at b) (at e) h between t) p;
-        third = move (at e) (at a) (between-third (at a) (at b) (at e) h between t) q;
-      }
-
-      far : Inside (at a) (at b) (at d) (nudge n h m)
-      far = record {
-        first = first;
-        second = nudge-above (at b) (at d) n h m
-            (between-second (at a) (at b) (at d) h between (T.turns a b d g)) (omega arith);
-        third = nudge-above (at d) (at a) n h m
-            (between-third (at a) (at b) (at d) h between (T.turns a b d g)) (omega arith);
-      }
 
 -- ---- in the definitions' words
 module _ (t : Triangulation) (h : TilesHull t) where

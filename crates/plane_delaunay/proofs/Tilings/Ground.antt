@@ -143,9 +143,6 @@ module _ (t : Triangulation) (h : TilesHull t) where
   listing i j k (inr (inr c)) =
       record { f = face k i j; is_listed = c; is_turned = inr (inl (refl, refl, refl)) }
 
-  Inner : ℕ → ℕ → ℕ → Fraction → Type 0
-  Inner i j k p = Inside (vertex t i) (vertex t j) (vertex t k) p
-
   untwisted : (a b c i j k : ℕ) (p : Fraction) → IsTurned a b c i j k
       → Inside (vertex t i) (vertex t j) (vertex t k) p
       → Inside (vertex t a) (vertex t b) (vertex t c) p

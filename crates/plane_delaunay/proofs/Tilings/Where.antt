@@ -51,10 +51,6 @@ sum_least d x p a q b r c h e hp ha hq hb hr hc = nonneg_of_mul-nonneg_ℤ {k = 
 module _ (T : Tiling) where
   open T use {at, IsVertex, IsFace, InHull}
 
-  -- the pair is a side of a face
-  pub HasSide : ℕ → ℕ → Type 0
-  HasSide i j = (k : ℕ) × IsFace i j k
-
   -- a b c is a face, nothing is across a b, and p is beyond it
   pub record IsBeyond (p : Fraction) : Type 0 where
     pub a : ℕ

@@ -59,9 +59,6 @@ two_none : (s d e g : ℤ) → s ≡ d -ℤ e +ℤ g → e ≡ pos 0 → g ≡ p
 two_none s d e g h k l = omega (arith, ints)
 
 -- ---- the two ways of each pair cancel out
-swapped : ℕ × ℕ → ℕ × ℕ
-swapped e = (e.1, e.0)
-
 all_swapped : List (ℕ × ℕ) → List (ℕ × ℕ)
 all_swapped [] = []
 all_swapped (e ∷ es) = (e.1, e.0) ∷ all_swapped es
@@ -128,9 +125,6 @@ module _ (n : ℕ) (p : ℕ → Point) (outer now : List (ℕ × ℕ)) (new : Li
 
   apart : ¬ (p u ≡ p v)
   apart = m.distinct u v first.first first.second first.apart
-
-  turn : ℤ
-  turn = bracket (at p u) (at p v) (at p n)
 
   on : AreOnLine n p (p u) (p v)
   on k h = m.straight u v k first.first first.second h

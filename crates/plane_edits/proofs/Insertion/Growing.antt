@@ -166,9 +166,6 @@ module _ (points : List Point) (faces new : List Face) (outer now : List (ℕ ×
   not_n : (k : ℕ) → k < length points → k ≢ length points
   not_n k h e = omega arith
 
-  path : List ℕ
-  path = g.second ∷ g.rest
-
   -- an edge that sees the new vertex is an old one, and not of the path
   old_of_now : (s r : ℕ) → Contains now (s, r) → s ≢ length points → r ≢ length points
       → Contains outer (s, r) × ¬ Contains (steps u (g.second ∷ g.rest)) (s, r)
@@ -194,9 +191,6 @@ module _ (points : List Point) (faces new : List Face) (outer now : List (ℕ ×
       OuterChange now less ((length points, w) ∷ (w, x) ∷ []) ((length points, x) ∷ [])) where
     next_old : Contains outer (w, x) × ¬ Contains (steps u (g.second ∷ g.rest)) (w, x)
     next_old = old_of_now w x next (not_n w last_index) (not_to_last points q w x sees)
-
-    longer : List ℕ
-    longer = g.rest ++ x ∷ []
 
     longer_steps : steps u (g.second ∷ (g.rest ++ x ∷ [])) ≡ steps u (g.second ∷ g.rest)
         ++ (w, x) ∷ []

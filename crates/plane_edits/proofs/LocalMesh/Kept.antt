@@ -14,7 +14,7 @@ use Rattle.plane_tiling.proofs.Counting.{at, SignMesh}
 use Rattle.plane_tiling.proofs.Covering as C
 use Rattle.plane_tiling.proofs.Tiles.{point_at, by_signs, inside_signs, in_signs, signs_in}
 use Rattle.plane_tiling.proofs.Appended.{length_appended, kept_point, last_point}
-use Rattle.plane_tiling.proofs.OneFace.{by_words, same_points}
+use Rattle.plane_tiling.proofs.Readings.{by_words, same_points}
 use Rattle.plane_edits.specs.Change.{IsFaceOf, OuterChange}
 use Rattle.plane_edits.specs.Laws.{InsertionInsideKeeps, InsertionWithinSideKeeps}
 use Rattle.plane_edits.specs.Laws.{InsertionWithinOuterKeeps, FlipKeeps, FlipCovers}

@@ -15,8 +15,8 @@ use Rattle.plane.proofs.IntegerOrder.{zero_of_mul-zero_ℤ, zero-mul_ℤ, mul_ca
 use Rattle.plane.proofs.Steps.{weak, zero_or_left, right_not_zero, product_zero_left, left_not_zero}
 use Rattle.plane.proofs.Steps.{no_difference, right_not_above, weak_right, zero_weak}
 use Rattle.plane.proofs.Steps.{zero_weak_left}
-use Rattle.plane.proofs.Solver.{Poly, ◌⊕◌, ◌⊖◌, ◌⊗◌, ⊝, ring_in, ring_in_from, ring_over}
-use Rattle.plane.proofs.Bracket.{Pointᵖ, points as points_shape}
+use Rattle.plane.proofs.Solver.{◌⊕◌, ◌⊖◌, ◌⊗◌, ⊝, ring_in, ring_in_from, ring_over}
+use Rattle.plane.proofs.Bracket.{points as points_shape}
 use Rattle.plane_edits.specs.Legal.{point_of}
 use Rattle.plane_segments.proofs.Crossing.Turns.{turnᵖ, turn-same}
 use Rattle.plane_segments.specs.Measure.{comes_before, is_right, one_if, rank_below}
@@ -265,9 +265,6 @@ rank_falls points i j w k h hk hw b =
         points k) w (less_by_test (turn_at i j (point_of points m)) (pos 0) r) hk hw c b))
 
 -- ---- two points of one ray at one distance
-abbrev squaredᵖ : Pointᵖ → Pointᵖ → Poly
-squaredᵖ q p = (p.x ⊖ q.x) ⊗ (p.x ⊖ q.x) ⊕ (p.y ⊖ q.y) ⊗ (p.y ⊖ q.y)
-
 ray_x : (i j v z : Point)
     → turn_at i j z *ℤ (v.x -ℤ i.x) -ℤ turn_at i j v *ℤ (z.x -ℤ i.x) ≡ turn_at i v z *ℤ (j.x -ℤ i.x)
 ray_x i j v z = ring_over points_shape [] (i ∷ j ∷ v ∷ z ∷ []) (λ i j v z. turnᵖ i j z ⊗ (v.x ⊖ i.x)

@@ -78,11 +78,6 @@ other_below n k l x a b e z hk hl hb = go (lt_or_ge_ℤ a (pos 0))
     go (inl h) = h
     go (inr h) = absurd (high h)
 
-other_none : (n k l x a b : ℤ) → n *ℤ x ≡ k *ℤ a +ℤ l *ℤ b → x ≡ pos 0 → pos 0 <ℤ k
-    → b ≡ pos 0 → a ≡ pos 0
-other_none n k l x a b e z hk d = zero_of_mul-zero_ℤ {k = k} {x = a} (pos-ne-zero_ℤ hk)
-    (let m = zero-mul_ℤ l d in let y = zero-mul_ℤ n z in omega (arith, ints))
-
 other_above : (n k l x a b : ℤ) → n *ℤ x ≡ k *ℤ a +ℤ l *ℤ b → x ≡ pos 0 → pos 0 <ℤ k → pos 0 <ℤ l
     → b <ℤ pos 0 → pos 0 <ℤ a
 other_above n k l x a b e z hk hl hb =

@@ -67,9 +67,6 @@ module _ (p q : Fraction) (apart : ¬ IsSame p q) where
           absurd (same_not_nearer p y' y (same-sym y y' e) (nearer_through y' x y hy' hx hy n h))
 
 module _ (t : Triangulation) (p q : Fraction) (apart : ¬ IsSame p q) where
-  Order : Item → Item → Fraction → Fraction → Type 0
-  Order m n x y = IsNearer p x y ⊎ (IsSame x y × IsVertexThenOverlap m n)
-
   vertex_or_overlap : (m n : Item) → IsVertexThenOverlap m n → ¬ IsVertexThenOverlap n m
   vertex_or_overlap (L.at_vertex i) (L.along j k) w v = v
   vertex_or_overlap (L.at_vertex i) (L.at_vertex j) w v = w

@@ -34,14 +34,6 @@ use Rattle.plane_segments.proofs.Items.Begins.{before_crossing, bare_inside}
 use Rattle.plane.proofs.Signs.{negated_not_negative, opposite_of_positive, opposite_of_negative}
 use Rattle.plane.proofs.Signs.{opposite_of_not_positive}
 
--- ends on two sides of a line differ
-pub ends_apart : (p q a b : Fraction) → pos 0 <ℤ bracket p q a → bracket p q b <ℤ pos 0
-    → ¬ IsSame a b
-ends_apart p q a b l r e = both (above-same p q a b e l) r
-  where
-    both : pos 0 <ℤ bracket p q b → bracket p q b <ℤ pos 0 → ⊥
-    both h k = omega (arith, ints, h, k)
-
 -- ---- the triangle a b d, and z on the line p q, which parts a and b: 0 = second A + third B +
 -- first D
 -- where d is not right of the line
