@@ -5,7 +5,7 @@ use delaunay_legalization::{
 };
 
 /// An edge's data, as a constraint or as none.
-fn edge(is_constraint: bool, data: u32) -> CdtEdge<u32> {
+pub fn edge(is_constraint: bool, data: u32) -> CdtEdge<u32> {
     let mut edge = free_edge_data(data);
     if is_constraint {
         EdgeConstraints::make_constraint(&mut edge);
@@ -53,13 +53,5 @@ pub fn markers() -> [[bool; 2]; 2] {
             NoConstraints::is_constraint_edge(&constraint),
             NoConstraints::is_constraint_edge(&other),
         ],
-    ]
-}
-
-/// Whether the flag comes before the data in the order, and the data after it.
-pub fn order() -> [bool; 2] {
-    [
-        edge(false, 9) < edge(true, 0),
-        edge(false, 0) < edge(false, 1),
     ]
 }

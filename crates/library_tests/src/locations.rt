@@ -4,7 +4,7 @@ ghost use Rattle.spade_delaunay.specs.Elements.{HasElement};
 use crate::points::{Points, Refusal, is_elsewhere};
 use crate::tagged_vertex::TaggedVertex;
 use exact_tests::ExactTests;
-use spade_delaunay::handles::{FixedDirectedEdgeHandle, FixedFaceHandle, FixedVertexHandle};
+use spade_delaunay::handles::FixedVertexHandle;
 use spade_delaunay::{Point2, PositionInTriangulation, Triangulation, validate_vertex};
 use test_points::{corners_of, ends_of};
 
@@ -50,17 +50,6 @@ pub fn place_at<T: Triangulation<Vertex = TaggedVertex>>(
         return Err(Refusal::NotListed);
     }
     Ok(place_of_answer(points, points.locate(point, &ExactTests)))
-}
-
-/// Each kind of answer, with another index in each.
-pub fn each_answer() -> [PositionInTriangulation; 5] {
-    [
-        PositionInTriangulation::OnVertex(FixedVertexHandle::from_index(0)),
-        PositionInTriangulation::OnEdge(FixedDirectedEdgeHandle::from_index(1)),
-        PositionInTriangulation::OnFace(FixedFaceHandle::from_index(2)),
-        PositionInTriangulation::OutsideOfConvexHull(FixedDirectedEdgeHandle::from_index(3)),
-        PositionInTriangulation::NoTriangulation,
-    ]
 }
 
 /// Where a point of the rows is, as it is answered.

@@ -2,6 +2,7 @@
 //! what its call gives. Lines that start with `#` are printed as they are.
 #![tactic(auto)]
 
+mod comparisons;
 mod constrained;
 mod constraint_edges;
 mod elements;

@@ -1,11 +1,12 @@
 //! A line of the script: the name of a call and up to four numbers, and what the call gives.
 
+use crate::comparisons::{compare_answers, compare_edges, each_answer};
 use crate::constrained::{all_counts, constrain, is_constraint, listed, position_at};
-use crate::constraint_edges::{free_and_fixed, made_and_unmade, markers, order, written};
+use crate::constraint_edges::{free_and_fixed, made_and_unmade, markers, written};
 use crate::elements::{print_edges, print_faces, print_vertices};
 use crate::given_hints::found_from_all;
 use crate::hints;
-use crate::locations::{each_answer, locate, locate_vertex, nearest, place_at};
+use crate::locations::{locate, locate_vertex, nearest, place_at};
 use crate::points::{
     ConstrainedPoints, Points, clear, empty, insert, insert_from, insert_out_of_range, remove,
     remove_at, replace,
@@ -173,7 +174,8 @@ fn answer_beside(
         "answers_shown" => call.tell(rt, &each_answer()),
         "edges_written" => call.tell(rt, &written()),
         "markers" => call.tell(rt, &markers()),
-        "edges_ordered" => call.tell(rt, &order()),
+        "compare_edges" => call.tell(rt, &compare_edges((x != 0, to), (c != 0, index(d)))),
+        "compare_answers" => call.tell(rt, &compare_answers((x, to), (c, index(d)))),
         "initialize_from_triangulation" => call.tell(rt, &hints::initialized(rt.alloc())),
         _ => answer_hints(rt, &mut session.generator, call),
     }
