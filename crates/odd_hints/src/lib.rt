@@ -1,5 +1,5 @@
-//! Hint generators whose answers help no search, for tests: no answer of a triangulation depends on
-//! them.
+//! Hint generators for tests, whose answers help no search or come from several others in turn: no
+//! answer of a triangulation depends on them.
 #![tactic(auto)]
 
 ghost use Rattle.std.specs.Prelude.{◌≡◌, Some};
@@ -8,6 +8,9 @@ ghost use Rattle.plane.specs.Hint.{IsAtMostWith, IsAtMostWithout};
 ghost use Rattle.delaunay_core.specs.Held.{place_if};
 ghost use Rattle.delaunay_core.specs.Place.{place_of};
 
+mod alternating;
+
+pub use alternating::{Alternating, MixedWithOdd};
 use delaunay_core::HintGenerator;
 use delaunay_core::math::PlaneTests;
 use delaunay_core::point::{Point2, SpadeNum};

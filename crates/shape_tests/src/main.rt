@@ -1,8 +1,8 @@
 //! Runs a script of shape queries of triangulations, and prints each line with what its call gives:
 //! `None` where a point is out of range, a squared radius is negative, or memory was refused. All
-//! calls are made with hierarchies of hints too, by 0, 1, 2, 3 and 16, and with hints that help no
-//! search, and `hints_agree` tells how many have given the same with all. Lines that start with `#`
-//! are printed as they are.
+//! calls are made with mixed hints too, in turn from hierarchies by 0, 1, 2, 3 and 16 and from
+//! generators that help no search, and `hints_agree` tells how many have given the same. Lines that
+//! start with `#` are printed as they are.
 #![tactic(auto)]
 
 mod comparisons;
@@ -11,31 +11,24 @@ mod script;
 mod session;
 mod shapes;
 
-use odd_hints::{Always1000, EachInTurn};
+use odd_hints::MixedWithOdd;
 use session::Session;
 use spade_delaunay::{
-    HierarchyHintGeneratorWithBranchFactor as Hierarchy, HintGenerator, LastUsedVertexHintGenerator,
+    HierarchyHintGeneratorWithBranchFactor as Hierarchy, LastUsedVertexHintGenerator,
 };
-use std::alloc::Global;
 use std::io;
 use test_script::{Twice, run};
 
-// Two sessions, with hints of either type.
-fn both<A: HintGenerator<i64>, B: HintGenerator<i64>>(
-    alloc: Global,
-) -> Twice<Session<A>, Session<B>> {
-    Twice::new(Session::new(alloc), Session::new(alloc))
-}
+type Mixed = MixedWithOdd<
+    Hierarchy<i64, 0>,
+    Hierarchy<i64, 1>,
+    Hierarchy<i64, 2>,
+    Hierarchy<i64, 3>,
+    Hierarchy<i64, 16>,
+>;
 
 fn main(rt: HostRuntime) -> io::Result<()> {
-    let alloc = rt.alloc();
-    let first = Twice::new(
-        both::<LastUsedVertexHintGenerator, Hierarchy<i64, 0>>(alloc),
-        both::<Hierarchy<i64, 1>, Hierarchy<i64, 2>>(alloc),
-    );
-    let second = Twice::new(
-        both::<Hierarchy<i64, 3>, Hierarchy<i64, 16>>(alloc),
-        both::<EachInTurn, Always1000>(alloc),
-    );
+    let first: Session<LastUsedVertexHintGenerator> = Session::new(rt.alloc());
+    let second: Session<Mixed> = Session::new(rt.alloc());
     run(&rt, &mut Twice::new(first, second))
 }

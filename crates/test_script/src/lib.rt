@@ -89,11 +89,6 @@ impl<'a> Call<'a> {
 pub trait Answers {
     /// Makes the call that a line asks for, and prints what it gives.
     fn answer(&mut self, rt: &(impl Print + AllocGlobal), call: &Call<'_>) -> io::Result<()>;
-
-    /// Whether all sessions within it have printed the same at each call.
-    fn has_agreed(&self) -> bool {
-        true
-    }
 }
 
 /// Runs the script that standard input has.

@@ -1,0 +1,7 @@
+-- What two hint generators hold together.
+use Rattle.std.specs.Prelude.{◌⊎◌}
+use Rattle.plane.specs.Fraction.{Point}
+
+-- one of the two sets has the position
+abbrev pub IsInEither : (Point → Type 0) → (Point → Type 0) → Point → Type 0
+IsInEither first second p = first p ⊎ second p
