@@ -1,7 +1,7 @@
 //! Runs a script of insertions, and of edits of constraints, and prints each line with what its
 //! call gives. All calls are made with mixed hints too, in turn from hierarchies by 0, 1, 2, 3 and
-//! 16 and from generators that help no search, and `hints_agree` tells how many have given the same.
-//! Lines that start with `#` are printed as they are.
+//! 16 and from indexes 0 to 20, and `hints_agree` tells how many have given the same. Lines that
+//! start with `#` are printed as they are.
 #![tactic(auto)]
 
 mod chains;

@@ -1,10 +1,10 @@
 //! Runs a script of segments over triangulations, and prints each line with what the segment meets.
 //! `agree` compares the walks between all points of the last `sheet` with a filter over all
 //! vertices and edges, and `conflicts_agree` the constraints that they cross. All calls are made
-//! with mixed hints too, in turn from hierarchies by 0, 1, 2, 3 and 16 and from generators that help
-//! no search, and `hints_agree` tells how many have given the same. From a position to itself within
-//! an edge either direction of the edge may stand, so such calls come after that where they differ.
-//! Lines that start with `#` are printed as they are.
+//! with mixed hints too, in turn from hierarchies by 0, 1, 2, 3 and 16 and from indexes 0 to 20, and
+//! `hints_agree` tells how many have given the same. From a position to itself within an edge either
+//! direction of the edge may stand, so such calls come after that where they differ. Lines that
+//! start with `#` are printed as they are.
 #![tactic(auto)]
 
 mod conflicts;

@@ -6,7 +6,7 @@ ghost use Rattle.delaunay_core.specs.Held.{place_if};
 ghost use Rattle.delaunay_core.specs.Place.{place_of};
 ghost use Rattle.odd_hints.specs.Unions.{IsInEither};
 
-use crate::{Always1000, EachInTurn};
+use crate::EachInTurn;
 use delaunay_core::HintGenerator;
 use delaunay_core::math::PlaneTests;
 use delaunay_core::point::{Point2, SpadeNum};
@@ -22,11 +22,11 @@ pub struct Alternating<A: Drop, B: Drop> {
     is_second_next: Cell<bool>,
 }
 
-/// Tells five generators of each vertex, and asks in turn them and those that help no search, the
-/// fifth twice as often as each other.
+/// Tells five generators of each vertex, and asks in turn them and one that answers 0 to 20 in turn;
+/// that one and the fifth twice as often as each other.
 pub type MixedWithOdd<A, B, C, D, E> = Alternating<
     Alternating<Alternating<A, B>, Alternating<C, D>>,
-    Alternating<E, Alternating<EachInTurn, Always1000>>,
+    Alternating<E, EachInTurn>,
 >;
 
 impl<S: SpadeNum, A: HintGenerator<S>, B: HintGenerator<S>> HintGenerator<S> for Alternating<A, B> {

@@ -1,8 +1,8 @@
 //! Runs a script of shape queries of triangulations, and prints each line with what its call gives:
 //! `None` where a point is out of range, a squared radius is negative, or memory was refused. All
 //! calls are made with mixed hints too, in turn from hierarchies by 0, 1, 2, 3 and 16 and from
-//! generators that help no search, and `hints_agree` tells how many have given the same. Lines that
-//! start with `#` are printed as they are.
+//! indexes 0 to 20, and `hints_agree` tells how many have given the same. Lines that start with `#`
+//! are printed as they are.
 #![tactic(auto)]
 
 mod comparisons;
