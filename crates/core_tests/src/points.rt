@@ -57,9 +57,14 @@ pub fn convert(coordinates: Coordinates) -> ([i64; 2], Coordinates, [Point2<i64>
     )
 }
 
-/// Whether a projection is before its edge, on it and behind it, and where it falls, for an edge
-/// with a length.
-type Projected = (PointProjection<i64>, [bool; 3], Option<(i64, i64)>);
+/// A projection and its two numbers, whether it is before its edge, on it and behind it, and where
+/// it falls, for an edge with a length.
+type Projected = (
+    PointProjection<i64>,
+    [i64; 2],
+    [bool; 3],
+    Option<(i64, i64)>,
+);
 
 fn projected(projection: PointProjection<i64>, position: Option<(i64, i64)>) -> Projected {
     let places = [
@@ -67,7 +72,12 @@ fn projected(projection: PointProjection<i64>, position: Option<(i64, i64)>) -> 
         projection.is_on_edge(),
         projection.is_behind_edge(),
     ];
-    (projection, places, position)
+    (
+        projection,
+        [projection.factor(), projection.length_2()],
+        places,
+        position,
+    )
 }
 
 fn relative_positions(

@@ -83,6 +83,20 @@ fn product(a: i64, b: i64) -> i64
 }
 
 impl<S> PointProjection<S> {
+    /// The dot product of the ways from the start of the edge to its end and to the point.
+    pub fn factor(&self) -> i64
+        ensures { result ≡ self.now.factor }
+    {
+        self.factor
+    }
+
+    /// The squared length of the edge.
+    pub fn length_2(&self) -> i64
+        ensures { result ≡ self.now.length_2 }
+    {
+        self.length_2
+    }
+
     /// Whether the point falls before the start of the edge.
     pub fn is_before_edge(&self) -> bool
         ensures { IsTrue result ↔ (self.now.factor <ℤ pos 0) }
