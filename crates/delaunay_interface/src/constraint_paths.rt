@@ -20,8 +20,8 @@ impl<V: HasPosition, DE, UE, F, L: HintGenerator<V::Scalar>> ConstrainedDelaunay
     F,
     L,
 > {
-    /// Whether no constraint has one point in common with the segment between two vertices that is
-    /// strictly within both.
+    /// Whether no constraint has one point in common with the segment between two vertices of the
+    /// triangulation that is strictly within both. It takes no memory.
     pub fn can_add_constraint<P: PlaneTests<V::Scalar>>(
         &self,
         from: FixedVertexHandle,
@@ -37,7 +37,7 @@ impl<V: HasPosition, DE, UE, F, L: HintGenerator<V::Scalar>> ConstrainedDelaunay
     }
 
     /// Makes constraints of the edges between neighbours among the vertices on the segment between
-    /// two, which no constraint crosses; of a vertex and itself it makes none. Edges may be
+    /// two of the triangulation, which no constraint crosses; of a vertex and itself it makes none. Edges may be
     /// flipped, and all data but the marks of the new constraints stay, each under its handle. It
     /// tells whether that made a constraint of an edge that was none, and gives `AllocError` where
     /// memory was refused; then nothing changes, and so where it made none.
@@ -57,8 +57,8 @@ impl<V: HasPosition, DE, UE, F, L: HintGenerator<V::Scalar>> ConstrainedDelaunay
         self.edited.add_constraint(from, to, tests)
     }
 
-    /// Does what `add_constraint` does and gives the edges of the path, in order, as they are after
-    /// the last flip. Where a constraint crosses the segment, or where the two vertices are one, it
+    /// Does what `add_constraint` does and gives the edges of the path, each directed along it, in
+    /// order from `from` to `to`, as they are after the last flip. Where a constraint crosses the segment, or where the two vertices are one, it
     /// gives no edge and changes nothing, and takes no memory. It gives `AllocError` where memory
     /// was refused, and then nothing changes either.
     ///
@@ -86,7 +86,8 @@ impl<V: HasPosition, DE, UE, F, L: HintGenerator<V::Scalar>> ConstrainedDelaunay
         self.edited.try_add_constraint(from, to, tests)
     }
 
-    /// Takes from an edge that it is a constraint, and tells whether it was one: where it was none,
+    /// Takes from an edge of the triangulation that it is a constraint, and tells whether it was one.
+    /// The edges beside it may be flipped, and then it may itself be gone. Where it was none,
     /// nothing changes, and no memory is taken. An edge or face that is there before and after
     /// keeps its handle and its data. It gives `AllocError` where memory was refused, and then
     /// nothing changes.

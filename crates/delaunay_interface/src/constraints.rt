@@ -24,7 +24,7 @@ impl<V: HasPosition, DE, UE, F, L: HintGenerator<V::Scalar>> ConstrainedDelaunay
     F,
     L,
 > {
-    /// Whether an edge is a constraint.
+    /// Whether an edge of the triangulation is a constraint.
     pub fn is_constraint_edge(&self, edge: FixedUndirectedEdgeHandle) -> bool
         requires { edge < length self.now.undirected }
         ensures marked { IsTrue result ↔ Contains (constraint_edges self.now.undirected) edge }
@@ -42,7 +42,8 @@ impl<V: HasPosition, DE, UE, F, L: HintGenerator<V::Scalar>> ConstrainedDelaunay
         self.edited.num_constraints()
     }
 
-    /// Whether a constraint joins two vertices, in either order, by a look round the first.
+    /// Whether a constraint joins two vertices, in either order, by a look round the first. A handle
+    /// of no vertex is joined to none.
     pub fn exists_constraint(&self, from: FixedVertexHandle, to: FixedVertexHandle) -> bool
         ensures { IsTrue result ↔ Joins (constraints_of self.now) from to }
     {

@@ -7,7 +7,8 @@ use half_edge_mesh::{
     VertexHandle,
 };
 
-/// The edges with a point in a shape, of which some are left.
+/// The edges with a point in a shape, of which some are left: each once, in no promised order.
+/// `next` takes no memory, and goes on giving `None` after the last.
 ///
 /// ```
 /// for edge in points.get_edges_in_rectangle(lower, upper, &ExactTests, rt.alloc())? {
@@ -41,7 +42,8 @@ impl<'a, V, DE, UE, F> Iterator for EdgesInShapeIterator<'a, V, DE, UE, F> {
     }
 }
 
-/// The vertices in a shape, of which some are left.
+/// The vertices in a shape, of which some are left: each once, in no promised order. `next` takes
+/// no memory, and goes on giving `None` after the last.
 ///
 /// ```
 /// for vertex in points.get_vertices_in_circle(center, 25, &ExactTests, rt.alloc())? {

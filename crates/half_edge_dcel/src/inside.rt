@@ -39,7 +39,8 @@ impl<V, DE, UE, F> Dcel<V, DE, UE, F> {
 }
 
 impl<V, DE: Default, UE: Default, F: Default> Dcel<V, DE, UE, F> {
-    /// Makes three faces of an inner one, each of one of its edges and a new last vertex.
+    /// Makes three faces of an inner one, each of one of its edges and a new last vertex. There is
+    /// room for the vertex, three more edges and two more faces: `reserve_capacity` makes it.
     pub fn insert_into_triangle(&mut self, value: V, triangle: FixedFaceHandle) -> FixedVertexHandle
         requires inner { 0 < triangle }
         requires within { triangle ≤ length self.old.faces }
@@ -67,7 +68,7 @@ impl<V, DE: Default, UE: Default, F: Default> Dcel<V, DE, UE, F> {
 
     /// Splits an edge between two inner faces at a new last vertex, which is joined to the two
     /// opposite corners. Gives the vertex and both parts, directed as `edge`, the first of which
-    /// keeps the data of `edge`.
+    /// keeps the data of `edge`. There is room for the vertex, three more edges and two more faces.
     pub fn split_edge(
         &mut self,
         edge: FixedDirectedEdgeHandle,

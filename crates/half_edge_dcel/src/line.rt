@@ -13,7 +13,7 @@ use crate::growth::{push_defaults, split_handles};
 use half_edge_handles::{FixedDirectedEdgeHandle, FixedVertexHandle};
 
 impl<V, DE, UE, F> Dcel<V, DE, UE, F> {
-    /// A new last vertex without edges.
+    /// A new last vertex without edges, for which there is room.
     pub fn append_unconnected_vertex(&mut self, value: V) -> FixedVertexHandle
         requires room { HasRoom self.old 1 0 0 }
         ensures vertex { result ≡ length self.old.vertices }
@@ -28,7 +28,7 @@ impl<V, DE, UE, F> Dcel<V, DE, UE, F> {
 }
 
 impl<V, DE: Default, UE: Default, F> Dcel<V, DE, UE, F> {
-    /// Makes the first edge, which joins vertices `a` and `b`.
+    /// Makes the first edge, for which there is room. It joins vertices `a` and `b`.
     pub fn setup_initial_two_vertices(&mut self, a: FixedVertexHandle, b: FixedVertexHandle)
         requires no_edges { length self.old.undirected ≡ 0 }
         requires a_within { a < length self.old.vertices }
@@ -46,7 +46,8 @@ impl<V, DE: Default, UE: Default, F> Dcel<V, DE, UE, F> {
         push_defaults(&mut self.undirected, 1);
     }
 
-    /// Puts an edge from vertex `end` of a line of vertices to a new last vertex.
+    /// Puts an edge from vertex `end` of a line of vertices to a new last vertex. There is room for
+    /// both.
     pub fn extend_line(&mut self, end: FixedVertexHandle, value: V) -> FixedVertexHandle
         requires one_face { length self.old.faces ≡ 0 }
         requires within { end < length self.old.vertices }
@@ -69,7 +70,8 @@ impl<V, DE: Default, UE: Default, F> Dcel<V, DE, UE, F> {
     }
 
     /// Splits an edge of a line of vertices at a new last vertex. Gives the vertex and both parts,
-    /// directed as `edge`, the first of which keeps the data of `edge`.
+    /// directed as `edge`, the first of which keeps the data of `edge`. There is room for the vertex
+    /// and one more edge.
     pub fn split_edge_when_all_vertices_on_line(
         &mut self,
         edge: FixedDirectedEdgeHandle,

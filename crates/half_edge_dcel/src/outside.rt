@@ -14,7 +14,8 @@ use crate::growth::{move_item, move_two_items, push_defaults, split_handles};
 use half_edge_handles::{FixedDirectedEdgeHandle, FixedVertexHandle};
 
 impl<V, DE: Default, UE: Default, F: Default> Dcel<V, DE, UE, F> {
-    /// Makes a face of an outer edge and a new last vertex, with two new edges.
+    /// Makes a face of an outer edge and a new last vertex, with two new edges. There is room for
+    /// all of them.
     pub fn create_new_face_adjacent_to_edge(
         &mut self,
         edge: FixedDirectedEdgeHandle,
@@ -42,7 +43,8 @@ impl<V, DE: Default, UE: Default, F: Default> Dcel<V, DE, UE, F> {
     }
 
     /// Makes a face of an outer edge, the one after it and a new edge. Gives the new outer edge,
-    /// from the start of `edge` to the end of the one after it.
+    /// from the start of `edge` to the end of the one after it. There is room for the edge and the
+    /// face.
     pub fn create_single_face_between_edge_and_next(
         &mut self,
         edge: FixedDirectedEdgeHandle,
@@ -70,7 +72,8 @@ impl<V, DE: Default, UE: Default, F: Default> Dcel<V, DE, UE, F> {
 
     /// Splits an edge with an inner face on its left and the outer one on its right at a new last
     /// vertex, which is joined to the opposite corner. Gives the vertex and both parts, directed as
-    /// `edge`, the first of which keeps the data of `edge`.
+    /// `edge`, the first of which keeps the data of `edge`. There is room for the vertex, two more
+    /// edges and one more face.
     pub fn split_half_edge(
         &mut self,
         edge: FixedDirectedEdgeHandle,
