@@ -2,7 +2,7 @@
 ghost use Rattle.std.specs.Prelude.{◌≡◌, ◌≢◌, ◌+◌, ◌*◌, ◌/◌, ◌<◌, ◌≤◌, ◌++◌, ◌∷◌, [], length};
 ghost use Rattle.half_edge_links.specs.Hull.{KeepsOneOutline};
 ghost use Rattle.half_edge_links.specs.Mesh.{origin, next, prev, rev, face, face_edge};
-ghost use Rattle.half_edge_links.specs.Flip.{IsFlippable, flipped};
+ghost use Rattle.half_edge_links.specs.Flip.{IsBetweenFaces, flipped};
 ghost use Rattle.half_edge_links.specs.Triangles.{FlipsTriangles};
 ghost use Rattle.half_edge_links.specs.Outline.{KeepsOuter, along};
 ghost use Rattle.half_edge_dcel.specs.Contents.{HasRoom, edges};
@@ -21,7 +21,7 @@ impl<V, DE, UE, F> Dcel<V, DE, UE, F> {
     /// Turns an edge between two inner faces clockwise, so that it joins the two opposite corners.
     /// All data stay.
     pub fn flip_cw(&mut self, edge: FixedUndirectedEdgeHandle)
-        requires flippable { IsFlippable self.old.mesh (2 * edge) }
+        requires between { IsBetweenFaces self.old.mesh (2 * edge) }
         requires corners { let m = self.old.mesh in
             origin m (prev m (2 * edge)) ≢ origin m (prev m (rev (2 * edge))) }
 
@@ -74,7 +74,7 @@ impl<V, DE: Default, UE: Default, F: Default> Dcel<V, DE, UE, F> {
         edge: FixedDirectedEdgeHandle,
         value: V,
     ) -> (FixedVertexHandle, [FixedDirectedEdgeHandle; 2])
-        requires flippable { IsFlippable self.old.mesh edge }
+        requires between { IsBetweenFaces self.old.mesh edge }
         requires room { HasRoom self.old 1 3 2 }
 
         ensures vertex { result.0 ≡ length self.old.vertices }

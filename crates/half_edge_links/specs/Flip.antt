@@ -4,6 +4,12 @@ use Rattle.half_edge_links.specs.declared.records.HalfEdge.{HalfEdge}
 use Rattle.half_edge_links.specs.Mesh.{Mesh, edge_at, rev, origin, next, prev, face, face_edge}
 use Rattle.half_edge_links.specs.Mesh.{out_edge, HasLinks}
 
+-- an edge with inner faces on both sides
+pub record IsBetweenFaces (m : Mesh) (e : ℕ) : Type 0 where
+  pub within : e < length m.half_edges
+  pub inner : 0 < face m e
+  pub twin_inner : 0 < face m (rev e)
+
 -- an edge with inner faces, and two of them, on its sides
 pub record IsFlippable (m : Mesh) (e : ℕ) : Type 0 where
   pub within : e < length m.half_edges

@@ -1,10 +1,10 @@
 //! Changes inside the outer loop: an edge is turned, a vertex is put into a face or on an edge.
 ghost use Rattle.std.specs.Prelude.{◌≡◌, ◌≢◌, ◌+◌, ◌-◌, ◌<◌, ◌≤◌, length, Some};
 ghost use Rattle.half_edge_links.specs.Mesh.{origin, prev, rev, IsInnerEdge, IsAlone};
-ghost use Rattle.half_edge_links.specs.Mesh.{edge_at, AreSoundLinks};
+ghost use Rattle.half_edge_links.specs.Mesh.{edge_at, AreSoundLinks, IsValidMesh};
 ghost use Rattle.half_edge_links.specs.EdgeList.{shown};
 ghost use Rattle.half_edge_links.specs.Places.{AreJoined, IsLoopOfThree, AreSixPlaces};
-ghost use Rattle.half_edge_links.specs.Flip.{IsFlippable, flipped, turn_by};
+ghost use Rattle.half_edge_links.specs.Flip.{IsBetweenFaces, flipped, turn_by};
 ghost use Rattle.half_edge_links.specs.Insert.{inserted, fan_by};
 ghost use Rattle.half_edge_links.specs.Inside.{FlipsEdge, InsertsBeside, SplitsInnerEdge};
 ghost use Rattle.half_edge_links.specs.Room.{HasEdgeRoom, HasFaceRoom};
@@ -81,7 +81,7 @@ fn fan_edges(half_edges: &mut EdgeList, v: u32, edge: u32, g: u32)
 impl<V> Links<V> {
     /// Turns edge `e` between two inner faces so that it joins the two opposite corners.
     pub fn flip(&mut self, e: u32)
-        requires flippable { IsFlippable self.old.mesh e }
+        requires between { IsBetweenFaces self.old.mesh e }
         requires corners { origin self.old.mesh (prev self.old.mesh e) ≢
             origin self.old.mesh (prev self.old.mesh (rev e)) }
         ensures mesh { self.new.mesh ≡ flipped self.old.mesh e }
@@ -108,7 +108,7 @@ impl<V> Links<V> {
         requires face_room { HasFaceRoom self.old.mesh self.old.room 2 }
         ensures mesh { self.new.mesh ≡ inserted self.old.mesh v edge }
         ensures rest { KeepsRest self.old self.new }
-        ensures sound { AreSoundLinks self.old.mesh }
+        ensures valid { IsValidMesh self.old.mesh }
         ensures inserts { InsertsBeside self.old.mesh self.new.mesh v edge }
     {
         let n = self.half_edges.len() as u32;
@@ -124,7 +124,7 @@ impl<V> Links<V> {
     /// Splits `edge`, between two inner faces, at vertex `v`: the first half of it is the next new
     /// edge, and `edge` itself becomes the one from `v` to the corner on its right.
     pub fn split_edge(&mut self, v: u32, edge: u32)
-        requires flippable { IsFlippable self.old.mesh edge }
+        requires between { IsBetweenFaces self.old.mesh edge }
         requires alone { IsAlone self.old.mesh v }
         requires edge_room { HasEdgeRoom self.old.mesh self.old.room 6 }
         requires face_room { HasFaceRoom self.old.mesh self.old.room 2 }

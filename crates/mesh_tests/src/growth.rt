@@ -1,7 +1,7 @@
 //! Calls that let a mesh grow, and the flip. Each looks first whether it may be made, makes just
 //! the room that it takes, and gives indexes, or nothing where it was not made.
 ghost use Rattle.std.specs.Prelude.{◌≡◌, ◌≢◌, ◌<◌, length, IsTrue};
-ghost use Rattle.half_edge_mesh.specs.Flip.{IsFlippable};
+ghost use Rattle.half_edge_mesh.specs.Flip.{IsBetweenFaces};
 ghost use Rattle.half_edge_mesh.specs.Grow.{IsHalfSplittable};
 ghost use Rattle.half_edge_mesh.specs.Mesh.{face, next, origin, rev};
 ghost use Rattle.half_edge_mesh.specs.Contents.{HasRoom};
@@ -138,23 +138,17 @@ pub fn split_half_edge(mesh: &mut Mesh, edge: u32, value: u8) -> Option<Split> {
     Some(split_indexes(vertex, parts))
 }
 
-fn is_flippable(mesh: &Mesh, edge: FixedDirectedEdgeHandle) -> bool
+// Whether an edge has inner faces on both sides.
+fn is_between_faces(mesh: &Mesh, edge: FixedDirectedEdgeHandle) -> bool
     ensures within { IsTrue result → edge < length mesh.now.directed }
-    ensures flippable { IsTrue result → IsFlippable mesh.now.mesh edge }
+    ensures between { IsTrue result → IsBetweenFaces mesh.now.mesh edge }
 {
-    if !is_inner(mesh, edge) || !is_inner(mesh, edge.rev()) {
-        return false;
-    }
-    let side = mesh.directed_edge(edge);
-    if side.face().index == side.rev().face().index {
-        return false;
-    }
-    true
+    is_inner(mesh, edge) && is_inner(mesh, edge.rev())
 }
 
 pub fn split_edge(mesh: &mut Mesh, edge: u32, value: u8) -> Option<Split> {
     let edge = directed(edge);
-    if !make_room(mesh, 1, 3, 2) || !is_flippable(mesh, edge) {
+    if !make_room(mesh, 1, 3, 2) || !is_between_faces(mesh, edge) {
         return None;
     }
     let (vertex, parts) = mesh.split_edge(edge, value);
@@ -166,7 +160,7 @@ pub fn flip_cw(mesh: &mut Mesh, edge: u32) -> bool {
         return false;
     };
     let there = edge.as_directed();
-    if !is_flippable(mesh, there) {
+    if !is_between_faces(mesh, there) {
         return false;
     }
     let side = mesh.directed_edge(there);

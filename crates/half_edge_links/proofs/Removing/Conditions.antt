@@ -6,7 +6,7 @@ use Rattle.std.proofs.lemmas.Bool.{eq-eqb, eqb-true}
 use Rattle.std.proofs.lemmas.Bool.Decides.{nat_tests}
 use Rattle.half_edge_links.specs.Mesh.{Mesh, origin, next, prev, face, rev, AreSoundLinks}
 use Rattle.half_edge_links.specs.Mesh.{IsValidMesh, IsClosed}
-use Rattle.half_edge_links.specs.Flip.{IsFlippable}
+use Rattle.half_edge_links.specs.Flip.{IsBetweenFaces, IsFlippable}
 use Rattle.half_edge_links.specs.Remove.{IsRemovable}
 use Rattle.half_edge_links.specs.Peel.{IsPeelable, IsWheel, IsStrip, turn, spoke}
 use Rattle.half_edge_links.proofs.Lists.Rev.{rev-rev, rev_within, rev_differs}
@@ -287,3 +287,12 @@ flippable m e v within inner twin_inner = record {
   twin_inner = twin_inner;
   apart = faces_apart m e v within inner;
 }
+
+-- and may be turned
+pub turns_between : (m : Mesh) (e : ℕ) → IsValidMesh m → IsBetweenFaces m e → IsFlippable m e
+turns_between m e v b = flippable m e v b.within b.inner b.twin_inner
+
+-- an edge that may be turned has inner faces on both sides
+pub between_faces : (m : Mesh) (e : ℕ) → IsFlippable m e → IsBetweenFaces m e
+between_faces m e can =
+    record { within = can.within; inner = can.inner; twin_inner = can.twin_inner }

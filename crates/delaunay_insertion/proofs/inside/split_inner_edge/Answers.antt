@@ -10,14 +10,13 @@ use Rattle.delaunay_insertion.proofs.inside.split_inner_edge.Goals as goal
 use Rattle.delaunay_insertion.proofs.SplitConstraints.{whole_mesh}
 use Rattle.delaunay_insertion.proofs.EdgeSplits.{inner_split}
 
-pub split_edge-vertex-requires-clause-flippable : goal.split_edge-vertex-requires-clause-flippable
-split_edge-vertex-requires-clause-flippable g c =
+pub split_edge-vertex-requires-clause-between : goal.split_edge-vertex-requires-clause-between
+split_edge-vertex-requires-clause-between g c =
     let old = c.args.dcel.now in
     let here : c.args.edge < length old.mesh.half_edges =
     let w = c.requires.can.within in let f = c.requires.can.takes.kept.fits.directed_fit in
     omega (arith, w, f) in
-    flippable old.mesh c.args.edge c.requires.can.takes.kept.valid here c.requires.inner
-    c.requires.twin_inner
+    record { within = here; inner = c.requires.inner; twin_inner = c.requires.twin_inner }
 
 pub returns-clause-edges : goal.returns-clause-edges
 returns-clause-edges g c =

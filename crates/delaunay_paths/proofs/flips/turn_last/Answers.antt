@@ -3,6 +3,7 @@ use Rattle.std.specs.Prelude.{Contains, IfNone}
 use Rattle.plane.specs.Tiling.{IsEdge}
 use Rattle.mesh_embedding.specs.Drawn.{drawn}
 use Rattle.mesh_embedding.specs.Legal.{GainsRound}
+use Rattle.half_edge_links.proofs.Removing.Conditions.{between_faces}
 use Rattle.delaunay_paths.proofs.Making.{can_turn, edge_if_none_crosses, turns_towards}
 use Rattle.delaunay_paths.proofs.flips.turn_last.Goals as goal
 
@@ -18,9 +19,10 @@ returns-in_err-last_crossing-clause-none g c =
           c.args.from c.args.to c.requires.free c.requires.shape c.in_err-last_crossing.ensures,
     )
 
-pub flip_cw-requires-clause-flippable : goal.flip_cw-requires-clause-flippable
-flip_cw-requires-clause-flippable g c =
+pub flip_cw-requires-clause-between : goal.flip_cw-requires-clause-between
+flip_cw-requires-clause-between g c =
     let last = c.in_ok-last_crossing.ensures in
+    between_faces _ _
     (can_turn g.V.HasPosition.place c.args.dcel.now c.recall_invariant.ensures.whole c.args.from
     c.args.to c.requires.free c.requires.shape c.in_ok-last_crossing.field-0 last.0 last.1
     c.as_undirected-edge.result c.as_undirected-edge.ensures).0

@@ -2,18 +2,19 @@ use Rattle.std.proofs.Common.{◌≢◌, ℕ, ◌*◌, ◌/◌, ◌<◌, [], ◌
 use Rattle.half_edge_mesh.specs.Mesh.{origin, prev, rev}
 use Rattle.half_edge_mesh.specs.Flip.{IsFlippable, flipped}
 use Rattle.half_edge_mesh.specs.Triangles.{FlipsTriangles}
+use Rattle.half_edge_links.proofs.Removing.Conditions.{between_faces}
 use Rattle.delaunay_removal.proofs.Turns.{may_turn}
 use Rattle.delaunay_removal.proofs.DataTurns.{turned_stands}
 use Rattle.delaunay_removal.proofs.star.turn_away.Goals as goal
 
-pub flip_cw-requires-clause-flippable : goal.flip_cw-requires-clause-flippable
-flip_cw-requires-clause-flippable g c =
+pub flip_cw-requires-clause-between : goal.flip_cw-requires-clause-between
+flip_cw-requires-clause-between g c =
     let w = c.recall_invariant.ensures.whole in
-    subst (λ (k : ℕ). IsFlippable c.args.dcel.now.mesh (2 * k))
+    between_faces _ _ (subst (λ (k : ℕ). IsFlippable c.args.dcel.now.mesh (2 * k))
     (sym (c.as_undirected.ensures ∙ ap (λ e. e / 2) c.edge_after-after.ensures.value))
     (may_turn (map g.V.HasPosition.place c.args.dcel.now.vertices) c.args.dcel.now.mesh w.valid
     c.requires.shape c.args.edge (subst (λ (n : ℕ). c.args.edge < n) w.fits.directed_fit
-    c.requires.within) c.requires.left c.requires.right c.requires.apart).0
+    c.requires.within) c.requires.left c.requires.right c.requires.apart).0)
 
 pub flip_cw-requires-clause-corners : goal.flip_cw-requires-clause-corners
 flip_cw-requires-clause-corners g c =

@@ -16,9 +16,9 @@ pub returns-clause-contents : goal.returns-clause-contents
 returns-clause-contents g c =
     rw (← c.self.view_is, c.flip.ensures.rest.room, c.flip.ensures.rest.values) refl
 
-pub flip-requires-clause-flippable : goal.flip-requires-clause-flippable
-flip-requires-clause-flippable g c =
-    rw (c.index.ensures, c.as_directed.ensures) (rw (← c.self.view_is) at c.requires.flippable)
+pub flip-requires-clause-between : goal.flip-requires-clause-between
+flip-requires-clause-between g c =
+    rw (c.index.ensures, c.as_directed.ensures) (rw (← c.self.view_is) at c.requires.between)
 
 pub flip-requires-clause-corners : goal.flip-requires-clause-corners
 flip-requires-clause-corners g c =

@@ -6,6 +6,7 @@ use Rattle.half_edge_links.specs.Flip.{flip_by, flipped}
 use Rattle.half_edge_links.proofs.Sound.Triangles.{triangle_at, six_round}
 use Rattle.half_edge_links.proofs.Stored.Joined.{joined_sound, kept_in, loop_of_three}
 use Rattle.half_edge_links.proofs.Faces.FlipLemmas.{flips_is}
+use Rattle.half_edge_links.proofs.Removing.Conditions.{turns_between}
 use Rattle.half_edge_links.proofs.Sound.Valid.{valid_as, valid_flipped}
 use Rattle.half_edge_links.proofs.Faces.FlipTriangles.{triangles_flipped}
 use Rattle.half_edge_links.proofs.Faces.KeepsOuter.{outer_flipped_is}
@@ -16,7 +17,7 @@ use Rattle.half_edge_links.proofs.links.Links.flip.Goals as goal
 pub get-edge-requires : goal.get-edge-requires
 get-edge-requires g c =
     let m : Mesh = mesh_in c.self.inside in
-    let can = rw (← c.self.view_is) at c.requires.flippable in
+    let can = rw (← c.self.view_is) at c.requires.between in
     let k = kept_in c.self.inside.half_edges.items c.args.e
     (joined_sound m c.self.invariant.sound) can.within in
     record { within = k.0; next_within = k.1 }
@@ -25,7 +26,8 @@ pub get-twin-requires : goal.get-twin-requires
 get-twin-requires g c =
     let m : Mesh = mesh_in c.self.inside in
     let s = c.self.invariant.sound in
-    let can = rw (← c.self.view_is) at c.requires.flippable in
+    let can =
+    turns_between m c.args.e c.self.invariant (rw (← c.self.view_is) at c.requires.between) in
     let k = kept_in c.self.inside.half_edges.items (rev c.args.e) (joined_sound m s)
     (six_round m c.args.e s can).b_in in
     rw c.reversed-t.ensures (record { within = k.0; next_within = k.1 })
@@ -34,7 +36,8 @@ pub turn_edges-requires : goal.turn_edges-requires
 turn_edges-requires g c =
     let m : Mesh = mesh_in c.self.inside in
     let s = c.self.invariant.sound in
-    let can = rw (← c.self.view_is) at c.requires.flippable in
+    let can =
+    turns_between m c.args.e c.self.invariant (rw (← c.self.view_is) at c.requires.between) in
     let six = six_round m c.args.e s can in
     let left = triangle_at m c.args.e s can.within can.inner in
     let right = triangle_at m (rev c.args.e) s six.b_in can.twin_inner in
@@ -50,8 +53,9 @@ turn_edges-requires g c =
 pub set_out_edge-requires-clause-nameable : goal.set_out_edge-requires-clause-nameable
 set_out_edge-requires-clause-nameable g c =
     let m : Mesh = mesh_in c.self.inside in
-    let six = six_round m c.args.e c.self.invariant.sound
-    (rw (← c.self.view_is) at c.requires.flippable) in
+    let can =
+    turns_between m c.args.e c.self.invariant (rw (← c.self.view_is) at c.requires.between) in
+    let six = six_round m c.args.e c.self.invariant.sound can in
     let twin : c.get-twin.result ≡ edge_at m.half_edges c.reversed-t.result = c.get-twin.ensures in
     rw (twin, c.reversed-t.ensures) (omega (arith, six.d_in, c.self.invariant.small.edges))
 
@@ -74,15 +78,18 @@ returns-clause-mesh g c =
 
 pub invariant_of-self : goal.invariant_of-self
 invariant_of-self g c =
+    let m : Mesh = mesh_in c.self.inside in
+    let can =
+    turns_between m c.args.e c.self.invariant (rw (← c.self.view_is) at c.requires.between) in
     valid_as _ _ (rw (← c.self.view_is) at (returns-clause-mesh g c))
-    (valid_flipped (mesh_in c.self.inside) c.args.e c.self.invariant (rw (← c.self.view_is) at
-    c.requires.flippable) (rw (← c.self.view_is) at c.requires.corners))
+    (valid_flipped m c.args.e c.self.invariant can (rw (← c.self.view_is) at c.requires.corners))
 
 pub returns-clause-flips : goal.returns-clause-flips
 returns-clause-flips g c =
     let m : Mesh = mesh_in c.self.inside in
     let s = c.self.invariant.sound in
-    let can = rw (← c.self.view_is) at c.requires.flippable in
+    let can =
+    turns_between m c.args.e c.self.invariant (rw (← c.self.view_is) at c.requires.between) in
     let is = rw (← c.self.view_is) at (returns-clause-mesh g c) in
     let links = flips_is m _ c.args.e s can is in
     rw (← c.self.view_is) (record {

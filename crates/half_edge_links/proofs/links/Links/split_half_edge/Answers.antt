@@ -3,6 +3,7 @@ use Rattle.half_edge_links.specs.Mesh.{Mesh}
 use Rattle.half_edge_links.proofs.Growing.HalfSplit.{twin_outer, flippable_beside, corners_beside}
 use Rattle.half_edge_links.proofs.Growing.HalfSplit.{half_splits_triangles, replaced_kept}
 use Rattle.half_edge_links.proofs.Growing.HalfSplit.{half_splits}
+use Rattle.half_edge_links.proofs.Removing.Conditions.{between_faces}
 use Rattle.half_edge_links.proofs.Sound.EndsKept.{ends_half}
 use Rattle.half_edge_links.proofs.links.Links.split_half_edge.Goals as goal
 
@@ -15,7 +16,7 @@ flip-requires g c =
     let s = c.half_edge_count-n.ensures.sound in
     let adds = rw c.reversed.ensures at c.add_face_beside.ensures.adds.links in
     record {
-      flippable = flippable_beside _ _ _ _ s c.requires.half adds;
+      between = between_faces _ _ (flippable_beside _ _ _ _ s c.requires.half adds);
       corners = corners_beside _ _ _ _ s c.requires.half adds c.requires.alone;
     }
 
