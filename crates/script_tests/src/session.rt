@@ -25,17 +25,27 @@ pub struct Session<L: HintGenerator<i64>> {
     copy: Constrained<L>,
     // Whether calls go to the one with constraints.
     is_constrained: bool,
+    // Whether lines `begin` and `end` stand beside each call.
+    is_marked: bool,
 }
 
 impl<L: HintGenerator<i64>> Session<L> {
-    pub fn new(alloc: Global) -> Self {
+    pub fn new(alloc: Global, is_marked: bool) -> Self {
         Session {
             plain: Plain::new(alloc),
             plain_copy: Plain::new(alloc),
             constrained: Constrained::new(alloc),
             copy: Constrained::new(alloc),
             is_constrained: false,
+            is_marked,
         }
+    }
+
+    fn mark(&self, rt: &impl Print, word: &str) -> io::Result<()> {
+        if self.is_marked {
+            println!(rt; "{word}")?;
+        }
+        Ok(())
     }
 
     // Goes on with the plain triangulation as one with constraints. Where memory was refused, the
@@ -162,7 +172,7 @@ impl<L: HintGenerator<i64>> Answers for Session<L> {
     fn answer(&mut self, rt: &(impl Print + AllocGlobal), call: &Call<'_>) -> io::Result<()> {
         let positions = call.positions(rt.alloc())?;
         let vertices = listed(positions.as_slice(), rt.alloc())?;
-        println!(rt; "begin")?;
+        self.mark(rt, "begin")?;
         match call.name {
             "from_delaunay" => call.tell(rt, &self.take_constraints(rt.alloc()))?,
             "try_clone" => call.tell(rt, &self.try_clone())?,
@@ -173,6 +183,6 @@ impl<L: HintGenerator<i64>> Answers for Session<L> {
             _ if self.is_constrained => constrain(rt, &mut self.constrained, call, vertices)?,
             _ => look(rt, &mut self.plain, call)?,
         }
-        println!(rt; "end")
+        self.mark(rt, "end")
     }
 }

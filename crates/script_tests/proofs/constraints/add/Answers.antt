@@ -1,4 +1,4 @@
-use Rattle.refused_calls.proofs.constraints.add.Goals as goal
+use Rattle.script_tests.proofs.constraints.add.Goals as goal
 
 pub add_constraint-requires-clause-free : goal.add_constraint-requires-clause-free
 add_constraint-requires-clause-free g c =
