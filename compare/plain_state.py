@@ -70,7 +70,10 @@ class PlainState:
 
     def faces(self, listed):
         """The faces, by the same edges."""
-        return set(faces_of(self.points, self.edges(listed)))
+        return self.faces_by(self.edges(listed))
+
+    def faces_by(self, edges):
+        return set(faces_of(self.points, edges))
 
     def counts(self):
         v, e = len(self.points), len(self.edges())
