@@ -1,4 +1,4 @@
-//! Hint generators for tests, whose answers help no search or come from several others in turn: no
+//! Hint generators for tests, whose answers help no search, or come from one of several others: no
 //! answer of a triangulation depends on them.
 #![tactic(auto)]
 
@@ -8,15 +8,19 @@ ghost use Rattle.plane.specs.Hint.{IsAtMostWith, IsAtMostWithout};
 ghost use Rattle.delaunay_core.specs.Held.{place_if};
 ghost use Rattle.delaunay_core.specs.Place.{place_of};
 
-mod alternating;
+mod listing;
+mod switching;
+mod telling;
 
-pub use alternating::{Alternating, MixedWithOdd};
+
 use delaunay_core::HintGenerator;
 use delaunay_core::math::PlaneTests;
 use delaunay_core::point::{Point2, SpadeNum};
 use half_edge_handles::FixedVertexHandle;
+pub use listing::{Listing, Told};
 use std::alloc::Global;
 use std::cell::Cell;
+pub use switching::{Choice, Switching};
 
 /// Answers every index from the first to the last in turn.
 #[derive(Drop)]

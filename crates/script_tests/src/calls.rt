@@ -1,20 +1,10 @@
-//! Calls of both types that take memory: nothing where a call is not made.
+//! Edits of vertices of both types: nothing where a call is not made.
 
-use crate::elements::TaggedVertex;
+use crate::points::TaggedVertex;
 use exact_tests::ExactTests;
 use spade_delaunay::handles::FixedVertexHandle;
-use spade_delaunay::{HintGenerator, InsertionError, Point2, Triangulation, validate_vertex};
+use spade_delaunay::{InsertionError, Point2, Triangulation, validate_vertex};
 use std::alloc::{AllocError, Global};
-use test_script::Call;
-
-/// The vertex that the first three numbers of a line name: its position and its number.
-pub fn vertex_of(call: &Call<'_>) -> TaggedVertex {
-    let [x, y, tag, ..] = call.numbers;
-    TaggedVertex {
-        position: Point2::new(x, y),
-        tag,
-    }
-}
 
 pub fn insert<T: Triangulation<Vertex = TaggedVertex>>(
     points: &mut T,
@@ -23,6 +13,7 @@ pub fn insert<T: Triangulation<Vertex = TaggedVertex>>(
     Ok(points.insert(vertex, &ExactTests)?.index())
 }
 
+/// By a search from a vertex, which need not be there.
 pub fn insert_with_hint<T: Triangulation<Vertex = TaggedVertex>>(
     points: &mut T,
     vertex: TaggedVertex,
@@ -30,6 +21,21 @@ pub fn insert_with_hint<T: Triangulation<Vertex = TaggedVertex>>(
 ) -> Result<u32, InsertionError> {
     let hint = FixedVertexHandle::from_index(hint);
     Ok(points.insert_with_hint(vertex, hint, &ExactTests)?.index())
+}
+
+/// The number that a vertex had, which gets another.
+pub fn replace<T: Triangulation<Vertex = TaggedVertex>>(
+    points: &mut T,
+    index: u32,
+    tag: i64,
+) -> Option<i64> {
+    if index as usize >= points.num_vertices() {
+        return None;
+    }
+    let vertex = FixedVertexHandle::from_index(index);
+    let position = points.vertex(vertex).data().position;
+    let former = points.replace_vertex(vertex, TaggedVertex { position, tag });
+    Some(former.tag)
 }
 
 pub fn remove<T: Triangulation<Vertex = TaggedVertex>>(
@@ -65,15 +71,49 @@ pub fn with_capacity<T: Triangulation>(
     Ok(())
 }
 
-/// The vertex that a search for a position would begin at.
-pub fn hint<T: Triangulation<Vertex = TaggedVertex>>(
-    points: &T,
-    position: Point2<i64>,
-) -> Option<u32> {
-    if validate_vertex(&position).is_err() {
-        return None;
+/// Removes all vertices, and tells how many are left.
+pub fn clear<T: Triangulation>(points: &mut T) -> usize {
+    points.clear();
+    points.num_vertices()
+}
+
+// Where a vertex of eighteen rows of eighteen is.
+fn place_in_rows(number: u32) -> TaggedVertex {
+    TaggedVertex {
+        position: Point2::new(i64::from(number % 18), i64::from(number / 18)),
+        tag: 0,
     }
-    points.recall_invariant();
-    let generator = points.hint_generator();
-    Some(generator.get_hint(position, &ExactTests).index())
+}
+
+/// Inserts eighteen rows of eighteen points in a scattered order, and tells how many vertices there
+/// are then.
+pub fn fill<T: Triangulation<Vertex = TaggedVertex>>(points: &mut T) -> usize {
+    for i in 0..324u32 {
+        let _ = insert(points, place_in_rows(i.wrapping_mul(85) % 324));
+    }
+    points.num_vertices()
+}
+
+/// Removes this many vertices, of scattered indexes, and tells how many are left.
+pub fn thin<T: Triangulation<Vertex = TaggedVertex>>(points: &mut T, removals: u32) -> usize {
+    for i in 0..removals {
+        let scattered = i.wrapping_mul(37) % 101;
+        let count = u32::try_from(points.num_vertices()).unwrap_or(0);
+        let _ = remove(points, scattered.checked_rem(count).unwrap_or(0));
+    }
+    points.num_vertices()
+}
+
+/// Inserts the points of the line y = 0 from one x to another, and tells how many vertices there
+/// are then.
+pub fn insert_row<T: Triangulation<Vertex = TaggedVertex>>(
+    points: &mut T,
+    from: i64,
+    to: i64,
+) -> usize {
+    for x in from..to {
+        let position = Point2::new(x, 0);
+        let _ = insert(points, TaggedVertex { position, tag: 0 });
+    }
+    points.num_vertices()
 }

@@ -1,19 +1,21 @@
 //! Calls of constraints, by the indexes of vertices: nothing where a call is not made.
-ghost use Rattle.std.specs.Prelude.{◌<◌, length, IfSome};
 
-use crate::elements::TaggedVertex;
+use crate::data::edge_between;
+use crate::points::{Constrained, TaggedVertex, both, ends_of};
 use exact_tests::ExactTests;
 use spade_delaunay::handles::{
     FixedDirectedEdgeHandle, FixedUndirectedEdgeHandle, FixedVertexHandle,
 };
-use spade_delaunay::{
-    ConstrainedDelaunayTriangulation, ConstraintError, HintGenerator, Point2, Triangulation,
-};
+use spade_delaunay::{ConstraintError, HintGenerator, Triangulation};
 use std::alloc::AllocError;
-use test_points::both;
+use std::io;
+use test_script::Call;
 
-/// A triangulation with constraints, and numbers on all its elements.
-pub type Constrained<L> = ConstrainedDelaunayTriangulation<TaggedVertex, u32, u32, u32, L>;
+/// Whether the segment between two vertices can become a path of constraints.
+pub fn can_add<L: HintGenerator<i64>>(points: &Constrained<L>, from: u32, to: u32) -> Option<bool> {
+    let (from, to) = both(points, from, to)?;
+    Some(points.can_add_constraint(from, to, &ExactTests))
+}
 
 /// Whether a constraint was made, where none crosses.
 pub fn add<L: HintGenerator<i64>>(
@@ -38,22 +40,42 @@ pub fn try_add<L: HintGenerator<i64>>(
     Some(points.try_add_constraint(from, to, &ExactTests))
 }
 
-// The edge that joins two vertices.
-fn edge<T: Triangulation>(points: &T, from: u32, to: u32) -> Option<FixedUndirectedEdgeHandle>
-    ensures { IfSome result (λ edge. edge < length (T.state points.now).undirected) }
-{
-    if from as usize >= points.num_vertices() {
-        return None;
-    }
-    let from = FixedVertexHandle::from_index(from);
-    let Some(edge) = points.get_edge_from_neighbors(from, FixedVertexHandle::from_index(to)) else {
-        return None;
+/// Prints from where to where each edge of a path goes that was made.
+pub fn tell_path<T: Triangulation>(
+    rt: &impl Print,
+    points: &T,
+    call: &Call<'_>,
+    path: Option<Result<Vec<FixedDirectedEdgeHandle>, AllocError>>,
+) -> io::Result<()> {
+    let path = match path {
+        Some(Ok(path)) => path,
+        refused => return call.tell(rt, &refused),
     };
-    let edge = edge.fix().as_undirected();
-    if edge.index() as usize >= points.num_undirected_edges() {
-        return None;
+    let line = call.line;
+    print!(rt; "{line} > path")?;
+    for edge in path {
+        if (edge.index() as usize) < points.num_directed_edges() {
+            let (from, to) = ends_of(&points.directed_edge(edge));
+            print!(rt; " {from}>{to}")?;
+        }
     }
-    Some(edge)
+    println!(rt)
+}
+
+/// Whether a constraint joins two vertices.
+pub fn exists<L: HintGenerator<i64>>(points: &Constrained<L>, from: u32, to: u32) -> bool {
+    let from = FixedVertexHandle::from_index(from);
+    points.exists_constraint(from, FixedVertexHandle::from_index(to))
+}
+
+/// Whether the edge that joins two vertices is a constraint.
+pub fn is_constraint<L: HintGenerator<i64>>(
+    points: &Constrained<L>,
+    from: u32,
+    to: u32,
+) -> Option<bool> {
+    let edge = edge_between(points, from, to)?;
+    Some(points.is_constraint_edge(edge))
 }
 
 /// Whether the edge that joins two vertices was a constraint, which is released.
@@ -62,7 +84,7 @@ pub fn release<L: HintGenerator<i64>>(
     from: u32,
     to: u32,
 ) -> Option<Result<bool, AllocError>> {
-    let edge = edge(points, from, to)?;
+    let edge = edge_between(points, from, to)?;
     Some(points.remove_constraint_edge(edge, &ExactTests))
 }
 
@@ -82,4 +104,17 @@ pub fn add_edges<L: HintGenerator<i64>>(
     closed: bool,
 ) -> Result<(), ConstraintError> {
     points.add_constraint_edges(vertices.into_iter(), closed, &ExactTests)
+}
+
+/// Prints what the error of a refused constraint says.
+pub fn tell_refusal(
+    rt: &impl Print,
+    call: &Call<'_>,
+    answer: Option<Result<bool, ConstraintError>>,
+) -> io::Result<()> {
+    let line = call.line;
+    match answer {
+        Some(Err(error)) => println!(rt; "{line} > {error}"),
+        _ => println!(rt; "{line} > none"),
+    }
 }

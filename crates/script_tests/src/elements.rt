@@ -1,31 +1,11 @@
 //! What a triangulation holds: vertices, edges and faces, each with its links and its data.
 ghost use Rattle.std.specs.Prelude.{◌<◌};
-ghost use Rattle.delaunay_core.specs.Place.{place_of};
 
-use spade_delaunay::handles::{
-    DirectedEdgeHandle, FaceHandle, FixedDirectedEdgeHandle, FixedFaceHandle,
-    FixedUndirectedEdgeHandle, VertexHandle,
-};
-use spade_delaunay::{CdtEdge, HasPosition, Point2, Triangulation};
+use crate::points::{TaggedVertex, corners_of, ends_of};
+use spade_delaunay::handles::{DirectedEdgeHandle, FaceHandle, VertexHandle};
+use spade_delaunay::{CdtEdge, Triangulation};
+use std::alloc::{AllocError, Global};
 use std::io;
-use test_points::corners_of;
-
-/// A vertex with a number beside its position.
-#[derive(Clone, Copy, Debug, PartialEq, Eq)]
-pub struct TaggedVertex {
-    pub position: Point2<i64>,
-    pub tag: i64,
-}
-
-impl HasPosition for TaggedVertex {
-    type Scalar = i64;
-
-    ghost place = { λ v. place_of (λ z. z) v.position };
-
-    fn position(&self) -> Point2<i64> {
-        self.position
-    }
-}
 
 /// What is printed of the data of an edge: its number, and whether it is a constraint.
 pub trait Shown {
@@ -65,7 +45,7 @@ fn print_edge<V, UE: Shown, F>(
     rt: &impl Print,
     edge: &DirectedEdgeHandle<'_, V, u32, UE, F>,
 ) -> io::Result<()> {
-    let ends = (edge.from().index, edge.to().index);
+    let ends = ends_of(edge);
     let links = [edge.next().index, edge.prev().index, edge.face().index];
     let (number, is_constraint) = edge.as_undirected().data().shown();
     println!(rt;
@@ -82,14 +62,23 @@ fn print_face<V, DE, UE>(rt: &impl Print, face: &FaceHandle<'_, V, DE, UE, u32>)
     println!(rt; "face {} {corners:?} {}", face.index, *face.data())
 }
 
+/// Prints each vertex with its position, its number and the edge that it names.
+pub fn print_vertices<T: Triangulation<Vertex = TaggedVertex>>(
+    rt: &impl Print,
+    points: &T,
+) -> io::Result<()> {
+    for vertex in points.vertices() {
+        print_vertex(rt, &vertex)?;
+    }
+    Ok(())
+}
+
 /// Prints all vertices, edges and faces.
 pub fn print_state<
     UE: Shown,
     T: Triangulation<Vertex = TaggedVertex, DirectedEdge = u32, UndirectedEdge = UE, Face = u32>,
 >(rt: &impl Print, points: &T) -> io::Result<()> {
-    for vertex in points.vertices() {
-        print_vertex(rt, &vertex)?;
-    }
+    print_vertices(rt, points)?;
     for edge in points.directed_edges() {
         print_edge(rt, &edge)?;
     }
@@ -100,24 +89,36 @@ pub fn print_state<
     Ok(())
 }
 
-/// Writes a number to each edge, to each of its directions and to each face, by the first.
-pub fn write_data<T: Triangulation<DirectedEdge = u32, UndirectedUserData = u32, Face = u32>>(
-    points: &mut T,
-    first: u32,
-) {
-    for index in 0..1000u32 {
-        let number = first.wrapping_add(index);
-        if (index as usize) < points.num_directed_edges() {
-            let edge = FixedDirectedEdgeHandle::from_index(index);
-            *points.directed_edge_data_mut(edge) = number.wrapping_add(1000);
-        }
-        if (index as usize) < points.num_undirected_edges() {
-            let edge = FixedUndirectedEdgeHandle::from_index(index);
-            *points.undirected_edge_data_mut(edge) = number.wrapping_add(2000);
-        }
-        if (index as usize) < points.num_all_faces() {
-            let face = FixedFaceHandle::from_index(index);
-            *points.face_data_mut(face) = number.wrapping_add(3000);
+/// Prints the ends of each constraint, the least first.
+pub fn print_constraints<UE: Shown, T: Triangulation<UndirectedEdge = UE>>(
+    rt: &impl Print,
+    points: &T,
+) -> io::Result<()> {
+    for edge in points.undirected_edges() {
+        if edge.data().shown().1 {
+            let (start, end) = ends_of(&edge.as_directed());
+            println!(rt; "constraint {:?}", [start.min(end), start.max(end)])?;
         }
     }
+    Ok(())
+}
+
+/// The edges of the hull in their order, by their ends.
+pub fn print_hull<T: Triangulation>(rt: &impl Print, points: &T) -> io::Result<()> {
+    for edge in points.convex_hull() {
+        println!(rt; "hull {:?}", ends_of(&edge))?;
+    }
+    Ok(())
+}
+
+/// The corners of each inner face, in rising order.
+pub fn faces_of<T: Triangulation>(points: &T, alloc: Global) -> Result<Vec<[u32; 3]>, AllocError> {
+    let mut faces = Vec::new(alloc);
+    for face in points.inner_faces() {
+        if !face.is_outer() {
+            faces.push(corners_of(face))?;
+        }
+    }
+    faces.sort()?;
+    Ok(faces)
 }

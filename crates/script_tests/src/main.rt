@@ -1,38 +1,65 @@
-//! Runs a script of calls, and prints each line with what its call gives. With an argument, a
-//! number of a kind of hints, each call is made beside lines `begin` and `end`, so that growths are
-//! counted from `begin` to the next line written.
+//! Runs a script of calls of triangulations of both types, and prints each line with what its call
+//! gives. All calls are made with hints of each kind. Lines that start with `#` are printed as they
+//! are.
+//!
+//! With an argument, the number of a kind of hints, the calls are made with these alone, and each
+//! is printed between lines `begin` and `end`.
 #![tactic(auto)]
 
+mod beside;
 mod calls;
+mod comparisons;
+mod conflicts;
+mod constraint_edges;
 mod constraints;
+mod counting;
+mod data;
+mod derived;
+mod drawing;
+mod each;
 mod elements;
+mod ends;
+mod filter;
+mod flips;
 mod generators;
+mod hints;
+mod items;
+mod journal;
+mod last_used;
+mod lasts;
+mod locations;
+mod paths;
+mod points;
+mod reads;
+mod segment;
 mod session;
+mod shape_calls;
 mod shapes;
+mod sheets;
+mod triples;
+mod walks;
 
+use each::EachHints;
+use hints::{Hints, choice_of};
 use session::Session;
-use spade_delaunay::{HierarchyHintGeneratorWithBranchFactor, LastUsedVertexHintGenerator};
 use std::io;
 use std::rt::Env;
 use test_script::run;
 
 // The number of the hints that an argument names.
-fn hints_named(rt: &impl Env) -> Option<u8> {
+fn hints_named(rt: &impl Env) -> Option<usize> {
     let mut word = [0u8; 1];
     match rt.arg(1, &mut word) {
-        Ok(_) => Some(word[0].wrapping_sub(b'0')),
+        Ok(_) => Some(usize::from(word[0].wrapping_sub(b'0'))),
         Err(_) => None,
     }
 }
 
 fn main(rt: HostRuntime) -> io::Result<()> {
-    let hints = hints_named(&rt);
-    if hints == Some(5) {
-        let mut session: Session<HierarchyHintGeneratorWithBranchFactor<i64, 2>> = Session::new(
-            rt.alloc(), true
-        );
+    if let Some(number) = hints_named(&rt) {
+        let mut session: Session<Hints> = Session::new(rt.alloc(), choice_of(number), true);
         return run(&rt, &mut session);
     }
-    let mut session: Session<LastUsedVertexHintGenerator> = Session::new(rt.alloc(), hints.is_some());
-    run(&rt, &mut session)
+    let mut sessions: EachHints<Hints> = EachHints::new(rt.alloc())?;
+    run(&rt, &mut sessions)
 }

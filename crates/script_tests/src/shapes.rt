@@ -1,98 +1,76 @@
-//! The edges and vertices in a rectangle or a circle.
-ghost use Rattle.std.specs.Prelude.{◌≤ℤ◌, pos, IfSome};
-ghost use Rattle.plane.specs.Tests.{InRange};
-ghost use Rattle.delaunay_core.specs.Place.{place_of};
+//! What a triangulation gives in rectangles and circles: nothing where a point is out of range, a
+//! squared radius is negative, or memory was refused.
 
-use crate::elements::TaggedVertex;
+use crate::points::{TaggedVertex, both_in_range, circle_in_range, ends_of};
 use exact_tests::ExactTests;
-use spade_delaunay::{
-    EdgesInShapeIterator, FloatTriangulation, Point2, VerticesInShapeIterator, validate_vertex,
-};
+use spade_delaunay::{EdgesInShapeIterator, FloatTriangulation, Point2, VerticesInShapeIterator};
 use std::alloc::{AllocError, Global};
-use std::io;
-use test_points::both_in_range;
-use test_script::Call;
 
-fn print_edges<V, DE, UE, F>(
-    rt: &impl Print,
-    edges: Result<EdgesInShapeIterator<'_, V, DE, UE, F>, AllocError>,
-) -> io::Result<()> {
-    let Ok(edges) = edges else {
-        return println!(rt; "Err(AllocError)");
-    };
-    println!(rt; "found")?;
-    for edge in edges {
-        println!(rt; "edge {}", edge.fix().index())?;
-    }
-    Ok(())
-}
+/// The ends of edges and the vertices that were found, by their indexes in rising order.
+pub type Found = (Vec<(u32, u32)>, Vec<u32>);
 
-fn print_vertices<V, DE, UE, F>(
-    rt: &impl Print,
-    vertices: Result<VerticesInShapeIterator<'_, V, DE, UE, F>, AllocError>,
-) -> io::Result<()> {
-    let Ok(vertices) = vertices else {
-        return println!(rt; "Err(AllocError)");
-    };
-    println!(rt; "found")?;
-    for vertex in vertices {
-        println!(rt; "vertex {}", vertex.fix().index())?;
-    }
-    Ok(())
-}
-
-/// A centre and a squared radius, if the one is in range and the other not negative.
-fn circle_in_range(circle: (Point2<i64>, i64)) -> Option<(Point2<i64>, i64)>
-    ensures center { IfSome result (λ c. InRange (place_of (λ z. z) c.0)) }
-    ensures radius { IfSome result (λ c. pos 0 ≤ℤ c.1) }
-{
-    let (center, radius_2) = circle;
-    if validate_vertex(&center).is_err() || radius_2 < 0 {
-        return None;
-    }
-    Some((center, radius_2))
-}
-
-/// Prints what is in the rectangle or the circle that a line names.
-pub fn query<T: FloatTriangulation<Vertex = TaggedVertex>>(
-    rt: &impl Print,
-    points: &T,
-    call: &Call<'_>,
+/// The ends of each edge that is given.
+pub fn edges_of<V, DE, UE, F>(
+    edges: EdgesInShapeIterator<'_, V, DE, UE, F>,
     alloc: Global,
-) -> io::Result<()> {
-    let [x, y, radius_2, ..] = call.numbers;
-    let (Some((lower, upper)), Some((center, radius_2))) = (
-        both_in_range(call.ends()),
-        circle_in_range((Point2::new(x, y), radius_2)),
-    ) else {
-        return call.tell(rt, &"not asked");
-    };
-    let tests = &ExactTests;
-    match call.name {
-        "edges_in_rectangle" => {
-            print_edges(
-                rt,
-                points.get_edges_in_rectangle(lower, upper, tests, alloc),
-            )
-        }
-        "vertices_in_rectangle" => {
-            print_vertices(
-                rt,
-                points.get_vertices_in_rectangle(lower, upper, tests, alloc),
-            )
-        }
-        "edges_in_circle" => {
-            print_edges(
-                rt,
-                points.get_edges_in_circle(center, radius_2, tests, alloc),
-            )
-        }
-        "vertices_in_circle" => {
-            print_vertices(
-                rt,
-                points.get_vertices_in_circle(center, radius_2, tests, alloc),
-            )
-        }
-        _ => call.tell(rt, &"no such call"),
+) -> Result<Vec<(u32, u32)>, AllocError> {
+    let mut ends = Vec::new(alloc);
+    for edge in edges {
+        let (from, to) = ends_of(&edge.as_directed());
+        ends.push((from.min(to), from.max(to)))?;
     }
+    ends.sort()?;
+    Ok(ends)
+}
+
+/// The index of each vertex that is given.
+fn indexes_of<V, DE, UE, F>(
+    vertices: VerticesInShapeIterator<'_, V, DE, UE, F>,
+    alloc: Global,
+) -> Result<Vec<u32>, AllocError> {
+    let mut indexes = Vec::new(alloc);
+    for vertex in vertices {
+        indexes.push(vertex.fix().index())?;
+    }
+    indexes.sort()?;
+    Ok(indexes)
+}
+
+/// What is given in a shape, unless memory was refused.
+pub fn listed<V, DE, UE, F>(
+    edges: Result<EdgesInShapeIterator<'_, V, DE, UE, F>, AllocError>,
+    vertices: Result<VerticesInShapeIterator<'_, V, DE, UE, F>, AllocError>,
+    alloc: Global,
+) -> Option<Found> {
+    let (Ok(edges), Ok(vertices)) = (edges, vertices) else {
+        return None;
+    };
+    match (edges_of(edges, alloc), indexes_of(vertices, alloc)) {
+        (Ok(edges), Ok(vertices)) => Some((edges, vertices)),
+        _ => None,
+    }
+}
+
+/// What is given between two corners.
+pub fn found_in_rectangle<T: FloatTriangulation<Vertex = TaggedVertex>>(
+    points: &T,
+    corners: (Point2<i64>, Point2<i64>),
+    alloc: Global,
+) -> Option<Found> {
+    let (lower, upper) = both_in_range(corners)?;
+    let edges = points.get_edges_in_rectangle(lower, upper, &ExactTests, alloc);
+    let vertices = points.get_vertices_in_rectangle(lower, upper, &ExactTests, alloc);
+    listed(edges, vertices, alloc)
+}
+
+/// What is given round a centre, by a squared radius.
+pub fn found_in_circle<T: FloatTriangulation<Vertex = TaggedVertex>>(
+    points: &T,
+    circle: (Point2<i64>, i64),
+    alloc: Global,
+) -> Option<Found> {
+    let (center, radius_2) = circle_in_range(circle)?;
+    let edges = points.get_edges_in_circle(center, radius_2, &ExactTests, alloc);
+    let vertices = points.get_vertices_in_circle(center, radius_2, &ExactTests, alloc);
+    listed(edges, vertices, alloc)
 }

@@ -1,0 +1,21 @@
+//! Insertions whose flips are counted.
+
+use crate::points::{Plain, TaggedVertex};
+use exact_tests::ExactTests;
+use spade_delaunay::{HintGenerator, InsertionError, Triangulation};
+
+/// Inserts a vertex, and adds the number of flips. Nothing where there are many already.
+#[tactic(auto, using(spade_delaunay::proofs::Flips::counted_flips))]
+pub fn insert_counting<L: HintGenerator<i64>>(
+    points: &mut Plain<L>,
+    vertex: TaggedVertex,
+    flips: &mut u64,
+) -> Option<Result<u32, InsertionError>> {
+    if *flips >= 1 << 63 || points.num_vertices() > 1000 {
+        return None;
+    }
+    match points.insert_counting(vertex, &ExactTests, flips) {
+        Ok(vertex) => Some(Ok(vertex.index())),
+        Err(error) => Some(Err(error)),
+    }
+}
