@@ -1,4 +1,4 @@
-// cgal KIND ORDER N [REMOVALS [HINTS]]: what crates/benchmark does, with CGAL's triangulations, over the
+// cgal KIND ORDER N [REMOVALS [HINTS]]: what compare/benchmark does, with CGAL's triangulations, over the
 // same points. KIND is plain (each search begins at the face where the last one ended) or hierarchy
 // (of triangulations).
 #include <CGAL/Delaunay_triangulation_2.h>
@@ -26,7 +26,7 @@ struct Point {
     bool operator<(const Point& other) const { return x != other.x ? x < other.x : y < other.y; }
 };
 
-// SplitMix64, from the same state as crates/benchmark/src/random.rt.
+// SplitMix64, from the same state as compare/benchmark/random.
 struct Random {
     uint64_t state = 88172645463325252;
     uint64_t number() {
@@ -38,7 +38,7 @@ struct Random {
     uint64_t below(uint64_t bound) { return number() % std::max<uint64_t>(bound, 1); }
 };
 
-// The orders of crates/benchmark/src/orders.rt.
+// The orders of compare/benchmark/orders.
 enum Order { RANDOM, HILBERT, ROWS, SCATTERED };
 
 static uint64_t hilbert_key(uint64_t x, uint64_t y) {

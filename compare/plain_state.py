@@ -1,16 +1,21 @@
-"""Points and constraints as lists, what edits make of them, and which edges and faces they have, found by trying all."""
+"""Points and constraints as lists, what edits make of them, and which edges and faces they have,
+found by trying all."""
 from itertools import combinations
 
-from geometry import carries, cross, edges_of, side
+from geometry import are_on_line, carries, cross, edges_of, faces_of
 
-LIMIT = 536870912
+LIMIT = 2**29
 
 
 class PlainState:
+    """Vertices are a list in which the last one takes the place of one that goes; constraints are
+    pairs of indexes, the least first."""
+
     def __init__(self, points):
         self.points, self.walls = points, set()
 
     def insert(self, p):
+        """The index of the vertex at a point, or nothing where that is out of range."""
         if max(map(abs, p)) > LIMIT:
             return None
         if p not in self.points:
@@ -22,11 +27,14 @@ class PlainState:
         return self.points.index(p)
 
     def halves(self, i):
-        """The far ends of the two constraints at vertex i, as a pair, where these are halves of a straight one."""
+        """The far ends of the two constraints at vertex i, as a pair, where these are halves of a
+        straight one."""
         far = [k if m == i else m for k, m in self.walls if i in (k, m)]
-        return [tuple(far)] if len(far) == 2 and carries(*(self.points[k] for k in far), self.points[i]) else []
+        is_straight = len(far) == 2 and carries(*(self.points[k] for k in far), self.points[i])
+        return [tuple(far)] if is_straight else []
 
     def remove(self, i):
+        """The point of a vertex, which goes."""
         last, gone = len(self.points) - 1, self.points[i]
         kept = [wall for wall in self.walls if i not in wall] + self.halves(i)
         self.walls = {tuple(sorted(i if k == last else k for k in wall)) for wall in kept}
@@ -35,6 +43,7 @@ class PlainState:
         return gone
 
     def is_free(self, i, j):
+        """Whether no constraint crosses the segment between two vertices."""
         ends = [(self.points[k], self.points[m]) for k, m in self.walls]
         return not any(cross(self.points[i], self.points[j], *wall) for wall in ends)
 
@@ -56,24 +65,19 @@ class PlainState:
         return [list(pair) for pair in path], made
 
     def edges(self, listed=()):
+        """The edges; of two diagonals that are open, the listed one."""
         return edges_of(self.points, sorted(self.walls), listed) if len(self.points) > 1 else []
 
     def faces(self, listed):
-        edges, found = set(self.edges(listed)), set()
-        for i, j, k in combinations(range(len(self.points)), 3):
-            a, b, c = (self.points[n] for n in (i, j, k))
-            turn = side(a, b, c)
-            if turn == 0 or not edges.issuperset([(i, j), (j, k), (i, k)]):
-                continue
-            b, c = (b, c) if turn > 0 else (c, b)
-            within = [p for p in self.points if min(side(a, b, p), side(b, c, p), side(c, a, p)) >= 0]
-            if len(within) == 3:
-                found.add((i, j, k) if turn > 0 else (i, k, j))
-        return found
+        """The faces, by the same edges."""
+        return self.faces_by(self.edges(listed))
+
+    def faces_by(self, edges):
+        return set(faces_of(self.points, edges))
 
     def counts(self):
         v, e = len(self.points), len(self.edges())
-        is_line = all(side(*it) == 0 for it in combinations(self.points, 3))
+        is_line = v < 3 or are_on_line(self.points)
         return [v, e, 0 if is_line else 1 - v + e, len(self.walls)]
 
 

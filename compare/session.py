@@ -1,0 +1,217 @@
+"""What the calls of crates/script_tests give, worked out from lists of points and constraints: the
+edits here, and the questions in questions.py."""
+from copy import deepcopy
+
+from plain_state import LIMIT, PlainState
+
+# What vertices carry that come as ends of constraints.
+CHAINED = 5
+TOO_LARGE = "Err(Insertion(TooLarge))"
+
+
+def truth(value):
+    return str(bool(value)).lower()
+
+
+def in_range(*points):
+    return all(abs(number) <= LIMIT for point in points for number in point)
+
+
+class Tagged(PlainState):
+    """Vertices that each carry a number beside their point. A known point takes the new number."""
+
+    def __init__(self):
+        super().__init__([])
+        self.tags = []
+
+    def put(self, p, tag):
+        """The index of a vertex that is inserted, or nothing out of range."""
+        index = self.insert(p)
+        if index is not None:
+            self.tags[index : index + 1] = [tag]
+        return index
+
+    def take(self, i):
+        """A vertex as it is printed, which goes."""
+        tag, last = self.tags[i], self.tags.pop()
+        if i < len(self.tags):
+            self.tags[i] = last
+        return vertex_text(self.remove(i), tag)
+
+    def join_points(self, p, q):
+        """What a constraint between two points gives, which become vertices."""
+        i = self.put(p, CHAINED)
+        j = None if i is None else self.put(q, CHAINED)
+        return TOO_LARGE if j is None else self.join_vertices(i, j)
+
+    def join_vertices(self, i, j):
+        return f"Ok({truth(self.join(i, j)[1])})" if self.is_free(i, j) else "Err(Conflict)"
+
+    def join_all(self, path, closed):
+        """What a chain of constraints gives. The steps before a refused one stand."""
+        indexes = []
+        for p in path:
+            indexes.append(self.put(p, CHAINED))
+            if indexes[-1] is None:
+                return TOO_LARGE
+            if len(indexes) > 1 and self.join_vertices(*indexes[-2:]) == "Err(Conflict)":
+                return "Err(Conflict)"
+        if closed and indexes and self.join_vertices(indexes[-1], indexes[0]) == "Err(Conflict)":
+            return "Err(Conflict)"
+        return "Ok(())"
+
+
+def vertex_text(p, tag):
+    return f"TaggedVertex {{ position: Point2 {{ x: {p[0]}, y: {p[1]} }}, tag: {tag} }}"
+
+
+def inserted(index):
+    return "Err(TooLarge)" if index is None else f"Ok({index})"
+
+
+class Session:
+    """A triangulation without constraints and one that may have some, with their last copies, and a
+    list of edits that are still to be made."""
+
+    def __init__(self):
+        self.plain, self.plain_copy = Tagged(), Tagged()
+        self.constrained, self.constrained_copy = Tagged(), Tagged()
+        self.is_constrained, self.listed_edits, self.sheet = False, [], []
+
+    def state(self):
+        return self.constrained if self.is_constrained else self.plain
+
+    def edit(self, name, numbers, edges=()):
+        """What a call that changes something gives, or nothing where it is no such call. Where it
+        goes by whether two vertices are joined, the edges say that."""
+        call = getattr(self, f"call_{name}", None)
+        if call is None:
+            return None
+        if name == "remove_constraint_edge":
+            return call(edges, *numbers)
+        return call(*numbers)
+
+    def call_insert(self, x, y, tag=0):
+        return inserted(self.state().put((x, y), tag))
+
+    def call_insert_with_hint(self, x, y, tag, _hint):
+        return self.call_insert(x, y, tag)
+
+    def call_replace_vertex(self, i, tag):
+        tags = self.state().tags
+        if i >= len(tags):
+            return "None"
+        former, tags[i] = tags[i], tag
+        return f"Some({former})"
+
+    def call_remove(self, i):
+        state = self.state()
+        return f"Some(Ok({state.take(i)}))" if i < len(state.points) else "None"
+
+    def call_locate_and_remove(self, x, y):
+        state = self.state()
+        if not in_range((x, y)):
+            return "None"
+        if (x, y) not in state.points:
+            return "Some(Ok(None))"
+        return f"Some(Ok(Some({state.take(state.points.index((x, y)))})))"
+
+    def call_clear(self):
+        self.replace_state(Tagged())
+        return "0"
+
+    def call_with_capacity(self, vertices, edges, faces):
+        if max(vertices, edges, faces) > 2**31:
+            return "Err(OutOfIndexes)"
+        self.replace_state(Tagged())
+        return "Ok(())"
+
+    def replace_state(self, state):
+        if self.is_constrained:
+            self.constrained = state
+        else:
+            self.plain = state
+
+    def call_fill(self):
+        for i in range(324):
+            k = i * 85 % 324
+            self.call_insert(k % 18, k // 18)
+        return str(len(self.state().points))
+
+    def call_thin(self, removals):
+        for i in range(removals):
+            if self.state().points:
+                self.call_remove(i * 37 % 101 % len(self.state().points))
+        return str(len(self.state().points))
+
+    def call_insert_row(self, first, last):
+        for x in range(first, last):
+            self.call_insert(x, 0)
+        return str(len(self.state().points))
+
+    def call_from_delaunay(self):
+        self.constrained, self.plain, self.is_constrained = self.plain, Tagged(), True
+        return "Ok(())"
+
+    def call_plain(self):
+        self.is_constrained = False
+        return "()"
+
+    def call_constrained(self):
+        self.is_constrained = True
+        return "()"
+
+    def call_try_clone(self):
+        copy = deepcopy(self.state())
+        if self.is_constrained:
+            self.constrained_copy = copy
+        else:
+            self.plain_copy = copy
+        return "Ok(())"
+
+    def call_swap(self):
+        if self.is_constrained:
+            pair = self.constrained_copy, self.constrained
+            self.constrained, self.constrained_copy = pair
+        else:
+            self.plain, self.plain_copy = self.plain_copy, self.plain
+        return "()"
+
+    def call_sheet(self, *numbers):
+        self.sheet = list(zip(numbers[::2], numbers[1::2]))
+        return str(len(self.sheet))
+
+    def are_there(self, i, j):
+        return max(i, j) < len(self.state().points)
+
+    def call_add_constraint(self, i, j):
+        state = self.state()
+        if not self.are_there(i, j) or not state.is_free(i, j):
+            return "None"
+        return f"Some(Ok({truth(state.join(i, j)[1])}))"
+
+    def call_try_add_constraint(self, i, j):
+        if not self.are_there(i, j):
+            return "None"
+        return " ".join(["path", *(f"{a}>{b}" for a, b in self.state().join(i, j)[0])])
+
+    def call_add_constraint_edge(self, x, y, u, v):
+        return f"Some({self.state().join_points((x, y), (u, v))})"
+
+    def call_refusal(self, x, y, u, v):
+        said = {TOO_LARGE: "TooLarge", "Err(Conflict)": "Conflict"}
+        return said.get(self.state().join_points((x, y), (u, v)), "none")
+
+    def call_add_constraint_edges(self, *numbers):
+        return self.state().join_all(list(zip(numbers[::2], numbers[1::2])), False)
+
+    def call_add_closed_edges(self, *numbers):
+        return self.state().join_all(list(zip(numbers[::2], numbers[1::2])), True)
+
+    def call_remove_constraint_edge(self, edges, i, j):
+        pair = tuple(sorted((i, j)))
+        if pair not in edges:
+            return "None"
+        was = pair in self.state().walls
+        self.state().walls.discard(pair)
+        return f"Some(Ok({truth(was)}))"
