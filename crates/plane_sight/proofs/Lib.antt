@@ -1,0 +1,5 @@
+pub mod Coverings
+pub mod SharedPoints
+pub mod Entered
+pub mod Covered
+pub mod Sights
