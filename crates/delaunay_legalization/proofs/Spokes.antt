@@ -9,7 +9,7 @@ use Rattle.std.proofs.lemmas.Bool.Decides.{eqb_tells}
 use Rattle.half_edge_mesh.specs.Mesh.{Mesh, IsValidMesh, origin, out_edge}
 use Rattle.half_edge_mesh.specs.Peel.{turn, spoke}
 use Rattle.half_edge_mesh.specs.Round.{IsRound}
-use Rattle.half_edge_mesh.specs.Rounds.{walk}
+use Rattle.half_edge_mesh.specs.Walks.{walk}
 use Rattle.half_edge_links.proofs.Lists.OneOrbit.{edges_go_round}
 use Rattle.plane_tiling.proofs.Totals.{Contains-head, Contains-later, Contains-cases}
 use Rattle.plane_edits.proofs.LocalMesh.Changes.{IsOnce, once_head, once_tail, once_cons}

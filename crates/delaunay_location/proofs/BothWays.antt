@@ -14,7 +14,7 @@ use Rattle.half_edge_mesh.specs.Mesh.{Mesh, IsValidMesh, AreSoundLinks, origin, 
 use Rattle.half_edge_mesh.specs.Mesh.{out_edge}
 use Rattle.half_edge_mesh.specs.Peel.{turn, spoke}
 use Rattle.half_edge_mesh.specs.Round.{IsRound}
-use Rattle.half_edge_mesh.specs.Rounds.{walk}
+use Rattle.half_edge_mesh.specs.Walks.{walk}
 use Rattle.half_edge_links.proofs.Lists.Rev.{rev-rev}
 use Rattle.mesh_embedding.proofs.WorkLists.{contains_map_from, at_most_so_many}
 use Rattle.delaunay_legalization.proofs.Rounds.{round_at, spokes_once}

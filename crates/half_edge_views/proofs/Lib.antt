@@ -3,3 +3,4 @@ pub mod Walks
 pub mod Loops
 pub mod Joined
 pub mod Taken
+pub mod BothEnds

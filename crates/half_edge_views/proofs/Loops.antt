@@ -14,8 +14,10 @@ use Rattle.half_edge_links.proofs.Lists.OneOrbit.{edges_go_round}
 use Rattle.half_edge_links.proofs.Removing.Conditions.{turn_in, turn_one}
 use Rattle.half_edge_dcel.specs.Contents.{Contents, IsMeshWithData}
 use Rattle.half_edge_views.specs.Left.{each_in}
-use Rattle.half_edge_views.specs.Rounds.{walk, GivesRound, IsOuterLoop, GivesOuterLoop}
-use Rattle.half_edge_views.proofs.Walks.{walk-list}
+use Rattle.half_edge_views.specs.Rounds.{GivesRound, IsOuterLoop, GivesOuterLoop}
+use Rattle.half_edge_views.specs.Walks.{walk, IsEnding}
+use Rattle.half_edge_views.specs.declared.edge_walk.EdgeWalk.{EdgeWalk}
+use Rattle.half_edge_views.proofs.Walks.{walk-list, comes_round}
 
 -- a round has no more edges than the mesh
 pub round_fits : (m : Mesh) (u first count : ℕ) → IsValidMesh m → IsRound m u first count
@@ -147,3 +149,40 @@ gives_loop d first w named = record {
       (λ i some less back. r.1.apart 0 i some less (sym back)) r.1.back r.1.some fuel in
       rw (← same) (r.0, r.1, ap (each_in d) listed);
 }
+
+-- a walk from an edge to itself, by a step that leads no two edges to one, comes to its end
+module _ {V D U F : Type 0} (f : Mesh → ℕ → ℕ) (w : EdgeWalk V D U F) (d : Bor (Contents V D U F))
+    (first : ℕ) (mesh : w.dcel ≡ d) (next_is : w.next ≡ first) (end_is : w.end ≡ first)
+    (left_is : w.left ≡ length d.now.directed) where
+  begins : (n : ℕ) → length d.now.directed ≡ n → first < n
+      → ((x : ℕ) → x < n → f d.now.mesh x < n)
+      → ((x y : ℕ) → x < n → y < n → f d.now.mesh x ≡ f d.now.mesh y → x ≡ y) → IsEnding f w
+  begins n count within closed one some =
+      let k = comes_back (f d.now.mesh) n closed one first within in
+      let last : suc (k.0 - 1) ≡ k.0 = omega (arith, k.1) in
+      let back : iterate (f d.now.mesh) (suc (k.0 - 1)) first ≡ first =
+      ap (λ i. iterate (f d.now.mesh) i first) last ∙ k.3 in
+      rw (mesh, next_is, end_is, left_is, count)
+      (comes_round (f d.now.mesh) first (k.0 - 1) n first back (omega (arith, k.1, k.2)))
+
+module _ {V D U F : Type 0} (w : EdgeWalk V D U F) (d : Bor (Contents V D U F)) (first : ℕ)
+    (whole : IsMeshWithData d.now) (within : first < length d.now.directed) (mesh : w.dcel ≡ d)
+    (next_is : w.next ≡ first) (end_is : w.end ≡ first)
+    (left_is : w.left ≡ length d.now.directed) where
+  first_in : first < length d.now.mesh.half_edges
+  first_in = omega (arith, within, whole.fits.directed_fit)
+
+  -- the round of a vertex does
+  pub round_begins : IsEnding turn w
+  round_begins =
+      begins turn w d first mesh next_is end_is left_is _ whole.fits.directed_fit first_in
+      (λ a a_in. turn_in d.now.mesh whole.valid a a_in) (turn_one d.now.mesh whole.valid.sound)
+
+  -- and the outer loop
+  pub loop_begins : IsEnding next w
+  loop_begins =
+      let s : AreSoundLinks d.now.mesh = whole.valid.sound in
+      begins next w d first mesh next_is end_is left_is _ whole.fits.directed_fit first_in
+      (λ a a_in. (s.edges a a_in).next_in)
+      (λ a b a_in b_in same. sym (s.edges a a_in).prev_next ∙ ap (prev d.now.mesh) same
+      ∙ (s.edges b b_in).prev_next)

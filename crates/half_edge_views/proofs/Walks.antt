@@ -1,16 +1,18 @@
 -- Walks that come back to their start.
-use Rattle.std.proofs.Common.{◌≡◌, ◌≢◌, ◌+◌, ◌-◌, ◌<◌, ◌≤◌, ◌==◌, if◌then◌else◌, [], ◌∷◌, ◌∙◌}
-use Rattle.std.proofs.Common.{ℕ, zero, suc, true, false, List, length, map, refl, ap, inl, inr}
-use Rattle.std.proofs.Common.{arith}
+use Rattle.std.proofs.Common.{◌≡◌, ◌≢◌, ◌+◌, ◌-◌, ◌<◌, ◌≤◌, ◌==◌, if◌then◌else◌, [], ◌∷◌, ◌++◌}
+use Rattle.std.proofs.Common.{◌∙◌, ℕ, zero, suc, true, false, List, length, map, refl, sym, ap}
+use Rattle.std.proofs.Common.{inl, inr, arith}
 use Rattle.std.specs.List.{range_with_len}
 use Rattle.std.proofs.lemmas.Bool.{cases_eq, eq-eqb}
+use Rattle.std.proofs.lemmas.List.{map-append, length_push}
 use Rattle.std.proofs.lemmas.Bool.Decides.{eqb_tells}
 use Rattle.std.specs.Borrow.{Bor}
 use Rattle.half_edge_links.specs.Mesh.{Mesh, iterate}
+use Rattle.half_edge_links.proofs.Lists.Orbits.{step_add}
 use Rattle.half_edge_dcel.specs.Contents.{Contents}
-use Rattle.half_edge_views.specs.declared.rounds.EdgeWalk.{EdgeWalk}
+use Rattle.half_edge_views.specs.declared.edge_walk.EdgeWalk.{EdgeWalk}
 use Rattle.half_edge_views.specs.Left.{each_in}
-use Rattle.half_edge_views.specs.Rounds.{walk, walk_left}
+use Rattle.half_edge_views.specs.Walks.{walk, walk_left, comes_to, IsEnding}
 use Rattle.half_edge_handles.proofs.Steps.{map_range_step}
 
 -- one place of a walk, where so many are left afterwards
@@ -33,37 +35,176 @@ module _ {X : Type 0} (g : ℕ → X) (f : ℕ → ℕ) (stop k h k' h' : ℕ) (
       ap (map g) (walk_step f stop k h some ∙ rest)
 
 module _ {V D U F : Type 0} (f : Mesh → ℕ → ℕ) (w : EdgeWalk V D U F) where
-  -- what is left of a walk, by the mesh, the first edge, the number and the edge that it has
-  pub walk_left_is : (d : Bor (Contents V D U F)) (first n h : ℕ) → w.dcel ≡ d → w.first ≡ first
-      → w.left ≡ n → w.next ≡ h → walk_left f w ≡ each_in d (walk (f d.now.mesh) first n h)
-  walk_left_is d first n h mesh start left next =
-      ap (λ (x : Bor (Contents V D U F)). each_in x (walk (f x.now.mesh) w.first w.left w.next))
+  -- what is left of a walk, by the mesh, its end, the number and the edge that it has
+  pub walk_left_is : (d : Bor (Contents V D U F)) (stop n h : ℕ) → w.dcel ≡ d → w.end ≡ stop
+      → w.left ≡ n → w.next ≡ h → walk_left f w ≡ each_in d (walk (f d.now.mesh) stop n h)
+  walk_left_is d stop n h mesh end left next =
+      ap (λ (x : Bor (Contents V D U F)). each_in x (walk (f x.now.mesh) w.end w.left w.next))
       mesh
-      ∙ ap (λ (s : ℕ). each_in d (walk (f d.now.mesh) s w.left w.next)) start
-      ∙ ap (λ (k : ℕ). each_in d (walk (f d.now.mesh) first k w.next)) left
-      ∙ ap (λ (i : ℕ). each_in d (walk (f d.now.mesh) first n i)) next
+      ∙ ap (λ (s : ℕ). each_in d (walk (f d.now.mesh) s w.left w.next)) end
+      ∙ ap (λ (k : ℕ). each_in d (walk (f d.now.mesh) stop k w.next)) left
+      ∙ ap (λ (i : ℕ). each_in d (walk (f d.now.mesh) stop n i)) next
 
   -- nothing is left of a walk over no edges
   pub none_left : w.left ≡ 0 → walk_left f w ≡ []
-  none_left left = ap (λ (k : ℕ). each_in w.dcel (walk (f w.dcel.now.mesh) w.first k w.next)) left
+  none_left left = ap (λ (k : ℕ). each_in w.dcel (walk (f w.dcel.now.mesh) w.end k w.next)) left
+
+-- a walk over no edges has ended
+pub ended : {V D U F : Type 0} (f : Mesh → ℕ → ℕ) (w : EdgeWalk V D U F) → w.left ≡ 0 → IsEnding f w
+ended f w left some = absurd (omega (arith, left, some))
+
+not_equal : (a b : ℕ) → a ≢ b → a == b ≡ false
+not_equal a b apart = elim (eqb_tells a b) [ inl q ↦ absurd (apart q.1) | inr q ↦ q.0 ]
+
+-- a walk comes to its end
+abbrev ComesTo : (ℕ → ℕ) → ℕ → ℕ → ℕ → Type 0
+ComesTo f stop k h = comes_to f stop k h ≡ true
+
+-- one that is not there after one place comes to it from that place
+passed : (f : ℕ → ℕ) (stop k h : ℕ) → f h ≢ stop → ComesTo f stop (suc k) h → ComesTo f stop k (f h)
+passed f stop k h off comes = rw (not_equal _ _ off) at comes
+
+-- and one that comes to it from there, unless it is there, comes to it
+one_before : (f : ℕ → ℕ) (stop k h : ℕ) → (f h ≢ stop → ComesTo f stop k (f h))
+    → ComesTo f stop (suc k) h
+one_before f stop k h comes = elim (cases_eq (f h) stop) [
+  | inl same ↦ rw (eq-eqb _ _ same) refl
+  | inr off ↦ rw (not_equal _ _ off) (comes off)
+]
+
+-- no walk comes anywhere in no places
+nowhere : (f : ℕ → ℕ) (stop h : ℕ) → ¬ ComesTo f stop 0 h
+nowhere f stop h comes = cc
+
+-- a walk that has not ended after one place comes to its end from the next one
+comes_step : (f : ℕ → ℕ) (stop k h : ℕ) → 0 < k → ComesTo f stop k h
+    → 0 < (if f h == stop then 0 else k - 1)
+    → ComesTo f stop (if f h == stop then 0 else k - 1) (f h)
+comes_step f stop zero h some comes = absurd (omega (arith, some))
+comes_step f stop (suc k) h some comes =
+    let down : suc k - 1 ≡ k = omega arith in
+    elim (cases_eq (f h) stop) [
+      | inl same ↦ rw (eq-eqb _ _ same) (λ more. absurd (omega (arith, more)))
+      | inr off ↦ rw (not_equal _ _ off, down) (λ more. passed f stop k h off comes)
+    ]
 
 module _ {V D U F : Type 0} (f : Mesh → ℕ → ℕ) (old new : EdgeWalk V D U F) (h : ℕ)
-    (some : 0 < old.left) (dcel : new.dcel ≡ old.dcel) (first : new.first ≡ old.first)
-    (next : new.next ≡ h) (left : new.left ≡ (if h == old.first then 0 else old.left - 1))
+    (some : 0 < old.left) (dcel : new.dcel ≡ old.dcel) (end : new.end ≡ old.end)
+    (next : new.next ≡ h) (left : new.left ≡ (if h == old.end then 0 else old.left - 1))
     (after : h ≡ f old.dcel.now.mesh old.next) where
   -- a walk that goes on gives the edge where it was, and then what is left of it
   pub walk_goes_on : walk_left f old ≡ (old.dcel, old.next) ∷ walk_left f new
   walk_goes_on =
-      rw (walk_left_is f new old.dcel old.first new.left h dcel first refl next)
+      rw (walk_left_is f new old.dcel old.end new.left h dcel end refl next)
       (map_walk_step (λ i. (old.dcel, i))
-      (f old.dcel.now.mesh) old.first old.left old.next new.left h some after left)
+      (f old.dcel.now.mesh) old.end old.left old.next new.left h some after left)
 
   -- less is left then
   pub less_is_left : length (walk_left f new) < length (walk_left f old)
   less_is_left = rw walk_goes_on (omega arith)
 
-not_equal : (a b : ℕ) → a ≢ b → a == b ≡ false
-not_equal a b apart = elim (eqb_tells a b) [ inl q ↦ absurd (apart q.1) | inr q ↦ q.0 ]
+  -- and it comes to its end as before
+  pub ending_goes_on : IsEnding f old → IsEnding f new
+  ending_goes_on was =
+      rw (dcel, end, left, next, after)
+      (comes_step (f old.dcel.now.mesh) old.end old.left old.next some (was some))
+
+-- one function undoes another below a bound, and is undone by it at one place
+pub record Undoes (f back : ℕ → ℕ) (bound stop : ℕ) : Type 0 where
+  pub closed : (x : ℕ) → x < bound → f x < bound
+  pub undo : (x : ℕ) → x < bound → back (f x) ≡ x
+  pub redo : f (back stop) ≡ stop
+
+-- walks along a function that another undoes
+module _ (f back : ℕ → ℕ) (n stop : ℕ) (u : Undoes f back n stop) where
+  away : (h : ℕ) → h < n → h ≢ back stop → f h ≢ stop
+  away h within off is = off (sym (u.undo h within) ∙ ap back is)
+
+  -- one that comes to `stop` comes to the place before, unless it is there
+  comes_before : (k h : ℕ) → h < n → h ≢ back stop → ComesTo f stop (suc k) h
+      → ComesTo f (back stop) k h
+  comes_before zero h within off comes =
+      absurd (nowhere f stop (f h) (passed f stop 0 h (away h within off) comes))
+  comes_before (suc k) h within off comes = one_before f (back stop) k h
+      (λ more. comes_before k (f h) (u.closed h within) more
+      (passed f stop (suc k) h (away h within off) comes))
+
+  -- the place before `stop` is the last one
+  walk_last : (k h : ℕ) → 0 < k → h < n → ComesTo f stop k h → walk f stop k h
+      ≡ walk f (back stop) (if h == back stop then 0 else k - 1) h ++ back stop ∷ []
+  walk_last zero h some within comes = absurd (omega (arith, some))
+  walk_last (suc k) h some within comes =
+      let down : suc k - 1 ≡ k = omega arith in
+      elim (cases_eq h (back stop)) [
+        | inl same ↦
+            let ends : f h == stop ≡ true = eq-eqb _ _ (ap f same ∙ u.redo) in
+            let here : h == back stop ≡ true = eq-eqb _ _ same in
+            rw (ends, here) (ap (λ i. i ∷ []) same)
+        | inr off ↦
+            let on = away h within off in
+            let goes_on : f h == stop ≡ false = not_equal _ _ on in
+            let further : h == back stop ≡ false = not_equal _ _ off in
+            let comes_on = passed f stop k h on comes in
+            let more : 0 < k = later k h comes_on in
+            let rest = walk_last k (f h) more (u.closed h within) comes_on in
+            rw (goes_on, further, down, walk_step f (back stop) k h more) (ap (λ hs. h ∷ hs) rest)
+      ]
+    where
+      later : (k h : ℕ) → ComesTo f stop k (f h) → 0 < k
+      later zero h comes = absurd (nowhere f stop (f h) comes)
+      later (suc k) h comes = omega arith
+
+  -- and one that is to end there comes to it, unless it has ended
+  comes_back_by_one : (k h : ℕ) → 0 < k → h < n → ComesTo f stop k h
+      → 0 < (if h == back stop then 0 else k - 1)
+      → ComesTo f (back stop) (if h == back stop then 0 else k - 1) h
+  comes_back_by_one zero h some within comes = absurd (omega (arith, some))
+  comes_back_by_one (suc k) h some within comes =
+      let down : suc k - 1 ≡ k = omega arith in
+      elim (cases_eq h (back stop)) [
+        | inl same ↦ rw (eq-eqb _ _ same) (λ more. absurd (omega (arith, more)))
+        | inr off ↦ rw (not_equal _ _ off, down) (λ more. comes_before k h within off comes)
+      ]
+
+-- a walk that ends one place before, at edge h, has all that it had but this one, so it has less,
+-- and it comes to its end as before
+pub record EndsBefore {V D U F : Type 0} (f : Mesh → ℕ → ℕ) (old new : EdgeWalk V D U F)
+    (h : ℕ) : Type 0 where
+  pub steps : walk_left f old ≡ walk_left f new ++ (old.dcel, h) ∷ []
+  pub less : length (walk_left f new) < length (walk_left f old)
+  pub ending : IsEnding f new
+
+pub ends_before : {V D U F : Type 0} (f back : Mesh → ℕ → ℕ) (old new : EdgeWalk V D U F) (h n : ℕ)
+    → 0 < old.left → new.dcel ≡ old.dcel → new.next ≡ old.next → new.end ≡ h
+    → new.left ≡ (if old.next == h then 0 else old.left - 1) → h ≡ back old.dcel.now.mesh old.end
+    → old.next < n → Undoes (f old.dcel.now.mesh) (back old.dcel.now.mesh) n old.end
+    → IsEnding f old → EndsBefore f old new h
+ends_before f back old new h n some dcel next end left before within u was =
+    let m : Mesh = old.dcel.now.mesh in
+    let steps : walk_left f old ≡ walk_left f new ++ (old.dcel, h) ∷ [] =
+    rw (walk_left_is f new old.dcel h new.left old.next dcel end refl next, left, before)
+    (ap (each_in old.dcel)
+    (walk_last (f m) (back m) n old.end u old.left old.next some within (was some))
+    ∙ map-append (λ i. (old.dcel, i)) _ _) in
+    record {
+      steps = steps;
+      less = rw steps (omega (arith, length_push (walk_left f new) (old.dcel, h)));
+      ending = rw (dcel, end, left, next, before)
+          (comes_back_by_one (f m) (back m) n old.end u old.left old.next some within (was some));
+    }
+
+-- a walk that is back at its start after so many places comes there
+pub comes_round : (f : ℕ → ℕ) (stop k fuel h : ℕ) → iterate f (suc k) h ≡ stop → k < fuel
+    → ComesTo f stop fuel h
+comes_round f stop k zero h at less = absurd (omega (arith, less))
+comes_round f stop zero (suc fuel) h at less =
+    one_before f stop fuel h (λ away. absurd (away at))
+comes_round f stop (suc k) (suc fuel) h at less =
+    let later : suc k + 1 ≡ suc (suc k) = omega arith in
+    let shifted : iterate f (suc k) (f h) ≡ stop =
+    sym (step_add f h (suc k) 1) ∙ ap (λ i. iterate f i h) later ∙ at in
+    one_before f stop fuel h
+    (λ away. comes_round f stop k fuel (f h) shifted (omega (arith, less)))
 
 -- a walk that is back after so many places, and not before, has just these
 walk-from : (f : ℕ → ℕ) (first count fuel j : ℕ)

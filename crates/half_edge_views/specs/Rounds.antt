@@ -1,6 +1,6 @@
--- Walks that come back to their start, and what iterators along them have left.
-use Rattle.std.specs.Prelude.{◌≡◌, ◌≢◌, ◌<◌, ◌==◌, [], ◌∷◌, if◌then◌else◌}
-use Rattle.std.specs.Prelude.{ℕ, zero, suc, List, length, map, Some, None}
+-- The edges of a vertex and of the outer loop, and what iterators over them have left.
+use Rattle.std.specs.Prelude.{◌≡◌, ◌≢◌, ◌<◌, []}
+use Rattle.std.specs.Prelude.{ℕ, List, length, map, Some, None}
 use Rattle.std.specs.List.{range_with_len}
 use Rattle.std.specs.Borrow.{Bor}
 use Rattle.half_edge_links.specs.Hull.{HasOneOutline}
@@ -9,19 +9,9 @@ use Rattle.half_edge_links.specs.Peel.{turn, spoke}
 use Rattle.half_edge_links.specs.Round.{IsRound}
 use Rattle.half_edge_dcel.specs.Contents.{Contents}
 use Rattle.half_edge_views.specs.Left.{each_in}
+use Rattle.half_edge_views.specs.Walks.{walk_left}
 use Rattle.half_edge_views.specs.declared.rounds.CircularIterator.{CircularIterator}
-use Rattle.half_edge_views.specs.declared.rounds.EdgeWalk.{EdgeWalk}
 use Rattle.half_edge_views.specs.declared.rounds.HullIterator.{HullIterator}
-
--- the places of a walk from h on that ends before it is at `stop`, or after so many places
-abbrev pub walk : (ℕ → ℕ) → ℕ → ℕ → ℕ → List ℕ
-walk f stop zero h = []
-walk f stop (suc k) h = h ∷ (if f h == stop then [] else walk f stop k (f h))
-
--- the edges that a walk has still to come to, from each to the one that f gives
-abbrev pub walk_left : {V D U F : Type 0} → (Mesh → ℕ → ℕ) → EdgeWalk V D U F
-    → List (Bor (Contents V D U F) × ℕ)
-walk_left f it = each_in it.dcel (walk (f it.dcel.now.mesh) it.first it.left it.next)
 
 -- the edges of a vertex that an iterator has still to give, against the clock
 abbrev pub out_edges_left : {V D U F : Type 0} → CircularIterator V D U F

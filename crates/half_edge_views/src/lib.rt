@@ -2,6 +2,7 @@
 #![tactic(auto)]
 
 mod edge;
+mod edge_walk;
 mod face;
 mod iterators;
 mod neighbors;

@@ -5,7 +5,8 @@ ghost use Rattle.half_edge_links.specs.Mesh.{out_edge};
 ghost use Rattle.half_edge_dcel.specs.Contents.{IsMeshWithData};
 
 use crate::edge::DirectedEdgeHandle;
-use crate::rounds::{CircularIterator, EdgeWalk};
+use crate::edge_walk::EdgeWalk;
+use crate::rounds::CircularIterator;
 use half_edge_dcel::Dcel;
 use half_edge_handles::FixedVertexHandle;
 use std::alloc::AllocError;

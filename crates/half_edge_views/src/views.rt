@@ -11,12 +11,13 @@ ghost use Rattle.half_edge_views.specs.Left.{undirected_edges_left, faces_left};
 ghost use Rattle.half_edge_views.specs.Rounds.{GivesOuterLoop, hull_left};
 
 use crate::edge::{DirectedEdgeHandle, UndirectedEdgeHandle};
+use crate::edge_walk::EdgeWalk;
 use crate::face::FaceHandle;
 use crate::iterators::{
     DirectedEdgeIterator, FaceIterator, UndirectedEdgeIterator, VertexIterator,
 };
 use crate::neighbors::edge_to;
-use crate::rounds::{EdgeWalk, HullIterator};
+use crate::rounds::HullIterator;
 use crate::vertex::VertexHandle;
 use half_edge_dcel::{
     Dcel, FixedDirectedEdgeHandle, FixedFaceHandle, FixedUndirectedEdgeHandle, FixedVertexHandle,

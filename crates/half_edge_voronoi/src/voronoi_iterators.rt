@@ -145,7 +145,8 @@ impl<'a, V, DE, UE, F> ExactSizeIterator for UndirectedVoronoiEdgeIterator<'a, V
 
 impl<'a, V, DE, UE, F> FusedIterator for UndirectedVoronoiEdgeIterator<'a, V, DE, UE, F> {}
 
-/// The edges of the Voronoi diagram with one face on their left that are left, counterclockwise.
+/// The edges of the Voronoi diagram with one face on their left that are left, counterclockwise,
+/// and from behind clockwise.
 #[derive(Drop)]
 #[derive_where(Clone, Debug)]
 pub struct VoronoiCircularIterator<'a, V, DE, UE, F> {
@@ -167,6 +168,20 @@ impl<'a, V, DE, UE, F> Iterator for VoronoiCircularIterator<'a, V, DE, UE, F> {
         Some(edge.as_voronoi_edge())
     }
 }
+
+impl<'a, V, DE, UE, F> DoubleEndedIterator for VoronoiCircularIterator<'a, V, DE, UE, F> {
+    ghost use Rattle.half_edge_views.specs.Rounds.{out_edges_left};
+
+    ghost next_back_gives = { YieldsLastBy (λ x. (x.edge.dcel, x.edge.index))
+        (λ it. out_edges_left it.edges) };
+
+    fn next_back(&mut self) -> Option<DirectedVoronoiEdge<'a, V, DE, UE, F>> {
+        let edge = self.edges.next_back()?;
+        Some(edge.as_voronoi_edge())
+    }
+}
+
+impl<'a, V, DE, UE, F> FusedIterator for VoronoiCircularIterator<'a, V, DE, UE, F> {}
 
 /// Iterators over the faces and edges of the Voronoi diagram of a mesh. What each call gives is
 /// said at `Dcel`.

@@ -13,6 +13,7 @@ mod iterators;
 mod lookups;
 mod removal;
 mod room;
+mod rounds;
 mod script;
 mod voronoi;
 

@@ -22,6 +22,7 @@ use crate::removal::{
 use crate::room::{
     few_enough, full, large_data, links_of_a_line, past_the_limit, reserve, with_capacity,
 };
+use crate::rounds::{from_behind, from_both_ends};
 use crate::voronoi::{undirected_voronoi_edge, voronoi_edge, voronoi_face, voronoi_vertex};
 use half_edge_mesh::MeshViews;
 use std::io;
@@ -125,6 +126,8 @@ fn list(rt: &impl Print, mesh: &Mesh, call: &Call<'_>) -> io::Result<()> {
     match call.name {
         "counts" => call.tell(rt, &counts(mesh)),
         "out_edges" => call.tell(rt, &round(mesh, a)),
+        "rounds_from_behind" => call.tell(rt, &from_behind(mesh, a)),
+        "rounds_from_both_ends" => call.tell(rt, &from_both_ends(mesh, a)),
         "lists" => call.tell(rt, &lists(mesh)),
         "names" => call.tell(rt, &names(mesh)),
         "lengths" => call.tell(rt, &lengths(mesh)),

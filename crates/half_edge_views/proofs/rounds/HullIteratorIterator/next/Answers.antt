@@ -1,6 +1,16 @@
 use Rattle.half_edge_links.specs.Mesh.{next}
-use Rattle.half_edge_views.proofs.Walks.{walk_goes_on, less_is_left}
+use Rattle.half_edge_views.proofs.Walks.{walk_goes_on, less_is_left, ending_goes_on}
 use Rattle.half_edge_views.proofs.rounds.HullIteratorIterator.next.Goals as goal
+
+pub invariant_of-self : goal.invariant_of-self
+invariant_of-self g c =
+    let at = c.in_ok-edge.ensures in
+    let went = c.go_on.ensures in
+    let after = rw (at.dcel, at.index) at c.next-after.ensures.index in
+    record {
+      ending = ending_goes_on next c.args.self.now.walk c.go_on.new.self _ at.some went.dcel
+          went.end went.next went.left after c.args.self.now.ending;
+    }
 
 pub returns-clause-steps : goal.returns-clause-steps
 returns-clause-steps g c =
@@ -8,7 +18,7 @@ returns-clause-steps g c =
     let went = c.go_on.ensures in
     let after = rw (at.dcel, at.index) at c.next-after.ensures.index in
     rw (at.dcel, at.index)
-    (walk_goes_on next c.args.self.now.walk c.go_on.new.self _ at.some went.dcel went.first
+    (walk_goes_on next c.args.self.now.walk c.go_on.new.self _ at.some went.dcel went.end
     went.next went.left after)
 
 pub returns-clause-goes : goal.returns-clause-goes
@@ -17,5 +27,5 @@ returns-clause-goes g c =
     let went = c.go_on.ensures in
     let after = rw (at.dcel, at.index) at c.next-after.ensures.index in
     let less = less_is_left next c.args.self.now.walk c.go_on.new.self _ at.some went.dcel
-    went.first went.next went.left after in
+    went.end went.next went.left after in
     record { on = λ _. (tt, tt, less); keeps = tt; rests = λ _. tt }

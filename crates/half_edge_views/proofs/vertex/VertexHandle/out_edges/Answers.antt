@@ -2,7 +2,7 @@ use Rattle.std.proofs.Common.{sym, ◌∙◌, subst}
 use Rattle.half_edge_links.specs.Peel.{turn}
 use Rattle.half_edge_views.specs.Rounds.{GivesRound}
 use Rattle.half_edge_views.proofs.Ranges.{out_edge-within}
-use Rattle.half_edge_views.proofs.Loops.{gives_round}
+use Rattle.half_edge_views.proofs.Loops.{gives_round, round_begins}
 use Rattle.half_edge_views.proofs.Walks.{walk_left_is, none_left}
 use Rattle.half_edge_views.proofs.vertex.VertexHandle.out_edges.Goals as goal
 
@@ -10,12 +10,22 @@ pub from-requires : goal.from-requires
 from-requires g c = out_edge-within c.args.self.now.dcel.now _ _ c.in-Some.ensures.whole
     (sym c.in-Some.ensures.value)
 
+pub invariant_of-result : goal.invariant_of-result
+invariant_of-result g c =
+    let made = c.from.ensures in
+    let within = out_edge-within c.args.self.now.dcel.now _ _ c.in-Some.ensures.whole
+    (sym c.in-Some.ensures.value) in
+    record {
+      ending = round_begins c.from.result c.args.self.now.dcel _ c.in-Some.ensures.whole within
+          made.dcel made.next made.end made.left;
+    }
+
 pub returns-in-Some : goal.returns-in-Some
 returns-in-Some g c =
     let d = c.args.self.now.dcel in
     let made = c.from.ensures in
     subst (GivesRound d c.args.self.now.index)
-    (sym (walk_left_is turn c.from.result d _ _ _ made.dcel made.first made.left made.next))
+    (sym (walk_left_is turn c.from.result d _ _ _ made.dcel made.end made.left made.next))
     (gives_round d _ _ c.in-Some.ensures.whole (sym c.in-Some.ensures.value))
 
 pub returns : goal.returns

@@ -2,7 +2,7 @@ use Rattle.std.proofs.Common.{sym, ◌∙◌, subst}
 use Rattle.half_edge_links.specs.Mesh.{next}
 use Rattle.half_edge_views.specs.Rounds.{GivesOuterLoop}
 use Rattle.half_edge_views.proofs.Ranges.{outer_edge-within}
-use Rattle.half_edge_views.proofs.Loops.{gives_loop}
+use Rattle.half_edge_views.proofs.Loops.{gives_loop, loop_begins}
 use Rattle.half_edge_views.proofs.Walks.{walk_left_is, none_left}
 use Rattle.half_edge_views.proofs.views.DcelMeshViews.convex_hull.Goals as goal
 
@@ -10,11 +10,21 @@ pub from-requires : goal.from-requires
 from-requires g c =
     outer_edge-within c.args.self.now _ c.in-Some.ensures.whole (sym c.in-Some.ensures.value)
 
+pub invariant_of-result : goal.invariant_of-result
+invariant_of-result g c =
+    let made = c.from.ensures in
+    let within = outer_edge-within c.args.self.now _ c.in-Some.ensures.whole
+    (sym c.in-Some.ensures.value) in
+    record {
+      ending = loop_begins c.from.result c.args.self _ c.in-Some.ensures.whole within made.dcel
+          made.next made.end made.left;
+    }
+
 pub returns-in-Some : goal.returns-in-Some
 returns-in-Some g c =
     let made = c.from.ensures in
     subst (GivesOuterLoop c.args.self)
-    (sym (walk_left_is next c.from.result c.args.self _ _ _ made.dcel made.first
+    (sym (walk_left_is next c.from.result c.args.self _ _ _ made.dcel made.end
     made.left made.next))
     (gives_loop c.args.self _ c.in-Some.ensures.whole (sym c.in-Some.ensures.value))
 
