@@ -5,6 +5,7 @@ use crate::constraint_edges::{free_and_fixed, made_and_unmade, markers, written}
 use crate::derived::{compare_answers, compare_edges, each_answer};
 use crate::generators::{duplicate, five, initialize};
 use crate::last_used;
+use crate::named::copy_named;
 use spade_delaunay::{
     HierarchyHintGeneratorWithBranchFactor as Hierarchy, LastUsedVertexHintGenerator, Point2,
 };
@@ -36,6 +37,7 @@ impl Beside {
             "hierarchy_of_five" => five::<Hierarchy<i64, 2>>(rt)?,
             "initialize" => initialize::<Hierarchy<i64, 2>>(rt)?,
             "duplicate" => duplicate::<Hierarchy<i64, 2>>(rt, self.is_marked)?,
+            "copy_named" => copy_named(rt, self.is_marked)?,
             "edges_made_constraints" => call.tell(rt, &made_and_unmade())?,
             "edges_shown" => call.tell(rt, &free_and_fixed())?,
             "answers_shown" => call.tell(rt, &each_answer())?,

@@ -5,6 +5,8 @@ use exact_tests::ExactTests;
 use spade_delaunay::handles::FixedVertexHandle;
 use spade_delaunay::{InsertionError, Point2, Triangulation, validate_vertex};
 use std::alloc::{AllocError, Global};
+use std::io;
+use test_script::Call;
 
 pub fn insert<T: Triangulation<Vertex = TaggedVertex>>(
     points: &mut T,
@@ -69,6 +71,19 @@ pub fn with_capacity<T: Triangulation>(
     let edges = usize::try_from(edges).unwrap_or(0);
     *points = T::with_capacity(alloc, vertices, edges, usize::try_from(faces).unwrap_or(0))?;
     Ok(())
+}
+
+/// Makes room, and tells what a refusal says that does not depend on the memory that is there.
+pub fn tell_room<T: Triangulation>(
+    rt: &(impl Print + AllocGlobal),
+    points: &mut T,
+    call: &Call<'_>,
+) -> io::Result<()> {
+    let ([vertices, edges, faces, ..], line) = (call.numbers, call.line);
+    match with_capacity(points, [vertices, edges, faces], rt.alloc()) {
+        Ok(()) | Err(InsertionError::OutOfMemory) => println!(rt; "{line} > room or no memory"),
+        Err(error) => println!(rt; "{line} > {error}"),
+    }
 }
 
 /// Removes all vertices, and tells how many are left.

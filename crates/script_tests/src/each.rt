@@ -74,6 +74,13 @@ struct Tally {
     different: Option<(String, usize)>,
 }
 
+fn nothing_counted() -> Tally {
+    Tally {
+        calls: 0,
+        different: None,
+    }
+}
+
 impl Tally {
     // How many calls there were if all answers agree, or else the first line that differs.
     fn agreement(&self) -> Result<u32, (&str, usize)> {
@@ -93,8 +100,9 @@ impl Tally {
 }
 
 /// A session for each kind of hints. `with_hints` and a number has that one alone make the calls
-/// that follow, and `with_each` all again. `hints_agree` tells how many calls all made if they
-/// printed the same lines at each, in any order, or else the first that differs.
+/// that follow, and `with_each` all again; all begin anew then. `hints_agree` tells how many calls
+/// all made since then if they printed the same lines at each, in any order, or else the first that
+/// differs.
 #[derive(Drop)]
 pub struct EachHints<L: Choosing> {
     sessions: Vec<Session<L>>,
@@ -115,17 +123,15 @@ impl<L: Choosing> EachHints<L> {
         Ok(EachHints {
             sessions: new_sessions(alloc)?,
             chosen: None,
-            tally: Tally {
-                calls: 0,
-                different: None,
-            },
+            tally: nothing_counted(),
         })
     }
 
-    // All sessions begin anew.
+    // All sessions begin anew, and calls are counted from here.
     fn renew(&mut self, chosen: Option<usize>, alloc: Global) -> Result<(), AllocError> {
         self.sessions = new_sessions(alloc)?;
         self.chosen = chosen;
+        self.tally = nothing_counted();
         Ok(())
     }
 

@@ -66,8 +66,8 @@ pub fn locate_vertex<T: Triangulation<Vertex = TaggedVertex>>(
     }
 }
 
-/// The vertex that is given as nearest to a point in range, and its squared distance.
-pub fn nearest<L: HintGenerator<i64>>(points: &Plain<L>, point: Point2<i64>) -> Option<(u32, i64)> {
+// The vertex that is given as nearest to a point in range, and its squared distance.
+fn nearest<L: HintGenerator<i64>>(points: &Plain<L>, point: Point2<i64>) -> Option<(u32, i64)> {
     if validate_vertex(&point).is_err() {
         return None;
     }
@@ -75,6 +75,21 @@ pub fn nearest<L: HintGenerator<i64>>(points: &Plain<L>, point: Point2<i64>) -> 
         return None;
     };
     Some((vertex.index, distance_2(vertex.data().position, point)))
+}
+
+/// The squared distance from a point in range to the nearest vertex.
+pub fn distance<L: HintGenerator<i64>>(points: &Plain<L>, point: Point2<i64>) -> Option<i64> {
+    let (_, distance_2) = nearest(points, point)?;
+    Some(distance_2)
+}
+
+/// The index of the vertex that is given as nearest to a point in range.
+pub fn nearest_neighbor<L: HintGenerator<i64>>(
+    points: &Plain<L>,
+    point: Point2<i64>,
+) -> Option<u32> {
+    let (index, _) = nearest(points, point)?;
+    Some(index)
 }
 
 /// What searches from the vertices 0 to 20, and from 1000, find.

@@ -28,6 +28,7 @@ mod journal;
 mod last_used;
 mod lasts;
 mod locations;
+mod named;
 mod paths;
 mod points;
 mod reads;

@@ -2,8 +2,8 @@
 
 use crate::beside::Beside;
 use crate::calls::{
-    clear, fill, insert, insert_row, insert_with_hint, locate_and_remove, remove, replace, thin,
-    with_capacity,
+    clear, fill, insert, insert_row, insert_with_hint, locate_and_remove, remove, replace,
+    tell_room, thin, with_capacity,
 };
 use crate::conflicts::{conflicts, conflicts_between, intersects};
 use crate::constraints::{
@@ -21,7 +21,7 @@ use crate::flips::insert_counting;
 use crate::hints::{Choosing, factor_of, hint, print_told, right_and_wrong};
 use crate::items::tell_items;
 use crate::journal::{Edits, edit_of, replay_constrained, replay_plain, tell_outcomes};
-use crate::locations::{found_from_all, locate, locate_vertex, nearest};
+use crate::locations::{distance, found_from_all, locate, locate_vertex, nearest_neighbor};
 use crate::paths::{joined, next};
 use crate::points::{Constrained, Plain, TaggedVertex, counts, vertex_of, vertices_at};
 use crate::reads::{print_bounds, print_lists, print_positions, print_sums};
@@ -193,6 +193,7 @@ fn edit<T: Triangulation<Vertex = TaggedVertex>>(
             let made = with_capacity(points, [first, second, third], rt.alloc());
             call.tell(rt, &made)
         }
+        "room_refusal" => tell_room(rt, points, call),
         "clear" => call.tell(rt, &clear(points)),
         "fill" => call.tell(rt, &fill(points)),
         "thin" => call.tell(rt, &thin(points, index(first))),
@@ -294,7 +295,8 @@ fn edit_plain<L: Choosing>(
     let ([from, to, _], vertex, alloc) = (call.indexes(), vertex_of(call), rt.alloc());
     match call.name {
         "told" | "asked" => told(rt, points.hint_generator(), call),
-        "nearest_neighbor" => call.tell(rt, &nearest(points, vertex.position)),
+        "nearest_neighbor" => call.tell(rt, &nearest_neighbor(points, vertex.position)),
+        "distance" => call.tell(rt, &distance(points, vertex.position)),
         "insert_counting" => {
             let inserted = insert_counting(points, vertex, flips);
             call.tell(rt, &(inserted, *flips))

@@ -3,14 +3,12 @@
 #![tactic(auto)]
 
 mod hashes;
-mod twice;
 
 use delaunay_core::point::Point2;
 pub use hashes::hash_of;
 use std::alloc::{AllocError, Global};
 use std::fmt::Debug;
 use std::io;
-pub use twice::Twice;
 
 /// A call by its name, with the line that asks for it.
 #[derive(Drop)]

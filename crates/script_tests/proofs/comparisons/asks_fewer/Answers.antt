@@ -2,13 +2,14 @@ use Rattle.std.proofs.Common.{ap}
 use Rattle.std.proofs.lemmas.List.Elements.{All-map}
 use Rattle.plane.specs.Tests.{InRange}
 use Rattle.delaunay_core.specs.Place.{place_of}
+use Rattle.script_tests.specs.Vertices.{position_of}
 use Rattle.script_tests.proofs.Asked.{begins_at, corners_in_range}
 use Rattle.script_tests.proofs.comparisons.asks_fewer.Goals as goal
 
 pub edges_in_shape-requires-clause-sites : goal.edges_in_shape-requires-clause-sites
 edges_in_shape-requires-clause-sites g c =
     All-map InRange
-    (place_of (λ z. z)) c.mesh_of-mesh.result.now.vertices c.mesh_of-mesh.ensures.in_range
+    position_of c.mesh_of-mesh.result.now.vertices c.mesh_of-mesh.ensures.in_range
 
 pub edges_in_shape-requires-clause-own_covered : goal.edges_in_shape-requires-clause-own_covered
 edges_in_shape-requires-clause-own_covered g c =
