@@ -40,6 +40,19 @@ def are_on_line(points):
     return all(side(points[0], points[1], p) == 0 for p in points[2:])
 
 
+def twice_hull(points):
+    """Twice the area of the convex hull."""
+    total = 0
+    for ordered in sorted(points), sorted(points, reverse=True):
+        chain = []
+        for p in ordered:
+            while len(chain) > 1 and side(chain[-2], chain[-1], p) <= 0:
+                chain.pop()
+            chain.append(p)
+        total += sum(a[0] * b[1] - a[1] * b[0] for a, b in zip(chain, chain[1:]))
+    return total
+
+
 def worst_circle(points, constraints, a, b):
     """Positive where every circle through a and b has a point inside that is seen from them, 0 where
     one has one on it."""
