@@ -21,8 +21,11 @@ class MeshState:
 
     def __init__(self, lines):
         self.points, self.tags, self.out_edges, self.edges, self.faces = [], [], [], [], {}
+        indexes = {"vertex": [], "edge": [], "face": []}
         for line in lines:
             vertex, edge, face = (kind.fullmatch(line) for kind in (VERTEX, EDGE, FACE))
+            for found in filter(None, (vertex, edge, face)):
+                indexes[line.split()[0]].append(int(found[1]))
             if vertex:
                 self.points.append(literal_eval(vertex[2]))
                 self.tags.append(int(vertex[3]))
@@ -32,6 +35,11 @@ class MeshState:
                 self.edges.append(Edge(literal_eval(edge[2]), *links, edge[4] == "true"))
             elif face:
                 self.faces[int(face[1])] = tuple(literal_eval(face[2]))
+        firsts = {"vertex": 0, "edge": 0, "face": 1}
+        self.are_in_order = all(
+            found == list(range(firsts[kind], firsts[kind] + len(found)))
+            for kind, found in indexes.items()
+        )
 
     def pairs(self):
         """The edges as pairs of vertices, the least first."""
@@ -71,6 +79,8 @@ class MeshState:
     def wrong(self, plain, tags):
         """The first way in which this is not the triangulation of points and constraints, or
         nothing. Of two diagonals that are open either may be there."""
+        if not self.are_in_order:
+            return "the indexes of some elements are not those from the first on"
         if self.points != plain.points or self.tags != tags:
             return f"other vertices than {list(zip(plain.points, tags))}"
         walls = {tuple(sorted(edge.ends)) for edge in self.edges if edge.is_constraint}
