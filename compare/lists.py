@@ -1,7 +1,8 @@
-"""What the questions of crates/script_tests give that list or count elements, worked out from points,
-constraints and edges."""
-from geometry import distance_2, in_circle, meets_circle, meets_rectangle, side
+"""What the questions of crates/script_tests give that list or count elements, worked out from
+points, constraints and edges."""
 from itertools import combinations
+
+from geometry import distance_2, in_circle, meets_circle, meets_rectangle, side
 from questions import Questions
 
 # The nine points that shapes are made of in turn.
@@ -84,7 +85,8 @@ class Lists:
 
     def ask_sums(self):
         points, faces = self.points, self.mesh.faces.values()
-        lengths = sum(distance_2(points[i], points[j]) for i, j in (it.ends for it in self.mesh.edges))
+        ends = [edge.ends for edge in self.mesh.edges]
+        lengths = sum(distance_2(points[i], points[j]) for i, j in ends)
         areas = sum(side(*(points[i] for i in corners)) for corners in faces)
         return [f"squared lengths {lengths}, twice the areas {areas}"]
 

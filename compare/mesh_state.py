@@ -98,8 +98,8 @@ class MeshState:
 
     def wrong_tiling(self):
         """The first way in which faces are no triangulation, or nothing: each turns left, together
-        they have the area of the hull, so they lie beside each other, and no vertex opposite an edge
-        that is no constraint is inside the circle on its other side."""
+        they have the area of the hull, so they lie beside each other, and no vertex opposite an
+        edge that is no constraint is inside the circle on its other side."""
         area, opposite = 0, {}
         for corners in self.faces.values():
             a, b, c = (self.points[i] for i in corners)

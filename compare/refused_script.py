@@ -1,4 +1,5 @@
-"""The calls that compare/refused_calls and compare/refused_hints make, in lines for script_tests."""
+"""The calls that compare/refused_calls and compare/refused_hints make, as lines for
+script_tests."""
 
 SHAPES = [
     "edges_in_rectangle -50 -30 50 40",
@@ -75,12 +76,15 @@ WITHOUT_MEMORY = [
     (SCRIPT.index("add_constraint 2 3"), "remove_constraint_edge 6 3", "Some(Ok(false))"),
     (SCRIPT.index("remove_constraint_edge 2 3"), "try_add_constraint 6 4", "path"),
 ]
-# Lists of edits, each after some lines: of both types, with steps that are refused for other reasons.
+# Lists of edits, each after some lines: of both types, with steps refused for other reasons.
 PLACES = [(0, 0), (40, 10), (-30, 50), (10, -70), (90, 90), (20, 5)]
 INSERTED = [f"list_insert {x} {y}" for x, y in PLACES]
 REPLAYED = [
     ([], INSERTED),
-    (SCRIPT[: SCRIPT.index("try_clone")], [*INSERTED, "list_remove 2", "list_remove 99", "list_add 0 1"]),
+    (
+        SCRIPT[: SCRIPT.index("try_clone")],
+        [*INSERTED, "list_remove 2", "list_remove 99", "list_add 0 1"],
+    ),
     (
         SCRIPT[: SCRIPT.index("add_constraint 2 3")],
         ["list_insert 1 60", "list_add 2 3", "list_insert 33 44", "list_add 6 4", "list_remove 7",
