@@ -141,6 +141,9 @@ HINTED = [
     "insert 50 -50 8",
     "insert -80 80 9",
     "try_clone",
+    "insert_counting 45 45 12",
+    "edges_in_circle 10 10 3000",
+    "vertices_in_rectangle -50 -30 50 40",
     "remove 2",
     "remove 0",
     "insert_with_hint 3 3 10 1",
@@ -150,8 +153,14 @@ HINTED = [
     "insert 1 60 11",
     "add_constraint 1 2",
     "insert 5 5 12",
+    "try_add_constraint 3 4",
+    "add_constraint_edge -100 -95 100 -95",
+    "add_constraint_edges -90 -90 0 -90 95 -80",
+    "add_closed_edges -20 160 20 162 15 180",
+    "remove_constraint_edge 1 2",
     "remove 3",
     "try_clone",
+    "with_capacity 50 150 100",
 ]
 # Where hints are asked for.
 POSITIONS = [(40, 10), (-30, 50), (-60, -20), (50, -50), (-80, 80), (20, 30)]

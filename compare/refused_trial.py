@@ -13,6 +13,9 @@ REFUSAL = re.compile(
     r"(.* > )?\(?(Some\()?Err\((AllocError|OutOfMemory|Insertion\(OutOfMemory\))\)\)?(, \d+\))?"
 )
 
+# Calls of several steps.
+CHAINS = "add_constraint_edge", "add_constraint_edges", "add_closed_edges"
+
 
 class Trial:
     """A run of the program that has run some lines, with nothing refused."""
@@ -45,3 +48,32 @@ class Trial:
 
 def fail(lines, line, number, *why):
     sys.exit("\n".join([*lines, f"{line}, growth {number}:", *map(str, why)]))
+
+
+def steps_of(command, lines, line, look):
+    """What a look at a trial gives between the steps of a call, and the growths of each step. Most
+    calls have one."""
+    trial = Trial(command, lines)
+    seen, growths = [look(trial)], []
+
+    def step(line):
+        reply, found, _ = trial.ask(line)
+        growths.append(found)
+        seen.append(look(trial))
+        return reply[0]
+
+    name, *words = line.split()
+    if name not in CHAINS:
+        step(line)
+        trial.end()
+        return seen, growths
+    found = []
+    for place in range(0, len(words), 2):
+        x, y = words[place : place + 2]
+        found.append(re.search(r"Ok\((\d+)\)", step(f"insert {x} {y} 5"))[1])
+        if place:
+            step(f"add_constraint {found[-2]} {found[-1]}")
+    if name == "add_closed_edges":
+        step(f"add_constraint {found[-1]} {found[0]}")
+    trial.end()
+    return seen, growths
