@@ -12,7 +12,6 @@ mod listing;
 mod switching;
 mod telling;
 
-
 use delaunay_core::HintGenerator;
 use delaunay_core::math::PlaneTests;
 use delaunay_core::point::{Point2, SpadeNum};

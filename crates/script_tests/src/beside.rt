@@ -1,11 +1,11 @@
 //! Calls beside triangulations: generators of hints by themselves, data of edges, and answers to
 //! locations.
 
-use crate::constraint_edges::{free_and_fixed, made_and_unmade, markers, written};
-use crate::derived::{compare_answers, compare_edges, each_answer};
 use crate::generators::{duplicate, five, initialize};
 use crate::last_used;
 use crate::named::copy_named;
+use script_calls::constraint_edges::{free_and_fixed, made_and_unmade, markers, written};
+use script_calls::derived::{compare_answers, compare_edges, each_answer};
 use spade_delaunay::{
     HierarchyHintGeneratorWithBranchFactor as Hierarchy, LastUsedVertexHintGenerator, Point2,
 };

@@ -3,13 +3,13 @@ ghost use Rattle.std.specs.Prelude.{All};
 ghost use Rattle.plane.specs.Tests.{InRange};
 ghost use Rattle.delaunay_legalization.specs.Shape.{IsTriangulated};
 ghost use Rattle.delaunay_legalization.specs.State.{state_of};
-ghost use Rattle.script_tests.specs.Vertices.{position_of};
+ghost use Rattle.script_calls.specs.Vertices.{position_of};
 
 use crate::counting::counting_rectangle;
-use crate::points::{TaggedVertex, both_in_range, circle_in_range};
 use crate::shapes::{Found, edges_of, found_in_circle, found_in_rectangle, listed};
 use delaunay_shapes::{edges_by_filter, edges_in_shape, vertices_by_filter};
 use exact_tests::ExactTests;
+use script_calls::points::{TaggedVertex, both_in_range, circle_in_range};
 use spade_delaunay::handles::FixedVertexHandle;
 use spade_delaunay::{
     CircleMetric, Dcel, DistanceMetric, FloatTriangulation, Point2, RectangleMetric, Triangulation,

@@ -1,15 +1,9 @@
-//! The generators that a triangulation has, one of which it asks, and the vertices of their hints
-//! against a look at each vertex.
+//! The generators that a triangulation has, one of which it asks.
 
-use crate::points::{TaggedVertex, distance_2, positions_of};
-use exact_tests::ExactTests;
 use odd_hints::{Choice, Listing, Switching, Told};
-use spade_delaunay::{
-    HierarchyHintGeneratorWithBranchFactor as Hierarchy, HintGenerator, Point2, Triangulation,
-    validate_vertex,
-};
-use std::alloc::{AllocError, Global};
+use spade_delaunay::{HierarchyHintGeneratorWithBranchFactor as Hierarchy, HintGenerator};
 use std::io;
+use test_script::Call;
 
 /// The generators of the scripts.
 pub type Hints = Switching<
@@ -69,67 +63,6 @@ pub fn factor_of(choice: Choice) -> u32 {
     }
 }
 
-/// The vertex that a search for a position would begin at.
-pub fn hint<T: Triangulation<Vertex = TaggedVertex>>(
-    points: &T,
-    position: Point2<i64>,
-) -> Option<u32> {
-    if validate_vertex(&position).is_err() {
-        return None;
-    }
-    points.recall_invariant();
-    let generator = points.hint_generator();
-    Some(generator.get_hint(position, &ExactTests).index())
-}
-
-// The squared distance to the nearest vertex that the first layer is to have: its index is a
-// multiple of the factor.
-fn distance_to_layer(vertices: &[Point2<i64>], factor: u32, position: Point2<i64>) -> i64 {
-    let mut least = i64::MAX;
-    let mut index = 0u32;
-    for vertex in vertices {
-        if index.checked_rem(factor) == Some(0) {
-            least = least.min(distance_2(*vertex, position));
-        }
-        index = index.wrapping_add(1);
-    }
-    least
-}
-
-// Whether the hint for a position is a vertex of the first layer that none of it is nearer than,
-// or 0 where there is no layer.
-fn is_right(vertices: &[Point2<i64>], factor: u32, position: Point2<i64>, hint: u32) -> bool {
-    if factor < 2 {
-        return hint == 0;
-    }
-    match vertices.get(hint as usize) {
-        Some(vertex) => {
-            let distance = distance_2(*vertex, position);
-            hint % factor == 0 && distance == distance_to_layer(vertices, factor, position)
-        }
-        None => false,
-    }
-}
-
-/// At how many vertices the hint is as it is to be, and at how many it is not.
-pub fn right_and_wrong<T: Triangulation<Vertex = TaggedVertex>>(
-    points: &T,
-    factor: u32,
-    alloc: Global,
-) -> Result<(u64, u64), AllocError> {
-    let vertices = positions_of(points, alloc)?;
-    let (mut right, mut wrong): (u64, u64) = (0, 0);
-    for position in &vertices {
-        match hint(points, *position) {
-            Some(hint) if is_right(vertices.as_slice(), factor, *position, hint) => {
-                right = right.saturating_add(1);
-            }
-            _ => wrong = wrong.saturating_add(1),
-        }
-    }
-    Ok((right, wrong))
-}
-
 fn print_one(rt: &impl Print, told: Told) -> io::Result<()> {
     match told {
         Told::Inserted(vertex, x, y) => println!(rt; "inserted {vertex} at {x} {y}"),
@@ -138,10 +71,22 @@ fn print_one(rt: &impl Print, told: Told) -> io::Result<()> {
     }
 }
 
-/// Prints what a generator was told.
-pub fn print_told(rt: &impl Print, listing: &Listing) -> io::Result<()> {
+// Prints what a generator was told.
+fn print_told(rt: &impl Print, listing: &Listing) -> io::Result<()> {
     for told in &listing.told {
         print_one(rt, *told)?;
     }
     Ok(())
+}
+
+/// Prints what the generator that lists was told, or how often it was asked.
+pub fn tell_listing<L: Choosing>(
+    rt: &impl Print,
+    generator: &L,
+    call: &Call<'_>,
+) -> io::Result<()> {
+    match call.name {
+        "told" => print_told(rt, generator.listing()),
+        _ => call.tell(rt, &generator.listing().asked.get()),
+    }
 }

@@ -1,8 +1,8 @@
 //! Lists of edits, which are made on a triangulation one after another.
 
-use crate::points::{Constrained, Plain, TaggedVertex};
 use delaunay_journal::{Edit, Outcome, Replayable, replay};
 use exact_tests::ExactTests;
+use script_calls::points::{Constrained, Plain, TaggedVertex};
 use spade_delaunay::handles::FixedVertexHandle;
 use spade_delaunay::{HintGenerator, Point2};
 use std::alloc::AllocError;

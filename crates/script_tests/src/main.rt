@@ -7,38 +7,17 @@
 #![tactic(auto)]
 
 mod beside;
-mod calls;
 mod comparisons;
-mod conflicts;
-mod constraint_edges;
-mod constraints;
 mod counting;
-mod data;
-mod derived;
-mod drawing;
 mod each;
-mod elements;
-mod ends;
-mod filter;
-mod flips;
 mod generators;
 mod hints;
-mod items;
 mod journal;
 mod last_used;
-mod lasts;
-mod locations;
 mod named;
-mod paths;
-mod points;
-mod reads;
-mod segment;
 mod session;
 mod shape_calls;
 mod shapes;
-mod sheets;
-mod triples;
-mod walks;
 
 use each::EachHints;
 use hints::{Hints, choice_of};

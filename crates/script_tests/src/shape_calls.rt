@@ -1,9 +1,9 @@
 //! Lines that ask for the edges and vertices in a rectangle or a circle.
 
 use crate::comparisons::{asks_fewer, compare_circles, compare_rectangles};
-use crate::points::{TaggedVertex, both_in_range, circle_in_range};
 use crate::shapes::{found_in_circle, found_in_rectangle};
 use exact_tests::ExactTests;
+use script_calls::points::{TaggedVertex, both_in_range, circle_in_range};
 use spade_delaunay::{EdgesInShapeIterator, FloatTriangulation, Point2, VerticesInShapeIterator};
 use std::alloc::{AllocError, Global};
 use std::io;

@@ -1,8 +1,8 @@
 //! What a triangulation gives in rectangles and circles: nothing where a point is out of range, a
 //! squared radius is negative, or memory was refused.
 
-use crate::points::{TaggedVertex, both_in_range, circle_in_range, ends_of};
 use exact_tests::ExactTests;
+use script_calls::points::{TaggedVertex, both_in_range, circle_in_range, ends_of};
 use spade_delaunay::{EdgesInShapeIterator, FloatTriangulation, Point2, VerticesInShapeIterator};
 use std::alloc::{AllocError, Global};
 

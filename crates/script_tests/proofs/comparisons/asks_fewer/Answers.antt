@@ -2,7 +2,7 @@ use Rattle.std.proofs.Common.{ap}
 use Rattle.std.proofs.lemmas.List.Elements.{All-map}
 use Rattle.plane.specs.Tests.{InRange}
 use Rattle.delaunay_core.specs.Place.{place_of}
-use Rattle.script_tests.specs.Vertices.{position_of}
+use Rattle.script_calls.specs.Vertices.{position_of}
 use Rattle.script_tests.proofs.Asked.{begins_at, corners_in_range}
 use Rattle.script_tests.proofs.comparisons.asks_fewer.Goals as goal
 

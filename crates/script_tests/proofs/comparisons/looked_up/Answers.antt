@@ -1,6 +1,6 @@
 use Rattle.std.proofs.lemmas.List.Elements.{All-map}
 use Rattle.plane.specs.Tests.{InRange}
-use Rattle.script_tests.specs.Vertices.{position_of}
+use Rattle.script_calls.specs.Vertices.{position_of}
 use Rattle.script_tests.proofs.comparisons.looked_up.Goals as goal
 
 pub edges_by_filter-edges-requires-clause-covered :

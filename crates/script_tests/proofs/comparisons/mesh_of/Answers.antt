@@ -1,5 +1,5 @@
 use Rattle.delaunay_shape_queries.proofs.Calls.{kept_in_mesh}
-use Rattle.script_tests.specs.Vertices.{position_of}
+use Rattle.script_calls.specs.Vertices.{position_of}
 use Rattle.script_tests.proofs.comparisons.mesh_of.Goals as goal
 
 pub returns-clause-kept : goal.returns-clause-kept
