@@ -2,11 +2,36 @@
 points, constraints and edges."""
 from itertools import combinations
 
-from geometry import distance_2, in_circle, meets_circle, meets_rectangle, side
+from geometry import (
+    distance_2,
+    in_circle,
+    meets_circle,
+    meets_rectangle,
+    met_by_segment,
+    side,
+)
 from questions import Questions
 
+# What a hierarchy by 2 is made for, and where it is asked for hints then.
+FIVE = [(-1, -1), (0, -1), (1, -1), (-1, 0), (0, 0)]
+NEAR_FIVE = [(-1, -1), (1, -1), (0, 0), (0, 0)]
+MANY = [(0, 0), (40, 10), (-30, 50), (-60, -20), (10, -70)]
+MANY += [(90, 90), (20, 30), (50, -50), (-80, 80)]
+NEAR_MANY = [(-30, 50), (10, -70), (20, 30), (-80, 80)]
+# Lists without an order.
+UNORDERED = "hull constraints edges_in_circle vertices_in_circle edges_in_rectangle "
+UNORDERED += "vertices_in_rectangle"
+UNORDERED = UNORDERED.split()
 # The nine points that shapes are made of in turn.
 NINE = [(k % 3 - 1, k // 3 % 3 - 1) for k in range(81)]
+
+
+def hinted(remark, points, places):
+    """A remark, and the vertex of even index that is nearest to each place."""
+    yield remark
+    for x, y in places:
+        hint = min(range(0, len(points), 2), key=lambda i: distance_2(points[i], (x, y)))
+        yield f"hint at ({x}, {y}): {hint}"
 
 
 class Lists:
@@ -23,7 +48,7 @@ class Lists:
         return hasattr(cls, f"ask_{name}") or hasattr(Questions, f"ask_{name}")
 
     def ask(self, line, said):
-        """The lines that a question has to print. Those of a list may come in any order."""
+        """The lines that a question has to print, in any order where none is said."""
         name, *words = line.split()
         call = getattr(self, f"ask_{name}", None)
         if call is None:
@@ -31,7 +56,8 @@ class Lists:
         wanted = call(*map(int, words))
         if isinstance(wanted, str):
             return [f"{line} > {wanted}"]
-        return said if sorted(said) == sorted(wanted) else wanted
+        is_unordered = name in UNORDERED and sorted(said) == sorted(wanted)
+        return said if is_unordered else wanted
 
     def ask_vertices(self):
         edges = ["None" if it is None else f"Some({it})" for it in self.mesh.out_edges]
@@ -100,6 +126,36 @@ class Lists:
             empty += side(a, b, c) > 0 and all(in_circle(a, b, c, p) < 0 for p in others)
         faces = 3 * len(self.mesh.faces)
         return f"Ok(Counts {{ strictly_empty: {3 * empty}, faces: {faces}, wrong: 0 }})"
+
+    def ask_items(self, x, y, u, v):
+        """What a segment meets, by indexes."""
+        names = {edge.ends: index for index, edge in enumerate(self.mesh.edges)}
+        pairs = sorted(tuple(sorted(edge.ends)) for edge in self.mesh.edges[::2])
+        kinds = {"e": "EdgeIntersection", "o": "EdgeOverlap"}
+        found = []
+        for kind, *ends in met_by_segment((x, y), (u, v), self.points, pairs):
+            if kind == "v":
+                found.append(f"VertexIntersection(VertexHandle {{ index: {ends[0]}, .. }})")
+            else:
+                name = f"DirectedEdgeHandle {{ index: {names[tuple(ends)]}, .. }}"
+                found.append(f"{kinds[kind]}({name})")
+        return found
+
+    def ask_hierarchy_of_five(self):
+        left = [*FIVE[:2], FIVE[4], FIVE[3]]
+        return [
+            *hinted("told of five vertices", FIVE, NEAR_FIVE),
+            *hinted("told that the one at 1 -1 went", left, NEAR_FIVE),
+            *hinted("made for the five", FIVE, NEAR_FIVE),
+            *hinted("its copy", FIVE, NEAR_FIVE),
+        ]
+
+    def ask_initialize(self):
+        return list(hinted("made", MANY, NEAR_MANY))
+
+    def ask_duplicate(self):
+        copy, first = (hinted(name, MANY, NEAR_MANY) for name in ("copy", "first"))
+        return ["ready", *copy, *first]
 
     def ask_hint(self, x, y):
         """The nearest vertex whose index is a multiple of the factor. No two are as near here."""
