@@ -1,5 +1,5 @@
-"""Points, segments and circles, and which edges a Delaunay triangulation of few points has, found by
-trying all. Numbers are exact."""
+"""Points, segments and circles, and which edges a Delaunay triangulation of few points has, found
+by trying all. Numbers are exact."""
 from fractions import Fraction
 from itertools import combinations
 
@@ -40,10 +40,23 @@ def are_on_line(points):
     return all(side(points[0], points[1], p) == 0 for p in points[2:])
 
 
+def twice_hull(points):
+    """Twice the area of the convex hull."""
+    total = 0
+    for ordered in sorted(points), sorted(points, reverse=True):
+        chain = []
+        for p in ordered:
+            while len(chain) > 1 and side(chain[-2], chain[-1], p) <= 0:
+                chain.pop()
+            chain.append(p)
+        total += sum(a[0] * b[1] - a[1] * b[0] for a, b in zip(chain, chain[1:]))
+    return total
+
+
 def worst_circle(points, constraints, a, b):
-    """Positive where every circle through a and b has a point inside that is seen from them, 0 where
-    one has one on it."""
-    seen = [p for p in points if not any(cross(p, q, *wall) for wall in constraints for q in (a, b))]
+    """Positive where every circle through a and b has a point inside that is seen from them, 0
+    where one has one on it."""
+    seen = [p for p in points if not any(cross(p, q, *it) for it in constraints for q in (a, b))]
     left = [p for p in seen if side(a, b, p) > 0]
     right = [p for p in seen if side(a, b, p) < 0]
     return max((in_circle(a, b, p, q) for p in left for q in right), default=-1)
@@ -76,7 +89,7 @@ def edges_of(points, constraints, listed):
 
 
 def faces_of(points, edges):
-    """Triples that are joined with no point within, each from its least index on and turning left."""
+    """Triples that are joined with no point within, from the least index on and turning left."""
     edges = set(edges)
     for i, j, k in combinations(range(len(points)), 3):
         turn = side(points[i], points[j], points[k])

@@ -3,7 +3,6 @@ from geometry import (
     are_on_line,
     carries,
     distance_2,
-    faces_of,
     is_inside,
     meets_circle,
     meets_rectangle,
@@ -16,9 +15,9 @@ from session import in_range, truth
 class Questions:
     """Questions about points and constraints, whose edges are these pairs."""
 
-    def __init__(self, state, edges):
+    def __init__(self, state, edges, faces):
         self.points, self.walls, self.edges = state.points, state.walls, sorted(edges)
-        self.faces = sorted(faces_of(self.points, edges))
+        self.faces = sorted(faces)
 
     def ask(self, name, numbers, said):
         """What a question gives, or nothing where it is none. What was said instead counts where
@@ -59,8 +58,9 @@ class Questions:
             a, b = self.points[i], self.points[j]
             turn = side(a, b, p)
             is_outer = all(side(a, b, q) <= 0 for q in self.points)
-            is_end = all((q[0] - a[0]) * (b[0] - a[0]) + (q[1] - a[1]) * (b[1] - a[1]) >= 0 for q in self.points)
-            if turn > 0 and is_outer or is_line and turn == 0 and is_end:
+            is_end = not any(side(a, b, q) == 0 and carries(q, b, a) for q in self.points)
+            is_past = turn == 0 and carries(p, b, a)
+            if turn > 0 and is_outer or is_line and is_end and is_past:
                 yield i, j
 
     def ask_locate(self, said, x, y):
@@ -88,8 +88,13 @@ class Questions:
         if not in_range((x, y)) or not self.points:
             return "None"
         ways = [distance_2(p, (x, y)) for p in self.points]
-        nearest = [f"Some(({i}, {way}))" for i, way in enumerate(ways) if way == min(ways)]
+        nearest = [f"Some({i})" for i, way in enumerate(ways) if way == min(ways)]
         return said if said in nearest else nearest[0]
+
+    def ask_distance(self, x, y):
+        if not in_range((x, y)) or not self.points:
+            return "None"
+        return f"Some({min(distance_2(p, (x, y)) for p in self.points)})"
 
     def walk(self, said, s, e):
         """What a segment meets. Where it is a point on an edge, either direction may be given."""

@@ -1,4 +1,5 @@
-"""The calls that compare/refused_calls makes, in the lines of refused_program."""
+"""The calls that compare/refused_calls and compare/refused_hints make, as lines for
+script_tests."""
 
 SHAPES = [
     "edges_in_rectangle -50 -30 50 40",
@@ -18,10 +19,10 @@ SCRIPT = [
     "remove 1",
     "insert 40 10 4",
     "insert_with_hint -30 50 5 1",
-    "insert 10 -70 6",
+    "insert_counting 10 -70 6",
     "insert 90 90 7",
     "write_data 200",
-    "insert 20 5 8",
+    "insert_counting 20 5 8",
     "insert_with_hint 5 25 9 3",
     "insert -60 80 10",
     "insert -80 20 11",
@@ -58,7 +59,77 @@ SCRIPT = [
     "try_clone",
     "with_capacity 50 150 100",
 ]
-# The same with a hierarchy of hints.
+# Edits that take no memory, each after so many lines of SCRIPT: what it gives.
+WITHOUT_MEMORY = [
+    (0, "clear", "0"),
+    (0, "remove 0", "None"),
+    (7, "replace_vertex 1 90", "Some(3)"),
+    (0, "insert 536870913 0 1", "Err(TooLarge)"),
+    (0, "with_capacity 0 0 0", "Ok(())"),
+    (0, "with_capacity 5000000000 0 0", "Err(OutOfIndexes)"),
+    (7, "insert 40 10 77", "Ok(2)"),
+    (11, "insert 40 10 77", "Ok(2)"),
+    (11, "insert_with_hint 40 10 78 0", "Ok(2)"),
+    (11, "insert 0 -536870913 1", "Err(TooLarge)"),
+    (11, "locate_and_remove 41 10", "Some(Ok(None))"),
+    (SCRIPT.index("add_constraint 2 3"), "try_add_constraint 1 1", "path"),
+    (SCRIPT.index("add_constraint 2 3"), "remove_constraint_edge 6 3", "Some(Ok(false))"),
+    (SCRIPT.index("remove_constraint_edge 2 3"), "try_add_constraint 6 4", "path"),
+]
+# Lists of edits, each after some lines: of both types, with steps refused for other reasons.
+PLACES = [(0, 0), (40, 10), (-30, 50), (10, -70), (90, 90), (20, 5)]
+INSERTED = [f"list_insert {x} {y}" for x, y in PLACES]
+REPLAYED = [
+    ([], INSERTED),
+    (
+        SCRIPT[: SCRIPT.index("try_clone")],
+        [*INSERTED, "list_remove 2", "list_remove 99", "list_add 0 1"],
+    ),
+    (
+        SCRIPT[: SCRIPT.index("add_constraint 2 3")],
+        ["list_insert 1 60", "list_add 2 3", "list_insert 33 44", "list_add 6 4", "list_remove 7",
+         "list_replace 0 1 1", "list_release 2 3", "list_release 0 9", "list_clear", *INSERTED[:2]],
+    ),
+]
+# States at which questions are asked: nothing, a vertex, a line, and more, and with constraints.
+QUIET_STATES = [
+    ([], False),
+    (SCRIPT[:2], False),
+    (SCRIPT[:7], False),
+    (SCRIPT[: SCRIPT.index("from_delaunay")], False),
+    (SCRIPT[: SCRIPT.index("locate_and_remove 50 0")], True),
+]
+# Questions, and edits that put nothing in: of both types, and of one.
+QUIET = {
+    "both": [
+        *("state", "data", "constraints", "counts", "on_line", "vertices", "hull", "lists"),
+        *("positions", "bounds", "sums", "ends 0", "clear", "swap", "is_constrained"),
+        *(f"{call} {place}" for call in ("locate", "locate_with_hint", "locate_vertex", "hint")
+          for place in ("0 0", "11 3", "500 -500", "20 60", "536870913 0")),
+        *("items 0 0 40 10", "items -500 -400 500 300", "items 7 7 7 7", "items 300 0 400 0"),
+        *("number_between 0 1", "write_between 0 1 5", "write_directed 1 6", "write_face 1 7"),
+        *("write_face 0 8", "write_data 50", "replace_vertex 0 99", "replace_vertex 99 0"),
+        *("remove 99", "locate_and_remove 501 501", "insert 0 536870913 1"),
+        *("insert_with_hint -536870913 0 1 0", "with_capacity 0 0 0"),
+    ],
+    "plain": ["nearest_neighbor 3 4", "nearest_neighbor 500 500", "told", "asked"],
+    "constrained": [
+        *("num_constraints", "can_add_constraint 0 4", "can_add_constraint 2 6"),
+        *("exists_constraint 0 1", "exists_constraint 3 2", "is_constraint_edge 0 1"),
+        *("intersects_constraint 0 0 40 60", "intersects_constraint -500 5 500 5"),
+        *("try_add_constraint 3 3", "remove_constraint_edge 99 0", "told", "asked"),
+    ],
+}
+# Walks, of whose items the program makes a list.
+LISTED = {
+    "both": ["line 0 0 40 10", "line -500 -400 500 300", "line 7 7 7 7", "line 300 0 400 0"],
+    "plain": [],
+    "constrained": [
+        *("line_of_handles 0 4", "conflicts 0 0 40 60", "conflicts -500 5 500 5"),
+        *("conflicts_of_handles 0 4", "conflicts_of_handles 2 6"),
+    ],
+}
+# Edits and copies with a hierarchy of hints.
 HINTED = [
     "insert 0 0 1",
     "insert 40 10 2",
@@ -70,6 +141,9 @@ HINTED = [
     "insert 50 -50 8",
     "insert -80 80 9",
     "try_clone",
+    "insert_counting 45 45 12",
+    "edges_in_circle 10 10 3000",
+    "vertices_in_rectangle -50 -30 50 40",
     "remove 2",
     "remove 0",
     "insert_with_hint 3 3 10 1",
@@ -79,22 +153,18 @@ HINTED = [
     "insert 1 60 11",
     "add_constraint 1 2",
     "insert 5 5 12",
+    "try_add_constraint 3 4",
+    "add_constraint_edge -100 -95 100 -95",
+    "add_constraint_edges -90 -90 0 -90 95 -80",
+    "add_closed_edges -20 160 20 162 15 180",
+    "remove_constraint_edge 1 2",
     "remove 3",
     "try_clone",
+    "with_capacity 50 150 100",
 ]
-# Where hints are asked for then.
+# Where hints are asked for.
 POSITIONS = [(40, 10), (-30, 50), (-60, -20), (50, -50), (-80, 80), (20, 30)]
-# Calls that take no memory, each after so many lines of SCRIPT: what it gives.
-WITHOUT_MEMORY = [
-    (0, "insert 536870913 0 1", "Err(TooLarge)"),
-    (0, "with_capacity 0 0 0", "Ok(())"),
-    (0, "with_capacity 5000000000 0 0", "Err(OutOfIndexes)"),
-    (7, "insert 40 10 77", "Ok(2)"),
-    (11, "insert 40 10 77", "Ok(2)"),
-    (11, "insert_with_hint 40 10 78 0", "Ok(2)"),
-    (11, "insert 0 -536870913 1", "Err(TooLarge)"),
-    (11, "locate_and_remove 41 10", "Some(Ok(None))"),
-    (SCRIPT.index("add_constraint 2 3"), "try_add_constraint 1 1", "Some(Ok([]))"),
-    (SCRIPT.index("add_constraint 2 3"), "remove_constraint_edge 6 3", "Some(Ok(false))"),
-    (SCRIPT.index("remove_constraint_edge 2 3"), "try_add_constraint 6 4", "Some(Ok([]))"),
-]
+# The hierarchies of script_tests, each by the word that chooses it, with its branch factor.
+FACTORS = [("3", 0), ("4", 1), ("5", 2), ("6", 3), ("7", 16)]
+# So many vertices before HINTED that a hierarchy by 16 has a vertex beside the first.
+CROWD = [f"insert {300 + 7 * i} {200 - i * i} {i}" for i in range(12)]

@@ -64,10 +64,11 @@ NONE, ALL = (0, 0), (1, 2**62)
 
 def compiler():
     """The words that begin a call of a compiler for C, of the kit's or of gcc: none without one."""
-    rt = os.path.realpath(shutil.which("rt") or "/usr/local/bin/rt")
-    clang = f"{os.path.dirname(os.path.dirname(rt))}/toolchain/bin/clang"
-    if os.path.exists(clang):
-        return [clang, "--no-default-config", "-fuse-ld=lld"]
+    if shutil.which("rt"):
+        page = subprocess.run(["rt", "doc"], stdout=subprocess.PIPE, text=True).stdout.strip()
+        clang = f"{os.path.dirname(page)}/toolchain/bin/clang"
+        if os.path.exists(clang):
+            return [clang, "--no-default-config", "-fuse-ld=lld"]
     return ["gcc"] if shutil.which("gcc") else []
 
 

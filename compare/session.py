@@ -85,6 +85,9 @@ class Session:
         """What a call that changes something gives, or nothing where it is no such call. Where it
         goes by whether two vertices are joined, the edges say that."""
         call = getattr(self, f"call_{name}", None)
+        if name.startswith("list_"):
+            self.listed_edits.append((name, *numbers))
+            return "Ok(())"
         if call is None:
             return None
         if name == "remove_constraint_edge":
@@ -96,6 +99,8 @@ class Session:
 
     def call_insert_with_hint(self, x, y, tag, _hint):
         return self.call_insert(x, y, tag)
+
+    call_insert_counting = call_insert
 
     def call_replace_vertex(self, i, tag):
         tags = self.state().tags
@@ -121,7 +126,7 @@ class Session:
         return "0"
 
     def call_with_capacity(self, vertices, edges, faces):
-        if max(vertices, edges, faces) > 2**31:
+        if vertices >= 2**32 or edges >= 2**31 or faces >= 2**32:
             return "Err(OutOfIndexes)"
         self.replace_state(Tagged())
         return "Ok(())"

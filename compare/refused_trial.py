@@ -1,0 +1,79 @@
+"""What compare/refused_calls and compare/refused_hints share: runs of crates/script_tests some of
+whose growths are refused."""
+import os
+import re
+import sys
+
+from refusing import NONE, Program
+
+HERE = os.path.dirname(os.path.realpath(__file__))
+PROGRAM = f"{HERE}/../crates/script_tests/out/script_tests"
+# What a call says that was refused for memory.
+REFUSAL = re.compile(
+    r"(.* > )?\(?(Some\()?Err\((AllocError|OutOfMemory|Insertion\(OutOfMemory\))\)\)?(, \d+\))?"
+)
+
+# Calls of several steps.
+CHAINS = "add_constraint_edge", "add_constraint_edges", "add_closed_edges"
+
+
+class Trial:
+    """A run of the program that has run some lines, with nothing refused."""
+
+    def __init__(self, command, lines):
+        made, *words = command
+        self.program = Program(made, words)
+        for line in lines:
+            self.ask(line)
+
+    def ask(self, line, numbers=NONE):
+        """What a line's call gives, its growths, and how many of them were refused."""
+        lines, growths, refused = self.program.ask(line, numbers)
+        lines = [it for it in lines if it not in ("begin", "ready", "end")]
+        if not refused and lines and REFUSAL.fullmatch(lines[0]):
+            sys.exit(f"{line}: {lines[0]}, with no growth refused")
+        return lines, growths, refused
+
+    def state(self):
+        """All vertices, edges and faces with their links and data, and the constraints."""
+        calls = "state", "is_constrained", "constraints"
+        return [it for line in calls for it in self.ask(line)[0]]
+
+    def hints(self, positions):
+        return [self.ask(f"hint {x} {y}")[0][0].split(" > ")[1] for x, y in positions]
+
+    def end(self):
+        self.program.end()
+
+
+def fail(lines, line, number, *why):
+    sys.exit("\n".join([*lines, f"{line}, growth {number}:", *map(str, why)]))
+
+
+def steps_of(command, lines, line, look):
+    """What a look at a trial gives between the steps of a call, and the growths of each step. Most
+    calls have one."""
+    trial = Trial(command, lines)
+    seen, growths = [look(trial)], []
+
+    def step(line):
+        reply, found, _ = trial.ask(line)
+        growths.append(found)
+        seen.append(look(trial))
+        return reply[0]
+
+    name, *words = line.split()
+    if name not in CHAINS:
+        step(line)
+        trial.end()
+        return seen, growths
+    found = []
+    for place in range(0, len(words), 2):
+        x, y = words[place : place + 2]
+        found.append(re.search(r"Ok\((\d+)\)", step(f"insert {x} {y} 5"))[1])
+        if place:
+            step(f"add_constraint {found[-2]} {found[-1]}")
+    if name == "add_closed_edges":
+        step(f"add_constraint {found[-1]} {found[0]}")
+    trial.end()
+    return seen, growths
