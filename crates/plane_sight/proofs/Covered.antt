@@ -295,7 +295,7 @@ module _ (t : Triangulation) (h : TilesHull t) where
             closed_x)
 
     -- at a point strictly within an edge
-    beside_either : (a b : ℕ) → IsEdge t a b → (x : Fraction)
+    pub beside_either : (a b : ℕ) → IsEdge t a b → (x : Fraction)
         → Between (vertex t a) (vertex t b) x → IsCovers x → Beside a b ⊎ Beside b a
     beside_either a b e x m o = go ((h.sides a b).0 e)
       where

@@ -1,10 +1,13 @@
 -- Lines of sight: segments over faces that are free, and how the items that a segment meets tell
 -- them.
-use Rattle.std.specs.Prelude.{◌≢◌, ◌⊎◌, ◌↔◌, ◌<◌, ℕ, Bool, length, ⊤, IsTrue, slice_index_or}
-use Rattle.plane.specs.Fraction.{Fraction, IsSame, OnSegment}
-use Rattle.plane.specs.Side.{side, on}
-use Rattle.plane.specs.Tiling.{Triangulation, Face, face, vertex, InCorners, TilesHull}
-use Rattle.plane.specs.Line.{Item, Meets, at_vertex, across, along}
+use Rattle.std.specs.Prelude.{◌≢◌, ◌⊎◌, ◌↔◌, ◌<◌, ℕ, Bool, List, length}
+use Rattle.std.specs.Prelude.{⊤, IsTrue, Contains, slice_index_or}
+use Rattle.plane.specs.Fraction.{Fraction, IsSame, OnSegment, WithinSegment}
+use Rattle.plane.specs.Side.{side, on, TurnsLeft}
+use Rattle.plane.specs.Tiling.{Triangulation, Face, face, vertex, IsVertex, IsEdge, IsFace}
+use Rattle.plane.specs.Tiling.{InCorners, InsideCorners, TilesHull}
+use Rattle.plane.specs.Location.{IsOuter}
+use Rattle.plane.specs.Line.{Item, IsLineList, at_vertex, across, along}
 use Rattle.plane_tiling.specs.Laws.{IsTurned}
 
 -- face n of the list
@@ -41,13 +44,21 @@ PassesFree t free p q (across i j) =
 PassesFree t free p q (along i j) = HasFreeFace t free i j ⊎ HasFreeFace t free j i
 
 -- a segment is a line of sight exactly if its ends are in closed free faces and it passes free
--- faces at each item that it meets
-abbrev pub SightByItems : Type 0
-SightByItems = (t : Triangulation) → TilesHull t → (free : ℕ → Bool) (p q : Fraction)
-    → ¬ IsSame p q → IsInSight t free p q ↔ (IsInFree t free p × IsInFree t free q
-    × ((m : Item) → Meets t p q m → PassesFree t free p q m))
+-- faces at each item of its line list
+abbrev pub SightByLine : Type 0
+SightByLine = (t : Triangulation) → TilesHull t → (free : ℕ → Bool) (p q : Fraction)
+    (items : List Item) → IsLineList t p q items → IsInSight t free p q
+    ↔ (IsInFree t free p × IsInFree t free q
+    × ((m : Item) → Contains items m → PassesFree t free p q m))
 
--- a point sees itself exactly if it is in a closed free face
-abbrev pub SightOfPoint : Type 0
-SightOfPoint = (t : Triangulation) → TilesHull t → (free : ℕ → Bool) (p q : Fraction)
-    → IsSame p q → IsInSight t free p q ↔ IsInFree t free p
+-- a point is in a closed free face by where it is: strictly inside the face, within an edge with
+-- one beside it, at a vertex with one around it, and never on the left of an outer edge
+abbrev pub InFreeByPlace : Type 0
+InFreeByPlace = (t : Triangulation) → TilesHull t → (free : ℕ → Bool) (p : Fraction)
+    → ((i j k : ℕ) → IsFace t i j k → InsideCorners t i j k p
+    → IsInFree t free p ↔ HasFreeFace t free i j)
+    × ((i j : ℕ) → IsEdge t i j → WithinSegment (vertex t i) (vertex t j) p
+    → IsInFree t free p ↔ (HasFreeFace t free i j ⊎ HasFreeFace t free j i))
+    × ((i : ℕ) → IsVertex t i → IsSame p (vertex t i)
+    → IsInFree t free p ↔ ((j : ℕ) × HasFreeFace t free i j))
+    × ((i j : ℕ) → IsOuter t i j → TurnsLeft (vertex t i) (vertex t j) p → ¬ IsInFree t free p)
