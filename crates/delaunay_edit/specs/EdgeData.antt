@@ -1,6 +1,6 @@
 -- The user's part of the data of edges that may be constraints.
 use Rattle.std.specs.Prelude.{◌≡◌, [], ◌∷◌}
-use Rattle.std.specs.Prelude.{ℕ, zero, suc, false, List, refl, slice_set, slice_index_or}
+use Rattle.std.specs.Prelude.{ℕ, zero, suc, false, List, map, refl, slice_set, slice_index_or}
 use Rattle.delaunay_legalization.specs.declared.cdt_edge.CdtEdge.{CdtEdge}
 use Rattle.delaunay_legalization.specs.CdtEdge.{is_constraint}
 use Rattle.delaunay_legalization.specs.Constraints.{marked_from}
@@ -17,3 +17,10 @@ pub with_data_marks : {U : Type 0} (first : ℕ) (es : List (CdtEdge U)) (i : �
 with_data_marks first [] i w = refl
 with_data_marks first (e ∷ es) zero w = refl
 with_data_marks first (e ∷ es) (suc i) w = rw (with_data_marks (suc first) es i w) refl
+
+-- the user's parts of the others stay
+pub with_data_users : {U : Type 0} (es : List (CdtEdge U)) (i : ℕ) (w : U) →
+    map (λ e. e.«data») (with_data es i w) ≡ slice_set (map (λ e. e.«data») es) i w
+with_data_users [] i w = refl
+with_data_users (e ∷ es) zero w = refl
+with_data_users (e ∷ es) (suc i) w = rw (with_data_users es i w) refl
