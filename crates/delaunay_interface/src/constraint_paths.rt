@@ -60,9 +60,9 @@ impl<V: HasPosition, DE, UE, F, L: HintGenerator<V::Scalar>> ConstrainedDelaunay
     }
 
     /// Does what `add_constraint` does and gives the edges of the path, each directed along it, in
-    /// order from `from` to `to`, as they are after the last flip. Where a constraint crosses the segment, or where the two vertices are one, it
-    /// gives no edge and changes nothing, and takes no memory. It gives `AllocError` where memory
-    /// was refused, and then nothing changes either.
+    /// order from `from` to `to`, as they are after the last flip. Where a constraint crosses the
+    /// segment, or where the two vertices are one, it gives no edge and changes nothing, and takes
+    /// no memory. It gives `AllocError` where memory was refused, and then nothing changes either.
     ///
     /// ```
     /// for edge in site.try_add_constraint(from, to, &ExactTests)? {
@@ -88,9 +88,9 @@ impl<V: HasPosition, DE, UE, F, L: HintGenerator<V::Scalar>> ConstrainedDelaunay
         self.edited.try_add_constraint(from, to, tests)
     }
 
-    /// Takes from an edge of the triangulation that it is a constraint, and tells whether it was one.
-    /// The edges beside it may be flipped, and then it may itself be gone. Where it was none,
-    /// nothing changes, and no memory is taken. An edge or face that is there before and after
+    /// Takes from an edge of the triangulation that it is a constraint, and tells whether it was
+    /// one. Edges may be flipped then, it among them. Where it was none, nothing changes, and no
+    /// memory is taken. An edge or face that is there before and after
     /// keeps its handle and its data. It gives `AllocError` where memory was refused, and then
     /// nothing changes.
     ///

@@ -42,8 +42,8 @@ impl<V: HasPosition, DE, UE, F, L: HintGenerator<V::Scalar>> ConstrainedDelaunay
         self.edited.num_constraints()
     }
 
-    /// Whether a constraint joins two vertices, in either order, by a look round the first. A handle
-    /// of no vertex is joined to none.
+    /// Whether a constraint joins two vertices, in either order, by a look round the first. A
+    /// handle of no vertex is joined to none.
     pub fn exists_constraint(&self, from: FixedVertexHandle, to: FixedVertexHandle) -> bool
         ensures { IsTrue result ↔ Joins (constraints_of self.now) from to }
     {

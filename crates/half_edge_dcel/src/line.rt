@@ -70,8 +70,8 @@ impl<V, DE: Default, UE: Default, F> Dcel<V, DE, UE, F> {
     }
 
     /// Splits an edge of a line of vertices at a new last vertex. Gives the vertex and both parts,
-    /// directed as `edge`, the first of which keeps the data of `edge`. There is room for the vertex
-    /// and one more edge.
+    /// directed as `edge`, the first of which keeps the data of `edge`. There is room for the
+    /// vertex and one more edge.
     pub fn split_edge_when_all_vertices_on_line(
         &mut self,
         edge: FixedDirectedEdgeHandle,
