@@ -24,9 +24,18 @@ pub(crate) fn written<L: HintGenerator<i64>>(
 
 /// What is put to the program, and what it may write.
 #[derive(Drop)]
-struct Dialogue {
+pub(crate) struct Dialogue {
     input: String,
     outputs: Vec<String>,
+}
+
+impl Dialogue {
+    /// The dialogue of an input with one output.
+    pub(crate) fn new(alloc: Global, input: String, output: String) -> Result<Self, AllocError> {
+        let mut outputs = Vec::new(alloc);
+        outputs.push(output)?;
+        Ok(Dialogue { input, outputs })
+    }
 }
 
 fn push_line(text: &mut String, line: &str) -> Result<(), AllocError> {
@@ -68,10 +77,21 @@ fn is_allowed<L: HintGenerator<i64>>(alloc: Global, sheet: Sheet, dialogue: &Dia
     }
 }
 
-/// Whether the program answers as the dialogue says, whose first line begins with the sheet's
-/// letter: with its own hints, with those from 0 to 20 in turn, with one that names no vertex, and
-/// with those of hierarchies by 0, 1, 2, 3 and 16.
-pub(crate) fn is_answered(alloc: Global, text: &str) -> Result<bool, AllocError> {
+/// Whether the program answers as the dialogue says: with its own hints, with those from 0 to 20 in
+/// turn, with one that names no vertex, and with those of hierarchies by 0, 1, 2, 3 and 16.
+pub(crate) fn is_answered(alloc: Global, sheet: Sheet, dialogue: &Dialogue) -> bool {
+    is_allowed::<LastUsedVertexHintGenerator>(alloc, sheet, dialogue)
+        && is_allowed::<EachInTurn>(alloc, sheet, dialogue)
+        && is_allowed::<Always1000>(alloc, sheet, dialogue)
+        && is_allowed::<Hierarchy<i64, 0>>(alloc, sheet, dialogue)
+        && is_allowed::<Hierarchy<i64, 1>>(alloc, sheet, dialogue)
+        && is_allowed::<Hierarchy<i64, 2>>(alloc, sheet, dialogue)
+        && is_allowed::<Hierarchy<i64, 3>>(alloc, sheet, dialogue)
+        && is_allowed::<Hierarchy<i64, 16>>(alloc, sheet, dialogue)
+}
+
+/// The same of the dialogue of a text, whose first line begins with the sheet's letter.
+pub(crate) fn is_text_answered(alloc: Global, text: &str) -> Result<bool, AllocError> {
     let (heading, lines) = text.split_once('\n').unwrap_or((text, ""));
     let letter = heading
         .split_once(' ')
@@ -80,14 +100,5 @@ pub(crate) fn is_answered(alloc: Global, text: &str) -> Result<bool, AllocError>
         return Ok(false);
     };
     let dialogue = dialogue_of(alloc, lines)?;
-    Ok(
-        is_allowed::<LastUsedVertexHintGenerator>(alloc, sheet, &dialogue)
-            && is_allowed::<EachInTurn>(alloc, sheet, &dialogue)
-            && is_allowed::<Always1000>(alloc, sheet, &dialogue)
-            && is_allowed::<Hierarchy<i64, 0>>(alloc, sheet, &dialogue)
-            && is_allowed::<Hierarchy<i64, 1>>(alloc, sheet, &dialogue)
-            && is_allowed::<Hierarchy<i64, 2>>(alloc, sheet, &dialogue)
-            && is_allowed::<Hierarchy<i64, 3>>(alloc, sheet, &dialogue)
-            && is_allowed::<Hierarchy<i64, 16>>(alloc, sheet, &dialogue),
-    )
+    Ok(is_answered(alloc, sheet, &dialogue))
 }

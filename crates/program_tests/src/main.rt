@@ -10,7 +10,7 @@ mod histories;
 mod orders;
 mod sheets;
 
-use crate::dialogue::is_answered;
+use crate::dialogue::is_text_answered;
 use std::io;
 use std::io::Input;
 
@@ -28,7 +28,7 @@ fn print_dialogues(rt: &(impl Print + AllocGlobal), script: &str) -> io::Result<
     let mut others = 0u64;
     for dialogue in script.trim_end().split("\n\n") {
         count = count.wrapping_add(1);
-        if !is_answered(rt.alloc(), dialogue)? {
+        if !is_text_answered(rt.alloc(), dialogue)? {
             others = others.wrapping_add(1);
             println!(rt; "{dialogue}\n")?;
         }

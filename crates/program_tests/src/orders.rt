@@ -1,7 +1,6 @@
 //! The points of a sheet in many orders.
 
-use crate::dialogue::written;
-use spade_delaunay::LastUsedVertexHintGenerator;
+use crate::dialogue::{Dialogue, is_answered};
 use std::alloc::{AllocError, Global};
 use triangulate_run::points::SheetPoint;
 use triangulate_run::sheet::Sheet;
@@ -58,8 +57,8 @@ fn replies(alloc: Global, mut points: Vec<SheetPoint>, counts: &str) -> Result<S
 }
 
 /// Whether each insertion gets the next index, the counts are these, and each removal gives the
-/// point of index 0.
-fn is_answered(
+/// point of index 0, whatever the hints.
+fn is_order_answered(
     alloc: Global,
     sheet: Sheet,
     (start, step): (usize, usize),
@@ -68,19 +67,15 @@ fn is_answered(
     let points = ordered(alloc, sheet.points(), start, step)?;
     let input = commands(alloc, points.as_slice())?;
     let output = replies(alloc, points, counts)?;
-    Ok(
-        match written::<LastUsedVertexHintGenerator>(alloc, sheet, input.as_bytes()) {
-            Some(found) => found.as_slice() == output.as_bytes(),
-            None => false,
-        },
-    )
+    let dialogue = Dialogue::new(alloc, input, output)?;
+    Ok(is_answered(alloc, sheet, &dialogue))
 }
 
 /// The same of the nine points of a sheet, from each point on and by each step that comes to all.
 fn nine_points_in_54_orders(alloc: Global, sheet: Sheet) -> bool {
     for start in 0..9 {
         for step in [1usize, 2, 4, 5, 7, 8] {
-            if is_answered(alloc, sheet, (start, step), "9 16 8 0") != Ok(true) {
+            if is_order_answered(alloc, sheet, (start, step), "9 16 8 0") != Ok(true) {
                 return false;
             }
         }
@@ -90,7 +85,7 @@ fn nine_points_in_54_orders(alloc: Global, sheet: Sheet) -> bool {
 
 fn a_hundred_points_of_a_line_in_5_orders(alloc: Global) -> bool {
     for order in [(0usize, 37usize), (1, 37), (50, 37), (99, 37), (0, 1)] {
-        if is_answered(alloc, Sheet::R, order, "100 99 0 0") != Ok(true) {
+        if is_order_answered(alloc, Sheet::R, order, "100 99 0 0") != Ok(true) {
             return false;
         }
     }
