@@ -1,5 +1,6 @@
 use Rattle.std.proofs.Common.{map, sym, subst}
 use Rattle.std.specs.Prelude.{Contains}
+use Rattle.delaunay_edit.specs.Edits.{RemovesVertex}
 use Rattle.delaunay_edit.specs.Headline.{AreSites}
 use Rattle.delaunay_interface.proofs.Held.{held_after_removal, held_are_sites, removed_is_site}
 use Rattle.delaunay_interface.proofs.Held.{swapped_is_site}
@@ -44,3 +45,9 @@ invariant_of-self g c =
     c.self.inside.hint_generator c.tell_if_removed.new.generator c.remove-removed.result
     c.remove-removed.ensures.removes c.self.invariant c.tell_if_removed.ensures.holds
     c.tell_if_removed.ensures.stays
+
+pub returns-clause-removes : goal.returns-clause-removes
+returns-clause-removes g c =
+    subst (λ s. RemovesVertex g.V.HasPosition.place g.M.ConstraintMarker.constraints c.args.vertex
+    c.remove-removed.result s c.remove-removed.new.self) c.self.view_is
+    c.remove-removed.ensures.removes
