@@ -1,0 +1,3 @@
+pub mod Ways
+pub mod Searching
+pub mod Reached

@@ -1,0 +1,601 @@
+-- The steps of a search for the layers of faces.
+use Rattle.std.proofs.Common.{◌≡◌, ◌⊎◌, ◌↔◌, ◌+◌, ◌/◌, ◌<◌, ◌≤◌, [], ◌∷◌, ◌++◌, ◌∙◌}
+use Rattle.std.proofs.Common.{ℕ, zero, suc, List, length, get_or, replicate, set}
+use Rattle.std.proofs.Common.{refl, sym, ap, subst, arith, eq-eqb, length-append}
+use mathlib.Core.Bool.{Bool, true, false, ◌||◌}
+use Rattle.std.specs.List.{list_any}
+use Rattle.std.proofs.lemmas.List.Folds.{list_any_at}
+use Rattle.std.proofs.lemmas.Bool.Decides.{eqb_tells}
+use Rattle.half_edge_links.proofs.Lists.Rev.{rev_within}
+use Rattle.plane_tiling.proofs.Totals.{get_or_any}
+use Rattle.delaunay_layers.proofs.Ways.{way_on}
+use mathlib.Core.Logic.{inl, inr, ◌≢◌}
+use Rattle.std.specs.Prelude.{Contains, cond, nat_eq}
+use Rattle.std.proofs.lemmas.Bool.{cases_eq}
+use Rattle.std.proofs.lemmas.Bool.Decides.{nat_tests}
+use Rattle.std.proofs.lemmas.List.{get_or-set_same, get_or-set_other, length-set}
+use Rattle.std.proofs.lemmas.List.{length-replicate}
+use Rattle.std.proofs.lemmas.List.Elements.{Contains-push, Contains-push_cases}
+use Rattle.std.proofs.lemmas.List.Elements.{Contains-append_left}
+use Rattle.std.proofs.lemmas.List.Sums.{count_by-le-length, sum_by-set}
+use Rattle.half_edge_mesh.specs.Mesh.{Mesh, face, rev, next, prev, face_edge, AreSoundLinks}
+use Rattle.half_edge_links.proofs.Sound.Triangles.{same_loop, triangle_at}
+use Rattle.delaunay_layers.specs.Search.{unseen, layer_at, IsSeen, left_unseen, weight, HasWay}
+use Rattle.delaunay_layers.specs.Search.{IsDue, IsCrossed, IsSearch, IsSideOf, Lists, work_left}
+use Rattle.delaunay_layers.specs.Search.{IsFound, TakesNow, TakesLater}
+use Rattle.half_edge_links.specs.declared.room.TheConstants.{MAX_ELEMENTS}
+use Rattle.delaunay_layers.specs.Layers.{is_constrained}
+
+none_in : (h : ℕ) → Contains [] h → ⊥
+none_in h c = let w = c.1 in omega (arith, w)
+
+-- ---- what an edge counts
+both_ways : (b : Bool) → (b ≡ true) ⊎ (b ≡ false)
+both_ways true = inl refl
+both_ways false = inr refl
+
+in_list : (ks : List ℕ) (k : ℕ) → Contains ks k → list_any (nat_eq k) ks ≡ true
+in_list ks k c = list_any_at (nat_eq k) ks c.0 k c.1 (eq-eqb k (get_or ks c.0 k) (sym c.2))
+
+from_list : (ks : List ℕ) (k : ℕ) → list_any (nat_eq k) ks ≡ true → Contains ks k
+from_list [] k e = absurd (cc)
+from_list (x ∷ ks) k e = elim (eqb_tells k x) [
+  | inl is ↦ (0, omega arith, sym is.1)
+  | inr not ↦ let r = from_list ks k
+      (subst (λ (b : Bool). (b || list_any (nat_eq k) ks) ≡ true) not.0 e) in
+      let w = r.1 in (suc r.0, omega (arith, w), r.2)
+]
+
+-- a constraint counts, and no other edge
+pub counted : (constraints : List ℕ) (h k : ℕ) → k ≡ h / 2 → Contains constraints k
+    → weight constraints h ≡ 1
+counted constraints h k e c =
+    ap (λ (b : Bool). cond {A = ℕ} b 1 0)
+    (in_list constraints (h / 2) (subst (Contains constraints) e c))
+
+pub not_counted : (constraints : List ℕ) (h k : ℕ) → k ≡ h / 2 → ¬ Contains constraints k
+    → weight constraints h ≡ 0
+not_counted constraints h k e out = elim (both_ways (is_constrained constraints h)) [
+  | inl is ↦ absurd (out (subst (Contains constraints) (sym e)
+      (from_list constraints (h / 2) is)))
+  | inr not ↦ ap (λ (b : Bool). cond {A = ℕ} b 1 0) not
+]
+
+-- ---- lists that edges are put into
+module _ (constraints : List ℕ) where
+  -- one edge more, that counts nothing
+  pub listed_now : (now later now' later' : List ℕ) (h : ℕ) → weight constraints h ≡ 0
+      → now' ≡ now ++ h ∷ [] → later' ≡ later
+      → Lists constraints (λ g. g ≡ h) now later now' later'
+  listed_now now later now' later' h free grown same =
+      subst (λ xs. Lists constraints (λ g. g ≡ h) now later xs later') (sym grown)
+      (subst (λ xs. Lists constraints (λ g. g ≡ h) now later (now ++ h ∷ []) xs) (sym same)
+      (record {
+        now_kept = λ g c. Contains-append_left now (h ∷ []) g c;
+        later_kept = λ g c. c;
+        there = λ g e. inl (subst (Contains (now ++ h ∷ [])) (sym e) (Contains-push now h));
+        now_only = λ g c. elim (Contains-push_cases now h g c) [
+          | inl d ↦ inl d
+          | inr e ↦ inr (sym e, subst (λ x. weight constraints x ≡ 0) e free)
+        ];
+        later_only = λ g c. inl c;
+      }))
+
+  -- one edge more, that is a constraint
+  pub listed_later : (now later now' later' : List ℕ) (h : ℕ) → weight constraints h ≡ 1
+      → now' ≡ now → later' ≡ later ++ h ∷ []
+      → Lists constraints (λ g. g ≡ h) now later now' later'
+  listed_later now later now' later' h counts same grown =
+      subst (λ xs. Lists constraints (λ g. g ≡ h) now later xs later') (sym same)
+      (subst (λ xs. Lists constraints (λ g. g ≡ h) now later now xs) (sym grown)
+      (record {
+        now_kept = λ g c. c;
+        later_kept = λ g c. Contains-append_left later (h ∷ []) g c;
+        there = λ g e. inr (subst (Contains (later ++ h ∷ [])) (sym e) (Contains-push later h));
+        now_only = λ g c. inl c;
+        later_only = λ g c. elim (Contains-push_cases later h g c) [
+          | inl d ↦ inl d
+          | inr e ↦ inr (sym e, subst (λ x. weight constraints x ≡ 1) e counts)
+        ];
+      }))
+
+  -- no edge
+  pub lists_none : (Which : ℕ → Type 0) (now later : List ℕ) → ((h : ℕ) → ¬ Which h)
+      → Lists constraints Which now later now later
+  lists_none Which now later none = record {
+    now_kept = λ g c. c;
+    later_kept = λ g c. c;
+    there = λ g w. absurd (none g w);
+    now_only = λ g c. inl c;
+    later_only = λ g c. inl c;
+  }
+
+  -- the same edges by another property
+  pub lists_as : (Which Those : ℕ → Type 0) (now later now' later' : List ℕ)
+      → ((h : ℕ) → Which h ↔ Those h) → Lists constraints Which now later now' later'
+      → Lists constraints Those now later now' later'
+  lists_as Which Those now later now' later' same l = record {
+    now_kept = l.now_kept;
+    later_kept = l.later_kept;
+    there = λ g t. l.there g ((same g).1 t);
+    now_only = λ g c. elim (l.now_only g c) [
+      | inl d ↦ inl d
+      | inr w ↦ inr ((same g).0 w.0, w.1)
+    ];
+    later_only = λ g c. elim (l.later_only g c) [
+      | inl d ↦ inl d
+      | inr w ↦ inr ((same g).0 w.0, w.1)
+    ];
+  }
+
+  -- some edges, and then others
+  pub lists_both : (Which Those : ℕ → Type 0) (now later mid mid' now' later' : List ℕ)
+      → Lists constraints Which now later mid mid' → Lists constraints Those mid mid' now' later'
+      → Lists constraints (λ h. Which h ⊎ Those h) now later now' later'
+  lists_both Which Those now later mid mid' now' later' a b = record {
+    now_kept = λ g c. b.now_kept g (a.now_kept g c);
+    later_kept = λ g c. b.later_kept g (a.later_kept g c);
+    there = λ g w. elim w [
+      | inl x ↦ elim (a.there g x) [
+        | inl c ↦ inl (b.now_kept g c)
+        | inr c ↦ inr (b.later_kept g c)
+      ]
+      | inr y ↦ b.there g y
+    ];
+    now_only = λ g c. elim (b.now_only g c) [
+      | inl d ↦ elim (a.now_only g d) [ inl e ↦ inl e | inr w ↦ inr (inl w.0, w.1) ]
+      | inr w ↦ inr (inr w.0, w.1)
+    ];
+    later_only = λ g c. elim (b.later_only g c) [
+      | inl d ↦ elim (a.later_only g d) [ inl e ↦ inl e | inr w ↦ inr (inl w.0, w.1) ]
+      | inr w ↦ inr (inr w.0, w.1)
+    ];
+  }
+
+  -- the same where one more edge was there from the beginning
+  pub lists_beside : (Which : ℕ → Type 0) (now later now' later' : List ℕ) (h : ℕ)
+      → Lists constraints Which now later now' later'
+      → Lists constraints Which (now ++ h ∷ []) later (now' ++ h ∷ []) later'
+  lists_beside Which now later now' later' h l = record {
+    now_kept = λ g c. elim (Contains-push_cases now h g c) [
+      | inl d ↦ Contains-append_left now' (h ∷ []) g (l.now_kept g d)
+      | inr e ↦ subst (Contains (now' ++ h ∷ [])) e (Contains-push now' h)
+    ];
+    later_kept = l.later_kept;
+    there = λ g w. elim (l.there g w) [
+      | inl c ↦ inl (Contains-append_left now' (h ∷ []) g c)
+      | inr c ↦ inr c
+    ];
+    now_only = λ g c. elim (Contains-push_cases now' h g c) [
+      | inl d ↦ elim (l.now_only g d) [
+        | inl k ↦ inl (Contains-append_left now (h ∷ []) g k)
+        | inr w ↦ inr w
+      ]
+      | inr e ↦ inl (subst (Contains (now ++ h ∷ [])) e (Contains-push now h))
+    ];
+    later_only = l.later_only;
+  }
+
+-- ---- the edges of a face
+-- of the edges before the first no one has the outer face on its left
+pub no_outer : (m : Mesh) (constraints now later : List ℕ)
+    → Lists constraints (λ h. (h < 0) × (face m h ≡ 0)) now later now later
+no_outer m constraints now later =
+    lists_none constraints (λ h. (h < 0) × (face m h ≡ 0)) now later
+    (λ h p. let w = p.0 in omega (arith, w))
+
+-- one edge more was looked at, and listed
+pub outer_more : (m : Mesh) (constraints now later mid mid' now' later' : List ℕ) (i k : ℕ)
+    → Lists constraints (λ h. (h < i) × (face m h ≡ 0)) now later mid mid'
+    → Lists constraints (λ h. h ≡ k) mid mid' now' later' → k ≡ i → face m k ≡ 0
+    → Lists constraints (λ h. (h < i + 1) × (face m h ≡ 0)) now later now' later'
+outer_more m constraints now later mid mid' now' later' i k a b at outer =
+    lists_as constraints (λ h. ((h < i) × (face m h ≡ 0)) ⊎ (h ≡ k))
+    (λ h. (h < i + 1) × (face m h ≡ 0)) now later now' later' (λ h. (there h, back h))
+    (lists_both constraints (λ h. (h < i) × (face m h ≡ 0)) (λ h. h ≡ k) now later mid mid' now'
+    later' a b)
+  where
+    there : (h : ℕ) → ((h < i) × (face m h ≡ 0)) ⊎ (h ≡ k) → (h < i + 1) × (face m h ≡ 0)
+    there h (inl p) = let w = p.0 in (omega (arith, w), p.1)
+    there h (inr e) = (omega (arith, e, at), ap (face m) e ∙ outer)
+
+    back : (h : ℕ) → (h < i + 1) × (face m h ≡ 0) → ((h < i) × (face m h ≡ 0)) ⊎ (h ≡ k)
+    back h p = elim (cases_eq h k) [
+      | inl e ↦ inr e
+      | inr n ↦ let w = p.0 in inl (omega (arith, w, n, at), p.1)
+    ]
+
+-- one edge more was looked at, that is no outer one
+pub outer_passed : (m : Mesh) (constraints now later now' later' : List ℕ) (i k : ℕ)
+    → Lists constraints (λ h. (h < i) × (face m h ≡ 0)) now later now' later'
+    → k ≡ i → face m k ≢ 0
+    → Lists constraints (λ h. (h < i + 1) × (face m h ≡ 0)) now later now' later'
+outer_passed m constraints now later now' later' i k a at inner =
+    lists_as constraints (λ h. (h < i) × (face m h ≡ 0)) (λ h. (h < i + 1) × (face m h ≡ 0)) now
+    later now' later' (λ h. (there h, back h)) a
+  where
+    there : (h : ℕ) → (h < i) × (face m h ≡ 0) → (h < i + 1) × (face m h ≡ 0)
+    there h p = let w = p.0 in (omega (arith, w), p.1)
+
+    back : (h : ℕ) → (h < i + 1) × (face m h ≡ 0) → (h < i) × (face m h ≡ 0)
+    back h p = elim (cases_eq h k) [
+      | inl e ↦ absurd (inner (ap (face m) (sym e) ∙ p.1))
+      | inr n ↦ let w = p.0 in (omega (arith, w, n, at), p.1)
+    ]
+
+-- all edges were looked at
+pub outer_all : (m : Mesh) (constraints now later now' later' : List ℕ) (i : ℕ)
+    → Lists constraints (λ h. (h < i) × (face m h ≡ 0)) now later now' later'
+    → i ≡ length m.half_edges → Lists constraints (IsSideOf m 0) now later now' later'
+outer_all m constraints now later now' later' i a all =
+    subst (λ (n : ℕ). Lists constraints (λ h. (h < n) × (face m h ≡ 0)) now later now' later') all a
+
+-- the edges of an inner face are the one that it names, and those after and before it
+pub three_sides : (m : Mesh) → AreSoundLinks m → (f h : ℕ) → 0 < f → f ≤ length m.face_edges
+    → (((h ≡ face_edge m f) ⊎ (h ≡ next m (face_edge m f))) ⊎ (h ≡ prev m (face_edge m f)))
+    ↔ IsSideOf m f h
+three_sides m s f h some within = (there, back)
+  where
+    e_in : face_edge m f < length m.half_edges
+    e_in = (s.faces f some within).0
+
+    of_f : face m (face_edge m f) ≡ f
+    of_f = (s.faces f some within).1
+
+    inner : 0 < face m (face_edge m f)
+    inner = let is = of_f in omega (arith, is, some)
+
+    there : (((h ≡ face_edge m f) ⊎ (h ≡ next m (face_edge m f))) ⊎ (h ≡ prev m (face_edge m f)))
+        → (h < length m.half_edges) × (face m h ≡ f)
+    there (inl (inl q)) = (
+      subst (λ (k : ℕ). k < length m.half_edges) (sym q) e_in,
+      ap (face m) q ∙ of_f,
+    )
+    there (inl (inr q)) = let t = triangle_at m (face_edge m f) s e_in inner in (
+      subst (λ (k : ℕ). k < length m.half_edges) (sym q) t.next_in,
+      ap (face m) q ∙ t.face_next ∙ of_f,
+    )
+    there (inr q) = let t = triangle_at m (face_edge m f) s e_in inner in (
+      subst (λ (k : ℕ). k < length m.half_edges) (sym q) t.prev_in,
+      ap (face m) q ∙ t.face_prev ∙ of_f,
+    )
+
+    back : (h < length m.half_edges) × (face m h ≡ f)
+        → (((h ≡ face_edge m f) ⊎ (h ≡ next m (face_edge m f))) ⊎ (h ≡ prev m (face_edge m f)))
+    back is = elim (same_loop m (face_edge m f) h s e_in is.0 inner (is.1 ∙ sym of_f)) [
+      | inl q ↦ inl (inl q)
+      | inr (inl q) ↦ inl (inr q)
+      | inr (inr q) ↦ inr q
+    ]
+
+-- ---- steps of the search
+-- what a face adds to the count of those that are left
+abbrev cost : ℕ → ℕ
+cost n = cond (nat_eq n unseen) 1 0
+
+seen_cost : (n : ℕ) → n ≡ unseen → cost n ≡ 1
+seen_cost n e = grind (arith, nat_tests)
+
+known_cost : (n : ℕ) → n < unseen → cost n ≡ 0
+known_cost n w = grind (arith, nat_tests)
+
+-- one face less is left
+pub one_less : (layers : List ℕ) (f layer : ℕ) → f < length layers → layer_at layers f ≡ unseen
+    → layer < unseen → left_unseen (set layers f layer) + 1 ≡ left_unseen layers
+one_less layers f layer w new known =
+    let moved = sum_by-set cost layers f layer unseen w in
+    let a = seen_cost (layer_at layers f) new in
+    let b = known_cost layer known in
+    omega (arith, moved, a, b)
+
+all_unseen : (n f : ℕ) → layer_at (replicate n unseen) f ≡ unseen
+all_unseen zero f = refl
+all_unseen (suc n) zero = refl
+all_unseen (suc n) (suc f) = all_unseen n f
+
+module _ (m : Mesh) (constraints : List ℕ) where
+  -- before the search no face was reached
+  pub nothing_seen : (n : ℕ) → n ≡ length m.face_edges + 1
+      → IsSearch m constraints (replicate n unseen) [] [] 0
+  nothing_seen n e = record {
+    count = length-replicate n unseen ∙ e;
+    ways = λ f seen. absurd (seen (all_unseen n f));
+    low = λ f seen. absurd (seen (all_unseen n f));
+    now_due = λ h c. absurd (none_in h c);
+    later_due = λ h c. absurd (none_in h c);
+    complete = λ h w seen. absurd (seen (all_unseen n (face m h)));
+    bound = let few = count_by-le-length (λ k. nat_eq k unseen) (replicate n unseen) in
+        omega (arith, few);
+    more = λ some. absurd (omega (arith, some));
+  }
+
+  -- where no edge is left for this layer, those of the next one come
+  pub next_layer : (layers later : List ℕ) (layer : ℕ)
+      → IsSearch m constraints layers [] later layer → 0 < length later
+      → IsSearch m constraints layers later [] (layer + 1)
+  next_layer layers later layer s some = record {
+    count = s.count;
+    ways = s.ways;
+    low = λ f seen. let a = s.low f seen in omega (arith, a);
+    now_due = s.later_due;
+    later_due = λ h c. absurd (none_in h c);
+    complete = λ h w seen. elim (s.complete h w seen) [
+      | inl c ↦ absurd (none_in h c)
+      | inr (inl c) ↦ inl c
+      | inr (inr c) ↦ inr (inr c)
+    ];
+    bound = let a = s.more some in omega (arith, a);
+    more = λ none. absurd (omega (arith, none));
+  }
+
+  -- an edge that leads to a face that was reached is done with
+  pub passed : (layers now later : List ℕ) (layer h : ℕ)
+      → IsSearch m constraints layers (now ++ h ∷ []) later layer
+      → IsSeen layers (face m (rev h)) → IsSearch m constraints layers now later layer
+  passed layers now later layer h s seen = record {
+    count = s.count;
+    ways = s.ways;
+    low = s.low;
+    now_due = λ g c. s.now_due g (Contains-append_left now (h ∷ []) g c);
+    later_due = s.later_due;
+    complete = λ g w known. elim (s.complete g w known) [
+      | inl c ↦ elim (Contains-push_cases now h g c) [
+        | inl d ↦ inl d
+        | inr e ↦ inr (inr (subst (IsCrossed m constraints layers) e here))
+      ]
+      | inr r ↦ inr r
+    ];
+    bound = s.bound;
+    more = s.more;
+  }
+    where
+      here : IsCrossed m constraints layers h
+      here =
+          let due = (s.now_due h (Contains-push now h)).due in
+          let low = s.low (face m (rev h)) seen in
+          record { seen = seen; low = omega (arith, due, low) }
+
+  -- a face gets its layer, and its edges are listed
+  module _ (layers now later now' later' : List ℕ) (layer f : ℕ)
+      (s : IsSearch m constraints layers now later layer) (within : f < length layers)
+      (new : layer_at layers f ≡ unseen) (small : layer < unseen)
+      (way : HasWay m constraints f layer)
+      (l : Lists constraints (IsSideOf m f) now later now' later') where
+    abbrev known : List ℕ
+    known = set layers f layer
+
+    at_f : layer_at known f ≡ layer
+    at_f = get_or-set_same layers f layer unseen within
+
+    seen_f : IsSeen known f
+    seen_f e = omega (arith, e, at_f, small)
+
+    off_f : (g : ℕ) → IsSeen layers g → g ≢ f
+    off_f g seen e = seen (ap (layer_at layers) e ∙ new)
+
+    kept : (g : ℕ) → IsSeen layers g → layer_at known g ≡ layer_at layers g
+    kept g seen = get_or-set_other layers f g layer unseen (off_f g seen)
+
+    seen_kept : (g : ℕ) → IsSeen layers g → IsSeen known g
+    seen_kept g seen e = seen (sym (kept g seen) ∙ e)
+
+    seen_before : (g : ℕ) → IsSeen known g → (g ≡ f) ⊎ IsSeen layers g
+    seen_before g seen = elim (cases_eq g f) [
+      | inl e ↦ inl e
+      | inr n ↦ inr (λ e. seen (get_or-set_other layers f g layer unseen n ∙ e))
+    ]
+
+    due_kept : (h due : ℕ) → IsDue m constraints layers h due → IsDue m constraints known h due
+    due_kept h due d = record {
+      within = d.within;
+      seen = seen_kept (face m h) d.seen;
+      due = ap (λ (k : ℕ). k + weight constraints h) (kept (face m h) d.seen) ∙ d.due;
+    }
+
+    due_side : (h n : ℕ) → IsSideOf m f h → weight constraints h ≡ n
+        → IsDue m constraints known h (layer + n)
+    due_side h n w counts = let at = ap (layer_at known) w.1 ∙ at_f in record {
+      within = w.0;
+      seen = subst (IsSeen known) (sym w.1) seen_f;
+      due = omega (arith, at, counts);
+    }
+
+    crossed_kept : (h : ℕ) → IsSeen layers (face m h) → IsCrossed m constraints layers h
+        → IsCrossed m constraints known h
+    crossed_kept h seen c =
+        let low = c.low in
+        let first = kept (face m h) seen in
+        let second = kept (face m (rev h)) c.seen in
+        record { seen = seen_kept (face m (rev h)) c.seen; low = omega (arith, low, first, second) }
+
+    complete' : (h : ℕ) → h < length m.half_edges → (face m h ≡ f) ⊎ IsSeen layers (face m h)
+        → Contains now' h ⊎ (Contains later' h ⊎ IsCrossed m constraints known h)
+    complete' h w (inl e) = elim (l.there h (w, e)) [
+      | inl c ↦ inl c
+      | inr c ↦ inr (inl c)
+    ]
+    complete' h w (inr old) = elim (s.complete h w old) [
+      | inl c ↦ inl (l.now_kept h c)
+      | inr (inl c) ↦ inr (inl (l.later_kept h c))
+      | inr (inr c) ↦ inr (inr (crossed_kept h old c))
+    ]
+
+    ways' : (g : ℕ) → (g ≡ f) ⊎ IsSeen layers g → HasWay m constraints g (layer_at known g)
+    ways' g (inl e) = subst (λ x. HasWay m constraints x (layer_at known x)) (sym e)
+        (subst (HasWay m constraints f) (sym at_f) way)
+    ways' g (inr old) = subst (HasWay m constraints g) (sym (kept g old)) (s.ways g old)
+
+    low' : (g : ℕ) → (g ≡ f) ⊎ IsSeen layers g → layer_at known g ≤ layer
+    low' g (inl e) = let at = ap (layer_at known) e in omega (arith, at, at_f)
+    low' g (inr old) = let at = kept g old in let low = s.low g old in omega (arith, at, low)
+
+    none_more : (n : ℕ) → layer + 0 ≡ layer
+    none_more n = omega arith
+
+    pub reached : IsSearch m constraints known now' later' layer
+    reached =
+        let less = one_less layers f layer within new small in
+        let same = length-set layers f layer in
+        let bound = s.bound in
+        record {
+          count = same ∙ s.count;
+          ways = λ g seen. ways' g (seen_before g seen);
+          low = λ g seen. low' g (seen_before g seen);
+          now_due = λ h c. elim (l.now_only h c) [
+            | inl d ↦ due_kept h layer (s.now_due h d)
+            | inr w ↦ subst (λ (k : ℕ). IsDue m constraints known h k) (none_more 0)
+                (due_side h 0 w.0 w.1)
+          ];
+          later_due = λ h c. elim (l.later_only h c) [
+            | inl d ↦ due_kept h (layer + 1) (s.later_due h d)
+            | inr w ↦ due_side h 1 w.0 w.1
+          ];
+          complete = λ h w seen. complete' h w (seen_before (face m h) seen);
+          bound = omega (arith, less, same, bound);
+          more = λ some. omega (arith, less, same, bound);
+        }
+
+  -- the outer face has its layer from the beginning
+  pub begun : (layers now later : List ℕ) → layers ≡ replicate (length m.face_edges + 1) unseen
+      → Lists constraints (IsSideOf m 0) [] [] now later
+      → IsSearch m constraints (set layers 0 0) now later 0
+  begun layers now later all l =
+      subst (λ (xs : List ℕ). IsSearch m constraints (set xs 0 0) now later 0) (sym all)
+      (reached (replicate (length m.face_edges + 1) unseen) [] [] now later 0 0
+      (nothing_seen (length m.face_edges + 1) refl)
+      (let e = length-replicate (length m.face_edges + 1) unseen in omega (arith, e))
+      (all_unseen (length m.face_edges + 1) 0) (omega arith) ([], refl, refl) l)
+
+  -- what an edge leads to is listed among the faces
+  pub leads_within : AreSoundLinks m → (layers now later : List ℕ) (layer h : ℕ)
+      → IsSearch m constraints layers (now ++ h ∷ []) later layer
+      → (h < length m.half_edges) × (face m (rev h) < length layers)
+  leads_within sound layers now later layer h s =
+      let w = (s.now_due h (Contains-push now h)).within in
+      let f = (sound.edges (rev h) (rev_within h (length m.half_edges) sound.even w)).face_in in
+      let c = s.count in
+      (w, omega (arith, f, c))
+
+  -- an edge was crossed to a face that was not reached before
+  pub stepped : AreSoundLinks m → length m.face_edges + 1 ≤ unseen
+      → (layers now later now1 later1 now2 later2 now3 later3 : List ℕ)
+      → (layer h f e1 e2 e3 : ℕ)
+      → IsSearch m constraints layers (now ++ h ∷ []) later layer → layer_at layers 0 ≡ 0
+      → f ≡ face m (rev h) → layer_at layers f ≡ unseen
+      → e1 ≡ face_edge m f → e2 ≡ next m (face_edge m f) → e3 ≡ prev m (face_edge m f)
+      → Lists constraints (λ g. g ≡ e1) now later now1 later1
+      → Lists constraints (λ g. g ≡ e2) now1 later1 now2 later2
+      → Lists constraints (λ g. g ≡ e3) now2 later2 now3 later3
+      → IsSearch m constraints (set layers f layer) now3 later3 layer
+  stepped sound few layers now later now1 later1 now2 later2 now3 later3 layer h f e1 e2 e3 s outer
+      at new p q r a b c =
+      passed (set layers f layer) now3 later3 layer h
+      (reached layers (now ++ h ∷ []) later (now3 ++ h ∷ []) later3 layer f s within new small way
+      (lists_beside constraints (IsSideOf m f) now later now3 later3 h sides))
+      (subst (IsSeen (set layers f layer)) at seen)
+    where
+      within : f < length layers
+      within = let w = (leads_within sound layers now later layer h s).1 in omega (arith, w, at)
+
+      small : layer < unseen
+      small = let n = s.count in let m = s.bound in
+          let left = one_less layers f 0 within new (omega arith) in
+          omega (arith, n, m, few, left)
+
+      some : 0 < f
+      some = elim (cases_eq f 0) [
+        | inl e ↦ let z = ap (layer_at layers) e in absurd (omega (arith, z, outer, new))
+        | inr n ↦ omega (arith, n)
+      ]
+
+      few_faces : f ≤ length m.face_edges
+      few_faces = let n = s.count in omega (arith, n, within)
+
+      due : IsDue m constraints layers h layer
+      due = s.now_due h (Contains-push now h)
+
+      way : HasWay m constraints f layer
+      way = subst (λ x. HasWay m constraints x layer) (sym at)
+          (subst (HasWay m constraints (face m (rev h))) due.due
+          (way_on m constraints h (layer_at layers (face m h)) due.within
+          (s.ways (face m h) due.seen)))
+
+      seen : IsSeen (set layers f layer) f
+      seen e = let g = get_or-set_same layers f layer unseen within in omega (arith, e, g, small)
+
+      sides : Lists constraints (IsSideOf m f) now later now3 later3
+      sides = lists_as constraints
+          (λ g. ((g ≡ face_edge m f) ⊎ (g ≡ next m (face_edge m f)))
+          ⊎ (g ≡ prev m (face_edge m f)))
+          (IsSideOf m f) now later now3 later3
+          (λ g. three_sides m sound f g some few_faces)
+          (lists_both constraints (λ g. (g ≡ face_edge m f) ⊎ (g ≡ next m (face_edge m f)))
+          (λ g. g ≡ prev m (face_edge m f)) now later now2 later2 now3 later3
+          (lists_both constraints (λ g. g ≡ face_edge m f) (λ g. g ≡ next m (face_edge m f))
+          now later now1 later1 now2 later2
+          (subst (λ x. Lists constraints (λ g. g ≡ x) now later now1 later1) p a)
+          (subst (λ x. Lists constraints (λ g. g ≡ x) now1 later1 now2 later2) q b))
+          (subst (λ x. Lists constraints (λ g. g ≡ x) now2 later2 now3 later3) r c))
+
+  -- the next edge was taken
+  pub taken : (layers now later now' later' : List ℕ) (layer layer' h : ℕ)
+      → IsSearch m constraints layers now later layer
+      → TakesNow h now later layer now' later' layer'
+      ⊎ TakesLater h now later layer now' later' layer'
+      → IsSearch m constraints layers (now' ++ h ∷ []) later' layer'
+  taken layers now later now' later' layer layer' h s (inl t) =
+      subst (IsSearch m constraints layers (now' ++ h ∷ []) later') (sym t.layer_stays)
+      (subst (λ xs. IsSearch m constraints layers (now' ++ h ∷ []) xs layer) (sym t.later_stays)
+      (subst (λ xs. IsSearch m constraints layers xs later layer) t.taken s))
+  taken layers now later now' later' layer layer' h s (inr t) =
+      subst (IsSearch m constraints layers (now' ++ h ∷ []) later') (sym t.next)
+      (subst (λ xs. IsSearch m constraints layers (now' ++ h ∷ []) xs (layer + 1)) (sym t.empty)
+      (subst (λ xs. IsSearch m constraints layers xs [] (layer + 1)) t.taken
+      (next_layer layers later layer
+      (subst (λ xs. IsSearch m constraints layers xs later layer) t.none s)
+      (let n = ap length t.taken ∙ length-append now' (h ∷ []) in omega (arith, n)))))
+
+  -- a search with no edge left is at its end
+  pub all_found : (layers : List ℕ) (layer : ℕ) → IsSearch m constraints layers [] [] layer
+      → layer_at layers 0 ≡ 0 → IsFound m constraints layers
+  all_found layers layer s outer = record {
+    count = s.count;
+    outer = outer;
+    ways = s.ways;
+    crossed = λ h w seen. elim (s.complete h w seen) [
+      | inl c ↦ absurd (none_in h c)
+      | inr (inl c) ↦ absurd (none_in h c)
+      | inr (inr c) ↦ c
+    ];
+  }
+
+-- with an edge that is taken there is less to do
+pub less_work : (layers now later now' later' : List ℕ) (layer layer' h : ℕ)
+    → TakesNow h now later layer now' later' layer'
+    ⊎ TakesLater h now later layer now' later' layer'
+    → work_left layers now' later' < work_left layers now later
+less_work layers now later now' later' layer layer' h (inl t) =
+    let n = ap length t.taken ∙ length-append now' (h ∷ []) in
+    let l = ap length t.later_stays in
+    omega (arith, n, l)
+less_work layers now later now' later' layer layer' h (inr t) =
+    let n = ap length t.taken ∙ length-append now' (h ∷ []) in
+    let l = ap length t.empty in
+    let k = ap length t.none in
+    omega (arith, n, l, k)
+
+-- what stands at the place of a face, whatever is read past the end
+pub stands_at : (layers : List ℕ) (f i n : ℕ) → i ≡ f → f < length layers
+    → n ≡ get_or layers i n → layer_at layers f ≡ n
+stands_at layers f i n e w at =
+    get_or_any layers f unseen n w ∙ ap (λ k. get_or layers k n) (sym e) ∙ sym at
+
+-- there are no more faces than numbers below what stands for no layer
+pub few_layers : (m : Mesh) (faces : ℕ) → faces < MAX_ELEMENTS → faces ≡ length m.face_edges
+    → length m.face_edges + 1 ≤ unseen
+few_layers m faces few fit = omega (arith, few, fit)
+
+-- where a layer is still to come, this one is not the last number
+pub not_last : (layer left n faces : ℕ) → layer + left < n → n ≡ faces + 1 → faces + 1 ≤ unseen
+    → layer < unseen
+not_last layer left n faces more count few = omega (arith, more, count, few)
