@@ -30,13 +30,17 @@ pub trait HintGenerator<S: SpadeNum>: Drop {
     // value.
     ghost holds: { Self → Point → Type 0 };
 
+    // The second is what a call of `duplicate` gave of the first. Only that call promises it.
+    ghost is_duplicate: { Self → Self → Type 0 } = { λ _ _. Unit {0} };
+
     /// One that holds no position. It takes no memory.
     fn new(alloc: Global) -> Self
         ensures { IsNone (holds result) };
 
     /// A copy, which holds at most what this one does.
     fn duplicate(&self) -> Self
-        ensures { IsAtMost (holds self.now) (holds result) };
+        ensures holds { IsAtMost (holds self.now) (holds result) }
+        ensures given { is_duplicate self.now result };
 
     /// A vertex that is likely near a position, or a handle of none.
     fn get_hint<P: PlaneTests<S>>(&self, position: Point2<S>, tests: &P) -> FixedVertexHandle

@@ -4,7 +4,7 @@ use Rattle.std.proofs.Common.{ℕ, List, length, map, get_or, Some, sym, ap, sub
 use mathlib.Core.Logic.{⊎_elim}
 use Rattle.std.proofs.lemmas.Bool.{cases_eq}
 use Rattle.std.specs.Prelude.{◌≢◌}
-use Rattle.std.specs.Prelude.{All, Contains, Option, Result, Ok, Err, IfOk, OnErr, slice_get}
+use Rattle.std.specs.Prelude.{All, Contains, Option, Result, Ok, Err, IfOk, OnErr, OnOk, slice_get}
 use Rattle.std.specs.Prelude.{swap_remove}
 use Rattle.std.proofs.lemmas.List.{length-map, map-append, get_or-map, get_or_default}
 use Rattle.std.proofs.lemmas.List.Elements.{All-contains, Contains-append_left, Contains-push}
@@ -20,7 +20,8 @@ use Rattle.plane.specs.Tests.{InRange}
 use Rattle.delaunay_core.specs.declared.math.InsertionError.{InsertionError}
 use Rattle.delaunay_legalization.specs.Constraints.{points_and_constraints_by}
 use Rattle.delaunay_legalization.specs.State.{State}
-use Rattle.delaunay_edit.specs.Edits.{InsertsVertex}
+use Rattle.delaunay_edit.specs.Edits.{InsertsVertex, RemovesVertex}
+use Rattle.delaunay_edit.proofs.Removing.{sites_left}
 
 -- what is held is a site where each vertex is one
 pub held_are_sites : (holds sites : Point → Type 0) (points : List Point) → IsAtMostOf holds points
@@ -175,3 +176,37 @@ module _ {V D U F : Type 0} (place : V → Point) (constraints : List U → List
       (points_and_constraints_by constraints new) v value had removes p (told p h).1
       (before p old_one))
       (λ e. there p e) (told p h).0
+
+module _ {V D U F E : Type 0} (place : V → Point) (constraints : List U → List ℕ)
+    (old new : State V D U F) (v : ℕ) where
+  -- where all positions were sites, so is that of a vertex that was removed
+  pub removed_is_site : (sites : Point → Type 0) (r : Result V E)
+      → RemovesVertex place constraints v r old new → All sites (map place old.vertices)
+      → IfOk r (λ value. sites (place value))
+  removed_is_site sites (Ok value) done all = All-contains sites (map place old.vertices)
+      (place value) all (was_listed place old.vertices v value done.value)
+  removed_is_site sites (Err e) done all = tt
+
+  module _ (swapped : Option Point)
+      (there : (p : Point) → swapped ≡ Some p → Contains (map place new.vertices) p) where
+    -- and that of the vertex that took its handle
+    pub swapped_is_site : (sites : Point → Type 0) (r : Result V E)
+        → RemovesVertex place constraints v r old new → All sites (map place old.vertices)
+        → OnOk r ((p : Point) → swapped ≡ Some p → sites p)
+    swapped_is_site sites (Ok value) done all = λ p is.
+        All-contains sites (map place new.vertices) p
+        (sites_left place constraints old new v value done.plain sites all) (there p is)
+    swapped_is_site sites (Err e) done all = tt
+
+    -- what a generator holds that is told of a removal, and left where that was refused
+    pub held_after_removal : {G : Type 0} (holds : G → Point → Type 0) (before after : G)
+        (r : Result V E) → RemovesVertex place constraints v r old new
+        → IsAtMostOf (holds before) (map place old.vertices)
+        → IfOk r (λ value. IsAtMostWithout (holds before) (holds after) (place value) swapped)
+        → OnErr r (after ≡ before) → IsAtMostOf (holds after) (map place new.vertices)
+    held_after_removal holds before after (Ok value) done held told stays =
+        held_then place constraints old new v value done.value done.plain (holds before)
+        (holds after) swapped held there told
+    held_after_removal holds before after (Err e) done held told stays = λ p h.
+        subst (λ (s : State V D U F). Contains (map place s.vertices) p) (sym done.err)
+        (held p (subst (λ (x : _). holds x p) stays h))

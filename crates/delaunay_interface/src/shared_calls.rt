@@ -3,7 +3,7 @@ ghost use Rattle.std.specs.Prelude.{refl};
 ghost use Rattle.delaunay_edit.specs.Writing.{with_directed_data, with_undirected_data};
 ghost use Rattle.delaunay_edit.specs.Writing.{with_face_data};
 
-use crate::telling::position_if;
+use crate::telling::{position_if, tell_if_removed};
 use crate::triangulation::{Triangulation, sealed};
 use crate::triangulation_core::TriangulationCore;
 use delaunay_core::HintGenerator;
@@ -114,12 +114,16 @@ impl<
         tests: &P,
     ) -> Result<V, AllocError> {
         self.edited.recall_invariant();
-        let value = self.edited.remove(vertex, tests)?;
+        let removed = self.edited.remove(vertex, tests);
         let swapped_in = position_if(self.edited.mesh(), vertex);
-        let position = value.position();
-        let generator = &mut self.hint_generator;
-        generator.notify_vertex_removed(swapped_in, vertex, position, tests);
-        Ok(value)
+        tell_if_removed(
+            &mut self.hint_generator,
+            &removed,
+            vertex,
+            swapped_in,
+            tests,
+        );
+        removed
     }
 
     fn clear(&mut self) {

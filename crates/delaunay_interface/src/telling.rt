@@ -1,7 +1,7 @@
 //! What a hint generator is told of edits.
-ghost use Rattle.std.specs.Prelude.{◌≡◌, ◌⊎◌, ◌<◌, ◌≤◌, map, Contains, Some};
+ghost use Rattle.std.specs.Prelude.{◌≡◌, ◌⊎◌, ◌<◌, ◌≤◌, map, Contains, Some, IfOk, OnErr, OnOk};
 ghost use Rattle.plane.specs.Fraction.{Point};
-ghost use Rattle.plane.specs.Hint.{IsAtMost};
+ghost use Rattle.plane.specs.Hint.{IsAtMost, IsAtMostWithout};
 ghost use Rattle.delaunay_core.specs.Held.{place_if};
 ghost use Rattle.delaunay_core.specs.Place.{place_of};
 
@@ -9,8 +9,10 @@ use delaunay_core::HintGenerator;
 use delaunay_core::math::PlaneTests;
 use delaunay_core::point::{HasPosition, Point2, SpadeNum};
 use half_edge_mesh::{Dcel, FixedVertexHandle, MAX_ELEMENTS, MeshViews};
+use std::alloc::AllocError;
 
-// Tells a generator of the vertex that was appended, where there are more vertices than before.
+// Tells a generator of the vertex that was appended, where there are more vertices than before, and
+// else leaves it.
 pub(crate) fn tell_if_appended<S: SpadeNum, L: HintGenerator<S>, P: PlaneTests<S>>(
     generator: &mut L,
     former: usize,
@@ -21,13 +23,48 @@ pub(crate) fn tell_if_appended<S: SpadeNum, L: HintGenerator<S>, P: PlaneTests<S
     requires few { former ≤ MAX_ELEMENTS }
     requires held { IsAtMost (P.sites tests.now) (L.holds generator.old) }
     requires site { former < current → P.sites tests.now (place_of S.whole position) }
-    ensures { (p : Point) → L.holds generator.new p → L.holds generator.old p ⊎
+    ensures holds { (p : Point) → L.holds generator.new p → L.holds generator.old p ⊎
         ((former < current) × (p ≡ place_of S.whole position)) }
+    ensures stays { current ≤ former → generator.new ≡ generator.old }
 {
     if former < current {
         let vertex = FixedVertexHandle::from_index(former as u32);
         generator.notify_vertex_inserted(vertex, position, tests);
     }
+}
+
+// Tells a generator of the vertex that was removed, where one was, and else leaves it. The last
+// vertex has its handle then.
+pub(crate) fn tell_if_removed<
+    V: HasPosition,
+    L: HintGenerator<V::Scalar>,
+    P: PlaneTests<V::Scalar>,
+>(
+    generator: &mut L,
+    removed: &Result<V, AllocError>,
+    vertex: FixedVertexHandle,
+    swapped_in: Option<Point2<V::Scalar>>,
+    tests: &P,
+)
+    requires held { IsAtMost (P.sites tests.now) (L.holds generator.old) }
+    requires site { IfOk removed.now (λ v. P.sites tests.now (V.place v)) }
+    requires swapped_site { OnOk removed.now ((p : Point) →
+        place_if V.Scalar.whole swapped_in ≡ Some p → P.sites tests.now p) }
+    ensures holds { IfOk removed.now (λ v. IsAtMostWithout (L.holds generator.old)
+        (L.holds generator.new) (V.place v) (place_if V.Scalar.whole swapped_in)) }
+    ensures stays { OnErr removed.now (generator.new ≡ generator.old) }
+{
+    if let Ok(value) = removed {
+        generator.notify_vertex_removed(swapped_in, vertex, value.position(), tests);
+    }
+}
+
+// The generator of a copy: a duplicate.
+pub(crate) fn generator_of_copy<S: SpadeNum, L: HintGenerator<S>>(generator: &L) -> L
+    ensures holds { IsAtMost (L.holds generator.now) (L.holds result) }
+    ensures duplicate { L.is_duplicate generator.now result }
+{
+    generator.duplicate()
 }
 
 // The position of a vertex, if there is one with this handle.

@@ -36,7 +36,7 @@ invariant_of-self g c = λ p h.
     (⊎_elim (λ held. inl (c.self.invariant p held))
     (λ new. let more = new.0 in
     inr (omega (arith, former, current, more), new.1 ∙ c.position-position.ensures))
-    (c.tell_if_appended.ensures p h))
+    (c.tell_if_appended.ensures.holds p h))
 
 pub insert_from-inserted-requires : goal.insert_from-inserted-requires
 insert_from-inserted-requires g c =
