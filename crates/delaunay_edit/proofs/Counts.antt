@@ -24,7 +24,7 @@ use Rattle.delaunay_location.specs.declared.position_in_triangulation.PositionIn
 use Rattle.delaunay_legalization.specs.State.{State, state_of, points_and_constraints}
 use Rattle.delaunay_legalization.specs.Shape.{IsTriangulated}
 use Rattle.delaunay_edit.specs.Location.{HasHandle}
-use Rattle.delaunay_edit.specs.Elements.{GivesElements, HasElement}
+use Rattle.delaunay_edit.specs.Elements.{GivesElements, HasElement, HasOuterEdge}
 use Rattle.delaunay_legalization.proofs.Shapes.{laid_out_distinct}
 
 module _ {V D U F : Type 0} (place : V → Point) (s : State V D U F)
@@ -66,6 +66,15 @@ module _ {V D U F : Type 0} (place : V → Point) (s : State V D U F)
   element_if_handle (OutsideOfConvexHull e) h =
       let b = h.0 in let f = kept.fits.directed_fit in omega (arith, b, f)
   element_if_handle NoTriangulation h = tt
+
+  -- and that of an outside position has the outer face on its left
+  pub outer_if_handle : (answer : PositionInTriangulation) → HasHandle s.mesh answer
+      → HasOuterEdge s answer
+  outer_if_handle (OnVertex v) h = tt
+  outer_if_handle (OnEdge e) h = tt
+  outer_if_handle (OnFace i) h = tt
+  outer_if_handle (OutsideOfConvexHull e) h = h.1
+  outer_if_handle NoTriangulation h = tt
 
 -- all elements that a mesh gives are those of the triangulation that it holds
 pub gives_elements : {V D U F : Type 0} (s : State V D U F) (mesh : Bor (Contents V D U F))

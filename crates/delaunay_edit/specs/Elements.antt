@@ -3,6 +3,7 @@ use Rattle.std.specs.Prelude.{◌≡◌, ℕ, ◌<◌, ◌≤◌, List, length, 
 use Rattle.std.specs.List.{range_with_len}
 use Rattle.std.specs.Borrow.{Bor}
 use Rattle.half_edge_mesh.specs.Contents.{Contents}
+use Rattle.half_edge_mesh.specs.Mesh.{face}
 use Rattle.half_edge_mesh.specs.Left.{each_in}
 use Rattle.plane.specs.Fraction.{Point, whole}
 use Rattle.plane.specs.Location.{IsLocation}
@@ -34,11 +35,20 @@ HasElement s (OnFace f) = (0 < f) × (f ≤ length s.faces)
 HasElement s (OutsideOfConvexHull e) = e < length s.directed
 HasElement s NoTriangulation = Unit {0}
 
+-- where the answer is outside, its edge has the outer face on its left
+abbrev pub HasOuterEdge : {V D U F : Type 0} → State V D U F → PositionInTriangulation → Type 0
+HasOuterEdge s (OnVertex v) = Unit {0}
+HasOuterEdge s (OnEdge e) = Unit {0}
+HasOuterEdge s (OnFace f) = Unit {0}
+HasOuterEdge s (OutsideOfConvexHull e) = face s.mesh e ≡ 0
+HasOuterEdge s NoTriangulation = Unit {0}
+
 -- the answer is where p is, by an element of the triangulation
 pub record FindsLocation {V D U F : Type 0} (place : V → Point) (s : State V D U F) (p : Point)
     (answer : PositionInTriangulation) : Type 0 where
   pub location : IsLocation (triangulation_of place s) (whole p) (location_of s.mesh answer)
   pub element : HasElement s answer
+  pub outer : HasOuterEdge s answer
 
 -- a mesh in this state, with the index of its vertex at p
 abbrev pub IsVertexAt : {V D U F : Type 0} → (V → Point) → State V D U F → Point

@@ -1,5 +1,5 @@
 -- Triangulations as they are at first, and copies.
-use Rattle.std.specs.Prelude.{◌≡◌, []}
+use Rattle.std.specs.Prelude.{◌≡◌, [], List, All}
 use Rattle.std.specs.List.{AllZip}
 use Rattle.half_edge_mesh.specs.Mesh.{empty}
 use Rattle.delaunay_legalization.specs.State.{State}
@@ -12,6 +12,10 @@ pub record IsEmptyState {V D U F : Type 0} (IsFirst : F → Type 0) (s : State V
   pub undirected : s.undirected ≡ []
   pub outer : IsFirst s.outer
   pub faces : s.faces ≡ []
+
+-- whatever R relates to one of these values has the same image as the value
+abbrev pub KeepsImage : {X Y : Type 0} → (X → X → Type 0) → (X → Y) → List X → Type 0
+KeepsImage {X = X} R image xs = All (λ x. (y : X) → R x y → image y ≡ image x) xs
 
 -- the same vertices, edges and faces, the data of each as these relations say of the former ones
 pub record IsCopy {V D U F : Type 0} (RV : V → V → Type 0) (RD : D → D → Type 0)

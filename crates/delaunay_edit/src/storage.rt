@@ -3,8 +3,10 @@ ghost use Rattle.std.specs.Prelude.{◌≡◌, ◌≤◌, ◌↔◌, IfOk, IsErr
 ghost use Rattle.half_edge_mesh.specs.Room.{AreFewEnough};
 ghost use Rattle.delaunay_core.specs.declared.math.InsertionError.TheVariants.{TooLarge};
 ghost use Rattle.delaunay_core.specs.declared.math.InsertionError.TheVariants.{OutOfIndexes};
+ghost use Rattle.delaunay_legalization.specs.Constraints.{constraints_by};
 ghost use Rattle.delaunay_legalization.specs.State.{state_of};
-ghost use Rattle.delaunay_edit.specs.Storage.{IsCopy, IsEmptyState};
+ghost use Rattle.delaunay_edit.specs.Headline.{IsDelaunay};
+ghost use Rattle.delaunay_edit.specs.Storage.{IsCopy, IsEmptyState, KeepsImage};
 
 use crate::edge_data::EdgeData;
 use crate::edited_mesh::EditedMesh;
@@ -52,6 +54,7 @@ impl<
         faces: usize,
     ) -> Result<Self, InsertionError>
         ensures ok { IfOk result (IsEmptyState F.is_default) }
+        ensures headline { IfOk result (IsDelaunay V.place M.constraints) }
         ensures full { IsErrOf result OutOfIndexes ↔
             ¬ AreFewEnough vertices undirected_edges faces }
         ensures not_too_large { ¬ IsErrOf result TooLarge }
@@ -77,11 +80,16 @@ impl<
     M: EdgeData<UE>,
 > EditedMesh<V, DE, UE, F, M> {
     /// A copy with clones of all data, where a clone of a vertex has its position and one of an
-    /// edge's data its mark. It gives `AllocError` where memory was refused.
+    /// edge's data its mark. So the same edges are constraints. It gives `AllocError` where memory
+    /// was refused.
     pub fn try_clone(&self) -> Result<Self, AllocError>
-        requires places { (v w : V) → V.is_clone v w → V.place w ≡ V.place v }
-        requires marks { (d e : UE) → UE.is_clone d e → M.marks e ≡ M.marks d }
-        ensures { IfOk result (IsCopy V.is_clone DE.is_clone UE.is_clone F.is_clone self.now) }
+        requires places { KeepsImage V.is_clone V.place self.now.vertices }
+        requires marks { KeepsImage UE.is_clone M.marks self.now.undirected }
+        ensures copy { IfOk result
+            (IsCopy V.is_clone DE.is_clone UE.is_clone F.is_clone self.now) }
+        ensures constraints { IfOk result
+            (λ c. constraints_by M.constraints c ≡ constraints_by M.constraints self.now) }
+        ensures headline { IfOk result (IsDelaunay V.place M.constraints) }
     {
         let alloc = *self.work.allocator();
         let dcel = self.dcel.clone()?;

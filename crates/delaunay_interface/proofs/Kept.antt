@@ -8,6 +8,7 @@ use Rattle.delaunay_legalization.specs.declared.cdt_edge.CdtEdge.{CdtEdge}
 use Rattle.delaunay_legalization.specs.State.{State}
 use Rattle.delaunay_legalization.proofs.Questions.{both_ways}
 use Rattle.delaunay_edit.proofs.Copies.{same_image}
+use Rattle.delaunay_edit.specs.Storage.{KeepsImage}
 use Rattle.delaunay_edit.specs.ConstraintEdits.{AddsConstraint, AddsPathIfFree, ReleasesConstraint}
 
 -- what is held is of the new vertices where they are the old ones
@@ -40,10 +41,10 @@ module _ {V D U F E : Type 0} (place : V → Point) (old new : State V D (CdtEdg
   vertices_after_release edge (Err e) done = ap (λ s. s.vertices) done.err
 
 -- what a duplicate holds is of the copies of the vertices, which have their positions
-pub held_by_copy : {V : Type 0} (place : V → Point) (R : V → V → Type 0)
-    → ((v w : V) → R v w → place w ≡ place v) → (vs ws : List V) → AllZip R vs ws
+pub held_by_copy : {V : Type 0} (place : V → Point) (R : V → V → Type 0) (vs ws : List V)
+    → KeepsImage R place vs → AllZip R vs ws
     → (held held' : Point → Type 0) → IsAtMostOf held (map place vs) → IsAtMost held held'
     → IsAtMostOf held' (map place ws)
-held_by_copy place R kept vs ws zip held held' old fewer =
-    λ p h. subst (λ (ps : List Point). Contains ps p) (sym (same_image R place kept vs ws zip))
+held_by_copy place R vs ws kept zip held held' old fewer =
+    λ p h. subst (λ (ps : List Point). Contains ps p) (sym (same_image R place vs ws kept zip))
     (old p (fewer p h))

@@ -4,7 +4,7 @@ use Rattle.half_edge_mesh.specs.Contents.{Contents}
 use Rattle.plane.specs.Fraction.{Point}
 use Rattle.delaunay_edit.specs.Elements.{FindsLocation, HasElement}
 use Rattle.delaunay_edit.specs.Location.{Locates}
-use Rattle.delaunay_edit.proofs.Counts.{element_if_handle}
+use Rattle.delaunay_edit.proofs.Counts.{element_if_handle, outer_if_handle}
 use Rattle.delaunay_legalization.specs.Shape.{IsTriangulated}
 use Rattle.delaunay_legalization.specs.State.{State, state_of}
 use Rattle.delaunay_location.specs.declared.position_in_triangulation.PositionInTriangulation.{PositionInTriangulation}
@@ -12,8 +12,11 @@ use Rattle.delaunay_location.specs.declared.position_in_triangulation.PositionIn
 module _ {V D U F : Type 0} (place : V → Point) (s : State V D U F) (kept : IsTriangulated place s)
     (p : Point) (answer : PositionInTriangulation) where
   finds : Locates (map place s.vertices) s.mesh p answer → FindsLocation place s p answer
-  finds l =
-      record { location = l.location; element = element_if_handle place s kept answer l.handle }
+  finds l = record {
+    location = l.location;
+    element = element_if_handle place s kept answer l.handle;
+    outer = outer_if_handle place s kept answer l.handle;
+  }
 
   -- of a mesh in this state
   pub finds_in : (c : Contents V D U F) → state_of c ≡ s

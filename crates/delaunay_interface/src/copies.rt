@@ -1,7 +1,10 @@
 //! Copies of a triangulation.
 ghost use Rattle.std.specs.Prelude.{◌≡◌, IfOk};
-ghost use Rattle.delaunay_edit.specs.Storage.{IsCopy};
+ghost use Rattle.delaunay_legalization.specs.Constraints.{constraints_by};
+ghost use Rattle.delaunay_edit.specs.Headline.{IsDelaunay};
+ghost use Rattle.delaunay_edit.specs.Storage.{IsCopy, KeepsImage};
 
+use crate::telling::generator_of_copy;
 use crate::triangulation_core::TriangulationCore;
 use delaunay_core::HintGenerator;
 use delaunay_core::point::HasPosition;
@@ -17,22 +20,26 @@ impl<
     M: EdgeData<UE>,
 > TriangulationCore<V, DE, UE, F, L, M> {
     /// A copy with the same vertices, edges, faces and constraints under the same handles, clones
-    /// of all data, and a duplicate of the hint generator. A clone of a vertex has its position,
-    /// and one of an edge's data is a constraint where that is one. It gives `AllocError` where
-    /// memory was refused.
+    /// of all data, and a duplicate of the hint generator. Each clone of one of its vertices has
+    /// that one's position, and each clone of the data of one of its edges is a constraint where
+    /// that edge is one. It gives `AllocError` where memory was refused.
     ///
     /// ```
     /// let mut copy = points.try_clone()?;
     /// copy.insert(Point2::new(9, 9), &ExactTests)?; // `points` stays
     /// ```
     pub fn try_clone(&self) -> Result<Self, AllocError>
-        requires places { (v w : V) → V.is_clone v w → V.place w ≡ V.place v }
-        requires marks { (d e : UE) → UE.is_clone d e → M.marks e ≡ M.marks d }
-        ensures { IfOk result (IsCopy V.is_clone DE.is_clone UE.is_clone F.is_clone self.now) }
+        requires places { KeepsImage V.is_clone V.place self.now.vertices }
+        requires marks { KeepsImage UE.is_clone M.marks self.now.undirected }
+        ensures copy { IfOk result
+            (IsCopy V.is_clone DE.is_clone UE.is_clone F.is_clone self.now) }
+        ensures constraints { IfOk result
+            (λ c. constraints_by M.constraints c ≡ constraints_by M.constraints self.now) }
+        ensures headline { IfOk result (IsDelaunay V.place M.constraints) }
     {
         Ok(TriangulationCore {
             edited: self.edited.try_clone()?,
-            hint_generator: self.hint_generator.duplicate(),
+            hint_generator: generator_of_copy::<V::Scalar, L>(&self.hint_generator),
             alloc: self.alloc,
         })
     }

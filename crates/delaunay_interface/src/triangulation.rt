@@ -138,6 +138,8 @@ pub trait Triangulation: Drop
         faces: usize,
     ) -> Result<Self, InsertionError>
         ensures ok { IfOk result (λ t. IsEmptyState Self.Face.is_default (state t)) }
+        ensures headline { IfOk result
+            (λ t. IsDelaunay Self.Vertex.place Self.Constraints.constraints (state t)) }
         ensures full { IsErrOf result OutOfIndexes ↔ ¬ AreFewEnough vertices undirected_edges
             faces }
         ensures not_too_large { ¬ IsErrOf result TooLarge }
@@ -638,8 +640,8 @@ pub trait Triangulation: Drop
     }
 
     /// Where a position is that the tests cover: on a vertex, on an edge, in a face, outside, or,
-    /// without a triangulation, at no vertex. The search begins at the vertex `hint`; a handle of
-    /// no vertex counts as the first.
+    /// without a triangulation, at no vertex. The edge of a position outside has the outer face on
+    /// its left. The search begins at the vertex `hint`; a handle of no vertex counts as the first.
     final fn locate_with_hint<P: PlaneTests<<Self::Vertex as HasPosition>::Scalar>>(
         &self,
         point: Point2<<Self::Vertex as HasPosition>::Scalar>,

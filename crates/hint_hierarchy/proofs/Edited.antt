@@ -65,5 +65,5 @@ pub copied : {V D U F E Y : Type 0} (RV : V → V → Type 0) (RD : D → D → 
     → (old : State V D U F) (r : Result (State V D U F) E) → IfOk r (IsCopy RV RD RU RF old)
     → IfOk r (λ l. map place l.vertices ≡ map place old.vertices)
 copied RV RD RU RF place same old (Ok l) c =
-    same_image RV place same old.vertices l.vertices c.vertices
+    same_image RV place old.vertices l.vertices (λ k d lt w. same _ w) c.vertices
 copied RV RD RU RF place same old (Err e) c = tt

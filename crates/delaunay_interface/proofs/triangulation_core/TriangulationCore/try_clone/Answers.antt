@@ -1,8 +1,17 @@
+use Rattle.std.proofs.Common.{◌∙◌, ap, sym, subst}
+use Rattle.delaunay_legalization.specs.Constraints.{constraints_by}
+use Rattle.delaunay_edit.specs.Storage.{KeepsImage}
 use Rattle.delaunay_interface.proofs.Kept.{held_by_copy}
 use Rattle.delaunay_interface.proofs.triangulation_core.TriangulationCore.try_clone.Goals as goal
 
 pub invariant_of-result : goal.invariant_of-result
 invariant_of-result g c =
-    held_by_copy g.V.HasPosition.place _ c.requires.places c.self.inside.edited.vertices
-    c.in_ok-try_clone.field-0.vertices c.in_ok-try_clone.ensures.vertices _ _ c.self.invariant
-    c.duplicate.ensures
+    held_by_copy g.V.HasPosition.place _ c.self.inside.edited.vertices
+    c.in_ok-try_clone.field-0.vertices
+    (subst (λ s. KeepsImage g.V.Clone.is_clone g.V.HasPosition.place s.vertices)
+    (sym c.self.view_is) c.requires.places)
+    c.in_ok-try_clone.ensures.copy.vertices _ _ c.self.invariant c.generator_of_copy.ensures.holds
+
+pub returns-clause-constraints : goal.returns-clause-constraints
+returns-clause-constraints g c = c.in_ok-try_clone.ensures.constraints
+    ∙ ap (λ s. constraints_by g.M.ConstraintMarker.constraints s) c.self.view_is
