@@ -9,14 +9,22 @@ use Rattle.plane.specs.Fraction.{Point}
 use Rattle.plane.specs.Side.{side, on, TurnsLeft}
 use Rattle.plane.specs.Location.{IsOuter}
 use Rattle.plane.specs.Tiling.{Triangulation, IsVertex, vertex}
+use Rattle.plane.specs.Plain.{CanAdd}
+use Rattle.delaunay_legalization.specs.declared.cdt_edge.CdtEdge.{CdtEdge}
 use Rattle.delaunay_legalization.specs.Known.{point_at}
 use Rattle.delaunay_legalization.specs.State.{State, state_of, triangulation_of}
+use Rattle.delaunay_edit.specs.Constrained.{constrained}
 
 -- all vertices are on one line
 abbrev pub AreOnLine : Triangulation → Type 0
 AreOnLine t =
     (i j k : ℕ) → IsVertex t i → IsVertex t j → IsVertex t k
     → side (vertex t i) (vertex t j) (vertex t k) ≡ on
+
+-- constraints may be added between two vertices: no constraint crosses their segment
+pub record CanAddConstraint {V D U F : Type 0} (place : V → Point) (s : State V D (CdtEdge U) F)
+    (from to : ℕ) : Type 0 where
+  pub free : CanAdd place (constrained s) from to
 
 module _ {V D U F : Type 0} where
   -- the mesh that a handle lies in is that of this triangulation, and the handle has this index

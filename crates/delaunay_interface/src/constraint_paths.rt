@@ -5,6 +5,7 @@ ghost use Rattle.delaunay_edit.specs.Constrained.{constrained, constraint_edges}
 ghost use Rattle.delaunay_edit.specs.ConstraintEdits.{AddsConstraint, AddsPathIfFree};
 ghost use Rattle.delaunay_edit.specs.ConstraintEdits.{ReleasesConstraint};
 ghost use Rattle.delaunay_edit.specs.Headline.{AreSites, IsDelaunay};
+ghost use Rattle.delaunay_interface.specs.Views.{CanAddConstraint};
 
 use crate::triangulation_core::ConstrainedDelaunayTriangulation;
 use delaunay_core::HintGenerator;
@@ -31,16 +32,17 @@ impl<V: HasPosition, DE, UE, F, L: HintGenerator<V::Scalar>> ConstrainedDelaunay
         requires from_in { from < length self.now.vertices }
         requires to_in { to < length self.now.vertices }
         requires sites { AreSites V.place (P.sites tests.now) self.now.vertices }
-        ensures { IsTrue result ↔ CanAdd V.place (constrained self.now) from to }
+        ensures { IsTrue result ↔ CanAddConstraint V.place self.now from to }
     {
         self.edited.can_add_constraint(from, to, tests)
     }
 
     /// Makes constraints of the edges between neighbours among the vertices on the segment between
-    /// two, which no constraint crosses; of a vertex and itself it makes none. Edges may be
-    /// flipped, and all data but the marks of the new constraints stay, each under its handle. It
-    /// tells whether that made a constraint of an edge that was none, and gives `AllocError` where
-    /// memory was refused; then nothing changes, and so where it made none.
+    /// two, which no constraint crosses, as `can_add_constraint` tells; of a vertex and itself it
+    /// makes none. Edges may be flipped, and all data but the marks of the new constraints stay,
+    /// each under its handle. It tells whether that made a constraint of an edge that was none, and
+    /// gives `AllocError` where memory was refused; then nothing changes, and so where it made
+    /// none.
     pub fn add_constraint<P: PlaneTests<V::Scalar>>(
         &mut self,
         from: FixedVertexHandle,
@@ -49,7 +51,7 @@ impl<V: HasPosition, DE, UE, F, L: HintGenerator<V::Scalar>> ConstrainedDelaunay
     ) -> Result<bool, AllocError>
         requires from_in { from < length self.old.vertices }
         requires to_in { to < length self.old.vertices }
-        requires free { CanAdd V.place (constrained self.old) from to }
+        requires free { CanAddConstraint V.place self.old from to }
         requires sites { AreSites V.place (P.sites tests.now) self.old.vertices }
         ensures adds { AddsConstraint V.place from to result self.old self.new }
         ensures headline { IsDelaunay V.place constraint_edges self.new }

@@ -17,7 +17,7 @@ invariant_of-self g c =
 pub add_constraint-requires-clause-free : goal.add_constraint-requires-clause-free
 add_constraint-requires-clause-free g c =
     subst (λ s. CanAdd g.V.HasPosition.place (constrained s) c.args.from c.args.to)
-    (sym c.self.view_is) c.requires.free
+    (sym c.self.view_is) c.requires.free.free
 
 pub add_constraint-requires-clause-ends : goal.add_constraint-requires-clause-ends
 add_constraint-requires-clause-ends g c =

@@ -6,9 +6,11 @@ use Rattle.delaunay_edit.specs.ConstraintEdits.{MayJoin}
 use Rattle.delaunay_interface.proofs.constraint_paths.ConstrainedDelaunayTriangulation+V+DE+UE+F+L.can_add_constraint.Goals as goal
 
 pub returns : goal.returns
-returns g c = subst (λ s. IsTrue c.can_add_constraint.result ↔
+returns g c =
+    let tells = subst (λ s. IsTrue c.can_add_constraint.result ↔
     CanAdd g.V.HasPosition.place
-    (constrained s) c.args.from c.args.to) c.self.view_is c.can_add_constraint.ensures
+    (constrained s) c.args.from c.args.to) c.self.view_is c.can_add_constraint.ensures in
+    ((λ yes. record { free = tells.0 yes }), (λ can. tells.1 can.free))
 
 pub can_add_constraint-requires : goal.can_add_constraint-requires
 can_add_constraint-requires g c =

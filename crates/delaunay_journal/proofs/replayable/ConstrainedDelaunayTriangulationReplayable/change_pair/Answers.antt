@@ -4,10 +4,6 @@ use Rattle.delaunay_journal.proofs.SingleEdits.{edge_joined_by, joined_by_edge, 
 use Rattle.delaunay_journal.proofs.SingleEdits.{pair_released, unjoined_is_free}
 use Rattle.delaunay_journal.proofs.replayable.ConstrainedDelaunayTriangulationReplayable.change_pair.Goals as goal
 
-pub add_constraint-requires-clause-free : goal.add_constraint-requires-clause-free
-add_constraint-requires-clause-free g c =
-    c.can_add_constraint.ensures.0 c.if-not-can_add_constraint.false
-
 pub returns-in-Ok-clause-gives : goal.returns-in-Ok-clause-gives
 returns-in-Ok-clause-gives g c =
     rw c.in-Join.is (pair_joined g.V.HasPosition.place c.args.self.now c.add_constraint.new.self
@@ -15,7 +11,7 @@ returns-in-Ok-clause-gives g c =
 
 pub returns-in-Err-clause-gives : goal.returns-in-Err-clause-gives
 returns-in-Err-clause-gives g c =
-    let can = c.can_add_constraint.ensures.0 c.if-not-can_add_constraint.false in
+    let can = (c.can_add_constraint.ensures.0 c.if-not-can_add_constraint.false).free in
     rw c.in-Join.is ((refl, can), c.in-Err.ensures.adds.err)
 
 pub returns-then-index-count-3-clause-gives : goal.returns-then-index-count-3-clause-gives
