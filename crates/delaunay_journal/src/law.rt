@@ -33,7 +33,8 @@ pub fn reversing_undoes_itself<S>()
         (r.factor ≡ p.factor) × (r.length_2 ≡ p.length_2) }
 {}
 
-/// A law: a point that is made a pair or an array, and this a point again, is the same.
+/// A law: a point that is made a pair or an array, and this a point again, is the same, and so is a
+/// pair or an array that is made a point, and this one of its kind again.
 pub fn conversions_undo_each_other<S: SpadeNum>()
     ensures pair { (p q : Point2 S) (a : S × S) →
         ⟦<(S, S) as From<Point2<S>>>⟧.from_gives p a →
@@ -41,4 +42,10 @@ pub fn conversions_undo_each_other<S: SpadeNum>()
     ensures array { (p q : Point2 S) (a : List S) →
         ⟦<[S; 2] as From<Point2<S>>>⟧.from_gives p a →
         ⟦<Point2<S> as From<[S; 2]>>⟧.from_gives a q → q ≡ p }
+    ensures from_pair { (a b : S × S) (p : Point2 S) →
+        ⟦<Point2<S> as From<(S, S)>>⟧.from_gives a p →
+        ⟦<(S, S) as From<Point2<S>>>⟧.from_gives p b → b ≡ a }
+    ensures from_array { (a b : List S) (p : Point2 S) →
+        ⟦<Point2<S> as From<[S; 2]>>⟧.from_gives a p →
+        ⟦<[S; 2] as From<Point2<S>>>⟧.from_gives p b → b ≡ a }
 {}
