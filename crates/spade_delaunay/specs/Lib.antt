@@ -10,12 +10,15 @@ pub use Rattle.plane.specs.Shape
 pub use Rattle.plane.specs.Side
 pub use Rattle.plane.specs.Tests
 pub use Rattle.plane.specs.Tiling
+pub use Rattle.plane_delaunay.specs.EdgeTests
 pub use Rattle.plane_delaunay.specs.History
 pub use Rattle.half_edge_mesh.specs.Contents
 pub use Rattle.half_edge_mesh.specs.Left
 pub use Rattle.half_edge_mesh.specs.Mesh
 pub use Rattle.half_edge_mesh.specs.Room
 pub use Rattle.half_edge_mesh.specs.Rounds
+pub use Rattle.half_edge_mesh.specs.Triangles
+pub use Rattle.half_edge_mesh.specs.Voronoi
 pub use Rattle.delaunay_core.specs.Held
 pub use Rattle.delaunay_core.specs.Place
 pub use Rattle.delaunay_core.specs.Projection
@@ -43,4 +46,5 @@ pub use Rattle.delaunay_interface.specs.Storage
 pub use Rattle.delaunay_interface.specs.Views
 pub use Rattle.delaunay_interface.specs.Walk
 pub use Rattle.delaunay_interface.specs.Writing
+pub use Rattle.delaunay_shape_queries.specs.Distances
 pub use Rattle.delaunay_shape_queries.specs.Found
