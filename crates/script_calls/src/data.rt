@@ -103,6 +103,10 @@ pub fn write_all<T: Triangulation<DirectedEdge = u32, UndirectedUserData = u32, 
     }
 }
 
+fn print_number(rt: &impl Print, number: u32) -> io::Result<()> {
+    print!(rt; " {number}")
+}
+
 /// Prints the numbers of all edges, directed edges and faces, each by rising index.
 pub fn print_data<UE: Shown, T: Triangulation<DirectedEdge = u32, UndirectedEdge = UE, Face = u32>>(
     rt: &impl Print,
@@ -110,15 +114,16 @@ pub fn print_data<UE: Shown, T: Triangulation<DirectedEdge = u32, UndirectedEdge
 ) -> io::Result<()> {
     print!(rt; "edges")?;
     for edge in points.undirected_edges() {
-        print!(rt; " {}", edge.data().shown().0)?;
+        let (number, _) = edge.data().shown();
+        print_number(rt, number)?;
     }
     print!(rt; ", directed")?;
     for edge in points.directed_edges() {
-        print!(rt; " {}", edge.data())?;
+        print_number(rt, *edge.data())?;
     }
     print!(rt; ", faces")?;
     for face in points.all_faces() {
-        print!(rt; " {}", face.data())?;
+        print_number(rt, *face.data())?;
     }
     println!(rt)
 }
