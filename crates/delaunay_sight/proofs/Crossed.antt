@@ -1,0 +1,131 @@
+-- What the questions about edges say of the items of a segment.
+use Rattle.std.proofs.Common.{◌≡◌, ◌⊎◌, ◌<◌, ◌↔◌, ◌∙◌, ℕ, Bool, IsTrue, List, length, map}
+use Rattle.std.proofs.Common.{sym, ap, subst, inl, inr}
+use Rattle.std.specs.Prelude.{◌≢◌, ℤ}
+use Rattle.std.specs.Borrow.{Bor}
+use Rattle.half_edge_mesh.specs.Mesh.{Mesh, origin, rev}
+use Rattle.half_edge_mesh.specs.Contents.{Contents}
+use Rattle.half_edge_links.proofs.Lists.Rev.{rev-rev}
+use Rattle.half_edge_views.specs.declared.edge.DirectedEdgeHandle.{DirectedEdgeHandle}
+use Rattle.plane.specs.Fraction.{Point, Fraction, whole}
+use Rattle.plane.specs.Side.{side, on, opposite}
+use Rattle.plane.specs.Pairs.{place}
+use Rattle.plane.specs.Line.{Item, at_vertex, across, along}
+use Rattle.plane.proofs.Sides.{side_swapped}
+use Rattle.plane_sight.specs.Sight.{PassesFree}
+use Rattle.mesh_embedding.specs.Drawn.{drawn}
+use Rattle.delaunay_core.specs.Place.{place_of}
+use Rattle.delaunay_lines.specs.declared.intersection.Intersection.{Intersection}
+use Rattle.delaunay_lines.specs.declared.intersection.Intersection.TheVariants.{EdgeIntersection}
+use Rattle.delaunay_lines.specs.declared.intersection.Intersection.TheVariants.{VertexIntersection}
+use Rattle.delaunay_lines.specs.declared.intersection.Intersection.TheVariants.{EdgeOverlap}
+use Rattle.delaunay_lines.specs.Items.{item_in, mesh_of}
+use Rattle.delaunay_lines.specs.Steps.{IsOverMesh}
+use Rattle.delaunay_lines.proofs.MeshSteps.{in_mesh}
+use Rattle.delaunay_sight.specs.declared.items.Sight.{Sight}
+use Rattle.delaunay_sight.specs.Beside.{by_place, IsFreeBeside, IsFreeUnlessOn}
+use Rattle.delaunay_sight.specs.Passing.{Passes}
+use Rattle.delaunay_sight.proofs.MeshFaces.{beside_iff, behind_iff}
+
+-- ---- items
+on_swapped : (u v p : Fraction) → side u v p ≡ on → side v u p ≡ on
+on_swapped u v p e = side_swapped u v p ∙ ap opposite e
+
+module _ {V D U F : Type 0} (at : V → Point) (IsSite IsCovered : Point → Type 0)
+    (c : Contents V D U F) (p q : Point) (over : IsOverMesh at IsSite IsCovered c p q)
+    (free : ℕ → Bool) (h : ℕ) (within : h < length c.directed) where
+  abbrev m : Mesh
+  m = c.mesh
+
+  abbrev points : List Point
+  points = map at c.vertices
+
+  abbrev a : ℕ
+  a = origin m h
+
+  abbrev b : ℕ
+  b = origin m (rev h)
+
+  abbrev Passed : Item → Type 0
+  Passed k = PassesFree (drawn points m) (by_place free) (whole p) (whole q) k
+
+  w : h < length m.half_edges
+  w = in_mesh at IsSite IsCovered c p q over h within
+
+  back : origin m (rev (rev h)) ≡ origin m h
+  back = ap (origin m) (rev-rev h)
+
+  -- the faces on both sides of an edge, but those that the segment does not have
+  pub crossed_iff : (IsFreeUnlessOn points m free p (rev h) × IsFreeUnlessOn points m free q h)
+      ↔ Passed (across a b)
+  crossed_iff =
+      let left = beside_iff points m over.mesh.valid over.shape free h w in
+      let right = behind_iff points m over.mesh.valid over.shape free h w in (
+        (λ x. (
+          (λ n. right.0 (x.0 (λ e. n (on_swapped (place points b) (place points a) (whole p) (subst
+              (λ (i : ℕ). side (place points b) (place points i) (whole p) ≡ on) back e))))),
+          (λ n. left.0 (x.1 n)),
+        )),
+        (λ x. (
+          (λ n. right.1 (x.0 (λ e. n (subst
+              (λ (i : ℕ). side (place points b) (place points i) (whole p) ≡ on) (sym back)
+              (on_swapped (place points a) (place points b) (whole p) e))))),
+          (λ n. left.1 (x.1 n)),
+        )),
+      )
+
+  -- one of both
+  pub along_iff : (IsFreeBeside m free h ⊎ IsFreeBeside m free (rev h)) ↔ Passed (along a b)
+  along_iff =
+      let left = beside_iff points m over.mesh.valid over.shape free h w in
+      let right = behind_iff points m over.mesh.valid over.shape free h w in (
+        (λ x. elim x [ inl f ↦ inl (left.0 f) | inr f ↦ inr (right.0 f) ]),
+        (λ x. elim x [ inl f ↦ inl (left.1 f) | inr f ↦ inr (right.1 f) ]),
+      )
+
+  -- where the first answer is yes the second one decides
+  pub second_decides : (x y : Bool) → IsTrue x → IsTrue x ↔ IsFreeUnlessOn points m free p (rev h)
+      → IsTrue y ↔ IsFreeUnlessOn points m free q h → IsTrue y ↔ Passed (across a b)
+  second_decides x y says first second = (
+    (λ k. crossed_iff.0 (first.0 says, second.0 k)),
+    (λ z. second.1 (crossed_iff.1 z).1),
+  )
+
+  -- where it is no, the faces are not free
+  pub not_crossed : (x : Bool) → ¬ IsTrue x → IsTrue x ↔ IsFreeUnlessOn points m free p (rev h)
+      → ¬ Passed (across a b)
+  not_crossed x denies first z = denies (first.1 (crossed_iff.1 z).0)
+
+pub iff_through : {X Y Z : Type 0} → X ↔ Y → Y ↔ Z → X ↔ Z
+iff_through f g = ((λ x. g.0 (f.0 x)), (λ z. f.1 (g.1 z)))
+
+-- an answer that is named
+pub iff_named : (b d : Bool) (Z : Type 0) → b ≡ d → IsTrue d ↔ Z → IsTrue b ↔ Z
+iff_named b d Z e iff = subst (λ (x : Bool). IsTrue x ↔ Z) (sym e) iff
+
+-- ---- an item and its edge
+-- an edge of a mesh is within it
+pub crossed_within : {V D U F : Type 0} (e : DirectedEdgeHandle V D U F)
+    (d : Bor (Contents V D U F)) → e.dcel ≡ d → e.index < length d.now.directed
+crossed_within {V} {D} {U} {F} e d same =
+    subst (λ (x : Bor (Contents V D U F)). e.index < length x.now.directed) same e.in_range
+
+module _ {V D U F G P S : Type 0} (at : V → Point) (number : S → ℤ) (free : G → ℕ → Bool)
+    (s : Sight V D U F G P S) where
+  pub crossing_item : (x : Intersection V D U F) (e : DirectedEdgeHandle V D U F)
+      → x ≡ EdgeIntersection e → mesh_of x ≡ s.dcel → (y : Bool) → IsTrue y
+      ↔ Passes at number free s
+      (across (origin s.dcel.now.mesh e.index) (origin s.dcel.now.mesh (rev e.index)))
+      → IsTrue y ↔ Passes at number free s (item_in x)
+  crossing_item x e is mesh y iff = subst (λ (k : Item). IsTrue y ↔ Passes at number free s k)
+      (sym (ap item_in is ∙ ap (λ (d : Bor (Contents V D U F)). across (origin d.now.mesh e.index)
+      (origin d.now.mesh (rev e.index))) (sym (ap mesh_of is) ∙ mesh))) iff
+
+  pub overlap_item : (x : Intersection V D U F) (e : DirectedEdgeHandle V D U F)
+      → x ≡ EdgeOverlap e → mesh_of x ≡ s.dcel → (y : Bool) → IsTrue y
+      ↔ Passes at number free s
+      (along (origin s.dcel.now.mesh e.index) (origin s.dcel.now.mesh (rev e.index)))
+      → IsTrue y ↔ Passes at number free s (item_in x)
+  overlap_item x e is mesh y iff = subst (λ (k : Item). IsTrue y ↔ Passes at number free s k)
+      (sym (ap item_in is ∙ ap (λ (d : Bor (Contents V D U F)). along (origin d.now.mesh e.index)
+      (origin d.now.mesh (rev e.index))) (sym (ap mesh_of is) ∙ mesh))) iff

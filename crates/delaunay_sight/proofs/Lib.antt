@@ -1,0 +1,4 @@
+mod MeshFaces
+mod Crossed
+mod Walks
+mod Decided

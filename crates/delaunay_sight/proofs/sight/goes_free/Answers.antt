@@ -1,0 +1,24 @@
+use Rattle.delaunay_core.specs.Place.{place_of}
+use Rattle.plane.specs.Fraction.{whole}
+use Rattle.delaunay_legalization.specs.State.{state_of}
+use Rattle.delaunay_sight.specs.Beside.{by_place}
+use Rattle.delaunay_sight.proofs.Decided.{goes_free, over_line}
+use Rattle.delaunay_sight.proofs.sight.goes_free.Goals as goal
+
+pub passes_each-requires-clause-over : goal.passes_each-requires-clause-over
+passes_each-requires-clause-over g c =
+    let line = c.line_between-line.ensures.line in
+    let ready = c.line_between-line.ensures.ready in
+    over_line g.V.HasPosition.place _ _ c.args.dcel.now c.line_between-line.result.dcel.now
+    (place_of g.V.Scalar.SpadeNum.whole c.args.from) (place_of g.V.Scalar.SpadeNum.whole c.args.to)
+    line.state ready.over.mesh ready.over.shape c.requires.sites c.requires.from_covered
+    c.requires.to_covered
+
+pub returns : goal.returns
+returns g c =
+    let line = c.line_between-line.ensures.line in
+    goes_free g.V.HasPosition.place (state_of c.args.dcel.now) c.line_between-line.result.dcel.now
+    line.state (by_place (g.G.FreeFaces.free c.args.free.now))
+    (whole (place_of g.V.Scalar.SpadeNum.whole c.args.from))
+    (whole (place_of g.V.Scalar.SpadeNum.whole c.args.to)) line.items line.line_list
+    c.passes_each.result (c.passes_each.ensures line.items line.are_left)

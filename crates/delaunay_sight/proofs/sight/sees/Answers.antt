@@ -1,0 +1,30 @@
+use Rattle.std.proofs.Common.{refl}
+use Rattle.delaunay_core.specs.Place.{place_of}
+use Rattle.delaunay_legalization.specs.State.{state_of, triangulation_of}
+use Rattle.delaunay_legalization.proofs.Questions.{both_ways}
+use Rattle.delaunay_sight.specs.Beside.{by_place}
+use Rattle.delaunay_sight.proofs.Decided.{sees_if, sees_end}
+use Rattle.delaunay_sight.proofs.sight.sees.Goals as goal
+
+pub returns-then-not-is_in_free : goal.returns-then-not-is_in_free
+returns-then-not-is_in_free g c = (
+  (λ t. absurd (both_ways _ t refl)),
+  (λ s. absurd (both_ways _ (c.is_in_free.ensures.1
+      (sees_end (triangulation_of g.V.HasPosition.place (state_of c.args.dcel.now))
+      (by_place (g.G.FreeFaces.free c.args.free.now))
+      (place_of g.V.Scalar.SpadeNum.whole c.args.from)
+      (place_of g.V.Scalar.SpadeNum.whole c.args.to) s)) c.if-not-is_in_free.true)),
+)
+
+pub returns : goal.returns
+returns g c = sees_if g.V.HasPosition.place (g.P.PlaneTests.sites c.args.tests.now)
+    (g.P.PlaneTests.covered c.args.tests.now) c.args.dcel.now
+    (place_of g.V.Scalar.SpadeNum.whole c.args.from) (place_of g.V.Scalar.SpadeNum.whole c.args.to)
+    (record {
+      mesh = c.recall_invariant.ensures.whole;
+      shape = c.requires.kept.shape;
+      sites = c.requires.sites;
+      from = c.requires.from_covered;
+      to = c.requires.to_covered;
+    }) (g.G.FreeFaces.free c.args.free.now) c.requires.start
+    (c.is_in_free.ensures.0 c.if-not-is_in_free.false) c.goes_free.result c.goes_free.ensures

@@ -1,0 +1,126 @@
+//! Whether a segment passes free faces at what it meets.
+ghost use Rattle.std.specs.Prelude.{◌≡◌, ◌↔◌, ◌<◌, List, length, map, All, IsTrue};
+ghost use Rattle.half_edge_mesh.specs.Mesh.{origin, rev};
+ghost use Rattle.plane.specs.Fraction.{whole as fraction};
+ghost use Rattle.plane.specs.Line.{Item, across, along};
+ghost use Rattle.plane.specs.Pairs.{place};
+ghost use Rattle.plane.specs.Side.{side, on};
+ghost use Rattle.delaunay_core.specs.Place.{place_of};
+ghost use Rattle.delaunay_lines.specs.Items.{item_in, mesh_of};
+ghost use Rattle.delaunay_lines.specs.Walk.{AreLeft, IsReady};
+ghost use Rattle.delaunay_sight.specs.Beside.{IsFreeUnlessOn};
+ghost use Rattle.delaunay_sight.specs.Passing.{IsSightOver, Passes, PassesEach};
+
+use crate::edges::{is_free_along, is_free_beside, twin_of};
+use crate::free_faces::FreeFaces;
+use delaunay_core::math::PlaneTests;
+use delaunay_core::point::{HasPosition, Point2};
+use delaunay_legalization::start_of;
+use delaunay_lines::{Intersection, LineIntersectionIterator};
+use half_edge_mesh::{Dcel, DirectedEdgeHandle, FixedDirectedEdgeHandle};
+
+/// A segment over a mesh with free faces, and the tests that say on which sides points are.
+#[derive(Drop)]
+pub(crate) struct Sight<'a, V: HasPosition, DE, UE, F, G: FreeFaces, P: PlaneTests<V::Scalar>> {
+    pub(crate) dcel: &'a Dcel<V, DE, UE, F>,
+    pub(crate) free: &'a G,
+    pub(crate) from: Point2<V::Scalar>,
+    pub(crate) to: Point2<V::Scalar>,
+    pub(crate) tests: &'a P,
+}
+
+impl<'a, V: HasPosition, DE, UE, F, G: FreeFaces, P: PlaneTests<V::Scalar>> Sight<
+    'a,
+    V,
+    DE,
+    UE,
+    F,
+    G,
+    P,
+> {
+    // Whether a position is on the line of an edge.
+    fn is_on_line(&self, edge: FixedDirectedEdgeHandle, point: Point2<V::Scalar>) -> bool
+        requires within { edge < length self.now.dcel.now.directed }
+        requires sites { All (P.sites self.now.tests.now) (map V.place self.now.dcel.now.vertices) }
+        requires covered { P.covered self.now.tests.now (place_of V.Scalar.whole point) }
+        ensures { let points = map V.place self.now.dcel.now.vertices in
+            let m = self.now.dcel.now.mesh in IsTrue result ↔ (side (place points (origin m edge))
+            (place points (origin m (rev edge))) (fraction (place_of V.Scalar.whole point)) ≡ on) }
+    {
+        let twin = twin_of(self.dcel, edge);
+        let (start, end) = (start_of(self.dcel, edge), start_of(self.dcel, twin));
+        self.tests.side(start, end, point).is_on_line()
+    }
+
+    // Whether a position is on the line of an edge, or the face on the edge's left is free.
+    fn is_free_unless_on(&self, edge: FixedDirectedEdgeHandle, point: Point2<V::Scalar>) -> bool
+        requires within { edge < length self.now.dcel.now.directed }
+        requires sites { All (P.sites self.now.tests.now) (map V.place self.now.dcel.now.vertices) }
+        requires covered { P.covered self.now.tests.now (place_of V.Scalar.whole point) }
+        ensures { IsTrue result ↔
+            IsFreeUnlessOn (map V.place self.now.dcel.now.vertices) self.now.dcel.now.mesh
+            (G.free self.now.free.now) (place_of V.Scalar.whole point) edge }
+    {
+        if self.is_on_line(edge, point) {
+            return true;
+        }
+        is_free_beside(self.dcel, edge, self.free)
+    }
+
+    // Whether the faces that the segment has beside an edge that it crosses are free.
+    fn crosses_free(&self, edge: &DirectedEdgeHandle<'a, V, DE, UE, F>) -> bool
+        requires mesh { edge.now.dcel ≡ self.now.dcel }
+        requires over { IsSightOver V.place V.Scalar.whole P.sites P.covered self.now }
+        ensures { let m = self.now.dcel.now.mesh in let h = edge.now.index in
+            IsTrue result ↔ Passes V.place V.Scalar.whole G.free self.now
+            (across (origin m h) (origin m (rev h))) }
+    {
+        let edge = edge.fix();
+        let twin = twin_of(self.dcel, edge);
+        self.is_free_unless_on(twin, self.from) && self.is_free_unless_on(edge, self.to)
+    }
+
+    // Whether one of the faces beside an edge that it runs along is.
+    fn overlaps_free(&self, edge: &DirectedEdgeHandle<'a, V, DE, UE, F>) -> bool
+        requires mesh { edge.now.dcel ≡ self.now.dcel }
+        requires over { IsSightOver V.place V.Scalar.whole P.sites P.covered self.now }
+        ensures { let m = self.now.dcel.now.mesh in let h = edge.now.index in
+            IsTrue result ↔ Passes V.place V.Scalar.whole G.free self.now
+            (along (origin m h) (origin m (rev h))) }
+    {
+        is_free_along(self.dcel, edge.fix(), self.free)
+    }
+
+    // Whether those that it has beside an item that it meets are.
+    fn passes(&self, item: &Intersection<'a, V, DE, UE, F>) -> bool
+        requires mesh { mesh_of item.now ≡ self.now.dcel }
+        requires over { IsSightOver V.place V.Scalar.whole P.sites P.covered self.now }
+        ensures { IsTrue result ↔
+            Passes V.place V.Scalar.whole G.free self.now (item_in item.now) }
+    {
+        match item {
+            Intersection::EdgeIntersection(edge) => self.crosses_free(edge),
+            Intersection::VertexIntersection(_) => true,
+            Intersection::EdgeOverlap(edge) => self.overlaps_free(edge),
+        }
+    }
+
+    // Whether those beside each item of a line are.
+    pub(crate) fn passes_each(
+        &self,
+        line: &mut LineIntersectionIterator<'a, V, DE, UE, F, P>,
+    ) -> bool
+        requires mesh { line.old.dcel ≡ self.now.dcel }
+        requires over { IsSightOver V.place V.Scalar.whole P.sites P.covered self.now }
+        requires ready { IsReady V.place V.Scalar.whole P.sites P.covered line.old }
+        ensures { (items : List Item) → AreLeft V.place V.Scalar.whole line.old items →
+            IsTrue result ↔ PassesEach V.place V.Scalar.whole G.free self.now items }
+    {
+        while let Some(item) = line.next() {
+            if !self.passes(&item) {
+                return false;
+            }
+        }
+        true
+    }
+}

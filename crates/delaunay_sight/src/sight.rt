@@ -1,0 +1,109 @@
+//! Whether a segment is a line of sight.
+ghost use Rattle.std.specs.Prelude.{◌↔◌, List, map, All, IsTrue};
+ghost use Rattle.plane.specs.Fraction.{whole as fraction};
+ghost use Rattle.plane.specs.Line.{Item, IsLineList};
+ghost use Rattle.plane.specs.Tests.{InRange};
+ghost use Rattle.plane_sight.specs.Sight.{IsInFree, IsInSight};
+ghost use Rattle.delaunay_core.specs.Place.{place_of};
+ghost use Rattle.delaunay_legalization.specs.Shape.{IsTriangulated};
+ghost use Rattle.delaunay_legalization.specs.State.{state_of, triangulation_of};
+ghost use Rattle.delaunay_sight.specs.Beside.{by_place};
+ghost use Rattle.delaunay_sight.specs.Passing.{GoesFree};
+
+use crate::free_faces::FreeFaces;
+use crate::items::Sight;
+use crate::places::is_in_free;
+use delaunay_core::math::PlaneTests;
+use delaunay_core::point::{HasPosition, Point2};
+use delaunay_lines::{HasMesh, line_between};
+use half_edge_mesh::{Dcel, FixedVertexHandle};
+
+// Whether a segment passes free faces at each item that it meets. The search for its start begins
+// at the vertex `hint`.
+fn goes_free<'a, V: HasPosition, DE, UE, F, G: FreeFaces, P: PlaneTests<V::Scalar>>(
+    dcel: &'a Dcel<V, DE, UE, F>,
+    from: Point2<V::Scalar>,
+    to: Point2<V::Scalar>,
+    hint: FixedVertexHandle,
+    free: &'a G,
+    tests: &'a P,
+) -> bool
+    requires kept { IsTriangulated V.place (state_of dcel.now) }
+    requires sites { All (P.sites tests.now) (map V.place dcel.now.vertices) }
+    requires from_covered { P.covered tests.now (place_of V.Scalar.whole from) }
+    requires to_covered { P.covered tests.now (place_of V.Scalar.whole to) }
+    ensures { GoesFree (triangulation_of V.place (state_of dcel.now)) (by_place (G.free free.now))
+        (fraction (place_of V.Scalar.whole from)) (fraction (place_of V.Scalar.whole to)) result }
+{
+    let mut line = line_between(dcel, from, to, hint, tests);
+    let sight = Sight {
+        dcel: line.dcel,
+        free,
+        from,
+        to,
+        tests,
+    };
+    sight.passes_each(&mut line)
+}
+
+// Whether a segment is a line of sight that starts in a closed free face. The searches for its ends
+// begin at the two vertices `hints`.
+fn sees<V: HasPosition, DE, UE, F, G: FreeFaces, P: PlaneTests<V::Scalar>>(
+    dcel: &Dcel<V, DE, UE, F>,
+    from: Point2<V::Scalar>,
+    to: Point2<V::Scalar>,
+    hints: (FixedVertexHandle, FixedVertexHandle),
+    free: &G,
+    tests: &P,
+) -> bool
+    requires kept { IsTriangulated V.place (state_of dcel.now) }
+    requires sites { All (P.sites tests.now) (map V.place dcel.now.vertices) }
+    requires from_covered { P.covered tests.now (place_of V.Scalar.whole from) }
+    requires to_covered { P.covered tests.now (place_of V.Scalar.whole to) }
+    requires start { IsInFree (triangulation_of V.place (state_of dcel.now))
+        (by_place (G.free free.now)) (fraction (place_of V.Scalar.whole from)) }
+    ensures { IsTrue result ↔ IsInSight (triangulation_of V.place (state_of dcel.now))
+        (by_place (G.free free.now)) (fraction (place_of V.Scalar.whole from))
+        (fraction (place_of V.Scalar.whole to)) }
+{
+    dcel.recall_invariant();
+    if !is_in_free(dcel, to, hints.1, free, tests) {
+        return false;
+    }
+    goes_free(dcel, from, to, hints.0, free, tests)
+}
+
+/// Whether each point of the segment between two positions is in a closed free face. So the segment
+/// enters no face that is not free and does not leave the hull; it may go through corners of faces
+/// that are not free, and along an edge with a free face on one side. A position sees itself where
+/// it is in a closed free face. The tests cover both positions and have the vertices as sites. It
+/// takes no memory.
+///
+/// ```
+/// let seen = is_in_sight(&hall, guard, door, &floor, &ExactTests);
+/// ```
+pub fn is_in_sight<
+    T: HasMesh<V, DE, UE, F>,
+    V: HasPosition,
+    DE,
+    UE,
+    F,
+    G: FreeFaces,
+    P: PlaneTests<V::Scalar>,
+>(triangulation: &T, from: Point2<V::Scalar>, to: Point2<V::Scalar>, free: &G, tests: &P) -> bool
+    requires sites { let points = map V.place (T.mesh_state triangulation.now).vertices in
+        All InRange points → All (P.sites tests.now) points }
+    requires from_covered { P.covered tests.now (place_of V.Scalar.whole from) }
+    requires to_covered { P.covered tests.now (place_of V.Scalar.whole to) }
+    ensures { let s = T.mesh_state triangulation.now in
+        IsTrue result ↔ IsInSight (triangulation_of V.place s) (by_place (G.free free.now))
+        (fraction (place_of V.Scalar.whole from)) (fraction (place_of V.Scalar.whole to)) }
+{
+    let start = triangulation.search_start(from, tests);
+    let end = triangulation.search_start(to, tests);
+    let dcel = triangulation.mesh();
+    if !is_in_free(dcel, from, start, free, tests) {
+        return false;
+    }
+    sees(dcel, from, to, (start, end), free, tests)
+}
