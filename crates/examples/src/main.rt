@@ -3,6 +3,7 @@
 //! `compare/examples`.
 #![tactic(auto)]
 
+mod castle;
 mod facilities;
 mod hill;
 mod navigation;
@@ -16,6 +17,7 @@ fn run(rt: &HostRuntime, name: &str) -> anyhow::Result<()> {
         "facilities" => facilities::run(rt),
         "navigation" => navigation::run(rt),
         "parcels" => parcels::run(rt),
+        "castle" => castle::run(rt),
         _ => Ok(println!(rt; "no such example")?),
     }
 }
