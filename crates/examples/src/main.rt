@@ -3,6 +3,7 @@
 //! `compare/examples`.
 #![tactic(auto)]
 
+mod castle;
 mod facilities;
 mod harbour;
 mod hill;
@@ -22,6 +23,7 @@ fn run(rt: &HostRuntime, name: &str) -> anyhow::Result<()> {
         "walls" => walls::run(rt),
         "tolls" => tolls::run(rt),
         "harbour" => harbour::run(rt),
+        "castle" => castle::run(rt),
         _ => Ok(println!(rt; "no such example")?),
     }
 }
