@@ -1,7 +1,7 @@
 -- What the questions about edges say of the items of a segment.
 use Rattle.std.proofs.Common.{◌≡◌, ◌⊎◌, ◌<◌, ◌↔◌, ◌∙◌, ℕ, Bool, IsTrue, List, length, map}
 use Rattle.std.proofs.Common.{sym, ap, subst, inl, inr}
-use Rattle.std.specs.Prelude.{◌≢◌, ℤ}
+use Rattle.std.specs.Prelude.{ℤ}
 use Rattle.std.specs.Borrow.{Bor}
 use Rattle.half_edge_mesh.specs.Mesh.{Mesh, origin, rev}
 use Rattle.half_edge_mesh.specs.Contents.{Contents}
@@ -10,14 +10,12 @@ use Rattle.half_edge_views.specs.declared.edge.DirectedEdgeHandle.{DirectedEdgeH
 use Rattle.plane.specs.Fraction.{Point, Fraction, whole}
 use Rattle.plane.specs.Side.{side, on, opposite}
 use Rattle.plane.specs.Pairs.{place}
-use Rattle.plane.specs.Line.{Item, at_vertex, across, along}
+use Rattle.plane.specs.Line.{Item, across, along}
 use Rattle.plane.proofs.Sides.{side_swapped}
 use Rattle.plane_sight.specs.Sight.{PassesFree}
 use Rattle.mesh_embedding.specs.Drawn.{drawn}
-use Rattle.delaunay_core.specs.Place.{place_of}
 use Rattle.delaunay_lines.specs.declared.intersection.Intersection.{Intersection}
 use Rattle.delaunay_lines.specs.declared.intersection.Intersection.TheVariants.{EdgeIntersection}
-use Rattle.delaunay_lines.specs.declared.intersection.Intersection.TheVariants.{VertexIntersection}
 use Rattle.delaunay_lines.specs.declared.intersection.Intersection.TheVariants.{EdgeOverlap}
 use Rattle.delaunay_lines.specs.Items.{item_in, mesh_of}
 use Rattle.delaunay_lines.specs.Steps.{IsOverMesh}

@@ -1,13 +1,13 @@
 -- Free faces of a mesh beside its edges, as faces of the triangulation that it draws.
-use Rattle.std.proofs.Common.{◌≡◌, ◌⊎◌, ◌+◌, ◌-◌, ◌<◌, ◌≤◌, ◌↔◌, ◌∙◌, ℕ, Bool, IsTrue, List, length}
-use Rattle.std.proofs.Common.{map, refl, sym, ap, subst, inl, inr, arith}
+use Rattle.std.proofs.Common.{◌≡◌, ◌⊎◌, ◌+◌, ◌-◌, ◌<◌, ◌↔◌, ◌∙◌, ℕ, Bool, IsTrue, List, length}
+use Rattle.std.proofs.Common.{sym, ap, subst, inl, inr, arith}
 use Rattle.std.specs.Prelude.{slice_index_or}
 use Rattle.std.proofs.lemmas.List.{get_or-map, length-map}
 use Rattle.half_edge_mesh.specs.Mesh.{Mesh, IsValidMesh, origin, next, prev, face, face_edge, rev}
 use Rattle.half_edge_mesh.specs.Triangles.{Triangle, triangles, triangle_at}
 use Rattle.half_edge_links.proofs.Lists.Rev.{rev-rev, rev_within}
 use Rattle.half_edge_links.proofs.Sound.Triangles as T
-use Rattle.plane.specs.Fraction.{Point, Fraction}
+use Rattle.plane.specs.Fraction.{Point}
 use Rattle.plane.specs.Pairs.{EachPairOnce}
 use Rattle.plane.specs.Tiling.{Triangulation, Face, TilesHull}
 use Rattle.plane.specs.Tiling as D
@@ -15,7 +15,7 @@ use Rattle.plane_tiling.specs.Laws.{IsTurned}
 use Rattle.plane_tiling.specs.Local.{IsMesh}
 use Rattle.plane_segments.specs.WalkLaws.{IsLaid}
 use Rattle.plane_segments.proofs.Walking.LaidMeshes.{meshes_are_laid}
-use Rattle.plane_sight.specs.Sight.{face_at, IsInFree, HasFreeFace}
+use Rattle.plane_sight.specs.Sight.{face_at, HasFreeFace}
 use Rattle.mesh_embedding.specs.Drawn.{drawn, faces_of, edges_of, outer_of, corners_of}
 use Rattle.mesh_embedding.proofs.MeshStays.{one_way}
 use Rattle.mesh_embedding.proofs.OwnEdges.{own_edges}

@@ -1,6 +1,6 @@
 -- What holds of each item of a line, one call after another.
-use Rattle.std.proofs.Common.{◌≡◌, ◌⊎◌, ◌<◌, ◌≤◌, ◌++◌, [], ◌∷◌, ◌∙◌, ℕ, List, Option, Some, None}
-use Rattle.std.proofs.Common.{refl, sym, ap, subst, append-nil, append_assoc, inl, inr, arith}
+use Rattle.std.proofs.Common.{◌≡◌, ◌++◌, [], ◌∷◌, ◌∙◌, List, Some, None}
+use Rattle.std.proofs.Common.{refl, sym, ap, subst, append-nil, append_assoc, inl, inr}
 use Rattle.std.specs.Prelude.{ℤ, Contains}
 use Rattle.std.proofs.lemmas.List.Elements.{Contains-push_cases, Contains-append_right}
 use Rattle.plane.specs.Fraction.{Point}

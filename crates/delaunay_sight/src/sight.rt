@@ -1,7 +1,6 @@
 //! Whether a segment is a line of sight.
-ghost use Rattle.std.specs.Prelude.{◌↔◌, List, map, All, IsTrue};
+ghost use Rattle.std.specs.Prelude.{◌↔◌, map, All, IsTrue};
 ghost use Rattle.plane.specs.Fraction.{whole as fraction};
-ghost use Rattle.plane.specs.Line.{Item, IsLineList};
 ghost use Rattle.plane.specs.Tests.{InRange};
 ghost use Rattle.plane_sight.specs.Sight.{IsInFree, IsInSight};
 ghost use Rattle.delaunay_core.specs.Place.{place_of};

@@ -1,4 +1,4 @@
-use Rattle.std.proofs.Common.{◌<◌, ℕ, refl, length, map, sym, subst, inl, inr}
+use Rattle.std.proofs.Common.{◌<◌, ℕ, refl, map, sym, subst, inl, inr}
 use Rattle.delaunay_core.specs.Place.{place_of}
 use Rattle.delaunay_location.specs.Location.{Locates}
 use Rattle.delaunay_legalization.proofs.Questions.{both_ways}

@@ -1,10 +1,10 @@
-use Rattle.std.proofs.Common.{◌↔◌, IsTrue, refl, map, sym, subst}
+use Rattle.std.proofs.Common.{◌↔◌, IsTrue, refl, map, subst}
 use Rattle.std.specs.Prelude.{All}
 use Rattle.plane.specs.Fraction.{whole}
 use Rattle.plane.specs.Tests.{InRange}
 use Rattle.plane_sight.specs.Sight.{IsInFree, IsInSight}
 use Rattle.delaunay_core.specs.Place.{place_of}
-use Rattle.delaunay_legalization.specs.State.{State, triangulation_of}
+use Rattle.delaunay_legalization.specs.State.{triangulation_of}
 use Rattle.delaunay_legalization.proofs.Questions.{both_ways}
 use Rattle.delaunay_sight.specs.Beside.{by_place}
 use Rattle.delaunay_sight.proofs.Decided.{sees_start, of_state}

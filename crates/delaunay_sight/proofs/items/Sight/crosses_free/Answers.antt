@@ -1,5 +1,4 @@
-use Rattle.std.proofs.Common.{◌≡◌, ◌↔◌, ◌∙◌, ℕ, IsTrue, length, map, sym, ap, subst}
-use Rattle.std.specs.Prelude.{◌<◌}
+use Rattle.std.proofs.Common.{◌↔◌, ◌∙◌, ℕ, IsTrue, map, ap, subst}
 use Rattle.half_edge_mesh.specs.Mesh.{rev}
 use Rattle.delaunay_core.specs.Place.{place_of}
 use Rattle.delaunay_legalization.proofs.Questions.{both_ways}

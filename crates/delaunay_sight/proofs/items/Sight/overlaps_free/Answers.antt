@@ -1,4 +1,4 @@
-use Rattle.std.proofs.Common.{◌↔◌, ◌⊎◌, ℕ, IsTrue, map, subst}
+use Rattle.std.proofs.Common.{◌↔◌, ◌⊎◌, ℕ, IsTrue, subst}
 use Rattle.half_edge_mesh.specs.Mesh.{rev}
 use Rattle.delaunay_core.specs.Place.{place_of}
 use Rattle.delaunay_sight.specs.Beside.{IsFreeBeside}
