@@ -2,7 +2,8 @@
 //! library's words how far a ship is past the light and past the basin, which fairways are lit, and
 //! where a ship is.
 
-ghost use Rattle.std.specs.Prelude.{◌≡◌, ◌∷◌, ◌↔◌, ◌*◌, ◌<◌, [], IfSome, IsTrue, map};
+ghost use Rattle.std.specs.Prelude.{◌≡◌, ◌∷◌, ◌↔◌, ◌*◌, ◌<◌, ◌≤ℤ◌, [], pos, map};
+ghost use Rattle.std.specs.Prelude.{All, IfSome, IsTrue};
 ghost use Rattle.spade_delaunay.specs.Distances.{IsEdgeInShape, circle_distance, meets_circle};
 ghost use Rattle.spade_delaunay.specs.Distances.{rectangle_distance};
 ghost use Rattle.spade_delaunay.specs.EdgeTests.{HasPointIn};
@@ -64,11 +65,27 @@ impl DistanceMetric<i64> for Lighthouse {
         &self,
         points: (Point2<i64>, Point2<i64>),
         tests: &P,
-    ) -> bool {
+    ) -> bool
+        requires own_covered { All (P.covered tests.now) [] }
+        requires start_covered { P.covered tests.now (place_of (λ z. z) points.0) }
+        requires end_covered { P.covered tests.now (place_of (λ z. z) points.1) }
+        ensures answer { result ≡ meets_circle (place_of (λ z. z) self.now.light.center)
+            self.now.light.radius_2 (place_of (λ z. z) points.0) (place_of (λ z. z) points.1) }
+        ensures inside { IsTrue result ↔
+            HasPointIn (InClosedCircle (place_of (λ z. z) self.now.light.center)
+            self.now.light.radius_2) (place_of (λ z. z) points.0) (place_of (λ z. z) points.1) }
+    {
         self.light.is_edge_inside(points, tests)
     }
 
-    fn distance_to_point(&self, point: Point2<i64>) -> i64 {
+    fn distance_to_point(&self, point: Point2<i64>) -> i64
+        requires { InRange (place_of (λ z. z) point) }
+        ensures value { result ≡ circle_distance (place_of (λ z. z) self.now.light.center)
+            self.now.light.radius_2 (place_of (λ z. z) point) }
+        ensures inside { (result ≤ℤ pos 0) ↔
+            InClosedCircle (place_of (λ z. z) self.now.light.center) self.now.light.radius_2
+            (fraction (place_of (λ z. z) point)) }
+    {
         self.light.distance_to_point(point)
     }
 }

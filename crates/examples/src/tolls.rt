@@ -20,42 +20,70 @@ type WalledRoads = ConstrainedDelaunayTriangulation<Point2<i64>, i64, i64, i64>;
 /// Kilometres east and north of the market.
 const TOWNS: [(i64, i64); 4] = [(0, 0), (9, 1), (8, 7), (1, 6)];
 
-/// Writes the toll of a road, and reads it.
+/// Writes the toll of a road. Those of the others stay.
 fn set_toll<T: Triangulation<UndirectedUserData = i64>>(
+    roads: &mut T,
+    road: FixedUndirectedEdgeHandle,
+    toll: i64,
+)
+    requires { road < length (T.state roads.old).undirected }
+    ensures { map T.Constraints.user (T.state roads.new).undirected ≡
+        slice_set (map T.Constraints.user (T.state roads.old).undirected) road toll }
+{
+    *roads.undirected_edge_data_mut(road) = toll;
+}
+
+/// Writes the toll of a road, and reads it.
+fn read_toll<T: Triangulation<UndirectedUserData = i64>>(
     roads: &mut T,
     road: FixedUndirectedEdgeHandle,
     toll: i64,
 ) -> i64
     requires { road < length (T.state roads.old).undirected }
-    ensures read { result ≡ toll }
-    ensures others { map T.Constraints.user (T.state roads.new).undirected ≡
-        slice_set (map T.Constraints.user (T.state roads.old).undirected) road toll }
+    ensures { result ≡ toll }
 {
     *roads.undirected_edge_data_mut(road) = toll;
     *roads.undirected_edge_data_mut(road)
 }
 
-/// Writes what a lane takes, and reads it.
+/// Writes what a lane takes. What the others take stays.
 fn set_lane<T: Triangulation<DirectedEdge = i64>>(
+    roads: &mut T,
+    lane: FixedDirectedEdgeHandle,
+    taken: i64,
+)
+    requires { lane < length (T.state roads.old).directed }
+    ensures { (T.state roads.new).directed ≡ slice_set (T.state roads.old).directed lane taken }
+{
+    *roads.directed_edge_data_mut(lane) = taken;
+}
+
+/// Writes what a lane takes, and reads it.
+fn read_lane<T: Triangulation<DirectedEdge = i64>>(
     roads: &mut T,
     lane: FixedDirectedEdgeHandle,
     taken: i64,
 ) -> i64
     requires { lane < length (T.state roads.old).directed }
-    ensures read { result ≡ taken }
-    ensures others { (T.state roads.new).directed ≡
-        slice_set (T.state roads.old).directed lane taken }
+    ensures { result ≡ taken }
 {
     *roads.directed_edge_data_mut(lane) = taken;
     *roads.directed_edge_data_mut(lane)
 }
 
-/// Writes the rent of a field, and reads it. The land around is a field, too.
-fn set_rent<T: Triangulation<Face = i64>>(roads: &mut T, field: FixedFaceHandle, rent: i64) -> i64
+/// Writes the rent of a field. Those of the others stay. The land around is a field, too.
+fn set_rent<T: Triangulation<Face = i64>>(roads: &mut T, field: FixedFaceHandle, rent: i64)
     requires { field ≤ length (T.state roads.old).faces }
-    ensures read { result ≡ rent }
-    ensures others { (T.state roads.new).outer ∷ (T.state roads.new).faces ≡
+    ensures { (T.state roads.new).outer ∷ (T.state roads.new).faces ≡
         slice_set ((T.state roads.old).outer ∷ (T.state roads.old).faces) field rent }
+{
+    *roads.face_data_mut(field) = rent;
+}
+
+/// Writes the rent of a field, and reads it.
+fn read_rent<T: Triangulation<Face = i64>>(roads: &mut T, field: FixedFaceHandle, rent: i64) -> i64
+    requires { field ≤ length (T.state roads.old).faces }
+    ensures { result ≡ rent }
 {
     *roads.face_data_mut(field) = rent;
     *roads.face_data_mut(field)
@@ -78,17 +106,26 @@ fn collect(
     >,
 ) -> anyhow::Result<()> {
     lay_out(roads)?;
+    let road = FixedUndirectedEdgeHandle::from_index(3);
     if roads.num_undirected_edges() > 3 {
-        let toll = set_toll(roads, FixedUndirectedEdgeHandle::from_index(3), 7);
-        println!(rt; "the toll is {toll}")?;
+        set_toll(roads, road, 6);
+    }
+    if roads.num_undirected_edges() > 3 {
+        println!(rt; "the toll is {}", read_toll(roads, road, 7))?;
+    }
+    let lane = FixedDirectedEdgeHandle::from_index(6);
+    if roads.num_directed_edges() > 6 {
+        set_lane(roads, lane, 4);
     }
     if roads.num_directed_edges() > 6 {
-        let taken = set_lane(roads, FixedDirectedEdgeHandle::from_index(6), 5);
-        println!(rt; "a lane takes {taken}")?;
+        println!(rt; "a lane takes {}", read_lane(roads, lane, 5))?;
+    }
+    let field = FixedFaceHandle::from_index(1);
+    if roads.num_inner_faces() > 0 {
+        set_rent(roads, field, 30);
     }
     if roads.num_inner_faces() > 0 {
-        let rent = set_rent(roads, FixedFaceHandle::from_index(1), 40);
-        println!(rt; "the rent is {rent}")?;
+        println!(rt; "the rent is {}", read_rent(roads, field, 40))?;
     }
     Ok(())
 }
