@@ -19,10 +19,7 @@ use Rattle.delaunay_edit.specs.ConstraintEdits.{AddsConstraint}
 use Rattle.delaunay_edit.specs.Edits.{InsertsVertex}
 use Rattle.delaunay_edit.specs.Headline.{AreSites}
 use Rattle.delaunay_interface.specs.declared.constraint_error.ConstraintError.{ConstraintError}
-use Rattle.delaunay_interface.specs.declared.constraint_error.ConstraintError.TheVariants.{
-  Insertion,
-  Conflict,
-}
+use Rattle.delaunay_interface.specs.declared.constraint_error.ConstraintError.TheVariants.{Insertion}
 use Rattle.delaunay_interface.specs.ConstraintEdges.{AddsConstraintEdge, AddsConstraintEdges}
 use Rattle.delaunay_interface.specs.ConstraintEdges.{ClosesPath, ExtendsPath}
 use Rattle.delaunay_interface.specs.ConstraintEdges.{JoinsVertices, MayGive, RefusesEnd, Takes}
