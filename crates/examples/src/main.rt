@@ -4,10 +4,13 @@
 #![tactic(auto)]
 
 mod facilities;
+mod harbour;
 mod hill;
 mod navigation;
 mod parcels;
 mod terrain;
+mod tolls;
+mod walls;
 
 fn run(rt: &HostRuntime, name: &str) -> anyhow::Result<()> {
     match name {
@@ -16,6 +19,9 @@ fn run(rt: &HostRuntime, name: &str) -> anyhow::Result<()> {
         "facilities" => facilities::run(rt),
         "navigation" => navigation::run(rt),
         "parcels" => parcels::run(rt),
+        "walls" => walls::run(rt),
+        "tolls" => tolls::run(rt),
+        "harbour" => harbour::run(rt),
         _ => Ok(println!(rt; "no such example")?),
     }
 }
