@@ -1,10 +1,10 @@
 -- What is proved of tilings, constraints and circles, whatever made them.
 use Rattle.std.specs.Prelude.{◌≡◌, ◌⊎◌, ◌↔◌, ◌≤ℤ◌, ◌+◌, ◌<◌, ◌≤◌, []}
 use Rattle.std.specs.Prelude.{ℕ, ℤ, List, length, Bool, true, false, not, count_by, slice_index_or}
-use Rattle.std.specs.Prelude.{slice_set}
-use Rattle.plane.specs.Fraction.{Point, Fraction, whole, IsSame}
+use Rattle.std.specs.Prelude.{slice_set, map}
+use Rattle.plane.specs.Fraction.{Point, Fraction, whole, IsSame, InHull}
 use Rattle.plane.specs.Side.{TurnsLeft}
-use Rattle.plane.specs.Circle.{IsNearer}
+use Rattle.plane.specs.Circle.{InsideCircle, IsNearer}
 use Rattle.plane.specs.Pairs.{Joins, EachPairOnce}
 use Rattle.plane.specs.Tiling.{Triangulation, IsVertex, vertex, IsEdge, IsFace, InCorners}
 use Rattle.plane.specs.Tiling.{InsideCorners, TilesHull, JoinsLine, IsTiling}
@@ -18,6 +18,8 @@ use Rattle.plane_delaunay.specs.Flood.{IsFloodedAround, start_point, IsTried}
 use Rattle.plane_delaunay.specs.EdgeTests.{MeetsCircle, MeetsRectangle, HasPointIn}
 use Rattle.plane_delaunay.specs.History.{IsVisiblyEmpty, AreOneState, HasFacesOf, NoFourOnCircle}
 use Rattle.plane_delaunay.specs.History.{HaveOneCircle}
+use Rattle.plane_delaunay.specs.Cells.{InCell, ListsCircle, HasVertexAt, HasFaceAt, HasVerticesOf}
+use Rattle.plane_delaunay.specs.Cells.{HasDiskOf}
 
 -- a point in no closed face is strictly left of an outer edge
 abbrev pub OutsideIsLeftOfOuter : Type 0
@@ -73,6 +75,49 @@ OverlappingFacesTie = (s t : Triangulation) (constraints others : List (ℕ × �
     → (i j k l m n : ℕ) (q : Fraction) → IsFace s i j k → IsFace t l m n → InsideCorners s i j k q
     → InsideCorners t l m n q
     → HaveOneCircle (vertex s i) (vertex s j) (vertex s k) (vertex t l) (vertex t m) (vertex t n)
+
+-- without constraints: where no vertex is inside the circle of three, the cell of the circle is the
+-- hull of the vertices that it carries
+abbrev pub CellIsHull : Type 0
+CellIsHull = (t : Triangulation) → IsConstrainedDelaunay t [] → (i j k : ℕ)
+    → IsVertex t i × IsVertex t j × IsVertex t k → TurnsLeft (vertex t i) (vertex t j) (vertex t k)
+    → ((n : ℕ) → IsVertex t n → ¬ InsideCircle (vertex t i) (vertex t j) (vertex t k) (vertex t n))
+    → (on : List Point) → ListsCircle t (vertex t i) (vertex t j) (vertex t k) on → (p : Fraction)
+    → InCell t (vertex t i) (vertex t j) (vertex t k) p ↔ InHull (map whole on) p
+
+-- s is a part of t, both without constraints: where s has each vertex of t in the closed disk of a
+-- circle, both have one cell of that circle
+abbrev pub PartHasCells : Type 0
+PartHasCells = (s t : Triangulation) → HasVerticesOf t s → IsConstrainedDelaunay s []
+    → IsConstrainedDelaunay t [] → (a b c : Point) → TurnsLeft (whole a) (whole b) (whole c)
+    → HasDiskOf s t (whole a) (whole b) (whole c) → (p : Fraction)
+    → InCell s (whole a) (whole b) (whole c) p ↔ InCell t (whole a) (whole b) (whole c) p
+
+-- a strictly empty triple of the part that has each vertex of the whole in its closed disk is a
+-- face of the whole
+abbrev pub PartFaceStays : Type 0
+PartFaceStays = (s t : Triangulation) → HasVerticesOf t s → IsConstrainedDelaunay t []
+    → (i j k : ℕ) → IsStrictlyEmpty s i j k
+    → HasDiskOf s t (vertex s i) (vertex s j) (vertex s k)
+    → HasFaceAt t (vertex s i) (vertex s j) (vertex s k)
+
+-- a strictly empty triple of the whole is a face of each part that has its corners
+abbrev pub PartHasFace : Type 0
+PartHasFace = (s t : Triangulation) → HasVerticesOf t s → IsConstrainedDelaunay s []
+    → (i j k : ℕ) → IsStrictlyEmpty t i j k → HasVertexAt s (vertex t i)
+    → HasVertexAt s (vertex t j) → HasVertexAt s (vertex t k)
+    → HasFaceAt s (vertex t i) (vertex t j) (vertex t k)
+
+-- a part with the hull of the whole: where it has each vertex of the whole in the closed disks of
+-- its faces at a vertex, it has each in those of the whole's faces there
+abbrev pub PartKnowsCells : Type 0
+PartKnowsCells = (s t : Triangulation) → HasVerticesOf t s → IsConstrainedDelaunay s []
+    → IsConstrainedDelaunay t []
+    → ((p : Fraction) → InHull (map whole t.points) p → InHull (map whole s.points) p)
+    → (i : ℕ) → IsVertex s i
+    → ((j k : ℕ) → IsFace s i j k → HasDiskOf s t (vertex s i) (vertex s j) (vertex s k))
+    → (l m n : ℕ) → IsFace t l m n → vertex s i ≡ vertex t l
+    → HasDiskOf s t (vertex t l) (vertex t m) (vertex t n)
 
 -- a flood through the faces that has one edge in a region has each
 abbrev pub FloodFindsRegion : Type 0

@@ -1,5 +1,6 @@
 pub mod Nearer
 pub mod History
+pub mod Cells
 pub mod Flood
 pub mod EdgeTests
 pub mod Laws

@@ -10,6 +10,8 @@ ghost use Rattle.plane_delaunay.specs.Laws.{LineItemsAreOrdered, FloodFindsOnLin
 ghost use Rattle.plane_delaunay.specs.Laws.{FloodStartsOnLine, RegionHasStart, StartIsExact};
 ghost use Rattle.plane_delaunay.specs.Laws.{VerticesAreEnds, OneVertexIsAlone, FloodIsBounded};
 ghost use Rattle.plane_delaunay.specs.Laws.{FloodByVerticesFinds, MarksFillUp, FloodIsExact};
+ghost use Rattle.plane_delaunay.specs.Laws.{CellIsHull, PartHasCells, PartFaceStays, PartHasFace};
+ghost use Rattle.plane_delaunay.specs.Laws.{PartKnowsCells};
 
 /// A law: a point in no closed face is strictly left of an outer edge.
 pub fn outside_is_left_of_outer()
@@ -52,6 +54,35 @@ pub fn faces_are_unique()
 /// A law: where faces of two triangulations of one plain state overlap, they have one circle.
 pub fn overlapping_faces_tie()
     ensures { OverlappingFacesTie }
+{}
+
+/// A law: without constraints the faces on a circle with no vertex inside tile the hull of the
+/// vertices on it.
+pub fn cell_is_hull()
+    ensures { CellIsHull }
+{}
+
+/// A law: where a part of the vertices has each vertex in the closed disk of a circle, its faces on
+/// that circle cover what those of the whole cover.
+pub fn part_has_cells()
+    ensures { PartHasCells }
+{}
+
+/// A law: a strictly empty triple of a part that has each vertex in its closed disk is a face of
+/// the whole.
+pub fn part_face_stays()
+    ensures { PartFaceStays }
+{}
+
+/// A law: a strictly empty triple of the whole is a face of each part that has its corners.
+pub fn part_has_face()
+    ensures { PartHasFace }
+{}
+
+/// A law: a part with the hull of the whole that has each vertex in the closed disks of its faces
+/// at a vertex has each in the closed disks of the whole's faces there.
+pub fn part_knows_cells()
+    ensures { PartKnowsCells }
 {}
 
 /// A law: a flood through the faces that has one edge in a closed circle or rectangle has each.

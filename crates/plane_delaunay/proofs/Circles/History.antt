@@ -175,7 +175,7 @@ module _ (s t : Triangulation) (d c : List (ℕ × ℕ)) (there : IsPartOf s d t
                 at x z = far_if_none (spot t a) (spot t b) (spot t e) (spot t x) turns z
 
 -- ---- positions differ, so that no four on one circle is a matter of positions
-distinct : (t : Triangulation) (h : TilesHull t) (i j : ℕ) → IsVertex t i → IsVertex t j
+pub distinct : (t : Triangulation) (h : TilesHull t) (i j : ℕ) → IsVertex t i → IsVertex t j
     → vertex t i ≡ vertex t j → i ≡ j
 unfolding tiling
 distinct t h i j hi hj e = vertices_apart (tiling t h) i j hi hj (λ s u. ap (λ x. bracket s u x) e)

@@ -1,12 +1,15 @@
--- The hull of a list of points has each of them, and with two points the points between them.
+-- The hull of a list of points has each of them, and with two points the points between them. A
+-- linear form that is 0 at each point, or nowhere below 0, is so in the hull.
 use Rattle.std.proofs.Common.{◌≡◌, ◌<◌, [], ◌∷◌, ◌∙◌}
-use Rattle.std.proofs.Common.{ℕ, zero, suc, List, length, get_or, refl, arith, ap, sym}
-use Rattle.std.specs.Prelude.{ℤ, pos, ◌≤ℤ◌, ◌*ℤ◌, ◌+ℤ◌, All}
+use Rattle.std.proofs.Common.{ℕ, zero, suc, List, length, get_or, refl, arith, ap, sym, subst}
+use Rattle.std.specs.Prelude.{ℤ, pos, ◌≤ℤ◌, ◌*ℤ◌, ◌+ℤ◌, ◌-ℤ◌, All}
 use Rattle.std.proofs.lemmas.List.Elements.{All-cons, All-nil, All-head, All-tail}
 use Rattle.std.proofs.lemmas.Int.{ints}
 use Rattle.plane.proofs.Steps.{weak}
-use Rattle.plane.proofs.Solver.{num, ◌⊕◌, ◌⊗◌, ring_in, ring_in_from}
-use Rattle.plane.proofs.IntegerOrder.{mul-pos_ℤ, mul-nonneg_ℤ}
+use Rattle.plane.proofs.Solver.{num, ◌⊕◌, ◌⊖◌, ◌⊗◌, ⊝, ring_in, ring_in_from, ring_over}
+use Rattle.plane.proofs.IntegerOrder.{mul-pos_ℤ, mul-nonneg_ℤ, zero_of_mul-zero_ℤ, pos-ne-zero_ℤ}
+use Rattle.plane.proofs.IntegerOrder.{zero-mul_ℤ, nonneg_of_mul-nonneg_ℤ}
+use Rattle.plane_delaunay.proofs.Points.Bracket.{fraction, bracket, bracketᵖ}
 use Rattle.plane_delaunay.proofs.Points.Nudges.{nudge}
 use Rattle.plane.proofs.Means.{ThreeWeights}
 use Rattle.plane.specs.Fraction.{Fraction, IsNotNegative, InHull, weighted_sum}
@@ -187,3 +190,190 @@ triangle_in_hull cs i j k d a b c p hi hj hk ei ej ek t = record {
         (spike cs j) (spike cs k) cs (length-spike cs j) (length-spike cs k) n))
         ∙ (λ n. t.k *ℤ f a +ℤ pos 1 *ℤ (t.l *ℤ (spike_sum f cs j d hj ∙ ap f ej) n +ℤ t.m
         *ℤ (spike_sum f cs k d hk ∙ ap f ek) n))
+
+-- ---- the hull of some of the points
+-- each point of one list is somewhere in another
+abbrev pub AreSomewhere : Fraction → List Fraction → List Fraction → Type 0
+AreSomewhere d cs es = (i : ℕ) → i < length cs
+    → (n : ℕ) × (n < length es) × (get_or es n d ≡ get_or cs i d)
+
+module _ (d : Fraction) (es : List Fraction) where
+  abbrev gathered : (ks : List ℤ) (cs : List Fraction) → AreSomewhere d cs es → List ℤ
+  gathered [] cs at = zeros es
+  gathered (k ∷ ks) [] at = zeros es
+  gathered (k ∷ ks) (c ∷ cs) at = blend k (pos 1) (spike es (at 0 (omega arith)).0)
+      (gathered ks cs (λ i h. at (suc i) (omega arith)))
+
+  length-gathered : (ks : List ℤ) (cs : List Fraction) (at : AreSomewhere d cs es)
+      → length (gathered ks cs at) ≡ length es
+  length-gathered [] cs at = length-zeros es
+  length-gathered (k ∷ ks) [] at = length-zeros es
+  length-gathered (k ∷ ks) (c ∷ cs) at = length-blend k (pos 1) _ _ (length es)
+      (length-spike es (at 0 (omega arith)).0)
+      (length-gathered ks cs (λ i h. at (suc i) (omega arith)))
+
+  gathered_allowed : (ks : List ℤ) (cs : List Fraction) (at : AreSomewhere d cs es)
+      → All IsNotNegative ks → All IsNotNegative (gathered ks cs at)
+  gathered_allowed [] cs at w = zeros_allowed es
+  gathered_allowed (k ∷ ks) [] at w = zeros_allowed es
+  gathered_allowed (k ∷ ks) (c ∷ cs) at w = blend_allowed k (pos 1) _ _
+      (All-head IsNotNegative k ks w) (record { le = tt }) (spike_allowed es (at 0 (omega arith)).0)
+      (gathered_allowed ks cs (λ i h. at (suc i) (omega arith)) (All-tail IsNotNegative k ks w))
+
+  gathered_sum : (f : Fraction → ℤ) (ks : List ℤ) (cs : List Fraction)
+      (at : AreSomewhere d cs es) → weighted_sum f (gathered ks cs at) es ≡ weighted_sum f ks cs
+  gathered_sum f [] [] at = zeros_sum f es
+  gathered_sum f [] (c ∷ cs) at = zeros_sum f es
+  gathered_sum f (k ∷ ks) [] at = zeros_sum f es
+  gathered_sum f (k ∷ ks) (c ∷ cs) at =
+      blend_sum f k (pos 1) _ _ es (length-spike es (at 0 (omega arith)).0)
+      (length-gathered ks cs (λ i h. at (suc i) (omega arith)))
+      ∙ next _ _ (f c) _ (spike_sum f es (at 0 (omega arith)).0 d (at 0 (omega arith)).1
+      ∙ ap f (at 0 (omega arith)).2) (gathered_sum f ks cs (λ i h. at (suc i) (omega arith)))
+    where
+      next : (a s b r : ℤ) → a ≡ b → s ≡ r → k *ℤ a +ℤ pos 1 *ℤ s ≡ k *ℤ b +ℤ r
+      next a s b r e h = let g : k *ℤ a ≡ k *ℤ b = ap (λ z. k *ℤ z) e in omega (arith, ints)
+
+  -- where each point of a list is one of another, its hull is part of the other's
+  pub part_in_hull : (cs : List Fraction) → AreSomewhere d cs es → (p : Fraction) → InHull cs p
+      → InHull es p
+  part_in_hull cs at p h = record {
+    weights = gathered h.weights cs at;
+    one_each = length-gathered h.weights cs at;
+    allowed = gathered_allowed h.weights cs at h.allowed;
+    scale = h.scale;
+    positive = h.positive;
+    x = h.x ∙ sym (gathered_sum (λ c. c.x) h.weights cs at);
+    y = h.y ∙ sym (gathered_sum (λ c. c.y) h.weights cs at);
+    w = h.w ∙ sym (gathered_sum (λ c. c.w) h.weights cs at);
+  }
+
+-- ---- linear forms of the coordinates
+-- f is a sum of multiples of the coordinates
+pub record IsForm (f : Fraction → ℤ) : Type 0 where
+  pub a : ℤ
+  pub b : ℤ
+  pub c : ℤ
+  pub parts : (q : Fraction) → f q ≡ a *ℤ q.x +ℤ b *ℤ q.y +ℤ c *ℤ q.w
+
+-- the bracket with two points is a form
+pub bracket_form : (u v : Fraction) → IsForm (bracket u v)
+unfolding bracket
+bracket_form u v = record {
+  a = u.y *ℤ v.w -ℤ u.w *ℤ v.y;
+  b = u.w *ℤ v.x -ℤ u.x *ℤ v.w;
+  c = u.x *ℤ v.y -ℤ u.y *ℤ v.x;
+  parts = λ q. ring_over fraction [] (u ∷ v ∷ q ∷ []) (λ u v q. bracketᵖ u v q)
+      (λ u v q. (u.y ⊗ v.w ⊖ u.w ⊗ v.y) ⊗ q.x ⊕ (u.w ⊗ v.x ⊖ u.x ⊗ v.w) ⊗ q.y
+      ⊕ (u.x ⊗ v.y ⊖ u.y ⊗ v.x) ⊗ q.w) tt;
+}
+
+-- a sum of multiples of two forms is a form
+pub sum_form : (f g : Fraction → ℤ) (k l : ℤ) → IsForm f → IsForm g
+    → IsForm (λ q. f q *ℤ k +ℤ g q *ℤ l)
+sum_form f g k l m n = record {
+  a = m.a *ℤ k +ℤ n.a *ℤ l;
+  b = m.b *ℤ k +ℤ n.b *ℤ l;
+  c = m.c *ℤ k +ℤ n.c *ℤ l;
+  parts = λ q. together m.a m.b m.c n.a n.b n.c q.x q.y q.w (f q) (g q) (m.parts q) (n.parts q);
+}
+  where
+    together : (a b c d e h x y w s r : ℤ) → s ≡ a *ℤ x +ℤ b *ℤ y +ℤ c *ℤ w
+        → r ≡ d *ℤ x +ℤ e *ℤ y +ℤ h *ℤ w → s *ℤ k +ℤ r *ℤ l
+        ≡ (a *ℤ k +ℤ d *ℤ l) *ℤ x +ℤ (b *ℤ k +ℤ e *ℤ l) *ℤ y +ℤ (c *ℤ k +ℤ h *ℤ l) *ℤ w
+    together a b c d e h x y w s r i j = ring_in_from
+        (k ∷ l ∷ a ∷ b ∷ c ∷ d ∷ e ∷ h ∷ x ∷ y ∷ w ∷ s ∷ r ∷ [])
+        (λ k l a b c d e h x y w s r. s ⊗ k ⊕ r ⊗ l)
+        (λ k l a b c d e h x y w s r. (a ⊗ k ⊕ d ⊗ l) ⊗ x ⊕ (b ⊗ k ⊕ e ⊗ l) ⊗ y
+        ⊕ (c ⊗ k ⊕ h ⊗ l) ⊗ w)
+        (λ k l a b c d e h x y w s r. (k, s, a ⊗ x ⊕ b ⊗ y ⊕ c ⊗ w)
+        ∷ (l, r, d ⊗ x ⊕ e ⊗ y ⊕ h ⊗ w) ∷ []) (i, (j, tt)) tt
+
+-- a form of a nudged point
+pub form-nudge : (f : Fraction → ℤ) → IsForm f → (n : ℕ) (p q : Fraction)
+    → f (nudge n p q) ≡ pos n *ℤ f p +ℤ f q
+unfolding nudge
+form-nudge f m n p q = parted m.a m.b m.c (pos n) p.x p.y p.w q.x q.y q.w _ _ _
+    (m.parts (nudge n p q)) (m.parts p) (m.parts q)
+  where
+    parted : (a b c n x y w x' y' w' r s t : ℤ)
+        → r ≡ a *ℤ (n *ℤ x +ℤ pos 1 *ℤ x') +ℤ b *ℤ (n *ℤ y +ℤ pos 1 *ℤ y')
+        +ℤ c *ℤ (n *ℤ w +ℤ pos 1 *ℤ w') → s ≡ a *ℤ x +ℤ b *ℤ y +ℤ c *ℤ w
+        → t ≡ a *ℤ x' +ℤ b *ℤ y' +ℤ c *ℤ w' → r ≡ n *ℤ s +ℤ t
+    parted a b c n x y w x' y' w' r s t e d h = ring_in_from
+        (a ∷ b ∷ c ∷ n ∷ x ∷ y ∷ w ∷ x' ∷ y' ∷ w' ∷ r ∷ s ∷ t ∷ [])
+        (λ a b c n x y w x' y' w' r s t. r) (λ a b c n x y w x' y' w' r s t. n ⊗ s ⊕ t)
+        (λ a b c n x y w x' y' w' r s t. (
+          num 1,
+          r,
+          a ⊗ (n ⊗ x ⊕ num 1 ⊗ x')
+              ⊕ b ⊗ (n ⊗ y ⊕ num 1 ⊗ y') ⊕ c ⊗ (n ⊗ w ⊕ num 1 ⊗ w'),
+        )
+        ∷ (⊝ n, s, a ⊗ x ⊕ b ⊗ y ⊕ c ⊗ w) ∷ (⊝ (num 1), t, a ⊗ x' ⊕ b ⊗ y' ⊕ c ⊗ w') ∷ [])
+        (e, (d, (h, tt))) tt
+
+summed : (f : Fraction → ℤ) (m : IsForm f) (ks : List ℤ) (cs : List Fraction)
+    → weighted_sum f ks cs ≡ m.a *ℤ weighted_sum (λ q. q.x) ks cs
+    +ℤ m.b *ℤ weighted_sum (λ q. q.y) ks cs +ℤ m.c *ℤ weighted_sum (λ q. q.w) ks cs
+summed f m [] [] = omega (arith, ints)
+summed f m [] (q ∷ cs) = omega (arith, ints)
+summed f m (k ∷ ks) [] = omega (arith, ints)
+summed f m (k ∷ ks) (q ∷ cs) =
+    next m.a m.b m.c k q.x q.y q.w (f q) _ _ _ _ (m.parts q) (summed f m ks cs)
+  where
+    next : (a b c k x y w r s u v z : ℤ) → r ≡ a *ℤ x +ℤ b *ℤ y +ℤ c *ℤ w
+        → s ≡ a *ℤ u +ℤ b *ℤ v +ℤ c *ℤ z → k *ℤ r +ℤ s
+        ≡ a *ℤ (k *ℤ x +ℤ u) +ℤ b *ℤ (k *ℤ y +ℤ v) +ℤ c *ℤ (k *ℤ w +ℤ z)
+    next a b c k x y w r s u v z d e = ring_in_from
+        (a ∷ b ∷ c ∷ k ∷ x ∷ y ∷ w ∷ r ∷ s ∷ u ∷ v ∷ z ∷ [])
+        (λ a b c k x y w r s u v z. k ⊗ r ⊕ s)
+        (λ a b c k x y w r s u v z. a ⊗ (k ⊗ x ⊕ u) ⊕ b ⊗ (k ⊗ y ⊕ v) ⊕ c ⊗ (k ⊗ w ⊕ z))
+        (λ a b c k x y w r s u v z. (k, r, a ⊗ x ⊕ b ⊗ y ⊕ c ⊗ w)
+        ∷ (num 1, s, a ⊗ u ⊕ b ⊗ v ⊕ c ⊗ z) ∷ []) (d, (e, tt)) tt
+
+-- a form of a mean is the mean of the form
+of_mean : (cs : List Fraction) (f : Fraction → ℤ) → IsForm f → (p : Fraction) (h : InHull cs p)
+    → h.scale *ℤ f p ≡ weighted_sum f h.weights cs
+of_mean cs f m p h = together m.a m.b m.c h.scale p.x p.y p.w _ _ _ _ (m.parts p) h.x h.y h.w
+    ∙ sym (summed f m h.weights cs)
+  where
+    together : (a b c n x y w s r q t : ℤ) → t ≡ a *ℤ x +ℤ b *ℤ y +ℤ c *ℤ w → n *ℤ x ≡ s
+        → n *ℤ y ≡ r → n *ℤ w ≡ q → n *ℤ t ≡ a *ℤ s +ℤ b *ℤ r +ℤ c *ℤ q
+    together a b c n x y w s r q t e i j k = ring_in_from
+        (a ∷ b ∷ c ∷ n ∷ x ∷ y ∷ w ∷ s ∷ r ∷ q ∷ t ∷ [])
+        (λ a b c n x y w s r q t. n ⊗ t) (λ a b c n x y w s r q t. a ⊗ s ⊕ b ⊗ r ⊕ c ⊗ q)
+        (λ a b c n x y w s r q t. (n, t, a ⊗ x ⊕ b ⊗ y ⊕ c ⊗ w) ∷ (a, n ⊗ x, s) ∷ (b, n ⊗ y, r)
+        ∷ (c, n ⊗ w, q) ∷ []) (e, (i, (j, (k, tt)))) tt
+
+none_summed : (f : Fraction → ℤ) (d : Fraction) (ks : List ℤ) (cs : List Fraction)
+    → ((i : ℕ) → i < length cs → f (get_or cs i d) ≡ pos 0) → weighted_sum f ks cs ≡ pos 0
+none_summed f d [] [] none = refl
+none_summed f d [] (q ∷ cs) none = refl
+none_summed f d (k ∷ ks) [] none = refl
+none_summed f d (k ∷ ks) (q ∷ cs) none = let e = zero-mul_ℤ k (none 0 (omega arith)) in
+    let r = none_summed f d ks cs (λ i h. none (suc i) (omega arith)) in omega (arith, ints)
+
+least_summed : (f : Fraction → ℤ) (d : Fraction) (ks : List ℤ) (cs : List Fraction)
+    → All IsNotNegative ks → ((i : ℕ) → i < length cs → pos 0 ≤ℤ f (get_or cs i d))
+    → pos 0 ≤ℤ weighted_sum f ks cs
+least_summed f d [] [] w least = record { le = tt }
+least_summed f d [] (q ∷ cs) w least = record { le = tt }
+least_summed f d (k ∷ ks) [] w least = record { le = tt }
+least_summed f d (k ∷ ks) (q ∷ cs) w least = sum_not_negative_of
+    (mul-nonneg_ℤ {a = k} {b = f q} (All-head IsNotNegative k ks w) (least 0 (omega arith)))
+    (least_summed f d ks cs (All-tail IsNotNegative k ks w) (λ i h. least (suc i) (omega arith)))
+
+-- where a form is 0 at each point of a list, it is at each point of its hull
+pub none_in_hull : (cs : List Fraction) (d : Fraction) (f : Fraction → ℤ) → IsForm f
+    → ((i : ℕ) → i < length cs → f (get_or cs i d) ≡ pos 0) → (p : Fraction) → InHull cs p
+    → f p ≡ pos 0
+none_in_hull cs d f m none p h = zero_of_mul-zero_ℤ {k = h.scale} {x = f p}
+    (pos-ne-zero_ℤ h.positive) (of_mean cs f m p h ∙ none_summed f d h.weights cs none)
+
+-- where a form is below 0 at no point of a list, it is at none of its hull
+pub least_in_hull : (cs : List Fraction) (d : Fraction) (f : Fraction → ℤ) → IsForm f
+    → ((i : ℕ) → i < length cs → pos 0 ≤ℤ f (get_or cs i d)) → (p : Fraction) → InHull cs p
+    → pos 0 ≤ℤ f p
+least_in_hull cs d f m least p h = nonneg_of_mul-nonneg_ℤ {k = h.scale} {x = f p} h.positive
+    (subst (λ z. pos 0 ≤ℤ z) (sym (of_mean cs f m p h))
+    (least_summed f d h.weights cs h.allowed least))
