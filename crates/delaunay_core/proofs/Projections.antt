@@ -18,6 +18,11 @@ product_bound a b h i = rw (unsigned_abs-mul a b) (mul-le-mul h i)
 pub stays : (a : ℤ) → unsigned_abs a ≤ 2305843009213693952 → to_z w64 (of_z w64 a) ≡ a
 stays a h = omega (arith, ints)
 
+-- a way that was passed on is no longer
+pub way_passes : (a : ℤ) → unsigned_abs a ≤ 1073741824
+    → unsigned_abs (to_z w64 (of_z w64 a)) ≤ 1073741824
+way_passes a h = omega (arith, ints)
+
 -- a way that was passed on
 way_is : (a x y : ℤ) → unsigned_abs a ≤ 1073741824 → a ≡ y *ℤ pos 1 -ℤ x *ℤ pos 1
     → to_z w64 (of_z w64 a) ≡ y -ℤ x

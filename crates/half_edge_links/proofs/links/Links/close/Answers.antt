@@ -4,7 +4,78 @@ use Rattle.half_edge_links.specs.Mesh.{Mesh, next}
 use Rattle.half_edge_links.specs.Grow.{closed}
 use Rattle.half_edge_links.proofs.Sound.Valid.{valid_as, valid_closed}
 use Rattle.half_edge_links.proofs.Growing.Grown.{closes_corner}
+use Rattle.half_edge_links.proofs.Stored.Shown.{length_shown, next_within}
+use Rattle.half_edge_links.proofs.Stored.Joined.{joined_sound}
+use Rattle.half_edge_links.proofs.Stored.Within.{linked_in}
 use Rattle.half_edge_links.proofs.links.Links.close.Goals as goal
+
+pub overflow_cast-n : goal.overflow_cast-n
+overflow_cast-n g c =
+    let small = c.self.invariant.small in
+    omega arith
+
+pub overflow_cast-g : goal.overflow_cast-g
+overflow_cast-g g c =
+    let small = c.self.invariant.small in
+    omega arith
+
+pub overflow_add-g : goal.overflow_add-g
+overflow_add-g g c =
+    let small = c.self.invariant.small in
+    omega arith
+
+pub next-second-requires : goal.next-second-requires
+next-second-requires g c =
+    let p = linked_in c.self.inside.half_edges.items c.args.e (joined_sound (mesh_in c.self.inside)
+    c.self.invariant.sound) (rw (← c.self.view_is) at c.requires.closable).within in
+    p.edge
+
+pub next-after-requires : goal.next-after-requires
+next-after-requires g c =
+    let p = linked_in c.self.inside.half_edges.items c.args.e (joined_sound (mesh_in c.self.inside)
+    c.self.invariant.sound) (rw (← c.self.view_is) at c.requires.closable).within in
+    rw c.next-second.ensures p.next
+
+pub close_edges-requires-clause-joined : goal.close_edges-requires-clause-joined
+close_edges-requires-clause-joined g c =
+    joined_sound (mesh_in c.self.inside) c.self.invariant.sound
+
+pub close_edges-requires-clause-within : goal.close_edges-requires-clause-within
+close_edges-requires-clause-within g c =
+    let p = linked_in c.self.inside.half_edges.items c.args.e (joined_sound (mesh_in c.self.inside)
+    c.self.invariant.sound) (rw (← c.self.view_is) at c.requires.closable).within in
+    p.edge
+
+pub close_edges-requires-clause-after : goal.close_edges-requires-clause-after
+close_edges-requires-clause-after g c =
+    rw (c.next-after.ensures, c.next-second.ensures) refl
+
+pub close_edges-requires-clause-room : goal.close_edges-requires-clause-room
+close_edges-requires-clause-room g c =
+    let room = rw (← c.self.view_is) at c.requires.room in
+    let kept = length_shown c.self.inside.half_edges.items in
+    omega (arith, room.edges_fit)
+
+pub close_edges-requires-clause-small : goal.close_edges-requires-clause-small
+close_edges-requires-clause-small g c =
+    let room = rw (← c.self.view_is) at c.requires.room in
+    let kept = length_shown c.self.inside.half_edges.items in
+    omega (arith, room.edges_fit)
+
+pub overflow_add-self : goal.overflow_add-self
+overflow_add-self g c =
+    let room = rw (← c.self.view_is) at c.requires.room in
+    let kept = length_shown c.self.inside.half_edges.items in
+    omega (arith, room.edges_fit)
+
+pub returns-clause-rest : goal.returns-clause-rest
+returns-clause-rest g c =
+    rw (← c.self.view_is, c.close_edges.ensures.capacity, c.push_reserved.ensures.capacity)
+    (record { values = refl; room = refl })
+
+pub returns-clause-sound : goal.returns-clause-sound
+returns-clause-sound g c =
+    rw (← c.self.view_is) c.self.invariant.sound
 
 pub returns-clause-mesh : goal.returns-clause-mesh
 unfolding closed

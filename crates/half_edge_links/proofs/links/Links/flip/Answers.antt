@@ -12,7 +12,81 @@ use Rattle.half_edge_links.proofs.Faces.FlipTriangles.{triangles_flipped}
 use Rattle.half_edge_links.proofs.Faces.KeepsOuter.{outer_flipped_is}
 use Rattle.half_edge_links.proofs.Sound.EndsKept.{ends_flipped_is}
 use Rattle.half_edge_links.proofs.OuterLoop.Outline.{outline_flipped}
+use Rattle.std.proofs.lemmas.List.{length-set}
 use Rattle.half_edge_links.proofs.links.Links.flip.Goals as goal
+
+pub set_out_edge-requires-clause-vertex : goal.set_out_edge-requires-clause-vertex
+set_out_edge-requires-clause-vertex g c =
+    let can =
+    turns_between (mesh_in c.self.inside) c.args.e c.self.invariant (rw (← c.self.view_is) at
+    c.requires.between) in
+    let six = six_round (mesh_in c.self.inside) c.args.e c.self.invariant.sound can in
+    let edge : c.get-edge.result ≡ edge_at (mesh_in c.self.inside).half_edges c.args.e
+    = c.get-edge.ensures in
+    rw edge (c.self.invariant.sound.edges _ can.within).origin_in
+
+pub set_out_edge-requires-2-clause-vertex : goal.set_out_edge-requires-2-clause-vertex
+set_out_edge-requires-2-clause-vertex g c =
+    let can =
+    turns_between (mesh_in c.self.inside) c.args.e c.self.invariant (rw (← c.self.view_is) at
+    c.requires.between) in
+    let six = six_round (mesh_in c.self.inside) c.args.e c.self.invariant.sound can in
+    let twin : c.get-twin.result ≡ edge_at (mesh_in c.self.inside).half_edges c.reversed-t.result
+    = c.get-twin.ensures in
+    rw (c.set_out_edge.ensures, twin, c.reversed-t.ensures)
+    (simp length-set (c.self.invariant.sound.edges _ six.b_in).origin_in)
+
+pub set_out_edge-requires-2-clause-nameable : goal.set_out_edge-requires-2-clause-nameable
+set_out_edge-requires-2-clause-nameable g c =
+    let can =
+    turns_between (mesh_in c.self.inside) c.args.e c.self.invariant (rw (← c.self.view_is) at
+    c.requires.between) in
+    let six = six_round (mesh_in c.self.inside) c.args.e c.self.invariant.sound can in
+    let edge : c.get-edge.result ≡ edge_at (mesh_in c.self.inside).half_edges c.args.e
+    = c.get-edge.ensures in
+    rw edge (omega (arith, six.c_in, c.self.invariant.small.edges))
+
+pub overflow_cast-edge : goal.overflow_cast-edge
+overflow_cast-edge g c =
+    omega arith
+
+pub overflow_cast-twin : goal.overflow_cast-twin
+overflow_cast-twin g c =
+    omega arith
+
+pub overflow_sub-edge : goal.overflow_sub-edge
+overflow_sub-edge g c =
+    let can =
+    turns_between (mesh_in c.self.inside) c.args.e c.self.invariant (rw (← c.self.view_is) at
+    c.requires.between) in
+    let six = six_round (mesh_in c.self.inside) c.args.e c.self.invariant.sound can in
+    let edge : c.get-edge.result ≡ edge_at (mesh_in c.self.inside).half_edges c.args.e
+    = c.get-edge.ensures in
+    rw edge can.inner
+
+pub overflow_sub-twin : goal.overflow_sub-twin
+overflow_sub-twin g c =
+    let can =
+    turns_between (mesh_in c.self.inside) c.args.e c.self.invariant (rw (← c.self.view_is) at
+    c.requires.between) in
+    let six = six_round (mesh_in c.self.inside) c.args.e c.self.invariant.sound can in
+    let twin : c.get-twin.result ≡ edge_at (mesh_in c.self.inside).half_edges c.reversed-t.result
+    = c.get-twin.ensures in
+    rw (twin, c.reversed-t.ensures) can.twin_inner
+
+pub returns-clause-rest : goal.returns-clause-rest
+returns-clause-rest g c =
+    rw (
+      ← c.self.view_is,
+      c.set_out_edge-2.ensures,
+      c.set_out_edge.ensures,
+      c.turn_edges.ensures.capacity,
+    )
+    (record { values = refl; room = refl })
+
+pub returns-clause-sound : goal.returns-clause-sound
+returns-clause-sound g c =
+    rw (← c.self.view_is) c.self.invariant.sound
 
 pub get-edge-requires : goal.get-edge-requires
 get-edge-requires g c =

@@ -3,7 +3,62 @@ use Rattle.half_edge_links.proofs.Views.{mesh_in}
 use Rattle.half_edge_links.specs.Grow.{hung}
 use Rattle.half_edge_links.proofs.Sound.Valid.{valid_as, valid_hung}
 use Rattle.half_edge_links.proofs.Growing.Grown.{hangs_edge}
+use Rattle.half_edge_links.proofs.Stored.Shown.{length_shown}
+use Rattle.half_edge_links.proofs.Stored.Joined.{joined_sound}
+use Rattle.half_edge_links.proofs.Stored.Within.{linked_in}
 use Rattle.half_edge_links.proofs.links.Links.hang.Goals as goal
+
+pub overflow_cast-n : goal.overflow_cast-n
+overflow_cast-n g c =
+    let small = c.self.invariant.small in
+    omega arith
+
+pub hang_edges-requires-clause-joined : goal.hang_edges-requires-clause-joined
+hang_edges-requires-clause-joined g c =
+    joined_sound (mesh_in c.self.inside) c.self.invariant.sound
+
+pub hang_edges-requires-clause-within : goal.hang_edges-requires-clause-within
+hang_edges-requires-clause-within g c =
+    let p = linked_in c.self.inside.half_edges.items c.args.x (joined_sound (mesh_in c.self.inside)
+    c.self.invariant.sound) (rw (← c.self.view_is) at c.requires.outer).0 in
+    p.edge
+
+pub hang_edges-requires-clause-room : goal.hang_edges-requires-clause-room
+hang_edges-requires-clause-room g c =
+    let room = rw (← c.self.view_is) at c.requires.edge_room in
+    let kept = length_shown c.self.inside.half_edges.items in
+    omega arith
+
+pub hang_edges-requires-clause-small : goal.hang_edges-requires-clause-small
+hang_edges-requires-clause-small g c =
+    let room = rw (← c.self.view_is) at c.requires.edge_room in
+    let kept = length_shown c.self.inside.half_edges.items in
+    omega arith
+
+pub overflow_add-n : goal.overflow_add-n
+overflow_add-n g c =
+    let room = rw (← c.self.view_is) at c.requires.edge_room in
+    let kept = length_shown c.self.inside.half_edges.items in
+    omega arith
+
+pub set_out_edge-requires-clause-vertex : goal.set_out_edge-requires-clause-vertex
+set_out_edge-requires-clause-vertex g c =
+    (rw (← c.self.view_is) at c.requires.alone).0
+
+pub set_out_edge-requires-clause-nameable : goal.set_out_edge-requires-clause-nameable
+set_out_edge-requires-clause-nameable g c =
+    let room = rw (← c.self.view_is) at c.requires.edge_room in
+    let kept = length_shown c.self.inside.half_edges.items in
+    omega arith
+
+pub returns-clause-rest : goal.returns-clause-rest
+returns-clause-rest g c =
+    rw (← c.self.view_is, c.set_out_edge.ensures, c.hang_edges.ensures.capacity)
+    (record { values = refl; room = refl })
+
+pub returns-clause-sound : goal.returns-clause-sound
+returns-clause-sound g c =
+    rw (← c.self.view_is) c.self.invariant.sound
 
 pub returns-clause-mesh : goal.returns-clause-mesh
 unfolding hung

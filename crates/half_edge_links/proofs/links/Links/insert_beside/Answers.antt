@@ -1,6 +1,6 @@
 use Rattle.std.proofs.Common.{◌≡◌, refl, length, arith}
 use Rattle.half_edge_links.proofs.Views.{mesh_in}
-use Rattle.half_edge_links.proofs.Stored.Shown.{next_shown, prev_shown, face_shown}
+use Rattle.half_edge_links.proofs.Stored.Shown.{next_shown, prev_shown, face_shown, length_shown}
 use Rattle.half_edge_links.specs.Mesh.{Mesh}
 use Rattle.half_edge_links.specs.Insert.{insert_by, inserted}
 use Rattle.half_edge_links.proofs.Faces.InsertLemmas.{inserts_is}
@@ -9,7 +9,89 @@ use Rattle.half_edge_links.proofs.Faces.InsertTriangles.{triangles_inserted}
 use Rattle.half_edge_links.proofs.Faces.KeepsOuter.{outer_inserted}
 use Rattle.half_edge_links.proofs.Sound.EndsKept.{ends_inserted_is}
 use Rattle.half_edge_links.proofs.OuterLoop.Outline.{outline_inserted}
+use Rattle.half_edge_links.proofs.Stored.Joined.{joined_sound, loop_of_three}
+use Rattle.half_edge_links.proofs.Sound.Triangles.{triangle_at}
 use Rattle.half_edge_links.proofs.links.Links.insert_beside.Goals as goal
+
+pub overflow_cast-n : goal.overflow_cast-n
+overflow_cast-n g c =
+    let small = c.self.invariant.small in
+    omega arith
+
+pub overflow_cast-g : goal.overflow_cast-g
+overflow_cast-g g c =
+    let small = c.self.invariant.small in
+    omega arith
+
+pub stored-first-requires : goal.stored-first-requires
+stored-first-requires g c =
+    rw (← length_shown c.self.inside.half_edges.items) (rw (← c.self.view_is) at c.requires.inner).0
+
+pub fan_edges-requires-clause-joined : goal.fan_edges-requires-clause-joined
+fan_edges-requires-clause-joined g c =
+    joined_sound (mesh_in c.self.inside) c.self.invariant.sound
+
+pub fan_edges-requires-clause-triangle : goal.fan_edges-requires-clause-triangle
+fan_edges-requires-clause-triangle g c =
+    let inner = rw (← c.self.view_is) at c.requires.inner in
+    loop_of_three (mesh_in c.self.inside) c.args.edge (triangle_at (mesh_in c.self.inside)
+    c.args.edge c.self.invariant.sound inner.0 inner.1)
+
+pub fan_edges-requires-clause-room : goal.fan_edges-requires-clause-room
+fan_edges-requires-clause-room g c =
+    let room = rw (← c.self.view_is) at c.requires.edge_room in
+    let kept = length_shown c.self.inside.half_edges.items in
+    omega arith
+
+pub fan_edges-requires-clause-small : goal.fan_edges-requires-clause-small
+fan_edges-requires-clause-small g c =
+    let room = rw (← c.self.view_is) at c.requires.edge_room in
+    let kept = length_shown c.self.inside.half_edges.items in
+    omega arith
+
+pub fan_edges-requires-clause-few : goal.fan_edges-requires-clause-few
+fan_edges-requires-clause-few g c =
+    let room = rw (← c.self.view_is) at c.requires.face_room in
+    omega arith
+
+pub overflow_cast-first : goal.overflow_cast-first
+overflow_cast-first g c =
+    omega arith
+
+pub overflow_sub-first : goal.overflow_sub-first
+overflow_sub-first g c =
+    let inner = rw (← c.self.view_is) at c.requires.inner in
+    rw (c.stored-first.ensures, ← face_shown c.self.inside.half_edges.items c.args.edge) inner.1
+
+pub overflow_add-n : goal.overflow_add-n
+overflow_add-n g c =
+    let room = rw (← c.self.view_is) at c.requires.edge_room in
+    let kept = length_shown c.self.inside.half_edges.items in
+    omega arith
+
+pub set_out_edge-requires-clause-vertex : goal.set_out_edge-requires-clause-vertex
+set_out_edge-requires-clause-vertex g c =
+    (rw (← c.self.view_is) at c.requires.alone).0
+
+pub set_out_edge-requires-clause-nameable : goal.set_out_edge-requires-clause-nameable
+set_out_edge-requires-clause-nameable g c =
+    let room = rw (← c.self.view_is) at c.requires.edge_room in
+    let kept = length_shown c.self.inside.half_edges.items in
+    omega arith
+
+pub returns-clause-rest : goal.returns-clause-rest
+returns-clause-rest g c =
+    rw (
+      ← c.self.view_is,
+      c.set_out_edge.ensures,
+      c.fan_edges.ensures.capacity,
+      c.push_reserved-2.ensures.capacity,
+      c.push_reserved.ensures.capacity,
+    ) (record { values = refl; room = refl })
+
+pub returns-clause-valid : goal.returns-clause-valid
+returns-clause-valid g c =
+    rw (← c.self.view_is) c.self.invariant
 
 pub returns-clause-mesh : goal.returns-clause-mesh
 unfolding inserted insert_by

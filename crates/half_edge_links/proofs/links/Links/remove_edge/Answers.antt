@@ -1,4 +1,4 @@
-use Rattle.std.proofs.Common.{◌≡◌, length, arith}
+use Rattle.std.proofs.Common.{◌≡◌, length, arith, ◌∙◌, sym, refl}
 use Rattle.std.proofs.lemmas.List.{length-set}
 use Rattle.half_edge_links.proofs.Views.{mesh_in}
 use Rattle.half_edge_links.specs.EdgeList.{shown}
@@ -13,7 +13,212 @@ use Rattle.half_edge_links.proofs.Sound.Valid.{valid_removed}
 use Rattle.half_edge_links.proofs.Removing.ShrinkTriangles.{triangles_removed}
 use Rattle.half_edge_links.proofs.Removing.TakenLists.{removes_ends, removes_outer}
 use Rattle.half_edge_links.proofs.OuterLoop.OutlineTaken.{outline_removed}
+use Rattle.half_edge_links.proofs.Stored.Within.{linked_in, last_places}
 use Rattle.half_edge_links.proofs.links.Links.remove_edge.Goals as goal
+
+pub get-edge-requires-clause-within : goal.get-edge-requires-clause-within
+get-edge-requires-clause-within g c =
+    let can = rw (← c.self.view_is) at c.requires in
+    let p = linked_in c.self.inside.half_edges.items c.args.e (joined_sound (mesh_in c.self.inside)
+    c.self.invariant.sound)
+    can.within in
+    p.edge
+
+pub get-edge-requires-clause-next_within : goal.get-edge-requires-clause-next_within
+get-edge-requires-clause-next_within g c =
+    let can = rw (← c.self.view_is) at c.requires in
+    let p = linked_in c.self.inside.half_edges.items c.args.e (joined_sound (mesh_in c.self.inside)
+    c.self.invariant.sound)
+    can.within in
+    p.next
+
+pub unlink-requires-clause-joined : goal.unlink-requires-clause-joined
+unlink-requires-clause-joined g c =
+    joined_sound (mesh_in c.self.inside) c.self.invariant.sound
+
+pub set_out_edge-requires-clause-vertex : goal.set_out_edge-requires-clause-vertex
+set_out_edge-requires-clause-vertex g c =
+    let can = rw (← c.self.view_is) at c.requires in
+    rw c.get-edge.ensures (c.self.invariant.sound.edges c.args.e can.within).origin_in
+
+pub set_out_edge-requires-2-clause-vertex : goal.set_out_edge-requires-2-clause-vertex
+set_out_edge-requires-2-clause-vertex g c =
+    let p = unlinked_places (mesh_in c.self.inside) c.args.e c.self.invariant.sound (rw
+    (← c.self.view_is) at c.requires) in
+    rw (c.set_out_edge.ensures, c.get-twin.ensures, c.reversed-t.ensures)
+    (simp length-set (c.self.invariant.sound.edges _ p.twin_in).origin_in)
+
+pub overflow_sub-last : goal.overflow_sub-last
+overflow_sub-last g c =
+    let can = rw (← c.self.view_is) at c.requires in
+    let at_n : c.len.result ≡ length (shown c.self.inside.half_edges.items) =
+    c.len.ensures.kept ∙ c.unlink.ensures.len ∙ sym (length_shown c.self.inside.half_edges.items) in
+    let p = last_places c.len.result c.args.e (rw at_n c.self.invariant.sound.even) (rw at_n
+    can.within)
+    (rw at_n c.self.invariant.small.edges) in
+    omega arith
+
+pub overflow_cast-last : goal.overflow_cast-last
+overflow_cast-last g c =
+    let can = rw (← c.self.view_is) at c.requires in
+    let at_n : c.len.result ≡ length (shown c.self.inside.half_edges.items) =
+    c.len.ensures.kept ∙ c.unlink.ensures.len ∙ sym (length_shown c.self.inside.half_edges.items) in
+    let p = last_places c.len.result c.args.e (rw at_n c.self.invariant.sound.even) (rw at_n
+    can.within)
+    (rw at_n c.self.invariant.small.edges) in
+    omega arith
+
+pub overflow_sub-hole : goal.overflow_sub-hole
+overflow_sub-hole g c =
+    omega arith
+
+pub get-even-requires-clause-within : goal.get-even-requires-clause-within
+get-even-requires-clause-within g c =
+    let can = rw (← c.self.view_is) at c.requires in
+    let at_n : c.len.result ≡ length (shown c.self.inside.half_edges.items) =
+    c.len.ensures.kept ∙ c.unlink.ensures.len ∙ sym (length_shown c.self.inside.half_edges.items) in
+    let p = last_places c.len.result c.args.e (rw at_n c.self.invariant.sound.even) (rw at_n
+    can.within)
+    (rw at_n c.self.invariant.small.edges) in
+    rw (← c.len.ensures.kept) p.last_in
+
+pub overflow_add-last : goal.overflow_add-last
+overflow_add-last g c =
+    let can = rw (← c.self.view_is) at c.requires in
+    let at_n : c.len.result ≡ length (shown c.self.inside.half_edges.items) =
+    c.len.ensures.kept ∙ c.unlink.ensures.len ∙ sym (length_shown c.self.inside.half_edges.items) in
+    let p = last_places c.len.result c.args.e (rw at_n c.self.invariant.sound.even) (rw at_n
+    can.within)
+    (rw at_n c.self.invariant.small.edges) in
+    omega arith
+
+pub get-odd-requires-clause-within : goal.get-odd-requires-clause-within
+get-odd-requires-clause-within g c =
+    let can = rw (← c.self.view_is) at c.requires in
+    let at_n : c.len.result ≡ length (shown c.self.inside.half_edges.items) =
+    c.len.ensures.kept ∙ c.unlink.ensures.len ∙ sym (length_shown c.self.inside.half_edges.items) in
+    let p = last_places c.len.result c.args.e (rw at_n c.self.invariant.sound.even) (rw at_n
+    can.within)
+    (rw at_n c.self.invariant.small.edges) in
+    rw (← c.len.ensures.kept) p.twin_in
+
+pub rename_out-requires-clause-from_in : goal.rename_out-requires-clause-from_in
+rename_out-requires-clause-from_in g c =
+    let can = rw (← c.self.view_is) at c.requires in
+    let at_n : c.len.result ≡ length (shown c.self.inside.half_edges.items) =
+    c.len.ensures.kept ∙ c.unlink.ensures.len ∙ sym (length_shown c.self.inside.half_edges.items) in
+    let p = last_places c.len.result c.args.e (rw at_n c.self.invariant.sound.even) (rw at_n
+    can.within)
+    (rw at_n c.self.invariant.small.edges) in
+    p.last_small
+
+pub rename_out-requires-clause-to_in : goal.rename_out-requires-clause-to_in
+rename_out-requires-clause-to_in g c =
+    let can = rw (← c.self.view_is) at c.requires in
+    let at_n : c.len.result ≡ length (shown c.self.inside.half_edges.items) =
+    c.len.ensures.kept ∙ c.unlink.ensures.len ∙ sym (length_shown c.self.inside.half_edges.items) in
+    let p = last_places c.len.result c.args.e (rw at_n c.self.invariant.sound.even) (rw at_n
+    can.within)
+    (rw at_n c.self.invariant.small.edges) in
+    p.hole_small
+
+pub rename_out-requires-2-clause-from_in : goal.rename_out-requires-2-clause-from_in
+rename_out-requires-2-clause-from_in g c =
+    let can = rw (← c.self.view_is) at c.requires in
+    let at_n : c.len.result ≡ length (shown c.self.inside.half_edges.items) =
+    c.len.ensures.kept ∙ c.unlink.ensures.len ∙ sym (length_shown c.self.inside.half_edges.items) in
+    let p = last_places c.len.result c.args.e (rw at_n c.self.invariant.sound.even) (rw at_n
+    can.within)
+    (rw at_n c.self.invariant.small.edges) in
+    p.last_small
+
+pub rename_out-requires-2-clause-to_in : goal.rename_out-requires-2-clause-to_in
+rename_out-requires-2-clause-to_in g c =
+    let can = rw (← c.self.view_is) at c.requires in
+    let at_n : c.len.result ≡ length (shown c.self.inside.half_edges.items) =
+    c.len.ensures.kept ∙ c.unlink.ensures.len ∙ sym (length_shown c.self.inside.half_edges.items) in
+    let p = last_places c.len.result c.args.e (rw at_n c.self.invariant.sound.even) (rw at_n
+    can.within)
+    (rw at_n c.self.invariant.small.edges) in
+    p.hole_small
+
+pub rename_face-requires-clause-from_in : goal.rename_face-requires-clause-from_in
+rename_face-requires-clause-from_in g c =
+    let can = rw (← c.self.view_is) at c.requires in
+    let at_n : c.len.result ≡ length (shown c.self.inside.half_edges.items) =
+    c.len.ensures.kept ∙ c.unlink.ensures.len ∙ sym (length_shown c.self.inside.half_edges.items) in
+    let p = last_places c.len.result c.args.e (rw at_n c.self.invariant.sound.even) (rw at_n
+    can.within)
+    (rw at_n c.self.invariant.small.edges) in
+    p.last_small
+
+pub rename_face-requires-clause-to_in : goal.rename_face-requires-clause-to_in
+rename_face-requires-clause-to_in g c =
+    let can = rw (← c.self.view_is) at c.requires in
+    let at_n : c.len.result ≡ length (shown c.self.inside.half_edges.items) =
+    c.len.ensures.kept ∙ c.unlink.ensures.len ∙ sym (length_shown c.self.inside.half_edges.items) in
+    let p = last_places c.len.result c.args.e (rw at_n c.self.invariant.sound.even) (rw at_n
+    can.within)
+    (rw at_n c.self.invariant.small.edges) in
+    omega (arith, p.hole_small)
+
+pub rename_face-requires-2-clause-from_in : goal.rename_face-requires-2-clause-from_in
+rename_face-requires-2-clause-from_in g c =
+    let can = rw (← c.self.view_is) at c.requires in
+    let at_n : c.len.result ≡ length (shown c.self.inside.half_edges.items) =
+    c.len.ensures.kept ∙ c.unlink.ensures.len ∙ sym (length_shown c.self.inside.half_edges.items) in
+    let p = last_places c.len.result c.args.e (rw at_n c.self.invariant.sound.even) (rw at_n
+    can.within)
+    (rw at_n c.self.invariant.small.edges) in
+    p.last_small
+
+pub rename_face-requires-2-clause-to_in : goal.rename_face-requires-2-clause-to_in
+rename_face-requires-2-clause-to_in g c =
+    let can = rw (← c.self.view_is) at c.requires in
+    let at_n : c.len.result ≡ length (shown c.self.inside.half_edges.items) =
+    c.len.ensures.kept ∙ c.unlink.ensures.len ∙ sym (length_shown c.self.inside.half_edges.items) in
+    let p = last_places c.len.result c.args.e (rw at_n c.self.invariant.sound.even) (rw at_n
+    can.within)
+    (rw at_n c.self.invariant.small.edges) in
+    omega (arith, p.hole_small)
+
+pub renamed-self-inside-requires-clause-from_in : goal.renamed-self-inside-requires-clause-from_in
+renamed-self-inside-requires-clause-from_in g c =
+    let can = rw (← c.self.view_is) at c.requires in
+    let at_n : c.len.result ≡ length (shown c.self.inside.half_edges.items) =
+    c.len.ensures.kept ∙ c.unlink.ensures.len ∙ sym (length_shown c.self.inside.half_edges.items) in
+    let p = last_places c.len.result c.args.e (rw at_n c.self.invariant.sound.even) (rw at_n
+    can.within)
+    (rw at_n c.self.invariant.small.edges) in
+    p.last_small
+
+pub renamed-self-inside-requires-clause-to_in : goal.renamed-self-inside-requires-clause-to_in
+renamed-self-inside-requires-clause-to_in g c =
+    let can = rw (← c.self.view_is) at c.requires in
+    let at_n : c.len.result ≡ length (shown c.self.inside.half_edges.items) =
+    c.len.ensures.kept ∙ c.unlink.ensures.len ∙ sym (length_shown c.self.inside.half_edges.items) in
+    let p = last_places c.len.result c.args.e (rw at_n c.self.invariant.sound.even) (rw at_n
+    can.within)
+    (rw at_n c.self.invariant.small.edges) in
+    omega (arith, p.hole_small)
+
+pub returns-clause-rest : goal.returns-clause-rest
+returns-clause-rest g c =
+    rw (
+      ← c.self.view_is,
+      c.fill.ensures.capacity,
+      c.unlink.ensures.capacity,
+      c.rename_face-2.ensures.capacity,
+      c.rename_face.ensures.capacity,
+      c.rename_out-2.ensures.contents,
+      c.rename_out.ensures.contents,
+      c.set_out_edge-2.ensures,
+      c.set_out_edge.ensures,
+    ) (record { values = refl; room = refl })
+
+pub returns-clause-sound : goal.returns-clause-sound
+returns-clause-sound g c =
+    rw (← c.self.view_is) c.self.invariant.sound
 
 pub get-twin-requires : goal.get-twin-requires
 get-twin-requires g c =

@@ -1,0 +1,21 @@
+-- What the tests of the corners round an edge say.
+use Rattle.std.proofs.Common.{◌≡◌, ◌↔◌, ℕ, List}
+use Rattle.half_edge_mesh.specs.Mesh.{Mesh, origin, rev}
+use Rattle.half_edge_mesh.specs.Peel.{turn}
+use Rattle.plane.specs.Fraction.{Point, whole}
+use Rattle.plane.specs.Side.{TurnsLeft}
+use Rattle.delaunay_legalization.specs.Known.{point_at}
+use Rattle.delaunay_removal.specs.Star.{IsConvexAt}
+
+-- both tests of the four corners, where they were read from the edge and the two after it
+pub convex_read : (points : List Point) (m : Mesh) (h second third : ℕ)
+    (centre before corner after : Point) → second ≡ turn m h → third ≡ turn m second
+    → centre ≡ point_at points (origin m h) → before ≡ point_at points (origin m (rev h))
+    → corner ≡ point_at points (origin m (rev second))
+    → after ≡ point_at points (origin m (rev third)) → IsConvexAt points m h
+    ↔ (TurnsLeft (whole before) (whole corner) (whole after)
+    × TurnsLeft (whole centre) (whole before) (whole after))
+convex_read points m h _ _ _ _ _ _ s t a b c d = rw (d, c, b, a, t, s) (
+  λ k. (k.far, k.near),
+  λ k. record { far = k.0; near = k.1 },
+)

@@ -1,0 +1,24 @@
+use Rattle.half_edge_links.proofs.Stored.Within.{linked_in}
+use Rattle.half_edge_links.proofs.Stored.Joined.{joined_sound}
+use Rattle.half_edge_links.proofs.Views.{mesh_in}
+use Rattle.half_edge_links.proofs.links.Links.origin.Goals as goal
+
+pub origin-requires-clause-within : goal.origin-requires-clause-within
+origin-requires-clause-within g c =
+    let p = linked_in c.self.inside.half_edges.items c.args.h (joined_sound
+    (mesh_in c.self.inside) c.self.invariant.sound) (rw (← c.self.view_is) at c.requires) in
+    p.edge
+
+pub origin-requires-clause-next_within : goal.origin-requires-clause-next_within
+origin-requires-clause-next_within g c =
+    let p = linked_in c.self.inside.half_edges.items c.args.h (joined_sound
+    (mesh_in c.self.inside) c.self.invariant.sound) (rw (← c.self.view_is) at c.requires) in
+    p.next
+
+pub returns-clause-value : goal.returns-clause-value
+returns-clause-value g c =
+    rw (← c.self.view_is) c.origin.ensures
+
+pub returns-clause-valid : goal.returns-clause-valid
+returns-clause-valid g c =
+    rw (← c.self.view_is) c.self.invariant
