@@ -12,9 +12,6 @@ use triangulate_run::session::run;
 use triangulate_run::sheet::{Sheet, letter_named};
 use watched::Watched;
 
-#[cfg(test)]
-mod tests;
-
 /// The status where the arguments name no sheet.
 const WRONG_ARGUMENTS: u8 = 2;
 
