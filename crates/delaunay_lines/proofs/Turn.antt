@@ -53,6 +53,7 @@ module _ {V D U F P S : Type 0} (at : V → Point) (number : S → ℤ)
         gives =
             λ items left. let o = others items left in
             (mesh, (o.0, o.1 ∙ ap (λ (k : Item). k ∷ o.0) (sym item), o.2));
+        stays = tt;
       }
 
       -- the iterator is ready after that

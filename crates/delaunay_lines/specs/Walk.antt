@@ -1,6 +1,6 @@
 -- What is left of the walk along a segment over a mesh.
 use Rattle.std.specs.Prelude.{◌≡◌, ◌+◌, ◌≤◌, [], ◌∷◌}
-use Rattle.std.specs.Prelude.{ℕ, List, ℤ, length, map, Option, Some, None, MatchOption}
+use Rattle.std.specs.Prelude.{ℕ, List, ℤ, length, map, Option, Some, None, IfNone, MatchOption}
 use Rattle.half_edge_mesh.specs.Contents.{Contents}
 use Rattle.plane.specs.Fraction.{Point, whole}
 use Rattle.plane.specs.Tiling.{Triangulation}
@@ -48,7 +48,7 @@ AreLeft at number it items =
     AreFrom at it.dcel.now (place_of number it.from) (place_of number it.to) it.current items
 
 -- a call gives the first of the items that are left, as a part of the same mesh, and leaves the
--- others; or nothing is left
+-- others; or nothing is left, and then it changes nothing, so that it may be made again
 pub record GivesNext {V D U F P S : Type 0} (at : V → Point) (number : S → ℤ)
     (it : LineIntersectionIterator V D U F P S) (r : Option (Intersection V D U F))
     (after : LineIntersectionIterator V D U F P S) : Type 0 where
@@ -57,6 +57,7 @@ pub record GivesNext {V D U F P S : Type 0} (at : V → Point) (number : S → �
       MatchOption r ((items ≡ []) × AreLeft at number after [])
       (λ x. (mesh_of x ≡ it.dcel) × ((others : List Item) × (items ≡ item_in x ∷ others) ×
       AreLeft at number after others))
+  pub stays : IfNone r (after ≡ it)
 
 -- an iterator over a mesh whose vertices are sites of its tests, which cover its ends; some items
 -- are left, no more than it counts

@@ -1,5 +1,6 @@
 //! The constraints that a segment crosses.
-ghost use Rattle.std.specs.Prelude.{◌↔◌, ◌/◌, ◌<◌, length, map, All, Contains, IfSome, IsTrue};
+ghost use Rattle.std.specs.Prelude.{◌↔◌, ◌/◌, ◌<◌, length, map, All, Contains};
+ghost use Rattle.std.specs.Prelude.{IfNone, IfSome, IsTrue};
 ghost use Rattle.std.specs.Iterator.{at_most};
 ghost use Rattle.plane_tiling.specs.Local.{IsMesh};
 ghost use Rattle.mesh_embedding.specs.Drawn.{faces_of, outer_of};
@@ -50,7 +51,7 @@ fn next_conflict<'a, M: ConstraintMarker<UE>, V: HasPosition, DE, UE, F, P: Plan
 ) -> Option<DirectedEdgeHandle<'a, V, DE, UE, F>>
     requires { IsReady V.place V.Scalar.whole P.sites P.covered line.old }
     ensures gives { GivesConflict V.place V.Scalar.whole M.constraints line.old result line.new }
-    ensures ready { IfSome result (λ _. IsReady V.place V.Scalar.whole P.sites P.covered line.new) }
+    ensures ready { IsReady V.place V.Scalar.whole P.sites P.covered line.new }
     ensures fewer { IfSome result (λ _. line.new.left < line.old.left) }
 {
     while let Some(item) = line.next() {
@@ -62,7 +63,7 @@ fn next_conflict<'a, M: ConstraintMarker<UE>, V: HasPosition, DE, UE, F, P: Plan
 }
 
 /// The constraints that a segment meets in one point strictly within them, in the order along the
-/// segment. No call takes memory.
+/// segment. No call takes memory. After the last one it gives `None` as often as it is asked.
 ///
 /// ```
 /// let walls = site.get_conflicting_edges_between_points(from, to, &ExactTests);
@@ -174,8 +175,9 @@ impl<'a, M: ConstraintMarker<UE>, V: HasPosition, DE, UE, F, P: PlaneTests<V::Sc
 
     ghost can_next = { λ it. IsReady V.place V.Scalar.whole P.sites P.covered it.line };
 
+    // After `None` it may be asked again.
     ghost next_gives = { λ it r after. GivesConflict V.place V.Scalar.whole M.constraints it.line r
-        after.line };
+        after.line × IfNone r (IsReady V.place V.Scalar.whole P.sites P.covered after.line) };
 
     ghost remaining = { λ it. at_most it.line.left };
 

@@ -20,7 +20,8 @@ use delaunay_legalization::is_same_point;
 use half_edge_mesh::{Dcel, FixedVertexHandle};
 
 /// The vertices and edges that a segment meets, in the order along the segment. No call takes
-/// memory. A call of `next` looks at the edges of one vertex at most.
+/// memory. A call of `next` looks at the edges of one vertex at most. After the last item it gives
+/// `None` as often as it is asked.
 ///
 /// ```
 /// for item in LineIntersectionIterator::new(&points, from, to, &ExactTests) {

@@ -11,4 +11,4 @@ returns g c =
     g.V.Scalar.SpadeNum.whole g.P.PlaneTests.sites g.P.PlaneTests.covered
     conflicts.result.line c.next.new.self.line conflicts.ensures.ready
     conflicts.ensures.line c.next.result
-    c.is_none.result c.is_none.ensures c.next.ensures.steps
+    c.is_none.result c.is_none.ensures c.next.ensures.steps.0
