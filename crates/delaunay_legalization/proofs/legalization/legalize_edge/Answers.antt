@@ -1,4 +1,4 @@
-use Rattle.std.proofs.Common.{◌<◌, ℕ, length, map, subst, sym, ap}
+use Rattle.std.proofs.Common.{◌<◌, ℕ, length, map, refl, subst, sym, ap}
 use Rattle.mesh_embedding.proofs.MeshLegal.{joins_edge}
 use Rattle.mesh_embedding.proofs.WorkLists.{contains_last}
 use Rattle.delaunay_legalization.specs.Sides.{GainsSides}
@@ -79,3 +79,49 @@ returns-else-is_failing-clause-step g c =
     c.recall_invariant.ensures.whole.valid c.args.work.now.items c.args.edge c.args.flips.now
     c.requires.step
     (λ free x. both_ways _ (c.is_failing.ensures.1 x) c.if-is_failing.false)
+
+pub is_failing-requires-clause-sites : goal.is_failing-requires-clause-sites
+is_failing-requires-clause-sites g c = c.requires.sites
+
+pub is_failing-requires-clause-shape : goal.is_failing-requires-clause-shape
+is_failing-requires-clause-shape g c = c.requires.step.shape
+
+pub flip-requires-clause-within : goal.flip-requires-clause-within
+flip-requires-clause-within g c =
+    last_within c.args.dcel.now.mesh c.args.work.now.items c.args.edge
+    (length c.args.dcel.now.directed)
+    c.recall_invariant.ensures.whole.fits.directed_fit c.requires.step.edges
+
+pub flip-requires-clause-shape : goal.flip-requires-clause-shape
+flip-requires-clause-shape g c = c.requires.step.shape
+
+pub flip-requires-clause-fits : goal.flip-requires-clause-fits
+flip-requires-clause-fits g c =
+    c.requires.step.fits (c.is_failing.ensures.0 c.if-is_failing.true)
+
+pub returns-then-is_constraint_edge-clause-contents :
+    goal.returns-then-is_constraint_edge-clause-contents
+returns-then-is_constraint_edge-clause-contents g c = refl
+
+pub returns-then-is_constraint_edge-clause-constraints :
+    goal.returns-then-is_constraint_edge-clause-constraints
+returns-then-is_constraint_edge-clause-constraints g c = refl
+
+pub returns-then-is_constraint_edge-clause-capacity :
+    goal.returns-then-is_constraint_edge-clause-capacity
+returns-then-is_constraint_edge-clause-capacity g c = refl
+
+pub returns-else-is_failing-clause-contents : goal.returns-else-is_failing-clause-contents
+returns-else-is_failing-clause-contents g c = refl
+
+pub returns-else-is_failing-clause-constraints : goal.returns-else-is_failing-clause-constraints
+returns-else-is_failing-clause-constraints g c = refl
+
+pub returns-else-is_failing-clause-capacity : goal.returns-else-is_failing-clause-capacity
+returns-else-is_failing-clause-capacity g c = refl
+
+pub returns-then-is_failing-clause-contents : goal.returns-then-is_failing-clause-contents
+returns-then-is_failing-clause-contents g c = c.flip.ensures.contents
+
+pub returns-then-is_failing-clause-capacity : goal.returns-then-is_failing-clause-capacity
+returns-then-is_failing-clause-capacity g c = c.push_left.ensures.capacity

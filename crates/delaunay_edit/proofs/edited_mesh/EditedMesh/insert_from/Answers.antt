@@ -21,3 +21,18 @@ returns-in-Occupied-clause-inserts g c =
 
 pub returns-in-Occupied-clause-counted : goal.returns-in-Occupied-clause-counted
 returns-in-Occupied-clause-counted g c = record { grows = omega arith; few = omega arith }
+
+pub replace_vertex-requires-clause-within : goal.replace_vertex-requires-clause-within
+replace_vertex-requires-clause-within g c = c.in-Occupied.ensures.0
+
+pub replace_vertex-requires-clause-same : goal.replace_vertex-requires-clause-same
+replace_vertex-requires-clause-same g c = c.in-Occupied.ensures.1
+
+pub append-appended-requires-clause-in_range : goal.append-appended-requires-clause-in_range
+append-appended-requires-clause-in_range g c = c.in_ok-validate_vertex.ensures.exactly.0 refl
+
+pub append-appended-requires-clause-vacant : goal.append-appended-requires-clause-vacant
+append-appended-requires-clause-vacant g c = c.in-Vacant.ensures
+
+pub append-appended-requires-clause-fits : goal.append-appended-requires-clause-fits
+append-appended-requires-clause-fits g c = c.requires.fits

@@ -1,4 +1,6 @@
-use Rattle.std.proofs.Common.{ℕ, List, ◌++◌, length, map, refl, sym, subst, arith, vec_capacity}
+use Rattle.std.proofs.Common.{◌<◌, ℕ, List, ◌++◌, length, map, refl, sym, ap, subst, arith}
+use Rattle.std.proofs.Common.{vec_capacity}
+use Rattle.std.specs.Prelude.{All}
 use Rattle.std.proofs.lemmas.Bool.{eqb-true}
 use Rattle.plane.specs.Plain.{Removes, TakesOut}
 use Rattle.plane_edits.specs.Legal.{AllPassBut}
@@ -161,3 +163,64 @@ invariant_of-self-5 g c =
     c.settle.new.dcel _ _ c.halves_at-halves.result c.halves_at-halves.ensures c.settle.ensures
     c.count_lost-lost.result c.count_lost-lost.ensures c.self.inside.num_constraints
     c.self.invariant
+
+pub overflow_mul-num_vertices : goal.overflow_mul-num_vertices
+overflow_mul-num_vertices g c =
+    let small = c.num_vertices.ensures.small in
+    omega arith
+
+pub invariant_of-self : goal.invariant_of-self
+invariant_of-self g c = c.self.invariant
+
+pub invariant_of-self-in_err-reserve_for : goal.invariant_of-self-in_err-reserve_for
+invariant_of-self-in_err-reserve_for g c = c.self.invariant
+
+pub invariant_of-self-2 : goal.invariant_of-self-2
+invariant_of-self-2 g c = c.self.invariant
+
+pub invariant_of-self-in_err-border : goal.invariant_of-self-in_err-border
+invariant_of-self-in_err-border g c = c.self.invariant
+
+pub invariant_of-self-3 : goal.invariant_of-self-3
+invariant_of-self-3 g c = c.self.invariant
+
+pub invariant_of-self-4 : goal.invariant_of-self-4
+invariant_of-self-4 g c = c.self.invariant
+
+pub sides_to_test-requires : goal.sides_to_test-requires
+sides_to_test-requires g c =
+    subst (λ s. c.args.vertex < length s.vertices) (sym c.self.view_is) c.requires.within
+
+pub halves_at-halves-requires-clause-within : goal.halves_at-halves-requires-clause-within
+halves_at-halves-requires-clause-within g c =
+    subst (λ s. c.args.vertex < length s.vertices) (sym c.self.view_is) c.requires.within
+
+pub halves_at-halves-requires-clause-sites : goal.halves_at-halves-requires-clause-sites
+halves_at-halves-requires-clause-sites g c =
+    subst (λ s. All (g.P.PlaneTests.sites c.args.tests.now) (map g.V.HasPosition.place s.vertices))
+    (sym c.self.view_is) c.requires.sites
+
+pub count_lost-lost-requires : goal.count_lost-lost-requires
+count_lost-lost-requires g c =
+    subst (λ s. c.args.vertex < length s.vertices) (sym c.self.view_is) c.requires.within
+
+pub remove_vertex-value-requires-clause-kept : goal.remove_vertex-value-requires-clause-kept
+remove_vertex-value-requires-clause-kept g c = c.self.invariant.legal.kept
+
+pub remove_vertex-value-requires-clause-within : goal.remove_vertex-value-requires-clause-within
+remove_vertex-value-requires-clause-within g c =
+    subst (λ s. c.args.vertex < length s.vertices) (sym c.self.view_is) c.requires.within
+
+pub remove_vertex-value-requires-clause-sites : goal.remove_vertex-value-requires-clause-sites
+remove_vertex-value-requires-clause-sites g c =
+    subst (λ s. All (g.P.PlaneTests.sites c.args.tests.now) (map g.V.HasPosition.place s.vertices))
+    (sym c.self.view_is) c.requires.sites
+
+pub returns-in_err-reserve-clause-outer : goal.returns-in_err-reserve-clause-outer
+returns-in_err-reserve-clause-outer g c = ap (λ s. s.outer) c.self.view_is
+
+pub returns-in_err-reserve_for-clause-outer : goal.returns-in_err-reserve_for-clause-outer
+returns-in_err-reserve_for-clause-outer g c = ap (λ s. s.outer) c.self.view_is
+
+pub returns-in_err-border-clause-outer : goal.returns-in_err-border-clause-outer
+returns-in_err-border-clause-outer g c = ap (λ s. s.outer) c.self.view_is
