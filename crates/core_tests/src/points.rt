@@ -9,16 +9,22 @@ use delaunay_core::point::{HasPosition, Point2, SpadeNum};
 /// Both coordinates of a point.
 pub type Coordinates = (i64, i64);
 
+/// A point, if it is in range.
+pub fn in_range<S: SpadeNum>(point: Point2<S>) -> Option<Point2<S>>
+    ensures { IfSome result (λ p. InRange (place_of S.whole p)) }
+{
+    if validate_vertex(&point).is_err() {
+        return None;
+    }
+    Some(point)
+}
+
 /// A point in range.
 pub fn point(coordinates: Coordinates) -> Option<Point2<i64>>
     ensures { IfSome result (λ p. InRange (place_of (λ z. z) p)) }
 {
     let (x, y) = coordinates;
-    let point = Point2::new(x, y);
-    if validate_vertex(&point).is_err() {
-        return None;
-    }
-    Some(point)
+    in_range(Point2::new(x, y))
 }
 
 pub fn distance_2(from: Coordinates, to: Coordinates) -> Option<i64> {

@@ -6,7 +6,9 @@ use crate::comparisons::{
 };
 use crate::points::{convert, distance_2, project, small_scalars};
 use crate::shapes::{circle, circle_edge, rectangle, rectangle_edge};
-use crate::sides::{is_ordered_ccw, side_infos};
+use crate::sides::{
+    circles_of_32_bits, is_in_circle, is_ordered_ccw, side, side_infos, sides_of_bytes,
+};
 use delaunay_core::math::{validate_coordinate, validate_vertex};
 use delaunay_core::point::Point2;
 use std::io;
@@ -25,6 +27,8 @@ pub fn answer(rt: &impl Print, call: &Call<'_>) -> io::Result<()> {
         "compare_errors" => call.tell(rt, &compare_errors(a, b)),
         "convert" => call.tell(rt, &convert((a, b))),
         "side_infos" => call.tell(rt, &side_infos()),
+        "sides_of_bytes" => call.tell(rt, &sides_of_bytes()),
+        "circles_of_32_bits" => call.tell(rt, &circles_of_32_bits()),
         "errors" => errors(rt),
         "metrics" => call.tell(rt, &metrics()),
         _ => answer_in_plane(rt, call, call.numbers),
@@ -37,7 +41,11 @@ fn answer_in_plane(
     call: &Call<'_>,
     [a, b, c, d, e, f, g, h]: [i64; 8],
 ) -> io::Result<()> {
+    let (first, second) = call.ends();
+    let (third, fourth) = (Point2::new(e, f), Point2::new(g, h));
     match call.name {
+        "side" => call.tell(rt, &side(first, second, third)),
+        "is_in_circle" => call.tell(rt, &is_in_circle([first, second, third], fourth)),
         "is_ordered_ccw" => call.tell(rt, &is_ordered_ccw((a, b), (c, d), (e, f))),
         "project_point" => call.tell(rt, &project((a, b), (c, d), (e, f))),
         "circle" => call.tell(rt, &circle((a, b), c, (d, e))),
