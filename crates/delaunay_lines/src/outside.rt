@@ -19,8 +19,8 @@ use crate::sides::{side_of_edge, twin_of};
 use crate::way::Way;
 use delaunay_core::math::PlaneTests;
 use delaunay_core::point::{HasPosition, Point2, SpadeNum};
-use delaunay_legalization::{is_outer, is_same_point, position_of};
-use half_edge_mesh::{FixedDirectedEdgeHandle, FixedVertexHandle};
+use delaunay_legalization::{is_same_point, position_of};
+use half_edge_mesh::{FixedDirectedEdgeHandle, FixedVertexHandle, MeshViews};
 
 // Whether a point is nearer to a position than another.
 fn is_nearer<S: SpadeNum, P: PlaneTests<S>>(
@@ -78,18 +78,8 @@ impl<'a, V: HasPosition, DE, UE, F, P: PlaneTests<V::Scalar>> Segment<'a, V, DE,
         self.goes_right(edge) && self.has_ends_on_sides(edge)
     }
 
-    // Whether a segment enters the triangulation by an edge.
-    fn is_entered(&self, edge: FixedDirectedEdgeHandle) -> bool
-        requires within { edge < length self.now.dcel.now.directed }
-        requires over { IsOver V.place V.Scalar.whole P.sites P.covered self.now }
-        ensures { IsTrue result ↔
-            IsEntered (map V.place self.now.dcel.now.vertices) self.now.dcel.now.mesh
-            (place_of V.Scalar.whole self.now.from) (place_of V.Scalar.whole self.now.to) edge }
-    {
-        is_outer(self.dcel, twin_of(self.dcel, edge)) && self.is_crossed(edge)
-    }
-
-    // An edge with the outer face on its right that a segment crosses into the triangulation.
+    // An edge with the outer face on its right that a segment crosses into the triangulation, by a
+    // look along the outline.
     fn entered_edge(&self) -> Option<FixedDirectedEdgeHandle>
         requires over { IsOver V.place V.Scalar.whole P.sites P.covered self.now }
         ensures { let points = map V.place self.now.dcel.now.vertices in
@@ -99,9 +89,9 @@ impl<'a, V: HasPosition, DE, UE, F, P: PlaneTests<V::Scalar>> Segment<'a, V, DE,
             ¬ IsEntered points m p q h) (λ h. (h < length self.now.dcel.now.directed) ×
             IsEntered points m p q h) }
     {
-        for index in 0..self.dcel.num_directed_edges() {
-            let edge = FixedDirectedEdgeHandle::from_index(index as u32);
-            if self.is_entered(edge) {
+        for outer in self.dcel.convex_hull() {
+            let edge = outer.rev().fix();
+            if self.is_crossed(edge) {
                 return Some(edge);
             }
         }
@@ -205,9 +195,9 @@ impl<'a, V: HasPosition, DE, UE, F, P: PlaneTests<V::Scalar>> Segment<'a, V, DE,
         }
     }
 
-    /// What it meets, from outside the triangulation: of a point to itself, nothing. It goes
-    /// through all directed edges up to one that the segment enters by, and, where there is none,
-    /// through all vertices.
+    /// What it meets, from outside the triangulation: of a point to itself, nothing. It goes along
+    /// the outline up to an edge that the segment enters by, and, where there is none, through all
+    /// vertices.
     pub(crate) fn walk_from_outside(&self) -> LineIntersectionIterator<'a, V, DE, UE, F, P>
         requires over { IsOver V.place V.Scalar.whole P.sites P.covered self.now }
         requires start { StartsOutside (drawn (map V.place self.now.dcel.now.vertices)

@@ -1,10 +1,15 @@
-use Rattle.std.proofs.Common.{◌<◌, ℕ, map}
+use Rattle.std.proofs.Common.{ℕ, map}
+use Rattle.half_edge_mesh.specs.Mesh.{rev}
+use Rattle.half_edge_mesh.specs.Rounds.{hull_left}
+use Rattle.mesh_embedding.proofs.OutlineGiven.{IsGoingAlong, indexes}
 use Rattle.delaunay_core.specs.Place.{place_of}
-use Rattle.delaunay_lines.specs.Starts.{IsEntered}
+use Rattle.delaunay_lines.specs.Starts.{IsCrossed}
 use Rattle.delaunay_lines.proofs.segment.Segment.entered_edge.Given as goal
 
-abbrev pub invariant-loop-index : goal.invariant-loop-index
-invariant-loop-index g l = (h : ℕ) → h < l.index →
-    ¬ IsEntered (map g.V.HasPosition.place l.self.dcel.now.vertices) l.self.dcel.now.mesh
-    (place_of g.V.Scalar.SpadeNum.whole l.self.from)
-    (place_of g.V.Scalar.SpadeNum.whole l.self.to) h
+abbrev pub invariant-loop-outer : goal.invariant-loop-outer
+invariant-loop-outer g l =
+    IsGoingAlong l.self.dcel.now.mesh
+    (λ (h : ℕ). ¬ IsCrossed (map g.V.HasPosition.place l.self.dcel.now.vertices)
+    l.self.dcel.now.mesh (place_of g.V.Scalar.SpadeNum.whole l.self.from)
+    (place_of g.V.Scalar.SpadeNum.whole l.self.to) (rev h))
+    (indexes (hull_left l.outer-iterator))
