@@ -1,12 +1,11 @@
 //! A castle: rings of walls as constraints, and how many of them lie at least between a place and
 //! the fields. A breach opens a ring, and a hedge that is no ring is walked round.
 
-use delaunay_layers::face_layers;
 use exact_tests::ExactTests;
 use spade_delaunay::handles::FixedFaceHandle;
 use spade_delaunay::{
     ConstrainedDelaunayTriangulation, InsertionError, Point2, PositionInTriangulation,
-    Triangulation, validate_vertex,
+    Triangulation, face_layers, validate_vertex,
 };
 
 type Castle = ConstrainedDelaunayTriangulation<Point2<i64>>;

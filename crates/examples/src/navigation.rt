@@ -4,12 +4,11 @@
 
 ghost use Rattle.std.specs.Prelude.{slice_index_or, false};
 
-use delaunay_sight::{FreeFaces, is_in_sight};
 use exact_tests::ExactTests;
 use spade_delaunay::handles::FixedFaceHandle;
 use spade_delaunay::{
-    ConstrainedDelaunayTriangulation, ConstraintError, InsertionError, Point2,
-    PositionInTriangulation, Triangulation, validate_vertex,
+    ConstrainedDelaunayTriangulation, ConstraintError, FreeFaces, InsertionError, Point2,
+    PositionInTriangulation, Triangulation, is_in_sight, validate_vertex,
 };
 use std::alloc::{AllocError, Global};
 

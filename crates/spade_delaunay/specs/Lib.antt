@@ -12,6 +12,7 @@ pub use Rattle.plane.specs.Tests
 pub use Rattle.plane.specs.Tiling
 pub use Rattle.plane_delaunay.specs.EdgeTests
 pub use Rattle.plane_delaunay.specs.History
+pub use Rattle.plane_sight.specs.Sight
 pub use Rattle.half_edge_mesh.specs.Contents
 pub use Rattle.half_edge_mesh.specs.Left
 pub use Rattle.half_edge_mesh.specs.Mesh
@@ -28,6 +29,7 @@ pub use Rattle.delaunay_legalization.specs.Constraints
 pub use Rattle.delaunay_legalization.specs.Flips
 pub use Rattle.delaunay_legalization.specs.Known
 pub use Rattle.delaunay_legalization.specs.State
+pub use Rattle.delaunay_sight.specs.Beside
 pub use Rattle.delaunay_interface.specs.Conflicts
 pub use Rattle.delaunay_interface.specs.Constrained
 pub use Rattle.delaunay_interface.specs.ConstraintEdges
@@ -46,5 +48,6 @@ pub use Rattle.delaunay_interface.specs.Storage
 pub use Rattle.delaunay_interface.specs.Views
 pub use Rattle.delaunay_interface.specs.Walk
 pub use Rattle.delaunay_interface.specs.Writing
+pub use Rattle.delaunay_layers.specs.Layers
 pub use Rattle.delaunay_shape_queries.specs.Distances
 pub use Rattle.delaunay_shape_queries.specs.Found

@@ -29,10 +29,12 @@ pub use delaunay_interface::{
     DelaunayTriangulation, EdgeData, HasMesh, Intersection, LineIntersectionIterator,
     PositionInTriangulation, Triangulation, TriangulationCore,
 };
+pub use delaunay_layers::face_layers;
 pub use delaunay_legalization::{CdtEdge, ConstraintMarker, EdgeConstraints, NoConstraints};
 pub use delaunay_shape_queries::{
     CircleMetric, DistanceMetric, EdgesInShapeIterator, FloatTriangulation, RectangleMetric,
     VerticesInShapeIterator,
 };
+pub use delaunay_sight::{FreeFaces, is_in_sight};
 pub use half_edge_mesh::{Dcel, MAX_ELEMENTS};
 pub use hint_hierarchy::{HierarchyHintGenerator, HierarchyHintGeneratorWithBranchFactor};
