@@ -1,9 +1,10 @@
 //! What names and handles of the parts of a mesh derive: copies, equality, order, hashes and
 //! printed forms.
 
-use crate::lookups::{Edge, Mesh, VoronoiEdge, directed, edge_at, vertex};
+use crate::lookups::{directed, edge_at, vertex};
 use half_edge_mesh::{
-    AsVoronoiEdge, AsVoronoiFace, FixedFaceHandle, HalfEdge, IsolateVertexResult, ReserveError,
+    AsVoronoiEdge, AsVoronoiFace, Dcel, DirectedEdgeHandle, DirectedVoronoiEdge, FixedFaceHandle,
+    HalfEdge, IsolateVertexResult, ReserveError,
 };
 use std::cmp::Ordering;
 use std::fmt::Debug;
@@ -42,7 +43,10 @@ pub fn compare_names(a: u32, b: u32) -> [Comparison; 4] {
     ]
 }
 
-fn compare_parts(first: &Edge<'_>, second: &Edge<'_>) -> [Comparison; 4] {
+fn compare_parts<V, DE, UE, F>(
+    first: &DirectedEdgeHandle<'_, V, DE, UE, F>,
+    second: &DirectedEdgeHandle<'_, V, DE, UE, F>,
+) -> [Comparison; 4] {
     [
         compare(first, second),
         compare(&first.as_undirected(), &second.as_undirected()),
@@ -52,7 +56,11 @@ fn compare_parts(first: &Edge<'_>, second: &Edge<'_>) -> [Comparison; 4] {
 }
 
 /// Of two edges, and of their undirected edges, starts and left faces.
-pub fn compare_edges(mesh: &Mesh, a: u32, b: u32) -> Option<[Comparison; 4]> {
+pub fn compare_edges<V, DE, UE, F>(
+    mesh: &Dcel<V, DE, UE, F>,
+    a: u32,
+    b: u32,
+) -> Option<[Comparison; 4]> {
     let Some(first) = edge_at(mesh, a) else {
         return None;
     };
@@ -62,7 +70,10 @@ pub fn compare_edges(mesh: &Mesh, a: u32, b: u32) -> Option<[Comparison; 4]> {
     Some(compare_parts(&first, &second))
 }
 
-fn compare_forms(first: &VoronoiEdge<'_>, second: &VoronoiEdge<'_>) -> [Comparison; 4] {
+fn compare_forms<V, DE, UE, F>(
+    first: &DirectedVoronoiEdge<'_, V, DE, UE, F>,
+    second: &DirectedVoronoiEdge<'_, V, DE, UE, F>,
+) -> [Comparison; 4] {
     [
         compare(first, second),
         compare(&first.as_undirected(), &second.as_undirected()),
@@ -72,7 +83,11 @@ fn compare_forms(first: &VoronoiEdge<'_>, second: &VoronoiEdge<'_>) -> [Comparis
 }
 
 /// The same of their Voronoi forms, and of the vertices that these start at.
-pub fn compare_voronoi(mesh: &Mesh, a: u32, b: u32) -> Option<[Comparison; 4]> {
+pub fn compare_voronoi<V, DE, UE, F>(
+    mesh: &Dcel<V, DE, UE, F>,
+    a: u32,
+    b: u32,
+) -> Option<[Comparison; 4]> {
     let Some(first) = edge_at(mesh, a) else {
         return None;
     };
@@ -86,7 +101,10 @@ fn print_part<T: Debug, N: Debug>(rt: &impl Print, part: &T, name: &N) -> io::Re
     println!(rt; "{part:?} {name:?}")
 }
 
-fn print_handles(rt: &impl Print, edge: &Edge<'_>) -> io::Result<()> {
+fn print_handles<V, DE, UE, F>(
+    rt: &impl Print,
+    edge: &DirectedEdgeHandle<'_, V, DE, UE, F>,
+) -> io::Result<()> {
     print_part(rt, edge, &edge.fix())?;
     let undirected = edge.as_undirected();
     print_part(rt, &undirected, &undirected.fix())?;
@@ -100,7 +118,10 @@ fn print_form<T: Debug>(rt: &impl Print, form: &T) -> io::Result<()> {
     println!(rt; "{form:?}")
 }
 
-fn print_voronoi_forms(rt: &impl Print, across: &VoronoiEdge<'_>) -> io::Result<()> {
+fn print_voronoi_forms<V, DE, UE, F>(
+    rt: &impl Print,
+    across: &DirectedVoronoiEdge<'_, V, DE, UE, F>,
+) -> io::Result<()> {
     print_form(rt, &across.as_undirected())?;
     print_form(rt, &across.face())?;
     print_form(rt, &across.to())
@@ -108,7 +129,11 @@ fn print_voronoi_forms(rt: &impl Print, across: &VoronoiEdge<'_>) -> io::Result<
 
 /// Prints an edge with its parts and its Voronoi forms, if it is there, and records that no other
 /// call prints.
-pub fn print_edge(rt: &impl Print, mesh: &Mesh, index: u32) -> io::Result<()> {
+pub fn print_edge<V, DE, UE, F>(
+    rt: &impl Print,
+    mesh: &Dcel<V, DE, UE, F>,
+    index: u32,
+) -> io::Result<()> {
     if let Some(edge) = edge_at(mesh, index) {
         print_handles(rt, &edge)?;
         print_voronoi_forms(rt, &edge.as_voronoi_edge())?;

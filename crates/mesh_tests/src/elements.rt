@@ -1,12 +1,12 @@
 //! What the elements of a mesh are, read through handles and by indexes.
 
 use crate::lookups::{
-    Edge, Mesh, directed, edge_at, has_edge, has_face, has_vertex, undirected_at, vertex as name,
+    directed, edge_at, has_edge, has_face, has_vertex, undirected_at, vertex as name,
 };
-use half_edge_mesh::{FaceHandle, FixedFaceHandle, HalfEdge, MeshViews};
+use half_edge_mesh::{Dcel, DirectedEdgeHandle, FaceHandle, FixedFaceHandle, HalfEdge, MeshViews};
 
 /// How many vertices, directed edges, undirected edges, inner faces and faces there are.
-pub fn counts(mesh: &Mesh) -> [usize; 5] {
+pub fn counts<V, DE, UE, F>(mesh: &Dcel<V, DE, UE, F>) -> [usize; 5] {
     [
         mesh.num_vertices(),
         mesh.num_directed_edges(),
@@ -17,7 +17,7 @@ pub fn counts(mesh: &Mesh) -> [usize; 5] {
 }
 
 /// The data of a vertex by its handle and by its name, and the start of the edge that it names.
-pub fn vertex(mesh: &Mesh, index: u32) -> Option<([u8; 2], Option<u32>)> {
+pub fn vertex<DE, UE, F>(mesh: &Dcel<u8, DE, UE, F>, index: u32) -> Option<([u8; 2], Option<u32>)> {
     let vertex = name(index);
     let Some(handle) = mesh.get_vertex(vertex) else {
         return None;
@@ -32,7 +32,7 @@ pub fn vertex(mesh: &Mesh, index: u32) -> Option<([u8; 2], Option<u32>)> {
 /// The start and the end of an edge, the start of the previous one, the next and the previous one,
 /// the other direction, the next ones round its start counterclockwise and clockwise, and the face
 /// on its left.
-pub fn directed_edge(mesh: &Mesh, index: u32) -> Option<[u32; 9]> {
+pub fn directed_edge<V, DE, UE, F>(mesh: &Dcel<V, DE, UE, F>, index: u32) -> Option<[u32; 9]> {
     let Some(edge) = edge_at(mesh, index) else {
         return None;
     };
@@ -49,7 +49,7 @@ pub fn directed_edge(mesh: &Mesh, index: u32) -> Option<[u32; 9]> {
     ])
 }
 
-fn opposite(edge: &Edge<'_>) -> Option<u32> {
+fn opposite<V, DE, UE, F>(edge: &DirectedEdgeHandle<'_, V, DE, UE, F>) -> Option<u32> {
     let Some(vertex) = edge.opposite_vertex() else {
         return None;
     };
@@ -57,7 +57,10 @@ fn opposite(edge: &Edge<'_>) -> Option<u32> {
 }
 
 /// Whether an edge is outer, the vertex opposite it, and both data of its ends.
-pub fn edge_kind(mesh: &Mesh, index: u32) -> Option<(bool, Option<u32>, [u8; 2])> {
+pub fn edge_kind<DE, UE, F>(
+    mesh: &Dcel<u8, DE, UE, F>,
+    index: u32,
+) -> Option<(bool, Option<u32>, [u8; 2])> {
     let Some(edge) = edge_at(mesh, index) else {
         return None;
     };
@@ -70,7 +73,10 @@ pub fn edge_kind(mesh: &Mesh, index: u32) -> Option<(bool, Option<u32>, [u8; 2])
 }
 
 /// An undirected edge's directed edge, ends and data.
-pub fn undirected_edge(mesh: &Mesh, index: u32) -> Option<(u32, [u32; 2], u32)> {
+pub fn undirected_edge<V, DE, F>(
+    mesh: &Dcel<V, DE, u32, F>,
+    index: u32,
+) -> Option<(u32, [u32; 2], u32)> {
     let Some(name) = undirected_at(mesh, index) else {
         return None;
     };
@@ -85,7 +91,7 @@ pub fn undirected_edge(mesh: &Mesh, index: u32) -> Option<(u32, [u32; 2], u32)> 
 }
 
 /// The data of an undirected edge and of both its directions, first the asked one.
-pub fn edge_data(mesh: &Mesh, index: u32) -> Option<(u32, [u16; 2])> {
+pub fn edge_data<V, F>(mesh: &Dcel<V, u16, u32, F>, index: u32) -> Option<(u32, [u16; 2])> {
     let Some(edge) = edge_at(mesh, index) else {
         return None;
     };
@@ -101,7 +107,7 @@ pub fn edge_data(mesh: &Mesh, index: u32) -> Option<(u32, [u16; 2])> {
 }
 
 /// The edges of an inner face by their indexes, and the data of its corners.
-fn corners(face: &FaceHandle<'_, u8, u16, u32, u64>) -> Option<([u32; 3], [u8; 3])> {
+fn corners<DE, UE, F>(face: &FaceHandle<'_, u8, DE, UE, F>) -> Option<([u32; 3], [u8; 3])> {
     if face.is_outer() {
         return None;
     }
@@ -115,7 +121,10 @@ fn corners(face: &FaceHandle<'_, u8, u16, u32, u64>) -> Option<([u32; 3], [u8; 3
 
 /// A face's data, by its handle and by its name, and for an inner one its edges and the data of its
 /// corners.
-pub fn face(mesh: &Mesh, index: u32) -> Option<(u64, u64, Option<([u32; 3], [u8; 3])>)> {
+pub fn face<DE, UE>(
+    mesh: &Dcel<u8, DE, UE, u64>,
+    index: u32,
+) -> Option<(u64, u64, Option<([u32; 3], [u8; 3])>)> {
     let name = FixedFaceHandle::from_index(index);
     if !has_face(mesh, name) {
         return None;
@@ -125,7 +134,11 @@ pub fn face(mesh: &Mesh, index: u32) -> Option<(u64, u64, Option<([u32; 3], [u8;
 }
 
 /// The edge from one vertex to another, and the one back.
-pub fn edges_between(mesh: &Mesh, from: u32, to: u32) -> Option<[u32; 2]> {
+pub fn edges_between<V, DE, UE, F>(
+    mesh: &Dcel<V, DE, UE, F>,
+    from: u32,
+    to: u32,
+) -> Option<[u32; 2]> {
     let (from, to) = (name(from), name(to));
     if !has_vertex(mesh, from) || !has_vertex(mesh, to) {
         return None;
@@ -141,7 +154,10 @@ pub fn edges_between(mesh: &Mesh, from: u32, to: u32) -> Option<[u32; 2]> {
 
 /// By indexes alone: start, next, previous and face of an edge, the start of the edge that its
 /// start names, and the face of the edge that its face names.
-pub fn links(mesh: &Mesh, index: u32) -> Option<([u32; 4], [Option<u32>; 2])> {
+pub fn links<V, DE, UE, F>(
+    mesh: &Dcel<V, DE, UE, F>,
+    index: u32,
+) -> Option<([u32; 4], [Option<u32>; 2])> {
     let edge = links_of(mesh, index)?;
     let parts = [
         origin_of(mesh, out_edge(mesh, edge.origin)),
@@ -150,7 +166,7 @@ pub fn links(mesh: &Mesh, index: u32) -> Option<([u32; 4], [Option<u32>; 2])> {
     Some(([edge.origin, edge.next, edge.prev, edge.face], parts))
 }
 
-fn links_of(mesh: &Mesh, index: u32) -> Option<HalfEdge> {
+fn links_of<V, DE, UE, F>(mesh: &Dcel<V, DE, UE, F>, index: u32) -> Option<HalfEdge> {
     let edge = directed(index);
     if !has_edge(mesh, edge) {
         return None;
@@ -158,15 +174,15 @@ fn links_of(mesh: &Mesh, index: u32) -> Option<HalfEdge> {
     Some(mesh.half_edge(edge.index()))
 }
 
-fn origin_of(mesh: &Mesh, edge: Option<u32>) -> Option<u32> {
+fn origin_of<V, DE, UE, F>(mesh: &Dcel<V, DE, UE, F>, edge: Option<u32>) -> Option<u32> {
     Some(links_of(mesh, edge?)?.origin)
 }
 
-fn face_of(mesh: &Mesh, edge: Option<u32>) -> Option<u32> {
+fn face_of<V, DE, UE, F>(mesh: &Dcel<V, DE, UE, F>, edge: Option<u32>) -> Option<u32> {
     Some(links_of(mesh, edge?)?.face)
 }
 
-fn out_edge(mesh: &Mesh, index: u32) -> Option<u32> {
+fn out_edge<V, DE, UE, F>(mesh: &Dcel<V, DE, UE, F>, index: u32) -> Option<u32> {
     let vertex = name(index);
     if !has_vertex(mesh, vertex) {
         return None;
@@ -174,7 +190,7 @@ fn out_edge(mesh: &Mesh, index: u32) -> Option<u32> {
     mesh.out_edge(vertex.index())
 }
 
-fn edge_of_face(mesh: &Mesh, face: u32) -> Option<u32> {
+fn edge_of_face<V, DE, UE, F>(mesh: &Dcel<V, DE, UE, F>, face: u32) -> Option<u32> {
     if face == 0 {
         return mesh.outer_edge();
     }

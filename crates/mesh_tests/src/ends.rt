@@ -1,13 +1,12 @@
 //! What the iterators of a mesh give from their far end, and how many items they have.
 
 use crate::iterators::count_of;
-use crate::lookups::Mesh;
-use half_edge_mesh::{MeshViews, VoronoiViews};
+use half_edge_mesh::{Dcel, MeshViews, VoronoiViews};
 use std::alloc::AllocError;
 
 /// How many vertices, directed edges, undirected edges, faces, inner faces, Voronoi faces, directed
 /// and undirected Voronoi edges are left.
-pub fn lengths(mesh: &Mesh) -> [usize; 8] {
+pub fn lengths<V, DE, UE, F>(mesh: &Dcel<V, DE, UE, F>) -> [usize; 8] {
     [
         mesh.vertices().len(),
         mesh.directed_edges().len(),
@@ -22,7 +21,7 @@ pub fn lengths(mesh: &Mesh) -> [usize; 8] {
 
 /// The index of the last vertex, directed edge, undirected edge, face, inner face and Voronoi face,
 /// and the last name of a vertex and of an undirected edge.
-pub fn lasts(mesh: &Mesh) -> [Option<u32>; 8] {
+pub fn lasts<V, DE, UE, F>(mesh: &Dcel<V, DE, UE, F>) -> [Option<u32>; 8] {
     [
         mesh.vertices().next_back().map(|vertex| vertex.index),
         mesh.directed_edges().next_back().map(|edge| edge.index),
@@ -43,7 +42,7 @@ pub fn lasts(mesh: &Mesh) -> [Option<u32>; 8] {
 
 /// How many directed edges are left after the first and the last, how many a copy made after the
 /// first has, and how many it gives; and how many a copy of the hull gives.
-pub fn copies(mesh: &Mesh) -> Result<[usize; 4], AllocError> {
+pub fn copies<V, DE, UE, F>(mesh: &Dcel<V, DE, UE, F>) -> Result<[usize; 4], AllocError> {
     let mut edges = mesh.directed_edges();
     let _first = edges.next();
     let copy = edges.clone()?;

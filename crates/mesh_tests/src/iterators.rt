@@ -1,8 +1,8 @@
 //! What the iterators of a mesh give.
 ghost use Rattle.std.specs.Iterator.{IsFinite};
 
-use crate::lookups::{Mesh, vertex};
-use half_edge_mesh::{AsVoronoiFace, MeshViews, VoronoiViews};
+use crate::lookups::vertex;
+use half_edge_mesh::{AsVoronoiFace, Dcel, MeshViews, VoronoiViews};
 
 /// How many items are given. No list here is so long that it saturates.
 pub fn count_of<T: Drop, I: Iterator<Item = T> + Drop>(items: I) -> usize
@@ -31,7 +31,7 @@ fn range<I: Iterator<Item = u32> + Drop>(indexes: I) -> [Option<u32>; 2]
 }
 
 /// How many edges the hull gives, and the greatest index of them.
-fn hull(mesh: &Mesh) -> (usize, Option<u32>) {
+fn hull<V, DE, UE, F>(mesh: &Dcel<V, DE, UE, F>) -> (usize, Option<u32>) {
     (
         count_of(mesh.convex_hull()),
         mesh.convex_hull().map(|edge| edge.index).max(),
@@ -40,7 +40,7 @@ fn hull(mesh: &Mesh) -> (usize, Option<u32>) {
 
 /// How many vertices, directed edges, undirected edges, faces, inner faces, Voronoi faces, directed
 /// and undirected Voronoi edges are given, and those of the hull.
-pub fn lists(mesh: &Mesh) -> ([usize; 8], (usize, Option<u32>)) {
+pub fn lists<V, DE, UE, F>(mesh: &Dcel<V, DE, UE, F>) -> ([usize; 8], (usize, Option<u32>)) {
     let counts = [
         count_of(mesh.vertices()),
         count_of(mesh.directed_edges()),
@@ -56,7 +56,7 @@ pub fn lists(mesh: &Mesh) -> ([usize; 8], (usize, Option<u32>)) {
 
 /// How many names of vertices, directed edges, undirected edges, faces and inner faces are given,
 /// and the first name of a face and of an inner one.
-pub fn names(mesh: &Mesh) -> ([usize; 5], [Option<u32>; 2]) {
+pub fn names<V, DE, UE, F>(mesh: &Dcel<V, DE, UE, F>) -> ([usize; 5], [Option<u32>; 2]) {
     let counts = [
         count_of(mesh.fixed_vertices()),
         count_of(mesh.fixed_directed_edges()),
@@ -73,7 +73,10 @@ pub fn names(mesh: &Mesh) -> ([usize; 5], [Option<u32>; 2]) {
 
 /// How many edges start at a vertex, how many edges its face of the Voronoi diagram has, and the
 /// least and the greatest index of a vertex where the former end.
-pub fn round(mesh: &Mesh, index: u32) -> Option<([usize; 2], [Option<u32>; 2])> {
+pub fn round<V, DE, UE, F>(
+    mesh: &Dcel<V, DE, UE, F>,
+    index: u32,
+) -> Option<([usize; 2], [Option<u32>; 2])> {
     let Some(vertex) = mesh.get_vertex(vertex(index)) else {
         return None;
     };

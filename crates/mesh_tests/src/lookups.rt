@@ -21,25 +21,28 @@ pub fn directed(index: u32) -> FixedDirectedEdgeHandle {
     FixedDirectedEdgeHandle::from_index(index)
 }
 
-pub fn has_vertex(mesh: &Mesh, vertex: FixedVertexHandle) -> bool
+pub fn has_vertex<V, DE, UE, F>(mesh: &Dcel<V, DE, UE, F>, vertex: FixedVertexHandle) -> bool
     ensures { IsTrue result ↔ (vertex < length mesh.now.vertices) }
 {
     (vertex.index() as usize) < mesh.num_vertices()
 }
 
-pub fn has_edge(mesh: &Mesh, edge: FixedDirectedEdgeHandle) -> bool
+pub fn has_edge<V, DE, UE, F>(mesh: &Dcel<V, DE, UE, F>, edge: FixedDirectedEdgeHandle) -> bool
     ensures { IsTrue result ↔ (edge < length mesh.now.directed) }
 {
     (edge.index() as usize) < mesh.num_directed_edges()
 }
 
-pub fn has_face(mesh: &Mesh, face: FixedFaceHandle) -> bool
+pub fn has_face<V, DE, UE, F>(mesh: &Dcel<V, DE, UE, F>, face: FixedFaceHandle) -> bool
     ensures { IsTrue result ↔ (face ≤ length mesh.now.faces) }
 {
     face.index() as usize <= mesh.num_inner_faces()
 }
 
-pub fn edge_at(mesh: &Mesh, index: u32) -> Option<Edge<'_>> {
+pub fn edge_at<V, DE, UE, F>(
+    mesh: &Dcel<V, DE, UE, F>,
+    index: u32,
+) -> Option<DirectedEdgeHandle<'_, V, DE, UE, F>> {
     let edge = directed(index);
     if !has_edge(mesh, edge) {
         return None;
@@ -48,7 +51,7 @@ pub fn edge_at(mesh: &Mesh, index: u32) -> Option<Edge<'_>> {
 }
 
 /// Whether an edge is there and has an inner face.
-pub fn is_inner(mesh: &Mesh, edge: FixedDirectedEdgeHandle) -> bool
+pub fn is_inner<V, DE, UE, F>(mesh: &Dcel<V, DE, UE, F>, edge: FixedDirectedEdgeHandle) -> bool
     ensures within { IsTrue result → edge < length mesh.now.directed }
     ensures inner { IsTrue result → 0 < face mesh.now.mesh edge }
 {
@@ -56,14 +59,17 @@ pub fn is_inner(mesh: &Mesh, edge: FixedDirectedEdgeHandle) -> bool
 }
 
 /// Whether an edge is there and has the outer face.
-pub fn is_outer(mesh: &Mesh, edge: FixedDirectedEdgeHandle) -> bool
+pub fn is_outer<V, DE, UE, F>(mesh: &Dcel<V, DE, UE, F>, edge: FixedDirectedEdgeHandle) -> bool
     ensures within { IsTrue result → edge < length mesh.now.directed }
     ensures outer { IsTrue result → face mesh.now.mesh edge ≡ 0 }
 {
     has_edge(mesh, edge) && mesh.directed_edge(edge).is_outer_edge()
 }
 
-pub fn undirected_at(mesh: &Mesh, index: u32) -> Option<FixedUndirectedEdgeHandle>
+pub fn undirected_at<V, DE, UE, F>(
+    mesh: &Dcel<V, DE, UE, F>,
+    index: u32,
+) -> Option<FixedUndirectedEdgeHandle>
     ensures { IfSome result (λ edge. edge < length mesh.now.undirected) }
 {
     if index as usize >= mesh.num_undirected_edges() {

@@ -4,10 +4,15 @@ ghost use Rattle.half_edge_mesh.specs.Mesh.{face, next, origin, prev, rev};
 ghost use Rattle.half_edge_mesh.specs.Peel.{turn};
 
 use crate::lookups::{Mesh, directed, has_edge, has_vertex, is_inner, is_outer, vertex};
-use half_edge_mesh::{FixedDirectedEdgeHandle, FixedVertexHandle, IsolateVertexResult, MeshViews};
+use half_edge_mesh::{
+    Dcel, FixedDirectedEdgeHandle, FixedVertexHandle, IsolateVertexResult, MeshViews,
+};
 
 /// The data of a vertex without edges, which is gone.
-pub fn swap_remove_vertex(mesh: &mut Mesh, index: u32) -> Option<u8> {
+pub fn swap_remove_vertex<V, DE: Drop, UE: Drop, F>(
+    mesh: &mut Dcel<V, DE, UE, F>,
+    index: u32,
+) -> Option<V> {
     let vertex = vertex(index);
     if !has_vertex(mesh, vertex) || mesh.vertex(vertex).out_edge().is_some() {
         return None;
@@ -17,7 +22,10 @@ pub fn swap_remove_vertex(mesh: &mut Mesh, index: u32) -> Option<u8> {
 
 /// The data of a vertex of a line, which is gone: it was between two others, or at an end of two
 /// edges or more.
-pub fn remove_when_degenerate(mesh: &mut Mesh, index: u32) -> Option<u8> {
+pub fn remove_when_degenerate<V, DE: Drop, UE: Drop, F>(
+    mesh: &mut Dcel<V, DE, UE, F>,
+    index: u32,
+) -> Option<V> {
     let vertex = vertex(index);
     match remove_from_line(mesh, vertex) {
         Some(data) => Some(data),
@@ -26,7 +34,10 @@ pub fn remove_when_degenerate(mesh: &mut Mesh, index: u32) -> Option<u8> {
 }
 
 // Removes a vertex that is between two others of a line.
-fn remove_from_line(mesh: &mut Mesh, vertex: FixedVertexHandle) -> Option<u8> {
+fn remove_from_line<V, DE: Drop, UE: Drop, F>(
+    mesh: &mut Dcel<V, DE, UE, F>,
+    vertex: FixedVertexHandle,
+) -> Option<V> {
     if mesh.num_inner_faces() > 0 || !has_vertex(mesh, vertex) {
         return None;
     }
@@ -41,7 +52,10 @@ fn remove_from_line(mesh: &mut Mesh, vertex: FixedVertexHandle) -> Option<u8> {
 }
 
 // Removes a vertex that is at an end of a line of two edges or more.
-fn remove_from_end_of_line(mesh: &mut Mesh, vertex: FixedVertexHandle) -> Option<u8> {
+fn remove_from_end_of_line<V, DE: Drop, UE: Drop, F>(
+    mesh: &mut Dcel<V, DE, UE, F>,
+    vertex: FixedVertexHandle,
+) -> Option<V> {
     if mesh.num_inner_faces() > 0 || !has_vertex(mesh, vertex) {
         return None;
     }
@@ -53,7 +67,10 @@ fn remove_from_end_of_line(mesh: &mut Mesh, vertex: FixedVertexHandle) -> Option
 }
 
 // The edge before a side that is there.
-fn edge_before(mesh: &Mesh, side: FixedDirectedEdgeHandle) -> Option<FixedDirectedEdgeHandle>
+fn edge_before<V, DE, UE, F>(
+    mesh: &Dcel<V, DE, UE, F>,
+    side: FixedDirectedEdgeHandle,
+) -> Option<FixedDirectedEdgeHandle>
     ensures within { IfSome result (λ _. side < length mesh.now.directed) }
     ensures before { IfSome result (λ edge. edge ≡ prev mesh.now.mesh side) }
 {
@@ -64,7 +81,7 @@ fn edge_before(mesh: &Mesh, side: FixedDirectedEdgeHandle) -> Option<FixedDirect
 }
 
 // Whether an edge has an inner face, as the only one between it and the next edge round its start.
-fn has_lone_face(mesh: &Mesh, edge: FixedDirectedEdgeHandle) -> bool
+fn has_lone_face<V, DE, UE, F>(mesh: &Dcel<V, DE, UE, F>, edge: FixedDirectedEdgeHandle) -> bool
     ensures inner { IsTrue result → 0 < face mesh.now.mesh edge }
     ensures outer { IsTrue result → face mesh.now.mesh (rev edge) ≡ 0 }
     ensures last { IsTrue result → face mesh.now.mesh (turn mesh.now.mesh edge) ≡ 0 }
@@ -77,7 +94,7 @@ fn has_lone_face(mesh: &Mesh, edge: FixedDirectedEdgeHandle) -> bool
 
 // Whether the outer face goes from an edge to the next one round its start, which is not the only
 // one at its end.
-fn leaves_more(mesh: &Mesh, edge: FixedDirectedEdgeHandle) -> bool
+fn leaves_more<V, DE, UE, F>(mesh: &Dcel<V, DE, UE, F>, edge: FixedDirectedEdgeHandle) -> bool
     ensures gap { let m = mesh.now.mesh in IsTrue result → next m (rev edge) ≡ turn m edge }
     ensures far { let m = mesh.now.mesh in
         IsTrue result → next m (turn m edge) ≢ rev (turn m edge) }
@@ -125,7 +142,10 @@ pub fn disconnect_edge_strip(mesh: &mut Mesh, side: u32) -> Option<u32> {
 }
 
 // An edge that starts at a vertex.
-fn out_edge(mesh: &Mesh, vertex: FixedVertexHandle) -> Option<FixedDirectedEdgeHandle>
+fn out_edge<V, DE, UE, F>(
+    mesh: &Dcel<V, DE, UE, F>,
+    vertex: FixedVertexHandle,
+) -> Option<FixedDirectedEdgeHandle>
     ensures within { IfSome result (λ edge. edge < length mesh.now.directed) }
     ensures starts { IfSome result (λ edge. origin mesh.now.mesh edge ≡ vertex) }
 {
@@ -142,8 +162,8 @@ fn out_edge(mesh: &Mesh, vertex: FixedVertexHandle) -> Option<FixedDirectedEdgeH
 }
 
 // The edges after an edge with an inner face, round its start and in that face.
-fn after(
-    mesh: &Mesh,
+fn after<V, DE, UE, F>(
+    mesh: &Dcel<V, DE, UE, F>,
     edge: FixedDirectedEdgeHandle,
 ) -> Option<(FixedDirectedEdgeHandle, FixedDirectedEdgeHandle)>
     ensures inner { IfSome result (λ _. 0 < face mesh.now.mesh edge) }
@@ -161,7 +181,11 @@ fn after(
 }
 
 // Whether two edges end at different vertices.
-fn end_apart(mesh: &Mesh, edge: FixedDirectedEdgeHandle, other: FixedDirectedEdgeHandle) -> bool
+fn end_apart<V, DE, UE, F>(
+    mesh: &Dcel<V, DE, UE, F>,
+    edge: FixedDirectedEdgeHandle,
+    other: FixedDirectedEdgeHandle,
+) -> bool
     ensures { let m = mesh.now.mesh in IsTrue result → origin m (rev other) ≢ origin m (rev edge) }
 {
     has_edge(mesh, edge)

@@ -45,26 +45,8 @@ type Large = [u64; 33554432];
 
 const MILLIONS: usize = 4000000;
 
-/// What a request for room tells, and how much there is after it.
+/// What a request for room tells, and how many elements there are after it.
 type Answer = (Result<(), ReserveError>, usize);
-
-fn ask_for_vertices(alloc: Global) -> Answer {
-    let mut mesh: Dcel<Large, u16, u32, u64> = Dcel::new(alloc);
-    let answer = mesh.reserve_capacity(MILLIONS, 0, 1);
-    (answer, mesh.num_vertices())
-}
-
-fn ask_for_directed_edges(alloc: Global) -> Answer {
-    let mut mesh: Dcel<u8, Large, u32, u64> = Dcel::new(alloc);
-    let answer = mesh.reserve_capacity(0, MILLIONS, 1);
-    (answer, mesh.num_directed_edges())
-}
-
-fn ask_for_undirected_edges(alloc: Global) -> Answer {
-    let mut mesh: Dcel<u8, u16, Large, u64> = Dcel::new(alloc);
-    let answer = mesh.reserve_capacity(0, MILLIONS, 1);
-    (answer, mesh.num_undirected_edges())
-}
 
 /// 64 KB of data of a face, so that a thousand million of them and more fit nowhere.
 #[derive(Clone, Copy)]
@@ -76,10 +58,17 @@ impl Default for LargeFace {
     }
 }
 
-fn ask_for_faces(alloc: Global) -> Answer {
-    let mut mesh: Dcel<u8, u16, u32, LargeFace> = Dcel::new(alloc);
-    let answer = mesh.reserve_capacity(0, 0, MAX_ELEMENTS);
-    (answer, mesh.num_inner_faces())
+fn ask<V: Drop, DE: Drop, UE: Drop, F: Default + Drop>(
+    alloc: Global,
+    [vertices, edges, faces]: [usize; 3],
+) -> Answer {
+    let mut mesh: Dcel<V, DE, UE, F> = Dcel::new(alloc);
+    let answer = mesh.reserve_capacity(vertices, edges, faces);
+    let count = mesh
+        .num_vertices()
+        .saturating_add(mesh.num_directed_edges())
+        .saturating_add(mesh.num_inner_faces());
+    (answer, count)
 }
 
 fn ask_for_mesh(alloc: Global) -> Answer {
@@ -93,10 +82,10 @@ fn ask_for_mesh(alloc: Global) -> Answer {
 pub fn large_data(alloc: Global) -> [Answer; 5] {
     [
         ask_for_mesh(alloc),
-        ask_for_vertices(alloc),
-        ask_for_directed_edges(alloc),
-        ask_for_undirected_edges(alloc),
-        ask_for_faces(alloc),
+        ask::<Large, u16, u32, u64>(alloc, [MILLIONS, 0, 1]),
+        ask::<u8, Large, u32, u64>(alloc, [0, MILLIONS, 1]),
+        ask::<u8, u16, Large, u64>(alloc, [0, MILLIONS, 1]),
+        ask::<u8, u16, u32, LargeFace>(alloc, [0, 0, MAX_ELEMENTS]),
     ]
 }
 

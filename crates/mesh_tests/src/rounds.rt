@@ -1,19 +1,22 @@
 //! What rounds give from behind, and from both ends in turn.
 
-use crate::lookups::{Edge, Mesh, VoronoiEdge, vertex};
-use half_edge_mesh::{AsVoronoiFace, MeshViews};
+use crate::lookups::vertex;
+use half_edge_mesh::{AsVoronoiFace, Dcel, DirectedEdgeHandle, DirectedVoronoiEdge, MeshViews};
 
-fn index(edge: Option<Edge<'_>>) -> Option<u32> {
+fn index<V, DE, UE, F>(edge: Option<DirectedEdgeHandle<'_, V, DE, UE, F>>) -> Option<u32> {
     edge.map(|edge| edge.index)
 }
 
-fn across(edge: Option<VoronoiEdge<'_>>) -> Option<u32> {
+fn across<V, DE, UE, F>(edge: Option<DirectedVoronoiEdge<'_, V, DE, UE, F>>) -> Option<u32> {
     edge.map(|edge| edge.as_delaunay_edge().index)
 }
 
 /// What four calls from behind give of the edges of a vertex, of the hull, and of the vertex's face
 /// of the Voronoi diagram.
-pub fn from_behind(mesh: &Mesh, name: u32) -> Option<[[Option<u32>; 4]; 3]> {
+pub fn from_behind<V, DE, UE, F>(
+    mesh: &Dcel<V, DE, UE, F>,
+    name: u32,
+) -> Option<[[Option<u32>; 4]; 3]> {
     let Some(vertex) = mesh.get_vertex(vertex(name)) else {
         return None;
     };
@@ -43,7 +46,10 @@ pub fn from_behind(mesh: &Mesh, name: u32) -> Option<[[Option<u32>; 4]; 3]> {
 }
 
 /// The same of five calls, the first, third and fifth from the front.
-pub fn from_both_ends(mesh: &Mesh, name: u32) -> Option<[[Option<u32>; 5]; 3]> {
+pub fn from_both_ends<V, DE, UE, F>(
+    mesh: &Dcel<V, DE, UE, F>,
+    name: u32,
+) -> Option<[[Option<u32>; 5]; 3]> {
     let Some(vertex) = mesh.get_vertex(vertex(name)) else {
         return None;
     };

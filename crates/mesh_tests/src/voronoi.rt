@@ -1,17 +1,17 @@
 //! The Voronoi forms of a mesh, by the indexes of what they are forms of.
 
-use crate::lookups::{Mesh, VoronoiEdge, edge_at, has_face, undirected_at, vertex};
+use crate::lookups::{edge_at, has_face, undirected_at, vertex};
 use half_edge_mesh::{
-    AsVoronoiEdge, AsVoronoiFace, AsVoronoiVertex, FixedFaceHandle, MeshViews, VoronoiVertex,
-    VoronoiViews,
+    AsVoronoiEdge, AsVoronoiFace, AsVoronoiVertex, Dcel, DirectedVoronoiEdge, FixedFaceHandle,
+    MeshViews, VoronoiVertex, VoronoiViews,
 };
 
-fn index_of(edge: &VoronoiEdge<'_>) -> u32 {
+fn index_of<V, DE, UE, F>(edge: &DirectedVoronoiEdge<'_, V, DE, UE, F>) -> u32 {
     edge.as_delaunay_edge().index
 }
 
 /// The face that a vertex is the centre of, if it is of one, and an edge out of it.
-fn centre(vertex: &VoronoiVertex<'_, u8, u16, u32, u64>) -> (Option<u32>, Option<u32>) {
+fn centre<V, DE, UE, F>(vertex: &VoronoiVertex<'_, V, DE, UE, F>) -> (Option<u32>, Option<u32>) {
     (
         vertex.as_delaunay_face().map(|face| face.index),
         vertex.out_edge().map(|edge| index_of(&edge)),
@@ -20,7 +20,7 @@ fn centre(vertex: &VoronoiVertex<'_, u8, u16, u32, u64>) -> (Option<u32>, Option
 
 /// The other direction, the next and the previous edge, the undirected one and the face of an
 /// edge's Voronoi form.
-fn beside(edge: &VoronoiEdge<'_>) -> [u32; 5] {
+fn beside<V, DE, UE, F>(edge: &DirectedVoronoiEdge<'_, V, DE, UE, F>) -> [u32; 5] {
     [
         index_of(&edge.rev()),
         index_of(&edge.next()),
@@ -31,8 +31,8 @@ fn beside(edge: &VoronoiEdge<'_>) -> [u32; 5] {
 }
 
 /// The same, and where it starts and ends.
-pub fn voronoi_edge(
-    mesh: &Mesh,
+pub fn voronoi_edge<V, DE, UE, F>(
+    mesh: &Dcel<V, DE, UE, F>,
     index: u32,
 ) -> Option<([u32; 5], [(Option<u32>, Option<u32>); 2])> {
     let Some(edge) = edge_at(mesh, index) else {
@@ -46,8 +46,8 @@ pub fn voronoi_edge(
 }
 
 /// The first direction of the Voronoi form of an undirected edge, and its ends.
-pub fn undirected_voronoi_edge(
-    mesh: &Mesh,
+pub fn undirected_voronoi_edge<V, DE, UE, F>(
+    mesh: &Dcel<V, DE, UE, F>,
     index: u32,
 ) -> Option<(u32, [(Option<u32>, Option<u32>); 2])> {
     let Some(name) = undirected_at(mesh, index) else {
@@ -62,7 +62,7 @@ pub fn undirected_voronoi_edge(
 }
 
 /// The edges out of the Voronoi vertex of an inner face.
-pub fn voronoi_vertex(mesh: &Mesh, index: u32) -> Option<[u32; 3]> {
+pub fn voronoi_vertex<V, DE, UE, F>(mesh: &Dcel<V, DE, UE, F>, index: u32) -> Option<[u32; 3]> {
     let name = FixedFaceHandle::from_index(index);
     if name.is_outer() || !has_face(mesh, name) {
         return None;
@@ -73,7 +73,10 @@ pub fn voronoi_vertex(mesh: &Mesh, index: u32) -> Option<[u32; 3]> {
 
 /// The vertex of a Voronoi face and the first edge round it; then the first of all faces and of all
 /// edges.
-pub fn voronoi_face(mesh: &Mesh, index: u32) -> Option<[Option<u32>; 4]> {
+pub fn voronoi_face<V, DE, UE, F>(
+    mesh: &Dcel<V, DE, UE, F>,
+    index: u32,
+) -> Option<[Option<u32>; 4]> {
     let Some(vertex) = mesh.get_vertex(vertex(index)) else {
         return None;
     };
