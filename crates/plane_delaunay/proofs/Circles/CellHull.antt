@@ -72,16 +72,9 @@ difference-middle : (a b c d e f u v w : Fraction) → difference a b c d e f (m
     ≡ difference a b c d e f u +ℤ difference a b c d e f v +ℤ difference a b c d e f w
 unfolding middle
 difference-middle a b c d e f u v w =
-    sum _ _ (g u) (g v) (g w) (form-nudge g m 1 (nudge 1 u v) w) (form-nudge g m 1 u v)
-  where
-    g : Fraction → ℤ
-    g = difference a b c d e f
-
-    m : IsForm (difference a b c d e f)
-    m = difference_form a b c d e f
-
-    sum : (x y a b c : ℤ) → x ≡ pos 1 *ℤ y +ℤ c → y ≡ pos 1 *ℤ a +ℤ b → x ≡ a +ℤ b +ℤ c
-    sum x y a b c e d = omega (arith, ints)
+    let m = difference_form a b c d e f in
+    let x = form-nudge (difference a b c d e f) m 1 (nudge 1 u v) w in
+    let y = form-nudge (difference a b c d e f) m 1 u v in omega (arith, ints)
 
 -- a vertex that the circle of a b c carries and the circle of d e f has not inside
 difference-least : (a b c d e f q : Fraction) → pos 0 <ℤ bracket a b c → lift a b c q ≡ pos 0
