@@ -410,7 +410,8 @@ pub trait Triangulation: Drop
         self.s().undirected_edge(edge)
     }
 
-    /// The edge from one vertex to another, if they are joined.
+    /// The edge from one vertex, which has to be one of this triangulation, to another, if they are
+    /// joined. A handle of no vertex is joined to none.
     ///
     /// ```
     /// if let Some(edge) = points.get_edge_from_neighbors(first, second) {
