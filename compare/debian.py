@@ -1,0 +1,58 @@
+"""Debian's own Python with what a checker of the Python package imports, and the shared library.
+
+The packages are installed where that may be done (as root, by apt-get).
+"""
+import fcntl
+import os
+import shutil
+import subprocess
+import sys
+import tempfile
+
+HERE = os.path.dirname(os.path.realpath(__file__))
+PACKAGE = f"{HERE}/../python"
+LIBRARY = os.path.realpath(f"{HERE}/../c/libtevasulim.so")
+# Not the first one on the path: Debian's packages are for this one alone.
+PYTHON = "/usr/bin/python3"
+
+
+def lacking(modules):
+    """Those of some modules that cannot be imported."""
+    tried = {
+        it: subprocess.run([PYTHON, "-c", f"import {it}"], capture_output=True) for it in modules
+    }
+    return [it for it in modules if tried[it].returncode]
+
+
+def prepare(*modules):
+    """Installs Debian's packages of modules that are not there, or says what lacks."""
+    if not os.path.exists(PYTHON):
+        sys.exit(f"{PYTHON} is needed (Debian: python3)")
+    # Another checker may install at the same time.
+    with open(f"{tempfile.gettempdir()}/tevasulim-packages.{os.getuid()}", "w") as lock:
+        fcntl.flock(lock, fcntl.LOCK_EX)
+        packages = [f"python3-{it}" for it in lacking(modules)]
+        if packages and not os.geteuid() and shutil.which("apt-get"):
+            how = {"stdout": subprocess.DEVNULL, "check": False}
+            subprocess.run(["apt-get", "update"], **how)
+            subprocess.run(
+                ["apt-get", "install", "-y", "--no-install-recommends", *packages], **how
+            )
+            packages = [f"python3-{it}" for it in lacking(modules)]
+    if packages:
+        sys.exit(f"{PYTHON} lacks modules (Debian: {' '.join(packages)})")
+
+
+def environment():
+    """What a process has to have that imports the package from this repository."""
+    library = os.environ.get("TEVASULIM_LIBRARY") or LIBRARY
+    if not os.path.exists(library):
+        sys.exit(f"there is no {os.path.relpath(library)}: README.md says how it is built")
+    more = {"TEVASULIM_LIBRARY": library, "PYTHONPATH": f"{PACKAGE}:{HERE}"}
+    return {**os.environ, **more, "PYTHONDONTWRITEBYTECODE": "1"}
+
+
+def run(*words, **more):
+    """Runs Debian's Python, and gives whether it was content."""
+    sys.stdout.flush()
+    return subprocess.run([PYTHON, *words], env=environment(), **more).returncode == 0
