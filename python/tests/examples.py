@@ -10,6 +10,7 @@ MODULES = [
     "tevasulim._numbers",
     "tevasulim._order",
     "tevasulim.triangulation",
+    "tevasulim.tiles",
 ]
 
 

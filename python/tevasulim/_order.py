@@ -1,4 +1,4 @@
-"""An order of points in which each search begins near its end."""
+"""Orders of points in which each search begins near its end."""
 from __future__ import annotations
 
 import numpy as np
@@ -7,6 +7,9 @@ from ._library import MOST
 
 # Fewer points are taken in their own order.
 FEW = 32
+# The last round of an insertion has so many times the points before it, and so on, down to about
+# so many.
+TIMES, FIRST = 8, 1000
 MASKS = (
     (16, 0x0000_FFFF_0000_FFFF),
     (8, 0x00FF_00FF_00FF_00FF),
@@ -36,3 +39,17 @@ def near_order(points: np.ndarray) -> np.ndarray:
     moved = points.astype(np.int64) + MOST
     keys = spread(moved[:, 0]) | spread(moved[:, 1]) << np.uint64(1)
     return np.argsort(keys, kind="stable")
+
+
+def rounds_order(points: np.ndarray) -> np.ndarray:
+    """Rows of points of shape (n, 2) in an order to insert them: in rounds of more and more, each
+    picked blindly, but always the same, from all over the plane, and each in near order. So no
+    order and no distribution of points makes many flips."""
+    ends = [len(points)]
+    while ends[-1] > FIRST:
+        ends.append(ends[-1] // TIMES)
+    if len(ends) == 1:
+        return near_order(points)
+    rows = np.random.default_rng(0).permutation(len(points))
+    parts = np.split(rows, ends[:0:-1])
+    return np.concatenate([part[near_order(points[part])] for part in parts])

@@ -13,7 +13,7 @@ from . import _library as library
 from ._faces import faces_of_edges, faces_of_vertices, outline
 
 from ._numbers import checked_scale, coordinates, index_array, one_point, point_list, squared
-from ._order import near_order
+from ._order import near_order, rounds_order
 from .errors import NoSuchPointError, NoSuchVertexError
 
 __all__ = ["Triangulation", "Place", "Places", "Met", "Meeting"]
@@ -201,23 +201,29 @@ class Triangulation:
         with self._lock:
             self._reserve(len(array))
             try:
-                vertices = self._of_each("insert_all", array, 1)[:, 0]
+                vertices = self._of_each("insert_all", array, rounds_order(array), 1)[:, 0]
             except MemoryError:
                 self._is_behind = True
                 self._made.clear()
                 raise
             return self._note(array, vertices)
 
-    def _of_each(self, name: str, points: np.ndarray, columns: int) -> np.ndarray:
-        """What a call of the library gives for each of some points, of so many 32-bit columns.
-        Neighbours are handed to it after each other."""
-        order = near_order(points)
+    def _of_each(
+        self, name: str, points: np.ndarray, order: np.ndarray, columns: int
+    ) -> np.ndarray:
+        """What a call of the library gives for each of some points, of so many 32-bit columns,
+        which it is handed in an order of its own."""
         ordered = np.ascontiguousarray(points[order])
         found = np.empty((max(len(points), 1), columns), np.uint32)
         self._call(name, *library.rows(ordered), found.ctypes.data, len(points))
         given = np.empty((len(points), columns), np.uint32)
         given[order] = found[: len(points)]
         return given
+
+    def _near(self, name: str, points: np.ndarray, columns: int) -> np.ndarray:
+        """The same of points of any shape, in near order."""
+        flat = points.reshape(-1, 2)
+        return self._of_each(name, flat, near_order(flat), columns)
 
     def _catch_up(self) -> None:
         """Notes the vertices that a refused insertion left."""
@@ -545,7 +551,7 @@ class Triangulation:
         """
         array = coordinates(xi, self._scale)
         with self._lock:
-            found = self._of_each("locate", array.reshape(-1, 2), 2)
+            found = self._near("locate", array, 2)
             at_vertex = found[:, 0] == Place.ON_VERTEX
             index = found[:, 1].astype(np.int32)
             index[at_vertex] = self._named(found[at_vertex, 1])
@@ -561,7 +567,7 @@ class Triangulation:
         """
         array = coordinates(xi, self._scale)
         with self._lock:
-            found = self._of_each("locate", array.reshape(-1, 2), 2)
+            found = self._near("locate", array, 2)
             kinds, index = found[:, 0], found[:, 1].astype(np.int32)
             at_vertex, on_edge = kinds == Place.ON_VERTEX, kinds == Place.ON_EDGE
             faces = np.where(kinds == Place.IN_FACE, index, np.int32(-1))
@@ -583,7 +589,7 @@ class Triangulation:
         """
         array = coordinates(xi, self._scale)
         with self._lock:
-            found = self._of_each("nearest", array.reshape(-1, 2), 1)
+            found = self._near("nearest", array, 1)
             return self._named(found[:, 0]).reshape(array.shape[:-1])[()]
 
     def line(self, start: Any, end: Any) -> List[Meeting]:
