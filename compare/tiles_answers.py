@@ -115,7 +115,7 @@ def main():
     room = tempfile.TemporaryDirectory()
     folder = f"{room.name}/tiles"
     os.mkdir(folder)
-    local = {"host": "127.0.0.1", "dashboard_address": None, "local_directory": room.name}
+    local = {"host": "127.0.0.1", "dashboard_address": "127.0.0.1:0", "local_directory": room.name}
     local.update({"n_workers": WORKERS, "threads_per_worker": 1, "silence_logs": 50})
     with room, LocalCluster(**local) as cluster, Client(cluster) as client:
         for number, make in enumerate((random_points, clustered, grid, line)):

@@ -63,7 +63,7 @@ def main(words):
     workers, limit = (*map(int, words[3:]), *(4, 1000)[len(words) - 3 :])
     with tempfile.TemporaryDirectory() as folder:
         names = parts_in(folder, kind, count)
-        local = {"host": "127.0.0.1", "dashboard_address": None, "local_directory": folder}
+        local = {"host": "127.0.0.1", "dashboard_address": "127.0.0.1:0", "local_directory": folder}
         local.update(
             {"n_workers": workers, "threads_per_worker": 1, "memory_limit": limit * 2**20}
         )

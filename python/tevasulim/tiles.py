@@ -127,7 +127,7 @@ def triangulate_tiles(
         The number of a point is its row in all parts after each other. Coordinates are whole
         numbers from -2**29 to 2**29.
     tile_size : int
-        About how many points a tile has. A worker needs some 600 bytes for each.
+        About how many points a tile has. A worker needs about 1000 bytes for each.
     client : distributed.Client or concurrent.futures.Executor, optional
         What runs the tasks; without one, this process. A task that failed is run again.
     folder : str, optional

@@ -14,9 +14,12 @@ from ._faces import faces_of_edges, faces_of_vertices, outline
 
 from ._numbers import checked_scale, coordinates, index_array, one_point, point_list, squared
 from ._order import near_order, rounds_order
-from .errors import NoSuchPointError, NoSuchVertexError
+from .errors import NoSuchPointError, NoSuchVertexError, OutOfIndexesError
 
 __all__ = ["Triangulation", "Place", "Places", "Met", "Meeting"]
+
+# How many points can have numbers, as `int32`.
+MANY = 2**31 - 1
 
 
 class Place(IntEnum):
@@ -101,14 +104,7 @@ class Triangulation:
         self._lock = threading.RLock()
         self._made: dict = {}
         self._scale = checked_scale(scale)
-        # Of each point its coordinates and the first one that is equal; of that one the vertex.
-        self._points = np.empty((0, 2), np.int32)
-        self._firsts = np.empty(0, np.int64)
-        self._vertices = np.empty(0, np.int64)
-        self._size = 0
-        # Of each vertex the number of its point.
-        self._numbers = np.empty(0, np.int64)
-        self._count = 0
+        self._forget()
         # Whether the library has vertices that are not noted here.
         self._is_behind = False
         kind = library.PLAIN if segments is None else library.CONSTRAINED
@@ -121,6 +117,18 @@ class Triangulation:
         except BaseException:
             self.close()
             raise
+
+    def _forget(self) -> None:
+        """Knows no point."""
+        # Of each point its coordinates and the first one that is equal; of that one the vertex.
+        self._points = np.empty((0, 2), np.int32)
+        self._firsts = np.empty(0, np.int32)
+        self._vertices = np.empty(0, np.int32)
+        self._size = 0
+        # Of each vertex the number of its point.
+        self._numbers = np.empty(0, np.int32)
+        self._count = 0
+        self._made.clear()
 
     # Its life.
 
@@ -156,14 +164,13 @@ class Triangulation:
         """
         with self._lock:
             library.LIBRARY.tevasulim_close(byref(self._mesh))
-            self._made.clear()
+            self._forget()
 
     def clear(self) -> None:
         """Removes each point and constraint. Numbers begin with 0 again."""
         with self._lock:
             self._call("clear")
-            self._size = self._count = 0
-            self._made.clear()
+            self._forget()
 
     def _call(self, name: str, *words: Any) -> None:
         if self._is_behind:
@@ -194,8 +201,8 @@ class Triangulation:
         Where the library lacks memory or indexes on the way, some of the points may be there: they
         have numbers of their own then, after all others.
 
-        >>> Triangulation().insert_all([(0, 0), (4, 0), (0, 0), (1, 3)])
-        array([0, 1, 0, 3])
+        >>> Triangulation().insert_all([(0, 0), (4, 0), (0, 0), (1, 3)]).tolist()
+        [0, 1, 0, 3]
         """
         array = point_list(points, self._scale)
         with self._lock:
@@ -239,8 +246,10 @@ class Triangulation:
     def _reserve(self, count: int) -> None:
         """Makes room for so many points more."""
         room = self._size + count
+        if room > MANY:
+            raise OutOfIndexesError(f"at most {MANY} points are numbered, not {room}")
         if room > len(self._points):
-            room = max(room, 2 * self._size)
+            room = max(room, min(2 * self._size, MANY))
             for name in "_points", "_firsts", "_vertices", "_numbers":
                 old = getattr(self, name)
                 new = np.empty((room, *old.shape[1:]), old.dtype)
@@ -366,13 +375,16 @@ class Triangulation:
             self._call("allow_constraints")
             self._is_constrained = True
 
+    def _stop_if_closed(self) -> None:
+        if not self._mesh.is_open:
+            raise library.error_of(1)
+
     # Numbers and vertices.
 
     def _vertex(self, number: int) -> int:
         """The vertex of a point."""
         number = operator.index(number)
-        if not self._mesh.is_open:
-            raise library.error_of(1)
+        self._stop_if_closed()
         vertex = self._vertices[self._firsts[number]] if 0 <= number < self._size else -1
         if vertex < 0:
             raise NoSuchVertexError(f"no point has the number {number}")
@@ -380,6 +392,7 @@ class Triangulation:
 
     def _vertices_of(self, numbers: np.ndarray, error: type) -> np.ndarray:
         """The vertices of points; `error` is raised for the first that is not there."""
+        self._stop_if_closed()
         is_known = (numbers >= 0) & (numbers < self._size)
         vertices = np.full(numbers.shape, -1, np.int64)
         vertices[is_known] = self._vertices[self._firsts[numbers[is_known]]]
@@ -394,14 +407,14 @@ class Triangulation:
         if not self._count:
             return np.full(vertices.shape, -1, np.int32)
         is_none = vertices == library.NONE
-        return np.where(is_none, -1, self._numbers[np.where(is_none, 0, vertices)]).astype(np.int32)
+        numbers = self._numbers[np.where(is_none, 0, vertices)]
+        return np.where(is_none, np.int32(-1), numbers)
 
     # All of it.
 
     def _once(self, name: str, make: Any) -> Any:
         with self._lock:
-            if not self._mesh.is_open:
-                raise library.error_of(1)
+            self._stop_if_closed()
             if self._is_behind:
                 self._catch_up()
             if name not in self._made:
@@ -420,16 +433,16 @@ class Triangulation:
     def _faces(self) -> Tuple[np.ndarray, np.ndarray, np.ndarray]:
         def make() -> Tuple[np.ndarray, np.ndarray, np.ndarray]:
             faces = self._list("faces", 9, 2 * self._count)
-            corners = self._numbers[faces[:, :3]].astype(np.int32)
-            return corners, faces[:, 3:6].astype(np.int32), faces[:, 6:] != 0
+            corners, neighbors = self._numbers[faces[:, :3]], faces[:, 3:6].astype(np.int32)
+            return corners, neighbors, faces[:, 6:] != 0
 
         return self._once("faces", make)
 
     def _edges(self) -> np.ndarray:
         def make() -> np.ndarray:
-            edges = self._list("edges", 3, 3 * self._count).astype(np.int64)
+            edges = self._list("edges", 3, 3 * self._count)
             edges[:, :2] = self._numbers[edges[:, :2]]
-            return edges.astype(np.int32)
+            return edges.view(np.int32)
 
         return self._once("edges", make)
 
@@ -503,7 +516,7 @@ class Triangulation:
             return self.convex_hull[:, 0]
         numbers = self._numbers[: self._count]
         ordered = numbers[np.lexsort(self._points[numbers].T[::-1])]
-        return ordered[[0, -1] if self._count > 1 else [0]].astype(np.int32)
+        return ordered[[0, -1] if self._count > 1 else [0]]
 
     @property
     def num_vertices(self) -> int:
