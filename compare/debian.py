@@ -14,6 +14,8 @@ PACKAGE = f"{HERE}/../python"
 LIBRARY = os.path.realpath(f"{HERE}/../c/libtevasulim.so")
 # Not the first one on the path: Debian's packages are for this one alone.
 PYTHON = "/usr/bin/python3"
+# The shared library, once it is known.
+LIBRARIES = []
 
 
 def lacking(modules):
@@ -29,26 +31,42 @@ def prepare(*modules):
     if not os.path.exists(PYTHON):
         sys.exit(f"{PYTHON} is needed (Debian: python3)")
     # Another checker may install at the same time.
-    with open(f"{tempfile.gettempdir()}/tevasulim-packages.{os.getuid()}", "w") as lock:
-        fcntl.flock(lock, fcntl.LOCK_EX)
+    with alone("packages"):
         packages = [f"python3-{it}" for it in lacking(modules)]
         if packages and not os.geteuid() and shutil.which("apt-get"):
-            how = {"stdout": subprocess.DEVNULL, "check": False}
-            subprocess.run(["apt-get", "update"], **how)
-            subprocess.run(
-                ["apt-get", "install", "-y", "--no-install-recommends", *packages], **how
-            )
+            install = ["apt-get", "install", "-y", "--no-install-recommends", *packages]
+            for words in ["apt-get", "update"], install:
+                subprocess.run(words, stdout=subprocess.DEVNULL, check=False)
             packages = [f"python3-{it}" for it in lacking(modules)]
     if packages:
         sys.exit(f"{PYTHON} lacks modules (Debian: {' '.join(packages)})")
 
 
+def alone(name):
+    """A lock that one process of this user has at a time."""
+    lock = open(f"{tempfile.gettempdir()}/tevasulim-{name}.{os.getuid()}", "w")
+    fcntl.flock(lock, fcntl.LOCK_EX)
+    return lock
+
+
+def shared_library():
+    """The shared library: what the first word of the checker or TEVASULIM_LIBRARY names, or else
+    the one of this repository, made over the libraries that the gate has built."""
+    named = "".join(sys.argv[1:2]) or os.environ.get("TEVASULIM_LIBRARY")
+    if not named:
+        with alone("library"):
+            subprocess.run(["make", "-s", "-C", os.path.dirname(LIBRARY)], check=True)
+    library = os.path.realpath(named or LIBRARY)
+    if not os.path.exists(library):
+        sys.exit(f"there is no {library}")
+    return library
+
+
 def environment():
     """What a process has to have that imports the package from this repository."""
-    library = os.environ.get("TEVASULIM_LIBRARY") or LIBRARY
-    if not os.path.exists(library):
-        sys.exit(f"there is no {os.path.relpath(library)}: README.md says how it is built")
-    more = {"TEVASULIM_LIBRARY": library, "PYTHONPATH": f"{PACKAGE}:{HERE}"}
+    if not LIBRARIES:
+        LIBRARIES.append(shared_library())
+    more = {"TEVASULIM_LIBRARY": LIBRARIES[0], "PYTHONPATH": f"{PACKAGE}:{HERE}"}
     return {**os.environ, **more, "PYTHONDONTWRITEBYTECODE": "1"}
 
 

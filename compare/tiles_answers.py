@@ -12,7 +12,7 @@ import numpy as np
 from distributed import Client, LocalCluster
 
 from geometry import in_circle
-from tevasulim import Triangulation
+from tevasulim import NotWholeError, TooLargeError, Triangulation
 from tevasulim.tiles import triangulate_tiles
 
 MOST = 2**29
@@ -93,6 +93,57 @@ def check(points, tiles, client, folder, wanted):
     assert os.listdir(folder) == ["part.npy"]
 
 
+def check_few():
+    """Few points, many of them on one circle or one line or equal, in tiles of few, in this
+    process."""
+    draw, count = np.random.default_rng(7), 0
+    for reach in (1, 2, 3, 5, MOST) * 30:
+        points = draw.integers(-reach, reach + 1, (draw.integers(0, 25), 2))
+        if draw.integers(3) == 0:
+            points[:, 1] = points[:, 0]
+        wanted = cells_of_all(points)
+        parts = np.array_split(points, draw.integers(1, 4))
+        found = triangulate_tiles(parts, int(draw.integers(1, 8)))
+        assert np.array_equal(rows_in_order(np.concatenate(found.cells)), wanted), points.tolist()
+        count += len(wanted)
+    assert count > 1000
+    print(f"few points: {count} cells as in one")
+
+
+def check_refusals():
+    """What is handed in wrongly is refused, and nothing is left."""
+    with tempfile.TemporaryDirectory() as folder:
+        np.save(f"{folder}/far.npy", [(0, 0), (MOST + 1, 0)])
+        np.save(f"{folder}/floats.npy", [(0.5, 0)])
+        np.save(f"{folder}/three.npy", [(0, 0, 0)])
+        with open(f"{folder}/text.npy", "w") as file:
+            file.write("no array")
+        kept = sorted(os.listdir(folder))
+        for name, error in ("far", TooLargeError), ("floats", NotWholeError), ("three", ValueError):
+            try:
+                triangulate_tiles([[(0, 0)], f"{folder}/{name}.npy"], 10, None, folder)
+            except error as found:
+                assert name in str(found) and (name != "far" or found.index == 1)
+            else:
+                raise AssertionError(name)
+        for part in f"{folder}/text.npy", f"{folder}/nowhere.npy", 3, [(0, 2**64)], ["a"]:
+            try:
+                triangulate_tiles([part], 10, None, folder)
+            except (ValueError, TypeError, OSError):
+                pass
+            else:
+                raise AssertionError(part)
+        for size in 0, -1:
+            try:
+                triangulate_tiles([[(0, 0)]], size)
+            except ValueError:
+                continue
+            raise AssertionError(size)
+        assert sorted(os.listdir(folder)) == kept
+    assert triangulate_tiles([], 5).cells[0].shape == (0, 3)
+    print("what is handed in wrongly is refused")
+
+
 class Ending(threading.Thread):
     """Ends a worker as soon as some cells are there and others are not."""
 
@@ -112,6 +163,8 @@ class Ending(threading.Thread):
 
 
 def main():
+    check_few()
+    check_refusals()
     room = tempfile.TemporaryDirectory()
     folder = f"{room.name}/tiles"
     os.mkdir(folder)

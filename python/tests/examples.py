@@ -9,6 +9,7 @@ MODULES = [
     "tevasulim._library",
     "tevasulim._numbers",
     "tevasulim._order",
+    "tevasulim._hull",
     "tevasulim.triangulation",
     "tevasulim.tiles",
 ]

@@ -50,13 +50,6 @@ def circle_test(
     return sign, depth
 
 
-def beyond(a: np.ndarray, b: np.ndarray, points: np.ndarray) -> np.ndarray:
-    """Positive for points right of the line from a to b, exactly, and larger the farther they are:
-    rows of int64, up to 2**29, whose products stay below 2**62."""
-    way, to = b - a, points - a
-    return to[..., 0] * way[..., 1] - to[..., 1] * way[..., 0]
-
-
 def disks(a: np.ndarray, b: np.ndarray, c: np.ndarray) -> Tuple[np.ndarray, np.ndarray]:
     """Disks that hold those of triples that turn left, rows of int64: centres and radii as
     floats."""

@@ -6,15 +6,15 @@ from typing import Any, List, NamedTuple, Tuple
 
 import numpy as np
 
-from ._circles import beyond, cells, circle_test, disks
+from ._circles import cells, circle_test, disks
 from ._tile_files import Box, Neighbour, TileFiles, save
 from .triangulation import Triangulation
 
 # How wide a halo is at first, in mean distances of the tile's points.
 HALO = 6.0
-# How many points are taken at once for one circle or side: those deepest inside or farthest beyond.
+# How many points are taken at once for one circle: those deepest inside.
 DEEPEST = 8
-# How many circles or sides are looked at together.
+# How many circles are looked at together.
 AT_ONCE = 1024
 
 
@@ -74,36 +74,13 @@ class Disks:
         return signs, depths
 
 
-class Sides:
-    """What is strictly right of lines."""
-
-    def __init__(self, starts: np.ndarray, ends: np.ndarray):
-        self.starts, self.ends = starts, ends
-
-    def __len__(self) -> int:
-        return len(self.starts)
-
-    def ranks(self, rows: np.ndarray, bounds: np.ndarray) -> np.ndarray:
-        """For some of them and each box: below 0 where the box reaches there, and lower the
-        farther."""
-        corners = np.stack([bounds[:, [i, j]] for i in (0, 2) for j in (1, 3)])
-        start, end = self.starts[rows, None, None], self.ends[rows, None, None]
-        return -beyond(start, end, corners).max(1)
-
-    def depths(self, rows: np.ndarray, points: np.ndarray) -> Tuple[np.ndarray, np.ndarray]:
-        """For some of them and some points each: 1 for points there, -1 for others; and how far."""
-        starts, ends = self.starts[rows, None], self.ends[rows, None]
-        depth = beyond(starts, ends, points.astype(np.int64))
-        return np.where(depth > 0, np.int8(1), np.int8(-1)), depth
-
-
 class Given:
-    """Points that other tiles gave, and which of the shapes that they were asked about got any."""
+    """Points that other tiles gave, and which of the disks that they were asked about got any."""
 
     def __init__(self, count: int):
         self.points, self.numbers = [np.empty((0, 2), np.int64)], [np.empty(0, np.int64)]
         self.is_given = np.zeros(count, bool)
-        # Nothing more is asked about a shape with a point inside.
+        # Nothing more is asked about a disk with a point inside.
         self.is_done = np.zeros(count, bool)
 
     def take(self, points: np.ndarray, numbers: np.ndarray) -> None:
@@ -111,20 +88,34 @@ class Given:
         self.numbers.append(numbers)
 
 
+class Plan(NamedTuple):
+    """What each tile knows of all: the bounds of the points of each, as rows of x and y from, x and
+    y to, and the corners of the hull of all points, with their numbers."""
+
+    bounds: np.ndarray
+    corners: np.ndarray
+    numbers: np.ndarray
+
+
 class Growing:
     """The points that a tile knows, its own before all others, and their triangulation."""
 
-    def __init__(self, files: TileFiles, tile: int, box: Box, bounds: List[List[int]]):
+    def __init__(self, files: TileFiles, tile: int, box: Box, plan: Plan):
         self.points, self.numbers = files.points(tile)
         self.points = self.points.astype(np.int64)
         self.own = len(self.points)
-        self.others = [Neighbour(files, i, it) for i, it in enumerate(bounds) if it and i != tile]
-        self.bounds = np.array([it.bounds for it in self.others], np.int64).reshape(-1, 4)
+        is_other = plan.bounds[:, 0] <= plan.bounds[:, 2]
+        is_other[tile] = False
+        self.others = [Neighbour(files, it) for it in np.flatnonzero(is_other).tolist()]
+        self.bounds = plan.bounds[is_other].astype(np.int64)
         self.asked = self.rounds = 0
         self.sure: set = set()
         self.triangulation = Triangulation(self.points)
         self.region = self.widened(box)
         self.add(*self.within_region())
+        # With the hull of all points, no cell at an own point is beyond what is known.
+        is_new = ~self.is_known(plan.corners)
+        self.add(plan.corners[is_new], plan.numbers[is_new])
         self.halo = len(self.points) - self.own
 
     def widened(self, box: Box) -> np.ndarray:
@@ -162,11 +153,11 @@ class Growing:
         keys = keys_of(points)
         return self.keys[np.minimum(np.searchsorted(self.keys, keys), len(self.keys) - 1)] == keys
 
-    def ask(self, shapes: Any) -> Given:
-        """Unknown points inside of shapes or, for those with none, all on their borders. A known
-        point is never inside. Each shape asks first the tile that it reaches most."""
-        given = Given(len(shapes))
-        ranks = shapes.ranks(np.arange(len(shapes)), self.bounds)
+    def ask(self, asked: Disks) -> Given:
+        """Unknown points inside of disks or, for those with none, all on their circles. A known
+        point is never inside. Each disk asks first the tile that is nearest to its centre."""
+        given = Given(len(asked))
+        ranks = asked.ranks(np.arange(len(asked)), self.bounds)
         order, reached = np.argsort(ranks, axis=1, kind="stable"), (ranks < 0).sum(1)
         for turn in range(reached.max(initial=0)):
             rows = np.flatnonzero((reached > turn) & ~given.is_done)
@@ -176,19 +167,19 @@ class Growing:
                 self.asked += len(asking)
                 for begin in range(0, len(asking), AT_ONCE):
                     part = asking[begin : begin + AT_ONCE]
-                    self.ask_tile(self.others[tile], shapes, part, given)
+                    self.ask_tile(self.others[tile], asked, part, given)
         return given
 
-    def ask_tile(self, other: Neighbour, shapes: Any, rows: np.ndarray, given: Given) -> None:
+    def ask_tile(self, other: Neighbour, asked: Disks, rows: np.ndarray, given: Given) -> None:
         """The same of one tile, block by block."""
-        ranks = shapes.ranks(rows, other.boxes())
+        ranks = asked.ranks(rows, other.boxes())
         order, reached = np.argsort(ranks, axis=1, kind="stable"), (ranks < 0).sum(1)
         for turn in range(reached.max(initial=0)):
             asking = np.flatnonzero((reached > turn) & ~given.is_done[rows])
             if not len(asking):
                 return
             points, numbers = other.blocks(order[asking, turn])
-            signs, depths = shapes.depths(rows[asking], points)
+            signs, depths = asked.depths(rows[asking], points)
             self.take_inside(points, numbers, signs, depths, rows[asking], given)
             self.take_border(points, numbers, signs, rows[asking], given)
 
@@ -201,7 +192,7 @@ class Growing:
         rows: np.ndarray,
         given: Given,
     ) -> None:
-        """Takes the deepest points of each row that are inside of its shape."""
+        """Takes the deepest points of each row that are inside of its disk."""
         count = min(DEEPEST, points.shape[1])
         deepest = np.argpartition(np.where(signs > 0, -depths, np.inf), count - 1, axis=1)[
             :, :count
@@ -219,7 +210,7 @@ class Growing:
         rows: np.ndarray,
         given: Given,
     ) -> None:
-        """Takes the unknown points of each row that are on the border of its shape."""
+        """Takes the unknown points of each row that are on its circle."""
         row, place = np.nonzero(signs == 0)
         is_new = ~self.is_known(points[row, place])
         row, place = row[is_new], place[is_new]
@@ -227,53 +218,27 @@ class Growing:
         given.is_given[rows[row]] = True
 
     def grow(self) -> bool:
-        """Asks about all that is open, and takes what is given. Gives whether there was
-        anything."""
+        """Asks about each face with a corner of the tile's own that is not sure yet, and takes what
+        is given. Gives whether there was anything."""
         self.rounds += 1
-        faces, across = self.triangulation.simplices, self.triangulation.neighbors
-        given = self.ask_faces(faces, across) if len(faces) else [self.ask(self.line_sides())]
-        points = np.concatenate([part for it in given for part in it.points])
-        numbers = np.concatenate([part for it in given for part in it.numbers])
-        if not len(points):
-            return False
-        numbers, first = np.unique(numbers, return_index=True)
-        self.add(points[first], numbers)
-        return True
-
-    def ask_faces(self, faces: np.ndarray, across: np.ndarray) -> List[Given]:
-        """Asks about each face with a corner of the tile's own, and each such side of the hull,
-        that is not sure yet."""
-        mine = np.flatnonzero((faces < self.own).any(1))
-        shapes = Disks(self.points[faces[mine]])
-        is_open = ~(shapes.within(self.region) | self.is_sure(faces[mine]))
+        faces = self.triangulation.simplices
+        mine = faces[(faces < self.own).any(1)]
+        is_open = ~(Disks(self.points[mine]).within(self.region) | self.is_sure(mine))
         mine = mine[is_open]
-        of_faces = self.ask(Disks(self.points[faces[mine]]))
-        self.note_sure(faces[mine[~of_faces.is_given]])
-        face, k = np.nonzero(across < 0)
-        starts, ends = faces[face, (k + 1) % 3], faces[face, (k + 2) % 3]
-        sides = np.stack([starts, ends, ends], 1)[np.minimum(starts, ends) < self.own]
-        sides = sides[~self.is_sure(sides)]
-        of_sides = self.ask(Sides(self.points[sides[:, 0]], self.points[sides[:, 1]]))
-        self.note_sure(sides[~of_sides.is_given])
-        return [of_faces, of_sides]
+        given = self.ask(Disks(self.points[mine]))
+        self.note_sure(mine[~given.is_given])
+        numbers, first = np.unique(np.concatenate(given.numbers), return_index=True)
+        self.add(np.concatenate(given.points)[first], numbers)
+        return bool(len(numbers))
 
-    def is_sure(self, shapes: np.ndarray) -> np.ndarray:
-        """Which faces or sides, by their corners, are known to hold no unknown point."""
+    def is_sure(self, faces: np.ndarray) -> np.ndarray:
+        """Which disks of faces are known to hold no unknown point."""
         if not self.sure:
-            return np.zeros(len(shapes), bool)
-        return np.array([it in self.sure for it in map(tuple, np.sort(shapes, 1).tolist())], bool)
+            return np.zeros(len(faces), bool)
+        return np.array([it in self.sure for it in map(tuple, np.sort(faces, 1).tolist())], bool)
 
-    def note_sure(self, shapes: np.ndarray) -> None:
-        self.sure.update(map(tuple, np.sort(shapes, 1).tolist()))
-
-    def line_sides(self) -> Sides:
-        """Both sides of the line on which all known points are, or of one through the only
-        point."""
-        order = np.lexsort(self.points.T[::-1])
-        start, end = self.points[order[0]], self.points[order[-1]]
-        if (start == end).all():
-            end = start + (1, 0)
-        return Sides(np.stack([start, end]), np.stack([end, start]))
+    def note_sure(self, faces: np.ndarray) -> None:
+        self.sure.update(map(tuple, np.sort(faces, 1).tolist()))
 
     def own_cells(self) -> np.ndarray:
         """The cells whose least point is the tile's own, by the numbers of all points."""
@@ -282,20 +247,22 @@ class Growing:
         return rows[np.lexsort(rows.T[::-1])]
 
 
-def cells_of_tile(files: TileFiles, tile: int, box: Box, bounds: List[List[int]]) -> TileReport:
-    """Writes the cells of a tile, from the bounds of the points of all tiles on."""
+def cells_of_tile(files: TileFiles, tile: int, box: Box, plan: Plan) -> TileReport:
+    """Writes the cells of a tile."""
     begin = time.process_time()
-    if not bounds[tile]:
+    # Where all points are on one line there is no cell at all.
+    if len(plan.corners) < 3 or plan.bounds[tile, 0] > plan.bounds[tile, 2]:
         save(files.name("cells", tile), np.empty((0, 3), np.int64))
-        return TileReport(0, 0, 0, 0, 0, 0, time.process_time() - begin, 0)
-    growing = Growing(files, tile, box, bounds)
+        count = len(files.points(tile)[1])
+        return TileReport(count, 0, 0, 0, 0, 0, time.process_time() - begin, 0)
+    growing = Growing(files, tile, box, plan)
     while growing.grow():
         pass
     rows = growing.own_cells()
     growing.triangulation.close()
     save(files.name("cells", tile), rows)
     fetched = len(growing.points) - growing.own - growing.halo
-    read = sum(it.bytes for it in growing.others)
+    read = sum(it.bytes for it in growing.others) + plan.corners.nbytes + plan.numbers.nbytes
     seconds = time.process_time() - begin
     words = growing.own, growing.halo, fetched, growing.asked, read, growing.rounds, seconds
     return TileReport(*words, len(rows))

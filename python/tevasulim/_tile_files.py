@@ -4,10 +4,12 @@ and a task that runs again writes the same."""
 from __future__ import annotations
 
 import os
-from typing import Any, List, Tuple
+from typing import Any, List, NamedTuple, Tuple
 
 import numpy as np
 
+from ._hull import hull_rows
+from ._library import MOST
 from ._numbers import point_list
 from .errors import TevasulimError
 
@@ -102,6 +104,16 @@ def boxes_of(points: np.ndarray) -> np.ndarray:
     return np.hstack([low, high])
 
 
+class Gathered(NamedTuple):
+    """A tile's points: how many there are, their bounds as x and y from, x and y to, and the
+    corners of their hull with their numbers."""
+
+    count: int
+    bounds: np.ndarray
+    corners: np.ndarray
+    numbers: np.ndarray
+
+
 class TileFiles:
     """The files of one folder. It is handed to each task."""
 
@@ -122,9 +134,9 @@ class TileFiles:
         save(self.name("cut-numbers", number), first + order.astype(np.int64))
         return np.searchsorted(tile[order], np.arange(tiles + 1)).tolist()
 
-    def gather(self, tile: int, parts: List[Tuple[int, int, int]]) -> Tuple[int, List[int]]:
+    def gather(self, tile: int, parts: List[Tuple[int, int, int]]) -> Gathered:
         """Gathers the points of a tile, each once with its least number, from parts with a begin
-        and an end. Gives how many there are, and their bounds."""
+        and an end."""
         points, numbers = (
             np.concatenate([load(self.name(kind, part))[begin:end] for part, begin, end in parts])
             if parts
@@ -144,10 +156,9 @@ class TileFiles:
         boxes = boxes_of(points) if len(points) else np.empty((0, 4), np.int32)
         for kind, array in ("points", points), ("numbers", numbers), ("boxes", boxes):
             save(self.name(kind, tile), array)
-        bounds = (
-            [*boxes[:, :2].min(0).tolist(), *boxes[:, 2:].max(0).tolist()] if len(boxes) else []
-        )
-        return len(points), bounds
+        low, high = boxes[:, :2].min(0, initial=MOST), boxes[:, 2:].max(0, initial=-MOST)
+        corners = hull_rows(points)
+        return Gathered(len(points), np.concatenate([low, high]), points[corners], numbers[corners])
 
     def points(self, tile: int) -> Tuple[np.ndarray, np.ndarray]:
         """The points of a tile and their numbers, read whole."""
@@ -157,8 +168,8 @@ class TileFiles:
 class Neighbour:
     """Another tile, of which only those blocks are read that are asked for."""
 
-    def __init__(self, files: TileFiles, tile: int, bounds: List[int]):
-        self.files, self.tile, self.bounds = files, tile, np.array(bounds, np.int64)
+    def __init__(self, files: TileFiles, tile: int):
+        self.files, self.tile = files, tile
         self.bytes = 0
         self._boxes: Any = None
         self._read: dict = {}

@@ -7,16 +7,16 @@
     "/shared/hill") for name in tiles.cells:
         triangles = numpy.load(name)        # three numbers of points a row
 
-The plane is cut into tiles. Each triangulates its own points and a halo, asks the other tiles only
-for points in circles of its faces that reach past what it knows, and writes the cells that it owns:
-those whose least point is its own.
+The plane is cut into tiles. Each triangulates its own points, a halo and the corners of the hull of
+all points, asks the other tiles only for points in circles of its faces that reach past what it
+knows, and writes the cells that it owns: those whose least point is its own.
 
-It is exact. Let K be some of the points P, and f a face of a Delaunay triangulation of K. If no
-point of P that is not in K lies in the closed disk of f, then all points on its circle are corners
-of a cell of each Delaunay triangulation of P. A tile is done when each face at a point of its own
-is sure in this way, and nothing lies beyond the sides of its hull there: the faces around the point
-then close up, so no cell at it lacks. Of four or more points on one circle, the polygon that they
-make is cut from its least point in all tiles. """
+It is exact by laws that the library proves (docs/SCALE.md). Let K be some of the points P. If no
+point of P that is not in K lies in the closed disk of a face of K's Delaunay triangulation, then
+all points on its circle are corners of a cell of each Delaunay triangulation of P; and if K has the
+hull of P, and this holds for each face at a point, then no cell at the point is missing. So a tile
+is done when it holds for each face at a point of its own. Of four or more points on one circle, the
+polygon that they make is cut from its least point in all tiles. """
 from __future__ import annotations
 
 import os
@@ -26,7 +26,8 @@ from typing import Any, Callable, List, NamedTuple, Optional, Sequence, Tuple
 
 import numpy as np
 
-from ._tile import TileReport, cells_of_tile
+from ._hull import hull_rows
+from ._tile import Plan, TileReport, cells_of_tile
 from ._tile_files import TileFiles, boxes_in, plan_of, survey
 from .errors import TevasulimError
 
@@ -88,17 +89,17 @@ def names_of(points: Any, files: TileFiles) -> List[str]:
 
 def cut_plane(
     names: List[str], tile_size: int, client: Any, files: TileFiles
-) -> Tuple[List[Any], List[Any]]:
-    """Cuts the plane into tiles, and gathers the points of each: the boxes, and for each how many
-    points it has and their bounds."""
+) -> Tuple[List[Any], Plan]:
+    """Cuts the plane into tiles, and gathers the points of each: the boxes, and what each tile
+    knows of all."""
     each = max(SAMPLE // max(len(names), 1), 1)
     found = run(client, survey, [(name, each) for name in names])
     counts = [count for count, _ in found]
     sample = np.concatenate([np.empty((0, 2), np.int32), *(some for _, some in found)])
-    plan = plan_of(sample, max(-(-sum(counts) // tile_size), 1))
-    boxes = boxes_in(plan)
+    cuts = plan_of(sample, max(-(-sum(counts) // tile_size), 1))
+    boxes = boxes_in(cuts)
     firsts = np.cumsum([0, *counts]).tolist()
-    tasks = [(name, i, firsts[i], plan, len(boxes)) for i, name in enumerate(names)]
+    tasks = [(name, i, firsts[i], cuts, len(boxes)) for i, name in enumerate(names)]
     begins = run(client, files.cut, tasks)
     parts = [
         [
@@ -112,7 +113,11 @@ def cut_plane(
     for i in range(len(names)):
         os.remove(files.name("cut-points", i))
         os.remove(files.name("cut-numbers", i))
-    return boxes, gathered
+    corners = np.concatenate([it.corners for it in gathered]).astype(np.int64)
+    numbers = np.concatenate([it.numbers for it in gathered])
+    rows = hull_rows(corners)
+    bounds = np.stack([it.bounds for it in gathered])
+    return boxes, Plan(bounds, corners[rows], numbers[rows])
 
 
 def triangulate_tiles(
@@ -157,9 +162,8 @@ def triangulate_tiles(
     room = tempfile.mkdtemp(prefix="tiles-", dir=folder)
     try:
         files = TileFiles(room)
-        boxes, gathered = cut_plane(names_of(points, files), tile_size, client, files)
-        bounds = [it for _, it in gathered]
-        tasks = [(files, tile, box, bounds) for tile, box in enumerate(boxes)]
+        boxes, plan = cut_plane(names_of(points, files), tile_size, client, files)
+        tasks = [(files, tile, box, plan) for tile, box in enumerate(boxes)]
         reports = run(client, cells_of_tile, tasks)
         names = [files.name("cells", tile) for tile in range(len(boxes))]
         if folder is None:
