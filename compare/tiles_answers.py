@@ -1,0 +1,197 @@
+"""Cells of tiles beside those of one triangulation of all points. It is run by compare/tiles, in
+Debian's Python. """
+import glob
+import os
+import signal
+import tempfile
+import threading
+import time
+from concurrent.futures import ProcessPoolExecutor
+
+import numpy as np
+from distributed import Client, LocalCluster
+
+from geometry import in_circle
+from tevasulim import NotWholeError, TooLargeError, Triangulation
+from tevasulim.tiles import triangulate_tiles
+
+MOST = 2**29
+COUNT, ON_LINE, WORKERS, TILES = 100_000, 3_990, 4, (1, 4, 25, 100)
+
+
+def random_points(draw):
+    return draw.integers(-MOST, MOST, (COUNT, 2))
+
+
+def clustered(draw):
+    """Sixty clusters of widths that differ 2^16-fold."""
+    centers, widths = draw.integers(-(2**28), 2**28, (60, 2)), 2.0 ** draw.uniform(10, 26, 60)
+    which = draw.integers(0, 60, COUNT)
+    points = centers[which] + draw.normal(size=(COUNT, 2)) * widths[which][:, None]
+    return np.clip(np.rint(points), -MOST, MOST).astype(np.int64)
+
+
+def grid(draw):
+    """Each square has its corners on one circle. Steps are so long that floats do not see it."""
+    side = int(COUNT**0.5)
+    x, y = np.meshgrid(np.arange(side), np.arange(side))
+    return (np.stack([x, y], -1).reshape(-1, 2) - side // 2) * (2 * MOST // side - 1)
+
+
+def line(draw):
+    return np.arange(-ON_LINE // 2, ON_LINE // 2)[:, None] * (3, 2) + (0, 1)
+
+
+def rows_in_order(rows):
+    return rows[np.lexsort(rows.T[::-1])]
+
+
+def cells_of_all(points):
+    """The cells of one triangulation: each face that is alone on its circle, and of the others the
+    polygons that they make, cut from their least corner. By sets and Python's whole numbers."""
+    with Triangulation(points) as triangulation:
+        faces = triangulation.simplices.tolist()
+        neighbors = triangulation.neighbors.tolist()
+    places = [tuple(it) for it in points.tolist()]
+    parts = list(range(len(faces)))
+
+    def root(i):
+        while parts[i] != i:
+            parts[i] = parts[parts[i]]
+            i = parts[i]
+        return i
+
+    for i, across in enumerate(neighbors):
+        for j in across:
+            if i < j:
+                (far,) = set(faces[j]) - set(faces[i])
+                if in_circle(*(places[k] for k in faces[i]), places[far]) == 0:
+                    parts[root(i)] = root(j)
+    polygons = {}
+    for i, face in enumerate(faces):
+        polygons.setdefault(root(i), []).append(face)
+    cells = []
+    for polygon in polygons.values():
+        sides = {side for a, b, c in polygon for side in ((a, b), (b, c), (c, a))}
+        least = min((k for face in polygon for k in face), key=lambda k: places[k])
+        cells += [(least, a, b) for a, b in sides if (b, a) not in sides and least not in (a, b)]
+    return rows_in_order(np.array(cells, np.int64).reshape(-1, 3))
+
+
+def check(points, tiles, client, folder, wanted):
+    """Runs tiles over the points in three parts, one of them a file, and compares their cells."""
+    parts = np.array_split(points, 3)
+    np.save(f"{folder}/part.npy", parts[1])
+    parts[1] = f"{folder}/part.npy"
+    found = triangulate_tiles(parts, -(-len(points) // tiles), client, folder)
+    assert len(found.cells) == len(found.reports) == tiles
+    rows = np.concatenate([np.load(name) for name in found.cells])
+    assert np.array_equal(rows_in_order(rows), wanted)
+    assert sum(it.points for it in found.reports) == len(np.unique(points, axis=0))
+    for name in found.cells:
+        os.remove(name)
+    assert os.listdir(folder) == ["part.npy"]
+
+
+def check_few():
+    """Few points, many of them on one circle or one line or equal, in tiles of few, in this
+    process."""
+    draw, count = np.random.default_rng(7), 0
+    for reach in (1, 2, 3, 5, MOST) * 30:
+        points = draw.integers(-reach, reach + 1, (draw.integers(0, 25), 2))
+        if draw.integers(3) == 0:
+            points[:, 1] = points[:, 0]
+        wanted = cells_of_all(points)
+        parts = np.array_split(points, draw.integers(1, 4))
+        found = triangulate_tiles(parts, int(draw.integers(1, 8)))
+        assert np.array_equal(rows_in_order(np.concatenate(found.cells)), wanted), points.tolist()
+        count += len(wanted)
+    assert count > 1000
+    print(f"few points: {count} cells as in one")
+
+
+def check_refusals():
+    """What is handed in wrongly is refused, and nothing is left."""
+    with tempfile.TemporaryDirectory() as folder:
+        np.save(f"{folder}/far.npy", [(0, 0), (MOST + 1, 0)])
+        np.save(f"{folder}/floats.npy", [(0.5, 0)])
+        np.save(f"{folder}/three.npy", [(0, 0, 0)])
+        with open(f"{folder}/text.npy", "w") as file:
+            file.write("no array")
+        kept = sorted(os.listdir(folder))
+        for name, error in ("far", TooLargeError), ("floats", NotWholeError), ("three", ValueError):
+            try:
+                triangulate_tiles([[(0, 0)], f"{folder}/{name}.npy"], 10, None, folder)
+            except error as found:
+                assert name in str(found) and (name != "far" or found.index == 1)
+            else:
+                raise AssertionError(name)
+        for part in f"{folder}/text.npy", f"{folder}/nowhere.npy", 3, [(0, 2**64)], ["a"]:
+            try:
+                triangulate_tiles([part], 10, None, folder)
+            except (ValueError, TypeError, OSError):
+                pass
+            else:
+                raise AssertionError(part)
+        for size in 0, -1:
+            try:
+                triangulate_tiles([[(0, 0)]], size)
+            except ValueError:
+                continue
+            raise AssertionError(size)
+        assert sorted(os.listdir(folder)) == kept
+    assert triangulate_tiles([], 5).cells[0].shape == (0, 3)
+    print("what is handed in wrongly is refused")
+
+
+class Ending(threading.Thread):
+    """Ends a worker as soon as some cells are there and others are not."""
+
+    def __init__(self, client, folder, tiles):
+        super().__init__()
+        self.pid = list(client.run(os.getpid).values())[0]
+        self.folder, self.tiles, self.found = folder, tiles, None
+
+    def run(self):
+        begin = time.monotonic()
+        while time.monotonic() < begin + 60:
+            self.found = len(glob.glob(f"{self.folder}/tiles-*/cells-*.npy"))
+            if self.found > self.tiles // 10:
+                os.kill(self.pid, signal.SIGKILL)
+                return
+            time.sleep(0.002)
+
+
+def main():
+    check_few()
+    check_refusals()
+    room = tempfile.TemporaryDirectory()
+    folder = f"{room.name}/tiles"
+    os.mkdir(folder)
+    local = {"host": "127.0.0.1", "dashboard_address": "127.0.0.1:0", "local_directory": room.name}
+    local.update({"n_workers": WORKERS, "threads_per_worker": 1, "silence_logs": 50})
+    with room, LocalCluster(**local) as cluster, Client(cluster) as client:
+        for number, make in enumerate((random_points, clustered, grid, line)):
+            draw = np.random.default_rng(number)
+            points = draw.permutation(make(draw))
+            # Some stand twice.
+            points = np.concatenate([points, points[:10]])
+            wanted = cells_of_all(points)
+            for tiles in TILES:
+                check(points, tiles, client, folder, wanted)
+            print(f"{make.__name__}: {len(wanted)} cells in {TILES} tiles as in one", flush=True)
+            if make is clustered:
+                ending = Ending(client, folder, 100)
+                ending.start()
+                check(points, 100, client, folder, wanted)
+                ending.join()
+                assert 10 < ending.found < 100
+                assert ending.pid not in client.run(os.getpid).values()
+                print(f"the same where a worker was ended after {ending.found} of 100 tiles")
+    with tempfile.TemporaryDirectory() as folder, ProcessPoolExecutor(2) as pool:
+        check(points, 25, pool, folder, wanted)
+        check(points, 25, None, folder, wanted)
+
+
+if __name__ == "__main__":
+    main()

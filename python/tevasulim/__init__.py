@@ -1,0 +1,15 @@
+"""Delaunay triangulations of whole-number points, over a library whose calls are proved.
+
+>>> import tevasulim
+>>> hill = tevasulim.Triangulation([(0, 0), (4, 0), (5, 5), (0, 4)])
+>>> sorted(map(sorted, hill.simplices.tolist()))
+[[0, 1, 3], [1, 2, 3]]
+>>> sorted(hill.simplices[hill.find_simplex((1, 1))].tolist())
+[0, 1, 3]
+"""
+from .errors import *  # noqa: F401,F403
+from .errors import __all__ as _errors
+from .triangulation import Meeting, Met, Place, Places, Triangulation
+
+__all__ = ["Triangulation", "Place", "Places", "Met", "Meeting", *_errors]
+__version__ = "0.1.0"

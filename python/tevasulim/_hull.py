@@ -1,0 +1,52 @@
+"""Corners of the convex hull of points, exactly."""
+from __future__ import annotations
+
+import numpy as np
+
+# The directions in which extreme points are looked for first, counterclockwise.
+DIRECTIONS = ((-1, 0), (-1, -1), (0, -1), (1, -1), (1, 0), (1, 1), (0, 1), (-1, 1))
+# Fewer points are taken as they are.
+FEW = 1000
+
+
+def turn(a: tuple, b: tuple, c: tuple) -> int:
+    """Positive where c is left of the line from a to b, 0 where it is on it."""
+    return (b[0] - a[0]) * (c[1] - a[1]) - (b[1] - a[1]) * (c[0] - a[0])
+
+
+def maybe_corners(points: np.ndarray) -> np.ndarray:
+    """Rows of points, as int64 up to 2**29, but for those inside of a polygon of extreme ones. All
+    products stay below 2**63."""
+    rows = [int(np.argmax(points @ np.array(way))) for way in DIRECTIONS]
+    is_inside = np.ones(len(points), bool)
+    for start, end in zip(rows, rows[1:] + rows[:1]):
+        way, to = points[end] - points[start], points - points[start]
+        if way.any():
+            is_inside &= way[0] * to[:, 1] - way[1] * to[:, 0] > 0
+    return np.flatnonzero(~is_inside)
+
+
+def chain(places: list) -> list:
+    """The corners on the right of a way through places in order, but the last one."""
+    corners: list = []
+    for place in places:
+        while len(corners) > 1 and turn(corners[-2], corners[-1], place) <= 0:
+            corners.pop()
+        corners.append(place)
+    return corners[:-1]
+
+
+def hull_rows(points: np.ndarray) -> np.ndarray:
+    """Rows of different points that are corners of their hull; of points on one line its ends.
+
+    >>> hull_rows(np.array([(0, 0), (2, 0), (4, 0), (4, 4), (0, 4), (1, 1)])).tolist()
+    [0, 2, 3, 4]
+    >>> hull_rows(np.array([(3, 3), (1, 1), (2, 2)])).tolist()
+    [1, 0]
+    """
+    points = points.astype(np.int64)
+    rows = maybe_corners(points) if len(points) > FEW else np.arange(len(points))
+    places = sorted(zip(*points[rows].T.tolist(), rows.tolist()))
+    if len(places) < 2:
+        return rows
+    return np.array([place[2] for place in chain(places) + chain(places[::-1])])

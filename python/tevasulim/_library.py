@@ -1,0 +1,162 @@
+"""The shared library: where it is, and its calls with a status each, which become exceptions."""
+from __future__ import annotations
+
+import ctypes
+import os
+from ctypes import (
+    POINTER,
+    c_bool,
+    c_int32,
+    c_int64,
+    c_size_t,
+    c_uint8,
+    c_uint32,
+    c_uint64,
+    c_void_p,
+)
+from typing import Any, Callable, Optional, Tuple
+
+import numpy as np
+
+from .errors import OF_STATUS, NoLibraryError, TevasulimError, TooShortError
+
+NAME = "libtevasulim.so"
+# The versions of the library that this package knows: this one, and later ones with the same first
+# number. They are 10000 * major + 100 * minor + patch.
+VERSION = 100
+# In place of an index: there is none.
+NONE = 0xFFFF_FFFF
+MOST = 2**29
+PLAIN, CONSTRAINED = 0, 1
+
+
+class Mesh(ctypes.Structure):
+    """A triangulation that the library keeps; none at first."""
+
+    _fields_ = [("at", c_void_p), ("is_open", c_bool)]
+
+
+class Counts(ctypes.Structure):
+    _fields_ = [(name, c_uint64) for name in ("vertices", "edges", "faces", "constraints")]
+
+
+MESH = POINTER(Mesh)
+SIZE = POINTER(c_size_t)
+LIST = (c_void_p, c_size_t)
+FOUND = (*LIST, SIZE)
+POINT = c_int32 * 2
+CALLS = {
+    "version": (),
+    "status_text": (c_uint32, POINTER(c_uint8), c_size_t, SIZE),
+    "open": (MESH, c_uint32),
+    "close": (MESH,),
+    "allow_constraints": (MESH,),
+    "clear": (MESH,),
+    "insert": (MESH, c_int32, c_int32, POINTER(c_uint32)),
+    "insert_all": (MESH, *LIST, *LIST),
+    "remove": (MESH, c_uint32),
+    "constrain": (MESH, c_uint32, c_uint32),
+    "constrain_chain": (MESH, *LIST, c_bool, SIZE),
+    "release": (MESH, c_uint32, c_uint32),
+    "set_numbers": (MESH, *LIST, *LIST),
+    "count": (MESH, POINTER(Counts)),
+    "positions": (MESH, *FOUND),
+    "numbers": (MESH, *FOUND),
+    "edges": (MESH, *FOUND),
+    "faces": (MESH, *FOUND),
+    "locate": (MESH, *LIST, *LIST),
+    "nearest": (MESH, *LIST, *LIST),
+    "line": (MESH, POINTER(POINT), POINTER(POINT), *FOUND),
+    "vertices_in_circle": (MESH, POINTER(POINT), c_int64, *FOUND),
+    "edges_in_circle": (MESH, POINTER(POINT), c_int64, *FOUND),
+    "vertices_in_rectangle": (MESH, POINTER(POINT), POINTER(POINT), *FOUND),
+    "edges_in_rectangle": (MESH, POINTER(POINT), POINTER(POINT), *FOUND),
+    "triangulate": (*LIST, *LIST, *LIST, SIZE, SIZE),
+}
+
+
+def places() -> Tuple[str, ...]:
+    """Where the library is looked for, in this order."""
+    here = os.path.dirname(os.path.realpath(__file__))
+    named = os.environ.get("TEVASULIM_LIBRARY")
+    beside = (os.path.join(here, NAME), os.path.join(here, "..", "..", "c", NAME))
+    return (named,) if named else beside
+
+
+def load() -> ctypes.CDLL:
+    """The library with the types of its calls."""
+    found = [place for place in places() if os.path.exists(place)]
+    if not found:
+        looked = " or ".join(os.path.normpath(place) for place in places())
+        raise NoLibraryError(f"no {NAME}: looked for {looked}; TEVASULIM_LIBRARY may name it")
+    try:
+        library = ctypes.CDLL(found[0])
+        for name, types in CALLS.items():
+            call = getattr(library, f"tevasulim_{name}")
+            call.argtypes, call.restype = types, c_uint32
+        library.tevasulim_close.restype = None
+    except (OSError, AttributeError) as error:
+        raise NoLibraryError(f"{found[0]} is not the library: {error}") from error
+    version = library.tevasulim_version()
+    if version // 10000 != VERSION // 10000 or version < VERSION:
+        raise NoLibraryError(f"{found[0]} has the version {version}; {VERSION} is needed")
+    return library
+
+
+LIBRARY = load()
+
+
+def words_of(status: int) -> Tuple[str, int]:
+    """What a status means, in the library's words, and the status of asking for them."""
+    text, length = (c_uint8 * 100)(), c_size_t()
+    asked = LIBRARY.tevasulim_status_text(status, text, len(text), ctypes.byref(length))
+    return bytes(text[: min(length.value, len(text))]).decode(), asked
+
+
+def status_text(status: int) -> str:
+    """What a status means, in the library's words.
+
+    >>> status_text(0)
+    'all went well'
+    """
+    words, asked = words_of(status)
+    if asked:
+        raise error_of(asked)
+    return words
+
+
+def error_of(status: int, index: Optional[int] = None) -> TevasulimError:
+    """The exception that stands for a status; `index` is that of a point or segment in a list."""
+    of_class = OF_STATUS.get(status)
+    if of_class is None:
+        return TevasulimError(f"the library gave the unknown status {status}")
+    where = "" if index is None else f", at index {index}"
+    return of_class(f"{words_of(status)[0]}{where}", index)
+
+
+def call(name: str, *words: Any) -> None:
+    """Makes a call; a status but 0 becomes an exception."""
+    status = getattr(LIBRARY, f"tevasulim_{name}")(*words)
+    if status:
+        raise error_of(status)
+
+
+def rows(array: np.ndarray) -> Tuple[int, int]:
+    """An array as a list of the library: its address, which is never 0, and how many rows it
+    has."""
+    return array.ctypes.data, len(array)
+
+
+def found(columns: int, ask: Callable[..., None], room: int = 64) -> np.ndarray:
+    """What a call finds, each of some 32-bit columns: it is asked again where the room was
+    short."""
+    length = c_size_t()
+    while True:
+        array = np.empty((max(room, 1), columns), np.uint32)
+        try:
+            ask(array.ctypes.data, room, ctypes.byref(length))
+            return array[: length.value]
+        except TooShortError:
+            if length.value <= room:
+                raise
+            room = length.value

@@ -1,0 +1,55 @@
+"""Orders of points in which each search begins near its end."""
+from __future__ import annotations
+
+import numpy as np
+
+from ._library import MOST
+
+# Fewer points are taken in their own order.
+FEW = 32
+# The last round of an insertion has so many times the points before it, and so on, down to about
+# so many.
+TIMES, FIRST = 8, 1000
+MASKS = (
+    (16, 0x0000_FFFF_0000_FFFF),
+    (8, 0x00FF_00FF_00FF_00FF),
+    (4, 0x0F0F_0F0F_0F0F_0F0F),
+    (2, 0x3333_3333_3333_3333),
+    (1, 0x5555_5555_5555_5555),
+)
+
+
+def spread(numbers: np.ndarray) -> np.ndarray:
+    """Numbers below 2**32 with a 0 between each two of their bits."""
+    bits = numbers.astype(np.uint64)
+    for shift, mask in MASKS:
+        bits = (bits | (bits << np.uint64(shift))) & np.uint64(mask)
+    return bits
+
+
+def near_order(points: np.ndarray) -> np.ndarray:
+    """Rows of points of shape (n, 2) in an order in which most stand beside near ones: quarters of
+    the plane one after another, and in each of them the same.
+
+    >>> near_order(np.array([(0, 0), (9, 9)] * 20))[:3]
+    array([0, 2, 4])
+    """
+    if len(points) < FEW:
+        return np.arange(len(points))
+    moved = points.astype(np.int64) + MOST
+    keys = spread(moved[:, 0]) | spread(moved[:, 1]) << np.uint64(1)
+    return np.argsort(keys, kind="stable")
+
+
+def rounds_order(points: np.ndarray) -> np.ndarray:
+    """Rows of points of shape (n, 2) in an order to insert them: in rounds of more and more, each
+    picked blindly, but always the same, from all over the plane, and each in near order. So no
+    order and no distribution of points makes many flips."""
+    ends = [len(points)]
+    while ends[-1] > FIRST:
+        ends.append(ends[-1] // TIMES)
+    if len(ends) == 1:
+        return near_order(points)
+    rows = np.random.default_rng(0).permutation(len(points))
+    parts = np.split(rows, ends[:0:-1])
+    return np.concatenate([part[near_order(points[part])] for part in parts])
