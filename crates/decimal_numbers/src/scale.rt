@@ -95,14 +95,13 @@ impl Scale {
     /// The scale of numbers from `least` to `most`, in units of 10^-`digits`: at 0 where that will
     /// do, else with `least` at the least coordinate.
     pub fn between(digits: u32, least: i64, most: i64) -> Scale
-        requires { IsWithin (2 ^ 62) least }
         ensures digits { result.digits ≡ digits }
-        ensures fits { (most -ℤ least) ≤ℤ pos (2 ^ 30) → (z : ℤ) → least ≤ℤ z → z ≤ℤ most →
-            IsWithin (2 ^ 29) (z -ℤ result.origin) }
+        ensures fits { IsWithin (2 ^ 62) least → (most -ℤ least) ≤ℤ pos (2 ^ 30) →
+            (z : ℤ) → least ≤ℤ z → z ≤ℤ most → IsWithin (2 ^ 29) (z -ℤ result.origin) }
     {
         let at_0 = -REACH <= least && most <= REACH;
         Scale {
-            origin: if at_0 { 0 } else { least + REACH },
+            origin: if at_0 { 0 } else { least.saturating_add(REACH) },
             digits,
         }
     }
