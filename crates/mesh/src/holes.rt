@@ -55,6 +55,19 @@ pub fn empty_holes(
             PositionInTriangulation::OnFace(face) => {
                 flood(site, face.index() as usize, layers, alloc)?;
             }
+            PositionInTriangulation::OnEdge(edge) => {
+                let edge = site.directed_edge(edge);
+                if edge.as_undirected().data().is_constraint_edge() {
+                    bail!("line {line}: the hole's point is on a segment");
+                }
+                flood(site, edge.face().fix().index() as usize, layers, alloc)?;
+                flood(
+                    site,
+                    edge.rev().face().fix().index() as usize,
+                    layers,
+                    alloc,
+                )?;
+            }
             PositionInTriangulation::OutsideOfConvexHull(_) => {}
             _ => bail!("line {line}: the hole's point is in no face"),
         }
