@@ -1,5 +1,6 @@
 //! A mesh as a picture: faces with thin edges, and constraints with thick ones.
 use crate::writing::MeshText;
+use decimal_numbers::Decimal;
 use std::io;
 use std::io::Write;
 
@@ -84,15 +85,19 @@ impl MeshText<'_> {
             "viewBox=\"{left} {top} {width} {height}\" width=\"{pixels}\">"
         )?;
         line.push_str("<g fill=\"#eef3f8\" stroke=\"#456\" stroke-linejoin=\"round\" ")?;
-        let thin = width.max(height) / 1000 + 1;
+        let mut thin = Decimal {
+            negative: false,
+            magnitude: width.max(height).unsigned_abs(),
+            digits: 3,
+        };
         writeln!(line, "stroke-width=\"{thin}\">")?;
         writer.write_all(line.as_bytes())?;
         self.write_svg_faces(writer, line)?;
         line.clear();
-        let thick = thin.wrapping_mul(3);
+        thin.magnitude = thin.magnitude.saturating_mul(3);
         writeln!(
             line,
-            "</g>\n<g fill=\"none\" stroke=\"#c30\" stroke-width=\"{thick}\">"
+            "</g>\n<g fill=\"none\" stroke=\"#c30\" stroke-width=\"{thin}\">"
         )?;
         writer.write_all(line.as_bytes())?;
         self.write_svg_walls(writer, line)?;
