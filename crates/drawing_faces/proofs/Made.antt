@@ -1,5 +1,5 @@
 -- Edits that were all made, and where the vertices are that they put in.
-use Rattle.std.proofs.Common.{◌≡◌, ◌<◌, ◌≤◌, [], ◌∷◌, ◌++◌, ◌∙◌}
+use Rattle.std.proofs.Common.{◌≡◌, ◌<◌, [], ◌∷◌, ◌∙◌}
 use Rattle.std.proofs.Common.{ℕ, suc, List, length, map, refl, sym, ap, subst, inl, inr, arith}
 use Rattle.std.proofs.lemmas.List.{length-append, length-map, length-set, map-set, set-get_or}
 use Rattle.std.proofs.lemmas.List.{get_or-map, get_or_append_left}
@@ -16,8 +16,6 @@ use Rattle.delaunay_journal.specs.declared.edit.Edit.{Edit}
 use Rattle.delaunay_journal.specs.declared.edit.Edit.TheVariants.{Insert}
 use Rattle.delaunay_journal.specs.declared.edit.Outcome.{Outcome}
 use Rattle.delaunay_journal.specs.declared.edit.Outcome.TheVariants.{Inserted, Added, Refused}
-use Rattle.delaunay_journal.specs.declared.edit.Outcome.TheVariants.{Removed, Replaced}
-use Rattle.delaunay_journal.specs.declared.edit.Outcome.TheVariants.{Cleared, Released}
 use Rattle.delaunay_journal.specs.Journal.{Replays, edits_made}
 use Rattle.delaunay_journal.specs.Marking.{Marking}
 use Rattle.delaunay_journal.proofs.Inserted.{inserted_here, appended_points}

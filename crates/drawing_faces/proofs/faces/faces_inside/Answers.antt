@@ -1,4 +1,4 @@
-use Rattle.std.proofs.Common.{◌+◌, ◌++◌, ◌∙◌, drop, inl, inr, ap, arith}
+use Rattle.std.proofs.Common.{◌+◌, ◌++◌, ◌∙◌, drop, inl, inr, ap}
 use Rattle.drawing_faces.specs.Drawing.{faces_inside}
 use Rattle.drawing_faces.proofs.Inside.{inside_ends, inside_kept, inside_left}
 use Rattle.drawing_faces.proofs.faces.faces_inside.Goals as goal
