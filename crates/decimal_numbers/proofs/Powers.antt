@@ -1,0 +1,133 @@
+-- Digits and powers of ten.
+use Rattle.std.proofs.Common.{◌≡◌, ◌+◌, ◌-◌, ◌*◌, ◌/◌, ◌%◌, ◌^◌, ◌<◌, ◌≤◌, [], ◌∷◌, ◌++◌, ◌∙◌}
+use Rattle.std.proofs.Common.{ℕ, suc, true, false, List, length, get_or, drop, refl, sym, ap, inl, inr}
+use Rattle.std.proofs.Common.{arith, add-one, add-zero, drop-cons}
+use Rattle.std.specs.Char.{digit_value}
+use Rattle.std.specs.Str.Parse.{digits_value, digits_value_after}
+use Rattle.std.proofs.lemmas.Bool.{cases_lt}
+use Rattle.std.proofs.lemmas.Bool.Decides.{nat_tests}
+use Rattle.std.proofs.lemmas.Grind.{pow_more}
+use Rattle.std.proofs.lemmas.Nat.{pow-add}
+use Rattle.decimal_numbers.specs.Grammar.{Parts}
+use Rattle.std.proofs.Math.Nat.{pow-le-pow_right, mul-le-mul_left}
+use Rattle.decimal_numbers.specs.Value.{IsMagnitude, IsRounded}
+
+-- the value of a digit is its byte, 48 to 57, less 48
+digit_value-is : (c : ℕ) → 48 ≤ c → c ≤ 57 → digit_value c ≡ c - 48
+digit_value-is c low high = grind (arith, nat_tests)
+
+-- one digit is taken off the front
+pub digit_taken : (ds : List ℕ) (i v w total : ℕ) → i < length ds → 48 ≤ get_or ds i 0
+    → get_or ds i 0 ≤ 57 → digits_value_after 10 v (drop i ds) ≡ total
+    → w ≡ v * 10 + (get_or ds i 0 - 48) → digits_value_after 10 w (drop (i + 1) ds) ≡ total
+digit_taken ds i v w total within low high so_far e =
+    let step : w ≡ v * 10 + digit_value (get_or ds i 0) =
+    e ∙ ap (λ x. v * 10 + x) (sym (digit_value-is (get_or ds i 0) low high)) in
+    ap (λ x. digits_value_after 10 w (drop x ds)) (add-one i)
+    ∙ ap (λ x. digits_value_after 10 x (drop (suc i) ds)) step
+    ∙ ap (digits_value_after 10 v) (sym (drop-cons ds i 0 within))
+    ∙ so_far
+
+-- digits of two lists, one after the other
+pub digits_append : (n : ℕ) (xs ys : List ℕ)
+    → digits_value_after 10 (digits_value_after 10 n xs) ys ≡ digits_value_after 10 n (xs ++ ys)
+digits_append n [] ys = refl
+digits_append n (x ∷ xs) ys = digits_append (n * 10 + digit_value x) xs ys
+
+-- a number whose power lowers it
+same_lowered : (x y k : ℕ) → x ≡ y → x * 10 ^ k ≡ y * 10 ^ 0 * 10 ^ k
+same_lowered x y k e = rw e (omega arith)
+
+pub lowered_magnitude : (p : Parts) (m d : ℕ) → p.lowers ≡ true
+    → m ≡ digits_value_after 10 (digits_value_after 10 0 p.whole) p.fraction
+    → d ≡ length p.fraction + digits_value 10 p.power → IsMagnitude p m d
+lowered_magnitude p m d lowers e digits =
+    rw (lowers, digits) (same_lowered m (digits_value 10 (p.whole ++ p.fraction))
+    (length p.fraction + digits_value 10 p.power) (e ∙ digits_append 0 p.whole p.fraction))
+
+-- one whose power raises it
+same_raised : (x y k n : ℕ) → x ≡ y → x * 10 ^ n * 10 ^ (k + 0) ≡ y * 10 ^ n * 10 ^ k
+same_raised x y k n e = rw (e, add-zero) refl
+
+pub raised_magnitude : (p : Parts) (n m d : ℕ) → p.lowers ≡ false
+    → n ≡ digits_value_after 10 (digits_value_after 10 0 p.whole) p.fraction
+    → m ≡ n * 10 ^ digits_value 10 p.power → d ≡ length p.fraction → IsMagnitude p m d
+raised_magnitude p n m d lowers e raised digits =
+    rw (lowers, digits, raised) (same_raised n (digits_value 10 (p.whole ++ p.fraction))
+    (length p.fraction) (digits_value 10 p.power) (e ∙ digits_append 0 p.whole p.fraction))
+
+-- a last zero behind the point is taken off
+pub zero_taken : (m d n e : ℕ) → n * 10 ^ d ≡ m * 10 ^ e → 0 < e → n % 10 ≡ 0
+    → n / 10 * 10 ^ d ≡ m * 10 ^ (e - 1)
+zero_taken m d n e same some zero =
+    let whole : n ≡ n / 10 * 10 = omega arith in
+    let more : 10 ^ e ≡ 10 ^ (e - 1) * 10 =
+    let back : e ≡ e - 1 + 1 = omega arith in ap (λ x. 10 ^ x) back ∙ pow_more 10 (e - 1) in
+    tenfold (n / 10 * 10 ^ d) (m * 10 ^ (e - 1)) (
+    let left : n / 10 * 10 * 10 ^ d ≡ m * (10 ^ (e - 1) * 10) =
+    ap (λ x. x * 10 ^ d) (sym whole) ∙ same ∙ ap (λ x. m * x) more in
+    omega (arith, left))
+  where
+    tenfold : (x y : ℕ) → x * 10 ≡ y * 10 → x ≡ y
+    tenfold x y h = omega arith
+
+-- a power of ten that was multiplied in
+pub power_divided : (m d p u : ℕ) → d ≤ p → u ≡ m * 10 ^ (p - d) → u * 10 ^ d ≡ m * 10 ^ p
+power_divided m d p u h e =
+    let whole : p ≡ p - d + d = omega arith in
+    let split : 10 ^ p ≡ 10 ^ (p - d) * 10 ^ d = ap (λ x. 10 ^ x) whole ∙ pow-add 10 (p - d) d in
+    rw e (rw split (omega arith))
+
+-- what does not fit at one power of ten does not at a higher one
+pub too_large : (n v i p : ℕ) → v ≡ n * 10 ^ i → i < p → ¬ (v * 10 < 2 ^ 64)
+    → 2 ^ 64 ≤ n * 10 ^ p
+too_large n v i p e h unfit =
+    let large : 2 ^ 64 ≤ v * 10 = elim (cases_lt (v * 10) (2 ^ 64)) [
+      | inl low ↦ absurd (unfit low)
+      | inr high ↦ high
+    ] in
+    let low : i + 1 ≤ p = omega arith in
+    let more : 10 ^ (i + 1) ≤ 10 ^ p = pow-le-pow_right (omega arith) low in
+    let times : n * 10 ^ (i + 1) ≤ n * 10 ^ p = mul-le-mul_left n more in
+    let step : n * 10 ^ (i + 1) ≡ n * (10 ^ i * 10) = ap (λ x. n * x) (pow_more 10 i) in
+    omega (arith, times, step, large, e)
+
+-- a power of ten but the first is ten or more
+pub ten_or_more : (u k : ℕ) → u ≡ 1 * 10 ^ k → 0 < k → 10 ≤ u
+ten_or_more u k e some =
+    let low : 1 ≤ k = omega arith in
+    let more : 10 ^ 1 ≤ 10 ^ k = pow-le-pow_right (omega arith) low in
+    omega (arith, more, e)
+
+-- the nearest number of units is a rounded number
+pub rounds : (m d k u q : ℕ) → k < d → u ≡ 1 * 10 ^ (d - k) → 2 * m ≤ (2 * q + 1) * u
+    → 2 * q * u ≤ 2 * m + u → IsRounded m d k q k
+rounds m d k u q less e above below =
+    let same : 10 ^ (d - k) ≡ u = omega (arith, e) in
+    record {
+      same = λ h. absurd (omega (arith, h, less));
+      fewer = λ h. refl;
+      above = λ h. rw same above;
+      below = λ h. rw same below;
+    }
+
+-- a unit that does not fit is more than twice the number
+pub rounds_to_none : (m d k : ℕ) → m < 2 ^ 64 → k < d → 2 ^ 64 ≤ 1 * 10 ^ (d - k)
+    → IsRounded m d k 0 k
+rounds_to_none m d k small less large =
+    let far : 20 ≤ d - k = far_apart (d - k) large in
+    let more : 10 ^ 20 ≤ 10 ^ (d - k) = pow-le-pow_right (omega arith) far in
+    record {
+      same = λ h. absurd (omega (arith, h, less));
+      fewer = λ h. refl;
+      above = λ h. omega (arith, more, small);
+      below = λ h. omega arith;
+    }
+  where
+    far_apart : (n : ℕ) → 2 ^ 64 ≤ 1 * 10 ^ n → 20 ≤ n
+    far_apart n h = elim (cases_lt n 20) [
+      | inr low ↦ low
+      | inl less ↦ (let low : n ≤ 19 = omega arith in
+          let most : 10 ^ n ≤ 10 ^ 19 = pow-le-pow_right (omega arith) low in
+          absurd (omega (arith, most, h)))
+    ]

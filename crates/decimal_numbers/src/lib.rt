@@ -1,0 +1,9 @@
+//! Decimal numbers as people write them, read exactly, and as whole numbers of one power of ten.
+#![tactic(auto)]
+
+mod decimal;
+mod parts;
+mod scale;
+
+pub use decimal::{Decimal, DecimalError};
+pub use scale::{Scale, ScaleError};

@@ -1,0 +1,123 @@
+//! Decimal numbers as whole numbers of one power of ten, in the range of coordinates.
+ghost use Rattle.std.specs.Prelude.{◌≡◌, ◌+◌, ◌*◌, ◌<◌, ◌≤◌, ◌^◌, ◌↔◌};
+ghost use Rattle.std.specs.Prelude.{◌+ℤ◌, ◌-ℤ◌, ◌≤ℤ◌, ℤ, pos, neg_ℤ};
+ghost use Rattle.std.specs.Prelude.{IfOk, IsErrOf};
+ghost use Rattle.decimal_numbers.specs.Value.{IsTimesPower, IsRounded, IsWithin};
+ghost use Rattle.decimal_numbers.specs.declared.scale.ScaleError.TheVariants.{TooFine};
+
+use crate::decimal::{Decimal, raise};
+use thiserror::Error;
+
+/// The largest coordinate, and how far the least is below 0.
+const REACH: i64 = 1 << 29;
+
+/// The largest number in units of a scale.
+const MAX_UNITS: u64 = 1 << 62;
+
+/// A coordinate `c` stands for the number (`c` + `origin`) / 10^`digits`.
+#[derive(Clone, Copy, Debug, PartialEq, Eq)]
+pub struct Scale {
+    pub origin: i64,
+    pub digits: u32,
+}
+
+/// Why a number has no coordinate.
+#[derive(Clone, Copy, Debug, PartialEq, Eq, Drop, Error)]
+pub enum ScaleError {
+    #[error("it has more digits behind the point than the scale")]
+    TooFine,
+    #[error("it is too far away")]
+    TooFar,
+}
+
+impl Decimal {
+    /// This number times 10^`digits`. It gives `TooFine` where the number has more digits behind
+    /// the point, and `TooFar` where the product is further than 2^62 from 0.
+    pub fn times_power(&self, digits: u32) -> Result<i64, ScaleError>
+        ensures ok { IfOk result (λ z. IsTimesPower self.now.negative self.now.magnitude
+            self.now.digits digits z) }
+        ensures within { IfOk result (IsWithin (2 ^ 62)) }
+        ensures too_fine { IsErrOf result TooFine ↔ (digits < self.now.digits) }
+    {
+        if digits < self.digits {
+            return Err(ScaleError::TooFine);
+        }
+        match raise(self.magnitude, digits - self.digits) {
+            Some(units) if units <= MAX_UNITS => {
+                if self.negative {
+                    Ok(-(units as i64))
+                } else {
+                    Ok(units as i64)
+                }
+            }
+            _ => Err(ScaleError::TooFar),
+        }
+    }
+
+    /// The number with at most so many digits behind the point that is nearest to this one, and
+    /// further from 0 where two are.
+    pub fn rounded_to(&self, digits: u32) -> Decimal
+        ensures sign { result.negative ≡ self.now.negative }
+        ensures value { IsRounded self.now.magnitude self.now.digits digits result.magnitude
+            result.digits }
+    {
+        if self.digits <= digits {
+            return *self;
+        }
+        let magnitude = self.magnitude;
+        let magnitude = match raise(1, self.digits - digits) {
+            Some(unit) => nearest_quotient(magnitude, unit),
+            None => 0,
+        };
+        Decimal {
+            negative: self.negative,
+            magnitude,
+            digits,
+        }
+    }
+}
+
+/// How many units a number is, rounded, and up where it is in the middle.
+fn nearest_quotient(number: u64, unit: u64) -> u64
+    requires { 10 ≤ unit }
+    ensures above { 2 * number ≤ (2 * result + 1) * unit }
+    ensures below { 2 * result * unit ≤ 2 * number + unit }
+{
+    let rest = number % unit;
+    if unit - rest <= rest {
+        number / unit + 1
+    } else {
+        number / unit
+    }
+}
+
+impl Scale {
+    /// The scale of numbers from `least` to `most`, in units of 10^-`digits`: at 0 where that will
+    /// do, else with `least` at the least coordinate.
+    pub fn between(digits: u32, least: i64, most: i64) -> Scale
+        ensures digits { result.digits ≡ digits }
+        ensures fits { IsWithin (2 ^ 62) least → (most -ℤ least) ≤ℤ pos (2 ^ 30) →
+            (z : ℤ) → least ≤ℤ z → z ≤ℤ most → IsWithin (2 ^ 29) (z -ℤ result.origin) }
+    {
+        let at_0 = -REACH <= least && most <= REACH;
+        Scale {
+            origin: if at_0 { 0 } else { least.saturating_add(REACH) },
+            digits,
+        }
+    }
+
+    /// The coordinate of a number. It gives `TooFine` where the number has more digits behind the
+    /// point than the scale, and `TooFar` where the coordinate would be out of range.
+    pub fn coordinate(&self, number: &Decimal) -> Result<i32, ScaleError>
+        ensures ok { IfOk result (λ c. IsTimesPower number.now.negative number.now.magnitude
+            number.now.digits self.now.digits (c +ℤ self.now.origin)) }
+        ensures within { IfOk result (IsWithin (2 ^ 29)) }
+        ensures too_fine { IsErrOf result TooFine ↔ (self.now.digits < number.now.digits) }
+    {
+        let units = number.times_power(self.digits)?;
+        match units.checked_sub(self.origin) {
+            Some(moved) if -REACH <= moved && moved <= REACH => Ok(moved as i32),
+            _ => Err(ScaleError::TooFar),
+        }
+    }
+}

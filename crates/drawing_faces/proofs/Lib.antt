@@ -1,0 +1,3 @@
+pub mod Made
+pub mod MeshFaces
+pub mod Inside

@@ -1,0 +1,7 @@
+use Rattle.std.proofs.Common.{◌≡◌, map, take}
+use Rattle.drawing_faces.specs.Drawing.{joining_of}
+use Rattle.drawing_faces.proofs.edits.joinings.Given as goal
+
+abbrev pub invariant-loop-segment : goal.invariant-loop-segment
+invariant-loop-segment l =
+    l.edits.items ≡ map (joining_of l.vertices) (take l.segment-index l.segments)

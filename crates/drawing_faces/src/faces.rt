@@ -1,0 +1,66 @@
+//! The faces of a triangulation.
+ghost use Rattle.std.specs.Prelude.{◌≡◌, ◌<◌, drop, map, IfOk};
+ghost use Rattle.delaunay_legalization.specs.State.{triangulation_of};
+ghost use Rattle.drawing_faces.specs.Drawing.{face_of, faces_inside, indexes_at};
+ghost use Rattle.drawing_faces.specs.Drawing.{position};
+
+use spade_delaunay::handles::FaceHandle;
+use spade_delaunay::{Point2, Triangulation};
+use std::alloc::{AllocError, Global};
+
+/// The vertices of a face, by index, against the clock.
+#[derive(Clone, Copy, Debug, PartialEq, Eq)]
+pub struct FaceCorners {
+    pub first: u32,
+    pub second: u32,
+    pub third: u32,
+}
+
+/// The corners of an inner face.
+fn corners_of<DE, UE, F>(face: FaceHandle<'_, Point2<i32>, DE, UE, F>) -> FaceCorners
+    requires { 0 < face.index }
+    ensures { result ≡ indexes_at face.entry.dcel.now.mesh face.entry.index }
+{
+    let [a, b, c] = face.vertices();
+    FaceCorners {
+        first: a.fix().index(),
+        second: b.fix().index(),
+        third: c.fix().index(),
+    }
+}
+
+/// All inner faces, each once, by rising index.
+pub fn faces_of<T: Triangulation<Vertex = Point2<i32>>>(
+    site: &T,
+    alloc: Global,
+) -> Result<Vec<FaceCorners>, AllocError>
+    ensures { IfOk result (λ faces. map face_of faces.items ≡
+        (triangulation_of position (T.state site.now)).faces) }
+{
+    site.recall_invariant();
+    let mut faces = Vec::with_capacity(alloc, site.num_inner_faces())?;
+    for face in site.inner_faces() {
+        faces.push(corners_of(face))?;
+    }
+    Ok(faces)
+}
+
+/// The faces of a layer above 0, by the layers of all faces, of which the outer one comes first.
+pub fn faces_inside(
+    faces: &[FaceCorners],
+    layers: &[u32],
+    alloc: Global,
+) -> Result<Vec<FaceCorners>, AllocError>
+    ensures { IfOk result (λ kept. kept.items ≡ faces_inside (drop 1 layers.now) faces.now) }
+{
+    let mut kept = Vec::new(alloc);
+    for (i, face) in faces.iter().enumerate() {
+        if i + 1 >= layers.len() {
+            break;
+        }
+        if layers[i + 1] != 0 {
+            kept.push(*face)?;
+        }
+    }
+    Ok(kept)
+}

@@ -1,0 +1,144 @@
+//! The words of the command line.
+use clap::{Arg, ArgAction, ArgMatches, Command};
+use mesh_files::{Form, Rounding};
+use std::alloc::{AllocError, Global};
+
+/// The form of a file that is read.
+#[derive(Clone, Copy, PartialEq, Eq)]
+pub enum Source {
+    Csv,
+    Node,
+    Poly,
+}
+
+/// What is asked for.
+#[derive(Drop)]
+pub struct Task<'a> {
+    pub file: Option<&'a str>,
+    pub source: Source,
+    pub form: Form,
+    pub output: Option<&'a str>,
+    pub lines: Option<&'a str>,
+    pub rounding: Rounding,
+    pub skips_crossing: bool,
+    pub keeps_inside: bool,
+    pub is_quiet: bool,
+    pub width: u32,
+}
+
+const SOURCES: [&str; 3] = ["csv", "node", "poly"];
+
+const FORMS: [&str; 7] = ["obj", "ply", "geojson", "svg", "ele", "node", "csv"];
+
+/// The options that say what is read and written.
+fn with_files<'a>(command: Command<'a>, alloc: Global) -> Result<Command<'a>, AllocError> {
+    let from = Arg::new(alloc, "from")
+        .long("from")
+        .value_name("FORM")
+        .help("What is read; else what FILE ends in tells, or it is csv")
+        .value_parser(SOURCES.as_slice());
+    let to = Arg::new(alloc, "to")
+        .long("to")
+        .value_name("FORM")
+        .help("What is written; else what the output file ends in tells, or it is obj")
+        .value_parser(FORMS.as_slice());
+    let output = Arg::new(alloc, "output")
+        .long("output")
+        .short('o')
+        .value_name("FILE")
+        .help("Writes to this file in place of standard output");
+    let lines = Arg::new(alloc, "lines")
+        .long("lines")
+        .value_name("FILE")
+        .help("A table of segments beside a table of points: columns from, to");
+    let file = Arg::new(alloc, "FILE").help("The file that is read; else standard input");
+    command
+        .arg(from)?
+        .arg(to)?
+        .arg(output)?
+        .arg(lines)?
+        .arg(file)
+}
+
+/// The options that say how.
+fn with_choices<'a>(command: Command<'a>, alloc: Global) -> Result<Command<'a>, AllocError> {
+    let round = Arg::new(alloc, "round")
+        .long("round")
+        .value_name("DIGITS")
+        .help("Rounds to so many digits behind the point; else numbers are taken exactly")
+        .value_parser(clap::value_parser!(u32).range(0..31));
+    let skip = Arg::new(alloc, "skip-crossing")
+        .long("skip-crossing")
+        .help("Leaves out segments that cross those before them")
+        .action(ArgAction::SetTrue);
+    let keep = Arg::new(alloc, "keep")
+        .long("keep")
+        .value_name("PART")
+        .help("Keeps the faces that segments close off from outside and from holes")
+        .value_parser(["inside"].as_slice());
+    let size = Arg::new(alloc, "size")
+        .long("size")
+        .value_name("PIXELS")
+        .help("How wide a picture is")
+        .value_parser(clap::value_parser!(u32).range(1..100001));
+    let quiet = Arg::new(alloc, "quiet")
+        .long("quiet")
+        .short('q')
+        .help("Tells nothing but errors on standard error")
+        .action(ArgAction::SetTrue);
+    command
+        .arg(round)?
+        .arg(skip)?
+        .arg(keep)?
+        .arg(size)?
+        .arg(quiet)
+}
+
+/// The words that there are.
+pub fn command<'a>(alloc: Global) -> Result<Command<'a>, AllocError> {
+    let command = Command::new(alloc, "mesh").version("1.0").about(
+        "Reads points and segments, and writes their constrained Delaunay triangulation.",
+    );
+    with_choices(with_files(command, alloc)?, alloc)
+}
+
+/// What a file's name ends in, behind its last point.
+fn suffix(name: Option<&str>) -> &str {
+    match name {
+        Some(name) => match name.rsplit_once('.') {
+            Some((_, suffix)) => suffix,
+            None => "",
+        },
+        None => "",
+    }
+}
+
+fn source_named(name: &str) -> Source {
+    match name {
+        "node" => Source::Node,
+        "poly" => Source::Poly,
+        _ => Source::Csv,
+    }
+}
+
+/// What the words ask for.
+pub fn task_of<'a>(matches: &ArgMatches<'a>) -> Task<'a> {
+    let file = matches.get_str("FILE");
+    let output = matches.get_str("output");
+    let form = matches.get_str("to").unwrap_or(suffix(output));
+    Task {
+        file,
+        source: source_named(matches.get_str("from").unwrap_or(suffix(file))),
+        form: Form::named(form).unwrap_or(Form::Obj),
+        output,
+        lines: matches.get_str("lines"),
+        rounding: match matches.get_one::<u32>("round") {
+            Some(digits) => Rounding::To(digits),
+            None => Rounding::Exact,
+        },
+        skips_crossing: matches.get_flag("skip-crossing"),
+        keeps_inside: matches.contains_id("keep"),
+        is_quiet: matches.get_flag("quiet"),
+        width: matches.get_one::<u32>("size").unwrap_or(800),
+    }
+}

@@ -1,0 +1,302 @@
+//! Tables of comma-separated values with a header. Points have the columns `x` and `y`, and where
+//! there are such `z`, `ring` and `line`: rows next to one another with the same word for `ring`
+//! are the corners of a polygon, and with the same word for `line` the points of a path. Segments
+//! have the columns `from` and `to`: numbers of points, from 1, in the order of their rows.
+use crate::drawing::{Drawing, Segment, Spot};
+use crate::fault::{FileFault, Reason};
+use crate::text::CheckedText;
+use crate::words::count_of;
+use csv::{ByteRecord, ErrorKind, Reader, ReaderBuilder};
+use std::alloc::Global;
+use std::io::Read;
+
+/// Where the columns of points are.
+#[derive(Drop)]
+struct Columns {
+    x: usize,
+    y: usize,
+    z: Option<usize>,
+    ring: Option<usize>,
+    path: Option<usize>,
+}
+
+fn column(header: &ByteRecord, name: &str) -> Option<usize> {
+    for i in 0..header.len() {
+        if let Some(field) = header.get(i) {
+            if field.trim_ascii().eq_ignore_ascii_case(name.as_bytes()) {
+                return Some(i);
+            }
+        }
+    }
+    None
+}
+
+fn needed_column(header: &ByteRecord, name: &'static str) -> Result<usize, FileFault> {
+    match column(header, name) {
+        Some(column) => Ok(column),
+        None => Err(FileFault::at(1, Reason::NoColumn(name))),
+    }
+}
+
+fn find_columns(header: &ByteRecord) -> Result<Columns, FileFault> {
+    Ok(Columns {
+        x: needed_column(header, "x")?,
+        y: needed_column(header, "y")?,
+        z: column(header, "z"),
+        ring: column(header, "ring"),
+        path: column(header, "line"),
+    })
+}
+
+fn line_of(line: u64) -> u32 {
+    u32::try_from(line).unwrap_or(u32::MAX)
+}
+
+/// What is wrong where a record could not be read, the last before it being in this line.
+fn fault_of(error: csv::Error, line: u32) -> FileFault {
+    match error.into_kind() {
+        ErrorKind::UnequalLengths { pos, .. } => FileFault::at(
+            match pos {
+                Some(pos) => line_of(pos.line()),
+                None => line,
+            },
+            Reason::OtherFields,
+        ),
+        ErrorKind::OutOfMemory => FileFault::at(line, Reason::NoMemory),
+        _ => FileFault::at(line, Reason::Unreadable),
+    }
+}
+
+/// A field without blanks round it.
+fn word_of(record: &ByteRecord, column: usize) -> &[u8] {
+    record.get(column).unwrap_or(&[]).trim_ascii()
+}
+
+/// A run of rows with the same word.
+#[derive(Drop)]
+struct Run {
+    word: Vec<u8>,
+    first: u32,
+    last: u32,
+    line: u32,
+    closes: bool,
+}
+
+impl Run {
+    fn new(alloc: Global, closes: bool) -> Self {
+        Run {
+            word: Vec::new(alloc),
+            first: 0,
+            last: 0,
+            line: 0,
+            closes,
+        }
+    }
+
+    /// Ends the run: a polygon's last corner is joined to its first.
+    fn end(&mut self, segments: &mut Vec<Segment>) -> Result<(), FileFault> {
+        if self.closes && !self.word.is_empty() && self.first != self.last {
+            segments.push(Segment {
+                from: self.last,
+                to: self.first,
+                line: self.line,
+            })?;
+        }
+        self.word.clear();
+        Ok(())
+    }
+
+    /// Takes a row in: it goes on with the run, or begins another.
+    fn row(
+        &mut self,
+        word: &[u8],
+        place: u32,
+        line: u32,
+        segments: &mut Vec<Segment>,
+    ) -> Result<(), FileFault> {
+        if self.word.as_slice() != word {
+            self.end(segments)?;
+            self.word.extend_from_slice(word)?;
+            self.first = place;
+        } else if !word.is_empty() {
+            segments.push(Segment {
+                from: self.last,
+                to: place,
+                line,
+            })?;
+        }
+        self.last = place;
+        self.line = line;
+        Ok(())
+    }
+}
+
+/// The polygons and paths that rows belong to.
+#[derive(Drop)]
+struct Runs {
+    ring: Run,
+    path: Run,
+}
+
+impl Runs {
+    fn row(
+        &mut self,
+        record: &ByteRecord,
+        columns: &Columns,
+        place: u32,
+        line: u32,
+        segments: &mut Vec<Segment>,
+    ) -> Result<(), FileFault> {
+        if let Some(column) = columns.ring {
+            self.ring
+                .row(word_of(record, column), place, line, segments)?;
+        }
+        if let Some(column) = columns.path {
+            self.path
+                .row(word_of(record, column), place, line, segments)?;
+        }
+        Ok(())
+    }
+}
+
+/// Takes the numbers of a row in.
+fn take_point(
+    drawing: &mut Drawing,
+    record: &ByteRecord,
+    columns: &Columns,
+    line: u32,
+) -> Result<(), FileFault> {
+    let x = drawing.number(word_of(record, columns.x), "x", line)?;
+    let y = drawing.number(word_of(record, columns.y), "y", line)?;
+    drawing.spots.push(Spot { x, y, line })?;
+    if let Some(column) = columns.z {
+        let height = drawing.number(word_of(record, column), "z", line)?;
+        drawing.heights.push(height)?;
+    }
+    Ok(())
+}
+
+fn read_points<R: Read>(
+    reader: &mut Reader<R>,
+    columns: &Columns,
+    drawing: &mut Drawing,
+    alloc: Global,
+) -> Result<(), FileFault> {
+    let mut record = ByteRecord::new(alloc);
+    let mut runs = Runs {
+        ring: Run::new(alloc, true),
+        path: Run::new(alloc, false),
+    };
+    let mut line = 1;
+    for place in 0..u32::MAX {
+        match reader.read_byte_record(&mut record) {
+            Ok(true) => {}
+            Ok(false) => {
+                runs.ring.end(&mut drawing.segments)?;
+                return Ok(());
+            }
+            Err(error) => return Err(fault_of(error, line)),
+        }
+        if let Some(position) = record.position() {
+            line = line_of(position.line());
+        }
+        take_point(drawing, &record, columns, line)?;
+        runs.row(&record, columns, place, line, &mut drawing.segments)?;
+    }
+    Err(FileFault::at(line, Reason::TooMany))
+}
+
+/// The header of a table.
+fn header_of<R: Read>(reader: &mut Reader<R>, alloc: Global) -> Result<ByteRecord, FileFault> {
+    let mut header = ByteRecord::new(alloc);
+    match reader.read_byte_record(&mut header) {
+        Ok(true) => Ok(header),
+        Ok(false) => Err(FileFault::at(1, Reason::Ends("a header"))),
+        Err(error) => Err(fault_of(error, 1)),
+    }
+}
+
+fn read_drawing<R: Read + Drop>(
+    text: R,
+    drawing: &mut Drawing,
+    alloc: Global,
+) -> Result<(), FileFault> {
+    let mut reader = ReaderBuilder::new()
+        .has_headers(false)
+        .from_reader(alloc, text);
+    let header = header_of(&mut reader, alloc)?;
+    let columns = find_columns(&header)?;
+    read_points(&mut reader, &columns, drawing, alloc)
+}
+
+/// Reads points from a table.
+pub fn read_csv<R: Read + Drop>(reader: R, alloc: Global) -> Result<Drawing, FileFault> {
+    let mut text = CheckedText::new(reader);
+    let mut drawing = Drawing::new(alloc);
+    let outcome = read_drawing(&mut text, &mut drawing, alloc);
+    if let Some(fault) = text.fault() {
+        return Err(fault);
+    }
+    outcome?;
+    Ok(drawing)
+}
+
+/// The place of a point that is named by its number, from 1.
+fn point_named(
+    record: &ByteRecord,
+    column: usize,
+    count: usize,
+    line: u32,
+) -> Result<u32, FileFault> {
+    match count_of(word_of(record, column)) {
+        Some(number) if number > 0 && number as usize <= count => Ok(number - 1),
+        Some(number) => Err(FileFault::at(line, Reason::NoPoint(u64::from(number)))),
+        None => Err(FileFault::at(line, Reason::NotCount("a segment's end"))),
+    }
+}
+
+fn read_ends<R: Read + Drop>(
+    text: R,
+    drawing: &mut Drawing,
+    alloc: Global,
+) -> Result<(), FileFault> {
+    let mut reader = ReaderBuilder::new()
+        .has_headers(false)
+        .from_reader(alloc, text);
+    let header = header_of(&mut reader, alloc)?;
+    let (start, end) = (
+        needed_column(&header, "from")?,
+        needed_column(&header, "to")?,
+    );
+    let mut record = ByteRecord::new(alloc);
+    let mut line = 1;
+    for _ in 0..u64::MAX {
+        match reader.read_byte_record(&mut record) {
+            Ok(true) => {}
+            Ok(false) => return Ok(()),
+            Err(error) => return Err(fault_of(error, line)),
+        }
+        if let Some(position) = record.position() {
+            line = line_of(position.line());
+        }
+        let count = drawing.spots.len();
+        let from = point_named(&record, start, count, line)?;
+        let to = point_named(&record, end, count, line)?;
+        drawing.segments.push(Segment { from, to, line })?;
+    }
+    Ok(())
+}
+
+/// Reads segments between the points of a drawing from a table.
+pub fn read_segments<R: Read + Drop>(
+    reader: R,
+    drawing: &mut Drawing,
+    alloc: Global,
+) -> Result<(), FileFault> {
+    let mut text = CheckedText::new(reader);
+    let outcome = read_ends(&mut text, drawing, alloc);
+    match text.fault() {
+        Some(fault) => Err(fault),
+        None => outcome,
+    }
+}

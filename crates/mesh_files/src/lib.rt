@@ -1,0 +1,21 @@
+//! Points and segments in text files, and faces between points as text of several forms.
+#![tactic(auto)]
+
+mod csv_tables;
+mod drawing;
+mod faces;
+mod fault;
+mod picture;
+mod scaled;
+mod text;
+mod triangle_files;
+mod words;
+mod writing;
+
+pub use csv_tables::{read_csv, read_segments};
+pub use drawing::{Drawing, Number, Segment, Spot};
+pub use fault::{FileFault, Reason};
+pub use scaled::{Rounding, Scaled, scale};
+pub use text::CheckedText;
+pub use triangle_files::{read_node, read_poly};
+pub use writing::{Form, MeshText};
