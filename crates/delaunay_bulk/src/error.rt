@@ -9,7 +9,7 @@ use thiserror::Error;
 /// match hill.insert_all(points, &ExactTests) {
 ///     Ok(vertices) => println!(rt; "{} points", vertices.len())?,
 ///     Err(BulkInsertionError::Vertex { place, error }) => println!(rt; "line {place}: {error}")?,
-///     Err(BulkInsertionError::List(error)) => println!(rt; "{error}")?,
+///     Err(BulkInsertionError::NoRoom(error)) => println!(rt; "{error}")?,
 /// }
 /// ```
 #[derive(Clone, Copy, Debug, PartialEq, Eq, Drop, Error)]
@@ -21,5 +21,5 @@ pub enum BulkInsertionError {
     /// There is no room for so many vertices, or no memory for their order and handles. Nothing was
     /// inserted. It prints what `InsertionError` prints.
     #[error("{0}")]
-    List(InsertionError),
+    NoRoom(InsertionError),
 }

@@ -1,4 +1,8 @@
 //! The call of both triangulations that inserts the vertices of a list.
+ghost use Rattle.std.specs.Prelude.{◌≡◌, ◌+◌, ◌*◌, ◌<◌, length, All, IfErr, IfOk};
+ghost use Rattle.plane.specs.Tests.{InRange};
+ghost use Rattle.delaunay_interface.specs.Headline.{AreSites, IsDelaunay};
+ghost use Rattle.delaunay_bulk.specs.Bulk.{InsertsAll, StopsAt};
 
 use crate::bulk_insertion::BulkInsertion;
 use crate::error::BulkInsertionError;
@@ -12,7 +16,9 @@ use std::alloc::{AllocError, Global};
 pub type ScalarOf<T> = <VertexOf<T> as HasPosition>::Scalar;
 
 // A handle for each of so many places, to be written.
-fn unknown_handles(alloc: Global, count: usize) -> Result<Vec<FixedVertexHandle>, AllocError> {
+fn unknown_handles(alloc: Global, count: usize) -> Result<Vec<FixedVertexHandle>, AllocError>
+    ensures { IfOk result (λ handles. length handles.items ≡ count) }
+{
     Vec::from_elem(alloc, FixedVertexHandle::from_index(0), count)
 }
 
@@ -24,7 +30,7 @@ pub trait InsertAll: Triangulation {
     /// several vertices at one position the last of the list is kept, and all have its handle.
     ///
     /// Nothing is inserted where it gives `Vertex` with `TooLarge`, for the least place whose
-    /// vertex is out of range, or `List`: with `OutOfIndexes` where six times the number of
+    /// vertex is out of range, or `NoRoom`: with `OutOfIndexes` where six times the number of
     /// vertices with those of the list passes `MAX_ELEMENTS`, and else with `OutOfMemory` where
     /// memory was refused. All memory that it takes is reserved by then but that of a hint
     /// generator, which does with less. Where another vertex is refused, those that were inserted
@@ -42,18 +48,33 @@ pub trait InsertAll: Triangulation {
         &mut self,
         vertices: Vec<VertexOf<Self>>,
         tests: &P,
-    ) -> Result<Vec<FixedVertexHandle>, BulkInsertionError> {
+    ) -> Result<Vec<FixedVertexHandle>, BulkInsertionError>
+        requires sites { AreSites Self.Vertex.place (P.sites tests.now)
+            (Self.state self.old).vertices }
+        requires new_sites { All (λ v. InRange (Self.Vertex.place v) → P.sites tests.now
+            (Self.Vertex.place v)) vertices.items }
+        ensures inserts { IfOk result (λ handles. InsertsAll Self.Vertex.place
+            Self.Constraints.constraints vertices.items handles.items (Self.state self.old)
+            (Self.state self.new)) }
+        ensures stops { IfErr result (λ error. StopsAt Self.Vertex.place
+            Self.Constraints.constraints vertices.items error (Self.state self.old)
+            (Self.state self.new)) }
+        ensures headline { IsDelaunay Self.Vertex.place Self.Constraints.constraints
+            (Self.state self.new) }
+    {
+        self.recall_invariant();
         let alloc = *vertices.allocator();
         let mut insertion = BulkInsertion::new(vertices)?;
         let Ok(mut handles) = unknown_handles(alloc, insertion.len()) else {
-            return Err(BulkInsertionError::List(InsertionError::OutOfMemory));
+            return Err(BulkInsertionError::NoRoom(InsertionError::OutOfMemory));
         };
         if let Err(error) = self.reserve(insertion.len()) {
-            return Err(BulkInsertionError::List(error));
+            return Err(BulkInsertionError::NoRoom(error));
         }
         while let Some((place, handle)) = insertion.insert_next(self, tests)? {
             handles[place] = handle;
         }
+        self.recall_invariant();
         Ok(handles)
     }
 }

@@ -1,4 +1,7 @@
 //! The order in which vertices are inserted.
+ghost use Rattle.std.specs.Prelude.{◌≡◌, ◌<◌, length, map, Some, slice_get, IfOk, MatchOption, All};
+ghost use Rattle.plane.specs.Tests.{InRange};
+ghost use Rattle.delaunay_bulk.specs.Order.{IsFirstOutside, IsListed, entry_of};
 
 use crate::curve::curve_key;
 use delaunay_core::math::validate_vertex;
@@ -14,7 +17,10 @@ pub(crate) struct Placed<V> {
 }
 
 /// The least place with a vertex that is out of range, if there is one.
-pub(crate) fn first_too_large<V: HasPosition>(vertices: &[V]) -> Option<usize> {
+pub(crate) fn first_too_large<V: HasPosition>(vertices: &[V]) -> Option<usize>
+    ensures { MatchOption result (All (λ v. InRange (V.place v)) vertices.now)
+        (IsFirstOutside V.place vertices.now) }
+{
     for place in 0..vertices.len() {
         if validate_vertex(&vertices[place]).is_err() {
             return Some(place);
@@ -27,7 +33,10 @@ pub(crate) fn first_too_large<V: HasPosition>(vertices: &[V]) -> Option<usize> {
 /// memory was refused.
 pub(crate) fn along_curve<V: HasPosition + Drop>(
     vertices: Vec<V>,
-) -> Result<Vec<Placed<V>>, AllocError> {
+) -> Result<Vec<Placed<V>>, AllocError>
+    ensures { IfOk result
+        (λ placed. IsListed V.place vertices.items (map entry_of placed.items)) }
+{
     let mut placed = Vec::with_capacity(*vertices.allocator(), vertices.len())?;
     for vertex in vertices {
         let position = vertex.position();
@@ -35,6 +44,6 @@ pub(crate) fn along_curve<V: HasPosition + Drop>(
         let place = placed.len();
         placed.push_reserved(Placed { key, place, vertex });
     }
-    placed.sort_unstable_by_key(|entry| (entry.key, entry.place));
+    placed.sort_by_key(|entry| entry.key)?;
     Ok(placed)
 }
