@@ -96,6 +96,7 @@ impl<V: HasPosition + Drop> BulkInsertion<V> {
             (λ e. InRange (V.place e.1) → P.sites tests.now (V.place e.1)) self.old }
         ensures inserts { InsertsNext V.place T.Constraints.constraints result self.old self.new
             (T.state triangulation.old) (T.state triangulation.new) }
+        ensures sites { AreSites V.place (P.sites tests.now) (T.state triangulation.new).vertices }
         ensures headline { IsDelaunay V.place T.Constraints.constraints
             (T.state triangulation.new) }
     {
