@@ -14,7 +14,7 @@ use Rattle.delaunay_interface.proofs.Stepping.{inserted_grows, inserted_here}
 use Rattle.delaunay_bulk.specs.declared.error.BulkInsertionError.{BulkInsertionError}
 use Rattle.delaunay_bulk.specs.Order.{IsListed, IsOrder}
 use Rattle.delaunay_bulk.specs.Bulk.{InsertsAll, InsertsInTurn, InsertsNext, InsertsOne}
-use Rattle.delaunay_bulk.specs.Bulk.{HaveHandles, RefusesOne, StopsLater}
+use Rattle.delaunay_bulk.specs.Bulk.{HaveHandles, RefusesOne, StopsLater, TriesOne}
 use Rattle.delaunay_bulk.proofs.Handled.{AreHandled, all_handled, one_handled}
 
 -- what all of a list have, the one at an index has
@@ -47,6 +47,20 @@ module _ {V D U F : Type 0} (place : V → Point) (constraints : List U → List
   runs_from_turns (e ∷ es) old new (h, (next, (first, rest))) =
       (plain_of next, (h, first.inserts.ok), runs_from_turns es next new rest)
 
+  -- ---- one step
+  pub idle : (left rest : List (ℕ × V)) (s : State V D U F) → length left ≡ 0 → rest ≡ left
+      → InsertsNext place constraints (Ok None) left rest s s
+  idle [] rest s none same = (refl, same, refl)
+  idle (e ∷ es) rest s none same = absurd (omega (arith, none))
+
+  pub tried : (left rest : List (ℕ × V)) (e : ℕ × V)
+      (result : Result (Option (ℕ × ℕ)) BulkInsertionError) (old new : State V D U F)
+      → left ≡ e ∷ rest → TriesOne place constraints e result old new
+      → InsertsNext place constraints result left rest old new
+  tried left rest e result old new is one =
+      subst (λ (es : List (ℕ × V)). InsertsNext place constraints result es rest old new) (sym is)
+      (refl, one)
+
   -- ---- what one step was
   pub record NextWas (left rest : List (ℕ × V)) (i h : ℕ) (old new : State V D U F) : Type 0 where
     pub vertex : V
@@ -56,11 +70,12 @@ module _ {V D U F : Type 0} (place : V → Point) (constraints : List U → List
   pub next_was : (left rest : List (ℕ × V)) (i h : ℕ) (old new : State V D U F)
       → InsertsNext place constraints (Ok (Some (i, h))) left rest old new
       → NextWas left rest i h old new
-  next_was [] rest i h old new (no, e, same) = absurd (cc)
+  next_was [] rest i h old new (told, e, same) = absurd (cc)
   next_was (e ∷ es) rest i h old new (is, tries) =
       let told : Some (i, h) ≡ Some (e.0, tries.ok.0) = tries.ok.1.0 in
-      let at : i ≡ e.0 = cc in
-      let handle : tries.ok.0 ≡ h = cc in record {
+      let pair : (i, h) ≡ (e.0, tries.ok.0) = cc in
+      let at : i ≡ e.0 = ap (λ (p : ℕ × ℕ). p.0) pair in
+      let handle : tries.ok.0 ≡ h = sym (ap (λ (p : ℕ × ℕ). p.1) pair) in record {
         vertex = e.1;
         is = ap (λ (k : ℕ). (k, e.1) ∷ es) (sym at) ∙ ap (λ (fs : List (ℕ × V)). (i, e.1) ∷ fs) (sym is);
         one = subst (λ (k : ℕ). InsertsOne place constraints e.1 k old new) handle tries.ok.1.1;
@@ -83,7 +98,7 @@ module _ {V D U F : Type 0} (place : V → Point) (constraints : List U → List
   pub refused_was : (left rest : List (ℕ × V)) (error : BulkInsertionError)
       (old new : State V D U F) → InsertsNext place constraints (Err error) left rest old new
       → RefusedWas left error old new
-  refused_was [] rest error old new (no, e, same) = absurd (cc)
+  refused_was [] rest error old new (told, e, same) = absurd (cc)
   refused_was (e ∷ es) rest error old new (is, tries) =
       record { entry = e; rest = es; is = refl; refused = tries.err }
 
@@ -129,7 +144,7 @@ module _ {V D U F : Type 0} (place : V → Point) (constraints : List U → List
       split = u.split ∙ ap (λ (es : List (ℕ × V)). u.made ++ es) is
           ∙ sym (append_assoc u.made ((i, v) ∷ []) rest);
       turns = turns_push u.made (i, v) h old now new u.turns one;
-      there = All-rest (λ (e : ℕ × V). slice_get list e.0 ≡ Some e.1) (i, v) left rest is u.there;
+      there = All-rest (λ (e : ℕ × V). slice_get list e.0 ≡ Some e.1) (i, v) rest left is u.there;
       handled = one_handled place list (map (λ e. e.0) left) (map (λ e. e.0) rest) handles
           (plain_of now) (plain_of new) i v h
           (ap (map (λ (e : ℕ × V). e.0)) is) read one.inserts.ok

@@ -1,5 +1,5 @@
 //! The call of both triangulations that inserts the vertices of a list.
-ghost use Rattle.std.specs.Prelude.{◌≡◌, ◌+◌, ◌*◌, ◌<◌, length, All, IfErr, IfOk};
+ghost use Rattle.std.specs.Prelude.{◌≡◌, ◌+◌, ◌*◌, ◌<◌, length, slice_set, All, IfErr, IfOk};
 ghost use Rattle.plane.specs.Tests.{InRange};
 ghost use Rattle.delaunay_interface.specs.Headline.{AreSites, IsDelaunay};
 ghost use Rattle.delaunay_bulk.specs.Bulk.{InsertsAll, StopsAt};
@@ -20,6 +20,14 @@ fn unknown_handles(alloc: Global, count: usize) -> Result<Vec<FixedVertexHandle>
     ensures { IfOk result (λ handles. length handles.items ≡ count) }
 {
     Vec::from_elem(alloc, FixedVertexHandle::from_index(0), count)
+}
+
+// Writes the handle of a place.
+fn write_at(handles: &mut Vec<FixedVertexHandle>, place: usize, handle: FixedVertexHandle)
+    requires { place < length handles.old.items }
+    ensures { handles.new.items ≡ slice_set handles.old.items place handle }
+{
+    handles[place] = handle;
 }
 
 /// Insertions of many vertices: of both triangulations.
@@ -72,7 +80,7 @@ pub trait InsertAll: Triangulation {
             return Err(BulkInsertionError::NoRoom(error));
         }
         while let Some((place, handle)) = insertion.insert_next(self, tests)? {
-            handles[place] = handle;
+            write_at(&mut handles, place, handle);
         }
         self.recall_invariant();
         Ok(handles)
