@@ -32,8 +32,13 @@ module _ {V D U F : Type 0} (place : V → Point) (constraints : List U → List
       → InsertsInTurn place constraints es old middle
       → InsertsOne place constraints e.1 h middle new
       → InsertsInTurn place constraints (es ++ e ∷ []) old new
-  turns_push [] e h old middle new none one = (h, (new,
-      (subst (λ (s : State V D U F). InsertsOne place constraints e.1 h s new) none one, refl)))
+  turns_push [] e h old middle new none one = (
+    h,
+    (
+      new,
+      (subst (λ (s : State V D U F). InsertsOne place constraints e.1 h s new) none one, refl),
+    ),
+  )
   turns_push (f ∷ es) e h old middle new (k, (next, (first, rest))) one =
       (k, (next, (first, turns_push es e h next middle new rest one)))
 

@@ -69,13 +69,13 @@ module _ {V D U F : Type 0} (place : V → Point) (constraints : List U → List
   -- position as they are, and these are their handles. So the plain state is that of a run of such
   -- insertions
   pub record InsertsAll (vertices : List V) (handles : List ℕ) (old new : State V D U F) : Type 0
-      where
-    pub order : List (ℕ × V)
-    pub listed : IsListed place vertices order
-    pub turns : InsertsInTurn order old new
-    pub runs : Run place (map (λ e. insert e.1) order) (points_and_constraints_by constraints old)
-        (points_and_constraints_by constraints new)
-    pub handles_are : HaveHandles place vertices handles new.vertices
+    where
+      pub order : List (ℕ × V)
+      pub listed : IsListed place vertices order
+      pub turns : InsertsInTurn order old new
+      pub runs : Run place (map (λ e. insert e.1) order) (points_and_constraints_by constraints old)
+          (points_and_constraints_by constraints new)
+      pub handles_are : HaveHandles place vertices handles new.vertices
 
   -- after some of these insertions a vertex was refused
   pub record StopsLater (vertices : List V) (error : BulkInsertionError)

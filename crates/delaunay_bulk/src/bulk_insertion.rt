@@ -101,7 +101,14 @@ impl<V: HasPosition + Drop> BulkInsertion<V> {
             (T.state triangulation.new) }
     {
         triangulation.recall_invariant();
-        let Some(Placed { key: _, place, vertex }) = self.left.next() else {
+        let Some(
+            Placed {
+                key: _,
+                place,
+                vertex,
+            },
+        ) = self.left.next()
+        else {
             return Ok(None);
         };
         match triangulation.insert_with_hint(vertex, self.hint, tests) {

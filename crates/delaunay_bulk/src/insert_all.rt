@@ -22,12 +22,12 @@ fn unknown_handles(alloc: Global, count: usize) -> Result<Vec<FixedVertexHandle>
     Vec::from_elem(alloc, FixedVertexHandle::from_index(0), count)
 }
 
-// Writes the handle of a place.
-fn write_at(handles: &mut Vec<FixedVertexHandle>, place: usize, handle: FixedVertexHandle)
-    requires { place < length handles.old.items }
-    ensures { handles.new.items ≡ slice_set handles.old.items place handle }
+// Writes a handle at its place.
+fn write_at(handles: &mut Vec<FixedVertexHandle>, inserted: (usize, FixedVertexHandle))
+    requires { inserted.0 < length handles.old.items }
+    ensures { handles.new.items ≡ slice_set handles.old.items inserted.0 inserted.1 }
 {
-    handles[place] = handle;
+    handles[inserted.0] = inserted.1;
 }
 
 /// Insertions of many vertices: of both triangulations.
@@ -79,8 +79,8 @@ pub trait InsertAll: Triangulation {
         if let Err(error) = self.reserve(insertion.len()) {
             return Err(BulkInsertionError::NoRoom(error));
         }
-        while let Some((place, handle)) = insertion.insert_next(self, tests)? {
-            write_at(&mut handles, place, handle);
+        'vertices: while let Some(inserted) = insertion.insert_next(self, tests)? {
+            write_at(&mut handles, inserted);
         }
         self.recall_invariant();
         Ok(handles)

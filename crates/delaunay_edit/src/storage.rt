@@ -85,7 +85,10 @@ fn reserve_totals<V, DE, UE, F>(
     ensures same { state_of dcel.new ≡ state_of dcel.old }
     ensures memory { OnErr result (result ≡ Err OutOfMemory) }
 {
-    if dcel.reserve_capacity(vertices, 3 * vertices, 2 * vertices).is_err() {
+    if dcel
+        .reserve_capacity(vertices, 3 * vertices, 2 * vertices)
+        .is_err()
+    {
         return Err(InsertionError::OutOfMemory);
     }
     Ok(())

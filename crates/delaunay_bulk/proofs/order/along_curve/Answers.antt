@@ -34,8 +34,15 @@ loop-vertex-preserved g c =
           (read_y ∙ c.to_i64-in-loop-vertex.ensures)
           ∙ ap (λ (q : Point). key_at q.x q.y) c.position-position.ensures)
           (omega (arith, c.len-place.ensures, c.loop-vertex.placed.ok)) refl),
-      omega (arith, fewer, room, c.push_reserved.ensures.len, c.push_reserved.ensures.capacity,
-          c.loop-vertex.placed.ok, c.push_reserved.new.self.ok),
+      omega (
+        arith,
+        fewer,
+        room,
+        c.push_reserved.ensures.len,
+        c.push_reserved.ensures.capacity,
+        c.loop-vertex.placed.ok,
+        c.push_reserved.new.self.ok,
+      ),
     )
 
 pub returns : goal.returns

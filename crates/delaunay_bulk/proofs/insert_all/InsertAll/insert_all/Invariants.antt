@@ -5,8 +5,8 @@ use Rattle.delaunay_interface.specs.Headline.{AreSites}
 use Rattle.delaunay_bulk.proofs.Turns.{IsUnderway}
 use Rattle.delaunay_bulk.proofs.insert_all.InsertAll.insert_all.Given as goal
 
-abbrev pub invariant-loop-handles : goal.invariant-loop-handles
-invariant-loop-handles g l =
+abbrev pub invariant-vertices : goal.invariant-vertices
+invariant-vertices g l =
     let place = g.Self.Vertex.HasPosition.place in
     let sites = g.P.PlaneTests.sites l.tests in
     IsUnderway place g.Self.Constraints.ConstraintMarker.constraints l.fn.vertices.items
@@ -15,5 +15,5 @@ invariant-loop-handles g l =
     × AreSites place sites (g.Self.Triangulation.state l.self).vertices
     × All (λ e. InRange (place e.1) → sites (place e.1)) l.insertion
 
-abbrev pub decreases-loop-handles : goal.decreases-loop-handles
-decreases-loop-handles g l = length l.insertion
+abbrev pub decreases-vertices : goal.decreases-vertices
+decreases-vertices g l = length l.insertion
