@@ -1,4 +1,8 @@
-/* Delaunay triangulations of whole-number points, each call of which is proved.
+/* Delaunay triangulations of whole-number points.
+ *
+ * Proved of each call: whatever handle, length, index or number it is given, it returns and stays
+ * within the lists that it is given; and what a handle has is the constrained Delaunay
+ * triangulation of its points. docs/PROVED.md has what is proved beyond that, call by call.
  *
  * A coordinate is from -TEVASULIM_MOST to TEVASULIM_MOST. A triangulation is plain, or
  * constrained: then edges may be constraints. Vertices, edges and faces have indexes from 0 on.
