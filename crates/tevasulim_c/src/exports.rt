@@ -1,0 +1,587 @@
+//! The calls. include/tevasulim.h says what each does.
+ghost use Rattle.std.specs.Prelude.{◌≡◌, [], None, Some, IfNone, IfSome, MatchOption};
+ghost use Rattle.tevasulim_c.specs.declared.statuses.TheConstants.{ALREADY_OPEN, CLOSED, WELL};
+ghost use Rattle.tevasulim_c.specs.Answers.{InsertsAt, OpensAt};
+ghost use Rattle.tevasulim_c.specs.Kept.{CountsKept, IsKeptDelaunay, kept_vertices, unnumbered_at};
+
+use crate::handle::Handle;
+use crate::kept::KeptPoints;
+use crate::raw::{RawCounts, RawEdge, RawFace, RawMeeting, RawPlace, RawPoint, RawSegment};
+use crate::shapes::{self, RawCircle, RawRectangle};
+use crate::statuses::{
+    ALREADY_OPEN, CLOSED, IS_CONSTRAINED, IS_PLAIN, NO_SUCH_KIND, NO_SUCH_STATUS, OUT_OF_MEMORY,
+    TOO_SHORT, WELL, status_of, words_of,
+};
+use crate::{edits, lists, queries, whole};
+use spade_delaunay::Point2;
+use std::alloc::Global;
+
+/// The version of the library.
+pub const VERSION: u32 = 100;
+
+#[unsafe(no_mangle)]
+pub extern "C" fn tevasulim_version() -> u32 {
+    VERSION
+}
+
+#[unsafe(no_mangle)]
+pub extern "C" fn tevasulim_status_text(status: u32, text: &mut [u8], length: &mut usize) -> u32 {
+    let words = words_of(status).as_bytes();
+    *length = words.len();
+    if text.len() <= words.len() {
+        return TOO_SHORT;
+    }
+    for index in 0..words.len() {
+        text[index] = words[index];
+    }
+    text[words.len()] = 0;
+    if status < NO_SUCH_STATUS {
+        WELL
+    } else {
+        NO_SUCH_STATUS
+    }
+}
+
+#[unsafe(no_mangle)]
+pub extern "C" fn tevasulim_open(alloc: Global, handle: &mut Handle, kind: u32) -> u32
+    ensures { MatchOption handle.old.kept (OpensAt kind result handle.new.kept)
+        (λ old. (result ≡ ALREADY_OPEN) × (handle.new.kept ≡ Some old)) }
+{
+    if let Some(kept) = handle.take(alloc) {
+        handle.put(kept, alloc);
+        return ALREADY_OPEN;
+    }
+    if kind > 1 {
+        return NO_SUCH_KIND;
+    }
+    match Box::new(alloc, KeptPoints::new(alloc, kind == 1)) {
+        Ok(kept) => {
+            handle.put(kept, alloc);
+            WELL
+        }
+        Err(_) => OUT_OF_MEMORY,
+    }
+}
+
+#[unsafe(no_mangle)]
+pub extern "C" fn tevasulim_close(alloc: Global, handle: &mut Handle)
+    ensures { handle.new.kept ≡ None }
+{
+    drop(handle.take(alloc));
+}
+
+#[unsafe(no_mangle)]
+pub extern "C" fn tevasulim_allow_constraints(alloc: Global, handle: &mut Handle) -> u32
+    ensures headline { IfSome handle.new.kept IsKeptDelaunay }
+    ensures closed { IfNone handle.old.kept ((result ≡ CLOSED) × (handle.new.kept ≡ None)) }
+{
+    let Some(mut kept) = handle.take(alloc) else {
+        return CLOSED;
+    };
+    let (changed, status) = std::mem::replace(
+        &mut *kept,
+        KeptPoints::new(alloc, false),
+    ).allow_constraints();
+    *kept = changed;
+    kept.recall_headline();
+    handle.put(kept, alloc);
+    status
+}
+
+#[unsafe(no_mangle)]
+pub extern "C" fn tevasulim_clear(alloc: Global, handle: &mut Handle) -> u32
+    ensures headline { IfSome handle.new.kept IsKeptDelaunay }
+    ensures empty { IfSome handle.new.kept (λ k. kept_vertices k ≡ []) }
+    ensures closed { IfNone handle.old.kept ((result ≡ CLOSED) × (handle.new.kept ≡ None)) }
+{
+    let Some(mut kept) = handle.take(alloc) else {
+        return CLOSED;
+    };
+    kept.clear();
+    kept.recall_headline();
+    handle.put(kept, alloc);
+    WELL
+}
+
+#[unsafe(no_mangle)]
+#[tactic(auto, using(crate::proofs::Inserted::inserted_at, crate::proofs::Inserted::refused_at))]
+pub extern "C" fn tevasulim_insert(
+    alloc: Global,
+    handle: &mut Handle,
+    x: i32,
+    y: i32,
+    vertex: &mut u32,
+) -> u32
+    ensures { MatchOption handle.old.kept ((result ≡ CLOSED) × (handle.new.kept ≡ None))
+        (λ old. InsertsAt (unnumbered_at x y) result vertex.new old handle.new.kept) }
+{
+    let Some(mut kept) = handle.take(alloc) else {
+        return CLOSED;
+    };
+    let inserted = kept.insert(Point2 { x, y });
+    handle.put(kept, alloc);
+    match inserted {
+        Ok(inserted) => {
+            *vertex = inserted.index();
+            WELL
+        }
+        Err(error) => status_of(error),
+    }
+}
+
+#[unsafe(no_mangle)]
+pub extern "C" fn tevasulim_insert_all(
+    alloc: Global,
+    handle: &mut Handle,
+    positions: &[RawPoint],
+    vertices: &mut [u32],
+) -> u32
+    ensures headline { IfSome handle.new.kept IsKeptDelaunay }
+    ensures closed { IfNone handle.old.kept ((result ≡ CLOSED) × (handle.new.kept ≡ None)) }
+{
+    let Some(mut kept) = handle.take(alloc) else {
+        return CLOSED;
+    };
+    let status = match &mut *kept {
+        KeptPoints::Plain(points) => edits::insert_all(points, positions, vertices),
+        KeptPoints::Constrained(points) => edits::insert_all(points, positions, vertices),
+    };
+    kept.recall_headline();
+    handle.put(kept, alloc);
+    status
+}
+
+#[unsafe(no_mangle)]
+pub extern "C" fn tevasulim_remove(alloc: Global, handle: &mut Handle, vertex: u32) -> u32
+    ensures headline { IfSome handle.new.kept IsKeptDelaunay }
+    ensures closed { IfNone handle.old.kept ((result ≡ CLOSED) × (handle.new.kept ≡ None)) }
+{
+    let Some(mut kept) = handle.take(alloc) else {
+        return CLOSED;
+    };
+    let status = match &mut *kept {
+        KeptPoints::Plain(points) => edits::remove(points, vertex),
+        KeptPoints::Constrained(points) => edits::remove(points, vertex),
+    };
+    kept.recall_headline();
+    handle.put(kept, alloc);
+    status
+}
+
+#[unsafe(no_mangle)]
+pub extern "C" fn tevasulim_constrain(alloc: Global, handle: &mut Handle, from: u32, to: u32) -> u32
+    ensures headline { IfSome handle.new.kept IsKeptDelaunay }
+    ensures closed { IfNone handle.old.kept ((result ≡ CLOSED) × (handle.new.kept ≡ None)) }
+{
+    let Some(mut kept) = handle.take(alloc) else {
+        return CLOSED;
+    };
+    let status = match &mut *kept {
+        KeptPoints::Plain(_) => IS_PLAIN,
+        KeptPoints::Constrained(points) => edits::constrain(points, from, to),
+    };
+    kept.recall_headline();
+    handle.put(kept, alloc);
+    status
+}
+
+#[unsafe(no_mangle)]
+pub extern "C" fn tevasulim_constrain_chain(
+    alloc: Global,
+    handle: &mut Handle,
+    vertices: &[u32],
+    closed: bool,
+    made: &mut usize,
+) -> u32
+    ensures headline { IfSome handle.new.kept IsKeptDelaunay }
+    ensures closed { IfNone handle.old.kept ((result ≡ CLOSED) × (handle.new.kept ≡ None)) }
+{
+    let Some(mut kept) = handle.take(alloc) else {
+        return CLOSED;
+    };
+    let status = match &mut *kept {
+        KeptPoints::Plain(_) => IS_PLAIN,
+        KeptPoints::Constrained(points) => edits::constrain_chain(points, vertices, closed, made),
+    };
+    kept.recall_headline();
+    handle.put(kept, alloc);
+    status
+}
+
+#[unsafe(no_mangle)]
+pub extern "C" fn tevasulim_release(alloc: Global, handle: &mut Handle, from: u32, to: u32) -> u32
+    ensures headline { IfSome handle.new.kept IsKeptDelaunay }
+    ensures closed { IfNone handle.old.kept ((result ≡ CLOSED) × (handle.new.kept ≡ None)) }
+{
+    let Some(mut kept) = handle.take(alloc) else {
+        return CLOSED;
+    };
+    let status = match &mut *kept {
+        KeptPoints::Plain(_) => IS_PLAIN,
+        KeptPoints::Constrained(points) => edits::release(points, from, to),
+    };
+    kept.recall_headline();
+    handle.put(kept, alloc);
+    status
+}
+
+#[unsafe(no_mangle)]
+pub extern "C" fn tevasulim_set_numbers(
+    alloc: Global,
+    handle: &mut Handle,
+    vertices: &[u32],
+    numbers: &[u64],
+) -> u32
+    ensures headline { IfSome handle.new.kept IsKeptDelaunay }
+    ensures closed { IfNone handle.old.kept ((result ≡ CLOSED) × (handle.new.kept ≡ None)) }
+{
+    let Some(mut kept) = handle.take(alloc) else {
+        return CLOSED;
+    };
+    let status = match &mut *kept {
+        KeptPoints::Plain(points) => edits::set_numbers(points, vertices, numbers),
+        KeptPoints::Constrained(points) => edits::set_numbers(points, vertices, numbers),
+    };
+    kept.recall_headline();
+    handle.put(kept, alloc);
+    status
+}
+
+#[unsafe(no_mangle)]
+pub extern "C" fn tevasulim_positions(
+    alloc: Global,
+    handle: &mut Handle,
+    positions: &mut [RawPoint],
+    length: &mut usize,
+) -> u32
+    ensures kept { handle.new.kept ≡ handle.old.kept }
+    ensures closed { IfNone handle.old.kept (result ≡ CLOSED) }
+{
+    let Some(kept) = handle.take(alloc) else {
+        return CLOSED;
+    };
+    let status = match &*kept {
+        KeptPoints::Plain(points) => lists::write_positions(points, positions, length),
+        KeptPoints::Constrained(points) => lists::write_positions(points, positions, length),
+    };
+    handle.put(kept, alloc);
+    status
+}
+
+#[unsafe(no_mangle)]
+pub extern "C" fn tevasulim_numbers(
+    alloc: Global,
+    handle: &mut Handle,
+    numbers: &mut [u64],
+    length: &mut usize,
+) -> u32
+    ensures kept { handle.new.kept ≡ handle.old.kept }
+    ensures closed { IfNone handle.old.kept (result ≡ CLOSED) }
+{
+    let Some(kept) = handle.take(alloc) else {
+        return CLOSED;
+    };
+    let status = match &*kept {
+        KeptPoints::Plain(points) => lists::write_numbers(points, numbers, length),
+        KeptPoints::Constrained(points) => lists::write_numbers(points, numbers, length),
+    };
+    handle.put(kept, alloc);
+    status
+}
+
+#[unsafe(no_mangle)]
+pub extern "C" fn tevasulim_edges(
+    alloc: Global,
+    handle: &mut Handle,
+    edges: &mut [RawEdge],
+    length: &mut usize,
+) -> u32
+    ensures kept { handle.new.kept ≡ handle.old.kept }
+    ensures closed { IfNone handle.old.kept (result ≡ CLOSED) }
+{
+    let Some(kept) = handle.take(alloc) else {
+        return CLOSED;
+    };
+    let status = match &*kept {
+        KeptPoints::Plain(points) => lists::write_edges(points, edges, length),
+        KeptPoints::Constrained(points) => lists::write_edges(points, edges, length),
+    };
+    handle.put(kept, alloc);
+    status
+}
+
+#[unsafe(no_mangle)]
+pub extern "C" fn tevasulim_faces(
+    alloc: Global,
+    handle: &mut Handle,
+    faces: &mut [RawFace],
+    length: &mut usize,
+) -> u32
+    ensures kept { handle.new.kept ≡ handle.old.kept }
+    ensures closed { IfNone handle.old.kept (result ≡ CLOSED) }
+{
+    let Some(kept) = handle.take(alloc) else {
+        return CLOSED;
+    };
+    let status = match &*kept {
+        KeptPoints::Plain(points) => lists::write_faces(points, faces, length),
+        KeptPoints::Constrained(points) => lists::write_faces(points, faces, length),
+    };
+    handle.put(kept, alloc);
+    status
+}
+
+#[unsafe(no_mangle)]
+pub extern "C" fn tevasulim_locate(
+    alloc: Global,
+    handle: &mut Handle,
+    queries: &[RawPoint],
+    places: &mut [RawPlace],
+) -> u32
+    ensures kept { handle.new.kept ≡ handle.old.kept }
+    ensures closed { IfNone handle.old.kept (result ≡ CLOSED) }
+{
+    let Some(kept) = handle.take(alloc) else {
+        return CLOSED;
+    };
+    let status = match &*kept {
+        KeptPoints::Plain(points) => queries::locate_all(points, queries, places),
+        KeptPoints::Constrained(points) => queries::locate_all(points, queries, places),
+    };
+    handle.put(kept, alloc);
+    status
+}
+
+#[unsafe(no_mangle)]
+pub extern "C" fn tevasulim_nearest(
+    alloc: Global,
+    handle: &mut Handle,
+    queries: &[RawPoint],
+    vertices: &mut [u32],
+) -> u32
+    ensures kept { handle.new.kept ≡ handle.old.kept }
+    ensures closed { IfNone handle.old.kept (result ≡ CLOSED) }
+{
+    let Some(kept) = handle.take(alloc) else {
+        return CLOSED;
+    };
+    let status = match &*kept {
+        KeptPoints::Plain(points) => queries::find_nearest(points, queries, vertices),
+        KeptPoints::Constrained(_) => IS_CONSTRAINED,
+    };
+    handle.put(kept, alloc);
+    status
+}
+
+#[unsafe(no_mangle)]
+pub extern "C" fn tevasulim_line(
+    alloc: Global,
+    handle: &mut Handle,
+    from: &RawPoint,
+    to: &RawPoint,
+    meetings: &mut [RawMeeting],
+    length: &mut usize,
+) -> u32
+    ensures kept { handle.new.kept ≡ handle.old.kept }
+    ensures closed { IfNone handle.old.kept (result ≡ CLOSED) }
+{
+    let Some(kept) = handle.take(alloc) else {
+        return CLOSED;
+    };
+    let status = match &*kept {
+        KeptPoints::Plain(points) => queries::write_line(points, from, to, meetings, length),
+        KeptPoints::Constrained(points) => queries::write_line(points, from, to, meetings, length),
+    };
+    handle.put(kept, alloc);
+    status
+}
+
+#[unsafe(no_mangle)]
+pub extern "C" fn tevasulim_vertices_in_circle(
+    alloc: Global,
+    handle: &mut Handle,
+    center: &RawPoint,
+    radius_2: i64,
+    vertices: &mut [u32],
+    length: &mut usize,
+) -> u32
+    ensures kept { handle.new.kept ≡ handle.old.kept }
+    ensures closed { IfNone handle.old.kept (result ≡ CLOSED) }
+{
+    let Some(kept) = handle.take(alloc) else {
+        return CLOSED;
+    };
+    let status = match &*kept {
+        KeptPoints::Plain(points) => shapes::vertices_in_circle(
+            points,
+            alloc,
+            RawCircle {
+                center: *center,
+                radius_2,
+            },
+            vertices,
+            length,
+        ),
+        KeptPoints::Constrained(points) => shapes::vertices_in_circle(
+            points,
+            alloc,
+            RawCircle {
+                center: *center,
+                radius_2,
+            },
+            vertices,
+            length,
+        ),
+    };
+    handle.put(kept, alloc);
+    status
+}
+
+#[unsafe(no_mangle)]
+pub extern "C" fn tevasulim_vertices_in_rectangle(
+    alloc: Global,
+    handle: &mut Handle,
+    lower: &RawPoint,
+    upper: &RawPoint,
+    vertices: &mut [u32],
+    length: &mut usize,
+) -> u32
+    ensures kept { handle.new.kept ≡ handle.old.kept }
+    ensures closed { IfNone handle.old.kept (result ≡ CLOSED) }
+{
+    let Some(kept) = handle.take(alloc) else {
+        return CLOSED;
+    };
+    let status = match &*kept {
+        KeptPoints::Plain(points) => shapes::vertices_in_rectangle(
+            points,
+            alloc,
+            RawRectangle {
+                lower: *lower,
+                upper: *upper,
+            },
+            vertices,
+            length,
+        ),
+        KeptPoints::Constrained(points) => shapes::vertices_in_rectangle(
+            points,
+            alloc,
+            RawRectangle {
+                lower: *lower,
+                upper: *upper,
+            },
+            vertices,
+            length,
+        ),
+    };
+    handle.put(kept, alloc);
+    status
+}
+
+#[unsafe(no_mangle)]
+pub extern "C" fn tevasulim_edges_in_circle(
+    alloc: Global,
+    handle: &mut Handle,
+    center: &RawPoint,
+    radius_2: i64,
+    edges: &mut [u32],
+    length: &mut usize,
+) -> u32
+    ensures kept { handle.new.kept ≡ handle.old.kept }
+    ensures closed { IfNone handle.old.kept (result ≡ CLOSED) }
+{
+    let Some(kept) = handle.take(alloc) else {
+        return CLOSED;
+    };
+    let status = match &*kept {
+        KeptPoints::Plain(points) => shapes::edges_in_circle(
+            points,
+            alloc,
+            RawCircle {
+                center: *center,
+                radius_2,
+            },
+            edges,
+            length,
+        ),
+        KeptPoints::Constrained(points) => shapes::edges_in_circle(
+            points,
+            alloc,
+            RawCircle {
+                center: *center,
+                radius_2,
+            },
+            edges,
+            length,
+        ),
+    };
+    handle.put(kept, alloc);
+    status
+}
+
+#[unsafe(no_mangle)]
+pub extern "C" fn tevasulim_edges_in_rectangle(
+    alloc: Global,
+    handle: &mut Handle,
+    lower: &RawPoint,
+    upper: &RawPoint,
+    edges: &mut [u32],
+    length: &mut usize,
+) -> u32
+    ensures kept { handle.new.kept ≡ handle.old.kept }
+    ensures closed { IfNone handle.old.kept (result ≡ CLOSED) }
+{
+    let Some(kept) = handle.take(alloc) else {
+        return CLOSED;
+    };
+    let status = match &*kept {
+        KeptPoints::Plain(points) => shapes::edges_in_rectangle(
+            points,
+            alloc,
+            RawRectangle {
+                lower: *lower,
+                upper: *upper,
+            },
+            edges,
+            length,
+        ),
+        KeptPoints::Constrained(points) => shapes::edges_in_rectangle(
+            points,
+            alloc,
+            RawRectangle {
+                lower: *lower,
+                upper: *upper,
+            },
+            edges,
+            length,
+        ),
+    };
+    handle.put(kept, alloc);
+    status
+}
+
+#[unsafe(no_mangle)]
+pub extern "C" fn tevasulim_count(alloc: Global, handle: &mut Handle, counts: &mut RawCounts) -> u32
+    ensures kept { handle.new.kept ≡ handle.old.kept }
+    ensures counts { MatchOption handle.old.kept (result ≡ CLOSED)
+        (λ k. (result ≡ WELL) × CountsKept k counts.new) }
+{
+    let Some(kept) = handle.take(alloc) else {
+        return CLOSED;
+    };
+    *counts = kept.counts();
+    handle.put(kept, alloc);
+    WELL
+}
+
+#[unsafe(no_mangle)]
+pub extern "C" fn tevasulim_triangulate(
+    alloc: Global,
+    points: &[RawPoint],
+    segments: &[RawSegment],
+    faces: &mut [RawFace],
+    length: &mut usize,
+    at: &mut usize,
+) -> u32 {
+    whole::triangulate(alloc, points, segments, faces, length, at)
+}

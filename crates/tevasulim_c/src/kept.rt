@@ -1,0 +1,15 @@
+//! A triangulation of either type, which C keeps.
+use crate::raw::NumberedPoint;
+use spade_delaunay::{ConstrainedDelaunayTriangulation, DelaunayTriangulation};
+use std::alloc::Global;
+
+pub type PlainPoints = DelaunayTriangulation<NumberedPoint>;
+
+pub type ConstrainedPoints = ConstrainedDelaunayTriangulation<NumberedPoint>;
+
+/// A triangulation, plain or constrained.
+#[derive(Drop)]
+pub enum KeptPoints {
+    Plain(PlainPoints),
+    Constrained(ConstrainedPoints),
+}

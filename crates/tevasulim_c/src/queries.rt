@@ -1,0 +1,164 @@
+//! Queries of many points in one call.
+use crate::kept::PlainPoints;
+use crate::lists::{face_index, mark_of};
+use crate::raw::{NumberedPoint, RawMeeting, RawPlace, RawPoint};
+use crate::statuses::{NONE, TOO_LARGE, TOO_SHORT, WELL};
+use exact_tests::ExactTests;
+use spade_delaunay::handles::DirectedEdgeHandle;
+use spade_delaunay::{
+    ConstraintMarker, Intersection, LineIntersectionIterator, Point2, PositionInTriangulation,
+    Triangulation, validate_vertex,
+};
+
+pub const ON_VERTEX: u32 = 0;
+
+pub const ON_EDGE: u32 = 1;
+
+pub const IN_FACE: u32 = 2;
+
+pub const OUTSIDE: u32 = 3;
+
+pub const NOWHERE: u32 = 4;
+
+pub const AT_VERTEX: u32 = 0;
+
+pub const ACROSS_EDGE: u32 = 1;
+
+pub const ALONG_EDGE: u32 = 2;
+
+/// A point of C's.
+pub fn point_of(point: &RawPoint) -> Point2<i32> {
+    Point2::new(point.x, point.y)
+}
+
+/// Whether all coordinates are in range.
+pub fn are_in_range(points: &[RawPoint]) -> bool {
+    for point in points {
+        if validate_vertex(&point_of(point)).is_err() {
+            return false;
+        }
+    }
+    true
+}
+
+// A place, for C.
+fn raw_place(place: PositionInTriangulation) -> RawPlace {
+    match place {
+        PositionInTriangulation::OnVertex(vertex) => RawPlace {
+            kind: ON_VERTEX,
+            index: vertex.index(),
+        },
+        PositionInTriangulation::OnEdge(edge) => RawPlace {
+            kind: ON_EDGE,
+            index: edge.as_undirected().index(),
+        },
+        PositionInTriangulation::OnFace(face) => RawPlace {
+            kind: IN_FACE,
+            index: face_index(face),
+        },
+        PositionInTriangulation::OutsideOfConvexHull(edge) => RawPlace {
+            kind: OUTSIDE,
+            index: edge.as_undirected().index(),
+        },
+        PositionInTriangulation::NoTriangulation => RawPlace {
+            kind: NOWHERE,
+            index: NONE,
+        },
+    }
+}
+
+/// Writes where each point is.
+pub fn locate_all<T: Triangulation<Vertex = NumberedPoint>>(
+    points: &T,
+    queries: &[RawPoint],
+    places: &mut [RawPlace],
+) -> u32 {
+    if places.len() < queries.len() {
+        return TOO_SHORT;
+    }
+    for index in 0..queries.len() {
+        let query = point_of(&queries[index]);
+        if validate_vertex(&query).is_err() {
+            return TOO_LARGE;
+        }
+        places[index] = raw_place(points.locate(query, &ExactTests));
+    }
+    WELL
+}
+
+/// Writes a vertex nearest to each point.
+pub fn find_nearest(points: &PlainPoints, queries: &[RawPoint], vertices: &mut [u32]) -> u32 {
+    if vertices.len() < queries.len() {
+        return TOO_SHORT;
+    }
+    for index in 0..queries.len() {
+        let query = point_of(&queries[index]);
+        if validate_vertex(&query).is_err() {
+            return TOO_LARGE;
+        }
+        vertices[index] = match points.nearest_neighbor(query, &ExactTests) {
+            Some(vertex) => vertex.fix().index(),
+            None => NONE,
+        };
+    }
+    WELL
+}
+
+// An edge that a line meets, for C.
+fn met_edge<M: ConstraintMarker<UE>, V, DE, UE, F>(
+    edge: DirectedEdgeHandle<'_, V, DE, UE, F>,
+    kind: u32,
+) -> RawMeeting {
+    RawMeeting {
+        kind,
+        from: edge.from().fix().index(),
+        to: edge.to().fix().index(),
+        constrained: mark_of::<M, _, _, _, _>(edge),
+    }
+}
+
+// What a line meets, for C.
+fn raw_meeting<M: ConstraintMarker<UE>, V, DE, UE, F>(
+    item: Intersection<'_, V, DE, UE, F>,
+) -> RawMeeting {
+    match item {
+        Intersection::VertexIntersection(vertex) => {
+            let index = vertex.fix().index();
+            RawMeeting {
+                kind: AT_VERTEX,
+                from: index,
+                to: index,
+                constrained: 0,
+            }
+        }
+        Intersection::EdgeIntersection(edge) => met_edge::<M, _, _, _, _>(edge, ACROSS_EDGE),
+        Intersection::EdgeOverlap(edge) => met_edge::<M, _, _, _, _>(edge, ALONG_EDGE),
+    }
+}
+
+/// Writes what a segment meets, as far as there is room, and how much that is.
+pub fn write_line<T: Triangulation<Vertex = NumberedPoint>>(
+    points: &T,
+    from: &RawPoint,
+    to: &RawPoint,
+    meetings: &mut [RawMeeting],
+    length: &mut usize,
+) -> u32 {
+    let (from, to) = (point_of(from), point_of(to));
+    if validate_vertex(&from).is_err() || validate_vertex(&to).is_err() {
+        return TOO_LARGE;
+    }
+    let mut count = 0usize;
+    for item in LineIntersectionIterator::new(points, from, to, &ExactTests) {
+        if count < meetings.len() {
+            meetings[count] = raw_meeting::<T::Constraints, _, _, _, _>(item);
+        }
+        count = count.wrapping_add(1);
+    }
+    *length = count;
+    if meetings.len() < count {
+        TOO_SHORT
+    } else {
+        WELL
+    }
+}

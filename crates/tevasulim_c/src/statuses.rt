@@ -1,0 +1,93 @@
+//! How a call ended, by a number.
+ghost use Rattle.std.specs.Prelude.{◌≡◌};
+ghost use Rattle.tevasulim_c.specs.Answers.{status_of_error};
+
+use spade_delaunay::InsertionError;
+
+/// All went well.
+pub const WELL: u32 = 0;
+
+/// The triangulation is not open.
+pub const CLOSED: u32 = 1;
+
+/// It is open, and was to be opened.
+pub const ALREADY_OPEN: u32 = 2;
+
+/// Neither plain nor constrained.
+pub const NO_SUCH_KIND: u32 = 3;
+
+/// A call for constrained ones alone.
+pub const IS_PLAIN: u32 = 4;
+
+/// A call for plain ones alone.
+pub const IS_CONSTRAINED: u32 = 5;
+
+/// Two lists that go together have not one length.
+pub const UNEQUAL_LENGTHS: u32 = 6;
+
+/// A coordinate is out of range.
+pub const TOO_LARGE: u32 = 7;
+
+/// A squared radius is negative.
+pub const NEGATIVE: u32 = 8;
+
+/// An index of a vertex is out of range.
+pub const NO_SUCH_VERTEX: u32 = 9;
+
+/// A segment names no point of the list.
+pub const NO_SUCH_POINT: u32 = 10;
+
+/// A constraint crosses the segment.
+pub const CROSSING: u32 = 11;
+
+/// No constraint joins the two vertices.
+pub const NO_CONSTRAINT: u32 = 12;
+
+/// A list has too little room.
+pub const TOO_SHORT: u32 = 13;
+
+/// The mesh might have too few indexes.
+pub const OUT_OF_INDEXES: u32 = 14;
+
+/// Memory was refused.
+pub const OUT_OF_MEMORY: u32 = 15;
+
+/// A number that is no status.
+pub const NO_SUCH_STATUS: u32 = 16;
+
+/// In place of an index, where there is none.
+pub const NONE: u32 = 0xffff_ffff;
+
+/// The status of a refused insertion.
+pub fn status_of(error: InsertionError) -> u32
+    ensures { result ≡ status_of_error error }
+{
+    match error {
+        InsertionError::TooLarge => TOO_LARGE,
+        InsertionError::OutOfIndexes => OUT_OF_INDEXES,
+        InsertionError::OutOfMemory => OUT_OF_MEMORY,
+    }
+}
+
+/// A status in words, of a number that is none those of `NO_SUCH_STATUS`.
+pub fn words_of(status: u32) -> &'static str {
+    match status {
+        0 => "all went well",
+        1 => "the triangulation is closed: open it first",
+        2 => "the triangulation is already open: close it first",
+        3 => "there is no such kind of triangulation",
+        4 => "the triangulation is plain: this call is for constrained ones",
+        5 => "the triangulation is constrained: this call is for plain ones",
+        6 => "two lists that go together have different lengths",
+        7 => "a coordinate is out of range: it is more than 2^29 or less than -2^29",
+        8 => "a squared radius is negative",
+        9 => "there is no vertex with this index",
+        10 => "a segment names a point that is not in the list",
+        11 => "a constraint crosses the segment",
+        12 => "no constraint joins the two vertices",
+        13 => "a list is too short",
+        14 => "there are too many vertices for 32-bit indexes",
+        15 => "there is not enough memory",
+        _ => "there is no such status",
+    }
+}
