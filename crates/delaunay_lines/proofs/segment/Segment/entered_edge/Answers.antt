@@ -40,10 +40,13 @@ returns-then-is_crossed g c =
     (c.in-Some.outer.dcel, x) (hull_left c.next.new.self) c.in-Some.ensures.steps in
     let w = rev_within x (length m.half_edges) over.mesh.valid.sound.even o.0 in
     let fit = over.mesh.fits.directed_fit in
-    let is = c.fix-edge.ensures.value ∙ c.rev.ensures.index in
-    (omega (arith, w, fit, is),
-    (ap (λ (h : ℕ). face m (rev h)) is ∙ ap (face m) (rev-rev x) ∙ o.1,
-    c.is_crossed.ensures.0 c.if-is_crossed.true))
+    let is = c.fix-edge.ensures.value ∙ c.rev.ensures.index in (
+      omega (arith, w, fit, is),
+      (
+        ap (λ (h : ℕ). face m (rev h)) is ∙ ap (face m) (rev-rev x) ∙ o.1,
+        c.is_crossed.ensures.0 c.if-is_crossed.true,
+      ),
+    )
 
 pub loop-outer-preserved : goal.loop-outer-preserved
 loop-outer-preserved g c =
