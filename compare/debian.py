@@ -26,20 +26,33 @@ def lacking(modules):
     return [it for it in modules if tried[it].returncode]
 
 
+def install(packages):
+    """Installs Debian's packages, where that may be done."""
+    if packages and not os.geteuid() and shutil.which("apt-get"):
+        add = ["apt-get", "install", "-y", "--no-install-recommends", *packages]
+        for words in ["apt-get", "update"], add:
+            subprocess.run(words, stdout=subprocess.DEVNULL, check=False)
+
+
 def prepare(*modules):
     """Installs Debian's packages of modules that are not there, or says what lacks."""
     if not os.path.exists(PYTHON):
         sys.exit(f"{PYTHON} is needed (Debian: python3)")
     # Another checker may install at the same time.
     with alone("packages"):
+        install([f"python3-{it}" for it in lacking(modules)])
         packages = [f"python3-{it}" for it in lacking(modules)]
-        if packages and not os.geteuid() and shutil.which("apt-get"):
-            install = ["apt-get", "install", "-y", "--no-install-recommends", *packages]
-            for words in ["apt-get", "update"], install:
-                subprocess.run(words, stdout=subprocess.DEVNULL, check=False)
-            packages = [f"python3-{it}" for it in lacking(modules)]
     if packages:
         sys.exit(f"{PYTHON} lacks modules (Debian: {' '.join(packages)})")
+
+
+def prepare_commands(*names):
+    """The same of commands whose packages have their names."""
+    with alone("packages"):
+        install([it for it in names if not shutil.which(it)])
+    lacks = [it for it in names if not shutil.which(it)]
+    if lacks:
+        sys.exit(f"there is no {' '.join(lacks)} (Debian: {' '.join(lacks)})")
 
 
 def alone(name):
