@@ -1,4 +1,4 @@
-"""What the questions of crates/script_tests give that list or count elements, worked out from
+"""What the questions of crates/test_sessions give that list or count elements, worked out from
 points, constraints and edges."""
 from itertools import combinations
 

@@ -1,4 +1,4 @@
-"""The state that crates/script_tests prints: its vertices, edges and faces with their links, and
+"""The state that crates/test_sessions prints: its vertices, edges and faces with their links, and
 whether they are those of points and constraints."""
 import re
 from ast import literal_eval

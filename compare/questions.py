@@ -1,4 +1,4 @@
-"""What the questions of crates/script_tests give, worked out from points, constraints and edges."""
+"""What the questions of crates/test_sessions give, worked out from points, constraints and edges."""
 from geometry import (
     are_on_line,
     carries,

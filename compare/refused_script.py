@@ -1,5 +1,5 @@
 """The calls that compare/refused_calls and compare/refused_hints make, as lines for
-script_tests."""
+test_sessions."""
 
 SHAPES = [
     "edges_in_rectangle -50 -30 50 40",
@@ -174,7 +174,7 @@ HINTED = [
 ]
 # Where hints are asked for.
 POSITIONS = [(40, 10), (-30, 50), (-60, -20), (50, -50), (-80, 80), (20, 30)]
-# The hierarchies of script_tests, each by the word that chooses it, with its branch factor.
+# The hierarchies of test_sessions, each by the word that chooses it, with its branch factor.
 FACTORS = [("3", 0), ("4", 1), ("5", 2), ("6", 3), ("7", 16)]
 # So many vertices before HINTED that a hierarchy by 16 has a vertex beside the first.
 CROWD = [f"insert {300 + 7 * i} {200 - i * i} {i}" for i in range(12)]

@@ -1,4 +1,4 @@
-"""What compare/refused_calls and compare/refused_hints share: runs of crates/script_tests some of
+"""What compare/refused_calls and compare/refused_hints share: runs of crates/test_sessions some of
 whose growths are refused."""
 import os
 import re
@@ -7,7 +7,7 @@ import sys
 from refusing import NONE, Program
 
 HERE = os.path.dirname(os.path.realpath(__file__))
-PROGRAM = f"{HERE}/../crates/script_tests/out/script_tests"
+PROGRAM = f"{HERE}/../crates/test_sessions/out/test_sessions"
 # What a call says that was refused for memory.
 REFUSAL = re.compile(
     r"(.* > )?\(?(Some\()?Err\((AllocError|OutOfMemory|(Insertion|NoRoom)\(OutOfMemory\))\)\)?(, \d+\))?"

@@ -1,4 +1,4 @@
-"""What the calls of crates/script_tests give, worked out from lists of points and constraints: the
+"""What the calls of crates/test_sessions give, worked out from lists of points and constraints: the
 edits here, and the questions in questions.py."""
 from copy import deepcopy
 

@@ -9,7 +9,7 @@ ghost use Rattle.drawing_faces.specs.Drawing.{AddsSegments, AreVerticesOf, IsMad
 ghost use Rattle.drawing_faces.specs.Drawing.{addition_of, joining_of, position};
 
 use delaunay_journal::{Edit, Outcome, Refusal, Replayable, replay};
-use exact_tests::ExactTests;
+use exact_predicates::ExactTests;
 use spade_delaunay::handles::FixedVertexHandle;
 use spade_delaunay::{InsertionError, Point2, Triangulation};
 use std::alloc::{AllocError, AllocFailed, Global};

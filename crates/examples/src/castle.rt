@@ -1,7 +1,7 @@
 //! A castle: rings of walls as constraints, and how many of them lie at least between a place and
 //! the fields. A breach opens a ring, and a hedge that is no ring is walked round.
 
-use exact_tests::ExactTests;
+use exact_predicates::ExactTests;
 use spade_delaunay::handles::FixedFaceHandle;
 use spade_delaunay::{
     ConstrainedDelaunayTriangulation, InsertionError, Point2, PositionInTriangulation,

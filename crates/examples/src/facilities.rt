@@ -1,6 +1,6 @@
 //! Which fire station is nearest to a fire, before and after one of them closes.
 
-use exact_tests::ExactTests;
+use exact_predicates::ExactTests;
 use spade_delaunay::{
     DelaunayTriangulation, HasPosition, InsertionError, Point2, Triangulation, validate_vertex,
 };

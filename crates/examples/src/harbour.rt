@@ -18,7 +18,7 @@ ghost use Rattle.spade_delaunay.specs.Tests.{InRange};
 ghost use Rattle.spade_delaunay.specs.Triangles.{triangle_at};
 ghost use Rattle.spade_delaunay.specs.Voronoi.{IsVoronoiStart};
 
-use exact_tests::ExactTests;
+use exact_predicates::ExactTests;
 use spade_delaunay::handles::{
     DirectedVoronoiEdge, FaceHandle, FixedVertexHandle, UndirectedEdgeHandle, VoronoiVertex,
 };

@@ -1,7 +1,7 @@
 //! Triangulates the survey points of a hill, and tells what is nearest to a camp and which edges a
 //! path to it crosses, past a fence.
 
-use exact_tests::ExactTests;
+use exact_predicates::ExactTests;
 use spade_delaunay::{
     ConstrainedDelaunayTriangulation, DelaunayTriangulation, InsertionError,
     LineIntersectionIterator, Point2, Triangulation,

@@ -4,7 +4,7 @@
 
 ghost use Rattle.std.specs.Prelude.{slice_index_or, false};
 
-use exact_tests::ExactTests;
+use exact_predicates::ExactTests;
 use spade_delaunay::handles::FixedFaceHandle;
 use spade_delaunay::{
     ConstrainedDelaunayTriangulation, ConstraintError, FreeFaces, InsertionError, Point2,

@@ -1,7 +1,7 @@
 //! A map of parcels between boundary stones. Each face is a parcel, whose data name its owner. When
 //! a stone goes, the parcels at it are no longer there, and all others keep their owner.
 
-use exact_tests::ExactTests;
+use exact_predicates::ExactTests;
 use spade_delaunay::{
     DelaunayTriangulation, InsertionError, Point2, PositionInTriangulation, Triangulation,
     validate_vertex,

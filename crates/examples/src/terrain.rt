@@ -3,7 +3,7 @@
 
 ghost use Rattle.std.specs.Prelude.{◌<◌};
 
-use exact_tests::ExactTests;
+use exact_predicates::ExactTests;
 use spade_delaunay::{
     DelaunayTriangulation, HasPosition, InsertionError, Point2, PositionInTriangulation,
     Triangulation, validate_vertex,

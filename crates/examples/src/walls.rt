@@ -1,6 +1,6 @@
 //! Walls between the corners of a site, each built where no other crosses it.
 
-use exact_tests::ExactTests;
+use exact_predicates::ExactTests;
 use spade_delaunay::handles::FixedVertexHandle;
 use spade_delaunay::{ConstrainedDelaunayTriangulation, InsertionError, Point2, Triangulation};
 use std::alloc::AllocError;

@@ -1,6 +1,6 @@
 //! Faces in holes.
 use anyhow::bail;
-use exact_tests::ExactTests;
+use exact_predicates::ExactTests;
 use mesh_files::{Drawing, Scaled};
 use spade_delaunay::handles::FixedFaceHandle;
 use spade_delaunay::{

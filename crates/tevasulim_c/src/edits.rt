@@ -11,7 +11,7 @@ use crate::statuses::{
     CROSSING, IS_CONSTRAINED, NO_CONSTRAINT, NO_SUCH_VERTEX, OUT_OF_MEMORY, TOO_LARGE, TOO_SHORT,
     UNEQUAL_LENGTHS, WELL, status_of,
 };
-use exact_tests::ExactTests;
+use exact_predicates::ExactTests;
 use spade_delaunay::handles::FixedVertexHandle;
 use spade_delaunay::{InsertionError, Point2, Triangulation};
 use std::alloc::Global;

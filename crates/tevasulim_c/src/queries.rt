@@ -3,7 +3,7 @@ use crate::kept::PlainPoints;
 use crate::lists::{face_index, mark_of};
 use crate::raw::{NumberedPoint, RawMeeting, RawPlace, RawPoint};
 use crate::statuses::{NONE, TOO_LARGE, TOO_SHORT, WELL};
-use exact_tests::ExactTests;
+use exact_predicates::ExactTests;
 use spade_delaunay::handles::DirectedEdgeHandle;
 use spade_delaunay::{
     ConstraintMarker, Intersection, LineIntersectionIterator, Point2, PositionInTriangulation,

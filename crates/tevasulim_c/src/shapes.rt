@@ -2,7 +2,7 @@
 use crate::queries::point_of;
 use crate::raw::{NumberedPoint, RawPoint};
 use crate::statuses::{NEGATIVE, OUT_OF_MEMORY, TOO_LARGE, TOO_SHORT, WELL};
-use exact_tests::ExactTests;
+use exact_predicates::ExactTests;
 use spade_delaunay::{
     EdgesInShapeIterator, FloatTriangulation, VerticesInShapeIterator, validate_vertex,
 };

@@ -5,7 +5,7 @@ use crate::lists::write_faces;
 use crate::queries::point_of;
 use crate::raw::{RawFace, RawPoint, RawSegment};
 use crate::statuses::{NO_SUCH_POINT, NONE, OUT_OF_INDEXES, OUT_OF_MEMORY, WELL, status_of};
-use exact_tests::ExactTests;
+use exact_predicates::ExactTests;
 use spade_delaunay::Triangulation;
 use std::alloc::Global;
 

@@ -9,8 +9,8 @@ use Rattle.std.specs.Io.KnownBytes.{Appends, Keeps}
 use Rattle.triangulate_run.specs.Output.{AppendsPart, Writes, Passes, Puts}
 use Rattle.std.proofs.Common.{Result, Ok, Err, true, false}
 use Rattle.std.specs.Prelude.{OnOk, OnErr}
-use Rattle.watched.specs.declared.Watched.{Watched}
-use Rattle.watched.specs.Watched.{inner_of, has_failed}
+use Rattle.triangulate_watched.specs.declared.Watched.{Watched}
+use Rattle.triangulate_watched.specs.Watched.{inner_of, has_failed}
 
 -- a text that is written behind another one is written with it
 pub appends_more : (a b c : Option (List ℕ)) (s t : List ℕ) → Appends a b s → Appends b c t

@@ -8,8 +8,8 @@ use Rattle.std.proofs.lemmas.Grind.{flat_map-append}
 use Rattle.std.proofs.lemmas.List.Elements.{All-push, All-nil}
 use Rattle.std.proofs.lemmas.List.{length_push}
 use Rattle.std.proofs.lemmas.Bool.Decides.{nat_tests}
-use Rattle.watched.specs.declared.Watched.{Watched}
-use Rattle.watched.specs.Watched.{inner_of, has_failed}
+use Rattle.triangulate_watched.specs.declared.Watched.{Watched}
+use Rattle.triangulate_watched.specs.Watched.{inner_of, has_failed}
 use Rattle.triangulate_run.specs.declared.points.SheetPoint.{SheetPoint}
 use Rattle.triangulate_run.specs.Stage.{Stage, first_stage, Fits}
 use Rattle.triangulate_run.specs.Line.{kept, push_kept}

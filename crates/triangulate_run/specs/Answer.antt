@@ -15,11 +15,11 @@ use Rattle.plane.specs.Location.{no_triangulation}
 use Rattle.delaunay_core.specs.declared.point.Point2.{Point2}
 use Rattle.delaunay_core.specs.declared.math.InsertionError.TheVariants.{TooLarge, OutOfMemory}
 use Rattle.delaunay_core.specs.declared.math.InsertionError.TheVariants.{OutOfIndexes}
-use Rattle.command_grammar.specs.declared.command.Coordinates.{Coordinates}
-use Rattle.command_grammar.specs.declared.command.Command.{Command}
-use Rattle.command_grammar.specs.declared.command.Command.TheVariants.{Insert, Remove, Constrain}
-use Rattle.command_grammar.specs.declared.command.Command.TheVariants.{Release, Locate, Nearest}
-use Rattle.command_grammar.specs.declared.command.Command.TheVariants.{Line, Counts, Faces}
+use Rattle.triangulate_grammar.specs.declared.command.Coordinates.{Coordinates}
+use Rattle.triangulate_grammar.specs.declared.command.Command.{Command}
+use Rattle.triangulate_grammar.specs.declared.command.Command.TheVariants.{Insert, Remove, Constrain}
+use Rattle.triangulate_grammar.specs.declared.command.Command.TheVariants.{Release, Locate, Nearest}
+use Rattle.triangulate_grammar.specs.declared.command.Command.TheVariants.{Line, Counts, Faces}
 use Rattle.triangulate_run.specs.declared.points.SheetPoint.{SheetPoint}
 use Rattle.triangulate_run.specs.declared.corners.Corners.{Corners}
 use Rattle.triangulate_run.specs.declared.reply.Reply.{Reply}

@@ -2,8 +2,8 @@
 use Rattle.std.specs.Prelude.{◌≡◌, ◌<◌, [], ◌∷◌}
 use Rattle.std.specs.Prelude.{ℕ, true, false, List, Option, Result, MatchResult, MatchOption}
 use Rattle.std.specs.Io.KnownBytes.{Consumes, IsAtEnd}
-use Rattle.watched.specs.declared.Watched.{Watched}
-use Rattle.watched.specs.Watched.{inner_of, has_failed, reads_left_of}
+use Rattle.triangulate_watched.specs.declared.Watched.{Watched}
+use Rattle.triangulate_watched.specs.Watched.{inner_of, has_failed, reads_left_of}
 
 -- a byte was taken, or the end was met, or the reader failed
 abbrev pub TakesByte : {R E : Type 0} → (R → Option (List ℕ)) → Watched R → Watched R

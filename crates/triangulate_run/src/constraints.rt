@@ -2,7 +2,7 @@
 ghost use Rattle.std.specs.Prelude.{◌≡◌, ◌<◌, ℕ, List, false, length, All};
 ghost use Rattle.std.specs.List.{flat_map};
 ghost use Rattle.half_edge_mesh.specs.Mesh.{origin, rev};
-ghost use Rattle.watched.specs.Watched.{has_failed};
+ghost use Rattle.triangulate_watched.specs.Watched.{has_failed};
 ghost use Rattle.delaunay_edit.specs.Constrained.{none, constraint_edges};
 ghost use Rattle.triangulate_run.specs.Answer.{MayJoin, MayRelease};
 ghost use Rattle.triangulate_run.specs.Engine.{stage_by, ends_in, HasSites};
@@ -16,7 +16,7 @@ use crate::reply::{Reply, write_reply};
 use spade_delaunay::handles::{FixedDirectedEdgeHandle, FixedVertexHandle};
 use spade_delaunay::{HintGenerator, InsertionError, PlaneTests, Triangulation};
 use std::io::Write;
-use watched::{Failed, Watched};
+use triangulate_watched::{Failed, Watched};
 
 /// Adds the path between two vertices, and writes its edges.
 pub(crate) fn constrain<L: HintGenerator<i64>, P: PlaneTests<i64>, W: Write>(

@@ -1,6 +1,6 @@
 //! The answers of a triangulation to commands.
 ghost use Rattle.std.specs.Prelude.{◌≡◌, ℕ, true, false, All, List, MatchOption};
-ghost use Rattle.watched.specs.Watched.{has_failed};
+ghost use Rattle.triangulate_watched.specs.Watched.{has_failed};
 ghost use Rattle.triangulate_run.specs.Stage.{position, first_stage, Fits};
 ghost use Rattle.triangulate_run.specs.Points.{place};
 ghost use Rattle.triangulate_run.specs.Output.{Writes};
@@ -16,7 +16,6 @@ use crate::points::SheetPoint;
 use crate::reply::{Reply, write_reply};
 use crate::session::Engine;
 use crate::shared::{counts_of, faces, insert, locate, remove, vertices_at};
-use command_grammar::command::{Command, Coordinates};
 use spade_delaunay::handles::FixedVertexHandle;
 use spade_delaunay::{
     ConstrainedDelaunayTriangulation, DelaunayTriangulation, HintGenerator, InsertionError,
@@ -25,7 +24,8 @@ use spade_delaunay::{
 use std::alloc::Global;
 use std::io::Write;
 use std::mem::replace;
-use watched::{Failed, Watched};
+use triangulate_grammar::command::{Command, Coordinates};
+use triangulate_watched::{Failed, Watched};
 
 /// Vertices that are points and carry no further data.
 pub(crate) type Plain<L> = DelaunayTriangulation<Point2<i64>, (), (), (), L>;

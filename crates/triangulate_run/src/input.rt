@@ -1,10 +1,10 @@
 //! Reading a watched reader, a byte at a time.
 ghost use Rattle.std.specs.Prelude.{◌≡◌, false};
-ghost use Rattle.watched.specs.Watched.{has_failed};
+ghost use Rattle.triangulate_watched.specs.Watched.{has_failed};
 ghost use Rattle.triangulate_run.specs.Input.{TakesByte};
 
 use std::io::Read;
-use watched::{Failed, Watched};
+use triangulate_watched::{Failed, Watched};
 
 /// The next byte, or `None` at the end. No byte behind it is asked for.
 pub(crate) fn next_byte<R: Read>(reader: &mut Watched<R>) -> Result<Option<u8>, Failed>

@@ -2,7 +2,7 @@
 ghost use Rattle.std.specs.Prelude.{◌≡◌, ◌++◌, ℕ, List, false};
 ghost use Rattle.std.specs.List.{flat_map};
 ghost use Rattle.half_edge_mesh.specs.Mesh.{origin, rev};
-ghost use Rattle.watched.specs.Watched.{has_failed};
+ghost use Rattle.triangulate_watched.specs.Watched.{has_failed};
 ghost use Rattle.plane.specs.Line.{Item};
 ghost use Rattle.delaunay_legalization.specs.State.{triangulation_of};
 ghost use Rattle.delaunay_lines.specs.Items.{item_in};
@@ -23,7 +23,7 @@ use spade_delaunay::{
     TriangulationCore,
 };
 use std::io::Write;
-use watched::{Failed, Watched};
+use triangulate_watched::{Failed, Watched};
 
 /// Writes what the way from one point of the list to another meets, in order.
 pub(crate) fn write_line<L: HintGenerator<i64>, UE, M: EdgeData<UE>, P: PlaneTests<i64>, W: Write>(

@@ -3,8 +3,8 @@ ghost use Rattle.std.specs.Prelude.{◌≡◌, ℕ, List, [], Option, Some, None
 ghost use Rattle.triangulate_run.specs.Line.{push_kept};
 
 use arrayvec::ArrayVec;
-use command_grammar::MAX_LINE;
 use std::marker::Model;
+use triangulate_grammar::MAX_LINE;
 
 /// The bytes of a line, or that there are more than `MAX_LINE`.
 #[derive(Drop)]

@@ -1,7 +1,7 @@
 //! Writing text to a watched writer.
 ghost use Rattle.std.specs.Prelude.{◌≡◌, false};
 ghost use Rattle.std.specs.List.{flat_map};
-ghost use Rattle.watched.specs.Watched.{has_failed};
+ghost use Rattle.triangulate_watched.specs.Watched.{has_failed};
 ghost use Rattle.triangulate_run.specs.Output.{Writes, Puts};
 ghost use Rattle.triangulate_run.specs.Piece.{text_of};
 
@@ -9,7 +9,7 @@ use crate::piece::Piece;
 use arrayvec::ArrayVec;
 use itoa::Buffer;
 use std::io::Write;
-use watched::{Failed, Watched};
+use triangulate_watched::{Failed, Watched};
 
 /// Text that waits to be written, so that a reply takes one call of the writer. It is written
 /// earlier where its room is used up.

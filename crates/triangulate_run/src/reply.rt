@@ -1,7 +1,7 @@
 //! The replies of the program, and how they are written.
 ghost use Rattle.std.specs.Prelude.{◌≡◌, ◌++◌, codes, false};
 ghost use Rattle.std.specs.List.{flat_map};
-ghost use Rattle.watched.specs.Watched.{has_failed};
+ghost use Rattle.triangulate_watched.specs.Watched.{has_failed};
 ghost use Rattle.triangulate_run.specs.Output.{Writes, Puts};
 ghost use Rattle.triangulate_run.specs.Reply.{corners_text, reply_text};
 ghost use Rattle.triangulate_run.specs.declared.reply.Reply.TheVariants.{Refused, Edge, Removed};
@@ -12,7 +12,7 @@ use crate::output::{Held, put_pieces, write_all};
 use crate::piece::Piece;
 use delaunay_core::math::InsertionError;
 use std::io::Write;
-use watched::{Failed, Watched};
+use triangulate_watched::{Failed, Watched};
 
 /// What the program answers to a line. Vertices stand by their indexes.
 #[derive(Drop)]

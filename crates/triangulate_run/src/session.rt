@@ -1,7 +1,7 @@
 //! Lines in, replies out.
 ghost use Rattle.std.specs.Prelude.{◌≡◌, ℕ, List, true, false, All, IfSome, IfNone};
-ghost use Rattle.command_grammar.specs.Grammar.{Spells, SpellsNone};
-ghost use Rattle.watched.specs.Watched.{has_failed};
+ghost use Rattle.triangulate_grammar.specs.Grammar.{Spells, SpellsNone};
+ghost use Rattle.triangulate_watched.specs.Watched.{has_failed};
 ghost use Rattle.triangulate_run.specs.Line.{kept};
 ghost use Rattle.triangulate_run.specs.Points.{place};
 ghost use Rattle.triangulate_run.specs.Output.{Writes};
@@ -16,11 +16,11 @@ use crate::input::next_byte;
 use crate::line_buffer::LineBuffer;
 use crate::output::write_all;
 use crate::points::SheetPoint;
-use command_grammar::command::Command;
 use spade_delaunay::{HintGenerator, PlaneTests};
 use std::alloc::Global;
 use std::io::{Read, Write};
-use watched::{Failed, Watched};
+use triangulate_grammar::command::Command;
+use triangulate_watched::{Failed, Watched};
 
 /// What answers commands.
 pub(crate) trait Engine {
@@ -48,7 +48,7 @@ fn command_of(line: &LineBuffer) -> Option<Command>
     ensures found { (whole : List ℕ) → line.now ≡ kept whole → IfSome result (Spells whole) }
     ensures none { (whole : List ℕ) → line.now ≡ kept whole → IfNone result (SpellsNone whole) }
 {
-    command_grammar::parse(line.bytes()?)
+    triangulate_grammar::parse(line.bytes()?)
 }
 
 /// Writes the bytes, and has the writer pass them on.

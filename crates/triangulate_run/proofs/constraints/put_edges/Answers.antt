@@ -2,7 +2,7 @@ use Rattle.std.proofs.Common.{ℕ, List, ◌++◌, ◌∙◌, ap, subst}
 use Rattle.std.specs.List.{flat_map}
 use Rattle.std.proofs.lemmas.List.{take_all}
 use Rattle.std.proofs.lemmas.Result.{err_from_is_err_and}
-use Rattle.watched.specs.Watched.{inner_of}
+use Rattle.triangulate_watched.specs.Watched.{inner_of}
 use Rattle.triangulate_run.specs.Output.{AppendsPart, Passes}
 use Rattle.triangulate_run.proofs.OutputLemmas.{passes_nil, passes_at, part_at}
 use Rattle.triangulate_run.proofs.Paths.{edge_piece, pieces_text}

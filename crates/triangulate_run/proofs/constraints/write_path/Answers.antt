@@ -1,7 +1,7 @@
 use Rattle.std.proofs.Common.{ℕ, List, ◌++◌, codes, subst}
 use Rattle.std.specs.List.{flat_map}
 use Rattle.std.proofs.lemmas.Result.{err_from_is_err_and}
-use Rattle.watched.specs.Watched.{inner_of}
+use Rattle.triangulate_watched.specs.Watched.{inner_of}
 use Rattle.triangulate_run.specs.Engine.{ends_in}
 use Rattle.triangulate_run.specs.Output.{AppendsPart, Writes}
 use Rattle.triangulate_run.specs.Reply.{path_text, piece_text}

@@ -1,5 +1,5 @@
 use Rattle.std.proofs.lemmas.Result.{err_from_is_err_and}
-use Rattle.watched.specs.Watched.{inner_of}
+use Rattle.triangulate_watched.specs.Watched.{inner_of}
 use Rattle.triangulate_run.specs.Stage.{position}
 use Rattle.triangulate_run.proofs.Walks.{puts_begin, puts_one, puts_end, puts_part}
 use Rattle.triangulate_run.proofs.line.put_items.Goals as goal

@@ -1,5 +1,5 @@
 use Rattle.std.proofs.Common.{◌≡◌, false}
-use Rattle.watched.specs.Watched.{inner_of, has_failed}
+use Rattle.triangulate_watched.specs.Watched.{inner_of, has_failed}
 use Rattle.delaunay_lines.specs.Walk.{IsReady}
 use Rattle.triangulate_run.specs.Stage.{position}
 use Rattle.triangulate_run.proofs.Walks.{PutsEach}

@@ -1,6 +1,6 @@
 use Rattle.std.proofs.Common.{ℕ, List, ◌++◌, subst}
 use Rattle.std.proofs.lemmas.Result.{err_from_is_err_and}
-use Rattle.watched.specs.Watched.{inner_of}
+use Rattle.triangulate_watched.specs.Watched.{inner_of}
 use Rattle.triangulate_run.specs.Output.{AppendsPart, Writes}
 use Rattle.triangulate_run.specs.Reply.{line_text}
 use Rattle.triangulate_run.specs.Stage.{position}

@@ -1,7 +1,7 @@
 use Rattle.std.proofs.Common.{ℕ, List, ◌∙◌, ap, subst}
 use Rattle.std.specs.Io.KnownBytes.{Appends}
 use Rattle.std.proofs.lemmas.Result.{err_from_is_err_and}
-use Rattle.watched.specs.Watched.{inner_of}
+use Rattle.triangulate_watched.specs.Watched.{inner_of}
 use Rattle.triangulate_run.specs.Output.{AppendsPart}
 use Rattle.triangulate_run.proofs.OutputLemmas.{part_longer, puts_direct}
 use Rattle.triangulate_run.proofs.output.put_bytes.Goals as goal

@@ -4,7 +4,7 @@ use Rattle.std.specs.Io.KnownBytes.{Appends}
 use Rattle.std.proofs.lemmas.Result.{err_from_is_err_and}
 use Rattle.std.proofs.lemmas.List.{take-append-drop, take_all}
 use Rattle.std.proofs.Math.Seq.{take-add}
-use Rattle.watched.specs.Watched.{inner_of}
+use Rattle.triangulate_watched.specs.Watched.{inner_of}
 use Rattle.triangulate_run.proofs.OutputLemmas.{appends_more, appends_keep}
 use Rattle.triangulate_run.proofs.output.write_all.Goals as goal
 

@@ -1,6 +1,6 @@
 use Rattle.std.proofs.Common.{◌≡◌, List, ℕ, Some, None, Bool, true, false, length, sym, subst, ◌∙◌}
 use Rattle.std.specs.Prelude.{IfSome, IfNone, if◌then◌else◌, nat_le}
-use Rattle.command_grammar.specs.Grammar.{Spells, SpellsNone}
+use Rattle.triangulate_grammar.specs.Grammar.{Spells, SpellsNone}
 use Rattle.triangulate_run.specs.Line.{kept}
 use Rattle.triangulate_run.proofs.session.command_of.Goals as goal
 

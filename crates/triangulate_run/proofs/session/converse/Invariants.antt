@@ -1,5 +1,5 @@
 use Rattle.std.proofs.Common.{◌≡◌}
-use Rattle.watched.specs.Watched.{reads_left_of}
+use Rattle.triangulate_watched.specs.Watched.{reads_left_of}
 use Rattle.triangulate_run.specs.Stage.{Fits}
 use Rattle.triangulate_run.proofs.RunLemmas.{IsRunning}
 use Rattle.triangulate_run.proofs.session.converse.Given as goal

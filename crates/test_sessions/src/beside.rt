@@ -1,0 +1,77 @@
+//! Calls beside triangulations: generators of hints by themselves, data of edges, and answers to
+//! locations.
+
+use crate::generators::{duplicate, five, initialize};
+use crate::last_used;
+use crate::named::copy_named;
+use spade_delaunay::{
+    HierarchyHintGeneratorWithBranchFactor as Hierarchy, LastUsedVertexHintGenerator, Point2,
+};
+use std::alloc::Global;
+use std::io;
+use test_calls::constraint_edges::{free_and_fixed, made_and_unmade, markers, written};
+use test_calls::derived::{compare_answers, compare_edges, each_answer};
+use test_reader::{Call, index};
+
+/// A generator that belongs to no triangulation.
+#[derive(Drop)]
+pub struct Beside {
+    generator: LastUsedVertexHintGenerator,
+    is_marked: bool,
+}
+
+impl Beside {
+    /// Which marks the beginning of a copy or not.
+    pub fn new(alloc: Global, is_marked: bool) -> Self {
+        Beside {
+            generator: last_used::new_generator(alloc),
+            is_marked,
+        }
+    }
+
+    /// Makes the call of a line, and tells whether there is such a call here.
+    pub fn answer(&mut self, rt: &(impl Print + AllocGlobal), call: &Call<'_>) -> io::Result<bool> {
+        let [first, second, third, fourth, ..] = call.numbers;
+        let (number, other) = (index(second), index(fourth));
+        match call.name {
+            "hierarchy_of_five" => five::<Hierarchy<i64, 2>>(rt)?,
+            "initialize" => initialize::<Hierarchy<i64, 2>>(rt)?,
+            "duplicate" => duplicate::<Hierarchy<i64, 2>>(rt, self.is_marked)?,
+            "copy_named" => copy_named(rt, self.is_marked)?,
+            "edges_made_constraints" => call.tell(rt, &made_and_unmade())?,
+            "edges_shown" => call.tell(rt, &free_and_fixed())?,
+            "answers_shown" => call.tell(rt, &each_answer())?,
+            "edges_written" => call.tell(rt, &written())?,
+            "markers" => call.tell(rt, &markers())?,
+            "compare_edges" => {
+                let compared = compare_edges((first != 0, number), (third != 0, other));
+                call.tell(rt, &compared)?;
+            }
+            "compare_answers" => {
+                call.tell(rt, &compare_answers((first, number), (third, other)))?;
+            }
+            _ => return self.answer_alone(rt, call),
+        }
+        Ok(true)
+    }
+
+    // Calls of the generator of last used vertices.
+    fn answer_alone(
+        &mut self,
+        rt: &(impl Print + AllocGlobal),
+        call: &Call<'_>,
+    ) -> io::Result<bool> {
+        let ([x, y, c, ..], generator) = (call.numbers, &mut self.generator);
+        let point = Point2::new(x, y);
+        match call.name {
+            "alone_hint" => call.tell(rt, &last_used::hint(generator, point))?,
+            "alone_inserted" => call.tell(rt, &last_used::insert(generator, index(c), point))?,
+            "alone_removed" => call.tell(rt, &last_used::remove(generator, index(c), point))?,
+            "alone_lookup" => call.tell(rt, &last_used::look_up(generator, index(x)))?,
+            "alone_duplicate" => call.tell(rt, &last_used::duplicate(generator, index(x)))?,
+            "alone_initialized" => call.tell(rt, &last_used::initialized(rt.alloc()))?,
+            _ => return Ok(false),
+        }
+        Ok(true)
+    }
+}

@@ -1,0 +1,152 @@
+//! The words of a line, and the command that they spell.
+ghost use Rattle.std.specs.Prelude.{◌≡◌, ℕ, [], ◌∷◌, ◌↔◌};
+ghost use Rattle.std.specs.Prelude.{List, Option, None, Some, MatchOption, IfSome, IsTrue};
+ghost use Rattle.triangulate_grammar.specs.Grammar.{words_of};
+ghost use Rattle.std.specs.Prelude.{OnSome, drop};
+ghost use Rattle.triangulate_grammar.specs.Reading.{first_index, first_number, coordinates_of, pair_of};
+ghost use Rattle.triangulate_grammar.specs.Reading.{command_of, command_named, arity};
+
+use crate::command::{Command, Coordinates};
+use crate::number::{index_of, number_of};
+use std::marker::Model;
+
+/// The words of a line that are still to be read.
+#[derive(Drop)]
+pub struct Words<'a> {
+    rest: Option<&'a [u8]>,
+}
+
+impl<'a> Model for Words<'a> {
+    ghost use Rattle.std.specs.Prelude.{ℕ, List, []};
+    ghost use Rattle.std.specs.Option.{option_map_or};
+    ghost use Rattle.triangulate_grammar.specs.Grammar.{words_of};
+
+    ghost Value = { List (List ℕ) };
+
+    ghost view = { λ w. option_map_or (λ text. words_of text.now) w.rest [] };
+}
+
+impl<'a> Words<'a> {
+    /// The words of this line, from the first on.
+    pub fn new(line: &'a [u8]) -> Self
+        ensures { result ≡ words_of line.now }
+    {
+        Words { rest: Some(line) }
+    }
+
+    /// Whether no word is left.
+    pub fn is_empty(&self) -> bool
+        ensures { IsTrue result ↔ (self.now ≡ []) }
+    {
+        self.rest.is_none()
+    }
+
+    /// The next word, up to a space or the end.
+    pub fn next_word(&mut self) -> Option<&'a [u8]>
+        ensures { MatchOption result ((self.old ≡ []) × (self.new ≡ []))
+            (λ word. self.old ≡ word.now ∷ self.new) }
+    {
+        let (word, rest) = first_word(self.rest?);
+        self.rest = rest;
+        Some(word)
+    }
+
+    /// The next word, as an index.
+    pub fn index(&mut self) -> Option<u64>
+        ensures value { result ≡ first_index self.old }
+        ensures rest { self.new ≡ drop 1 self.old }
+    {
+        index_of(self.next_word()?)
+    }
+
+    /// The next word, as a number.
+    pub fn number(&mut self) -> Option<i64>
+        ensures value { result ≡ first_number self.old }
+        ensures rest { self.new ≡ drop 1 self.old }
+    {
+        number_of(self.next_word()?)
+    }
+
+    /// The next two words, as indexes.
+    #[tactic(auto, unfolding(crate::specs::Reading::pair_of))]
+    pub fn pair(&mut self) -> Option<(u64, u64)>
+        ensures value { result ≡ pair_of self.old }
+        ensures rest { OnSome result (self.new ≡ drop 2 self.old) }
+    {
+        let i = self.index()?;
+        let j = self.index()?;
+        Some((i, j))
+    }
+
+    /// The next two words, as coordinates.
+    #[tactic(auto, unfolding(crate::specs::Reading::coordinates_of))]
+    pub fn coordinates(&mut self) -> Option<Coordinates>
+        ensures value { result ≡ coordinates_of self.old }
+        ensures rest { OnSome result (self.new ≡ drop 2 self.old) }
+    {
+        let x = self.number()?;
+        let y = self.number()?;
+        Some(Coordinates { x, y })
+    }
+}
+
+/// The command that the words spell.
+#[tactic(auto, unfolding(crate::specs::Reading::command_of))]
+pub fn read_command(line: &[u8]) -> Option<Command>
+    ensures { result ≡ command_of (words_of line.now) }
+{
+    let mut words = Words::new(line);
+    let name = words.next_word()?;
+    let command = command_named(name, &mut words)?;
+    if words.is_empty() {
+        Some(command)
+    } else {
+        None
+    }
+}
+
+/// The command of this name, with the next words.
+#[tactic(auto, unfolding(crate::specs::Reading::command_named))]
+fn command_named(name: &[u8], words: &mut Words<'_>) -> Option<Command>
+    ensures value { result ≡ command_named name.now words.old }
+    ensures rest { IfSome result (λ command. words.new ≡ drop (arity command) words.old) }
+{
+    if name == b"insert".as_slice() {
+        Some(Command::Insert(words.coordinates()?))
+    } else if name == b"remove".as_slice() {
+        Some(Command::Remove(words.index()?))
+    } else if name == b"constrain".as_slice() {
+        let (i, j) = words.pair()?;
+        Some(Command::Constrain(i, j))
+    } else if name == b"release".as_slice() {
+        let (i, j) = words.pair()?;
+        Some(Command::Release(i, j))
+    } else if name == b"locate".as_slice() {
+        Some(Command::Locate(words.coordinates()?))
+    } else if name == b"nearest".as_slice() {
+        Some(Command::Nearest(words.coordinates()?))
+    } else if name == b"line".as_slice() {
+        let from = words.coordinates()?;
+        let to = words.coordinates()?;
+        Some(Command::Line(from, to))
+    } else if name == b"counts".as_slice() {
+        Some(Command::Counts)
+    } else if name == b"faces".as_slice() {
+        Some(Command::Faces)
+    } else {
+        None
+    }
+}
+
+/// The first word, and what stands behind the space that ends it.
+fn first_word(text: &[u8]) -> (&[u8], Option<&[u8]>)
+    ensures { MatchOption result.1 (words_of text.now ≡ result.0.now ∷ [])
+        (λ rest. words_of text.now ≡ result.0.now ∷ words_of rest.now) }
+{
+    for (i, byte) in text.iter().enumerate() {
+        if *byte == b' ' {
+            return (&text[..i], Some(&text[i + 1..]));
+        }
+    }
+    (text, None)
+}
