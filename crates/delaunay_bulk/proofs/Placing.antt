@@ -171,7 +171,8 @@ module _ {V : Type 0} (place : V → Point) where
           (map (λ (p : Placed V). p.place) sorted)
           (IsPermutation-map (λ (p : Placed V). p.place) placed sorted moved) a.order));
       there = All-map (λ (e : ℕ × V). slice_get vertices e.0 ≡ Some e.1) entry_of sorted
-          (All-weaker (IsTrueOf vertices) (λ (p : Placed V). slice_get vertices p.place ≡ Some p.vertex)
+          (All-weaker (IsTrueOf vertices)
+          (λ (p : Placed V). slice_get vertices p.place ≡ Some p.vertex)
           (λ p t. t.there) sorted still_true);
       rise = λ i j d less within.
           let inside : j < length sorted = omega (arith, within, length-map sorted entry_of) in

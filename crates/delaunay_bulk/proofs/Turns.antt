@@ -1,7 +1,7 @@
 -- Vertices that are inserted one after another.
 use Rattle.std.proofs.Common.{◌≡◌, ◌≢◌, ◌+◌, ◌<◌, ◌≤◌, [], ◌∷◌, ◌++◌, ◌∙◌, ◌⊎◌, ◌↔◌}
 use Rattle.std.proofs.Common.{ℕ, List, length, map, Option, None, Some, Result, Ok, Err}
-use Rattle.std.proofs.Common.{sym, ap, subst, refl, arith, inl, inr, rules, append_assoc, append-nil}
+use Rattle.std.proofs.Common.{sym, ap, subst, refl, arith, inl, append_assoc, append-nil}
 use Rattle.std.specs.Prelude.{All, slice_get, slice_set}
 use Rattle.std.proofs.lemmas.List.Elements.{All-head, All-rest}
 use Rattle.std.proofs.lemmas.Option.{slice_get_within, get_or_from_slice_get}
@@ -82,7 +82,8 @@ module _ {V D U F : Type 0} (place : V → Point) (constraints : List U → List
       let at : i ≡ e.0 = ap (λ (p : ℕ × ℕ). p.0) pair in
       let handle : tries.ok.0 ≡ h = sym (ap (λ (p : ℕ × ℕ). p.1) pair) in record {
         vertex = e.1;
-        is = ap (λ (k : ℕ). (k, e.1) ∷ es) (sym at) ∙ ap (λ (fs : List (ℕ × V)). (i, e.1) ∷ fs) (sym is);
+        is = ap (λ (k : ℕ). (k, e.1) ∷ es) (sym at)
+            ∙ ap (λ (fs : List (ℕ × V)). (i, e.1) ∷ fs) (sym is);
         one = subst (λ (k : ℕ). InsertsOne place constraints e.1 k old new) handle tries.ok.1.1;
       }
 

@@ -1,6 +1,7 @@
 //! Where a point is on a Hilbert curve.
 ghost use Rattle.std.specs.Prelude.{◌≡◌, ◌<◌};
-ghost use Rattle.delaunay_bulk.specs.Curve.{doubled_by, spread_of, turned_by_two, turned_by_twice, joined_at, key_at};
+ghost use Rattle.delaunay_bulk.specs.Curve.{doubled_by, joined_at, key_at, spread_of};
+ghost use Rattle.delaunay_bulk.specs.Curve.{turned_by_twice, turned_by_two};
 
 /// Added to a coordinate in range it gives a number from 0 to 2^30.
 const SHIFT: i64 = 1 << 29;
@@ -64,7 +65,7 @@ fn doubled(bits: u64, places: u32, mask: u64) -> u64
 
 // The lower 32 bits, each with a clear bit above it.
 #[tactic(auto, unfolding(crate::specs::Curve::spread_of))]
-fn spread(bits: u64) -> u64
+fn spread_bits(bits: u64) -> u64
     ensures { result ≡ spread_of bits }
 {
     let halves = doubled(bits, 16, 0x0000_ffff_0000_ffff);
@@ -77,14 +78,14 @@ fn spread(bits: u64) -> u64
 // What a point's number is made of: in which halves of the squares round it, level by level, and
 // how the curve is turned there.
 #[tactic(auto, unfolding(crate::specs::Curve::joined_at))]
-fn joined(x: u64, y: u64, turns: Turns) -> u64
+fn key_from(x: u64, y: u64, turns: Turns) -> u64
     ensures { result ≡ joined_at x y turns }
 {
     let right = turns.x ^ (turns.x >> 1);
     let upper = turns.y ^ (turns.y >> 1);
     let low = x ^ y;
     let high = upper | (LEVELS ^ (low | right));
-    (spread(high) << 1) | spread(low)
+    (spread_bits(high) << 1) | spread_bits(low)
 }
 
 /// How many points of the square of all points a Hilbert curve visits before this one. Points that
@@ -98,5 +99,5 @@ pub(crate) fn curve_key(x: i64, y: i64) -> u64
     let y = y.wrapping_add(SHIFT).unsigned_abs();
     let four = turns_of_twice(turns_of_two(x, y), 2);
     let sixteen = turns_of_twice(turns_of_twice(four, 4), 8);
-    joined(x, y, turns_of_twice(sixteen, 16))
+    key_from(x, y, turns_of_twice(sixteen, 16))
 }

@@ -145,7 +145,7 @@ impl<L: Choosing> Session<L> {
     }
 
     // Inserts many vertices at once.
-    fn fill(
+    fn insert_listed(
         &mut self,
         rt: &impl Print,
         call: &Call<'_>,
@@ -206,7 +206,7 @@ impl<L: Choosing> Answers for Session<L> {
             "sheet" => call.tell(rt, &self.take_sheet(positions))?,
             "replay" => self.replay(rt, call)?,
             name if is_look(name) => self.look(rt, call)?,
-            name if is_bulk(name) => self.fill(rt, call, vertices)?,
+            name if is_bulk(name) => self.insert_listed(rt, call, vertices)?,
             _ if self.beside.answer(rt, call)? => {}
             _ => self.list(rt, call, vertices)?,
         }

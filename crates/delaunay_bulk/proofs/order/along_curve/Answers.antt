@@ -1,4 +1,4 @@
-use Rattle.std.proofs.Common.{◌≡◌, ◌+◌, ◌<◌, ◌≤◌, ◌∙◌, List, ℕ, length, rules, refl, sym, ap, subst, arith}
+use Rattle.std.proofs.Common.{◌≡◌, ◌∙◌, List, ℕ, length, rules, refl, sym, ap, subst, arith}
 use Rattle.std.proofs.Common.{ℤ, w64, to_z, of_z}
 use Rattle.std.proofs.lemmas.Int.{to_z-of_z}
 use Rattle.std.specs.Vec.Iter.{into_iter_items}
@@ -16,7 +16,8 @@ loop-vertex-preserved g c =
     let fewer = ap (λ (vs : List g.row.V.Denot). length vs) is in
     let read_x : to_z w64 (of_z w64 c.to_i64.result) ≡ c.to_i64.result =
     to_z-of_z w64 c.to_i64.result (search rules) in
-    let read_y : to_z w64 (of_z w64 c.to_i64-in-loop-vertex.result) ≡ c.to_i64-in-loop-vertex.result =
+    let read_y : to_z w64 (of_z w64 c.to_i64-in-loop-vertex.result)
+    ≡ c.to_i64-in-loop-vertex.result =
     to_z-of_z w64 c.to_i64-in-loop-vertex.result (search rules) in
     let room = c.loop-vertex.invariant.3 in (
       tt,
@@ -25,7 +26,11 @@ loop-vertex-preserved g c =
           (into_iter_items c.into_iter-vertex-iterator.result) (into_iter_items c.next.new.self) ps)
           (sym c.push_reserved.ensures.items)
           (one_placed g.V.HasPosition.place _ _ _ c.loop-vertex.placed.items c.in-Some.vertex
-          (record { key = c.curve_key-key.result; place = c.len-place.result; vertex = c.in-Some.vertex })
+          (record {
+            key = c.curve_key-key.result;
+            place = c.len-place.result;
+            vertex = c.in-Some.vertex;
+          })
           is c.loop-vertex.invariant.2
           (c.curve_key-key.ensures
           ∙ ap (λ (x : ℤ). key_at x (to_z w64 (of_z w64 c.to_i64-in-loop-vertex.result)))

@@ -12,8 +12,8 @@ loop-place-preserved g c =
     subst (λ (vs : List g.row.V.Denot). All (λ v. InRange (g.V.HasPosition.place v)) vs)
     (sym (take_more c.args.vertices.now c.loop-place.place c.index-vertices-place.result
     c.loop-place-test.true))
-    (All-push (λ v. InRange (g.V.HasPosition.place v)) (take c.loop-place.place c.args.vertices.now) _
-    c.loop-place.invariant
+    (All-push (λ v. InRange (g.V.HasPosition.place v))
+    (take c.loop-place.place c.args.vertices.now) _ c.loop-place.invariant
     (subst (λ v. InRange (g.V.HasPosition.place v)) c.index-vertices-place.is inside))
 
 pub returns : goal.returns

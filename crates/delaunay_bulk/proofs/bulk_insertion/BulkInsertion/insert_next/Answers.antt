@@ -13,7 +13,8 @@ insert_with_hint-requires-clause-new_site g c =
     let sites = g.P.PlaneTests.sites c.args.tests.now in
     All-head (λ (e : ℕ × g.row.V.Denot). InRange (place e.1) → sites (place e.1))
     (entry_of c.in-Some.field-0) (map entry_of (into_iter_items c.next.new.self))
-    (subst (λ (es : List (ℕ × g.row.V.Denot)). All (λ e. InRange (place e.1) → sites (place e.1)) es)
+    (subst (λ (es : List (ℕ × g.row.V.Denot)).
+    All (λ e. InRange (place e.1) → sites (place e.1)) es)
     (sym c.self.view_is ∙ ap (map entry_of) c.in-Some.ensures.items) c.requires.new_sites)
 
 pub returns-in-Ok-clause-sites : goal.returns-in-Ok-clause-sites
@@ -24,5 +25,6 @@ returns-in-Ok-clause-sites g c =
     c.in-Ok.ensures.inserts sites (c.requires.sites c.recall_invariant.ensures.in_range)
     (All-head (λ (e : ℕ × g.row.V.Denot). InRange (place e.1) → sites (place e.1))
     (entry_of c.in-Some.field-0) (map entry_of (into_iter_items c.next.new.self))
-    (subst (λ (es : List (ℕ × g.row.V.Denot)). All (λ e. InRange (place e.1) → sites (place e.1)) es)
+    (subst (λ (es : List (ℕ × g.row.V.Denot)).
+    All (λ e. InRange (place e.1) → sites (place e.1)) es)
     (sym c.self.view_is ∙ ap (map entry_of) c.in-Some.ensures.items) c.requires.new_sites))

@@ -1,14 +1,13 @@
-use Rattle.std.proofs.Common.{◌≡◌, ◌∙◌, ◌+◌, ◌<◌, ℕ, List, length, Ok, Some, sym, ap, subst, arith, inr}
-use Rattle.std.specs.Prelude.{All, IfErr, Option}
+use Rattle.std.proofs.Common.{ℕ, List, length, sym, subst, arith, inr}
+use Rattle.std.specs.Prelude.{All}
 use Rattle.std.proofs.lemmas.List.{length-map}
 use Rattle.std.proofs.lemmas.List.Elements.{All-rest}
 use Rattle.std.proofs.lemmas.Result.{err_from_is_err_and}
 use Rattle.plane.specs.Tests.{InRange}
 use Rattle.delaunay_legalization.specs.State.{State}
 use Rattle.delaunay_interface.specs.Headline.{AreSites}
-use Rattle.delaunay_bulk.specs.Bulk.{InsertsNext, StopsAt}
-use Rattle.delaunay_bulk.proofs.Turns.{IsUnderway, begins, ends, goes_on, has_place, next_was, none_was}
-use Rattle.delaunay_bulk.proofs.Turns.{one_of_all, refused_was, stops}
+use Rattle.delaunay_bulk.proofs.Turns.{IsUnderway, begins, ends, goes_on, has_place, next_was}
+use Rattle.delaunay_bulk.proofs.Turns.{none_was, one_of_all, refused_was, stops}
 use Rattle.delaunay_bulk.proofs.insert_all.InsertAll.insert_all.Goals as goal
 
 pub vertices-init : goal.vertices-init
