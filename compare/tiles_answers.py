@@ -8,6 +8,7 @@ import threading
 import time
 from concurrent.futures import ProcessPoolExecutor
 
+import dask
 import numpy as np
 from distributed import Client, LocalCluster
 
@@ -154,7 +155,7 @@ class Ending(threading.Thread):
 
     def run(self):
         begin = time.monotonic()
-        while time.monotonic() < begin + 60:
+        while time.monotonic() < begin + 600:
             self.found = len(glob.glob(f"{self.folder}/tiles-*/cells-*.npy"))
             if self.found > self.tiles // 10:
                 os.kill(self.pid, signal.SIGKILL)
@@ -165,6 +166,9 @@ class Ending(threading.Thread):
 def main():
     check_few()
     check_refusals()
+    # A machine that is busy with other things is no reason to give up.
+    waits = {"distributed.comm.timeouts.connect": "600s", "distributed.comm.timeouts.tcp": "600s"}
+    dask.config.set({**waits, "distributed.scheduler.worker-ttl": None})
     room = tempfile.TemporaryDirectory()
     folder = f"{room.name}/tiles"
     os.mkdir(folder)
