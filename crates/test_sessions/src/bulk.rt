@@ -23,7 +23,10 @@ fn insert_in_steps<T: Triangulation<Vertex = TaggedVertex>>(
     vertices: Vec<TaggedVertex>,
 ) -> Result<io::Result<()>, BulkInsertionError> {
     let mut insertion = BulkInsertion::new(vertices)?;
-    while let Some((place, vertex)) = insertion.insert_next(points, &ExactTests)? {
+    for _ in 0..insertion.len() {
+        let Some((place, vertex)) = insertion.insert_next(points, &ExactTests)? else {
+            break;
+        };
         let (index, left) = (vertex.index(), insertion.len());
         if let Err(error) = println!(rt; "place {place}, vertex {index}, {left} left") {
             return Ok(Err(error));
