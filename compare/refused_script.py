@@ -57,7 +57,13 @@ SCRIPT = [
     "remove_constraint_edge 5 18",
     "insert -20 -20 17",
     "try_clone",
+    "insert_all -70 44 60 -3 61 -4 60 -3",
     "with_capacity 50 150 100",
+    "plain",
+    f"insert_all {' '.join(f'{7 * i} {i * i % 10}' for i in range(23))}",
+    "insert_all 3 4 0 50 3 4 11 -9",
+    "reserve 200",
+    "insert_all 1 99",
 ]
 # Edits that take no memory, each after so many lines of SCRIPT: what it gives.
 WITHOUT_MEMORY = [
@@ -72,6 +78,9 @@ WITHOUT_MEMORY = [
     (11, "insert_with_hint 40 10 78 0", "Ok(2)"),
     (11, "insert 0 -536870913 1", "Err(TooLarge)"),
     (11, "locate_and_remove 41 10", "Some(Ok(None))"),
+    (11, "insert_all 1 1 0 536870913", "Err(Vertex { place: 1, error: TooLarge })"),
+    (0, "insert_all", "Ok([])"),
+    (11, "reserve 5000000000", "Err(OutOfIndexes)"),
     (SCRIPT.index("add_constraint 2 3"), "try_add_constraint 1 1", "path"),
     (SCRIPT.index("add_constraint 2 3"), "remove_constraint_edge 6 3", "Some(Ok(false))"),
     (SCRIPT.index("remove_constraint_edge 2 3"), "try_add_constraint 6 4", "path"),
@@ -160,6 +169,7 @@ HINTED = [
     "remove_constraint_edge 1 2",
     "remove 3",
     "try_clone",
+    "insert_all 12 34 -15 26 50 8",
     "with_capacity 50 150 100",
 ]
 # Where hints are asked for.

@@ -10,7 +10,7 @@ HERE = os.path.dirname(os.path.realpath(__file__))
 PROGRAM = f"{HERE}/../crates/script_tests/out/script_tests"
 # What a call says that was refused for memory.
 REFUSAL = re.compile(
-    r"(.* > )?\(?(Some\()?Err\((AllocError|OutOfMemory|Insertion\(OutOfMemory\))\)\)?(, \d+\))?"
+    r"(.* > )?\(?(Some\()?Err\((AllocError|OutOfMemory|(Insertion|NoRoom)\(OutOfMemory\))\)\)?(, \d+\))?"
 )
 
 # Calls of several steps.

@@ -4,6 +4,9 @@ from copy import deepcopy
 
 from plain_state import LIMIT, PlainState
 
+# How many times a square of all points is quartered until each quarter has one.
+LEVELS = 32
+
 # What vertices carry that come as ends of constraints.
 CHAINED = 5
 TOO_LARGE = "Err(Insertion(TooLarge))"
@@ -15,6 +18,19 @@ def truth(value):
 
 def in_range(*points):
     return all(abs(number) <= LIMIT for point in points for number in point)
+
+
+def along_curve(p):
+    """How many points a Hilbert curve visits before this one: quarter by quarter of a square that
+    begins at the least point."""
+    x, y = p[0] + LIMIT, p[1] + LIMIT
+    key = 0
+    for level in reversed(range(LEVELS)):
+        right, upper = x >> level & 1, y >> level & 1
+        key = 4 * key + (3 * right ^ upper)
+        if not upper:
+            x, y = (~y, ~x) if right else (y, x)
+    return key
 
 
 class Tagged(PlainState):
@@ -37,6 +53,12 @@ class Tagged(PlainState):
         if i < len(self.tags):
             self.tags[i] = last
         return vertex_text(self.remove(i), tag)
+
+    def put_all(self, points):
+        """The places of points in a list and their indexes, in the order of their insertion, each
+        with its place as its number."""
+        places = sorted(range(len(points)), key=lambda i: (along_curve(points[i]), i))
+        return [(place, self.put(points[place], place)) for place in places]
 
     def join_points(self, p, q):
         """What a constraint between two points gives, which become vertices."""
@@ -101,6 +123,35 @@ class Session:
         return self.call_insert(x, y, tag)
 
     call_insert_counting = call_insert
+
+    def put_list(self, numbers):
+        """The steps of the insertion of a list of points, or the place of the first one that is out
+        of range."""
+        points = list(zip(numbers[::2], numbers[1::2]))
+        for place, p in enumerate(points):
+            if not in_range(p):
+                return place, []
+        return None, self.state().put_all(points)
+
+    def call_insert_all(self, *numbers):
+        outside, steps = self.put_list(numbers)
+        if outside is not None:
+            return f"Err(Vertex {{ place: {outside}, error: TooLarge }})"
+        handles = [f"FixedVertexHandle {{ index: {index} }}" for _, index in sorted(steps)]
+        return f"Ok([{', '.join(handles)}])"
+
+    def steps_told(self, numbers):
+        """What an insertion of a list tells of each of its steps."""
+        outside, steps = self.put_list(numbers)
+        if outside is not None:
+            return [f"vertex {outside}: TooLarge"]
+        told = [f"place {place}, vertex {index}" for place, index in steps]
+        lefts = reversed(range(len(told)))
+        return [f"{it}, {left} left" for it, left in zip(told, lefts)] + ["none is left: true"]
+
+    def call_reserve(self, additional):
+        full = 6 * (len(self.state().points) + additional) >= 2**32
+        return "Err(OutOfIndexes)" if full else "Ok(())"
 
     def call_replace_vertex(self, i, tag):
         tags = self.state().tags

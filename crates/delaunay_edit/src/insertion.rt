@@ -32,7 +32,7 @@ pub(crate) enum Entry {
 
 // Makes room for so many edges that a legalization may list, which it does unless the triangulation
 // is free of constraints.
-fn reserve_to_test(
+pub(crate) fn reserve_to_test(
     work: &mut Vec<FixedUndirectedEdgeHandle>,
     edges: usize,
     free: bool,

@@ -1,8 +1,11 @@
 //! Triangulations with room for more, and copies.
-ghost use Rattle.std.specs.Prelude.{◌≡◌, ◌≤◌, ◌↔◌, IfOk, IsErrOf, IsOk};
+ghost use Rattle.std.specs.Prelude.{◌≡◌, ◌+◌, ◌*◌, ◌<◌, ◌≤◌, ◌↔◌, length, Err};
+ghost use Rattle.std.specs.Prelude.{IfOk, OnErr, IsErrOf, IsOk};
+ghost use Rattle.half_edge_links.specs.declared.room.TheConstants.{MAX_ELEMENTS};
 ghost use Rattle.half_edge_mesh.specs.Room.{AreFewEnough};
 ghost use Rattle.delaunay_core.specs.declared.math.InsertionError.TheVariants.{TooLarge};
 ghost use Rattle.delaunay_core.specs.declared.math.InsertionError.TheVariants.{OutOfIndexes};
+ghost use Rattle.delaunay_core.specs.declared.math.InsertionError.TheVariants.{OutOfMemory};
 ghost use Rattle.delaunay_legalization.specs.Constraints.{constraints_by};
 ghost use Rattle.delaunay_legalization.specs.State.{state_of};
 ghost use Rattle.delaunay_edit.specs.Headline.{IsDelaunay};
@@ -10,11 +13,12 @@ ghost use Rattle.delaunay_edit.specs.Storage.{IsCopy, IsEmptyState, KeepsImage};
 
 use crate::edge_data::EdgeData;
 use crate::edited_mesh::EditedMesh;
+use crate::insertion::reserve_to_test;
 use delaunay_core::math::InsertionError;
 use delaunay_core::point::HasPosition;
 use delaunay_legalization::ConstraintMarker;
 use delaunay_removal::RemovalLists;
-use half_edge_mesh::{Dcel, ReserveError};
+use half_edge_mesh::{Dcel, MAX_ELEMENTS, ReserveError};
 use std::alloc::{AllocError, Global};
 use std::marker::PhantomData;
 
@@ -69,6 +73,47 @@ impl<
             num_constraints: 0,
             marks: PhantomData,
         })
+    }
+}
+
+// Makes room for these totals of vertices, with the edges and faces that go with them.
+fn reserve_totals<V, DE, UE, F>(
+    dcel: &mut Dcel<V, DE, UE, F>,
+    vertices: usize,
+) -> Result<(), InsertionError>
+    requires few { 6 * vertices ≤ MAX_ELEMENTS }
+    ensures same { state_of dcel.new ≡ state_of dcel.old }
+    ensures memory { OnErr result (result ≡ Err OutOfMemory) }
+{
+    if dcel
+        .reserve_capacity(vertices, 3 * vertices, 2 * vertices)
+        .is_err()
+    {
+        return Err(InsertionError::OutOfMemory);
+    }
+    Ok(())
+}
+
+impl<V: HasPosition, DE, UE, F, M: ConstraintMarker<UE>> EditedMesh<V, DE, UE, F, M> {
+    /// Makes room for so many more vertices, with the edges and faces that they can bring, and for
+    /// the edges that their insertions list. Nothing else changes, whatever it gives:
+    /// `OutOfIndexes` exactly where six times the new number of vertices passes `MAX_ELEMENTS`, and
+    /// `OutOfMemory` where memory was refused.
+    pub fn reserve(&mut self, additional: usize) -> Result<(), InsertionError>
+        ensures same { self.new ≡ self.old }
+        ensures full { IsErrOf result OutOfIndexes ↔
+            (MAX_ELEMENTS < 6 * (length self.old.vertices + additional)) }
+        ensures not_too_large { ¬ IsErrOf result TooLarge }
+    {
+        let former = self.dcel.num_vertices();
+        let most = MAX_ELEMENTS / 6;
+        if additional > most || former > most - additional {
+            return Err(InsertionError::OutOfIndexes);
+        }
+        let vertices = former + additional;
+        reserve_totals(&mut self.dcel, vertices)?;
+        let free = self.num_constraints == 0;
+        reserve_to_test(&mut self.work, 3 * vertices, free)
     }
 }
 

@@ -90,6 +90,10 @@ impl<
         })
     }
 
+    fn reserve(&mut self, additional: usize) -> Result<(), InsertionError> {
+        self.edited.reserve(additional)
+    }
+
     fn insert<P: PlaneTests<V::Scalar>>(
         &mut self,
         value: V,

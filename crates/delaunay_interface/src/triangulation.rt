@@ -145,6 +145,19 @@ pub trait Triangulation: Drop
         ensures not_too_large { ¬ IsErrOf result TooLarge }
         ensures nothing { vertices ≡ 0 → undirected_edges ≡ 0 → faces ≤ 1 → IsOk result };
 
+    /// Makes room for so many more vertices, with the edges and faces that they can bring. Nothing
+    /// else changes, whatever it gives: `OutOfIndexes` exactly where six times the new number of
+    /// vertices passes `MAX_ELEMENTS`, and `OutOfMemory` where memory was refused.
+    ///
+    /// ```
+    /// points.reserve(1000)?;
+    /// ```
+    fn reserve(&mut self, additional: usize) -> Result<(), InsertionError>
+        ensures same { state self.new ≡ state self.old }
+        ensures full { IsErrOf result OutOfIndexes ↔
+            (MAX_ELEMENTS < 6 * (length (state self.old).vertices + additional)) }
+        ensures not_too_large { ¬ IsErrOf result TooLarge };
+
     /// Inserts a vertex and gives its handle. The first of these that applies decides: `TooLarge`
     /// where a coordinate is out of range; the handle of the vertex at its position, which it
     /// replaces; `OutOfIndexes` where the mesh is full; `OutOfMemory` where memory was refused;

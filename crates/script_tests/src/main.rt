@@ -7,6 +7,7 @@
 #![tactic(auto)]
 
 mod beside;
+mod bulk;
 mod comparisons;
 mod counting;
 mod each;

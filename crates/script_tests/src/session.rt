@@ -1,6 +1,7 @@
 //! A line of the script: the name of a call and some numbers, and what the call gives.
 
 use crate::beside::Beside;
+use crate::bulk::{insert_many, is_bulk};
 use crate::hints::{Choosing, factor_of, tell_listing};
 use crate::journal::{Edits, edit_of, replay_constrained, replay_plain, tell_outcomes};
 use crate::shape_calls::query;
@@ -143,6 +144,20 @@ impl<L: Choosing> Session<L> {
         }
     }
 
+    // Inserts many vertices at once.
+    fn fill(
+        &mut self,
+        rt: &impl Print,
+        call: &Call<'_>,
+        vertices: Vec<TaggedVertex>,
+    ) -> io::Result<()> {
+        if self.is_constrained {
+            insert_many(rt, &mut self.constrained, call, vertices)
+        } else {
+            insert_many(rt, &mut self.plain, call, vertices)
+        }
+    }
+
     // What the generator was told, or what is in a shape.
     fn look(&self, rt: &(impl Print + AllocGlobal), call: &Call<'_>) -> io::Result<()> {
         if self.is_constrained {
@@ -191,6 +206,7 @@ impl<L: Choosing> Answers for Session<L> {
             "sheet" => call.tell(rt, &self.take_sheet(positions))?,
             "replay" => self.replay(rt, call)?,
             name if is_look(name) => self.look(rt, call)?,
+            name if is_bulk(name) => self.fill(rt, call, vertices)?,
             _ if self.beside.answer(rt, call)? => {}
             _ => self.list(rt, call, vertices)?,
         }

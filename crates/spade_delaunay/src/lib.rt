@@ -17,6 +17,7 @@
 pub mod handles;
 pub mod iterators;
 
+pub use delaunay_bulk::{BulkInsertion, BulkInsertionError, InsertAll};
 pub use delaunay_core::line_side_info::LineSideInfo;
 pub use delaunay_core::math::{
     InsertionError, MAX_ALLOWED_VALUE, PlaneTests, PointProjection, is_ordered_ccw, project_point,

@@ -1,0 +1,4 @@
+pub mod Orders
+pub mod Placing
+pub mod Handled
+pub mod Turns

@@ -1,0 +1,3 @@
+pub mod Curve
+pub mod Order
+pub mod Bulk

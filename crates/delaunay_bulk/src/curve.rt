@@ -1,0 +1,102 @@
+//! Where a point is on a Hilbert curve.
+ghost use Rattle.std.specs.Prelude.{◌≡◌, ◌<◌};
+ghost use Rattle.delaunay_bulk.specs.Curve.{doubled_by, spread_of, turned_by_two, turned_by_twice, joined_at, key_at};
+
+/// Added to a coordinate in range it gives a number from 0 to 2^30.
+const SHIFT: i64 = 1 << 29;
+
+/// The bits of a shifted coordinate, and one more: the curve has as many levels as bits are set.
+const LEVELS: u64 = 0xffff_ffff;
+
+// How the curve is turned below its levels, a level a bit: which coordinates of a quarter are taken
+// straight and which crossed, and what is added to them.
+#[derive(Clone, Copy, Drop)]
+struct Turns {
+    straight: u64,
+    crossed: u64,
+    x: u64,
+    y: u64,
+}
+
+// How each two levels turn it, for a point with these coordinates.
+#[tactic(auto, unfolding(crate::specs::Curve::turned_by_two))]
+fn turns_of_two(x: u64, y: u64) -> Turns
+    ensures { result ≡ turned_by_two x y }
+{
+    let differ = x ^ y;
+    let agree = LEVELS ^ differ;
+    let neither = LEVELS ^ (x | y);
+    let right = x & (LEVELS ^ y);
+    Turns {
+        straight: differ | (agree >> 1),
+        crossed: (differ >> 1) ^ differ,
+        x: ((neither >> 1) ^ (agree & (right >> 1))) ^ neither,
+        y: ((differ & (neither >> 1)) ^ (right >> 1)) ^ right,
+    }
+}
+
+// How twice as many levels turn it: so many, below as many others.
+#[tactic(auto, unfolding(crate::specs::Curve::turned_by_twice))]
+fn turns_of_twice(turns: Turns, levels: u32) -> Turns
+    requires { levels < 64 }
+    ensures { result ≡ turned_by_twice turns levels }
+{
+    let straight = turns.straight >> levels;
+    let crossed = turns.crossed >> levels;
+    let x = turns.x >> levels;
+    let y = turns.y >> levels;
+    Turns {
+        straight: (turns.straight & straight) ^ (turns.crossed & crossed),
+        crossed: (turns.straight & crossed) ^ (turns.crossed & (straight ^ crossed)),
+        x: turns.x ^ ((turns.straight & x) ^ (turns.crossed & y)),
+        y: turns.y ^ ((turns.crossed & x) ^ ((turns.straight ^ turns.crossed) & y)),
+    }
+}
+
+// Bits, and these again some places higher, as far as a mask lets them through.
+#[tactic(auto, unfolding(crate::specs::Curve::doubled_by))]
+fn doubled(bits: u64, places: u32, mask: u64) -> u64
+    requires { places < 64 }
+    ensures { result ≡ doubled_by bits places mask }
+{
+    (bits | (bits << places)) & mask
+}
+
+// The lower 32 bits, each with a clear bit above it.
+#[tactic(auto, unfolding(crate::specs::Curve::spread_of))]
+fn spread(bits: u64) -> u64
+    ensures { result ≡ spread_of bits }
+{
+    let halves = doubled(bits, 16, 0x0000_ffff_0000_ffff);
+    let bytes = doubled(halves, 8, 0x00ff_00ff_00ff_00ff);
+    let nibbles = doubled(bytes, 4, 0x0f0f_0f0f_0f0f_0f0f);
+    let pairs = doubled(nibbles, 2, 0x3333_3333_3333_3333);
+    doubled(pairs, 1, 0x5555_5555_5555_5555)
+}
+
+// What a point's number is made of: in which halves of the squares round it, level by level, and
+// how the curve is turned there.
+#[tactic(auto, unfolding(crate::specs::Curve::joined_at))]
+fn joined(x: u64, y: u64, turns: Turns) -> u64
+    ensures { result ≡ joined_at x y turns }
+{
+    let right = turns.x ^ (turns.x >> 1);
+    let upper = turns.y ^ (turns.y >> 1);
+    let low = x ^ y;
+    let high = upper | (LEVELS ^ (low | right));
+    (spread(high) << 1) | spread(low)
+}
+
+/// How many points of the square of all points a Hilbert curve visits before this one. Points that
+/// are near on the curve are near in the plane. Nothing but time rests on it, and that equal points
+/// have equal keys.
+#[tactic(auto, unfolding(crate::specs::Curve::key_at))]
+pub(crate) fn curve_key(x: i64, y: i64) -> u64
+    ensures { result ≡ key_at x y }
+{
+    let x = x.wrapping_add(SHIFT).unsigned_abs();
+    let y = y.wrapping_add(SHIFT).unsigned_abs();
+    let four = turns_of_twice(turns_of_two(x, y), 2);
+    let sixteen = turns_of_twice(turns_of_twice(four, 4), 8);
+    joined(x, y, turns_of_twice(sixteen, 16))
+}

@@ -1,0 +1,90 @@
+//! The call of both triangulations that inserts the vertices of a list.
+ghost use Rattle.std.specs.Prelude.{◌≡◌, ◌+◌, ◌*◌, ◌<◌, length, slice_set, All, IfErr, IfOk};
+ghost use Rattle.plane.specs.Tests.{InRange};
+ghost use Rattle.delaunay_interface.specs.Headline.{AreSites, IsDelaunay};
+ghost use Rattle.delaunay_bulk.specs.Bulk.{InsertsAll, StopsAt};
+
+use crate::bulk_insertion::BulkInsertion;
+use crate::error::BulkInsertionError;
+use delaunay_core::math::{InsertionError, PlaneTests};
+use delaunay_core::point::HasPosition;
+use delaunay_interface::{Triangulation, VertexOf};
+use half_edge_mesh::FixedVertexHandle;
+use std::alloc::{AllocError, Global};
+
+/// The scalars of a triangulation's positions.
+pub type ScalarOf<T> = <VertexOf<T> as HasPosition>::Scalar;
+
+// A handle for each of so many places, to be written.
+fn unknown_handles(alloc: Global, count: usize) -> Result<Vec<FixedVertexHandle>, AllocError>
+    ensures { IfOk result (λ handles. length handles.items ≡ count) }
+{
+    Vec::from_elem(alloc, FixedVertexHandle::from_index(0), count)
+}
+
+// Writes a handle at its place.
+fn write_at(handles: &mut Vec<FixedVertexHandle>, inserted: (usize, FixedVertexHandle))
+    requires { inserted.0 < length handles.old.items }
+    ensures { handles.new.items ≡ slice_set handles.old.items inserted.0 inserted.1 }
+{
+    handles[inserted.0] = inserted.1;
+}
+
+/// Insertions of many vertices: of both triangulations.
+pub trait InsertAll: Triangulation {
+    /// Inserts all vertices of a list, as `insert` would one after another, and gives their handles
+    /// in the order of the list. They are inserted in another order, along a curve, by searches
+    /// that each begin at the vertex before, which takes less time than any order of the list. Of
+    /// several vertices at one position the last of the list is kept, and all have its handle.
+    ///
+    /// Nothing is inserted where it gives `Vertex` with `TooLarge`, for the least place whose
+    /// vertex is out of range, or `NoRoom`: with `OutOfIndexes` where six times the number of
+    /// vertices with those of the list passes `MAX_ELEMENTS`, and else with `OutOfMemory` where
+    /// memory was refused. All memory that it takes is reserved by then but that of a hint
+    /// generator, which does with less. Where another vertex is refused, those that were inserted
+    /// stay. The vertices that were not inserted are dropped.
+    ///
+    /// ```
+    /// let mut hill: DelaunayTriangulation<Point2<i64>> = DelaunayTriangulation::new(rt.alloc());
+    /// let mut points = Vec::new(rt.alloc());
+    /// for (x, y) in [(0, 0), (120, 35), (-80, 140), (-150, -60)] {
+    ///     points.push(Point2::new(x, y))?;
+    /// }
+    /// let vertices = hill.insert_all(points, &ExactTests)?; // 4 handles
+    /// ```
+    final fn insert_all<P: PlaneTests<ScalarOf<Self>>>(
+        &mut self,
+        vertices: Vec<VertexOf<Self>>,
+        tests: &P,
+    ) -> Result<Vec<FixedVertexHandle>, BulkInsertionError>
+        requires sites { AreSites Self.Vertex.place (P.sites tests.now)
+            (Self.state self.old).vertices }
+        requires new_sites { All (λ v. InRange (Self.Vertex.place v) → P.sites tests.now
+            (Self.Vertex.place v)) vertices.items }
+        ensures inserts { IfOk result (λ handles. InsertsAll Self.Vertex.place
+            Self.Constraints.constraints vertices.items handles.items (Self.state self.old)
+            (Self.state self.new)) }
+        ensures stops { IfErr result (λ error. StopsAt Self.Vertex.place
+            Self.Constraints.constraints vertices.items error (Self.state self.old)
+            (Self.state self.new)) }
+        ensures headline { IsDelaunay Self.Vertex.place Self.Constraints.constraints
+            (Self.state self.new) }
+    {
+        self.recall_invariant();
+        let alloc = *vertices.allocator();
+        let mut insertion = BulkInsertion::new(vertices)?;
+        let Ok(mut handles) = unknown_handles(alloc, insertion.len()) else {
+            return Err(BulkInsertionError::NoRoom(InsertionError::OutOfMemory));
+        };
+        if let Err(error) = self.reserve(insertion.len()) {
+            return Err(BulkInsertionError::NoRoom(error));
+        }
+        'vertices: while let Some(inserted) = insertion.insert_next(self, tests)? {
+            write_at(&mut handles, inserted);
+        }
+        self.recall_invariant();
+        Ok(handles)
+    }
+}
+
+impl<T: Triangulation> InsertAll for T {}

@@ -1,0 +1,49 @@
+//! The order in which vertices are inserted.
+ghost use Rattle.std.specs.Prelude.{◌≡◌, ◌<◌, length, map, Some, slice_get, IfOk, MatchOption, All};
+ghost use Rattle.plane.specs.Tests.{InRange};
+ghost use Rattle.delaunay_bulk.specs.Order.{IsFirstOutside, IsListed, entry_of};
+
+use crate::curve::curve_key;
+use delaunay_core::math::validate_vertex;
+use delaunay_core::point::{HasPosition, SpadeNum};
+use std::alloc::AllocError;
+
+/// A vertex with its place in the list and the key that it is sorted by.
+#[derive(Drop)]
+pub(crate) struct Placed<V> {
+    pub(crate) key: u64,
+    pub(crate) place: usize,
+    pub(crate) vertex: V,
+}
+
+/// The least place with a vertex that is out of range, if there is one.
+pub(crate) fn first_too_large<V: HasPosition>(vertices: &[V]) -> Option<usize>
+    ensures { MatchOption result (All (λ v. InRange (V.place v)) vertices.now)
+        (IsFirstOutside V.place vertices.now) }
+{
+    for place in 0..vertices.len() {
+        if validate_vertex(&vertices[place]).is_err() {
+            return Some(place);
+        }
+    }
+    None
+}
+
+/// The vertices along the curve, those of one position by rising place. It gives `AllocError` where
+/// memory was refused.
+pub(crate) fn along_curve<V: HasPosition + Drop>(
+    vertices: Vec<V>,
+) -> Result<Vec<Placed<V>>, AllocError>
+    ensures { IfOk result
+        (λ placed. IsListed V.place vertices.items (map entry_of placed.items)) }
+{
+    let mut placed = Vec::with_capacity(*vertices.allocator(), vertices.len())?;
+    for vertex in vertices {
+        let position = vertex.position();
+        let key = curve_key(position.x.to_i64(), position.y.to_i64());
+        let place = placed.len();
+        placed.push_reserved(Placed { key, place, vertex });
+    }
+    placed.sort_by_key(|entry| entry.key)?;
+    Ok(placed)
+}
