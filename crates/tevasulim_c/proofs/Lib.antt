@@ -2,3 +2,4 @@ pub mod Values
 pub mod Handles
 pub mod Corners
 pub mod Inserted
+pub mod Edited

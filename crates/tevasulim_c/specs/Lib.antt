@@ -1,3 +1,4 @@
 pub mod Keeps
 pub mod Kept
 pub mod Answers
+pub mod Edits

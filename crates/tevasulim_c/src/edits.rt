@@ -1,15 +1,17 @@
 //! Edits of a triangulation that C keeps.
 ghost use Rattle.std.specs.Prelude.{◌≡◌, ◌↔◌, ◌<◌, [], length, IsTrue};
 ghost use Rattle.tevasulim_c.specs.Kept.{InsertsKept, IsKeptDelaunay, CountsKept, kept_vertices};
-ghost use Rattle.tevasulim_c.specs.Kept.{IsOfKind};
+ghost use Rattle.tevasulim_c.specs.Kept.{IsOfKind, kept_place};
+ghost use Rattle.tevasulim_c.specs.Edits.{Addition, AddsKept, AllowsConstraints, Release};
+ghost use Rattle.tevasulim_c.specs.Edits.{ReleasesKept, Removal, RemovesKept};
 
 use crate::kept::{ConstrainedPoints, KeptPoints, PlainPoints};
 use crate::lists::counts_of;
 use crate::queries::{are_in_range, point_of};
 use crate::raw::{NumberedPoint, RawCounts, RawPoint};
 use crate::statuses::{
-    CROSSING, IS_CONSTRAINED, NO_CONSTRAINT, NO_SUCH_VERTEX, OUT_OF_MEMORY, TOO_LARGE, TOO_SHORT,
-    UNEQUAL_LENGTHS, WELL, status_of,
+    CROSSING, IS_CONSTRAINED, IS_PLAIN, NO_CONSTRAINT, NO_SUCH_VERTEX, OUT_OF_MEMORY, TOO_LARGE,
+    TOO_SHORT, UNEQUAL_LENGTHS, WELL, status_of,
 };
 use exact_predicates::ExactTests;
 use spade_delaunay::handles::FixedVertexHandle;
@@ -65,7 +67,11 @@ pub fn insert_all<T: Triangulation<Vertex = NumberedPoint>>(
 }
 
 /// Removes a vertex.
-pub fn remove<T: Triangulation<Vertex = NumberedPoint>>(points: &mut T, vertex: u32) -> u32 {
+#[tactic(auto, using(crate::proofs::Edited::is_removed, crate::proofs::Edited::is_not_removed, crate::proofs::Edited::removes_none))]
+fn remove<T: Triangulation<Vertex = NumberedPoint>>(points: &mut T, vertex: u32) -> u32
+    ensures { Removal kept_place T.Constraints.constraints vertex result
+        (T.state points.old) (T.state points.new) }
+{
     if !is_vertex(points, vertex) {
         return NO_SUCH_VERTEX;
     }
@@ -100,7 +106,10 @@ pub fn set_numbers<T: Triangulation<Vertex = NumberedPoint>>(
 }
 
 /// Joins two vertices by constraints.
-pub fn constrain(points: &mut ConstrainedPoints, from: u32, to: u32) -> u32 {
+#[tactic(auto, using(crate::proofs::Edited::is_added, crate::proofs::Edited::is_not_added, crate::proofs::Edited::is_crossing, crate::proofs::Edited::adds_no_first, crate::proofs::Edited::adds_no_second))]
+pub fn constrain(points: &mut ConstrainedPoints, from: u32, to: u32) -> u32
+    ensures { Addition kept_place from to result points.old points.new }
+{
     if !is_vertex(points, from) || !is_vertex(points, to) {
         return NO_SUCH_VERTEX;
     }
@@ -199,8 +208,33 @@ impl KeptPoints {
         }
     }
 
+    /// Removes a vertex.
+    #[tactic(auto, using(crate::proofs::Edited::removed_from_plain, crate::proofs::Edited::removed_from_constrained))]
+    pub fn remove(&mut self, vertex: u32) -> u32
+        ensures { RemovesKept vertex result self.old self.new }
+    {
+        match self {
+            KeptPoints::Plain(points) => remove(points, vertex),
+            KeptPoints::Constrained(points) => remove(points, vertex),
+        }
+    }
+
+    /// Joins two vertices by constraints.
+    #[tactic(auto, using(crate::proofs::Edited::not_added_to_plain, crate::proofs::Edited::added_to_constrained))]
+    pub fn constrain(&mut self, from: u32, to: u32) -> u32
+        ensures { AddsKept from to result self.old self.new }
+    {
+        match self {
+            KeptPoints::Plain(_) => IS_PLAIN,
+            KeptPoints::Constrained(points) => constrain(points, from, to),
+        }
+    }
+
     /// A constrained triangulation of a plain one; else, or where memory is refused, the same.
-    pub fn allow_constraints(self) -> (Self, u32) {
+    #[tactic(auto, using(crate::proofs::Edited::is_allowed, crate::proofs::Edited::is_not_allowed, crate::proofs::Edited::is_constrained))]
+    pub fn allow_constraints(self) -> (Self, u32)
+        ensures { AllowsConstraints result.1 self result.0 }
+    {
         match self {
             KeptPoints::Plain(points) => match ConstrainedPoints::from_delaunay(points) {
                 Ok(points) => (KeptPoints::Constrained(points), WELL),

@@ -1,19 +1,18 @@
-//! The calls. include/tevasulim.h says what each does.
-ghost use Rattle.std.specs.Prelude.{◌≡◌, [], None, Some, IfNone, IfSome, MatchOption};
+//! The calls that open, close and read a triangulation. include/tevasulim.h says what each does.
+ghost use Rattle.std.specs.Prelude.{◌≡◌, None, Some, IfNone, MatchOption};
 ghost use Rattle.tevasulim_c.specs.declared.statuses.TheConstants.{ALREADY_OPEN, CLOSED, WELL};
-ghost use Rattle.tevasulim_c.specs.Answers.{InsertsAt, OpensAt};
-ghost use Rattle.tevasulim_c.specs.Kept.{CountsKept, IsKeptDelaunay, kept_vertices, unnumbered_at};
+ghost use Rattle.tevasulim_c.specs.Answers.{OpensAt};
+ghost use Rattle.tevasulim_c.specs.Kept.{CountsKept};
 
 use crate::handle::Handle;
 use crate::kept::KeptPoints;
 use crate::raw::{RawCounts, RawEdge, RawFace, RawMeeting, RawPlace, RawPoint, RawSegment};
 use crate::shapes::{self, RawCircle, RawRectangle};
 use crate::statuses::{
-    ALREADY_OPEN, CLOSED, IS_CONSTRAINED, IS_PLAIN, NO_SUCH_KIND, NO_SUCH_STATUS, OUT_OF_MEMORY,
-    TOO_SHORT, WELL, status_of, words_of,
+    ALREADY_OPEN, CLOSED, IS_CONSTRAINED, NO_SUCH_KIND, NO_SUCH_STATUS, OUT_OF_MEMORY, TOO_SHORT,
+    WELL, words_of,
 };
-use crate::{edits, lists, queries, whole};
-use spade_delaunay::Point2;
+use crate::{lists, queries, whole};
 use std::alloc::Global;
 
 /// The version of the library.
@@ -68,183 +67,6 @@ pub extern "C" fn tevasulim_close(alloc: Global, handle: &mut Handle)
     ensures { handle.new.kept ≡ None }
 {
     drop(handle.take(alloc));
-}
-
-#[unsafe(no_mangle)]
-pub extern "C" fn tevasulim_allow_constraints(alloc: Global, handle: &mut Handle) -> u32
-    ensures headline { IfSome handle.new.kept IsKeptDelaunay }
-    ensures closed { IfNone handle.old.kept ((result ≡ CLOSED) × (handle.new.kept ≡ None)) }
-{
-    let Some(mut kept) = handle.take(alloc) else {
-        return CLOSED;
-    };
-    let (changed, status) = std::mem::replace(
-        &mut *kept,
-        KeptPoints::new(alloc, false),
-    ).allow_constraints();
-    *kept = changed;
-    kept.recall_headline();
-    handle.put(kept, alloc);
-    status
-}
-
-#[unsafe(no_mangle)]
-pub extern "C" fn tevasulim_clear(alloc: Global, handle: &mut Handle) -> u32
-    ensures headline { IfSome handle.new.kept IsKeptDelaunay }
-    ensures empty { IfSome handle.new.kept (λ k. kept_vertices k ≡ []) }
-    ensures closed { IfNone handle.old.kept ((result ≡ CLOSED) × (handle.new.kept ≡ None)) }
-{
-    let Some(mut kept) = handle.take(alloc) else {
-        return CLOSED;
-    };
-    kept.clear();
-    kept.recall_headline();
-    handle.put(kept, alloc);
-    WELL
-}
-
-#[unsafe(no_mangle)]
-#[tactic(auto, using(crate::proofs::Inserted::inserted_at, crate::proofs::Inserted::refused_at))]
-pub extern "C" fn tevasulim_insert(
-    alloc: Global,
-    handle: &mut Handle,
-    x: i32,
-    y: i32,
-    vertex: &mut u32,
-) -> u32
-    ensures { MatchOption handle.old.kept ((result ≡ CLOSED) × (handle.new.kept ≡ None))
-        (λ old. InsertsAt (unnumbered_at x y) result vertex.new old handle.new.kept) }
-{
-    let Some(mut kept) = handle.take(alloc) else {
-        return CLOSED;
-    };
-    let inserted = kept.insert(Point2 { x, y });
-    handle.put(kept, alloc);
-    match inserted {
-        Ok(inserted) => {
-            *vertex = inserted.index();
-            WELL
-        }
-        Err(error) => status_of(error),
-    }
-}
-
-#[unsafe(no_mangle)]
-pub extern "C" fn tevasulim_insert_all(
-    alloc: Global,
-    handle: &mut Handle,
-    positions: &[RawPoint],
-    vertices: &mut [u32],
-) -> u32
-    ensures headline { IfSome handle.new.kept IsKeptDelaunay }
-    ensures closed { IfNone handle.old.kept ((result ≡ CLOSED) × (handle.new.kept ≡ None)) }
-{
-    let Some(mut kept) = handle.take(alloc) else {
-        return CLOSED;
-    };
-    let status = match &mut *kept {
-        KeptPoints::Plain(points) => edits::insert_all(points, positions, vertices),
-        KeptPoints::Constrained(points) => edits::insert_all(points, positions, vertices),
-    };
-    kept.recall_headline();
-    handle.put(kept, alloc);
-    status
-}
-
-#[unsafe(no_mangle)]
-pub extern "C" fn tevasulim_remove(alloc: Global, handle: &mut Handle, vertex: u32) -> u32
-    ensures headline { IfSome handle.new.kept IsKeptDelaunay }
-    ensures closed { IfNone handle.old.kept ((result ≡ CLOSED) × (handle.new.kept ≡ None)) }
-{
-    let Some(mut kept) = handle.take(alloc) else {
-        return CLOSED;
-    };
-    let status = match &mut *kept {
-        KeptPoints::Plain(points) => edits::remove(points, vertex),
-        KeptPoints::Constrained(points) => edits::remove(points, vertex),
-    };
-    kept.recall_headline();
-    handle.put(kept, alloc);
-    status
-}
-
-#[unsafe(no_mangle)]
-pub extern "C" fn tevasulim_constrain(alloc: Global, handle: &mut Handle, from: u32, to: u32) -> u32
-    ensures headline { IfSome handle.new.kept IsKeptDelaunay }
-    ensures closed { IfNone handle.old.kept ((result ≡ CLOSED) × (handle.new.kept ≡ None)) }
-{
-    let Some(mut kept) = handle.take(alloc) else {
-        return CLOSED;
-    };
-    let status = match &mut *kept {
-        KeptPoints::Plain(_) => IS_PLAIN,
-        KeptPoints::Constrained(points) => edits::constrain(points, from, to),
-    };
-    kept.recall_headline();
-    handle.put(kept, alloc);
-    status
-}
-
-#[unsafe(no_mangle)]
-pub extern "C" fn tevasulim_constrain_chain(
-    alloc: Global,
-    handle: &mut Handle,
-    vertices: &[u32],
-    closed: bool,
-    made: &mut usize,
-) -> u32
-    ensures headline { IfSome handle.new.kept IsKeptDelaunay }
-    ensures closed { IfNone handle.old.kept ((result ≡ CLOSED) × (handle.new.kept ≡ None)) }
-{
-    let Some(mut kept) = handle.take(alloc) else {
-        return CLOSED;
-    };
-    let status = match &mut *kept {
-        KeptPoints::Plain(_) => IS_PLAIN,
-        KeptPoints::Constrained(points) => edits::constrain_chain(points, vertices, closed, made),
-    };
-    kept.recall_headline();
-    handle.put(kept, alloc);
-    status
-}
-
-#[unsafe(no_mangle)]
-pub extern "C" fn tevasulim_release(alloc: Global, handle: &mut Handle, from: u32, to: u32) -> u32
-    ensures headline { IfSome handle.new.kept IsKeptDelaunay }
-    ensures closed { IfNone handle.old.kept ((result ≡ CLOSED) × (handle.new.kept ≡ None)) }
-{
-    let Some(mut kept) = handle.take(alloc) else {
-        return CLOSED;
-    };
-    let status = match &mut *kept {
-        KeptPoints::Plain(_) => IS_PLAIN,
-        KeptPoints::Constrained(points) => edits::release(points, from, to),
-    };
-    kept.recall_headline();
-    handle.put(kept, alloc);
-    status
-}
-
-#[unsafe(no_mangle)]
-pub extern "C" fn tevasulim_set_numbers(
-    alloc: Global,
-    handle: &mut Handle,
-    vertices: &[u32],
-    numbers: &[u64],
-) -> u32
-    ensures headline { IfSome handle.new.kept IsKeptDelaunay }
-    ensures closed { IfNone handle.old.kept ((result ≡ CLOSED) × (handle.new.kept ≡ None)) }
-{
-    let Some(mut kept) = handle.take(alloc) else {
-        return CLOSED;
-    };
-    let status = match &mut *kept {
-        KeptPoints::Plain(points) => edits::set_numbers(points, vertices, numbers),
-        KeptPoints::Constrained(points) => edits::set_numbers(points, vertices, numbers),
-    };
-    kept.recall_headline();
-    handle.put(kept, alloc);
-    status
 }
 
 #[unsafe(no_mangle)]

@@ -1,6 +1,7 @@
 //! The library for C. include/tevasulim.h says what each call does; here each has its contract.
 #![tactic(auto)]
 
+mod edit_calls;
 mod edits;
 mod exports;
 mod handle;
