@@ -1,5 +1,5 @@
 -- Vertices that are inserted one after another.
-use Rattle.std.proofs.Common.{◌≡◌, ◌≢◌, ◌+◌, ◌<◌, ◌≤◌, [], ◌∷◌, ◌++◌, ◌∙◌, ◌⊎◌, ◌↔◌}
+use Rattle.std.proofs.Common.{◌≡◌, ◌<◌, [], ◌∷◌, ◌++◌, ◌∙◌}
 use Rattle.std.proofs.Common.{ℕ, List, length, map, Option, None, Some, Result, Ok, Err}
 use Rattle.std.proofs.Common.{sym, ap, subst, refl, arith, inl, append_assoc, append-nil}
 use Rattle.std.specs.Prelude.{All, slice_get, slice_set}
@@ -12,7 +12,7 @@ use Rattle.delaunay_legalization.specs.Constraints.{points_and_constraints_by}
 use Rattle.delaunay_legalization.specs.State.{State}
 use Rattle.delaunay_interface.proofs.Stepping.{inserted_grows, inserted_here}
 use Rattle.delaunay_bulk.specs.declared.error.BulkInsertionError.{BulkInsertionError}
-use Rattle.delaunay_bulk.specs.Order.{IsListed, IsOrder}
+use Rattle.delaunay_bulk.specs.Order.{IsListed}
 use Rattle.delaunay_bulk.specs.Bulk.{InsertsAll, InsertsInTurn, InsertsNext, InsertsOne}
 use Rattle.delaunay_bulk.specs.Bulk.{HaveHandles, RefusesOne, StopsLater, TriesOne}
 use Rattle.delaunay_bulk.proofs.Handled.{AreHandled, all_handled, one_handled}

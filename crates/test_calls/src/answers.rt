@@ -54,6 +54,22 @@ pub fn answer_constrained<L: HintGenerator<i64>>(
     path: Vec<TaggedVertex>,
 ) -> io::Result<()> {
     let call = asked.call;
+    match call.name {
+        "add_constraint_edge" => call.tell(rt, &add_edge(points, path.as_slice())),
+        "refusal" => tell_refusal(rt, call, add_edge(points, path.as_slice())),
+        "add_constraint_edges" => call.tell(rt, &add_edges(points, path, false)),
+        "add_closed_edges" => call.tell(rt, &add_edges(points, path, true)),
+        _ => edit_constraints(rt, points, asked),
+    }
+}
+
+// Calls that add and release the constraint of two vertices.
+fn edit_constraints<L: HintGenerator<i64>>(
+    rt: &(impl Print + AllocGlobal),
+    points: &mut Constrained<L>,
+    asked: &Asked<'_>,
+) -> io::Result<()> {
+    let call = asked.call;
     let [from, to, _] = call.indexes();
     match call.name {
         "add_constraint" => call.tell(rt, &add(points, from, to)),
@@ -61,38 +77,49 @@ pub fn answer_constrained<L: HintGenerator<i64>>(
             let path = try_add(points, from, to);
             tell_path(rt, points, call, path)
         }
-        "add_constraint_edge" => call.tell(rt, &add_edge(points, path.as_slice())),
-        "refusal" => tell_refusal(rt, call, add_edge(points, path.as_slice())),
-        "add_constraint_edges" => call.tell(rt, &add_edges(points, path, false)),
-        "add_closed_edges" => call.tell(rt, &add_edges(points, path, true)),
         "remove_constraint_edge" => call.tell(rt, &release(points, from, to)),
         _ => read_constraints(rt, points, asked),
     }
 }
 
-// Calls that read constraints.
+// Calls that read the constraint of two vertices.
 fn read_constraints<L: HintGenerator<i64>>(
     rt: &(impl Print + AllocGlobal),
     points: &mut Constrained<L>,
     asked: &Asked<'_>,
 ) -> io::Result<()> {
-    let (call, sheet) = (asked.call, asked.sheet);
-    let ([from, to, _], alloc) = (call.indexes(), rt.alloc());
-    let segment = Segment::between(call.ends());
+    let call = asked.call;
+    let [from, to, _] = call.indexes();
     match call.name {
         "num_constraints" => call.tell(rt, &points.num_constraints()),
         "can_add_constraint" => call.tell(rt, &can_add(points, from, to)),
         "exists_constraint" => call.tell(rt, &exists(points, from, to)),
         "is_constraint_edge" => call.tell(rt, &is_constraint(points, from, to)),
-        "conflicts" => tell_items(rt, call, conflicts(points, segment, alloc)),
-        "conflicts_of_handles" => {
-            tell_items(rt, call, conflicts_between(points, from, to, alloc))
-        }
-        "conflicts_agree" => call.tell(rt, &compare_conflicts(points, sheet, alloc)),
-        "intersects_constraint" => call.tell(rt, &intersects(points, segment)),
-        "line_of_handles" => {
-            tell_items(rt, call, constrained_walk_between(points, from, to, alloc))
-        }
+        _ if read_conflicts(rt, points, asked)? => Ok(()),
         _ => look(rt, points, asked),
     }
+}
+
+// Calls that read constraints across segments, and whether this is one of them.
+fn read_conflicts<L: HintGenerator<i64>>(
+    rt: &(impl Print + AllocGlobal),
+    points: &Constrained<L>,
+    asked: &Asked<'_>,
+) -> io::Result<bool> {
+    let (call, sheet) = (asked.call, asked.sheet);
+    let ([from, to, _], alloc) = (call.indexes(), rt.alloc());
+    let segment = Segment::between(call.ends());
+    match call.name {
+        "conflicts" => tell_items(rt, call, conflicts(points, segment, alloc))?,
+        "conflicts_of_handles" => {
+            tell_items(rt, call, conflicts_between(points, from, to, alloc))?
+        }
+        "conflicts_agree" => call.tell(rt, &compare_conflicts(points, sheet, alloc))?,
+        "intersects_constraint" => call.tell(rt, &intersects(points, segment))?,
+        "line_of_handles" => {
+            tell_items(rt, call, constrained_walk_between(points, from, to, alloc))?
+        }
+        _ => return Ok(false),
+    }
+    Ok(true)
 }

@@ -1,5 +1,4 @@
-use Rattle.std.proofs.Common.{ℕ, List, length, sym, subst, arith, inr}
-use Rattle.std.specs.Prelude.{All}
+use Rattle.std.proofs.Common.{ℕ, List, sym, subst, arith, inr}
 use Rattle.std.proofs.lemmas.List.{length-map}
 use Rattle.std.proofs.lemmas.List.Elements.{All-rest}
 use Rattle.std.proofs.lemmas.Result.{err_from_is_err_and}
