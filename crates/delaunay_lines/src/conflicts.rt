@@ -17,7 +17,7 @@ use crate::intersection::Intersection;
 use crate::iterator::LineIntersectionIterator;
 use delaunay_core::math::PlaneTests;
 use delaunay_core::point::{HasPosition, Point2};
-use delaunay_legalization::{ConstraintMarker, is_constraint_edge};
+use delaunay_legalization::ConstraintMarker;
 use half_edge_mesh::{Dcel, DirectedEdgeHandle, FixedVertexHandle};
 use std::marker::PhantomData;
 
@@ -28,7 +28,7 @@ fn is_constraint<M: ConstraintMarker<UE>, V, DE, UE, F>(
     ensures { IsTrue result ↔
         Contains (M.constraints edge.now.dcel.now.undirected) (edge.now.index / 2) }
 {
-    is_constraint_edge::<M, _, _, _, _>(edge.dcel, edge.as_undirected().fix())
+    M::is_constraint_edge(edge.as_undirected().data())
 }
 
 // The edge of an item, if the segment crosses it and it is a constraint.

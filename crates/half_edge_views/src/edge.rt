@@ -16,8 +16,8 @@ use std::alloc::AllocError;
 #[derive_where(Copy, PartialEq, Eq, PartialOrd, Ord, Hash, Debug)]
 pub struct DirectedEdgeHandle<'a, V, DE, UE, F> {
     #[derive_where(skip)]
-    pub dcel: &'a Dcel<V, DE, UE, F>,
-    pub index: u32,
+    pub(crate) dcel: &'a Dcel<V, DE, UE, F>,
+    pub(crate) index: u32,
     ghost in_range: { index < length dcel.now.directed },
 }
 
@@ -32,6 +32,13 @@ impl<'a, V, DE, UE, F> Clone for DirectedEdgeHandle<'a, V, DE, UE, F> {
 }
 
 impl<'a, V, DE, UE, F> DirectedEdgeHandle<'a, V, DE, UE, F> {
+    /// The index of it.
+    pub fn index(&self) -> u32
+        ensures { result ≡ self.now.index }
+    {
+        self.index
+    }
+
     /// The name of it alone.
     pub fn fix(&self) -> FixedDirectedEdgeHandle
         ensures value { result ≡ self.now.index }
@@ -197,8 +204,8 @@ impl<'a, V, DE, UE, F> DirectedEdgeHandle<'a, V, DE, UE, F> {
 #[derive_where(Copy, PartialEq, Eq, PartialOrd, Ord, Hash, Debug)]
 pub struct UndirectedEdgeHandle<'a, V, DE, UE, F> {
     #[derive_where(skip)]
-    pub dcel: &'a Dcel<V, DE, UE, F>,
-    pub index: u32,
+    pub(crate) dcel: &'a Dcel<V, DE, UE, F>,
+    pub(crate) index: u32,
     ghost in_range: { index < length dcel.now.undirected },
 }
 
@@ -213,6 +220,13 @@ impl<'a, V, DE, UE, F> Clone for UndirectedEdgeHandle<'a, V, DE, UE, F> {
 }
 
 impl<'a, V, DE, UE, F> UndirectedEdgeHandle<'a, V, DE, UE, F> {
+    /// The index of it.
+    pub fn index(&self) -> u32
+        ensures { result ≡ self.now.index }
+    {
+        self.index
+    }
+
     /// The name of it alone.
     pub fn fix(&self) -> FixedUndirectedEdgeHandle
         ensures value { result ≡ self.now.index }

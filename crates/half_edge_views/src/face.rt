@@ -17,8 +17,8 @@ use std::alloc::AllocError;
 #[derive_where(Copy, PartialEq, Eq, PartialOrd, Ord, Hash, Debug)]
 pub struct FaceHandle<'a, V, DE, UE, F> {
     #[derive_where(skip)]
-    pub dcel: &'a Dcel<V, DE, UE, F>,
-    pub index: u32,
+    pub(crate) dcel: &'a Dcel<V, DE, UE, F>,
+    pub(crate) index: u32,
     ghost in_range: { index ≤ length dcel.now.faces },
 }
 
@@ -33,6 +33,13 @@ impl<'a, V, DE, UE, F> Clone for FaceHandle<'a, V, DE, UE, F> {
 }
 
 impl<'a, V, DE, UE, F> FaceHandle<'a, V, DE, UE, F> {
+    /// The index of it.
+    pub fn index(&self) -> u32
+        ensures { result ≡ self.now.index }
+    {
+        self.index
+    }
+
     /// The name of it alone.
     pub fn fix(&self) -> FixedFaceHandle
         ensures value { result ≡ self.now.index }

@@ -15,8 +15,8 @@ use std::alloc::AllocError;
 #[derive_where(Copy, PartialEq, Eq, PartialOrd, Ord, Hash, Debug)]
 pub struct VertexHandle<'a, V, DE, UE, F> {
     #[derive_where(skip)]
-    pub dcel: &'a Dcel<V, DE, UE, F>,
-    pub index: u32,
+    pub(crate) dcel: &'a Dcel<V, DE, UE, F>,
+    pub(crate) index: u32,
     ghost in_range: { index < length dcel.now.vertices },
 }
 
@@ -32,6 +32,13 @@ impl<'a, V, DE, UE, F> Clone for VertexHandle<'a, V, DE, UE, F> {
 
 impl<'a, V, DE, UE, F> VertexHandle<'a, V, DE, UE, F> {
     ghost use Rattle.half_edge_views.specs.Rounds.{GivesRound, out_edges_left};
+
+    /// The index of it.
+    pub fn index(&self) -> u32
+        ensures { result ≡ self.now.index }
+    {
+        self.index
+    }
 
     /// The name of it alone.
     pub fn fix(&self) -> FixedVertexHandle

@@ -17,21 +17,21 @@ use half_edge_views::{DirectedEdgeHandle, FaceHandle, UndirectedEdgeHandle, Vert
 /// ```
 #[derive_where(Clone, Copy, PartialEq, Eq, PartialOrd, Ord, Hash, Debug)]
 pub struct VoronoiFace<'a, V, DE, UE, F> {
-    pub vertex: VertexHandle<'a, V, DE, UE, F>,
+    pub(crate) vertex: VertexHandle<'a, V, DE, UE, F>,
 }
 
 /// The edge of the Voronoi diagram across a directed edge, from the face on its left to the one on
 /// its right. Two of them are equal where their edges are.
 #[derive_where(Clone, Copy, PartialEq, Eq, PartialOrd, Ord, Hash, Debug)]
 pub struct DirectedVoronoiEdge<'a, V, DE, UE, F> {
-    pub edge: DirectedEdgeHandle<'a, V, DE, UE, F>,
+    pub(crate) edge: DirectedEdgeHandle<'a, V, DE, UE, F>,
 }
 
 /// The edge of the Voronoi diagram across an undirected edge. Two of them are equal where their
 /// edges are.
 #[derive_where(Clone, Copy, PartialEq, Eq, PartialOrd, Ord, Hash, Debug)]
 pub struct UndirectedVoronoiEdge<'a, V, DE, UE, F> {
-    pub edge: UndirectedEdgeHandle<'a, V, DE, UE, F>,
+    pub(crate) edge: UndirectedEdgeHandle<'a, V, DE, UE, F>,
 }
 
 /// A vertex of the Voronoi diagram: that of an inner face, or the far end of an edge that has no

@@ -27,7 +27,7 @@ impl Shown for CdtEdge<u32> {
 
 fn out_edge_of<V, DE, UE, F>(vertex: &VertexHandle<'_, V, DE, UE, F>) -> Option<u32> {
     match vertex.out_edge() {
-        Some(edge) => Some(edge.index),
+        Some(edge) => Some(edge.index()),
         None => None,
     }
 }
@@ -39,7 +39,7 @@ fn print_vertex<DE, UE, F>(
     let TaggedVertex { position, tag } = *vertex.data();
     let (x, y) = (position.x, position.y);
     let out_edge = out_edge_of(vertex);
-    println!(rt; "vertex {} ({x}, {y}) {tag} {out_edge:?}", vertex.index)
+    println!(rt; "vertex {} ({x}, {y}) {tag} {out_edge:?}", vertex.index())
 }
 
 fn print_edge<V, UE: Shown, F>(
@@ -47,11 +47,15 @@ fn print_edge<V, UE: Shown, F>(
     edge: &DirectedEdgeHandle<'_, V, u32, UE, F>,
 ) -> io::Result<()> {
     let ends = ends_of(edge);
-    let links = [edge.next().index, edge.prev().index, edge.face().index];
+    let links = [
+        edge.next().index(),
+        edge.prev().index(),
+        edge.face().index(),
+    ];
     let (number, is_constraint) = edge.as_undirected().data().shown();
     println!(rt;
         "edge {} {ends:?} {links:?} {} {number} {is_constraint}",
-        edge.index,
+        edge.index(),
         *edge.data()
     )
 }
@@ -60,7 +64,7 @@ fn print_face<V, DE, UE>(rt: &impl Print, face: &FaceHandle<'_, V, DE, UE, u32>)
     requires { 0 < face.now.index }
 {
     let corners = corners_of(*face);
-    println!(rt; "face {} {corners:?} {}", face.index, *face.data())
+    println!(rt; "face {} {corners:?} {}", face.index(), *face.data())
 }
 
 /// Prints each vertex with its position, its number and the edge that it names.

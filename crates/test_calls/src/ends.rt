@@ -59,8 +59,8 @@ fn print_face<V, DE, UE, F>(
     requires { 0 < face.index }
 {
     let [first, second, third] = face.vertices();
-    let count = count_of([first.index, second.index, third.index], index);
-    println!(rt; "face {}, vertex {index} is {count} corner", face.index)
+    let count = count_of([first.index(), second.index(), third.index()], index);
+    println!(rt; "face {}, vertex {index} is {count} corner", face.index())
 }
 
 // The first and the last inner face, and how many faces are left between them and in a copy that

@@ -14,56 +14,56 @@ fn last_vertex<T: Triangulation>(points: &T) -> Option<u32> {
     let Some(item) = points.vertices().next_back() else {
         return None;
     };
-    Some(item.index)
+    Some(item.index())
 }
 
 fn last_directed_edge<T: Triangulation>(points: &T) -> Option<u32> {
     let Some(item) = points.directed_edges().next_back() else {
         return None;
     };
-    Some(item.index)
+    Some(item.index())
 }
 
 fn last_undirected_edge<T: Triangulation>(points: &T) -> Option<u32> {
     let Some(item) = points.undirected_edges().next_back() else {
         return None;
     };
-    Some(item.index)
+    Some(item.index())
 }
 
 fn last_face<T: Triangulation>(points: &T) -> Option<u32> {
     let Some(item) = points.all_faces().next_back() else {
         return None;
     };
-    Some(item.index)
+    Some(item.index())
 }
 
 fn last_inner_face<T: Triangulation>(points: &T) -> Option<u32> {
     let Some(item) = points.inner_faces().next_back() else {
         return None;
     };
-    Some(item.index)
+    Some(item.index())
 }
 
 fn last_voronoi_face<T: Triangulation>(points: &T) -> Option<u32> {
     let Some(item) = points.voronoi_faces().next_back() else {
         return None;
     };
-    Some(item.vertex.index)
+    Some(item.as_delaunay_vertex().index())
 }
 
 fn last_directed_voronoi_edge<T: Triangulation>(points: &T) -> Option<u32> {
     let Some(item) = points.directed_voronoi_edges().next_back() else {
         return None;
     };
-    Some(item.edge.index)
+    Some(item.as_delaunay_edge().index())
 }
 
 fn last_undirected_voronoi_edge<T: Triangulation>(points: &T) -> Option<u32> {
     let Some(item) = points.undirected_voronoi_edges().next_back() else {
         return None;
     };
-    Some(item.edge.index)
+    Some(item.as_delaunay_edge().index())
 }
 
 fn last_fixed_vertex<T: Triangulation>(points: &T) -> Option<u32> {

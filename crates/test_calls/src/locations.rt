@@ -62,7 +62,7 @@ pub fn locate_vertex<T: Triangulation<Vertex = TaggedVertex>>(
         return None;
     }
     match points.locate_vertex(point, &ExactTests) {
-        Some(vertex) => Some(Some(vertex.index)),
+        Some(vertex) => Some(Some(vertex.index())),
         None => Some(None),
     }
 }
@@ -75,7 +75,7 @@ fn nearest<L: HintGenerator<i64>>(points: &Plain<L>, point: Point2<i64>) -> Opti
     let Some(vertex) = points.nearest_neighbor(point, &ExactTests) else {
         return None;
     };
-    Some((vertex.index, distance_2(vertex.data().position, point)))
+    Some((vertex.index(), distance_2(vertex.data().position, point)))
 }
 
 /// The squared distance from a point in range to the nearest vertex.

@@ -36,22 +36,21 @@ fn ends<L: HintGenerator<i64>>(
     ))
 }
 
-// The mesh that a vertex lies in.
-fn mesh_at<L: HintGenerator<i64>>(points: &Plain<L>, vertex: FixedVertexHandle) -> &Mesh
-    requires { vertex < length points.now.vertices }
+// The mesh of a triangulation.
+fn mesh_of<L: HintGenerator<i64>>(points: &Plain<L>) -> &Mesh
     ensures vertices { result.now.vertices ≡ points.now.vertices }
     ensures shape { IsMesh (map position_of result.now.vertices) (faces_of result.now.mesh)
         (outer_of result.now.mesh) }
     ensures sites { All InRange (map position_of result.now.vertices) }
 {
     points.recall_invariant();
-    points.vertex(vertex).dcel
+    points.s()
 }
 
 /// The first vertex after its start on the segment between two different vertices.
 pub fn next<L: HintGenerator<i64>>(points: &Plain<L>, from: u32, to: u32) -> Option<u32> {
     let (start, end) = ends(points, from, to)?;
-    let mesh = mesh_at(points, start);
+    let mesh = mesh_of(points);
     Some(next_on_path(mesh, start, end, &ExactTests).index())
 }
 
@@ -85,7 +84,7 @@ fn joined_mesh<L: HintGenerator<i64>>(
     to: u32,
 ) -> Option<Mesh> {
     let (start, end) = ends(points, from, to)?;
-    let mesh = mesh_at(points, start);
+    let mesh = mesh_of(points);
     if next_on_path(mesh, start, end, &ExactTests) != end {
         return None;
     }
@@ -98,7 +97,7 @@ fn joined_mesh<L: HintGenerator<i64>>(
 // Whether two vertices are joined.
 fn are_joined(mesh: &Mesh, (from, to): (u32, u32)) -> bool {
     for edge in mesh.directed_edges() {
-        if edge.from().index == from && edge.to().index == to {
+        if edge.from().index() == from && edge.to().index() == to {
             return true;
         }
     }

@@ -113,7 +113,7 @@ pub fn counts<T: Triangulation>(points: &T) -> [usize; 6] {
 
 /// The ends of an edge by their indexes, in its direction.
 pub fn ends_of<V, DE, UE, F>(edge: &DirectedEdgeHandle<'_, V, DE, UE, F>) -> (u32, u32) {
-    (edge.from().index, edge.to().index)
+    (edge.from().index(), edge.to().index())
 }
 
 /// The corners of an inner face by their indexes, the least first.
@@ -121,7 +121,7 @@ pub fn corners_of<V, DE, UE, F>(face: FaceHandle<'_, V, DE, UE, F>) -> [u32; 3]
     requires { 0 < face.index }
 {
     let [a, b, c] = face.vertices();
-    let (a, b, c) = (a.index, b.index, c.index);
+    let (a, b, c) = (a.index(), b.index(), c.index());
     if a < b && a < c {
         [a, b, c]
     } else if b < c {

@@ -22,7 +22,7 @@ pub fn vertex<DE, UE, F>(mesh: &Dcel<u8, DE, UE, F>, index: u32) -> Option<([u8;
     let Some(handle) = mesh.get_vertex(vertex) else {
         return None;
     };
-    let start = handle.out_edge().map(|edge| edge.from().index);
+    let start = handle.out_edge().map(|edge| edge.from().index());
     if !has_vertex(mesh, vertex) {
         return None;
     }
@@ -37,15 +37,15 @@ pub fn directed_edge<V, DE, UE, F>(mesh: &Dcel<V, DE, UE, F>, index: u32) -> Opt
         return None;
     };
     Some([
-        edge.from().index,
-        edge.to().index,
-        edge.prev_from().index,
-        edge.next().index,
-        edge.prev().index,
-        edge.rev().index,
-        edge.ccw().index,
-        edge.cw().index,
-        edge.face().index,
+        edge.from().index(),
+        edge.to().index(),
+        edge.prev_from().index(),
+        edge.next().index(),
+        edge.prev().index(),
+        edge.rev().index(),
+        edge.ccw().index(),
+        edge.cw().index(),
+        edge.face().index(),
     ])
 }
 
@@ -53,7 +53,7 @@ fn opposite<V, DE, UE, F>(edge: &DirectedEdgeHandle<'_, V, DE, UE, F>) -> Option
     let Some(vertex) = edge.opposite_vertex() else {
         return None;
     };
-    Some(vertex.index)
+    Some(vertex.index())
 }
 
 /// Whether an edge is outer, the vertex opposite it, and both data of its ends.
@@ -82,9 +82,9 @@ pub fn undirected_edge<V, DE, F>(
     };
     let edge = mesh.undirected_edge(name);
     let [from, to] = edge.vertices();
-    let ends = [from.index, to.index];
+    let ends = [from.index(), to.index()];
     Some((
-        edge.as_directed().index,
+        edge.as_directed().index(),
         ends,
         *mesh.undirected_edge_data(name),
     ))
@@ -114,7 +114,7 @@ fn corners<DE, UE, F>(face: &FaceHandle<'_, u8, DE, UE, F>) -> Option<([u32; 3],
     let [ab, bc, ca] = face.adjacent_edges();
     let [a, b, c] = face.vertices();
     Some((
-        [ab.index, bc.index, ca.index],
+        [ab.index(), bc.index(), ca.index()],
         [*a.data(), *b.data(), *c.data()],
     ))
 }
@@ -149,7 +149,7 @@ pub fn edges_between<V, DE, UE, F>(
     let Some(back) = mesh.get_edge_from_neighbors(to, from) else {
         return None;
     };
-    Some([there.index, back.index])
+    Some([there.index(), back.index()])
 }
 
 /// By indexes alone: start, next, previous and face of an edge, the start of the edge that its

@@ -23,14 +23,14 @@ pub fn lengths<V, DE, UE, F>(mesh: &Dcel<V, DE, UE, F>) -> [usize; 8] {
 /// and the last name of a vertex and of an undirected edge.
 pub fn lasts<V, DE, UE, F>(mesh: &Dcel<V, DE, UE, F>) -> [Option<u32>; 8] {
     [
-        mesh.vertices().next_back().map(|vertex| vertex.index),
-        mesh.directed_edges().next_back().map(|edge| edge.index),
-        mesh.undirected_edges().next_back().map(|edge| edge.index),
-        mesh.faces().next_back().map(|face| face.index),
-        mesh.inner_faces().next_back().map(|face| face.index),
+        mesh.vertices().next_back().map(|vertex| vertex.index()),
+        mesh.directed_edges().next_back().map(|edge| edge.index()),
+        mesh.undirected_edges().next_back().map(|edge| edge.index()),
+        mesh.faces().next_back().map(|face| face.index()),
+        mesh.inner_faces().next_back().map(|face| face.index()),
         mesh.voronoi_faces()
             .next_back()
-            .map(|face| face.vertex.index),
+            .map(|face| face.as_delaunay_vertex().index()),
         mesh.fixed_vertices()
             .next_back()
             .map(|vertex| vertex.index()),

@@ -102,7 +102,7 @@ fn leaves_corner(mesh: &Mesh, edge: FixedDirectedEdgeHandle) -> bool
         return false;
     }
     let side = mesh.directed_edge(edge);
-    side.next().to().index != side.from().index
+    side.next().to().index() != side.from().index()
 }
 
 pub fn create_single_face_between_edge_and_next(mesh: &mut Mesh, edge: u32) -> Option<u32> {
@@ -164,7 +164,7 @@ pub fn flip_cw(mesh: &mut Mesh, edge: u32) -> bool {
         return false;
     }
     let side = mesh.directed_edge(there);
-    if side.prev().from().index == side.rev().prev().from().index {
+    if side.prev().from().index() == side.rev().prev().from().index() {
         return false;
     }
     mesh.flip_cw(edge);

@@ -34,7 +34,7 @@ fn range<I: Iterator<Item = u32> + Drop>(indexes: I) -> [Option<u32>; 2]
 fn hull<V, DE, UE, F>(mesh: &Dcel<V, DE, UE, F>) -> (usize, Option<u32>) {
     (
         count_of(mesh.convex_hull()),
-        mesh.convex_hull().map(|edge| edge.index).max(),
+        mesh.convex_hull().map(|edge| edge.index()).max(),
     )
 }
 
@@ -84,6 +84,6 @@ pub fn round<V, DE, UE, F>(
         count_of(vertex.out_edges()),
         count_of(vertex.as_voronoi_face().adjacent_edges()),
     ];
-    let ends = range(vertex.out_edges().map(|edge| edge.to().index));
+    let ends = range(vertex.out_edges().map(|edge| edge.to().index()));
     Some((counts, ends))
 }

@@ -42,9 +42,9 @@ fn remove_from_line<V, DE: Drop, UE: Drop, F>(
         return None;
     }
     let out = mesh.vertex(vertex).out_edge()?;
-    if out.ccw().ccw().index != out.index
-        || out.to().index == out.ccw().to().index
-        || out.prev().index == out.rev().index
+    if out.ccw().ccw().index() != out.index()
+        || out.to().index() == out.ccw().to().index()
+        || out.prev().index() == out.rev().index()
     {
         return None;
     }
@@ -60,7 +60,7 @@ fn remove_from_end_of_line<V, DE: Drop, UE: Drop, F>(
         return None;
     }
     let out = mesh.vertex(vertex).out_edge()?;
-    if out.ccw().index != out.index || out.next().index == out.rev().index {
+    if out.ccw().index() != out.index() || out.next().index() == out.rev().index() {
         return None;
     }
     Some(mesh.remove_when_degenerate(vertex))
@@ -104,7 +104,7 @@ fn leaves_more<V, DE, UE, F>(mesh: &Dcel<V, DE, UE, F>, edge: FixedDirectedEdgeH
     }
     let edge = mesh.directed_edge(edge);
     let last = edge.ccw();
-    edge.rev().next().index == last.index && last.next().index != last.rev().index
+    edge.rev().next().index() == last.index() && last.next().index() != last.rev().index()
 }
 
 // Takes the only face of a corner of the hull away, which starts `spoke` and is opposite `side`.
@@ -155,7 +155,7 @@ fn out_edge<V, DE, UE, F>(
     let Some(edge) = mesh.vertex(vertex).out_edge() else {
         return None;
     };
-    if edge.from().index != vertex.index() {
+    if edge.from().index() != vertex.index() {
         return None;
     }
     Some(edge.fix())
@@ -190,7 +190,7 @@ fn end_apart<V, DE, UE, F>(
 {
     has_edge(mesh, edge)
         && has_edge(mesh, other)
-        && mesh.directed_edge(other).to().index != mesh.directed_edge(edge).to().index
+        && mesh.directed_edge(other).to().index() != mesh.directed_edge(edge).to().index()
 }
 
 // Takes the edges of a vertex away that has three or four inner faces round it.

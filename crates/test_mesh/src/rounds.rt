@@ -4,11 +4,11 @@ use crate::lookups::vertex;
 use half_edge_mesh::{AsVoronoiFace, Dcel, DirectedEdgeHandle, DirectedVoronoiEdge, MeshViews};
 
 fn index<V, DE, UE, F>(edge: Option<DirectedEdgeHandle<'_, V, DE, UE, F>>) -> Option<u32> {
-    edge.map(|edge| edge.index)
+    edge.map(|edge| edge.index())
 }
 
 fn across<V, DE, UE, F>(edge: Option<DirectedVoronoiEdge<'_, V, DE, UE, F>>) -> Option<u32> {
-    edge.map(|edge| edge.as_delaunay_edge().index)
+    edge.map(|edge| edge.as_delaunay_edge().index())
 }
 
 /// What four calls from behind give of the edges of a vertex, of the hull, and of the vertex's face

@@ -7,13 +7,13 @@ use half_edge_mesh::{
 };
 
 fn index_of<V, DE, UE, F>(edge: &DirectedVoronoiEdge<'_, V, DE, UE, F>) -> u32 {
-    edge.as_delaunay_edge().index
+    edge.as_delaunay_edge().index()
 }
 
 /// The face that a vertex is the centre of, if it is of one, and an edge out of it.
 fn centre<V, DE, UE, F>(vertex: &VoronoiVertex<'_, V, DE, UE, F>) -> (Option<u32>, Option<u32>) {
     (
-        vertex.as_delaunay_face().map(|face| face.index),
+        vertex.as_delaunay_face().map(|face| face.index()),
         vertex.out_edge().map(|edge| index_of(&edge)),
     )
 }
@@ -25,8 +25,8 @@ fn beside<V, DE, UE, F>(edge: &DirectedVoronoiEdge<'_, V, DE, UE, F>) -> [u32; 5
         index_of(&edge.rev()),
         index_of(&edge.next()),
         index_of(&edge.prev()),
-        edge.as_undirected().as_delaunay_edge().index,
-        edge.face().as_delaunay_vertex().index,
+        edge.as_undirected().as_delaunay_edge().index(),
+        edge.face().as_delaunay_vertex().index(),
     ]
 }
 
@@ -82,11 +82,11 @@ pub fn voronoi_face<V, DE, UE, F>(
     };
     let face = vertex.as_voronoi_face();
     Some([
-        Some(face.as_delaunay_vertex().index),
+        Some(face.as_delaunay_vertex().index()),
         face.adjacent_edges().next().map(|edge| index_of(&edge)),
         mesh.voronoi_faces()
             .next()
-            .map(|face| face.as_delaunay_vertex().index),
+            .map(|face| face.as_delaunay_vertex().index()),
         mesh.directed_voronoi_edges()
             .next()
             .map(|edge| index_of(&edge)),
