@@ -8,3 +8,4 @@ pub mod Candidates
 pub mod BothWays
 pub mod Covering
 pub mod Sides
+pub mod Lines

@@ -2,6 +2,7 @@
 //! nearest to it.
 #![tactic(auto)]
 
+mod line;
 mod location;
 mod nearest_walk;
 mod parts;

@@ -73,7 +73,7 @@ impl<'a, V: HasPosition, DE, UE, F, P: PlaneTests<V::Scalar>> Search<'a, V, DE, 
 
     // On which side of an edge the position is.
     #[inline(always)]
-    fn side_at(&self, stop: Stop<V::Scalar>) -> LineSideInfo
+    pub(crate) fn side_at(&self, stop: Stop<V::Scalar>) -> LineSideInfo
         requires search { IsSearch V.place V.Scalar.whole P.sites P.covered self.now }
         requires stop { IsStopOf V.place V.Scalar.whole self.now stop }
         ensures { IsSideAt V.place V.Scalar.whole self.now stop result }

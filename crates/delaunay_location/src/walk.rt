@@ -19,10 +19,10 @@ use delaunay_legalization::{is_same_point, is_strictly_within};
 use half_edge_mesh::{Dcel, FixedDirectedEdgeHandle, FixedVertexHandle, MeshViews};
 
 // After so many steps a walk looks for a nearer vertex anywhere in the mesh.
-const FEW_STEPS: usize = 16;
+pub(crate) const FEW_STEPS: usize = 16;
 
 // Where a walk is after some steps.
-enum Walked {
+pub(crate) enum Walked {
     // It has ended: here, unless no side had the position.
     Ended(Option<PositionInTriangulation>),
     // It goes on in the face on the left of this edge.
@@ -31,7 +31,10 @@ enum Walked {
 
 impl<'a, V: HasPosition, DE, UE, F, P: PlaneTests<V::Scalar>> Search<'a, V, DE, UE, F, P> {
     // The location of a position on an edge: at its start, or within it.
-    fn place_on_edge(&self, edge: FixedDirectedEdgeHandle) -> Option<PositionInTriangulation>
+    pub(crate) fn place_on_edge(
+        &self,
+        edge: FixedDirectedEdgeHandle,
+    ) -> Option<PositionInTriangulation>
         requires within { edge < length self.now.dcel.now.directed }
         requires search { IsSearch V.place V.Scalar.whole P.sites P.covered self.now }
         ensures { IfSome result (IsPlaceOf V.place V.Scalar.whole self.now) }
@@ -105,22 +108,23 @@ impl<'a, V: HasPosition, DE, UE, F, P: PlaneTests<V::Scalar>> Search<'a, V, DE, 
     }
 
     // Where a position is, by a walk from a vertex, or from vertex 0 where there is no such vertex.
-    // There is no answer where there are no faces.
+    // There is no answer where there are no edges.
     fn walk_from(&self, hint: FixedVertexHandle) -> Option<PositionInTriangulation>
         requires search { IsSearch V.place V.Scalar.whole P.sites P.covered self.now }
         ensures { IfSome result (IsPlaceOf V.place V.Scalar.whole self.now) }
     {
+        let start = first_edge(self.dcel, hint)?;
         if self.dcel.num_inner_faces() == 0 {
-            return None;
+            return self.place_on_line(start);
         }
-        self.walk(first_edge(self.dcel, hint)?)
+        self.walk(start)
     }
 }
 
 // An edge that starts at the nearest of some vertices all over the mesh, or the edge `other` where
 // that starts nearer.
 #[inline(never)]
-fn nearer_edge<V: HasPosition, DE, UE, F>(
+pub(crate) fn nearer_edge<V: HasPosition, DE, UE, F>(
     dcel: &Dcel<V, DE, UE, F>,
     other: FixedDirectedEdgeHandle,
     point: Point2<V::Scalar>,
