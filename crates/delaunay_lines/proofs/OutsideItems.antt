@@ -1,33 +1,38 @@
 -- What a segment meets first from outside a mesh.
-use Rattle.std.proofs.Common.{◌≡◌, ◌≢◌, ◌⊎◌, ◌+◌, ◌<◌, ◌≤◌, ◌∙◌}
+use Rattle.std.proofs.Common.{◌≡◌, ◌≢◌, ◌⊎◌, ◌<◌, ◌∙◌}
 use Rattle.std.proofs.Common.{ℕ, List, length, map, Option, Some, None, sym, ap}
-use Rattle.std.proofs.Common.{subst, inl, inr, arith, below_more}
+use Rattle.std.proofs.Common.{subst, inl, inr, arith}
 use Rattle.std.specs.Prelude.{IfSome, ℤ, ◌<ℤ◌}
 use Rattle.std.proofs.lemmas.Int.{ints}
+use Rattle.std.proofs.lemmas.Bool.{cases_eq}
 use Rattle.std.proofs.lemmas.List.{length-map}
-use Rattle.half_edge_mesh.specs.Mesh.{Mesh, origin, prev, face, rev}
+use Rattle.half_edge_mesh.specs.Mesh.{Mesh, origin, next, prev, face, rev}
 use Rattle.half_edge_links.proofs.Lists.Rev.{rev-rev, rev_within}
 use Rattle.half_edge_mesh.specs.Contents.{Contents}
 use Rattle.plane.specs.Fraction.{Point, whole, IsSame, OnSegment}
 use Rattle.plane.specs.Side.{side, left, right}
 use Rattle.plane.specs.Circle.{gap, IsNearer}
 use Rattle.plane.specs.Pairs.{place}
-use Rattle.plane.specs.Tiling.{Triangulation, HasFace, vertex, TilesHull, JoinsLine}
+use Rattle.plane.specs.Tiling.{Triangulation, IsVertex, HasFace, vertex, TilesHull, JoinsLine}
 use Rattle.plane.specs.Location.{IsOuter}
-use Rattle.plane.specs.Line.{Meets, at_vertex, across}
-use Rattle.plane.proofs.Segments.{on_of_within}
+use Rattle.plane.specs.Line.{Meets, across}
+use Rattle.plane.proofs.Segments.{on_of_within, same-refl}
+use Rattle.plane_delaunay.proofs.Floods.FloodOnLine.{edge_beside}
 use Rattle.plane_segments.specs.WalkLaws.{IsLaid}
+use Rattle.plane_segments.specs.LineLaws.{AreApart}
 use Rattle.plane_segments.proofs.Walking.Steps.{crossing_by_sides, first_item}
 use Rattle.plane_segments.proofs.First.EdgeStarts.{crossing_on_line}
-use Rattle.plane_segments.proofs.First.OutsideStarts.{first_from_the_outside}
+use Rattle.plane_segments.proofs.First.OutlineStarts.{IsOnOutline, nearest_of_outline, none_of_outline}
 use Rattle.plane_segments.proofs.First.LineStarts.{equal_ends, first_on_line}
 use Rattle.plane_segments.proofs.Items.Begins.{edge_flipped}
 use Rattle.mesh_embedding.specs.Drawn.{drawn}
 use Rattle.mesh_embedding.proofs.EdgePairs.{joins_edge}
+use Rattle.mesh_embedding.proofs.OutlineGiven.{IsGoingAlong}
 use Rattle.mesh_embedding.proofs.MeshLegal.{line_has_none, none_or_some}
 use Rattle.delaunay_lines.specs.declared.intersection.FixedIntersection.TheVariants.{Edge, Vertex}
 use Rattle.delaunay_lines.specs.Steps.{IsOverMesh}
 use Rattle.delaunay_lines.specs.Starts.{IsCrossed, IsEntered, IsNearestOf, IsBetter, StartsOutside}
+use Rattle.delaunay_lines.specs.Starts.{IsNoBetter, IsOnSegment}
 use Rattle.delaunay_lines.specs.Walk.{Starts}
 use Rattle.delaunay_lines.proofs.MeshSteps.{laid, in_mesh, of_mesh, joined, bare, face_at, not_same}
 use Rattle.delaunay_lines.proofs.FirstItems.{starts_first, nothing, nothing_met, same_ends}
@@ -53,52 +58,38 @@ module _ (points : List Point) (p q : Point) where
   nearer_of : (k v : ℕ) → Nearer k v → d k <ℤ d v
   nearer_of k v h = less_without_ones (d k) (d v) h.nearer
 
-  -- of no vertices none is the nearest
-  pub none_of_none : IsNearestOf points 0 p q None
-  none_of_none k less = absurd (omega (arith, less))
+  -- a vertex that is better than the one before it is on the segment, and no other is better that
+  -- was not before
+  pub better_keeps : (r : Option ℕ) (v : ℕ) → IsBetter points p q v r → (k : ℕ)
+      → IsNoBetter points p q r k → IsNoBetter points p q (Some v) k
+  better_keeps None v better k before on h = before on
+  better_keeps (Some o) v better k before on h = before on (record {
+    nearer =
+        less_with_ones (d k) (d o) (through (d v) (d o) (d k) better.1 (nearer_of k v h));
+  })
 
-  module _ (n v : ℕ) (is : v ≡ n) where
-    -- a vertex that is better than the nearest before it is the nearest with it
-    pub better_is_nearest : (r : Option ℕ) → IsNearestOf points n p q r → IsBetter points p q v r →
-        IsNearestOf points (n + 1) p q (Some v)
-    better_is_nearest None before better = (
-      omega (arith, is),
-      better.0,
-      below_more (λ k. On k → ¬ Nearer k v) n (λ k less o. absurd (before k less o))
-          (subst (λ k. On k → ¬ Nearer k v) is (λ o h. itself (d v) (nearer_of v v h))),
-    )
-    better_is_nearest (Some o) before better = (
-      omega (arith, is),
-      better.0,
-      below_more (λ k. On k → ¬ Nearer k v) n (λ k less on h.
-          before.2 k less on (record {
-            nearer = less_with_ones (d k) (d o)
-                (through (d v) (d o) (d k) better.1 (nearer_of k v h));
-          }))
-          (subst (λ k. On k → ¬ Nearer k v) is (λ on h. itself (d v) (nearer_of v v h))),
-    )
+  -- a vertex is no better than itself
+  pub no_better_itself : (v : ℕ) → IsNoBetter points p q (Some v) v
+  no_better_itself v on h = itself (d v) (nearer_of v v h)
 
-    -- else the nearest stays so
-    pub still_nearest : (r : Option ℕ) → IsNearestOf points n p q r → ¬ IsBetter points p q v r →
-        IsNearestOf points (n + 1) p q r
-    still_nearest None before worse =
-        below_more (λ k. ¬ On k) n before (subst (λ k. ¬ On k) is (λ on. worse (on, tt)))
-    still_nearest (Some o) before worse = (
-      (let less = before.0 in omega (arith, less)),
-      before.1,
-      below_more (λ k. On k → ¬ Nearer k o) n before.2
-          (subst (λ k. On k → ¬ Nearer k o) is (λ on h. worse (on, nearer_of v o h))),
-    )
+  -- one that is not better is no better
+  pub no_better_if : (r : Option ℕ) (v : ℕ) → ¬ IsBetter points p q v r → IsNoBetter points p q r v
+  no_better_if None v worse = λ on. worse (on, tt)
+  no_better_if (Some o) v worse = λ on h. worse (on, nearer_of v o h)
 
-  -- the nearest of the first vertices is one of them all
-  pub within_of : (n count : ℕ) → n ≤ count → (r : Option ℕ) → IsNearestOf points n p q r
-      → IfSome r (λ o. o < count)
-  within_of n count few None x = tt
-  within_of n count few (Some o) x = let less = x.0 in omega (arith, few, less)
+-- what is found on a segment is a vertex
+pub found_within : (points : List Point) (p q : Point) (n : ℕ) → length points ≡ n → (r : Option ℕ)
+    → IsOnSegment points p q r → IfSome r (λ o. o < n)
+found_within points p q n count None x = tt
+found_within points p q n count (Some o) x = let less = x.0 in omega (arith, count, less)
 
--- two numbers of which each is at most the other are equal
-pub same_count : (n count : ℕ) → n ≤ count → count ≤ n → n ≡ count
-same_count n count h k = omega (arith, h, k)
+-- a search along the outline that has seen edges with a property has seen them with a weaker one
+pub along_weakened : (m : Mesh) (Seen Other : ℕ → Type 0) (rest : List ℕ)
+    → ((h : ℕ) → Seen h → Other h) → IsGoingAlong m Seen rest → IsGoingAlong m Other rest
+along_weakened m Seen Other rest weaker going = record {
+  within = going.within;
+  each = λ h o. elim (going.each h o) [ inl c ↦ inl c | inr s ↦ inr (weaker h s) ];
+}
 
 -- ---- the first item
 module _ {V D U F : Type 0} (at : V → Point) (IsSite IsCovered : Point → Type 0)
@@ -230,37 +221,81 @@ module _ {V D U F : Type 0} (at : V → Point) (IsSite IsCovered : Point → Typ
               (face_at at IsSite IsCovered c p q over (rev h)
               (rev_within h (length m.half_edges) over.mesh.valid.sound.even w) inner))
 
-      vertex_in : (v : ℕ) → Meets t (whole p) (whole q) (at_vertex v) → v < length c.vertices
-      vertex_in v x = subst (λ (n : ℕ). v < n) (length-map c.vertices at) x.0
+      outer_edge : (a b : ℕ) → IsOuter t a b → (h : ℕ) × (h < length m.half_edges)
+          × (face m h ≡ 0) × (origin m h ≡ a) × (origin m (rev h) ≡ b)
+      outer_edge a b outer =
+          let h = joins_edge m over.mesh.valid.sound a b outer.0 in
+          (h.0, h.1, is_outer h.0 h.1 h.2 h.3 (none_or_some (face m h.0)), h.2, h.3)
+        where
+          is_outer : (h : ℕ) → h < length m.half_edges → origin m h ≡ a → origin m (rev h) ≡ b
+              → (face m h ≡ 0) ⊎ (0 < face m h) → face m h ≡ 0
+          is_outer h w e f (inl o) = o
+          is_outer h w e f (inr inner) = absurd (outer.1
+              (subst (λ (x : ℕ × ℕ). HasFace t x.0 x.1) (λ i. (e i, f i)) (
+                origin m (prev m h),
+                face_at at IsSite IsCovered c p q over h w inner,
+              )))
+
+      -- an outer edge starts at each vertex of the outline
+      outer_from : (w : ℕ) → IsOnOutline t w
+          → (h : ℕ) × (h < length m.half_edges) × (face m h ≡ 0) × (origin m h ≡ w)
+      outer_from w (inl x) = let h = outer_edge w x.0 x.1 in (h.0, h.1, h.2, h.3)
+      outer_from w (inr x) =
+          let h = outer_edge x.0 w x.1 in
+          let here = over.mesh.valid.sound.edges h.0 h.1 in
+          (next m h.0, here.next_in, here.same_face ∙ h.2, here.starts ∙ h.4)
+
+      -- and at each vertex but a lone one, where all are on one line
+      outer_on_line : JoinsLine t → AreApart t → (k : ℕ) → IsVertex t k → k ≢ 0
+          → (h : ℕ) × (h < length m.half_edges) × (face m h ≡ 0) × (origin m h ≡ k)
+      outer_on_line line one k hk other =
+          let e = edge_beside t line k 0 hk (omega (arith, hk)) (λ same. other (one k 0 hk
+          (omega (arith, hk)) (subst (λ x. IsSame (vertex t k) (whole x)) same
+          (same-refl (vertex t k))))) in
+          let h = joins_edge m over.mesh.valid.sound k e.0 e.1 in
+          (h.0, h.1, all_outer h.0 h.1 (none_or_some (face m h.0)), h.2)
+        where
+          all_outer : (h : ℕ) → h < length m.half_edges → (face m h ≡ 0) ⊎ (0 < face m h)
+              → face m h ≡ 0
+          all_outer h w (inl o) = o
+          all_outer h w (inr inner) = absurd (line_has_none m (origin m h) (origin m (rev h))
+              (origin m (prev m h)) line.no_face (face_at at IsSite IsCovered c p q over h w inner))
+
+      -- a vertex on the segment, seen from the outline
+      no_better_there : (r : Option ℕ) → IsNearestOf points m p q r → (w : ℕ)
+          → (h : ℕ) × (h < length m.half_edges) × (face m h ≡ 0) × (origin m h ≡ w)
+          → IsNoBetter points p q r w
+      no_better_there r x w h = subst (IsNoBetter points p q r) h.3 (x.outer h.0 h.1 h.2)
+
+      no_better_on_line : JoinsLine t → AreApart t → (r : Option ℕ) → IsNearestOf points m p q r
+          → (w : ℕ) → IsVertex t w → IsNoBetter points p q r w
+      no_better_on_line line one r x w hw = elim (cases_eq w 0) [
+        | inl e ↦ subst (IsNoBetter points p q r) (sym e) (x.first (omega (arith, hw)))
+        | inr d ↦ no_better_there r x w (outer_on_line line one w hw d)
+      ]
 
       -- where it enters through none, the walk starts at the nearest vertex on it
-      pub nearest_is_first : (v : ℕ) → IsNearestOf points (length c.vertices) p q (Some v) →
-          Starts at c p q (Some (Vertex v))
+      pub nearest_is_first : (v : ℕ) → IsNearestOf points m p q (Some v)
+          → Starts at c p q (Some (Vertex v))
       nearest_is_first v x =
-          starts_first at IsSite IsCovered c p q over apart (Vertex v) x.0 (elim t_laid [
+          starts_first at IsSite IsCovered c p q over apart (Vertex v)
+          (subst (λ (n : ℕ). v < n) (length-map c.vertices at) x.found.0) (elim t_laid [
             | inl tiles ↦ (let l = outside.left_of tiles in
-                (first_from_the_outside t tiles (whole p) (whole q) ways_apart l.0 l.1 l.2 l.3
-                (no_outer_crossed tiles)).0 v
-                met nearest)
+                nearest_of_outline t tiles (whole p) (whole q) ways_apart l.0 l.1 l.2 l.3
+                (no_outer_crossed tiles) v x.found
+                (λ w o met. no_better_there (Some v) x w (outer_from w o) met.1))
             | inr l ↦
                 ((first_on_line t l.0 l.1 l.2 (whole p) (whole q) ways_apart).3 outside.no_edge).0
-                v met nearest
+                v x.found (λ w met. no_better_on_line l.0 l.2 (Some v) x w met.0 met.1)
           ])
-        where
-          met : Meets t (whole p) (whole q) (at_vertex v)
-          met = (subst (λ (n : ℕ). v < n) (sym (length-map c.vertices at)) x.0, x.1)
-
-          nearest : (k : ℕ) → Meets t (whole p) (whole q) (at_vertex k)
-              → ¬ IsNearer (whole p) (vertex t k) (vertex t v)
-          nearest k y = x.2 k (vertex_in k y) y.1
 
       -- and with no vertex on it the segment meets nothing
-      pub none_is_first : IsNearestOf points (length c.vertices) p q None → Starts at c p q None
+      pub none_is_first : IsNearestOf points m p q None → Starts at c p q None
       none_is_first x = nothing_met at IsSite IsCovered c p q over apart (elim t_laid [
         | inl tiles ↦ (let l = outside.left_of tiles in
-            (first_from_the_outside t tiles (whole p) (whole q) ways_apart l.0 l.1 l.2 l.3
-            (no_outer_crossed tiles)).1
-            (λ v y. x v (vertex_in v y) y.1))
+            none_of_outline t tiles (whole p) (whole q) ways_apart l.0 l.1 l.2 l.3
+            (no_outer_crossed tiles)
+            (λ w o met. no_better_there None x w (outer_from w o) met.1))
         | inr l ↦ ((first_on_line t l.0 l.1 l.2 (whole p) (whole q) ways_apart).3 outside.no_edge).1
-            (λ v y. x v (vertex_in v y) y.1) (no_crossed_on_line l.0)
+            (λ w met. no_better_on_line l.0 l.2 None x w met.0 met.1) (no_crossed_on_line l.0)
       ])

@@ -1,5 +1,6 @@
 -- Where a segment starts in a mesh.
-use Rattle.std.specs.Prelude.{◌≡◌, ◌≢◌, ℕ, ◌<◌, ◌<ℤ◌, List, Option, MatchOption, ⊤}
+use Rattle.std.specs.Prelude.{◌≡◌, ◌≢◌, ℕ, ◌<◌, ◌<ℤ◌, List, length, Option, MatchOption, IfSome}
+use Rattle.std.specs.Prelude.{⊤}
 use Rattle.half_edge_mesh.specs.Mesh.{Mesh, origin, prev, face, rev}
 use Rattle.plane.specs.Fraction.{Point, whole, IsSame, OnSegment, WithinSegment, InsideTriangle}
 use Rattle.plane.specs.Side.{side, left, right, TurnsLeft}
@@ -51,14 +52,22 @@ pub record StartsOutside (t : Triangulation) (p : Point) : Type 0 where
   pub left_of : TilesHull t
       → (i : ℕ) × (j : ℕ) × IsOuter t i j × TurnsLeft (vertex t i) (vertex t j) (whole p)
 
--- of the first n vertices, v is on the segment from p to q, and none on it is nearer to p; or none
--- of them is on it
-abbrev pub IsNearestOf : List Point → ℕ → Point → Point → Option ℕ → Type 0
-IsNearestOf points n p q r =
-    MatchOption r ((k : ℕ) → k < n → ¬ OnSegment (whole p) (whole q) (place points k))
-    (λ v. (v < n) × OnSegment (whole p) (whole q) (place points v) ×
-    ((k : ℕ) → k < n → OnSegment (whole p) (whole q) (place points k) →
-    ¬ IsNearer (whole p) (place points k) (place points v)))
+-- vertex k is not on the segment from p to q, or another vertex was found and k is not nearer to p
+abbrev pub IsNoBetter : List Point → Point → Point → Option ℕ → ℕ → Type 0
+IsNoBetter points p q r k = OnSegment (whole p) (whole q) (place points k)
+    → MatchOption r ⊥ (λ v. ¬ IsNearer (whole p) (place points k) (place points v))
+
+-- what was found is a vertex on the segment from p to q
+abbrev pub IsOnSegment : List Point → Point → Point → Option ℕ → Type 0
+IsOnSegment points p q r =
+    IfSome r (λ v. (v < length points) × OnSegment (whole p) (whole q) (place points v))
+
+-- and neither vertex 0 nor one where an outer edge starts is better
+pub record IsNearestOf (points : List Point) (m : Mesh) (p q : Point) (r : Option ℕ) : Type 0 where
+  pub found : IsOnSegment points p q r
+  pub first : 0 < length points → IsNoBetter points p q r 0
+  pub outer : (h : ℕ) → h < length m.half_edges → face m h ≡ 0
+      → IsNoBetter points p q r (origin m h)
 
 -- vertex v is nearer to p than the other one, if there is one
 abbrev pub IsNearerVertex : List Point → Point → ℕ → Option ℕ → Type 0

@@ -48,9 +48,8 @@ impl<'a, V: HasPosition, DE, UE, F, P: PlaneTests<V::Scalar>> LineIntersectionIt
     /// What the segment from one position to another meets. The tests cover both positions and have
     /// the vertices as sites. From a position to itself it meets the vertex there, or else the edge
     /// that carries it, or else nothing. Where the segment starts is looked for by a walk from
-    /// where the hint generator says, or, where all vertices are on one line, by a look at all of
-    /// them. From outside, where it enters is looked for among all edges, and, if by none, among
-    /// all vertices.
+    /// where the hint generator says. From outside, where it enters is looked for along the
+    /// outline.
     pub fn new<T: HasMesh<V, DE, UE, F>>(
         triangulation: &'a T,
         from: Point2<V::Scalar>,

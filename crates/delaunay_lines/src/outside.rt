@@ -8,7 +8,7 @@ ghost use Rattle.delaunay_core.specs.Place.{place_of};
 ghost use Rattle.delaunay_legalization.specs.State.{state_of};
 ghost use Rattle.delaunay_lines.specs.Starts.{GoesRight, HasEndsOnSides, IsBetter, IsCrossed};
 ghost use Rattle.delaunay_lines.specs.Starts.{IsEntered, IsNearerVertex, IsNearestOf};
-ghost use Rattle.delaunay_lines.specs.Starts.{StartsOutside};
+ghost use Rattle.delaunay_lines.specs.Starts.{IsNoBetter, IsOnSegment, StartsOutside};
 ghost use Rattle.delaunay_lines.specs.Over.{IsOver};
 ghost use Rattle.delaunay_lines.specs.Walk.{IsReady, Starts, WalksLine};
 
@@ -140,21 +140,65 @@ impl<'a, V: HasPosition, DE, UE, F, P: PlaneTests<V::Scalar>> Segment<'a, V, DE,
         way.carries(position_of(self.dcel, vertex)) && self.is_nearer_vertex(vertex, than)
     }
 
-    // Of the vertices on a segment, one that is nearest to its start.
+    // The better one of a vertex and one on a segment that was found before, if there is one.
+    fn better_of(
+        &self,
+        vertex: FixedVertexHandle,
+        found: Option<FixedVertexHandle>,
+    ) -> Option<FixedVertexHandle>
+        requires within { vertex < length self.now.dcel.now.vertices }
+        requires found { IsOnSegment (map V.place self.now.dcel.now.vertices)
+            (place_of V.Scalar.whole self.now.from) (place_of V.Scalar.whole self.now.to) found }
+        requires over { IsOver V.place V.Scalar.whole P.sites P.covered self.now }
+        requires apart { place_of V.Scalar.whole self.now.from ≢
+            place_of V.Scalar.whole self.now.to }
+        ensures found { IsOnSegment (map V.place self.now.dcel.now.vertices)
+            (place_of V.Scalar.whole self.now.from) (place_of V.Scalar.whole self.now.to) result }
+        ensures kept { let points = map V.place self.now.dcel.now.vertices in
+            let p = place_of V.Scalar.whole self.now.from in
+            let q = place_of V.Scalar.whole self.now.to in
+            (k : ℕ) → IsNoBetter points p q found k → IsNoBetter points p q result k }
+        ensures here { IsNoBetter (map V.place self.now.dcel.now.vertices)
+            (place_of V.Scalar.whole self.now.from) (place_of V.Scalar.whole self.now.to) result
+            vertex }
+    {
+        if self.is_better(vertex, &found) {
+            return Some(vertex);
+        }
+        found
+    }
+
+    // Vertex 0, if it is on a segment. It may be the only one, without an edge.
+    fn first_found(&self) -> Option<FixedVertexHandle>
+        requires over { IsOver V.place V.Scalar.whole P.sites P.covered self.now }
+        requires apart { place_of V.Scalar.whole self.now.from ≢
+            place_of V.Scalar.whole self.now.to }
+        ensures found { IsOnSegment (map V.place self.now.dcel.now.vertices)
+            (place_of V.Scalar.whole self.now.from) (place_of V.Scalar.whole self.now.to) result }
+        ensures first { 0 < length self.now.dcel.now.vertices →
+            IsNoBetter (map V.place self.now.dcel.now.vertices)
+            (place_of V.Scalar.whole self.now.from) (place_of V.Scalar.whole self.now.to) result
+            0 }
+    {
+        if self.dcel.num_vertices() == 0 {
+            return None;
+        }
+        self.better_of(FixedVertexHandle::from_index(0), None)
+    }
+
+    // Of the vertices on a segment that are on the outline, one that is nearest to its start.
     fn nearest_vertex(&self) -> Option<FixedVertexHandle>
         requires over { IsOver V.place V.Scalar.whole P.sites P.covered self.now }
         requires apart { place_of V.Scalar.whole self.now.from ≢
             place_of V.Scalar.whole self.now.to }
-        ensures { IsNearestOf (map V.place self.now.dcel.now.vertices)
-            (length self.now.dcel.now.vertices) (place_of V.Scalar.whole self.now.from)
-            (place_of V.Scalar.whole self.now.to) result }
+        ensures { IsNearestOf (map V.place self.now.dcel.now.vertices) self.now.dcel.now.mesh
+            (place_of V.Scalar.whole self.now.from) (place_of V.Scalar.whole self.now.to) result }
     {
-        let mut nearest = None;
-        for index in 0..self.dcel.num_vertices() {
-            let vertex = FixedVertexHandle::from_index(index as u32);
-            if self.is_better(vertex, &nearest) {
-                nearest = Some(vertex);
-            }
+        let mut nearest = self.first_found();
+        for outer in self.dcel.convex_hull() {
+            let edge = outer.fix();
+            let vertex = self.dcel.directed_edge(edge).from().fix();
+            nearest = self.better_of(vertex, nearest);
         }
         nearest
     }
@@ -196,8 +240,8 @@ impl<'a, V: HasPosition, DE, UE, F, P: PlaneTests<V::Scalar>> Segment<'a, V, DE,
     }
 
     /// What it meets, from outside the triangulation: of a point to itself, nothing. It goes along
-    /// the outline up to an edge that the segment enters by, and, where there is none, through all
-    /// vertices.
+    /// the outline up to an edge that the segment enters by, and, where there is none, once more
+    /// for the nearest vertex.
     pub(crate) fn walk_from_outside(&self) -> LineIntersectionIterator<'a, V, DE, UE, F, P>
         requires over { IsOver V.place V.Scalar.whole P.sites P.covered self.now }
         requires start { StartsOutside (drawn (map V.place self.now.dcel.now.vertices)

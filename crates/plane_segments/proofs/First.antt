@@ -3,4 +3,5 @@ pub mod Firsts
 pub mod FaceStarts
 pub mod EdgeStarts
 pub mod OutsideStarts
+pub mod OutlineStarts
 pub mod LineStarts

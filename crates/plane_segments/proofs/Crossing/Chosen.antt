@@ -35,7 +35,8 @@ decide_pair p q = decided_by (
   (λ e i. (e.0 i, e.1 i)),
 ) (decide_both (cases_eq p.0 q.0) (cases_eq p.1 q.1))
 
-decide_listed : (pairs : List (ℕ × ℕ)) (p : ℕ × ℕ) → Decision (Contains pairs p)
+-- whether a pair is in a list
+pub decide_listed : (pairs : List (ℕ × ℕ)) (p : ℕ × ℕ) → Decision (Contains pairs p)
 decide_listed [] p = inr (λ c. absurd (omega (arith, c.1)))
 decide_listed (q ∷ pairs) p = go (decide_pair q p) (decide_listed pairs p)
   where

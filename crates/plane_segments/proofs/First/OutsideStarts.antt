@@ -319,7 +319,7 @@ module _ (t : Triangulation) (h : TilesHull t) (p q : Fraction) (apart : ¬ IsSa
             (between-third J I K y.at between turning)
 
   -- where no outer edge is crossed from outside, the first is a vertex
-  only_vertex : ((a b : ℕ) → IsOuter t a b → ¬ Meets t p q (L.across b a)) → (m : Item)
+  pub only_vertex : ((a b : ℕ) → IsOuter t a b → ¬ Meets t p q (L.across b a)) → (m : Item)
       → IsFirst t p q m → (v : ℕ) × (m ≡ L.at_vertex v)
   only_vertex none (L.at_vertex v) f = (v, refl)
   only_vertex none (L.along i j) f =

@@ -1,51 +1,76 @@
-use Rattle.std.proofs.Common.{ℕ, length, map, subst, arith}
+use Rattle.std.proofs.Common.{ℕ, ◌<◌, length, map, subst, ap, sym, arith, ◌∙◌}
+use Rattle.std.proofs.lemmas.List.{length-map}
+use Rattle.half_edge_mesh.specs.Mesh.{origin}
+use Rattle.half_edge_mesh.specs.Rounds.{GivesOuterLoop, hull_left}
+use Rattle.mesh_embedding.proofs.OneOutline.{one_outline}
+use Rattle.mesh_embedding.proofs.OutlineGiven.{along_begins, along_next, along_goes_on, along_ends}
+use Rattle.mesh_embedding.proofs.OutlineGiven.{indexes}
 use Rattle.delaunay_core.specs.Place.{place_of}
-use Rattle.delaunay_legalization.proofs.Questions.{both_ways}
-use Rattle.delaunay_lines.specs.Starts.{IsNearestOf}
-use Rattle.delaunay_lines.proofs.OutsideItems.{none_of_none, better_is_nearest, still_nearest}
-use Rattle.delaunay_lines.proofs.OutsideItems.{within_of, same_count}
-use Rattle.delaunay_lines.proofs.segment.Segment.nearest_vertex.Goals.{then-is_better}
-use Rattle.delaunay_lines.proofs.segment.Segment.nearest_vertex.Goals.{else-is_better}
+use Rattle.delaunay_legalization.proofs.OppositeSides.{link_read}
+use Rattle.delaunay_lines.specs.Starts.{IsNoBetter}
+use Rattle.delaunay_lines.proofs.OutsideItems.{along_weakened}
 use Rattle.delaunay_lines.proofs.segment.Segment.nearest_vertex.Goals as goal
 
-pub loop-index-init : goal.loop-index-init
-loop-index-init g c = none_of_none (map g.V.HasPosition.place c.args.self.now.dcel.now.vertices)
-    (place_of g.V.Scalar.SpadeNum.whole c.args.self.now.from)
-    (place_of g.V.Scalar.SpadeNum.whole c.args.self.now.to)
+pub loop-outer-init : goal.loop-outer-init
+loop-outer-init g c =
+    let over = c.requires.over in
+    let d = c.args.self.now.dcel in
+    record {
+      found = c.first_found-nearest.ensures.found;
+      first = c.first_found-nearest.ensures.first;
+      going = along_begins d (hull_left c.into_iter-outer-iterator.result) _ over.mesh.valid
+          (one_outline (map g.V.HasPosition.place d.now.vertices) d.now.mesh over.mesh.valid
+          over.shape)
+          (subst (λ it. GivesOuterLoop d (hull_left it))
+          (sym c.into_iter-outer-iterator.ensures.into_iter_gives)
+          c.convex_hull-outer-items.ensures);
+    }
 
-pub is_better-requires-clause-other_within : goal.is_better-requires-clause-other_within
-is_better-requires-clause-other_within g c =
-    let at = place_of g.V.Scalar.SpadeNum.whole in
-    within_of (map g.V.HasPosition.place c.args.self.now.dcel.now.vertices)
-    (at c.args.self.now.from)
-    (at c.args.self.now.to) c.loop-index.index (length c.args.self.now.dcel.now.vertices)
-    (omega (arith, c.loop-index-test.true, c.num_vertices-index-end.ensures.value))
-    c.loop-index.nearest
-    c.loop-index.invariant
+pub directed_edge-requires : goal.directed_edge-requires
+directed_edge-requires g c =
+    let o = along_next c.args.self.now.dcel.now.mesh _ (hull_left c.loop-outer.outer-iterator)
+    c.loop-outer.invariant.going (c.in-Some.outer.dcel, c.in-Some.outer.index)
+    (hull_left c.next.new.self) c.in-Some.ensures.steps in
+    let w : c.in-Some.outer.index < length c.args.self.now.dcel.now.mesh.half_edges = o.0 in
+    let fit = c.requires.over.mesh.fits.directed_fit in
+    omega (arith, w, fit, c.fix-edge.ensures.value)
 
-pub loop-index-preserved : goal.loop-index-preserved
-loop-index-preserved g c =
+pub better_of-nearest-requires-clause-within : goal.better_of-nearest-requires-clause-within
+better_of-nearest-requires-clause-within g c =
+    rw (c.from.ensures.dcel, c.directed_edge.ensures.dcel) at c.fix-vertex.ensures.in_range
+
+pub loop-outer-preserved : goal.loop-outer-preserved
+loop-outer-preserved g c =
+    let m = c.args.self.now.dcel.now.mesh in
     let points = map g.V.HasPosition.place c.args.self.now.dcel.now.vertices in
-    let at = place_of g.V.Scalar.SpadeNum.whole in
-    elim c.if-is_better.branch [
-      | then-is_better w ↦ rw w.nearest-is
-          (better_is_nearest points (at c.args.self.now.from) (at c.args.self.now.to)
-          c.loop-index.index c.from_index-vertex.result c.from_index-vertex.ensures
-          c.loop-index.nearest
-          c.loop-index.invariant (c.is_better.ensures.0 w.if-is_better.true))
-      | else-is_better w ↦
-          rw w.nearest-is (still_nearest points (at c.args.self.now.from) (at c.args.self.now.to)
-          c.loop-index.index c.from_index-vertex.result c.from_index-vertex.ensures
-          c.loop-index.nearest
-          c.loop-index.invariant (λ x. both_ways _ (c.is_better.ensures.1 x) w.if-is_better.false))
-    ]
+    let p = place_of g.V.Scalar.SpadeNum.whole c.args.self.now.from in
+    let q = place_of g.V.Scalar.SpadeNum.whole c.args.self.now.to in
+    let was = c.loop-outer.invariant in
+    let now = c.better_of-nearest.ensures in
+    let NoBetter = IsNoBetter points p q c.better_of-nearest.result in
+    record {
+      found = now.found;
+      first = λ some. now.kept 0 (was.first some);
+      going = along_goes_on m (λ (h : ℕ). NoBetter (origin m h))
+          (hull_left c.loop-outer.outer-iterator)
+          (along_weakened m (λ (h : ℕ). IsNoBetter points p q c.loop-outer.nearest (origin m h))
+          (λ (h : ℕ). NoBetter (origin m h))
+          (indexes (hull_left c.loop-outer.outer-iterator))
+          (λ h seen. now.kept (origin m h) seen) was.going)
+          (c.in-Some.outer.dcel, c.in-Some.outer.index) (hull_left c.next.new.self)
+          c.in-Some.ensures.steps
+          (subst NoBetter (link_read origin m _ _ _ _ _ c.fix-vertex.ensures.value
+          c.from.ensures.index (ap (λ d. d.now.mesh) c.directed_edge.ensures.dcel)
+          (c.directed_edge.ensures.index ∙ c.fix-edge.ensures.value)) now.here);
+    }
 
 pub returns : goal.returns
 returns g c =
-    let at = place_of g.V.Scalar.SpadeNum.whole in
-    let all = same_count c.loop-index.index (length c.args.self.now.dcel.now.vertices)
-    (omega (arith, c.loop-index.auto.index-end, c.num_vertices-index-end.ensures.value))
-    (omega (arith, c.loop-index-test.false, c.num_vertices-index-end.ensures.value)) in
-    subst (λ (n : ℕ). IsNearestOf (map g.V.HasPosition.place c.args.self.now.dcel.now.vertices) n
-    (at c.args.self.now.from)
-    (at c.args.self.now.to) c.loop-index.nearest) all c.loop-index.invariant
+    let n = length-map c.args.self.now.dcel.now.vertices g.V.HasPosition.place in
+    let done = c.loop-outer.invariant in
+    record {
+      found = done.found;
+      first = λ some. done.first (subst (λ (k : ℕ). 0 < k) n some);
+      outer = λ h w o. along_ends c.args.self.now.dcel.now.mesh _
+          (hull_left c.loop-outer.outer-iterator) done.going c.in-None.ensures.steps.0 h (w, o);
+    }
