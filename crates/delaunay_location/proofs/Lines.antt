@@ -1,8 +1,8 @@
 -- A position beside a line of vertices, or beyond an end of it, at which one edge starts.
 use Rattle.std.proofs.Common.{◌≡◌, ◌≢◌, ◌⊎◌, ◌<◌, ◌∙◌}
-use Rattle.std.proofs.Common.{ℕ, List, [], ◌∷◌, length, map, refl, sym, ap, subst, inl, inr, arith}
+use Rattle.std.proofs.Common.{ℕ, List, [], length, map, refl, sym, ap, subst, inl, inr, arith}
 use Rattle.std.specs.Prelude.{ℤ, pos, ◌<ℤ◌, ◌≤ℤ◌, Contains}
-use Rattle.std.proofs.lemmas.List.{length-map}
+use Rattle.std.proofs.lemmas.List.{length-map, nil_from_length}
 use Rattle.half_edge_mesh.specs.Mesh.{Mesh, origin, next, face, rev}
 use Rattle.half_edge_mesh.specs.Triangles.{triangle_at, triangles}
 use Rattle.half_edge_mesh.specs.Outline.{IsOuterEdge}
@@ -102,11 +102,6 @@ module _ (n : ℕ) (p : ℕ → Point) (outer : List (ℕ × ℕ)) (m : SignLine
         (on_line end near.first) (on_line k h) behind (less_if_not_same (spot end) (spot k)
         (none_behind k h) (λ e. differ (sym (places.same end k near.first h e))))
 
--- a list of length 0 is empty
-none_of : {X : Type 0} (xs : List X) → length xs ≡ 0 → xs ≡ []
-none_of [] none = refl
-none_of (x ∷ xs) none = absurd (omega (arith, none))
-
 module _ {V D U F : Type 0} (at : V → Point) (s : State V D U F) (kept : IsTriangulated at s)
     (p : Point) (bare : length s.faces ≡ 0) where
   abbrev points : List Point
@@ -116,7 +111,7 @@ module _ {V D U F : Type 0} (at : V → Point) (s : State V D U F) (kept : IsTri
   m = s.mesh
 
   no_face : faces_of m ≡ []
-  no_face = none_of (faces_of m) (length-map (triangles m) corners_of
+  no_face = nil_from_length (faces_of m) (length-map (triangles m) corners_of
       ∙ length-map m.face_edges (triangle_at m) ∙ sym kept.fits.faces_fit ∙ bare)
 
   -- each edge of a line has the outer face on its left

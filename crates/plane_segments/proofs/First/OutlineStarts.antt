@@ -1,6 +1,6 @@
 -- From outside the hull, where a vertex is the first that a segment meets, an outer edge begins or
 -- ends there. So it is looked for along the outline alone.
-use Rattle.std.proofs.Common.{◌≡◌, ℕ, ◌<◌, List, [], ◌∷◌, length, arith, sym, ap, ◌∙◌, subst}
+use Rattle.std.proofs.Common.{◌≡◌, ℕ, ◌<◌, [], length, arith, sym, ap, ◌∙◌, subst}
 use mathlib.Core.Logic.{◌⊎◌, inl, inr}
 use lib.IntN.{neg_ℤ}
 use Rattle.std.specs.Prelude.{ℤ, pos, ◌<ℤ◌, ◌≤ℤ◌, ◌+ℤ◌, ◌-ℤ◌, ◌*ℤ◌}
@@ -10,9 +10,8 @@ use Rattle.plane.proofs.IntegerOrder.{lt_or_ge_ℤ, trichotomy_ℤ, mul-pos_ℤ,
 use Rattle.plane.proofs.IntegerOrder.{mul-neg_of_neg_pos_ℤ, mul-nonneg_of_nonpos_ℤ, zero-mul_ℤ}
 use Rattle.plane.proofs.IntegerOrder.{nonneg_of_mul-nonneg_ℤ, zero_of_mul-zero_ℤ, pos-ne-zero_ℤ}
 use Rattle.plane.proofs.Steps.{weak, weak_right, zero_weak, zero_weak_left, product_zero_left}
-use Rattle.plane.proofs.Nearer.{same_not_nearer}
+use Rattle.plane.proofs.Steps.{left_not_below, right_not_above}
 use Rattle.plane.proofs.Means.{TwoWeights, two_weights}
-use Rattle.plane.proofs.Segments.{same-refl}
 use Rattle.plane.proofs.Decisions.{Decision, decide_both, decide_either, decide_below}
 use Rattle.plane.specs.Fraction.{Fraction, IsSame, OnSegment, IsNotNegative}
 use Rattle.plane.specs.Circle.{IsNearer}
@@ -20,11 +19,11 @@ use Rattle.plane.specs.Tiling.{Triangulation, IsVertex, IsEdge, IsFace, HasFace,
 use Rattle.plane.specs.Tiling.{TilesHull}
 use Rattle.plane.specs.Location.{IsOuter}
 use Rattle.plane.specs.Side.{TurnsLeft}
-use Rattle.plane.specs.Line.{Item, Meets, BeginsAt, IsBefore}
+use Rattle.plane.specs.Line.{Item, Meets, BeginsAt}
 use Rattle.plane.specs.Line as L
 use Rattle.plane.proofs.Triangles.{turned_face}
 use Rattle.plane.proofs.Signs.{negated_negative, negation_not_negative, opposite_of_negative}
-use Rattle.plane.proofs.Signs.{opposite_of_zero_of}
+use Rattle.plane.proofs.Signs.{opposite_of_positive, opposite_of_zero_of}
 use Rattle.plane_delaunay.proofs.Points.Bracket.{bracket, bracket-swapped, bracket-turned, cramer}
 use Rattle.plane_delaunay.proofs.Points.Bracket.{bracket-first, bracket-second, meeting, cramer-w}
 use Rattle.plane_delaunay.proofs.Points.Bracket.{above_if_left}
@@ -32,14 +31,13 @@ use Rattle.plane_delaunay.proofs.Points.Members.{Member}
 use Rattle.plane_delaunay.proofs.Circles.EmptyCircles.{weights_along}
 use Rattle.plane_delaunay.proofs.Floods.Flooded.{segment_from}
 use Rattle.plane_delaunay.proofs.Segments.LineItems.{Begins, begins, meeting_of_hull}
-use Rattle.plane_delaunay.proofs.Segments.LineItems.{line_items_are_ordered}
 use Rattle.plane_delaunay.proofs.Tilings.Ground.{triangle_of_closed, sides_of, face_of_side}
 use Rattle.plane_delaunay.proofs.Tilings.Ground.{side_listed}
 use Rattle.plane_delaunay.proofs.Tilings.OuterEdges.{edge_of_corner, face_not_left_of_outer}
 use Rattle.plane_delaunay.proofs.Tilings.Where.{listed_or_not}
 use Rattle.plane_segments.specs.Steps.{IsFirst, IsWalk}
-use Rattle.plane_segments.proofs.First.OutsideStarts.{before_nearer, only_vertex}
-use Rattle.plane_segments.proofs.Walking.EachWalk.{each_walk}
+use Rattle.plane_segments.proofs.First.OutsideStarts.{nearest_of_firsts, none_of_firsts, only_vertex}
+use Rattle.plane_segments.proofs.First.OutsideStarts.{vertex_begins}
 use Rattle.plane_segments.proofs.Crossing.Chosen.{IsLastBelow, last_below, decide_listed}
 use Rattle.plane_segments.proofs.Items.Begins.{edge_flipped, met_if, on_line}
 use Rattle.plane_segments.proofs.Items.Slopes.{slope_above, higher_is_later, left_before}
@@ -145,11 +143,7 @@ module _ (t : Triangulation) (h : TilesHull t) (p q : Fraction) (apart : ¬ IsSa
       (slope_above a b p q low (end_left a b low high)) (zero_weak on) high
 
   begins_at : (k : ℕ) → Meets t p q (L.at_vertex k) → BeginsAt t p q (L.at_vertex k) (vertex t k)
-  begins_at k m = record {
-    shared = m.1;
-    of_item = same-refl (vertex t k);
-    first = λ r _ e. same_not_nearer p r (vertex t k) e;
-  }
+  begins_at = vertex_begins t (meeting_of_hull t h) p q apart
 
   no_vertex_before : (k : ℕ) → IsVertex t k → OnSegment p q (vertex t k)
       → IsNearer p (vertex t k) V → ⊥
@@ -254,24 +248,18 @@ module _ (t : Triangulation) (h : TilesHull t) (p q : Fraction) (apart : ¬ IsSa
     no_cone : ⊥
     no_cone = go (trichotomy_ℤ (bracket p q C)) (trichotomy_ℤ (bracket p q B))
       where
-        not_below : {z : ℤ} → z <ℤ pos 0 → pos 0 ≤ℤ z → ⊥
-        not_below i j = omega (arith, ints)
-
-        not_above : {z : ℤ} → pos 0 <ℤ z → z ≤ℤ pos 0 → ⊥
-        not_above i j = omega (arith, ints)
-
         go : (bracket p q C <ℤ pos 0) ⊎ ((bracket p q C ≡ pos 0) ⊎ (pos 0 <ℤ bracket p q C))
             → (bracket p q B <ℤ pos 0) ⊎ ((bracket p q B ≡ pos 0) ⊎ (pos 0 <ℤ bracket p q B)) → ⊥
-        go (inl d) e = not_below d left
+        go (inl d) e = right_not_above d left
         go (inr (inl d)) (inl e) = let on = on_first d e in
             no_vertex_before c (h.corners v c b f).1 on (sooner C B C on (bracket-first C B) low high)
         go (inr (inl d)) (inr (inl e)) = flat d e
-        go (inr (inl d)) (inr (inr e)) = not_above e right
+        go (inr (inl d)) (inr (inr e)) = left_not_below e right
         go (inr (inr d)) (inl e) = no_edge_before c b edge d e low high
         go (inr (inr d)) (inr (inl e)) = let on = on_second e d in
             no_vertex_before b (h.corners v c b f).2 on
             (sooner C B B on (bracket-second C B) low high)
-        go (inr (inr d)) (inr (inr e)) = not_above e right
+        go (inr (inr d)) (inr (inr e)) = left_not_below e right
 
   -- ---- the neighbours on one side of the segment's line, and one that is next to the way back
   abbrev IsRight : ℕ → Type 0
@@ -297,10 +285,8 @@ module _ (t : Triangulation) (h : TilesHull t) (p q : Fraction) (apart : ¬ IsSa
   ahead x y i = subst (λ z. pos 0 <ℤ z) (sym (bracket-turned V x y)) i
 
   behind : (x y : Fraction) → pos 0 <ℤ bracket V x y → bracket y x V <ℤ pos 0
-  behind x y i = below (bracket y x V) (bracket x y V) (bracket-swapped x y V) (ahead x y i)
-    where
-      below : (a b : ℤ) → a ≡ neg_ℤ b → pos 0 <ℤ b → a <ℤ pos 0
-      below a b e k = omega (arith, ints)
+  behind x y i = opposite_of_positive (bracket y x V) (bracket x y V) (bracket-swapped x y V)
+      (ahead x y i)
 
   right_goes_on : (a b c : ℕ) → IsRight a → IsRight b → IsRight c → AfterRight a b → AfterRight b c
       → AfterRight a c
@@ -433,38 +419,16 @@ module _ (t : Triangulation) (h : TilesHull t) (p q : Fraction) (apart : ¬ IsSa
   only : (m : Item) → IsFirst t p q m → (v : ℕ) × (m ≡ L.at_vertex v)
   only = only_vertex t h p q apart out none
 
-  walked : (items : List Item) × IsWalk t p q items
-  walked = let w = each_walk t (meeting_of_hull t h) p q apart in (w.items, w.walk)
-
   -- a vertex that is met comes first where none of the outline that is met is nearer
   pub nearest_of_outline : (v : ℕ) → Meets t p q (L.at_vertex v)
       → ((w : ℕ) → IsOnOutline t w → Meets t p q (L.at_vertex w)
       → ¬ IsNearer p (vertex t w) (vertex t v)) → IsFirst t p q (L.at_vertex v)
-  nearest_of_outline v met nearest = go walked.0 walked.1
-    where
-      at_first : (w : ℕ) → IsFirst t p q (L.at_vertex w) → IsFirst t p q (L.at_vertex v)
-      at_first w f = pick (line_items_are_ordered t (meeting_of_hull t h) p q apart (L.at_vertex w)
-          (L.at_vertex v) f.met met)
-        where
-          pick : (L.at_vertex w ≡ L.at_vertex v) ⊎ (IsBefore t p q (L.at_vertex w) (L.at_vertex v)
-              ⊎ IsBefore t p q (L.at_vertex v) (L.at_vertex w)) → IsFirst t p q (L.at_vertex v)
-          pick (inl e) = subst (IsFirst t p q) e f
-          pick (inr (inl o)) = absurd (nearest w (first_on_outline t h p q apart out w f) f.met
-              (before_nearer t (meeting_of_hull t h) p q apart w v f.met met o))
-          pick (inr (inr o)) = absurd (f.none_before (L.at_vertex v) met o)
-
-      go : (items : List Item) → IsWalk t p q items → IsFirst t p q (L.at_vertex v)
-      go [] w = absurd (w (L.at_vertex v) met)
-      go (m ∷ ms) w = let o = only m w.0 in at_first o.0 (subst (IsFirst t p q) o.1 w.0)
+  nearest_of_outline v met nearest =
+      nearest_of_firsts t (meeting_of_hull t h) p q apart only v met
+      (λ w f. nearest w (first_on_outline t h p q apart out w f) f.met)
 
   -- where no vertex of the outline is met, the walk is empty
   pub none_of_outline : ((w : ℕ) → IsOnOutline t w → ¬ Meets t p q (L.at_vertex w))
       → IsWalk t p q []
-  none_of_outline bare = go walked.0 walked.1
-    where
-      go : (items : List Item) → IsWalk t p q items → IsWalk t p q []
-      go [] w = w
-      go (m ∷ ms) w =
-          let o = only m w.0 in
-          let f = subst (IsFirst t p q) o.1 w.0 in
-          absurd (bare o.0 (first_on_outline t h p q apart out o.0 f) f.met)
+  none_of_outline bare = none_of_firsts t (meeting_of_hull t h) p q apart only
+      (λ w f. bare w (first_on_outline t h p q apart out w f) f.met)

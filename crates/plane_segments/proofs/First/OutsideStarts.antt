@@ -53,7 +53,8 @@ NearestIsFirst t p q = (v : ℕ) → Meets t p q (L.at_vertex v)
     → IsFirst t p q (L.at_vertex v)
 
 module _ (t : Triangulation) (c₀ : Meeting t) (p q : Fraction) (apart : ¬ IsSame p q) where
-  vertex_begins : (v : ℕ) → Meets t p q (L.at_vertex v)
+  -- a vertex on the segment begins where it is
+  pub vertex_begins : (v : ℕ) → Meets t p q (L.at_vertex v)
       → BeginsAt t p q (L.at_vertex v) (vertex t v)
   vertex_begins v m =
       record {
@@ -101,9 +102,11 @@ module _ (t : Triangulation) (c₀ : Meeting t) (p q : Fraction) (apart : ¬ IsS
 
   -- where the first item is a vertex, it is the nearest, and there is none without a vertex
   module _ (only : (m : Item) → IsFirst t p q m → (v : ℕ) × (m ≡ L.at_vertex v)) where
-    -- the nearest vertex that is met comes first
-    pub nearest_first : NearestIsFirst t p q
-    nearest_first v met nearest =
+    -- a vertex that is met comes first where no first one is nearer
+    pub nearest_of_firsts : (v : ℕ) → Meets t p q (L.at_vertex v)
+        → ((w : ℕ) → IsFirst t p q (L.at_vertex w) → ¬ IsNearer p (vertex t w) (vertex t v))
+        → IsFirst t p q (L.at_vertex v)
+    nearest_of_firsts v met nearest =
         go (each_walk t c₀ p q apart).items (each_walk t c₀ p q apart).walk
       where
         at_first : (w : ℕ) → IsFirst t p q (L.at_vertex w) → IsFirst t p q (L.at_vertex v)
@@ -113,20 +116,28 @@ module _ (t : Triangulation) (c₀ : Meeting t) (p q : Fraction) (apart : ¬ IsS
             pick : (L.at_vertex w ≡ L.at_vertex v) ⊎ (IsBefore t p q (L.at_vertex w) (L.at_vertex v)
                 ⊎ IsBefore t p q (L.at_vertex v) (L.at_vertex w)) → IsFirst t p q (L.at_vertex v)
             pick (inl e) = subst (IsFirst t p q) e f
-            pick (inr (inl o)) = absurd (nearest w f.met (before_nearer w v f.met met o))
+            pick (inr (inl o)) = absurd (nearest w f (before_nearer w v f.met met o))
             pick (inr (inr o)) = absurd (f.none_before (L.at_vertex v) met o)
 
         go : (items : List Item) → IsWalk t p q items → IsFirst t p q (L.at_vertex v)
         go [] w = absurd (w (L.at_vertex v) met)
         go (m ∷ ms) w = let o = only m w.0 in at_first o.0 (subst (IsFirst t p q) o.1 w.0)
 
-    -- where no vertex is met, the walk is empty
-    pub none_without : ((v : ℕ) → ¬ Meets t p q (L.at_vertex v)) → IsWalk t p q []
-    none_without bare = go (each_walk t c₀ p q apart).items (each_walk t c₀ p q apart).walk
+    -- the nearest vertex that is met comes first
+    pub nearest_first : NearestIsFirst t p q
+    nearest_first v met nearest = nearest_of_firsts v met (λ w f. nearest w f.met)
+
+    -- where no vertex comes first, the walk is empty
+    pub none_of_firsts : ((v : ℕ) → ¬ IsFirst t p q (L.at_vertex v)) → IsWalk t p q []
+    none_of_firsts bare = go (each_walk t c₀ p q apart).items (each_walk t c₀ p q apart).walk
       where
         go : (items : List Item) → IsWalk t p q items → IsWalk t p q []
         go [] w = w
-        go (m ∷ ms) w = let o = only m w.0 in absurd (bare o.0 (subst (Meets t p q) o.1 w.0.met))
+        go (m ∷ ms) w = let o = only m w.0 in absurd (bare o.0 (subst (IsFirst t p q) o.1 w.0))
+
+    -- where no vertex is met, the walk is empty
+    pub none_without : ((v : ℕ) → ¬ Meets t p q (L.at_vertex v)) → IsWalk t p q []
+    none_without bare = none_of_firsts (λ v f. bare v f.met)
 
 -- ---- numbers: a x + b y + c z = 0
 not_least : (a x b y c z : ℤ) → a *ℤ x +ℤ b *ℤ y +ℤ c *ℤ z ≡ pos 0 → x <ℤ pos 0 → pos 0 <ℤ y
