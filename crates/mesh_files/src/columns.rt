@@ -30,10 +30,7 @@ fn column(header: &ByteRecord, name: &str) -> Option<usize> {
     None
 }
 
-pub(crate) fn needed_column(
-    header: &ByteRecord,
-    name: &'static str,
-) -> Result<usize, FileFault> {
+pub(crate) fn needed_column(header: &ByteRecord, name: &'static str) -> Result<usize, FileFault> {
     match column(header, name) {
         Some(column) => Ok(column),
         None => Err(FileFault::at(1, Reason::NoColumn(name))),

@@ -146,11 +146,7 @@ impl<'a> GeoText<'a> {
     }
 
     /// A number of a position.
-    fn number(
-        &mut self,
-        name: &'static str,
-        drawing: &mut Drawing,
-    ) -> Result<Number, FileFault> {
+    fn number(&mut self, name: &'static str, drawing: &mut Drawing) -> Result<Number, FileFault> {
         match self.text.next()? {
             Token::Number(word) => drawing.number(word.as_bytes(), name, self.text.at),
             _ => Err(self.fault(Reason::Missing(name))),

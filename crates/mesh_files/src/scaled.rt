@@ -72,11 +72,7 @@ impl Axis {
 }
 
 /// Rounds points, and counts the numbers that this changed.
-fn round_all(
-    texts: &mut NumberTexts,
-    spots: &mut [Spot],
-    digits: u32,
-) -> Result<u64, FileFault> {
+fn round_all(texts: &mut NumberTexts, spots: &mut [Spot], digits: u32) -> Result<u64, FileFault> {
     let mut count = 0u64;
     for spot in spots {
         let at = spot.file_place();

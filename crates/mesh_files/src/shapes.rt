@@ -27,9 +27,7 @@ impl GeoPosition {
             (None, None) => true,
             _ => false,
         };
-        same_height
-            && self.spot.x.is_equal(&other.spot.x)
-            && self.spot.y.is_equal(&other.spot.y)
+        same_height && self.spot.x.is_equal(&other.spot.x) && self.spot.y.is_equal(&other.spot.y)
     }
 
     fn draw(&self, drawing: &mut Drawing) -> Result<(), FileFault> {
