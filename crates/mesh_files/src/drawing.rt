@@ -1,6 +1,6 @@
 //! What a file says.
 ghost use Rattle.std.specs.Prelude.{◌≡◌, ◌<◌, length, All, IfOk, OnOk};
-ghost use Rattle.mesh_files.specs.Numbers.{IsNumber};
+ghost use Rattle.mesh_files.specs.Written.{IsAsWritten};
 
 use crate::fault::{FileFault, FilePlace, Reason};
 use decimal_numbers::{Decimal, DecimalError};
@@ -151,7 +151,7 @@ impl Drawing {
         name: &'static str,
         at: FilePlace,
     ) -> Result<Number, FileFault>
-        ensures { IfOk result (λ n. IsNumber word.now n.decimal) }
+        ensures { IfOk result (λ n. IsAsWritten word.now n.decimal) }
     {
         let reason = match Decimal::parse(word) {
             Ok(decimal) => return self.texts.keep(decimal.shortened(), word, at),
