@@ -9,6 +9,7 @@ pub enum Source {
     Csv,
     Node,
     Poly,
+    GeoJson,
 }
 
 /// What is asked for.
@@ -26,7 +27,7 @@ pub struct Task<'a> {
     pub width: u32,
 }
 
-const SOURCES: [&str; 3] = ["csv", "node", "poly"];
+const SOURCES: [&str; 4] = ["csv", "node", "poly", "geojson"];
 
 const FORMS: [&str; 7] = ["obj", "ply", "geojson", "svg", "ele", "node", "csv"];
 
@@ -117,6 +118,7 @@ fn source_named(name: &str) -> Source {
     match name {
         "node" => Source::Node,
         "poly" => Source::Poly,
+        "geojson" | "json" => Source::GeoJson,
         _ => Source::Csv,
     }
 }

@@ -11,7 +11,9 @@ use crate::building::build;
 use crate::command::{Source, Task, command, task_of};
 use crate::output::write;
 use anyhow::Context;
-use mesh_files::{Drawing, Scaled, read_csv, read_node, read_poly, read_segments, scale};
+use mesh_files::{
+    Drawing, Scaled, read_csv, read_geojson, read_node, read_poly, read_segments, scale,
+};
 use std::fs;
 use std::io::{BufReader, Read};
 use std::process::ExitCode;
@@ -26,6 +28,7 @@ fn read_form<R: Read + Drop>(
         Source::Csv => read_csv(reader, rt.alloc())?,
         Source::Node => read_node(reader, rt.alloc())?,
         Source::Poly => read_poly(reader, rt.alloc())?,
+        Source::GeoJson => read_geojson(reader, rt.alloc())?,
     })
 }
 
@@ -50,6 +53,11 @@ fn read(rt: &HostRuntime, task: &Task<'_>) -> anyhow::Result<Drawing> {
 /// Does what a task asks for.
 fn run(rt: &HostRuntime, task: &Task<'_>) -> anyhow::Result<()> {
     let mut drawing = read(rt, task)?;
+    if let Some(names) = drawing.left_out() {
+        if !task.is_quiet {
+            eprintln!(rt; "mesh: left out: {names}")?;
+        }
+    }
     let scaled = scale(&mut drawing, task.rounding, rt.alloc())?;
     if scaled.rounded > 0 && !task.is_quiet {
         let count = scaled.rounded;

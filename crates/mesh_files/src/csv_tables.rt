@@ -1,52 +1,16 @@
 //! Tables of comma-separated values with a header. Points have the columns `x` and `y`, and where
 //! there are such `z`, `ring` and `line`: rows next to one another with the same word for `ring`
 //! are the corners of a polygon, and with the same word for `line` the points of a path. Segments
-//! have the columns `from` and `to`: numbers of points, from 1, in the order of their rows.
-use crate::drawing::{Drawing, Segment, Spot};
-use crate::fault::{FileFault, Reason};
+//! have the columns `from` and `to`: numbers of points, from 1, in the order of their rows. Further
+//! columns are left out, which the drawing notes.
+use crate::columns::{Columns, leave_out, needed_column, word_of};
+use crate::drawing::{Drawing, Spot};
+use crate::fault::{FileFault, FilePlace, Reason};
 use crate::text::CheckedText;
 use crate::words::count_of;
 use csv::{ByteRecord, ErrorKind, Reader, ReaderBuilder};
 use std::alloc::Global;
 use std::io::Read;
-
-/// Where the columns of points are.
-#[derive(Drop)]
-struct Columns {
-    x: usize,
-    y: usize,
-    z: Option<usize>,
-    ring: Option<usize>,
-    path: Option<usize>,
-}
-
-fn column(header: &ByteRecord, name: &str) -> Option<usize> {
-    for i in 0..header.len() {
-        if let Some(field) = header.get(i) {
-            if field.trim_ascii().eq_ignore_ascii_case(name.as_bytes()) {
-                return Some(i);
-            }
-        }
-    }
-    None
-}
-
-fn needed_column(header: &ByteRecord, name: &'static str) -> Result<usize, FileFault> {
-    match column(header, name) {
-        Some(column) => Ok(column),
-        None => Err(FileFault::at(1, Reason::NoColumn(name))),
-    }
-}
-
-fn find_columns(header: &ByteRecord) -> Result<Columns, FileFault> {
-    Ok(Columns {
-        x: needed_column(header, "x")?,
-        y: needed_column(header, "y")?,
-        z: column(header, "z"),
-        ring: column(header, "ring"),
-        path: column(header, "line"),
-    })
-}
 
 fn line_of(line: u64) -> u32 {
     u32::try_from(line).unwrap_or(u32::MAX)
@@ -65,11 +29,6 @@ fn fault_of(error: csv::Error, line: u32) -> FileFault {
         ErrorKind::OutOfMemory => FileFault::at(line, Reason::NoMemory),
         _ => FileFault::at(line, Reason::Unreadable),
     }
-}
-
-/// A field without blanks round it.
-fn word_of(record: &ByteRecord, column: usize) -> &[u8] {
-    record.get(column).unwrap_or(&[]).trim_ascii()
 }
 
 /// A run of rows with the same word.
@@ -94,13 +53,9 @@ impl Run {
     }
 
     /// Ends the run: a polygon's last corner is joined to its first.
-    fn end(&mut self, segments: &mut Vec<Segment>) -> Result<(), FileFault> {
+    fn end(&mut self, drawing: &mut Drawing) -> Result<(), FileFault> {
         if self.closes && !self.word.is_empty() && self.first != self.last {
-            segments.push(Segment {
-                from: self.last,
-                to: self.first,
-                line: self.line,
-            })?;
+            drawing.join(self.last, self.first, FilePlace::of_line(self.line))?;
         }
         self.word.clear();
         Ok(())
@@ -112,18 +67,14 @@ impl Run {
         word: &[u8],
         place: u32,
         line: u32,
-        segments: &mut Vec<Segment>,
+        drawing: &mut Drawing,
     ) -> Result<(), FileFault> {
         if self.word.as_slice() != word {
-            self.end(segments)?;
+            self.end(drawing)?;
             self.word.extend_from_slice(word)?;
             self.first = place;
         } else if !word.is_empty() {
-            segments.push(Segment {
-                from: self.last,
-                to: place,
-                line,
-            })?;
+            drawing.join(self.last, place, FilePlace::of_line(line))?;
         }
         self.last = place;
         self.line = line;
@@ -145,15 +96,15 @@ impl Runs {
         columns: &Columns,
         place: u32,
         line: u32,
-        segments: &mut Vec<Segment>,
+        drawing: &mut Drawing,
     ) -> Result<(), FileFault> {
         if let Some(column) = columns.ring {
             self.ring
-                .row(word_of(record, column), place, line, segments)?;
+                .row(word_of(record, column), place, line, drawing)?;
         }
         if let Some(column) = columns.path {
             self.path
-                .row(word_of(record, column), place, line, segments)?;
+                .row(word_of(record, column), place, line, drawing)?;
         }
         Ok(())
     }
@@ -166,14 +117,14 @@ fn take_point(
     columns: &Columns,
     line: u32,
 ) -> Result<(), FileFault> {
-    let x = drawing.number(word_of(record, columns.x), "x", line)?;
-    let y = drawing.number(word_of(record, columns.y), "y", line)?;
-    drawing.spots.push(Spot { x, y, line })?;
-    if let Some(column) = columns.z {
-        let height = drawing.number(word_of(record, column), "z", line)?;
-        drawing.heights.push(height)?;
-    }
-    Ok(())
+    let at = FilePlace::of_line(line);
+    let x = drawing.number(word_of(record, columns.x), "x", at)?;
+    let y = drawing.number(word_of(record, columns.y), "y", at)?;
+    let height = match columns.z {
+        Some(column) => Some(drawing.number(word_of(record, column), "z", at)?),
+        None => None,
+    };
+    drawing.add_spot(Spot::new(x, y, at), height)
 }
 
 fn read_points<R: Read>(
@@ -192,7 +143,7 @@ fn read_points<R: Read>(
         match reader.read_byte_record(&mut record) {
             Ok(true) => {}
             Ok(false) => {
-                runs.ring.end(&mut drawing.segments)?;
+                runs.ring.end(drawing)?;
                 return Ok(());
             }
             Err(error) => return Err(fault_of(error, line)),
@@ -201,7 +152,7 @@ fn read_points<R: Read>(
             line = line_of(position.line());
         }
         take_point(drawing, &record, columns, line)?;
-        runs.row(&record, columns, place, line, &mut drawing.segments)?;
+        runs.row(&record, columns, place, line, drawing)?;
     }
     Err(FileFault::at(line, Reason::TooMany))
 }
@@ -225,13 +176,18 @@ fn read_drawing<R: Read + Drop>(
         .has_headers(false)
         .from_reader(alloc, text);
     let header = header_of(&mut reader, alloc)?;
-    let columns = find_columns(&header)?;
+    let columns = Columns::of(&header)?;
+    for column in 0..header.len() {
+        if !columns.has(column) {
+            leave_out(drawing, &header, column)?;
+        }
+    }
     read_points(&mut reader, &columns, drawing, alloc)
 }
 
 /// Reads points from a table.
 pub fn read_csv<R: Read + Drop>(reader: R, alloc: Global) -> Result<Drawing, FileFault> {
-    let mut text = CheckedText::new(reader);
+    let mut text = CheckedText::of_rows(reader);
     let mut drawing = Drawing::new(alloc);
     let outcome = read_drawing(&mut text, &mut drawing, alloc);
     if let Some(fault) = text.fault() {
@@ -268,6 +224,11 @@ fn read_ends<R: Read + Drop>(
         needed_column(&header, "from")?,
         needed_column(&header, "to")?,
     );
+    for column in 0..header.len() {
+        if column != start && column != end {
+            leave_out(drawing, &header, column)?;
+        }
+    }
     let mut record = ByteRecord::new(alloc);
     let mut line = 1;
     for _ in 0..u64::MAX {
@@ -282,7 +243,7 @@ fn read_ends<R: Read + Drop>(
         let count = drawing.spots.len();
         let from = point_named(&record, start, count, line)?;
         let to = point_named(&record, end, count, line)?;
-        drawing.segments.push(Segment { from, to, line })?;
+        drawing.join(from, to, FilePlace::of_line(line))?;
     }
     Ok(())
 }
@@ -293,7 +254,7 @@ pub fn read_segments<R: Read + Drop>(
     drawing: &mut Drawing,
     alloc: Global,
 ) -> Result<(), FileFault> {
-    let mut text = CheckedText::new(reader);
+    let mut text = CheckedText::of_rows(reader);
     let outcome = read_ends(&mut text, drawing, alloc);
     match text.fault() {
         Some(fault) => Err(fault),

@@ -1,7 +1,10 @@
 //! What a file says.
-use crate::fault::{FileFault, Reason};
+ghost use Rattle.std.specs.Prelude.{◌≡◌, ◌<◌, length, All, IfOk, OnOk};
+ghost use Rattle.mesh_files.specs.Written.{IsAsWritten};
+
+use crate::fault::{FileFault, FilePlace, Reason};
 use decimal_numbers::{Decimal, DecimalError};
-use std::alloc::Global;
+use std::alloc::{AllocError, Global};
 
 /// A number, and where it stands, as it came, in the text of its drawing.
 #[derive(Clone, Copy)]
@@ -11,30 +14,119 @@ pub struct Number {
     end: u32,
 }
 
-/// A point, and its line in the file, from 1.
+impl Number {
+    /// Whether two numbers are one, however they are spelled.
+    pub(crate) fn is_equal(&self, other: &Number) -> bool {
+        let (one, two) = (&self.decimal, &other.decimal);
+        one.magnitude == two.magnitude
+            && one.digits == two.digits
+            && (one.negative == two.negative || one.magnitude == 0)
+    }
+}
+
+/// A point, its line in the file, from 1, and its feature, from 1, if it is in one, else 0.
 #[derive(Clone, Copy)]
 pub struct Spot {
     pub x: Number,
     pub y: Number,
     pub line: u32,
+    pub feature: u32,
 }
 
-/// A segment between two points, by their places in the list, and its line in the file.
+impl Spot {
+    pub(crate) fn new(x: Number, y: Number, at: FilePlace) -> Self {
+        let FilePlace { line, feature } = at;
+        Spot {
+            x,
+            y,
+            line,
+            feature,
+        }
+    }
+
+    /// Where the point stands in the file.
+    pub fn file_place(&self) -> FilePlace {
+        FilePlace {
+            line: self.line,
+            feature: self.feature,
+        }
+    }
+}
+
+/// A segment between two points, by their places in the list, its line in the file, and its
+/// feature, from 1, if it is in one, else 0.
 #[derive(Clone, Copy)]
 pub struct Segment {
     pub from: u32,
     pub to: u32,
     pub line: u32,
+    pub feature: u32,
 }
 
-/// Points, their heights where they have some, segments between them, and points in holes.
+impl Segment {
+    /// Where the segment stands in the file.
+    pub fn file_place(&self) -> FilePlace {
+        FilePlace {
+            line: self.line,
+            feature: self.feature,
+        }
+    }
+}
+
+/// The texts of numbers, one behind the other.
+#[derive(Drop)]
+pub(crate) struct NumberTexts {
+    bytes: Vec<u8>,
+}
+
+impl NumberTexts {
+    /// Keeps the text of a number.
+    fn keep(&mut self, decimal: Decimal, word: &[u8], at: FilePlace) -> Result<Number, FileFault>
+        ensures { IfOk result (λ n. n.decimal ≡ decimal) }
+    {
+        let start = u32::try_from(self.bytes.len());
+        self.bytes.extend_from_slice(word)?;
+        match (start, u32::try_from(self.bytes.len())) {
+            (Ok(start), Ok(end)) => Ok(Number {
+                decimal,
+                start,
+                end,
+            }),
+            _ => Err(FileFault::in_place(at, Reason::TooMany)),
+        }
+    }
+
+    /// The number rounded to so many digits behind the point, and whether that changed it.
+    pub(crate) fn rounded(
+        &mut self,
+        number: &Number,
+        digits: u32,
+        at: FilePlace,
+    ) -> Result<(Number, bool), FileFault> {
+        if number.decimal.digits <= digits {
+            return Ok((*number, false));
+        }
+        let decimal = number.decimal.rounded_to(digits).shortened();
+        let mut word = String::new(*self.bytes.allocator());
+        write!(word, "{decimal}")?;
+        Ok((self.keep(decimal, word.as_bytes(), at)?, true))
+    }
+}
+
+/// Points, their heights, which all of them have or none, segments between them, and points in
+/// holes.
 #[derive(Drop)]
 pub struct Drawing {
     pub spots: Vec<Spot>,
     pub heights: Vec<Number>,
     pub segments: Vec<Segment>,
     pub holes: Vec<Spot>,
-    text: Vec<u8>,
+    pub(crate) texts: NumberTexts,
+    left_out: String,
+    pub ghost ends_are_points: { All (λ s. (s.from < length spots.items) × (s.to < length spots.items))
+        segments.items },
+    pub ghost heights_are_of_points: { 0 < length heights.items
+        → length heights.items ≡ length spots.items },
 }
 
 impl Drawing {
@@ -45,21 +137,10 @@ impl Drawing {
             heights: Vec::new(alloc),
             segments: Vec::new(alloc),
             holes: Vec::new(alloc),
-            text: Vec::new(alloc),
-        }
-    }
-
-    /// Keeps the text of a number.
-    fn keep(&mut self, decimal: Decimal, word: &[u8], line: u32) -> Result<Number, FileFault> {
-        let start = u32::try_from(self.text.len());
-        self.text.extend_from_slice(word)?;
-        match (start, u32::try_from(self.text.len())) {
-            (Ok(start), Ok(end)) => Ok(Number {
-                decimal,
-                start,
-                end,
-            }),
-            _ => Err(FileFault::at(line, Reason::TooMany)),
+            texts: NumberTexts {
+                bytes: Vec::new(alloc),
+            },
+            left_out: String::new(alloc),
         }
     }
 
@@ -68,34 +149,85 @@ impl Drawing {
         &mut self,
         word: &[u8],
         name: &'static str,
-        line: u32,
-    ) -> Result<Number, FileFault> {
-        match Decimal::parse(word) {
-            Ok(decimal) => self.keep(decimal.shortened(), word, line),
-            Err(DecimalError::Malformed) => Err(FileFault::at(line, Reason::NotNumber(name))),
-            Err(DecimalError::TooLong) => Err(FileFault::at(line, Reason::TooLong(name))),
+        at: FilePlace,
+    ) -> Result<Number, FileFault>
+        ensures { IfOk result (λ n. IsAsWritten word.now n.decimal) }
+    {
+        let reason = match Decimal::parse(word) {
+            Ok(decimal) => return self.texts.keep(decimal.shortened(), word, at),
+            Err(DecimalError::Malformed) => Reason::NotNumber(name),
+            Err(DecimalError::TooLong) => Reason::TooLong(name),
+        };
+        Err(FileFault::in_place(at, reason))
+    }
+
+    /// Takes a point in: either all have a height, or none.
+    pub(crate) fn add_spot(&mut self, spot: Spot, height: Option<Number>) -> Result<(), FileFault> {
+        match height {
+            Some(height) if self.heights.len() == self.spots.len() => {
+                self.spots.reserve(1)?;
+                self.heights.push(height)?;
+                self.spots.push_reserved(spot);
+            }
+            None if self.heights.is_empty() => self.spots.push(spot)?,
+            _ => return Err(FileFault::in_place(spot.file_place(), Reason::SomeHeights)),
+        }
+        Ok(())
+    }
+
+    /// Asks for a point by its place in the list.
+    fn check_point(&self, point: u32, at: FilePlace) -> Result<(), FileFault>
+        ensures { OnOk result (point < length self.now.spots.items) }
+    {
+        if (point as usize) < self.spots.len() {
+            return Ok(());
+        }
+        Err(FileFault::in_place(at, Reason::NoPoint(u64::from(point))))
+    }
+
+    /// Takes a segment in whose ends are points.
+    pub(crate) fn join(&mut self, from: u32, to: u32, at: FilePlace) -> Result<(), FileFault> {
+        self.check_point(from, at)?;
+        self.check_point(to, at)?;
+        let FilePlace { line, feature } = at;
+        self.segments.push(Segment {
+            from,
+            to,
+            line,
+            feature,
+        })?;
+        Ok(())
+    }
+
+    /// The place that the next point has in the list.
+    pub(crate) fn next_place(&self, at: FilePlace) -> Result<u32, FileFault> {
+        match u32::try_from(self.spots.len()) {
+            Ok(next) => Ok(next),
+            Err(_) => Err(FileFault::in_place(at, Reason::TooMany)),
         }
     }
 
-    /// The number rounded to so many digits behind the point, and whether that changed it.
-    pub(crate) fn rounded(
-        &mut self,
-        number: &Number,
-        digits: u32,
-        line: u32,
-    ) -> Result<(Number, bool), FileFault> {
-        if number.decimal.digits <= digits {
-            return Ok((*number, false));
+    /// Notes what of the file is left out.
+    pub(crate) fn leave_out(&mut self, name: &str) -> Result<(), AllocError> {
+        if !self.left_out.is_empty() {
+            self.left_out.push_str(", ")?;
         }
-        let decimal = number.decimal.rounded_to(digits).shortened();
-        let mut word = String::new(*self.text.allocator());
-        write!(word, "{decimal}")?;
-        Ok((self.keep(decimal, word.as_bytes(), line)?, true))
+        self.left_out.push_str(name)
+    }
+
+    /// What of the file is left out, by names with commas between them, if anything is.
+    pub fn left_out(&self) -> Option<&str> {
+        if self.left_out.is_empty() {
+            None
+        } else {
+            Some(self.left_out.as_str())
+        }
     }
 
     /// A number as it came, or as it was rounded.
     pub fn text_of(&self, number: &Number) -> &[u8] {
-        self.text
+        self.texts
+            .bytes
             .get(number.start as usize..number.end as usize)
             .unwrap_or(&[])
     }

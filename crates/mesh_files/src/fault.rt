@@ -1,5 +1,6 @@
-//! What is wrong with a file, and in which line.
+//! What is wrong with a file, and where.
 use std::alloc::{AllocError, AllocFailed};
+use std::fmt;
 use thiserror::Error;
 
 /// What is wrong.
@@ -35,44 +36,89 @@ pub enum Reason {
     TooMany,
     #[error("it is longer than {0} bytes")]
     LongLine(u32),
+    #[error("the file is longer than {0} bytes")]
+    LongText(u32),
     #[error("it has a NUL byte, so this is no text")]
     NulByte,
+    #[error("the file is no text in UTF-8")]
+    NotUtf8,
     #[error("a quoted field does not end")]
     OpenQuote,
+    #[error("this is no JSON, or it nests more than {0} deep")]
+    NotJson(usize),
+    #[error("{0} should stand here")]
+    Expected(&'static str),
+    #[error("there is no member named {0}")]
+    NoMember(&'static str),
+    #[error("it has {0}, and its type has none")]
+    NotOfType(&'static str),
+    #[error("it has {0} and {1}, of which an object has one")]
+    Both(&'static str, &'static str),
+    #[error("coordinates are nested otherwise than the type has them")]
+    OtherNesting,
+    #[error("a ring has four positions or more, and ends where it began")]
+    OpenRing,
+    #[error("some points have a height, and others have none")]
+    SomeHeights,
     #[error("reading failed")]
     Unreadable,
     #[error("memory was refused")]
     NoMemory,
 }
 
-/// What is wrong with a file, and in which line, from 1.
-#[derive(Debug, Drop, Error)]
-#[error("line {line}: {reason}")]
-pub struct FileFault {
+/// Where something stands in a file: its line, from 1, and where it is in a feature of GeoJSON the
+/// number of that, from 1, else 0.
+#[derive(Clone, Copy, Debug, PartialEq, Eq)]
+pub struct FilePlace {
     pub line: u32,
+    pub feature: u32,
+}
+
+impl FilePlace {
+    /// A line with no feature.
+    pub fn of_line(line: u32) -> Self {
+        FilePlace { line, feature: 0 }
+    }
+}
+
+impl fmt::Display for FilePlace {
+    fn fmt<W: fmt::Write>(&self, f: &mut fmt::Formatter<W>) -> fmt::Result {
+        let FilePlace { line, feature } = *self;
+        if feature == 0 {
+            write!(f, "line {line}")
+        } else {
+            write!(f, "line {line}, feature {feature}")
+        }
+    }
+}
+
+/// What is wrong with a file, and where.
+#[derive(Debug, Drop, Error)]
+#[error("{place}: {reason}")]
+pub struct FileFault {
+    pub place: FilePlace,
     pub reason: Reason,
 }
 
 impl FileFault {
+    /// A fault of a line.
     pub fn at(line: u32, reason: Reason) -> Self {
-        FileFault { line, reason }
+        FileFault::in_place(FilePlace::of_line(line), reason)
+    }
+
+    pub(crate) fn in_place(place: FilePlace, reason: Reason) -> Self {
+        FileFault { place, reason }
     }
 }
 
 impl From<AllocError> for FileFault {
     fn from(_error: AllocError) -> Self {
-        FileFault {
-            line: 0,
-            reason: Reason::NoMemory,
-        }
+        FileFault::at(0, Reason::NoMemory)
     }
 }
 
 impl<T: Drop> From<AllocFailed<T>> for FileFault {
     fn from(_error: AllocFailed<T>) -> Self {
-        FileFault {
-            line: 0,
-            reason: Reason::NoMemory,
-        }
+        FileFault::at(0, Reason::NoMemory)
     }
 }

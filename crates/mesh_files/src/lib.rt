@@ -1,12 +1,17 @@
 //! Points and segments in text files, and faces between points as text of several forms.
 #![tactic(auto)]
 
+mod columns;
 mod csv_tables;
 mod drawing;
 mod faces;
 mod fault;
+mod fields;
+mod geojson;
+mod json_text;
 mod picture;
 mod scaled;
+mod shapes;
 mod text;
 mod triangle_files;
 mod words;
@@ -14,7 +19,8 @@ mod writing;
 
 pub use csv_tables::{read_csv, read_segments};
 pub use drawing::{Drawing, Number, Segment, Spot};
-pub use fault::{FileFault, Reason};
+pub use fault::{FileFault, FilePlace, Reason};
+pub use geojson::read_geojson;
 pub use scaled::{Rounding, Scaled, scale};
 pub use text::CheckedText;
 pub use triangle_files::{read_node, read_poly};

@@ -1,6 +1,6 @@
 //! The whole coordinates of a drawing.
-use crate::drawing::{Drawing, Number, Spot};
-use crate::fault::{FileFault, Reason};
+use crate::drawing::{Drawing, Number, NumberTexts, Spot};
+use crate::fault::{FileFault, FilePlace, Reason};
 use decimal_numbers::{Scale, ScaleError};
 use delaunay_core::point::Point2;
 use std::alloc::Global;
@@ -45,13 +45,13 @@ impl Axis {
         }
     }
 
-    /// Why a number has no coordinate, by its line.
-    fn fault(self, line: u32, digits: u32, error: ScaleError) -> FileFault {
+    /// Why a number has no coordinate, by its place.
+    fn fault(self, at: FilePlace, digits: u32, error: ScaleError) -> FileFault {
         let reason = match error {
             ScaleError::TooFine => Reason::TooFine(self.name()),
             ScaleError::TooFar => Reason::TooFar(self.name(), digits),
         };
-        FileFault::at(line, reason)
+        FileFault::in_place(at, reason)
     }
 
     /// The least and the greatest number of points, in units of the last digit.
@@ -60,7 +60,7 @@ impl Axis {
         for spot in spots {
             let units = match self.number(spot).decimal.times_power(digits) {
                 Ok(units) => units,
-                Err(error) => return Err(self.fault(spot.line, digits, error)),
+                Err(error) => return Err(self.fault(spot.file_place(), digits, error)),
             };
             ends = match ends {
                 None => Some((units, units)),
@@ -72,11 +72,12 @@ impl Axis {
 }
 
 /// Rounds points, and counts the numbers that this changed.
-fn round_all(drawing: &mut Drawing, spots: &mut [Spot], digits: u32) -> Result<u64, FileFault> {
+fn round_all(texts: &mut NumberTexts, spots: &mut [Spot], digits: u32) -> Result<u64, FileFault> {
     let mut count = 0u64;
     for spot in spots {
-        let (x, x_changed) = drawing.rounded(&spot.x, digits, spot.line)?;
-        let (y, y_changed) = drawing.rounded(&spot.y, digits, spot.line)?;
+        let at = spot.file_place();
+        let (x, x_changed) = texts.rounded(&spot.x, digits, at)?;
+        let (y, y_changed) = texts.rounded(&spot.y, digits, at)?;
         spot.x = x;
         spot.y = y;
         count = count
@@ -105,11 +106,11 @@ fn points_of(
     for spot in spots {
         let x = match x_scale.coordinate(&spot.x.decimal) {
             Ok(x) => x,
-            Err(error) => return Err(Axis::X.fault(spot.line, x_scale.digits, error)),
+            Err(error) => return Err(Axis::X.fault(spot.file_place(), x_scale.digits, error)),
         };
         let y = match y_scale.coordinate(&spot.y.decimal) {
             Ok(y) => y,
-            Err(error) => return Err(Axis::Y.fault(spot.line, y_scale.digits, error)),
+            Err(error) => return Err(Axis::Y.fault(spot.file_place(), y_scale.digits, error)),
         };
         points.push(Point2::new(x, y))?;
     }
@@ -124,26 +125,22 @@ pub fn scale(
     rounding: Rounding,
     alloc: Global,
 ) -> Result<Scaled, FileFault> {
-    let mut spots = std::mem::replace(&mut drawing.spots, Vec::new(alloc));
-    let mut holes = std::mem::replace(&mut drawing.holes, Vec::new(alloc));
     let mut rounded = 0;
     if let Rounding::To(digits) = rounding {
-        rounded = round_all(drawing, spots.as_mut_slice(), digits)?;
-        round_all(drawing, holes.as_mut_slice(), digits)?;
+        rounded = round_all(&mut drawing.texts, drawing.spots.as_mut_slice(), digits)?;
+        round_all(&mut drawing.texts, drawing.holes.as_mut_slice(), digits)?;
     }
-    let digits = most_digits(spots.as_slice()).max(most_digits(holes.as_slice()));
-    let (left, right) = Axis::X.ends(spots.as_slice(), digits)?;
-    let (bottom, top) = Axis::Y.ends(spots.as_slice(), digits)?;
+    let (spots, holes) = (drawing.spots.as_slice(), drawing.holes.as_slice());
+    let digits = most_digits(spots).max(most_digits(holes));
+    let (left, right) = Axis::X.ends(spots, digits)?;
+    let (bottom, top) = Axis::Y.ends(spots, digits)?;
     let x_scale = Scale::between(digits, left, right);
     let y_scale = Scale::between(digits, bottom, top);
-    let scaled = Scaled {
-        points: points_of(spots.as_slice(), &x_scale, &y_scale, alloc)?,
-        holes: points_of(holes.as_slice(), &x_scale, &y_scale, alloc)?,
+    Ok(Scaled {
+        points: points_of(spots, &x_scale, &y_scale, alloc)?,
+        holes: points_of(holes, &x_scale, &y_scale, alloc)?,
         x_scale,
         y_scale,
         rounded,
-    };
-    drawing.spots = spots;
-    drawing.holes = holes;
-    Ok(scaled)
+    })
 }

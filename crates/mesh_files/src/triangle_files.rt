@@ -1,6 +1,6 @@
 //! The files of the program Triangle: `.node` and `.poly`.
-use crate::drawing::{Drawing, Number, Segment, Spot};
-use crate::fault::{FileFault, Reason};
+use crate::drawing::{Drawing, Number, Spot};
+use crate::fault::{FileFault, FilePlace, Reason};
 use crate::text::CheckedText;
 use crate::words::{WordLines, Words, count_of};
 use std::alloc::Global;
@@ -41,7 +41,7 @@ impl<'a> Source<'a> {
         what: &'static str,
     ) -> Result<Number, FileFault> {
         match words.next_word() {
-            Some(word) => drawing.number(word, what, self.lines.line),
+            Some(word) => drawing.number(word, what, FilePlace::of_line(self.lines.line)),
             None => Err(self.fault(Reason::Missing(what))),
         }
     }
@@ -49,11 +49,7 @@ impl<'a> Source<'a> {
     fn spot(&self, words: &mut Words<'a>, drawing: &mut Drawing) -> Result<Spot, FileFault> {
         let x = self.number(words, drawing, "x")?;
         let y = self.number(words, drawing, "y")?;
-        Ok(Spot {
-            x,
-            y,
-            line: self.lines.line,
-        })
+        Ok(Spot::new(x, y, FilePlace::of_line(self.lines.line)))
     }
 }
 
@@ -79,11 +75,12 @@ fn read_points(source: &mut Source<'_>, drawing: &mut Drawing) -> Result<u32, Fi
             return Err(source.fault(Reason::NotNext));
         }
         let spot = source.spot(&mut words, drawing)?;
-        drawing.spots.push(spot)?;
-        if attributes > 0 {
-            let height = source.number(&mut words, drawing, "the first attribute")?;
-            drawing.heights.push(height)?;
-        }
+        let height = if attributes > 0 {
+            Some(source.number(&mut words, drawing, "the first attribute")?)
+        } else {
+            None
+        };
+        drawing.add_spot(spot, height)?;
     }
     Ok(first)
 }
@@ -116,8 +113,7 @@ fn read_segments(
         source.count(&mut words, "the segment's number")?;
         let from = point_named(source, &mut words, first, drawing.spots.len())?;
         let to = point_named(source, &mut words, first, drawing.spots.len())?;
-        let line = source.lines.line;
-        drawing.segments.push(Segment { from, to, line })?;
+        drawing.join(from, to, FilePlace::of_line(source.lines.line))?;
     }
     Ok(())
 }
@@ -136,23 +132,9 @@ fn read_holes(source: &mut Source<'_>, drawing: &mut Drawing) -> Result<(), File
     Ok(())
 }
 
-/// The whole text, if no line of it is too long and it has no NUL byte.
-fn whole_text<R: Read + Drop>(reader: R, alloc: Global) -> Result<Vec<u8>, FileFault> {
-    let mut text = CheckedText::new(reader);
-    let mut whole = Vec::new(alloc);
-    let outcome = text.read_to_end(&mut whole);
-    if let Some(fault) = text.fault() {
-        return Err(fault);
-    }
-    match outcome {
-        Ok(_) => Ok(whole),
-        Err(_) => Err(FileFault::at(0, Reason::NoMemory)),
-    }
-}
-
 /// Reads a `.node` file. The first attribute of its points is taken for their height.
 pub fn read_node<R: Read + Drop>(reader: R, alloc: Global) -> Result<Drawing, FileFault> {
-    let text = whole_text(reader, alloc)?;
+    let text = CheckedText::new(reader).read_all(alloc)?;
     let mut drawing = Drawing::new(alloc);
     let mut source = Source {
         lines: WordLines::new(text.as_slice()),
@@ -163,7 +145,7 @@ pub fn read_node<R: Read + Drop>(reader: R, alloc: Global) -> Result<Drawing, Fi
 
 /// Reads a `.poly` file that has its points.
 pub fn read_poly<R: Read + Drop>(reader: R, alloc: Global) -> Result<Drawing, FileFault> {
-    let text = whole_text(reader, alloc)?;
+    let text = CheckedText::new(reader).read_all(alloc)?;
     let mut drawing = Drawing::new(alloc);
     let mut source = Source {
         lines: WordLines::new(text.as_slice()),

@@ -1,0 +1,84 @@
+//! Columns of tables, by the names in their headers.
+use crate::drawing::Drawing;
+use crate::fault::{FileFault, Reason};
+use csv::ByteRecord;
+
+/// A field without blanks round it.
+pub(crate) fn word_of(record: &ByteRecord, column: usize) -> &[u8] {
+    record.get(column).unwrap_or(&[]).trim_ascii()
+}
+
+/// Where the columns of points are.
+#[derive(Drop)]
+pub(crate) struct Columns {
+    pub(crate) x: usize,
+    pub(crate) y: usize,
+    pub(crate) z: Option<usize>,
+    pub(crate) ring: Option<usize>,
+    pub(crate) path: Option<usize>,
+}
+
+/// The first column of this name.
+fn column(header: &ByteRecord, name: &str) -> Option<usize> {
+    for i in 0..header.len() {
+        if let Some(field) = header.get(i) {
+            if field.trim_ascii().eq_ignore_ascii_case(name.as_bytes()) {
+                return Some(i);
+            }
+        }
+    }
+    None
+}
+
+pub(crate) fn needed_column(header: &ByteRecord, name: &'static str) -> Result<usize, FileFault> {
+    match column(header, name) {
+        Some(column) => Ok(column),
+        None => Err(FileFault::at(1, Reason::NoColumn(name))),
+    }
+}
+
+impl Columns {
+    /// The columns of a header, of which those of coordinates have to be there.
+    pub(crate) fn of(header: &ByteRecord) -> Result<Self, FileFault> {
+        Ok(Columns {
+            x: needed_column(header, "x")?,
+            y: needed_column(header, "y")?,
+            z: column(header, "z"),
+            ring: column(header, "ring"),
+            path: column(header, "line"),
+        })
+    }
+
+    /// Whether a column is one of these.
+    pub(crate) fn has(&self, column: usize) -> bool {
+        let others = [self.z, self.ring, self.path];
+        column == self.x || column == self.y || others.contains(&Some(column))
+    }
+}
+
+/// The name of a column, if a line of text can show it.
+fn shown_name(header: &ByteRecord, column: usize) -> Option<&str> {
+    let name = str::from_utf8(word_of(header, column)).ok()?;
+    if name.is_empty() || name.chars().any(|c| c.is_control()) {
+        None
+    } else {
+        Some(name)
+    }
+}
+
+/// Notes a column that is left out, by its name or else by its number, from 1.
+pub(crate) fn leave_out(
+    drawing: &mut Drawing,
+    header: &ByteRecord,
+    column: usize,
+) -> Result<(), FileFault> {
+    if let Some(name) = shown_name(header, column) {
+        drawing.leave_out(name)?;
+        return Ok(());
+    }
+    let number = column.saturating_add(1);
+    let mut name = String::new(*drawing.spots.allocator());
+    write!(name, "column {number}")?;
+    drawing.leave_out(name.as_str())?;
+    Ok(())
+}

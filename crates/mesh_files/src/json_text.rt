@@ -1,0 +1,73 @@
+//! The tokens of a JSON text, and where they stand.
+use crate::fault::{FileFault, FilePlace, Reason};
+use json::{MAX_DEPTH, Reader, Token};
+
+/// A JSON text as far as it was read.
+#[derive(Drop)]
+pub(crate) struct JsonText<'a> {
+    reader: Reader<'a>,
+    text: &'a [u8],
+    /// How many bytes have their line ends counted.
+    counted: usize,
+    /// Where the last token stands.
+    pub(crate) at: FilePlace,
+}
+
+impl<'a> JsonText<'a> {
+    pub(crate) fn new(reader: Reader<'a>, text: &'a [u8]) -> Self {
+        JsonText {
+            reader,
+            text,
+            counted: 0,
+            at: FilePlace::of_line(1),
+        }
+    }
+
+    /// A fault of the last token.
+    pub(crate) fn fault(&self, reason: Reason) -> FileFault {
+        FileFault::in_place(self.at, reason)
+    }
+
+    /// Counts lines up to where the reader stands.
+    fn count_lines(&mut self) {
+        let end = self.reader.offset();
+        if let Some(passed) = self.text.get(self.counted..end) {
+            for byte in passed {
+                if *byte == b'\n' {
+                    self.at.line = self.at.line.saturating_add(1);
+                }
+            }
+            self.counted = end;
+        }
+    }
+
+    /// The next token.
+    pub(crate) fn next(&mut self) -> Result<Token<'a>, FileFault> {
+        self.count_lines();
+        match self.reader.next() {
+            Some(Token::Bad) => Err(self.fault(Reason::NotJson(MAX_DEPTH))),
+            Some(token) => Ok(token),
+            None => Err(self.fault(Reason::Ends("more of it"))),
+        }
+    }
+
+    /// Passes over a value, whatever it is.
+    pub(crate) fn skip_value(&mut self) -> Result<(), FileFault> {
+        match self.reader.skip_value(MAX_DEPTH) {
+            Ok(()) => Ok(()),
+            Err(_) => {
+                self.count_lines();
+                Err(self.fault(Reason::NotJson(MAX_DEPTH)))
+            }
+        }
+    }
+
+    /// Asks that no token be left.
+    pub(crate) fn end(&mut self) -> Result<(), FileFault> {
+        self.count_lines();
+        match self.reader.next() {
+            None => Ok(()),
+            Some(_) => Err(self.fault(Reason::Expected("the end of the file"))),
+        }
+    }
+}

@@ -1,0 +1,176 @@
+//! Positions of GeoJSON as points, and the lines that they make as segments.
+use crate::drawing::{Drawing, Number, Spot};
+use crate::fault::{FileFault, FilePlace, Reason};
+use std::alloc::Global;
+
+/// What positions that stand next to one another are.
+#[derive(Clone, Copy)]
+pub(crate) enum LineKind {
+    Points,
+    Path,
+    /// A polygon's corners, of which the last is the first.
+    Ring,
+}
+
+/// A point that is not in the drawing yet, with its height where it has one.
+#[derive(Clone, Copy)]
+pub(crate) struct GeoPosition {
+    pub(crate) spot: Spot,
+    pub(crate) height: Option<Number>,
+}
+
+impl GeoPosition {
+    /// Whether two positions are one.
+    fn is_equal(&self, other: &GeoPosition) -> bool {
+        let same_height = match (&self.height, &other.height) {
+            (Some(one), Some(two)) => one.is_equal(two),
+            (None, None) => true,
+            _ => false,
+        };
+        same_height && self.spot.x.is_equal(&other.spot.x) && self.spot.y.is_equal(&other.spot.y)
+    }
+
+    fn draw(&self, drawing: &mut Drawing) -> Result<(), FileFault> {
+        drawing.add_spot(self.spot, self.height)
+    }
+}
+
+/// Positions that are being read. The last is not in the drawing, unless it is the first.
+#[derive(Clone, Copy)]
+struct OpenLine {
+    start: u32,
+    first: GeoPosition,
+    last: Option<GeoPosition>,
+}
+
+/// Positions next to one another, and where the first stands: points from `start` up to `end`, and
+/// one that repeats the first of them and is no point.
+#[derive(Clone, Copy)]
+struct WholeLine {
+    at: FilePlace,
+    start: u32,
+    end: u32,
+    closing: Option<GeoPosition>,
+}
+
+impl WholeLine {
+    /// Joins each point to the next, and the last to the first where the line ends there.
+    fn join(&self, drawing: &mut Drawing) -> Result<(), FileFault> {
+        let mut last = self.start;
+        for next in self.start.saturating_add(1)..self.end {
+            let at = match drawing.spots.get(next as usize) {
+                Some(spot) => spot.file_place(),
+                None => self.at,
+            };
+            drawing.join(last, next, at)?;
+            last = next;
+        }
+        match &self.closing {
+            Some(position) if last != self.start => {
+                drawing.join(last, self.start, position.spot.file_place())
+            }
+            _ => Ok(()),
+        }
+    }
+
+    /// Asks for a ring's three corners, and its end at the first of them.
+    fn check_ring(&self) -> Result<(), FileFault> {
+        if self.closing.is_none() || self.end.saturating_sub(self.start) < 3 {
+            return Err(FileFault::in_place(self.at, Reason::OpenRing));
+        }
+        Ok(())
+    }
+
+    fn draw(&self, kind: LineKind, drawing: &mut Drawing) -> Result<(), FileFault> {
+        match kind {
+            LineKind::Points => match &self.closing {
+                Some(position) => position.draw(drawing),
+                None => Ok(()),
+            },
+            LineKind::Path => self.join(drawing),
+            LineKind::Ring => {
+                self.check_ring()?;
+                self.join(drawing)
+            }
+        }
+    }
+}
+
+/// The lines of a geometry as far as they were read.
+#[derive(Drop)]
+pub(crate) struct Shape {
+    lines: Vec<WholeLine>,
+    open: Option<OpenLine>,
+}
+
+impl Shape {
+    pub(crate) fn new(alloc: Global) -> Self {
+        Shape {
+            lines: Vec::new(alloc),
+            open: None,
+        }
+    }
+
+    /// Begins another geometry.
+    pub(crate) fn clear(&mut self) {
+        self.lines.clear();
+        self.open = None;
+    }
+
+    /// Takes a position in, behind those of its line.
+    pub(crate) fn add(
+        &mut self,
+        position: GeoPosition,
+        drawing: &mut Drawing,
+    ) -> Result<(), FileFault> {
+        let Some(mut line) = self.open else {
+            let start = drawing.next_place(position.spot.file_place())?;
+            position.draw(drawing)?;
+            self.open = Some(OpenLine {
+                start,
+                first: position,
+                last: None,
+            });
+            return Ok(());
+        };
+        if let Some(last) = line.last {
+            last.draw(drawing)?;
+        }
+        line.last = Some(position);
+        self.open = Some(line);
+        Ok(())
+    }
+
+    /// Ends the line, if it has a position.
+    pub(crate) fn end_line(&mut self, drawing: &mut Drawing) -> Result<(), FileFault> {
+        let Some(line) = self.open else {
+            return Ok(());
+        };
+        self.open = None;
+        let at = line.first.spot.file_place();
+        let mut closing = None;
+        if let Some(last) = line.last {
+            if last.is_equal(&line.first) {
+                closing = Some(last);
+            } else {
+                last.draw(drawing)?;
+            }
+        }
+        let end = drawing.next_place(at)?;
+        self.lines.push(WholeLine {
+            at,
+            start: line.start,
+            end,
+            closing,
+        })?;
+        Ok(())
+    }
+
+    /// Makes of each line what its type says.
+    pub(crate) fn draw(&self, kind: LineKind, drawing: &mut Drawing) -> Result<(), FileFault> {
+        for line in &self.lines {
+            line.draw(kind, drawing)?;
+        }
+        Ok(())
+    }
+}
