@@ -28,3 +28,4 @@ pub mod JoinedHalves
 pub mod JoiningData
 pub mod Settling
 pub mod JoinedPath
+pub mod OnePieceAdded

@@ -3,20 +3,22 @@ ghost use Rattle.std.specs.Prelude.{◌≡◌, ◌≢◌, ◌⊎◌, ◌↔◌, 
 ghost use Rattle.std.specs.Prelude.{length, map, All, Contains, IsTrue, IsOk, IfOk, OnErr, OnOk};
 ghost use Rattle.half_edge_links.specs.declared.room.TheConstants.{MAX_ELEMENTS};
 ghost use Rattle.half_edge_mesh.specs.Mesh.{origin, rev};
+ghost use Rattle.plane.specs.Pairs.{SamePairs};
 ghost use Rattle.plane.specs.Plain.{Adds, CanAdd, Releases};
-ghost use Rattle.delaunay_edit.specs.Constrained.{constrained, constraint_edges};
+ghost use Rattle.delaunay_edit.specs.Constrained.{constrained, constraint_edges, constraints_of};
 ghost use Rattle.delaunay_edit.specs.ConstraintEdits.{AddsConstraint, AddsPathIfFree, FreesEdge};
 ghost use Rattle.delaunay_edit.specs.ConstraintEdits.{MarksEdges, MayJoin, MayRelease};
 ghost use Rattle.delaunay_edit.specs.ConstraintEdits.{ReleasesConstraint};
+ghost use Rattle.delaunay_edit.specs.Counting.{HasPairs, IsMissing};
 ghost use Rattle.delaunay_edit.specs.Headline.{IsDelaunay};
 
 use crate::counting::count_missing;
 use crate::edited_mesh::ConstrainedMesh;
 use delaunay_core::math::PlaneTests;
 use delaunay_core::point::HasPosition;
-use delaunay_legalization::EdgeConstraints;
+use delaunay_legalization::{EdgeConstraints, is_constraint_edge};
 use delaunay_paths::{
-    add_constraints, can_add_path, edges_along, is_path_constrained, release_constraint,
+    add_constraints, can_add_path, constrain_edge, edge_if_joined, edges_along, release_constraint,
 };
 use half_edge_mesh::{FixedDirectedEdgeHandle, FixedUndirectedEdgeHandle, FixedVertexHandle};
 use std::alloc::AllocError;
@@ -37,15 +39,39 @@ impl<V: HasPosition, DE, UE, F> ConstrainedMesh<V, DE, UE, F> {
         can_add_path::<EdgeConstraints, _, _, _, _, _>(&self.dcel, from, to, tests)
     }
 
-    // Adds the path between two vertices, or a refusal that changes nothing.
+    // Makes an edge a constraint, unless it is one, and tells whether it was none. No edge is turned
+    // for it, so it takes no memory.
+    fn constrain(&mut self, edge: FixedDirectedEdgeHandle) -> bool
+        requires { edge < length self.old.directed }
+        ensures plain { let m = self.old.mesh in Adds V.place (constrained self.old)
+            (constrained self.new) (origin m edge) (origin m (rev edge)) }
+        ensures told { IsTrue result ↔
+            (¬ SamePairs (constraints_of self.old) (constraints_of self.new)) }
+        ensures none_made { (¬ IsTrue result) → self.new ≡ self.old }
+        ensures data { MarksEdges self.old self.new }
+        ensures mesh { self.new.mesh ≡ self.old.mesh }
+    {
+        self.recall_invariant();
+        if is_constraint_edge::<EdgeConstraints, _, _, _, _>(&self.dcel, edge.as_undirected()) {
+            return false;
+        }
+        constrain_edge::<EdgeConstraints, _, _, _, _>(&mut self.dcel, edge);
+        self.num_constraints += 1;
+        true
+    }
+
+    // Adds the path between two vertices, of which so many pieces are no constraints, or a refusal
+    // that changes nothing.
     fn add_path<P: PlaneTests<V::Scalar>>(
         &mut self,
         from: FixedVertexHandle,
         to: FixedVertexHandle,
+        missing: usize,
         tests: &P,
     ) -> Result<(), AllocError>
-        requires from_in { from < length self.old.vertices }
-        requires to_in { to < length self.old.vertices }
+        requires within { (from < length self.old.vertices) × (to < length self.old.vertices) }
+        requires missing { HasPairs (IsMissing (map V.place self.old.vertices)
+            (constraints_of self.old) from to) missing }
         requires free { CanAdd V.place (constrained self.old) from to }
         requires sites { All (P.sites tests.now) (map V.place self.old.vertices) }
         requires few { length self.old.vertices ≤ MAX_ELEMENTS }
@@ -55,7 +81,6 @@ impl<V: HasPosition, DE, UE, F> ConstrainedMesh<V, DE, UE, F> {
         ensures err { OnErr result (self.new ≡ self.old) }
     {
         self.work.reserve(3 * self.dcel.num_vertices())?;
-        let missing = count_missing::<EdgeConstraints, _, _, _, _, _>(&self.dcel, from, to, tests);
         let mut flips = 0;
         add_constraints::<EdgeConstraints, _, _, _, _, _>(
             &mut self.dcel,
@@ -86,13 +111,36 @@ impl<V: HasPosition, DE, UE, F> ConstrainedMesh<V, DE, UE, F> {
         ensures headline { IsDelaunay V.place constraint_edges self.new }
     {
         self.recall_invariant();
-        if is_path_constrained::<EdgeConstraints, _, _, _, _, _>(&self.dcel, from, to, tests) {
+        if let Some(edge) = edge_if_joined(&self.dcel, from, to) {
+            let made = self.constrain(edge);
+            self.recall_invariant();
+            return Ok(made);
+        }
+        let missing = count_missing::<EdgeConstraints, _, _, _, _, _>(&self.dcel, from, to, tests);
+        if missing == 0 {
             return Ok(false);
         }
-        let added = self.add_path(from, to, tests);
+        let added = self.add_path(from, to, missing, tests);
         self.recall_invariant();
         added?;
         Ok(true)
+    }
+
+    // An edge, which becomes a constraint, in a list of its own.
+    fn constrain_alone(
+        &mut self,
+        edge: FixedDirectedEdgeHandle,
+    ) -> Result<Vec<FixedDirectedEdgeHandle>, AllocError>
+        requires { edge < length self.old.directed }
+        ensures path { let m = self.old.mesh in IfOk result (λ edges. AddsPathIfFree V.place
+            (origin m edge) (origin m (rev edge)) edges.items self.old self.new) }
+        ensures err { OnErr result (self.new ≡ self.old) }
+    {
+        self.recall_invariant();
+        let mut edges = Vec::new(*self.work.allocator());
+        edges.push(edge)?;
+        self.constrain(edge);
+        Ok(edges)
     }
 
     // The edges of the path between two vertices, which becomes constraints.
@@ -110,9 +158,13 @@ impl<V: HasPosition, DE, UE, F> ConstrainedMesh<V, DE, UE, F> {
         ensures err { OnErr result (self.new ≡ self.old) }
     {
         self.recall_invariant();
+        if let Some(edge) = edge_if_joined(&self.dcel, from, to) {
+            return self.constrain_alone(edge);
+        }
         let mut edges = Vec::new(*self.work.allocator());
         edges.reserve(self.num_vertices())?;
-        self.add_path(from, to, tests)?;
+        let missing = count_missing::<EdgeConstraints, _, _, _, _, _>(&self.dcel, from, to, tests);
+        self.add_path(from, to, missing, tests)?;
         self.recall_invariant();
         edges_along(&self.dcel, from, to, tests, &mut edges);
         Ok(edges)

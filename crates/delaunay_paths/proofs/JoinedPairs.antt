@@ -1,5 +1,4 @@
--- The constraint between two vertices, by the edge between them; a path whose pieces are
--- constraints.
+-- The constraint between two vertices, by the edge between them.
 use Rattle.std.proofs.Common.{◌≡◌, ◌≢◌, ◌↔◌, ◌*◌, ◌/◌, ◌<◌, ◌∙◌}
 use Rattle.std.proofs.Common.{ℕ, List, length, refl, sym, ap, subst, inl, inr, arith}
 use Rattle.std.specs.Prelude.{Bool, Contains}
@@ -8,16 +7,13 @@ use Rattle.half_edge_mesh.specs.Mesh.{origin, rev}
 use Rattle.half_edge_links.proofs.Lists.Rev.{rev-rev, rev_within}
 use Rattle.half_edge_mesh.specs.Contents.{Contents}
 use Rattle.plane.specs.Fraction.{Point}
-use Rattle.plane.specs.Pairs.{Joins, IsSamePair, IsIndex}
-use Rattle.plane_segments.specs.Constraints.{AreNextOn, ArePlacedApart}
-use Rattle.plane_segments.proofs.Constraints.Adding.{IsAddingPath, adding_goes_on, adding_ends}
+use Rattle.plane.specs.Pairs.{Joins, IsSamePair}
 use Rattle.mesh_embedding.proofs.MeshLegal.{joins_edge, same_joined}
 use Rattle.delaunay_legalization.specs.Constraints.{marked_edges, constraint_pairs}
 use Rattle.delaunay_legalization.specs.Shape.{IsTriangulated}
 use Rattle.delaunay_legalization.specs.State.{state_of}
 use Rattle.delaunay_legalization.proofs.Constraints.{is_constraint_edge}
 use Rattle.delaunay_legalization.proofs.MarkedPairs.{JoinsByMark, mark_joins, same_as_third}
-use Rattle.delaunay_paths.specs.PathEdges.{AreJoinedAlong}
 use Rattle.delaunay_paths.proofs.AddingPieces.{half_ends}
 use Rattle.delaunay_paths.proofs.Releasing.{one_edge, double}
 
@@ -69,26 +65,3 @@ module _ {V D U F : Type 0} (at : V → Point) (marks : U → Bool) (constraints
       go : JoinsByMark marks constraints marked c.mesh c.undirected a b → ⊥
       go j = at_ends j.edge (double at c kept j.edge
           (slice_get_within c.undirected j.edge j.is.value j.is.has)) j.ends
-
--- ---- a path whose pieces are pairs of a list
-module _ (points : List Point) (distinct : ArePlacedApart points) (pairs : List (ℕ × ℕ)) (i j w : ℕ)
-    (hi : IsIndex points i) (hj : IsIndex points j)
-    (p : IsAddingPath points pairs pairs i j w) where
-  -- where j is reached, each piece of the path is one of the pairs
-  pub all_joined : w ≡ j → AreJoinedAlong points pairs i j
-  all_joined is a b next =
-      (adding_ends points distinct pairs pairs i j w hi hj p is a b).1 (inr next)
-
-  module _ (v : ℕ) (on_way : w ≢ j) (next : AreNextOn points w j w v) where
-    -- where the next piece is one of the pairs, the path goes on from its end
-    pub joined_further : Joins pairs w v → IsAddingPath points pairs pairs i j v
-    joined_further here =
-        adding_goes_on points distinct pairs pairs i j w hi hj p v on_way next pairs
-        (λ a b. (
-          (λ x. inl x),
-          (λ x. elim x [ inl y ↦ y | inr s ↦ same_joined pairs a b w v s here ]),
-        ))
-
-    -- where the next piece is none of them, not all pieces are
-    pub one_not_joined : ¬ Joins pairs w v → ¬ AreJoinedAlong points pairs i j
-    one_not_joined not all = not (all w v (p.rest w v next))

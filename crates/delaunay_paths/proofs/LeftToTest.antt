@@ -147,7 +147,7 @@ module _ (m : Mesh) (s : IsValidMesh m) (e : ℕ) (can : IsFlippable m e) (after
 module _ (points : List Point) (m : Mesh) (s : IsValidMesh m) (shape : IsMesh points (faces_of m)
     (outer_of m)) (i j : ℕ) (apart : ¬ (point_at points i ≡ point_at points j)) where
   -- where the segment is an edge, none crosses it
-  none_crosses : IsEdge (drawn points m) i j → (u v : ℕ) → IsEdge (drawn points m) u v →
+  pub none_crosses : IsEdge (drawn points m) i j → (u v : ℕ) → IsEdge (drawn points m) u v →
       ¬ Cross (place points i) (place points j) (place points u) (place points v)
   none_crosses edge u v other x = not_start (point_at points i) (point_at points j) apart
       (within_segment-same (place points i) (place points j) x.at (place points i)

@@ -12,3 +12,4 @@ pub mod Releasing
 pub mod Marks
 pub mod ListingPath
 pub mod JoinedPairs
+pub mod OnePiece

@@ -13,7 +13,7 @@ ghost use Rattle.delaunay_paths.specs.Adding.{MarksEdge};
 ghost use Rattle.delaunay_paths.specs.Leaving.{IsWorkList, LeavesToTest};
 
 use crate::flips::make_edge;
-use crate::joined::edge_between;
+use crate::joined::{edge_between, edge_if_joined};
 use crate::path::{is_same_vertex, next_on_path};
 use delaunay_core::math::PlaneTests;
 use delaunay_core::point::HasPosition;
@@ -21,7 +21,8 @@ use delaunay_legalization::{ConstraintMarker, make_constraint};
 use delaunay_lines::ConflictingEdgesIterator;
 use half_edge_mesh::{Dcel, FixedUndirectedEdgeHandle, FixedVertexHandle};
 
-/// Whether no constraint crosses the segment between two vertices.
+/// Whether no constraint crosses the segment between two vertices. Where an edge joins them, a look
+/// round the first tells.
 pub fn can_add_path<M: ConstraintMarker<UE>, V: HasPosition, DE, UE, F, P: PlaneTests<V::Scalar>>(
     dcel: &Dcel<V, DE, UE, F>,
     from: FixedVertexHandle,
@@ -35,6 +36,9 @@ pub fn can_add_path<M: ConstraintMarker<UE>, V: HasPosition, DE, UE, F, P: Plane
 
     ensures { IsTrue result ↔ CanAddPath V.place M.constraints dcel.now from to }
 {
+    if edge_if_joined(dcel, from, to).is_some() {
+        return true;
+    }
     let mut conflicts = ConflictingEdgesIterator::<M, _, _, _, _, _>::between_vertices(
         dcel, from, to, tests,
     );
@@ -42,7 +46,7 @@ pub fn can_add_path<M: ConstraintMarker<UE>, V: HasPosition, DE, UE, F, P: Plane
 }
 
 // Makes an edge a constraint, unless it is one.
-fn mark<M: ConstraintMarker<UE>, V, DE, UE, F>(
+pub(crate) fn mark<M: ConstraintMarker<UE>, V, DE, UE, F>(
     dcel: &mut Dcel<V, DE, UE, F>,
     edge: FixedUndirectedEdgeHandle,
 )

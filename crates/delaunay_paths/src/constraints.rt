@@ -1,17 +1,18 @@
 //! Constraints that are added and released, with each other edge legal afterwards.
 ghost use Rattle.std.specs.Prelude.{◌≡◌, ◌*◌, ◌<◌, ◌≤◌, ◌∷◌, []};
 ghost use Rattle.std.specs.Prelude.{true, length, map, All, Contains, vec_capacity};
+ghost use Rattle.half_edge_mesh.specs.Mesh.{origin, rev};
 ghost use Rattle.delaunay_legalization.specs.Flips.{CountsFlips, FlipsFit};
 ghost use Rattle.delaunay_legalization.specs.Shape.{IsDelaunayTriangulation};
 ghost use Rattle.delaunay_legalization.specs.State.{state_of};
 ghost use Rattle.delaunay_paths.specs.Adding.{HasFreeWay};
 ghost use Rattle.delaunay_paths.specs.Releasing.{AddsConstraints, ReleasesEdge};
 
-use crate::adding::add_path;
+use crate::adding::{add_path, mark};
 use delaunay_core::math::PlaneTests;
 use delaunay_core::point::HasPosition;
 use delaunay_legalization::{ConstraintMarker, free_edge, legalize};
-use half_edge_mesh::{Dcel, FixedUndirectedEdgeHandle, FixedVertexHandle};
+use half_edge_mesh::{Dcel, FixedDirectedEdgeHandle, FixedUndirectedEdgeHandle, FixedVertexHandle};
 
 /// Adds the pieces of the path between two vertices, whose segment no constraint crosses, to the
 /// constraints, and flips edges that fail the circle test until none does. `work` has room for each
@@ -46,6 +47,23 @@ pub fn add_constraints<
     add_path::<M, _, _, _, _, _>(dcel, from, to, tests, work);
     legalize::<M, _, _, _, _, _>(dcel, tests, work, flips);
     dcel.recall_invariant();
+}
+
+/// Makes an edge a constraint, unless it is one. No edge is turned for it.
+pub fn constrain_edge<M: ConstraintMarker<UE>, V: HasPosition, DE, UE, F>(
+    dcel: &mut Dcel<V, DE, UE, F>,
+    edge: FixedDirectedEdgeHandle,
+)
+    requires can_mark { M.can_mark ≡ true }
+    requires within { edge < length dcel.old.directed }
+    requires legal { IsDelaunayTriangulation V.place M.constraints (state_of dcel.old) }
+
+    ensures adds { let m = dcel.old.mesh in
+        AddsConstraints V.place M.marks M.marked M.constraints dcel.old dcel.new (origin m edge)
+        (origin m (rev edge)) }
+    ensures mesh { dcel.new.mesh ≡ dcel.old.mesh }
+{
+    mark::<M, _, _, _, _>(dcel, edge.as_undirected());
 }
 
 // Puts an edge into a work list, in place of what was there.

@@ -1,5 +1,6 @@
 //! Edges and constraints between two vertices, by a look round the first.
-ghost use Rattle.std.specs.Prelude.{◌≡◌, ◌↔◌, ◌<◌, length, map, All, IsTrue};
+ghost use Rattle.std.specs.Prelude.{◌≡◌, ◌≢◌, ◌↔◌, ◌<◌, ℕ};
+ghost use Rattle.std.specs.Prelude.{length, IsTrue, IfNone, IfSome};
 ghost use Rattle.half_edge_mesh.specs.Mesh.{origin, rev};
 ghost use Rattle.half_edge_mesh.specs.Contents.{IsMeshWithData};
 ghost use Rattle.plane.specs.Pairs.{Joins};
@@ -7,13 +8,31 @@ ghost use Rattle.mesh_embedding.specs.Drawn.{edges_of};
 ghost use Rattle.delaunay_legalization.specs.Constraints.{constraints_by};
 ghost use Rattle.delaunay_legalization.specs.Shape.{IsTriangulated};
 ghost use Rattle.delaunay_legalization.specs.State.{state_of};
-ghost use Rattle.delaunay_paths.specs.PathEdges.{AreJoinedAlong};
 
-use crate::adding::next_piece;
-use delaunay_core::math::PlaneTests;
 use delaunay_core::point::HasPosition;
 use delaunay_legalization::{ConstraintMarker, is_constraint_edge};
 use half_edge_mesh::{Dcel, FixedDirectedEdgeHandle, FixedVertexHandle, MeshViews};
+
+/// The edge from one vertex to another, if there is one, by a look round the first.
+pub fn edge_if_joined<V, DE, UE, F>(
+    dcel: &Dcel<V, DE, UE, F>,
+    from: FixedVertexHandle,
+    to: FixedVertexHandle,
+) -> Option<FixedDirectedEdgeHandle>
+    requires { from < length dcel.now.vertices }
+
+    ensures some { let m = dcel.now.mesh in
+        IfSome result (λ h. (h < length dcel.now.directed) × (origin m h ≡ from) ×
+        (origin m (rev h) ≡ to)) }
+    ensures none { let m = dcel.now.mesh in
+        IfNone result ((h : ℕ) → h < length dcel.now.directed → origin m h ≡ from →
+        origin m (rev h) ≢ to) }
+{
+    match dcel.get_edge_from_neighbors(from, to) {
+        Some(edge) => Some(edge.fix()),
+        None => None,
+    }
+}
 
 // The edge from one vertex to another, which are joined.
 pub(crate) fn edge_between<V, DE, UE, F>(
@@ -49,32 +68,4 @@ pub fn is_constraint_between<M: ConstraintMarker<UE>, V: HasPosition, DE, UE, F>
         Some(edge) => is_constraint_edge::<M, _, _, _, _>(dcel, edge.fix().as_undirected()),
         None => false,
     }
-}
-
-/// Whether each piece of the path between two vertices is a constraint.
-pub fn is_path_constrained<
-    M: ConstraintMarker<UE>,
-    V: HasPosition,
-    DE,
-    UE,
-    F,
-    P: PlaneTests<V::Scalar>,
->(dcel: &Dcel<V, DE, UE, F>, from: FixedVertexHandle, to: FixedVertexHandle, tests: &P) -> bool
-    requires from_in { from < length dcel.now.vertices }
-    requires to_in { to < length dcel.now.vertices }
-    requires kept { IsTriangulated V.place (state_of dcel.now) }
-    requires sites { All (P.sites tests.now) (map V.place dcel.now.vertices) }
-
-    ensures { IsTrue result ↔
-        AreJoinedAlong (map V.place dcel.now.vertices)
-        (constraints_by M.constraints (state_of dcel.now)) from to }
-{
-    let mut at = from;
-    while let Some(next) = next_piece(dcel, at, to, tests) {
-        if !is_constraint_between::<M, _, _, _, _>(dcel, at, next) {
-            return false;
-        }
-        at = next;
-    }
-    true
 }

@@ -13,8 +13,8 @@ mod path_edges;
 
 // For the crates of edits and for tests, and not for users.
 pub use adding::{add_path, can_add_path};
-pub use constraints::{add_constraints, release_constraint};
+pub use constraints::{add_constraints, constrain_edge, release_constraint};
 pub use flips::make_edge;
-pub use joined::{is_constraint_between, is_path_constrained};
+pub use joined::{edge_if_joined, is_constraint_between};
 pub use path::next_on_path;
 pub use path_edges::edges_along;

@@ -1,18 +1,19 @@
-use Rattle.std.proofs.Common.{◌<◌, ◌≤◌, length, refl, sym, ap, subst, arith}
+use Rattle.std.proofs.Common.{◌<◌, ◌≤◌, length, map, refl, sym, ap, subst, arith}
 use Rattle.half_edge_links.specs.declared.room.TheConstants.{MAX_ELEMENTS}
 use Rattle.delaunay_legalization.specs.CdtEdge.{is_constraint}
 use Rattle.plane.specs.Plain.{CanAdd}
 use Rattle.delaunay_legalization.specs.State.{state_of}
-use Rattle.delaunay_edit.specs.Constrained.{constrained, constraint_edges}
+use Rattle.delaunay_edit.specs.Constrained.{constrained, constraint_edges, constraints_of}
 use Rattle.delaunay_edit.specs.ConstraintEdits.{MarksEdges}
+use Rattle.delaunay_edit.specs.Counting.{HasPairs, IsMissing}
 use Rattle.delaunay_edit.proofs.EditingConstraints.{edges_marked}
 use Rattle.delaunay_edit.proofs.Recounted.{counted_added, room_for_added}
 use Rattle.delaunay_edit.proofs.constraint_edits.ConstrainedMesh+V+DE+UE+F.add_path.Goals as goal
 
 pub add_constraints-requires-clause-way : goal.add_constraints-requires-clause-way
 add_constraints-requires-clause-way g c = record {
-  from = subst (λ s. c.args.from < length s.vertices) (sym c.self.view_is) c.requires.from_in;
-  to = subst (λ s. c.args.to < length s.vertices) (sym c.self.view_is) c.requires.to_in;
+  from = subst (λ s. c.args.from < length s.vertices) (sym c.self.view_is) c.requires.within.0;
+  to = subst (λ s. c.args.to < length s.vertices) (sym c.self.view_is) c.requires.within.1;
   free = subst (λ s. CanAdd g.V.HasPosition.place (constrained s) c.args.from c.args.to)
       (sym c.self.view_is)
       c.requires.free;
@@ -31,8 +32,10 @@ overflow_add-self g c =
     room_for_added g.V.HasPosition.place is_constraint constraint_edges (λ ds. refl)
     (state_of c.self.inside.dcel)
     (state_of c.add_constraints.new.dcel) c.self.inside.num_constraints c.self.invariant
-    c.add_constraints.ensures.adds.legal c.args.from c.args.to c.count_missing-missing.result
-    c.add_constraints.ensures.adds.plain c.count_missing-missing.ensures in
+    c.add_constraints.ensures.adds.legal c.args.from c.args.to c.args.missing
+    c.add_constraints.ensures.adds.plain
+    (subst (λ s. HasPairs (IsMissing (map g.V.HasPosition.place s.vertices) (constraints_of s)
+    c.args.from c.args.to) c.args.missing) (sym c.self.view_is) c.requires.missing) in
     let same = ap length c.add_constraints.ensures.adds.plain.vertices in
     let few = subst (λ s. length s.vertices ≤ MAX_ELEMENTS) (sym c.self.view_is) c.requires.few in
     omega (arith, room, same, few)
@@ -42,5 +45,7 @@ invariant_of-self-2 g c =
     counted_added g.V.HasPosition.place is_constraint constraint_edges (λ ds. refl)
     (state_of c.self.inside.dcel)
     (state_of c.add_constraints.new.dcel) c.self.inside.num_constraints c.self.invariant
-    c.add_constraints.ensures.adds.legal c.args.from c.args.to c.count_missing-missing.result
-    c.add_constraints.ensures.adds.plain c.count_missing-missing.ensures
+    c.add_constraints.ensures.adds.legal c.args.from c.args.to c.args.missing
+    c.add_constraints.ensures.adds.plain
+    (subst (λ s. HasPairs (IsMissing (map g.V.HasPosition.place s.vertices) (constraints_of s)
+    c.args.from c.args.to) c.args.missing) (sym c.self.view_is) c.requires.missing)

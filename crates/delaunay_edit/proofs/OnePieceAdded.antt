@@ -1,0 +1,159 @@
+-- An edge that becomes a constraint, alone or as a path, and paths of which no piece is missing.
+use Rattle.std.proofs.Common.{◌≡◌, ◌≢◌, ◌↔◌, ◌/◌, ◌<◌, [], ◌∷◌, ◌∙◌}
+use Rattle.std.proofs.Common.{ℕ, Bool, false, List, length, map}
+use Rattle.std.proofs.Common.{refl, sym, subst, subst₂, inl, inr, arith}
+use Rattle.std.specs.Prelude.{Contains, IsTrue, Result, Ok}
+use Rattle.half_edge_mesh.specs.Mesh.{Mesh, origin, rev}
+use Rattle.half_edge_mesh.specs.Contents.{Contents}
+use Rattle.plane.specs.Fraction.{Point}
+use Rattle.plane.specs.Pairs.{IsSamePair, Joins, SamePairs}
+use Rattle.plane.specs.Plain.{Adds}
+use Rattle.plane.proofs.Indexes.{same_joined}
+use Rattle.plane_edits.proofs.Legalization.Flipping.{joins_or_not}
+use Rattle.plane_tiling.proofs.Totals.{Contains-head}
+use Rattle.mesh_embedding.proofs.EdgePairs.{no_joins}
+use Rattle.delaunay_legalization.specs.declared.cdt_edge.CdtEdge.{CdtEdge}
+use Rattle.delaunay_legalization.specs.CdtEdge.{is_constraint}
+use Rattle.delaunay_legalization.specs.Shape.{IsTriangulated}
+use Rattle.delaunay_legalization.specs.State.{State, state_of}
+use Rattle.delaunay_paths.specs.PathEdges.{AreJoinedAlong, LeadAlong}
+use Rattle.delaunay_paths.proofs.JoinedPairs.{edge_joins}
+use Rattle.delaunay_paths.proofs.OnePiece.{edge_is_free, edge_is_next, ends_apart, first_in}
+use Rattle.delaunay_paths.proofs.OnePiece.{one_piece, second_in}
+use Rattle.delaunay_edit.specs.Constrained.{constrained, constraint_edges, constraints_of}
+use Rattle.delaunay_edit.specs.ConstraintEdits.{AddsConstraint, AddsPathIfFree, MarksEdges}
+use Rattle.delaunay_edit.specs.Counting.{HasPairs, IsMissing}
+use Rattle.delaunay_edit.proofs.EditingConstraints.{nothing_added}
+use Rattle.delaunay_edit.proofs.PairCounts.{has_pairs_as, no_pairs, one_more}
+
+-- ---- how many pieces are missing
+-- an empty list joins nothing
+no_pair : (ps : List (ℕ × ℕ)) → length ps ≡ 0 → (a b : ℕ) → ¬ Joins ps a b
+no_pair [] e a b h = no_joins a b h
+no_pair (p ∷ ps) e a b h = absurd (omega (arith, e))
+
+-- a list with an entry joins two
+some_pair : (ps : List (ℕ × ℕ)) → length ps ≢ 0 → (a : ℕ) × (b : ℕ) × Joins ps a b
+some_pair [] some = absurd (some refl)
+some_pair (p ∷ ps) some = (p.0, p.1, inl (Contains-head p ps))
+
+module _ (points : List Point) (pairs : List (ℕ × ℕ)) (i j n : ℕ)
+    (has : HasPairs (IsMissing points pairs i j) n) where
+  -- where none is missing, each is a pair of the list
+  pub none_missing : n ≡ 0 → AreJoinedAlong points pairs i j
+  none_missing none a b next = elim (joins_or_not pairs a b) [
+    | inl joined ↦ joined
+    | inr free ↦ absurd (no_pair has.pairs (has.count ∙ none) a b ((has.exact a b).1 (next, free)))
+  ]
+
+  -- where some are, not each is
+  pub some_missing : n ≢ 0 → ¬ AreJoinedAlong points pairs i j
+  some_missing some all =
+      let p = some_pair has.pairs (λ e. some (sym has.count ∙ e)) in
+      let m = (has.exact p.0 p.1).0 p.2 in
+      m.1 (all p.0 p.1 m.0)
+
+-- ---- an edge becomes a constraint
+module _ {V D U F : Type 0} (place : V → Point) (d : Contents V D (CdtEdge U) F)
+    (kept : IsTriangulated place (state_of d)) (h : ℕ)
+    (within : h < length d.mesh.half_edges) where
+  abbrev points : List Point
+  points = map place d.vertices
+
+  abbrev pairs : List (ℕ × ℕ)
+  pairs = constraints_of (state_of d)
+
+  abbrev i : ℕ
+  i = origin d.mesh h
+
+  abbrev j : ℕ
+  j = origin d.mesh (rev h)
+
+  joins_if : Contains (constraint_edges d.undirected) (h / 2) ↔ Joins pairs i j
+  joins_if = edge_joins place is_constraint constraint_edges (λ ds. refl) d kept i j h within refl
+      refl
+
+  -- one that is a constraint is the whole path
+  pub one_joined : Contains (constraint_edges d.undirected) (h / 2) → AreJoinedAlong points pairs i j
+  one_joined there a b next = same_joined pairs a b i j
+      ((one_piece place (state_of d) kept h within a b).0 next) (joins_if.0 there)
+
+  -- and nothing is added
+  pub none_added : Contains (constraint_edges d.undirected) (h / 2)
+      → AddsConstraint place {E = ℕ} i j (Ok false) (state_of d) (state_of d)
+  none_added there = nothing_added place (state_of d) i j (Ok false) refl
+      (first_in place (state_of d) kept h within) (second_in place (state_of d) kept h within)
+      (edge_is_free place (state_of d) kept h within is_constraint constraint_edges (λ ds. refl))
+      (one_joined there)
+
+  module _ (free : ¬ Contains (constraint_edges d.undirected) (h / 2)) where
+    -- of one that is none, one piece is missing
+    pub one_missing : HasPairs (IsMissing points pairs i j) 1
+    one_missing = has_pairs_as (one_more (no_pairs {J = λ _ _. ⊥} (λ a b n. n)) i j (λ n. n)) (λ a b. (
+      (λ x. elim x [
+        | inl none ↦ absurd none
+        | inr same ↦ (
+          (one_piece place (state_of d) kept h within a b).1 same,
+          (λ joined. free (joins_if.1 (joined_back a b same joined))),
+        )
+      ]),
+      (λ m. inr ((one_piece place (state_of d) kept h within a b).0 m.0)),
+    ))
+      where
+        joined_back : (a b : ℕ) → IsSamePair a b i j → Joins pairs a b → Joins pairs i j
+        joined_back a b (inl s) x = same_joined pairs i j a b (inl (sym s.0, sym s.1)) x
+        joined_back a b (inr s) x = same_joined pairs i j a b (inr (sym s.1, sym s.0)) x
+
+    -- and it is not joined
+    pub not_joined : ¬ AreJoinedAlong points pairs i j
+    not_joined all =
+        free (joins_if.1 (all i j (edge_is_next place (state_of d) kept h within)))
+
+-- ---- in the words of the edits
+module _ {V D U F : Type 0} (place : V → Point) (old new : State V D (CdtEdge U) F) (h : ℕ)
+    (plain : Adds place (constrained old) (constrained new) (origin old.mesh h)
+    (origin old.mesh (rev h))) (marks : MarksEdges old new) where
+  -- an edge between two vertices was added to the constraints
+  pub edge_told : {E : Type 0} (from to : ℕ) → origin old.mesh h ≡ from
+      → origin old.mesh (rev h) ≡ to → (made : Bool)
+      → IsTrue made ↔ (¬ SamePairs (constraints_of old) (constraints_of new))
+      → ((¬ IsTrue made) → new ≡ old) → (result : Result Bool E) → result ≡ Ok made
+      → AddsConstraint place from to result old new
+  edge_told {E} from to e f made told none result is =
+      subst (λ (r : Result Bool E). AddsConstraint place from to r old new) (sym is) (record {
+        plain = subst₂ (λ (a b : ℕ). Adds place (constrained old) (constrained new) a b) e f plain;
+        told = told;
+        none_made = none;
+        «data» = marks;
+        err = tt;
+      })
+
+  -- the list of the edge alone is the path
+  pub edge_listed : IsTriangulated place old → h < length old.mesh.half_edges
+      → new.mesh ≡ old.mesh → (edges : List ℕ) → edges ≡ h ∷ []
+      → AddsPathIfFree place (origin old.mesh h) (origin old.mesh (rev h)) edges old new
+  edge_listed kept within same edges is = record {
+    refused = λ barred. absurd (elim barred as (λ _. ⊥) [
+      | inl e ↦ ends_apart place old kept h within e
+      | inr n ↦ n plain.free
+    ]);
+    plain = λ apart free. plain;
+    along = λ apart free. subst₂ (λ (vs : List V) (m : Mesh).
+        LeadAlong (map place vs) m (origin old.mesh h) (origin old.mesh (rev h)) edges)
+        (sym plain.vertices) (sym same) (subst (λ (hs : List ℕ). LeadAlong (map place old.vertices)
+        old.mesh (origin old.mesh h) (origin old.mesh (rev h)) hs) (sym is) (
+          within,
+          refl,
+          edge_is_next place old kept h within,
+          refl,
+        ));
+    «data» = marks;
+  }
+
+-- ---- by other names of the ends
+-- the path that is the edge between two vertices
+pub list_renamed : {V D U F : Type 0} (place : V → Point) (old new : State V D (CdtEdge U) F)
+    (edges : List ℕ) (i j k l : ℕ) → i ≡ k → j ≡ l → AddsPathIfFree place i j edges old new
+    → AddsPathIfFree place k l edges old new
+list_renamed place old new edges i j k l e f adds =
+    subst₂ (λ (a b : ℕ). AddsPathIfFree place a b edges old new) e f adds
