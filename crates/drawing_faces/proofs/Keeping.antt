@@ -1,6 +1,6 @@
 -- The faces that are kept, by the layers of all faces.
 use Rattle.std.proofs.Common.{◌≡◌, ◌≢◌, ◌+◌, ◌<◌, [], ◌∷◌, ◌∙◌, ◌⊎◌}
-use Rattle.std.proofs.Common.{ℕ, zero, suc, List, length, map, drop, get_or, true, false, eqb}
+use Rattle.std.proofs.Common.{ℕ, suc, List, length, map, drop, get_or, true, false, eqb}
 use Rattle.std.proofs.Common.{refl, sym, ap, subst, inl, inr, arith, eq-eqb, if◌then◌else◌}
 use Rattle.std.specs.Prelude.{ℤ}
 use Rattle.std.proofs.lemmas.Bool.{cases_eq, ne_eqb}
@@ -50,15 +50,21 @@ module _ (IsOut : ℕ → Type 0) where
           → AreKept IsOut n (map face_of (c ∷ cs)) (map face_of (faces_inside (l ∷ ns) (c ∷ cs)))
       go rest (inl none) =
           let test : eqb l 0 ≡ true = eq-eqb l 0 none in
-          inl (here.0 none, subst (λ b. AreKept IsOut (suc n) (map face_of cs)
-          (map face_of (if b then faces_inside ns cs else c ∷ faces_inside ns cs))) (sym test) rest)
+          inl (
+            here.0 none,
+            subst (λ b. AreKept IsOut (suc n) (map face_of cs)
+                (map face_of (if b then faces_inside ns cs else c ∷ faces_inside ns cs))) (sym test) rest,
+          )
       go rest (inr some) =
           let test : eqb l 0 ≡ false = ne_eqb l 0 some in
-          inr (here.1 some, (
-            map face_of (faces_inside ns cs),
-            ap (λ b. map face_of (if b then faces_inside ns cs else c ∷ faces_inside ns cs)) test,
-            rest,
-          ))
+          inr (
+            here.1 some,
+            (
+              map face_of (faces_inside ns cs),
+              ap (λ b. map face_of (if b then faces_inside ns cs else c ∷ faces_inside ns cs)) test,
+              rest,
+            ),
+          )
 
 by_numbers : (IsOut : ℕ → Type 0) (cs : List FaceCorners) (layers : List ℕ)
     → length layers ≡ length cs + 1

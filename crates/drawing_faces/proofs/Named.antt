@@ -1,6 +1,6 @@
 -- The vertices that insertions of a list of points gave, by the places of their points.
-use Rattle.std.proofs.Common.{◌≡◌, ◌≢◌, ◌⊎◌, ◌<◌, ◌≤◌, [], ◌∷◌, ◌++◌, ◌∙◌}
-use Rattle.std.proofs.Common.{ℕ, zero, suc, List, length, map, get_or, Some}
+use Rattle.std.proofs.Common.{◌≡◌, ◌⊎◌, ◌<◌, ◌≤◌, [], ◌∷◌, ◌∙◌}
+use Rattle.std.proofs.Common.{ℕ, suc, List, length, map, get_or, Some}
 use Rattle.std.proofs.Common.{refl, sym, ap, subst, inl, inr, arith}
 use Rattle.std.specs.Prelude.{ℤ, pos, All, AllPairs, slice_get, slice_index, slice_index_or}
 use Rattle.std.proofs.lemmas.Bool.{cases_eq}
@@ -137,34 +137,34 @@ module _ {D U F : Type 0} (constraints : List U → List ℕ) (points : List (Po
     (handles : List ℕ) (old new : State (Point2 ℤ) D U F)
     (inserts : InsertsAll position constraints points handles old new)
     (none : old.vertices ≡ []) (distinct : AllPairs (DifferInPosition position) new.vertices)
-    where
-  -- each vertex is that of a point
-  pub has_point : (v : ℕ) → v < length new.vertices
-      → (i : ℕ) × (i < length points) × (slice_get handles i ≡ Some v)
-  has_point v below = go (came_from position inserts.order (points_and_constraints_by constraints old)
-      (points_and_constraints_by constraints new) inserts.runs v below)
-    where
-      p : Point
-      p = point_at (map position new.vertices) v
+  where
+    -- each vertex is that of a point
+    pub has_point : (v : ℕ) → v < length new.vertices
+        → (i : ℕ) × (i < length points) × (slice_get handles i ≡ Some v)
+    has_point v below = go (came_from position inserts.order (points_and_constraints_by constraints old)
+        (points_and_constraints_by constraints new) inserts.runs v below)
+      where
+        p : Point
+        p = point_at (map position new.vertices) v
 
-      at_entry : (i : ℕ) (w : Point2 ℤ) → slice_get points i ≡ Some w → position w ≡ p
-          → IsAt position handles new.vertices i w
-          → (j : ℕ) × (j < length points) × (slice_get handles j ≡ Some v)
-      at_entry i w got is at =
-          let one = one_vertex position new.vertices origin distinct at.handle v at.below below
-          (at.here ∙ is) in
-          (i, slice_get_within points i w got, at.given ∙ ap Some one)
+        at_entry : (i : ℕ) (w : Point2 ℤ) → slice_get points i ≡ Some w → position w ≡ p
+            → IsAt position handles new.vertices i w
+            → (j : ℕ) × (j < length points) × (slice_get handles j ≡ Some v)
+        at_entry i w got is at =
+            let one = one_vertex position new.vertices origin distinct at.handle v at.below below
+            (at.here ∙ is) in
+            (i, slice_get_within points i w got, at.given ∙ ap Some one)
 
-      go : IsKnown (map position old.vertices) p ⊎ IsAmong position inserts.order p
-          → (i : ℕ) × (i < length points) × (slice_get handles i ≡ Some v)
-      go (inl known) =
-          let within = known.below in
-          let empty = ap (λ vs. length (map position vs)) none in
-          absurd (omega (arith, within, empty))
-      go (inr (k, within, is)) =
-          let e = get_or inserts.order k (0, origin) in
-          let got = inserts.listed.there k (0, origin) within in
-          at_entry e.0 e.1 got (is (0, origin)) (inserts.handles_are.each e.0 e.1 got)
+        go : IsKnown (map position old.vertices) p ⊎ IsAmong position inserts.order p
+            → (i : ℕ) × (i < length points) × (slice_get handles i ≡ Some v)
+        go (inl known) =
+            let within = known.below in
+            let empty = ap (λ vs. length (map position vs)) none in
+            absurd (omega (arith, within, empty))
+        go (inr (k, within, is)) =
+            let e = get_or inserts.order k (0, origin) in
+            let got = inserts.listed.there k (0, origin) within in
+            at_entry e.0 e.1 got (is (0, origin)) (inserts.handles_are.each e.0 e.1 got)
 
 module _ (points : List (Point2 ℤ)) (handles : List ℕ) (vertices : List (Point2 ℤ))
     (have : HaveHandles position points handles vertices) where

@@ -1,7 +1,7 @@
 -- Segments that are joined one after another: which are taken, and what they join.
 use Rattle.std.proofs.Common.{◌≡◌, ◌⊎◌, ◌↔◌, [], ◌∷◌, ◌∙◌}
 use Rattle.std.proofs.Common.{ℕ, suc, List, map, refl, sym, ap, subst, inl, inr, arith}
-use Rattle.std.specs.Prelude.{Bool, true, false, Result, Ok, Err, IfOk, OnOk, All}
+use Rattle.std.specs.Prelude.{Bool, Result, Ok, Err, IfOk, OnOk, All}
 use Rattle.plane.specs.Fraction.{Point}
 use Rattle.plane.specs.Crossing.{Cross}
 use Rattle.plane.specs.Pairs.{Joins, place}

@@ -1,7 +1,7 @@
 -- From points and segments to faces: what the steps of a drawing's triangulation give together.
 use Rattle.std.proofs.Common.{◌≡◌, ◌⊎◌, ◌↔◌, [], ◌∙◌}
 use Rattle.std.proofs.Common.{ℕ, List, map, sym, subst, inl, inr, arith}
-use Rattle.std.specs.Prelude.{ℤ, Bool, Contains}
+use Rattle.std.specs.Prelude.{ℤ, Bool}
 use Rattle.plane.specs.Pairs.{Joins}
 use Rattle.delaunay_bulk.specs.Bulk.{HaveHandles}
 use Rattle.delaunay_core.specs.declared.point.Point2.{Point2}

@@ -7,9 +7,7 @@ mod error;
 mod faces;
 mod names;
 
-pub use drawn::{
-    DrawnMesh, Plain, PlacedPoints, Site, place_points, triangulate_drawing,
-};
+pub use drawn::{DrawnMesh, PlacedPoints, Plain, Site, place_points, triangulate_drawing};
 pub use edits::{DrawnSegment, add_segments, insert_points};
 pub use error::DrawingError;
 pub use faces::{FaceCorners, Kept, faces_inside, faces_of, kept_faces};
