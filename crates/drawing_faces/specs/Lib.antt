@@ -1,1 +1,4 @@
+pub mod Names
+pub mod Segments
+pub mod Kept
 pub mod Drawing

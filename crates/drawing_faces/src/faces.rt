@@ -1,11 +1,13 @@
 //! The faces of a triangulation.
 ghost use Rattle.std.specs.Prelude.{◌≡◌, ◌<◌, drop, map, IfOk};
 ghost use Rattle.delaunay_legalization.specs.State.{triangulation_of};
+ghost use Rattle.drawing_faces.specs.declared.faces.Kept.TheVariants.{Inside};
+ghost use Rattle.drawing_faces.specs.Kept.{AreKept, IsLeftOut};
+ghost use Rattle.drawing_faces.specs.Names.{position};
 ghost use Rattle.drawing_faces.specs.Drawing.{face_of, faces_inside, indexes_at};
-ghost use Rattle.drawing_faces.specs.Drawing.{position};
 
 use spade_delaunay::handles::FaceHandle;
-use spade_delaunay::{Point2, Triangulation};
+use spade_delaunay::{Point2, Triangulation, face_layers};
 use std::alloc::{AllocError, Global};
 
 /// The vertices of a face, by index, against the clock.
@@ -14,6 +16,15 @@ pub struct FaceCorners {
     pub first: u32,
     pub second: u32,
     pub third: u32,
+}
+
+/// Which faces of a drawing are kept.
+#[derive(Clone, Copy, Debug, PartialEq, Eq)]
+pub enum Kept {
+    /// All.
+    All,
+    /// Those that no way from outside reaches without crossing a constraint.
+    Inside,
 }
 
 /// The corners of an inner face.
@@ -63,4 +74,34 @@ pub fn faces_inside(
         }
     }
     Ok(kept)
+}
+
+/// The faces that no way from outside reaches without crossing a constraint, by rising index.
+fn closed_faces<T: Triangulation<Vertex = Point2<i32>>>(
+    site: &T,
+    alloc: Global,
+) -> Result<Vec<FaceCorners>, AllocError>
+    ensures { IfOk result (λ faces. AreKept (IsLeftOut Inside (T.state site.now).mesh
+        (T.Constraints.constraints (T.state site.now).undirected)) 1
+        (triangulation_of position (T.state site.now)).faces (map face_of faces.items)) }
+{
+    let faces = faces_of(site, alloc)?;
+    let layers = face_layers(site, alloc)?;
+    faces_inside(faces.as_slice(), layers.as_slice(), alloc)
+}
+
+/// The faces that are kept, each once, by rising index.
+pub fn kept_faces<T: Triangulation<Vertex = Point2<i32>>>(
+    site: &T,
+    kept: Kept,
+    alloc: Global,
+) -> Result<Vec<FaceCorners>, AllocError>
+    ensures { IfOk result (λ faces. AreKept (IsLeftOut kept (T.state site.now).mesh
+        (T.Constraints.constraints (T.state site.now).undirected)) 1
+        (triangulation_of position (T.state site.now)).faces (map face_of faces.items)) }
+{
+    match kept {
+        Kept::All => faces_of(site, alloc),
+        Kept::Inside => closed_faces(site, alloc),
+    }
 }

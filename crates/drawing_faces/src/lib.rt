@@ -1,8 +1,13 @@
 //! The constrained Delaunay triangulation of points and segments, and its faces.
 #![tactic(auto)]
 
+mod drawn;
 mod edits;
+mod error;
 mod faces;
+mod names;
 
-pub use edits::{DrawingError, DrawnSegment, add_segments, insert_points};
-pub use faces::{FaceCorners, faces_inside, faces_of};
+pub use drawn::{DrawnMesh, PlacedPoints, Plain, Site, place_points, triangulate_drawing};
+pub use edits::{DrawnSegment, add_segments, insert_points};
+pub use error::DrawingError;
+pub use faces::{FaceCorners, Kept, faces_inside, faces_of, kept_faces};

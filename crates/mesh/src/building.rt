@@ -2,14 +2,11 @@
 use crate::command::Task;
 use crate::crossings::first_crossed;
 use crate::holes::{Site, empty_holes};
-use anyhow::{anyhow, bail};
+use anyhow::anyhow;
 use delaunay_layers::face_layers;
-use drawing_faces::{
-    DrawnSegment, FaceCorners, add_segments, faces_inside, faces_of, insert_points,
-};
+use drawing_faces::{DrawnMesh, DrawnSegment, Kept, triangulate_drawing};
 use mesh_files::{Drawing, Scaled};
-use spade_delaunay::handles::FixedVertexHandle;
-use spade_delaunay::{DelaunayTriangulation, Point2, Triangulation};
+use spade_delaunay::{Point2, Triangulation};
 use std::alloc::{AllocError, Global};
 
 /// Faces and constraints, by the places of their corners and ends in the list of points.
@@ -17,21 +14,6 @@ use std::alloc::{AllocError, Global};
 pub struct Built {
     pub faces: Vec<[u32; 3]>,
     pub walls: Vec<[u32; 2]>,
-}
-
-/// Of each vertex the first point that it is of.
-fn first_points(
-    count: usize,
-    vertices: &[FixedVertexHandle],
-    alloc: Global,
-) -> Result<Vec<u32>, AllocError> {
-    let mut firsts = Vec::from_elem(alloc, u32::MAX, count)?;
-    for (place, vertex) in (0u32..).zip(vertices) {
-        if let Some(first) = firsts.get_mut(vertex.index() as usize) {
-            *first = place.min(*first);
-        }
-    }
-    Ok(firsts)
 }
 
 /// The line of a segment.
@@ -59,29 +41,36 @@ fn crossing(
     }
 }
 
-/// Makes constraints of all segments.
-fn add_all(
-    rt: &(impl Eprint + AllocGlobal),
-    task: &Task<'_>,
-    drawing: &Drawing,
-    points: &[Point2<i32>],
-    vertices: &[FixedVertexHandle],
-    site: &mut Site,
-) -> anyhow::Result<()> {
-    let mut segments = Vec::with_capacity(rt.alloc(), drawing.segments.len())?;
+/// The segments of a drawing, without their lines.
+fn segments_of(drawing: &Drawing, alloc: Global) -> Result<Vec<DrawnSegment>, AllocError> {
+    let mut segments = Vec::with_capacity(alloc, drawing.segments.len())?;
     for segment in &drawing.segments {
         segments.push(DrawnSegment {
             from: segment.from,
             to: segment.to,
         })?;
     }
-    let refused = add_segments(site, segments.as_slice(), vertices, rt.alloc())?;
-    for place in &refused {
+    Ok(segments)
+}
+
+/// Tells which segments were left out, or that one crosses another where that is an error.
+fn tell_left_out(
+    rt: &impl Eprint,
+    task: &Task<'_>,
+    drawing: &Drawing,
+    points: &[Point2<i32>],
+    segments: &[DrawnSegment],
+    taken: &[bool],
+) -> anyhow::Result<()> {
+    for (place, is_taken) in taken.iter().enumerate() {
+        if *is_taken {
+            continue;
+        }
         if !task.skips_crossing {
-            return Err(crossing(drawing, points, segments.as_slice(), *place));
+            return Err(crossing(drawing, points, segments, place));
         }
         if !task.is_quiet {
-            let line = line_at(drawing, *place);
+            let line = line_at(drawing, place);
             eprintln!(rt; "mesh: line {line}: the segment crosses another, and is left out")?;
         }
     }
@@ -108,21 +97,23 @@ fn walls_of(site: &Site, firsts: &[u32], alloc: Global) -> Result<Vec<[u32; 2]>,
     Ok(walls)
 }
 
-/// The faces that are to be written.
-fn kept_faces(
+/// The faces but those that are reached from outside, or from a hole, past no constraint.
+fn faces_without_holes(
     rt: &impl AllocGlobal,
-    task: &Task<'_>,
     drawing: &Drawing,
     scaled: &Scaled,
     site: &Site,
-) -> anyhow::Result<Vec<FaceCorners>> {
-    let faces = faces_of(site, rt.alloc())?;
-    if !task.keeps_inside {
-        return Ok(faces);
-    }
+    faces: &[[u32; 3]],
+) -> anyhow::Result<Vec<[u32; 3]>> {
     let mut layers = face_layers(site, rt.alloc())?;
     empty_holes(site, drawing, scaled, layers.as_mut_slice(), rt.alloc())?;
-    Ok(faces_inside(faces.as_slice(), layers.as_slice(), rt.alloc())?)
+    let mut kept = Vec::new(rt.alloc());
+    for (face, layer) in faces.iter().zip(layers.iter().skip(1)) {
+        if *layer != 0 {
+            kept.push(*face)?;
+        }
+    }
+    Ok(kept)
 }
 
 /// Tells how many there are of each.
@@ -149,25 +140,37 @@ pub fn build(
     scaled: &Scaled,
 ) -> anyhow::Result<Built> {
     let points = scaled.points.as_slice();
-    let mut plain: DelaunayTriangulation<Point2<i32>> = DelaunayTriangulation::new(rt.alloc());
-    let vertices = insert_points(&mut plain, points, rt.alloc())?;
-    let firsts = first_points(plain.num_vertices(), vertices.as_slice(), rt.alloc())?;
-    let Ok(mut site) = Site::from_delaunay(plain) else {
-        bail!("memory was refused");
+    let segments = segments_of(drawing, rt.alloc())?;
+    let has_holes = task.keeps_inside && !scaled.holes.is_empty();
+    let kept = if task.keeps_inside && !has_holes {
+        Kept::Inside
+    } else {
+        Kept::All
     };
-    add_all(rt, task, drawing, points, vertices.as_slice(), &mut site)?;
-    let mut faces = Vec::new(rt.alloc());
-    for face in kept_faces(rt, task, drawing, scaled, &site)? {
-        faces.push([
-            place_of(firsts.as_slice(), face.first),
-            place_of(firsts.as_slice(), face.second),
-            place_of(firsts.as_slice(), face.third),
-        ])?;
-    }
-    let walls = walls_of(&site, firsts.as_slice(), rt.alloc())?;
+    let drawn = triangulate_drawing(points, segments.as_slice(), kept, rt.alloc())?;
+    let DrawnMesh {
+        site,
+        vertices,
+        taken,
+        faces,
+    } = drawn;
+    tell_left_out(
+        rt,
+        task,
+        drawing,
+        points,
+        segments.as_slice(),
+        taken.as_slice(),
+    )?;
+    let faces = if has_holes {
+        faces_without_holes(rt, drawing, scaled, &site, faces.as_slice())?
+    } else {
+        faces
+    };
+    let walls = walls_of(&site, vertices.as_slice(), rt.alloc())?;
     let built = Built { faces, walls };
     if !task.is_quiet {
-        tell_counts(rt, points.len(), site.num_vertices(), &built)?;
+        tell_counts(rt, points.len(), vertices.len(), &built)?;
     }
     Ok(built)
 }

@@ -33,19 +33,23 @@ fn read_form<R: Read + Drop>(
 }
 
 /// Reads the file of a task, or standard input.
-fn read(rt: &HostRuntime, task: &Task<'_>) -> anyhow::Result<Drawing> {
-    let alloc = rt.alloc();
+fn read_points(rt: &HostRuntime, task: &Task<'_>) -> anyhow::Result<Drawing> {
     let Some(file) = task.file else {
-        let reader = BufReader::new(alloc, rt.reader())?;
+        let reader = BufReader::new(rt.alloc(), rt.reader())?;
         return read_form(rt, task.source, reader).context("standard input");
     };
     let opened = fs::open(rt, file).context(format_args!("{file}"))?;
-    let reader = BufReader::new(alloc, opened)?;
-    let mut drawing = read_form(rt, task.source, reader).context(format_args!("{file}"))?;
+    let reader = BufReader::new(rt.alloc(), opened)?;
+    read_form(rt, task.source, reader).context(format_args!("{file}"))
+}
+
+/// Reads what a task names: points, and a table of segments where it names one.
+fn read(rt: &HostRuntime, task: &Task<'_>) -> anyhow::Result<Drawing> {
+    let mut drawing = read_points(rt, task)?;
     if let Some(lines) = task.lines {
         let opened = fs::open(rt, lines).context(format_args!("{lines}"))?;
-        let reader = BufReader::new(alloc, opened)?;
-        read_segments(reader, &mut drawing, alloc).context(format_args!("{lines}"))?;
+        let reader = BufReader::new(rt.alloc(), opened)?;
+        read_segments(reader, &mut drawing, rt.alloc()).context(format_args!("{lines}"))?;
     }
     Ok(drawing)
 }

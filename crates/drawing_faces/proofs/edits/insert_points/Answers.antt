@@ -1,19 +1,11 @@
-use Rattle.drawing_faces.specs.Drawing.{position}
-use Rattle.drawing_faces.proofs.Made.{inserted_run, inserted_vertices}
+use Rattle.std.proofs.Common.{subst}
+use Rattle.delaunay_bulk.specs.Bulk.{InsertsAll}
+use Rattle.drawing_faces.specs.Names.{position}
 use Rattle.drawing_faces.proofs.edits.insert_points.Goals as goal
 
-pub returns-clause-runs : goal.returns-clause-runs
-returns-clause-runs g c =
-    inserted_run position g.T.Constraints.ConstraintMarker.constraints g.T.Replayable.marking
-    (g.T.Triangulation.state c.args.site.now) (g.T.Triangulation.state c.replay.new.points)
-    c.vertices_of.result (λ v. v.items) c.args.points.now c.in_ok-edits.edits.items
-    c.in_ok-outcomes.outcomes.items c.in_ok-edits.ensures c.in_ok-outcomes.ensures.answers
-    c.in_ok-outcomes.ensures.runs c.vertices_of.ensures
-
-pub returns-clause-vertices : goal.returns-clause-vertices
-returns-clause-vertices g c =
-    inserted_vertices position g.T.Constraints.ConstraintMarker.constraints g.T.Replayable.marking
-    (g.T.Triangulation.state c.args.site.now) (g.T.Triangulation.state c.replay.new.points)
-    c.vertices_of.result (λ v. v.items) c.args.points.now c.in_ok-edits.edits.items
-    c.in_ok-outcomes.outcomes.items c.in_ok-edits.ensures c.in_ok-outcomes.ensures.answers
-    c.vertices_of.ensures
+pub returns-clause-inserts : goal.returns-clause-inserts
+returns-clause-inserts g c =
+    subst (λ points. InsertsAll position g.T.Constraints.ConstraintMarker.constraints points
+    c.in_ok-vertices.vertices.items (g.T.Triangulation.state c.args.site.now)
+    (g.T.Triangulation.state c.insert_all.new.self)) c.in_ok-values.ensures
+    c.in_ok-vertices.ensures.inserts

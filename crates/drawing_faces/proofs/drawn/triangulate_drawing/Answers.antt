@@ -1,0 +1,43 @@
+use Rattle.std.proofs.Common.{◌∙◌, map, ap, sym, subst}
+use Rattle.delaunay_bulk.specs.Bulk.{HaveHandles}
+use Rattle.delaunay_interface.specs.Constrained.{constraint_edges}
+use Rattle.drawing_faces.specs.Drawing.{ends_of, face_of}
+use Rattle.drawing_faces.specs.Names.{places_of, position}
+use Rattle.drawing_faces.proofs.Together.{handled, joined_first, named, taken_first}
+use Rattle.drawing_faces.proofs.Keeping.{named_faces}
+use Rattle.drawing_faces.proofs.drawn.triangulate_drawing.Goals as goal
+
+pub returns : goal.returns
+returns c =
+    let points = c.args.points.now in
+    let handles = c.as_slice.result.now in
+    let names = c.in_ok-placed.placed.vertices.items in
+    let segments = map (ends_of handles) c.args.segments.now in
+    let taken = c.in_ok-taken.taken.items in
+    let plain = c.in_ok-placed.placed.plain.vertices in
+    let old = c.in_ok-site.site in
+    let new = c.add_segments.new.site in
+    let corners = c.in_ok-corners.corners.items in
+    let same = c.in_ok-site.ensures.vertices in
+    let none = c.in_ok-site.ensures.none in
+    let adds = c.in_ok-taken.ensures.adds in
+    record {
+      delaunay = c.add_segments.ensures.headline;
+      vertices = named constraint_edges points handles names segments taken plain old new same none
+          adds c.in_ok-placed.ensures.vertices;
+      handles = handles;
+      handles_are = handled constraint_edges points handles names segments taken plain old new same
+          none adds (subst (λ hs. HaveHandles position points hs plain)
+          (sym c.as_slice.ensures.value) c.in_ok-placed.ensures.handles);
+      taken = taken_first constraint_edges points handles names segments taken plain old new same
+          none adds;
+      joined = joined_first constraint_edges points handles names segments taken plain old new same
+          none adds;
+      faces = map face_of corners;
+      faces_are = c.in_ok-corners.ensures;
+      places = c.in_ok-faces.ensures
+          ∙ ap (λ ns. map (λ f. places_of ns (face_of f)) c.as_slice-2.result.now)
+          c.as_slice-3.ensures.value
+          ∙ ap (map (λ f. places_of names (face_of f))) c.as_slice-2.ensures.value
+          ∙ named_faces names corners;
+    }

@@ -1,0 +1,21 @@
+use Rattle.std.proofs.Common.{◌≡◌, map}
+use Rattle.std.proofs.lemmas.Result.{IfOk-weaker}
+use Rattle.delaunay_legalization.specs.State.{triangulation_of}
+use Rattle.drawing_faces.specs.declared.faces.Kept.TheVariants.{All}
+use Rattle.drawing_faces.specs.Drawing.{face_of}
+use Rattle.drawing_faces.specs.Kept.{AreKept, IsLeftOut}
+use Rattle.drawing_faces.specs.Names.{position}
+use Rattle.drawing_faces.proofs.Keeping.{all_of}
+use Rattle.drawing_faces.proofs.faces.kept_faces.Goals as goal
+
+pub returns-in-All : goal.returns-in-All
+returns-in-All g c =
+    let s = g.T.Triangulation.state c.args.site.now in
+    let constraints = g.T.Constraints.ConstraintMarker.constraints s.undirected in
+    rw c.in-All.is (IfOk-weaker c.faces_of.result
+    (λ v. map face_of v.items ≡ (triangulation_of position s).faces)
+    (λ v. AreKept (IsLeftOut All s.mesh constraints) 1 (triangulation_of position s).faces
+    (map face_of v.items)) (λ v e. all_of s constraints v.items e) c.faces_of.ensures)
+
+pub returns-in-Inside : goal.returns-in-Inside
+returns-in-Inside g c = rw c.in-Inside.is c.closed_faces.ensures

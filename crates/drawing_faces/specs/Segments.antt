@@ -1,0 +1,42 @@
+-- Which segments become constraints, one after another, and what they join.
+use Rattle.std.specs.Prelude.{◌≡◌, ◌⊎◌, ◌↔◌, [], ◌∷◌, ℕ, Bool, true, false, List, map}
+use Rattle.plane.specs.Fraction.{Point}
+use Rattle.plane.specs.Crossing.{Cross}
+use Rattle.plane.specs.Pairs.{Joins, place}
+use Rattle.plane.specs.Plain.{AreNeighboursOn}
+use Rattle.delaunay_legalization.specs.Constraints.{constraints_by}
+use Rattle.delaunay_legalization.specs.State.{State}
+
+module _ {V : Type 0} (position : V → Point) (points : List Point) where
+  -- no pair of these crosses the segment between two vertices
+  abbrev pub IsUncrossed : (ℕ → ℕ → Type 0) → ℕ × ℕ → Type 0
+  IsUncrossed IsPair e = (a b : ℕ) → IsPair a b
+      → ¬ Cross (place points e.0) (place points e.1) (place points a) (place points b)
+
+  -- each segment in turn is taken exactly if no pair crosses it of those that there are: some to
+  -- begin with, and the neighbours on each segment that was taken before it
+  abbrev pub AreTaken : (ℕ → ℕ → Type 0) → List (ℕ × ℕ) → List Bool → Type 0
+  AreTaken IsPair [] [] = Unit {0}
+  AreTaken IsPair [] (t ∷ ts) = ⊥
+  AreTaken IsPair (e ∷ es) [] = ⊥
+  AreTaken IsPair (e ∷ es) (true ∷ ts) = IsUncrossed IsPair e
+      × AreTaken (λ a b. IsPair a b ⊎ AreNeighboursOn position points e.0 e.1 a b) es ts
+  AreTaken IsPair (e ∷ es) (false ∷ ts) = (¬ IsUncrossed IsPair e) × AreTaken IsPair es ts
+
+  -- two vertices are neighbours on a segment that was taken
+  abbrev pub AreOnTaken : List (ℕ × ℕ) → List Bool → ℕ → ℕ → Type 0
+  AreOnTaken [] ts a b = ⊥
+  AreOnTaken (e ∷ es) [] a b = ⊥
+  AreOnTaken (e ∷ es) (true ∷ ts) a b =
+      AreNeighboursOn position points e.0 e.1 a b ⊎ AreOnTaken es ts a b
+  AreOnTaken (e ∷ es) (false ∷ ts) a b = AreOnTaken es ts a b
+
+-- segments became constraints, those that are taken; the vertices stay
+pub record AddsSegments {V D U F : Type 0} (position : V → Point) (constraints : List U → List ℕ)
+    (segments : List (ℕ × ℕ)) (taken : List Bool) (old new : State V D U F) : Type 0 where
+  pub each : AreTaken position (map position old.vertices) (Joins (constraints_by constraints old)) segments
+      taken
+  pub joined : (a b : ℕ) → Joins (constraints_by constraints new) a b
+      ↔ (Joins (constraints_by constraints old) a b
+      ⊎ AreOnTaken position (map position old.vertices) segments taken a b)
+  pub vertices : new.vertices ≡ old.vertices

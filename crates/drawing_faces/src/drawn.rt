@@ -1,0 +1,105 @@
+//! The triangulation of a drawing, from its points and segments to the faces that are kept.
+ghost use Rattle.std.specs.Prelude.{◌≡◌, [], map, IfOk};
+ghost use Rattle.delaunay_interface.specs.Constrained.{constraints_of};
+ghost use Rattle.delaunay_bulk.specs.Bulk.{HaveHandles};
+ghost use Rattle.drawing_faces.specs.Names.{NamesVertices, position};
+ghost use Rattle.drawing_faces.specs.Drawing.{IsDrawn};
+
+use crate::edits::{DrawnSegment, add_segments, insert_points};
+use crate::error::DrawingError;
+use crate::faces::{Kept, kept_faces};
+use crate::names::{first_places, name_corners};
+use spade_delaunay::handles::FixedVertexHandle;
+use spade_delaunay::{
+    ConstrainedDelaunayTriangulation, DelaunayTriangulation, Point2, Triangulation,
+};
+use std::alloc::Global;
+
+/// The triangulation of points.
+pub type Plain = DelaunayTriangulation<Point2<i32>>;
+
+/// The triangulation of a drawing.
+pub type Site = ConstrainedDelaunayTriangulation<Point2<i32>>;
+
+/// Points that were triangulated.
+#[derive(Drop)]
+pub struct PlacedPoints {
+    pub plain: Plain,
+    /// The vertex of each point.
+    pub handles: Vec<FixedVertexHandle>,
+    /// Of each vertex the place of its point in the list: of several there, of the first.
+    pub vertices: Vec<u32>,
+}
+
+/// A drawing that was triangulated.
+#[derive(Drop)]
+pub struct DrawnMesh {
+    pub site: Site,
+    /// Of each vertex the place of its point in the list: of several there, of the first.
+    pub vertices: Vec<u32>,
+    /// Of each segment whether it was taken: it was not where one that was taken before crosses it.
+    pub taken: Vec<bool>,
+    /// The faces that are kept, by the places of their corners, against the clock.
+    pub faces: Vec<[u32; 3]>,
+}
+
+/// Triangulates points. It gives `TooLarge` where a coordinate passes 2^29, `TooMany` where there
+/// are too many for the indexes of a mesh, and `OutOfMemory`.
+pub fn place_points(points: &[Point2<i32>], alloc: Global) -> Result<PlacedPoints, DrawingError>
+    ensures handles { IfOk result
+        (λ p. HaveHandles position points.now p.handles.items p.plain.vertices) }
+    ensures vertices { IfOk result
+        (λ p. NamesVertices points.now (map position p.plain.vertices) p.vertices.items) }
+{
+    let mut plain = Plain::new(alloc);
+    let handles = insert_points(&mut plain, points, alloc)?;
+    plain.recall_invariant();
+    let vertices = first_places(handles.as_slice(), plain.num_vertices(), alloc)?;
+    Ok(PlacedPoints {
+        plain,
+        handles,
+        vertices,
+    })
+}
+
+/// The same triangulation, to take constraints.
+fn constrained(plain: Plain) -> Result<Site, DrawingError>
+    ensures vertices { IfOk result (λ s. s.vertices ≡ plain.vertices) }
+    ensures none { IfOk result (λ s. constraints_of s ≡ []) }
+{
+    match Site::from_delaunay(plain) {
+        Ok(site) => Ok(site),
+        Err(_) => Err(DrawingError::OutOfMemory),
+    }
+}
+
+/// Triangulates a drawing: the constrained Delaunay triangulation of its points, with a path of
+/// constraints along each segment that no constraint before it crosses. Segments have their ends by
+/// the places of points in the list. It gives `TooLarge` where a coordinate passes 2^29, `TooMany`
+/// where there are too many points for the indexes of a mesh, `NoPoint` where a segment ends at
+/// none, and `OutOfMemory`.
+pub fn triangulate_drawing(
+    points: &[Point2<i32>],
+    segments: &[DrawnSegment],
+    kept: Kept,
+    alloc: Global,
+) -> Result<DrawnMesh, DrawingError>
+    ensures { IfOk result (IsDrawn points.now segments.now kept) }
+{
+    let placed = place_points(points, alloc)?;
+    let PlacedPoints {
+        plain,
+        handles,
+        vertices,
+    } = placed;
+    let mut site = constrained(plain)?;
+    let taken = add_segments(&mut site, segments, handles.as_slice(), alloc)?;
+    let corners = kept_faces(&site, kept, alloc)?;
+    let faces = name_corners(corners.as_slice(), vertices.as_slice(), alloc)?;
+    Ok(DrawnMesh {
+        site,
+        vertices,
+        taken,
+        faces,
+    })
+}

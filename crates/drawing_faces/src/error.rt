@@ -1,0 +1,49 @@
+//! Why a drawing was not triangulated.
+
+use spade_delaunay::{BulkInsertionError, InsertionError};
+use std::alloc::{AllocError, AllocFailed};
+use thiserror::Error;
+
+/// Why points or segments of a drawing were not taken.
+#[derive(Clone, Copy, Debug, PartialEq, Eq, Drop, Error)]
+pub enum DrawingError {
+    #[error("a point is out of range")]
+    TooLarge,
+    #[error("there are more points than have indexes")]
+    TooMany,
+    #[error("a segment ends at no point")]
+    NoPoint,
+    #[error("memory was refused")]
+    OutOfMemory,
+}
+
+impl From<AllocError> for DrawingError {
+    fn from(_error: AllocError) -> Self {
+        DrawingError::OutOfMemory
+    }
+}
+
+impl<T: Drop> From<AllocFailed<T>> for DrawingError {
+    fn from(_error: AllocFailed<T>) -> Self {
+        DrawingError::OutOfMemory
+    }
+}
+
+impl From<InsertionError> for DrawingError {
+    fn from(error: InsertionError) -> Self {
+        match error {
+            InsertionError::TooLarge => DrawingError::TooLarge,
+            InsertionError::OutOfIndexes => DrawingError::TooMany,
+            InsertionError::OutOfMemory => DrawingError::OutOfMemory,
+        }
+    }
+}
+
+impl From<BulkInsertionError> for DrawingError {
+    fn from(error: BulkInsertionError) -> Self {
+        match error {
+            BulkInsertionError::Vertex { place: _, error } => DrawingError::from(error),
+            BulkInsertionError::NoRoom(error) => DrawingError::from(error),
+        }
+    }
+}

@@ -1,0 +1,59 @@
+//! Vertices and faces by the places of their points in a list.
+ghost use Rattle.std.specs.Prelude.{◌≡◌, ◌<◌, All, map, slice_index, IfOk};
+ghost use Rattle.drawing_faces.specs.Names.{AreFirsts, places_of};
+ghost use Rattle.drawing_faces.specs.Drawing.{face_of};
+
+use crate::error::DrawingError;
+use crate::faces::FaceCorners;
+use spade_delaunay::MAX_ELEMENTS;
+use spade_delaunay::handles::FixedVertexHandle;
+use std::alloc::{AllocError, Global};
+
+/// Of each of so many vertices the first place where it stands in a list.
+pub(crate) fn first_places(
+    vertices: &[FixedVertexHandle],
+    count: usize,
+    alloc: Global,
+) -> Result<Vec<u32>, DrawingError>
+    requires { All (λ v. v < count) vertices.now }
+    ensures { IfOk result (λ firsts. AreFirsts count vertices.now firsts.items) }
+{
+    if vertices.len() > MAX_ELEMENTS {
+        return Err(DrawingError::TooMany);
+    }
+    let mut firsts = Vec::from_elem(alloc, 0, count)?;
+    let mut place = vertices.len();
+    while place > 0 {
+        place -= 1;
+        let vertex = vertices[place].index() as usize;
+        firsts[vertex] = place as u32;
+    }
+    Ok(firsts)
+}
+
+/// The name of a vertex; 0 where it has none.
+fn name_of(names: &[u32], vertex: u32) -> u32
+    ensures { result ≡ slice_index names.now vertex }
+{
+    names.get(vertex as usize).copied().unwrap_or(0)
+}
+
+/// Faces with the names of their corners in place of these.
+pub(crate) fn name_corners(
+    faces: &[FaceCorners],
+    names: &[u32],
+    alloc: Global,
+) -> Result<Vec<[u32; 3]>, AllocError>
+    ensures { IfOk result (λ rows. rows.items ≡ map (λ c. places_of names.now (face_of c))
+        faces.now) }
+{
+    let mut rows = Vec::with_capacity(alloc, faces.len())?;
+    for face in faces {
+        rows.push([
+            name_of(names, face.first),
+            name_of(names, face.second),
+            name_of(names, face.third),
+        ])?;
+    }
+    Ok(rows)
+}
