@@ -2,17 +2,19 @@
 ghost use Rattle.std.specs.Prelude.{◌≡◌, None, Some, IfNone, MatchOption};
 ghost use Rattle.tevasulim_c.specs.declared.statuses.TheConstants.{ALREADY_OPEN, CLOSED, WELL};
 ghost use Rattle.tevasulim_c.specs.Answers.{OpensAt};
-ghost use Rattle.tevasulim_c.specs.Kept.{CountsKept};
+ghost use Rattle.tevasulim_c.specs.Kept.{CountsKept, kept_drawing, kept_state, kept_vertices};
+ghost use Rattle.tevasulim_c.specs.Queries.{FindsKeptNearest, IsKeptPlace, ListsEdges, ListsFaces};
+ghost use Rattle.tevasulim_c.specs.Queries.{ListsNumbers, ListsPositions};
+ghost use Rattle.tevasulim_c.specs.Written.{Answering};
 
 use crate::handle::Handle;
 use crate::kept::KeptPoints;
 use crate::raw::{RawCounts, RawEdge, RawFace, RawMeeting, RawPlace, RawPoint, RawSegment};
 use crate::shapes::{self, RawCircle, RawRectangle};
 use crate::statuses::{
-    ALREADY_OPEN, CLOSED, IS_CONSTRAINED, NO_SUCH_KIND, NO_SUCH_STATUS, OUT_OF_MEMORY, TOO_SHORT,
-    WELL, words_of,
+    ALREADY_OPEN, CLOSED, NO_SUCH_KIND, NO_SUCH_STATUS, OUT_OF_MEMORY, TOO_SHORT, WELL, words_of,
 };
-use crate::{lists, queries, whole};
+use crate::{queries, whole};
 use std::alloc::Global;
 
 /// The version of the library.
@@ -77,15 +79,14 @@ pub extern "C" fn tevasulim_positions(
     length: &mut usize,
 ) -> u32
     ensures kept { handle.new.kept ≡ handle.old.kept }
-    ensures closed { IfNone handle.old.kept (result ≡ CLOSED) }
+    ensures positions { MatchOption handle.old.kept
+        ((result ≡ CLOSED) × (positions.new ≡ positions.old) × (length.new ≡ length.old))
+        (λ k. ListsPositions (kept_vertices k) result length.new positions.old positions.new) }
 {
     let Some(kept) = handle.take(alloc) else {
         return CLOSED;
     };
-    let status = match &*kept {
-        KeptPoints::Plain(points) => lists::write_positions(points, positions, length),
-        KeptPoints::Constrained(points) => lists::write_positions(points, positions, length),
-    };
+    let status = kept.write_positions(positions, length);
     handle.put(kept, alloc);
     status
 }
@@ -98,15 +99,14 @@ pub extern "C" fn tevasulim_numbers(
     length: &mut usize,
 ) -> u32
     ensures kept { handle.new.kept ≡ handle.old.kept }
-    ensures closed { IfNone handle.old.kept (result ≡ CLOSED) }
+    ensures numbers { MatchOption handle.old.kept
+        ((result ≡ CLOSED) × (numbers.new ≡ numbers.old) × (length.new ≡ length.old))
+        (λ k. ListsNumbers (kept_vertices k) result length.new numbers.old numbers.new) }
 {
     let Some(kept) = handle.take(alloc) else {
         return CLOSED;
     };
-    let status = match &*kept {
-        KeptPoints::Plain(points) => lists::write_numbers(points, numbers, length),
-        KeptPoints::Constrained(points) => lists::write_numbers(points, numbers, length),
-    };
+    let status = kept.write_numbers(numbers, length);
     handle.put(kept, alloc);
     status
 }
@@ -119,15 +119,15 @@ pub extern "C" fn tevasulim_edges(
     length: &mut usize,
 ) -> u32
     ensures kept { handle.new.kept ≡ handle.old.kept }
-    ensures closed { IfNone handle.old.kept (result ≡ CLOSED) }
+    ensures edges { MatchOption handle.old.kept
+        ((result ≡ CLOSED) × (edges.new ≡ edges.old) × (length.new ≡ length.old))
+        (λ k. ListsEdges (kept_drawing k) (kept_state k).constraints result length.new edges.old
+        edges.new) }
 {
     let Some(kept) = handle.take(alloc) else {
         return CLOSED;
     };
-    let status = match &*kept {
-        KeptPoints::Plain(points) => lists::write_edges(points, edges, length),
-        KeptPoints::Constrained(points) => lists::write_edges(points, edges, length),
-    };
+    let status = kept.write_edges(edges, length);
     handle.put(kept, alloc);
     status
 }
@@ -140,15 +140,15 @@ pub extern "C" fn tevasulim_faces(
     length: &mut usize,
 ) -> u32
     ensures kept { handle.new.kept ≡ handle.old.kept }
-    ensures closed { IfNone handle.old.kept (result ≡ CLOSED) }
+    ensures faces { MatchOption handle.old.kept
+        ((result ≡ CLOSED) × (faces.new ≡ faces.old) × (length.new ≡ length.old))
+        (λ k. ListsFaces (kept_drawing k) (kept_state k).constraints result length.new faces.old
+        faces.new) }
 {
     let Some(kept) = handle.take(alloc) else {
         return CLOSED;
     };
-    let status = match &*kept {
-        KeptPoints::Plain(points) => lists::write_faces(points, faces, length),
-        KeptPoints::Constrained(points) => lists::write_faces(points, faces, length),
-    };
+    let status = kept.write_faces(faces, length);
     handle.put(kept, alloc);
     status
 }
@@ -161,15 +161,13 @@ pub extern "C" fn tevasulim_locate(
     places: &mut [RawPlace],
 ) -> u32
     ensures kept { handle.new.kept ≡ handle.old.kept }
-    ensures closed { IfNone handle.old.kept (result ≡ CLOSED) }
+    ensures places { MatchOption handle.old.kept ((result ≡ CLOSED) × (places.new ≡ places.old))
+        (λ k. Answering queries.now (IsKeptPlace k) result places.old places.new) }
 {
     let Some(kept) = handle.take(alloc) else {
         return CLOSED;
     };
-    let status = match &*kept {
-        KeptPoints::Plain(points) => queries::locate_all(points, queries, places),
-        KeptPoints::Constrained(points) => queries::locate_all(points, queries, places),
-    };
+    let status = kept.locate_all(queries, places);
     handle.put(kept, alloc);
     status
 }
@@ -182,15 +180,14 @@ pub extern "C" fn tevasulim_nearest(
     vertices: &mut [u32],
 ) -> u32
     ensures kept { handle.new.kept ≡ handle.old.kept }
-    ensures closed { IfNone handle.old.kept (result ≡ CLOSED) }
+    ensures vertices { MatchOption handle.old.kept
+        ((result ≡ CLOSED) × (vertices.new ≡ vertices.old))
+        (λ k. FindsKeptNearest k queries.now result vertices.old vertices.new) }
 {
     let Some(kept) = handle.take(alloc) else {
         return CLOSED;
     };
-    let status = match &*kept {
-        KeptPoints::Plain(points) => queries::find_nearest(points, queries, vertices),
-        KeptPoints::Constrained(_) => IS_CONSTRAINED,
-    };
+    let status = kept.find_nearest(queries, vertices);
     handle.put(kept, alloc);
     status
 }

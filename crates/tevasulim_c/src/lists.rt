@@ -1,7 +1,15 @@
 //! All elements of a triangulation, written to lists of C's.
-ghost use Rattle.std.specs.Prelude.{◌≡◌, ◌<◌, length};
-ghost use Rattle.delaunay_legalization.specs.State.{triangulation_of};
+ghost use Rattle.std.specs.Prelude.{◌≡◌, ◌/◌, ◌<◌, length, map};
+ghost use Rattle.half_edge_mesh.specs.Mesh.{face_edge};
+ghost use Rattle.delaunay_legalization.specs.Constraints.{constraints_by};
+ghost use Rattle.delaunay_legalization.specs.State.{state_of, triangulation_of};
+ghost use Rattle.tevasulim_c.specs.Kept.{kept_drawing, kept_state, kept_vertices};
+ghost use Rattle.tevasulim_c.specs.Links.{IsMarkOf, IsRawEdge, IsRawFace, IsRawSide};
+ghost use Rattle.tevasulim_c.specs.Queries.{IsAt, IsEdgeAt, IsFaceAt, ListsEdges, ListsFaces};
+ghost use Rattle.tevasulim_c.specs.Queries.{ListsNumbers, ListsPositions, face_number, number_of};
+ghost use Rattle.tevasulim_c.specs.Queries.{raw_position};
 
+use crate::kept::KeptPoints;
 use crate::raw::{NumberedPoint, RawCounts, RawEdge, RawFace, RawPoint};
 use crate::statuses::{NONE, TOO_SHORT, WELL};
 use spade_delaunay::handles::{
@@ -12,7 +20,10 @@ use spade_delaunay::{ConstraintMarker, Triangulation};
 /// 1 where an edge is a constraint, and else 0.
 pub fn mark_of<M: ConstraintMarker<UE>, V, DE, UE, F>(
     edge: DirectedEdgeHandle<'_, V, DE, UE, F>,
-) -> u32 {
+) -> u32
+    ensures { IsMarkOf (M.constraints edge.entry.dcel.now.undirected) (edge.entry.index / 2)
+        result }
+{
     if M::is_constraint_edge(edge.as_undirected().data()) {
         1
     } else {
@@ -21,40 +32,81 @@ pub fn mark_of<M: ConstraintMarker<UE>, V, DE, UE, F>(
 }
 
 /// The index that C has of a face, which counts the inner ones alone.
-pub fn face_index(face: FixedFaceHandle) -> u32 {
+pub fn face_index(face: FixedFaceHandle) -> u32
+    ensures { result ≡ face_number face }
+{
     let index = face.index();
     if index == 0 { NONE } else { index - 1 }
+}
+
+// A side of a face: where it starts, the face on its right and whether it is a constraint.
+#[derive(Clone, Copy)]
+struct Side {
+    from: u32,
+    beyond: u32,
+    constrained: u32,
+}
+
+// The side along an edge.
+fn side_of<M: ConstraintMarker<UE>, V, DE, UE, F>(
+    edge: DirectedEdgeHandle<'_, V, DE, UE, F>,
+) -> Side
+    ensures { IsRawSide M.constraints (state_of edge.entry.dcel.now) edge.entry.index result.from
+        result.beyond result.constrained }
+{
+    Side {
+        from: edge.from().fix().index(),
+        beyond: face_index(edge.rev().face().fix()),
+        constrained: mark_of::<M, _, _, _, _>(edge),
+    }
 }
 
 // A face, for C.
 fn raw_face<M: ConstraintMarker<UE>, V, DE, UE, F>(face: FaceHandle<'_, V, DE, UE, F>) -> RawFace
     requires { 0 < face.index }
+    ensures { IsRawFace M.constraints (state_of face.entry.dcel.now)
+        (face_edge face.entry.dcel.now.mesh face.entry.index) result }
 {
     let edge = face.adjacent_edge();
-    let (next, prev) = (edge.next(), edge.prev());
+    let first = side_of::<M, _, _, _, _>(edge);
+    let second = side_of::<M, _, _, _, _>(edge.next());
+    let third = side_of::<M, _, _, _, _>(edge.prev());
     RawFace {
-        corner_0: edge.from().fix().index(),
-        corner_1: next.from().fix().index(),
-        corner_2: prev.from().fix().index(),
-        neighbor_0: face_index(next.rev().face().fix()),
-        neighbor_1: face_index(prev.rev().face().fix()),
-        neighbor_2: face_index(edge.rev().face().fix()),
-        constrained_0: mark_of::<M, _, _, _, _>(next),
-        constrained_1: mark_of::<M, _, _, _, _>(prev),
-        constrained_2: mark_of::<M, _, _, _, _>(edge),
+        corner_0: first.from,
+        corner_1: second.from,
+        corner_2: third.from,
+        neighbor_0: second.beyond,
+        neighbor_1: third.beyond,
+        neighbor_2: first.beyond,
+        constrained_0: second.constrained,
+        constrained_1: third.constrained,
+        constrained_2: first.constrained,
     }
 }
 
+// The face with this index, for C.
+fn face_at<T: Triangulation>(points: &T, index: u32) -> RawFace
+    requires { index < length (T.state points.now).faces }
+    ensures { IsFaceAt (triangulation_of T.Vertex.place (T.state points.now))
+        (constraints_by T.Constraints.constraints (T.state points.now)) index result }
+{
+    points.recall_invariant();
+    raw_face::<T::Constraints, _, _, _, _>(points.face(FixedFaceHandle::from_index(index + 1)))
+}
+
 /// Writes the faces, if there is room.
-pub fn write_faces<T: Triangulation>(points: &T, faces: &mut [RawFace], length: &mut usize) -> u32 {
+pub fn write_faces<T: Triangulation>(points: &T, faces: &mut [RawFace], length: &mut usize) -> u32
+    ensures { ListsFaces (triangulation_of T.Vertex.place (T.state points.now))
+        (constraints_by T.Constraints.constraints (T.state points.now)) result length.new faces.old
+        faces.new }
+{
     let count = points.num_inner_faces();
     *length = count;
     if faces.len() < count {
         return TOO_SHORT;
     }
     for index in 0..count {
-        let face = points.face(FixedFaceHandle::from_index(index as u32 + 1));
-        faces[index] = raw_face::<T::Constraints, _, _, _, _>(face);
+        faces[index] = face_at(points, index as u32);
     }
     WELL
 }
@@ -62,7 +114,10 @@ pub fn write_faces<T: Triangulation>(points: &T, faces: &mut [RawFace], length: 
 // An edge, for C.
 fn raw_edge<M: ConstraintMarker<UE>, V, DE, UE, F>(
     edge: DirectedEdgeHandle<'_, V, DE, UE, F>,
-) -> RawEdge {
+) -> RawEdge
+    ensures { IsRawEdge M.constraints (state_of edge.entry.dcel.now) edge.entry.index result.from
+        result.to result.constrained }
+{
     RawEdge {
         from: edge.from().fix().index(),
         to: edge.to().fix().index(),
@@ -70,58 +125,143 @@ fn raw_edge<M: ConstraintMarker<UE>, V, DE, UE, F>(
     }
 }
 
-/// Writes the edges, if there is room.
-pub fn write_edges<T: Triangulation>(points: &T, edges: &mut [RawEdge], length: &mut usize) -> u32 {
+// The edge with this index, for C.
+fn edge_at<T: Triangulation>(points: &T, index: u32) -> RawEdge
+    requires { index < length (T.state points.now).undirected }
+    ensures { IsEdgeAt (triangulation_of T.Vertex.place (T.state points.now))
+        (constraints_by T.Constraints.constraints (T.state points.now)) index result }
+{
+    points.recall_invariant();
+    let edge = points.undirected_edge(FixedUndirectedEdgeHandle::from_index(index));
+    raw_edge::<T::Constraints, _, _, _, _>(edge.as_directed())
+}
+
+// Writes the edges, if there is room.
+fn write_edges<T: Triangulation>(points: &T, edges: &mut [RawEdge], length: &mut usize) -> u32
+    ensures { ListsEdges (triangulation_of T.Vertex.place (T.state points.now))
+        (constraints_by T.Constraints.constraints (T.state points.now)) result length.new edges.old
+        edges.new }
+{
     let count = points.num_undirected_edges();
     *length = count;
     if edges.len() < count {
         return TOO_SHORT;
     }
     for index in 0..count {
-        let edge = points.undirected_edge(FixedUndirectedEdgeHandle::from_index(index as u32));
-        edges[index] = raw_edge::<T::Constraints, _, _, _, _>(edge.as_directed());
+        edges[index] = edge_at(points, index as u32);
     }
     WELL
 }
 
-/// Writes the positions, if there is room.
-pub fn write_positions<T: Triangulation<Vertex = NumberedPoint>>(
+// The position of a vertex, for C.
+fn position_at<T: Triangulation<Vertex = NumberedPoint>>(points: &T, vertex: u32) -> RawPoint
+    requires { vertex < length (T.state points.now).vertices }
+    ensures { IsAt (map raw_position (T.state points.now).vertices) vertex result }
+{
+    let position = points
+        .vertex(FixedVertexHandle::from_index(vertex))
+        .data()
+        .position;
+    RawPoint {
+        x: position.x,
+        y: position.y,
+    }
+}
+
+// Writes the positions, if there is room.
+fn write_positions<T: Triangulation<Vertex = NumberedPoint>>(
     points: &T,
     positions: &mut [RawPoint],
     length: &mut usize,
-) -> u32 {
+) -> u32
+    ensures { ListsPositions (T.state points.now).vertices result length.new positions.old
+        positions.new }
+{
     let count = points.num_vertices();
     *length = count;
     if positions.len() < count {
         return TOO_SHORT;
     }
     for index in 0..count {
-        let vertex = points.vertex(FixedVertexHandle::from_index(index as u32));
-        let position = vertex.data().position;
-        positions[index] = RawPoint {
-            x: position.x,
-            y: position.y,
-        };
+        positions[index] = position_at(points, index as u32);
     }
     WELL
 }
 
-/// Writes the numbers, if there is room.
-pub fn write_numbers<T: Triangulation<Vertex = NumberedPoint>>(
+// The number of a vertex.
+fn number_at<T: Triangulation<Vertex = NumberedPoint>>(points: &T, vertex: u32) -> u64
+    requires { vertex < length (T.state points.now).vertices }
+    ensures { IsAt (map number_of (T.state points.now).vertices) vertex result }
+{
+    points
+        .vertex(FixedVertexHandle::from_index(vertex))
+        .data()
+        .number
+}
+
+// Writes the numbers, if there is room.
+fn write_numbers<T: Triangulation<Vertex = NumberedPoint>>(
     points: &T,
     numbers: &mut [u64],
     length: &mut usize,
-) -> u32 {
+) -> u32
+    ensures { ListsNumbers (T.state points.now).vertices result length.new numbers.old
+        numbers.new }
+{
     let count = points.num_vertices();
     *length = count;
     if numbers.len() < count {
         return TOO_SHORT;
     }
     for index in 0..count {
-        let vertex = points.vertex(FixedVertexHandle::from_index(index as u32));
-        numbers[index] = vertex.data().number;
+        numbers[index] = number_at(points, index as u32);
     }
     WELL
+}
+
+impl KeptPoints {
+    /// Writes the positions, if there is room.
+    pub fn write_positions(&self, positions: &mut [RawPoint], length: &mut usize) -> u32
+        ensures { ListsPositions (kept_vertices self.now) result length.new positions.old
+            positions.new }
+    {
+        match self {
+            KeptPoints::Plain(points) => write_positions(points, positions, length),
+            KeptPoints::Constrained(points) => write_positions(points, positions, length),
+        }
+    }
+
+    /// Writes the edges, if there is room.
+    pub fn write_edges(&self, edges: &mut [RawEdge], length: &mut usize) -> u32
+        ensures { ListsEdges (kept_drawing self.now) (kept_state self.now).constraints result
+            length.new edges.old edges.new }
+    {
+        match self {
+            KeptPoints::Plain(points) => write_edges(points, edges, length),
+            KeptPoints::Constrained(points) => write_edges(points, edges, length),
+        }
+    }
+
+    /// Writes the faces, if there is room.
+    pub fn write_faces(&self, faces: &mut [RawFace], length: &mut usize) -> u32
+        ensures { ListsFaces (kept_drawing self.now) (kept_state self.now).constraints result
+            length.new faces.old faces.new }
+    {
+        match self {
+            KeptPoints::Plain(points) => write_faces(points, faces, length),
+            KeptPoints::Constrained(points) => write_faces(points, faces, length),
+        }
+    }
+
+    /// Writes the numbers, if there is room.
+    pub fn write_numbers(&self, numbers: &mut [u64], length: &mut usize) -> u32
+        ensures { ListsNumbers (kept_vertices self.now) result length.new numbers.old numbers.new }
+    {
+        match self {
+            KeptPoints::Plain(points) => write_numbers(points, numbers, length),
+            KeptPoints::Constrained(points) => write_numbers(points, numbers, length),
+        }
+    }
 }
 
 /// How many elements there are.

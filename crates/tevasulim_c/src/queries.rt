@@ -1,8 +1,14 @@
 //! Queries of many points in one call.
-use crate::kept::PlainPoints;
+ghost use Rattle.std.specs.Prelude.{◌≡◌, ◌↔◌, All, IsTrue};
+ghost use Rattle.tevasulim_c.specs.Kept.{kept_place};
+ghost use Rattle.tevasulim_c.specs.Queries.{FindsKeptNearest, IsKeptPlace, IsNearestIn, IsPlaceIn};
+ghost use Rattle.tevasulim_c.specs.Queries.{raw_place};
+ghost use Rattle.tevasulim_c.specs.Written.{Answering, IsRawInRange};
+
+use crate::kept::{KeptPoints, PlainPoints};
 use crate::lists::{face_index, mark_of};
 use crate::raw::{NumberedPoint, RawMeeting, RawPlace, RawPoint};
-use crate::statuses::{NONE, TOO_LARGE, TOO_SHORT, WELL};
+use crate::statuses::{IS_CONSTRAINED, NONE, TOO_LARGE, TOO_SHORT, WELL};
 use exact_predicates::ExactTests;
 use spade_delaunay::handles::DirectedEdgeHandle;
 use spade_delaunay::{
@@ -27,14 +33,28 @@ pub const ACROSS_EDGE: u32 = 1;
 pub const ALONG_EDGE: u32 = 2;
 
 /// A point of C's.
-pub fn point_of(point: &RawPoint) -> Point2<i32> {
-    Point2::new(point.x, point.y)
+pub fn point_of(point: &RawPoint) -> Point2<i32>
+    ensures { result ≡ record { x = point.now.x; y = point.now.y } }
+{
+    Point2 {
+        x: point.x,
+        y: point.y,
+    }
+}
+
+/// Whether both coordinates are in range.
+pub fn is_in_range(point: &RawPoint) -> bool
+    ensures { IsTrue result ↔ IsRawInRange point.now }
+{
+    validate_vertex(&point_of(point)).is_ok()
 }
 
 /// Whether all coordinates are in range.
-pub fn are_in_range(points: &[RawPoint]) -> bool {
+pub fn are_in_range(points: &[RawPoint]) -> bool
+    ensures { IsTrue result ↔ All IsRawInRange points.now }
+{
     for point in points {
-        if validate_vertex(&point_of(point)).is_err() {
+        if !is_in_range(point) {
             return false;
         }
     }
@@ -42,7 +62,9 @@ pub fn are_in_range(points: &[RawPoint]) -> bool {
 }
 
 // A place, for C.
-fn raw_place(place: PositionInTriangulation) -> RawPlace {
+fn raw_place(place: PositionInTriangulation) -> RawPlace
+    ensures { result ≡ raw_place place }
+{
     match place {
         PositionInTriangulation::OnVertex(vertex) => RawPlace {
             kind: ON_VERTEX,
@@ -67,41 +89,83 @@ fn raw_place(place: PositionInTriangulation) -> RawPlace {
     }
 }
 
-/// Writes where each point is.
-pub fn locate_all<T: Triangulation<Vertex = NumberedPoint>>(
+// Where a point in range is, for C.
+fn place_at<T: Triangulation<Vertex = NumberedPoint>>(points: &T, query: &RawPoint) -> RawPlace
+    requires { IsRawInRange query.now }
+    ensures { IsPlaceIn kept_place (T.state points.now) query.now result }
+{
+    raw_place(points.locate(point_of(query), &ExactTests))
+}
+
+// Writes where each point is.
+fn locate_all<T: Triangulation<Vertex = NumberedPoint>>(
     points: &T,
     queries: &[RawPoint],
     places: &mut [RawPlace],
-) -> u32 {
+) -> u32
+    ensures { Answering queries.now (IsPlaceIn kept_place (T.state points.now)) result places.old
+        places.new }
+{
     if places.len() < queries.len() {
         return TOO_SHORT;
     }
+    if !are_in_range(queries) {
+        return TOO_LARGE;
+    }
     for index in 0..queries.len() {
-        let query = point_of(&queries[index]);
-        if validate_vertex(&query).is_err() {
-            return TOO_LARGE;
-        }
-        places[index] = raw_place(points.locate(query, &ExactTests));
+        places[index] = place_at(points, &queries[index]);
     }
     WELL
 }
 
-/// Writes a vertex nearest to each point.
-pub fn find_nearest(points: &PlainPoints, queries: &[RawPoint], vertices: &mut [u32]) -> u32 {
+// A vertex nearest to a point in range, for C.
+fn nearest_at(points: &PlainPoints, query: &RawPoint) -> u32
+    requires { IsRawInRange query.now }
+    ensures { IsNearestIn kept_place points.now query.now result }
+{
+    match points.nearest_neighbor(point_of(query), &ExactTests) {
+        Some(vertex) => vertex.fix().index(),
+        None => NONE,
+    }
+}
+
+// Writes a vertex nearest to each point.
+fn find_nearest(points: &PlainPoints, queries: &[RawPoint], vertices: &mut [u32]) -> u32
+    ensures { Answering queries.now (IsNearestIn kept_place points.now) result vertices.old
+        vertices.new }
+{
     if vertices.len() < queries.len() {
         return TOO_SHORT;
     }
+    if !are_in_range(queries) {
+        return TOO_LARGE;
+    }
     for index in 0..queries.len() {
-        let query = point_of(&queries[index]);
-        if validate_vertex(&query).is_err() {
-            return TOO_LARGE;
-        }
-        vertices[index] = match points.nearest_neighbor(query, &ExactTests) {
-            Some(vertex) => vertex.fix().index(),
-            None => NONE,
-        };
+        vertices[index] = nearest_at(points, &queries[index]);
     }
     WELL
+}
+
+impl KeptPoints {
+    /// Writes where each point is.
+    pub fn locate_all(&self, queries: &[RawPoint], places: &mut [RawPlace]) -> u32
+        ensures { Answering queries.now (IsKeptPlace self.now) result places.old places.new }
+    {
+        match self {
+            KeptPoints::Plain(points) => locate_all(points, queries, places),
+            KeptPoints::Constrained(points) => locate_all(points, queries, places),
+        }
+    }
+
+    /// Writes a vertex nearest to each point.
+    pub fn find_nearest(&self, queries: &[RawPoint], vertices: &mut [u32]) -> u32
+        ensures { FindsKeptNearest self.now queries.now result vertices.old vertices.new }
+    {
+        match self {
+            KeptPoints::Plain(points) => find_nearest(points, queries, vertices),
+            KeptPoints::Constrained(_) => IS_CONSTRAINED,
+        }
+    }
 }
 
 // An edge that a line meets, for C.

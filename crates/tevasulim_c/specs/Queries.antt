@@ -1,0 +1,139 @@
+-- What queries of a triangulation that C keeps answer.
+use Rattle.std.specs.Prelude.{◌≡◌, ◌⊎◌, ◌-◌, ◌/◌, ◌==◌, if◌then◌else◌}
+use Rattle.std.specs.Prelude.{ℕ, List, length, map, Some, slice_get, IsSomeAnd}
+use Rattle.plane.specs.Fraction.{Point, whole}
+use Rattle.plane.specs.Pairs.{Joins}
+use Rattle.plane.specs.Shape.{IsNearest}
+use Rattle.plane.specs.Tiling.{Face, Triangulation, HasFace, face}
+use Rattle.delaunay_legalization.specs.State.{State, triangulation_of}
+use Rattle.spade_delaunay.specs.Elements.{FindsLocation}
+use Rattle.delaunay_location.specs.declared.position_in_triangulation.PositionInTriangulation.{PositionInTriangulation}
+use Rattle.delaunay_location.specs.declared.position_in_triangulation.PositionInTriangulation.TheVariants.{
+  OnVertex,
+  OnEdge,
+  OnFace,
+  OutsideOfConvexHull,
+  NoTriangulation,
+}
+use Rattle.tevasulim_c.specs.declared.raw.NumberedPoint.{NumberedPoint}
+use Rattle.tevasulim_c.specs.declared.raw.RawEdge.{RawEdge}
+use Rattle.tevasulim_c.specs.declared.raw.RawFace.{RawFace}
+use Rattle.tevasulim_c.specs.declared.raw.RawPlace.{RawPlace}
+use Rattle.tevasulim_c.specs.declared.raw.RawPoint.{RawPoint}
+use Rattle.tevasulim_c.specs.declared.kept.KeptPoints.{KeptPoints}
+use Rattle.tevasulim_c.specs.declared.kept.KeptPoints.TheVariants.{Plain, Constrained}
+use Rattle.tevasulim_c.specs.declared.queries.TheConstants.{ON_VERTEX, ON_EDGE, IN_FACE, OUTSIDE}
+use Rattle.tevasulim_c.specs.declared.queries.TheConstants.{NOWHERE}
+use Rattle.tevasulim_c.specs.declared.statuses.TheConstants.{IS_CONSTRAINED, NONE}
+use Rattle.tevasulim_c.specs.Kept.{kept_place}
+use Rattle.tevasulim_c.specs.Written.{Answering, Listing, plain_point}
+
+-- ---- all vertices
+-- a position, for C
+abbrev pub raw_position : NumberedPoint → RawPoint
+raw_position v = record { x = v.position.x; y = v.position.y }
+
+-- a vertex's number
+abbrev pub number_of : NumberedPoint → ℕ
+number_of v = v.number
+
+-- an element of a list is at this place
+abbrev pub IsAt : {A : Type 0} → List A → ℕ → A → Type 0
+IsAt xs k a = slice_get xs k ≡ Some a
+
+-- the position of each vertex is listed
+abbrev pub ListsPositions : List NumberedPoint → ℕ → ℕ → List RawPoint → List RawPoint → Type 0
+ListsPositions vs status told old new =
+    Listing (IsAt (map raw_position vs)) (length vs) status told old new
+
+-- the number of each vertex is listed
+abbrev pub ListsNumbers : List NumberedPoint → ℕ → ℕ → List ℕ → List ℕ → Type 0
+ListsNumbers vs status told old new =
+    Listing (IsAt (map number_of vs)) (length vs) status told old new
+
+-- ---- where a point is
+-- the index that C has of a face, which counts the inner ones alone
+abbrev pub face_number : ℕ → ℕ
+face_number f = if f == 0 then NONE else (f - 1)
+
+-- a place, for C
+abbrev pub raw_place : PositionInTriangulation → RawPlace
+raw_place (OnVertex v) = record { kind = ON_VERTEX; index = v }
+raw_place (OnEdge e) = record { kind = ON_EDGE; index = e / 2 }
+raw_place (OnFace f) = record { kind = IN_FACE; index = face_number f }
+raw_place (OutsideOfConvexHull e) = record { kind = OUTSIDE; index = e / 2 }
+raw_place NoTriangulation = record { kind = NOWHERE; index = NONE }
+
+-- what C is told of where a point is: the library's answer
+pub record IsPlaceIn {V D U F : Type 0} (place : V → Point) (s : State V D U F) (query : RawPoint)
+    (told : RawPlace) : Type 0 where
+  pub answer : PositionInTriangulation
+  pub finds : FindsLocation place s (plain_point query) answer
+  pub named : told ≡ raw_place answer
+
+-- the same of a triangulation that C keeps
+abbrev pub IsKeptPlace : KeptPoints → RawPoint → RawPlace → Type 0
+IsKeptPlace (Plain t) query told = IsPlaceIn kept_place t query told
+IsKeptPlace (Constrained t) query told = IsPlaceIn kept_place t query told
+
+-- ---- which vertex is nearest
+-- a vertex that none is strictly nearer than, or that there is none
+abbrev pub IsNearestIn : {V D U F : Type 0} → (V → Point) → State V D U F → RawPoint → ℕ → Type 0
+IsNearestIn place s query vertex = ((vertex ≡ NONE) × (length s.vertices ≡ 0))
+    ⊎ IsNearest (triangulation_of place s) (whole (plain_point query)) vertex
+
+-- each query gets one, of a plain triangulation. A constrained one refuses it
+abbrev pub FindsKeptNearest : KeptPoints → List RawPoint → ℕ → List ℕ → List ℕ → Type 0
+FindsKeptNearest (Plain t) queries status old new =
+    Answering queries (IsNearestIn kept_place t) status old new
+FindsKeptNearest (Constrained t) queries status old new =
+    (status ≡ IS_CONSTRAINED) × (new ≡ old)
+
+-- ---- edges and faces, of what a triangulation draws and the pairs that constraints join
+-- a mark: 1 where a constraint joins the two vertices, and else 0
+abbrev pub IsMark : List (ℕ × ℕ) → ℕ → ℕ → ℕ → Type 0
+IsMark constraints i j mark =
+    ((mark ≡ 1) × Joins constraints i j) ⊎ ((mark ≡ 0) × ¬ Joins constraints i j)
+
+-- the edge at a place: its ends, and its mark
+pub record IsEdgeAt (t : Triangulation) (constraints : List (ℕ × ℕ)) (k : ℕ)
+    (e : RawEdge) : Type 0 where
+  pub ends : IsAt t.edges k (e.from, e.to)
+  pub marked : IsMark constraints e.from e.to e.constrained
+
+-- each edge is listed
+abbrev pub ListsEdges : Triangulation → List (ℕ × ℕ) → ℕ → ℕ → List RawEdge → List RawEdge
+    → Type 0
+ListsEdges t constraints status told old new =
+    Listing (IsEdgeAt t constraints) (length t.edges) status told old new
+
+-- the way from i to j is round the face
+abbrev pub HasSide : Face → ℕ → ℕ → Type 0
+HasSide f i j = ((f.a ≡ i) × (f.b ≡ j))
+    ⊎ (((f.b ≡ i) × (f.c ≡ j)) ⊎ ((f.c ≡ i) × (f.a ≡ j)))
+
+-- the index of the face with the way from j to i, which is that beyond the way from i to j, or that
+-- there is none
+abbrev pub IsBeyond : Triangulation → ℕ → ℕ → ℕ → Type 0
+IsBeyond t i j n = ((n ≡ NONE) × ¬ HasFace t j i)
+    ⊎ IsSomeAnd (slice_get t.faces n) (λ f. HasSide f j i)
+
+-- the side of a face from i to j: the face beyond it, and its mark
+pub record IsSide (t : Triangulation) (constraints : List (ℕ × ℕ)) (i j beyond mark : ℕ) : Type 0
+  where
+    pub neighbor : IsBeyond t i j beyond
+    pub marked : IsMark constraints i j mark
+
+-- the face at a place: its corners, and the side opposite each
+pub record IsFaceAt (t : Triangulation) (constraints : List (ℕ × ℕ)) (k : ℕ)
+    (f : RawFace) : Type 0 where
+  pub corners : IsAt t.faces k (face f.corner_0 f.corner_1 f.corner_2)
+  pub side_0 : IsSide t constraints f.corner_1 f.corner_2 f.neighbor_0 f.constrained_0
+  pub side_1 : IsSide t constraints f.corner_2 f.corner_0 f.neighbor_1 f.constrained_1
+  pub side_2 : IsSide t constraints f.corner_0 f.corner_1 f.neighbor_2 f.constrained_2
+
+-- each face is listed
+abbrev pub ListsFaces : Triangulation → List (ℕ × ℕ) → ℕ → ℕ → List RawFace → List RawFace
+    → Type 0
+ListsFaces t constraints status told old new =
+    Listing (IsFaceAt t constraints) (length t.faces) status told old new
