@@ -3,3 +3,7 @@ pub mod Handles
 pub mod Corners
 pub mod Inserted
 pub mod Edited
+pub mod Released
+pub mod Listed
+pub mod Numbers
+pub mod Chains

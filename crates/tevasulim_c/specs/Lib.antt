@@ -2,3 +2,4 @@ pub mod Keeps
 pub mod Kept
 pub mod Answers
 pub mod Edits
+pub mod Lists
