@@ -14,6 +14,15 @@ static int refused(const char *what, uint32_t status)
     return 1;
 }
 
+/* Which of some points a vertex stands for. */
+static unsigned point_at(const uint32_t *vertices, size_t count, uint32_t vertex)
+{
+    size_t i = 0;
+    while (i < count && vertices[i] != vertex)
+        i++;
+    return (unsigned)i;
+}
+
 static int tell_nearest(const tevasulim_point *points, size_t count)
 {
     tevasulim_triangulation hill = {0};
@@ -25,17 +34,19 @@ static int tell_nearest(const tevasulim_point *points, size_t count)
     if (!status)
         status = tevasulim_nearest(&hill, &camp, 1, &nearest, 1);
     if (!status)
-        printf("nearest to the camp: vertex %u\n", (unsigned)nearest);
+        printf("nearest to the camp: point %u\n", point_at(vertices, count, nearest));
     tevasulim_close(&hill);
     return status ? refused("the camp", status) : 0;
 }
 
-static void print_meetings(const tevasulim_meeting *met, size_t count)
+static void print_meetings(const tevasulim_meeting *met, size_t length, const uint32_t *vertices,
+                           size_t count)
 {
-    for (size_t i = 0; i < count; i++)
+    for (size_t i = 0; i < length; i++)
         if (met[i].kind == TEVASULIM_ACROSS_EDGE)
-            printf("the path crosses edge %u-%u, fence: %s\n", (unsigned)met[i].from,
-                   (unsigned)met[i].to, met[i].constrained ? "yes" : "no");
+            printf("the path crosses edge %u-%u, fence: %s\n",
+                   point_at(vertices, count, met[i].from), point_at(vertices, count, met[i].to),
+                   met[i].constrained ? "yes" : "no");
 }
 
 static int tell_path(const tevasulim_point *points, size_t count)
@@ -53,7 +64,7 @@ static int tell_path(const tevasulim_point *points, size_t count)
     if (!status)
         status = tevasulim_line(&hill, &from, &to, met, 16, &length);
     if (!status)
-        print_meetings(met, length);
+        print_meetings(met, length, vertices, count);
     tevasulim_close(&hill);
     return status ? refused("the path", status) : 0;
 }

@@ -156,8 +156,10 @@ uint32_t tevasulim_clear(tevasulim_triangulation *self);
  * there is one, which keeps its index and constraints; else that of the new last vertex. */
 uint32_t tevasulim_insert(tevasulim_triangulation *self, int32_t x, int32_t y, uint32_t *vertex);
 
-/* Inserts as many vertices, each with the number 0, and gives the index of each. At TOO_LARGE
- * nothing has changed; at OUT_OF_INDEXES and OUT_OF_MEMORY some of them may be there. */
+/* Inserts as many vertices, each with the number 0, and gives the index of each. They are inserted
+ * along a curve through the plane, whatever their order in the list, so new ones have indexes in
+ * that order. At OUT_OF_INDEXES and OUT_OF_MEMORY some of them may be there; `vertices` is written
+ * at OK alone. */
 uint32_t tevasulim_insert_all(tevasulim_triangulation *self, const tevasulim_point *points,
                               size_t count, uint32_t *vertices, size_t room);
 
@@ -179,7 +181,8 @@ uint32_t tevasulim_constrain_chain(tevasulim_triangulation *self, const uint32_t
 /* Takes from the edge between two vertices that it is a constraint. */
 uint32_t tevasulim_release(tevasulim_triangulation *self, uint32_t from, uint32_t to);
 
-/* Gives numbers of the caller's to vertices. An insertion gives its vertex the number 0. */
+/* Gives numbers of the caller's to vertices: the last one where a vertex is named more than once.
+ * An insertion gives its vertex the number 0. */
 uint32_t tevasulim_set_numbers(tevasulim_triangulation *self, const uint32_t *vertices,
                                size_t count, const uint64_t *numbers, size_t number_count);
 

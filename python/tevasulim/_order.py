@@ -1,5 +1,7 @@
-"""Orders of points in which each search begins near its end."""
+"""Orders of points in which each search begins near its end, and rounds of insertions."""
 from __future__ import annotations
+
+from typing import List
 
 import numpy as np
 
@@ -41,15 +43,13 @@ def near_order(points: np.ndarray) -> np.ndarray:
     return np.argsort(keys, kind="stable")
 
 
-def rounds_order(points: np.ndarray) -> np.ndarray:
-    """Rows of points of shape (n, 2) in an order to insert them: in rounds of more and more, each
-    picked blindly, but always the same, from all over the plane, and each in near order. So no
-    order and no distribution of points makes many flips."""
+def rounds(points: np.ndarray) -> List[np.ndarray]:
+    """Rows of points of shape (n, 2) in rounds of more and more, each picked blindly, but always
+    the same, from all over the plane. The library inserts each along a curve: so no order and no
+    distribution of points makes many flips."""
     ends = [len(points)]
     while ends[-1] > FIRST:
         ends.append(ends[-1] // TIMES)
     if len(ends) == 1:
-        return near_order(points)
-    rows = np.random.default_rng(0).permutation(len(points))
-    parts = np.split(rows, ends[:0:-1])
-    return np.concatenate([part[near_order(points[part])] for part in parts])
+        return [np.arange(len(points))]
+    return np.split(np.random.default_rng(0).permutation(len(points)), ends[:0:-1])

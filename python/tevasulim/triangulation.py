@@ -13,7 +13,7 @@ from . import _library as library
 from ._faces import faces_of_edges, faces_of_vertices, outline
 
 from ._numbers import checked_scale, coordinates, index_array, one_point, point_list, squared
-from ._order import near_order, rounds_order
+from ._order import near_order, rounds
 from .errors import NoSuchPointError, NoSuchVertexError, OutOfIndexesError
 
 __all__ = ["Triangulation", "Place", "Places", "Met", "Meeting"]
@@ -207,30 +207,30 @@ class Triangulation:
         array = point_list(points, self._scale)
         with self._lock:
             self._reserve(len(array))
+            vertices = np.empty(len(array), np.uint32)
             try:
-                vertices = self._of_each("insert_all", array, rounds_order(array), 1)[:, 0]
+                for part in rounds(array):
+                    vertices[part] = self._of_each("insert_all", array[part], 1)[:, 0]
             except MemoryError:
                 self._is_behind = True
                 self._made.clear()
                 raise
             return self._note(array, vertices)
 
-    def _of_each(
-        self, name: str, points: np.ndarray, order: np.ndarray, columns: int
-    ) -> np.ndarray:
-        """What a call of the library gives for each of some points, of so many 32-bit columns,
-        which it is handed in an order of its own."""
-        ordered = np.ascontiguousarray(points[order])
-        found = np.empty((max(len(points), 1), columns), np.uint32)
-        self._call(name, *library.rows(ordered), found.ctypes.data, len(points))
-        given = np.empty((len(points), columns), np.uint32)
-        given[order] = found[: len(points)]
-        return given
+    def _of_each(self, name: str, points: np.ndarray, columns: int) -> np.ndarray:
+        """What a call of the library gives for each of some points, of so many 32-bit columns."""
+        points = np.ascontiguousarray(points)
+        given = np.empty((max(len(points), 1), columns), np.uint32)
+        self._call(name, *library.rows(points), given.ctypes.data, len(points))
+        return given[: len(points)]
 
     def _near(self, name: str, points: np.ndarray, columns: int) -> np.ndarray:
-        """The same of points of any shape, in near order."""
+        """The same of points of any shape, which the library is handed in near order."""
         flat = points.reshape(-1, 2)
-        return self._of_each(name, flat, near_order(flat), columns)
+        order = near_order(flat)
+        given = np.empty((len(flat), columns), np.uint32)
+        given[order] = self._of_each(name, flat[order], columns)
+        return given
 
     def _catch_up(self) -> None:
         """Notes the vertices that a refused insertion left."""

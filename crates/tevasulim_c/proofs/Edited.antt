@@ -16,7 +16,7 @@ use Rattle.tevasulim_c.specs.declared.kept.KeptPoints.TheVariants.{Plain, Constr
 use Rattle.tevasulim_c.specs.declared.statuses.TheConstants.{WELL, IS_PLAIN, NO_SUCH_VERTEX}
 use Rattle.tevasulim_c.specs.declared.statuses.TheConstants.{CROSSING, IS_CONSTRAINED}
 use Rattle.tevasulim_c.specs.declared.statuses.TheConstants.{OUT_OF_MEMORY}
-use Rattle.tevasulim_c.specs.Edits.{AddsKept, Addition, AllowsConstraints, AreVertices, EditsAt}
+use Rattle.tevasulim_c.specs.Edits.{AddsKept, Addition, AllowsConstraints, EditsAt}
 use Rattle.tevasulim_c.specs.Edits.{Removal, RemovesKept}
 use Rattle.tevasulim_c.specs.Edits.{removed, removal_of_none, removal_refused}
 use Rattle.tevasulim_c.specs.Edits.{added, addition_of_none, addition_crossing, addition_refused}
@@ -151,3 +151,14 @@ pub is_constrained : (k : KeptPoints)
 is_constrained k a is =
     subst (λ (w : KeptPoints). AllowsConstraints IS_CONSTRAINED w (Constrained a)) (sym is)
     (refl, refl)
+
+-- ---- for the functions that make the edits
+pub ruleset removals = (is_removed, is_not_removed, removes_none)
+
+pub ruleset removals_kept = (removed_from_plain, removed_from_constrained)
+
+pub ruleset additions = (is_added, is_not_added, is_crossing, adds_no_first, adds_no_second)
+
+pub ruleset additions_kept = (not_added_to_plain, added_to_constrained)
+
+pub ruleset allowances = (is_allowed, is_not_allowed, is_constrained)

@@ -27,6 +27,9 @@ pub into_constrained : (v : NumberedPoint) (r : Result ℕ InsertionError) (k : 
 into_constrained v r k a b is h =
     subst (λ (w : KeptPoints). InsertsKept v r w (Constrained b)) (sym is) h
 
+-- for the function that makes the edit
+pub ruleset insertions = (into_plain, into_constrained)
+
 -- a vertex was inserted
 pub inserted_at : (v : NumberedPoint) (r : Result ℕ InsertionError) (i : ℕ) (old new : KeptPoints)
     (kept : Option KeptPoints) → kept ≡ Some new → InsertsKept v r old new → IsKeptDelaunay new

@@ -6,3 +6,7 @@ pub mod Edited
 pub mod Writing
 pub mod Marks
 pub mod Sides
+pub mod Released
+pub mod Listed
+pub mod Numbers
+pub mod Chains

@@ -10,8 +10,8 @@ use Rattle.delaunay_edit.specs.Constrained.{none, constrained, constraint_edges,
 use Rattle.tevasulim_c.specs.declared.kept.KeptPoints.{KeptPoints}
 use Rattle.tevasulim_c.specs.declared.kept.KeptPoints.TheVariants.{Plain, Constrained}
 use Rattle.tevasulim_c.specs.declared.statuses.TheConstants.{WELL, IS_PLAIN, NO_SUCH_VERTEX}
-use Rattle.tevasulim_c.specs.declared.statuses.TheConstants.{CROSSING, IS_CONSTRAINED, NO_CONSTRAINT}
-use Rattle.tevasulim_c.specs.declared.statuses.TheConstants.{OUT_OF_MEMORY}
+use Rattle.tevasulim_c.specs.declared.statuses.TheConstants.{CROSSING, IS_CONSTRAINED}
+use Rattle.tevasulim_c.specs.declared.statuses.TheConstants.{NO_CONSTRAINT, OUT_OF_MEMORY}
 use Rattle.tevasulim_c.specs.Kept.{IsKeptDelaunay, kept_place, kept_state}
 
 -- an open handle had a triangulation: it has what this edit made of it

@@ -5,3 +5,4 @@ pub mod Edits
 pub mod Written
 pub mod Queries
 pub mod Links
+pub mod Lists

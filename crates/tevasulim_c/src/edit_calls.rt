@@ -2,15 +2,16 @@
 ghost use Rattle.std.specs.Prelude.{◌≡◌, [], None, IfNone, IfSome, MatchOption};
 ghost use Rattle.tevasulim_c.specs.declared.statuses.TheConstants.{CLOSED};
 ghost use Rattle.tevasulim_c.specs.Answers.{InsertsAt};
-ghost use Rattle.tevasulim_c.specs.Edits.{AddsKept, AllowsConstraints, EditsAt};
+ghost use Rattle.tevasulim_c.specs.Edits.{AddsKept, AllowsConstraints, EditsAt, ReleasesKept};
 ghost use Rattle.tevasulim_c.specs.Edits.{RemovesKept};
+ghost use Rattle.tevasulim_c.specs.Lists.{AddsChainKept, InsertsListKept, NumbersKept};
+ghost use Rattle.tevasulim_c.specs.Lists.{unnumbered_points};
 ghost use Rattle.tevasulim_c.specs.Kept.{IsKeptDelaunay, kept_vertices, unnumbered_at};
 
-use crate::edits;
 use crate::handle::Handle;
 use crate::kept::KeptPoints;
 use crate::raw::RawPoint;
-use crate::statuses::{CLOSED, IS_PLAIN, WELL, status_of};
+use crate::statuses::{CLOSED, WELL, status_of};
 use spade_delaunay::Point2;
 use std::alloc::Global;
 
@@ -75,22 +76,21 @@ pub extern "C" fn tevasulim_insert(
 }
 
 #[unsafe(no_mangle)]
+#[tactic(auto, using(crate::proofs::Edited::edited_at))]
 pub extern "C" fn tevasulim_insert_all(
     alloc: Global,
     handle: &mut Handle,
     positions: &[RawPoint],
     vertices: &mut [u32],
 ) -> u32
-    ensures headline { IfSome handle.new.kept IsKeptDelaunay }
-    ensures closed { IfNone handle.old.kept ((result ≡ CLOSED) × (handle.new.kept ≡ None)) }
+    ensures { MatchOption handle.old.kept ((result ≡ CLOSED) × (handle.new.kept ≡ None))
+        (λ old. EditsAt (InsertsListKept (unnumbered_points positions.now) result vertices.old
+        vertices.new) old handle.new.kept) }
 {
     let Some(mut kept) = handle.take(alloc) else {
         return CLOSED;
     };
-    let status = match &mut *kept {
-        KeptPoints::Plain(points) => edits::insert_all(points, positions, vertices),
-        KeptPoints::Constrained(points) => edits::insert_all(points, positions, vertices),
-    };
+    let status = kept.insert_all(alloc, positions, vertices);
     kept.recall_headline();
     handle.put(kept, alloc);
     status
@@ -127,6 +127,7 @@ pub extern "C" fn tevasulim_constrain(alloc: Global, handle: &mut Handle, from: 
 }
 
 #[unsafe(no_mangle)]
+#[tactic(auto, using(crate::proofs::Edited::edited_at))]
 pub extern "C" fn tevasulim_constrain_chain(
     alloc: Global,
     handle: &mut Handle,
@@ -134,55 +135,49 @@ pub extern "C" fn tevasulim_constrain_chain(
     closed: bool,
     made: &mut usize,
 ) -> u32
-    ensures headline { IfSome handle.new.kept IsKeptDelaunay }
-    ensures closed { IfNone handle.old.kept ((result ≡ CLOSED) × (handle.new.kept ≡ None)) }
+    ensures { MatchOption handle.old.kept ((result ≡ CLOSED) × (handle.new.kept ≡ None))
+        (λ old. EditsAt (AddsChainKept vertices.now closed result made.new) old
+        handle.new.kept) }
 {
     let Some(mut kept) = handle.take(alloc) else {
         return CLOSED;
     };
-    let status = match &mut *kept {
-        KeptPoints::Plain(_) => IS_PLAIN,
-        KeptPoints::Constrained(points) => edits::constrain_chain(points, vertices, closed, made),
-    };
+    let status = kept.constrain_chain(vertices, closed, made);
     kept.recall_headline();
     handle.put(kept, alloc);
     status
 }
 
 #[unsafe(no_mangle)]
+#[tactic(auto, using(crate::proofs::Edited::edited_at))]
 pub extern "C" fn tevasulim_release(alloc: Global, handle: &mut Handle, from: u32, to: u32) -> u32
-    ensures headline { IfSome handle.new.kept IsKeptDelaunay }
-    ensures closed { IfNone handle.old.kept ((result ≡ CLOSED) × (handle.new.kept ≡ None)) }
+    ensures { MatchOption handle.old.kept ((result ≡ CLOSED) × (handle.new.kept ≡ None))
+        (λ old. EditsAt (ReleasesKept from to result) old handle.new.kept) }
 {
     let Some(mut kept) = handle.take(alloc) else {
         return CLOSED;
     };
-    let status = match &mut *kept {
-        KeptPoints::Plain(_) => IS_PLAIN,
-        KeptPoints::Constrained(points) => edits::release(points, from, to),
-    };
+    let status = kept.release(from, to);
     kept.recall_headline();
     handle.put(kept, alloc);
     status
 }
 
 #[unsafe(no_mangle)]
+#[tactic(auto, using(crate::proofs::Edited::edited_at))]
 pub extern "C" fn tevasulim_set_numbers(
     alloc: Global,
     handle: &mut Handle,
     vertices: &[u32],
     numbers: &[u64],
 ) -> u32
-    ensures headline { IfSome handle.new.kept IsKeptDelaunay }
-    ensures closed { IfNone handle.old.kept ((result ≡ CLOSED) × (handle.new.kept ≡ None)) }
+    ensures { MatchOption handle.old.kept ((result ≡ CLOSED) × (handle.new.kept ≡ None))
+        (λ old. EditsAt (NumbersKept vertices.now numbers.now result) old handle.new.kept) }
 {
     let Some(mut kept) = handle.take(alloc) else {
         return CLOSED;
     };
-    let status = match &mut *kept {
-        KeptPoints::Plain(points) => edits::set_numbers(points, vertices, numbers),
-        KeptPoints::Constrained(points) => edits::set_numbers(points, vertices, numbers),
-    };
+    let status = kept.set_numbers(vertices, numbers);
     kept.recall_headline();
     handle.put(kept, alloc);
     status

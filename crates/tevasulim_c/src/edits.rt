@@ -7,11 +7,9 @@ ghost use Rattle.tevasulim_c.specs.Edits.{ReleasesKept, Removal, RemovesKept};
 
 use crate::kept::{ConstrainedPoints, KeptPoints, PlainPoints};
 use crate::lists::counts_of;
-use crate::queries::{are_in_range, point_of};
-use crate::raw::{NumberedPoint, RawCounts, RawPoint};
+use crate::raw::{NumberedPoint, RawCounts};
 use crate::statuses::{
-    CROSSING, IS_CONSTRAINED, IS_PLAIN, NO_CONSTRAINT, NO_SUCH_VERTEX, OUT_OF_MEMORY, TOO_LARGE,
-    TOO_SHORT, UNEQUAL_LENGTHS, WELL, status_of,
+    CROSSING, IS_CONSTRAINED, IS_PLAIN, NO_CONSTRAINT, NO_SUCH_VERTEX, OUT_OF_MEMORY, WELL,
 };
 use exact_predicates::ExactTests;
 use spade_delaunay::handles::FixedVertexHandle;
@@ -28,46 +26,15 @@ pub fn unnumbered(position: Point2<i32>) -> NumberedPoint
     }
 }
 
-// Whether a vertex has an index.
-fn is_vertex<T: Triangulation>(points: &T, index: u32) -> bool
+/// Whether a vertex has an index.
+pub fn is_vertex<T: Triangulation>(points: &T, index: u32) -> bool
     ensures { IsTrue result ↔ (index < length (T.state points.now).vertices) }
 {
     (index as usize) < points.num_vertices()
 }
 
-// Whether vertices have these indexes.
-fn are_vertices<T: Triangulation>(points: &T, indexes: &[u32]) -> bool {
-    for index in indexes {
-        if !is_vertex(points, *index) {
-            return false;
-        }
-    }
-    true
-}
-
-/// Inserts vertices one by one, each by a search from the one before it.
-pub fn insert_all<T: Triangulation<Vertex = NumberedPoint>>(
-    points: &mut T,
-    positions: &[RawPoint],
-    vertices: &mut [u32],
-) -> u32 {
-    if vertices.len() < positions.len() {
-        return TOO_SHORT;
-    }
-    if !are_in_range(positions) {
-        return TOO_LARGE;
-    }
-    for index in 0..positions.len() {
-        match points.insert(unnumbered(point_of(&positions[index])), &ExactTests) {
-            Ok(vertex) => vertices[index] = vertex.index(),
-            Err(error) => return status_of(error),
-        }
-    }
-    WELL
-}
-
-/// Removes a vertex.
-#[tactic(auto, using(crate::proofs::Edited::is_removed, crate::proofs::Edited::is_not_removed, crate::proofs::Edited::removes_none))]
+// Removes a vertex.
+#[tactic(auto, using(crate::proofs::Edited::removals))]
 fn remove<T: Triangulation<Vertex = NumberedPoint>>(points: &mut T, vertex: u32) -> u32
     ensures { Removal kept_place T.Constraints.constraints vertex result
         (T.state points.old) (T.state points.new) }
@@ -81,32 +48,8 @@ fn remove<T: Triangulation<Vertex = NumberedPoint>>(points: &mut T, vertex: u32)
     }
 }
 
-/// Gives numbers to vertices.
-pub fn set_numbers<T: Triangulation<Vertex = NumberedPoint>>(
-    points: &mut T,
-    vertices: &[u32],
-    numbers: &[u64],
-) -> u32 {
-    if vertices.len() != numbers.len() {
-        return UNEQUAL_LENGTHS;
-    }
-    if !are_vertices(points, vertices) {
-        return NO_SUCH_VERTEX;
-    }
-    for index in 0..vertices.len() {
-        if !is_vertex(points, vertices[index]) {
-            return NO_SUCH_VERTEX;
-        }
-        let vertex = FixedVertexHandle::from_index(vertices[index]);
-        let position = points.vertex(vertex).data().position;
-        let number = numbers[index];
-        let _old = points.replace_vertex(vertex, NumberedPoint { position, number });
-    }
-    WELL
-}
-
 /// Joins two vertices by constraints.
-#[tactic(auto, using(crate::proofs::Edited::is_added, crate::proofs::Edited::is_not_added, crate::proofs::Edited::is_crossing, crate::proofs::Edited::adds_no_first, crate::proofs::Edited::adds_no_second))]
+#[tactic(auto, using(crate::proofs::Edited::additions))]
 pub fn constrain(points: &mut ConstrainedPoints, from: u32, to: u32) -> u32
     ensures { Addition kept_place from to result points.old points.new }
 {
@@ -126,55 +69,41 @@ pub fn constrain(points: &mut ConstrainedPoints, from: u32, to: u32) -> u32
     }
 }
 
-/// Joins each vertex to the next, and counts the segments that are joined.
-pub fn constrain_chain(
+// Takes from the edge between two vertices of the triangulation that it is a constraint.
+fn release_between(
     points: &mut ConstrainedPoints,
-    vertices: &[u32],
-    closed: bool,
-    made: &mut usize,
-) -> u32 {
-    *made = 0;
-    if !are_vertices(points, vertices) {
-        return NO_SUCH_VERTEX;
-    }
-    if vertices.is_empty() {
-        return WELL;
-    }
-    for index in 1..vertices.len() {
-        let status = constrain(points, vertices[index - 1], vertices[index]);
-        if status != WELL {
-            return status;
-        }
-        *made = index;
-    }
-    if !closed {
-        return WELL;
-    }
-    let status = constrain(points, vertices[vertices.len() - 1], vertices[0]);
-    if status == WELL {
-        *made = vertices.len();
-    }
-    status
-}
-
-/// Takes from the edge between two vertices that it is a constraint.
-pub fn release(points: &mut ConstrainedPoints, from: u32, to: u32) -> u32 {
-    if !is_vertex(points, from) || !is_vertex(points, to) {
-        return NO_SUCH_VERTEX;
-    }
-    let (from, to) = (
-        FixedVertexHandle::from_index(from),
-        FixedVertexHandle::from_index(to),
-    );
+    from: FixedVertexHandle,
+    to: FixedVertexHandle,
+) -> u32
+    requires from_in { from < length points.old.vertices }
+    requires to_in { to < length points.old.vertices }
+    ensures { Release kept_place from to result points.old points.new }
+{
+    points.recall_invariant();
     let Some(edge) = points.get_edge_from_neighbors(from, to) else {
         return NO_CONSTRAINT;
     };
-    let edge = edge.as_undirected().fix();
+    let edge = edge.fix().as_undirected();
     match points.remove_constraint_edge(edge, &ExactTests) {
         Ok(true) => WELL,
         Ok(false) => NO_CONSTRAINT,
         Err(_) => OUT_OF_MEMORY,
     }
+}
+
+// Takes from the edge between two vertices that it is a constraint.
+#[tactic(auto, using(crate::proofs::Released::releases))]
+fn release(points: &mut ConstrainedPoints, from: u32, to: u32) -> u32
+    ensures { Release kept_place from to result points.old points.new }
+{
+    if !is_vertex(points, from) || !is_vertex(points, to) {
+        return NO_SUCH_VERTEX;
+    }
+    release_between(
+        points,
+        FixedVertexHandle::from_index(from),
+        FixedVertexHandle::from_index(to),
+    )
 }
 
 impl KeptPoints {
@@ -192,7 +121,7 @@ impl KeptPoints {
     }
 
     /// Inserts a vertex with the number 0.
-    #[tactic(auto, using(crate::proofs::Inserted::into_plain, crate::proofs::Inserted::into_constrained))]
+    #[tactic(auto, using(crate::proofs::Inserted::insertions))]
     pub fn insert(&mut self, position: Point2<i32>) -> Result<FixedVertexHandle, InsertionError>
         ensures inserts { InsertsKept (record { position = position; number = 0 }) result self.old
             self.new }
@@ -209,7 +138,7 @@ impl KeptPoints {
     }
 
     /// Removes a vertex.
-    #[tactic(auto, using(crate::proofs::Edited::removed_from_plain, crate::proofs::Edited::removed_from_constrained))]
+    #[tactic(auto, using(crate::proofs::Edited::removals_kept))]
     pub fn remove(&mut self, vertex: u32) -> u32
         ensures { RemovesKept vertex result self.old self.new }
     {
@@ -220,7 +149,7 @@ impl KeptPoints {
     }
 
     /// Joins two vertices by constraints.
-    #[tactic(auto, using(crate::proofs::Edited::not_added_to_plain, crate::proofs::Edited::added_to_constrained))]
+    #[tactic(auto, using(crate::proofs::Edited::additions_kept))]
     pub fn constrain(&mut self, from: u32, to: u32) -> u32
         ensures { AddsKept from to result self.old self.new }
     {
@@ -230,8 +159,19 @@ impl KeptPoints {
         }
     }
 
+    /// Takes from the edge between two vertices that it is a constraint.
+    #[tactic(auto, using(crate::proofs::Released::releases_kept))]
+    pub fn release(&mut self, from: u32, to: u32) -> u32
+        ensures { ReleasesKept from to result self.old self.new }
+    {
+        match self {
+            KeptPoints::Plain(_) => IS_PLAIN,
+            KeptPoints::Constrained(points) => release(points, from, to),
+        }
+    }
+
     /// A constrained triangulation of a plain one; else, or where memory is refused, the same.
-    #[tactic(auto, using(crate::proofs::Edited::is_allowed, crate::proofs::Edited::is_not_allowed, crate::proofs::Edited::is_constrained))]
+    #[tactic(auto, using(crate::proofs::Edited::allowances))]
     pub fn allow_constraints(self) -> (Self, u32)
         ensures { AllowsConstraints result.1 self result.0 }
     {

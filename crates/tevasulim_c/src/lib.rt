@@ -6,6 +6,7 @@ mod edits;
 mod exports;
 mod handle;
 mod kept;
+mod list_edits;
 mod lists;
 mod loose;
 mod queries;
