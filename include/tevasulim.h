@@ -12,7 +12,8 @@
  * Statuses. Each call but `tevasulim_close` and `tevasulim_version` gives one, TEVASULIM_OK
  * where all went well, and `tevasulim_status_text` says it in words. After any other the
  * triangulation is as it was, unless the call says what stays; what an out list or an out number
- * holds then is not told, but for the length that TEVASULIM_TOO_SHORT comes with. Where several
+ * holds then is not told, but for the length that TEVASULIM_TOO_SHORT comes with; the lists of all
+ * elements, `tevasulim_locate` and `tevasulim_nearest` leave theirs as it was. Where several
  * statuses apply, the call gives one of them.
  *
  * Lists. A list is a pointer and the number of elements there, its room where the call writes
