@@ -1,6 +1,7 @@
 -- How the addition of a chain of constraints that C asks for ended.
 use Rattle.std.proofs.Common.{◌≡◌, ◌≢◌, ◌<◌, ◌+◌, ◌-◌, ◌∙◌, [], ◌∷◌, ◌++◌, ℕ, zero, suc}
-use Rattle.std.proofs.Common.{Bool, true, false, List, length, take, get_or, refl, sym, ap, subst, arith}
+use Rattle.std.proofs.Common.{Bool, true, false, List, length, take, get_or, refl, sym, ap, subst}
+use Rattle.std.proofs.Common.{arith}
 use Rattle.std.specs.Prelude.{All, Some, slice_get}
 use Rattle.std.proofs.lemmas.List.{length_push, take_all, take-append-le, take_more}
 use Rattle.std.proofs.lemmas.Option.{slice_get_within, get_or_from_slice_get}

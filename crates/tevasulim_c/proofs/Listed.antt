@@ -1,6 +1,7 @@
 -- How the insertion of a list that C asks for ended, by what the library's insertion says.
 use Rattle.std.proofs.Common.{◌≡◌, ◌≢◌, ◌<◌, ◌≤◌, ◌+◌, ◌∙◌, [], ◌∷◌, ◌++◌, ℕ, List, length}
-use Rattle.std.proofs.Common.{take, drop, set, get_or, refl, sym, ap, subst, inl, inr, arith, append_assoc}
+use Rattle.std.proofs.Common.{take, drop, set, get_or, refl, sym, ap, subst, inl, inr, arith}
+use Rattle.std.proofs.Common.{append_assoc}
 use Rattle.std.specs.Prelude.{Err}
 use Rattle.std.proofs.lemmas.List.{drop_more, length-take-le, set_at, take_all, take_more}
 use Rattle.plane.specs.Fraction.{Point}

@@ -8,7 +8,8 @@ loop-place-preserved c =
     ap (λ (n : ℕ). set c.loop-place.indexes c.loop-place.place n) (c.index.ensures
     ∙ get_or_read c.args.vertices.now c.loop-place.place c.index-vertices-place.result
     c.loop-place-test.true c.index-vertices-place.is 0)
-    ∙ ap (λ (xs : List ℕ). set xs c.loop-place.place (get_or c.args.vertices.now c.loop-place.place 0))
+    ∙ ap (λ (xs : List ℕ).
+    set xs c.loop-place.place (get_or c.args.vertices.now c.loop-place.place 0))
     c.loop-place.invariant
     ∙ write_more c.args.vertices.now c.args.indexes.now c.loop-place.place c.loop-place-test.true
     c.requires
