@@ -11,4 +11,3 @@ pub mod Slide
 pub mod SplitLine
 pub mod LineSound
 pub mod Passing
-pub mod PassKept

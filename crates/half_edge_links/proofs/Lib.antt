@@ -2,6 +2,7 @@ pub mod Views
 pub mod Lists
 pub mod Stored
 pub mod Sound
+pub mod Relinking
 pub mod Faces
 pub mod Growing
 pub mod Removing

@@ -8,4 +8,4 @@ pub mod Sums
 pub mod Orbits
 pub mod OneOrbit
 pub mod Walks
-pub mod MovedInWalk
+pub mod Named

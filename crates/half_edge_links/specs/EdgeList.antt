@@ -56,6 +56,10 @@ stored_face rs h f = slice_set rs h (record (stored_at rs h) { face = f })
 unfoldable pub stored_corner : List StoredEdge → ℕ → ℕ → List StoredEdge
 stored_corner rs h o = slice_set rs h (record (stored_at rs h) { prev_origin = o })
 
+-- directed edge n is put after h, which starts at o
+abbrev pub stored_joined : List StoredEdge → ℕ → ℕ → ℕ → List StoredEdge
+stored_joined rs h n o = stored_corner (stored_prev (stored_next rs h n) n h) n o
+
 -- the same edges, and room for them
 pub record HoldsSameEdges (old new : Listed) : Type 0 where
   pub items : new.items ≡ old.items

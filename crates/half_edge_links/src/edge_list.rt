@@ -135,6 +135,7 @@ impl EdgeList {
     pub(crate) fn push_reserved(&mut self, edge: StoredEdge)
         requires { length self.old.items < self.old.capacity }
         ensures items { self.new.items ≡ self.old.items ++ edge ∷ [] }
+        ensures len { length self.new.items ≡ length self.old.items + 1 }
         ensures capacity { self.new.capacity ≡ self.old.capacity }
     {
         self.records.push_reserved(edge);

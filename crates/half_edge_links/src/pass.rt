@@ -10,7 +10,7 @@ ghost use Rattle.half_edge_links.specs.Rest.{KeepsRest};
 
 use crate::edge_list::EdgeList;
 use crate::links::Links;
-use crate::records::{reversed, set_corner, set_next, set_prev};
+use crate::records::{join, reversed, set_corner};
 
 // Lets edge `e`, with other side `t`, end at the far end of the edge `l` after it, whose other side
 // is `k`; `z` is the edge before `k`.
@@ -26,15 +26,9 @@ fn pass_edges(half_edges: &mut EdgeList, e: u32, t: u32, k: u32, l: u32, z: u32)
     let far = half_edges.origin(k);
     let start_before = half_edges.origin(z);
     let after_twin = half_edges.next(t);
-    set_next(half_edges, e, k);
-    set_next(half_edges, z, t);
-    set_next(half_edges, k, l);
-    set_prev(half_edges, l, k);
-    set_prev(half_edges, k, e);
-    set_prev(half_edges, t, z);
-    set_corner(half_edges, k, start);
-    set_corner(half_edges, t, start_before);
-    set_corner(half_edges, l, far);
+    join(half_edges, e, k, start);
+    join(half_edges, z, t, start_before);
+    join(half_edges, k, l, far);
     set_corner(half_edges, after_twin, far);
 }
 

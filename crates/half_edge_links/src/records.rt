@@ -2,7 +2,7 @@
 ghost use Rattle.std.specs.Prelude.{◌≡◌, ◌≢◌, ◌+◌, ◌-◌, ◌<◌, ◌≤◌, length};
 ghost use Rattle.half_edge_links.specs.Mesh.{face, edge_at, origin, next, prev, rev};
 ghost use Rattle.half_edge_links.specs.EdgeList.{shown, stored_next, stored_prev};
-ghost use Rattle.half_edge_links.specs.EdgeList.{stored_face, stored_corner};
+ghost use Rattle.half_edge_links.specs.EdgeList.{stored_face, stored_corner, stored_joined};
 ghost use Rattle.half_edge_links.specs.Places.{AreJoined, AreSlidPlaces};
 ghost use Rattle.half_edge_links.specs.Grow.{hung_edges, closed_edges, slid_edges};
 
@@ -107,6 +107,19 @@ pub(crate) fn set_corner(half_edges: &mut EdgeList, h: u32, prev_origin: u32)
     );
 }
 
+// Puts the edge `after` after `h`, which starts at vertex `start`.
+pub(crate) fn join(half_edges: &mut EdgeList, h: u32, after: u32, start: u32)
+    requires edge { h < length half_edges.old.items }
+    requires after { after < length half_edges.old.items }
+    ensures items { half_edges.new.items ≡ stored_joined half_edges.old.items h after start }
+    ensures len { length half_edges.new.items ≡ length half_edges.old.items }
+    ensures capacity { half_edges.new.capacity ≡ half_edges.old.capacity }
+{
+    set_next(half_edges, h, after);
+    set_prev(half_edges, after, h);
+    set_corner(half_edges, after, start);
+}
+
 // Puts an edge to vertex `v` and back after edge `x`, whose next one is `y`.
 #[tactic(auto, using(crate::proofs::Stored::Shown::joined_reads))]
 pub(crate) fn hang_edges(half_edges: &mut EdgeList, x: u32, v: u32)
@@ -177,14 +190,8 @@ pub(crate) fn slide_edges(half_edges: &mut EdgeList, e: u32, t: u32, k: u32, l: 
     let far = half_edges.origin(l);
     let start_before = half_edges.origin(z);
     let after_twin = half_edges.next(t);
-    set_next(half_edges, e, l);
-    set_next(half_edges, z, k);
-    set_next(half_edges, k, t);
-    set_prev(half_edges, l, e);
-    set_prev(half_edges, k, z);
-    set_prev(half_edges, t, k);
-    set_corner(half_edges, l, start);
-    set_corner(half_edges, k, start_before);
-    set_corner(half_edges, t, middle);
+    join(half_edges, e, l, start);
+    join(half_edges, z, k, start_before);
+    join(half_edges, k, t, middle);
     set_corner(half_edges, after_twin, far);
 }

@@ -13,7 +13,7 @@ ghost use Rattle.half_edge_links.specs.Renames.{renamed, pair_moved};
 ghost use Rattle.half_edge_links.specs.declared.room.TheConstants.{MAX_ELEMENTS};
 
 use crate::edge_list::EdgeList;
-use crate::records::{reversed, set_corner, set_face, set_next, set_prev};
+use crate::records::{join, reversed, set_corner, set_face, set_next, set_prev};
 use crate::vertex_list::VertexList;
 
 // The three directed edges round the triangle of `h` get this face.
@@ -45,18 +45,10 @@ pub(crate) fn unlink(half_edges: &mut EdgeList, e: u32, t: u32)
     let twin = half_edges.get(t);
     let start_before = half_edges.origin(edge.prev);
     let end_before = half_edges.origin(twin.prev);
-    set_next(half_edges, edge.prev, twin.next);
-    set_prev(half_edges, twin.next, edge.prev);
-    set_next(half_edges, twin.prev, edge.next);
-    set_prev(half_edges, edge.next, twin.prev);
-    set_next(half_edges, e, e);
-    set_prev(half_edges, e, e);
-    set_next(half_edges, t, t);
-    set_prev(half_edges, t, t);
-    set_corner(half_edges, twin.next, start_before);
-    set_corner(half_edges, edge.next, end_before);
-    set_corner(half_edges, e, edge.origin);
-    set_corner(half_edges, t, twin.origin);
+    join(half_edges, edge.prev, twin.next, start_before);
+    join(half_edges, twin.prev, edge.next, end_before);
+    join(half_edges, e, e, edge.origin);
+    join(half_edges, t, t, twin.origin);
 }
 
 // The last two directed edges, from `last` on, take the place of `hole` and the one after it.

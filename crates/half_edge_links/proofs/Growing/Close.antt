@@ -51,17 +51,7 @@ corner m e s can =
     let first_second : e ≢ next m e = λ same. here.proper (sym same) in
     let before_first : prev m e ≢ e =
     λ same. here.proper (sym (ap (next m) same) ∙ here.next_prev) in
-    assumption (
-      here,
-      second,
-      differs,
-      second_outer,
-      before_outer,
-      after_outer,
-      before_second,
-      first_second,
-      before_first,
-    )
+    assumption
 
 -- a face of outer edge e, the next one and a new edge changes the links round it, and no others
 pub closes : (m : Mesh) (e : ℕ) → AreSoundLinks m → IsClosable m e

@@ -1,17 +1,20 @@
 -- An edge of a line that passes the vertex at its end.
-use Rattle.std.proofs.Common.{◌≡◌, ◌≢◌, ◌<◌, ◌∙◌}
-use Rattle.std.proofs.Common.{ℕ, length, Some, None, refl, sym, ap, inl, inr, arith}
-use Rattle.std.proofs.lemmas.Bool.{cases_eq}
+use Rattle.std.proofs.Common.{◌≡◌, ◌≢◌, ◌⊎◌, ◌<◌, ◌∙◌}
+use Rattle.std.proofs.Common.{ℕ, length, Some, None, refl, sym, ap, inr}
 use Rattle.std.proofs.lemmas.List.{get_or-set_same, get_or-set_other, length-set}
-use Rattle.half_edge_links.proofs.Lists.Cases.{◌or_else◌}
-use Rattle.half_edge_links.specs.Mesh.{Mesh, origin, next, prev, rev, AreSoundLinks}
+use Rattle.half_edge_links.specs.Mesh.{Mesh, origin, next, prev, rev, AreSoundLinks, IsValidMesh}
+use Rattle.half_edge_links.specs.Mesh.{HasStars}
+use Rattle.half_edge_links.specs.Hull.{KeepsOneOutline}
+use Rattle.half_edge_links.specs.Outline.{MovesEdge}
 use Rattle.half_edge_links.specs.Places.{ArePassedPlaces}
 use Rattle.half_edge_links.specs.Pass.{IsPassable, passed_edges, passed, Passes}
-use Rattle.half_edge_links.proofs.Lists.Rev.{rev-rev, rev_within, rev_differs}
+use Rattle.half_edge_links.proofs.Lists.Rev.{rev-rev, rev_same, rev_within, rev_differs}
 use Rattle.half_edge_links.proofs.Sound.Relinks.{relinks}
-use Rattle.half_edge_links.proofs.Sound.Parts.{next_kept, next_at, EachNextIsSound}
-use Rattle.half_edge_links.proofs.Growing.LineSound as line
-use Rattle.half_edge_links.proofs.Growing.LineSound.{MovesEnd}
+use Rattle.half_edge_links.proofs.Sound.Valid.{small_same}
+use Rattle.half_edge_links.proofs.Growing.LineSound.{IsLineMove, sound_moved, outline_moved}
+use Rattle.half_edge_links.proofs.Growing.LineSound.{apart_moved, ends_move}
+use Rattle.half_edge_links.proofs.Relinking.Walks.{star_walk, stars_exchanged}
+use Rattle.half_edge_links.proofs.Relinking.Walks.{IsMoved, exchange_moved}
 
 -- the edge k from the far end, that is the edge before the other side of e
 abbrev pub far_edge : Mesh → ℕ → ℕ
@@ -19,6 +22,7 @@ far_edge m e = prev m (rev e)
 
 -- the edges beside an edge that passes a vertex
 pub record IsBeside (m : Mesh) (e : ℕ) : Type 0 where
+  pub edge_in : e < length m.half_edges
   pub twin_in : rev e < length m.half_edges
   pub back_in : next m e < length m.half_edges
   pub there_in : far_edge m e < length m.half_edges
@@ -28,11 +32,13 @@ pub record IsBeside (m : Mesh) (e : ℕ) : Type 0 where
   pub there_next : next m (far_edge m e) ≡ rev e
   pub before_next : next m (prev m (far_edge m e)) ≡ far_edge m e
   pub start : origin m (next m e) ≡ origin m (rev e)
+  pub edge-twin : e ≢ rev e
   pub edge-before : e ≢ prev m (far_edge m e)
   pub edge-there : e ≢ far_edge m e
   pub before-there : prev m (far_edge m e) ≢ far_edge m e
   pub back-there : next m e ≢ far_edge m e
   pub back-twin : next m e ≢ rev e
+  pub there-back : far_edge m e ≢ next m e
   pub there-twin : far_edge m e ≢ rev e
   pub before-twin : prev m (far_edge m e) ≢ rev e
 
@@ -47,48 +53,21 @@ beside m e s can =
     let off : next m e ≢ far_edge m e = λ q. rev_differs (far_edge m e) (sym back_is ∙ q) in
     let end_is : origin m (far_edge m e) ≡ origin m (rev (prev m (far_edge m e))) =
     ap (origin m) (sym there.next_prev) ∙ (s.edges _ there.prev_in).starts in
+    let edge_twin : e ≢ rev e = λ q. rev_differs e (sym q) in
     let edge_before : e ≢ prev m (far_edge m e) = λ q. off (ap (next m) q ∙ there.next_prev) in
     let edge_there : e ≢ far_edge m e = λ q. can.apart (back_is ∙ ap rev (sym q)) in
     let before_there : prev m (far_edge m e) ≢ far_edge m e =
     λ q. there.proper (ap (next m) (sym q) ∙ there.next_prev) in
+    let there_back : far_edge m e ≢ next m e = λ q. off (sym q) in
     let there_twin : far_edge m e ≢ rev e = λ q. there.proper (twin.next_prev ∙ sym q) in
     let before_twin : prev m (far_edge m e) ≢ rev e = λ q. can.corners
     (ap (origin m) (sym (rev-rev e) ∙ ap rev (sym q)) ∙ sym end_is ∙ ap (origin m) can.two) in
-    assumption (
-      can,
-      here,
-      there,
-      twin,
-      twin_in,
-      back_is,
-      off,
-      edge_before,
-      edge_there,
-      before_there,
-      there_twin,
-      before_twin,
-    )
+    assumption
 
 -- the edges beside an edge that can pass a vertex are those that the writes to the list ask for
 pub passed_places : (m : Mesh) (e : ℕ) → AreSoundLinks m → IsPassable m e
     → ArePassedPlaces m.half_edges e (rev e) (far_edge m e) (next m e) (prev m (far_edge m e))
-passed_places m e s can =
-    let t = beside m e s can in
-    record {
-      edge_in = can.within;
-      twin_in = t.twin_in;
-      back_is = refl;
-      there_is = refl;
-      before_is = refl;
-      edge-twin = λ q. rev_differs e (sym q);
-      edge-before = t.edge-before;
-      edge-there = t.edge-there;
-      before-there = t.before-there;
-      back-there = t.back-there;
-      back-twin = t.back-twin;
-      there-twin = t.there-twin;
-      before-twin = t.before-twin;
-    }
+passed_places m e s can = let t = beside m e s can in assumption t
 
 -- an edge that passes the vertex at its end changes the links beside it, and no others
 pub passes : (m : Mesh) (e : ℕ) → AreSoundLinks m → IsPassable m e
@@ -112,48 +91,79 @@ module _ (m new : Mesh) (e : ℕ) (s : AreSoundLinks m) (can : IsPassable m e)
   t : IsBeside m e
   t = beside m e s can
 
-  -- the end of e moves to the far end of the next edge, where the edge from there starts
-  pub end_moves : MovesEnd m new e (far_edge m e)
-  end_moves = assumption t
+  -- the edge from the far end goes from before the other side of e to behind e; the other side of e
+  -- starts where it does
+  pub line_passes : IsLineMove m new e (far_edge m e) (far_edge m e) (prev m (far_edge m e)) (rev e)
+      e (next m e)
+  line_passes =
+      let starts_q : origin new (rev e) ≡ origin new (rev (prev m (far_edge m e))) =
+      i.origin_twin ∙ sym (ap (origin m) t.before_next) ∙ (s.edges _ t.before_in).starts
+      ∙ sym (i.other_origins _ (rev_within _ _ s.even t.before_in)
+      (λ q. t.edge-before (sym (rev_same (prev m (far_edge m e)) e q)))) in
+      let starts_k : origin new (far_edge m e) ≡ origin new (rev e) =
+      i.other_origins _ t.there_in t.there-twin ∙ sym i.origin_twin in
+      let starts_a : origin new (next m e) ≡ origin new (rev (far_edge m e)) =
+      ap (origin new) t.back_is in
+      let edge_named : (e ≡ prev m (far_edge m e)) ⊎ (e ≡ e) = inr refl in
+      let before_named : (far_edge m e ≡ e) ⊎ (far_edge m e ≡ far_edge m e) = inr refl in
+      let other_next = λ (h : ℕ) (within : h < length m.half_edges)
+      (off_p : h ≢ prev m (far_edge m e)) (off_r : h ≢ e) (off_k : h ≢ far_edge m e).
+      i.other_next h within off_r off_p off_k in
+      let other_prev = λ (h : ℕ) (within : h < length m.half_edges) (off_q : h ≢ rev e)
+      (off_k : h ≢ far_edge m e) (off_a : h ≢ next m e). i.other_prev h within off_a off_k off_q in
+      assumption t
 
-  next_ok : EachNextIsSound new
-  next_ok h new_in =
-      let no_face = line.no_face m new e _ s end_moves in
-      let origin_rev = line.origin_rev m new e _ s end_moves in
-      let within : h < length m.half_edges = rw i.edge_count at new_in in
-      let here = s.edges h within in
-      elim (cases_eq e h or_else cases_eq (prev m (far_edge m e)) h or_else cases_eq
-      (far_edge m e) h) [
-        | inl same ↦ rw (← same) (
-            next_at new e (far_edge m e) i.next_edge (rw i.edge_count t.there_in) i.prev_there
-            (i.other_origins _ t.there_in t.there-twin ∙ sym i.origin_twin)
-            (no_face _ e t.there_in can.within)
-            (λ q. t.edge-there (sym q)))
-        | inr (not_edge, inl same) ↦ rw (← same) (
-            next_at new (prev m (far_edge m e)) (rev e) i.next_before
-            (rw i.edge_count t.twin_in) i.prev_twin
-            (i.origin_twin ∙ sym (ap (origin m) t.before_next) ∙ (s.edges _ t.before_in).starts
-            ∙ sym (origin_rev _ t.before_in (λ q. t.edge-before (sym q))))
-            (no_face _ _ t.twin_in t.before_in) (λ q. t.before-twin (sym q)))
-        | inr (not_edge, inr (not_before, inl same)) ↦ rw (← same) (
-            next_at new (far_edge m e) (next m e) i.next_there
-            (rw i.edge_count t.back_in) i.prev_back (ap (origin new) t.back_is)
-            (no_face _ _ t.back_in t.there_in) t.back-there)
-        | inr (not_edge, inr (not_before, inr not_there)) ↦
-            let off_back : next m h ≢ next m e =
-            λ q. not_edge (sym t.back_prev ∙ ap (prev m) (sym q) ∙ here.prev_next) in
-            let off_there : next m h ≢ far_edge m e =
-            λ q. not_before (ap (prev m) (sym q) ∙ here.prev_next) in
-            let off_twin : next m h ≢ rev e =
-            λ q. not_there (ap (prev m) (sym q) ∙ here.prev_next) in
-            next_kept m new h here (i.other_next h within (λ q. not_edge (sym q))
-            (λ q. not_before (sym q)) (λ q. not_there (sym q)))
-            (i.other_prev (next m h) here.next_in off_back off_there off_twin)
-            (i.other_origins (next m h) here.next_in off_twin)
-            (origin_rev h within (λ q. not_edge (sym q))) (i.faces h within)
-            (i.faces (next m h) here.next_in) (omega (arith, i.edge_count))
-      ]
+  -- the other side of e stands after the edge from the far end now, round its vertex
+  turns : IsMoved (star_walk m) (star_walk new) (rev e) (next m e) (rev (far_edge m e))
+      (far_edge m e) (rev (prev m (far_edge m e)))
+  turns = record {
+    there = λ h within. rw i.edge_count within;
+    back = λ h within. rw i.edge_count at within;
+    labels = i.other_origins;
+    at_r = i.origin_twin;
+    t_in = t.twin_in;
+    p_in = t.back_in;
+    r_in = t.there_in;
+    was_after = ap rev t.back_prev;
+    was_before = refl;
+    were_joined = refl;
+    are_joined = ap rev i.prev_back;
+    is_after = ap rev i.prev_there;
+    is_before = ap rev i.prev_twin;
+    p_off = t.back-twin;
+    q_off = λ q. t.edge-there (sym (rev_same (far_edge m e) e q));
+    r_off = t.there-twin;
+    s_off = λ q. t.edge-before (sym (rev_same (prev m (far_edge m e)) e q));
+    other = λ h within off_l off_k off_t. (
+      ap rev (i.other_prev h within off_l off_k off_t),
+      λ q. off_l (sym (s.edges h within).next_prev ∙ ap (next m) (rev_same (prev m h) e q)),
+    );
+  }
 
-  -- a sound mesh stays sound when an edge passes the vertex at its end
-  pub sound_after_pass : AreSoundLinks new
-  sound_after_pass = line.sound_with m new e _ s end_moves next_ok
+  -- the outer face keeps one loop when an edge passes the vertex at its end
+  pub outline_passed : KeepsOneOutline m new
+  outline_passed = outline_moved m new _ _ _ _ _ _ _ s line_passes
+
+  stars_passed : HasStars m → HasStars new
+  stars_passed = stars_exchanged m new s _ _ _
+      (exchange_moved (star_walk m) (star_walk new) _ _ _ _ _ turns)
+
+-- a valid mesh stays valid when an edge of a line passes the vertex at its end
+pub valid_passed : (m : Mesh) (e : ℕ) → IsValidMesh m → IsPassable m e → IsValidMesh (passed m e)
+valid_passed m e valid can =
+    let i = passes m e valid.sound can in
+    let moves = line_passes m (passed m e) e valid.sound can i in
+    record {
+      sound = sound_moved m (passed m e) _ _ _ _ _ _ _ valid.sound moves;
+      apart = apart_moved m (passed m e) _ _ _ _ _ _ _ valid.sound moves
+          (λ same. can.corners (same ∙ ap (origin m) can.two)) valid.apart;
+      stars = stars_passed m (passed m e) e valid.sound can i valid.stars;
+      small = small_same m (passed m e) i.vertex_count i.edge_count
+          (ap length i.face_edges) valid.small;
+    }
+
+-- an edge that passes the vertex at its end gets the far end of the next edge; no other ends change
+pub ends_passed_is : (m new : Mesh) (e : ℕ) → AreSoundLinks m → IsPassable m e → new ≡ passed m e
+    → MovesEdge m new e (origin m e) (origin m (rev (next m e)))
+ends_passed_is m new e s can is = rw (is, ← can.two) (ends_move m (passed m e) _ _ _ _ _ _ _ s
+    (line_passes m (passed m e) e s can (passes m e s can)))

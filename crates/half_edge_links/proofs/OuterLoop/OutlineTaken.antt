@@ -1,24 +1,26 @@
 -- The outer face keeps one loop where an edge of the hull, or one with a free end, goes.
-use Rattle.std.proofs.Common.{◌≡◌, ◌≢◌, ◌-◌, ◌%◌, ◌<◌, ◌∙◌}
-use Rattle.std.proofs.Common.{ℕ, Bool, true, length, refl, sym, ap, inl, inr, arith}
+use Rattle.std.proofs.Common.{◌≡◌, ◌≢◌, [], ◌∷◌, ◌<◌, ◌∙◌}
+use Rattle.std.proofs.Common.{ℕ, List, length, refl, sym, ap, inl, inr, arith}
 use Rattle.std.proofs.lemmas.Bool.{cases_eq}
-use Rattle.half_edge_links.proofs.Lists.Cases.{◌or_else◌}
 use Rattle.half_edge_links.specs.Mesh.{Mesh, next, prev, face, rev, AreSoundLinks, IsInner}
-use Rattle.half_edge_links.specs.Renames.{pair_moved}
 use Rattle.half_edge_links.specs.Remove.{Opens, Removes}
 use Rattle.half_edge_links.specs.Peel.{Peels}
 use Rattle.half_edge_links.specs.Move.{MovesVertex}
-use Rattle.half_edge_links.specs.Hull.{IsClosedAlong, HasOneOutline, KeepsOneOutline, IsPendant}
+use Rattle.half_edge_links.specs.Hull.{HasOneOutline, KeepsOneOutline, IsPendant}
+use Rattle.half_edge_links.proofs.Lists.Named.{◌and◌}
 use Rattle.half_edge_links.proofs.Lists.Rev.{rev_within}
 use Rattle.half_edge_links.proofs.Removing.Conditions.{IsUnlinkable, IsHullEdge}
 use Rattle.half_edge_links.proofs.Removing.OpenSound.{sound_opened}
 use Rattle.half_edge_links.proofs.Removing.PeelLemmas.{removable_opened}
-use Rattle.half_edge_links.proofs.Sound.Triangles.{IsTriangle, triangle_at, same_loop}
-use Rattle.half_edge_links.proofs.Stars.StarsRound.{stand_in, stands_first, stands_second}
-use Rattle.half_edge_links.proofs.Stars.StarsRound.{stands_other}
-use Rattle.half_edge_links.proofs.Removing.Track.{IsLeft, name, name_in, face_at, next_at}
-use Rattle.half_edge_links.proofs.Removing.Track.{next_before, next_twin_before, old_at}
-use Rattle.half_edge_links.proofs.OuterLoop.Outline.{lies_as, lies_between, LiesAlong, outlines}
+use Rattle.half_edge_links.proofs.Removing.RemoveSound.{sound_removed}
+use Rattle.half_edge_links.proofs.Sound.Triangles.{triangle_at, same_loop}
+use Rattle.half_edge_links.proofs.Removing.Track.{IsLeft, name, name_in, face_at, next_at, old_at}
+use Rattle.half_edge_links.proofs.Removing.Track.{next_before, next_twin_before, former, former_is}
+use Rattle.half_edge_links.proofs.Removing.Track.{left_walk}
+use Rattle.half_edge_links.proofs.Relinking.Rounds.{HasOneRound, Exchange, one_round}
+use Rattle.half_edge_links.proofs.Relinking.Rounds.{round_renamed, stand, stand_off, stand_first}
+use Rattle.half_edge_links.proofs.Relinking.Rounds.{stand_second}
+use Rattle.half_edge_links.proofs.Relinking.Walks.{outer_walk, outer_goes, round_of_outline}
 use Rattle.half_edge_links.proofs.OuterLoop.Outline.{outline_same}
 
 -- the outer face keeps one loop when the last vertex takes the index of another
@@ -29,9 +31,18 @@ outline_moved m new v c =
       was = λ h within outer. (rw (← c.edge_count) within, sym (c.faces h) ∙ outer);
     })
 
+-- the outer face has one loop if its edges lie on one round under the indexes before a removal
+outline_left : (m new : Mesh) (e : ℕ) (s : AreSoundLinks m) (can : IsUnlinkable m e)
+    (r : Removes m new e) → HasOneRound (left_walk m new e s can r (outer_walk new))
+    → HasOneOutline new
+outline_left m new e s can r one among closed h g h_in g_in h_outer g_outer =
+    round_renamed (outer_walk new) (name m new e s can r) (former m new e s can r) (IsLeft m e)
+    (outer_goes new (sound_removed m new e r)) (λ k outer. old_at m new e s can r k outer.0) one
+    among (λ k live. closed k live.0 live.1) h g (h_in, h_outer) (g_in, g_outer) refl
+
 -- an edge of the hull goes with its face
-module _ (m mid new : Mesh) (h : ℕ) (s : AreSoundLinks m) (can : IsHullEdge m h) (o : Opens m mid
-    (face m h)) (r : Removes mid new h) (among : ℕ → Bool) (closed : IsClosedAlong new among) where
+module _ (m mid new : Mesh) (h : ℕ) (s : AreSoundLinks m) (can : IsHullEdge m h)
+    (o : Opens m mid (face m h)) (r : Removes mid new h) where
   inner : IsInner m (face m h)
   inner = (can.inner, (s.edges h can.within).face_in)
 
@@ -41,130 +52,100 @@ module _ (m mid new : Mesh) (h : ℕ) (s : AreSoundLinks m) (can : IsHullEdge m 
   gap : IsUnlinkable mid h
   gap = removable_opened m mid h s can o
 
-  t : IsTriangle m h
-  t = triangle_at m h s can.within can.inner
-
-  twin_in : rev h < length m.half_edges
-  twin_in = rev_within h (length m.half_edges) s.even can.within
-
-  abbrev nm : ℕ → ℕ
-  nm k = name mid new h sm gap r k
+  abbrev to : ℕ → ℕ
+  to k = name mid new h sm gap r k
 
   left : (k : ℕ) → k < length m.half_edges → k ≢ h → k ≢ rev h → IsLeft mid h k
   left k within p q = record { within = rw o.edge_count within; other = p; other_side = q }
 
-  second : IsLeft mid h (next m h)
-  second = left _ t.next_in t.next_differs
-      (λ q. absurd (omega (arith, ap (face m) q, t.face_next, can.inner, can.outer)))
-
-  third : IsLeft mid h (prev m h)
-  third = left _ t.prev_in t.prev_differs
-      (λ q. absurd (omega (arith, ap (face m) q, t.face_prev, can.inner, can.outer)))
-
-  -- the side that goes stands for the second edge of its face
-  before : ℕ → Bool
-  before k = stand_in (λ j. among (nm j)) (rev h) (rev h) (next m h) (next m h) k
-
-  at_twin : (k : ℕ) → k ≡ rev h → before k ≡ among (nm (next m h))
-  unfolding before
-  at_twin k is = stands_first (λ j. among (nm j)) (rev h) (rev h) _ _ k is
-
-  plain : (k : ℕ) → k ≢ rev h → before k ≡ among (nm k)
-  unfolding before
-  plain k off = stands_other (λ j. among (nm j)) (rev h) (rev h) _ _ k off off
-
-  step : (k j : ℕ) → IsLeft mid h k → face mid k ≡ 0 → next new (nm k) ≡ nm j → among (nm k) ≡ true
-      → among (nm j) ≡ true
-  step k j l outer after is = ap among (sym after)
-      ∙ closed (nm k) (name_in mid new h sm gap r k l) (face_at mid new h sm gap r k l ∙ outer) is
-
-  still : (k : ℕ) → k < length m.half_edges → face m k ≡ 0 → face mid k ≡ 0
-  still k within outer = o.other k within (λ q. absurd (omega (arith, outer, inner.0)))
-      (λ q. absurd (omega (arith, outer, inner.0, inner.1))) ∙ outer
-
   -- an outer edge is none of the face that goes
-  off_face : (k : ℕ) → face m k ≡ 0 → (k ≢ h) × (k ≢ next m h) × (k ≢ prev m h)
-  off_face k outer = (
-    λ q. absurd (omega (arith, outer, ap (face m) q, can.inner)),
-    λ q. absurd (omega (arith, outer, ap (face m) q, t.face_next, can.inner)),
-    λ q. absurd (omega (arith, outer, ap (face m) q, t.face_prev, can.inner)),
-  )
+  off_face : (k : ℕ) → face m k ≡ 0 → (g : ℕ) → face m g ≡ face m h → k ≢ g
+  off_face k outer g is q = absurd (omega (arith, outer, ap (face m) q, is, can.inner))
 
-  to_third : among (nm (next m h)) ≡ true → among (nm (prev m h)) ≡ true
-  to_third =
+  -- the other two sides of the face are outer now, between the edges beside the side that goes
+  exchange : Exchange (outer_walk m) (left_walk mid new h sm gap r (outer_walk new))
+      ((rev h, next m (rev h)) ∷ [])
+      ((prev m (rev h), next m h ∷ prev m h ∷ [], next m (rev h)) ∷ []) []
+  exchange =
+      let t = triangle_at m h s can.within can.inner in
+      let twin_in : rev h < length m.half_edges = rev_within h _ s.even can.within in
       let twin = s.edges (rev h) twin_in in
-      let before_twin : face m (prev m (rev h)) ≡ 0 =
+      let end : ℕ = next m (rev h) in
+      let stands : List (ℕ × ℕ) = (rev h, end) ∷ [] in
+      let off = λ (k : ℕ) (differs : k ≢ rev h). stand_off stands k (differs and tt) in
+      let at_twin : stand stands (rev h) ≡ end = stand_first (rev h) end [] in
+      let before_outer : face m (prev m (rev h)) ≡ 0 =
       sym (s.edges _ twin.prev_in).same_face ∙ ap (face m) twin.next_prev ∙ can.outer in
-      step (next m h) (prev m h) second (o.gone _ t.next_in t.face_next)
-      (next_at mid new h sm gap r _ second (λ q. t.both_differ (q ∙ o.prev h))
-      (λ q. (off_face _ before_twin).1 (sym (q ∙ o.prev (rev h))))
-      ∙ ap nm (o.next _ ∙ t.next_next))
-
-  past_third : among (nm (prev m h)) ≡ true → among (nm (next m (rev h))) ≡ true
-  past_third = step (prev m h) (next m (rev h)) third (o.gone _ t.prev_in t.face_prev)
-      (next_before mid new h sm gap r _ third (sym (o.prev h)) ∙ ap nm (o.next (rev h)))
-
-  to_end : among (nm (next m h)) ≡ true → before (next m (rev h)) ≡ true
-  to_end is = plain _ (s.edges (rev h) twin_in).proper ∙ past_third (to_third is)
-
-  closed_before : IsClosedAlong m before
-  closed_before k within outer is =
-      let twin = s.edges (rev h) twin_in in
-      elim (cases_eq k (rev h)) [
-        | inl same ↦ ap (λ j. before (next m j)) same ∙ to_end (sym (at_twin k same) ∙ is)
-        | inr a ↦
-            let on : among (nm k) ≡ true = sym (plain k a) ∙ is in
-            let l = left k within (off_face k outer).0 a in
-            elim (cases_eq k (prev m (rev h))) [
-              | inl same ↦ at_twin (next m k) (ap (next m) same ∙ twin.next_prev)
-                  ∙ step k (next m h) l (still k within outer) (next_twin_before mid new h sm gap r
-                  k l (same ∙ sym (o.prev (rev h))) ∙ ap nm (o.next h)) on
-              | inr b ↦
-                  plain (next m k) (λ q. b (sym (s.edges k within).prev_next ∙ ap (prev m) q))
-                  ∙ step k (next m k) l (still k within outer)
-                  (next_at mid new h sm gap r k l (λ q. (off_face k outer).2 (q ∙ o.prev h))
-                  (λ q. b (q ∙ o.prev (rev h))) ∙ ap nm (o.next k)) on
-            ]
-      ]
-
-  lies_in_face : (j : ℕ) → (among (nm (next m h)) ≡ true → among j ≡ true)
-      → (among j ≡ true → before (next m (rev h)) ≡ true) → LiesAlong m before among j
-  lies_in_face j comes goes =
-      let twin = s.edges (rev h) twin_in in
-      lies_between m before among j (rev h) (next m (rev h)) twin_in can.outer (λ is. comes
-      (sym (at_twin (rev h) refl) ∙ is)) twin.next_in (twin.same_face ∙ can.outer) goes
-
-  lies : (j : ℕ) → j < length new.half_edges → face new j ≡ 0 → LiesAlong m before among j
-  lies j within outer =
-      let was = old_at mid new h sm gap r j within in
-      let k : ℕ = pair_moved (h - h % 2) (length mid.half_edges - 2) j in
-      let k_in : k < length m.half_edges = rw (← o.edge_count) was.0.within in
-      let mid_outer : face mid k ≡ 0 =
-      sym (face_at mid new h sm gap r k was.0) ∙ ap (face new) was.1 ∙ outer in
-      elim (cases_eq (face m k) (face m h)) [
-        | inl is ↦ elim (same_loop m h k s can.within k_in can.inner is) [
-          | inl q ↦ absurd (was.0.other q)
-          | inr (inl q) ↦ lies_in_face j (λ on. ap among (sym was.1 ∙ ap nm q) ∙ on)
-              (λ on. to_end (ap among (ap nm (sym q) ∙ was.1) ∙ on))
-          | inr (inr q) ↦ lies_in_face j (λ on. ap among (sym was.1 ∙ ap nm q) ∙ to_third on)
-              (λ on. plain _ (s.edges (rev h) twin_in).proper
-              ∙ past_third (ap among (ap nm (sym q) ∙ was.1) ∙ on))
-        ]
-        | inr off ↦
-            let m_outer : face m k ≡ 0 = elim (cases_eq (face m k) (length m.face_edges)) [
-              | inl last ↦ absurd (omega (arith, o.last k k_in last off, mid_outer, inner.0))
-              | inr other ↦ sym (o.other k k_in off other) ∙ mid_outer
+      let second : IsLeft mid h (next m h) =
+      left _ t.next_in t.next_differs (λ q. off_face _ can.outer _ t.face_next (sym q)) in
+      let third : IsLeft mid h (prev m h) =
+      left _ t.prev_in t.prev_differs (λ q. off_face _ can.outer _ t.face_prev (sym q)) in
+      let live : (k : ℕ) → IsLeft mid h k → face mid k ≡ 0 → IsLeft mid h k
+      × ((to k < length new.half_edges) × (face new (to k) ≡ 0)) = λ k l outer.
+      (l, (name_in mid new h sm gap r k l, face_at mid new h sm gap r k l ∙ outer)) in
+      let lives : (k : ℕ) → k < length m.half_edges → face m k ≡ 0 → k ≢ rev h → IsLeft mid h k
+      × ((to k < length new.half_edges) × (face new (to k) ≡ 0)) = λ k within outer differs. live k
+      (left k within (off_face k outer h refl) differs) (o.other k within (λ q. absurd
+      (omega (arith, outer, q, inner.0))) (λ q. absurd
+      (omega (arith, outer, q, inner.0, inner.1))) ∙ outer) in
+      let goes = λ (k j : ℕ) (j_left : IsLeft mid h j) (is : next new (to k) ≡ to j).
+      ap (former mid new h sm gap r) is ∙ former_is mid new h sm gap r j j_left in
+      let end_off : end ≢ rev h = twin.proper in
+      let end_left = left end twin.next_in
+      (off_face end (twin.same_face ∙ can.outer) h refl) end_off in
+      let start_off : prev m (rev h) ≢ rev h = λ q. end_off (ap (next m) (sym q) ∙ twin.next_prev)
+      in
+      let start_left = left _ twin.prev_in (off_face _ before_outer h refl) start_off in
+      record {
+        lives = λ k outer none. lives k outer.0 outer.1 none.0;
+        left = (off end end_off ∙ sym at_twin) and tt;
+        stretched = ((twin.prev_in, before_outer) and (start_off and tt)
+            and ap (stand stands) twin.next_prev ∙ at_twin
+            and goes _ _ second (next_twin_before mid new h sm gap r _ start_left
+            (sym (o.prev (rev h))) ∙ ap to (o.next h))
+            and (live _ second (o.gone _ t.next_in t.face_next) and refl)
+            and goes _ _ third (next_at mid new h sm gap r _ second
+            (λ q. t.both_differ (q ∙ o.prev h))
+            (λ q. off_face _ before_outer _ t.face_next (sym (q ∙ o.prev (rev h))))
+            ∙ ap to (o.next _ ∙ t.next_next))
+            and (live _ third (o.gone _ t.prev_in t.face_prev) and refl)
+            and goes _ _ end_left (next_before mid new h sm gap r _ third (sym (o.prev h))
+            ∙ ap to (o.next (rev h)))) and tt;
+        other = λ k outer off_start off_twin.
+            let here = s.edges k outer.0 in
+            let next_off : next m k ≢ rev h =
+            λ q. off_start (sym here.prev_next ∙ ap (prev m) q) in
+            goes k _ (left _ here.next_in (off_face _ (here.same_face ∙ outer.1) h refl) next_off)
+            (next_at mid new h sm gap r k (left k outer.0 (off_face k outer.1 h refl) off_twin)
+            (λ q. off_face k outer.1 _ t.face_prev (q ∙ o.prev h))
+            (λ q. off_start (q ∙ o.prev (rev h))) ∙ ap to (o.next k))
+            ∙ sym (off (next m k) next_off);
+        kept = λ k is off_second off_third.
+            let k_in : k < length m.half_edges = rw (← o.edge_count) is.0.within in
+            let now : face mid k ≡ 0 = sym (face_at mid new h sm gap r k is.0) ∙ is.1.1 in
+            let off_here : face m k ≢ face m h =
+            λ q. elim (same_loop m h k s can.within k_in can.inner q) [
+              | inl z ↦ is.0.other z
+              | inr (inl z) ↦ off_second z
+              | inr (inr z) ↦ off_third z
             ] in
-            lies_as m before among k j k_in m_outer (plain k was.0.other_side ∙ ap among was.1)
-      ]
+            let was : face m k ≡ 0 = elim (cases_eq (face m k) (length m.face_edges)) [
+              | inl last ↦ absurd (omega (arith, o.last k k_in last off_here, now, inner.0))
+              | inr differs ↦ sym (o.other k k_in off_here differs) ∙ now
+            ] in
+            (k_in, was) and (is.0.other_side and tt) and refl;
+        alone = tt;
+      }
 
 -- the outer face keeps one loop when an edge of the hull is peeled off
 pub outline_peeled : (m new : Mesh) (h : ℕ) → AreSoundLinks m → IsHullEdge m h → Peels m new h
     → KeepsOneOutline m new
-outline_peeled m new h s can p one among closed =
-    outlines m new (before m p.opened new h s can p.opens p.removes among closed) among one
-    (closed_before m p.opened new h s can p.opens p.removes among closed)
-    (lies m p.opened new h s can p.opens p.removes among closed)
+outline_peeled m new h s can p one =
+    let mid_sound = sm m p.opened new h s can p.opens p.removes in
+    let can_mid = gap m p.opened new h s can p.opens p.removes in
+    outline_left p.opened new h mid_sound can_mid p.removes (one_round (outer_walk m)
+    (left_walk p.opened new h mid_sound can_mid p.removes (outer_walk new)) (outer_goes m s) _ _ _
+    (exchange m p.opened new h s can p.opens p.removes) (round_of_outline m one))
 
 -- an edge whose side b follows its side a goes
 module _ (m new : Mesh) (e : ℕ) (s : AreSoundLinks m) (can : IsUnlinkable m e) (r : Removes m new e)
@@ -173,76 +154,58 @@ module _ (m new : Mesh) (e : ℕ) (s : AreSoundLinks m) (can : IsUnlinkable m e)
     → IsLeft m e k → (k ≢ a) × (k ≢ b)) (jump : (k : ℕ) → IsLeft m e k → k ≡ prev m a
     → next new (name m new e s can r k) ≡ name m new e s can r (next m b)) (onward : (k : ℕ)
     → IsLeft m e k → k ≢ prev m a → k ≢ prev m b → next new (name m new e s can r k)
-    ≡ name m new e s can r (next m k)) (among : ℕ → Bool) (closed : IsClosedAlong new among) where
-  abbrev nm' : ℕ → ℕ
-  nm' k = name m new e s can r k
-
-  -- both sides stand for the edge after them
-  free_before : ℕ → Bool
-  free_before k = stand_in (λ j. among (nm' j)) a b (next m b) (next m b) k
-
-  free_first : (k : ℕ) → k ≡ a → free_before k ≡ among (nm' (next m b))
-  unfolding free_before
-  free_first k is = stands_first (λ j. among (nm' j)) a b _ _ k is
-
-  free_second : (k : ℕ) → k ≡ b → free_before k ≡ among (nm' (next m b))
-  unfolding free_before
-  free_second k is = stands_second (λ j. among (nm' j)) a b _ _ k
-      (λ q. (s.edges a a_in).proper (free ∙ sym is ∙ q)) is
-
-  free_plain : (k : ℕ) → k ≢ a → k ≢ b → free_before k ≡ among (nm' k)
-  unfolding free_before
-  free_plain k p q = stands_other (λ j. among (nm' j)) a b _ _ k p q
-
-  along : (k j : ℕ) → IsLeft m e k → face m k ≡ 0 → next new (nm' k) ≡ nm' j → among (nm' k) ≡ true
-      → among (nm' j) ≡ true
-  along k j l outer after is = ap among (sym after)
-      ∙ closed (nm' k) (name_in m new e s can r k l) (face_at m new e s can r k l ∙ outer) is
-
-  free_closed : IsClosedAlong m free_before
-  free_closed k within outer is =
-      let here = s.edges k within in
-      elim (cases_eq k a or_else cases_eq k b) [
-        | inl same ↦ free_second (next m k) (ap (next m) same ∙ free) ∙ sym (free_first k same) ∙ is
-        | inr (p, inl same) ↦ elim (cases_eq (next m b) a) [
-          | inl whole ↦ free_first (next m k) (ap (next m) same ∙ whole)
-              ∙ sym (free_second k same) ∙ is
-          | inr off ↦ ap (λ j. free_before (next m j)) same
-              ∙ free_plain (next m b) off (s.edges b b_in).proper ∙ sym (free_second k same) ∙ is
-        ]
-        | inr (p, inr q) ↦
-            let l = other k within p q in
-            let on : among (nm' k) ≡ true = sym (free_plain k p q) ∙ is in
-            let off_b : k ≢ prev m b =
-            λ z. p (z ∙ sym (ap (prev m) free) ∙ (s.edges a a_in).prev_next) in
+    ≡ name m new e s can r (next m k)) where
+  free_exchange : Exchange (outer_walk m) (left_walk m new e s can r (outer_walk new))
+      ((a, next m b) ∷ (b, next m b) ∷ []) [] []
+  free_exchange =
+      let end : ℕ = next m b in
+      let at_a = s.edges a a_in in
+      let at_b = s.edges b b_in in
+      let b_a : b ≢ a = λ q. at_a.proper (free ∙ q) in
+      let stands : List (ℕ × ℕ) = (a, end) ∷ (b, end) ∷ [] in
+      let first : stand stands a ≡ end = stand_first a end ((b, end) ∷ []) in
+      let second : stand stands b ≡ end = stand_second a end b end [] b_a in
+      let goes = λ (k j : ℕ) (j_left : IsLeft m e j)
+      (is : next new (name m new e s can r k) ≡ name m new e s can r j).
+      ap (former m new e s can r) is ∙ former_is m new e s can r j j_left in
+      record {
+        lives = λ k outer none. let l = other k outer.0 none.0 none.1.0 in
+            (l, (name_in m new e s can r k l, face_at m new e s can r k l ∙ outer.1));
+        left = (ap (stand stands) free ∙ second ∙ sym first) and (elim (cases_eq end a) [
+          | inl whole ↦ ap (stand stands) whole ∙ first
+          | inr off ↦ stand_off stands end (off and at_b.proper and tt)
+        ] ∙ sym second) and tt;
+        stretched = tt;
+        other = λ k outer off_a off_b.
+            let here = s.edges k outer.0 in
+            let l = other k outer.0 off_a off_b in
             elim (cases_eq k (prev m a)) [
-              | inl same ↦ free_first (next m k) (ap (next m) same ∙ (s.edges a a_in).next_prev)
-                  ∙ along k (next m b) l outer (jump k l same) on
+              | inl same ↦ goes k end (other end at_b.next_in (λ q. off_b (same
+                  ∙ ap (prev m) (sym q) ∙ at_b.prev_next)) at_b.proper) (jump k l same)
+                  ∙ sym (ap (stand stands) (ap (next m) same ∙ at_a.next_prev) ∙ first)
               | inr off ↦
-                  free_plain (next m k) (λ z. off (sym here.prev_next ∙ ap (prev m) z))
-                  (λ z. off_b (sym here.prev_next ∙ ap (prev m) z))
-                  ∙ along k (next m k) l outer (onward k l off off_b) on
-            ]
-      ]
+                  let next_a : next m k ≢ a = λ q. off (sym here.prev_next ∙ ap (prev m) q) in
+                  let next_b : next m k ≢ b = λ q. off_a (sym here.prev_next
+                  ∙ ap (prev m) (q ∙ sym free) ∙ at_a.prev_next) in
+                  goes k (next m k) (other _ here.next_in next_a next_b) (onward k l off
+                  (λ q. off_a (q ∙ ap (prev m) (sym free) ∙ at_a.prev_next)))
+                  ∙ sym (stand_off stands (next m k) (next_a and next_b and tt))
+            ];
+        kept = λ k is. let off = back k is.0 in
+            (is.0.within, sym (face_at m new e s can r k is.0) ∙ is.1.1)
+            and (off.0 and off.1 and tt) and refl;
+        alone = tt;
+      }
 
-  free_lies : (j : ℕ) → j < length new.half_edges → face new j ≡ 0 → LiesAlong m free_before among j
-  free_lies j within outer =
-      let was = old_at m new e s can r j within in
-      let k : ℕ = pair_moved (e - e % 2) (length m.half_edges - 2) j in
-      let k_outer : face m k ≡ 0 =
-      sym (face_at m new e s can r k was.0) ∙ ap (face new) was.1 ∙ outer in
-      let off = back k was.0 in
-      lies_as m free_before among k j was.0.within k_outer
-      (free_plain k off.0 off.1 ∙ ap among was.1)
-
-  free_all : HasOneOutline m → (i j : ℕ) → i < length new.half_edges → j < length new.half_edges
-      → face new i ≡ 0 → face new j ≡ 0 → among i ≡ true → among j ≡ true
-  free_all one = outlines m new free_before among one free_closed free_lies
+  free_all : KeepsOneOutline m new
+  free_all one = outline_left m new e s can r (one_round (outer_walk m)
+      (left_walk m new e s can r (outer_walk new)) (outer_goes m s) _ _ _ free_exchange
+      (round_of_outline m one))
 
 -- the outer face keeps one loop when an edge of which one end has no other edge is removed
 pub outline_removed : (m new : Mesh) (e : ℕ) → AreSoundLinks m → IsUnlinkable m e → Removes m new e
     → IsPendant m e → KeepsOneOutline m new
-outline_removed m new e s can r pendant one among closed =
+outline_removed m new e s can r pendant =
     let t_in = rev_within e (length m.half_edges) s.even can.within in
     elim pendant [
       | inl free ↦
@@ -251,12 +214,10 @@ outline_removed m new e s can r pendant one among closed =
           (λ k l. (l.other, l.other_side))
           (next_before m new e s can r)
           (next_at m new e s can r)
-          among closed one
       | inr free ↦
           free_all m new e s can r (rev e) e t_in can.within free
           (λ k within p q. record { within = within; other = q; other_side = p })
           (λ k l. (l.other_side, l.other))
           (next_twin_before m new e s can r)
           (λ k l p q. next_at m new e s can r k l q p)
-          among closed one
     ]

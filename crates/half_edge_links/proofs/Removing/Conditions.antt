@@ -126,12 +126,7 @@ unlinkable m e v can =
 
 -- an edge that can be taken out of its loops may be removed
 pub removable : (m : Mesh) (e : ℕ) → IsUnlinkable m e → IsRemovable m e
-removable m e can = record {
-  within = can.within;
-  outer = can.outer;
-  twin_outer = can.twin_outer;
-  whole = can.whole;
-}
+removable m e can = assumption
 
 -- in a valid mesh, an edge that may be peeled off has different ends
 pub hull_edge : (m : Mesh) (h : ℕ) → IsValidMesh m → IsPeelable m h → IsHullEdge m h

@@ -10,6 +10,7 @@ use Rattle.half_edge_links.proofs.Sound.RenameSound.{sound_renamed}
 use Rattle.half_edge_links.proofs.Removing.UnlinkSound.{unlinks, sound_but}
 use Rattle.half_edge_links.proofs.Removing.FillSound.{renames_filled, counts, in_range, joined_but}
 use Rattle.half_edge_links.proofs.Lists.Rev.{rev_within, rev_differs}
+use Rattle.half_edge_links.proofs.Stored.Within.{AreLastPlaces, last_places}
 
 -- edge k of a list names elements of mesh m
 pub record IsInRange (m : Mesh) (hs : List HalfEdge) (k : ℕ) : Type 0 where
@@ -61,13 +62,7 @@ unfolding unlinked
 joined_unlinked m e t hs v can at_t is =
     let full = unlinkable m e v can in
     let b = but m e v.sound full in
-    let hole : IsHole (with_unlinked m.half_edges e (rev e)) (e - e % 2) = record {
-      even = b.even;
-      hole_even = b.hole_even;
-      within = b.within;
-      next_self = b.next_self;
-      twin_next_self = b.twin_next_self;
-    } in
+    let hole : IsHole (with_unlinked m.half_edges e (rev e)) (e - e % 2) = assumption in
     rw (is, at_t) (
       joined_but (unlinked m e) (length m.half_edges - 2) (e - e % 2) b
           (at_last m e v.sound full),
@@ -87,18 +82,24 @@ unlinked_places m e s can =
       twin_proper = (s.edges (rev e) t_in).proper;
     }
 
--- in the list whose edge e was taken out, the last edge and its other side name what there is
-pub last_in_range : (m : Mesh) (e t n : ℕ) (hs : List HalfEdge) → IsValidMesh m → IsRemovable m e
+-- in the list whose edge e was taken out, the last edge and its other side are in range
+pub record AreLastTwo (m : Mesh) (hs : List HalfEdge) (n e : ℕ) : Type 0 where
+  pub places : AreLastPlaces n e
+  pub even : IsInRange m hs (n - 2)
+  pub odd : IsInRange m hs (n - 2 + 1)
+
+pub last_two : (m : Mesh) (n : ℕ) {e t : ℕ} {hs : List HalfEdge} → IsValidMesh m → IsRemovable m e
     → t ≡ rev e → n ≡ length m.half_edges → hs ≡ with_unlinked m.half_edges e t
-    → IsInRange m hs (n - 2) × IsInRange m hs (n - 2 + 1)
-last_in_range m e t n hs v can at_t at_n is =
+    → AreLastTwo m hs n e
+last_two m n {e} v can at_t at_n is =
     let full = unlinkable m e v can in
     let within = full.within in
     let even = v.sound.even in
-    rw (is, at_t) (
-      in_range_unlinked m e v.sound full (n - 2) (omega arith),
-      in_range_unlinked m e v.sound full (n - 2 + 1) (omega arith),
-    )
+    rw (is, at_t) (record {
+      places = last_places n e (rw at_n even) (rw at_n within) (rw at_n v.small.edges);
+      even = in_range_unlinked m e v.sound full (n - 2) (omega arith);
+      odd = in_range_unlinked m e v.sound full (n - 2 + 1) (omega arith);
+    })
 
 -- the mesh that is left once an edge is removed is sound
 pub sound_removed : (m new : Mesh) (e : ℕ) → Removes m new e → AreSoundLinks new

@@ -29,6 +29,7 @@ use Rattle.half_edge_links.proofs.Removing.Track.{last_pair, pair_at, side_left,
 use Rattle.half_edge_links.proofs.Removing.Track.{origin_at, face_at, old_at, rev_at}
 use Rattle.half_edge_links.proofs.Sound.Ends.{length-origins, get_or-origins, length-ends_twice}
 use Rattle.half_edge_links.proofs.Sound.Ends.{get_or-ends}
+use Rattle.half_edge_links.proofs.OuterLoop.Outer.{same_outer}
 
 -- the corners of an inner face that is given to the outer one go, and the last face takes its index
 pub removes_triangle : (m new : Mesh) (f : ℕ) → IsInner m f → Opens m new f
@@ -157,13 +158,10 @@ module _ (m new : Mesh) (e : ℕ) (s : AreSoundLinks m) (can : IsUnlinkable m e)
 pub opens_outer : (m new : Mesh) (f : ℕ) → AreSoundLinks m → IsInner m f → Opens m new f
     → OpensOuter m new f
 opens_outer m new f s inner o = record {
-  kept = λ h a b was stays. record {
-    within = omega (arith, o.edge_count, was.within);
-    outer = o.other h was.within (λ q. absurd (omega (arith, q, was.outer, inner.0)))
-        (λ q. absurd (omega (arith, q, was.outer, inner.0, inner.1))) ∙ was.outer;
-    source = o.origin h ∙ was.source;
-    target = o.origin (rev h) ∙ was.target;
-  };
+  kept = λ h a b was stays. same_outer m new h a b was (omega (arith, o.edge_count, was.within))
+      (o.other h was.within (λ q. absurd (omega (arith, q, was.outer, inner.0)))
+      (λ q. absurd (omega (arith, q, was.outer, inner.0, inner.1))))
+      (o.origin h) (o.origin (rev h));
   made = λ h a b made. record {
     within = omega (arith, o.edge_count, made.0);
     outer = o.gone h made.0 made.1;
@@ -172,18 +170,13 @@ opens_outer m new f s inner o = record {
   };
   only = λ h a b now.
       let h_in : h < length m.half_edges = omega (arith, o.edge_count, now.within) in
-      let source = sym (o.origin h) ∙ now.source in
-      let target = sym (o.origin (rev h)) ∙ now.target in
       elim (cases_eq (face m h) f or_else cases_eq (face m h) (length m.face_edges)) [
-        | inl is ↦ inr (h_in, is, source, target)
+        | inl is ↦
+            inr (h_in, is, sym (o.origin h) ∙ now.source, sym (o.origin (rev h)) ∙ now.target)
         | inr (off, inl last) ↦ absurd (omega (arith, o.last h h_in last off, now.outer, inner.0))
         | inr (off, inr other) ↦ inl (
-          record {
-            within = h_in;
-            outer = sym (o.other h h_in off other) ∙ now.outer;
-            source = source;
-            target = target;
-          },
+          same_outer new m h a b now h_in (sym (o.other h h_in off other)) (sym (o.origin h))
+              (sym (o.origin (rev h))),
           λ none. none,
         )
       ];
@@ -194,27 +187,18 @@ opens_outer m new f s inner o = record {
 pub closes_outer : (m new : Mesh) (h : ℕ) → IsOpenTriangle m h → ClosesLoop m new h
     → ClosesLoopOuter m new h
 closes_outer m new h can c = record {
-  kept = λ k a b was stays. record {
-    within = omega (arith, c.edge_count, was.within);
-    outer = c.other k (λ q. stays (inl q)) (λ q. stays (inr (inl q))) (λ q. stays (inr (inr q)))
-        ∙ was.outer;
-    source = c.origins k ∙ was.source;
-    target = c.origins (rev k) ∙ was.target;
-  };
+  kept = λ k a b was stays. same_outer m new k a b was (omega (arith, c.edge_count, was.within))
+      (c.other k (λ q. stays (inl q)) (λ q. stays (inr (inl q))) (λ q. stays (inr (inr q))))
+      (c.origins k) (c.origins (rev k));
   made = λ k a b none. absurd none;
   only = λ k a b now.
       let k_in : k < length m.half_edges = omega (arith, c.edge_count, now.within) in
       let off : (k ≡ h) ⊎ ((k ≡ next m h) ⊎ (k ≡ prev m h))
       → ⊥ = λ q. absurd (omega (arith, c.here k q, now.outer)) in
       inl (
-        record {
-          within = k_in;
-          outer =
-              sym (c.other k (λ q. off (inl q)) (λ q. off (inr (inl q))) (λ q. off (inr (inr q))))
-              ∙ now.outer;
-          source = sym (c.origins k) ∙ now.source;
-          target = sym (c.origins (rev k)) ∙ now.target;
-        },
+        same_outer new m k a b now k_in
+            (sym (c.other k (λ q. off (inl q)) (λ q. off (inr (inl q))) (λ q. off (inr (inr q)))))
+            (sym (c.origins k)) (sym (c.origins (rev k))),
         off,
       );
 }

@@ -6,6 +6,7 @@ use Rattle.half_edge_links.specs.Renames.{IsKeptEdge, IsRenamedEdge, pair_moved,
 use Rattle.half_edge_links.specs.Remove.{Removes, edge_naming, outer_after}
 use Rattle.half_edge_links.proofs.Removing.Conditions.{IsUnlinkable}
 use Rattle.half_edge_links.proofs.Lists.Rev.{rev-rev, rev_within}
+use Rattle.half_edge_links.proofs.Relinking.Rounds.{Walk, renamed_walk}
 use Rattle.half_edge_links.proofs.Sound.RenameSound.{kept_edge}
 use Rattle.half_edge_links.proofs.Removing.UnlinkSound.{sides, sides_back, after_cases}
 use Rattle.half_edge_links.proofs.Removing.FillSound.{new_left, old_left, old_rev}
@@ -54,6 +55,18 @@ module _ (m new : Mesh) (e : ℕ) (s : AreSoundLinks m) (can : IsUnlinkable m e)
       (omega (arith, l.within)) off.0 off.1 in
       record { within = omega (arith, n.0, r.edge_count); back = n.1 }
 
+  -- the index before
+  abbrev pub former : ℕ → ℕ
+  former h = pair_moved (pair_at e) (last_pair m) h
+
+  -- a walk on the new mesh, under the indexes before
+  abbrev pub left_walk : Walk → Walk
+  left_walk w = renamed_walk w name former (IsLeft m e)
+
+  -- the index before the removal, of an edge that is left
+  pub former_is : (k : ℕ) → IsLeft m e k → former (name k) ≡ k
+  former_is k l = (kept_left k l).back
+
   -- the new index is one of the new mesh
   pub name_in : (k : ℕ) → IsLeft m e k → name k < length new.half_edges
   name_in k l = (kept_left k l).within
@@ -95,9 +108,8 @@ module _ (m new : Mesh) (e : ℕ) (s : AreSoundLinks m) (can : IsUnlinkable m e)
       (ap (next r.between) is ∙ r.unlinks.twin_before (λ z. l.other (is ∙ z)))
 
   -- each edge of the new mesh is one that is left
-  pub old_at : (h : ℕ) → h < length new.half_edges
-      → IsLeft m e (pair_moved (pair_at e) (last_pair m) h)
-      × (name (pair_moved (pair_at e) (last_pair m) h) ≡ h)
+  pub old_at : (h : ℕ) → h < length new.half_edges → IsLeft m e (former h)
+      × (name (former h) ≡ h)
   old_at h within =
       let o = old_left (last_pair m) (pair_at e) last_even hole_even below h
       (omega (arith, r.edge_count)) in

@@ -1,21 +1,20 @@
 -- No edge joins a vertex to itself after a change.
-use Rattle.std.proofs.Common.{◌≡◌, ◌≢◌, ◌+◌, ◌<◌, ◌∙◌, ◌==◌}
-use Rattle.std.proofs.Common.{ℕ, zero, suc, length, refl, sym, ap, inl, inr, arith, true}
-use Rattle.std.proofs.lemmas.Bool.{cases_eq, eq-eqb, eqb-true}
+use Rattle.std.proofs.Common.{◌≡◌, ◌≢◌, ◌+◌, ◌<◌, ◌∙◌}
+use Rattle.std.proofs.Common.{ℕ, zero, suc, length, refl, sym, ap, inl, inr, arith}
+use Rattle.std.proofs.lemmas.Bool.{cases_eq}
 use Rattle.half_edge_links.proofs.Lists.Cases.{◌or_else◌}
 use Rattle.half_edge_links.specs.Mesh.{Mesh, origin, next, prev, face, rev, AreSoundLinks}
-use Rattle.half_edge_links.specs.Mesh.{IsInnerEdge, IsAlone, HasApartEnds, HasStars, IsClosed}
+use Rattle.half_edge_links.specs.Mesh.{IsInnerEdge, IsAlone, HasApartEnds, HasStars}
 use Rattle.half_edge_links.specs.Mesh.{connected}
 use Rattle.half_edge_links.specs.Flip.{IsFlippable, Flips}
 use Rattle.half_edge_links.specs.Insert.{Inserts}
-use Rattle.half_edge_links.specs.Grow.{IsOuter, IsClosable, IsSlidable, Hangs, Closes, Slides}
+use Rattle.half_edge_links.specs.Grow.{IsOuter, IsClosable, Hangs, Closes}
 use Rattle.half_edge_links.proofs.Lists.Rev.{rev-rev, rev_within}
 use Rattle.half_edge_links.proofs.Sound.Parts.{grown_cases, late_cases, rev_of_even, rev_of_odd}
 use Rattle.half_edge_links.proofs.Growing.FaceBeside.{differs_alone}
 use Rattle.half_edge_links.proofs.Faces.FlipSound.{origin_kept}
 use Rattle.half_edge_links.proofs.Faces.InsertSound as inserting
 use Rattle.half_edge_links.proofs.Growing.Close.{IsCorner, corner}
-use Rattle.half_edge_links.proofs.Growing.Slide.{IsTail, tail}
 
 -- an edge whose ends stay
 apart_kept : (m new : Mesh) (h : ℕ) → HasApartEnds m → h < length m.half_edges → origin new h
@@ -72,36 +71,6 @@ apart_closed m new e s can i apart h within =
           (i.origins (rev h) (rev_within _ _ s.even old))
       | inr (inl is) ↦ rw is (both_sides new _ _ (rev_of_even _ s.even) there)
       | inr (inr is) ↦ rw is (both_sides new _ _ (rev_of_odd _ s.even) (neq there))
-    ]
-
--- the moved edge starts at no vertex with one edge
-start_off : (m : Mesh) (e : ℕ) → AreSoundLinks m → IsSlidable m e → HasStars m
-    → origin m e ≢ origin m (next m (next m e))
-start_off m e s can stars same =
-    let t : IsTail m e = tail m e s can in
-    let l : ℕ = next m (next m e) in
-    let turned : rev (prev m l) ≡ l = ap rev t.there_back ∙ sym t.back_is in
-    let closed : IsClosed m (λ k. k == l) = λ h within is. eq-eqb (rev (prev m h)) l
-    (ap (λ k. rev (prev m k)) (eqb-true h l is) ∙ turned) in
-    let is : (e == l) ≡ true =
-    stars (λ k. k == l) closed l e t.back_in can.within (sym same) (eq-eqb l l refl) in
-    let at : e ≡ l = eqb-true e l is in
-    can.apart (sym (rev-rev (next m e)) ∙ ap rev (sym t.back_is) ∙ ap rev (sym at))
-
--- no edge joins a vertex to itself once an edge is moved to the far end of the next one
-pub apart_slid : (m new : Mesh) (e : ℕ) → AreSoundLinks m → IsSlidable m e
-    → Slides m new e (next m e) (next m (next m e)) → HasStars m → HasApartEnds m → HasApartEnds new
-apart_slid m new e s can i stars apart h within =
-    let t : IsTail m e = tail m e s can in
-    let h_in : h < length m.half_edges = omega (arith, within, i.edge_count) in
-    let off : e ≢ rev e = λ q. apart e can.within (ap (origin m) q) in
-    let moved : origin new e ≢ origin new (rev e) = λ q. start_off m e s can stars
-    (sym (i.other_origins e can.within off) ∙ q ∙ i.origin_twin) in
-    elim (cases_eq h (rev e) or_else cases_eq h e) [
-      | inl same ↦ rw same (both_sides new _ _ (rev-rev e) (neq moved))
-      | inr (a, inl same) ↦ rw same moved
-      | inr (a, inr b) ↦ apart_kept m new h apart h_in (i.other_origins h h_in a) (i.other_origins
-          (rev h) (rev_within _ _ s.even h_in) (λ q. b (sym (rev-rev h) ∙ ap rev q ∙ rev-rev e)))
     ]
 
 -- no edge joins a vertex to itself once a vertex is put into an inner face

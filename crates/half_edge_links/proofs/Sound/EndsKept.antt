@@ -1,17 +1,17 @@
 -- The ends of the edges after each call.
 use Rattle.std.proofs.Common.{◌≡◌, ◌+◌, ◌/◌, ◌<◌, [], ◌∷◌, ◌∙◌}
-use Rattle.std.proofs.Common.{ℕ, zero, suc, length, get_or, refl, sym, ap, arith, append_assoc}
+use Rattle.std.proofs.Common.{ℕ, zero, suc, length, get_or, refl, ap, arith, append_assoc}
 use Rattle.std.proofs.Common.{add-zero}
 use Rattle.std.proofs.lemmas.List.{set-append_left}
 use Rattle.half_edge_links.specs.Mesh.{Mesh, origin, next, prev, rev, AreSoundLinks, IsAlone}
 use Rattle.half_edge_links.specs.Mesh.{IsInnerEdge}
 use Rattle.half_edge_links.specs.Flip.{IsFlippable, flipped}
 use Rattle.half_edge_links.specs.Insert.{inserted}
-use Rattle.half_edge_links.specs.Grow.{IsOuter, IsClosable, IsSlidable, IsLineEdge}
-use Rattle.half_edge_links.specs.Grow.{IsHalfSplittable, Hangs, Closes, Slides, AddsFace}
+use Rattle.half_edge_links.specs.Grow.{IsOuter, IsClosable, IsLineEdge}
+use Rattle.half_edge_links.specs.Grow.{IsHalfSplittable, Hangs, Closes, AddsFace}
 use Rattle.half_edge_links.specs.Outline.{ends, along, AddsEdge, AddsTwoEdges, MovesEdge}
 use Rattle.half_edge_links.specs.Outline.{InsertsEnds, SplitsLineEnds, HalfSplitsEnds}
-use Rattle.half_edge_links.proofs.Lists.Rev.{rev-rev, rev_differs}
+use Rattle.half_edge_links.proofs.Lists.Rev.{rev-rev}
 use Rattle.half_edge_links.proofs.Sound.Parts.{rev_of_even}
 use Rattle.half_edge_links.proofs.Sound.Ends.{ends_grown, ends_moved, length-ends}
 use Rattle.half_edge_links.proofs.Growing.Close.{corner}
@@ -71,15 +71,6 @@ ends_beside m mid new e v s outer i a b =
     ap (λ k. origin mid (rev k)) i.next_at ∙ ap (origin mid) r0 ∙ i.back.origin in
     let start = i.origins e outer.0 in
     rw (b, a, end, start, append_assoc) refl
-
--- an edge that is moved to the far end of the next one gets that end; no other ends change
-pub ends_slid : (m new : Mesh) (e : ℕ) → AreSoundLinks m → IsSlidable m e
-    → Slides m new e (next m e) (next m (next m e))
-    → MovesEdge m new e (origin m e) (origin m (next m (next m e)))
-ends_slid m new e s can i =
-    ends_moved m new e (origin m e) (origin m (next m (next m e))) s can.within i.edge_count
-    (i.other_origins e can.within (λ q. rev_differs e (sym q))) i.origin_twin
-    (λ h within a b. i.other_origins h within b)
 
 -- edge e of a line that is split goes to v, and an edge from its former end to v is added
 pub ends_line : (m mid new : Mesh) (e v : ℕ) → AreSoundLinks m → IsLineEdge m e

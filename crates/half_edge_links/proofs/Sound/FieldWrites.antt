@@ -1,7 +1,9 @@
 -- Reads of the directed edges after a write of one link.
-use Rattle.std.proofs.Common.{◌≡◌, ◌≢◌, ◌⊎◌, ℕ, ◌<◌, List, length, set, refl, ap, ◌∙◌, inl, inr}
+use Rattle.std.proofs.Common.{◌≡◌, ◌≢◌, ◌⊎◌, ℕ, ◌<◌, List, length, set, refl, sym, ap, ◌∙◌}
+use Rattle.std.proofs.Common.{inl, inr}
 use Rattle.std.proofs.lemmas.Bool.{cases_eq, cases_lt}
 use Rattle.std.proofs.lemmas.List.{get_or-set_same, get_or-set_other, length-set, set_past}
+use Rattle.std.proofs.lemmas.List.{set-set, set_comm}
 use Rattle.half_edge_links.specs.declared.records.HalfEdge.{HalfEdge}
 use Rattle.half_edge_links.specs.Mesh.{no_edge, edge_at}
 use Rattle.half_edge_links.specs.Grow.{with_next, with_prev, with_face, with_origin}
@@ -65,6 +67,40 @@ module _ (hs : List HalfEdge) (h x : ℕ) where
   pub writes_origin : Writes hs (with_origin hs h x) h (record (edge_at hs h) { origin = x })
   unfolding with_origin
   writes_origin = writes hs h _
+
+-- writes of a next edge and of an edge before can change places
+pub swap_writes : (hs : List HalfEdge) (p x n y : ℕ) → p < length hs
+    → with_next (with_prev hs p x) n y ≡ with_prev (with_next hs n y) p x
+unfolding with_next with_prev
+swap_writes hs p x n y p_in =
+    let a : HalfEdge = record (edge_at hs p) { prev = x } in
+    let b : HalfEdge = record (edge_at hs n) { next = y } in
+    elim (cases_eq n p) [
+      | inl same ↦
+          let c : HalfEdge = record (edge_at hs p) { next = y } in
+          let d : HalfEdge = record (edge_at hs p) { next = y; prev = x } in
+          rw (
+            same,
+            get_or-set_same hs p a no_edge p_in,
+            get_or-set_same hs p c no_edge p_in,
+          ) (set-set hs p a d ∙ sym (set-set hs p c d))
+      | inr off ↦ rw (
+        get_or-set_other hs p n a no_edge off,
+        get_or-set_other hs n p b no_edge (λ q. off (sym q)),
+      ) (set_comm hs p n a b (λ q. off (sym q)))
+    ]
+
+-- writes of the edges before two edges can change places
+pub swap_prevs : (hs : List HalfEdge) (h x k y : ℕ) → h ≢ k
+    → with_prev (with_prev hs h x) k y ≡ with_prev (with_prev hs k y) h x
+unfolding with_prev
+swap_prevs hs h x k y off =
+    let a : HalfEdge = record (edge_at hs h) { prev = x } in
+    let b : HalfEdge = record (edge_at hs k) { prev = y } in
+    rw (
+      get_or-set_other hs h k a no_edge (λ q. off (sym q)),
+      get_or-set_other hs k h b no_edge off,
+    ) (set_comm hs h k a b off)
 
 -- the loop of h gets face x
 pub record SetsLoopFace (old new : List HalfEdge) (h x : ℕ) : Type 0 where

@@ -99,13 +99,7 @@ module _ (old new : Mesh) (h : ℕ) (here : IsSoundEdge old h) where
 
 -- a sound edge and the edge after it fit together
 pub next_of_sound : (m : Mesh) (h : ℕ) → IsSoundEdge m h → IsNextSound m h
-next_of_sound m h s = record {
-  next_in = s.next_in;
-  prev_next = s.prev_next;
-  starts = s.starts;
-  same_face = s.same_face;
-  proper = s.proper;
-}
+next_of_sound m h s = assumption
 
 -- an edge with its next one
 pub next_at : (m : Mesh) (h n : ℕ) → next m h ≡ n → n < length m.half_edges → prev m n ≡ h

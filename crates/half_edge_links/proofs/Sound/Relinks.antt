@@ -5,6 +5,7 @@ use Rattle.half_edge_links.specs.Mesh.{edge_at}
 use Rattle.half_edge_links.specs.Grow.{with_next, with_prev, with_origin}
 use Rattle.half_edge_links.proofs.Sound.FieldWrites.{writes_next, writes_prev, writes_origin}
 use Rattle.half_edge_links.proofs.Sound.FieldWrites.{next_link, prev_link, face_link, origin_link}
+use Rattle.half_edge_links.proofs.Sound.FieldWrites.{swap_writes}
 
 -- next edges at e, z and k, edges before at l, k and t, and the origin of t are new; all other
 -- links stay
@@ -104,3 +105,19 @@ module _ (hs : List HalfEdge) (e t k l z x y w p q r o : ℕ) where
             ∙ (writes_next two k w).kept face_link refl h ∙ (writes_next one z y).kept face_link
             refl h ∙ (writes_next hs e x).kept face_link refl h;
       }
+
+-- three edges that are put after others, one after another, are so by writes of all next edges and
+-- then of all edges before
+pub three_joined : (hs : List HalfEdge) (a b c d f g : ℕ) → b < length hs → d < length hs
+    → with_prev (with_next (with_prev (with_next (with_prev (with_next hs a b) b a) c d) d c) f g) g
+    f ≡ with_prev (with_prev (with_prev (with_next (with_next (with_next hs a b) c d) f g) b a) d c)
+    g f
+three_joined hs a b c d f g b_in d_in =
+    let one : List HalfEdge = with_next hs a b in
+    let two : List HalfEdge = with_next one c d in
+    let n1 : length one ≡ length hs = (writes_next hs a b).count in
+    let n2 : length two ≡ length hs = (writes_next one c d).count ∙ n1 in
+    let n3 : length (with_prev two b a) ≡ length hs = (writes_prev two b a).count ∙ n2 in
+    ap (λ q. with_prev (with_next (with_prev q d c) f g) g f) (swap_writes one b a c d (rw n1 b_in))
+    ∙ ap (λ q. with_prev q g f) (swap_writes (with_prev two b a) d c f g (rw n3 d_in)
+    ∙ ap (λ q. with_prev q d c) (swap_writes two b a f g (rw n2 b_in)))

@@ -16,12 +16,11 @@ use Rattle.half_edge_links.proofs.Faces.InsertLemmas.{inserts}
 use Rattle.half_edge_links.proofs.Faces.InsertSound.{sound_after_insert}
 use Rattle.half_edge_links.proofs.Growing.Hang.{hangs, sound_after_hang}
 use Rattle.half_edge_links.proofs.Growing.Close.{closes, sound_after_close}
-use Rattle.half_edge_links.proofs.Growing.Slide.{slides, sound_after_slide}
-use Rattle.half_edge_links.proofs.Stars.StarsKept.{stars_hung}
-use Rattle.half_edge_links.proofs.Stars.StarsRound.{stars_closed, stars_flipped}
-use Rattle.half_edge_links.proofs.Stars.StarsInsert.{stars_inserted}
-use Rattle.half_edge_links.proofs.Stars.StarsSlide.{stars_slid}
-use Rattle.half_edge_links.proofs.Sound.Apart.{apart_flipped, apart_hung, apart_closed, apart_slid}
+use Rattle.half_edge_links.proofs.Growing.Slide.{slides, sound_after_slide, stars_slid}
+use Rattle.half_edge_links.proofs.Growing.Slide.{apart_slid}
+use Rattle.half_edge_links.proofs.Stars.StarsKept.{stars_hung, stars_closed, stars_flipped}
+use Rattle.half_edge_links.proofs.Stars.StarsKept.{stars_inserted}
+use Rattle.half_edge_links.proofs.Sound.Apart.{apart_flipped, apart_hung, apart_closed}
 use Rattle.half_edge_links.proofs.Sound.Apart.{apart_inserted, apart_connected, stars_connected}
 use Rattle.half_edge_links.specs.Remove.{Opens, Removes, IsRemovable, IsOpenTriangle, ClosesLoop}
 use Rattle.half_edge_links.specs.Move.{MovesVertex}

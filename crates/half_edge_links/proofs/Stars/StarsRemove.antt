@@ -1,23 +1,24 @@
 -- No edge joins a vertex to itself, and each vertex has one round of edges, after a removal.
-use Rattle.std.proofs.Common.{◌≡◌, ◌≢◌, ◌-◌, ◌%◌, ◌<◌, ◌∙◌}
-use Rattle.std.proofs.Common.{ℕ, Bool, true, length, refl, sym, ap, inl, inr}
+use Rattle.std.proofs.Common.{◌≡◌, ◌≢◌, [], ◌∷◌, ◌-◌, ◌%◌, ◌<◌, ◌∙◌}
+use Rattle.std.proofs.Common.{ℕ, List, length, refl, sym, ap, inl, inr}
 use Rattle.std.proofs.lemmas.Bool.{cases_eq}
 use Rattle.half_edge_links.proofs.Lists.Cases.{◌or_else◌, ◌each_with◌}
+use Rattle.half_edge_links.proofs.Lists.Named.{◌and◌}
 use Rattle.half_edge_links.specs.Mesh.{Mesh, origin, next, prev, rev, AreSoundLinks, HasApartEnds}
-use Rattle.half_edge_links.specs.Mesh.{HasStars, IsClosed, IsAlone}
-use Rattle.half_edge_links.specs.Renames.{pair_moved}
+use Rattle.half_edge_links.specs.Mesh.{HasStars, IsAlone}
 use Rattle.half_edge_links.specs.Remove.{Removes}
 use Rattle.half_edge_links.specs.Move.{MovesVertex}
-use Rattle.half_edge_links.proofs.Lists.Rev.{rev-rev, rev_within, rev_differs}
+use Rattle.half_edge_links.proofs.Lists.Rev.{rev-rev, rev_same, rev_within, rev_differs}
 use Rattle.half_edge_links.proofs.Growing.FaceBeside.{differs_alone}
 use Rattle.half_edge_links.proofs.Removing.OpenSound.{moved_hit, moved_miss}
 use Rattle.half_edge_links.proofs.Removing.Conditions.{IsUnlinkable}
 use Rattle.half_edge_links.proofs.Removing.RemoveSound.{sound_removed}
-use Rattle.half_edge_links.proofs.Stars.StarsRound.{stand_in, stands_first, stands_second}
-use Rattle.half_edge_links.proofs.Stars.StarsRound.{stands_other}
 use Rattle.half_edge_links.proofs.Removing.Track.{side_left, IsLeft, name, name_in, origin_at}
 use Rattle.half_edge_links.proofs.Removing.Track.{next_at, next_before, next_twin_before, old_at}
-use Rattle.half_edge_links.proofs.Removing.Track.{rev_at}
+use Rattle.half_edge_links.proofs.Removing.Track.{rev_at, former, former_is, left_walk}
+use Rattle.half_edge_links.proofs.Relinking.Rounds.{Exchange, one_round, round_renamed, stand}
+use Rattle.half_edge_links.proofs.Relinking.Rounds.{stand_off, stand_first, stand_second}
+use Rattle.half_edge_links.proofs.Relinking.Walks.{star_walk, star_goes}
 
 -- a mesh with the same walk round each vertex, and the same origins but for their names
 module _ (m new : Mesh) (count : length new.half_edges ≡ length m.half_edges)
@@ -40,149 +41,97 @@ module _ (m new : Mesh) (count : length new.half_edges ≡ length m.half_edges)
 
 module _ (m new : Mesh) (e : ℕ) (s : AreSoundLinks m) (can : IsUnlinkable m e)
     (r : Removes m new e) where
-  old : ℕ → ℕ
-  old h = pair_moved (e - e % 2) (length m.half_edges - 2) h
-
   abbrev nm : ℕ → ℕ
   nm k = name m new e s can r k
 
   -- the ends of each edge still differ once an edge is removed
   pub apart_removed : HasApartEnds m → HasApartEnds new
-  unfolding old
   apart_removed apart h within same =
       let o = old_at m new e s can r h within in
       let l = o.0 in
-      let side : IsLeft m e (rev (old h)) = side_left m e (old h) s l in
-      let here : origin new h ≡ origin m (old h) =
+      let k : ℕ = former m new e s can r h in
+      let side : IsLeft m e (rev k) = side_left m e k s l in
+      let here : origin new h ≡ origin m k =
       ap (origin new) (sym o.1) ∙ origin_at m new e s can r _ l in
-      let there : origin new (rev h) ≡ origin m (rev (old h)) =
-      ap (λ k. origin new (rev k)) (sym o.1) ∙ ap (origin new) (rev_at m new e s can r _ l)
+      let there : origin new (rev h) ≡ origin m (rev k) =
+      ap (λ j. origin new (rev j)) (sym o.1) ∙ ap (origin new) (rev_at m new e s can r _ l)
       ∙ origin_at m new e s can r _ side in
-      apart (old h) l.within (sym here ∙ same ∙ there)
+      apart k l.within (sym here ∙ same ∙ there)
 
-  abbrev y : ℕ
-  y = next m (rev e)
-
-  abbrev q : ℕ
-  q = next m e
-
-  t_in : rev e < length m.half_edges
-  t_in = rev_within _ _ s.even can.within
-
-  module _ (among : ℕ → Bool) (closed : IsClosed new among) where
-    -- the two sides of the edge that goes stand for the edges before them round their vertices
-    before : ℕ → Bool
-    before k = stand_in (λ j. among (nm j)) e (rev e) y q k
-
-    plain : (k : ℕ) → IsLeft m e k → before k ≡ among (nm k)
-    unfolding before
-    plain k l = stands_other (λ j. among (nm j)) e (rev e) y q k l.other l.other_side
-
-    at_e : (k : ℕ) → k ≡ e → before k ≡ among (nm y)
-    unfolding before
-    at_e k is = stands_first (λ j. among (nm j)) e (rev e) y q k is
-
-    at_t : (k : ℕ) → k ≡ rev e → before k ≡ among (nm q)
-    unfolding before
-    at_t k is =
-        stands_second (λ j. among (nm j)) e (rev e) y q k (λ z. rev_differs e (sym is ∙ z)) is
-
-    -- from an edge of the new mesh to the next one round its start
-    turned : (b k : ℕ) → IsLeft m e b → IsLeft m e k → next new (nm b) ≡ nm k → among (nm k) ≡ true
-        → before (rev b) ≡ true
-    turned b k l j after is =
-        let back : prev new (nm k) ≡ nm b = ap (prev new) (sym after)
-        ∙ ((sound_removed m new e r).edges _ (name_in m new e s can r b l)).prev_next in
-        plain (rev b) (side_left m e b s l)
-        ∙ ap among (sym (ap rev back ∙ rev_at m new e s can r b l))
-        ∙ closed (nm k) (name_in m new e s can r k j) is
-
-    closed_at_e : before e ≡ true → before (rev (prev m e)) ≡ true
-    closed_at_e is =
-        let here = s.edges e can.within in
-        let there = s.edges (rev e) t_in in
-        elim (cases_eq (prev m e) (rev e)) [
-          | inl p ↦ ap before (ap rev p ∙ rev-rev e) ∙ is
-          | inr p ↦
-              let before_left : IsLeft m e (prev m e) = record {
-                within = here.prev_in;
-                other = λ z. here.proper (sym (ap (next m) z) ∙ here.next_prev);
-                other_side = p;
-              } in
-              let y_left : IsLeft m e y = record {
-                within = there.next_in;
-                other = λ z. p (ap (prev m) (sym z) ∙ there.prev_next);
-                other_side = there.proper;
-              } in
-              turned (prev m e) y before_left y_left
-              (next_before m new e s can r _ before_left refl) (sym (at_e e refl) ∙ is)
-        ]
-
-    closed_at_t : before (rev e) ≡ true → before (rev (prev m (rev e))) ≡ true
-    closed_at_t is =
-        let here = s.edges e can.within in
-        let there = s.edges (rev e) t_in in
-        elim (cases_eq (prev m (rev e)) e) [
-          | inl p ↦ ap before (ap rev p) ∙ is
-          | inr p ↦
-              let before_left : IsLeft m e (prev m (rev e)) = record {
-                within = there.prev_in;
-                other = p;
-                other_side = λ z. there.proper (sym (ap (next m) z) ∙ there.next_prev);
-              } in
-              let q_left : IsLeft m e q = record {
-                within = here.next_in;
-                other = here.proper;
-                other_side = λ z. p (ap (prev m) (sym z) ∙ here.prev_next);
-              } in
-              turned (prev m (rev e)) q before_left q_left (next_twin_before m new e s can r _
-              before_left refl) (sym (at_t (rev e) refl) ∙ is)
-        ]
-
-    closed_left : (h : ℕ) → IsLeft m e h → before h ≡ true → before (rev (prev m h)) ≡ true
-    closed_left h l is =
-        let here = s.edges h l.within in
-        let on : among (nm h) ≡ true = sym (plain h l) ∙ is in
-        elim (cases_eq (prev m h) (rev e) or_else cases_eq (prev m h) e) [
-          | inl p ↦ at_e (rev (prev m h)) (ap rev p ∙ rev-rev e)
-              ∙ ap (λ k. among (nm k)) (ap (next m) (sym p) ∙ here.next_prev) ∙ on
-          | inr (p, inl z) ↦ at_t (rev (prev m h)) (ap rev z)
-              ∙ ap (λ k. among (nm k)) (ap (next m) (sym z) ∙ here.next_prev) ∙ on
-          | inr (p, inr z) ↦
-              let b : IsLeft m e (prev m h) =
-              record { within = here.prev_in; other = z; other_side = p } in
-              let off_e : prev m h ≢ prev m e = λ i. l.other
-              (sym here.next_prev ∙ ap (next m) i ∙ (s.edges e can.within).next_prev) in
-              let off_t : prev m h ≢ prev m (rev e) = λ i. l.other_side
-              (sym here.next_prev ∙ ap (next m) i ∙ (s.edges (rev e) t_in).next_prev) in
-              turned (prev m h) h b l
-              (next_at m new e s can r _ b off_e off_t ∙ ap nm here.next_prev) on
-        ]
-
-    closed_before : IsClosed m before
-    closed_before h within is =
-        elim (cases_eq h e or_else cases_eq h (rev e)) [
-          | inl z ↦ ap (λ k. before (rev (prev m k))) z ∙ closed_at_e (ap before (sym z) ∙ is)
-          | inr (a, inl z) ↦
-              ap (λ k. before (rev (prev m k))) z ∙ closed_at_t (ap before (sym z) ∙ is)
-          | inr (a, inr b) ↦
-              closed_left h (record { within = within; other = a; other_side = b }) is
-        ]
+  -- what came before a side that goes, round its vertex, is followed by what came after it
+  exchange : Exchange (star_walk m) (left_walk m new e s can r (star_walk new))
+      ((e, rev (prev m e)) ∷ (rev e, rev (prev m (rev e))) ∷ []) [] []
+  exchange =
+      let t_in : rev e < length m.half_edges = rev_within _ _ s.even can.within in
+      let at_e = s.edges e can.within in
+      let at_t = s.edges (rev e) t_in in
+      let p : ℕ = prev m e in
+      let x : ℕ = prev m (rev e) in
+      let p_e : p ≢ e = λ z. at_e.proper (sym (ap (next m) z) ∙ at_e.next_prev) in
+      let x_t : x ≢ rev e = λ z. at_t.proper (sym (ap (next m) z) ∙ at_t.next_prev) in
+      let stands : List (ℕ × ℕ) = (e, rev p) ∷ (rev e, rev x) ∷ [] in
+      let first : stand stands e ≡ rev p = stand_first e (rev p) ((rev e, rev x) ∷ []) in
+      let second : stand stands (rev e) ≡ rev x =
+      stand_second e (rev p) (rev e) (rev x) [] (rev_differs e) in
+      let off = λ (k : ℕ) (b : k ≢ e) (c : k ≢ rev e). stand_off stands (rev k)
+      ((λ z. c (sym (rev-rev k) ∙ ap rev z)) and (λ z. b (rev_same k e z)) and tt) in
+      let behind = λ (b k : ℕ) (l : IsLeft m e b) (is : next new (nm b) ≡ nm k).
+      ap (λ j. former m new e s can r (rev j)) (ap (prev new) (sym is)
+      ∙ ((sound_removed m new e r).edges _ (name_in m new e s can r b l)).prev_next)
+      ∙ ap (former m new e s can r) (rev_at m new e s can r b l)
+      ∙ former_is m new e s can r (rev b) (side_left m e b s l) in
+      record {
+        lives = λ k within none.
+            let l : IsLeft m e k =
+            record { within = within; other = none.0; other_side = none.1.0 } in
+            (l, name_in m new e s can r k l);
+        left = (elim (cases_eq p (rev e)) [
+          | inl z ↦ ap (stand stands) (ap rev z ∙ rev-rev e)
+          | inr c ↦ off p p_e c ∙ sym first
+        ]) and (elim (cases_eq x e) [
+          | inl z ↦ ap (stand stands) (ap rev z)
+          | inr b ↦ off x b x_t ∙ sym second
+        ]) and tt;
+        stretched = tt;
+        other = λ k within off_e off_t.
+            let here = s.edges k within in
+            let next_is = λ (b : ℕ) (is : prev m k ≡ b). ap (next m) (sym is) ∙ here.next_prev in
+            elim (cases_eq (prev m k) (rev e) or_else cases_eq (prev m k) e) [
+              | inl z ↦
+                  let l : IsLeft m e p = record {
+                    within = at_e.prev_in;
+                    other = p_e;
+                    other_side = λ c. off_e (sym (next_is (rev e) z) ∙ ap (next m) (sym c)
+                        ∙ at_e.next_prev);
+                  } in
+                  behind p k l (next_before m new e s can r p l refl ∙ ap nm (next_is (rev e) z))
+                  ∙ sym (ap (stand stands) (ap rev z ∙ rev-rev e) ∙ first)
+              | inr (b, inl z) ↦
+                  let l : IsLeft m e x = record {
+                    within = at_t.prev_in;
+                    other = λ c. off_t (sym (next_is e z) ∙ ap (next m) (sym c) ∙ at_t.next_prev);
+                    other_side = x_t;
+                  } in
+                  behind x k l (next_twin_before m new e s can r x l refl ∙ ap nm (next_is e z))
+                  ∙ sym (ap (stand stands) (ap rev z) ∙ second)
+              | inr (b, inr c) ↦
+                  let l : IsLeft m e (prev m k) =
+                  record { within = here.prev_in; other = c; other_side = b } in
+                  behind (prev m k) k l (next_at m new e s can r _ l
+                  (λ z. off_e (sym here.next_prev ∙ ap (next m) z ∙ at_e.next_prev))
+                  (λ z. off_t (sym here.next_prev ∙ ap (next m) z ∙ at_t.next_prev))
+                  ∙ ap nm here.next_prev) ∙ sym (off (prev m k) c b)
+            ];
+        kept = λ k is. is.0.within and (is.0.other and is.0.other_side and tt)
+            and origin_at m new e s can r k is.0;
+        alone = tt;
+      }
 
   -- each vertex keeps one round of edges once an edge is removed
   pub stars_removed : HasStars m → HasStars new
-  unfolding old
-  stars_removed stars among closed h g h_in g_in same is =
-      let a = old_at m new e s can r h h_in in
-      let b = old_at m new e s can r g g_in in
-      let here : origin new h ≡ origin m (old h) =
-      ap (origin new) (sym a.1) ∙ origin_at m new e s can r _ a.0 in
-      let there : origin new g ≡ origin m (old g) =
-      ap (origin new) (sym b.1) ∙ origin_at m new e s can r _ b.0 in
-      let found = stars (before among closed) (closed_before among closed) (old h)
-      (old g) a.0.within b.0.within (sym here ∙ same ∙ there)
-      (plain among closed (old h) a.0 ∙ ap among a.1 ∙ is) in
-      ap among (sym b.1) ∙ sym (plain among closed (old g) b.0) ∙ found
+  stars_removed stars = round_renamed (star_walk new) nm (former m new e s can r) (IsLeft m e)
+      (star_goes new (sound_removed m new e r)) (old_at m new e s can r) (one_round (star_walk m)
+      (left_walk m new e s can r (star_walk new)) (star_goes m s) _ _ _ exchange stars)
 
 -- edges of one vertex were so before the last one took the index of one without edges
 pub moved_back : (m new : Mesh) (v : ℕ) → AreSoundLinks m → IsAlone m v → MovesVertex m new v

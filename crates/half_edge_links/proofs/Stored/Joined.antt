@@ -35,10 +35,4 @@ joined_kept old new count nexts prevs j = record {
 
 -- the three edges round an inner face are a loop of three in the list
 pub loop_of_three : (m : Mesh) (h : ℕ) → IsTriangle m h → IsLoopOfThree m.half_edges h
-loop_of_three m h t = record {
-  within = t.h_in;
-  three = t.next_next;
-  next_differs = t.next_differs;
-  prev_differs = t.prev_differs;
-  both_differ = t.both_differ;
-}
+loop_of_three m h t = assumption

@@ -16,7 +16,7 @@ use Rattle.half_edge_links.specs.Mesh.{edge_at, no_edge}
 use Rattle.half_edge_links.specs.Places.{AreJoined}
 use Rattle.half_edge_links.specs.Grow.{with_next, with_prev, with_face, with_origin}
 use Rattle.half_edge_links.specs.EdgeList.{stored_at, no_stored, shown, stored_next, stored_prev}
-use Rattle.half_edge_links.specs.EdgeList.{stored_face, stored_corner}
+use Rattle.half_edge_links.specs.EdgeList.{stored_face, stored_corner, stored_joined}
 use Rattle.half_edge_links.proofs.Stored.Shown.{length_shown, shown_at, next_shown, prev_shown}
 use Rattle.half_edge_links.proofs.Stored.Shown.{face_shown, origin_shown}
 
@@ -261,3 +261,9 @@ module _ (rs : List StoredEdge) (hs : List HalfEdge) (cs : List ℕ) (k : Keeps 
             (record { next = was.next; prev = was.prev; face = was.face }));
         corners = k.corners;
       }
+
+-- an edge is put after another
+pub keeps_joined : (rs : List StoredEdge) (hs : List HalfEdge) (cs : List ℕ) → Keeps rs hs cs
+    → (h n o : ℕ) → Keeps (stored_joined rs h n o) (with_prev (with_next hs h n) n h) (set cs n o)
+keeps_joined rs hs cs k h n o =
+    keeps_corner _ _ _ (keeps_prev _ _ _ (keeps_next rs hs cs k h n) n h) n o

@@ -1,17 +1,18 @@
 -- Edges are slid and pass a vertex among the records.
-use Rattle.std.proofs.Common.{◌≡◌, ◌≢◌, ℕ, ◌<◌, List, length, set, sym, ◌∙◌, inl, inr}
+use Rattle.std.proofs.Common.{◌≡◌, ◌≢◌, ℕ, ◌<◌, List, length, set, sym, ap, ◌∙◌, inl, inr}
 use Rattle.std.proofs.lemmas.Bool.{cases_eq}
 use Rattle.std.proofs.lemmas.List.{get_or-set_same, get_or-set_other, length-set}
 use Rattle.half_edge_links.proofs.Lists.Cases.{◌or_else◌}
 use Rattle.half_edge_links.specs.declared.records.HalfEdge.{HalfEdge}
 use Rattle.half_edge_links.specs.declared.records.StoredEdge.{StoredEdge}
 use Rattle.half_edge_links.specs.Mesh.{edge_at}
-use Rattle.half_edge_links.specs.Grow.{slid_edges}
+use Rattle.half_edge_links.specs.Grow.{slid_edges, with_next, with_prev}
 use Rattle.half_edge_links.specs.Pass.{passed_edges}
 use Rattle.half_edge_links.specs.Places.{AreJoined, AreSlidPlaces, ArePassedPlaces}
-use Rattle.half_edge_links.specs.EdgeList.{shown, stored_next, stored_prev, stored_corner}
-use Rattle.half_edge_links.proofs.Sound.Relinks.{Relinks, relinks}
-use Rattle.half_edge_links.proofs.Stored.Keeps.{keeps_shown, keeps_next, keeps_prev, keeps_corner}
+use Rattle.half_edge_links.specs.EdgeList.{shown, stored_corner, stored_joined}
+use Rattle.half_edge_links.proofs.Sound.FieldWrites.{swap_prevs}
+use Rattle.half_edge_links.proofs.Sound.Relinks.{Relinks, relinks, three_joined}
+use Rattle.half_edge_links.proofs.Stored.Keeps.{Keeps, keeps_shown, keeps_joined, keeps_corner}
 use Rattle.half_edge_links.proofs.Stored.Keeps.{keeps_origin, shown_is, corner_shown, corners_of}
 use Rattle.half_edge_links.proofs.Stored.Keeps.{count_corners, SayOrigins, apart_joined}
 
@@ -78,11 +79,20 @@ module _ (rs : List StoredEdge) (e t k l z : ℕ) (j : AreJoined (shown rs)) whe
   abbrev hs : List HalfEdge
   hs = shown rs
 
+  keeps_three : (x y w : ℕ) → x < length hs → y < length hs
+      → Keeps (stored_joined (stored_joined (stored_joined rs e x (edge_at hs e).origin) z y
+      (edge_at hs z).origin) k w (edge_at hs k).origin)
+      (with_prev (with_prev (with_prev (with_next (with_next (with_next hs e x) z y) k w) x e) y z)
+      w k) (set (set (set (corners_of rs) x (edge_at hs e).origin) y (edge_at hs z).origin) w
+      (edge_at hs k).origin)
+  keeps_three x y w x_in y_in = rw (three_joined hs e x z y k w x_in y_in) at (keeps_joined _ _ _
+      (keeps_joined _ _ _ (keeps_joined _ _ _ (keeps_shown rs) e x (edge_at hs e).origin) z y
+      (edge_at hs z).origin) k w (edge_at hs k).origin)
+
   -- the records after an edge was slid show it
   pub shows_slid : AreSlidPlaces (shown rs) e t k l z
-      → shown (stored_corner (stored_corner (stored_corner (stored_corner (stored_prev (stored_prev
-      (stored_prev (stored_next (stored_next (stored_next rs e l) z k) k t) l e) k z) t k) l
-      (edge_at (shown rs) e).origin) k (edge_at (shown rs) z).origin) t
+      → shown (stored_corner (stored_joined (stored_joined (stored_joined rs e l
+      (edge_at (shown rs) e).origin) z k (edge_at (shown rs) z).origin) k t
       (edge_at (shown rs) k).origin) (edge_at (shown rs) t).next (edge_at (shown rs) l).origin)
       ≡ slid_edges (shown rs) e t k l z
   unfolding slid_edges
@@ -93,20 +103,9 @@ module _ (rs : List StoredEdge) (e t k l z : ℕ) (j : AreJoined (shown rs)) whe
       let next_z : (edge_at hs z).next ≡ t = rw p.before_is (j.next_prev t p.twin_in) in
       let r = relinks hs e t k l z l k t e z k (edge_at hs l).origin p.edge_in p.twin_in k_in l_in
       z_in p.edge-before p.edge-there p.before-there p.back-there p.back-twin p.there-twin in
-      let three : AreThree (length hs) l k t = record {
-        x_in = l_in;
-        y_in = k_in;
-        w_in = p.twin_in;
-        x-y = p.back-there;
-        x-w = p.back-twin;
-        y-w = p.there-twin;
-      } in
-      shown_is _ _ _ (
-      keeps_corner _ _ _
-      (keeps_corner _ _ _ (keeps_corner _ _ _ (keeps_corner _ _ _ (keeps_origin _ _ _ (
-      keeps_prev _ _ _ (keeps_prev _ _ _ (keeps_prev _ _ _ (keeps_next _ _ _
-      (keeps_next _ _ _ (keeps_next _ _ _ (keeps_shown rs) _ _) _ _) _ _) _ _) _ _) _ _) _ _) _
-      _) _ _) _ _) _ _) (
+      let three : AreThree (length hs) l k t = assumption in
+      shown_is _ _ _ (keeps_corner _ _ _ (keeps_origin _ _ _ (keeps_three l k t l_in k_in) _ _)
+      _ _) (
       say_relinked hs _ (corners_of rs) e t k l z l k t e z k (edge_at hs l).origin r j
       (count_corners rs) (corner_shown rs) p.edge_in p.twin_in k_in z_in three
       (λ q. p.edge-twin (sym q)) (λ q. p.before-twin (sym q)) (λ q. p.there-twin (sym q))
@@ -118,9 +117,8 @@ module _ (rs : List StoredEdge) (e t k l z : ℕ) (j : AreJoined (shown rs)) whe
 
   -- the records after an edge passed a vertex show it
   pub shows_passed : ArePassedPlaces (shown rs) e t k l z
-      → shown (stored_corner (stored_corner (stored_corner (stored_corner (stored_prev (stored_prev
-      (stored_prev (stored_next (stored_next (stored_next rs e k) z t) k l) l k) k e) t z) k
-      (edge_at (shown rs) e).origin) t (edge_at (shown rs) z).origin) l
+      → shown (stored_corner (stored_joined (stored_joined (stored_joined rs e k
+      (edge_at (shown rs) e).origin) z t (edge_at (shown rs) z).origin) k l
       (edge_at (shown rs) k).origin) (edge_at (shown rs) t).next (edge_at (shown rs) k).origin)
       ≡ passed_edges (shown rs) e t k l z
   unfolding passed_edges
@@ -140,12 +138,11 @@ module _ (rs : List StoredEdge) (e t k l z : ℕ) (j : AreJoined (shown rs)) whe
         x-w = λ q. p.back-there (sym q);
         y-w = λ q. p.back-twin (sym q);
       } in
-      shown_is _ _ _ (
-      keeps_corner _ _ _
-      (keeps_corner _ _ _ (keeps_corner _ _ _ (keeps_corner _ _ _ (keeps_origin _ _ _ (
-      keeps_prev _ _ _ (keeps_prev _ _ _ (keeps_prev _ _ _ (keeps_next _ _ _
-      (keeps_next _ _ _ (keeps_next _ _ _ (keeps_shown rs) _ _) _ _) _ _) _ _) _ _) _ _) _ _) _
-      _) _ _) _ _) _ _) (
+      let n : List HalfEdge = with_next (with_next (with_next hs e k) z t) k l in
+      let order = swap_prevs (with_prev n k e) t z l k (λ q. p.back-twin (sym q))
+      ∙ ap (λ q. with_prev q t z) (swap_prevs n k e l k (λ q. p.back-there (sym q))) in
+      shown_is _ _ _ (keeps_corner _ _ _ (keeps_origin _ _ _ (rw order at
+      (keeps_three k t l k_in p.twin_in)) _ _) _ _) (
       say_relinked hs _ (corners_of rs) e t k l z k t l k e z (edge_at hs k).origin r j
       (count_corners rs) (corner_shown rs) p.edge_in p.twin_in k_in z_in three
       (λ q. p.edge-twin (sym q)) (λ q. p.before-twin (sym q)) (λ q. p.there-twin (sym q))

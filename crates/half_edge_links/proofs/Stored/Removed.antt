@@ -12,15 +12,15 @@ use Rattle.half_edge_links.specs.Renames.{pair_moved}
 use Rattle.half_edge_links.specs.Remove.{with_unlinked, with_filled}
 use Rattle.half_edge_links.specs.Places.{AreJoined, AreUnlinkedPlaces, IsHole}
 use Rattle.half_edge_links.specs.EdgeList.{no_stored, shown, stored_next, stored_prev}
-use Rattle.half_edge_links.specs.EdgeList.{stored_corner}
+use Rattle.half_edge_links.specs.EdgeList.{stored_joined}
 use Rattle.half_edge_links.proofs.Removing.UnlinkSound.{both, next_of, prev_of, length_both}
 use Rattle.half_edge_links.proofs.Removing.UnlinkSound.{next_both, next_both_other, origin_both}
 use Rattle.half_edge_links.proofs.Removing.FillSound.{old_left, new_left, two_filled, pair_written}
 use Rattle.half_edge_links.proofs.Removing.FillSound.{next_written, origin_written, count_written}
 use Rattle.half_edge_links.proofs.Removing.OpenSound.{length-swap_remove}
 use Rattle.half_edge_links.proofs.Sound.FieldWrites.{next_link, origin_link}
-use Rattle.half_edge_links.proofs.Stored.Keeps.{Keeps, keeps_shown, keeps_next, keeps_prev}
-use Rattle.half_edge_links.proofs.Stored.Keeps.{keeps_corner, keeps_remove, shown_is, corner_shown}
+use Rattle.half_edge_links.proofs.Stored.Keeps.{Keeps, keeps_shown, keeps_joined, keeps_next}
+use Rattle.half_edge_links.proofs.Stored.Keeps.{keeps_prev, keeps_remove, shown_is, corner_shown}
 use Rattle.half_edge_links.proofs.Stored.Keeps.{corners_of, count_corners, SayOrigins, apart_joined}
 
 module _ (hs : List HalfEdge) (cs : List ℕ) (e t : ℕ) (j : AreJoined hs)
@@ -114,21 +114,14 @@ module _ (hs : List HalfEdge) (cs : List ℕ) (e t : ℕ) (j : AreJoined hs)
 pub shows_unlinked : (rs : List StoredEdge) (e t : ℕ) → AreJoined (shown rs)
     → AreUnlinkedPlaces (shown rs) e t →
     (let hs = shown rs in let edge = edge_at hs e in let twin = edge_at hs t in
-    shown (stored_corner (stored_corner (stored_corner (stored_corner (
-    stored_prev (stored_next (stored_prev
-    (stored_next (stored_prev (stored_next (stored_prev (stored_next rs edge.prev twin.next)
-    twin.next edge.prev) twin.prev edge.next) edge.next twin.prev) e e) e e) t t) t t)
-    twin.next (edge_at hs edge.prev).origin) edge.next
-    (edge_at hs twin.prev).origin) e edge.origin) t twin.origin)
+    shown (stored_joined (stored_joined (stored_joined (stored_joined rs edge.prev twin.next
+    (edge_at hs edge.prev).origin) twin.prev edge.next (edge_at hs twin.prev).origin) e e
+    edge.origin) t t twin.origin)
     ≡ with_unlinked hs e t)
 unfolding with_unlinked
 shows_unlinked rs e t j u =
-    shown_is _ _ _ (
-    keeps_corner _ _ _ (keeps_corner _ _ _ (keeps_corner _ _ _ (keeps_corner _ _ _ (
-    keeps_prev _ _ _
-    (keeps_next _ _ _ (keeps_prev _ _ _ (keeps_next _ _ _ (keeps_prev _ _ _ (keeps_next _ _ _
-    (keeps_prev _ _ _ (keeps_next _ _ _ (keeps_shown rs) _ _) _ _) _ _) _ _) _ _) _ _) _ _) _ _)
-    _ _) _ _) _ _) _ _) (
+    shown_is _ _ _ (keeps_joined _ _ _ (keeps_joined _ _ _ (keeps_joined _ _ _ (keeps_joined _ _ _
+    (keeps_shown rs) _ _ _) _ _ _) e e _) t t _) (
     say_unlinked (shown rs) (corners_of rs) e t j u (count_corners rs) (corner_shown rs))
 
 module _ (hs : List HalfEdge) (cs : List ℕ) (last hole : ℕ) (j : AreJoined hs) (at_last : length hs

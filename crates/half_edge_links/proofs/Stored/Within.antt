@@ -1,6 +1,6 @@
 -- The edges that a write to a list gives new links are in the list.
-use Rattle.std.proofs.Common.{◌≡◌, ℕ, ◌+◌, ◌-◌, ◌%◌, ◌<◌, ◌≤◌, List, [], ◌∷◌, ◌++◌, length}
-use Rattle.std.proofs.Common.{length-append, arith}
+use Rattle.std.proofs.Common.{◌≡◌, ℕ, ◌+◌, ◌-◌, ◌%◌, ◌<◌, ◌≤◌, List, length}
+use Rattle.std.proofs.Common.{arith}
 use Rattle.half_edge_links.specs.declared.records.StoredEdge.{StoredEdge}
 use Rattle.half_edge_links.specs.EdgeList.{shown, stored_at}
 use Rattle.half_edge_links.specs.Mesh.{edge_at}
@@ -15,11 +15,14 @@ pub record LinkedIn (rs : List StoredEdge) (h : ℕ) : Type 0 where
   pub next : (edge_at (shown rs) h).next < length rs
   pub prev : (edge_at (shown rs) h).prev < length rs
 
-pub linked_in : (rs : List StoredEdge) (h : ℕ) → AreJoined (shown rs) → h < length (shown rs)
+pub linked_at : (rs : List StoredEdge) {h : ℕ} → AreJoined (shown rs) → h < length rs
     → LinkedIn rs h
-linked_in rs h j within =
-    let edge : h < length rs = rw length_shown at within in
+linked_at rs {h} j edge =
     record { edge = edge; next = next_within rs h j edge; prev = prev_within rs h j edge }
+
+pub linked_in : (rs : List StoredEdge) {h : ℕ} → AreJoined (shown rs) → h < length (shown rs)
+    → LinkedIn rs h
+linked_in rs j within = linked_at rs j (rw length_shown at within)
 
 -- the same, where the edge is read as it is kept
 pub record KeptIn (rs : List StoredEdge) (h : ℕ) : Type 0 where
@@ -27,19 +30,15 @@ pub record KeptIn (rs : List StoredEdge) (h : ℕ) : Type 0 where
   pub next : (stored_at rs h).next < length rs
   pub prev : (stored_at rs h).prev < length rs
 
-pub kept_edge_in : (rs : List StoredEdge) (h : ℕ) → AreJoined (shown rs) → h < length (shown rs)
+pub kept_edge_in : (rs : List StoredEdge) {h : ℕ} → AreJoined (shown rs) → h < length (shown rs)
     → KeptIn rs h
-kept_edge_in rs h j within =
-    let l = linked_in rs h j within in
+kept_edge_in rs j within =
+    let l = linked_in rs j within in
     record {
       edge = l.edge;
       next = rw next_shown at l.next;
       prev = rw prev_shown at l.prev;
     }
-
--- one more edge at the end
-pub length_pushed : (rs : List StoredEdge) (r : StoredEdge) → length (rs ++ r ∷ []) ≡ length rs + 1
-length_pushed rs r = length-append rs (r ∷ [])
 
 -- the edges round the one whose end moves
 pub record MovedIn (rs : List StoredEdge) (e t k l z : ℕ) : Type 0 where
@@ -49,9 +48,9 @@ pub record MovedIn (rs : List StoredEdge) (e t k l z : ℕ) : Type 0 where
   pub back : l < length rs
   pub before : z < length rs
 
-pub slid_in : (rs : List StoredEdge) (e t k l z : ℕ) → AreJoined (shown rs)
+pub slid_in : (rs : List StoredEdge) {e t k l z : ℕ} → AreJoined (shown rs)
     → AreSlidPlaces (shown rs) e t k l z → MovedIn rs e t k l z
-slid_in rs e t k l z j p =
+slid_in rs {e} {t} {k} {l} {z} j p =
     let edge : e < length rs = rw length_shown at p.edge_in in
     let twin : t < length rs = rw length_shown at p.twin_in in
     let there : k < length rs = rw p.there_is (next_within rs e j edge) in
@@ -63,9 +62,9 @@ slid_in rs e t k l z j p =
       before = rw p.before_is (prev_within rs t j twin);
     }
 
-pub passed_in : (rs : List StoredEdge) (e t k l z : ℕ) → AreJoined (shown rs)
+pub passed_in : (rs : List StoredEdge) {e t k l z : ℕ} → AreJoined (shown rs)
     → ArePassedPlaces (shown rs) e t k l z → MovedIn rs e t k l z
-passed_in rs e t k l z j p =
+passed_in rs {e} {t} {k} {l} {z} j p =
     let edge : e < length rs = rw length_shown at p.edge_in in
     let twin : t < length rs = rw length_shown at p.twin_in in
     let there : k < length rs = rw p.there_is (prev_within rs t j twin) in
@@ -84,6 +83,7 @@ pub record AreLastPlaces (n e : ℕ) : Type 0 where
   pub twin_in : n - 2 + 1 < n
   pub last_small : n - 2 + 1 < 4294967296
   pub hole_small : e - e % 2 + 1 < MAX_ELEMENTS
+  pub hole_in : e - e % 2 + 1 < 4294967296
 
 pub last_places : (n e : ℕ) → n % 2 ≡ 0 → e < n → n ≤ MAX_ELEMENTS → AreLastPlaces n e
 last_places n e even within small = record {
@@ -92,4 +92,5 @@ last_places n e even within small = record {
   twin_in = omega arith;
   last_small = omega arith;
   hole_small = omega arith;
+  hole_in = omega arith;
 }

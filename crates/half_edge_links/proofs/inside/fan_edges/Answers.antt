@@ -1,170 +1,68 @@
-use Rattle.std.proofs.Common.{◌≡◌, length, refl, arith}
+use Rattle.std.proofs.Common.{◌∙◌, ◌≡◌, length, arith}
 use Rattle.half_edge_links.specs.EdgeList.{shown}
 use Rattle.half_edge_links.proofs.Stored.Shown.{length_shown}
-use Rattle.half_edge_links.proofs.Stored.Within.{kept_edge_in, length_pushed}
+use Rattle.half_edge_links.proofs.Stored.Within.{kept_edge_in}
 use Rattle.half_edge_links.proofs.Stored.Fanned.{shows_fanned}
 use Rattle.half_edge_links.proofs.inside.fan_edges.Goals as goal
 
 pub stored-first-requires : goal.stored-first-requires
 stored-first-requires c =
-    let p = kept_edge_in c.args.half_edges.now.items c.args.edge c.requires.joined
-    c.requires.triangle.within in
-    p.edge
+    (kept_edge_in c.args.half_edges.now.items c.requires.joined c.requires.triangle.within).edge
 
 pub stored-start-requires : goal.stored-start-requires
 stored-start-requires c =
-    let p = kept_edge_in c.args.half_edges.now.items c.args.edge c.requires.joined
-    c.requires.triangle.within in
+    let p = kept_edge_in c.args.half_edges.now.items c.requires.joined c.requires.triangle.within in
     rw c.stored-first.ensures p.next
 
 pub stored-end-requires : goal.stored-end-requires
 stored-end-requires c =
-    let p = kept_edge_in c.args.half_edges.now.items c.args.edge c.requires.joined
-    c.requires.triangle.within in
+    let p = kept_edge_in c.args.half_edges.now.items c.requires.joined c.requires.triangle.within in
     rw c.stored-first.ensures p.prev
 
 pub set-requires : goal.set-requires
 set-requires c =
-    let p = kept_edge_in c.args.half_edges.now.items c.args.edge c.requires.joined
-    c.requires.triangle.within in
-    p.edge
+    (kept_edge_in c.args.half_edges.now.items c.requires.joined c.requires.triangle.within).edge
 
 pub set-requires-2 : goal.set-requires-2
 set-requires-2 c =
-    let p = kept_edge_in c.args.half_edges.now.items c.args.edge c.requires.joined
-    c.requires.triangle.within in
+    let p = kept_edge_in c.args.half_edges.now.items c.requires.joined c.requires.triangle.within in
     rw (c.set.ensures.len, c.stored-first.ensures) p.next
 
 pub set-requires-3 : goal.set-requires-3
 set-requires-3 c =
-    let p = kept_edge_in c.args.half_edges.now.items c.args.edge c.requires.joined
-    c.requires.triangle.within in
+    let p = kept_edge_in c.args.half_edges.now.items c.requires.joined c.requires.triangle.within in
     rw (c.set-2.ensures.len, c.set.ensures.len, c.stored-first.ensures) p.prev
 
 pub push_reserved-requires : goal.push_reserved-requires
 push_reserved-requires c =
-    rw (
-      c.set-3.ensures.capacity,
-      c.set-2.ensures.capacity,
-      c.set.ensures.capacity,
-      c.set-3.ensures.len,
-      c.set-2.ensures.len,
-      c.set.ensures.len,
-    ) (omega arith)
+    omega arith
 
 pub push_reserved-requires-2 : goal.push_reserved-requires-2
 push_reserved-requires-2 c =
-    rw (
-      c.push_reserved.ensures.capacity,
-      c.set-3.ensures.capacity,
-      c.set-2.ensures.capacity,
-      c.set.ensures.capacity,
-      c.push_reserved.ensures.items,
-      length_pushed,
-      c.set-3.ensures.len,
-      c.set-2.ensures.len,
-      c.set.ensures.len,
-    ) (omega arith)
+    omega arith
 
 pub push_reserved-requires-3 : goal.push_reserved-requires-3
 push_reserved-requires-3 c =
-    rw (
-      c.push_reserved-2.ensures.capacity,
-      c.push_reserved.ensures.capacity,
-      c.set-3.ensures.capacity,
-      c.set-2.ensures.capacity,
-      c.set.ensures.capacity,
-      c.push_reserved-2.ensures.items,
-      length_pushed,
-      c.push_reserved.ensures.items,
-      length_pushed,
-      c.set-3.ensures.len,
-      c.set-2.ensures.len,
-      c.set.ensures.len,
-    ) (omega arith)
+    omega arith
 
 pub push_reserved-requires-4 : goal.push_reserved-requires-4
 push_reserved-requires-4 c =
-    rw (
-      c.push_reserved-3.ensures.capacity,
-      c.push_reserved-2.ensures.capacity,
-      c.push_reserved.ensures.capacity,
-      c.set-3.ensures.capacity,
-      c.set-2.ensures.capacity,
-      c.set.ensures.capacity,
-      c.push_reserved-3.ensures.items,
-      length_pushed,
-      c.push_reserved-2.ensures.items,
-      length_pushed,
-      c.push_reserved.ensures.items,
-      length_pushed,
-      c.set-3.ensures.len,
-      c.set-2.ensures.len,
-      c.set.ensures.len,
-    ) (omega arith)
+    omega arith
 
 pub push_reserved-requires-5 : goal.push_reserved-requires-5
 push_reserved-requires-5 c =
-    rw (
-      c.push_reserved-4.ensures.capacity,
-      c.push_reserved-3.ensures.capacity,
-      c.push_reserved-2.ensures.capacity,
-      c.push_reserved.ensures.capacity,
-      c.set-3.ensures.capacity,
-      c.set-2.ensures.capacity,
-      c.set.ensures.capacity,
-      c.push_reserved-4.ensures.items,
-      length_pushed,
-      c.push_reserved-3.ensures.items,
-      length_pushed,
-      c.push_reserved-2.ensures.items,
-      length_pushed,
-      c.push_reserved.ensures.items,
-      length_pushed,
-      c.set-3.ensures.len,
-      c.set-2.ensures.len,
-      c.set.ensures.len,
-    ) (omega arith)
+    omega arith
 
 pub push_reserved-requires-6 : goal.push_reserved-requires-6
 push_reserved-requires-6 c =
-    rw (
-      c.push_reserved-5.ensures.capacity,
-      c.push_reserved-4.ensures.capacity,
-      c.push_reserved-3.ensures.capacity,
-      c.push_reserved-2.ensures.capacity,
-      c.push_reserved.ensures.capacity,
-      c.set-3.ensures.capacity,
-      c.set-2.ensures.capacity,
-      c.set.ensures.capacity,
-      c.push_reserved-5.ensures.items,
-      length_pushed,
-      c.push_reserved-4.ensures.items,
-      length_pushed,
-      c.push_reserved-3.ensures.items,
-      length_pushed,
-      c.push_reserved-2.ensures.items,
-      length_pushed,
-      c.push_reserved.ensures.items,
-      length_pushed,
-      c.set-3.ensures.len,
-      c.set-2.ensures.len,
-      c.set.ensures.len,
-    ) (omega arith)
+    omega arith
 
 pub returns-clause-capacity : goal.returns-clause-capacity
 returns-clause-capacity c =
-    rw (
-      c.push_reserved-6.ensures.capacity,
-      c.push_reserved-5.ensures.capacity,
-      c.push_reserved-4.ensures.capacity,
-      c.push_reserved-3.ensures.capacity,
-      c.push_reserved-2.ensures.capacity,
-      c.push_reserved.ensures.capacity,
-      c.set-3.ensures.capacity,
-      c.set-2.ensures.capacity,
-      c.set.ensures.capacity,
-    ) refl
+    c.push_reserved-6.ensures.capacity ∙ c.push_reserved-5.ensures.capacity
+    ∙ c.push_reserved-4.ensures.capacity ∙ c.push_reserved-3.ensures.capacity
+    ∙ c.push_reserved-2.ensures.capacity ∙ c.push_reserved.ensures.capacity
+    ∙ c.set-3.ensures.capacity ∙ c.set-2.ensures.capacity ∙ c.set.ensures.capacity
 
 pub overflow_cast-n : goal.overflow_cast-n
 overflow_cast-n c =
@@ -238,28 +136,6 @@ pub returns-clause-items : goal.returns-clause-items
 returns-clause-items c =
     let n : c.len-n.result ≡ length (shown c.args.half_edges.now.items) =
     omega (arith, length_shown c.args.half_edges.now.items) in
-    rw (
-      c.push_reserved-6.ensures.items,
-      c.push_reserved-5.ensures.items,
-      c.push_reserved-4.ensures.items,
-      c.push_reserved-3.ensures.items,
-      c.push_reserved-2.ensures.items,
-      c.push_reserved.ensures.items,
-      c.set-3.ensures.items,
-      c.set-2.ensures.items,
-      c.set.ensures.items,
-      c.linked-9.ensures,
-      c.linked-8.ensures,
-      c.linked-7.ensures,
-      c.linked-6.ensures,
-      c.linked-5.ensures,
-      c.linked-4.ensures,
-      c.linked-3.ensures,
-      c.linked-2.ensures,
-      c.linked.ensures,
-      c.stored-end.ensures,
-      c.stored-start.ensures,
-      c.stored-first.ensures,
-    ) (
-    shows_fanned c.args.half_edges.now.items c.args.v c.args.edge c.len-n.result c.args.g
-    c.requires.joined c.requires.triangle n)
+    let shows = shows_fanned c.args.half_edges.now.items c.args.v c.args.edge c.len-n.result
+    c.args.g c.requires.joined c.requires.triangle n in
+    cc

@@ -1,111 +1,69 @@
-use Rattle.std.proofs.Common.{refl}
+use Rattle.std.proofs.Common.{◌∙◌}
 use Rattle.half_edge_links.proofs.Stored.Turned.{shows_turned}
 use Rattle.half_edge_links.proofs.Stored.Within.{kept_edge_in}
 use Rattle.half_edge_links.proofs.inside.turn_edges.Goals as goal
 
 pub stored-edge-requires : goal.stored-edge-requires
 stored-edge-requires c =
-    let p = kept_edge_in c.args.half_edges.now.items c.args.e c.requires.joined
-    c.requires.edge.within in
-    p.edge
+    (kept_edge_in c.args.half_edges.now.items c.requires.joined c.requires.edge.within).edge
 
 pub stored-twin-requires : goal.stored-twin-requires
 stored-twin-requires c =
-    let p = kept_edge_in c.args.half_edges.now.items c.args.t c.requires.joined
-    c.requires.twin.within in
-    p.edge
+    (kept_edge_in c.args.half_edges.now.items c.requires.joined c.requires.twin.within).edge
 
 pub stored-start-requires : goal.stored-start-requires
 stored-start-requires c =
-    let p = kept_edge_in c.args.half_edges.now.items c.args.e c.requires.joined
-    c.requires.edge.within in
+    let p = kept_edge_in c.args.half_edges.now.items c.requires.joined c.requires.edge.within in
     rw c.stored-edge.ensures p.next
 
 pub stored-end-requires : goal.stored-end-requires
 stored-end-requires c =
-    let p = kept_edge_in c.args.half_edges.now.items c.args.t c.requires.joined
-    c.requires.twin.within in
+    let p = kept_edge_in c.args.half_edges.now.items c.requires.joined c.requires.twin.within in
     rw c.stored-twin.ensures p.next
 
 pub set-requires : goal.set-requires
 set-requires c =
-    let p = kept_edge_in c.args.half_edges.now.items c.args.e c.requires.joined
-    c.requires.edge.within in
-    p.edge
+    (kept_edge_in c.args.half_edges.now.items c.requires.joined c.requires.edge.within).edge
 
 pub set-requires-2 : goal.set-requires-2
 set-requires-2 c =
-    let p = kept_edge_in c.args.half_edges.now.items c.args.t c.requires.joined
-    c.requires.twin.within in
+    let p = kept_edge_in c.args.half_edges.now.items c.requires.joined c.requires.twin.within in
     rw c.set.ensures.len p.edge
 
 pub set-requires-3 : goal.set-requires-3
 set-requires-3 c =
-    let p = kept_edge_in c.args.half_edges.now.items c.args.e c.requires.joined
-    c.requires.edge.within in
+    let p = kept_edge_in c.args.half_edges.now.items c.requires.joined c.requires.edge.within in
     rw (c.set-2.ensures.len, c.set.ensures.len, c.stored-edge.ensures) p.next
 
 pub set-requires-4 : goal.set-requires-4
 set-requires-4 c =
-    let p = kept_edge_in c.args.half_edges.now.items c.args.t c.requires.joined
-    c.requires.twin.within in
+    let p = kept_edge_in c.args.half_edges.now.items c.requires.joined c.requires.twin.within in
     rw (c.set-3.ensures.len, c.set-2.ensures.len, c.set.ensures.len, c.stored-twin.ensures) p.next
 
 pub set-requires-5 : goal.set-requires-5
 set-requires-5 c =
-    let p = kept_edge_in c.args.half_edges.now.items c.args.e c.requires.joined
-    c.requires.edge.within in
+    let p = kept_edge_in c.args.half_edges.now.items c.requires.joined c.requires.edge.within in
     rw (
-      c.set-4.ensures.len,
-      c.set-3.ensures.len,
-      c.set-2.ensures.len,
-      c.set.ensures.len,
+      c.set-4.ensures.len ∙ c.set-3.ensures.len ∙ c.set-2.ensures.len ∙ c.set.ensures.len,
       c.stored-edge.ensures,
     ) p.prev
 
 pub set-requires-6 : goal.set-requires-6
 set-requires-6 c =
-    let p = kept_edge_in c.args.half_edges.now.items c.args.t c.requires.joined
-    c.requires.twin.within in
+    let p = kept_edge_in c.args.half_edges.now.items c.requires.joined c.requires.twin.within in
     rw (
-      c.set-5.ensures.len,
-      c.set-4.ensures.len,
-      c.set-3.ensures.len,
-      c.set-2.ensures.len,
-      c.set.ensures.len,
+      c.set-5.ensures.len ∙ c.set-4.ensures.len ∙ c.set-3.ensures.len ∙ c.set-2.ensures.len
+          ∙ c.set.ensures.len,
       c.stored-twin.ensures,
     ) p.prev
 
 pub returns-clause-capacity : goal.returns-clause-capacity
 returns-clause-capacity c =
-    rw (
-      c.set-6.ensures.capacity,
-      c.set-5.ensures.capacity,
-      c.set-4.ensures.capacity,
-      c.set-3.ensures.capacity,
-      c.set-2.ensures.capacity,
-      c.set.ensures.capacity,
-    ) refl
+    c.set-6.ensures.capacity ∙ c.set-5.ensures.capacity ∙ c.set-4.ensures.capacity
+    ∙ c.set-3.ensures.capacity ∙ c.set-2.ensures.capacity ∙ c.set.ensures.capacity
 
 pub returns-clause-items : goal.returns-clause-items
 returns-clause-items c =
-    rw (
-      c.set-6.ensures.items,
-      c.set-5.ensures.items,
-      c.set-4.ensures.items,
-      c.set-3.ensures.items,
-      c.set-2.ensures.items,
-      c.set.ensures.items,
-      c.linked-6.ensures,
-      c.linked-5.ensures,
-      c.linked-4.ensures,
-      c.linked-3.ensures,
-      c.linked-2.ensures,
-      c.linked.ensures,
-      c.stored-end.ensures,
-      c.stored-start.ensures,
-      c.stored-edge.ensures,
-      c.stored-twin.ensures,
-    ) (
-    shows_turned c.args.half_edges.now.items c.args.e c.args.t c.requires.joined c.requires.edge
-    c.requires.twin c.requires.apart c.requires.start c.requires.end)
+    let shows = shows_turned c.args.half_edges.now.items c.args.e c.args.t c.requires.joined
+    c.requires.edge c.requires.twin c.requires.apart c.requires.start c.requires.end in
+    cc

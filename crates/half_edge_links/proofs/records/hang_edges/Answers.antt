@@ -1,8 +1,8 @@
-use Rattle.std.proofs.Common.{◌≡◌, length, arith, refl}
+use Rattle.std.proofs.Common.{◌∙◌, ◌≡◌, length, arith}
 use Rattle.half_edge_links.specs.EdgeList.{shown}
 use Rattle.half_edge_links.proofs.Stored.Shown.{length_shown, next_within}
 use Rattle.half_edge_links.proofs.Stored.Hung.{shows_hung}
-use Rattle.half_edge_links.proofs.Stored.Within.{length_pushed}
+use Rattle.half_edge_links.proofs.Stored.Within.{linked_at}
 use Rattle.half_edge_links.proofs.records.hang_edges.Goals as goal
 
 pub overflow_cast-n : goal.overflow_cast-n
@@ -17,23 +17,14 @@ pub face-face-requires : goal.face-face-requires
 face-face-requires c =
     c.requires.within
 
-pub origin-start-requires-clause-within : goal.origin-start-requires-clause-within
-origin-start-requires-clause-within c =
-    c.requires.within
+pub origin-start-requires : goal.origin-start-requires
+origin-start-requires c =
+    assumption (linked_at c.args.half_edges.now.items c.requires.joined c.requires.within)
 
-pub origin-start-requires-clause-next_within : goal.origin-start-requires-clause-next_within
-origin-start-requires-clause-next_within c =
-    next_within c.args.half_edges.now.items c.args.x c.requires.joined c.requires.within
-
-pub origin-end-requires-clause-within : goal.origin-end-requires-clause-within
-origin-end-requires-clause-within c =
+pub origin-end-requires : goal.origin-end-requires
+origin-end-requires c =
     let y = next_within c.args.half_edges.now.items c.args.x c.requires.joined c.requires.within in
-    rw c.next-y.ensures y
-
-pub origin-end-requires-clause-next_within : goal.origin-end-requires-clause-next_within
-origin-end-requires-clause-next_within c =
-    let y = next_within c.args.half_edges.now.items c.args.x c.requires.joined c.requires.within in
-    rw c.next-y.ensures (next_within c.args.half_edges.now.items _ c.requires.joined y)
+    rw c.next-y.ensures (assumption (linked_at c.args.half_edges.now.items c.requires.joined y))
 
 pub set_next-requires : goal.set_next-requires
 set_next-requires c =
@@ -59,55 +50,21 @@ overflow_add-n-2 c =
 
 pub push_reserved-requires : goal.push_reserved-requires
 push_reserved-requires c =
-    rw (
-      c.set_corner.ensures.capacity,
-      c.set_prev.ensures.capacity,
-      c.set_next.ensures.capacity,
-      c.set_corner.ensures.len,
-      c.set_prev.ensures.len,
-      c.set_next.ensures.len,
-    ) (omega arith)
+    omega arith
 
 pub push_reserved-requires-2 : goal.push_reserved-requires-2
 push_reserved-requires-2 c =
-    rw (
-      c.push_reserved.ensures.capacity,
-      c.set_corner.ensures.capacity,
-      c.set_prev.ensures.capacity,
-      c.set_next.ensures.capacity,
-      c.push_reserved.ensures.items,
-      length_pushed,
-      c.set_corner.ensures.len,
-      c.set_prev.ensures.len,
-      c.set_next.ensures.len,
-    ) (omega arith)
+    omega arith
 
 pub returns-clause-capacity : goal.returns-clause-capacity
 returns-clause-capacity c =
-    rw (
-      c.push_reserved-2.ensures.capacity,
-      c.push_reserved.ensures.capacity,
-      c.set_corner.ensures.capacity,
-      c.set_prev.ensures.capacity,
-      c.set_next.ensures.capacity,
-    ) refl
+    c.push_reserved-2.ensures.capacity ∙ c.push_reserved.ensures.capacity
+    ∙ c.set_corner.ensures.capacity ∙ c.set_prev.ensures.capacity ∙ c.set_next.ensures.capacity
 
 pub returns-clause-items : goal.returns-clause-items
 returns-clause-items c =
     let n : c.len-n.result ≡ length (shown c.args.half_edges.now.items) =
     omega (arith, length_shown c.args.half_edges.now.items) in
-    rw (
-      c.push_reserved-2.ensures.items,
-      c.push_reserved.ensures.items,
-      c.linked-2.ensures,
-      c.linked.ensures,
-      c.set_corner.ensures.items,
-      c.set_prev.ensures.items,
-      c.set_next.ensures.items,
-      c.origin-end.ensures,
-      c.origin-start.ensures,
-      c.face-face.ensures,
-      c.next-y.ensures,
-    ) (
-    shows_hung c.args.half_edges.now.items c.args.x c.args.v c.len-n.result c.requires.joined
-    (rw length_shown c.requires.within) n)
+    let shows = shows_hung c.args.half_edges.now.items c.args.x c.args.v c.len-n.result
+    c.requires.joined (rw length_shown c.requires.within) n in
+    cc

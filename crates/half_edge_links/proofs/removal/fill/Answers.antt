@@ -1,4 +1,4 @@
-use Rattle.std.proofs.Common.{arith, ◌+◌, ◌<◌, length, refl}
+use Rattle.std.proofs.Common.{◌∙◌, arith, ◌+◌, ◌<◌, length}
 use Rattle.half_edge_links.proofs.Removing.OpenSound.{length-swap_remove}
 use Rattle.half_edge_links.proofs.Stored.Shown.{length_shown, next_within, prev_within}
 use Rattle.half_edge_links.proofs.Stored.Removed.{shows_filled}
@@ -46,8 +46,7 @@ pub set_next-requires-2 : goal.set_next-requires-2
 set_next-requires-2 c =
     let odd : c.args.last + 1 < length c.args.half_edges.now.items = omega arith in
     rw (
-      c.set_prev.ensures.len,
-      c.set_next.ensures.len,
+      c.set_prev.ensures.len ∙ c.set_next.ensures.len,
       c.prev-odd_prev.ensures,
     ) (prev_within c.args.half_edges.now.items _ c.requires.joined odd)
 
@@ -55,9 +54,7 @@ pub set_prev-requires-2 : goal.set_prev-requires-2
 set_prev-requires-2 c =
     let odd : c.args.last + 1 < length c.args.half_edges.now.items = omega arith in
     rw (
-      c.set_next-2.ensures.len,
-      c.set_prev.ensures.len,
-      c.set_next.ensures.len,
+      c.set_next-2.ensures.len ∙ c.set_prev.ensures.len ∙ c.set_next.ensures.len,
       c.next-odd_next.ensures,
     ) (next_within c.args.half_edges.now.items _ c.requires.joined odd)
 
@@ -79,23 +76,14 @@ overflow_add-hole-3 c =
 pub swap_remove-requires : goal.swap_remove-requires
 swap_remove-requires c =
     let hole = rw length_shown at c.requires.hole.within in
-    rw (
-      c.set_prev-2.ensures.len,
-      c.set_next-2.ensures.len,
-      c.set_prev.ensures.len,
-      c.set_next.ensures.len,
-    ) hole
+    rw (c.set_prev-2.ensures.len ∙ c.set_next-2.ensures.len ∙ c.set_prev.ensures.len
+    ∙ c.set_next.ensures.len) hole
 
 pub returns-clause-capacity : goal.returns-clause-capacity
 returns-clause-capacity c =
-    rw (
-      c.swap_remove-2.ensures.capacity,
-      c.swap_remove.ensures.capacity,
-      c.set_prev-2.ensures.capacity,
-      c.set_next-2.ensures.capacity,
-      c.set_prev.ensures.capacity,
-      c.set_next.ensures.capacity,
-    ) refl
+    c.swap_remove-2.ensures.capacity ∙ c.swap_remove.ensures.capacity
+    ∙ c.set_prev-2.ensures.capacity ∙ c.set_next-2.ensures.capacity
+    ∙ c.set_prev.ensures.capacity ∙ c.set_next.ensures.capacity
 
 pub swap_remove-requires-2 : goal.swap_remove-requires-2
 swap_remove-requires-2 c =
@@ -104,25 +92,12 @@ swap_remove-requires-2 c =
     rw (
       c.swap_remove.ensures.items,
       length-swap_remove,
-      c.set_prev-2.ensures.len,
-      c.set_next-2.ensures.len,
-      c.set_prev.ensures.len,
-      c.set_next.ensures.len,
+      c.set_prev-2.ensures.len
+          ∙ c.set_next-2.ensures.len ∙ c.set_prev.ensures.len ∙ c.set_next.ensures.len,
     ) (omega arith)
 
 pub returns-clause-items : goal.returns-clause-items
 returns-clause-items c =
-    rw (
-      c.swap_remove-2.ensures.items,
-      c.swap_remove.ensures.items,
-      c.set_prev-2.ensures.items,
-      c.set_next-2.ensures.items,
-      c.set_prev.ensures.items,
-      c.set_next.ensures.items,
-      c.prev-odd_prev.ensures,
-      c.next-odd_next.ensures,
-      c.prev-even_prev.ensures,
-      c.next-even_next.ensures,
-    ) (
-    shows_filled c.args.half_edges.now.items c.args.last c.args.hole c.requires.joined
-    (rw length_shown c.requires.last) c.requires.hole)
+    let shows = shows_filled c.args.half_edges.now.items c.args.last c.args.hole c.requires.joined
+    (rw length_shown c.requires.last) c.requires.hole in
+    cc

@@ -1,5 +1,5 @@
 use Rattle.half_edge_links.proofs.Stored.Written.{shows_loop_face}
-use Rattle.std.proofs.Common.{refl}
+use Rattle.std.proofs.Common.{◌∙◌, refl}
 use Rattle.half_edge_links.proofs.Stored.Shown.{length_shown}
 use Rattle.half_edge_links.proofs.removal.set_loop_face.Goals as goal
 
@@ -22,8 +22,7 @@ set_face-requires-2 c =
 pub set_face-requires-3 : goal.set_face-requires-3
 set_face-requires-3 c =
     rw (
-      c.set_face-2.ensures.len,
-      c.set_face.ensures.len,
+      c.set_face-2.ensures.len ∙ c.set_face.ensures.len,
       c.prev-prev.ensures,
     ) (rw length_shown at c.requires.prev)
 
@@ -33,11 +32,7 @@ returns-clause-len c =
 
 pub returns-clause-capacity : goal.returns-clause-capacity
 returns-clause-capacity c =
-    rw (
-      c.set_face-3.ensures.capacity,
-      c.set_face-2.ensures.capacity,
-      c.set_face.ensures.capacity,
-    ) refl
+    c.set_face-3.ensures.capacity ∙ c.set_face-2.ensures.capacity ∙ c.set_face.ensures.capacity
 
 pub returns-clause-items : goal.returns-clause-items
 returns-clause-items c =

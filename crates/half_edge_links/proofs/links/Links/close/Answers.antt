@@ -1,10 +1,10 @@
 use Rattle.std.proofs.Common.{◌≡◌, refl, length, arith}
 use Rattle.half_edge_links.proofs.Views.{mesh_in}
-use Rattle.half_edge_links.specs.Mesh.{Mesh, next}
+use Rattle.half_edge_links.specs.Mesh.{Mesh}
 use Rattle.half_edge_links.specs.Grow.{closed}
 use Rattle.half_edge_links.proofs.Sound.Valid.{valid_as, valid_closed}
 use Rattle.half_edge_links.proofs.Growing.Grown.{closes_corner}
-use Rattle.half_edge_links.proofs.Stored.Shown.{length_shown, next_within}
+use Rattle.half_edge_links.proofs.Stored.Shown.{length_shown}
 use Rattle.half_edge_links.proofs.Stored.Joined.{joined_sound}
 use Rattle.half_edge_links.proofs.Stored.Within.{linked_in}
 use Rattle.half_edge_links.proofs.links.Links.close.Goals as goal
@@ -26,13 +26,13 @@ overflow_add-g g c =
 
 pub next-second-requires : goal.next-second-requires
 next-second-requires g c =
-    let p = linked_in c.self.inside.half_edges.items c.args.e (joined_sound (mesh_in c.self.inside)
+    let p = linked_in c.self.inside.half_edges.items (joined_sound (mesh_in c.self.inside)
     c.self.invariant.sound) (rw (← c.self.view_is) at c.requires.closable).within in
     p.edge
 
 pub next-after-requires : goal.next-after-requires
 next-after-requires g c =
-    let p = linked_in c.self.inside.half_edges.items c.args.e (joined_sound (mesh_in c.self.inside)
+    let p = linked_in c.self.inside.half_edges.items (joined_sound (mesh_in c.self.inside)
     c.self.invariant.sound) (rw (← c.self.view_is) at c.requires.closable).within in
     rw c.next-second.ensures p.next
 
@@ -42,7 +42,7 @@ close_edges-requires-clause-joined g c =
 
 pub close_edges-requires-clause-within : goal.close_edges-requires-clause-within
 close_edges-requires-clause-within g c =
-    let p = linked_in c.self.inside.half_edges.items c.args.e (joined_sound (mesh_in c.self.inside)
+    let p = linked_in c.self.inside.half_edges.items (joined_sound (mesh_in c.self.inside)
     c.self.invariant.sound) (rw (← c.self.view_is) at c.requires.closable).within in
     p.edge
 
@@ -83,17 +83,7 @@ returns-clause-mesh g c =
     let m : Mesh = mesh_in c.self.inside in
     let n_is : c.len-n.result ≡ length m.half_edges = omega arith in
     let g_is : c.len.result ≡ length m.face_edges = omega arith in
-    let second : c.next-second.result ≡ next m c.args.e = c.next-second.ensures in
-    let after : c.next-after.result ≡ next m c.next-second.result = c.next-after.ensures in
-    rw (
-      ← c.self.view_is,
-      c.close_edges.ensures.items,
-      c.push_reserved.ensures.items,
-      n_is,
-      g_is,
-      after,
-      second,
-    ) refl
+    rw (← c.self.view_is, c.push_reserved.ensures.items) (cc)
 
 pub invariant_of-self : goal.invariant_of-self
 invariant_of-self g c =

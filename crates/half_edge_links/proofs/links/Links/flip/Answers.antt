@@ -1,6 +1,6 @@
-use Rattle.std.proofs.Common.{◌≡◌, refl, ap, arith, ◌∙◌}
+use Rattle.std.proofs.Common.{refl, ap, arith, ◌∙◌}
 use Rattle.half_edge_links.proofs.Views.{mesh_in}
-use Rattle.half_edge_links.specs.Mesh.{Mesh, edge_at, origin, rev}
+use Rattle.half_edge_links.specs.Mesh.{Mesh, origin, rev}
 use Rattle.half_edge_links.proofs.Lists.Rev.{rev-rev}
 use Rattle.half_edge_links.specs.Flip.{flip_by, flipped}
 use Rattle.half_edge_links.proofs.Sound.Triangles.{triangle_at, six_round}
@@ -15,36 +15,17 @@ use Rattle.half_edge_links.proofs.OuterLoop.Outline.{outline_flipped}
 use Rattle.std.proofs.lemmas.List.{length-set}
 use Rattle.half_edge_links.proofs.links.Links.flip.Goals as goal
 
-pub set_out_edge-requires-clause-vertex : goal.set_out_edge-requires-clause-vertex
-set_out_edge-requires-clause-vertex g c =
+pub set_out_edge-requires-2 : goal.set_out_edge-requires-2
+set_out_edge-requires-2 g c =
     let can =
     turns_between (mesh_in c.self.inside) c.args.e c.self.invariant (rw (← c.self.view_is) at
     c.requires.between) in
     let six = six_round (mesh_in c.self.inside) c.args.e c.self.invariant.sound can in
-    let edge : c.get-edge.result ≡ edge_at (mesh_in c.self.inside).half_edges c.args.e
-    = c.get-edge.ensures in
-    rw edge (c.self.invariant.sound.edges _ can.within).origin_in
-
-pub set_out_edge-requires-2-clause-vertex : goal.set_out_edge-requires-2-clause-vertex
-set_out_edge-requires-2-clause-vertex g c =
-    let can =
-    turns_between (mesh_in c.self.inside) c.args.e c.self.invariant (rw (← c.self.view_is) at
-    c.requires.between) in
-    let six = six_round (mesh_in c.self.inside) c.args.e c.self.invariant.sound can in
-    let twin : c.get-twin.result ≡ edge_at (mesh_in c.self.inside).half_edges c.reversed-t.result
-    = c.get-twin.ensures in
-    rw (c.set_out_edge.ensures, twin, c.reversed-t.ensures)
-    (simp length-set (c.self.invariant.sound.edges _ six.b_in).origin_in)
-
-pub set_out_edge-requires-2-clause-nameable : goal.set_out_edge-requires-2-clause-nameable
-set_out_edge-requires-2-clause-nameable g c =
-    let can =
-    turns_between (mesh_in c.self.inside) c.args.e c.self.invariant (rw (← c.self.view_is) at
-    c.requires.between) in
-    let six = six_round (mesh_in c.self.inside) c.args.e c.self.invariant.sound can in
-    let edge : c.get-edge.result ≡ edge_at (mesh_in c.self.inside).half_edges c.args.e
-    = c.get-edge.ensures in
-    rw edge (omega (arith, six.c_in, c.self.invariant.small.edges))
+    record {
+      vertex = rw (c.set_out_edge.ensures, c.get-twin.ensures, c.reversed-t.ensures)
+          (simp length-set (c.self.invariant.sound.edges _ six.b_in).origin_in);
+      nameable = rw c.get-edge.ensures (omega (arith, six.c_in, c.self.invariant.small.edges));
+    }
 
 pub overflow_cast-edge : goal.overflow_cast-edge
 overflow_cast-edge g c =
@@ -60,9 +41,7 @@ overflow_sub-edge g c =
     turns_between (mesh_in c.self.inside) c.args.e c.self.invariant (rw (← c.self.view_is) at
     c.requires.between) in
     let six = six_round (mesh_in c.self.inside) c.args.e c.self.invariant.sound can in
-    let edge : c.get-edge.result ≡ edge_at (mesh_in c.self.inside).half_edges c.args.e
-    = c.get-edge.ensures in
-    rw edge can.inner
+    rw c.get-edge.ensures can.inner
 
 pub overflow_sub-twin : goal.overflow_sub-twin
 overflow_sub-twin g c =
@@ -70,9 +49,7 @@ overflow_sub-twin g c =
     turns_between (mesh_in c.self.inside) c.args.e c.self.invariant (rw (← c.self.view_is) at
     c.requires.between) in
     let six = six_round (mesh_in c.self.inside) c.args.e c.self.invariant.sound can in
-    let twin : c.get-twin.result ≡ edge_at (mesh_in c.self.inside).half_edges c.reversed-t.result
-    = c.get-twin.ensures in
-    rw (twin, c.reversed-t.ensures) can.twin_inner
+    rw (c.get-twin.ensures, c.reversed-t.ensures) can.twin_inner
 
 pub returns-clause-rest : goal.returns-clause-rest
 returns-clause-rest g c =
@@ -124,31 +101,22 @@ turn_edges-requires g c =
       end = (s.edges c.args.e can.within).starts;
     })
 
-pub set_out_edge-requires-clause-nameable : goal.set_out_edge-requires-clause-nameable
-set_out_edge-requires-clause-nameable g c =
+pub set_out_edge-requires : goal.set_out_edge-requires
+set_out_edge-requires g c =
     let m : Mesh = mesh_in c.self.inside in
     let can =
     turns_between m c.args.e c.self.invariant (rw (← c.self.view_is) at c.requires.between) in
     let six = six_round m c.args.e c.self.invariant.sound can in
-    let twin : c.get-twin.result ≡ edge_at m.half_edges c.reversed-t.result = c.get-twin.ensures in
-    rw (twin, c.reversed-t.ensures) (omega (arith, six.d_in, c.self.invariant.small.edges))
+    record {
+      vertex = rw c.get-edge.ensures (c.self.invariant.sound.edges _ can.within).origin_in;
+      nameable = rw (c.get-twin.ensures, c.reversed-t.ensures)
+          (omega (arith, six.d_in, c.self.invariant.small.edges));
+    }
 
 pub returns-clause-mesh : goal.returns-clause-mesh
 unfolding flipped flip_by
 returns-clause-mesh g c =
-    let m : Mesh = mesh_in c.self.inside in
-    let edge : c.get-edge.result ≡ edge_at m.half_edges c.args.e = c.get-edge.ensures in
-    let twin : c.get-twin.result ≡ edge_at m.half_edges c.reversed-t.result = c.get-twin.ensures in
-    rw (
-      ← c.self.view_is,
-      c.set_out_edge-2.ensures,
-      c.set_out_edge.ensures,
-      c.turn_edges.ensures.items,
-      twin,
-      edge,
-      c.reversed-t.ensures,
-    )
-    (refl {a = flipped m c.args.e})
+    rw (← c.self.view_is, c.set_out_edge-2.ensures, c.set_out_edge.ensures) (cc)
 
 pub invariant_of-self : goal.invariant_of-self
 invariant_of-self g c =

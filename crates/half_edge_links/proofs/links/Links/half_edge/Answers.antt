@@ -3,17 +3,11 @@ use Rattle.half_edge_links.proofs.Stored.Joined.{joined_sound}
 use Rattle.half_edge_links.proofs.Views.{mesh_in}
 use Rattle.half_edge_links.proofs.links.Links.half_edge.Goals as goal
 
-pub get-requires-clause-within : goal.get-requires-clause-within
-get-requires-clause-within g c =
-    let p = linked_in c.self.inside.half_edges.items c.args.h (joined_sound
+pub get-requires : goal.get-requires
+get-requires g c =
+    let p = linked_in c.self.inside.half_edges.items (joined_sound
     (mesh_in c.self.inside) c.self.invariant.sound) (rw (← c.self.view_is) at c.requires) in
-    p.edge
-
-pub get-requires-clause-next_within : goal.get-requires-clause-next_within
-get-requires-clause-next_within g c =
-    let p = linked_in c.self.inside.half_edges.items c.args.h (joined_sound
-    (mesh_in c.self.inside) c.self.invariant.sound) (rw (← c.self.view_is) at c.requires) in
-    p.next
+    assumption p
 
 pub returns-clause-value : goal.returns-clause-value
 returns-clause-value g c =

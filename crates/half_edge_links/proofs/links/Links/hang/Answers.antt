@@ -13,27 +13,18 @@ overflow_cast-n g c =
     let small = c.self.invariant.small in
     omega arith
 
-pub hang_edges-requires-clause-joined : goal.hang_edges-requires-clause-joined
-hang_edges-requires-clause-joined g c =
-    joined_sound (mesh_in c.self.inside) c.self.invariant.sound
-
-pub hang_edges-requires-clause-within : goal.hang_edges-requires-clause-within
-hang_edges-requires-clause-within g c =
-    let p = linked_in c.self.inside.half_edges.items c.args.x (joined_sound (mesh_in c.self.inside)
+pub hang_edges-requires : goal.hang_edges-requires
+hang_edges-requires g c =
+    let p = linked_in c.self.inside.half_edges.items (joined_sound (mesh_in c.self.inside)
     c.self.invariant.sound) (rw (← c.self.view_is) at c.requires.outer).0 in
-    p.edge
-
-pub hang_edges-requires-clause-room : goal.hang_edges-requires-clause-room
-hang_edges-requires-clause-room g c =
     let room = rw (← c.self.view_is) at c.requires.edge_room in
     let kept = length_shown c.self.inside.half_edges.items in
-    omega arith
-
-pub hang_edges-requires-clause-small : goal.hang_edges-requires-clause-small
-hang_edges-requires-clause-small g c =
-    let room = rw (← c.self.view_is) at c.requires.edge_room in
-    let kept = length_shown c.self.inside.half_edges.items in
-    omega arith
+    record {
+      joined = joined_sound (mesh_in c.self.inside) c.self.invariant.sound;
+      within = p.edge;
+      room = omega arith;
+      small = omega arith;
+    }
 
 pub overflow_add-n : goal.overflow_add-n
 overflow_add-n g c =
@@ -41,15 +32,14 @@ overflow_add-n g c =
     let kept = length_shown c.self.inside.half_edges.items in
     omega arith
 
-pub set_out_edge-requires-clause-vertex : goal.set_out_edge-requires-clause-vertex
-set_out_edge-requires-clause-vertex g c =
-    (rw (← c.self.view_is) at c.requires.alone).0
-
-pub set_out_edge-requires-clause-nameable : goal.set_out_edge-requires-clause-nameable
-set_out_edge-requires-clause-nameable g c =
+pub set_out_edge-requires : goal.set_out_edge-requires
+set_out_edge-requires g c =
     let room = rw (← c.self.view_is) at c.requires.edge_room in
     let kept = length_shown c.self.inside.half_edges.items in
-    omega arith
+    record {
+      vertex = (rw (← c.self.view_is) at c.requires.alone).0;
+      nameable = omega arith;
+    }
 
 pub returns-clause-rest : goal.returns-clause-rest
 returns-clause-rest g c =

@@ -1,4 +1,4 @@
-use Rattle.std.proofs.Common.{◌≡◌, refl, length, arith}
+use Rattle.std.proofs.Common.{◌∙◌, ◌≡◌, refl, length, arith}
 use Rattle.half_edge_links.proofs.Views.{mesh_in}
 use Rattle.half_edge_links.proofs.Stored.Shown.{next_shown, prev_shown, face_shown, length_shown}
 use Rattle.half_edge_links.specs.Mesh.{Mesh}
@@ -27,32 +27,20 @@ pub stored-first-requires : goal.stored-first-requires
 stored-first-requires g c =
     rw (← length_shown c.self.inside.half_edges.items) (rw (← c.self.view_is) at c.requires.inner).0
 
-pub fan_edges-requires-clause-joined : goal.fan_edges-requires-clause-joined
-fan_edges-requires-clause-joined g c =
-    joined_sound (mesh_in c.self.inside) c.self.invariant.sound
-
-pub fan_edges-requires-clause-triangle : goal.fan_edges-requires-clause-triangle
-fan_edges-requires-clause-triangle g c =
+pub fan_edges-requires : goal.fan_edges-requires
+fan_edges-requires g c =
     let inner = rw (← c.self.view_is) at c.requires.inner in
-    loop_of_three (mesh_in c.self.inside) c.args.edge (triangle_at (mesh_in c.self.inside)
-    c.args.edge c.self.invariant.sound inner.0 inner.1)
-
-pub fan_edges-requires-clause-room : goal.fan_edges-requires-clause-room
-fan_edges-requires-clause-room g c =
     let room = rw (← c.self.view_is) at c.requires.edge_room in
     let kept = length_shown c.self.inside.half_edges.items in
-    omega arith
-
-pub fan_edges-requires-clause-small : goal.fan_edges-requires-clause-small
-fan_edges-requires-clause-small g c =
-    let room = rw (← c.self.view_is) at c.requires.edge_room in
-    let kept = length_shown c.self.inside.half_edges.items in
-    omega arith
-
-pub fan_edges-requires-clause-few : goal.fan_edges-requires-clause-few
-fan_edges-requires-clause-few g c =
-    let room = rw (← c.self.view_is) at c.requires.face_room in
-    omega arith
+    let faces = rw (← c.self.view_is) at c.requires.face_room in
+    record {
+      joined = joined_sound (mesh_in c.self.inside) c.self.invariant.sound;
+      triangle = loop_of_three (mesh_in c.self.inside) c.args.edge (triangle_at
+          (mesh_in c.self.inside) c.args.edge c.self.invariant.sound inner.0 inner.1);
+      room = omega arith;
+      small = omega arith;
+      few = omega arith;
+    }
 
 pub overflow_cast-first : goal.overflow_cast-first
 overflow_cast-first g c =
@@ -69,15 +57,14 @@ overflow_add-n g c =
     let kept = length_shown c.self.inside.half_edges.items in
     omega arith
 
-pub set_out_edge-requires-clause-vertex : goal.set_out_edge-requires-clause-vertex
-set_out_edge-requires-clause-vertex g c =
-    (rw (← c.self.view_is) at c.requires.alone).0
-
-pub set_out_edge-requires-clause-nameable : goal.set_out_edge-requires-clause-nameable
-set_out_edge-requires-clause-nameable g c =
+pub set_out_edge-requires : goal.set_out_edge-requires
+set_out_edge-requires g c =
     let room = rw (← c.self.view_is) at c.requires.edge_room in
     let kept = length_shown c.self.inside.half_edges.items in
-    omega arith
+    record {
+      vertex = (rw (← c.self.view_is) at c.requires.alone).0;
+      nameable = omega arith;
+    }
 
 pub returns-clause-rest : goal.returns-clause-rest
 returns-clause-rest g c =
@@ -85,9 +72,9 @@ returns-clause-rest g c =
       ← c.self.view_is,
       c.set_out_edge.ensures,
       c.fan_edges.ensures.capacity,
-      c.push_reserved-2.ensures.capacity,
-      c.push_reserved.ensures.capacity,
-    ) (record { values = refl; room = refl })
+      c.push_reserved-2.ensures.capacity ∙ c.push_reserved.ensures.capacity,
+    )
+    (record { values = refl; room = refl })
 
 pub returns-clause-valid : goal.returns-clause-valid
 returns-clause-valid g c =
@@ -100,19 +87,10 @@ returns-clause-mesh g c =
     let n_is : c.len-n.result ≡ length m.half_edges = omega arith in
     let g_is : c.len-g.result ≡ length m.face_edges = omega arith in
     let rs = c.self.inside.half_edges.items in
-    rw (
-      ← c.self.view_is,
-      c.set_out_edge.ensures,
-      c.push_reserved-2.ensures.items,
-      c.push_reserved.ensures.items,
-      c.fan_edges.ensures.items,
-      c.stored-first.ensures,
-      ← next_shown rs c.args.edge,
-      ← prev_shown rs c.args.edge,
-      ← face_shown rs c.args.edge,
-      n_is,
-      g_is,
-    ) (refl {a = inserted m c.args.v c.args.edge})
+    let next_is = next_shown rs c.args.edge in
+    let prev_is = prev_shown rs c.args.edge in
+    let face_is = face_shown rs c.args.edge in
+    rw (← c.self.view_is, c.set_out_edge.ensures) (cc)
 
 pub invariant_of-self : goal.invariant_of-self
 invariant_of-self g c =

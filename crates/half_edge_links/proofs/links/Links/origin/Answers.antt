@@ -3,17 +3,11 @@ use Rattle.half_edge_links.proofs.Stored.Joined.{joined_sound}
 use Rattle.half_edge_links.proofs.Views.{mesh_in}
 use Rattle.half_edge_links.proofs.links.Links.origin.Goals as goal
 
-pub origin-requires-clause-within : goal.origin-requires-clause-within
-origin-requires-clause-within g c =
-    let p = linked_in c.self.inside.half_edges.items c.args.h (joined_sound
+pub origin-requires : goal.origin-requires
+origin-requires g c =
+    let p = linked_in c.self.inside.half_edges.items (joined_sound
     (mesh_in c.self.inside) c.self.invariant.sound) (rw (← c.self.view_is) at c.requires) in
-    p.edge
-
-pub origin-requires-clause-next_within : goal.origin-requires-clause-next_within
-origin-requires-clause-next_within g c =
-    let p = linked_in c.self.inside.half_edges.items c.args.h (joined_sound
-    (mesh_in c.self.inside) c.self.invariant.sound) (rw (← c.self.view_is) at c.requires) in
-    p.next
+    assumption p
 
 pub returns-clause-value : goal.returns-clause-value
 returns-clause-value g c =

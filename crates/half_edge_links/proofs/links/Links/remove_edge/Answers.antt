@@ -1,4 +1,4 @@
-use Rattle.std.proofs.Common.{◌≡◌, length, arith, ◌∙◌, sym, refl}
+use Rattle.std.proofs.Common.{◌≡◌, length, arith, ◌∙◌, refl}
 use Rattle.std.proofs.lemmas.List.{length-set}
 use Rattle.half_edge_links.proofs.Views.{mesh_in}
 use Rattle.half_edge_links.specs.EdgeList.{shown}
@@ -8,33 +8,21 @@ use Rattle.half_edge_links.specs.Mesh.{Mesh, rev}
 use Rattle.half_edge_links.specs.Remove.{unlinked, filled}
 use Rattle.half_edge_links.proofs.Removing.Conditions.{unlinkable}
 use Rattle.half_edge_links.proofs.Removing.RemoveSound.{joined_unlinked, unlinked_places}
-use Rattle.half_edge_links.proofs.Removing.RemoveSound.{last_in_range, removes, sound_removed}
+use Rattle.half_edge_links.proofs.Removing.RemoveSound.{last_two, removes, sound_removed}
 use Rattle.half_edge_links.proofs.Sound.Valid.{valid_removed}
 use Rattle.half_edge_links.proofs.Removing.ShrinkTriangles.{triangles_removed}
 use Rattle.half_edge_links.proofs.Removing.TakenLists.{removes_ends, removes_outer}
 use Rattle.half_edge_links.proofs.OuterLoop.OutlineTaken.{outline_removed}
-use Rattle.half_edge_links.proofs.Stored.Within.{linked_in, last_places}
+use Rattle.half_edge_links.proofs.Stored.Within.{linked_in}
 use Rattle.half_edge_links.proofs.links.Links.remove_edge.Goals as goal
 
-pub get-edge-requires-clause-within : goal.get-edge-requires-clause-within
-get-edge-requires-clause-within g c =
+pub get-edge-requires : goal.get-edge-requires
+get-edge-requires g c =
     let can = rw (← c.self.view_is) at c.requires in
-    let p = linked_in c.self.inside.half_edges.items c.args.e (joined_sound (mesh_in c.self.inside)
+    let p = linked_in c.self.inside.half_edges.items (joined_sound (mesh_in c.self.inside)
     c.self.invariant.sound)
     can.within in
-    p.edge
-
-pub get-edge-requires-clause-next_within : goal.get-edge-requires-clause-next_within
-get-edge-requires-clause-next_within g c =
-    let can = rw (← c.self.view_is) at c.requires in
-    let p = linked_in c.self.inside.half_edges.items c.args.e (joined_sound (mesh_in c.self.inside)
-    c.self.invariant.sound)
-    can.within in
-    p.next
-
-pub unlink-requires-clause-joined : goal.unlink-requires-clause-joined
-unlink-requires-clause-joined g c =
-    joined_sound (mesh_in c.self.inside) c.self.invariant.sound
+    assumption p
 
 pub set_out_edge-requires-clause-vertex : goal.set_out_edge-requires-clause-vertex
 set_out_edge-requires-clause-vertex g c =
@@ -50,166 +38,108 @@ set_out_edge-requires-2-clause-vertex g c =
 
 pub overflow_sub-last : goal.overflow_sub-last
 overflow_sub-last g c =
-    let can = rw (← c.self.view_is) at c.requires in
-    let at_n : c.len.result ≡ length (shown c.self.inside.half_edges.items) =
-    c.len.ensures.kept ∙ c.unlink.ensures.len ∙ sym (length_shown c.self.inside.half_edges.items) in
-    let p = last_places c.len.result c.args.e (rw at_n c.self.invariant.sound.even) (rw at_n
-    can.within)
-    (rw at_n c.self.invariant.small.edges) in
+    let l = last_two (mesh_in c.self.inside) c.len.result c.self.invariant
+    (rw (← c.self.view_is) at c.requires) c.reversed-t.ensures
+    (omega (arith, length_shown c.self.inside.half_edges.items)) c.unlink.ensures.items in
     omega arith
 
 pub overflow_cast-last : goal.overflow_cast-last
 overflow_cast-last g c =
-    let can = rw (← c.self.view_is) at c.requires in
-    let at_n : c.len.result ≡ length (shown c.self.inside.half_edges.items) =
-    c.len.ensures.kept ∙ c.unlink.ensures.len ∙ sym (length_shown c.self.inside.half_edges.items) in
-    let p = last_places c.len.result c.args.e (rw at_n c.self.invariant.sound.even) (rw at_n
-    can.within)
-    (rw at_n c.self.invariant.small.edges) in
+    let l = last_two (mesh_in c.self.inside) c.len.result c.self.invariant
+    (rw (← c.self.view_is) at c.requires) c.reversed-t.ensures
+    (omega (arith, length_shown c.self.inside.half_edges.items)) c.unlink.ensures.items in
     omega arith
 
 pub overflow_sub-hole : goal.overflow_sub-hole
 overflow_sub-hole g c =
     omega arith
 
-pub get-even-requires-clause-within : goal.get-even-requires-clause-within
-get-even-requires-clause-within g c =
-    let can = rw (← c.self.view_is) at c.requires in
-    let at_n : c.len.result ≡ length (shown c.self.inside.half_edges.items) =
-    c.len.ensures.kept ∙ c.unlink.ensures.len ∙ sym (length_shown c.self.inside.half_edges.items) in
-    let p = last_places c.len.result c.args.e (rw at_n c.self.invariant.sound.even) (rw at_n
-    can.within)
-    (rw at_n c.self.invariant.small.edges) in
-    rw (← c.len.ensures.kept) p.last_in
-
 pub overflow_add-last : goal.overflow_add-last
 overflow_add-last g c =
-    let can = rw (← c.self.view_is) at c.requires in
-    let at_n : c.len.result ≡ length (shown c.self.inside.half_edges.items) =
-    c.len.ensures.kept ∙ c.unlink.ensures.len ∙ sym (length_shown c.self.inside.half_edges.items) in
-    let p = last_places c.len.result c.args.e (rw at_n c.self.invariant.sound.even) (rw at_n
-    can.within)
-    (rw at_n c.self.invariant.small.edges) in
+    let l = last_two (mesh_in c.self.inside) c.len.result c.self.invariant
+    (rw (← c.self.view_is) at c.requires) c.reversed-t.ensures
+    (omega (arith, length_shown c.self.inside.half_edges.items)) c.unlink.ensures.items in
     omega arith
 
-pub get-odd-requires-clause-within : goal.get-odd-requires-clause-within
-get-odd-requires-clause-within g c =
-    let can = rw (← c.self.view_is) at c.requires in
-    let at_n : c.len.result ≡ length (shown c.self.inside.half_edges.items) =
-    c.len.ensures.kept ∙ c.unlink.ensures.len ∙ sym (length_shown c.self.inside.half_edges.items) in
-    let p = last_places c.len.result c.args.e (rw at_n c.self.invariant.sound.even) (rw at_n
-    can.within)
-    (rw at_n c.self.invariant.small.edges) in
-    rw (← c.len.ensures.kept) p.twin_in
+pub get-even-requires : goal.get-even-requires
+get-even-requires g c =
+    let l = last_two (mesh_in c.self.inside) c.len.result c.self.invariant
+    (rw (← c.self.view_is) at c.requires) c.reversed-t.ensures
+    (omega (arith, length_shown c.self.inside.half_edges.items)) c.unlink.ensures.items in
+    record {
+      within = rw (← c.len.ensures.kept) l.places.last_in;
+      next_within = rw (← length_shown c.unlink.new.half_edges.items) l.even.next_in;
+    }
 
-pub rename_out-requires-clause-from_in : goal.rename_out-requires-clause-from_in
-rename_out-requires-clause-from_in g c =
-    let can = rw (← c.self.view_is) at c.requires in
-    let at_n : c.len.result ≡ length (shown c.self.inside.half_edges.items) =
-    c.len.ensures.kept ∙ c.unlink.ensures.len ∙ sym (length_shown c.self.inside.half_edges.items) in
-    let p = last_places c.len.result c.args.e (rw at_n c.self.invariant.sound.even) (rw at_n
-    can.within)
-    (rw at_n c.self.invariant.small.edges) in
-    p.last_small
+pub get-odd-requires : goal.get-odd-requires
+get-odd-requires g c =
+    let l = last_two (mesh_in c.self.inside) c.len.result c.self.invariant
+    (rw (← c.self.view_is) at c.requires) c.reversed-t.ensures
+    (omega (arith, length_shown c.self.inside.half_edges.items)) c.unlink.ensures.items in
+    record {
+      within = rw (← c.len.ensures.kept) l.places.twin_in;
+      next_within = rw (← length_shown c.unlink.new.half_edges.items) l.odd.next_in;
+    }
 
-pub rename_out-requires-clause-to_in : goal.rename_out-requires-clause-to_in
-rename_out-requires-clause-to_in g c =
-    let can = rw (← c.self.view_is) at c.requires in
-    let at_n : c.len.result ≡ length (shown c.self.inside.half_edges.items) =
-    c.len.ensures.kept ∙ c.unlink.ensures.len ∙ sym (length_shown c.self.inside.half_edges.items) in
-    let p = last_places c.len.result c.args.e (rw at_n c.self.invariant.sound.even) (rw at_n
-    can.within)
-    (rw at_n c.self.invariant.small.edges) in
-    p.hole_small
+pub rename_out-requires : goal.rename_out-requires
+rename_out-requires g c =
+    let l = last_two (mesh_in c.self.inside) c.len.result c.self.invariant
+    (rw (← c.self.view_is) at c.requires) c.reversed-t.ensures
+    (omega (arith, length_shown c.self.inside.half_edges.items)) c.unlink.ensures.items in
+    record {
+      vertex = rw (c.set_out_edge-2.ensures, c.set_out_edge.ensures)
+          (simp length-set (rw c.get-even.ensures l.even.origin_in));
+      from_in = l.places.last_small;
+      to_in = l.places.hole_small;
+    }
 
-pub rename_out-requires-2-clause-from_in : goal.rename_out-requires-2-clause-from_in
-rename_out-requires-2-clause-from_in g c =
-    let can = rw (← c.self.view_is) at c.requires in
-    let at_n : c.len.result ≡ length (shown c.self.inside.half_edges.items) =
-    c.len.ensures.kept ∙ c.unlink.ensures.len ∙ sym (length_shown c.self.inside.half_edges.items) in
-    let p = last_places c.len.result c.args.e (rw at_n c.self.invariant.sound.even) (rw at_n
-    can.within)
-    (rw at_n c.self.invariant.small.edges) in
-    p.last_small
+pub rename_out-requires-2 : goal.rename_out-requires-2
+rename_out-requires-2 g c =
+    let l = last_two (mesh_in c.self.inside) c.len.result c.self.invariant
+    (rw (← c.self.view_is) at c.requires) c.reversed-t.ensures
+    (omega (arith, length_shown c.self.inside.half_edges.items)) c.unlink.ensures.items in
+    record {
+      vertex = rw (c.rename_out.ensures.len, c.set_out_edge-2.ensures, c.set_out_edge.ensures)
+          (simp length-set (rw c.get-odd.ensures l.odd.origin_in));
+      from_in = l.places.last_small;
+      to_in = l.places.hole_small;
+    }
 
-pub rename_out-requires-2-clause-to_in : goal.rename_out-requires-2-clause-to_in
-rename_out-requires-2-clause-to_in g c =
-    let can = rw (← c.self.view_is) at c.requires in
-    let at_n : c.len.result ≡ length (shown c.self.inside.half_edges.items) =
-    c.len.ensures.kept ∙ c.unlink.ensures.len ∙ sym (length_shown c.self.inside.half_edges.items) in
-    let p = last_places c.len.result c.args.e (rw at_n c.self.invariant.sound.even) (rw at_n
-    can.within)
-    (rw at_n c.self.invariant.small.edges) in
-    p.hole_small
+pub rename_face-requires : goal.rename_face-requires
+rename_face-requires g c =
+    let l = last_two (mesh_in c.self.inside) c.len.result c.self.invariant
+    (rw (← c.self.view_is) at c.requires) c.reversed-t.ensures
+    (omega (arith, length_shown c.self.inside.half_edges.items)) c.unlink.ensures.items in
+    record {
+      face = rw c.get-even.ensures l.even.face_in;
+      from_in = l.places.last_small;
+      to_in = l.places.hole_in;
+    }
 
-pub rename_face-requires-clause-from_in : goal.rename_face-requires-clause-from_in
-rename_face-requires-clause-from_in g c =
-    let can = rw (← c.self.view_is) at c.requires in
-    let at_n : c.len.result ≡ length (shown c.self.inside.half_edges.items) =
-    c.len.ensures.kept ∙ c.unlink.ensures.len ∙ sym (length_shown c.self.inside.half_edges.items) in
-    let p = last_places c.len.result c.args.e (rw at_n c.self.invariant.sound.even) (rw at_n
-    can.within)
-    (rw at_n c.self.invariant.small.edges) in
-    p.last_small
+pub rename_face-requires-2 : goal.rename_face-requires-2
+rename_face-requires-2 g c =
+    let l = last_two (mesh_in c.self.inside) c.len.result c.self.invariant
+    (rw (← c.self.view_is) at c.requires) c.reversed-t.ensures
+    (omega (arith, length_shown c.self.inside.half_edges.items)) c.unlink.ensures.items in
+    record {
+      face = rw (c.rename_face.ensures.len, c.get-odd.ensures) l.odd.face_in;
+      from_in = l.places.last_small;
+      to_in = l.places.hole_in;
+    }
 
-pub rename_face-requires-clause-to_in : goal.rename_face-requires-clause-to_in
-rename_face-requires-clause-to_in g c =
-    let can = rw (← c.self.view_is) at c.requires in
-    let at_n : c.len.result ≡ length (shown c.self.inside.half_edges.items) =
-    c.len.ensures.kept ∙ c.unlink.ensures.len ∙ sym (length_shown c.self.inside.half_edges.items) in
-    let p = last_places c.len.result c.args.e (rw at_n c.self.invariant.sound.even) (rw at_n
-    can.within)
-    (rw at_n c.self.invariant.small.edges) in
-    omega (arith, p.hole_small)
-
-pub rename_face-requires-2-clause-from_in : goal.rename_face-requires-2-clause-from_in
-rename_face-requires-2-clause-from_in g c =
-    let can = rw (← c.self.view_is) at c.requires in
-    let at_n : c.len.result ≡ length (shown c.self.inside.half_edges.items) =
-    c.len.ensures.kept ∙ c.unlink.ensures.len ∙ sym (length_shown c.self.inside.half_edges.items) in
-    let p = last_places c.len.result c.args.e (rw at_n c.self.invariant.sound.even) (rw at_n
-    can.within)
-    (rw at_n c.self.invariant.small.edges) in
-    p.last_small
-
-pub rename_face-requires-2-clause-to_in : goal.rename_face-requires-2-clause-to_in
-rename_face-requires-2-clause-to_in g c =
-    let can = rw (← c.self.view_is) at c.requires in
-    let at_n : c.len.result ≡ length (shown c.self.inside.half_edges.items) =
-    c.len.ensures.kept ∙ c.unlink.ensures.len ∙ sym (length_shown c.self.inside.half_edges.items) in
-    let p = last_places c.len.result c.args.e (rw at_n c.self.invariant.sound.even) (rw at_n
-    can.within)
-    (rw at_n c.self.invariant.small.edges) in
-    omega (arith, p.hole_small)
-
-pub renamed-self-inside-requires-clause-from_in : goal.renamed-self-inside-requires-clause-from_in
-renamed-self-inside-requires-clause-from_in g c =
-    let can = rw (← c.self.view_is) at c.requires in
-    let at_n : c.len.result ≡ length (shown c.self.inside.half_edges.items) =
-    c.len.ensures.kept ∙ c.unlink.ensures.len ∙ sym (length_shown c.self.inside.half_edges.items) in
-    let p = last_places c.len.result c.args.e (rw at_n c.self.invariant.sound.even) (rw at_n
-    can.within)
-    (rw at_n c.self.invariant.small.edges) in
-    p.last_small
-
-pub renamed-self-inside-requires-clause-to_in : goal.renamed-self-inside-requires-clause-to_in
-renamed-self-inside-requires-clause-to_in g c =
-    let can = rw (← c.self.view_is) at c.requires in
-    let at_n : c.len.result ≡ length (shown c.self.inside.half_edges.items) =
-    c.len.ensures.kept ∙ c.unlink.ensures.len ∙ sym (length_shown c.self.inside.half_edges.items) in
-    let p = last_places c.len.result c.args.e (rw at_n c.self.invariant.sound.even) (rw at_n
-    can.within)
-    (rw at_n c.self.invariant.small.edges) in
-    omega (arith, p.hole_small)
+pub renamed-self-inside-requires : goal.renamed-self-inside-requires
+renamed-self-inside-requires g c =
+    let l = last_two (mesh_in c.self.inside) c.len.result c.self.invariant
+    (rw (← c.self.view_is) at c.requires) c.reversed-t.ensures
+    (omega (arith, length_shown c.self.inside.half_edges.items)) c.unlink.ensures.items in
+    record { from_in = l.places.last_small; to_in = l.places.hole_in }
 
 pub returns-clause-rest : goal.returns-clause-rest
 returns-clause-rest g c =
     rw (
       ← c.self.view_is,
-      c.fill.ensures.capacity,
-      c.unlink.ensures.capacity,
-      c.rename_face-2.ensures.capacity,
-      c.rename_face.ensures.capacity,
+      c.fill.ensures.capacity ∙ c.unlink.ensures.capacity,
+      c.rename_face-2.ensures.capacity ∙ c.rename_face.ensures.capacity,
       c.rename_out-2.ensures.contents,
       c.rename_out.ensures.contents,
       c.set_out_edge-2.ensures,
@@ -228,60 +158,13 @@ get-twin-requires g c =
     let k = kept_in c.self.inside.half_edges.items (rev c.args.e) (joined_sound m s) p.twin_in in
     rw c.reversed-t.ensures (record { within = k.0; next_within = k.1 })
 
-pub unlink-requires-clause-places : goal.unlink-requires-clause-places
-unlink-requires-clause-places g c =
-    rw c.reversed-t.ensures (unlinked_places (mesh_in c.self.inside) c.args.e
-    c.self.invariant.sound (rw (← c.self.view_is) at c.requires))
-
-pub get-even-requires-clause-next_within : goal.get-even-requires-clause-next_within
-get-even-requires-clause-next_within g c =
-    let r = last_in_range (mesh_in c.self.inside) c.args.e c.reversed-t.result c.len.result
-    (shown c.unlink.new.half_edges.items) c.self.invariant
-    (rw (← c.self.view_is) at c.requires) c.reversed-t.ensures
-    (omega (arith, length_shown c.self.inside.half_edges.items)) c.unlink.ensures.items in
-    rw (← length_shown c.unlink.new.half_edges.items) r.0.next_in
-
-pub get-odd-requires-clause-next_within : goal.get-odd-requires-clause-next_within
-get-odd-requires-clause-next_within g c =
-    let r = last_in_range (mesh_in c.self.inside) c.args.e c.reversed-t.result c.len.result
-    (shown c.unlink.new.half_edges.items) c.self.invariant
-    (rw (← c.self.view_is) at c.requires) c.reversed-t.ensures
-    (omega (arith, length_shown c.self.inside.half_edges.items)) c.unlink.ensures.items in
-    rw (← length_shown c.unlink.new.half_edges.items) r.1.next_in
-
-pub rename_out-requires-clause-vertex : goal.rename_out-requires-clause-vertex
-rename_out-requires-clause-vertex g c =
-    let r = last_in_range (mesh_in c.self.inside) c.args.e c.reversed-t.result c.len.result
-    (shown c.unlink.new.half_edges.items) c.self.invariant
-    (rw (← c.self.view_is) at c.requires) c.reversed-t.ensures
-    (omega (arith, length_shown c.self.inside.half_edges.items)) c.unlink.ensures.items in
-    rw (c.set_out_edge-2.ensures, c.set_out_edge.ensures)
-    (simp length-set (rw (c.get-even.ensures) r.0.origin_in))
-
-pub rename_out-requires-2-clause-vertex : goal.rename_out-requires-2-clause-vertex
-rename_out-requires-2-clause-vertex g c =
-    let r = last_in_range (mesh_in c.self.inside) c.args.e c.reversed-t.result c.len.result
-    (shown c.unlink.new.half_edges.items) c.self.invariant
-    (rw (← c.self.view_is) at c.requires) c.reversed-t.ensures
-    (omega (arith, length_shown c.self.inside.half_edges.items)) c.unlink.ensures.items in
-    rw (c.rename_out.ensures.len, c.set_out_edge-2.ensures, c.set_out_edge.ensures)
-    (simp length-set (rw (c.get-odd.ensures) r.1.origin_in))
-
-pub rename_face-requires-clause-face : goal.rename_face-requires-clause-face
-rename_face-requires-clause-face g c =
-    let r = last_in_range (mesh_in c.self.inside) c.args.e c.reversed-t.result c.len.result
-    (shown c.unlink.new.half_edges.items) c.self.invariant
-    (rw (← c.self.view_is) at c.requires) c.reversed-t.ensures
-    (omega (arith, length_shown c.self.inside.half_edges.items)) c.unlink.ensures.items in
-    rw (c.get-even.ensures) r.0.face_in
-
-pub rename_face-requires-2-clause-face : goal.rename_face-requires-2-clause-face
-rename_face-requires-2-clause-face g c =
-    let r = last_in_range (mesh_in c.self.inside) c.args.e c.reversed-t.result c.len.result
-    (shown c.unlink.new.half_edges.items) c.self.invariant
-    (rw (← c.self.view_is) at c.requires) c.reversed-t.ensures
-    (omega (arith, length_shown c.self.inside.half_edges.items)) c.unlink.ensures.items in
-    rw (c.rename_face.ensures.len, c.get-odd.ensures) r.1.face_in
+pub unlink-requires : goal.unlink-requires
+unlink-requires g c =
+    record {
+      joined = joined_sound (mesh_in c.self.inside) c.self.invariant.sound;
+      places = rw c.reversed-t.ensures (unlinked_places (mesh_in c.self.inside) c.args.e
+          c.self.invariant.sound (rw (← c.self.view_is) at c.requires));
+    }
 
 pub fill-requires : goal.fill-requires
 fill-requires g c =

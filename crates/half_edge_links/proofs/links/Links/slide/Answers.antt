@@ -1,12 +1,11 @@
-use Rattle.std.proofs.Common.{◌≡◌, refl, arith}
+use Rattle.std.proofs.Common.{refl, arith}
 use Rattle.half_edge_links.proofs.Views.{mesh_in}
-use Rattle.half_edge_links.specs.Mesh.{Mesh, edge_at, next, prev}
+use Rattle.half_edge_links.specs.Mesh.{Mesh}
 use Rattle.half_edge_links.specs.Grow.{slid}
 use Rattle.half_edge_links.proofs.Sound.Valid.{valid_as, valid_slid}
 use Rattle.half_edge_links.proofs.Growing.Slide.{tail, slid_places, slides}
+use Rattle.half_edge_links.proofs.Growing.Slide.{outline_slid, ends_slid}
 use Rattle.half_edge_links.proofs.Stored.Shown.{length_shown}
-use Rattle.half_edge_links.proofs.Sound.EndsKept.{ends_slid}
-use Rattle.half_edge_links.proofs.OuterLoop.Outline.{outline_slid}
 use Rattle.half_edge_links.proofs.Stored.Joined.{joined_sound}
 use Rattle.half_edge_links.proofs.Stored.Within.{linked_in}
 use Rattle.half_edge_links.proofs.links.Links.slide.Goals as goal
@@ -16,39 +15,23 @@ next-k-requires g c =
     let can = rw (← c.self.view_is) at c.requires in
     rw (← length_shown c.self.inside.half_edges.items) can.within
 
-pub get-there-requires-clause-within : goal.get-there-requires-clause-within
-get-there-requires-clause-within g c =
+pub get-there-requires : goal.get-there-requires
+get-there-requires g c =
     let b = tail (mesh_in c.self.inside) c.args.e c.self.invariant.sound (rw (← c.self.view_is) at
     c.requires) in
-    let k : c.next-k.result ≡ next (mesh_in c.self.inside) c.args.e = c.next-k.ensures in
-    rw (k, ← length_shown c.self.inside.half_edges.items) b.there_in
+    rw c.next-k.ensures (assumption (linked_in c.self.inside.half_edges.items
+    (joined_sound (mesh_in c.self.inside) c.self.invariant.sound) b.there_in))
 
-pub get-there-requires-clause-next_within : goal.get-there-requires-clause-next_within
-get-there-requires-clause-next_within g c =
+pub set_out_edge-requires : goal.set_out_edge-requires
+set_out_edge-requires g c =
     let b = tail (mesh_in c.self.inside) c.args.e c.self.invariant.sound (rw (← c.self.view_is) at
     c.requires) in
-    let k : c.next-k.result ≡ next (mesh_in c.self.inside) c.args.e = c.next-k.ensures in
-    rw k (linked_in c.self.inside.half_edges.items _ (joined_sound (mesh_in c.self.inside)
-    c.self.invariant.sound) b.there_in).next
-
-pub slide_edges-requires-clause-joined : goal.slide_edges-requires-clause-joined
-slide_edges-requires-clause-joined g c =
-    joined_sound (mesh_in c.self.inside) c.self.invariant.sound
-
-pub set_out_edge-requires-clause-vertex : goal.set_out_edge-requires-clause-vertex
-set_out_edge-requires-clause-vertex g c =
-    let b = tail (mesh_in c.self.inside) c.args.e c.self.invariant.sound (rw (← c.self.view_is) at
-    c.requires) in
-    let k : c.next-k.result ≡ next (mesh_in c.self.inside) c.args.e = c.next-k.ensures in
-    rw (c.get-there.ensures, k) (c.self.invariant.sound.edges _ b.there_in).origin_in
-
-pub set_out_edge-requires-clause-nameable : goal.set_out_edge-requires-clause-nameable
-set_out_edge-requires-clause-nameable g c =
-    let b = tail (mesh_in c.self.inside) c.args.e c.self.invariant.sound (rw (← c.self.view_is) at
-    c.requires) in
-    let k : c.next-k.result ≡ next (mesh_in c.self.inside) c.args.e = c.next-k.ensures in
     let small = c.self.invariant.small in
-    rw k (omega (arith, b.there_in))
+    record {
+      vertex = rw (c.get-there.ensures, c.next-k.ensures)
+          (c.self.invariant.sound.edges _ b.there_in).origin_in;
+      nameable = rw c.next-k.ensures (omega (arith, b.there_in));
+    }
 
 pub returns-clause-rest : goal.returns-clause-rest
 returns-clause-rest g c =
@@ -65,31 +48,19 @@ prev-z-requires g c =
     let t = tail m c.args.e c.self.invariant.sound (rw (← c.self.view_is) at c.requires) in
     rw (c.reversed-t.ensures, ← length_shown c.self.inside.half_edges.items) t.twin_in
 
-pub slide_edges-requires-clause-places : goal.slide_edges-requires-clause-places
-slide_edges-requires-clause-places g c =
+pub slide_edges-requires : goal.slide_edges-requires
+slide_edges-requires g c =
     let m : Mesh = mesh_in c.self.inside in
-    let k : c.next-k.result ≡ next m c.args.e = c.next-k.ensures in
-    let there : c.get-there.result ≡ edge_at m.half_edges c.next-k.result = c.get-there.ensures in
-    let z : c.prev-z.result ≡ prev m c.reversed-t.result = c.prev-z.ensures in
-    rw (z, there, k, c.reversed-t.ensures)
-    (slid_places m c.args.e c.self.invariant.sound (rw (← c.self.view_is) at c.requires))
+    record {
+      joined = joined_sound (mesh_in c.self.inside) c.self.invariant.sound;
+      places = rw (c.prev-z.ensures, c.get-there.ensures, c.next-k.ensures, c.reversed-t.ensures)
+          (slid_places m c.args.e c.self.invariant.sound (rw (← c.self.view_is) at c.requires));
+    }
 
 pub returns-clause-mesh : goal.returns-clause-mesh
 unfolding slid
 returns-clause-mesh g c =
-    let m : Mesh = mesh_in c.self.inside in
-    let k : c.next-k.result ≡ next m c.args.e = c.next-k.ensures in
-    let there : c.get-there.result ≡ edge_at m.half_edges c.next-k.result = c.get-there.ensures in
-    let z : c.prev-z.result ≡ prev m c.reversed-t.result = c.prev-z.ensures in
-    rw (
-      ← c.self.view_is,
-      c.set_out_edge.ensures,
-      c.slide_edges.ensures.items,
-      z,
-      there,
-      k,
-      c.reversed-t.ensures,
-    ) refl
+    rw (← c.self.view_is, c.set_out_edge.ensures) (cc)
 
 pub invariant_of-self : goal.invariant_of-self
 invariant_of-self g c =
