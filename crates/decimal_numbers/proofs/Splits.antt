@@ -15,9 +15,6 @@ use Rattle.decimal_numbers.specs.Reading.{NoDigitFirst, NoSignFirst, NoPointFirs
 pub digit_is_low : (c : ℕ) → is_ascii_digit c ≡ true → digit_value c < 10
 digit_is_low c e = grind (arith, nat_tests)
 
-pub other_is_high : (c : ℕ) → is_ascii_digit c ≡ false → 10 ≤ digit_value c
-other_is_high c e = grind (arith, nat_tests)
-
 -- digits and what begins with none
 pub digits_end : (a b c d : List ℕ) → a ++ b ≡ c ++ d → AllDigits 10 a → AllDigits 10 c
     → NoDigitFirst b → NoDigitFirst d → (a ≡ c) × (b ≡ d)
@@ -68,13 +65,11 @@ sign_ends text n r s n' r' (inr (inr (e, _, clear))) (inr (inr (es, _))) t first
 -- digits begin with no sign
 digit_no_sign : (c : ℕ) → digit_value c < 10 → (c ≢ 43) × (c ≢ 45)
 digit_no_sign c low = (
-  (λ e. let low' : digit_value 43 < 10 = subst (λ x. digit_value x < 10) e low in absurd (omega arith)),
-  (λ e. let low' : digit_value 45 < 10 = subst (λ x. digit_value x < 10) e low in absurd (omega arith)),
+  (λ e. let low' : digit_value 43 < 10 = subst (λ x. digit_value x < 10) e low in
+      absurd (omega arith)),
+  (λ e. let low' : digit_value 45 < 10 = subst (λ x. digit_value x < 10) e low in
+      absurd (omega arith)),
 )
-
-digits_no_sign : (a b : List ℕ) → AllDigits 10 a → 0 < length a → NoSignFirst (a ++ b)
-digits_no_sign [] b all some = absurd (omega (arith, some))
-digits_no_sign (c ∷ a) b all some = digit_no_sign c all.0
 
 -- a letter is no digit and no point
 letter_first : (c : ℕ) → (c ≡ 69) ⊎ (c ≡ 101) → (10 ≤ digit_value c) × (c ≢ 46)
@@ -135,7 +130,8 @@ pub parts_are : (text : List ℕ) (negative : Bool) (unsigned whole behind fract
     → (whole ≡ p.whole) × (fraction ≡ p.fraction) × (rest ≡ s.power)
 parts_are text n u whole behind f r p signs split all first point s =
     let e = sign_ends text n u s.sign p.negative (p.whole ++ (s.point ++ s.power)) signs s.is_sign
-    s.spelled (unsigned_first p.whole s.point p.fraction s.power p.lowers p.power s.whole s.is_point s.some) in
+    s.spelled (unsigned_first p.whole s.point p.fraction s.power p.lowers p.power s.whole s.is_point
+    s.some) in
     let d = digits_end whole behind p.whole (s.point ++ s.power) (sym split ∙ e) all s.whole first
     (point_first s.point p.fraction s.power p.lowers p.power s.is_point s.is_power) in
     let q = point_ends behind f r s.point p.fraction s.power p.lowers p.power point s.is_point
@@ -146,9 +142,11 @@ parts_are text n u whole behind f r p signs split all first point s =
 pub integer_is : (text : List ℕ) (negative : Bool) (unsigned digits behind : List ℕ)
     (negative' : Bool) (digits' : List ℕ) → Signs text negative unsigned
     → unsigned ≡ digits ++ behind → AllDigits 10 digits → NoDigitFirst behind
-    → SpellsInteger text negative' digits' → (digits ≡ digits') × (behind ≡ []) × (0 < length digits')
+    → SpellsInteger text negative' digits'
+    → (digits ≡ digits') × (behind ≡ []) × (0 < length digits')
 integer_is text n u d b n' w signs split all first s =
-    let e = sign_ends text n u s.sign n' w signs s.is_sign s.spelled (no_sign w s.all_digits s.some) in
+    let e = sign_ends text n u s.sign n' w signs s.is_sign s.spelled
+    (no_sign w s.all_digits s.some) in
     let same : d ++ b ≡ w ++ [] = sym split ∙ e ∙ sym (append-nil w) in
     let q = digits_end d b w [] same all s.all_digits first tt in
     (q.0, q.1, s.some)

@@ -7,7 +7,7 @@ use Rattle.std.proofs.lemmas.List.{length-map, map-append}
 use Rattle.std.proofs.lemmas.List.Elements.{All-push}
 use Rattle.half_edge_mesh.specs.Mesh.{Mesh, AreSoundLinks, IsValidMesh, with_vertex}
 use Rattle.half_edge_mesh.specs.Triangles.{triangle_at, triangles}
-use Rattle.half_edge_mesh.specs.Outline.{OuterChanges, ExtendsOuter, SplitsOuter, IsEdge}
+use Rattle.half_edge_mesh.specs.Outline.{OuterChanges, ExtendsOuter, SplitsOuter, IsThis}
 use Rattle.half_edge_mesh.specs.Contents.{Contents, IsMeshWithData}
 use Rattle.half_edge_dcel.proofs.Outlines.{outer_changes, empty_list}
 use Rattle.plane.specs.Fraction.{Point, Fraction, whole}
@@ -104,7 +104,7 @@ fresh_place points q apart k h e =
 pub second_shape : (points : List Point) (q : Point) (m new : Mesh) (a b : ℕ) → length points ≡ 1
     → AreSoundLinks m → length points ≡ length m.out_edges → IsMesh points (faces_of m) (outer_of m)
     → IsApart points q → a ≡ 0 → b ≡ length points → triangles new ≡ []
-    → OuterChanges (with_vertex m) new (λ h. ⊥) (λ h i j. IsEdge 0 a b h i j ⊎ IsEdge 1 b a h i j)
+    → OuterChanges (with_vertex m) new (λ h. ⊥) (λ h i j. IsThis 0 a b h i j ⊎ IsThis 1 b a h i j)
     → IsMesh (points ++ q ∷ []) (faces_of new) (outer_of new)
 second_shape points q m new a b one s fit shape apart first last none change =
     let l = few_on_line points (faces_of m) (outer_of m) (omega (arith, one)) shape in
@@ -114,9 +114,9 @@ second_shape points q m new a b one s fit shape apart first last none change =
       line_extended points q m new 0 0 1 s fit l.1 here (fresh_place points q apart)
           (λ k k_in other. absurd (omega arith))
           (outer_changes m new (λ h. ⊥)
-          (λ h i j. IsEdge 0 0 (length points) h i j ⊎ IsEdge 1 (length points) 0 h i j)
-          (subst (λ (x : ℕ × ℕ). OuterChanges (with_vertex m) new (λ h. ⊥) (λ h i j. IsEdge 0 x.0
-          x.1 h i j ⊎ IsEdge 1 x.1 x.0 h i j)) (λ i. (first i, last i)) change)),
+          (λ h i j. IsThis 0 0 (length points) h i j ⊎ IsThis 1 (length points) 0 h i j)
+          (subst (λ (x : ℕ × ℕ). OuterChanges (with_vertex m) new (λ h. ⊥) (λ h i j. IsThis 0 x.0
+          x.1 h i j ⊎ IsThis 1 x.1 x.0 h i j)) (λ i. (first i, last i)) change)),
     )
 
 -- past the end i of a line

@@ -21,7 +21,7 @@ use Rattle.plane.proofs.Collinear.{place_on, place_of_start, place_of_end}
 use Rattle.plane.proofs.LineOrder.{IsBetween, within_places}
 use Rattle.plane_tiling.specs.Local.{LineMesh}
 use Rattle.plane_tiling.proofs.Counting.{at, same_place}
-use Rattle.plane_tiling.proofs.Line.{IsNext, SignLine, next_turned}
+use Rattle.plane_tiling.proofs.Line.{Adjoin, SignLine, next_turned}
 use Rattle.plane_tiling.proofs.LineMeshes.{line_by_signs, same_line}
 use Rattle.plane_tiling.proofs.Tiles.{point_at}
 use Rattle.plane_tiling.proofs.Appended.{kept_point}
@@ -39,7 +39,7 @@ use Rattle.half_edge_links.proofs.Removing.Conditions.{alone_at}
 
 -- ---- a vertex of a line has at most two neighbours
 module _ (n : ℕ) (p : ℕ → Point) (outer : List (ℕ × ℕ)) (m : SignLine n p outer) (w a : ℕ)
-    (near : IsNext n p w a) where
+    (near : Adjoin n p w a) where
   apart : ¬ (p w ≡ p a)
   apart = m.distinct w a near.first near.second near.apart
 
@@ -49,7 +49,7 @@ module _ (n : ℕ) (p : ℕ → Point) (outer : List (ℕ × ℕ)) (m : SignLine
   abbrev spot : ℕ → ℤ
   spot k = place_on (p w) (p a) (at p k)
 
-  none_between : (i k : ℕ) → IsNext n p w i → k < n → IsBetween (spot w) (spot i) (spot k) → ⊥
+  none_between : (i k : ℕ) → Adjoin n p w i → k < n → IsBetween (spot w) (spot i) (spot k) → ⊥
   none_between i k s h b = s.none_between k h (within_places (p w) (p a) apart (p w) (p i) (p k)
       (on w near.first) (on i s.second) (on k h) b)
 
@@ -57,7 +57,7 @@ module _ (n : ℕ) (p : ℕ → Point) (outer : List (ℕ × ℕ)) (m : SignLine
   same_spot i j hi hj h k = same_place n p m.distinct (p w) (p a) apart i j hi hj (on i hi)
       (on j hj) (at_most_both_ways _ _ h k)
 
-  both_above : (i j : ℕ) → IsNext n p w i → IsNext n p w j → spot w <ℤ spot i
+  both_above : (i j : ℕ) → Adjoin n p w i → Adjoin n p w j → spot w <ℤ spot i
       → spot w <ℤ spot j → i ≡ j
   both_above i j s t h k = go (lt_or_ge_ℤ (spot i) (spot j)) (lt_or_ge_ℤ (spot j) (spot i))
     where
@@ -66,7 +66,7 @@ module _ (n : ℕ) (p : ℕ → Point) (outer : List (ℕ × ℕ)) (m : SignLine
       go (inr o) (inl q) = absurd (none_between i j s t.second (inl (k, q)))
       go (inr o) (inr q) = same_spot i j s.second t.second q o
 
-  both_below : (i j : ℕ) → IsNext n p w i → IsNext n p w j → spot i <ℤ spot w
+  both_below : (i j : ℕ) → Adjoin n p w i → Adjoin n p w j → spot i <ℤ spot w
       → spot j <ℤ spot w → i ≡ j
   both_below i j s t h k = go (lt_or_ge_ℤ (spot i) (spot j)) (lt_or_ge_ℤ (spot j) (spot i))
     where
@@ -75,7 +75,7 @@ module _ (n : ℕ) (p : ℕ → Point) (outer : List (ℕ × ℕ)) (m : SignLine
       go (inr o) (inl q) = absurd (none_between j i t s.second (inr (q, h)))
       go (inr o) (inr q) = same_spot i j s.second t.second q o
 
-  off : (i : ℕ) → IsNext n p w i → (spot w <ℤ spot i) ⊎ (spot i <ℤ spot w)
+  off : (i : ℕ) → Adjoin n p w i → (spot w <ℤ spot i) ⊎ (spot i <ℤ spot w)
   off i s = go (lt_or_ge_ℤ (spot w) (spot i)) (lt_or_ge_ℤ (spot i) (spot w))
     where
       go : (spot w <ℤ spot i) ⊎ (spot i ≤ℤ spot w) → (spot i <ℤ spot w) ⊎ (spot w ≤ℤ spot i)
@@ -85,7 +85,7 @@ module _ (n : ℕ) (p : ℕ → Point) (outer : List (ℕ × ℕ)) (m : SignLine
       go (inr o) (inr q) = absurd (s.apart (same_spot w i near.first s.second q o))
 
   -- where w has two neighbours, each neighbour is one of them
-  pub one_of_two_neighbours : (b c : ℕ) → IsNext n p w b → IsNext n p w c → a ≢ b
+  pub one_of_two_neighbours : (b c : ℕ) → Adjoin n p w b → Adjoin n p w c → a ≢ b
       → (c ≡ a) ⊎ (c ≡ b)
   one_of_two_neighbours b c s t other = go (off b s) (off c t)
     where
@@ -260,7 +260,7 @@ module _ (points : List Point) (q : Point) (outer : List (ℕ × ℕ)) (m : Mesh
       step_to : Contains (steps u (x.second ∷ x.rest)) (a, w)
       step_to = subst (λ k. Contains (steps u (x.second ∷ x.rest)) (a, k)) x.last final.step
 
-      a_next : IsNext n p w a
+      a_next : Adjoin n p w a
       a_next = next_turned n p a w
           ((line.neighbours a w).0 (subst (λ k. Contains outer (a, k)) x.last final.edge))
 
@@ -342,7 +342,7 @@ module _ (points : List Point) (q : Point) (outer : List (ℕ × ℕ)) (m : Mesh
       y_in : y < n
       y_in = (x.ends y u there).0
 
-      a_next : IsNext n p u x.second
+      a_next : Adjoin n p u x.second
       a_next = (line.neighbours u x.second).0 x.run.0
 
       a_not_y : x.second ≢ y

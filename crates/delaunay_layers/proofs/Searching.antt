@@ -21,7 +21,7 @@ use Rattle.std.proofs.lemmas.List.Sums.{count_by-le-length, sum_by-set}
 use Rattle.half_edge_mesh.specs.Mesh.{Mesh, face, rev, next, prev, face_edge, AreSoundLinks}
 use Rattle.half_edge_links.proofs.Sound.Triangles.{same_loop, triangle_at}
 use Rattle.delaunay_layers.specs.Search.{unseen, layer_at, IsSeen, left_unseen, weight, HasWay}
-use Rattle.delaunay_layers.specs.Search.{IsDue, IsCrossed, IsSearch, IsSideOf, Lists, work_left}
+use Rattle.delaunay_layers.specs.Search.{IsDue, IsReachedAcross, IsSearch, IsSideOf, Lists, work_left}
 use Rattle.delaunay_layers.specs.Search.{IsFound, TakesNow, TakesLater}
 use Rattle.half_edge_links.specs.declared.room.TheConstants.{MAX_ELEMENTS}
 use Rattle.delaunay_layers.specs.Layers.{is_constrained}
@@ -341,7 +341,7 @@ module _ (m : Mesh) (constraints : List ℕ) where
     complete = λ g w known. elim (s.complete g w known) [
       | inl c ↦ elim (Contains-push_cases now h g c) [
         | inl d ↦ inl d
-        | inr e ↦ inr (inr (subst (IsCrossed m constraints layers) e here))
+        | inr e ↦ inr (inr (subst (IsReachedAcross m constraints layers) e here))
       ]
       | inr r ↦ inr r
     ];
@@ -349,7 +349,7 @@ module _ (m : Mesh) (constraints : List ℕ) where
     more = s.more;
   }
     where
-      here : IsCrossed m constraints layers h
+      here : IsReachedAcross m constraints layers h
       here =
           let due = (s.now_due h (Contains-push now h)).due in
           let low = s.low (face m (rev h)) seen in
@@ -400,8 +400,8 @@ module _ (m : Mesh) (constraints : List ℕ) where
       due = omega (arith, at, counts);
     }
 
-    crossed_kept : (h : ℕ) → IsSeen layers (face m h) → IsCrossed m constraints layers h
-        → IsCrossed m constraints known h
+    crossed_kept : (h : ℕ) → IsSeen layers (face m h) → IsReachedAcross m constraints layers h
+        → IsReachedAcross m constraints known h
     crossed_kept h seen c =
         let low = c.low in
         let first = kept (face m h) seen in
@@ -409,7 +409,7 @@ module _ (m : Mesh) (constraints : List ℕ) where
         record { seen = seen_kept (face m (rev h)) c.seen; low = omega (arith, low, first, second) }
 
     complete' : (h : ℕ) → h < length m.half_edges → (face m h ≡ f) ⊎ IsSeen layers (face m h)
-        → Contains now' h ⊎ (Contains later' h ⊎ IsCrossed m constraints known h)
+        → Contains now' h ⊎ (Contains later' h ⊎ IsReachedAcross m constraints known h)
     complete' h w (inl e) = elim (l.there h (w, e)) [
       | inl c ↦ inl c
       | inr c ↦ inr (inl c)

@@ -5,7 +5,7 @@ use Rattle.std.proofs.lemmas.List.Sums.{sum_by-append}
 use Rattle.std.specs.Prelude.{cond}
 use Rattle.half_edge_mesh.specs.Mesh.{Mesh, face, rev}
 use Rattle.delaunay_layers.specs.Layers.{Leads, is_constrained, crossed}
-use Rattle.delaunay_layers.specs.Search.{weight, HasWay, IsSeen, IsCrossed, layer_at}
+use Rattle.delaunay_layers.specs.Search.{weight, HasWay, IsSeen, IsReachedAcross, layer_at}
 
 module _ (m : Mesh) (constraints : List ℕ) where
   -- one edge more
@@ -37,7 +37,7 @@ module _ (m : Mesh) (constraints : List ℕ) where
 
   -- where each edge was crossed, no way is shorter than what is known
   pub no_shorter : (layers : List ℕ) → ((h : ℕ) → h < length m.half_edges
-      → IsSeen layers (face m h) → IsCrossed m constraints layers h) → (hs : List ℕ) (f g : ℕ)
+      → IsSeen layers (face m h) → IsReachedAcross m constraints layers h) → (hs : List ℕ) (f g : ℕ)
       → Leads m hs f g → IsSeen layers f
       → IsSeen layers g × (layer_at layers g ≤ layer_at layers f + crossed constraints hs)
   no_shorter layers all [] f g e seen = (

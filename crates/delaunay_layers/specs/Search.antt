@@ -37,7 +37,7 @@ pub record IsDue (m : Mesh) (constraints layers : List ℕ) (h layer : ℕ) : Ty
   pub due : layer_at layers (face m h) + weight constraints h ≡ layer
 
 -- what directed edge h leads to was reached, and no later than across it
-pub record IsCrossed (m : Mesh) (constraints layers : List ℕ) (h : ℕ) : Type 0 where
+pub record IsReachedAcross (m : Mesh) (constraints layers : List ℕ) (h : ℕ) : Type 0 where
   pub seen : IsSeen layers (face m (rev h))
   pub low : layer_at layers (face m (rev h)) ≤ layer_at layers (face m h) + weight constraints h
 
@@ -50,7 +50,7 @@ pub record IsSearch (m : Mesh) (constraints layers now later : List ℕ) (layer 
   pub now_due : (h : ℕ) → Contains now h → IsDue m constraints layers h layer
   pub later_due : (h : ℕ) → Contains later h → IsDue m constraints layers h (layer + 1)
   pub complete : (h : ℕ) → h < length m.half_edges → IsSeen layers (face m h)
-      → Contains now h ⊎ (Contains later h ⊎ IsCrossed m constraints layers h)
+      → Contains now h ⊎ (Contains later h ⊎ IsReachedAcross m constraints layers h)
   pub bound : layer + left_unseen layers ≤ length layers
   pub more : 0 < length later → layer + left_unseen layers < length layers
 
@@ -102,4 +102,4 @@ pub record IsFound (m : Mesh) (constraints layers : List ℕ) : Type 0 where
   pub outer : layer_at layers 0 ≡ 0
   pub ways : (f : ℕ) → IsSeen layers f → HasWay m constraints f (layer_at layers f)
   pub crossed : (h : ℕ) → h < length m.half_edges → IsSeen layers (face m h)
-      → IsCrossed m constraints layers h
+      → IsReachedAcross m constraints layers h

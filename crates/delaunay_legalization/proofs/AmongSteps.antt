@@ -31,7 +31,7 @@ use Rattle.delaunay_legalization.proofs.Legalizing.{edges_gained}
 
 -- ---- a failing edge is not quiet
 -- directed edge h is none of the three of the face on the left of directed edge e
-record IsOutside (m : Mesh) (e h : ℕ) : Type 0 where
+record IsNoneOfFace (m : Mesh) (e h : ℕ) : Type 0 where
   pub first : h ≢ e
   pub second : h ≢ next m e
   pub third : h ≢ prev m e
@@ -62,7 +62,7 @@ module _ (points : List Point) (m : Mesh) (e : ℕ) (t : T.IsTriangle m e) (inne
       (circle_turned _ _ _ _ (circle_turned _ _ _ _ inside)))
 
   -- so no quiet edge is one of them
-  quiet_is_outside : (h : ℕ) → IsQuiet points m h → IsOutside m e h
+  quiet_is_outside : (h : ℕ) → IsQuiet points m h → IsNoneOfFace m e h
   quiet_is_outside h q = record {
     first = λ i. first_loud (subst (IsQuiet points m) i q);
     second = λ i. next_loud (subst (IsQuiet points m) i q);
@@ -115,12 +115,12 @@ module _ (points : List Point) (m : Mesh) (s : IsValidMesh m) (shape : IsMesh po
       (λ i. ((s.sound.edges e within).starts i, back i)) inside_right
 
   -- a quiet edge is in neither face of a failing edge
-  outside_left : (h : ℕ) → IsQuiet points m h → IsOutside m e h
+  outside_left : (h : ℕ) → IsQuiet points m h → IsNoneOfFace m e h
   outside_left h q =
       quiet_is_outside points m e (T.triangle_at m e s.sound within x.inner) x.inner b
       (index_of points (faces_of m) (outer_of m) local c a b right_face).2 x.inside h q
 
-  outside_right : (h : ℕ) → IsQuiet points m h → IsOutside m (rev e) h
+  outside_right : (h : ℕ) → IsQuiet points m h → IsNoneOfFace m (rev e) h
   outside_right h q =
       quiet_is_outside points m (rev e) (T.triangle_at m (rev e) s.sound six.b_in x.twin_inner)
       x.twin_inner d
@@ -143,10 +143,10 @@ module _ (points : List Point) (m : Mesh) (s : IsValidMesh m) (shape : IsMesh po
       → IsQuiet points (flipped m e) h
   quiet_stays h h_in q = go q
     where
-      left : IsOutside m e h
+      left : IsNoneOfFace m e h
       left = outside_left h q
 
-      right : IsOutside m (rev e) h
+      right : IsNoneOfFace m (rev e) h
       right = outside_right h q
 
       same : edge_at (flipped m e).half_edges h ≡ edge_at m.half_edges h

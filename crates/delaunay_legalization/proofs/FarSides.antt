@@ -28,7 +28,7 @@ use Rattle.mesh_embedding.proofs.MeshLegal as M
 use Rattle.mesh_embedding.proofs.MeshStays.{half_same}
 use Rattle.mesh_embedding.proofs.TurnedEnds.{KeepsOtherOrigins, other_ends_stay, ends_at_next}
 use Rattle.plane_edits.specs.EmptyRound.{IsEmptyRound}
-use Rattle.delaunay_legalization.specs.Pushing.{Keeps}
+use Rattle.delaunay_legalization.specs.Pushing.{KeepsEntries}
 use Rattle.plane_edits.proofs.Legalization.EmptyRound.{failing_is_opposite, flip_stays_empty}
 use Rattle.plane_edits.proofs.Legalization.EmptyRound.{spokes_pass}
 use Rattle.delaunay_legalization.proofs.Legalizing.{edges_gained}
@@ -41,10 +41,10 @@ local_with points m (inl local) i j k f = local
 local_with points m (inr line) i j k f = absurd (M.line_has_none m i j k line.0 f)
 
 -- one of the ends i and j of an edge is the vertex v
-abbrev IsAt : ℕ → ℕ → ℕ → Type 0
-IsAt v i j = (i ≡ v) ⊎ (j ≡ v)
+abbrev IsEndOf : ℕ → ℕ → ℕ → Type 0
+IsEndOf v i j = (i ≡ v) ⊎ (j ≡ v)
 
-is_at_or_not : (v i j : ℕ) → IsAt v i j ⊎ (¬ IsAt v i j)
+is_at_or_not : (v i j : ℕ) → IsEndOf v i j ⊎ (¬ IsEndOf v i j)
 is_at_or_not v i j = elim (cases_eq i v) [
   | inl e ↦ inl (inl e)
   | inr n ↦ elim (cases_eq j v) [
@@ -54,11 +54,11 @@ is_at_or_not v i j = elim (cases_eq i v) [
 ]
 
 -- directed edges of one undirected edge have the same ends
-ends_at : (m : Mesh) (v g h i j : ℕ) → IsAt v (origin m g) (origin m (rev g)) → h / 2 ≡ g / 2
-    → origin m h ≡ i → origin m (rev h) ≡ j → IsAt v i j
+ends_at : (m : Mesh) (v g h i j : ℕ) → IsEndOf v (origin m g) (origin m (rev g)) → h / 2 ≡ g / 2
+    → origin m h ≡ i → origin m (rev h) ≡ j → IsEndOf v i j
 ends_at m v g h i j at same start end = go at (half_same g h same)
   where
-    go : IsAt v (origin m g) (origin m (rev g)) → (h ≡ g) ⊎ (h ≡ rev g) → IsAt v i j
+    go : IsEndOf v (origin m g) (origin m (rev g)) → (h ≡ g) ⊎ (h ≡ rev g) → IsEndOf v i j
     go (inl a) (inl e) = inl (sym start ∙ ap (origin m) e ∙ a)
     go (inr a) (inl e) = inr (sym end ∙ ap (λ (x : ℕ). origin m (rev x)) e ∙ a)
     go (inl a) (inr e) =
@@ -68,7 +68,7 @@ ends_at m v g h i j at same start end = go at (half_same g h same)
 -- with empty circles round a vertex, an edge at the vertex may be left out of the work list
 spoke_dropped : (points : List Point) (constraints : List (ℕ × ℕ)) (was m : Mesh)
     (v start flips : ℕ) (ks more : List ℕ) (g : ℕ) → IsEmptyRound points (faces_of m) v
-    → IsAt v (origin m g) (origin m (rev g)) → Gains ks more (g / 2) → AreEdges m ks
+    → IsEndOf v (origin m g) (origin m (rev g)) → Gains ks more (g / 2) → AreEdges m ks
     → IsPartlyLegal points constraints was m more start flips
     → IsPartlyLegal points constraints was m ks start flips
 spoke_dropped points constraints was m v start flips ks more g empty at gains edges p = record {
@@ -90,7 +90,7 @@ spoke_dropped points constraints was m v start flips ks more g empty at gains ed
           p.passing i j k l f h free (λ joined. elsewhere off (M.listed_edge m more i j joined))
     ]
       where
-        elsewhere : ¬ IsAt v i j → (x : ℕ) × M.IsListedEdge m more i j x → ⊥
+        elsewhere : ¬ IsEndOf v i j → (x : ℕ) × M.IsListedEdge m more i j x → ⊥
         elsewhere off x = elim (gains.only (x.0 / 2) x.1.listed) as (λ _. ⊥) [
           | inl e ↦ off (ends_at m v g x.0 i j at e x.1.start x.1.end)
           | inr c ↦ untested
@@ -120,7 +120,7 @@ with_one ks k = elim (listed_or_not ks k) [
 -- the entries of old, and the two sides beyond edge e from vertex v, which is opposite e on its
 -- left or on its right
 pub record GainsFarSides (m : Mesh) (e v : ℕ) (old new : List ℕ) : Type 0 where
-  pub kept : Keeps old new
+  pub kept : KeepsEntries old new
   pub far : origin m (prev m e) ≡ v
       → Contains new (next m (rev e) / 2) × Contains new (prev m (rev e) / 2)
   pub near : origin m (prev m e) ≢ v → Contains new (next m e / 2) × Contains new (prev m e / 2)

@@ -7,7 +7,7 @@ use Rattle.half_edge_mesh.specs.Mesh.{IsValidMesh}
 use Rattle.half_edge_mesh.specs.Flip.{Flips, flipped}
 use Rattle.half_edge_links.specs.declared.records.HalfEdge.{HalfEdge}
 use Rattle.half_edge_links.proofs.Faces.FlipLemmas.{flips_is}
-use Rattle.half_edge_links.proofs.Faces.FlipSound.{IsAway}
+use Rattle.half_edge_links.proofs.Faces.FlipSound.{IsOffFlip}
 use Rattle.half_edge_links.proofs.Lists.Rev.{rev-rev, rev_within}
 use Rattle.half_edge_links.proofs.Sound.Triangles as T
 use Rattle.plane.specs.Circle.{InsideCircle}
@@ -43,7 +43,7 @@ failing_twin points m s shape e within x = record {
 -- ---- what a flip does, seen from the vertex opposite the edge on its left
 record TurnsOpposite (m new : Mesh) (e : ℕ) : Type 0 where
   pub edge_count : length new.half_edges ≡ length m.half_edges
-  pub others : (j : ℕ) → IsAway m e j → edge_at new.half_edges j ≡ edge_at m.half_edges j
+  pub others : (j : ℕ) → IsOffFlip m e j → edge_at new.half_edges j ≡ edge_at m.half_edges j
   pub before_origin : origin new (prev m e) ≡ origin m (prev m e)
   pub before_next : next new (prev m e) ≡ next m (rev e)
   pub before_prev : prev new (prev m e) ≡ rev e
@@ -135,7 +135,7 @@ module _ (points : List Point) (m : Mesh) (s : IsValidMesh m)
   beyond_differs q = M.apart_corners points m s local e e_in x (ap (origin m) h_is ∙ sym q)
 
   -- no other edge of the vertex is in the two faces
-  away : (j : ℕ) → origin m j ≡ origin m h → j ≢ h → IsAway m e j
+  away : (j : ℕ) → origin m j ≡ origin m h → j ≢ h → IsOffFlip m e j
   away j at off = record {
     edge = λ q. differ.2 (spot ∙ ap (origin m) q);
     twin = λ q. differ.1 ((s.sound.edges e e_in).starts ∙ sym (spot ∙ ap (origin m) q));

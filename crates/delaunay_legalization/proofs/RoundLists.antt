@@ -98,13 +98,13 @@ legal_with_more points constraints was m ks more start flips edges kept p = reco
 
 -- ---- the edges opposite a vertex
 -- these edges, without their directions, lie opposite the vertex where the edges hs start
-abbrev pub AreOpposite : Mesh → List ℕ → List ℕ → Type 0
-AreOpposite m hs ks = (k : ℕ) → Contains ks k → (g : ℕ) × Contains hs g × (k ≡ next m g / 2)
+abbrev pub LieOpposite : Mesh → List ℕ → List ℕ → Type 0
+LieOpposite m hs ks = (k : ℕ) → Contains ks k → (g : ℕ) × Contains hs g × (k ≡ next m g / 2)
 
 -- all of them
 pub record HasAllOpposite (m : Mesh) (hs ks : List ℕ) : Type 0 where
   pub edges : AreEdges m ks
-  pub only : AreOpposite m hs ks
+  pub only : LieOpposite m hs ks
   pub all : (h : ℕ) → Contains hs h → Contains ks (next m h / 2)
 
 -- there is such a list

@@ -38,11 +38,11 @@ use Rattle.delaunay_legalization.proofs.OppositeTurns.{failing_twin, opposite_be
 use Rattle.delaunay_legalization.proofs.OppositeTurns.{opposite_others}
 use Rattle.delaunay_legalization.proofs.Pushing.{no_edges}
 use Rattle.plane.proofs.Indexes.{turned_join}
-use Rattle.delaunay_legalization.proofs.Spokes.{AreLeft, ComesBetween, all_left, count_left}
+use Rattle.delaunay_legalization.proofs.Spokes.{AreNext, ComesBetween, all_left, count_left}
 use Rattle.delaunay_legalization.proofs.Spokes.{how_many_left, next_is_left}
 use Rattle.delaunay_legalization.proofs.Spokes.{none_behind, one_fewer, one_more_left}
 use Rattle.delaunay_legalization.proofs.Stepping.{steps_end}
-use Rattle.delaunay_legalization.proofs.RoundLists.{AreOpposite, PutsLast, legal_with_more, none_in}
+use Rattle.delaunay_legalization.proofs.RoundLists.{LieOpposite, PutsLast, legal_with_more, none_in}
 use Rattle.delaunay_legalization.proofs.RoundLists.{opposites, put_last}
 
 -- ---- from edge to edge
@@ -50,11 +50,11 @@ use Rattle.delaunay_legalization.proofs.RoundLists.{opposites, put_last}
 pub record IsTurningRound {V D U F : Type 0} (at : V → Point) (fix : List U → List ℕ)
     (was now : Contents V D U F) (v first h start flips : ℕ) : Type 0 where
   pub behind : List ℕ
-  pub left : AreLeft now.mesh v first h behind
+  pub left : AreNext now.mesh v first h behind
   pub first_in : first < length now.mesh.half_edges
   pub first_starts : origin now.mesh first ≡ v
   pub ks : List ℕ
-  pub opposite : AreOpposite now.mesh (h ∷ behind) ks
+  pub opposite : LieOpposite now.mesh (h ∷ behind) ks
   pub underway : IsUnderway fix (map at was.vertices) was now ks 0 0 start flips
   pub empty : IsEmptyRound (map at was.vertices) (faces_of now.mesh) v
 
@@ -69,7 +69,7 @@ module _ {V D U F : Type 0} (at : V → Point) (fix : List U → List ℕ) (was 
       → IsTurningRound at fix was was v first first start start
   turning_begins s can = go (all_left was.mesh s v first can.named)
     where
-      go : (gs : List ℕ) × AreLeft was.mesh v first first gs × ((h : ℕ)
+      go : (gs : List ℕ) × AreNext was.mesh v first first gs × ((h : ℕ)
           → h < length was.mesh.half_edges → origin was.mesh h ≡ v → Contains (first ∷ gs) h)
           → IsTurningRound at fix was was v first first start start
       go (gs, left, all) =
@@ -259,7 +259,7 @@ module _ {V D U F : Type 0} (at : V → Point) (fix : List U → List ℕ) (was 
           (flipped m (2 * (e / 2)))
           rest all (e / 2) begin flips flips_after s refl turns.counted k_fails round edges p))
 
-      opposite_after : AreOpposite after.mesh (h ∷ e ∷ t.behind) more
+      opposite_after : LieOpposite after.mesh (h ∷ e ∷ t.behind) more
       opposite_after j c = elim (more_twice.1.only j c) [
         | inl q ↦ (
           e,
@@ -290,7 +290,7 @@ module _ {V D U F : Type 0} (at : V → Point) (fix : List U → List ℕ) (was 
       between = subst (λ u. ComesBetween m after.mesh u h e) h_starts
           (comes_between points m s shape h h_in x after.mesh turns.turned)
 
-      left_after : AreLeft after.mesh v first h (e ∷ t.behind)
+      left_after : AreNext after.mesh v first h (e ∷ t.behind)
       left_after = one_more_left m after.mesh v first h e t.first_starts between t.behind t.left
 
       -- it comes next, and its far sides are left to test
@@ -385,7 +385,7 @@ module _ {V D U F : Type 0} (at : V → Point) (fix : List U → List ℕ) (was 
               → IsTurningRound at fix was now v first (turn m h) start flips
           go (others, is) = record {
             behind = others;
-            left = one_fewer m v first h (turn m h) others (subst (AreLeft m v first h) is t.left);
+            left = one_fewer m v first h (turn m h) others (subst (AreNext m v first h) is t.left);
             first_in = t.first_in;
             first_starts = t.first_starts;
             ks = rest;
@@ -420,8 +420,8 @@ module _ {V D U F : Type 0} (at : V → Point) (fix : List U → List ℕ) (was 
           go : (others : List ℕ) × (t.behind ≡ turn m h ∷ others)
               → tests_left (map at after.vertices) after.mesh first g < tests_left points m first h
           go (others, q) =
-              let here : AreLeft m v first h (turn m h ∷ others) =
-              subst (AreLeft m v first h) q t.left in
+              let here : AreNext m v first h (turn m h ∷ others) =
+              subst (AreNext m v first h) q t.left in
               let before = count_left m v first h (turn m h ∷ others) here in
               let behind = count_left m v first (turn m h) others
               (one_fewer m v first h (turn m h) others here) in

@@ -23,7 +23,7 @@ Follow m first h [] = turn m h ≡ first
 Follow m first h (g ∷ gs) = (turn m h ≡ g) × Follow m first g gs
 
 -- edge h and these behind it are edges of vertex v, until the first comes again
-pub record AreLeft (m : Mesh) (v first h : ℕ) (gs : List ℕ) : Type 0 where
+pub record AreNext (m : Mesh) (v first h : ℕ) (gs : List ℕ) : Type 0 where
   pub follow : Follow m first h gs
   pub within : (g : ℕ) → Contains (h ∷ gs) g → g < length m.half_edges
   pub starts : (g : ℕ) → Contains (h ∷ gs) g → origin m g ≡ v
@@ -59,7 +59,7 @@ module _ (m : Mesh) (v first count : ℕ) (round : IsRound m v first count) wher
     in_round g c = contains_map_from (spoke m first) (range_with_len 0 count) g
         (subst (λ (xs : List ℕ). Contains xs g) (sym whole) c)
 
-    others_are_left : AreLeft m v first first others
+    others_are_left : AreNext m v first first others
     unfolding others
     others_are_left = record {
       follow = round_follows 0 n (omega (arith, one_more));
@@ -82,11 +82,11 @@ module _ (m : Mesh) (v first count : ℕ) (round : IsRound m v first count) wher
 
 -- at first all of them are left
 pub all_left : (m : Mesh) → IsValidMesh m → (v first : ℕ) → out_edge m v ≡ Some first
-    → (gs : List ℕ) × AreLeft m v first first gs
+    → (gs : List ℕ) × AreNext m v first first gs
     × ((h : ℕ) → h < length m.half_edges → origin m h ≡ v → Contains (first ∷ gs) h)
 all_left m valid v first named = go (edges_go_round m valid v first named)
   where
-    go : (count : ℕ) × IsRound m v first count → (gs : List ℕ) × AreLeft m v first first gs
+    go : (count : ℕ) × IsRound m v first count → (gs : List ℕ) × AreNext m v first first gs
         × ((h : ℕ) → h < length m.half_edges → origin m h ≡ v → Contains (first ∷ gs) h)
     go (zero, r) = let some = r.some in absurd (omega (arith, some))
     go (suc n, r) = (
@@ -98,7 +98,7 @@ all_left m valid v first named = go (edges_go_round m valid v first named)
 -- ---- the next one
 module _ (m : Mesh) (v first h : ℕ) where
   -- one fewer is left behind it
-  pub one_fewer : (g : ℕ) (gs : List ℕ) → AreLeft m v first h (g ∷ gs) → AreLeft m v first g gs
+  pub one_fewer : (g : ℕ) (gs : List ℕ) → AreNext m v first h (g ∷ gs) → AreNext m v first g gs
   unfolding Follow
   one_fewer g gs left = record {
     follow = left.follow.1;
@@ -109,14 +109,14 @@ module _ (m : Mesh) (v first h : ℕ) where
   }
 
   -- where the next is not the first, it is the head of those behind
-  pub next_is_left : (gs : List ℕ) → AreLeft m v first h gs → turn m h ≢ first
+  pub next_is_left : (gs : List ℕ) → AreNext m v first h gs → turn m h ≢ first
       → (rest : List ℕ) × (gs ≡ turn m h ∷ rest)
   unfolding Follow
   next_is_left [] left off = absurd (off left.follow)
   next_is_left (g ∷ gs) left off = (gs, ap (λ j. j ∷ gs) (sym left.follow.0))
 
   -- where it is the first, none is left behind
-  pub none_behind : (gs : List ℕ) → AreLeft m v first h gs → turn m h ≡ first → gs ≡ []
+  pub none_behind : (gs : List ℕ) → AreNext m v first h gs → turn m h ≡ first → gs ≡ []
   unfolding Follow
   none_behind [] left back = refl
   none_behind (g ∷ gs) left back =
@@ -145,7 +145,7 @@ walk_along m first (g ∷ gs) h (suc k) f n enough = elim (eqb_tells (turn m h) 
 abbrev pub how_many_left : Mesh → ℕ → ℕ → ℕ
 how_many_left m first h = length (walk (turn m) first (length m.half_edges) h)
 
-pub count_left : (m : Mesh) (v first h : ℕ) (gs : List ℕ) → AreLeft m v first h gs
+pub count_left : (m : Mesh) (v first h : ℕ) (gs : List ℕ) → AreNext m v first h gs
     → how_many_left m first h ≡ suc (length gs)
 count_left m v first h gs left =
     ap (λ xs. length xs) (walk_along m first gs h (length m.half_edges) left.follow
@@ -176,7 +176,7 @@ module _ (m new : Mesh) (v first h g : ℕ) (first_starts : origin m first ≡ v
     still_follow gs k k (stay k (Contains-head k gs)) (λ l d. stay l (Contains-later k gs l d)) f.1,
   )
 
-  pub one_more_left : (gs : List ℕ) → AreLeft m v first h gs → AreLeft new v first h (g ∷ gs)
+  pub one_more_left : (gs : List ℕ) → AreNext m v first h gs → AreNext new v first h (g ∷ gs)
   unfolding Follow
   one_more_left gs left = record {
     follow = (

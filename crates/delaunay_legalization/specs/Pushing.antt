@@ -12,17 +12,17 @@ pub record CanGain {V D U F : Type 0} (c : Contents V D U F) (e : ℕ) (ks : Lis
   pub room : length c.undirected ≤ capacity
 
 -- the entries of old are there
-abbrev pub Keeps : List ℕ → List ℕ → Type 0
-Keeps old new = (j : ℕ) → Contains old j → Contains new j
+abbrev pub KeepsEntries : List ℕ → List ℕ → Type 0
+KeepsEntries old new = (j : ℕ) → Contains old j → Contains new j
 
 -- the entries of old, and the edge of directed edge h where its first direction is among hs
 pub record GainsAmong (hs : List ℕ) (h : ℕ) (old new : List ℕ) : Type 0 where
-  pub kept : Keeps old new
+  pub kept : KeepsEntries old new
   pub there : Contains hs (2 * (h / 2)) → Contains new (h / 2)
 
 -- so for the four edges round directed edge e
 pub record GainsRoundAmong (m : Mesh) (hs : List ℕ) (e : ℕ) (old new : List ℕ) : Type 0 where
-  pub kept : Keeps old new
+  pub kept : KeepsEntries old new
   pub next_there : Contains hs (2 * (next m e / 2)) → Contains new (next m e / 2)
   pub prev_there : Contains hs (2 * (prev m e / 2)) → Contains new (prev m e / 2)
   pub twin_next_there : Contains hs (2 * (next m (rev e) / 2)) → Contains new (next m (rev e) / 2)

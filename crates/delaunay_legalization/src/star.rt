@@ -7,7 +7,7 @@ ghost use Rattle.delaunay_legalization.specs.Constraints.{constraints_by};
 ghost use Rattle.plane_edits.specs.EmptyRound.{IsEmptyRound};
 ghost use Rattle.delaunay_legalization.specs.Flips.{FlipsFit};
 ghost use Rattle.delaunay_legalization.specs.Legalized.{Legalizes};
-ghost use Rattle.delaunay_legalization.specs.Pushing.{CanGain, Keeps};
+ghost use Rattle.delaunay_legalization.specs.Pushing.{CanGain, KeepsEntries};
 ghost use Rattle.delaunay_legalization.specs.Shape.{IsTriangulated};
 ghost use Rattle.delaunay_legalization.specs.Star.{AllPassBeside, HasSidesAt, HasStar};
 ghost use Rattle.delaunay_legalization.specs.State.{state_of};
@@ -29,7 +29,7 @@ fn push_with_next<V, DE, UE, F>(
     work: &mut Vec<FixedUndirectedEdgeHandle>,
 )
     requires gain { CanGain dcel.now edge work.old.items (vec_capacity work.old) }
-    ensures kept { Keeps work.old.items work.new.items }
+    ensures kept { KeepsEntries work.old.items work.new.items }
     ensures sides { HasSidesAt dcel.now.mesh edge work.new.items }
     ensures edges { AreEdges dcel.now.mesh work.new.items }
     ensures capacity { vec_capacity work.new ≡ vec_capacity work.old }

@@ -38,10 +38,10 @@ second_end (at_vertex v) = v
 second_end (across a b) = b
 second_end (along a b) = b
 
-abbrev IsCrossing : Item → Type 0
-IsCrossing (at_vertex v) = ⊥
-IsCrossing (across a b) = Unit {0}
-IsCrossing (along a b) = ⊥
+abbrev IsAcrossItem : Item → Type 0
+IsAcrossItem (at_vertex v) = ⊥
+IsAcrossItem (across a b) = Unit {0}
+IsAcrossItem (along a b) = ⊥
 
 some_none : {X : Type 0} (x : X) → ¬ (Some x ≡ None)
 some_none x e = cc
@@ -108,8 +108,8 @@ module _ {V D U F P S : Type 0} (at : V → Point) (number : S → ℤ)
     no_crossing_item : (x : Intersection V D U F) → crossed_edge x ≡ None → mesh_of x ≡ now.dcel →
         ¬ IsConflict constraints start.dcel.now (item_in x)
     no_crossing_item (EdgeIntersection e) is mesh k = absurd (some_none e is)
-    no_crossing_item (VertexIntersection v) is mesh k = subst IsCrossing (sym k.2) tt
-    no_crossing_item (EdgeOverlap e) is mesh k = subst IsCrossing (sym k.2) tt
+    no_crossing_item (VertexIntersection v) is mesh k = subst IsAcrossItem (sym k.2) tt
+    no_crossing_item (EdgeOverlap e) is mesh k = subst IsAcrossItem (sym k.2) tt
 
     unmarked_item : (x : Intersection V D U F) (e : DirectedEdgeHandle V D U F)
         → crossed_edge x ≡ Some e → mesh_of x ≡ now.dcel
@@ -130,8 +130,8 @@ module _ {V D U F P S : Type 0} (at : V → Point) (number : S → ℤ)
         (subst (λ (d : Bor (Contents V D U F)). IsConflict constraints start.dcel.now
         (across (origin d.now.mesh y.index) (origin d.now.mesh (rev y.index))))
         (mesh ∙ searching.same_mesh) k))
-    unmarked_item (VertexIntersection v) e is mesh off k = subst IsCrossing (sym k.2) tt
-    unmarked_item (EdgeOverlap o) e is mesh off k = subst IsCrossing (sym k.2) tt
+    unmarked_item (VertexIntersection v) e is mesh off k = subst IsAcrossItem (sym k.2) tt
+    unmarked_item (EdgeOverlap o) e is mesh off k = subst IsAcrossItem (sym k.2) tt
 
     -- ---- one call of the walk
     module _ (x : Intersection V D U F) (after : LineIntersectionIterator V D U F P S)

@@ -33,12 +33,12 @@ use Rattle.delaunay_lines.specs.Steps.{IsOverMesh}
 use Rattle.delaunay_lines.proofs.MeshSteps.{start_in}
 
 -- neither on a vertex, nor on an edge, nor in a face
-abbrev IsAway : Location → Type 0
-IsAway (on_vertex i) = ⊥
-IsAway (on_edge i j) = ⊥
-IsAway (on_face i j k) = ⊥
-IsAway (outside_hull i j) = Unit {0}
-IsAway no_triangulation = Unit {0}
+abbrev IsBare : Location → Type 0
+IsBare (on_vertex i) = ⊥
+IsBare (on_edge i j) = ⊥
+IsBare (on_face i j k) = ⊥
+IsBare (outside_hull i j) = Unit {0}
+IsBare no_triangulation = Unit {0}
 
 same_index : (n i j : ℕ) → n ≤ 1 → i < n → j < n → i ≡ j
 same_index n i j few a b = omega (arith, few, a, b)
@@ -90,7 +90,7 @@ module _ {V D U F : Type 0} (at : V → Point) (IsSite IsCovered : Point → Typ
             (over.mesh.valid.sound.edges (face_edge m f) r.0).starts l.location.1;
       }
 
-  no_vertex_there : (l : Location) → IsAway l → IsLocation t (whole p) l → (k : ℕ) → IsVertex t k →
+  no_vertex_there : (l : Location) → IsBare l → IsLocation t (whole p) l → (k : ℕ) → IsVertex t k →
       ¬ IsSame (whole p) (vertex t k)
   no_vertex_there (on_vertex i) away is k h s = away
   no_vertex_there (on_edge i j) away is k h s = away
@@ -103,7 +103,7 @@ module _ {V D U F : Type 0} (at : V → Point) (IsSite IsCovered : Point → Typ
       let h = joins_edge m over.mesh.valid.sound i j e in
       subst (λ (k : ℕ). k < length points) h.2 (start_in at IsSite IsCovered c p q over h.0 h.1)
 
-  no_edge_there : (l : Location) → IsAway l → IsLocation t (whole p) l → (i j : ℕ) → IsEdge t i j →
+  no_edge_there : (l : Location) → IsBare l → IsLocation t (whole p) l → (i j : ℕ) → IsEdge t i j →
       ¬ OnSegment (vertex t i) (vertex t j) (whole p)
   no_edge_there l away is i j e o =
       elim (on_parts (vertex t i) (vertex t j) (whole p) o) as (λ _. ⊥) [
@@ -114,7 +114,7 @@ module _ {V D U F : Type 0} (at : V → Point) (IsSite IsCovered : Point → Typ
         ]
       ]
     where
-      within : (l : Location) → IsAway l → IsLocation t (whole p) l →
+      within : (l : Location) → IsBare l → IsLocation t (whole p) l →
           WithinSegment (vertex t i) (vertex t j) (whole p) → ⊥
       within (on_vertex k) away is w = away
       within (on_edge k n) away is w = away
@@ -131,7 +131,7 @@ module _ {V D U F : Type 0} (at : V → Point) (IsSite IsCovered : Point → Typ
         (l.1.straight s.0 s.1 s.2 s.3 s.4 s.5) s.6)
   ]
 
-  left_of_outer : (l : Location) → IsAway l → IsLocation t (whole p) l → TilesHull t →
+  left_of_outer : (l : Location) → IsBare l → IsLocation t (whole p) l → TilesHull t →
       (i : ℕ) × (j : ℕ) × IsOuter t i j × TurnsLeft (vertex t i) (vertex t j) (whole p)
   left_of_outer (on_vertex i) away is tiles = absurd away
   left_of_outer (on_edge i j) away is tiles = absurd away
@@ -143,7 +143,7 @@ module _ {V D U F : Type 0} (at : V → Point) (IsSite IsCovered : Point → Typ
   left_of_outer no_triangulation away is tiles =
       (let s = tiles.spread in absurd (too_few t s.0 s.1 s.2 s.3 s.4 s.6 is.0))
 
-  outside : (l : Location) → IsAway l → IsLocation t (whole p) l → StartsOutside t p
+  outside : (l : Location) → IsBare l → IsLocation t (whole p) l → StartsOutside t p
   outside l away is = record {
     no_vertex = no_vertex_there l away is;
     no_edge = no_edge_there l away is;

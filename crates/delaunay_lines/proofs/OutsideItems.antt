@@ -19,7 +19,7 @@ use Rattle.plane.specs.Line.{Meets, across}
 use Rattle.plane.proofs.Segments.{on_of_within, same-refl}
 use Rattle.plane_delaunay.proofs.Floods.FloodOnLine.{edge_beside}
 use Rattle.plane_segments.specs.WalkLaws.{IsLaid}
-use Rattle.plane_segments.specs.LineLaws.{AreApart}
+use Rattle.plane_segments.specs.LineLaws.{ArePlacedOnce}
 use Rattle.plane_segments.proofs.Walking.Steps.{crossing_by_sides, first_item}
 use Rattle.plane_segments.proofs.First.EdgeStarts.{crossing_on_line}
 use Rattle.plane_segments.proofs.First.OutlineStarts.{IsOnOutline, nearest_of_outline, none_of_outline}
@@ -246,7 +246,7 @@ module _ {V D U F : Type 0} (at : V → Point) (IsSite IsCovered : Point → Typ
           (next m h.0, here.next_in, here.same_face ∙ h.2, here.starts ∙ h.4)
 
       -- and at each vertex but a lone one, where all are on one line
-      outer_on_line : JoinsLine t → AreApart t → (k : ℕ) → IsVertex t k → k ≢ 0
+      outer_on_line : JoinsLine t → ArePlacedOnce t → (k : ℕ) → IsVertex t k → k ≢ 0
           → (h : ℕ) × (h < length m.half_edges) × (face m h ≡ 0) × (origin m h ≡ k)
       outer_on_line line one k hk other =
           let e = edge_beside t line k 0 hk (omega (arith, hk)) (λ same. other (one k 0 hk
@@ -267,7 +267,7 @@ module _ {V D U F : Type 0} (at : V → Point) (IsSite IsCovered : Point → Typ
           → IsNoBetter points p q r w
       no_better_there r x w h = subst (IsNoBetter points p q r) h.3 (x.outer h.0 h.1 h.2)
 
-      no_better_on_line : JoinsLine t → AreApart t → (r : Option ℕ) → IsNearestOf points m p q r
+      no_better_on_line : JoinsLine t → ArePlacedOnce t → (r : Option ℕ) → IsNearestOf points m p q r
           → (w : ℕ) → IsVertex t w → IsNoBetter points p q r w
       no_better_on_line line one r x w hw = elim (cases_eq w 0) [
         | inl e ↦ subst (IsNoBetter points p q r) (sym e) (x.first (omega (arith, hw)))

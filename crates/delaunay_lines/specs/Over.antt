@@ -19,7 +19,7 @@ IsOver at number IsSite IsCovered s =
     (place_of number s.from) (place_of number s.to)
 
 -- and its ends differ, and it meets the item that this handle of the mesh names
-pub record IsAt {V D U F P S : Type 0} (at : V → Point) (number : S → ℤ) (IsSite IsCovered : P
+pub record IsAtItem {V D U F P S : Type 0} (at : V → Point) (number : S → ℤ) (IsSite IsCovered : P
     → Point → Type 0) (s : Segment V D U F P S) (i : FixedIntersection) : Type 0 where
   pub over : IsOver at number IsSite IsCovered s
   pub within : IsHandleOf s.dcel.now i

@@ -2,7 +2,7 @@
 ghost use Rattle.std.specs.Prelude.{◌<◌, length};
 ghost use Rattle.half_edge_mesh.specs.Mesh.{face};
 ghost use Rattle.delaunay_core.specs.Place.{place_of};
-ghost use Rattle.delaunay_lines.specs.Over.{GoesOnTo, IsAt, IsOver};
+ghost use Rattle.delaunay_lines.specs.Over.{GoesOnTo, IsAtItem, IsOver};
 ghost use Rattle.delaunay_lines.specs.Steps.{LeavesBy};
 
 use crate::intersection::FixedIntersection;
@@ -31,7 +31,7 @@ impl<'a, V: HasPosition, DE, UE, F, P: PlaneTests<V::Scalar>> Segment<'a, V, DE,
     // What comes after an edge that is crossed into an inner face: nothing where the segment ends
     // inside, else another side of the face, or the corner between the two.
     fn through_face(&self, edge: FixedDirectedEdgeHandle) -> Option<FixedIntersection>
-        requires at { IsAt V.place V.Scalar.whole P.sites P.covered self.now
+        requires at { IsAtItem V.place V.Scalar.whole P.sites P.covered self.now
             (FixedIntersection.Edge edge) }
         requires inner { 0 < face self.now.dcel.now.mesh edge }
         ensures { GoesOnTo V.place V.Scalar.whole self.now (FixedIntersection.Edge edge) result }
@@ -52,7 +52,7 @@ impl<'a, V: HasPosition, DE, UE, F, P: PlaneTests<V::Scalar>> Segment<'a, V, DE,
 
     // What a segment meets after an edge that it crosses.
     pub(crate) fn after_crossing(&self, edge: FixedDirectedEdgeHandle) -> Option<FixedIntersection>
-        requires { IsAt V.place V.Scalar.whole P.sites P.covered self.now
+        requires { IsAtItem V.place V.Scalar.whole P.sites P.covered self.now
             (FixedIntersection.Edge edge) }
         ensures { GoesOnTo V.place V.Scalar.whole self.now (FixedIntersection.Edge edge) result }
     {
@@ -67,7 +67,7 @@ impl<'a, V: HasPosition, DE, UE, F, P: PlaneTests<V::Scalar>> Segment<'a, V, DE,
 
     // What a segment meets after an edge that it overlaps.
     pub(crate) fn after_overlap(&self, edge: FixedDirectedEdgeHandle) -> Option<FixedIntersection>
-        requires { IsAt V.place V.Scalar.whole P.sites P.covered self.now
+        requires { IsAtItem V.place V.Scalar.whole P.sites P.covered self.now
             (FixedIntersection.Overlap edge) }
         ensures { GoesOnTo V.place V.Scalar.whole self.now (FixedIntersection.Overlap edge) result }
     {

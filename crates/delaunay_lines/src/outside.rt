@@ -23,7 +23,7 @@ use delaunay_legalization::{is_same_point, position_of};
 use half_edge_mesh::{FixedDirectedEdgeHandle, FixedVertexHandle, MeshViews};
 
 // Whether a point is nearer to a position than another.
-fn is_nearer<S: SpadeNum, P: PlaneTests<S>>(
+fn is_point_nearer<S: SpadeNum, P: PlaneTests<S>>(
     from: Point2<S>,
     point: Point2<S>,
     other: Point2<S>,
@@ -113,7 +113,7 @@ impl<'a, V: HasPosition, DE, UE, F, P: PlaneTests<V::Scalar>> Segment<'a, V, DE,
                     position_of(self.dcel, vertex),
                     position_of(self.dcel, *other),
                 );
-                is_nearer(self.from, position, reached, self.tests)
+                is_point_nearer(self.from, position, reached, self.tests)
             }
             None => true,
         }

@@ -3,7 +3,7 @@ ghost use Rattle.std.specs.Prelude.{◌≡◌, ◌≢◌, ◌↔◌, ◌<◌, �
 ghost use Rattle.half_edge_mesh.specs.Mesh.{origin};
 ghost use Rattle.delaunay_core.specs.Place.{place_of};
 ghost use Rattle.delaunay_legalization.specs.Known.{point_at};
-ghost use Rattle.delaunay_lines.specs.Over.{GoesOnTo, IsAt, IsOver};
+ghost use Rattle.delaunay_lines.specs.Over.{GoesOnTo, IsAtItem, IsOver};
 ghost use Rattle.delaunay_lines.specs.Steps.{IsEdgeAhead, IsInCone, LeadsTo};
 
 use crate::intersection::FixedIntersection;
@@ -84,7 +84,7 @@ impl<'a, V: HasPosition, DE, UE, F, P: PlaneTests<V::Scalar>> Segment<'a, V, DE,
     // else the far side of the face.
     fn along_or_into(&self, edge: FixedDirectedEdgeHandle) -> Option<FixedIntersection>
         requires within { edge < length self.now.dcel.now.directed }
-        requires at { IsAt V.place V.Scalar.whole P.sites P.covered self.now
+        requires at { IsAtItem V.place V.Scalar.whole P.sites P.covered self.now
             (FixedIntersection.Vertex (origin self.now.dcel.now.mesh edge)) }
         requires starts_apart { point_at (map V.place self.now.dcel.now.vertices)
             (origin self.now.dcel.now.mesh edge) ≢ place_of V.Scalar.whole self.now.to }
@@ -101,7 +101,7 @@ impl<'a, V: HasPosition, DE, UE, F, P: PlaneTests<V::Scalar>> Segment<'a, V, DE,
 
     // What a segment meets after a vertex.
     pub(crate) fn after_vertex(&self, vertex: FixedVertexHandle) -> Option<FixedIntersection>
-        requires { IsAt V.place V.Scalar.whole P.sites P.covered self.now
+        requires { IsAtItem V.place V.Scalar.whole P.sites P.covered self.now
             (FixedIntersection.Vertex vertex) }
         ensures { GoesOnTo V.place V.Scalar.whole self.now (FixedIntersection.Vertex vertex)
             result }

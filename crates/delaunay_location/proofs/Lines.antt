@@ -18,7 +18,7 @@ use Rattle.plane.proofs.Sides.{side_swapped}
 use Rattle.plane.proofs.Signs.{less_both_ways, less_if_not_same, less_is_not_same, opposite_of_zero}
 use Rattle.plane_tiling.proofs.Counting.{same_place}
 use Rattle.plane_tiling.proofs.Edges.{within_on}
-use Rattle.plane_tiling.proofs.Line.{IsNext, SignLine}
+use Rattle.plane_tiling.proofs.Line.{Adjoin, SignLine}
 use Rattle.plane_tiling.proofs.LineMeshes.{line_by_signs}
 use Rattle.plane_tiling.proofs.LinePlaces.{ArePlaces, nearest_below, next_below}
 use Rattle.plane_tiling.proofs.Tiles.{point_at}
@@ -38,7 +38,7 @@ use Rattle.delaunay_location.proofs.Sides.{across_edge}
 
 -- ---- the end of a line: a vertex with one neighbour
 module _ (n : ℕ) (p : ℕ → Point) (outer : List (ℕ × ℕ)) (m : SignLine n p outer)
-    (end other : ℕ) (near : IsNext n p end other)
+    (end other : ℕ) (near : Adjoin n p end other)
     (only : (j : ℕ) → Contains outer (end, j) → j ≡ other) where
   apart : ¬ (p end ≡ p other)
   apart = m.distinct end other near.first near.second near.apart
@@ -156,7 +156,7 @@ module _ {V D U F : Type 0} (at : V → Point) (s : State V D U F) (kept : IsTri
       target = refl;
     }
 
-    near : IsNext (length points) (point_at points) (origin m e) (origin m (rev e))
+    near : Adjoin (length points) (point_at points) (origin m e) (origin m (rev e))
     near = (line.neighbours (origin m e) (origin m (rev e))).0
         (listed m e (origin m e) (origin m (rev e)) here)
 

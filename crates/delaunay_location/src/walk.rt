@@ -113,7 +113,7 @@ impl<'a, V: HasPosition, DE, UE, F, P: PlaneTests<V::Scalar>> Search<'a, V, DE, 
         requires search { IsSearch V.place V.Scalar.whole P.sites P.covered self.now }
         ensures { IfSome result (IsPlaceOf V.place V.Scalar.whole self.now) }
     {
-        let start = first_edge(self.dcel, hint)?;
+        let start = edge_from_hint(self.dcel, hint)?;
         if self.dcel.num_inner_faces() == 0 {
             return self.place_on_line(start);
         }
@@ -144,7 +144,7 @@ pub(crate) fn nearer_edge<V: HasPosition, DE, UE, F>(
 
 // An edge that a walk begins at: one of the vertex `hint`, or of vertex 0 where there is no such
 // vertex.
-fn first_edge<V, DE, UE, F>(
+fn edge_from_hint<V, DE, UE, F>(
     dcel: &Dcel<V, DE, UE, F>,
     hint: FixedVertexHandle,
 ) -> Option<FixedDirectedEdgeHandle>

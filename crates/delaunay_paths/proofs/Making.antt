@@ -24,7 +24,7 @@ use Rattle.mesh_embedding.specs.Legal.{AreEdges, GainsRound, pairs_at}
 use Rattle.mesh_embedding.proofs.MeshEdits.{flipped_faces}
 use Rattle.delaunay_legalization.specs.Known.{point_at}
 use Rattle.delaunay_legalization.proofs.Questions.{both_ways}
-use Rattle.delaunay_paths.specs.Crossing.{CrossesFromRight, IsLastBelow}
+use Rattle.delaunay_paths.specs.Crossing.{CrossesFromRight, IsLastFromRight}
 use Rattle.delaunay_paths.specs.Kept.{KeepsUncrossed, KeepsUncrossedFaces}
 use Rattle.delaunay_paths.specs.Leaving.{AllPassBeyond, IsWorkList, MakesEdge, TurnsTowards}
 use Rattle.delaunay_paths.proofs.LeftToTest.{flip_leaves, passing_ends}
@@ -66,7 +66,7 @@ module _ {V D U F : Type 0} (at : V → Point) (c : Contents V D U F) (mesh : Is
     (i j : ℕ) (free : IsFreeOfVertices (drawn (map at c.vertices) c.mesh) i j)
     (shape : IsMesh (map at c.vertices) (faces_of c.mesh) (outer_of c.mesh)) (e : ℕ)
     (within : e < length c.directed)
-    (last : IsLastBelow (map at c.vertices) c.mesh i j (length c.directed) e) where
+    (last : IsLastFromRight (map at c.vertices) c.mesh i j (length c.directed) e) where
   abbrev points : List Point
   points = map at c.vertices
 
@@ -75,8 +75,8 @@ module _ {V D U F : Type 0} (at : V → Point) (c : Contents V D U F) (mesh : Is
   e_in = subst (λ (n : ℕ). e < n) mesh.fits.directed_fit within
 
   -- none of the directed edges of the mesh that cross comes after it
-  pub last_of_all : IsLastBelow points c.mesh i j (length c.mesh.half_edges) e
-  last_of_all = subst (λ (n : ℕ). IsLastBelow points c.mesh i j n e) mesh.fits.directed_fit last
+  pub last_of_all : IsLastFromRight points c.mesh i j (length c.mesh.half_edges) e
+  last_of_all = subst (λ (n : ℕ). IsLastFromRight points c.mesh i j n e) mesh.fits.directed_fit last
 
   -- the mesh is a local one
   pub local : LocalMesh points (faces_of c.mesh) (outer_of c.mesh)

@@ -47,7 +47,7 @@ use Rattle.mesh_embedding.proofs.OuterEdges.{listed}
 use Rattle.mesh_embedding.proofs.OwnEdges.{own_edges}
 use Rattle.mesh_embedding.proofs.WorkLists.{contains_last}
 use Rattle.delaunay_legalization.proofs.Legalizing.{positive}
-use Rattle.delaunay_paths.specs.Crossing.{CrossesFromRight, CrossesSegment, IsLastBelow}
+use Rattle.delaunay_paths.specs.Crossing.{CrossesFromRight, CrossesSegment, IsLastFromRight}
 use Rattle.delaunay_paths.specs.Kept.{KeepsUncrossed, KeepsUncrossedFaces}
 use Rattle.mesh_embedding.proofs.EdgePairs.{edge_joins, joins_edge}
 
@@ -120,7 +120,7 @@ module _ (points : List Point) (m : Mesh) (s : IsValidMesh m) (i j : ℕ) where
   -- ---- the last one
   module _ (local : LocalMesh points (faces_of m) (outer_of m)) (free : IsFreeOfVertices t i j)
       (e : ℕ) (within : e < length m.half_edges)
-      (last : IsLastBelow points m i j (length m.half_edges) e) where
+      (last : IsLastFromRight points m i j (length m.half_edges) e) where
     tiled : TilesHull t
     tiled = mesh_tiles points (faces_of m) (outer_of m) (edges_of m) local (own_edges m s)
 

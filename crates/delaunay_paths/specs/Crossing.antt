@@ -33,11 +33,11 @@ ComesAfter points m i g h =
     points i) (point_at points (origin m (rev g))) (point_at points (origin m (rev h))))
 
 -- of the directed edges below n that cross, none comes after g
-pub record IsLastBelow (points : List Point) (m : Mesh) (i j n g : ℕ) : Type 0 where
+pub record IsLastFromRight (points : List Point) (m : Mesh) (i j n g : ℕ) : Type 0 where
   pub crosses : CrossesFromRight points m i j g
   pub none_after : (h : ℕ) → h < n → CrossesFromRight points m i j h → ¬ ComesAfter points m i g h
 
 -- the last of the directed edges below n that cross, if one does
 abbrev pub IsLastCrossing : List Point → Mesh → ℕ → ℕ → ℕ → Option ℕ → Type 0
 IsLastCrossing points m i j n r = MatchOption r ((h : ℕ) → h < n
-    → ¬ CrossesFromRight points m i j h) (λ g. (g < n) × IsLastBelow points m i j n g)
+    → ¬ CrossesFromRight points m i j h) (λ g. (g < n) × IsLastFromRight points m i j n g)

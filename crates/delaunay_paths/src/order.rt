@@ -75,7 +75,7 @@ impl<'a, S: SpadeNum, P: PlaneTests<S>> Seen<'a, S, P> {
 }
 
 // The positions where an edge starts and ends.
-fn ends_of<V: HasPosition, DE, UE, F>(
+fn end_positions<V: HasPosition, DE, UE, F>(
     dcel: &Dcel<V, DE, UE, F>,
     edge: FixedDirectedEdgeHandle,
 ) -> (Point2<V::Scalar>, Point2<V::Scalar>)
@@ -108,8 +108,8 @@ fn comes_after<V: HasPosition, DE, UE, F, P: PlaneTests<V::Scalar>>(
         ComesAfter (map V.place dcel.now.vertices) dcel.now.mesh from edge other }
 {
     let from = position_of(dcel, from);
-    let (start, end) = ends_of(dcel, edge);
-    let (other_start, other_end) = ends_of(dcel, other);
+    let (start, end) = end_positions(dcel, edge);
+    let (other_start, other_end) = end_positions(dcel, other);
     let starts = Seen {
         from,
         point: start,

@@ -11,7 +11,7 @@ use Rattle.half_edge_mesh.specs.Outline.{Ends}
 use Rattle.half_edge_mesh.specs.Triangles.{Triangle}
 use Rattle.half_edge_mesh.specs.Contents.{Contents, IsMeshWithData}
 use Rattle.half_edge_mesh.specs.Growth.{joins}
-use Rattle.half_edge_mesh.specs.Removal.{FullEdge, FullFace, IsBetween, HasCorners, full_edges}
+use Rattle.half_edge_mesh.specs.Removal.{FullEdge, FullFace, Connects, HasCorners, full_edges}
 use Rattle.half_edge_mesh.specs.Removal.{full_faces, spokes_to, faces_between, LosesEdges}
 use Rattle.half_edge_mesh.specs.Removal.{JoinsNeighbours, LosesStrip, FillsHole}
 use Rattle.plane_tiling.proofs.Totals.{Contains-none, Contains-head, Contains-later, Contains-cases}
@@ -88,7 +88,7 @@ stands_put old new v pairs more p is stands =
 
 -- ---- what is not at the vertex
 -- an edge neither of whose ends is the vertex has none that is, in either order of the ends
-pub no_end : {D U : Type 0} (v : ℕ) (e : FullEdge D U) (p : Ends) → IsBetween e p → e.source ≢ v
+pub no_end : {D U : Type 0} (v : ℕ) (e : FullEdge D U) (p : Ends) → Connects e p → e.source ≢ v
     → e.target ≢ v → (p.source ≢ v) × (p.target ≢ v)
 no_end v e p (inl q) a b = (λ r. a (q.0 ∙ r), λ r. b (q.1 ∙ r))
 no_end v e p (inr q) a b = (λ r. b (q.1 ∙ r), λ r. a (q.0 ∙ r))
@@ -115,13 +115,13 @@ no_corner v f t (inr (inr e)) a b c = (
 
 -- is none of the edges of the vertex
 edge_stands : {D U : Type 0} (v : ℕ) (n : ℕ → ℕ) (lost : List (FullEdge D U)) (k : ℕ)
-    → AllZip IsBetween lost (spokes_to v n k) → (e : FullEdge D U) → Contains lost e → e.source ≢ v
+    → AllZip Connects lost (spokes_to v n k) → (e : FullEdge D U) → Contains lost e → e.source ≢ v
     → e.target ≢ v → ⊥
 edge_stands v n [] k each e h a b = Contains-none e h
 edge_stands v n (x ∷ xs) zero each e h a b = each
 edge_stands {D} {U} v n (x ∷ xs) (suc k) each e h a b = elim (Contains-cases x xs e h) as (λ _. ⊥) [
   | inl q ↦ (no_end v e (joins v (n k))
-      (subst (λ (y : FullEdge D U). IsBetween y (joins v (n k))) q each.0) a b).0 refl
+      (subst (λ (y : FullEdge D U). Connects y (joins v (n k))) q each.0) a b).0 refl
   | inr r ↦ edge_stands v n xs k each.1 e r a b
 ]
 
@@ -203,10 +203,10 @@ module _ {V D U F : Type 0} (old new : Contents V D U F) (v : ℕ) where
       stays = left_over (full_edges old) (j.lost ∷ j.kept ∷ []) j.rest e j.was h
           (λ l. elim (Contains-cases j.lost (j.kept ∷ []) e l) as (λ _. ⊥) [
             | inl q ↦ (no_end v e (joins v w)
-                (subst (λ (y : FullEdge D U). IsBetween y (joins v w)) q j.lost_is) a b).0 refl
+                (subst (λ (y : FullEdge D U). Connects y (joins v w)) q j.lost_is) a b).0 refl
             | inr r ↦ elim (Contains-cases j.kept [] e r) as (λ _. ⊥) [
               | inl q ↦ (no_end v e (joins u v)
-                  (subst (λ (y : FullEdge D U). IsBetween y (joins u v)) q j.kept_is) a b).1 refl
+                  (subst (λ (y : FullEdge D U). Connects y (joins u v)) q j.kept_is) a b).1 refl
               | inr r ↦ Contains-none e r
             ]
           ])

@@ -15,7 +15,7 @@ use Rattle.half_edge_links.proofs.Lists.Rev.{rev-rev, rev_within}
 use Rattle.half_edge_links.proofs.Removing.TakenLists.{count_ends}
 use Rattle.half_edge_mesh.specs.Contents.{Contents, IsMeshWithData}
 use Rattle.half_edge_mesh.specs.Growth.{joins}
-use Rattle.half_edge_mesh.specs.Removal.{FullEdge, FullFace, IsBetween, full_edges, full_edges_of}
+use Rattle.half_edge_mesh.specs.Removal.{FullEdge, FullFace, Connects, full_edges, full_edges_of}
 use Rattle.half_edge_mesh.specs.Removal.{full_faces, full_faces_of}
 use Rattle.half_edge_dcel.proofs.TakenEdges.{between, listed_face, named_corners}
 use Rattle.half_edge_dcel.proofs.TakenOut.{length-full_edges}
@@ -90,7 +90,7 @@ module _ {V D U F : Type 0} (c new : Contents V D U F) (whole : IsMeshWithData c
       subst (λ (xs : List (FullEdge D U)). Contains xs x) (sym (edges_are x)) (j, u.0, u.1)
 
   -- the edge that is turned ended at the vertex
-  ends_at : (a b : ℕ) (x : FullEdge D U) → IsBetween x (joins a b) → (a ≡ v) ⊎ (b ≡ v)
+  ends_at : (a b : ℕ) (x : FullEdge D U) → Connects x (joins a b) → (a ≡ v) ⊎ (b ≡ v)
       → (x.source ≡ v) ⊎ (x.target ≡ v)
   ends_at a b x (inl q) (inl r) = inl (q.0 ∙ r)
   ends_at a b x (inl q) (inr r) = inr (q.1 ∙ r)

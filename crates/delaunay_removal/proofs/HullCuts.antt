@@ -9,7 +9,7 @@ use Rattle.half_edge_mesh.specs.Peel.{turn, IsStrip}
 use Rattle.half_edge_mesh.specs.Round.{neighbour}
 use Rattle.half_edge_mesh.specs.Triangles.{FlipsTriangles}
 use Rattle.half_edge_mesh.specs.Contents.{Contents, IsMeshWithData}
-use Rattle.half_edge_mesh.specs.Removal.{AreOpposite, LosesStrip, first_spoke}
+use Rattle.half_edge_mesh.specs.Removal.{AreSidesOf, LosesStrip, first_spoke}
 use Rattle.plane.specs.Fraction.{Point}
 use Rattle.plane.specs.Pairs.{place}
 use Rattle.plane.specs.Side.{side, on, TurnsLeft}
@@ -46,7 +46,7 @@ strip_read old new v first count sides s strip starts some are loses =
 
 -- the sides listed along a strip are the edges opposite its vertex
 pub sides_opposite : (m : Mesh) (first count : ℕ) (sides : List ℕ) → AreSoundLinks m
-    → IsStrip m first count → 0 < count → AreSides m first count sides → AreOpposite m sides
+    → IsStrip m first count → 0 < count → AreSides m first count sides → AreSidesOf m sides
 sides_opposite m first count sides s strip some are =
     opposite_of_strip m first count sides s strip some are.count_is are.each
 

@@ -5,7 +5,7 @@ ghost use Rattle.delaunay_removal.specs.Pairs.{HasBorder};
 
 use crate::freeing::some_edge;
 use crate::pairs::{VertexPair, vertex_at_end};
-use crate::star::{count_edges, edge_after};
+use crate::star::{count_edges, ccw_edge};
 use half_edge_mesh::{Dcel, FixedDirectedEdgeHandle, FixedVertexHandle, MeshViews};
 use std::alloc::{AllocError, Global};
 
@@ -23,7 +23,7 @@ fn collect_border<V, DE, UE, F>(
     let mut border = Vec::with_capacity(alloc, count)?;
     let mut edge = first;
     for i in 0..count {
-        let after = edge_after(dcel, edge);
+        let after = ccw_edge(dcel, edge);
         border.push_reserved((vertex_at_end(dcel, edge), vertex_at_end(dcel, after)));
         edge = after;
     }

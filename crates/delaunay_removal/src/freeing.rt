@@ -4,7 +4,7 @@ ghost use Rattle.half_edge_mesh.specs.Contents.{IsMeshWithData};
 ghost use Rattle.half_edge_mesh.specs.Mesh.{origin, out_edge};
 ghost use Rattle.delaunay_removal.specs.Freeing.{FreesEdgesAt};
 
-use crate::star::{count_edges, edge_after};
+use crate::star::{count_edges, ccw_edge};
 use delaunay_legalization::{ConstraintMarker, free_edge};
 use half_edge_mesh::{Dcel, FixedDirectedEdgeHandle, FixedVertexHandle, MeshViews};
 
@@ -39,7 +39,7 @@ fn free_round<M: ConstraintMarker<UE>, V, DE, UE, F>(
     let mut edge = first;
     for i in 0..count {
         free_edge::<M, _, _, _, _>(dcel, edge.as_undirected());
-        edge = edge_after(dcel, edge);
+        edge = ccw_edge(dcel, edge);
     }
     dcel.recall_invariant();
 }

@@ -19,7 +19,7 @@ ghost use Rattle.delaunay_removal.specs.Pairs.{FailOnlyAt, HasEdgeOf, HasEdgesOf
 ghost use Rattle.delaunay_removal.specs.Pairs.{pairs_left};
 
 use crate::lists::RemovalLists;
-use crate::star::edge_after;
+use crate::star::ccw_edge;
 use delaunay_core::math::PlaneTests;
 use delaunay_core::point::HasPosition;
 use delaunay_legalization::{ConstraintMarker, legalize_list, push_side};
@@ -50,8 +50,8 @@ pub(crate) fn ends_beside<V, DE, UE, F>(
     requires { edge < length dcel.now.directed }
     ensures { result ≡ (neighbour dcel.now.mesh edge 0, neighbour dcel.now.mesh edge 2) }
 {
-    let turned = edge_after(dcel, edge);
-    let after = edge_after(dcel, turned);
+    let turned = ccw_edge(dcel, edge);
+    let after = ccw_edge(dcel, turned);
     (vertex_at_end(dcel, edge), vertex_at_end(dcel, after))
 }
 
@@ -72,7 +72,7 @@ pub fn index_left<V, DE, UE, F>(
 }
 
 // The edge from one vertex to another, if there are such vertices and they are joined.
-fn edge_between<V, DE, UE, F>(
+fn find_edge_between<V, DE, UE, F>(
     dcel: &Dcel<V, DE, UE, F>,
     from: FixedVertexHandle,
     to: FixedVertexHandle,
@@ -108,7 +108,7 @@ fn push_between<V, DE, UE, F>(
     ensures capacity { vec_capacity work.new ≡ vec_capacity work.old }
 {
     dcel.recall_invariant();
-    match edge_between(dcel, from, to) {
+    match find_edge_between(dcel, from, to) {
         Some(edge) => push_side(dcel, edge, work),
         None => {}
     }

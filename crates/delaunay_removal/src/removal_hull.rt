@@ -14,7 +14,7 @@ ghost use Rattle.delaunay_removal.specs.Star.{HasInnerFaces, LosesEdges};
 
 use crate::lists::RemovalLists;
 use crate::pairs::VertexPair;
-use crate::star::{count_edges, edge_after, find_convex, opposite_side, turn_away};
+use crate::star::{count_edges, ccw_edge, find_convex, opposite_side, turn_away};
 use delaunay_core::math::PlaneTests;
 use delaunay_core::point::HasPosition;
 use delaunay_legalization::{end_of, is_outer, start_of, turns_left};
@@ -96,7 +96,7 @@ fn collect_sides<V, DE, UE, F>(
     let mut edge = first;
     for i in 0..count {
         sides.push_reserved(opposite_side(dcel, edge));
-        edge = edge_after(dcel, edge);
+        edge = ccw_edge(dcel, edge);
     }
 }
 
@@ -199,7 +199,7 @@ pub(crate) fn outer_edge_beside<V, DE, UE, F>(
         if is_outer(dcel, dcel.directed_edge(edge).rev().fix()) {
             return Some(edge);
         }
-        edge = edge_after(dcel, edge);
+        edge = ccw_edge(dcel, edge);
     }
     None
 }

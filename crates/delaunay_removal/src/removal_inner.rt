@@ -14,7 +14,7 @@ ghost use Rattle.delaunay_removal.specs.Star.{HasInnerFaces, IsBetweenAt, IsInne
 ghost use Rattle.delaunay_removal.specs.Star.{LosesEdges, StandsBetween};
 
 use crate::pairs::VertexPair;
-use crate::star::{edge_after, find_convex, opposite_side, turn_away};
+use crate::star::{ccw_edge, find_convex, opposite_side, turn_away};
 use delaunay_core::math::PlaneTests;
 use delaunay_core::point::HasPosition;
 use delaunay_legalization::{end_of, is_strictly_within, start_of};
@@ -76,8 +76,8 @@ fn fill_three<V, DE: Drop, UE: Drop, F: Drop>(
     ensures whole { IsMeshWithData dcel.new }
 {
     dcel.recall_invariant();
-    let second = edge_after(dcel, first);
-    let third = edge_after(dcel, second);
+    let second = ccw_edge(dcel, first);
+    let third = ccw_edge(dcel, second);
     let border = [
         opposite_side(dcel, first),
         opposite_side(dcel, second),
@@ -100,8 +100,8 @@ fn is_between<V: HasPosition, DE, UE, F, P: PlaneTests<V::Scalar>>(
     ensures { IsTrue result ↔ IsBetweenAt (map V.place dcel.now.vertices) dcel.now.mesh edge }
 {
     dcel.recall_invariant();
-    let second = edge_after(dcel, edge);
-    let opposite = edge_after(dcel, second);
+    let second = ccw_edge(dcel, edge);
+    let opposite = ccw_edge(dcel, second);
     let centre = start_of(dcel, edge);
     let from = end_of(dcel, edge);
     let to = end_of(dcel, opposite);
@@ -128,7 +128,7 @@ fn edge_beside_line<V: HasPosition, DE, UE, F, P: PlaneTests<V::Scalar>>(
     if is_between(dcel, first, tests) {
         first
     } else {
-        edge_after(dcel, first)
+        ccw_edge(dcel, first)
     }
 }
 

@@ -17,7 +17,7 @@ use delaunay_legalization::{end_of, start_of, turns_left};
 use half_edge_mesh::{Dcel, FixedDirectedEdgeHandle, MeshViews};
 
 // The edge after an edge, against the clock round the vertex where it starts.
-pub(crate) fn edge_after<V, DE, UE, F>(
+pub(crate) fn ccw_edge<V, DE, UE, F>(
     dcel: &Dcel<V, DE, UE, F>,
     edge: FixedDirectedEdgeHandle,
 ) -> FixedDirectedEdgeHandle
@@ -49,10 +49,10 @@ pub(crate) fn count_edges<V, DE, UE, F>(
     ensures { IsRound dcel.now.mesh (origin dcel.now.mesh first) first result }
 {
     dcel.recall_invariant();
-    let mut edge = edge_after(dcel, first);
+    let mut edge = ccw_edge(dcel, first);
     let mut count: usize = 1;
     while edge.index() != first.index() {
-        edge = edge_after(dcel, edge);
+        edge = ccw_edge(dcel, edge);
         count += 1;
     }
     count
@@ -69,8 +69,8 @@ fn is_convex_at<V: HasPosition, DE, UE, F, P: PlaneTests<V::Scalar>>(
     requires sites { All (P.sites tests.now) (map V.place dcel.now.vertices) }
     ensures { IsTrue result ↔ IsConvexAt (map V.place dcel.now.vertices) dcel.now.mesh edge }
 {
-    let second = edge_after(dcel, edge);
-    let third = edge_after(dcel, second);
+    let second = ccw_edge(dcel, edge);
+    let third = ccw_edge(dcel, second);
     let centre = start_of(dcel, edge);
     let before = end_of(dcel, edge);
     let corner = end_of(dcel, second);
@@ -100,7 +100,7 @@ pub(crate) fn find_convex<V: HasPosition, DE, UE, F, P: PlaneTests<V::Scalar>>(
         if is_convex_at(dcel, edge, tests) {
             return Some(edge);
         }
-        edge = edge_after(dcel, edge);
+        edge = ccw_edge(dcel, edge);
     }
     None
 }
@@ -123,7 +123,7 @@ pub(crate) fn turn_away<V: HasPosition, DE, UE, F>(
     ensures whole { IsMeshWithData dcel.old }
 {
     dcel.recall_invariant();
-    let after = edge_after(dcel, edge);
+    let after = ccw_edge(dcel, edge);
     turned.push_reserved(ends_beside(dcel, edge));
     dcel.flip_cw(after.as_undirected());
 }

@@ -105,10 +105,10 @@ impl<S: SpadeNum> CircleMetric<S> {
 fn is_at_most(a: i64, b: i64, root: i64) -> bool
     ensures { IsTrue result ↔ ((a *ℤ b) ≤ℤ (root *ℤ root)) }
 {
-    product(a, b) <= product(root, root)
+    wide_product(a, b) <= wide_product(root, root)
 }
 
-fn product(a: i64, b: i64) -> i128
+fn wide_product(a: i64, b: i64) -> i128
     ensures { result ≡ a *ℤ b }
 {
     i128::from(a) * i128::from(b)

@@ -9,7 +9,7 @@ ghost use Rattle.delaunay_core.specs.Place.{place_of};
 ghost use Rattle.delaunay_shapes.specs.InShape.{IsEdgeInShape};
 ghost use Rattle.delaunay_shapes.specs.Known.{point_at};
 
-use crate::positions::position_of;
+use crate::positions::spot_of;
 use delaunay_core::math::PlaneTests;
 use delaunay_core::point::{HasPosition, Point2, SpadeNum};
 use half_edge_mesh::UndirectedEdgeHandle;
@@ -81,6 +81,6 @@ pub trait DistanceMetric<S: SpadeNum>: Drop {
             handle.entry.dcel.now.mesh handle.entry.index }
     {
         let edge = handle.as_directed();
-        self.is_edge_inside((position_of(edge.from()), position_of(edge.to())), tests)
+        self.is_edge_inside((spot_of(edge.from()), spot_of(edge.to())), tests)
     }
 }

@@ -5,7 +5,7 @@ ghost use Rattle.delaunay_shapes.specs.Left.{vertices_left};
 
 use crate::distance_metric::DistanceMetric;
 use crate::in_shape::{EdgesInShapeIterator, VerticesInShapeIterator};
-use crate::positions::position_of;
+use crate::positions::spot_of;
 use delaunay_core::math::PlaneTests;
 use delaunay_core::point::HasPosition;
 use half_edge_mesh::{Dcel, FixedUndirectedEdgeHandle, FixedVertexHandle, MeshViews};
@@ -75,7 +75,7 @@ pub fn vertices_by_filter<
     let mut vertices = Vec::new(alloc);
     for index in 0..dcel.num_vertices() {
         let vertex = FixedVertexHandle::from_index(index as u32);
-        if metric.is_point_inside(position_of(dcel.vertex(vertex))) {
+        if metric.is_point_inside(spot_of(dcel.vertex(vertex))) {
             vertices.push(vertex)?;
         }
     }

@@ -10,7 +10,7 @@ use crate::distance_metric::DistanceMetric;
 use crate::flood::flood;
 use crate::in_shape::VerticesInShapeIterator;
 use crate::marks::Marks;
-use crate::positions::position_of;
+use crate::positions::spot_of;
 use delaunay_core::math::PlaneTests;
 use delaunay_core::point::HasPosition;
 use half_edge_mesh::{Dcel, FixedUndirectedEdgeHandle, FixedVertexHandle, MeshViews};
@@ -37,7 +37,7 @@ fn ask_vertex<V: HasPosition, DE, UE, F, M: DistanceMetric<V::Scalar>>(
         return Ok(());
     }
     asked.mark(index)?;
-    if metric.is_point_inside(position_of(dcel.vertex(vertex))) {
+    if metric.is_point_inside(spot_of(dcel.vertex(vertex))) {
         found.push(vertex)?;
     }
     Ok(())

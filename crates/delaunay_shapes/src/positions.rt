@@ -6,7 +6,7 @@ ghost use Rattle.delaunay_shapes.specs.Known.{point_at};
 use delaunay_core::point::{HasPosition, Point2};
 use half_edge_mesh::VertexHandle;
 
-pub(crate) fn position_of<V: HasPosition, DE, UE, F>(
+pub(crate) fn spot_of<V: HasPosition, DE, UE, F>(
     vertex: VertexHandle<'_, V, DE, UE, F>,
 ) -> Point2<V::Scalar>
     ensures { place_of V.Scalar.whole result ≡ point_at (map V.place vertex.entry.dcel.now.vertices)

@@ -109,7 +109,8 @@ module _ (points : List Point) (m : Mesh) (s : IsValidMesh m)
 
   -- and a free face of the list is beside an edge
   pub free_edge : (i j : ℕ) → HasFreeFace t (by_place free) i j → (h : ℕ)
-      × (h < length m.half_edges) × (i ≡ origin m h) × (j ≡ origin m (rev h)) × IsFreeBeside m free h
+      × (h < length m.half_edges) × (i ≡ origin m h) × (j ≡ origin m (rev h))
+      × IsFreeBeside m free h
   free_edge i j f = pick (subst (λ (c : Face). IsTurned c.a c.b c.c i j f.third)
       (corners_named n inside) f.corners)
     where

@@ -26,7 +26,8 @@ module _ (m : Mesh) where
   -- the corners of all inner faces, by their indexes, are those of the triangles
   pub rows_by_index : (n : ℕ) → n ≡ length m.face_edges
       → map (indexes_at m) (range_with_len 1 n) ≡ map indexes_of (triangles m)
-  rows_by_index n e = same_lists (map (indexes_at m) (range_with_len 1 n)) (map indexes_of (triangles m))
+  rows_by_index n e = same_lists (map (indexes_at m) (range_with_len 1 n))
+      (map indexes_of (triangles m))
       (omega (
         arith,
         e,
@@ -34,7 +35,8 @@ module _ (m : Mesh) where
         length-map (triangles m) indexes_of,
         length-map m.face_edges (triangle_at m),
       ))
-      (λ k d h. let below : k < n = omega (arith, h, length-map-range_with_len (indexes_at m) 1 n) in
+      (λ k d h. let below : k < n = omega (arith, h,
+      length-map-range_with_len (indexes_at m) 1 n) in
       get_or-map-range_with_len (indexes_at m) 1 n k (k + 1) d below (omega arith)
       ∙ sym (row_same k d (omega (arith, below, e))))
 

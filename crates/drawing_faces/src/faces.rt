@@ -28,7 +28,7 @@ pub enum Kept {
 }
 
 /// The corners of an inner face.
-fn corners_of<DE, UE, F>(face: FaceHandle<'_, Point2<i32>, DE, UE, F>) -> FaceCorners
+fn corner_indexes<DE, UE, F>(face: FaceHandle<'_, Point2<i32>, DE, UE, F>) -> FaceCorners
     requires { 0 < face.index }
     ensures { result ≡ indexes_at face.entry.dcel.now.mesh face.entry.index }
 {
@@ -51,7 +51,7 @@ pub fn faces_of<T: Triangulation<Vertex = Point2<i32>>>(
     site.recall_invariant();
     let mut faces = Vec::with_capacity(alloc, site.num_inner_faces())?;
     for face in site.inner_faces() {
-        faces.push(corners_of(face))?;
+        faces.push(corner_indexes(face))?;
     }
     Ok(faces)
 }

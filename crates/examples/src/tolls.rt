@@ -1,5 +1,5 @@
-//! Tolls on roads: data that are written at an edge, at one of its directions and at a face are read
-//! again there, and all others stay. The functions are proved once for both triangulations.
+//! Tolls on roads: data that are written at an edge, at one of its directions and at a face are
+//! read again there, and all others stay. The functions are proved once for both triangulations.
 
 ghost use Rattle.std.specs.Prelude.{◌≡◌, ◌<◌, ◌≤◌, ◌∷◌, length, map, slice_set};
 

@@ -1,5 +1,5 @@
-//! Walls between the corners of a site, each built where no other crosses it, and what ways over the
-//! site meet, to the end of each and no further.
+//! Walls between the corners of a site, each built where no other crosses it, and what ways over
+//! the site meet, to the end of each and no further.
 
 ghost use Rattle.spade_delaunay.specs.Place.{place_of};
 ghost use Rattle.spade_delaunay.specs.Tests.{InRange};

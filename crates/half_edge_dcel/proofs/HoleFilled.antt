@@ -23,7 +23,7 @@ use Rattle.half_edge_links.specs.Triangles.{Triangle, triangle_at}
 use Rattle.half_edge_links.proofs.Removing.TakenLists.{ends_at, count_ends}
 use Rattle.half_edge_dcel.specs.Contents.{Contents, IsMeshWithData}
 use Rattle.half_edge_dcel.specs.Growth.{joins}
-use Rattle.half_edge_dcel.specs.Removal.{FullEdge, FullFace, IsBetween, HasCorners, FillsHole}
+use Rattle.half_edge_dcel.specs.Removal.{FullEdge, FullFace, Connects, HasCorners, FillsHole}
 use Rattle.half_edge_dcel.specs.Removal.{full_edges, full_faces, spokes_to, faces_between}
 use Rattle.half_edge_dcel.proofs.TakenEdges.{listed_face}
 use Rattle.half_edge_dcel.proofs.TakenOut.{length-full_edges, get_or-full_edges}
@@ -33,7 +33,7 @@ use Rattle.half_edge_dcel.proofs.Hubs.{no_face_of, count_faces, round_faces, rou
 use Rattle.half_edge_dcel.proofs.Hubs.{faces_round}
 use Rattle.half_edge_dcel.proofs.Touching.{has_corner, lacks_corner, touches, misses, touches_it}
 use Rattle.half_edge_dcel.proofs.Touching.{corner_there, corners_off, ends_off}
-use Rattle.half_edge_dcel.proofs.TurnedEdge.{IsTurned, value_at}
+use Rattle.half_edge_dcel.proofs.TurnedEdge.{HasTurned, value_at}
 use Rattle.half_edge_dcel.proofs.Turning.{all_zip-push}
 
 -- ---- a vertex without edges
@@ -93,7 +93,7 @@ module _ {V D U F : Type 0} (c : Contents V D U F) (v : ℕ) (whole : IsMeshWith
 
 -- ---- lists
 spokes_touch : {D U : Type 0} (v w : ℕ) (n : ℕ → ℕ) (xs : List (FullEdge D U)) (k : ℕ) → w ≡ v
-    → AllZip IsBetween xs (spokes_to w n k) → All (λ e. touches v e ≡ true) xs
+    → AllZip Connects xs (spokes_to w n k) → All (λ e. touches v e ≡ true) xs
 spokes_touch v w n [] k at z = All-nil _
 spokes_touch v w n (x ∷ xs) zero at z = absurd z
 spokes_touch {D} {U} v w n (x ∷ xs) (suc k) at z =
@@ -116,10 +116,10 @@ first_last v n (suc k) = ap (λ xs. joins v (n (suc k)) ∷ xs) (first_last v n 
 
 -- the edges that went: those that were turned, and between them the last three
 module _ {D U : Type 0} (v : ℕ) (n : ℕ → ℕ) (turned : ℕ) (lost : List (FullEdge D U))
-    (lost_are : AllZip IsBetween lost (spokes_to v (λ i. n (suc i)) turned)) where
-  in_order : (xs : List (FullEdge D U)) → AllZip IsBetween xs
+    (lost_are : AllZip Connects lost (spokes_to v (λ i. n (suc i)) turned)) where
+  in_order : (xs : List (FullEdge D U)) → AllZip Connects xs
       (joins v (n (suc (suc turned))) ∷ joins v (n (suc turned)) ∷ joins v (n 0) ∷ [])
-      → (all : List (FullEdge D U)) × AllZip IsBetween all (spokes_to v n (suc (suc (suc turned))))
+      → (all : List (FullEdge D U)) × AllZip Connects all (spokes_to v n (suc (suc (suc turned))))
       × IsPermutation (lost ++ xs) all × ((x : FullEdge D U) → Contains lost x → Contains all x)
   in_order [] z = absurd z
   in_order (a ∷ []) z = absurd z.1
@@ -130,8 +130,8 @@ module _ {D U : Type 0} (v : ℕ) (n : ℕ → ℕ) (turned : ℕ) (lost : List 
       z.0,
       (
         z.1.0,
-        subst (λ (ps : List Ends). AllZip IsBetween (lost ++ c ∷ []) ps)
-            (sym (first_last v n turned)) (all_zip-push IsBetween lost
+        subst (λ (ps : List Ends). AllZip Connects (lost ++ c ∷ []) ps)
+            (sym (first_last v n turned)) (all_zip-push Connects lost
             (spokes_to v (λ i. n (suc i)) turned) c (joins v (n 0)) lost_are z.1.1.0),
       ),
     ),
@@ -146,7 +146,7 @@ module _ {D U : Type 0} (v : ℕ) (n : ℕ → ℕ) (turned : ℕ) (lost : List 
 module _ {V D U F : Type 0} (old c new : Contents V D U F) (o turned : ℕ)
     (whole_old : IsMeshWithData old) (whole : IsMeshWithData c) (whole_new : IsMeshWithData new)
     (w : IsHub old.mesh o (suc (suc (suc turned)))) (tip : HasFreeTip (neighbour old.mesh o)
-    (suc (suc (suc turned)))) (f : IsTurned old c o (suc (suc (suc turned))) turned)
+    (suc (suc (suc turned)))) (f : HasTurned old c o (suc (suc (suc turned))) turned)
     (g : FillsHole c new (origin c.mesh o) (neighbour c.mesh o)) where
   abbrev v : ℕ
   v = origin old.mesh o
@@ -175,12 +175,12 @@ module _ {V D U F : Type 0} (old c new : Contents V D U F) (o turned : ℕ)
       (full_edges new) g.edges.2 (spokes_touch v (origin c.mesh o)
       (neighbour c.mesh o) g.edges.0 3 f.start g.edges.1) (edges_miss new v whole_new alone)
 
-  last_three : AllZip IsBetween g.edges.0
+  last_three : AllZip Connects g.edges.0
       (joins v (n (suc (suc turned))) ∷ joins v (n (suc turned)) ∷ joins v (n 0) ∷ [])
-  last_three = subst (λ (ps : List Ends). AllZip IsBetween g.edges.0 ps) (λ i. joins (f.start i)
+  last_three = subst (λ (ps : List Ends). AllZip Connects g.edges.0 ps) (λ i. joins (f.start i)
       (next_is i) ∷ joins (f.start i) (first_is i) ∷ joins (f.start i) (f.tip i) ∷ []) g.edges.1
 
-  all_edges : (all : List (FullEdge D U)) × AllZip IsBetween all (spokes_to v n K) × IsPermutation
+  all_edges : (all : List (FullEdge D U)) × AllZip Connects all (spokes_to v n K) × IsPermutation
       (f.lost ++ g.edges.0) all × ((x : FullEdge D U) → Contains f.lost x → Contains all x)
   all_edges = in_order v n turned f.lost f.lost_are g.edges.0 last_three
 
@@ -309,7 +309,7 @@ module _ {V D U F : Type 0} (old c new : Contents V D U F) (o turned : ℕ)
 -- the same, for a count of edges
 pub hole_filled_by : {V D U F : Type 0} (old c new : Contents V D U F) (o k turned : ℕ)
     → turned + 3 ≡ k → IsMeshWithData old → IsMeshWithData c → IsMeshWithData new
-    → IsHub old.mesh o k → HasFreeTip (neighbour old.mesh o) k → IsTurned old c o k turned
+    → IsHub old.mesh o k → HasFreeTip (neighbour old.mesh o) k → HasTurned old c o k turned
     → FillsHole c new (origin c.mesh o) (neighbour c.mesh o)
     → FillsWithFan old new (origin old.mesh o) (neighbour old.mesh o) k
 hole_filled_by old c new o k turned is a b e w tip f g =
@@ -343,7 +343,7 @@ fan_of_three {V} {D} {U} {F} old new v n f =
       outline = f.outline;
     }
   where
-    no_edge : (made : List (FullEdge D U)) → AllZip IsBetween made []
+    no_edge : (made : List (FullEdge D U)) → AllZip Connects made []
         → IsPermutation (full_edges new) (made ++ f.other_edges)
         → IsPermutation (full_edges new) f.other_edges
     no_edge [] z is = is

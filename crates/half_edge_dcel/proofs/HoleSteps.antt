@@ -27,7 +27,7 @@ use Rattle.half_edge_links.proofs.Removing.WheelEnds.{hole_of_three, closed_corn
 use Rattle.half_edge_links.proofs.Removing.WheelLemmas as wheel
 use Rattle.half_edge_dcel.specs.Contents.{Contents, IsMeshWithData, KeepsVertices}
 use Rattle.half_edge_dcel.specs.Growth.{joins}
-use Rattle.half_edge_dcel.specs.Removal.{FullFace, IsBetween, HasCorners, LosesEdges, LosesFaces}
+use Rattle.half_edge_dcel.specs.Removal.{FullFace, Connects, HasCorners, LosesEdges, LosesFaces}
 use Rattle.half_edge_dcel.specs.Removal.{GivesFace, OuterChanges, FillsHole, full_edges}
 use Rattle.half_edge_dcel.specs.Removal.{full_edges_of, full_faces, full_faces_of, spokes_to}
 use Rattle.half_edge_dcel.specs.Removal.{faces_between}
@@ -136,11 +136,11 @@ fills_hole {V} {D} {U} {F} c0 c1 c2 c3 c4 c5 o spoke z made whole0 whole2 whole3
     let at_two = fan_face c2.mesh spoke z v (n 0) (n 1) (n 2) whole2.valid.sound h in
     let a1 : LosesEdges c1 c2 (joins v (n 0) ∷ []) = e12 in
     let a2 : LosesEdges c2 c3 (joins v (n 1) ∷ []) = rw at_two.0 at e23 in
-    let from0 = one_more_gone IsBetween (full_edges c1) (full_edges c1) (full_edges c2) []
-    (joins v (n 0)) (none_gone IsBetween (full_edges c1)) a1 in
-    let from1 = one_more_gone IsBetween (full_edges c1) (full_edges c2) (full_edges c3) _
+    let from0 = one_more_gone Connects (full_edges c1) (full_edges c1) (full_edges c2) []
+    (joins v (n 0)) (none_gone Connects (full_edges c1)) a1 in
+    let from1 = one_more_gone Connects (full_edges c1) (full_edges c2) (full_edges c3) _
     (joins v (n 1)) from0 a2 in
-    let from2 = one_more_gone IsBetween (full_edges c1) (full_edges c3) (full_edges c4) _
+    let from2 = one_more_gone Connects (full_edges c1) (full_edges c3) (full_edges c4) _
     (joins v (n 2)) from1 e34 in
     let edges : LosesEdges c0 c5 (spokes_to v n 3) = rw (← e01, e45) from2 in
     let b1 : LosesFaces c1 c2 (record { first = v; second = n 0; third = n 1 } ∷ []) =

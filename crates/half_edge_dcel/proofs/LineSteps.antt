@@ -20,7 +20,7 @@ use Rattle.half_edge_links.proofs.Growing.Passing.{IsBeside, beside}
 use Rattle.half_edge_links.proofs.Removing.TakenLists.{count_ends}
 use Rattle.half_edge_dcel.specs.Contents.{Contents, IsMeshWithData}
 use Rattle.half_edge_dcel.specs.Growth.{joins}
-use Rattle.half_edge_dcel.specs.Removal.{TakesOut, FullEdge, full_edges, full_edges_of, IsBetween}
+use Rattle.half_edge_dcel.specs.Removal.{TakesOut, FullEdge, full_edges, full_edges_of, Connects}
 use Rattle.half_edge_dcel.specs.Removal.{JoinsNeighbours, OuterChanges, LosesEdges, LeavesLine}
 use Rattle.half_edge_dcel.proofs.TakenOut.{length-full_edges}
 use Rattle.half_edge_dcel.proofs.TakenEdges.{listed_ends, between}
@@ -236,7 +236,7 @@ pub outer_joined : {V D U F : Type 0} (old new : Contents V D U F) (v u w : ℕ)
     (joins u w ∷ joins w u ∷ [])
 outer_joined {V} {D} {U} {F} old new v u w a b same j f =
     let g : FullEdge D U → ℤ = λ x. both_ways f (edge_ends x) in
-    let moved_is : IsBetween j.moved (joins u w) = elim j.moved_is [
+    let moved_is : Connects j.moved (joins u w) = elim j.moved_is [
       | inl q ↦
           inl (ap (λ (x : FullEdge D U). x.source) q.1, ap (λ (x : FullEdge D U). x.target) q.1)
       | inr q ↦

@@ -18,7 +18,7 @@ use Rattle.half_edge_links.proofs.Sound.Flow.{sides_add_up}
 use Rattle.half_edge_links.proofs.Removing.TakenLists.{count_ends}
 use Rattle.half_edge_dcel.specs.Contents.{Contents, IsMeshWithData}
 use Rattle.half_edge_dcel.specs.Removal.{FullEdge, full_edges, full_edges_of, FullFace, full_faces}
-use Rattle.half_edge_dcel.specs.Removal.{full_faces_of, IsBetween, HasCorners, LosesEdges}
+use Rattle.half_edge_dcel.specs.Removal.{full_faces_of, Connects, HasCorners, LosesEdges}
 use Rattle.half_edge_dcel.specs.Removal.{LosesFaces}
 
 -- ---- totals
@@ -81,7 +81,7 @@ module _ (f : ℕ → ℕ → ℤ) where
       ap (λ s. around f t +ℤ s) (total_full_faces ts fs (omega (arith, p)))
 
   -- an edge between two ends has the value of these ends in both directions
-  pub either_way : {D U : Type 0} (x : FullEdge D U) (p : Ends) → IsBetween x p
+  pub either_way : {D U : Type 0} (x : FullEdge D U) (p : Ends) → Connects x p
       → both_ways f (edge_ends x) ≡ both_ways f p
   either_way x p (inl q) = λ i. f (q.0 i) (q.1 i) +ℤ f (q.1 i) (q.0 i)
   either_way x p (inr q) = (λ i. f (q.0 i) (q.1 i) +ℤ f (q.1 i) (q.0 i)) ∙ omega (arith, ints)
@@ -94,7 +94,7 @@ module _ (f : ℕ → ℕ → ℤ) where
   any_corner x t (inr (inr q)) = ap (around f) q ∙ omega (arith, ints)
 
   total_lost_edges : {D U : Type 0} (xs : List (FullEdge D U)) (ps : List Ends)
-      → AllZip IsBetween xs ps → total (λ x. both_ways f (edge_ends x)) xs ≡ total (both_ways f) ps
+      → AllZip Connects xs ps → total (λ x. both_ways f (edge_ends x)) xs ≡ total (both_ways f) ps
   total_lost_edges [] [] z = refl
   total_lost_edges [] (p ∷ ps) z = absurd z
   total_lost_edges (x ∷ xs) [] z = absurd z

@@ -20,7 +20,7 @@ use Rattle.half_edge_links.proofs.Removing.StripLemmas.{strip_from, strip_ends, 
 use Rattle.half_edge_links.proofs.Removing.StripLemmas.{removable_strip}
 use Rattle.half_edge_dcel.specs.Contents.{Contents, IsMeshWithData, KeepsVertices}
 use Rattle.half_edge_dcel.specs.Growth.{joins}
-use Rattle.half_edge_dcel.specs.Removal.{IsBetween, HasCorners, LosesEdges, LosesFaces, LosesStrip}
+use Rattle.half_edge_dcel.specs.Removal.{Connects, HasCorners, LosesEdges, LosesFaces, LosesStrip}
 use Rattle.half_edge_dcel.specs.Removal.{OuterChanges, full_edges, full_faces, full_faces_of}
 use Rattle.half_edge_dcel.specs.Removal.{spokes_to, faces_between, chain}
 use Rattle.half_edge_dcel.proofs.LineSteps.{alone_after}
@@ -96,7 +96,7 @@ stripped_none c h count f = record {
   strip = f;
   start = refl;
   ends_at = λ i less. ap (neighbour c.mesh h) (let e : i ≡ 0 + i = omega arith in e);
-  edges = none_gone IsBetween (full_edges c);
+  edges = none_gone Connects (full_edges c);
   faces = none_gone HasCorners (full_faces c);
 }
 
@@ -143,7 +143,7 @@ module _ {V D U F : Type 0} (old c new : Contents V D U F) (first count h g gone
         start = after.0 ∙ f.start;
         ends_at = λ i less. after.1 i less ∙ f.ends_at (suc i) (omega (arith, less, j.1))
             ∙ ap n (let e : gone + suc i ≡ suc gone + i = omega arith in e);
-        edges = one_more_gone IsBetween (full_edges old) (full_edges c) (full_edges new) _
+        edges = one_more_gone Connects (full_edges old) (full_edges c) (full_edges new) _
             (joins v (n gone)) f.edges (rw spoke_is at edges);
         faces = one_more_gone HasCorners (full_faces old) (full_faces c) (full_faces new) _
             (record { first = v; second = n gone; third = n (suc gone) }) f.faces
@@ -206,7 +206,7 @@ module _ {V D U F : Type 0} (old c : Contents V D U F) (first count h gone : ℕ
       f.ends_at 0 (omega arith) ∙ ap n (let e : gone + 0 ≡ count = omega (arith, is) in e) in
       let spoke_is : joins (origin c.mesh h) (origin c.mesh (rev h)) ≡ joins v (n count) =
       λ i. joins (f.start i) (end_is i) in
-      let all = one_more_gone IsBetween (full_edges old) (full_edges c) (full_edges new) _
+      let all = one_more_gone Connects (full_edges old) (full_edges c) (full_edges new) _
       (joins v (n count)) (rw is at f.edges) (rw spoke_is at edges) in
       let fs_is : new.faces ≡ c.faces = ap (λ (x : Contents V D U F). x.faces) contents in
       let faces_are : full_faces new ≡ full_faces c =

@@ -15,7 +15,7 @@ use Rattle.half_edge_links.proofs.Removing.TakenLists.{ends_at, count_ends}
 use Rattle.half_edge_links.proofs.Sound.Triangles.{IsTriangle, triangle_at as loop_at}
 use Rattle.half_edge_dcel.specs.Growth.{joins}
 use Rattle.half_edge_dcel.specs.Removal.{TakesOut, TakesOutPair, FullEdge, full_edges_of, FullFace}
-use Rattle.half_edge_dcel.specs.Removal.{full_faces_of, IsBetween, HasCorners}
+use Rattle.half_edge_dcel.specs.Removal.{full_faces_of, Connects, HasCorners}
 use Rattle.half_edge_dcel.proofs.TakenOut.{takes_out, permuted, taken_item, full_edges_taken}
 use Rattle.half_edge_dcel.proofs.TakenOut.{get_or-full_edges, full_faces_taken, get_or-full_faces}
 
@@ -45,7 +45,7 @@ module _ {D U : Type 0} (m new : Mesh) (us us' : List U) (ds ds' : List D) (e : 
 
   -- it joins the ends of e
   pub between : (x : FullEdge D U) → x ≡ get_or (full_edges_of (ends m) us ds) k x
-      → IsBetween x (joins (origin m e) (origin m (rev e)))
+      → Connects x (joins (origin m e) (origin m (rev e)))
   between x is =
       let at = listed_ends x is in
       elim (cases_eq (e % 2) 0) [
@@ -74,7 +74,7 @@ module _ {D U : Type 0} (m new : Mesh) (us us' : List U) (ds ds' : List D) (e : 
   -- the edges with their data are the former ones but for one with the ends of e, in some order
   pub loses_edge : RemovesEnds m new e → TakesOut us us' k → TakesOutPair ds ds' k
       → (lost : List (FullEdge D U))
-      × AllZip IsBetween lost (joins (origin m e) (origin m (rev e)) ∷ [])
+      × AllZip Connects lost (joins (origin m e) (origin m (rev e)) ∷ [])
       × IsPermutation (full_edges_of (ends m) us ds) (lost ++ full_edges_of (ends new) us' ds')
   loses_edge r tu td =
       let x = taken_item (full_edges_of (ends m) us ds) (full_edges_of (ends new) us' ds') k

@@ -8,7 +8,7 @@ use Rattle.std.proofs.lemmas.Bool.Decides.{nat_tests}
 use Rattle.half_edge_links.specs.Outline.{Ends, along}
 use Rattle.half_edge_links.specs.Triangles.{Triangle}
 use Rattle.half_edge_dcel.specs.Growth.{joins}
-use Rattle.half_edge_dcel.specs.Removal.{FullEdge, FullFace, IsBetween, HasCorners, full_edges_of}
+use Rattle.half_edge_dcel.specs.Removal.{FullEdge, FullFace, Connects, HasCorners, full_edges_of}
 use Rattle.half_edge_dcel.specs.Removal.{full_faces_of}
 
 -- ---- tests
@@ -52,7 +52,7 @@ abbrev pub lacks_corner : {F : Type 0} → ℕ → FullFace F → Bool
 lacks_corner v f = not (has_corner v f)
 
 -- an edge touches vertex v if v is one of its ends, either first
-pub touches_it : {D U : Type 0} (v : ℕ) (e : FullEdge D U) (p : Ends) → IsBetween e p
+pub touches_it : {D U : Type 0} (v : ℕ) (e : FullEdge D U) (p : Ends) → Connects e p
     → (p.source ≡ v) ⊎ (p.target ≡ v) → touches v e ≡ true
 unfolding touches
 touches_it v e p (inl q) (inl a) = to_three v _ _ _ (inl (q.0 ∙ a))
@@ -61,7 +61,7 @@ touches_it v e p (inr q) (inl a) = to_three v _ _ _ (inr (inl (q.1 ∙ a)))
 touches_it v e p (inr q) (inr b) = to_three v _ _ _ (inl (q.0 ∙ b))
 
 -- an edge does not touch vertex v if v is none of its ends, either first
-pub touches_not : {D U : Type 0} (v : ℕ) (e : FullEdge D U) (p : Ends) → IsBetween e p
+pub touches_not : {D U : Type 0} (v : ℕ) (e : FullEdge D U) (p : Ends) → Connects e p
     → p.source ≢ v → p.target ≢ v → touches v e ≡ false
 unfolding touches
 touches_not v e p (inl q) a b = rw (q.0, q.1) (none_of_three v _ _ _ a b b)
@@ -140,7 +140,7 @@ full_faces-set (x ∷ ts) (f ∷ fs) (suc k) t d p within =
 
 -- the ends of an edge, in the order of its even directed edge
 pub along_between : {D U : Type 0} (e : FullEdge D U) (h a b : ℕ)
-    → IsBetween (with_other_ends e (along h a b)) (joins a b)
+    → Connects (with_other_ends e (along h a b)) (joins a b)
 unfolding with_other_ends
 along_between e h a b =
     elim (cases_eq (h % 2) 0) [

@@ -26,7 +26,7 @@ use Rattle.half_edge_links.specs.Flip.{Flips}
 use Rattle.half_edge_links.specs.Hull.{KeepsOneOutline}
 use Rattle.half_edge_dcel.specs.Contents.{Contents, IsMeshWithData}
 use Rattle.half_edge_dcel.specs.Growth.{joins}
-use Rattle.half_edge_dcel.specs.Removal.{FullEdge, FullFace, IsBetween, HasCorners, full_edges}
+use Rattle.half_edge_dcel.specs.Removal.{FullEdge, FullFace, Connects, HasCorners, full_edges}
 use Rattle.half_edge_dcel.specs.Removal.{full_edges_of, full_faces, full_faces_of, spokes_to}
 use Rattle.half_edge_dcel.proofs.TakenEdges.{listed_face, between, named_corners}
 use Rattle.half_edge_dcel.proofs.TakenOut.{length-full_edges, get_or-full_faces}
@@ -42,8 +42,8 @@ use Rattle.half_edge_dcel.proofs.Touching.{full_faces-set, along_between}
 use Rattle.half_edge_dcel.proofs.Hubs.{count_faces, no_face_of, hub_after, start_after, tip_after}
 use Rattle.half_edge_dcel.proofs.Hubs.{ends_after}
 
-other_way : {D U : Type 0} (e : FullEdge D U) (a b : ℕ) → IsBetween e (joins a b)
-    → IsBetween e (joins b a)
+other_way : {D U : Type 0} (e : FullEdge D U) (a b : ℕ) → Connects e (joins a b)
+    → Connects e (joins b a)
 other_way e a b (inl q) = inr q
 other_way e a b (inr q) = inl q
 
@@ -111,25 +111,25 @@ module _ {V D U F : Type 0} (c new : Contents V D U F) (o l v tip_end first_end 
   gone_is = (item_at (full_edges c) (e / 2) edge_in).1
 
   -- before the turn the edge joins the vertex and the second neighbour
-  pub gone_between : IsBetween gone_edge (joins v first_end)
+  pub gone_between : Connects gone_edge (joins v first_end)
   gone_between =
       let b = between m m c.undirected c.undirected c.directed c.directed e s
       whole.fits.directed_fit whole.fits.undirected_fit (at 1).0 gone_edge gone_is in
       let is : joins (origin m e) (origin m (rev e)) ≡ joins v first_end =
       λ i. joins ((at 1).1 i) (first_is i) in
-      subst (IsBetween gone_edge) is b
+      subst (Connects gone_edge) is b
 
   -- the edge after it was turned
   pub come_edge : FullEdge D U
   come_edge = with_other_ends gone_edge (along e (origin m (prev m e)) (origin m (prev m (rev e))))
 
   -- after the turn the edge joins the first neighbour and the third one
-  pub come_between : IsBetween come_edge (joins tip_end next_end)
+  pub come_between : Connects come_edge (joins tip_end next_end)
   unfolding come_edge
   come_between =
       let is : joins (origin m (prev m e)) (origin m (prev m (rev e))) ≡ joins next_end tip_end =
       λ i. joins (after i) (before i) in
-      other_way come_edge next_end tip_end (subst (IsBetween come_edge) is
+      other_way come_edge next_end tip_end (subst (Connects come_edge) is
       (along_between gone_edge e (origin m (prev m e)) (origin m (prev m (rev e)))))
 
   -- after the turn the edge has all data that it had before
@@ -342,7 +342,7 @@ same_outline m new o count = ap (outer_among new) count
 -- ---- several edges
 -- a vertex with k faces round it from edge o on has lost so many of its edges, from the second on,
 -- and their faces with the vertex; those that are left follow each other as before
-pub record IsTurned {V D U F : Type 0} (old c : Contents V D U F) (o k turned : ℕ) : Type 0 where
+pub record HasTurned {V D U F : Type 0} (old c : Contents V D U F) (o k turned : ℕ) : Type 0 where
   pub left : ℕ
   pub sum : turned + left ≡ k
   pub hub : IsHub c.mesh o left
@@ -354,12 +354,12 @@ pub record IsTurned {V D U F : Type 0} (old c : Contents V D U F) (o k turned : 
   pub outer : outline c.mesh ≡ outline old.mesh
   pub outline : KeepsOneOutline old.mesh c.mesh
   pub lost : List (FullEdge D U)
-  pub lost_are : AllZip IsBetween lost
+  pub lost_are : AllZip Connects lost
       (spokes_to (origin old.mesh o) (λ i. neighbour old.mesh o (suc i)) turned)
   pub touching : IsPermutation (filter (touches (origin old.mesh o)) (full_edges old))
       (lost ++ filter (touches (origin old.mesh o)) (full_edges c))
   pub made : List (FullEdge D U)
-  pub made_are : AllZip IsBetween made (fan_edges (neighbour old.mesh o) turned)
+  pub made_are : AllZip Connects made (fan_edges (neighbour old.mesh o) turned)
   pub missing : IsPermutation (filter (misses (origin old.mesh o)) (full_edges c))
       (made ++ filter (misses (origin old.mesh o)) (full_edges old))
   pub former : All (λ e. (f : FullEdge D U) × Contains lost f × HasDataOf e f) made
@@ -376,7 +376,7 @@ pub record IsTurned {V D U F : Type 0} (old c : Contents V D U F) (o k turned : 
 
 -- before the first step no edge is turned away from the vertex
 pub turned_none : {V D U F : Type 0} (c : Contents V D U F) (o k : ℕ) → IsHub c.mesh o k
-    → IsTurned c c o k 0
+    → HasTurned c c o k 0
 turned_none c o k w = record {
   left = k;
   sum = omega arith;
@@ -423,7 +423,7 @@ grows_by xs ys zs ws x p q = IsPermutation-trans _ _ _ p (IsPermutation-cons x _
 
 module _ {V D U F : Type 0} (old c : Contents V D U F) (o k turned : ℕ) (whole_old :
     IsMeshWithData old) (whole : IsMeshWithData c) (tip : HasFreeTip (neighbour old.mesh o) k)
-    (f : IsTurned old c o k turned) (more : turned + 3 < k) where
+    (f : HasTurned old c o k turned) (more : turned + 3 < k) where
   abbrev v : ℕ
   v = origin old.mesh o
 
@@ -498,7 +498,7 @@ module _ {V D U F : Type 0} (old c : Contents V D U F) (o k turned : ℕ) (whole
 
     -- for the next count of a loop
     pub turned_next : (next_turned : ℕ) → next_turned ≡ suc turned
-        → IsTurned old new o k next_turned
+        → HasTurned old new o k next_turned
     unfolding gone come come_f
     turned_next next_turned counted = rw counted (record {
       left = l;
@@ -565,7 +565,7 @@ module _ {V D U F : Type 0} (old c : Contents V D U F) (o k turned : ℕ) (whole
 
 -- ---- what the steps ask for
 module _ {V D U F : Type 0} (old c : Contents V D U F) (o k turned : ℕ)
-    (f : IsTurned old c o k turned) where
+    (f : HasTurned old c o k turned) where
   -- as long as at least three edges are left, the first one has an inner face
   pub turned_first : turned + 3 ≤ k → 0 < face c.mesh o
   turned_first more = f.hub.inner 0 (omega (arith, f.sum, more))

@@ -11,7 +11,7 @@ use Rattle.half_edge_links.specs.Round.{neighbour}
 use Rattle.half_edge_links.specs.Triangles.{Triangle}
 use Rattle.half_edge_dcel.specs.Contents.{Contents}
 use Rattle.half_edge_dcel.specs.Growth.{joins}
-use Rattle.half_edge_dcel.specs.Removal.{FullEdge, FullFace, IsBetween, HasCorners, OuterChanges}
+use Rattle.half_edge_dcel.specs.Removal.{FullEdge, FullFace, Connects, HasCorners, OuterChanges}
 use Rattle.half_edge_dcel.specs.Removal.{full_edges, full_faces, spokes_to, faces_between}
 use Rattle.half_edge_dcel.specs.Removal.{first_spoke}
 
@@ -68,9 +68,9 @@ pub record FillsWithFan {V D U F : Type 0} (old new : Contents V D U F) (v : ℕ
       { mesh = new.mesh; directed = new.directed; undirected = new.undirected; faces = new.faces }
   pub alone : IsAlone new.mesh v
   pub lost_edges : List (FullEdge D U)
-  pub lost_edges_are : AllZip IsBetween lost_edges (spokes_to v n k)
+  pub lost_edges_are : AllZip Connects lost_edges (spokes_to v n k)
   pub made_edges : List (FullEdge D U)
-  pub made_edges_are : AllZip IsBetween made_edges (fan_edges n (k - 3))
+  pub made_edges_are : AllZip Connects made_edges (fan_edges n (k - 3))
   pub former_edges :
       All (λ e. (f : FullEdge D U) × Contains lost_edges f × HasDataOf e f) made_edges
   pub other_edges : List (FullEdge D U)

@@ -73,8 +73,8 @@ abbrev pub full_faces : {V D U F : Type 0} → Contents V D U F → List (FullFa
 full_faces c = full_faces_of (triangles c.mesh) c.faces
 
 -- an edge with these ends, either first
-abbrev pub IsBetween : {D U : Type 0} → FullEdge D U → Ends → Type 0
-IsBetween e p = ((e.source ≡ p.source) × (e.target ≡ p.target))
+abbrev pub Connects : {D U : Type 0} → FullEdge D U → Ends → Type 0
+Connects e p = ((e.source ≡ p.source) × (e.target ≡ p.target))
     ⊎ ((e.source ≡ p.target) × (e.target ≡ p.source))
 
 -- a face with these corners in this order, from any of them on
@@ -86,7 +86,7 @@ HasCorners f t =
 -- the edges are the former ones but for some with these ends, in some order
 abbrev pub LosesEdges : {V D U F : Type 0} → Contents V D U F → Contents V D U F
     → List Ends → Type 0
-LosesEdges {V} {D} {U} {F} old new gone = (lost : List (FullEdge D U)) × AllZip IsBetween lost gone
+LosesEdges {V} {D} {U} {F} old new gone = (lost : List (FullEdge D U)) × AllZip Connects lost gone
     × IsPermutation (full_edges old) (lost ++ full_edges new)
 
 -- the inner faces are the former ones but for some with these corners, in some order
@@ -145,12 +145,12 @@ pub record DropsVertex {V D U F : Type 0} (old new : Contents V D U F) (v : ℕ)
 pub record JoinsNeighbours {V D U F : Type 0} (old new : Contents V D U F)
     (v u w : ℕ) : Type 0 where
   pub kept : FullEdge D U
-  pub kept_is : IsBetween kept (joins u v)
+  pub kept_is : Connects kept (joins u v)
   pub moved : FullEdge D U
   pub moved_is : ((kept.source ≡ u) × (moved ≡ record kept { source = u; target = w }))
       ⊎ ((kept.source ≡ v) × (moved ≡ record kept { source = w; target = u }))
   pub lost : FullEdge D U
-  pub lost_is : IsBetween lost (joins v w)
+  pub lost_is : Connects lost (joins v w)
   pub rest : List (FullEdge D U)
   pub was : IsPermutation (full_edges old) (lost ∷ kept ∷ rest)
   pub is : IsPermutation (full_edges new) (moved ∷ rest)
@@ -204,7 +204,7 @@ abbrev pub first_spoke : Mesh → List ℕ → ℕ
 first_spoke m sides = prev m (slice_index sides 0)
 
 -- these are the sides opposite a vertex on the hull, in their order round it
-pub record AreOpposite (m : Mesh) (edges : List ℕ) : Type 0 where
+pub record AreSidesOf (m : Mesh) (edges : List ℕ) : Type 0 where
   pub some : 0 < length edges
   pub within : slice_index edges 0 < length m.half_edges
   pub strip : IsStrip m (first_spoke m edges) (length edges)

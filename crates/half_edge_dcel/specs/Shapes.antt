@@ -9,7 +9,7 @@ use Rattle.half_edge_links.specs.Insert.{inserted}
 use Rattle.half_edge_links.specs.Mesh.{Mesh, with_vertex, connected, origin, next, rev}
 use Rattle.half_edge_links.specs.Outline.{AddsTriangle, ReplacesOuter, ClosesOuter}
 use Rattle.half_edge_links.specs.Outline.{HalfSplitsTriangles, KeepsOuter}
-use Rattle.half_edge_links.specs.Outline.{OuterChanges, IsEdge, ExtendsOuter, SplitsOuter}
+use Rattle.half_edge_links.specs.Outline.{OuterChanges, IsThis, ExtendsOuter, SplitsOuter}
 use Rattle.half_edge_links.specs.Triangles.{triangles, InsertsTriangles, SplitsTriangles}
 
 -- vertex v is put into the face on the left of edge e
@@ -52,7 +52,7 @@ pub record SplitsBesideOuter (old new : Mesh) (n v e : ℕ) : Type 0 where
 pub record JoinsFirst (old new : Mesh) (a b : ℕ) : Type 0 where
   pub mesh : new ≡ connected old a b
   pub triangles : triangles new ≡ []
-  pub outer : OuterChanges old new (λ h. ⊥) (λ h u w. IsEdge 0 a b h u w ⊎ IsEdge 1 b a h u w)
+  pub outer : OuterChanges old new (λ h. ⊥) (λ h u w. IsThis 0 a b h u w ⊎ IsThis 1 b a h u w)
   pub outline : HasOneOutline new
 
 -- vertex u of a line is joined to vertex v, in a mesh of n directed edges

@@ -10,7 +10,7 @@ ghost use Rattle.half_edge_links.specs.Triangles.{FlipsTriangles};
 ghost use Rattle.half_edge_dcel.specs.Contents.{IsMeshWithData};
 ghost use Rattle.half_edge_dcel.specs.Hole.{CanTurnAway, FillsWithFan, HasFreeTip, IsBorder};
 ghost use Rattle.half_edge_dcel.specs.Hole.{IsHub};
-ghost use Rattle.half_edge_dcel.specs.Removal.{AreOpposite, FillsHole, LosesStrip, first_spoke};
+ghost use Rattle.half_edge_dcel.specs.Removal.{AreSidesOf, FillsHole, LosesStrip, first_spoke};
 
 use crate::dcel::Dcel;
 use half_edge_handles::{FixedDirectedEdgeHandle, FixedVertexHandle};
@@ -64,7 +64,7 @@ impl<V, DE, UE, F> Dcel<V, DE, UE, F> {
         DE: Drop,
         UE: Drop,
         F: Drop,
-        requires { AreOpposite self.old.mesh edges.now }
+        requires { AreSidesOf self.old.mesh edges.now }
 
         ensures vertex { result.vertex ≡ origin self.old.mesh
             (first_spoke self.old.mesh edges.now) }

@@ -23,8 +23,8 @@ unfoldable pub with_origin : List HalfEdge → ℕ → ℕ → List HalfEdge
 with_origin hs h o = slice_set hs h (record (edge_at hs h) { origin = o })
 
 -- an edge with the outer face on its left
-abbrev pub IsOuter : Mesh → ℕ → Type 0
-IsOuter m h = (h < length m.half_edges) × (face m h ≡ 0)
+abbrev pub OnOuter : Mesh → ℕ → Type 0
+OnOuter m h = (h < length m.half_edges) × (face m h ≡ 0)
 
 -- directed edges with an edge to vertex v and back, put after edge x, whose next one is y
 unfoldable pub hung_edges : List HalfEdge → ℕ → ℕ → ℕ → ℕ → List HalfEdge

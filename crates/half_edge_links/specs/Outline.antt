@@ -51,33 +51,33 @@ pub record KeepsOuter (old new : Mesh) : Type 0 where
   pub only : (h a b : ℕ) → IsOuterEdge new h a b → IsOuterEdge old h a b
 
 -- this one directed edge
-abbrev pub IsEdge : ℕ → ℕ → ℕ → ℕ → ℕ → ℕ → Type 0
-IsEdge i p q h a b = (h ≡ i) × (a ≡ p) × (b ≡ q)
+abbrev pub IsThis : ℕ → ℕ → ℕ → ℕ → ℕ → ℕ → Type 0
+IsThis i p q h a b = (h ≡ i) × (a ≡ p) × (b ≡ q)
 
 -- an edge from the end of x to vertex v and back is made
 abbrev pub HangsOuter : Mesh → Mesh → ℕ → ℕ → ℕ → Type 0
 HangsOuter old new x v n =
-    OuterChanges old new (λ h. ⊥) (λ h a b. IsEdge n (origin old (rev x)) v h a b
-    ⊎ IsEdge (n + 1) v (origin old (rev x)) h a b)
+    OuterChanges old new (λ h. ⊥) (λ h a b. IsThis n (origin old (rev x)) v h a b
+    ⊎ IsThis (n + 1) v (origin old (rev x)) h a b)
 
 -- e and the next edge give way to one from the start of e to the end of the next edge
 abbrev pub ClosesOuter : Mesh → Mesh → ℕ → ℕ → Type 0
 ClosesOuter old new e n =
     OuterChanges old new (λ h. (h ≡ e) ⊎ (h ≡ next old e))
-    (λ h a b. IsEdge (n + 1) (origin old e) (origin old (rev (next old e))) h a b)
+    (λ h a b. IsThis (n + 1) (origin old e) (origin old (rev (next old e))) h a b)
 
 -- e gives way to an edge from its start to v and one from v to its end
 abbrev pub ReplacesOuter : Mesh → Mesh → ℕ → ℕ → ℕ → ℕ → Type 0
 ReplacesOuter old new e v first last =
     OuterChanges old new (λ h. h ≡ e)
-    (λ h a b. IsEdge first (origin old e) v h a b ⊎ IsEdge last v (origin old (rev e)) h a b)
+    (λ h a b. IsThis first (origin old e) v h a b ⊎ IsThis last v (origin old (rev e)) h a b)
 
 -- both sides of e, from u to w, give way to the two sides of edges from u to v and from v to w
 abbrev pub SplitsOuter : Mesh → Mesh → ℕ → ℕ → ℕ → Type 0
 SplitsOuter old new e v n =
     OuterChanges old new (λ h. (h ≡ e) ⊎ (h ≡ rev e))
-    (λ h a b. (IsEdge e (origin old e) v h a b ⊎ IsEdge (n + 1) v (origin old (rev e)) h a b)
-    ⊎ (IsEdge n (origin old (rev e)) v h a b ⊎ IsEdge (rev e) v (origin old e) h a b))
+    (λ h a b. (IsThis e (origin old e) v h a b ⊎ IsThis (n + 1) v (origin old (rev e)) h a b)
+    ⊎ (IsThis n (origin old (rev e)) v h a b ⊎ IsThis (rev e) v (origin old e) h a b))
 
 -- a face with corners a, b and c is added
 abbrev pub AddsTriangle : Mesh → Mesh → ℕ → ℕ → ℕ → Type 0
@@ -128,7 +128,7 @@ HalfSplitsEnds old new e v =
 -- an edge from vertex u to vertex v and back is made
 abbrev pub ExtendsOuter : Mesh → Mesh → ℕ → ℕ → ℕ → Type 0
 ExtendsOuter old new u v n =
-    OuterChanges old new (λ h. ⊥) (λ h a b. IsEdge n u v h a b ⊎ IsEdge (n + 1) v u h a b)
+    OuterChanges old new (λ h. ⊥) (λ h a b. IsThis n u v h a b ⊎ IsThis (n + 1) v u h a b)
 
 -- edge e joins v and the corner on its right, and v is joined to the corners of the face on its
 -- left

@@ -2,7 +2,7 @@
 ghost use Rattle.std.specs.Prelude.{◌≡◌, ◌+◌, ◌-◌, length, Some, [], ◌∷◌};
 ghost use Rattle.half_edge_links.specs.Mesh.{IsAlone, AreSoundLinks};
 ghost use Rattle.half_edge_links.specs.Room.{HasEdgeRoom};
-ghost use Rattle.half_edge_links.specs.Grow.{hung, closed, IsOuter, IsClosable};
+ghost use Rattle.half_edge_links.specs.Grow.{hung, closed, OnOuter, IsClosable};
 ghost use Rattle.half_edge_links.specs.Grow.{with_face_beside, IsHalfSplittable, half_split};
 ghost use Rattle.half_edge_links.specs.Grown.{HasEdgeAndFaceRoom, HangsEdge, ClosesCorner};
 ghost use Rattle.half_edge_links.specs.Grown.{AddsFaceBeside, SplitsHalfEdge};
@@ -15,7 +15,7 @@ impl<V> Links<V> {
     /// Puts an edge from the end of outer edge `x` to vertex `v` into the outer loop, after `x`.
     #[tactic(auto, using(crate::proofs::Stored::Shown::shown_reads))]
     pub fn hang(&mut self, x: u32, v: u32)
-        requires outer { IsOuter self.old.mesh x }
+        requires outer { OnOuter self.old.mesh x }
         requires alone { IsAlone self.old.mesh v }
         requires edge_room { HasEdgeRoom self.old.mesh self.old.room 2 }
         ensures mesh { self.new.mesh ≡ hung self.old.mesh x v }
@@ -49,7 +49,7 @@ impl<V> Links<V> {
 
     /// Makes a face of outer edge `e` and vertex `v`, with two new outer edges.
     pub fn add_face_beside(&mut self, e: u32, v: u32)
-        requires outer { IsOuter self.old.mesh e }
+        requires outer { OnOuter self.old.mesh e }
         requires alone { IsAlone self.old.mesh v }
         requires room { HasEdgeAndFaceRoom self.old.mesh self.old.room 4 1 }
         ensures mesh { self.new.mesh ≡ with_face_beside self.old.mesh e v }

@@ -49,7 +49,7 @@ fn edge_named(number: u32) -> Option<u32>
 
 // The number by which a vertex names `edge`.
 #[tactic(auto, unfolding(crate::specs::VertexList::named_by))]
-fn number_of(edge: Option<u32>) -> u32
+fn naming_number(edge: Option<u32>) -> u32
     requires { IsNameable edge }
     ensures { named_by result ≡ edge }
 {
@@ -112,7 +112,7 @@ impl<V> VertexList<V> {
           out_edges = slice_set self.old.out_edges v edge;
         } }
     {
-        self.records[v as usize].out_edge = number_of(edge);
+        self.records[v as usize].out_edge = naming_number(edge);
     }
 
     // The data of vertex `v`.

@@ -9,8 +9,8 @@ abbrev pub positions : {S : Type 0} → (S → ℤ) → Layer S → List Point
 positions number layer = map (place_of number) layer.triangulation.vertices
 
 -- p is the position of one of them
-abbrev pub IsAt : {S : Type 0} → (S → ℤ) → Layer S → Point → Type 0
-IsAt number layer p = Contains (positions number layer) p
+abbrev pub IsPositionOf : {S : Type 0} → (S → ℤ) → Layer S → Point → Type 0
+IsPositionOf number layer p = Contains (positions number layer) p
 
 -- p is one of the positions of some layer
 pub record IsInSome {L : Type 0} (positions_of : L → List Point) (layers : List L)

@@ -2,7 +2,7 @@
 ghost use Rattle.std.specs.Prelude.{◌≡◌, ◌⊎◌, [], All, IfOk, IsTrue};
 ghost use Rattle.plane.specs.Hint.{IsAtMost, IsAtMostWith};
 ghost use Rattle.delaunay_core.specs.Place.{place_of};
-ghost use Rattle.hint_hierarchy.specs.Layers.{IsAt, positions};
+ghost use Rattle.hint_hierarchy.specs.Layers.{IsPositionOf, positions};
 
 use crate::stars::Stars;
 use delaunay_core::HintGenerator;
@@ -45,7 +45,7 @@ impl<S: SpadeNum> Layer<S> {
     ) -> bool
         requires sites { All (P.sites tests.now) (positions S.whole self.old) }
         requires site { P.sites tests.now (place_of S.whole position) }
-        ensures { IsAtMostWith (IsAt S.whole self.old) (IsAt S.whole self.new)
+        ensures { IsAtMostWith (IsPositionOf S.whole self.old) (IsPositionOf S.whole self.new)
             (place_of S.whole position) }
     {
         let Ok(vertex) = self.triangulation.insert(position, tests) else {
@@ -76,7 +76,7 @@ impl<S: SpadeNum> Layer<S> {
     // Removes a vertex; whether there was one, and memory for it.
     pub(crate) fn remove<P: PlaneTests<S>>(&mut self, index: u32, tests: &P) -> bool
         requires { All (P.sites tests.now) (positions S.whole self.old) }
-        ensures { IsAtMost (IsAt S.whole self.old) (IsAt S.whole self.new) }
+        ensures { IsAtMost (IsPositionOf S.whole self.old) (IsPositionOf S.whole self.new) }
     {
         if index as usize >= self.triangulation.num_vertices() {
             return false;
@@ -120,14 +120,14 @@ impl<S: SpadeNum> Layer<S> {
     pub(crate) fn is_vacant<P: PlaneTests<S>>(&self, position: Point2<S>, tests: &P) -> bool
         requires sites { All (P.sites tests.now) (positions S.whole self.now) }
         requires covered { P.covered tests.now (place_of S.whole position) }
-        ensures { IsTrue result → ¬ IsAt S.whole self.now (place_of S.whole position) }
+        ensures { IsTrue result → ¬ IsPositionOf S.whole self.now (place_of S.whole position) }
     {
         self.triangulation.locate_vertex(position, tests).is_none()
     }
 
     // The position of the first vertex, or another where there is none.
     pub(crate) fn first_position(&self, other: Point2<S>) -> Point2<S>
-        ensures { IsAt S.whole self.now (place_of S.whole result) ⊎ (result ≡ other) }
+        ensures { IsPositionOf S.whole self.now (place_of S.whole result) ⊎ (result ≡ other) }
     {
         match self
             .triangulation

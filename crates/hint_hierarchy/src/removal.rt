@@ -3,7 +3,7 @@ ghost use Rattle.std.specs.Prelude.{◌≡◌, All, Some};
 ghost use Rattle.plane.specs.Fraction.{Point};
 ghost use Rattle.plane.specs.Hint.{IsAtMost};
 ghost use Rattle.delaunay_core.specs.Held.{place_if};
-ghost use Rattle.hint_hierarchy.specs.Layers.{IsAt, IsAtMostOr, IsHeld, positions};
+ghost use Rattle.hint_hierarchy.specs.Layers.{IsPositionOf, IsAtMostOr, IsHeld, positions};
 
 use crate::hierarchy::HierarchyHintGeneratorWithBranchFactor;
 use crate::layer::Layer;
@@ -24,7 +24,7 @@ fn remove_from_layer<S: SpadeNum, P: PlaneTests<S>>(
     requires sites { All (P.sites tests.now) (positions S.whole layer.old) }
     requires swapped_site { (p : Point) → place_if S.whole swapped_in ≡ Some p →
         P.sites tests.now p }
-    ensures { IsAtMostOr (IsAt S.whole layer.old) (IsAt S.whole layer.new)
+    ensures { IsAtMostOr (IsPositionOf S.whole layer.old) (IsPositionOf S.whole layer.new)
         (place_if S.whole swapped_in) }
 {
     match (removed, last, swapped_in) {

@@ -12,7 +12,7 @@ use std::alloc::{AllocError, Global};
 pub type Site = ConstrainedDelaunayTriangulation<Point2<i32>>;
 
 /// Gives layer 0 to a face and to all that are reached from it past no constraint.
-fn flood(site: &Site, start: usize, layers: &mut [u32], alloc: Global) -> Result<(), AllocError> {
+fn hollow(site: &Site, start: usize, layers: &mut [u32], alloc: Global) -> Result<(), AllocError> {
     let mut reached = Vec::new(alloc);
     reached.push(start)?;
     for _ in 0..u64::MAX {
@@ -53,15 +53,15 @@ pub fn empty_holes(
         }
         match site.locate(*hole, &ExactTests) {
             PositionInTriangulation::OnFace(face) => {
-                flood(site, face.index() as usize, layers, alloc)?;
+                hollow(site, face.index() as usize, layers, alloc)?;
             }
             PositionInTriangulation::OnEdge(edge) => {
                 let edge = site.directed_edge(edge);
                 if edge.as_undirected().data().is_constraint_edge() {
                     bail!("line {line}: the hole's point is on a segment");
                 }
-                flood(site, edge.face().fix().index() as usize, layers, alloc)?;
-                flood(
+                hollow(site, edge.face().fix().index() as usize, layers, alloc)?;
+                hollow(
                     site,
                     edge.rev().face().fix().index() as usize,
                     layers,

@@ -55,7 +55,7 @@ fn read(rt: &HostRuntime, task: &Task<'_>) -> anyhow::Result<Drawing> {
 }
 
 /// Does what a task asks for.
-fn run(rt: &HostRuntime, task: &Task<'_>) -> anyhow::Result<()> {
+fn carry_out(rt: &HostRuntime, task: &Task<'_>) -> anyhow::Result<()> {
     let mut drawing = read(rt, task)?;
     if let Some(names) = drawing.left_out() {
         if !task.is_quiet {
@@ -81,7 +81,7 @@ fn main(rt: HostRuntime) -> anyhow::Result<ExitCode> {
         }
     };
     let task = task_of(&matches);
-    match run(&rt, &task) {
+    match carry_out(&rt, &task) {
         Ok(()) => Ok(ExitCode::SUCCESS),
         Err(error) => {
             eprintln!(&rt; "mesh: {error:#}")?;

@@ -6,7 +6,7 @@ use Rattle.std.specs.Prelude.{slice_index}
 use Rattle.half_edge_mesh.specs.Mesh.{Mesh, origin, next, prev, face, AreSoundLinks}
 use Rattle.half_edge_mesh.specs.Peel.{turn, spoke, IsWheel, IsStrip}
 use Rattle.half_edge_mesh.specs.Hole.{IsBorder, IsHub}
-use Rattle.half_edge_mesh.specs.Removal.{AreOpposite, first_spoke}
+use Rattle.half_edge_mesh.specs.Removal.{AreSidesOf, first_spoke}
 
 -- the three sides round a vertex with three faces
 pub border_of_wheel : (m : Mesh) (v first : ℕ) → AreSoundLinks m → IsWheel m first → origin m first
@@ -41,7 +41,7 @@ border_of_wheel m v first s wheel starts = record {
 -- the sides along the faces of a vertex on the hull
 pub opposite_of_strip : (m : Mesh) (first k : ℕ) (edges : List ℕ) → AreSoundLinks m
     → IsStrip m first k → 0 < k → length edges ≡ k
-    → ((i : ℕ) → i < k → slice_index edges i ≡ next m (spoke m first i)) → AreOpposite m edges
+    → ((i : ℕ) → i < k → slice_index edges i ≡ next m (spoke m first i)) → AreSidesOf m edges
 opposite_of_strip m first k edges s strip some count sides = record {
   some = subst (λ n. 0 < n) (sym count) some;
   within = subst (λ h. h < length m.half_edges) (sym (sides 0 some))

@@ -13,7 +13,7 @@ use Rattle.plane.proofs.BracketIdentities.{bracket-outer}
 use Rattle.plane_tiling.specs.Local.{LineMesh}
 use Rattle.plane_tiling.proofs.Counting.{at}
 use Rattle.plane_tiling.proofs.Tiles.{point_at}
-use Rattle.plane_tiling.proofs.Line.{SignLine, IsNext, next_turned}
+use Rattle.plane_tiling.proofs.Line.{SignLine, Adjoin, next_turned}
 use Rattle.plane_tiling.proofs.LineMeshes.{line_by_signs}
 use Rattle.plane_tiling.proofs.LinePlaces as O
 use Rattle.plane_edits.specs.Removal.{LineMeshWithout}
@@ -118,16 +118,16 @@ module _ (n : ℕ) (p : ℕ → Point) (outer : List (ℕ × ℕ)) (m : SignLine
   ]
 
   -- ---- neighbours
-  turned : (i j : ℕ) → IsNext n p i j → IsNext n p j i
+  turned : (i j : ℕ) → Adjoin n p i j → Adjoin n p j i
   turned i j s = next_turned n p i j s
 
   -- one between two neighbours
-  rising : (i j k : ℕ) → IsNext n p i j → k < n → spot i <ℤ spot k → spot k <ℤ spot j → ⊥
+  rising : (i j k : ℕ) → Adjoin n p i j → k < n → spot i <ℤ spot k → spot k <ℤ spot j → ⊥
   unfolding spot level
   rising i j k s h x y = s.none_between k h
       (O.within_k n p outer m (whole (p a)) a b a_in b_in apart level i j k s.first s.second h x y)
 
-  no_three : (c : ℕ) → IsNext n p a b → IsNext n p b c → IsNext n p c a → ⊥
+  no_three : (c : ℕ) → Adjoin n p a b → Adjoin n p b c → Adjoin n p c a → ⊥
   no_three c ab bc ca = go (differ a b a_in b_in apart) (differ b c b_in bc.second bc.apart)
       (differ c a ca.first a_in ca.apart)
     where
@@ -141,7 +141,7 @@ module _ (n : ℕ) (p : ℕ → Point) (outer : List (ℕ × ℕ)) (m : SignLine
       go (inr x) (inr y) z = rising c a b ca b_in y x
 
   -- neighbours of v on one side of it are one
-  one_below : (v x y : ℕ) → IsNext n p v x → IsNext n p v y → spot x <ℤ spot v
+  one_below : (v x y : ℕ) → Adjoin n p v x → Adjoin n p v y → spot x <ℤ spot v
       → spot y <ℤ spot v → x ≢ y → ⊥
   one_below v x y f g h k d = elim (differ x y f.second g.second d) as (λ _. ⊥) [
     | inl l ↦ rising x v y (turned v x f) g.second l k
@@ -149,12 +149,12 @@ module _ (n : ℕ) (p : ℕ → Point) (outer : List (ℕ × ℕ)) (m : SignLine
   ]
 
   -- two neighbours of v above it are the same
-  pub one_above : (v x y : ℕ) → IsNext n p v x → IsNext n p v y → spot v <ℤ spot x
+  pub one_above : (v x y : ℕ) → Adjoin n p v x → Adjoin n p v y → spot v <ℤ spot x
       → spot v <ℤ spot y → x ≢ y → ⊥
   one_above v x y f g h k d = elim (differ x y f.second g.second d) as
       (λ _. ⊥) [ inl l ↦ rising v y x g f.second h l | inr l ↦ rising v x y f g.second k l ]
 
-  no_third : (c d : ℕ) → IsNext n p a b → IsNext n p a c → IsNext n p a d → b ≢ c
+  no_third : (c d : ℕ) → Adjoin n p a b → Adjoin n p a c → Adjoin n p a d → b ≢ c
       → c ≢ d → b ≢ d → ⊥
   no_third c d ab ac ad bc cd bd = go (differ a b a_in b_in apart)
       (differ a c a_in ac.second ac.apart) (differ a d a_in ad.second ad.apart)
@@ -169,7 +169,7 @@ module _ (n : ℕ) (p : ℕ → Point) (outer : List (ℕ × ℕ)) (m : SignLine
       go (inr x) (inl y) (inr z) = one_below a b d ab ad x z bd
 
   -- two neighbours with no further ones, the one below the other, and a third vertex
-  no_further : (low high x : ℕ) → IsNext n p low high
+  no_further : (low high x : ℕ) → Adjoin n p low high
       → ((j : ℕ) → Contains outer (low, j) → j ≡ high)
       → ((j : ℕ) → Contains outer (high, j) → j ≡ low) → x < n → x ≢ low → x ≢ high
       → spot low <ℤ spot high → ⊥
@@ -189,7 +189,7 @@ module _ (points : List Point) (outer : List (ℕ × ℕ)) (m : LineMesh points 
   signs : SignLine (length points) (point_at points) outer
   signs = line_by_signs points outer m
 
-  next_of : (i j : ℕ) → Contains outer (i, j) → IsNext (length points) (point_at points) i j
+  next_of : (i j : ℕ) → Contains outer (i, j) → Adjoin (length points) (point_at points) i j
   next_of i j c = (signs.neighbours i j).0 c
 
   -- a vertex without neighbours is the only one
@@ -248,5 +248,5 @@ module _ (points : List Point) (outer : List (ℕ × ℕ)) (m : LineMesh points 
     ]
   ]
     where
-      s : IsNext (length points) (point_at points) v u
+      s : Adjoin (length points) (point_at points) v u
       s = next_of v u edge

@@ -5,7 +5,7 @@ use Rattle.std.proofs.Common.{ℕ, List, length, refl, sym, ap, subst, arith}
 use mathlib.Core.Logic.{inl, inr, ◌≢◌}
 use Rattle.std.specs.Prelude.{Contains}
 use Rattle.half_edge_mesh.specs.Mesh.{Mesh, origin, face, rev, AreSoundLinks, HasApartEnds}
-use Rattle.half_edge_mesh.specs.Outline.{IsOuterEdge, OuterChanges, SplitsOuter, IsEdge}
+use Rattle.half_edge_mesh.specs.Outline.{IsOuterEdge, OuterChanges, SplitsOuter, IsThis}
 use Rattle.half_edge_links.proofs.Lists.Rev.{rev-rev, rev_within}
 use Rattle.plane.specs.Fraction.{Point, whole, WithinSegment}
 use Rattle.plane.specs.Pairs.{place, IsIndex}
@@ -40,16 +40,16 @@ listed_as xs a b i j p q c = subst (Contains xs) (λ t. (sym p t, sym q t)) c
 -- an edge from u to a new vertex v and back makes two outer pairs, and no other changes
 pub outer_joined : (old new : Mesh) (u v k l : ℕ) → IsOnce (outer_of old) → u ≢ v
     → ((h i j : ℕ) → IsOuterEdge old h i j → (i ≢ v) × (j ≢ v))
-    → OuterChanges old new (λ h. ⊥) (λ h i j. IsEdge k u v h i j ⊎ IsEdge l v u h i j)
+    → OuterChanges old new (λ h. ⊥) (λ h i j. IsThis k u v h i j ⊎ IsThis l v u h i j)
     → OuterChange (outer_of old) (outer_of new) [] ((u, v) ∷ (v, u) ∷ [])
 outer_joined old new u v k l once apart fresh c = changed_pairs old new (λ h. ⊥)
-    (λ h i j. IsEdge k u v h i j ⊎ IsEdge l v u h i j) [] ((u, v) ∷ (v, u) ∷ []) once c
+    (λ h i j. IsThis k u v h i j ⊎ IsThis l v u h i j) [] ((u, v) ∷ (v, u) ∷ []) once c
     (record {
       gone_listed = λ h i j o n. absurd n;
       gone_real = λ i j n. absurd (Contains-none (i, j) n);
       made_listed = made_listed;
       made_real = λ i j n. elim (two_pairs (i, j) (u, v) (v, u) n) as
-          (λ _. (h : ℕ) × (IsEdge k u v h i j ⊎ IsEdge l v u h i j)) [
+          (λ _. (h : ℕ) × (IsThis k u v h i j ⊎ IsThis l v u h i j)) [
             | inl p ↦
                 (k, inl (refl, sym (first_of (u, v) (i, j) p), sym (second_of (u, v) (i, j) p)))
             | inr p ↦
@@ -59,21 +59,21 @@ outer_joined old new u v k l once apart fresh c = changed_pairs old new (λ h. �
       made_fresh = made_fresh;
     })
   where
-    made_listed : (h i j : ℕ) → IsEdge k u v h i j ⊎ IsEdge l v u h i j
+    made_listed : (h i j : ℕ) → IsThis k u v h i j ⊎ IsThis l v u h i j
         → Contains {X = ℕ × ℕ} ((u, v) ∷ (v, u) ∷ []) (i, j)
     made_listed h i j (inl x) =
         listed_as ((u, v) ∷ (v, u) ∷ []) u v i j x.1 x.2 (Contains-head (u, v) ((v, u) ∷ []))
     made_listed h i j (inr x) = listed_as ((u, v) ∷ (v, u) ∷ []) v u i j x.1 x.2
         (Contains-later (u, v) ((v, u) ∷ []) (v, u) (Contains-head (v, u) []))
 
-    made_once : (h g i j : ℕ) → IsEdge k u v h i j ⊎ IsEdge l v u h i j
-        → IsEdge k u v g i j ⊎ IsEdge l v u g i j → h ≡ g
+    made_once : (h g i j : ℕ) → IsThis k u v h i j ⊎ IsThis l v u h i j
+        → IsThis k u v g i j ⊎ IsThis l v u g i j → h ≡ g
     made_once h g i j (inl x) (inl y) = x.0 ∙ sym y.0
     made_once h g i j (inl x) (inr y) = absurd (apart (sym x.1 ∙ y.1))
     made_once h g i j (inr x) (inl y) = absurd (apart (sym y.1 ∙ x.1))
     made_once h g i j (inr x) (inr y) = x.0 ∙ sym y.0
 
-    made_fresh : (h g i j : ℕ) → IsEdge k u v h i j ⊎ IsEdge l v u h i j → ¬ IsOuterEdge old g i j
+    made_fresh : (h g i j : ℕ) → IsThis k u v h i j ⊎ IsThis l v u h i j → ¬ IsOuterEdge old g i j
     made_fresh h g i j (inl x) o = (fresh g i j o).1 x.2
     made_fresh h g i j (inr x) o = (fresh g i j o).0 x.1
 
@@ -92,7 +92,7 @@ pub line_extended : (points : List Point) (q : Point) (old new : Mesh) (i k l : 
     → AreSoundLinks old → length points ≡ length old.out_edges → LineMesh points (outer_of old)
     → IsIndex points i → ((k : ℕ) → IsIndex points k → place points k ≢ whole q)
     → IsPast (alone points) i (whole q) → OuterChanges old new (λ h. ⊥)
-    (λ h a b. IsEdge k i (length points) h a b ⊎ IsEdge l (length points) i h a b)
+    (λ h a b. IsThis k i (length points) h a b ⊎ IsThis l (length points) i h a b)
     → LineMesh (points ++ q ∷ []) (outer_of new)
 line_extended points q old new i k l s count m here free past change =
     past_end points (outer_of old) (outer_of new) q i m here free past (outer_joined old new i
@@ -106,8 +106,8 @@ module _ (old new : Mesh) (e v n : ℕ) (s : AreSoundLinks old) (apart : HasApar
   Gone h = (h ≡ e) ⊎ (h ≡ rev e)
 
   abbrev Made : ℕ → ℕ → ℕ → Type 0
-  Made h i j = (IsEdge e (origin old e) v h i j ⊎ IsEdge (n + 1) v (origin old (rev e)) h i j)
-      ⊎ (IsEdge n (origin old (rev e)) v h i j ⊎ IsEdge (rev e) v (origin old e) h i j)
+  Made h i j = (IsThis e (origin old e) v h i j ⊎ IsThis (n + 1) v (origin old (rev e)) h i j)
+      ⊎ (IsThis n (origin old (rev e)) v h i j ⊎ IsThis (rev e) v (origin old e) h i j)
 
   abbrev gone : List (ℕ × ℕ)
   gone = (origin old e, origin old (rev e)) ∷ (origin old (rev e), origin old e) ∷ []

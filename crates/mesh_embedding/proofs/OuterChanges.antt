@@ -5,7 +5,7 @@ use mathlib.Core.Logic.{inl, inr, ◌≢◌}
 use Rattle.std.specs.Prelude.{Contains}
 use Rattle.half_edge_mesh.specs.Mesh.{Mesh, origin, next, face, rev, AreSoundLinks, IsSoundEdge}
 use Rattle.half_edge_mesh.specs.Outline.{IsOuterEdge, KeepsOuter, ReplacesOuter, ClosesOuter}
-use Rattle.half_edge_mesh.specs.Outline.{IsEdge}
+use Rattle.half_edge_mesh.specs.Outline.{IsThis}
 use Rattle.half_edge_links.proofs.Lists.Rev.{rev_within}
 use Rattle.plane_tiling.proofs.Totals.{Contains-head, Contains-later, Contains-none, Contains-cases}
 use Rattle.plane_edits.specs.Change.{OuterChange}
@@ -60,7 +60,7 @@ pub outer_replaced : (old new : Mesh) (e v first last : ℕ) → AreSoundLinks o
     → ReplacesOuter old new e v first last → OuterChange (outer_of old) (outer_of new)
     ((origin old e, origin old (rev e)) ∷ []) ((origin old e, v) ∷ (v, origin old (rev e)) ∷ [])
 outer_replaced old new e v first last s once l o is_new c =
-    changed_pairs old new (λ h. h ≡ e) (λ h i j. IsEdge first a v h i j ⊎ IsEdge last v b h i j)
+    changed_pairs old new (λ h. h ≡ e) (λ h i j. IsThis first a v h i j ⊎ IsThis last v b h i j)
     ((a, b) ∷ []) ((a, v) ∷ (v, b) ∷ []) once c
     (record {
       gone_listed = λ h i j x p. subst (Contains {X = ℕ × ℕ} ((a, b) ∷ []))
@@ -71,7 +71,7 @@ outer_replaced old new e v first last s once l o is_new c =
       gone_real = λ i j k. (e, refl, own_pair old e i j l o (one_pair (i, j) (a, b) k));
       made_listed = made_listed;
       made_real = λ i j k. elim (two_pairs (i, j) (a, v) (v, b) k) as
-          (λ _. (h : ℕ) × (IsEdge first a v h i j ⊎ IsEdge last v b h i j)) [
+          (λ _. (h : ℕ) × (IsThis first a v h i j ⊎ IsThis last v b h i j)) [
             | inl p ↦ (
               first,
               inl (refl, sym (ap (λ (x : ℕ × ℕ). x.0) p), sym (ap (λ (x : ℕ × ℕ). x.1) p)),
@@ -92,7 +92,7 @@ outer_replaced old new e v first last s once l o is_new c =
     fresh : (h : ℕ) → h < length old.half_edges → origin old h ≢ v
     fresh h k p = let q = (s.edges h k).origin_in in omega arith
 
-    made_listed : (h i j : ℕ) → IsEdge first a v h i j ⊎ IsEdge last v b h i j
+    made_listed : (h i j : ℕ) → IsThis first a v h i j ⊎ IsThis last v b h i j
         → Contains {X = ℕ × ℕ} ((a, v) ∷ (v, b) ∷ []) (i, j)
     made_listed h i j (inl x) = subst (Contains {X = ℕ × ℕ} ((a, v) ∷ (v, b) ∷ []))
         (λ t. (sym x.1 t, sym x.2 t)) (Contains-head (a, v) ((v, b) ∷ []))
@@ -100,14 +100,14 @@ outer_replaced old new e v first last s once l o is_new c =
         subst (Contains {X = ℕ × ℕ} ((a, v) ∷ (v, b) ∷ [])) (λ t. (sym x.1 t, sym x.2 t))
         (Contains-later (a, v) ((v, b) ∷ []) (v, b) (Contains-head (v, b) []))
 
-    made_once : (h g i j : ℕ) → IsEdge first a v h i j ⊎ IsEdge last v b h i j
-        → IsEdge first a v g i j ⊎ IsEdge last v b g i j → h ≡ g
+    made_once : (h g i j : ℕ) → IsThis first a v h i j ⊎ IsThis last v b h i j
+        → IsThis first a v g i j ⊎ IsThis last v b g i j → h ≡ g
     made_once h g i j (inl x) (inl y) = x.0 ∙ sym y.0
     made_once h g i j (inl x) (inr y) = absurd (fresh e l (sym x.1 ∙ y.1))
     made_once h g i j (inr x) (inl y) = absurd (fresh e l (sym y.1 ∙ x.1))
     made_once h g i j (inr x) (inr y) = x.0 ∙ sym y.0
 
-    made_fresh : (h g i j : ℕ) → IsEdge first a v h i j ⊎ IsEdge last v b h i j
+    made_fresh : (h g i j : ℕ) → IsThis first a v h i j ⊎ IsThis last v b h i j
         → ¬ IsOuterEdge old g i j
     made_fresh h g i j (inl x) y =
         fresh (rev g) (rev_within g (length old.half_edges) s.even y.within) (y.target ∙ x.2)
@@ -122,7 +122,7 @@ pub outer_closed : (old new : Mesh) (e n : ℕ) → AreSoundLinks old → IsOnce
     ∷ (origin old (next old e), origin old (rev (next old e))) ∷ [])
     ((origin old e, origin old (rev (next old e))) ∷ [])
 outer_closed old new e n s once l o fresh c =
-    changed_pairs old new (λ h. (h ≡ e) ⊎ (h ≡ next old e)) (λ h i j. IsEdge (n + 1) a d h i j)
+    changed_pairs old new (λ h. (h ≡ e) ⊎ (h ≡ next old e)) (λ h i j. IsThis (n + 1) a d h i j)
     ((a, b) ∷ (b, d) ∷ []) ((a, d) ∷ []) once c
     (record {
       gone_listed = gone_listed;

@@ -14,7 +14,7 @@ use Rattle.plane.proofs.Signs.{less_if_not_same, less_both_ways}
 use Rattle.plane.proofs.IntegerOrder.{lt_or_ge_ℤ}
 use Rattle.plane_tiling.specs.Local.{LineMesh}
 use Rattle.plane_tiling.proofs.Tiles.{point_at}
-use Rattle.plane_tiling.proofs.Line.{SignLine, IsNext, next_turned}
+use Rattle.plane_tiling.proofs.Line.{SignLine, Adjoin, next_turned}
 use Rattle.plane_tiling.proofs.LineMeshes.{line_by_signs}
 use Rattle.mesh_embedding.specs.Drawn.{corners_of, faces_of, outer_of}
 use Rattle.mesh_embedding.proofs.LineNeighbours as N
@@ -41,7 +41,7 @@ module _ (points : List Point) (m : Mesh) (valid : IsValidMesh m) (bare : faces_
   signs : SignLine n p (outer_of m)
   signs = line_by_signs points (outer_of m) line
 
-  next_to : (h : ℕ) → IsOut m h → IsNext n p (origin m h) (end m h)
+  next_to : (h : ℕ) → IsOut m h → Adjoin n p (origin m h) (end m h)
   next_to h o = (signs.neighbours (origin m h) (end m h)).0 (out_pair m valid.sound h o)
 
   module _ (a b : ℕ) (a_in : a < n) (b_in : b < n) (apart : a ≢ b) where
@@ -52,7 +52,7 @@ module _ (points : List Point) (m : Mesh) (valid : IsValidMesh m) (bare : faces_
     unfolding height
     differ = N.own_spots n p (outer_of m) signs a b a_in b_in apart
 
-    one_up : (v x y : ℕ) → IsNext n p v x → IsNext n p v y → height v <ℤ height x
+    one_up : (v x y : ℕ) → Adjoin n p v x → Adjoin n p v y → height v <ℤ height x
         → height v <ℤ height y → x ≡ y
     unfolding height
     one_up v x y f g h k = elim (cases_eq x y) [
@@ -70,7 +70,7 @@ module _ (points : List Point) (m : Mesh) (valid : IsValidMesh m) (bare : faces_
       starts : origin m (rev h) ≡ end m h
       starts = sym (valid.sound.edges h o.0).starts
 
-      after : IsNext n p (end m h) (end m (next m h))
+      after : Adjoin n p (end m h) (end m (next m h))
       after = next_to (next m h) (next_out m valid.sound h o)
 
       back_to : end m (next m h) ≡ origin m h
@@ -128,7 +128,7 @@ module _ (points : List Point) (m : Mesh) (valid : IsValidMesh m) (bare : faces_
       turns = turns;
       one = λ h g o q x y.
           let starts = same_low height n differ (origin m h) (origin m g) x y in
-          let other = subst (λ v. IsNext n p v (end m g)) (sym starts) (next_to g q) in
+          let other = subst (λ v. Adjoin n p v (end m g)) (sym starts) (next_to g q) in
           let rises = subst (λ v. height v <ℤ height (end m g)) (sym starts) (goes_up g q y) in
           same_ends m valid.sound line.once h g o q starts
           (one_up (origin m h) (end m h) (end m g) (next_to h o) other (goes_up h o x) rises);

@@ -9,7 +9,7 @@ use Rattle.half_edge_mesh.specs.Flip.{IsFlippable, Flips, flipped}
 use Rattle.half_edge_mesh.specs.Peel.{turn, spoke, IsWheel, IsStrip}
 use Rattle.half_edge_mesh.specs.Round.{IsRound, neighbour}
 use Rattle.half_edge_links.proofs.Faces.FlipLemmas.{flips_is}
-use Rattle.half_edge_links.proofs.Faces.FlipSound.{IsAway, origin_kept}
+use Rattle.half_edge_links.proofs.Faces.FlipSound.{IsOffFlip, origin_kept}
 use Rattle.half_edge_links.proofs.Lists.Rev.{rev-rev}
 use Rattle.half_edge_links.proofs.Sound.Triangles as T
 use Rattle.mesh_embedding.proofs.MeshStays.{halved}
@@ -19,7 +19,7 @@ use Rattle.mesh_embedding.proofs.TurnedEnds.{KeepsOtherOrigins}
 -- turned
 pub record TurnsAway (m new : Mesh) (e : ℕ) : Type 0 where
   pub edge_count : length new.half_edges ≡ length m.half_edges
-  pub others : (h : ℕ) → IsAway m e h → edge_at new.half_edges h ≡ edge_at m.half_edges h
+  pub others : (h : ℕ) → IsOffFlip m e h → edge_at new.half_edges h ≡ edge_at m.half_edges h
   pub origins : KeepsOtherOrigins m new e
   pub turned : prev new (next m (rev e)) ≡ prev m e
   pub inner : face new (next m (rev e)) ≡ face m (rev e)
@@ -87,7 +87,7 @@ module _ (m new : Mesh) (valid : IsValidMesh m) (v first count : ℕ)
   prev_origin i q = neighbour_other (suc i) (ap (origin m) (rev-rev (prev m (at i))) ∙ q)
 
   -- the other edges of the vertex stay
-  beside_spoke : (j : ℕ) → 1 < j → j < count → IsAway m e (at j)
+  beside_spoke : (j : ℕ) → 1 < j → j < count → IsOffFlip m e (at j)
   beside_spoke j l h = record {
     edge = λ q. round.apart 1 j l h (sym q);
     twin = not_back (at j) 1 (round.starts j);
@@ -183,7 +183,7 @@ module _ (m new : Mesh) (valid : IsValidMesh m) (v first : ℕ) (round : IsRound
 module _ (m new : Mesh) (valid : IsValidMesh m) (v first : ℕ) (round : IsRound m v first 3)
     (strip : IsStrip m first 2) (turns : TurnsAway m new (turn m first)) where
   -- the outer edge to the vertex stays
-  beside_back : IsAway m (turn m first) (rev first)
+  beside_back : IsOffFlip m (turn m first) (rev first)
   beside_back =
       let one = T.triangle_at m first valid.sound (round.within 0) (strip.inner 0 (omega arith)) in
       let two = T.triangle_at m (turn m first) valid.sound (round.within 1)

@@ -54,7 +54,7 @@ impl<'a> Source<'a> {
 }
 
 /// Reads the part with the points, and gives the number of the first.
-fn read_points(source: &mut Source<'_>, drawing: &mut Drawing) -> Result<u32, FileFault> {
+fn read_point_part(source: &mut Source<'_>, drawing: &mut Drawing) -> Result<u32, FileFault> {
     let mut head = source.line("the number of points")?;
     let count = source.count(&mut head, "the number of points")?;
     if count == 0 {
@@ -86,7 +86,7 @@ fn read_points(source: &mut Source<'_>, drawing: &mut Drawing) -> Result<u32, Fi
 }
 
 /// The place of a point that is named by its number.
-fn point_named<'a>(
+fn numbered_point<'a>(
     source: &Source<'a>,
     words: &mut Words<'a>,
     first: u32,
@@ -101,7 +101,7 @@ fn point_named<'a>(
     }
 }
 
-fn read_segments(
+fn read_segment_part(
     source: &mut Source<'_>,
     drawing: &mut Drawing,
     first: u32,
@@ -111,8 +111,8 @@ fn read_segments(
     for _ in 0..count {
         let mut words = source.line("a segment")?;
         source.count(&mut words, "the segment's number")?;
-        let from = point_named(source, &mut words, first, drawing.spots.len())?;
-        let to = point_named(source, &mut words, first, drawing.spots.len())?;
+        let from = numbered_point(source, &mut words, first, drawing.spots.len())?;
+        let to = numbered_point(source, &mut words, first, drawing.spots.len())?;
         drawing.join(from, to, FilePlace::of_line(source.lines.line))?;
     }
     Ok(())
@@ -139,7 +139,7 @@ pub fn read_node<R: Read + Drop>(reader: R, alloc: Global) -> Result<Drawing, Fi
     let mut source = Source {
         lines: WordLines::new(text.as_slice()),
     };
-    read_points(&mut source, &mut drawing)?;
+    read_point_part(&mut source, &mut drawing)?;
     Ok(drawing)
 }
 
@@ -150,8 +150,8 @@ pub fn read_poly<R: Read + Drop>(reader: R, alloc: Global) -> Result<Drawing, Fi
     let mut source = Source {
         lines: WordLines::new(text.as_slice()),
     };
-    let first = read_points(&mut source, &mut drawing)?;
-    read_segments(&mut source, &mut drawing, first)?;
+    let first = read_point_part(&mut source, &mut drawing)?;
+    read_segment_part(&mut source, &mut drawing, first)?;
     read_holes(&mut source, &mut drawing)?;
     Ok(drawing)
 }

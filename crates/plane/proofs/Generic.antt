@@ -19,8 +19,8 @@ pub record Inside (a b c q : Vec3) : Type 0 where
   pub third : pos 0 <ℤ bracket c a q
 
 -- the first n differ
-abbrev pub AreDistinct : {X : Type 0} → ℕ → (ℕ → X) → Type 0
-AreDistinct n p = (i j : ℕ) → i < n → j < n → i ≢ j → ¬ (p i ≡ p j)
+abbrev pub AllDiffer : {X : Type 0} → ℕ → (ℕ → X) → Type 0
+AllDiffer n p = (i j : ℕ) → i < n → j < n → i ≢ j → ¬ (p i ≡ p j)
 
 -- of the first n, those that are the same have one index
 abbrev pub IsOneToOne : {X : Type 0} → ℕ → (ℕ → X) → Type 0
@@ -31,8 +31,8 @@ abbrev pub IsFresh : {X : Type 0} → ℕ → (ℕ → X) → Type 0
 IsFresh n p = (k : ℕ) → k < n → ¬ (p k ≡ p n)
 
 -- with it they still differ
-pub distinct_with_next : {X : Type 0} (n : ℕ) (p : ℕ → X) → AreDistinct n p → IsFresh n p
-    → AreDistinct (suc n) p
+pub distinct_with_next : {X : Type 0} (n : ℕ) (p : ℕ → X) → AllDiffer n p → IsFresh n p
+    → AllDiffer (suc n) p
 distinct_with_next n p old fresh i j h k a e = go (below_or_last n i h) (below_or_last n j k)
   where
     go : (i < n) ⊎ (i ≡ n) → (j < n) ⊎ (j ≡ n) → ⊥
@@ -42,8 +42,8 @@ distinct_with_next n p old fresh i j h k a e = go (below_or_last n i h) (below_o
     go (inr x) (inr y) = a (x ∙ sym y)
 
 -- the first n points are on the line of u and v
-abbrev pub AreOnLine : ℕ → (ℕ → Point) → Point → Point → Type 0
-AreOnLine n p u v = (k : ℕ) → k < n → bracket (lift u) (lift v) (lift (p k)) ≡ pos 0
+abbrev pub LieOnLine : ℕ → (ℕ → Point) → Point → Point → Type 0
+LieOnLine n p u v = (k : ℕ) → k < n → bracket (lift u) (lift v) (lift (p k)) ≡ pos 0
 
 -- q is on no line of two of the first n points
 pub record IsGeneric (n : ℕ) (p : ℕ → Point) (q : Vec3) : Type 0 where
@@ -113,7 +113,7 @@ module _ (n : ℕ) (p : ℕ → Point) where
         → bracket (lift (p s)) (lift (p t)) d ≤ℤ pos 0
 
   -- each left-turning triangle has a generic point inside
-  pub spot : AreDistinct n p → (a b c : ℕ) → a < n → b < n → c < n
+  pub spot : AllDiffer n p → (a b c : ℕ) → a < n → b < n → c < n
       → pos 0 <ℤ bracket (lift (p a)) (lift (p b)) (lift (p c)) → (d : Vec3) × IsSpot a b c d
   spot distinct a b c ia ib ic turns =
       let A = lift (p a) in

@@ -56,7 +56,7 @@ same_joined pairs i j u v (inr e) h =
 
 -- ---- triples
 -- a b c is the triple i j k, whichever of the three is named first
-abbrev pub IsTurned : (i j k a b c : ℕ) → Type 0
+abbrev pub IsTurned : ℕ → ℕ → ℕ → ℕ → ℕ → ℕ → Type 0
 IsTurned i j k a b c = ((a ≡ i) × (b ≡ j) × (c ≡ k))
     ⊎ (((a ≡ j) × (b ≡ k) × (c ≡ i)) ⊎ ((a ≡ k) × (b ≡ i) × (c ≡ j)))
 

@@ -99,14 +99,14 @@ WalkIsLineList = (t : Triangulation) → TilesHull t → (p q : Fraction) → ¬
     → (items : List Item) → IsWalk t p q items → IsLineList t p q items
 
 -- no two vertices are in one place
-abbrev pub AreApart : Triangulation → Type 0
-AreApart t = (i j : ℕ) → IsVertex t i → IsVertex t j → IsSame (vertex t i) (vertex t j) → i ≡ j
+abbrev pub ArePlacedOnce : Triangulation → Type 0
+ArePlacedOnce t = (i j : ℕ) → IsVertex t i → IsVertex t j → IsSame (vertex t i) (vertex t j) → i ≡ j
 
 -- where all vertices are on one line: the items have their order; a crossed edge is the last; after
 -- an overlap comes the vertex at its end, unless the segment ends before; and a walk gives the line
 -- list
 abbrev pub StepsOnOneLine : Type 0
-StepsOnOneLine = (t : Triangulation) → JoinsLine t → EdgesMeetAtVertices t → AreApart t
+StepsOnOneLine = (t : Triangulation) → JoinsLine t → EdgesMeetAtVertices t → ArePlacedOnce t
     → (p q : Fraction) → ¬ IsSame p q
     → ((m n : Item) → Meets t p q m → Meets t p q n
     → (m ≡ n) ⊎ (IsBefore t p q m n ⊎ IsBefore t p q n m))

@@ -12,11 +12,11 @@ use Rattle.plane_tiling.specs.Local.{IsMesh, AreEdgesOf}
 use Rattle.plane.specs.Location.{IsOuter, outside_hull, IsLocation}
 use Rattle.plane.specs.Line.{Item, Meets, IsLineList, at_vertex, across, along}
 use Rattle.plane_segments.specs.Steps.{ComesNext, IsLast, IsFirst, IsAhead, GoesOn, IsWalk}
-use Rattle.plane_segments.specs.LineLaws.{AreApart}
+use Rattle.plane_segments.specs.LineLaws.{ArePlacedOnce}
 
 -- the faces tile the hull, or all vertices are on one line
 abbrev pub IsLaid : Triangulation → Type 0
-IsLaid t = TilesHull t ⊎ (JoinsLine t × EdgesMeetAtVertices t × AreApart t)
+IsLaid t = TilesHull t ⊎ (JoinsLine t × EdgesMeetAtVertices t × ArePlacedOnce t)
 
 -- so is each mesh with its own edges
 abbrev pub MeshesAreLaid : Type 0
@@ -82,7 +82,7 @@ FirstFromOutside = (t : Triangulation) → TilesHull t → (p q : Fraction) → 
 -- where all vertices are on one line, at a vertex: nothing comes after it where the segment ends
 -- there, or no edge there points to its end; else the edge that does
 abbrev pub NextOnLine : Type 0
-NextOnLine = (t : Triangulation) → JoinsLine t → EdgesMeetAtVertices t → AreApart t
+NextOnLine = (t : Triangulation) → JoinsLine t → EdgesMeetAtVertices t → ArePlacedOnce t
     → (p q : Fraction) → ¬ IsSame p q →
     (v : ℕ) → Meets t p q (at_vertex v)
     → (IsSame (vertex t v) q → IsLast t p q (at_vertex v))
@@ -95,7 +95,7 @@ NextOnLine = (t : Triangulation) → JoinsLine t → EdgesMeetAtVertices t → A
 -- crossed (alone), or, where no edge carries the start, the nearest vertex on the segment; without
 -- these it meets nothing
 abbrev pub FirstOnLine : Type 0
-FirstOnLine = (t : Triangulation) → JoinsLine t → EdgesMeetAtVertices t → AreApart t
+FirstOnLine = (t : Triangulation) → JoinsLine t → EdgesMeetAtVertices t → ArePlacedOnce t
     → (p q : Fraction) → ¬ IsSame p q
     → ((v : ℕ) → IsVertex t v → IsSame p (vertex t v) → IsFirst t p q (at_vertex v))
     × ((a b : ℕ) → WithinSegment (vertex t a) (vertex t b) p → Meets t p q (along a b)
@@ -134,7 +134,7 @@ FirstFromEdge = (t : Triangulation) → IsLaid t → (p q : Fraction) → ¬ IsS
 
 -- where all vertices are on one line: outside, no vertex is at the point and no edge carries it
 abbrev pub OutsideIsOffLine : Type 0
-OutsideIsOffLine = (t : Triangulation) → JoinsLine t → EdgesMeetAtVertices t → AreApart t
+OutsideIsOffLine = (t : Triangulation) → JoinsLine t → EdgesMeetAtVertices t → ArePlacedOnce t
     → (p : Fraction) (i j : ℕ) →
     IsLocation t p (outside_hull i j)
     → ((k : ℕ) → IsVertex t k → ¬ IsSame p (vertex t k)) ×
@@ -143,7 +143,7 @@ OutsideIsOffLine = (t : Triangulation) → JoinsLine t → EdgesMeetAtVertices t
 -- and there too four sides tell whether an edge is crossed, and there is no edge with fewer than
 -- two vertices
 abbrev pub CrossingOnLine : Type 0
-CrossingOnLine = (t : Triangulation) → JoinsLine t → EdgesMeetAtVertices t → AreApart t
+CrossingOnLine = (t : Triangulation) → JoinsLine t → EdgesMeetAtVertices t → ArePlacedOnce t
     → ((p q : Fraction) → ¬ IsSame p q → (a b : ℕ) → IsEdge t a b
     → Meets t p q (across a b) ↔ ((side p q (vertex t a) ≡ left) × (side p q (vertex t b) ≡ right) ×
     (side (vertex t a) (vertex t b) p ≢ left) × (side (vertex t a) (vertex t b) q ≢ right)))

@@ -66,7 +66,8 @@ module _ (t : Triangulation) (h : TilesHull t) where
   below_enough : (g : Fraction) (i j k : ℕ) → IsFace t i j k
       → size (bracket (vertex t i) (vertex t j) g) < enough g
   below_enough g i j k f =
-      omega (arith, member-le-sum_by (side_size g) (i, j) (sides_of t.faces) (side_listed t h i j k f))
+      omega (arith, member-le-sum_by (side_size g) (i, j) (sides_of t.faces)
+      (side_listed t h i j k f))
 
   -- where a way to g begins: left of a side, or on it and not going to its right
   abbrev StartsAt : (x g u v : Fraction) → Type 0
@@ -288,7 +289,8 @@ module _ (t : Triangulation) (h : TilesHull t) where
         turn (inr s) = pick (inl s)
 
         go : HasFace t a b ⊎ HasFace t b a → Beside a b
-        go (inl f) = pick (at_side t h (Near z) (face_near z) (turned_near z) a b f.0 f.1 x m o.a o.b o.c
+        go (inl f) = pick (at_side t h (Near z) (face_near z) (turned_near z) a b f.0 f.1 x m
+            o.a o.b o.c
             (o.is_free, o.closed) closed_x)
         go (inr f) = turn (at_side t h (Near z) (face_near z) (turned_near z) b a f.0 f.1 x
             (between-swapped (vertex t a) (vertex t b) x m) o.a o.b o.c (o.is_free, o.closed)

@@ -130,7 +130,8 @@ module _ (t : Triangulation) (h : TilesHull t) where
       → pos 0 <ℤ bracket (vertex t a) (vertex t b) x
       → size (bracket (vertex t b) (vertex t c) x) < n
       → size (bracket (vertex t c) (vertex t a) x) < n
-      → Inside (vertex t a) (vertex t b) (vertex t c) (nudge n (halfway (vertex t a) (vertex t b)) x)
+      → Inside (vertex t a) (vertex t b) (vertex t c)
+      (nudge n (halfway (vertex t a) (vertex t b)) x)
   near_side a b c x n f left i j =
       let A = vertex t a in
       let B = vertex t b in

@@ -1,4 +1,5 @@
--- A face that a segment enters is free: an end is strictly inside, or a side of the face is crossed.
+-- A face that a segment enters is free: an end is strictly inside, or a side of the face is
+-- crossed.
 use Rattle.std.proofs.Common.{◌≡◌, ℕ, arith, ap, sym, ◌∙◌, subst}
 use mathlib.Core.Logic.{◌⊎◌, inl, inr}
 use Rattle.std.specs.Prelude.{◌≢◌, ℤ, pos, ◌<ℤ◌, ◌≤ℤ◌, ◌+ℤ◌, ◌*ℤ◌}

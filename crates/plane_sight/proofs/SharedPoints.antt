@@ -153,7 +153,8 @@ middle_within u v two x z hx hz near =
         each a b = omega (arith, ints)
 
     sum : reach u v (nudge 1 x z) ≡ reach u v x +ℤ reach u v z
-    sum = one (reach u v (nudge 1 x z)) (reach u v x) (reach u v z) (reach_of_two IsWhole u v x z (nudge 1 x z) weights)
+    sum = one (reach u v (nudge 1 x z)) (reach u v x) (reach u v z)
+        (reach_of_two IsWhole u v x z (nudge 1 x z) weights)
       where
         one : (s a b : ℤ) → pos 1 *ℤ s ≡ pos 1 *ℤ a +ℤ pos 1 *ℤ b → s ≡ a +ℤ b
         one s a b e = omega (arith, ints)

@@ -27,7 +27,7 @@ use Rattle.plane.proofs.Collinear.{place_on, place_of_start, place-moved, passin
 use Rattle.plane.proofs.Collinear.{same_by_places}
 use Rattle.plane.proofs.LineOrder.{overlap_by_average}
 use Rattle.plane.proofs.Means.{turned_mean_of_two}
-use Rattle.plane.proofs.Generic.{Inside, AreDistinct, IsOneToOne, IsGeneric, spot}
+use Rattle.plane.proofs.Generic.{Inside, AllDiffer, IsOneToOne, IsGeneric, spot}
 use Rattle.plane.proofs.Signs.{sum_not_positive, sum_of_zeros, negation_is_positive}
 
 -- the point of index i, in homogeneous form
@@ -45,7 +45,7 @@ ArePairsBelow n pairs = (e : ℕ × ℕ) → Contains pairs e → IsPairBelow n 
 -- the local invariant, by signs of determinants
 pub record SignMesh (n : ℕ) (p : ℕ → Point) (faces : List Face)
     (outer : List (ℕ × ℕ)) : Type 0 where
-  pub distinct : AreDistinct n p
+  pub distinct : AllDiffer n p
   pub some_face : (f : Face) × Contains faces f
   pub used : (k : ℕ) → k < n → ((f : Face) × Contains faces f × IsCorner f k)
       ⊎ ((e : ℕ × ℕ) × Contains outer e × ((k ≡ e.0) ⊎ (k ≡ e.1)))
@@ -60,7 +60,7 @@ pub record SignMesh (n : ℕ) (p : ℕ → Point) (faces : List Face)
   pub balanced : AreBalanced faces outer
 
 -- where the first n points differ, indexes with one point are one
-pub same_index : (n : ℕ) (p : ℕ → Point) → AreDistinct n p → IsOneToOne n p
+pub same_index : (n : ℕ) (p : ℕ → Point) → AllDiffer n p → IsOneToOne n p
 same_index n p distinct i j h k e = go (cases_eq i j)
   where
     go : (i ≡ j) ⊎ (i ≡ j → ⊥) → i ≡ j
@@ -68,7 +68,7 @@ same_index n p distinct i j h k e = go (cases_eq i j)
     go (inr s) = absurd (distinct i j h k s e)
 
 -- points of a line at one place have one index
-pub same_place : (n : ℕ) (p : ℕ → Point) → AreDistinct n p → (u v : Point) → ¬ (u ≡ v) → (i j : ℕ)
+pub same_place : (n : ℕ) (p : ℕ → Point) → AllDiffer n p → (u v : Point) → ¬ (u ≡ v) → (i j : ℕ)
     → i < n → j < n → bracket (lift u) (lift v) (at p i) ≡ pos 0
     → bracket (lift u) (lift v) (at p j) ≡ pos 0
     → place_on u v (at p i) ≡ place_on u v (at p j) → i ≡ j

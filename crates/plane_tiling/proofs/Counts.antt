@@ -15,7 +15,7 @@ use Rattle.plane_tiling.proofs.Flows.{HasSide, no_turn}
 use Rattle.plane_tiling.proofs.Totals.{Contains-head, Contains-none, total-sum, all_none}
 use Rattle.plane_tiling.proofs.Counting.{at, SignMesh, IsPairBelow, ArePairsBelow, corners_differ}
 use Rattle.plane_tiling.proofs.Counting.{within_turned}
-use Rattle.plane.proofs.Generic.{AreDistinct}
+use Rattle.plane.proofs.Generic.{AllDiffer}
 use Rattle.plane_tiling.proofs.Edges as E
 use Rattle.plane_tiling.proofs.Tiles.{point_at, by_signs}
 use Rattle.plane_tiling.proofs.Loops as L
@@ -23,7 +23,7 @@ use Rattle.plane_tiling.proofs.Rising.{first, greatest, count_at, leaves, leaves
 use Rattle.plane_tiling.proofs.Rising.{rises_once, rises_nowhere, total_ones, edges_counted}
 use Rattle.plane_tiling.proofs.Rising.{below_top}
 use Rattle.plane_tiling.proofs.Sweep.{IsSweep, sweep, count_one, count_none}
-use Rattle.plane_tiling.proofs.Line.{SignLine, IsNext}
+use Rattle.plane_tiling.proofs.Line.{SignLine, Adjoin}
 use Rattle.plane_tiling.proofs.LineMeshes.{line_by_signs}
 use Rattle.plane_tiling.proofs.LinePlaces as O
 use Rattle.plane.proofs.Signs.{less_if_not_same, same_if_neither_less, less_by_negations}
@@ -105,7 +105,7 @@ module _ (n : ℕ) (p : ℕ → Point) (outer edges : List (ℕ × ℕ)) (m : Si
   line_ends : ArePairsBelow n edges
   line_ends e h = go (L.way_of_edge [] outer edges own e.0 e.1 (inl h))
     where
-      of_next : IsNext n p e.0 e.1 → IsPairBelow n e
+      of_next : Adjoin n p e.0 e.1 → IsPairBelow n e
       of_next s = (s.first, s.second, s.apart)
 
       go : HasSide [] e.0 e.1 ⊎ Contains outer (e.0, e.1) → IsPairBelow n e
@@ -131,7 +131,7 @@ module _ (n : ℕ) (p : ℕ → Point) (outer edges : List (ℕ × ℕ)) (m : Si
     places = O.places n p outer m (whole (p 0)) 0 1 from_zero several zero_not_one
         (bracket-outer (at p 0) (at p 1))
 
-    distinct : AreDistinct n height
+    distinct : AllDiffer n height
     unfolding height
     distinct i j h k a e = a (places.same i j h k (equal (spot i) (spot j) e))
       where

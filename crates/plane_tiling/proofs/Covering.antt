@@ -21,7 +21,7 @@ use Rattle.plane.proofs.Bracket.{Vec3, bracket}
 use Rattle.plane.proofs.BracketIdentities.{bracket-turn, bracket-swap, bracket-outer, bracket-last}
 use Rattle.plane.proofs.BracketIdentities.{cramer, cramer_x, cramer_y, cramer_w}
 use Rattle.plane.proofs.Means.{mean_of_two}
-use Rattle.plane.proofs.Generic.{AreOnLine, Inside, IsNudged, IsSpot, spot, near, generic_near}
+use Rattle.plane.proofs.Generic.{LieOnLine, Inside, IsNudged, IsSpot, spot, near, generic_near}
 use Rattle.plane.proofs.Generic.{not_on_line}
 use Rattle.plane_tiling.proofs.Flows.{IsTurnOf, HasSide, turned, back_of_side, back_of_outer}
 use Rattle.plane_tiling.proofs.Counting.{at, SignMesh, hits, hits_is, hits_inside, inside_hits}
@@ -235,7 +235,7 @@ module _ (n : ℕ) (p : ℕ → Point) (faces : List Face) (outer : List (ℕ ×
       m.distinct u v e.0 e.1 e.2 (not_on_line (at p f.a) (at p f.b) (at p f.c) (p u) (p v)
       (m.turning f m.some_face.1) (level f.a c.0) (level f.b c.1) (level f.c c.2))
     where
-      level : AreOnLine n p (p u) (p v)
+      level : LieOnLine n p (p u) (p v)
       level k h = between_zero (m.supporting (u, v) a k h)
           (negated_below (bracket-swap (at p u) (at p v) (at p k)) (m.supporting (v, u) b k h))
 

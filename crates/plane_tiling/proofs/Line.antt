@@ -12,7 +12,7 @@ use Rattle.plane.proofs.Steps.{negated_left}
 use Rattle.plane.proofs.Bracket.{Vec3, bracket, lift}
 use Rattle.plane.proofs.BracketIdentities.{bracket-turn, bracket-swap, bracket-outer, bracket-last}
 use Rattle.plane.proofs.Collinear.{place_on, place_of_start, place_of_end}
-use Rattle.plane.proofs.Generic.{AreDistinct, IsOneToOne, IsFresh, AreOnLine, distinct_with_next}
+use Rattle.plane.proofs.Generic.{AllDiffer, IsOneToOne, IsFresh, LieOnLine, distinct_with_next}
 use Rattle.plane.proofs.Generic.{not_on_line}
 use Rattle.plane_tiling.proofs.Counting.{at, within_turned, same_place}
 use Rattle.plane_tiling.proofs.Edges as E
@@ -21,7 +21,7 @@ use Rattle.plane.proofs.Signs.{zero_is_not_positive}
 use Rattle.plane.proofs.Indexes.{below_or_last, pair_turned}
 
 -- i and j have no other of the first n points strictly between them
-pub record IsNext (n : ℕ) (p : ℕ → Point) (i j : ℕ) : Type 0 where
+pub record Adjoin (n : ℕ) (p : ℕ → Point) (i j : ℕ) : Type 0 where
   pub apart : i ≢ j
   pub first : i < n
   pub second : j < n
@@ -30,13 +30,13 @@ pub record IsNext (n : ℕ) (p : ℕ → Point) (i j : ℕ) : Type 0 where
 -- the first n points are on one line, and the outer edges are the two ways of each pair of
 -- neighbours
 pub record SignLine (n : ℕ) (p : ℕ → Point) (outer : List (ℕ × ℕ)) : Type 0 where
-  pub distinct : AreDistinct n p
+  pub distinct : AllDiffer n p
   pub straight : (i j k : ℕ) → i < n → j < n → k < n → bracket (at p i) (at p j) (at p k) ≡ pos 0
-  pub neighbours : (i j : ℕ) → Contains outer (i, j) ↔ IsNext n p i j
+  pub neighbours : (i j : ℕ) → Contains outer (i, j) ↔ Adjoin n p i j
   pub once : AllPairs (λ d e. d ≢ e) outer
 
 -- neighbours are neighbours in either order
-pub next_turned : (n : ℕ) (p : ℕ → Point) (i j : ℕ) → IsNext n p i j → IsNext n p j i
+pub next_turned : (n : ℕ) (p : ℕ → Point) (i j : ℕ) → Adjoin n p i j → Adjoin n p j i
 next_turned n p i j s = record {
   apart = λ e. s.apart (sym e);
   first = s.second;
@@ -88,18 +88,18 @@ module _ (n : ℕ) (p : ℕ → Point) (outer new : List (ℕ × ℕ)) (m : Sign
   not_last h e = omega arith
 
   -- a new point that is on the line of two points on which all others are, apart from them
-  module _ (u v : Point) (apart : ¬ (u ≡ v)) (level : AreOnLine n p u v)
+  module _ (u v : Point) (apart : ¬ (u ≡ v)) (level : LieOnLine n p u v)
       (own_level : bracket (lift u) (lift v) (at p n) ≡ pos 0) (fresh : IsFresh n p) where
-    all_level : AreOnLine (suc n) p u v
+    all_level : LieOnLine (suc n) p u v
     all_level k h = elim (below_or_last n k h) [
       | inl l ↦ level k l
       | inr e ↦ subst (λ i. bracket (lift u) (lift v) (at p i) ≡ pos 0) (sym e) own_level
     ]
 
-    all_distinct : AreDistinct (suc n) p
+    all_distinct : AllDiffer (suc n) p
     all_distinct = distinct_with_next n p m.distinct fresh
 
-    widened : ((i j : ℕ) → Contains new (i, j) ↔ IsNext (suc n) p i j) → AllPairs (λ d e. d ≢ e) new
+    widened : ((i j : ℕ) → Contains new (i, j) ↔ Adjoin (suc n) p i j) → AllPairs (λ d e. d ≢ e) new
         → SignLine (suc n) p new
     widened neighbours once = record {
       distinct = all_distinct;
@@ -129,8 +129,8 @@ module _ (n : ℕ) (p : ℕ → Point) (outer new : List (ℕ × ℕ)) (m : Sign
         same_place (suc n) p all_distinct u v apart i j a b (all_level i a) (all_level j b) e
 
     -- still next to one another
-    still_next : (i j : ℕ) → IsNext n p i j
-        → ¬ WithinSegment (whole (p i)) (whole (p j)) (whole (p n)) → IsNext (suc n) p i j
+    still_next : (i j : ℕ) → Adjoin n p i j
+        → ¬ WithinSegment (whole (p i)) (whole (p j)) (whole (p n)) → Adjoin (suc n) p i j
     still_next i j s away = record {
       apart = s.apart;
       first = wider s.first;
@@ -142,7 +142,7 @@ module _ (n : ℕ) (p : ℕ → Point) (outer new : List (ℕ × ℕ)) (m : Sign
     }
 
     -- were next to one another before
-    next_before : (i j : ℕ) → i < n → j < n → IsNext (suc n) p i j → IsNext n p i j
+    next_before : (i j : ℕ) → i < n → j < n → Adjoin (suc n) p i j → Adjoin n p i j
     next_before i j a b s = record {
       apart = s.apart;
       first = a;
@@ -158,7 +158,7 @@ module _ (n : ℕ) (p : ℕ → Point) (outer new : List (ℕ × ℕ)) (m : Sign
     end_apart : ¬ (p i ≡ p n)
     end_apart = fresh i i_index
 
-    end_level : AreOnLine n p (p i) (p n)
+    end_level : LieOnLine n p (p i) (p n)
     end_level k h = go (cases_eq k i)
       where
         go : (k ≡ i) ⊎ (k ≡ i → ⊥) → bracket (at p i) (at p n) (at p k) ≡ pos 0
@@ -200,7 +200,7 @@ module _ (n : ℕ) (p : ℕ → Point) (outer new : List (ℕ × ℕ)) (m : Sign
         go (inr e) =
             under (spot' i) (spot' n) (spot' k) from_zero high (in_order' n k i (past k h e))
 
-    new_next : IsNext (suc n) p i n
+    new_next : Adjoin (suc n) p i n
     new_next = record {
       apart = not_last i_index;
       first = wider i_index;
@@ -234,15 +234,15 @@ module _ (n : ℕ) (p : ℕ → Point) (outer new : List (ℕ × ℕ)) (m : Sign
               (back a b s (below_or_last n a s.first) (below_or_last n b s.second))),
         )) once
       where
-        there : (a b : ℕ) → Contains outer (a, b) ⊎ IsSamePair a b i n → IsNext (suc n) p a b
+        there : (a b : ℕ) → Contains outer (a, b) ⊎ IsSamePair a b i n → Adjoin (suc n) p a b
         there a b (inl h) =
             let s = (m.neighbours a b).0 h in
             still_next (p i) (p n) end_apart end_level own fresh a b s
             (λ w. not_above (spot' a) (spot' b) (spot' n) (pos 0) (low a s.first)
             (low b s.second) high (in_order' a b n w))
         there a b (inr (inl e)) =
-            subst (λ (o : ℕ × ℕ). IsNext (suc n) p o.0 o.1) (λ j. (sym e.0 j, sym e.1 j)) new_next
-        there a b (inr (inr e)) = subst (λ (o : ℕ × ℕ). IsNext (suc n) p o.0 o.1)
+            subst (λ (o : ℕ × ℕ). Adjoin (suc n) p o.0 o.1) (λ j. (sym e.0 j, sym e.1 j)) new_next
+        there a b (inr (inr e)) = subst (λ (o : ℕ × ℕ). Adjoin (suc n) p o.0 o.1)
             (λ j. (sym e.0 j, sym e.1 j)) (next_turned (suc n) p i n new_next)
 
         end_is : (b : ℕ) → b < n → ((k : ℕ) → k < suc n
@@ -250,7 +250,7 @@ module _ (n : ℕ) (p : ℕ → Point) (outer new : List (ℕ × ℕ)) (m : Sign
         end_is b h none =
             elim (cases_eq b i) [ inl e ↦ e | inr e ↦ absurd (none i (wider i_index) (past b h e)) ]
 
-        back : (a b : ℕ) → IsNext (suc n) p a b → (a < n) ⊎ (a ≡ n) → (b < n) ⊎ (b ≡ n)
+        back : (a b : ℕ) → Adjoin (suc n) p a b → (a < n) ⊎ (a ≡ n) → (b < n) ⊎ (b ≡ n)
             → Contains outer (a, b) ⊎ IsSamePair a b i n
         back a b s (inl x) (inl y) = inl
             ((m.neighbours a b).1 (next_before (p i) (p n) end_apart end_level own fresh a b x y s))
@@ -273,7 +273,7 @@ module _ (n : ℕ) (p : ℕ → Point) (outer new : List (ℕ × ℕ)) (m : Sign
       (within : WithinSegment (whole (p i)) (whole (p j)) (whole (p n)))
       (change : (a b : ℕ) → Contains new (a, b) ↔ ((Contains outer (a, b) × ¬ IsSamePair a b i j)
       ⊎ (IsSamePair a b i n ⊎ IsSamePair a b j n))) (once : AllPairs (λ d e. d ≢ e) new) where
-    own_next : IsNext n p i j
+    own_next : Adjoin n p i j
     own_next = (m.neighbours i j).0 edge
 
     between_fresh : IsFresh n p
@@ -283,7 +283,7 @@ module _ (n : ℕ) (p : ℕ → Point) (outer new : List (ℕ × ℕ)) (m : Sign
     ends_apart : ¬ (p i ≡ p j)
     ends_apart = m.distinct i j own_next.first own_next.second own_next.apart
 
-    line_level : AreOnLine n p (p i) (p j)
+    line_level : LieOnLine n p (p i) (p j)
     line_level k h = m.straight i j k own_next.first own_next.second h
 
     within_level : bracket (lift (p i)) (lift (p j)) (at p n) ≡ pos 0
@@ -333,7 +333,7 @@ module _ (n : ℕ) (p : ℕ → Point) (outer new : List (ℕ × ℕ)) (m : Sign
         order a b e l = omega (arith, ints)
 
     -- between i or j and the new vertex there is none
-    first_half : IsNext (suc n) p i n
+    first_half : Adjoin (suc n) p i n
     first_half = record {
       apart = not_last own_next.first;
       first = wider own_next.first;
@@ -360,7 +360,7 @@ module _ (n : ℕ) (p : ℕ → Point) (outer new : List (ℕ × ℕ)) (m : Sign
         none k (inl h) o = between (mark i) (mark n) (mark j) (mark k) middle (outside k h) o
         none k (inr h) o = own_end (mark i) (mark n) (mark k) middle.0 (ap mark h) o
 
-    second_half : IsNext (suc n) p j n
+    second_half : Adjoin (suc n) p j n
     second_half = record {
       apart = not_last own_next.second;
       first = wider own_next.second;
@@ -416,7 +416,7 @@ module _ (n : ℕ) (p : ℕ → Point) (outer new : List (ℕ × ℕ)) (m : Sign
                 elim (lt_or_ge_ℤ y x) [ inl l ↦ inr l | inr g ↦ inl (omega (arith, ints)) ]
 
     -- neighbours with the new vertex between them are i and j
-    parted : (a b : ℕ) → IsNext n p a b → mark a <ℤ mark n → mark n <ℤ mark b → (a ≡ i) × (b ≡ j)
+    parted : (a b : ℕ) → Adjoin n p a b → mark a <ℤ mark n → mark n <ℤ mark b → (a ≡ i) × (b ≡ j)
     parted a b s x y = (first (lt_or_ge_ℤ (mark a) (mark i)), second (lt_or_ge_ℤ (mark j) (mark b)))
       where
         ai : mark a ≤ℤ mark i
@@ -441,7 +441,7 @@ module _ (n : ℕ) (p : ℕ → Point) (outer new : List (ℕ × ℕ)) (m : Sign
         second (inr l) = one_mark b j (wider s.second) (wider own_next.second) (let q = jb in
             omega (arith, ints))
 
-    not_parted : (a b : ℕ) → IsNext n p a b → ¬ IsSamePair a b i j
+    not_parted : (a b : ℕ) → Adjoin n p a b → ¬ IsSamePair a b i j
         → ¬ WithinSegment (whole (p a)) (whole (p b)) (whole (p n))
     not_parted a b s other w = go (marks a b n w)
       where
@@ -460,14 +460,14 @@ module _ (n : ℕ) (p : ℕ → Point) (outer new : List (ℕ × ℕ)) (m : Sign
               (back a b s (below_or_last n a s.first) (below_or_last n b s.second))),
         )) once
       where
-        ends : (c d a b : ℕ) → IsNext (suc n) p c d → IsSamePair a b c d → IsNext (suc n) p a b
+        ends : (c d a b : ℕ) → Adjoin (suc n) p c d → IsSamePair a b c d → Adjoin (suc n) p a b
         ends c d a b s (inl e) =
-            subst (λ (o : ℕ × ℕ). IsNext (suc n) p o.0 o.1) (λ j. (sym e.0 j, sym e.1 j)) s
-        ends c d a b s (inr e) = subst (λ (o : ℕ × ℕ). IsNext (suc n) p o.0 o.1)
+            subst (λ (o : ℕ × ℕ). Adjoin (suc n) p o.0 o.1) (λ j. (sym e.0 j, sym e.1 j)) s
+        ends c d a b s (inr e) = subst (λ (o : ℕ × ℕ). Adjoin (suc n) p o.0 o.1)
             (λ j. (sym e.0 j, sym e.1 j)) (next_turned (suc n) p c d s)
 
         there : (a b : ℕ) → (Contains outer (a, b) × ¬ IsSamePair a b i j)
-            ⊎ (IsSamePair a b i n ⊎ IsSamePair a b j n) → IsNext (suc n) p a b
+            ⊎ (IsSamePair a b i n ⊎ IsSamePair a b j n) → Adjoin (suc n) p a b
         there a b (inl h) =
             let s = (m.neighbours a b).0 h.0 in
             still_next (p i) (p j) ends_apart line_level within_level between_fresh a b s
@@ -475,13 +475,13 @@ module _ (n : ℕ) (p : ℕ → Point) (outer new : List (ℕ × ℕ)) (m : Sign
         there a b (inr (inl e)) = ends i n a b first_half e
         there a b (inr (inr e)) = ends j n a b second_half e
 
-        to_new : (a b : ℕ) → a < n → b ≡ n → IsNext (suc n) p a b
+        to_new : (a b : ℕ) → a < n → b ≡ n → Adjoin (suc n) p a b
             → IsSamePair a b i n ⊎ IsSamePair a b j n
         to_new a b x y s = elim (end_is a x (λ k h w. s.none_between k h
             (subst (λ o. WithinSegment (whole (p a)) (whole (p o)) (whole (p k))) (sym y) w)))
             [ inl e ↦ inl (inl (e, y)) | inr e ↦ inr (inl (e, y)) ]
 
-        back : (a b : ℕ) → IsNext (suc n) p a b → (a < n) ⊎ (a ≡ n) → (b < n) ⊎ (b ≡ n)
+        back : (a b : ℕ) → Adjoin (suc n) p a b → (a < n) ⊎ (a ≡ n) → (b < n) ⊎ (b ≡ n)
             → (Contains outer (a, b) × ¬ IsSamePair a b i j)
             ⊎ (IsSamePair a b i n ⊎ IsSamePair a b j n)
         back a b s (inl x) (inl y) = inl (

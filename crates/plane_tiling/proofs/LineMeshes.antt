@@ -19,7 +19,7 @@ use Rattle.plane_tiling.proofs.Flows.{is_pair, HasSide, no_turn}
 use Rattle.plane_tiling.proofs.Loops.{way_of_edge, edge_of_outer, edges_once, listed_once}
 use Rattle.plane_tiling.proofs.Tiles.{point_at}
 use Rattle.plane_tiling.proofs.Appended.{length_appended, kept_point, last_point}
-use Rattle.plane_tiling.proofs.Line.{SignLine, IsNext}
+use Rattle.plane_tiling.proofs.Line.{SignLine, Adjoin}
 use Rattle.plane_tiling.proofs.Line as L
 
 -- ---- the two readings
@@ -36,7 +36,7 @@ line_by_signs points outer m = record {
 }
   where
     there : (i j : ℕ) → AreNeighbours (alone points) i j
-        → IsNext (length points) (point_at points) i j
+        → Adjoin (length points) (point_at points) i j
     there i j s = record {
       apart = s.apart;
       first = s.first;
@@ -44,7 +44,7 @@ line_by_signs points outer m = record {
       none_between = s.none_between;
     }
 
-    back : (i j : ℕ) → IsNext (length points) (point_at points) i j
+    back : (i j : ℕ) → Adjoin (length points) (point_at points) i j
         → AreNeighbours (alone points) i j
     back i j s = record {
       apart = s.apart;
@@ -65,7 +65,7 @@ line_by_words points outer m = record {
 }
   where
     there : (i j : ℕ) → AreNeighbours (alone points) i j
-        → IsNext (length points) (point_at points) i j
+        → Adjoin (length points) (point_at points) i j
     there i j s = record {
       apart = s.apart;
       first = s.first;
@@ -73,7 +73,7 @@ line_by_words points outer m = record {
       none_between = s.none_between;
     }
 
-    back : (i j : ℕ) → IsNext (length points) (point_at points) i j
+    back : (i j : ℕ) → Adjoin (length points) (point_at points) i j
         → AreNeighbours (alone points) i j
     back i j s = record {
       apart = s.apart;
@@ -96,8 +96,8 @@ same_line n p q outer e m = record {
   once = m.once;
 }
   where
-    moved : (p q : ℕ → Point) → ((k : ℕ) → k < n → p k ≡ q k) → (i j : ℕ) → IsNext n p i j
-        → IsNext n q i j
+    moved : (p q : ℕ → Point) → ((k : ℕ) → k < n → p k ≡ q k) → (i j : ℕ) → Adjoin n p i j
+        → Adjoin n q i j
     moved p q e i j s = record {
       apart = s.apart;
       first = s.first;

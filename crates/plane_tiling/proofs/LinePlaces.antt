@@ -20,7 +20,7 @@ use Rattle.plane_tiling.proofs.Places.{same_within, bracket_at, one_vertex_at}
 use Rattle.plane.proofs.Steps.{left_not_zero, negated_left, no_difference}
 use Rattle.plane.proofs.LineOrder.{ahead, AreOneSign, within_if_ahead, ahead_if_within}
 use Rattle.plane.proofs.LineOrder.{same_if_level, level_if_same}
-use Rattle.plane_tiling.proofs.Line.{SignLine, IsNext, next_turned, flat, back_way}
+use Rattle.plane_tiling.proofs.Line.{SignLine, Adjoin, next_turned, flat, back_way}
 use Rattle.plane.proofs.Signs.{at_most_both_ways, at_most_then_less, below_and_not_below}
 use Rattle.plane.proofs.Signs.{less_by_negations, less_by_negative_difference, less_if_not_same}
 use Rattle.plane.proofs.Signs.{less_in_a_ring, less_is_not_same, less_twice_is_not_same}
@@ -111,7 +111,7 @@ pub record ArePlaces (n : ℕ) (p : ℕ → Point) (spot : ℕ → ℤ) : Type 0
 
 module _ (n : ℕ) (p : ℕ → Point) (spot : ℕ → ℤ) (q : ArePlaces n p spot) where
   -- no vertex has its place strictly between those of two neighbours
-  pub none_between_places : (i j k : ℕ) → IsNext n p i j → k < n → spot i <ℤ spot k
+  pub none_between_places : (i j k : ℕ) → Adjoin n p i j → k < n → spot i <ℤ spot k
       → spot k <ℤ spot j → ⊥
   none_between_places i j k s h a b = s.none_between k h (q.within i j k s.first s.second h a b)
 
@@ -416,7 +416,7 @@ module _ (n : ℕ) (p : ℕ → Point) (outer : List (ℕ × ℕ)) (m : SignLine
         go (inr none) = inr (λ k h. above mark (spot k) (none k h))
 
     -- ---- in one way alone
-    edge_unique : (a b s t : ℕ) → IsNext n p a b → IsNext n p s t
+    edge_unique : (a b s t : ℕ) → Adjoin n p a b → Adjoin n p s t
         → ((spot a <ℤ mark) × (mark <ℤ spot b)) → ((spot s <ℤ mark) × (mark <ℤ spot t))
         → (a ≡ s) × (b ≡ t)
     edge_unique a b s t f g x z =
@@ -445,12 +445,12 @@ module _ (n : ℕ) (p : ℕ → Point) (outer : List (ℕ × ℕ)) (m : SignLine
             g.second across.0 (more_by_difference (spot b) (spot t) h)))
 
     -- on two edges: they are one
-    one_edge : (a b s t : ℕ) → IsNext n p a b → IsNext n p s t
+    one_edge : (a b s t : ℕ) → Adjoin n p a b → Adjoin n p s t
         → WithinSegment (whole (p a)) (whole (p b)) y → WithinSegment (whole (p s)) (whole (p t)) y
         → IsSamePair s t a b
     one_edge a b s t f g w v = go (order_y a b w) (order_y s t v)
       where
-        flat_edge : (i j : ℕ) → IsNext n p i j → (spot i ≡ mark) × (mark ≡ spot j) → ⊥
+        flat_edge : (i j : ℕ) → Adjoin n p i j → (spot i ≡ mark) × (mark ≡ spot j) → ⊥
         flat_edge i j e o = e.apart (same_spot i j e.first e.second (o.0 ∙ o.1))
 
         go : ((spot a <ℤ mark) × (mark <ℤ spot b))
@@ -470,7 +470,7 @@ module _ (n : ℕ) (p : ℕ → Point) (outer : List (ℕ × ℕ)) (m : SignLine
         go x (inr (inr z)) = absurd (flat_edge s t g z)
 
     -- past the end i: y is not where i is, and all vertices are on one side of it
-    past_apart : (i j : ℕ) → IsNext n p i j → IsBeyond i → ¬ (spot i ≡ mark)
+    past_apart : (i j : ℕ) → Adjoin n p i j → IsBeyond i → ¬ (spot i ≡ mark)
     past_apart i j e beyond r = go (order_i j i (beyond j e.second (λ q. e.apart (sym q)))) r
       where
         go : ((mark <ℤ spot i) × (spot i <ℤ spot j))
@@ -481,7 +481,7 @@ module _ (n : ℕ) (p : ℕ → Point) (outer : List (ℕ × ℕ)) (m : SignLine
         go (inr (inr o)) r = e.apart (same_spot i j e.first e.second o.1)
 
     -- no vertex is level with y, and y is not strictly between two
-    module _ (i j : ℕ) (e : IsNext n p i j) (beyond : IsBeyond i) where
+    module _ (i j : ℕ) (e : Adjoin n p i j) (beyond : IsBeyond i) where
       others_high : mark <ℤ spot i → (k : ℕ) → k < n → mark <ℤ spot k
       others_high l k h = elim (cases_eq k i) [
         | inl q ↦ subst (λ o. mark <ℤ spot o) (sym q) l
@@ -607,7 +607,7 @@ module _ (n : ℕ) (p : ℕ → Point) (outer : List (ℕ × ℕ)) (m : SignLine
       j : ℕ
       j = edge.1
 
-      next : IsNext n p i j
+      next : Adjoin n p i j
       next = (m.neighbours i j).0 edge.2
 
       go : (bracket (at p i) (at p j) (vec y) <ℤ pos 0)
@@ -643,7 +643,7 @@ module _ (n : ℕ) (p : ℕ → Point) (outer : List (ℕ × ℕ)) (m : SignLine
   pub point_not_beside : IsAtPoint n p outer m y → IsBesideEdge n p outer m y → ⊥
   point_not_beside a o = go o.out
     where
-      s : IsNext n p o.i o.j
+      s : Adjoin n p o.i o.j
       s = (m.neighbours o.i o.j).0 o.edge
 
       level : bracket (at p o.i) (at p o.j) (vec y) ≡ pos 0
@@ -659,10 +659,10 @@ module _ (n : ℕ) (p : ℕ → Point) (outer : List (ℕ × ℕ)) (m : SignLine
   pub edge_not_beside : IsOnEdge n p outer m y → IsBesideEdge n p outer m y → ⊥
   edge_not_beside a o = go o.out
     where
-      r : IsNext n p a.i a.j
+      r : Adjoin n p a.i a.j
       r = (m.neighbours a.i a.j).0 a.edge
 
-      s : IsNext n p o.i o.j
+      s : Adjoin n p o.i o.j
       s = (m.neighbours o.i o.j).0 o.edge
 
       level : bracket (at p o.i) (at p o.j) (vec y) ≡ pos 0

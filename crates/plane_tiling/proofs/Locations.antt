@@ -20,7 +20,7 @@ use Rattle.plane_tiling.proofs.Edges as E
 use Rattle.plane_tiling.proofs.Tiles.{point_at, by_signs}
 use Rattle.plane_tiling.proofs.Loops as L
 use Rattle.plane_tiling.proofs.Places as P
-use Rattle.plane_tiling.proofs.Line.{SignLine, IsNext}
+use Rattle.plane_tiling.proofs.Line.{SignLine, Adjoin}
 use Rattle.plane_tiling.proofs.LineMeshes.{line_by_signs}
 use Rattle.plane_tiling.proofs.LinePlaces as O
 use Rattle.plane.proofs.Signs.{at_most_both_ways, less_is_not_same}
@@ -212,7 +212,7 @@ module _ (points : List Point) (outer edges : List (ℕ × ℕ)) (m : LineMesh p
   listed i j e = elim
       (L.way_of_edge [] outer edges own i j e) [ inl h ↦ absurd (no_turn i j h.0 h.1) | inr h ↦ h ]
 
-  next : (i j : ℕ) → IsEdge line i j → IsNext count at' i j
+  next : (i j : ℕ) → IsEdge line i j → Adjoin count at' i j
   next i j e = (signs.neighbours i j).0 (listed i j e)
 
   line_edges_meet : EdgesMeetAtVertices line

@@ -21,7 +21,7 @@ use Rattle.plane.proofs.Solver.{num, ◌⊖◌, ◌⊗◌, ring_in_from}
 use Rattle.plane.proofs.Bracket.{bracket, Vec3, bracketᵖ, lift, vec}
 use Rattle.plane.proofs.BracketIdentities.{bracket-swap, bracket-turn, bracket-sum, cramer_x}
 use Rattle.plane.proofs.BracketIdentities.{cramer_y, cramer_w, bracket-outer, bracket-last}
-use Rattle.plane.proofs.Generic.{AreDistinct, Inside, near}
+use Rattle.plane.proofs.Generic.{AllDiffer, Inside, near}
 use Rattle.plane_tiling.proofs.Flows.{IsTurnOf, HasSide, turned}
 use Rattle.plane_tiling.proofs.Counting.{at, SignMesh, corners_differ, same_index}
 use Rattle.plane_tiling.proofs.Covering as C
@@ -367,7 +367,7 @@ bracket_at a b v y e =
     ∷ (aw ⊗ bx ⊖ ax ⊗ bw, yy ⊗ num 1, vy ⊗ yw) ∷ []) (e.x, (e.y, tt)) tt
 
 -- two vertices at one point are one
-pub one_vertex_at : (n : ℕ) (p : ℕ → Point) → AreDistinct n p → (y : Fraction) (v w : ℕ) → v < n
+pub one_vertex_at : (n : ℕ) (p : ℕ → Point) → AllDiffer n p → (y : Fraction) (v w : ℕ) → v < n
     → w < n → IsSame y (whole (p v)) → IsSame y (whole (p w)) → v ≡ w
 one_vertex_at n p distinct y v w h k a b = same_index n p distinct v w h k (λ i. record {
   x = part (p v).x (p w).x y.x y.w y.positive a.x b.x i;

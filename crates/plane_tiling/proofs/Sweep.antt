@@ -24,7 +24,7 @@ use Rattle.plane.proofs.Means.{mean_of_two}
 use Rattle.plane.proofs.Bracket.{Vec3, bracket, bracketᵖ, lift}
 use Rattle.plane.proofs.BracketIdentities.{bracket-turn, bracket-swap, bracket-outer, bracket-last}
 use Rattle.plane.proofs.BracketIdentities.{cramer, pluecker, passing_x, passing_y, passing_w}
-use Rattle.plane.proofs.Generic.{AreDistinct, Inside, IsNudged, near}
+use Rattle.plane.proofs.Generic.{AllDiffer, Inside, IsNudged, near}
 use Rattle.plane_tiling.proofs.Flows.{bit, bit_is, bit_nonneg, one_of_three, IsTurnOf, HasSide}
 use Rattle.plane_tiling.proofs.Flows.{turned}
 use Rattle.plane_tiling.proofs.Totals.{total_at_most_one, total_at_least, total_nonneg}
@@ -46,11 +46,11 @@ use Rattle.plane.proofs.Sides.{test_true, less_by_test}
 pub record IsSweep (n : ℕ) (p : ℕ → Point) (way : Vec3) (height : ℕ → ℤ) : Type 0 where
   pub flat : way.w ≡ pos 0
   pub seen : (s t : ℕ) → bracket (at p s) (at p t) way ≡ height t -ℤ height s
-  pub distinct : AreDistinct n height
+  pub distinct : AllDiffer n height
 
 -- for points that all differ there is a way that no two of them share, far to the left of the way
 -- up
-pub sweep : (n : ℕ) (p : ℕ → Point) → AreDistinct n p
+pub sweep : (n : ℕ) (p : ℕ → Point) → AllDiffer n p
     → (way : Vec3) × ((height : ℕ → ℤ) × IsSweep n p way height)
 unfolding bracket
 sweep n p distinct =

@@ -5,13 +5,13 @@ use Rattle.half_edge_mesh.specs.Mesh.{Mesh, origin, next, prev, face, rev, AreSo
 use Rattle.half_edge_mesh.specs.Peel.{turn, spoke}
 use Rattle.half_edge_mesh.specs.Round.{neighbour}
 use Rattle.half_edge_mesh.specs.Hole.{IsBorder}
-use Rattle.half_edge_mesh.specs.Removal.{AreOpposite}
+use Rattle.half_edge_mesh.specs.Removal.{AreSidesOf}
 
 -- one face at a vertex
 pub one_side : (m : Mesh) (e : ℕ) → AreSoundLinks m → e < length m.half_edges
     → 0 < face m (prev m e) → face m (rev (prev m e)) ≡ 0 → face m (turn m (prev m e)) ≡ 0
     → next m (rev (prev m e)) ≡ turn m (prev m e)
-    → next m (turn m (prev m e)) ≢ rev (turn m (prev m e)) → AreOpposite m (e ∷ [])
+    → next m (turn m (prev m e)) ≢ rev (turn m (prev m e)) → AreSidesOf m (e ∷ [])
 one_side m e s within inner outer last gap far = record {
   some = omega arith;
   within = within;

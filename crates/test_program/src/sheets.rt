@@ -5,7 +5,7 @@ ghost use Rattle.triangulate_run.specs.Points.{place};
 use delaunay_core::math::PlaneTests;
 use delaunay_core::point::Point2;
 use std::alloc::{AllocError, Global};
-use triangulate_run::fault::{RunError, USAGE, fault_text, status_of};
+use triangulate_run::fault::{RunError, USAGE, fault_text, exit_status_of};
 use triangulate_run::points::{SheetPoint, index_of, site_index_of};
 use triangulate_run::sheet::{Sheet, sheet_named};
 
@@ -138,9 +138,9 @@ fn a_sheet_is_named_by_one_letter(alloc: Global) -> bool {
 
 fn a_fault_has_a_status_and_a_text() -> bool {
     let statuses = (
-        status_of(&Ok(())),
-        status_of(&Err(RunError::Read)),
-        status_of(&Err(RunError::Write)),
+        exit_status_of(&Ok(())),
+        exit_status_of(&Err(RunError::Read)),
+        exit_status_of(&Err(RunError::Write)),
     );
     let texts = (
         fault_text(&RunError::Read),

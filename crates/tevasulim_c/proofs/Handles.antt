@@ -31,7 +31,8 @@ module _ {M : Type 1} {𝓤 : Ura M} {𝓛 : Logic 𝓤} {K : Type 0} {Γ : List
   where
     -- an open handle has a box, and a closed one none
     pub keeps_cases : K → (R : RattleType) (t : Bool) (p : Ptr) (m : Option R.Denot)
-        → ((a : Global) (b o : ℕ) (x : R.Denot) → t ≡ true → p ≡ block_ptr b o → m ≡ Some x → Seq K 𝓛
+        → ((a : Global) (b o : ℕ) (x : R.Denot) → t ≡ true → p ≡ block_ptr b o → m ≡ Some x
+        → Seq K 𝓛
         (‵ (box_owns (ghosts.dealloc_token a) R (block_ptr b o) x) ∷ Γ) G)
         → (t ≡ false → m ≡ None → Seq K 𝓛 Γ G)
         → Seq K 𝓛 (‵ (keeps R t p m) ∷ Γ) G

@@ -24,7 +24,7 @@ use Rattle.tevasulim_c.specs.declared.kept.KeptPoints.{KeptPoints}
 use Rattle.tevasulim_c.specs.declared.kept.KeptPoints.TheVariants.{Plain, Constrained}
 use Rattle.tevasulim_c.specs.declared.statuses.TheConstants.{WELL, IS_PLAIN, NO_SUCH_VERTEX}
 use Rattle.tevasulim_c.specs.declared.statuses.TheConstants.{NO_CONSTRAINT, OUT_OF_MEMORY}
-use Rattle.tevasulim_c.specs.Edits.{AreVertices, Release, ReleasesKept}
+use Rattle.tevasulim_c.specs.Edits.{AreThere, Release, ReleasesKept}
 use Rattle.tevasulim_c.specs.Edits.{released, release_of_none, release_of_free, release_refused}
 use Rattle.tevasulim_c.specs.Kept.{kept_place}
 
@@ -63,7 +63,7 @@ module _ {V D U F : Type 0} (place : V → Point) (from to : ℕ) (s : State V D
   releases_no_second none = release_of_none refl (λ both. none both.1) refl
 
   -- no edge joins the two
-  pub releases_no_edge : IsTriangulated place s → AreVertices s from to → AreNotJoined s from to
+  pub releases_no_edge : IsTriangulated place s → AreThere s from to → AreNotJoined s from to
       → Release place from to NO_CONSTRAINT s s
   releases_no_edge kept both apart = release_of_free refl both
       (joined.no_edge_joins place is_constraint constraint_edges (λ ds. refl) (contents_of s) kept
@@ -72,7 +72,7 @@ module _ {V D U F : Type 0} (place : V → Point) (from to : ℕ) (s : State V D
 
 -- ---- what became of the constraint from i to j, whose edge is h
 module _ {V D U F E : Type 0} (place : V → Point) (old new : State V D (CdtEdge U) F)
-    (kept : IsTriangulated place old) (i j h : ℕ) (both : AreVertices old i j)
+    (kept : IsTriangulated place old) (i j h : ℕ) (both : AreThere old i j)
     (within : h < length old.directed) (from : origin old.mesh h ≡ i)
     (to : origin old.mesh (rev h) ≡ j) (k : ℕ) (half : k ≡ h / 2)
     (r : Result Bool E) (done : ReleasesConstraint place k r old new) where

@@ -29,11 +29,6 @@ use Rattle.tevasulim_c.specs.contracts.loose.Loose as loose
 abbrev pub both : Val → Val → Val
 both v w = vstruct (vcons v (vcons w vnil))
 
-pub both_tt : (x y : Bool) → T x → T y → T (x && (y && true))
-both_tt true true s t = tt
-both_tt true false s t = absurd t
-both_tt false y s t = absurd s
-
 module _ (R Z : RattleType) (L : Laws Z) (g : Ghosts Z.Denot) where
   abbrev pub Loose : RattleType
   Loose = loose.the_row R Z g
@@ -57,7 +52,8 @@ module _ (R Z : RattleType) (L : Laws Z) (g : Ghosts Z.Denot) where
           fsplit t $ fpick t (λ vss. fsplit t $
           feq_l t (λ ev. fsplit t $
           feq_l t (λ ep. fsplit t $
-          handle_tells al t d.alloc vss.1.0 (λ h ea fits. move t (1 ∷ []) $ drop t $ move t (1 ∷ []) $
+          handle_tells al t d.alloc vss.1.0 (λ h ea fits.
+          move t (1 ∷ []) $ drop t $ move t (1 ∷ []) $
           in_a_block t d.at (λ p. box_owns (g.dealloc_token d.alloc) R p d.value)
           (fst∗ 𝓤 (never 𝓤) (sem 𝓛 (g.dealloc_token d.alloc (bare (lone R.mir)) null_ptr)))
           (λ b o e. k b o h e

@@ -23,8 +23,8 @@ pub record EditsAt (Edits : KeptPoints → KeptPoints → Type 0) (old : KeptPoi
   pub headline : IsKeptDelaunay new
 
 -- two vertices are there
-abbrev pub AreVertices : {V D U F : Type 0} → State V D U F → ℕ → ℕ → Type 0
-AreVertices s from to = (from < length s.vertices) × (to < length s.vertices)
+abbrev pub AreThere : {V D U F : Type 0} → State V D U F → ℕ → ℕ → Type 0
+AreThere s from to = (from < length s.vertices) × (to < length s.vertices)
 
 module _ {V D U F : Type 0} (place : V → Point) (constraints : List U → List ℕ) where
   -- how a removal of a vertex ended
@@ -41,9 +41,9 @@ module _ {V D U F : Type 0} (place : V → Point) where
   pub data Addition (from to status : ℕ) (old new : State V D (CdtEdge U) F) : Type 0 where
     added : status ≡ WELL → Adds place (constrained old) (constrained new) from to
         → Addition from to status old new
-    addition_of_none : status ≡ NO_SUCH_VERTEX → ¬ AreVertices old from to → new ≡ old
+    addition_of_none : status ≡ NO_SUCH_VERTEX → ¬ AreThere old from to → new ≡ old
         → Addition from to status old new
-    addition_crossing : status ≡ CROSSING → AreVertices old from to
+    addition_crossing : status ≡ CROSSING → AreThere old from to
         → ¬ CanAdd place (constrained old) from to → new ≡ old → Addition from to status old new
     addition_refused : status ≡ OUT_OF_MEMORY → CanAdd place (constrained old) from to → new ≡ old
         → Addition from to status old new
@@ -52,9 +52,9 @@ module _ {V D U F : Type 0} (place : V → Point) where
   pub data Release (from to status : ℕ) (old new : State V D (CdtEdge U) F) : Type 0 where
     released : status ≡ WELL → Releases place (constrained old) (constrained new) from to
         → Release from to status old new
-    release_of_none : status ≡ NO_SUCH_VERTEX → ¬ AreVertices old from to → new ≡ old
+    release_of_none : status ≡ NO_SUCH_VERTEX → ¬ AreThere old from to → new ≡ old
         → Release from to status old new
-    release_of_free : status ≡ NO_CONSTRAINT → AreVertices old from to
+    release_of_free : status ≡ NO_CONSTRAINT → AreThere old from to
         → ¬ Joins (constraints_of old) from to → new ≡ old → Release from to status old new
     release_refused : status ≡ OUT_OF_MEMORY → Joins (constraints_of old) from to → new ≡ old
         → Release from to status old new

@@ -24,11 +24,6 @@ abbrev pub kept_vertices : KeptPoints → List NumberedPoint
 kept_vertices (Plain t) = t.vertices
 kept_vertices (Constrained t) = t.vertices
 
--- the links of the mesh
-abbrev pub kept_links : KeptPoints → Mesh
-kept_links (Plain t) = t.mesh
-kept_links (Constrained t) = t.mesh
-
 -- the positions of the vertices, with the faces and the edges
 abbrev pub kept_drawing : KeptPoints → Triangulation
 kept_drawing (Plain t) = triangulation_of kept_place t

@@ -208,8 +208,8 @@ pub extern "C" fn tevasulim_line(
         return CLOSED;
     };
     let status = match &*kept {
-        KeptPoints::Plain(points) => queries::write_line(points, from, to, meetings, length),
-        KeptPoints::Constrained(points) => queries::write_line(points, from, to, meetings, length),
+        KeptPoints::Plain(points) => queries::write_met(points, from, to, meetings, length),
+        KeptPoints::Constrained(points) => queries::write_met(points, from, to, meetings, length),
     };
     handle.put(kept, alloc);
     status

@@ -201,7 +201,7 @@ fn raw_meeting<M: ConstraintMarker<UE>, V, DE, UE, F>(
 }
 
 /// Writes what a segment meets, as far as there is room, and how much that is.
-pub fn write_line<T: Triangulation<Vertex = NumberedPoint>>(
+pub fn write_met<T: Triangulation<Vertex = NumberedPoint>>(
     points: &T,
     from: &RawPoint,
     to: &RawPoint,

@@ -30,7 +30,7 @@ fn write_vertices<V, DE, UE, F>(
 }
 
 // Writes the indexes of edges as far as there is room, and how many there are.
-fn write_edges<V, DE, UE, F>(
+fn write_found_edges<V, DE, UE, F>(
     found: EdgesInShapeIterator<'_, V, DE, UE, F>,
     edges: &mut [u32],
     length: &mut usize,
@@ -97,7 +97,7 @@ pub fn edges_in_circle<T: FloatTriangulation<Vertex = NumberedPoint>>(
         return NEGATIVE;
     }
     match points.get_edges_in_circle(center, circle.radius_2, &ExactTests, alloc) {
-        Ok(found) => write_edges(found, edges, length),
+        Ok(found) => write_found_edges(found, edges, length),
         Err(_) => OUT_OF_MEMORY,
     }
 }
@@ -135,7 +135,7 @@ pub fn edges_in_rectangle<T: FloatTriangulation<Vertex = NumberedPoint>>(
         return TOO_LARGE;
     }
     match points.get_edges_in_rectangle(lower, upper, &ExactTests, alloc) {
-        Ok(found) => write_edges(found, edges, length),
+        Ok(found) => write_found_edges(found, edges, length),
         Err(_) => OUT_OF_MEMORY,
     }
 }

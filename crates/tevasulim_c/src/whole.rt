@@ -10,7 +10,7 @@ use spade_delaunay::Triangulation;
 use std::alloc::Global;
 
 // Inserts the points in turn, and lists the vertex of each, and of each vertex its first point.
-fn insert_points(
+fn insert_raw(
     map: &mut ConstrainedPoints,
     points: &[RawPoint],
     vertices: &mut Vec<u32>,
@@ -41,7 +41,7 @@ fn insert_points(
 }
 
 // Adds the segments in turn.
-fn add_segments(
+fn add_raw(
     map: &mut ConstrainedPoints,
     segments: &[RawSegment],
     vertices: &[u32],
@@ -84,11 +84,11 @@ pub fn triangulate(
 ) -> u32 {
     let mut map = ConstrainedPoints::new(alloc);
     let (mut vertices, mut firsts) = (Vec::new(alloc), Vec::new(alloc));
-    let status = insert_points(&mut map, points, &mut vertices, &mut firsts, at);
+    let status = insert_raw(&mut map, points, &mut vertices, &mut firsts, at);
     if status != WELL {
         return status;
     }
-    let status = add_segments(&mut map, segments, vertices.as_slice(), at);
+    let status = add_raw(&mut map, segments, vertices.as_slice(), at);
     if status != WELL {
         return status;
     }

@@ -7,7 +7,7 @@ use std::io;
 use std::io::{BufReader, Input, Read};
 use std::process::ExitCode;
 use std::rt::Env;
-use triangulate_run::fault::{RunError, USAGE, fault_text, status_of};
+use triangulate_run::fault::{RunError, USAGE, fault_text, exit_status_of};
 use triangulate_run::session::run;
 use triangulate_run::sheet::{Sheet, letter_named};
 use triangulate_watched::Watched;
@@ -76,7 +76,7 @@ fn status(rt: &(impl Env + Input + Print + Eprint + AllocGlobal)) -> u8 {
     if let Err(fault) = &outcome {
         let _ = rt.eprintln(fault_text(fault));
     }
-    status_of(&outcome)
+    exit_status_of(&outcome)
 }
 
 fn main(rt: HostRuntime) -> ExitCode {

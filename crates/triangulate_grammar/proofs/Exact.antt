@@ -10,7 +10,7 @@ use Rattle.triangulate_grammar.specs.declared.command.Command.{Command}
 use Rattle.triangulate_grammar.specs.declared.command.Command.TheVariants.{Insert, Remove, Constrain}
 use Rattle.triangulate_grammar.specs.declared.command.Command.TheVariants.{Release, Locate, Nearest}
 use Rattle.triangulate_grammar.specs.declared.command.Command.TheVariants.{Line, Counts, Faces}
-use Rattle.triangulate_grammar.specs.Grammar.{IsIndex, IsNumber, AreWordsOf}
+use Rattle.triangulate_grammar.specs.Grammar.{IsDigits, IsNumber, AreWordsOf}
 use Rattle.triangulate_grammar.specs.Reading.{◌>>=◌}
 use Rattle.triangulate_grammar.specs.Reading.{index_value, number_value, first_index, coordinates_of}
 use Rattle.triangulate_grammar.specs.Reading.{pair_of, command_named, command_of, arity, ended}
@@ -41,7 +41,7 @@ coordinates_ok (a ∷ []) p rest h = absurd h.1
 coordinates_ok (a ∷ b ∷ args) p rest h =
     (rw (number_value-ok a p.x h.0, number_value-ok b p.y h.1.0) refl, h.1.1)
 
-pair_ok : (args : List (List ℕ)) (i j : ℕ) → AllZip IsIndex args (i ∷ j ∷ [])
+pair_ok : (args : List (List ℕ)) (i j : ℕ) → AllZip IsDigits args (i ∷ j ∷ [])
     → (pair_of args ≡ Some (i, j)) × (drop 2 args ≡ [])
 unfolding pair_of
 pair_ok [] i j h = absurd h
@@ -49,7 +49,7 @@ pair_ok (a ∷ []) i j h = absurd h.1
 pair_ok (a ∷ b ∷ []) i j h = (rw (index_value-ok a i h.0, index_value-ok b j h.1.0) refl, refl)
 pair_ok (a ∷ b ∷ c ∷ args) i j h = absurd h.1.1
 
-index_ok : (args : List (List ℕ)) (i : ℕ) → AllZip IsIndex args (i ∷ [])
+index_ok : (args : List (List ℕ)) (i : ℕ) → AllZip IsDigits args (i ∷ [])
     → (first_index args ≡ Some i) × (drop 1 args ≡ [])
 index_ok [] i h = absurd h
 index_ok (a ∷ []) i h = (index_value-ok a i h.0, refl)
@@ -101,7 +101,7 @@ coordinates_is (a ∷ b ∷ args) p rest e h =
     (number_value-is a x.0 x.1, (number_value-is b y.0 y.1, h))
 
 pair_is : (args : List (List ℕ)) (i j : ℕ) → pair_of args ≡ Some (i, j) → drop 2 args ≡ []
-    → AllZip IsIndex args (i ∷ j ∷ [])
+    → AllZip IsDigits args (i ∷ j ∷ [])
 unfolding pair_of
 pair_is [] i j e h = cc
 pair_is (a ∷ []) i j e h =
@@ -114,7 +114,7 @@ pair_is (a ∷ b ∷ []) i j e h =
 pair_is (a ∷ b ∷ c ∷ args) i j e h = cc
 
 index_is : (args : List (List ℕ)) (i : ℕ) → first_index args ≡ Some i → drop 1 args ≡ []
-    → AllZip IsIndex args (i ∷ [])
+    → AllZip IsDigits args (i ∷ [])
 index_is [] i e h = cc
 index_is (a ∷ []) i e h = (index_value-is a i e, tt)
 index_is (a ∷ b ∷ args) i e h = cc

@@ -10,7 +10,7 @@ use Rattle.std.specs.Str.Parse.{digits_value}
 use Rattle.std.proofs.lemmas.Option.{cond_some}
 use Rattle.std.proofs.lemmas.Bool.Decides.{nat_tests}
 use Rattle.std.proofs.lemmas.Str.Parse.{IsNumeralModel, numerals_by_value, tells_all_ascii_digits}
-use Rattle.triangulate_grammar.specs.Grammar.{IsIndex, IsNumber}
+use Rattle.triangulate_grammar.specs.Grammar.{IsDigits, IsNumber}
 use Rattle.triangulate_grammar.specs.Reading.{index_value, number_value}
 
 own : IsNumeralModel (λ ds. all_ascii_digits ds ≡ true) (digits_value 10)
@@ -21,7 +21,7 @@ and_parts true b e = (refl, e)
 and_parts false b e = cc
 
 -- a word that writes an index is read as this index
-pub index_value-ok : (word : List ℕ) (n : ℕ) → IsIndex word n → index_value word ≡ Some n
+pub index_value-ok : (word : List ℕ) (n : ℕ) → IsDigits word n → index_value word ≡ Some n
 unfolding index_value
 index_value-ok word n h =
     let digits = own.from word h.digits in
@@ -30,7 +30,7 @@ index_value-ok word n h =
     rw (some, few, digits) (ap Some (sym h.value))
 
 -- a word that is read as an index writes it
-pub index_value-is : (word : List ℕ) (n : ℕ) → index_value word ≡ Some n → IsIndex word n
+pub index_value-is : (word : List ℕ) (n : ℕ) → index_value word ≡ Some n → IsDigits word n
 unfolding index_value
 index_value-is word n e =
     let c = cond_some (ltb 0 (length word) && leb (length word) 18 && all_ascii_digits word)
@@ -51,8 +51,8 @@ same_option None (Some y) f g = g y refl
 same_option (Some x) o f g = sym (f x refl)
 
 -- an answer that is the index a word writes, or none where it writes none, is what is read
-pub index_from : (word : List ℕ) (r : Option ℕ) → IfSome r (IsIndex word)
-    → IfNone r ((n : ℕ) → IsIndex word n → ⊥) → r ≡ index_value word
+pub index_from : (word : List ℕ) (r : Option ℕ) → IfSome r (IsDigits word)
+    → IfNone r ((n : ℕ) → IsDigits word n → ⊥) → r ≡ index_value word
 index_from word None some none = same_option None (index_value word) (λ x e. cc)
     (λ x e. absurd (none x (index_value-is word x e)))
 index_from word (Some n) some none = sym (index_value-ok word n some)
@@ -62,7 +62,7 @@ map_some : {X Y : Type 0} (f : X → Y) (o : Option X) (y : Y) → option_map f 
 map_some f None y e = cc
 map_some f (Some x) y e = (x, refl, cc)
 
-no_minus : (digits : List ℕ) (n : ℕ) → IsIndex (45 ∷ digits) n → ⊥
+no_minus : (digits : List ℕ) (n : ℕ) → IsDigits (45 ∷ digits) n → ⊥
 no_minus digits n h = absurd (omega (arith, (digit_at (45 ∷ digits) 0 h.digits h.some).0))
 
 -- a word that writes a number is read as this number
@@ -71,7 +71,7 @@ unfolding number_value
 number_value-ok [] z (inl (n, h, e)) = absurd (omega (arith, h.some))
 number_value-ok [] z (inr (digits, n, same, h, e)) = cc
 number_value-ok (c ∷ cs) z (inl (n, h, e)) = elim (eqb_tells c 45) [
-  | inl minus ↦ absurd (no_minus cs n (subst (λ b. IsIndex (b ∷ cs) n) minus.1 h))
+  | inl minus ↦ absurd (no_minus cs n (subst (λ b. IsDigits (b ∷ cs) n) minus.1 h))
   | inr plain ↦ rw (plain.0, index_value-ok (c ∷ cs) n h) (ap Some (sym e))
 ]
 number_value-ok (c ∷ cs) z (inr (digits, n, same, h, e)) =

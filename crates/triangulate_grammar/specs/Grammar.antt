@@ -9,7 +9,7 @@ use Rattle.triangulate_grammar.specs.declared.command.Command.TheVariants.{Relea
 use Rattle.triangulate_grammar.specs.declared.command.Command.TheVariants.{Line, Counts, Faces}
 
 -- the word is 1 to 18 digits, which write n
-pub record IsIndex (word : List ℕ) (n : ℕ) : Type 0 where
+pub record IsDigits (word : List ℕ) (n : ℕ) : Type 0 where
   pub some : 0 < length word
   pub few : length word ≤ 18
   pub digits : AllDigits 10 word
@@ -17,8 +17,8 @@ pub record IsIndex (word : List ℕ) (n : ℕ) : Type 0 where
 
 -- the word is an index, or byte 45, the minus, and an index
 abbrev pub IsNumber : List ℕ → ℤ → Type 0
-IsNumber word z = ((n : ℕ) × IsIndex word n × (z ≡ pos n))
-    ⊎ ((digits : List ℕ) × (n : ℕ) × (word ≡ 45 ∷ digits) × IsIndex digits n × (z ≡ neg_ℤ (pos n)))
+IsNumber word z = ((n : ℕ) × IsDigits word n × (z ≡ pos n))
+    ⊎ ((digits : List ℕ) × (n : ℕ) × (word ≡ 45 ∷ digits) × IsDigits digits n × (z ≡ neg_ℤ (pos n)))
 
 -- the parts of a line that single spaces, byte 32, stand between
 abbrev pub words_of : List ℕ → List (List ℕ)
@@ -32,9 +32,9 @@ Has Spells name values words =
 -- the words spell the command
 abbrev pub AreWordsOf : Command → List (List ℕ) → Type 0
 AreWordsOf (Insert p) words = Has IsNumber (codes "insert") (p.x ∷ p.y ∷ []) words
-AreWordsOf (Remove i) words = Has IsIndex (codes "remove") (i ∷ []) words
-AreWordsOf (Constrain i j) words = Has IsIndex (codes "constrain") (i ∷ j ∷ []) words
-AreWordsOf (Release i j) words = Has IsIndex (codes "release") (i ∷ j ∷ []) words
+AreWordsOf (Remove i) words = Has IsDigits (codes "remove") (i ∷ []) words
+AreWordsOf (Constrain i j) words = Has IsDigits (codes "constrain") (i ∷ j ∷ []) words
+AreWordsOf (Release i j) words = Has IsDigits (codes "release") (i ∷ j ∷ []) words
 AreWordsOf (Locate p) words = Has IsNumber (codes "locate") (p.x ∷ p.y ∷ []) words
 AreWordsOf (Nearest p) words = Has IsNumber (codes "nearest") (p.x ∷ p.y ∷ []) words
 AreWordsOf (Line p q) words = Has IsNumber (codes "line") (p.x ∷ p.y ∷ q.x ∷ q.y ∷ []) words

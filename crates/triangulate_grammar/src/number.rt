@@ -1,14 +1,14 @@
 //! Numbers and indexes, a word each.
 ghost use Rattle.std.specs.Prelude.{ℕ, ℤ, ◌<◌, ◌^◌, IfSome, IfNone};
-ghost use Rattle.triangulate_grammar.specs.Grammar.{IsIndex, IsNumber};
+ghost use Rattle.triangulate_grammar.specs.Grammar.{IsDigits, IsNumber};
 
 /// The most digits of a number.
 const MAX_DIGITS: usize = 18;
 
 /// The number of an index, if the word is 1 to 18 digits.
-pub fn index_of(word: &[u8]) -> Option<u64>
-    ensures found { IfSome result (IsIndex word.now) }
-    ensures none { IfNone result ((n : ℕ) → ¬ IsIndex word.now n) }
+pub fn index_written(word: &[u8]) -> Option<u64>
+    ensures found { IfSome result (IsDigits word.now) }
+    ensures none { IfNone result ((n : ℕ) → ¬ IsDigits word.now n) }
     ensures small { IfSome result (λ n. n < 10 ^ 18) }
 {
     if word.is_empty() || word.len() > MAX_DIGITS {
@@ -31,11 +31,11 @@ pub fn number_of(word: &[u8]) -> Option<i64>
 {
     match word {
         [b'-', digits @ ..] => {
-            let number = index_of(digits)?;
+            let number = index_written(digits)?;
             Some(-(number as i64))
         }
         _ => {
-            let number = index_of(word)?;
+            let number = index_written(word)?;
             Some(number as i64)
         }
     }

@@ -7,7 +7,7 @@ ghost use Rattle.triangulate_grammar.specs.Reading.{first_index, first_number, c
 ghost use Rattle.triangulate_grammar.specs.Reading.{command_of, command_named, arity};
 
 use crate::command::{Command, Coordinates};
-use crate::number::{index_of, number_of};
+use crate::number::{index_written, number_of};
 use std::marker::Model;
 
 /// The words of a line that are still to be read.
@@ -56,7 +56,7 @@ impl<'a> Words<'a> {
         ensures value { result ≡ first_index self.old }
         ensures rest { self.new ≡ drop 1 self.old }
     {
-        index_of(self.next_word()?)
+        index_written(self.next_word()?)
     }
 
     /// The next word, as a number.

@@ -19,7 +19,7 @@ use Rattle.delaunay_edit.proofs.Removing.{read_place}
 use Rattle.triangulate_run.specs.declared.points.SheetPoint.{SheetPoint}
 use Rattle.triangulate_run.specs.Points.{place, nowhere, IsListed}
 use Rattle.triangulate_run.specs.Stage.{position}
-use Rattle.triangulate_run.specs.Answer.{IsLeastDistance}
+use Rattle.triangulate_run.specs.Answer.{IsVertexDistance}
 
 -- a vertex is in range where all are
 pub vertex_in_range : (vs : List (Point2 ℤ)) (i : ℕ) (v : Point2 ℤ) → i < length (map position vs)
@@ -29,7 +29,7 @@ vertex_in_range vs i v within e all = subst InRange (read_place position vs i v 
 
 -- the squared distance of a vertex that is nearest to p is the least
 pub least_distance : (t : Triangulation) (p q : Point) (i : ℕ) (d : ℤ) → IsNearest t (whole p) i
-    → point_at t.points i ≡ q → d ≡ gap (whole p) (whole q) → IsLeastDistance t p d
+    → point_at t.points i ≡ q → d ≡ gap (whole p) (whole q) → IsVertexDistance t p d
 least_distance t p q i d near at is = record {
   nearest = i;
   is_nearest = near;
@@ -107,7 +107,7 @@ module _ (points : List Point) (p : Point) (n : ℕ) where
 
 -- the least of all is the distance of a nearest vertex
 least_of_all : (t : Triangulation) (p : Point) (n : ℕ) (d : ℤ) → length t.points ≤ n
-    → IsLeastBefore t.points p n d → IsLeastDistance t p d
+    → IsLeastBefore t.points p n d → IsVertexDistance t p d
 least_of_all t p n d all least = record {
   nearest = least.index;
   is_nearest = record {
@@ -127,6 +127,6 @@ least_of_all t p n d all least = record {
 -- alone
 pub least_found : (t : Triangulation) (p : Point) (n count : ℕ) (least : Option ℤ)
     → count ≡ length t.points → count ≤ n → IsLeastSoFar t.points p n least
-    → MatchOption least (count ≡ 0) (IsLeastDistance t p)
+    → MatchOption least (count ≡ 0) (IsVertexDistance t p)
 least_found t p n count None is all none = omega (arith, none, all)
 least_found t p n count (Some d) is all least = least_of_all t p n d (omega (arith, is, all)) least

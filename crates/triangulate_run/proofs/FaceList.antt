@@ -15,7 +15,7 @@ use Rattle.plane.proofs.Means.{mean_of_three}
 use Rattle.plane.proofs.Sides.{side_swapped, side_turned}
 use Rattle.plane.proofs.Triangles.{turned_inside, turned_face}
 use Rattle.triangulate_run.specs.declared.corners.Corners.{Corners}
-use Rattle.triangulate_run.specs.Corners.{corners, least_first, IsBefore}
+use Rattle.triangulate_run.specs.Corners.{corners, least_first, ComesFirst}
 use Rattle.triangulate_run.specs.Answer.{IsFaceFromLeast, ListsFaces}
 
 -- ---- the least corner first
@@ -205,7 +205,7 @@ module _ (t : Triangulation) (tiles : IsTiling t) where
 
   -- ---- sorted
   -- sorted, they are the list of the faces
-  pub lists_faces : (list : List Corners) → IsPermutation rows list → AllPairs IsBefore list
+  pub lists_faces : (list : List Corners) → IsPermutation rows list → AllPairs ComesFirst list
       → ListsFaces t list
   lists_faces list moved sorted = record {
     faces = λ c. (

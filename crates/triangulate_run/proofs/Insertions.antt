@@ -20,7 +20,7 @@ use Rattle.triangulate_run.specs.declared.reply.Reply.TheVariants.{Refused}
 use Rattle.triangulate_run.specs.Answer.{MayInsert, most_elements}
 use Rattle.triangulate_run.specs.Engine.{stage_by}
 use Rattle.delaunay_legalization.specs.State.{State}
-use Rattle.triangulate_run.specs.Points.{place, nowhere, IsAt, IsSiteAt, IsListed, IsListedSite}
+use Rattle.triangulate_run.specs.Points.{place, nowhere, HoldsAt, IsSiteAt, IsListed, IsListedSite}
 use Rattle.triangulate_run.specs.Stage.{position}
 use Rattle.delaunay_legalization.specs.Known.{point_at, IsKnown}
 
@@ -83,7 +83,7 @@ sites_more sites old new v e site all = subst (λ (ps : List Point). All sites p
 
 -- a point for which a lookup finds an index is listed
 pub listed_if_known : (points : List SheetPoint) (p : Point) (o : Option ℕ) → is_some o ≡ true
-    → MatchOption o (¬ IsListed points p) (λ i. IsAt points i p) → IsListed points p
+    → MatchOption o (¬ IsListed points p) (λ i. HoldsAt points i p) → IsListed points p
 listed_if_known points p None e found = cc
 listed_if_known points p (Some i) e found = (i, found)
 

@@ -10,12 +10,12 @@ use Rattle.std.proofs.lemmas.Map.Keys.{IsDistinct-IsPermutation}
 use Rattle.std.proofs.lemmas.Map.Made.{AllPairs-from_IsDistinct, IsDistinct-from_AllPairs}
 use Rattle.triangulate_run.specs.declared.corners.Corners.{Corners}
 use Rattle.triangulate_run.specs.contracts.corners.CornersOrd.TheImpl as ord
-use Rattle.triangulate_run.specs.Corners.{corners, IsBefore}
+use Rattle.triangulate_run.specs.Corners.{corners, ComesFirst}
 
-before_if : (c d : Corners) → is_lt ((ord.ghosts).cmp d c) ≡ false → c ≢ d → IsBefore c d
+before_if : (c d : Corners) → is_lt ((ord.ghosts).cmp d c) ≡ false → c ≢ d → ComesFirst c d
 before_if c d e apart = grind (arith, nat_tests)
 
-before_both : (b c d : Corners) → IsBefore b c → IsBefore c d → IsBefore b d
+before_both : (b c d : Corners) → ComesFirst b c → ComesFirst c d → ComesFirst b d
 before_both b c d h k = grind arith
 
 same_if : (c d : Corners) → c.first ≡ d.first → c.second ≡ d.second → c.third ≡ d.third → c ≡ d
@@ -50,26 +50,26 @@ differ_moved old new moved h =
 module _ (list : List Corners) (apart : AllPairs (λ c d. c ≢ d) list)
     (up : IsSorted ((ord.ghosts).cmp) list) where
   next : (k : ℕ) (d : Corners) → k + 1 < length list
-      → IsBefore (get_or list k d) (get_or list (k + 1) d)
+      → ComesFirst (get_or list k d) (get_or list (k + 1) d)
   next k d h = before_if (get_or list k d) (get_or list (k + 1) d) (up k d (omega arith) h)
       (apart k (k + 1) d (omega arith) h)
 
   far : (i m : ℕ) (d : Corners) → i + m + 1 < length list
-      → IsBefore (get_or list i d) (get_or list (i + m + 1) d)
-  far i zero d h = subst (λ (n : ℕ). IsBefore (get_or list i d) (get_or list n d)) {x = i + 1}
+      → ComesFirst (get_or list i d) (get_or list (i + m + 1) d)
+  far i zero d h = subst (λ (n : ℕ). ComesFirst (get_or list i d) (get_or list n d)) {x = i + 1}
       {y = i + zero + 1} (omega arith) (next i d (omega arith))
-  far i (suc m) d h = subst (λ (n : ℕ). IsBefore (get_or list i d) (get_or list n d))
+  far i (suc m) d h = subst (λ (n : ℕ). ComesFirst (get_or list i d) (get_or list n d))
       {x = i + m + 1 + 1} {y = i + suc m + 1} (omega arith)
       (before_both (get_or list i d) (get_or list (i + m + 1) d) (get_or list (i + m + 1 + 1) d)
       (far i m d (omega arith)) (next (i + m + 1) d (omega arith)))
 
-  rises : AllPairs IsBefore list
-  rises i j d h k = subst (λ (n : ℕ). IsBefore (get_or list i d) (get_or list n d))
+  rises : AllPairs ComesFirst list
+  rises i j d h k = subst (λ (n : ℕ). ComesFirst (get_or list i d) (get_or list n d))
       {x = i + (j - (i + 1)) + 1} {y = j} (omega arith) (far i (j - (i + 1)) d (omega arith))
 
 -- faces that differ come strictly one before another once a sort has put them in order
 pub sorted_rises : {T E : Type 0} (r : Result T E) (old new : List Corners) → IsPermutation old new
     → OnOk r (IsSorted ((ord.ghosts).cmp) new)
-    → OnOk r (AllPairs (λ c d. c ≢ d) old → AllPairs IsBefore new)
+    → OnOk r (AllPairs (λ c d. c ≢ d) old → AllPairs ComesFirst new)
 sorted_rises (Ok x) old new moved up = λ apart. rises new (differ_moved old new moved apart) up
 sorted_rises (Err x) old new moved up = tt

@@ -9,7 +9,7 @@ use Rattle.triangulate_run.specs.declared.circles.Circle.{Circle}
 use Rattle.triangulate_run.specs.declared.table.TheConstants.{G_POINTS, B_POINTS, R_POINTS}
 use Rattle.triangulate_run.specs.declared.table.TheConstants.{L_POINTS, X_POINTS, GRID_CIRCLES}
 use Rattle.triangulate_run.specs.declared.table.TheConstants.{L_CIRCLES, X_CIRCLES}
-use Rattle.triangulate_run.specs.Points.{IsAt, IsSiteAt}
+use Rattle.triangulate_run.specs.Points.{HoldsAt, IsSiteAt}
 use Rattle.triangulate_run.specs.Sheet.{points_of, circles_of}
 use Rattle.triangulate_run.specs.Table.{side_in, is_inside_in}
 use Rattle.triangulate_run.proofs.Rule.{SidesAreTrue, CirclesAreTrue, sides_true, circles_true}
@@ -41,8 +41,8 @@ circles_are_true X =
 
 -- at points that stand in the list
 pub side_from : (s : Sheet) (circles : List Circle) (r : Side) (a b c : Point) (i j k : ℕ)
-    → circles ≡ circles_of s → IsAt (points_of s) i a → IsAt (points_of s) j b
-    → IsAt (points_of s) k c → r ≡ side_in circles i j k → r ≡ side (whole a) (whole b) (whole c)
+    → circles ≡ circles_of s → HoldsAt (points_of s) i a → HoldsAt (points_of s) j b
+    → HoldsAt (points_of s) k c → r ≡ side_in circles i j k → r ≡ side (whole a) (whole b) (whole c)
 side_from s circles r a b c i j k table ha hb hc e = rw (← ha.1, ← hb.1, ← hc.1)
     (e ∙ ap (λ t. side_in t i j k) table ∙ sides_are_true s i j k ha.0 hb.0 hc.0)
 

@@ -25,7 +25,7 @@ use Rattle.triangulate_run.specs.declared.corners.Corners.{Corners}
 use Rattle.triangulate_run.specs.declared.reply.Reply.{Reply}
 use Rattle.triangulate_run.specs.declared.reply.Reply.TheVariants as reply
 use Rattle.triangulate_run.specs.Points.{IsListed, IsListedSite}
-use Rattle.triangulate_run.specs.Corners.{IsBefore}
+use Rattle.triangulate_run.specs.Corners.{ComesFirst}
 use Rattle.triangulate_run.specs.Reply.{reply_text, path_text, line_text}
 use Rattle.triangulate_run.specs.Stage.{Stage, position}
 
@@ -115,7 +115,7 @@ MayLocate points t p reply.UnknownPoint = ¬ IsListed points p
 MayLocate points t p r = IsListed points p × IsThere t p r
 
 -- d is the squared distance from p to a vertex that none is nearer than
-pub record IsLeastDistance (t : Triangulation) (p : Point) (d : ℤ) : Type 0 where
+pub record IsVertexDistance (t : Triangulation) (p : Point) (d : ℤ) : Type 0 where
   pub nearest : ℕ
   pub is_nearest : IsNearest t (whole p) nearest
   pub distance : d ≡ gap (whole p) (vertex t nearest)
@@ -123,7 +123,7 @@ pub record IsLeastDistance (t : Triangulation) (p : Point) (d : ℤ) : Type 0 wh
 -- how far the nearest vertex is from p, if p is in the list
 abbrev pub MayMeasure : List SheetPoint → Triangulation → Point → Reply → Type 0
 MayMeasure points t p reply.UnknownPoint = ¬ IsListed points p
-MayMeasure points t p (reply.Distance d) = IsListed points p × IsLeastDistance t p d
+MayMeasure points t p (reply.Distance d) = IsListed points p × IsVertexDistance t p d
 MayMeasure points t p reply.NoNeighbor = IsListed points p × ((i : ℕ) → ¬ IsVertex t i)
 MayMeasure points t p _ = ⊥
 
@@ -149,7 +149,7 @@ MayCount s _ = ⊥
 -- each face once, sorted
 pub record ListsFaces (t : Triangulation) (list : List Corners) : Type 0 where
   pub faces : (c : Corners) → Contains list c ↔ IsFaceFromLeast t c
-  pub sorted : AllPairs IsBefore list
+  pub sorted : AllPairs ComesFirst list
 
 -- a listing is answered by each face once, sorted, or by a refusal of memory
 abbrev pub MayList : Triangulation → Reply → Type 0

@@ -12,6 +12,6 @@ least_first a b c = if nat_lt a b && nat_lt a c then corners a b c else
     (if nat_lt b c then corners b c a else corners c a b)
 
 -- c comes before d by the three numbers
-abbrev pub IsBefore : Corners → Corners → Type 0
-IsBefore c d = (c.first < d.first) ⊎ ((c.first ≡ d.first)
+abbrev pub ComesFirst : Corners → Corners → Type 0
+ComesFirst c d = (c.first < d.first) ⊎ ((c.first ≡ d.first)
     × ((c.second < d.second) ⊎ ((c.second ≡ d.second) × (c.third < d.third))))

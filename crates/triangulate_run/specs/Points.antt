@@ -21,16 +21,16 @@ abbrev pub is_site_in : List SheetPoint → ℕ → Bool
 is_site_in points i = (get_or points i nowhere).site
 
 -- p has the index i in the list; and is a site there
-abbrev pub IsAt : List SheetPoint → ℕ → Point → Type 0
-IsAt points i p = (i < length points) × (point_in points i ≡ p)
+abbrev pub HoldsAt : List SheetPoint → ℕ → Point → Type 0
+HoldsAt points i p = (i < length points) × (point_in points i ≡ p)
 
 -- the point p has index i in the list and is a site there
 abbrev pub IsSiteAt : List SheetPoint → ℕ → Point → Type 0
-IsSiteAt points i p = IsAt points i p × (is_site_in points i ≡ true)
+IsSiteAt points i p = HoldsAt points i p × (is_site_in points i ≡ true)
 
 -- p is a point, or a site, of the list
 abbrev pub IsListed : List SheetPoint → Point → Type 0
-IsListed points p = (i : ℕ) × IsAt points i p
+IsListed points p = (i : ℕ) × HoldsAt points i p
 
 -- the point p is a site of the list
 abbrev pub IsListedSite : List SheetPoint → Point → Type 0

@@ -79,13 +79,13 @@ fn put_edges<L: HintGenerator<i64>, W: Write>(
         (flat_map piece_text (ends_in triangulation.now.mesh path.now)) }
 {
     for edge in path {
-        put_edge(triangulation, *edge, writer, held)?;
+        put_path_edge(triangulation, *edge, writer, held)?;
     }
     Ok(())
 }
 
 /// Puts the ends of an edge, in its direction.
-fn put_edge<L: HintGenerator<i64>, W: Write>(
+fn put_path_edge<L: HintGenerator<i64>, W: Write>(
     triangulation: &Constrained<L>,
     edge: FixedDirectedEdgeHandle,
     writer: &mut Watched<W>,

@@ -1,6 +1,6 @@
 //! Faces by the indexes of their corners.
 ghost use Rattle.std.specs.Prelude.{◌≡◌, ◌≢◌, OnOk, AllPairs, IsPermutation};
-ghost use Rattle.triangulate_run.specs.Corners.{least_first, IsBefore};
+ghost use Rattle.triangulate_run.specs.Corners.{least_first, ComesFirst};
 
 use std::alloc::AllocError;
 
@@ -34,7 +34,7 @@ pub(crate) fn from_least(a: u64, b: u64, c: u64) -> Corners
 pub(crate) fn sort_faces(faces: &mut Vec<Corners>) -> Result<(), AllocError>
     ensures permutation { IsPermutation faces.old.items faces.new.items }
     ensures sorted { OnOk result (AllPairs (λ c d. c ≢ d) faces.old.items →
-        AllPairs IsBefore faces.new.items) }
+        AllPairs ComesFirst faces.new.items) }
 {
     faces.sort()
 }

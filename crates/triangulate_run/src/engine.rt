@@ -15,7 +15,7 @@ use crate::nearest::{nearest_of_all, nearest_of_plain};
 use crate::points::SheetPoint;
 use crate::reply::{Reply, write_reply};
 use crate::session::Engine;
-use crate::shared::{counts_of, faces, insert, locate, remove, vertices_at};
+use crate::shared::{count_reply, faces, insert, locate, remove, vertices_at};
 use spade_delaunay::handles::FixedVertexHandle;
 use spade_delaunay::{
     ConstrainedDelaunayTriangulation, DelaunayTriangulation, HintGenerator, InsertionError,
@@ -64,7 +64,7 @@ impl<P: PlaneTests<i64>, L: HintGenerator<i64>> Engine for PointEngine<'_, P, L>
     ) -> Result<(), Failed> {
         let answered = match command {
             Command::Constrain(from, to) => self.constrain(from, to, writer),
-            Command::Line(from, to) => self.line(point_of(from), point_of(to), writer),
+            Command::Line(from, to) => self.line(placed_point(from), placed_point(to), writer),
             _ => {
                 let reply = self.reply_to(command);
                 write_reply(writer, &reply)
@@ -118,11 +118,11 @@ impl<'a, P: PlaneTests<i64>, L: HintGenerator<i64>> PointEngine<'a, P, L> {
             result (stage_of self.new.triangulation) }
     {
         match command {
-            Command::Insert(place) => self.insert(point_of(place)),
+            Command::Insert(place) => self.insert(placed_point(place)),
             Command::Remove(index) => self.remove(index),
             Command::Release(from, to) => self.release(from, to),
-            Command::Locate(place) => self.locate(point_of(place)),
-            Command::Nearest(place) => self.nearest(point_of(place)),
+            Command::Locate(place) => self.locate(placed_point(place)),
+            Command::Nearest(place) => self.nearest(placed_point(place)),
             Command::Counts => self.counts(),
             Command::Faces => self.faces(),
             Command::Constrain(_, _) | Command::Line(_, _) => Reply::BadLine,
@@ -193,10 +193,10 @@ impl<'a, P: PlaneTests<i64>, L: HintGenerator<i64>> PointEngine<'a, P, L> {
         ensures reply { MayCount (stage_of self.now.triangulation) result }
     {
         match &self.triangulation {
-            Either::Plain(plain) => counts_of(plain, 0),
+            Either::Plain(plain) => count_reply(plain, 0),
             Either::Constrained(constrained) => {
                 constrained.recall_invariant();
-                counts_of(constrained, constrained.num_constraints() as u64)
+                count_reply(constrained, constrained.num_constraints() as u64)
             }
         }
     }
@@ -319,7 +319,7 @@ fn with_constraints<L: HintGenerator<i64>>(triangulation: Either<L>) -> Either<L
 }
 
 /// The point with these coordinates.
-fn point_of(place: Coordinates) -> Point2<i64>
+fn placed_point(place: Coordinates) -> Point2<i64>
     ensures { result ≡ point_at place }
 {
     Point2::new(place.x, place.y)

@@ -15,7 +15,7 @@ pub enum RunError {
 pub const USAGE: &str = "usage: triangulate G|B|R|L|X";
 
 /// The exit status of a run.
-pub fn status_of(outcome: &Result<(), RunError>) -> u8
+pub fn exit_status_of(outcome: &Result<(), RunError>) -> u8
     ensures { MatchResult outcome.now (λ _. result ≡ 0) (λ _. result ≡ 1) }
 {
     match outcome {

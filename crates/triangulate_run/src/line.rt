@@ -108,13 +108,13 @@ fn put_item<DE, UE, F, W: Write>(
                 Piece::Index(u64::from(vertex.fix().index())),
             ],
         ),
-        Intersection::EdgeIntersection(edge) => put_edge(writer, held, before, "e ", *edge),
-        Intersection::EdgeOverlap(edge) => put_edge(writer, held, before, "o ", *edge),
+        Intersection::EdgeIntersection(edge) => put_met_edge(writer, held, before, "e ", *edge),
+        Intersection::EdgeOverlap(edge) => put_met_edge(writer, held, before, "o ", *edge),
     }
 }
 
 /// Puts two texts, and behind them the ends of an edge in its direction.
-fn put_edge<'x, DE, UE, F, W: Write>(
+fn put_met_edge<'x, DE, UE, F, W: Write>(
     writer: &mut Watched<W>,
     held: &mut Held,
     before: &'x str,

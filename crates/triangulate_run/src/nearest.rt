@@ -3,7 +3,7 @@ ghost use Rattle.std.specs.Prelude.{◌≡◌, ◌⊎◌, ◌≤ℤ◌, length, 
 ghost use Rattle.plane.specs.Tests.{InRange};
 ghost use Rattle.delaunay_edit.specs.Constrained.{none};
 ghost use Rattle.delaunay_legalization.specs.State.{triangulation_of};
-ghost use Rattle.triangulate_run.specs.Answer.{IsLeastDistance, MayMeasure};
+ghost use Rattle.triangulate_run.specs.Answer.{IsVertexDistance, MayMeasure};
 ghost use Rattle.triangulate_run.specs.Engine.{stage_by, IsReady};
 ghost use Rattle.triangulate_run.specs.Points.{place};
 ghost use Rattle.triangulate_run.specs.Stage.{position};
@@ -63,7 +63,7 @@ fn least_distance<T: Triangulation<Vertex = Point2<i64>>>(
 ) -> Option<i64>
     requires { InRange (position point) }
     ensures { let s = T.state triangulation.now in MatchOption result (length s.vertices ≡ 0)
-        (IsLeastDistance (triangulation_of position s) (position point)) }
+        (IsVertexDistance (triangulation_of position s) (position point)) }
 {
     triangulation.recall_invariant();
     let mut least = None;

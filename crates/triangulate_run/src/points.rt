@@ -1,7 +1,7 @@
 //! Points of a sheet, and where they stand in its list.
 ghost use Rattle.std.specs.Prelude.{MatchOption};
 ghost use Rattle.delaunay_core.specs.Place.{place_of};
-ghost use Rattle.triangulate_run.specs.Points.{IsAt, IsSiteAt, IsListed, IsListedSite};
+ghost use Rattle.triangulate_run.specs.Points.{HoldsAt, IsSiteAt, IsListed, IsListedSite};
 
 use delaunay_core::point::Point2;
 
@@ -17,7 +17,7 @@ pub struct SheetPoint {
 /// The index of a point in the list, if it is there.
 pub fn index_of(points: &[SheetPoint], point: Point2<i64>) -> Option<usize>
     ensures { MatchOption result (¬ IsListed points.now (place_of (λ z. z) point))
-        (λ i. IsAt points.now i (place_of (λ z. z) point)) }
+        (λ i. HoldsAt points.now i (place_of (λ z. z) point)) }
 {
     for (i, listed) in points.iter().enumerate() {
         if listed.position == point {

@@ -116,7 +116,7 @@ pub(crate) fn locate<T: Triangulation<Vertex = Point2<i64>>, P: PlaneTests<i64>>
 }
 
 /// How many vertices, edges, inner faces and constraints there are.
-pub(crate) fn counts_of<T: Triangulation<Vertex = Point2<i64>>>(
+pub(crate) fn count_reply<T: Triangulation<Vertex = Point2<i64>>>(
     triangulation: &T,
     constraints: u64,
 ) -> Reply
@@ -140,14 +140,14 @@ pub(crate) fn faces<T: Triangulation<Vertex = Point2<i64>>>(
 ) -> Reply
     ensures { MayList (triangulation_of position (T.state triangulation.now)) result }
 {
-    match faces_of(triangulation, alloc) {
+    match sorted_faces(triangulation, alloc) {
         Ok(faces) => Reply::Faces(faces),
         Err(_) => Reply::Refused(InsertionError::OutOfMemory),
     }
 }
 
 /// All faces, sorted.
-fn faces_of<T: Triangulation<Vertex = Point2<i64>>>(
+fn sorted_faces<T: Triangulation<Vertex = Point2<i64>>>(
     triangulation: &T,
     alloc: Global,
 ) -> Result<Vec<Corners>, AllocError>
@@ -157,14 +157,14 @@ fn faces_of<T: Triangulation<Vertex = Point2<i64>>>(
     triangulation.recall_invariant();
     let mut faces = Vec::with_capacity(alloc, triangulation.num_inner_faces())?;
     for face in triangulation.inner_faces() {
-        faces.push(corners_of(face))?;
+        faces.push(corner_row(face))?;
     }
     sort_faces(&mut faces)?;
     Ok(faces)
 }
 
 /// The corners of an inner face, the least index first.
-fn corners_of<DE, UE, F>(face: FaceHandle<'_, Point2<i64>, DE, UE, F>) -> Corners
+fn corner_row<DE, UE, F>(face: FaceHandle<'_, Point2<i64>, DE, UE, F>) -> Corners
     requires { 0 < face.index }
     ensures { result ≡ row_at face.entry.dcel.now.mesh face.entry.index }
 {
@@ -207,7 +207,7 @@ fn location_reply<T: Triangulation<Vertex = Point2<i64>>>(
                 u64::from(edge.to().fix().index()),
             )
         }
-        PositionInTriangulation::OnFace(face) => Reply::Face(corners_of(triangulation.face(face))),
+        PositionInTriangulation::OnFace(face) => Reply::Face(corner_row(triangulation.face(face))),
         PositionInTriangulation::OutsideOfConvexHull(_) => Reply::Outside,
         PositionInTriangulation::NoTriangulation => Reply::NoTriangulation,
     }

@@ -5,7 +5,7 @@ ghost use Rattle.plane.specs.Fraction.{whole};
 ghost use Rattle.plane.specs.Side.{side, TurnsLeft};
 ghost use Rattle.plane.specs.Circle.{InsideCircle};
 ghost use Rattle.delaunay_core.specs.Place.{place_of};
-ghost use Rattle.triangulate_run.specs.Points.{place, IsAt, IsSiteAt};
+ghost use Rattle.triangulate_run.specs.Points.{place, HoldsAt, IsSiteAt};
 ghost use Rattle.triangulate_run.specs.Sheet.{points_of, circles_of, letter_of, IsCovered, IsSite};
 ghost use Rattle.triangulate_run.specs.Range.{covered_in_range};
 ghost use Rattle.triangulate_run.specs.declared.sheet.Sheet.{Sheet};
@@ -99,7 +99,7 @@ impl Sheet {
 
     fn covered_index(self, point: Point2<i64>) -> usize
         requires { IsCovered self (place_of (λ z. z) point) }
-        ensures { IsAt (points_of self) result (place_of (λ z. z) point) }
+        ensures { HoldsAt (points_of self) result (place_of (λ z. z) point) }
     {
         index_of(self.listed(), point).unwrap()
     }

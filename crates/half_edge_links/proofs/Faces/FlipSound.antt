@@ -14,7 +14,7 @@ use Rattle.half_edge_links.proofs.Sound.Parts.{NamesFaces, NamesOutEdges, NamesO
 use Rattle.half_edge_links.proofs.Sound.Triangles.{IsTriangle, triangle_at, same_loop, six_round}
 
 -- an edge is none of the six round e
-pub record IsAway (m : Mesh) (e h : ℕ) : Type 0 where
+pub record IsOffFlip (m : Mesh) (e h : ℕ) : Type 0 where
   pub edge : h ≢ e
   pub twin : h ≢ rev e
   pub edge_next : h ≢ next m e
@@ -38,7 +38,7 @@ module _ (m new : Mesh) (e : ℕ) (s : AreSoundLinks m) (can : IsFlippable m e)
   right = triangle_at m (rev e) s six.b_in can.twin_inner
 
   -- an edge of another face is none of the six
-  pub away_by_face : (h : ℕ) → face m h ≢ face m e → face m h ≢ face m (rev e) → IsAway m e h
+  pub away_by_face : (h : ℕ) → face m h ≢ face m e → face m h ≢ face m (rev e) → IsOffFlip m e h
   away_by_face h a b =
       let l = left in
       let r = right in
@@ -51,7 +51,7 @@ module _ (m new : Mesh) (e : ℕ) (s : AreSoundLinks m) (can : IsFlippable m e)
         twin_prev = λ same. b (cc);
       }
 
-  away_face : (h : ℕ) → h < length m.half_edges → IsAway m e h
+  away_face : (h : ℕ) → h < length m.half_edges → IsOffFlip m e h
       → (face m h ≢ face m e) × (face m h ≢ face m (rev e))
   away_face h within a = (
     λ same. elim (same_loop m e h s can.within within can.inner same) [
@@ -65,14 +65,14 @@ module _ (m new : Mesh) (e : ℕ) (s : AreSoundLinks m) (can : IsFlippable m e)
   )
 
   -- the edge after one that is none of the six is none of them
-  pub next_away : (h : ℕ) → h < length m.half_edges → IsAway m e h → IsAway m e (next m h)
+  pub next_away : (h : ℕ) → h < length m.half_edges → IsOffFlip m e h → IsOffFlip m e (next m h)
   next_away h within a =
       let differ = away_face h within a in
       let same = sym (s.edges h within).same_face in
       away_by_face (next m h) (λ q. differ.0 (same ∙ q)) (λ q. differ.1 (same ∙ q))
 
   -- the edge before one that is none of the six is none of them
-  pub prev_away : (h : ℕ) → h < length m.half_edges → IsAway m e h → IsAway m e (prev m h)
+  pub prev_away : (h : ℕ) → h < length m.half_edges → IsOffFlip m e h → IsOffFlip m e (prev m h)
   prev_away h within a =
       let here = s.edges h within in
       let differ = away_face h within a in
@@ -80,7 +80,7 @@ module _ (m new : Mesh) (e : ℕ) (s : AreSoundLinks m) (can : IsFlippable m e)
       away_by_face (prev m h) (λ q. differ.0 (same ∙ q)) (λ q. differ.1 (same ∙ q))
 
   -- an edge that is none of the six stays as it was
-  pub kept : (h : ℕ) → IsAway m e h → edge_at new.half_edges h ≡ edge_at m.half_edges h
+  pub kept : (h : ℕ) → IsOffFlip m e h → edge_at new.half_edges h ≡ edge_at m.half_edges h
   kept h a = f.other_edges h a.edge a.twin a.edge_next a.twin_next a.edge_prev a.twin_prev
 
   -- any edge but the two sides of e starts where it did
@@ -114,7 +114,7 @@ module _ (m new : Mesh) (e : ℕ) (s : AreSoundLinks m) (can : IsFlippable m e)
         | inr b ↦ elim b [ inl c ↦ rw c.1 refl | inr c ↦ rw c.1 refl ]
       ]
 
-  sound_away : (h : ℕ) → h < length m.half_edges → IsAway m e h → IsSoundEdge new h
+  sound_away : (h : ℕ) → h < length m.half_edges → IsOffFlip m e h → IsSoundEdge new h
   sound_away h within a =
       let here = s.edges h within in
       sound_kept m new h here (record {

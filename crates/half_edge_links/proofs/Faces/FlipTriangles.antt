@@ -9,12 +9,12 @@ use Rattle.half_edge_links.specs.Mesh.{AreSoundLinks}
 use Rattle.half_edge_links.specs.Flip.{IsFlippable, Flips, flipped}
 use Rattle.half_edge_links.specs.Triangles.{Triangle, triangle_at, triangles, FlipsTriangles}
 use Rattle.half_edge_links.proofs.Faces.FlipLemmas.{flips}
-use Rattle.half_edge_links.proofs.Faces.FlipSound.{IsAway, six, next_away, prev_away, kept}
+use Rattle.half_edge_links.proofs.Faces.FlipSound.{IsOffFlip, six, next_away, prev_away, kept}
 use Rattle.half_edge_links.proofs.Faces.FlipSound.{origin_kept, away_by_face}
 
 module _ (m new : Mesh) (e : ℕ) (s : AreSoundLinks m) (can : IsFlippable m e)
     (f : Flips m new e) where
-  kept_triangle : (h : ℕ) → h < length m.half_edges → IsAway m e h
+  kept_triangle : (h : ℕ) → h < length m.half_edges → IsOffFlip m e h
       → triangle_at new h ≡ triangle_at m h
   kept_triangle h within a =
       let at_h = kept m new e s can f h a in

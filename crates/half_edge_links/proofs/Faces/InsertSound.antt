@@ -15,7 +15,7 @@ use Rattle.half_edge_links.proofs.Sound.Parts.{NamesOuterEdge}
 use Rattle.half_edge_links.proofs.Sound.Triangles.{IsTriangle, triangle_at, same_loop}
 
 -- an edge is none of those round the face
-pub record IsAway (m : Mesh) (a h : ℕ) : Type 0 where
+pub record IsOffFace (m : Mesh) (a h : ℕ) : Type 0 where
   pub first : h ≢ a
   pub second : h ≢ next m a
   pub third : h ≢ prev m a
@@ -57,11 +57,11 @@ module _ (m new : Mesh) (v f a n g : ℕ) (s : AreSoundLinks m) (inner : IsInner
       rw (← q) (rev_of_odd (n + 4) (omega (arith, n_even)))
 
   -- an old edge that is none of those round the face stays as it was
-  pub kept : (h : ℕ) → h < n → IsAway m a h → edge_at new.half_edges h ≡ edge_at m.half_edges h
+  pub kept : (h : ℕ) → h < n → IsOffFace m a h → edge_at new.half_edges h ≡ edge_at m.half_edges h
   kept h within w = i.other_edges h within w.first w.second w.third
 
   -- an edge of another face is none of those round the face
-  pub away_by_face : (h : ℕ) → face m h ≢ f → IsAway m a h
+  pub away_by_face : (h : ℕ) → face m h ≢ f → IsOffFace m a h
   away_by_face h differs =
       let t = round in
       let is = sym at_f in
@@ -71,7 +71,7 @@ module _ (m new : Mesh) (v f a n g : ℕ) (s : AreSoundLinks m) (inner : IsInner
         third = λ same. differs (cc);
       }
 
-  face_differs : (h : ℕ) → h < n → IsAway m a h → face m h ≢ f
+  face_differs : (h : ℕ) → h < n → IsOffFace m a h → face m h ≢ f
   face_differs h within w same =
       elim (same_loop m a h s inner.0 (rw (← at_n) within) inner.1 (same ∙ at_f)) [
         | inl x ↦ w.first x
@@ -79,12 +79,12 @@ module _ (m new : Mesh) (v f a n g : ℕ) (s : AreSoundLinks m) (inner : IsInner
       ]
 
   -- the edge after one that is none of those round the face is none of them
-  pub next_away : (h : ℕ) → h < n → IsAway m a h → IsAway m a (next m h)
+  pub next_away : (h : ℕ) → h < n → IsOffFace m a h → IsOffFace m a (next m h)
   next_away h within w = away_by_face (next m h)
       (λ q. face_differs h within w (sym (s.edges h (rw (← at_n) within)).same_face ∙ q))
 
   -- the edge before one that is none of those round the face is none of them
-  pub prev_away : (h : ℕ) → h < n → IsAway m a h → IsAway m a (prev m h)
+  pub prev_away : (h : ℕ) → h < n → IsOffFace m a h → IsOffFace m a (prev m h)
   prev_away h within w =
       let here = s.edges h (rw (← at_n) within) in
       away_by_face (prev m h) (λ q. face_differs h within w
@@ -106,7 +106,7 @@ module _ (m new : Mesh) (v f a n g : ℕ) (s : AreSoundLinks m) (inner : IsInner
   rev_in : (h : ℕ) → h < n → rev h < n
   rev_in h within = rev_within h n n_even within
 
-  sound_away : (h : ℕ) → h < n → IsAway m a h → IsSoundEdge new h
+  sound_away : (h : ℕ) → h < n → IsOffFace m a h → IsSoundEdge new h
   sound_away h within w =
       let within' : h < length m.half_edges = omega arith in
       let here = s.edges h within' in

@@ -11,11 +11,11 @@ use Rattle.half_edge_links.specs.Mesh.{IsInnerEdge, IsAlone}
 use Rattle.half_edge_links.specs.Insert.{Inserts, inserted}
 use Rattle.half_edge_links.specs.Triangles.{Triangle, triangle_at, triangles, InsertsTriangles}
 use Rattle.half_edge_links.proofs.Faces.InsertLemmas.{inserts}
-use Rattle.half_edge_links.proofs.Faces.InsertSound.{IsAway, kept, origin_kept, away_by_face}
+use Rattle.half_edge_links.proofs.Faces.InsertSound.{IsOffFace, kept, origin_kept, away_by_face}
 
 module _ (m new : Mesh) (v a : ℕ) (s : AreSoundLinks m) (inner : IsInnerEdge m a) (alone : IsAlone m
     v) (i : Inserts m new v (face m a) a (length m.half_edges) (length m.face_edges)) where
-  kept_triangle : (h : ℕ) → h < length m.half_edges → IsAway m a h
+  kept_triangle : (h : ℕ) → h < length m.half_edges → IsOffFace m a h
       → triangle_at new h ≡ triangle_at m h
   kept_triangle h within w =
       let here = s.edges h within in

@@ -17,7 +17,7 @@ use Rattle.half_edge_links.proofs.Sound.Parts.{EachNextIsSound, KeepsBusy, Keeps
 use Rattle.half_edge_links.proofs.Sound.Parts.{KeepsFaceEdges, NamesFaces}
 
 -- the edges round the place of a new face
-pub record IsCorner (m : Mesh) (e : ℕ) : Type 0 where
+pub record IsNewCorner (m : Mesh) (e : ℕ) : Type 0 where
   pub second_in : next m e < length m.half_edges
   pub before_in : prev m e < length m.half_edges
   pub after_in : next m (next m e) < length m.half_edges
@@ -35,7 +35,7 @@ pub record IsCorner (m : Mesh) (e : ℕ) : Type 0 where
 
 -- where an outer edge and the next one can get a face, the edges round its place are outer and
 -- differ
-pub corner : (m : Mesh) (e : ℕ) → AreSoundLinks m → IsClosable m e → IsCorner m e
+pub corner : (m : Mesh) (e : ℕ) → AreSoundLinks m → IsClosable m e → IsNewCorner m e
 corner m e s can =
     let here = s.edges e can.within in
     let second = s.edges (next m e) here.next_in in
@@ -68,7 +68,7 @@ closes m e s can =
 
 module _ (m new : Mesh) (e : ℕ) (s : AreSoundLinks m) (can : IsClosable m e)
     (i : Closes m new e (length m.half_edges) (length m.face_edges)) where
-  c : IsCorner m e
+  c : IsNewCorner m e
   c = corner m e s can
 
   rev_kept : KeepsEnds m new

@@ -3,7 +3,7 @@ use Rattle.std.proofs.Common.{◌≡◌, ◌≢◌, ◌+◌, ◌<◌, [], ◌∷
 use Rattle.std.proofs.Common.{ℕ, length, Some, None, sym, ap, inl, inr, arith}
 use Rattle.half_edge_links.specs.Mesh.{Mesh, origin, next, prev, out_edge, rev, AreSoundLinks}
 use Rattle.half_edge_links.specs.Mesh.{IsAlone}
-use Rattle.half_edge_links.specs.Grow.{IsOuter, Hangs, Closes, AddsFace}
+use Rattle.half_edge_links.specs.Grow.{OnOuter, Hangs, Closes, AddsFace}
 use Rattle.half_edge_links.specs.Outline.{HangsOuter, ClosesOuter, ReplacesOuter}
 use Rattle.half_edge_links.proofs.Sound.Parts.{rev_of_even}
 
@@ -16,7 +16,7 @@ differs_alone m h v s within alone same =
     let clash = rw none at has in
     cc
 
-module _ (m mid new : Mesh) (e v : ℕ) (s : AreSoundLinks m) (outer : IsOuter m e)
+module _ (m mid new : Mesh) (e v : ℕ) (s : AreSoundLinks m) (outer : OnOuter m e)
     (alone : IsAlone m v) (i : Hangs m mid e v (length m.half_edges)) where
   -- an edge to v and then a face of e and this edge make a face of e and v
   pub adds_face : Closes mid new e (length mid.half_edges) (length mid.face_edges)

@@ -1,7 +1,7 @@
 -- What a new edge at the hull and new faces beside it do, in one record each.
 use Rattle.std.proofs.Common.{◌≡◌, ℕ, length, Option, Some, ap, ◌∙◌}
 use Rattle.half_edge_links.specs.Mesh.{Mesh, origin, next, rev, out_edge, AreSoundLinks, IsAlone}
-use Rattle.half_edge_links.specs.Grow.{IsOuter, IsClosable, Hangs, Closes, hung, closed, or_zero}
+use Rattle.half_edge_links.specs.Grow.{OnOuter, IsClosable, Hangs, Closes, hung, closed, or_zero}
 use Rattle.half_edge_links.specs.Grow.{edge_into}
 use Rattle.half_edge_links.specs.Grown.{HangsEdge, ClosesCorner, AddsFaceBeside, ExtendsLine}
 use Rattle.half_edge_links.proofs.Growing.Hang.{hangs}
@@ -16,7 +16,7 @@ use Rattle.half_edge_links.proofs.OuterLoop.Outline.{outline_hung, outline_close
 
 -- what the mesh with an edge from the end of outer edge x to vertex v has of links, ends, corners
 -- and outer edges
-pub hangs_edge : (m new : Mesh) (x v : ℕ) → AreSoundLinks m → IsOuter m x → IsAlone m v
+pub hangs_edge : (m new : Mesh) (x v : ℕ) → AreSoundLinks m → OnOuter m x → IsAlone m v
     → new ≡ hung m x v → HangsEdge m new x v
 hangs_edge m new x v s outer alone is =
     let links : Hangs m new x v (length m.half_edges) = rw is (hangs m x v s outer alone) in
@@ -45,7 +45,7 @@ closes_corner m new e s can is =
 
 -- an edge from the end of outer edge e to vertex v, and then a face of e and this edge, add a face
 -- of e and v
-pub adds_face_beside : (m mid new : Mesh) (e v : ℕ) → AreSoundLinks m → IsOuter m e → IsAlone m v →
+pub adds_face_beside : (m mid new : Mesh) (e v : ℕ) → AreSoundLinks m → OnOuter m e → IsAlone m v →
     HangsEdge m mid e v → ClosesCorner mid new e → AddsFaceBeside m new e v
 adds_face_beside m mid new e v s outer alone hung closed =
     let i = hung.links in

@@ -7,7 +7,7 @@ use Rattle.half_edge_links.specs.Mesh.{edge_at, Mesh, origin, next, prev, face, 
 use Rattle.half_edge_links.specs.Mesh.{IsAlone}
 use Rattle.half_edge_links.specs.Flip.{Flips, IsFlippable}
 use Rattle.half_edge_links.specs.Triangles.{triangle_at, triangles, FlipsTriangles}
-use Rattle.half_edge_links.specs.Grow.{HalfSplits, AddsFace, IsHalfSplittable, IsOuter}
+use Rattle.half_edge_links.specs.Grow.{HalfSplits, AddsFace, IsHalfSplittable, OnOuter}
 use Rattle.half_edge_links.specs.Outline.{KeepsOuter, ReplacesOuter, AddsTriangle}
 use Rattle.half_edge_links.specs.Outline.{HalfSplitsTriangles}
 use Rattle.half_edge_links.proofs.Faces.FlipSound.{origin_kept}
@@ -15,7 +15,7 @@ use Rattle.half_edge_links.proofs.Growing.FaceBeside.{differs_alone}
 use Rattle.half_edge_links.proofs.Lists.Rev.{rev-rev, rev_within, rev_differs}
 
 -- the reverse of an edge of the hull is outer
-pub twin_outer : (m : Mesh) (e : ℕ) → AreSoundLinks m → IsHalfSplittable m e → IsOuter m (rev e)
+pub twin_outer : (m : Mesh) (e : ℕ) → AreSoundLinks m → IsHalfSplittable m e → OnOuter m (rev e)
 twin_outer m e s half = (rev_within e _ s.even half.within, half.outer)
 
 -- that outer edge e gave way to two edges holds still after a step that keeps the outer edges

@@ -7,7 +7,7 @@ use Rattle.half_edge_links.proofs.Lists.Cases.{◌or_else◌}
 use Rattle.half_edge_links.specs.declared.records.HalfEdge.{HalfEdge}
 use Rattle.half_edge_links.specs.Mesh.{Mesh, no_edge, edge_at, origin, next, prev, face, face_edge}
 use Rattle.half_edge_links.specs.Mesh.{rev, AreSoundLinks, IsSoundEdge, IsAlone}
-use Rattle.half_edge_links.specs.Grow.{with_next, with_prev, IsOuter, hung_edges, hung, Hangs}
+use Rattle.half_edge_links.specs.Grow.{with_next, with_prev, OnOuter, hung_edges, hung, Hangs}
 use Rattle.half_edge_links.proofs.Lists.Rev.{rev_within}
 use Rattle.half_edge_links.proofs.Faces.FlipLemmas.{links_from}
 use Rattle.half_edge_links.proofs.Sound.FieldWrites.{writes_next, writes_prev, next_link, prev_link}
@@ -91,7 +91,7 @@ module _ (hs : List HalfEdge) (x y v : ℕ) (x_in : x < length hs) (y_in : y < l
 
 -- an edge from the end of an outer edge to a lonely vertex changes the links round it, and no
 -- others
-pub hangs : (m : Mesh) (x v : ℕ) → AreSoundLinks m → IsOuter m x → IsAlone m v
+pub hangs : (m : Mesh) (x v : ℕ) → AreSoundLinks m → OnOuter m x → IsAlone m v
     → Hangs m (hung m x v) x v (length m.half_edges)
 unfolding hung
 hangs m x v s out alone =
@@ -113,7 +113,7 @@ hangs m x v s out alone =
       outer_edge = refl;
     }
 
-module _ (m new : Mesh) (x v : ℕ) (s : AreSoundLinks m) (outer : IsOuter m x) (alone : IsAlone m v)
+module _ (m new : Mesh) (x v : ℕ) (s : AreSoundLinks m) (outer : OnOuter m x) (alone : IsAlone m v)
     (i : Hangs m new x v (length m.half_edges)) where
   at_x : IsSoundEdge m x
   at_x = s.edges x outer.0

@@ -4,7 +4,7 @@ use Rattle.std.proofs.lemmas.Bool.{cases_eq}
 use Rattle.half_edge_links.proofs.Lists.Cases.{◌or_else◌}
 use Rattle.half_edge_links.specs.Mesh.{Mesh, origin, next, prev, face, out_edge, rev, AreSoundLinks}
 use Rattle.half_edge_links.specs.Mesh.{IsAlone}
-use Rattle.half_edge_links.specs.Grow.{IsOuter, IsLineEdge, Hangs, Slides, SplitsLine, IsOnLine}
+use Rattle.half_edge_links.specs.Grow.{OnOuter, IsLineEdge, Hangs, Slides, SplitsLine, IsOnLine}
 use Rattle.half_edge_links.specs.Outline.{IsOuterEdge, SplitsOuter}
 use Rattle.half_edge_links.proofs.Lists.Rev.{rev-rev, rev_within, rev_differs}
 use Rattle.half_edge_links.proofs.Sound.Parts.{rev_of_even, rev_of_odd, HasNoFace}
@@ -12,7 +12,7 @@ use Rattle.half_edge_links.proofs.OuterLoop.Outer.{same_outer, at_edge, is_edge}
 use Rattle.half_edge_links.proofs.Growing.FaceBeside.{differs_alone}
 
 -- an edge of a mesh without inner faces is outer
-pub line_outer : (m : Mesh) (e : ℕ) → AreSoundLinks m → IsLineEdge m e → IsOuter m e
+pub line_outer : (m : Mesh) (e : ℕ) → AreSoundLinks m → IsLineEdge m e → OnOuter m e
 line_outer m e s line = (line.0, omega (arith, (s.edges e line.0).face_in, ap length line.1))
 
 module _ (m mid new : Mesh) (e v : ℕ) (s : AreSoundLinks m) (line : IsLineEdge m e)
@@ -165,7 +165,7 @@ module _ (m mid new : Mesh) (e v : ℕ) (s : AreSoundLinks m) (line : IsLineEdge
 
 -- the reverse of the edge that a vertex of a line names is outer
 pub into_outer : (m : Mesh) (u h : ℕ) → AreSoundLinks m → IsOnLine m u → out_edge m u ≡ Some h
-    → IsOuter m (rev h)
+    → OnOuter m (rev h)
 into_outer m u h s line is =
     let had = s.vertices u h is in
     let within : rev h < length m.half_edges = rev_within h _ s.even had.0 in

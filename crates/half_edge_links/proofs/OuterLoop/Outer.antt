@@ -3,8 +3,8 @@ use Rattle.std.proofs.Common.{◌≡◌, ◌≢◌, ℕ, ◌+◌, ◌<◌, lengt
 use Rattle.std.proofs.lemmas.Bool.{cases_eq}
 use Rattle.half_edge_links.proofs.Lists.Cases.{◌or_else◌}
 use Rattle.half_edge_links.specs.Mesh.{Mesh, origin, next, face, rev, AreSoundLinks}
-use Rattle.half_edge_links.specs.Grow.{IsOuter, IsClosable, Hangs, Closes}
-use Rattle.half_edge_links.specs.Outline.{IsOuterEdge, IsEdge, HangsOuter, ClosesOuter}
+use Rattle.half_edge_links.specs.Grow.{OnOuter, IsClosable, Hangs, Closes}
+use Rattle.half_edge_links.specs.Outline.{IsOuterEdge, IsThis, HangsOuter, ClosesOuter}
 use Rattle.half_edge_links.proofs.Lists.Rev.{rev_within}
 use Rattle.half_edge_links.proofs.Sound.Parts.{rev_of_even, rev_of_odd}
 use Rattle.half_edge_links.proofs.Growing.Close.{corner}
@@ -17,13 +17,13 @@ same_outer m new h a b o within f x y =
     record { within = within; outer = f ∙ o.outer; source = x ∙ o.source; target = y ∙ o.target }
 
 -- what has the index and the ends of an outer edge is this outer edge
-pub at_edge : (m : Mesh) (h a b i p q : ℕ) → IsOuterEdge m i p q → IsEdge i p q h a b
+pub at_edge : (m : Mesh) (h a b i p q : ℕ) → IsOuterEdge m i p q → IsThis i p q h a b
     → IsOuterEdge m h a b
 at_edge m h a b i p q o is = rw (is.0, is.1, is.2) o
 
 -- two outer edges with the same index have the same ends
 pub is_edge : (m : Mesh) (h a b i p q : ℕ) → IsOuterEdge m h a b → IsOuterEdge m i p q → i ≡ h
-    → IsEdge i p q h a b
+    → IsThis i p q h a b
 is_edge m h a b i p q o made same = (
   sym same,
   sym o.source ∙ ap (origin m) (sym same) ∙ made.source,
@@ -31,7 +31,7 @@ is_edge m h a b i p q o made same = (
 )
 
 -- an edge from the end of outer edge x to vertex v and back makes two outer edges; the others stay
-pub outer_hung : (m new : Mesh) (x v : ℕ) → AreSoundLinks m → IsOuter m x
+pub outer_hung : (m new : Mesh) (x v : ℕ) → AreSoundLinks m → OnOuter m x
     → Hangs m new x v (length m.half_edges) → HangsOuter m new x v (length m.half_edges)
 outer_hung m new x v s outer i =
     let here = s.edges x outer.0 in

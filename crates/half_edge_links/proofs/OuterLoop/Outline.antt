@@ -6,7 +6,7 @@ use Rattle.half_edge_links.specs.Mesh.{Mesh, origin, next, prev, face, rev, AreS
 use Rattle.half_edge_links.specs.Mesh.{IsInnerEdge, IsAlone, connected}
 use Rattle.half_edge_links.specs.Flip.{IsFlippable, Flips}
 use Rattle.half_edge_links.specs.Insert.{Inserts}
-use Rattle.half_edge_links.specs.Grow.{IsOuter, IsClosable, Hangs, Closes}
+use Rattle.half_edge_links.specs.Grow.{OnOuter, IsClosable, Hangs, Closes}
 use Rattle.half_edge_links.specs.Hull.{HasOneOutline, KeepsOneOutline}
 use Rattle.half_edge_links.proofs.Faces.KeepsOuter.{outer_flipped, outer_inserted}
 use Rattle.half_edge_links.proofs.Growing.Close.{corner}
@@ -74,7 +74,7 @@ outline_inserted m new v a s inner alone i =
     })
 
 -- the outer face keeps one loop when an edge from the end of an outer edge to vertex v is made
-pub outline_hung : (m new : Mesh) (x v : ℕ) → AreSoundLinks m → IsOuter m x
+pub outline_hung : (m new : Mesh) (x v : ℕ) → AreSoundLinks m → OnOuter m x
     → Hangs m new x v (length m.half_edges) → KeepsOneOutline m new
 outline_hung m new x v s outer i =
     let n : ℕ = length m.half_edges in

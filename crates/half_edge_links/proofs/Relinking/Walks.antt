@@ -4,7 +4,7 @@
 --   IsMoved, exchange_moved: one edge that gets another place
 use Rattle.std.proofs.Common.{◌≡◌, ◌≢◌, [], ◌∷◌, ℕ, ◌<◌, List, length, refl, sym, ap, ◌∙◌}
 use Rattle.half_edge_links.specs.Mesh.{Mesh, origin, next, prev, AreSoundLinks, HasStars}
-use Rattle.half_edge_links.specs.Grow.{IsOuter}
+use Rattle.half_edge_links.specs.Grow.{OnOuter}
 use Rattle.half_edge_links.specs.Hull.{HasOneOutline, KeepsOneOutline}
 use Rattle.half_edge_links.specs.Peel.{turn}
 use Rattle.half_edge_links.proofs.Lists.Named.{◌and◌}
@@ -18,7 +18,7 @@ star_walk m = record { Live = λ h. h < length m.half_edges; step = turn m; labe
 
 -- from each outer edge to the one after it
 abbrev pub outer_walk : Mesh → Walk
-outer_walk m = record { Live = IsOuter m; step = next m; label = λ h. 0 }
+outer_walk m = record { Live = OnOuter m; step = next m; label = λ h. 0 }
 
 module _ (m : Mesh) (s : AreSoundLinks m) where
   -- the next edge round a vertex starts there

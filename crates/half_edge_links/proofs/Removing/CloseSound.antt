@@ -13,10 +13,10 @@ use Rattle.half_edge_links.proofs.Sound.Parts.{loop_sound, sound_from, next_kept
 use Rattle.half_edge_links.proofs.Sound.Parts.{inner_kept, KeepsBusy, KeepsFaceEdges}
 
 -- edge k is h, the edge after h or the one before it
-abbrev pub IsRound : Mesh → ℕ → ℕ → Type 0
-IsRound m h k = (k ≡ h) ⊎ ((k ≡ next m h) ⊎ (k ≡ prev m h))
+abbrev pub IsOfFace : Mesh → ℕ → ℕ → Type 0
+IsOfFace m h k = (k ≡ h) ⊎ ((k ≡ next m h) ⊎ (k ≡ prev m h))
 
-is_round : (m : Mesh) (h k : ℕ) → IsRound m h k ⊎ ((k ≢ h) × (k ≢ next m h) × (k ≢ prev m h))
+is_round : (m : Mesh) (h k : ℕ) → IsOfFace m h k ⊎ ((k ≢ h) × (k ≢ next m h) × (k ≢ prev m h))
 is_round m h k = grind arith
 
 module _ (m : Mesh) (h : ℕ) (s : AreSoundLinks m) (can : IsOpenTriangle m h) where

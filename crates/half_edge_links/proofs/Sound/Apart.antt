@@ -8,13 +8,13 @@ use Rattle.half_edge_links.specs.Mesh.{IsInnerEdge, IsAlone, HasApartEnds, HasSt
 use Rattle.half_edge_links.specs.Mesh.{connected}
 use Rattle.half_edge_links.specs.Flip.{IsFlippable, Flips}
 use Rattle.half_edge_links.specs.Insert.{Inserts}
-use Rattle.half_edge_links.specs.Grow.{IsOuter, IsClosable, Hangs, Closes}
+use Rattle.half_edge_links.specs.Grow.{OnOuter, IsClosable, Hangs, Closes}
 use Rattle.half_edge_links.proofs.Lists.Rev.{rev-rev, rev_within}
 use Rattle.half_edge_links.proofs.Sound.Parts.{grown_cases, late_cases, rev_of_even, rev_of_odd}
 use Rattle.half_edge_links.proofs.Growing.FaceBeside.{differs_alone}
 use Rattle.half_edge_links.proofs.Faces.FlipSound.{origin_kept}
 use Rattle.half_edge_links.proofs.Faces.InsertSound as inserting
-use Rattle.half_edge_links.proofs.Growing.Close.{IsCorner, corner}
+use Rattle.half_edge_links.proofs.Growing.Close.{IsNewCorner, corner}
 
 -- an edge whose ends stay
 apart_kept : (m new : Mesh) (h : ℕ) → HasApartEnds m → h < length m.half_edges → origin new h
@@ -46,7 +46,7 @@ apart_flipped m new e s can f corners apart h within =
     ]
 
 -- no edge joins a vertex to itself once a lonely vertex is joined to the end of an outer edge
-pub apart_hung : (m new : Mesh) (x v : ℕ) → AreSoundLinks m → IsOuter m x → IsAlone m v
+pub apart_hung : (m new : Mesh) (x v : ℕ) → AreSoundLinks m → OnOuter m x → IsAlone m v
     → Hangs m new x v (length m.half_edges) → HasApartEnds m → HasApartEnds new
 apart_hung m new x v s outer alone i apart h within =
     let there : origin new (length m.half_edges) ≢ origin new (length m.half_edges + 1) =
@@ -63,7 +63,7 @@ apart_hung m new x v s outer alone i apart h within =
 pub apart_closed : (m new : Mesh) (e : ℕ) → AreSoundLinks m → IsClosable m e
     → Closes m new e (length m.half_edges) (length m.face_edges) → HasApartEnds m → HasApartEnds new
 apart_closed m new e s can i apart h within =
-    let c : IsCorner m e = corner m e s can in
+    let c : IsNewCorner m e = corner m e s can in
     let there : origin new (length m.half_edges) ≢ origin new (length m.half_edges + 1) =
     λ q. can.apart (sym c.end ∙ sym i.inside.origin ∙ q ∙ i.outside.origin) in
     elim (grown_cases h _ (omega (arith, within, i.edge_count))) [

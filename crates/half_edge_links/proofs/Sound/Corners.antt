@@ -5,7 +5,7 @@ use Rattle.std.proofs.lemmas.List.{same_lists, get_or-map, length-map, map-appen
 use Rattle.half_edge_links.specs.Mesh.{Mesh, origin, next, prev, face, rev, AreSoundLinks, IsAlone}
 use Rattle.half_edge_links.specs.Triangles.{Triangle, triangle_at, triangles}
 use Rattle.half_edge_links.specs.Outline.{AddsTriangle}
-use Rattle.half_edge_links.specs.Grow.{IsOuter, IsClosable, Hangs, Closes}
+use Rattle.half_edge_links.specs.Grow.{OnOuter, IsClosable, Hangs, Closes}
 use Rattle.half_edge_links.proofs.Growing.Hang.{after_outer}
 use Rattle.half_edge_links.proofs.Growing.Close.{corner}
 
@@ -31,7 +31,7 @@ module _ (m new : Mesh) (s : AreSoundLinks m) (same : (h : ℕ) → h < length m
       (h ∷ []) ∙ ap (λ (q : List Triangle). q ++ triangle_at new h ∷ []) mapped
 
 -- no face has other corners once a lonely vertex is joined to the end of an outer edge
-pub triangles_hung : (m new : Mesh) (x v : ℕ) → AreSoundLinks m → IsOuter m x → IsAlone m v
+pub triangles_hung : (m new : Mesh) (x v : ℕ) → AreSoundLinks m → OnOuter m x → IsAlone m v
     → Hangs m new x v (length m.half_edges) → triangles new ≡ triangles m
 triangles_hung m new x v s outer alone i =
     triangles_kept m new s (λ h within some.

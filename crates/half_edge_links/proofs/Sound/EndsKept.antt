@@ -7,7 +7,7 @@ use Rattle.half_edge_links.specs.Mesh.{Mesh, origin, next, prev, rev, AreSoundLi
 use Rattle.half_edge_links.specs.Mesh.{IsInnerEdge}
 use Rattle.half_edge_links.specs.Flip.{IsFlippable, flipped}
 use Rattle.half_edge_links.specs.Insert.{inserted}
-use Rattle.half_edge_links.specs.Grow.{IsOuter, IsClosable, IsLineEdge}
+use Rattle.half_edge_links.specs.Grow.{OnOuter, IsClosable, IsLineEdge}
 use Rattle.half_edge_links.specs.Grow.{IsHalfSplittable, Hangs, Closes, AddsFace}
 use Rattle.half_edge_links.specs.Outline.{ends, along, AddsEdge, AddsTwoEdges, MovesEdge}
 use Rattle.half_edge_links.specs.Outline.{InsertsEnds, SplitsLineEnds, HalfSplitsEnds}
@@ -43,7 +43,7 @@ six m new a b c d e f x0 x1 x2 x3 x4 x5 (suc (suc (suc (suc (suc (suc j)))))) wi
     absurd (omega (arith, within))
 
 -- an edge between the end of outer edge x and vertex v is added, and no other ends change
-pub ends_hung : (m new : Mesh) (x v : ℕ) → AreSoundLinks m → IsOuter m x
+pub ends_hung : (m new : Mesh) (x v : ℕ) → AreSoundLinks m → OnOuter m x
     → Hangs m new x v (length m.half_edges) → AddsEdge m new (origin m (rev x)) v
 ends_hung m new x v s outer i =
     ends_grown m new s (origin m (rev x) ∷ v ∷ []) i.edge_count i.origins
@@ -61,7 +61,7 @@ ends_closed m new e s can i =
 
 -- a new face of outer edge e and vertex v adds the edges from the end of e to v and from v to its
 -- start
-pub ends_beside : (m mid new : Mesh) (e v : ℕ) → AreSoundLinks m → IsOuter m e
+pub ends_beside : (m mid new : Mesh) (e v : ℕ) → AreSoundLinks m → OnOuter m e
     → Hangs m mid e v (length m.half_edges) → AddsEdge m mid (origin m (rev e)) v
     → AddsEdge mid new (origin mid (rev (next mid e))) (origin mid e)
     → AddsTwoEdges m new (origin m (rev e)) v v (origin m e)

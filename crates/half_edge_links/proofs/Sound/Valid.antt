@@ -7,7 +7,7 @@ use Rattle.half_edge_links.specs.Mesh.{Mesh, IsSmall, origin, prev, rev, IsValid
 use Rattle.half_edge_links.specs.Mesh.{IsAlone, with_vertex, connected, IsInner}
 use Rattle.half_edge_links.specs.Flip.{IsFlippable, flipped}
 use Rattle.half_edge_links.specs.Insert.{inserted}
-use Rattle.half_edge_links.specs.Grow.{IsOuter, IsClosable, IsSlidable, hung, closed, slid}
+use Rattle.half_edge_links.specs.Grow.{OnOuter, IsClosable, IsSlidable, hung, closed, slid}
 use Rattle.half_edge_links.proofs.Growing.VertexLemmas.{sound_with_vertex}
 use Rattle.half_edge_links.proofs.Growing.ConnectLemmas.{sound_connected}
 use Rattle.half_edge_links.proofs.Faces.FlipLemmas.{flips}
@@ -107,7 +107,7 @@ valid_inserted m v a valid inner alone room faces =
 
 -- a valid mesh stays valid when a lonely vertex is joined to an outer edge's end, if edges are few
 -- enough
-pub valid_hung : (m : Mesh) (x v : ℕ) → IsValidMesh m → IsOuter m x → IsAlone m v
+pub valid_hung : (m : Mesh) (x v : ℕ) → IsValidMesh m → OnOuter m x → IsAlone m v
     → length m.half_edges + 2 ≤ MAX_ELEMENTS → IsValidMesh (hung m x v)
 valid_hung m x v valid outer alone room =
     let i = hangs m x v valid.sound outer alone in

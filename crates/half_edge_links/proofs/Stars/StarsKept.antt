@@ -6,7 +6,7 @@ use Rattle.half_edge_links.specs.Mesh.{Mesh, next, prev, face, rev, AreSoundLink
 use Rattle.half_edge_links.specs.Mesh.{IsInnerEdge, HasStars}
 use Rattle.half_edge_links.specs.Flip.{IsFlippable, Flips}
 use Rattle.half_edge_links.specs.Insert.{Inserts}
-use Rattle.half_edge_links.specs.Grow.{IsOuter, IsClosable, Hangs, Closes}
+use Rattle.half_edge_links.specs.Grow.{OnOuter, IsClosable, Hangs, Closes}
 use Rattle.half_edge_links.proofs.Lists.Named.{◌and◌}
 use Rattle.half_edge_links.proofs.Lists.Rev.{rev-rev, rev_same}
 use Rattle.half_edge_links.proofs.Sound.Parts.{rev_of_even, rev_of_odd}
@@ -19,7 +19,7 @@ use Rattle.half_edge_links.proofs.Relinking.Walks.{stars_exchanged}
 
 -- each vertex still has one round of edges once a lonely vertex is joined to the end of an outer
 -- edge
-pub stars_hung : (m new : Mesh) (x v : ℕ) → AreSoundLinks m → IsOuter m x → IsAlone m v
+pub stars_hung : (m new : Mesh) (x v : ℕ) → AreSoundLinks m → OnOuter m x → IsAlone m v
     → Hangs m new x v (length m.half_edges) → HasStars m → HasStars new
 stars_hung m new x v s outer alone i =
     let n : ℕ = length m.half_edges in

@@ -15,7 +15,7 @@ use Rattle.half_edge_links.specs.EdgeList.{stored_at, shown}
 use Rattle.half_edge_links.proofs.Stored.Shown.{next_shown, prev_shown, face_shown}
 use Rattle.half_edge_links.proofs.Stored.Keeps.{keeps_shown, keeps_set, keeps_push, shown_is}
 use Rattle.half_edge_links.proofs.Stored.Keeps.{corner_shown, corners_of, count_corners, corner_at}
-use Rattle.half_edge_links.proofs.Stored.Keeps.{SayOrigins, AreApart, apart_joined}
+use Rattle.half_edge_links.proofs.Stored.Keeps.{SayOrigins, HaveOwnNexts, apart_joined}
 
 module _ (hs : List HalfEdge) (cs : List ℕ) (v a b c f g : ℕ) where
   abbrev n : ℕ
@@ -42,7 +42,7 @@ module _ (hs : List HalfEdge) (cs : List ℕ) (v a b c f g : ℕ) where
         ++ at_b ∷ [] ++ at_a ∷ []
 
     module _ (p : AreThreePlaces (length hs) a b c) (count : length cs ≡ length hs)
-        (apart : AreApart hs) (say : SayOrigins hs cs)
+        (apart : HaveOwnNexts hs) (say : SayOrigins hs cs)
         (next_in : (h : ℕ) → h < length hs → (edge_at hs h).next < length hs)
         (next_a : (edge_at hs a).next ≡ b) (next_b : (edge_at hs b).next ≡ c)
         (next_c : (edge_at hs c).next ≡ a) (is_a : at_a ≡ (edge_at hs a).origin)

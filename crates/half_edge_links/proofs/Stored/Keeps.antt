@@ -146,12 +146,12 @@ abbrev pub SayOrigins : List HalfEdge → List ℕ → Type 0
 SayOrigins hs cs = (h : ℕ) → h < length hs → get_or cs (edge_at hs h).next 0 ≡ (edge_at hs h).origin
 
 -- no two edges come before one
-abbrev pub AreApart : List HalfEdge → Type 0
-AreApart hs = (h k : ℕ) → h < length hs → k < length hs
+abbrev pub HaveOwnNexts : List HalfEdge → Type 0
+HaveOwnNexts hs = (h k : ℕ) → h < length hs → k < length hs
     → (edge_at hs h).next ≡ (edge_at hs k).next → h ≡ k
 
 -- no two edges of a joined list come before one
-pub apart_joined : (hs : List HalfEdge) → AreJoined hs → AreApart hs
+pub apart_joined : (hs : List HalfEdge) → AreJoined hs → HaveOwnNexts hs
 apart_joined hs j h k h_in k_in same =
     sym (j.prev_next h h_in) ∙ ap (λ n. (edge_at hs n).prev) same ∙ j.prev_next k k_in
 

@@ -15,7 +15,7 @@ use Rattle.half_edge_links.proofs.Lists.Writes.{get_or-set_six_other}
 use Rattle.half_edge_links.proofs.Stored.Shown.{next_shown, prev_shown, face_shown}
 use Rattle.half_edge_links.proofs.Stored.Keeps.{keeps_shown, keeps_set, shown_is, corner_shown}
 use Rattle.half_edge_links.proofs.Stored.Keeps.{corners_of, count_corners, corner_at, SayOrigins}
-use Rattle.half_edge_links.proofs.Stored.Keeps.{AreApart, apart_joined}
+use Rattle.half_edge_links.proofs.Stored.Keeps.{HaveOwnNexts, apart_joined}
 
 -- six directed edges follow each other round two triangles
 pub record GoRound (hs : List HalfEdge) (e t en tn ep tp : ℕ) : Type 0 where
@@ -51,7 +51,7 @@ module _ (hs : List HalfEdge) (cs : List ℕ) (e t en tn ep tp ef tf : ℕ) wher
     written = set (set (set (set (set (set cs e end) t start) en right) tn left) ep right) tp left
 
     module _ (six : AreSixPlaces (length hs) e t en tn ep tp) (round : GoRound hs e t en tn ep tp)
-        (count : length cs ≡ length hs) (apart : AreApart hs) (say : SayOrigins hs cs)
+        (count : length cs ≡ length hs) (apart : HaveOwnNexts hs) (say : SayOrigins hs cs)
         (at : StartAt hs en tn ep tp end start left right) where
       six_cs : AreSixPlaces (length cs) e t en tn ep tp
       six_cs = rw count six

@@ -261,13 +261,13 @@ edge_not_inside t h i j d e f y edge g m inside = go ((h.sides i j).0 edge)
     go (inr s) = touches j i (swapped_weights _ _ y w) s
 
 -- ---- corners of one triple among those of another
-abbrev IsOneOf : ℕ → ℕ → ℕ → ℕ → Type 0
-IsOneOf a b c n = (n ≡ a) ⊎ ((n ≡ b) ⊎ (n ≡ c))
+abbrev IsOneListed : ℕ → ℕ → ℕ → ℕ → Type 0
+IsOneListed a b c n = (n ≡ a) ⊎ ((n ≡ b) ⊎ (n ≡ c))
 
-one_of : (a b c n : ℕ) → IsOneOf a b c n ⊎ ((n ≢ a) × (n ≢ b) × (n ≢ c))
+one_of : (a b c n : ℕ) → IsOneListed a b c n ⊎ ((n ≢ a) × (n ≢ b) × (n ≢ c))
 one_of a b c n = go (ℕ_discrete n a) (ℕ_discrete n b) (ℕ_discrete n c)
   where
-    go : Dec (n ≡ a) → Dec (n ≡ b) → Dec (n ≡ c) → IsOneOf a b c n ⊎ ((n ≢ a) × (n ≢ b) × (n ≢ c))
+    go : Dec (n ≡ a) → Dec (n ≡ b) → Dec (n ≡ c) → IsOneListed a b c n ⊎ ((n ≢ a) × (n ≢ b) × (n ≢ c))
     go (yes e) q r = inl (inl e)
     go (no p) (yes e) r = inl (inr (inl e))
     go (no p) (no q) (yes e) = inl (inr (inr e))
@@ -296,8 +296,8 @@ module _ (at : ℕ → Fraction) where
       mirrored : (x y : ℤ) → pos 0 <ℤ x → pos 0 <ℤ y → y ≡ neg_ℤ x → ⊥
       mirrored x y h k e = omega (arith, ints)
 
-  from_first : (a b c d e f : ℕ) → Left a b c → Left d e f → d ≡ a → IsOneOf a b c e
-      → IsOneOf a b c f → (d ≡ a) × (e ≡ b) × (f ≡ c)
+  from_first : (a b c d e f : ℕ) → Left a b c → Left d e f → d ≡ a → IsOneListed a b c e
+      → IsOneListed a b c f → (d ≡ a) × (e ≡ b) × (f ≡ c)
   from_first a b c d e f t s p (inl q) r = absurd (flat_third d e f s (p ∙ sym q))
   from_first a b c d e f t s p (inr (inl q)) (inl r) = absurd (flat_first d e f s (p ∙ sym r))
   from_first a b c d e f t s p (inr (inl q)) (inr (inl r)) =
@@ -308,13 +308,13 @@ module _ (at : ℕ → Fraction) where
   from_first a b c d e f t s p (inr (inr q)) (inr (inr r)) =
       absurd (flat_second d e f s (q ∙ sym r))
 
-  one_of_turned : (a b c n : ℕ) → IsOneOf a b c n → IsOneOf b c a n
+  one_of_turned : (a b c n : ℕ) → IsOneListed a b c n → IsOneListed b c a n
   one_of_turned a b c n (inl e) = inr (inr e)
   one_of_turned a b c n (inr (inl e)) = inl e
   one_of_turned a b c n (inr (inr e)) = inr (inl e)
 
-  same_corners : (a b c d e f : ℕ) → Left a b c → Left d e f → IsOneOf a b c d → IsOneOf a b c e
-      → IsOneOf a b c f → IsTurned a b c d e f
+  same_corners : (a b c d e f : ℕ) → Left a b c → Left d e f → IsOneListed a b c d → IsOneListed a b c e
+      → IsOneListed a b c f → IsTurned a b c d e f
   same_corners a b c d e f t s (inl p) q r = inl (from_first a b c d e f t s p q r)
   same_corners a b c d e f t s (inr (inl p)) q r = inr (inl (from_first b c a d e f
       (turned-above _ _ _ t) s p (one_of_turned a b c e q) (one_of_turned a b c f r)))
@@ -414,7 +414,7 @@ module _ (t : Triangulation) (constraints : List (ℕ × ℕ)) where
 
 module _ (t : Triangulation) (constraints : List (ℕ × ℕ)) (a b c : ℕ)
     (s : IsVisiblyEmpty t constraints a b c) where
-  corner_lift : (n : ℕ) → IsOneOf a b c n
+  corner_lift : (n : ℕ) → IsOneListed a b c n
       → lift (vertex t a) (vertex t b) (vertex t c) (vertex t n) ≡ pos 0
   corner_lift n (inl e) = ap (λ i. lift (vertex t a) (vertex t b) (vertex t c) (vertex t i)) e
       ∙ lift-first (vertex t a) (vertex t b) (vertex t c)
@@ -433,7 +433,7 @@ module _ (t : Triangulation) (constraints : List (ℕ × ℕ)) (a b c : ℕ)
     where
       low : (n : ℕ) → IsVertex t n
           → IsSeen t constraints (vertex t a) (vertex t b) (vertex t c) (vertex t n)
-          → IsOneOf a b c n ⊎ ((n ≢ a) × (n ≢ b) × (n ≢ c))
+          → IsOneListed a b c n ⊎ ((n ≢ a) × (n ≢ b) × (n ≢ c))
           → lift (vertex t a) (vertex t b) (vertex t c) (vertex t n) ≤ℤ pos 0
       low n v seen (inl o) = zero_weak (corner_lift n o)
       low n v seen (inr d) = circle_lift t a b c n s.turns (s.clear n v d.0 d.1 d.2 seen).0
@@ -441,10 +441,10 @@ module _ (t : Triangulation) (constraints : List (ℕ × ℕ)) (a b c : ℕ)
   -- a seen vertex that the circle carries is a corner
   carried : (n : ℕ) → IsVertex t n
       → IsSeen t constraints (vertex t a) (vertex t b) (vertex t c) (vertex t n)
-      → lift (vertex t a) (vertex t b) (vertex t c) (vertex t n) ≡ pos 0 → IsOneOf a b c n
+      → lift (vertex t a) (vertex t b) (vertex t c) (vertex t n) ≡ pos 0 → IsOneListed a b c n
   carried n v seen z = go (one_of a b c n)
     where
-      go : IsOneOf a b c n ⊎ ((n ≢ a) × (n ≢ b) × (n ≢ c)) → IsOneOf a b c n
+      go : IsOneListed a b c n ⊎ ((n ≢ a) × (n ≢ b) × (n ≢ c)) → IsOneListed a b c n
       go (inl o) = o
       go (inr d) = absurd ((s.clear n v d.0 d.1 d.2 seen).1
           ((on_is_lift (spot t a) (spot t b) (spot t c) (spot t n) s.turns).1 z))

@@ -129,7 +129,7 @@ module _ (p q : Fraction) where
   on_cross f g o h i s t = on_mixed (neg_ℤ (f g)) o (f o) g _ (weak (neg-pos_ℤ h)) i t s
 
 -- ---- between two lines
-record AreOpposite (f f' : Fraction → ℤ) : Type 0 where
+record AreFacing (f f' : Fraction → ℤ) : Type 0 where
   linear : (k : ℤ) (a : Fraction) (m : ℤ) (b : Fraction) (h : pos 0 <ℤ (k *ℤ a.w +ℤ m *ℤ b.w))
       → f (mixed k a m b h) ≡ k *ℤ f a +ℤ m *ℤ f b
   linear' : (k : ℤ) (a : Fraction) (m : ℤ) (b : Fraction) (h : pos 0 <ℤ (k *ℤ a.w +ℤ m *ℤ b.w))
@@ -172,7 +172,7 @@ cross_none : (f : Fraction → ℤ) (linear : (k : ℤ) (a : Fraction) (m : ℤ)
 unfolding cross
 cross_none f linear g o h i = linear (neg_ℤ (f g)) o (f o) g _ ∙ balanced (f o) (f g)
 
-drawn_first : (f f' : Fraction → ℤ) (s : AreOpposite f f') (g o : Fraction) (d : Drawn f f' g o)
+drawn_first : (f f' : Fraction → ℤ) (s : AreFacing f f') (g o : Fraction) (d : Drawn f f' g o)
     → pos 0 ≤ℤ f (drawn d)
 unfolding drawn
 drawn_first f f' s g o (stays h h') = h
@@ -180,7 +180,7 @@ drawn_first f f' s g o (to_first h i) = zero_weak_left (cross_none f s.linear g 
 drawn_first f f' s g o (to_second h i) =
     first_least _ _ (s.wide (cross f' g o h i)) (cross_none f' s.linear' g o h i)
 
-drawn_second : (f f' : Fraction → ℤ) (s : AreOpposite f f') (g o : Fraction) (d : Drawn f f' g o)
+drawn_second : (f f' : Fraction → ℤ) (s : AreFacing f f') (g o : Fraction) (d : Drawn f f' g o)
     → pos 0 ≤ℤ f' (drawn d)
 unfolding drawn
 drawn_second f f' s g o (stays h h') = h'
@@ -322,7 +322,7 @@ wide_range x w low high h i = let p =
     spread a b w = ring_in (a ∷ b ∷ w ∷ []) (λ a b w. (a ⊖ b) ⊗ w) (λ a b w. a ⊗ w ⊖ b ⊗ w) tt
 
 opposite_x : (low high : ℤ) → low ≤ℤ high
-    → AreOpposite (past_x (pos 1) low) (past_x (negsuc 0) high)
+    → AreFacing (past_x (pos 1) low) (past_x (negsuc 0) high)
 opposite_x low high h = record {
   linear = λ k a m b r. past_mixed (pos 1) low k a.x m b.x a.w b.w;
   linear' = λ k a m b r. past_mixed (negsuc 0) high k a.x m b.x a.w b.w;
@@ -330,7 +330,7 @@ opposite_x low high h = record {
 }
 
 opposite_y : (low high : ℤ) → low ≤ℤ high
-    → AreOpposite (past_y (pos 1) low) (past_y (negsuc 0) high)
+    → AreFacing (past_y (pos 1) low) (past_y (negsuc 0) high)
 opposite_y low high h = record {
   linear = λ k a m b r. past_mixed (pos 1) low k a.y m b.y a.w b.w;
   linear' = λ k a m b r. past_mixed (negsuc 0) high k a.y m b.y a.w b.w;
@@ -540,10 +540,10 @@ module _ (lower upper : Point) (wide : lower.x ≤ℤ upper.x) (high : lower.y �
           z : Fraction
           z = drawn over_y
 
-          sx : AreOpposite x₁ x₂
+          sx : AreFacing x₁ x₂
           sx = opposite_x lower.x upper.x wide
 
-          sy : AreOpposite y₁ y₂
+          sy : AreFacing y₁ y₂
           sy = opposite_y lower.y upper.y high
 
           on : TwoWeights IsNotNegative (whole p) (whole q) z

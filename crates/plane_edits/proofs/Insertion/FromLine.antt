@@ -20,9 +20,9 @@ use Rattle.plane_tiling.proofs.Totals.{Contains-head, Contains-later, Contains-c
 use Rattle.plane_tiling.proofs.Counting.{at, SignMesh, IsPairBelow, same_place}
 use Rattle.plane_tiling.proofs.Edges as E
 use Rattle.plane_tiling.proofs.Flows.{IsTurnOf}
-use Rattle.plane_tiling.proofs.Line.{IsNext, SignLine, next_turned}
+use Rattle.plane_tiling.proofs.Line.{Adjoin, SignLine, next_turned}
 use Rattle.plane_tiling.proofs.LinePlaces.{IsBelow, nearest_below, ArePlaces, none_between_places}
-use Rattle.plane.proofs.Generic.{IsFresh, AreOnLine, distinct_with_next}
+use Rattle.plane.proofs.Generic.{IsFresh, LieOnLine, distinct_with_next}
 use Rattle.plane.proofs.LineOrder.{IsBetween, place_within, within_places}
 use Rattle.plane_edits.specs.Change.{FacesChange, OuterChange}
 use Rattle.plane_edits.specs.Extension.{fan, steps, last_of}
@@ -113,7 +113,7 @@ balanced_from_line f o f' o' fans steps come a b c d = omega (arith, ints)
 
 module _ (n : ℕ) (p : ℕ → Point) (outer now : List (ℕ × ℕ)) (new : List Face)
     (m : SignLine n p outer) (u v : ℕ) (vs : List ℕ) (run : IsRun n p outer u (v ∷ vs)) where
-  first : IsNext n p u v
+  first : Adjoin n p u v
   first = (m.neighbours u v).0 run.0
 
   final : (a : ℕ) × Contains outer (a, last_of v vs)
@@ -126,7 +126,7 @@ module _ (n : ℕ) (p : ℕ → Point) (outer now : List (ℕ × ℕ)) (new : Li
   apart : ¬ (p u ≡ p v)
   apart = m.distinct u v first.first first.second first.apart
 
-  on : AreOnLine n p (p u) (p v)
+  on : LieOnLine n p (p u) (p v)
   on k h = m.straight u v k first.first first.second h
 
   abbrev spot : ℕ → ℤ
@@ -179,7 +179,7 @@ module _ (n : ℕ) (p : ℕ → Point) (outer now : List (ℕ × ℕ)) (new : Li
 
   -- the vertices lie from u to the last one
   next_if_none_between : (i j : ℕ) → i < n → j < n → spot i <ℤ spot j
-      → ((k : ℕ) → k < n → spot i <ℤ spot k → spot k <ℤ spot j → ⊥) → IsNext n p i j
+      → ((k : ℕ) → k < n → spot i <ℤ spot k → spot k <ℤ spot j → ⊥) → Adjoin n p i j
   next_if_none_between i j hi hj h none = record {
     apart = λ e. falls_level h (ap spot e);
     first = hi;
@@ -356,7 +356,7 @@ module _ (n : ℕ) (p : ℕ → Point) (outer now : List (ℕ × ℕ)) (new : Li
         before_end : {a b c : ℤ} → a <ℤ b → b ≤ℤ c → a <ℤ c
         before_end a b = omega (arith, ints)
 
-        go : (y : ℕ) → IsNext n p i j → IsNext n p i y → spot i <ℤ spot y → (spot y <ℤ spot j)
+        go : (y : ℕ) → Adjoin n p i j → Adjoin n p i y → spot i <ℤ spot y → (spot y <ℤ spot j)
             ⊎ (spot j ≤ℤ spot y) → (spot j <ℤ spot y) ⊎ (spot y ≤ℤ spot j) → y ≡ j
         go y a b r (inl o) q = absurd (none_between_places n p spot places i j y a b.second r o)
         go y a b r (inr o) (inl q) =

@@ -14,7 +14,7 @@ use Rattle.plane.proofs.BracketIdentities.{bracket-turn, bracket-swap, bracket-s
 use Rattle.plane_tiling.proofs.Totals.{Contains-head, Contains-later, Contains-none}
 use Rattle.plane_tiling.proofs.Flows.{IsTurnOf, HasSide, turned}
 use Rattle.plane_tiling.proofs.Counting.{at, SignMesh, ArePairsBelow, corners_differ}
-use Rattle.plane.proofs.Generic.{AreDistinct}
+use Rattle.plane.proofs.Generic.{AllDiffer}
 use Rattle.plane_tiling.proofs.Covering as C
 use Rattle.plane_tiling.proofs.Edges as E
 use Rattle.plane_tiling.proofs.Loops as L
@@ -30,7 +30,7 @@ use Rattle.plane.proofs.Signs.{balance_stays, sum_with_zero_is_positive}
 -- the mesh of all vertices but v, by signs
 pub record SignMeshWithout (v n : ℕ) (p : ℕ → Point) (faces : List Face)
     (outer : List (ℕ × ℕ)) : Type 0 where
-  pub distinct : AreDistinct n p
+  pub distinct : AllDiffer n p
   pub some_face : (i j k : ℕ) × IsTurnOf faces i j k
   pub used : (k : ℕ) → k < n → k ≢ v → IsUsed faces k
   pub turning : AllTurn n p faces

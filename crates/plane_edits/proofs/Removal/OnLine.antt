@@ -13,7 +13,7 @@ use Rattle.plane_tiling.specs.Local.{LineMesh}
 use Rattle.plane_tiling.proofs.Totals.{Contains-head, Contains-later, Contains-cases, Contains-none}
 use Rattle.plane_tiling.proofs.Counting.{at, within_turned}
 use Rattle.plane_tiling.proofs.Tiles.{point_at}
-use Rattle.plane_tiling.proofs.Line.{SignLine, IsNext, next_turned, back_way}
+use Rattle.plane_tiling.proofs.Line.{SignLine, Adjoin, next_turned, back_way}
 use Rattle.plane_tiling.proofs.LineMeshes.{line_by_signs}
 use Rattle.plane_tiling.proofs.LinePlaces as O
 use Rattle.plane_edits.specs.Change.{OuterChange}
@@ -31,10 +31,10 @@ record IsNextBut (v n : ℕ) (p : ℕ → Point) (i j : ℕ) : Type 0 where
 
 module _ (n : ℕ) (p : ℕ → Point) (outer : List (ℕ × ℕ)) (m : SignLine n p outer) (v i : ℕ)
     (edge : Contains outer (v, i)) where
-  next_of : (a b : ℕ) → Contains outer (a, b) → IsNext n p a b
+  next_of : (a b : ℕ) → Contains outer (a, b) → Adjoin n p a b
   next_of a b h = (m.neighbours a b).0 h
 
-  own : IsNext n p v i
+  own : Adjoin n p v i
   own = next_of v i edge
 
   -- places along the line from v to i
@@ -48,7 +48,7 @@ module _ (n : ℕ) (p : ℕ → Point) (outer : List (ℕ × ℕ)) (m : SignLine
       (bracket-outer (at p v) (at p i))
 
   -- neighbours of v on one side of it are one
-  both_below : (a b : ℕ) → IsNext n p v a → IsNext n p v b → spot a <ℤ spot v
+  both_below : (a b : ℕ) → Adjoin n p v a → Adjoin n p v b → spot a <ℤ spot v
       → spot b <ℤ spot v → a ≡ b
   both_below a b f g x y = places.same a b f.second g.second (same_if_neither_less (spot a) (spot b)
       (λ l. f.none_between b g.second
@@ -56,13 +56,13 @@ module _ (n : ℕ) (p : ℕ → Point) (outer : List (ℕ × ℕ)) (m : SignLine
       (λ l. g.none_between a f.second
       (within_turned (p b) (p v) (p a) (places.within b v a g.second g.first f.second l x))))
 
-  both_above : (a b : ℕ) → IsNext n p v a → IsNext n p v b → spot v <ℤ spot a
+  both_above : (a b : ℕ) → Adjoin n p v a → Adjoin n p v b → spot v <ℤ spot a
       → spot v <ℤ spot b → a ≡ b
   both_above a b f g x y = places.same a b f.second g.second (same_if_neither_less (spot a) (spot b)
       (λ l. g.none_between a f.second (places.within v b a g.first g.second f.second x l))
       (λ l. f.none_between b g.second (places.within v a b f.first f.second g.second y l)))
 
-  side_of : (a : ℕ) → IsNext n p v a → (spot a <ℤ spot v) ⊎ (spot v <ℤ spot a)
+  side_of : (a : ℕ) → Adjoin n p v a → (spot a <ℤ spot v) ⊎ (spot v <ℤ spot a)
   side_of a f = elim (lt_or_ge_ℤ (spot a) (spot v)) [
     | inl l ↦ inl l
     | inr l ↦ elim (lt_or_ge_ℤ (spot v) (spot a)) [
@@ -74,7 +74,7 @@ module _ (n : ℕ) (p : ℕ → Point) (outer : List (ℕ × ℕ)) (m : SignLine
 
   -- what is next to one another but for v, with v not between, was so before
   was_next : (a b : ℕ) → IsNextBut v n p a b
-      → ¬ WithinSegment (whole (p a)) (whole (p b)) (whole (p v)) → IsNext n p a b
+      → ¬ WithinSegment (whole (p a)) (whole (p b)) (whole (p v)) → Adjoin n p a b
   was_next a b s away = record {
     apart = s.apart;
     first = s.first.0;
@@ -85,7 +85,7 @@ module _ (n : ℕ) (p : ℕ → Point) (outer : List (ℕ × ℕ)) (m : SignLine
     ];
   }
 
-  is_next : (a b : ℕ) → IsNext n p a b → a ≢ v → b ≢ v → IsNextBut v n p a b
+  is_next : (a b : ℕ) → Adjoin n p a b → a ≢ v → b ≢ v → IsNextBut v n p a b
   is_next a b s x y = record {
     apart = s.apart;
     first = (s.first, x);
@@ -95,11 +95,11 @@ module _ (n : ℕ) (p : ℕ → Point) (outer : List (ℕ × ℕ)) (m : SignLine
 
   -- ---- v is between i and j
   module _ (j : ℕ) (other : Contains outer (v, j)) (i_not_j : i ≢ j) where
-    far : IsNext n p v j
+    far : Adjoin n p v j
     far = next_of v j other
 
     -- i below v and j above it, or the other way round
-    module _ (low high : ℕ) (low_next : IsNext n p v low) (high_next : IsNext n p v high)
+    module _ (low high : ℕ) (low_next : Adjoin n p v low) (high_next : Adjoin n p v high)
         (below : spot low <ℤ spot v) (above : spot v <ℤ spot high) where
       joined : IsNextBut v n p low high
       joined = record {
@@ -191,7 +191,7 @@ module _ (n : ℕ) (p : ℕ → Point) (outer : List (ℕ × ℕ)) (m : SignLine
           not_high a b t h k n (inr (inr o)) = n o.0
 
       -- v has no third neighbour
-      no_third : (b : ℕ) → IsNext n p v b → (b ≡ low) ⊎ (b ≡ high)
+      no_third : (b : ℕ) → Adjoin n p v b → (b ≡ low) ⊎ (b ≡ high)
       no_third b f = elim (side_of b f) [
         | inl l ↦ inl (both_below b low f low_next l below)
         | inr l ↦ inr (both_above b high f high_next l above)
@@ -206,9 +206,9 @@ module _ (n : ℕ) (p : ℕ → Point) (outer : List (ℕ × ℕ)) (m : SignLine
             → IsNextBut v n p a b
         there a b (inl h) = is_next a b (next_of a b h.0)
             (λ e. h.1 (subst (λ o. Contains gone (o, b)) (sym e)
-            (gone_at b (no_third b (subst (λ o. IsNext n p o b) e (next_of a b h.0)))).0))
+            (gone_at b (no_third b (subst (λ o. Adjoin n p o b) e (next_of a b h.0)))).0))
             (λ e. h.1 (subst (λ o. Contains gone (a, o)) (sym e) (gone_at a (no_third a
-            (next_turned n p a v (subst (λ o. IsNext n p a o) e (next_of a b h.0))))).1))
+            (next_turned n p a v (subst (λ o. Adjoin n p a o) e (next_of a b h.0))))).1))
         there a b (inr h) = by (made_is a b h)
           where
             turned_joined : IsNextBut v n p high low

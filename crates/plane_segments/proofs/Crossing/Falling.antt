@@ -39,11 +39,11 @@ off e = subst only_false e tt
 
 -- ---- the order
 -- u comes before v, seen from i
-abbrev pub IsBefore : Point → Point → Point → Type 0
-IsBefore i u v = (pos 0 <ℤ turn_at i v u)
+abbrev pub Precedes : Point → Point → Point → Type 0
+Precedes i u v = (pos 0 <ℤ turn_at i v u)
     ⊎ ((turn_at i v u ≡ pos 0) × (squared_way i u <ℤ squared_way i v))
 
-before_test : (i u v : Point) → IsBefore i u v → comes_before i u v ≡ true
+before_test : (i u v : Point) → Precedes i u v → comes_before i u v ≡ true
 before_test i u v (inl h) = rw (test_true (pos 0) (turn_at i v u) h)
 before_test i u v (inr h) =
     rw (
@@ -69,7 +69,7 @@ by_tests t a b h = go (trichotomy_ℤ t)
     )
     go (inl k) = wrong (rw (test_false (pos 0) t (weak_right k), test_true t (pos 0) k) at h)
 
-test_before : (i u v : Point) → comes_before i u v ≡ true → IsBefore i u v
+test_before : (i u v : Point) → comes_before i u v ≡ true → Precedes i u v
 test_before i u v h = by_tests (turn_at i v u) (squared_way i u) (squared_way i v) h
 
 three_turns : (i j u v w : Point) → turn_at i j v *ℤ turn_at i w u
@@ -122,7 +122,7 @@ both_weak fv tw fw tu fu tk e hv hw hu a b = go (zero_or_left a) (zero_or_left b
 
 -- seen from i, the order of the points on the right goes through
 pub IsBefore-trans : (i j u v w : Point) → turn_at i j u <ℤ pos 0 → turn_at i j v <ℤ pos 0
-    → turn_at i j w <ℤ pos 0 → IsBefore i u v → IsBefore i v w → IsBefore i u w
+    → turn_at i j w <ℤ pos 0 → Precedes i u v → Precedes i v w → Precedes i u w
 IsBefore-trans i j u v w hu hv hw a b =
     go (both_weak (turn_at i j v) (turn_at i w u) (turn_at i j w) (turn_at i v u) (turn_at i j u)
     (turn_at i w v) (three_turns i j u v w) hv hw hu (at_least a) (at_least b)) a b
@@ -243,7 +243,7 @@ not_before_itself i p = rw (
 -- what comes before has the lesser rank
 pub rank_falls : (points : List Point) (i j w : Point) (k : ℕ) → k < length points
     → turn_at i j (point_of points k) <ℤ pos 0 → turn_at i j w <ℤ pos 0
-    → IsBefore i (point_of points k) w → rank_below points i j (point_of points k) (length points)
+    → Precedes i (point_of points k) w → rank_below points i j (point_of points k) (length points)
     < rank_below points i j w (length points)
 rank_falls points i j w k h hk hw b =
     rank_less points i j (point_of points k) w more (length points) k h

@@ -24,7 +24,7 @@ use Rattle.plane_segments.specs.Measure.{is_right, rank_below, crosses, crossing
 use Rattle.plane_segments.specs.PathLaws.{ChosenFlipLowers}
 use Rattle.plane_segments.proofs.Crossing.Paths as P
 use Rattle.plane_segments.proofs.Crossing.Turns.{left_turn, right_turn}
-use Rattle.plane_segments.proofs.Crossing.Falling.{and_true, and_first, and_second, IsBefore}
+use Rattle.plane_segments.proofs.Crossing.Falling.{and_true, and_first, and_second, Precedes}
 use Rattle.plane_segments.proofs.Crossing.Falling.{rank_falls, rank_positive, strictly_nearer}
 use Rattle.plane_segments.proofs.Crossing.Falling.{ranked, ranked_nonneg, ranked_two, sum_falls}
 use Rattle.plane.proofs.Signs.{sum_of_three_not_negative, lower_magnitude}
@@ -75,7 +75,7 @@ module _ (t : Triangulation) (new : List Face) (i j v x y z : ℕ) (h : TilesHul
       (P.clear t h i j free) v y
   across = P.crosses t h i j free v y c
 
-  x_before : IsBefore (p i) (p x) (p v)
+  x_before : Precedes (p i) (p x) (p v)
   unfolding tiling
   x_before = inl (subst (λ s. pos 0 <ℤ s) (turn_of (p i) (p v) (p x))
       (F.x_around_v (tiling t h) i j (P.at_first t h i j free) (P.at_second t h i j free)
@@ -112,7 +112,7 @@ module _ (t : Triangulation) (new : List Face) (i j v x y z : ℕ) (h : TilesHul
       go (from_start e) = absurd (right_not_zero z_right (ap (λ (q : ℕ). turn_at (p i) (p j) (p q))
           e ∙ sym (bracket-affine (p i) (p j) (p i)) ∙ bracket-outer (lift (p i)) (lift (p j))))
 
-  z_before : turn_at (p i) (p j) (p z) <ℤ pos 0 → IsBefore (p i) (p z) (p v)
+  z_before : turn_at (p i) (p j) (p z) <ℤ pos 0 → Precedes (p i) (p z) (p v)
   z_before z_right = elim (zero_or_left z_around) [
     | inl tie ↦ inr (
       tie,

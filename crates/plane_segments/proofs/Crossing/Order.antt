@@ -9,7 +9,7 @@ use Rattle.plane.specs.Laws.{turn_at, squared_way}
 use Rattle.plane_edits.specs.Legal.{point_of}
 use Rattle.plane_segments.specs.Path.{ComesAfterOnRight, ComesAfterOnLeft}
 use Rattle.plane_segments.specs.PathLaws.{EndsAreOrdered, LastHasNoneAfter}
-use Rattle.plane_segments.proofs.Crossing.Falling.{IsBefore, IsBefore-trans}
+use Rattle.plane_segments.proofs.Crossing.Falling.{Precedes, IsBefore-trans}
 use Rattle.plane_segments.proofs.Crossing.Turns.{left_turn, right_turn, no_turn, turn_left}
 use Rattle.plane_segments.proofs.Crossing.Turns.{turn-swapped, turn-same}
 use Rattle.plane_segments.proofs.Crossing.Turns.{mirrored, turn-mirrored, way-mirrored}
@@ -26,7 +26,7 @@ below_back a b e h = omega (arith, ints)
 level_back : (a b : ℤ) → a ≡ neg_ℤ b → a ≡ pos 0 → b ≡ pos 0
 level_back a b e h = omega (arith, ints)
 
-right_of : (i v u : Point) → IsBefore i v u → ComesAfterOnRight i v u
+right_of : (i v u : Point) → Precedes i v u → ComesAfterOnRight i v u
 right_of i v u (inl h) =
     inl (right_if_negative i v u
     (below_back (turn_at i u v) (turn_at i v u) (turn-swapped i v u) h))
@@ -36,7 +36,7 @@ right_of i v u (inr h) =
       h.1,
     )
 
-of_right : (i v u : Point) → ComesAfterOnRight i v u → IsBefore i v u
+of_right : (i v u : Point) → ComesAfterOnRight i v u → Precedes i v u
 of_right i v u (inl h) =
     inl (opposite_of_negative (turn_at i u v) (turn_at i v u) (turn-swapped i v u)
     (right_turn i v u h))

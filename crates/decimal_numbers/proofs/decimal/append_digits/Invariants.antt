@@ -4,4 +4,5 @@ use Rattle.decimal_numbers.proofs.decimal.append_digits.Given as goal
 
 abbrev pub invariant-loop-digit : goal.invariant-loop-digit
 invariant-loop-digit l =
-    digits_value_after 10 l.value (drop l.digit-index l.digits) ≡ digits_value_after 10 l.number l.digits
+    digits_value_after 10 l.value (drop l.digit-index l.digits)
+    ≡ digits_value_after 10 l.number l.digits

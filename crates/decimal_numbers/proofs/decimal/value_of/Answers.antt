@@ -19,5 +19,6 @@ returns-clause-value c =
     (length w.fraction.now) c.if-written.false
     (c.in_ok-number.ensures
     ∙ ap (λ x. digits_value_after 10 x w.fraction.now) c.in_ok-whole.ensures)
-    (c.in_ok-magnitude.ensures.some ∙ ap (λ x. c.in_ok-number.number * 10 ^ x) c.in_ok-power.ensures)
+    (c.in_ok-magnitude.ensures.some
+    ∙ ap (λ x. c.in_ok-number.number * 10 ^ x) c.in_ok-power.ensures)
     refl

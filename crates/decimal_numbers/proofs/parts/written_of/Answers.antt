@@ -29,7 +29,8 @@ returns-clause-found c =
     let some : 0 < length c.split_digits.result.0.now + length c.split_point.result.0.now =
     elim c.else-is_empty.branch [
       | else-is_empty-via-then-is_empty+else-is_empty-2 w ↦
-          (let h = is_some _ _ w.is_empty-then-is_empty.ensures w.if-is_empty-2.false in omega (arith, h))
+          (let h = is_some _ _ w.is_empty-then-is_empty.ensures w.if-is_empty-2.false in
+          omega (arith, h))
       | else-is_empty-via-else-is_empty w ↦
           (let h = is_some _ _ c.is_empty.ensures w.if-is_empty.false in omega (arith, h))
     ] in

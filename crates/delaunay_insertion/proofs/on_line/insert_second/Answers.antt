@@ -1,6 +1,6 @@
 use Rattle.std.proofs.Common.{◌≤◌, ◌∙◌, ◌⊎◌, ◌+◌, length, map, ap, sym, subst, arith}
 use Rattle.std.proofs.lemmas.List.{length-map}
-use Rattle.half_edge_mesh.specs.Outline.{OuterChanges, IsEdge}
+use Rattle.half_edge_mesh.specs.Outline.{OuterChanges, IsThis}
 use Rattle.half_edge_dcel.proofs.Fits.{length-grown}
 use Rattle.delaunay_insertion.proofs.Growing.{grown, second_shape}
 use Rattle.delaunay_insertion.proofs.DataGrowing.{grows_from_one}
@@ -51,7 +51,7 @@ returns-clause-takes g c =
           c.from_index.ensures (c.append_unconnected_vertex-vertex.ensures.vertex ∙ sym places)
           c.setup_initial_two_vertices.ensures.links.triangles
           (subst (λ m. OuterChanges m new.mesh (λ h. ⊥)
-          (λ h i j. IsEdge 0 a b h i j ⊎ IsEdge 1 b a h i j))
+          (λ h i j. IsThis 0 a b h i j ⊎ IsThis 1 b a h i j))
           (ap (λ d. d.mesh) is) c.setup_initial_two_vertices.ensures.links.outer));
       grows =
           let old = c.args.dcel.now in

@@ -16,7 +16,7 @@ comes_after_on_left-requires g c =
     record {
       covered = record {
         from = listed (at c.position_of-from.result) c.position_of-from.ensures.listed;
-        point = listed (at c.ends_of.result.1) c.ends_of.ensures.listed.1;
-        other = listed (at c.ends_of-2.result.1) c.ends_of-2.ensures.listed.1;
+        point = listed (at c.end_positions.result.1) c.end_positions.ensures.listed.1;
+        other = listed (at c.end_positions-2.result.1) c.end_positions-2.ensures.listed.1;
       };
     }

@@ -13,8 +13,8 @@ loop-i-init g c =
     c.count_edges-count.result c.in_ok-border.border.items (vec_len c.in_ok-border.border)
     (vec_capacity c.in_ok-border.border) was.len (omega (arith, room))
 
-pub edge_after-after-requires : goal.edge_after-after-requires
-edge_after-after-requires g c =
+pub ccw_edge-after-requires : goal.ccw_edge-after-requires
+ccw_edge-after-requires g c =
     let fit = c.recall_invariant.ensures.whole.fits.directed_fit in
     let within = c.loop-i.invariant.edge_in in
     omega (arith, fit, within)
@@ -41,12 +41,12 @@ loop-i-preserved g c =
     c.count_edges-count.result c.loop-i.i c.loop-i.edge c.loop-i.border.items
     (vec_len c.loop-i.border)
     (vec_capacity c.loop-i.border) c.loop-i.invariant
-    c.vertex_at_end.result c.vertex_at_end-in-loop-i.result c.edge_after-after.result
+    c.vertex_at_end.result c.vertex_at_end-in-loop-i.result c.ccw_edge-after.result
     c.push_reserved.new.self.items
     (vec_len c.push_reserved.new.self) (vec_capacity c.push_reserved.new.self)
     c.vertex_at_end.ensures c.vertex_at_end-in-loop-i.ensures
-    (subst (λ (n : ℕ). c.edge_after-after.result < n) fit c.edge_after-after.ensures.within)
-    c.edge_after-after.ensures.value
+    (subst (λ (n : ℕ). c.ccw_edge-after.result < n) fit c.ccw_edge-after.ensures.within)
+    c.ccw_edge-after.ensures.value
     c.push_reserved.ensures.items c.push_reserved.ensures.len c.push_reserved.ensures.capacity
 
 pub returns : goal.returns

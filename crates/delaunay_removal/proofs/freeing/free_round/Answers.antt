@@ -17,8 +17,8 @@ free_edge-requires g c =
     let ds = c.recall_invariant.ensures.whole.fits.directed_fit in
     omega (arith, half, within, count, us, ds)
 
-pub edge_after-edge-requires : goal.edge_after-edge-requires
-edge_after-edge-requires g c =
+pub ccw_edge-edge-requires : goal.ccw_edge-edge-requires
+ccw_edge-edge-requires g c =
     subst (λ ds. c.loop-i.edge < length ds) (sym (ap (λ d. d.directed) c.free_edge.ensures.whole
     ∙ same_directed g.M.ConstraintMarker.marks c.args.dcel.now c.args.first c.loop-i.dcel
     c.loop-i.invariant.contents)) c.loop-i.invariant.within
@@ -31,7 +31,7 @@ loop-i-preserved g c =
     c.loop-i.invariant m.unmarked g.met.M.ConstraintMarker.unmarked_has_none
     (subst (HasEdgeData m.unmarked c.loop-i.dcel c.free_edge.new.dcel) c.as_undirected.ensures
     c.free_edge.ensures)
-    c.edge_after-edge.result c.edge_after-edge.ensures.within c.edge_after-edge.ensures.value
+    c.ccw_edge-edge.result c.ccw_edge-edge.ensures.within c.ccw_edge-edge.ensures.value
 
 pub returns-clause-frees : goal.returns-clause-frees
 returns-clause-frees g c =

@@ -13,7 +13,7 @@ loop-i-preserved g c =
     collecting_goes_on c.args.dcel.now.mesh (length c.args.dcel.now.directed)
     (vec_capacity c.args.sides.now) c.args.first c.loop-i.i c.loop-i.edge c.loop-i.sides.items
     (vec_len c.loop-i.sides) (vec_capacity c.loop-i.sides) c.loop-i.invariant
-    c.opposite_side.result c.edge_after-edge.result c.push_reserved.new.self.items
+    c.opposite_side.result c.ccw_edge-edge.result c.push_reserved.new.self.items
     (vec_len c.push_reserved.new.self) (vec_capacity c.push_reserved.new.self)
-    c.opposite_side.ensures c.edge_after-edge.ensures.within c.edge_after-edge.ensures.value
+    c.opposite_side.ensures c.ccw_edge-edge.ensures.within c.ccw_edge-edge.ensures.value
     c.push_reserved.ensures.items c.push_reserved.ensures.len c.push_reserved.ensures.capacity

@@ -13,10 +13,10 @@ pub loop-i-preserved : goal.loop-i-preserved
 loop-i-preserved g c =
     search_goes_on (λ h. face c.args.dcel.now.mesh (rev h) ≡ 0)
     (length c.args.dcel.now.directed) c.args.dcel.now.mesh c.args.first c.loop-i.i c.loop-i.edge
-    c.edge_after-edge.result c.loop-i.invariant
+    c.ccw_edge-edge.result c.loop-i.invariant
     (λ z. both_ways _ (c.is_outer.ensures.1 (ap (face c.args.dcel.now.mesh) (c.fix.ensures.value
     ∙ c.rev.ensures.index ∙ ap rev c.directed_edge.ensures.index) ∙ z)) c.if-is_outer.false)
-    c.edge_after-edge.ensures.within c.edge_after-edge.ensures.value
+    c.ccw_edge-edge.ensures.within c.ccw_edge-edge.ensures.value
 
 pub returns-clause-none : goal.returns-clause-none
 returns-clause-none g c =

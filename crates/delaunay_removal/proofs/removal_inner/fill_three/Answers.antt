@@ -3,11 +3,11 @@ use Rattle.delaunay_removal.proofs.removal_inner.fill_three.Goals as goal
 
 pub isolate_vertex_and_fill_hole-requires : goal.isolate_vertex_and_fill_hole-requires
 isolate_vertex_and_fill_hole-requires g c =
-    border_read c.args.dcel.now.mesh c.args.vertex c.args.first c.edge_after-second.result
-    c.edge_after-third.result c.opposite_side.result c.opposite_side-2.result
+    border_read c.args.dcel.now.mesh c.args.vertex c.args.first c.ccw_edge-second.result
+    c.ccw_edge-third.result c.opposite_side.result c.opposite_side-2.result
     c.opposite_side-3.result
     c.recall_invariant.ensures.whole.valid.sound c.requires.wheel c.requires.starts
-    c.edge_after-second.ensures.value c.edge_after-third.ensures.value c.opposite_side.ensures
+    c.ccw_edge-second.ensures.value c.ccw_edge-third.ensures.value c.opposite_side.ensures
     c.opposite_side-2.ensures c.opposite_side-3.ensures
 
 pub returns-clause-hole : goal.returns-clause-hole

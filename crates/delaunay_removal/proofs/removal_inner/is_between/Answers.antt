@@ -7,8 +7,8 @@ use Rattle.delaunay_legalization.proofs.Questions.{covered_in}
 use Rattle.delaunay_removal.proofs.Between.{ends_apart, not_from, not_to, between_read}
 use Rattle.delaunay_removal.proofs.removal_inner.is_between.Goals as goal
 
-pub edge_after-second-requires : goal.edge_after-second-requires
-edge_after-second-requires g c = subst (λ (n : ℕ). c.args.edge < n)
+pub ccw_edge-second-requires : goal.ccw_edge-second-requires
+ccw_edge-second-requires g c = subst (λ (n : ℕ). c.args.edge < n)
     (sym c.recall_invariant.ensures.whole.fits.directed_fit) (c.requires.star.round.within 0)
 
 pub start_of-centre-requires : goal.start_of-centre-requires
@@ -49,10 +49,10 @@ is_strictly_within-requires-clause-ends_apart g c =
     let w = c.recall_invariant.ensures.whole in
     ends_apart (map g.V.HasPosition.place c.args.dcel.now.vertices) c.args.dcel.now.mesh w.valid
     (sym w.fits.vertices_fit ∙ sym (length-map c.args.dcel.now.vertices g.V.HasPosition.place))
-    (origin c.args.dcel.now.mesh c.args.edge) c.args.edge c.edge_after-opposite.result
+    (origin c.args.dcel.now.mesh c.args.edge) c.args.edge c.ccw_edge-opposite.result
     c.requires.star
-    (c.edge_after-opposite.ensures.value
-    ∙ ap (turn c.args.dcel.now.mesh) c.edge_after-second.ensures.value) _ _ _
+    (c.ccw_edge-opposite.ensures.value
+    ∙ ap (turn c.args.dcel.now.mesh) c.ccw_edge-second.ensures.value) _ _ _
     c.start_of-centre.ensures.place c.end_of-from.ensures.place c.end_of-to.ensures.place
 
 pub is_strictly_within-requires-clause-not_from : goal.is_strictly_within-requires-clause-not_from
@@ -60,10 +60,10 @@ is_strictly_within-requires-clause-not_from g c =
     let w = c.recall_invariant.ensures.whole in
     not_from (map g.V.HasPosition.place c.args.dcel.now.vertices) c.args.dcel.now.mesh w.valid
     (sym w.fits.vertices_fit ∙ sym (length-map c.args.dcel.now.vertices g.V.HasPosition.place))
-    (origin c.args.dcel.now.mesh c.args.edge) c.args.edge c.edge_after-opposite.result
+    (origin c.args.dcel.now.mesh c.args.edge) c.args.edge c.ccw_edge-opposite.result
     c.requires.star
-    (c.edge_after-opposite.ensures.value
-    ∙ ap (turn c.args.dcel.now.mesh) c.edge_after-second.ensures.value) _ _ _
+    (c.ccw_edge-opposite.ensures.value
+    ∙ ap (turn c.args.dcel.now.mesh) c.ccw_edge-second.ensures.value) _ _ _
     c.start_of-centre.ensures.place c.end_of-from.ensures.place c.end_of-to.ensures.place
 
 pub is_strictly_within-requires-clause-not_to : goal.is_strictly_within-requires-clause-not_to
@@ -71,10 +71,10 @@ is_strictly_within-requires-clause-not_to g c =
     let w = c.recall_invariant.ensures.whole in
     not_to (map g.V.HasPosition.place c.args.dcel.now.vertices) c.args.dcel.now.mesh w.valid
     (sym w.fits.vertices_fit ∙ sym (length-map c.args.dcel.now.vertices g.V.HasPosition.place))
-    (origin c.args.dcel.now.mesh c.args.edge) c.args.edge c.edge_after-opposite.result
+    (origin c.args.dcel.now.mesh c.args.edge) c.args.edge c.ccw_edge-opposite.result
     c.requires.star
-    (c.edge_after-opposite.ensures.value
-    ∙ ap (turn c.args.dcel.now.mesh) c.edge_after-second.ensures.value) _ _ _
+    (c.ccw_edge-opposite.ensures.value
+    ∙ ap (turn c.args.dcel.now.mesh) c.ccw_edge-second.ensures.value) _ _ _
     c.start_of-centre.ensures.place c.end_of-from.ensures.place c.end_of-to.ensures.place
 
 pub returns : goal.returns
@@ -83,10 +83,10 @@ returns g c =
     let read = between_read
     (map g.V.HasPosition.place c.args.dcel.now.vertices) c.args.dcel.now.mesh w.valid
     (sym w.fits.vertices_fit ∙ sym (length-map c.args.dcel.now.vertices g.V.HasPosition.place))
-    (origin c.args.dcel.now.mesh c.args.edge) c.args.edge c.edge_after-opposite.result
+    (origin c.args.dcel.now.mesh c.args.edge) c.args.edge c.ccw_edge-opposite.result
     c.requires.star
-    (c.edge_after-opposite.ensures.value
-    ∙ ap (turn c.args.dcel.now.mesh) c.edge_after-second.ensures.value) _ _ _
+    (c.ccw_edge-opposite.ensures.value
+    ∙ ap (turn c.args.dcel.now.mesh) c.ccw_edge-second.ensures.value) _ _ _
     c.start_of-centre.ensures.place c.end_of-from.ensures.place c.end_of-to.ensures.place in (
       (λ t. read.0 (c.is_strictly_within.ensures.0 t)),
       (λ b. c.is_strictly_within.ensures.1 (read.1 b)),

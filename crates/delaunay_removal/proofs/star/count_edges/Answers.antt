@@ -29,9 +29,9 @@ loop-first-preserved g c =
     counting_goes_on c.args.dcel.now.mesh w.valid c.args.first (subst (λ (n : ℕ). c.args.first < n)
     w.fits.directed_fit c.requires) c.loop-first.count c.loop-first.edge c.loop-first.invariant
     (λ e. c.loop-first-test.true (c.index.ensures ∙ e ∙ sym c.index-in-loop-first.ensures))
-    c.edge_after-edge-in-loop-first.result (subst (λ (n : ℕ). c.edge_after-edge-in-loop-first.result
-    < n) w.fits.directed_fit c.edge_after-edge-in-loop-first.ensures.within)
-    c.edge_after-edge-in-loop-first.ensures.value
+    c.ccw_edge-edge-in-loop-first.result (subst (λ (n : ℕ). c.ccw_edge-edge-in-loop-first.result
+    < n) w.fits.directed_fit c.ccw_edge-edge-in-loop-first.ensures.within)
+    c.ccw_edge-edge-in-loop-first.ensures.value
 
 pub returns : goal.returns
 returns g c =

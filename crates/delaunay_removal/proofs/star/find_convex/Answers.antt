@@ -15,6 +15,6 @@ pub loop-i-preserved : goal.loop-i-preserved
 loop-i-preserved g c =
     search_goes_on (IsConvexAt (map g.V.HasPosition.place c.args.dcel.now.vertices)
     c.args.dcel.now.mesh) (length c.args.dcel.now.directed) c.args.dcel.now.mesh c.args.first
-    c.loop-i.i c.loop-i.edge c.edge_after-edge.result c.loop-i.invariant
+    c.loop-i.i c.loop-i.edge c.ccw_edge-edge.result c.loop-i.invariant
     (λ x. both_ways _ (c.is_convex_at.ensures.1 x) c.if-is_convex_at.false)
-    c.edge_after-edge.ensures.within c.edge_after-edge.ensures.value
+    c.ccw_edge-edge.ensures.within c.ccw_edge-edge.ensures.value

@@ -4,11 +4,11 @@ use Rattle.delaunay_legalization.proofs.Questions.{both_ways, covered_in}
 use Rattle.delaunay_removal.proofs.Convex.{convex_read}
 use Rattle.delaunay_removal.proofs.star.is_convex_at.Goals as goal
 
-pub edge_after-second-requires : goal.edge_after-second-requires
-edge_after-second-requires g c = c.requires.within
+pub ccw_edge-second-requires : goal.ccw_edge-second-requires
+ccw_edge-second-requires g c = c.requires.within
 
-pub edge_after-third-requires : goal.edge_after-third-requires
-edge_after-third-requires g c = c.edge_after-second.ensures.within
+pub ccw_edge-third-requires : goal.ccw_edge-third-requires
+ccw_edge-third-requires g c = c.ccw_edge-second.ensures.within
 
 pub start_of-centre-requires : goal.start_of-centre-requires
 start_of-centre-requires g c = c.requires.within
@@ -17,10 +17,10 @@ pub end_of-before-requires : goal.end_of-before-requires
 end_of-before-requires g c = c.requires.within
 
 pub end_of-corner-requires : goal.end_of-corner-requires
-end_of-corner-requires g c = c.edge_after-second.ensures.within
+end_of-corner-requires g c = c.ccw_edge-second.ensures.within
 
 pub end_of-after-requires : goal.end_of-after-requires
-end_of-after-requires g c = c.edge_after-third.ensures.within
+end_of-after-requires g c = c.ccw_edge-third.ensures.within
 
 pub turns_left-requires-clause-a_covered : goal.turns_left-requires-clause-a_covered
 turns_left-requires-clause-a_covered g c =
@@ -70,7 +70,7 @@ turns_left-requires-then-turns_left-clause-c_covered g c =
 pub returns-then-turns_left : goal.returns-then-turns_left
 returns-then-turns_left g c =
     let r = convex_read (map g.V.HasPosition.place c.args.dcel.now.vertices) c.args.dcel.now.mesh
-    c.args.edge _ _ _ _ _ _ c.edge_after-second.ensures.value c.edge_after-third.ensures.value
+    c.args.edge _ _ _ _ _ _ c.ccw_edge-second.ensures.value c.ccw_edge-third.ensures.value
     c.start_of-centre.ensures.place c.end_of-before.ensures.place c.end_of-corner.ensures.place
     c.end_of-after.ensures.place in (
       λ t. r.1 (
@@ -84,7 +84,7 @@ returns-then-turns_left g c =
 pub returns-else-turns_left : goal.returns-else-turns_left
 returns-else-turns_left g c =
     let r = convex_read (map g.V.HasPosition.place c.args.dcel.now.vertices) c.args.dcel.now.mesh
-    c.args.edge _ _ _ _ _ _ c.edge_after-second.ensures.value c.edge_after-third.ensures.value
+    c.args.edge _ _ _ _ _ _ c.ccw_edge-second.ensures.value c.ccw_edge-third.ensures.value
     c.start_of-centre.ensures.place c.end_of-before.ensures.place c.end_of-corner.ensures.place
     c.end_of-after.ensures.place in (
       λ t. absurd (both_ways _ t c.if-turns_left.false),

@@ -11,7 +11,7 @@ pub flip_cw-requires-clause-between : goal.flip_cw-requires-clause-between
 flip_cw-requires-clause-between g c =
     let w = c.recall_invariant.ensures.whole in
     between_faces _ _ (subst (λ (k : ℕ). IsFlippable c.args.dcel.now.mesh (2 * k))
-    (sym (c.as_undirected.ensures ∙ ap (λ e. e / 2) c.edge_after-after.ensures.value))
+    (sym (c.as_undirected.ensures ∙ ap (λ e. e / 2) c.ccw_edge-after.ensures.value))
     (may_turn (map g.V.HasPosition.place c.args.dcel.now.vertices) c.args.dcel.now.mesh w.valid
     c.requires.shape c.args.edge (subst (λ (n : ℕ). c.args.edge < n) w.fits.directed_fit
     c.requires.within) c.requires.left c.requires.right c.requires.apart).0)
@@ -21,7 +21,7 @@ flip_cw-requires-clause-corners g c =
     let w = c.recall_invariant.ensures.whole in
     subst (λ (k : ℕ). origin c.args.dcel.now.mesh (prev c.args.dcel.now.mesh (2 * k))
     ≢ origin c.args.dcel.now.mesh (prev c.args.dcel.now.mesh (rev (2 * k))))
-    (sym (c.as_undirected.ensures ∙ ap (λ e. e / 2) c.edge_after-after.ensures.value))
+    (sym (c.as_undirected.ensures ∙ ap (λ e. e / 2) c.ccw_edge-after.ensures.value))
     (may_turn (map g.V.HasPosition.place c.args.dcel.now.vertices) c.args.dcel.now.mesh w.valid
     c.requires.shape c.args.edge (subst (λ (n : ℕ). c.args.edge < n) w.fits.directed_fit
     c.requires.within) c.requires.left c.requires.right c.requires.apart).1
@@ -29,7 +29,7 @@ flip_cw-requires-clause-corners g c =
 pub returns-clause-turns : goal.returns-clause-turns
 returns-clause-turns g c =
     let m = c.args.dcel.now.mesh in
-    let crossed = c.as_undirected.ensures ∙ ap (λ e. e / 2) c.edge_after-after.ensures.value in
+    let crossed = c.as_undirected.ensures ∙ ap (λ e. e / 2) c.ccw_edge-after.ensures.value in
     record {
       mesh = c.flip_cw.ensures.mesh ∙ ap (λ (k : ℕ). flipped m (2 * k)) crossed;
       contents = c.flip_cw.ensures.contents;

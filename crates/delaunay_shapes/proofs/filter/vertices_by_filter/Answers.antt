@@ -17,8 +17,8 @@ loop-index-preserved g c =
     let told = vertex_told g.V.HasPosition.place c.args.dcel c.is_point_inside.result
     (g.M.DistanceMetric.shape c.args.metric.now) c.vertex.result.dcel c.vertex.result.index
     c.from_index-vertex.result
-    (place_of g.V.Scalar.SpadeNum.whole c.position_of.result) c.vertex.ensures.dcel
-    c.vertex.ensures.index c.position_of.ensures c.is_point_inside.ensures.inside in
+    (place_of g.V.Scalar.SpadeNum.whole c.spot_of.result) c.vertex.ensures.dcel
+    c.vertex.ensures.index c.spot_of.ensures c.is_point_inside.ensures.inside in
     elim c.if-is_point_inside.branch [
       | then-is_point_inside+in_ok-push w ↦
           filter_finds Inside c.loop-index.index c.from_index-vertex.result
@@ -61,9 +61,9 @@ returns g c =
 
 pub is_point_inside-requires : goal.is_point_inside-requires
 is_point_inside-requires g c =
-    let at = place_of g.V.Scalar.SpadeNum.whole c.position_of.result in
+    let at = place_of g.V.Scalar.SpadeNum.whole c.spot_of.result in
     g.met.P.PlaneTests.covered_are_in_range c.args.tests.now at
     (vertex_covered g.V.HasPosition.place c.args.dcel
     (g.P.PlaneTests.covered c.args.tests.now) c.args.dcel
     c.vertex.result.dcel c.vertex.result.index at
-    c.requires refl c.vertex.ensures.dcel c.vertex.result.in_range c.position_of.ensures)
+    c.requires refl c.vertex.ensures.dcel c.vertex.result.in_range c.spot_of.ensures)

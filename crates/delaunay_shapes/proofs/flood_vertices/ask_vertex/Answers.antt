@@ -10,18 +10,18 @@ pub is_point_inside-requires : goal.is_point_inside-requires
 is_point_inside-requires g c =
     vertex_covered g.V.HasPosition.place c.args.dcel InRange c.args.dcel c.vertex.result.dcel
     c.vertex.result.index
-    (place_of g.V.Scalar.SpadeNum.whole c.position_of.result) c.requires.in_range refl
+    (place_of g.V.Scalar.SpadeNum.whole c.spot_of.result) c.requires.in_range refl
     c.vertex.ensures.dcel
-    c.vertex.result.in_range c.position_of.ensures
+    c.vertex.result.in_range c.spot_of.ensures
 
 pub returns-in_ok-push : goal.returns-in_ok-push
 returns-in_ok-push g c =
     let told = vertex_told g.V.HasPosition.place c.args.dcel c.is_point_inside.result
     (g.M.DistanceMetric.shape c.args.metric.now) c.vertex.result.dcel
     c.vertex.result.index c.args.vertex
-    (place_of g.V.Scalar.SpadeNum.whole c.position_of.result) c.vertex.ensures.dcel
+    (place_of g.V.Scalar.SpadeNum.whole c.spot_of.result) c.vertex.ensures.dcel
     c.vertex.ensures.index
-    c.position_of.ensures c.is_point_inside.ensures.inside in
+    c.spot_of.ensures c.is_point_inside.ensures.inside in
     asked_inside (IsVertexInside (g.M.DistanceMetric.shape c.args.metric.now) g.V.HasPosition.place
     c.args.dcel.now)
     (length c.args.dcel.now.vertices) c.args.asked.now _ c.args.found.now.items
@@ -39,9 +39,9 @@ returns-else-is_point_inside g c =
     let told = vertex_told g.V.HasPosition.place c.args.dcel c.is_point_inside.result
     (g.M.DistanceMetric.shape c.args.metric.now) c.vertex.result.dcel
     c.vertex.result.index c.args.vertex
-    (place_of g.V.Scalar.SpadeNum.whole c.position_of.result) c.vertex.ensures.dcel
+    (place_of g.V.Scalar.SpadeNum.whole c.spot_of.result) c.vertex.ensures.dcel
     c.vertex.ensures.index
-    c.position_of.ensures c.is_point_inside.ensures.inside in
+    c.spot_of.ensures c.is_point_inside.ensures.inside in
     asked_outside (IsVertexInside (g.M.DistanceMetric.shape c.args.metric.now) g.V.HasPosition.place
     c.args.dcel.now)
     (length c.args.dcel.now.vertices) c.args.asked.now _ c.args.found.now.items c.args.vertex

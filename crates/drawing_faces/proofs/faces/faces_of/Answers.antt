@@ -33,7 +33,7 @@ loop-face-preserved g c =
     let mesh_is = ap (λ p. p.0) step.3 in
     let index_is = ap (λ p. p.1) step.3 in
     let row =
-    c.corners_of.ensures ∙ same_indexes i.mesh.now.mesh face.dcel.now.mesh step.0 face.index
+    c.corner_indexes.ensures ∙ same_indexes i.mesh.now.mesh face.dcel.now.mesh step.0 face.index
     (ap (λ d. d.now.mesh) mesh_is) index_is in
     record {
       mesh = i.mesh;
@@ -42,7 +42,7 @@ loop-face-preserved g c =
       left = step.4;
       so_far = ap (λ ys. ys ++ map (indexes_at i.mesh.now.mesh) step.1)
           c.in_ok-push.ensures.items
-          ∙ row_more (indexes_at i.mesh.now.mesh) c.loop-face.faces.items c.corners_of.result
+          ∙ row_more (indexes_at i.mesh.now.mesh) c.loop-face.faces.items c.corner_indexes.result
           i.rest step.1 step.0 _ step.2 row i.so_far;
     }
 

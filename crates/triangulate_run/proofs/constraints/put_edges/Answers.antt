@@ -13,11 +13,11 @@ loop-edge-init g c = record { so_far = passes_nil _ _; works = c.requires.works 
 
 pub loop-edge-preserved : goal.loop-edge-preserved
 loop-edge-preserved g c =
-    let put = c.in_ok-put_edge.ensures in
+    let put = c.in_ok-put_path_edge.ensures in
     let m = c.args.triangulation.now.mesh in
     let here = subst (λ (h : ℕ). Passes (g.W.Write.contents (inner_of c.loop-edge.writer))
-    (g.W.Write.contents (inner_of c.put_edge.new.writer)) c.loop-edge.held.items
-    c.put_edge.new.held.items
+    (g.W.Write.contents (inner_of c.put_path_edge.new.writer)) c.loop-edge.held.items
+    c.put_path_edge.new.held.items
     (edge_piece m h)) c.edge-item.is put.0 in
     record {
       so_far = passes_at
@@ -26,18 +26,18 @@ loop-edge-preserved g c =
       works = put.1;
     }
 
-pub returns-in_err-put_edge : goal.returns-in_err-put_edge
-returns-in_err-put_edge g c =
+pub returns-in_err-put_path_edge : goal.returns-in_err-put_path_edge
+returns-in_err-put_path_edge g c =
     let p = err_from_is_err_and c.from_residual.result c.from_residual.ensures.1 in
-    let put = c.in_err-put_edge.ensures in
+    let put = c.in_err-put_path_edge.ensures in
     let m = c.args.triangulation.now.mesh in
     let here = subst (λ (h : ℕ). AppendsPart (g.W.Write.contents (inner_of c.loop-edge.writer))
-    (g.W.Write.contents (inner_of c.put_edge.new.writer))
+    (g.W.Write.contents (inner_of c.put_path_edge.new.writer))
     (c.loop-edge.held.items ++ edge_piece m h))
     c.edge-item.is put.0 in
     rw p.1 (
       subst (λ (t : List ℕ). AppendsPart (g.W.Write.contents (inner_of c.args.writer.now))
-          (g.W.Write.contents (inner_of c.put_edge.new.writer)) (c.args.held.now.items ++ t))
+          (g.W.Write.contents (inner_of c.put_path_edge.new.writer)) (c.args.held.now.items ++ t))
           (pieces_text m c.args.path.now)
           (part_at (edge_piece m) c.args.path.now c.loop-edge.edge-index
           c.edge-item.result _ _ _ _ _

@@ -1,6 +1,6 @@
 use Rattle.std.proofs.Common.{sym, subst, rules, SFits, w64, to_z-of_z}
 use Rattle.delaunay_legalization.specs.State.{triangulation_of}
-use Rattle.triangulate_run.specs.Answer.{IsLeastDistance}
+use Rattle.triangulate_run.specs.Answer.{IsVertexDistance}
 use Rattle.triangulate_run.specs.Stage.{position}
 use Rattle.triangulate_run.proofs.Distances.{covered_if_listed, no_vertex}
 use Rattle.triangulate_run.proofs.Insertions.{listed_if_known}
@@ -23,7 +23,7 @@ returns-in-Some g c =
     c.index_of.ensures in
     let fits : SFits w64 d = search rules in (
       listed,
-      subst (IsLeastDistance
+      subst (IsVertexDistance
           (triangulation_of position (g.T.Triangulation.state c.args.triangulation.now))
           p) (sym (to_z-of_z {w = w64} {z = d} fits)) c.in-Some.ensures,
     )

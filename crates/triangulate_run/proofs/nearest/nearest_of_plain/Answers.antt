@@ -2,7 +2,7 @@ use Rattle.std.proofs.Common.{◌≡◌, ap, sym, subst, rules, SFits, w64, to_z
 use Rattle.std.specs.Prelude.{slice_get, Some}
 use Rattle.delaunay_legalization.specs.State.{triangulation_of}
 use Rattle.delaunay_edit.proofs.Removing.{read_place}
-use Rattle.triangulate_run.specs.Answer.{IsLeastDistance}
+use Rattle.triangulate_run.specs.Answer.{IsVertexDistance}
 use Rattle.triangulate_run.specs.Stage.{position}
 use Rattle.triangulate_run.proofs.Distances.{vertex_in_range, covered_if_listed, least_distance}
 use Rattle.triangulate_run.proofs.Insertions.{listed_if_known}
@@ -41,7 +41,7 @@ returns-in-Some g c =
     (ap (λ s. s.vertices) c.in-Some.ensures.0) c.data.ensures) in
     let fits : SFits w64 d = search rules in (
       listed,
-      subst (IsLeastDistance t p) (sym (to_z-of_z {w = w64} {z = d} fits))
+      subst (IsVertexDistance t p) (sym (to_z-of_z {w = w64} {z = d} fits))
           (least_distance t p (position v) i d c.in-Some.ensures.1 at c.distance_2.ensures),
     )
 

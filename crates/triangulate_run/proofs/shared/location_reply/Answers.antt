@@ -35,5 +35,5 @@ returns-in-OnFace g c = λ p h.
     let mesh_is = ap (λ s. s.mesh) c.face.ensures.state in
     let located = subst (λ (a : PositionInTriangulation). IsLocation t (whole p) (location_of m a))
     c.in-OnFace.is h in
-    face_there t c.requires.tiling p _ _ _ c.corners_of.result (c.corners_of.ensures ∙ ap
+    face_there t c.requires.tiling p _ _ _ c.corner_row.result (c.corner_row.ensures ∙ ap
     (λ n. row_at n c.face.result.index) mesh_is ∙ ap (row_at m) c.face.ensures.index) located

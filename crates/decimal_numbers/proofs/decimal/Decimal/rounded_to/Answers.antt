@@ -18,5 +18,6 @@ returns-clause-value c =
           c.if-self-digits.false w.in-Some.ensures.some w.nearest_quotient-magnitude.ensures.above
           w.nearest_quotient-magnitude.ensures.below)
       | in-None w ↦ subst (λ (q : ℕ). IsRounded n.magnitude n.digits k q k) (sym w.magnitude-is)
-          (rounds_to_none n.magnitude n.digits k small c.if-self-digits.false w.in-None.ensures.none)
+          (rounds_to_none n.magnitude n.digits k small c.if-self-digits.false
+          w.in-None.ensures.none)
     ]

@@ -6,7 +6,8 @@ pub returns-in-Ok-clause-joins : goal.returns-in-Ok-clause-joins
 returns-in-Ok-clause-joins g c =
     joined_now g.V.HasPosition.place c.args.from c.args.to c.args.self.now
     c.add_constraint.new.self c.in-Ok.made c.add_constraint.result _ c.in-Ok.is refl
-    (c.can_add_constraint.ensures.0 c.if-not-can_add_constraint.false).free c.add_constraint.ensures.adds
+    (c.can_add_constraint.ensures.0 c.if-not-can_add_constraint.false).free
+    c.add_constraint.ensures.adds
 
 pub returns-in-Err-clause-joins : goal.returns-in-Err-clause-joins
 returns-in-Err-clause-joins g c =

@@ -1,12 +1,12 @@
 use Rattle.std.proofs.Common.{subst}
 use Rattle.delaunay_legalization.proofs.Questions.{both_ways}
 use Rattle.delaunay_lines.specs.declared.intersection.FixedIntersection.{FixedIntersection}
-use Rattle.delaunay_lines.specs.Over.{IsAt}
+use Rattle.delaunay_lines.specs.Over.{IsAtItem}
 use Rattle.delaunay_lines.proofs.segment.Segment.after.Goals as goal
 
 pub after_crossing-requires : goal.after_crossing-requires
 after_crossing-requires g c =
-    subst (λ (i : FixedIntersection). IsAt g.V.HasPosition.place g.V.Scalar.SpadeNum.whole
+    subst (λ (i : FixedIntersection). IsAtItem g.V.HasPosition.place g.V.Scalar.SpadeNum.whole
     g.P.PlaneTests.sites
     g.P.PlaneTests.covered c.args.self.now i) c.in-Edge.is
     (record {
@@ -19,7 +19,7 @@ after_crossing-requires g c =
 
 pub after_vertex-requires : goal.after_vertex-requires
 after_vertex-requires g c =
-    subst (λ (i : FixedIntersection). IsAt g.V.HasPosition.place g.V.Scalar.SpadeNum.whole
+    subst (λ (i : FixedIntersection). IsAtItem g.V.HasPosition.place g.V.Scalar.SpadeNum.whole
     g.P.PlaneTests.sites
     g.P.PlaneTests.covered c.args.self.now i) c.in-Vertex.is
     (record {
@@ -32,7 +32,7 @@ after_vertex-requires g c =
 
 pub after_overlap-requires : goal.after_overlap-requires
 after_overlap-requires g c =
-    subst (λ (i : FixedIntersection). IsAt g.V.HasPosition.place g.V.Scalar.SpadeNum.whole
+    subst (λ (i : FixedIntersection). IsAtItem g.V.HasPosition.place g.V.Scalar.SpadeNum.whole
     g.P.PlaneTests.sites
     g.P.PlaneTests.covered c.args.self.now i) c.in-Overlap.is
     (record {

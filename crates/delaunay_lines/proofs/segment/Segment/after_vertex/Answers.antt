@@ -6,7 +6,7 @@ use Rattle.delaunay_core.specs.Place.{place_of}
 use Rattle.delaunay_legalization.specs.Known.{point_at}
 use Rattle.delaunay_legalization.proofs.Questions.{both_ways}
 use Rattle.delaunay_lines.specs.declared.intersection.FixedIntersection.TheVariants.{Vertex}
-use Rattle.delaunay_lines.specs.Over.{IsAt}
+use Rattle.delaunay_lines.specs.Over.{IsAtItem}
 use Rattle.delaunay_lines.specs.Steps.{IsNext}
 use Rattle.delaunay_lines.proofs.MeshSteps.{not_same, last_at_end, last_if_none_leads}
 use Rattle.delaunay_lines.proofs.segment.Segment.after_vertex.Goals as goal
@@ -26,7 +26,7 @@ edge_towards-requires-clause-apart g c =
 
 pub along_or_into-requires-clause-at : goal.along_or_into-requires-clause-at
 along_or_into-requires-clause-at g c =
-    subst (λ (v : ℕ). IsAt g.V.HasPosition.place g.V.Scalar.SpadeNum.whole g.P.PlaneTests.sites
+    subst (λ (v : ℕ). IsAtItem g.V.HasPosition.place g.V.Scalar.SpadeNum.whole g.P.PlaneTests.sites
     g.P.PlaneTests.covered c.args.self.now (Vertex v)) (sym c.in-Some.ensures.1) c.requires
 
 pub along_or_into-requires-clause-starts_apart : goal.along_or_into-requires-clause-starts_apart

@@ -11,4 +11,4 @@ returns-in-Insert-clause-reply g c =
     let new = stage_of c.insert.new.self.triangulation in
     rw c.in-Insert.is
     (subst (λ (p : Point2 ℤ). MayInsert c.args.self.now.points.now old p c.insert.result new)
-    c.point_of.ensures c.insert.ensures.reply)
+    c.placed_point.ensures c.insert.ensures.reply)

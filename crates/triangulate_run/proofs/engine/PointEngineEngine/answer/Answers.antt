@@ -17,8 +17,8 @@ returns-clause-answered g c =
           w.constrain-answered.ensures.answered
       | in-Line w ↦ rw (w.in-Line.is, w.self-is, w.writer-is, w.answered-is) (
           let told = w.line-answered.ensures.answered in
-          let met = walks_there points old.triangulation _ _ _ _ w.point_of.ensures
-          w.point_of-in-Line.ensures told.0
+          let met = walks_there points old.triangulation _ _ _ _ w.placed_point.ensures
+          w.placed_point-in-Line.ensures told.0
           told.1 in
           (told.0, (met, refl), told.2))
       | in_default+in-Faces-1 w ↦ rw (w.self-is, w.writer-is, w.answered-is) (

@@ -1,7 +1,7 @@
 use Rattle.triangulate_run.specs.Stage.{position}
 use Rattle.delaunay_legalization.specs.State.{triangulation_of}
 use Rattle.triangulate_run.proofs.Locations.{edges_counted}
-use Rattle.triangulate_run.proofs.shared.counts_of.Goals as goal
+use Rattle.triangulate_run.proofs.shared.count_reply.Goals as goal
 
 pub returns : goal.returns
 returns g c = record {

@@ -14,7 +14,7 @@ use Rattle.delaunay_legalization.proofs.Rounds.{first_left, none_left}
 use Rattle.triangulate_run.proofs.MeshFaces.{row_more, rows_end, rows_by_index, row_same_mesh}
 use Rattle.triangulate_run.proofs.MeshFaces.{twice}
 use Rattle.triangulate_run.proofs.FaceList.{lists_faces, rows_differ}
-use Rattle.triangulate_run.proofs.shared.faces_of.Goals as goal
+use Rattle.triangulate_run.proofs.shared.sorted_faces.Goals as goal
 
 pub loop-face-init : goal.loop-face-init
 loop-face-init g c =
@@ -39,7 +39,7 @@ loop-face-preserved g c =
     let mesh_is = ap (λ p. p.0) step.3 in
     let index_is = ap (λ p. p.1) step.3 in
     let row =
-    c.corners_of.ensures ∙ row_same_mesh i.mesh.now.mesh face.dcel.now.mesh step.0 face.index
+    c.corner_row.ensures ∙ row_same_mesh i.mesh.now.mesh face.dcel.now.mesh step.0 face.index
     (ap (λ d. d.now.mesh) mesh_is) index_is in
     record {
       mesh = i.mesh;
@@ -47,7 +47,7 @@ loop-face-preserved g c =
       rest = step.1;
       left = step.4;
       so_far = ap (λ ys. ys ++ map (row_at i.mesh.now.mesh) step.1) c.in_ok-push.ensures.items
-          ∙ row_more (row_at i.mesh.now.mesh) c.loop-face.faces.items c.corners_of.result i.rest
+          ∙ row_more (row_at i.mesh.now.mesh) c.loop-face.faces.items c.corner_row.result i.rest
           step.1 step.0 _ step.2
           row i.so_far;
     }

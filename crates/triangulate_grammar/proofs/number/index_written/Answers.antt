@@ -1,7 +1,7 @@
 use Rattle.std.proofs.Common.{◌+◌, ◌*◌, get_or, arith, refl, sym, ◌∙◌, ap}
 use Rattle.std.proofs.lemmas.Str.Parse.{digit_at}
 use Rattle.triangulate_grammar.proofs.Digits.{value_lt, one_more, digit_in_range, in_range_digit}
-use Rattle.triangulate_grammar.proofs.number.index_of.Goals as goal
+use Rattle.triangulate_grammar.proofs.number.index_written.Goals as goal
 
 pub returns-then-not-is_ascii_digit-clause-none : goal.returns-then-not-is_ascii_digit-clause-none
 returns-then-not-is_ascii_digit-clause-none c = λ n h.

@@ -1,6 +1,6 @@
 use Rattle.std.proofs.Common.{◌∙◌}
 use Rattle.drawing_faces.proofs.MeshFaces.{name_at, indexes_if}
-use Rattle.drawing_faces.proofs.faces.corners_of.Goals as goal
+use Rattle.drawing_faces.proofs.faces.corner_indexes.Goals as goal
 
 pub returns : goal.returns
 returns g c =

@@ -6,7 +6,7 @@ use Rattle.half_edge_mesh.specs.Left.{each_in}
 use Rattle.spade_delaunay.specs.InnerFaces.{inner_faces_left}
 use Rattle.delaunay_legalization.specs.State.{state_of}
 use Rattle.triangulate_run.specs.MeshFaces.{row_at}
-use Rattle.triangulate_run.proofs.shared.faces_of.Given as goal
+use Rattle.triangulate_run.proofs.shared.sorted_faces.Given as goal
 
 abbrev pub invariant-loop-face : goal.invariant-loop-face
 invariant-loop-face g l = record {

@@ -1,5 +1,5 @@
 use Rattle.delaunay_core.specs.Place.{place_of}
-use Rattle.delaunay_lines.proofs.outside.is_nearer.Goals as goal
+use Rattle.delaunay_lines.proofs.outside.is_point_nearer.Goals as goal
 
 pub distance_2-requires-clause-in_range : goal.distance_2-requires-clause-in_range
 distance_2-requires-clause-in_range g c =

@@ -1,6 +1,6 @@
 use Rattle.std.proofs.Common.{◌∙◌}
 use Rattle.triangulate_run.proofs.MeshFaces.{name_at, row_if}
-use Rattle.triangulate_run.proofs.shared.corners_of.Goals as goal
+use Rattle.triangulate_run.proofs.shared.corner_row.Goals as goal
 
 pub returns : goal.returns
 returns g c =
