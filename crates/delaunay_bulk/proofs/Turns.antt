@@ -134,6 +134,7 @@ module _ {V D U F : Type 0} (place : V → Point) (constraints : List U → List
   module _ (list : List V) (order left rest : List (ℕ × V)) (handles : List ℕ)
       (old now new : State V D U F) (i : ℕ) (v : V) (is : left ≡ (i, v) ∷ rest)
       (u : IsUnderway list order left handles old now) where
+    -- the entry that comes next names the vertex at its index in the list
     pub read : slice_get list i ≡ Some v
     read = All-head (λ (e : ℕ × V). slice_get list e.0 ≡ Some e.1) (i, v) rest
         (subst (All (λ (e : ℕ × V). slice_get list e.0 ≡ Some e.1)) is u.there)
@@ -176,6 +177,7 @@ module _ {V D U F : Type 0} (place : V → Point) (constraints : List U → List
           in_range = one_of_all (λ w. InRange (place w)) list i v in_range read;
         }
 
+  -- where none is left, each vertex of the list was inserted, and these are the handles
   pub ends : (list : List V) (order left : List (ℕ × V)) (handles : List ℕ)
       (old now new : State V D U F) → IsListed place list order → length left ≡ 0 → new ≡ now
       → IsUnderway list order left handles old now

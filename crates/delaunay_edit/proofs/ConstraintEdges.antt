@@ -49,6 +49,7 @@ module _ {U : Type 0} (marks : U → Bool) where
   all_marks first (d ∷ ds) (suc k) h = one_more (marks d) first (marked_from marks (suc first) ds)
       (marks_before marks ds k) (all_marks (suc first) ds k (omega (arith, h)))
 
+  -- where k edges have at most k marks, one edge more makes it at most one mark more
   few : (b : Bool) (n k : ℕ) → n ≤ k → add_mark b n ≤ suc k
   few true n k h = omega (arith, h)
   few false n k h = omega (arith, h)

@@ -163,6 +163,7 @@ module _ {V D U F : Type 0} (place : V → Point) (marks : U → Bool) (constrai
 
     module _ (x : Bor (Contents V D U F) × ℕ) (left : List (Bor (Contents V D U F) × ℕ))
         (e : given ≡ x ∷ left) where
+      -- the edge that is given next is the first of those left, and the others are left after it
       s : (others : List ℕ) × (p.rest ≡ x.1 ∷ others) × IsLeftOfRound c v left others
       s = one_less_left c v given p.rest p.are_left x left e
 
@@ -175,6 +176,7 @@ module _ {V D U F : Type 0} (place : V → Point) (marks : U → Bool) (constrai
       once_now : IsOnce (x.1 ∷ s.0)
       once_now = subst (λ (xs : List ℕ). IsOnce xs) s.1 p.are_left.once
 
+      -- one edge more is left before it is given than after
       size : length p.rest ≡ suc (length s.0)
       size = ap length s.1
 

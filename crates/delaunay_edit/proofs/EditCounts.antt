@@ -205,6 +205,7 @@ module _ {V : Type 0} (position : V → Point) (old new : Plain V)
           other : (z : ℕ) → z < length old.vertices → z ≢ n
           other z l s = omega (arith, l, s, is_last)
 
+      -- the constraint that carries the new vertex joins its ends no longer
       gone : ¬ Joins new.constraints a b
       gone h = elim ((splits a b).0 h) as (λ _. ⊥) [
         | inl x ↦ x.1 carries
@@ -225,6 +226,7 @@ module _ {V : Type 0} (position : V → Point) (old new : Plain V)
       abbrev Halves : ℕ → ℕ → Type 0
       Halves x y = (Joins old.constraints x y ⊎ IsSamePair x y a n) ⊎ IsSamePair x y b n
 
+      -- each half joins the new vertex to an end of that constraint
       half : (x y : ℕ) → IsHalf position old value n x y → IsSamePair x y a n ⊎ IsSamePair x y b n
       half x y h = elim
           (only x h.1.0 h.1.1 h.1.2) [ inl s ↦ inl (inl (s.0, h.0)) | inr s ↦ inr (inl (s.0, h.0)) ]
@@ -246,6 +248,7 @@ module _ {V : Type 0} (position : V → Point) (old new : Plain V)
         ]
       ]
 
+      -- an end of that constraint and the new vertex are joined
       made : (x y z w : ℕ) → IsSamePair z w a b → IsSamePair x y z n → Joins new.constraints x y
       made x y z w s (inl t) = (splits x y).1
           (inr (inl (
@@ -260,6 +263,7 @@ module _ {V : Type 0} (position : V → Point) (old new : Plain V)
                 (sym t.1) (w, same_joined old.constraints z w a b s joined, carries_as z w s),
           )))
 
+      -- what was joined, and each half, is joined now, but for the constraint that was split
       back : (x y : ℕ) → Halves x y → Joins new.constraints x y ⊎ IsSamePair x y a b
       back x y (inl (inl h)) = elim (same_pair_or_not x y a b) [
         | inl s ↦ inr s

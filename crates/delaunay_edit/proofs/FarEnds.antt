@@ -89,6 +89,7 @@ module _ {V D U F : Type 0} (place : V → Point) (marks : U → Bool) (constrai
   drawn_before =
       record { points = before; faces = faces_of old.mesh; edges = edges_of old.mesh }
 
+  -- edges of the old mesh meet only at vertices
   meet : EdgesMeetAtVertices drawn_before
   meet = no_edges_cross before (faces_of old.mesh) (outer_of old.mesh) (edges_of old.mesh)
       legal.kept.shape (own_edges old.mesh legal.kept.valid)
@@ -99,6 +100,7 @@ module _ {V D U F : Type 0} (place : V → Point) (marks : U → Bool) (constrai
     abbrev after : List Point
     after = map place mid.vertices
 
+    -- the vertex that goes is one of the old ones
     here : v < length old.vertices
     here = takes.plain.here
 

@@ -44,6 +44,7 @@ module _ {V D U F : Type 0} (place : V → Point) (marks : U → Bool) (constrai
   module _ (i j k : ℕ) (adds : Adds place (points_and_constraints_by constraints old)
       (points_and_constraints_by constraints new) i j) (missing :
       HasPairs (IsMissing (map place old.vertices) (constraints_by constraints old) i j) k) where
+    -- there are k constraints more
     more : length (constraints_by constraints new) ≡ k + length (constraints_by constraints old)
     more = added_number place (points_and_constraints_by constraints old)
         (points_and_constraints_by constraints new)

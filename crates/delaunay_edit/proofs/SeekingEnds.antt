@@ -76,6 +76,7 @@ module _ {V D U F : Type 0} (place : V → Point) (marks : U → Bool) (constrai
       sought_at = let n = next_left c v given p.rest p.are_left x left e in
           (p.are_left.within x.1 n, p.are_left.starts x.1 n)
 
+      -- the edge that is given next is the first of those left, and the others are left after it
       s : (others : List ℕ) × (p.rest ≡ x.1 ∷ others) × IsLeftOfRound c v left others
       s = one_less_left c v given p.rest p.are_left x left e
 

@@ -81,6 +81,7 @@ module _ {V D U F : Type 0} (place : V → Point) (marks : U → Bool) (can_mark
       Settled halves =
           Settles place marks mark constraints mid new v halves flips_before flips_after
 
+      -- the path between a and b was added, where vertex n has the index v now
       abbrev Path : ℕ → ℕ → ℕ → Contents V D U F → Type 0
       Path n a b middle =
           AddsPath place marks mark constraints mid middle (moved n v a) (moved n v b)

@@ -206,6 +206,7 @@ module _ {V D U F : Type 0} (place_at : V → Point) (old : Contents V D U F) (v
       (sym (ap (map place_at) vertices ∙ map-append place_at old.vertices (v ∷ [])))
       (All-push IsSite points (place_at v) all here)
 
+  -- no outer edge is listed twice
   once : IsMesh points (faces_of old.mesh) (outer_of old.mesh) → IsOnce (outer_of old.mesh)
   once (inl m) = m.once
   once (inr m) = m.1.once
@@ -223,9 +224,11 @@ module _ {V D U F : Type 0} (place_at : V → Point) (old : Contents V D U F) (v
     sound_before : AreSoundLinks old.mesh
     sound_before = kept.valid.sound
 
+    -- the index of the new vertex is the number of old points
     k_is : k ≡ last
     k_is = is ∙ sym (length-map old.vertices place_at)
 
+    -- there are as many old points as vertices of the mesh
     fit : last ≡ length old.mesh.out_edges
     fit = length-map old.vertices place_at ∙ kept.fits.vertices_fit
 
@@ -235,9 +238,11 @@ module _ {V D U F : Type 0} (place_at : V → Point) (old : Contents V D U F) (v
     abbrev b : ℕ
     b = origin old.mesh (rev e)
 
+    -- the edge starts at an old vertex
     a_in : a < last
     a_in = subst (λ n. a < n) (sym fit) (sound_before.edges e within).origin_in
 
+    -- and ends at one
     b_in : b < last
     b_in = subst (λ n. b < n) (sym fit) (sound_before.edges (rev e)
         (rev_within e (length old.mesh.half_edges) sound_before.even within)).origin_in
@@ -248,6 +253,7 @@ module _ {V D U F : Type 0} (place_at : V → Point) (old : Contents V D U F) (v
     ahead_made : IsOuterEdge new.mesh (length old.directed + 1) k b
     ahead_made = replaces.made (length old.directed + 1) k b (inr (refl, refl, refl))
 
+    -- the new vertex is on its left, among the points that include the new one
     left : TurnsLeft (place grown_points a) (place grown_points b) (place grown_points last)
     left = subst (λ (x : Point × Point × Point). TurnsLeft (whole x.0) (whole x.1) (whole x.2))
         (λ o. (
@@ -302,6 +308,7 @@ module _ {V D U F : Type 0} (place_at : V → Point) (old : Contents V D U F) (v
       { mesh = new.mesh; directed = new.directed; undirected = new.undirected; faces = new.faces })
       (directed : length new.directed ≡ length now.directed + 2) (undirected : length new.undirected
       ≡ length now.undirected + 1) (faces : length new.faces ≡ length now.faces + 1) where
+    -- the links fit together
     s : AreSoundLinks now.mesh
     s = w.valid.sound
 
@@ -376,6 +383,7 @@ module _ {V D U F : Type 0} (place_at : V → Point) (old : Contents V D U F) (v
     -- the edge before the edge behind
     module _ (e : ℕ) (is : e ≡ prev now.mesh behind)
         (sees : Sees grown_points now.mesh last e) where
+      -- the edge before the edge behind is one of the mesh
       e_in : e < length now.mesh.half_edges
       e_in = subst (λ k. k < length now.mesh.half_edges) (sym is)
           (s.edges behind j.behind_outer.within).prev_in
@@ -501,9 +509,11 @@ module _ {V D U F : Type 0} (place_at : V → Point) (old : Contents V D U F) (v
     abbrev far : ℕ
     far = origin now.mesh (rev ahead)
 
+    -- the edge before the edge behind is one of the mesh
     h_in : prev now.mesh behind < length now.mesh.half_edges
     h_in = (sound_now.edges behind j.behind_outer.within).prev_in
 
+    -- it ends where the edge behind starts
     h_end : origin now.mesh (rev (prev now.mesh behind)) ≡ u
     h_end = sym (sound_now.edges (prev now.mesh behind) h_in).starts
         ∙ ap (origin now.mesh) (sound_now.edges behind j.behind_outer.within).next_prev
@@ -627,6 +637,7 @@ module _ {V D U F : Type 0} (place_at : V → Point) (old : Contents V D U F) (v
     seen_behind : Sees grown_points now.mesh last e
     seen_behind = seen_as now k e b.joining.vertices k_is sees
 
+    -- the edge behind fits the edges beside it
     here : IsSoundEdge now.mesh behind
     here = w.valid.sound.edges behind b.joining.behind_outer.within
 

@@ -43,9 +43,11 @@ module _ (n : ℕ) (p : ℕ → Point) (outer : List (ℕ × ℕ)) (m : SignLine
   apart : ¬ (p w ≡ p a)
   apart = m.distinct w a near.first near.second near.apart
 
+  -- each vertex is on the line of w and a
   on : (k : ℕ) → k < n → bracket (at p w) (at p a) (at p k) ≡ pos 0
   on k h = m.straight w a k near.first near.second h
 
+  -- how far along the line from w to a a vertex lies
   abbrev spot : ℕ → ℤ
   spot k = place_on (p w) (p a) (at p k)
 
@@ -75,6 +77,7 @@ module _ (n : ℕ) (p : ℕ → Point) (outer : List (ℕ × ℕ)) (m : SignLine
       go (inr o) (inl q) = absurd (none_between j i t s.second (inr (q, h)))
       go (inr o) (inr q) = same_spot i j s.second t.second q o
 
+  -- a neighbour of w comes before or after it along the line
   off : (i : ℕ) → Adjoin n p w i → (spot w <ℤ spot i) ⊎ (spot i <ℤ spot w)
   off i s = go (lt_or_ge_ℤ (spot w) (spot i)) (lt_or_ge_ℤ (spot i) (spot w))
     where
@@ -123,13 +126,16 @@ module _ (points : List Point) (q : Point) (outer : List (ℕ × ℕ)) (m : Mesh
   abbrev n : ℕ
   n = length points
 
+  -- the points, with the new one last
   abbrev p : ℕ → Point
   p = point_at (points ++ q ∷ [])
 
+  -- the way from i to j has the new vertex on its left
   abbrev Sees : ℕ → ℕ → Type 0
   Sees i j = TurnsLeft (place (points ++ q ∷ []) i) (place (points ++ q ∷ []) j)
       (place (points ++ q ∷ []) (length points))
 
+  -- the old outer edges are those of a line, by signs, where the new point is listed too
   line : SignLine (length points) (point_at (points ++ q ∷ [])) outer
   line = same_line (length points) (point_at points) (point_at (points ++ q ∷ [])) outer
       (kept_point points q) (line_by_signs points outer straight)
@@ -189,9 +195,11 @@ module _ (points : List Point) (q : Point) (outer : List (ℕ × ℕ)) (m : Mesh
   final : IsLastStep (points ++ q ∷ []) n outer u x.second x.rest
   final = last_step_of (points ++ q ∷ []) n outer u x.second x.rest x.run
 
+  -- the run of joined edges ends at an old vertex
   w_in : w < n
   w_in = subst (λ k. k < n) x.last (x.ends final.start (last_of x.second x.rest) final.edge).1
 
+  -- it starts at an old vertex
   u_in : u < n
   u_in = (x.ends u x.second x.run.0).0
 

@@ -47,6 +47,7 @@ module _ {V : Type 0} (position : V → Point) (old mid new : Plain V) (v : V)
     (one : (i j k l : ℕ) → Joins old.constraints i j → Carries position old v i j
     → Joins old.constraints k l → Carries position old v k l → IsSamePair i j k l)
     (removes : Removes position mid new (length old.vertices)) where
+  -- the last vertex is the one that was put in
   last : length mid.vertices - 1 ≡ length old.vertices
   last = ap (λ vs. length vs - 1) appends.vertices ∙ one_longer old.vertices v
 

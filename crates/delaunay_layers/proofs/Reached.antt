@@ -42,9 +42,11 @@ one_of : (a b : Bool) → (a || b) ≡ true → (a ≡ true) ⊎ (b ≡ true)
 one_of true b e = inl refl
 one_of false b e = inr e
 
+-- two tests that are true are true together
 both : (a b : Bool) → a ≡ true → b ≡ true → (a && b) ≡ true
 both a b e d = ap (λ x. x && b) e ∙ d
 
+-- and where they are true together, each is
 each : (a b : Bool) → (a && b) ≡ true → (a ≡ true) × (b ≡ true)
 each true b e = (refl, e)
 each false b e = absurd (cc)
@@ -102,6 +104,7 @@ module _ (points : List Point) (m : Mesh) (v : IsValidMesh m)
   abbrev origin_point : Point
   origin_point = record { x = pos 0; y = pos 0 }
 
+  -- the point of a vertex
   abbrev p : ℕ → Point
   p i = get_or points i origin_point
 
@@ -110,6 +113,7 @@ module _ (points : List Point) (m : Mesh) (v : IsValidMesh m)
   test i j h = nat_eq (origin m h) i
       && (nat_eq (origin m (rev h)) j && nat_eq (layer_at layers (face m h)) unseen)
 
+  -- whether there is such an edge from i to j
   pub goes : ℕ → ℕ → Bool
   goes i j = any_below (test i j) n
 
@@ -166,6 +170,7 @@ module _ (points : List Point) (m : Mesh) (v : IsValidMesh m)
   abbrev area : ℕ → ℕ → ℤ
   area i j = bracket (lift (p i)) (lift (p j)) (lift origin_point)
 
+  -- that area where there is such an edge, and 0 elsewhere
   pub flow : ℕ → ℕ → ℤ
   flow i j = cond (goes i j) (area i j) (pos 0)
 
@@ -187,6 +192,7 @@ module _ (points : List Point) (m : Mesh) (v : IsValidMesh m)
 
   -- the ends of the three edges of a face
   module _ (h i j k : ℕ) (of : IsEdgeOfFace m h i j k) where
+    -- the three edges round the face
     t : T.IsTriangle m h
     t = T.triangle_at m h v.sound of.inner.0 of.inner.1
 

@@ -364,15 +364,18 @@ module _ (m : Mesh) (constraints : List ℕ) where
     abbrev known : List ℕ
     known = set layers f layer
 
+    -- the face has its layer now
     at_f : layer_at known f ≡ layer
     at_f = get_or-set_same layers f layer unseen within
 
     seen_f : IsSeen known f
     seen_f e = omega (arith, e, at_f, small)
 
+    -- a face that was reached before is another one
     off_f : (g : ℕ) → IsSeen layers g → g ≢ f
     off_f g seen e = seen (ap (layer_at layers) e ∙ new)
 
+    -- a face that was reached before keeps its layer
     kept : (g : ℕ) → IsSeen layers g → layer_at known g ≡ layer_at layers g
     kept g seen = get_or-set_other layers f g layer unseen (off_f g seen)
 
@@ -420,11 +423,13 @@ module _ (m : Mesh) (constraints : List ℕ) where
       | inr (inr c) ↦ inr (inr (crossed_kept h old c))
     ]
 
+    -- each face that was reached has a way past as many constraints as its layer says
     ways' : (g : ℕ) → (g ≡ f) ⊎ IsSeen layers g → HasWay m constraints g (layer_at known g)
     ways' g (inl e) = subst (λ x. HasWay m constraints x (layer_at known x)) (sym e)
         (subst (HasWay m constraints f) (sym at_f) way)
     ways' g (inr old) = subst (HasWay m constraints g) (sym (kept g old)) (s.ways g old)
 
+    -- no face that was reached has a layer above the one that f gets
     low' : (g : ℕ) → (g ≡ f) ⊎ IsSeen layers g → layer_at known g ≤ layer
     low' g (inl e) = let at = ap (layer_at known) e in omega (arith, at, at_f)
     low' g (inr old) = let at = kept g old in let low = s.low g old in omega (arith, at, low)

@@ -86,9 +86,11 @@ module _ (points : List Point) (m : Mesh) (s : IsValidMesh m) (shape : IsMesh po
   local : LocalMesh points (faces_of m) (outer_of m)
   local = M.local_of points m e s.sound shape (within, x.inner)
 
+  -- an edge that fails can be turned
   turn : IsFlippable m e
   turn = M.between_inner points m s local e within x.inner x.twin_inner
 
+  -- the two sides of e and the four edges round it are six different ones
   pub six : AreSixPlaces (length m.half_edges) e (rev e) (next m e) (next m (rev e)) (prev m e)
       (prev m (rev e))
   six = T.six_round m e s.sound turn
@@ -231,15 +233,18 @@ module _ (points : List Point) (constraints : List (ℕ × ℕ)) (was m new : Me
     (gains : GainsRoundAmong m hs e ks more) (own : AreEdges m more)
     (legal : (all : List ℕ) → GainsRound m e ks all → AreEdges m all
     → IsPartlyLegal points constraints was new all start flips) where
+  -- the work list with the edge after e
   one : Extends more (next m e / 2)
   one = extend more (next m e / 2)
 
+  -- and with the edge before e
   two : Extends one.list (prev m e / 2)
   two = extend one.list (prev m e / 2)
 
   three : Extends two.list (next m (rev e) / 2)
   three = extend two.list (next m (rev e) / 2)
 
+  -- and with the edge before the other side of e, the last of the four
   four : Extends three.list (prev m (rev e) / 2)
   four = extend three.list (prev m (rev e) / 2)
 

@@ -144,6 +144,7 @@ module _ (points : List Point) (m : Mesh) (s : IsValidMesh m)
   local : LocalMesh points (faces_of m) (outer_of m)
   local = M.local_of points m e s.sound shape (within, x.inner)
 
+  -- an edge that fails can be turned
   turn : IsFlippable m e
   turn = M.between_inner points m s local e within x.inner x.twin_inner
 
@@ -175,6 +176,7 @@ module _ (points : List Point) (m : Mesh) (s : IsValidMesh m)
   origin_stays : KeepsOtherOrigins m (flipped m e) e
   origin_stays = origin_kept m (flipped m e) e s.sound turn moves
 
+  -- the two sides of e and the four edges round it are six different ones
   six : AreSixPlaces (length m.half_edges) e (rev e) (next m e) (next m (rev e)) (prev m e)
       (prev m (rev e))
   six = T.six_round m e s.sound turn

@@ -6,6 +6,7 @@ use Rattle.delaunay_legalization.specs.Flips.{CountsFlips, FlipsFit}
 below : (before q : ℕ) → q ≤ 4294967296 * 4294967295 → before < 2 ^ 63 → 2 * before + q < 2 ^ 65
 below before q few small = omega (arith, few, small)
 
+-- a count of at most half of (2^32 - 1) (2^32 - 2) is below 2^63
 half : (after q : ℕ) → 2 * (after - 0) ≤ q → q ≤ 4294967295 * 4294967294 → after < 2 ^ 63
 half after q few small = omega (arith, few, small)
 

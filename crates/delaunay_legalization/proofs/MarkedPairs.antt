@@ -105,6 +105,7 @@ module _ {U : Type 0} (marks : U → Bool) (constraints : List U → List ℕ)
     }
 
     module _ (m : Mesh) (mark : marks x ≡ true) where
+      -- edge k has the mark then
       here : (l : ℕ) → l ≡ k → IsMarked (set ds k x) l
       here l e = subst (IsMarked (set ds k x)) (sym e)
           (record { value = x; has = set_entry ds k d x was; mark = mark })

@@ -25,6 +25,7 @@ module _ (points : List Point) (m : Mesh) (s : IsValidMesh m)
     (is_twin : twin ≡ rev (next m h)) (is_beyond : beyond ≡ prev m (rev (next m h))) (first : a
     ≡ point_at points (origin m edge)) (second : c ≡ point_at points (origin m twin)) (third : d
     ≡ point_at points (origin m h)) (fourth : b ≡ point_at points (origin m beyond)) where
+  -- edge h is one of the mesh
   h_in : h < length m.half_edges
   h_in = subst (λ z. h < z) count within
 
@@ -34,6 +35,7 @@ module _ (points : List Point) (m : Mesh) (s : IsValidMesh m)
   first_is : a ≡ point_at points (origin m (next m h))
   first_is = first ∙ ap (λ z. point_at points (origin m z)) is_edge
 
+  -- edge h is the one before its next edge
   h_is : h ≡ prev m (next m h)
   h_is = sym (s.sound.edges h h_in).prev_next
 

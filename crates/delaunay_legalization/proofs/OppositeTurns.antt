@@ -94,6 +94,7 @@ module _ (points : List Point) (m : Mesh) (s : IsValidMesh m)
   abbrev e : ℕ
   e = next m h
 
+  -- the edge opposite the vertex is one of the mesh
   e_in : e < length m.half_edges
   e_in = (s.sound.edges h within).next_in
 
@@ -106,6 +107,7 @@ module _ (points : List Point) (m : Mesh) (s : IsValidMesh m)
   triangle : T.IsTriangle m e
   triangle = T.triangle_at m e s.sound e_in x.inner
 
+  -- edge h is the one before it
   h_is : prev m e ≡ h
   h_is = (s.sound.edges h within).prev_next
 

@@ -125,15 +125,19 @@ module _ {V D U F : Type 0} (at : V → Point) (fix : List U → List ℕ) (was 
     pub centre_listed : (q : Point) → Contains (map at was.vertices) q → Contains points q
     centre_listed q c = subst (λ ps. Contains ps q) (sym same_points) c
 
+    -- the edge opposite the vertex is one of the mesh
     e_in : e < length m.half_edges
     e_in = (s.sound.edges h h_in).next_in
 
+    -- edge h is the one before it
     h_is : prev m e ≡ h
     h_is = (s.sound.edges h h_in).prev_next
 
+    -- the opposite edge can be put at the end of the work list
     put : (rest : List ℕ) × PutsLast t.ks (e / 2) rest
     put = put_last t.ks (e / 2) t.underway.legal.edges.once
 
+    -- the work list without the opposite edge
     rest : List ℕ
     rest = put.0
 
@@ -194,6 +198,7 @@ module _ {V D U F : Type 0} (at : V → Point) (fix : List U → List ℕ) (was 
         (constraints : constraint_pairs fix after.mesh after.undirected
         ≡ constraint_pairs fix m now.undirected)
         (turns : Turns points m after.mesh h flips flips_after) where
+      -- the edge fails
       abbrev x : IsFailing points m e
       x = turns.failing
 

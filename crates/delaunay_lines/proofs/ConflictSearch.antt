@@ -52,6 +52,7 @@ none_some x e = cc
 module _ {V D U F : Type 0} (at : V → Point) (IsSite IsCovered : Point → Type 0)
     (c : Contents V D U F) (p q : Point) (over : IsOverMesh at IsSite IsCovered c p q)
     (constraints : List U → List ℕ) where
+  -- no two edges of the mesh have the same ends
   once : EachPairOnce (edges_of c.mesh)
   once = elim (laid at IsSite IsCovered c p q over) [
     | inl tiles ↦ tiles.once

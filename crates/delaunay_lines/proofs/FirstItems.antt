@@ -94,6 +94,7 @@ module _ {V D U F : Type 0} (at : V → Point) (IsSite IsCovered : Point → Typ
     }
 
     module _ (apart : p ≢ q) where
+      -- what comes first, by where q is: left or right of edge h, or ahead along it
       law : (side (start h) (start (rev h)) (whole q) ≡ left
           → IsFirst t (whole p) (whole q) (across (origin m h) (origin m (rev h))))
           × (side (start h) (start (rev h)) (whole q) ≡ right
@@ -107,6 +108,7 @@ module _ {V D U F : Type 0} (at : V → Point) (IsSite IsCovered : Point → Typ
           (origin m h) (origin m (rev h)) (joined at IsSite IsCovered c p q over h
           (in_mesh at IsSite IsCovered c p q over h within)) here
 
+      -- where q is ahead the other way along the edge, the overlap in that direction comes first
       back : side (start (rev h)) (start h) (whole q) ≡ on → IsAhead (whole p) (start h) (whole q) →
           IsFirst t (whole p) (whole q) (along (origin m (rev h)) (origin m h))
       back = (first_from_an_edge t (laid at IsSite IsCovered c p q over) (whole p) (whole q)
@@ -177,6 +179,7 @@ module _ {V D U F : Type 0} (at : V → Point) (IsSite IsCovered : Point → Typ
       (of_mesh at IsSite IsCovered c p q over (next m h) r.next_in) (inside_after h within i))
 
   module _ (h : ℕ) (within : h < length c.directed) (i : StartsInside points m p h) where
+    -- edge h is one of the mesh
     w : h < length m.half_edges
     w = in_mesh at IsSite IsCovered c p q over h within
 

@@ -66,6 +66,7 @@ module _ {V D U F : Type 0} (at : V → Point) (IsSite IsCovered : Point → Typ
   abbrev t : Triangulation
   t = drawn points m
 
+  -- p has one location
   one : (a b : Location) → IsLocation t (whole p) a → IsLocation t (whole p) b → IsSameLocation a b
   one = (each_point_has_one_location points (faces_of m) (outer_of m) (edges_of m) over.shape
       (own_edges m over.mesh.valid) (whole p)).1

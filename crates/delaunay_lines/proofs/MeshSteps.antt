@@ -48,6 +48,7 @@ module _ {V D U F : Type 0} (at : V → Point) (IsSite IsCovered : Point → Typ
   abbrev t : Triangulation
   t = drawn points m
 
+  -- the mesh is valid
   s : IsValidMesh m
   s = over.mesh.valid
 
@@ -133,12 +134,15 @@ module _ {V D U F : Type 0} (at : V → Point) (IsSite IsCovered : Point → Typ
     ways_apart : ¬ IsSame (whole p) (whole q)
     ways_apart e = apart (one_point p q e)
 
+    -- item n comes next after item k
     abbrev Next : Item → Item → Type 0
     Next k n = ComesNext t (whole p) (whole q) k n
 
+    -- item k is the last one
     abbrev Last : Item → Type 0
     Last k = IsLast t (whole p) (whole q) k
 
+    -- the segment meets item k
     abbrev Met : Item → Type 0
     Met k = Meets t (whole p) (whole q) k
 
@@ -147,6 +151,7 @@ module _ {V D U F : Type 0} (at : V → Point) (IsSite IsCovered : Point → Typ
     crossed h = across (origin m h) (origin m (rev h))
 
     module _ (h : ℕ) (within : h < length c.directed) (met : Met (crossed h)) where
+      -- edge h is one of the mesh
       w : h < length m.half_edges
       w = in_mesh h within
 
@@ -177,6 +182,7 @@ module _ {V D U F : Type 0} (at : V → Point) (IsSite IsCovered : Point → Typ
         abbrev d : ℕ
         d = origin m (prev m h)
 
+        -- what comes after edge h, by where d and q are: another side of the face, d, or nothing
         law : (side (whole p) (whole q) (place points d) ≡ left → side (place points b)
             (place points d) (whole q) ≢ left → Next (across a b) (across d b))
             × (side (whole p) (whole q) (place points d) ≡ right → side (place points d)
@@ -251,6 +257,7 @@ module _ {V D U F : Type 0} (at : V → Point) (IsSite IsCovered : Point → Typ
             × Next (across a b) (item_of m k)) (sym l.0)
             (l.1, subst (Next (across a b)) (sym across_next) (law.0 x (λ y. l.2 (side_after.1 y))))
 
+        -- a side that is neither right nor left is on
         flat : (z : Side) → z ≢ right → z ≢ left → z ≡ on
         flat left r l = absurd (l (λ _. left))
         flat right r l = absurd (r (λ _. right))
@@ -346,6 +353,7 @@ module _ {V D U F : Type 0} (at : V → Point) (IsSite IsCovered : Point → Typ
     -- where directed edge h starts at the vertex
     module _ (h : ℕ) (within : h < length c.directed) (met : Met (at_vertex (origin m h)))
         (before_end : ¬ IsSame (start h) (whole q)) where
+      -- edge h is one of the mesh
       v_in : h < length m.half_edges
       v_in = in_mesh h within
 

@@ -46,9 +46,11 @@ itself : (a : ℤ) → a <ℤ a → ⊥
 itself a h = omega (arith, ints)
 
 module _ (points : List Point) (p q : Point) where
+  -- vertex k is on the segment
   abbrev On : ℕ → Type 0
   On k = OnSegment (whole p) (whole q) (place points k)
 
+  -- its squared distance from p
   abbrev d : ℕ → ℤ
   d k = gap (whole p) (place points k)
 

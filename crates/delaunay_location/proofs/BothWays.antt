@@ -171,6 +171,7 @@ module _ (m : Mesh) (valid : IsValidMesh m) (v first : ℕ) (P : ℕ → Type 0)
     -- where no edge is left between them all edges of the vertex were seen
     module _ (closed : w.high ≤ suc w.low) (g : ℕ) (within : g < length m.half_edges)
         (starts : origin m g ≡ v) where
+      -- P holds of each edge of the round
       any : (i : ℕ) → i < w.count → P (spoke m first i)
       any i among = elim (cases_lt w.low i) [
         | inl over ↦ w.above i (omega (arith, over, closed)) (omega (arith, among))

@@ -139,15 +139,18 @@ module _ {V D U F : Type 0} (at : V → Point) (s : State V D U F) (kept : IsTri
   module _ (e : ℕ) (w : e < length s.directed) (alone : next m (rev e) ≡ e) (a b : Point)
       (from : a ≡ point_at points (origin m e)) (to : b ≡ point_at points (origin m (rev e)))
       (beyond : WithinSegment (whole p) (whole b) (whole a)) where
+    -- edge e is one of the mesh
     own : IsMeshEdge points m e
     own = mesh_edge at s kept e w
 
+    -- the outer edges are those of a line, by signs
     line : SignLine (length points) (point_at points) (outer_of m)
     line = elim kept.shape [
       | inl l ↦ absurd (l.some_face no_face)
       | inr l ↦ line_by_signs points (outer_of m) l.1
     ]
 
+    -- e is an outer edge
     here : IsOuterEdge m e (origin m e) (origin m (rev e))
     here = record {
       within = own.within;
@@ -156,16 +159,19 @@ module _ {V D U F : Type 0} (at : V → Point) (s : State V D U F) (kept : IsTri
       target = refl;
     }
 
+    -- its ends are neighbours on the line
     near : Adjoin (length points) (point_at points) (origin m e) (origin m (rev e))
     near = (line.neighbours (origin m e) (origin m (rev e))).0
         (listed m e (origin m e) (origin m (rev e)) here)
 
+    -- its end is the only neighbour of its start
     only : (j : ℕ) → Contains (outer_of m) (origin m e, j) → j ≡ origin m (rev e)
     only j c =
         let h = real m (origin m e) j c in
         sym h.1.target ∙ ap (λ k. origin m (rev k))
         (alone_at m e kept.valid own.within alone h.0 h.1.within h.1.source)
 
+    -- the position is past its start
     past : IsPast (drawn points m) (origin m e) (whole p)
     past k h differ = beyond_end (length points) (point_at points) (outer_of m) line (origin m e)
         (origin m (rev e)) near only p (subst (λ (x : Point × Point). WithinSegment (whole p)

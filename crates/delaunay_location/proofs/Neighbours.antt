@@ -77,6 +77,7 @@ nearer_count_below t p i within = lt_of_lt_of_le
     not_itself = none_if (is_nearer p (whole spot) (vertex t i))
         (test_false far far (omega (arith, ints)))
 
+-- a sum that does not grow in two steps does not grow in both together
 more : (was now later k w v : ℕ) → later + k ≤ now + w → now + w ≤ was + v → later + k ≤ was + v
 more was now later k w v a b = omega (arith, a, b)
 
@@ -163,6 +164,7 @@ module _ (t : Triangulation) (p : Point) where
         (was + nearer_count t (whole p) k) n h (let f = nearer_falls in omega (arith, f))
 
   module _ (v n : ℕ) (count : length t.points ≡ n) (within : v < n) where
+    -- fewer than all vertices are nearer than v
     few : nearer_count t (whole p) v < n
     few = subst (λ (l : ℕ). nearer_count t (whole p) v < l) count
         (nearer_count_below t (whole p) v (subst (λ (l : ℕ). v < l) (sym count) within))

@@ -76,6 +76,7 @@ module _ (points : List Point) (m : Mesh) (i j : ℕ) where
   abbrev p : ℕ → Point
   p h = point_at points (origin m h)
 
+  -- the point where edge h ends
   abbrev q : ℕ → Point
   q h = point_at points (origin m (rev h))
 
@@ -187,20 +188,25 @@ module _ (points : List Point) (m : Mesh) (s : IsValidMesh m) (i j : ℕ)
 
   -- an edge that is met does so from right to left, seen the other way
   module _ (h : ℕ) (within : h < length m.half_edges) where
+    -- the edge starts at a vertex
     v_in : origin m h < length points
     v_in = subst (λ (n : ℕ). origin m h < n) (sym count) (s.sound.edges h within).origin_in
 
+    -- and ends at one
     y_in : origin m (rev h) < length points
     y_in = subst (λ (n : ℕ). origin m (rev h) < n) (sym count)
         (s.sound.edges (rev h) (rev_within h (length m.half_edges) s.sound.even within)).origin_in
 
+    -- its ends are not at one place
     ends : ¬ IsSame (place points (origin m h)) (place points (origin m (rev h)))
     ends =
         no_same_place points distinct (origin m h) (origin m (rev h)) v_in y_in (s.apart h within)
 
+    -- it is an edge of the triangulation
     edge : IsEdge (drawn points m) (origin m h) (origin m (rev h))
     edge = edge_joins m s.sound h within
 
+    -- and so it is in the other direction
     back : IsEdge (drawn points m) (origin m (rev h)) (origin m h)
     back = edge_back (edges_of m) (origin m h) (origin m (rev h)) edge
 
@@ -307,6 +313,7 @@ module _ {V D U F P S : Type 0} (at : V → Point) (number : S → ℤ)
         in_mesh h within = subst (λ (n : ℕ). h < n) whole_mesh.fits.directed_fit within
 
         module _ (x : Intersection V D U F) (gives : GivesNext at number now (Some x) after) where
+          -- the segment meets the item that the call gives
           met : Meets (drawn points_of_mesh c.mesh) (place points_of_mesh i)
               (place points_of_mesh j) (item_in x)
           met =

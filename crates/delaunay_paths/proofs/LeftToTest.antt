@@ -52,6 +52,7 @@ module _ (m : Mesh) (s : IsValidMesh m) (e : ℕ) (can : IsFlippable m e) (after
   origin_stays : KeepsOtherOrigins m after e
   origin_stays = origin_kept m after e s.sound can moves
 
+  -- the edge's two sides and the four edges round it are six different ones
   six : AreSixPlaces (length m.half_edges) e (rev e) (next m e) (next m (rev e)) (prev m e)
       (prev m (rev e))
   six = T.six_round m e s.sound can

@@ -186,6 +186,7 @@ making_begins at old i j was room shape work = record {
 
 module _ {V D U F : Type 0} (at : V → Point) (old now : Contents V D U F) (i j : ℕ) (was left :
     List ℕ) (room_was room : ℕ) (making : IsMaking at old now i j was left room_was room) where
+  -- the vertices stay
   same : now.vertices ≡ old.vertices
   same = ap (λ (c : Contents V D U F). c.vertices) making.contents
 

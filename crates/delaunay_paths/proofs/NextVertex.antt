@@ -85,6 +85,7 @@ module _ (points : List Point) (m : Mesh) (distinct : ArePlacedApart points) (i 
   module _ (passed others : List Item) (v : ℕ) (other : v ≢ i) (list : IsLineList t (place points i)
       (place points j) ((passed ++ at_vertex v ∷ []) ++ others)) (none : HasNoOther passed i) (met :
       (v < length points) × OnSegment (place points i) (place points j) (place points v)) where
+    -- the start is not v
     away : i ≢ v
     away e = other (sym e)
 

@@ -53,6 +53,7 @@ module _ {V D U F : Type 0} (at : V → Point) (s : State V D U F) (kept : IsTri
   abbrev j : ℕ
   j = origin s.mesh (rev h)
 
+  -- the two are joined
   edge : IsEdge (drawn points s.mesh) i j
   edge = edge_joins s.mesh kept.valid.sound h within
 
@@ -133,15 +134,18 @@ module _ {V D U F : Type 0} (at : V → Point) (marks : U → Bool) (marked_as :
   abbrev v : ℕ
   v = origin old.mesh (rev h)
 
+  -- the old state is triangulated
   kept : IsTriangulated at (state_of old)
   kept = legal.kept
 
   whole_mesh : IsMeshWithData old
   whole_mesh = record { valid = kept.valid; fits = kept.fits }
 
+  -- the edge starts at a vertex
   u_in : u < length old.vertices
   u_in = first_in at (state_of old) kept h within
 
+  -- and ends at one
   v_in : v < length old.vertices
   v_in = second_in at (state_of old) kept h within
 
@@ -160,6 +164,7 @@ module _ {V D U F : Type 0} (at : V → Point) (marks : U → Bool) (marked_as :
     leaves = λ pairs passing. passing;
   }
 
+  -- no constraint crosses the segment
   free : NoneCrosses all (constraints_by constraints (state_of old)) u v
   free = edge_is_free at (state_of old) kept h within marks constraints marked
 
@@ -167,6 +172,7 @@ module _ {V D U F : Type 0} (at : V → Point) (marks : U → Bool) (marked_as :
   piece = piece_made marks constraints marked at marked_as old old new u v [] [] made whole_mesh
       (record { edge = h; source = refl; target = refl; marks_edge = by }) free
 
+  -- the edge alone is the path that is added
   path : AddsPath at marks marked_as constraints old new u v
   path = adding_to_ends marks constraints marked at marked_as old new u v v u_in v_in
       (adding_to_goes_on marks constraints marked at marked_as old old u v u u_in v_in

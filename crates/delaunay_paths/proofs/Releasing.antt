@@ -80,6 +80,7 @@ module _ {V D U F : Type 0} (at : V → Point) (marks : U → Bool) (constraints
   module _ (legal : IsDelaunayTriangulation at constraints (state_of old)) (mid : Contents V D U F)
       (change : U → U) (free : (d : U) → marks (change d) ≡ false)
       (written : HasEdgeData change old mid k) where
+    -- the mesh stays
     same : mid.mesh ≡ old.mesh
     same = ap (λ (c : Contents V D U F). c.mesh) written.whole
 
@@ -120,6 +121,7 @@ module _ {V D U F : Type 0} (at : V → Point) (marks : U → Bool) (constraints
         old.mesh (free written.value)
         (λ l within. one_edge at old legal.kept k l edge_there within) a b)
 
+    -- the pair of edge k joins its ends
     here : Joins (pairs_at old.mesh (k ∷ [])) u v
     here = joins_edge old.mesh (k ∷ []) k (Contains-head k [])
 
@@ -176,6 +178,7 @@ module _ {V D U F : Type 0} (at : V → Point) (marks : U → Bool) (constraints
 -- ---- where only the mesh and the data of edges change
 module _ {V D U F : Type 0} (old mid : Contents V D U F)
     (stays : mid ≡ record old { mesh = mid.mesh; undirected = mid.undirected }) where
+  -- the vertices stay
   stay : mid.vertices ≡ old.vertices
   stay = ap (λ (c : Contents V D U F). c.vertices) stays
 

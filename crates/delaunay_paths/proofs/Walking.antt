@@ -18,9 +18,11 @@ use Rattle.plane.proofs.Signs.{less_through}
 
 -- ---- points strictly within a segment
 module _ (a b : Point) (apart : ¬ (a ≡ b)) where
+  -- how far along the line from a to b a point lies
   abbrev F : Point → ℤ
   F z = place_on a b (lift z)
 
+  -- nothing is above y and below x, where x is 0 and y above it
   back : (x y z : ℤ) → x ≡ pos 0 → pos 0 <ℤ y → y <ℤ z → z <ℤ x → ⊥
   back x y z e h k l = omega (arith, ints)
 

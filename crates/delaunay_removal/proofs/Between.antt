@@ -34,6 +34,7 @@ module _ (points : List Point) (m : Mesh) (valid : IsValidMesh m)
   at_end : b ≡ point_at points (neighbour m h 2)
   at_end = at_b ∙ ap (λ e. point_at points (origin m (rev e))) is
 
+  -- edge h is one of the mesh
   h_in : h < length m.half_edges
   h_in = star.round.within 0
 

@@ -38,12 +38,15 @@ pub record IsFaceAt {V D U F : Type 0} (c : Contents V D U F) (k : ℕ)
   pub value : slice_get c.faces k ≡ Some f.value
 
 module _ {V D U F : Type 0} (c : Contents V D U F) (whole : IsMeshWithData c) where
+  -- the links fit together
   s : AreSoundLinks c.mesh
   s = whole.valid.sound
 
+  -- there are data for each undirected edge
   us : length c.undirected ≡ length (ends c.mesh)
   us = let n = count_ends c.mesh s in let fit = whole.fits.undirected_fit in omega (arith, n, fit)
 
+  -- and for each of its two directions
   ds : length c.directed ≡ 2 * length (ends c.mesh)
   ds = let n = count_ends c.mesh s in let fit = whole.fits.directed_fit in omega (arith, n, fit)
 

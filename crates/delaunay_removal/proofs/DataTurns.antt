@@ -47,6 +47,7 @@ module _ {V D U F : Type 0} (c new : Contents V D U F) (whole : IsMeshWithData c
   abbrev m : Mesh
   m = c.mesh
 
+  -- the links fit together
   s : AreSoundLinks m
   s = whole.valid.sound
 
@@ -54,6 +55,7 @@ module _ {V D U F : Type 0} (c new : Contents V D U F) (whole : IsMeshWithData c
   us : length c.undirected ≡ length (ends m)
   us = let n = count_ends m s in let fit = whole.fits.undirected_fit in omega (arith, n, fit)
 
+  -- there are data for both directions of each edge
   ds : length c.directed ≡ 2 * length (ends m)
   ds = let n = count_ends m s in let fit = whole.fits.directed_fit in omega (arith, n, fit)
 
@@ -61,6 +63,7 @@ module _ {V D U F : Type 0} (c new : Contents V D U F) (whole : IsMeshWithData c
   half_in = let n = count_ends m s in let within = flips.within in let even = s.even in
       omega (arith, n, within, even)
 
+  -- the ends of the turned edge
   abbrev t : Ends
   t = along e (origin m (prev m e)) (origin m (prev m (rev e)))
 
@@ -169,6 +172,7 @@ module _ {V D U F : Type 0} (c new : Contents V D U F) (whole : IsMeshWithData c
     abbrev b : ℕ
     b = face m (rev e) - 1
 
+    -- the corners of the face on its left
     abbrev ta : Triangle
     ta = record {
       first = origin m (prev m e);
@@ -176,6 +180,7 @@ module _ {V D U F : Type 0} (c new : Contents V D U F) (whole : IsMeshWithData c
       third = origin m (next m e);
     }
 
+    -- the corners of the face on its other side
     abbrev tb : Triangle
     tb = record {
       first = origin m (prev m (rev e));

@@ -18,6 +18,7 @@ use Rattle.delaunay_removal.proofs.InnerHoles.{isolates_from}
 module _ {V D U F : Type 0} (place : V → Point) (old mid : Contents V D U F) (whole :
     IsMeshWithData mid) (v first count : ℕ) (contents : mid ≡ record old { mesh = mid.mesh })
     (star : IsHullStar (map place mid.vertices) mid.mesh v first count) where
+  -- the vertices stay
   same : mid.vertices ≡ old.vertices
   same = ap (λ (c : Contents V D U F). c.vertices) contents
 
@@ -47,6 +48,7 @@ module _ {V D U F : Type 0} (place : V → Point) (old mid : Contents V D U F) (
   -- no corner, and no edge to turn: a flat side with two faces
   module _ (bent : HasNoFlippableEdge (map place mid.vertices) mid.mesh first count) (not :
       ¬ IsCornerAt (map place mid.vertices) mid.mesh first) (vertex : ℕ) (named : v ≡ vertex) where
+    -- the vertex has three edges, and is on one line with its first and last neighbours
     flat : (count ≡ 3) × (side (at (map place mid.vertices) (neighbour mid.mesh first 0))
         (at (map place mid.vertices) v)
         (at (map place mid.vertices) (neighbour mid.mesh first (count - 1))) ≡ on)

@@ -111,6 +111,7 @@ module _ (points : List Point) (m : Mesh) (valid : IsValidMesh m) (v first count
     module _ (new : Mesh) (after : IsValidMesh new) (convex : IsConvexAt points m (spoke m first i))
         (triangles : FlipsTriangles m new (2 * (spoke m first (suc i) / 2)))
         (outer : KeepsOuter m new) where
+      -- the edge from v to neighbour i + 1 is flipped, in the words of faces
       flip : IsStarFlip points (faces_of m) (faces_of new) (outer_of m) (outer_of new) v
           (neighbour m first) i
       flip = star_flip points m valid star.shape v first count star.round i left_of right_of new

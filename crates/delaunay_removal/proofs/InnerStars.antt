@@ -123,6 +123,7 @@ module _ (points : List Point) (m new : Mesh) (valid : IsValidMesh m) (v h count
       star_at : IsStar (faces_of m) v count (neighbour m h)
       star_at = plane_star points m valid v h count star
 
+      -- the edge from v to neighbour 1 is flipped, in the words of faces
       flip : IsStarFlip points (faces_of m) (faces_of new) (outer_of m) (outer_of new) v
           (neighbour m h) 0
       flip = star_flip points m valid star.shape v h count star.round 0 (spoke_in 0)

@@ -21,6 +21,7 @@ inner_as m v first starts inner = subst (HasInnerFaces m) (sym starts) inner
 module _ {V D U F : Type 0} {pairs : List (ℕ × ℕ)} (place : V → Point) (old mid : Contents V D U F)
     (v first count : ℕ) (contents : mid ≡ record old { mesh = mid.mesh }) (stands : StandsBeside old
     mid v pairs) (star : IsInnerStar (map place old.vertices) mid.mesh v first count) where
+  -- the vertices stay
   same : mid.vertices ≡ old.vertices
   same = ap (λ (c : Contents V D U F). c.vertices) contents
 
@@ -49,6 +50,7 @@ module _ {V D U F : Type 0} {pairs : List (ℕ × ℕ)} (place : V → Point) (o
   -- ---- or four
   module _ (reduced : IsReduced (map place old.vertices) mid.mesh v first count)
       (more : count ≢ 3) where
+    -- there are four edges, and the vertex is strictly between two opposite neighbours
     four : (count ≡ 4) × StandsBetween (map place old.vertices) mid.mesh v first 4
     four = elim reduced [ inl e ↦ absurd (more e) | inr r ↦ r ]
 

@@ -164,6 +164,7 @@ module _ {U : Type 0} (marks : U → Bool) (constraints : List U → List ℕ)
           inr (ap (old_index v last) q.0 ∙ t.1, ap (old_index v last) q.1 ∙ s.1),
         )
 
+    -- the ends of a new constraint were joined by one, under their old indexes
     came : (a b : ℕ) → JoinsByEdge new a b → (a < last) × (b < last) ×
         JoinsByEdge old (old_index v last a) (old_index v last b)
     came a b j = elim (renumbers.comes j.edge j.there) [
@@ -179,6 +180,7 @@ module _ {U : Type 0} (marks : U → Bool) (constraints : List U → List ℕ)
           (sym (ap marks y.same) ∙ free y.edge y.there y.ends))
     ]
 
+    -- and what was joined under old indexes is joined under the new ones
     goes : (a b : ℕ) → a < last → b < last
         → JoinsByEdge old (old_index v last a) (old_index v last b) → JoinsByEdge new a b
     goes a b ha hb j = record {

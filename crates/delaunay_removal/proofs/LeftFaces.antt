@@ -44,6 +44,7 @@ module _ {V D U F : Type 0} (points : List Point) (old mid new : Contents V D U 
   abbrev last : ℕ
   last = length old.vertices - 1
 
+  -- i j k was a face, or each of its sides is one of the hole
   abbrev Was : ℕ → ℕ → ℕ → Type 0
   Was i j k = IsFaceOf (faces_of old.mesh) i j k ⊎
       (IsHoleSide (faces_of old.mesh) v pairs i j × IsHoleSide (faces_of old.mesh) v pairs j k ×
@@ -69,10 +70,12 @@ module _ {V D U F : Type 0} (points : List Point) (old mid new : Contents V D U 
         )
       ]
 
+  -- the former index of a vertex's new index is its own
   back : (k : ℕ) → (k < length points) × (k ≢ v) → former_index v last (moved last v k) ≡ k
   back k (within, other) =
       (there_and_back v last k (omega (arith, here)) (omega (arith, within, count)) other).1
 
+  -- i j k was so under the former indexes of its corners
   abbrev Now : ℕ → ℕ → ℕ → Type 0
   Now i j k = Was (former_index v last i) (former_index v last j) (former_index v last k)
 

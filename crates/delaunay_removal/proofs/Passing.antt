@@ -101,6 +101,7 @@ module _ {V D U F : Type 0} (place : V → Point) (constraints : List U → List
   abbrev last : ℕ
   last = length old.vertices - 1
 
+  -- the former index of a vertex
   abbrev was : ℕ → ℕ
   was k = former_index v last k
 
@@ -195,6 +196,7 @@ module _ {V D U F : Type 0} (place : V → Point) (constraints : List U → List
   either i j a b (inr (inr h)) =
       inr (named j i b a (Contains-append_right border turned (was j, was i) h))
 
+  -- a b c was a face under former indexes, or each of its sides is one of the hole
   abbrev Was : ℕ → ℕ → ℕ → Type 0
   Was a b c = IsFaceOf (faces_of old.mesh) (was a) (was b) (was c) ⊎
       (IsHoleSide (faces_of old.mesh) v turned (was a) (was b) ×
@@ -322,6 +324,7 @@ module _ {V D U F : Type 0} (place : V → Point) (constraints : List U → List
       abbrev j : ℕ
       j = origin new.mesh (rev h)
 
+      -- the face on the left of edge h
       left : IsFaceOf (faces_of new.mesh) i (origin new.mesh (next new.mesh h))
           (origin new.mesh (prev new.mesh h))
       left = face_left h within inner
@@ -330,6 +333,7 @@ module _ {V D U F : Type 0} (place : V → Point) (constraints : List U → List
           (origin new.mesh (prev new.mesh (rev h)))
       right = face_left (rev h) rev_in twin_inner
 
+      -- the edge after h starts where h ends
       ends : origin new.mesh (next new.mesh h) ≡ j
       ends = (kept.valid.sound.edges h within).starts
 
@@ -343,15 +347,18 @@ module _ {V D U F : Type 0} (place : V → Point) (constraints : List U → List
           face_corners (map place new.vertices) (faces_of new.mesh) (outer_of new.mesh) kept.shape i
           (origin new.mesh (next new.mesh h)) (origin new.mesh (prev new.mesh h)) left
 
+      -- the edge starts at a vertex that is left
       i_low : i < last
       i_low = below i corners.0
 
+      -- and ends at one
       j_low : j < last
       j_low = below j (subst (λ (x : ℕ). x < length (map place new.vertices)) ends corners.1)
 
       abbrev Found : Type 0
       Found = Joins (pairs_left last v (border ++ turned)) i j ⊎ (Quiet h ⊎ Quiet (rev h))
 
+      -- where a turned edge joined its ends, the edge is left to test
       pair : Joins turned (was i) (was j) → Found
       pair x = inl (either i j i_low j_low (inr x))
 
@@ -359,6 +366,7 @@ module _ {V D U F : Type 0} (place : V → Point) (constraints : List U → List
       pair_back x = inl
           (turned_join (pairs_left last v (border ++ turned)) j i (either j i j_low i_low (inr x)))
 
+      -- by what the faces on both sides were: it is left to test, or one of its sides is quiet
       go : Was i j (origin new.mesh (prev new.mesh h))
           → Was j i (origin new.mesh (prev new.mesh (rev h))) → Found
       go (inl x) y =

@@ -72,6 +72,7 @@ module _ {V D U F : Type 0} (place : V → Point) (marks : U → Bool) (constrai
   abbrev now : List (ℕ × ℕ)
   now = constraint_pairs constraints mid.mesh mid.undirected
 
+  -- a pair with the same ends as one without v is without v
   off : (a b s t : ℕ) → IsSamePair a b s t → a ≢ v → b ≢ v → (s ≢ v) × (t ≢ v)
   off a b s t (inl q) na nb = (λ r. na (q.0 ∙ r), λ r. nb (q.1 ∙ r))
   off a b s t (inr q) na nb = (λ r. nb (q.1 ∙ r), λ r. na (q.0 ∙ r))

@@ -23,6 +23,7 @@ module _ (m : Mesh) (valid : IsValidMesh m) (first : ℕ)
     round : (n : ℕ) × IsRound m (origin m first) first n
     round = round_at m valid (origin m first) first first_in refl
 
+    -- the round comes back to its first edge
     home : spoke m first round.0 ≡ first
     home = ap (spoke m first) (let e : round.0 ≡ 0 + round.0 = omega arith in e) ∙ round.1.back 0
 

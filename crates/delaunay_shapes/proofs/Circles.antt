@@ -100,6 +100,7 @@ near_is_meets c r p q = rw (gap_is p q) (
         ≤ℤ (r *ℤ distance_2 p q))
     line c r p q = rw (gap_is c p) (near_by_rim (distance_2 c p) (distance_2 p q) (factor p q c) r)
 
+-- an answer that tells A tells B, where A holds exactly if B does
 told : {A B : Type 0} (b : Bool) → A ↔ B → (IsTrue b ↔ A) → IsTrue b ↔ B
 told b e h = ((λ t. e.0 (h.0 t)), (λ s. h.1 (e.1 s)))
 

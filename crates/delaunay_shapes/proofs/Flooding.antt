@@ -74,6 +74,7 @@ module _ (points : List Point) (m : Mesh) (v : IsValidMesh m)
 
   -- ---- an edge by either of its directions
   module _ (Shape : Fraction → Type 0) where
+    -- edge h has a point in the shape
     abbrev IsIn : ℕ → Type 0
     IsIn h = HasPointIn Shape (point_at points (origin m h)) (point_at points (origin m (rev h)))
 

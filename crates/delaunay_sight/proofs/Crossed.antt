@@ -47,9 +47,11 @@ module _ {V D U F : Type 0} (at : V → Point) (IsSite IsCovered : Point → Typ
   abbrev Passed : Item → Type 0
   Passed k = PassesFree (drawn points m) (by_place free) (whole p) (whole q) k
 
+  -- edge h is one of the mesh
   w : h < length m.half_edges
   w = in_mesh at IsSite IsCovered c p q over h within
 
+  -- the reverse of the reverse starts where the edge does
   back : origin m (rev (rev h)) ≡ origin m h
   back = ap (origin m) (rev-rev h)
 

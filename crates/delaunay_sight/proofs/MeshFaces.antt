@@ -26,9 +26,11 @@ module _ (points : List Point) (m : Mesh) (s : IsValidMesh m)
   abbrev t : Triangulation
   t = drawn points m
 
+  -- the faces tile the hull, or all vertices are on one line
   pub laid : IsLaid t
   laid = meshes_are_laid points (faces_of m) (outer_of m) (edges_of m) shape (own_edges m s)
 
+  -- no two edges have the same ends
   once : EachPairOnce (edges_of m)
   once = elim laid [ inl tiles ↦ tiles.once | inr l ↦ l.0.once ]
 

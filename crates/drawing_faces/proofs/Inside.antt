@@ -27,6 +27,7 @@ module _ (ns : List ℕ) (fs : List FaceCorners) (i : ℕ) (kept total : List Fa
       sym (append-nil kept) ∙ ap (λ xs. kept ++ xs) (sym none) ∙ so_far
 
   module _ (d : FaceCorners) (within : i < length fs) (more : i + 1 < length ns) where
+    -- the layer and the face that come next stand in front of the rest
     next : faces_inside (drop (i + 1) ns) (drop i fs)
         ≡ faces_inside (get_or ns (i + 1) 0 ∷ drop (i + 1 + 1) ns) (get_or fs i d ∷ drop (i + 1) fs)
     next = ap (λ xs. faces_inside xs (drop i fs)) (at_drop_more (λ xs. xs) ns (i + 1) 0 more)

@@ -6,6 +6,7 @@ use Rattle.std.specs.Prelude.{ℤ, ◌+ℤ◌, ◌-ℤ◌, ◌*ℤ◌, unsigned_
 use Rattle.std.specs.Int.RustNames.{FitsSigned}
 use Rattle.std.proofs.lemmas.Int.{ints, fits_signed_from_abs}
 
+-- what 64 bits keep of a number
 abbrev kept : ℤ → ℤ
 kept z = to_z w64 (of_z w64 z)
 

@@ -42,6 +42,7 @@ module _ {V D U F : Type 0} (c : Contents V D U F) (v : ℕ) (whole : IsMeshWith
   abbrev m : Mesh
   m = c.mesh
 
+  -- the links fit together
   s : AreSoundLinks m
   s = whole.valid.sound
 
@@ -151,6 +152,7 @@ module _ {V D U F : Type 0} (old c new : Contents V D U F) (o turned : ℕ)
   abbrev v : ℕ
   v = origin old.mesh o
 
+  -- the neighbours that the vertex had
   abbrev n : ℕ → ℕ
   n = neighbour old.mesh o
 

@@ -182,9 +182,11 @@ module _ {V D U F : Type 0} (c0 c1 c2 c3 : Contents V D U F) (o face_is spoke pe
   abbrev m : Mesh
   m = c0.mesh
 
+  -- the links fit together
   abbrev s : AreSoundLinks m
   s = w0.valid.sound
 
+  -- the vertex has three faces round it
   abbrev w : IsFullWheel m o
   w = full_wheel m o w0.valid round
 
@@ -200,6 +202,7 @@ module _ {V D U F : Type 0} (c0 c1 c2 c3 : Contents V D U F) (o face_is spoke pe
 
   module _ (w1 : IsMeshWithData c1) (one : Peels c1.mesh c2.mesh o)
       (spoke_is : spoke ≡ after_removal c1.mesh o (turn c1.mesh o)) where
+    -- once the first edge is gone: one face and a hole, with the three neighbours as corners
     four : (z : ℕ) × IsHoleOfFour c2.mesh spoke z (origin m o) (neighbour m o 0) (neighbour m o 1)
         (neighbour m o 2)
     four = hole_of_four m c1.mesh c2.mesh o spoke s w opened_third one spoke_is

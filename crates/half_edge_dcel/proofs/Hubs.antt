@@ -48,9 +48,11 @@ module _ (m : Mesh) (o : ℕ) (v : IsValidMesh m) (within : o < length m.half_ed
 
 module _ (m : Mesh) (o k : ℕ) (v : IsValidMesh m) (w : IsHub m o (suc k)) (some : 0 < k)
     (tip : HasFreeTip (neighbour m o) (suc k)) where
+  -- the links fit together
   s : AreSoundLinks m
   s = v.sound
 
+  -- each edge of the round is one of the mesh and starts at the vertex
   at : (i : ℕ) → (spoke m o i < length m.half_edges) × (origin m (spoke m o i) ≡ origin m o)
   at = spoke_at m o s w.within
 
@@ -79,6 +81,7 @@ module _ (m : Mesh) (o k : ℕ) (v : IsValidMesh m) (w : IsHub m o (suc k)) (som
   pub twin_is : rev (turn m o) ≡ prev m o
   twin_is = rev-rev (prev m o)
 
+  -- the three edges of the first face
   t : IsTriangle m o
   t = loop_at m o s w.within (w.inner 0 (omega arith))
 
@@ -196,12 +199,14 @@ module _ {V D U F : Type 0} (c : Contents V D U F) (o j : ℕ) (whole : IsMeshWi
   abbrev m : Mesh
   m = c.mesh
 
+  -- the mesh is valid
   abbrev val : IsValidMesh m
   val = whole.valid
 
   abbrev v : ℕ
   v = origin m o
 
+  -- a face to read where a list has none
   abbrev d : FullFace F
   d = no_face_of v c.outer
 
@@ -243,6 +248,7 @@ module _ {V D U F : Type 0} (c : Contents V D U F) (o j : ℕ) (whole : IsMeshWi
       (w.inner i less) (ap (λ (x : FullFace F). x.corners)
       (listed_face m c.faces (face m h) whole.fits.faces_fit (inner_at i less) d)))
 
+  -- each edge of the vertex is one of its round
   only : (g : ℕ) → g < length m.half_edges → origin m g ≡ v → (i : ℕ) × (i ≤ j) × (g ≡ spoke m o i)
   only g g_in same = from_steps (turn m) o j g
       (val.stars (among_steps (turn m) o j) (λ h h_in is. steps_closed (turn m) o j w.round h is) o

@@ -82,6 +82,7 @@ removable_end m o v within none one whole = record {
 -- the edge that is left hanging after one passed its vertex
 module _ (m mid : Mesh) (e : ℕ) (s : AreSoundLinks m) (can : IsPassable m e)
     (i : Passes m mid e (rev (next m e)) (next m e)) where
+  -- the edges beside e
   t : IsBeside m e
   t = beside m e s can
 
@@ -127,6 +128,7 @@ module _ {V D U F : Type 0} (c0 c2 : Contents V D U F) (mid : Mesh) (e : ℕ)
   abbrev ds : List D
   ds = c0.directed
 
+  -- the links fit together
   abbrev s : AreSoundLinks m
   s = whole.valid.sound
 

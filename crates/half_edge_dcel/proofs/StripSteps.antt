@@ -111,6 +111,7 @@ module _ {V D U F : Type 0} (old c new : Contents V D U F) (first count h g gone
   abbrev v : ℕ
   v = origin old.mesh first
 
+  -- the neighbours that the vertex had
   abbrev n : ℕ → ℕ
   n = neighbour old.mesh first
 

@@ -57,18 +57,22 @@ module _ {V D U F : Type 0} (c new : Contents V D U F) (o l v tip_end first_end 
   abbrev e : ℕ
   e = turn m o
 
+  -- the links fit together
   s : AreSoundLinks m
   s = whole.valid.sound
 
+  -- each edge of the round is one of the mesh and starts at the vertex
   at : (i : ℕ) → (spoke m o i < length m.half_edges) × (origin m (spoke m o i) ≡ v)
   at i = let a = spoke_at m o s w.within i in (a.0, a.1 ∙ v_is)
 
   off_at : (i : ℕ) → neighbour m o i ≢ v
   off_at i q = whole.valid.apart (spoke m o i) (at i).0 ((at i).1 ∙ sym q)
 
+  -- the three edges of the first face
   t : IsTriangle m o
   t = loop_at m o s w.within (w.inner 0 (omega arith))
 
+  -- the other side of the edge that is turned comes before the first edge
   twin : rev e ≡ prev m o
   twin = rev-rev (prev m o)
 
@@ -80,6 +84,7 @@ module _ {V D U F : Type 0} (c new : Contents V D U F) (o l v tip_end first_end 
   before = ap (λ h. origin m (prev m h)) twin ∙ ap (origin m) t.prev_prev
       ∙ (s.edges o w.within).starts ∙ tip_is
 
+  -- the edge after that side starts at the vertex
   back : origin m (next m (rev e)) ≡ v
   back = ap (λ h. origin m (next m h)) twin ∙ ap (origin m) t.next_prev ∙ v_is
 
@@ -180,6 +185,7 @@ module _ {V D U F : Type 0} (c new : Contents V D U F) (o l v tip_end first_end 
     abbrev b : ℕ
     b = face m (rev e) - 1
 
+    -- the corners of the face on the left of the turned edge
     abbrev ta : Triangle
     ta = record {
       first = origin m (prev m e);
@@ -187,6 +193,7 @@ module _ {V D U F : Type 0} (c new : Contents V D U F) (o l v tip_end first_end 
       third = origin m (next m e);
     }
 
+    -- the corners of the face on its other side
     abbrev tb : Triangle
     tb = record {
       first = origin m (prev m (rev e));
@@ -206,12 +213,15 @@ module _ {V D U F : Type 0} (c new : Contents V D U F) (o l v tip_end first_end 
     inner_twin : IsInner m (face m (rev e))
     inner_twin = rw twin_face inner_o
 
+    -- there are as many faces with data as inner faces
     long : length (full_faces c) ≡ length m.face_edges
     long = count_faces m c.faces whole.fits.faces_fit
 
+    -- the face on the left of e is one of them
     a_in : a < length (full_faces c)
     a_in = omega (arith, long, inner_e.0, inner_e.1)
 
+    -- that face
     was : FullFace F
     was = get_or (full_faces c) a d
 
@@ -427,6 +437,7 @@ module _ {V D U F : Type 0} (old c : Contents V D U F) (o k turned : ℕ) (whole
   abbrev v : ℕ
   v = origin old.mesh o
 
+  -- the neighbours that the vertex had
   abbrev n : ℕ → ℕ
   n = neighbour old.mesh o
 
@@ -436,15 +447,18 @@ module _ {V D U F : Type 0} (old c : Contents V D U F) (o k turned : ℕ) (whole
   left_is : f.left ≡ suc l
   left_is = omega (arith, f.sum, more)
 
+  -- more than three edges are left
   many : 2 < l
   many = omega (arith, f.sum, more)
 
+  -- the vertex is still a hub, with l + 1 faces
   w : IsHub c.mesh o (suc l)
   w = rw left_is at f.hub
 
   end_at : (i j : ℕ) → 0 < i → i ≤ suc l → turned + i ≡ j → neighbour c.mesh o i ≡ n j
   end_at i j some less is = f.ends_at i some (rw left_is less) ∙ ap n is
 
+  -- the first neighbour is still none of those that it gets an edge to
   free : HasFreeTip (neighbour c.mesh o) (suc l)
   free i some less q = tip (turned + i) (omega (arith, some)) (omega (arith, less, f.sum, left_is))
       (sym (end_at i (turned + i) (omega (arith, some)) (omega (arith, less)) refl) ∙ q ∙ f.tip)
@@ -460,13 +474,16 @@ module _ {V D U F : Type 0} (old c : Contents V D U F) (o k turned : ℕ) (whole
       c.mesh (prev c.mesh (turn c.mesh o))) (origin c.mesh (prev c.mesh (rev (turn c.mesh o)))))
       (faces_are : FlipsTriangles c.mesh new.mesh (turn c.mesh o)) (outer :
       KeepsOuter c.mesh new.mesh) (outline_kept : KeepsOneOutline c.mesh new.mesh) where
+    -- a face to read where a list has none
     abbrev d : FullFace F
     d = no_face_of v old.outer
 
+    -- the edge that the turn takes away from the vertex, with its data
     gone : FullEdge D U
     gone = gone_edge c new o l v (n 0) (n (suc turned)) (n (suc (suc turned))) whole w
         (omega (arith, many)) f.start f.tip first_is next_is same
 
+    -- the edge that it becomes
     come : FullEdge D U
     come = come_edge c new o l v (n 0) (n (suc turned)) (n (suc (suc turned))) whole w
         (omega (arith, many)) f.start f.tip first_is next_is same

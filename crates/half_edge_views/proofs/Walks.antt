@@ -117,6 +117,7 @@ pub record Undoes (f back : ℕ → ℕ) (bound stop : ℕ) : Type 0 where
 
 -- walks along a function that another undoes
 module _ (f back : ℕ → ℕ) (n stop : ℕ) (u : Undoes f back n stop) where
+  -- no place but the one before `stop` goes to it
   away : (h : ℕ) → h < n → h ≢ back stop → f h ≢ stop
   away h within off is = off (sym (u.undo h within) ∙ ap back is)
 

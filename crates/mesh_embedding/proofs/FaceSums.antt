@@ -140,6 +140,7 @@ module _ (one two three : List Face) (v a b c : ℕ) (more : List Face) (made : 
     FacesChange one two (corners v a b ∷ corners v b c ∷ []) (corners v a c ∷ corners a b c ∷ []))
     (second : FacesChange two three (corners v a c ∷ more) made)
     (at_v : (f : Face) → Contains more f → (f.a ≡ v) ⊎ ((f.b ≡ v) ⊎ (f.c ≡ v))) where
+  -- v is one of the three
   abbrev AtV : ℕ → ℕ → ℕ → Type 0
   AtV i j k = (i ≡ v) ⊎ ((j ≡ v) ⊎ (k ≡ v))
 

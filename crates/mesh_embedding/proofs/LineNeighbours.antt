@@ -29,6 +29,7 @@ module _ (n : ℕ) (p : ℕ → Point) (outer : List (ℕ × ℕ)) (m : SignLine
   level : bracket (at p a) (at p b) (lift (p a)) ≡ pos 0
   level = bracket-outer (at p a) (at p b)
 
+  -- b is not a either
   abbrev back : b ≢ a
   back e = apart (sym e)
 
@@ -43,9 +44,11 @@ module _ (n : ℕ) (p : ℕ → Point) (outer : List (ℕ × ℕ)) (m : SignLine
   spot' : ℕ → ℤ
   spot' = O.spot n p outer m (whole (p a)) b a b_in a_in back level'
 
+  -- the place of a on the line from a to b
   mark : ℤ
   mark = O.mark n p outer m (whole (p a)) a b a_in b_in apart level
 
+  -- its place the other way along
   mark' : ℤ
   mark' = O.mark n p outer m (whole (p a)) b a b_in a_in back level'
 
@@ -73,6 +76,7 @@ module _ (n : ℕ) (p : ℕ → Point) (outer : List (ℕ × ℕ)) (m : SignLine
   under : (x y c d : ℤ) → y -ℤ x ≡ c -ℤ d → d <ℤ c → x <ℤ y
   under x y c d e h = omega (arith, ints)
 
+  -- of two equal differences, where the one is a rise the other is too
   over : (x y c d : ℤ) → y -ℤ x ≡ c -ℤ d → x <ℤ y → d <ℤ c
   over x y c d e h = omega (arith, ints)
 

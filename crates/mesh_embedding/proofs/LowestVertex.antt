@@ -29,6 +29,7 @@ last_is_zero a b c e z h k = omega (arith, ints)
 
 module _ (n : ℕ) (p : ℕ → Point) (faces : List Face) (outer : List (ℕ × ℕ))
     (m : SignMesh n p faces outer) where
+  -- the bracket of three vertices
   abbrev det : ℕ → ℕ → ℕ → ℤ
   det i j k = bracket (at p i) (at p j) (at p k)
 
@@ -42,6 +43,7 @@ module _ (n : ℕ) (p : ℕ → Point) (faces : List Face) (outer : List (ℕ ×
       m.distinct u v hu hv uv (same (all f.a c.0) (all f.b c.1) (all f.c c.2))
 
   module _ (way : Vec3) (height : ℕ → ℤ) (s : IsSweep n p way height) where
+    -- how much higher j is than i
     abbrev rise : ℕ → ℕ → ℤ
     rise i j = bracket (at p i) (at p j) way
 

@@ -72,6 +72,7 @@ whole_faces c w = corners_listed (triangles c.mesh) c.faces
 
 module _ {V D U F : Type 0} (position : V → Point) (old new : Contents V D U F) (v : ℕ) (value : V)
     (drops : DropsVertex old new v value) where
+  -- the index of the last old vertex
   last : ℕ
   last = length old.vertices - 1
 

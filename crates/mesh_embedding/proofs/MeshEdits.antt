@@ -35,6 +35,7 @@ use Rattle.mesh_embedding.proofs.FaceChanges.{turned_faces, come_of, total_faces
 abbrev triple : ℕ → ℕ → ℕ → Triangle
 triple i j k = record { first = i; second = j; third = k }
 
+-- a face to read where a list has none
 none : Triangle
 none = record { first = 0; second = 0; third = 0 }
 

@@ -375,10 +375,12 @@ module _ (points : List Point) (m : Mesh) (s : IsValidMesh m) (local : LocalMesh
       let p : ℕ × ℕ =
       (origin_stays (2 * l) n t i, other_ends_stay m after e origin_stays (2 * l) n t i) in p)
 
+  -- the two sides of e and the four edges round it are six different ones
   abbrev Six : Type 0
   Six = AreSixPlaces (length m.half_edges) e (rev e) (next m e) (next m (rev e)) (prev m e)
       (prev m (rev e))
 
+  -- which they are
   six : Six
   six = T.six_round m e s.sound can_turn
 

@@ -51,6 +51,7 @@ module _ (points : List Point) (m : Mesh) (valid : IsValidMesh m) (bare : faces_
   way_listed h k = listed m h (origin m h) (origin m (rev h)) (own_ends m h k (is_outer h k))
 
   module _ (v first count : ℕ) (round : IsRound m v first count) where
+    -- the neighbours of the vertex
     abbrev nb : ℕ → ℕ
     nb = neighbour m first
 

@@ -102,9 +102,11 @@ line_extended points q old new i k l s count m here free past change =
 module _ (old new : Mesh) (e v n : ℕ) (s : AreSoundLinks old) (apart : HasApartEnds old)
     (l : e < length old.half_edges) (bare : length old.face_edges ≡ 0)
     (is_new : v ≡ length old.out_edges) where
+  -- h is one of the two sides of e
   abbrev Gone : ℕ → Type 0
   Gone h = (h ≡ e) ⊎ (h ≡ rev e)
 
+  -- edge h from i to j is one of the four between v and an end of e
   abbrev Made : ℕ → ℕ → ℕ → Type 0
   Made h i j = (IsThis e (origin old e) v h i j ⊎ IsThis (n + 1) v (origin old (rev e)) h i j)
       ⊎ (IsThis n (origin old (rev e)) v h i j ⊎ IsThis (rev e) v (origin old e) h i j)
@@ -122,9 +124,11 @@ module _ (old new : Mesh) (e v n : ℕ) (s : AreSoundLinks old) (apart : HasApar
   outer_here : (h : ℕ) → h < length old.half_edges → face old h ≡ 0
   outer_here h k = let f = (s.edges h k).face_in in omega arith
 
+  -- e is an outer edge
   own : IsOuterEdge old e (origin old e) (origin old (rev e))
   own = record { within = l; outer = outer_here e l; source = refl; target = refl }
 
+  -- and so is its other side
   back : IsOuterEdge old (rev e) (origin old (rev e)) (origin old e)
   back = let k = rev_within e (length old.half_edges) s.even l in record {
     within = k;
@@ -219,12 +223,15 @@ module _ (old new : Mesh) (e v n : ℕ) (s : AreSoundLinks old) (apart : HasApar
         ]
       ]
 
+  -- the ends of e differ
   away : origin old e ≢ origin old (rev e)
   away = apart e l
 
+  -- e starts at an old vertex
   a_old : origin old e ≢ v
   a_old = (fresh e (origin old e) (origin old (rev e)) own).0
 
+  -- and ends at one
   b_old : origin old (rev e) ≢ v
   b_old = (fresh e (origin old e) (origin old (rev e)) own).1
 

@@ -67,6 +67,7 @@ module _ (old new : List Face) (v b c d : ℕ) where
 module _ (points : List Point) (m : Mesh) (valid : IsValidMesh m) (local : LocalMesh points
     (faces_of m) (outer_of m)) (v first count : ℕ) (round : IsRound m v first count) (i : ℕ)
     (left : 0 < face m (spoke m first i)) (right : 0 < face m (spoke m first (suc i))) where
+  -- the neighbours of the vertex
   abbrev nb : ℕ → ℕ
   nb = neighbour m first
 
@@ -76,12 +77,14 @@ module _ (points : List Point) (m : Mesh) (valid : IsValidMesh m) (local : Local
   abbrev before : ℕ
   before = spoke m first i
 
+  -- edge i + 1 of the round is one of the mesh
   e_in : e < length m.half_edges
   e_in = round.within (suc i)
 
   twin_in : rev e < length m.half_edges
   twin_in = rev_within e (length m.half_edges) valid.sound.even e_in
 
+  -- the three edges of the face on the left of edge i
   t : T.IsTriangle m before
   t = T.triangle_at m before valid.sound (round.within i) left
 

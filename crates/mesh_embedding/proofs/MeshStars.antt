@@ -108,6 +108,7 @@ module _ (points : List Point) (m : Mesh) (valid : IsValidMesh m)
       (mesh_tiles points (faces_of m) (outer_of m) (edges_of m) local (own_edges m valid)).once
 
   module _ (v first count : ℕ) (round : IsRound m v first count) where
+    -- the neighbours of the vertex
     abbrev nb : ℕ → ℕ
     nb = neighbour m first
 

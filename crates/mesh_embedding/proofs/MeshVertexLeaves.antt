@@ -30,6 +30,7 @@ use Rattle.mesh_embedding.proofs.MeshHullRemoval.{corner_cut, flat_vertex_goes}
 
 module _ {V D U F : Type 0} (points : List Point) (old : Contents V D U F) (before : IsMeshWithData
     old) (local : LocalMesh points (faces_of old.mesh) (outer_of old.mesh)) (v first : ℕ) where
+  -- the neighbours that the vertex had
   abbrev nb : ℕ → ℕ
   nb = neighbour old.mesh first
 
@@ -144,6 +145,7 @@ module _ {V D U F : Type 0} (points : List Point) (old : Contents V D U F) (befo
         (turned : between.mesh ≡ flipped old.mesh (2 * (spoke old.mesh first 1 / 2)))
         (faces : FlipsTriangles old.mesh between.mesh (2 * (spoke old.mesh first 1 / 2)))
         (kept : KeepsOuter old.mesh between.mesh) where
+      -- the face on the left of the first edge is an inner one
       left : 0 < face old.mesh (spoke old.mesh first 0)
       left = (hull_strip points old.mesh before.valid local v first 3 round outer).inner 0
           (omega arith)

@@ -42,12 +42,14 @@ empty_list m v none = record {
 
 module _ (m : Mesh) (first count : ℕ) (loop : IsOuterLoop m first count)
     (one : HasOneOutline m) where
+  -- edge i of the loop
   abbrev at : ℕ → ℕ
   at i = iterate (next m) i first
 
   abbrev edges : List ℕ
   edges = map at (range_with_len 0 count)
 
+  -- the list has as many entries as the loop has edges
   size : length edges ≡ count
   size = length-map-range_with_len at 0 count
 

@@ -78,6 +78,7 @@ module _ (points : List Point) (m : Mesh) (valid : IsValidMesh m) (bare : faces_
           let from = next_turned n p (origin m h) (end m h) (next_to h o) in
           one_up (end m h) (end m (next m h)) (origin m h) after from up.1 up.0
 
+      -- the other side of h is an outer edge, from the end of h to its start
       back : IsOuterEdge m (rev h) (end m h) (origin m h)
       back = record {
         within = rev_within h (length m.half_edges) valid.sound.even o.0;

@@ -89,6 +89,7 @@ module _ (m : Mesh) (v first count : ℕ) (round : IsRound m v first count) wher
         ap (spoke m first) (let q : suc d + a ≡ suc (d + a) = omega arith in q) ∙ ap (turn m)
         (carried a b d e) ∙ ap (spoke m first) (let q : suc (d + b) ≡ suc d + b = omega arith in q)
 
+    -- `rest` turns on from place a + i, the round is at edge a again
     home : (a : ℕ) → spoke m first (rest + (a + i)) ≡ spoke m first a
     home a = ap (spoke m first) (let r = rounds_over in let q : rest + (a + i) ≡ a + i * count =
         omega (arith, r) in q) ∙ many_rounds (spoke m first) count round.back i a

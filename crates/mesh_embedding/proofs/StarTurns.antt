@@ -61,9 +61,11 @@ module _ (m new : Mesh) (valid : IsValidMesh m) (v first count : ℕ)
   abbrev e : ℕ
   e = turn m first
 
+  -- edge i of the round
   abbrev at : ℕ → ℕ
   at = spoke m first
 
+  -- the three edges of the first face
   t : T.IsTriangle m first
   t = T.triangle_at m first valid.sound (round.within 0) left
 

@@ -38,6 +38,7 @@ abbrev pub mix : ℤ → Vec3 → ℤ → Vec3 → Vec3
 mix k a m d =
     record { x = k *ℤ a.x +ℤ m *ℤ d.x; y = k *ℤ a.y +ℤ m *ℤ d.y; w = k *ℤ a.w +ℤ m *ℤ d.w }
 
+-- the same of polynomials
 abbrev mixᵖ : Poly → Vec3ᵖ → Poly → Vec3ᵖ → Vec3ᵖ
 mixᵖ k a m d = record { x = k ⊗ a.x ⊕ m ⊗ d.x; y = k ⊗ a.y ⊕ m ⊗ d.y; w = k ⊗ a.w ⊕ m ⊗ d.w }
 

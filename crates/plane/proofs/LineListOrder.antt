@@ -11,6 +11,7 @@ use Rattle.plane.proofs.Nearer.{nothing_nearer, same_not_nearer}
 start : OnSegment (vertex two 0) (vertex two 1) (vertex two 0)
 start = start_on_segment (vertex two 0) (vertex two 1)
 
+-- the end of the only edge is on it
 end : OnSegment (vertex two 0) (vertex two 1) (vertex two 1)
 end = end_on_segment (vertex two 0) (vertex two 1)
 

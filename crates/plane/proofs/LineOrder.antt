@@ -264,9 +264,11 @@ below_by a b c e h = omega (arith, ints)
 
 module _ (u v s t : Point) (apart : ¬ (u ≡ v)) (on_s : bracket (lift u) (lift v) (lift s) ≡ pos 0)
     (on_t : bracket (lift u) (lift v) (lift t) ≡ pos 0) where
+  -- u is on the line of u and v
   on_u : bracket (lift u) (lift v) (lift u) ≡ pos 0
   on_u = bracket-outer (lift u) (lift v)
 
+  -- and so is v
   on_v : bracket (lift u) (lift v) (lift v) ≡ pos 0
   on_v = bracket-last (lift u) (lift v)
 

@@ -75,6 +75,7 @@ left_by : (u v p : Point) → T (lt_z (pos 0) (turn_at u v p))
 left_by u v p t = left_if (whole u) (whole v) (whole p)
     (subst (λ z. pos 0 <ℤ z) (sym (bracket-affine u v p)) (record { lt = t }))
 
+-- where the test computes a turn of 0, the third point is on the line
 on_by : (u v p : Point) → T (is_zero (turn_at u v p)) → side (whole u) (whole v) (whole p) ≡ on
 on_by u v p t = on_if (whole u) (whole v) (whole p)
     (subst (λ z. z ≡ pos 0) (sym (bracket-affine u v p)) (if_zero (turn_at u v p) t))

@@ -143,6 +143,7 @@ module _ (t : Triangulation) (h : TilesHull t) where
       abbrev z : Fraction
       z = nudge (enough q) r q
 
+      -- z is on the segment
       z_on : OnSegment p q z
       z_on = nudge_on_segment p q r (enough q) on
 

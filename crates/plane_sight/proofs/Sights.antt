@@ -48,6 +48,7 @@ on_if_none : (u v x : Fraction) → bracket u v x ≡ pos 0 → side u v x ≡ o
 unfolding bracket
 on_if_none u v x e = on_if u v x e
 
+-- a list of one entry has no other
 only : (k m : Item) → Contains (k ∷ []) m → k ≡ m
 only k m c = elim (Contains-cases k [] m c) [ inl e ↦ e | inr d ↦ absurd (Contains-none m d) ]
 

@@ -153,6 +153,7 @@ record Ray (n : ℕ) (p : ℕ → Point) (q : Vec3) (u v : ℕ) : Type 0 where
   sides : (z : ℕ) → z < n → Nudged (bracket (at p v) (at p z) q) (bracket (at p u) (at p z) q)
       (bracket (moved k (at p v) (at p u)) (at p z) q)
 
+-- there is such a ray for each u and v
 ray : (n : ℕ) (p : ℕ → Point) (q : Vec3) (u v : ℕ) → Ray n p q u v
 ray n p q u v =
     let m = nudge_each n (λ z. bracket (at p v) (at p z) q) (λ z. bracket (at p u) (at p z) q) in
@@ -242,12 +243,15 @@ module _ (n : ℕ) (p : ℕ → Point) (q : Vec3) (g : IsGeneric n p q) where
           (mul-nonneg_of_nonpos_ℤ seen_below (weak_right q_first))
           (zero-mul_ℤ (bracket (at p s) (at p t) q) on_own_line)
 
+      -- t is on the line of the first edge
       on_t : bracket (at p u) (at p v) (at p t) ≡ pos 0
       on_t = zero_of_mul-zero_ℤ (λ e. left_not_zero s_left e) zeros.0
 
+      -- and so is s
       on_s : bracket (at p u) (at p v) (at p s) ≡ pos 0
       on_s = zero_of_mul-zero_ℤ (λ e. right_not_zero t_right e) zeros.1
 
+      -- s and t are on one line with x
       flat : bracket x (at p s) (at p t) ≡ pos 0
       flat = go (trichotomy_ℤ (bracket x (at p s) (at p t)))
         where
@@ -327,12 +331,14 @@ module _ (n : ℕ) (p : ℕ → Point) (q : Vec3) (g : IsGeneric n p q) where
       second_right = subst (λ z. z <ℤ pos 0)
           (sym ((r.sides e.1 (m.ends e h).1).on (bracket-same (at p e.1) q))) (below e h)
 
+      -- the ray crosses e, which counts -1
       own : crossing (turn (bracket far (at p e.0) q)) (turn (bracket far (at p e.1) q))
           (turn (bracket (at p e.0) (at p e.1) q)) ≡ negsuc 0
       own i = crossing (turn_left (bracket far (at p e.0) q) first_left i)
           (turn_right (bracket far (at p e.1) q) second_right i)
           (turn_right (bracket (at p e.0) (at p e.1) q) (below e h) i)
 
+      -- another outer edge counts 0
       none : (d : ℕ × ℕ) → Contains outer d → ¬ (d ≡ e) → (bracket far (at p d.0) q <ℤ pos 0)
           ⊎ ((bracket far (at p d.0) q ≡ pos 0) ⊎ (pos 0 <ℤ bracket far (at p d.0) q))
           → (bracket far (at p d.1) q <ℤ pos 0)
@@ -352,6 +358,7 @@ module _ (n : ℕ) (p : ℕ → Point) (q : Vec3) (g : IsGeneric n p q) where
       none d i away (inr (inr a)) (inl b) = absurd (let c = crossed_is_first e.0 e.1 d.0 d.1 h i
           (below e h) (below d i) r.k r.positive a b in away (λ j. (c.0 j, c.1 j)))
 
+      -- each outer edge is e or counts 0
       each : (d : ℕ × ℕ) → Contains outer d
           → (d ≡ e) ⊎ ((d ≢ e) × (crossing (turn (bracket far (at p d.0) q))
           (turn (bracket far (at p d.1) q)) (turn (bracket (at p d.0) (at p d.1) q)) ≡ pos 0))

@@ -119,6 +119,7 @@ module _ (n : ℕ) (p : ℕ → Point) (outer edges : List (ℕ × ℕ)) (m : Si
     zero_not_one : ◌≢◌ {A = ℕ} 0 1
     zero_not_one e = omega arith
 
+    -- how far along the line from vertex 0 to vertex 1 a vertex lies
     spot : ℕ → ℤ
     spot = O.spot n p outer m (whole (p 0)) 0 1 from_zero several zero_not_one
         (bracket-outer (at p 0) (at p 1))

@@ -109,6 +109,7 @@ module _ (n : ℕ) (p : ℕ → Point) (outer new : List (ℕ × ℕ)) (m : Sign
       once = once;
     }
 
+    -- how far along the line from u to v a vertex lies
     spot : ℕ → ℤ
     spot k = place_on u v (at p k)
 
@@ -167,9 +168,11 @@ module _ (n : ℕ) (p : ℕ → Point) (outer new : List (ℕ × ℕ)) (m : Sign
         go (inr e) = bracket-turn (at p i) (at p n) (at p k)
             ∙ E.within_on (p n) (p k) (whole (p i)) (past k h e)
 
+    -- the new vertex is on the line of i and itself
     own : bracket (lift (p i)) (lift (p n)) (at p n) ≡ pos 0
     own = bracket-last (at p i) (at p n)
 
+    -- how far along the line from i to the new vertex a vertex lies
     spot' : ℕ → ℤ
     spot' = spot (p i) (p n) end_apart end_level own fresh
 
@@ -177,6 +180,7 @@ module _ (n : ℕ) (p : ℕ → Point) (outer new : List (ℕ × ℕ)) (m : Sign
     unfolding spot' spot
     from_zero = place_of_start (p i) (p n)
 
+    -- the new vertex has a place above 0 on the way from i
     high : pos 0 <ℤ spot' n
     unfolding spot' spot
     high = place_of_end (p i) (p n) end_apart
@@ -186,6 +190,7 @@ module _ (n : ℕ) (p : ℕ → Point) (outer new : List (ℕ × ℕ)) (m : Sign
     unfolding spot'
     in_order' = in_order (p i) (p n) end_apart end_level own fresh
 
+    -- an old vertex has none above 0 there
     low : (k : ℕ) → k < n → spot' k ≤ℤ pos 0
     low k h = go (cases_eq k i)
       where
@@ -289,6 +294,7 @@ module _ (n : ℕ) (p : ℕ → Point) (outer new : List (ℕ × ℕ)) (m : Sign
     within_level : bracket (lift (p i)) (lift (p j)) (at p n) ≡ pos 0
     within_level = E.within_on (p i) (p j) (whole (p n)) within
 
+    -- how far along the line from i to j a vertex lies
     mark : ℕ → ℤ
     mark = spot (p i) (p j) ends_apart line_level within_level between_fresh
 

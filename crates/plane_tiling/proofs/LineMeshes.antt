@@ -169,6 +169,7 @@ joins_line points outer edges m own = record {
     }
 
 module _ (points : List Point) (q : Point) (old new : List (ℕ × ℕ)) (m : LineMesh points old) where
+  -- the old outer edges are those of a line, by signs, where the new point is listed too
   own : SignLine (length points) (point_at (points ++ q ∷ [])) old
   own = same_line (length points) (point_at points) (point_at (points ++ q ∷ [])) old
       (kept_point points q) (line_by_signs points old m)

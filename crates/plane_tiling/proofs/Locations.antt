@@ -37,6 +37,7 @@ module _ (points : List Point) (faces : List Face) (outer edges : List (ℕ × �
   abbrev p : ℕ → Point
   p = point_at points
 
+  -- the mesh is local, by signs
   s : SignMesh n p faces outer
   s = by_signs points faces outer m
 
@@ -212,6 +213,7 @@ module _ (points : List Point) (outer edges : List (ℕ × ℕ)) (m : LineMesh p
   listed i j e = elim
       (L.way_of_edge [] outer edges own i j e) [ inl h ↦ absurd (no_turn i j h.0 h.1) | inr h ↦ h ]
 
+  -- joined vertices have no other strictly between them
   next : (i j : ℕ) → IsEdge line i j → Adjoin count at' i j
   next i j e = (signs.neighbours i j).0 (listed i j e)
 

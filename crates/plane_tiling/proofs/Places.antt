@@ -40,6 +40,7 @@ record IsAtCorner (j : Point) (q : Fraction) : Type 0 where
   y : d *ℤ q.y ≡ s *ℤ j.y
   w : d *ℤ q.w ≡ s
 
+-- a number times 1 is itself
 unit : (s : ℤ) → s *ℤ pos 1 ≡ s
 unit s = omega (arith, ints)
 
@@ -154,9 +155,11 @@ module _ (n : ℕ) (p : ℕ → Point) (faces : List Face) (outer : List (ℕ ×
     pub inside : Inside (at p i) (at p j) (at p k) (vec y)
 
   module _ (y : Fraction) where
+    -- y is on the line of i and j
     abbrev Zero : ℕ → ℕ → Type 0
     Zero i j = bracket (at p i) (at p j) (vec y) ≡ pos 0
 
+    -- y is on its left
     abbrev Left : ℕ → ℕ → Type 0
     Left i j = pos 0 <ℤ bracket (at p i) (at p j) (vec y)
 

@@ -23,6 +23,7 @@ none_left a b h k = omega (arith, ints)
 grown' : (a b c : ℤ) → c ≤ℤ a → pos 0 ≤ℤ b → c ≤ℤ (a +ℤ b)
 grown' a b c h k = omega (arith, ints)
 
+-- two numbers of at least 1 add up to at least 2
 two' : (a b : ℤ) → pos 1 ≤ℤ a → pos 1 ≤ℤ b → pos 2 ≤ℤ (a +ℤ b)
 two' a b h k = omega (arith, ints)
 
@@ -35,6 +36,7 @@ one_more a b h k = omega (arith, ints)
 none_above : (a b : ℤ) → pos 0 <ℤ (a +ℤ b) → a ≤ℤ pos 0 → pos 0 <ℤ b
 none_above a b h k = omega (arith, ints)
 
+-- 1 and a number of at least 1 add up to at least 2
 two : (a b : ℤ) → a ≡ pos 1 → pos 1 ≤ℤ b → pos 2 ≤ℤ (a +ℤ b)
 two a b h k = omega (arith, ints)
 

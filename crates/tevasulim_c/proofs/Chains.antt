@@ -186,6 +186,7 @@ module _ {V D U F : Type 0} (place : V → Point) where
       (count : made + 1 ≡ i) (below : i < length vs)
       (so_far : AddsInTurn place (take made (chain_segments vs false)) old middle)
       (adds : Addition place (get_or vs (i - 1) 0) (get_or vs i 0) status middle new) where
+    -- the segment that comes next goes from place i - 1 of the list to place i
     here : slice_get (chain_segments vs false) made ≡ Some (get_or vs (i - 1) 0, get_or vs i 0)
     here =
         let from : made ≡ i - 1 = omega (arith, count) in
@@ -244,6 +245,7 @@ module _ {V D U F : Type 0} (place : V → Point) where
     module _ (last : State V D (CdtEdge U) F) (closed : Bool) (is_closed : closed ≡ true)
         (well : status ≡ WELL) (end : ℕ)
         (adds : Addition place (get_or vs k 0) (get_or vs 0 0) end new last) where
+      -- the segment that closes the path comes next, from the last of the list to the first
       next : slice_get (chain_segments vs true) made ≡ Some (get_or vs k 0, get_or vs 0 0)
       next = ap (λ (ss : List (ℕ × ℕ)). slice_get ss made) (closing vs k size)
           ∙ ap (slice_get (chain_segments vs false ++ (get_or vs k 0, get_or vs 0 0) ∷ []))

@@ -83,6 +83,7 @@ module _ {V D U F E : Type 0} (place : V → Point) (old new : State V D (CdtEdg
       (contents_of old) kept i j h
       (subst (λ (n : ℕ). h < n) kept.fits.directed_fit within) from to)
 
+  -- edge k has the ends i and j
   ends : (a b : ℕ) → IsSamePair a b (origin old.mesh (2 * k)) (origin old.mesh (rev (2 * k)))
       ↔ IsSamePair a b i j
   ends a b =

@@ -26,6 +26,7 @@ use Rattle.std.specs.Box.Ownership.{box_owns}
 use Rattle.std.proofs.ResultValues.{and_tt}
 use Rattle.tevasulim_c.specs.contracts.loose.Loose as loose
 
+-- the value of a struct of two fields
 abbrev pub both : Val → Val → Val
 both v w = vstruct (vcons v (vcons w vnil))
 

@@ -125,6 +125,7 @@ zip_none (a ∷ args) e = cc
 
 -- by the name
 
+-- a command that is read, with no word left over, is written by the name and the words
 abbrev Arm : List ℕ → List (List ℕ) → Option Command → Type 0
 Arm name args read = (c : Command) → read ≡ Some c → drop (arity c) args ≡ []
     → AreWordsOf c (name ∷ args)

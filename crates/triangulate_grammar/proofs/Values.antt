@@ -13,6 +13,7 @@ use Rattle.std.proofs.lemmas.Str.Parse.{IsNumeralModel, numerals_by_value, tells
 use Rattle.triangulate_grammar.specs.Grammar.{IsDigits, IsNumber}
 use Rattle.triangulate_grammar.specs.Reading.{index_value, number_value}
 
+-- numerals are lists of digits alone, with their value to base 10
 own : IsNumeralModel (λ ds. all_ascii_digits ds ≡ true) (digits_value 10)
 own = numerals_by_value _ tells_all_ascii_digits
 

@@ -72,6 +72,7 @@ module _ {D U F : Type 0} (s : State (Point2 ℤ) D (CdtEdge U) F)
       → get_or (constraints_of s) i d ≡ pair_at s.mesh (get_or edges i 0)
   pair_is i d within = get_or-map (pair_at s.mesh) edges i 0 d within
 
+  -- no two constraints have the same ends
   once : EachPairOnce (constraints_of s)
   once i j d before within same =
       let j_in : j < length edges = omega (arith, within, length-map edges (pair_at s.mesh)) in

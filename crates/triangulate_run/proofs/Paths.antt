@@ -102,6 +102,7 @@ module _ {D U F : Type 0} (old new : State (Point2 ℤ) D (CdtEdge U) F) (i j : 
       apart : i ≢ j
       apart same = some (adds.refused (inl same)).0
 
+      -- no constraint crosses the segment of i and j
       free : CanAdd position (constrained old) i j
       free = can_add position (constrained old) i j (λ barred. some (adds.refused (inr barred)).0)
 

@@ -70,6 +70,7 @@ module _ {D U F E : Type 0} (old new : State (Point2 ℤ) D (CdtEdge U) F)
       (contents_of old) kept i j h
       (subst (λ (n : ℕ). h < n) kept.fits.directed_fit within) from to)
 
+  -- edge k has the ends i and j
   ends : (a b : ℕ) → IsSamePair a b (origin old.mesh (2 * k)) (origin old.mesh (rev (2 * k)))
       ↔ IsSamePair a b i j
   ends a b =

@@ -22,6 +22,7 @@ same_if : (c d : Corners) → c.first ≡ d.first → c.second ≡ d.second → 
 same_if c d e f g = ap (λ x. corners x c.second c.third) e ∙ ap (λ x. corners d.first x c.third) f
     ∙ ap (λ x. corners d.first d.second x) g
 
+-- whether two faces have the same corners
 abbrev same : Corners → Corners → Bool
 same c d = eqb c.first d.first && (eqb c.second d.second && eqb c.third d.third)
 
@@ -49,11 +50,13 @@ differ_moved old new moved h =
 
 module _ (list : List Corners) (apart : AllPairs (λ c d. c ≢ d) list)
     (up : IsSorted ((ord.ghosts).cmp) list) where
+  -- each face comes before the next one
   next : (k : ℕ) (d : Corners) → k + 1 < length list
       → ComesFirst (get_or list k d) (get_or list (k + 1) d)
   next k d h = before_if (get_or list k d) (get_or list (k + 1) d) (up k d (omega arith) h)
       (apart k (k + 1) d (omega arith) h)
 
+  -- and before each later one
   far : (i m : ℕ) (d : Corners) → i + m + 1 < length list
       → ComesFirst (get_or list i d) (get_or list (i + m + 1) d)
   far i zero d h = subst (λ (n : ℕ). ComesFirst (get_or list i d) (get_or list n d)) {x = i + 1}

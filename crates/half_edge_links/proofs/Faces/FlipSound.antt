@@ -131,6 +131,7 @@ module _ (m new : Mesh) (e : ℕ) (s : AreSoundLinks m) (can : IsFlippable m e)
         faces = omega (arith, f.face_count);
       })
 
+  -- edges may still start where an edge did
   busy : KeepsBusy m new
   busy h within = let here = s.edges h within in record {
     within = rw f.vertex_count here.origin_in;

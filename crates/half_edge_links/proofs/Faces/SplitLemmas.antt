@@ -36,6 +36,7 @@ module _ (m : Mesh) (v e : ℕ) (s : AreSoundLinks m) (can : IsFlippable m e)
   inner : IsInnerEdge m e
   inner = (can.within, can.inner)
 
+  -- vertex v is put into the face on the left of e
   i : Inserts m (inserted m v e) v (face m e) e (length m.half_edges) (length m.face_edges)
   i = inserts m v e s inner alone
 

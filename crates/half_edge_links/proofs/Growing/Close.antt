@@ -68,12 +68,14 @@ closes m e s can =
 
 module _ (m new : Mesh) (e : ℕ) (s : AreSoundLinks m) (can : IsClosable m e)
     (i : Closes m new e (length m.half_edges) (length m.face_edges)) where
+  -- the edges round the place of the new face
   c : IsNewCorner m e
   c = corner m e s can
 
   rev_kept : KeepsEnds m new
   rev_kept h within = i.origins (rev h) (rev_within h _ s.even within)
 
+  -- there are no fewer directed edges than before
   more : length m.half_edges ≤ length new.half_edges
   more = omega (arith, i.edge_count)
 
@@ -87,6 +89,7 @@ module _ (m new : Mesh) (e : ℕ) (s : AreSoundLinks m) (can : IsClosable m e)
   named_old k some within = rw i.face_edges
       (get_or_append_left m.face_edges (e ∷ []) 0 (k - 1) (omega (arith, some, within)))
 
+  -- edges may still start where an edge did
   busy : KeepsBusy m new
   busy h within = let here = s.edges h within in
       record { within = rw i.out_edges here.origin_in; has_out = rw i.out_edges here.has_out }

@@ -13,9 +13,11 @@ module _ (m : Mesh) (a b : ℕ) (s : AreSoundLinks m) (none : m.half_edges ≡ [
   no_edge_at : (h : ℕ) → h < length m.half_edges → ⊥
   no_edge_at h within = let empty : length m.half_edges ≡ 0 = ap length none in omega arith
 
+  -- vertex b names edge 1
   at_b : out_edge (connected m a b) b ≡ Some 1
   at_b = get_or-set_same (set m.out_edges a (Some 0)) b (Some 1) None (rw length-set b_in)
 
+  -- vertex a names an edge
   at_a : IsSome (out_edge (connected m a b) a)
   at_a =
       elim (cases_eq a b) [

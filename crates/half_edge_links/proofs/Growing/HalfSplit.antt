@@ -77,6 +77,7 @@ module _ (m mid : Mesh) (e v : ℕ) (s : AreSoundLinks m) (half : IsHalfSplittab
   pub apex_is : origin mid (prev mid e) ≡ origin m (prev m e)
   apex_is = ap (origin mid) prev_same ∙ i.origins (prev m e) (s.edges e half.within).prev_in
 
+  -- the edge after e starts where it did
   far : origin mid (next mid e) ≡ origin m (next m e)
   far = ap (origin mid) next_same ∙ i.origins (next m e) (s.edges e half.within).next_in
 
@@ -84,6 +85,7 @@ module _ (m mid : Mesh) (e v : ℕ) (s : AreSoundLinks m) (half : IsHalfSplittab
   pub new_corner : origin mid (prev mid (rev e)) ≡ v
   new_corner = ap (origin mid) i.edge.prev ∙ i.back.origin
 
+  -- the edge after the other side of e starts where e did
   near : origin mid (next mid (rev e)) ≡ origin m e
   near =
       ap (origin mid) i.edge.next ∙ i.there.origin

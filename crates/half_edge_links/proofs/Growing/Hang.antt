@@ -115,6 +115,7 @@ hangs m x v s out alone =
 
 module _ (m new : Mesh) (x v : ℕ) (s : AreSoundLinks m) (outer : OnOuter m x) (alone : IsAlone m v)
     (i : Hangs m new x v (length m.half_edges)) where
+  -- edge x fits the edges beside it
   at_x : IsSoundEdge m x
   at_x = s.edges x outer.0
 
@@ -128,6 +129,7 @@ module _ (m new : Mesh) (x v : ℕ) (s : AreSoundLinks m) (outer : OnOuter m x) 
   has_out : KeepsOutEdges m new
   has_out = still_out m new v (length m.half_edges + 1) i.out i.other_outs
 
+  -- there are no fewer directed edges than before
   more : length m.half_edges ≤ length new.half_edges
   more = omega (arith, i.edge_count)
 

@@ -91,6 +91,7 @@ module _ (m new : Mesh) (e x k p q r a : ℕ) (s : AreSoundLinks m)
         has_out = rw o.2 (still_out m new _ _ i.out i.other_outs _ there.has_out);
       }
 
+  -- where n comes after h, starts where h ends and is another edge, h fits the edge after it
   fits : (h n : ℕ) → h < length m.half_edges → n < length m.half_edges → next new h ≡ n
       → prev new n ≡ h → origin new n ≡ origin new (rev h) → n ≢ h → IsNextSound new h
   fits h n h_in n_in at back starts differs = next_at new h n at (rw i.edge_count n_in) back starts

@@ -88,6 +88,7 @@ passes m e s can =
 
 module _ (m new : Mesh) (e : ℕ) (s : AreSoundLinks m) (can : IsPassable m e)
     (i : Passes m new e (far_edge m e) (next m e)) where
+  -- the edges beside e
   t : IsBeside m e
   t = beside m e s can
 

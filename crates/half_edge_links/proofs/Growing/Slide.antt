@@ -85,6 +85,7 @@ slides m e s can =
 
 module _ (m new : Mesh) (e : ℕ) (s : AreSoundLinks m) (can : IsSlidable m e)
     (i : Slides m new e (next m e) (next m (next m e))) where
+  -- the edges beside e
   t : IsTail m e
   t = tail m e s can
 

@@ -22,6 +22,7 @@ sums_agree g h zero same = refl
 sums_agree g h (suc n) same =
     same_sum _ _ _ _ (sums_agree g h n (λ k within. same k (omega arith))) (same n (omega arith))
 
+-- the sum of two sums is that of their first terms plus that of their second ones
 four : (a b c d : ℤ) → (a +ℤ b) +ℤ (c +ℤ d) ≡ (a +ℤ c) +ℤ (b +ℤ d)
 four a b c d = omega (arith, ints)
 

@@ -30,6 +30,7 @@ module _ (m one two : Mesh) (o : ℕ) (s : AreSoundLinks m) (w : IsFullWheel m o
   abbrev z : ℕ
   z = turn m (turn m o)
 
+  -- the new index of an edge that is left
   abbrev nm : ℕ → ℕ
   nm k = wheel.nm m o s w one op p.opened two p.opens p.removes k
 
@@ -39,12 +40,15 @@ module _ (m one two : Mesh) (o : ℕ) (s : AreSoundLinks m) (w : IsFullWheel m o
   abbrev Second : ℕ → Type 0
   Second k = Opened one First (face one o) k
 
+  -- the three edges of the third face
   t3 : IsTriangle m (turn m (turn m o))
   t3 = wheel.t3 m o s w
 
+  -- the mesh in which the third face is open is sound
   s1 : AreSoundLinks one
   s1 = wheel.s1 m o s w one op
 
+  -- the three edges of the first face, in that mesh
   here : IsTriangle one o
   here = let q = wheel.peelable_first m o s w one op in triangle_at one o s1 q.within q.inner
 
@@ -131,12 +135,14 @@ module _ (m one two : Mesh) (o : ℕ) (s : AreSoundLinks m) (w : IsFullWheel m o
 -- the second: the face between the last two edges goes with the first of them
 module _ (m two three : Mesh) (to : ℕ → ℕ) (a z : ℕ) (s : AreSoundLinks two) (f :
     IsFanOfTwo two a z) (p : Peels two three a) (t : TracesOuter m two to (InFour two a z)) where
+  -- the new index of an edge that is left
   abbrev nm' : ℕ → ℕ
   nm' k = fan.nm two p.opened three a z s f p.opens p.removes k
 
   abbrev Wider : ℕ → Type 0
   Wider k = Opened two (InFour two a z) (face two a) k
 
+  -- the three edges of the face of a
   at_a : IsTriangle two a
   at_a = fan.at_a two p.opened three a z s f p.opens p.removes
 

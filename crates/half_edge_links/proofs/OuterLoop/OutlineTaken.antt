@@ -46,15 +46,19 @@ module _ (m mid new : Mesh) (h : ℕ) (s : AreSoundLinks m) (can : IsHullEdge m 
   inner : IsInner m (face m h)
   inner = (can.inner, (s.edges h can.within).face_in)
 
+  -- the mesh in which the face of h is open is sound
   sm : AreSoundLinks mid
   sm = sound_opened m mid (face m h) s inner o
 
+  -- edge h can be taken out of its loops there
   gap : IsUnlinkable mid h
   gap = removable_opened m mid h s can o
 
+  -- the new index of an edge that is left
   abbrev to : ℕ → ℕ
   to k = name mid new h sm gap r k
 
+  -- an edge other than the two sides of h is left
   left : (k : ℕ) → k < length m.half_edges → k ≢ h → k ≢ rev h → IsLeft mid h k
   left k within p q = record { within = rw o.edge_count within; other = p; other_side = q }
 

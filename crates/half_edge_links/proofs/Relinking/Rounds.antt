@@ -116,6 +116,7 @@ pub record Exchange (old new : Walk) (stands : List (ℕ × ℕ)) (stretches : L
   pub alone : IsHub old new hub
 
 module _ (old new : Walk) (among : ℕ → Bool) (closed : IsClosedUnder new among) where
+  -- what the new walk comes to from a live thing of the set is in the set
   step : (a b : ℕ) → new.Live a → new.step a ≡ b → among a ≡ true → among b ≡ true
   step a b live at is = ap among (sym at) ∙ closed a live is
 
@@ -189,6 +190,7 @@ module _ (old new : Walk) (among : ℕ → Bool) (closed : IsClosedUnder new amo
       pub at_ahead : new.label k ≡ old.label ahead
       pub leads : among k ≡ true → before ahead ≡ true
 
+    -- what lies within a stretch comes after a thing of the old walk with its label, and before one
     find : (ps : List (ℕ × List ℕ × ℕ)) → Each (IsStretch old new stands) ps → (k : ℕ)
         → OneOf itself (within_all ps) k → IsBetween k
     find [] each k one = absurd one

@@ -20,6 +20,7 @@ is_round : (m : Mesh) (h k : ℕ) → IsOfFace m h k ⊎ ((k ≢ h) × (k ≢ ne
 is_round m h k = grind arith
 
 module _ (m : Mesh) (h : ℕ) (s : AreSoundLinks m) (can : IsOpenTriangle m h) where
+  -- edge h fits the edges beside it
   here : IsSoundEdge m h
   here = s.edges h can.within
 
@@ -64,10 +65,12 @@ module _ (m : Mesh) (h : ℕ) (s : AreSoundLinks m) (can : IsOpenTriangle m h) w
     named f some within =
         rw c.face_edges (get_or_append_left m.face_edges (h ∷ []) 0 (f - 1) (omega arith))
 
+    -- edges may still start where an edge did
     busy : KeepsBusy m new
     busy k within = let was = s.edges k within in
         record { within = rw c.outs was.origin_in; has_out = rw c.outs was.has_out }
 
+    -- the three edges of the loop fit the edges beside them
     loop : IsSoundEdge new h × IsSoundEdge new (next m h) × IsSoundEdge new (prev m h)
     loop =
         loop_sound new h (next m h) (prev m h) (origin m h) (origin m (next m h))

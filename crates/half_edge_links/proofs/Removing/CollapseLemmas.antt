@@ -122,6 +122,7 @@ module _ (m new : Mesh) (z : ℕ) (s : AreSoundLinks m) (f : IsFanOfOne m z)
 -- the middle step: the face between the last two edges goes with the first of them
 module _ (m mid new : Mesh) (a z : ℕ) (s : AreSoundLinks m) (f : IsFanOfTwo m a z)
     (o : Opens m mid (face m a)) (r : Removes mid new a) where
+  -- edge a is one of the mesh
   abbrev a_in : a < length m.half_edges
   a_in = f.peelable.within
 
@@ -145,12 +146,14 @@ module _ (m mid new : Mesh) (a z : ℕ) (s : AreSoundLinks m) (f : IsFanOfTwo m 
       ∙ (s.edges (rev a) (rev_within a (length m.half_edges) s.even a_in)).same_face
       ∙ f.peelable.outer
 
+  -- the edge after z is one of the mesh
   c3_in : next m z < length m.half_edges
   c3_in = (s.edges z f.within).next_in
 
   c3_face : face m (next m z) ≡ 0
   c3_face = (s.edges z f.within).same_face ∙ z_face
 
+  -- the second edge after z is one of the mesh
   c1_in : next m (next m z) < length m.half_edges
   c1_in = (s.edges _ c3_in).next_in
 
@@ -174,6 +177,7 @@ module _ (m mid new : Mesh) (a z : ℕ) (s : AreSoundLinks m) (f : IsFanOfTwo m 
         λ q. absurd (omega (arith, ap (face m) q, at_a.face_prev)),
       )
 
+  -- an edge other than the two sides of a is left
   left : (k : ℕ) → k < length m.half_edges → k ≢ a → k ≢ rev a → IsLeft mid a k
   left k within p q = record { within = rw o.edge_count within; other = p; other_side = q }
 
@@ -185,6 +189,7 @@ module _ (m mid new : Mesh) (a z : ℕ) (s : AreSoundLinks m) (f : IsFanOfTwo m 
   pub z_left : IsLeft mid a z
   z_left = left z f.within (off_a z z_face).0 z_twin
 
+  -- the second edge after z is not z
   c1_z : next m (next m z) ≢ z
   c1_z q = f.off (ap (origin m) q ∙ f.same)
 
@@ -212,6 +217,7 @@ module _ (m mid new : Mesh) (a z : ℕ) (s : AreSoundLinks m) (f : IsFanOfTwo m 
   abbrev pub nm : ℕ → ℕ
   nm k = name mid new a s1 can1 r k
 
+  -- the same edge comes after an edge as before, but after those that stood before the sides of a
   step : (k : ℕ) → IsLeft mid a k → k ≢ rev z → k ≢ next m (next m z)
       → next new (nm k) ≡ nm (next m k)
   step k l p q = next_at mid new a s1 can1 r k l (λ i. p (i ∙ o.prev a ∙ a_before))
@@ -221,6 +227,7 @@ module _ (m mid new : Mesh) (a z : ℕ) (s : AreSoundLinks m) (f : IsFanOfTwo m 
   off_w : (k : ℕ) → face m k ≡ 0 → k ≢ rev z
   off_w k zero q = (off_a k zero).2 (q ∙ sym a_before)
 
+  -- an edge of the outer face is not the edge after a
   off_c2 : (k : ℕ) → face m k ≡ 0 → next m a ≢ k
   off_c2 k zero q = (off_a k zero).1 (sym q)
 
@@ -228,13 +235,16 @@ module _ (m mid new : Mesh) (a z : ℕ) (s : AreSoundLinks m) (f : IsFanOfTwo m 
   pub nz : next new (nm z) ≡ nm (next m z)
   nz = step z z_left (λ q. rev_differs z (sym q)) (λ q. c1_z (sym q))
 
+  -- after the second edge after z comes the one that came after a
   n1 : next new (nm (next m (next m z))) ≡ nm (next m a)
   n1 = next_twin_before mid new a s1 can1 r (next m (next m z)) c1_left
       (sym (o.prev (rev a) ∙ twin_before1)) ∙ ap nm (o.next a)
 
+  -- the edge after a is not the other side of z
   c2_w : next m a ≢ rev z
   c2_w q = at_a.both_differ (q ∙ sym a_before)
 
+  -- after the edge after a comes the other side of z
   n2 : next new (nm (next m a)) ≡ nm (rev z)
   n2 = step (next m a) c2_left c2_w (off_c2 _ c1_face) ∙ ap nm (at_a.next_next ∙ a_before)
 
@@ -242,6 +252,7 @@ module _ (m mid new : Mesh) (a z : ℕ) (s : AreSoundLinks m) (f : IsFanOfTwo m 
   pub rev_z : rev (nm z) ≡ nm (rev z)
   rev_z = rev_at mid new a s1 can1 r z z_left
 
+  -- edges that are left and have one new index are one
   same : (x y : ℕ) → IsLeft mid a x → IsLeft mid a y → nm x ≡ nm y → x ≡ y
   same x y p q = name_same mid new a s1 can1 r x y p q
 

@@ -232,9 +232,11 @@ module _ (m : Mesh) (last hole : ℕ) (b : IsSoundBut m hole)
   below : hole ≤ last
   below = let w = b.within in let e = b.hole_even in let f = b.even in omega arith
 
+  -- the new index of an edge
   abbrev to : ℕ → ℕ
   to h = pair_moved last hole h
 
+  -- the old index of an edge
   abbrev old : ℕ → ℕ
   old h = pair_moved hole last h
 
@@ -321,6 +323,7 @@ module _ (m : Mesh) (last hole : ℕ) (b : IsSoundBut m hole)
   unfolding with_out_renamed
   length_out outs v = length-set outs v _
 
+  -- each vertex names the edge that it named, by its new index
   outs : (v : ℕ) → v < length m.out_edges
       → out_edge (filled m last hole) v ≡ renamed (pair_moved last hole) (out_edge m v)
   unfolding filled
@@ -402,6 +405,7 @@ module _ (m : Mesh) (last hole : ℕ) (b : IsSoundBut m hole)
         ∙ length_face m.face_edges (face m last),
   )
 
+  -- each edge but the two of the hole has a new index
   kept : (h : ℕ) → h < length m.half_edges → h ≢ hole → h ≢ hole + 1
       → IsKeptEdge (filled m last hole) (edge_naming last hole) h
   kept h within a c =

@@ -158,6 +158,7 @@ module _ (m new : Mesh) (f : ℕ) (s : AreSoundLinks m) (inner : IsInner m f)
             o.other k within a b ∙ sym (opened_other (length m.face_edges) f (face m k) b a)
       ]
 
+  -- each edge keeps its index
   kept : (h : ℕ) → h < length m.half_edges → IsKeptEdge new names h
   kept h within = record { within = rw o.edge_count within; back = refl }
 

@@ -20,6 +20,7 @@ pub record IsInRange (m : Mesh) (hs : List HalfEdge) (k : ℕ) : Type 0 where
   pub face_in : (edge_at hs k).face ≤ length m.face_edges
 
 module _ (m : Mesh) (e : ℕ) (s : AreSoundLinks m) (can : IsUnlinkable m e) where
+  -- with the edge taken out of its loops, the mesh is sound but for it
   but : IsSoundBut (unlinked m e) (e - e % 2)
   but = sound_but m (unlinked m e) e s can (unlinks m e s can)
 

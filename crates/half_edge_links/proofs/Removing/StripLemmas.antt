@@ -52,9 +52,11 @@ module _ (m mid new : Mesh) (h k : ℕ) (s : AreSoundLinks m) (f : IsFullStrip m
   abbrev pub nm : ℕ → ℕ
   nm g = name mid new h s1 can r g
 
+  -- each spoke is an edge of the mesh and starts at the vertex
   at : (i : ℕ) → (spoke m h i < length m.half_edges) × (origin m (spoke m h i) ≡ origin m h)
   at i = spoke_at m h s f.strip.within i
 
+  -- the three edges of the first face
   tri : IsTriangle m h
   tri = triangle_at m h s f.strip.within inner_h.0
 
@@ -78,6 +80,7 @@ module _ (m mid new : Mesh) (h k : ℕ) (s : AreSoundLinks m) (f : IsFullStrip m
         | inr q ↦ f.apart 0 (suc i) (omega arith) (omega arith) (sym same)
       ]
 
+  -- an edge other than the two sides of h is left
   left : (g : ℕ) → g < length m.half_edges → g ≢ h → g ≢ rev h → IsLeft mid h g
   left g within p q = record { within = rw o.edge_count within; other = p; other_side = q }
 

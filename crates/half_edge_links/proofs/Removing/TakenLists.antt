@@ -280,6 +280,7 @@ paired-map f (a ∷ b ∷ rest) =
     ap (λ (q : List Ends). record { source = f a; target = f b } ∷ q) (paired-map f rest)
 
 module _ (m new : Mesh) (v : ℕ) (s : AreSoundLinks m) (c : MovesVertex m new v) where
+  -- the new index of a vertex
   abbrev to : ℕ → ℕ
   to k = moved (length m.out_edges - 1) v k
 

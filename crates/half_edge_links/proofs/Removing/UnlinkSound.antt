@@ -163,12 +163,15 @@ module _ (m new : Mesh) (e : ℕ) (s : AreSoundLinks m) (can : IsUnlinkable m e)
   pub at_t : IsSoundEdge m (rev e)
   at_t = s.edges (rev e) t_in
 
+  -- the edge after e is not e
   q_e : next m e ≢ e
   q_e z = can.ends (sym (ap (origin m) z) ∙ at_e.starts)
 
+  -- the edge after the other side of e is not that side
   y_t : next m (rev e) ≢ rev e
   y_t z = can.ends (sym (at_t.starts ∙ ap (origin m) (rev-rev e)) ∙ ap (origin m) z)
 
+  -- the edge before e is not e
   p_e : prev m e ≢ e
   p_e z = q_e (sym (ap (next m) z) ∙ at_e.next_prev)
 

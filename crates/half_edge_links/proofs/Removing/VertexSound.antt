@@ -44,6 +44,7 @@ pub record HasWalked (old new : List HalfEdge) (first v i h : ℕ) : Type 0 wher
 
 module _ (old new : List HalfEdge) (first v i h : ℕ) (c : CanWalk old)
     (w : HasWalked old new first v i h) where
+  -- the next edge of the walk is one of the list
   h_in : h < length new
   h_in = rw w.count w.place_in
 
@@ -150,6 +151,7 @@ module _ (m new : Mesh) (v : ℕ) (s : AreSoundLinks m) (alone : IsAlone m v)
   vertex_count = let e = ap length c.out_edges in
       omega (arith, length-swap_remove m.out_edges v None, alone.0)
 
+  -- each edge keeps its index
   kept : (h : ℕ) → h < length m.half_edges → IsKeptEdge new names h
   kept h within = record { within = rw c.edge_count within; back = refl }
 
@@ -172,6 +174,7 @@ module _ (m new : Mesh) (v : ℕ) (s : AreSoundLinks m) (alone : IsAlone m v)
             rw (moved_miss v last x differs) (moved_miss last v x (λ q. absurd (omega arith)))
       ]
 
+  -- a vertex names what it named under its old index
   outs : (x : ℕ) → x < length new.out_edges → out_edge new x ≡ out_edge m (moved v last x)
   outs x within =
       let n = vertex_count in

@@ -123,6 +123,7 @@ module _ (m : Mesh) (o : ℕ) (s : AreSoundLinks m) (w : IsFullWheel m o) where
       count : length mid.half_edges ≡ length m.half_edges
       count = oq.edge_count ∙ op.edge_count
 
+      -- an edge other than the two sides of the first spoke is left
       left : (k : ℕ) → k < length m.half_edges → k ≢ o → k ≢ rev o → IsLeft mid o k
       left k within p q = record { within = rw count within; other = p; other_side = q }
 
@@ -174,11 +175,13 @@ module _ (m : Mesh) (o : ℕ) (s : AreSoundLinks m) (w : IsFullWheel m o) where
       pub mid_twin_before : prev mid (rev o) ≡ next m (turn m (turn m o))
       mid_twin_before = prev_is (rev o) ∙ ap (prev m) (sym before_z) ∙ (t3).prev_prev
 
+      -- the same edge comes after an edge as before, but after those before the first spoke's sides
       step : (k : ℕ) → IsLeft mid o k → k ≢ rev (turn m o) → k ≢ next m (turn m (turn m o))
           → next new (nm k) ≡ nm (next m k)
       step k l p q = next_at mid new o s2 can r k l (λ i. p (i ∙ mid_before))
           (λ i. q (i ∙ mid_twin_before)) ∙ ap nm (next_is k)
 
+      -- after the other side of the second spoke comes the third spoke
       gap : next new (nm (rev (turn m o))) ≡ nm (turn m (turn m o))
       gap = next_before mid new o s2 can r _ ra_left (sym mid_before)
           ∙ ap nm (next_is (rev o) ∙ ap (next m) (sym before_z) ∙ (t3).next_prev)
@@ -192,11 +195,13 @@ module _ (m : Mesh) (o : ℕ) (s : AreSoundLinks m) (w : IsFullWheel m o) where
       pub n3 : next new (nm (next m (turn m (turn m o)))) ≡ nm (next m o)
       n3 = next_twin_before mid new o s2 can r _ b3_left (sym mid_twin_before) ∙ ap nm (next_is o)
 
+      -- after the edge after the first spoke comes the other side of the second
       n1 : next new (nm (next m o)) ≡ nm (rev (turn m o))
       n1 = step _ b1_left (λ q. (t1).both_differ (q ∙ sym before_o))
           (λ q. w.third_apart (sym (sym (t1).face_next ∙ ap (face m) q ∙ (t3).face_next)))
           ∙ ap nm ((t1).next_next ∙ before_o)
 
+      -- after the other side of the third spoke comes the second
       nrz : next new (nm (rev (turn m (turn m o)))) ≡ nm (turn m o)
       nrz = step _ rz_left (λ q. w.first_apart (sym (sym rz_face ∙ ap (face m) q ∙ ra_face)))
           (λ q. w.second_apart (sym rz_face ∙ ap (face m) q ∙ (t3).face_next))
@@ -214,9 +219,11 @@ module _ (m : Mesh) (o : ℕ) (s : AreSoundLinks m) (w : IsFullWheel m o) where
       pub rev_a : rev (nm (turn m o)) ≡ nm (rev (turn m o))
       rev_a = rev_at mid new o s2 can r _ a_left
 
+      -- the other side of the third spoke is the same edge as before
       rev_z : rev (nm (turn m (turn m o))) ≡ nm (rev (turn m (turn m o)))
       rev_z = rev_at mid new o s2 can r _ z_left
 
+      -- edges that are left and have one new index are one
       same : (x y : ℕ) → IsLeft mid o x → IsLeft mid o y → nm x ≡ nm y → x ≡ y
       same x y p q = name_same mid new o s2 can r x y p q
 

@@ -26,6 +26,7 @@ both_sides : (new : Mesh) (h k : ℕ) → rev h ≡ k → origin new h ≢ origi
     → origin new h ≢ origin new (rev h)
 both_sides new h k is differs = rw is differs
 
+-- what a differs from differs from a
 neq : {X : Type 0} {a b : X} → a ≢ b → b ≢ a
 neq differs same = differs (sym same)
 

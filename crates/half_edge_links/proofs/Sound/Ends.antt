@@ -52,6 +52,7 @@ module _ (m : Mesh) where
       get_or-map (λ (x : HalfEdge). x.origin) m.half_edges h no_edge d within
 
 module _ (m new : Mesh) (s : AreSoundLinks m) where
+  -- there is an even number of origins
   even : length (origins m) % 2 ≡ 0
   even = rw length-origins s.even
 

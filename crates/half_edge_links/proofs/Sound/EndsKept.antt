@@ -21,6 +21,7 @@ use Rattle.half_edge_links.proofs.Faces.InsertLemmas.{inserts}
 use Rattle.half_edge_links.proofs.Faces.InsertSound as inserting
 use Rattle.half_edge_links.proofs.Growing.HalfSplit as halves
 
+-- where two new edges start, read from a list
 two : (m new : Mesh) (a b : ℕ) → origin new (length m.half_edges) ≡ a
     → origin new (length m.half_edges + 1) ≡ b → (j : ℕ) → j < 2
     → origin new (length m.half_edges + j) ≡ get_or (a ∷ b ∷ []) j 0
@@ -28,6 +29,7 @@ two m new a b x y zero within = rw add-zero x
 two m new a b x y (suc zero) within = y
 two m new a b x y (suc (suc j)) within = absurd (omega (arith, within))
 
+-- where six new edges start, read from a list
 six : (m new : Mesh) (a b c d e f : ℕ) → origin new (length m.half_edges) ≡ a
     → origin new (length m.half_edges + 1) ≡ b → origin new (length m.half_edges + 2) ≡ c
     → origin new (length m.half_edges + 3) ≡ d → origin new (length m.half_edges + 4) ≡ e

@@ -61,6 +61,7 @@ stars_closed m new e s can i =
       alone = tt;
     })
 
+-- what a differs from differs from a
 neq : (a b : ℕ) → a ≢ b → b ≢ a
 neq a b differs same = differs (sym same)
 

@@ -41,6 +41,7 @@ module _ (m new : Mesh) (count : length new.half_edges ≡ length m.half_edges)
 
 module _ (m new : Mesh) (e : ℕ) (s : AreSoundLinks m) (can : IsUnlinkable m e)
     (r : Removes m new e) where
+  -- the new index of an edge that is left
   abbrev nm : ℕ → ℕ
   nm k = name m new e s can r k
 

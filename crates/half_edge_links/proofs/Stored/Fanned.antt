@@ -53,6 +53,7 @@ module _ (hs : List HalfEdge) (cs : List ℕ) (v a b c f g : ℕ) where
           → get_or corners (edge_at fanned h).next 0 ≡ (edge_at fanned h).origin
       at_edge h m o r is next_is origin_is said = rw (is, next_is, origin_is) said
 
+      -- the three are different places of the other list too
       p_cs : AreThreePlaces (length cs) a b c
       p_cs = rw count p
 

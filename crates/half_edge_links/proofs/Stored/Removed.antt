@@ -37,6 +37,7 @@ module _ (hs : List HalfEdge) (cs : List ℕ) (e t : ℕ) (j : AreJoined hs)
   abbrev y : ℕ
   y = next_of hs t
 
+  -- where edge h starts
   abbrev at : ℕ → ℕ
   at h = (edge_at hs h).origin
 

@@ -62,6 +62,7 @@ module _ (hs : List HalfEdge) (cs : List ℕ) (e t en tn ep tp ef tf : ℕ) wher
           → get_or written (edge_at turned h).next 0 ≡ (edge_at turned h).origin
       at_edge h n o r is next_is origin_is said = rw (is, next_is, origin_is) said
 
+      -- what comes after one edge comes after no other
       off : (h k n : ℕ) → h < length hs → k < length hs → (edge_at hs k).next ≡ n → h ≢ k
           → (edge_at hs h).next ≢ n
       off h k n h_in k_in is differs = λ same. differs (apart h k h_in k_in (same ∙ sym is))

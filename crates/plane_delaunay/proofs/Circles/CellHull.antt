@@ -199,10 +199,12 @@ module _ (t : Triangulation) (D : IsConstrainedDelaunay t []) (i j k : ℕ)
         )
 
     module _ (w : HasWay t h p aim) where
+      -- how far the plane of the lifted i j k is above that of the lifted face, at a point
       abbrev g : Fraction → ℤ
       g = difference (vertex t i) (vertex t j) (vertex t k) (vertex t w.d) (vertex t w.e)
           (vertex t w.f)
 
+      -- the face that has the way turns left
       left : TurnsLeft (vertex t w.d) (vertex t w.e) (vertex t w.f)
       left = h.turning w.d w.e w.f w.is_face
 

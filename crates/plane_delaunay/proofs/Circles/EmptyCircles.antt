@@ -274,6 +274,7 @@ one_of a b c n = go (ℕ_discrete n a) (ℕ_discrete n b) (ℕ_discrete n c)
     go (no p) (no q) (no r) = inr (p, q, r)
 
 module _ (at : ℕ → Fraction) where
+  -- a b c turns left
   abbrev Left : ℕ → ℕ → ℕ → Type 0
   Left a b c = pos 0 <ℤ bracket (at a) (at b) (at c)
 
@@ -288,6 +289,7 @@ module _ (at : ℕ → Fraction) where
   flat_third : (d e f : ℕ) → Left d e f → d ≡ e → ⊥
   flat_third d e f t q = flat_first e f d (turned-above (at d) (at e) (at f) t) (sym q)
 
+  -- two triples that turn left do not have the same corners in opposite order
   odd : (a b c d e f : ℕ) → Left a b c → Left d e f → d ≡ a → e ≡ c → f ≡ b → ⊥
   odd a b c d e f t s p q r = mirrored (bracket (at a) (at b) (at c)) (bracket (at a) (at c) (at b))
       t (subst₃ (λ i j k. Left i j k) p q r s) (sym (bracket-turned (at a) (at c) (at b))

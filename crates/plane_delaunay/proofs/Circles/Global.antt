@@ -150,6 +150,7 @@ module _ (T : Tiling) (cs : List (ℕ × ℕ)) where
                 (negated_left (bracket-swapped (at a) (at b) (at n)) leaves.right)
                 (local a b c g.0 f g.1 free)
 
+    -- n is not inside the circle of a face, if fewer than m sides separate it from a point there
     walk : (m : ℕ) → Walks m
     walk zero a b c x f inside is_open generic less = absurd (omega arith)
     walk (suc m) a b c x f inside is_open generic less =

@@ -13,6 +13,7 @@ use Rattle.plane.specs.Circle.{gap, IsNearer}
 use Rattle.plane.specs.Tiling.{Triangulation, IsVertex, vertex}
 use Rattle.plane_delaunay.specs.Nearer.{nearer_count}
 
+-- a sum of ones is the number of entries
 ones : {X : Type 0} (xs : List X) → sum_by (λ _. 1) xs ≡ length xs
 ones [] = λ _. 0
 ones (x ∷ xs) = omega (arith, sum_by-cons (λ _. 1) x xs, ones xs)

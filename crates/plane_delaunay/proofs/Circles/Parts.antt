@@ -167,6 +167,7 @@ part_has_face s t there D i j k alone x y z =
 -- ---- all cells at a vertex
 -- vertices on one line, and points of their hull
 module _ (s : Triangulation) (l : JoinsLine s) where
+  -- each three vertices are on one line
   flat : (i j k : ℕ) → IsVertex s i → IsVertex s j → IsVertex s k
       → bracket (vertex s i) (vertex s j) (vertex s k) ≡ pos 0
   flat i j k hi hj hk = go (sign (bracket (vertex s i) (vertex s j) (vertex s k)))

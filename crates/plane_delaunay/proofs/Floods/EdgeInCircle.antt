@@ -35,12 +35,15 @@ end_in c r p h = record {
     with_one d r h = omega (arith, ints)
 
 module _ (c : Point) (r : ℤ) (p q : Point) where
+  -- the squared length of the edge
   len : ℤ
   len = distance_2 p q
 
+  -- where the centre falls on its line, times that length
   f : ℤ
   f = factor p q c
 
+  -- the squared distance of p from the centre
   d : ℤ
   d = distance_2 c p
 
@@ -109,6 +112,7 @@ module _ (c : Point) (r : ℤ) (p q : Point) where
   -- ---- from a point to the numbers
   module _ (x : Fraction) (m : TwoWeights IsNotNegative (whole p) (whole q) x)
       (near : InClosedCircle c r x) where
+    -- the sum of the weights
     s : ℤ
     s = m.k +ℤ m.l
 
@@ -216,6 +220,7 @@ module _ (c : Point) (r : ℤ) (p q : Point) where
             ⊗ (r ⊗ (s ⊗ s) ⊖ (s ⊗ s ⊗ d ⊖ num 2 ⊗ (s ⊗ l ⊗ f) ⊕ l ⊗ l ⊗ e)) ⊕ (l ⊗ e ⊖ s ⊗ f)
             ⊗ (l ⊗ e ⊖ s ⊗ f)) (λ r s d l f e. s ⊗ s ⊗ (r ⊗ e ⊖ (d ⊗ e ⊖ f ⊗ f))) tt
 
+    -- an end is in the circle, or the centre falls between the ends and is near enough to the line
     told : MeetsCircle c r p q
     unfolding len f d
     told = go (lt_or_ge_ℤ f (pos 0)) (lt_or_ge_ℤ len f) (zero_or_left len_least)

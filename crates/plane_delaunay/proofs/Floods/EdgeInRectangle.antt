@@ -92,6 +92,7 @@ cross f g o h i = mixed (neg_ℤ (f g)) o (f o) g
 
 -- points of the segment, kept under means
 module _ (p q : Fraction) where
+  -- z is a point of the segment, by its weights
   abbrev On : Fraction → Type 0
   On z = TwoWeights IsNotNegative p q z
 
@@ -148,6 +149,7 @@ data Drawn (f f' : Fraction → ℤ) (g o : Fraction) : Type 0 where
   to_first : (h : f g <ℤ pos 0) (i : pos 0 ≤ℤ f o) → Drawn f f' g o
   to_second : (h : f' g <ℤ pos 0) (i : pos 0 ≤ℤ f' o) → Drawn f f' g o
 
+-- where g or o is within each of two lines: g is between them, or is drawn to o until it is
 draw : (f f' : Fraction → ℤ) (g o : Fraction) → (pos 0 ≤ℤ f g) ⊎ (pos 0 ≤ℤ f o)
     → (pos 0 ≤ℤ f' g) ⊎ (pos 0 ≤ℤ f' o) → Drawn f f' g o
 draw f f' g o h h' = go (lt_or_ge_ℤ (f g) (pos 0)) (lt_or_ge_ℤ (f' g) (pos 0))
@@ -338,15 +340,19 @@ opposite_y low high h = record {
 }
 
 module _ (lower upper : Point) (wide : lower.x ≤ℤ upper.x) (high : lower.y ≤ℤ upper.y) where
+  -- how far a point is right of the left side
   x₁ : Fraction → ℤ
   x₁ = past_x (pos 1) lower.x
 
+  -- how far it is left of the right side
   x₂ : Fraction → ℤ
   x₂ = past_x (negsuc 0) upper.x
 
+  -- how far it is above the lower side
   y₁ : Fraction → ℤ
   y₁ = past_y (pos 1) lower.y
 
+  -- how far it is below the upper side
   y₂ : Fraction → ℤ
   y₂ = past_y (negsuc 0) upper.y
 
@@ -419,9 +425,11 @@ module _ (lower upper : Point) (wide : lower.x ≤ℤ upper.x) (high : lower.y �
   )
 
   module _ (p q : Point) where
+    -- the start, as a fraction point
     P : Fraction
     P = whole p
 
+    -- the end, as a fraction point
     Q : Fraction
     Q = whole q
 
@@ -518,9 +526,11 @@ module _ (lower upper : Point) (wide : lower.x ≤ℤ upper.x) (high : lower.y �
           (reaches (negsuc 0) upper.y (inr refl) (λ k s. high_at k.y upper.y s.above)
           (either_high upper.y p.y q.y h.1.1))
 
+      -- the start is on the segment
       on_p : TwoWeights IsNotNegative P Q P
       on_p = two_weights IsNotNegative P Q P (start_on_segment P Q)
 
+      -- and so is the end
       on_q : TwoWeights IsNotNegative P Q Q
       on_q = two_weights IsNotNegative P Q Q (end_on_segment P Q)
 
@@ -616,9 +626,11 @@ module _ (lower upper : Point) (wide : lower.x ≤ℤ upper.x) (high : lower.y �
       a : ℤ
       a = p.y -ℤ q.y
 
+      -- the factor of y
       b : ℤ
       b = q.x -ℤ p.x
 
+      -- the factor of w
       c : ℤ
       c = p.x *ℤ q.y -ℤ p.y *ℤ q.x
 
@@ -685,6 +697,7 @@ module _ (lower upper : Point) (wide : lower.x ≤ℤ upper.x) (high : lower.y �
               (if_right (whole p) (whole q) (whole (record { x = x; y = y })) e)
               (neg_ℤ a *ℤ x +ℤ neg_ℤ b *ℤ y) (negated_form a b c x y (pos 1))
 
+      -- the ranges meet, and the corners are not all strictly on one side
       told : MeetsRectangle lower upper p q
       told = (
         (low_meets lower.x p.x q.x z.x m.x r.left, high_meets upper.x p.x q.x z.x m.x r.right),

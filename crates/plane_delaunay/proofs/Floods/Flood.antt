@@ -313,6 +313,7 @@ module _ (T : Tiling) where
             go (inr (inr e)) = from k i j (T.turned j k i f₂)
                 (germ-turned T y z j k i (germ-turned T y z i j k g)) e
 
+        -- where fewer than m sides separate y, on a found edge at v, from z: v d is found too
         goes : (m : ℕ) (y : Fraction) → Here y → separation T y z < m → S v d
         goes zero y h less = absurd (omega arith)
         goes (suc m) y h less = at_v m (goes m) y h less (germ T y z h.hull hz)

@@ -121,6 +121,7 @@ module _ (t : Triangulation) (h : JoinsLine t) where
     spot : Fraction → ℤ
     spot x = place_on (at i) (at j) (vec x)
 
+    -- how far a vertex is on the way from i to j
     abbrev far : ℕ → ℤ
     far k = spot (vertex t k)
 
@@ -187,6 +188,7 @@ module _ (t : Triangulation) (h : JoinsLine t) where
         (lt-suc_self _)
 
     module _ (region : Region) where
+      -- the points of the region
       abbrev K : Fraction → Type 0
       K = InRegion region
 

@@ -115,6 +115,7 @@ module _ (T : Tiling) where
     abbrev height : Fraction → ℤ
     height x = bracket (at a) (at b) x
 
+    -- no vertex is beyond the side
     high : (v : ℕ) → IsVertex v → pos 0 ≤ℤ height (at v)
     high v hv = vertex_not_beyond T a b c v f alone hv
 

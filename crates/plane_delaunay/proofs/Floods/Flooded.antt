@@ -39,12 +39,14 @@ use Rattle.plane.proofs.IntegerLaws.{one-*ℤ}
 probe : ℤ → ℤ → Fraction
 probe x y = record { x = x; y = y; w = pos 1; positive = record { lt = tt } }
 
+-- x as a bracket with the points (0, 1) and (0, 0)
 at_x : (p : Fraction) → bracket (probe (pos 0) (pos 1)) (probe (pos 0) (pos 0)) p ≡ p.x
 unfolding bracket B.bracket probe
 at_x p =
     ring_in (p.x ∷ p.y ∷ p.w ∷ []) (λ x y w. bracketᵖ (record { x = num 0; y = num 1; w = num 1 })
     (record { x = num 0; y = num 0; w = num 1 }) (record { x = x; y = y; w = w })) (λ x y w. x) tt
 
+-- y as a bracket with the points (0, 0) and (1, 0)
 at_y : (p : Fraction) → bracket (probe (pos 0) (pos 0)) (probe (pos 1) (pos 0)) p ≡ p.y
 unfolding bracket B.bracket probe
 at_y p =
@@ -149,6 +151,7 @@ unfolding tiling
 edge_of t h i j e = (h.sides i j).0 e
 
 module _ (t : Triangulation) (h : TilesHull t) (region : Region) where
+  -- the points of the region
   abbrev K : Fraction → Type 0
   K = InRegion region
 
@@ -159,6 +162,7 @@ module _ (t : Triangulation) (h : TilesHull t) (region : Region) where
   unfolding tiling
   is_edge i j e = (h.sides i j).1 e
 
+  -- an edge in the region has a point of it on its closed segment
   met : (i j : ℕ) → IsEdgeIn K t i j → (x : Fraction) × K x × OnSide (vertex t i) (vertex t j) x
   met i j e = (e.1.0, e.1.2, side_of_segment (vertex t i) (vertex t j) e.1.0 e.1.1)
 

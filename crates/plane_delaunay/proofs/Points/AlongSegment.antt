@@ -290,9 +290,11 @@ module _ (p q u v : Fraction) (o : OverlapAlong p q u v) where
   ends_apart e = same_not_nearer u o.near o.far (same-trans o.near u o.far (only_point u v o.near e
       o.near_second) (same-sym o.far u (only_point u v o.far e o.far_second))) o.from_u
 
+  -- near, by its weights on the other segment
   t₁ : TwoWeights IsNotNegative u v o.near
   t₁ = two_weights IsNotNegative u v o.near o.near_second
 
+  -- far, by its weights there
   t₂ : TwoWeights IsNotNegative u v o.far
   t₂ = two_weights IsNotNegative u v o.far o.far_second
 
@@ -473,6 +475,7 @@ middle_weight rx ry rz xw yw zw =
     (λ rx ry rz xw yw zw. (rz ⊗ yw ⊖ ry ⊗ zw) ⊗ xw ⊕ (ry ⊗ xw ⊖ rx ⊗ yw) ⊗ zw) tt
 
 module _ (p q : Fraction) (apart : ¬ IsSame p q) where
+  -- x is on the line of p and q
   abbrev IsOn : Fraction → Type 0
   IsOn x = bracket (vec p) (vec q) (vec x) ≡ pos 0
 

@@ -65,6 +65,7 @@ spike_allowed (c ∷ cs) zero =
 spike_allowed (c ∷ cs) (suc i) =
     All-cons IsNotNegative (pos 0) (spike cs i) (record { le = tt }) (spike_allowed cs i)
 
+-- a number taken once is itself
 once : (x s : ℤ) → s ≡ x → pos 1 *ℤ x ≡ s
 once x s e = omega (arith, ints)
 

@@ -241,12 +241,15 @@ module _ (T : Tiling) (s t : ℕ) (hs : T.IsVertex s) (ht : T.IsVertex t)
 
   module _ (v x y z : ℕ) (c : Crosses T s t hs ht clear v y) (f : IsFace y v x) (g : IsFace v y z)
       (last_v : IsLastRight v) (last_y : IsLastLeft v y) where
+    -- the face y v x turns left
     yvx : pos 0 <ℤ bracket (at y) (at v) (at x)
     yvx = T.turns y v x f
 
+    -- the face v y z turns left
     vyz : pos 0 <ℤ bracket (at v) (at y) (at z)
     vyz = T.turns v y z g
 
+    -- v y x turns right
     vyx : bracket (at v) (at y) (at x) <ℤ pos 0
     vyx = swapped_below (at y) (at v) (at x) yvx
 
@@ -256,6 +259,7 @@ module _ (T : Tiling) (s t : ℕ) (hs : T.IsVertex s) (ht : T.IsVertex t)
         (at x).w (bracket (at x) (at p) (at t)) (at s).w (bracket (at x) (at p) (at s)) (at t).w
         (meeting-w (at s) (at t) (at p) (at x)) n (T.whole p) (T.whole x) (T.whole s)
 
+    -- what lies before the crossing edge, seen from t, at the face of y, v and x
     back : Before T t s ht hs (clear_back) y v x
     back = before_crossing T t s ht hs clear_back y v x (to_back v y c) f
 

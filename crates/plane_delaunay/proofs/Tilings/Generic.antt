@@ -59,6 +59,7 @@ data Found (ls : List (Fraction × Fraction)) (a b c u v : Fraction) : Type 0 wh
   nowhere : (q : Fraction) → Inside a b c q → AllLeft ls q
       → ((s : Fraction) → bracket u v s ≡ pos 0) → Found ls a b c u v
 
+-- inside a b c, left of the lines and off the line of u and v is a point, if any is off this line
 find : (ls : List (Fraction × Fraction)) (a b c u v q : Fraction) → pos 0 <ℤ bracket a b c
     → Inside a b c q → AllLeft ls q → Found ls a b c u v
 find ls a b c u v q t inside left = go (sign (bracket u v q))

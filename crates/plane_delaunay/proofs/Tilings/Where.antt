@@ -75,6 +75,7 @@ module _ (T : Tiling) where
   Finds p m = (a b c : ℕ) (x : Fraction) → IsFace a b c → Inside (at a) (at b) (at c) x
       → Generic p x → separation T x p < m → IsCovered p ⊎ IsBeyond p
 
+  -- on the way out through the side a b: p is found from the face across, or is beyond the side
   pass : (p : Fraction) (m : ℕ) → Finds p m → (a b c : ℕ) (x : Fraction) → IsFace a b c
       → Inside (at a) (at b) (at c) x → Generic p x → separation T x p < suc m
       → Leaves x p (at a) (at b) (at c) → IsCovered p ⊎ IsBeyond p
@@ -104,6 +105,7 @@ module _ (T : Tiling) where
                   finds b a g.0 r.0 g.1 r.2 (λ i j h. off-on_way p (at i) x r.0 r.1 (generic i j h))
                   (less_again (separation T r.0 p) (separation T x p) m r.3 less)
 
+  -- p is found from a point inside a face, where fewer than m sides separate them
   find : (p : Fraction) (m : ℕ) → Finds p m
   find p zero a b c x f inside generic less = absurd (omega arith)
   find p (suc m) a b c x f inside generic less =

@@ -178,6 +178,7 @@ not_own_start a b c turns w =
 
 module _ (n : ℕ) (p : ℕ → Point) (faces : List Face) (outer : List (ℕ × ℕ))
     (m : SignMesh n p faces outer) where
+  -- the way from u to v has the point of index n on its left
   abbrev Sees : ℕ → ℕ → Type 0
   Sees u v = pos 0 <ℤ bracket (at p u) (at p v) (at p n)
 

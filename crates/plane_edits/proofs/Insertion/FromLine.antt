@@ -126,12 +126,15 @@ module _ (n : ℕ) (p : ℕ → Point) (outer now : List (ℕ × ℕ)) (new : Li
   apart : ¬ (p u ≡ p v)
   apart = m.distinct u v first.first first.second first.apart
 
+  -- each vertex is on the line of u and v
   on : LieOnLine n p (p u) (p v)
   on k h = m.straight u v k first.first first.second h
 
+  -- how far along the line from u to v a vertex lies
   abbrev spot : ℕ → ℤ
   spot k = place_on (p u) (p v) (at p k)
 
+  -- v has a place above 0 on it, seen from u
   long : pos 0 <ℤ place_on (p u) (p v) (at p v)
   long = place_of_end (p u) (p v) apart
 
@@ -404,6 +407,7 @@ module _ (n : ℕ) (p : ℕ → Point) (outer now : List (ℕ × ℕ)) (new : Li
       at_first : Contains (fan n u (v ∷ vs)) (face u v n)
       at_first = Contains-head (face u v n) (fan n v vs)
 
+      -- each vertex, the new one too, is a corner of a face
       used : AreUsedUpTo n new
       used k (inr e) = subst (IsUsed new) (sym e) (fan_used n (u, v, inr (inl at_first)))
       used k (inl h) = elim (stands u (v ∷ vs) first.first run k h (from_start k h) (to_end k h)) [
@@ -411,10 +415,12 @@ module _ (n : ℕ) (p : ℕ → Point) (outer now : List (ℕ × ℕ)) (new : Li
         | inr t ↦ fan_used k (n, t.0, inr (inr (fan_at u (v ∷ vs) t.0 k t.1)))
       ]
 
+      -- an old outer edge off the run, or one of the two between its ends and the new vertex
       abbrev From : ℕ × ℕ → Type 0
       From e = (Contains outer e × ¬ Contains (steps u (v ∷ vs)) e)
           ⊎ (((u, n) ≡ e) ⊎ ((n, last_of v vs) ≡ e))
 
+      -- each outer edge is one of these
       from : (e : ℕ × ℕ) → Contains now e → From e
       from e h = elim (outer_change.only e.0 e.1 h) [
         | inl o ↦ inl o
@@ -425,6 +431,7 @@ module _ (n : ℕ) (p : ℕ → Point) (outer now : List (ℕ × ℕ)) (new : Li
         ])
       ]
 
+      -- its ends are two different vertices, old ones or the new one
       ends : (e : ℕ × ℕ) → From e → IsPairBelow (suc n) e
       ends e (inl h) = let c = (m.neighbours e.0 e.1).0 h.0 in
           (wider c.first, wider c.second, c.apart)
@@ -480,6 +487,7 @@ module _ (n : ℕ) (p : ℕ → Point) (outer now : List (ℕ × ℕ)) (new : Li
       last_bare k (inr e) w = not_own_start (p final.0) (p (last_of v vs)) (p n) final.2
           (subst (λ i. WithinSegment (whole (p n)) (whole (p (last_of v vs))) (whole (p i))) e w)
 
+      -- no vertex is strictly within it
       bare : (e : ℕ × ℕ) → From e → IsBareUpTo n p e
       bare e (inl h) k (inl l) w = ((m.neighbours e.0 e.1).0 h.0).none_between k l w
       bare e (inl h) k (inr l) w =

@@ -68,6 +68,7 @@ module _ (old new more : List Face) (gained again : List Face) (c : FacesChange 
     (d : FacesChange new more [] again) (all : List Face)
     (same : (f : Face → ℤ) → total f all ≡ total f gained +ℤ total f again)
     (of : (i j k : ℕ) → IsTurnOf all i j k → IsTurnOf gained i j k ⊎ IsTurnOf again i j k) where
+  -- what two additions after one another add is their sum
   sums : (m o n g a b : ℤ) → m +ℤ pos 0 ≡ n +ℤ a → n +ℤ pos 0 ≡ o +ℤ g → b ≡ g +ℤ a
       → m +ℤ pos 0 ≡ o +ℤ b
   sums m o n g a b e h k = omega (arith, ints)
@@ -104,9 +105,11 @@ module _ (points : List Point) (q : Point) where
   abbrev n : ℕ
   n = length points
 
+  -- the points, with the new one last
   abbrev p : ℕ → Point
   p = point_at (points ++ q ∷ [])
 
+  -- the way from u to v has the new vertex on its left
   abbrev Sees : ℕ → ℕ → Type 0
   Sees u v = TurnsLeft (place (points ++ q ∷ []) u) (place (points ++ q ∷ []) v)
       (place (points ++ q ∷ []) (length points))
@@ -163,6 +166,7 @@ module _ (points : List Point) (faces new : List Face) (outer now : List (ℕ ×
       go u v [] r = (g.ends u v r.0).1
       go u v (x ∷ vs) r = go v x vs r.2
 
+  -- an old vertex is not the new one
   not_n : (k : ℕ) → k < length points → k ≢ length points
   not_n k h e = omega arith
 
@@ -281,6 +285,7 @@ module _ (points : List Point) (faces new : List Face) (outer now : List (ℕ ×
           ]
         ])
 
+    -- the run goes on to x, with fewer outer edges
     on : IsExtending points q faces more outer less u x × (length less < length now)
     on = (
       record {
@@ -377,6 +382,7 @@ module _ (points : List Point) (faces new : List Face) (outer now : List (ℕ ×
           ]
         ])
 
+    -- the run goes back to t, with fewer outer edges
     back : IsExtending points q faces more outer less t w × (length less < length now)
     back = (
       record {
@@ -395,6 +401,7 @@ module _ (points : List Point) (faces new : List Face) (outer now : List (ℕ ×
   module _ (m : LocalMesh points faces outer) (t x : ℕ) (before : Contains now (t, u))
       (after : Contains now (w, x)) (blind_before : ¬ Sees points q t u)
       (blind_after : ¬ Sees points q w x) where
+    -- the old mesh is local, by signs, where the new point is listed too
     mesh : SignMesh (length points) (p points q) faces outer
     mesh = with_last points q faces outer m
 
@@ -428,6 +435,7 @@ module _ (points : List Point) (faces new : List Face) (outer now : List (ℕ ×
     sees_not i j h = bracket_not_left (place (points ++ q ∷ []) i) (place (points ++ q ∷ []) j)
         (place (points ++ q ∷ []) (length points)) h
 
+    -- the mesh with the new vertex is local
     done : LocalMesh (points ++ q ∷ []) new now
     done = from_last points q new now
         (extended (length points) (p points q) faces outer mesh t u g.second g.rest x before_outer

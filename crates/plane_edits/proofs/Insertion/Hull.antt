@@ -172,6 +172,7 @@ module _ (n : ℕ) (p : ℕ → Point) (faces : List Face) (outer : List (ℕ ×
 
   -- ---- q is a new point
   module _ (q : Point) where
+    -- the way from u to v has q on its left
     abbrev Sees : ℕ → ℕ → Type 0
     Sees u v = pos 0 <ℤ bracket (at p u) (at p v) (lift q)
 
@@ -330,6 +331,7 @@ module _ (n : ℕ) (p : ℕ → Point) (faces : List Face) (outer : List (ℕ ×
       index_other : (s < n) × (r < n) × (s ≢ r)
       index_other = m.ends (s, r) other
 
+      -- q, u and v turn left
       seen : pos 0 <ℤ bracket (lift q) (at p u) (at p v)
       seen = subst (λ z. pos 0 <ℤ z)
           (bracket-turn (at p u) (at p v) (lift q) ∙ bracket-turn (at p v) (lift q) (at p u)) sees

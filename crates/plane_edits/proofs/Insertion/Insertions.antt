@@ -242,21 +242,26 @@ module _ (n : ℕ) (p : ℕ → Point) (old new : List Face) (outer outer' : Lis
         (Contains-later (face d n a) (face b c n ∷ face c a n ∷ []) (face b c n)
         (Contains-head (face b c n) (face c a n ∷ [])))
 
+    -- a is a corner of one of the four faces
     at_a : IsUsed four a
     at_a = (d, n, inr (inl in_second))
 
+    -- and so is b
     at_b : IsUsed four b
     at_b = (c, n, inl in_third)
 
+    -- and c
     at_c : IsUsed four c
     at_c = (n, b, inr (inr in_third))
 
+    -- and d
     at_d : IsUsed four d
     at_d = (n, a, inl in_second)
 
     abbrev Turning : Face → Type 0
     Turning f = AreTurning (suc n) p f.a f.b f.c
 
+    -- each corner of f is a corner of one of the four faces
     abbrev Used : Face → Type 0
     Used f = all_used four f.a f.b f.c
 
@@ -332,6 +337,7 @@ module _ (n : ℕ) (p : ℕ → Point) (old new : List Face) (outer outer' : Lis
     abbrev halves : List (ℕ × ℕ)
     halves = (u, n) ∷ (n, v) ∷ []
 
+    -- the new vertex is strictly within the edge the other way too
     back : WithinSegment (whole (p v)) (whole (p u)) (whole (p n))
     back = within_turned (p u) (p v) (p n) within
 
@@ -418,6 +424,7 @@ module _ (n : ℕ) (p : ℕ → Point) (old new : List Face) (outer outer' : Lis
     abbrev Turning' : Face → Type 0
     Turning' f = AreTurning (suc n) p f.a f.b f.c
 
+    -- each corner of f is a corner of one of the two faces
     abbrev Used' : Face → Type 0
     Used' f = all_used two f.a f.b f.c
 

@@ -27,13 +27,16 @@ use Rattle.plane_edits.proofs.LocalMesh.Kept.{from_last}
 
 module _ (points : List Point) (new : List Face) (outer now : List (ℕ × ℕ)) (q : Point) (u w : ℕ)
     (m : LineMesh points outer) (g : IsExtending points q [] new outer now u w) where
+  -- the points, with the new one last
   abbrev p : ℕ → Point
   p = point_at (points ++ q ∷ [])
 
+  -- the old outer edges are those of a line, by signs, where the new point is listed too
   line : SignLine (length points) (point_at (points ++ q ∷ [])) outer
   line = same_line (length points) (point_at points) (point_at (points ++ q ∷ [])) outer
       (kept_point points q) (line_by_signs points outer m)
 
+  -- the edges that were joined are a run, by signs
   run : IsRun (length points) (point_at (points ++ q ∷ [])) outer u (g.second ∷ g.rest)
   run = run_signs points q outer u (g.second ∷ g.rest) g.run
 

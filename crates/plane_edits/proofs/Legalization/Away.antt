@@ -383,18 +383,22 @@ module _ (points : List Point) (faces new : List Face) (outer : List (ℕ × ℕ
   signs : SignMesh (length points) (point_at points) faces outer
   signs = by_signs points faces outer m
 
+  -- a b c turns left
   abc : pos 0 <ℤ bracket (at P' a) (at P' b) (at P' c)
   abc = C.turn_left_of (length points) (point_at points) faces outer signs a b c first
 
+  -- a c d turns left
   acd : pos 0 <ℤ bracket (at P' a) (at P' c) (at P' d)
   acd = C.turn_left_of (length points) (point_at points) faces outer signs a c d second
 
   excess : pos 0 <ℤ incircle (at P' a) (at P' b) (at P' c) (at P' d)
   excess = F.excess points faces new outer a b c d m first second change failing
 
+  -- a b d turns left, too
   abd : pos 0 <ℤ bracket (at P' a) (at P' b) (at P' d)
   abd = convex_at_first (P' a) (P' b) (P' c) (P' d) abc acd excess
 
+  -- and so does b c d
   bcd : pos 0 <ℤ bracket (at P' b) (at P' c) (at P' d)
   bcd = convex_at_third (P' a) (P' b) (P' c) (P' d) abc acd excess
 
@@ -434,6 +438,7 @@ module _ (points : List Point) (faces new : List Face) (outer : List (ℕ × ℕ
 
   -- and what was away stays away
   module _ (u v : ℕ) (h : IsAway points faces u v) where
+    -- at a point between u and v the face there carries less than their chord
     low : IsLow (point_at points) (middle points u v h.k h.l) (chord points u v h.k h.l) h.a h.b h.c
     low = low_of_away points u v faces h
         (C.turn_left_of (length points) (point_at points) faces outer signs h.a h.b h.c h.here)

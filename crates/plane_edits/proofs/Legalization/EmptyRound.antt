@@ -214,9 +214,11 @@ module _ (points : List Point) (faces new : List Face) (outer : List (ℕ × ℕ
   opposite : (b ≡ v) ⊎ (d ≡ v)
   opposite = failing_is_opposite points faces outer a b c d v m empty first second failing
 
+  -- a b c turns left
   abc : TurnsLeft (place points a) (place points b) (place points c)
   abc = turning_of points faces outer m a b c first
 
+  -- a c d turns left
   acd : TurnsLeft (place points a) (place points c) (place points d)
   acd = turning_of points faces outer m a c d second
 

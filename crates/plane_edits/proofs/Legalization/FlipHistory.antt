@@ -59,6 +59,7 @@ module _ (faces new : List Face) (a b c d : ℕ) (change :
   second_made = change.come b c d (inl
       (Contains-later (face a b d) (face b c d ∷ []) (face b c d) (Contains-head (face b c d) [])))
 
+  -- a face stays, or is one of the two that the flip takes
   kept : (i j k : ℕ) → IsFaceOf faces i j k
       → IsFaceOf new i j k ⊎ IsFaceOf (face a b c ∷ face a c d ∷ []) i j k
   kept = face_kept faces new (face a b c ∷ face a c d ∷ []) (face a b d ∷ face b c d ∷ []) change

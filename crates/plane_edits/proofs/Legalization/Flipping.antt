@@ -113,6 +113,7 @@ abbrev areaᵖ : Pointᵖ → Pointᵖ → Pointᵖ → Poly
 areaᵖ q u v = (((u.x ⊖ q.x) ⊗ (v.y ⊖ q.y)) ⊖ ((u.y ⊖ q.y) ⊗ (v.x ⊖ q.x)))
     ⊗ (squaredᵖ q ⊕ squaredᵖ u ⊕ squaredᵖ v)
 
+-- the bracket of three points times the sum of their squared lengths
 area : Point → Point → Point → ℤ
 area q u v = turn_at q u v *ℤ (squared_length q +ℤ squared_length u +ℤ squared_length v)
 
@@ -231,9 +232,11 @@ module _ (points : List Point) (faces new : List Face) (outer : List (ℕ × ℕ
   signs : SignMesh (length points) (point_at points) faces outer
   signs = by_signs points faces outer m
 
+  -- a b c turns left
   abc : TurnsLeft (place points a) (place points b) (place points c)
   abc = turning_of points faces outer m a b c first
 
+  -- a c d turns left
   acd : TurnsLeft (place points a) (place points c) (place points d)
   acd = turning_of points faces outer m a c d second
 

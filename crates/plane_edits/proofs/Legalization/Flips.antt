@@ -75,21 +75,26 @@ module _ (n : ℕ) (p : ℕ → Point) (old new : List Face) (outer outer' : Lis
     in_second =
         Contains-later (face a b d) (face b c d ∷ []) (face b c d) (Contains-head (face b c d) [])
 
+    -- a is a corner of one of the new faces
     at_a : IsUsed made a
     at_a = (b, d, inl (Contains-head (face a b d) (face b c d ∷ [])))
 
+    -- and so is b
     at_b : IsUsed made b
     at_b = (c, d, inl in_second)
 
+    -- and c
     at_c : IsUsed made c
     at_c = (d, b, inr (inr in_second))
 
+    -- and d
     at_d : IsUsed made d
     at_d = (b, c, inr (inl in_second))
 
     abbrev AllUsed : ℕ → ℕ → ℕ → Type 0
     AllUsed i j k = IsUsed made i × IsUsed made j × IsUsed made k
 
+    -- each corner of f is a corner of one of the new faces
     abbrev Used : Face → Type 0
     Used f = AllUsed f.a f.b f.c
 

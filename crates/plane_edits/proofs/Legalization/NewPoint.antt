@@ -145,9 +145,11 @@ module _ (points : List Point) (q : Point) (old new : List Face) (outer now : Li
   abbrev v : ℕ
   v = length points
 
+  -- an old vertex is where it was
   kept : (k : ℕ) → k < v → place all k ≡ place points k
   kept k h = ap whole (sym (kept_point points q k h))
 
+  -- the new vertex is at q
   last : place all v ≡ whole q
   last = ap whole (last_point points q)
 
@@ -192,6 +194,7 @@ module _ (points : List Point) (q : Point) (old new : List Face) (outer now : Li
     left_of_old : j < v → k < v → TurnsLeft (place points j) (place points k) (place points n)
     left_of_old hj hk = subst AreLeft (λ o. (kept j hj o, kept k hk o, kept n h o)) left
 
+    -- the new mesh is local, as it has a face
     mesh : LocalMesh all new now
     mesh = local_of_face all new now after v j k f
 
@@ -204,6 +207,7 @@ module _ (points : List Point) (q : Point) (old new : List Face) (outer now : Li
         differ v l d = omega arith
 
     module _ (o : ℕ) (g : IsFaceOf old j k o) where
+      -- the old mesh was local, as it had one
       was : LocalMesh points old outer
       was = local_of_face points old outer m j k o g
 
@@ -217,6 +221,7 @@ module _ (points : List Point) (q : Point) (old new : List Face) (outer now : Li
       moved = subst AreLeft (λ i. (kept j corners.0 i, kept k corners.1 i, last i))
           (turning_of all new now mesh j k v (turned new v j k f))
 
+      -- old vertex n is inside the circle of j, k and q
       deep : InsideCircle (place points j) (place points k) (whole q) (place points n)
       deep = subst IsCircleOf (λ i. (kept j corners.0 i, kept k corners.1 i, last i, kept n h i))
           (circle_turned (place all v) (place all j) (place all k) (place all n) inside)

@@ -194,6 +194,7 @@ module _ {X : Type 0} where
     | inr o ↦ Contains-later z (remove xs k) y (stays xs k x y (omega arith) e o n)
   ]
 
+  -- a list has what it has without one place
   was : (xs : List X) (k : ℕ) (y : X) → k < length xs → Contains (remove xs k) y → Contains xs y
   was [] k y h c = absurd (omega arith)
   was (z ∷ xs) zero y h c = Contains-later z xs y c

@@ -78,6 +78,7 @@ module _ (points : List Point) (old new : List Face) (outer outer' : List (ℕ �
         → ¬ WithinSegment (whole (p e.0)) (whole (p e.1)) (whole (p k))
     same : KeepBalance gone made left come
 
+  -- where faces and outer edges at v give way to others, the mesh of all other vertices is local
   cut : (v : ℕ) (gone made : List Face) (left come : List (ℕ × ℕ)) → IsCut v gone made left come
       → LocalMeshWithout v points new outer'
   cut v gone made left come s = record {
@@ -261,6 +262,7 @@ module _ (points : List Point) (old new : List Face) (outer outer' : List (ℕ �
             → pos 0 +ℤ (c +ℤ s) ≡ ((b +ℤ c +ℤ d) +ℤ t) +ℤ (a +ℤ (e +ℤ pos 0))
         next s t a b c d e h k = omega (arith, ints)
 
+    -- each of the three besides v is an end of a way between neighbours
     abbrev Ends : ℕ → ℕ → ℕ → Type 0
     Ends i j l = (i ≢ v → IsEnd (chain nb k) i) × (j ≢ v → IsEnd (chain nb k) j)
         × (l ≢ v → IsEnd (chain nb k) l)
@@ -322,6 +324,7 @@ module _ (points : List Point) (old new : List Face) (outer outer' : List (ℕ �
     abbrev closing : List (ℕ × ℕ)
     closing = (nb 0, nb 2) ∷ []
 
+    -- the way from a neighbour to the next has v on its left
     seen : (i : ℕ) → i < 2 → pos 0 <ℤ bracket (at p (nb i)) (at p (nb (suc i))) (at p v)
     seen i h = subst (λ z. pos 0 <ℤ z) (bracket-turn (at p v) (at p (nb i)) (at p (nb (suc i))))
         (H.step n p old outer signs v 2 nb star i h)
@@ -393,9 +396,11 @@ module _ (points : List Point) (old new : List Face) (outer outer' : List (ℕ �
             (H.from_first n p old outer signs v 2 nb star z h) (weak second)
             (negated_below (bracket-swap (at p (nb 1)) (at p v) (at p z)) l))
 
+    -- v is none of the three
     abbrev Free : ℕ → ℕ → ℕ → Type 0
     Free i j l = (i ≢ v) × (j ≢ v) × (l ≢ v)
 
+    -- each of the three besides v is a corner of the one face
     abbrev Kept : ℕ → ℕ → ℕ → Type 0
     Kept i j l = (i ≢ v → IsUsed one_made i) × (j ≢ v → IsUsed one_made j)
         × (l ≢ v → IsUsed one_made l)

@@ -50,6 +50,7 @@ module _ (points : List Point) (old new : List Face) (outer outer' : List (ℕ �
   gone_all a b c h = elim (face_kept old new (strip v nb k) [] change a b c h)
       [ inl o ↦ absurd (no_turn a b c (subst (λ l. IsTurnOf l a b c) empty o)) | inr o ↦ o ]
 
+  -- no neighbour is v
   not_v : (i : ℕ) → i ≤ k → nb i ≢ v
   not_v = T.not_v points old new outer outer' m v k nb star
 
@@ -93,6 +94,7 @@ module _ (points : List Point) (old new : List Face) (outer outer' : List (ℕ �
   abbrev Way : ℕ → ℕ → Type 0
   Way a b = (j : ℕ) × (j < k) × (a ≡ nb j) × (b ≡ nb (suc j))
 
+  -- each side of a b c without v is a way between neighbours
   abbrev Ways : ℕ → ℕ → ℕ → Type 0
   Ways a b c = (a ≢ v → b ≢ v → Way a b) × (b ≢ v → c ≢ v → Way b c) × (c ≢ v → a ≢ v → Way c a)
 
@@ -114,10 +116,12 @@ module _ (points : List Point) (old new : List Face) (outer outer' : List (ℕ �
       by (j, l, e, f) =
           clash i j (same_at (suc i) j h (omega arith) e) (same_at i (suc j) (omega arith) l f)
 
+  -- the way back between two neighbours is an outer edge
   back : (i : ℕ) → i < k → Contains outer (nb (suc i), nb i)
   back i h = elim (C.behind_side n p old outer signs (nb i) (nb (suc i)) (T.side_there points old
       new outer outer' m v k nb star i h)) [ inl s ↦ absurd (no_face_behind i h s) | inr o ↦ o ]
 
+  -- v has a face
   some : 0 < k
   some = elim (cases_lt 0 k) [
     | inl l ↦ l

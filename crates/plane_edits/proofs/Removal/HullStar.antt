@@ -44,6 +44,7 @@ middle_left a b c e h k = omega (arith, ints)
 abbrev slope : (ℕ → ℤ) → (ℕ → ℤ) → ℕ → ℤ
 slope g l j = g j *ℤ l (suc j) -ℤ g (suc j) *ℤ l j
 
+-- a sum with a number that is not positive is at most the other number
 less : (a b c : ℤ) → a ≡ b +ℤ c → c ≤ℤ pos 0 → a ≤ℤ b
 less a b c e h = omega (arith, ints)
 
@@ -157,6 +158,7 @@ module _ (n : ℕ) (p : ℕ → Point) (faces : List Face) (outer : List (ℕ ×
   pub step : (i : ℕ) → i < k → pos 0 <ℤ turn i (suc i)
   step i h = C.turn_left_of n p faces outer m v (nb i) (nb (suc i)) (star.around i h)
 
+  -- the turns between four neighbours have Pluecker's relation
   four : O.AgreeInFours turn
   four a b c d = O.turns_of_four n p faces outer m v (nb a) (nb b) (nb c) (nb d)
 
@@ -291,6 +293,7 @@ module _ (n : ℕ) (p : ℕ → Point) (faces : List Face) (outer : List (ℕ ×
       abbrev beyond : ℕ → ℤ
       beyond j = bracket (at p (nb i)) (at p (nb (suc i))) (at p j)
 
+      -- the way from neighbour i to the next has v on its left
       sees : pos 0 <ℤ beyond v
       sees = subst (λ z. pos 0 <ℤ z) (bracket-turn (at p v) (at p (nb i)) (at p (nb (suc i))))
           (step i inside)

@@ -103,6 +103,7 @@ descend g low (suc t) h k =
 
 module _ (n : ℕ) (p : ℕ → Point) (faces : List Face) (outer : List (ℕ × ℕ))
     (m : SignMesh n p faces outer) (v : ℕ) where
+  -- the turn from the way to i to the way to j, seen from v
   abbrev turn : ℕ → ℕ → ℤ
   turn i j = bracket (at p v) (at p i) (at p j)
 
@@ -318,9 +319,11 @@ module _ (n : ℕ) (p : ℕ → Point) (faces : List Face) (outer : List (ℕ ×
   answer_there nb k s (inl (i, c)) = inl (i + s, flip_there nb s i c)
   answer_there nb k s (inr (i, f)) = inr (i + s, four_there nb k s i f)
 
+  -- seen from v, neighbour i + 2 is not on the left of neighbour i
   abbrev Bad : (ℕ → ℕ) → ℕ → Type 0
   Bad nb i = turn (nb i) (nb (suc (suc i))) ≤ℤ pos 0
 
+  -- it is on the left
   abbrev Good : (ℕ → ℕ) → ℕ → Type 0
   Good nb i = pos 0 <ℤ turn (nb i) (nb (suc (suc i)))
 

@@ -132,12 +132,14 @@ module _ (n : ℕ) (p : ℕ → Point) (old new : List Face) (outer outer' : Lis
             L.outer_is_no_side n p old outer m w v h
             (subst (λ o. HasSide old o v) i.2 (before_side i.0))
 
+  -- v is none of the three
   abbrev Free : ℕ → ℕ → ℕ → ℕ → Type 0
   Free v i j k = (i ≢ v) × (j ≢ v) × (k ≢ v)
 
   free_turned : (v i j k : ℕ) → Free v i j k → Free v j k i
   free_turned v i j k f = (f.1, f.2, f.0)
 
+  -- each of the three besides v is a corner of a face that is made
   abbrev Kept : List Face → ℕ → ℕ → ℕ → ℕ → Type 0
   Kept made v i j k = (i ≢ v → IsUsed made i) × (j ≢ v → IsUsed made j) × (k ≢ v → IsUsed made k)
 
@@ -175,6 +177,7 @@ module _ (n : ℕ) (p : ℕ → Point) (old new : List Face) (outer outer' : Lis
         sum : (s a b c : ℤ) → s ≡ a +ℤ b +ℤ c → pos 0 <ℤ a → pos 0 <ℤ b → pos 0 <ℤ c → pos 0 <ℤ s
         sum s a b c e h k l = omega (arith, ints)
 
+    -- no neighbour is v
     not_v : (i : ℕ) → nb i ≢ v
     not_v i e = (corners_differ p v (nb i) (nb (suc i))
         (C.turn_left_of n p old outer m v (nb i) (nb (suc i)) (star.around i))).0 (sym e)
@@ -262,6 +265,7 @@ module _ (n : ℕ) (p : ℕ → Point) (old new : List Face) (outer outer' : Lis
     fourth : IsTurnOf old v (nb 3) (nb 0)
     fourth = subst (λ o. IsTurnOf old v (nb 3) o) (star.again 0) (star.around 3)
 
+    -- v is on the line of neighbours 0 and 2
     flat : bracket (at p (nb 0)) (at p (nb 2)) (at p v) ≡ pos 0
     flat = E.within_on (p (nb 0)) (p (nb 2)) (whole (p v)) between
 

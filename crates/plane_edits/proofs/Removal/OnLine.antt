@@ -34,6 +34,7 @@ module _ (n : ℕ) (p : ℕ → Point) (outer : List (ℕ × ℕ)) (m : SignLine
   next_of : (a b : ℕ) → Contains outer (a, b) → Adjoin n p a b
   next_of a b h = (m.neighbours a b).0 h
 
+  -- v and i are neighbours on the line
   own : Adjoin n p v i
   own = next_of v i edge
 
@@ -95,6 +96,7 @@ module _ (n : ℕ) (p : ℕ → Point) (outer : List (ℕ × ℕ)) (m : SignLine
 
   -- ---- v is between i and j
   module _ (j : ℕ) (other : Contains outer (v, j)) (i_not_j : i ≢ j) where
+    -- v and j are neighbours on the line
     far : Adjoin n p v j
     far = next_of v j other
 
@@ -226,6 +228,7 @@ module _ (n : ℕ) (p : ℕ → Point) (outer : List (ℕ × ℕ)) (m : SignLine
             by (inr e) = subst (λ (o : ℕ × ℕ). IsNextBut v n p o.0 o.1)
                 (λ s. (sym e.0 s, sym e.1 s)) turned_joined
 
+        -- two with no vertex but v strictly between them are joined now
         back : (a b : ℕ) → IsNextBut v n p a b → Contains now (a, b)
         back a b s = elim (found a b s) [
           | inl h ↦ change.kept a b h

@@ -62,9 +62,11 @@ module _ (n : ℕ) (p : ℕ → Point) (faces : List Face) (outer : List (ℕ ×
   -- the faces v a b and v b c, with a corner at b that does not turn left seen from v
   module _ (a b c : ℕ) (first : IsTurnOf faces v a b) (second : IsTurnOf faces v b c)
       (bad : turn a c ≤ℤ pos 0) where
+    -- v a b turns left
     ab : pos 0 <ℤ turn a b
     ab = C.turn_left_of n p faces outer m v a b first
 
+    -- v b c turns left
     bc : pos 0 <ℤ turn b c
     bc = C.turn_left_of n p faces outer m v b c second
 
@@ -128,12 +130,15 @@ module _ (n : ℕ) (p : ℕ → Point) (faces : List Face) (outer : List (ℕ ×
         between_zero : (x y : ℤ) → x ≡ neg_ℤ y → x ≤ℤ pos 0 → y ≤ℤ pos 0 → x ≡ pos 0
         between_zero x y s i j = omega (arith, ints)
 
+    -- v a b turns left
     ab' : pos 0 <ℤ turn a b
     ab' = C.turn_left_of n p faces outer m v a b ab_face
 
+    -- v b c turns left
     bc' : pos 0 <ℤ turn b c
     bc' = C.turn_left_of n p faces outer m v b c bc_face
 
+    -- v d e turns left
     de' : pos 0 <ℤ turn d e
     de' = C.turn_left_of n p faces outer m v d e de_face
 

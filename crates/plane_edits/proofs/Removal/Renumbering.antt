@@ -138,6 +138,7 @@ module _ (v last : ℕ) where
     other j h = let o = old_below j v_index (subst (λ z. j < z) count_new h) in
         (subst (λ z. old_index j < z) (sym count) o.0, o.1)
 
+    -- the new index of a vertex besides v is one of the new points
     here : (k : ℕ) → IsOther points v k → IsIndex new (new_index v last k)
     here k o = subst (λ z. new_index v last k < z) (sym count_new)
         (new_below k v_index (subst (λ z. k < z) count o.0) o.1)
@@ -149,6 +150,7 @@ module _ (v last : ℕ) where
     at_old : (j : ℕ) → IsIndex new j → place new j ≡ place points (old_index j)
     at_old j h = same j (subst (λ z. j < z) count_new h)
 
+    -- the new index of the old index of j is j
     back : (j : ℕ) → IsIndex new j → new_index v last (old_index j) ≡ j
     back j h = new_of_old j (subst (λ z. j < z) count_new h)
 
@@ -166,6 +168,7 @@ module _ (v last : ℕ) where
         Contains-none (renumbered v last f) (subst (λ l. Contains l (renumbered v last f)) e
         (Contains-head (renumbered v last f) (map (renumbered v last) fs)))
 
+    -- each index is a corner of a renumbered face or an end of a renumbered outer edge
     used : (j : ℕ) → IsIndex new j
         → ((f : Face) × Contains (map (renumbered v last) faces) f × IsCorner f j)
         ⊎ ((e : ℕ × ℕ) × Contains (map (renumbered_pair v last) outer) e × ((j ≡ e.0) ⊎ (j ≡ e.1)))

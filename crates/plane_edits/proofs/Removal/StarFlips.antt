@@ -62,18 +62,23 @@ module _ (points : List Point) (faces new : List Face) (outer outer' : List (ℕ
     (m : LocalMesh points faces outer) (after : LocalMesh points new outer')
     (first : IsFaceOf faces v a b) (second : IsFaceOf faces v b c) (change :
     FacesChange faces new (face v a b ∷ face v b c ∷ []) (face v a c ∷ face a b c ∷ [])) where
+  -- v a c is a face now
   made : IsFaceOf new v a c
   made = change.come v a c (inl (Contains-head (face v a c) (face a b c ∷ [])))
 
+  -- v is not a
   v_a : v ≢ a
   v_a = (differ points faces outer m v a b first).0
 
+  -- nor b
   v_b : v ≢ b
   v_b = (differ points faces outer m v b c second).0
 
+  -- nor c
   v_c : v ≢ c
   v_c e = (differ points faces outer m v b c second).2 (sym e)
 
+  -- a is not b
   a_b : a ≢ b
   a_b = (differ points faces outer m v a b first).1
 

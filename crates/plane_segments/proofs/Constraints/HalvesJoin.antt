@@ -160,12 +160,14 @@ module _ {V : Type 0} where
 
   module _ (position : V → Point) (old new : Plain V) (v : ℕ)
       (r : TakesOut position old new v) where
+    -- the vertex that goes
     d : V
     d = some_of old.vertices v r.here
 
     count : length (points_of position old) ≡ length old.vertices
     count = length-map old.vertices position
 
+    -- v is the index of an old point
     here : v < length (points_of position old)
     here = subst (λ z. v < z) (sym count) r.here
 
@@ -218,6 +220,7 @@ module _ {V : Type 0} (position : V → Point) (old new : Plain V) (faces : List
   abbrev b' : ℕ
   b' = new_index v (length old.vertices - 1) b
 
+  -- v is at most the last index
   fit : v < suc (length old.vertices - 1)
   fit = at_most_last v (length old.vertices) r.here
 
@@ -230,27 +233,34 @@ module _ {V : Type 0} (position : V → Point) (old new : Plain V) (faces : List
   of_points : (k : ℕ) → k < length old.vertices → IsIndex (points_of position old) k
   of_points k h = subst (λ z. k < z) (sym (count position old new v r)) h
 
+  -- a is the index of an old point
   ha : IsIndex (points_of position old) a
   ha = of_points a (plain.pairs a v first).0
 
+  -- and so is b
   hb : IsIndex (points_of position old) b
   hb = of_points b (plain.pairs v b second).1
 
+  -- and v
   hv : IsIndex (points_of position old) v
   hv = of_points v r.here
 
+  -- a is not v
   av : a ≢ v
   av = (plain.pairs a v first).2
 
+  -- nor is b
   bv : b ≢ v
   bv e = (plain.pairs v b second).2 (sym e)
 
+  -- a and b differ
   ab : a ≢ b
   ab e = apart v b hv hb (λ s. bv (sym s))
       (ap whole (one_point (point_of P v) (point_of P b) (only_point (place P b) (place P b)
       (place P v) (same-refl (place P b)) (on_of_within (place P b) (place P b) (place P v)
       (subst (λ z. WithinSegment (place P z) (place P b) (place P v)) e within)))))
 
+  -- between the far ends: no vertex but v, no edge from one to the other, no crossing edge off v
   none : ((k : ℕ) → IsIndex (points_of position old) k → k ≢ v
       → ¬ WithinSegment (place P a) (place P b) (place P k)) × (¬ Joins edges a b) × ((c d : ℕ)
       → Joins edges c d → c ≢ v → d ≢ v → ¬ Cross (place P a) (place P b) (place P c) (place P d))
@@ -268,6 +278,7 @@ module _ {V : Type 0} (position : V → Point) (old new : Plain V) (faces : List
   not_yet h = none.1 (kept a b (subst₂ (Joins old.constraints) (old_of_new v last a av)
       (old_of_new v last b bv) (pair_then position old new v r a' b' h).2))
 
+  -- no constraint that is left crosses their segment
   free : CanAdd position new a' b'
   free c d h x =
       let j = pair_then position old new v r c d h in

@@ -92,6 +92,7 @@ compare a b = elim (trichotomy_ℤ (a -ℤ b)) [
 ]
 
 module _ (u v : Point) (apart : ¬ (u ≡ v)) where
+  -- how far along the line from u to v a point lies
   abbrev F : Point → ℤ
   F z = place_on u v (lift z)
 
@@ -155,6 +156,7 @@ module _ (points : List Point) (distinct : ArePlacedApart points) (i j : ℕ) (h
   apart : ¬ (p i ≡ p j)
   apart e = distinct i j hi hj i_not_j (ap whole e)
 
+  -- how far along the line from i to j a vertex lies
   abbrev f : ℕ → ℤ
   f k = place_on (point_of points i) (point_of points j) (lift (point_of points k))
 
@@ -162,9 +164,11 @@ module _ (points : List Point) (distinct : ArePlacedApart points) (i j : ℕ) (h
   OnLine k = bracket (lift (point_of points i)) (lift (point_of points j))
       (lift (point_of points k)) ≡ pos 0
 
+  -- i is on the line of i and j
   on_i : OnLine i
   on_i = bracket-outer (lift (p i)) (lift (p j))
 
+  -- and so is j
   on_j : OnLine j
   on_j = bracket-last (lift (p i)) (lift (p j))
 
@@ -329,6 +333,7 @@ module _ (points : List Point) (distinct : ArePlacedApart points) (i j : ℕ) (h
           none_between = n.none_between;
         })
 
+    -- the first piece is one of the path, and so is each piece of the rest
     back : (a b : ℕ) → IsSamePair a b i w ⊎ AreNextOn points w j a b → AreNextOn points i j a b
     back a b (inl (inl s)) = subst₂ (λ c d. AreNextOn points i j c d) (sym s.0) (sym s.1) W
     back a b (inl (inr s)) =

@@ -20,6 +20,7 @@ module _ (t : Triangulation) (old : List (ℕ × ℕ)) (n : ℕ) (q : Point) (me
   abbrev Carry : ℕ → ℕ → Type 0
   Carry a b = WithinSegment (vertex t a) (vertex t b) (whole q)
 
+  -- a and b are a half of a pair that carries the new vertex
   abbrev Half : ℕ → ℕ → Type 0
   Half a b = IsHalfOf t.points old n q a b
 
@@ -63,6 +64,7 @@ module _ (t : Triangulation) (old : List (ℕ × ℕ)) (n : ℕ) (q : Point) (me
     half_is a b (m, (c, f, k)) =
         elim (one_pair i j a c e h f k) [ inl s ↦ inl (s.0, m) | inr s ↦ inr (s.0, m) ]
 
+    -- what carries nothing, or is a half, is a pair besides i and j, or a half of that one
     back : (a b : ℕ) → (Joins old a b × ¬ Carry a b) ⊎ (Half a b ⊎ Half b a)
         → (Joins old a b × ¬ IsSamePair a b i j) ⊎ (IsSamePair a b i n ⊎ IsSamePair a b n j)
     back a b (inl k) = inl (k.0, λ s. k.1 (carried a b s))

@@ -85,9 +85,11 @@ module _ (i j a b c d : Point) (ij : ¬ (i ≡ j)) (ab : ¬ IsSame (whole a) (wh
   parted : AreOpposite (bracket (lift c) (lift d) (lift a)) (bracket (lift c) (lift d) (lift b))
   parted = ((cross_is (whole a) (whole b) (whole c) (whole d) ab cd).0 cross).1
 
+  -- a, by its weights on the whole segment
   of_a : TwoWeights IsNotNegative (whole i) (whole j) (whole a)
   of_a = two_weights IsNotNegative (whole i) (whole j) (whole a) on_a
 
+  -- b, by its weights there
   of_b : TwoWeights IsNotNegative (whole i) (whole j) (whole b)
   of_b = two_weights IsNotNegative (whole i) (whole j) (whole b) on_b
 

@@ -148,6 +148,7 @@ module _ (t : Triangulation) (h : TilesHull t) (i j : ℕ) where
   abbrev n : ℕ
   n = length t.points
 
+  -- the ends of a crossing edge are vertices
   ends : (v y : ℕ) → IsCrossing t i j v y → (v < n) × (y < n)
   ends v y c = go ((h.sides v y).0 c.edge)
     where

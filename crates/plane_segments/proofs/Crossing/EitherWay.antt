@@ -37,12 +37,15 @@ module _ (t : Triangulation) (i j v y : ℕ) where
   abbrev p : ℕ → Point
   p = point_of t.points
 
+  -- equal differences have one sign: not above 0 as c - d and below 0 as a - b
   low : (a b c d : ℤ) → a -ℤ b ≡ c -ℤ d → pos 0 <ℤ c → d <ℤ pos 0 → a <ℤ pos 0 → pos 0 <ℤ b → ⊥
   low a b c d e h k l m = omega (arith, ints)
 
+  -- nor the other way round
   high : (a b c d : ℤ) → a -ℤ b ≡ c -ℤ d → c <ℤ pos 0 → pos 0 <ℤ d → pos 0 <ℤ a → b <ℤ pos 0 → ⊥
   high a b c d e h k l m = omega (arith, ints)
 
+  -- where each has the other's ends on its two sides, one of the edge's two ways crosses
   ways : IsEdge t v y → Parts (vertex t i) (vertex t j) (vertex t v) (vertex t y)
       → Parts (vertex t v) (vertex t y) (vertex t i) (vertex t j)
       → IsCrossing t i j v y ⊎ IsCrossing t i j y v
@@ -64,6 +67,7 @@ module _ (t : Triangulation) (i j v y : ℕ) where
       (right_turn (p i) (p j) (p y) a.1) (left_turn (p i) (p j) (p v) a.0)
       (left_turn (p v) (p y) (p i) b.0) (right_turn (p v) (p y) (p j) b.1))
 
+  -- and where one of them crosses, each has the other's ends on its two sides
   back : IsCrossing t i j v y ⊎ IsCrossing t i j y v
       → Parts (vertex t i) (vertex t j) (vertex t v) (vertex t y)
       × Parts (vertex t v) (vertex t y) (vertex t i) (vertex t j)

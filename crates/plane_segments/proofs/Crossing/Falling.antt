@@ -270,6 +270,7 @@ ray_x : (i j v z : Point)
 ray_x i j v z = ring_over points_shape [] (i ∷ j ∷ v ∷ z ∷ []) (λ i j v z. turnᵖ i j z ⊗ (v.x ⊖ i.x)
     ⊖ turnᵖ i j v ⊗ (z.x ⊖ i.x)) (λ i j v z. turnᵖ i v z ⊗ (j.x ⊖ i.x)) tt
 
+-- the ways from i to v and to z, weighted by turns, differ by a multiple of that to j, in y
 ray_y : (i j v z : Point)
     → turn_at i j z *ℤ (v.y -ℤ i.y) -ℤ turn_at i j v *ℤ (z.y -ℤ i.y) ≡ turn_at i v z *ℤ (j.y -ℤ i.y)
 ray_y i j v z = ring_over points_shape [] (i ∷ j ∷ v ∷ z ∷ []) (λ i j v z. turnᵖ i j z ⊗ (v.y ⊖ i.y)

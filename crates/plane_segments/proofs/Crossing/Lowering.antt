@@ -40,9 +40,11 @@ module _ (t : Triangulation) (new : List Face) (i j v x y z : ℕ) (h : TilesHul
   abbrev p : ℕ → Point
   p = point_of t.points
 
+  -- what an edge counts: the rank of its right end where it crosses from right to left
   abbrev w : ℕ → ℕ → ℤ
   w = crossing_rank t.points i j
 
+  -- the rank of a right end
   abbrev rank : ℕ → ℕ
   rank k = rank_below t.points (point_of t.points i) (point_of t.points j) (point_of t.points k)
       (length t.points)
@@ -58,6 +60,7 @@ module _ (t : Triangulation) (new : List Face) (i j v x y z : ℕ) (h : TilesHul
   v_right : turn_at (p i) (p j) (p v) <ℤ pos 0
   v_right = right_turn (p i) (p j) (p v) c.from_right
 
+  -- the crossing edge counts with the rank of its right end
   own : w v y ≡ pos (rank v)
   own = ap (λ b. ranked b (rank v))
       (and_true (is_right (p i) (p j) (p v)) (int_lt (pos 0) (turn_at (p i) (p j) (p y)) &&

@@ -89,10 +89,12 @@ other_above n k l x a b e z hk hl hb =
         let y = zero-mul_ℤ n z in omega (arith, ints)
 
 module _ (p q : Fraction) (apart : ¬ IsSame p q) where
+  -- p is on the line of p and q
   on_p : bracket p q p ≡ pos 0
   unfolding bracket
   on_p = ((on_segment_is p q p apart).0 (start_on_segment p q)).0
 
+  -- and so is q
   on_q : bracket p q q ≡ pos 0
   unfolding bracket
   on_q = ((on_segment_is p q q apart).0 (end_on_segment p q)).0
@@ -163,6 +165,7 @@ module _ (t : Triangulation) (c₀ : Meeting t) (p q : Fraction) (apart : ¬ IsS
     abbrev B : Fraction
     B = vertex t b
 
+    -- p is strictly between the ends, for each linear form
     m : Between A B p
     m = between_of A B p here
 
@@ -195,11 +198,13 @@ module _ (t : Triangulation) (c₀ : Meeting t) (p q : Fraction) (apart : ¬ IsS
             first_only m.n m.k m.l (bracket B q p) (bracket B q A) (bracket B q B) (m.along B q)
             (bracket-first B q)
 
+    -- where q is on the edge's line, a is on the segment's
     on_a : bracket A B q ≡ pos 0 → bracket p q A ≡ pos 0
     on_a z = sym (bracket-turned p q A)
         ∙ none_by m.n (bracket q A p) m.l (bracket q A B) by_first m.n_above
         (sym (bracket-turned q A B) ∙ z)
 
+    -- and so is b
     on_b : bracket A B q ≡ pos 0 → bracket p q B ≡ pos 0
     on_b z = sym (bracket-turned p q B)
         ∙ none_by m.n (bracket q B p) m.k (bracket q B A) by_second m.n_above
@@ -208,6 +213,7 @@ module _ (t : Triangulation) (c₀ : Meeting t) (p q : Fraction) (apart : ¬ IsS
     not_at_last : ¬ IsSame p B
     not_at_last s = c₀.none_within a b b e (c₀.ends a b e).1 (within_segment-same A B p B s here)
 
+    -- p, by its weights on the edge
     w : TwoWeights IsPositive A B p
     w = two_weights IsPositive A B p here
 

@@ -96,6 +96,7 @@ module _ (t : Triangulation) (h : JoinsLine t) (c₀ : Meeting t) (p q : Fractio
     abbrev V : Fraction
     V = vertex t v
 
+    -- v is on the segment's line
     on_v : bracket p q V ≡ pos 0
     unfolding bracket
     on_v = ((on_segment_is p q V apart).0 m.1).0

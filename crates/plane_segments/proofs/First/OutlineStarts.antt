@@ -122,6 +122,7 @@ module _ (t : Triangulation) (h : TilesHull t) (p q : Fraction) (apart : ¬ IsSa
   there : OnSegment p q V
   there = first.met.1
 
+  -- the vertex, by its weights on the segment
   w : TwoWeights IsNotNegative p q V
   w = two_weights IsNotNegative p q V there
 
@@ -190,6 +191,7 @@ module _ (t : Triangulation) (h : TilesHull t) (p q : Fraction) (apart : ¬ IsSa
     turning : pos 0 <ℤ bracket V C B
     turning = above_if_left V C B (h.turning v c b f)
 
+    -- the vertex is on the left of the way from c to b
     high : pos 0 <ℤ bracket C B V
     high = subst (λ z. pos 0 <ℤ z) (sym (bracket-turned V C B)) turning
 
@@ -212,6 +214,7 @@ module _ (t : Triangulation) (h : TilesHull t) (p q : Fraction) (apart : ¬ IsSa
     third_least = nonneg_of_mul-nonneg_ℤ {k = w.n} w.positive (subst (λ z. pos 0 ≤ℤ z)
         (sym beside_b) (mul-nonneg_ℤ w.l_allowed (negation_not_negative (bracket p q B) right)))
 
+    -- and the start on its right
     low : bracket C B p <ℤ pos 0
     low = go (lt_or_ge_ℤ (bracket C B p) (pos 0))
       where
@@ -220,6 +223,7 @@ module _ (t : Triangulation) (h : TilesHull t) (p q : Fraction) (apart : ¬ IsSa
         go (inr l) = absurd (out v c b f (triangle_of_closed V C B p (h.turning v c b f)
             (record { first = first_least; second = l; third = third_least })))
 
+    -- c and b are joined
     edge : IsEdge t c b
     edge = (h.sides c b).1 (inl (v, turned_face t v c b f))
 
@@ -239,6 +243,7 @@ module _ (t : Triangulation) (h : TilesHull t) (p q : Fraction) (apart : ¬ IsSa
         (meeting C B p q x y ∙ ap (λ s. bracket q p B *ℤ bracket x y C -ℤ s *ℤ bracket x y B)
         (bracket-swapped p q C)) (opposite_of_zero_of (bracket-swapped p q B) level))
 
+    -- not both c and b are on the segment's line
     flat : bracket p q C ≡ pos 0 → bracket p q B ≡ pos 0 → ⊥
     flat d e = no_sum (bracket V C B) p.w (bracket C B p) V.w (bracket B V p) C.w (bracket V C p) B.w
         (cramer-w V C B p) turning p.positive low V.positive
@@ -413,9 +418,11 @@ module _ (t : Triangulation) (h : TilesHull t) (p q : Fraction) (apart : ¬ IsSa
 module _ (t : Triangulation) (h : TilesHull t) (p q : Fraction) (apart : ¬ IsSame p q) (i j : ℕ)
     (outer : IsOuter t i j) (turns : TurnsLeft (vertex t i) (vertex t j) p)
     (none : (a b : ℕ) → IsOuter t a b → ¬ Meets t p q (L.across b a)) where
+  -- no closed face has the start
   out : (l m n : ℕ) → IsFace t l m n → ¬ InCorners t l m n p
   out l m n f inside = face_not_left_of_outer t h i j l m n p outer f inside turns
 
+  -- what comes first is a vertex
   only : (m : Item) → IsFirst t p q m → (v : ℕ) × (m ≡ L.at_vertex v)
   only = only_vertex t h p q apart out none
 

@@ -202,6 +202,7 @@ module _ (t : Triangulation) (h : TilesHull t) (p q : Fraction) (apart : ¬ IsSa
     turning : pos 0 <ℤ bracket J I K
     turning = above_if_left J I K (h.turning j i k f)
 
+    -- weighted as p is by the corners, their brackets with the segment add up to 0
     sum : bracket I K p *ℤ bracket p q J +ℤ bracket K J p *ℤ bracket p q I +ℤ bracket J I p
         *ℤ bracket p q K ≡ pos 0
     sum = sym (cramer J I K p p q) ∙ zero-mul_ℤ (bracket J I K) (bracket-first p q)

@@ -81,9 +81,11 @@ overlaps_is p q u v apart o = record {
         above_weak rf wv rv wf k (positive_above rn wf rf wn h hn pn pf) pf pv
 
 module _ (p q u v : Fraction) (apart : ¬ IsSame p q) (o : Overlaps p q u v) where
+  -- p is on the line of p and q
   on_p : bracket (vec p) (vec q) (vec p) ≡ pos 0
   on_p = ((on_segment_is p q p apart).0 (start_on_segment p q)).0
 
+  -- and so is q
   on_q : bracket (vec p) (vec q) (vec q) ≡ pos 0
   on_q = ((on_segment_is p q q apart).0 (end_on_segment p q)).0
 
@@ -95,6 +97,7 @@ module _ (p q u v : Fraction) (apart : ¬ IsSame p q) (o : Overlaps p q u v) whe
     before_q : (reach p q at *ℤ q.w) <ℤ (reach p q q *ℤ at.w)
     before_v : (reach p q at *ℤ v.w) <ℤ (reach p q v *ℤ at.w)
 
+  -- both segments have begun at p or at u
   near : Near
   near = go (lt_or_ge_ℤ (reach p q u) (pos 0))
     where
@@ -133,6 +136,7 @@ module _ (p q u v : Fraction) (apart : ¬ IsSame p q) (o : Overlaps p q u v) whe
     second : OnSegment u v at
     after : (n : Near) → (reach p q n.at *ℤ at.w) <ℤ (reach p q at *ℤ n.at.w)
 
+  -- one of them ends at q or at v
   far : Far
   far = go (lt_or_ge_ℤ (reach p q q *ℤ v.w) (reach p q v *ℤ q.w))
     where

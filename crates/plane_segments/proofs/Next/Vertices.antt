@@ -38,6 +38,7 @@ module _ (t : Triangulation) (p q : Fraction) (apart : ¬ IsSame p q) (v : ℕ)
   abbrev pub V : Fraction
   V = vertex t v
 
+  -- the item begins at the vertex's point
   at_v : BeginsAt t p q (L.at_vertex v) V
   at_v = record { shared = m.1; of_item = same-refl V; first = λ r _ e. same_not_nearer p r V e }
 

@@ -315,6 +315,7 @@ module _ (t : Triangulation) (c₀ : Meeting t) (p q : Fraction) (apart : ¬ IsS
       inl (inr (ap (λ (s : ℕ × ℕ). s.1) (sym r), ap (λ (s : ℕ × ℕ). s.0) (sym r)))
   first_or_later e es (L.along i j) (inr (inr m)) = inr (inr m)
 
+  -- the items of the listed edges and of the first n vertices are collected
   abbrev Rest : ℕ → List (ℕ × ℕ) → Type 0
   Rest n es = Collected (λ k. IsListed es k ⊎ IsBelow n k) (length es + n)
 
