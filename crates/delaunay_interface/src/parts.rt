@@ -3,8 +3,10 @@
 use crate::inner_faces::InnerFaceIterator;
 use crate::triangulation::Triangulation;
 use half_edge_mesh::{
-    DirectedEdgeIterator, DirectedVoronoiEdgeIterator, FaceIterator, HullIterator,
-    UndirectedEdgeIterator, UndirectedVoronoiEdgeIterator, VertexIterator, VoronoiFaceIterator,
+    DirectedEdgeIterator, FaceIterator, HullIterator, UndirectedEdgeIterator, VertexIterator,
+};
+use half_edge_voronoi::{
+    DirectedVoronoiEdgeIterator, UndirectedVoronoiEdgeIterator, VoronoiFaceIterator,
 };
 
 /// Its vertices, as they are inserted.

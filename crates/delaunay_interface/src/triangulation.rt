@@ -45,8 +45,8 @@ use half_edge_mesh::{
     Dcel, DirectedEdgeHandle, FaceHandle, FixedDirectedEdgeHandle, FixedDirectedEdgeIterator,
     FixedFaceHandle, FixedFaceIterator, FixedUndirectedEdgeHandle, FixedUndirectedEdgeIterator,
     FixedVertexHandle, FixedVertexIterator, MeshViews, UndirectedEdgeHandle, VertexHandle,
-    VoronoiViews,
 };
+use half_edge_voronoi::VoronoiViews;
 use std::alloc::{AllocError, Global};
 
 pub(crate) mod sealed {

@@ -26,4 +26,3 @@ pub use Rattle.half_edge_dcel.specs.Writing
 pub use Rattle.half_edge_views.specs.Left
 pub use Rattle.half_edge_views.specs.Rounds
 pub use Rattle.half_edge_views.specs.Walks
-pub use Rattle.half_edge_voronoi.specs.Voronoi

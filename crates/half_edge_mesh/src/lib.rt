@@ -14,8 +14,3 @@ pub use half_edge_views::{
     HullIterator, MeshViews, UndirectedEdgeHandle, UndirectedEdgeIterator, VertexHandle,
     VertexIterator,
 };
-pub use half_edge_voronoi::{
-    AsVoronoiEdge, AsVoronoiFace, AsVoronoiVertex, DirectedVoronoiEdge,
-    DirectedVoronoiEdgeIterator, UndirectedVoronoiEdge, UndirectedVoronoiEdgeIterator,
-    VoronoiCircularIterator, VoronoiFace, VoronoiFaceIterator, VoronoiVertex, VoronoiViews,
-};

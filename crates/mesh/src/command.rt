@@ -97,7 +97,7 @@ fn with_choices<'a>(command: Command<'a>, alloc: Global) -> Result<Command<'a>, 
 
 /// The words that there are.
 pub fn command<'a>(alloc: Global) -> Result<Command<'a>, AllocError> {
-    let command = Command::new(alloc, "mesh").version("1.0").about(
+    let command = Command::new(alloc, "mesh").version("0.1.0").about(
         "Reads points and segments, and writes their constrained Delaunay triangulation.",
     );
     with_choices(with_files(command, alloc)?, alloc)

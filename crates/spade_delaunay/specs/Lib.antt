@@ -19,7 +19,7 @@ pub use Rattle.half_edge_mesh.specs.Mesh
 pub use Rattle.half_edge_mesh.specs.Room
 pub use Rattle.half_edge_mesh.specs.Rounds
 pub use Rattle.half_edge_mesh.specs.Triangles
-pub use Rattle.half_edge_mesh.specs.Voronoi
+pub use Rattle.half_edge_voronoi.specs.Voronoi
 pub use Rattle.delaunay_core.specs.Held
 pub use Rattle.delaunay_core.specs.Place
 pub use Rattle.delaunay_core.specs.Projection

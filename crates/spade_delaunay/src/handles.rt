@@ -14,8 +14,10 @@
 //! }
 //! ```
 pub use half_edge_mesh::{
-    AsVoronoiEdge, AsVoronoiFace, AsVoronoiVertex, DirectedEdgeHandle, DirectedVoronoiEdge,
-    FaceHandle, FixedDirectedEdgeHandle, FixedFaceHandle, FixedUndirectedEdgeHandle,
-    FixedVertexHandle, UndirectedEdgeHandle, UndirectedVoronoiEdge, VertexHandle, VoronoiFace,
-    VoronoiVertex,
+    DirectedEdgeHandle, FaceHandle, FixedDirectedEdgeHandle, FixedFaceHandle,
+    FixedUndirectedEdgeHandle, FixedVertexHandle, UndirectedEdgeHandle, VertexHandle,
+};
+pub use half_edge_voronoi::{
+    AsVoronoiEdge, AsVoronoiFace, AsVoronoiVertex, DirectedVoronoiEdge, UndirectedVoronoiEdge,
+    VoronoiFace, VoronoiVertex,
 };

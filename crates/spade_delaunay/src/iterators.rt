@@ -9,8 +9,11 @@
 //! ```
 pub use delaunay_interface::InnerFaceIterator;
 pub use half_edge_mesh::{
-    CircularIterator, DirectedEdgeIterator, DirectedVoronoiEdgeIterator, FaceIterator,
-    FixedDirectedEdgeIterator, FixedFaceIterator, FixedUndirectedEdgeIterator, FixedVertexIterator,
-    HullIterator, UndirectedEdgeIterator, UndirectedVoronoiEdgeIterator, VertexIterator,
-    VoronoiCircularIterator, VoronoiFaceIterator,
+    CircularIterator, DirectedEdgeIterator, FaceIterator, FixedDirectedEdgeIterator,
+    FixedFaceIterator, FixedUndirectedEdgeIterator, FixedVertexIterator, HullIterator,
+    UndirectedEdgeIterator, VertexIterator,
+};
+pub use half_edge_voronoi::{
+    DirectedVoronoiEdgeIterator, UndirectedVoronoiEdgeIterator, VoronoiCircularIterator,
+    VoronoiFaceIterator,
 };

@@ -1,7 +1,8 @@
 //! What rounds give from behind, and from both ends in turn.
 
 use crate::lookups::vertex;
-use half_edge_mesh::{AsVoronoiFace, Dcel, DirectedEdgeHandle, DirectedVoronoiEdge, MeshViews};
+use half_edge_mesh::{Dcel, DirectedEdgeHandle, MeshViews};
+use half_edge_voronoi::{AsVoronoiFace, DirectedVoronoiEdge};
 
 fn index<V, DE, UE, F>(edge: Option<DirectedEdgeHandle<'_, V, DE, UE, F>>) -> Option<u32> {
     edge.map(|edge| edge.index())

@@ -1,7 +1,7 @@
 -- The law of rounds: where stretches of a walk are exchanged between things that stay, those with
 -- one label still lie on one round.
 --   Walk, HasOneRound: a step among some numbers with labels; one round a label
---   stand, Way, IsHub: what numbers that left stand for; a way of the walk; a round by itself
+--   stand, Way, GoesAlone: what numbers that left stand for; a way of the walk; a round by itself
 --   Exchange, one_round: how a walk changes; the law
 --   renamed_walk, round_renamed: the same under other numbers
 use Rattle.std.proofs.Common.{◌≡◌, ◌≢◌, ◌⊎◌, [], ◌∷◌, ◌==◌, if◌then◌else◌, ◌∙◌}
@@ -78,9 +78,9 @@ IsStretch old new stands p = old.Live p.0 × (NoneOf replaced stands p.0
     × ((stand stands (old.step p.0) ≡ p.2) × Way new (old.label p.0) p.0 p.1 p.2))
 
 -- these go round by themselves, with a label of their own
-abbrev pub IsHub : Walk → Walk → List ℕ → Type 0
-IsHub old new [] = Unit {0}
-IsHub old new (s ∷ rest) = new.Live s
+abbrev pub GoesAlone : Walk → Walk → List ℕ → Type 0
+GoesAlone old new [] = Unit {0}
+GoesAlone old new (s ∷ rest) = new.Live s
     × (Way new (new.label s) s rest s × ((h : ℕ) → old.Live h → old.label h ≢ new.label s))
 
 abbrev joined : List ℕ → List ℕ → List ℕ
@@ -113,7 +113,7 @@ pub record Exchange (old new : Walk) (stands : List (ℕ × ℕ)) (stretches : L
       (new.step h ≡ stand stands (old.step h)))
   pub kept : (k : ℕ) → new.Live k → Off itself (within_all stretches) k (Off itself hub k
       (old.Live k × (NoneOf replaced stands k × (new.label k ≡ old.label k))))
-  pub alone : IsHub old new hub
+  pub alone : GoesAlone old new hub
 
 module _ (old new : Walk) (among : ℕ → Bool) (closed : IsClosedUnder new among) where
   -- what the new walk comes to from a live thing of the set is in the set
@@ -136,7 +136,7 @@ module _ (old new : Walk) (among : ℕ → Bool) (closed : IsClosedUnder new amo
         (λ is. t.0 (step a x live way.0 is), t.1, t.2)
   ]
 
-  with_first : (s : ℕ) (rest : List ℕ) → IsHub old new (s ∷ rest) → (k : ℕ)
+  with_first : (s : ℕ) (rest : List ℕ) → GoesAlone old new (s ∷ rest) → (k : ℕ)
       → OneOf itself (s ∷ rest) k → (among s ≡ true → among k ≡ true)
       × (among k ≡ true → among s ≡ true) × (new.label k ≡ new.label s)
   with_first s rest alone k one = elim one [
@@ -144,13 +144,13 @@ module _ (old new : Walk) (among : ℕ → Bool) (closed : IsClosedUnder new amo
     | inr later ↦ through (new.label s) s rest s alone.0 alone.1.0 k later
   ]
 
-  hub_round : (hub : List ℕ) → IsHub old new hub → (h g : ℕ) → OneOf itself hub h
+  hub_round : (hub : List ℕ) → GoesAlone old new hub → (h g : ℕ) → OneOf itself hub h
       → OneOf itself hub g → among h ≡ true → among g ≡ true
   hub_round [] alone h g a b is = absurd a
   hub_round (s ∷ rest) alone h g a b is =
       (with_first s rest alone g b).0 ((with_first s rest alone h a).1 is)
 
-  hub_apart : (hub : List ℕ) → IsHub old new hub → (k : ℕ) → OneOf itself hub k → (h : ℕ)
+  hub_apart : (hub : List ℕ) → GoesAlone old new hub → (k : ℕ) → OneOf itself hub k → (h : ℕ)
       → old.Live h → new.label k ≢ old.label h
   hub_apart [] alone k one h live same = absurd one
   hub_apart (s ∷ rest) alone k one h live same =

@@ -267,7 +267,8 @@ IsOneListed a b c n = (n ≡ a) ⊎ ((n ≡ b) ⊎ (n ≡ c))
 one_of : (a b c n : ℕ) → IsOneListed a b c n ⊎ ((n ≢ a) × (n ≢ b) × (n ≢ c))
 one_of a b c n = go (ℕ_discrete n a) (ℕ_discrete n b) (ℕ_discrete n c)
   where
-    go : Dec (n ≡ a) → Dec (n ≡ b) → Dec (n ≡ c) → IsOneListed a b c n ⊎ ((n ≢ a) × (n ≢ b) × (n ≢ c))
+    go : Dec (n ≡ a) → Dec (n ≡ b) → Dec (n ≡ c)
+        → IsOneListed a b c n ⊎ ((n ≢ a) × (n ≢ b) × (n ≢ c))
     go (yes e) q r = inl (inl e)
     go (no p) (yes e) r = inl (inr (inl e))
     go (no p) (no q) (yes e) = inl (inr (inr e))
@@ -315,8 +316,8 @@ module _ (at : ℕ → Fraction) where
   one_of_turned a b c n (inr (inl e)) = inl e
   one_of_turned a b c n (inr (inr e)) = inr (inl e)
 
-  same_corners : (a b c d e f : ℕ) → Left a b c → Left d e f → IsOneListed a b c d → IsOneListed a b c e
-      → IsOneListed a b c f → IsTurned a b c d e f
+  same_corners : (a b c d e f : ℕ) → Left a b c → Left d e f → IsOneListed a b c d
+      → IsOneListed a b c e → IsOneListed a b c f → IsTurned a b c d e f
   same_corners a b c d e f t s (inl p) q r = inl (from_first a b c d e f t s p q r)
   same_corners a b c d e f t s (inr (inl p)) q r = inr (inl (from_first b c a d e f
       (turned-above _ _ _ t) s p (one_of_turned a b c e q) (one_of_turned a b c f r)))

@@ -228,9 +228,9 @@ module _ (t : Triangulation) (h : TilesHull t) (p q : Fraction) (apart : ¬ IsSa
     edge = (h.sides c b).1 (inl (v, turned_face t v c b f))
 
     on_first : bracket p q C ≡ pos 0 → bracket p q B <ℤ pos 0 → OnSegment p q C
-    on_first level below = segment_from (bracket q p B) (bracket C B q) (neg_ℤ (bracket C B p)) p q C
-        (opposite_of_negative _ _ (bracket-swapped p q B) below) (end_left C B low high)
-        (negated_negative low)
+    on_first level below = segment_from (bracket q p B) (bracket C B q)
+        (neg_ℤ (bracket C B p)) p q C (opposite_of_negative _ _ (bracket-swapped p q B) below)
+        (end_left C B low high) (negated_negative low)
         (λ x y. first_part (bracket C B q) (bracket C B p) (bracket x y p) (bracket x y q)
         (bracket q p B) (bracket x y C) (bracket q p C) (bracket x y B) (meeting C B p q x y)
         (opposite_of_zero_of (bracket-swapped p q C) level))
@@ -245,8 +245,8 @@ module _ (t : Triangulation) (h : TilesHull t) (p q : Fraction) (apart : ¬ IsSa
 
     -- not both c and b are on the segment's line
     flat : bracket p q C ≡ pos 0 → bracket p q B ≡ pos 0 → ⊥
-    flat d e = no_sum (bracket V C B) p.w (bracket C B p) V.w (bracket B V p) C.w (bracket V C p) B.w
-        (cramer-w V C B p) turning p.positive low V.positive
+    flat d e = no_sum (bracket V C B) p.w (bracket C B p) V.w (bracket B V p) C.w
+        (bracket V C p) B.w (cramer-w V C B p) turning p.positive low V.positive
         (zero_of_mul-zero_ℤ (pos-ne-zero_ℤ w.positive) (beside_b ∙ zero-mul_ℤ w.l (ap neg_ℤ e)))
         (zero_of_mul-zero_ℤ (pos-ne-zero_ℤ w.positive) (beside_c ∙ zero-mul_ℤ w.l d))
 
@@ -257,7 +257,8 @@ module _ (t : Triangulation) (h : TilesHull t) (p q : Fraction) (apart : ¬ IsSa
             → (bracket p q B <ℤ pos 0) ⊎ ((bracket p q B ≡ pos 0) ⊎ (pos 0 <ℤ bracket p q B)) → ⊥
         go (inl d) e = right_not_above d left
         go (inr (inl d)) (inl e) = let on = on_first d e in
-            no_vertex_before c (h.corners v c b f).1 on (sooner C B C on (bracket-first C B) low high)
+            no_vertex_before c (h.corners v c b f).1 on
+            (sooner C B C on (bracket-first C B) low high)
         go (inr (inl d)) (inr (inl e)) = flat d e
         go (inr (inl d)) (inr (inr e)) = left_not_below e right
         go (inr (inr d)) (inl e) = no_edge_before c b edge d e low high
