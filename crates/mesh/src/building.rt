@@ -5,7 +5,7 @@ use crate::reading::{Scene, input_name};
 use anyhow::{anyhow, bail};
 use drawing_faces::{DrawingError, DrawnMesh, DrawnSegment, Kept, triangulate_drawing};
 use mesh_files::{Drawing, FilePlace};
-use spade_delaunay::Triangulation;
+use spade_delaunay::{Point2, Triangulation};
 use std::alloc::{AllocError, Global};
 
 /// Where a segment stands in its file.
@@ -24,16 +24,16 @@ fn segment_file<'a>(task: &Task<'a>, scene: &Scene, place: usize) -> &'a str {
     }
 }
 
-/// That a segment crosses one before it.
+/// That a segment crosses one before it, by their places.
 fn crossing_text(
     task: &Task<'_>,
     scene: &Scene,
-    drawn: &DrawnMesh,
     place: usize,
+    crossed: Option<usize>,
     alloc: Global,
 ) -> Result<String, AllocError> {
     let (file, line) = (segment_file(task, scene, place), segment_line(scene, place));
-    let Some(other) = first_crossed(scene, drawn, place) else {
+    let Some(other) = crossed else {
         return format!(in alloc; "{file}: {line}: the segment crosses another");
     };
     let (other_file, other) = (segment_file(task, scene, other), segment_line(scene, other));
@@ -57,20 +57,22 @@ fn segments_of(drawing: &Drawing, alloc: Global) -> Result<Vec<DrawnSegment>, Al
 }
 
 /// Tells which segments were left out, or that one crosses another where that is an error.
-fn tell_crossings(
+fn tell_crossings<T: Triangulation<Vertex = Point2<i32>>>(
     rt: &(impl Eprint + AllocGlobal),
     task: &Task<'_>,
     scene: &Scene,
-    drawn: &DrawnMesh,
+    site: &T,
+    taken: &[bool],
 ) -> anyhow::Result<()> {
     if task.skips_crossing && task.is_quiet {
         return Ok(());
     }
-    for (place, is_taken) in drawn.taken.iter().enumerate() {
+    for (place, is_taken) in taken.iter().enumerate() {
         if *is_taken {
             continue;
         }
-        let text = crossing_text(task, scene, drawn, place, rt.alloc())?;
+        let crossed = first_crossed(scene, site, taken, place);
+        let text = crossing_text(task, scene, place, crossed, rt.alloc())?;
         if !task.skips_crossing {
             bail!("{text}");
         }
@@ -146,7 +148,7 @@ pub fn build(
         Ok(drawn) => drawn,
         Err(error) => return Err(drawing_fault(task, &scene.drawing, error)),
     };
-    tell_crossings(rt, task, scene, &drawn)?;
+    tell_crossings(rt, task, scene, &drawn.site, drawn.taken.as_slice())?;
     if !task.is_quiet {
         tell_counts(rt, scene, &drawn)?;
     }

@@ -1,7 +1,6 @@
 //! Which segment of a drawing is in the way of another.
 use crate::areas::turned_area;
 use crate::reading::Scene;
-use drawing_faces::DrawnMesh;
 use exact_predicates::ExactTests;
 use spade_delaunay::{Point2, PositionInTriangulation, Triangulation, validate_vertex};
 
@@ -50,7 +49,12 @@ fn meeting_point(one: SegmentEnds, two: SegmentEnds) -> Option<Point2<i32>> {
 }
 
 /// Whether two segments that cross meet in a point of the drawing, where both are cut.
-fn meet_in_vertex(drawn: &DrawnMesh, one: SegmentEnds, two: SegmentEnds) -> bool {
+fn meet_in_vertex<T: Triangulation<Vertex = Point2<i32>>>(
+    site: &T,
+    one: SegmentEnds,
+    two: SegmentEnds,
+) -> bool {
+    site.recall_invariant();
     let Some(point) = meeting_point(one, two) else {
         return false;
     };
@@ -58,28 +62,33 @@ fn meet_in_vertex(drawn: &DrawnMesh, one: SegmentEnds, two: SegmentEnds) -> bool
         return false;
     }
     matches!(
-        drawn.site.locate(point, &ExactTests),
+        site.locate(point, &ExactTests),
         PositionInTriangulation::OnVertex(_)
     )
 }
 
-/// Whether the segment at a place was taken.
-fn is_taken_at(drawn: &DrawnMesh, place: usize) -> bool {
-    drawn.taken.get(place).copied().unwrap_or(false)
+/// Whether one segment is in the way of another: they cross where no point of the drawing is.
+fn is_in_way<T: Triangulation<Vertex = Point2<i32>>>(
+    site: &T,
+    one: SegmentEnds,
+    two: SegmentEnds,
+) -> bool {
+    are_parted(one, two) && are_parted(two, one) && !meet_in_vertex(site, one, two)
 }
 
 /// The place of the first segment that was taken and is in the way of a later one.
-pub fn first_crossed(scene: &Scene, drawn: &DrawnMesh, place: usize) -> Option<usize> {
+pub fn first_crossed<T: Triangulation<Vertex = Point2<i32>>>(
+    scene: &Scene,
+    site: &T,
+    taken: &[bool],
+    place: usize,
+) -> Option<usize> {
     let ends = ends_at(scene, place)?;
     for i in 0..place {
-        if !is_taken_at(drawn, i) {
+        if !taken.get(i).copied().unwrap_or(false) {
             continue;
         }
-        let other = ends_at(scene, i)?;
-        if are_parted(ends, other)
-            && are_parted(other, ends)
-            && !meet_in_vertex(drawn, ends, other)
-        {
+        if is_in_way(site, ends, ends_at(scene, i)?) {
             return Some(i);
         }
     }

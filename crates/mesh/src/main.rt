@@ -32,10 +32,11 @@ fn answer_question(
     scene: &Scene,
     drawn: &DrawnMesh,
 ) -> anyhow::Result<()> {
+    let places = drawn.vertices.as_slice();
     match question {
         Question::Nearest(_) => Ok(()),
-        Question::Locate(_) => tell_places(rt, scene, drawn),
-        Question::Line(_) => tell_way(rt, scene, drawn),
+        Question::Locate(_) => tell_places(rt, scene, &drawn.site, places),
+        Question::Line(_) => tell_way(rt, scene, &drawn.site, places),
     }
 }
 

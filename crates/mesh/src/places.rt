@@ -7,7 +7,6 @@ use crate::heights::{Weighed, height_of};
 use crate::nearest::push_spot;
 use crate::reading::Scene;
 use anyhow::Context;
-use drawing_faces::DrawnMesh;
 use exact_predicates::ExactTests;
 use mesh_files::Drawing;
 use spade_delaunay::handles::{DirectedEdgeHandle, FaceHandle};
@@ -86,13 +85,13 @@ fn weighed_corners<DE, UE, F>(
 }
 
 /// Puts what a point in range is on behind a line.
-fn push_place(
+fn push_place<T: Triangulation<Vertex = Point2<i32>>>(
     line: &mut String,
     drawing: &Drawing,
-    drawn: &DrawnMesh,
+    site: &T,
+    places: &[u32],
     point: Point2<i32>,
 ) -> Result<(), AllocError> {
-    let (site, places) = (&drawn.site, drawn.vertices.as_slice());
     site.recall_invariant();
     if validate_vertex(&point).is_err() {
         return line.push_str(",,,,\n");
@@ -117,10 +116,11 @@ fn push_place(
     }
 }
 
-fn write_places<W: Write>(
+fn write_places<W: Write, T: Triangulation<Vertex = Point2<i32>>>(
     writer: &mut W,
     scene: &Scene,
-    drawn: &DrawnMesh,
+    site: &T,
+    places: &[u32],
     alloc: Global,
 ) -> io::Result<()> {
     writer.write_all(b"x,y,on,a,b,c,z\n")?;
@@ -128,7 +128,7 @@ fn write_places<W: Write>(
     for (spot, point) in scene.asked.iter().zip(&scene.asked_points) {
         line.clear();
         push_spot(&mut line, spot)?;
-        push_place(&mut line, &scene.drawing, drawn, *point)?;
+        push_place(&mut line, &scene.drawing, site, places, *point)?;
         writer.write_all(line.as_bytes())?;
     }
     writer.flush()
@@ -136,7 +136,12 @@ fn write_places<W: Write>(
 
 /// Tells what each point that is asked about is on, by the numbers of points from 1, and its height
 /// there, where the drawing has heights.
-pub fn tell_places(rt: &HostRuntime, scene: &Scene, drawn: &DrawnMesh) -> anyhow::Result<()> {
+pub fn tell_places<T: Triangulation<Vertex = Point2<i32>>>(
+    rt: &HostRuntime,
+    scene: &Scene,
+    site: &T,
+    places: &[u32],
+) -> anyhow::Result<()> {
     let mut writer = BufWriter::new(rt.alloc(), io::writer(rt))?;
-    write_places(&mut writer, scene, drawn, rt.alloc()).context("standard output")
+    write_places(&mut writer, scene, site, places, rt.alloc()).context("standard output")
 }

@@ -1,7 +1,7 @@
 //! What is read: a drawing, and points that are asked about, all on one scale.
 use crate::command::{Question, Source, Task};
 use crate::progress::ToldReader;
-use anyhow::Context;
+use anyhow::{Context, anyhow};
 use mesh_files::{
     Drawing, FileFault, Reason, Scaled, Spot, read_csv, read_geojson, read_node, read_poly,
     read_segments, scale,
@@ -83,11 +83,20 @@ fn read_asked(rt: &HostRuntime, file: &str) -> anyhow::Result<Drawing> {
     read_csv(reader, rt.alloc()).context(format_args!("{file}"))
 }
 
-/// Reads the ends of a way, which are words of the command line.
+/// A fault of the ends of a way, which are words of the command line.
+fn way_fault(fault: FileFault) -> anyhow::Error {
+    let FileFault { place: _, reason } = fault;
+    anyhow!("--line: {reason}")
+}
+
+/// Reads the ends of a way.
 fn read_way(rt: &HostRuntime, words: &[&str; 4]) -> anyhow::Result<Drawing> {
     let [a, b, c, d] = words;
     let table = format!(in rt.alloc(); "x,y\n{a},{b}\n{c},{d}\n")?;
-    read_csv(table.as_bytes(), rt.alloc()).context("--line")
+    match read_csv(table.as_bytes(), rt.alloc()) {
+        Ok(way) => Ok(way),
+        Err(fault) => Err(way_fault(fault)),
+    }
 }
 
 /// What is wrong with a point that is asked about, if it is too far from a drawing.
@@ -174,28 +183,43 @@ fn scale_drawing(
     })
 }
 
-/// Takes the points in that a question is about.
+/// Takes the points of a table in that a question is about.
 fn add_asked(
     rt: &HostRuntime,
     task: &Task<'_>,
-    question: Question<'_>,
+    file: &str,
     scene: &mut Scene,
 ) -> anyhow::Result<()> {
-    let (name, asked) = match question {
-        Question::Nearest(file) | Question::Locate(file) => (file, read_asked(rt, file)?),
-        Question::Line(words) => ("--line", read_way(rt, &words)?),
-    };
+    let asked = read_asked(rt, file)?;
     tell_left_out(rt, task, &asked)?;
     scene.asked = asked.spots;
-    scale_asked(rt, task, scene).context(format_args!("{name}"))
+    scale_asked(rt, task, scene).context(format_args!("{file}"))
+}
+
+/// Takes the ends of a way in.
+fn add_way(
+    rt: &HostRuntime,
+    task: &Task<'_>,
+    words: &[&str; 4],
+    scene: &mut Scene,
+) -> anyhow::Result<()> {
+    scene.asked = read_way(rt, words)?.spots;
+    match scale_asked(rt, task, scene) {
+        Ok(()) => Ok(()),
+        Err(fault) => Err(way_fault(fault)),
+    }
 }
 
 /// Reads what a task names, and scales it.
 pub fn read_scene(rt: &HostRuntime, task: &Task<'_>) -> anyhow::Result<Scene> {
     let (drawing, own_segments) = read_drawing(rt, task)?;
     let mut scene = scale_drawing(rt, task, drawing, own_segments)?;
-    if let Some(question) = task.question {
-        add_asked(rt, task, question, &mut scene)?;
+    match task.question {
+        Some(Question::Nearest(file) | Question::Locate(file)) => {
+            add_asked(rt, task, file, &mut scene)?;
+        }
+        Some(Question::Line(words)) => add_way(rt, task, &words, &mut scene)?,
+        None => {}
     }
     Ok(scene)
 }

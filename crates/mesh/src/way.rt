@@ -2,9 +2,10 @@
 use crate::building::point_place;
 use crate::reading::Scene;
 use anyhow::{Context, bail};
-use drawing_faces::DrawnMesh;
 use exact_predicates::ExactTests;
-use spade_delaunay::{Intersection, LineIntersectionIterator, Point2, validate_vertex};
+use spade_delaunay::{
+    Intersection, LineIntersectionIterator, Point2, Triangulation, validate_vertex,
+};
 use std::alloc::{AllocError, Global};
 use std::io;
 use std::io::{BufWriter, Write};
@@ -30,31 +31,38 @@ fn push_met<DE, UE, F>(
 }
 
 /// Writes what the way between two points in range meets.
-fn write_way<W: Write>(
+fn write_way<W: Write, T: Triangulation<Vertex = Point2<i32>>>(
     writer: &mut W,
-    drawn: &DrawnMesh,
+    site: &T,
+    places: &[u32],
     from: Point2<i32>,
     to: Point2<i32>,
     alloc: Global,
 ) -> io::Result<()> {
+    site.recall_invariant();
     if validate_vertex(&from).is_err() || validate_vertex(&to).is_err() {
         return Ok(());
     }
     writer.write_all(b"meets,a,b\n")?;
     let mut line = String::new(alloc);
-    for met in LineIntersectionIterator::new(&drawn.site, from, to, &ExactTests) {
+    for met in LineIntersectionIterator::new(site, from, to, &ExactTests) {
         line.clear();
-        push_met(&mut line, drawn.vertices.as_slice(), &met)?;
+        push_met(&mut line, places, &met)?;
         writer.write_all(line.as_bytes())?;
     }
     writer.flush()
 }
 
 /// Tells what the way between the two points that are asked about meets, in order.
-pub fn tell_way(rt: &HostRuntime, scene: &Scene, drawn: &DrawnMesh) -> anyhow::Result<()> {
+pub fn tell_way<T: Triangulation<Vertex = Point2<i32>>>(
+    rt: &HostRuntime,
+    scene: &Scene,
+    site: &T,
+    places: &[u32],
+) -> anyhow::Result<()> {
     let (Some(from), Some(to)) = (scene.asked_points.first(), scene.asked_points.get(1)) else {
         bail!("--line has two points");
     };
     let mut writer = BufWriter::new(rt.alloc(), io::writer(rt))?;
-    write_way(&mut writer, drawn, *from, *to, rt.alloc()).context("standard output")
+    write_way(&mut writer, site, places, *from, *to, rt.alloc()).context("standard output")
 }
