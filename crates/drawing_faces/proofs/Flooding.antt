@@ -1,23 +1,20 @@
--- The steps of a search for the faces that are reached past no constraint.
-use Rattle.std.proofs.Common.{◌≡◌, ◌≢◌, ◌⊎◌, ◌↔◌, ◌+◌, ◌<◌, ◌≤◌, [], ◌∷◌, ◌++◌, ◌∙◌}
-use Rattle.std.proofs.Common.{ℕ, zero, suc, List, length, get_or, set}
+-- A search for the faces that are reached past no constraint: its beginning, its steps and its end.
+use Rattle.std.proofs.Common.{◌≡◌, ◌≢◌, ◌⊎◌, ◌+◌, ◌<◌, ◌≤◌, [], ◌∷◌, ◌++◌, ◌∙◌}
+use Rattle.std.proofs.Common.{ℕ, zero, suc, List, length, get_or}
 use Rattle.std.proofs.Common.{refl, sym, ap, subst, inl, inr, arith}
-use Rattle.std.specs.Prelude.{Contains, cond, nat_eq, not, slice_index_or}
-use Rattle.std.specs.List.{count_by}
+use Rattle.std.specs.Prelude.{All, Contains, cond, slice_index_or}
 use Rattle.std.proofs.lemmas.Bool.{cases_eq}
-use Rattle.std.proofs.lemmas.List.{get_or-set_same, get_or-set_other, length-set, set-get_or}
+use Rattle.std.proofs.lemmas.List.{get_or-set_same, get_or-set_other, length-set}
 use Rattle.std.proofs.lemmas.List.Elements.{Contains-push, Contains-push_cases}
 use Rattle.std.proofs.lemmas.List.Elements.{Contains-append_left}
-use Rattle.std.proofs.lemmas.List.Sums.{sum_by-set}
-use Rattle.half_edge_mesh.specs.Mesh.{Mesh, face, rev, next, prev, face_edge, AreSoundLinks}
+use Rattle.std.proofs.lemmas.List.Sums.{sum_by-append}
+use Rattle.half_edge_mesh.specs.Mesh.{Mesh, face, rev, AreSoundLinks}
+use Rattle.half_edge_links.proofs.Lists.Rev.{rev_within}
 use Rattle.plane.proofs.Indexes.{below_or_last}
 use Rattle.plane_tiling.proofs.Totals.{get_or_any}
 use Rattle.delaunay_layers.specs.Layers.{AreLayers, Leads, crossed, is_constrained}
-use Rattle.delaunay_layers.specs.Search.{HasWay, IsSideOf, weight}
-use Rattle.delaunay_layers.proofs.Searching.{three_sides}
-use Rattle.half_edge_links.proofs.Lists.Rev.{rev_within}
-use Rattle.std.proofs.lemmas.List.Sums.{sum_by-append}
-use Rattle.drawing_faces.specs.Flood.{MarkOpenFaces, Enters, IsReached, ListsFree, flood_left}
+use Rattle.delaunay_layers.specs.Search.{weight}
+use Rattle.drawing_faces.specs.Flood.{Enters, IsFlood, IsReached, MarkOpenFaces}
 use Rattle.drawing_faces.specs.Kept.{IsOpenFace}
 
 -- whether a face was reached
@@ -38,152 +35,14 @@ crossed_append : (constraints hs ks : List ℕ)
 crossed_append constraints hs ks =
     sum_by-append (λ g. cond (is_constrained constraints g) 1 0) hs ks
 
--- ---- lists of edges
-module _ (constraints : List ℕ) where
-  pub free_one : (due due' : List ℕ) (h : ℕ) → weight constraints h ≡ 0 → due' ≡ due ++ h ∷ []
-      → ListsFree constraints (λ g. g ≡ h) due due'
-  free_one due due' h free grown = subst (ListsFree constraints (λ g. g ≡ h) due) (sym grown)
-      (record {
-        kept = λ g c. Contains-append_left due (h ∷ []) g c;
-        there = λ g e w. subst (Contains (due ++ h ∷ [])) (sym e) (Contains-push due h);
-        only = λ g c. elim (Contains-push_cases due h g c) [
-          | inl d ↦ inl d
-          | inr e ↦ inr (sym e, subst (λ x. weight constraints x ≡ 0) e free)
-        ];
-      })
-
-  pub free_none : (due : List ℕ) (h : ℕ) → weight constraints h ≡ 1
-      → ListsFree constraints (λ g. g ≡ h) due due
-  free_none due h counts = record {
-    kept = λ g c. c;
-    there = λ g e w. let same = ap (weight constraints) e in
-        absurd (omega (arith, counts, same, w));
-    only = λ g c. inl c;
-  }
-
-  free_as : (Which Those : ℕ → Type 0) (due due' : List ℕ) → ((h : ℕ) → Which h ↔ Those h)
-      → ListsFree constraints Which due due' → ListsFree constraints Those due due'
-  free_as Which Those due due' same l = record {
-    kept = l.kept;
-    there = λ g t w. l.there g ((same g).1 t) w;
-    only = λ g c. elim (l.only g c) [
-      | inl d ↦ inl d
-      | inr w ↦ inr ((same g).0 w.0, w.1)
-    ];
-  }
-
-  free_both : (Which Those : ℕ → Type 0) (due mid due' : List ℕ)
-      → ListsFree constraints Which due mid → ListsFree constraints Those mid due'
-      → ListsFree constraints (λ h. Which h ⊎ Those h) due due'
-  free_both Which Those due mid due' a b = record {
-    kept = λ g c. b.kept g (a.kept g c);
-    there = λ g x w. elim x [
-      | inl y ↦ b.kept g (a.there g y w)
-      | inr y ↦ b.there g y w
-    ];
-    only = λ g c. elim (b.only g c) [
-      | inl d ↦ elim (a.only g d) [ inl e ↦ inl e | inr w ↦ inr (inl w.0, w.1) ]
-      | inr w ↦ inr (inr w.0, w.1)
-    ];
-  }
-
-  -- the three sides of a face
-  pub free_sides : (m : Mesh) → AreSoundLinks m → (f e1 e2 e3 : ℕ)
-      (due due1 due2 due3 : List ℕ) → 0 < f → f ≤ length m.face_edges
-      → e1 ≡ face_edge m f → e2 ≡ next m (face_edge m f) → e3 ≡ prev m (face_edge m f)
-      → ListsFree constraints (λ g. g ≡ e1) due due1
-      → ListsFree constraints (λ g. g ≡ e2) due1 due2
-      → ListsFree constraints (λ g. g ≡ e3) due2 due3
-      → ListsFree constraints (IsSideOf m f) due due3
-  free_sides m sound f e1 e2 e3 due due1 due2 due3 some few p q r a b c =
-      free_as (λ g. ((g ≡ face_edge m f) ⊎ (g ≡ next m (face_edge m f)))
-      ⊎ (g ≡ prev m (face_edge m f))) (IsSideOf m f) due due3
-      (λ g. three_sides m sound f g some few)
-      (free_both (λ g. (g ≡ face_edge m f) ⊎ (g ≡ next m (face_edge m f)))
-      (λ g. g ≡ prev m (face_edge m f)) due due2 due3
-      (free_both (λ g. g ≡ face_edge m f) (λ g. g ≡ next m (face_edge m f)) due due1 due2
-      (subst (λ x. ListsFree constraints (λ g. g ≡ x) due due1) p a)
-      (subst (λ x. ListsFree constraints (λ g. g ≡ x) due1 due2) q b))
-      (subst (λ x. ListsFree constraints (λ g. g ≡ x) due2 due3) r c))
-
--- ---- what is left to do
-abbrev cost : ℕ → ℕ
-cost n = cond (not (nat_eq n 0)) 1 0
-
-cost_of : (n : ℕ) → n ≢ 0 → cost n ≡ 1
-cost_of zero some = absurd (some refl)
-cost_of (suc n) some = refl
-
--- one face less is left
-pub one_less : (reached : List ℕ) (f : ℕ) → f < length reached → ¬ IsReached reached f
-    → count_by (λ n. not (nat_eq n 0)) (set reached f 0) + 1
-    ≡ count_by (λ n. not (nat_eq n 0)) reached
-one_less reached f w new =
-    let moved = sum_by-set cost reached f 0 1 w in
-    let a = cost_of (get_or reached f 1) new in
-    omega (arith, moved, a)
-
--- ---- a face that is entered
--- what stands at the place of a face, whatever is read past the end
-pub stands_at : (reached : List ℕ) (f i n : ℕ) → i ≡ f → f < length reached
-    → n ≡ get_or reached i n → get_or reached f 1 ≡ n
-stands_at reached f i n e w at =
-    get_or_any reached f 1 n w ∙ ap (λ k. get_or reached k n) (sym e) ∙ sym at
-
-module _ (m : Mesh) (constraints reached due : List ℕ) (f : ℕ) where
-  -- one that was reached before
-  pub entered_before : IsReached reached f → Enters m constraints f reached due reached due
-  entered_before r = record {
-    marks = sym (ap (set reached f) (sym r) ∙ set-get_or reached f 1);
-    before = λ q. refl;
-    first = λ new. absurd (new r);
-  }
-
-  -- one that was not
-  module _ (size : length reached ≡ length m.face_edges + 1) (outer : IsReached reached 0)
-      (within : f < length reached) (new : ¬ IsReached reached f) where
-    some_face : 0 < f
-    some_face = elim (cases_eq f 0) [
-      | inl e ↦ absurd (new (subst (IsReached reached) (sym e) outer))
-      | inr n ↦ omega (arith, n)
-    ]
-
-    pub entered_first : AreSoundLinks m → (reached' due1 due2 due3 : List ℕ) (e1 e2 e3 : ℕ)
-        → reached' ≡ set reached f 0
-        → e1 ≡ face_edge m f → e2 ≡ next m (face_edge m f) → e3 ≡ prev m (face_edge m f)
-        → ListsFree constraints (λ g. g ≡ e1) due due1
-        → ListsFree constraints (λ g. g ≡ e2) due1 due2
-        → ListsFree constraints (λ g. g ≡ e3) due2 due3
-        → Enters m constraints f reached due reached' due3
-    entered_first links reached' due1 due2 due3 e1 e2 e3 marks p q r a b c = record {
-      marks = marks;
-      before = λ q. absurd (new q);
-      first = λ n. free_sides constraints m links f e1 e2 e3 due due1 due2 due3 some_face
-          (omega (arith, within, size)) p q r a b c;
-    }
-
-    -- there is less to do then
-    pub less_work : (reached' due1 due2 due3 : List ℕ) → reached' ≡ set reached f 0
-        → length due1 ≤ length due + 1 → length due2 ≤ length due1 + 1
-        → length due3 ≤ length due2 + 1 → flood_left reached' due3 ≤ flood_left reached due
-    less_work reached' due1 due2 due3 marks a b c =
-        let counted = ap (count_by (λ n. not (nat_eq n 0))) marks in
-        let less = one_less reached f within new in
-        omega (arith, counted, less, a, b, c)
-
 -- ---- the search
 module _ (m : Mesh) (constraints starts : List ℕ) where
-  -- a search: what was reached is open, and edges that lead on are listed, or lead to what was
-  -- reached, or to the face that comes next
-  pub record IsFlood (IsNext : ℕ → Type 0) (reached due : List ℕ) : Type 0 where
-    pub size : length reached ≡ length m.face_edges + 1
-    pub outer : IsReached reached 0
-    pub sound : (f : ℕ) → IsReached reached f → IsOpenFace m constraints starts f
-    pub leading : (h : ℕ) → Contains due h
-        → (h < length m.half_edges) × IsReached reached (face m h) × (weight constraints h ≡ 0)
-    pub done : (h : ℕ) → h < length m.half_edges → IsReached reached (face m h)
-        → weight constraints h ≡ 0
-        → Contains due h ⊎ (IsReached reached (face m (rev h)) ⊎ IsNext (face m (rev h)))
+  -- a search between two steps, and one that is to enter face f
+  abbrev Searches : List ℕ → List ℕ → Type 0
+  Searches reached due = IsFlood m constraints starts (λ f. ⊥) reached due
+
+  abbrev SearchesTo : ℕ → List ℕ → List ℕ → Type 0
+  SearchesTo f reached due = IsFlood m constraints starts (λ g. g ≡ f) reached due
 
   -- a face that is reached across a free edge is open
   pub open_across : (h : ℕ) → h < length m.half_edges → weight constraints h ≡ 0
@@ -203,7 +62,7 @@ module _ (m : Mesh) (constraints starts : List ℕ) where
 
   -- faces of layer 0 to begin with
   pub begun : AreSoundLinks m → (layers : List ℕ) → AreLayers m constraints layers
-      → IsFlood (λ f. ⊥) layers []
+      → Searches layers []
   begun links layers are = record {
     size = are.count;
     outer = at 0 some_face outer_zero;
@@ -257,7 +116,7 @@ module _ (m : Mesh) (constraints starts : List ℕ) where
 
   -- a face is entered
   module _ (reached reached' due due' : List ℕ) (f : ℕ)
-      (flood : IsFlood (λ g. g ≡ f) reached due)
+      (flood : SearchesTo f reached due)
       (enters : Enters m constraints f reached due reached' due')
       (within : f < length reached) (o : IsOpenFace m constraints starts f) where
     at_f : IsReached reached' f
@@ -326,8 +185,8 @@ module _ (m : Mesh) (constraints starts : List ℕ) where
       ]
     ]
 
-    pub entered : (IsNext : ℕ → Type 0) → IsFlood IsNext reached' due'
-    entered IsNext = record {
+    entered : Searches reached' due'
+    entered = record {
       size = ap length enters.marks ∙ length-set reached f 0 ∙ flood.size;
       outer = stays_reached 0 flood.outer;
       sound = λ g r. elim (before_or_f g r) [
@@ -340,7 +199,7 @@ module _ (m : Mesh) (constraints starts : List ℕ) where
 
   -- an edge is taken, to be crossed
   pub taken : (reached due due' : List ℕ) (h : ℕ) → due ≡ due' ++ h ∷ []
-      → IsFlood (λ g. ⊥) reached due → IsFlood (λ g. g ≡ face m (rev h)) reached due'
+      → Searches reached due → SearchesTo (face m (rev h)) reached due'
   taken reached due due' h split flood = record {
     size = flood.size;
     outer = flood.outer;
@@ -358,10 +217,9 @@ module _ (m : Mesh) (constraints starts : List ℕ) where
     ];
   }
 
-  -- what is done but for nothing is done but for something
-  pub but : (IsNext : ℕ → Type 0) (reached due : List ℕ)
-      → IsFlood (λ g. ⊥) reached due → IsFlood IsNext reached due
-  but IsNext reached due flood = record {
+  -- a face may come next that no edge leads to
+  may_enter : (f : ℕ) (reached due : List ℕ) → Searches reached due → SearchesTo f reached due
+  may_enter f reached due flood = record {
     size = flood.size;
     outer = flood.outer;
     sound = flood.sound;
@@ -386,7 +244,7 @@ module _ (m : Mesh) (constraints starts : List ℕ) where
 
   -- an edge that is taken leads to a face that is open
   pub open_next : (reached due due' : List ℕ) (h : ℕ) → due ≡ due' ++ h ∷ []
-      → IsFlood (λ g. ⊥) reached due → IsOpenFace m constraints starts (face m (rev h))
+      → Searches reached due → IsOpenFace m constraints starts (face m (rev h))
   open_next reached due due' h split flood =
       let l = flood.leading h (subst (λ (xs : List ℕ). Contains xs h) (sym split)
       (Contains-push due' h)) in
@@ -394,7 +252,7 @@ module _ (m : Mesh) (constraints starts : List ℕ) where
 
   -- and stands in the list of faces
   pub next_within : AreSoundLinks m → (reached due due' : List ℕ) (h : ℕ) → due ≡ due' ++ h ∷ []
-      → IsFlood (λ g. ⊥) reached due
+      → Searches reached due
       → (h < length m.half_edges) × (face m (rev h) < length reached)
   next_within links reached due due' h split flood =
       let l = flood.leading h (subst (λ (xs : List ℕ). Contains xs h) (sym split)
@@ -405,7 +263,7 @@ module _ (m : Mesh) (constraints starts : List ℕ) where
       (l.0, omega (arith, inner, size))
 
   -- with no edge left, all that is open was reached
-  follows : (reached : List ℕ) → IsFlood (λ g. ⊥) reached [] → (way : List ℕ) (f g : ℕ)
+  follows : (reached : List ℕ) → Searches reached [] → (way : List ℕ) (f g : ℕ)
       → Leads m way f g → crossed constraints way ≡ 0 → IsReached reached f → IsReached reached g
   follows reached flood [] f g e none r = subst (IsReached reached) e r
   follows reached flood (h ∷ hs) f g (w, at, rest) none r =
@@ -421,8 +279,9 @@ module _ (m : Mesh) (constraints starts : List ℕ) where
       across (inr (inl q)) = q
       across (inr (inr e)) = absurd e
 
-  pub all_open : (reached : List ℕ) → IsFlood (λ g. ⊥) reached []
-      → ((k : ℕ) → k < length starts → IsReached reached (get_or starts k 0))
+  -- the marks are those of open faces, once each of the starts was reached
+  pub all_open : (reached : List ℕ) → Searches reached []
+      → ((f : ℕ) → Contains starts f → IsReached reached f)
       → MarkOpenFaces m constraints starts reached
   all_open reached flood begun = record {
     size = flood.size;
@@ -433,67 +292,84 @@ module _ (m : Mesh) (constraints starts : List ℕ) where
     where
       first : (s : ℕ) → (s ≡ 0) ⊎ Contains starts s → IsReached reached s
       first s (inl e) = subst (IsReached reached) (sym e) flood.outer
-      first s (inr (k, within, is)) = subst (IsReached reached)
-          (at_any k s within ∙ is) (begun k within)
-        where
-          at_any : (i d : ℕ) → i < length starts → get_or starts i 0 ≡ get_or starts i d
-          at_any i d w = get_or_any starts i 0 d w
+      first s (inr c) = begun s c
 
--- ---- one step of the search
-module _ (m : Mesh) (constraints starts : List ℕ) (reached reached' due due' : List ℕ) where
-  -- a face that it begins at was entered
-  module _ (i d : ℕ) (within : i < length starts)
-      (flood : IsFlood m constraints starts (λ g. ⊥) reached due)
-      (enters : Enters m constraints (get_or starts i d) reached due reached' due')
-      (small : get_or starts i d < length reached) where
-    start_is_open : IsOpenFace m constraints starts (get_or starts i d)
-    start_is_open = subst (IsOpenFace m constraints starts) (get_or_any starts i 0 d within)
-        (open_start m constraints starts i within)
+  -- ---- the starts, one after another
+  -- as many as i were reached
+  pub record AreBegun (reached due : List ℕ) (i : ℕ) : Type 0 where
+    pub flood : Searches reached due
+    pub begun : (k : ℕ) → k < i → IsReached reached (get_or starts k 0)
 
-    but_start : IsFlood m constraints starts (λ g. g ≡ get_or starts i d) reached due
-    but_start = but m constraints starts (λ g. g ≡ get_or starts i d) reached due flood
+  pub begin_first : (reached due : List ℕ) → Searches reached due → AreBegun reached due 0
+  begin_first reached due flood =
+      record { flood = flood; begun = λ k h. absurd (omega (arith, h)) }
 
-    pub start_entered : IsFlood m constraints starts (λ g. ⊥) reached' due'
-    start_entered = entered m constraints starts reached reached' due due' (get_or starts i d)
-        but_start enters small start_is_open (λ g. ⊥)
+  -- one more
+  module _ (reached reached' due due' : List ℕ) (i f d : ℕ) (is : f ≡ get_or starts i d)
+      (within : i < length starts) (so_far : AreBegun reached due i)
+      (enters : Enters m constraints f reached due reached' due') (small : f < length reached) where
+    is_start : f ≡ get_or starts i 0
+    is_start = is ∙ get_or_any starts i d 0 within
 
-    pub starts_reached : ((k : ℕ) → k < i → IsReached reached (get_or starts k 0))
-        → (k : ℕ) → k < i + 1 → IsReached reached' (get_or starts k 0)
-    starts_reached before k h = go (below_or_last i k (omega (arith, h)))
-      where
-        go : (k < i) ⊎ (k ≡ i) → IsReached reached' (get_or starts k 0)
-        go (inl less) = stays_reached m constraints starts reached reached' due due'
-            (get_or starts i d) but_start enters small start_is_open (get_or starts k 0)
-            (before k less)
-        go (inr last) = subst (IsReached reached')
-            (get_or_any starts i d 0 within ∙ ap (λ j. get_or starts j 0) (sym last))
-            (at_f m constraints starts reached reached' due due' (get_or starts i d) but_start
-            enters small start_is_open)
+    start_is_open : IsOpenFace m constraints starts f
+    start_is_open = subst (IsOpenFace m constraints starts) (sym is_start) (open_start i within)
 
-  -- an edge was crossed
-  module _ (links : AreSoundLinks m) (all : List ℕ) (h f : ℕ) (split : all ≡ due ++ h ∷ [])
-      (flood : IsFlood m constraints starts (λ g. ⊥) reached all) (at : f ≡ face m (rev h)) where
+    may : SearchesTo f reached due
+    may = may_enter f reached due so_far.flood
+
+    pub begin_more : AreBegun reached' due' (i + 1)
+    begin_more = record {
+      flood = entered reached reached' due due' f may enters small start_is_open;
+      begun = λ k h. elim (below_or_last i k (omega (arith, h))) [
+        | inl less ↦ stays_reached reached reached' due due' f may enters small start_is_open
+            (get_or starts k 0) (so_far.begun k less)
+        | inr last ↦ subst (IsReached reached')
+            (is_start ∙ ap (λ j. get_or starts j 0) (sym last))
+            (at_f reached reached' due due' f may enters small start_is_open)
+      ];
+    }
+
+  pub begin_last : (reached due : List ℕ) (i : ℕ) → AreBegun reached due i → length starts ≤ i
+      → (f : ℕ) → Contains starts f → IsReached reached f
+  begin_last reached due i so_far last f c = let w = c.1 in
+      subst (IsReached reached) (get_or_any starts c.0 0 f c.1 ∙ c.2)
+      (so_far.begun c.0 (omega (arith, w, last)))
+
+  -- ---- an edge was crossed
+  module _ (links : AreSoundLinks m) (reached due all : List ℕ) (h f : ℕ)
+      (split : all ≡ due ++ h ∷ []) (flood : Searches reached all) (at : f ≡ face m (rev h)) where
     next_is_open : IsOpenFace m constraints starts f
     next_is_open = subst (IsOpenFace m constraints starts) (sym at)
-        (open_next m constraints starts reached all due h split flood)
+        (open_next reached all due h split flood)
+
+    pub edge_within : h < length m.half_edges
+    edge_within = (next_within links reached all due h split flood).0
 
     pub next_small : f < length reached
     next_small = subst (λ g. g < length reached) (sym at)
-        (next_within m constraints starts links reached all due h split flood).1
+        (next_within links reached all due h split flood).1
 
-    but_next : IsFlood m constraints starts (λ g. g ≡ f) reached due
-    but_next = subst (λ x. IsFlood m constraints starts (λ g. g ≡ x) reached due) (sym at)
-        (taken m constraints starts reached all due h split flood)
+    but_next : SearchesTo f reached due
+    but_next = subst (λ x. SearchesTo x reached due) (sym at)
+        (taken reached all due h split flood)
 
-    pub next_entered : Enters m constraints f reached due reached' due'
-        → IsFlood m constraints starts (λ g. ⊥) reached' due'
-    next_entered enters = entered m constraints starts reached reached' due due' f but_next enters
-        next_small next_is_open (λ g. ⊥)
+    module _ (reached' due' : List ℕ) (enters : Enters m constraints f reached due reached' due')
+      where
+        pub next_entered : Searches reached' due'
+        next_entered =
+            entered reached reached' due due' f but_next enters next_small next_is_open
 
-    pub next_keeps : Enters m constraints f reached due reached' due' → (g : ℕ)
-        → IsReached reached g → IsReached reached' g
-    next_keeps enters g r = stays_reached m constraints starts reached reached' due due' f but_next
-        enters next_small next_is_open g r
+        pub next_keeps : (g : ℕ) → IsReached reached g → IsReached reached' g
+        next_keeps = stays_reached reached reached' due due' f but_next enters next_small
+            next_is_open
+
+-- a face of a mesh stands in the list
+pub small_face : (m : Mesh) (faces : ℕ) (reached starts : List ℕ) (i f d : ℕ)
+    → faces ≡ length m.face_edges → length reached ≡ length m.face_edges + 1
+    → All (λ g. g ≤ faces) starts → i < length starts → f ≡ get_or starts i d
+    → f < length reached
+small_face m faces reached starts i f d fit size few within is =
+    let bound = few i d within in omega (arith, bound, fit, size, is)
 
 -- whether a face is open is told by its number
 pub told_open : (m : Mesh) (constraints starts reached : List ℕ)

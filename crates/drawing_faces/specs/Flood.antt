@@ -2,7 +2,7 @@
 use Rattle.std.specs.Prelude.{◌≡◌, ◌⊎◌, ◌+◌, ◌*◌, ◌<◌, ℕ, not, nat_eq, List, length}
 use Rattle.std.specs.Prelude.{Contains, slice_index_or, slice_set}
 use Rattle.std.specs.List.{count_by}
-use Rattle.half_edge_mesh.specs.Mesh.{Mesh}
+use Rattle.half_edge_mesh.specs.Mesh.{Mesh, face, rev}
 use Rattle.delaunay_layers.specs.Search.{IsSideOf, weight}
 use Rattle.drawing_faces.specs.Kept.{IsOpenFace}
 
@@ -24,6 +24,19 @@ pub record Enters (m : Mesh) (constraints : List ℕ) (f : ℕ) (reached due rea
   pub marks : reached' ≡ slice_set reached f 0
   pub before : IsReached reached f → due' ≡ due
   pub first : ¬ IsReached reached f → ListsFree constraints (IsSideOf m f) due due'
+
+-- a search from the outer face and from some others: what was reached is open, and free edges that
+-- lead on from it are listed, or lead to what was reached, or to a face that comes next
+pub record IsFlood (m : Mesh) (constraints starts : List ℕ) (IsNext : ℕ → Type 0)
+    (reached due : List ℕ) : Type 0 where
+  pub size : length reached ≡ length m.face_edges + 1
+  pub outer : IsReached reached 0
+  pub sound : (f : ℕ) → IsReached reached f → IsOpenFace m constraints starts f
+  pub leading : (h : ℕ) → Contains due h
+      → (h < length m.half_edges) × IsReached reached (face m h) × (weight constraints h ≡ 0)
+  pub done : (h : ℕ) → h < length m.half_edges → IsReached reached (face m h)
+      → weight constraints h ≡ 0
+      → Contains due h ⊎ (IsReached reached (face m (rev h)) ⊎ IsNext (face m (rev h)))
 
 -- what is left to do: faces to reach and edges to cross
 abbrev pub flood_left : List ℕ → List ℕ → ℕ

@@ -1,8 +1,9 @@
 //! A search for the faces that are reached past no constraint: face by face, from the outer face
 //! and from others.
-ghost use Rattle.std.specs.Prelude.{◌≡◌, ◌+◌, ◌<◌, ◌≤◌, All, length, IfOk, OnOk};
+ghost use Rattle.std.specs.Prelude.{◌≡◌, ◌+◌, ◌<◌, ◌≤◌, ℕ, All, Contains, length, IfOk, OnOk};
 ghost use Rattle.delaunay_layers.specs.Layers.{AreLayers};
-ghost use Rattle.drawing_faces.specs.Flood.{MarkOpenFaces, Enters, IsReached, ListsFree, flood_left};
+ghost use Rattle.drawing_faces.specs.Flood.{Enters, IsFlood, IsReached, ListsFree, MarkOpenFaces};
+ghost use Rattle.drawing_faces.specs.Flood.{flood_left};
 
 use delaunay_legalization::{ConstraintMarker, is_constraint_edge};
 use half_edge_mesh::{Dcel, FixedDirectedEdgeHandle, FixedFaceHandle, MeshViews};
@@ -63,6 +64,27 @@ impl Flood {
         self.list::<M, _, _, _, _>(dcel, edge.next().fix())?;
         self.list::<M, _, _, _, _>(dcel, edge.prev().fix())
     }
+
+    // Reaches each of some faces.
+    fn enter_all<M: ConstraintMarker<UE>, V, DE, UE, F>(
+        &mut self,
+        dcel: &Dcel<V, DE, UE, F>,
+        faces: &[FixedFaceHandle],
+    ) -> Result<(), AllocError>
+        requires within { All (λ f. f ≤ length dcel.now.faces) faces.now }
+        requires flood { IsFlood dcel.now.mesh (M.constraints dcel.now.undirected) faces.now
+            (λ f. ⊥) self.old.reached.items self.old.due.items }
+        ensures flood { OnOk result (IsFlood dcel.now.mesh (M.constraints dcel.now.undirected)
+            faces.now (λ f. ⊥) self.new.reached.items self.new.due.items) }
+        ensures each { OnOk result
+            ((f : ℕ) → Contains faces.now f → IsReached self.new.reached.items f) }
+    {
+        dcel.recall_invariant();
+        for face in faces {
+            self.enter::<M, _, _, _, _>(dcel, *face)?;
+        }
+        Ok(())
+    }
 }
 
 // The layers of all faces, with 0 also for those that are reached past no constraint from others.
@@ -82,9 +104,7 @@ pub(crate) fn reach_faces<M: ConstraintMarker<UE>, V, DE, UE, F>(
         reached: layers,
         due: Vec::new(alloc),
     };
-    for start in starts {
-        flood.enter::<M, _, _, _, _>(dcel, *start)?;
-    }
+    flood.enter_all::<M, _, _, _, _>(dcel, starts)?;
     while let Some(edge) = flood.due.pop() {
         let face = dcel.directed_edge(edge).rev().face().fix();
         flood.enter::<M, _, _, _, _>(dcel, face)?;

@@ -1,6 +1,6 @@
 use Rattle.std.proofs.Common.{ℕ, ◌/◌, ◌∙◌, ap}
 use Rattle.delaunay_layers.proofs.Searching.{counted, not_counted}
-use Rattle.drawing_faces.proofs.Flooding.{free_none, free_one}
+use Rattle.drawing_faces.proofs.Listing.{free_none, free_one}
 use Rattle.drawing_faces.proofs.flood.Flood.list.Goals as goal
 
 pub returns-then-is_constraint_edge-clause-lists : goal.returns-then-is_constraint_edge-clause-lists
