@@ -1,10 +1,10 @@
 -- Free edges that are listed, and a face that is entered: it is marked, and its free edges are listed.
 use Rattle.std.proofs.Common.{◌≡◌, ◌≢◌, ◌⊎◌, ◌↔◌, ◌+◌, ◌<◌, ◌≤◌, [], ◌∷◌, ◌++◌, ◌∙◌}
-use Rattle.std.proofs.Common.{ℕ, zero, suc, List, length, get_or, set}
+use Rattle.std.proofs.Common.{ℕ, List, length, get_or, set}
 use Rattle.std.proofs.Common.{refl, sym, ap, subst, inl, inr, arith}
 use Rattle.std.specs.Prelude.{Contains, cond, nat_eq, not}
 use Rattle.std.specs.List.{count_by}
-use Rattle.std.proofs.lemmas.Bool.{cases_eq}
+use Rattle.std.proofs.lemmas.Bool.{cases_eq, ne_eqb}
 use Rattle.std.proofs.lemmas.List.{set-get_or}
 use Rattle.std.proofs.lemmas.List.Elements.{Contains-push, Contains-push_cases}
 use Rattle.std.proofs.lemmas.List.Elements.{Contains-append_left}
@@ -88,8 +88,7 @@ abbrev cost : ℕ → ℕ
 cost n = cond (not (nat_eq n 0)) 1 0
 
 cost_of : (n : ℕ) → n ≢ 0 → cost n ≡ 1
-cost_of zero some = absurd (some refl)
-cost_of (suc n) some = refl
+cost_of n some = ap (λ b. cond (not b) 1 0) (ne_eqb n 0 some)
 
 -- one face less is left
 pub one_less : (reached : List ℕ) (f : ℕ) → f < length reached → ¬ IsReached reached f
