@@ -1,4 +1,4 @@
-use Rattle.std.proofs.Common.{◌≡◌, ◌∙◌, [], arith, ap, refl, sym, subst}
+use Rattle.std.proofs.Common.{◌≡◌, ◌∙◌, arith, ap, refl, sym, subst}
 use Rattle.half_edge_mesh.specs.Mesh.{face, rev}
 use Rattle.delaunay_legalization.proofs.Legalizing.{drained}
 use Rattle.drawing_faces.specs.Flood.{IsFlood}

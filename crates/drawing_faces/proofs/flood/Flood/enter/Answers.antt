@@ -1,4 +1,4 @@
-use Rattle.std.proofs.Common.{◌≡◌, ◌∙◌, arith, length, set, ap, sym}
+use Rattle.std.proofs.Common.{◌≡◌, ◌∙◌, set, ap, sym}
 use Rattle.std.proofs.lemmas.Result.{on_ok_weaker}
 use Rattle.half_edge_mesh.specs.Mesh.{face_edge, next, prev}
 use Rattle.drawing_faces.proofs.Listing.{entered_before, entered_first, less_work, stands_at}
