@@ -12,13 +12,22 @@ pub enum Source {
     GeoJson,
 }
 
+/// The coordinates of the ends of a way, as words.
+#[derive(Clone, Copy)]
+pub struct Way<'a> {
+    pub x1: &'a str,
+    pub y1: &'a str,
+    pub x2: &'a str,
+    pub y2: &'a str,
+}
+
 /// What is asked of a triangulation, by the file of the points that are asked about, or by the ends
 /// of a way.
 #[derive(Clone, Copy)]
 pub enum Question<'a> {
     Nearest(&'a str),
     Locate(&'a str),
-    Line([&'a str; 4]),
+    Line(Way<'a>),
 }
 
 /// What is asked for.
@@ -79,7 +88,8 @@ fn with_questions<'a>(command: Command<'a>, alloc: Global) -> Result<Command<'a>
         .long("nearest")
         .value_name("FILE")
         .help("Tells which point is nearest to each of a table, and how far it is")
-        .conflicts_with_all(["locate", "line"].as_slice())?;
+        .conflicts_with("locate")?
+        .conflicts_with("line")?;
     let locate = Arg::new(alloc, "locate")
         .long("locate")
         .value_name("FILE")
@@ -166,7 +176,12 @@ fn question_of<'a>(matches: &ArgMatches<'a>) -> Option<Question<'a>> {
         return Some(Question::Locate(file));
     }
     match matches.get_strs("line") {
-        Some([a, b, c, d]) => Some(Question::Line([*a, *b, *c, *d])),
+        Some([x1, y1, x2, y2]) => Some(Question::Line(Way {
+            x1: *x1,
+            y1: *y1,
+            x2: *x2,
+            y2: *y2,
+        })),
         _ => None,
     }
 }

@@ -1,5 +1,5 @@
 //! What is read: a drawing, and points that are asked about, all on one scale.
-use crate::command::{Question, Source, Task};
+use crate::command::{Question, Source, Task, Way};
 use crate::progress::ToldReader;
 use anyhow::{Context, anyhow};
 use mesh_files::{
@@ -7,6 +7,7 @@ use mesh_files::{
     read_segments, scale,
 };
 use spade_delaunay::Point2;
+use std::alloc::{AllocError, Global};
 use std::fs;
 use std::io::{BufReader, Read};
 
@@ -90,9 +91,9 @@ fn way_fault(fault: FileFault) -> anyhow::Error {
 }
 
 /// Reads the ends of a way.
-fn read_way(rt: &HostRuntime, words: &[&str; 4]) -> anyhow::Result<Drawing> {
-    let [a, b, c, d] = words;
-    let table = format!(in rt.alloc(); "x,y\n{a},{b}\n{c},{d}\n")?;
+fn read_way(rt: &HostRuntime, way: Way<'_>) -> anyhow::Result<Drawing> {
+    let Way { x1, y1, x2, y2 } = way;
+    let table = format!(in rt.alloc(); "x,y\n{x1},{y1}\n{x2},{y2}\n")?;
     match read_csv(table.as_bytes(), rt.alloc()) {
         Ok(way) => Ok(way),
         Err(fault) => Err(way_fault(fault)),
@@ -137,25 +138,27 @@ fn first_fault(scaled: &Scaled, asked: &[Spot]) -> FileFault {
     FileFault::at(0, Reason::NoMemory)
 }
 
+/// A list from a place on.
+fn copies_from<T: Copy>(list: &[T], start: usize, alloc: Global) -> Result<Vec<T>, AllocError> {
+    list.iter().copied().skip(start).collect(alloc)
+}
+
 /// Gives points that are asked about whole coordinates on the scale of a drawing, which is made
-/// finer where they have more digits.
-fn scale_asked(rt: &impl AllocGlobal, task: &Task<'_>, scene: &mut Scene) -> Result<(), FileFault> {
+/// finer where they have more digits. They stand behind the points in holes while that is done.
+fn scale_asked(
+    rt: &impl AllocGlobal,
+    task: &Task<'_>,
+    asked: &[Spot],
+    scene: &mut Scene,
+) -> Result<(), FileFault> {
     let holes = scene.drawing.holes.len();
-    scene
-        .drawing
-        .holes
-        .extend_from_slice(scene.asked.as_slice())?;
-    let Ok(scaled) = scale(&mut scene.drawing, task.rounding, rt.alloc()) else {
-        return Err(first_fault(&scene.scaled, scene.asked.as_slice()));
-    };
-    scene.scaled = scaled;
-    scene.asked.clear();
-    scene
-        .asked
-        .extend_from_slice(scene.drawing.holes.get(holes..).unwrap_or(&[]))?;
-    scene
-        .asked_points
-        .extend_from_slice(scene.scaled.holes.get(holes..).unwrap_or(&[]))?;
+    scene.drawing.holes.extend_from_slice(asked)?;
+    match scale(&mut scene.drawing, task.rounding, rt.alloc()) {
+        Ok(scaled) => scene.scaled = scaled,
+        Err(_) => return Err(first_fault(&scene.scaled, asked)),
+    }
+    scene.asked = copies_from(scene.drawing.holes.as_slice(), holes, rt.alloc())?;
+    scene.asked_points = copies_from(scene.scaled.holes.as_slice(), holes, rt.alloc())?;
     scene.drawing.holes.truncate(holes);
     scene.scaled.holes.truncate(holes);
     Ok(())
@@ -192,19 +195,18 @@ fn add_asked(
 ) -> anyhow::Result<()> {
     let asked = read_asked(rt, file)?;
     tell_left_out(rt, task, &asked)?;
-    scene.asked = asked.spots;
-    scale_asked(rt, task, scene).context(format_args!("{file}"))
+    scale_asked(rt, task, asked.spots.as_slice(), scene).context(format_args!("{file}"))
 }
 
 /// Takes the ends of a way in.
 fn add_way(
     rt: &HostRuntime,
     task: &Task<'_>,
-    words: &[&str; 4],
+    way: Way<'_>,
     scene: &mut Scene,
 ) -> anyhow::Result<()> {
-    scene.asked = read_way(rt, words)?.spots;
-    match scale_asked(rt, task, scene) {
+    let ends = read_way(rt, way)?;
+    match scale_asked(rt, task, ends.spots.as_slice(), scene) {
         Ok(()) => Ok(()),
         Err(fault) => Err(way_fault(fault)),
     }
@@ -218,7 +220,7 @@ pub fn read_scene(rt: &HostRuntime, task: &Task<'_>) -> anyhow::Result<Scene> {
         Some(Question::Nearest(file) | Question::Locate(file)) => {
             add_asked(rt, task, file, &mut scene)?;
         }
-        Some(Question::Line(words)) => add_way(rt, task, &words, &mut scene)?,
+        Some(Question::Line(way)) => add_way(rt, task, way, &mut scene)?,
         None => {}
     }
     Ok(scene)
