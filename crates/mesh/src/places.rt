@@ -26,7 +26,7 @@ fn push_parts(
     for i in 0..3 {
         line.push(',')?;
         if let Some(part) = parts.get(i) {
-            let number = u64::from(part.place) + 1;
+            let number = u64::from(part.place).saturating_add(1);
             write!(line, "{number}")?;
         }
     }
