@@ -3,7 +3,7 @@ ghost use Rattle.std.specs.Prelude.{All};
 ghost use Rattle.plane.specs.Tests.{InRange};
 ghost use Rattle.delaunay_legalization.specs.Shape.{IsTriangulated};
 ghost use Rattle.delaunay_legalization.specs.State.{state_of};
-ghost use Rattle.test_calls.specs.Vertices.{position_of};
+ghost use Rattle.test_points.specs.Vertices.{position_of};
 
 use crate::counting::counting_rectangle;
 use crate::shapes::{Found, edges_of, found_in_circle, found_in_rectangle, listed};
@@ -14,7 +14,7 @@ use spade_delaunay::{
     CircleMetric, Dcel, DistanceMetric, FloatTriangulation, Point2, RectangleMetric, Triangulation,
 };
 use std::alloc::Global;
-use test_calls::points::{TaggedVertex, both_in_range, circle_in_range};
+use test_points::{TaggedVertex, both_in_range, circle_in_range};
 
 /// How many shapes there were, in how many of them something else was given than by the look at
 /// each element, and how many edges and vertices were given.

@@ -55,12 +55,25 @@ fn print_all<T: Triangulation<Vertex = NamedVertex>>(
     Ok(())
 }
 
-// Copies a triangulation, and prints the copy and the first.
+// Prints a copy of a triangulation.
 fn print_copy(rt: &impl Print, points: &DelaunayTriangulation<NamedVertex>) -> io::Result<()> {
     match points.try_clone() {
-        Ok(copy) => print_all(rt, "copy", &copy)?,
-        Err(_) => println!(rt; "Err(AllocError)")?,
+        Ok(copy) => print_all(rt, "copy", &copy),
+        Err(_) => println!(rt; "Err(AllocError)"),
     }
+}
+
+// Copies a triangulation, and prints the copy and the first. A line `begin` stands before the copy
+// where calls are marked.
+fn print_both(
+    rt: &impl Print,
+    points: &DelaunayTriangulation<NamedVertex>,
+    is_marked: bool,
+) -> io::Result<()> {
+    if is_marked {
+        println!(rt; "begin")?;
+    }
+    print_copy(rt, points)?;
     print_all(rt, "first", points)
 }
 
@@ -69,11 +82,8 @@ fn print_copy(rt: &impl Print, points: &DelaunayTriangulation<NamedVertex>) -> i
 pub fn copy_named(rt: &(impl Print + AllocGlobal), is_marked: bool) -> io::Result<()> {
     println!(rt; "ready")?;
     let mut points: DelaunayTriangulation<NamedVertex> = DelaunayTriangulation::new(rt.alloc());
-    if insert_five(&mut points, rt.alloc()).is_err() {
-        return println!(rt; "refused");
+    match insert_five(&mut points, rt.alloc()) {
+        Ok(()) => print_both(rt, &points, is_marked),
+        Err(_) => println!(rt; "refused"),
     }
-    if is_marked {
-        println!(rt; "begin")?;
-    }
-    print_copy(rt, &points)
 }

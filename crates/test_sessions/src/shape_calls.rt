@@ -6,7 +6,7 @@ use exact_predicates::ExactTests;
 use spade_delaunay::{EdgesInShapeIterator, FloatTriangulation, Point2, VerticesInShapeIterator};
 use std::alloc::{AllocError, Global};
 use std::io;
-use test_calls::points::{TaggedVertex, both_in_range, circle_in_range};
+use test_points::{TaggedVertex, both_in_range, circle_in_range};
 use test_reader::Call;
 
 fn print_edges<V, DE, UE, F>(

@@ -4,7 +4,7 @@
 use exact_predicates::ExactTests;
 use spade_delaunay::{EdgesInShapeIterator, FloatTriangulation, Point2, VerticesInShapeIterator};
 use std::alloc::{AllocError, Global};
-use test_calls::points::{TaggedVertex, both_in_range, circle_in_range, ends_of};
+use test_points::{TaggedVertex, both_in_range, circle_in_range, ends_of};
 
 /// The ends of edges and the vertices that were found, by their indexes in rising order.
 pub type Found = (Vec<(u32, u32)>, Vec<u32>);

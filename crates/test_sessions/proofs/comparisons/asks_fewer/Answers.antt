@@ -2,7 +2,7 @@ use Rattle.std.proofs.Common.{ap}
 use Rattle.std.proofs.lemmas.List.Elements.{All-map}
 use Rattle.plane.specs.Tests.{InRange}
 use Rattle.delaunay_core.specs.Place.{place_of}
-use Rattle.test_calls.specs.Vertices.{position_of}
+use Rattle.test_points.specs.Vertices.{position_of}
 use Rattle.test_sessions.proofs.Asked.{begins_at, corners_in_range}
 use Rattle.test_sessions.proofs.comparisons.asks_fewer.Goals as goal
 

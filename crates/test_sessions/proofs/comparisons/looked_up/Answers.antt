@@ -1,6 +1,6 @@
 use Rattle.std.proofs.lemmas.List.Elements.{All-map}
 use Rattle.plane.specs.Tests.{InRange}
-use Rattle.test_calls.specs.Vertices.{position_of}
+use Rattle.test_points.specs.Vertices.{position_of}
 use Rattle.test_sessions.proofs.comparisons.looked_up.Goals as goal
 
 pub edges_by_filter-edges-requires-clause-covered :
