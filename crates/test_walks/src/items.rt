@@ -1,26 +1,24 @@
 //! What a segment meets, by the indexes of vertices.
 
 use delaunay_interface::Intersection;
-use std::fmt::{Display, Formatter, Write};
-use std::{fmt, io};
+use std::io;
 use test_points::ends_of;
 use test_reader::Call;
 
 /// A vertex, or an edge from one vertex to another.
-#[derive(Clone, Copy, Debug, PartialEq, Eq)]
+#[derive(Clone, Copy)]
 pub enum Item {
     Vertex(u32),
     Edge(u32, u32),
     Overlap(u32, u32),
 }
 
-impl Display for Item {
-    fn fmt<W: Write>(&self, f: &mut Formatter<W>) -> Result<(), fmt::Error> {
-        match self {
-            Item::Vertex(v) => write!(f, "v {v}"),
-            Item::Edge(from, to) => write!(f, "e {from}>{to}"),
-            Item::Overlap(from, to) => write!(f, "o {from}>{to}"),
-        }
+// Prints an item behind a space.
+fn print_item(rt: &impl Print, item: Item) -> io::Result<()> {
+    match item {
+        Item::Vertex(v) => print!(rt; " v {v}"),
+        Item::Edge(from, to) => print!(rt; " e {from}>{to}"),
+        Item::Overlap(from, to) => print!(rt; " o {from}>{to}"),
     }
 }
 
@@ -60,7 +58,7 @@ pub fn tell_items(rt: &impl Print, call: &Call<'_>, items: Option<Vec<Item>>) ->
     };
     print!(rt; "{line} >")?;
     for item in &items {
-        print!(rt; " {item}")?;
+        print_item(rt, *item)?;
     }
     println!(rt)
 }
