@@ -14,7 +14,7 @@ pub enum Item {
 }
 
 // Prints an item behind a space.
-fn print_item(rt: &impl Print, item: Item) -> io::Result<()> {
+fn print_met(rt: &impl Print, item: Item) -> io::Result<()> {
     match item {
         Item::Vertex(v) => print!(rt; " v {v}"),
         Item::Edge(from, to) => print!(rt; " e {from}>{to}"),
@@ -58,7 +58,7 @@ pub fn tell_items(rt: &impl Print, call: &Call<'_>, items: Option<Vec<Item>>) ->
     };
     print!(rt; "{line} >")?;
     for item in &items {
-        print_item(rt, *item)?;
+        print_met(rt, *item)?;
     }
     println!(rt)
 }
