@@ -1,4 +1,9 @@
 //! A hint generator that has several others, of which one is chosen.
+ghost use Rattle.std.specs.Prelude.{◌≡◌, Some};
+ghost use Rattle.plane.specs.Fraction.{Point};
+ghost use Rattle.plane.specs.Hint.{IsAtMost, IsAtMostWith, IsAtMostWithout};
+ghost use Rattle.delaunay_core.specs.Held.{place_if};
+ghost use Rattle.delaunay_core.specs.Place.{place_of};
 ghost use Rattle.test_hints.specs.Unions.{IsInAny};
 
 use crate::listing::Listing;
@@ -118,7 +123,12 @@ impl<
         }
     }
 
-    fn get_hint<P: PlaneTests<S>>(&self, position: Point2<S>, tests: &P) -> FixedVertexHandle {
+    fn get_hint<P: PlaneTests<S>>(&self, position: Point2<S>, tests: &P) -> FixedVertexHandle
+        requires held { IsAtMost (P.sites tests.now)
+            (IsInAny (A.holds self.now.first) (B.holds self.now.second) (C.holds self.now.third)
+            (D.holds self.now.fourth) (E.holds self.now.fifth)) }
+        requires covered { P.covered tests.now (place_of S.whole position) }
+    {
         match self.asked() {
             Choice::EachInTurn => self.each_in_turn.get_hint(position, tests),
             Choice::Always1000 => self.always.get_hint(position, tests),
@@ -146,7 +156,16 @@ impl<
         vertex: FixedVertexHandle,
         position: Point2<S>,
         tests: &P,
-    ) {
+    )
+        requires held { IsAtMost (P.sites tests.now)
+            (IsInAny (A.holds self.old.first) (B.holds self.old.second) (C.holds self.old.third)
+            (D.holds self.old.fourth) (E.holds self.old.fifth)) }
+        requires site { P.sites tests.now (place_of S.whole position) }
+        ensures { IsAtMostWith (IsInAny (A.holds self.old.first) (B.holds self.old.second)
+            (C.holds self.old.third) (D.holds self.old.fourth) (E.holds self.old.fifth))
+            (IsInAny (A.holds self.new.first) (B.holds self.new.second) (C.holds self.new.third)
+            (D.holds self.new.fourth) (E.holds self.new.fifth)) (place_of S.whole position) }
+    {
         self.last_used
             .notify_vertex_inserted(vertex, position, tests);
         let (first, second) = (self.is_told(Choice::First), self.is_told(Choice::Second));
@@ -168,7 +187,19 @@ impl<
         vertex: FixedVertexHandle,
         position: Point2<S>,
         tests: &P,
-    ) {
+    )
+        requires held { IsAtMost (P.sites tests.now)
+            (IsInAny (A.holds self.old.first) (B.holds self.old.second) (C.holds self.old.third)
+            (D.holds self.old.fourth) (E.holds self.old.fifth)) }
+        requires site { P.sites tests.now (place_of S.whole position) }
+        requires swapped_site { (p : Point) → place_if S.whole swapped_in_point ≡ Some p →
+            P.sites tests.now p }
+        ensures { IsAtMostWithout (IsInAny (A.holds self.old.first) (B.holds self.old.second)
+            (C.holds self.old.third) (D.holds self.old.fourth) (E.holds self.old.fifth))
+            (IsInAny (A.holds self.new.first) (B.holds self.new.second) (C.holds self.new.third)
+            (D.holds self.new.fourth) (E.holds self.new.fifth)) (place_of S.whole position)
+            (place_if S.whole swapped_in_point) }
+    {
         self.last_used
             .notify_vertex_removed(swapped_in_point, vertex, position, tests);
         if self.is_told(Choice::Listing) {

@@ -157,23 +157,20 @@ impl<L: Choosing> Session<L> {
             "swap" => call.tell(rt, &self.turn_to_copy()),
             "sheet" => call.tell(rt, &self.take_sheet(positions)),
             "replay" => self.replay(rt, call),
-            _ => self.choose_kind(rt, call, vertices),
+            _ => self.ask_one(rt, call, vertices),
         }
     }
 
     // Calls that say which of the two triangulations is asked.
-    fn choose_kind(
-        &mut self,
-        rt: &(impl Print + AllocGlobal),
-        call: &Call<'_>,
-        vertices: Vec<TaggedVertex>,
-    ) -> io::Result<()> {
-        match call.name {
+    fn choose_kind(&mut self, rt: &impl Print, call: &Call<'_>) -> io::Result<bool> {
+        let printed = match call.name {
             "plain" => call.tell(rt, &self.turn(false)),
             "constrained" => call.tell(rt, &self.turn(true)),
             "is_constrained" => call.tell(rt, &self.is_constrained),
-            _ => self.ask_one(rt, call, vertices),
-        }
+            _ => return Ok(false),
+        };
+        printed?;
+        Ok(true)
     }
 
     // Calls of the one that is asked, or of what stands beside it.
@@ -186,7 +183,7 @@ impl<L: Choosing> Session<L> {
         match call.name {
             name if is_look(name) => self.look(rt, call),
             name if is_bulk(name) => self.insert_listed(rt, call, vertices),
-            _ if self.beside.answer(rt, call)? => Ok(()),
+            _ if self.choose_kind(rt, call)? || self.beside.answer(rt, call)? => Ok(()),
             _ => self.list(rt, call, vertices),
         }
     }

@@ -145,10 +145,10 @@ pub fn answer_conflicts<L: HintGenerator<i64>>(
     sheet: &[Point2<i64>],
 ) -> io::Result<bool> {
     let (segment, alloc) = (Segment::between(call.ends()), rt.alloc());
-    let [from, to, _] = call.indexes();
     let printed = match call.name {
         "conflicts" => tell_items(rt, call, conflicts(points, segment, alloc)),
         "conflicts_of_handles" => {
+            let [from, to, _] = call.indexes();
             tell_items(rt, call, conflicts_between(points, from, to, alloc))
         }
         "conflicts_agree" => call.tell(rt, &compare_conflicts(points, sheet, alloc)),
