@@ -8,9 +8,11 @@ mod constraints;
 pub mod derived;
 mod edits;
 mod flips;
+mod named;
 mod paths;
 mod writes;
 
 pub use constraints::answer_constrained;
 pub use edits::{edit, edit_plain};
+pub use named::copy_named;
 pub use writes::write;

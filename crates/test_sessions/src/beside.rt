@@ -1,9 +1,6 @@
 //! Calls beside triangulations: generators of hints by themselves, data of edges, and answers to
 //! locations.
 
-use crate::generators::{duplicate, five, initialize};
-use crate::last_used;
-use crate::named::copy_named;
 use spade_delaunay::{
     HierarchyHintGeneratorWithBranchFactor as Hierarchy, HintGenerator,
     LastUsedVertexHintGenerator, Point2,
@@ -11,7 +8,10 @@ use spade_delaunay::{
 use std::alloc::Global;
 use std::io;
 use test_edits::constraint_edges::{free_and_fixed, made_and_unmade, markers, written};
+use test_edits::copy_named;
 use test_edits::derived::{compare_answers, compare_edges, each_answer};
+use test_hints::generators::{duplicate, five, initialize};
+use test_hints::last_used;
 use test_reader::{Call, index};
 
 /// A generator that belongs to no triangulation.

@@ -9,17 +9,10 @@
 mod answers;
 mod beside;
 mod bulk;
-mod comparisons;
-mod counting;
 mod each;
-mod generators;
 mod hints;
 mod journal;
-mod last_used;
-mod named;
 mod session;
-mod shape_calls;
-mod shapes;
 
 use each::EachHints;
 use hints::{Choosing, Hints, choice_of};

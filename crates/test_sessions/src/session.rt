@@ -5,7 +5,6 @@ use crate::beside::Beside;
 use crate::bulk::{insert_many, is_bulk};
 use crate::hints::{Choosing, factor_of, tell_listing};
 use crate::journal::{Edits, edit_of, replay_constrained, replay_plain, tell_outcomes};
-use crate::shape_calls::query;
 use spade_delaunay::{Point2, Triangulation};
 use std::alloc::{AllocError, Global};
 use std::io;
@@ -13,6 +12,7 @@ use std::mem::{replace as put, swap};
 use test_hints::Choice;
 use test_points::{Constrained, Plain, TaggedVertex, vertices_at};
 use test_reader::{Answers, Call};
+use test_shapes::query;
 
 /// A triangulation without constraints and one that may have some, with their last copies.
 #[derive(Drop)]

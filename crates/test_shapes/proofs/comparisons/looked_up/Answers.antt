@@ -1,7 +1,7 @@
 use Rattle.std.proofs.lemmas.List.Elements.{All-map}
 use Rattle.plane.specs.Tests.{InRange}
 use Rattle.test_points.specs.Vertices.{position_of}
-use Rattle.test_sessions.proofs.comparisons.looked_up.Goals as goal
+use Rattle.test_shapes.proofs.comparisons.looked_up.Goals as goal
 
 pub edges_by_filter-edges-requires-clause-covered :
     goal.edges_by_filter-edges-requires-clause-covered

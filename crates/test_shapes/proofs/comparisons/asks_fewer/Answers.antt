@@ -3,8 +3,8 @@ use Rattle.std.proofs.lemmas.List.Elements.{All-map}
 use Rattle.plane.specs.Tests.{InRange}
 use Rattle.delaunay_core.specs.Place.{place_of}
 use Rattle.test_points.specs.Vertices.{position_of}
-use Rattle.test_sessions.proofs.Asked.{begins_at, corners_in_range}
-use Rattle.test_sessions.proofs.comparisons.asks_fewer.Goals as goal
+use Rattle.test_shapes.proofs.Asked.{begins_at, corners_in_range}
+use Rattle.test_shapes.proofs.comparisons.asks_fewer.Goals as goal
 
 pub edges_in_shape-requires-clause-sites : goal.edges_in_shape-requires-clause-sites
 edges_in_shape-requires-clause-sites g c =

@@ -1,6 +1,6 @@
 use Rattle.delaunay_core.specs.Place.{place_of}
-use Rattle.test_sessions.proofs.Asked.{corners_in_range}
-use Rattle.test_sessions.proofs.comparisons.expected_in_rectangle.Goals as goal
+use Rattle.test_shapes.proofs.Asked.{corners_in_range}
+use Rattle.test_shapes.proofs.comparisons.expected_in_rectangle.Goals as goal
 
 pub looked_up-requires-clause-own_covered : goal.looked_up-requires-clause-own_covered
 looked_up-requires-clause-own_covered g c =

@@ -1,8 +1,10 @@
 //! What a triangulation gives in rectangles and circles: nothing where a point is out of range, a
 //! squared radius is negative, or memory was refused.
 
+use delaunay_core::point::Point2;
+use delaunay_shape_queries::FloatTriangulation;
+use delaunay_shapes::{EdgesInShapeIterator, VerticesInShapeIterator};
 use exact_predicates::ExactTests;
-use spade_delaunay::{EdgesInShapeIterator, FloatTriangulation, Point2, VerticesInShapeIterator};
 use std::alloc::{AllocError, Global};
 use test_points::{TaggedVertex, both_in_range, circle_in_range, ends_of};
 

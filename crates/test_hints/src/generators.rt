@@ -3,9 +3,11 @@ ghost use Rattle.std.specs.Prelude.{Some};
 ghost use Rattle.plane.specs.Hint.{IsAtMost};
 ghost use Rattle.plane.specs.Tests.{InRange};
 
+use delaunay_core::HintGenerator;
+use delaunay_core::math::validate_vertex;
+use delaunay_core::point::Point2;
 use exact_predicates::ExactTests;
-use spade_delaunay::handles::FixedVertexHandle;
-use spade_delaunay::{HintGenerator, Point2, validate_vertex};
+use half_edge_handles::FixedVertexHandle;
 use std::alloc::Global;
 use std::io;
 

@@ -1,6 +1,6 @@
 use Rattle.delaunay_shape_queries.proofs.Calls.{kept_in_mesh}
 use Rattle.test_points.specs.Vertices.{position_of}
-use Rattle.test_sessions.proofs.comparisons.mesh_of.Goals as goal
+use Rattle.test_shapes.proofs.comparisons.mesh_of.Goals as goal
 
 pub returns-clause-kept : goal.returns-clause-kept
 returns-clause-kept g c =

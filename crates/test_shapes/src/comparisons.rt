@@ -7,12 +7,15 @@ ghost use Rattle.test_points.specs.Vertices.{position_of};
 
 use crate::counting::counting_rectangle;
 use crate::shapes::{Found, edges_of, found_in_circle, found_in_rectangle, listed};
-use delaunay_shapes::{edges_by_filter, edges_in_shape, vertices_by_filter};
-use exact_predicates::ExactTests;
-use spade_delaunay::handles::FixedVertexHandle;
-use spade_delaunay::{
-    CircleMetric, Dcel, DistanceMetric, FloatTriangulation, Point2, RectangleMetric, Triangulation,
+use delaunay_core::point::Point2;
+use delaunay_interface::Triangulation;
+use delaunay_shape_queries::FloatTriangulation;
+use delaunay_shapes::{
+    CircleMetric, DistanceMetric, RectangleMetric, edges_by_filter, edges_in_shape,
+    vertices_by_filter,
 };
+use exact_predicates::ExactTests;
+use half_edge_mesh::{Dcel, FixedVertexHandle};
 use std::alloc::Global;
 use test_points::{TaggedVertex, both_in_range, circle_in_range};
 

@@ -1,8 +1,10 @@
 //! Which vertex the generator of last used vertices gives after what it was told.
 
+use delaunay_core::math::validate_vertex;
+use delaunay_core::point::Point2;
+use delaunay_core::{HintGenerator, LastUsedVertexHintGenerator};
 use exact_predicates::ExactTests;
-use spade_delaunay::handles::FixedVertexHandle;
-use spade_delaunay::{HintGenerator, LastUsedVertexHintGenerator, Point2, validate_vertex};
+use half_edge_handles::FixedVertexHandle;
 use std::alloc::Global;
 
 pub fn new_generator(alloc: Global) -> LastUsedVertexHintGenerator {

@@ -2,8 +2,10 @@
 
 use crate::comparisons::{asks_fewer, compare_circles, compare_rectangles};
 use crate::shapes::{found_in_circle, found_in_rectangle};
+use delaunay_core::point::Point2;
+use delaunay_shape_queries::FloatTriangulation;
+use delaunay_shapes::{EdgesInShapeIterator, VerticesInShapeIterator};
 use exact_predicates::ExactTests;
-use spade_delaunay::{EdgesInShapeIterator, FloatTriangulation, Point2, VerticesInShapeIterator};
 use std::alloc::{AllocError, Global};
 use std::io;
 use test_points::{TaggedVertex, both_in_range, circle_in_range};

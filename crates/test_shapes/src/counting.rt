@@ -5,7 +5,9 @@ ghost use Rattle.plane.specs.Tests.{InRange};
 ghost use Rattle.plane_delaunay.specs.EdgeTests.{HasPointIn};
 ghost use Rattle.delaunay_core.specs.Place.{place_of};
 
-use spade_delaunay::{DistanceMetric, PlaneTests, Point2, RectangleMetric, SpadeNum};
+use delaunay_core::math::PlaneTests;
+use delaunay_core::point::{Point2, SpadeNum};
+use delaunay_shapes::{DistanceMetric, RectangleMetric};
 use std::cell::Cell;
 
 /// A shape, with how often it was asked.
