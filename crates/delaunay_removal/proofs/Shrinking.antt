@@ -63,6 +63,17 @@ module _ {V D U F : Type 0} {turned : List (ℕ × ℕ)} {listed capacity : ℕ}
           room = let fits = shrinking.room in omega (arith, fits, many, one_more, same);
         }
 
+    -- the same from another edge of the vertex
+    pub shrinking_from : (edge : ℕ) → edge < length now.mesh.half_edges → origin now.mesh edge ≡ v
+        → IsShrinking place old now v edge count turned listed capacity
+    shrinking_from edge within starts = record {
+      contents = shrinking.contents;
+      star = star_from (map place now.vertices) now.mesh whole.valid v first count shrinking.star
+          edge within starts;
+      beside = shrinking.beside;
+      room = shrinking.room;
+    }
+
     -- no edge can be turned any more
     pub shrinking_stops : 3 < count → ((i : ℕ) → i < count
         → ¬ IsConvexAt (map place now.vertices) now.mesh (spoke now.mesh first i))
