@@ -1,13 +1,12 @@
 -- The look for an edge between two vertices, round both of them at once.
 use Rattle.std.proofs.Common.{◌≡◌, ◌≢◌, ◌<◌, ◌≤◌, ◌∙◌}
-use Rattle.std.proofs.Common.{ℕ, length, None, IsSome, refl, sym, ap, subst, arith, inl, inr}
+use Rattle.std.proofs.Common.{ℕ, length, sym, ap, arith, inl, inr}
 use Rattle.std.proofs.lemmas.Bool.{cases_lt}
 use Rattle.half_edge_links.proofs.Lists.Rev.{rev-rev, rev_within}
-use Rattle.half_edge_mesh.specs.Mesh.{Mesh, IsValidMesh, origin, out_edge, rev}
+use Rattle.half_edge_mesh.specs.Mesh.{Mesh, IsValidMesh, origin, rev}
 use Rattle.half_edge_mesh.specs.Peel.{spoke}
 use Rattle.half_edge_mesh.specs.Round.{IsRound}
 use Rattle.half_edge_views.proofs.Loops.{round_fits}
-use Rattle.mesh_embedding.proofs.Entries.{not_some}
 use Rattle.delaunay_legalization.proofs.Rounds.{round_at}
 use Rattle.delaunay_removal.specs.Pairs.{HasNoEdgeBetween}
 use Rattle.delaunay_removal.proofs.Searching.{IsSearching}
@@ -28,20 +27,6 @@ pub none_back : (m : Mesh) (i j : ℕ) → IsValidMesh m → HasNoEdgeBetween m 
 none_back m i j valid none h within starts ends =
     none (rev h) (rev_within h (length m.half_edges) valid.sound.even within) ends
     (ap (origin m) (rev-rev h) ∙ starts)
-
--- none starts at an index of no vertex
-pub none_past_end : (m : Mesh) (i j : ℕ) → IsValidMesh m → length m.out_edges ≤ i
-    → HasNoEdgeBetween m i j
-none_past_end m i j valid past h within starts ends =
-    let there = (valid.sound.edges h within).origin_in in
-    omega (arith, there, past, starts)
-
--- nor at a vertex without edges
-pub none_at_lone : (m : Mesh) (i j : ℕ) → IsValidMesh m → out_edge m i ≡ None
-    → HasNoEdgeBetween m i j
-none_at_lone m i j valid none h within starts ends =
-    not_some (out_edge m i) none (subst (λ (x : ℕ). IsSome (out_edge m x)) starts
-    (valid.sound.edges h within).has_out)
 
 -- ---- a walk round the vertex i where edge first starts, for an edge that ends at vertex j
 module _ (m : Mesh) (valid : IsValidMesh m) (i first j : ℕ) (first_in : first < length m.half_edges)

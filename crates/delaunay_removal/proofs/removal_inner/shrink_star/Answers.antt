@@ -57,10 +57,11 @@ turn_away-requires-clause-room g c =
     let many = c.loop-count-test.true in
     omega (arith, room, many)
 
-pub edge_to_go_on-requires : goal.edge_to_go_on-requires
-edge_to_go_on-requires g c =
-    subst (λ (es : List g.DE). c.in-Some.edge < length es)
-    (sym (ap (λ (d : Contents g.V g.DE g.UE g.F). d.directed) c.turn_away.ensures.turns.contents))
+pub edge_to_go_on-first-requires : goal.edge_to_go_on-first-requires
+edge_to_go_on-first-requires g c =
+    subst (λ (es : List g.row.DE). c.in-Some.edge < length es)
+    (sym (ap (λ (d : Contents g.row.V g.row.DE g.row.UE g.row.F). d.directed)
+    c.turn_away.ensures.turns.contents))
     c.in-Some.ensures.within
 
 pub loop-count-preserved : goal.loop-count-preserved
@@ -82,9 +83,9 @@ loop-count-preserved g c =
     c.turn_away.new.turned.items (vec_len c.turn_away.new.turned)
     (vec_capacity c.turn_away.new.turned) turned.items turned.len turned.capacity in
     shrinking_from g.V.HasPosition.place c.args.dcel.now c.turn_away.new.dcel v c.in-Some.edge
-    (c.loop-count.count - 1) next whole c.edge_to_go_on.result
-    (subst (λ (n : ℕ). c.edge_to_go_on.result < n) fit c.edge_to_go_on.ensures.within)
-    (c.edge_to_go_on.ensures.starts ∙ next.star.round.starts 0)
+    (c.loop-count.count - 1) next whole c.edge_to_go_on-first.result
+    (subst (λ (n : ℕ). c.edge_to_go_on-first.result < n) fit c.edge_to_go_on-first.ensures.within)
+    (c.edge_to_go_on-first.ensures.starts ∙ next.star.round.starts 0)
 
 pub returns-in-None-clause-reduced : goal.returns-in-None-clause-reduced
 returns-in-None-clause-reduced g c =
