@@ -22,6 +22,13 @@ pub record IsShrinking {V D U F : Type 0} (place : V → Point) (old now : Conte
   pub beside : StandsBeside old now v turned
   pub room : listed + count ≤ capacity
 
+module _ {V D U F : Type 0} (old new : Contents V D U F) where
+  -- where the links alone change, an edge stays one of the directed edges
+  pub still_within : new ≡ record old { mesh = new.mesh } → (e : ℕ) → e < length old.directed
+      → e < length new.directed
+  still_within contents e within = subst (λ (ds : List D). e < length ds)
+      (sym (ap (λ (c : Contents V D U F). c.directed) contents)) within
+
 module _ {V D U F : Type 0} {turned : List (ℕ × ℕ)} {listed capacity : ℕ} (place : V → Point)
     (old now : Contents V D U F) (v first count : ℕ)
     (shrinking : IsShrinking place old now v first count turned listed capacity) where

@@ -1,12 +1,11 @@
-use Rattle.std.proofs.Common.{ℕ, ◌<◌, ◌≤◌, ◌-◌, ◌∙◌, List, length, map, vec_len, vec_capacity, refl}
-use Rattle.std.proofs.Common.{subst, sym, ap, arith}
-use Rattle.half_edge_mesh.specs.Contents.{Contents}
+use Rattle.std.proofs.Common.{ℕ, ◌<◌, ◌≤◌, ◌-◌, ◌∙◌, map, vec_len, vec_capacity, refl}
+use Rattle.std.proofs.Common.{subst, sym, arith}
 use Rattle.half_edge_mesh.specs.Mesh.{origin}
 use Rattle.half_edge_mesh.specs.Round.{neighbour}
 use Rattle.delaunay_removal.proofs.DataStays.{all_stands}
 use Rattle.delaunay_removal.proofs.InnerStars.{spokes_inner, ends_differ}
 use Rattle.delaunay_removal.proofs.Shrinking.{star_at, shrinking_goes_on, shrinking_stops}
-use Rattle.delaunay_removal.proofs.Shrinking.{shrinking_ends, shrinking_from}
+use Rattle.delaunay_removal.proofs.Shrinking.{shrinking_ends, shrinking_from, still_within}
 use Rattle.delaunay_removal.proofs.removal_inner.shrink_star.Goals as goal
 
 pub loop-count-init : goal.loop-count-init
@@ -59,10 +58,8 @@ turn_away-requires-clause-room g c =
 
 pub edge_to_go_on-first-requires : goal.edge_to_go_on-first-requires
 edge_to_go_on-first-requires g c =
-    subst (λ (es : List g.row.DE). c.in-Some.edge < length es)
-    (sym (ap (λ (d : Contents g.row.V g.row.DE g.row.UE g.row.F). d.directed)
-    c.turn_away.ensures.turns.contents))
-    c.in-Some.ensures.within
+    still_within c.loop-count.dcel c.turn_away.new.dcel c.turn_away.ensures.turns.contents
+    c.in-Some.edge c.in-Some.ensures.within
 
 pub loop-count-preserved : goal.loop-count-preserved
 loop-count-preserved g c =
