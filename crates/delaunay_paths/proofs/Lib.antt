@@ -1,3 +1,4 @@
+pub mod TurnLowers
 pub mod Towards
 pub mod LeftToTest
 pub mod Making
@@ -13,3 +14,5 @@ pub mod Marks
 pub mod ListingPath
 pub mod JoinedPairs
 pub mod OnePiece
+pub mod CrossingList
+pub mod Listing

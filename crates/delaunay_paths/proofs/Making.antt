@@ -24,9 +24,9 @@ use Rattle.mesh_embedding.specs.Legal.{AreEdges, GainsRound, pairs_at}
 use Rattle.mesh_embedding.proofs.MeshEdits.{flipped_faces}
 use Rattle.delaunay_legalization.specs.Known.{point_at}
 use Rattle.delaunay_legalization.proofs.Questions.{both_ways}
-use Rattle.delaunay_paths.specs.Crossing.{CrossesFromRight, IsLastFromRight}
+use Rattle.delaunay_paths.specs.Crossing.{CrossesFromRight, IsLastFromRight, TurnsNearer}
 use Rattle.delaunay_paths.specs.Kept.{KeepsUncrossed, KeepsUncrossedFaces}
-use Rattle.delaunay_paths.specs.Leaving.{AllPassBeyond, IsWorkList, MakesEdge, TurnsTowards}
+use Rattle.delaunay_paths.specs.Leaving.{AllPassAway, IsWorkList, MakesEdge, TurnsTowards}
 use Rattle.delaunay_paths.proofs.LeftToTest.{flip_leaves, passing_ends}
 use Rattle.delaunay_paths.proofs.Walking.{placed_apart}
 use Rattle.delaunay_paths.proofs.Towards as T
@@ -66,7 +66,7 @@ module _ {V D U F : Type 0} (at : V → Point) (c : Contents V D U F) (mesh : Is
     (i j : ℕ) (free : IsFreeOfVertices (drawn (map at c.vertices) c.mesh) i j)
     (shape : IsMesh (map at c.vertices) (faces_of c.mesh) (outer_of c.mesh)) (e : ℕ)
     (within : e < length c.directed)
-    (last : IsLastFromRight (map at c.vertices) c.mesh i j (length c.directed) e) where
+    (from_right : CrossesFromRight (map at c.vertices) c.mesh i j e) where
   abbrev points : List Point
   points = map at c.vertices
 
@@ -74,76 +74,79 @@ module _ {V D U F : Type 0} (at : V → Point) (c : Contents V D U F) (mesh : Is
   pub e_in : e < length c.mesh.half_edges
   e_in = subst (λ (n : ℕ). e < n) mesh.fits.directed_fit within
 
-  -- none of the directed edges of the mesh that cross comes after it
-  pub last_of_all : IsLastFromRight points c.mesh i j (length c.mesh.half_edges) e
-  last_of_all = subst (λ (n : ℕ). IsLastFromRight points c.mesh i j n e) mesh.fits.directed_fit last
-
   -- the mesh is a local one
   pub local : LocalMesh points (faces_of c.mesh) (outer_of c.mesh)
   local = T.local_if_crossed points c.mesh mesh.valid i j shape
-      (length-map c.vertices at ∙ mesh.fits.vertices_fit) free e e_in last.crosses
+      (length-map c.vertices at ∙ mesh.fits.vertices_fit) free e e_in from_right
 
-  -- the undirected edge of e may be turned
-  pub can_turn : (k : ℕ) → k ≡ e / 2
-      → T.CanTurn points c.mesh mesh.valid i j local free e e_in last_of_all (2 * k)
-  can_turn k is = subst
-      (λ (l : ℕ). T.CanTurn points c.mesh mesh.valid i j local free e e_in last_of_all (2 * l))
-      (sym is) (T.can_turn_last points c.mesh mesh.valid i j local free e e_in last_of_all)
+  -- none of the directed edges of the mesh that cross comes after it, so that it can be turned
+  pub last_nearer : IsLastFromRight points c.mesh i j (length c.directed) e
+      → TurnsNearer points c.mesh i j e
+  last_nearer last = T.last_turns_nearer points c.mesh mesh.valid i j local free e e_in from_right
+      (subst (λ (n : ℕ). IsLastFromRight points c.mesh i j n e) mesh.fits.directed_fit last)
 
-  module _ (k : ℕ) (is : k ≡ e / 2) (new : Mesh) where
-    -- each edge that does not cross the segment joins what it joined
-    pub turn_keeps : new ≡ flipped c.mesh (2 * k) → KeepsUncrossed points c.mesh new i j
-    turn_keeps turned = T.turned_keeps points c.mesh mesh.valid i j local free e e_in last_of_all
-        new (turned ∙ ap (λ (l : ℕ). flipped c.mesh (2 * l)) is)
+  module _ (nearer : TurnsNearer (map at c.vertices) c.mesh i j e) where
+    -- the undirected edge of e may be turned
+    pub can_turn : (k : ℕ) → k ≡ e / 2
+        → T.CanTurn points c.mesh mesh.valid i j local free e e_in from_right nearer (2 * k)
+    can_turn k is = subst
+        (λ (l : ℕ). T.CanTurn points c.mesh mesh.valid i j local free e e_in from_right nearer (2 * l))
+        (sym is) (T.can_turn points c.mesh mesh.valid i j local free e e_in from_right nearer)
 
-    module _ (change : FlipsTriangles c.mesh new (2 * k)) where
-      turns : FlipsTriangles c.mesh new (2 * (e / 2))
-      turns = subst (λ (l : ℕ). FlipsTriangles c.mesh new (2 * l)) is change
+    module _ (k : ℕ) (is : k ≡ e / 2) (new : Mesh) where
+      -- each edge that does not cross the segment joins what it joined
+      pub turn_keeps : new ≡ flipped c.mesh (2 * k) → KeepsUncrossed points c.mesh new i j
+      turn_keeps turned = T.turned_keeps points c.mesh mesh.valid i j local free e e_in from_right nearer
+          new (turned ∙ ap (λ (l : ℕ). flipped c.mesh (2 * l)) is)
 
-      -- each inner face with no side that crosses has its corners
-      pub turn_keeps_faces : new ≡ flipped c.mesh (2 * k)
-          → KeepsUncrossedFaces points c.mesh new i j
-      turn_keeps_faces turned =
-          T.turned_keeps_faces points c.mesh mesh.valid i j local free e e_in last_of_all new
-          (turned ∙ ap (λ (l : ℕ). flipped c.mesh (2 * l)) is) turns
+      module _ (change : FlipsTriangles c.mesh new (2 * k)) where
+        turns : FlipsTriangles c.mesh new (2 * (e / 2))
+        turns = subst (λ (l : ℕ). FlipsTriangles c.mesh new (2 * l)) is change
 
-      -- the sum over the edges that cross falls
-      pub turn_lowers : crossing_sum points (faces_of new) i j
-          < crossing_sum points (faces_of c.mesh) i j
-      turn_lowers =
-          T.turned_lower points c.mesh mesh.valid i j local free e e_in last_of_all new turns
+        -- each inner face with no side that crosses has its corners
+        pub turn_keeps_faces : new ≡ flipped c.mesh (2 * k)
+            → KeepsUncrossedFaces points c.mesh new i j
+        turn_keeps_faces turned =
+            T.turned_keeps_faces points c.mesh mesh.valid i j local free e e_in from_right nearer new
+            (turned ∙ ap (λ (l : ℕ). flipped c.mesh (2 * l)) is) turns
 
-      -- where the outer edges stay, too, the mesh is still one of the points
-      pub turn_has_shape : KeepsOuter c.mesh new → IsMesh points (faces_of new) (outer_of new)
-      turn_has_shape outer = inl (T.turned_local points c.mesh mesh.valid i j local free e e_in
-          last_of_all new turns outer)
+        -- the sum over the edges that cross falls
+        pub turn_lowers : crossing_sum points (faces_of new) i j
+            < crossing_sum points (faces_of c.mesh) i j
+        turn_lowers =
+            T.turned_lower points c.mesh mesh.valid i j local free e e_in from_right nearer new turns
 
-  module _ (k : ℕ) (is : k ≡ e / 2) (new : Contents V D U F)
-      (contents : new ≡ record c { mesh = new.mesh }) (turned : new.mesh ≡ flipped c.mesh (2 * k))
-      (change : FlipsTriangles c.mesh new.mesh (2 * k)) (outer : KeepsOuter c.mesh new.mesh)
-      (was left : List ℕ) (edges : AreEdges c.mesh left)
-      (round : GainsRound c.mesh (2 * k) was left) (own : Contains left ((2 * k) / 2)) where
-    moves : Flips c.mesh new.mesh (2 * k)
-    moves = flips_is c.mesh new.mesh (2 * k) mesh.valid.sound (can_turn k is).0 turned
+        -- where the outer edges stay, too, the mesh is still one of the points
+        pub turn_has_shape : KeepsOuter c.mesh new → IsMesh points (faces_of new) (outer_of new)
+        turn_has_shape outer = inl (T.turned_local points c.mesh mesh.valid i j local free e e_in
+            from_right nearer new turns outer)
 
-    -- with the edges round it and itself in the list, this is a flip towards the segment
-    pub turns_towards : TurnsTowards points c new i j was left
-    turns_towards = record {
-      contents = contents;
-      shape = turn_has_shape k is new.mesh change outer;
-      kept = turn_keeps k is new.mesh turned;
-      faces_kept = turn_keeps_faces k is new.mesh change turned;
-      lower = turn_lowers k is new.mesh change;
-      edges = record {
-        within =
-            λ l there. subst (λ (n : ℕ). (2 * l) < n) (sym moves.edge_count) (edges.within l there);
-        once = edges.once;
-      };
-      leaves = λ constraints. flip_leaves c.mesh mesh.valid (2 * k) (can_turn k is).0 new.mesh moves
-          was left round own points i j (turn_keeps k is new.mesh turned)
-          (flipped_faces c.mesh new.mesh (2 * k) mesh.valid.sound (can_turn k is).0 change)
-          constraints;
-    }
+    module _ (k : ℕ) (is : k ≡ e / 2) (new : Contents V D U F)
+        (contents : new ≡ record c { mesh = new.mesh }) (turned : new.mesh ≡ flipped c.mesh (2 * k))
+        (change : FlipsTriangles c.mesh new.mesh (2 * k)) (outer : KeepsOuter c.mesh new.mesh)
+        (was left : List ℕ) (edges : AreEdges c.mesh left)
+        (round : GainsRound c.mesh (2 * k) was left) (own : Contains left ((2 * k) / 2)) where
+      moves : Flips c.mesh new.mesh (2 * k)
+      moves = flips_is c.mesh new.mesh (2 * k) mesh.valid.sound (can_turn k is).0 turned
+
+      -- with the edges round it and itself in the list, this is a flip towards the segment
+      pub turns_towards : TurnsTowards points c new i j was left
+      turns_towards = record {
+        contents = contents;
+        shape = turn_has_shape k is new.mesh change outer;
+        kept = turn_keeps k is new.mesh turned;
+        faces_kept = turn_keeps_faces k is new.mesh change turned;
+        lower = turn_lowers k is new.mesh change;
+        edges = record {
+          within =
+              λ l there. subst (λ (n : ℕ). (2 * l) < n) (sym moves.edge_count) (edges.within l there);
+          once = edges.once;
+        };
+        leaves = λ constraints. flip_leaves c.mesh mesh.valid (2 * k) (can_turn k is).0 new.mesh moves
+            was left round own points i j (turn_keeps k is new.mesh turned)
+            (flipped_faces c.mesh new.mesh (2 * k) mesh.valid.sound (can_turn k is).0 change)
+            constraints;
+      }
 
 -- where none crosses, the segment is an edge
 pub edge_if_none_crosses : {V D U F : Type 0} (at : V → Point) (c : Contents V D U F)
@@ -166,7 +169,7 @@ pub record IsMaking {V D U F : Type 0} (at : V → Point) (old now : Contents V 
   pub edges : AreEdges now.mesh left
   pub leaves : (constraints : List (ℕ × ℕ))
       → AllPassBut (map at old.vertices) (faces_of old.mesh) constraints (pairs_at old.mesh was)
-      → AllPassBeyond (map at old.vertices) (faces_of now.mesh) constraints
+      → AllPassAway (map at old.vertices) (faces_of now.mesh) constraints
       (pairs_at now.mesh left) i j
   pub same_room : room ≡ room_was
 
@@ -180,7 +183,8 @@ making_begins at old i j was room shape work = record {
   kept = λ h clear. (refl, refl);
   faces_kept = λ f t there first second third. there;
   edges = work.edges;
-  leaves = λ constraints passing u v k l f g clear free untested. passing u v k l f g free untested;
+  leaves = λ constraints passing u v k l f g first second free untested.
+      passing u v k l f g free untested;
   same_room = refl;
 }
 
@@ -256,10 +260,10 @@ module _ {V D U F : Type 0} (at : V → Point) (old now : Contents V D U F) (i j
           making.faces_kept (subst (λ (vs : List V).
           KeepsUncrossedFaces (map at vs) now.mesh new.mesh i j) same turns.faces_kept);
       edges = turns.edges;
-      leaves = λ constraints passing. subst (λ (vs : List V). AllPassBeyond (map at vs)
+      leaves = λ constraints passing. subst (λ (vs : List V). AllPassAway (map at vs)
           (faces_of new.mesh) constraints (pairs_at new.mesh more) i j) same
           (turns.leaves constraints
-          (subst (λ (vs : List V). AllPassBeyond (map at vs) (faces_of now.mesh) constraints
+          (subst (λ (vs : List V). AllPassAway (map at vs) (faces_of now.mesh) constraints
           (pairs_at now.mesh left) i j) (sym same) (making.leaves constraints passing)));
       same_room = room_same ∙ making.same_room;
     }

@@ -1,6 +1,7 @@
 -- The edges of a mesh that cross the segment between two of its vertices, and an order of them.
-use Rattle.std.specs.Prelude.{◌≡◌, ◌⊎◌, ℕ, ◌<◌, List, Option, MatchOption}
-use Rattle.half_edge_mesh.specs.Mesh.{Mesh, origin, rev}
+use Rattle.std.specs.Prelude.{◌≡◌, ◌≢◌, ◌⊎◌, ℕ, ◌<◌, List, length}
+use Rattle.std.specs.Prelude.{Option, MatchOption}
+use Rattle.half_edge_mesh.specs.Mesh.{Mesh, origin, next, prev, rev}
 use Rattle.plane.specs.Fraction.{Point}
 use Rattle.plane.specs.Crossing.{Cross}
 use Rattle.plane.specs.Pairs.{place}
@@ -41,3 +42,36 @@ pub record IsLastFromRight (points : List Point) (m : Mesh) (i j n g : ℕ) : Ty
 abbrev pub IsLastCrossing : List Point → Mesh → ℕ → ℕ → ℕ → Option ℕ → Type 0
 IsLastCrossing points m i j n r = MatchOption r ((h : ℕ) → h < n
     → ¬ CrossesFromRight points m i j h) (λ g. (g < n) × IsLastFromRight points m i j n g)
+
+-- where the edge from a to b crosses from the right, v comes after its right end, seen from i
+abbrev pub ComesSooner : List Point → ℕ → ℕ → ℕ → ℕ → ℕ → Type 0
+ComesSooner points i j v a b = side (place points i) (place points j) (place points a) ≡ right
+    → TurnsLeft (place points i) (place points j) (place points b)
+    → ComesAfterOnRight (point_at points i) (point_at points a) (point_at points v)
+
+-- directed edge e can be turned towards the segment from i to j: the corners round it are those of
+-- a strictly convex quadrilateral, and where the edge that is made crosses from the right, its right
+-- end comes before that of e
+pub record TurnsNearer (points : List Point) (m : Mesh) (i j e : ℕ) : Type 0 where
+  pub first : TurnsLeft (place points (origin m e)) (place points (origin m (prev m (rev e))))
+      (place points (origin m (prev m e)))
+  pub second : TurnsLeft (place points (origin m (prev m (rev e))))
+      (place points (origin m (next m e))) (place points (origin m (prev m e)))
+  pub behind_sooner : ComesSooner points i j (origin m e) (origin m (prev m (rev e)))
+      (origin m (prev m e))
+  pub ahead_sooner : ComesSooner points i j (origin m e) (origin m (prev m e))
+      (origin m (prev m (rev e)))
+
+-- the directed edges of which this holds are those that cross the segment from the right
+pub record AreAllCrossing (points : List Point) (m : Mesh) (i j : ℕ)
+    (In : ℕ → Type 0) : Type 0 where
+  pub cross : (h : ℕ) → In h → (h < length m.half_edges) × CrossesFromRight points m i j h
+  pub all : (h : ℕ) → h < length m.half_edges → CrossesFromRight points m i j h → In h
+
+-- they are those and e, of which it does not hold
+pub record AreOthersCrossing (points : List Point) (m : Mesh) (i j e : ℕ)
+    (In : ℕ → Type 0) : Type 0 where
+  pub own : (e < length m.half_edges) × CrossesFromRight points m i j e
+  pub cross : (h : ℕ) → In h → (h < length m.half_edges) × CrossesFromRight points m i j h
+  pub other : (h : ℕ) → In h → h ≢ e
+  pub all : (h : ℕ) → h < length m.half_edges → CrossesFromRight points m i j h → (h ≡ e) ⊎ In h

@@ -4,7 +4,7 @@ use Rattle.plane.specs.Tiling.{IsEdge}
 use Rattle.mesh_embedding.specs.Drawn.{drawn}
 use Rattle.mesh_embedding.specs.Legal.{GainsRound}
 use Rattle.half_edge_links.proofs.Removing.Conditions.{between_faces}
-use Rattle.delaunay_paths.proofs.Making.{can_turn, edge_if_none_crosses, turns_towards}
+use Rattle.delaunay_paths.proofs.Making.{can_turn, edge_if_none_crosses, last_nearer, turns_towards}
 use Rattle.delaunay_paths.proofs.flips.turn_last.Goals as goal
 
 pub returns-in_err-last_crossing-clause-none : goal.returns-in_err-last_crossing-clause-none
@@ -24,21 +24,28 @@ flip_cw-requires-clause-between g c =
     let last = c.in_ok-last_crossing.ensures in
     between_faces _ _
     (can_turn g.V.HasPosition.place c.args.dcel.now c.recall_invariant.ensures.whole c.args.from
-    c.args.to c.requires.free c.requires.shape c.in_ok-last_crossing.field-0 last.0 last.1
-    c.as_undirected-edge.result c.as_undirected-edge.ensures).0
+    c.args.to c.requires.free c.requires.shape c.in_ok-last_crossing.field-0 last.0 last.1.crosses
+    (last_nearer g.V.HasPosition.place c.args.dcel.now c.recall_invariant.ensures.whole c.args.from
+    c.args.to c.requires.free c.requires.shape c.in_ok-last_crossing.field-0 last.0 last.1.crosses
+    last.1) c.as_undirected-edge.result c.as_undirected-edge.ensures).0
 
 pub flip_cw-requires-clause-corners : goal.flip_cw-requires-clause-corners
 flip_cw-requires-clause-corners g c =
     let last = c.in_ok-last_crossing.ensures in
     (can_turn g.V.HasPosition.place c.args.dcel.now c.recall_invariant.ensures.whole c.args.from
-    c.args.to c.requires.free c.requires.shape c.in_ok-last_crossing.field-0 last.0 last.1
-    c.as_undirected-edge.result c.as_undirected-edge.ensures).1
+    c.args.to c.requires.free c.requires.shape c.in_ok-last_crossing.field-0 last.0 last.1.crosses
+    (last_nearer g.V.HasPosition.place c.args.dcel.now c.recall_invariant.ensures.whole c.args.from
+    c.args.to c.requires.free c.requires.shape c.in_ok-last_crossing.field-0 last.0 last.1.crosses
+    last.1) c.as_undirected-edge.result c.as_undirected-edge.ensures).1
 
 pub returns-clause-turns : goal.returns-clause-turns
 returns-clause-turns g c =
     let last = c.in_ok-last_crossing.ensures in
     turns_towards g.V.HasPosition.place c.args.dcel.now c.recall_invariant.ensures.whole c.args.from
-    c.args.to c.requires.free c.requires.shape c.in_ok-last_crossing.field-0 last.0 last.1
+    c.args.to c.requires.free c.requires.shape c.in_ok-last_crossing.field-0 last.0 last.1.crosses
+    (last_nearer g.V.HasPosition.place c.args.dcel.now c.recall_invariant.ensures.whole c.args.from
+    c.args.to c.requires.free c.requires.shape c.in_ok-last_crossing.field-0 last.0 last.1.crosses
+    last.1)
     c.as_undirected-edge.result c.as_undirected-edge.ensures c.flip_cw.new.self
     c.flip_cw.ensures.contents c.flip_cw.ensures.mesh c.flip_cw.ensures.triangles
     c.flip_cw.ensures.outer
