@@ -5,7 +5,7 @@ ghost use Rattle.delaunay_removal.specs.Pairs.{HasBorder};
 
 use crate::freeing::some_edge;
 use crate::pairs::{VertexPair, vertex_at_end};
-use crate::star::{count_edges, ccw_edge};
+use crate::star::{ccw_edge, count_edges};
 use half_edge_mesh::{Dcel, FixedDirectedEdgeHandle, FixedVertexHandle, MeshViews};
 use std::alloc::{AllocError, Global};
 

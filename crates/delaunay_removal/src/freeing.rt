@@ -4,7 +4,7 @@ ghost use Rattle.half_edge_mesh.specs.Contents.{IsMeshWithData};
 ghost use Rattle.half_edge_mesh.specs.Mesh.{origin, out_edge};
 ghost use Rattle.delaunay_removal.specs.Freeing.{FreesEdgesAt};
 
-use crate::star::{count_edges, ccw_edge};
+use crate::star::{ccw_edge, count_edges};
 use delaunay_legalization::{ConstraintMarker, free_edge};
 use half_edge_mesh::{Dcel, FixedDirectedEdgeHandle, FixedVertexHandle, MeshViews};
 

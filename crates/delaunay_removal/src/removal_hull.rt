@@ -14,7 +14,7 @@ ghost use Rattle.delaunay_removal.specs.Star.{HasInnerFaces, LosesEdges};
 
 use crate::lists::RemovalLists;
 use crate::pairs::VertexPair;
-use crate::star::{count_edges, ccw_edge, find_convex, opposite_side, turn_away};
+use crate::star::{ccw_edge, count_edges, find_convex, opposite_side, turn_away};
 use delaunay_core::math::PlaneTests;
 use delaunay_core::point::HasPosition;
 use delaunay_legalization::{end_of, is_outer, start_of, turns_left};

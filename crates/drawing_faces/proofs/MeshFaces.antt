@@ -35,8 +35,11 @@ module _ (m : Mesh) where
         length-map (triangles m) indexes_of,
         length-map m.face_edges (triangle_at m),
       ))
-      (λ k d h. let below : k < n = omega (arith, h,
-      length-map-range_with_len (indexes_at m) 1 n) in
+      (λ k d h. let below : k < n = omega (
+        arith,
+        h,
+        length-map-range_with_len (indexes_at m) 1 n,
+      ) in
       get_or-map-range_with_len (indexes_at m) 1 n k (k + 1) d below (omega arith)
       ∙ sym (row_same k d (omega (arith, below, e))))
 

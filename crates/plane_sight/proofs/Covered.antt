@@ -66,8 +66,11 @@ module _ (t : Triangulation) (h : TilesHull t) where
   below_enough : (g : Fraction) (i j k : ℕ) → IsFace t i j k
       → size (bracket (vertex t i) (vertex t j) g) < enough g
   below_enough g i j k f =
-      omega (arith, member-le-sum_by (side_size g) (i, j) (sides_of t.faces)
-      (side_listed t h i j k f))
+      omega (
+        arith,
+        member-le-sum_by (side_size g) (i, j) (sides_of t.faces)
+            (side_listed t h i j k f),
+      )
 
   -- where a way to g begins: left of a side, or on it and not going to its right
   abbrev StartsAt : (x g u v : Fraction) → Type 0

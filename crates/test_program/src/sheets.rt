@@ -5,7 +5,7 @@ ghost use Rattle.triangulate_run.specs.Points.{place};
 use delaunay_core::math::PlaneTests;
 use delaunay_core::point::Point2;
 use std::alloc::{AllocError, Global};
-use triangulate_run::fault::{RunError, USAGE, fault_text, exit_status_of};
+use triangulate_run::fault::{RunError, USAGE, exit_status_of, fault_text};
 use triangulate_run::points::{SheetPoint, index_of, site_index_of};
 use triangulate_run::sheet::{Sheet, sheet_named};
 

@@ -7,7 +7,7 @@ use std::io;
 use std::io::{BufReader, Input, Read};
 use std::process::ExitCode;
 use std::rt::Env;
-use triangulate_run::fault::{RunError, USAGE, fault_text, exit_status_of};
+use triangulate_run::fault::{RunError, USAGE, exit_status_of, fault_text};
 use triangulate_run::session::run;
 use triangulate_run::sheet::{Sheet, letter_named};
 use triangulate_watched::Watched;
