@@ -16,6 +16,8 @@ use Rattle.mesh_embedding.proofs.MeshStays.{halved}
 use Rattle.mesh_embedding.proofs.WorkLists.{contains_before, contains_last, last_not_before}
 use Rattle.mesh_embedding.proofs.WorkLists.{once_after, once_before}
 use Rattle.delaunay_paths.specs.Crossing.{AreAllCrossing, AreOthersCrossing, CrossesFromRight}
+use Rattle.delaunay_paths.specs.Crossing.{GoesFromRight, ahead, behind}
+use Rattle.delaunay_paths.specs.Lists.{AreOnce, IsIn}
 use Rattle.delaunay_paths.proofs.Towards.{others_stay}
 
 left_not_right : left ≡ right → ⊥
@@ -41,6 +43,75 @@ module _ (points : List Point) (m : Mesh) (s : IsValidMesh m) (i j e : ℕ)
   other_stays h n o = others_stay m new (2 * (e / 2)) s.sound can moves h
       (λ q. elim (twins h (inl q)) as (λ _. ⊥) [ inl r ↦ n r | inr r ↦ o r ])
       (λ q. elim (twins h (inr q)) as (λ _. ⊥) [ inl r ↦ n r | inr r ↦ o r ])
+
+  -- the edge that is made, in the direction of e, goes from the corner ahead to the one behind
+  pub starts_ahead : origin new e ≡ ahead m e
+  starts_ahead = elim (halved e) [
+    | inl q ↦ subst (λ (h : ℕ). origin new h ≡ ahead m h) q moves.edge.origin
+    | inr q ↦ twice (subst (λ (h : ℕ). origin new (rev h) ≡ behind m h) q moves.twin.origin)
+  ]
+    where
+      twice : origin new (rev (rev e)) ≡ behind m (rev e) → origin new e ≡ ahead m e
+      twice is = subst (λ (h : ℕ). origin new h ≡ ahead m h) (rev-rev e) is
+
+  pub ends_behind : origin new (rev e) ≡ behind m e
+  ends_behind = elim (halved e) [
+    | inl q ↦ subst (λ (h : ℕ). origin new (rev h) ≡ behind m h) q moves.twin.origin
+    | inr q ↦ subst (λ (h : ℕ). origin new h ≡ ahead m h) q moves.edge.origin
+  ]
+
+  -- so it crosses in a direction where a way between these corners does
+  crosses_from : (h v y : ℕ) → origin new h ≡ v → origin new (rev h) ≡ y
+      → GoesFromRight points i j v y → CrossesFromRight points new i j h
+  crosses_from h v y starts ends goes =
+      let at = subst (λ (x : ℕ × ℕ). GoesFromRight points i j x.0 x.1)
+      (λ k. (sym starts k, sym ends k)) goes in
+      record { from_right = at.0; to_left = at.1; start = at.2; end = at.3 }
+
+  goes_from : (h v y : ℕ) → origin new h ≡ v → origin new (rev h) ≡ y
+      → CrossesFromRight points new i j h → GoesFromRight points i j v y
+  goes_from h v y starts ends c = subst (λ (x : ℕ × ℕ). GoesFromRight points i j x.0 x.1)
+      (λ k. (starts k, ends k)) (c.from_right, c.to_left, c.start, c.end)
+
+  back_ends : origin new (rev (rev e)) ≡ ahead m e
+  back_ends = ap (origin new) (rev-rev e) ∙ starts_ahead
+
+  -- in the direction that was told
+  abbrev Way : ℕ → Type 0
+  Way f = ((f ≡ e) × GoesFromRight points i j (ahead m e) (behind m e))
+      ⊎ ((f ≡ rev e) × GoesFromRight points i j (behind m e) (ahead m e))
+
+  pub way_is : (f : ℕ) → Way f → (f ≡ e) ⊎ (f ≡ rev e)
+  way_is f (inl way) = inl way.0
+  way_is f (inr way) = inr way.0
+
+  pub way_crosses : (f : ℕ) → Way f → CrossesFromRight points new i j f
+  way_crosses f (inl way) = subst (λ (h : ℕ). CrossesFromRight points new i j h) (sym way.0)
+      (crosses_from e (ahead m e) (behind m e) starts_ahead ends_behind way.1)
+  way_crosses f (inr way) = subst (λ (h : ℕ). CrossesFromRight points new i j h) (sym way.0)
+      (crosses_from (rev e) (behind m e) (ahead m e) ends_behind back_ends way.1)
+
+  -- its ends are these two corners
+  pub way_ends : (f : ℕ) → Way f → ((origin new f ≡ ahead m e) × (origin new (rev f) ≡ behind m e))
+      ⊎ ((origin new f ≡ behind m e) × (origin new (rev f) ≡ ahead m e))
+  way_ends f (inl way) = inl (
+    ap (origin new) way.0 ∙ starts_ahead,
+    ap (λ (h : ℕ). origin new (rev h)) way.0 ∙ ends_behind,
+  )
+  way_ends f (inr way) = inr (
+    ap (origin new) way.0 ∙ ends_behind,
+    ap (λ (h : ℕ). origin new (rev h)) way.0 ∙ back_ends,
+  )
+
+  -- and in none if none was
+  pub made_clear : ¬ GoesFromRight points i j (ahead m e) (behind m e)
+      → ¬ CrossesFromRight points new i j e
+  made_clear clear c = clear (goes_from e (ahead m e) (behind m e) starts_ahead ends_behind c)
+
+  pub made_clear_back : ¬ GoesFromRight points i j (behind m e) (ahead m e)
+      → ¬ CrossesFromRight points new i j (rev e)
+  made_clear_back clear c =
+      clear (goes_from (rev e) (behind m e) (ahead m e) ends_behind back_ends c)
 
   -- the sides that tell whether a way crosses
   abbrev At : ℕ → ℕ → Type 0
@@ -125,16 +196,6 @@ module _ (points : List Point) (m : Mesh) (s : IsValidMesh m) (i j e : ℕ)
       }
 
 -- ---- in two lists
--- these lists have no entry twice, and none in both
-pub record AreOnce (waiting unseen : List ℕ) : Type 0 where
-  pub first : AllPairs (λ k l. k ≢ l) waiting
-  pub second : AllPairs (λ k l. k ≢ l) unseen
-  pub apart : (h : ℕ) → Contains waiting h → ¬ Contains unseen h
-
--- one of them has h
-abbrev pub IsIn : List ℕ → List ℕ → ℕ → Type 0
-IsIn waiting unseen h = Contains waiting h ⊎ Contains unseen h
-
 module _ (points : List Point) (m : Mesh) (i j : ℕ) (ws us : List ℕ) (e : ℕ) where
   -- the last of those that are to be seen is taken out
   pub taken : AreOnce ws (us ++ e ∷ []) → AreAllCrossing points m i j (IsIn ws (us ++ e ∷ []))

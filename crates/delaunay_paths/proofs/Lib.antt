@@ -2,7 +2,11 @@ pub mod TurnLowers
 pub mod Towards
 pub mod LeftToTest
 pub mod Making
-pub mod LastEdge
+pub mod Corners
+pub mod MetEdges
+pub mod MovedEdges
+pub mod OneTurn
+pub mod Seeking
 pub mod Walking
 pub mod Passing
 pub mod NextVertex

@@ -1,4 +1,4 @@
--- An edge of a mesh that crosses a segment is turned towards it, such as the last one.
+-- An edge of a mesh that crosses a segment is turned towards it, and one of those that cross can be.
 use Rattle.std.proofs.Common.{◌≡◌, ◌≢◌, ◌⊎◌, ◌*◌, ◌/◌, ◌<◌, [], ◌∷◌, ◌∙◌}
 use Rattle.std.proofs.Common.{ℕ, List, length, refl, sym, ap, subst}
 use mathlib.Core.Logic.{inl, inr}
@@ -32,7 +32,6 @@ use Rattle.plane_segments.specs.Path.{IsFreeOfVertices, IsCrossing, IsLastRight,
 use Rattle.plane_segments.specs.Path.{ComesAfterOnRight, ComesAfterOnLeft}
 use Rattle.plane_segments.proofs.Crossing.Chosen.{chosen_flip_exists}
 use Rattle.plane_segments.proofs.Crossing.EitherWay.{crossing_is_either_way, edge_back}
-use Rattle.plane_segments.proofs.Crossing.Order.{last_has_none_after}
 use Rattle.plane_segments.proofs.Crossing.PathFlips.{piece_on_line_is_edge}
 use Rattle.plane_segments.proofs.Crossing.Paths.{chosen_flip_is_convex, uncrossed_is_edge}
 use Rattle.plane_segments.proofs.Crossing.Falling.{Precedes}
@@ -50,7 +49,7 @@ use Rattle.mesh_embedding.proofs.OwnEdges.{own_edges}
 use Rattle.mesh_embedding.proofs.WorkLists.{contains_last}
 use Rattle.delaunay_legalization.proofs.Legalizing.{positive}
 use Rattle.delaunay_paths.specs.Crossing.{ComesSooner, CrossesFromRight, CrossesSegment}
-use Rattle.delaunay_paths.specs.Crossing.{IsLastFromRight, TurnsNearer}
+use Rattle.delaunay_paths.specs.Crossing.{TurnsNearer}
 use Rattle.delaunay_paths.specs.Kept.{KeepsUncrossed, KeepsUncrossedFaces}
 use Rattle.delaunay_paths.proofs.TurnLowers.{after_if_before, before_if_after, last_x_sooner}
 use Rattle.delaunay_paths.proofs.TurnLowers.{last_z_sooner, turn_lowers}
@@ -198,25 +197,28 @@ module _ (points : List Point) (m : Mesh) (s : IsValidMesh m) (i j : ℕ) where
             (left_turn (point_of points i) (point_of points j) (point_of points x) b));
       }
 
-    module _ (last : IsLastFromRight points m i j (length m.half_edges) e) where
-      last_right : IsLastRight t i j v
-      last_right = (last_has_none_after t i j v y).0 (λ u w c a.
-          let h = crossing_at u w c in
-          last.none_after h.0 h.1 h.4 (inl (subst (λ (k : ℕ). ComesAfterOnRight (point_of points i)
-          (point_of points v) (point_of points k)) (sym h.2) a)))
+    -- ---- it crosses either way
+    crosses_at : (h : ℕ) → (h ≡ e) ⊎ (h ≡ rev e) → CrossesSegment points m i j h
+    crosses_at h (inl q) = subst (λ (k : ℕ). CrossesSegment points m i j k) (sym q)
+        ((crossing_is_either_way t i j v (origin m (rev e)) tiled free
+        (edge_joins m s.sound e within)).1 (inl (crossing e within from_right)))
+    crosses_at h (inr q) = subst (λ (k : ℕ). CrossesSegment points m i j k) (sym q)
+        (subst (λ (k : ℕ). Cross (vertex t i) (vertex t j) (vertex t (origin m (rev e)))
+        (vertex t (origin m k))) (sym (rev-rev e))
+        ((crossing_is_either_way t i j (origin m (rev e)) v tiled free
+        (edge_back t.edges v (origin m (rev e)) (edge_joins m s.sound e within))).1
+        (inr (crossing e within from_right))))
 
-      last_left : IsLastLeft t i j v y
-      last_left = (last_has_none_after t i j v y).1 (λ w c a.
-          let h = crossing_at v w c in
-          last.none_after h.0 h.1 h.4 (inr (
-            ap (point_of points) (sym h.2),
-            subst (λ (k : ℕ × ℕ). ComesAfterOnLeft (point_of points i) (point_of points k.0)
-                (point_of points k.1)) (λ k. (sym meets k, sym h.3 k)) a,
-          )))
-
-      -- the last one can be turned so
-      pub last_turns_nearer : TurnsNearer points m i j e
-      last_turns_nearer = last_ends_turn last_right last_left
+    -- from its start to its end, and back
+    pub crosses_both_ways : CrossesSegment points m i j e
+        × Cross (place points i) (place points j) (place points (origin m (rev e)))
+        (place points (origin m e))
+    crosses_both_ways = (
+      crosses_at e (inl refl),
+      subst (λ (k : ℕ). Cross (place points i) (place points j)
+          (place points (origin m (rev e))) (place points (origin m k))) (rev-rev e)
+          (crosses_at (rev e) (inr refl)),
+    )
 
     -- ---- the turn
     module _ (nearer : TurnsNearer points m i j e) where
@@ -290,17 +292,6 @@ module _ (points : List Point) (m : Mesh) (s : IsValidMesh m) (i j : ℕ) where
             before after convex.0 convex.1 (change_by new change) (outer_kept m new local.once outer)
 
       -- ---- what does not cross stays
-      crosses_at : (h : ℕ) → (h ≡ e) ⊎ (h ≡ rev e) → CrossesSegment points m i j h
-      crosses_at h (inl q) = subst (λ (k : ℕ). CrossesSegment points m i j k) (sym q)
-          ((crossing_is_either_way t i j v (origin m (rev e)) tiled free
-          (edge_joins m s.sound e within)).1 (inl (crossing e within from_right)))
-      crosses_at h (inr q) = subst (λ (k : ℕ). CrossesSegment points m i j k) (sym q)
-          (subst (λ (k : ℕ). Cross (vertex t i) (vertex t j) (vertex t (origin m (rev e)))
-          (vertex t (origin m k))) (sym (rev-rev e))
-          ((crossing_is_either_way t i j (origin m (rev e)) v tiled free
-          (edge_back t.edges v (origin m (rev e)) (edge_joins m s.sound e within))).1
-          (inr (crossing e within from_right))))
-
       twins : (h : ℕ) → (h ≡ 2 * (e / 2)) ⊎ (h ≡ rev (2 * (e / 2))) → (h ≡ e) ⊎ (h ≡ rev e)
       twins h o = elim (halved e) [
         | inl q ↦ elim o [ inl r ↦ inl (r ∙ q) | inr r ↦ inr (r ∙ ap rev q) ]

@@ -1,5 +1,6 @@
 -- What an item of a walk along a segment is for a path.
-use Rattle.std.specs.Prelude.{◌≡◌, ◌≢◌, ◌⊎◌, ℕ, ◌<◌, List, length, Option, Some, MatchOption}
+use Rattle.std.specs.Prelude.{◌≡◌, ◌≢◌, ◌⊎◌, ◌<◌, [], ◌∷◌, ◌++◌}
+use Rattle.std.specs.Prelude.{ℕ, List, length, Option, Some, MatchOption}
 use Rattle.half_edge_mesh.specs.Contents.{Contents}
 use Rattle.half_edge_mesh.specs.Mesh.{Mesh, origin, rev}
 use Rattle.plane.specs.Fraction.{Point}
@@ -20,6 +21,16 @@ abbrev pub IsCrossedTwin : {V D U F : Type 0} → Contents V D U F → Item → 
 IsCrossedTwin c k r =
     MatchOption r ((a b : ℕ) → ¬ (k ≡ across a b))
     (λ h. (h < length c.directed) × (k ≡ crossed_twin c.mesh h))
+
+-- where item k is that of a directed edge, a list of this capacity has room for one more
+abbrev pub HasRoomForItem : {V D U F : Type 0} → Contents V D U F → Item → List ℕ → ℕ → Type 0
+HasRoomForItem c k hs capacity = (h : ℕ) → h < length c.directed → k ≡ crossed_twin c.mesh h
+    → length hs < capacity
+
+-- a list gains directed edge h where item k is its, and else nothing
+abbrev pub ListsItem : {V D U F : Type 0} → Contents V D U F → Item → (was now : List ℕ) → Type 0
+ListsItem c k was now = (((a b : ℕ) → ¬ (k ≡ across a b)) × (now ≡ was))
+    ⊎ ((h : ℕ) × (h < length c.directed) × (k ≡ crossed_twin c.mesh h) × (now ≡ was ++ h ∷ []))
 
 -- of directed edge h and the last so far, if there is one, e comes later
 abbrev pub IsLater : List Point → Mesh → ℕ → Option ℕ → ℕ → ℕ → Type 0
