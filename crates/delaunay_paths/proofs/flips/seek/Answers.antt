@@ -58,18 +58,18 @@ loop-edge-smaller g c =
     (record { waiting = refl; unseen = c.pop.ensures.capacity }) refl c.in-Some.edge
     c.in-Some.ensures.items (record c.loop-edge.lists { unseen = c.pop.new.self }) refl
 
-pub returns-in-Some-then-turns_nearer-clause-others :
-    goal.returns-in-Some-then-turns_nearer-clause-others
-returns-in-Some-then-turns_nearer-clause-others g c =
+pub returns-then-turns_nearer-clause-others :
+    goal.returns-then-turns_nearer-clause-others
+returns-then-turns_nearer-clause-others g c =
     seeking_takes (map g.V.HasPosition.place c.args.dcel.now.vertices)
     c.args.dcel.now.mesh c.args.from c.args.to c.args.lists.now c.loop-edge.lists
     (record c.loop-edge.lists { unseen = c.pop.new.self }) c.loop-edge.invariant
     (record { waiting = refl; unseen = c.pop.ensures.capacity }) refl c.in-Some.edge
     c.in-Some.ensures.items
 
-pub returns-in-Some-then-turns_nearer-clause-room :
-    goal.returns-in-Some-then-turns_nearer-clause-room
-returns-in-Some-then-turns_nearer-clause-room g c =
+pub returns-then-turns_nearer-clause-room :
+    goal.returns-then-turns_nearer-clause-room
+returns-then-turns_nearer-clause-room g c =
     seeking_room (map g.V.HasPosition.place c.args.dcel.now.vertices)
     c.args.dcel.now.mesh c.args.from c.args.to c.args.lists.now c.loop-edge.lists
     (record c.loop-edge.lists { unseen = c.pop.new.self }) c.loop-edge.invariant

@@ -47,7 +47,7 @@ returns-in-Some-clause-turns g c =
     c.args.from c.args.to c.args.edge c.args.lists.now c.requires.turning
     c.as_undirected-whole.result c.as_undirected-whole.ensures c.flip_cw.new.self
     c.flip_cw.ensures.contents c.flip_cw.ensures.mesh c.flip_cw.ensures.triangles
-    c.flip_cw.ensures.outer c.in-Some.way c.in-Some.ensures c.recall_invariant-2.ensures.whole
+    c.flip_cw.ensures.outer c.in-Some.way c.in-Some.ensures c.recall_invariant-in-Some.ensures.whole
     c.args.work.now.items c.requires.work.edges
 
 pub returns-in-Some-clause-lists : goal.returns-in-Some-clause-lists
@@ -61,14 +61,14 @@ returns-in-Some-clause-lists g c =
     c.push_reserved.ensures.items refl
 
 -- ---- it does not
-pub flip_cw-in-None-requires-clause-between : goal.flip_cw-in-None-requires-clause-between
-flip_cw-in-None-requires-clause-between g c = between_faces _ _
+pub flip_cw-requires-in-None-clause-between : goal.flip_cw-requires-in-None-clause-between
+flip_cw-requires-in-None-clause-between g c = between_faces _ _
     (turn_can g.V.HasPosition.place c.args.dcel.now c.recall_invariant.ensures.whole c.args.from
     c.args.to c.args.edge c.args.lists.now c.requires.turning c.as_undirected-whole.result
     c.as_undirected-whole.ensures).0
 
-pub flip_cw-in-None-requires-clause-corners : goal.flip_cw-in-None-requires-clause-corners
-flip_cw-in-None-requires-clause-corners g c =
+pub flip_cw-requires-in-None-clause-corners : goal.flip_cw-requires-in-None-clause-corners
+flip_cw-requires-in-None-clause-corners g c =
     (turn_can g.V.HasPosition.place c.args.dcel.now c.recall_invariant.ensures.whole c.args.from
     c.args.to c.args.edge c.args.lists.now c.requires.turning c.as_undirected-whole.result
     c.as_undirected-whole.ensures).1

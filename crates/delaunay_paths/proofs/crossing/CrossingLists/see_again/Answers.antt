@@ -1,4 +1,5 @@
 use Rattle.std.proofs.Common.{length, refl}
+use Rattle.delaunay_paths.specs.Lists.{KeepRoom}
 use Rattle.delaunay_paths.proofs.MovedEdges.{entries_begin, entries_on, less_if_popped, longer}
 use Rattle.delaunay_paths.proofs.MovedEdges.{none_steps_back, nothing_left, room_on, shorter}
 use Rattle.delaunay_paths.proofs.MovedEdges.{stepped_back}
@@ -18,8 +19,12 @@ push_reserved-requires c =
 
 pub loop-edge-preserved : goal.loop-edge-preserved
 loop-edge-preserved c =
-    let room = record { waiting = c.pop.ensures.capacity; unseen = c.push_reserved.ensures.capacity }
-    in (
+    let new = record c.loop-edge.self {
+      waiting = c.pop.new.self;
+      unseen = c.push_reserved.new.self;
+    } in
+    let room : KeepRoom c.loop-edge.self new =
+    record { waiting = c.pop.ensures.capacity; unseen = c.push_reserved.ensures.capacity } in (
       entries_on c.args.self.now c.loop-edge.self _ c.loop-edge.invariant.0
           (stepped_back c.loop-edge.self _ room c.in-Some.edge c.in-Some.ensures.items
           c.push_reserved.ensures.items c.loop-edge.invariant.0.held),
