@@ -81,12 +81,14 @@ impl<V: HasPosition, DE, UE, F> ConstrainedMesh<V, DE, UE, F> {
         ensures err { OnErr result (self.new ≡ self.old) }
     {
         self.work.reserve(3 * self.dcel.num_vertices())?;
+        self.crossing.reserve(3 * self.dcel.num_vertices())?;
         let mut flips = 0;
         add_constraints::<EdgeConstraints, _, _, _, _, _>(
             &mut self.dcel,
             from,
             to,
             tests,
+            &mut self.crossing,
             &mut self.work,
             &mut flips,
         );
