@@ -123,11 +123,12 @@ impl<V: HasPosition, DE: Drop, UE: Drop, F: Drop, M: ConstraintMarker<UE>> Edite
         ensures data { OnOk result (KeepsDataOfOthers self.old self.new vertex) }
         ensures err { OnErr result (self.new ≡ self.old) }
     {
-        self.work.reserve(3 * self.dcel.num_vertices())?;
+        let edges = 3 * self.dcel.num_vertices();
+        self.work.reserve(edges)?;
         self.lists.reserve_for(&self.dcel)?;
         let border = self.sides_to_test(vertex)?;
         let halves = self.halves_at(vertex, tests);
-        reserve_to_join(&mut self.crossing, &halves, 3 * self.dcel.num_vertices())?;
+        reserve_to_join(&mut self.crossing, &halves, edges)?;
         let lost = self.count_lost(vertex, &halves);
         let is_free = self.num_constraints == 0;
         let value = remove_vertex::<M, _, _, _, _, _>(

@@ -89,11 +89,11 @@ settle-requires-clause-room_among g c =
 pub settle-requires-clause-room_crossing : goal.settle-requires-clause-room_crossing
 settle-requires-clause-room_crossing g c =
     IfSome_then c.halves_at-halves.result c.in_ok-reserve_to_join.ensures
-    (λ _ room. fewer_fit (3 * length c.self.inside.dcel.vertices) _ _
+    (λ _ room. fewer_fit (3 * c.num_vertices.result) _ _
     (room_left g.V.HasPosition.place g.M.ConstraintMarker.constraints
     (state_of c.self.inside.dcel) (state_of c.remove_vertex-value.new.dcel) c.args.vertex
     c.remove_vertex-value.result c.remove_vertex-value.ensures.takes.plain
-    (length c.self.inside.dcel.vertices) 0 (3 * length c.self.inside.dcel.vertices) refl
+    c.num_vertices.result 0 (3 * c.num_vertices.result) c.num_vertices.ensures.value
     (omega arith)) room)
 
 pub settle-requires-clause-only : goal.settle-requires-clause-only
@@ -176,8 +176,8 @@ invariant_of-self-5 g c =
     c.count_lost-lost.result c.count_lost-lost.ensures c.self.inside.num_constraints
     c.self.invariant
 
-pub overflow_mul-num_vertices : goal.overflow_mul-num_vertices
-overflow_mul-num_vertices g c =
+pub overflow_mul-edges : goal.overflow_mul-edges
+overflow_mul-edges g c =
     let small = c.num_vertices.ensures.small in
     omega arith
 
