@@ -1,5 +1,5 @@
 -- What the positions of the corners round an edge tell of a turn of it towards a segment.
-use Rattle.std.proofs.Common.{◌≡◌, ◌↔◌, ℕ, List, sym, subst}
+use Rattle.std.proofs.Common.{◌↔◌, ℕ, List, sym, subst}
 use Rattle.std.specs.Prelude.{ℤ}
 use Rattle.half_edge_mesh.specs.Mesh.{Mesh}
 use Rattle.plane.specs.Fraction.{Point}

@@ -2,7 +2,7 @@
 use Rattle.std.proofs.Common.{◌≡◌, ◌≢◌, ◌⊎◌, ◌*◌, ◌/◌, ◌<◌, [], ◌∷◌, ◌++◌, ◌∙◌}
 use Rattle.std.proofs.Common.{ℕ, List, length, refl, sym, ap, subst}
 use mathlib.Core.Logic.{inl, inr}
-use Rattle.std.specs.Prelude.{AllPairs, Contains}
+use Rattle.std.specs.Prelude.{Contains}
 use Rattle.std.proofs.lemmas.Bool.{cases_eq}
 use Rattle.std.proofs.lemmas.List.Elements.{Contains-push_cases}
 use Rattle.half_edge_mesh.specs.Mesh.{Mesh, IsValidMesh, origin, rev}
@@ -228,7 +228,8 @@ module _ (points : List Point) (m : Mesh) (i j : ℕ) (ws us : List ℕ) (e : �
 
   module _ (once : AreOnce ws us) (others : AreOthersCrossing points m i j e (IsIn ws us)) where
     -- it waits
-    pub put_waiting : AreOnce (ws ++ e ∷ []) us × AreAllCrossing points m i j (IsIn (ws ++ e ∷ []) us)
+    pub put_waiting : AreOnce (ws ++ e ∷ []) us
+        × AreAllCrossing points m i j (IsIn (ws ++ e ∷ []) us)
     put_waiting = (
       record {
         first = once_after ws e once.first (λ h. others.other e (inl h) refl);
@@ -259,7 +260,8 @@ module _ (points : List Point) (m : Mesh) (i j : ℕ) (ws us : List ℕ) (e : �
     )
 
     -- it is to be seen next
-    pub put_unseen : AreOnce ws (us ++ e ∷ []) × AreAllCrossing points m i j (IsIn ws (us ++ e ∷ []))
+    pub put_unseen : AreOnce ws (us ++ e ∷ [])
+        × AreAllCrossing points m i j (IsIn ws (us ++ e ∷ []))
     put_unseen = (
       record {
         first = once.first;

@@ -172,7 +172,8 @@ module _ (points : List Point) (m : Mesh) (s : IsValidMesh m)
         passed_by = λ h there. elim (Contains-push_cases hs f h there) [
           | inl before ↦ contains_before passed (crossed_twin m f) (crossed_twin m h)
               (listed.passed_by h before)
-          | inr is ↦ subst (λ (k : ℕ). Contains (passed ++ crossed_twin m f ∷ []) (crossed_twin m k))
+          | inr is ↦ subst
+              (λ (k : ℕ). Contains (passed ++ crossed_twin m f ∷ []) (crossed_twin m k))
               is (contains_last passed (crossed_twin m f))
         ];
         all = λ h within c there.
@@ -211,7 +212,8 @@ module _ {V D U F P S : Type 0} (at : V → Point) (number : S → ℤ)
   points_of_mesh = map at c.vertices
 
   -- these edges are listed so far
-  pub record IsListingCrossing (hs : List ℕ) (now : LineIntersectionIterator V D U F P S) : Type 0 where
+  pub record IsListingCrossing (hs : List ℕ)
+      (now : LineIntersectionIterator V D U F P S) : Type 0 where
     pub passed : List Item
     pub so_far : HasPassed at number IsSite IsCovered (state_of c) (point_at points_of_mesh i)
         (point_at points_of_mesh j) passed now
@@ -232,7 +234,8 @@ module _ {V D U F P S : Type 0} (at : V → Point) (number : S → ℤ)
         (none_listed points_of_mesh c.mesh i j (length c.directed));
   }
 
-  module _ (whole_mesh : IsMeshWithData c) (free : IsFreeOfVertices (drawn points_of_mesh c.mesh) i j)
+  module _ (whole_mesh : IsMeshWithData c)
+      (free : IsFreeOfVertices (drawn points_of_mesh c.mesh) i j)
       (shape : IsMesh points_of_mesh (faces_of c.mesh) (outer_of c.mesh)) (hs : List ℕ)
       (now after : LineIntersectionIterator V D U F P S) (listing : IsListingCrossing hs now) where
     count : length points_of_mesh ≡ length c.mesh.out_edges
@@ -246,8 +249,9 @@ module _ {V D U F P S : Type 0} (at : V → Point) (number : S → ℤ)
 
     module _ (x : Intersection V D U F) (gives : GivesNext at number now (Some x) after) where
       -- the line list with the item that the call gives
-      line : (others : List Item) × IsLineList (drawn points_of_mesh c.mesh) (place points_of_mesh i)
-          (place points_of_mesh j) ((listing.passed ++ item_in x ∷ []) ++ others)
+      line : (others : List Item) × IsLineList (drawn points_of_mesh c.mesh)
+          (place points_of_mesh i) (place points_of_mesh j)
+          ((listing.passed ++ item_in x ∷ []) ++ others)
       line = list_with at number IsSite IsCovered (state_of c) (point_at points_of_mesh i)
           (point_at points_of_mesh j) listing.passed now after listing.so_far x gives
 
@@ -264,7 +268,8 @@ module _ {V D U F P S : Type 0} (at : V → Point) (number : S → ℤ)
           (gives.gives listing.so_far.others listing.so_far.are_left).0 ∙ listing.so_far.state
 
       -- where it is that of a directed edge, this crosses from the right
-      module _ (h : ℕ) (within : h < length c.directed) (is : item_in x ≡ crossed_twin c.mesh h) where
+      module _ (h : ℕ) (within : h < length c.directed)
+          (is : item_in x ≡ crossed_twin c.mesh h) where
         crosses : CrossesFromRight points_of_mesh c.mesh i j h
         crosses = crosses_if_met points_of_mesh c.mesh whole_mesh.valid i j shape count free h
             (in_mesh h within) (subst (Meets (drawn points_of_mesh c.mesh)
@@ -322,8 +327,8 @@ module _ {V D U F P S : Type 0} (at : V → Point) (number : S → ℤ)
               (other_item points_of_mesh c.mesh whole_mesh.valid shape i j (length c.directed)
               whole_mesh.fits.directed_fit listing.passed hs listing.listed (item_in x) y.0)
           go (inr y) =
-              let is = subst (λ (s : State V D U F). item_in x ≡ crossed_twin s.mesh y.0) same_mesh y.2
-              in
+              let is = subst (λ (s : State V D U F). item_in x ≡ crossed_twin s.mesh y.0)
+              same_mesh y.2 in
               let within = subst (λ (s : State V D U F). y.0 < length s.directed) same_mesh y.1 in
               subst (λ (z : Item × List ℕ). Listed z.0 z.1) (λ k. (sym is k, sym y.3 k))
               (more y.0 within is)

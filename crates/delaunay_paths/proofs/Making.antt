@@ -94,15 +94,15 @@ module _ {V D U F : Type 0} (at : V → Point) (c : Contents V D U F) (mesh : Is
     -- the undirected edge of e may be turned
     pub can_turn : (k : ℕ) → k ≡ e / 2
         → T.CanTurn points c.mesh mesh.valid i j local free e e_in from_right nearer (2 * k)
-    can_turn k is = subst
-        (λ (l : ℕ). T.CanTurn points c.mesh mesh.valid i j local free e e_in from_right nearer (2 * l))
+    can_turn k is = subst (λ (l : ℕ).
+        T.CanTurn points c.mesh mesh.valid i j local free e e_in from_right nearer (2 * l))
         (sym is) (T.can_turn points c.mesh mesh.valid i j local free e e_in from_right nearer)
 
     module _ (k : ℕ) (is : k ≡ e / 2) (new : Mesh) where
       -- each edge that does not cross the segment joins what it joined
       pub turn_keeps : new ≡ flipped c.mesh (2 * k) → KeepsUncrossed points c.mesh new i j
-      turn_keeps turned = T.turned_keeps points c.mesh mesh.valid i j local free e e_in from_right nearer
-          new (turned ∙ ap (λ (l : ℕ). flipped c.mesh (2 * l)) is)
+      turn_keeps turned = T.turned_keeps points c.mesh mesh.valid i j local free e e_in
+          from_right nearer new (turned ∙ ap (λ (l : ℕ). flipped c.mesh (2 * l)) is)
 
       module _ (change : FlipsTriangles c.mesh new (2 * k)) where
         turns : FlipsTriangles c.mesh new (2 * (e / 2))
@@ -112,14 +112,15 @@ module _ {V D U F : Type 0} (at : V → Point) (c : Contents V D U F) (mesh : Is
         pub turn_keeps_faces : new ≡ flipped c.mesh (2 * k)
             → KeepsUncrossedFaces points c.mesh new i j
         turn_keeps_faces turned =
-            T.turned_keeps_faces points c.mesh mesh.valid i j local free e e_in from_right nearer new
-            (turned ∙ ap (λ (l : ℕ). flipped c.mesh (2 * l)) is) turns
+            T.turned_keeps_faces points c.mesh mesh.valid i j local free e e_in from_right
+            nearer new (turned ∙ ap (λ (l : ℕ). flipped c.mesh (2 * l)) is) turns
 
         -- the sum over the edges that cross falls
         pub turn_lowers : crossing_sum points (faces_of new) i j
             < crossing_sum points (faces_of c.mesh) i j
         turn_lowers =
-            T.turned_lower points c.mesh mesh.valid i j local free e e_in from_right nearer new turns
+            T.turned_lower points c.mesh mesh.valid i j local free e e_in from_right nearer new
+            turns
 
         -- where the outer edges stay, too, the mesh is still one of the points
         pub turn_has_shape : KeepsOuter c.mesh new → IsMesh points (faces_of new) (outer_of new)
@@ -135,8 +136,8 @@ module _ {V D U F : Type 0} (at : V → Point) (c : Contents V D U F) (mesh : Is
 
         pub edges_on : (left : List ℕ) → AreEdges c.mesh left → AreEdges new.mesh left
         edges_on left edges = record {
-          within =
-              λ l there. subst (λ (n : ℕ). (2 * l) < n) (sym moves.edge_count) (edges.within l there);
+          within = λ l there.
+              subst (λ (n : ℕ). (2 * l) < n) (sym moves.edge_count) (edges.within l there);
           once = edges.once;
         }
 
@@ -157,8 +158,8 @@ module _ {V D U F : Type 0} (at : V → Point) (c : Contents V D U F) (mesh : Is
         }
 
         -- so it is with the edges round it and itself in the list
-        pub turns_away : (was left : List ℕ) → AreEdges c.mesh left → GainsRound c.mesh (2 * k) was left
-            → Contains left ((2 * k) / 2) → TurnsTowards points c new i j was left
+        pub turns_away : (was left : List ℕ) → AreEdges c.mesh left
+            → GainsRound c.mesh (2 * k) was left → Contains left ((2 * k) / 2) → TurnsTowards points c new i j was left
         turns_away was left edges round own = turns_leaving was left edges
             (λ constraints. flip_leaves c.mesh mesh.valid (2 * k) (can_turn k is).0 new.mesh moves
             was left round own points i j (turn_keeps k is new.mesh turned)
@@ -169,8 +170,8 @@ module _ {V D U F : Type 0} (at : V → Point) (c : Contents V D U F) (mesh : Is
         turns_still : BothCross (behind c.mesh (2 * k)) (ahead c.mesh (2 * k)) → (ks : List ℕ)
             → AreEdges c.mesh ks → TurnsTowards points c new i j ks ks
         turns_still both ks edges = turns_leaving ks ks edges
-            (λ constraints. crossing_leaves c.mesh mesh.valid (2 * k) (can_turn k is).0 new.mesh moves
-            points i j (turn_keeps k is new.mesh turned)
+            (λ constraints. crossing_leaves c.mesh mesh.valid (2 * k) (can_turn k is).0 new.mesh
+            moves points i j (turn_keeps k is new.mesh turned)
             (flipped_faces c.mesh new.mesh (2 * k) mesh.valid.sound (can_turn k is).0 change)
             both ks constraints)
 
@@ -193,12 +194,13 @@ module _ {V D U F : Type 0} (at : V → Point) (c : Contents V D U F) (mesh : Is
           pub others_left : ¬ GoesFromRight points i j (ahead c.mesh e) (behind c.mesh e)
               → ¬ GoesFromRight points i j (behind c.mesh e) (ahead c.mesh e)
               → AreAllCrossing points new.mesh i j In
-          others_left clear back = others_are_all points c.mesh mesh.valid i j e can new.mesh same_moves
-              In others
+          others_left clear back = others_are_all points c.mesh mesh.valid i j e can new.mesh
+              same_moves In others
               (made_clear points c.mesh mesh.valid i j e can new.mesh same_moves clear)
               (made_clear_back points c.mesh mesh.valid i j e can new.mesh same_moves back)
 
-          module _ (f : ℕ) (way : ((f ≡ e) × GoesFromRight points i j (ahead c.mesh e) (behind c.mesh e))
+          module _ (f : ℕ) (way :
+              ((f ≡ e) × GoesFromRight points i j (ahead c.mesh e) (behind c.mesh e))
               ⊎ ((f ≡ rev e) × GoesFromRight points i j (behind c.mesh e) (ahead c.mesh e))) where
             made_in : f < length new.mesh.half_edges
             made_in =
@@ -215,7 +217,8 @@ module _ {V D U F : Type 0} (at : V → Point) (c : Contents V D U F) (mesh : Is
                 (free_on points c.mesh new.mesh i j free) f made_in crosses
 
             -- the segment crosses it either way
-            made_cross : IsValidMesh new.mesh → BothCross (origin new.mesh f) (origin new.mesh (rev f))
+            made_cross : IsValidMesh new.mesh
+                → BothCross (origin new.mesh f) (origin new.mesh (rev f))
             made_cross valid = T.crosses_both_ways points new.mesh valid i j (made_local valid)
                 (free_on points c.mesh new.mesh i j free) f made_in crosses
 
@@ -248,13 +251,14 @@ module _ {V D U F : Type 0} (at : V → Point) (c : Contents V D U F) (mesh : Is
             -- so the turn leaves nothing more to test
             pub turns_across : IsValidMesh new.mesh → (ks : List ℕ) → AreEdges c.mesh ks
                 → TurnsTowards points c new i j ks ks
-            turns_across valid ks edges = turns_still (cross_round valid (2 * k) this_or_back) ks edges
+            turns_across valid ks edges =
+                turns_still (cross_round valid (2 * k) this_or_back) ks edges
 
             -- they and it are all, where it does
             pub others_and_made : AreOthersCrossing points new.mesh i j f In
             others_and_made = others_still points c.mesh mesh.valid i j e can new.mesh same_moves In
-                others f (way_is points c.mesh mesh.valid i j e can new.mesh same_moves f way) made_in
-                crosses
+                others f (way_is points c.mesh mesh.valid i j e can new.mesh same_moves f way)
+                made_in crosses
 
 -- where none crosses, the segment is an edge
 pub edge_if_none_crosses : {V D U F : Type 0} (at : V → Point) (c : Contents V D U F)

@@ -1,17 +1,12 @@
 -- The edges that cross a segment are those that it meets, as the walk along it has them.
-use Rattle.std.proofs.Common.{◌≡◌, ◌⊎◌, ◌<◌, [], ◌∷◌, ◌++◌, ◌∙◌}
-use Rattle.std.proofs.Common.{ℕ, List, length, map, Option, Some, None, sym, ap, subst, inl, inr}
-use Rattle.std.specs.Prelude.{ℤ, Contains, MatchOption}
-use Rattle.std.proofs.lemmas.List.Elements.{Contains-append_left, Contains-append_right}
-use Rattle.std.proofs.lemmas.List.Elements.{Contains-push_cases}
-use Rattle.std.proofs.lemmas.List.{length-map}
-use Rattle.half_edge_mesh.specs.Contents.{Contents, IsMeshWithData}
+use Rattle.std.proofs.Common.{◌≡◌, ◌⊎◌, ◌<◌, ◌∙◌}
+use Rattle.std.proofs.Common.{ℕ, List, length, sym, subst, inl, inr}
 use Rattle.half_edge_mesh.specs.Mesh.{Mesh, IsValidMesh, origin, rev}
 use Rattle.half_edge_links.proofs.Lists.Rev.{rev_within}
 use Rattle.plane.specs.Crossing.{Cross}
 use Rattle.plane.specs.Fraction.{Point, IsSame, WithinSegment}
 use Rattle.plane.specs.Laws.{Parts}
-use Rattle.plane.specs.Line.{Item, IsLineList, Meets, at_vertex, across, along}
+use Rattle.plane.specs.Line.{Meets, across}
 use Rattle.plane.specs.Pairs.{place}
 use Rattle.plane.specs.Side.{side, left, right, on}
 use Rattle.plane.specs.Tiling.{IsEdge}
@@ -20,27 +15,17 @@ use Rattle.plane.proofs.Segments.{same-sym}
 use Rattle.plane_tiling.specs.Local.{IsMesh}
 use Rattle.plane_tiling.proofs.Locations.{no_edges_cross}
 use Rattle.plane_tiling.proofs.Loops.{mesh_tiles}
-use Rattle.plane_tiling.proofs.Totals.{Contains-head, Contains-none}
 use Rattle.plane_segments.specs.Constraints.{ArePlacedApart}
-use Rattle.plane_segments.specs.Path.{ComesAfterOnLeft, ComesAfterOnRight, IsCrossing}
+use Rattle.plane_segments.specs.Path.{IsCrossing}
 use Rattle.plane_segments.specs.Path.{IsFreeOfVertices}
 use Rattle.plane_segments.proofs.Crossing.EitherWay.{crossing_is_either_way, edge_back}
-use Rattle.plane_segments.proofs.Crossing.Order.{right-trans, left-trans, right-irrefl, left-irrefl}
 use Rattle.mesh_embedding.specs.Drawn.{drawn, edges_of, faces_of, outer_of}
 use Rattle.mesh_embedding.proofs.EdgePairs.{edge_joins}
 use Rattle.mesh_embedding.proofs.OwnEdges.{own_edges}
-use Rattle.delaunay_legalization.specs.Known.{point_at}
-use Rattle.delaunay_legalization.specs.State.{state_of}
-use Rattle.delaunay_lines.specs.declared.intersection.Intersection.{Intersection}
-use Rattle.delaunay_lines.specs.declared.iterator.LineIntersectionIterator.{LineIntersectionIterator}
-use Rattle.delaunay_lines.specs.Items.{item_in}
-use Rattle.delaunay_lines.specs.Walk.{GivesNext, IsReady, WalksLine}
 use Rattle.delaunay_lines.proofs.EitherWay.{crossed_either_way}
-use Rattle.delaunay_paths.specs.Crossing.{CrossesFromRight, ComesAfter, IsLastCrossing}
-use Rattle.delaunay_paths.specs.Items.{crossed_twin, IsLastWith, IsLater}
+use Rattle.delaunay_paths.specs.Crossing.{CrossesFromRight}
+use Rattle.delaunay_paths.specs.Items.{crossed_twin}
 use Rattle.delaunay_paths.proofs.InTheWay.{meets_is_cross}
-use Rattle.delaunay_paths.proofs.Passing.{HasPassed, all_passed, list_with, none_passed}
-use Rattle.delaunay_paths.proofs.Passing.{one_more_passed}
 use Rattle.delaunay_paths.proofs.Places.{no_same_place}
 use Rattle.delaunay_paths.proofs.Towards.{crossing, local_if_crossed}
 use Rattle.delaunay_paths.proofs.Walking.{placed_apart}

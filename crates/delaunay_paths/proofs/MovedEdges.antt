@@ -1,6 +1,6 @@
 -- Edges that cross a segment move from one of their lists to the other.
-use Rattle.std.proofs.Common.{◌≡◌, ◌≢◌, ◌⊎◌, ◌+◌, ◌-◌, ◌<◌, ◌≤◌, [], ◌∷◌, ◌++◌, ◌∙◌}
-use Rattle.std.proofs.Common.{ℕ, List, length, take, refl, sym, ap, subst, arith, append-nil}
+use Rattle.std.proofs.Common.{◌≡◌, ◌≢◌, ◌+◌, ◌-◌, ◌<◌, ◌≤◌, [], ◌∷◌, ◌++◌, ◌∙◌}
+use Rattle.std.proofs.Common.{ℕ, List, length, take, sym, ap, subst, arith, append-nil}
 use Rattle.std.proofs.Common.{length-append, vec_capacity}
 use mathlib.Core.Logic.{inl, inr}
 use Rattle.std.specs.Prelude.{AllPairs, Contains}
@@ -13,8 +13,8 @@ use Rattle.mesh_embedding.proofs.WorkLists.{contains_before, contains_last, last
 use Rattle.mesh_embedding.proofs.WorkLists.{once_after, once_before}
 use Rattle.delaunay_legalization.proofs.Legalizing.{drained}
 use Rattle.delaunay_paths.specs.declared.crossing.CrossingLists.{CrossingLists}
-use Rattle.delaunay_paths.specs.Crossing.{AreAllCrossing, TurnsNearer}
-use Rattle.delaunay_paths.specs.Lists.{AreHeld, AreOnce, HaveRoom, HaveSeen, IsEntry, IsIn}
+use Rattle.delaunay_paths.specs.Crossing.{AreAllCrossing}
+use Rattle.delaunay_paths.specs.Lists.{AreHeld, AreOnce, HaveRoom, IsIn}
 use Rattle.delaunay_paths.specs.Lists.{KeepEntries, KeepRoom, ListCrossing, ListOthers}
 use Rattle.delaunay_paths.proofs.CrossingList.{put_waiting, taken}
 
@@ -134,7 +134,8 @@ crossing_on points m i j old new lists same = record {
 
 -- the edges of one walk, all to be seen again
 pub crossing_begins : (points : List Point) (m : Mesh) (i j n : ℕ) (l : CrossingLists)
-    → AllPairs (λ k h. k ≢ h) l.waiting.items → AreAllCrossing points m i j (Contains l.waiting.items)
+    → AllPairs (λ k h. k ≢ h) l.waiting.items
+    → AreAllCrossing points m i j (Contains l.waiting.items)
     → length l.waiting.items ≤ n → l.unseen.items ≡ [] → HaveRoom n l → ListCrossing points m i j l
 crossing_begins points m i j n l once all few none room = record {
   held = record {

@@ -1,7 +1,6 @@
 -- One edge that crosses a segment is turned towards it, and the lists have those that cross then.
 use Rattle.std.proofs.Common.{◌≡◌, ◌≢◌, ◌⊎◌, ◌*◌, ◌/◌, ◌<◌, [], ◌∷◌, ◌++◌}
 use Rattle.std.proofs.Common.{ℕ, List, length, map, sym, subst}
-use Rattle.std.proofs.lemmas.List.{length-map}
 use Rattle.std.specs.Prelude.{Contains}
 use Rattle.half_edge_mesh.specs.Contents.{Contents, IsMeshWithData}
 use Rattle.half_edge_mesh.specs.Flip.{IsFlippable, flipped}
@@ -71,8 +70,8 @@ module _ {V D U F : Type 0} (at : V → Point) (c : Contents V D U F) (mesh : Is
 
     -- ---- where it does not
     -- the edges round it are left to test
-    pub turned_away : (was left : List ℕ) → AreEdges c.mesh left → GainsRound c.mesh (2 * k) was left
-        → Contains left ((2 * k) / 2) → TurnsTowards points c new i j was left
+    pub turned_away : (was left : List ℕ) → AreEdges c.mesh left
+        → GainsRound c.mesh (2 * k) was left → Contains left ((2 * k) / 2) → TurnsTowards points c new i j was left
     turned_away was left edges round own = turns_away at c mesh i j turning.free turning.shape e
         turn_within from_right turning.nearer k is new contents turned change outer was left edges
         round own

@@ -1,6 +1,6 @@
 -- The next edge that can be turned is sought among those that cross.
-use Rattle.std.proofs.Common.{◌≡◌, ◌⊎◌, ◌+◌, ◌-◌, ◌<◌, [], ◌∷◌, ◌++◌, ◌∙◌}
-use Rattle.std.proofs.Common.{ℕ, List, length, map, take, Option, Some, None, refl, sym, subst, arith}
+use Rattle.std.proofs.Common.{◌≡◌, ◌⊎◌, ◌+◌, ◌-◌, ◌<◌, [], ◌∷◌, ◌++◌}
+use Rattle.std.proofs.Common.{ℕ, List, length, map, take, Option, Some, None, refl, subst, arith}
 use mathlib.Core.Logic.{inl, inr}
 use Rattle.std.specs.Prelude.{Contains, IfNone, IfSome}
 use Rattle.std.proofs.lemmas.List.Elements.{Contains-push_cases}
@@ -14,7 +14,7 @@ use Rattle.plane_segments.specs.Path.{IsFreeOfVertices}
 use Rattle.mesh_embedding.specs.Drawn.{drawn, faces_of, outer_of}
 use Rattle.delaunay_paths.specs.declared.crossing.CrossingLists.{CrossingLists}
 use Rattle.delaunay_paths.specs.Crossing.{CrossesFromRight, TurnsNearer}
-use Rattle.delaunay_paths.specs.Lists.{HaveSeen, IsToTurn, KeepEntries, KeepRoom, ListCrossing}
+use Rattle.delaunay_paths.specs.Lists.{HaveSeen, IsToTurn, KeepRoom, ListCrossing}
 use Rattle.delaunay_paths.specs.Lists.{ListOthers}
 use Rattle.delaunay_paths.proofs.Making.{edge_if_none_crosses, local}
 use Rattle.delaunay_paths.proofs.MovedEdges.{crossing_on, longer, none_taken, nothing_left}

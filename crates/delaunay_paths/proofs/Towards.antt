@@ -1,8 +1,8 @@
--- An edge of a mesh that crosses a segment is turned towards it, and one of those that cross can be.
+-- An edge of a mesh that crosses a segment is turned towards it, and one that crosses can be.
 use Rattle.std.proofs.Common.{◌≡◌, ◌≢◌, ◌⊎◌, ◌*◌, ◌/◌, ◌<◌, [], ◌∷◌, ◌∙◌}
 use Rattle.std.proofs.Common.{ℕ, List, length, refl, sym, ap, subst}
 use mathlib.Core.Logic.{inl, inr}
-use Rattle.std.specs.Prelude.{ℤ, pos, ◌<ℤ◌, Contains, Some, slice_get}
+use Rattle.std.specs.Prelude.{pos, ◌<ℤ◌, Contains, Some, slice_get}
 use Rattle.half_edge_mesh.specs.Mesh.{Mesh, AreSoundLinks, IsValidMesh, origin, next, prev, face}
 use Rattle.half_edge_mesh.specs.Mesh.{rev}
 use Rattle.half_edge_mesh.specs.Flip.{IsFlippable, Flips, flipped}
@@ -29,7 +29,6 @@ use Rattle.plane_edits.proofs.LocalMesh.Changes.{each, each_none}
 use Rattle.plane_edits.proofs.LocalMesh.Kept.{flip_kept}
 use Rattle.plane_segments.specs.Measure.{crossing_sum}
 use Rattle.plane_segments.specs.Path.{IsFreeOfVertices, IsCrossing, IsLastRight, IsLastLeft}
-use Rattle.plane_segments.specs.Path.{ComesAfterOnRight, ComesAfterOnLeft}
 use Rattle.plane_segments.proofs.Crossing.Chosen.{chosen_flip_exists}
 use Rattle.plane_segments.proofs.Crossing.EitherWay.{crossing_is_either_way, edge_back}
 use Rattle.plane_segments.proofs.Crossing.PathFlips.{piece_on_line_is_edge}
@@ -57,8 +56,8 @@ use Rattle.mesh_embedding.proofs.EdgePairs.{edge_joins, joins_edge}
 
 -- ---- the ends of edges that are not turned
 -- a directed edge keeps its ends where another one, not its reverse, is flipped
-pub others_stay : (m new : Mesh) (e : ℕ) → AreSoundLinks m → IsFlippable m e → Flips m new e → (h : ℕ)
-    → h ≢ e → h ≢ rev e → GoSameWay m h new h
+pub others_stay : (m new : Mesh) (e : ℕ) → AreSoundLinks m → IsFlippable m e → Flips m new e
+    → (h : ℕ) → h ≢ e → h ≢ rev e → GoSameWay m h new h
 others_stay m new e s can f h n t = (
   origin_kept m new e s can f h n t,
   origin_kept m new e s can f
@@ -252,8 +251,10 @@ module _ (points : List Point) (m : Mesh) (s : IsValidMesh m) (i j : ℕ) where
       pub can_turn : CanTurn (2 * (e / 2))
       can_turn = elim (halved e) [
         | inl q ↦ subst CanTurn (sym q) (flippable, λ o. corners_apart (sym o))
-        | inr q ↦ subst CanTurn (sym q)
-            (twin_flippable, λ o. corners_apart (o ∙ ap (λ (k : ℕ). origin m (prev m k)) (rev-rev e)))
+        | inr q ↦ subst CanTurn (sym q) (
+          twin_flippable,
+          λ o. corners_apart (o ∙ ap (λ (k : ℕ). origin m (prev m k)) (rev-rev e)),
+        )
       ]
 
       abbrev Change : Mesh → Type 0

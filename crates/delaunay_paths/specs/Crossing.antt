@@ -1,4 +1,5 @@
--- The edges of a mesh that cross the segment between two of its vertices, and an order of them.
+-- The edges of a mesh that cross the segment between two of its vertices, and which of them can be
+-- turned towards it.
 use Rattle.std.specs.Prelude.{◌≡◌, ◌≢◌, ◌⊎◌, ◌<◌, ◌≤◌, ℕ, List, length, Option, MatchOption}
 use Rattle.std.specs.Prelude.{AllPairs, Contains}
 use Rattle.half_edge_mesh.specs.Contents.{Contents}
@@ -7,7 +8,7 @@ use Rattle.plane.specs.Fraction.{Point, whole}
 use Rattle.plane.specs.Crossing.{Cross}
 use Rattle.plane.specs.Pairs.{place}
 use Rattle.plane.specs.Side.{side, right, TurnsLeft}
-use Rattle.plane_segments.specs.Path.{ComesAfterOnRight, ComesAfterOnLeft}
+use Rattle.plane_segments.specs.Path.{ComesAfterOnRight}
 use Rattle.delaunay_legalization.specs.Known.{point_at}
 
 -- directed edge h and the segment from i to j have a point strictly within both
@@ -41,25 +42,6 @@ pub record CrossesFromRight (points : List Point) (m : Mesh) (i j h : ℕ) : Typ
   pub end : side (place points (origin m h)) (place points (origin m (rev h))) (place points j)
       ≡ right
 
--- seen from i, directed edge h starts after directed edge g, or where it starts, and then ends
--- after it
-abbrev pub ComesAfter : List Point → Mesh → ℕ → ℕ → ℕ → Type 0
-ComesAfter points m i g h =
-    ComesAfterOnRight (point_at points i) (point_at points (origin m g))
-    (point_at points (origin m h))
-    ⊎ ((point_at points (origin m g) ≡ point_at points (origin m h)) × ComesAfterOnLeft (point_at
-    points i) (point_at points (origin m (rev g))) (point_at points (origin m (rev h))))
-
--- of the directed edges below n that cross, none comes after g
-pub record IsLastFromRight (points : List Point) (m : Mesh) (i j n g : ℕ) : Type 0 where
-  pub crosses : CrossesFromRight points m i j g
-  pub none_after : (h : ℕ) → h < n → CrossesFromRight points m i j h → ¬ ComesAfter points m i g h
-
--- the last of the directed edges below n that cross, if one does
-abbrev pub IsLastCrossing : List Point → Mesh → ℕ → ℕ → ℕ → Option ℕ → Type 0
-IsLastCrossing points m i j n r = MatchOption r ((h : ℕ) → h < n
-    → ¬ CrossesFromRight points m i j h) (λ g. (g < n) × IsLastFromRight points m i j n g)
-
 -- where the edge from a to b crosses from the right, v comes after its right end, seen from i
 abbrev pub ComesSooner : List Point → ℕ → ℕ → ℕ → ℕ → ℕ → Type 0
 ComesSooner points i j v a b = side (place points i) (place points j) (place points a) ≡ right
@@ -67,8 +49,8 @@ ComesSooner points i j v a b = side (place points i) (place points j) (place poi
     → ComesAfterOnRight (point_at points i) (point_at points a) (point_at points v)
 
 -- directed edge e can be turned towards the segment from i to j: the corners round it are those of
--- a strictly convex quadrilateral, and where the edge that is made crosses from the right, its right
--- end comes before that of e
+-- a strictly convex quadrilateral, and where the edge that is made crosses from the right, its
+-- right end comes before that of e
 pub record TurnsNearer (points : List Point) (m : Mesh) (i j e : ℕ) : Type 0 where
   pub first : TurnsLeft (place points (origin m e)) (place points (origin m (prev m (rev e))))
       (place points (origin m (prev m e)))

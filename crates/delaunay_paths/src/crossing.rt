@@ -6,7 +6,8 @@ ghost use Rattle.mesh_embedding.specs.Drawn.{drawn, faces_of, outer_of};
 ghost use Rattle.delaunay_lines.specs.Items.{item_in, mesh_of};
 ghost use Rattle.delaunay_paths.specs.Crossing.{ListsAllCrossing};
 ghost use Rattle.delaunay_paths.specs.Items.{HasRoomForItem, IsCrossedTwin, ListsItem};
-ghost use Rattle.delaunay_paths.specs.Lists.{AreHeld, HaveRoom, KeepEntries, KeepRoom, ListCrossing};
+ghost use Rattle.delaunay_paths.specs.Lists.{AreHeld, HaveRoom, KeepEntries, KeepRoom};
+ghost use Rattle.delaunay_paths.specs.Lists.{ListCrossing};
 
 use delaunay_core::math::PlaneTests;
 use delaunay_core::point::HasPosition;

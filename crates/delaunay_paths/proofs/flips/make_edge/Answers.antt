@@ -1,4 +1,4 @@
-use Rattle.std.proofs.Common.{List, map, refl, sym, ap, subst}
+use Rattle.std.proofs.Common.{map, refl, sym, ap, subst}
 use Rattle.delaunay_paths.specs.Lists.{ListCrossing}
 use Rattle.delaunay_paths.proofs.Making.{making_begins, making_shape, making_work, making_free}
 use Rattle.delaunay_paths.proofs.Making.{making_ends, making_goes_on, making_falls}

@@ -14,7 +14,8 @@ see_again-requires g c = c.in_default.ensures.crossing.held
 pub seek-requires-2-clause-lists : goal.seek-requires-2-clause-lists
 seek-requires-2-clause-lists g c =
     crossing_on (map g.V.HasPosition.place c.args.dcel.now.vertices) c.args.dcel.now.mesh
-    c.args.from c.args.to c.seek.new.lists _ c.in_default.ensures.crossing c.see_again.ensures.entries
+    c.args.from c.args.to c.seek.new.lists _ c.in_default.ensures.crossing
+    c.see_again.ensures.entries
 
 pub returns-clause-some : goal.returns-clause-some
 returns-clause-some g c =
