@@ -36,7 +36,7 @@ pub settle-requires-clause-room : goal.settle-requires-clause-room
 settle-requires-clause-room g c =
     room_left g.V.HasPosition.place g.M.ConstraintMarker.constraints (state_of c.self.inside.dcel)
     (state_of c.remove_vertex-value.new.dcel) c.args.vertex c.remove_vertex-value.result
-    c.remove_vertex-value.ensures.takes.plain _ _ _ c.num_vertices.ensures.value
+    c.remove_vertex-value.ensures.takes.plain _ _ _ c.num_vertices-edges.ensures.value
     c.in_ok-reserve.ensures.ok
 
 pub remove_vertex-value-requires-clause-free : goal.remove_vertex-value-requires-clause-free
@@ -89,11 +89,11 @@ settle-requires-clause-room_among g c =
 pub settle-requires-clause-room_crossing : goal.settle-requires-clause-room_crossing
 settle-requires-clause-room_crossing g c =
     IfSome_then c.halves_at-halves.result c.in_ok-reserve_to_join.ensures
-    (λ _ room. fewer_fit (3 * c.num_vertices.result) _ _
+    (λ _ room. fewer_fit (3 * c.num_vertices-edges.result) _ _
     (room_left g.V.HasPosition.place g.M.ConstraintMarker.constraints
     (state_of c.self.inside.dcel) (state_of c.remove_vertex-value.new.dcel) c.args.vertex
     c.remove_vertex-value.result c.remove_vertex-value.ensures.takes.plain
-    c.num_vertices.result 0 (3 * c.num_vertices.result) c.num_vertices.ensures.value
+    c.num_vertices-edges.result 0 (3 * c.num_vertices-edges.result) c.num_vertices-edges.ensures.value
     (omega arith)) room)
 
 pub settle-requires-clause-only : goal.settle-requires-clause-only
@@ -178,7 +178,7 @@ invariant_of-self-5 g c =
 
 pub overflow_mul-edges : goal.overflow_mul-edges
 overflow_mul-edges g c =
-    let small = c.num_vertices.ensures.small in
+    let small = c.num_vertices-edges.ensures.small in
     omega arith
 
 pub invariant_of-self : goal.invariant_of-self
