@@ -93,8 +93,8 @@ settle-requires-clause-room_crossing g c =
     (room_left g.V.HasPosition.place g.M.ConstraintMarker.constraints
     (state_of c.self.inside.dcel) (state_of c.remove_vertex-value.new.dcel) c.args.vertex
     c.remove_vertex-value.result c.remove_vertex-value.ensures.takes.plain
-    c.num_vertices-edges.result 0 (3 * c.num_vertices-edges.result) c.num_vertices-edges.ensures.value
-    (omega arith)) room)
+    c.num_vertices-edges.result 0 (3 * c.num_vertices-edges.result)
+    c.num_vertices-edges.ensures.value (omega arith)) room)
 
 pub settle-requires-clause-only : goal.settle-requires-clause-only
 settle-requires-clause-only g c free =
