@@ -16,11 +16,6 @@ use test_reader::hash_of;
 /// and the order of both.
 type Comparison = Option<([bool; 4], Option<Ordering>, Ordering)>;
 
-type Both<'a, V, DE, UE, F> = (
-    DirectedEdgeHandle<'a, V, DE, UE, F>,
-    DirectedEdgeHandle<'a, V, DE, UE, F>,
-);
-
 fn compare<T: Clone + Ord + Hash + Drop>(value: &T, other: &T) -> Comparison {
     let Ok(copy) = value.clone() else {
         return None;
@@ -60,27 +55,19 @@ fn compare_parts<V, DE, UE, F>(
     ]
 }
 
-// Two edges, if both are there.
-fn edges_at<V, DE, UE, F>(
-    mesh: &Dcel<V, DE, UE, F>,
-    (a, b): (u32, u32),
-) -> Option<Both<'_, V, DE, UE, F>> {
-    match (edge_at(mesh, a), edge_at(mesh, b)) {
-        (Some(first), Some(second)) => Some((first, second)),
-        _ => None,
-    }
-}
-
 /// Of two edges, and of their undirected edges, starts and left faces.
 pub fn compare_edges<V, DE, UE, F>(
     mesh: &Dcel<V, DE, UE, F>,
     a: u32,
     b: u32,
 ) -> Option<[Comparison; 4]> {
-    match edges_at(mesh, (a, b)) {
-        Some((first, second)) => Some(compare_parts(&first, &second)),
-        None => None,
-    }
+    let Some(first) = edge_at(mesh, a) else {
+        return None;
+    };
+    let Some(second) = edge_at(mesh, b) else {
+        return None;
+    };
+    Some(compare_parts(&first, &second))
 }
 
 fn compare_forms<V, DE, UE, F>(
@@ -101,12 +88,13 @@ pub fn compare_voronoi<V, DE, UE, F>(
     a: u32,
     b: u32,
 ) -> Option<[Comparison; 4]> {
-    match edges_at(mesh, (a, b)) {
-        Some((first, second)) => {
-            Some(compare_forms(&first.as_voronoi_edge(), &second.as_voronoi_edge()))
-        }
-        None => None,
-    }
+    let Some(first) = edge_at(mesh, a) else {
+        return None;
+    };
+    let Some(second) = edge_at(mesh, b) else {
+        return None;
+    };
+    Some(compare_forms(&first.as_voronoi_edge(), &second.as_voronoi_edge()))
 }
 
 fn print_part<T: Debug, N: Debug>(rt: &impl Print, part: &T, name: &N) -> io::Result<()> {
