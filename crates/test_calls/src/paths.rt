@@ -4,12 +4,13 @@ ghost use Rattle.plane.specs.Tests.{InRange};
 ghost use Rattle.plane_tiling.specs.Local.{IsMesh};
 ghost use Rattle.mesh_embedding.specs.Drawn.{faces_of, outer_of};
 ghost use Rattle.delaunay_paths.specs.Leaving.{IsWorkList};
+ghost use Rattle.delaunay_paths.specs.Lists.{HaveRoom};
 ghost use Rattle.test_calls.specs.Vertices.{position_of};
 
 use crate::points::{Plain, TaggedVertex};
 use delaunay_core::HintGenerator;
 use delaunay_interface::Triangulation;
-use delaunay_paths::{make_edge, next_on_path};
+use delaunay_paths::{CrossingLists, make_edge, next_on_path};
 use exact_predicates::ExactTests;
 use half_edge_mesh::{Dcel, FixedUndirectedEdgeHandle, FixedVertexHandle, MeshViews};
 use std::alloc::Global;
@@ -75,6 +76,18 @@ fn room_for_edges(alloc: Global, mesh: &Mesh) -> Option<Vec<FixedUndirectedEdgeH
     }
 }
 
+// The lists of crossing edges, with room for each edge of a mesh, or nothing where memory was
+// refused.
+fn lists_for_edges(alloc: Global, mesh: &Mesh) -> Option<CrossingLists>
+    ensures { IfSome result (HaveRoom (length mesh.now.undirected)) }
+{
+    let mut lists = CrossingLists::new(alloc);
+    match lists.reserve(mesh.num_undirected_edges()) {
+        Ok(()) => Some(lists),
+        Err(_) => None,
+    }
+}
+
 // A copy of the mesh in which the segment between two different vertices has become an edge, or
 // nothing where a vertex is between them or memory was refused.
 fn joined_mesh<L: HintGenerator<i64>>(
@@ -90,7 +103,8 @@ fn joined_mesh<L: HintGenerator<i64>>(
     }
     let mut copy = copy_of(mesh)?;
     let mut work = room_for_edges(alloc, &copy)?;
-    make_edge(&mut copy, start, end, &ExactTests, &mut work);
+    let mut lists = lists_for_edges(alloc, &copy)?;
+    make_edge(&mut copy, start, end, &ExactTests, &mut lists, &mut work);
     Some(copy)
 }
 
