@@ -80,13 +80,16 @@ impl<V: HasPosition, DE, UE, F> ConstrainedMesh<V, DE, UE, F> {
         ensures data { OnOk result (MarksEdges self.old self.new) }
         ensures err { OnErr result (self.new ≡ self.old) }
     {
-        self.work.reserve(3 * self.dcel.num_vertices())?;
+        let edges = 3 * self.dcel.num_vertices();
+        self.work.reserve(edges)?;
+        self.crossing.reserve(edges)?;
         let mut flips = 0;
         add_constraints::<EdgeConstraints, _, _, _, _, _>(
             &mut self.dcel,
             from,
             to,
             tests,
+            &mut self.crossing,
             &mut self.work,
             &mut flips,
         );

@@ -58,6 +58,7 @@ impl<V: HasPosition, DE, UE, F> ConstrainedMesh<V, DE, UE, F> {
             dcel,
             work,
             lists,
+            crossing,
             num_constraints,
             marks,
         } = plain;
@@ -67,6 +68,7 @@ impl<V: HasPosition, DE, UE, F> ConstrainedMesh<V, DE, UE, F> {
                     dcel,
                     work,
                     lists,
+                    crossing,
                     num_constraints: 0,
                     marks: PhantomData,
                 };
@@ -77,6 +79,7 @@ impl<V: HasPosition, DE, UE, F> ConstrainedMesh<V, DE, UE, F> {
                 dcel,
                 work,
                 lists,
+                crossing,
                 num_constraints,
                 marks,
             }),

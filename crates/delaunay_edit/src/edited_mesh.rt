@@ -10,6 +10,7 @@ ghost use Rattle.delaunay_edit.specs.Location.{IsMeshEdge};
 
 use delaunay_core::point::{HasPosition, Point2};
 use delaunay_legalization::{CdtEdge, ConstraintMarker, EdgeConstraints, NoConstraints};
+use delaunay_paths::CrossingLists;
 use delaunay_removal::RemovalLists;
 use half_edge_mesh::{
     Dcel, FixedDirectedEdgeHandle, FixedUndirectedEdgeHandle, FixedVertexHandle, MAX_ELEMENTS,
@@ -30,6 +31,8 @@ pub struct EditedMesh<V: HasPosition, DE, UE, F, M: ConstraintMarker<UE>> {
     pub(crate) work: Vec<FixedUndirectedEdgeHandle>,
     // What a removal lists besides.
     pub(crate) lists: RemovalLists,
+    // The edges that cross a piece of a path while it becomes one.
+    pub(crate) crossing: CrossingLists,
     // How many edges are constraints.
     pub(crate) num_constraints: usize,
     pub(crate) marks: PhantomData<M>,
@@ -72,6 +75,7 @@ impl<V: HasPosition, DE, UE, F, M: ConstraintMarker<UE>> EditedMesh<V, DE, UE, F
             dcel,
             work: Vec::new(alloc),
             lists: RemovalLists::new(alloc),
+            crossing: CrossingLists::new(alloc),
             num_constraints: 0,
             marks: PhantomData,
         }

@@ -1,17 +1,34 @@
 //! What is left to do where a vertex went: the halves of a straight constraint are joined, and each
 //! edge is made to pass the circle test.
 ghost use Rattle.std.specs.Prelude.{◌≡◌, ◌*◌, ◌≤◌, ◌++◌};
-ghost use Rattle.std.specs.Prelude.{length, map, All, IsTrue, Some, vec_capacity};
+ghost use Rattle.std.specs.Prelude.{length, map, All, IfSome, IsTrue, OnOk, Some, vec_capacity};
 ghost use Rattle.delaunay_legalization.specs.Flips.{FlipsFit};
+ghost use Rattle.delaunay_paths.specs.Lists.{HaveRoom};
 ghost use Rattle.delaunay_removal.specs.Pairs.{FailOnlyAt, pairs_left};
 ghost use Rattle.delaunay_edit.specs.Halves.{CanSettle, Settles};
 
 use delaunay_core::math::PlaneTests;
 use delaunay_core::point::HasPosition;
 use delaunay_legalization::{ConstraintMarker, legalize};
-use delaunay_paths::add_path;
+use delaunay_paths::{CrossingLists, add_path};
 use delaunay_removal::{RemovalLists, VertexPair, index_left, legalize_pairs, list_pairs};
 use half_edge_mesh::{Dcel, FixedUndirectedEdgeHandle, FixedVertexHandle};
+use std::alloc::AllocError;
+
+/// Makes room to join the far ends of straight halves, if there are such, in a mesh of at most so
+/// many edges. It gives `AllocError` where memory was refused.
+pub(crate) fn reserve_to_join(
+    crossing: &mut CrossingLists,
+    halves: &Option<VertexPair>,
+    edges: usize,
+) -> Result<(), AllocError>
+    ensures { OnOk result (IfSome halves.now (λ _. HaveRoom edges crossing.new)) }
+{
+    match halves {
+        Some(_) => crossing.reserve(edges),
+        None => Ok(()),
+    }
+}
 
 // Makes a constraint of the segment between the far ends of straight halves, whose middle `vertex`
 // went, before it tests the edges that `list_pairs` lists and those that were turned for it: so an
@@ -23,6 +40,7 @@ fn join_halves<M: ConstraintMarker<UE>, V: HasPosition, DE, UE, F, P: PlaneTests
     border: &[VertexPair],
     tests: &P,
     lists: &RemovalLists,
+    crossing: &mut CrossingLists,
     work: &mut Vec<FixedUndirectedEdgeHandle>,
     flips: &mut u64,
 )
@@ -30,6 +48,7 @@ fn join_halves<M: ConstraintMarker<UE>, V: HasPosition, DE, UE, F, P: PlaneTests
         (border.now ++ lists.now.turned.items) }
     requires sites { All (P.sites tests.now) (map V.place dcel.old.vertices) }
     requires room { 3 * length dcel.old.vertices ≤ vec_capacity work.old }
+    requires room_crossing { HaveRoom (3 * length dcel.old.vertices) crossing.old }
     requires fits { FlipsFit (length dcel.old.vertices) flips.old }
 
     ensures { Settles V.place M.marks M.marked M.constraints dcel.old dcel.new vertex (Some ends)
@@ -38,13 +57,13 @@ fn join_halves<M: ConstraintMarker<UE>, V: HasPosition, DE, UE, F, P: PlaneTests
     list_pairs::<M, _, _, _, _>(dcel, vertex, border, lists, work);
     let from = index_left(dcel, ends.0, vertex);
     let to = index_left(dcel, ends.1, vertex);
-    add_path::<M, _, _, _, _, _>(dcel, from, to, tests, work);
+    add_path::<M, _, _, _, _, _>(dcel, from, to, tests, crossing, work);
     legalize::<M, _, _, _, _, _>(dcel, tests, work, flips);
 }
 
 /// Joins the far ends of straight halves, whose middle `vertex` went, if there are such, and flips
 /// edges until each that is no constraint passes the circle test. `border`, `is_free` and the lists
-/// are as `legalize_pairs` has them.
+/// are as `legalize_pairs` has them, and for halves `reserve_to_join` has made room.
 pub(crate) fn settle<M: ConstraintMarker<UE>, V: HasPosition, DE, UE, F, P: PlaneTests<V::Scalar>>(
     dcel: &mut Dcel<V, DE, UE, F>,
     vertex: FixedVertexHandle,
@@ -53,6 +72,7 @@ pub(crate) fn settle<M: ConstraintMarker<UE>, V: HasPosition, DE, UE, F, P: Plan
     border: &[VertexPair],
     tests: &P,
     lists: &mut RemovalLists,
+    crossing: &mut CrossingLists,
     work: &mut Vec<FixedUndirectedEdgeHandle>,
     flips: &mut u64,
 )
@@ -63,6 +83,7 @@ pub(crate) fn settle<M: ConstraintMarker<UE>, V: HasPosition, DE, UE, F, P: Plan
     requires sites { All (P.sites tests.now) (map V.place dcel.old.vertices) }
     requires room { 3 * length dcel.old.vertices ≤ vec_capacity work.old }
     requires room_among { 3 * length dcel.old.vertices ≤ vec_capacity lists.old.sides }
+    requires room_crossing { IfSome halves (λ _. HaveRoom (3 * length dcel.old.vertices) crossing.old) }
     requires fits { FlipsFit (length dcel.old.vertices) flips.old }
 
     ensures { Settles V.place M.marks M.marked M.constraints dcel.old dcel.new vertex halves
@@ -70,7 +91,9 @@ pub(crate) fn settle<M: ConstraintMarker<UE>, V: HasPosition, DE, UE, F, P: Plan
 {
     match halves {
         Some(ends) => {
-            join_halves::<M, _, _, _, _, _>(dcel, vertex, ends, border, tests, lists, work, flips);
+            join_halves::<M, _, _, _, _, _>(
+                dcel, vertex, ends, border, tests, lists, crossing, work, flips,
+            );
         }
         None => legalize_pairs::<M, _, _, _, _, _>(
             dcel, vertex, is_free, border, tests, lists, work, flips,

@@ -16,7 +16,7 @@ ghost use Rattle.delaunay_edit.specs.Headline.{AreSites, IsDelaunay};
 use crate::counting::count_constraints_at;
 use crate::edited_mesh::EditedMesh;
 use crate::halves::straight_halves;
-use crate::joining::settle;
+use crate::joining::{reserve_to_join, settle};
 use delaunay_core::math::PlaneTests;
 use delaunay_core::point::HasPosition;
 use delaunay_legalization::ConstraintMarker;
@@ -123,10 +123,12 @@ impl<V: HasPosition, DE: Drop, UE: Drop, F: Drop, M: ConstraintMarker<UE>> Edite
         ensures data { OnOk result (KeepsDataOfOthers self.old self.new vertex) }
         ensures err { OnErr result (self.new ≡ self.old) }
     {
-        self.work.reserve(3 * self.dcel.num_vertices())?;
+        let edges = 3 * self.dcel.num_vertices();
+        self.work.reserve(edges)?;
         self.lists.reserve_for(&self.dcel)?;
         let border = self.sides_to_test(vertex)?;
         let halves = self.halves_at(vertex, tests);
+        reserve_to_join(&mut self.crossing, &halves, edges)?;
         let lost = self.count_lost(vertex, &halves);
         let is_free = self.num_constraints == 0;
         let value = remove_vertex::<M, _, _, _, _, _>(
@@ -145,6 +147,7 @@ impl<V: HasPosition, DE: Drop, UE: Drop, F: Drop, M: ConstraintMarker<UE>> Edite
             border.as_slice(),
             tests,
             &mut self.lists,
+            &mut self.crossing,
             &mut self.work,
             &mut flips,
         );

@@ -17,6 +17,7 @@ use crate::insertion::reserve_to_test;
 use delaunay_core::math::InsertionError;
 use delaunay_core::point::HasPosition;
 use delaunay_legalization::ConstraintMarker;
+use delaunay_paths::CrossingLists;
 use delaunay_removal::RemovalLists;
 use half_edge_mesh::{Dcel, MAX_ELEMENTS, ReserveError};
 use std::alloc::{AllocError, Global};
@@ -70,6 +71,7 @@ impl<
             dcel,
             work: Vec::new(alloc),
             lists: RemovalLists::new(alloc),
+            crossing: CrossingLists::new(alloc),
             num_constraints: 0,
             marks: PhantomData,
         })
@@ -143,6 +145,7 @@ impl<
             dcel,
             work: Vec::new(alloc),
             lists: RemovalLists::new(alloc),
+            crossing: CrossingLists::new(alloc),
             num_constraints: self.num_constraints,
             marks: PhantomData,
         })

@@ -21,6 +21,7 @@ use Rattle.plane_edits.proofs.LocalMesh.Changes.{each, each_none, face_from, tur
 use Rattle.mesh_embedding.specs.Drawn.{drawn, edges_of, faces_of, outer_of}
 use Rattle.mesh_embedding.specs.Legal.{GainsRound, pairs_at}
 use Rattle.mesh_embedding.proofs.EdgePairs.{edge_joins}
+use Rattle.mesh_embedding.proofs.FaceChanges.{turned_faces}
 use Rattle.mesh_embedding.proofs.MeshEdits.{start_of_twin, end_of_twin}
 use Rattle.mesh_embedding.proofs.MeshLegal.{joins_directed, listed_edge}
 use Rattle.mesh_embedding.proofs.MeshStars.{edge_of_face}
@@ -28,7 +29,7 @@ use Rattle.mesh_embedding.proofs.OwnEdges.{own_edges}
 use Rattle.mesh_embedding.proofs.TurnedEnds.{KeepsOtherOrigins, other_ends_stay, ends_at_next}
 use Rattle.delaunay_legalization.specs.Known.{point_at}
 use Rattle.delaunay_paths.specs.Kept.{KeepsUncrossed}
-use Rattle.delaunay_paths.specs.Leaving.{AllPassBeyond}
+use Rattle.delaunay_paths.specs.Leaving.{AllPassAway, IsCrossedFace}
 use Rattle.delaunay_paths.proofs.Walking.{not_start}
 
 -- ---- one flip
@@ -114,7 +115,7 @@ module _ (m : Mesh) (s : IsValidMesh m) (e : ℕ) (can : IsFlippable m e) (after
     module _ (points : List Point) (i j : ℕ) (kept : KeepsUncrossed points m after i j) (change :
         FacesChange (faces_of m) (faces_of after) (corners a b c ∷ corners a c d ∷ []) made)
         (constraints : List (ℕ × ℕ))
-        (passing : AllPassBeyond points (faces_of m) constraints (pairs_at m ks) i j) where
+        (passing : AllPassAway points (faces_of m) constraints (pairs_at m ks) i j) where
       -- what was left to test, and does not cross, is so still
       still_left : (u v : ℕ)
           → ¬ Cross (place points i) (place points j) (place points u) (place points v)
@@ -128,9 +129,10 @@ module _ (m : Mesh) (s : IsValidMesh m) (e : ℕ) (can : IsFlippable m e) (after
           (λ o. ((way.0 ∙ h.1.start) o, (way.1 ∙ h.1.end) o))
           (joins_directed after more h.0 (round.kept (h.0 / 2) h.1.listed))
 
-      -- after a flip that keeps what does not cross, all that may fail crosses or is in the list
-      pub flip_leaves : AllPassBeyond points (faces_of after) constraints (pairs_at after more) i j
-      flip_leaves u v k l f g clear free untested = go
+      -- after a flip that keeps what does not cross, all that may fail is beside a face that is
+      -- crossed, or in the list
+      pub flip_leaves : AllPassAway points (faces_of after) constraints (pairs_at after more) i j
+      flip_leaves u v k l f g first second free untested = go
           (face_from (faces_of m) (faces_of after)
           (corners a b c ∷ corners a c d ∷ []) made change u v k f)
           (face_from (faces_of m) (faces_of after)
@@ -142,7 +144,57 @@ module _ (m : Mesh) (s : IsValidMesh m) (e : ℕ) (can : IsFlippable m e) (after
           go (inl x) (inr y) =
               absurd (untested (turned_join (pairs_at after more) v u (sides_joined v u l y).0))
           go (inl x) (inl y) =
-              passing u v k l x y clear free (λ h. untested (still_left u v clear h))
+              passing u v k l x y first second free
+              (λ h. untested (still_left u v (λ c. first (inl c)) h))
+
+  -- where the edge that is made crosses too, nothing more is left to test
+  module _ (points : List Point) (i j : ℕ) (kept : KeepsUncrossed points m after i j) (change :
+      FacesChange (faces_of m) (faces_of after) (corners a b c ∷ corners a c d ∷ []) made)
+      (made_crosses : Cross (place points i) (place points j) (place points b) (place points d)
+      × Cross (place points i) (place points j) (place points d) (place points b)) where
+    abbrev Crossed : ℕ → ℕ → ℕ → Type 0
+    Crossed u v k = IsCrossedFace points i j u v k
+
+    turned_crossed : (u v k : ℕ) → Crossed u v k → Crossed v k u
+    turned_crossed u v k (inl x) = inr (inr x)
+    turned_crossed u v k (inr (inl x)) = inl x
+    turned_crossed u v k (inr (inr x)) = inr (inl x)
+
+    made_crossed : (u v k : ℕ) → IsFaceOf made u v k → Crossed u v k
+    made_crossed = turn_of_all made Crossed turned_crossed
+        (each (λ (f : Face). Crossed f.a f.b f.c) (corners a b d) (corners b c d ∷ [])
+        (inr (inl made_crosses.0))
+        (each (λ (f : Face). Crossed f.a f.b f.c) (corners b c d) []
+        (inr (inr made_crosses.1))
+        (each_none (λ (f : Face). Crossed f.a f.b f.c))))
+
+    module _ (ks : List ℕ) (constraints : List (ℕ × ℕ))
+        (passing : AllPassAway points (faces_of m) constraints (pairs_at m ks) i j) where
+      listed_still : (u v : ℕ)
+          → ¬ Cross (place points i) (place points j) (place points u) (place points v)
+          → Joins (pairs_at m ks) u v → Joins (pairs_at after ks) u v
+      listed_still u v clear joined =
+          let h = listed_edge m ks u v joined in
+          let way = kept h.0 (λ x. clear (subst (λ (y : ℕ × ℕ). Cross (place points i)
+          (place points j) (place points y.0) (place points y.1))
+          (λ o. (h.1.start o, h.1.end o)) x)) in
+          subst (λ (y : ℕ × ℕ). Joins (pairs_at after ks) y.0 y.1)
+          (λ o. ((way.0 ∙ h.1.start) o, (way.1 ∙ h.1.end) o))
+          (joins_directed after ks h.0 h.1.listed)
+
+      pub crossing_leaves : AllPassAway points (faces_of after) constraints (pairs_at after ks) i j
+      crossing_leaves u v k l f g first second free untested = go
+          (face_from (faces_of m) (faces_of after)
+          (corners a b c ∷ corners a c d ∷ []) made change u v k f)
+          (face_from (faces_of m) (faces_of after)
+          (corners a b c ∷ corners a c d ∷ []) made change v u l g)
+        where
+          go : IsFaceOf (faces_of m) u v k ⊎ IsFaceOf made u v k
+              → IsFaceOf (faces_of m) v u l ⊎ IsFaceOf made v u l → Pass points u v k l
+          go (inr x) y = absurd (first (made_crossed u v k x))
+          go (inl x) (inr y) = absurd (second (made_crossed v u l y))
+          go (inl x) (inl y) = passing u v k l x y first second free
+              (λ h. untested (listed_still u v (λ c. first (inl c)) h))
 
 -- ---- before and after all flips towards a segment
 module _ (points : List Point) (m : Mesh) (s : IsValidMesh m) (shape : IsMesh points (faces_of m)
@@ -178,9 +230,18 @@ module _ (points : List Point) (m : Mesh) (s : IsValidMesh m) (shape : IsMesh po
       (λ o. (h.1.first o, (sym (s.sound.edges h.0 h.1.inner.0).starts ∙ h.1.second) o))
       (edge_joins m s.sound h.0 h.1.inner.0)
 
+  -- where the segment is an edge, it crosses no side of a face
+  uncrossed : IsEdge (drawn points m) i j → (u v k : ℕ) → IsFaceOf (faces_of m) u v k
+      → ¬ IsCrossedFace points i j u v k
+  uncrossed edge u v k f (inl c) = none_crosses edge u v (side_is_edge u v k f) c
+  uncrossed edge u v k f (inr (inl c)) =
+      none_crosses edge v k (side_is_edge v k u (turned_faces (faces_of m) u v k f)) c
+  uncrossed edge u v k f (inr (inr c)) = none_crosses edge k u (side_is_edge k u v
+      (turned_faces (faces_of m) v k u (turned_faces (faces_of m) u v k f))) c
+
   -- where the segment is an edge, none crosses it, and all that may fail is in the list
   pub passing_ends : (constraints left : List (ℕ × ℕ)) → IsEdge (drawn points m) i j
-      → AllPassBeyond points (faces_of m) constraints left i j
+      → AllPassAway points (faces_of m) constraints left i j
       → AllPassBut points (faces_of m) constraints left
   passing_ends constraints left edge passing u v k l f g free untested =
-      passing u v k l f g (none_crosses edge u v (side_is_edge u v k f)) free untested
+      passing u v k l f g (uncrossed edge u v k f) (uncrossed edge v u l g) free untested

@@ -1,7 +1,12 @@
+pub mod TurnLowers
 pub mod Towards
 pub mod LeftToTest
 pub mod Making
-pub mod LastEdge
+pub mod Corners
+pub mod MetEdges
+pub mod MovedEdges
+pub mod OneTurn
+pub mod Seeking
 pub mod Walking
 pub mod Passing
 pub mod NextVertex
@@ -13,3 +18,5 @@ pub mod Marks
 pub mod ListingPath
 pub mod JoinedPairs
 pub mod OnePiece
+pub mod CrossingList
+pub mod Listing

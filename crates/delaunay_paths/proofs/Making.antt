@@ -1,17 +1,17 @@
 -- The loop that turns edges until none crosses.
-use Rattle.std.proofs.Common.{◌≡◌, ◌*◌, ◌/◌, ◌<◌, ◌≤◌, ◌∙◌}
-use Rattle.std.proofs.Common.{ℕ, Bool, true, false, List, length, map, Option, Some, None, is_some}
-use Rattle.std.proofs.Common.{refl, sym, ap, subst}
-use mathlib.Core.Logic.{inl}
-use Rattle.std.specs.Prelude.{Contains, IfNone, IfSome}
+use Rattle.std.proofs.Common.{◌≡◌, ◌⊎◌, ◌*◌, ◌/◌, ◌<◌, ◌≤◌, ◌∙◌}
+use Rattle.std.proofs.Common.{ℕ, List, length, map, refl, sym, ap, subst}
+use mathlib.Core.Logic.{inl, inr}
+use Rattle.std.specs.Prelude.{Contains}
 use Rattle.std.proofs.lemmas.List.{length-map}
-use Rattle.half_edge_mesh.specs.Mesh.{Mesh}
-use Rattle.half_edge_mesh.specs.Flip.{Flips, flipped}
+use Rattle.half_edge_mesh.specs.Mesh.{Mesh, IsValidMesh, origin, rev}
+use Rattle.half_edge_mesh.specs.Flip.{IsFlippable, Flips, flipped}
 use Rattle.half_edge_mesh.specs.Outline.{KeepsOuter}
 use Rattle.half_edge_mesh.specs.Triangles.{FlipsTriangles}
 use Rattle.half_edge_mesh.specs.Contents.{Contents, IsMeshWithData}
-use Rattle.plane.specs.Crossing.{Cross}
 use Rattle.half_edge_links.proofs.Faces.FlipLemmas.{flips_is}
+use Rattle.half_edge_links.proofs.Lists.Rev.{rev-rev, rev_within}
+use Rattle.plane.specs.Crossing.{Cross}
 use Rattle.plane.specs.Fraction.{Point, whole}
 use Rattle.plane.specs.Pairs.{place}
 use Rattle.plane.specs.Tiling.{IsEdge}
@@ -22,12 +22,15 @@ use Rattle.plane_edits.specs.Legal.{AllPassBut}
 use Rattle.mesh_embedding.specs.Drawn.{drawn, faces_of, outer_of}
 use Rattle.mesh_embedding.specs.Legal.{AreEdges, GainsRound, pairs_at}
 use Rattle.mesh_embedding.proofs.MeshEdits.{flipped_faces}
+use Rattle.mesh_embedding.proofs.MeshStays.{halved}
 use Rattle.delaunay_legalization.specs.Known.{point_at}
-use Rattle.delaunay_legalization.proofs.Questions.{both_ways}
-use Rattle.delaunay_paths.specs.Crossing.{CrossesFromRight, IsLastFromRight}
+use Rattle.delaunay_paths.specs.Crossing.{AreAllCrossing, AreOthersCrossing, CrossesFromRight}
+use Rattle.delaunay_paths.specs.Crossing.{GoesFromRight, TurnsNearer, ahead, behind}
 use Rattle.delaunay_paths.specs.Kept.{KeepsUncrossed, KeepsUncrossedFaces}
-use Rattle.delaunay_paths.specs.Leaving.{AllPassBeyond, IsWorkList, MakesEdge, TurnsTowards}
-use Rattle.delaunay_paths.proofs.LeftToTest.{flip_leaves, passing_ends}
+use Rattle.delaunay_paths.specs.Leaving.{AllPassAway, IsWorkList, MakesEdge, TurnsTowards}
+use Rattle.delaunay_paths.proofs.CrossingList.{made_clear, made_clear_back, others_are_all}
+use Rattle.delaunay_paths.proofs.CrossingList.{others_still, way_crosses, way_ends, way_is}
+use Rattle.delaunay_paths.proofs.LeftToTest.{crossing_leaves, flip_leaves, passing_ends}
 use Rattle.delaunay_paths.proofs.Walking.{placed_apart}
 use Rattle.delaunay_paths.proofs.Towards as T
 
@@ -66,84 +69,196 @@ module _ {V D U F : Type 0} (at : V → Point) (c : Contents V D U F) (mesh : Is
     (i j : ℕ) (free : IsFreeOfVertices (drawn (map at c.vertices) c.mesh) i j)
     (shape : IsMesh (map at c.vertices) (faces_of c.mesh) (outer_of c.mesh)) (e : ℕ)
     (within : e < length c.directed)
-    (last : IsLastFromRight (map at c.vertices) c.mesh i j (length c.directed) e) where
+    (from_right : CrossesFromRight (map at c.vertices) c.mesh i j e) where
   abbrev points : List Point
   points = map at c.vertices
+
+  -- the segment crosses that of two vertices, in either order
+  abbrev BothCross : ℕ → ℕ → Type 0
+  BothCross u v = Cross (place points i) (place points j) (place points u) (place points v)
+      × Cross (place points i) (place points j) (place points v) (place points u)
+
+  turned_cross : (u v : ℕ) → BothCross u v → BothCross v u
+  turned_cross u v both = (both.1, both.0)
 
   -- edge e is one of the mesh
   pub e_in : e < length c.mesh.half_edges
   e_in = subst (λ (n : ℕ). e < n) mesh.fits.directed_fit within
 
-  -- none of the directed edges of the mesh that cross comes after it
-  pub last_of_all : IsLastFromRight points c.mesh i j (length c.mesh.half_edges) e
-  last_of_all = subst (λ (n : ℕ). IsLastFromRight points c.mesh i j n e) mesh.fits.directed_fit last
-
   -- the mesh is a local one
   pub local : LocalMesh points (faces_of c.mesh) (outer_of c.mesh)
   local = T.local_if_crossed points c.mesh mesh.valid i j shape
-      (length-map c.vertices at ∙ mesh.fits.vertices_fit) free e e_in last.crosses
+      (length-map c.vertices at ∙ mesh.fits.vertices_fit) free e e_in from_right
 
-  -- the undirected edge of e may be turned
-  pub can_turn : (k : ℕ) → k ≡ e / 2
-      → T.CanTurn points c.mesh mesh.valid i j local free e e_in last_of_all (2 * k)
-  can_turn k is = subst
-      (λ (l : ℕ). T.CanTurn points c.mesh mesh.valid i j local free e e_in last_of_all (2 * l))
-      (sym is) (T.can_turn_last points c.mesh mesh.valid i j local free e e_in last_of_all)
+  module _ (nearer : TurnsNearer (map at c.vertices) c.mesh i j e) where
+    -- the undirected edge of e may be turned
+    pub can_turn : (k : ℕ) → k ≡ e / 2
+        → T.CanTurn points c.mesh mesh.valid i j local free e e_in from_right nearer (2 * k)
+    can_turn k is = subst (λ (l : ℕ).
+        T.CanTurn points c.mesh mesh.valid i j local free e e_in from_right nearer (2 * l))
+        (sym is) (T.can_turn points c.mesh mesh.valid i j local free e e_in from_right nearer)
 
-  module _ (k : ℕ) (is : k ≡ e / 2) (new : Mesh) where
-    -- each edge that does not cross the segment joins what it joined
-    pub turn_keeps : new ≡ flipped c.mesh (2 * k) → KeepsUncrossed points c.mesh new i j
-    turn_keeps turned = T.turned_keeps points c.mesh mesh.valid i j local free e e_in last_of_all
-        new (turned ∙ ap (λ (l : ℕ). flipped c.mesh (2 * l)) is)
+    module _ (k : ℕ) (is : k ≡ e / 2) (new : Mesh) where
+      -- each edge that does not cross the segment joins what it joined
+      pub turn_keeps : new ≡ flipped c.mesh (2 * k) → KeepsUncrossed points c.mesh new i j
+      turn_keeps turned = T.turned_keeps points c.mesh mesh.valid i j local free e e_in
+          from_right nearer new (turned ∙ ap (λ (l : ℕ). flipped c.mesh (2 * l)) is)
 
-    module _ (change : FlipsTriangles c.mesh new (2 * k)) where
-      turns : FlipsTriangles c.mesh new (2 * (e / 2))
-      turns = subst (λ (l : ℕ). FlipsTriangles c.mesh new (2 * l)) is change
+      module _ (change : FlipsTriangles c.mesh new (2 * k)) where
+        turns : FlipsTriangles c.mesh new (2 * (e / 2))
+        turns = subst (λ (l : ℕ). FlipsTriangles c.mesh new (2 * l)) is change
 
-      -- each inner face with no side that crosses has its corners
-      pub turn_keeps_faces : new ≡ flipped c.mesh (2 * k)
-          → KeepsUncrossedFaces points c.mesh new i j
-      turn_keeps_faces turned =
-          T.turned_keeps_faces points c.mesh mesh.valid i j local free e e_in last_of_all new
-          (turned ∙ ap (λ (l : ℕ). flipped c.mesh (2 * l)) is) turns
+        -- each inner face with no side that crosses has its corners
+        pub turn_keeps_faces : new ≡ flipped c.mesh (2 * k)
+            → KeepsUncrossedFaces points c.mesh new i j
+        turn_keeps_faces turned =
+            T.turned_keeps_faces points c.mesh mesh.valid i j local free e e_in from_right
+            nearer new (turned ∙ ap (λ (l : ℕ). flipped c.mesh (2 * l)) is) turns
 
-      -- the sum over the edges that cross falls
-      pub turn_lowers : crossing_sum points (faces_of new) i j
-          < crossing_sum points (faces_of c.mesh) i j
-      turn_lowers =
-          T.turned_lower points c.mesh mesh.valid i j local free e e_in last_of_all new turns
+        -- the sum over the edges that cross falls
+        pub turn_lowers : crossing_sum points (faces_of new) i j
+            < crossing_sum points (faces_of c.mesh) i j
+        turn_lowers =
+            T.turned_lower points c.mesh mesh.valid i j local free e e_in from_right nearer new
+            turns
 
-      -- where the outer edges stay, too, the mesh is still one of the points
-      pub turn_has_shape : KeepsOuter c.mesh new → IsMesh points (faces_of new) (outer_of new)
-      turn_has_shape outer = inl (T.turned_local points c.mesh mesh.valid i j local free e e_in
-          last_of_all new turns outer)
+        -- where the outer edges stay, too, the mesh is still one of the points
+        pub turn_has_shape : KeepsOuter c.mesh new → IsMesh points (faces_of new) (outer_of new)
+        turn_has_shape outer = inl (T.turned_local points c.mesh mesh.valid i j local free e e_in
+            from_right nearer new turns outer)
 
-  module _ (k : ℕ) (is : k ≡ e / 2) (new : Contents V D U F)
-      (contents : new ≡ record c { mesh = new.mesh }) (turned : new.mesh ≡ flipped c.mesh (2 * k))
-      (change : FlipsTriangles c.mesh new.mesh (2 * k)) (outer : KeepsOuter c.mesh new.mesh)
-      (was left : List ℕ) (edges : AreEdges c.mesh left)
-      (round : GainsRound c.mesh (2 * k) was left) (own : Contains left ((2 * k) / 2)) where
-    moves : Flips c.mesh new.mesh (2 * k)
-    moves = flips_is c.mesh new.mesh (2 * k) mesh.valid.sound (can_turn k is).0 turned
+    module _ (k : ℕ) (is : k ≡ e / 2) (new : Contents V D U F)
+        (contents : new ≡ record c { mesh = new.mesh }) (turned : new.mesh ≡ flipped c.mesh (2 * k))
+        (change : FlipsTriangles c.mesh new.mesh (2 * k)) (outer : KeepsOuter c.mesh new.mesh)
+      where
+        moves : Flips c.mesh new.mesh (2 * k)
+        moves = flips_is c.mesh new.mesh (2 * k) mesh.valid.sound (can_turn k is).0 turned
 
-    -- with the edges round it and itself in the list, this is a flip towards the segment
-    pub turns_towards : TurnsTowards points c new i j was left
-    turns_towards = record {
-      contents = contents;
-      shape = turn_has_shape k is new.mesh change outer;
-      kept = turn_keeps k is new.mesh turned;
-      faces_kept = turn_keeps_faces k is new.mesh change turned;
-      lower = turn_lowers k is new.mesh change;
-      edges = record {
-        within =
-            λ l there. subst (λ (n : ℕ). (2 * l) < n) (sym moves.edge_count) (edges.within l there);
-        once = edges.once;
-      };
-      leaves = λ constraints. flip_leaves c.mesh mesh.valid (2 * k) (can_turn k is).0 new.mesh moves
-          was left round own points i j (turn_keeps k is new.mesh turned)
-          (flipped_faces c.mesh new.mesh (2 * k) mesh.valid.sound (can_turn k is).0 change)
-          constraints;
-    }
+        pub edges_on : (left : List ℕ) → AreEdges c.mesh left → AreEdges new.mesh left
+        edges_on left edges = record {
+          within = λ l there.
+              subst (λ (n : ℕ). (2 * l) < n) (sym moves.edge_count) (edges.within l there);
+          once = edges.once;
+        }
+
+        -- where what may fail is left to test, this is a flip towards the segment
+        turns_leaving : (was left : List ℕ) → AreEdges c.mesh left
+            → ((constraints : List (ℕ × ℕ))
+            → AllPassAway points (faces_of c.mesh) constraints (pairs_at c.mesh was) i j
+            → AllPassAway points (faces_of new.mesh) constraints (pairs_at new.mesh left) i j)
+            → TurnsTowards points c new i j was left
+        turns_leaving was left edges leaves = record {
+          contents = contents;
+          shape = turn_has_shape k is new.mesh change outer;
+          kept = turn_keeps k is new.mesh turned;
+          faces_kept = turn_keeps_faces k is new.mesh change turned;
+          lower = turn_lowers k is new.mesh change;
+          edges = edges_on left edges;
+          leaves = leaves;
+        }
+
+        -- so it is with the edges round it and itself in the list
+        pub turns_away : (was left : List ℕ) → AreEdges c.mesh left
+            → GainsRound c.mesh (2 * k) was left → Contains left ((2 * k) / 2) → TurnsTowards points c new i j was left
+        turns_away was left edges round own = turns_leaving was left edges
+            (λ constraints. flip_leaves c.mesh mesh.valid (2 * k) (can_turn k is).0 new.mesh moves
+            was left round own points i j (turn_keeps k is new.mesh turned)
+            (flipped_faces c.mesh new.mesh (2 * k) mesh.valid.sound (can_turn k is).0 change)
+            constraints)
+
+        -- so it is where the edge that is made crosses, too, with nothing more to test
+        turns_still : BothCross (behind c.mesh (2 * k)) (ahead c.mesh (2 * k)) → (ks : List ℕ)
+            → AreEdges c.mesh ks → TurnsTowards points c new i j ks ks
+        turns_still both ks edges = turns_leaving ks ks edges
+            (λ constraints. crossing_leaves c.mesh mesh.valid (2 * k) (can_turn k is).0 new.mesh
+            moves points i j (turn_keeps k is new.mesh turned)
+            (flipped_faces c.mesh new.mesh (2 * k) mesh.valid.sound (can_turn k is).0 change)
+            both ks constraints)
+
+        -- ---- the edges that cross then
+        same_moves : Flips c.mesh new.mesh (2 * (e / 2))
+        same_moves = subst (λ (l : ℕ). Flips c.mesh new.mesh (2 * l)) is moves
+
+        can : IsFlippable c.mesh (2 * (e / 2))
+        can = (can_turn (e / 2) refl).0
+
+        new_in : (f : ℕ) → (f ≡ e) ⊎ (f ≡ rev e) → f < length new.mesh.half_edges
+        new_in f (inl same) = subst (λ (h : ℕ). h < length new.mesh.half_edges) (sym same)
+            (subst (λ (n : ℕ). e < n) (sym moves.edge_count) e_in)
+        new_in f (inr same) = subst (λ (h : ℕ). h < length new.mesh.half_edges) (sym same)
+            (subst (λ (n : ℕ). rev e < n) (sym moves.edge_count)
+            (rev_within e (length c.mesh.half_edges) mesh.valid.sound.even e_in))
+
+        module _ (In : ℕ → Type 0) (others : AreOthersCrossing points c.mesh i j e In) where
+          -- the others are all, where the edge that is made does not cross
+          pub others_left : ¬ GoesFromRight points i j (ahead c.mesh e) (behind c.mesh e)
+              → ¬ GoesFromRight points i j (behind c.mesh e) (ahead c.mesh e)
+              → AreAllCrossing points new.mesh i j In
+          others_left clear back = others_are_all points c.mesh mesh.valid i j e can new.mesh
+              same_moves In others
+              (made_clear points c.mesh mesh.valid i j e can new.mesh same_moves clear)
+              (made_clear_back points c.mesh mesh.valid i j e can new.mesh same_moves back)
+
+          module _ (f : ℕ) (way :
+              ((f ≡ e) × GoesFromRight points i j (ahead c.mesh e) (behind c.mesh e))
+              ⊎ ((f ≡ rev e) × GoesFromRight points i j (behind c.mesh e) (ahead c.mesh e))) where
+            made_in : f < length new.mesh.half_edges
+            made_in =
+                new_in f (way_is points c.mesh mesh.valid i j e can new.mesh same_moves f way)
+
+            crosses : CrossesFromRight points new.mesh i j f
+            crosses = way_crosses points c.mesh mesh.valid i j e can new.mesh same_moves f way
+
+            made_local : IsValidMesh new.mesh → LocalMesh points (faces_of new.mesh)
+                (outer_of new.mesh)
+            made_local valid = T.local_if_crossed points new.mesh valid i j
+                (turn_has_shape k is new.mesh change outer)
+                (length-map c.vertices at ∙ mesh.fits.vertices_fit ∙ sym moves.vertex_count)
+                (free_on points c.mesh new.mesh i j free) f made_in crosses
+
+            -- the segment crosses it either way
+            made_cross : IsValidMesh new.mesh
+                → BothCross (origin new.mesh f) (origin new.mesh (rev f))
+            made_cross valid = T.crosses_both_ways points new.mesh valid i j (made_local valid)
+                (free_on points c.mesh new.mesh i j free) f made_in crosses
+
+            corners_cross : IsValidMesh new.mesh → BothCross (ahead c.mesh e) (behind c.mesh e)
+            corners_cross valid =
+                elim (way_ends points c.mesh mesh.valid i j e can new.mesh same_moves f way) [
+                  | inl ends ↦ subst (λ (x : ℕ × ℕ). BothCross x.0 x.1)
+                      (λ o. (ends.0 o, ends.1 o)) (made_cross valid)
+                  | inr ends ↦ turned_cross (behind c.mesh e) (ahead c.mesh e)
+                      (subst (λ (x : ℕ × ℕ). BothCross x.0 x.1)
+                      (λ o. (ends.0 o, ends.1 o)) (made_cross valid))
+                ]
+
+            cross_round : IsValidMesh new.mesh → (h : ℕ) → (h ≡ e) ⊎ (h ≡ rev e)
+                → BothCross (behind c.mesh h) (ahead c.mesh h)
+            cross_round valid h (inl same) =
+                subst (λ (l : ℕ). BothCross (behind c.mesh l) (ahead c.mesh l)) (sym same)
+                (turned_cross (ahead c.mesh e) (behind c.mesh e) (corners_cross valid))
+            cross_round valid h (inr same) =
+                subst (λ (l : ℕ). BothCross (behind c.mesh l) (ahead c.mesh l)) (sym same)
+                (subst (λ (l : ℕ). BothCross (ahead c.mesh l) (behind c.mesh e)) (sym (rev-rev e))
+                (corners_cross valid))
+
+            this_or_back : ((2 * k) ≡ e) ⊎ ((2 * k) ≡ rev e)
+            this_or_back = elim (halved e) [
+              | inl q ↦ inl (ap (λ (l : ℕ). 2 * l) is ∙ q)
+              | inr q ↦ inr (ap (λ (l : ℕ). 2 * l) is ∙ q)
+            ]
+
+            -- so the turn leaves nothing more to test
+            pub turns_across : IsValidMesh new.mesh → (ks : List ℕ) → AreEdges c.mesh ks
+                → TurnsTowards points c new i j ks ks
+            turns_across valid ks edges =
+                turns_still (cross_round valid (2 * k) this_or_back) ks edges
+
+            -- they and it are all, where it does
+            pub others_and_made : AreOthersCrossing points new.mesh i j f In
+            others_and_made = others_still points c.mesh mesh.valid i j e can new.mesh same_moves In
+                others f (way_is points c.mesh mesh.valid i j e can new.mesh same_moves f way)
+                made_in crosses
 
 -- where none crosses, the segment is an edge
 pub edge_if_none_crosses : {V D U F : Type 0} (at : V → Point) (c : Contents V D U F)
@@ -166,7 +281,7 @@ pub record IsMaking {V D U F : Type 0} (at : V → Point) (old now : Contents V 
   pub edges : AreEdges now.mesh left
   pub leaves : (constraints : List (ℕ × ℕ))
       → AllPassBut (map at old.vertices) (faces_of old.mesh) constraints (pairs_at old.mesh was)
-      → AllPassBeyond (map at old.vertices) (faces_of now.mesh) constraints
+      → AllPassAway (map at old.vertices) (faces_of now.mesh) constraints
       (pairs_at now.mesh left) i j
   pub same_room : room ≡ room_was
 
@@ -180,7 +295,8 @@ making_begins at old i j was room shape work = record {
   kept = λ h clear. (refl, refl);
   faces_kept = λ f t there first second third. there;
   edges = work.edges;
-  leaves = λ constraints passing u v k l f g clear free untested. passing u v k l f g free untested;
+  leaves = λ constraints passing u v k l f g first second free untested.
+      passing u v k l f g free untested;
   same_room = refl;
 }
 
@@ -256,10 +372,10 @@ module _ {V D U F : Type 0} (at : V → Point) (old now : Contents V D U F) (i j
           making.faces_kept (subst (λ (vs : List V).
           KeepsUncrossedFaces (map at vs) now.mesh new.mesh i j) same turns.faces_kept);
       edges = turns.edges;
-      leaves = λ constraints passing. subst (λ (vs : List V). AllPassBeyond (map at vs)
+      leaves = λ constraints passing. subst (λ (vs : List V). AllPassAway (map at vs)
           (faces_of new.mesh) constraints (pairs_at new.mesh more) i j) same
           (turns.leaves constraints
-          (subst (λ (vs : List V). AllPassBeyond (map at vs) (faces_of now.mesh) constraints
+          (subst (λ (vs : List V). AllPassAway (map at vs) (faces_of now.mesh) constraints
           (pairs_at now.mesh left) i j) (sym same) (making.leaves constraints passing)));
       same_room = room_same ∙ making.same_room;
     }
@@ -270,16 +386,3 @@ module _ {V D U F : Type 0} (at : V → Point) (old now : Contents V D U F) (i j
     making_falls = subst (λ (vs : List V). crossing_sum (map at vs) (faces_of new.mesh) i j
         < crossing_sum (map at now.vertices) (faces_of now.mesh) i j)
         (sym (ap (λ (c : Contents V D U F). c.vertices) turns.contents)) turns.lower
-
--- ---- whether an edge was turned
--- what holds if an edge was flipped holds where the answer has one
-pub was_turned : (T : Type 0) (r : Option ℕ) (b : Bool) → b ≡ is_some r → b ≡ true
-    → IfSome r (λ _. T) → T
-was_turned T None b is true_now x = absurd (both_ways b true_now is)
-was_turned T (Some k) b is true_now x = x
-
--- what holds if no edge was flipped holds where the answer has none
-pub none_turned : (T : Type 0) (r : Option ℕ) (b : Bool) → b ≡ is_some r → b ≡ false
-    → IfNone r T → T
-none_turned T None b is false_now x = x
-none_turned T (Some k) b is false_now x = absurd (both_ways b is false_now)

@@ -1,11 +1,14 @@
--- The edges of a mesh that cross the segment between two of its vertices, and an order of them.
-use Rattle.std.specs.Prelude.{◌≡◌, ◌⊎◌, ℕ, ◌<◌, List, Option, MatchOption}
-use Rattle.half_edge_mesh.specs.Mesh.{Mesh, origin, rev}
-use Rattle.plane.specs.Fraction.{Point}
+-- The edges of a mesh that cross the segment between two of its vertices, and which of them can be
+-- turned towards it.
+use Rattle.std.specs.Prelude.{◌≡◌, ◌≢◌, ◌⊎◌, ◌<◌, ◌≤◌, ℕ, List, length, Option, MatchOption}
+use Rattle.std.specs.Prelude.{AllPairs, Contains}
+use Rattle.half_edge_mesh.specs.Contents.{Contents}
+use Rattle.half_edge_mesh.specs.Mesh.{Mesh, origin, next, prev, rev}
+use Rattle.plane.specs.Fraction.{Point, whole}
 use Rattle.plane.specs.Crossing.{Cross}
 use Rattle.plane.specs.Pairs.{place}
 use Rattle.plane.specs.Side.{side, right, TurnsLeft}
-use Rattle.plane_segments.specs.Path.{ComesAfterOnRight, ComesAfterOnLeft}
+use Rattle.plane_segments.specs.Path.{ComesAfterOnRight}
 use Rattle.delaunay_legalization.specs.Known.{point_at}
 
 -- directed edge h and the segment from i to j have a point strictly within both
@@ -13,8 +16,24 @@ abbrev pub CrossesSegment : List Point → Mesh → ℕ → ℕ → ℕ → Type
 CrossesSegment points m i j h = Cross (place points i) (place points j) (place points (origin m h))
     (place points (origin m (rev h)))
 
--- directed edge h goes from the right of the way from i to j to its left, with i on its own left
--- and j on its right
+-- the way from v to y goes from the right of the way from p to q to its left, with p on its own
+-- left and q on its right
+abbrev pub PassesFromRight : (p q v y : Point) → Type 0
+PassesFromRight p q v y = (side (whole p) (whole q) (whole v) ≡ right)
+    × TurnsLeft (whole p) (whole q) (whole y) × TurnsLeft (whole v) (whole y) (whole p)
+    × (side (whole v) (whole y) (whole q) ≡ right)
+
+-- where the way from a to b crosses from the right, v comes after a, seen from p
+abbrev pub PassesSooner : (p q v a b : Point) → Type 0
+PassesSooner p q v a b = side (whole p) (whole q) (whole a) ≡ right
+    → TurnsLeft (whole p) (whole q) (whole b) → ComesAfterOnRight p a v
+
+-- the way from vertex v to vertex y passes so that from i to j
+abbrev pub GoesFromRight : List Point → ℕ → ℕ → ℕ → ℕ → Type 0
+GoesFromRight points i j v y = PassesFromRight (point_at points i) (point_at points j)
+    (point_at points v) (point_at points y)
+
+-- directed edge h does so
 pub record CrossesFromRight (points : List Point) (m : Mesh) (i j h : ℕ) : Type 0 where
   pub from_right : side (place points i) (place points j) (place points (origin m h)) ≡ right
   pub to_left : TurnsLeft (place points i) (place points j) (place points (origin m (rev h)))
@@ -23,21 +42,59 @@ pub record CrossesFromRight (points : List Point) (m : Mesh) (i j h : ℕ) : Typ
   pub end : side (place points (origin m h)) (place points (origin m (rev h))) (place points j)
       ≡ right
 
--- seen from i, directed edge h starts after directed edge g, or where it starts, and then ends
--- after it
-abbrev pub ComesAfter : List Point → Mesh → ℕ → ℕ → ℕ → Type 0
-ComesAfter points m i g h =
-    ComesAfterOnRight (point_at points i) (point_at points (origin m g))
-    (point_at points (origin m h))
-    ⊎ ((point_at points (origin m g) ≡ point_at points (origin m h)) × ComesAfterOnLeft (point_at
-    points i) (point_at points (origin m (rev g))) (point_at points (origin m (rev h))))
+-- where the edge from a to b crosses from the right, v comes after its right end, seen from i
+abbrev pub ComesSooner : List Point → ℕ → ℕ → ℕ → ℕ → ℕ → Type 0
+ComesSooner points i j v a b = side (place points i) (place points j) (place points a) ≡ right
+    → TurnsLeft (place points i) (place points j) (place points b)
+    → ComesAfterOnRight (point_at points i) (point_at points a) (point_at points v)
 
--- of the directed edges below n that cross, none comes after g
-pub record IsLastFromRight (points : List Point) (m : Mesh) (i j n g : ℕ) : Type 0 where
-  pub crosses : CrossesFromRight points m i j g
-  pub none_after : (h : ℕ) → h < n → CrossesFromRight points m i j h → ¬ ComesAfter points m i g h
+-- directed edge e can be turned towards the segment from i to j: the corners round it are those of
+-- a strictly convex quadrilateral, and where the edge that is made crosses from the right, its
+-- right end comes before that of e
+pub record TurnsNearer (points : List Point) (m : Mesh) (i j e : ℕ) : Type 0 where
+  pub first : TurnsLeft (place points (origin m e)) (place points (origin m (prev m (rev e))))
+      (place points (origin m (prev m e)))
+  pub second : TurnsLeft (place points (origin m (prev m (rev e))))
+      (place points (origin m (next m e))) (place points (origin m (prev m e)))
+  pub behind_sooner : ComesSooner points i j (origin m e) (origin m (prev m (rev e)))
+      (origin m (prev m e))
+  pub ahead_sooner : ComesSooner points i j (origin m e) (origin m (prev m e))
+      (origin m (prev m (rev e)))
 
--- the last of the directed edges below n that cross, if one does
-abbrev pub IsLastCrossing : List Point → Mesh → ℕ → ℕ → ℕ → Option ℕ → Type 0
-IsLastCrossing points m i j n r = MatchOption r ((h : ℕ) → h < n
-    → ¬ CrossesFromRight points m i j h) (λ g. (g < n) × IsLastFromRight points m i j n g)
+-- the corner ahead of directed edge e is that on its left, and the one behind it that on its right
+abbrev pub ahead : Mesh → ℕ → ℕ
+ahead m e = origin m (prev m e)
+
+abbrev pub behind : Mesh → ℕ → ℕ
+behind m e = origin m (prev m (rev e))
+
+-- the edge that a turn of directed edge e makes crosses the segment from the right in direction r,
+-- if in one: as e it goes from the corner ahead to the one behind, and as its reverse back
+abbrev pub IsWayMade : List Point → Mesh → ℕ → ℕ → ℕ → Option ℕ → Type 0
+IsWayMade points m i j e r =
+    MatchOption r ((¬ GoesFromRight points i j (ahead m e) (behind m e))
+    × (¬ GoesFromRight points i j (behind m e) (ahead m e)))
+    (λ f. ((f ≡ e) × GoesFromRight points i j (ahead m e) (behind m e))
+    ⊎ ((f ≡ rev e) × GoesFromRight points i j (behind m e) (ahead m e)))
+
+-- the directed edges of which this holds are those that cross the segment from the right
+pub record AreAllCrossing (points : List Point) (m : Mesh) (i j : ℕ)
+    (In : ℕ → Type 0) : Type 0 where
+  pub cross : (h : ℕ) → In h → (h < length m.half_edges) × CrossesFromRight points m i j h
+  pub all : (h : ℕ) → h < length m.half_edges → CrossesFromRight points m i j h → In h
+
+-- they are those and e, of which it does not hold
+pub record AreOthersCrossing (points : List Point) (m : Mesh) (i j e : ℕ)
+    (In : ℕ → Type 0) : Type 0 where
+  pub own : (e < length m.half_edges) × CrossesFromRight points m i j e
+  pub cross : (h : ℕ) → In h → (h < length m.half_edges) × CrossesFromRight points m i j h
+  pub other : (h : ℕ) → In h → h ≢ e
+  pub all : (h : ℕ) → h < length m.half_edges → CrossesFromRight points m i j h → (h ≡ e) ⊎ In h
+
+-- a list has the directed edges that cross the segment from the right, each once, and is no longer
+-- than the list of undirected edges
+pub record ListsAllCrossing {V D U F : Type 0} (points : List Point) (c : Contents V D U F)
+    (i j : ℕ) (hs : List ℕ) : Type 0 where
+  pub once : AllPairs (λ k l. k ≢ l) hs
+  pub all : AreAllCrossing points c.mesh i j (Contains hs)
+  pub few : length hs ≤ length c.undirected

@@ -1,10 +1,9 @@
 -- What an item of a walk along a segment is for a path.
-use Rattle.std.specs.Prelude.{◌≡◌, ◌≢◌, ◌⊎◌, ℕ, ◌<◌, List, length, Option, Some, MatchOption}
+use Rattle.std.specs.Prelude.{◌≡◌, ◌≢◌, ◌⊎◌, ◌<◌, [], ◌∷◌, ◌++◌}
+use Rattle.std.specs.Prelude.{ℕ, List, length, Option, MatchOption}
 use Rattle.half_edge_mesh.specs.Contents.{Contents}
 use Rattle.half_edge_mesh.specs.Mesh.{Mesh, origin, rev}
-use Rattle.plane.specs.Fraction.{Point}
 use Rattle.plane.specs.Line.{Item, at_vertex, across}
-use Rattle.delaunay_paths.specs.Crossing.{ComesAfter}
 
 -- item k is this vertex, which is not i, or no other vertex than i
 abbrev pub IsOtherVertex : Item → ℕ → Option ℕ → Type 0
@@ -21,14 +20,12 @@ IsCrossedTwin c k r =
     MatchOption r ((a b : ℕ) → ¬ (k ≡ across a b))
     (λ h. (h < length c.directed) × (k ≡ crossed_twin c.mesh h))
 
--- of directed edge h and the last so far, if there is one, e comes later
-abbrev pub IsLater : List Point → Mesh → ℕ → Option ℕ → ℕ → ℕ → Type 0
-IsLater points m i last h e =
-    MatchOption last (e ≡ h)
-    (λ g. ((e ≡ h) × ComesAfter points m i g h) ⊎ ((e ≡ g) × ¬ ComesAfter points m i g h))
+-- where item k is that of a directed edge, a list of this capacity has room for one more
+abbrev pub HasRoomForItem : {V D U F : Type 0} → Contents V D U F → Item → List ℕ → ℕ → Type 0
+HasRoomForItem c k hs capacity = (h : ℕ) → h < length c.directed → k ≡ crossed_twin c.mesh h
+    → length hs < capacity
 
--- the last so far, with item k, of the directed edges below n
-abbrev pub IsLastWith : List Point → Mesh → ℕ → ℕ → Option ℕ → Item → Option ℕ → Type 0
-IsLastWith points m i n last k r = (((a b : ℕ) → ¬ (k ≡ across a b)) × (r ≡ last))
-    ⊎ ((h : ℕ) × (e : ℕ) × (h < n) × (k ≡ crossed_twin m h) × (r ≡ Some e)
-    × IsLater points m i last h e)
+-- a list gains directed edge h where item k is its, and else nothing
+abbrev pub ListsItem : {V D U F : Type 0} → Contents V D U F → Item → (was now : List ℕ) → Type 0
+ListsItem c k was now = (((a b : ℕ) → ¬ (k ≡ across a b)) × (now ≡ was))
+    ⊎ ((h : ℕ) × (h < length c.directed) × (k ≡ crossed_twin c.mesh h) × (now ≡ was ++ h ∷ []))

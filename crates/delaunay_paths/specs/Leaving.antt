@@ -1,5 +1,5 @@
 -- What a path leaves to the circle test.
-use Rattle.std.specs.Prelude.{◌≡◌, ℕ, ◌<◌, ◌≤◌, List, length}
+use Rattle.std.specs.Prelude.{◌≡◌, ◌⊎◌, ℕ, ◌<◌, ◌≤◌, List, length}
 use Rattle.half_edge_mesh.specs.Contents.{Contents}
 use Rattle.half_edge_mesh.specs.Mesh.{Mesh}
 use Rattle.plane.specs.Crossing.{Cross}
@@ -14,14 +14,20 @@ use Rattle.mesh_embedding.specs.Drawn.{drawn, faces_of, outer_of}
 use Rattle.mesh_embedding.specs.Legal.{AreEdges, pairs_at}
 use Rattle.delaunay_paths.specs.Kept.{KeepsUncrossed, KeepsUncrossedFaces}
 
--- each edge between two faces passes, but perhaps constraints, those that are left to test, and
--- those that cross the segment from i to j
-abbrev pub AllPassBeyond : List Point → List Face → List (ℕ × ℕ) → List (ℕ × ℕ) → ℕ → ℕ → Type 0
-AllPassBeyond points faces constraints left i j =
-    (a b k l : ℕ) → IsFaceOf faces a b k → IsFaceOf faces b a l →
-    ¬ Cross (place points i) (place points j) (place points a) (place points b)
-    → ¬ Joins constraints a b →
-    ¬ Joins left a b → Pass points a b k l
+-- the segment from i to j crosses a side of the face a b k
+abbrev pub IsCrossedFace : List Point → ℕ → ℕ → ℕ → ℕ → ℕ → Type 0
+IsCrossedFace points i j a b k =
+    Cross (place points i) (place points j) (place points a) (place points b)
+    ⊎ (Cross (place points i) (place points j) (place points b) (place points k)
+    ⊎ Cross (place points i) (place points j) (place points k) (place points a))
+
+-- each edge between two faces of which the segment from i to j crosses no side passes, but perhaps
+-- constraints and those that are left to test
+abbrev pub AllPassAway : List Point → List Face → List (ℕ × ℕ) → List (ℕ × ℕ) → ℕ → ℕ → Type 0
+AllPassAway points faces constraints left i j =
+    (a b k l : ℕ) → IsFaceOf faces a b k → IsFaceOf faces b a l → ¬ IsCrossedFace points i j a b k
+    → ¬ IsCrossedFace points i j b a l → ¬ Joins constraints a b → ¬ Joins left a b
+    → Pass points a b k l
 
 -- the work list is one of edges of the mesh, each once, and has room for all
 pub record IsWorkList {V D U F : Type 0} (c : Contents V D U F) (items : List ℕ)
@@ -41,8 +47,8 @@ pub record TurnsTowards {V D U F : Type 0} (points : List Point) (old new : Cont
       < crossing_sum points (faces_of old.mesh) i j
   pub edges : AreEdges new.mesh left
   pub leaves : (constraints : List (ℕ × ℕ))
-      → AllPassBeyond points (faces_of old.mesh) constraints (pairs_at old.mesh was) i j
-      → AllPassBeyond points (faces_of new.mesh) constraints (pairs_at new.mesh left) i j
+      → AllPassAway points (faces_of old.mesh) constraints (pairs_at old.mesh was) i j
+      → AllPassAway points (faces_of new.mesh) constraints (pairs_at new.mesh left) i j
 
 -- each edge between two faces that may fail is left to test, whatever the constraints are
 abbrev pub LeavesFailing : List Point → (old new : Mesh) → (was left : List ℕ) → Type 0

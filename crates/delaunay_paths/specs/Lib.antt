@@ -1,4 +1,5 @@
 pub mod Crossing
+pub mod Lists
 pub mod Kept
 pub mod Adding
 pub mod Releasing
@@ -6,3 +7,4 @@ pub mod PathEdges
 pub mod Items
 pub mod Leaving
 pub mod Seen
+pub mod Turning

@@ -11,7 +11,9 @@ ghost use Rattle.delaunay_legalization.specs.State.{state_of};
 ghost use Rattle.delaunay_paths.specs.Adding.{AddsPath, CanAddPath, HasFreeWay, MarksBetween};
 ghost use Rattle.delaunay_paths.specs.Adding.{MarksEdge};
 ghost use Rattle.delaunay_paths.specs.Leaving.{IsWorkList, LeavesToTest};
+ghost use Rattle.delaunay_paths.specs.Lists.{HaveRoom};
 
+use crate::crossing::CrossingLists;
 use crate::flips::make_edge;
 use crate::joined::{edge_between, edge_if_joined};
 use crate::path::{is_same_vertex, next_on_path};
@@ -101,20 +103,23 @@ pub(crate) fn next_piece<V: HasPosition, DE, UE, F, P: PlaneTests<V::Scalar>>(
 /// Makes constraints of the pieces of the path between two vertices, whose segment no constraint
 /// crosses: each of its vertices is joined to the next. Edges that cross a piece are flipped; each
 /// edge that does not cross the segment keeps its index, and so does each face with no side that
-/// crosses it. No circle test is made: where only edges in `work`, which has room for each edge,
-/// may fail before, only edges in it may fail afterwards.
+/// crosses it. No circle test is made: where only edges in `work` may fail before, only edges in it
+/// may fail afterwards. It has room for each edge, and so has each of the two lists of crossing
+/// edges.
 pub fn add_path<M: ConstraintMarker<UE>, V: HasPosition, DE, UE, F, P: PlaneTests<V::Scalar>>(
     dcel: &mut Dcel<V, DE, UE, F>,
     from: FixedVertexHandle,
     to: FixedVertexHandle,
     tests: &P,
+    lists: &mut CrossingLists,
     work: &mut Vec<FixedUndirectedEdgeHandle>,
 )
     requires can_mark { M.can_mark ≡ true }
     requires way { HasFreeWay V.place M.constraints dcel.old from to }
     requires kept { IsTriangulated V.place (state_of dcel.old) }
     requires sites { All (P.sites tests.now) (map V.place dcel.old.vertices) }
-    requires work { IsWorkList dcel.old work.old.items (vec_capacity work.old) }
+    requires room { IsWorkList dcel.old work.old.items (vec_capacity work.old) ×
+        HaveRoom (length dcel.old.undirected) lists.old }
 
     ensures adds { AddsPath V.place M.marks M.marked M.constraints dcel.old dcel.new from to }
     ensures leaves { LeavesToTest (map V.place dcel.old.vertices) dcel.old dcel.new work.old.items
@@ -123,7 +128,7 @@ pub fn add_path<M: ConstraintMarker<UE>, V: HasPosition, DE, UE, F, P: PlaneTest
 {
     let mut at = from;
     while let Some(next) = next_piece(dcel, at, to, tests) {
-        make_edge(dcel, at, next, tests, work);
+        make_edge(dcel, at, next, tests, lists, work);
         mark_between::<M, _, _, _, _>(dcel, at, next);
         at = next;
     }

@@ -6,17 +6,19 @@ ghost use Rattle.delaunay_legalization.specs.Flips.{CountsFlips, FlipsFit};
 ghost use Rattle.delaunay_legalization.specs.Shape.{IsDelaunayTriangulation};
 ghost use Rattle.delaunay_legalization.specs.State.{state_of};
 ghost use Rattle.delaunay_paths.specs.Adding.{HasFreeWay};
+ghost use Rattle.delaunay_paths.specs.Lists.{HaveRoom};
 ghost use Rattle.delaunay_paths.specs.Releasing.{AddsConstraints, ReleasesEdge};
 
 use crate::adding::{add_path, mark};
+use crate::crossing::CrossingLists;
 use delaunay_core::math::PlaneTests;
 use delaunay_core::point::HasPosition;
 use delaunay_legalization::{ConstraintMarker, free_edge, legalize};
 use half_edge_mesh::{Dcel, FixedDirectedEdgeHandle, FixedUndirectedEdgeHandle, FixedVertexHandle};
 
 /// Adds the pieces of the path between two vertices, whose segment no constraint crosses, to the
-/// constraints, and flips edges that fail the circle test until none does. `work` has room for each
-/// edge, and `flips` counts on.
+/// constraints, and flips edges that fail the circle test until none does. `work` and each of the
+/// two lists of crossing edges has room for each edge, and `flips` counts on.
 pub fn add_constraints<
     M: ConstraintMarker<UE>,
     V: HasPosition,
@@ -29,6 +31,7 @@ pub fn add_constraints<
     from: FixedVertexHandle,
     to: FixedVertexHandle,
     tests: &P,
+    lists: &mut CrossingLists,
     work: &mut Vec<FixedUndirectedEdgeHandle>,
     flips: &mut u64,
 )
@@ -36,7 +39,8 @@ pub fn add_constraints<
     requires way { HasFreeWay V.place M.constraints dcel.old from to }
     requires legal { IsDelaunayTriangulation V.place M.constraints (state_of dcel.old) }
     requires sites { All (P.sites tests.now) (map V.place dcel.old.vertices) }
-    requires room { 3 * length dcel.old.vertices ≤ vec_capacity work.old }
+    requires room { (3 * length dcel.old.vertices ≤ vec_capacity work.old) ×
+        HaveRoom (3 * length dcel.old.vertices) lists.old }
     requires fits { FlipsFit (length dcel.old.vertices) flips.old }
 
     ensures adds { AddsConstraints V.place M.marks M.marked M.constraints dcel.old dcel.new from
@@ -44,7 +48,7 @@ pub fn add_constraints<
     ensures counted { CountsFlips (length dcel.old.vertices) flips.old flips.new }
 {
     work.clear();
-    add_path::<M, _, _, _, _, _>(dcel, from, to, tests, work);
+    add_path::<M, _, _, _, _, _>(dcel, from, to, tests, lists, work);
     legalize::<M, _, _, _, _, _>(dcel, tests, work, flips);
     dcel.recall_invariant();
 }

@@ -1,64 +1,143 @@
 //! Flips until a segment between two vertices is an edge.
-ghost use Rattle.std.specs.Prelude.{◌≡◌, map, All, IfNone, IfSome, vec_capacity};
+ghost use Rattle.std.specs.Prelude.{◌≡◌, length, map, All, IfNone, IfSome, vec_capacity};
 ghost use Rattle.plane.specs.Tiling.{IsEdge};
 ghost use Rattle.plane_tiling.specs.Local.{IsMesh};
 ghost use Rattle.plane_segments.specs.Path.{IsFreeOfVertices};
 ghost use Rattle.mesh_embedding.specs.Drawn.{drawn, faces_of, outer_of};
+ghost use Rattle.delaunay_paths.specs.Crossing.{TurnsNearer};
 ghost use Rattle.delaunay_paths.specs.Leaving.{IsWorkList, MakesEdge, TurnsTowards};
+ghost use Rattle.delaunay_paths.specs.Lists.{HaveRoom, HaveSeen, IsToTurn, KeepRoom, ListCrossing};
+ghost use Rattle.delaunay_paths.specs.Lists.{ListOthers};
 
+use crate::crossing::CrossingLists;
 use crate::leaving::push_round;
-use crate::order::last_crossing;
+use crate::nearer::{turns_nearer, way_made};
 use delaunay_core::math::PlaneTests;
 use delaunay_core::point::HasPosition;
-use half_edge_mesh::{Dcel, FixedUndirectedEdgeHandle, FixedVertexHandle};
+use half_edge_mesh::{Dcel, FixedDirectedEdgeHandle, FixedUndirectedEdgeHandle, FixedVertexHandle};
 
-// Turns the last of the edges that cross the segment between two vertices with none strictly
-// between, if one does, and gives it. Else the segment is an edge.
-fn turn_last<V: HasPosition, DE, UE, F, P: PlaneTests<V::Scalar>>(
-    dcel: &mut Dcel<V, DE, UE, F>,
+// Takes out the next edge that can be turned, of those still to be seen; the others before it wait.
+fn seek<V: HasPosition, DE, UE, F, P: PlaneTests<V::Scalar>>(
+    dcel: &Dcel<V, DE, UE, F>,
     from: FixedVertexHandle,
     to: FixedVertexHandle,
     tests: &P,
+    lists: &mut CrossingLists,
+) -> Option<FixedDirectedEdgeHandle>
+    requires free { IsFreeOfVertices (drawn (map V.place dcel.now.vertices) dcel.now.mesh) from to }
+    requires sites { All (P.sites tests.now) (map V.place dcel.now.vertices) }
+    requires lists { ListCrossing (map V.place dcel.now.vertices) dcel.now.mesh from to lists.old }
+    ensures others { IfSome result (λ e. ListOthers (map V.place dcel.now.vertices) dcel.now.mesh
+        from to e lists.new) }
+    ensures nearer { IfSome result (λ e. TurnsNearer (map V.place dcel.now.vertices) dcel.now.mesh
+        from to e) }
+    ensures crossing { IfNone result (ListCrossing (map V.place dcel.now.vertices) dcel.now.mesh
+        from to lists.new) }
+    ensures seen { IfNone result (HaveSeen (map V.place dcel.now.vertices) dcel.now.mesh from to
+        lists.old.waiting.items lists.new) }
+    ensures room { KeepRoom lists.old lists.new }
+{
+    dcel.recall_invariant();
+    while let Some(edge) = lists.unseen.pop() {
+        if turns_nearer(dcel, edge, from, to, tests) {
+            return Some(edge);
+        }
+        lists.waiting.push_reserved(edge);
+    }
+    None
+}
+
+// Takes out an edge that crosses the segment between two vertices with none strictly between, and
+// can be turned towards it. If there is none, no edge crosses, and the segment is one.
+fn next_turn<V: HasPosition, DE, UE, F, P: PlaneTests<V::Scalar>>(
+    dcel: &Dcel<V, DE, UE, F>,
+    from: FixedVertexHandle,
+    to: FixedVertexHandle,
+    tests: &P,
+    lists: &mut CrossingLists,
+) -> Option<FixedDirectedEdgeHandle>
+    requires free { IsFreeOfVertices (drawn (map V.place dcel.now.vertices) dcel.now.mesh) from to }
+    requires shape { IsMesh (map V.place dcel.now.vertices) (faces_of dcel.now.mesh)
+        (outer_of dcel.now.mesh) }
+    requires sites { All (P.sites tests.now) (map V.place dcel.now.vertices) }
+    requires lists { ListCrossing (map V.place dcel.now.vertices) dcel.now.mesh from to lists.old }
+    ensures some { IfSome result (λ e. IsToTurn (map V.place dcel.now.vertices) dcel.now from to e
+        lists.new) }
+    ensures none { IfNone result
+        (IsEdge (drawn (map V.place dcel.now.vertices) dcel.now.mesh) from to) }
+    ensures room { KeepRoom lists.old lists.new }
+{
+    dcel.recall_invariant();
+    if let Some(edge) = seek(dcel, from, to, tests, lists) {
+        return Some(edge);
+    }
+    lists.see_again();
+    seek(dcel, from, to, tests, lists)
+}
+
+// Turns an edge towards the segment. The edge that is made waits if it crosses. If not, the edges
+// round it are left to test, and the one that waits last may be turned now.
+fn turn<V: HasPosition, DE, UE, F, P: PlaneTests<V::Scalar>>(
+    dcel: &mut Dcel<V, DE, UE, F>,
+    edge: FixedDirectedEdgeHandle,
+    from: FixedVertexHandle,
+    to: FixedVertexHandle,
+    tests: &P,
+    lists: &mut CrossingLists,
     work: &mut Vec<FixedUndirectedEdgeHandle>,
-) -> Option<FixedUndirectedEdgeHandle>
-    requires free { IsFreeOfVertices (drawn (map V.place dcel.old.vertices) dcel.old.mesh) from to }
-    requires shape { IsMesh (map V.place dcel.old.vertices) (faces_of dcel.old.mesh)
-        (outer_of dcel.old.mesh) }
+)
+    requires turning { IsToTurn (map V.place dcel.old.vertices) dcel.old from to edge lists.old }
     requires sites { All (P.sites tests.now) (map V.place dcel.old.vertices) }
     requires work { IsWorkList dcel.old work.old.items (vec_capacity work.old) }
-    ensures none { IfNone result ((dcel.new ≡ dcel.old) × (work.new.items ≡ work.old.items) ×
-        IsEdge (drawn (map V.place dcel.old.vertices) dcel.old.mesh) from to) }
-    ensures turns { IfSome result (λ _. TurnsTowards (map V.place dcel.old.vertices) dcel.old
-        dcel.new from to work.old.items work.new.items) }
+    ensures turns { TurnsTowards (map V.place dcel.old.vertices) dcel.old dcel.new from to
+        work.old.items work.new.items }
+    ensures lists { ListCrossing (map V.place dcel.old.vertices) dcel.new.mesh from to lists.new }
+    ensures room { KeepRoom lists.old lists.new }
     ensures capacity { vec_capacity work.new ≡ vec_capacity work.old }
 {
     dcel.recall_invariant();
-    let edge = last_crossing(dcel, from, to, tests)?.as_undirected();
-    push_round(dcel, edge.as_directed(), work);
-    dcel.flip_cw(edge);
-    Some(edge)
+    let whole = edge.as_undirected();
+    match way_made(dcel, edge, from, to, tests) {
+        Some(way) => {
+            dcel.flip_cw(whole);
+            dcel.recall_invariant();
+            lists.waiting.push_reserved(way);
+        }
+        None => {
+            push_round(dcel, whole.as_directed(), work);
+            dcel.flip_cw(whole);
+            lists.step_back();
+        }
+    }
 }
 
 /// Makes an edge of the segment between two vertices with none strictly between. Each edge that
 /// does not cross the segment stays, under its index, and so does each face with no side that does.
-/// `work` has room for each edge; each that may fail the circle test is put in.
+/// `work` and each of the two lists of crossing edges has room for each edge; each edge that may
+/// fail the circle test is put into `work`.
 pub fn make_edge<V: HasPosition, DE, UE, F, P: PlaneTests<V::Scalar>>(
     dcel: &mut Dcel<V, DE, UE, F>,
     from: FixedVertexHandle,
     to: FixedVertexHandle,
     tests: &P,
+    lists: &mut CrossingLists,
     work: &mut Vec<FixedUndirectedEdgeHandle>,
 )
     requires free { IsFreeOfVertices (drawn (map V.place dcel.old.vertices) dcel.old.mesh) from to }
     requires shape { IsMesh (map V.place dcel.old.vertices) (faces_of dcel.old.mesh)
         (outer_of dcel.old.mesh) }
     requires sites { All (P.sites tests.now) (map V.place dcel.old.vertices) }
+    requires lists { HaveRoom (length dcel.old.undirected) lists.old }
     requires work { IsWorkList dcel.old work.old.items (vec_capacity work.old) }
 
     ensures makes { MakesEdge (map V.place dcel.old.vertices) dcel.old dcel.new from to
         work.old.items work.new.items }
+    ensures room { KeepRoom lists.old lists.new }
     ensures capacity { vec_capacity work.new ≡ vec_capacity work.old }
 {
-    while turn_last(dcel, from, to, tests, work).is_some() {}
+    lists.list(dcel, from, to, tests);
+    while let Some(edge) = next_turn(dcel, from, to, tests, lists) {
+        turn(dcel, edge, from, to, tests, lists, work);
+    }
     dcel.recall_invariant();
 }

@@ -4,9 +4,11 @@
 
 mod adding;
 mod constraints;
+mod crossing;
 mod flips;
 mod joined;
 mod leaving;
+mod nearer;
 mod order;
 mod path;
 mod path_edges;
@@ -14,6 +16,7 @@ mod path_edges;
 // For the crates of edits and for tests, and not for users.
 pub use adding::{add_path, can_add_path};
 pub use constraints::{add_constraints, constrain_edge, release_constraint};
+pub use crossing::CrossingLists;
 pub use flips::make_edge;
 pub use joined::{edge_if_joined, is_constraint_between};
 pub use path::next_on_path;

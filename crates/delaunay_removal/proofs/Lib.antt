@@ -8,6 +8,7 @@ pub mod Removing
 pub mod Drops
 pub mod Rounds
 pub mod Searching
+pub mod BothRounds
 pub mod Convex
 pub mod Turns
 pub mod InnerStars

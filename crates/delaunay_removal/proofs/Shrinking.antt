@@ -22,6 +22,13 @@ pub record IsShrinking {V D U F : Type 0} (place : V → Point) (old now : Conte
   pub beside : StandsBeside old now v turned
   pub room : listed + count ≤ capacity
 
+module _ {V D U F : Type 0} (old new : Contents V D U F) where
+  -- where the links alone change, an edge stays one of the directed edges
+  pub still_within : new ≡ record old { mesh = new.mesh } → (e : ℕ) → e < length old.directed
+      → e < length new.directed
+  still_within contents e within = subst (λ (ds : List D). e < length ds)
+      (sym (ap (λ (c : Contents V D U F). c.directed) contents)) within
+
 module _ {V D U F : Type 0} {turned : List (ℕ × ℕ)} {listed capacity : ℕ} (place : V → Point)
     (old now : Contents V D U F) (v first count : ℕ)
     (shrinking : IsShrinking place old now v first count turned listed capacity) where
@@ -62,6 +69,17 @@ module _ {V D U F : Type 0} {turned : List (ℕ × ℕ)} {listed capacity : ℕ}
               (ap (origin now.mesh) at.2 ∙ shrinking.star.round.starts at.0) stands);
           room = let fits = shrinking.room in omega (arith, fits, many, one_more, same);
         }
+
+    -- the same from another edge of the vertex
+    pub shrinking_from : (edge : ℕ) → edge < length now.mesh.half_edges → origin now.mesh edge ≡ v
+        → IsShrinking place old now v edge count turned listed capacity
+    shrinking_from edge within starts = record {
+      contents = shrinking.contents;
+      star = star_from (map place now.vertices) now.mesh whole.valid v first count shrinking.star
+          edge within starts;
+      beside = shrinking.beside;
+      room = shrinking.room;
+    }
 
     -- no edge can be turned any more
     pub shrinking_stops : 3 < count → ((i : ℕ) → i < count

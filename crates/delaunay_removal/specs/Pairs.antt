@@ -1,6 +1,6 @@
 -- The pairs of vertices that bound the faces made where a vertex goes: the sides of its hole, and
 -- what its edges join once they are turned.
-use Rattle.std.specs.Prelude.{◌≡◌, ◌⊎◌, ◌+◌, ◌-◌, ◌*◌, ◌<◌, ◌≤◌, if◌then◌else◌}
+use Rattle.std.specs.Prelude.{◌≡◌, ◌≢◌, ◌⊎◌, ◌+◌, ◌-◌, ◌*◌, ◌<◌, ◌≤◌, if◌then◌else◌}
 use Rattle.std.specs.Prelude.{ℕ, List, length, map, nat_eq}
 use Rattle.half_edge_mesh.specs.Mesh.{Mesh, origin, rev}
 use Rattle.half_edge_mesh.specs.Peel.{turn}
@@ -75,6 +75,11 @@ abbrev pub FailOnlyAt : List Point → Mesh → List (ℕ × ℕ) → Type 0
 FailOnlyAt points m pairs = (k : ℕ) → (2 * k) < length m.half_edges →
     Joins pairs (origin m (2 * k)) (origin m (rev (2 * k))) ⊎
     (IsQuiet points m (2 * k) ⊎ IsQuiet points m (rev (2 * k)))
+
+-- no edge goes from i to j
+abbrev pub HasNoEdgeBetween : Mesh → ℕ → ℕ → Type 0
+HasNoEdgeBetween m i j =
+    (h : ℕ) → h < length m.half_edges → origin m h ≡ i → origin m (rev h) ≢ j
 
 -- an edge from i to j is among ks, if there is one
 abbrev pub HasEdgeOf : Mesh → ℕ → ℕ → List ℕ → Type 0

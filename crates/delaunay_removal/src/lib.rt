@@ -2,7 +2,9 @@
 #![tactic(auto)]
 
 mod border;
+mod choice;
 mod freeing;
+mod joining_edge;
 mod lists;
 mod pairs;
 mod removal;

@@ -1,6 +1,6 @@
 //! Pairs of vertices that bound new faces where a vertex went, and a legalization from them on.
-ghost use Rattle.std.specs.Prelude.{◌≡◌, ◌≢◌, ℕ, ◌*◌, ◌<◌, ◌≤◌, ◌++◌};
-ghost use Rattle.std.specs.Prelude.{length, map, All, Contains, IfNone, IfSome, IsTrue};
+ghost use Rattle.std.specs.Prelude.{◌≡◌, ℕ, ◌*◌, ◌<◌, ◌≤◌, ◌++◌};
+ghost use Rattle.std.specs.Prelude.{length, map, All, Contains, IsTrue};
 ghost use Rattle.std.specs.Prelude.{vec_capacity};
 ghost use Rattle.half_edge_mesh.specs.Mesh.{origin, rev};
 ghost use Rattle.half_edge_mesh.specs.Renames.{moved};
@@ -18,6 +18,7 @@ ghost use Rattle.delaunay_legalization.specs.State.{state_of};
 ghost use Rattle.delaunay_removal.specs.Pairs.{FailOnlyAt, HasEdgeOf, HasEdgesOf};
 ghost use Rattle.delaunay_removal.specs.Pairs.{pairs_left};
 
+use crate::joining_edge::find_edge_between;
 use crate::lists::RemovalLists;
 use crate::star::ccw_edge;
 use delaunay_core::math::PlaneTests;
@@ -68,28 +69,6 @@ pub fn index_left<V, DE, UE, F>(
         vertex
     } else {
         former
-    }
-}
-
-// The edge from one vertex to another, if there are such vertices and they are joined.
-fn find_edge_between<V, DE, UE, F>(
-    dcel: &Dcel<V, DE, UE, F>,
-    from: FixedVertexHandle,
-    to: FixedVertexHandle,
-) -> Option<FixedDirectedEdgeHandle>
-    ensures within { IfSome result (λ e. e < length dcel.now.directed) }
-    ensures starts { IfSome result (λ e. origin dcel.now.mesh e ≡ from) }
-    ensures ends { IfSome result (λ e. origin dcel.now.mesh (rev e) ≡ to) }
-    ensures none { IfNone result ((h : ℕ) → h < length dcel.now.directed →
-        origin dcel.now.mesh h ≡ from → origin dcel.now.mesh (rev h) ≢ to) }
-{
-    dcel.recall_invariant();
-    if from.index() as usize >= dcel.num_vertices() {
-        return None;
-    }
-    match dcel.get_edge_from_neighbors(from, to) {
-        Some(edge) => Some(edge.fix()),
-        None => None,
     }
 }
 

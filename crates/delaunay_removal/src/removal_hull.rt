@@ -14,7 +14,7 @@ ghost use Rattle.delaunay_removal.specs.Star.{HasInnerFaces, LosesEdges};
 
 use crate::lists::RemovalLists;
 use crate::pairs::VertexPair;
-use crate::star::{ccw_edge, count_edges, find_convex, opposite_side, turn_away};
+use crate::star::{ccw_edge, count_edges, cw_edge, find_convex, opposite_side, turn_away};
 use delaunay_core::math::PlaneTests;
 use delaunay_core::point::HasPosition;
 use delaunay_legalization::{end_of, is_outer, start_of, turns_left};
@@ -50,18 +50,6 @@ fn shrink_hull_star<V: HasPosition, DE, UE, F, P: PlaneTests<V::Scalar>>(
     count
 }
 
-// The last edge of a vertex on the hull, where `first` has the outer face on its right.
-fn last_edge<V, DE, UE, F>(
-    dcel: &Dcel<V, DE, UE, F>,
-    first: FixedDirectedEdgeHandle,
-) -> FixedDirectedEdgeHandle
-    requires { first < length dcel.now.directed }
-    ensures value { result ≡ next dcel.now.mesh (rev first) }
-    ensures within { result < length dcel.now.directed }
-{
-    dcel.directed_edge(first).cw().fix()
-}
-
 // Whether the vertex where `first` starts, with the outer face on its right, is a corner of the
 // hull.
 fn is_corner<V: HasPosition, DE, UE, F, P: PlaneTests<V::Scalar>>(
@@ -73,7 +61,7 @@ fn is_corner<V: HasPosition, DE, UE, F, P: PlaneTests<V::Scalar>>(
     requires sites { All (P.sites tests.now) (map V.place dcel.now.vertices) }
     ensures { IsTrue result ↔ IsCornerAt (map V.place dcel.now.vertices) dcel.now.mesh first }
 {
-    let last = last_edge(dcel, first);
+    let last = cw_edge(dcel, first);
     let centre = start_of(dcel, first);
     let from = end_of(dcel, first);
     let to = end_of(dcel, last);

@@ -13,8 +13,9 @@ ghost use Rattle.delaunay_removal.specs.Pairs.{HasRoomAt, KeepsPairs};
 ghost use Rattle.delaunay_removal.specs.Star.{HasInnerFaces, IsBetweenAt, IsInnerStar, IsReduced};
 ghost use Rattle.delaunay_removal.specs.Star.{LosesEdges, StandsBetween};
 
+use crate::choice::{choose_edge, edge_to_go_on};
 use crate::pairs::VertexPair;
-use crate::star::{ccw_edge, find_convex, opposite_side, turn_away};
+use crate::star::{ccw_edge, opposite_side, turn_away};
 use delaunay_core::math::PlaneTests;
 use delaunay_core::point::HasPosition;
 use delaunay_legalization::{end_of, is_strictly_within, start_of};
@@ -48,11 +49,11 @@ fn shrink_star<V: HasPosition, DE, UE, F, P: PlaneTests<V::Scalar>>(
     let mut count = count;
     while count > 3 {
         dcel.recall_invariant();
-        match find_convex(dcel, first, count, tests) {
+        match choose_edge(dcel, first, count, tests) {
             Some(edge) => {
                 turn_away(dcel, edge, turned);
                 dcel.recall_invariant();
-                first = edge;
+                first = edge_to_go_on(dcel, edge, count);
                 count -= 1;
             }
             None => return (first, count),

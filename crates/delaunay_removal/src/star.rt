@@ -2,7 +2,7 @@
 ghost use Rattle.std.specs.Prelude.{◌≡◌, ◌≢◌, ◌↔◌, ℕ, ◌<◌};
 ghost use Rattle.std.specs.Prelude.{length, map, All, IsTrue, IfSome, IfNone};
 ghost use Rattle.std.specs.Prelude.{vec_capacity, vec_len};
-ghost use Rattle.half_edge_mesh.specs.Mesh.{origin, next, face};
+ghost use Rattle.half_edge_mesh.specs.Mesh.{origin, next, face, rev};
 ghost use Rattle.half_edge_mesh.specs.Peel.{spoke, turn};
 ghost use Rattle.half_edge_mesh.specs.Round.{IsRound, neighbour};
 ghost use Rattle.half_edge_mesh.specs.Contents.{IsMeshWithData};
@@ -26,6 +26,19 @@ pub(crate) fn ccw_edge<V, DE, UE, F>(
     ensures within { result < length dcel.now.directed }
 {
     dcel.directed_edge(edge).ccw().fix()
+}
+
+// The edge before an edge round the vertex where it starts: before the one with the outer face on
+// its right, the last one.
+pub(crate) fn cw_edge<V, DE, UE, F>(
+    dcel: &Dcel<V, DE, UE, F>,
+    edge: FixedDirectedEdgeHandle,
+) -> FixedDirectedEdgeHandle
+    requires { edge < length dcel.now.directed }
+    ensures value { result ≡ next dcel.now.mesh (rev edge) }
+    ensures within { result < length dcel.now.directed }
+{
+    dcel.directed_edge(edge).cw().fix()
 }
 
 // The edge after an edge in its loop. In a face of the vertex where the edge starts it is opposite
@@ -60,7 +73,7 @@ pub(crate) fn count_edges<V, DE, UE, F>(
 
 // Whether the edge after an edge, round the vertex where they start, lies across a strictly convex
 // quadrilateral.
-fn is_convex_at<V: HasPosition, DE, UE, F, P: PlaneTests<V::Scalar>>(
+pub(crate) fn is_convex_at<V: HasPosition, DE, UE, F, P: PlaneTests<V::Scalar>>(
     dcel: &Dcel<V, DE, UE, F>,
     edge: FixedDirectedEdgeHandle,
     tests: &P,

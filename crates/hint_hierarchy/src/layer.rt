@@ -54,20 +54,17 @@ impl<S: SpadeNum> Layer<S> {
         vertex.index() as usize == index && self.stars.take_up(&self.triangulation, vertex).is_ok()
     }
 
-    // The vertices whose neighbours may be others, or have another index, when one is removed: the
-    // vertex and its neighbours, and those of the last one, which takes its index.
+    // The vertices whose neighbours may be others when one is removed: the vertex, since the last
+    // one takes its index, and its neighbours.
     fn changed_without(
         &self,
         vertex: FixedVertexHandle,
     ) -> Result<Vec<FixedVertexHandle>, AllocError> {
-        let last = u32::try_from(self.triangulation.num_vertices().saturating_sub(1)).unwrap_or(0);
         let mut changed = Vec::new(self.alloc);
-        for vertex in [vertex, FixedVertexHandle::from_index(last)] {
-            changed.push(vertex)?;
-            if let Some(vertex) = self.triangulation.get_vertex(vertex) {
-                for edge in vertex.out_edges() {
-                    changed.push(edge.to().fix())?;
-                }
+        changed.push(vertex)?;
+        if let Some(vertex) = self.triangulation.get_vertex(vertex) {
+            for edge in vertex.out_edges() {
+                changed.push(edge.to().fix())?;
             }
         }
         Ok(changed)
@@ -88,7 +85,8 @@ impl<S: SpadeNum> Layer<S> {
         if self.triangulation.remove(vertex, tests).is_err() {
             return false;
         }
-        self.stars.renew(&self.triangulation, changed.as_slice());
+        self.stars
+            .renew(&self.triangulation, vertex, changed.as_slice());
         true
     }
 

@@ -55,6 +55,15 @@ impl PlacedVertex {
         }
     }
 
+    // The same place, of a vertex of another index.
+    fn with_index(&self, vertex: FixedVertexHandle) -> Self {
+        PlacedVertex {
+            vertex: vertex.index(),
+            x: self.x,
+            y: self.y,
+        }
+    }
+
     // The square of the distance from a position in range.
     #[inline(always)]
     fn distance_2(&self, position: Point2<i64>) -> i64
@@ -126,6 +135,15 @@ impl Star {
             }
         }
         false
+    }
+
+    /// Gives a neighbour that is kept another index.
+    pub(crate) fn rename(&mut self, former: FixedVertexHandle, vertex: FixedVertexHandle) {
+        for i in 0..KEPT {
+            if self.ends[i].vertex == former.index() {
+                self.ends[i] = self.ends[i].with_index(vertex);
+            }
+        }
     }
 
     /// The vertex itself, as a candidate.

@@ -6,7 +6,7 @@ ghost use Rattle.delaunay_core.specs.Place.{place_of};
 use crate::star::{PlacedVertex, Star};
 use delaunay_core::point::{Point2, SpadeNum};
 use delaunay_interface::{DelaunayTriangulation, Triangulation};
-use half_edge_mesh::{DirectedEdgeHandle, FixedVertexHandle};
+use half_edge_mesh::{DirectedEdgeHandle, FixedVertexHandle, VertexHandle};
 use std::alloc::{AllocError, Global};
 
 /// The star of each vertex, by index.
@@ -77,13 +77,33 @@ impl Stars {
         Ok(())
     }
 
-    /// Renews the stars of some vertices, after a removal.
+    // Tells the neighbours of a vertex the index that it has, where they have its former one.
+    fn rename<S: SpadeNum>(
+        &mut self,
+        vertex: &VertexHandle<'_, Point2<S>, (), (), ()>,
+        former: FixedVertexHandle,
+    ) {
+        for edge in vertex.out_edges() {
+            if let Some(star) = self.stars.get_mut(edge.to().fix().index() as usize) {
+                star.rename(former, vertex.fix());
+            }
+        }
+    }
+
+    /// Renews the stars of some vertices, after a removal of a vertex, whose index the last one has
+    /// taken.
     pub(crate) fn renew<S: SpadeNum>(
         &mut self,
         triangulation: &DelaunayTriangulation<Point2<S>>,
+        removed: FixedVertexHandle,
         changed: &[FixedVertexHandle],
     ) {
-        self.stars.truncate(triangulation.num_vertices());
+        let count = triangulation.num_vertices();
+        self.stars.truncate(count);
+        let last = FixedVertexHandle::from_index(u32::try_from(count).unwrap_or(0));
+        if let Some(moved) = triangulation.get_vertex(removed) {
+            self.rename(&moved, last);
+        }
         for vertex in changed {
             if let Some(vertex) = triangulation.get_vertex(*vertex) {
                 self.set(vertex.fix(), Star::of(&vertex));

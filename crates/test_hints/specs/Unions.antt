@@ -3,7 +3,7 @@ use Rattle.std.specs.Prelude.{◌⊎◌}
 use Rattle.plane.specs.Fraction.{Point}
 
 -- one of the two sets has the position
-abbrev pub IsInEither : (Point → Type 0) → (Point → Type 0) → Point → Type 0
+abbrev IsInEither : (Point → Type 0) → (Point → Type 0) → Point → Type 0
 IsInEither first second p = first p ⊎ second p
 
 -- one of the five sets has the position

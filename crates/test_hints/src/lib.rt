@@ -1,5 +1,5 @@
 //! Hint generators for tests, whose answers help no search, or come from one of several others: no
-//! answer of a triangulation depends on them.
+//! answer of a triangulation depends on them. And calls of generators by themselves.
 #![tactic(auto)]
 
 ghost use Rattle.std.specs.Prelude.{◌≡◌, Some};
@@ -8,6 +8,8 @@ ghost use Rattle.plane.specs.Hint.{IsAtMostWith, IsAtMostWithout};
 ghost use Rattle.delaunay_core.specs.Held.{place_if};
 ghost use Rattle.delaunay_core.specs.Place.{place_of};
 
+pub mod generators;
+pub mod last_used;
 mod listing;
 mod switching;
 mod telling;

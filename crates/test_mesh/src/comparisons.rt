@@ -16,6 +16,11 @@ use test_reader::hash_of;
 /// and the order of both.
 type Comparison = Option<([bool; 4], Option<Ordering>, Ordering)>;
 
+type Both<'a, V, DE, UE, F> = (
+    DirectedEdgeHandle<'a, V, DE, UE, F>,
+    DirectedEdgeHandle<'a, V, DE, UE, F>,
+);
+
 fn compare<T: Clone + Ord + Hash + Drop>(value: &T, other: &T) -> Comparison {
     let Ok(copy) = value.clone() else {
         return None;
@@ -55,19 +60,27 @@ fn compare_parts<V, DE, UE, F>(
     ]
 }
 
+// Two edges, if both are there.
+fn edges_at<V, DE, UE, F>(
+    mesh: &Dcel<V, DE, UE, F>,
+    (a, b): (u32, u32),
+) -> Option<Both<'_, V, DE, UE, F>> {
+    match (edge_at(mesh, a), edge_at(mesh, b)) {
+        (Some(first), Some(second)) => Some((first, second)),
+        _ => None,
+    }
+}
+
 /// Of two edges, and of their undirected edges, starts and left faces.
 pub fn compare_edges<V, DE, UE, F>(
     mesh: &Dcel<V, DE, UE, F>,
     a: u32,
     b: u32,
 ) -> Option<[Comparison; 4]> {
-    let Some(first) = edge_at(mesh, a) else {
-        return None;
-    };
-    let Some(second) = edge_at(mesh, b) else {
-        return None;
-    };
-    Some(compare_parts(&first, &second))
+    match edges_at(mesh, (a, b)) {
+        Some((first, second)) => Some(compare_parts(&first, &second)),
+        None => None,
+    }
 }
 
 fn compare_forms<V, DE, UE, F>(
@@ -88,13 +101,12 @@ pub fn compare_voronoi<V, DE, UE, F>(
     a: u32,
     b: u32,
 ) -> Option<[Comparison; 4]> {
-    let Some(first) = edge_at(mesh, a) else {
-        return None;
-    };
-    let Some(second) = edge_at(mesh, b) else {
-        return None;
-    };
-    Some(compare_forms(&first.as_voronoi_edge(), &second.as_voronoi_edge()))
+    match edges_at(mesh, (a, b)) {
+        Some((first, second)) => {
+            Some(compare_forms(&first.as_voronoi_edge(), &second.as_voronoi_edge()))
+        }
+        None => None,
+    }
 }
 
 fn print_part<T: Debug, N: Debug>(rt: &impl Print, part: &T, name: &N) -> io::Result<()> {

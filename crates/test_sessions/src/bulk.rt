@@ -3,7 +3,7 @@
 use exact_predicates::ExactTests;
 use spade_delaunay::{BulkInsertion, BulkInsertionError, InsertAll, Triangulation};
 use std::io;
-use test_calls::points::TaggedVertex;
+use test_points::TaggedVertex;
 use test_reader::Call;
 
 // Each vertex of a list with its place in the list as its number.

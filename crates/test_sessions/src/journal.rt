@@ -6,7 +6,7 @@ use spade_delaunay::handles::FixedVertexHandle;
 use spade_delaunay::{HintGenerator, Point2};
 use std::alloc::AllocError;
 use std::io;
-use test_calls::points::{Constrained, Plain, TaggedVertex};
+use test_points::{Constrained, Plain, TaggedVertex};
 use test_reader::{Call, index};
 
 /// A list of edits.

@@ -6,22 +6,16 @@
 //! is printed between lines `begin` and `end`.
 #![tactic(auto)]
 
+mod answers;
 mod beside;
 mod bulk;
-mod comparisons;
-mod counting;
 mod each;
-mod generators;
 mod hints;
 mod journal;
-mod last_used;
-mod named;
 mod session;
-mod shape_calls;
-mod shapes;
 
 use each::EachHints;
-use hints::{Hints, choice_of};
+use hints::{Choosing, Hints, choice_of};
 use session::Session;
 use std::io;
 use std::rt::Env;
@@ -36,11 +30,30 @@ fn hints_named(rt: &impl Env) -> Option<usize> {
     }
 }
 
-fn main(rt: HostRuntime) -> io::Result<()> {
-    if let Some(number) = hints_named(&rt) {
-        let mut session: Session<Hints> = Session::new(rt.alloc(), choice_of(number), true);
-        return run(&rt, &mut session);
+// Runs the script with hints of this number, or else with hints of each kind.
+fn run_with<L: Choosing>(
+    rt: &(impl Input + Print + AllocGlobal),
+    number: Option<usize>,
+) -> io::Result<()> {
+    match number {
+        Some(number) => run_marked::<L>(rt, number),
+        None => run_each::<L>(rt),
     }
-    let mut sessions: EachHints<Hints> = EachHints::new(rt.alloc())?;
-    run(&rt, &mut sessions)
+}
+
+fn run_marked<L: Choosing>(
+    rt: &(impl Input + Print + AllocGlobal),
+    number: usize,
+) -> io::Result<()> {
+    let mut session: Session<L> = Session::new(rt.alloc(), choice_of(number), true);
+    run(rt, &mut session)
+}
+
+fn run_each<L: Choosing>(rt: &(impl Input + Print + AllocGlobal)) -> io::Result<()> {
+    let mut sessions: EachHints<L> = EachHints::new(rt.alloc())?;
+    run(rt, &mut sessions)
+}
+
+fn main(rt: HostRuntime) -> io::Result<()> {
+    run_with::<Hints>(&rt, hints_named(&rt))
 }

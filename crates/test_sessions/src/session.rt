@@ -1,19 +1,18 @@
 //! A line of the script: the name of a call and some numbers, and what the call gives.
 
+use crate::answers::{Asked, answer_plain, answer_with_path};
 use crate::beside::Beside;
 use crate::bulk::{insert_many, is_bulk};
 use crate::hints::{Choosing, factor_of, tell_listing};
 use crate::journal::{Edits, edit_of, replay_constrained, replay_plain, tell_outcomes};
-use crate::shape_calls::query;
 use spade_delaunay::{Point2, Triangulation};
 use std::alloc::{AllocError, Global};
 use std::io;
 use std::mem::{replace as put, swap};
-use test_calls::answers::{answer_constrained, answer_plain};
-use test_calls::points::{Constrained, Plain, TaggedVertex, vertices_at};
-use test_calls::shared::Asked;
 use test_hints::Choice;
+use test_points::{Constrained, Plain, TaggedVertex, vertices_at};
 use test_reader::{Answers, Call};
+use test_shapes::query;
 
 /// A triangulation without constraints and one that may have some, with their last copies.
 #[derive(Drop)]
@@ -138,9 +137,54 @@ impl<L: Choosing> Session<L> {
             factor,
         };
         if self.is_constrained {
-            answer_constrained(rt, &mut self.constrained, &asked, vertices)
+            answer_with_path(rt, &mut self.constrained, &asked, vertices)
         } else {
             answer_plain(rt, &mut self.plain, &asked, &mut self.flips)
+        }
+    }
+
+    // Calls that change the session itself.
+    fn change(
+        &mut self,
+        rt: &(impl Print + AllocGlobal),
+        call: &Call<'_>,
+        positions: Vec<Point2<i64>>,
+        vertices: Vec<TaggedVertex>,
+    ) -> io::Result<()> {
+        match call.name {
+            "from_delaunay" => call.tell(rt, &self.take_constraints(rt.alloc())),
+            "try_clone" => call.tell(rt, &self.try_clone()),
+            "swap" => call.tell(rt, &self.turn_to_copy()),
+            "sheet" => call.tell(rt, &self.take_sheet(positions)),
+            "replay" => self.replay(rt, call),
+            _ => self.ask_one(rt, call, vertices),
+        }
+    }
+
+    // Calls that say which of the two triangulations is asked.
+    fn choose_kind(&mut self, rt: &impl Print, call: &Call<'_>) -> io::Result<bool> {
+        let printed = match call.name {
+            "plain" => call.tell(rt, &self.turn(false)),
+            "constrained" => call.tell(rt, &self.turn(true)),
+            "is_constrained" => call.tell(rt, &self.is_constrained),
+            _ => return Ok(false),
+        };
+        printed?;
+        Ok(true)
+    }
+
+    // Calls of the one that is asked, or of what stands beside it.
+    fn ask_one(
+        &mut self,
+        rt: &(impl Print + AllocGlobal),
+        call: &Call<'_>,
+        vertices: Vec<TaggedVertex>,
+    ) -> io::Result<()> {
+        match call.name {
+            name if is_look(name) => self.look(rt, call),
+            name if is_bulk(name) => self.insert_listed(rt, call, vertices),
+            _ if self.choose_kind(rt, call)? || self.beside.answer(rt, call)? => Ok(()),
+            _ => self.list(rt, call, vertices),
         }
     }
 
@@ -196,20 +240,7 @@ impl<L: Choosing> Answers for Session<L> {
         let vertices = vertices_at(positions.as_slice(), rt.alloc())?;
         self.choose();
         self.mark(rt, "begin")?;
-        match call.name {
-            "from_delaunay" => call.tell(rt, &self.take_constraints(rt.alloc()))?,
-            "try_clone" => call.tell(rt, &self.try_clone())?,
-            "swap" => call.tell(rt, &self.turn_to_copy())?,
-            "plain" => call.tell(rt, &self.turn(false))?,
-            "constrained" => call.tell(rt, &self.turn(true))?,
-            "is_constrained" => call.tell(rt, &self.is_constrained)?,
-            "sheet" => call.tell(rt, &self.take_sheet(positions))?,
-            "replay" => self.replay(rt, call)?,
-            name if is_look(name) => self.look(rt, call)?,
-            name if is_bulk(name) => self.insert_listed(rt, call, vertices)?,
-            _ if self.beside.answer(rt, call)? => {}
-            _ => self.list(rt, call, vertices)?,
-        }
+        self.change(rt, call, positions, vertices)?;
         self.mark(rt, "end")
     }
 }

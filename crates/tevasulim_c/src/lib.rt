@@ -1,16 +1,6 @@
-//! The library for C. include/tevasulim.h says what each call does; here each has its contract.
+//! The library for C: the calls of `c_calls` by the names of include/tevasulim.h, which says what
+//! each does.
 #![tactic(auto)]
 
-mod edit_calls;
 mod edits;
-mod exports;
-mod handle;
-mod kept;
-mod list_edits;
-mod lists;
-mod loose;
-mod queries;
-mod raw;
-mod shapes;
-mod statuses;
-mod whole;
+mod reads;

@@ -1,9 +1,10 @@
-use Rattle.std.proofs.Common.{map, refl, ◌∙◌}
+use Rattle.std.proofs.Common.{length, map, refl, ◌∙◌}
 use Rattle.delaunay_paths.proofs.AddingPieces.{piece_made, more_is_left, same_are_left, same}
 use Rattle.delaunay_paths.proofs.AddingPieces.{work_fits, adding_to_begins, adding_sites}
 use Rattle.delaunay_paths.proofs.AddingPieces.{adding_shape, adding_index, adding_at, adding_free}
 use Rattle.delaunay_paths.proofs.AddingPieces.{adding_clear, adding_to_goes_on, adding_shortens}
 use Rattle.delaunay_paths.proofs.AddingPieces.{adding_to_ends}
+use Rattle.delaunay_paths.proofs.MovedEdges.{room_on, room_stays}
 use Rattle.delaunay_paths.proofs.adding.add_path.Goals as goal
 
 pub loop-next-init : goal.loop-next-init
@@ -14,15 +15,22 @@ loop-next-init g c =
           c.args.from c.args.to
           c.requires.kept c.requires.way.from,
       same_are_left (map g.V.HasPosition.place c.args.dcel.now.vertices) c.args.dcel.now
-          c.args.work.now.items c.requires.work.edges,
+          c.args.work.now.items c.requires.room.0.edges,
       refl,
+      record { waiting = refl; unseen = refl },
     )
 
 pub make_edge-requires-clause-work : goal.make_edge-requires-clause-work
 make_edge-requires-clause-work g c =
     work_fits c.args.dcel.now c.loop-next.dcel c.args.work.now.items c.loop-next.work.items _ _
-    c.loop-next.invariant.0.count c.requires.work c.loop-next.invariant.2
+    c.loop-next.invariant.0.count c.requires.room.0 c.loop-next.invariant.2
     c.loop-next.invariant.1.edges
+
+pub make_edge-requires-clause-lists : goal.make_edge-requires-clause-lists
+make_edge-requires-clause-lists g c =
+    room_stays (length c.args.dcel.now.undirected) (length c.loop-next.dcel.undirected)
+    c.args.lists.now c.loop-next.lists c.loop-next.invariant.3 c.loop-next.invariant.0.count
+    c.requires.room.1
 
 pub next_piece-requires-clause-from_in : goal.next_piece-requires-clause-from_in
 next_piece-requires-clause-from_in g c =
@@ -125,6 +133,8 @@ loop-next-preserved g c =
           c.args.to c.loop-next.at c.requires.way.from c.requires.way.to c.loop-next.invariant.0)
           c.loop-next.invariant.1 piece,
       c.make_edge.ensures.capacity ∙ c.loop-next.invariant.2,
+      room_on c.args.lists.now c.loop-next.lists _ c.loop-next.invariant.3
+          c.make_edge.ensures.room,
     )
 
 pub loop-next-smaller : goal.loop-next-smaller

@@ -3,6 +3,7 @@ use Rattle.std.specs.Prelude.{nat_abs, vec_capacity}
 use Rattle.plane.specs.Laws.{squared_way}
 use Rattle.plane_edits.specs.Legal.{point_of}
 use Rattle.delaunay_paths.specs.Leaving.{LeavesToTest}
+use Rattle.delaunay_paths.specs.Lists.{KeepRoom}
 use Rattle.delaunay_paths.proofs.AddingPieces.{IsAddingTo}
 use Rattle.delaunay_paths.proofs.adding.add_path.Given as goal
 
@@ -12,7 +13,7 @@ invariant-loop-next g l = IsAddingTo g.M.ConstraintMarker.marks g.M.ConstraintMa
     g.M.ConstraintMarker.marked l.fn.dcel l.dcel
     l.fn.from l.fn.to l.at
     × LeavesToTest (map g.V.HasPosition.place l.fn.dcel.vertices) l.fn.dcel l.dcel l.fn.work.items
-    l.work.items × (vec_capacity l.work ≡ vec_capacity l.fn.work)
+    l.work.items × (vec_capacity l.work ≡ vec_capacity l.fn.work) × KeepRoom l.fn.lists l.lists
 
 abbrev pub decreases-loop-next : goal.decreases-loop-next
 decreases-loop-next g l =

@@ -1,13 +1,17 @@
-use Rattle.std.proofs.Common.{◌∙◌}
+use Rattle.std.proofs.Common.{◌∙◌, length}
 use Rattle.delaunay_paths.proofs.AddingPieces.{cleared_work}
+use Rattle.delaunay_paths.proofs.MovedEdges.{fewer_fit}
 use Rattle.delaunay_paths.proofs.Releasing.{added_passing, added_room, sites_on, constraints_added}
 use Rattle.delaunay_paths.proofs.Releasing.{fits_on, counts_on}
 use Rattle.delaunay_paths.proofs.constraints.add_constraints.Goals as goal
 
-pub add_path-requires-clause-work : goal.add_path-requires-clause-work
-add_path-requires-clause-work g c =
-    cleared_work c.args.dcel.now c.clear.new.self.items _ _ c.requires.legal.kept.few_edges
-    c.requires.room c.clear.ensures.capacity c.clear.ensures.items
+pub add_path-requires-clause-room : goal.add_path-requires-clause-room
+add_path-requires-clause-room g c = (
+  cleared_work c.args.dcel.now c.clear.new.self.items _ _ c.requires.legal.kept.few_edges
+      c.requires.room.0 c.clear.ensures.capacity c.clear.ensures.items,
+  fewer_fit _ (length c.args.dcel.now.undirected) c.args.lists.now c.requires.legal.kept.few_edges
+      c.requires.room.1,
+)
 
 pub legalize-requires-clause-sites : goal.legalize-requires-clause-sites
 legalize-requires-clause-sites g c =
@@ -35,7 +39,7 @@ legalize-requires-clause-room g c =
     rw (c.add_path.ensures.capacity ∙ c.clear.ensures.capacity)
     (added_room g.V.HasPosition.place m.marks m.marked m.constraints c.args.dcel.now
     c.add_path.new.dcel c.args.from c.args.to c.add_path.ensures.adds c.clear.new.self.items
-    c.add_path.new.work.items c.add_path.ensures.leaves _ c.requires.room)
+    c.add_path.new.work.items c.add_path.ensures.leaves _ c.requires.room.0)
 
 pub legalize-requires-clause-fits : goal.legalize-requires-clause-fits
 legalize-requires-clause-fits g c =

@@ -2,13 +2,16 @@ use Rattle.std.proofs.Common.{map}
 use Rattle.std.specs.Prelude.{vec_capacity}
 use Rattle.plane_segments.specs.Measure.{crossing_sum}
 use Rattle.mesh_embedding.specs.Drawn.{faces_of}
+use Rattle.delaunay_paths.specs.Lists.{KeepRoom, ListCrossing}
 use Rattle.delaunay_paths.proofs.Making.{IsMaking}
 use Rattle.delaunay_paths.proofs.flips.make_edge.Given as goal
 
-abbrev pub invariant-loop-from : goal.invariant-loop-from
-invariant-loop-from g l = IsMaking g.V.HasPosition.place l.fn.dcel l.dcel l.from l.to
+abbrev pub invariant-loop-edge : goal.invariant-loop-edge
+invariant-loop-edge g l = IsMaking g.V.HasPosition.place l.fn.dcel l.dcel l.from l.to
     l.fn.work.items l.work.items (vec_capacity l.fn.work) (vec_capacity l.work)
+    × ListCrossing (map g.V.HasPosition.place l.dcel.vertices) l.dcel.mesh l.from l.to l.lists
+    × KeepRoom l.fn.lists l.lists
 
-abbrev pub decreases-loop-from : goal.decreases-loop-from
-decreases-loop-from g l =
+abbrev pub decreases-loop-edge : goal.decreases-loop-edge
+decreases-loop-edge g l =
     crossing_sum (map g.V.HasPosition.place l.dcel.vertices) (faces_of l.dcel.mesh) l.from l.to

@@ -37,5 +37,4 @@ returns-in-None-clause-capacity g c = refl
 
 pub returns-in-None-clause-there : goal.returns-in-None-clause-there
 returns-in-None-clause-there g c =
-    λ h within starts ends. absurd (c.in-None.ensures.none h
-    (rw c.recall_invariant.ensures.whole.fits.directed_fit within) starts ends)
+    λ h within starts ends. absurd (c.in-None.ensures.none h within starts ends)

@@ -1,10 +1,11 @@
-use Rattle.std.proofs.Common.{ℕ, ◌<◌, ◌≤◌, map, vec_len, vec_capacity, refl, subst, sym, arith}
+use Rattle.std.proofs.Common.{ℕ, ◌<◌, ◌≤◌, ◌-◌, ◌∙◌, map, vec_len, vec_capacity, refl}
+use Rattle.std.proofs.Common.{subst, sym, arith}
 use Rattle.half_edge_mesh.specs.Mesh.{origin}
 use Rattle.half_edge_mesh.specs.Round.{neighbour}
 use Rattle.delaunay_removal.proofs.DataStays.{all_stands}
 use Rattle.delaunay_removal.proofs.InnerStars.{spokes_inner, ends_differ}
 use Rattle.delaunay_removal.proofs.Shrinking.{star_at, shrinking_goes_on, shrinking_stops}
-use Rattle.delaunay_removal.proofs.Shrinking.{shrinking_ends}
+use Rattle.delaunay_removal.proofs.Shrinking.{shrinking_ends, shrinking_from, still_within}
 use Rattle.delaunay_removal.proofs.removal_inner.shrink_star.Goals as goal
 
 pub loop-count-init : goal.loop-count-init
@@ -16,8 +17,8 @@ loop-count-init g c = record {
   room = c.requires.room c.args.first c.args.count c.requires.star.round;
 }
 
-pub find_convex-requires-clause-within : goal.find_convex-requires-clause-within
-find_convex-requires-clause-within g c = subst (λ (n : ℕ). c.loop-count.first < n)
+pub choose_edge-requires-clause-within : goal.choose_edge-requires-clause-within
+choose_edge-requires-clause-within g c = subst (λ (n : ℕ). c.loop-count.first < n)
     (sym c.recall_invariant.ensures.whole.fits.directed_fit)
     (c.loop-count.invariant.star.round.within 0)
 
@@ -55,13 +56,21 @@ turn_away-requires-clause-room g c =
     let many = c.loop-count-test.true in
     omega (arith, room, many)
 
+pub edge_to_go_on-first-requires : goal.edge_to_go_on-first-requires
+edge_to_go_on-first-requires g c =
+    still_within c.loop-count.dcel c.turn_away.new.dcel c.turn_away.ensures.turns.contents
+    c.in-Some.edge c.in-Some.ensures.within
+
 pub loop-count-preserved : goal.loop-count-preserved
 loop-count-preserved g c =
     let turned = c.turn_away.ensures.turns in
-    shrinking_goes_on g.V.HasPosition.place c.args.dcel.now c.loop-count.dcel
-    (origin c.args.dcel.now.mesh c.args.first) c.loop-count.first c.loop-count.count
+    let v = origin c.args.dcel.now.mesh c.args.first in
+    let whole = c.recall_invariant-in-Some.ensures.whole in
+    let fit = whole.fits.directed_fit in
+    let next = shrinking_goes_on g.V.HasPosition.place c.args.dcel.now c.loop-count.dcel
+    v c.loop-count.first c.loop-count.count
     c.loop-count.invariant c.turn_away.ensures.whole
-    c.turn_away.new.dcel c.recall_invariant-in-Some.ensures.whole c.loop-count-test.true
+    c.turn_away.new.dcel whole c.loop-count-test.true
     c.in-Some.edge c.in-Some.ensures.place c.in-Some.ensures.convex
     turned.mesh turned.contents turned.triangles turned.outer (
       neighbour c.loop-count.dcel.mesh
@@ -69,7 +78,11 @@ loop-count-preserved g c =
       neighbour c.loop-count.dcel.mesh c.in-Some.edge 2,
     ) turned.beside
     c.turn_away.new.turned.items (vec_len c.turn_away.new.turned)
-    (vec_capacity c.turn_away.new.turned) turned.items turned.len turned.capacity
+    (vec_capacity c.turn_away.new.turned) turned.items turned.len turned.capacity in
+    shrinking_from g.V.HasPosition.place c.args.dcel.now c.turn_away.new.dcel v c.in-Some.edge
+    (c.loop-count.count - 1) next whole c.edge_to_go_on-first.result
+    (subst (λ (n : ℕ). c.edge_to_go_on-first.result < n) fit c.edge_to_go_on-first.ensures.within)
+    (c.edge_to_go_on-first.ensures.starts ∙ next.star.round.starts 0)
 
 pub returns-in-None-clause-reduced : goal.returns-in-None-clause-reduced
 returns-in-None-clause-reduced g c =

@@ -1,8 +1,9 @@
-use Rattle.std.proofs.Common.{◌<◌, ◌≤◌, length, map, refl, sym, ap, subst, arith}
+use Rattle.std.proofs.Common.{◌*◌, ◌<◌, ◌≤◌, length, map, refl, sym, ap, subst, arith}
 use Rattle.half_edge_links.specs.declared.room.TheConstants.{MAX_ELEMENTS}
 use Rattle.delaunay_legalization.specs.CdtEdge.{is_constraint}
 use Rattle.plane.specs.Plain.{CanAdd}
 use Rattle.delaunay_legalization.specs.State.{state_of}
+use Rattle.delaunay_paths.specs.Lists.{HaveRoom}
 use Rattle.delaunay_edit.specs.Constrained.{constrained, constraint_edges, constraints_of}
 use Rattle.delaunay_edit.specs.ConstraintEdits.{MarksEdges}
 use Rattle.delaunay_edit.specs.Counting.{HasPairs, IsMissing}
@@ -18,6 +19,14 @@ add_constraints-requires-clause-way g c = record {
       (sym c.self.view_is)
       c.requires.free;
 }
+
+pub add_constraints-requires-clause-room : goal.add_constraints-requires-clause-room
+add_constraints-requires-clause-room g c =
+    let enough = c.in_ok-reserve.ensures.ok in
+    let count = c.num_vertices-edges.ensures.value in (
+      omega (arith, enough, count),
+      subst (λ n. HaveRoom (3 * n) c.reserve-2.new.self) count c.in_ok-reserve-2.ensures,
+    )
 
 pub returns-clause-data : goal.returns-clause-data
 returns-clause-data g c =

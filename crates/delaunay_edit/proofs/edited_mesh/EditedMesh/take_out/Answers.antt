@@ -1,12 +1,14 @@
-use Rattle.std.proofs.Common.{◌<◌, ℕ, List, ◌++◌, length, map, refl, sym, ap, subst, arith}
+use Rattle.std.proofs.Common.{◌*◌, ◌<◌, ℕ, List, ◌++◌, length, map, refl, sym, ap, subst, arith}
 use Rattle.std.proofs.Common.{vec_capacity}
 use Rattle.std.specs.Prelude.{All}
 use Rattle.std.proofs.lemmas.Bool.{eqb-true}
+use Rattle.std.proofs.lemmas.Option.{IfSome_then}
 use Rattle.plane.specs.Plain.{Removes, TakesOut}
 use Rattle.plane_edits.specs.Legal.{AllPassBut}
 use Rattle.mesh_embedding.specs.Drawn.{faces_of}
 use Rattle.delaunay_legalization.specs.Constraints.{constraints_by, points_and_constraints_by}
 use Rattle.delaunay_legalization.specs.State.{state_of}
+use Rattle.delaunay_paths.proofs.MovedEdges.{fewer_fit}
 use Rattle.delaunay_removal.specs.Pairs.{FailOnlyAt, pairs_left}
 use Rattle.delaunay_removal.specs.Data.{KeepsDataOfOthers}
 use Rattle.delaunay_removal.proofs.Passing.{fails_only_at, passes_but}
@@ -34,7 +36,7 @@ pub settle-requires-clause-room : goal.settle-requires-clause-room
 settle-requires-clause-room g c =
     room_left g.V.HasPosition.place g.M.ConstraintMarker.constraints (state_of c.self.inside.dcel)
     (state_of c.remove_vertex-value.new.dcel) c.args.vertex c.remove_vertex-value.result
-    c.remove_vertex-value.ensures.takes.plain _ _ _ c.num_vertices.ensures.value
+    c.remove_vertex-value.ensures.takes.plain _ _ _ c.num_vertices-edges.ensures.value
     c.in_ok-reserve.ensures.ok
 
 pub remove_vertex-value-requires-clause-free : goal.remove_vertex-value-requires-clause-free
@@ -83,6 +85,16 @@ settle-requires-clause-room_among g c =
     c.remove_vertex-value.ensures.takes.plain
     (length c.self.inside.dcel.vertices) 0 (vec_capacity c.remove_vertex-value.new.lists.sides) refl
     (omega (arith, tested, same))
+
+pub settle-requires-clause-room_crossing : goal.settle-requires-clause-room_crossing
+settle-requires-clause-room_crossing g c =
+    IfSome_then c.halves_at-halves.result c.in_ok-reserve_to_join.ensures
+    (λ _ room. fewer_fit (3 * c.num_vertices-edges.result) _ _
+    (room_left g.V.HasPosition.place g.M.ConstraintMarker.constraints
+    (state_of c.self.inside.dcel) (state_of c.remove_vertex-value.new.dcel) c.args.vertex
+    c.remove_vertex-value.result c.remove_vertex-value.ensures.takes.plain
+    c.num_vertices-edges.result 0 (3 * c.num_vertices-edges.result)
+    c.num_vertices-edges.ensures.value (omega arith)) room)
 
 pub settle-requires-clause-only : goal.settle-requires-clause-only
 settle-requires-clause-only g c free =
@@ -164,9 +176,9 @@ invariant_of-self-5 g c =
     c.count_lost-lost.result c.count_lost-lost.ensures c.self.inside.num_constraints
     c.self.invariant
 
-pub overflow_mul-num_vertices : goal.overflow_mul-num_vertices
-overflow_mul-num_vertices g c =
-    let small = c.num_vertices.ensures.small in
+pub overflow_mul-edges : goal.overflow_mul-edges
+overflow_mul-edges g c =
+    let small = c.num_vertices-edges.ensures.small in
     omega arith
 
 pub invariant_of-self : goal.invariant_of-self

@@ -1,0 +1,9 @@
+use Rattle.std.proofs.Common.{◌≡◌, ◌+◌, false, take}
+use Rattle.c_calls.specs.Kept.{kept_place}
+use Rattle.c_calls.specs.Lists.{AddsInTurn, chain_segments}
+use Rattle.c_calls.proofs.list_edits.constrain_path.Given as goal
+
+abbrev pub invariant-loop-place : goal.invariant-loop-place
+invariant-loop-place l =
+    (l.made + 1 ≡ l.place)
+    × AddsInTurn kept_place (take l.made (chain_segments l.vertices false)) l.fn.points l.points

@@ -1,0 +1,44 @@
+-- What calls on a handle say.
+use Rattle.std.specs.Prelude.{◌≡◌, ◌≢◌, ℕ, nat_eq, [], Option, None, Some, Result, Ok, Err}
+use Rattle.std.specs.Prelude.{◌↔◌, ◌<◌, IfOk, IfSome}
+use Rattle.delaunay_core.specs.declared.math.InsertionError.{InsertionError}
+use Rattle.delaunay_core.specs.declared.math.InsertionError.TheVariants.{
+  TooLarge,
+  OutOfMemory,
+  OutOfIndexes,
+}
+use Rattle.c_calls.specs.declared.raw.NumberedPoint.{NumberedPoint}
+use Rattle.c_calls.specs.declared.kept.KeptPoints.{KeptPoints}
+use Rattle.c_calls.specs.declared.statuses.TheConstants.{WELL, TOO_LARGE, NO_SUCH_KIND}
+use Rattle.c_calls.specs.declared.statuses.TheConstants.{OUT_OF_INDEXES, OUT_OF_MEMORY}
+use Rattle.c_calls.specs.Kept.{InsertsKept, IsKeptDelaunay, IsOfKind, kept_vertices}
+
+-- the status of a refused insertion
+abbrev pub status_of_error : InsertionError → ℕ
+status_of_error TooLarge = TOO_LARGE
+status_of_error OutOfIndexes = OUT_OF_INDEXES
+status_of_error OutOfMemory = OUT_OF_MEMORY
+
+-- the status of an insertion
+abbrev pub status_of_insertion : Result ℕ InsertionError → ℕ
+status_of_insertion (Ok i) = WELL
+status_of_insertion (Err e) = status_of_error e
+
+-- an open handle had a triangulation, into which a value was inserted: the handle has what the
+-- library's insertion made of it, and the status says how that ended
+pub record InsertsAt (v : NumberedPoint) (status vertex : ℕ) (old : KeptPoints)
+    (kept : Option KeptPoints) : Type 0 where
+  pub new : KeptPoints
+  pub is_kept : kept ≡ Some new
+  pub inserted : Result ℕ InsertionError
+  pub inserts : InsertsKept v inserted old new
+  pub headline : IsKeptDelaunay new
+  pub told : status ≡ status_of_insertion inserted
+  pub index : IfOk inserted (λ i. vertex ≡ i)
+
+-- a closed handle was to be opened, with a triangulation of this kind
+pub record OpensAt (kind status : ℕ) (kept : Option KeptPoints) : Type 0 where
+  pub opened : status ≡ WELL → IfSome kept (λ k.
+      IsOfKind (nat_eq kind 1) k × (kept_vertices k ≡ []) × IsKeptDelaunay k)
+  pub refused : status ≢ WELL → kept ≡ None
+  pub no_such_kind : status ≡ NO_SUCH_KIND ↔ (1 < kind)

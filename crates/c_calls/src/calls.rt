@@ -1,0 +1,242 @@
+//! The calls that open, close and read what a handle has.
+ghost use Rattle.std.specs.Prelude.{◌≡◌, None, IfNone};
+ghost use Rattle.c_calls.specs.declared.statuses.TheConstants.{CLOSED};
+ghost use Rattle.c_calls.specs.Calls.{OpensClosed, TellsCounts, TellsEdges, TellsEdgesInCircle};
+ghost use Rattle.c_calls.specs.Calls.{TellsEdgesInRectangle, TellsFaces};
+ghost use Rattle.c_calls.specs.Calls.{TellsNearest, TellsNumbers, TellsPlaces, TellsPositions};
+ghost use Rattle.c_calls.specs.Calls.{TellsVerticesInCircle, TellsVerticesInRectangle};
+
+use crate::handle::Handle;
+use crate::kept::KeptPoints;
+use crate::raw::{RawCounts, RawEdge, RawFace, RawMeeting, RawPlace, RawPoint};
+use crate::shapes::{RawCircle, RawRectangle};
+use crate::statuses::{ALREADY_OPEN, CLOSED, NO_SUCH_KIND, OUT_OF_MEMORY, WELL};
+use std::alloc::Global;
+
+impl Handle {
+    /// Opens a closed handle, with a triangulation of this kind that has no vertex.
+    pub fn open(&mut self, alloc: Global, kind: u32) -> u32
+        ensures { OpensClosed kind result self.old.kept self.new.kept }
+    {
+        if let Some(kept) = self.take(alloc) {
+            self.put(kept, alloc);
+            return ALREADY_OPEN;
+        }
+        if kind > 1 {
+            return NO_SUCH_KIND;
+        }
+        match Box::new(alloc, KeptPoints::new(alloc, kind == 1)) {
+            Ok(kept) => {
+                self.put(kept, alloc);
+                WELL
+            }
+            Err(_) => OUT_OF_MEMORY,
+        }
+    }
+
+    /// Closes a handle, and gives back the memory of what it had.
+    pub fn close(&mut self, alloc: Global)
+        ensures { self.new.kept ≡ None }
+    {
+        drop(self.take(alloc));
+    }
+
+    /// Tells how many parts there are.
+    pub fn count(&mut self, alloc: Global, counts: &mut RawCounts) -> u32
+        ensures kept { self.new.kept ≡ self.old.kept }
+        ensures counts { TellsCounts self.old.kept result counts.new }
+    {
+        let Some(kept) = self.take(alloc) else {
+            return CLOSED;
+        };
+        *counts = kept.counts();
+        self.put(kept, alloc);
+        WELL
+    }
+
+    /// Writes the position of each vertex, if there is room.
+    pub fn positions(
+        &mut self,
+        alloc: Global,
+        positions: &mut [RawPoint],
+        length: &mut usize,
+    ) -> u32
+        ensures kept { self.new.kept ≡ self.old.kept }
+        ensures positions { TellsPositions self.old.kept result length.old length.new positions.old
+            positions.new }
+    {
+        let Some(kept) = self.take(alloc) else {
+            return CLOSED;
+        };
+        let status = kept.write_positions(positions, length);
+        self.put(kept, alloc);
+        status
+    }
+
+    /// Writes the number of each vertex, if there is room.
+    pub fn numbers(&mut self, alloc: Global, numbers: &mut [u64], length: &mut usize) -> u32
+        ensures kept { self.new.kept ≡ self.old.kept }
+        ensures numbers { TellsNumbers self.old.kept result length.old length.new numbers.old
+            numbers.new }
+    {
+        let Some(kept) = self.take(alloc) else {
+            return CLOSED;
+        };
+        let status = kept.write_numbers(numbers, length);
+        self.put(kept, alloc);
+        status
+    }
+
+    /// Writes the edges, if there is room.
+    pub fn edges(&mut self, alloc: Global, edges: &mut [RawEdge], length: &mut usize) -> u32
+        ensures kept { self.new.kept ≡ self.old.kept }
+        ensures edges { TellsEdges self.old.kept result length.old length.new edges.old edges.new }
+    {
+        let Some(kept) = self.take(alloc) else {
+            return CLOSED;
+        };
+        let status = kept.write_edges(edges, length);
+        self.put(kept, alloc);
+        status
+    }
+
+    /// Writes the faces, if there is room.
+    pub fn faces(&mut self, alloc: Global, faces: &mut [RawFace], length: &mut usize) -> u32
+        ensures kept { self.new.kept ≡ self.old.kept }
+        ensures faces { TellsFaces self.old.kept result length.old length.new faces.old faces.new }
+    {
+        let Some(kept) = self.take(alloc) else {
+            return CLOSED;
+        };
+        let status = kept.write_faces(faces, length);
+        self.put(kept, alloc);
+        status
+    }
+
+    /// Writes where each point is.
+    pub fn locate(&mut self, alloc: Global, queries: &[RawPoint], places: &mut [RawPlace]) -> u32
+        ensures kept { self.new.kept ≡ self.old.kept }
+        ensures places { TellsPlaces self.old.kept queries.now result places.old places.new }
+    {
+        let Some(kept) = self.take(alloc) else {
+            return CLOSED;
+        };
+        let status = kept.locate_all(queries, places);
+        self.put(kept, alloc);
+        status
+    }
+
+    /// Writes a vertex nearest to each point.
+    pub fn nearest(&mut self, alloc: Global, queries: &[RawPoint], vertices: &mut [u32]) -> u32
+        ensures kept { self.new.kept ≡ self.old.kept }
+        ensures vertices { TellsNearest self.old.kept queries.now result vertices.old vertices.new }
+    {
+        let Some(kept) = self.take(alloc) else {
+            return CLOSED;
+        };
+        let status = kept.find_nearest(queries, vertices);
+        self.put(kept, alloc);
+        status
+    }
+
+    /// Writes what a segment meets, as far as there is room, and how much that is.
+    pub fn line(
+        &mut self,
+        alloc: Global,
+        from: &RawPoint,
+        to: &RawPoint,
+        meetings: &mut [RawMeeting],
+        length: &mut usize,
+    ) -> u32
+        ensures kept { self.new.kept ≡ self.old.kept }
+        ensures closed { IfNone self.old.kept (result ≡ CLOSED) }
+    {
+        let Some(kept) = self.take(alloc) else {
+            return CLOSED;
+        };
+        let status = kept.write_met(from, to, meetings, length);
+        self.put(kept, alloc);
+        status
+    }
+
+    /// Writes the vertices in a circle, as far as there is room, and how many there are.
+    pub fn vertices_in_circle(
+        &mut self,
+        alloc: Global,
+        circle: RawCircle,
+        vertices: &mut [u32],
+        length: &mut usize,
+    ) -> u32
+        ensures kept { self.new.kept ≡ self.old.kept }
+        ensures vertices { TellsVerticesInCircle self.old.kept circle result length.old length.new
+            vertices.old vertices.new }
+    {
+        let Some(kept) = self.take(alloc) else {
+            return CLOSED;
+        };
+        let status = kept.vertices_in_circle(alloc, circle, vertices, length);
+        self.put(kept, alloc);
+        status
+    }
+
+    /// Writes the edges with a point in a circle, as far as there is room, and how many there are.
+    pub fn edges_in_circle(
+        &mut self,
+        alloc: Global,
+        circle: RawCircle,
+        edges: &mut [u32],
+        length: &mut usize,
+    ) -> u32
+        ensures kept { self.new.kept ≡ self.old.kept }
+        ensures edges { TellsEdgesInCircle self.old.kept circle result length.old length.new
+            edges.old edges.new }
+    {
+        let Some(kept) = self.take(alloc) else {
+            return CLOSED;
+        };
+        let status = kept.edges_in_circle(alloc, circle, edges, length);
+        self.put(kept, alloc);
+        status
+    }
+
+    /// Writes the vertices in a rectangle, as far as there is room, and how many there are.
+    pub fn vertices_in_rectangle(
+        &mut self,
+        alloc: Global,
+        rectangle: RawRectangle,
+        vertices: &mut [u32],
+        length: &mut usize,
+    ) -> u32
+        ensures kept { self.new.kept ≡ self.old.kept }
+        ensures vertices { TellsVerticesInRectangle self.old.kept rectangle result length.old
+            length.new vertices.old vertices.new }
+    {
+        let Some(kept) = self.take(alloc) else {
+            return CLOSED;
+        };
+        let status = kept.vertices_in_rectangle(alloc, rectangle, vertices, length);
+        self.put(kept, alloc);
+        status
+    }
+
+    /// Writes the edges with a point in a rectangle, as far as there is room, and how many there
+    /// are.
+    pub fn edges_in_rectangle(
+        &mut self,
+        alloc: Global,
+        rectangle: RawRectangle,
+        edges: &mut [u32],
+        length: &mut usize,
+    ) -> u32
+        ensures kept { self.new.kept ≡ self.old.kept }
+        ensures edges { TellsEdgesInRectangle self.old.kept rectangle result length.old length.new
+            edges.old edges.new }
+    {
+        let Some(kept) = self.take(alloc) else {
+            return CLOSED;
+        };
+        let status = kept.edges_in_rectangle(alloc, rectangle, edges, length);
+        self.put(kept, alloc);
+        status
+    }
+}

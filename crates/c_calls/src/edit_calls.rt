@@ -1,0 +1,168 @@
+//! The calls that edit what a handle has.
+ghost use Rattle.std.specs.Prelude.{◌≡◌};
+ghost use Rattle.c_calls.specs.Answers.{InsertsAt};
+ghost use Rattle.c_calls.specs.Calls.{EditsOpen};
+ghost use Rattle.c_calls.specs.Edits.{AddsKept, AllowsConstraints, ClearsKept, EditsAt};
+ghost use Rattle.c_calls.specs.Edits.{ReleasesKept, RemovesKept};
+ghost use Rattle.c_calls.specs.Kept.{unnumbered_at};
+ghost use Rattle.c_calls.specs.Lists.{AddsChainKept, InsertsListKept, NumbersKept};
+ghost use Rattle.c_calls.specs.Lists.{unnumbered_points};
+
+use crate::handle::Handle;
+use crate::kept::KeptPoints;
+use crate::raw::RawPoint;
+use crate::statuses::{CLOSED, WELL, status_of};
+use spade_delaunay::Point2;
+use std::alloc::Global;
+use std::mem::replace;
+
+impl Handle {
+    /// Makes a constrained triangulation of a plain one.
+    #[tactic(auto, using(crate::proofs::Edited::edited_at))]
+    pub fn allow_constraints(&mut self, alloc: Global) -> u32
+        ensures { EditsOpen (EditsAt (AllowsConstraints result)) result self.old.kept
+            self.new.kept }
+    {
+        let Some(mut kept) = self.take(alloc) else {
+            return CLOSED;
+        };
+        let (changed, status) = replace(
+            &mut *kept,
+            KeptPoints::new(alloc, false),
+        ).allow_constraints();
+        *kept = changed;
+        kept.recall_headline();
+        self.put(kept, alloc);
+        status
+    }
+
+    /// Forgets all.
+    #[tactic(auto, using(crate::proofs::Edited::edited_at))]
+    pub fn clear(&mut self, alloc: Global) -> u32
+        ensures { EditsOpen (EditsAt (ClearsKept result)) result self.old.kept self.new.kept }
+    {
+        let Some(mut kept) = self.take(alloc) else {
+            return CLOSED;
+        };
+        kept.clear();
+        self.put(kept, alloc);
+        WELL
+    }
+
+    /// Inserts a vertex with the number 0, and tells its index.
+    #[tactic(auto, using(crate::proofs::Inserted::insertions_at))]
+    pub fn insert(&mut self, alloc: Global, x: i32, y: i32, vertex: &mut u32) -> u32
+        ensures { EditsOpen (InsertsAt (unnumbered_at x y) result vertex.new) result self.old.kept
+            self.new.kept }
+    {
+        let Some(mut kept) = self.take(alloc) else {
+            return CLOSED;
+        };
+        let inserted = kept.insert(Point2 { x, y });
+        self.put(kept, alloc);
+        match inserted {
+            Ok(inserted) => {
+                *vertex = inserted.index();
+                WELL
+            }
+            Err(error) => status_of(error),
+        }
+    }
+
+    /// Inserts vertices with the number 0, along a curve, and writes the index of each.
+    #[tactic(auto, using(crate::proofs::Edited::edited_at))]
+    pub fn insert_all(&mut self, alloc: Global, positions: &[RawPoint], vertices: &mut [u32]) -> u32
+        ensures { EditsOpen (EditsAt (InsertsListKept (unnumbered_points positions.now) result
+            vertices.old vertices.new)) result self.old.kept self.new.kept }
+    {
+        let Some(mut kept) = self.take(alloc) else {
+            return CLOSED;
+        };
+        let status = kept.insert_all(alloc, positions, vertices);
+        kept.recall_headline();
+        self.put(kept, alloc);
+        status
+    }
+
+    /// Removes a vertex.
+    #[tactic(auto, using(crate::proofs::Edited::edited_at))]
+    pub fn remove(&mut self, alloc: Global, vertex: u32) -> u32
+        ensures { EditsOpen (EditsAt (RemovesKept vertex result)) result self.old.kept
+            self.new.kept }
+    {
+        let Some(mut kept) = self.take(alloc) else {
+            return CLOSED;
+        };
+        let status = kept.remove(vertex);
+        kept.recall_headline();
+        self.put(kept, alloc);
+        status
+    }
+
+    /// Joins two vertices by constraints.
+    #[tactic(auto, using(crate::proofs::Edited::edited_at))]
+    pub fn constrain(&mut self, alloc: Global, from: u32, to: u32) -> u32
+        ensures { EditsOpen (EditsAt (AddsKept from to result)) result self.old.kept
+            self.new.kept }
+    {
+        let Some(mut kept) = self.take(alloc) else {
+            return CLOSED;
+        };
+        let status = kept.constrain(from, to);
+        kept.recall_headline();
+        self.put(kept, alloc);
+        status
+    }
+
+    /// Joins each vertex of a list to the next, and the last to the first where it is closed, and
+    /// counts the segments that are joined.
+    #[tactic(auto, using(crate::proofs::Edited::edited_at))]
+    pub fn constrain_chain(
+        &mut self,
+        alloc: Global,
+        vertices: &[u32],
+        closed: bool,
+        made: &mut usize,
+    ) -> u32
+        ensures { EditsOpen (EditsAt (AddsChainKept vertices.now closed result made.new)) result
+            self.old.kept self.new.kept }
+    {
+        let Some(mut kept) = self.take(alloc) else {
+            return CLOSED;
+        };
+        let status = kept.constrain_chain(vertices, closed, made);
+        kept.recall_headline();
+        self.put(kept, alloc);
+        status
+    }
+
+    /// Takes from the edge between two vertices that it is a constraint.
+    #[tactic(auto, using(crate::proofs::Edited::edited_at))]
+    pub fn release(&mut self, alloc: Global, from: u32, to: u32) -> u32
+        ensures { EditsOpen (EditsAt (ReleasesKept from to result)) result self.old.kept
+            self.new.kept }
+    {
+        let Some(mut kept) = self.take(alloc) else {
+            return CLOSED;
+        };
+        let status = kept.release(from, to);
+        kept.recall_headline();
+        self.put(kept, alloc);
+        status
+    }
+
+    /// Gives numbers to vertices.
+    #[tactic(auto, using(crate::proofs::Edited::edited_at))]
+    pub fn set_numbers(&mut self, alloc: Global, vertices: &[u32], numbers: &[u64]) -> u32
+        ensures { EditsOpen (EditsAt (NumbersKept vertices.now numbers.now result)) result
+            self.old.kept self.new.kept }
+    {
+        let Some(mut kept) = self.take(alloc) else {
+            return CLOSED;
+        };
+        let status = kept.set_numbers(vertices, numbers);
+        kept.recall_headline();
+        self.put(kept, alloc);
+        status
+    }
+}

@@ -1,0 +1,217 @@
+//! Edits of a triangulation that C keeps.
+ghost use Rattle.std.specs.Prelude.{◌≡◌, ◌↔◌, ◌<◌, [], length, IsTrue};
+ghost use Rattle.c_calls.specs.Kept.{InsertsKept, IsKeptDelaunay, CountsKept, kept_vertices};
+ghost use Rattle.c_calls.specs.Kept.{IsOfKind, kept_place};
+ghost use Rattle.c_calls.specs.Edits.{Addition, AddsKept, AllowsConstraints, Release};
+ghost use Rattle.c_calls.specs.Edits.{ReleasesKept, Removal, RemovesKept};
+
+use crate::kept::{ConstrainedPoints, KeptPoints, PlainPoints};
+use crate::lists::counts_of;
+use crate::raw::{NumberedPoint, RawCounts};
+use crate::statuses::{
+    CROSSING, IS_CONSTRAINED, IS_PLAIN, NO_CONSTRAINT, NO_SUCH_VERTEX, OUT_OF_MEMORY, WELL,
+};
+use exact_predicates::ExactTests;
+use spade_delaunay::handles::FixedVertexHandle;
+use spade_delaunay::{InsertionError, Point2, Triangulation};
+use std::alloc::Global;
+
+/// A vertex as it is inserted, with the number 0.
+pub fn unnumbered(position: Point2<i32>) -> NumberedPoint
+    ensures { result ≡ record { position = position; number = 0 } }
+{
+    NumberedPoint {
+        position,
+        number: 0,
+    }
+}
+
+/// Whether a vertex has an index.
+pub fn is_vertex<T: Triangulation>(points: &T, index: u32) -> bool
+    ensures { IsTrue result ↔ (index < length (T.state points.now).vertices) }
+{
+    (index as usize) < points.num_vertices()
+}
+
+// Removes a vertex.
+#[tactic(auto, using(crate::proofs::Edited::removals))]
+fn remove<T: Triangulation<Vertex = NumberedPoint>>(points: &mut T, vertex: u32) -> u32
+    ensures { Removal kept_place T.Constraints.constraints vertex result
+        (T.state points.old) (T.state points.new) }
+{
+    if !is_vertex(points, vertex) {
+        return NO_SUCH_VERTEX;
+    }
+    match points.remove(FixedVertexHandle::from_index(vertex), &ExactTests) {
+        Ok(_) => WELL,
+        Err(_) => OUT_OF_MEMORY,
+    }
+}
+
+/// Joins two vertices by constraints.
+#[tactic(auto, using(crate::proofs::Edited::additions))]
+pub fn constrain(points: &mut ConstrainedPoints, from: u32, to: u32) -> u32
+    ensures { Addition kept_place from to result points.old points.new }
+{
+    if !is_vertex(points, from) || !is_vertex(points, to) {
+        return NO_SUCH_VERTEX;
+    }
+    let (from, to) = (
+        FixedVertexHandle::from_index(from),
+        FixedVertexHandle::from_index(to),
+    );
+    if !points.can_add_constraint(from, to, &ExactTests) {
+        return CROSSING;
+    }
+    match points.add_constraint(from, to, &ExactTests) {
+        Ok(_) => WELL,
+        Err(_) => OUT_OF_MEMORY,
+    }
+}
+
+// Takes from the edge between two vertices of the triangulation that it is a constraint.
+fn release_between(
+    points: &mut ConstrainedPoints,
+    from: FixedVertexHandle,
+    to: FixedVertexHandle,
+) -> u32
+    requires from_in { from < length points.old.vertices }
+    requires to_in { to < length points.old.vertices }
+    ensures { Release kept_place from to result points.old points.new }
+{
+    points.recall_invariant();
+    let Some(edge) = points.get_edge_from_neighbors(from, to) else {
+        return NO_CONSTRAINT;
+    };
+    let edge = edge.fix().as_undirected();
+    match points.remove_constraint_edge(edge, &ExactTests) {
+        Ok(true) => WELL,
+        Ok(false) => NO_CONSTRAINT,
+        Err(_) => OUT_OF_MEMORY,
+    }
+}
+
+// Takes from the edge between two vertices that it is a constraint.
+#[tactic(auto, using(crate::proofs::Released::releases))]
+fn release(points: &mut ConstrainedPoints, from: u32, to: u32) -> u32
+    ensures { Release kept_place from to result points.old points.new }
+{
+    if !is_vertex(points, from) || !is_vertex(points, to) {
+        return NO_SUCH_VERTEX;
+    }
+    release_between(
+        points,
+        FixedVertexHandle::from_index(from),
+        FixedVertexHandle::from_index(to),
+    )
+}
+
+impl KeptPoints {
+    /// No vertex.
+    pub fn new(alloc: Global, constrained: bool) -> Self
+        ensures kind { IsOfKind constrained result }
+        ensures empty { kept_vertices result ≡ [] }
+        ensures headline { IsKeptDelaunay result }
+    {
+        if constrained {
+            KeptPoints::Constrained(ConstrainedPoints::new(alloc))
+        } else {
+            KeptPoints::Plain(PlainPoints::new(alloc))
+        }
+    }
+
+    /// Inserts a vertex with the number 0.
+    #[tactic(auto, using(crate::proofs::Inserted::insertions))]
+    pub fn insert(&mut self, position: Point2<i32>) -> Result<FixedVertexHandle, InsertionError>
+        ensures inserts { InsertsKept (record { position = position; number = 0 }) result self.old
+            self.new }
+        ensures headline { IsKeptDelaunay self.new }
+    {
+        let value = NumberedPoint {
+            position,
+            number: 0,
+        };
+        match self {
+            KeptPoints::Plain(points) => points.insert(value, &ExactTests),
+            KeptPoints::Constrained(points) => points.insert(value, &ExactTests),
+        }
+    }
+
+    /// Removes a vertex.
+    #[tactic(auto, using(crate::proofs::Edited::removals_kept))]
+    pub fn remove(&mut self, vertex: u32) -> u32
+        ensures { RemovesKept vertex result self.old self.new }
+    {
+        match self {
+            KeptPoints::Plain(points) => remove(points, vertex),
+            KeptPoints::Constrained(points) => remove(points, vertex),
+        }
+    }
+
+    /// Joins two vertices by constraints.
+    #[tactic(auto, using(crate::proofs::Edited::additions_kept))]
+    pub fn constrain(&mut self, from: u32, to: u32) -> u32
+        ensures { AddsKept from to result self.old self.new }
+    {
+        match self {
+            KeptPoints::Plain(_) => IS_PLAIN,
+            KeptPoints::Constrained(points) => constrain(points, from, to),
+        }
+    }
+
+    /// Takes from the edge between two vertices that it is a constraint.
+    #[tactic(auto, using(crate::proofs::Released::releases_kept))]
+    pub fn release(&mut self, from: u32, to: u32) -> u32
+        ensures { ReleasesKept from to result self.old self.new }
+    {
+        match self {
+            KeptPoints::Plain(_) => IS_PLAIN,
+            KeptPoints::Constrained(points) => release(points, from, to),
+        }
+    }
+
+    /// A constrained triangulation of a plain one; else, or where memory is refused, the same.
+    #[tactic(auto, using(crate::proofs::Edited::allowances))]
+    pub fn allow_constraints(self) -> (Self, u32)
+        ensures { AllowsConstraints result.1 self result.0 }
+    {
+        match self {
+            KeptPoints::Plain(points) => match ConstrainedPoints::from_delaunay(points) {
+                Ok(points) => (KeptPoints::Constrained(points), WELL),
+                Err(points) => (KeptPoints::Plain(points), OUT_OF_MEMORY),
+            },
+            KeptPoints::Constrained(points) => (KeptPoints::Constrained(points), IS_CONSTRAINED),
+        }
+    }
+
+    /// Gives a proof what holds of each triangulation between edits. It does nothing when it runs.
+    pub fn recall_headline(&self)
+        ensures { IsKeptDelaunay self.now }
+    {
+        match self {
+            KeptPoints::Plain(points) => points.recall_invariant(),
+            KeptPoints::Constrained(points) => points.recall_invariant(),
+        }
+    }
+
+    /// How many elements there are.
+    pub fn counts(&self) -> RawCounts
+        ensures { CountsKept self.now result }
+    {
+        match self {
+            KeptPoints::Plain(points) => counts_of(points, 0),
+            KeptPoints::Constrained(points) => counts_of(points, points.num_constraints()),
+        }
+    }
+
+    /// Forgets all.
+    pub fn clear(&mut self)
+        ensures empty { kept_vertices self.new ≡ [] }
+        ensures headline { IsKeptDelaunay self.new }
+    {
+        match self {
+            KeptPoints::Plain(points) => points.clear(),
+            KeptPoints::Constrained(points) => points.clear(),
+        }
+    }
+}

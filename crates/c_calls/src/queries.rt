@@ -1,0 +1,159 @@
+//! Queries of many points in one call.
+ghost use Rattle.std.specs.Prelude.{◌≡◌, ◌↔◌, All, IsTrue};
+ghost use Rattle.c_calls.specs.Kept.{kept_place};
+ghost use Rattle.c_calls.specs.Queries.{FindsKeptNearest, IsKeptPlace, IsNearestAnswer, IsPlaceIn};
+ghost use Rattle.c_calls.specs.Queries.{raw_place};
+ghost use Rattle.c_calls.specs.Written.{Answering, IsRawInRange};
+
+use crate::kept::{KeptPoints, PlainPoints};
+use crate::lists::face_index;
+use crate::raw::{NumberedPoint, RawPlace, RawPoint};
+use crate::statuses::{IS_CONSTRAINED, NONE, TOO_LARGE, TOO_SHORT, WELL};
+use exact_predicates::ExactTests;
+use spade_delaunay::{Point2, PositionInTriangulation, Triangulation, validate_vertex};
+
+pub const ON_VERTEX: u32 = 0;
+
+pub const ON_EDGE: u32 = 1;
+
+pub const IN_FACE: u32 = 2;
+
+pub const OUTSIDE: u32 = 3;
+
+pub const NOWHERE: u32 = 4;
+
+/// A point of C's.
+pub fn point_of(point: &RawPoint) -> Point2<i32>
+    ensures { result ≡ record { x = point.now.x; y = point.now.y } }
+{
+    Point2 {
+        x: point.x,
+        y: point.y,
+    }
+}
+
+/// Whether both coordinates are in range.
+pub fn is_in_range(point: &RawPoint) -> bool
+    ensures { IsTrue result ↔ IsRawInRange point.now }
+{
+    validate_vertex(&point_of(point)).is_ok()
+}
+
+/// Whether all coordinates are in range.
+pub fn are_in_range(points: &[RawPoint]) -> bool
+    ensures { IsTrue result ↔ All IsRawInRange points.now }
+{
+    for point in points {
+        if !is_in_range(point) {
+            return false;
+        }
+    }
+    true
+}
+
+// A place, for C.
+fn raw_place(place: PositionInTriangulation) -> RawPlace
+    ensures { result ≡ raw_place place }
+{
+    match place {
+        PositionInTriangulation::OnVertex(vertex) => RawPlace {
+            kind: ON_VERTEX,
+            index: vertex.index(),
+        },
+        PositionInTriangulation::OnEdge(edge) => RawPlace {
+            kind: ON_EDGE,
+            index: edge.as_undirected().index(),
+        },
+        PositionInTriangulation::OnFace(face) => RawPlace {
+            kind: IN_FACE,
+            index: face_index(face),
+        },
+        PositionInTriangulation::OutsideOfConvexHull(edge) => RawPlace {
+            kind: OUTSIDE,
+            index: edge.as_undirected().index(),
+        },
+        PositionInTriangulation::NoTriangulation => RawPlace {
+            kind: NOWHERE,
+            index: NONE,
+        },
+    }
+}
+
+// Where a point in range is, for C.
+fn place_at<T: Triangulation<Vertex = NumberedPoint>>(points: &T, query: &RawPoint) -> RawPlace
+    requires { IsRawInRange query.now }
+    ensures { IsPlaceIn kept_place (T.state points.now) query.now result }
+{
+    raw_place(points.locate(point_of(query), &ExactTests))
+}
+
+// Writes where each point is.
+fn locate_all<T: Triangulation<Vertex = NumberedPoint>>(
+    points: &T,
+    queries: &[RawPoint],
+    places: &mut [RawPlace],
+) -> u32
+    ensures { Answering queries.now (IsPlaceIn kept_place (T.state points.now)) result places.old
+        places.new }
+{
+    if places.len() < queries.len() {
+        return TOO_SHORT;
+    }
+    if !are_in_range(queries) {
+        return TOO_LARGE;
+    }
+    for index in 0..queries.len() {
+        places[index] = place_at(points, &queries[index]);
+    }
+    WELL
+}
+
+// A vertex nearest to a point in range, for C.
+fn nearest_at(points: &PlainPoints, query: &RawPoint) -> u32
+    requires { IsRawInRange query.now }
+    ensures { IsNearestAnswer kept_place points.now query.now result }
+{
+    match points.nearest_neighbor(point_of(query), &ExactTests) {
+        Some(vertex) => vertex.fix().index(),
+        None => NONE,
+    }
+}
+
+// Writes a vertex nearest to each point.
+fn find_nearest(points: &PlainPoints, queries: &[RawPoint], vertices: &mut [u32]) -> u32
+    ensures { Answering queries.now (IsNearestAnswer kept_place points.now) result vertices.old
+        vertices.new }
+{
+    if vertices.len() < queries.len() {
+        return TOO_SHORT;
+    }
+    if !are_in_range(queries) {
+        return TOO_LARGE;
+    }
+    for index in 0..queries.len() {
+        vertices[index] = nearest_at(points, &queries[index]);
+    }
+    WELL
+}
+
+impl KeptPoints {
+    /// Writes where each point is.
+    pub fn locate_all(&self, queries: &[RawPoint], places: &mut [RawPlace]) -> u32
+        ensures { Answering queries.now (IsKeptPlace self.now) result places.old places.new }
+    {
+        match self {
+            KeptPoints::Plain(points) => locate_all(points, queries, places),
+            KeptPoints::Constrained(points) => locate_all(points, queries, places),
+        }
+    }
+
+    /// Writes a vertex nearest to each point.
+    pub fn find_nearest(&self, queries: &[RawPoint], vertices: &mut [u32]) -> u32
+        ensures { FindsKeptNearest self.now queries.now result vertices.old vertices.new }
+    {
+        match self {
+            KeptPoints::Plain(points) => find_nearest(points, queries, vertices),
+            KeptPoints::Constrained(_) => IS_CONSTRAINED,
+        }
+    }
+}

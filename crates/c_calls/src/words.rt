@@ -1,0 +1,58 @@
+//! The statuses in words.
+ghost use Rattle.std.specs.Prelude.{◌≡◌, ◌≤◌, ◌++◌, drop, length};
+ghost use Rattle.c_calls.specs.Words.{TellsWords, status_words};
+
+use crate::statuses::{NO_SUCH_STATUS, TOO_SHORT, WELL};
+
+// A status in words, of a number that is none those of `NO_SUCH_STATUS`.
+fn words_of(status: u32) -> &'static str
+    ensures { result.now ≡ status_words status }
+{
+    match status {
+        0 => "all went well",
+        1 => "the triangulation is closed: open it first",
+        2 => "the triangulation is already open: close it first",
+        3 => "there is no such kind of triangulation",
+        4 => "the triangulation is plain: this call is for constrained ones",
+        5 => "the triangulation is constrained: this call is for plain ones",
+        6 => "two lists that go together have different lengths",
+        7 => "a coordinate is out of range: it is more than 2^29 or less than -2^29",
+        8 => "a squared radius is negative",
+        9 => "there is no vertex with this index",
+        10 => "a segment names a point that is not in the list",
+        11 => "a constraint crosses the segment",
+        12 => "no constraint joins the two vertices",
+        13 => "a list is too short",
+        14 => "there are too many vertices for 32-bit indexes",
+        15 => "there is not enough memory",
+        _ => "there is no such status",
+    }
+}
+
+// Writes bytes to the front of a list with room for them.
+fn write_bytes(bytes: &[u8], text: &mut [u8])
+    requires { length bytes.now ≤ length text.old }
+    ensures { text.new ≡ bytes.now ++ drop (length bytes.now) text.old }
+{
+    for place in 0..bytes.len() {
+        text[place] = bytes[place];
+    }
+}
+
+/// Writes a status in words and a final 0 byte, if there is room, and tells how long the words are.
+pub fn write_words(status: u32, text: &mut [u8], length: &mut usize) -> u32
+    ensures { TellsWords status result length.new text.old text.new }
+{
+    let words = words_of(status).as_bytes();
+    *length = words.len();
+    if text.len() <= words.len() {
+        return TOO_SHORT;
+    }
+    write_bytes(words, text);
+    text[words.len()] = 0;
+    if status < NO_SUCH_STATUS {
+        WELL
+    } else {
+        NO_SUCH_STATUS
+    }
+}

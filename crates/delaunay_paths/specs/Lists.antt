@@ -1,0 +1,75 @@
+-- The lists of the edges that cross a segment, while they are turned.
+use Rattle.std.specs.Prelude.{◌≡◌, ◌≢◌, ◌⊎◌, ◌+◌, ◌≤◌, ℕ, List, [], length, AllPairs}
+use Rattle.std.specs.Prelude.{Contains, vec_capacity}
+use Rattle.half_edge_mesh.specs.Contents.{Contents}
+use Rattle.half_edge_mesh.specs.Mesh.{Mesh}
+use Rattle.plane.specs.Fraction.{Point}
+use Rattle.plane_tiling.specs.Local.{IsMesh}
+use Rattle.plane_segments.specs.Path.{IsFreeOfVertices}
+use Rattle.mesh_embedding.specs.Drawn.{drawn, faces_of, outer_of}
+use Rattle.delaunay_paths.specs.declared.crossing.CrossingLists.{CrossingLists}
+use Rattle.delaunay_paths.specs.Crossing.{AreAllCrossing, AreOthersCrossing, TurnsNearer}
+
+-- these lists have no entry twice, and none in both
+pub record AreOnce (waiting unseen : List ℕ) : Type 0 where
+  pub first : AllPairs (λ k l. k ≢ l) waiting
+  pub second : AllPairs (λ k l. k ≢ l) unseen
+  pub apart : (h : ℕ) → Contains waiting h → ¬ Contains unseen h
+
+-- one of them has h
+abbrev pub IsIn : List ℕ → List ℕ → ℕ → Type 0
+IsIn waiting unseen h = Contains waiting h ⊎ Contains unseen h
+
+-- each of the two lists has room for so many entries
+pub record HaveRoom (count : ℕ) (l : CrossingLists) : Type 0 where
+  pub waiting : count ≤ vec_capacity l.waiting
+  pub unseen : count ≤ vec_capacity l.unseen
+
+-- their room stays
+pub record KeepRoom (old new : CrossingLists) : Type 0 where
+  pub waiting : vec_capacity new.waiting ≡ vec_capacity old.waiting
+  pub unseen : vec_capacity new.unseen ≡ vec_capacity old.unseen
+
+-- no entry is there twice, and each list has room for all
+pub record AreHeld (l : CrossingLists) : Type 0 where
+  pub once : AreOnce l.waiting.items l.unseen.items
+  pub room : HaveRoom (length l.waiting.items + length l.unseen.items) l
+
+-- h is an entry
+abbrev pub IsEntry : CrossingLists → ℕ → Type 0
+IsEntry l h = IsIn l.waiting.items l.unseen.items h
+
+-- the entries are those of before
+pub record KeepEntries (old new : CrossingLists) : Type 0 where
+  pub held : AreHeld new
+  pub kept : (h : ℕ) → IsEntry old h → IsEntry new h
+  pub only : (h : ℕ) → IsEntry new h → IsEntry old h
+
+-- they are the directed edges that cross the segment from the right
+pub record ListCrossing (points : List Point) (m : Mesh) (i j : ℕ)
+    (l : CrossingLists) : Type 0 where
+  pub held : AreHeld l
+  pub all : AreAllCrossing points m i j (IsEntry l)
+
+-- they are those but e, for which there is room
+pub record ListOthers (points : List Point) (m : Mesh) (i j e : ℕ)
+    (l : CrossingLists) : Type 0 where
+  pub once : AreOnce l.waiting.items l.unseen.items
+  pub room : HaveRoom (length l.waiting.items + length l.unseen.items + 1) l
+  pub others : AreOthersCrossing points m i j e (IsEntry l)
+
+-- no entry is to be seen, and those that wait did so before, or cannot be turned
+pub record HaveSeen (points : List Point) (m : Mesh) (i j : ℕ) (was : List ℕ)
+    (l : CrossingLists) : Type 0 where
+  pub none : l.unseen.items ≡ []
+  pub waits : (h : ℕ) → Contains l.waiting.items h
+      → Contains was h ⊎ (¬ TurnsNearer points m i j h)
+
+-- directed edge e crosses the segment from i to j, which has no vertex strictly within, and can be
+-- turned towards it; the entries are the others that cross
+pub record IsToTurn {V D U F : Type 0} (points : List Point) (c : Contents V D U F) (i j e : ℕ)
+    (l : CrossingLists) : Type 0 where
+  pub free : IsFreeOfVertices (drawn points c.mesh) i j
+  pub shape : IsMesh points (faces_of c.mesh) (outer_of c.mesh)
+  pub nearer : TurnsNearer points c.mesh i j e
+  pub others : ListOthers points c.mesh i j e l

@@ -1,0 +1,152 @@
+//! The edges that cross a segment between two vertices, in the lists from which they are turned.
+ghost use Rattle.std.specs.Prelude.{◌≡◌, ◌≤◌, [], length, map, All, OnOk, vec_capacity};
+ghost use Rattle.plane_tiling.specs.Local.{IsMesh};
+ghost use Rattle.plane_segments.specs.Path.{IsFreeOfVertices};
+ghost use Rattle.mesh_embedding.specs.Drawn.{drawn, faces_of, outer_of};
+ghost use Rattle.delaunay_lines.specs.Items.{item_in, mesh_of};
+ghost use Rattle.delaunay_paths.specs.Crossing.{ListsAllCrossing};
+ghost use Rattle.delaunay_paths.specs.Items.{HasRoomForItem, IsCrossedTwin, ListsItem};
+ghost use Rattle.delaunay_paths.specs.Lists.{AreHeld, HaveRoom, KeepEntries, KeepRoom};
+ghost use Rattle.delaunay_paths.specs.Lists.{ListCrossing};
+
+use delaunay_core::math::PlaneTests;
+use delaunay_core::point::HasPosition;
+use delaunay_lines::{Intersection, line_between_vertices};
+use half_edge_mesh::{Dcel, FixedDirectedEdgeHandle, FixedVertexHandle};
+use std::alloc::{AllocError, Global};
+
+/// The lists of the edges that cross a segment, each from its right to its left. What stands in
+/// them between two edits has no meaning, but the room for it stays.
+#[derive(Drop)]
+pub struct CrossingLists {
+    // Those that could not be turned when they were seen last.
+    pub(crate) waiting: Vec<FixedDirectedEdgeHandle>,
+    // Those that are to be seen: the last one is the next.
+    pub(crate) unseen: Vec<FixedDirectedEdgeHandle>,
+}
+
+impl CrossingLists {
+    /// Empty lists, without room.
+    pub fn new(alloc: Global) -> Self
+        ensures waiting { result.waiting.items ≡ [] }
+        ensures unseen { result.unseen.items ≡ [] }
+    {
+        CrossingLists {
+            waiting: Vec::new(alloc),
+            unseen: Vec::new(alloc),
+        }
+    }
+
+    /// Makes room for so many edges in each list. It gives `AllocError` where memory was refused.
+    pub fn reserve(&mut self, edges: usize) -> Result<(), AllocError>
+        ensures { OnOk result (HaveRoom edges self.new) }
+    {
+        self.waiting.clear();
+        self.waiting.reserve(edges)?;
+        self.unseen.clear();
+        self.unseen.reserve(edges)
+    }
+
+    // The last one that waits is to be seen again, next.
+    pub(crate) fn step_back(&mut self)
+        requires { AreHeld self.old }
+        ensures entries { KeepEntries self.old self.new }
+        ensures room { KeepRoom self.old self.new }
+    {
+        match self.waiting.pop() {
+            Some(edge) => self.unseen.push_reserved(edge),
+            None => {}
+        }
+    }
+
+    // All that wait are to be seen again, the first of them next.
+    pub(crate) fn see_again(&mut self)
+        requires { AreHeld self.old }
+        ensures none { self.new.waiting.items ≡ [] }
+        ensures entries { KeepEntries self.old self.new }
+        ensures room { KeepRoom self.old self.new }
+    {
+        while let Some(edge) = self.waiting.pop() {
+            self.unseen.push_reserved(edge);
+        }
+    }
+
+    // Lists the edges that cross the segment between two vertices with none strictly between, in
+    // place of what was listed. The first on the way is to be seen first.
+    pub(crate) fn list<V: HasPosition, DE, UE, F, P: PlaneTests<V::Scalar>>(
+        &mut self,
+        dcel: &Dcel<V, DE, UE, F>,
+        from: FixedVertexHandle,
+        to: FixedVertexHandle,
+        tests: &P,
+    )
+        requires free { IsFreeOfVertices (drawn (map V.place dcel.now.vertices) dcel.now.mesh) from
+            to }
+        requires shape { IsMesh (map V.place dcel.now.vertices) (faces_of dcel.now.mesh)
+            (outer_of dcel.now.mesh) }
+        requires sites { All (P.sites tests.now) (map V.place dcel.now.vertices) }
+        requires room { HaveRoom (length dcel.now.undirected) self.old }
+        ensures lists { ListCrossing (map V.place dcel.now.vertices) dcel.now.mesh from to
+            self.new }
+        ensures room { KeepRoom self.old self.new }
+    {
+        list_crossing(dcel, from, to, tests, &mut self.waiting);
+        self.unseen.clear();
+        self.see_again();
+    }
+}
+
+// The twin of the edge of an item, if the segment crosses an edge there.
+fn crossed_twin<V, DE, UE, F>(
+    item: &Intersection<'_, V, DE, UE, F>,
+) -> Option<FixedDirectedEdgeHandle>
+    ensures { IsCrossedTwin (mesh_of item.now).now (item_in item.now) result }
+{
+    match item {
+        Intersection::EdgeIntersection(edge) => Some(edge.rev().fix()),
+        _ => None,
+    }
+}
+
+// Puts the twin of an item's edge into a list, if the segment crosses an edge there.
+fn list_item<V, DE, UE, F>(
+    item: &Intersection<'_, V, DE, UE, F>,
+    edges: &mut Vec<FixedDirectedEdgeHandle>,
+)
+    requires { HasRoomForItem (mesh_of item.now).now (item_in item.now) edges.old.items
+        (vec_capacity edges.old) }
+    ensures lists { ListsItem (mesh_of item.now).now (item_in item.now) edges.old.items
+        edges.new.items }
+    ensures capacity { vec_capacity edges.new ≡ vec_capacity edges.old }
+{
+    match crossed_twin(item) {
+        Some(edge) => edges.push_reserved(edge),
+        None => {}
+    }
+}
+
+// Lists the edges that cross the segment between two vertices with none strictly between, from
+// right to left, in their order from the first, in place of what was in the list.
+fn list_crossing<V: HasPosition, DE, UE, F, P: PlaneTests<V::Scalar>>(
+    dcel: &Dcel<V, DE, UE, F>,
+    from: FixedVertexHandle,
+    to: FixedVertexHandle,
+    tests: &P,
+    edges: &mut Vec<FixedDirectedEdgeHandle>,
+)
+    requires free { IsFreeOfVertices (drawn (map V.place dcel.now.vertices) dcel.now.mesh) from to }
+    requires shape { IsMesh (map V.place dcel.now.vertices) (faces_of dcel.now.mesh)
+        (outer_of dcel.now.mesh) }
+    requires sites { All (P.sites tests.now) (map V.place dcel.now.vertices) }
+    requires room { length dcel.now.undirected ≤ vec_capacity edges.old }
+    ensures lists { ListsAllCrossing (map V.place dcel.now.vertices) dcel.now from to
+        edges.new.items }
+    ensures capacity { vec_capacity edges.new ≡ vec_capacity edges.old }
+{
+    dcel.recall_invariant();
+    edges.clear();
+    let mut line = line_between_vertices(dcel, from, to, tests);
+    while let Some(item) = line.next() {
+        list_item(&item, edges);
+    }
+}

@@ -1,0 +1,160 @@
+//! Whether an edge that crosses a segment can be turned towards it, and whether the edge that is
+//! made then crosses too.
+ghost use Rattle.std.specs.Prelude.{◌↔◌, ◌<◌, length, map, All, IsTrue};
+ghost use Rattle.plane_segments.specs.Path.{ComesAfterOnRight};
+ghost use Rattle.delaunay_core.specs.Place.{place_of};
+ghost use Rattle.delaunay_paths.specs.Crossing.{IsWayMade, PassesFromRight, PassesSooner};
+ghost use Rattle.delaunay_paths.specs.Crossing.{TurnsNearer};
+ghost use Rattle.delaunay_paths.specs.Turning.{AreCovered, IsTurningAt, TurnsByPlaces};
+
+use crate::order::Seen;
+use delaunay_core::math::PlaneTests;
+use delaunay_core::point::{HasPosition, Point2, SpadeNum};
+use delaunay_legalization::{position_of, start_before, start_of, turns_left};
+use half_edge_mesh::{Dcel, FixedDirectedEdgeHandle, FixedVertexHandle, MeshViews};
+
+// A segment, and the corners round an edge from `start` to `end`, of which one is ahead of it, on
+// its left, and one behind it.
+#[derive(Drop)]
+struct Turning<'a, S: SpadeNum, P: PlaneTests<S>> {
+    from: Point2<S>,
+    to: Point2<S>,
+    start: Point2<S>,
+    behind: Point2<S>,
+    end: Point2<S>,
+    ahead: Point2<S>,
+    tests: &'a P,
+}
+
+impl<'a, S: SpadeNum, P: PlaneTests<S>> Turning<'a, S, P> {
+    // Whether the way between two of the corners crosses the segment from its right to its left.
+    fn crosses_between(&self, start: Point2<S>, end: Point2<S>) -> bool
+        requires covered { AreCovered S.whole P.covered self.now }
+        requires start_covered { P.covered self.now.tests.now (place_of S.whole start) }
+        requires end_covered { P.covered self.now.tests.now (place_of S.whole end) }
+        ensures { IsTrue result ↔ PassesFromRight (place_of S.whole self.now.from)
+            (place_of S.whole self.now.to) (place_of S.whole start) (place_of S.whole end) }
+    {
+        self.tests
+            .side(self.from, self.to, start)
+            .is_on_right_side()
+            && self.tests.side(self.from, self.to, end).is_on_left_side()
+            && self.tests.side(start, end, self.from).is_on_left_side()
+            && self.tests.side(start, end, self.to).is_on_right_side()
+    }
+
+    // Whether the start of the edge comes after a point, seen from the start of the segment.
+    fn starts_after(&self, point: Point2<S>) -> bool
+        requires covered { AreCovered S.whole P.covered self.now }
+        requires point_covered { P.covered self.now.tests.now (place_of S.whole point) }
+        ensures { IsTrue result ↔ ComesAfterOnRight (place_of S.whole self.now.from)
+            (place_of S.whole point) (place_of S.whole self.now.start) }
+    {
+        let seen = Seen {
+            from: self.from,
+            point,
+            other: self.start,
+            tests: self.tests,
+        };
+        seen.comes_after_on_right()
+    }
+
+    // Whether the start of the edge comes after the first of two corners, where the way from that
+    // to the second crosses.
+    fn crosses_sooner(&self, one: Point2<S>, other: Point2<S>) -> bool
+        requires covered { AreCovered S.whole P.covered self.now }
+        requires one_covered { P.covered self.now.tests.now (place_of S.whole one) }
+        requires other_covered { P.covered self.now.tests.now (place_of S.whole other) }
+        ensures { IsTrue result ↔ PassesSooner (place_of S.whole self.now.from)
+            (place_of S.whole self.now.to) (place_of S.whole self.now.start)
+            (place_of S.whole one) (place_of S.whole other) }
+    {
+        !self.tests.side(self.from, self.to, one).is_on_right_side()
+            || !self.tests.side(self.from, self.to, other).is_on_left_side()
+            || self.starts_after(one)
+    }
+
+    // Whether the edge can be turned towards the segment.
+    fn turns_nearer(&self) -> bool
+        requires { AreCovered S.whole P.covered self.now }
+        ensures { IsTrue result ↔ TurnsByPlaces S.whole self.now }
+    {
+        turns_left(self.start, self.behind, self.ahead, self.tests)
+            && turns_left(self.behind, self.end, self.ahead, self.tests)
+            && self.crosses_sooner(self.behind, self.ahead)
+            && self.crosses_sooner(self.ahead, self.behind)
+    }
+}
+
+// An edge of a mesh and the segment between two of its vertices.
+fn turning_at<'a, V: HasPosition, DE, UE, F, P: PlaneTests<V::Scalar>>(
+    dcel: &Dcel<V, DE, UE, F>,
+    edge: FixedDirectedEdgeHandle,
+    from: FixedVertexHandle,
+    to: FixedVertexHandle,
+    tests: &'a P,
+) -> Turning<'a, V::Scalar, P>
+    requires within { edge < length dcel.now.directed }
+    requires from_in { from < length dcel.now.vertices }
+    requires to_in { to < length dcel.now.vertices }
+    requires sites { All (P.sites tests.now) (map V.place dcel.now.vertices) }
+    ensures corners { IsTurningAt V.Scalar.whole (map V.place dcel.now.vertices) dcel.now.mesh from
+        to edge result }
+    ensures covered { AreCovered V.Scalar.whole P.covered result }
+{
+    let next = dcel.directed_edge(edge).next().fix();
+    let twin = dcel.directed_edge(edge).rev().fix();
+    Turning {
+        from: position_of(dcel, from),
+        to: position_of(dcel, to),
+        start: start_of(dcel, edge),
+        behind: start_before(dcel, twin),
+        end: start_of(dcel, next),
+        ahead: start_before(dcel, edge),
+        tests,
+    }
+}
+
+// Whether an edge that crosses the segment between two vertices can be turned towards it.
+pub(crate) fn turns_nearer<V: HasPosition, DE, UE, F, P: PlaneTests<V::Scalar>>(
+    dcel: &Dcel<V, DE, UE, F>,
+    edge: FixedDirectedEdgeHandle,
+    from: FixedVertexHandle,
+    to: FixedVertexHandle,
+    tests: &P,
+) -> bool
+    requires within { edge < length dcel.now.directed }
+    requires from_in { from < length dcel.now.vertices }
+    requires to_in { to < length dcel.now.vertices }
+    requires sites { All (P.sites tests.now) (map V.place dcel.now.vertices) }
+    ensures { IsTrue result ↔
+        TurnsNearer (map V.place dcel.now.vertices) dcel.now.mesh from to edge }
+{
+    let turning = turning_at(dcel, edge, from, to, tests);
+    turning.turns_nearer()
+}
+
+// The direction in which the edge that a turn of an edge makes crosses the segment between two
+// vertices, from its right to its left, if it does.
+pub(crate) fn way_made<V: HasPosition, DE, UE, F, P: PlaneTests<V::Scalar>>(
+    dcel: &Dcel<V, DE, UE, F>,
+    edge: FixedDirectedEdgeHandle,
+    from: FixedVertexHandle,
+    to: FixedVertexHandle,
+    tests: &P,
+) -> Option<FixedDirectedEdgeHandle>
+    requires within { edge < length dcel.now.directed }
+    requires from_in { from < length dcel.now.vertices }
+    requires to_in { to < length dcel.now.vertices }
+    requires sites { All (P.sites tests.now) (map V.place dcel.now.vertices) }
+    ensures { IsWayMade (map V.place dcel.now.vertices) dcel.now.mesh from to edge result }
+{
+    let turning = turning_at(dcel, edge, from, to, tests);
+    if turning.crosses_between(turning.ahead, turning.behind) {
+        return Some(edge);
+    }
+    if turning.crosses_between(turning.behind, turning.ahead) {
+        return Some(edge.rev());
+    }
+    None
+}

@@ -1,8 +1,0 @@
--- The vertices of the tests.
-use Rattle.plane.specs.Fraction.{Point}
-use Rattle.delaunay_core.specs.Place.{place_of}
-use Rattle.test_calls.specs.declared.points.TaggedVertex.{TaggedVertex}
-
--- the position of a vertex of the tests
-abbrev pub position_of : TaggedVertex → Point
-position_of v = place_of (λ z. z) v.position

@@ -1,0 +1,8 @@
+-- The vertices of the tests.
+use Rattle.plane.specs.Fraction.{Point}
+use Rattle.delaunay_core.specs.Place.{place_of}
+use Rattle.test_points.specs.declared.TaggedVertex.{TaggedVertex}
+
+-- the position of a vertex of the tests
+abbrev pub position_of : TaggedVertex → Point
+position_of v = place_of (λ z. z) v.position

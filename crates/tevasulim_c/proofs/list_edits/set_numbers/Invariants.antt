@@ -1,8 +1,0 @@
-use Rattle.std.proofs.Common.{take}
-use Rattle.tevasulim_c.specs.Lists.{GivesNumbers}
-use Rattle.tevasulim_c.proofs.list_edits.set_numbers.Given as goal
-
-abbrev pub invariant-loop-place : goal.invariant-loop-place
-invariant-loop-place g l =
-    GivesNumbers (take l.place l.vertices) (take l.place l.numbers)
-    (g.T.Triangulation.state l.fn.points) (g.T.Triangulation.state l.points)

@@ -1,8 +1,0 @@
-use Rattle.std.proofs.Common.{ℕ, ◌<◌, get_or}
-use Rattle.tevasulim_c.specs.declared.raw.RawPoint.{RawPoint}
-use Rattle.tevasulim_c.specs.Written.{IsRawInRange}
-use Rattle.tevasulim_c.proofs.queries.are_in_range.Given as goal
-
-abbrev pub invariant-loop-point : goal.invariant-loop-point
-invariant-loop-point l =
-    (k : ℕ) → k < l.point-index → (d : RawPoint) → IsRawInRange (get_or l.points k d)
