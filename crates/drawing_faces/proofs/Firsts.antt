@@ -4,7 +4,6 @@ use Rattle.std.proofs.Common.{ℕ, List, length, sym, ap, inl, inr, arith}
 use Rattle.std.specs.Prelude.{slice_index, slice_set}
 use Rattle.std.proofs.lemmas.Bool.{cases_eq}
 use Rattle.std.proofs.lemmas.List.{length-set, get_or-set_same, get_or-set_other}
-use Rattle.drawing_faces.specs.Names.{AreFirsts}
 
 -- the first place of the vertex at i, among the places from some place on
 abbrev IsFirstFor : List ℕ → List ℕ → ℕ → Type 0
@@ -17,21 +16,6 @@ pub record AreFirstsFrom (place count : ℕ) (vertices firsts : List ℕ) : Type
   pub within : place ≤ length vertices
   pub each : (i : ℕ) → place ≤ i → i < length vertices → IsFirstFor vertices firsts i
 
--- before the end there is none
-pub firsts_begin : (count : ℕ) (vertices firsts : List ℕ) → length firsts ≡ count
-    → AreFirstsFrom (length vertices) count vertices firsts
-firsts_begin count vertices firsts size = record {
-  size = size;
-  within = omega arith;
-  each = λ i from within. absurd (omega (arith, from, within));
-}
-
--- at the front they are those of all
-pub firsts_end : (count place : ℕ) (vertices firsts : List ℕ) → place ≡ 0
-    → AreFirstsFrom place count vertices firsts → AreFirsts count vertices firsts
-firsts_end count place vertices firsts none are =
-    record { size = are.size; each = λ i within. are.each i (omega (arith, none)) within }
-
 module _ (count place : ℕ) (vertices firsts : List ℕ)
     (are : AreFirstsFrom (place + 1) count vertices firsts)
     (below : slice_index vertices place < length firsts) where
@@ -42,7 +26,8 @@ module _ (count place : ℕ) (vertices firsts : List ℕ)
       → IsFirstFor vertices more i
   same_vertex i from is =
       let written : slice_index more (slice_index vertices i) ≡ place =
-      ap (slice_index more) is ∙ get_or-set_same firsts (slice_index vertices place) place 0 below in
+      ap (slice_index more) is
+      ∙ get_or-set_same firsts (slice_index vertices place) place 0 below in
       (omega (arith, written, from), ap (slice_index vertices) written ∙ sym is)
 
   other_vertex : (i : ℕ) → slice_index vertices i ≢ slice_index vertices place

@@ -1,5 +1,5 @@
 -- The faces that are kept, by the layers of all faces.
-use Rattle.std.proofs.Common.{◌≡◌, ◌≢◌, ◌+◌, ◌<◌, [], ◌∷◌, ◌∙◌, ◌⊎◌}
+use Rattle.std.proofs.Common.{◌≡◌, ◌≢◌, ◌+◌, ◌<◌, [], ◌∷◌, ◌⊎◌}
 use Rattle.std.proofs.Common.{ℕ, suc, List, length, map, drop, get_or, true, false, eqb}
 use Rattle.std.proofs.Common.{refl, sym, ap, subst, inl, inr, arith, eq-eqb, if◌then◌else◌}
 use Rattle.std.specs.Prelude.{ℤ}
@@ -10,20 +10,21 @@ use Rattle.half_edge_mesh.specs.Triangles.{triangles, triangle_at}
 use Rattle.mesh_embedding.specs.Drawn.{corners_of}
 use Rattle.plane.specs.Tiling.{Face}
 use Rattle.delaunay_core.specs.declared.point.Point2.{Point2}
-use Rattle.delaunay_layers.specs.Layers.{AreLayers, IsLayer}
 use Rattle.delaunay_legalization.specs.State.{State, triangulation_of}
 use Rattle.drawing_faces.specs.declared.faces.FaceCorners.{FaceCorners}
 use Rattle.drawing_faces.specs.declared.faces.Kept.TheVariants.{All, Inside}
+use Rattle.drawing_faces.specs.Flood.{MarkOpenFaces}
 use Rattle.drawing_faces.specs.Kept.{AreKept, IsLeftOut}
+use Rattle.drawing_faces.proofs.Flooding.{told_open}
 use Rattle.drawing_faces.specs.Names.{places_of, position}
 use Rattle.drawing_faces.specs.Drawing.{face_of, faces_inside}
 
 -- where no face is left out, all are kept
-all_kept : (m : Mesh) (constraints : List ℕ) (n : ℕ) (fs : List Face)
-    → AreKept (IsLeftOut All m constraints) n fs fs
-all_kept m constraints n [] = refl
-all_kept m constraints n (f ∷ fs) =
-    inr (λ e. e, (fs, refl, all_kept m constraints (suc n) fs))
+all_kept : (m : Mesh) (constraints starts : List ℕ) (n : ℕ) (fs : List Face)
+    → AreKept (IsLeftOut All m constraints starts) n fs fs
+all_kept m constraints starts n [] = refl
+all_kept m constraints starts n (f ∷ fs) =
+    inr (λ e. e, (fs, refl, all_kept m constraints starts (suc n) fs))
 
 module _ (IsOut : ℕ → Type 0) where
   -- whether the face of index f is left out is told by its number
@@ -52,8 +53,8 @@ module _ (IsOut : ℕ → Type 0) where
           let test : eqb l 0 ≡ true = eq-eqb l 0 none in
           inl (
             here.0 none,
-            subst (λ b. AreKept IsOut (suc n) (map face_of cs)
-                (map face_of (if b then faces_inside ns cs else c ∷ faces_inside ns cs))) (sym test) rest,
+            subst (λ b. AreKept IsOut (suc n) (map face_of cs) (map face_of
+                (if b then faces_inside ns cs else c ∷ faces_inside ns cs))) (sym test) rest,
           )
       go rest (inr some) =
           let test : eqb l 0 ≡ false = ne_eqb l 0 some in
@@ -77,19 +78,19 @@ by_numbers IsOut cs (l ∷ ns) size tells =
     subst (Tells IsOut (get_or ns k 0)) (moved k) (tells (suc k) (omega (arith, h))))
 
 -- the faces inside, where numbers tell which are left out
-inside_kept : {D U F : Type 0} (s : State (Point2 ℤ) D U F) (constraints : List ℕ)
+inside_kept : {D U F : Type 0} (s : State (Point2 ℤ) D U F) (constraints starts : List ℕ)
     (cs : List FaceCorners) (layers : List ℕ)
     → map face_of cs ≡ (triangulation_of position s).faces
     → length layers ≡ length s.mesh.face_edges + 1
     → ((f : ℕ) → f < length layers
-    → Tells (IsLeftOut Inside s.mesh constraints) (get_or layers f 0) f)
-    → AreKept (IsLeftOut Inside s.mesh constraints) 1 (triangulation_of position s).faces
+    → Tells (IsLeftOut Inside s.mesh constraints starts) (get_or layers f 0) f)
+    → AreKept (IsLeftOut Inside s.mesh constraints starts) 1 (triangulation_of position s).faces
     (map face_of (faces_inside (drop 1 layers) cs))
-inside_kept s constraints cs layers all size tells =
+inside_kept s constraints starts cs layers all size tells =
     let many = ap length all in
-    subst (λ (fs : List Face). AreKept (IsLeftOut Inside s.mesh constraints) 1 fs
+    subst (λ (fs : List Face). AreKept (IsLeftOut Inside s.mesh constraints starts) 1 fs
     (map face_of (faces_inside (drop 1 layers) cs))) all
-    (by_numbers (IsLeftOut Inside s.mesh constraints) cs layers (omega (
+    (by_numbers (IsLeftOut Inside s.mesh constraints starts) cs layers (omega (
       arith,
       many,
       size,
@@ -98,33 +99,25 @@ inside_kept s constraints cs layers all size tells =
       length-map s.mesh.face_edges (triangle_at s.mesh),
     )) tells)
 
--- a face of layer 0 is reached from outside past no constraint, and no other is
-open_by_layer : (m : Mesh) (constraints : List ℕ) (f n : ℕ) → IsLayer m constraints f n
-    → Tells (IsLeftOut Inside m constraints) n f
-open_by_layer m constraints f n layer = (
-  λ none. record { way = layer.way.0; leads = layer.way.1; free = layer.way.2 ∙ none },
-  λ some o. let few = layer.least o.way o.leads in let free = o.free in
-      some (omega (arith, few, free)),
-)
-
--- the faces inside, by the layers of all
-pub layers_kept : {D U F : Type 0} (s : State (Point2 ℤ) D U F) (constraints : List ℕ)
+-- the faces inside, where the others were reached
+pub reached_kept : {D U F : Type 0} (s : State (Point2 ℤ) D U F) (constraints starts : List ℕ)
     (cs : List FaceCorners) (layers : List ℕ)
-    → map face_of cs ≡ (triangulation_of position s).faces → AreLayers s.mesh constraints layers
-    → AreKept (IsLeftOut Inside s.mesh constraints) 1 (triangulation_of position s).faces
+    → map face_of cs ≡ (triangulation_of position s).faces
+    → MarkOpenFaces s.mesh constraints starts layers
+    → AreKept (IsLeftOut Inside s.mesh constraints starts) 1 (triangulation_of position s).faces
     (map face_of (faces_inside (drop 1 layers) cs))
-layers_kept s constraints cs layers all are =
-    inside_kept s constraints cs layers all are.count
-    (λ f h. open_by_layer s.mesh constraints f (get_or layers f 0) (are.each f h))
+reached_kept s constraints starts cs layers all are =
+    inside_kept s constraints starts cs layers all are.size
+    (told_open s.mesh constraints starts layers are)
 
 -- the same, where all are kept
-pub all_of : {D U F : Type 0} (s : State (Point2 ℤ) D U F) (constraints : List ℕ)
+pub all_of : {D U F : Type 0} (s : State (Point2 ℤ) D U F) (constraints starts : List ℕ)
     (cs : List FaceCorners) → map face_of cs ≡ (triangulation_of position s).faces
-    → AreKept (IsLeftOut All s.mesh constraints) 1 (triangulation_of position s).faces
+    → AreKept (IsLeftOut All s.mesh constraints starts) 1 (triangulation_of position s).faces
     (map face_of cs)
-all_of s constraints cs all = subst (λ (fs : List Face).
-    AreKept (IsLeftOut All s.mesh constraints) 1 (triangulation_of position s).faces fs)
-    (sym all) (all_kept s.mesh constraints 1 (triangulation_of position s).faces)
+all_of s constraints starts cs all = subst (λ (fs : List Face).
+    AreKept (IsLeftOut All s.mesh constraints starts) 1 (triangulation_of position s).faces fs)
+    (sym all) (all_kept s.mesh constraints starts 1 (triangulation_of position s).faces)
 
 -- names of corners, face by face
 pub named_faces : (names : List ℕ) (cs : List FaceCorners)

@@ -3,5 +3,8 @@ pub mod Firsts
 pub mod MeshFaces
 pub mod Inside
 pub mod Taking
+pub mod Listing
+pub mod Flooding
+pub mod InFaces
 pub mod Keeping
 pub mod Together

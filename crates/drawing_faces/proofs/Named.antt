@@ -141,7 +141,8 @@ module _ {D U F : Type 0} (constraints : List U → List ℕ) (points : List (Po
     -- each vertex is that of a point
     pub has_point : (v : ℕ) → v < length new.vertices
         → (i : ℕ) × (i < length points) × (slice_get handles i ≡ Some v)
-    has_point v below = go (came_from position inserts.order (points_and_constraints_by constraints old)
+    has_point v below = go (came_from position inserts.order
+        (points_and_constraints_by constraints old)
         (points_and_constraints_by constraints new) inserts.runs v below)
       where
         p : Point

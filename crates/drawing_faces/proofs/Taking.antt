@@ -85,12 +85,15 @@ module _ {V D U F : Type 0} (position : V → Point) (constraints : List U → L
   -- the segments that were taken, and the pairs that they joined
   abbrev Takes : (ℕ → ℕ → Type 0) → List DrawnSegment → List (Outcome V) → State V D U F
       → Type 0
-  Takes IsPair ss os new = AreTaken position points IsPair (map (ends_of vertices) ss) (map is_taken os)
-      × ArePairs new (λ a b. IsPair a b ⊎ AreOnTaken position points (map (ends_of vertices) ss) (map is_taken os) a b)
+  Takes IsPair ss os new =
+      AreTaken position points IsPair (map (ends_of vertices) ss) (map is_taken os)
+      × ArePairs new (λ a b. IsPair a b
+      ⊎ AreOnTaken position points (map (ends_of vertices) ss) (map is_taken os) a b)
 
   -- one segment more, that was taken
   one_taken : (IsPair : ℕ → ℕ → Type 0) (s : DrawnSegment) (ss : List DrawnSegment) (made : Bool)
-      (os : List (Outcome V)) (new : State V D U F) → IsUncrossed position points IsPair (ends_of vertices s)
+      (os : List (Outcome V)) (new : State V D U F)
+      → IsUncrossed position points IsPair (ends_of vertices s)
       → Takes (λ a b. IsPair a b
       ⊎ AreNeighboursOn position points (ends_of vertices s).0 (ends_of vertices s).1 a b) ss os new
       → Takes IsPair (s ∷ ss) (Added made ∷ os) new
@@ -112,7 +115,8 @@ module _ {V D U F : Type 0} (position : V → Point) (constraints : List U → L
       let e = ends_of vertices s in
       one_taken IsPair s ss made os new
       (uncrossed old middle IsPair e.0 e.1 at pairs given.plain.free)
-      (taken_in_turn ss os middle new (λ a b. IsPair a b ⊎ AreNeighboursOn position points e.0 e.1 a b) rest
+      (taken_in_turn ss os middle new
+      (λ a b. IsPair a b ⊎ AreNeighboursOn position points e.0 e.1 a b) rest
       (λ k d h. decided (suc k) d (omega (arith, h)))
       (at ∙ ap (map position) (sym given.plain.vertices))
       (joined_more old middle IsPair e.0 e.1 at pairs given.plain))

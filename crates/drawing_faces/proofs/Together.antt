@@ -31,10 +31,10 @@ module _ {D U F : Type 0} (constraints : List U → List ℕ) (points : List (Po
 
   -- segments are taken where no constraint was there before
   pub taken_first : AreTaken position (map position new.vertices) (Joins []) segments taken
-  taken_first = subst (λ (vs : List (Point2 ℤ)). AreTaken position (map position vs) (Joins []) segments
-      taken) (sym adds.vertices)
-      (subst (λ (ps : List (ℕ × ℕ)). AreTaken position (map position old.vertices) (Joins ps) segments
-      taken) none adds.each)
+  taken_first = subst (λ (vs : List (Point2 ℤ)).
+      AreTaken position (map position vs) (Joins []) segments taken) (sym adds.vertices)
+      (subst (λ (ps : List (ℕ × ℕ)).
+      AreTaken position (map position old.vertices) (Joins ps) segments taken) none adds.each)
 
   none_joined : (a b : ℕ) → Joins [] a b → ⊥
   none_joined a b (inl c) = let w = c.1 in omega (arith, w)

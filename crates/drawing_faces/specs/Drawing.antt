@@ -19,6 +19,7 @@ use Rattle.drawing_faces.specs.declared.edits.DrawnSegment.{DrawnSegment}
 use Rattle.drawing_faces.specs.declared.faces.FaceCorners.{FaceCorners}
 use Rattle.drawing_faces.specs.declared.faces.Kept.{Kept}
 use Rattle.drawing_faces.specs.declared.drawn.DrawnMesh.{DrawnMesh}
+use Rattle.drawing_faces.specs.Holes.{AreIn}
 use Rattle.drawing_faces.specs.Kept.{AreKept, IsLeftOut}
 use Rattle.drawing_faces.specs.Names.{NamesVertices, places_of, position}
 use Rattle.drawing_faces.specs.Segments.{AreOnTaken, AreTaken}
@@ -63,8 +64,8 @@ IsDecided o = ⊥
 
 -- the constrained Delaunay triangulation of these points, with the constraints that the segments
 -- make which were taken; its faces that are kept, each once, by the places of their corners
-pub record IsDrawn (points : List (Point2 ℤ)) (segments : List DrawnSegment) (kept : Kept)
-    (m : DrawnMesh) : Type 0 where
+pub record IsDrawn (points : List (Point2 ℤ)) (segments : List DrawnSegment)
+    (holes : List (Point2 ℤ)) (kept : Kept) (m : DrawnMesh) : Type 0 where
   pub delaunay : IsDelaunay position constraint_edges m.site
   pub vertices : NamesVertices points (map position m.site.vertices) m.vertices.items
   pub handles : List ℕ
@@ -74,7 +75,10 @@ pub record IsDrawn (points : List (Point2 ℤ)) (segments : List DrawnSegment) (
   pub joined : (a b : ℕ) → Joins (constraints_of m.site) a b
       ↔ AreOnTaken position (map position m.site.vertices) (map (ends_of handles) segments)
       m.taken.items a b
+  pub in_holes : List ℕ
+  pub in_holes_are : AreIn m.site holes in_holes
   pub faces : List Face
-  pub faces_are : AreKept (IsLeftOut kept m.site.mesh (constraint_edges m.site.undirected)) 1
+  pub faces_are : AreKept
+      (IsLeftOut kept m.site.mesh (constraint_edges m.site.undirected) in_holes) 1
       (triangulation_of position m.site).faces faces
   pub places : m.faces.items ≡ map (places_of m.vertices.items) faces

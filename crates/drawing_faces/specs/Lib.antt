@@ -1,4 +1,6 @@
 pub mod Names
 pub mod Segments
 pub mod Kept
+pub mod Flood
+pub mod Holes
 pub mod Drawing

@@ -34,8 +34,8 @@ module _ {V : Type 0} (position : V → Point) (points : List Point) where
 -- segments became constraints, those that are taken; the vertices stay
 pub record AddsSegments {V D U F : Type 0} (position : V → Point) (constraints : List U → List ℕ)
     (segments : List (ℕ × ℕ)) (taken : List Bool) (old new : State V D U F) : Type 0 where
-  pub each : AreTaken position (map position old.vertices) (Joins (constraints_by constraints old)) segments
-      taken
+  pub each : AreTaken position (map position old.vertices)
+      (Joins (constraints_by constraints old)) segments taken
   pub joined : (a b : ℕ) → Joins (constraints_by constraints new) a b
       ↔ (Joins (constraints_by constraints old) a b
       ⊎ AreOnTaken position (map position old.vertices) segments taken a b)

@@ -8,6 +8,7 @@ ghost use Rattle.drawing_faces.specs.Drawing.{IsDrawn};
 use crate::edits::{DrawnSegment, add_segments, insert_points};
 use crate::error::DrawingError;
 use crate::faces::{Kept, kept_faces};
+use crate::holes::hole_faces;
 use crate::names::{first_places, name_corners};
 use spade_delaunay::handles::FixedVertexHandle;
 use spade_delaunay::{
@@ -75,16 +76,19 @@ fn constrained(plain: Plain) -> Result<Site, DrawingError>
 
 /// Triangulates a drawing: the constrained Delaunay triangulation of its points, with a path of
 /// constraints along each segment that no constraint before it crosses. Segments have their ends by
-/// the places of points in the list. It gives `TooLarge` where a coordinate passes 2^29, `TooMany`
+/// the places of points in the list. Where only the inside is kept, faces that a way from a point in
+/// a hole reaches are left out, too. It gives `TooLarge` where a coordinate passes 2^29, `TooMany`
 /// where there are too many points for the indexes of a mesh, `NoPoint` where a segment ends at
-/// none, and `OutOfMemory`.
+/// none, `HoleTooLarge`, `HoleOnSegment` or `HoleInNoFace` where a point in a hole is out of range,
+/// on a constraint, or on a vertex or in no triangulation, and `OutOfMemory`.
 pub fn triangulate_drawing(
     points: &[Point2<i32>],
     segments: &[DrawnSegment],
+    holes: &[Point2<i32>],
     kept: Kept,
     alloc: Global,
 ) -> Result<DrawnMesh, DrawingError>
-    ensures { IfOk result (IsDrawn points.now segments.now kept) }
+    ensures { IfOk result (IsDrawn points.now segments.now holes.now kept) }
 {
     let placed = place_points(points, alloc)?;
     let PlacedPoints {
@@ -94,7 +98,8 @@ pub fn triangulate_drawing(
     } = placed;
     let mut site = constrained(plain)?;
     let taken = add_segments(&mut site, segments, handles.as_slice(), alloc)?;
-    let corners = kept_faces(&site, kept, alloc)?;
+    let in_holes = hole_faces(&site, holes, alloc)?;
+    let corners = kept_faces(&site, kept, in_holes.as_slice(), alloc)?;
     let faces = name_corners(corners.as_slice(), vertices.as_slice(), alloc)?;
     Ok(DrawnMesh {
         site,

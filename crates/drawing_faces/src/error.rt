@@ -13,6 +13,13 @@ pub enum DrawingError {
     TooMany,
     #[error("a segment ends at no point")]
     NoPoint,
+    /// The point in a hole at this place of their list.
+    #[error("the hole's point is out of range")]
+    HoleTooLarge(usize),
+    #[error("the hole's point is on a segment")]
+    HoleOnSegment(usize),
+    #[error("the hole's point is in no face")]
+    HoleInNoFace(usize),
     #[error("memory was refused")]
     OutOfMemory,
 }

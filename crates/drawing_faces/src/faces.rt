@@ -1,12 +1,14 @@
 //! The faces of a triangulation.
-ghost use Rattle.std.specs.Prelude.{◌≡◌, ◌<◌, drop, map, IfOk};
+ghost use Rattle.std.specs.Prelude.{◌≡◌, ◌<◌, ◌≤◌, All, drop, length, map, IfOk};
 ghost use Rattle.delaunay_legalization.specs.State.{triangulation_of};
 ghost use Rattle.drawing_faces.specs.declared.faces.Kept.TheVariants.{Inside};
+ghost use Rattle.drawing_faces.specs.Flood.{MarkOpenFaces};
 ghost use Rattle.drawing_faces.specs.Kept.{AreKept, IsLeftOut};
 ghost use Rattle.drawing_faces.specs.Names.{position};
 ghost use Rattle.drawing_faces.specs.Drawing.{face_of, faces_inside, indexes_at};
 
-use spade_delaunay::handles::FaceHandle;
+use crate::flood::reach_faces;
+use spade_delaunay::handles::{FaceHandle, FixedFaceHandle};
 use spade_delaunay::{Point2, Triangulation, face_layers};
 use std::alloc::{AllocError, Global};
 
@@ -76,32 +78,53 @@ pub fn faces_inside(
     Ok(kept)
 }
 
-/// The faces that no way from outside reaches without crossing a constraint, by rising index.
+/// The layers of all faces, with 0 in place of that of a face which a way from one of some others
+/// reaches past no constraint.
+fn open_layers<T: Triangulation<Vertex = Point2<i32>>>(
+    site: &T,
+    starts: &[FixedFaceHandle],
+    alloc: Global,
+) -> Result<Vec<u32>, AllocError>
+    requires { All (λ f. f ≤ length (T.state site.now).faces) starts.now }
+    ensures { IfOk result (λ layers. MarkOpenFaces (T.state site.now).mesh
+        (T.Constraints.constraints (T.state site.now).undirected) starts.now layers.items) }
+{
+    let layers = face_layers(site, alloc)?;
+    reach_faces::<T::Constraints, _, _, _, _>(site.s(), layers, starts, alloc)
+}
+
+/// The faces that no way from outside, or from one of some faces, reaches without crossing a
+/// constraint, by rising index.
 fn closed_faces<T: Triangulation<Vertex = Point2<i32>>>(
     site: &T,
+    holes: &[FixedFaceHandle],
     alloc: Global,
 ) -> Result<Vec<FaceCorners>, AllocError>
+    requires { All (λ f. f ≤ length (T.state site.now).faces) holes.now }
     ensures { IfOk result (λ faces. AreKept (IsLeftOut Inside (T.state site.now).mesh
-        (T.Constraints.constraints (T.state site.now).undirected)) 1
+        (T.Constraints.constraints (T.state site.now).undirected) holes.now) 1
         (triangulation_of position (T.state site.now)).faces (map face_of faces.items)) }
 {
     let faces = faces_of(site, alloc)?;
-    let layers = face_layers(site, alloc)?;
+    let layers = open_layers(site, holes, alloc)?;
     faces_inside(faces.as_slice(), layers.as_slice(), alloc)
 }
 
-/// The faces that are kept, each once, by rising index.
+/// The faces that are kept, each once, by rising index. Where the inside is kept, these are left
+/// out that a way from outside, or from one of some faces, reaches.
 pub fn kept_faces<T: Triangulation<Vertex = Point2<i32>>>(
     site: &T,
     kept: Kept,
+    holes: &[FixedFaceHandle],
     alloc: Global,
 ) -> Result<Vec<FaceCorners>, AllocError>
+    requires { All (λ f. f ≤ length (T.state site.now).faces) holes.now }
     ensures { IfOk result (λ faces. AreKept (IsLeftOut kept (T.state site.now).mesh
-        (T.Constraints.constraints (T.state site.now).undirected)) 1
+        (T.Constraints.constraints (T.state site.now).undirected) holes.now) 1
         (triangulation_of position (T.state site.now)).faces (map face_of faces.items)) }
 {
     match kept {
         Kept::All => faces_of(site, alloc),
-        Kept::Inside => closed_faces(site, alloc),
+        Kept::Inside => closed_faces(site, holes, alloc),
     }
 }

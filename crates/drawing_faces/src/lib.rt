@@ -5,6 +5,8 @@ mod drawn;
 mod edits;
 mod error;
 mod faces;
+mod flood;
+mod holes;
 mod names;
 
 pub use drawn::{DrawnMesh, PlacedPoints, Plain, Site, place_points, triangulate_drawing};

@@ -1,43 +1,46 @@
-//! The faces and constraints of a drawing.
+//! The triangulation of a drawing, and what is told of it.
 use crate::command::Task;
 use crate::crossings::first_crossed;
-use crate::holes::{Site, empty_holes};
-use anyhow::anyhow;
-use delaunay_layers::face_layers;
-use drawing_faces::{DrawnMesh, DrawnSegment, Kept, triangulate_drawing};
-use mesh_files::{Drawing, Scaled};
+use crate::reading::{Scene, input_name};
+use anyhow::{anyhow, bail};
+use drawing_faces::{DrawingError, DrawnMesh, DrawnSegment, Kept, triangulate_drawing};
+use mesh_files::{Drawing, FilePlace};
 use spade_delaunay::{Point2, Triangulation};
 use std::alloc::{AllocError, Global};
 
-/// Faces and constraints, by the places of their corners and ends in the list of points.
-#[derive(Drop)]
-pub struct Built {
-    pub faces: Vec<[u32; 3]>,
-    pub walls: Vec<[u32; 2]>,
-}
-
-/// The line of a segment.
-fn line_at(drawing: &Drawing, place: usize) -> u32 {
-    match drawing.segments.get(place) {
-        Some(segment) => segment.line,
-        None => 0,
+/// Where a segment stands in its file.
+fn segment_line(scene: &Scene, place: usize) -> FilePlace {
+    match scene.drawing.segments.get(place) {
+        Some(segment) => segment.file_place(),
+        None => FilePlace::of_line(0),
     }
 }
 
-/// That a segment crosses one before it.
-fn crossing(
-    drawing: &Drawing,
-    points: &[Point2<i32>],
-    segments: &[DrawnSegment],
+/// The name of a segment's file.
+fn segment_file<'a>(task: &Task<'a>, scene: &Scene, place: usize) -> &'a str {
+    match task.lines {
+        Some(lines) if place >= scene.own_segments => lines,
+        _ => input_name(task),
+    }
+}
+
+/// That a segment crosses one before it, by their places.
+fn crossing_text(
+    task: &Task<'_>,
+    scene: &Scene,
     place: usize,
-) -> anyhow::Error {
-    let line = line_at(drawing, place);
-    match first_crossed(points, segments, place) {
-        Some(other) => {
-            let other = line_at(drawing, other);
-            anyhow!("line {line}: the segment crosses that of line {other}")
-        }
-        None => anyhow!("line {line}: the segment crosses another"),
+    crossed: Option<usize>,
+    alloc: Global,
+) -> Result<String, AllocError> {
+    let (file, line) = (segment_file(task, scene, place), segment_line(scene, place));
+    let Some(other) = crossed else {
+        return format!(in alloc; "{file}: {line}: the segment crosses another");
+    };
+    let (other_file, other) = (segment_file(task, scene, other), segment_line(scene, other));
+    if file == other_file {
+        format!(in alloc; "{file}: {line}: the segment crosses that of {other}")
+    } else {
+        format!(in alloc; "{file}: {line}: the segment crosses that of {other} of {other_file}")
     }
 }
 
@@ -54,80 +57,76 @@ fn segments_of(drawing: &Drawing, alloc: Global) -> Result<Vec<DrawnSegment>, Al
 }
 
 /// Tells which segments were left out, or that one crosses another where that is an error.
-fn tell_left_out(
-    rt: &impl Eprint,
+fn tell_crossings<T: Triangulation<Vertex = Point2<i32>>>(
+    rt: &(impl Eprint + AllocGlobal),
     task: &Task<'_>,
-    drawing: &Drawing,
-    points: &[Point2<i32>],
-    segments: &[DrawnSegment],
+    scene: &Scene,
+    site: &T,
     taken: &[bool],
 ) -> anyhow::Result<()> {
+    if task.skips_crossing && task.is_quiet {
+        return Ok(());
+    }
     for (place, is_taken) in taken.iter().enumerate() {
         if *is_taken {
             continue;
         }
+        let crossed = first_crossed(scene, site, taken, place);
+        let text = crossing_text(task, scene, place, crossed, rt.alloc())?;
         if !task.skips_crossing {
-            return Err(crossing(drawing, points, segments, place));
+            bail!("{text}");
         }
-        if !task.is_quiet {
-            let line = line_at(drawing, place);
-            eprintln!(rt; "mesh: line {line}: the segment crosses another, and is left out")?;
-        }
+        eprintln!(rt; "mesh: {text}, and is left out")?;
     }
     Ok(())
 }
 
-/// The place of a vertex in the list of points.
-fn place_of(firsts: &[u32], vertex: u32) -> u32 {
-    firsts.get(vertex as usize).copied().unwrap_or(0)
+/// The place of the point of a vertex, by the places of all.
+pub fn point_place(places: &[u32], vertex: u32) -> u32 {
+    places.get(vertex as usize).copied().unwrap_or(u32::MAX)
 }
 
-/// The edges that are constraints.
-fn walls_of(site: &Site, firsts: &[u32], alloc: Global) -> Result<Vec<[u32; 2]>, AllocError> {
-    let mut walls = Vec::with_capacity(alloc, site.num_constraints())?;
-    for edge in site.undirected_edges() {
+/// The edges that are constraints, by the places of their ends.
+pub fn walls_of(drawn: &DrawnMesh, alloc: Global) -> Result<Vec<[u32; 2]>, AllocError> {
+    let places = drawn.vertices.as_slice();
+    let mut walls = Vec::with_capacity(alloc, drawn.site.num_constraints())?;
+    for edge in drawn.site.undirected_edges() {
         if edge.data().is_constraint_edge() {
             let [a, b] = edge.vertices();
             walls.push([
-                place_of(firsts, a.fix().index()),
-                place_of(firsts, b.fix().index()),
+                point_place(places, a.fix().index()),
+                point_place(places, b.fix().index()),
             ])?;
         }
     }
     Ok(walls)
 }
 
-/// The faces but those that are reached from outside, or from a hole, past no constraint.
-fn faces_without_holes(
-    rt: &impl AllocGlobal,
-    drawing: &Drawing,
-    scaled: &Scaled,
-    site: &Site,
-    faces: &[[u32; 3]],
-) -> anyhow::Result<Vec<[u32; 3]>> {
-    let mut layers = face_layers(site, rt.alloc())?;
-    empty_holes(site, drawing, scaled, layers.as_mut_slice(), rt.alloc())?;
-    let mut kept = Vec::new(rt.alloc());
-    for (face, layer) in faces.iter().zip(layers.iter().skip(1)) {
-        if *layer != 0 {
-            kept.push(*face)?;
+/// Why a drawing was not triangulated, with the line of a point in a hole.
+fn drawing_fault(task: &Task<'_>, drawing: &Drawing, error: DrawingError) -> anyhow::Error {
+    let name = input_name(task);
+    match error {
+        DrawingError::HoleTooLarge(place)
+        | DrawingError::HoleOnSegment(place)
+        | DrawingError::HoleInNoFace(place) => {
+            let line = match drawing.holes.get(place) {
+                Some(spot) => spot.line,
+                None => 0,
+            };
+            anyhow!("{name}: line {line}: {error}")
         }
+        _ => anyhow!("{name}: {error}"),
     }
-    Ok(kept)
 }
 
 /// Tells how many there are of each.
-fn tell_counts(
-    rt: &impl Eprint,
-    points: usize,
-    vertices: usize,
-    built: &Built,
-) -> anyhow::Result<()> {
+fn tell_counts(rt: &impl Eprint, scene: &Scene, drawn: &DrawnMesh) -> anyhow::Result<()> {
+    let (points, vertices) = (scene.scaled.points.len(), drawn.vertices.len());
     if vertices < points {
         let repeated = points.saturating_sub(vertices);
         eprintln!(rt; "mesh: {repeated} points repeat others, and are in no face")?;
     }
-    let (faces, walls) = (built.faces.len(), built.walls.len());
+    let (faces, walls) = (drawn.faces.len(), drawn.site.num_constraints());
     eprintln!(rt; "mesh: {vertices} vertices, {faces} faces, {walls} constraints")?;
     Ok(())
 }
@@ -136,41 +135,22 @@ fn tell_counts(
 pub fn build(
     rt: &(impl Eprint + AllocGlobal),
     task: &Task<'_>,
-    drawing: &Drawing,
-    scaled: &Scaled,
-) -> anyhow::Result<Built> {
-    let points = scaled.points.as_slice();
-    let segments = segments_of(drawing, rt.alloc())?;
-    let has_holes = task.keeps_inside && !scaled.holes.is_empty();
-    let kept = if task.keeps_inside && !has_holes {
-        Kept::Inside
+    scene: &Scene,
+) -> anyhow::Result<DrawnMesh> {
+    let points = scene.scaled.points.as_slice();
+    let segments = segments_of(&scene.drawing, rt.alloc())?;
+    let (kept, holes) = if task.keeps_inside {
+        (Kept::Inside, scene.scaled.holes.as_slice())
     } else {
-        Kept::All
+        (Kept::All, [].as_slice())
     };
-    let drawn = triangulate_drawing(points, segments.as_slice(), kept, rt.alloc())?;
-    let DrawnMesh {
-        site,
-        vertices,
-        taken,
-        faces,
-    } = drawn;
-    tell_left_out(
-        rt,
-        task,
-        drawing,
-        points,
-        segments.as_slice(),
-        taken.as_slice(),
-    )?;
-    let faces = if has_holes {
-        faces_without_holes(rt, drawing, scaled, &site, faces.as_slice())?
-    } else {
-        faces
+    let drawn = match triangulate_drawing(points, segments.as_slice(), holes, kept, rt.alloc()) {
+        Ok(drawn) => drawn,
+        Err(error) => return Err(drawing_fault(task, &scene.drawing, error)),
     };
-    let walls = walls_of(&site, vertices.as_slice(), rt.alloc())?;
-    let built = Built { faces, walls };
+    tell_crossings(rt, task, scene, &drawn.site, drawn.taken.as_slice())?;
     if !task.is_quiet {
-        tell_counts(rt, points.len(), vertices.len(), &built)?;
+        tell_counts(rt, scene, &drawn)?;
     }
-    Ok(built)
+    Ok(drawn)
 }

@@ -12,6 +12,24 @@ pub enum Source {
     GeoJson,
 }
 
+/// The coordinates of the ends of a way, as words.
+#[derive(Clone, Copy)]
+pub struct Way<'a> {
+    pub x1: &'a str,
+    pub y1: &'a str,
+    pub x2: &'a str,
+    pub y2: &'a str,
+}
+
+/// What is asked of a triangulation, by the file of the points that are asked about, or by the ends
+/// of a way.
+#[derive(Clone, Copy)]
+pub enum Question<'a> {
+    Nearest(&'a str),
+    Locate(&'a str),
+    Line(Way<'a>),
+}
+
 /// What is asked for.
 #[derive(Drop)]
 pub struct Task<'a> {
@@ -20,6 +38,7 @@ pub struct Task<'a> {
     pub form: Form,
     pub output: Option<&'a str>,
     pub lines: Option<&'a str>,
+    pub question: Option<Question<'a>>,
     pub rounding: Rounding,
     pub skips_crossing: bool,
     pub keeps_inside: bool,
@@ -30,6 +49,8 @@ pub struct Task<'a> {
 const SOURCES: [&str; 4] = ["csv", "node", "poly", "geojson"];
 
 const FORMS: [&str; 7] = ["obj", "ply", "geojson", "svg", "ele", "node", "csv"];
+
+const ENDS: [&str; 4] = ["X1", "Y1", "X2", "Y2"];
 
 /// The options that say what is read and written.
 fn with_files<'a>(command: Command<'a>, alloc: Global) -> Result<Command<'a>, AllocError> {
@@ -59,6 +80,28 @@ fn with_files<'a>(command: Command<'a>, alloc: Global) -> Result<Command<'a>, Al
         .arg(output)?
         .arg(lines)?
         .arg(file)
+}
+
+/// The options that ask something of the triangulation.
+fn with_questions<'a>(command: Command<'a>, alloc: Global) -> Result<Command<'a>, AllocError> {
+    let nearest = Arg::new(alloc, "nearest")
+        .long("nearest")
+        .value_name("FILE")
+        .help("Tells which point is nearest to each of a table, and how far it is")
+        .conflicts_with("locate")?
+        .conflicts_with("line")?;
+    let locate = Arg::new(alloc, "locate")
+        .long("locate")
+        .value_name("FILE")
+        .help("Tells which face, edge or point each of a table is on, and its height")
+        .conflicts_with("line")?;
+    let line = Arg::new(alloc, "line")
+        .long("line")
+        .num_args(4)
+        .value_names(ENDS.as_slice())
+        .allow_negative_numbers(true)
+        .help("Tells which edges and points the way between two points meets");
+    command.arg(nearest)?.arg(locate)?.arg(line)
 }
 
 /// The options that say how.
@@ -100,7 +143,8 @@ pub fn command<'a>(alloc: Global) -> Result<Command<'a>, AllocError> {
     let command = Command::new(alloc, "mesh").version("0.1.0").about(
         "Reads points and segments, and writes their constrained Delaunay triangulation.",
     );
-    with_choices(with_files(command, alloc)?, alloc)
+    let command = with_questions(with_files(command, alloc)?, alloc)?;
+    with_choices(command, alloc)
 }
 
 /// What a file's name ends in, behind its last point.
@@ -123,6 +167,25 @@ fn source_named(name: &str) -> Source {
     }
 }
 
+/// The question that is asked, if one is.
+fn question_of<'a>(matches: &ArgMatches<'a>) -> Option<Question<'a>> {
+    if let Some(file) = matches.get_str("nearest") {
+        return Some(Question::Nearest(file));
+    }
+    if let Some(file) = matches.get_str("locate") {
+        return Some(Question::Locate(file));
+    }
+    match matches.get_strs("line") {
+        Some([x1, y1, x2, y2]) => Some(Question::Line(Way {
+            x1: *x1,
+            y1: *y1,
+            x2: *x2,
+            y2: *y2,
+        })),
+        _ => None,
+    }
+}
+
 /// What the words ask for.
 pub fn task_of<'a>(matches: &ArgMatches<'a>) -> Task<'a> {
     let file = matches.get_str("FILE");
@@ -134,6 +197,7 @@ pub fn task_of<'a>(matches: &ArgMatches<'a>) -> Task<'a> {
         form: Form::named(form).unwrap_or(Form::Obj),
         output,
         lines: matches.get_str("lines"),
+        question: question_of(matches),
         rounding: match matches.get_one::<u32>("round") {
             Some(digits) => Rounding::To(digits),
             None => Rounding::Exact,

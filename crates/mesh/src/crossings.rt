@@ -1,47 +1,94 @@
-//! Which of a list's segments is crossed by one of them.
-use drawing_faces::DrawnSegment;
-use spade_delaunay::Point2;
+//! Which segment of a drawing is in the way of another.
+use crate::areas::turned_area;
+use crate::reading::Scene;
+use exact_predicates::ExactTests;
+use spade_delaunay::{Point2, PositionInTriangulation, Triangulation, validate_vertex};
 
-/// On which side of the line through two points a third one is: the sign tells.
-fn side(a: Point2<i32>, b: Point2<i32>, c: Point2<i32>) -> i64 {
-    let (bx, by) = (
-        i64::from(b.x).wrapping_sub(i64::from(a.x)),
-        i64::from(b.y).wrapping_sub(i64::from(a.y)),
-    );
-    let (cx, cy) = (
-        i64::from(c.x).wrapping_sub(i64::from(a.x)),
-        i64::from(c.y).wrapping_sub(i64::from(a.y)),
-    );
-    bx.wrapping_mul(cy)
-        .wrapping_sub(by.wrapping_mul(cx))
-        .signum()
+/// The ends of a segment.
+#[derive(Clone, Copy)]
+struct SegmentEnds {
+    from: Point2<i32>,
+    to: Point2<i32>,
 }
 
-/// Whether the ends of each of two segments are on two sides of the other.
-fn cross(points: &[Point2<i32>], first: &DrawnSegment, second: &DrawnSegment) -> Option<bool> {
-    let (a, b) = (
-        *points.get(first.from as usize)?,
-        *points.get(first.to as usize)?,
-    );
-    let (c, d) = (
-        *points.get(second.from as usize)?,
-        *points.get(second.to as usize)?,
-    );
-    let (c_side, d_side) = (side(a, b, c), side(a, b, d));
-    let (a_side, b_side) = (side(c, d, a), side(c, d, b));
-    let (parted, parts) = (c_side != d_side, a_side != b_side);
-    Some(parted && parts && c_side != 0 && d_side != 0 && a_side != 0 && b_side != 0)
+/// The ends of a drawing's segment, by its place in the list.
+fn ends_at(scene: &Scene, place: usize) -> Option<SegmentEnds> {
+    let segment = scene.drawing.segments.get(place)?;
+    Some(SegmentEnds {
+        from: *scene.scaled.points.get(segment.from as usize)?,
+        to: *scene.scaled.points.get(segment.to as usize)?,
+    })
 }
 
-/// The place of the first segment that one of the list crosses.
-pub fn first_crossed(
-    points: &[Point2<i32>],
-    segments: &[DrawnSegment],
+/// Whether the ends of one segment are on two sides of the other's line.
+fn are_parted(ends: SegmentEnds, by: SegmentEnds) -> bool {
+    let from = turned_area(by.from, by.to, ends.from);
+    let to = turned_area(by.from, by.to, ends.to);
+    (from < 0 && 0 < to) || (to < 0 && 0 < from)
+}
+
+/// The coordinate at a part of the way from one to another, if it is whole.
+fn part_way(from: i32, to: i32, part: i64, whole: i64) -> Option<i32> {
+    let way = i128::from(to).wrapping_sub(i128::from(from));
+    let product = way.wrapping_mul(i128::from(part));
+    if product.checked_rem(i128::from(whole))? != 0 {
+        return None;
+    }
+    let moved = product.checked_div(i128::from(whole))?;
+    i32::try_from(moved.wrapping_add(i128::from(from))).ok()
+}
+
+/// Where two segments meet that cross, if the coordinates are whole.
+fn meeting_point(one: SegmentEnds, two: SegmentEnds) -> Option<Point2<i32>> {
+    let before = turned_area(two.from, two.to, one.from);
+    let behind = turned_area(two.from, two.to, one.to);
+    let whole = before.wrapping_sub(behind);
+    let x = part_way(one.from.x, one.to.x, before, whole)?;
+    let y = part_way(one.from.y, one.to.y, before, whole)?;
+    Some(Point2::new(x, y))
+}
+
+/// Whether two segments that cross meet in a point of the drawing, where both are cut.
+fn meet_in_vertex<T: Triangulation<Vertex = Point2<i32>>>(
+    site: &T,
+    one: SegmentEnds,
+    two: SegmentEnds,
+) -> bool {
+    site.recall_invariant();
+    let Some(point) = meeting_point(one, two) else {
+        return false;
+    };
+    if validate_vertex(&point).is_err() {
+        return false;
+    }
+    matches!(
+        site.locate(point, &ExactTests),
+        PositionInTriangulation::OnVertex(_)
+    )
+}
+
+/// Whether one segment is in the way of another: they cross where no point of the drawing is.
+fn is_in_way<T: Triangulation<Vertex = Point2<i32>>>(
+    site: &T,
+    one: SegmentEnds,
+    two: SegmentEnds,
+) -> bool {
+    are_parted(one, two) && are_parted(two, one) && !meet_in_vertex(site, one, two)
+}
+
+/// The place of the first segment that was taken and is in the way of a later one.
+pub fn first_crossed<T: Triangulation<Vertex = Point2<i32>>>(
+    scene: &Scene,
+    site: &T,
+    taken: &[bool],
     place: usize,
 ) -> Option<usize> {
-    let segment = segments.get(place)?;
-    for (i, other) in segments.iter().enumerate() {
-        if i < place && cross(points, segment, other) == Some(true) {
+    let ends = ends_at(scene, place)?;
+    for i in 0..place {
+        if !taken.get(i).copied().unwrap_or(false) {
+            continue;
+        }
+        if is_in_way(site, ends, ends_at(scene, i)?) {
             return Some(i);
         }
     }

@@ -1,74 +1,71 @@
-//! `mesh` reads points and segments, and writes their constrained Delaunay triangulation.
+//! `mesh` reads points and segments, and writes their constrained Delaunay triangulation, or tells
+//! what is asked of it.
 #![tactic(auto)]
 
+mod areas;
 mod building;
 mod command;
 mod crossings;
-mod holes;
+mod heights;
+mod nearest;
 mod output;
+mod places;
+mod progress;
+mod reading;
+mod way;
 
 use crate::building::build;
-use crate::command::{Source, Task, command, task_of};
+use crate::command::{Question, Task, command, task_of};
+use crate::nearest::tell_nearest;
 use crate::output::write;
-use anyhow::Context;
-use mesh_files::{
-    Drawing, Scaled, read_csv, read_geojson, read_node, read_poly, read_segments, scale,
-};
-use std::fs;
-use std::io::{BufReader, Read};
+use crate::places::tell_places;
+use crate::progress::tell_step;
+use crate::reading::{Scene, read_scene};
+use crate::way::tell_way;
+use drawing_faces::DrawnMesh;
 use std::process::ExitCode;
 
-/// Reads a drawing of the task's form.
-fn read_form<R: Read + Drop>(
-    rt: &impl AllocGlobal,
-    source: Source,
-    reader: R,
-) -> anyhow::Result<Drawing> {
-    Ok(match source {
-        Source::Csv => read_csv(reader, rt.alloc())?,
-        Source::Node => read_node(reader, rt.alloc())?,
-        Source::Poly => read_poly(reader, rt.alloc())?,
-        Source::GeoJson => read_geojson(reader, rt.alloc())?,
-    })
-}
-
-/// Reads the file of a task, or standard input.
-fn read_points(rt: &HostRuntime, task: &Task<'_>) -> anyhow::Result<Drawing> {
-    let Some(file) = task.file else {
-        let reader = BufReader::new(rt.alloc(), rt.reader())?;
-        return read_form(rt, task.source, reader).context("standard input");
-    };
-    let opened = fs::open(rt, file).context(format_args!("{file}"))?;
-    let reader = BufReader::new(rt.alloc(), opened)?;
-    read_form(rt, task.source, reader).context(format_args!("{file}"))
-}
-
-/// Reads what a task names: points, and a table of segments where it names one.
-fn read(rt: &HostRuntime, task: &Task<'_>) -> anyhow::Result<Drawing> {
-    let mut drawing = read_points(rt, task)?;
-    if let Some(lines) = task.lines {
-        let opened = fs::open(rt, lines).context(format_args!("{lines}"))?;
-        let reader = BufReader::new(rt.alloc(), opened)?;
-        read_segments(reader, &mut drawing, rt.alloc()).context(format_args!("{lines}"))?;
+/// Answers a question of the triangulation with its constraints.
+fn answer_question(
+    rt: &HostRuntime,
+    question: Question<'_>,
+    scene: &Scene,
+    drawn: &DrawnMesh,
+) -> anyhow::Result<()> {
+    let places = drawn.vertices.as_slice();
+    match question {
+        Question::Nearest(_) => Ok(()),
+        Question::Locate(_) => tell_places(rt, scene, &drawn.site, places),
+        Question::Line(_) => tell_way(rt, scene, &drawn.site, places),
     }
-    Ok(drawing)
 }
 
-/// Does what a task asks for.
-fn carry_out(rt: &HostRuntime, task: &Task<'_>) -> anyhow::Result<()> {
-    let mut drawing = read(rt, task)?;
-    if let Some(names) = drawing.left_out() {
-        if !task.is_quiet {
-            eprintln!(rt; "mesh: left out: {names}")?;
+/// Triangulates a drawing, answers the question, and writes the mesh: where there is a question,
+/// to a file alone.
+fn build_and_write(rt: &HostRuntime, task: &Task<'_>, scene: &Scene) -> anyhow::Result<()> {
+    let points = scene.scaled.points.len();
+    tell_step(rt, task, points, "triangulating")?;
+    let drawn = build(rt, task, scene)?;
+    if let Some(question) = task.question {
+        answer_question(rt, question, scene, &drawn)?;
+        if task.output.is_none() {
+            return Ok(());
         }
     }
-    let scaled = scale(&mut drawing, task.rounding, rt.alloc())?;
-    if scaled.rounded > 0 && !task.is_quiet {
-        let count = scaled.rounded;
-        eprintln!(rt; "mesh: {count} numbers were rounded")?;
+    tell_step(rt, task, points, "writing")?;
+    write(rt, task, scene, &drawn)
+}
+
+/// Does what a task asks for. Which point is nearest does not depend on the segments.
+fn carry_out(rt: &HostRuntime, task: &Task<'_>) -> anyhow::Result<()> {
+    let scene = read_scene(rt, task)?;
+    if let Some(Question::Nearest(_)) = task.question {
+        tell_nearest(rt, &scene)?;
+        if task.output.is_none() {
+            return Ok(());
+        }
     }
-    let built = build(rt, task, &drawing, &scaled)?;
-    write(rt, task, &drawing, &scaled, &built)
+    build_and_write(rt, task, &scene)
 }
 
 fn main(rt: HostRuntime) -> anyhow::Result<ExitCode> {

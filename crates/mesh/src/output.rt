@@ -1,8 +1,10 @@
 //! Where a mesh is written to.
-use crate::building::Built;
+use crate::building::walls_of;
 use crate::command::Task;
+use crate::reading::Scene;
 use anyhow::Context;
-use mesh_files::{Drawing, MeshText, Scaled};
+use drawing_faces::DrawnMesh;
+use mesh_files::MeshText;
 use std::io::{BufWriter, Write};
 use std::{fs, io};
 
@@ -24,15 +26,15 @@ fn write_to<W: Write + Drop>(
 pub fn write(
     rt: &HostRuntime,
     task: &Task<'_>,
-    drawing: &Drawing,
-    scaled: &Scaled,
-    built: &Built,
+    scene: &Scene,
+    drawn: &DrawnMesh,
 ) -> anyhow::Result<()> {
+    let walls = walls_of(drawn, rt.alloc())?;
     let text = MeshText {
-        drawing,
-        scaled,
-        faces: built.faces.as_slice(),
-        walls: built.walls.as_slice(),
+        drawing: &scene.drawing,
+        scaled: &scene.scaled,
+        faces: drawn.faces.as_slice(),
+        walls: walls.as_slice(),
         width: task.width,
     };
     let Some(path) = task.output else {

@@ -1,11 +1,18 @@
-use Rattle.std.proofs.Common.{◌∙◌, map, ap, sym, subst}
+use Rattle.std.proofs.Common.{◌≤◌, ◌∙◌, length, map, ap, sym, subst}
+use Rattle.std.specs.Prelude.{All}
 use Rattle.delaunay_bulk.specs.Bulk.{HaveHandles}
 use Rattle.delaunay_interface.specs.Constrained.{constraint_edges}
 use Rattle.drawing_faces.specs.Drawing.{ends_of, face_of}
+use Rattle.drawing_faces.specs.Holes.{AreIn}
 use Rattle.drawing_faces.specs.Names.{places_of, position}
 use Rattle.drawing_faces.proofs.Together.{handled, joined_first, named, taken_first}
 use Rattle.drawing_faces.proofs.Keeping.{named_faces}
 use Rattle.drawing_faces.proofs.drawn.triangulate_drawing.Goals as goal
+
+pub kept_faces-requires : goal.kept_faces-requires
+kept_faces-requires c =
+    subst (All (λ f. f ≤ length c.add_segments.new.site.faces)) (sym c.as_slice-2.ensures.value)
+    c.in_ok-in_holes.ensures.within
 
 pub returns : goal.returns
 returns c =
@@ -33,11 +40,14 @@ returns c =
           none adds;
       joined = joined_first constraint_edges points handles names segments taken plain old new same
           none adds;
+      in_holes = c.as_slice-2.result.now;
+      in_holes_are = subst (AreIn new c.args.holes.now) (sym c.as_slice-2.ensures.value)
+          c.in_ok-in_holes.ensures.faces;
       faces = map face_of corners;
       faces_are = c.in_ok-corners.ensures;
       places = c.in_ok-faces.ensures
-          ∙ ap (λ ns. map (λ f. places_of ns (face_of f)) c.as_slice-2.result.now)
-          c.as_slice-3.ensures.value
-          ∙ ap (map (λ f. places_of names (face_of f))) c.as_slice-2.ensures.value
+          ∙ ap (λ ns. map (λ f. places_of ns (face_of f)) c.as_slice-3.result.now)
+          c.as_slice-4.ensures.value
+          ∙ ap (map (λ f. places_of names (face_of f))) c.as_slice-3.ensures.value
           ∙ named_faces names corners;
     }

@@ -14,8 +14,9 @@ returns-in-All g c =
     let constraints = g.T.Constraints.ConstraintMarker.constraints s.undirected in
     rw c.in-All.is (IfOk-weaker c.faces_of.result
     (λ v. map face_of v.items ≡ (triangulation_of position s).faces)
-    (λ v. AreKept (IsLeftOut All s.mesh constraints) 1 (triangulation_of position s).faces
-    (map face_of v.items)) (λ v e. all_of s constraints v.items e) c.faces_of.ensures)
+    (λ v. AreKept (IsLeftOut All s.mesh constraints c.args.holes.now) 1
+    (triangulation_of position s).faces (map face_of v.items))
+    (λ v e. all_of s constraints c.args.holes.now v.items e) c.faces_of.ensures)
 
 pub returns-in-Inside : goal.returns-in-Inside
 returns-in-Inside g c = rw c.in-Inside.is c.closed_faces.ensures
