@@ -12,7 +12,7 @@ struct SegmentEnds {
 }
 
 /// The ends of a drawing's segment, by its place in the list.
-fn ends_at(scene: &Scene, place: usize) -> Option<SegmentEnds> {
+fn segment_ends(scene: &Scene, place: usize) -> Option<SegmentEnds> {
     let segment = scene.drawing.segments.get(place)?;
     Some(SegmentEnds {
         from: *scene.scaled.points.get(segment.from as usize)?,
@@ -83,12 +83,12 @@ pub fn first_crossed<T: Triangulation<Vertex = Point2<i32>>>(
     taken: &[bool],
     place: usize,
 ) -> Option<usize> {
-    let ends = ends_at(scene, place)?;
+    let ends = segment_ends(scene, place)?;
     for i in 0..place {
         if !taken.get(i).copied().unwrap_or(false) {
             continue;
         }
-        if is_in_way(site, ends, ends_at(scene, i)?) {
+        if is_in_way(site, ends, segment_ends(scene, i)?) {
             return Some(i);
         }
     }

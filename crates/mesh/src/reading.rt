@@ -65,7 +65,7 @@ fn tell_left_out(rt: &impl Eprint, task: &Task<'_>, drawing: &Drawing) -> anyhow
 
 /// Reads what a task names: points, and a table of segments where it names one. It gives the
 /// drawing, and how many segments it has without that table.
-fn read_drawing(rt: &HostRuntime, task: &Task<'_>) -> anyhow::Result<(Drawing, usize)> {
+fn open_drawing(rt: &HostRuntime, task: &Task<'_>) -> anyhow::Result<(Drawing, usize)> {
     let mut drawing = read_input(rt, task)?;
     let own_segments = drawing.segments.len();
     if let Some(lines) = task.lines {
@@ -214,7 +214,7 @@ fn add_way(
 
 /// Reads what a task names, and scales it.
 pub fn read_scene(rt: &HostRuntime, task: &Task<'_>) -> anyhow::Result<Scene> {
-    let (drawing, own_segments) = read_drawing(rt, task)?;
+    let (drawing, own_segments) = open_drawing(rt, task)?;
     let mut scene = scale_drawing(rt, task, drawing, own_segments)?;
     match task.question {
         Some(Question::Nearest(file) | Question::Locate(file)) => {
