@@ -1,0 +1,236 @@
+-- What queries of a triangulation that C keeps answer.
+use Rattle.std.specs.Prelude.{◌≡◌, ◌⊎◌, ◌-◌, ◌/◌, ◌<◌, ◌<ℤ◌, ◌≤ℤ◌, ◌==◌, if◌then◌else◌}
+use Rattle.std.specs.Prelude.{ℕ, ℤ, pos, List, length, map, Some, slice_get, IsSomeAnd}
+use Rattle.std.specs.List.{AllZip}
+use Rattle.half_edge_mesh.specs.Mesh.{Mesh}
+use Rattle.plane.specs.Fraction.{Point, Fraction, whole}
+use Rattle.plane.specs.Line.{Item, at_vertex, across, along, IsLineList}
+use Rattle.plane.specs.Pairs.{Joins}
+use Rattle.plane.specs.Shape.{IsNearest, InClosedCircle, InClosedRectangle}
+use Rattle.plane.specs.Tiling.{Face, Triangulation, HasFace, face}
+use Rattle.delaunay_legalization.specs.State.{State, triangulation_of}
+use Rattle.delaunay_shapes.specs.InShape.{AreEdgesInShape, AreVerticesInShape}
+use Rattle.spade_delaunay.specs.Elements.{FindsLocation}
+use Rattle.delaunay_location.specs.declared.position_in_triangulation.PositionInTriangulation.{PositionInTriangulation}
+use Rattle.delaunay_location.specs.declared.position_in_triangulation.PositionInTriangulation.TheVariants.{
+  OnVertex,
+  OnEdge,
+  OnFace,
+  OutsideOfConvexHull,
+  NoTriangulation,
+}
+use Rattle.c_calls.specs.declared.raw.NumberedPoint.{NumberedPoint}
+use Rattle.c_calls.specs.declared.raw.RawEdge.{RawEdge}
+use Rattle.c_calls.specs.declared.raw.RawFace.{RawFace}
+use Rattle.c_calls.specs.declared.raw.RawMeeting.{RawMeeting}
+use Rattle.c_calls.specs.declared.raw.RawPlace.{RawPlace}
+use Rattle.c_calls.specs.declared.raw.RawPoint.{RawPoint}
+use Rattle.c_calls.specs.declared.kept.KeptPoints.{KeptPoints}
+use Rattle.c_calls.specs.declared.kept.KeptPoints.TheVariants.{Plain, Constrained}
+use Rattle.c_calls.specs.declared.queries.TheConstants.{ON_VERTEX, ON_EDGE, IN_FACE, OUTSIDE}
+use Rattle.c_calls.specs.declared.queries.TheConstants.{NOWHERE}
+use Rattle.c_calls.specs.declared.lines.TheConstants.{AT_VERTEX, ACROSS_EDGE, ALONG_EDGE}
+use Rattle.c_calls.specs.declared.shapes.RawCircle.{RawCircle}
+use Rattle.c_calls.specs.declared.shapes.RawRectangle.{RawRectangle}
+use Rattle.c_calls.specs.declared.statuses.TheConstants.{IS_CONSTRAINED, NEGATIVE, NONE}
+use Rattle.c_calls.specs.declared.statuses.TheConstants.{OUT_OF_MEMORY, TOO_LARGE}
+use Rattle.c_calls.specs.Kept.{kept_place}
+use Rattle.c_calls.specs.Written.{Answering, Finding, IsRawInRange, Listing, Tells}
+use Rattle.c_calls.specs.Written.{plain_point}
+
+-- ---- all vertices
+-- a position, for C
+abbrev pub raw_position : NumberedPoint → RawPoint
+raw_position v = record { x = v.position.x; y = v.position.y }
+
+-- a vertex's number
+abbrev pub number_of : NumberedPoint → ℕ
+number_of v = v.number
+
+-- an element of a list is at this place
+abbrev pub IsElementAt : {A : Type 0} → List A → ℕ → A → Type 0
+IsElementAt xs k a = slice_get xs k ≡ Some a
+
+-- the position of each vertex is listed
+abbrev pub ListsPositions : List NumberedPoint → ℕ → ℕ → List RawPoint → List RawPoint → Type 0
+ListsPositions vs status told old new =
+    Listing (IsElementAt (map raw_position vs)) (length vs) status told old new
+
+-- the number of each vertex is listed
+abbrev pub ListsNumbers : List NumberedPoint → ℕ → ℕ → List ℕ → List ℕ → Type 0
+ListsNumbers vs status told old new =
+    Listing (IsElementAt (map number_of vs)) (length vs) status told old new
+
+-- ---- where a point is
+-- the index that C has of a face, which counts the inner ones alone
+abbrev pub face_number : ℕ → ℕ
+face_number f = if f == 0 then NONE else (f - 1)
+
+-- a place, for C
+abbrev pub raw_place : PositionInTriangulation → RawPlace
+raw_place (OnVertex v) = record { kind = ON_VERTEX; index = v }
+raw_place (OnEdge e) = record { kind = ON_EDGE; index = e / 2 }
+raw_place (OnFace f) = record { kind = IN_FACE; index = face_number f }
+raw_place (OutsideOfConvexHull e) = record { kind = OUTSIDE; index = e / 2 }
+raw_place NoTriangulation = record { kind = NOWHERE; index = NONE }
+
+-- what C is told of where a point is: the library's answer
+pub record IsPlaceIn {V D U F : Type 0} (place : V → Point) (s : State V D U F) (query : RawPoint)
+    (told : RawPlace) : Type 0 where
+  pub answer : PositionInTriangulation
+  pub finds : FindsLocation place s (plain_point query) answer
+  pub named : told ≡ raw_place answer
+
+-- the same of a triangulation that C keeps
+abbrev pub IsKeptPlace : KeptPoints → RawPoint → RawPlace → Type 0
+IsKeptPlace (Plain t) query told = IsPlaceIn kept_place t query told
+IsKeptPlace (Constrained t) query told = IsPlaceIn kept_place t query told
+
+-- ---- which vertex is nearest
+-- a vertex that none is strictly nearer than, or that there is none
+abbrev pub IsNearestAnswer : {V D U F : Type 0} → (V → Point) → State V D U F → RawPoint → ℕ
+    → Type 0
+IsNearestAnswer place s query vertex = ((vertex ≡ NONE) × (length s.vertices ≡ 0))
+    ⊎ IsNearest (triangulation_of place s) (whole (plain_point query)) vertex
+
+-- each query gets one, of a plain triangulation. A constrained one refuses it
+abbrev pub FindsKeptNearest : KeptPoints → List RawPoint → ℕ → List ℕ → List ℕ → Type 0
+FindsKeptNearest (Plain t) queries status old new =
+    Answering queries (IsNearestAnswer kept_place t) status old new
+FindsKeptNearest (Constrained t) queries status old new =
+    (status ≡ IS_CONSTRAINED) × (new ≡ old)
+
+-- ---- edges and faces, of what a triangulation draws and the pairs that constraints join
+-- a mark: 1 where a constraint joins the two vertices, and else 0
+abbrev pub IsMark : List (ℕ × ℕ) → ℕ → ℕ → ℕ → Type 0
+IsMark constraints i j mark =
+    ((mark ≡ 1) × Joins constraints i j) ⊎ ((mark ≡ 0) × ¬ Joins constraints i j)
+
+-- the edge at a place: its ends, and its mark
+pub record IsEdgeAt (t : Triangulation) (constraints : List (ℕ × ℕ)) (k : ℕ)
+    (e : RawEdge) : Type 0 where
+  pub ends : IsElementAt t.edges k (e.from, e.to)
+  pub marked : IsMark constraints e.from e.to e.constrained
+
+-- each edge is listed
+abbrev pub ListsEdges : Triangulation → List (ℕ × ℕ) → ℕ → ℕ → List RawEdge → List RawEdge
+    → Type 0
+ListsEdges t constraints status told old new =
+    Listing (IsEdgeAt t constraints) (length t.edges) status told old new
+
+-- the way from i to j is round the face
+abbrev pub HasWayRound : Face → ℕ → ℕ → Type 0
+HasWayRound f i j = ((f.a ≡ i) × (f.b ≡ j))
+    ⊎ (((f.b ≡ i) × (f.c ≡ j)) ⊎ ((f.c ≡ i) × (f.a ≡ j)))
+
+-- the index of the face with the way from j to i, which is that beyond the way from i to j, or that
+-- there is none
+abbrev pub IsBeyond : Triangulation → ℕ → ℕ → ℕ → Type 0
+IsBeyond t i j n = ((n ≡ NONE) × ¬ HasFace t j i)
+    ⊎ IsSomeAnd (slice_get t.faces n) (λ f. HasWayRound f j i)
+
+-- the side of a face from i to j: the face beyond it, and its mark
+pub record IsSide (t : Triangulation) (constraints : List (ℕ × ℕ)) (i j beyond mark : ℕ) : Type 0
+  where
+    pub neighbor : IsBeyond t i j beyond
+    pub marked : IsMark constraints i j mark
+
+-- the face at a place: its corners, and the side opposite each
+pub record IsFaceAt (t : Triangulation) (constraints : List (ℕ × ℕ)) (k : ℕ)
+    (f : RawFace) : Type 0 where
+  pub corners : IsElementAt t.faces k (face f.corner_0 f.corner_1 f.corner_2)
+  pub side_0 : IsSide t constraints f.corner_1 f.corner_2 f.neighbor_0 f.constrained_0
+  pub side_1 : IsSide t constraints f.corner_2 f.corner_0 f.neighbor_1 f.constrained_1
+  pub side_2 : IsSide t constraints f.corner_0 f.corner_1 f.neighbor_2 f.constrained_2
+
+-- each face is listed
+abbrev pub ListsFaces : Triangulation → List (ℕ × ℕ) → ℕ → ℕ → List RawFace → List RawFace
+    → Type 0
+ListsFaces t constraints status told old new =
+    Listing (IsFaceAt t constraints) (length t.faces) status told old new
+
+-- ---- what is in a shape
+-- a circle may be asked about
+abbrev pub MayAskCircle : RawCircle → Type 0
+MayAskCircle c = IsRawInRange c.center × (pos 0 ≤ℤ c.radius_2)
+
+-- a status why it may not, or that memory was refused
+abbrev pub RefusesCircle : RawCircle → ℕ → Type 0
+RefusesCircle c status = ((status ≡ TOO_LARGE) × ¬ IsRawInRange c.center)
+    ⊎ (((status ≡ NEGATIVE) × (c.radius_2 <ℤ pos 0)) ⊎ (status ≡ OUT_OF_MEMORY))
+
+-- the closed circle
+abbrev pub circle_of : RawCircle → Fraction → Type 0
+circle_of c = InClosedCircle (plain_point c.center) c.radius_2
+
+-- a rectangle may be asked about
+abbrev pub MayAskRectangle : RawRectangle → Type 0
+MayAskRectangle r = IsRawInRange r.lower × IsRawInRange r.upper
+
+-- a status why it may not, or that memory was refused
+abbrev pub RefusesRectangle : RawRectangle → ℕ → Type 0
+RefusesRectangle r status = ((status ≡ TOO_LARGE) × ¬ MayAskRectangle r)
+    ⊎ (status ≡ OUT_OF_MEMORY)
+
+-- the closed rectangle
+abbrev pub rectangle_of : RawRectangle → Fraction → Type 0
+rectangle_of r = InClosedRectangle (plain_point r.lower) (plain_point r.upper)
+
+-- queries for what is in one of them, of what a triangulation draws and its links
+abbrev pub FindsVerticesInCircle : Triangulation → RawCircle → ℕ → ℕ → ℕ → List ℕ → List ℕ → Type 0
+FindsVerticesInCircle t c status was told old new =
+    Finding (MayAskCircle c) (AreVerticesInShape (circle_of c) t.points) (RefusesCircle c)
+    status was told old new
+
+abbrev pub FindsVerticesInRectangle : Triangulation → RawRectangle → ℕ → ℕ → ℕ → List ℕ → List ℕ
+    → Type 0
+FindsVerticesInRectangle t r status was told old new =
+    Finding (MayAskRectangle r) (AreVerticesInShape (rectangle_of r) t.points)
+    (RefusesRectangle r) status was told old new
+
+abbrev pub FindsEdgesInCircle : Triangulation → Mesh → RawCircle → ℕ → ℕ → ℕ → List ℕ → List ℕ
+    → Type 0
+FindsEdgesInCircle t m c status was told old new =
+    Finding (MayAskCircle c) (AreEdgesInShape (circle_of c) t.points m) (RefusesCircle c)
+    status was told old new
+
+abbrev pub FindsEdgesInRectangle : Triangulation → Mesh → RawRectangle → ℕ → ℕ → ℕ → List ℕ
+    → List ℕ → Type 0
+FindsEdgesInRectangle t m r status was told old new =
+    Finding (MayAskRectangle r) (AreEdgesInShape (rectangle_of r) t.points m)
+    (RefusesRectangle r) status was told old new
+
+-- ---- what a line meets
+-- what C is told of an item, where these pairs are constraints
+abbrev pub IsMeeting : List (ℕ × ℕ) → Item → RawMeeting → Type 0
+IsMeeting constraints (at_vertex i) m =
+    m ≡ record { kind = AT_VERTEX; from = i; to = i; constrained = 0 }
+IsMeeting constraints (across i j) m = (m.kind ≡ ACROSS_EDGE) × (m.from ≡ i) × (m.to ≡ j)
+    × IsMark constraints i j m.constrained
+IsMeeting constraints (along i j) m = (m.kind ≡ ALONG_EDGE) × (m.from ≡ i) × (m.to ≡ j)
+    × IsMark constraints i j m.constrained
+
+-- a call tells of these items, in their order
+abbrev pub TellsItems : List (ℕ × ℕ) → List Item → ℕ → ℕ → List RawMeeting → List RawMeeting
+    → Type 0
+TellsItems constraints items status told old new =
+    (meetings : List RawMeeting) × AllZip (IsMeeting constraints) items meetings
+    × Tells meetings status told old new
+
+-- a segment may be asked about
+abbrev pub MayAskLine : RawPoint → RawPoint → Type 0
+MayAskLine from to = IsRawInRange from × IsRawInRange to
+
+-- what C is told of what a segment meets: the line list
+abbrev pub AreMeetings : Triangulation → List (ℕ × ℕ) → RawPoint → RawPoint → List RawMeeting
+    → Type 0
+AreMeetings t constraints from to meetings =
+    (items : List Item) × IsLineList t (whole (plain_point from)) (whole (plain_point to)) items
+    × AllZip (IsMeeting constraints) items meetings
+
+-- a query for what a segment meets
+abbrev pub FindsLine : Triangulation → List (ℕ × ℕ) → RawPoint → RawPoint → ℕ → ℕ → ℕ
+    → List RawMeeting → List RawMeeting → Type 0
+FindsLine t constraints from to status was told old new =
+    Finding (MayAskLine from to) (AreMeetings t constraints from to)
+    (λ reason. (reason ≡ TOO_LARGE) × ¬ MayAskLine from to) status was told old new

@@ -1,0 +1,134 @@
+//! What a segment meets.
+ghost use Rattle.std.specs.Prelude.{◌≡◌, ◌↔◌, List, IsTrue};
+ghost use Rattle.plane.specs.Line.{Item};
+ghost use Rattle.delaunay_legalization.specs.Constraints.{constraints_by};
+ghost use Rattle.delaunay_legalization.specs.Shape.{IsTriangulated};
+ghost use Rattle.delaunay_legalization.specs.State.{state_of, triangulation_of};
+ghost use Rattle.delaunay_lines.specs.Walk.{AreLeft, IsReady};
+ghost use Rattle.c_calls.specs.Kept.{kept_drawing, kept_place, kept_state};
+ghost use Rattle.c_calls.specs.Links.{IsMetEdge, IsRawMeeting};
+ghost use Rattle.c_calls.specs.Queries.{FindsLine, MayAskLine, TellsItems};
+
+use crate::kept::KeptPoints;
+use crate::lists::raw_edge;
+use crate::queries::{is_in_range, point_of};
+use crate::raw::{NumberedPoint, RawMeeting, RawPoint};
+use crate::statuses::TOO_LARGE;
+use crate::told::{put, status_by_room};
+use exact_predicates::ExactTests;
+use spade_delaunay::handles::DirectedEdgeHandle;
+use spade_delaunay::{
+    ConstraintMarker, HasPosition, Intersection, LineIntersectionIterator, PlaneTests,
+    Triangulation,
+};
+
+pub const AT_VERTEX: u32 = 0;
+
+pub const ACROSS_EDGE: u32 = 1;
+
+pub const ALONG_EDGE: u32 = 2;
+
+// An edge that a line meets, for C.
+fn met_edge<M: ConstraintMarker<UE>, V, DE, UE, F>(
+    edge: DirectedEdgeHandle<'_, V, DE, UE, F>,
+    kind: u32,
+) -> RawMeeting
+    ensures { IsMetEdge M.constraints (state_of edge.entry.dcel.now) edge.entry.index kind result }
+{
+    let met = raw_edge::<M, _, _, _, _>(edge);
+    RawMeeting {
+        kind,
+        from: met.from,
+        to: met.to,
+        constrained: met.constrained,
+    }
+}
+
+// What a line meets, for C.
+fn raw_meeting<M: ConstraintMarker<UE>, V, DE, UE, F>(
+    item: Intersection<'_, V, DE, UE, F>,
+) -> RawMeeting
+    ensures { IsRawMeeting M.constraints item.entry result }
+{
+    match item {
+        Intersection::VertexIntersection(vertex) => {
+            let index = vertex.fix().index();
+            RawMeeting {
+                kind: AT_VERTEX,
+                from: index,
+                to: index,
+                constrained: 0,
+            }
+        }
+        Intersection::EdgeIntersection(edge) => met_edge::<M, _, _, _, _>(edge, ACROSS_EDGE),
+        Intersection::EdgeOverlap(edge) => met_edge::<M, _, _, _, _>(edge, ALONG_EDGE),
+    }
+}
+
+// Writes what a line meets, as far as there is room, and how much that is.
+fn write_meetings<M: ConstraintMarker<UE>, V: HasPosition, DE, UE, F, P: PlaneTests<V::Scalar>>(
+    mut line: LineIntersectionIterator<'_, V, DE, UE, F, P>,
+    meetings: &mut [RawMeeting],
+    length: &mut usize,
+) -> u32
+    requires kept { IsTriangulated V.place (state_of line.dcel.now) }
+    requires ready { IsReady V.place V.Scalar.whole P.sites P.covered line }
+    ensures { (items : List Item) → AreLeft V.place V.Scalar.whole line.entry items
+        → TellsItems (constraints_by M.constraints (state_of line.entry.dcel.now)) items result
+        length.new meetings.old meetings.new }
+{
+    let mut count = 0usize;
+    while let Some(item) = line.next() {
+        put(meetings, count, raw_meeting::<M, _, _, _, _>(item));
+        count += 1;
+    }
+    *length = count;
+    status_by_room(meetings.len(), count)
+}
+
+// Whether a segment may be asked about.
+fn may_ask_line(from: &RawPoint, to: &RawPoint) -> bool
+    ensures { IsTrue result ↔ MayAskLine from.now to.now }
+{
+    is_in_range(from) && is_in_range(to)
+}
+
+// Writes what a segment meets, as far as there is room, and how much that is.
+fn write_met<T: Triangulation<Vertex = NumberedPoint>>(
+    points: &T,
+    from: &RawPoint,
+    to: &RawPoint,
+    meetings: &mut [RawMeeting],
+    length: &mut usize,
+) -> u32
+    ensures { FindsLine (triangulation_of kept_place (T.state points.now))
+        (constraints_by T.Constraints.constraints (T.state points.now)) from.now to.now result
+        length.old length.new meetings.old meetings.new }
+{
+    if !may_ask_line(from, to) {
+        return TOO_LARGE;
+    }
+    points.recall_invariant();
+    let (start, end) = (point_of(from), point_of(to));
+    let line = LineIntersectionIterator::new(points, start, end, &ExactTests);
+    write_meetings::<T::Constraints, _, _, _, _, _>(line, meetings, length)
+}
+
+impl KeptPoints {
+    /// Writes what a segment meets, as far as there is room, and how much that is.
+    pub fn write_met(
+        &self,
+        from: &RawPoint,
+        to: &RawPoint,
+        meetings: &mut [RawMeeting],
+        length: &mut usize,
+    ) -> u32
+        ensures { FindsLine (kept_drawing self.now) (kept_state self.now).constraints from.now
+            to.now result length.old length.new meetings.old meetings.new }
+    {
+        match self {
+            KeptPoints::Plain(points) => write_met(points, from, to, meetings, length),
+            KeptPoints::Constrained(points) => write_met(points, from, to, meetings, length),
+        }
+    }
+}

@@ -1,0 +1,17 @@
+pub mod Values
+pub mod Handles
+pub mod Corners
+pub mod Inserted
+pub mod Edited
+pub mod Writing
+pub mod Telling
+pub mod Marks
+pub mod Sides
+pub mod Found
+pub mod Walked
+pub mod Released
+pub mod Listed
+pub mod Numbers
+pub mod Chains
+pub mod Drawings
+pub mod Texts

@@ -1,0 +1,11 @@
+pub mod Keeps
+pub mod Kept
+pub mod Answers
+pub mod Edits
+pub mod Written
+pub mod Queries
+pub mod Links
+pub mod Lists
+pub mod Whole
+pub mod Words
+pub mod Calls
