@@ -74,7 +74,8 @@ module _ {V D U F : Type 0} (place : V → Point) (d : Contents V D (CdtEdge U) 
       refl
 
   -- one that is a constraint is the whole path
-  pub one_joined : Contains (constraint_edges d.undirected) (h / 2) → AreJoinedAlong points pairs i j
+  pub one_joined : Contains (constraint_edges d.undirected) (h / 2)
+      → AreJoinedAlong points pairs i j
   one_joined there a b next = same_joined pairs a b i j
       ((one_piece place (state_of d) kept h within a b).0 next) (joins_if.0 there)
 
@@ -89,16 +90,17 @@ module _ {V D U F : Type 0} (place : V → Point) (d : Contents V D (CdtEdge U) 
   module _ (free : ¬ Contains (constraint_edges d.undirected) (h / 2)) where
     -- of one that is none, one piece is missing
     pub one_missing : HasPairs (IsMissing points pairs i j) 1
-    one_missing = has_pairs_as (one_more (no_pairs {J = λ _ _. ⊥} (λ a b n. n)) i j (λ n. n)) (λ a b. (
-      (λ x. elim x [
-        | inl none ↦ absurd none
-        | inr same ↦ (
-          (one_piece place (state_of d) kept h within a b).1 same,
-          (λ joined. free (joins_if.1 (joined_back a b same joined))),
-        )
-      ]),
-      (λ m. inr ((one_piece place (state_of d) kept h within a b).0 m.0)),
-    ))
+    one_missing = has_pairs_as
+        (one_more (no_pairs {J = λ _ _. ⊥} (λ a b n. n)) i j (λ n. n)) (λ a b. (
+          (λ x. elim x [
+            | inl none ↦ absurd none
+            | inr same ↦ (
+              (one_piece place (state_of d) kept h within a b).1 same,
+              (λ joined. free (joins_if.1 (joined_back a b same joined))),
+            )
+          ]),
+          (λ m. inr ((one_piece place (state_of d) kept h within a b).0 m.0)),
+        ))
       where
         joined_back : (a b : ℕ) → IsSamePair a b i j → Joins pairs a b → Joins pairs i j
         joined_back a b (inl s) x = same_joined pairs i j a b (inl (sym s.0, sym s.1)) x

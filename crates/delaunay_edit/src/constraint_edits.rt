@@ -39,8 +39,8 @@ impl<V: HasPosition, DE, UE, F> ConstrainedMesh<V, DE, UE, F> {
         can_add_path::<EdgeConstraints, _, _, _, _, _>(&self.dcel, from, to, tests)
     }
 
-    // Makes an edge a constraint, unless it is one, and tells whether it was none. No edge is turned
-    // for it, so it takes no memory.
+    // Makes an edge a constraint, unless it is one, and tells whether it was none. No edge is
+    // turned for it, so it takes no memory.
     fn constrain(&mut self, edge: FixedDirectedEdgeHandle) -> bool
         requires { edge < length self.old.directed }
         ensures plain { let m = self.old.mesh in Adds V.place (constrained self.old)

@@ -83,7 +83,8 @@ pub(crate) fn settle<M: ConstraintMarker<UE>, V: HasPosition, DE, UE, F, P: Plan
     requires sites { All (P.sites tests.now) (map V.place dcel.old.vertices) }
     requires room { 3 * length dcel.old.vertices ≤ vec_capacity work.old }
     requires room_among { 3 * length dcel.old.vertices ≤ vec_capacity lists.old.sides }
-    requires room_crossing { IfSome halves (λ _. HaveRoom (3 * length dcel.old.vertices) crossing.old) }
+    requires room_crossing { IfSome halves
+        (λ _. HaveRoom (3 * length dcel.old.vertices) crossing.old) }
     requires fits { FlipsFit (length dcel.old.vertices) flips.old }
 
     ensures { Settles V.place M.marks M.marked M.constraints dcel.old dcel.new vertex halves

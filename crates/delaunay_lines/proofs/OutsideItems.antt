@@ -269,7 +269,8 @@ module _ {V D U F : Type 0} (at : V → Point) (IsSite IsCovered : Point → Typ
           → IsNoBetter points p q r w
       no_better_there r x w h = subst (IsNoBetter points p q r) h.3 (x.outer h.0 h.1 h.2)
 
-      no_better_on_line : JoinsLine t → ArePlacedOnce t → (r : Option ℕ) → IsNearestOf points m p q r
+      no_better_on_line : JoinsLine t → ArePlacedOnce t → (r : Option ℕ)
+          → IsNearestOf points m p q r
           → (w : ℕ) → IsVertex t w → IsNoBetter points p q r w
       no_better_on_line line one r x w hw = elim (cases_eq w 0) [
         | inl e ↦ subst (IsNoBetter points p q r) (sym e) (x.first (omega (arith, hw)))

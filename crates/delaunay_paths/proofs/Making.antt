@@ -159,7 +159,8 @@ module _ {V D U F : Type 0} (at : V → Point) (c : Contents V D U F) (mesh : Is
 
         -- so it is with the edges round it and itself in the list
         pub turns_away : (was left : List ℕ) → AreEdges c.mesh left
-            → GainsRound c.mesh (2 * k) was left → Contains left ((2 * k) / 2) → TurnsTowards points c new i j was left
+            → GainsRound c.mesh (2 * k) was left → Contains left ((2 * k) / 2)
+            → TurnsTowards points c new i j was left
         turns_away was left edges round own = turns_leaving was left edges
             (λ constraints. flip_leaves c.mesh mesh.valid (2 * k) (can_turn k is).0 new.mesh moves
             was left round own points i j (turn_keeps k is new.mesh turned)

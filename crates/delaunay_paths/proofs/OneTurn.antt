@@ -12,7 +12,7 @@ use Rattle.mesh_embedding.specs.Legal.{AreEdges, GainsRound}
 use Rattle.delaunay_paths.specs.declared.crossing.CrossingLists.{CrossingLists}
 use Rattle.delaunay_paths.specs.Crossing.{CrossesFromRight, GoesFromRight, ahead, behind}
 use Rattle.delaunay_paths.specs.Leaving.{TurnsTowards}
-use Rattle.delaunay_paths.specs.Lists.{IsEntry, IsToTurn, KeepEntries, KeepRoom, ListCrossing}
+use Rattle.delaunay_paths.specs.Lists.{HasEntry, IsToTurn, KeepEntries, KeepRoom, ListCrossing}
 use Rattle.delaunay_paths.proofs.Making.{can_turn, others_and_made, others_left, turns_across}
 use Rattle.delaunay_paths.proofs.Making.{turns_away}
 use Rattle.delaunay_paths.proofs.MovedEdges.{crossing_on, held_with_room, others_wait}
@@ -52,7 +52,7 @@ module _ {V D U F : Type 0} (at : V → Point) (c : Contents V D U F) (mesh : Is
       pub turned_across : IsMeshWithData new → (ks : List ℕ) → AreEdges c.mesh ks
           → TurnsTowards points c new i j ks ks
       turned_across whole ks edges = turns_across at c mesh i j turning.free turning.shape e
-          turn_within from_right turning.nearer k is new contents turned change outer (IsEntry l)
+          turn_within from_right turning.nearer k is new contents turned change outer (HasEntry l)
           turning.others.others f way whole.valid ks edges
 
       -- and it waits
@@ -64,14 +64,15 @@ module _ {V D U F : Type 0} (at : V → Point) (c : Contents V D U F) (mesh : Is
             once = turning.others.once;
             room = turning.others.room;
             others = others_and_made at c mesh i j turning.free turning.shape e turn_within
-                from_right turning.nearer k is new contents turned change outer (IsEntry l)
+                from_right turning.nearer k is new contents turned change outer (HasEntry l)
                 turning.others.others f way;
           })
 
     -- ---- where it does not
     -- the edges round it are left to test
     pub turned_away : (was left : List ℕ) → AreEdges c.mesh left
-        → GainsRound c.mesh (2 * k) was left → Contains left ((2 * k) / 2) → TurnsTowards points c new i j was left
+        → GainsRound c.mesh (2 * k) was left → Contains left ((2 * k) / 2)
+        → TurnsTowards points c new i j was left
     turned_away was left edges round own = turns_away at c mesh i j turning.free turning.shape e
         turn_within from_right turning.nearer k is new contents turned change outer was left edges
         round own
@@ -83,6 +84,6 @@ module _ {V D U F : Type 0} (at : V → Point) (c : Contents V D U F) (mesh : Is
     others_cross clear after same = crossing_on points new.mesh i j l after (record {
       held = held_with_room points c.mesh i j e l turning.others;
       all = others_left at c mesh i j turning.free turning.shape e turn_within from_right
-          turning.nearer k is new contents turned change outer (IsEntry l) turning.others.others
+          turning.nearer k is new contents turned change outer (HasEntry l) turning.others.others
           clear.0 clear.1;
     }) same

@@ -122,7 +122,8 @@ module _ (points : List Point) (m : Mesh) (s : IsValidMesh m) (i j : ℕ) where
 
   -- ---- an edge that crosses
   module _ (local : LocalMesh points (faces_of m) (outer_of m)) (free : IsFreeOfVertices t i j)
-      (e : ℕ) (within : e < length m.half_edges) (from_right : CrossesFromRight points m i j e) where
+      (e : ℕ) (within : e < length m.half_edges)
+      (from_right : CrossesFromRight points m i j e) where
     tiled : TilesHull t
     tiled = mesh_tiles points (faces_of m) (outer_of m) (edges_of m) local (own_edges m s)
 
@@ -263,8 +264,9 @@ module _ (points : List Point) (m : Mesh) (s : IsValidMesh m) (i j : ℕ) where
 
       by_twin : (new : Mesh) → FlipsTriangles m new (rev e) → Change new
       by_twin new change = from_other_side (faces_of m) (faces_of new) v x y z
-          (subst (λ (k : ℕ × ℕ × ℕ × ℕ). FacesChange (faces_of m) (faces_of new) (corners k.0 k.1 k.2
-          ∷ corners k.0 k.2 k.3 ∷ []) (corners k.0 k.1 k.3 ∷ corners k.1 k.2 k.3 ∷ []))
+          (subst (λ (k : ℕ × ℕ × ℕ × ℕ). FacesChange (faces_of m) (faces_of new)
+          (corners k.0 k.1 k.2 ∷ corners k.0 k.2 k.3 ∷ [])
+          (corners k.0 k.1 k.3 ∷ corners k.1 k.2 k.3 ∷ []))
           (λ k. (
             meets k,
             origin m (prev m (rev-rev e k)),
@@ -284,13 +286,15 @@ module _ (points : List Point) (m : Mesh) (s : IsValidMesh m) (i j : ℕ) where
         pub turned_lower : crossing_sum points (faces_of new) i j
             < crossing_sum points (faces_of m) i j
         turned_lower = turn_lowers t i j v x y z tiled crosses before after (faces_of new)
-            (sooner x z nearer.behind_sooner) (sooner z x nearer.ahead_sooner) (change_by new change)
+            (sooner x z nearer.behind_sooner) (sooner z x nearer.ahead_sooner)
+            (change_by new change)
 
         -- the mesh stays local
         pub turned_local : KeepsOuter m new → LocalMesh points (faces_of new) (outer_of new)
         turned_local outer =
             flip_kept points (faces_of m) (faces_of new) (outer_of m) (outer_of new) v x y z local
-            before after convex.0 convex.1 (change_by new change) (outer_kept m new local.once outer)
+            before after convex.0 convex.1 (change_by new change)
+            (outer_kept m new local.once outer)
 
       -- ---- what does not cross stays
       twins : (h : ℕ) → (h ≡ 2 * (e / 2)) ⊎ (h ≡ rev (2 * (e / 2))) → (h ≡ e) ⊎ (h ≡ rev e)
@@ -305,7 +309,8 @@ module _ (points : List Point) (m : Mesh) (s : IsValidMesh m) (i j : ℕ) where
       turned_keeps new is h clear =
           others_stay m new (2 * (e / 2)) s.sound can_turn.0
           (flips_is m new (2 * (e / 2)) s.sound can_turn.0 is) h
-          (λ q. clear (crosses_at h (twins h (inl q)))) (λ q. clear (crosses_at h (twins h (inr q))))
+          (λ q. clear (crosses_at h (twins h (inl q))))
+          (λ q. clear (crosses_at h (twins h (inr q))))
 
       -- the directed edge that is turned
       abbrev turned : ℕ

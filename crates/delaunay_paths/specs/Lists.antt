@@ -36,27 +36,27 @@ pub record AreHeld (l : CrossingLists) : Type 0 where
   pub room : HaveRoom (length l.waiting.items + length l.unseen.items) l
 
 -- h is an entry
-abbrev pub IsEntry : CrossingLists → ℕ → Type 0
-IsEntry l h = IsIn l.waiting.items l.unseen.items h
+abbrev pub HasEntry : CrossingLists → ℕ → Type 0
+HasEntry l h = IsIn l.waiting.items l.unseen.items h
 
 -- the entries are those of before
 pub record KeepEntries (old new : CrossingLists) : Type 0 where
   pub held : AreHeld new
-  pub kept : (h : ℕ) → IsEntry old h → IsEntry new h
-  pub only : (h : ℕ) → IsEntry new h → IsEntry old h
+  pub kept : (h : ℕ) → HasEntry old h → HasEntry new h
+  pub only : (h : ℕ) → HasEntry new h → HasEntry old h
 
 -- they are the directed edges that cross the segment from the right
 pub record ListCrossing (points : List Point) (m : Mesh) (i j : ℕ)
     (l : CrossingLists) : Type 0 where
   pub held : AreHeld l
-  pub all : AreAllCrossing points m i j (IsEntry l)
+  pub all : AreAllCrossing points m i j (HasEntry l)
 
 -- they are those but e, for which there is room
 pub record ListOthers (points : List Point) (m : Mesh) (i j e : ℕ)
     (l : CrossingLists) : Type 0 where
   pub once : AreOnce l.waiting.items l.unseen.items
   pub room : HaveRoom (length l.waiting.items + length l.unseen.items + 1) l
-  pub others : AreOthersCrossing points m i j e (IsEntry l)
+  pub others : AreOthersCrossing points m i j e (HasEntry l)
 
 -- no entry is to be seen, and those that wait did so before, or cannot be turned
 pub record HaveSeen (points : List Point) (m : Mesh) (i j : ℕ) (was : List ℕ)

@@ -1,4 +1,5 @@
--- Free edges that are listed, and a face that is entered: it is marked, and its free edges are listed.
+-- Free edges that are listed, and a face that is entered: it is marked, and its free edges are
+-- listed.
 use Rattle.std.proofs.Common.{◌≡◌, ◌≢◌, ◌⊎◌, ◌↔◌, ◌+◌, ◌<◌, ◌≤◌, [], ◌∷◌, ◌++◌, ◌∙◌}
 use Rattle.std.proofs.Common.{ℕ, List, length, get_or, set}
 use Rattle.std.proofs.Common.{refl, sym, ap, subst, inl, inr, arith}

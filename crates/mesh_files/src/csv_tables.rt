@@ -127,6 +127,23 @@ fn take_point(
     drawing.add_spot(Spot::new(x, y, at), height)
 }
 
+/// Reads the next row, and gives its line, if there is one. The row before is in this line.
+fn next_row<R: Read>(
+    reader: &mut Reader<R>,
+    record: &mut ByteRecord,
+    line: u32,
+) -> Result<Option<u32>, FileFault> {
+    match reader.read_byte_record(record) {
+        Ok(true) => {}
+        Ok(false) => return Ok(None),
+        Err(error) => return Err(fault_of(error, line)),
+    }
+    match record.position() {
+        Some(position) => Ok(Some(line_of(position.line()))),
+        None => Ok(Some(line)),
+    }
+}
+
 fn read_points<R: Read>(
     reader: &mut Reader<R>,
     columns: &Columns,
@@ -140,17 +157,10 @@ fn read_points<R: Read>(
     };
     let mut line = 1;
     for place in 0..u32::MAX {
-        match reader.read_byte_record(&mut record) {
-            Ok(true) => {}
-            Ok(false) => {
-                runs.ring.end(drawing)?;
-                return Ok(());
-            }
-            Err(error) => return Err(fault_of(error, line)),
-        }
-        if let Some(position) = record.position() {
-            line = line_of(position.line());
-        }
+        let Some(next) = next_row(reader, &mut record, line)? else {
+            return runs.ring.end(drawing);
+        };
+        line = next;
         take_point(drawing, &record, columns, line)?;
         runs.row(&record, columns, place, line, drawing)?;
     }
@@ -160,10 +170,9 @@ fn read_points<R: Read>(
 /// The header of a table.
 fn header_of<R: Read>(reader: &mut Reader<R>, alloc: Global) -> Result<ByteRecord, FileFault> {
     let mut header = ByteRecord::new(alloc);
-    match reader.read_byte_record(&mut header) {
-        Ok(true) => Ok(header),
-        Ok(false) => Err(FileFault::at(1, Reason::Ends("a header"))),
-        Err(error) => Err(fault_of(error, 1)),
+    match next_row(reader, &mut header, 1)? {
+        Some(_) => Ok(header),
+        None => Err(FileFault::at(1, Reason::Ends("a header"))),
     }
 }
 
@@ -232,14 +241,10 @@ fn read_ends<R: Read + Drop>(
     let mut record = ByteRecord::new(alloc);
     let mut line = 1;
     for _ in 0..u64::MAX {
-        match reader.read_byte_record(&mut record) {
-            Ok(true) => {}
-            Ok(false) => return Ok(()),
-            Err(error) => return Err(fault_of(error, line)),
-        }
-        if let Some(position) = record.position() {
-            line = line_of(position.line());
-        }
+        let Some(next) = next_row(&mut reader, &mut record, line)? else {
+            return Ok(());
+        };
+        line = next;
         let count = drawing.spots.len();
         let from = point_named(&record, start, count, line)?;
         let to = point_named(&record, end, count, line)?;

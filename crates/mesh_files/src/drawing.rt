@@ -1,6 +1,6 @@
 //! What a file says.
 ghost use Rattle.std.specs.Prelude.{◌≡◌, ◌<◌, length, All, IfOk, OnOk};
-ghost use Rattle.mesh_files.specs.Written.{IsAsWritten};
+ghost use Rattle.mesh_files.specs.Written.{HasEnds, IsAsWritten};
 
 use crate::fault::{FileFault, FilePlace, Reason};
 use decimal_numbers::{Decimal, DecimalError};
@@ -123,8 +123,7 @@ pub struct Drawing {
     pub holes: Vec<Spot>,
     pub(crate) texts: NumberTexts,
     left_out: String,
-    pub ghost ends_are_points: { All (λ s. (s.from < length spots.items) × (s.to < length spots.items))
-        segments.items },
+    pub ghost ends_are_points: { All (HasEnds (length spots.items)) segments.items },
     pub ghost heights_are_of_points: { 0 < length heights.items
         → length heights.items ≡ length spots.items },
 }

@@ -14,7 +14,7 @@ pub enum Reason {
     TooLong(&'static str),
     #[error("{0} has more digits behind the point than fit the range: --round DIGITS keeps fewer")]
     TooFine(&'static str),
-    #[error("{0} is too far from the others: with {1} digits behind the point all have to be within 2^30 units")]
+    #[error("{0} is too far from the others: all have to be within 2^30 units of {1} digits")]
     TooFar(&'static str, u32),
     #[error("it has another number of fields than the first line")]
     OtherFields,

@@ -72,10 +72,16 @@ impl MeshText<'_> {
         Ok(())
     }
 
-    fn write_obj<W: Write>(&self, writer: &mut W, line: &mut String) -> io::Result<()> {
+    /// Writes each point behind a word, with height 0 where it has none.
+    fn write_points<W: Write>(
+        &self,
+        word: &str,
+        writer: &mut W,
+        line: &mut String,
+    ) -> io::Result<()> {
         for place in 0..self.drawing.spots.len() {
             line.clear();
-            line.push_str("v ")?;
+            line.push_str(word)?;
             self.push_point(line, place, " ")?;
             if self.drawing.heights.is_empty() {
                 line.push_str(" 0")?;
@@ -83,6 +89,11 @@ impl MeshText<'_> {
             line.push('\n')?;
             writer.write_all(line.as_bytes())?;
         }
+        Ok(())
+    }
+
+    fn write_obj<W: Write>(&self, writer: &mut W, line: &mut String) -> io::Result<()> {
+        self.write_points("v ", writer, line)?;
         for [a, b, c] in self.faces {
             line.clear();
             let (a, b, c) = (u64::from(*a) + 1, u64::from(*b) + 1, u64::from(*c) + 1);
@@ -104,15 +115,7 @@ impl MeshText<'_> {
 
     fn write_ply<W: Write>(&self, writer: &mut W, line: &mut String) -> io::Result<()> {
         self.write_ply_head(writer, line)?;
-        for place in 0..self.drawing.spots.len() {
-            line.clear();
-            self.push_point(line, place, " ")?;
-            if self.drawing.heights.is_empty() {
-                line.push_str(" 0")?;
-            }
-            line.push('\n')?;
-            writer.write_all(line.as_bytes())?;
-        }
+        self.write_points("", writer, line)?;
         for [a, b, c] in self.faces {
             line.clear();
             writeln!(line, "3 {a} {b} {c}")?;
