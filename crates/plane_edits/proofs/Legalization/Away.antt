@@ -1,7 +1,9 @@
 -- Pairs that legalising flips away: above what a face carries they stay, and so they are no edges
 -- again.
-use Rattle.std.proofs.Common.{◌≡◌, ◌⊎◌, ◌<◌, ◌≤◌, ◌+◌, ◌*◌, ◌-◌, [], ◌∷◌, ◌++◌, ◌∙◌}
-use Rattle.std.proofs.Common.{ℕ, zero, suc, List, length, refl, sym, ap, subst, arith}
+-- Notions: carried (what a face carries, from Heights); IsLow (below the chord); away_back,
+-- no_edge, goes_away, stays_away; in_all_below and twice_all_below (how many pairs there are).
+use Rattle.std.proofs.Common.{◌≡◌, ◌⊎◌, ◌<◌, ◌≤◌, ◌+◌, ◌*◌, ◌-◌, [], ◌∷◌, ◌++◌, ◌∙◌, ℕ, zero, suc}
+use Rattle.std.proofs.Common.{List, length, refl, ap, subst, arith}
 use mathlib.Core.Logic.{inl, inr}
 use Rattle.std.specs.Prelude.{ℤ, pos, ◌+ℤ◌, ◌-ℤ◌, ◌*ℤ◌, ◌≤ℤ◌, ◌<ℤ◌, Contains}
 use Rattle.std.proofs.lemmas.Int.{ints}
@@ -26,12 +28,12 @@ use Rattle.plane_tiling.proofs.Places as P
 use Rattle.plane.specs.Circle.{InsideCircle}
 use Rattle.plane.specs.Pairs.{place, Joins}
 use Rattle.plane_tiling.specs.Local.{LocalMesh}
-use Rattle.plane_tiling.proofs.Totals.{Contains-head, Contains-later, Contains-cases}
+use Rattle.plane_tiling.proofs.Totals.{Contains-later, Contains-cases}
 use Rattle.plane_tiling.proofs.Tiles.{point_at, by_signs}
 use Rattle.plane_edits.specs.Change.{IsFaceOf, FacesChange}
 use Rattle.plane_edits.specs.Away.{IsAway, AreAway}
 use Rattle.plane_edits.specs.LegalLaws.{AwayIsNoEdge, FlipGoesAway, AwayIsBounded}
-use Rattle.plane_edits.proofs.LocalMesh.Changes.{face_kept, each, each_none, turn_of_all, once_cons}
+use Rattle.plane_edits.proofs.LocalMesh.Changes.{face_kept, of_each, turn_of_all, once_cons}
 use Rattle.plane_edits.proofs.LocalMesh.Changes.{once_length}
 use Rattle.plane_edits.proofs.Legalization.Heights.{carried, carriedᵖ, carried-turn, lower_abd_abc}
 use Rattle.plane_edits.proofs.Legalization.Heights.{lower_abd_acd, lower_bcd_abc, lower_bcd_acd}
@@ -47,9 +49,11 @@ carried-mix : (a b c : Vec3) (k : ℤ) (u : Vec3) (l : ℤ) (v : Vec3)
     → carried a b c (mix k u l v) ≡ k *ℤ carried a b c u +ℤ l *ℤ carried a b c v
 unfolding carried bracket
 carried-mix a b c k u l v = ring_over vec3 (k ∷ l ∷ []) (a ∷ b ∷ c ∷ u ∷ v ∷ [])
-    (λ k l a b c u v. carriedᵖ a b c
-    (record { x = k ⊗ u.x ⊕ l ⊗ v.x; y = k ⊗ u.y ⊕ l ⊗ v.y; w = k ⊗ u.w ⊕ l ⊗ v.w }))
-    (λ k l a b c u v. k ⊗ carriedᵖ a b c u ⊕ l ⊗ carriedᵖ a b c v) tt
+    (λ k l a b c u v. carriedᵖ a b c (record {
+      x = k ⊗ u.x ⊕ l ⊗ v.x;
+      y = k ⊗ u.y ⊕ l ⊗ v.y;
+      w = k ⊗ u.w ⊕ l ⊗ v.w;
+    })) (λ k l a b c u v. k ⊗ carriedᵖ a b c u ⊕ l ⊗ carriedᵖ a b c v) tt
 
 carried-corner : (a b c : Vec3) → carried a b c a ≡ bracket a b c *ℤ height a
 unfolding carried bracket
@@ -115,12 +119,17 @@ times_minus : (d x y : ℤ) → d *ℤ (y -ℤ x) ≡ d *ℤ y -ℤ d *ℤ x
 times_minus d x y = ring_in (d ∷ x ∷ y ∷ []) (λ d x y. d ⊗ (y ⊖ x)) (λ d x y. d ⊗ y ⊖ d ⊗ x) tt
 
 scaled_below : (d x y : ℤ) → pos 0 <ℤ d → x <ℤ y → (d *ℤ x) <ℤ (d *ℤ y)
-scaled_below d x y h k = less_by_named_difference (d *ℤ x) (d *ℤ y) (d *ℤ (y -ℤ x))
+scaled_below d x y h k = less_by_named_difference _ _ _
     (times_minus d x y) (mul-pos_ℤ h (difference_is_positive x y k))
 
 lower_still : (x y d e top : ℤ) → (x *ℤ d) ≤ℤ (y *ℤ e) → y <ℤ (d *ℤ top) → pos 0 <ℤ d → pos 0 <ℤ e
     → x <ℤ (e *ℤ top)
-lower_still x y d e top h k hd he = go (lt_or_ge_ℤ x (e *ℤ top))
+lower_still x y d e top h k hd he = elim (lt_or_ge_ℤ x (e *ℤ top)) [
+  | inl o ↦ o
+  | inr o ↦ absurd (clash _ _ _ _ _ h (first x y d e top)
+      (mul-pos_ℤ he (difference_is_positive y _ k)) (second x d _)
+      (mul-nonneg_ℤ (weak hd) (difference_not_negative _ x o)))
+]
   where
     first : (x y d e top : ℤ) → e *ℤ (d *ℤ top -ℤ y) ≡ d *ℤ (e *ℤ top) -ℤ y *ℤ e
     first x y d e top = ring_in (y ∷ d ∷ e ∷ top ∷ []) (λ y d e top. e ⊗ (d ⊗ top ⊖ y))
@@ -131,13 +140,6 @@ lower_still x y d e top h k hd he = go (lt_or_ge_ℤ x (e *ℤ top))
 
     clash : (xd ye z a b : ℤ) → xd ≤ℤ ye → a ≡ z -ℤ ye → pos 0 <ℤ a → b ≡ xd -ℤ z → pos 0 ≤ℤ b → ⊥
     clash xd ye z a b h e ha f hb = omega (arith, ints)
-
-    go : (x <ℤ (e *ℤ top)) ⊎ ((e *ℤ top) ≤ℤ x) → x <ℤ (e *ℤ top)
-    go (inl o) = o
-    go (inr o) = absurd
-        (clash (x *ℤ d) (y *ℤ e) (d *ℤ (e *ℤ top)) (e *ℤ (d *ℤ top -ℤ y)) (d *ℤ (x -ℤ e *ℤ top)) h
-        (first x y d e top) (mul-pos_ℤ he (difference_is_positive y (d *ℤ top) k))
-        (second x d (e *ℤ top)) (mul-nonneg_ℤ (weak hd) (difference_not_negative (e *ℤ top) x o)))
 
 -- ---- below the chord
 -- y is in the closed face i j k, which carries less than top there
@@ -154,8 +156,7 @@ low_turned p y top i j k h = record {
   second = h.third;
   third = h.first;
   lower = subst (λ z. z <ℤ (bracket (at p j) (at p k) (at p i) *ℤ top))
-      (carried-turn (at p i) (at p j) (at p k) y) (subst (λ z. carried (at p i) (at p j) (at p k) y
-      <ℤ (z *ℤ top)) (bracket-turn (at p i) (at p j) (at p k)) h.lower);
+      (carried-turn _ _ _ y) (rw bracket-turn at h.lower);
 }
 
 module _ (points : List Point) (u v : ℕ) where
@@ -188,14 +189,11 @@ module _ (points : List Point) (u v : ℕ) where
     x = +ℤ_comm (h.l *ℤ (p v).x) (h.k *ℤ (p u).x) ∙ h.x;
     y = +ℤ_comm (h.l *ℤ (p v).y) (h.k *ℤ (p u).y) ∙ h.y;
     w = +ℤ_comm h.l h.k ∙ h.w;
-    lower = subst
-        (λ z. (h.r *ℤ height (at p h.a) +ℤ h.s *ℤ height (at p h.b) +ℤ h.t *ℤ height (at p h.c))
-        <ℤ z) (+ℤ_comm (h.k *ℤ height (at p u)) (h.l *ℤ height (at p v))) h.lower;
+    lower = rw (+ℤ_comm (h.k *ℤ height (at p u)) (h.l *ℤ height (at p v))) at h.lower;
   }
 
-  low_of_away : (faces : List Face) (h : IsAway points faces u v)
-      → pos 0 <ℤ bracket (at p h.a) (at p h.b) (at p h.c)
-      → IsLow (point_at points) (middle h.k h.l) (chord h.k h.l) h.a h.b h.c
+  low_of_away : (faces : List Face) (h : IsAway points faces u v) → pos 0 <ℤ bracket (at p h.a)
+      (at p h.b) (at p h.c) → IsLow (point_at points) (middle h.k h.l) (chord h.k h.l) h.a h.b h.c
   unfolding middle chord
   low_of_away faces h turns =
       let A = at p h.a in
@@ -204,18 +202,14 @@ module _ (points : List Point) (u v : ℕ) where
       let e : (mix h.k (at p u) h.l (at p v) ≡ sum_of h.r A h.s B h.t C) =
       (λ i. record { x = h.x i; y = h.y i; w = weight h.k h.l h.r h.s h.t h.w i }) in
       record {
-        first = subst (λ z. pos 0 ≤ℤ z) (sym (ap (bracket A B) e ∙ first_of_sum h.r h.s h.t A B C))
+        first = rw (ap (bracket A B) e ∙ first_of_sum h.r h.s h.t A B C)
             (mul-nonneg_ℤ h.t_allowed (weak turns));
-        second =
-            subst (λ z. pos 0 ≤ℤ z) (sym (ap (bracket B C) e ∙ second_of_sum h.r h.s h.t A B C))
+        second = rw (ap (bracket B C) e ∙ second_of_sum h.r h.s h.t A B C)
             (mul-nonneg_ℤ h.r_allowed (weak turns));
-        third = subst (λ z. pos 0 ≤ℤ z) (sym (ap (bracket C A) e ∙ third_of_sum h.r h.s h.t A B C))
+        third = rw (ap (bracket C A) e ∙ third_of_sum h.r h.s h.t A B C)
             (mul-nonneg_ℤ h.s_allowed (weak turns));
-        lower =
-            subst (λ z. z <ℤ (bracket A B C *ℤ (h.k *ℤ height (at p u) +ℤ h.l *ℤ height (at p v))))
-            (sym (ap (carried A B C) e ∙ carried-sum h.r h.s h.t A B C))
-            (scaled_below (bracket A B C) (h.r *ℤ height A +ℤ h.s *ℤ height B +ℤ h.t *ℤ height C)
-            (h.k *ℤ height (at p u) +ℤ h.l *ℤ height (at p v)) turns h.lower);
+        lower = rw (ap (carried A B C) e ∙ carried-sum h.r h.s h.t A B C)
+            (scaled_below _ _ _ turns h.lower);
       }
     where
       weight : (k l r s t : ℤ) → k +ℤ l ≡ r +ℤ s +ℤ t
@@ -231,7 +225,7 @@ module _ (points : List Point) (u v : ℕ) where
       let B = at p b in
       let C = at p c in
       let D = bracket A B C in
-      let y = mix k (at p u) l (at p v) in
+      let y = mix k _ l _ in
       record {
         k = D *ℤ k;
         l = D *ℤ l;
@@ -250,10 +244,8 @@ module _ (points : List Point) (u v : ℕ) where
         x = spread D k (p u).x l (p v).x ∙ cramer_x A B C y;
         y = spread D k (p u).y l (p v).y ∙ cramer_y A B C y;
         w = ones D k l (bracket B C y) (bracket C A y) (bracket A B y) (cramer_w A B C y);
-        lower = subst (λ z. (bracket B C y *ℤ height A +ℤ bracket C A y *ℤ height B +ℤ bracket A B y
-            *ℤ height C) <ℤ z) (sym (spread D k (height (at p u)) l (height (at p v))))
-            (subst (λ z. z <ℤ (D *ℤ (k *ℤ height (at p u) +ℤ l *ℤ height (at p v))))
-            (sym (carried-weights A B C y)) h.lower);
+        lower = rw (spread D k (height (at p u)) l (height (at p v)))
+            (rw (carried-weights A B C y) h.lower);
       }
     where
       spread : (d k x l y : ℤ) → (d *ℤ k) *ℤ x +ℤ (d *ℤ l) *ℤ y ≡ d *ℤ (k *ℤ x +ℤ l *ℤ y)
@@ -262,61 +254,54 @@ module _ (points : List Point) (u v : ℕ) where
 
       ones : (d k l r s t : ℤ) → d *ℤ (k *ℤ pos 1 +ℤ l *ℤ pos 1)
           ≡ r *ℤ pos 1 +ℤ s *ℤ pos 1 +ℤ t *ℤ pos 1 → d *ℤ k +ℤ d *ℤ l ≡ r +ℤ s +ℤ t
-      ones d k l r s t e = apart d k l ∙ e ∙ units r s t
+      ones d k l r s t e = apart d k l ∙ e ∙ (omega (arith, ints))
         where
           apart : (d k l : ℤ) → d *ℤ k +ℤ d *ℤ l ≡ d *ℤ (k *ℤ pos 1 +ℤ l *ℤ pos 1)
           apart d k l = ring_in (d ∷ k ∷ l ∷ []) (λ d k l. d ⊗ k ⊕ d ⊗ l)
               (λ d k l. d ⊗ (k ⊗ num 1 ⊕ l ⊗ num 1)) tt
-
-          units : (r s t : ℤ) → r *ℤ pos 1 +ℤ s *ℤ pos 1 +ℤ t *ℤ pos 1 ≡ r +ℤ s +ℤ t
-          units r s t = omega (arith, ints)
-
-  weights_positive : (k l : ℤ) → pos 0 <ℤ k → pos 0 <ℤ l → pos 0 <ℤ (k *ℤ pos 1 +ℤ l *ℤ pos 1)
-  weights_positive k l h m = omega (arith, ints)
 
   abbrev between : (k l : ℤ) → pos 0 <ℤ k → pos 0 <ℤ l → Fraction
   between k l hk hl = record {
     x = k *ℤ (p u).x +ℤ l *ℤ (p v).x;
     y = k *ℤ (p u).y +ℤ l *ℤ (p v).y;
     w = k *ℤ pos 1 +ℤ l *ℤ pos 1;
-    positive = weights_positive k l hk hl;
+    positive = omega (arith, ints);
   }
 
   within : (k l : ℤ) (hk : pos 0 <ℤ k) (hl : pos 0 <ℤ l)
       → WithinSegment (whole (p u)) (whole (p v)) (between k l hk hl)
-  within k l hk hl =
-      mean_of_two IsPositive (whole (p u)) (whole (p v)) (between k l hk hl) (record {
-        k = k;
-        l = l;
-        n = pos 1;
-        k_allowed = hk;
-        l_allowed = hl;
-        positive = record { lt = tt };
-        x = one-*ℤ (k *ℤ (p u).x +ℤ l *ℤ (p v).x);
-        y = one-*ℤ (k *ℤ (p u).y +ℤ l *ℤ (p v).y);
-        w = one-*ℤ (k *ℤ pos 1 +ℤ l *ℤ pos 1);
-      })
+  within k l hk hl = mean_of_two IsPositive _ _ (between k l hk hl) (record {
+    k = k;
+    l = l;
+    n = pos 1;
+    k_allowed = hk;
+    l_allowed = hl;
+    positive = record { lt = tt };
+    x = one-*ℤ _;
+    y = one-*ℤ _;
+    w = one-*ℤ _;
+  })
 
   -- ---- no edge is away
   no_edge : (faces : List Face) (outer : List (ℕ × ℕ)) → LocalMesh points faces outer
       → IsAway points faces u v → ¬ HasSide faces u v
   unfolding middle chord
   no_edge faces outer m h s =
-      let signs = by_signs points faces outer m in
+      let signs = by_signs _ _ _ m in
       let A = at p h.a in
       let B = at p h.b in
       let Z = at p h.c in
-      let turns = C.turn_left_of (length points) p faces outer signs h.a h.b h.c h.here in
-      let low = low_of_away faces h turns in
-      let corners = P.face_at_side (length points) p faces outer signs
+      let turns = C.turn_left_of _ p _ _ signs h.a h.b h.c h.here in
+      let low = low_of_away _ h turns in
+      let corners = P.face_at_side _ p _ _ signs
       (between h.k h.l h.k_positive h.l_positive)
       (record { u = u; v = v; side = s; within = within h.k h.l h.k_positive h.l_positive }) h.a
       h.b h.c h.here low.first low.second low.third in
-      same_is_not_less (carried A B Z (mix h.k (at p u) h.l (at p v)))
-      (bracket A B Z *ℤ (h.k *ℤ height (at p u) +ℤ h.l *ℤ height (at p v)))
-      (carried-mix A B Z h.k (at p u) h.l (at p v) ∙ (λ i. h.k
+      same_is_not_less (carried A B Z (mix h.k _ h.l _))
+      _
+      (carried-mix A B Z h.k _ h.l _ ∙ (λ i. h.k
       *ℤ at_corner h.a h.b h.c u corners.0 i +ℤ h.l *ℤ at_corner h.a h.b h.c v corners.1 i)
-      ∙ together h.k h.l (bracket A B Z) (height (at p u)) (height (at p v))) low.lower
+      ∙ together h.k h.l _ (height (at p u)) (height (at p v))) low.lower
     where
       together : (k l d x y : ℤ) → k *ℤ (d *ℤ x) +ℤ l *ℤ (d *ℤ y) ≡ d *ℤ (k *ℤ x +ℤ l *ℤ y)
       together k l d x y = ring_in (k ∷ l ∷ d ∷ x ∷ y ∷ []) (λ k l d x y. k ⊗ (d ⊗ x) ⊕ l ⊗ (d ⊗ y))
@@ -324,33 +309,27 @@ module _ (points : List Point) (u v : ℕ) where
 
       at_corner : (a b c w : ℕ) → (w ≡ a) ⊎ ((w ≡ b) ⊎ (w ≡ c)) → carried (at p a) (at p b) (at p c)
           (at p w) ≡ bracket (at p a) (at p b) (at p c) *ℤ height (at p w)
-      at_corner a b c w (inl e) =
-          subst (λ (i : ℕ). carried (at p a) (at p b) (at p c) (at p i) ≡ bracket (at p a) (at p b)
-          (at p c) *ℤ height (at p i)) (sym e) (carried-corner (at p a) (at p b) (at p c))
-      at_corner a b c w (inr (inl e)) =
-          subst (λ (i : ℕ). carried (at p a) (at p b) (at p c) (at p i) ≡ bracket (at p a) (at p b)
-          (at p c) *ℤ height (at p i)) (sym e) (carried-second (at p a) (at p b) (at p c))
-      at_corner a b c w (inr (inr e)) =
-          subst (λ (i : ℕ). carried (at p a) (at p b) (at p c) (at p i) ≡ bracket (at p a) (at p b)
-          (at p c) *ℤ height (at p i)) (sym e) (carried-third (at p a) (at p b) (at p c))
+      at_corner a b c w (inl e) = rw e (carried-corner _ _ _)
+      at_corner a b c w (inr (inl e)) = rw e (carried-second _ _ _)
+      at_corner a b c w (inr (inr e)) = rw e (carried-third _ _ _)
 
 -- a pair that has been flipped away is no edge
 pub away_is_no_edge : AwayIsNoEdge
-away_is_no_edge points faces outer i j k m h f = no_edge points i j faces outer m h (k, f)
+away_is_no_edge points faces outer i j k m h f = no_edge _ i j _ _ m h (k, f)
 
 -- ---- one flip
-balance_x : (a b c d : Point)
-    → bracket (lift b) (lift c) (lift d) *ℤ a.x +ℤ bracket (lift a) (lift b) (lift d) *ℤ c.x ≡ pos 0
-    *ℤ a.x +ℤ bracket (lift a) (lift c) (lift d) *ℤ b.x +ℤ bracket (lift a) (lift b) (lift c) *ℤ d.x
+balance_x : (a b c d : Point) → bracket (lift b) (lift c) (lift d) *ℤ a.x +ℤ bracket (lift a)
+    (lift b) (lift d) *ℤ c.x ≡ pos 0 *ℤ a.x +ℤ bracket (lift a) (lift c) (lift d) *ℤ b.x +ℤ bracket
+    (lift a) (lift b) (lift c) *ℤ d.x
 unfolding bracket
 balance_x a b c d = ring_over points_shape [] (a ∷ b ∷ c ∷ d ∷ []) (λ a b c d. bracketᵖ (liftᵖ b)
     (liftᵖ c) (liftᵖ d) ⊗ a.x ⊕ bracketᵖ (liftᵖ a) (liftᵖ b) (liftᵖ d) ⊗ c.x)
     (λ a b c d. num 0 ⊗ a.x ⊕ bracketᵖ (liftᵖ a) (liftᵖ c) (liftᵖ d) ⊗ b.x
     ⊕ bracketᵖ (liftᵖ a) (liftᵖ b) (liftᵖ c) ⊗ d.x) tt
 
-balance_y : (a b c d : Point)
-    → bracket (lift b) (lift c) (lift d) *ℤ a.y +ℤ bracket (lift a) (lift b) (lift d) *ℤ c.y ≡ pos 0
-    *ℤ a.y +ℤ bracket (lift a) (lift c) (lift d) *ℤ b.y +ℤ bracket (lift a) (lift b) (lift c) *ℤ d.y
+balance_y : (a b c d : Point) → bracket (lift b) (lift c) (lift d) *ℤ a.y +ℤ bracket (lift a)
+    (lift b) (lift d) *ℤ c.y ≡ pos 0 *ℤ a.y +ℤ bracket (lift a) (lift c) (lift d) *ℤ b.y +ℤ bracket
+    (lift a) (lift b) (lift c) *ℤ d.y
 unfolding bracket
 balance_y a b c d = ring_over points_shape [] (a ∷ b ∷ c ∷ d ∷ []) (λ a b c d. bracketᵖ (liftᵖ b)
     (liftᵖ c) (liftᵖ d) ⊗ a.y ⊕ bracketᵖ (liftᵖ a) (liftᵖ b) (liftᵖ d) ⊗ c.y)
@@ -364,9 +343,8 @@ balance_w a b c d = ring_over points_shape [] (a ∷ b ∷ c ∷ d ∷ []) (λ a
     (liftᵖ c) (liftᵖ d) ⊕ bracketᵖ (liftᵖ a) (liftᵖ b) (liftᵖ d)) (λ a b c d. num 0
     ⊕ bracketᵖ (liftᵖ a) (liftᵖ c) (liftᵖ d) ⊕ bracketᵖ (liftᵖ a) (liftᵖ b) (liftᵖ c)) tt
 
-chord_above : (a b c d : Vec3)
-    → incircle a b c d ≡ (bracket b c d *ℤ height a +ℤ bracket a b d *ℤ height c)
-    -ℤ (pos 0 *ℤ height a +ℤ bracket a c d *ℤ height b +ℤ bracket a b c *ℤ height d)
+chord_above : (a b c d : Vec3) → incircle a b c d ≡ (bracket b c d *ℤ height a +ℤ bracket a b d *ℤ
+    height c) -ℤ (pos 0 *ℤ height a +ℤ bracket a c d *ℤ height b +ℤ bracket a b c *ℤ height d)
 unfolding incircle bracket
 chord_above a b c d = ring_over vec3 [] (a ∷ b ∷ c ∷ d ∷ []) incircleᵖ
     (λ a b c d. (bracketᵖ b c d ⊗ heightᵖ a ⊕ bracketᵖ a b d ⊗ heightᵖ c)
@@ -381,18 +359,18 @@ module _ (points : List Point) (faces new : List Face) (outer : List (ℕ × ℕ
   P' = point_at points
 
   signs : SignMesh (length points) (point_at points) faces outer
-  signs = by_signs points faces outer m
+  signs = by_signs _ _ _ m
 
   -- a b c turns left
   abc : pos 0 <ℤ bracket (at P' a) (at P' b) (at P' c)
-  abc = C.turn_left_of (length points) (point_at points) faces outer signs a b c first
+  abc = C.turn_left_of _ _ _ _ signs a b c first
 
   -- a c d turns left
   acd : pos 0 <ℤ bracket (at P' a) (at P' c) (at P' d)
-  acd = C.turn_left_of (length points) (point_at points) faces outer signs a c d second
+  acd = C.turn_left_of _ _ _ _ signs a c d second
 
   excess : pos 0 <ℤ incircle (at P' a) (at P' b) (at P' c) (at P' d)
-  excess = F.excess points faces new outer a b c d m first second change failing
+  excess = F.excess _ _ new _ a b c d m first second change failing
 
   -- a b d turns left, too
   abd : pos 0 <ℤ bracket (at P' a) (at P' b) (at P' d)
@@ -403,11 +381,10 @@ module _ (points : List Point) (faces new : List Face) (outer : List (ℕ × ℕ
   bcd = convex_at_third (P' a) (P' b) (P' c) (P' d) abc acd excess
 
   first_new : IsFaceOf new a b d
-  first_new = change.come a b d (inl (Contains-head (face a b d) (face b c d ∷ [])))
+  first_new = change.come a b d (inl (0, omega arith, refl))
 
   second_new : IsFaceOf new b c d
-  second_new = change.come b c d (inl
-      (Contains-later (face a b d) (face b c d ∷ []) (face b c d) (Contains-head (face b c d) [])))
+  second_new = change.come b c d (inl (1, omega arith, refl))
 
   -- the flipped pair is away
   goes_away : IsAway points new a c
@@ -429,19 +406,14 @@ module _ (points : List Point) (faces new : List Face) (outer : List (ℕ × ℕ
     x = balance_x (P' a) (P' b) (P' c) (P' d);
     y = balance_y (P' a) (P' b) (P' c) (P' d);
     w = balance_w (P' a) (P' b) (P' c) (P' d);
-    lower = less_by_named_difference (pos 0 *ℤ height (at P' a) +ℤ bracket (at P' a) (at P' c)
-        (at P' d) *ℤ height (at P' b) +ℤ bracket (at P' a) (at P' b) (at P' c) *ℤ height (at P' d))
-        (bracket (at P' b) (at P' c) (at P' d) *ℤ height (at P' a) +ℤ bracket (at P' a) (at P' b)
-        (at P' d) *ℤ height (at P' c)) (incircle (at P' a) (at P' b) (at P' c) (at P' d))
-        (chord_above (at P' a) (at P' b) (at P' c) (at P' d)) excess;
+    lower = less_by_named_difference _ _ (incircle _ _ _ _) (chord_above _ _ _ _) excess;
   }
 
   -- and what was away stays away
   module _ (u v : ℕ) (h : IsAway points faces u v) where
     -- at a point between u and v the face there carries less than their chord
     low : IsLow (point_at points) (middle points u v h.k h.l) (chord points u v h.k h.l) h.a h.b h.c
-    low = low_of_away points u v faces h
-        (C.turn_left_of (length points) (point_at points) faces outer signs h.a h.b h.c h.here)
+    low = low_of_away _ u v _ h (C.turn_left_of _ _ _ _ signs h.a h.b h.c h.here)
 
     abbrev z : Vec3
     z = middle points u v h.k h.l
@@ -467,39 +439,34 @@ module _ (points : List Point) (faces new : List Face) (outer : List (ℕ × ℕ
 
     turned_left : (i j k : ℕ) → pos 0 <ℤ bracket (at P' i) (at P' j) (at P' k)
         → pos 0 <ℤ bracket (at P' j) (at P' k) (at P' i)
-    turned_left i j k x = subst (λ y. pos 0 <ℤ y) (bracket-turn (at P' i) (at P' j) (at P' k)) x
+    turned_left i j k x = rw bracket-turn at x
 
-    in_first : IsLow (point_at points) (middle points u v h.k h.l) (chord points u v h.k h.l) a b d
-        → IsAway points new u v
-    in_first x = away_of_low points u v new h.k h.l h.k_positive h.l_positive a b d first_new abd x
+    in_first : Leads a b d
+    in_first x = away_of_low _ u v new h.k h.l h.k_positive h.l_positive a b d first_new abd x
 
-    in_second : IsLow (point_at points) (middle points u v h.k h.l) (chord points u v h.k h.l) b c d
-        → IsAway points new u v
-    in_second x =
-        away_of_low points u v new h.k h.l h.k_positive h.l_positive b c d second_new bcd x
+    in_second : Leads b c d
+    in_second x = away_of_low _ u v new h.k h.l h.k_positive h.l_positive b c d second_new bcd x
 
-    from_abc : IsLow (point_at points) (middle points u v h.k h.l) (chord points u v h.k h.l) a b c
-        → IsAway points new u v
+    from_abc : Leads a b c
     from_abc x = elim (halved B C' D A z bcd (turned_left a b d abd) (turned_left a b c abc)
         (turned_left a c d acd) (record { first = x.second; second = x.third; third = x.first })) [
           | inl i ↦ in_second (record {
             first = i.first;
             second = i.second;
             third = i.third;
-            lower = lower_still (carried B C' D z) (carried A B C' z) (bracket A B C')
-                (bracket B C' D) t (lower_bcd_abc A B C' D z (weak excess) i.first) x.lower abc bcd;
+            lower = lower_still (carried B C' D z) (carried A B C' z) _
+                _ t (lower_bcd_abc A B C' D z (weak excess) i.first) x.lower abc bcd;
           })
           | inr i ↦ in_first (record {
             first = i.third;
             second = i.first;
             third = i.second;
-            lower = lower_still (carried A B D z) (carried A B C' z) (bracket A B C')
-                (bracket A B D) t (lower_abd_abc A B C' D z (weak excess) i.third) x.lower abc abd;
+            lower = lower_still (carried A B D z) (carried A B C' z) _
+                _ t (lower_abd_abc A B C' D z (weak excess) i.third) x.lower abc abd;
           })
         ]
 
-    from_acd : IsLow (point_at points) (middle points u v h.k h.l) (chord points u v h.k h.l) a c d
-        → IsAway points new u v
+    from_acd : Leads a c d
     from_acd x = elim (halved D A B C' z (turned_left b d a (turned_left a b d abd))
         (turned_left c d b (turned_left b c d bcd)) (turned_left c d a (turned_left a c d acd)) abc
         (record { first = x.third; second = x.first; third = x.second })) [
@@ -507,47 +474,27 @@ module _ (points : List Point) (faces new : List Face) (outer : List (ℕ × ℕ
             first = i.second;
             second = i.third;
             third = i.first;
-            lower = lower_still (carried A B D z) (carried A C' D z) (bracket A C' D)
-                (bracket A B D) t (lower_abd_acd A B C' D z (weak excess) i.first) x.lower acd abd;
+            lower = lower_still (carried A B D z) (carried A C' D z) _
+                _ t (lower_abd_acd A B C' D z (weak excess) i.first) x.lower acd abd;
           })
           | inr i ↦ in_second (record {
             first = i.second;
             second = i.third;
             third = i.first;
-            lower = lower_still (carried B C' D z) (carried A C' D z) (bracket A C' D)
-                (bracket B C' D) t (lower_bcd_acd A B C' D z (weak excess) i.third) x.lower acd bcd;
+            lower = lower_still (carried B C' D z) (carried A C' D z) _
+                _ t (lower_bcd_acd A B C' D z (weak excess) i.third) x.lower acd bcd;
           })
         ]
 
     stays_away : IsAway points new u v
-    stays_away = elim (face_kept faces new (face a b c ∷ face a c d ∷ [])
-        (face a b d ∷ face b c d ∷ []) change h.a h.b h.c h.here) [
-          | inl o ↦ record {
-            k = h.k;
-            l = h.l;
-            k_positive = h.k_positive;
-            l_positive = h.l_positive;
-            a = h.a;
-            b = h.b;
-            c = h.c;
-            here = o;
-            r = h.r;
-            s = h.s;
-            t = h.t;
-            r_allowed = h.r_allowed;
-            s_allowed = h.s_allowed;
-            t_allowed = h.t_allowed;
-            x = h.x;
-            y = h.y;
-            w = h.w;
-            lower = h.lower;
-          }
-          | inr o ↦ turn_of_all (face a b c ∷ face a c d ∷ []) Leads (λ i j k f x. f
-              (low_turned (point_at points) z t k i j (low_turned (point_at points) z t j k i x)))
-              (each (λ (g : Face). Leads g.a g.b g.c) (face a b c) (face a c d ∷ []) from_abc
-              (each (λ (g : Face). Leads g.a g.b g.c) (face a c d) [] from_acd
-              (each_none (λ (g : Face). Leads g.a g.b g.c)))) h.a h.b h.c o low
-        ]
+    stays_away = elim (face_kept _ new _ _ change h.a h.b h.c h.here) [
+      | inl o ↦ away_of_low _ u v new h.k h.l h.k_positive h.l_positive h.a h.b h.c o
+          (C.turn_left_of _ _ _ _ signs h.a h.b h.c h.here) low
+      | inr o ↦ turn_of_all (face a b c ∷ face a c d ∷ []) Leads (λ i j k f x. f
+          (low_turned _ z t k i j (low_turned _ z t j k i x)))
+          (of_each (λ (g : Face). Leads g.a g.b g.c) (face a b c ∷ face a c d ∷ [])
+          (from_abc, (from_acd, tt))) h.a h.b h.c o low
+    ]
 
 -- ---- the pairs
 another : (points : List Point) (faces new : List Face) (outer away : List (ℕ × ℕ)) (i j : ℕ)
@@ -563,7 +510,7 @@ another points faces new outer away i j m stays g h k s n = record {
     | inl e ↦ subst (λ (x : ℕ × ℕ). IsAway points new x.0 x.1) e n
     | inr y ↦ stays u v (g.above u v y)
   ];
-  once = once_cons (i, j) away (λ x. no_edge points i j faces outer m (g.above i j x) s) g.once;
+  once = once_cons (i, j) away (λ x. no_edge _ i j _ _ m (g.above i j x) s) g.once;
 }
 
 in_more : (e : ℕ × ℕ) (away : List (ℕ × ℕ)) (i j : ℕ) → Joins away i j → Joins (e ∷ away) i j
@@ -573,36 +520,34 @@ in_more e away i j (inr h) = inr (Contains-later e away (j, i) h)
 -- the flip of a failing edge adds its pair to those that are away
 pub flip_goes_away : FlipGoesAway
 flip_goes_away points faces new outer away a b c d m first second change failing g =
-    go (less_or_more a c (corners_differ (point_at points) a c d (C.turn_left_of (length points)
-    (point_at points) faces outer (by_signs points faces outer m) a c d second)).0)
+    go (less_or_more a c (corners_differ (point_at points) a c d (C.turn_left_of _
+    _ _ _ (by_signs _ _ _ m) a c d second)).0)
   where
     index : (a < length points) × (c < length points) × (d < length points)
-    index = C.turn_corners (length points) (point_at points) faces outer
-        (by_signs points faces outer m) a c d second
+    index = C.turn_corners _ _ _ _ (by_signs _ _ _ m) a c d second
 
     stays : (u v : ℕ) → IsAway points faces u v → IsAway points new u v
-    stays u v h = stays_away points faces new outer a b c d m first second change failing u v h
+    stays u v h = stays_away _ _ new _ a b c d m first second change failing u v h
 
     here : IsAway points new a c
-    here = goes_away points faces new outer a b c d m first second change failing
+    here = goes_away _ _ new _ a b c d m first second change failing
 
     go : (a < c) ⊎ (c < a)
         → (more : List (ℕ × ℕ)) × AreAway points new more × (length more ≡ suc (length away))
         × Joins more a c × ((i j : ℕ) → Joins away i j → Joins more i j)
     go (inl h) = (
       (a, c) ∷ away,
-      another points faces new outer away a c m stays g h index.1
-          (d, second) here,
+      another _ _ new _ away a c m stays g h index.1 (d, second) here,
       refl,
-      inl (Contains-head (a, c) away),
+      inl (0, omega arith, refl),
       in_more (a, c) away,
     )
     go (inr h) = (
       (c, a) ∷ away,
-      another points faces new outer away c a m stays g h index.0
-          (b, turned faces b c a (turned faces a b c first)) (away_back points a c new here),
+      another _ _ new _ away c a m stays g h index.0
+          (b, turned _ b c a (turned _ a b c first)) (away_back _ a c new here),
       refl,
-      inr (Contains-head (c, a) away),
+      inr (0, omega arith, refl),
       in_more (c, a) away,
     )
 
@@ -628,8 +573,7 @@ in_below_with : (i k j : ℕ) → j < i → Contains (below_with i k) (j, k)
 unfolding below_with
 in_below_with zero k j h = absurd (omega arith)
 in_below_with (suc i) k j h = elim (cases_eq i j) [
-  | inl e ↦ subst (λ (x : ℕ). Contains ((i, k) ∷ below_with i k) (x, k)) e
-      (Contains-head (i, k) (below_with i k))
+  | inl e ↦ subst (λ (x : ℕ). Contains ((i, k) ∷ below_with i k) (x, k)) e (0, omega arith, refl)
   | inr n ↦ Contains-later (i, k) (below_with i k) (j, k) (in_below_with i k j (not_last i j h n))
 ]
 
@@ -638,8 +582,7 @@ unfolding all_below
 in_all_below zero i j h k = absurd (omega arith)
 in_all_below (suc n) i j h k = elim (cases_eq n j) [
   | inl e ↦ subst (λ (x : ℕ). Contains (below_with n n ++ all_below n) (i, x)) e
-      (Contains-append_left (below_with n n) (all_below n) (i, n)
-      (in_below_with n n i (subst (λ (x : ℕ). i < x) (sym e) h)))
+      (Contains-append_left (below_with n n) (all_below n) (i, n) (in_below_with n n i (rw e h)))
   | inr m ↦ Contains-append_right (below_with n n) (all_below n) (i, j)
       (in_all_below n i j h (not_last n j k m))
 ]
@@ -651,32 +594,26 @@ row_more l n q a b c e f g h = omega arith
 twice_all_below : (n : ℕ) → 2 * length (all_below n) + n ≡ n * n
 unfolding all_below
 twice_all_below zero = refl
-twice_all_below (suc n) = row_more (length (all_below n)) n (n * n)
-    (length (below_with n n ++ all_below n)) (length (below_with n n)) (suc n * suc n)
-    (length-append (below_with n n) (all_below n)) (length_below_with n n) (twice_all_below n)
-    (suc-mul n (suc n) ∙ ap (λ (z : ℕ). z + suc n) (mul-suc n n))
+twice_all_below (suc n) = row_more _ n (n * n) _ _ _ (length-append (below_with n n) (all_below n))
+    (length_below_with n n) (twice_all_below n) (suc-mul n _ ∙ ap (λ (z : ℕ). z + suc n)
+    (mul-suc n n))
 
 half_of_square : (n l : ℕ) → 2 * l + n ≡ n * n → 2 * l ≤ n * (n - 1)
 half_of_square zero l e = omega arith
-half_of_square (suc n) l e =
-    go (suc n * (suc n - 1)) (ap (λ (z : ℕ). suc n * z) (one_less_than n)) (e ∙ mul-suc (suc n) n)
+half_of_square (suc n) l e = go _ (ap (λ (z : ℕ). suc n * z) (omega arith)) (e ∙ mul-suc _ n)
   where
-    one_less_than : (n : ℕ) → suc n - 1 ≡ n
-    one_less_than n = omega arith
-
     by : (q r : ℕ) → q ≡ r → 2 * l + suc n ≡ r + suc n → 2 * l ≤ q
     by q r f h = omega arith
 
     go : (q : ℕ) → q ≡ suc n * n → 2 * l + suc n ≡ suc n * n + suc n → 2 * l ≤ q
-    go q f h = by q (suc n * n) f h
+    go q f h = by q _ f h
 
 at_most_twice : (a b q : ℕ) → a ≤ b → 2 * b ≤ q → 2 * a ≤ q
 at_most_twice a b q h k = omega arith
 
 -- of n vertices, at most n (n - 1) / 2 pairs have been flipped away
 pub away_is_bounded : AwayIsBounded
-away_is_bounded points faces away g = at_most_twice (length away)
-    (length (all_below (length points))) (length points * (length points - 1))
-    (once_length away (all_below (length points)) g.once (λ e h. let o = g.ordered e.0 e.1 h in
-    in_all_below (length points) e.0 e.1 o.0 o.1)) (half_of_square (length points)
-    (length (all_below (length points))) (twice_all_below (length points)))
+away_is_bounded points faces away g = at_most_twice _ _ _
+    (once_length away (all_below _) g.once (λ e h. let o = g.ordered e.0 e.1 h in
+    in_all_below _ e.0 e.1 o.0 o.1)) (half_of_square _
+    _ (twice_all_below _))

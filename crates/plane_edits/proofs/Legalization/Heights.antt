@@ -26,29 +26,29 @@ carried-turn a b c z = ring_over vec3 [] (a ∷ b ∷ c ∷ z ∷ []) (λ a b c 
     (λ a b c z. carriedᵖ b c a z) tt
 
 -- ---- the diagonal a c of the quadrilateral a b c d is exchanged for b d
-falls_abd_abc : (a b c d z : Vec3) → carried a b d z *ℤ bracket a b c -ℤ carried a b c z
-    *ℤ bracket a b d ≡ neg_ℤ (incircle a b c d *ℤ bracket a b z)
+falls_abd_abc : (a b c d z : Vec3) → carried a b d z *ℤ bracket a b c -ℤ carried a b c z *ℤ bracket
+    a b d ≡ neg_ℤ (incircle a b c d *ℤ bracket a b z)
 unfolding carried incircle bracket
 falls_abd_abc a b c d z = ring_over vec3 [] (a ∷ b ∷ c ∷ d ∷ z ∷ [])
     (λ a b c d z. carriedᵖ a b d z ⊗ bracketᵖ a b c ⊖ carriedᵖ a b c z ⊗ bracketᵖ a b d)
     (λ a b c d z. ⊝ (incircleᵖ a b c d ⊗ bracketᵖ a b z)) tt
 
-falls_abd_acd : (a b c d z : Vec3) → carried a b d z *ℤ bracket a c d -ℤ carried a c d z
-    *ℤ bracket a b d ≡ neg_ℤ (incircle a b c d *ℤ bracket d a z)
+falls_abd_acd : (a b c d z : Vec3) → carried a b d z *ℤ bracket a c d -ℤ carried a c d z *ℤ bracket
+    a b d ≡ neg_ℤ (incircle a b c d *ℤ bracket d a z)
 unfolding carried incircle bracket
 falls_abd_acd a b c d z = ring_over vec3 [] (a ∷ b ∷ c ∷ d ∷ z ∷ [])
     (λ a b c d z. carriedᵖ a b d z ⊗ bracketᵖ a c d ⊖ carriedᵖ a c d z ⊗ bracketᵖ a b d)
     (λ a b c d z. ⊝ (incircleᵖ a b c d ⊗ bracketᵖ d a z)) tt
 
-falls_bcd_abc : (a b c d z : Vec3) → carried b c d z *ℤ bracket a b c -ℤ carried a b c z
-    *ℤ bracket b c d ≡ neg_ℤ (incircle a b c d *ℤ bracket b c z)
+falls_bcd_abc : (a b c d z : Vec3) → carried b c d z *ℤ bracket a b c -ℤ carried a b c z *ℤ bracket
+    b c d ≡ neg_ℤ (incircle a b c d *ℤ bracket b c z)
 unfolding carried incircle bracket
 falls_bcd_abc a b c d z = ring_over vec3 [] (a ∷ b ∷ c ∷ d ∷ z ∷ [])
     (λ a b c d z. carriedᵖ b c d z ⊗ bracketᵖ a b c ⊖ carriedᵖ a b c z ⊗ bracketᵖ b c d)
     (λ a b c d z. ⊝ (incircleᵖ a b c d ⊗ bracketᵖ b c z)) tt
 
-falls_bcd_acd : (a b c d z : Vec3) → carried b c d z *ℤ bracket a c d -ℤ carried a c d z
-    *ℤ bracket b c d ≡ neg_ℤ (incircle a b c d *ℤ bracket c d z)
+falls_bcd_acd : (a b c d z : Vec3) → carried b c d z *ℤ bracket a c d -ℤ carried a c d z *ℤ bracket
+    b c d ≡ neg_ℤ (incircle a b c d *ℤ bracket c d z)
 unfolding carried incircle bracket
 falls_bcd_acd a b c d z = ring_over vec3 [] (a ∷ b ∷ c ∷ d ∷ z ∷ [])
     (λ a b c d z. carriedᵖ b c d z ⊗ bracketᵖ a c d ⊖ carriedᵖ a c d z ⊗ bracketᵖ b c d)
@@ -62,23 +62,19 @@ module _ (a b c d z : Vec3) (failing : pos 0 ≤ℤ incircle a b c d) where
   -- over what is left of a b, the plane through a, b, d is below that through a, b, c
   pub lower_abd_abc : pos 0 ≤ℤ bracket a b z
       → (carried a b d z *ℤ bracket a b c) ≤ℤ (carried a b c z *ℤ bracket a b d)
-  lower_abd_abc h = at_most_by (carried a b d z *ℤ bracket a b c) (carried a b c z *ℤ bracket a b d)
-      (incircle a b c d *ℤ bracket a b z) (falls_abd_abc a b c d z) (mul-nonneg_ℤ failing h)
+  lower_abd_abc h = at_most_by _ _ _ (falls_abd_abc a b c d z) (mul-nonneg_ℤ failing h)
 
   -- over what is left of d a, the plane through a, b, d is below that through a, c, d
   pub lower_abd_acd : pos 0 ≤ℤ bracket d a z
       → (carried a b d z *ℤ bracket a c d) ≤ℤ (carried a c d z *ℤ bracket a b d)
-  lower_abd_acd h = at_most_by (carried a b d z *ℤ bracket a c d) (carried a c d z *ℤ bracket a b d)
-      (incircle a b c d *ℤ bracket d a z) (falls_abd_acd a b c d z) (mul-nonneg_ℤ failing h)
+  lower_abd_acd h = at_most_by _ _ _ (falls_abd_acd a b c d z) (mul-nonneg_ℤ failing h)
 
   -- over what is left of b c, the plane through b, c, d is below that through a, b, c
   pub lower_bcd_abc : pos 0 ≤ℤ bracket b c z
       → (carried b c d z *ℤ bracket a b c) ≤ℤ (carried a b c z *ℤ bracket b c d)
-  lower_bcd_abc h = at_most_by (carried b c d z *ℤ bracket a b c) (carried a b c z *ℤ bracket b c d)
-      (incircle a b c d *ℤ bracket b c z) (falls_bcd_abc a b c d z) (mul-nonneg_ℤ failing h)
+  lower_bcd_abc h = at_most_by _ _ _ (falls_bcd_abc a b c d z) (mul-nonneg_ℤ failing h)
 
   -- over what is left of c d, the plane through b, c, d is below that through a, c, d
   pub lower_bcd_acd : pos 0 ≤ℤ bracket c d z
       → (carried b c d z *ℤ bracket a c d) ≤ℤ (carried a c d z *ℤ bracket b c d)
-  lower_bcd_acd h = at_most_by (carried b c d z *ℤ bracket a c d) (carried a c d z *ℤ bracket b c d)
-      (incircle a b c d *ℤ bracket c d z) (falls_bcd_acd a b c d z) (mul-nonneg_ℤ failing h)
+  lower_bcd_acd h = at_most_by _ _ _ (falls_bcd_acd a b c d z) (mul-nonneg_ℤ failing h)

@@ -1,7 +1,10 @@
 -- What follows from a change of faces and from a change of outer edges: where each face and edge
 -- comes from, and totals.
-use Rattle.std.proofs.Common.{◌≡◌, ◌⊎◌, ◌<◌, ◌≤◌, [], ◌∷◌, ◌++◌, ◌∙◌}
-use Rattle.std.proofs.Common.{ℕ, zero, suc, List, length, get_or, refl, sym, ap, subst, arith}
+-- Notions: face_from, face_kept; Each, of_each, to_each (a property of each entry, as a tuple for a
+-- list that is written out), turn_of_all, corner_of_each; IsOnce, Once (no entry twice),
+-- changed_total; change_after (two changes as one).
+use Rattle.std.proofs.Common.{◌≡◌, ◌⊎◌, ◌<◌, ◌≤◌, [], ◌∷◌, ◌++◌, ◌∙◌, ℕ, zero, suc, List, length}
+use Rattle.std.proofs.Common.{get_or, refl, sym, ap, subst, arith}
 use mathlib.Core.Logic.{inl, inr, ◌≢◌}
 use mathlib.Core.Bool.{Bool, true, false, ◌&&◌}
 use lib.Dec.{eqb, eqb_refl}
@@ -18,9 +21,8 @@ use Rattle.plane_tiling.specs.Local.{total}
 use Rattle.plane_tiling.proofs.Totals.{Contains-head, Contains-later, Contains-cases, Contains-none}
 use Rattle.plane_tiling.proofs.Totals.{get_or_any, total_nonneg, total_at_least, total_positive}
 use Rattle.plane_tiling.proofs.Flows.{IsTurnOf, either, one_of_three, bit_nonneg}
-use Rattle.plane_edits.specs.Change.{IsTurnFree, FacesChange}
-use Rattle.plane.proofs.Signs.{at_least_one_through, first_of_three_counts}
-use Rattle.plane.proofs.Signs.{sum_of_three_not_negative}
+use Rattle.plane_edits.specs.Change.{IsTurnFree, FacesChange, OuterChange}
+use Rattle.plane.proofs.Signs.{at_least_one_through}
 use Rattle.plane.proofs.Crossings.{is_true}
 
 -- ---- a face of a list, counted
@@ -71,47 +73,40 @@ triple_found i j k f h = go (eqb f.a i) (eqb f.b j) (eqb f.c k) refl refl refl h
 turns : ℕ → ℕ → ℕ → Face → ℤ
 turns i j k f = is_triple i j k f +ℤ is_triple j k i f +ℤ is_triple k i j f
 
-three_turned : (x y z x' y' z' : ℤ) → x ≡ y' → y ≡ z' → z ≡ x' → x +ℤ y +ℤ z ≡ x' +ℤ y' +ℤ z'
-three_turned x y z x' y' z' p q r = omega (arith, ints)
-
 turns_turn_free : (i j k : ℕ) → IsTurnFree (turns i j k)
 unfolding turns
-turns_turn_free i j k a b c = three_turned (is_triple i j k (face a b c))
-    (is_triple j k i (face a b c)) (is_triple k i j (face a b c)) (is_triple i j k (face b c a))
-    (is_triple j k i (face b c a)) (is_triple k i j (face b c a))
-    (is_triple_turned i j k a b c) (is_triple_turned j k i a b c) (is_triple_turned k i j a b c)
+turns_turn_free i j k a b c =
+    let x = is_triple_turned i j k a b c in let y = is_triple_turned j k i a b c in
+    let z = is_triple_turned k i j a b c in omega (arith, ints)
 
 turns_nonneg : (i j k : ℕ) (f : Face) → pos 0 ≤ℤ turns i j k f
 unfolding turns
-turns_nonneg i j k f =
-    sum_of_three_not_negative (is_triple i j k f) (is_triple j k i f) (is_triple k i j f)
-    (is_triple_nonneg i j k f) (is_triple_nonneg j k i f) (is_triple_nonneg k i j f)
+turns_nonneg i j k f = let x = is_triple_nonneg i j k f in
+    omega (arith, ints, is_triple_nonneg j k i f, is_triple_nonneg k i j f)
 
 turns_own : (i j k : ℕ) → pos 1 ≤ℤ turns i j k (face i j k)
 unfolding turns
-turns_own i j k = first_of_three_counts (is_triple i j k (face i j k))
-    (is_triple j k i (face i j k)) (is_triple k i j (face i j k)) (is_triple_own i j k)
-    (is_triple_nonneg j k i (face i j k)) (is_triple_nonneg k i j (face i j k))
+turns_own i j k = let x = is_triple_own i j k in let y = is_triple_nonneg j k i (face i j k) in
+    omega (arith, ints, is_triple_nonneg k i j (face i j k))
+
+turn_count : (faces : List Face) (i j k : ℕ) (f : Face) → Contains faces f
+    → pos 1 ≤ℤ turns i j k f → pos 1 ≤ℤ total (turns i j k) faces
+turn_count faces i j k f h o = at_least_one_through (turns i j k f) _ o
+    (total_at_least (turns i j k) _ (λ f _. turns_nonneg i j k f) f h)
 
 turn_counts : (faces : List Face) (i j k : ℕ) → IsTurnOf faces i j k
     → pos 1 ≤ℤ total (turns i j k) faces
-turn_counts faces i j k (inl h) =
-    at_least_one_through (turns i j k (face i j k)) (total (turns i j k) faces) (turns_own i j k)
-    (total_at_least (turns i j k) faces (λ f _. turns_nonneg i j k f) (face i j k) h)
-turn_counts faces i j k (inr (inl h)) =
-    at_least_one_through (turns i j k (face j k i)) (total (turns i j k) faces)
-    (subst (λ z. pos 1 ≤ℤ z) (turns_turn_free i j k i j k) (turns_own i j k))
-    (total_at_least (turns i j k) faces (λ f _. turns_nonneg i j k f) (face j k i) h)
-turn_counts faces i j k (inr (inr h)) =
-    at_least_one_through (turns i j k (face k i j)) (total (turns i j k) faces) (subst (λ z. pos 1
-    ≤ℤ z) (turns_turn_free i j k i j k ∙ turns_turn_free i j k j k i) (turns_own i j k))
-    (total_at_least (turns i j k) faces (λ f _. turns_nonneg i j k f) (face k i j) h)
+turn_counts faces i j k (inl h) = turn_count _ i j k _ h (turns_own i j k)
+turn_counts faces i j k (inr (inl h)) = turn_count _ i j k _ h
+    (rw (turns_turn_free i j k i j k) at (turns_own i j k))
+turn_counts faces i j k (inr (inr h)) = turn_count _ i j k _ h
+    (rw (turns_turn_free i j k k i j) (turns_own i j k))
 
 turn_found : (faces : List Face) (i j k : ℕ) → pos 0 <ℤ total (turns i j k) faces
     → IsTurnOf faces i j k
 unfolding turns
 turn_found faces i j k h =
-    let r = total_positive (turns i j k) faces h in
+    let r = total_positive (turns i j k) _ h in
     go r.0 r.1 (one_of_three (is_triple i j k r.0) (is_triple j k i r.0) (is_triple k i j r.0) r.2)
   where
     go : (f : Face) → Contains faces f → (pos 0 <ℤ is_triple i j k f)
@@ -126,27 +121,15 @@ one_of_two a b c d e h k = either a b c d (omega (arith, ints)) e
 module _ (old new gone made : List Face) (c : FacesChange old new gone made) where
   -- each new face was there or was made
   pub face_from : (i j k : ℕ) → IsTurnOf new i j k → IsTurnOf old i j k ⊎ IsTurnOf made i j k
-  face_from i j k h =
-      go (one_of_two (total (turns i j k) new) (total (turns i j k) gone) (total (turns i j k) old)
-      (total (turns i j k) made) (c.totals (turns i j k) (turns_turn_free i j k))
-      (turn_counts new i j k h) (total_nonneg (turns i j k) gone (λ f _. turns_nonneg i j k f)))
-    where
-      go : (pos 0 <ℤ total (turns i j k) old) ⊎ (pos 0 <ℤ total (turns i j k) made)
-          → IsTurnOf old i j k ⊎ IsTurnOf made i j k
-      go (inl l) = inl (turn_found old i j k l)
-      go (inr l) = inr (turn_found made i j k l)
+  face_from i j k h = elim (one_of_two _ _ _ _ (c.totals (turns i j k) (turns_turn_free i j k))
+      (turn_counts new i j k h) (total_nonneg (turns i j k) _ (λ f _. turns_nonneg i j k f)))
+      [ inl l ↦ inl (turn_found old i j k l) | inr l ↦ inr (turn_found made i j k l) ]
 
   -- each old face stays or is gone
   pub face_kept : (i j k : ℕ) → IsTurnOf old i j k → IsTurnOf new i j k ⊎ IsTurnOf gone i j k
-  face_kept i j k h =
-      go (one_of_two (total (turns i j k) old) (total (turns i j k) made) (total (turns i j k) new)
-      (total (turns i j k) gone) (sym (c.totals (turns i j k) (turns_turn_free i j k)))
-      (turn_counts old i j k h) (total_nonneg (turns i j k) made (λ f _. turns_nonneg i j k f)))
-    where
-      go : (pos 0 <ℤ total (turns i j k) new) ⊎ (pos 0 <ℤ total (turns i j k) gone)
-          → IsTurnOf new i j k ⊎ IsTurnOf gone i j k
-      go (inl l) = inl (turn_found new i j k l)
-      go (inr l) = inr (turn_found gone i j k l)
+  face_kept i j k h = elim (one_of_two _ _ _ _ (sym (c.totals _ (turns_turn_free i j k)))
+      (turn_counts old i j k h) (total_nonneg (turns i j k) _ (λ f _. turns_nonneg i j k f)))
+      [ inl l ↦ inl (turn_found new i j k l) | inr l ↦ inr (turn_found gone i j k l) ]
 
 -- a property of each element of a list that is written out
 pub each_none : {X : Type 0} (P : X → Type 0) (x : X) → Contains [] x → P x
@@ -157,12 +140,44 @@ pub each : {X : Type 0} (P : X → Type 0) (a : X) (xs : List X) → P a
     → ((x : X) → Contains xs x → P x) → (x : X) → Contains (a ∷ xs) x → P x
 each P a xs s rest x h = elim (Contains-cases a xs x h) [ inl e ↦ subst P e s | inr k ↦ rest x k ]
 
+-- P holds of each entry, as a tuple for a list that is written out
+abbrev pub Each : {X : Type 0} → (X → Type 0) → List X → Type 0
+Each P [] = Unit {0}
+Each P (x ∷ xs) = P x × Each P xs
+
+-- read by entries
+pub of_each : {X : Type 0} (P : X → Type 0) (xs : List X) → Each P xs → (x : X) → Contains xs x
+    → P x
+of_each P [] t = each_none P
+of_each P (y ∷ ys) t = each P y ys t.0 (of_each P ys t.1)
+
+-- and written by entries
+pub to_each : {X : Type 0} (P : X → Type 0) (xs : List X) → ((x : X) → Contains xs x → P x)
+    → Each P xs
+to_each P [] f = tt
+to_each P (x ∷ xs) f =
+    (f x (Contains-head x xs), to_each P xs (λ y h. f y (Contains-later x xs y h)))
+
 -- a property of triples that turns carry over, of each face of a list
 pub turn_of_all : (faces : List Face) (P : ℕ → ℕ → ℕ → Type 0) → ((i j k : ℕ) → P i j k → P j k i)
     → ((f : Face) → Contains faces f → P f.a f.b f.c) → (i j k : ℕ) → IsTurnOf faces i j k → P i j k
 turn_of_all faces P turn p i j k (inl h) = p (face i j k) h
 turn_of_all faces P turn p i j k (inr (inl h)) = turn k i j (turn j k i (p (face j k i) h))
 turn_of_all faces P turn p i j k (inr (inr h)) = turn k i j (p (face k i j) h)
+
+-- of each corner of each face of a list that is written out, with the corners after it
+pub corner_of_each : (faces : List Face) (P : ℕ → ℕ → ℕ → Type 0)
+    → Each (λ f. P f.a f.b f.c × P f.b f.c f.a × P f.c f.a f.b) faces → (i j k : ℕ)
+    → IsTurnOf faces i j k → P i j k
+corner_of_each faces P t i j k h = go h
+  where
+    all : (f : Face) → Contains faces f → P f.a f.b f.c × P f.b f.c f.a × P f.c f.a f.b
+    all = of_each (λ f. P f.a f.b f.c × P f.b f.c f.a × P f.c f.a f.b) _ t
+
+    go : IsTurnOf faces i j k → P i j k
+    go (inl h) = (all _ h).0
+    go (inr (inl h)) = (all _ h).2
+    go (inr (inr h)) = (all _ h).1
 
 -- ---- lists without repetition
 module _ {X : Type 0} where
@@ -178,11 +193,7 @@ module _ {X : Type 0} where
       → total f xs ≡ f (get_or xs k d) +ℤ total f (remove xs k)
   total_without f [] k d h = absurd (omega arith)
   total_without f (x ∷ xs) zero d h = refl
-  total_without f (x ∷ xs) (suc k) d h = next (f x) (f (get_or xs k d)) (total f xs)
-      (total f (remove xs k)) (total_without f xs k d (omega arith))
-    where
-      next : (a b t r : ℤ) → t ≡ b +ℤ r → a +ℤ t ≡ b +ℤ (a +ℤ r)
-      next a b t r e = omega (arith, ints)
+  total_without f (x ∷ xs) (suc k) d h = omega (arith, ints, total_without f xs k d (omega arith))
 
   stays : (xs : List X) (k : ℕ) (x y : X) → k < length xs → get_or xs k x ≡ x → Contains xs y
       → y ≢ x → Contains (remove xs k) y
@@ -227,6 +238,24 @@ module _ {X : Type 0} where
   pub once_none : IsOnce []
   once_none k l d h i = absurd (omega arith)
 
+  -- the same as a tuple, for a list that is written out
+  abbrev pub Once : List X → Type 0
+  Once [] = Unit {0}
+  Once (x ∷ xs) = Each (λ y. y ≢ x) xs × Once xs
+
+  -- read by places
+  pub of_once : (xs : List X) → Once xs → IsOnce xs
+  of_once [] t = once_none
+  of_once (x ∷ xs) t = once_cons x xs (λ h. of_each (λ y. y ≢ x) xs t.0 x h refl) (of_once xs t.1)
+
+  -- and written by places
+  pub to_once : (xs : List X) → IsOnce xs → Once xs
+  to_once [] o = tt
+  to_once (x ∷ xs) o = (
+    to_each (λ y. y ≢ x) xs (λ y h e. once_head x xs o (subst (Contains xs) e h)),
+    to_once xs (once_tail x xs o),
+  )
+
   -- what is removed from a list without repetition is there no more
   gone_for_good : (xs : List X) (k : ℕ) (x : X) → k < length xs → get_or xs k x ≡ x → IsOnce xs
       → ¬ Contains (remove xs k) x
@@ -265,19 +294,14 @@ module _ {X : Type 0} where
 
   once_append : (xs ys : List X) → IsOnce xs → IsOnce ys → ShareNone xs ys → IsOnce (xs ++ ys)
   once_append [] ys o p apart = p
-  once_append (x ∷ xs) ys o p apart =
-      once_cons x (xs ++ ys) (λ c. elim (Contains-append_cases xs ys x c)
+  once_append (x ∷ xs) ys o p apart = once_cons x _ (λ c. elim (Contains-append_cases xs ys x c)
       [ inl h ↦ once_head x xs o h | inr h ↦ apart x (Contains-head x xs) h ])
       (once_append xs ys (once_tail x xs o) p (λ y h. apart y (Contains-later x xs y h)))
 
   -- a sum over two lists is the sum of both sums
   pub total_append : (f : X → ℤ) (xs ys : List X) → total f (xs ++ ys) ≡ total f xs +ℤ total f ys
-  total_append f [] ys = none (total f ys)
-    where
-      none : (a : ℤ) → a ≡ pos 0 +ℤ a
-      none a = omega (arith, ints)
-  total_append f (x ∷ xs) ys =
-      next (f x) (total f (xs ++ ys)) (total f xs) (total f ys) (total_append f xs ys)
+  total_append f [] ys = omega (arith, ints)
+  total_append f (x ∷ xs) ys = next (f x) _ _ _ (total_append f xs ys)
     where
       next : (a s t u : ℤ) → s ≡ t +ℤ u → a +ℤ s ≡ (a +ℤ t) +ℤ u
       next a s t u e = omega (arith, ints)
@@ -288,11 +312,9 @@ module _ {X : Type 0} where
       → ((x : X) → Contains old x → Contains new x ⊎ Contains gone x) → AreAmong made new
       → ((x : X) → Contains new x → (Contains old x × ¬ Contains gone x) ⊎ Contains made x)
       → total f new +ℤ total f gone ≡ total f old +ℤ total f made
-  changed_total f old new gone made o n g m there apart kept come only =
-      sym (total_append f new gone)
-      ∙ same_total f (new ++ gone) (old ++ made) (once_append new gone n g away)
-      (once_append old made o m (λ x h k. apart x k h)) forth back
-      ∙ total_append f old made
+  changed_total f old new gone made o n g m there apart kept come only = sym (total_append f new _)
+      ∙ same_total f _ _ (once_append new _ n g away) (once_append old _ o m (λ x h k. apart x k h))
+      forth back ∙ total_append f old _
     where
       away : ShareNone new gone
       away x h k = elim (only x h) [ inl s ↦ s.1 k | inr s ↦ apart x s (there x k) ]
@@ -331,3 +353,28 @@ has_pair_or_not (e ∷ pairs) i j = go (cases_eq e.0 i) (cases_eq e.1 j) (has_pa
         (Contains-cases e pairs (i, j) h) [ inl s ↦ a (ap (λ (x : ℕ × ℕ). x.0) s) | inr s ↦ n s ])
     go (inl _) (inr b) (inr n) = inr (λ h. elim
         (Contains-cases e pairs (i, j) h) [ inl s ↦ b (ap (λ (x : ℕ × ℕ). x.1) s) | inr s ↦ n s ])
+
+-- ---- one change of outer edges after another
+module _ (old mid new gone made lost got gone' made' : List (ℕ × ℕ))
+    (c : OuterChange old mid gone made) (d : OuterChange mid new lost got) where
+  -- is one change: what goes then goes now or went before, and was there; what comes then comes now
+  -- or came before, and is not lost
+  pub change_after : AreAmong gone gone' → Each (λ e. Contains old e → Contains gone' e) lost
+      → ((e : ℕ × ℕ) → Contains gone' e → Contains gone e ⊎ Contains lost e)
+      → Each (λ e. (Contains made e × ¬ Contains lost e) ⊎ Contains got e) made'
+      → Each (λ e. ¬ Contains lost e → Contains made' e) made → Each (Contains made') got
+      → OuterChange old new gone' made'
+  change_after more also of from kept came = record {
+    kept = λ i j h away. d.kept i j (c.kept i j h (λ k. away (more (i, j) k)))
+        (λ k. away (of_each (λ e. Contains old e → Contains gone' e) lost also (i, j) k h));
+    come = λ i j h. elim (of_each (λ e. (Contains made e × ¬ Contains lost e) ⊎ Contains got e)
+        made' from (i, j) h) [ inl o ↦ d.kept i j (c.come i j o.0) o.1 | inr o ↦ d.come i j o ];
+    only = λ i j h. elim (d.only i j h) [
+      | inl o ↦ elim (c.only i j o.0) [
+        | inl s ↦ inl (s.0, λ k. elim (of (i, j) k) [ inl y ↦ s.1 y | inr y ↦ o.1 y ])
+        | inr s ↦ inr (of_each (λ e. ¬ Contains lost e → Contains made' e) _ kept (i, j) s o.1)
+      ]
+      | inr o ↦ inr (of_each (Contains made') got came (i, j) o)
+    ];
+    once = d.once;
+  }

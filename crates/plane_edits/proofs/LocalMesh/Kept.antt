@@ -1,4 +1,6 @@
 -- The edits that keep a local mesh, in the words of specs/.
+-- Notions: with_last, from_last (one more point); turning_of, index_of; inside_face_kept,
+-- within_side_kept, within_outer_kept; flip_kept, flip_covers.
 use Rattle.std.proofs.Common.{◌⊎◌, ℕ, suc, ◌<◌, List, [], ◌∷◌, ◌++◌, length, sym, subst}
 use mathlib.Core.Logic.{inl, inr}
 use Rattle.std.specs.Prelude.{pos, ◌<ℤ◌}
@@ -29,30 +31,27 @@ use Rattle.plane_edits.proofs.Legalization.Legal.{InClosed, halved}
 pub with_last : (points : List Point) (q : Point) (faces : List Face) (outer : List (ℕ × ℕ))
     → LocalMesh points faces outer
     → SignMesh (length points) (point_at (points ++ q ∷ [])) faces outer
-with_last points q faces outer m = same_points (length points) (point_at points)
-    (point_at (points ++ q ∷ [])) faces outer (kept_point points q) (by_signs points faces outer m)
+with_last points q faces outer m = same_points _ _ _ _ _ (kept_point _ q) (by_signs _ _ _ m)
 
 -- the mesh of the points with q last, read by signs, is a local mesh
 pub from_last : (points : List Point) (q : Point) (faces : List Face) (outer : List (ℕ × ℕ))
     → SignMesh (suc (length points)) (point_at (points ++ q ∷ [])) faces outer
     → LocalMesh (points ++ q ∷ []) faces outer
-from_last points q faces outer m = by_words (points ++ q ∷ []) faces outer (subst
-    (λ n. SignMesh n (point_at (points ++ q ∷ [])) faces outer) (sym (length_appended points q)) m)
+from_last points q faces outer m = by_words _ _ _ (subst
+    (λ n. SignMesh n (point_at (points ++ q ∷ [])) faces outer) (sym (length_appended _ q)) m)
 
 -- the faces of a local mesh turn left, in each rotation
 pub turning_of : (points : List Point) (faces : List Face) (outer : List (ℕ × ℕ))
     → LocalMesh points faces outer → (a b c : ℕ) → IsFaceOf faces a b c
     → TurnsLeft (place points a) (place points b) (place points c)
-turning_of points faces outer m a b c h =
-    left_if (place points a) (place points b) (place points c) (C.turn_left_of (length points)
-    (point_at points) faces outer (by_signs points faces outer m) a b c h)
+turning_of points faces outer m a b c h = left_if _ _ _
+    (C.turn_left_of _ _ _ _ (by_signs _ _ _ m) a b c h)
 
 -- the corners of a face of a local mesh are indexes of points, in each rotation
 pub index_of : (points : List Point) (faces : List Face) (outer : List (ℕ × ℕ))
     → LocalMesh points faces outer → (a b c : ℕ) → IsFaceOf faces a b c
     → (a < length points) × (b < length points) × (c < length points)
-index_of points faces outer m a b c h = C.turn_corners (length points) (point_at points) faces outer
-    (by_signs points faces outer m) a b c h
+index_of points faces outer m a b c h = C.turn_corners _ _ _ _ (by_signs _ _ _ m) a b c h
 
 -- a vertex of two, with a new point
 within_last : (points : List Point) (q : Point) (a b : ℕ) → a < length points → b < length points
@@ -61,7 +60,7 @@ within_last : (points : List Point) (q : Point) (a b : ℕ) → a < length point
     (whole (point_at (points ++ q ∷ []) (length points)))
 within_last points q a b ha hb w =
     subst (λ (x : Point × Point × Point). WithinSegment (whole x.0) (whole x.1) (whole x.2))
-    (λ i. (kept_point points q a ha i, kept_point points q b hb i, sym (last_point points q) i)) w
+    (λ i. (kept_point _ q a ha i, kept_point _ q b hb i, sym (last_point points q) i)) w
 
 -- ---- insertions
 -- a vertex put into a face leaves a mesh
@@ -69,11 +68,11 @@ pub inside_face_kept : InsertionInsideKeeps
 inside_face_kept points faces new outer outer' q a b c m f inside change edges =
     let p = point_at (points ++ q ∷ []) in
     let n = length points in
-    let x = index_of points faces outer m a b c f in
-    let s = inside_signs (place points a) (place points b) (place points c) (whole q)
-    (turning_of points faces outer m a b c f) inside in
-    from_last points q new outer'
-    (I.inside_kept n p faces new outer outer' (with_last points q faces outer m) a b c f
+    let x = index_of _ _ _ m a b c f in
+    let s = inside_signs _ _ _ _
+    (turning_of _ _ _ m a b c f) inside in
+    from_last _ q new _
+    (I.inside_kept n p _ new _ _ (with_last _ q _ _ m) a b c f
     (record {
       first = moved a b x.0 x.1 s.first;
       second = moved b c x.1 x.2 s.second;
@@ -86,8 +85,8 @@ inside_face_kept points faces new outer outer' q a b c m f inside change edges =
         (at (point_at (points ++ q ∷ [])) (length points))
     moved i j hi hj h = subst (λ (x : Point × Point × Point). pos 0 <ℤ bracket (vec (whole x.0))
         (vec (whole x.1)) (vec (whole x.2))) (λ o. (
-          kept_point points q i hi o,
-          kept_point points q j hj o,
+          kept_point _ q i hi o,
+          kept_point _ q j hj o,
           sym (last_point points q) o,
         )) h
 
@@ -95,18 +94,18 @@ inside_face_kept points faces new outer outer' q a b c m f inside change edges =
 -- local
 pub within_side_kept : InsertionWithinSideKeeps
 within_side_kept points faces new outer outer' q a b c d m f g within change edges =
-    let x = index_of points faces outer m a b c f in
-    from_last points q new outer' (I.side_kept (length points) (point_at (points ++ q ∷ [])) faces
-    new outer outer' (with_last points q faces outer m) a b c d f g
-    (within_last points q a b x.0 x.1 within) change edges)
+    let x = index_of _ _ _ m a b c f in
+    from_last _ q new _ (I.side_kept _ _ _
+    new _ _ (with_last _ q _ _ m) a b c d f g
+    (within_last _ q a b x.0 x.1 within) change edges)
 
 -- a vertex strictly within an outer edge makes two halves of it, and the mesh stays local
 pub within_outer_kept : InsertionWithinOuterKeeps
 within_outer_kept points faces new outer outer' q u v c m own f within change edges =
-    let x = index_of points faces outer m v u c f in
-    from_last points q new outer' (I.hull_kept (length points) (point_at (points ++ q ∷ [])) faces
-    new outer outer' (with_last points q faces outer m) u v c own f
-    (within_last points q u v x.1 x.0 within) change edges)
+    let x = index_of _ _ _ m v u c f in
+    from_last _ q new _ (I.hull_kept _ _ _
+    new _ _ (with_last _ q _ _ m) u v c own f
+    (within_last _ q u v x.1 x.0 within) change edges)
 
 -- ---- flips
 -- the outer edges stay as they are
@@ -120,11 +119,9 @@ same_outer outer once = record {
 
 -- a flip across a strictly convex quadrilateral keeps the mesh local
 pub flip_kept : FlipKeeps
-flip_kept points faces new outer outer' a b c d m f g left right change edges =
-    by_words points new outer' (F.flipped (length points) (point_at points) faces new outer outer'
-    (by_signs points faces outer m) edges a b c d change f g
-    (if_left (place points a) (place points b) (place points d) left)
-    (if_left (place points b) (place points c) (place points d) right))
+flip_kept points faces new outer outer' a b c d m f g left right change edges = by_words _ new
+    _ (F.flipped _ _ _ new _ _ (by_signs _ _ _ m) edges a b c d change f g (if_left _ _ _ left)
+    (if_left _ _ _ right))
 
 -- the two halvings of a strictly convex quadrilateral cover the same points
 pub flip_covers : FlipCovers
@@ -132,7 +129,7 @@ flip_covers a b c d p abc acd abd bcd = ((λ h. forth h), (λ h. back h))
   where
     turned : (a b c : Fraction) → pos 0 <ℤ bracket (vec a) (vec b) (vec c)
         → pos 0 <ℤ bracket (vec b) (vec c) (vec a)
-    turned a b c h = subst (λ z. pos 0 <ℤ z) (bracket-turn (vec a) (vec b) (vec c)) h
+    turned a b c h = rw (bracket-turn _ _ _) at h
 
     reads : (a b c : Fraction) → TurnsLeft a b c → InTriangle a b c p
         → InClosed (vec a) (vec b) (vec c) (vec p)
@@ -160,9 +157,9 @@ flip_covers a b c d p abc acd abd bcd = ((λ h. forth h), (λ h. back h))
     sbcd = if_left b c d bcd
 
     back : InTriangle a b d p ⊎ InTriangle b c d p → InTriangle a b c p ⊎ InTriangle a c d p
-    back (inl h) = elim (halved (vec a) (vec b) (vec c) (vec d) (vec p) sabc sacd sabd sbcd
+    back (inl h) = elim (halved _ _ _ _ _ sabc sacd sabd sbcd
         (reads a b d abd h)) [ inl x ↦ inl (says a b c abc x) | inr x ↦ inr (says a c d acd x) ]
-    back (inr h) = elim (halved (vec c) (vec d) (vec a) (vec b) (vec p) (turned a c d sacd)
+    back (inr h) = elim (halved _ _ _ _ _ (turned a c d sacd)
         (turned b c a (turned a b c sabc)) (turned b c d sbcd) (turned b d a (turned a b d sabd))
         (turned_closed b c d (reads b c d bcd h))) [
           | inl x ↦ inr (says a c d acd (turned_closed d a c (turned_closed c d a x)))
@@ -170,13 +167,12 @@ flip_covers a b c d p abc acd abd bcd = ((λ h. forth h), (λ h. back h))
         ]
 
     forth : InTriangle a b c p ⊎ InTriangle a c d p → InTriangle a b d p ⊎ InTriangle b c d p
-    forth (inl h) = elim (halved (vec b) (vec c) (vec d) (vec a) (vec p) sbcd (turned a b d sabd)
+    forth (inl h) = elim (halved _ _ _ _ _ sbcd (turned a b d sabd)
         (turned a b c sabc) (turned a c d sacd) (turned_closed a b c (reads a b c abc h))) [
           | inl x ↦ inr (says b c d bcd x)
           | inr x ↦ inl (says a b d abd (turned_closed d a b (turned_closed b d a x)))
         ]
-    forth (inr h) =
-        elim (halved (vec d) (vec a) (vec b) (vec c) (vec p) (turned b d a (turned a b d sabd))
+    forth (inr h) = elim (halved _ _ _ _ _ (turned b d a (turned a b d sabd))
         (turned c d b (turned b c d sbcd)) (turned c d a (turned a c d sacd)) sabc
         (turned_closed c d a (turned_closed a c d (reads a c d acd h)))) [
           | inl x ↦ inl (says a b d abd (turned_closed d a b x))

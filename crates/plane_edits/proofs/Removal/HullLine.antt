@@ -1,19 +1,19 @@
 -- A corner of the hull goes with all faces: the other vertices are on one line, in the order of its
 -- neighbours.
-use Rattle.std.proofs.Common.{◌≡◌, ◌⊎◌, ◌<◌, ◌≤◌, [], ◌∷◌, ◌∙◌}
-use Rattle.std.proofs.Common.{ℕ, suc, List, length, refl, sym, ap, subst, arith}
+-- Notions: named (each other vertex is a neighbour), between, joined; `line_left`.
+use Rattle.std.proofs.Common.{◌≡◌, ◌⊎◌, ◌<◌, ◌≤◌, [], ◌∷◌, ◌∙◌, ℕ, suc, List, length, refl, sym, ap}
+use Rattle.std.proofs.Common.{subst, arith}
 use mathlib.Core.Logic.{inl, inr, ◌≢◌}
-use Rattle.std.specs.Prelude.{ℤ, pos, ◌+ℤ◌, ◌*ℤ◌, ◌<ℤ◌, ◌≤ℤ◌, Contains}
+use Rattle.std.specs.Prelude.{ℤ, pos, ◌<ℤ◌, ◌≤ℤ◌, Contains}
 use Rattle.std.proofs.lemmas.Bool.{cases_eq, cases_lt}
-use Rattle.plane.specs.Fraction.{Point, whole, IsPositive, WithinSegment}
+use Rattle.plane.specs.Fraction.{Point, whole, WithinSegment}
 use Rattle.plane.specs.Pairs.{place}
 use Rattle.plane.specs.Tiling.{Face}
 use Rattle.plane_tiling.specs.Local.{LocalMesh}
 use Rattle.plane.proofs.Sides.{on_if}
-use Rattle.plane.proofs.Steps.{left_not_zero, between_zero, negated_below, product_zero_left}
-use Rattle.plane.proofs.Means.{mean_of_two}
+use Rattle.plane.proofs.Steps.{left_not_zero, between_zero, negated_below}
 use Rattle.plane.proofs.Bracket.{bracket}
-use Rattle.plane.proofs.BracketIdentities.{bracket-turn, bracket-swap, cramer_x, cramer_y, cramer_w}
+use Rattle.plane.proofs.BracketIdentities.{bracket-turn, bracket-swap}
 use Rattle.plane_tiling.proofs.Flows.{IsTurnOf, HasSide, no_turn}
 use Rattle.plane_tiling.proofs.Counting.{at, SignMesh, within_turned}
 use Rattle.plane_tiling.proofs.Tiles.{point_at, by_signs}
@@ -23,12 +23,12 @@ use Rattle.plane_tiling.proofs.Edges as E
 use Rattle.plane_edits.specs.Change.{FacesChange, OuterChange}
 use Rattle.plane_edits.specs.Removal.{AreNeighboursBut, IsOther, LineMeshWithout}
 use Rattle.plane_edits.specs.RemovalHull.{IsHullStar, strip, chain}
-use Rattle.plane_edits.proofs.LocalMesh.Changes.{face_kept, each, each_none, turn_of_all}
+use Rattle.plane_edits.proofs.LocalMesh.Changes.{face_kept, of_each, corner_of_each}
+use Rattle.plane_edits.proofs.Insertion.Hull.{on_side}
 use Rattle.plane_edits.proofs.Removal.Opposite as O
 use Rattle.plane_edits.proofs.Removal.HullStar as H
 use Rattle.plane_edits.proofs.Removal.HullCut as T
 use Rattle.plane_edits.proofs.Removal.StarFlips.{DifferUpTo, neighbours_differ}
-use Rattle.plane.proofs.Signs.{sum_without_first}
 
 module _ (points : List Point) (old new : List Face) (outer outer' : List (ℕ × ℕ)) (m : LocalMesh
     points old outer) (v k : ℕ) (nb : ℕ → ℕ) (star : IsHullStar old outer v k nb) (corner : pos 0
@@ -47,18 +47,18 @@ module _ (points : List Point) (old new : List Face) (outer outer' : List (ℕ �
   signs = by_signs points old outer m
 
   gone_all : (a b c : ℕ) → IsTurnOf old a b c → IsTurnOf (strip v nb k) a b c
-  gone_all a b c h = elim (face_kept old new (strip v nb k) [] change a b c h)
-      [ inl o ↦ absurd (no_turn a b c (subst (λ l. IsTurnOf l a b c) empty o)) | inr o ↦ o ]
+  gone_all a b c h = elim (face_kept old new _ [] change a b c h)
+      [ inl o ↦ absurd (no_turn a b c (rw empty at o)) | inr o ↦ o ]
 
   -- no neighbour is v
   not_v : (i : ℕ) → i ≤ k → nb i ≢ v
-  not_v = T.not_v points old new outer outer' m v k nb star
+  not_v = T.not_v _ old new _ outer' m v k nb star
 
   other : T.AreOthers points v k nb
-  other = T.others points old new outer outer' m v k nb star
+  other = T.others _ old new _ outer' m v k nb star
 
   differ : DifferUpTo k nb
-  differ = neighbours_differ points old outer m v k nb star
+  differ = neighbours_differ _ old _ m v k nb star
 
   same_at : (a b : ℕ) → a ≤ k → b ≤ k → nb a ≡ nb b → a ≡ b
   same_at a b ha hb e = elim (cases_eq a b) [
@@ -76,57 +76,45 @@ module _ (points : List Point) (old new : List Face) (outer outer' : List (ℕ �
   abbrev Named : ℕ → Type 0
   Named z = (i : ℕ) × (i ≤ k) × (z ≡ nb i)
 
-  abbrev Names : ℕ → ℕ → ℕ → Type 0
-  Names a b c = (a ≢ v → Named a) × (b ≢ v → Named b) × (c ≢ v → Named c)
-
   named : (z : ℕ) → z < n → z ≢ v → Named z
   named z h a =
-      let f = C.face_at n p old outer signs z h in
-      (turn_of_all (strip v nb k) Names (λ i j l e. (e.1, e.2, e.0))
-      (T.each_strip points old new outer outer' m v k nb star (λ f. Names f.a f.b f.c) k
-      (λ i h. ((λ a. absurd (a refl)), (λ _. (i, weaker i h, refl)), (λ _. (suc i, h, refl)))))
-      z f.0 f.1 (gone_all z f.0 f.1 f.2)).0 a
-    where
-      weaker : (i : ℕ) → i < k → i ≤ k
-      weaker i h = omega arith
+      let f = C.face_at n p old _ signs z h in
+      corner_of_each _ (λ a _ _. a ≢ v → Named a) (T.each_strip v nb
+      (λ f. (f.a ≢ v → Named f.a) × (f.b ≢ v → Named f.b) × (f.c ≢ v → Named f.c)) k
+      (λ i h. ((λ a. absurd (a refl)), (λ _. (i, omega arith, refl)), (λ _. (suc i, h, refl)))))
+      z f.0 f.1 (gone_all z f.0 f.1 f.2) a
 
   -- and behind each way between neighbours there is no face
   abbrev Way : ℕ → ℕ → Type 0
   Way a b = (j : ℕ) × (j < k) × (a ≡ nb j) × (b ≡ nb (suc j))
 
-  -- each side of a b c without v is a way between neighbours
-  abbrev Ways : ℕ → ℕ → ℕ → Type 0
-  Ways a b c = (a ≢ v → b ≢ v → Way a b) × (b ≢ v → c ≢ v → Way b c) × (c ≢ v → a ≢ v → Way c a)
+  -- a side without v is one
+  abbrev Without : ℕ → ℕ → Type 0
+  Without a b = a ≢ v → b ≢ v → Way a b
 
   no_face_behind : (i : ℕ) → i < k → ¬ HasSide old (nb (suc i)) (nb i)
-  no_face_behind i h s = by ((turn_of_all (strip v nb k) Ways (λ i j l e. (e.1, e.2, e.0))
-      (T.each_strip points old new outer outer' m v k nb star (λ f. Ways f.a f.b f.c) k
-      (λ i h. (
-        (λ a _. absurd (a refl)),
-        (λ _ _. (i, h, refl, refl)),
-        (λ _ a. absurd (a refl)),
-      ))) (nb (suc i)) (nb i) s.0
-      (gone_all (nb (suc i)) (nb i) s.0 s.1)).0
-      (not_v (suc i) h) (not_v i (omega arith)))
+  no_face_behind i h s = by (corner_of_each _ (λ a b _. Without a b)
+      (T.each_strip v nb (λ f. Without f.a f.b × Without f.b f.c × Without f.c f.a) k
+      (λ i h. ((λ a _. absurd (a refl)), (λ _ _. (i, h, refl, refl)), (λ _ a. absurd (a refl))))) _
+      _ s.0 (gone_all _ _ s.0 s.1) (not_v _ h) (not_v i (omega arith)))
     where
       clash : (i j : ℕ) → suc i ≡ j → i ≡ suc j → ⊥
       clash i j e f = omega arith
 
       by : Way (nb (suc i)) (nb i) → ⊥
-      by (j, l, e, f) =
-          clash i j (same_at (suc i) j h (omega arith) e) (same_at i (suc j) (omega arith) l f)
+      by (j, l, e, f) = clash i j (same_at _ j h (omega arith) e) (same_at i _ (omega arith) l f)
 
   -- the way back between two neighbours is an outer edge
   back : (i : ℕ) → i < k → Contains outer (nb (suc i), nb i)
-  back i h = elim (C.behind_side n p old outer signs (nb i) (nb (suc i)) (T.side_there points old
-      new outer outer' m v k nb star i h)) [ inl s ↦ absurd (no_face_behind i h s) | inr o ↦ o ]
+  back i h = elim (C.behind_side n p old _ signs _ _ (T.side_there _ old
+      new _ outer' m v k nb star i h)) [ inl s ↦ absurd (no_face_behind i h s) | inr o ↦ o ]
 
   -- v has a face
   some : 0 < k
   some = elim (cases_lt 0 k) [
     | inl l ↦ l
     | inr l ↦ absurd (left_not_zero corner (ap (λ o. bracket (at p v) (at p (nb 0)) (at p (nb o)))
-        (none l) ∙ O.turn_own n p old outer signs v (nb 0)))
+        (none l) ∙ O.turn_own n p old _ signs v _))
   ]
     where
       none : k ≤ 0 → k ≡ 0
@@ -134,55 +122,28 @@ module _ (points : List Point) (old new : List Face) (outer outer' : List (ℕ �
 
   -- all others are on the line of neighbours 0 and 1
   on_line : (z : ℕ) → IsOther points v z → bracket (at p (nb 0)) (at p (nb 1)) (at p z) ≡ pos 0
-  on_line z h =
-      between_zero (H.not_beyond n p old outer signs v k nb star corner bent 0 some z h.0 h.1)
-      (negated_below (bracket-swap (at p (nb 0)) (at p (nb 1)) (at p z))
-      (signs.supporting (nb 1, nb 0) (back 0 some) z h.0))
+  on_line z h = between_zero (H.not_beyond n p old _ signs v k nb star corner bent 0 some z h.0 h.1)
+      (negated_below (bracket-swap _ _ _) (signs.supporting (nb 1, nb 0) (back 0 some) z h.0))
 
   level : (a b c : ℕ) → IsOther points v a → IsOther points v b → IsOther points v c
       → bracket (at p a) (at p b) (at p c) ≡ pos 0
-  level a b c x y z = flat (p (nb 0)) (p (nb 1)) (at p a) (at p b) (at p c) (signs.distinct (nb 0)
-      (nb 1) (other 0 (omega arith)).0 (other 1 some).0 (differ 0 1 (omega arith) some))
-      (on_line a x) (on_line b y) (on_line c z)
+  level a b c x y z = flat _ _ _ _ _ (signs.distinct _ _ (other 0 (omega arith)).0 (other 1 some).0
+      (differ 0 1 (omega arith) some)) (on_line a x) (on_line b y) (on_line c z)
 
   -- a neighbour is strictly between the one before and each one that is further on
   between : (i j : ℕ) → suc i < j → j ≤ k
       → WithinSegment (whole (p (nb i))) (whole (p (nb j))) (whole (p (nb (suc i))))
-  between i j h l = mean_of_two IsPositive (whole (p (nb i))) (whole (p (nb j)))
-      (whole (p (nb (suc i)))) (record {
-        k = bracket (at p (nb j)) (at p v) (at p (nb (suc i)));
-        l = bracket (at p v) (at p (nb i)) (at p (nb (suc i)));
-        n = bracket (at p v) (at p (nb i)) (at p (nb j));
-        k_allowed = subst (λ z. pos 0 <ℤ z) (bracket-turn (at p v) (at p (nb (suc i))) (at p (nb j))
-            ∙ bracket-turn (at p (nb (suc i))) (at p (nb j)) (at p v))
-            (H.later_left n p old outer signs v k nb star corner (suc i) j h l);
-        l_allowed = H.step n p old outer signs v k nb star i (omega arith);
-        positive = H.later_left n p old outer signs v k nb star corner i j (omega arith) l;
-        x = mean (bracket (at p v) (at p (nb i)) (at p (nb j)) *ℤ (p (nb (suc i))).x) (p v).x
-            (bracket (at p (nb j)) (at p v) (at p (nb (suc i))) *ℤ (p (nb i)).x)
-            (bracket (at p v) (at p (nb i)) (at p (nb (suc i))) *ℤ (p (nb j)).x)
-            (cramer_x (at p v) (at p (nb i)) (at p (nb j)) (at p (nb (suc i))));
-        y = mean (bracket (at p v) (at p (nb i)) (at p (nb j)) *ℤ (p (nb (suc i))).y) (p v).y
-            (bracket (at p (nb j)) (at p v) (at p (nb (suc i))) *ℤ (p (nb i)).y)
-            (bracket (at p v) (at p (nb i)) (at p (nb (suc i))) *ℤ (p (nb j)).y)
-            (cramer_y (at p v) (at p (nb i)) (at p (nb j)) (at p (nb (suc i))));
-        w = mean (bracket (at p v) (at p (nb i)) (at p (nb j)) *ℤ pos 1) (pos 1)
-            (bracket (at p (nb j)) (at p v) (at p (nb (suc i))) *ℤ pos 1)
-            (bracket (at p v) (at p (nb i)) (at p (nb (suc i))) *ℤ pos 1)
-            (cramer_w (at p v) (at p (nb i)) (at p (nb j)) (at p (nb (suc i))));
-      })
-    where
-      mean : (s x a b : ℤ)
-          → s ≡ bracket (at p (nb i)) (at p (nb j)) (at p (nb (suc i))) *ℤ x +ℤ a +ℤ b → s ≡ a +ℤ b
-      mean s x a b e = sum_without_first s (bracket (at p (nb i)) (at p (nb j)) (at p (nb (suc i)))
-          *ℤ x) a b e (product_zero_left x (level (nb i) (nb j) (nb (suc i)) (other i (omega arith))
-          (other j l) (other (suc i) (omega arith))))
+  between i j h l = within_turned _ _ _ (on_side _ _ _ _
+      (H.step n p old _ signs v k nb star i (omega arith))
+      (level _ _ _ (other i (omega arith)) (other j l) (other _ (omega arith)))
+      (subst (λ z. pos 0 <ℤ z) (bracket-turn _ _ _ ∙ bracket-turn _ _ _)
+      (H.later_left n p old _ signs v k nb star corner _ j h l)))
 
   joined : (i j : ℕ) → i < j → j ≤ k → ((z : ℕ) → IsOther points v z
       → ¬ WithinSegment (place points (nb i)) (place points (nb j)) (place points z)) → suc i ≡ j
-  joined i j h l none = elim (cases_eq (suc i) j) [
+  joined i j h l none = elim (cases_eq _ j) [
     | inl e ↦ e
-    | inr ne ↦ absurd (none (nb (suc i)) (other (suc i) (omega arith)) (between i j (short ne) l))
+    | inr ne ↦ absurd (none _ (other _ (omega arith)) (between i j (short ne) l))
   ]
     where
       short : suc i ≢ j → suc i < j
@@ -190,9 +151,9 @@ module _ (points : List Point) (old new : List Face) (outer outer' : List (ℕ �
 
   -- the outer edges that are left are the two ways between neighbours
   back_kept : (i : ℕ) → i < k → Contains outer' (nb (suc i), nb i)
-  back_kept i h = outer_change.kept (nb (suc i)) (nb i) (back i h) (λ c. elim (each AtV (nb 0, v)
-      ((v, nb k) ∷ []) (inr refl) (each AtV (v, nb k) [] (inl refl) (each_none AtV))
-      (nb (suc i), nb i) c) [ inl e ↦ not_v (suc i) h e | inr e ↦ not_v i (omega arith) e ])
+  back_kept i h = outer_change.kept _ _ (back i h)
+      (λ c. elim (of_each AtV ((nb 0, v) ∷ (v, nb k) ∷ []) (inr refl, (inl refl, tt))
+      (nb (suc i), nb i) c) [ inl e ↦ not_v _ h e | inr e ↦ not_v i (omega arith) e ])
     where
       AtV : ℕ × ℕ → Type 0
       AtV e = (e.0 ≡ v) ⊎ (e.1 ≡ v)
@@ -200,20 +161,20 @@ module _ (points : List Point) (old new : List Face) (outer outer' : List (ℕ �
   edge_of : (a b : ℕ) → Contains outer' (a, b) → AreNeighboursBut v points a b
   edge_of a b h = elim (outer_change.only a b h) [
     | inl o ↦ (let c = m.ends (a, b) o.0 in
-        let d = T.own_all points old new outer outer' m v k nb star (a, b) o.0 o.1 in record {
+        let d = T.own_all _ old new _ outer' m v k nb star (a, b) o.0 o.1 in record {
           apart = c.2;
           first = (c.0, d.0);
           second = (c.1, d.1);
           none_between = λ z l. m.bare (a, b) o.0 z l.0;
         })
-    | inr o ↦ T.each_chain points old new outer outer' m v k nb star
-        (λ e. AreNeighboursBut v points e.0 e.1) k (λ i h. record {
-          apart = differ i (suc i) (omega arith) h;
+    | inr o ↦ of_each (λ e. AreNeighboursBut v points e.0 e.1) _
+        (T.each_chain nb (λ e. AreNeighboursBut v points e.0 e.1) k (λ i h. record {
+          apart = differ i _ (omega arith) h;
           first = other i (omega arith);
-          second = other (suc i) h;
-          none_between = λ z l. E.side_bare n p old outer signs (nb i) (nb (suc i)) z
-              (inl (T.side_there points old new outer outer' m v k nb star i h)) l.0;
-        }) (a, b) o
+          second = other _ h;
+          none_between = λ z l. E.side_bare n p old _ signs _ _ z
+              (inl (T.side_there _ old new _ outer' m v k nb star i h)) l.0;
+        })) (a, b) o
   ]
 
   of_edge : (a b : ℕ) → AreNeighboursBut v points a b → Contains outer' (a, b)
@@ -235,13 +196,12 @@ module _ (points : List Point) (old new : List Face) (outer outer' : List (ℕ �
 
           up : i < j → Contains outer' (a, b)
           up l = subst (λ (q : ℕ × ℕ). Contains outer' q)
-              (λ t. (sym ea t, (ap nb (joined i j l hj none) ∙ sym eb) t)) (outer_change.come (nb i)
-              (nb (suc i)) (T.in_chain points old new outer outer' m v k nb star k i (omega arith)))
+              (λ t. (sym ea t, (ap nb (joined i j l hj none) ∙ sym eb) t)) (outer_change.come _
+              _ (T.in_chain nb k i (omega arith)))
 
           down : j < i → Contains outer' (a, b)
           down l = subst (λ (q : ℕ × ℕ). Contains outer' q) (λ t. (
-            (ap nb (joined j i l hi
-                (λ z o w. none z o (within_turned (p (nb j)) (p (nb i)) (p z) w))) ∙ sym ea) t,
+            (ap nb (joined j i l hi (λ z o w. none z o (within_turned _ _ _ w))) ∙ sym ea) t,
             sym eb t,
           )) (back_kept j (omega arith))
 
@@ -249,8 +209,7 @@ module _ (points : List Point) (old new : List Face) (outer outer' : List (ℕ �
   pub line_left : LineMeshWithout v points outer'
   line_left = record {
     distinct = λ i j h l. m.distinct i j h.0 l.0;
-    straight =
-        λ i j l a b c. on_if (place points i) (place points j) (place points l) (level i j l a b c);
+    straight = λ i j l a b c. on_if _ _ _ (level i j l a b c);
     neighbours = λ i j. (edge_of i j, of_edge i j);
     once = outer_change.once;
   }

@@ -1,7 +1,9 @@
 -- The faces at a vertex v of the hull, from the outer edge that reaches it to the one that leaves
 -- it: which of its edges can be flipped, and what their other sides support at a corner.
-use Rattle.std.proofs.Common.{◌≡◌, ◌⊎◌, ◌<◌, ◌≤◌, [], ◌∷◌, ◌∙◌}
-use Rattle.std.proofs.Common.{ℕ, zero, suc, List, sym, ap, subst, arith}
+-- Notions: step, skip, skip_later, later_left (seen from the vertex), from_first, to_last;
+-- not_beyond; flat_flips.
+use Rattle.std.proofs.Common.{◌≡◌, ◌⊎◌, ◌<◌, ◌≤◌, [], ◌∷◌, ◌∙◌, ℕ, zero, suc, List, sym, ap, subst}
+use Rattle.std.proofs.Common.{arith}
 use Prim.Native.Nat.{◌+◌, ◌-◌}
 use mathlib.Core.Logic.{inl, inr, ◌≢◌}
 use Rattle.std.specs.Prelude.{ℤ, pos, ◌+ℤ◌, ◌-ℤ◌, ◌*ℤ◌, ◌≤ℤ◌, ◌<ℤ◌, neg_ℤ}
@@ -27,7 +29,7 @@ use Rattle.plane_edits.specs.RemovalHull.{IsHullStar}
 use Rattle.plane_edits.proofs.Removal.Star.{IsInAngle, same_angle}
 use Rattle.plane_edits.proofs.Removal.Opposite as O
 use Rattle.plane_edits.proofs.Removal.Inner as I
-use Rattle.plane.proofs.Signs.{difference_of_zeros, zero_below_positive}
+use Rattle.plane.proofs.Signs.{difference_of_zeros, zero_below_positive, at_most_if_not_less}
 use Rattle.plane.proofs.Indexes.{one_more_than_last}
 
 abbrev before : ℕ → ℕ
@@ -49,7 +51,7 @@ less : (a b c : ℤ) → a ≡ b +ℤ c → c ≤ℤ pos 0 → a ≤ℤ b
 less a b c e h = omega (arith, ints)
 
 swapped_product : (a b : ℤ) → (a *ℤ b) ≤ℤ pos 0 → (b *ℤ a) ≤ℤ pos 0
-swapped_product a b h = subst (λ z. z ≤ℤ pos 0) (*ℤ_comm a b) h
+swapped_product a b h = rw (*ℤ_comm a b) at h
 
 slopes : (ab bc ac ga gb gc la lb lc t lv : ℤ) → ga *ℤ bc -ℤ gb *ℤ ac +ℤ gc *ℤ ab ≡ pos 0
     → t *ℤ lv ≡ bc *ℤ la +ℤ neg_ℤ ac *ℤ lb +ℤ ab *ℤ lc
@@ -65,13 +67,10 @@ slopes ab bc ac ga gb gc la lb lc t lv e h =
 crossing : (g : ℕ → ℤ) → pos 0 ≤ℤ g 0 → (k : ℕ) → g (suc k) ≤ℤ pos 0
     → (j : ℕ) × (j ≤ k) × (pos 0 ≤ℤ g j) × (g (suc j) ≤ℤ pos 0)
 crossing g first zero last = (0, omega arith, first, last)
-crossing g first (suc k) last = elim (lt_or_ge_ℤ (pos 0) (g (suc k))) [
+crossing g first (suc k) last = elim (lt_or_ge_ℤ _ (g _)) [
   | inl l ↦ (suc k, omega arith, weak l, last)
-  | inr l ↦ (let r = crossing g first k l in (r.0, wider r.1, r.2, r.3))
+  | inr l ↦ (let r = crossing g first k l in (r.0, omega (arith, r.1), r.2, r.3))
 ]
-  where
-    wider : {j : ℕ} → j ≤ k → j ≤ suc k
-    wider h = omega arith
 
 -- where l is 0 at i and i + 1 and the slopes fall, l is nowhere above 0
 module _ (k i : ℕ) (g l s : ℕ → ℤ) (inside : i < k) (g_left : (j : ℕ) → 0 < j → j ≤ k → pos 0
@@ -79,8 +78,7 @@ module _ (k i : ℕ) (g l s : ℕ → ℤ) (inside : i < k) (g_left : (j : ℕ) 
     (falls : (j : ℕ) → suc j < k → (s j *ℤ slope g l (suc j)) ≤ℤ (s (suc j) *ℤ slope g l j))
     (at_i : l i ≡ pos 0) (at_next : l (suc i) ≡ pos 0) where
   level : slope g l i ≡ pos 0
-  level = difference_of_zeros (g i *ℤ l (suc i)) (g (suc i) *ℤ l i) (zero-mul_ℤ (g i) at_next)
-      (zero-mul_ℤ (g (suc i)) at_i)
+  level = difference_of_zeros _ _ (zero-mul_ℤ (g i) at_next) (zero-mul_ℤ (g _) at_i)
 
   below_below : (a b : ℤ) → a ≤ℤ b → b ≤ℤ pos 0 → a ≤ℤ pos 0
   below_below a b h k = omega (arith, ints)
@@ -95,58 +93,40 @@ module _ (k i : ℕ) (g l s : ℕ → ℤ) (inside : i < k) (g_left : (j : ℕ) 
   second_below a b h k = omega (arith, ints)
 
   slope_after : (j : ℕ) → i ≤ j → j < k → slope g l j ≤ℤ pos 0
-  slope_after zero h e = zero_weak (subst (λ o. slope g l o ≡ pos 0) (none i h) level)
-    where
-      none : (i : ℕ) → i ≤ 0 → i ≡ 0
-      none i h = omega arith
-  slope_after (suc j) h e = elim (cases_eq i (suc j)) [
-    | inl q ↦ zero_weak (subst (λ o. slope g l o ≡ pos 0) q level)
-    | inr ne ↦ not_left_of_product (s_left j (omega arith)) (below_below (s j *ℤ slope g l (suc j))
-        (s (suc j) *ℤ slope g l j) (falls j e) (mul-nonpos_of_nonneg_nonpos_ℤ
-        (weak (s_left (suc j) e)) (slope_after j (short ne) (omega arith))))
+  slope_after zero h e = zero_weak (subst (λ o. slope g l o ≡ pos 0) (omega arith) level)
+  slope_after (suc j) h e = elim (cases_eq i _) [
+    | inl q ↦ zero_weak (rw q at level)
+    | inr ne ↦ not_left_of_product (s_left j (omega arith)) (below_below _
+        _ (falls j e) (mul-nonpos_of_nonneg_nonpos_ℤ
+        (weak (s_left _ e)) (slope_after j (omega arith) (omega arith))))
   ]
-    where
-      short : i ≢ suc j → i ≤ j
-      short ne = omega arith
 
   after : (j : ℕ) → i < j → j ≤ k → l j ≤ℤ pos 0
   after zero h e = absurd (omega arith)
   after (suc j) h e = elim (cases_eq i j) [
-    | inl q ↦ zero_weak (subst (λ o. l (suc o) ≡ pos 0) q at_next)
-    | inr ne ↦ not_left_of_product (g_left j (above ne) (omega arith))
-        (first_below (g j *ℤ l (suc j)) (g (suc j) *ℤ l j) (slope_after j (omega arith) e)
-        (mul-nonpos_of_nonneg_nonpos_ℤ (g_weak (suc j) e) (after j (short ne) (omega arith))))
+    | inl q ↦ zero_weak (rw q at at_next)
+    | inr ne ↦ not_left_of_product (g_left j (omega arith) (omega arith))
+        (first_below _ _ (slope_after j (omega arith) e)
+        (mul-nonpos_of_nonneg_nonpos_ℤ (g_weak _ e) (after j (omega arith) (omega arith))))
   ]
-    where
-      above : i ≢ j → 0 < j
-      above ne = omega arith
-
-      short : i ≢ j → i < j
-      short ne = omega arith
 
   slope_before : (d j : ℕ) → j + d ≡ i → pos 0 ≤ℤ slope g l j
-  slope_before zero j e = zero_weak_left (subst (λ o. slope g l o ≡ pos 0) (own j e) level)
-    where
-      own : (j : ℕ) → j + 0 ≡ i → i ≡ j
-      own j e = omega arith
-  slope_before (suc d) j e = nonneg_of_mul-nonneg_ℤ (s_left (suc j) (omega arith))
-      (above_above (s j *ℤ slope g l (suc j)) (s (suc j) *ℤ slope g l j) (falls j (omega arith))
-      (mul-nonneg_ℤ (weak (s_left j (omega arith))) (slope_before d (suc j) (omega arith))))
+  slope_before zero j e = zero_weak_left (subst (λ o. slope g l o ≡ pos 0) (omega arith) level)
+  slope_before (suc d) j e = nonneg_of_mul-nonneg_ℤ (s_left _ (omega arith))
+      (above_above _ _ (falls j (omega arith))
+      (mul-nonneg_ℤ (weak (s_left j (omega arith))) (slope_before d _ (omega arith))))
 
   earlier : (d j : ℕ) → j + d ≡ i → l j ≤ℤ pos 0
-  earlier zero j e = zero_weak (subst (λ o. l o ≡ pos 0) (own j e) at_i)
-    where
-      own : (j : ℕ) → j + 0 ≡ i → i ≡ j
-      own j e = omega arith
-  earlier (suc d) j e = not_left_of_product (g_left (suc j) (omega arith) (omega arith))
-      (second_below (g j *ℤ l (suc j)) (g (suc j) *ℤ l j) (slope_before (suc d) j e)
-      (mul-nonpos_of_nonneg_nonpos_ℤ (g_weak j (omega arith)) (earlier d (suc j) (omega arith))))
+  earlier zero j e = zero_weak (subst (λ o. l o ≡ pos 0) (omega arith) at_i)
+  earlier (suc d) j e = not_left_of_product (g_left _ (omega arith) (omega arith))
+      (second_below _ _ (slope_before _ j e)
+      (mul-nonpos_of_nonneg_nonpos_ℤ (g_weak j (omega arith)) (earlier d _ (omega arith))))
 
   chain_below : (j : ℕ) → j ≤ k → l j ≤ℤ pos 0
-  chain_below j h = elim (cases_lt i j) [ inl q ↦ after j q h | inr q ↦ earlier (i - j) j (rest q) ]
-    where
-      rest : j ≤ i → j + (i - j) ≡ i
-      rest q = omega arith
+  chain_below j h = elim (cases_lt i j) [
+    | inl q ↦ after j q h
+    | inr q ↦ earlier (i - j) j (omega arith)
+  ]
 
 module _ (n : ℕ) (p : ℕ → Point) (faces : List Face) (outer : List (ℕ × ℕ)) (m :
     SignMesh n p faces outer) (v k : ℕ) (nb : ℕ → ℕ) (star : IsHullStar faces outer v k nb) where
@@ -156,108 +136,83 @@ module _ (n : ℕ) (p : ℕ → Point) (faces : List Face) (outer : List (ℕ ×
 
   -- seen from v, each neighbour and the next turn left
   pub step : (i : ℕ) → i < k → pos 0 <ℤ turn i (suc i)
-  step i h = C.turn_left_of n p faces outer m v (nb i) (nb (suc i)) (star.around i h)
+  step i h = C.turn_left_of n p _ _ m v _ _ (star.around i h)
 
   -- the turns between four neighbours have Pluecker's relation
   four : O.AgreeInFours turn
-  four a b c d = O.turns_of_four n p faces outer m v (nb a) (nb b) (nb c) (nb d)
+  four a b c d = O.turns_of_four n p _ _ m v _ _ _ _
 
   -- each neighbour is a vertex
   pub neighbour_is : (i : ℕ) → i ≤ k → nb i < n
   neighbour_is zero h = (m.ends (nb 0, v) star.arrives).0
-  neighbour_is (suc i) h =
-      (C.turn_corners n p faces outer m v (nb i) (nb (suc i)) (star.around i (omega arith))).2
+  neighbour_is (suc i) h = (C.turn_corners n p _ _ m v _ _ (star.around i (omega arith))).2
 
   -- no vertex is right of the way to the first neighbour, nor left of the way to the last
   pub from_first : (z : ℕ) → z < n → pos 0 ≤ℤ bracket (at p v) (at p (nb 0)) (at p z)
-  from_first z h = negated_below (bracket-swap (at p v) (at p (nb 0)) (at p z))
-      (m.supporting (nb 0, v) star.arrives z h)
+  from_first z h = negated_below (bracket-swap _ _ _) (m.supporting (nb 0, v) star.arrives z h)
 
   -- no vertex is on the left of the way from v to the last neighbour
   pub to_last : (z : ℕ) → z < n → pos 0 ≤ℤ bracket (at p v) (at p z) (at p (nb k))
-  to_last z h = negated_below (O.turn_back n p faces outer m v z (nb k))
-      (m.supporting (v, nb k) star.leaves z h)
+  to_last z h = negated_below (O.turn_back n p _ _ m v z _) (m.supporting (v, nb k) star.leaves z h)
 
   -- the first neighbour does not come again
   pub first_once : (j : ℕ) → j < k → nb (suc j) ≢ nb 0
-  first_once j h e = L.outer_is_no_side n p faces outer m (nb 0) v star.arrives
-      (subst (λ o. HasSide faces o v) e (
-        nb j,
-        turned faces (nb j) (nb (suc j)) v
-            (turned faces v (nb j) (nb (suc j)) (star.around j h)),
-      ))
+  first_once j h e = L.outer_is_no_side n p _ _ m _ v star.arrives
+      (subst (λ o. HasSide faces o v) e (nb j, turned _ _ _ v (turned _ v _ _ (star.around j h))))
 
   rotated : (i j : ℕ) → pos 0 <ℤ turn i j → pos 0 <ℤ bracket (at p (nb j)) (at p v) (at p (nb i))
-  rotated i j h = subst (λ z. pos 0 <ℤ z) (bracket-turn (at p v) (at p (nb i)) (at p (nb j))
-      ∙ bracket-turn (at p (nb i)) (at p (nb j)) (at p v)) h
+  rotated i j h = subst (λ z. pos 0 <ℤ z) (bracket-turn _ _ _ ∙ bracket-turn _ _ _) h
 
   -- v has a face, and two where its first and last neighbours are in line with it
   some_face : 0 < k
   some_face =
-      let s = C.behind_outer n p faces outer m v (nb k) star.leaves in
-      let o = star.only s.0 (nb k) (turned faces (nb k) v s.0 s.1) in
-      above o.0 o.1
-    where
-      above : (i : ℕ) → i < k → 0 < k
-      above i h = omega arith
+      let s = C.behind_outer n p _ _ m v _ star.leaves in
+      let o = star.only s.0 _ (turned _ _ v s.0 s.1) in
+      omega (arith, o.1)
 
   -- a star whose first and last neighbour are on one line with v has two faces at least
   pub two_faces : turn 0 k ≡ pos 0 → 2 ≤ k
   two_faces flat = elim (cases_eq k 1) [
-    | inl e ↦ absurd (left_not_zero (step 0 some_face) (subst (λ o. turn 0 o ≡ pos 0) e flat))
-    | inr ne ↦ more some_face ne
+    | inl e ↦ absurd (left_not_zero (step 0 some_face) (rw e at flat))
+    | inr ne ↦ omega (arith, some_face)
   ]
-    where
-      more : 0 < k → k ≢ 1 → 2 ≤ k
-      more h ne = omega arith
 
   -- all others but the last are left of the first
   pub past_first : (j : ℕ) → suc j < k → pos 0 <ℤ turn 0 (suc j)
-  past_first j h = go (zero_or_left (from_first (nb (suc j)) (neighbour_is (suc j) (omega arith))))
-      (lt_or_ge_ℤ (pos 0) (turn (suc j) 1))
+  past_first j h = go (zero_or_left (from_first _ (neighbour_is _ (omega arith))))
+      (lt_or_ge_ℤ _ (turn _ 1))
     where
       some : 0 < k
       some = omega arith
 
       own : IsInAngle n p faces outer m v (nb (suc j)) (nb (suc (suc j))) (at p (nb (suc j)))
-      own = record {
-        from = zero_weak_left (O.turn_own n p faces outer m v (nb (suc j)));
-        to = rotated (suc j) (suc (suc j)) (step (suc j) h);
-      }
+      own = record { from = zero_weak_left (O.turn_own n p _ _ m v _); to = rotated _ _ (step _ h) }
 
       go : (turn 0 (suc j) ≡ pos 0) ⊎ (pos 0 <ℤ turn 0 (suc j))
           → (pos 0 <ℤ turn (suc j) 1) ⊎ (turn (suc j) 1 ≤ℤ pos 0) → pos 0 <ℤ turn 0 (suc j)
       go (inr l) s = l
       go (inl e) (inl s) = absurd (first_once j (omega arith)
-          (sym (same_angle n p faces outer m v (nb 0) (nb 1) (nb (suc j)) (nb (suc (suc j)))
-          (star.around 0 some) (star.around (suc j) h) (at p (nb (suc j))) (record { lt = tt })
-          (record { from = zero_weak_left e; to = rotated (suc j) 1 s }) own).0))
-      go (inl e) (inr s) =
-          absurd (no_relation (turn 0 1 *ℤ turn (suc j) (suc (suc j))) (turn 0 (suc j) *ℤ turn 1
-          (suc (suc j))) (turn 0 (suc (suc j)) *ℤ turn 1 (suc j)) (four 0 1 (suc j) (suc (suc j)))
-          (mul-pos_ℤ (step 0 some) (step (suc j) h)) (product_zero_left (turn 1 (suc (suc j))) e)
-          (mul-nonneg_ℤ (from_first (nb (suc (suc j))) (neighbour_is (suc (suc j)) (omega arith)))
-          (negated_below (O.turn_back n p faces outer m v (nb 1) (nb (suc j))) s)))
+          (sym (same_angle n p _ _ m v _ _ _ _ (star.around 0 some) (star.around _ h) _
+          (record { lt = tt }) (record { from = zero_weak_left e; to = rotated _ 1 s }) own).0))
+      go (inl e) (inr s) = absurd (no_relation _ _ _ (four 0 1 _ _)
+          (mul-pos_ℤ (step 0 some) (step _ h)) (product_zero_left (turn 1 _) e)
+          (mul-nonneg_ℤ (from_first _ (neighbour_is _ (omega arith)))
+          (negated_below (O.turn_back n p _ _ m v _ _) s)))
 
   -- seen from v, neighbours two apart turn left, where the second of them is not past neighbour 2
   pub skip_later : (i : ℕ) → suc (suc i) < k → pos 0 <ℤ turn (suc i) (suc (suc (suc i)))
-  skip_later i h = pos_of_mul-pos_ℤ (past_first (suc i) h) (middle_left (turn 0 (suc i) *ℤ turn
-      (suc (suc i)) (suc (suc (suc i)))) (turn 0 (suc (suc i)) *ℤ turn (suc i) (suc (suc (suc i))))
-      (turn 0 (suc (suc (suc i))) *ℤ turn (suc i) (suc (suc i)))
-      (four 0 (suc i) (suc (suc i)) (suc (suc (suc i))))
-      (mul-pos_ℤ (past_first i (omega arith)) (step (suc (suc i)) h))
-      (mul-nonneg_ℤ (from_first (nb (suc (suc (suc i))))
-      (neighbour_is (suc (suc (suc i))) (omega arith))) (weak (step (suc i) (omega arith)))))
+  skip_later i h = pos_of_mul-pos_ℤ (past_first _ h) (middle_left _ _ _ (four 0 _ _ _)
+      (mul-pos_ℤ (past_first i (omega arith)) (step _ h))
+      (mul-nonneg_ℤ (from_first _ (neighbour_is _ (omega arith))) (weak (step _ (omega arith)))))
 
   -- at a corner: the last is left of the first too
   module _ (strict : pos 0 <ℤ turn 0 k) where
     -- seen from v, all other neighbours are on the left of the first
     pub after_first : (j : ℕ) → j < k → pos 0 <ℤ turn 0 (suc j)
-    after_first j h = elim (last_or j h)
-        [ inl e ↦ subst (λ o. pos 0 <ℤ turn 0 o) (sym e) strict | inr l ↦ past_first j l ]
-      where
-        last_or : (j : ℕ) → j < k → (suc j ≡ k) ⊎ (suc j < k)
-        last_or j h = grind arith
+    after_first j h = elim (cases_eq (suc j) k) [
+      | inl e ↦ rw e strict
+      | inr n ↦ past_first j (omega arith)
+    ]
 
     -- seen from v, neighbours two apart turn left
     pub skip : (i : ℕ) → suc i < k → pos 0 <ℤ turn i (suc (suc i))
@@ -272,20 +227,12 @@ module _ (n : ℕ) (p : ℕ → Point) (faces : List Face) (outer : List (ℕ ×
     pub later_left : (i j : ℕ) → i < j → j ≤ k → pos 0 <ℤ turn i j
     later_left i zero h l = absurd (omega arith)
     later_left zero (suc j) h l = after_first j l
-    later_left (suc i) (suc j) h l = elim (cases_eq (suc i) j) [
+    later_left (suc i) (suc j) h l = elim (cases_eq _ j) [
       | inl e ↦ subst (λ o. pos 0 <ℤ turn (suc i) (suc o)) e (step (suc i) (omega arith))
-      | inr ne ↦ pos_of_mul-pos_ℤ (left_of_first j (above ne) (omega arith))
-          (middle_left (turn 0 (suc i) *ℤ turn j (suc j)) (turn 0 j *ℤ turn (suc i) (suc j))
-          (turn 0 (suc j) *ℤ turn (suc i) j) (four 0 (suc i) j (suc j))
-          (mul-pos_ℤ (after_first i (omega arith)) (step j l))
-          (weak (mul-pos_ℤ (after_first j l) (later_left (suc i) j (short ne) (omega arith)))))
+      | inr ne ↦ pos_of_mul-pos_ℤ (left_of_first j (omega arith) (omega arith))
+          (middle_left _ _ _ (four 0 _ j _) (mul-pos_ℤ (after_first i (omega arith)) (step j l))
+          (weak (mul-pos_ℤ (after_first j l) (later_left _ j (omega arith) (omega arith)))))
     ]
-      where
-        above : suc i ≢ j → 0 < j
-        above ne = omega arith
-
-        short : suc i ≢ j → suc i < j
-        short ne = omega arith
 
     -- where no neighbours turn left, the ways between them support all vertices but v
     module _ (bent : (j : ℕ) → suc j < k → bracket (at p (nb j)) (at p (nb (suc j)))
@@ -295,41 +242,30 @@ module _ (n : ℕ) (p : ℕ → Point) (faces : List Face) (outer : List (ℕ ×
 
       -- the way from neighbour i to the next has v on its left
       sees : pos 0 <ℤ beyond v
-      sees = subst (λ z. pos 0 <ℤ z) (bracket-turn (at p v) (at p (nb i)) (at p (nb (suc i))))
-          (step i inside)
+      sees = rw bracket-turn at (step i inside)
 
       falls : (j : ℕ) → suc j < k → (turn j (suc j) *ℤ slope (turn 0) (λ j. beyond (nb j)) (suc j))
           ≤ℤ (turn (suc j) (suc (suc j)) *ℤ slope (turn 0) (λ j. beyond (nb j)) j)
-      falls j h = less (turn j (suc j) *ℤ slope (turn 0) (λ j. beyond (nb j)) (suc j))
-          (turn (suc j) (suc (suc j)) *ℤ slope (turn 0) (λ j. beyond (nb j)) j)
-          (turn 0 (suc j)
-          *ℤ (beyond v *ℤ bracket (at p (nb j)) (at p (nb (suc j))) (at p (nb (suc (suc j))))))
-          (slopes (turn j (suc j)) (turn (suc j) (suc (suc j))) (turn j (suc (suc j))) (turn 0 j)
-          (turn 0 (suc j)) (turn 0 (suc (suc j))) (beyond (nb j)) (beyond (nb (suc j)))
-          (beyond (nb (suc (suc j))))
-          (bracket (at p (nb j)) (at p (nb (suc j))) (at p (nb (suc (suc j))))) (beyond v)
-          (four 0 j (suc j) (suc (suc j)))
-          (cramer (at p (nb j)) (at p (nb (suc j))) (at p (nb (suc (suc j)))) (at p v) (at p (nb i))
-          (at p (nb (suc i)))
-          ∙ (λ o. sym (bracket-turn (at p v) (at p (nb (suc j))) (at p (nb (suc (suc j))))) o
-          *ℤ beyond (nb j)
-          +ℤ (sym (bracket-turn (at p v) (at p (nb (suc (suc j)))) (at p (nb j)))
-          ∙ O.turn_back n p faces outer m v (nb (suc (suc j))) (nb j)) o *ℤ beyond (nb (suc j))
-          +ℤ sym (bracket-turn (at p v) (at p (nb j)) (at p (nb (suc j)))) o
-          *ℤ beyond (nb (suc (suc j))))))
-          (mul-nonpos_of_nonneg_nonpos_ℤ (weak (after_first j (omega arith)))
+      falls j h = less (turn j _ *ℤ slope (turn 0) (λ j. beyond (nb j)) _)
+          (turn _ _ *ℤ slope (turn 0) (λ j. beyond (nb j)) j) _
+          (slopes (turn j _) (turn _ _) (turn j _) (turn 0 j) (turn 0 _) (turn 0 _) (beyond _)
+          (beyond _) (beyond _) _ (beyond v) (four 0 j _ _)
+          (cramer _ _ _ _ _ _ ∙ (λ o. sym (bracket-turn (at p v) (at p (nb (suc j)))
+          (at p (nb (suc (suc j))))) o *ℤ beyond (nb j) +ℤ
+          (sym (bracket-turn _ _ _) ∙ O.turn_back n p _ _ m v (nb (suc (suc j))) (nb j)) o *ℤ beyond
+          (nb (suc j)) +ℤ sym (bracket-turn (at p v) (at p (nb j)) (at p (nb (suc j)))) o *ℤ beyond
+          (nb (suc (suc j)))))) (mul-nonpos_of_nonneg_nonpos_ℤ (weak (after_first j (omega arith)))
           (mul-nonpos_of_nonneg_nonpos_ℤ (weak sees) (bent j h)))
 
       chain_not_left : (j : ℕ) → j ≤ k → beyond (nb j) ≤ℤ pos 0
-      chain_not_left = chain_below k i (turn 0) (λ j. beyond (nb j)) (λ j. turn j (suc j)) inside
-          left_of_first (λ j h. from_first (nb j) (neighbour_is j h)) step falls (bracket-outer
-          (at p (nb i)) (at p (nb (suc i)))) (bracket-last (at p (nb i)) (at p (nb (suc i))))
+      chain_not_left = chain_below k i (turn 0) (λ j. beyond _) (λ j. turn j _) inside left_of_first
+          (λ j h. from_first _ (neighbour_is j h)) step falls (bracket-outer _ _) (bracket-last _ _)
 
       -- no other vertex is beyond the line
       pub not_beyond : (z : ℕ) → z < n → z ≢ v → beyond z ≤ℤ pos 0
       not_beyond z h other = go (crossing (λ j. bracket (at p v) (at p (nb j)) (at p z))
-          (from_first z h) (k - 1) (subst (λ o. bracket (at p v) (at p (nb o)) (at p z) ≤ℤ pos 0)
-          (one_more_than_last i k inside) (m.supporting (v, nb k) star.leaves z h)))
+          (from_first z h) (k - 1) (rw (one_more_than_last i k inside) at
+          (m.supporting (v, nb k) star.leaves z h)))
         where
           fits : (j : ℕ) → j ≤ k - 1 → i < k → j < k
           fits j h l = omega arith
@@ -337,39 +273,26 @@ module _ (n : ℕ) (p : ℕ → Point) (faces : List Face) (outer : List (ℕ ×
           go : (j : ℕ) × (j ≤ k - 1) × (pos 0 ≤ℤ bracket (at p v) (at p (nb j)) (at p z))
               × (bracket (at p v) (at p (nb (suc j))) (at p z) ≤ℤ pos 0) → beyond z ≤ℤ pos 0
           go (j, low, from, to) = not_left_of_product (step j inner)
-              (three_below (turn j (suc j) *ℤ beyond z) (bracket (at p (nb j)) (at p (nb (suc j)))
-              (at p z) *ℤ beyond v) (bracket (at p (nb (suc j))) (at p v) (at p z) *ℤ beyond (nb j))
-              (bracket (at p v) (at p (nb j)) (at p z) *ℤ beyond (nb (suc j)))
-              (cramer (at p v) (at p (nb j)) (at p (nb (suc j))) (at p z) (at p (nb i))
-              (at p (nb (suc i))))
-              (swapped_product (beyond v) (bracket (at p (nb j)) (at p (nb (suc j))) (at p z))
-              (mul-nonpos_of_nonneg_nonpos_ℤ (weak sees) outside))
+              (three_below _ _ _ _ (cramer _ _ _ _ _ _)
+              (swapped_product (beyond v) _ (mul-nonpos_of_nonneg_nonpos_ℤ (weak sees) outside))
               (mul-nonpos_of_nonneg_nonpos_ℤ back (chain_not_left j (omega arith)))
-              (mul-nonpos_of_nonneg_nonpos_ℤ from (chain_not_left (suc j) inner)))
+              (mul-nonpos_of_nonneg_nonpos_ℤ from (chain_not_left _ inner)))
             where
               inner : j < k
               inner = fits j low inside
 
               back : pos 0 ≤ℤ bracket (at p (nb (suc j))) (at p v) (at p z)
-              back = negated_below (bracket-swap (at p (nb (suc j))) (at p v) (at p z)) to
+              back = negated_below (bracket-swap _ _ _) to
 
               named : pos 0 <ℤ bracket (at p (nb j)) (at p (nb (suc j))) (at p z)
                   → (z ≡ v) ⊎ ((z ≡ nb j) ⊎ (z ≡ nb (suc j))) → ⊥
               named l (inl e) = other e
-              named l (inr (inl e)) =
-                  left_not_zero l (ap (λ o. bracket (at p (nb j)) (at p (nb (suc j))) (at p o)) e
-                  ∙ bracket-outer (at p (nb j)) (at p (nb (suc j))))
-              named l (inr (inr e)) =
-                  left_not_zero l (ap (λ o. bracket (at p (nb j)) (at p (nb (suc j))) (at p o)) e
-                  ∙ bracket-last (at p (nb j)) (at p (nb (suc j))))
+              named l (inr (inl e)) = left_not_zero (rw e at l) (bracket-outer _ _)
+              named l (inr (inr e)) = left_not_zero (rw e at l) (bracket-last _ _)
 
               outside : bracket (at p (nb j)) (at p (nb (suc j))) (at p z) ≤ℤ pos 0
-              outside =
-                  elim (lt_or_ge_ℤ (pos 0) (bracket (at p (nb j)) (at p (nb (suc j))) (at p z))) [
-                    | inl l ↦ absurd (named l (C.vertex_in_face n p faces outer m z v (nb j)
-                        (nb (suc j)) h (star.around j inner) from (weak l) back))
-                    | inr l ↦ l
-                  ]
+              outside = at_most_if_not_less _ _ (λ l. named l
+                  (C.vertex_in_face n p _ _ m z v _ _ h (star.around j inner) from (weak l) back))
 
   -- on a flat side with three faces or more
   module _ (flat : turn 0 k ≡ pos 0) (t : ℕ) (count : suc (suc (suc t)) ≡ k) where
@@ -378,23 +301,20 @@ module _ (n : ℕ) (p : ℕ → Point) (faces : List Face) (outer : List (ℕ ×
     height i = bracket (at p (nb k)) (at p v) (at p (nb (before i)))
 
     -- at a vertex within a hull edge some edge of the star can be turned away
-    pub flat_flips : (i : ℕ) × (suc i < k)
-        × (pos 0 <ℤ bracket (at p (nb i)) (at p (nb (suc i))) (at p (nb (suc (suc i)))))
-        × (pos 0 <ℤ turn i (suc (suc i)))
-    flat_flips = go (I.descend height first (suc t) last ended)
+    pub flat_flips : (i : ℕ) × (suc i < k) × (pos 0 <ℤ bracket (at p (nb i)) (at p (nb (suc i)))
+        (at p (nb (suc (suc i))))) × (pos 0 <ℤ turn i (suc (suc i)))
+    flat_flips = go (I.descend height first _ last ended)
       where
         first : height 1 ≤ℤ pos 0
-        first = zero_weak (sym (bracket-turn (at p v) (at p (nb 0)) (at p (nb k))
-            ∙ bracket-turn (at p (nb 0)) (at p (nb k)) (at p v)) ∙ flat)
+        first = zero_weak (sym (bracket-turn _ _ _ ∙ bracket-turn _ _ _) ∙ flat)
 
         last : pos 0 <ℤ height (suc (suc (suc t)))
         last = subst (λ o. pos 0 <ℤ bracket (at p (nb o)) (at p v) (at p (nb (suc (suc t))))) count
-            (rotated (suc (suc t)) (suc (suc (suc t))) (step (suc (suc t)) (omega arith)))
+            (rotated _ _ (step _ (omega arith)))
 
         ended : height (suc (suc (suc (suc t)))) ≤ℤ height (suc (suc (suc t)))
         ended = zero_below_positive (height (suc (suc (suc (suc t))))) (height (suc (suc (suc t))))
-            (ap (λ o. bracket (at p (nb k)) (at p v) (at p (nb o))) count
-            ∙ bracket-outer (at p (nb k)) (at p v)) last
+            (ap (λ o. bracket (at p (nb k)) (at p v) (at p (nb o))) count ∙ bracket-outer _ _) last
 
         within : (s : ℕ) → s ≤ suc t → suc s < k
         within s h = omega arith
@@ -403,19 +323,14 @@ module _ (n : ℕ) (p : ℕ → Point) (faces : List Face) (outer : List (ℕ ×
         skips zero h = past_first 1 (omega arith)
         skips (suc i) h = skip_later i h
 
-        go : (s : ℕ) × (s ≤ suc t) × (pos 0 <ℤ height (suc (suc s)))
-            × (height (suc s) <ℤ height (suc (suc s)))
-            × (height (suc (suc (suc s))) ≤ℤ height (suc (suc s))) → (i : ℕ) × (suc i < k)
-            × (pos 0 <ℤ bracket (at p (nb i)) (at p (nb (suc i))) (at p (nb (suc (suc i)))))
-            × (pos 0 <ℤ turn i (suc (suc i)))
+        go : (s : ℕ) × (s ≤ suc t) × (pos 0 <ℤ height (suc (suc s))) ×
+            (height (suc s) <ℤ height (suc (suc s))) × (height (suc (suc (suc s))) ≤ℤ height
+            (suc (suc s))) → (i : ℕ) × (suc i < k) × (pos 0 <ℤ bracket (at p (nb i))
+            (at p (nb (suc i))) (at p (nb (suc (suc i))))) × (pos 0 <ℤ turn i (suc (suc i)))
         go (s, h, high, low, not_high) = (
           s,
           within s h,
-          I.turns_at_farthest (p (nb k)) (p v)
-              (p (nb s)) (p (nb (suc s))) (p (nb (suc (suc s)))) (step s (shorter s (within s h)))
-              (step (suc s) (within s h)) high low not_high,
+          I.turns_at_farthest _ _ _ _ _ (step s (omega (arith, within s h))) (step _ (within s h))
+              high low not_high,
           skips s (within s h),
         )
-          where
-            shorter : (s : ℕ) → suc s < k → s < k
-            shorter s h = omega arith

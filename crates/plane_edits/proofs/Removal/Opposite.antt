@@ -1,27 +1,27 @@
 -- Round a vertex v: two corners of its star that do not turn left, and are not next to one another,
 -- are opposite corners of four, with v between the other two.
+-- Notions: turns_of_four, AgreeInFours; corners_meet.
 use Rattle.std.proofs.Common.{◌≡◌, ◌⊎◌, ℕ, [], ◌∷◌, sym, ap, ◌∙◌, subst, arith}
 use mathlib.Core.Logic.{inl, inr, ◌≢◌}
 use Rattle.std.specs.Prelude.{List, ℤ, pos, ◌+ℤ◌, ◌-ℤ◌, ◌*ℤ◌, ◌≤ℤ◌, ◌<ℤ◌, neg_ℤ}
 use Rattle.std.proofs.lemmas.Int.{ints}
-use Rattle.plane.specs.Fraction.{Point, whole, IsPositive, WithinSegment}
+use Rattle.plane.specs.Fraction.{Point, whole, WithinSegment}
 use Rattle.plane.specs.Tiling.{Face}
 use Rattle.std.proofs.lemmas.Bool.{cases_eq}
 use Rattle.plane.proofs.IntegerOrder.{lt_or_ge_ℤ, mul-pos_ℤ, nonneg_of_mul-nonneg_ℤ}
 use Rattle.plane.proofs.IntegerOrder.{mul-nonneg_of_nonpos_ℤ, pos_of_mul-pos_ℤ, zero_of_mul-zero_ℤ}
 use Rattle.plane.proofs.Steps.{weak, weak_right, zero_weak, zero_weak_left, left_not_zero}
-use Rattle.plane.proofs.Steps.{left_not_below, right_not_zero, negated_left, product_zero_left}
+use Rattle.plane.proofs.Steps.{left_not_below, right_not_zero, negated_left}
 use Rattle.plane.proofs.Solver.{num, ◌⊕◌, ◌⊖◌, ◌⊗◌, ⊝, ring_in_from}
-use Rattle.plane.proofs.Means.{mean_of_two}
 use Rattle.plane.proofs.Bracket.{bracket}
 use Rattle.plane.proofs.BracketIdentities.{bracket-turn, bracket-swap, bracket-last, pluecker}
-use Rattle.plane.proofs.BracketIdentities.{cramer_x, cramer_y, cramer_w}
 use Rattle.plane_tiling.proofs.Flows.{IsTurnOf}
 use Rattle.plane_tiling.proofs.Counting.{at, SignMesh}
 use Rattle.plane_tiling.proofs.Covering as C
+use Rattle.plane_edits.proofs.Insertion.Hull.{on_side}
 use Rattle.plane_edits.proofs.Removal.Star.{IsInAngle, same_angle}
 use Rattle.plane.proofs.Signs.{neither_sign_is_zero, opposite_of_not_positive}
-use Rattle.plane.proofs.Signs.{positive_plus_not_negative}
+use Rattle.plane.proofs.Signs.{positive_plus_not_negative, at_most_if_not_less, less_if_not_same}
 
 -- the six turns between four ways have Pluecker's relation
 abbrev pub AgreeInFours : (ℕ → ℕ → ℤ) → Type 0
@@ -36,24 +36,22 @@ module _ (n : ℕ) (p : ℕ → Point) (faces : List Face) (outer : List (ℕ ×
 
   -- the other way round, the turn has the other sign
   pub turn_back : (i j : ℕ) → turn i j ≡ neg_ℤ (turn j i)
-  turn_back i j = bracket-turn (at p v) (at p i) (at p j) ∙ bracket-swap (at p i) (at p j) (at p v)
-      ∙ ap neg_ℤ (sym (bracket-turn (at p v) (at p j) (at p i)))
+  turn_back i j = bracket-turn _ _ _ ∙ bracket-swap _ _ _ ∙ ap neg_ℤ (sym (bracket-turn _ _ _))
 
   -- a neighbour does not turn from itself
   pub turn_own : (i : ℕ) → turn i i ≡ pos 0
-  turn_own i = bracket-last (at p v) (at p i)
+  turn_own i = bracket-last _ _
 
   -- four ways
   pub turns_of_four : AgreeInFours turn
-  turns_of_four a b c d = pluecker (at p v) (at p a) (at p b) (at p c) (at p d)
+  turns_of_four a b c d = pluecker _ _ _ _ _
 
   -- w is in the angle from a up to b
   in_angle : (a b w : ℕ) → pos 0 ≤ℤ turn a w → pos 0 <ℤ turn w b
       → IsInAngle n p faces outer m v a b (at p w)
   in_angle a b w h k = record {
     from = h;
-    to = subst (λ z. pos 0 <ℤ z)
-        (bracket-turn (at p v) (at p w) (at p b) ∙ bracket-turn (at p w) (at p b) (at p v)) k;
+    to = subst (λ z. pos 0 <ℤ z) (bracket-turn _ _ _ ∙ bracket-turn _ _ _) k;
   }
 
   starts_angle : (a b : ℕ) → pos 0 <ℤ turn a b → IsInAngle n p faces outer m v a b (at p a)
@@ -64,23 +62,21 @@ module _ (n : ℕ) (p : ℕ → Point) (faces : List Face) (outer : List (ℕ ×
       (bad : turn a c ≤ℤ pos 0) where
     -- v a b turns left
     ab : pos 0 <ℤ turn a b
-    ab = C.turn_left_of n p faces outer m v a b first
+    ab = C.turn_left_of n p _ _ m v a b first
 
     -- v b c turns left
     bc : pos 0 <ℤ turn b c
-    bc = C.turn_left_of n p faces outer m v b c second
+    bc = C.turn_left_of n p _ _ m v b c second
 
     -- left of the way to a: in one of the two angles
     left_in : (w : ℕ) → pos 0 <ℤ turn a w
         → IsInAngle n p faces outer m v a b (at p w) ⊎ IsInAngle n p faces outer m v b c (at p w)
-    left_in w h = elim (lt_or_ge_ℤ (pos 0) (turn w b)) [
+    left_in w h = elim (lt_or_ge_ℤ _ (turn w b)) [
       | inl k ↦ inl (in_angle a b w (weak h) k)
-      | inr k ↦
-          inr (in_angle b c w (opposite_of_not_positive (turn b w) (turn w b) (turn_back b w) k)
-          (pos_of_mul-pos_ℤ ab (subst (λ z. pos 0 <ℤ z) (sym (relation (turn a b) (turn w c) (turn a
-          w) (turn b c) (turn a c) (turn b w) (turn w b) (turns_of_four a b w c) (turn_back b w)))
-          (positive_plus_not_negative (turn a w *ℤ turn b c) (turn a c *ℤ turn w b) (mul-pos_ℤ h bc)
-          (mul-nonneg_of_nonpos_ℤ bad k)))))
+      | inr k ↦ inr (in_angle b c w (opposite_of_not_positive (turn b w) (turn w b)
+          (turn_back b w) k) (pos_of_mul-pos_ℤ ab (rw (relation (turn a b) (turn w c) (turn a w)
+          (turn b c) (turn a c) (turn b w) (turn w b) (turns_of_four a b w c) (turn_back b w))
+          (positive_plus_not_negative _ _ (mul-pos_ℤ h bc) (mul-nonneg_of_nonpos_ℤ bad k)))))
     ]
       where
         relation : (ab wc aw bc ac bw wb : ℤ) → ab *ℤ wc -ℤ aw *ℤ bc +ℤ ac *ℤ bw ≡ pos 0
@@ -97,24 +93,17 @@ module _ (n : ℕ) (p : ℕ → Point) (faces : List Face) (outer : List (ℕ ×
 
     -- the way to another vertex that begins an angle of its own, neither a nor b, is not left of a
     not_left : (w x : ℕ) → IsTurnOf faces v w x → w ≢ a → w ≢ b → turn a w ≤ℤ pos 0
-    not_left w x f na nb = elim (lt_or_ge_ℤ (pos 0) (turn a w)) [
-      | inl h ↦ elim (left_in w h) [
-        | inl i ↦ absurd
-            (na (sym (same_angle n p faces outer m v a b w x first f (at p w) (record { lt = tt }) i
-            (starts_angle w x (C.turn_left_of n p faces outer m v w x f))).0))
-        | inr i ↦ absurd (nb (sym (same_angle n p faces outer m v b c w x second f (at p w) (record
-            { lt = tt }) i (starts_angle w x (C.turn_left_of n p faces outer m v w x f))).0))
-      ]
-      | inr h ↦ h
-    ]
+    not_left w x f na nb = at_most_if_not_less _ _ (λ h. elim (left_in w h) [
+      | inl i ↦ na (sym (same_angle n p _ _ m v a b w x first f _ (record { lt = tt }) i
+          (starts_angle w x (C.turn_left_of n p _ _ m v w x f))).0)
+      | inr i ↦ nb (sym (same_angle n p _ _ m v b c w x second f _ (record { lt = tt }) i
+          (starts_angle w x (C.turn_left_of n p _ _ m v w x f))).0)
+    ])
 
     not_on : (w x : ℕ) → IsTurnOf faces v w x → w ≢ a → turn a w ≡ pos 0 → turn w b ≤ℤ pos 0
-    not_on w x f na e = elim (lt_or_ge_ℤ (pos 0) (turn w b)) [
-      | inl h ↦ absurd
-          (na (sym (same_angle n p faces outer m v a b w x first f (at p w) (record { lt = tt })
-          (on_in w e h) (starts_angle w x (C.turn_left_of n p faces outer m v w x f))).0))
-      | inr h ↦ h
-    ]
+    not_on w x f na e = at_most_if_not_less _ _ (λ h. na (sym (same_angle n p _ _ m v a b w x first
+        f _ (record { lt = tt }) (on_in w e h) (starts_angle w x
+        (C.turn_left_of n p _ _ m v w x f))).0))
 
   -- two such corners, at b and at e, that are not next to one another; g and h come after c and f
   module _ (a b c d e f g h : ℕ) (ab_face : IsTurnOf faces v a b) (bc_face : IsTurnOf faces v b c)
@@ -132,25 +121,21 @@ module _ (n : ℕ) (p : ℕ → Point) (faces : List Face) (outer : List (ℕ ×
 
     -- v a b turns left
     ab' : pos 0 <ℤ turn a b
-    ab' = C.turn_left_of n p faces outer m v a b ab_face
+    ab' = C.turn_left_of n p _ _ m v a b ab_face
 
     -- v b c turns left
     bc' : pos 0 <ℤ turn b c
-    bc' = C.turn_left_of n p faces outer m v b c bc_face
+    bc' = C.turn_left_of n p _ _ m v b c bc_face
 
     -- v d e turns left
     de' : pos 0 <ℤ turn d e
-    de' = C.turn_left_of n p faces outer m v d e de_face
+    de' = C.turn_left_of n p _ _ m v d e de_face
 
     -- d is on the far side of v from a
     far : turn d b <ℤ pos 0
-    far = strict (turn d b)
+    far = less_if_not_same _ _
         (not_on a b c ab_face bc_face bad d e de_face (λ s. a_not_d (sym s)) level) apart
       where
-        strict : (z : ℤ) → z ≤ℤ pos 0 → ¬ (z ≡ pos 0) → z <ℤ pos 0
-        strict z k n =
-            elim (lt_or_ge_ℤ z (pos 0)) [ inl l ↦ l | inr l ↦ absurd (n (omega (arith, ints))) ]
-
         relation : (ab de ad be ae bd db : ℤ) → ab *ℤ de -ℤ ad *ℤ be +ℤ ae *ℤ bd ≡ pos 0
             → ad ≡ pos 0 → bd ≡ neg_ℤ db → db ≡ pos 0 → ab *ℤ de ≡ pos 0
         relation ab de ad be ae bd db e z s t = ring_in_from (ab ∷ de ∷ ad ∷ be ∷ ae ∷ bd ∷ db ∷ [])
@@ -165,9 +150,8 @@ module _ (n : ℕ) (p : ℕ → Point) (faces : List Face) (outer : List (ℕ ×
 
     -- c is not left of d, nor on its way unless it is d
     dc_weak : pos 0 ≤ℤ turn d c
-    dc_weak = of_product (turn a b) (turn d c) ab'
-        (subst (λ z. pos 0 ≤ℤ z) (sym (relation (turn a b) (turn d c) (turn a d) (turn b c)
-        (turn a c) (turn b d) (turn d b) (turns_of_four a b d c) level (turn_back b d)))
+    dc_weak = of_product (turn a b) (turn d c) ab' (rw (relation (turn a b) (turn d c) (turn a d)
+        (turn b c) (turn a c) (turn b d) (turn d b) (turns_of_four a b d c) level (turn_back b d))
         (mul-nonneg_of_nonpos_ℤ bad (weak_right far)))
       where
         relation : (ab dc ad bc ac bd db : ℤ) → ab *ℤ dc -ℤ ad *ℤ bc +ℤ ac *ℤ bd ≡ pos 0
@@ -181,7 +165,7 @@ module _ (n : ℕ) (p : ℕ → Point) (faces : List Face) (outer : List (ℕ ×
         of_product x y i j = nonneg_of_mul-nonneg_ℤ i j
 
     dc_zero : turn d c ≡ pos 0
-    dc_zero = elim (lt_or_ge_ℤ (pos 0) (turn d c)) [
+    dc_zero = elim (lt_or_ge_ℤ _ (turn d c)) [
       | inl l ↦ absurd (left_not_below l (not_right l))
       | inr l ↦ neither_sign_is_zero (turn d c) l dc_weak
     ]
@@ -203,8 +187,7 @@ module _ (n : ℕ) (p : ℕ → Point) (faces : List Face) (outer : List (ℕ ×
         relation ab dc ad bc ac bd db e z s t = ring_in_from (ab ∷ dc ∷ ad ∷ bc ∷ ac ∷ bd ∷ db ∷ [])
             (λ ab dc ad bc ac bd db. db ⊗ ac) (λ ab dc ad bc ac bd db. num 0)
             (λ ab dc ad bc ac bd db. (num 0 ⊖ num 1, ab ⊗ dc ⊖ ad ⊗ bc ⊕ ac ⊗ bd, num 0) ∷ (
-              num 0
-                  ⊖ bc,
+              num 0 ⊖ bc,
               ad,
               num 0,
             ) ∷ (ac, bd, ⊝ db) ∷ (ab, dc, num 0) ∷ []) (e, (z, (s, (t, tt)))) tt
@@ -225,59 +208,15 @@ module _ (n : ℕ) (p : ℕ → Point) (faces : List Face) (outer : List (ℕ ×
             ∷ (be, cd, ⊝ dc) ∷ (num 0 ⊖ be, dc, num 0) ∷ []) (e, (s, (t, tt))) tt
 
         ce : pos 0 <ℤ turn c e
-        ce = pos_of_mul-pos_ℤ (negated_left (turn_back b d) far) (subst (λ z. pos 0 <ℤ z)
-            (sym (relation (turn b c) (turn d e) (turn b d) (turn c e) (turn b e) (turn c d) (turn d
-            c) (turn d b) (turns_of_four b c d e) (turn_back c d) dc_zero)) (mul-pos_ℤ bc' de'))
+        ce = pos_of_mul-pos_ℤ (negated_left (turn_back b d) far)
+            (rw (relation (turn b c) (turn d e) (turn b d) (turn c e) (turn b e) (turn c d)
+            (turn d c) (turn d b) (turns_of_four b c d e) (turn_back c d) dc_zero)
+            (mul-pos_ℤ bc' de'))
 
     -- v is strictly between a and c
     pub between : WithinSegment (whole (p a)) (whole (p c)) (whole (p v))
-    between = mean_of_two IsPositive (whole (p a)) (whole (p c)) (whole (p v)) (record {
-      k = turn b c;
-      l = turn a b;
-      n = bracket (at p a) (at p b) (at p c);
-      k_allowed = bc';
-      l_allowed = ab';
-      positive = turns;
-      x = mean (bracket (at p a) (at p b) (at p c) *ℤ (p v).x) (turn b c)
-          (bracket (at p b) (at p c) (at p v)) (p a).x (bracket (at p c) (at p a) (at p v)) (p b).x
-          (turn a b) (bracket (at p a) (at p b) (at p v)) (p c).x
-          (cramer_x (at p a) (at p b) (at p c) (at p v)) (bracket-turn (at p v) (at p b) (at p c))
-          (bracket-turn (at p v) (at p a) (at p b)) ca;
-      y = mean (bracket (at p a) (at p b) (at p c) *ℤ (p v).y) (turn b c)
-          (bracket (at p b) (at p c) (at p v)) (p a).y (bracket (at p c) (at p a) (at p v)) (p b).y
-          (turn a b) (bracket (at p a) (at p b) (at p v)) (p c).y
-          (cramer_y (at p a) (at p b) (at p c) (at p v)) (bracket-turn (at p v) (at p b) (at p c))
-          (bracket-turn (at p v) (at p a) (at p b)) ca;
-      w = weights;
-    })
-      where
-        ca : bracket (at p c) (at p a) (at p v) ≡ pos 0
-        ca = bracket-swap (at p c) (at p a) (at p v)
-            ∙ ap neg_ℤ (sym (bracket-turn (at p v) (at p a) (at p c)) ∙ ac_zero)
-
-        mean : (s k k' a b b' l l' c : ℤ) → s ≡ k' *ℤ a +ℤ b *ℤ b' +ℤ l' *ℤ c → k ≡ k' → l ≡ l'
-            → b ≡ pos 0 → s ≡ k *ℤ a +ℤ l *ℤ c
-        mean s k k' a b b' l l' c e i j z = e ∙ (λ o. sym i o *ℤ a +ℤ b *ℤ b' +ℤ sym j o *ℤ c)
-            ∙ (λ o. k *ℤ a +ℤ product_zero_left b' z o +ℤ l *ℤ c) ∙ dropped (k *ℤ a) (l *ℤ c)
-          where
-            dropped : (x y : ℤ) → x +ℤ pos 0 +ℤ y ≡ x +ℤ y
-            dropped x y = omega (arith, ints)
-
-        weights : bracket (at p a) (at p b) (at p c) *ℤ pos 1
-            ≡ turn b c *ℤ pos 1 +ℤ turn a b *ℤ pos 1
-        weights = mean (bracket (at p a) (at p b) (at p c) *ℤ pos 1) (turn b c)
-            (bracket (at p b) (at p c) (at p v)) (pos 1) (bracket (at p c) (at p a) (at p v))
-            (pos 1) (turn a b) (bracket (at p a) (at p b) (at p v)) (pos 1)
-            (cramer_w (at p a) (at p b) (at p c) (at p v)) (bracket-turn (at p v) (at p b) (at p c))
-            (bracket-turn (at p v) (at p a) (at p b)) ca
-
-        turns : pos 0 <ℤ bracket (at p a) (at p b) (at p c)
-        turns =
-            from_weights (bracket (at p a) (at p b) (at p c)) (turn b c) (turn a b) weights bc' ab'
-          where
-            from_weights : (s k l : ℤ) → s *ℤ pos 1 ≡ k *ℤ pos 1 +ℤ l *ℤ pos 1 → pos 0 <ℤ k
-                → pos 0 <ℤ l → pos 0 <ℤ s
-            from_weights s k l e i j = omega (arith, ints)
+    between = on_side _ _ _ _ (rw bracket-turn at bc') (bracket-swap _ _ _ ∙ ap neg_ℤ
+        (sym (bracket-turn _ _ _) ∙ ac_zero)) (rw bracket-turn at ab')
 
     -- the two corners are one
     pub corners_meet : c ≡ d

@@ -1,10 +1,12 @@
 -- The star of a vertex after a flip of one of its edges, and that a vertex has one star.
-use Rattle.std.proofs.Common.{◌≡◌, ◌⊎◌, ◌<◌, ◌≤◌, [], ◌∷◌, ◌∙◌}
-use Rattle.std.proofs.Common.{ℕ, zero, suc, List, length, refl, sym, ap, subst, arith}
+-- Notions: one_third; other_stays, came (one flip); DifferUpTo, neighbours_differ; after_in, round
+-- (counting round); inner_star_shrinks, hull_star_shrinks, stars_agree, hull_stars_agree.
+use Rattle.std.proofs.Common.{◌≡◌, ◌⊎◌, ◌<◌, ◌≤◌, [], ◌∷◌, ◌∙◌, ℕ, zero, suc, List, length, refl}
+use Rattle.std.proofs.Common.{sym, ap, subst, arith}
 use Prim.Native.Nat.{◌+◌, ◌-◌}
 use mathlib.Core.Logic.{inl, inr, ◌≢◌}
 use Rattle.std.specs.Prelude.{pos, ◌<ℤ◌, Contains, nat_eq, if◌then◌else◌}
-use Rattle.std.proofs.lemmas.Bool.{cases_eq, cases_lt}
+use Rattle.std.proofs.lemmas.Bool.{cases_eq}
 use Rattle.std.proofs.lemmas.Bool.Decides.{nat_tests}
 use Rattle.plane.specs.Fraction.{Point}
 use Rattle.plane.specs.Tiling.{Face, face}
@@ -12,17 +14,17 @@ use Rattle.plane_tiling.specs.Local.{LocalMesh}
 use Rattle.plane.proofs.BracketIdentities.{bracket-turn, bracket-last}
 use Rattle.plane.proofs.Steps.{zero_weak_left}
 use Rattle.plane_tiling.proofs.Counting.{at, SignMesh, corners_differ}
-use Rattle.plane_tiling.proofs.Flows.{HasSide, turned}
+use Rattle.plane_tiling.proofs.Flows.{IsTurnOf, HasSide, turned}
 use Rattle.plane_tiling.proofs.Covering as C
 use Rattle.plane_tiling.proofs.Loops as L
 use Rattle.plane_tiling.proofs.Tiles.{point_at, by_signs}
-use Rattle.plane_tiling.proofs.Totals.{Contains-head, Contains-none}
+use Rattle.plane_tiling.proofs.Totals.{Contains-none}
 use Rattle.plane_edits.specs.Change.{IsFaceOf, FacesChange}
 use Rattle.plane_edits.specs.Removal.{IsStar}
 use Rattle.plane_edits.specs.RemovalHull.{IsHullStar}
 use Rattle.plane_edits.specs.StarFlips.{IsStarFlip, InnerStarShrinks, without, HullStarShrinks}
 use Rattle.plane_edits.specs.StarFlips.{StarsAgree, HullStarsAgree}
-use Rattle.plane_edits.proofs.LocalMesh.Changes.{face_from, face_kept, each, each_none, turn_of_all}
+use Rattle.plane_edits.proofs.LocalMesh.Changes.{Each, face_from, face_kept, corner_of_each}
 use Rattle.plane_edits.proofs.LocalMesh.Kept.{flip_kept}
 use Rattle.plane_edits.proofs.Removal.Star.{IsInAngle, same_angle}
 use Rattle.plane.proofs.Indexes.{less_or_more, next_sum}
@@ -34,28 +36,32 @@ module _ (points : List Point) (faces : List Face) (outer : List (ℕ × ℕ))
   p = point_at points
 
   signs : SignMesh (length points) (point_at points) faces outer
-  signs = by_signs points faces outer m
+  signs = by_signs _ _ _ m
 
   differ : (a b c : ℕ) → IsFaceOf faces a b c → (a ≢ b) × (b ≢ c) × (c ≢ a)
-  differ a b c f = corners_differ (point_at points) a b c
-      (C.turn_left_of (length points) (point_at points) faces outer signs a b c f)
+  differ a b c f = corners_differ (point_at points) a b c (C.turn_left_of _ _ _ _ signs a b c f)
 
   starts : (v a b : ℕ) → IsFaceOf faces v a b
       → IsInAngle (length points) (point_at points) faces outer signs v a b (at p a)
   starts v a b f = record {
-    from = zero_weak_left (bracket-last (at p v) (at p a));
-    to = subst (λ z. pos 0 <ℤ z)
-        (bracket-turn (at p v) (at p a) (at p b) ∙ bracket-turn (at p a) (at p b) (at p v))
-        (C.turn_left_of (length points) (point_at points) faces outer signs v a b f);
+    from = zero_weak_left (bracket-last _ _);
+    to = subst (λ z. pos 0 <ℤ z) (bracket-turn _ _ _ ∙ bracket-turn _ _ _)
+        (C.turn_left_of _ _ _ _ signs v a b f);
   }
 
   one_third : (v a b c : ℕ) → IsFaceOf faces v a b → IsFaceOf faces v a c → b ≡ c
-  one_third v a b c f g = (same_angle (length points) (point_at points) faces outer signs v a b a c
-      f g (at p a) (record { lt = tt }) (starts v a b f) (starts v a c g)).1
+  one_third v a b c f g = (same_angle _ _ _ _ signs v a b a c
+      f g _ (record { lt = tt }) (starts v a b f) (starts v a c g)).1
 
   one_second : (v a b c : ℕ) → IsFaceOf faces v a c → IsFaceOf faces v b c → a ≡ b
-  one_second v a b c f g = one_third c v a b (turned faces a c v (turned faces v a c f))
-      (turned faces b c v (turned faces v b c g))
+  one_second v a b c f g = one_third c v a b (turned _ a c v (turned _ v a c f))
+      (turned _ b c v (turned _ v b c g))
+
+-- what holds of the corner after v in each face that is written out
+next_of : (faces : List Face) (v : ℕ) (Q : ℕ → Type 0)
+    → Each (λ f. (f.a ≡ v → Q f.b) × (f.b ≡ v → Q f.c) × (f.c ≡ v → Q f.a)) faces
+    → (x y : ℕ) → IsTurnOf faces v x y → Q x
+next_of faces v Q t x y h = corner_of_each _ (λ i j _. i ≡ v → Q j) t v x y h refl
 
 -- ---- the faces v a b and v b c become v a c and a b c
 module _ (points : List Point) (faces new : List Face) (outer outer' : List (ℕ × ℕ)) (v a b c : ℕ)
@@ -64,83 +70,57 @@ module _ (points : List Point) (faces new : List Face) (outer outer' : List (ℕ
     FacesChange faces new (face v a b ∷ face v b c ∷ []) (face v a c ∷ face a b c ∷ [])) where
   -- v a c is a face now
   made : IsFaceOf new v a c
-  made = change.come v a c (inl (Contains-head (face v a c) (face a b c ∷ [])))
+  made = change.come v a c (inl (0, omega arith, refl))
 
   -- v is not a
   v_a : v ≢ a
-  v_a = (differ points faces outer m v a b first).0
+  v_a = (differ _ _ _ m v a b first).0
 
   -- nor b
   v_b : v ≢ b
-  v_b = (differ points faces outer m v b c second).0
+  v_b = (differ _ _ _ m v b c second).0
 
   -- nor c
   v_c : v ≢ c
-  v_c e = (differ points faces outer m v b c second).2 (sym e)
+  v_c e = (differ _ _ _ m v b c second).2 (sym e)
 
   -- a is not b
   a_b : a ≢ b
-  a_b = (differ points faces outer m v a b first).1
+  a_b = (differ _ _ _ m v a b first).1
 
   -- of the faces at v the two go
   other_stays : (x y : ℕ) → IsFaceOf faces v x y → x ≢ a → x ≢ b → IsFaceOf new v x y
-  other_stays x y f na nb = elim (face_kept faces new (face v a b ∷ face v b c ∷ [])
-      (face v a c ∷ face a b c ∷ []) change v x y f) [
-        | inl o ↦ o
-        | inr o ↦
-            absurd (elim
-            ((turn_of_all (face v a b ∷ face v b c ∷ []) Begin (λ i j k s. (s.1, s.2, s.0))
-            (each Begins (face v a b) (face v b c ∷ [])
-            (λ _. inl refl, λ e. absurd (v_a (sym e)), λ e. absurd (v_b (sym e)))
-            (each Begins (face v b c) [] (
-              λ _. inr refl,
-              λ e. absurd (v_b (sym e)),
-              λ e. absurd
-                  (v_c (sym e)),
-            ) (each_none Begins))) v x y o).0 refl) [ inl e ↦ na e | inr e ↦ nb e ])
-      ]
-    where
-      Begin : ℕ → ℕ → ℕ → Type 0
-      Begin i j k = (i ≡ v → (j ≡ a) ⊎ (j ≡ b)) × (j ≡ v → (k ≡ a) ⊎ (k ≡ b))
-          × (k ≡ v → (i ≡ a) ⊎ (i ≡ b))
-
-      Begins : Face → Type 0
-      Begins f = Begin f.a f.b f.c
+  other_stays x y f na nb = elim (face_kept _ new _ _ change v x y f) [
+    | inl o ↦ o
+    | inr o ↦ absurd (elim (next_of (face v a b ∷ face v b c ∷ []) v (λ z. (z ≡ a) ⊎ (z ≡ b)) (
+      ((λ _. inl refl), (λ e. absurd (v_a (sym e))), (λ e. absurd (v_b (sym e)))),
+      (((λ _. inr refl), (λ e. absurd (v_b (sym e))), (λ e. absurd (v_c (sym e)))), tt),
+    ) x y o) [ inl e ↦ na e | inr e ↦ nb e ])
+  ]
 
   -- and one comes
   came : (x y : ℕ) → IsFaceOf new v x y
       → ((x ≡ a) × (y ≡ c)) ⊎ (IsFaceOf faces v x y × (x ≢ a) × (x ≢ b))
   came x y f = elim (cases_eq x a) [
-    | inl e ↦ inl
-        (e, one_third points new outer' after v a y c (subst (λ z. IsFaceOf new v z y) e f) made)
-    | inr na ↦ elim (face_from faces new (face v a b ∷ face v b c ∷ [])
-        (face v a c ∷ face a b c ∷ []) change v x y f) [
-          | inl o ↦ inr (o, na, λ e. not_second e o)
-          | inr o ↦
-              absurd (na
-              ((turn_of_all (face v a c ∷ face a b c ∷ []) Begin (λ i j k s. (s.1, s.2, s.0))
-              (each Begins (face v a c) (face a b c ∷ [])
-              (λ _. refl, λ e. absurd (v_a (sym e)), λ e. absurd (v_c (sym e)))
-              (each Begins (face a b c) [] (
-                λ e. absurd (v_a (sym e)),
-                λ e. absurd (v_b (sym e)),
-                λ e. absurd (v_c (sym e)),
-              ) (each_none Begins))) v x y o).0 refl))
-        ]
+    | inl e ↦ inl (e, one_third points new outer' after v a y c (rw e at f) made)
+    | inr na ↦ elim (face_from _ new _ _ change v x y f) [
+      | inl o ↦ inr (o, na, λ e. not_second e o)
+      | inr o ↦ absurd (na (next_of (face v a c ∷ face a b c ∷ []) v (λ z. z ≡ a) (
+        ((λ _. refl), (λ e. absurd (v_a (sym e))), (λ e. absurd (v_c (sym e)))),
+        (
+          ((λ e. absurd (v_a (sym e))), (λ e. absurd (v_b (sym e))), (λ e. absurd (v_c (sym e)))),
+          tt,
+        ),
+      ) x y o))
+    ]
   ]
     where
-      Begin : ℕ → ℕ → ℕ → Type 0
-      Begin i j k = (i ≡ v → j ≡ a) × (j ≡ v → k ≡ a) × (k ≡ v → i ≡ a)
-
-      Begins : Face → Type 0
-      Begins f = Begin f.a f.b f.c
-
       not_second : x ≡ b → IsFaceOf faces v x y → ⊥
       not_second e o =
-          let y_is = one_third points faces outer m v b y c
-          (subst (λ z. IsFaceOf faces v z y) e o) second in
-          a_b (one_second points new outer' after v a b c made
-          (subst (λ z. IsFaceOf new v z c) e (subst (λ z. IsFaceOf new v x z) y_is f)))
+          let y_is = one_third _ _ _ m v b y c
+          (rw e at o) second in
+          a_b (one_second _ new _ after v a b c made
+          (subst (λ z. IsFaceOf new v z c) e (rw y_is at f)))
 
 -- ---- on the hull
 -- numbers 0 to k differ
@@ -151,19 +131,14 @@ module _ (points : List Point) (faces : List Face) (outer : List (ℕ × ℕ)) (
     faces outer) (v k : ℕ) (nb : ℕ → ℕ) (star : IsHullStar faces outer v k nb) where
   -- the last neighbour does not come earlier
   last_once : (i : ℕ) → i < k → nb i ≢ nb k
-  last_once i h e = L.outer_is_no_side (length points) (point_at points) faces outer
-      (by_signs points faces outer m) v (nb k) star.leaves
+  last_once i h e = L.outer_is_no_side _ _ _ _ (by_signs _ _ _ m) v _ star.leaves
       (subst (λ z. HasSide faces v z) e (nb (suc i), star.around i h))
 
   -- nor does another one
   later_differs : (d i j : ℕ) → i < j → j + d ≡ k → nb i ≢ nb j
-  later_differs zero i j h e s = last_once i (omega arith) (s ∙ ap nb (own j e))
-    where
-      own : (j : ℕ) → j + 0 ≡ k → j ≡ k
-      own j e = omega arith
-  later_differs (suc d) i j h e s = later_differs d (suc i) (suc j) (omega arith) (omega arith)
-      (one_third points faces outer m v (nb i) (nb (suc i)) (nb (suc j))
-      (star.around i (omega arith))
+  later_differs zero i j h e s = last_once i (omega arith) (s ∙ ap nb (omega arith))
+  later_differs (suc d) i j h e s = later_differs d _ _ (omega arith) (omega arith)
+      (one_third _ _ _ m v _ _ _ (star.around i (omega arith))
       (subst (λ z. IsFaceOf faces v z (nb (suc j))) (sym s) (star.around j (omega arith))))
 
   -- so each neighbour comes once
@@ -196,90 +171,70 @@ hull_star_shrinks points faces new outer outer' v k nb i m star inside s =
     f = star.around i (omega arith)
 
     g : IsFaceOf faces v (nb (suc i)) (nb (suc (suc i)))
-    g = star.around (suc i) inside
+    g = star.around _ inside
 
     after : LocalMesh points new outer'
-    after = mesh_after points faces new outer outer' v i nb m f g s
+    after = mesh_after _ _ new _ _ v i nb m f g s
 
     early : (j : ℕ) → j ≤ i → without (suc i) nb j ≡ nb j
-    early j h = without_before (suc i) nb j (omega arith)
+    early j h = without_before _ nb j (omega arith)
 
     late : (j : ℕ) → suc i ≤ j → without (suc i) nb j ≡ nb (suc j)
-    late j h = without_from (suc i) nb j h
+    late j h = without_from _ nb j h
 
     stays : (j : ℕ) → j < k → j ≢ i → j ≢ suc i → IsFaceOf new v (nb j) (nb (suc j))
-    stays j h n n' = other_stays points faces new outer outer' v (nb i) (nb (suc i))
-        (nb (suc (suc i))) m after f g s.faces_change (nb j) (nb (suc j)) (star.around j h)
-        (apart points faces outer m v k nb star j i n (omega arith) (omega arith))
-        (apart points faces outer m v k nb star j (suc i) n' (omega arith) (omega arith))
+    stays j h n n' = other_stays _ _ new _ _ v _ _ _ m after f g s.faces_change _ _
+        (star.around j h) (apart _ _ _ m v k nb star j i n (omega arith) (omega arith))
+        (apart _ _ _ m v k nb star j _ n' (omega arith) (omega arith))
 
     face_at : (j x y : ℕ) → without (suc i) nb j ≡ x → without (suc i) nb (suc j) ≡ y
         → IsFaceOf new v x y → IsFaceOf new v (without (suc i) nb j) (without (suc i) nb (suc j))
-    face_at j x y e d h = subst (λ z. IsFaceOf new v z (without (suc i) nb (suc j))) (sym e)
-        (subst (IsFaceOf new v x) (sym d) h)
+    face_at j x y e d h = rw e (subst (IsFaceOf new v x) (sym d) h)
 
     around : (j : ℕ) → j < k - 1
         → IsFaceOf new v (without (suc i) nb j) (without (suc i) nb (suc j))
-    around j h = go (three j i)
+    around j h = go (grind arith)
       where
-        three : (j i : ℕ) → (j < i) ⊎ ((j ≡ i) ⊎ (i < j))
-        three j i = grind arith
-
         go : (j < i) ⊎ ((j ≡ i) ⊎ (i < j))
             → IsFaceOf new v (without (suc i) nb j) (without (suc i) nb (suc j))
-        go (inl l) =
-            face_at j (nb j) (nb (suc j)) (early j (omega arith)) (early (suc j) (omega arith))
+        go (inl l) = face_at j _ _ (early j (omega arith)) (early _ (omega arith))
             (stays j (omega arith) (λ e. omega arith) (λ e. omega arith))
-        go (inr (inl e)) =
-            subst (λ z. IsFaceOf new v (without (suc i) nb z) (without (suc i) nb (suc z))) (sym e)
-            (face_at i (nb i) (nb (suc (suc i))) (early i (omega arith))
-            (late (suc i) (omega arith)) (made points faces new outer outer' v (nb i)
-            (nb (suc i)) (nb (suc (suc i))) m after f g s.faces_change))
-        go (inr (inr l)) =
-            face_at j (nb (suc j)) (nb (suc (suc j))) (late j (omega arith)) (late (suc j)
-            (omega arith)) (stays (suc j) (omega arith) (λ e. omega arith) (λ e. omega arith))
+        go (inr (inl e)) = rw e (face_at i _ _ (early i (omega arith)) (late _ (omega arith))
+            (made _ _ new _ _ v _ _ _ m after f g s.faces_change))
+        go (inr (inr l)) = face_at j _ _ (late j (omega arith)) (late _ (omega arith))
+            (stays _ (omega arith) (λ e. omega arith) (λ e. omega arith))
 
     only : (x y : ℕ) → IsFaceOf new v x y
         → (j : ℕ) × (j < k - 1) × (without (suc i) nb j ≡ x) × (without (suc i) nb (suc j) ≡ y)
-    only x y h = go (came points faces new outer outer' v (nb i) (nb (suc i))
-        (nb (suc (suc i))) m after f g s.faces_change x y h)
+    only x y h = elim (came _ _ new _ _ v _ _ _ m after f g s.faces_change x y h) [
+      | inl e ↦ (i, omega arith, early i (omega arith) ∙ sym e.0, late _ (omega arith) ∙ sym e.1)
+      | inr t ↦ (let r = star.only x y t.0 in old r.0 r.1 r.2 r.3 t.1 t.2
+          (placed r.0 (λ e. t.1 (sym r.2 ∙ ap nb e)) (λ e. t.2 (sym r.2 ∙ ap nb e))))
+    ]
       where
         old : (j : ℕ) → j < k → nb j ≡ x → nb (suc j) ≡ y → x ≢ nb i → x ≢ nb (suc i)
             → (j < i) ⊎ (suc i < j)
             → (j : ℕ) × (j < k - 1) × (without (suc i) nb j ≡ x) × (without (suc i) nb (suc j) ≡ y)
         old j l e d na nc (inl q) =
-            (j, omega arith, early j (omega arith) ∙ e, early (suc j) (omega arith) ∙ d)
+            (j, omega arith, early j (omega arith) ∙ e, early _ (omega arith) ∙ d)
         old zero l e d na nc (inr q) = absurd (omega arith)
         old (suc j) l e d na nc (inr q) =
-            (j, omega arith, late j (omega arith) ∙ e, late (suc j) (omega arith) ∙ d)
+            (j, omega arith, late j (omega arith) ∙ e, late _ (omega arith) ∙ d)
 
         placed : (j : ℕ) → j ≢ i → j ≢ suc i → (j < i) ⊎ (suc i < j)
         placed j n n' = grind arith
 
-        go : ((x ≡ nb i) × (y ≡ nb (suc (suc i))))
-            ⊎ (IsFaceOf faces v x y × (x ≢ nb i) × (x ≢ nb (suc i)))
-            → (j : ℕ) × (j < k - 1) × (without (suc i) nb j ≡ x) × (without (suc i) nb (suc j) ≡ y)
-        go (inl e) =
-            (i, omega arith, early i (omega arith) ∙ sym e.0, late (suc i) (omega arith) ∙ sym e.1)
-        go (inr (o, na, nc)) = let r = star.only x y o in old r.0 r.1 r.2 r.3 na nc
-            (placed r.0 (λ e. na (sym r.2 ∙ ap nb e)) (λ e. nc (sym r.2 ∙ ap nb e)))
-
     at_start : without (suc i) nb 0 ≡ nb 0
     at_start = early 0 (omega arith)
 
-    last_is : (k : ℕ) → suc i < k → suc (k - 1) ≡ k
-    last_is k h = omega arith
-
     at_end : without (suc i) nb (k - 1) ≡ nb k
-    at_end = late (k - 1) (omega arith) ∙ ap nb (last_is k inside)
+    at_end = late (k - 1) (omega arith) ∙ ap nb (omega arith)
 
     arrives : Contains outer' (without (suc i) nb 0, v)
-    arrives = subst (λ z. Contains outer' (z, v)) (sym at_start)
-        (s.outer_change.kept (nb 0) v star.arrives (λ x. Contains-none (nb 0, v) x))
+    arrives = rw at_start (s.outer_change.kept _ v star.arrives (λ x. Contains-none (nb 0, v) x))
 
     leaves : Contains outer' (v, without (suc i) nb (k - 1))
-    leaves = subst (λ z. Contains outer' (v, z)) (sym at_end)
-        (s.outer_change.kept v (nb k) star.leaves (λ x. Contains-none (v, nb k) x))
+    leaves = rw at_end (s.outer_change.kept v _ star.leaves (λ x. Contains-none (v, nb k) x))
 
 -- ---- a star that begins elsewhere
 from_none : (n : ℕ) → n ≡ 0 + n
@@ -288,8 +243,8 @@ from_none n = omega arith
 star_turned_once : (faces : List Face) (v k : ℕ) (nb : ℕ → ℕ) → IsStar faces v k nb
     → IsStar faces v k (λ j. nb (suc j))
 star_turned_once faces v k nb star = record {
-  around = λ i. star.around (suc i);
-  again = λ i. ap nb (next_sum i k) ∙ star.again (suc i);
+  around = λ i. star.around _;
+  again = λ i. ap nb (next_sum i k) ∙ star.again _;
   apart = apart;
   only = only;
 }
@@ -305,13 +260,13 @@ star_turned_once faces v k nb star = record {
 
         not_first : (j : ℕ) → suc j < k → nb (suc j) ≡ nb k → ⊥
         not_first j h e =
-            none (star.apart (suc j) 0 h (omega arith) (e ∙ ap nb (from_none k) ∙ star.again 0))
+            none (star.apart _ 0 h (omega arith) (e ∙ ap nb (from_none k) ∙ star.again 0))
           where
             none : suc j ≡ 0 → ⊥
             none e = omega arith
 
         go : (suc i < k) ⊎ (suc i ≡ k) → (suc j < k) ⊎ (suc j ≡ k) → i ≡ j
-        go (inl l) (inl o) = back i j (star.apart (suc i) (suc j) l o e)
+        go (inl l) (inl o) = back i j (star.apart _ _ l o e)
         go (inl l) (inr o) = absurd (not_first i l (e ∙ ap nb o))
         go (inr l) (inl o) = absurd (not_first j o (sym e ∙ ap nb l))
         go (inr l) (inr o) = back i j (l ∙ sym o)
@@ -325,15 +280,9 @@ star_turned_once faces v k nb star = record {
         go (zero, h, e, d) = (
           k - 1,
           omega arith,
-          ap nb (last k h ∙ from_none k) ∙ star.again 0 ∙ e,
-          ap nb (next_last k h) ∙ star.again 1 ∙ d,
+          ap nb ((omega arith) ∙ from_none k) ∙ star.again 0 ∙ e,
+          ap nb (omega arith) ∙ star.again 1 ∙ d,
         )
-          where
-            last : (k : ℕ) → 0 < k → suc (k - 1) ≡ k
-            last k h = omega arith
-
-            next_last : (k : ℕ) → 0 < k → suc (suc (k - 1)) ≡ 1 + k
-            next_last k h = omega arith
         go (suc i, h, e, d) = (i, omega arith, e, d)
 
 star_turned : (faces : List Face) (v k : ℕ) (nb : ℕ → ℕ) → IsStar faces v k nb → (s : ℕ)
@@ -343,7 +292,7 @@ star_turned faces v k nb star zero = subst (IsStar faces v k) (λ o j. nb (none 
     none : (j : ℕ) → j ≡ j + 0
     none j = omega arith
 star_turned faces v k nb star (suc s) = subst (IsStar faces v k) (λ o j. nb (one j o))
-    (star_turned_once faces v k (λ j. nb (j + s)) (star_turned faces v k nb star s))
+    (star_turned_once _ v k (λ j. nb (j + s)) (star_turned _ v k nb star s))
   where
     one : (j : ℕ) → suc j + s ≡ j + suc s
     one j = omega arith
@@ -366,30 +315,25 @@ round_fits : (t j : ℕ) → round t j ≤ t
 unfolding round
 round_fits t zero = omega arith
 round_fits t (suc j) = elim (cases_eq (round t j) t) [
-  | inl e ↦ first (after_in t (round t j)) (after_last t (round t j) e)
+  | inl e ↦ omega (arith, after_last t (round t j) e)
   | inr n ↦
       later (round t j) (after_in t (round t j)) (round_fits t j) n (after_other t (round t j) n)
 ]
   where
-    first : (x : ℕ) → x ≡ 0 → x ≤ t
-    first x e = omega arith
-
     later : (x y : ℕ) → x ≤ t → x ≢ t → y ≡ suc x → y ≤ t
     later x y h n e = omega arith
 
 round_own : (t j : ℕ) → j ≤ t → round t j ≡ j
 unfolding round
 round_own t zero h = refl
-round_own t (suc j) h = ap (after_in t) (round_own t j (omega arith)) ∙ after_other t j (short j h)
-  where
-    short : (j : ℕ) → suc j ≤ t → j ≢ t
-    short j h e = omega arith
+round_own t (suc j) h = ap (after_in t) (round_own t j (omega arith)) ∙ after_other t j
+    (omega arith)
 
 round_again : (t j : ℕ) → round t (j + suc t) ≡ round t j
 unfolding round
-round_again t zero = ap (round t) (sym (from_none (suc t)))
+round_again t zero = ap (round t) (sym (from_none _))
     ∙ ap (after_in t) (round_own t t (omega arith)) ∙ after_last t t refl
-round_again t (suc j) = ap (round t) (sym (next_sum j (suc t))) ∙ ap (after_in t) (round_again t j)
+round_again t (suc j) = ap (round t) (sym (next_sum j _)) ∙ ap (after_in t) (round_again t j)
 
 -- ---- at an inner vertex
 -- the star begins after the edge that is flipped
@@ -405,26 +349,19 @@ module _ (points : List Point) (faces new : List Face) (outer outer' : List (ℕ
     where
       around : (j : ℕ) → IsFaceOf new v (nb (round t j)) (nb (after_in t (round t j)))
       around j = elim (cases_eq (round t j) t) [
-        | inl e ↦
-            subst (λ z. IsFaceOf new v (nb (round t j)) (nb z)) (sym (after_last t (round t j) e))
-            (subst (λ z. IsFaceOf new v z (nb 0)) (sym at_a ∙ ap nb (sym e))
-            (subst (IsFaceOf new v a) (sym at_c)
-            (made points faces new outer outer' v a b c m after first second change)))
-        | inr n ↦
-            subst (λ z. IsFaceOf new v (nb (round t j)) (nb z)) (sym (after_other t (round t j) n))
-            (other_stays points faces new outer outer' v a b c m after first second change
-            (nb (round t j)) (nb (suc (round t j))) (star.around (round t j))
-            (not_a (round t j) (round_fits t j) n) (not_b (round t j) (round_fits t j)))
+        | inl e ↦ rw (after_last t (round t j) e) (subst (λ z. IsFaceOf new v z (nb 0))
+            (sym at_a ∙ ap nb (sym e)) (subst (IsFaceOf new v a) (sym at_c)
+            (made _ _ new _ _ v a b c m after first second change)))
+        | inr n ↦ rw (after_other t (round t j) n) (other_stays _ _ new _ _ v a b c m after first
+            second change _ _ (star.around (round t j)) (not_a (round t j) (round_fits t j) n)
+            (not_b (round t j) (round_fits t j)))
       ]
         where
           not_a : (x : ℕ) → x ≤ t → x ≢ t → nb x ≢ a
           not_a x h n e = n (star.apart x t (omega arith) (omega arith) (e ∙ sym at_a))
 
           not_b : (x : ℕ) → x ≤ t → nb x ≢ b
-          not_b x h e = short (star.apart x (suc t) (omega arith) (omega arith) (e ∙ sym at_b))
-            where
-              short : x ≡ suc t → ⊥
-              short e = omega arith
+          not_b x h e = omega (arith, star.apart x _ (omega arith) (omega arith) (e ∙ sym at_b))
 
       apart' : (i j : ℕ) → i < suc t → j < suc t → nb (round t i) ≡ nb (round t j) → i ≡ j
       apart' i j hi hj e = star.apart i j (omega arith) (omega arith)
@@ -432,7 +369,17 @@ module _ (points : List Point) (faces new : List Face) (outer outer' : List (ℕ
 
       only : (x y : ℕ) → IsFaceOf new v x y
           → (j : ℕ) × (j < suc t) × (nb (round t j) ≡ x) × (nb (after_in t (round t j)) ≡ y)
-      only x y h = go (came points faces new outer outer' v a b c m after first second change x y h)
+      only x y h = elim (came _ _ new _ _ v a b c m after first second change x y h) [
+        | inl e ↦ (
+          t,
+          omega arith,
+          ap nb (round_own t t (omega arith)) ∙ at_a ∙ sym e.0,
+          ap (λ z. nb (after_in t z)) (round_own t t (omega arith))
+              ∙ ap nb (after_last t t refl) ∙ at_c ∙ sym e.1,
+        )
+        | inr o ↦ (let r = star.only x y o.0 in old r.0 r.1
+            (λ e. o.1 (sym r.2 ∙ ap nb e ∙ at_a)) (λ e. o.2 (sym r.2 ∙ ap nb e ∙ at_b)) r.2 r.3)
+      ]
         where
           old : (j : ℕ) → j < suc (suc t) → j ≢ t → j ≢ suc t → nb j ≡ x → nb (suc j) ≡ y
               → (j : ℕ) × (j < suc t) × (nb (round t j) ≡ x) × (nb (after_in t (round t j)) ≡ y)
@@ -444,152 +391,102 @@ module _ (points : List Point) (faces new : List Face) (outer outer' : List (ℕ
                 (round_own t j (omega arith)) ∙ ap nb (after_other t j n) ∙ d,
           )
 
-          go : ((x ≡ a) × (y ≡ c)) ⊎ (IsFaceOf faces v x y × (x ≢ a) × (x ≢ b))
-              → (j : ℕ) × (j < suc t) × (nb (round t j) ≡ x) × (nb (after_in t (round t j)) ≡ y)
-          go (inl e) = (
-            t,
-            omega arith,
-            ap nb (round_own t t (omega arith)) ∙ at_a ∙ sym e.0,
-            ap (λ z. nb (after_in t z)) (round_own t t (omega arith))
-                ∙ ap nb (after_last t t refl) ∙ at_c ∙ sym e.1,
-          )
-          go (inr (o, na, nc)) = let r = star.only x y o in old r.0 r.1
-              (λ e. na (sym r.2 ∙ ap nb e ∙ at_a)) (λ e. nc (sym r.2 ∙ ap nb e ∙ at_b)) r.2 r.3
-
 -- a flip at an inner vertex leaves out one neighbour, and the star goes on from the next
 pub inner_star_shrinks : InnerStarShrinks
 inner_star_shrinks points faces new outer outer' v k nb i m star four s = (
   (λ j. nb (round (k - 2) j + suc (suc i))),
-  subst
-      (λ z. IsStar new v z (λ j. nb (round (k - 2) j + suc (suc i)))) (one_less k four) star',
+  subst (λ z. IsStar new v z (λ j. nb (round (k - 2) j + suc (suc i)))) (omega arith) star',
   λ j h. ap (λ z. nb (z + suc (suc i))) (round_own (k - 2) j (omega arith)),
 )
   where
-    one_less : (k : ℕ) → 4 ≤ k → suc (k - 2) ≡ k - 1
-    one_less k h = omega arith
-
-    two_less : (k : ℕ) → 4 ≤ k → k ≡ suc (suc (k - 2))
-    two_less k h = omega arith
-
-    before_last : (k : ℕ) → 4 ≤ k → (k - 2) + suc (suc i) ≡ i + k
-    before_last k h = omega arith
-
-    at_last : (k : ℕ) → 4 ≤ k → suc (k - 2) + suc (suc i) ≡ suc i + k
-    at_last k h = omega arith
-
     f : IsFaceOf faces v (nb i) (nb (suc i))
     f = star.around i
 
     g : IsFaceOf faces v (nb (suc i)) (nb (suc (suc i)))
-    g = star.around (suc i)
+    g = star.around _
 
     star' : IsStar new v (suc (k - 2)) (λ j. nb (round (k - 2) j + suc (suc i)))
-    star' = shrunk points faces new outer outer' v (nb i) (nb (suc i)) (nb (suc (suc i))) (k - 2)
-        (λ j. nb (j + suc (suc i))) m (mesh_after points faces new outer outer' v i nb m f g s)
-        (subst (λ z. IsStar faces v z (λ j. nb (j + suc (suc i)))) (two_less k four)
-        (star_turned faces v k nb star (suc (suc i))))
-        (ap nb (before_last k four) ∙ star.again i) (ap nb (at_last k four) ∙ star.again (suc i))
-        (ap nb (sym (from_none (suc (suc i))))) f g s.faces_change
+    star' = shrunk _ _ new _ _ v _ _ _ (k - 2) (λ j. nb (j + suc (suc i))) m
+        (mesh_after _ _ new _ _ v i nb m f g s) (subst (λ z. IsStar faces v z
+        (λ j. nb (j + suc (suc i)))) (omega arith) (star_turned _ v k nb star _))
+        (ap nb (omega arith) ∙ star.again i) (ap nb (omega arith) ∙ star.again _)
+        (ap nb (sym (from_none _))) f g s.faces_change
 
 -- ---- one star
 -- two lists of a vertex's star hold the same faces
 pub stars_agree : StarsAgree
 stars_agree points faces outer v k l nb other m star star' =
-    (same (cases_lt k l) (cases_lt l k), (begins.0, begins.1, along))
+    (omega (arith, shorter, longer), (begins.0, begins.1, along))
   where
     begins : (i : ℕ) × (i < k) × (nb i ≡ other 0) × (nb (suc i) ≡ other 1)
     begins = star.only (other 0) (other 1) (star'.around 0)
 
     along : (i : ℕ) → other i ≡ nb (i + begins.0)
     along zero = sym begins.2 ∙ ap nb (from_none begins.0)
-    along (suc i) =
-        one_third points faces outer m v (other i) (other (suc i)) (nb (suc (i + begins.0)))
-        (star'.around i) (subst (λ z. IsFaceOf faces v z (nb (suc (i + begins.0)))) (sym (along i))
-        (star.around (i + begins.0))) ∙ ap nb (next_sum i begins.0)
+    along (suc i) = one_third _ _ _ m v (other i) (other _) _ (star'.around i)
+        (rw (along i) (star.around (i + begins.0))) ∙ ap nb (next_sum i begins.0)
 
     own : (i : ℕ) × (i < l) × (other i ≡ other 0) × (other (suc i) ≡ other 1)
     own = star'.only (other 0) (other 1) (star'.around 0)
 
     shorter : k < l → ⊥
     shorter h = none (star'.apart k 0 h (omega arith)
-        (along k ∙ ap nb (swapped k begins.0) ∙ star.again begins.0 ∙ begins.2))
+        (along k ∙ ap nb (omega arith) ∙ star.again begins.0 ∙ begins.2))
       where
-        swapped : (k s : ℕ) → k + s ≡ s + k
-        swapped k s = omega arith
-
         none : k ≡ 0 → ⊥
         none e = let f = begins.1 in omega arith
 
     longer : l < k → ⊥
-    longer h = none ((star_turned faces v k nb star begins.0).apart l 0 h (omega arith)
+    longer h = none ((star_turned _ v k nb star begins.0).apart l 0 h (omega arith)
         (sym (along l) ∙ ap other (from_none l) ∙ star'.again 0 ∙ along 0))
       where
         none : l ≡ 0 → ⊥
         none e = let f = own.1 in omega arith
 
-    same : (k < l) ⊎ (l ≤ k) → (l < k) ⊎ (k ≤ l) → k ≡ l
-    same (inl h) _ = absurd (shorter h)
-    same (inr h) (inl o) = absurd (longer o)
-    same (inr h) (inr o) = omega arith
-
 module _ (points : List Point) (faces : List Face) (outer : List (ℕ × ℕ))
     (m : LocalMesh points faces outer) (v k l : ℕ) (nb other : ℕ → ℕ)
     (star : IsHullStar faces outer v k nb) (star' : IsHullStar faces outer v l other) where
   signs_of : SignMesh (length points) (point_at points) faces outer
-  signs_of = by_signs points faces outer m
+  signs_of = by_signs _ _ _ m
 
   some_face : 0 < k
   some_face =
-      let s = C.behind_outer (length points) (point_at points) faces outer signs_of v
-      (nb k) star.leaves in
-      let o = star.only s.0 (nb k) (turned faces (nb k) v s.0 s.1) in
-      above o.0 o.1
-    where
-      above : (i : ℕ) → i < k → 0 < k
-      above i h = omega arith
+      let s = C.behind_outer _ _ _ _ signs_of v
+      _ star.leaves in
+      let o = star.only s.0 _ (turned _ _ v s.0 s.1) in
+      omega (arith, o.1)
 
   first_is : other 0 ≡ nb 0
-  first_is = go (star'.only (nb 0) (nb 1) (star.around 0 some_face))
+  first_is = go (star'.only _ _ (star.around 0 some_face))
     where
       go : (j : ℕ) × (j < l) × (other j ≡ nb 0) × (other (suc j) ≡ nb 1) → other 0 ≡ nb 0
       go (zero, h, e, d) = e
-      go (suc j, h, e, d) = absurd (L.outer_is_no_side (length points)
-          (point_at points) faces outer signs_of (nb 0) v star.arrives
+      go (suc j, h, e, d) = absurd (L.outer_is_no_side _ _ _ _ signs_of _ v star.arrives
           (subst (λ z. HasSide faces z v) e (
             other j,
-            turned faces (other j) (other (suc j)) v
-                (turned faces v (other j) (other (suc j)) (star'.around j (omega arith))),
+            turned _ (other j) (other _) v
+                (turned _ v (other j) (other _) (star'.around j (omega arith))),
           )))
 
   each_is : (i : ℕ) → i ≤ k → i ≤ l → other i ≡ nb i
   each_is zero h e = first_is
-  each_is (suc i) h e = one_third points faces outer m v (other i) (other (suc i)) (nb (suc i))
-      (star'.around i (omega arith)) (subst (λ z. IsFaceOf faces v z (nb (suc i)))
-      (sym (each_is i (omega arith) (omega arith))) (star.around i (omega arith)))
+  each_is (suc i) h e = one_third _ _ _ m v (other i) (other _) _ (star'.around i (omega arith))
+      (rw (each_is i (omega arith) (omega arith)) (star.around i (omega arith)))
 
   not_longer : k < l → ⊥
-  not_longer h = L.outer_is_no_side (length points) (point_at points) faces outer signs_of v
-      (nb k) star.leaves (subst (λ z. HasSide faces v z) (each_is k (omega arith) (omega arith))
-      (other (suc k), star'.around k h))
+  not_longer h = L.outer_is_no_side _ _ _ _ signs_of v
+      _ star.leaves (subst (λ z. HasSide faces v z) (each_is k (omega arith) (omega arith))
+      (other _, star'.around k h))
 
 -- two readings of the faces round a vertex of the hull are one
 pub hull_stars_agree : HullStarsAgree
 hull_stars_agree points faces outer v k l nb other m star star' = (
-  same (cases_lt k l) (cases_lt l k),
-  λ i h. each_is points faces outer m v k l nb other star star' i h (fits i h (cases_lt l k)),
+  omega (arith, shorter, longer),
+  λ i h. each_is _ _ _ m v k l nb other star star' i h (omega (arith, longer)),
 )
   where
     shorter : k < l → ⊥
-    shorter = not_longer points faces outer m v k l nb other star star'
+    shorter = not_longer _ _ _ m v k l nb other star star'
 
     longer : l < k → ⊥
-    longer = not_longer points faces outer m v l k other nb star' star
-
-    same : (k < l) ⊎ (l ≤ k) → (l < k) ⊎ (k ≤ l) → k ≡ l
-    same (inl h) _ = absurd (shorter h)
-    same (inr h) (inl o) = absurd (longer o)
-    same (inr h) (inr o) = omega arith
-
-    fits : (i : ℕ) → i ≤ k → (l < k) ⊎ (k ≤ l) → i ≤ l
-    fits i h (inl o) = absurd (longer o)
-    fits i h (inr o) = omega arith
+    longer = not_longer _ _ _ m v l k other nb star' star
