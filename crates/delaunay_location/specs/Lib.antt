@@ -1,4 +1,5 @@
 pub mod Location
+pub mod Seeking
 pub mod Search
 pub mod Stop
 pub mod Candidate

@@ -6,7 +6,7 @@ use Rattle.plane.specs.Side.{Side, side}
 use Rattle.delaunay_core.specs.Place.{place_of}
 use Rattle.delaunay_legalization.specs.Known.{point_at}
 use Rattle.delaunay_location.specs.Search.{IsPlaceOf}
-use Rattle.delaunay_location.specs.declared.search.Search.{Search}
+use Rattle.delaunay_location.specs.Seeking.{Seeking}
 use Rattle.delaunay_location.specs.declared.steps.Stop.{Stop}
 use Rattle.delaunay_location.specs.declared.steps.Step.{Step}
 use Rattle.delaunay_location.specs.declared.steps.Step.TheVariants.{Beyond, Found, OnSide}
@@ -24,24 +24,24 @@ pub record IsStop {S : Type 0} (number : S → ℤ) (points : List Point) (m : M
 abbrev pub AreOtherSides : Mesh → ℕ → ℕ → ℕ → Type 0
 AreOtherSides m e f g = ((f ≡ next m e) × (g ≡ prev m e)) ⊎ ((f ≡ prev m e) × (g ≡ next m e))
 
-module _ {V D U F P S : Type 0} (at : V → Point) (number : S → ℤ) (s : Search V D U F P S) where
+module _ {V D U F P S : Type 0} (at : V → Point) (number : S → ℤ) (s : Seeking V D U F P) where
   -- the same of the mesh of a search
   abbrev pub IsStopOf : Stop S → Type 0
-  IsStopOf = IsStop number (map at s.dcel.now.vertices) s.dcel.now.mesh (length s.dcel.now.directed)
+  IsStopOf = IsStop number (map at s.dcel.vertices) s.dcel.mesh (length s.dcel.directed)
 
   -- on this side of it is the position
   abbrev pub IsSideAt : Stop S → Side → Type 0
   IsSideAt stop found =
       found ≡ side (whole (place_of number stop.from)) (whole (place_of number stop.to))
-      (whole (place_of number s.point))
+      (whole s.point)
 
   -- a step leads to such an edge, or to where the position is
   abbrev pub IsStepOf : Step S → Type 0
   IsStepOf (Beyond stop) = IsStopOf stop
-  IsStepOf (Found place) = IsPlaceOf at number s place
+  IsStepOf (Found place) = IsPlaceOf at s place
   IsStepOf OnSide = Unit {0}
 
-  -- a walk ends where the position is, or reaches an edge
-  abbrev pub IsWalkOf : Walked → Type 0
-  IsWalkOf (Ended place) = IfSome place (IsPlaceOf at number s)
-  IsWalkOf (Reached e) = e < length s.dcel.now.directed
+-- a walk ends where the position is, or reaches an edge
+abbrev pub IsWalkOf : {V D U F P : Type 0} → (V → Point) → Seeking V D U F P → Walked → Type 0
+IsWalkOf at s (Ended place) = IfSome place (IsPlaceOf at s)
+IsWalkOf at s (Reached e) = e < length s.dcel.directed

@@ -1,7 +1,7 @@
 //! Where a position is among vertices of one line, by a walk along it.
 ghost use Rattle.std.specs.Prelude.{◌≡◌, ◌<◌, length, IfSome};
 ghost use Rattle.half_edge_mesh.specs.Mesh.{next, rev};
-ghost use Rattle.delaunay_location.specs.Search.{IsPlaceOf, IsSearch};
+ghost use Rattle.delaunay_location.specs.Search.{IsPlaceOf};
 ghost use Rattle.delaunay_location.specs.Stop.{IsWalkOf};
 
 use crate::parts::{end_vertex, ends_of};
@@ -18,10 +18,9 @@ impl<'a, V: HasPosition, DE, UE, F, P: PlaneTests<V::Scalar>> Search<'a, V, DE, 
     // The location of a position that is strictly on one side of the line of all vertices: beyond
     // one of the directions of an edge.
     fn place_beside(&self, edge: FixedDirectedEdgeHandle) -> Option<PositionInTriangulation>
-        requires within { edge < length self.now.dcel.now.directed }
-        requires search { IsSearch V.place V.Scalar.whole P.sites P.covered self.now }
-        requires line { length self.now.dcel.now.faces ≡ 0 }
-        ensures { IfSome result (IsPlaceOf V.place V.Scalar.whole self.now) }
+        requires within { edge < length self.now.dcel.directed }
+        requires line { length self.now.dcel.faces ≡ 0 }
+        ensures { IfSome result (IsPlaceOf V.place self.now) }
     {
         let stop = self.stop_at(edge);
         let side = self.side_at(stop);
@@ -36,9 +35,8 @@ impl<'a, V: HasPosition, DE, UE, F, P: PlaneTests<V::Scalar>> Search<'a, V, DE, 
 
     // The location of a position on an edge, which is told by the first of its directions.
     fn place_on_either(&self, edge: FixedDirectedEdgeHandle) -> Option<PositionInTriangulation>
-        requires within { edge < length self.now.dcel.now.directed }
-        requires search { IsSearch V.place V.Scalar.whole P.sites P.covered self.now }
-        ensures { IfSome result (IsPlaceOf V.place V.Scalar.whole self.now) }
+        requires { edge < length self.now.dcel.directed }
+        ensures { IfSome result (IsPlaceOf V.place self.now) }
     {
         self.place_on_edge(edge.as_undirected().as_directed())
     }
@@ -46,11 +44,10 @@ impl<'a, V: HasPosition, DE, UE, F, P: PlaneTests<V::Scalar>> Search<'a, V, DE, 
     // The location of a position past the end of the line at which an edge, the only one there,
     // starts.
     fn place_past(&self, edge: FixedDirectedEdgeHandle) -> Option<PositionInTriangulation>
-        requires within { edge < length self.now.dcel.now.directed }
-        requires search { IsSearch V.place V.Scalar.whole P.sites P.covered self.now }
-        requires line { length self.now.dcel.now.faces ≡ 0 }
-        requires alone { next self.now.dcel.now.mesh (rev edge) ≡ edge }
-        ensures { IfSome result (IsPlaceOf V.place V.Scalar.whole self.now) }
+        requires within { edge < length self.now.dcel.directed }
+        requires line { length self.now.dcel.faces ≡ 0 }
+        requires alone { next self.now.dcel.mesh (rev edge) ≡ edge }
+        ensures { IfSome result (IsPlaceOf V.place self.now) }
     {
         let (from, to) = ends_of(self.dcel, edge);
         if is_same_point(from, self.point) {
@@ -68,10 +65,9 @@ impl<'a, V: HasPosition, DE, UE, F, P: PlaneTests<V::Scalar>> Search<'a, V, DE, 
     // The location of a position near the start of an edge of the line: at this vertex, on one of
     // its edges, or past it, where it has no other.
     fn place_near(&self, edge: FixedDirectedEdgeHandle) -> Option<PositionInTriangulation>
-        requires within { edge < length self.now.dcel.now.directed }
-        requires search { IsSearch V.place V.Scalar.whole P.sites P.covered self.now }
-        requires line { length self.now.dcel.now.faces ≡ 0 }
-        ensures { IfSome result (IsPlaceOf V.place V.Scalar.whole self.now) }
+        requires within { edge < length self.now.dcel.directed }
+        requires line { length self.now.dcel.faces ≡ 0 }
+        ensures { IfSome result (IsPlaceOf V.place self.now) }
     {
         let here = self.dcel.directed_edge(edge);
         let vertex = here.from().fix();
@@ -90,8 +86,7 @@ impl<'a, V: HasPosition, DE, UE, F, P: PlaneTests<V::Scalar>> Search<'a, V, DE, 
 
     // Whether an edge ends nearer to the position than it starts.
     fn ends_nearer(&self, edge: FixedDirectedEdgeHandle) -> bool
-        requires within { edge < length self.now.dcel.now.directed }
-        requires search { IsSearch V.place V.Scalar.whole P.sites P.covered self.now }
+        requires { edge < length self.now.dcel.directed }
     {
         let start = self.dcel.directed_edge(edge).from().fix();
         let end = end_vertex(self.dcel, edge);
@@ -101,9 +96,8 @@ impl<'a, V: HasPosition, DE, UE, F, P: PlaneTests<V::Scalar>> Search<'a, V, DE, 
     // An edge of the line that starts where another one does, and leads towards the position if one
     // of those does.
     fn towards(&self, edge: FixedDirectedEdgeHandle) -> FixedDirectedEdgeHandle
-        requires within { edge < length self.now.dcel.now.directed }
-        requires search { IsSearch V.place V.Scalar.whole P.sites P.covered self.now }
-        ensures { result < length self.now.dcel.now.directed }
+        requires { edge < length self.now.dcel.directed }
+        ensures { result < length self.now.dcel.directed }
     {
         if self.ends_nearer(edge) {
             return edge;
@@ -114,10 +108,9 @@ impl<'a, V: HasPosition, DE, UE, F, P: PlaneTests<V::Scalar>> Search<'a, V, DE, 
     // Where a walk along the line from the start of an edge ends, or is after a number of steps.
     // Past the end of the line it turns round, and ends there.
     fn walk_along(&self, start: FixedDirectedEdgeHandle, steps: usize) -> Walked
-        requires within { start < length self.now.dcel.now.directed }
-        requires search { IsSearch V.place V.Scalar.whole P.sites P.covered self.now }
-        requires line { length self.now.dcel.now.faces ≡ 0 }
-        ensures { IsWalkOf V.place V.Scalar.whole self.now result }
+        requires within { start < length self.now.dcel.directed }
+        requires line { length self.now.dcel.faces ≡ 0 }
+        ensures { IsWalkOf V.place self.now result }
     {
         let mut edge = self.towards(start);
         for _ in 0..steps {
@@ -137,10 +130,9 @@ impl<'a, V: HasPosition, DE, UE, F, P: PlaneTests<V::Scalar>> Search<'a, V, DE, 
         &self,
         start: FixedDirectedEdgeHandle,
     ) -> Option<PositionInTriangulation>
-        requires within { start < length self.now.dcel.now.directed }
-        requires search { IsSearch V.place V.Scalar.whole P.sites P.covered self.now }
-        requires line { length self.now.dcel.now.faces ≡ 0 }
-        ensures { IfSome result (IsPlaceOf V.place V.Scalar.whole self.now) }
+        requires within { start < length self.now.dcel.directed }
+        requires line { length self.now.dcel.faces ≡ 0 }
+        ensures { IfSome result (IsPlaceOf V.place self.now) }
     {
         if let Some(place) = self.place_beside(FixedDirectedEdgeHandle::from_index(0)) {
             return Some(place);

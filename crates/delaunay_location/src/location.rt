@@ -13,7 +13,6 @@ ghost use Rattle.delaunay_legalization.specs.State.{state_of};
 ghost use Rattle.delaunay_legalization.specs.Parts.{IsApart};
 ghost use Rattle.delaunay_location.specs.Location.{StartsNearest};
 ghost use Rattle.delaunay_location.specs.Search.{IsAtNoVertex, IsClear, IsInFace, IsPlaceOf};
-ghost use Rattle.delaunay_location.specs.Search.{IsSearch};
 
 use crate::parts::{corners_of, ends_of};
 use crate::position_in_triangulation::PositionInTriangulation;
@@ -85,11 +84,10 @@ fn edge_from_nearest<V: HasPosition, DE, UE, F>(
 impl<'a, V: HasPosition, DE, UE, F, P: PlaneTests<V::Scalar>> Search<'a, V, DE, UE, F, P> {
     // The location of a position at an edge: within it, or outside and on its left.
     fn place_at_edge(&self, edge: FixedDirectedEdgeHandle) -> Option<PositionInTriangulation>
-        requires within { edge < length self.now.dcel.now.directed }
-        requires search { IsSearch V.place V.Scalar.whole P.sites P.covered self.now }
-        requires apart { IsAtNoVertex V.place V.Scalar.whole self.now }
-        ensures { MatchOption result (IsClear V.place V.Scalar.whole self.now edge)
-            (IsPlaceOf V.place V.Scalar.whole self.now) }
+        requires within { edge < length self.now.dcel.directed }
+        requires apart { IsAtNoVertex V.place self.now }
+        ensures { MatchOption result (IsClear V.place self.now edge)
+            (IsPlaceOf V.place self.now) }
     {
         let (from, to) = ends_of(self.dcel, edge);
         if is_strictly_within(from, to, self.point, self.tests) {
@@ -102,11 +100,10 @@ impl<'a, V: HasPosition, DE, UE, F, P: PlaneTests<V::Scalar>> Search<'a, V, DE, 
     }
 
     fn place_at_edges(&self) -> Option<PositionInTriangulation>
-        requires search { IsSearch V.place V.Scalar.whole P.sites P.covered self.now }
-        requires apart { IsAtNoVertex V.place V.Scalar.whole self.now }
-        ensures { MatchOption result ((h : ℕ) → h < length self.now.dcel.now.directed →
-            IsClear V.place V.Scalar.whole self.now h)
-            (IsPlaceOf V.place V.Scalar.whole self.now) }
+        requires { IsAtNoVertex V.place self.now }
+        ensures { MatchOption result ((h : ℕ) → h < length self.now.dcel.directed →
+            IsClear V.place self.now h)
+            (IsPlaceOf V.place self.now) }
     {
         for index in 0..self.dcel.num_directed_edges() {
             let edge = FixedDirectedEdgeHandle::from_index(index as u32);
@@ -121,19 +118,17 @@ impl<'a, V: HasPosition, DE, UE, F, P: PlaneTests<V::Scalar>> Search<'a, V, DE, 
     // Whether the position is strictly inside an inner face.
     fn is_inside_face(&self, face: FixedFaceHandle) -> bool
         requires positive { 0 < face }
-        requires within { face ≤ length self.now.dcel.now.faces }
-        requires search { IsSearch V.place V.Scalar.whole P.sites P.covered self.now }
-        ensures { IsTrue result ↔ IsInFace V.place V.Scalar.whole self.now face }
+        requires within { face ≤ length self.now.dcel.faces }
+        ensures { IsTrue result ↔ IsInFace V.place self.now face }
     {
         let (a, b, c) = corners_of(self.dcel, face);
         is_strictly_inside(a, b, c, self.point, self.tests)
     }
 
     fn face_around(&self) -> Option<FixedFaceHandle>
-        requires search { IsSearch V.place V.Scalar.whole P.sites P.covered self.now }
-        ensures { MatchOption result ((f : ℕ) → 0 < f → f ≤ length self.now.dcel.now.faces →
-            ¬ IsInFace V.place V.Scalar.whole self.now f) (λ f. (0 < f) ×
-            (f ≤ length self.now.dcel.now.faces) × IsInFace V.place V.Scalar.whole self.now f) }
+        ensures { MatchOption result ((f : ℕ) → 0 < f → f ≤ length self.now.dcel.faces →
+            ¬ IsInFace V.place self.now f) (λ f. (0 < f) ×
+            (f ≤ length self.now.dcel.faces) × IsInFace V.place self.now f) }
     {
         for index in 0..self.dcel.num_inner_faces() {
             let face = FixedFaceHandle::from_index(index as u32 + 1);
@@ -146,9 +141,8 @@ impl<'a, V: HasPosition, DE, UE, F, P: PlaneTests<V::Scalar>> Search<'a, V, DE, 
 
     // Where the position is, if no vertex has it.
     fn place_apart(&self) -> PositionInTriangulation
-        requires search { IsSearch V.place V.Scalar.whole P.sites P.covered self.now }
-        requires apart { IsAtNoVertex V.place V.Scalar.whole self.now }
-        ensures { IsPlaceOf V.place V.Scalar.whole self.now result }
+        requires { IsAtNoVertex V.place self.now }
+        ensures { IsPlaceOf V.place self.now result }
     {
         if self.dcel.num_vertices() < 2 {
             return PositionInTriangulation::NoTriangulation;
@@ -166,8 +160,7 @@ impl<'a, V: HasPosition, DE, UE, F, P: PlaneTests<V::Scalar>> Search<'a, V, DE, 
 
     // Where the position is, by a look at all vertices, edges and faces.
     pub(crate) fn place_by_scan(&self) -> PositionInTriangulation
-        requires search { IsSearch V.place V.Scalar.whole P.sites P.covered self.now }
-        ensures { IsPlaceOf V.place V.Scalar.whole self.now result }
+        ensures { IsPlaceOf V.place self.now result }
     {
         match vertex_at(self.dcel, self.point) {
             Some(vertex) => PositionInTriangulation::OnVertex(vertex),

@@ -1,7 +1,8 @@
 //! The steps of a walk from face to face towards a position.
 ghost use Rattle.std.specs.Prelude.{◌≡◌, ◌<◌, length, IsFalse};
 ghost use Rattle.half_edge_mesh.specs.Mesh.{face, prev, rev};
-ghost use Rattle.delaunay_location.specs.Search.{IsSearch};
+ghost use Rattle.delaunay_legalization.specs.Shape.{IsTriangulated};
+ghost use Rattle.delaunay_legalization.specs.State.{state_of};
 ghost use Rattle.delaunay_location.specs.Stop.{AreOtherSides, IsSideAt, IsStepOf, IsStopOf};
 ghost use Rattle.delaunay_location.specs.declared.steps.Step.TheVariants.{Beyond};
 
@@ -49,9 +50,9 @@ fn beyond<S>(side: Stop<S>) -> Step<S>
 impl<'a, V: HasPosition, DE, UE, F, P: PlaneTests<V::Scalar>> Search<'a, V, DE, UE, F, P> {
     // The walk's place in the face on the left of an edge.
     pub(crate) fn stop_at(&self, edge: FixedDirectedEdgeHandle) -> Stop<V::Scalar>
-        requires within { edge < length self.now.dcel.now.directed }
-        requires search { IsSearch V.place V.Scalar.whole P.sites P.covered self.now }
-        ensures { IsStopOf V.place V.Scalar.whole self.now result }
+        requires { edge < length self.now.dcel.directed }
+        ensures stop { IsStopOf V.place V.Scalar.whole self.now result }
+        ensures kept { IsTriangulated V.place (state_of self.now.dcel) }
     {
         let (from, to) = ends_of(self.dcel, edge);
         Stop { edge, from, to }
@@ -60,9 +61,8 @@ impl<'a, V: HasPosition, DE, UE, F, P: PlaneTests<V::Scalar>> Search<'a, V, DE, 
     // The way from an edge that has the outer face on its left to the position: the other direction
     // of the edge, unless the position is strictly on its left.
     fn way_in(&self, stop: Stop<V::Scalar>) -> Step<V::Scalar>
-        requires search { IsSearch V.place V.Scalar.whole P.sites P.covered self.now }
         requires stop { IsStopOf V.place V.Scalar.whole self.now stop }
-        requires outer { face self.now.dcel.now.mesh stop.edge ≡ 0 }
+        requires outer { face self.now.dcel.mesh stop.edge ≡ 0 }
         ensures { IsStepOf V.place V.Scalar.whole self.now result }
     {
         if turns_left(stop.from, stop.to, self.point, self.tests) {
@@ -74,8 +74,7 @@ impl<'a, V: HasPosition, DE, UE, F, P: PlaneTests<V::Scalar>> Search<'a, V, DE, 
     // On which side of an edge the position is.
     #[inline(always)]
     pub(crate) fn side_at(&self, stop: Stop<V::Scalar>) -> LineSideInfo
-        requires search { IsSearch V.place V.Scalar.whole P.sites P.covered self.now }
-        requires stop { IsStopOf V.place V.Scalar.whole self.now stop }
+        requires { IsStopOf V.place V.Scalar.whole self.now stop }
         ensures { IsSideAt V.place V.Scalar.whole self.now stop result }
     {
         self.tests.side(stop.from, stop.to, self.point)
@@ -91,14 +90,14 @@ impl<'a, V: HasPosition, DE, UE, F, P: PlaneTests<V::Scalar>> Search<'a, V, DE, 
         first: Stop<V::Scalar>,
         second: Stop<V::Scalar>,
     ) -> Step<V::Scalar>
-        requires search { IsSearch V.place V.Scalar.whole P.sites P.covered self.now }
         requires stop { IsStopOf V.place V.Scalar.whole self.now stop }
         requires first_stop { IsStopOf V.place V.Scalar.whole self.now first }
         requires second_stop { IsStopOf V.place V.Scalar.whole self.now second }
-        requires others { AreOtherSides self.now.dcel.now.mesh stop.edge first.edge second.edge }
-        requires inner { 0 < face self.now.dcel.now.mesh stop.edge }
+        requires others { AreOtherSides self.now.dcel.mesh stop.edge first.edge second.edge }
+        requires inner { 0 < face self.now.dcel.mesh stop.edge }
         ensures { IsStepOf V.place V.Scalar.whole self.now result }
     {
+        let here = self.dcel.directed_edge(stop.edge);
         let at_first = self.side_at(first);
         if at_first.is_on_right_side() {
             return beyond(first);
@@ -112,8 +111,7 @@ impl<'a, V: HasPosition, DE, UE, F, P: PlaneTests<V::Scalar>> Search<'a, V, DE, 
             return beyond(stop);
         }
         if at_first.is_on_left_side() && at_second.is_on_left_side() && at_stop.is_on_left_side() {
-            let face = self.dcel.directed_edge(stop.edge).face().fix();
-            return Step::Found(PositionInTriangulation::OnFace(face));
+            return Step::Found(PositionInTriangulation::OnFace(here.face().fix()));
         }
         Step::OnSide
     }
@@ -122,9 +120,8 @@ impl<'a, V: HasPosition, DE, UE, F, P: PlaneTests<V::Scalar>> Search<'a, V, DE, 
     // strictly on its right, or the end of the walk.
     #[inline(always)]
     fn way_through(&self, stop: Stop<V::Scalar>) -> Step<V::Scalar>
-        requires search { IsSearch V.place V.Scalar.whole P.sites P.covered self.now }
         requires stop { IsStopOf V.place V.Scalar.whole self.now stop }
-        requires inner { 0 < face self.now.dcel.now.mesh stop.edge }
+        requires inner { 0 < face self.now.dcel.mesh stop.edge }
         ensures { IsStepOf V.place V.Scalar.whole self.now result }
     {
         let here = self.dcel.directed_edge(stop.edge);
@@ -147,8 +144,8 @@ impl<'a, V: HasPosition, DE, UE, F, P: PlaneTests<V::Scalar>> Search<'a, V, DE, 
     // of the face there.
     #[inline(always)]
     fn is_near_hull(&self, edge: FixedDirectedEdgeHandle) -> bool
-        requires { edge < length self.now.dcel.now.directed }
-        ensures { IsFalse result → 0 < face self.now.dcel.now.mesh edge }
+        requires { edge < length self.now.dcel.directed }
+        ensures { IsFalse result → 0 < face self.now.dcel.mesh edge }
     {
         let here = self.dcel.directed_edge(edge);
         here.is_outer_edge()
@@ -159,8 +156,7 @@ impl<'a, V: HasPosition, DE, UE, F, P: PlaneTests<V::Scalar>> Search<'a, V, DE, 
     // The way out of a face near the hull, or from the outer face.
     #[inline(never)]
     fn way_near_hull(&self, stop: Stop<V::Scalar>) -> Step<V::Scalar>
-        requires search { IsSearch V.place V.Scalar.whole P.sites P.covered self.now }
-        requires stop { IsStopOf V.place V.Scalar.whole self.now stop }
+        requires { IsStopOf V.place V.Scalar.whole self.now stop }
         ensures { IsStepOf V.place V.Scalar.whole self.now result }
     {
         if self.dcel.directed_edge(stop.edge).is_outer_edge() {
@@ -178,8 +174,7 @@ impl<'a, V: HasPosition, DE, UE, F, P: PlaneTests<V::Scalar>> Search<'a, V, DE, 
     // next step does not wait for its own.
     #[inline(always)]
     pub(crate) fn way_out(&self, stop: Stop<V::Scalar>) -> Step<V::Scalar>
-        requires search { IsSearch V.place V.Scalar.whole P.sites P.covered self.now }
-        requires stop { IsStopOf V.place V.Scalar.whole self.now stop }
+        requires { IsStopOf V.place V.Scalar.whole self.now stop }
         ensures { IsStepOf V.place V.Scalar.whole self.now result }
     {
         if self.is_near_hull(stop.edge) {

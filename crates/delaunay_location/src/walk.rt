@@ -5,7 +5,7 @@ ghost use Rattle.delaunay_core.specs.Place.{place_of};
 ghost use Rattle.delaunay_legalization.specs.Shape.{IsTriangulated};
 ghost use Rattle.delaunay_legalization.specs.State.{state_of};
 ghost use Rattle.delaunay_location.specs.Location.{Locates};
-ghost use Rattle.delaunay_location.specs.Search.{IsPlaceOf, IsSearch};
+ghost use Rattle.delaunay_location.specs.Search.{IsPlaceOf};
 ghost use Rattle.delaunay_location.specs.Stop.{IsWalkOf};
 
 use crate::parts::ends_of;
@@ -35,9 +35,8 @@ impl<'a, V: HasPosition, DE, UE, F, P: PlaneTests<V::Scalar>> Search<'a, V, DE, 
         &self,
         edge: FixedDirectedEdgeHandle,
     ) -> Option<PositionInTriangulation>
-        requires within { edge < length self.now.dcel.now.directed }
-        requires search { IsSearch V.place V.Scalar.whole P.sites P.covered self.now }
-        ensures { IfSome result (IsPlaceOf V.place V.Scalar.whole self.now) }
+        requires { edge < length self.now.dcel.directed }
+        ensures { IfSome result (IsPlaceOf V.place self.now) }
     {
         let (from, to) = ends_of(self.dcel, edge);
         if is_same_point(from, self.point) {
@@ -56,9 +55,8 @@ impl<'a, V: HasPosition, DE, UE, F, P: PlaneTests<V::Scalar>> Search<'a, V, DE, 
     // The location of a position on a side of the face on the left of an edge.
     #[inline(never)]
     fn place_on_sides(&self, edge: FixedDirectedEdgeHandle) -> Option<PositionInTriangulation>
-        requires within { edge < length self.now.dcel.now.directed }
-        requires search { IsSearch V.place V.Scalar.whole P.sites P.covered self.now }
-        ensures { IfSome result (IsPlaceOf V.place V.Scalar.whole self.now) }
+        requires { edge < length self.now.dcel.directed }
+        ensures { IfSome result (IsPlaceOf V.place self.now) }
     {
         if let Some(place) = self.place_on_edge(edge) {
             return Some(place);
@@ -72,9 +70,8 @@ impl<'a, V: HasPosition, DE, UE, F, P: PlaneTests<V::Scalar>> Search<'a, V, DE, 
 
     // Where a walk from an edge ends, or is after a number of steps.
     fn walk_on(&self, start: FixedDirectedEdgeHandle, steps: usize) -> Walked
-        requires within { start < length self.now.dcel.now.directed }
-        requires search { IsSearch V.place V.Scalar.whole P.sites P.covered self.now }
-        ensures { IsWalkOf V.place V.Scalar.whole self.now result }
+        requires { start < length self.now.dcel.directed }
+        ensures { IsWalkOf V.place self.now result }
     {
         let mut stop = self.stop_at(start);
         for _ in 0..steps {
@@ -93,9 +90,8 @@ impl<'a, V: HasPosition, DE, UE, F, P: PlaneTests<V::Scalar>> Search<'a, V, DE, 
     // test it ends earlier. A long walk goes on at a vertex all over the mesh, if one of those
     // looked at is nearer.
     fn walk(&self, start: FixedDirectedEdgeHandle) -> Option<PositionInTriangulation>
-        requires within { start < length self.now.dcel.now.directed }
-        requires search { IsSearch V.place V.Scalar.whole P.sites P.covered self.now }
-        ensures { IfSome result (IsPlaceOf V.place V.Scalar.whole self.now) }
+        requires { start < length self.now.dcel.directed }
+        ensures { IfSome result (IsPlaceOf V.place self.now) }
     {
         let edge = match self.walk_on(start, FEW_STEPS) {
             Walked::Ended(place) => return place,
@@ -110,8 +106,7 @@ impl<'a, V: HasPosition, DE, UE, F, P: PlaneTests<V::Scalar>> Search<'a, V, DE, 
     // Where a position is, by a walk from a vertex, or from vertex 0 where there is no such vertex.
     // There is no answer where there are no edges.
     fn walk_from(&self, hint: FixedVertexHandle) -> Option<PositionInTriangulation>
-        requires search { IsSearch V.place V.Scalar.whole P.sites P.covered self.now }
-        ensures { IfSome result (IsPlaceOf V.place V.Scalar.whole self.now) }
+        ensures { IfSome result (IsPlaceOf V.place self.now) }
     {
         let start = edge_from_hint(self.dcel, hint)?;
         if self.dcel.num_inner_faces() == 0 {

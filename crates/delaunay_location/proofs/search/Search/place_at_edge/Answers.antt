@@ -10,15 +10,15 @@ use Rattle.delaunay_location.proofs.search.Search.place_at_edge.Goals.{After-end
 use Rattle.delaunay_location.proofs.search.Search.place_at_edge.Goals as goal
 
 -- the tests cover both ends of the edge
-ends_are_covered : (g : Over) (c : After-ends_of g) → let t = c.args.self.now.tests.now in
+ends_are_covered : (g : Over) (c : After-ends_of g) → let t = c.self.inside.tests.now in
     let number = g.V.Scalar.SpadeNum.whole in
     g.P.PlaneTests.covered t (place_of number c.ends_of.result.0)
     × g.P.PlaneTests.covered t (place_of number c.ends_of.result.1)
 ends_are_covered g c =
     let covers = g.met.P.PlaneTests.sites_are_covered in
     let ends = c.ends_of.ensures in (
-      vertex_covered _ _ _ _ covers _ c.requires.search _ _ ends.edge.source ends.from,
-      vertex_covered _ _ _ _ covers _ c.requires.search _ _ ends.edge.target ends.to,
+      vertex_covered _ _ _ covers _ _ _ c.self.invariant _ _ ends.edge.source ends.from,
+      vertex_covered _ _ _ covers _ _ _ c.self.invariant _ _ ends.edge.target ends.to,
     )
 
 pub is_strictly_within-requires-clause-from_covered :
@@ -35,12 +35,12 @@ is_strictly_within-requires-clause-to_covered g c =
 pub is_strictly_within-requires-clause-not_from : goal.is_strictly_within-requires-clause-not_from
 is_strictly_within-requires-clause-not_from g c same =
     let ends = c.ends_of.ensures in
-    c.requires.apart.apart _ ends.edge.source (sym ends.from ∙ sym same)
+    (rw (← c.self.view_is) at c.requires.apart).apart _ ends.edge.source (sym ends.from ∙ sym same)
 
 pub is_strictly_within-requires-clause-not_to : goal.is_strictly_within-requires-clause-not_to
 is_strictly_within-requires-clause-not_to g c same =
     let ends = c.ends_of.ensures in
-    c.requires.apart.apart _ ends.edge.target (sym ends.to ∙ sym same)
+    (rw (← c.self.view_is) at c.requires.apart).apart _ ends.edge.target (sym ends.to ∙ sym same)
 
 pub turns_left-requires-clause-a_covered : goal.turns_left-requires-clause-a_covered
 turns_left-requires-clause-a_covered g c =
@@ -55,16 +55,16 @@ returns-then-turns_left g c =
     let ends = c.ends_of.ensures in
     let is_bare = c.is_outer.ensures.0 c.if-is_outer.true in
     let is_left = c.turns_left.ensures.0 c.if-turns_left.true in
-    located_left _ _ _ _ _ _ ends.from ends.to ends.edge is_bare is_left
+    rw (← c.self.view_is) (located_left _ _ _ _ _ _ ends.from ends.to ends.edge is_bare is_left)
 
 pub returns : goal.returns
 returns g c =
     let ends = c.ends_of.ensures in
-    clear _ _ _ _ _ _ ends.from ends.to
+    rw (← c.self.view_is) (clear _ _ _ _ _ _ ends.from ends.to
     (λ w. both_ways _ (c.is_strictly_within.ensures.1 w) c.if-is_strictly_within.false)
     (λ l. elim c.else-is_outer.branch [
       | else-is_outer-via-then-is_outer+else-turns_left w ↦
           both_ways _ (w.turns_left.ensures.1 l.1) w.if-turns_left.false
       | else-is_outer-via-else-is_outer w ↦
           both_ways _ (c.is_outer.ensures.1 l.0) w.if-is_outer.false
-    ])
+    ]))

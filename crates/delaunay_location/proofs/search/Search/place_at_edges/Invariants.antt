@@ -4,4 +4,4 @@ use Rattle.delaunay_location.proofs.search.Search.place_at_edges.Given as goal
 
 abbrev pub invariant-loop-index : goal.invariant-loop-index
 invariant-loop-index g l =
-    (h : ℕ) → h < l.index → IsClear g.V.HasPosition.place g.V.Scalar.SpadeNum.whole l.self h
+    (h : ℕ) → h < l.index → IsClear g.V.HasPosition.place l.self h

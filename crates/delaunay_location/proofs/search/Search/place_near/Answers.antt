@@ -12,18 +12,20 @@ position_of-requires g c =
 
 pub returns-then-is_same_point : goal.returns-then-is_same_point
 returns-then-is_same_point g c =
-    at_vertex g.V.HasPosition.place (state_of c.args.self.now.dcel.now) c.requires.search.kept
-    (place_of g.V.Scalar.SpadeNum.whole c.args.self.now.point) c.fix-vertex.result
+    rw (← c.self.view_is) (at_vertex g.V.HasPosition.place
+    (state_of c.self.inside.dcel.now) c.self.invariant.kept
+    (place_of g.V.Scalar.SpadeNum.whole c.self.inside.point) c.fix-vertex.result
     (rw (c.from.ensures.dcel, c.directed_edge-here.ensures.dcel) at c.fix-vertex.ensures.in_range)
-    (sym c.position_of.ensures.place ∙ c.is_same_point.ensures.0 c.if-is_same_point.true)
+    (sym c.position_of.ensures.place ∙ c.is_same_point.ensures.0 c.if-is_same_point.true))
 
 pub place_past-requires-clause-alone : goal.place_past-requires-clause-alone
 place_past-requires-clause-alone g c =
     let here = c.directed_edge-here.ensures in
-    let is = link_read (λ x h. next x (rev h)) c.args.self.now.dcel.now.mesh _ _ _ _ c.args.edge
+    let is = link_read (λ x h. next x (rev h)) c.self.inside.dcel.now.mesh _ _ _ _ c.args.edge
     c.fix-other.ensures.value c.cw.ensures.index (ap (λ d. d.now.mesh) here.dcel) here.index in
-    sym is ∙ sym c.index.ensures ∙ c.if-index.true ∙ c.index-2.ensures
+    rw (← c.self.view_is) (sym is ∙ sym c.index.ensures ∙ c.if-index.true ∙ c.index-2.ensures)
 
-pub place_on_either-requires-2-clause-within : goal.place_on_either-requires-2-clause-within
-place_on_either-requires-2-clause-within g c =
-    rw (c.cw.ensures.dcel, c.directed_edge-here.ensures.dcel) at c.fix-other.ensures.in_range
+pub place_on_either-requires-2 : goal.place_on_either-requires-2
+place_on_either-requires-2 g c =
+    rw (← c.self.view_is)
+    (rw (c.cw.ensures.dcel, c.directed_edge-here.ensures.dcel) at c.fix-other.ensures.in_range)

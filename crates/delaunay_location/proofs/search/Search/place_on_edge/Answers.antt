@@ -14,28 +14,15 @@ pub is_strictly_within-requires-clause-from_covered :
     goal.is_strictly_within-requires-clause-from_covered
 is_strictly_within-requires-clause-from_covered g c =
     let ends = c.ends_of.ensures in
-    vertex_covered _ _ _ _ g.met.P.PlaneTests.sites_are_covered _ c.requires.search _ _
+    vertex_covered _ _ _ g.met.P.PlaneTests.sites_are_covered _ _ _ c.self.invariant _ _
     ends.edge.source ends.from
 
 pub is_strictly_within-requires-clause-to_covered :
     goal.is_strictly_within-requires-clause-to_covered
 is_strictly_within-requires-clause-to_covered g c =
     let ends = c.ends_of.ensures in
-    vertex_covered _ _ _ _ g.met.P.PlaneTests.sites_are_covered _ c.requires.search _ _
+    vertex_covered _ _ _ g.met.P.PlaneTests.sites_are_covered _ _ _ c.self.invariant _ _
     ends.edge.target ends.to
-
-pub ends_of-requires-clause-kept : goal.ends_of-requires-clause-kept
-ends_of-requires-clause-kept g c = c.requires.search.kept
-
-pub ends_of-requires-clause-within : goal.ends_of-requires-clause-within
-ends_of-requires-clause-within g c = c.requires.within
-
-pub directed_edge-requires : goal.directed_edge-requires
-directed_edge-requires g c = c.requires.within
-
-pub is_strictly_within-requires-clause-point_covered :
-    goal.is_strictly_within-requires-clause-point_covered
-is_strictly_within-requires-clause-point_covered g c = c.requires.search.covered
 
 pub is_strictly_within-requires-clause-ends_apart :
     goal.is_strictly_within-requires-clause-ends_apart
@@ -51,38 +38,33 @@ pub is_strictly_within-requires-clause-not_to : goal.is_strictly_within-requires
 is_strictly_within-requires-clause-not_to g c =
     λ e. both_ways _ (c.is_same_point-2.ensures.1 (sym e)) c.if-is_same_point-2.false
 
-pub returns-then-is_same_point-2 : goal.returns-then-is_same_point-2
-returns-then-is_same_point-2 g c = tt
-
-pub returns : goal.returns
-returns g c = tt
-
 pub returns-then-is_same_point : goal.returns-then-is_same_point
 returns-then-is_same_point g c =
-    let m = c.args.self.now.dcel.now.mesh in
-    let points = map g.V.HasPosition.place c.args.self.now.dcel.now.vertices in
+    let m = c.self.inside.dcel.now.mesh in
+    let points = map g.V.HasPosition.place c.self.inside.dcel.now.vertices in
     let ends = c.ends_of.ensures in
     let is = link_read origin m _ _ _ _ c.args.edge c.fix-vertex.ensures.value
     c.from.ensures.index (ap (λ d. d.now.mesh) c.directed_edge.ensures.dcel)
     c.directed_edge.ensures.index in
-    at_vertex g.V.HasPosition.place (state_of c.args.self.now.dcel.now) c.requires.search.kept
-    (place_of g.V.Scalar.SpadeNum.whole c.args.self.now.point) c.fix-vertex.result
+    rw (← c.self.view_is) (at_vertex g.V.HasPosition.place
+    (state_of c.self.inside.dcel.now) c.self.invariant.kept
+    (place_of g.V.Scalar.SpadeNum.whole c.self.inside.point) c.fix-vertex.result
     (rw (c.from.ensures.dcel, c.directed_edge.ensures.dcel) at c.fix-vertex.ensures.in_range)
     (ap (point_at points) is ∙ sym ends.from
-    ∙ c.is_same_point.ensures.0 c.if-is_same_point.true)
+    ∙ c.is_same_point.ensures.0 c.if-is_same_point.true))
 
 pub returns-then-is_strictly_within : goal.returns-then-is_strictly_within
 returns-then-is_strictly_within g c =
     let number = g.V.Scalar.SpadeNum.whole in
-    let mesh = c.args.self.now.dcel.now in
+    let mesh = c.self.inside.dcel.now in
     let ends = c.ends_of.ensures in
-    record {
+    rw (← c.self.view_is) (record {
       handle = ends.edge.within;
       location = (
         ends.edge.joined,
         (within_edge (map g.V.HasPosition.place mesh.vertices) mesh.mesh
-            (place_of number c.args.self.now.point) (place_of number c.ends_of.result.0)
+            (place_of number c.self.inside.point) (place_of number c.ends_of.result.0)
             (place_of number c.ends_of.result.1) c.args.edge ends.from ends.to).0
             (c.is_strictly_within.ensures.0 c.if-is_strictly_within.true),
       );
-    }
+    })

@@ -10,14 +10,14 @@ pub is_strictly_within-requires-clause-to_covered :
     goal.is_strictly_within-requires-clause-to_covered
 is_strictly_within-requires-clause-to_covered g c =
     let ends = c.ends_of.ensures in
-    vertex_covered _ _ _ _ g.met.P.PlaneTests.sites_are_covered _ c.requires.search _ _
+    vertex_covered _ _ _ g.met.P.PlaneTests.sites_are_covered _ _ _ c.self.invariant _ _
     ends.edge.target ends.to
 
 pub is_strictly_within-requires-clause-point_covered :
     goal.is_strictly_within-requires-clause-point_covered
 is_strictly_within-requires-clause-point_covered g c =
     let ends = c.ends_of.ensures in
-    vertex_covered _ _ _ _ g.met.P.PlaneTests.sites_are_covered _ c.requires.search _ _
+    vertex_covered _ _ _ g.met.P.PlaneTests.sites_are_covered _ _ _ c.self.invariant _ _
     ends.edge.source ends.from
 
 pub is_strictly_within-requires-clause-ends_apart :
@@ -38,7 +38,9 @@ pub returns-then-is_strictly_within : goal.returns-then-is_strictly_within
 returns-then-is_strictly_within g c =
     let number = g.V.Scalar.SpadeNum.whole in
     let ends = c.ends_of.ensures in
-    located_past g.V.HasPosition.place (state_of c.args.self.now.dcel.now) c.requires.search.kept
-    (place_of number c.args.self.now.point) c.requires.line c.args.edge c.requires.within
-    c.requires.alone (place_of number c.ends_of.result.0) (place_of number c.ends_of.result.1)
-    ends.from ends.to (c.is_strictly_within.ensures.0 c.if-is_strictly_within.true)
+    rw (← c.self.view_is) (located_past g.V.HasPosition.place
+    (state_of c.self.inside.dcel.now) c.self.invariant.kept
+    (place_of number c.self.inside.point) (rw (← c.self.view_is) at c.requires.line) c.args.edge
+    (rw (← c.self.view_is) at c.requires.within) (rw (← c.self.view_is) at c.requires.alone)
+    (place_of number c.ends_of.result.0) (place_of number c.ends_of.result.1)
+    ends.from ends.to (c.is_strictly_within.ensures.0 c.if-is_strictly_within.true))

@@ -2,4 +2,4 @@ use Rattle.std.proofs.Common.{◌<◌, length}
 use Rattle.delaunay_location.proofs.search.Search.walk_along.Given as goal
 
 abbrev pub invariant-loop : goal.invariant-loop
-invariant-loop g l = l.edge < length l.self.dcel.now.directed
+invariant-loop g l = l.edge < length l.self.dcel.directed

@@ -1,0 +1,21 @@
+-- A search for a position in the mesh of a triangulation.
+use Rattle.std.specs.Prelude.{map, All}
+use Rattle.half_edge_mesh.specs.Contents.{Contents}
+use Rattle.plane.specs.Fraction.{Point}
+use Rattle.plane.specs.Tests.{InRange}
+use Rattle.delaunay_legalization.specs.Shape.{IsTriangulated}
+use Rattle.delaunay_legalization.specs.State.{state_of}
+
+-- what a contract sees of it: the mesh, the tests and the position
+pub record Seeking (V D U F P : Type 0) : Type 0 where
+  pub dcel : Contents V D U F
+  pub tests : P
+  pub point : Point
+
+-- the mesh is that of a triangulation whose vertices are sites of the tests, which cover p
+pub record IsSearch {V D U F P : Type 0} (at : V → Point) (IsSite IsCovered : P → Point → Type 0)
+    (c : Contents V D U F) (t : P) (p : Point) : Type 0 where
+  pub kept : IsTriangulated at (state_of c)
+  pub sites : All (IsSite t) (map at c.vertices)
+  pub covered : IsCovered t p
+  pub in_range : InRange p
