@@ -2,3 +2,4 @@ pub mod Orders
 pub mod Placing
 pub mod Handled
 pub mod Turns
+pub mod Written

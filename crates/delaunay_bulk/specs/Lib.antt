@@ -1,3 +1,4 @@
 pub mod Curve
+pub mod ByPlace
 pub mod Order
 pub mod Bulk

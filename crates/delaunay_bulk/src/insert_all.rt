@@ -5,30 +5,15 @@ ghost use Rattle.delaunay_interface.specs.Headline.{AreSites, IsDelaunay};
 ghost use Rattle.delaunay_bulk.specs.Bulk.{InsertsAll, StopsAt};
 
 use crate::bulk_insertion::BulkInsertion;
+use crate::by_place::ByPlace;
 use crate::error::BulkInsertionError;
 use delaunay_core::math::{InsertionError, PlaneTests};
 use delaunay_core::point::HasPosition;
 use delaunay_interface::{Triangulation, VertexOf};
 use half_edge_mesh::FixedVertexHandle;
-use std::alloc::{AllocError, Global};
 
 /// The scalars of a triangulation's positions.
 pub type ScalarOf<T> = <VertexOf<T> as HasPosition>::Scalar;
-
-// A handle for each of so many places, to be written.
-fn unknown_handles(alloc: Global, count: usize) -> Result<Vec<FixedVertexHandle>, AllocError>
-    ensures { IfOk result (λ handles. length handles.items ≡ count) }
-{
-    Vec::from_elem(alloc, FixedVertexHandle::from_index(0), count)
-}
-
-// Writes a handle at its place.
-fn write_at(handles: &mut Vec<FixedVertexHandle>, inserted: (usize, FixedVertexHandle))
-    requires { inserted.0 < length handles.old.items }
-    ensures { handles.new.items ≡ slice_set handles.old.items inserted.0 inserted.1 }
-{
-    handles[inserted.0] = inserted.1;
-}
 
 /// Insertions of many vertices: of both triangulations.
 pub trait InsertAll: Triangulation {
@@ -73,17 +58,18 @@ pub trait InsertAll: Triangulation {
         self.recall_invariant();
         let alloc = *vertices.allocator();
         let mut insertion = BulkInsertion::new(vertices)?;
-        let Ok(mut handles) = unknown_handles(alloc, insertion.len()) else {
+        let none = FixedVertexHandle::from_index(0);
+        let Ok(mut handles) = ByPlace::new(alloc, none, insertion.len()) else {
             return Err(BulkInsertionError::NoRoom(InsertionError::OutOfMemory));
         };
         if let Err(error) = self.reserve(insertion.len()) {
             return Err(BulkInsertionError::NoRoom(error));
         }
         'vertices: while let Some(inserted) = insertion.insert_next(self, tests)? {
-            write_at(&mut handles, inserted);
+            handles.write(inserted);
         }
         self.recall_invariant();
-        Ok(handles)
+        Ok(handles.finish())
     }
 }
 

@@ -3,6 +3,7 @@
 #![tactic(auto)]
 
 mod bulk_insertion;
+mod by_place;
 mod curve;
 mod error;
 mod insert_all;

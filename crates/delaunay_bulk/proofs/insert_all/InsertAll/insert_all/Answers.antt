@@ -18,10 +18,10 @@ vertices-init g c =
     let once = listed.places.once in
     let same = c.reserve.ensures.same in (
       subst (IsUnderway place constraints c.args.vertices.items c.in_ok-insertion.insertion
-          c.in_ok-insertion.insertion c.in-Ok.handles.items
+          c.in_ok-insertion.insertion c.in-Ok.handles
           (g.Self.Triangulation.state c.args.self.now)) (sym same)
           (begins place constraints c.args.vertices.items c.in_ok-insertion.insertion
-          c.in-Ok.handles.items (g.Self.Triangulation.state c.args.self.now) listed
+          c.in-Ok.handles (g.Self.Triangulation.state c.args.self.now) listed
           (omega (
             arith,
             c.in-Ok.ensures,
@@ -36,15 +36,15 @@ vertices-init g c =
           c.requires.new_sites (listed.there k d b),
     )
 
-pub write_at-requires : goal.write_at-requires
-write_at-requires g c =
+pub write-requires : goal.write-requires
+write-requires g c =
     let place = g.Self.Vertex.HasPosition.place in
     let constraints = g.Self.Constraints.ConstraintMarker.constraints in
     let w = next_was place constraints c.vertices.insertion c.insert_next.new.self
     c.in-Some.inserted.0 c.in-Some.inserted.1 _ _
     (rw c.in-Some.is at c.in_ok-inserted.ensures.inserts) in
     has_place place constraints c.args.vertices.items c.in_ok-insertion.insertion
-    c.vertices.insertion c.insert_next.new.self c.vertices.handles.items _ _
+    c.vertices.insertion c.insert_next.new.self c.vertices.handles _ _
     (g.Self.Triangulation.state c.insert_next.new.triangulation) c.in-Some.inserted.0 w.vertex w.is
     c.vertices.invariant.0
 
@@ -59,9 +59,9 @@ vertices-preserved g c =
       subst (λ (handles : List ℕ). IsUnderway place constraints c.args.vertices.items
           c.in_ok-insertion.insertion c.insert_next.new.self handles
           (g.Self.Triangulation.state c.args.self.now)
-          (g.Self.Triangulation.state c.insert_next.new.triangulation)) (sym c.write_at.ensures)
+          (g.Self.Triangulation.state c.insert_next.new.triangulation)) (sym c.write.ensures)
           (goes_on place constraints c.args.vertices.items c.in_ok-insertion.insertion
-          c.vertices.insertion c.insert_next.new.self c.vertices.handles.items _ _ _
+          c.vertices.insertion c.insert_next.new.self c.vertices.handles _ _ _
           c.in-Some.inserted.0 w.vertex w.is c.vertices.invariant.0 c.in-Some.inserted.1 w.one),
       c.in_ok-inserted.ensures.sites,
       All-rest (λ (e : ℕ × g.row.Self-Vertex.Denot). InRange (place e.1) → sites (place e.1))
@@ -78,7 +78,7 @@ returns-in_err-inserted-clause-stops g c =
     c.in_err-inserted.ensures.inserts in
     rw (p.1, p.2) (inr (stops g.Self.Vertex.HasPosition.place
     g.Self.Constraints.ConstraintMarker.constraints c.args.vertices.items
-    c.in_ok-insertion.insertion c.vertices.insertion w.rest c.vertices.handles.items _ _ _
+    c.in_ok-insertion.insertion c.vertices.insertion w.rest c.vertices.handles _ _ _
     w.entry.0 w.entry.1 w.is c.vertices.invariant.0 _ c.in_ok-insertion.ensures.listed
     c.in_ok-insertion.ensures.in_range w.refused))
 
@@ -88,6 +88,6 @@ returns-clause-inserts g c =
     let constraints = g.Self.Constraints.ConstraintMarker.constraints in
     let w = none_was place constraints c.vertices.insertion _ _ _
     (rw c.in_default-2.is at c.in_ok-inserted.ensures.inserts) in
-    ends place constraints c.args.vertices.items c.in_ok-insertion.insertion
-    c.vertices.insertion c.vertices.handles.items _ _ _ c.in_ok-insertion.ensures.listed
-    w.0 w.1 c.vertices.invariant.0
+    rw c.finish.ensures (ends place constraints c.args.vertices.items c.in_ok-insertion.insertion
+    c.vertices.insertion c.vertices.handles _ _ _ c.in_ok-insertion.ensures.listed
+    w.0 w.1 c.vertices.invariant.0)

@@ -10,7 +10,7 @@ invariant-vertices g l =
     let place = g.Self.Vertex.HasPosition.place in
     let sites = g.P.PlaneTests.sites l.tests in
     IsUnderway place g.Self.Constraints.ConstraintMarker.constraints l.fn.vertices.items
-    l.initial.insertion l.insertion l.handles.items (g.Self.Triangulation.state l.fn.self)
+    l.initial.insertion l.insertion l.handles (g.Self.Triangulation.state l.fn.self)
     (g.Self.Triangulation.state l.self)
     × AreSites place sites (g.Self.Triangulation.state l.self).vertices
     × All (λ e. InRange (place e.1) → sites (place e.1)) l.insertion
