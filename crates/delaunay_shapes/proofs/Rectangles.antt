@@ -101,8 +101,10 @@ between_sides l u p = (
     below = low l.y p.y h.1.0;
     above = high u.y p.y h.1.1;
   }),
-  (λ h. ((low_back l.x p.x h.left, high_back u.x p.x h.right),
-      (low_back l.y p.y h.below, high_back u.y p.y h.above))),
+  (λ h. (
+    (low_back l.x p.x h.left, high_back u.x p.x h.right),
+    (low_back l.y p.y h.below, high_back u.y p.y h.above),
+  )),
 )
   where
     low : (a b : ℤ) → a ≤ℤ b → (a *ℤ pos 1) ≤ℤ b
