@@ -1,16 +1,21 @@
 -- Lists of what a test says of the numbers below a count: at a number, of a test that none passes,
--- and with one more.
-use Rattle.std.proofs.Common.{◌≡◌, ◌⊎◌, ◌<◌, ◌∙◌}
-use Rattle.std.proofs.Common.{List, ℕ, length, get_or, set, replicate, refl, sym, subst, eq-eqb}
-use Rattle.std.proofs.Common.{arith}
+-- and with one more. And bits in pages of words, as one more is set.
+use Rattle.std.proofs.Common.{◌≡◌, ◌⊎◌, ◌+◌, ◌-◌, ◌*◌, ◌/◌, ◌%◌, ◌^◌, ◌<◌, ◌≤◌, ◌∙◌, [], ◌∷◌, ◌++◌}
+use Rattle.std.proofs.Common.{List, ℕ, length, get_or, set, replicate, refl, sym, ap, subst, eq-eqb}
+use Rattle.std.proofs.Common.{arith, w64}
 use mathlib.Core.Logic.{inl, inr, ◌≢◌}
 use mathlib.Core.Bool.{Bool, true, false}
-use Rattle.std.specs.Prelude.{cond, nat_eq}
-use Rattle.std.proofs.lemmas.Bool.{eqb-true}
-use Rattle.std.proofs.lemmas.List.{ext_get_or, get_or-set_same, get_or-set_other}
+use Rattle.std.specs.Prelude.{cond, nat_eq, bit_and, bit_or}
+use Rattle.std.specs.Int.{bit_at}
+use Rattle.std.proofs.lemmas.Bool.{eqb-true, ne_eqb, cases_eq, cases_lt}
+use Rattle.std.proofs.lemmas.List.{ext_get_or, get_or-set_same, get_or-set_other, get_or_past}
+use Rattle.std.proofs.lemmas.List.{get_or_append_left, get_or-append_right}
 use Rattle.std.proofs.lemmas.List.{length-set, length-replicate, get_or-replicate}
 use Rattle.std.proofs.lemmas.List.FromFn.{length-map-range_with_len, get_or-map-range_with_len}
-use Rattle.delaunay_shapes.specs.Marks.{tests_below}
+use Rattle.std.proofs.lemmas.Nat.Bits.{bit_at-zero, bit_at_set_same, bit_at_set_other}
+use Rattle.std.proofs.lemmas.Nat.Bits.{shr_and_one}
+use Rattle.plane_tiling.proofs.Totals.{get_or_any}
+use Rattle.delaunay_shapes.specs.Marks.{tests_below, has_bit, has_mark}
 
 -- so many entries
 tests_count : (n : ℕ) (f : ℕ → Bool) → length (tests_below n f) ≡ n
@@ -74,3 +79,148 @@ one_more n f f' k more =
         → get_or (tests_below n f') i false ≡ get_or (set old k true) i false
     same i h = was i (below_count n (length (tests_below n f')) i (tests_count n f') h)
         (either (nat_eq k i))
+
+-- ---- bits in words
+-- the bit of a place that is not there is not set
+pub no_bit : (k : ℕ) → has_bit [] k ≡ false
+no_bit k = ap (λ (b : ℕ). nat_eq b 1) (bit_at-zero (k % 64))
+
+-- whether the bit of a number is set, by the word that was read
+pub bit_read : (words : List ℕ) (n word : ℕ) → n / 64 < length words
+    → word ≡ get_or words (n / 64) word → nat_eq (bit_and (word / 2 ^ (n % 64)) 1) 1 ≡ has_bit words n
+bit_read words n word here read = ap (λ (b : ℕ). nat_eq b 1) (shr_and_one word (n % 64))
+    ∙ ap (λ (x : ℕ). nat_eq (bit_at x (n % 64)) 1) (read ∙ get_or_any words (n / 64) word 0 here)
+
+-- it is not where the words end before
+pub no_word : (words : List ℕ) (n : ℕ) → length words ≤ n / 64 → has_bit words n ≡ false
+no_word words n over = ap (λ (x : ℕ). nat_eq (bit_at x (n % 64)) 1) (get_or_past words (n / 64) 0 over)
+    ∙ no_bit n
+
+-- words with more that are 0 behind them have the same words
+pub words_with_more : (was now : List ℕ) (n : ℕ) → length was ≤ n → length now ≡ n
+    → ((k d : ℕ) → k < n → k < length was → get_or now k d ≡ get_or was k d)
+    → ((k d : ℕ) → length was ≤ k → k < n → get_or now k d ≡ 0)
+    → (j : ℕ) → get_or now j 0 ≡ get_or was j 0
+words_with_more was now n short count same more j = elim (cases_lt j (length was)) [
+  | inl h ↦ same j 0 (omega (arith, h, short)) h
+  | inr h ↦ elim (cases_lt j n) [
+    | inl l ↦ more j 0 h l ∙ sym (get_or_past was j 0 h)
+    | inr l ↦ get_or_past now j 0 (omega (arith, l, count)) ∙ sym (get_or_past was j 0 h)
+  ]
+]
+
+same_number : (n k : ℕ) → k / 64 ≡ n / 64 → k % 64 ≡ n % 64 → n ≡ k
+same_number n k e f = omega (arith, e, f)
+
+low_bit : (n : ℕ) → n % 64 < 64
+low_bit n = omega arith
+
+-- words of which one has the bit of a number more
+pub one_bit_more : (was words : List ℕ) (n old : ℕ)
+    → ((j : ℕ) → get_or words j 0 ≡ get_or was j 0) → n / 64 < length words
+    → old ≡ get_or words (n / 64) old → (k : ℕ)
+    → has_bit (set words (n / 64) (bit_or old (1 * 2 ^ (n % 64) % 2 ^ 64))) k
+    ≡ cond (nat_eq n k) true (has_bit was k)
+one_bit_more was words n old same here read k =
+    elim (cases_eq n k) [
+      | inl e ↦ subst (λ b. has_bit (set words (n / 64) more) k ≡ cond b true (has_bit was k))
+          (sym (eq-eqb n k e)) (subst (λ (x : ℕ). has_bit (set words (n / 64) more) x ≡ true) e set_now)
+      | inr a ↦ subst (λ b. has_bit (set words (n / 64) more) k ≡ cond b true (has_bit was k))
+          (sym (ne_eqb n k a)) (as_before a (cases_eq (k / 64) (n / 64)))
+    ]
+  where
+    more : ℕ
+    more = bit_or old (1 * 2 ^ (n % 64) % 2 ^ 64)
+
+    placed : get_or (set words (n / 64) more) (n / 64) 0 ≡ more
+    placed = get_or-set_same words (n / 64) more 0 here
+
+    set_now : has_bit (set words (n / 64) more) n ≡ true
+    set_now = ap (λ (x : ℕ). nat_eq (bit_at x (n % 64)) 1) placed
+        ∙ ap (λ (b : ℕ). nat_eq b 1) (bit_at_set_same w64 old (n % 64) (low_bit n))
+
+    old_is : old ≡ get_or was (n / 64) 0
+    old_is = read ∙ get_or_any words (n / 64) old 0 here ∙ same (n / 64)
+
+    as_before : n ≢ k → (k / 64 ≡ n / 64) ⊎ (k / 64 ≢ n / 64)
+        → has_bit (set words (n / 64) more) k ≡ has_bit was k
+    as_before a (inl e) =
+        let there : get_or (set words (n / 64) more) (k / 64) 0 ≡ more =
+        ap (λ (x : ℕ). get_or (set words (n / 64) more) x 0) e ∙ placed in
+        let apart : k % 64 ≢ n % 64 = λ f. a (same_number n k e f) in
+        ap (λ (x : ℕ). nat_eq (bit_at x (k % 64)) 1) there
+        ∙ ap (λ (b : ℕ). nat_eq b 1) (bit_at_set_other w64 old (n % 64) (low_bit n) (k % 64) apart)
+        ∙ ap (λ (x : ℕ). nat_eq (bit_at x (k % 64)) 1)
+        (old_is ∙ ap (λ (x : ℕ). get_or was x 0) (sym e))
+    as_before a (inr o) = ap (λ (x : ℕ). nat_eq (bit_at x (k % 64)) 1)
+        (get_or-set_other words (n / 64) (k / 64) more 0 o ∙ same (k / 64))
+
+-- ---- pages of words
+-- a page without words behind the others adds nothing
+pub empty_page : (pages : List (List ℕ)) (j : ℕ) → get_or (pages ++ [] ∷ []) j [] ≡ get_or pages j []
+empty_page pages j = elim (cases_lt j (length pages)) [
+  | inl h ↦ get_or_append_left pages ([] ∷ []) [] j h
+  | inr h ↦ get_or-append_right pages ([] ∷ []) (length pages) j [] refl h
+      ∙ only (j - length pages) ∙ sym (get_or_past pages j [] h)
+]
+  where
+    none : List ℕ
+    none = []
+
+    positive : (i : ℕ) → i ≢ 0 → 1 ≤ i
+    positive i n = omega (arith, n)
+
+    only : (i : ℕ) → get_or (none ∷ []) i none ≡ none
+    only i = elim (cases_eq i 0) [
+      | inl e ↦ ap (λ (x : ℕ). get_or (none ∷ []) x none) e
+      | inr n ↦ get_or_past (none ∷ []) i none (positive i n)
+    ]
+
+same_in_pages : (n k : ℕ) → k / 4096 ≡ n / 4096 → n % 4096 ≡ k % 4096 → n ≡ k
+same_in_pages n k e f = omega (arith, e, f)
+
+-- pages of which one has the bit of a number more
+pub one_mark_more : (was pages pages' : List (List ℕ)) (n : ℕ) (page page' : List ℕ)
+    → ((j : ℕ) → get_or pages j [] ≡ get_or was j []) → n / 4096 < length pages
+    → page ≡ get_or pages (n / 4096) page → pages' ≡ set pages (n / 4096) page'
+    → ((k : ℕ) → has_bit page' k ≡ cond (nat_eq (n % 4096) k) true (has_bit page k))
+    → (k : ℕ) → has_mark pages' k ≡ cond (nat_eq n k) true (has_mark was k)
+one_mark_more was pages pages' n page page' same here read is marks k =
+    subst (λ xs. has_mark xs k ≡ cond (nat_eq n k) true (has_mark was k)) (sym is)
+    (by_page (cases_eq (k / 4096) (n / 4096)))
+  where
+    page_is : page ≡ get_or was (n / 4096) []
+    page_is = read ∙ get_or_any pages (n / 4096) page [] here ∙ same (n / 4096)
+
+    both : k / 4096 ≡ n / 4096 → nat_eq (n % 4096) (k % 4096) ≡ nat_eq n k
+    both e = elim (cases_eq n k) [
+      | inl f ↦ eq-eqb (n % 4096) (k % 4096) (ap (λ (x : ℕ). x % 4096) f) ∙ sym (eq-eqb n k f)
+      | inr a ↦ ne_eqb (n % 4096) (k % 4096) (λ f. a (same_in_pages n k e f)) ∙ sym (ne_eqb n k a)
+    ]
+
+    by_page : (k / 4096 ≡ n / 4096) ⊎ (k / 4096 ≢ n / 4096)
+        → has_mark (set pages (n / 4096) page') k ≡ cond (nat_eq n k) true (has_mark was k)
+    by_page (inl e) =
+        ap (λ xs. has_bit xs (k % 4096))
+        (ap (λ (x : ℕ). get_or (set pages (n / 4096) page') x []) e
+        ∙ get_or-set_same pages (n / 4096) page' [] here)
+        ∙ marks (k % 4096)
+        ∙ ap (λ b. cond b true (has_bit page (k % 4096))) (both e)
+        ∙ ap (λ xs. cond (nat_eq n k) true (has_bit xs (k % 4096)))
+        (page_is ∙ ap (λ (x : ℕ). get_or was x []) (sym e))
+    by_page (inr o) =
+        let apart : n ≢ k = λ f. o (ap (λ (x : ℕ). x / 4096) (sym f)) in
+        ap (λ xs. has_bit xs (k % 4096))
+        (get_or-set_other pages (n / 4096) (k / 4096) page' [] o ∙ same (k / 4096))
+        ∙ sym (ap (λ b. cond b true (has_mark was k)) (ne_eqb n k apart))
+
+-- whether a number is marked, by the page that was read
+pub mark_read : (pages : List (List ℕ)) (n : ℕ) (page : List ℕ) → n / 4096 < length pages
+    → page ≡ get_or pages (n / 4096) page → has_bit page (n % 4096) ≡ has_mark pages n
+mark_read pages n page here read = ap (λ xs. has_bit xs (n % 4096))
+    (read ∙ get_or_any pages (n / 4096) page [] here)
+
+-- it is not where the pages end before
+pub no_page : (pages : List (List ℕ)) (n : ℕ) → length pages ≤ n / 4096 → has_mark pages n ≡ false
+no_page pages n over = ap (λ xs. has_bit xs (n % 4096)) (get_or_past pages (n / 4096) [] over)
+    ∙ no_bit (n % 4096)

@@ -1,14 +1,15 @@
 -- The test of an edge and a rectangle.
 use Rattle.std.proofs.Common.{◌≡◌, [], ◌∷◌, refl, subst, arith}
 use mathlib.Core.Logic.{◌↔◌, inl, inr}
-use mathlib.Core.Bool.{Bool}
+use mathlib.Core.Bool.{Bool, true, false}
 use Rattle.std.specs.Prelude.{ℤ, pos, ◌*ℤ◌, ◌<ℤ◌, ◌≤ℤ◌, IsTrue}
 use Rattle.std.proofs.lemmas.Int.{ints}
 use Rattle.std.proofs.lemmas.Bool.Decides.{same_from_decides}
-use Rattle.plane.specs.Fraction.{Point, Fraction}
+use Rattle.plane.specs.Fraction.{Point, Fraction, whole}
 use Rattle.plane.specs.Side.{Side, left, right, on}
 use Rattle.plane.specs.Shape.{InClosedRectangle}
 use Rattle.plane.proofs.IntegerOrder.{lt_or_ge_ℤ, mul-lt-mul_ℤ}
+use Rattle.plane.proofs.Segments.{start_on_segment, end_on_segment}
 use Rattle.plane.proofs.Solver.{◌⊗◌, ring_in}
 use Rattle.plane_delaunay.specs.EdgeTests.{RangeMeets, AreCornersOn, MeetsRectangle, HasPointIn}
 use Rattle.plane_delaunay.proofs.Floods.EdgeInRectangle.{edge_meets_rectangle}
@@ -88,4 +89,73 @@ rectangle_inside l u p q b h = (
       (edge_meets_rectangle l u (sorted_x l u m.0) (sorted_y l u m.0) p q).1 m.1),
   (λ s. let n = reversed_is_empty l u s.0 s.2 in
       h.1 (n, (edge_meets_rectangle l u (sorted_x l u n) (sorted_y l u n) p q).0 s)),
+)
+
+-- a point is in a rectangle if and only if it is between the sides in both coordinates
+between_sides : (l u p : Point) → (((l.x ≤ℤ p.x) × (p.x ≤ℤ u.x)) × ((l.y ≤ℤ p.y) × (p.y ≤ℤ u.y)))
+    ↔ InClosedRectangle l u (whole p)
+between_sides l u p = (
+  (λ h. record {
+    left = low l.x p.x h.0.0;
+    right = high u.x p.x h.0.1;
+    below = low l.y p.y h.1.0;
+    above = high u.y p.y h.1.1;
+  }),
+  (λ h. (
+    (low_back l.x p.x h.left, high_back u.x p.x h.right),
+    (low_back l.y p.y h.below, high_back u.y p.y h.above),
+  )),
+)
+  where
+    low : (a b : ℤ) → a ≤ℤ b → (a *ℤ pos 1) ≤ℤ b
+    low a b h = omega (arith, ints)
+
+    high : (a b : ℤ) → b ≤ℤ a → b ≤ℤ (a *ℤ pos 1)
+    high a b h = omega (arith, ints)
+
+    low_back : (a b : ℤ) → (a *ℤ pos 1) ≤ℤ b → a ≤ℤ b
+    low_back a b h = omega (arith, ints)
+
+    high_back : (a b : ℤ) → b ≤ℤ (a *ℤ pos 1) → b ≤ℤ a
+    high_back a b h = omega (arith, ints)
+
+-- two tests, of each coordinate, tell whether a point is in a rectangle
+pub between_told : (l u p : Point) (a b : Bool) → a ≡ true
+    → (IsTrue a ↔ ((l.x ≤ℤ p.x) × (p.x ≤ℤ u.x))) → (IsTrue b ↔ ((l.y ≤ℤ p.y) × (p.y ≤ℤ u.y)))
+    → IsTrue b ↔ InClosedRectangle l u (whole p)
+between_told l u p a b t h i = (
+  (λ e. (between_sides l u p).0 (h.0 t, i.0 e)),
+  (λ s. i.1 ((between_sides l u p).1 s).1),
+)
+
+-- a point that is not between the sides in one coordinate is not in the rectangle
+pub beside_told : (l u p : Point) (a : Bool) → a ≡ false
+    → (IsTrue a ↔ ((l.x ≤ℤ p.x) × (p.x ≤ℤ u.x))) → IsTrue a ↔ InClosedRectangle l u (whole p)
+beside_told l u p a f h = (
+  (λ e. absurd (cc)),
+  (λ s. let on = h.1 ((between_sides l u p).1 s).0 in absurd (cc)),
+)
+
+-- an edge with a point in a rectangle meets it by the numbers
+point_meets : (l u p q : Point) → HasPointIn (InClosedRectangle l u) p q
+    → (¬ IsReversed l u) × MeetsRectangle l u p q
+point_meets l u p q s = let n = reversed_is_empty l u s.0 s.2 in
+    (n, (edge_meets_rectangle l u (sorted_x l u n) (sorted_y l u n) p q).0 s)
+
+-- so does one that starts in it
+pub start_meets : (l u p q : Point) (a b : Bool) → a ≡ true
+    → (IsTrue a ↔ InClosedRectangle l u (whole p)) → b ≡ true
+    → IsTrue b ↔ ((¬ IsReversed l u) × MeetsRectangle l u p q)
+start_meets l u p q a b t h s = (
+  (λ e. point_meets l u p q (whole p, start_on_segment (whole p) (whole q), h.0 t)),
+  (λ m. s),
+)
+
+-- and one that ends in it
+pub end_meets : (l u p q : Point) (a b : Bool) → a ≡ true
+    → (IsTrue a ↔ InClosedRectangle l u (whole q)) → b ≡ true
+    → IsTrue b ↔ ((¬ IsReversed l u) × MeetsRectangle l u p q)
+end_meets l u p q a b t h s = (
+  (λ e. point_meets l u p q (whole q, end_on_segment (whole p) (whole q), h.0 t)),
+  (λ m. s),
 )

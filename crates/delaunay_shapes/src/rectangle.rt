@@ -81,8 +81,17 @@ impl<S: SpadeNum> RectangleMetric<S> {
             && !are_right(lower_left, lower_right, upper_right, upper_left)
     }
 
+    // Whether a point is in the rectangle.
+    fn has(&self, point: Point2<S>) -> bool
+        ensures { IsTrue result ↔ InClosedRectangle (place_of S.whole self.now.lower)
+            (place_of S.whole self.now.upper) (fraction (place_of S.whole point)) }
+    {
+        is_between(self.lower.x, self.upper.x, point.x)
+            && is_between(self.lower.y, self.upper.y, point.y)
+    }
+
     // Whether the ranges meet, and the corners are not all strictly on one side.
-    fn meets<P: PlaneTests<S>>(&self, from: Point2<S>, to: Point2<S>, tests: &P) -> bool
+    fn meets_by_sides<P: PlaneTests<S>>(&self, from: Point2<S>, to: Point2<S>, tests: &P) -> bool
         requires own_covered { All (P.covered tests.now)
             (corners (place_of S.whole self.now.lower) (place_of S.whole self.now.upper)) }
         requires start_covered { P.covered tests.now (place_of S.whole from) }
@@ -97,6 +106,26 @@ impl<S: SpadeNum> RectangleMetric<S> {
             && range_meets(self.lower.y, self.upper.y, from.y, to.y)
             && self.touches_line(from, to, tests)
     }
+
+    // Whether an end is in the rectangle, which is soon told, or the edge meets it by the sides.
+    fn meets<P: PlaneTests<S>>(&self, from: Point2<S>, to: Point2<S>, tests: &P) -> bool
+        requires own_covered { All (P.covered tests.now)
+            (corners (place_of S.whole self.now.lower) (place_of S.whole self.now.upper)) }
+        requires start_covered { P.covered tests.now (place_of S.whole from) }
+        requires end_covered { P.covered tests.now (place_of S.whole to) }
+        ensures { let l = place_of S.whole self.now.lower in
+            let u = place_of S.whole self.now.upper in
+            IsTrue result ↔ ((¬ IsReversed l u) × MeetsRectangle l u (place_of S.whole from)
+            (place_of S.whole to)) }
+    {
+        self.has(from) || self.has(to) || self.meets_by_sides(from, to, tests)
+    }
+}
+
+fn is_between<S: SpadeNum>(low: S, high: S, a: S) -> bool
+    ensures { IsTrue result ↔ ((S.whole low ≤ℤ S.whole a) × (S.whole a ≤ℤ S.whole high)) }
+{
+    low.to_i64() <= a.to_i64() && a.to_i64() <= high.to_i64()
 }
 
 // The side of the corner with these coordinates.
