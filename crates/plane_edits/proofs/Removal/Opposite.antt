@@ -165,11 +165,7 @@ module _ (n : ℕ) (p : ℕ → Point) (faces : List Face) (outer : List (ℕ ×
         ce = pos_of_mul-pos_ℤ (negated_left (turn_back b d) far) (omega (arith, ints,
             turns_of_four b d c e, zero-mul_ℤ (turn b e) dc_zero, mul-pos_ℤ bc' de'))
 
-    -- v is strictly between a and c
-    pub between : WithinSegment (whole (p a)) (whole (p c)) (whole (p v))
-    between = on_side _ _ _ _ (rw bracket-turn at bc') (bracket-swap _ _ _ ∙ ap neg_ℤ
-        (sym (bracket-turn _ _ _) ∙ ac_zero)) (rw bracket-turn at ab')
-
-    -- the two corners are one
-    pub corners_meet : c ≡ d
-    corners_meet = c_is_d
+    -- the two corners are one, and v is strictly between a and c
+    pub corners_meet : (c ≡ d) × WithinSegment (whole (p a)) (whole (p c)) (whole (p v))
+    corners_meet = (c_is_d, on_side _ _ _ _ (rw bracket-turn at bc') (bracket-swap _ _ _ ∙ ap neg_ℤ
+        (sym (bracket-turn _ _ _) ∙ ac_zero)) (rw bracket-turn at ab'))
