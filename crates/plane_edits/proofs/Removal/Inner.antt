@@ -206,8 +206,11 @@ module _ (n : ℕ) (p : ℕ → Point) (faces : List Face) (outer : List (ℕ ×
       go (inr good) (inr x) y = answer_there nb _ (inl (among_good (λ i. nb (suc i)) t
           (λ i. c.round _) (ap nb (omega arith) ∙ c.again 1) (λ i h. elim (below_or_last t i
           (omega arith)) [ inl l ↦ good i l | inr e ↦ rw e x ])))
-      go (inr good) (inl x) (inl y) = answer_there nb _ (inr (0, opposite (λ i. nb (suc i)) _
-          (suc t) (later nb _ c) (omega arith) (omega arith) y x))
+      go (inr good) (inl x) (inl y) = answer_there nb _ (inr (
+        0,
+        opposite (λ i. nb (suc i)) _
+            (suc t) (later nb _ c) (omega arith) (omega arith) y x,
+      ))
       go (inr good) (inl x) (inr y) = inl (among_good nb t c.round (ap nb (omega arith) ∙ c.again 0)
           (λ i h. first_good i h y))
         where

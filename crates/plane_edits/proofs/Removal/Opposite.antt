@@ -73,8 +73,13 @@ module _ (n : ℕ) (p : ℕ → Point) (faces : List Face) (outer : List (ℕ ×
     left_in w h = elim (lt_or_ge_ℤ _ (turn w b)) [
       | inl k ↦ inl (in_angle a b w (weak h) k)
       | inr k ↦ inr (in_angle b c w (opposite_of_not_positive (turn b w) (turn w b)
-          (turn_back b w) k) (pos_of_mul-pos_ℤ ab (omega (arith, ints, turns_of_four a w b c,
-          mul-pos_ℤ h bc, mul-nonneg_of_nonpos_ℤ bad k))))
+          (turn_back b w) k) (pos_of_mul-pos_ℤ ab (omega (
+            arith,
+            ints,
+            turns_of_four a w b c,
+            mul-pos_ℤ h bc,
+            mul-nonneg_of_nonpos_ℤ bad k,
+          ))))
     ]
 
     -- on the way to a, short of b: in the first
@@ -126,8 +131,13 @@ module _ (n : ℕ) (p : ℕ → Point) (faces : List Face) (outer : List (ℕ ×
     far : turn d b <ℤ pos 0
     far = less_if_not_same _ _
         (not_on a b c ab_face bc_face bad d e de_face (λ s. a_not_d (sym s)) level)
-        (λ s. left_not_zero (mul-pos_ℤ ab' de') (omega (arith, ints, turns_of_four a d b e,
-        product_zero_left (turn b e) level, zero-mul_ℤ (turn a e) s)))
+        (λ s. left_not_zero (mul-pos_ℤ ab' de') (omega (
+          arith,
+          ints,
+          turns_of_four a d b e,
+          product_zero_left (turn b e) level,
+          zero-mul_ℤ (turn a e) s,
+        )))
 
     abdc : turn a b *ℤ turn d c ≡ turn a c *ℤ turn d b
     abdc = omega (arith, ints, turns_of_four a d b c, product_zero_left (turn b c) level)
@@ -162,10 +172,18 @@ module _ (n : ℕ) (p : ℕ → Point) (faces : List Face) (outer : List (ℕ ×
     ]
       where
         ce : pos 0 <ℤ turn c e
-        ce = pos_of_mul-pos_ℤ (negated_left (turn_back b d) far) (omega (arith, ints,
-            turns_of_four b d c e, zero-mul_ℤ (turn b e) dc_zero, mul-pos_ℤ bc' de'))
+        ce = pos_of_mul-pos_ℤ (negated_left (turn_back b d) far) (omega (
+          arith,
+          ints,
+          turns_of_four b d c e,
+          zero-mul_ℤ (turn b e) dc_zero,
+          mul-pos_ℤ bc' de',
+        ))
 
     -- the two corners are one, and v is strictly between a and c
     pub corners_meet : (c ≡ d) × WithinSegment (whole (p a)) (whole (p c)) (whole (p v))
-    corners_meet = (c_is_d, on_side _ _ _ _ (rw bracket-turn at bc') (bracket-swap _ _ _ ∙ ap neg_ℤ
-        (sym (bracket-turn _ _ _) ∙ ac_zero)) (rw bracket-turn at ab'))
+    corners_meet = (
+      c_is_d,
+      on_side _ _ _ _ (rw bracket-turn at bc') (bracket-swap _ _ _ ∙ ap neg_ℤ
+          (sym (bracket-turn _ _ _) ∙ ac_zero)) (rw bracket-turn at ab'),
+    )

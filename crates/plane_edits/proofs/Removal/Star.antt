@@ -94,9 +94,13 @@ module _ (n : ℕ) (p : ℕ → Point) (faces : List Face) (outer : List (ℕ ×
 
       -- where q is on the way to c, b is left of it
       c_left : bracket (at p v) (at p c) q ≡ pos 0 → pos 0 <ℤ bracket (at p v) (at p c) (at p b)
-      c_left e = pos_of_mul-pos_ℤ q_d (omega (arith, ints, mul-pos_ℤ turns_second q_b,
-          pluecker (at p v) (at p c) q (at p d) (at p b),
-          product_zero_left (bracket (at p v) (at p d) (at p b)) e))
+      c_left e = pos_of_mul-pos_ℤ q_d (omega (
+        arith,
+        ints,
+        mul-pos_ℤ turns_second q_b,
+        pluecker (at p v) (at p c) q (at p d) (at p b),
+        product_zero_left (bracket (at p v) (at p d) (at p b)) e,
+      ))
         where
           q_d : pos 0 <ℤ bracket (at p v) q (at p d)
           q_d = subst (λ s. pos 0 <ℤ s) (bracket-turn _ _ q) j.to
