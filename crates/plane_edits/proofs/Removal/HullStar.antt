@@ -303,7 +303,13 @@ module _ (n : ℕ) (p : ℕ → Point) (faces : List Face) (outer : List (ℕ ×
     -- at a vertex within a hull edge some edge of the star can be turned away
     pub flat_flips : (i : ℕ) × (suc i < k) × (pos 0 <ℤ bracket (at p (nb i)) (at p (nb (suc i)))
         (at p (nb (suc (suc i))))) × (pos 0 <ℤ turn i (suc (suc i)))
-    flat_flips = go (I.descend height first _ last ended)
+    flat_flips = let r = I.descend height first _ last ended in (
+      r.0,
+      within r.0 r.1,
+      I.turns_at_farthest _ _ _ _ _ (step r.0 (omega (arith, within r.0 r.1)))
+          (step _ (within r.0 r.1)) r.2 r.3 r.4,
+      skips r.0 (within r.0 r.1),
+    )
       where
         first : height 1 ≤ℤ pos 0
         first = zero_weak (sym (bracket-turn _ _ _ ∙ bracket-turn _ _ _) ∙ flat)
@@ -322,15 +328,3 @@ module _ (n : ℕ) (p : ℕ → Point) (faces : List Face) (outer : List (ℕ ×
         skips : (i : ℕ) → suc i < k → pos 0 <ℤ turn i (suc (suc i))
         skips zero h = past_first 1 (omega arith)
         skips (suc i) h = skip_later i h
-
-        go : (s : ℕ) × (s ≤ suc t) × (pos 0 <ℤ height (suc (suc s))) ×
-            (height (suc s) <ℤ height (suc (suc s))) × (height (suc (suc (suc s))) ≤ℤ height
-            (suc (suc s))) → (i : ℕ) × (suc i < k) × (pos 0 <ℤ bracket (at p (nb i))
-            (at p (nb (suc i))) (at p (nb (suc (suc i))))) × (pos 0 <ℤ turn i (suc (suc i)))
-        go (s, h, high, low, not_high) = (
-          s,
-          within s h,
-          I.turns_at_farthest _ _ _ _ _ (step s (omega (arith, within s h))) (step _ (within s h))
-              high low not_high,
-          skips s (within s h),
-        )

@@ -8,11 +8,10 @@ use Rattle.std.proofs.lemmas.Int.{ints}
 use Rattle.plane.specs.Fraction.{Point, whole, WithinSegment}
 use Rattle.plane.specs.Tiling.{Face}
 use Rattle.std.proofs.lemmas.Bool.{cases_eq}
-use Rattle.plane.proofs.IntegerOrder.{lt_or_ge_ℤ, mul-pos_ℤ, nonneg_of_mul-nonneg_ℤ}
+use Rattle.plane.proofs.IntegerOrder.{lt_or_ge_ℤ, mul-pos_ℤ, nonneg_of_mul-nonneg_ℤ, zero-mul_ℤ}
 use Rattle.plane.proofs.IntegerOrder.{mul-nonneg_of_nonpos_ℤ, pos_of_mul-pos_ℤ, zero_of_mul-zero_ℤ}
 use Rattle.plane.proofs.Steps.{weak, weak_right, zero_weak, zero_weak_left, left_not_zero}
-use Rattle.plane.proofs.Steps.{left_not_below, right_not_zero, negated_left}
-use Rattle.plane.proofs.Solver.{num, ◌⊕◌, ◌⊖◌, ◌⊗◌, ⊝, ring_in_from}
+use Rattle.plane.proofs.Steps.{left_not_below, right_not_zero, negated_left, product_zero_left}
 use Rattle.plane.proofs.Bracket.{bracket}
 use Rattle.plane.proofs.BracketIdentities.{bracket-turn, bracket-swap, bracket-last, pluecker}
 use Rattle.plane_tiling.proofs.Flows.{IsTurnOf}
@@ -74,17 +73,14 @@ module _ (n : ℕ) (p : ℕ → Point) (faces : List Face) (outer : List (ℕ ×
     left_in w h = elim (lt_or_ge_ℤ _ (turn w b)) [
       | inl k ↦ inl (in_angle a b w (weak h) k)
       | inr k ↦ inr (in_angle b c w (opposite_of_not_positive (turn b w) (turn w b)
-          (turn_back b w) k) (pos_of_mul-pos_ℤ ab (rw (relation (turn a b) (turn w c) (turn a w)
-          (turn b c) (turn a c) (turn b w) (turn w b) (turns_of_four a b w c) (turn_back b w))
-          (positive_plus_not_negative _ _ (mul-pos_ℤ h bc) (mul-nonneg_of_nonpos_ℤ bad k)))))
+          (turn_back b w) k) (pos_of_mul-pos_ℤ ab (omega (
+            arith,
+            ints,
+            turns_of_four a w b c,
+            mul-pos_ℤ h bc,
+            mul-nonneg_of_nonpos_ℤ bad k,
+          ))))
     ]
-      where
-        relation : (ab wc aw bc ac bw wb : ℤ) → ab *ℤ wc -ℤ aw *ℤ bc +ℤ ac *ℤ bw ≡ pos 0
-            → bw ≡ neg_ℤ wb → ab *ℤ wc ≡ aw *ℤ bc +ℤ ac *ℤ wb
-        relation ab wc aw bc ac bw wb e d = ring_in_from (ab ∷ wc ∷ aw ∷ bc ∷ ac ∷ bw ∷ wb ∷ [])
-            (λ ab wc aw bc ac bw wb. ab ⊗ wc) (λ ab wc aw bc ac bw wb. aw ⊗ bc ⊕ ac ⊗ wb)
-            (λ ab wc aw bc ac bw wb. (num 1, ab ⊗ wc ⊖ aw ⊗ bc ⊕ ac ⊗ bw, num 0)
-            ∷ (num 0 ⊖ ac, bw, ⊝ wb) ∷ []) (e, (d, tt)) tt
 
     -- on the way to a, short of b: in the first
     on_in : (w : ℕ) → turn a w ≡ pos 0 → pos 0 <ℤ turn w b
@@ -134,35 +130,22 @@ module _ (n : ℕ) (p : ℕ → Point) (faces : List Face) (outer : List (ℕ ×
     -- d is on the far side of v from a
     far : turn d b <ℤ pos 0
     far = less_if_not_same _ _
-        (not_on a b c ab_face bc_face bad d e de_face (λ s. a_not_d (sym s)) level) apart
-      where
-        relation : (ab de ad be ae bd db : ℤ) → ab *ℤ de -ℤ ad *ℤ be +ℤ ae *ℤ bd ≡ pos 0
-            → ad ≡ pos 0 → bd ≡ neg_ℤ db → db ≡ pos 0 → ab *ℤ de ≡ pos 0
-        relation ab de ad be ae bd db e z s t = ring_in_from (ab ∷ de ∷ ad ∷ be ∷ ae ∷ bd ∷ db ∷ [])
-            (λ ab de ad be ae bd db. ab ⊗ de) (λ ab de ad be ae bd db. num 0)
-            (λ ab de ad be ae bd db. (num 1, ab ⊗ de ⊖ ad ⊗ be ⊕ ae ⊗ bd, num 0) ∷ (be, ad, num 0)
-            ∷ (num 0 ⊖ ae, bd, ⊝ db) ∷ (ae, db, num 0) ∷ []) (e, (z, (s, (t, tt)))) tt
+        (not_on a b c ab_face bc_face bad d e de_face (λ s. a_not_d (sym s)) level)
+        (λ s. left_not_zero (mul-pos_ℤ ab' de') (omega (
+          arith,
+          ints,
+          turns_of_four a d b e,
+          product_zero_left (turn b e) level,
+          zero-mul_ℤ (turn a e) s,
+        )))
 
-        apart : ¬ (turn d b ≡ pos 0)
-        apart s =
-            left_not_zero (mul-pos_ℤ ab' de') (relation (turn a b) (turn d e) (turn a d) (turn b e)
-            (turn a e) (turn b d) (turn d b) (turns_of_four a b d e) level (turn_back b d) s)
+    abdc : turn a b *ℤ turn d c ≡ turn a c *ℤ turn d b
+    abdc = omega (arith, ints, turns_of_four a d b c, product_zero_left (turn b c) level)
 
     -- c is not left of d, nor on its way unless it is d
     dc_weak : pos 0 ≤ℤ turn d c
-    dc_weak = of_product (turn a b) (turn d c) ab' (rw (relation (turn a b) (turn d c) (turn a d)
-        (turn b c) (turn a c) (turn b d) (turn d b) (turns_of_four a b d c) level (turn_back b d))
-        (mul-nonneg_of_nonpos_ℤ bad (weak_right far)))
-      where
-        relation : (ab dc ad bc ac bd db : ℤ) → ab *ℤ dc -ℤ ad *ℤ bc +ℤ ac *ℤ bd ≡ pos 0
-            → ad ≡ pos 0 → bd ≡ neg_ℤ db → ab *ℤ dc ≡ ac *ℤ db
-        relation ab dc ad bc ac bd db e z s = ring_in_from (ab ∷ dc ∷ ad ∷ bc ∷ ac ∷ bd ∷ db ∷ [])
-            (λ ab dc ad bc ac bd db. ab ⊗ dc) (λ ab dc ad bc ac bd db. ac ⊗ db)
-            (λ ab dc ad bc ac bd db. (num 1, ab ⊗ dc ⊖ ad ⊗ bc ⊕ ac ⊗ bd, num 0) ∷ (bc, ad, num 0)
-            ∷ (num 0 ⊖ ac, bd, ⊝ db) ∷ []) (e, (z, (s, tt))) tt
-
-        of_product : (x y : ℤ) → pos 0 <ℤ x → pos 0 ≤ℤ (x *ℤ y) → pos 0 ≤ℤ y
-        of_product x y i j = nonneg_of_mul-nonneg_ℤ i j
+    dc_weak = nonneg_of_mul-nonneg_ℤ ab'
+        (omega (arith, ints, abdc, mul-nonneg_of_nonpos_ℤ bad (weak_right far)))
 
     dc_zero : turn d c ≡ pos 0
     dc_zero = elim (lt_or_ge_ℤ _ (turn d c)) [
@@ -179,18 +162,7 @@ module _ (n : ℕ) (p : ℕ → Point) (faces : List Face) (outer : List (ℕ ×
 
     ac_zero : turn a c ≡ pos 0
     ac_zero = zero_of_mul-zero_ℤ (λ s. right_not_zero far s)
-        (relation (turn a b) (turn d c) (turn a d) (turn b c) (turn a c) (turn b d) (turn d b)
-        (turns_of_four a b d c) level (turn_back b d) dc_zero)
-      where
-        relation : (ab dc ad bc ac bd db : ℤ) → ab *ℤ dc -ℤ ad *ℤ bc +ℤ ac *ℤ bd ≡ pos 0
-            → ad ≡ pos 0 → bd ≡ neg_ℤ db → dc ≡ pos 0 → db *ℤ ac ≡ pos 0
-        relation ab dc ad bc ac bd db e z s t = ring_in_from (ab ∷ dc ∷ ad ∷ bc ∷ ac ∷ bd ∷ db ∷ [])
-            (λ ab dc ad bc ac bd db. db ⊗ ac) (λ ab dc ad bc ac bd db. num 0)
-            (λ ab dc ad bc ac bd db. (num 0 ⊖ num 1, ab ⊗ dc ⊖ ad ⊗ bc ⊕ ac ⊗ bd, num 0) ∷ (
-              num 0 ⊖ bc,
-              ad,
-              num 0,
-            ) ∷ (ac, bd, ⊝ db) ∷ (ab, dc, num 0) ∷ []) (e, (z, (s, (t, tt)))) tt
+        (omega (arith, ints, abdc, zero-mul_ℤ (turn a b) dc_zero))
 
     -- so the corners meet: c is d
     c_is_d : c ≡ d
@@ -199,25 +171,19 @@ module _ (n : ℕ) (p : ℕ → Point) (faces : List Face) (outer : List (ℕ ×
       | inr s ↦ absurd (left_not_below ce (not_on d e f de_face ef_face bad' c g cg_face s dc_zero))
     ]
       where
-        relation : (bc de bd ce be cd dc db : ℤ) → bc *ℤ de -ℤ bd *ℤ ce +ℤ be *ℤ cd ≡ pos 0
-            → cd ≡ neg_ℤ dc → dc ≡ pos 0 → bd *ℤ ce ≡ bc *ℤ de
-        relation bc de bd ce be cd dc db e s t =
-            ring_in_from (bc ∷ de ∷ bd ∷ ce ∷ be ∷ cd ∷ dc ∷ db ∷ [])
-            (λ bc de bd ce be cd dc db. bd ⊗ ce) (λ bc de bd ce be cd dc db. bc ⊗ de)
-            (λ bc de bd ce be cd dc db. (num 0 ⊖ num 1, bc ⊗ de ⊖ bd ⊗ ce ⊕ be ⊗ cd, num 0)
-            ∷ (be, cd, ⊝ dc) ∷ (num 0 ⊖ be, dc, num 0) ∷ []) (e, (s, (t, tt))) tt
-
         ce : pos 0 <ℤ turn c e
-        ce = pos_of_mul-pos_ℤ (negated_left (turn_back b d) far)
-            (rw (relation (turn b c) (turn d e) (turn b d) (turn c e) (turn b e) (turn c d)
-            (turn d c) (turn d b) (turns_of_four b c d e) (turn_back c d) dc_zero)
-            (mul-pos_ℤ bc' de'))
+        ce = pos_of_mul-pos_ℤ (negated_left (turn_back b d) far) (omega (
+          arith,
+          ints,
+          turns_of_four b d c e,
+          zero-mul_ℤ (turn b e) dc_zero,
+          mul-pos_ℤ bc' de',
+        ))
 
-    -- v is strictly between a and c
-    pub between : WithinSegment (whole (p a)) (whole (p c)) (whole (p v))
-    between = on_side _ _ _ _ (rw bracket-turn at bc') (bracket-swap _ _ _ ∙ ap neg_ℤ
-        (sym (bracket-turn _ _ _) ∙ ac_zero)) (rw bracket-turn at ab')
-
-    -- the two corners are one
-    pub corners_meet : c ≡ d
-    corners_meet = c_is_d
+    -- the two corners are one, and v is strictly between a and c
+    pub corners_meet : (c ≡ d) × WithinSegment (whole (p a)) (whole (p c)) (whole (p v))
+    corners_meet = (
+      c_is_d,
+      on_side _ _ _ _ (rw bracket-turn at bc') (bracket-swap _ _ _ ∙ ap neg_ℤ
+          (sym (bracket-turn _ _ _) ∙ ac_zero)) (rw bracket-turn at ab'),
+    )

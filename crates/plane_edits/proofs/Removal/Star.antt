@@ -1,16 +1,17 @@
--- Round a vertex: three neighbours of which the middle one is the first farthest turn left, and the
--- half-open angles of two faces at the vertex share no point.
--- Notions: first_maximum; IsInAngle, same_angle.
-use Rattle.std.proofs.Common.{◌≡◌, ◌⊎◌, ℕ, List, [], ◌∷◌, refl, sym, ap, ◌∙◌, subst, arith}
+-- Round a vertex: its neighbours may be counted from any of them, and the half-open angles of two
+-- faces at the vertex share no point.
+-- Notions: IsAgain, AreApart, apart_later; IsInAngle, same_angle.
+use Rattle.std.proofs.Common.{◌≡◌, ◌⊎◌, ◌<◌, suc, ℕ, List, [], ◌∷◌, refl, sym, ap, ◌∙◌, subst, arith}
 use mathlib.Core.Logic.{inl, inr, ◌≢◌}
 use Rattle.std.specs.Prelude.{ℤ, pos, ◌+ℤ◌, ◌-ℤ◌, ◌*ℤ◌, ◌≤ℤ◌, ◌<ℤ◌, neg_ℤ}
 use Rattle.std.proofs.lemmas.Int.{ints}
 use Rattle.plane.specs.Fraction.{Point}
 use Rattle.plane.specs.Tiling.{Face}
 use Rattle.plane.proofs.IntegerOrder.{mul-pos_ℤ, mul-nonneg_ℤ, pos_from_ℤ, pos_of_mul-pos_ℤ}
-use Rattle.plane.proofs.Steps.{weak, both_signs, negated_right, zero_or_left}
+use Rattle.plane.proofs.Steps.{both_signs, negated_right, zero_or_left, product_zero_left}
 use Rattle.plane.proofs.Nudges.{nudged_left}
-use Rattle.plane.proofs.Solver.{num, ◌⊕◌, ◌⊖◌, ◌⊗◌, ring_in_from}
+use Rattle.std.proofs.lemmas.Bool.{cases_eq}
+use Prim.Native.Nat.{◌+◌}
 use Rattle.plane.proofs.Bracket.{Vec3, bracket, lift}
 use Rattle.plane.proofs.BracketIdentities.{bracket-turn, bracket-swap, pluecker, form, four_terms}
 use Rattle.plane.proofs.BracketIdentities.{bracket-outer, bracket-last}
@@ -21,36 +22,29 @@ use Rattle.plane_tiling.proofs.Covering as C
 use Rattle.plane.proofs.Signs.{difference_is_positive, difference_not_negative}
 use Rattle.plane.proofs.Signs.{positive_plus_not_negative, times_one}
 
--- x, y, z and t are the turns of v a c, v b c, v a b and a b c
-turn_is : (x y z t la lb lc lv : ℤ) → lv ≡ pos 0 → z *ℤ lc -ℤ x *ℤ lb +ℤ y *ℤ la -ℤ t *ℤ lv ≡ pos 0
-    → z -ℤ x +ℤ y -ℤ t ≡ pos 0 → lb *ℤ t ≡ y *ℤ (lb -ℤ la) +ℤ z *ℤ (lb -ℤ lc)
-turn_is x y z t la lb lc lv e h k = ring_in_from (x ∷ y ∷ z ∷ t ∷ la ∷ lb ∷ lc ∷ lv ∷ [])
-    (λ x y z t la lb lc lv. lb ⊗ t) (λ x y z t la lb lc lv. y ⊗ (lb ⊖ la) ⊕ z ⊗ (lb ⊖ lc))
-    (λ x y z t la lb lc lv. (t, lv, num 0) ∷ (num 1, z ⊗ lc ⊖ x ⊗ lb ⊕ y ⊗ la ⊖ t ⊗ lv, num 0)
-    ∷ (num 0 ⊖ lb, z ⊖ x ⊕ y ⊖ t, num 0) ∷ []) (e, (h, (k, tt))) tt
+-- ---- a round of neighbours that closes after k steps, and not before
+abbrev pub IsAgain : (ℕ → ℕ) → ℕ → Type 0
+IsAgain nb k = (i : ℕ) → nb (i + k) ≡ nb i
 
--- a linear form, 0 at v, that is greatest at b, less at a and at most as great at c
-pub first_maximum : (k l m : ℤ) (v a b c : Point) → pos 0 <ℤ bracket (lift v) (lift a) (lift b)
-    → pos 0 <ℤ bracket (lift v) (lift b) (lift c) → form k l m (lift v) ≡ pos 0
-    → pos 0 <ℤ form k l m (lift b) → form k l m (lift a) <ℤ form k l m (lift b)
-    → form k l m (lift c) ≤ℤ form k l m (lift b) → pos 0 <ℤ bracket (lift a) (lift b) (lift c)
-first_maximum k l m v a b c vab vbc at_v at_b low not_high = pos_from_ℤ
-    (turn_is _ _ _ _ (form k l m _) (form k l m _) (form k l m _) (form k l m _) at_v
-    (four_terms k l m _ _ _ _) (units _ _ _ _ (four_terms (pos 0) (pos 0) (pos 1) _ _ _ (lift c))))
-    at_b (positive_plus_not_negative _ _ (mul-pos_ℤ vbc
-    (difference_is_positive (form k l m _) (form k l m _) low))
-    (mul-nonneg_ℤ (weak vab) (difference_not_negative (form k l m _) (form k l m _) not_high)))
+abbrev pub AreApart : (ℕ → ℕ) → ℕ → Type 0
+AreApart nb k = (i j : ℕ) → i < k → j < k → nb i ≡ nb j → i ≡ j
+
+-- nor does it where it begins one step later
+pub apart_later : (nb : ℕ → ℕ) (k : ℕ) → IsAgain nb k → AreApart nb k
+    → AreApart (λ i. nb (suc i)) k
+apart_later nb k again apart i j hi hj e = elim (cases_eq (suc i) k) [
+  | inl a ↦ elim (cases_eq (suc j) k) [
+    | inl b ↦ omega arith
+    | inr b ↦ absurd (not_first j (omega arith) (sym e ∙ ap nb a))
+  ]
+  | inr a ↦ elim (cases_eq (suc j) k) [
+    | inl b ↦ absurd (not_first i (omega arith) (e ∙ ap nb b))
+    | inr b ↦ omega (arith, apart _ _ (omega arith) (omega arith) e)
+  ]
+]
   where
-    weight : (p : Point) → pos 0 *ℤ p.x +ℤ pos 0 *ℤ p.y +ℤ pos 1 *ℤ pos 1 ≡ pos 1
-    weight p = omega (arith, ints)
-
-    units : (z x y t : ℤ) → z *ℤ form (pos 0) (pos 0) (pos 1) (lift c) -ℤ x *ℤ form (pos 0) (pos 0)
-        (pos 1) (lift b) +ℤ y *ℤ form (pos 0) (pos 0) (pos 1) (lift a) -ℤ t *ℤ form (pos 0) (pos 0)
-        (pos 1) (lift v) ≡ pos 0 → z -ℤ x +ℤ y -ℤ t ≡ pos 0
-    units z x y t e = (λ i. sym (times_one z (form (pos 0) (pos 0) (pos 1) (lift c)) (weight c)) i
-        -ℤ sym (times_one x (form (pos 0) (pos 0) (pos 1) (lift b)) (weight b)) i
-        +ℤ sym (times_one y (form (pos 0) (pos 0) (pos 1) (lift a)) (weight a)) i
-        -ℤ sym (times_one t (form (pos 0) (pos 0) (pos 1) (lift v)) (weight v)) i) ∙ e
+    not_first : (j : ℕ) → suc j < k → nb (suc j) ≡ nb k → ⊥
+    not_first j h e = omega (arith, apart _ 0 h (omega arith) (e ∙ ap nb (omega arith) ∙ again 0))
 
 module _ (n : ℕ) (p : ℕ → Point) (faces : List Face) (outer : List (ℕ × ℕ))
     (m : SignMesh n p faces outer) where
@@ -100,22 +94,19 @@ module _ (n : ℕ) (p : ℕ → Point) (faces : List Face) (outer : List (ℕ ×
 
       -- where q is on the way to c, b is left of it
       c_left : bracket (at p v) (at p c) q ≡ pos 0 → pos 0 <ℤ bracket (at p v) (at p c) (at p b)
-      c_left e = pos_of_mul-pos_ℤ q_d (subst (λ s. pos 0 <ℤ s)
-          (sym (from_relation _ _ (bracket (at p v) (at p c) (at p d)) _ _
-          (bracket (at p v) q (at p d)) e (pluecker _ _ q _ _))) (mul-pos_ℤ turns_second q_b))
+      c_left e = pos_of_mul-pos_ℤ q_d (omega (
+        arith,
+        ints,
+        mul-pos_ℤ turns_second q_b,
+        pluecker (at p v) (at p c) q (at p d) (at p b),
+        product_zero_left (bracket (at p v) (at p d) (at p b)) e,
+      ))
         where
           q_d : pos 0 <ℤ bracket (at p v) q (at p d)
           q_d = subst (λ s. pos 0 <ℤ s) (bracket-turn _ _ q) j.to
 
           q_b : pos 0 <ℤ bracket (at p v) q (at p b)
           q_b = subst (λ s. pos 0 <ℤ s) (bracket-turn _ _ q) i.to
-
-          from_relation : (cq db cd qb cb qd : ℤ) → cq ≡ pos 0
-              → cq *ℤ db -ℤ cd *ℤ qb +ℤ cb *ℤ qd ≡ pos 0 → qd *ℤ cb ≡ cd *ℤ qb
-          from_relation cq db cd qb cb qd e h = ring_in_from (cq ∷ db ∷ cd ∷ qb ∷ cb ∷ qd ∷ [])
-              (λ cq db cd qb cb qd. qd ⊗ cb) (λ cq db cd qb cb qd. cd ⊗ qb)
-              (λ cq db cd qb cb qd. (num 0 ⊖ db, cq, num 0)
-              ∷ (num 1, cq ⊗ db ⊖ cd ⊗ qb ⊕ cb ⊗ qd, num 0) ∷ []) (e, (h, tt)) tt
 
       beyond : (z : Vec3) → (bracket (at p v) (at p c) q ≡ pos 0) ⊎
           (pos 0 <ℤ bracket (at p v) (at p c) q) → (pos 0 <ℤ bracket (at p v) (at p c) q → pos 0

@@ -26,7 +26,7 @@ use Rattle.plane_edits.specs.StarFlips.{IsStarFlip, InnerStarShrinks, without, H
 use Rattle.plane_edits.specs.StarFlips.{StarsAgree, HullStarsAgree}
 use Rattle.plane_edits.proofs.LocalMesh.Changes.{Each, face_from, face_kept, corner_of_each}
 use Rattle.plane_edits.proofs.LocalMesh.Kept.{flip_kept}
-use Rattle.plane_edits.proofs.Removal.Star.{IsInAngle, same_angle}
+use Rattle.plane_edits.proofs.Removal.Star.{IsInAngle, same_angle, apart_later}
 use Rattle.plane.proofs.Indexes.{less_or_more, next_sum}
 
 -- ---- one face on each side
@@ -245,32 +245,10 @@ star_turned_once : (faces : List Face) (v k : ℕ) (nb : ℕ → ℕ) → IsStar
 star_turned_once faces v k nb star = record {
   around = λ i. star.around _;
   again = λ i. ap nb (next_sum i k) ∙ star.again _;
-  apart = apart;
+  apart = apart_later nb k star.again star.apart;
   only = only;
 }
   where
-    apart : (i j : ℕ) → i < k → j < k → nb (suc i) ≡ nb (suc j) → i ≡ j
-    apart i j hi hj e = go (last_or i hi) (last_or j hj)
-      where
-        last_or : (i : ℕ) → i < k → (suc i < k) ⊎ (suc i ≡ k)
-        last_or i h = grind arith
-
-        back : (i j : ℕ) → suc i ≡ suc j → i ≡ j
-        back i j e = omega arith
-
-        not_first : (j : ℕ) → suc j < k → nb (suc j) ≡ nb k → ⊥
-        not_first j h e =
-            none (star.apart _ 0 h (omega arith) (e ∙ ap nb (from_none k) ∙ star.again 0))
-          where
-            none : suc j ≡ 0 → ⊥
-            none e = omega arith
-
-        go : (suc i < k) ⊎ (suc i ≡ k) → (suc j < k) ⊎ (suc j ≡ k) → i ≡ j
-        go (inl l) (inl o) = back i j (star.apart _ _ l o e)
-        go (inl l) (inr o) = absurd (not_first i l (e ∙ ap nb o))
-        go (inr l) (inl o) = absurd (not_first j o (sym e ∙ ap nb l))
-        go (inr l) (inr o) = back i j (l ∙ sym o)
-
     only : (a b : ℕ) → IsFaceOf faces v a b
         → (i : ℕ) × (i < k) × (nb (suc i) ≡ a) × (nb (suc (suc i)) ≡ b)
     only a b f = go (star.only a b f)
