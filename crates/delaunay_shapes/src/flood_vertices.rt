@@ -1,4 +1,4 @@
-//! The vertices in a shape, as ends of the edges that a flood found.
+//! The vertices in a shape, each found with the edge that it names: a flood finds that, too.
 ghost use Rattle.std.specs.Prelude.{◌≡◌, ◌≢◌, ◌↔◌, ◌<◌, length, map, All, AllPairs, IfOk};
 ghost use Rattle.std.specs.Prelude.{IsTrue, OnOk, Some};
 ghost use Rattle.half_edge_mesh.specs.Mesh.{origin, out_edge};
