@@ -1,98 +1,252 @@
--- The vertices in a region as ends of its edges.
-use Rattle.std.proofs.Common.{◌≡◌, ◌⊎◌, ◌+◌, ◌*◌, ◌/◌, ◌<◌, ◌≤◌, [], ◌∙◌}
-use Rattle.std.proofs.Common.{ℕ, List, length, get_or, sym, ap, subst, arith}
-use mathlib.Core.Logic.{inl, inr, ◌≢◌}
-use mathlib.Core.Bool.{Bool}
-use Rattle.std.specs.Prelude.{ℤ, pos, ◌*ℤ◌, Contains}
+-- The vertices in a region as those that name one of its edges.
+use Rattle.std.proofs.Common.{◌≡◌, ◌⊎◌, ◌+◌, ◌*◌, ◌/◌, ◌<◌, ◌≤◌, [], ◌∷◌, ◌++◌, ◌∙◌}
+use Rattle.std.proofs.Common.{ℕ, List, length, get_or, refl, sym, ap, subst, arith}
+use mathlib.Core.Logic.{inl, inr, ◌≢◌, ◌↔◌}
+use mathlib.Core.Bool.{Bool, true, false}
+use Rattle.std.specs.Prelude.{ℤ, pos, ◌*ℤ◌, Contains, Some, IsSome, IsTrue}
 use Rattle.std.proofs.lemmas.Int.{ints}
-use Rattle.std.proofs.lemmas.Bool.{cases_eq, cases_lt}
-use Rattle.std.proofs.lemmas.List.{append-nil}
-use Rattle.half_edge_mesh.specs.Mesh.{Mesh, origin, rev, IsValidMesh}
-use Rattle.half_edge_links.proofs.Lists.Rev.{rev-rev}
+use Rattle.std.proofs.lemmas.Bool.{cases_eq}
+use Rattle.std.proofs.lemmas.Grind.{common_steps}
+use Rattle.half_edge_mesh.specs.Mesh.{Mesh, origin, out_edge, rev, IsValidMesh}
+use Rattle.half_edge_links.proofs.Removing.CollapseLemmas.{some_of}
 use Rattle.plane.specs.Fraction.{Point, Fraction, whole, IsSame}
 use Rattle.plane.specs.Pairs.{place}
+use Rattle.plane.proofs.Segments.{start_on_segment}
 use Rattle.plane_tiling.specs.Local.{IsMesh}
-use Rattle.plane_tiling.proofs.Totals.{get_or_any}
+use Rattle.plane_tiling.proofs.Totals.{Contains-none, get_or_any}
+use Rattle.plane_edits.proofs.LocalMesh.Changes.{IsOnce, once_none}
 use Rattle.plane_delaunay.proofs.Floods.FloodRules.{vertices_are_ends}
 use Rattle.mesh_embedding.specs.Drawn.{drawn, faces_of, outer_of}
 use Rattle.mesh_embedding.proofs.EdgePairs.{joins_edge}
-use Rattle.mesh_embedding.proofs.MeshStays.{halved}
+use Rattle.mesh_embedding.proofs.MeshStays.{half_same}
+use Rattle.mesh_embedding.proofs.WorkLists.{contains_last, contains_before, last_or_before}
+use Rattle.mesh_embedding.proofs.WorkLists.{once_after}
 use Rattle.delaunay_shapes.specs.Known.{point_at}
 use Rattle.delaunay_shapes.specs.InShape.{AreEdgesInShape, AreVerticesInShape}
-use Rattle.delaunay_shapes.specs.Flood.{IsAsked, IsFlooding, GoesOn, Asks, HasAskedEnds, IsRegion}
-use Rattle.delaunay_shapes.proofs.Asking.{goes_on_twice, below_other}
-use Rattle.delaunay_shapes.proofs.Flooding.{tiles, half_by_ends}
+use Rattle.delaunay_shapes.specs.Flood.{AreNamedIn, IsNamedIn, IsKept, KeepsStart, IsRegion}
+use Rattle.delaunay_shapes.proofs.Asking.{below_other}
+use Rattle.delaunay_shapes.proofs.Flooding.{tiles, to_half}
 
--- ---- both ends, one after the other
--- the flood has gone on and asked of both ends of each of the first i edges
-pub record AreEndsAskedTo (Inside : ℕ → Type 0) (m : Mesh) (count : ℕ) (was asked : List Bool)
-    (before found edges : List ℕ) (i : ℕ) : Type 0 where
-  pub flooding : IsFlooding Inside count asked found
-  pub on : GoesOn was asked before found
-  pub sources : (j : ℕ) → j < i → IsAsked asked (origin m (2 * get_or edges j 0))
-  pub targets : (j : ℕ) → j < i → IsAsked asked (origin m (rev (2 * get_or edges j 0)))
+some_same : (g h : ℕ) → Some g ≡ Some h → g ≡ h
+some_same g h e = cc
+
+half_of_even : (k : ℕ) → (2 * k) / 2 ≡ k
+half_of_even k = omega arith
+
+half_of_rev : (k : ℕ) → rev (2 * k) / 2 ≡ k
+half_of_rev k = grind (arith, common_steps)
+
+rev_apart : (k : ℕ) → rev (2 * k) ≢ 2 * k
+rev_apart k e = absurd (grind (arith, common_steps))
 
 never : (j : ℕ) → j < 0 → ⊥
 never j h = omega (arith, h)
 
--- before the first edge none of the ends needs an answer
-pub ends_first : (Inside : ℕ → Type 0) (m : Mesh) (count : ℕ) (asked : List Bool)
-    (found edges : List ℕ) → IsFlooding Inside count asked found
-    → AreEndsAskedTo Inside m count asked asked found found edges 0
-ends_first Inside m count asked found edges f = record {
-  flooding = f;
-  on = record { kept = λ k h. h; more = []; grown = sym (append-nil found) };
-  sources = λ j h. absurd (never j h);
-  targets = λ j h. absurd (never j h);
-}
+less_more : (j i : ℕ) → j < i → j < i + 1
+less_more j i h = omega (arith, h)
 
--- once both ends of the next edge are asked of, one more edge is done
-pub ends_more : (Inside : ℕ → Type 0) (m : Mesh) (count : ℕ) (was asked mid asked' : List Bool)
-    (before found more found' edges : List ℕ) (i d a b : ℕ) →
-    AreEndsAskedTo Inside m count was asked before found edges i → i < length edges
-    → a ≡ origin m (2 * get_or edges i d) → b ≡ origin m (rev (2 * get_or edges i d)) →
-    Asks Inside count asked mid found more a → Asks Inside count mid asked' more found' b →
-    AreEndsAskedTo Inside m count was asked' before found' edges (i + 1)
-ends_more Inside m count was asked mid asked' before found more found' edges i d a b s here p q
-    from to = record {
-      flooding = to.flooding;
-      on = goes_on_twice was asked asked' before found found' s.on
-          (goes_on_twice asked mid asked' found more found' from.on to.on);
-      sources =
-          λ j h. elim (cases_eq j i) as (λ _. IsAsked asked' (origin m (2 * get_or edges j 0))) [
-            | inl e ↦ subst (λ (x : ℕ). IsAsked asked' (origin m (2 * get_or edges x 0))) (sym e)
-                (subst (IsAsked asked')
-                (p ∙ ap (λ (x : ℕ). origin m (2 * x)) (get_or_any edges i d 0 here))
-                (to.on.kept a from.there))
-            | inr n ↦ to.on.kept _ (from.on.kept _ (s.sources j (below_other j i h n)))
-          ];
-      targets =
-          λ j h. elim (cases_eq j i) as
-          (λ _. IsAsked asked' (origin m (rev (2 * get_or edges j 0)))) [
-            | inl e ↦
-                subst (λ (x : ℕ). IsAsked asked' (origin m (rev (2 * get_or edges x 0)))) (sym e)
-                (subst (IsAsked asked')
-                (q ∙ ap (λ (x : ℕ). origin m (rev (2 * x))) (get_or_any edges i d 0 here)) to.there)
-            | inr n ↦ to.on.kept _ (from.on.kept _ (s.targets j (below_other j i h n)))
-          ];
-    }
+last_more : (i : ℕ) → i < i + 1
+last_more i = omega arith
 
--- once the end of the edges is reached, both ends of each have been asked of
-pub ends_last : (Inside : ℕ → Type 0) (m : Mesh) (count : ℕ) (was asked : List Bool)
-    (before found edges : List ℕ) (i : ℕ)
-    → AreEndsAskedTo Inside m count was asked before found edges i → length edges ≤ i
-    → HasAskedEnds m asked edges
-ends_last Inside m count was asked before found edges i s last = record {
-  sources = λ k c. subst (λ (x : ℕ). IsAsked asked (origin m (2 * x)))
-      (get_or_any edges c.0 0 k c.1 ∙ c.2)
-      (s.sources c.0 (less c.0 c.1));
-  targets = λ k c. subst (λ (x : ℕ). IsAsked asked (origin m (rev (2 * x))))
-      (get_or_any edges c.0 0 k c.1 ∙ c.2)
-      (s.targets c.0 (less c.0 c.1));
-}
-  where
-    less : (j : ℕ) → j < length edges → j < i
-    less j w = omega (arith, w, last)
+less_all : (j n i : ℕ) → j < n → n ≤ i → j < i
+less_all j n i h l = omega (arith, h, l)
+
+-- ---- one directed edge after the other
+-- of the vertices that name an edge of a set those inside were found, each once
+pub record AreNamedAmong (Inside : ℕ → Type 0) (m : Mesh) (Among : ℕ → Type 0)
+    (found : List ℕ) : Type 0 where
+  pub once : IsOnce found
+  pub exact : (v : ℕ) → Contains found v
+      ↔ (((h : ℕ) × (out_edge m v ≡ Some h) × Among h) × Inside v)
+
+-- a start that does not name its edge is not kept
+pub not_named : (Inside : ℕ → Type 0) (m : Mesh) (found : List ℕ) (h : ℕ) (b : Bool)
+    → (IsTrue b ↔ (out_edge m (origin m h) ≡ Some h)) → b ≡ false
+    → KeepsStart Inside m found found h
+not_named Inside m found h b told off =
+    inr ((λ k. let on = told.1 k.0 in absurd (cc)), refl)
+
+-- nor is one outside
+pub not_inside : (Inside : ℕ → Type 0) (m : Mesh) (found : List ℕ) (h : ℕ) (b : Bool)
+    → (IsTrue b ↔ Inside (origin m h)) → b ≡ false → KeepsStart Inside m found found h
+not_inside Inside m found h b told off =
+    inr ((λ k. let on = told.1 k.1 in absurd (cc)), refl)
+
+-- one that names its edge and is inside is kept
+pub keeps : (Inside : ℕ → Type 0) (m : Mesh) (found found' : List ℕ) (h v : ℕ) (a b : Bool)
+    → (IsTrue a ↔ (out_edge m (origin m h) ≡ Some h)) → a ≡ true
+    → (IsTrue b ↔ Inside (origin m h)) → b ≡ true → v ≡ origin m h → found' ≡ found ++ v ∷ []
+    → KeepsStart Inside m found found' h
+keeps Inside m found found' h v a b named on inside told is grown =
+    inl ((named.0 on, inside.0 told), grown ∙ ap (λ (x : ℕ). found ++ x ∷ []) is)
+
+-- directed edge h is one of the first i of these edges
+abbrev pub IsBefore : List ℕ → ℕ → ℕ → Type 0
+IsBefore edges i h = (j : ℕ) × (j < i) × (j < length edges) × (get_or edges j 0 ≡ h / 2)
+
+module _ (Inside : ℕ → Type 0) (m : Mesh)
+    (starts : (v h : ℕ) → out_edge m v ≡ Some h → origin m h ≡ v) where
+  abbrev Names : (ℕ → Type 0) → ℕ → Type 0
+  Names Among v = ((h : ℕ) × (out_edge m v ≡ Some h) × Among h) × Inside v
+
+  among_same : (A B : ℕ → Type 0) (found : List ℕ) → ((h : ℕ) → A h → B h)
+      → ((h : ℕ) → B h → A h) → AreNamedAmong Inside m A found → AreNamedAmong Inside m B found
+  among_same A B found into back s = record {
+    once = s.once;
+    exact = λ v. (
+      (λ c. let r = (s.exact v).0 c in ((r.0.0, r.0.1, into r.0.0 r.0.2), r.1)),
+      (λ r. (s.exact v).1 ((r.0.0, r.0.1, back r.0.0 r.0.2), r.1)),
+    );
+  }
+
+  more : (Among : ℕ → Type 0) (h v : ℕ) → Names Among v → Names (λ g. Among g ⊎ (g ≡ h)) v
+  more Among h v r = ((r.0.0, r.0.1, inl r.0.2), r.1)
+
+  -- once the start of one edge more is kept if it is to be, one more is done
+  keeps_more : (Among : ℕ → Type 0) (found found' : List ℕ) (h : ℕ)
+      → AreNamedAmong Inside m Among found → ¬ Among h → KeepsStart Inside m found found' h
+      → AreNamedAmong Inside m (λ g. Among g ⊎ (g ≡ h)) found'
+  keeps_more Among found found' h s new (inl k) =
+      subst (AreNamedAmong Inside m (λ g. Among g ⊎ (g ≡ h))) (sym k.1) (record {
+        once = once_after found (origin m h) s.once
+            (λ c. new (again ((s.exact (origin m h)).0 c)));
+        exact = λ v. (there v, back v);
+      })
+    where
+      again : Names Among (origin m h) → Among h
+      again r = subst Among (some_same r.0.0 h (sym r.0.1 ∙ k.0.0)) r.0.2
+
+      there : (v : ℕ) → Contains (found ++ origin m h ∷ []) v → Names (λ g. Among g ⊎ (g ≡ h)) v
+      there v c = elim (last_or_before found (origin m h) v c) as
+          (λ _. Names (λ g. Among g ⊎ (g ≡ h)) v) [
+            | inl e ↦ subst (Names (λ g. Among g ⊎ (g ≡ h))) (sym e)
+                ((h, k.0.0, inr refl), k.0.1)
+            | inr d ↦ more Among h v ((s.exact v).0 d)
+          ]
+
+      back : (v : ℕ) → Names (λ g. Among g ⊎ (g ≡ h)) v → Contains (found ++ origin m h ∷ []) v
+      back v r = elim r.0.2 as (λ _. Contains (found ++ origin m h ∷ []) v) [
+        | inl p ↦ contains_before found (origin m h) v ((s.exact v).1 ((r.0.0, r.0.1, p), r.1))
+        | inr e ↦ subst (Contains (found ++ origin m h ∷ []))
+            (ap (origin m) (sym e) ∙ starts v r.0.0 r.0.1) (contains_last found (origin m h))
+      ]
+  keeps_more Among found found' h s new (inr k) =
+      subst (AreNamedAmong Inside m (λ g. Among g ⊎ (g ≡ h))) (sym k.1) (record {
+        once = s.once;
+        exact = λ v. ((λ c. more Among h v ((s.exact v).0 c)), back v);
+      })
+    where
+      kept : (v g : ℕ) → out_edge m v ≡ Some g → g ≡ h → Inside v → IsKept Inside m h
+      kept v g o e i =
+          let at : v ≡ origin m h = sym (starts v g o) ∙ ap (origin m) e in
+          (subst (λ x. out_edge m x ≡ Some h) at (o ∙ ap Some e), subst Inside at i)
+
+      back : (v : ℕ) → Names (λ g. Among g ⊎ (g ≡ h)) v → Contains found v
+      back v r = elim r.0.2 as (λ _. Contains found v) [
+        | inl p ↦ (s.exact v).1 ((r.0.0, r.0.1, p), r.1)
+        | inr e ↦ absurd (k.0 (kept v r.0.0 r.0.1 e r.1))
+      ]
+
+  -- before the first edge none is found
+  pub named_first : (edges found : List ℕ) → found ≡ []
+      → AreNamedAmong Inside m (IsBefore edges 0) found
+  named_first edges found e = subst (AreNamedAmong Inside m (IsBefore edges 0)) (sym e) (record {
+    once = once_none;
+    exact = λ v. (
+      (λ c. absurd (Contains-none v c)),
+      (λ r. absurd (never r.0.2.0 r.0.2.1)),
+    );
+  })
+
+  -- once both directions of the next edge are done, one edge more is
+  pub named_more : (edges : List ℕ) → IsOnce edges → (found mid found' : List ℕ) (i d a b : ℕ)
+      → AreNamedAmong Inside m (IsBefore edges i) found → i < length edges
+      → a ≡ 2 * get_or edges i d → b ≡ rev (2 * get_or edges i d)
+      → KeepsStart Inside m found mid a → KeepsStart Inside m mid found' b
+      → AreNamedAmong Inside m (IsBefore edges (i + 1)) found'
+  named_more edges once found mid found' i d a b s here p q from to =
+      among_same (λ h. (IsBefore edges i h ⊎ (h ≡ a)) ⊎ (h ≡ b)) (IsBefore edges (i + 1)) found'
+      there back
+      (keeps_more (λ h. IsBefore edges i h ⊎ (h ≡ a)) mid found' b
+      (keeps_more (IsBefore edges i) found mid a s (fresh a half_a) from) other to)
+    where
+      half_a : a / 2 ≡ get_or edges i 0
+      half_a = ap (λ (x : ℕ). x / 2) p ∙ half_of_even (get_or edges i d)
+          ∙ get_or_any edges i d 0 here
+
+      half_b : b / 2 ≡ get_or edges i 0
+      half_b = ap (λ (x : ℕ). x / 2) q ∙ half_of_rev (get_or edges i d)
+          ∙ get_or_any edges i d 0 here
+
+      fresh : (h : ℕ) → h / 2 ≡ get_or edges i 0 → ¬ IsBefore edges i h
+      fresh h e r = once r.0 i 0 r.1 here (r.3 ∙ e)
+
+      other : ¬ (IsBefore edges i b ⊎ (b ≡ a))
+      other (inl r) = fresh b half_b r
+      other (inr e) = rev_apart (get_or edges i d) (sym q ∙ e ∙ p)
+
+      now : (h : ℕ) → h / 2 ≡ get_or edges i 0 → IsBefore edges (i + 1) h
+      now h e = (i, last_more i, here, sym e)
+
+      there : (h : ℕ) → (IsBefore edges i h ⊎ (h ≡ a)) ⊎ (h ≡ b) → IsBefore edges (i + 1) h
+      there h (inl (inl r)) = (r.0, less_more r.0 i r.1, r.2, r.3)
+      there h (inl (inr e)) = now h (ap (λ (x : ℕ). x / 2) e ∙ half_a)
+      there h (inr e) = now h (ap (λ (x : ℕ). x / 2) e ∙ half_b)
+
+      one : (h j : ℕ) → j ≡ i → get_or edges j 0 ≡ h / 2
+          → (IsBefore edges i h ⊎ (h ≡ a)) ⊎ (h ≡ b)
+      one h j e o =
+          elim (half_same a h (sym (half_a ∙ ap (λ (x : ℕ). get_or edges x 0) (sym e) ∙ o))) as
+          (λ _. (IsBefore edges i h ⊎ (h ≡ a)) ⊎ (h ≡ b)) [
+            | inl f ↦ inl (inr f)
+            | inr f ↦ inr (f ∙ ap rev p ∙ sym q)
+          ]
+
+      back : (h : ℕ) → IsBefore edges (i + 1) h → (IsBefore edges i h ⊎ (h ≡ a)) ⊎ (h ≡ b)
+      back h r = elim (cases_eq r.0 i) as (λ _. (IsBefore edges i h ⊎ (h ≡ a)) ⊎ (h ≡ b)) [
+        | inl e ↦ one h r.0 e r.3
+        | inr n ↦ inl (inl (r.0, below_other r.0 i r.1 n, r.2, r.3))
+      ]
+
+  -- once the end of the edges is reached, all that name one of them are done
+  pub named_last : (edges found : List ℕ) (i : ℕ)
+      → AreNamedAmong Inside m (IsBefore edges i) found → length edges ≤ i
+      → AreNamedIn Inside m edges found
+  named_last edges found i s last = record {
+    once = s.once;
+    exact = λ v. (
+      (λ c. let r = (s.exact v).0 c in
+          ((r.0.0, record { names = r.0.1; listed = listed r.0.0 r.0.2 }), r.1)),
+      (λ r. (s.exact v).1 ((r.0.0, r.0.1.names, before r.0.0 r.0.1.listed), r.1)),
+    );
+  }
+    where
+      listed : (h : ℕ) → IsBefore edges i h → Contains edges (h / 2)
+      listed h r = (r.0, r.2, get_or_any edges r.0 (h / 2) 0 r.2 ∙ r.3)
+
+      before : (h : ℕ) → Contains edges (h / 2) → IsBefore edges i h
+      before h c = (
+        c.0,
+        less_all c.0 (length edges) i c.1 last,
+        c.1,
+        get_or_any edges c.0 0 (h / 2) c.1 ∙ c.2,
+      )
+
+-- a vertex that names an edge is one of the mesh
+named_in : (m : Mesh) → IsValidMesh m → (n : ℕ) → n ≡ length m.out_edges → (i h : ℕ)
+    → out_edge m i ≡ Some h → i < n
+named_in m v n many i h o = let s = v.sound.vertices i h o in
+    subst (λ (x : ℕ). x < n) s.1
+    (subst (λ (k : ℕ). origin m h < k) (sym many) (v.sound.edges h s.0).origin_in)
+
+-- so is each of those found
+pub named_below : (Inside : ℕ → Type 0) (m : Mesh) → IsValidMesh m → (edges found : List ℕ) (n : ℕ)
+    → n ≡ length m.out_edges → AreNamedIn Inside m edges found → (k d : ℕ) → k < length found
+    → get_or found k d < n
+named_below Inside m v edges found n many named k d h =
+    let r = (named.exact (get_or found k d)).0
+    (k, h, get_or_any found k (get_or found k d) d h) in
+    named_in m v n many (get_or found k d) r.0.0 r.0.1.names
 
 -- ---- all of them
 same_number : (a b : ℤ) → (a *ℤ pos 1) ≡ (b *ℤ pos 1) → a ≡ b
@@ -115,43 +269,45 @@ module _ (points : List Point) (m : Mesh) (v : IsValidMesh m)
         })))
   ]
 
-  -- asked of both ends of each edge in a region, a flood has found all vertices in it
-  pub ends_are_all : (Shape : Fraction → Type 0) → IsRegion Shape → (edges : List ℕ)
-      → AreEdgesInShape Shape points m edges → (asked : List Bool) (found : List ℕ)
-      → IsFlooding (λ i. Shape (whole (point_at points i))) (length points) asked found
-      → HasAskedEnds m asked edges → (length points ≡ 1 → IsAsked asked 0)
+  -- the vertices inside that name one of the edges in a region are all vertices in it
+  pub named_are_all : (Shape : Fraction → Type 0) → IsRegion Shape → (edges found : List ℕ)
+      → AreEdgesInShape Shape points m edges
+      → AreNamedIn (λ i. Shape (whole (point_at points i))) m edges found
+      → length points ≡ length m.out_edges → 1 < length points
       → AreVerticesInShape Shape points found
-  ends_are_all Shape shaped edges exact asked found flooding ends alone = record {
-    once = flooding.once;
+  named_are_all Shape shaped edges found exact named many some = record {
+    once = named.once;
     exact = λ i. (
-      (λ c. (flooding.within i c, flooding.inside i c)),
-      (λ p. flooding.complete i p.0 (reached i p.0 p.1 (cases_lt 1 (length points))) p.1),
+      (λ c. let r = (named.exact i).0 c in (below i r.0.0 r.0.1.names, r.1)),
+      (λ p. (named.exact i).1 (reached i p.0 p.1, p.1)),
     );
   }
     where
-      by_edge : (i h : ℕ) → origin m h ≡ i → Contains edges (h / 2) → IsAsked asked i
-      by_edge i h at c = elim (halved h) [
-        | inl e ↦ subst (IsAsked asked) (ap (origin m) e ∙ at) (ends.sources (h / 2) c)
-        | inr e ↦ subst (IsAsked asked)
-            (ap (λ (x : ℕ). origin m (rev x)) e ∙ ap (origin m) (rev-rev h) ∙ at)
-            (ends.targets (h / 2) c)
-      ]
+      below : (i h : ℕ) → out_edge m i ≡ Some h → i < length points
+      below = named_in m v (length points) many
 
-      only : (i n : ℕ) → i < n → n ≤ 1 → (n ≡ 1) × (0 ≡ i)
-      only i n a b = (omega (arith, a, b), omega (arith, a, b))
+      twice : (h : ℕ) → h < length m.half_edges → 2 * (h / 2) < length m.half_edges
+      twice h a = omega (arith, a)
 
-      reached : (i : ℕ) → i < length points → Shape (whole (point_at points i)) →
-          (1 < length points) ⊎ (length points ≤ 1) → IsAsked asked i
-      reached i w p (inr few) =
-          let o = only i (length points) w few in subst (IsAsked asked) o.1 (alone o.0)
-      reached i w p (inl some) =
+      reached : (i : ℕ) → i < length points → Shape (whole (point_at points i))
+          → (h : ℕ) × IsNamedIn m edges i h
+      reached i w p =
           let end = (vertices_are_ends (drawn points m)
           (tiles points m v shape) apart some shaped.region i).0
           (w, (shaped.same (whole (point_at points i))).0 p) in
           let r = joins_edge m v.sound i end.1.0 end.1.1.0 in
-          let inside = half_by_ends points m v shape Shape r.0 i end.1.0 r.1 r.2 r.3
-          (end.1.1.0, (end.1.1.1.0, end.1.1.1.1, (shaped.same end.1.1.1.0).1 end.1.1.1.2)) in
-          by_edge i r.0 r.2 ((exact.exact (r.0 / 2)).1 (twice r.0 r.1, inside))
-        where
-          twice : (h : ℕ) → h < length m.half_edges → 2 * (h / 2) < length m.half_edges
-          twice h a = omega (arith, a)
+          let o = some_of (out_edge m i)
+          (subst (λ (x : ℕ). IsSome (out_edge m x)) r.2 (v.sound.edges r.0 r.1).has_out) in
+          let s = v.sound.vertices i o.0 o.1 in
+          let inside = to_half points m v shape Shape o.0 s.0 (
+            whole (point_at points (origin m o.0)),
+            start_on_segment (whole (point_at points (origin m o.0)))
+                (whole (point_at points (origin m (rev o.0)))),
+            subst (λ (x : ℕ). Shape (whole (point_at points x))) (sym s.1) p,
+          ) in (
+            o.0,
+            record {
+              names = o.1;
+              listed = (exact.exact (o.0 / 2)).1 (twice o.0 s.0, inside);
+            },
+          )

@@ -1,8 +1,9 @@
 -- A flood over the edges of a mesh: which were asked of, and which of them were found.
-use Rattle.std.specs.Prelude.{◌≡◌, ◌≢◌, ◌↔◌, ℕ, ◌*◌, ◌/◌, ◌<◌, List, ◌++◌, length, map}
+use Rattle.std.specs.Prelude.{◌≡◌, ◌≢◌, ◌↔◌, ◌⊎◌, ℕ, ◌*◌, ◌/◌, ◌<◌, List, [], ◌∷◌, ◌++◌, length}
+use Rattle.std.specs.Prelude.{map, Some}
 use Rattle.std.specs.Prelude.{Bool, true, false, All, Contains, AllPairs, slice_index_or}
 use Rattle.half_edge_mesh.specs.Contents.{Contents}
-use Rattle.half_edge_mesh.specs.Mesh.{Mesh, origin, next, prev, rev}
+use Rattle.half_edge_mesh.specs.Mesh.{Mesh, origin, next, prev, rev, out_edge}
 use Rattle.plane.specs.Fraction.{Point, Fraction}
 use Rattle.plane.specs.Shape.{IsEdgeIn}
 use Rattle.plane.specs.Location.{Location}
@@ -81,7 +82,21 @@ pub record HasBegun (Shape : Fraction → Type 0) (points : List Point) (m : Mes
   pub begun : (a b : ℕ) → IsTried (drawn points m) l a b → IsEdgeIn Shape (drawn points m) a b →
       (k : ℕ) × Contains starts k × IsEdgeInShape Shape points m k
 
--- both ends of each of the edges were asked of
-pub record HasAskedEnds (m : Mesh) (asked : List Bool) (edges : List ℕ) : Type 0 where
-  pub sources : (k : ℕ) → Contains edges k → IsAsked asked (origin m (2 * k))
-  pub targets : (k : ℕ) → Contains edges k → IsAsked asked (origin m (rev (2 * k)))
+-- directed edge h is one of these edges, and its start names it
+pub record IsNamedIn (m : Mesh) (edges : List ℕ) (v h : ℕ) : Type 0 where
+  pub names : out_edge m v ≡ Some h
+  pub listed : Contains edges (h / 2)
+
+-- the vertices in the shape that name one of these edges, each once
+pub record AreNamedIn (Inside : ℕ → Type 0) (m : Mesh) (edges found : List ℕ) : Type 0 where
+  pub once : AllPairs (λ i j. i ≢ j) found
+  pub exact : (v : ℕ) → Contains found v ↔ (((h : ℕ) × IsNamedIn m edges v h) × Inside v)
+
+-- the start of directed edge h names it, and is in the shape
+abbrev pub IsKept : (ℕ → Type 0) → Mesh → ℕ → Type 0
+IsKept Inside m h = (out_edge m (origin m h) ≡ Some h) × Inside (origin m h)
+
+-- the start of directed edge h was put at the end of what is found, if it is kept
+abbrev pub KeepsStart : (ℕ → Type 0) → Mesh → List ℕ → List ℕ → ℕ → Type 0
+KeepsStart Inside m found found' h = (IsKept Inside m h × (found' ≡ found ++ origin m h ∷ []))
+    ⊎ ((¬ IsKept Inside m h) × (found' ≡ found))

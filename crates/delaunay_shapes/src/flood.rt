@@ -14,8 +14,37 @@ use delaunay_core::point::HasPosition;
 use half_edge_mesh::{Dcel, FixedDirectedEdgeHandle, FixedUndirectedEdgeHandle, MeshViews};
 use std::alloc::{AllocError, Global};
 
+// Asks the metric of an edge that was not asked before, and keeps the edge where it has a point in
+// the shape.
+#[inline(never)]
+fn ask_new<V: HasPosition, DE, UE, F, M: DistanceMetric<V::Scalar>, P: PlaneTests<V::Scalar>>(
+    dcel: &Dcel<V, DE, UE, F>,
+    metric: &M,
+    tests: &P,
+    edge: FixedUndirectedEdgeHandle,
+    asked: &mut Marks,
+    found: &mut Vec<FixedUndirectedEdgeHandle>,
+) -> Result<(), AllocError>
+    requires own_covered { All (P.covered tests.now) (M.own_points metric.now) }
+    requires covered { All (P.covered tests.now) (map V.place dcel.now.vertices) }
+    requires within { edge < length dcel.now.undirected }
+    requires new { ¬ IsAsked asked.old edge }
+    requires flooding { IsFlooding (IsInside (M.shape metric.now) V.place dcel.now)
+        (length dcel.now.undirected) asked.old found.old.items }
+    ensures { OnOk result (Asks (IsInside (M.shape metric.now) V.place dcel.now)
+        (length dcel.now.undirected) asked.old asked.new found.old.items found.new.items edge) }
+{
+    asked.mark(edge.index())?;
+    dcel.recall_invariant();
+    if metric.is_handle_inside(dcel.undirected_edge(edge), tests) {
+        found.push(edge)?;
+    }
+    Ok(())
+}
+
 // Asks the metric of an edge, unless it was asked before, and keeps the edge where it has a point
 // in the shape.
+#[inline(always)]
 fn ask<V: HasPosition, DE, UE, F, M: DistanceMetric<V::Scalar>, P: PlaneTests<V::Scalar>>(
     dcel: &Dcel<V, DE, UE, F>,
     metric: &M,
@@ -32,19 +61,14 @@ fn ask<V: HasPosition, DE, UE, F, M: DistanceMetric<V::Scalar>, P: PlaneTests<V:
     ensures { OnOk result (Asks (IsInside (M.shape metric.now) V.place dcel.now)
         (length dcel.now.undirected) asked.old asked.new found.old.items found.new.items edge) }
 {
-    let index = edge.index();
-    if asked.is_marked(index) {
+    if asked.is_marked(edge.index()) {
         return Ok(());
     }
-    asked.mark(index)?;
-    dcel.recall_invariant();
-    if metric.is_handle_inside(dcel.undirected_edge(edge), tests) {
-        found.push(edge)?;
-    }
-    Ok(())
+    ask_new(dcel, metric, tests, edge, asked, found)
 }
 
 // Asks of the edges before and after an edge in its loop.
+#[inline(always)]
 fn ask_beside<V: HasPosition, DE, UE, F, M: DistanceMetric<V::Scalar>, P: PlaneTests<V::Scalar>>(
     dcel: &Dcel<V, DE, UE, F>,
     metric: &M,

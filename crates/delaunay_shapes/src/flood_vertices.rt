@@ -1,100 +1,87 @@
-//! The vertices in a shape, as ends of the edges that a flood found.
-ghost use Rattle.std.specs.Prelude.{◌≡◌, ◌<◌, length, map, All, IfOk, OnOk};
+//! The vertices in a shape, each found with the edge that it names: a flood finds that, too.
+ghost use Rattle.std.specs.Prelude.{◌≡◌, ◌≢◌, ◌↔◌, ◌<◌, length, map, All, AllPairs, IfOk};
+ghost use Rattle.std.specs.Prelude.{IsTrue, OnOk, Some};
+ghost use Rattle.half_edge_mesh.specs.Mesh.{origin, out_edge};
 ghost use Rattle.plane.specs.Tests.{InRange};
-ghost use Rattle.delaunay_shapes.specs.Flood.{Asks, CanFlood, GoesOn, HasAskedEnds, IsAsked};
-ghost use Rattle.delaunay_shapes.specs.Flood.{IsFlooding};
+ghost use Rattle.delaunay_shapes.specs.Flood.{AreNamedIn, CanFlood, KeepsStart};
 ghost use Rattle.delaunay_shapes.specs.InShape.{IsVertexInside};
 ghost use Rattle.delaunay_shapes.specs.Left.{GivesVerticesIn, vertices_left};
 
 use crate::distance_metric::DistanceMetric;
+use crate::filter::vertices_by_filter;
 use crate::flood::flood;
 use crate::in_shape::VerticesInShapeIterator;
-use crate::marks::Marks;
 use crate::positions::spot_of;
 use delaunay_core::math::PlaneTests;
 use delaunay_core::point::HasPosition;
-use half_edge_mesh::{Dcel, FixedUndirectedEdgeHandle, FixedVertexHandle, MeshViews};
+use half_edge_mesh::{
+    Dcel, FixedDirectedEdgeHandle, FixedUndirectedEdgeHandle, FixedVertexHandle, MeshViews,
+};
 use std::alloc::{AllocError, Global};
 
-// Asks the metric of a vertex, unless it was asked before, and keeps the vertex where it is in the
-// shape.
-fn ask_vertex<V: HasPosition, DE, UE, F, M: DistanceMetric<V::Scalar>>(
+// Whether the start of an edge names it.
+#[inline(always)]
+fn is_named<V, DE, UE, F>(dcel: &Dcel<V, DE, UE, F>, edge: FixedDirectedEdgeHandle) -> bool
+    requires { edge < length dcel.now.directed }
+    ensures { IsTrue result ↔
+        (out_edge dcel.now.mesh (origin dcel.now.mesh edge) ≡ Some edge) }
+{
+    match dcel.directed_edge(edge).from().out_edge() {
+        Some(named) => named.fix() == edge,
+        None => false,
+    }
+}
+
+// Keeps the start of an edge, if it names this edge and is in the shape.
+#[inline(always)]
+fn keep_start<V: HasPosition, DE, UE, F, M: DistanceMetric<V::Scalar>>(
     dcel: &Dcel<V, DE, UE, F>,
     metric: &M,
-    vertex: FixedVertexHandle,
-    asked: &mut Marks,
+    edge: FixedDirectedEdgeHandle,
     found: &mut Vec<FixedVertexHandle>,
 ) -> Result<(), AllocError>
     requires in_range { All InRange (map V.place dcel.now.vertices) }
-    requires within { vertex < length dcel.now.vertices }
-    requires flooding { IsFlooding (IsVertexInside (M.shape metric.now) V.place dcel.now)
-        (length dcel.now.vertices) asked.old found.old.items }
-    ensures { OnOk result (Asks (IsVertexInside (M.shape metric.now) V.place dcel.now)
-        (length dcel.now.vertices) asked.old asked.new found.old.items found.new.items vertex) }
+    requires within { edge < length dcel.now.directed }
+    ensures { OnOk result (KeepsStart (IsVertexInside (M.shape metric.now) V.place dcel.now)
+        dcel.now.mesh found.old.items found.new.items edge) }
 {
-    let index = vertex.index();
-    if asked.is_marked(index) {
-        return Ok(());
-    }
-    asked.mark(index)?;
-    if metric.is_point_inside(spot_of(dcel.vertex(vertex))) {
-        found.push(vertex)?;
+    if is_named(dcel, edge) {
+        let vertex = dcel.directed_edge(edge).from();
+        if metric.is_point_inside(spot_of(vertex)) {
+            found.push(vertex.fix())?;
+        }
     }
     Ok(())
 }
 
-// Asks of the vertex of a mesh that has only one.
-fn ask_alone<V: HasPosition, DE, UE, F, M: DistanceMetric<V::Scalar>>(
-    dcel: &Dcel<V, DE, UE, F>,
-    metric: &M,
-    asked: &mut Marks,
-    found: &mut Vec<FixedVertexHandle>,
-) -> Result<(), AllocError>
-    requires in_range { All InRange (map V.place dcel.now.vertices) }
-    requires flooding { IsFlooding (IsVertexInside (M.shape metric.now) V.place dcel.now)
-        (length dcel.now.vertices) asked.old found.old.items }
-    ensures flooding { OnOk result
-        (IsFlooding (IsVertexInside (M.shape metric.now) V.place dcel.now)
-        (length dcel.now.vertices) asked.new found.new.items) }
-    ensures alone { OnOk result (length dcel.now.vertices ≡ 1 → IsAsked asked.new 0) }
-{
-    if dcel.num_vertices() == 1 {
-        ask_vertex(dcel, metric, FixedVertexHandle::from_index(0), asked, found)?;
-    }
-    Ok(())
-}
-
-// Asks of both ends of each edge of a list.
-fn ask_ends<V: HasPosition, DE, UE, F, M: DistanceMetric<V::Scalar>>(
+// The vertices in a shape that name one of these edges.
+fn named_inside<V: HasPosition, DE, UE, F, M: DistanceMetric<V::Scalar>>(
     dcel: &Dcel<V, DE, UE, F>,
     metric: &M,
     edges: &[FixedUndirectedEdgeHandle],
-    asked: &mut Marks,
-    found: &mut Vec<FixedVertexHandle>,
-) -> Result<(), AllocError>
+    alloc: Global,
+) -> Result<Vec<FixedVertexHandle>, AllocError>
     requires in_range { All InRange (map V.place dcel.now.vertices) }
     requires within { All (λ e. e < length dcel.now.undirected) edges.now }
-    requires flooding { IsFlooding (IsVertexInside (M.shape metric.now) V.place dcel.now)
-        (length dcel.now.vertices) asked.old found.old.items }
-    ensures flooding { OnOk result
-        (IsFlooding (IsVertexInside (M.shape metric.now) V.place dcel.now)
-        (length dcel.now.vertices) asked.new found.new.items) }
-    ensures on { OnOk result (GoesOn asked.old asked.new found.old.items found.new.items) }
-    ensures ends { OnOk result (HasAskedEnds dcel.now.mesh asked.new edges.now) }
+    requires once { AllPairs (λ d e. d ≢ e) edges.now }
+    ensures { IfOk result (λ v. AreNamedIn (IsVertexInside (M.shape metric.now) V.place dcel.now)
+        dcel.now.mesh edges.now v.items) }
 {
+    let mut found = Vec::new(alloc);
+    dcel.recall_invariant();
     for edge in edges {
         let edge = dcel.undirected_edge(*edge).as_directed();
-        ask_vertex(dcel, metric, edge.from().fix(), asked, found)?;
-        ask_vertex(dcel, metric, edge.to().fix(), asked, found)?;
+        keep_start(dcel, metric, edge.fix(), &mut found)?;
+        keep_start(dcel, metric, edge.rev().fix(), &mut found)?;
     }
-    Ok(())
+    Ok(found)
 }
 
 /// The vertices in a closed circle or rectangle, each once, found from a list of edges of which one
 /// has a point in it, if any has. The tests have to cover the shape's own points and the vertices.
 ///
-/// `AllocError` comes where memory for the marks of the edges and vertices that were asked of, or
-/// for the lists of those found, is refused, and only from this call: the iterator takes none.
+/// `AllocError` comes where memory for the marks of the edges that were asked of, or for the lists
+/// of edges and vertices found, is refused, and only from this call: the iterator takes none.
 pub fn vertices_by_flood<
     'a,
     V: HasPosition,
@@ -115,11 +102,11 @@ pub fn vertices_by_flood<
     ensures { IfOk result (λ it. GivesVerticesIn (M.shape metric.now) V.place dcel.entry
         (vertices_left it)) }
 {
+    if dcel.num_vertices() < 2 {
+        return vertices_by_filter(dcel, metric, tests, alloc);
+    }
     let edges = flood(dcel, metric, tests, starts, alloc)?;
-    let mut asked = Marks::new(dcel.num_vertices(), alloc);
-    let mut vertices = Vec::new(alloc);
-    ask_alone(dcel, metric, &mut asked, &mut vertices)?;
-    ask_ends(dcel, metric, edges.as_slice(), &mut asked, &mut vertices)?;
+    let vertices = named_inside(dcel, metric, edges.as_slice(), alloc)?;
     Ok(VerticesInShapeIterator {
         dcel,
         vertices,

@@ -58,9 +58,9 @@ pub fn edges_in_shape<
 /// vertex 0 where there is no such vertex. The tests have to cover the shape's own points and
 /// `start`, and have the vertices as sites.
 ///
-/// `AllocError` comes where memory for the edges to begin with, for the marks of the edges and
-/// vertices that were asked of, or for the lists of those found is refused, and only from this
-/// call: the iterator takes none.
+/// `AllocError` comes where memory for the edges to begin with, for the marks of the edges that
+/// were asked of, or for the lists of edges and vertices found is refused, and only from this call:
+/// the iterator takes none.
 pub fn vertices_in_shape<
     'a,
     V: HasPosition,

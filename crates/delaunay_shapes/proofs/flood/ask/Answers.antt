@@ -1,57 +1,16 @@
-use Rattle.std.proofs.Common.{length}
-use Rattle.delaunay_shapes.specs.InShape.{IsInside}
-use Rattle.delaunay_shapes.proofs.Asking.{asked_inside, asked_outside}
-use Rattle.delaunay_shapes.proofs.Handles.{edge_told, end_covered, marked_by, not_asked}
-use Rattle.delaunay_shapes.proofs.Handles.{start_covered}
+use Rattle.delaunay_shapes.proofs.Handles.{not_asked}
 use Rattle.delaunay_shapes.proofs.flood.ask.Goals as goal
 
-pub is_handle_inside-requires-clause-start_covered :
-    goal.is_handle_inside-requires-clause-start_covered
-is_handle_inside-requires-clause-start_covered g c =
-    start_covered g.V.HasPosition.place c.args.dcel (g.P.PlaneTests.covered c.args.tests.now)
-    c.requires.covered c.recall_invariant.ensures.whole c.undirected_edge.result.dcel
-    c.undirected_edge.result.index c.args.edge c.requires.within
-    c.undirected_edge.ensures.dcel c.undirected_edge.ensures.index
+pub ask_new-requires-clause-new : goal.ask_new-requires-clause-new
+ask_new-requires-clause-new g c =
+    not_asked c.args.asked.now c.args.edge c.index.result c.is_marked.result c.index.ensures.value
+    c.if-is_marked.false c.is_marked.ensures
 
-pub is_handle_inside-requires-clause-end_covered : goal.is_handle_inside-requires-clause-end_covered
-is_handle_inside-requires-clause-end_covered g c =
-    end_covered g.V.HasPosition.place c.args.dcel (g.P.PlaneTests.covered c.args.tests.now)
-    c.requires.covered c.recall_invariant.ensures.whole c.undirected_edge.result.dcel
-    c.undirected_edge.result.index c.args.edge c.requires.within
-    c.undirected_edge.ensures.dcel c.undirected_edge.ensures.index
+pub ask_new-requires-clause-own_covered : goal.ask_new-requires-clause-own_covered
+ask_new-requires-clause-own_covered g c = c.requires.own_covered
 
-pub returns-in_ok-push : goal.returns-in_ok-push
-returns-in_ok-push g c =
-    let told = edge_told g.V.HasPosition.place c.args.dcel c.is_handle_inside.result
-    (g.M.DistanceMetric.shape c.args.metric.now) c.undirected_edge.result.dcel
-    c.undirected_edge.result.index
-    c.args.edge c.undirected_edge.ensures.dcel c.undirected_edge.ensures.index
-    c.is_handle_inside.ensures.inside in
-    asked_inside (IsInside (g.M.DistanceMetric.shape c.args.metric.now) g.V.HasPosition.place
-    c.args.dcel.now)
-    (length c.args.dcel.now.undirected) c.args.asked.now _ c.args.found.now.items
-    c.push.new.self.items c.args.edge
-    c.requires.flooding c.requires.within
-    (not_asked c.args.asked.now c.args.edge c.index-index.result c.is_marked.result
-    c.index-index.ensures.value
-    c.if-is_marked.false c.is_marked.ensures) (told.0 c.if-is_handle_inside.true)
-    (marked_by c.args.asked.now c.mark.new.self c.args.edge c.index-index.result
-    c.index-index.ensures.value
-    c.in_ok-mark.ensures) c.in_ok-push.ensures.items
+pub ask_new-requires-clause-covered : goal.ask_new-requires-clause-covered
+ask_new-requires-clause-covered g c = c.requires.covered
 
-pub returns-else-is_handle_inside : goal.returns-else-is_handle_inside
-returns-else-is_handle_inside g c =
-    let told = edge_told g.V.HasPosition.place c.args.dcel c.is_handle_inside.result
-    (g.M.DistanceMetric.shape c.args.metric.now) c.undirected_edge.result.dcel
-    c.undirected_edge.result.index
-    c.args.edge c.undirected_edge.ensures.dcel c.undirected_edge.ensures.index
-    c.is_handle_inside.ensures.inside in
-    asked_outside (IsInside (g.M.DistanceMetric.shape c.args.metric.now) g.V.HasPosition.place
-    c.args.dcel.now)
-    (length c.args.dcel.now.undirected) c.args.asked.now _ c.args.found.now.items c.args.edge
-    c.requires.flooding
-    c.requires.within
-    (λ p. let on = told.1 p in let off = c.if-is_handle_inside.false in absurd (cc))
-    (marked_by c.args.asked.now c.mark.new.self c.args.edge c.index-index.result
-    c.index-index.ensures.value
-    c.in_ok-mark.ensures)
+pub ask_new-requires-clause-flooding : goal.ask_new-requires-clause-flooding
+ask_new-requires-clause-flooding g c = c.requires.flooding
