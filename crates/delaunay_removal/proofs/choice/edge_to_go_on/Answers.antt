@@ -3,7 +3,8 @@ use Rattle.half_edge_links.proofs.Lists.Rev.{rev-rev, rev_within}
 use Rattle.half_edge_mesh.specs.Mesh.{origin, rev}
 use Rattle.delaunay_removal.proofs.choice.edge_to_go_on.Goals as goal
 
-pub returns-then-count-gt-FEW_EDGES-clause-starts : goal.returns-then-count-gt-FEW_EDGES-clause-starts
+pub returns-then-count-gt-FEW_EDGES-clause-starts :
+    goal.returns-then-count-gt-FEW_EDGES-clause-starts
 returns-then-count-gt-FEW_EDGES-clause-starts g c =
     let w = c.recall_invariant.ensures.whole in
     let m = c.args.dcel.now.mesh in

@@ -50,7 +50,8 @@ edge_to_go_on-first-requires-clause-within g c =
     still_within c.loop-count.dcel c.turn_away.new.dcel c.turn_away.ensures.turns.contents
     c.in-Some.edge c.in-Some.ensures.within
 
-pub edge_to_go_on-first-requires-clause-few_within : goal.edge_to_go_on-first-requires-clause-few_within
+pub edge_to_go_on-first-requires-clause-few_within :
+    goal.edge_to_go_on-first-requires-clause-few_within
 edge_to_go_on-first-requires-clause-few_within g c =
     still_within c.loop-count.dcel c.turn_away.new.dcel c.turn_away.ensures.turns.contents
     c.in-Some.edge c.in-Some.ensures.within
