@@ -1,10 +1,9 @@
 -- The look for an edge between two vertices, round both of them at once.
-use Rattle.std.proofs.Common.{◌≡◌, ◌≢◌, ◌<◌, ◌≤◌, ◌∙◌}
+use Rattle.std.proofs.Common.{◌≡◌, ◌<◌, ◌≤◌, ◌∙◌}
 use Rattle.std.proofs.Common.{ℕ, length, sym, ap, arith, inl, inr}
 use Rattle.std.proofs.lemmas.Bool.{cases_lt}
 use Rattle.half_edge_links.proofs.Lists.Rev.{rev-rev, rev_within}
 use Rattle.half_edge_mesh.specs.Mesh.{Mesh, IsValidMesh, origin, rev}
-use Rattle.half_edge_mesh.specs.Peel.{spoke}
 use Rattle.half_edge_mesh.specs.Round.{IsRound}
 use Rattle.half_edge_views.proofs.Loops.{round_fits}
 use Rattle.delaunay_legalization.proofs.Rounds.{round_at}

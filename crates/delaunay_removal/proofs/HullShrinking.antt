@@ -1,55 +1,115 @@
 -- The loop that turns edges of a vertex on the hull away.
 use Rattle.std.proofs.Common.{◌≡◌, ◌≢◌, ◌+◌, ◌-◌, ◌*◌, ◌/◌, ◌<◌, ◌≤◌, [], ◌∷◌, ◌++◌, ◌∙◌}
-use Rattle.std.proofs.Common.{ℕ, suc, List, length, map, sym, ap, subst, arith}
+use Rattle.std.proofs.Common.{ℕ, suc, List, length, map, sym, ap, subst, arith, inl, inr}
 use Rattle.std.specs.Prelude.{All}
+use Rattle.std.proofs.lemmas.Bool.{cases_eq, cases_lt}
+use Rattle.half_edge_mesh.specs.Flip.{flipped}
 use Rattle.half_edge_mesh.specs.Mesh.{Mesh, origin, face}
 use Rattle.half_edge_mesh.specs.Outline.{KeepsOuter}
 use Rattle.half_edge_mesh.specs.Peel.{turn, spoke}
-use Rattle.half_edge_mesh.specs.Round.{neighbour}
 use Rattle.half_edge_mesh.specs.Triangles.{FlipsTriangles}
 use Rattle.half_edge_mesh.specs.Contents.{Contents, IsMeshWithData}
+use Rattle.half_edge_mesh.specs.Round.{IsRound, neighbour}
 use Rattle.plane.specs.Fraction.{Point}
+use Rattle.mesh_embedding.proofs.MeshStarFlips.{spoke_flippable, twin_flippable}
+use Rattle.mesh_embedding.proofs.StarTurns.{turns_away, same_start}
+use Rattle.delaunay_legalization.proofs.Rounds.{round_of}
 use Rattle.delaunay_removal.specs.Data.{StandsBeside}
-use Rattle.delaunay_removal.specs.Star.{IsConvexAt}
+use Rattle.delaunay_removal.specs.Star.{IsConvexAt, IsTurnable}
 use Rattle.delaunay_removal.specs.Hull.{IsHullStar, HasNoFlippableEdge}
 use Rattle.delaunay_removal.proofs.DataStays.{stands_turned}
 use Rattle.delaunay_removal.proofs.HullStars.{has_two, hull_ends_differ, left_of, right_of}
-use Rattle.delaunay_removal.proofs.HullStars.{hull_star_less}
+use Rattle.delaunay_removal.proofs.HullStars.{hull_star_less, strip_of}
 
 -- an edge of the vertex, before one that has inner faces on both sides
 abbrev IsPlace : Mesh → ℕ → ℕ → ℕ → Type 0
 IsPlace m first count edge = (i : ℕ) × (i < count - 2) × (edge ≡ spoke m first i)
 
--- vertex v lost edges by turns, and still has so many, from edge first on; what the turned ones
--- join is listed, with room for one more at each edge
+-- vertex v lost edges by turns, and still has so many, from edge first on, and edge `from` among
+-- them; what the turned ones join is listed, with room for one more at each edge
 pub record IsHullShrinking {V D U F : Type 0} (place : V → Point) (old now : Contents V D U F)
-    (v first count : ℕ) (turned : List (ℕ × ℕ)) (listed capacity : ℕ) : Type 0 where
+    (v first from count : ℕ) (turned : List (ℕ × ℕ)) (listed capacity : ℕ) : Type 0 where
   pub contents : now ≡ record old { mesh = now.mesh }
   pub star : IsHullStar (map place now.vertices) now.mesh v first count
   pub many : 2 ≤ count
   pub whole : IsMeshWithData now
   pub beside : StandsBeside old now v turned
   pub room : listed + count ≤ capacity
+  pub from_within : from < length now.directed
+  pub from_starts : origin now.mesh from ≡ v
 
 module _ {V D U F : Type 0} {turned : List (ℕ × ℕ)} {listed capacity : ℕ} (place : V → Point)
-    (old now : Contents V D U F) (v first count : ℕ)
-    (shrinking : IsHullShrinking place old now v first count turned listed capacity) where
+    (old now : Contents V D U F) (v first from count : ℕ)
+    (shrinking : IsHullShrinking place old now v first from count turned listed capacity) where
   -- the vertices are sites as they were
   pub hull_sites_stay : (IsSite : Point → Type 0) → All IsSite (map place old.vertices)
       → All IsSite (map place now.vertices)
   hull_sites_stay IsSite sites = subst (λ (vs : List V). All IsSite (map place vs))
       (sym (ap (λ (c : Contents V D U F). c.vertices) shrinking.contents)) sites
 
-  -- where no place has a convex quadrilateral after it, no edge can be turned
-  pub bent_at_end : ((i : ℕ) → i < count - 2
-      → ¬ IsConvexAt (map place now.vertices) now.mesh (spoke now.mesh first i))
-      → HasNoFlippableEdge (map place now.vertices) now.mesh first count
-  bent_at_end none i less = none i (omega (arith, less))
+  -- the edges of the vertex from one of them on
+  round_from_edge : (edge : ℕ) → edge < length now.directed → origin now.mesh edge ≡ v
+      → IsRound now.mesh v edge count
+  round_from_edge edge within starts = round_of now.mesh v first count edge
+      shrinking.star.round (subst (λ n. edge < n) shrinking.whole.fits.directed_fit within) starts
 
-  -- edge first is one of the directed edges
-  pub hull_first_in : first < length now.directed
-  hull_first_in = subst (λ (n : ℕ). first < n) (sym shrinking.whole.fits.directed_fit)
-      (shrinking.star.round.within 0)
+  -- where none can be turned, from any edge on, none has a convex quadrilateral
+  pub bent_at_end : ((i : ℕ) → i < count
+      → ¬ IsTurnable (map place now.vertices) now.mesh (spoke now.mesh from i))
+      → HasNoFlippableEdge (map place now.vertices) now.mesh first count
+  bent_at_end none i less convex =
+      let round = shrinking.star.round in
+      let at = (round_from_edge from shrinking.from_within shrinking.from_starts).all
+      (spoke now.mesh first i) (round.within i) (round.starts i) in
+      none at.0 at.1 (subst (IsTurnable (map place now.vertices) now.mesh) at.2 (record {
+        convex = convex;
+        left = left_of (map place now.vertices) now.mesh shrinking.whole.valid v first count
+            shrinking.star i less;
+        right = right_of (map place now.vertices) now.mesh shrinking.whole.valid v first count
+            shrinking.star i less;
+      }))
+
+  -- an edge of the vertex with inner faces on both sides of the next is such a place
+  module _ (edge : ℕ) (within : edge < length now.directed) (starts : origin now.mesh edge ≡ v)
+      (left : 0 < face now.mesh edge) (right : 0 < face now.mesh (turn now.mesh edge)) where
+    place_on_round : (i : ℕ) × (i < count) × (edge ≡ spoke now.mesh first i)
+    place_on_round = shrinking.star.round.all edge
+        (subst (λ n. edge < n) shrinking.whole.fits.directed_fit within) starts
+
+    not_at_last : (h : ℕ) → 0 < face now.mesh h → h ≡ spoke now.mesh first (count - 1) → ⊥
+    not_at_last h inner is =
+        let none = ap (face now.mesh) is ∙ (strip_of (map place now.vertices) now.mesh
+        shrinking.whole.valid v first count shrinking.star).last in
+        absurd (omega (arith, inner, none))
+
+    place_in_strip : place_on_round.0 < count - 2
+    place_in_strip = elim (cases_lt place_on_round.0 (count - 2)) [
+      | inl less ↦ less
+      | inr far ↦ elim (cases_eq (suc place_on_round.0) (count - 1)) [
+        | inl e ↦ absurd (not_at_last (turn now.mesh edge) right
+            (ap (turn now.mesh) place_on_round.2 ∙ ap (spoke now.mesh first) e))
+        | inr n ↦ absurd (not_at_last edge left (place_on_round.2 ∙ ap (spoke now.mesh first)
+            (let b = place_on_round.1 in let many = shrinking.many in
+            let e : place_on_round.0 ≡ count - 1 = omega (arith, far, n, b, many) in e)))
+      ]
+    ]
+
+    pub turnable_place : IsPlace now.mesh first count edge
+    turnable_place = (place_on_round.0, place_in_strip, place_on_round.2)
+
+    -- where the next is turned, the edge still starts at the vertex
+    pub place_starts : (new : Contents V D U F)
+        → new.mesh ≡ flipped now.mesh (2 * (turn now.mesh edge / 2)) → origin new.mesh edge ≡ v
+    place_starts new turned =
+        let points = map place now.vertices in
+        let valid = shrinking.whole.valid in
+        let round = round_from_edge edge within starts in
+        same_start now.mesh new.mesh valid v edge count round
+        (let before = place_in_strip in omega (arith, before)) left right
+        (turns_away now.mesh new.mesh (turn now.mesh edge) valid.sound
+        (spoke_flippable points now.mesh valid shrinking.star.shape v edge count round 0 left right)
+        (twin_flippable points now.mesh valid shrinking.star.shape v edge count round 0 left right)
+        turned)
 
   module _ (edge : ℕ) (at : IsPlace now.mesh first count edge) where
     below : suc (suc at.0) < count
@@ -71,34 +131,42 @@ module _ {V D U F : Type 0} {turned : List (ℕ × ℕ)} {listed capacity : ℕ}
         (hull_ends_differ (map place now.vertices) now.mesh shrinking.whole.valid v first count
         shrinking.star at.0 below)
 
-    -- one more turn
-    pub hull_shrinking_goes_on : (new : Contents V D U F) → IsMeshWithData new
+    -- one edge less
+    pub hull_star_goes_on : (new : Contents V D U F) → IsMeshWithData new
         → IsConvexAt (map place now.vertices) now.mesh edge → new ≡ record now { mesh = new.mesh }
         → FlipsTriangles now.mesh new.mesh (2 * (turn now.mesh edge / 2))
-        → KeepsOuter now.mesh new.mesh → (p : ℕ × ℕ)
+        → KeepsOuter now.mesh new.mesh
+        → IsHullStar (map place new.vertices) new.mesh v first (count - 1)
+    hull_star_goes_on new after convex contents triangles outer =
+        subst (λ (vs : List V). IsHullStar (map place vs) new.mesh v first (count - 1))
+        (sym (ap (λ (c : Contents V D U F). c.vertices) contents))
+        (hull_star_less (map place now.vertices) now.mesh shrinking.whole.valid v first count
+        shrinking.star at.0 below new.mesh after.valid
+        (subst (IsConvexAt (map place now.vertices) now.mesh) at.2 convex)
+        (subst (λ (h : ℕ). FlipsTriangles now.mesh new.mesh (2 * (turn now.mesh h / 2)))
+        at.2 triangles) outer)
+
+    -- one more turn
+    pub hull_shrinking_goes_on : (new : Contents V D U F) → IsMeshWithData new
+        → IsHullStar (map place new.vertices) new.mesh v first (count - 1)
+        → new ≡ record now { mesh = new.mesh } → (p : ℕ × ℕ)
         → StandsBeside now new (origin now.mesh edge) (p ∷ [])
         → (more : List (ℕ × ℕ)) (listed_now capacity_now : ℕ) → more ≡ turned ++ p ∷ []
-        → listed_now ≡ listed + 1 → capacity_now ≡ capacity
-        → IsHullShrinking place old new v first (count - 1) more listed_now capacity_now
-    hull_shrinking_goes_on new after convex contents triangles outer p stands more listed_now
-        capacity_now put one_more same = record {
+        → listed_now ≡ listed + 1 → capacity_now ≡ capacity → (next : ℕ)
+        → next < length new.directed → origin new.mesh next ≡ v
+        → IsHullShrinking place old new v first next (count - 1) more listed_now capacity_now
+    hull_shrinking_goes_on new after star contents p stands more listed_now capacity_now put
+        one_more same next next_within next_starts = record {
           contents = contents
               ∙ ap (λ (c : Contents V D U F). record c { mesh = new.mesh }) shrinking.contents;
-          star = star_now;
-          many = has_two (map place new.vertices) new.mesh after.valid v first (count - 1) star_now;
+          star = star;
+          many = has_two (map place new.vertices) new.mesh after.valid v first (count - 1) star;
           whole = after;
           beside = stands_turned old now new v turned more p put shrinking.beside
               (subst (λ (x : ℕ). StandsBeside now new x (p ∷ []))
               (ap (origin now.mesh) at.2 ∙ shrinking.star.round.starts at.0) stands);
           room = let fits = shrinking.room in let many = shrinking.many in
               omega (arith, fits, many, one_more, same);
+          from_within = next_within;
+          from_starts = next_starts;
         }
-      where
-        star_now : IsHullStar (map place new.vertices) new.mesh v first (count - 1)
-        star_now = subst (λ (vs : List V). IsHullStar (map place vs) new.mesh v first (count - 1))
-            (sym (ap (λ (c : Contents V D U F). c.vertices) contents))
-            (hull_star_less (map place now.vertices) now.mesh shrinking.whole.valid v first count
-            shrinking.star at.0 below new.mesh after.valid
-            (subst (IsConvexAt (map place now.vertices) now.mesh) at.2 convex)
-            (subst (λ (h : ℕ). FlipsTriangles now.mesh new.mesh (2 * (turn now.mesh h / 2)))
-            at.2 triangles) outer)

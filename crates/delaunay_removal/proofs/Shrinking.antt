@@ -1,7 +1,7 @@
 -- The loop that turns edges of an inner vertex away.
 use Rattle.std.proofs.Common.{◌≡◌, ◌+◌, ◌-◌, ◌*◌, ◌/◌, ◌<◌, ◌≤◌, [], ◌∷◌, ◌++◌, ◌∙◌}
-use Rattle.std.proofs.Common.{ℕ, List, length, map, sym, ap, subst, arith, inl}
-use Rattle.half_edge_mesh.specs.Mesh.{origin}
+use Rattle.std.proofs.Common.{ℕ, suc, List, length, map, sym, ap, subst, arith, inl}
+use Rattle.half_edge_mesh.specs.Mesh.{face, origin}
 use Rattle.half_edge_mesh.specs.Flip.{flipped}
 use Rattle.half_edge_mesh.specs.Outline.{KeepsOuter}
 use Rattle.half_edge_mesh.specs.Peel.{turn, spoke}
@@ -9,9 +9,10 @@ use Rattle.half_edge_mesh.specs.Triangles.{FlipsTriangles}
 use Rattle.half_edge_mesh.specs.Contents.{Contents, IsMeshWithData}
 use Rattle.plane.specs.Fraction.{Point}
 use Rattle.delaunay_removal.specs.Data.{StandsBeside}
-use Rattle.delaunay_removal.specs.Star.{IsConvexAt, IsInnerStar, IsReduced}
+use Rattle.delaunay_removal.specs.Star.{IsConvexAt, IsInnerStar, IsReduced, IsTurnable}
 use Rattle.delaunay_removal.proofs.DataStays.{stands_turned}
 use Rattle.delaunay_removal.proofs.InnerStars.{star_from, star_shrinks, has_three, none_left}
+use Rattle.delaunay_removal.proofs.InnerStars.{spokes_inner}
 
 -- vertex v lost edges by turns, and still has so many, from edge first on; what the turned ones
 -- join is listed, with room for one more at each edge
@@ -38,16 +39,17 @@ module _ {V D U F : Type 0} {turned : List (ℕ × ℕ)} {listed capacity : ℕ}
 
   module _ (whole : IsMeshWithData now) where
     -- the star from an edge that was found
-    pub star_at : (edge : ℕ) → (i : ℕ) × (i < count) × (edge ≡ spoke now.mesh first i)
+    pub star_at : (edge : ℕ) → edge < length now.directed
+        → origin now.mesh edge ≡ origin now.mesh first
         → IsInnerStar (map place now.vertices) now.mesh v edge count
-    star_at edge (i, less, is) =
+    star_at edge within starts =
         star_from (map place now.vertices) now.mesh whole.valid v first count shrinking.star edge
-        (subst (λ (h : ℕ). h < length now.mesh.half_edges) (sym is) (shrinking.star.round.within i))
-        (ap (origin now.mesh) is ∙ shrinking.star.round.starts i)
+        (subst (λ n. edge < n) whole.fits.directed_fit within)
+        (starts ∙ shrinking.star.round.starts 0)
 
     -- one more turn
     pub shrinking_goes_on : (new : Contents V D U F) → IsMeshWithData new → 3 < count → (edge : ℕ)
-        → (i : ℕ) × (i < count) × (edge ≡ spoke now.mesh first i)
+        → edge < length now.directed → origin now.mesh edge ≡ origin now.mesh first
         → IsConvexAt (map place now.vertices) now.mesh edge → new.mesh
         ≡ flipped now.mesh (2 * (turn now.mesh edge / 2)) → new ≡ record now { mesh = new.mesh }
         → FlipsTriangles now.mesh new.mesh (2 * (turn now.mesh edge / 2))
@@ -56,17 +58,17 @@ module _ {V D U F : Type 0} {turned : List (ℕ × ℕ)} {listed capacity : ℕ}
         → (more : List (ℕ × ℕ)) (listed_now capacity_now : ℕ) → more ≡ turned ++ p ∷ []
         → listed_now ≡ listed + 1 → capacity_now ≡ capacity
         → IsShrinking place old new v edge (count - 1) more listed_now capacity_now
-    shrinking_goes_on new after many edge at convex flips contents triangles outer p stands more
-        listed_now capacity_now put one_more same = record {
+    shrinking_goes_on new after many edge within starts convex flips contents triangles outer p
+        stands more listed_now capacity_now put one_more same = record {
           contents = contents
               ∙ ap (λ (c : Contents V D U F). record c { mesh = new.mesh }) shrinking.contents;
           star = subst (λ (vs : List V). IsInnerStar (map place vs) new.mesh v edge (count - 1))
               (sym (ap (λ (c : Contents V D U F). c.vertices) contents))
               (star_shrinks (map place now.vertices) now.mesh new.mesh whole.valid v edge count
-              (star_at edge at) many flips outer after.valid triangles convex);
+              (star_at edge within starts) many flips outer after.valid triangles convex);
           beside = stands_turned old now new v turned more p put shrinking.beside
               (subst (λ (x : ℕ). StandsBeside now new x (p ∷ []))
-              (ap (origin now.mesh) at.2 ∙ shrinking.star.round.starts at.0) stands);
+              (starts ∙ shrinking.star.round.starts 0) stands);
           room = let fits = shrinking.room in omega (arith, fits, many, one_more, same);
         }
 
@@ -83,11 +85,20 @@ module _ {V D U F : Type 0} {turned : List (ℕ × ℕ)} {listed capacity : ℕ}
 
     -- no edge can be turned any more
     pub shrinking_stops : 3 < count → ((i : ℕ) → i < count
-        → ¬ IsConvexAt (map place now.vertices) now.mesh (spoke now.mesh first i))
+        → ¬ IsTurnable (map place now.vertices) now.mesh (spoke now.mesh first i))
         → IsReduced (map place old.vertices) now.mesh v first count
     shrinking_stops many none =
         subst (λ (vs : List V). IsReduced (map place vs) now.mesh v first count) vertices_stay
-        (none_left (map place now.vertices) now whole v first count shrinking.star many none)
+        (none_left (map place now.vertices) now whole v first count shrinking.star many
+        (λ i less convex. none i less (record {
+          convex = convex;
+          left = inner i;
+          right = inner (suc i);
+        })))
+      where
+        inner : (i : ℕ) → 0 < face now.mesh (spoke now.mesh first i)
+        inner = spokes_inner (map place now.vertices) now.mesh whole.valid v first count
+            shrinking.star
 
     -- three edges are left
     pub shrinking_ends : count ≤ 3 → IsReduced (map place old.vertices) now.mesh v first count

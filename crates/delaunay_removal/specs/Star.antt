@@ -26,6 +26,12 @@ pub record IsConvexAt (points : List Point) (m : Mesh) (h : ℕ) : Type 0 where
   pub near : TurnsLeft (place points (origin m h)) (place points (neighbour m h 0))
       (place points (neighbour m h 2))
 
+-- and that edge lies between two inner faces: so it can be turned away
+pub record IsTurnable (points : List Point) (m : Mesh) (h : ℕ) : Type 0 where
+  pub convex : IsConvexAt points m h
+  pub left : 0 < face m h
+  pub right : 0 < face m (turn m h)
+
 -- the faces round vertex v are inner ones
 abbrev pub HasInnerFaces : Mesh → ℕ → Type 0
 HasInnerFaces m v = (h : ℕ) → h < length m.half_edges → origin m h ≡ v → 0 < face m h

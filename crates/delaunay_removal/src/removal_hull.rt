@@ -12,9 +12,10 @@ ghost use Rattle.delaunay_removal.specs.Hull.{HasHullEdge, IsHullStar};
 ghost use Rattle.delaunay_removal.specs.Pairs.{HasRoomAt, KeepsPairs};
 ghost use Rattle.delaunay_removal.specs.Star.{HasInnerFaces, LosesEdges};
 
+use crate::choice::{choose_edge, edge_to_go_on};
 use crate::lists::RemovalLists;
 use crate::pairs::VertexPair;
-use crate::star::{ccw_edge, count_edges, cw_edge, find_convex, opposite_side, turn_away};
+use crate::star::{ccw_edge, count_edges, cw_edge, opposite_side, turn_away};
 use delaunay_core::math::PlaneTests;
 use delaunay_core::point::HasPosition;
 use delaunay_legalization::{end_of, is_outer, start_of, turns_left};
@@ -41,10 +42,12 @@ fn shrink_hull_star<V: HasPosition, DE, UE, F, P: PlaneTests<V::Scalar>>(
     ensures room { vec_len turned.new + result ≤ vec_capacity turned.new }
 {
     let mut count = count_edges(dcel, first);
+    let mut from = first;
     dcel.recall_invariant();
-    while let Some(edge) = find_convex(dcel, first, count - 2, tests) {
+    while let Some(edge) = choose_edge(dcel, from, count, tests) {
         turn_away(dcel, edge, turned);
         dcel.recall_invariant();
+        from = edge_to_go_on(dcel, edge, count, first);
         count -= 1;
     }
     count

@@ -53,7 +53,7 @@ fn shrink_star<V: HasPosition, DE, UE, F, P: PlaneTests<V::Scalar>>(
             Some(edge) => {
                 turn_away(dcel, edge, turned);
                 dcel.recall_invariant();
-                first = edge_to_go_on(dcel, edge, count);
+                first = edge_to_go_on(dcel, edge, count, edge);
                 count -= 1;
             }
             None => return (first, count),

@@ -1,5 +1,4 @@
-use Rattle.std.proofs.Common.{◌∙◌, map, refl, sym}
-use Rattle.std.proofs.lemmas.List.Elements.{All-contains}
+use Rattle.std.proofs.Common.{map, refl}
 use Rattle.delaunay_core.specs.Place.{place_of}
 use Rattle.delaunay_legalization.specs.Known.{point_at}
 use Rattle.half_edge_mesh.specs.Mesh.{origin}

@@ -1,11 +1,12 @@
-use Rattle.std.proofs.Common.{map, vec_len, vec_capacity, refl, arith}
+use Rattle.std.proofs.Common.{◌<◌, ◌∙◌, map, vec_len, vec_capacity, refl, sym, subst, arith}
 use Rattle.half_edge_mesh.specs.Mesh.{origin}
 use Rattle.half_edge_mesh.specs.Round.{neighbour}
 use Rattle.delaunay_removal.proofs.DataStays.{all_stands}
 use Rattle.delaunay_removal.proofs.HullStars.{has_two}
-use Rattle.delaunay_removal.proofs.HullShrinking.{hull_sites_stay, bent_at_end, hull_first_in}
-use Rattle.delaunay_removal.proofs.HullShrinking.{place_left, place_right, place_apart}
+use Rattle.delaunay_removal.proofs.HullShrinking.{hull_sites_stay, bent_at_end, turnable_place}
+use Rattle.delaunay_removal.proofs.HullShrinking.{place_starts, place_apart, hull_star_goes_on}
 use Rattle.delaunay_removal.proofs.HullShrinking.{hull_shrinking_goes_on}
+use Rattle.delaunay_removal.proofs.Shrinking.{still_within}
 use Rattle.delaunay_removal.specs.Hull.{IsHullStar}
 use Rattle.delaunay_removal.proofs.removal_hull.shrink_hull_star.Goals as goal
 
@@ -26,32 +27,34 @@ loop-edge-init g c =
       beside = all_stands c.args.dcel.now
           (origin c.args.dcel.now.mesh c.args.first) c.args.turned.now.items;
       room = c.requires.room c.args.first c.count_edges-count.result c.count_edges-count.ensures;
+      from_within = hull.within;
+      from_starts = refl;
     }
 
-pub find_convex-requires-clause-within : goal.find_convex-requires-clause-within
-find_convex-requires-clause-within g c =
-    hull_first_in g.V.HasPosition.place c.args.dcel.now c.loop-edge.dcel
-    (origin c.args.dcel.now.mesh c.args.first) c.args.first c.loop-edge.count c.loop-edge.invariant
+pub choose_edge-requires-clause-within : goal.choose_edge-requires-clause-within
+choose_edge-requires-clause-within g c = c.loop-edge.invariant.from_within
 
-pub find_convex-requires-clause-sites : goal.find_convex-requires-clause-sites
-find_convex-requires-clause-sites g c = hull_sites_stay g.V.HasPosition.place c.args.dcel.now
-    c.loop-edge.dcel (origin c.args.dcel.now.mesh c.args.first) c.args.first c.loop-edge.count
-    c.loop-edge.invariant (g.P.PlaneTests.sites c.args.tests.now) c.requires.sites
+pub choose_edge-requires-clause-sites : goal.choose_edge-requires-clause-sites
+choose_edge-requires-clause-sites g c = hull_sites_stay g.V.HasPosition.place c.args.dcel.now
+    c.loop-edge.dcel (origin c.args.dcel.now.mesh c.args.first) c.args.first c.loop-edge.from
+    c.loop-edge.count c.loop-edge.invariant (g.P.PlaneTests.sites c.args.tests.now)
+    c.requires.sites
 
 pub turn_away-requires-clause-left : goal.turn_away-requires-clause-left
-turn_away-requires-clause-left g c = place_left g.V.HasPosition.place c.args.dcel.now
-    c.loop-edge.dcel (origin c.args.dcel.now.mesh c.args.first) c.args.first c.loop-edge.count
-    c.loop-edge.invariant c.in-Some.edge c.in-Some.ensures.place
+turn_away-requires-clause-left g c = c.in-Some.ensures.turnable.left
 
 pub turn_away-requires-clause-right : goal.turn_away-requires-clause-right
-turn_away-requires-clause-right g c = place_right g.V.HasPosition.place c.args.dcel.now
-    c.loop-edge.dcel (origin c.args.dcel.now.mesh c.args.first) c.args.first c.loop-edge.count
-    c.loop-edge.invariant c.in-Some.edge c.in-Some.ensures.place
+turn_away-requires-clause-right g c = c.in-Some.ensures.turnable.right
 
 pub turn_away-requires-clause-apart : goal.turn_away-requires-clause-apart
-turn_away-requires-clause-apart g c = place_apart g.V.HasPosition.place c.args.dcel.now
-    c.loop-edge.dcel (origin c.args.dcel.now.mesh c.args.first) c.args.first c.loop-edge.count
-    c.loop-edge.invariant c.in-Some.edge c.in-Some.ensures.place
+turn_away-requires-clause-apart g c =
+    let v = origin c.args.dcel.now.mesh c.args.first in
+    let found = c.in-Some.ensures in
+    place_apart g.V.HasPosition.place c.args.dcel.now c.loop-edge.dcel v c.args.first
+    c.loop-edge.from c.loop-edge.count c.loop-edge.invariant c.in-Some.edge
+    (turnable_place g.V.HasPosition.place c.args.dcel.now c.loop-edge.dcel v c.args.first
+    c.loop-edge.from c.loop-edge.count c.loop-edge.invariant c.in-Some.edge found.within
+    (found.starts ∙ c.loop-edge.invariant.from_starts) found.turnable.left found.turnable.right)
 
 pub turn_away-requires-clause-room : goal.turn_away-requires-clause-room
 turn_away-requires-clause-room g c =
@@ -59,22 +62,65 @@ turn_away-requires-clause-room g c =
     let many = c.loop-edge.invariant.many in
     omega (arith, room, many)
 
+pub edge_to_go_on-from-requires-clause-within : goal.edge_to_go_on-from-requires-clause-within
+edge_to_go_on-from-requires-clause-within g c =
+    still_within c.loop-edge.dcel c.turn_away.new.dcel c.turn_away.ensures.turns.contents
+    c.in-Some.edge c.in-Some.ensures.within
+
+pub edge_to_go_on-from-requires-clause-few_within :
+    goal.edge_to_go_on-from-requires-clause-few_within
+edge_to_go_on-from-requires-clause-few_within g c =
+    still_within c.loop-edge.dcel c.turn_away.new.dcel c.turn_away.ensures.turns.contents
+    c.args.first (subst (λ n. c.args.first < n)
+    (sym c.loop-edge.invariant.whole.fits.directed_fit)
+    (c.loop-edge.invariant.star.round.within 0))
+
+pub edge_to_go_on-from-requires-clause-few_starts :
+    goal.edge_to_go_on-from-requires-clause-few_starts
+edge_to_go_on-from-requires-clause-few_starts g c =
+    let v = origin c.args.dcel.now.mesh c.args.first in
+    let found = c.in-Some.ensures in
+    let turned = c.turn_away.ensures.turns in
+    let starts = found.starts ∙ c.loop-edge.invariant.from_starts in
+    let place = turnable_place g.V.HasPosition.place c.args.dcel.now c.loop-edge.dcel v
+    c.args.first c.loop-edge.from c.loop-edge.count c.loop-edge.invariant c.in-Some.edge
+    found.within starts found.turnable.left found.turnable.right in
+    let star = hull_star_goes_on g.V.HasPosition.place c.args.dcel.now c.loop-edge.dcel v
+    c.args.first c.loop-edge.from c.loop-edge.count c.loop-edge.invariant c.in-Some.edge place
+    c.turn_away.new.dcel c.recall_invariant-in-Some.ensures.whole found.turnable.convex
+    turned.contents turned.triangles turned.outer in
+    star.round.starts 0
+    ∙ sym (place_starts g.V.HasPosition.place c.args.dcel.now c.loop-edge.dcel v c.args.first
+    c.loop-edge.from c.loop-edge.count c.loop-edge.invariant c.in-Some.edge found.within starts
+    found.turnable.left found.turnable.right c.turn_away.new.dcel turned.mesh)
+
 pub loop-edge-preserved : goal.loop-edge-preserved
 loop-edge-preserved g c =
+    let v = origin c.args.dcel.now.mesh c.args.first in
+    let found = c.in-Some.ensures in
     let turned = c.turn_away.ensures.turns in
-    hull_shrinking_goes_on g.V.HasPosition.place c.args.dcel.now c.loop-edge.dcel
-    (origin c.args.dcel.now.mesh c.args.first) c.args.first c.loop-edge.count
-    c.loop-edge.invariant c.in-Some.edge c.in-Some.ensures.place
-    c.turn_away.new.dcel c.recall_invariant-in-Some.ensures.whole c.in-Some.ensures.convex
-    turned.contents turned.triangles turned.outer (
-      neighbour c.loop-edge.dcel.mesh
-          c.in-Some.edge 0,
+    let whole = c.recall_invariant-in-Some.ensures.whole in
+    let starts = found.starts ∙ c.loop-edge.invariant.from_starts in
+    let place = turnable_place g.V.HasPosition.place c.args.dcel.now c.loop-edge.dcel v
+    c.args.first c.loop-edge.from c.loop-edge.count c.loop-edge.invariant c.in-Some.edge
+    found.within starts found.turnable.left found.turnable.right in
+    hull_shrinking_goes_on g.V.HasPosition.place c.args.dcel.now c.loop-edge.dcel v c.args.first
+    c.loop-edge.from c.loop-edge.count c.loop-edge.invariant c.in-Some.edge place
+    c.turn_away.new.dcel whole (hull_star_goes_on g.V.HasPosition.place c.args.dcel.now
+    c.loop-edge.dcel v c.args.first c.loop-edge.from c.loop-edge.count c.loop-edge.invariant
+    c.in-Some.edge place c.turn_away.new.dcel whole found.turnable.convex turned.contents
+    turned.triangles turned.outer) turned.contents (
+      neighbour c.loop-edge.dcel.mesh c.in-Some.edge 0,
       neighbour c.loop-edge.dcel.mesh c.in-Some.edge 2,
-    ) turned.beside
-    c.turn_away.new.turned.items (vec_len c.turn_away.new.turned)
+    ) turned.beside c.turn_away.new.turned.items (vec_len c.turn_away.new.turned)
     (vec_capacity c.turn_away.new.turned) turned.items turned.len turned.capacity
+    c.edge_to_go_on-from.result c.edge_to_go_on-from.ensures.within
+    (c.edge_to_go_on-from.ensures.starts ∙ place_starts g.V.HasPosition.place c.args.dcel.now
+    c.loop-edge.dcel v c.args.first c.loop-edge.from c.loop-edge.count c.loop-edge.invariant
+    c.in-Some.edge found.within starts found.turnable.left found.turnable.right
+    c.turn_away.new.dcel turned.mesh)
 
 pub returns-clause-bent : goal.returns-clause-bent
 returns-clause-bent g c = bent_at_end g.V.HasPosition.place c.args.dcel.now c.loop-edge.dcel
-    (origin c.args.dcel.now.mesh c.args.first) c.args.first c.loop-edge.count c.loop-edge.invariant
-    c.in_default.ensures.none
+    (origin c.args.dcel.now.mesh c.args.first) c.args.first c.loop-edge.from c.loop-edge.count
+    c.loop-edge.invariant c.in_default.ensures.none

@@ -6,7 +6,7 @@ use Rattle.delaunay_removal.proofs.removal_hull.shrink_hull_star.Given as goal
 abbrev pub invariant-loop-edge : goal.invariant-loop-edge
 invariant-loop-edge g l =
     IsHullShrinking g.V.HasPosition.place l.fn.dcel l.dcel (origin l.fn.dcel.mesh l.fn.first)
-    l.first l.count l.turned.items (vec_len l.turned) (vec_capacity l.turned)
+    l.fn.first l.from l.count l.turned.items (vec_len l.turned) (vec_capacity l.turned)
 
 abbrev pub decreases-loop-edge : goal.decreases-loop-edge
 decreases-loop-edge g l = l.count

@@ -3,7 +3,7 @@ use Rattle.std.proofs.Common.{subst, sym, arith}
 use Rattle.half_edge_mesh.specs.Mesh.{origin}
 use Rattle.half_edge_mesh.specs.Round.{neighbour}
 use Rattle.delaunay_removal.proofs.DataStays.{all_stands}
-use Rattle.delaunay_removal.proofs.InnerStars.{spokes_inner, ends_differ}
+use Rattle.delaunay_removal.proofs.InnerStars.{ends_differ}
 use Rattle.delaunay_removal.proofs.Shrinking.{star_at, shrinking_goes_on, shrinking_stops}
 use Rattle.delaunay_removal.proofs.Shrinking.{shrinking_ends, shrinking_from, still_within}
 use Rattle.delaunay_removal.proofs.removal_inner.shrink_star.Goals as goal
@@ -23,22 +23,10 @@ choose_edge-requires-clause-within g c = subst (λ (n : ℕ). c.loop-count.first
     (c.loop-count.invariant.star.round.within 0)
 
 pub turn_away-requires-clause-left : goal.turn_away-requires-clause-left
-turn_away-requires-clause-left g c =
-    let w = c.recall_invariant.ensures.whole in
-    let v = origin c.args.dcel.now.mesh c.args.first in
-    spokes_inner (map g.V.HasPosition.place c.loop-count.dcel.vertices) c.loop-count.dcel.mesh
-    w.valid v c.in-Some.edge c.loop-count.count
-    (star_at g.V.HasPosition.place c.args.dcel.now c.loop-count.dcel v c.loop-count.first
-    c.loop-count.count c.loop-count.invariant w c.in-Some.edge c.in-Some.ensures.place) 0
+turn_away-requires-clause-left g c = c.in-Some.ensures.turnable.left
 
 pub turn_away-requires-clause-right : goal.turn_away-requires-clause-right
-turn_away-requires-clause-right g c =
-    let w = c.recall_invariant.ensures.whole in
-    let v = origin c.args.dcel.now.mesh c.args.first in
-    spokes_inner (map g.V.HasPosition.place c.loop-count.dcel.vertices) c.loop-count.dcel.mesh
-    w.valid v c.in-Some.edge c.loop-count.count
-    (star_at g.V.HasPosition.place c.args.dcel.now c.loop-count.dcel v c.loop-count.first
-    c.loop-count.count c.loop-count.invariant w c.in-Some.edge c.in-Some.ensures.place) 1
+turn_away-requires-clause-right g c = c.in-Some.ensures.turnable.right
 
 pub turn_away-requires-clause-apart : goal.turn_away-requires-clause-apart
 turn_away-requires-clause-apart g c =
@@ -48,7 +36,8 @@ turn_away-requires-clause-apart g c =
     ends_differ (map g.V.HasPosition.place c.loop-count.dcel.vertices) c.loop-count.dcel.mesh
     w.valid v c.in-Some.edge c.loop-count.count
     (star_at g.V.HasPosition.place c.args.dcel.now c.loop-count.dcel v c.loop-count.first
-    c.loop-count.count c.loop-count.invariant w c.in-Some.edge c.in-Some.ensures.place) many
+    c.loop-count.count c.loop-count.invariant w c.in-Some.edge c.in-Some.ensures.within
+    c.in-Some.ensures.starts) many
 
 pub turn_away-requires-clause-room : goal.turn_away-requires-clause-room
 turn_away-requires-clause-room g c =
@@ -56,8 +45,14 @@ turn_away-requires-clause-room g c =
     let many = c.loop-count-test.true in
     omega (arith, room, many)
 
-pub edge_to_go_on-first-requires : goal.edge_to_go_on-first-requires
-edge_to_go_on-first-requires g c =
+pub edge_to_go_on-first-requires-clause-within : goal.edge_to_go_on-first-requires-clause-within
+edge_to_go_on-first-requires-clause-within g c =
+    still_within c.loop-count.dcel c.turn_away.new.dcel c.turn_away.ensures.turns.contents
+    c.in-Some.edge c.in-Some.ensures.within
+
+pub edge_to_go_on-first-requires-clause-few_within :
+    goal.edge_to_go_on-first-requires-clause-few_within
+edge_to_go_on-first-requires-clause-few_within g c =
     still_within c.loop-count.dcel c.turn_away.new.dcel c.turn_away.ensures.turns.contents
     c.in-Some.edge c.in-Some.ensures.within
 
@@ -71,7 +66,8 @@ loop-count-preserved g c =
     v c.loop-count.first c.loop-count.count
     c.loop-count.invariant c.turn_away.ensures.whole
     c.turn_away.new.dcel whole c.loop-count-test.true
-    c.in-Some.edge c.in-Some.ensures.place c.in-Some.ensures.convex
+    c.in-Some.edge c.in-Some.ensures.within c.in-Some.ensures.starts
+    c.in-Some.ensures.turnable.convex
     turned.mesh turned.contents turned.triangles turned.outer (
       neighbour c.loop-count.dcel.mesh
           c.in-Some.edge 0,
