@@ -11,7 +11,7 @@ use Rattle.delaunay_legalization.specs.Constraints.{constraints_by, marked_edges
 use Rattle.delaunay_legalization.specs.Shape.{IsDelaunayTriangulation}
 use Rattle.delaunay_legalization.specs.State.{State}
 use Rattle.delaunay_edit.specs.Counting.{IsCounted}
-use Rattle.delaunay_edit.specs.Storage.{IsCopy, KeepsImage}
+use Rattle.delaunay_edit.specs.Storage.{CopiesConstraints, IsCopy, KeepsImage}
 
 same_length : {X : Type 0} (R : X → X → Type 0) (xs ys : List X) → AllZip R xs ys
     → length ys ≡ length xs
@@ -63,8 +63,12 @@ module _ {V D U F : Type 0} (place : V → Point) (marks : U → Bool) (constrai
       ∙ sym (marked old.undirected)
 
   -- where copied edges keep their marks, the same pairs are joined by constraints
-  pub same_constraints : constraints_by constraints new ≡ constraints_by constraints old
+  same_constraints : constraints_by constraints new ≡ constraints_by constraints old
   same_constraints = rw (copy.mesh, same_edges) refl
+
+  -- so it is a copy with its constraints
+  pub copies_constraints : CopiesConstraints RV RD RU RF constraints old new
+  copies_constraints = record { copy = copy; same = same_constraints }
 
   module _ (places : KeepsImage RV place old.vertices) where
     -- where copied vertices keep their places, too, a copy is Delaunay as the first is

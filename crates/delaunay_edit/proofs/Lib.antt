@@ -1,18 +1,26 @@
+-- What each triangulation keeps, and what callers learn of it.
+pub mod WellFormed
+pub mod Delaunay
 pub mod Edges
 pub mod Counts
 pub mod HullSizes
-pub mod Cases
-pub mod Overwriting
-pub mod Delaunay
-pub mod ConstraintEdges
-pub mod Removing
-pub mod Constrained
 pub mod Vertices
-pub mod WellFormed
+pub mod Cases
+-- Insertions, removals, and data that change.
 pub mod Inserting
+pub mod Overwriting
+pub mod EmptyRound
+pub mod Removing
+pub mod FreeRemoval
 pub mod OtherData
 pub mod Copies
+-- Constraints that are added and released.
+pub mod Constrained
+pub mod ConstraintEdges
 pub mod EditingConstraints
+pub mod JoinedPath
+pub mod OnePieceAdded
+-- How many constraints there are.
 pub mod PairCounts
 pub mod EditCounts
 pub mod DifferentConstraints
@@ -20,12 +28,9 @@ pub mod CountingAt
 pub mod CountingPath
 pub mod CountingSplits
 pub mod Recounted
-pub mod EmptyRound
-pub mod FreeRemoval
+-- Straight constraints whose middle goes.
 pub mod SeekingEnds
 pub mod FarEnds
 pub mod JoinedHalves
 pub mod JoiningData
 pub mod Settling
-pub mod JoinedPath
-pub mod OnePieceAdded

@@ -26,7 +26,7 @@ use std::alloc::AllocError;
 impl<V: HasPosition, DE, UE, F> ConstrainedMesh<V, DE, UE, F> {
     /// Whether no constraint has one point in common with the segment between two vertices that is
     /// strictly within both.
-    pub fn can_add_constraint<P: PlaneTests<V::Scalar>>(
+    pub fn can_join<P: PlaneTests<V::Scalar>>(
         &self,
         from: FixedVertexHandle,
         to: FixedVertexHandle,
@@ -102,7 +102,7 @@ impl<V: HasPosition, DE, UE, F> ConstrainedMesh<V, DE, UE, F> {
     /// flipped, and all data but the marks of the new constraints stay, each under its handle. It
     /// tells whether that made a constraint of an edge that was none, and gives `AllocError` where
     /// memory was refused; then nothing changes, and so where it made none.
-    pub fn add_constraint<P: PlaneTests<V::Scalar>>(
+    pub fn join<P: PlaneTests<V::Scalar>>(
         &mut self,
         from: FixedVertexHandle,
         to: FixedVertexHandle,
@@ -173,11 +173,11 @@ impl<V: HasPosition, DE, UE, F> ConstrainedMesh<V, DE, UE, F> {
         Ok(edges)
     }
 
-    /// Does what `add_constraint` does and gives the edges of the path, in order, as they are after
+    /// Does what `join` does and gives the edges of the path, in order, as they are after
     /// the last flip. Where a constraint crosses the segment, or where the two vertices are one, it
     /// gives no edge and changes nothing, and takes no memory. It gives `AllocError` where memory
     /// was refused, and then nothing changes either.
-    pub fn try_add_constraint<P: PlaneTests<V::Scalar>>(
+    pub fn join_if_free<P: PlaneTests<V::Scalar>>(
         &mut self,
         from: FixedVertexHandle,
         to: FixedVertexHandle,
@@ -192,7 +192,7 @@ impl<V: HasPosition, DE, UE, F> ConstrainedMesh<V, DE, UE, F> {
         ensures headline { IsDelaunay V.place constraint_edges self.new }
     {
         self.recall_invariant();
-        if from == to || !self.can_add_constraint(from, to, tests) {
+        if from == to || !self.can_join(from, to, tests) {
             return Ok(Vec::new(*self.work.allocator()));
         }
         let edges = self.add_free_path(from, to, tests);

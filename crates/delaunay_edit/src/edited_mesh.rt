@@ -5,6 +5,7 @@ ghost use Rattle.delaunay_core.specs.Place.{place_of};
 ghost use Rattle.delaunay_legalization.specs.Constraints.{constraints_by};
 ghost use Rattle.delaunay_legalization.specs.Known.{point_at};
 ghost use Rattle.delaunay_legalization.specs.State.{state_of};
+ghost use Rattle.delaunay_edit.specs.Counting.{IsCounted};
 ghost use Rattle.delaunay_edit.specs.Headline.{IsDelaunay, IsWellFormed};
 ghost use Rattle.delaunay_edit.specs.Location.{IsMeshEdge};
 
@@ -71,12 +72,21 @@ impl<V: HasPosition, DE, UE, F, M: ConstraintMarker<UE>> EditedMesh<V, DE, UE, F
     {
         let dcel = Dcel::new(alloc);
         dcel.recall_invariant();
+        EditedMesh::of_mesh(dcel, 0, alloc)
+    }
+
+    // The triangulation of a mesh of which so many edges are constraints. It takes no memory.
+    pub(crate) fn of_mesh(dcel: Dcel<V, DE, UE, F>, num_constraints: usize, alloc: Global) -> Self
+        requires { IsCounted V.place M.constraints (state_of dcel) num_constraints }
+        ensures state { result ≡ state_of dcel }
+        ensures headline { IsDelaunay V.place M.constraints result }
+    {
         EditedMesh {
             dcel,
             work: Vec::new(alloc),
             lists: RemovalLists::new(alloc),
             crossing: CrossingLists::new(alloc),
-            num_constraints: 0,
+            num_constraints,
             marks: PhantomData,
         }
     }

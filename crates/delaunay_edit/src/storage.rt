@@ -6,10 +6,9 @@ ghost use Rattle.half_edge_mesh.specs.Room.{AreFewEnough};
 ghost use Rattle.delaunay_core.specs.declared.math.InsertionError.TheVariants.{TooLarge};
 ghost use Rattle.delaunay_core.specs.declared.math.InsertionError.TheVariants.{OutOfIndexes};
 ghost use Rattle.delaunay_core.specs.declared.math.InsertionError.TheVariants.{OutOfMemory};
-ghost use Rattle.delaunay_legalization.specs.Constraints.{constraints_by};
 ghost use Rattle.delaunay_legalization.specs.State.{state_of};
 ghost use Rattle.delaunay_edit.specs.Headline.{IsDelaunay};
-ghost use Rattle.delaunay_edit.specs.Storage.{IsCopy, IsEmptyState, KeepsImage};
+ghost use Rattle.delaunay_edit.specs.Storage.{CopiesConstraints, IsEmptyState, KeepsImage};
 
 use crate::edge_data::EdgeData;
 use crate::edited_mesh::EditedMesh;
@@ -17,11 +16,8 @@ use crate::insertion::reserve_to_test;
 use delaunay_core::math::InsertionError;
 use delaunay_core::point::HasPosition;
 use delaunay_legalization::ConstraintMarker;
-use delaunay_paths::CrossingLists;
-use delaunay_removal::RemovalLists;
 use half_edge_mesh::{Dcel, MAX_ELEMENTS, ReserveError};
 use std::alloc::{AllocError, Global};
-use std::marker::PhantomData;
 
 // An empty mesh with room for these totals, and the refusals of an insertion.
 fn empty_mesh<V: Drop, DE: Drop, UE: Drop, F: Default + Drop>(
@@ -67,14 +63,7 @@ impl<
     {
         let dcel = empty_mesh(alloc, vertices, undirected_edges, faces)?;
         dcel.recall_invariant();
-        Ok(EditedMesh {
-            dcel,
-            work: Vec::new(alloc),
-            lists: RemovalLists::new(alloc),
-            crossing: CrossingLists::new(alloc),
-            num_constraints: 0,
-            marks: PhantomData,
-        })
+        Ok(EditedMesh::of_mesh(dcel, 0, alloc))
     }
 }
 
@@ -132,22 +121,13 @@ impl<
     pub fn try_clone(&self) -> Result<Self, AllocError>
         requires places { KeepsImage V.is_clone V.place self.now.vertices }
         requires marks { KeepsImage UE.is_clone M.marks self.now.undirected }
-        ensures copy { IfOk result
-            (IsCopy V.is_clone DE.is_clone UE.is_clone F.is_clone self.now) }
-        ensures constraints { IfOk result
-            (λ c. constraints_by M.constraints c ≡ constraints_by M.constraints self.now) }
+        ensures copy { IfOk result (CopiesConstraints V.is_clone DE.is_clone UE.is_clone F.is_clone
+            M.constraints self.now) }
         ensures headline { IfOk result (IsDelaunay V.place M.constraints) }
     {
         let alloc = *self.work.allocator();
         let dcel = self.dcel.clone()?;
         dcel.recall_invariant();
-        Ok(EditedMesh {
-            dcel,
-            work: Vec::new(alloc),
-            lists: RemovalLists::new(alloc),
-            crossing: CrossingLists::new(alloc),
-            num_constraints: self.num_constraints,
-            marks: PhantomData,
-        })
+        Ok(EditedMesh::of_mesh(dcel, self.num_constraints, alloc))
     }
 }

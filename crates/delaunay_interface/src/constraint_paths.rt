@@ -34,7 +34,7 @@ impl<V: HasPosition, DE, UE, F, L: HintGenerator<V::Scalar>> ConstrainedDelaunay
         requires sites { AreSites V.place (P.sites tests.now) self.now.vertices }
         ensures { IsTrue result ↔ CanAddConstraint V.place self.now from to }
     {
-        self.edited.can_add_constraint(from, to, tests)
+        self.edited.can_join(from, to, tests)
     }
 
     /// Makes constraints of the edges between neighbours among the vertices on the segment between
@@ -56,7 +56,7 @@ impl<V: HasPosition, DE, UE, F, L: HintGenerator<V::Scalar>> ConstrainedDelaunay
         ensures adds { AddsConstraint V.place from to result self.old self.new }
         ensures headline { IsDelaunay V.place constraint_edges self.new }
     {
-        self.edited.add_constraint(from, to, tests)
+        self.edited.join(from, to, tests)
     }
 
     /// Does what `add_constraint` does and gives the edges of the path, each directed along it, in
@@ -85,7 +85,7 @@ impl<V: HasPosition, DE, UE, F, L: HintGenerator<V::Scalar>> ConstrainedDelaunay
         ensures err { OnErr result (self.new ≡ self.old) }
         ensures headline { IsDelaunay V.place constraint_edges self.new }
     {
-        self.edited.try_add_constraint(from, to, tests)
+        self.edited.join_if_free(from, to, tests)
     }
 
     /// Takes from an edge of the triangulation that it is a constraint, and tells whether it was

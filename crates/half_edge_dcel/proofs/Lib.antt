@@ -1,17 +1,21 @@
+-- Data beside the parts of a mesh: lists that grow, shrink or are turned.
 pub mod Fits
 pub mod EdgeLists
-pub mod Outlines
 pub mod Turning
 pub mod TakenOut
 pub mod TakenEdges
+pub mod Filtered
+-- The outer edges after a change.
+pub mod Outlines
 pub mod OuterSums
-pub mod Dropped
+-- One edge gets other ends, and edges are turned away from a vertex.
+pub mod Touching
 pub mod TwoEdges
+pub mod Hubs
+pub mod TurnedEdge
+-- A vertex loses its edges, on a line, on the hull and inside, and goes.
 pub mod LineSteps
 pub mod StripSteps
 pub mod HoleSteps
-pub mod Hubs
-pub mod Filtered
-pub mod Touching
-pub mod TurnedEdge
 pub mod HoleFilled
+pub mod Dropped

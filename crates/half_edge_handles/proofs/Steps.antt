@@ -12,10 +12,10 @@ range_step a b less =
     let e : b - a ≡ suc (b - (a + 1)) = omega arith in
     rw e refl
 
--- fewer are left
-pub length_range_step : (a b : ℕ) → a < b
+-- fewer are left after the first
+pub fewer_after : (a b : ℕ) → a < b
     → length (range_with_len (a + 1) (b - (a + 1))) < length (range_with_len a (b - a))
-length_range_step a b less = rw (range_step a b less) (omega arith)
+fewer_after a b less = rw (range_step a b less) (omega arith)
 
 -- the values of a function over a range are that of the first number and those over the range after
 -- it
@@ -37,10 +37,10 @@ range_last a b less =
     let e : b - a ≡ suc (b - 1 - a) = omega arith in
     rw e (row_with_last a (b - 1 - a) (b - 1) (omega arith))
 
--- fewer are left
-pub length_range_last : (a b : ℕ) → a < b
+-- fewer are left before the last
+pub fewer_before : (a b : ℕ) → a < b
     → length (range_with_len a (b - 1 - a)) < length (range_with_len a (b - a))
-length_range_last a b less =
+fewer_before a b less =
     omega (arith, length-range_with_len a (b - 1 - a), length-range_with_len a (b - a))
 
 -- each is below a bound of the end

@@ -1,5 +1,5 @@
 //! Indexes in a row, taken from either end.
-#![tactic(auto, using(crate::proofs::Steps::range_step, crate::proofs::Steps::length_range_step, crate::proofs::Steps::range_last, crate::proofs::Steps::length_range_last, crate::proofs::Steps::range_len))]
+#![tactic(auto)]
 
 ghost use Rattle.std.specs.Prelude.{◌≡◌, ◌-◌, ⊤};
 ghost use Rattle.std.specs.List.{range_with_len};
@@ -46,6 +46,7 @@ impl Clone for IndexRange {
     }
 }
 
+#[tactic(auto, using(crate::proofs::Steps::range_step, crate::proofs::Steps::fewer_after))]
 impl Iterator for IndexRange {
     type Item = u32;
 
@@ -67,6 +68,7 @@ impl Iterator for IndexRange {
     }
 }
 
+#[tactic(auto, using(crate::proofs::Steps::range_last, crate::proofs::Steps::fewer_before))]
 impl DoubleEndedIterator for IndexRange {
     ghost next_back_gives = { YieldsLast (λ s. s) };
 
@@ -79,6 +81,7 @@ impl DoubleEndedIterator for IndexRange {
     }
 }
 
+#[tactic(auto, using(crate::proofs::Steps::range_len))]
 impl ExactSizeIterator for IndexRange {
     fn len(&self) -> usize {
         if self.next >= self.end {

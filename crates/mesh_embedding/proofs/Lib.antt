@@ -1,31 +1,39 @@
+-- Lists, and lists of edges to test.
 pub mod Entries
+pub mod WorkLists
+-- Directed edges as pairs of vertices, and outer edges among them.
 pub mod TurnedEnds
 pub mod EdgePairs
 pub mod OwnEdges
 pub mod OuterEdges
-pub mod FaceChanges
 pub mod OuterChanges
 pub mod PairSums
+-- Faces as triples of vertices.
+pub mod FaceChanges
+pub mod FaceSums
+-- A mesh grows: in a face, past the hull, and on a line.
 pub mod MeshEdits
 pub mod MeshExtension
 pub mod MeshLines
 pub mod LineNeighbours
-pub mod MeshDrops
-pub mod MeshLineRemoval
+pub mod MeshLineEnds
+-- The edges round a vertex and the sides opposite it, in the mesh and in the plane.
 pub mod Borders
 pub mod RoundShift
 pub mod MeshStars
-pub mod FaceSums
 pub mod MeshStarFlips
 pub mod StarTurns
+-- A vertex loses its edges, and goes.
 pub mod MeshInnerRemoval
 pub mod MeshHullRemoval
+pub mod MeshLineRemoval
 pub mod MeshVertexLeaves
+pub mod MeshDrops
 pub mod MeshRemovals
-pub mod MeshLineEnds
-pub mod WorkLists
+-- Edges are turned until each passes the circle test.
 pub mod MeshStays
 pub mod MeshLegal
+-- The outer edges are one loop.
 pub mod LowestVertex
 pub mod OutlineRounds
 pub mod OutlineOnLine

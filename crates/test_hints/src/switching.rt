@@ -4,7 +4,7 @@ ghost use Rattle.plane.specs.Fraction.{Point};
 ghost use Rattle.plane.specs.Hint.{IsAtMost, IsAtMostWith, IsAtMostWithout};
 ghost use Rattle.delaunay_core.specs.Held.{place_if};
 ghost use Rattle.delaunay_core.specs.Place.{place_of};
-ghost use Rattle.test_hints.specs.Unions.{IsInAny};
+ghost use Rattle.test_hints.specs.Unions.{IsHeldIn};
 
 use crate::listing::Listing;
 use crate::telling::tell_inserted;
@@ -50,6 +50,29 @@ pub struct Switching<A: Drop, B: Drop, C: Drop, D: Drop, E: Drop> {
 }
 
 impl<A: Drop, B: Drop, C: Drop, D: Drop, E: Drop> Switching<A, B, C, D, E> {
+    // These five, and a new one of each other kind. The one that was last used is asked first.
+    fn of(first: A, second: B, third: C, fourth: D, fifth: E, alloc: Global) -> Self
+        ensures first { result.first ≡ first }
+        ensures second { result.second ≡ second }
+        ensures third { result.third ≡ third }
+        ensures fourth { result.fourth ≡ fourth }
+        ensures fifth { result.fifth ≡ fifth }
+    {
+        Switching {
+            choice: Cell::new(Choice::LastUsed),
+            next: Cell::new(0),
+            last_used: HintGenerator::<i64>::new(alloc),
+            each_in_turn: HintGenerator::<i64>::new(alloc),
+            always: HintGenerator::<i64>::new(alloc),
+            first,
+            second,
+            third,
+            fourth,
+            fifth,
+            listing: HintGenerator::<i64>::new(alloc),
+        }
+    }
+
     /// Asks this one from now on.
     pub fn choose(&self, choice: Choice) {
         self.choice.set(choice);
@@ -86,25 +109,19 @@ impl<
     D: HintGenerator<S>,
     E: HintGenerator<S>,
 > HintGenerator<S> for Switching<A, B, C, D, E> {
-    ghost use Rattle.test_hints.specs.Unions.{IsInAny};
+    ghost use Rattle.test_hints.specs.Unions.{IsHeldIn};
 
-    ghost holds = { λ c. IsInAny (A.holds c.first) (B.holds c.second) (C.holds c.third)
-        (D.holds c.fourth) (E.holds c.fifth) };
+    ghost holds = { IsHeldIn A.holds B.holds C.holds D.holds E.holds };
 
     fn new(alloc: Global) -> Self {
-        Switching {
-            choice: Cell::new(Choice::LastUsed),
-            next: Cell::new(0),
-            last_used: HintGenerator::<S>::new(alloc),
-            each_in_turn: HintGenerator::<S>::new(alloc),
-            always: HintGenerator::<S>::new(alloc),
-            first: A::new(alloc),
-            second: B::new(alloc),
-            third: C::new(alloc),
-            fourth: D::new(alloc),
-            fifth: E::new(alloc),
-            listing: HintGenerator::<S>::new(alloc),
-        }
+        Switching::of(
+            A::new(alloc),
+            B::new(alloc),
+            C::new(alloc),
+            D::new(alloc),
+            E::new(alloc),
+            alloc,
+        )
     }
 
     fn duplicate(&self) -> Self {
@@ -125,8 +142,7 @@ impl<
 
     fn get_hint<P: PlaneTests<S>>(&self, position: Point2<S>, tests: &P) -> FixedVertexHandle
         requires held { IsAtMost (P.sites tests.now)
-            (IsInAny (A.holds self.now.first) (B.holds self.now.second) (C.holds self.now.third)
-            (D.holds self.now.fourth) (E.holds self.now.fifth)) }
+            (IsHeldIn A.holds B.holds C.holds D.holds E.holds self.now) }
         requires covered { P.covered tests.now (place_of S.whole position) }
     {
         match self.asked() {
@@ -158,13 +174,11 @@ impl<
         tests: &P,
     )
         requires held { IsAtMost (P.sites tests.now)
-            (IsInAny (A.holds self.old.first) (B.holds self.old.second) (C.holds self.old.third)
-            (D.holds self.old.fourth) (E.holds self.old.fifth)) }
+            (IsHeldIn A.holds B.holds C.holds D.holds E.holds self.old) }
         requires site { P.sites tests.now (place_of S.whole position) }
-        ensures { IsAtMostWith (IsInAny (A.holds self.old.first) (B.holds self.old.second)
-            (C.holds self.old.third) (D.holds self.old.fourth) (E.holds self.old.fifth))
-            (IsInAny (A.holds self.new.first) (B.holds self.new.second) (C.holds self.new.third)
-            (D.holds self.new.fourth) (E.holds self.new.fifth)) (place_of S.whole position) }
+        ensures { IsAtMostWith (IsHeldIn A.holds B.holds C.holds D.holds E.holds self.old)
+            (IsHeldIn A.holds B.holds C.holds D.holds E.holds self.new)
+            (place_of S.whole position) }
     {
         self.last_used
             .notify_vertex_inserted(vertex, position, tests);
@@ -189,15 +203,12 @@ impl<
         tests: &P,
     )
         requires held { IsAtMost (P.sites tests.now)
-            (IsInAny (A.holds self.old.first) (B.holds self.old.second) (C.holds self.old.third)
-            (D.holds self.old.fourth) (E.holds self.old.fifth)) }
+            (IsHeldIn A.holds B.holds C.holds D.holds E.holds self.old) }
         requires site { P.sites tests.now (place_of S.whole position) }
         requires swapped_site { (p : Point) → place_if S.whole swapped_in_point ≡ Some p →
             P.sites tests.now p }
-        ensures { IsAtMostWithout (IsInAny (A.holds self.old.first) (B.holds self.old.second)
-            (C.holds self.old.third) (D.holds self.old.fourth) (E.holds self.old.fifth))
-            (IsInAny (A.holds self.new.first) (B.holds self.new.second) (C.holds self.new.third)
-            (D.holds self.new.fourth) (E.holds self.new.fifth)) (place_of S.whole position)
+        ensures { IsAtMostWithout (IsHeldIn A.holds B.holds C.holds D.holds E.holds self.old)
+            (IsHeldIn A.holds B.holds C.holds D.holds E.holds self.new) (place_of S.whole position)
             (place_if S.whole swapped_in_point) }
     {
         self.last_used
@@ -223,18 +234,13 @@ impl<
         positions: &[Point2<S>],
         tests: &P,
     ) -> Self {
-        Switching {
-            choice: Cell::new(Choice::LastUsed),
-            next: Cell::new(0),
-            last_used: HintGenerator::<S>::new(alloc),
-            each_in_turn: HintGenerator::<S>::new(alloc),
-            always: HintGenerator::<S>::new(alloc),
-            first: A::initialize_from_triangulation(alloc, positions, tests),
-            second: B::initialize_from_triangulation(alloc, positions, tests),
-            third: C::initialize_from_triangulation(alloc, positions, tests),
-            fourth: D::initialize_from_triangulation(alloc, positions, tests),
-            fifth: E::initialize_from_triangulation(alloc, positions, tests),
-            listing: HintGenerator::<S>::new(alloc),
-        }
+        Switching::of(
+            A::initialize_from_triangulation(alloc, positions, tests),
+            B::initialize_from_triangulation(alloc, positions, tests),
+            C::initialize_from_triangulation(alloc, positions, tests),
+            D::initialize_from_triangulation(alloc, positions, tests),
+            E::initialize_from_triangulation(alloc, positions, tests),
+            alloc,
+        )
     }
 }

@@ -2,6 +2,7 @@
 ghost use Rattle.std.specs.Prelude.{◌≡◌, ◌≢◌, ◌<◌, length, IsTrue, IfSome};
 ghost use Rattle.half_edge_mesh.specs.Mesh.{face, next, origin, prev, rev};
 ghost use Rattle.half_edge_mesh.specs.Peel.{turn};
+ghost use Rattle.half_edge_mesh.specs.Removal.{HasFewEdges};
 
 use crate::lookups::{Mesh, directed, has_edge, has_vertex, is_inner, is_outer, vertex};
 use half_edge_mesh::{
@@ -20,6 +21,26 @@ pub fn swap_remove_vertex<V, DE: Drop, UE: Drop, F>(
     Some(mesh.swap_remove_vertex(vertex))
 }
 
+// Whether a vertex may leave a line: it is between two others, or at an end of two edges or more.
+fn may_leave_line<V, DE, UE, F>(mesh: &Dcel<V, DE, UE, F>, vertex: FixedVertexHandle) -> bool
+    ensures within { IsTrue result → vertex < length mesh.now.vertices }
+    ensures one_face { IsTrue result → length mesh.now.faces ≡ 0 }
+    ensures few { IsTrue result → HasFewEdges mesh.now.mesh vertex }
+{
+    if mesh.num_inner_faces() > 0 || !has_vertex(mesh, vertex) {
+        return false;
+    }
+    let Some(out) = mesh.vertex(vertex).out_edge() else {
+        return false;
+    };
+    if out.ccw().index() == out.index() {
+        return out.next().index() != out.rev().index();
+    }
+    out.ccw().ccw().index() == out.index()
+        && out.to().index() != out.ccw().to().index()
+        && out.prev().index() != out.rev().index()
+}
+
 /// The data of a vertex of a line, which is gone: it was between two others, or at an end of two
 /// edges or more.
 pub fn remove_when_degenerate<V, DE: Drop, UE: Drop, F>(
@@ -27,40 +48,7 @@ pub fn remove_when_degenerate<V, DE: Drop, UE: Drop, F>(
     index: u32,
 ) -> Option<V> {
     let vertex = vertex(index);
-    match remove_from_line(mesh, vertex) {
-        Some(data) => Some(data),
-        None => remove_from_end_of_line(mesh, vertex),
-    }
-}
-
-// Removes a vertex that is between two others of a line.
-fn remove_from_line<V, DE: Drop, UE: Drop, F>(
-    mesh: &mut Dcel<V, DE, UE, F>,
-    vertex: FixedVertexHandle,
-) -> Option<V> {
-    if mesh.num_inner_faces() > 0 || !has_vertex(mesh, vertex) {
-        return None;
-    }
-    let out = mesh.vertex(vertex).out_edge()?;
-    if out.ccw().ccw().index() != out.index()
-        || out.to().index() == out.ccw().to().index()
-        || out.prev().index() == out.rev().index()
-    {
-        return None;
-    }
-    Some(mesh.remove_when_degenerate(vertex))
-}
-
-// Removes a vertex that is at an end of a line of two edges or more.
-fn remove_from_end_of_line<V, DE: Drop, UE: Drop, F>(
-    mesh: &mut Dcel<V, DE, UE, F>,
-    vertex: FixedVertexHandle,
-) -> Option<V> {
-    if mesh.num_inner_faces() > 0 || !has_vertex(mesh, vertex) {
-        return None;
-    }
-    let out = mesh.vertex(vertex).out_edge()?;
-    if out.ccw().index() != out.index() || out.next().index() == out.rev().index() {
+    if !may_leave_line(mesh, vertex) {
         return None;
     }
     Some(mesh.remove_when_degenerate(vertex))

@@ -13,10 +13,10 @@ mod words;
 
 use command::Command;
 
-/// The most bytes that a line has, the byte 10 that ends it left out.
+/// The most bytes that a line has, the newline that ends it left out.
 pub const MAX_LINE: usize = 120;
 
-/// The command that a line spells, the byte 10 that ends it left out. `None` if it spells none.
+/// The command that a line spells, the newline that ends it left out. `None` if it spells none.
 pub fn parse(line: &[u8]) -> Option<Command>
     ensures sound { IfSome result (Spells line.now) }
     ensures complete { IfNone result (SpellsNone line.now) }

@@ -8,7 +8,7 @@ use Rattle.triangulate_run.specs.Run.{IsOneLine}
 abbrev text : List (List ℕ) → List ℕ
 text lines = flat_map (λ line. line ++ 10 ∷ []) lines
 
--- the first line, up to the first byte 10
+-- the first line, up to the first newline
 same_line : (a b x y : List ℕ) → IsOneLine a → IsOneLine b → a ++ (10 ∷ x) ≡ b ++ (10 ∷ y)
     → (a ≡ b) × (x ≡ y)
 same_line [] [] x y h k e = (refl, cc)
@@ -21,7 +21,7 @@ same_line (c ∷ a) (d ∷ b) x y h k e =
     (All-tail (λ (z : ℕ). z ≢ 10) d b k) tail in
     (cc (head, s.0), s.1)
 
--- no line ends in what has no byte 10
+-- no line ends in what has no newline
 no_line : (a x b : List ℕ) → IsOneLine b → a ++ (10 ∷ x) ≡ b → ⊥
 no_line [] x [] k e = cc
 no_line [] x (d ∷ b) k e = All-head (λ (z : ℕ). z ≢ 10) d b k (cc)
@@ -33,7 +33,7 @@ first_of : (line : List ℕ) (lines : List (List ℕ)) (rest : List ℕ)
 first_of line lines rest = append_assoc (line ++ 10 ∷ []) (text lines) rest
     ∙ append_assoc line (10 ∷ []) (text lines ++ rest)
 
--- equal bytes, each cut into lines and a rest without byte 10, are cut into the same lines and rest
+-- equal bytes, each cut into lines and a rest without a newline, have the same lines and rest
 pub same_cut : (lines others : List (List ℕ)) (rest end : List ℕ) → All IsOneLine lines
     → All IsOneLine others → IsOneLine rest → IsOneLine end
     → text lines ++ rest ≡ text others ++ end → (lines ≡ others) × (rest ≡ end)

@@ -48,7 +48,7 @@ consumes_more (Some xs) (Some ys) None s t h k = absurd k
 consumes_more (Some xs) (Some ys) (Some zs) s t h k =
     h ∙ ap (λ us. s ++ us) k ∙ sym (append_assoc s t zs)
 
--- a byte that is read and equal to 10 is byte 10 read
+-- a byte that is read and equal to 10 is a newline read
 pub consumes_break : (a b : Option (List ℕ)) (byte : ℕ) → byte ≡ 10 → Consumes a b (byte ∷ [])
     → Consumes a b (10 ∷ [])
 consumes_break a b byte e h = subst (λ (x : ℕ). Consumes a b (x ∷ [])) e h

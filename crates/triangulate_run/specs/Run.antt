@@ -18,11 +18,11 @@ use Rattle.triangulate_run.specs.Output.{AppendsPart}
 abbrev pub bad_line : List ℕ
 bad_line = codes "bad line\n"
 
--- the line has no byte 10
+-- the line has no newline, which is byte 10
 abbrev pub IsOneLine : List ℕ → Type 0
 IsOneLine line = All (λ b. b ≢ 10) line
 
--- the input is these lines, each with byte 10 behind it, and then this rest without byte 10
+-- the input is these lines, each with a newline behind it, and then this rest without one
 pub record Cut (input : List ℕ) (lines : List (List ℕ)) (rest : List ℕ) : Type 0 where
   pub whole : input ≡ flat_map (λ line. line ++ 10 ∷ []) lines ++ rest
   pub each : All IsOneLine lines
@@ -33,7 +33,7 @@ abbrev pub IsCutInOneWay : Type 0
 IsCutInOneWay = (input : List ℕ) (lines others : List (List ℕ)) (rest end : List ℕ)
     → Cut input lines rest → Cut input others end → (lines ≡ others) × (rest ≡ end)
 
--- what is written at the end of the input, with what stands behind the last byte 10
+-- what is written at the end of the input, with what stands behind the last newline
 abbrev pub end_text : List ℕ → List ℕ
 end_text [] = []
 end_text (byte ∷ rest) = bad_line

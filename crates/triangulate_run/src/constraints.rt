@@ -19,7 +19,7 @@ use std::io::Write;
 use triangulate_watched::{Failed, Watched};
 
 /// Adds the path between two vertices, and writes its edges.
-pub(crate) fn constrain<L: HintGenerator<i64>, P: PlaneTests<i64>, W: Write>(
+pub(crate) fn constrain_and_write<L: HintGenerator<i64>, P: PlaneTests<i64>, W: Write>(
     triangulation: &mut Constrained<L>,
     tests: &P,
     from: FixedVertexHandle,

@@ -9,7 +9,7 @@ ghost use Rattle.triangulate_run.specs.Answer.{AreVertices, IsReplied, MayCount,
 ghost use Rattle.triangulate_run.specs.Answer.{MayJoin, MayList, MayLocate, MayMeasure, MayRelease};
 ghost use Rattle.triangulate_run.specs.Answer.{MayRemove, MayReply, MayWalk, point_at};
 
-use crate::constraints::{constrain, release, release_free};
+use crate::constraints::{constrain_and_write, release, release_free};
 use crate::line::write_line;
 use crate::nearest::{nearest_of_all, nearest_of_plain};
 use crate::points::SheetPoint;
@@ -254,7 +254,7 @@ impl<'a, P: PlaneTests<i64>, L: HintGenerator<i64>> PointEngine<'a, P, L> {
                 write_reply(writer, &Reply::Refused(InsertionError::OutOfMemory))
             }
             Either::Constrained(constrained) => {
-                constrain(constrained, self.tests, from, to, writer)
+                constrain_and_write(constrained, self.tests, from, to, writer)
             }
         }
     }

@@ -55,7 +55,7 @@ pub enum Reply {
     Faces(Vec<Corners>),
 }
 
-/// Writes the reply, each line of it with its byte 10, in one call where the writer takes it whole.
+/// Writes the reply, each line of it with its newline, in one call where the writer takes it whole.
 /// A long list of faces takes more.
 pub(crate) fn write_reply<W: Write>(writer: &mut Watched<W>, reply: &Reply) -> Result<(), Failed>
     requires works { has_failed writer.old ≡ false }

@@ -83,7 +83,7 @@ fn answer<E: Engine, W: Write>(
     writer.flush()
 }
 
-/// Answers what stands behind the last byte 10.
+/// Answers what stands behind the last newline.
 fn finish<W: Write>(line: &LineBuffer, writer: &mut Watched<W>) -> Result<(), Failed>
     requires works { has_failed writer.old ≡ false }
     ensures { (whole : List ℕ) → line.now ≡ kept whole

@@ -1,13 +1,11 @@
-use Rattle.std.proofs.Common.{◌∙◌, ap, sym, subst}
-use Rattle.delaunay_legalization.specs.Constraints.{constraints_by}
+use Rattle.std.proofs.Common.{sym, subst}
 use Rattle.delaunay_legalization.specs.State.{state_of}
-use Rattle.delaunay_edit.specs.Storage.{KeepsImage}
-use Rattle.delaunay_edit.proofs.Copies.{copy_is_counted, same_constraints}
-use Rattle.delaunay_edit.proofs.WellFormed.{is_delaunay}
+use Rattle.delaunay_edit.specs.Storage.{CopiesConstraints, KeepsImage}
+use Rattle.delaunay_edit.proofs.Copies.{copies_constraints, copy_is_counted}
 use Rattle.delaunay_edit.proofs.edited_mesh.EditedMesh.try_clone.Goals as goal
 
-pub invariant_of-result : goal.invariant_of-result
-invariant_of-result g c =
+pub of_mesh-requires : goal.of_mesh-requires
+of_mesh-requires g c =
     let copied = c.in_ok-dcel.ensures.cases in
     copy_is_counted _ g.M.ConstraintMarker.marks _ g.met.M.ConstraintMarker.constraints_are_marked
     g.V.Clone.is_clone g.DE.Clone.is_clone g.UE.Clone.is_clone g.F.Clone.is_clone
@@ -26,10 +24,14 @@ invariant_of-result g c =
     (sym c.self.view_is) c.requires.places)
     _ c.self.invariant
 
-pub returns-clause-constraints : goal.returns-clause-constraints
-returns-clause-constraints g c =
+pub returns-clause-copy : goal.returns-clause-copy
+returns-clause-copy g c =
     let copied = c.in_ok-dcel.ensures.cases in
-    same_constraints g.V.HasPosition.place g.M.ConstraintMarker.marks
+    let Copies = CopiesConstraints g.V.Clone.is_clone g.DE.Clone.is_clone g.UE.Clone.is_clone
+    g.F.Clone.is_clone g.M.ConstraintMarker.constraints in
+    subst (λ s. Copies c.args.self.now s) (sym c.of_mesh.ensures.state)
+    (subst (λ s. Copies s (state_of c.in_ok-dcel.dcel)) c.self.view_is
+    (copies_constraints g.V.HasPosition.place g.M.ConstraintMarker.marks
     g.M.ConstraintMarker.constraints g.met.M.ConstraintMarker.constraints_are_marked
     g.V.Clone.is_clone g.DE.Clone.is_clone g.UE.Clone.is_clone g.F.Clone.is_clone
     (state_of c.self.inside.dcel) (state_of c.in_ok-dcel.dcel)
@@ -42,10 +44,4 @@ returns-clause-constraints g c =
       faces = copied.faces;
     })
     (subst (λ s. KeepsImage g.UE.Clone.is_clone g.M.ConstraintMarker.marks s.undirected)
-    (sym c.self.view_is) c.requires.marks)
-    ∙ ap (λ s. constraints_by g.M.ConstraintMarker.constraints s) c.self.view_is
-
-pub returns-clause-headline : goal.returns-clause-headline
-returns-clause-headline g c = is_delaunay g.V.HasPosition.place g.M.ConstraintMarker.marks
-    g.M.ConstraintMarker.constraints g.met.M.ConstraintMarker.constraints_are_marked
-    (state_of c.in_ok-dcel.dcel) (invariant_of-result g c).legal
+    (sym c.self.view_is) c.requires.marks)))

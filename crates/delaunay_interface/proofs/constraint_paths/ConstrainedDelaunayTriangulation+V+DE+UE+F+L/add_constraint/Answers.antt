@@ -10,17 +10,17 @@ invariant_of-self g c =
     let at = g.V.HasPosition.place in
     held_of_same at
     (g.L.HintGenerator.holds c.self.inside.hint_generator) c.self.inside.edited.vertices
-    c.add_constraint.new.self.vertices
-    (vertices_after_adding at c.self.inside.edited c.add_constraint.new.self c.args.from c.args.to
-    c.add_constraint.result c.add_constraint.ensures.adds) c.self.invariant
+    c.join.new.self.vertices
+    (vertices_after_adding at c.self.inside.edited c.join.new.self c.args.from c.args.to
+    c.join.result c.join.ensures.adds) c.self.invariant
 
-pub add_constraint-requires-clause-free : goal.add_constraint-requires-clause-free
-add_constraint-requires-clause-free g c =
+pub join-requires-clause-free : goal.join-requires-clause-free
+join-requires-clause-free g c =
     subst (λ s. CanAdd g.V.HasPosition.place (constrained s) c.args.from c.args.to)
     (sym c.self.view_is) c.requires.free.free
 
-pub add_constraint-requires-clause-ends : goal.add_constraint-requires-clause-ends
-add_constraint-requires-clause-ends g c =
+pub join-requires-clause-ends : goal.join-requires-clause-ends
+join-requires-clause-ends g c =
     subst (λ s. MayJoin g.V.HasPosition.place
     (g.P.PlaneTests.sites c.args.tests.now) s c.args.from c.args.to)
     (sym c.self.view_is)

@@ -7,13 +7,13 @@ use Rattle.delaunay_interface.proofs.constraint_paths.ConstrainedDelaunayTriangu
 
 pub returns : goal.returns
 returns g c =
-    let tells = subst (λ s. IsTrue c.can_add_constraint.result ↔
+    let tells = subst (λ s. IsTrue c.can_join.result ↔
     CanAdd g.V.HasPosition.place
-    (constrained s) c.args.from c.args.to) c.self.view_is c.can_add_constraint.ensures in
+    (constrained s) c.args.from c.args.to) c.self.view_is c.can_join.ensures in
     ((λ yes. record { free = tells.0 yes }), (λ can. tells.1 can.free))
 
-pub can_add_constraint-requires : goal.can_add_constraint-requires
-can_add_constraint-requires g c =
+pub can_join-requires : goal.can_join-requires
+can_join-requires g c =
     subst (λ s. MayJoin g.V.HasPosition.place
     (g.P.PlaneTests.sites c.args.tests.now) s c.args.from c.args.to)
     (sym c.self.view_is)

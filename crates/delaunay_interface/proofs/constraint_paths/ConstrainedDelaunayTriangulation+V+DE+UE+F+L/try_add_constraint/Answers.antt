@@ -11,19 +11,19 @@ invariant_of-self g c =
     let at = g.V.HasPosition.place in
     held_of_same at
     (g.L.HintGenerator.holds c.self.inside.hint_generator) c.self.inside.edited.vertices
-    c.try_add_constraint.new.self.vertices
-    (vertices_after_path at c.self.inside.edited c.try_add_constraint.new.self c.args.from c.args.to
-    (λ edges. edges.items) c.try_add_constraint.result c.try_add_constraint.ensures.path
-    c.try_add_constraint.ensures.err) c.self.invariant
+    c.join_if_free.new.self.vertices
+    (vertices_after_path at c.self.inside.edited c.join_if_free.new.self c.args.from c.args.to
+    (λ edges. edges.items) c.join_if_free.result c.join_if_free.ensures.path
+    c.join_if_free.ensures.err) c.self.invariant
 
 pub returns-clause-none : goal.returns-clause-none
 returns-clause-none g c =
     subst (λ s. ((c.args.from ≡ c.args.to)
     ⊎ (¬ CanAdd g.V.HasPosition.place (constrained s) c.args.from c.args.to)) →
-    IsOk c.try_add_constraint.result) c.self.view_is c.try_add_constraint.ensures.none
+    IsOk c.join_if_free.result) c.self.view_is c.join_if_free.ensures.none
 
-pub try_add_constraint-requires : goal.try_add_constraint-requires
-try_add_constraint-requires g c =
+pub join_if_free-requires : goal.join_if_free-requires
+join_if_free-requires g c =
     subst (λ s. MayJoin g.V.HasPosition.place
     (g.P.PlaneTests.sites c.args.tests.now) s c.args.from c.args.to)
     (sym c.self.view_is)

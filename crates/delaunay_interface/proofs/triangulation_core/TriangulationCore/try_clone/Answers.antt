@@ -10,8 +10,9 @@ invariant_of-result g c =
     c.in_ok-try_clone.field-0.vertices
     (subst (λ s. KeepsImage g.V.Clone.is_clone g.V.HasPosition.place s.vertices)
     (sym c.self.view_is) c.requires.places)
-    c.in_ok-try_clone.ensures.copy.vertices _ _ c.self.invariant c.generator_of_copy.ensures.holds
+    c.in_ok-try_clone.ensures.copy.copy.vertices _ _ c.self.invariant
+    c.generator_of_copy.ensures.holds
 
 pub returns-clause-constraints : goal.returns-clause-constraints
-returns-clause-constraints g c = c.in_ok-try_clone.ensures.constraints
+returns-clause-constraints g c = c.in_ok-try_clone.ensures.copy.same
     ∙ ap (λ s. constraints_by g.M.ConstraintMarker.constraints s) c.self.view_is

@@ -24,7 +24,7 @@ returns-in-Plain-clause-answered g c =
 
 pub returns-in-Constrained-clause-answered : goal.returns-in-Constrained-clause-answered
 returns-in-Constrained-clause-answered g c =
-    let told = c.constrain.ensures.answered in
+    let told = c.constrain_and_write.ensures.answered in
     let is = c.in-Some.ensures in
     let same = ap stage_of (sym c.in-Constrained.is) ∙ c.take_constraints.ensures.stage in
     (told.0, joins_there _ _ same _ _ _ _ is.0 is.1 _ _ told.1, told.2)

@@ -7,7 +7,7 @@ use Rattle.triangulate_run.specs.Output.{Writes}
 use Rattle.triangulate_run.specs.Reply.{path_text, reply_text}
 use Rattle.triangulate_run.proofs.Paths.{no_edges, some_edges, joins_none, joins_some}
 use Rattle.triangulate_run.proofs.Paths.{joins_refused, edges_within}
-use Rattle.triangulate_run.proofs.constraints.constrain.Goals as goal
+use Rattle.triangulate_run.proofs.constraints.constrain_and_write.Goals as goal
 
 pub returns-then-is_empty-clause-answered : goal.returns-then-is_empty-clause-answered
 returns-then-is_empty-clause-answered g c =

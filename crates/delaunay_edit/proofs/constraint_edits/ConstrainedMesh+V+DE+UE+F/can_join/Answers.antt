@@ -2,7 +2,7 @@ use Rattle.std.proofs.Common.{◌↔◌, subst}
 use Rattle.std.specs.Prelude.{IsTrue}
 use Rattle.plane.specs.Plain.{CanAdd}
 use Rattle.delaunay_edit.specs.Constrained.{constrained}
-use Rattle.delaunay_edit.proofs.constraint_edits.ConstrainedMesh+V+DE+UE+F.can_add_constraint.Goals as goal
+use Rattle.delaunay_edit.proofs.constraint_edits.ConstrainedMesh+V+DE+UE+F.can_join.Goals as goal
 
 pub returns : goal.returns
 returns g c = subst (λ s. IsTrue c.can_add_path.result ↔

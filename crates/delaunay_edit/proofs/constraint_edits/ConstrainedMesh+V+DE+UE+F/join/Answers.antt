@@ -4,7 +4,7 @@ use Rattle.delaunay_edit.specs.Constrained.{constraints_of}
 use Rattle.delaunay_edit.specs.Counting.{HasPairs, IsMissing}
 use Rattle.delaunay_edit.proofs.EditingConstraints.{nothing_added, path_added}
 use Rattle.delaunay_edit.proofs.OnePieceAdded.{edge_told, none_missing, some_missing}
-use Rattle.delaunay_edit.proofs.constraint_edits.ConstrainedMesh+V+DE+UE+F.add_constraint.Goals as goal
+use Rattle.delaunay_edit.proofs.constraint_edits.ConstrainedMesh+V+DE+UE+F.join.Goals as goal
 
 pub returns-in-Some-clause-adds : goal.returns-in-Some-clause-adds
 returns-in-Some-clause-adds g c =
