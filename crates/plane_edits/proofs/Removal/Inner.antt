@@ -19,7 +19,7 @@ use Rattle.plane.proofs.BracketIdentities.{bracket-turn, bracket-swap, bracket-o
 use Rattle.plane_tiling.proofs.Flows.{IsTurnOf}
 use Rattle.plane_tiling.proofs.Counting.{at, SignMesh}
 use Rattle.plane_tiling.proofs.Covering as C
-use Rattle.plane_edits.proofs.Removal.Star.{IsAgain, AreApart, apart_later}
+use Rattle.plane_edits.proofs.Removal.Star.{IsAgain, AreOneToOne, apart_later}
 use Rattle.plane_edits.proofs.Removal.Opposite as O
 use Rattle.plane.proofs.Signs.{zero_below_positive, positive_plus_not_negative}
 use Rattle.plane.proofs.Signs.{difference_is_positive, difference_not_negative}
@@ -122,7 +122,7 @@ module _ (n : ℕ) (p : ℕ → Point) (faces : List Face) (outer : List (ℕ ×
   pub record IsCycle (nb : ℕ → ℕ) (k : ℕ) : Type 0 where
     pub round : IsRound nb
     pub again : IsAgain nb k
-    pub apart : AreApart nb k
+    pub apart : AreOneToOne nb k
 
   opposite : (nb : ℕ → ℕ) (k j : ℕ) → IsCycle nb k → 2 ≤ j → j + 2 ≤ k
       → turn (nb 0) (nb 2) ≤ℤ pos 0 → turn (nb j) (nb (suc (suc j))) ≤ℤ pos 0 → IsFour nb k 0

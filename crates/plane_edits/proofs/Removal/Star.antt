@@ -1,6 +1,6 @@
 -- Round a vertex: its neighbours may be counted from any of them, and the half-open angles of two
 -- faces at the vertex share no point.
--- Notions: IsAgain, AreApart, apart_later; IsInAngle, same_angle.
+-- Notions: IsAgain, AreOneToOne, apart_later; IsInAngle, same_angle.
 use Rattle.std.proofs.Common.{◌≡◌, ◌⊎◌, ◌<◌, suc, ℕ, List, [], ◌∷◌, refl, sym, ap, ◌∙◌, subst, arith}
 use mathlib.Core.Logic.{inl, inr, ◌≢◌}
 use Rattle.std.specs.Prelude.{ℤ, pos, ◌+ℤ◌, ◌-ℤ◌, ◌*ℤ◌, ◌≤ℤ◌, ◌<ℤ◌, neg_ℤ}
@@ -26,12 +26,12 @@ use Rattle.plane.proofs.Signs.{positive_plus_not_negative, times_one}
 abbrev pub IsAgain : (ℕ → ℕ) → ℕ → Type 0
 IsAgain nb k = (i : ℕ) → nb (i + k) ≡ nb i
 
-abbrev pub AreApart : (ℕ → ℕ) → ℕ → Type 0
-AreApart nb k = (i j : ℕ) → i < k → j < k → nb i ≡ nb j → i ≡ j
+abbrev pub AreOneToOne : (ℕ → ℕ) → ℕ → Type 0
+AreOneToOne nb k = (i j : ℕ) → i < k → j < k → nb i ≡ nb j → i ≡ j
 
 -- nor does it where it begins one step later
-pub apart_later : (nb : ℕ → ℕ) (k : ℕ) → IsAgain nb k → AreApart nb k
-    → AreApart (λ i. nb (suc i)) k
+pub apart_later : (nb : ℕ → ℕ) (k : ℕ) → IsAgain nb k → AreOneToOne nb k
+    → AreOneToOne (λ i. nb (suc i)) k
 apart_later nb k again apart i j hi hj e = elim (cases_eq (suc i) k) [
   | inl a ↦ elim (cases_eq (suc j) k) [
     | inl b ↦ omega arith
