@@ -86,28 +86,12 @@ impl<S: SpadeNum> RectangleMetric<S> {
         ensures { IsTrue result ↔ InClosedRectangle (place_of S.whole self.now.lower)
             (place_of S.whole self.now.upper) (fraction (place_of S.whole point)) }
     {
-        is_between(self.lower.x, self.upper.x, point.x)
-            && is_between(self.lower.y, self.upper.y, point.y)
+        is_in_bounds(self.lower.x, self.upper.x, point.x)
+            && is_in_bounds(self.lower.y, self.upper.y, point.y)
     }
 
-    // Whether the ranges meet, and the corners are not all strictly on one side.
-    fn meets_by_sides<P: PlaneTests<S>>(&self, from: Point2<S>, to: Point2<S>, tests: &P) -> bool
-        requires own_covered { All (P.covered tests.now)
-            (corners (place_of S.whole self.now.lower) (place_of S.whole self.now.upper)) }
-        requires start_covered { P.covered tests.now (place_of S.whole from) }
-        requires end_covered { P.covered tests.now (place_of S.whole to) }
-        ensures { let l = place_of S.whole self.now.lower in
-            let u = place_of S.whole self.now.upper in
-            IsTrue result ↔ ((¬ IsReversed l u) × MeetsRectangle l u (place_of S.whole from)
-            (place_of S.whole to)) }
-    {
-        !self.is_reversed()
-            && range_meets(self.lower.x, self.upper.x, from.x, to.x)
-            && range_meets(self.lower.y, self.upper.y, from.y, to.y)
-            && self.touches_line(from, to, tests)
-    }
-
-    // Whether an end is in the rectangle, which is soon told, or the edge meets it by the sides.
+    // Whether an edge meets the rectangle: an end is in it, which is soon told, or the ranges meet
+    // and the corners are not all strictly on one side.
     fn meets<P: PlaneTests<S>>(&self, from: Point2<S>, to: Point2<S>, tests: &P) -> bool
         requires own_covered { All (P.covered tests.now)
             (corners (place_of S.whole self.now.lower) (place_of S.whole self.now.upper)) }
@@ -118,11 +102,16 @@ impl<S: SpadeNum> RectangleMetric<S> {
             IsTrue result ↔ ((¬ IsReversed l u) × MeetsRectangle l u (place_of S.whole from)
             (place_of S.whole to)) }
     {
-        self.has(from) || self.has(to) || self.meets_by_sides(from, to, tests)
+        self.has(from)
+            || self.has(to)
+            || (!self.is_reversed()
+                && range_meets(self.lower.x, self.upper.x, from.x, to.x)
+                && range_meets(self.lower.y, self.upper.y, from.y, to.y)
+                && self.touches_line(from, to, tests))
     }
 }
 
-fn is_between<S: SpadeNum>(low: S, high: S, a: S) -> bool
+fn is_in_bounds<S: SpadeNum>(low: S, high: S, a: S) -> bool
     ensures { IsTrue result ↔ ((S.whole low ≤ℤ S.whole a) × (S.whole a ≤ℤ S.whole high)) }
 {
     low.to_i64() <= a.to_i64() && a.to_i64() <= high.to_i64()
