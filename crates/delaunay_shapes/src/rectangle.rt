@@ -90,24 +90,8 @@ impl<S: SpadeNum> RectangleMetric<S> {
             && is_in_bounds(self.lower.y, self.upper.y, point.y)
     }
 
-    // Whether the ranges meet, and the corners are not all strictly on one side.
-    fn meets_by_sides<P: PlaneTests<S>>(&self, from: Point2<S>, to: Point2<S>, tests: &P) -> bool
-        requires own_covered { All (P.covered tests.now)
-            (corners (place_of S.whole self.now.lower) (place_of S.whole self.now.upper)) }
-        requires start_covered { P.covered tests.now (place_of S.whole from) }
-        requires end_covered { P.covered tests.now (place_of S.whole to) }
-        ensures { let l = place_of S.whole self.now.lower in
-            let u = place_of S.whole self.now.upper in
-            IsTrue result ↔ ((¬ IsReversed l u) × MeetsRectangle l u (place_of S.whole from)
-            (place_of S.whole to)) }
-    {
-        !self.is_reversed()
-            && range_meets(self.lower.x, self.upper.x, from.x, to.x)
-            && range_meets(self.lower.y, self.upper.y, from.y, to.y)
-            && self.touches_line(from, to, tests)
-    }
-
-    // Whether an end is in the rectangle, which is soon told, or the edge meets it by the sides.
+    // Whether an edge meets the rectangle: an end is in it, which is soon told, or the ranges meet
+    // and the corners are not all strictly on one side.
     fn meets<P: PlaneTests<S>>(&self, from: Point2<S>, to: Point2<S>, tests: &P) -> bool
         requires own_covered { All (P.covered tests.now)
             (corners (place_of S.whole self.now.lower) (place_of S.whole self.now.upper)) }
@@ -118,7 +102,12 @@ impl<S: SpadeNum> RectangleMetric<S> {
             IsTrue result ↔ ((¬ IsReversed l u) × MeetsRectangle l u (place_of S.whole from)
             (place_of S.whole to)) }
     {
-        self.has(from) || self.has(to) || self.meets_by_sides(from, to, tests)
+        self.has(from)
+            || self.has(to)
+            || (!self.is_reversed()
+                && range_meets(self.lower.x, self.upper.x, from.x, to.x)
+                && range_meets(self.lower.y, self.upper.y, from.y, to.y)
+                && self.touches_line(from, to, tests))
     }
 }
 
