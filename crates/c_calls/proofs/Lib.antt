@@ -8,6 +8,7 @@ pub mod Telling
 pub mod Marks
 pub mod Sides
 pub mod Found
+pub mod Walked
 pub mod Released
 pub mod Listed
 pub mod Numbers

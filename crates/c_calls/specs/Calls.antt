@@ -4,6 +4,7 @@ use Rattle.c_calls.specs.declared.kept.KeptPoints.{KeptPoints}
 use Rattle.c_calls.specs.declared.raw.RawCounts.{RawCounts}
 use Rattle.c_calls.specs.declared.raw.RawEdge.{RawEdge}
 use Rattle.c_calls.specs.declared.raw.RawFace.{RawFace}
+use Rattle.c_calls.specs.declared.raw.RawMeeting.{RawMeeting}
 use Rattle.c_calls.specs.declared.raw.RawPlace.{RawPlace}
 use Rattle.c_calls.specs.declared.raw.RawPoint.{RawPoint}
 use Rattle.c_calls.specs.declared.shapes.RawCircle.{RawCircle}
@@ -12,7 +13,7 @@ use Rattle.c_calls.specs.declared.statuses.TheConstants.{ALREADY_OPEN, CLOSED, W
 use Rattle.c_calls.specs.Answers.{OpensAt}
 use Rattle.c_calls.specs.Kept.{CountsKept, kept_drawing, kept_links, kept_state, kept_vertices}
 use Rattle.c_calls.specs.Queries.{FindsEdgesInCircle, FindsEdgesInRectangle, FindsKeptNearest}
-use Rattle.c_calls.specs.Queries.{FindsVerticesInCircle, FindsVerticesInRectangle}
+use Rattle.c_calls.specs.Queries.{FindsLine, FindsVerticesInCircle, FindsVerticesInRectangle}
 use Rattle.c_calls.specs.Queries.{IsKeptPlace, ListsEdges, ListsFaces, ListsNumbers}
 use Rattle.c_calls.specs.Queries.{ListsPositions}
 use Rattle.c_calls.specs.Written.{Answering}
@@ -71,6 +72,12 @@ raw_circle center radius_2 = record { center = center; radius_2 = radius_2 }
 
 abbrev pub raw_rectangle : RawPoint → RawPoint → RawRectangle
 raw_rectangle lower upper = record { lower = lower; upper = upper }
+
+abbrev pub TellsLine : Option KeptPoints → RawPoint → RawPoint → ℕ → ℕ → ℕ → List RawMeeting
+    → List RawMeeting → Type 0
+TellsLine kept from to status was told old new = AsksOpen ((new ≡ old) × (told ≡ was))
+    (λ k. FindsLine (kept_drawing k) (kept_state k).constraints from to status was told old new)
+    status kept
 
 abbrev pub TellsVerticesInCircle : Option KeptPoints → RawCircle → ℕ → ℕ → ℕ → List ℕ → List ℕ
     → Type 0

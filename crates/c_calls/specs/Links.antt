@@ -10,6 +10,7 @@ use Rattle.delaunay_lines.specs.declared.intersection.Intersection.TheVariants.{
 use Rattle.delaunay_lines.specs.declared.intersection.Intersection.TheVariants.{VertexIntersection}
 use Rattle.delaunay_lines.specs.declared.intersection.Intersection.TheVariants.{EdgeOverlap}
 use Rattle.c_calls.specs.declared.lines.TheConstants.{AT_VERTEX, ACROSS_EDGE, ALONG_EDGE}
+use Rattle.c_calls.specs.declared.raw.RawEdge.{RawEdge}
 use Rattle.c_calls.specs.declared.raw.RawFace.{RawFace}
 use Rattle.c_calls.specs.declared.raw.RawMeeting.{RawMeeting}
 use Rattle.c_calls.specs.Queries.{face_number}

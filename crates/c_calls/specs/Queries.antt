@@ -1,8 +1,10 @@
 -- What queries of a triangulation that C keeps answer.
-use Rattle.std.specs.Prelude.{◌≡◌, ◌⊎◌, ◌-◌, ◌/◌, ◌<ℤ◌, ◌≤ℤ◌, ◌==◌, if◌then◌else◌}
-use Rattle.std.specs.Prelude.{ℕ, pos, List, length, map, Some, slice_get, IsSomeAnd}
+use Rattle.std.specs.Prelude.{◌≡◌, ◌⊎◌, ◌-◌, ◌/◌, ◌<◌, ◌<ℤ◌, ◌≤ℤ◌, ◌==◌, if◌then◌else◌}
+use Rattle.std.specs.Prelude.{ℕ, ℤ, pos, List, length, map, Some, slice_get, IsSomeAnd}
+use Rattle.std.specs.List.{AllZip}
 use Rattle.half_edge_mesh.specs.Mesh.{Mesh}
 use Rattle.plane.specs.Fraction.{Point, Fraction, whole}
+use Rattle.plane.specs.Line.{Item, at_vertex, across, along, IsLineList}
 use Rattle.plane.specs.Pairs.{Joins}
 use Rattle.plane.specs.Shape.{IsNearest, InClosedCircle, InClosedRectangle}
 use Rattle.plane.specs.Tiling.{Face, Triangulation, HasFace, face}
@@ -20,18 +22,20 @@ use Rattle.delaunay_location.specs.declared.position_in_triangulation.PositionIn
 use Rattle.c_calls.specs.declared.raw.NumberedPoint.{NumberedPoint}
 use Rattle.c_calls.specs.declared.raw.RawEdge.{RawEdge}
 use Rattle.c_calls.specs.declared.raw.RawFace.{RawFace}
+use Rattle.c_calls.specs.declared.raw.RawMeeting.{RawMeeting}
 use Rattle.c_calls.specs.declared.raw.RawPlace.{RawPlace}
 use Rattle.c_calls.specs.declared.raw.RawPoint.{RawPoint}
 use Rattle.c_calls.specs.declared.kept.KeptPoints.{KeptPoints}
 use Rattle.c_calls.specs.declared.kept.KeptPoints.TheVariants.{Plain, Constrained}
 use Rattle.c_calls.specs.declared.queries.TheConstants.{ON_VERTEX, ON_EDGE, IN_FACE, OUTSIDE}
 use Rattle.c_calls.specs.declared.queries.TheConstants.{NOWHERE}
+use Rattle.c_calls.specs.declared.lines.TheConstants.{AT_VERTEX, ACROSS_EDGE, ALONG_EDGE}
 use Rattle.c_calls.specs.declared.shapes.RawCircle.{RawCircle}
 use Rattle.c_calls.specs.declared.shapes.RawRectangle.{RawRectangle}
 use Rattle.c_calls.specs.declared.statuses.TheConstants.{IS_CONSTRAINED, NEGATIVE, NONE}
 use Rattle.c_calls.specs.declared.statuses.TheConstants.{OUT_OF_MEMORY, TOO_LARGE}
 use Rattle.c_calls.specs.Kept.{kept_place}
-use Rattle.c_calls.specs.Written.{Answering, Finding, IsRawInRange, Listing}
+use Rattle.c_calls.specs.Written.{Answering, Finding, IsRawInRange, Listing, Tells}
 use Rattle.c_calls.specs.Written.{plain_point}
 
 -- ---- all vertices
@@ -195,3 +199,38 @@ abbrev pub FindsEdgesInRectangle : Triangulation → Mesh → RawRectangle → �
 FindsEdgesInRectangle t m r status was told old new =
     Finding (MayAskRectangle r) (AreEdgesInShape (rectangle_of r) t.points m)
     (RefusesRectangle r) status was told old new
+
+-- ---- what a line meets
+-- what C is told of an item, where these pairs are constraints
+abbrev pub IsMeeting : List (ℕ × ℕ) → Item → RawMeeting → Type 0
+IsMeeting constraints (at_vertex i) m =
+    m ≡ record { kind = AT_VERTEX; from = i; to = i; constrained = 0 }
+IsMeeting constraints (across i j) m = (m.kind ≡ ACROSS_EDGE) × (m.from ≡ i) × (m.to ≡ j)
+    × IsMark constraints i j m.constrained
+IsMeeting constraints (along i j) m = (m.kind ≡ ALONG_EDGE) × (m.from ≡ i) × (m.to ≡ j)
+    × IsMark constraints i j m.constrained
+
+-- a call tells of these items, in their order
+abbrev pub TellsItems : List (ℕ × ℕ) → List Item → ℕ → ℕ → List RawMeeting → List RawMeeting
+    → Type 0
+TellsItems constraints items status told old new =
+    (meetings : List RawMeeting) × AllZip (IsMeeting constraints) items meetings
+    × Tells meetings status told old new
+
+-- a segment may be asked about
+abbrev pub MayAskLine : RawPoint → RawPoint → Type 0
+MayAskLine from to = IsRawInRange from × IsRawInRange to
+
+-- what C is told of what a segment meets: the line list
+abbrev pub AreMeetings : Triangulation → List (ℕ × ℕ) → RawPoint → RawPoint → List RawMeeting
+    → Type 0
+AreMeetings t constraints from to meetings =
+    (items : List Item) × IsLineList t (whole (plain_point from)) (whole (plain_point to)) items
+    × AllZip (IsMeeting constraints) items meetings
+
+-- a query for what a segment meets
+abbrev pub FindsLine : Triangulation → List (ℕ × ℕ) → RawPoint → RawPoint → ℕ → ℕ → ℕ
+    → List RawMeeting → List RawMeeting → Type 0
+FindsLine t constraints from to status was told old new =
+    Finding (MayAskLine from to) (AreMeetings t constraints from to)
+    (λ reason. (reason ≡ TOO_LARGE) × ¬ MayAskLine from to) status was told old new

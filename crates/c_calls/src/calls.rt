@@ -1,8 +1,7 @@
 //! The calls that open, close and read what a handle has.
-ghost use Rattle.std.specs.Prelude.{◌≡◌, None, IfNone};
-ghost use Rattle.c_calls.specs.declared.statuses.TheConstants.{CLOSED};
+ghost use Rattle.std.specs.Prelude.{◌≡◌, None};
 ghost use Rattle.c_calls.specs.Calls.{OpensClosed, TellsCounts, TellsEdges, TellsEdgesInCircle};
-ghost use Rattle.c_calls.specs.Calls.{TellsEdgesInRectangle, TellsFaces};
+ghost use Rattle.c_calls.specs.Calls.{TellsEdgesInRectangle, TellsFaces, TellsLine};
 ghost use Rattle.c_calls.specs.Calls.{TellsNearest, TellsNumbers, TellsPlaces, TellsPositions};
 ghost use Rattle.c_calls.specs.Calls.{TellsVerticesInCircle, TellsVerticesInRectangle};
 
@@ -149,7 +148,8 @@ impl Handle {
         length: &mut usize,
     ) -> u32
         ensures kept { self.new.kept ≡ self.old.kept }
-        ensures closed { IfNone self.old.kept (result ≡ CLOSED) }
+        ensures meetings { TellsLine self.old.kept from.now to.now result length.old length.new
+            meetings.old meetings.new }
     {
         let Some(kept) = self.take(alloc) else {
             return CLOSED;

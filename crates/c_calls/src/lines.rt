@@ -1,18 +1,25 @@
 //! What a segment meets.
-ghost use Rattle.std.specs.Prelude.{◌≡◌};
-ghost use Rattle.delaunay_legalization.specs.State.{state_of};
+ghost use Rattle.std.specs.Prelude.{◌≡◌, ◌↔◌, List, IsTrue};
+ghost use Rattle.plane.specs.Line.{Item};
+ghost use Rattle.delaunay_legalization.specs.Constraints.{constraints_by};
+ghost use Rattle.delaunay_legalization.specs.Shape.{IsTriangulated};
+ghost use Rattle.delaunay_legalization.specs.State.{state_of, triangulation_of};
+ghost use Rattle.delaunay_lines.specs.Walk.{AreLeft, IsReady};
+ghost use Rattle.c_calls.specs.Kept.{kept_drawing, kept_place, kept_state};
 ghost use Rattle.c_calls.specs.Links.{IsMetEdge, IsRawMeeting};
+ghost use Rattle.c_calls.specs.Queries.{FindsLine, MayAskLine, TellsItems};
 
 use crate::kept::KeptPoints;
 use crate::lists::raw_edge;
-use crate::queries::point_of;
+use crate::queries::{is_in_range, point_of};
 use crate::raw::{NumberedPoint, RawMeeting, RawPoint};
 use crate::statuses::TOO_LARGE;
 use crate::told::{put, status_by_room};
 use exact_predicates::ExactTests;
 use spade_delaunay::handles::DirectedEdgeHandle;
 use spade_delaunay::{
-    ConstraintMarker, Intersection, LineIntersectionIterator, Triangulation, validate_vertex,
+    ConstraintMarker, HasPosition, Intersection, LineIntersectionIterator, PlaneTests,
+    Triangulation,
 };
 
 pub const AT_VERTEX: u32 = 0;
@@ -58,6 +65,36 @@ fn raw_meeting<M: ConstraintMarker<UE>, V, DE, UE, F>(
     }
 }
 
+// Writes what a line meets, as far as there is room, and how much that is.
+fn write_meetings<M: ConstraintMarker<UE>, V: HasPosition, DE, UE, F, P: PlaneTests<V::Scalar>>(
+    line: &mut LineIntersectionIterator<'_, V, DE, UE, F, P>,
+    meetings: &mut [RawMeeting],
+    length: &mut usize,
+) -> u32
+    requires kept { IsTriangulated V.place (state_of line.old.dcel.now) }
+    requires ready { IsReady V.place V.Scalar.whole P.sites P.covered line.old }
+    ensures { (items : List Item) → AreLeft V.place V.Scalar.whole line.old items
+        → TellsItems (constraints_by M.constraints (state_of line.old.dcel.now)) items result
+        length.new meetings.old meetings.new }
+{
+    // No more items come than these.
+    let _most = line.left;
+    let mut count = 0usize;
+    while let Some(item) = line.next() {
+        put(meetings, count, raw_meeting::<M, _, _, _, _>(item));
+        count += 1;
+    }
+    *length = count;
+    status_by_room(meetings.len(), count)
+}
+
+// Whether a segment may be asked about.
+fn may_ask_line(from: &RawPoint, to: &RawPoint) -> bool
+    ensures { IsTrue result ↔ MayAskLine from.now to.now }
+{
+    is_in_range(from) && is_in_range(to)
+}
+
 // Writes what a segment meets, as far as there is room, and how much that is.
 fn write_met<T: Triangulation<Vertex = NumberedPoint>>(
     points: &T,
@@ -65,22 +102,18 @@ fn write_met<T: Triangulation<Vertex = NumberedPoint>>(
     to: &RawPoint,
     meetings: &mut [RawMeeting],
     length: &mut usize,
-) -> u32 {
-    let (from, to) = (point_of(from), point_of(to));
-    if validate_vertex(&from).is_err() || validate_vertex(&to).is_err() {
+) -> u32
+    ensures { FindsLine (triangulation_of kept_place (T.state points.now))
+        (constraints_by T.Constraints.constraints (T.state points.now)) from.now to.now result
+        length.old length.new meetings.old meetings.new }
+{
+    if !may_ask_line(from, to) {
         return TOO_LARGE;
     }
-    let mut count = 0usize;
-    for item in LineIntersectionIterator::new(points, from, to, &ExactTests) {
-        put(
-            meetings,
-            count,
-            raw_meeting::<T::Constraints, _, _, _, _>(item),
-        );
-        count = count.wrapping_add(1);
-    }
-    *length = count;
-    status_by_room(meetings.len(), count)
+    points.recall_invariant();
+    let (start, end) = (point_of(from), point_of(to));
+    let mut line = LineIntersectionIterator::new(points, start, end, &ExactTests);
+    write_meetings::<T::Constraints, _, _, _, _, _>(&mut line, meetings, length)
 }
 
 impl KeptPoints {
@@ -91,7 +124,10 @@ impl KeptPoints {
         to: &RawPoint,
         meetings: &mut [RawMeeting],
         length: &mut usize,
-    ) -> u32 {
+    ) -> u32
+        ensures { FindsLine (kept_drawing self.now) (kept_state self.now).constraints from.now
+            to.now result length.old length.new meetings.old meetings.new }
+    {
         match self {
             KeptPoints::Plain(points) => write_met(points, from, to, meetings, length),
             KeptPoints::Constrained(points) => write_met(points, from, to, meetings, length),

@@ -1,8 +1,7 @@
 //! The calls that open, close and read a triangulation, and those without one that C keeps.
-ghost use Rattle.std.specs.Prelude.{◌≡◌, None, IfNone};
-ghost use Rattle.c_calls.specs.declared.statuses.TheConstants.{CLOSED};
+ghost use Rattle.std.specs.Prelude.{◌≡◌, None};
 ghost use Rattle.c_calls.specs.Calls.{OpensClosed, TellsCounts, TellsEdges, TellsEdgesInCircle};
-ghost use Rattle.c_calls.specs.Calls.{TellsEdgesInRectangle, TellsFaces};
+ghost use Rattle.c_calls.specs.Calls.{TellsEdgesInRectangle, TellsFaces, TellsLine};
 ghost use Rattle.c_calls.specs.Calls.{TellsNearest, TellsNumbers, TellsPlaces, TellsPositions};
 ghost use Rattle.c_calls.specs.Calls.{TellsVerticesInCircle, TellsVerticesInRectangle, raw_circle};
 ghost use Rattle.c_calls.specs.Calls.{raw_rectangle};
@@ -141,7 +140,8 @@ pub extern "C" fn tevasulim_line(
     length: &mut usize,
 ) -> u32
     ensures kept { handle.new.kept ≡ handle.old.kept }
-    ensures closed { IfNone handle.old.kept (result ≡ CLOSED) }
+    ensures meetings { TellsLine handle.old.kept from.now to.now result length.old length.new
+        meetings.old meetings.new }
 {
     handle.line(alloc, from, to, meetings, length)
 }

@@ -1,0 +1,70 @@
+use Rattle.std.proofs.Common.{◌≡◌, ◌∙◌, ◌+◌, List, length, set, sym, ap, subst, arith}
+use Rattle.delaunay_legalization.specs.Constraints.{constraints_by}
+use Rattle.delaunay_legalization.specs.State.{state_of}
+use Rattle.c_calls.specs.declared.raw.RawMeeting.{RawMeeting}
+use Rattle.c_calls.specs.Queries.{IsMeeting}
+use Rattle.c_calls.proofs.Telling.{all_told}
+use Rattle.c_calls.proofs.Walked.{IsToldOf, item_mesh, item_more, meeting_of, walk_begins}
+use Rattle.c_calls.proofs.Walked.{walk_ends, walk_goes_on}
+use Rattle.c_calls.proofs.lines.write_meetings.Goals as goal
+
+pub loop-item-init : goal.loop-item-init
+loop-item-init g c =
+    let at = g.V.HasPosition.place in
+    let whole = g.V.Scalar.SpadeNum.whole in
+    let line = c.args.line.now in
+    let R = IsMeeting (constraints_by g.M.ConstraintMarker.constraints
+    (state_of line.dcel.now)) in
+    record { ready = c.requires.ready; so_far = walk_begins at whole R line c.args.meetings.now }
+
+pub overflow_add-count : goal.overflow_add-count
+overflow_add-count g c =
+    let at = g.V.HasPosition.place in
+    let whole = g.V.Scalar.SpadeNum.whole in
+    let line = c.args.line.now in
+    let R = IsMeeting (constraints_by g.M.ConstraintMarker.constraints
+    (state_of line.dcel.now)) in
+    let more = item_more at whole R line c.loop-item.line c.loop-item.count
+    c.args.meetings.now c.loop-item.meetings c.loop-item.invariant.so_far c.next.new.self
+    c.in-Some.item c.in-Some.ensures.steps c.requires.ready.items c.requires.ready.are_left in
+    let few = c.requires.ready.few in
+    omega (arith, more, few)
+
+pub loop-item-preserved : goal.loop-item-preserved
+loop-item-preserved g c =
+    let at = g.V.HasPosition.place in
+    let whole = g.V.Scalar.SpadeNum.whole in
+    let line = c.args.line.now in
+    let R = IsMeeting (constraints_by g.M.ConstraintMarker.constraints
+    (state_of line.dcel.now)) in
+    let mesh = item_mesh at whole R line c.loop-item.line c.loop-item.count
+    c.args.meetings.now c.loop-item.meetings c.loop-item.invariant.so_far c.next.new.self
+    c.in-Some.item c.in-Some.ensures.steps c.requires.ready.items c.requires.ready.are_left in
+    record {
+      ready = c.in-Some.ensures.goes.keeps;
+      so_far = subst (λ (now : List RawMeeting). IsToldOf at whole R line c.next.new.self
+          (c.loop-item.count + 1) c.args.meetings.now now) (sym c.put.ensures)
+          (walk_goes_on at whole R line c.loop-item.line c.loop-item.count
+          c.args.meetings.now c.loop-item.meetings c.loop-item.invariant.so_far c.next.new.self
+          c.in-Some.item c.in-Some.ensures.steps c.raw_meeting.result
+          (meeting_of at g.M.ConstraintMarker.marks g.M.ConstraintMarker.constraints
+          g.met.M.ConstraintMarker.constraints_are_marked line.dcel c.requires.kept c.in-Some.item
+          c.raw_meeting.result mesh c.raw_meeting.ensures));
+    }
+
+pub returns : goal.returns
+returns g c = λ items left.
+    let at = g.V.HasPosition.place in
+    let whole = g.V.Scalar.SpadeNum.whole in
+    let line = c.args.line.now in
+    let R = IsMeeting (constraints_by g.M.ConstraintMarker.constraints
+    (state_of line.dcel.now)) in
+    let all = walk_ends at whole R line c.loop-item.line c.loop-item.count
+    c.args.meetings.now c.loop-item.meetings c.loop-item.invariant.so_far c.next.new.self
+    c.in_default.ensures.steps items left in (
+      all.0,
+      all.1,
+      all_told all.0 (length c.loop-item.meetings) c.loop-item.count c.status_by_room.result
+          c.args.meetings.now c.loop-item.meetings c.loop-item.auto.meetings all.2
+          c.status_by_room.ensures,
+    )
