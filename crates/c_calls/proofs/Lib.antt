@@ -1,17 +1,20 @@
+-- Handles, and the machine values behind them.
 pub mod Values
 pub mod Handles
-pub mod Corners
+pub mod Opened
+-- How edits ended.
 pub mod Inserted
 pub mod Edited
+pub mod Listed
+pub mod Released
+pub mod Chains
+pub mod Numbers
+pub mod Texts
+-- What queries tell, place by place.
 pub mod Writing
 pub mod Telling
 pub mod Marks
 pub mod Sides
+pub mod Corners
 pub mod Found
 pub mod Walked
-pub mod Released
-pub mod Listed
-pub mod Numbers
-pub mod Chains
-pub mod Texts
-pub mod Opened

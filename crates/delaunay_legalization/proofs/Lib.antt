@@ -1,24 +1,29 @@
+-- What answers to tests say of points, and what follows from the shape of a mesh.
 pub mod Between
 pub mod Shapes
 pub mod Questions
 pub mod ElementCounts
+pub mod MeshParts
+-- Which edges are constraints.
 pub mod Constraints
+pub mod ConstraintEdges
+pub mod MarkedPairs
+-- Flips until no edge fails: the work list, each step, and the end.
 pub mod Legalizing
 pub mod WorkList
-pub mod ConstraintEdges
+pub mod Stepping
 pub mod Flips
+-- The edges of a vertex, one after another.
 pub mod Rounds
+pub mod Spokes
 pub mod Pushing
+-- Which edges a flip leaves to test.
 pub mod Stars
-pub mod MeshParts
-pub mod MarkedPairs
 pub mod FarSides
 pub mod OppositeSides
-pub mod AmongSteps
-pub mod AmongSides
-pub mod Stepping
-pub mod Spokes
 pub mod OppositeTurns
 pub mod OppositeQuestions
+pub mod AmongSteps
+pub mod AmongSides
 pub mod RoundLists
 pub mod RoundSteps

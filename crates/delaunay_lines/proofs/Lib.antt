@@ -1,10 +1,13 @@
+-- What a segment meets first.
 pub mod SegmentTests
+pub mod Located
+pub mod FirstItems
+pub mod OutsideItems
+pub mod EitherWay
+-- From one item to the next.
 pub mod MeshSteps
 pub mod Advance
 pub mod Turn
-pub mod FirstItems
-pub mod OutsideItems
+-- The constraints that a segment meets.
 pub mod ConflictSearch
-pub mod Located
-pub mod EitherWay
 pub mod Intersecting

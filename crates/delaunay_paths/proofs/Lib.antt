@@ -1,22 +1,27 @@
+-- What answers to tests say of points and corners.
+pub mod Corners
+pub mod Places
+pub mod Walking
+-- The edges that cross a segment, listed.
+pub mod MetEdges
+pub mod Listing
+pub mod CrossingList
+pub mod MovedEdges
+pub mod Seeking
+-- Edges are turned towards a segment until none crosses it.
 pub mod TurnLowers
 pub mod Towards
-pub mod LeftToTest
-pub mod Making
-pub mod Corners
-pub mod MetEdges
-pub mod MovedEdges
 pub mod OneTurn
-pub mod Seeking
-pub mod Walking
+pub mod Making
+pub mod LeftToTest
+-- The pieces of a path, one after another.
 pub mod Passing
 pub mod NextVertex
-pub mod Places
 pub mod AddingPieces
-pub mod InTheWay
-pub mod Releasing
-pub mod Marks
-pub mod ListingPath
-pub mod JoinedPairs
 pub mod OnePiece
-pub mod CrossingList
-pub mod Listing
+pub mod InTheWay
+pub mod ListingPath
+-- Marks, and constraints that are released.
+pub mod Marks
+pub mod JoinedPairs
+pub mod Releasing

@@ -1,32 +1,38 @@
+-- The data of what stands beside a vertex that goes.
 pub mod DataReads
-pub mod MadeFaces
 pub mod DataStays
 pub mod DataTurns
 pub mod DataDrops
 pub mod DataLegalized
-pub mod Removing
-pub mod Drops
+-- The edges of a vertex: counted, searched and turned.
 pub mod Rounds
+pub mod Degrees
 pub mod Searching
 pub mod BothRounds
 pub mod Convex
 pub mod Turns
+pub mod Borders
+-- An inner vertex loses its edges.
 pub mod InnerStars
 pub mod Shrinking
 pub mod InnerHoles
 pub mod Between
 pub mod Isolating
+-- A vertex on the hull loses its edges.
 pub mod HullStars
 pub mod HullSides
 pub mod HullCuts
 pub mod HullShrinking
 pub mod HullIsolating
 pub mod HullEdges
+-- The vertex goes, with its constraints.
+pub mod Removing
+pub mod Drops
 pub mod LeavingConstraints
 pub mod FreedEdges
 pub mod RemovingConstraints
+-- What is left to test.
+pub mod MadeFaces
 pub mod LeftFaces
 pub mod PairEdges
 pub mod Passing
-pub mod Borders
-pub mod Degrees

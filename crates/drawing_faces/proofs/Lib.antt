@@ -1,10 +1,13 @@
+-- Vertices and segments of a drawing.
 pub mod Named
 pub mod Firsts
-pub mod MeshFaces
-pub mod Inside
 pub mod Taking
+-- Faces that are reached past no constraint, and those that are kept.
+pub mod MeshFaces
 pub mod Listing
 pub mod Flooding
 pub mod InFaces
+pub mod Inside
 pub mod Keeping
+-- All steps together.
 pub mod Together
