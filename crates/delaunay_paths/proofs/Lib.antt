@@ -2,7 +2,6 @@ pub mod TurnLowers
 pub mod Towards
 pub mod LeftToTest
 pub mod Making
-pub mod Corners
 pub mod MetEdges
 pub mod MovedEdges
 pub mod OneTurn
