@@ -415,21 +415,6 @@ module _ {V D U F : Type 0} (at : V → Point) (IsSite IsCovered : Point → Typ
                   (cone_law.1 (λ y. l.2 (far_side.1 y))),
             )
 
--- ---- questions about an edge, by where its ends are
--- what tells whether q lies in the direction from a to b tells it by equal points, too
-pub same_ahead : (a b q a' b' : Point) (T : Type 0) → a ≡ a' → b ≡ b' → T
-    ↔ IsAhead (whole a) (whole b) (whole q) → T ↔ IsAhead (whole a') (whole b') (whole q)
-same_ahead a b q a' b' T e f w =
-    subst (λ (x : Point × Point). T ↔ IsAhead (whole x.0) (whole x.1) (whole q)) (λ i. (e i, f i)) w
-
--- what tells whether q is strictly within a segment tells it by equal ends, too
-pub same_within : (a b q a' b' : Point) (T : Type 0) → a ≡ a' → b ≡ b' → T
-    ↔ WithinSegment (whole a) (whole b) (whole q) → T
-    ↔ WithinSegment (whole a') (whole b') (whole q)
-same_within a b q a' b' T e f w =
-    subst (λ (x : Point × Point). T ↔ WithinSegment (whole x.0) (whole x.1) (whole q))
-    (λ i. (e i, f i)) w
-
 -- different points are not at the same place of the plane
 pub not_same : (p q : Point) → p ≢ q → ¬ IsSame (whole p) (whole q)
 not_same p q n e = n (one_point p q e)

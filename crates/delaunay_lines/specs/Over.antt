@@ -1,36 +1,28 @@
 -- A segment over the mesh of a triangulation.
-use Rattle.std.specs.Prelude.{◌≢◌, ℤ, Option, map}
+use Rattle.std.specs.Prelude.{◌≢◌, Option, map}
+use Rattle.half_edge_mesh.specs.Contents.{Contents}
 use Rattle.plane.specs.Fraction.{Point, whole}
 use Rattle.plane.specs.Line.{Meets}
 use Rattle.mesh_embedding.specs.Drawn.{drawn}
-use Rattle.delaunay_core.specs.Place.{place_of}
 use Rattle.delaunay_lines.specs.declared.intersection.FixedIntersection.{FixedIntersection}
-use Rattle.delaunay_lines.specs.declared.segment.Segment.{Segment}
 use Rattle.delaunay_lines.specs.Items.{item_of, IsHandleOf}
-use Rattle.delaunay_lines.specs.Steps.{IsOverMesh, IsNext}
+use Rattle.delaunay_lines.specs.Steps.{IsNext}
 
--- it is over the mesh of a triangulation whose vertices are sites of its tests, which cover its
--- ends
-abbrev pub IsOver : {V D U F P S : Type 0} → (V → Point) → (S → ℤ)
-    → (IsSite IsCovered : P → Point → Type 0) →
-    Segment V D U F P S → Type 0
-IsOver at number IsSite IsCovered s =
-    IsOverMesh at (IsSite s.tests.now) (IsCovered s.tests.now) s.dcel.now
-    (place_of number s.from) (place_of number s.to)
+-- what a contract sees of it: the mesh, the tests and its ends
+pub record Spanning (V D U F P : Type 0) : Type 0 where
+  pub dcel : Contents V D U F
+  pub tests : P
+  pub from : Point
+  pub to : Point
 
--- and its ends differ, and it meets the item that this handle of the mesh names
-pub record IsAtItem {V D U F P S : Type 0} (at : V → Point) (number : S → ℤ) (IsSite IsCovered : P
-    → Point → Type 0) (s : Segment V D U F P S) (i : FixedIntersection) : Type 0 where
-  pub over : IsOver at number IsSite IsCovered s
-  pub within : IsHandleOf s.dcel.now i
-  pub apart : place_of number s.from ≢ place_of number s.to
-  pub met : Meets (drawn (map at s.dcel.now.vertices) s.dcel.now.mesh)
-      (whole (place_of number s.from)) (whole (place_of number s.to)) (item_of s.dcel.now.mesh i)
+module _ {V D U F P : Type 0} (at : V → Point) (s : Spanning V D U F P) where
+  -- its ends differ, and it meets the item that this handle of the mesh names
+  pub record IsAtItem (i : FixedIntersection) : Type 0 where
+    pub within : IsHandleOf s.dcel i
+    pub apart : s.from ≢ s.to
+    pub met : Meets (drawn (map at s.dcel.vertices) s.dcel.mesh) (whole s.from) (whole s.to)
+        (item_of s.dcel.mesh i)
 
--- of the items that it meets, this comes next after that of handle i, or that is the last
-abbrev pub GoesOnTo : {V D U F P S : Type 0} → (V → Point) → (S → ℤ) → Segment V D U F P S
-    → FixedIntersection →
-    Option FixedIntersection → Type 0
-GoesOnTo at number s i r =
-    IsNext at s.dcel.now (place_of number s.from) (place_of number s.to)
-    (item_of s.dcel.now.mesh i) r
+  -- of the items that it meets, this comes next after that of handle i, or that is the last
+  abbrev pub GoesOnTo : FixedIntersection → Option FixedIntersection → Type 0
+  GoesOnTo i r = IsNext at s.dcel s.from s.to (item_of s.dcel.mesh i) r

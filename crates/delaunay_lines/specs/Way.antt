@@ -1,12 +1,15 @@
 -- The way from one point to another.
-use Rattle.std.specs.Prelude.{◌≢◌, ℤ}
+use Rattle.std.specs.Prelude.{◌≢◌}
 use Rattle.plane.specs.Fraction.{Point}
-use Rattle.delaunay_core.specs.Place.{place_of}
-use Rattle.delaunay_lines.specs.declared.way.Way.{Way}
 
--- the tests cover its ends, which differ
-pub record IsWay {S P : Type 0} (number : S → ℤ) (Covers : P → Point → Type 0)
-    (w : Way S P) : Type 0 where
-  pub from : Covers w.tests.now (place_of number w.from)
-  pub to : Covers w.tests.now (place_of number w.to)
-  pub apart : place_of number w.from ≢ place_of number w.to
+-- what a contract sees of it: its ends and the tests
+pub record Heading (P : Type 0) : Type 0 where
+  pub from : Point
+  pub to : Point
+  pub tests : P
+
+-- both ends are covered, and they differ
+pub record IsWay (IsCovered : Point → Type 0) (p q : Point) : Type 0 where
+  pub from : IsCovered p
+  pub to : IsCovered q
+  pub apart : p ≢ q

@@ -7,10 +7,9 @@ ghost use Rattle.delaunay_core.specs.Place.{place_of};
 ghost use Rattle.delaunay_legalization.specs.Shape.{IsTriangulated};
 ghost use Rattle.delaunay_legalization.specs.State.{state_of};
 ghost use Rattle.delaunay_location.specs.Location.{Locates};
-ghost use Rattle.delaunay_location.specs.declared.position_in_triangulation.PositionInTriangulation.TheVariants.{OnFace};
-ghost use Rattle.delaunay_lines.specs.Over.{IsOver};
-ghost use Rattle.delaunay_lines.specs.Walk.{IsReady, WalksBetween, WalksLine};
+ghost use Rattle.delaunay_lines.specs.Walk.{IsReady, Starts, WalksBetween, WalksLine};
 
+use crate::intersection::FixedIntersection;
 use crate::iterator::LineIntersectionIterator;
 use crate::segment::Segment;
 use delaunay_core::math::PlaneTests;
@@ -35,36 +34,19 @@ fn edge_of<V, DE, UE, F>(
 }
 
 impl<'a, V: HasPosition, DE, UE, F, P: PlaneTests<V::Scalar>> Segment<'a, V, DE, UE, F, P> {
-    // From strictly inside a face.
-    fn walk_from_face(&self, face: FixedFaceHandle) -> LineIntersectionIterator<'a, V, DE, UE, F, P>
-        requires over { IsOver V.place V.Scalar.whole P.sites P.covered self.now }
-        requires start { Locates (map V.place self.now.dcel.now.vertices) self.now.dcel.now.mesh
-            (place_of V.Scalar.whole self.now.from) (OnFace face) }
-        ensures line { WalksLine V.place V.Scalar.whole (state_of self.now.dcel.now)
-            (place_of V.Scalar.whole self.now.from) (place_of V.Scalar.whole self.now.to) result }
-        ensures ready { IsReady V.place V.Scalar.whole P.sites P.covered result }
+    // What it meets first, from the location of its start.
+    fn first_from(&self, start: PositionInTriangulation) -> Option<FixedIntersection>
+        requires { Locates (map V.place self.now.dcel.vertices) self.now.dcel.mesh self.now.from
+            start }
+        ensures { Starts V.place self.now.dcel self.now.from self.now.to result }
     {
-        self.walk_from_left(edge_of(self.dcel, face))
-    }
-
-    // From the location of the start.
-    fn walk_from_location(
-        &self,
-        start: PositionInTriangulation,
-    ) -> LineIntersectionIterator<'a, V, DE, UE, F, P>
-        requires over { IsOver V.place V.Scalar.whole P.sites P.covered self.now }
-        requires start { Locates (map V.place self.now.dcel.now.vertices) self.now.dcel.now.mesh
-            (place_of V.Scalar.whole self.now.from) start }
-        ensures line { WalksLine V.place V.Scalar.whole (state_of self.now.dcel.now)
-            (place_of V.Scalar.whole self.now.from) (place_of V.Scalar.whole self.now.to) result }
-        ensures ready { IsReady V.place V.Scalar.whole P.sites P.covered result }
-    {
+        let dcel = self.dcel;
         match start {
-            PositionInTriangulation::OnVertex(vertex) => self.walk_from_vertex(vertex),
-            PositionInTriangulation::OnEdge(edge) => self.walk_from_edge(edge),
-            PositionInTriangulation::OnFace(face) => self.walk_from_face(face),
+            PositionInTriangulation::OnVertex(vertex) => Some(FixedIntersection::Vertex(vertex)),
+            PositionInTriangulation::OnEdge(edge) => Some(self.first_on_edge(edge)),
+            PositionInTriangulation::OnFace(face) => self.first_in_face(edge_of(dcel, face)),
             PositionInTriangulation::OutsideOfConvexHull(_)
-            | PositionInTriangulation::NoTriangulation => self.walk_from_outside(),
+            | PositionInTriangulation::NoTriangulation => self.first_outside(),
         }
     }
 }
@@ -86,14 +68,14 @@ pub fn line_between<'a, V: HasPosition, DE, UE, F, P: PlaneTests<V::Scalar>>(
         (place_of V.Scalar.whole from) (place_of V.Scalar.whole to) result }
     ensures ready { IsReady V.place V.Scalar.whole P.sites P.covered result }
 {
-    dcel.recall_invariant();
     let segment = Segment {
         dcel,
         tests,
         from,
         to,
     };
-    segment.walk_from_location(locate_with_hint(dcel, from, hint, tests))
+    let first = segment.first_from(locate_with_hint(dcel, from, hint, tests));
+    segment.starting(first)
 }
 
 /// What the segment from one vertex to another meets, from the vertex on: of a vertex to itself,
@@ -120,5 +102,5 @@ pub fn line_between_vertices<'a, V: HasPosition, DE, UE, F, P: PlaneTests<V::Sca
         from: start,
         to: end,
     };
-    segment.walk_from_vertex(from)
+    segment.starting(Some(FixedIntersection::Vertex(from)))
 }

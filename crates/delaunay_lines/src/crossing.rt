@@ -1,8 +1,7 @@
 //! What a segment meets after an edge that it crosses or goes along.
 ghost use Rattle.std.specs.Prelude.{◌<◌, length};
 ghost use Rattle.half_edge_mesh.specs.Mesh.{face};
-ghost use Rattle.delaunay_core.specs.Place.{place_of};
-ghost use Rattle.delaunay_lines.specs.Over.{GoesOnTo, IsAtItem, IsOver};
+ghost use Rattle.delaunay_lines.specs.Over.{GoesOnTo, IsAtItem};
 ghost use Rattle.delaunay_lines.specs.Steps.{LeavesBy};
 
 use crate::intersection::FixedIntersection;
@@ -17,10 +16,8 @@ impl<'a, V: HasPosition, DE, UE, F, P: PlaneTests<V::Scalar>> Segment<'a, V, DE,
     // The way out of a face by one of its sides: nothing where the segment ends on the left of the
     // side, inside the face.
     pub(crate) fn leave_by(&self, side: FixedDirectedEdgeHandle) -> Option<FixedIntersection>
-        requires within { side < length self.now.dcel.now.directed }
-        requires over { IsOver V.place V.Scalar.whole P.sites P.covered self.now }
-        ensures { LeavesBy V.place self.now.dcel.now (place_of V.Scalar.whole self.now.to) side
-            result }
+        requires { side < length self.now.dcel.directed }
+        ensures { LeavesBy V.place self.now.dcel self.now.to side result }
     {
         if self.ends_left_of(side) {
             return None;
@@ -31,10 +28,9 @@ impl<'a, V: HasPosition, DE, UE, F, P: PlaneTests<V::Scalar>> Segment<'a, V, DE,
     // What comes after an edge that is crossed into an inner face: nothing where the segment ends
     // inside, else another side of the face, or the corner between the two.
     fn through_face(&self, edge: FixedDirectedEdgeHandle) -> Option<FixedIntersection>
-        requires at { IsAtItem V.place V.Scalar.whole P.sites P.covered self.now
-            (FixedIntersection.Edge edge) }
-        requires inner { 0 < face self.now.dcel.now.mesh edge }
-        ensures { GoesOnTo V.place V.Scalar.whole self.now (FixedIntersection.Edge edge) result }
+        requires at { IsAtItem V.place self.now (FixedIntersection.Edge edge) }
+        requires inner { 0 < face self.now.dcel.mesh edge }
+        ensures { GoesOnTo V.place self.now (FixedIntersection.Edge edge) result }
     {
         let (next, prev) = (edge_after(self.dcel, edge), edge_before(self.dcel, edge));
         let corner = self.side_of_start(prev);
@@ -52,9 +48,8 @@ impl<'a, V: HasPosition, DE, UE, F, P: PlaneTests<V::Scalar>> Segment<'a, V, DE,
 
     // What a segment meets after an edge that it crosses.
     pub(crate) fn after_crossing(&self, edge: FixedDirectedEdgeHandle) -> Option<FixedIntersection>
-        requires { IsAtItem V.place V.Scalar.whole P.sites P.covered self.now
-            (FixedIntersection.Edge edge) }
-        ensures { GoesOnTo V.place V.Scalar.whole self.now (FixedIntersection.Edge edge) result }
+        requires { IsAtItem V.place self.now (FixedIntersection.Edge edge) }
+        ensures { GoesOnTo V.place self.now (FixedIntersection.Edge edge) result }
     {
         if is_outer(self.dcel, edge) {
             return None;
@@ -67,9 +62,8 @@ impl<'a, V: HasPosition, DE, UE, F, P: PlaneTests<V::Scalar>> Segment<'a, V, DE,
 
     // What a segment meets after an edge that it overlaps.
     pub(crate) fn after_overlap(&self, edge: FixedDirectedEdgeHandle) -> Option<FixedIntersection>
-        requires { IsAtItem V.place V.Scalar.whole P.sites P.covered self.now
-            (FixedIntersection.Overlap edge) }
-        ensures { GoesOnTo V.place V.Scalar.whole self.now (FixedIntersection.Overlap edge) result }
+        requires { IsAtItem V.place self.now (FixedIntersection.Overlap edge) }
+        ensures { GoesOnTo V.place self.now (FixedIntersection.Overlap edge) result }
     {
         if self.way_along(edge).has_within(self.to) {
             return None;

@@ -1,14 +1,11 @@
 //! The items that a segment meets, one after another.
-ghost use Rattle.std.specs.Prelude.{◌≡◌, ◌≢◌, ◌<◌, length, map};
+ghost use Rattle.std.specs.Prelude.{◌≡◌, ◌≢◌, map};
 ghost use Rattle.std.specs.Iterator.{at_most};
 ghost use Rattle.plane.specs.Fraction.{whole as fraction};
 ghost use Rattle.plane.specs.Line.{Meets};
 ghost use Rattle.mesh_embedding.specs.Drawn.{drawn};
-ghost use Rattle.delaunay_core.specs.Place.{place_of};
-ghost use Rattle.delaunay_legalization.specs.Known.{point_at};
 ghost use Rattle.delaunay_legalization.specs.State.{state_of};
 ghost use Rattle.delaunay_lines.specs.Items.{item_of, IsHandleOf};
-ghost use Rattle.delaunay_lines.specs.Over.{IsOver};
 ghost use Rattle.delaunay_lines.specs.Steps.{IsNext};
 ghost use Rattle.delaunay_lines.specs.Walk.{GivesNext, IsReady, Starts, WalksLine};
 
@@ -17,7 +14,7 @@ use crate::segment::Segment;
 use delaunay_core::math::PlaneTests;
 use delaunay_core::point::{HasPosition, Point2};
 use delaunay_legalization::is_same_point;
-use half_edge_mesh::{Dcel, FixedVertexHandle};
+use half_edge_mesh::Dcel;
 
 /// The vertices and edges that a segment meets, in the order along the segment. No call takes
 /// memory. A call of `next` looks at the edges of one vertex at most. After the last item it gives
@@ -44,17 +41,14 @@ pub struct LineIntersectionIterator<'a, V: HasPosition, DE, UE, F, P: PlaneTests
 impl<'a, V: HasPosition, DE, UE, F, P: PlaneTests<V::Scalar>> Segment<'a, V, DE, UE, F, P> {
     // What it meets after an item: nothing where its ends are one point.
     fn after(&self, item: FixedIntersection) -> Option<FixedIntersection>
-        requires within { IsHandleOf self.now.dcel.now item }
-        requires over { IsOver V.place V.Scalar.whole P.sites P.covered self.now }
-        requires met { place_of V.Scalar.whole self.now.from ≢ place_of V.Scalar.whole self.now.to →
-            Meets (drawn (map V.place self.now.dcel.now.vertices) self.now.dcel.now.mesh)
-            (fraction (place_of V.Scalar.whole self.now.from))
-            (fraction (place_of V.Scalar.whole self.now.to)) (item_of self.now.dcel.now.mesh item) }
-        ensures alone { place_of V.Scalar.whole self.now.from ≡
-            place_of V.Scalar.whole self.now.to → result ≡ None }
-        ensures next { place_of V.Scalar.whole self.now.from ≢ place_of V.Scalar.whole self.now.to →
-            IsNext V.place self.now.dcel.now (place_of V.Scalar.whole self.now.from)
-            (place_of V.Scalar.whole self.now.to) (item_of self.now.dcel.now.mesh item) result }
+        requires within { IsHandleOf self.now.dcel item }
+        requires met { self.now.from ≢ self.now.to →
+            Meets (drawn (map V.place self.now.dcel.vertices) self.now.dcel.mesh)
+            (fraction self.now.from) (fraction self.now.to) (item_of self.now.dcel.mesh item) }
+        ensures alone { self.now.from ≡ self.now.to → result ≡ None }
+        ensures next { self.now.from ≢ self.now.to →
+            IsNext V.place self.now.dcel self.now.from self.now.to
+            (item_of self.now.dcel.mesh item) result }
     {
         if is_same_point(self.from, self.to) {
             return None;
@@ -71,11 +65,9 @@ impl<'a, V: HasPosition, DE, UE, F, P: PlaneTests<V::Scalar>> Segment<'a, V, DE,
         &self,
         first: Option<FixedIntersection>,
     ) -> LineIntersectionIterator<'a, V, DE, UE, F, P>
-        requires over { IsOver V.place V.Scalar.whole P.sites P.covered self.now }
-        requires starts { Starts V.place self.now.dcel.now (place_of V.Scalar.whole self.now.from)
-            (place_of V.Scalar.whole self.now.to) first }
-        ensures line { WalksLine V.place V.Scalar.whole (state_of self.now.dcel.now)
-            (place_of V.Scalar.whole self.now.from) (place_of V.Scalar.whole self.now.to) result }
+        requires { Starts V.place self.now.dcel self.now.from self.now.to first }
+        ensures line { WalksLine V.place V.Scalar.whole (state_of self.now.dcel) self.now.from
+            self.now.to result }
         ensures ready { IsReady V.place V.Scalar.whole P.sites P.covered result }
     {
         LineIntersectionIterator {
@@ -86,22 +78,6 @@ impl<'a, V: HasPosition, DE, UE, F, P: PlaneTests<V::Scalar>> Segment<'a, V, DE,
             current: first,
             left: self.dcel.num_vertices() + self.dcel.num_undirected_edges(),
         }
-    }
-
-    /// What it meets, from a vertex on: of a vertex to its own position, that vertex alone.
-    pub(crate) fn walk_from_vertex(
-        &self,
-        vertex: FixedVertexHandle,
-    ) -> LineIntersectionIterator<'a, V, DE, UE, F, P>
-        requires within { vertex < length self.now.dcel.now.vertices }
-        requires over { IsOver V.place V.Scalar.whole P.sites P.covered self.now }
-        requires start { place_of V.Scalar.whole self.now.from ≡
-            point_at (map V.place self.now.dcel.now.vertices) vertex }
-        ensures line { WalksLine V.place V.Scalar.whole (state_of self.now.dcel.now)
-            (place_of V.Scalar.whole self.now.from) (place_of V.Scalar.whole self.now.to) result }
-        ensures ready { IsReady V.place V.Scalar.whole P.sites P.covered result }
-    {
-        self.starting(Some(FixedIntersection::Vertex(vertex)))
     }
 }
 

@@ -19,6 +19,7 @@ pub use intersection::{FixedIntersection, Intersection};
 pub use iterator::LineIntersectionIterator;
 pub use lines::HasMesh;
 
-// For the crates of paths and of the struct, and not for users.
+// For the crates of paths, of sight and of the struct, and not for users.
 pub use between::{line_between, line_between_vertices};
 pub use conflicts::intersects_constraint;
+pub use sides::{side_of_edge, twin_of};

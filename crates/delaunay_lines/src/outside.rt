@@ -1,19 +1,16 @@
-//! The walk along a segment from outside the triangulation.
+//! What a segment meets first, from outside the triangulation.
 ghost use Rattle.std.specs.Prelude.{◌≢◌, ◌↔◌, ◌<◌, ◌<ℤ◌, ℕ};
 ghost use Rattle.std.specs.Prelude.{length, map, IsTrue, IfSome, MatchOption};
 ghost use Rattle.plane.specs.Fraction.{whole as fraction};
 ghost use Rattle.plane.specs.Circle.{gap};
 ghost use Rattle.mesh_embedding.specs.Drawn.{drawn};
 ghost use Rattle.delaunay_core.specs.Place.{place_of};
-ghost use Rattle.delaunay_legalization.specs.State.{state_of};
 ghost use Rattle.delaunay_lines.specs.Starts.{GoesRight, HasEndsOnSides, IsBetter, IsCrossed};
 ghost use Rattle.delaunay_lines.specs.Starts.{IsEntered, IsNearerVertex, IsNearestOf};
 ghost use Rattle.delaunay_lines.specs.Starts.{IsNoBetter, IsOnSegment, StartsOutside};
-ghost use Rattle.delaunay_lines.specs.Over.{IsOver};
-ghost use Rattle.delaunay_lines.specs.Walk.{IsReady, Starts, WalksLine};
+ghost use Rattle.delaunay_lines.specs.Walk.{Starts};
 
 use crate::intersection::FixedIntersection;
-use crate::iterator::LineIntersectionIterator;
 use crate::segment::Segment;
 use crate::sides::{side_of_edge, twin_of};
 use crate::way::Way;
@@ -42,11 +39,9 @@ fn is_point_nearer<S: SpadeNum, P: PlaneTests<S>>(
 impl<'a, V: HasPosition, DE, UE, F, P: PlaneTests<V::Scalar>> Segment<'a, V, DE, UE, F, P> {
     // Whether an edge goes from the left of a segment's line to its right.
     fn goes_right(&self, edge: FixedDirectedEdgeHandle) -> bool
-        requires within { edge < length self.now.dcel.now.directed }
-        requires over { IsOver V.place V.Scalar.whole P.sites P.covered self.now }
-        ensures { IsTrue result ↔
-            GoesRight (map V.place self.now.dcel.now.vertices) self.now.dcel.now.mesh
-            (place_of V.Scalar.whole self.now.from) (place_of V.Scalar.whole self.now.to) edge }
+        requires { edge < length self.now.dcel.directed }
+        ensures { IsTrue result ↔ GoesRight (map V.place self.now.dcel.vertices) self.now.dcel.mesh
+            self.now.from self.now.to edge }
     {
         let start = self.side_of_start(edge);
         let end = self.side_of_start(twin_of(self.dcel, edge));
@@ -56,11 +51,9 @@ impl<'a, V: HasPosition, DE, UE, F, P: PlaneTests<V::Scalar>> Segment<'a, V, DE,
     // Whether a segment begins on the right of an edge's line, or on it, and ends on the left, or
     // on it.
     fn has_ends_on_sides(&self, edge: FixedDirectedEdgeHandle) -> bool
-        requires within { edge < length self.now.dcel.now.directed }
-        requires over { IsOver V.place V.Scalar.whole P.sites P.covered self.now }
-        ensures { IsTrue result ↔
-            HasEndsOnSides (map V.place self.now.dcel.now.vertices) self.now.dcel.now.mesh
-            (place_of V.Scalar.whole self.now.from) (place_of V.Scalar.whole self.now.to) edge }
+        requires { edge < length self.now.dcel.directed }
+        ensures { IsTrue result ↔ HasEndsOnSides (map V.place self.now.dcel.vertices)
+            self.now.dcel.mesh self.now.from self.now.to edge }
     {
         let start = side_of_edge(self.dcel, edge, self.from, self.tests);
         let end = side_of_edge(self.dcel, edge, self.to, self.tests);
@@ -69,11 +62,9 @@ impl<'a, V: HasPosition, DE, UE, F, P: PlaneTests<V::Scalar>> Segment<'a, V, DE,
 
     // Whether a segment crosses an edge, with its end on the edge's left.
     fn is_crossed(&self, edge: FixedDirectedEdgeHandle) -> bool
-        requires within { edge < length self.now.dcel.now.directed }
-        requires over { IsOver V.place V.Scalar.whole P.sites P.covered self.now }
-        ensures { IsTrue result ↔
-            IsCrossed (map V.place self.now.dcel.now.vertices) self.now.dcel.now.mesh
-            (place_of V.Scalar.whole self.now.from) (place_of V.Scalar.whole self.now.to) edge }
+        requires { edge < length self.now.dcel.directed }
+        ensures { IsTrue result ↔ IsCrossed (map V.place self.now.dcel.vertices) self.now.dcel.mesh
+            self.now.from self.now.to edge }
     {
         self.goes_right(edge) && self.has_ends_on_sides(edge)
     }
@@ -81,13 +72,11 @@ impl<'a, V: HasPosition, DE, UE, F, P: PlaneTests<V::Scalar>> Segment<'a, V, DE,
     // An edge with the outer face on its right that a segment crosses into the triangulation, by a
     // look along the outline.
     fn entered_edge(&self) -> Option<FixedDirectedEdgeHandle>
-        requires over { IsOver V.place V.Scalar.whole P.sites P.covered self.now }
-        ensures { let points = map V.place self.now.dcel.now.vertices in
-            let m = self.now.dcel.now.mesh in let p = place_of V.Scalar.whole self.now.from in
-            let q = place_of V.Scalar.whole self.now.to in
-            MatchOption result ((h : ℕ) → h < length self.now.dcel.now.directed →
-            ¬ IsEntered points m p q h) (λ h. (h < length self.now.dcel.now.directed) ×
-            IsEntered points m p q h) }
+        ensures { let points = map V.place self.now.dcel.vertices in let m = self.now.dcel.mesh in
+            let p = self.now.from in let q = self.now.to in
+            MatchOption result
+            ((h : ℕ) → h < length self.now.dcel.directed → ¬ IsEntered points m p q h)
+            (λ h. (h < length self.now.dcel.directed) × IsEntered points m p q h) }
     {
         for outer in self.dcel.convex_hull() {
             let edge = outer.rev().fix();
@@ -100,12 +89,10 @@ impl<'a, V: HasPosition, DE, UE, F, P: PlaneTests<V::Scalar>> Segment<'a, V, DE,
 
     // Whether a vertex is nearer to a position than another, if there is one.
     fn is_nearer_vertex(&self, vertex: FixedVertexHandle, than: &Option<FixedVertexHandle>) -> bool
-        requires within { vertex < length self.now.dcel.now.vertices }
-        requires other_within { IfSome than.now (λ o. o < length self.now.dcel.now.vertices) }
-        requires over { IsOver V.place V.Scalar.whole P.sites P.covered self.now }
-        ensures { IsTrue result ↔
-            IsNearerVertex (map V.place self.now.dcel.now.vertices)
-            (place_of V.Scalar.whole self.now.from) vertex than.now }
+        requires within { vertex < length self.now.dcel.vertices }
+        requires other_within { IfSome than.now (λ o. o < length self.now.dcel.vertices) }
+        ensures { IsTrue result ↔ IsNearerVertex (map V.place self.now.dcel.vertices) self.now.from
+            vertex than.now }
     {
         match than {
             Some(other) => {
@@ -122,15 +109,11 @@ impl<'a, V: HasPosition, DE, UE, F, P: PlaneTests<V::Scalar>> Segment<'a, V, DE,
     // Whether a vertex is on a segment, and nearer to its start than another vertex, if there is
     // one.
     fn is_better(&self, vertex: FixedVertexHandle, than: &Option<FixedVertexHandle>) -> bool
-        requires within { vertex < length self.now.dcel.now.vertices }
-        requires other_within { IfSome than.now (λ o. o < length self.now.dcel.now.vertices) }
-        requires over { IsOver V.place V.Scalar.whole P.sites P.covered self.now }
-        requires apart { place_of V.Scalar.whole self.now.from ≢
-            place_of V.Scalar.whole self.now.to }
-        ensures { IsTrue result ↔
-            IsBetter (map V.place self.now.dcel.now.vertices)
-            (place_of V.Scalar.whole self.now.from) (place_of V.Scalar.whole self.now.to) vertex
-            than.now }
+        requires within { vertex < length self.now.dcel.vertices }
+        requires other_within { IfSome than.now (λ o. o < length self.now.dcel.vertices) }
+        requires apart { self.now.from ≢ self.now.to }
+        ensures { IsTrue result ↔ IsBetter (map V.place self.now.dcel.vertices) self.now.from
+            self.now.to vertex than.now }
     {
         let way = Way {
             from: self.from,
@@ -146,21 +129,17 @@ impl<'a, V: HasPosition, DE, UE, F, P: PlaneTests<V::Scalar>> Segment<'a, V, DE,
         vertex: FixedVertexHandle,
         found: Option<FixedVertexHandle>,
     ) -> Option<FixedVertexHandle>
-        requires within { vertex < length self.now.dcel.now.vertices }
-        requires found { IsOnSegment (map V.place self.now.dcel.now.vertices)
-            (place_of V.Scalar.whole self.now.from) (place_of V.Scalar.whole self.now.to) found }
-        requires over { IsOver V.place V.Scalar.whole P.sites P.covered self.now }
-        requires apart { place_of V.Scalar.whole self.now.from ≢
-            place_of V.Scalar.whole self.now.to }
-        ensures found { IsOnSegment (map V.place self.now.dcel.now.vertices)
-            (place_of V.Scalar.whole self.now.from) (place_of V.Scalar.whole self.now.to) result }
-        ensures kept { let points = map V.place self.now.dcel.now.vertices in
-            let p = place_of V.Scalar.whole self.now.from in
-            let q = place_of V.Scalar.whole self.now.to in
+        requires within { vertex < length self.now.dcel.vertices }
+        requires found { IsOnSegment (map V.place self.now.dcel.vertices) self.now.from self.now.to
+            found }
+        requires apart { self.now.from ≢ self.now.to }
+        ensures found { IsOnSegment (map V.place self.now.dcel.vertices) self.now.from self.now.to
+            result }
+        ensures kept { let points = map V.place self.now.dcel.vertices in let p = self.now.from in
+            let q = self.now.to in
             (k : ℕ) → IsNoBetter points p q found k → IsNoBetter points p q result k }
-        ensures here { IsNoBetter (map V.place self.now.dcel.now.vertices)
-            (place_of V.Scalar.whole self.now.from) (place_of V.Scalar.whole self.now.to) result
-            vertex }
+        ensures here { IsNoBetter (map V.place self.now.dcel.vertices) self.now.from self.now.to
+            result vertex }
     {
         if self.is_better(vertex, &found) {
             return Some(vertex);
@@ -170,15 +149,11 @@ impl<'a, V: HasPosition, DE, UE, F, P: PlaneTests<V::Scalar>> Segment<'a, V, DE,
 
     // Vertex 0, if it is on a segment. It may be the only one, without an edge.
     fn first_found(&self) -> Option<FixedVertexHandle>
-        requires over { IsOver V.place V.Scalar.whole P.sites P.covered self.now }
-        requires apart { place_of V.Scalar.whole self.now.from ≢
-            place_of V.Scalar.whole self.now.to }
-        ensures found { IsOnSegment (map V.place self.now.dcel.now.vertices)
-            (place_of V.Scalar.whole self.now.from) (place_of V.Scalar.whole self.now.to) result }
-        ensures first { 0 < length self.now.dcel.now.vertices →
-            IsNoBetter (map V.place self.now.dcel.now.vertices)
-            (place_of V.Scalar.whole self.now.from) (place_of V.Scalar.whole self.now.to) result
-            0 }
+        requires { self.now.from ≢ self.now.to }
+        ensures found { IsOnSegment (map V.place self.now.dcel.vertices) self.now.from self.now.to
+            result }
+        ensures first { 0 < length self.now.dcel.vertices →
+            IsNoBetter (map V.place self.now.dcel.vertices) self.now.from self.now.to result 0 }
     {
         if self.dcel.num_vertices() == 0 {
             return None;
@@ -188,11 +163,9 @@ impl<'a, V: HasPosition, DE, UE, F, P: PlaneTests<V::Scalar>> Segment<'a, V, DE,
 
     // Of the vertices on a segment that are on the outline, one that is nearest to its start.
     fn nearest_vertex(&self) -> Option<FixedVertexHandle>
-        requires over { IsOver V.place V.Scalar.whole P.sites P.covered self.now }
-        requires apart { place_of V.Scalar.whole self.now.from ≢
-            place_of V.Scalar.whole self.now.to }
-        ensures { IsNearestOf (map V.place self.now.dcel.now.vertices) self.now.dcel.now.mesh
-            (place_of V.Scalar.whole self.now.from) (place_of V.Scalar.whole self.now.to) result }
+        requires { self.now.from ≢ self.now.to }
+        ensures { IsNearestOf (map V.place self.now.dcel.vertices) self.now.dcel.mesh self.now.from
+            self.now.to result }
     {
         let mut nearest = self.first_found();
         for outer in self.dcel.convex_hull() {
@@ -203,53 +176,22 @@ impl<'a, V: HasPosition, DE, UE, F, P: PlaneTests<V::Scalar>> Segment<'a, V, DE,
         nearest
     }
 
-    // From outside, where the segment enters by no edge: the nearest vertex on it.
-    fn first_vertex(&self) -> Option<FixedIntersection>
-        requires over { IsOver V.place V.Scalar.whole P.sites P.covered self.now }
-        requires start { StartsOutside (drawn (map V.place self.now.dcel.now.vertices)
-            self.now.dcel.now.mesh) (place_of V.Scalar.whole self.now.from) }
-        requires apart { place_of V.Scalar.whole self.now.from ≢
-            place_of V.Scalar.whole self.now.to }
-        requires none { (h : ℕ) → h < length self.now.dcel.now.directed →
-            ¬ IsEntered (map V.place self.now.dcel.now.vertices) self.now.dcel.now.mesh
-            (place_of V.Scalar.whole self.now.from) (place_of V.Scalar.whole self.now.to) h }
-        ensures { Starts V.place self.now.dcel.now (place_of V.Scalar.whole self.now.from)
-            (place_of V.Scalar.whole self.now.to) result }
-    {
-        match self.nearest_vertex() {
-            Some(vertex) => Some(FixedIntersection::Vertex(vertex)),
-            None => None,
-        }
-    }
-
-    // From outside: the edge by which the segment enters, else the nearest vertex on it.
-    fn first_outside(&self) -> Option<FixedIntersection>
-        requires over { IsOver V.place V.Scalar.whole P.sites P.covered self.now }
-        requires start { StartsOutside (drawn (map V.place self.now.dcel.now.vertices)
-            self.now.dcel.now.mesh) (place_of V.Scalar.whole self.now.from) }
-        ensures { Starts V.place self.now.dcel.now (place_of V.Scalar.whole self.now.from)
-            (place_of V.Scalar.whole self.now.to) result }
+    // From outside: the edge by which the segment enters, else the nearest vertex on it. It goes
+    // along the outline up to such an edge, and, where there is none, once more.
+    pub(crate) fn first_outside(&self) -> Option<FixedIntersection>
+        requires { StartsOutside (drawn (map V.place self.now.dcel.vertices) self.now.dcel.mesh)
+            self.now.from }
+        ensures { Starts V.place self.now.dcel self.now.from self.now.to result }
     {
         if is_same_point(self.from, self.to) {
             return None;
         }
-        match self.entered_edge() {
-            Some(edge) => Some(FixedIntersection::Edge(edge)),
-            None => self.first_vertex(),
+        if let Some(edge) = self.entered_edge() {
+            return Some(FixedIntersection::Edge(edge));
         }
-    }
-
-    /// What it meets, from outside the triangulation: of a point to itself, nothing. It goes along
-    /// the outline up to an edge that the segment enters by, and, where there is none, once more
-    /// for the nearest vertex.
-    pub(crate) fn walk_from_outside(&self) -> LineIntersectionIterator<'a, V, DE, UE, F, P>
-        requires over { IsOver V.place V.Scalar.whole P.sites P.covered self.now }
-        requires start { StartsOutside (drawn (map V.place self.now.dcel.now.vertices)
-            self.now.dcel.now.mesh) (place_of V.Scalar.whole self.now.from) }
-        ensures line { WalksLine V.place V.Scalar.whole (state_of self.now.dcel.now)
-            (place_of V.Scalar.whole self.now.from) (place_of V.Scalar.whole self.now.to) result }
-        ensures ready { IsReady V.place V.Scalar.whole P.sites P.covered result }
-    {
-        self.starting(self.first_outside())
+        match self.nearest_vertex() {
+            Some(vertex) => Some(FixedIntersection::Vertex(vertex)),
+            None => None,
+        }
     }
 }

@@ -36,8 +36,8 @@ pub(crate) fn edge_before<V, DE, UE, F>(
     dcel.directed_edge(edge).prev().fix()
 }
 
-// An edge in its other direction.
-pub(crate) fn twin_of<V, DE, UE, F>(
+/// An edge in its other direction.
+pub fn twin_of<V, DE, UE, F>(
     dcel: &Dcel<V, DE, UE, F>,
     edge: FixedDirectedEdgeHandle,
 ) -> FixedDirectedEdgeHandle
@@ -48,8 +48,8 @@ pub(crate) fn twin_of<V, DE, UE, F>(
     dcel.directed_edge(edge).rev().fix()
 }
 
-// The side of a point, as seen along an edge.
-pub(crate) fn side_of_edge<V: HasPosition, DE, UE, F, P: PlaneTests<V::Scalar>>(
+/// The side of a point, as seen along an edge.
+pub fn side_of_edge<V: HasPosition, DE, UE, F, P: PlaneTests<V::Scalar>>(
     dcel: &Dcel<V, DE, UE, F>,
     edge: FixedDirectedEdgeHandle,
     point: Point2<V::Scalar>,

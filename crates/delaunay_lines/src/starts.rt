@@ -1,13 +1,9 @@
-//! Walks along a segment from strictly within an edge, or strictly inside a face.
+//! What a segment meets first, from strictly within an edge, or strictly inside a face.
 ghost use Rattle.std.specs.Prelude.{◌≢◌, ◌↔◌, ◌<◌, length, map, IsTrue};
-ghost use Rattle.delaunay_core.specs.Place.{place_of};
-ghost use Rattle.delaunay_legalization.specs.State.{state_of};
 ghost use Rattle.delaunay_lines.specs.Starts.{StartsWithin, StartsInside, GoesOver};
-ghost use Rattle.delaunay_lines.specs.Over.{IsOver};
-ghost use Rattle.delaunay_lines.specs.Walk.{IsReady, Starts, WalksLine};
+ghost use Rattle.delaunay_lines.specs.Walk.{Starts};
 
 use crate::intersection::FixedIntersection;
-use crate::iterator::LineIntersectionIterator;
 use crate::segment::Segment;
 use crate::sides::{edge_after, edge_before, side_of_edge, twin_of};
 use crate::way::Way;
@@ -18,13 +14,11 @@ use half_edge_mesh::FixedDirectedEdgeHandle;
 
 impl<'a, V: HasPosition, DE, UE, F, P: PlaneTests<V::Scalar>> Segment<'a, V, DE, UE, F, P> {
     // From strictly within an edge: the edge, crossed or gone along.
-    fn first_on_edge(&self, edge: FixedDirectedEdgeHandle) -> FixedIntersection
-        requires within { edge < length self.now.dcel.now.directed }
-        requires over { IsOver V.place V.Scalar.whole P.sites P.covered self.now }
-        requires start { StartsWithin (map V.place self.now.dcel.now.vertices)
-            self.now.dcel.now.mesh (place_of V.Scalar.whole self.now.from) edge }
-        ensures { Starts V.place self.now.dcel.now (place_of V.Scalar.whole self.now.from)
-            (place_of V.Scalar.whole self.now.to) (Some result) }
+    pub(crate) fn first_on_edge(&self, edge: FixedDirectedEdgeHandle) -> FixedIntersection
+        requires within { edge < length self.now.dcel.directed }
+        requires start { StartsWithin (map V.place self.now.dcel.vertices) self.now.dcel.mesh
+            self.now.from edge }
+        ensures { Starts V.place self.now.dcel self.now.from self.now.to (Some result) }
     {
         if is_same_point(self.from, self.to) {
             return FixedIntersection::Overlap(edge);
@@ -51,11 +45,9 @@ impl<'a, V: HasPosition, DE, UE, F, P: PlaneTests<V::Scalar>> Segment<'a, V, DE,
 
     // Whether an edge starts on the right of a segment, or on its line, and ends on its left.
     fn goes_over(&self, edge: FixedDirectedEdgeHandle) -> bool
-        requires within { edge < length self.now.dcel.now.directed }
-        requires over { IsOver V.place V.Scalar.whole P.sites P.covered self.now }
-        ensures { IsTrue result ↔
-            GoesOver (map V.place self.now.dcel.now.vertices) self.now.dcel.now.mesh
-            (place_of V.Scalar.whole self.now.from) (place_of V.Scalar.whole self.now.to) edge }
+        requires { edge < length self.now.dcel.directed }
+        ensures { IsTrue result ↔ GoesOver (map V.place self.now.dcel.vertices) self.now.dcel.mesh
+            self.now.from self.now.to edge }
     {
         let start = self.side_of_start(edge);
         let end = self.side_of_start(twin_of(self.dcel, edge));
@@ -65,17 +57,15 @@ impl<'a, V: HasPosition, DE, UE, F, P: PlaneTests<V::Scalar>> Segment<'a, V, DE,
     // Of the edges of the face that a segment starts in, the one that goes over the segment from
     // its right.
     fn edge_over(&self, edge: FixedDirectedEdgeHandle) -> FixedDirectedEdgeHandle
-        requires within { edge < length self.now.dcel.now.directed }
-        requires over { IsOver V.place V.Scalar.whole P.sites P.covered self.now }
-        requires apart { place_of V.Scalar.whole self.now.from ≢
-            place_of V.Scalar.whole self.now.to }
-        requires start { StartsInside (map V.place self.now.dcel.now.vertices)
-            self.now.dcel.now.mesh (place_of V.Scalar.whole self.now.from) edge }
-        ensures within { result < length self.now.dcel.now.directed }
-        ensures start { StartsInside (map V.place self.now.dcel.now.vertices) self.now.dcel.now.mesh
-            (place_of V.Scalar.whole self.now.from) result }
-        ensures over { GoesOver (map V.place self.now.dcel.now.vertices) self.now.dcel.now.mesh
-            (place_of V.Scalar.whole self.now.from) (place_of V.Scalar.whole self.now.to) result }
+        requires within { edge < length self.now.dcel.directed }
+        requires apart { self.now.from ≢ self.now.to }
+        requires start { StartsInside (map V.place self.now.dcel.vertices) self.now.dcel.mesh
+            self.now.from edge }
+        ensures within { result < length self.now.dcel.directed }
+        ensures start { StartsInside (map V.place self.now.dcel.vertices) self.now.dcel.mesh
+            self.now.from result }
+        ensures over { GoesOver (map V.place self.now.dcel.vertices) self.now.dcel.mesh
+            self.now.from self.now.to result }
     {
         if self.goes_over(edge) {
             return edge;
@@ -88,13 +78,11 @@ impl<'a, V: HasPosition, DE, UE, F, P: PlaneTests<V::Scalar>> Segment<'a, V, DE,
     }
 
     // From strictly inside a face: nothing where the segment ends there, else a corner or a side.
-    fn first_in_face(&self, edge: FixedDirectedEdgeHandle) -> Option<FixedIntersection>
-        requires within { edge < length self.now.dcel.now.directed }
-        requires over { IsOver V.place V.Scalar.whole P.sites P.covered self.now }
-        requires start { StartsInside (map V.place self.now.dcel.now.vertices)
-            self.now.dcel.now.mesh (place_of V.Scalar.whole self.now.from) edge }
-        ensures { Starts V.place self.now.dcel.now (place_of V.Scalar.whole self.now.from)
-            (place_of V.Scalar.whole self.now.to) result }
+    pub(crate) fn first_in_face(&self, edge: FixedDirectedEdgeHandle) -> Option<FixedIntersection>
+        requires within { edge < length self.now.dcel.directed }
+        requires start { StartsInside (map V.place self.now.dcel.vertices) self.now.dcel.mesh
+            self.now.from edge }
+        ensures { Starts V.place self.now.dcel self.now.from self.now.to result }
     {
         if is_same_point(self.from, self.to) {
             return None;
@@ -107,38 +95,5 @@ impl<'a, V: HasPosition, DE, UE, F, P: PlaneTests<V::Scalar>> Segment<'a, V, DE,
             return Some(self.start_item(exit));
         }
         Some(FixedIntersection::Edge(twin_of(self.dcel, exit)))
-    }
-
-    /// What it meets, from strictly within an edge: of a point to itself, the edge alone.
-    pub(crate) fn walk_from_edge(
-        &self,
-        edge: FixedDirectedEdgeHandle,
-    ) -> LineIntersectionIterator<'a, V, DE, UE, F, P>
-        requires within { edge < length self.now.dcel.now.directed }
-        requires over { IsOver V.place V.Scalar.whole P.sites P.covered self.now }
-        requires start { StartsWithin (map V.place self.now.dcel.now.vertices)
-            self.now.dcel.now.mesh (place_of V.Scalar.whole self.now.from) edge }
-        ensures line { WalksLine V.place V.Scalar.whole (state_of self.now.dcel.now)
-            (place_of V.Scalar.whole self.now.from) (place_of V.Scalar.whole self.now.to) result }
-        ensures ready { IsReady V.place V.Scalar.whole P.sites P.covered result }
-    {
-        self.starting(Some(self.first_on_edge(edge)))
-    }
-
-    /// What it meets, from strictly inside the face on the left of an edge: of a point to itself,
-    /// nothing.
-    pub(crate) fn walk_from_left(
-        &self,
-        edge: FixedDirectedEdgeHandle,
-    ) -> LineIntersectionIterator<'a, V, DE, UE, F, P>
-        requires within { edge < length self.now.dcel.now.directed }
-        requires over { IsOver V.place V.Scalar.whole P.sites P.covered self.now }
-        requires start { StartsInside (map V.place self.now.dcel.now.vertices)
-            self.now.dcel.now.mesh (place_of V.Scalar.whole self.now.from) edge }
-        ensures line { WalksLine V.place V.Scalar.whole (state_of self.now.dcel.now)
-            (place_of V.Scalar.whole self.now.from) (place_of V.Scalar.whole self.now.to) result }
-        ensures ready { IsReady V.place V.Scalar.whole P.sites P.covered result }
-    {
-        self.starting(self.first_in_face(edge))
     }
 }

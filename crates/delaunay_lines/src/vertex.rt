@@ -1,9 +1,8 @@
 //! What a segment meets after a vertex.
 ghost use Rattle.std.specs.Prelude.{◌≡◌, ◌≢◌, ◌↔◌, ◌<◌, ℕ, length, map, IsTrue, MatchOption};
 ghost use Rattle.half_edge_mesh.specs.Mesh.{origin};
-ghost use Rattle.delaunay_core.specs.Place.{place_of};
 ghost use Rattle.delaunay_legalization.specs.Known.{point_at};
-ghost use Rattle.delaunay_lines.specs.Over.{GoesOnTo, IsAtItem, IsOver};
+ghost use Rattle.delaunay_lines.specs.Over.{GoesOnTo, IsAtItem};
 ghost use Rattle.delaunay_lines.specs.Steps.{IsEdgeAhead, IsInCone, LeadsTo};
 
 use crate::intersection::FixedIntersection;
@@ -17,13 +16,11 @@ use half_edge_mesh::{FixedDirectedEdgeHandle, FixedVertexHandle, MeshViews};
 impl<'a, V: HasPosition, DE, UE, F, P: PlaneTests<V::Scalar>> Segment<'a, V, DE, UE, F, P> {
     // Whether an edge points towards a position, or the position is on the edge.
     fn is_edge_ahead(&self, edge: FixedDirectedEdgeHandle) -> bool
-        requires within { edge < length self.now.dcel.now.directed }
-        requires over { IsOver V.place V.Scalar.whole P.sites P.covered self.now }
-        requires starts_apart { point_at (map V.place self.now.dcel.now.vertices)
-            (origin self.now.dcel.now.mesh edge) ≢ place_of V.Scalar.whole self.now.to }
-        ensures { IsTrue result ↔
-            IsEdgeAhead (map V.place self.now.dcel.now.vertices) self.now.dcel.now.mesh
-            (place_of V.Scalar.whole self.now.to) edge }
+        requires within { edge < length self.now.dcel.directed }
+        requires starts_apart { point_at (map V.place self.now.dcel.vertices)
+            (origin self.now.dcel.mesh edge) ≢ self.now.to }
+        ensures { IsTrue result ↔ IsEdgeAhead (map V.place self.now.dcel.vertices)
+            self.now.dcel.mesh self.now.to edge }
     {
         self.way_along(edge).goes_towards(self.to)
     }
@@ -31,11 +28,9 @@ impl<'a, V: HasPosition, DE, UE, F, P: PlaneTests<V::Scalar>> Segment<'a, V, DE,
     // Whether a position is strictly between the two sides, from the start of an edge on, of the
     // inner face on its left.
     fn is_in_cone(&self, edge: FixedDirectedEdgeHandle) -> bool
-        requires within { edge < length self.now.dcel.now.directed }
-        requires over { IsOver V.place V.Scalar.whole P.sites P.covered self.now }
-        ensures { IsTrue result ↔
-            IsInCone (map V.place self.now.dcel.now.vertices) self.now.dcel.now.mesh
-            (place_of V.Scalar.whole self.now.to) edge }
+        requires { edge < length self.now.dcel.directed }
+        ensures { IsTrue result ↔ IsInCone (map V.place self.now.dcel.vertices) self.now.dcel.mesh
+            self.now.to edge }
     {
         if is_outer(self.dcel, edge) {
             return false;
@@ -45,13 +40,11 @@ impl<'a, V: HasPosition, DE, UE, F, P: PlaneTests<V::Scalar>> Segment<'a, V, DE,
 
     // Whether an edge, or the face on its left, leads towards a position.
     fn leads_to(&self, edge: FixedDirectedEdgeHandle) -> bool
-        requires within { edge < length self.now.dcel.now.directed }
-        requires over { IsOver V.place V.Scalar.whole P.sites P.covered self.now }
-        requires starts_apart { point_at (map V.place self.now.dcel.now.vertices)
-            (origin self.now.dcel.now.mesh edge) ≢ place_of V.Scalar.whole self.now.to }
-        ensures { IsTrue result ↔
-            LeadsTo (map V.place self.now.dcel.now.vertices) self.now.dcel.now.mesh
-            (place_of V.Scalar.whole self.now.to) edge }
+        requires within { edge < length self.now.dcel.directed }
+        requires starts_apart { point_at (map V.place self.now.dcel.vertices)
+            (origin self.now.dcel.mesh edge) ≢ self.now.to }
+        ensures { IsTrue result ↔ LeadsTo (map V.place self.now.dcel.vertices) self.now.dcel.mesh
+            self.now.to edge }
     {
         self.is_edge_ahead(edge) || self.is_in_cone(edge)
     }
@@ -59,15 +52,13 @@ impl<'a, V: HasPosition, DE, UE, F, P: PlaneTests<V::Scalar>> Segment<'a, V, DE,
     // Of the edges that start at a vertex, one that leads towards a position, or whose left face
     // does.
     fn edge_towards(&self, vertex: FixedVertexHandle) -> Option<FixedDirectedEdgeHandle>
-        requires within { vertex < length self.now.dcel.now.vertices }
-        requires over { IsOver V.place V.Scalar.whole P.sites P.covered self.now }
-        requires apart { point_at (map V.place self.now.dcel.now.vertices) vertex ≢
-            place_of V.Scalar.whole self.now.to }
-        ensures { let points = map V.place self.now.dcel.now.vertices in
-            let m = self.now.dcel.now.mesh in let q = place_of V.Scalar.whole self.now.to in
-            MatchOption result ((h : ℕ) → h < length self.now.dcel.now.directed →
-            origin m h ≡ vertex → ¬ LeadsTo points m q h)
-            (λ h. (h < length self.now.dcel.now.directed) × (origin m h ≡ vertex) ×
+        requires within { vertex < length self.now.dcel.vertices }
+        requires apart { point_at (map V.place self.now.dcel.vertices) vertex ≢ self.now.to }
+        ensures { let points = map V.place self.now.dcel.vertices in let m = self.now.dcel.mesh in
+            let q = self.now.to in MatchOption result
+            ((h : ℕ) → h < length self.now.dcel.directed → origin m h ≡ vertex →
+            ¬ LeadsTo points m q h)
+            (λ h. (h < length self.now.dcel.directed) × (origin m h ≡ vertex) ×
             LeadsTo points m q h) }
     {
         for edge in self.dcel.vertex(vertex).out_edges() {
@@ -79,38 +70,22 @@ impl<'a, V: HasPosition, DE, UE, F, P: PlaneTests<V::Scalar>> Segment<'a, V, DE,
         None
     }
 
-    // What a segment meets after the vertex where an edge starts that leads towards the segment's
-    // end, or whose left face does: the edge, nothing where the segment ends inside the face, or
-    // else the far side of the face.
-    fn along_or_into(&self, edge: FixedDirectedEdgeHandle) -> Option<FixedIntersection>
-        requires within { edge < length self.now.dcel.now.directed }
-        requires at { IsAtItem V.place V.Scalar.whole P.sites P.covered self.now
-            (FixedIntersection.Vertex (origin self.now.dcel.now.mesh edge)) }
-        requires starts_apart { point_at (map V.place self.now.dcel.now.vertices)
-            (origin self.now.dcel.now.mesh edge) ≢ place_of V.Scalar.whole self.now.to }
-        requires leads { LeadsTo (map V.place self.now.dcel.now.vertices) self.now.dcel.now.mesh
-            (place_of V.Scalar.whole self.now.to) edge }
-        ensures { GoesOnTo V.place V.Scalar.whole self.now
-            (FixedIntersection.Vertex (origin self.now.dcel.now.mesh edge)) result }
-    {
-        if self.is_edge_ahead(edge) {
-            return Some(FixedIntersection::Overlap(edge));
-        }
-        self.leave_by(edge_after(self.dcel, edge))
-    }
-
-    // What a segment meets after a vertex.
+    // What a segment meets after a vertex: an edge along it, nothing where it ends at the vertex or
+    // inside the next face, or else the far side of this face.
     pub(crate) fn after_vertex(&self, vertex: FixedVertexHandle) -> Option<FixedIntersection>
-        requires { IsAtItem V.place V.Scalar.whole P.sites P.covered self.now
-            (FixedIntersection.Vertex vertex) }
-        ensures { GoesOnTo V.place V.Scalar.whole self.now (FixedIntersection.Vertex vertex)
-            result }
+        requires { IsAtItem V.place self.now (FixedIntersection.Vertex vertex) }
+        ensures { GoesOnTo V.place self.now (FixedIntersection.Vertex vertex) result }
     {
         if is_same_point(position_of(self.dcel, vertex), self.to) {
             return None;
         }
         match self.edge_towards(vertex) {
-            Some(edge) => self.along_or_into(edge),
+            Some(edge) => {
+                if self.is_edge_ahead(edge) {
+                    return Some(FixedIntersection::Overlap(edge));
+                }
+                self.leave_by(edge_after(self.dcel, edge))
+            }
             None => None,
         }
     }

@@ -3,13 +3,13 @@ ghost use Rattle.std.specs.Prelude.{◌≢◌, ◌↔◌, IsTrue};
 ghost use Rattle.plane.specs.Fraction.{whole as fraction, OnSegment, WithinSegment};
 ghost use Rattle.plane_segments.specs.Steps.{IsAhead};
 ghost use Rattle.delaunay_core.specs.Place.{place_of};
-ghost use Rattle.delaunay_lines.specs.Way.{IsWay};
 
 use delaunay_core::math::PlaneTests;
 use delaunay_core::point::{Point2, SpadeNum};
 use delaunay_legalization::{is_same_point, is_strictly_within};
+use std::marker::Model;
 
-/// The way from one point to another, with the tests that say on which sides points are.
+/// The way from one point to another that differs from it, with tests that cover both.
 #[derive(Drop)]
 pub(crate) struct Way<'a, S: SpadeNum, P: PlaneTests<S>> {
     pub(crate) from: Point2<S>,
@@ -17,32 +17,46 @@ pub(crate) struct Way<'a, S: SpadeNum, P: PlaneTests<S>> {
     pub(crate) tests: &'a P,
 }
 
+impl<'a, S: SpadeNum, P: PlaneTests<S>> Model for Way<'a, S, P> {
+    ghost use Rattle.delaunay_core.specs.Place.{place_of};
+    ghost use Rattle.delaunay_lines.specs.Way.{Heading, IsWay};
+
+    ghost Value = { Heading P };
+
+    ghost view = { λ w. record {
+      from = place_of S.whole w.from;
+      to = place_of S.whole w.to;
+      tests = w.tests.now;
+    } };
+
+    ghost invariant = { λ w. IsWay (P.covered w.tests.now) (place_of S.whole w.from)
+        (place_of S.whole w.to) };
+}
+
 impl<'a, S: SpadeNum, P: PlaneTests<S>> Way<'a, S, P> {
     // Whether a point differs from both ends.
     fn ends_elsewhere(&self, point: Point2<S>) -> bool
         ensures { IsTrue result ↔
-            ((place_of S.whole point ≢ place_of S.whole self.now.from) ×
-            (place_of S.whole point ≢ place_of S.whole self.now.to)) }
+            ((place_of S.whole point ≢ self.now.from) × (place_of S.whole point ≢ self.now.to)) }
     {
         !is_same_point(point, self.from) && !is_same_point(point, self.to)
     }
 
     // Whether a point is strictly within the segment.
     pub(crate) fn has_within(&self, point: Point2<S>) -> bool
-        requires way { IsWay S.whole P.covered self.now }
-        requires covered { P.covered self.now.tests.now (place_of S.whole point) }
-        ensures { IsTrue result ↔ WithinSegment (fraction (place_of S.whole self.now.from))
-            (fraction (place_of S.whole self.now.to)) (fraction (place_of S.whole point)) }
+        requires { P.covered self.now.tests (place_of S.whole point) }
+        ensures { IsTrue result ↔ WithinSegment (fraction self.now.from) (fraction self.now.to)
+            (fraction (place_of S.whole point)) }
     {
-        self.ends_elsewhere(point) && is_strictly_within(self.from, self.to, point, self.tests)
+        let (from, to) = (self.from, self.to);
+        self.ends_elsewhere(point) && is_strictly_within(from, to, point, self.tests)
     }
 
     // Whether a point is on the closed segment.
     pub(crate) fn carries(&self, point: Point2<S>) -> bool
-        requires way { IsWay S.whole P.covered self.now }
-        requires covered { P.covered self.now.tests.now (place_of S.whole point) }
-        ensures { IsTrue result ↔ OnSegment (fraction (place_of S.whole self.now.from))
-            (fraction (place_of S.whole self.now.to)) (fraction (place_of S.whole point)) }
+        requires { P.covered self.now.tests (place_of S.whole point) }
+        ensures { IsTrue result ↔ OnSegment (fraction self.now.from) (fraction self.now.to)
+            (fraction (place_of S.whole point)) }
     {
         if self.ends_elsewhere(point) {
             is_strictly_within(self.from, self.to, point, self.tests)
@@ -53,11 +67,10 @@ impl<'a, S: SpadeNum, P: PlaneTests<S>> Way<'a, S, P> {
 
     // Whether a point, which is not where the way starts, lies in its direction from there.
     pub(crate) fn goes_towards(&self, point: Point2<S>) -> bool
-        requires way { IsWay S.whole P.covered self.now }
-        requires covered { P.covered self.now.tests.now (place_of S.whole point) }
-        requires apart { place_of S.whole self.now.from ≢ place_of S.whole point }
-        ensures { IsTrue result ↔ IsAhead (fraction (place_of S.whole self.now.from))
-            (fraction (place_of S.whole self.now.to)) (fraction (place_of S.whole point)) }
+        requires covered { P.covered self.now.tests (place_of S.whole point) }
+        requires apart { self.now.from ≢ place_of S.whole point }
+        ensures { IsTrue result ↔ IsAhead (fraction self.now.from) (fraction self.now.to)
+            (fraction (place_of S.whole point)) }
     {
         let further = Way {
             from: self.from,

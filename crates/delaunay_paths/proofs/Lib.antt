@@ -1,5 +1,4 @@
--- What answers to tests say of points and corners.
-pub mod Corners
+-- What answers to tests say of points.
 pub mod Places
 pub mod Walking
 -- The edges that cross a segment, listed.

@@ -1,12 +1,10 @@
 -- The corners round an edge that is to be turned towards a segment, by their positions.
-use Rattle.std.specs.Prelude.{◌≡◌, ℤ, ℕ, List}
+use Rattle.std.specs.Prelude.{ℕ, List}
 use Rattle.half_edge_mesh.specs.Mesh.{Mesh, origin, next}
 use Rattle.plane.specs.Fraction.{Point, whole}
 use Rattle.plane.specs.Side.{TurnsLeft}
-use Rattle.delaunay_core.specs.Place.{place_of}
 use Rattle.delaunay_legalization.specs.Known.{point_at}
 use Rattle.delaunay_paths.specs.Crossing.{PassesSooner, ahead, behind}
-use Rattle.delaunay_paths.specs.declared.nearer.Turning.{Turning}
 
 -- the corners v x y z turn left at v and at y, and where an edge between x and z crosses the way
 -- from p to q, its right end comes before v
@@ -14,28 +12,34 @@ abbrev pub CornersTurn : (p q v x y z : Point) → Type 0
 CornersTurn p q v x y z = TurnsLeft (whole v) (whole x) (whole z)
     × TurnsLeft (whole x) (whole y) (whole z) × PassesSooner p q v x z × PassesSooner p q v z x
 
--- the same of their positions
-abbrev pub TurnsByPlaces : {S P : Type 0} → (S → ℤ) → Turning S P → Type 0
-TurnsByPlaces number t = CornersTurn (place_of number t.from) (place_of number t.to)
-    (place_of number t.start) (place_of number t.behind) (place_of number t.end)
-    (place_of number t.ahead)
+-- what a contract sees of a segment and of the corners round an edge: their positions, and the
+-- tests
+pub record Corners (P : Type 0) : Type 0 where
+  pub from : Point
+  pub to : Point
+  pub start : Point
+  pub behind : Point
+  pub end : Point
+  pub ahead : Point
+  pub tests : P
 
--- the tests cover the corners and the ends of the segment
-pub record AreCovered {S P : Type 0} (number : S → ℤ) (Covers : P → Point → Type 0)
-    (t : Turning S P) : Type 0 where
-  pub from : Covers t.tests.now (place_of number t.from)
-  pub to : Covers t.tests.now (place_of number t.to)
-  pub start : Covers t.tests.now (place_of number t.start)
-  pub behind : Covers t.tests.now (place_of number t.behind)
-  pub end : Covers t.tests.now (place_of number t.end)
-  pub ahead : Covers t.tests.now (place_of number t.ahead)
+-- the ends of the segment and the corners are covered
+pub record AreCovered (IsCovered : Point → Type 0) (p q v x y z : Point) : Type 0 where
+  pub from : IsCovered p
+  pub to : IsCovered q
+  pub start : IsCovered v
+  pub behind : IsCovered x
+  pub end : IsCovered y
+  pub ahead : IsCovered z
 
--- they are those round directed edge e, and the segment is that from vertex i to vertex j
-pub record IsTurningAt {S P : Type 0} (number : S → ℤ) (points : List Point) (m : Mesh) (i j e : ℕ)
-    (t : Turning S P) : Type 0 where
-  pub from : place_of number t.from ≡ point_at points i
-  pub to : place_of number t.to ≡ point_at points j
-  pub start : place_of number t.start ≡ point_at points (origin m e)
-  pub behind : place_of number t.behind ≡ point_at points (behind m e)
-  pub end : place_of number t.end ≡ point_at points (origin m (next m e))
-  pub ahead : place_of number t.ahead ≡ point_at points (ahead m e)
+-- those round directed edge e, and the segment from vertex i to vertex j
+abbrev pub corners_round : {P : Type 0} → List Point → Mesh → ℕ → ℕ → ℕ → P → Corners P
+corners_round points m i j e t = record {
+  from = point_at points i;
+  to = point_at points j;
+  start = point_at points (origin m e);
+  behind = point_at points (behind m e);
+  end = point_at points (origin m (next m e));
+  ahead = point_at points (ahead m e);
+  tests = t;
+}

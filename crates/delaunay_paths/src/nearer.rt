@@ -1,20 +1,21 @@
 //! Whether an edge that crosses a segment can be turned towards it, and whether the edge that is
 //! made then crosses too.
-ghost use Rattle.std.specs.Prelude.{◌↔◌, ◌<◌, length, map, All, IsTrue};
+ghost use Rattle.std.specs.Prelude.{◌≡◌, ◌↔◌, ◌<◌, length, map, All, IsTrue};
 ghost use Rattle.plane_segments.specs.Path.{ComesAfterOnRight};
 ghost use Rattle.delaunay_core.specs.Place.{place_of};
 ghost use Rattle.delaunay_paths.specs.Crossing.{IsWayMade, PassesFromRight, PassesSooner};
 ghost use Rattle.delaunay_paths.specs.Crossing.{TurnsNearer};
-ghost use Rattle.delaunay_paths.specs.Turning.{AreCovered, IsTurningAt, TurnsByPlaces};
+ghost use Rattle.delaunay_paths.specs.Turning.{corners_round, CornersTurn};
 
 use crate::order::Seen;
 use delaunay_core::math::PlaneTests;
 use delaunay_core::point::{HasPosition, Point2, SpadeNum};
 use delaunay_legalization::{position_of, start_before, start_of, turns_left};
 use half_edge_mesh::{Dcel, FixedDirectedEdgeHandle, FixedVertexHandle, MeshViews};
+use std::marker::Model;
 
 // A segment, and the corners round an edge from `start` to `end`, of which one is ahead of it, on
-// its left, and one behind it.
+// its left, and one behind it. The tests cover all of them.
 #[derive(Drop)]
 struct Turning<'a, S: SpadeNum, P: PlaneTests<S>> {
     from: Point2<S>,
@@ -26,14 +27,34 @@ struct Turning<'a, S: SpadeNum, P: PlaneTests<S>> {
     tests: &'a P,
 }
 
+impl<'a, S: SpadeNum, P: PlaneTests<S>> Model for Turning<'a, S, P> {
+    ghost use Rattle.delaunay_core.specs.Place.{place_of};
+    ghost use Rattle.delaunay_paths.specs.Turning.{AreCovered, Corners};
+
+    ghost Value = { Corners P };
+
+    ghost view = { λ t. record {
+      from = place_of S.whole t.from;
+      to = place_of S.whole t.to;
+      start = place_of S.whole t.start;
+      behind = place_of S.whole t.behind;
+      end = place_of S.whole t.end;
+      ahead = place_of S.whole t.ahead;
+      tests = t.tests.now;
+    } };
+
+    ghost invariant = { λ t. AreCovered (P.covered t.tests.now) (place_of S.whole t.from)
+        (place_of S.whole t.to) (place_of S.whole t.start) (place_of S.whole t.behind)
+        (place_of S.whole t.end) (place_of S.whole t.ahead) };
+}
+
 impl<'a, S: SpadeNum, P: PlaneTests<S>> Turning<'a, S, P> {
     // Whether the way between two of the corners crosses the segment from its right to its left.
     fn crosses_between(&self, start: Point2<S>, end: Point2<S>) -> bool
-        requires covered { AreCovered S.whole P.covered self.now }
-        requires start_covered { P.covered self.now.tests.now (place_of S.whole start) }
-        requires end_covered { P.covered self.now.tests.now (place_of S.whole end) }
-        ensures { IsTrue result ↔ PassesFromRight (place_of S.whole self.now.from)
-            (place_of S.whole self.now.to) (place_of S.whole start) (place_of S.whole end) }
+        requires start_covered { P.covered self.now.tests (place_of S.whole start) }
+        requires end_covered { P.covered self.now.tests (place_of S.whole end) }
+        ensures { IsTrue result ↔ PassesFromRight self.now.from self.now.to (place_of S.whole start)
+            (place_of S.whole end) }
     {
         self.tests
             .side(self.from, self.to, start)
@@ -45,10 +66,9 @@ impl<'a, S: SpadeNum, P: PlaneTests<S>> Turning<'a, S, P> {
 
     // Whether the start of the edge comes after a point, seen from the start of the segment.
     fn starts_after(&self, point: Point2<S>) -> bool
-        requires covered { AreCovered S.whole P.covered self.now }
-        requires point_covered { P.covered self.now.tests.now (place_of S.whole point) }
-        ensures { IsTrue result ↔ ComesAfterOnRight (place_of S.whole self.now.from)
-            (place_of S.whole point) (place_of S.whole self.now.start) }
+        requires { P.covered self.now.tests (place_of S.whole point) }
+        ensures { IsTrue result ↔
+            ComesAfterOnRight self.now.from (place_of S.whole point) self.now.start }
     {
         let seen = Seen {
             from: self.from,
@@ -62,11 +82,9 @@ impl<'a, S: SpadeNum, P: PlaneTests<S>> Turning<'a, S, P> {
     // Whether the start of the edge comes after the first of two corners, where the way from that
     // to the second crosses.
     fn crosses_sooner(&self, one: Point2<S>, other: Point2<S>) -> bool
-        requires covered { AreCovered S.whole P.covered self.now }
-        requires one_covered { P.covered self.now.tests.now (place_of S.whole one) }
-        requires other_covered { P.covered self.now.tests.now (place_of S.whole other) }
-        ensures { IsTrue result ↔ PassesSooner (place_of S.whole self.now.from)
-            (place_of S.whole self.now.to) (place_of S.whole self.now.start)
+        requires one_covered { P.covered self.now.tests (place_of S.whole one) }
+        requires other_covered { P.covered self.now.tests (place_of S.whole other) }
+        ensures { IsTrue result ↔ PassesSooner self.now.from self.now.to self.now.start
             (place_of S.whole one) (place_of S.whole other) }
     {
         !self.tests.side(self.from, self.to, one).is_on_right_side()
@@ -76,8 +94,8 @@ impl<'a, S: SpadeNum, P: PlaneTests<S>> Turning<'a, S, P> {
 
     // Whether the edge can be turned towards the segment.
     fn turns_nearer(&self) -> bool
-        requires { AreCovered S.whole P.covered self.now }
-        ensures { IsTrue result ↔ TurnsByPlaces S.whole self.now }
+        ensures { let t = self.now in
+            IsTrue result ↔ CornersTurn t.from t.to t.start t.behind t.end t.ahead }
     {
         turns_left(self.start, self.behind, self.ahead, self.tests)
             && turns_left(self.behind, self.end, self.ahead, self.tests)
@@ -98,9 +116,8 @@ fn turning_at<'a, V: HasPosition, DE, UE, F, P: PlaneTests<V::Scalar>>(
     requires from_in { from < length dcel.now.vertices }
     requires to_in { to < length dcel.now.vertices }
     requires sites { All (P.sites tests.now) (map V.place dcel.now.vertices) }
-    ensures corners { IsTurningAt V.Scalar.whole (map V.place dcel.now.vertices) dcel.now.mesh from
-        to edge result }
-    ensures covered { AreCovered V.Scalar.whole P.covered result }
+    ensures { result ≡
+        corners_round (map V.place dcel.now.vertices) dcel.now.mesh from to edge tests.now }
 {
     let next = dcel.directed_edge(edge).next().fix();
     let twin = dcel.directed_edge(edge).rev().fix();

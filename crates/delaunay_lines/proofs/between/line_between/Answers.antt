@@ -1,8 +1,8 @@
 use Rattle.delaunay_lines.proofs.between.line_between.Goals as goal
 
-pub walk_from_location-requires-clause-over : goal.walk_from_location-requires-clause-over
-walk_from_location-requires-clause-over g c = record {
-  mesh = c.recall_invariant.ensures.whole;
+pub invariant_of-segment : goal.invariant_of-segment
+invariant_of-segment g c = record {
+  mesh = record { valid = c.requires.kept.valid; fits = c.requires.kept.fits };
   shape = c.requires.kept.shape;
   sites = c.requires.sites;
   from = c.requires.from_covered;

@@ -1,9 +1,13 @@
-use Rattle.std.proofs.Common.{map}
-use Rattle.delaunay_paths.proofs.Corners.{nearer_by_places}
 use Rattle.delaunay_paths.proofs.nearer.turns_nearer.Goals as goal
 
 pub returns : goal.returns
-returns g c = nearer_by_places g.V.Scalar.SpadeNum.whole
-    (map g.V.HasPosition.place c.args.dcel.now.vertices) c.args.dcel.now.mesh c.args.from c.args.to
-    c.args.edge c.turning_at-turning.result c.turning_at-turning.ensures.corners _
-    c.turns_nearer.ensures
+returns g c =
+    let told = rw c.turning_at-turning.ensures at c.turns_nearer.ensures in (
+      (λ x. let turns = told.0 x in record {
+        first = turns.0;
+        second = turns.1;
+        behind_sooner = turns.2;
+        ahead_sooner = turns.3;
+      }),
+      (λ can. told.1 (can.first, can.second, can.behind_sooner, can.ahead_sooner)),
+    )

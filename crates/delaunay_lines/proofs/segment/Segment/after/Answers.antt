@@ -1,4 +1,4 @@
-use Rattle.std.proofs.Common.{subst}
+use Rattle.std.proofs.Common.{◌≢◌, subst}
 use Rattle.delaunay_legalization.proofs.Questions.{both_ways}
 use Rattle.delaunay_lines.specs.declared.intersection.FixedIntersection.{FixedIntersection}
 use Rattle.delaunay_lines.specs.Over.{IsAtItem}
@@ -6,39 +6,24 @@ use Rattle.delaunay_lines.proofs.segment.Segment.after.Goals as goal
 
 pub after_crossing-requires : goal.after_crossing-requires
 after_crossing-requires g c =
-    subst (λ (i : FixedIntersection). IsAtItem g.V.HasPosition.place g.V.Scalar.SpadeNum.whole
-    g.P.PlaneTests.sites
-    g.P.PlaneTests.covered c.args.self.now i) c.in-Edge.is
-    (record {
-      over = c.requires.over;
-      within = c.requires.within;
-      apart = λ e. both_ways _ (c.is_same_point.ensures.1 e) c.if-is_same_point.false;
-      met =
-          c.requires.met (λ e. both_ways _ (c.is_same_point.ensures.1 e) c.if-is_same_point.false);
-    })
+    let apart : c.args.self.now.from ≢ c.args.self.now.to = rw (← c.self.view_is)
+    (λ e. both_ways _ (c.is_same_point.ensures.1 e) c.if-is_same_point.false) in
+    subst (λ (i : FixedIntersection). IsAtItem g.V.HasPosition.place c.args.self.now i)
+    c.in-Edge.is
+    (record { within = c.requires.within; apart = apart; met = c.requires.met apart })
 
 pub after_vertex-requires : goal.after_vertex-requires
 after_vertex-requires g c =
-    subst (λ (i : FixedIntersection). IsAtItem g.V.HasPosition.place g.V.Scalar.SpadeNum.whole
-    g.P.PlaneTests.sites
-    g.P.PlaneTests.covered c.args.self.now i) c.in-Vertex.is
-    (record {
-      over = c.requires.over;
-      within = c.requires.within;
-      apart = λ e. both_ways _ (c.is_same_point.ensures.1 e) c.if-is_same_point.false;
-      met =
-          c.requires.met (λ e. both_ways _ (c.is_same_point.ensures.1 e) c.if-is_same_point.false);
-    })
+    let apart : c.args.self.now.from ≢ c.args.self.now.to = rw (← c.self.view_is)
+    (λ e. both_ways _ (c.is_same_point.ensures.1 e) c.if-is_same_point.false) in
+    subst (λ (i : FixedIntersection). IsAtItem g.V.HasPosition.place c.args.self.now i)
+    c.in-Vertex.is
+    (record { within = c.requires.within; apart = apart; met = c.requires.met apart })
 
 pub after_overlap-requires : goal.after_overlap-requires
 after_overlap-requires g c =
-    subst (λ (i : FixedIntersection). IsAtItem g.V.HasPosition.place g.V.Scalar.SpadeNum.whole
-    g.P.PlaneTests.sites
-    g.P.PlaneTests.covered c.args.self.now i) c.in-Overlap.is
-    (record {
-      over = c.requires.over;
-      within = c.requires.within;
-      apart = λ e. both_ways _ (c.is_same_point.ensures.1 e) c.if-is_same_point.false;
-      met =
-          c.requires.met (λ e. both_ways _ (c.is_same_point.ensures.1 e) c.if-is_same_point.false);
-    })
+    let apart : c.args.self.now.from ≢ c.args.self.now.to = rw (← c.self.view_is)
+    (λ e. both_ways _ (c.is_same_point.ensures.1 e) c.if-is_same_point.false) in
+    subst (λ (i : FixedIntersection). IsAtItem g.V.HasPosition.place c.args.self.now i)
+    c.in-Overlap.is
+    (record { within = c.requires.within; apart = apart; met = c.requires.met apart })

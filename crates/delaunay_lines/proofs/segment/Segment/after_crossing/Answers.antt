@@ -5,14 +5,19 @@ use Rattle.delaunay_lines.proofs.segment.Segment.after_crossing.Goals as goal
 
 pub returns-then-is_outer : goal.returns-then-is_outer
 returns-then-is_outer g c =
-    last_at_edge _ _ _ _ _ _ c.requires.over c.requires.apart c.args.edge c.requires.within
-    c.requires.met (inr (c.is_outer.ensures.0 c.if-is_outer.true))
+    let here = rw (← c.self.view_is) at c.requires in
+    rw (← c.self.view_is) (last_at_edge _ _ _ _ _ _ c.self.invariant here.apart c.args.edge
+    here.within
+    here.met (inr (c.is_outer.ensures.0 c.if-is_outer.true)))
 
 pub returns-then-is_on_line : goal.returns-then-is_on_line
 returns-then-is_on_line g c =
-    last_at_edge _ _ _ _ _ _ c.requires.over c.requires.apart c.args.edge c.requires.within
-    c.requires.met (inl (sym c.side_of_edge.ensures ∙ c.is_on_line.ensures.0 c.if-is_on_line.true))
+    let here = rw (← c.self.view_is) at c.requires in
+    rw (← c.self.view_is) (last_at_edge _ _ _ _ _ _ c.self.invariant here.apart c.args.edge
+    here.within
+    here.met (inl (sym c.side_of_edge.ensures ∙ c.is_on_line.ensures.0 c.if-is_on_line.true)))
 
 pub through_face-requires-clause-inner : goal.through_face-requires-clause-inner
 through_face-requires-clause-inner g c =
-    positive _ (λ e. both_ways _ (c.is_outer.ensures.1 e) c.if-is_outer.false)
+    rw (← c.self.view_is) (positive _ (λ e. both_ways _ (c.is_outer.ensures.1 e)
+    c.if-is_outer.false))

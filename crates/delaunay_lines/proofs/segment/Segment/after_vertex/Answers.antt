@@ -1,50 +1,66 @@
-use Rattle.std.proofs.Common.{ℕ, map, sym, ap, subst, ◌∙◌}
+use Rattle.std.proofs.Common.{◌⊎◌, map, sym, subst, ◌∙◌, inl, inr}
 use Rattle.plane.specs.Fraction.{Point, whole, IsSame}
-use Rattle.plane.specs.Line.{at_vertex}
 use Rattle.plane.proofs.Segments.{same-refl}
-use Rattle.delaunay_core.specs.Place.{place_of}
 use Rattle.delaunay_legalization.specs.Known.{point_at}
 use Rattle.delaunay_legalization.proofs.Questions.{both_ways}
-use Rattle.delaunay_lines.specs.declared.intersection.FixedIntersection.TheVariants.{Vertex}
-use Rattle.delaunay_lines.specs.Over.{IsAtItem}
-use Rattle.delaunay_lines.specs.Steps.{IsNext}
-use Rattle.delaunay_lines.proofs.MeshSteps.{not_same, last_at_end, last_if_none_leads}
+use Rattle.delaunay_lines.proofs.MeshSteps.{along_ahead, into_face, last_at_end}
+use Rattle.delaunay_lines.proofs.MeshSteps.{last_if_none_leads, not_same}
 use Rattle.delaunay_lines.proofs.segment.Segment.after_vertex.Goals as goal
 
 pub returns-then-is_same_point : goal.returns-then-is_same_point
 returns-then-is_same_point g c =
-    let at = point_at (map g.V.HasPosition.place c.args.self.now.dcel.now.vertices) c.args.vertex in
-    last_at_end _ _ _ _ _ _ c.requires.over c.requires.apart c.args.vertex c.requires.met
-    (subst (λ (z : Point). IsSame (whole at) (whole z))
+    let here = rw (← c.self.view_is) at c.requires in
+    let at = point_at (map g.V.HasPosition.place c.self.inside.dcel.now.vertices) c.args.vertex in
+    rw (← c.self.view_is) (last_at_end _ _ _ _ _ _ c.self.invariant here.apart c.args.vertex
+    here.met (subst (λ (z : Point). IsSame (whole at) (whole z))
     (sym c.position_of.ensures.place ∙ c.is_same_point.ensures.0 c.if-is_same_point.true)
-    (same-refl (whole at)))
+    (same-refl (whole at))))
 
 pub edge_towards-requires-clause-apart : goal.edge_towards-requires-clause-apart
-edge_towards-requires-clause-apart g c =
-    λ e. both_ways _
-    (c.is_same_point.ensures.1 (c.position_of.ensures.place ∙ e)) c.if-is_same_point.false
+edge_towards-requires-clause-apart g c = rw (← c.self.view_is) (λ e. both_ways _
+    (c.is_same_point.ensures.1 (c.position_of.ensures.place ∙ e)) c.if-is_same_point.false)
 
-pub along_or_into-requires-clause-at : goal.along_or_into-requires-clause-at
-along_or_into-requires-clause-at g c =
-    subst (λ (v : ℕ). IsAtItem g.V.HasPosition.place g.V.Scalar.SpadeNum.whole g.P.PlaneTests.sites
-    g.P.PlaneTests.covered c.args.self.now (Vertex v)) (sym c.in-Some.ensures.1) c.requires
+pub is_edge_ahead-requires-clause-starts_apart : goal.is_edge_ahead-requires-clause-starts_apart
+is_edge_ahead-requires-clause-starts_apart g c =
+    let edge = rw (← c.self.view_is) at c.in-Some.ensures in
+    rw (← c.self.view_is, edge.1) (λ e. both_ways _
+    (c.is_same_point.ensures.1 (c.position_of.ensures.place ∙ e)) c.if-is_same_point.false)
 
-pub along_or_into-requires-clause-starts_apart : goal.along_or_into-requires-clause-starts_apart
-along_or_into-requires-clause-starts_apart g c =
-    λ e. both_ways _ (c.is_same_point.ensures.1 (c.position_of.ensures.place
-    ∙ ap (point_at (map g.V.HasPosition.place c.args.self.now.dcel.now.vertices))
-    (sym c.in-Some.ensures.1) ∙ e))
-    c.if-is_same_point.false
+pub returns-then-is_edge_ahead : goal.returns-then-is_edge_ahead
+returns-then-is_edge_ahead g c =
+    let here = rw (← c.self.view_is) at c.requires in
+    let edge = rw (← c.self.view_is) at c.in-Some.ensures in
+    let ahead = rw (← c.self.view_is) at c.is_edge_ahead.ensures in
+    rw (← c.self.view_is, ← edge.1) (
+      edge.0,
+      along_ahead _ _ _ _ _ _ c.self.invariant here.apart c.in-Some.edge edge.0
+          (rw (← edge.1) at here.met)
+          (not_same _ _ (rw edge.1 (λ e. both_ways _
+          (c.is_same_point.ensures.1 (c.position_of.ensures.place ∙ e)) c.if-is_same_point.false)))
+          (ahead.0 c.if-is_edge_ahead.true),
+    )
 
-pub returns-in-Some : goal.returns-in-Some
-returns-in-Some g c =
-    subst (λ (v : ℕ). IsNext g.V.HasPosition.place c.args.self.now.dcel.now
-    (place_of g.V.Scalar.SpadeNum.whole c.args.self.now.from)
-    (place_of g.V.Scalar.SpadeNum.whole c.args.self.now.to) (at_vertex v) c.along_or_into.result)
-    c.in-Some.ensures.1 c.along_or_into.ensures
+into : {A B : Type 0} → A ⊎ B → ¬ A → B
+into (inl a) n = absurd (n a)
+into (inr b) n = b
+
+pub returns-else-is_edge_ahead : goal.returns-else-is_edge_ahead
+returns-else-is_edge_ahead g c =
+    let here = rw (← c.self.view_is) at c.requires in
+    let edge = rw (← c.self.view_is) at c.in-Some.ensures in
+    let ahead = rw (← c.self.view_is) at c.is_edge_ahead.ensures in
+    rw (← c.self.view_is, ← edge.1) (into_face _ _ _ _ _ _ c.self.invariant here.apart
+    c.in-Some.edge edge.0 (rw (← edge.1) at here.met)
+    (not_same _ _ (rw edge.1 (λ e. both_ways _
+    (c.is_same_point.ensures.1 (c.position_of.ensures.place ∙ e)) c.if-is_same_point.false)))
+    (into edge.2 (λ x. both_ways _ (ahead.1 x) c.if-is_edge_ahead.false))
+    c.leave_by.result
+    (rw (← c.self.view_is, c.edge_after.ensures.value) at c.leave_by.ensures))
 
 pub returns-in-None : goal.returns-in-None
 returns-in-None g c =
-    last_if_none_leads _ _ _ _ _ _ c.requires.over c.requires.apart c.args.vertex c.requires.met
-    (not_same _ _ (λ e. both_ways _ (c.is_same_point.ensures.1 (c.position_of.ensures.place ∙ e))
-    c.if-is_same_point.false)) c.in-None.ensures
+    let here = rw (← c.self.view_is) at c.requires in
+    rw (← c.self.view_is) (last_if_none_leads _ _ _ _ _ _ c.self.invariant here.apart c.args.vertex
+    here.met (not_same _ _ (λ e. both_ways _
+    (c.is_same_point.ensures.1 (c.position_of.ensures.place ∙ e)) c.if-is_same_point.false))
+    (rw (← c.self.view_is) at c.in-None.ensures))

@@ -1,87 +1,77 @@
 use Rattle.std.proofs.Common.{ℕ, ◌<◌, map, sym, ap, subst, ◌∙◌, arith}
 use Rattle.half_edge_mesh.specs.Mesh.{origin}
 use Rattle.half_edge_mesh.specs.Rounds.{GivesRound, out_edges_left}
-use Rattle.delaunay_core.specs.Place.{place_of}
 use Rattle.delaunay_legalization.specs.Known.{point_at}
 use Rattle.delaunay_legalization.proofs.Questions.{both_ways}
 use Rattle.delaunay_legalization.proofs.Rounds.{round_begins, next_within, next_starts}
 use Rattle.delaunay_legalization.proofs.Rounds.{round_goes_on, round_ends}
-use Rattle.delaunay_lines.specs.Steps.{LeadsTo}
 use Rattle.delaunay_lines.proofs.segment.Segment.edge_towards.Goals as goal
 
 pub loop-edge-init : goal.loop-edge-init
 loop-edge-init g c =
     let d = c.vertex.result.dcel in
-    round_begins c.args.self.now.dcel.now c.args.vertex
-    (λ (h : ℕ). ¬ LeadsTo (map g.V.HasPosition.place c.args.self.now.dcel.now.vertices)
-    c.args.self.now.dcel.now.mesh (place_of g.V.Scalar.SpadeNum.whole c.args.self.now.to) h) d
+    rw (← c.self.view_is) (round_begins c.self.inside.dcel.now c.args.vertex _ d
     (out_edges_left c.into_iter-edge-iterator.result) (ap (λ x. x.now) c.vertex.ensures.dcel)
-    c.requires.over.mesh.valid
+    c.self.invariant.mesh.valid
     (subst (λ it. GivesRound d c.args.vertex (out_edges_left it))
     (sym c.into_iter-edge-iterator.ensures.into_iter_gives)
     (subst (λ (v : ℕ). GivesRound d v (out_edges_left c.out_edges-edge-items.result))
     c.vertex.ensures.index
-    c.out_edges-edge-items.ensures))
+    c.out_edges-edge-items.ensures)))
 
 pub leads_to-requires-clause-within : goal.leads_to-requires-clause-within
 leads_to-requires-clause-within g c =
-    let w = next_within c.args.self.now.dcel.now c.args.vertex _
+    let w = next_within c.self.inside.dcel.now c.args.vertex _
     (out_edges_left c.loop-edge.edge-iterator)
-    c.loop-edge.invariant (c.in-Some.edge.dcel, c.in-Some.edge.index)
+    (rw (← c.self.view_is) at c.loop-edge.invariant) (c.in-Some.edge.dcel, c.in-Some.edge.index)
     (out_edges_left c.next.new.self)
     c.in-Some.ensures.steps in
-    let fit = c.requires.over.mesh.fits.directed_fit in
+    let fit = c.self.invariant.mesh.fits.directed_fit in
     let is = c.fix-edge.ensures.value in
-    omega (arith, w, fit, is)
+    rw (← c.self.view_is) (omega (arith, w, fit, is))
 
 pub leads_to-requires-clause-starts_apart : goal.leads_to-requires-clause-starts_apart
 leads_to-requires-clause-starts_apart g c =
-    let points = map g.V.HasPosition.place c.args.self.now.dcel.now.vertices in
-    let o = next_starts c.args.self.now.dcel.now c.args.vertex _
-    (out_edges_left c.loop-edge.edge-iterator)
+    let d = c.args.self.now.dcel in
+    let o = next_starts d c.args.vertex _ (out_edges_left c.loop-edge.edge-iterator)
     c.loop-edge.invariant (c.in-Some.edge.dcel, c.in-Some.edge.index)
     (out_edges_left c.next.new.self)
     c.in-Some.ensures.steps in
-    λ e. c.requires.apart (ap (point_at points)
-    (sym (ap (origin c.args.self.now.dcel.now.mesh) c.fix-edge.ensures.value
-    ∙ o)) ∙ e)
+    λ e. c.requires.apart (ap (point_at (map g.V.HasPosition.place d.vertices))
+    (sym (ap (origin d.mesh) c.fix-edge.ensures.value ∙ o)) ∙ e)
 
 pub loop-edge-preserved : goal.loop-edge-preserved
 loop-edge-preserved g c =
-    round_goes_on c.args.self.now.dcel.now c.args.vertex _
+    round_goes_on c.args.self.now.dcel c.args.vertex _
     (out_edges_left c.loop-edge.edge-iterator)
     c.loop-edge.invariant (c.in-Some.edge.dcel, c.in-Some.edge.index)
     (out_edges_left c.next.new.self)
     c.in-Some.ensures.steps
-    (λ x. both_ways _ (c.leads_to.ensures.1 (subst
-    (λ (h : ℕ). LeadsTo
-    (map g.V.HasPosition.place c.args.self.now.dcel.now.vertices) c.args.self.now.dcel.now.mesh
-    (place_of g.V.Scalar.SpadeNum.whole c.args.self.now.to) h) (sym c.fix-edge.ensures.value) x))
-    c.if-leads_to.false)
+    (λ x. both_ways _ (c.leads_to.ensures.1 (rw c.fix-edge.ensures.value x)) c.if-leads_to.false)
 
 pub returns : goal.returns
-returns g c =
-    λ h within starts. round_ends c.args.self.now.dcel.now c.args.vertex _
+returns g c = rw (← c.self.view_is)
+    (λ h within starts. round_ends c.self.inside.dcel.now c.args.vertex _
     (out_edges_left c.loop-edge.edge-iterator)
-    c.loop-edge.invariant c.in-None.ensures.steps.0 h
-    (subst (λ (n : ℕ). h < n) c.requires.over.mesh.fits.directed_fit within) starts
+    (rw (← c.self.view_is) at c.loop-edge.invariant) c.in-None.ensures.steps.0 h
+    (subst (λ (n : ℕ). h < n) c.self.invariant.mesh.fits.directed_fit within) starts)
 
 pub returns-then-leads_to : goal.returns-then-leads_to
 returns-then-leads_to g c =
-    let m = c.args.self.now.dcel.now.mesh in
-    let o = next_starts c.args.self.now.dcel.now c.args.vertex _
+    let m = c.self.inside.dcel.now.mesh in
+    let o = next_starts c.self.inside.dcel.now c.args.vertex _
     (out_edges_left c.loop-edge.edge-iterator)
-    c.loop-edge.invariant (c.in-Some.edge.dcel, c.in-Some.edge.index)
+    (rw (← c.self.view_is) at c.loop-edge.invariant) (c.in-Some.edge.dcel, c.in-Some.edge.index)
     (out_edges_left c.next.new.self)
     c.in-Some.ensures.steps in
-    let w = next_within c.args.self.now.dcel.now c.args.vertex _
+    let w = next_within c.self.inside.dcel.now c.args.vertex _
     (out_edges_left c.loop-edge.edge-iterator)
-    c.loop-edge.invariant (c.in-Some.edge.dcel, c.in-Some.edge.index)
+    (rw (← c.self.view_is) at c.loop-edge.invariant) (c.in-Some.edge.dcel, c.in-Some.edge.index)
     (out_edges_left c.next.new.self)
     c.in-Some.ensures.steps in
-    let fit = c.requires.over.mesh.fits.directed_fit in
+    let fit = c.self.invariant.mesh.fits.directed_fit in
     let is = c.fix-edge.ensures.value in (
-      omega (arith, w, fit, is),
-      ap (origin m) is ∙ o,
+      rw (← c.self.view_is) (omega (arith, w, fit, is)),
+      rw (← c.self.view_is) (ap (origin m) is ∙ o),
       c.leads_to.ensures.0 c.if-leads_to.true,
     )

@@ -2,14 +2,12 @@ use Rattle.std.proofs.Common.{ℕ, map}
 use Rattle.half_edge_mesh.specs.Mesh.{rev}
 use Rattle.half_edge_mesh.specs.Rounds.{hull_left}
 use Rattle.mesh_embedding.proofs.OutlineGiven.{IsGoingAlong, indexes}
-use Rattle.delaunay_core.specs.Place.{place_of}
 use Rattle.delaunay_lines.specs.Starts.{IsCrossed}
 use Rattle.delaunay_lines.proofs.segment.Segment.entered_edge.Given as goal
 
 abbrev pub invariant-loop-outer : goal.invariant-loop-outer
 invariant-loop-outer g l =
-    IsGoingAlong l.self.dcel.now.mesh
-    (λ (h : ℕ). ¬ IsCrossed (map g.V.HasPosition.place l.self.dcel.now.vertices)
-    l.self.dcel.now.mesh (place_of g.V.Scalar.SpadeNum.whole l.self.from)
-    (place_of g.V.Scalar.SpadeNum.whole l.self.to) (rev h))
+    IsGoingAlong l.self.dcel.mesh
+    (λ (h : ℕ). ¬ IsCrossed (map g.V.HasPosition.place l.self.dcel.vertices)
+    l.self.dcel.mesh l.self.from l.self.to (rev h))
     (indexes (hull_left l.outer-iterator))

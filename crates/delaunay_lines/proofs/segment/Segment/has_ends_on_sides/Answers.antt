@@ -3,7 +3,7 @@ use Rattle.delaunay_legalization.proofs.Questions.{both_ways}
 use Rattle.delaunay_lines.proofs.segment.Segment.has_ends_on_sides.Goals as goal
 
 pub returns-then-is_on_right_side_or_on_line : goal.returns-then-is_on_right_side_or_on_line
-returns-then-is_on_right_side_or_on_line g c = (
+returns-then-is_on_right_side_or_on_line g c = rw (← c.self.view_is) (
   (λ t. record {
     from = λ e. c.is_on_right_side_or_on_line.ensures.0 c.if-is_on_right_side_or_on_line.true
         (c.side_of_edge-start.ensures ∙ e);
@@ -14,7 +14,7 @@ returns-then-is_on_right_side_or_on_line g c = (
 )
 
 pub returns-else-is_on_right_side_or_on_line : goal.returns-else-is_on_right_side_or_on_line
-returns-else-is_on_right_side_or_on_line g c = (
+returns-else-is_on_right_side_or_on_line g c = rw (← c.self.view_is) (
   (λ t. absurd (both_ways _ t c.if-is_on_right_side_or_on_line.false)),
   (λ x. c.is_on_right_side_or_on_line.ensures.1
       (λ e. x.from (sym c.side_of_edge-start.ensures ∙ e))),

@@ -1,4 +1,4 @@
-use Rattle.std.proofs.Common.{◌<◌, ℕ, length, ap, subst}
+use Rattle.std.proofs.Common.{ap}
 use Rattle.delaunay_legalization.proofs.Questions.{both_ways}
 use Rattle.delaunay_lines.specs.declared.intersection.FixedIntersection.TheVariants.{Edge}
 use Rattle.delaunay_lines.proofs.segment.Segment.leave_by.Goals as goal
@@ -9,7 +9,6 @@ returns-then-ends_left_of g c = c.ends_left_of.ensures.0 c.if-ends_left_of.true
 pub returns : goal.returns
 returns g c = (
   ap Edge c.twin_of.ensures.value,
-  subst (λ (k : ℕ). k < length c.args.self.now.dcel.now.directed) c.twin_of.ensures.value
-      c.twin_of.ensures.within,
+  rw (← c.self.view_is) (rw c.twin_of.ensures.value at c.twin_of.ensures.within),
   (λ l. both_ways _ (c.ends_left_of.ensures.1 l) c.if-ends_left_of.false),
 )

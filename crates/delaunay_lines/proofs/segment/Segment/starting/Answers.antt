@@ -1,20 +1,21 @@
-use Rattle.std.proofs.Common.{refl, arith}
+use Rattle.std.proofs.Common.{ap, arith}
+use Rattle.delaunay_legalization.specs.State.{state_of}
 use Rattle.delaunay_lines.proofs.segment.Segment.starting.Goals as goal
 
 pub returns-clause-line : goal.returns-clause-line
 returns-clause-line g c = record {
-  state = refl;
-  items = c.requires.starts.items;
-  line_list = c.requires.starts.line_list;
-  are_left = c.requires.starts.are_from;
+  state = ap (λ s. state_of s.dcel) c.self.view_is;
+  items = c.requires.items;
+  line_list = c.requires.line_list;
+  are_left = rw (← c.self.view_is) at c.requires.are_from;
 }
 
 pub returns-clause-ready : goal.returns-clause-ready
 returns-clause-ready g c = record {
-  over = c.requires.over;
-  items = c.requires.starts.items;
-  are_left = c.requires.starts.are_from;
-  few = let few = c.requires.starts.few in
+  over = c.self.invariant;
+  items = c.requires.items;
+  are_left = rw (← c.self.view_is) at c.requires.are_from;
+  few = let few = rw (← c.self.view_is) at c.requires.few in
       let vertices = c.num_vertices.ensures.value in
       let edges = c.num_undirected_edges.ensures.value in omega (arith, few, vertices, edges);
 }

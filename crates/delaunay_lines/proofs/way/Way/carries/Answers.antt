@@ -8,20 +8,19 @@ use Rattle.delaunay_lines.proofs.way.Way.carries.Goals as goal
 
 pub returns-then-ends_elsewhere : goal.returns-then-ends_elsewhere
 returns-then-ends_elsewhere g c =
-    let from = place_of g.S.SpadeNum.whole c.args.self.now.from in
-    let to = place_of g.S.SpadeNum.whole c.args.self.now.to in
+    let from = place_of g.S.SpadeNum.whole c.self.inside.from in
+    let to = place_of g.S.SpadeNum.whole c.self.inside.to in
     let point = place_of g.S.SpadeNum.whole c.args.point in
-    let off = c.ends_elsewhere.ensures.0 c.if-ends_elsewhere.true in (
+    let off = rw (← c.self.view_is) at (c.ends_elsewhere.ensures.0 c.if-ends_elsewhere.true) in
+    rw (← c.self.view_is) (
       (λ t. on_of_within (whole from) (whole to) (whole point) (c.is_strictly_within.ensures.0 t)),
       (λ o. c.is_strictly_within.ensures.1 (within_if_differs from to point off.0 off.1 o)),
     )
 
 pub returns-else-ends_elsewhere : goal.returns-else-ends_elsewhere
 returns-else-ends_elsewhere g c =
-    let from = place_of g.S.SpadeNum.whole c.args.self.now.from in
-    let to = place_of g.S.SpadeNum.whole c.args.self.now.to in
     let point = place_of g.S.SpadeNum.whole c.args.point in (
-      (λ t. on_if_not_apart from to point (λ a b. both_ways _ (c.ends_elsewhere.ensures.1 (a, b))
-          c.if-ends_elsewhere.false)),
+      (λ t. on_if_not_apart c.args.self.now.from c.args.self.now.to point
+          (λ a b. both_ways _ (c.ends_elsewhere.ensures.1 (a, b)) c.if-ends_elsewhere.false)),
       (λ o. refl),
     )

@@ -4,14 +4,11 @@ use Rattle.delaunay_lines.proofs.SegmentTests.{differs_if_within}
 use Rattle.delaunay_lines.proofs.way.Way.has_within.Goals as goal
 
 pub returns-then-ends_elsewhere : goal.returns-then-ends_elsewhere
-returns-then-ends_elsewhere g c = c.is_strictly_within.ensures
+returns-then-ends_elsewhere g c = rw (← c.self.view_is) c.is_strictly_within.ensures
 
 pub returns-else-ends_elsewhere : goal.returns-else-ends_elsewhere
 returns-else-ends_elsewhere g c = (
   (λ t. absurd (both_ways _ t c.if-ends_elsewhere.false)),
-  (λ w. c.ends_elsewhere.ensures.1
-      (differs_if_within (place_of g.S.SpadeNum.whole c.args.self.now.from)
-      (place_of g.S.SpadeNum.whole c.args.self.now.to) c.requires.way.apart
-      (place_of g.S.SpadeNum.whole c.args.point)
-      w)),
+  (λ w. c.ends_elsewhere.ensures.1 (differs_if_within c.args.self.now.from c.args.self.now.to
+      (rw (← c.self.view_is) c.self.invariant.apart) (place_of g.S.SpadeNum.whole c.args.point) w)),
 )

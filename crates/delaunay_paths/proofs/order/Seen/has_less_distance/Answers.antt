@@ -1,22 +1,17 @@
-use Rattle.delaunay_core.specs.Place.{place_of}
 use Rattle.delaunay_paths.proofs.order.Seen.has_less_distance.Goals as goal
 
 pub distance_2-requires-clause-in_range : goal.distance_2-requires-clause-in_range
 distance_2-requires-clause-in_range g c =
-    g.met.P.PlaneTests.covered_are_in_range c.args.self.now.tests.now
-    (place_of g.S.SpadeNum.whole c.args.self.now.from) c.requires.covered.from
+    g.met.P.PlaneTests.covered_are_in_range c.self.inside.tests.now _ c.self.invariant.from
 
 pub distance_2-requires-clause-other_in_range : goal.distance_2-requires-clause-other_in_range
 distance_2-requires-clause-other_in_range g c =
-    g.met.P.PlaneTests.covered_are_in_range c.args.self.now.tests.now
-    (place_of g.S.SpadeNum.whole c.args.self.now.point) c.requires.covered.point
+    g.met.P.PlaneTests.covered_are_in_range c.self.inside.tests.now _ c.self.invariant.point
 
 pub distance_2-requires-2-clause-in_range : goal.distance_2-requires-2-clause-in_range
 distance_2-requires-2-clause-in_range g c =
-    g.met.P.PlaneTests.covered_are_in_range c.args.self.now.tests.now
-    (place_of g.S.SpadeNum.whole c.args.self.now.from) c.requires.covered.from
+    g.met.P.PlaneTests.covered_are_in_range c.self.inside.tests.now _ c.self.invariant.from
 
 pub distance_2-requires-2-clause-other_in_range : goal.distance_2-requires-2-clause-other_in_range
 distance_2-requires-2-clause-other_in_range g c =
-    g.met.P.PlaneTests.covered_are_in_range c.args.self.now.tests.now
-    (place_of g.S.SpadeNum.whole c.args.self.now.other) c.requires.covered.other
+    g.met.P.PlaneTests.covered_are_in_range c.self.inside.tests.now _ c.self.invariant.other
