@@ -150,13 +150,14 @@ module _ (Inside : ℕ → Type 0) (m : Mesh)
   -- before the first edge none is found
   pub named_first : (edges found : List ℕ) → found ≡ []
       → AreNamedAmong Inside m (IsAmongFirst edges 0) found
-  named_first edges found e = subst (AreNamedAmong Inside m (IsAmongFirst edges 0)) (sym e) (record {
-    once = once_none;
-    exact = λ v. (
-      (λ c. absurd (Contains-none v c)),
-      (λ r. absurd (never r.0.2.0 r.0.2.1)),
-    );
-  })
+  named_first edges found e =
+      subst (AreNamedAmong Inside m (IsAmongFirst edges 0)) (sym e) (record {
+        once = once_none;
+        exact = λ v. (
+          (λ c. absurd (Contains-none v c)),
+          (λ r. absurd (never r.0.2.0 r.0.2.1)),
+        );
+      })
 
   -- once both directions of the next edge are done, one edge more is
   pub named_more : (edges : List ℕ) → IsOnce edges → (found mid found' : List ℕ) (i d a b : ℕ)
@@ -165,7 +166,8 @@ module _ (Inside : ℕ → Type 0) (m : Mesh)
       → KeepsStart Inside m found mid a → KeepsStart Inside m mid found' b
       → AreNamedAmong Inside m (IsAmongFirst edges (i + 1)) found'
   named_more edges once found mid found' i d a b s here p q from to =
-      among_same (λ h. (IsAmongFirst edges i h ⊎ (h ≡ a)) ⊎ (h ≡ b)) (IsAmongFirst edges (i + 1)) found'
+      among_same (λ h. (IsAmongFirst edges i h ⊎ (h ≡ a)) ⊎ (h ≡ b))
+      (IsAmongFirst edges (i + 1)) found'
       there back
       (keeps_more (λ h. IsAmongFirst edges i h ⊎ (h ≡ a)) mid found' b
       (keeps_more (IsAmongFirst edges i) found mid a s (fresh a half_a) from) other to)

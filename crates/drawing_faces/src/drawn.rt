@@ -77,10 +77,10 @@ fn constrained(plain: Plain) -> Result<Site, DrawingError>
 /// Triangulates a drawing: the constrained Delaunay triangulation of its points, with a path of
 /// constraints along each segment that no constraint before it crosses. Segments have their ends by
 /// the places of points in the list. Where only the inside is kept, faces that a way from a point
-/// in a hole reaches are left out, too. It gives `TooLarge` where a coordinate passes 2^29, `TooMany`
-/// where there are too many points for the indexes of a mesh, `NoPoint` where a segment ends at
-/// none, `HoleTooLarge`, `HoleOnSegment` or `HoleInNoFace` where a point in a hole is out of range,
-/// on a constraint, or on a vertex or in no triangulation, and `OutOfMemory`.
+/// in a hole reaches are left out, too. It gives `TooLarge` where a coordinate passes 2^29,
+/// `TooMany` where there are too many points for the indexes of a mesh, `NoPoint` where a segment
+/// ends at none, `HoleTooLarge`, `HoleOnSegment` or `HoleInNoFace` where a point in a hole is out
+/// of range, on a constraint, or on a vertex or in no triangulation, and `OutOfMemory`.
 pub fn triangulate_drawing(
     points: &[Point2<i32>],
     segments: &[DrawnSegment],

@@ -6,11 +6,14 @@ use Rattle.c_calls.proofs.kept.KeptPoints.write_met.Goals as goal
 pub returns-in-Plain : goal.returns-in-Plain
 returns-in-Plain c =
     let s = c.write_met in
-    subst (λ k. FindsLine (kept_drawing k) (kept_state k).constraints c.args.from.now c.args.to.now s.result
+    subst (λ k. FindsLine (kept_drawing k) (kept_state k).constraints c.args.from.now
+    c.args.to.now s.result
     c.args.length.now s.new.length c.args.meetings.now s.new.meetings) (sym c.in-Plain.is) s.ensures
 
 pub returns-in-Constrained : goal.returns-in-Constrained
 returns-in-Constrained c =
     let s = c.write_met-in-Constrained in
-    subst (λ k. FindsLine (kept_drawing k) (kept_state k).constraints c.args.from.now c.args.to.now s.result
-    c.args.length.now s.new.length c.args.meetings.now s.new.meetings) (sym c.in-Constrained.is) s.ensures
+    subst (λ k. FindsLine (kept_drawing k) (kept_state k).constraints c.args.from.now
+    c.args.to.now s.result
+    c.args.length.now s.new.length c.args.meetings.now s.new.meetings)
+    (sym c.in-Constrained.is) s.ensures
