@@ -1,8 +1,6 @@
 -- What the questions about edges say of the items of a segment.
 use Rattle.std.proofs.Common.{◌≡◌, ◌⊎◌, ◌<◌, ◌↔◌, ◌∙◌, ℕ, Bool, IsTrue, List, length, map}
 use Rattle.std.proofs.Common.{sym, ap, subst, inl, inr}
-use Rattle.std.specs.Prelude.{ℤ}
-use Rattle.std.specs.Borrow.{Bor}
 use Rattle.half_edge_mesh.specs.Mesh.{Mesh, origin, rev}
 use Rattle.half_edge_mesh.specs.Contents.{Contents}
 use Rattle.half_edge_links.proofs.Lists.Rev.{rev-rev}
@@ -20,9 +18,8 @@ use Rattle.delaunay_lines.specs.declared.intersection.Intersection.TheVariants.{
 use Rattle.delaunay_lines.specs.Items.{item_in, mesh_of}
 use Rattle.delaunay_lines.specs.Steps.{IsOverMesh}
 use Rattle.delaunay_lines.proofs.MeshSteps.{in_mesh}
-use Rattle.delaunay_sight.specs.declared.items.Sight.{Sight}
 use Rattle.delaunay_sight.specs.Beside.{by_place, IsFreeBeside, IsFreeUnlessOn}
-use Rattle.delaunay_sight.specs.Passing.{Passes}
+use Rattle.delaunay_sight.specs.Passing.{Looking, Passes}
 use Rattle.delaunay_sight.proofs.MeshFaces.{beside_iff, behind_iff}
 
 -- ---- items
@@ -105,27 +102,25 @@ iff_named b d Z e iff = subst (λ (x : Bool). IsTrue x ↔ Z) (sym e) iff
 
 -- ---- an item and its edge
 -- an edge of a mesh is within it
-pub crossed_within : {V D U F : Type 0} (e : DirectedEdgeHandle V D U F)
-    (d : Bor (Contents V D U F)) → e.dcel ≡ d → e.index < length d.now.directed
-crossed_within {V} {D} {U} {F} e d same =
-    subst (λ (x : Bor (Contents V D U F)). e.index < length x.now.directed) same e.in_range
+pub crossed_within : {V D U F : Type 0} (e : DirectedEdgeHandle V D U F) (c : Contents V D U F)
+    → e.dcel.now ≡ c → e.index < length c.directed
+crossed_within {V} {D} {U} {F} e c same =
+    subst (λ (x : Contents V D U F). e.index < length x.directed) same e.in_range
 
-module _ {V D U F G P S : Type 0} (at : V → Point) (number : S → ℤ) (free : G → ℕ → Bool)
-    (s : Sight V D U F G P S) where
+module _ {V D U F G P : Type 0} (at : V → Point) (free : G → ℕ → Bool)
+    (s : Looking V D U F G P) where
   pub crossing_item : (x : Intersection V D U F) (e : DirectedEdgeHandle V D U F)
-      → x ≡ EdgeIntersection e → mesh_of x ≡ s.dcel → (y : Bool) → IsTrue y
-      ↔ Passes at number free s
-      (across (origin s.dcel.now.mesh e.index) (origin s.dcel.now.mesh (rev e.index)))
-      → IsTrue y ↔ Passes at number free s (item_in x)
-  crossing_item x e is mesh y iff = subst (λ (k : Item). IsTrue y ↔ Passes at number free s k)
-      (sym (ap item_in is ∙ ap (λ (d : Bor (Contents V D U F)). across (origin d.now.mesh e.index)
-      (origin d.now.mesh (rev e.index))) (sym (ap mesh_of is) ∙ mesh))) iff
+      → x ≡ EdgeIntersection e → (mesh_of x).now ≡ s.dcel → (y : Bool) → IsTrue y
+      ↔ Passes at free s (across (origin s.dcel.mesh e.index) (origin s.dcel.mesh (rev e.index)))
+      → IsTrue y ↔ Passes at free s (item_in x)
+  crossing_item x e is mesh y iff = subst (λ (k : Item). IsTrue y ↔ Passes at free s k)
+      (sym (ap item_in is ∙ ap (λ (c : Contents V D U F). across (origin c.mesh e.index)
+      (origin c.mesh (rev e.index))) (sym (ap (λ z. (mesh_of z).now) is) ∙ mesh))) iff
 
   pub overlap_item : (x : Intersection V D U F) (e : DirectedEdgeHandle V D U F)
-      → x ≡ EdgeOverlap e → mesh_of x ≡ s.dcel → (y : Bool) → IsTrue y
-      ↔ Passes at number free s
-      (along (origin s.dcel.now.mesh e.index) (origin s.dcel.now.mesh (rev e.index)))
-      → IsTrue y ↔ Passes at number free s (item_in x)
-  overlap_item x e is mesh y iff = subst (λ (k : Item). IsTrue y ↔ Passes at number free s k)
-      (sym (ap item_in is ∙ ap (λ (d : Bor (Contents V D U F)). along (origin d.now.mesh e.index)
-      (origin d.now.mesh (rev e.index))) (sym (ap mesh_of is) ∙ mesh))) iff
+      → x ≡ EdgeOverlap e → (mesh_of x).now ≡ s.dcel → (y : Bool) → IsTrue y
+      ↔ Passes at free s (along (origin s.dcel.mesh e.index) (origin s.dcel.mesh (rev e.index)))
+      → IsTrue y ↔ Passes at free s (item_in x)
+  overlap_item x e is mesh y iff = subst (λ (k : Item). IsTrue y ↔ Passes at free s k)
+      (sym (ap item_in is ∙ ap (λ (c : Contents V D U F). along (origin c.mesh e.index)
+      (origin c.mesh (rev e.index))) (sym (ap (λ z. (mesh_of z).now) is) ∙ mesh))) iff

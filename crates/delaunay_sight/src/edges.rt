@@ -1,9 +1,10 @@
 //! Free faces beside edges and round vertices.
-ghost use Rattle.std.specs.Prelude.{◌≡◌, ◌⊎◌, ◌↔◌, ◌<◌, length, IsTrue};
+ghost use Rattle.std.specs.Prelude.{◌⊎◌, ◌↔◌, ◌<◌, length, IsTrue};
 ghost use Rattle.half_edge_mesh.specs.Mesh.{rev};
 ghost use Rattle.delaunay_sight.specs.Beside.{HasFreeRound, IsFreeBeside};
 
 use crate::free_faces::FreeFaces;
+use delaunay_lines::twin_of;
 use half_edge_mesh::{Dcel, FixedDirectedEdgeHandle, FixedVertexHandle, MeshViews};
 
 // Whether the face on the left of an edge is an inner one, and free.
@@ -17,18 +18,6 @@ pub(crate) fn is_free_beside<V, DE, UE, F, G: FreeFaces>(
 {
     let face = dcel.directed_edge(edge).face().fix();
     !face.is_outer() && free.is_free(face)
-}
-
-// An edge in its other direction.
-pub(crate) fn twin_of<V, DE, UE, F>(
-    dcel: &Dcel<V, DE, UE, F>,
-    edge: FixedDirectedEdgeHandle,
-) -> FixedDirectedEdgeHandle
-    requires { edge < length dcel.now.directed }
-    ensures value { result ≡ rev edge }
-    ensures within { result < length dcel.now.directed }
-{
-    dcel.directed_edge(edge).rev().fix()
 }
 
 // Whether the face on one of the two sides of an edge is so.

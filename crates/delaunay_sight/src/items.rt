@@ -1,5 +1,5 @@
 //! Whether a segment passes free faces at what it meets.
-ghost use Rattle.std.specs.Prelude.{◌≡◌, ◌↔◌, ◌<◌, List, length, map, All, IsTrue};
+ghost use Rattle.std.specs.Prelude.{◌≡◌, ◌↔◌, ◌<◌, List, length, map, IsTrue};
 ghost use Rattle.half_edge_mesh.specs.Mesh.{origin, rev};
 ghost use Rattle.plane.specs.Fraction.{whole as fraction};
 ghost use Rattle.plane.specs.Line.{Item, across, along};
@@ -9,17 +9,18 @@ ghost use Rattle.delaunay_core.specs.Place.{place_of};
 ghost use Rattle.delaunay_lines.specs.Items.{item_in, mesh_of};
 ghost use Rattle.delaunay_lines.specs.Walk.{AreLeft, IsReady};
 ghost use Rattle.delaunay_sight.specs.Beside.{IsFreeUnlessOn};
-ghost use Rattle.delaunay_sight.specs.Passing.{IsSightOver, Passes, PassesEach};
+ghost use Rattle.delaunay_sight.specs.Passing.{Passes, PassesEach};
 
-use crate::edges::{is_free_along, is_free_beside, twin_of};
+use crate::edges::{is_free_along, is_free_beside};
 use crate::free_faces::FreeFaces;
 use delaunay_core::math::PlaneTests;
 use delaunay_core::point::{HasPosition, Point2};
-use delaunay_legalization::start_of;
-use delaunay_lines::{Intersection, LineIntersectionIterator};
+use delaunay_lines::{Intersection, LineIntersectionIterator, side_of_edge, twin_of};
 use half_edge_mesh::{Dcel, DirectedEdgeHandle, FixedDirectedEdgeHandle};
+use std::marker::Model;
 
-/// A segment over a mesh with free faces, and the tests that say on which sides points are.
+/// A segment over the mesh of a triangulation with free faces, and tests that cover its ends and
+/// have the vertices as sites.
 #[derive(Drop)]
 pub(crate) struct Sight<'a, V: HasPosition, DE, UE, F, G: FreeFaces, P: PlaneTests<V::Scalar>> {
     pub(crate) dcel: &'a Dcel<V, DE, UE, F>,
@@ -27,6 +28,26 @@ pub(crate) struct Sight<'a, V: HasPosition, DE, UE, F, G: FreeFaces, P: PlaneTes
     pub(crate) from: Point2<V::Scalar>,
     pub(crate) to: Point2<V::Scalar>,
     pub(crate) tests: &'a P,
+}
+
+impl<'a, V: HasPosition, DE, UE, F, G: FreeFaces, P: PlaneTests<V::Scalar>> Model
+    for Sight<'a, V, DE, UE, F, G, P> {
+    ghost use Rattle.delaunay_core.specs.Place.{place_of};
+    ghost use Rattle.delaunay_lines.specs.Steps.{IsOverMesh};
+    ghost use Rattle.delaunay_sight.specs.Passing.{Looking};
+
+    ghost Value = { Looking V DE UE F G P };
+
+    ghost view = { λ s. record {
+      dcel = s.dcel.now;
+      free = s.free.now;
+      from = place_of V.Scalar.whole s.from;
+      to = place_of V.Scalar.whole s.to;
+      tests = s.tests.now;
+    } };
+
+    ghost invariant = { λ s. IsOverMesh V.place (P.sites s.tests.now) (P.covered s.tests.now)
+        s.dcel.now (place_of V.Scalar.whole s.from) (place_of V.Scalar.whole s.to) };
 }
 
 impl<'a, V: HasPosition, DE, UE, F, G: FreeFaces, P: PlaneTests<V::Scalar>> Sight<
@@ -40,26 +61,21 @@ impl<'a, V: HasPosition, DE, UE, F, G: FreeFaces, P: PlaneTests<V::Scalar>> Sigh
 > {
     // Whether a position is on the line of an edge.
     fn is_on_line(&self, edge: FixedDirectedEdgeHandle, point: Point2<V::Scalar>) -> bool
-        requires within { edge < length self.now.dcel.now.directed }
-        requires sites { All (P.sites self.now.tests.now) (map V.place self.now.dcel.now.vertices) }
-        requires covered { P.covered self.now.tests.now (place_of V.Scalar.whole point) }
-        ensures { let points = map V.place self.now.dcel.now.vertices in
-            let m = self.now.dcel.now.mesh in IsTrue result ↔ (side (place points (origin m edge))
+        requires within { edge < length self.now.dcel.directed }
+        requires covered { P.covered self.now.tests (place_of V.Scalar.whole point) }
+        ensures { let points = map V.place self.now.dcel.vertices in let m = self.now.dcel.mesh in
+            IsTrue result ↔ (side (place points (origin m edge))
             (place points (origin m (rev edge))) (fraction (place_of V.Scalar.whole point)) ≡ on) }
     {
-        let twin = twin_of(self.dcel, edge);
-        let (start, end) = (start_of(self.dcel, edge), start_of(self.dcel, twin));
-        self.tests.side(start, end, point).is_on_line()
+        side_of_edge(self.dcel, edge, point, self.tests).is_on_line()
     }
 
     // Whether a position is on the line of an edge, or the face on the edge's left is free.
     fn is_free_unless_on(&self, edge: FixedDirectedEdgeHandle, point: Point2<V::Scalar>) -> bool
-        requires within { edge < length self.now.dcel.now.directed }
-        requires sites { All (P.sites self.now.tests.now) (map V.place self.now.dcel.now.vertices) }
-        requires covered { P.covered self.now.tests.now (place_of V.Scalar.whole point) }
-        ensures { IsTrue result ↔
-            IsFreeUnlessOn (map V.place self.now.dcel.now.vertices) self.now.dcel.now.mesh
-            (G.free self.now.free.now) (place_of V.Scalar.whole point) edge }
+        requires within { edge < length self.now.dcel.directed }
+        requires covered { P.covered self.now.tests (place_of V.Scalar.whole point) }
+        ensures { IsTrue result ↔ IsFreeUnlessOn (map V.place self.now.dcel.vertices)
+            self.now.dcel.mesh (G.free self.now.free) (place_of V.Scalar.whole point) edge }
     {
         if self.is_on_line(edge, point) {
             return true;
@@ -69,11 +85,10 @@ impl<'a, V: HasPosition, DE, UE, F, G: FreeFaces, P: PlaneTests<V::Scalar>> Sigh
 
     // Whether the faces that the segment has beside an edge that it crosses are free.
     fn crosses_free(&self, edge: &DirectedEdgeHandle<'a, V, DE, UE, F>) -> bool
-        requires mesh { edge.now.dcel ≡ self.now.dcel }
-        requires over { IsSightOver V.place V.Scalar.whole P.sites P.covered self.now }
-        ensures { let m = self.now.dcel.now.mesh in let h = edge.now.index in
-            IsTrue result ↔ Passes V.place V.Scalar.whole G.free self.now
-            (across (origin m h) (origin m (rev h))) }
+        requires { edge.now.dcel.now ≡ self.now.dcel }
+        ensures { let m = self.now.dcel.mesh in let h = edge.now.index in
+            IsTrue result ↔
+            Passes V.place G.free self.now (across (origin m h) (origin m (rev h))) }
     {
         let edge = edge.fix();
         let twin = twin_of(self.dcel, edge);
@@ -82,21 +97,18 @@ impl<'a, V: HasPosition, DE, UE, F, G: FreeFaces, P: PlaneTests<V::Scalar>> Sigh
 
     // Whether one of the faces beside an edge that it runs along is.
     fn overlaps_free(&self, edge: &DirectedEdgeHandle<'a, V, DE, UE, F>) -> bool
-        requires mesh { edge.now.dcel ≡ self.now.dcel }
-        requires over { IsSightOver V.place V.Scalar.whole P.sites P.covered self.now }
-        ensures { let m = self.now.dcel.now.mesh in let h = edge.now.index in
-            IsTrue result ↔ Passes V.place V.Scalar.whole G.free self.now
-            (along (origin m h) (origin m (rev h))) }
+        requires { edge.now.dcel.now ≡ self.now.dcel }
+        ensures { let m = self.now.dcel.mesh in let h = edge.now.index in
+            IsTrue result ↔
+            Passes V.place G.free self.now (along (origin m h) (origin m (rev h))) }
     {
         is_free_along(self.dcel, edge.fix(), self.free)
     }
 
     // Whether those that it has beside an item that it meets are.
     fn passes(&self, item: &Intersection<'a, V, DE, UE, F>) -> bool
-        requires mesh { mesh_of item.now ≡ self.now.dcel }
-        requires over { IsSightOver V.place V.Scalar.whole P.sites P.covered self.now }
-        ensures { IsTrue result ↔
-            Passes V.place V.Scalar.whole G.free self.now (item_in item.now) }
+        requires { (mesh_of item.now).now ≡ self.now.dcel }
+        ensures { IsTrue result ↔ Passes V.place G.free self.now (item_in item.now) }
     {
         match item {
             Intersection::EdgeIntersection(edge) => self.crosses_free(edge),
@@ -110,11 +122,10 @@ impl<'a, V: HasPosition, DE, UE, F, G: FreeFaces, P: PlaneTests<V::Scalar>> Sigh
         &self,
         line: &mut LineIntersectionIterator<'a, V, DE, UE, F, P>,
     ) -> bool
-        requires mesh { line.old.dcel ≡ self.now.dcel }
-        requires over { IsSightOver V.place V.Scalar.whole P.sites P.covered self.now }
+        requires mesh { line.old.dcel.now ≡ self.now.dcel }
         requires ready { IsReady V.place V.Scalar.whole P.sites P.covered line.old }
         ensures { (items : List Item) → AreLeft V.place V.Scalar.whole line.old items →
-            IsTrue result ↔ PassesEach V.place V.Scalar.whole G.free self.now items }
+            IsTrue result ↔ PassesEach V.place G.free self.now items }
     {
         while let Some(item) = line.next() {
             if !self.passes(&item) {

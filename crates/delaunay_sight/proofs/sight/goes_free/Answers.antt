@@ -5,8 +5,8 @@ use Rattle.delaunay_sight.specs.Beside.{by_place}
 use Rattle.delaunay_sight.proofs.Decided.{goes_free, over_line}
 use Rattle.delaunay_sight.proofs.sight.goes_free.Goals as goal
 
-pub passes_each-requires-clause-over : goal.passes_each-requires-clause-over
-passes_each-requires-clause-over g c =
+pub invariant_of-sight : goal.invariant_of-sight
+invariant_of-sight g c =
     let line = c.line_between-line.ensures.line in
     let ready = c.line_between-line.ensures.ready in
     over_line g.V.HasPosition.place _ _ c.args.dcel.now c.line_between-line.result.dcel.now

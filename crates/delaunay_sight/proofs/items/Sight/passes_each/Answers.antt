@@ -1,4 +1,4 @@
-use Rattle.std.proofs.Common.{◌∙◌, refl}
+use Rattle.std.proofs.Common.{◌∙◌, ap, refl}
 use Rattle.delaunay_legalization.proofs.Questions.{both_ways}
 use Rattle.delaunay_sight.specs.Passing.{Passes}
 use Rattle.delaunay_sight.proofs.Walks.{walking_begins, walking_goes_on, item_mesh}
@@ -8,20 +8,20 @@ use Rattle.delaunay_sight.proofs.items.Sight.passes_each.Goals as goal
 pub loop-item-init : goal.loop-item-init
 loop-item-init g c = walking_begins g.V.HasPosition.place g.V.Scalar.SpadeNum.whole
     g.P.PlaneTests.sites g.P.PlaneTests.covered
-    (Passes g.V.HasPosition.place g.V.Scalar.SpadeNum.whole g.G.FreeFaces.free c.args.self.now)
+    (Passes g.V.HasPosition.place g.G.FreeFaces.free c.args.self.now)
     c.args.line.now c.requires.ready
 
-pub passes-requires-clause-mesh : goal.passes-requires-clause-mesh
-passes-requires-clause-mesh g c = item_mesh g.V.HasPosition.place g.V.Scalar.SpadeNum.whole
+pub passes-requires : goal.passes-requires
+passes-requires g c = ap (λ d. d.now) (item_mesh g.V.HasPosition.place g.V.Scalar.SpadeNum.whole
     g.P.PlaneTests.sites g.P.PlaneTests.covered
-    (Passes g.V.HasPosition.place g.V.Scalar.SpadeNum.whole g.G.FreeFaces.free c.args.self.now)
+    (Passes g.V.HasPosition.place g.G.FreeFaces.free c.args.self.now)
     c.args.line.now c.loop-item.line c.loop-item.invariant c.in-Some.item c.next.new.self
-    c.in-Some.ensures.steps ∙ c.requires.mesh
+    c.in-Some.ensures.steps) ∙ c.requires.mesh
 
 pub loop-item-preserved : goal.loop-item-preserved
 loop-item-preserved g c = walking_goes_on g.V.HasPosition.place g.V.Scalar.SpadeNum.whole
     g.P.PlaneTests.sites g.P.PlaneTests.covered
-    (Passes g.V.HasPosition.place g.V.Scalar.SpadeNum.whole g.G.FreeFaces.free c.args.self.now)
+    (Passes g.V.HasPosition.place g.G.FreeFaces.free c.args.self.now)
     c.args.line.now c.loop-item.line c.loop-item.invariant c.in-Some.item c.next.new.self
     c.in-Some.ensures.steps c.in-Some.ensures.goes.keeps
     (c.passes.ensures.0 c.if-not-passes.false)
@@ -31,7 +31,7 @@ returns-then-not-passes g c = λ items left. (
   (λ t. absurd (both_ways _ t refl)),
   (λ all. absurd (stops_at g.V.HasPosition.place g.V.Scalar.SpadeNum.whole
       g.P.PlaneTests.sites g.P.PlaneTests.covered
-      (Passes g.V.HasPosition.place g.V.Scalar.SpadeNum.whole g.G.FreeFaces.free c.args.self.now)
+      (Passes g.V.HasPosition.place g.G.FreeFaces.free c.args.self.now)
       c.args.line.now c.loop-item.line c.loop-item.invariant c.in-Some.item c.next.new.self
       c.in-Some.ensures.steps (λ y. both_ways _ (c.passes.ensures.1 y) c.if-not-passes.true)
       items left all)),
@@ -41,7 +41,7 @@ pub returns : goal.returns
 returns g c = λ items left. (
   (λ t. walking_ends g.V.HasPosition.place g.V.Scalar.SpadeNum.whole
       g.P.PlaneTests.sites g.P.PlaneTests.covered
-      (Passes g.V.HasPosition.place g.V.Scalar.SpadeNum.whole g.G.FreeFaces.free c.args.self.now)
+      (Passes g.V.HasPosition.place g.G.FreeFaces.free c.args.self.now)
       c.args.line.now c.loop-item.line c.loop-item.invariant c.next.new.self
       c.in_default.ensures.steps items left),
   (λ all. refl),

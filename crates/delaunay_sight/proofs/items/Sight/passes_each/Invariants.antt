@@ -5,7 +5,7 @@ use Rattle.delaunay_sight.proofs.items.Sight.passes_each.Given as goal
 abbrev pub invariant-loop-item : goal.invariant-loop-item
 invariant-loop-item g l = IsWalking g.V.HasPosition.place g.V.Scalar.SpadeNum.whole
     g.P.PlaneTests.sites g.P.PlaneTests.covered
-    (Passes g.V.HasPosition.place g.V.Scalar.SpadeNum.whole g.G.FreeFaces.free l.self) l.fn.line
+    (Passes g.V.HasPosition.place g.G.FreeFaces.free l.self) l.fn.line
     l.line
 
 abbrev pub decreases-loop-item : goal.decreases-loop-item
