@@ -1,7 +1,7 @@
 -- A new vertex outside the hull: with a face on each outer edge that sees it, the mesh stays local.
--- Notions: IsRun (outer edges after one another that see point n), AreOpen (no run comes back),
--- AreSeen (what sees n is on the path); fan_total, fan_turns (of the new faces); `extended`.
-use Rattle.std.proofs.Common.{◌≡◌, ◌<◌, [], ◌∷◌, ◌++◌, ◌∙◌, ℕ, suc, List, refl, sym, ap, subst}
+-- Notions: run_up_to, last_step (along a run); AreOpen (no run comes back), AreSeen (what sees n is
+-- on the path); fan_total, fan_turns (of the new faces); `extended`.
+use Rattle.std.proofs.Common.{◌≡◌, ◌<◌, [], ◌∷◌, ◌++◌, ℕ, suc, List, refl, sym, ap, subst}
 use Rattle.std.proofs.Common.{arith}
 use mathlib.Core.Logic.{inl, inr, ◌≢◌}
 use Rattle.std.specs.Prelude.{ℤ, pos, ◌+ℤ◌, ◌≤ℤ◌, ◌<ℤ◌, Contains}
@@ -10,10 +10,10 @@ use Rattle.plane.proofs.Signs.{at_most_if_not_less}
 use Rattle.plane.specs.Fraction.{Point, whole, WithinSegment}
 use Rattle.plane.specs.Tiling.{Face, face}
 use Rattle.plane_tiling.specs.Local.{total, around, along, IsAntisymmetric}
-use Rattle.plane.proofs.Steps.{negated_below, left_not_zero, left_not_below, zero_weak}
+use Rattle.plane.proofs.Steps.{negated_below, left_not_below}
 use Rattle.plane_tiling.proofs.Totals.{Contains-later, Contains-cases, Contains-none}
-use Rattle.plane.proofs.Bracket.{bracket, lift}
-use Rattle.plane.proofs.BracketIdentities.{bracket-turn, bracket-swap, bracket-outer, bracket-last}
+use Rattle.plane.proofs.Bracket.{bracket}
+use Rattle.plane.proofs.BracketIdentities.{bracket-turn, bracket-swap}
 use Rattle.plane_tiling.proofs.Counting.{at, SignMesh, within_turned}
 use Rattle.plane.proofs.Generic.{IsFresh}
 use Rattle.plane_tiling.proofs.Edges as E
@@ -23,10 +23,10 @@ use Rattle.plane_edits.specs.Extension.{fan, steps, last_of}
 use Rattle.plane_edits.proofs.LocalMesh.Changes.{Each, to_each, to_once, AreAmong, IsOnce}
 use Rattle.plane_edits.proofs.LocalMesh.Changes.{once_none, once_cons}
 use Rattle.plane_edits.proofs.LocalMesh.Exchange.{AreTurning}
-use Rattle.plane_edits.proofs.LocalMesh.Additions.{LivesUpTo, IsWithinNone, SupportsUpTo}
-use Rattle.plane_edits.proofs.LocalMesh.Additions.{within_outer, IsBareUpTo, new_edges}
-use Rattle.plane_edits.proofs.LocalMesh.Additions.{new_edges_owe, added}
+use Rattle.plane_edits.proofs.LocalMesh.Additions.{LivesUpTo, IsWithinNone, within_outer}
+use Rattle.plane_edits.proofs.LocalMesh.Additions.{new_edges, new_edges_owe, added}
 use Rattle.plane_edits.proofs.Insertion.Hull as H
+pub use Rattle.plane_edits.proofs.Insertion.Hull.{IsRun}
 
 -- around a fan: its path, to q and back
 pub fan_total : (flow : ℕ → ℕ → ℤ) → IsAntisymmetric flow → (q u : ℕ) (vs : List ℕ)
@@ -52,12 +52,6 @@ fan_snoc q u (v ∷ vs) w = ap (λ l. face u v q ∷ l) (fan_snoc q v vs w)
 pub last_of_snoc : (u : ℕ) (vs : List ℕ) (w : ℕ) → last_of u (vs ++ w ∷ []) ≡ w
 last_of_snoc u [] w = refl
 last_of_snoc u (v ∷ vs) w = last_of_snoc v vs w
-
--- outer edges that see the point of index n, one after another
-abbrev pub IsRun : ℕ → (ℕ → Point) → List (ℕ × ℕ) → ℕ → List ℕ → Type 0
-IsRun n p outer u [] = Unit {0}
-IsRun n p outer u (v ∷ vs) =
-    Contains outer (u, v) × (pos 0 <ℤ bracket (at p u) (at p v) (at p n)) × IsRun n p outer v vs
 
 -- up to the start of one of its steps, and with that step
 pub run_up_to : (n : ℕ) (p : ℕ → Point) (outer : List (ℕ × ℕ)) (u : ℕ) (vs : List ℕ) → IsRun n p
@@ -126,39 +120,11 @@ pub unseen : (n : ℕ) (p : ℕ → Point) (outer path : List (ℕ × ℕ)) → 
     → bracket (at p e.0) (at p e.1) (at p n) ≤ℤ pos 0
 unseen n p outer path seen e h away = at_most_if_not_less _ _ (λ s. away (seen e h s))
 
--- an end is not strictly within its own segment
-pub not_own_end : (a b c : Point) → pos 0 <ℤ bracket (lift a) (lift b) (lift c)
-    → ¬ WithinSegment (whole a) (whole c) (whole c)
-not_own_end a b c turns w = left_not_zero (E.within_third c a b _ (within_turned a c c w)
-    (rw (bracket-turn _ _ _) turns)) (bracket-last _ _)
-
--- where a b c turns left, c is not strictly within the segment from c to b
-pub not_own_start : (a b c : Point) → pos 0 <ℤ bracket (lift a) (lift b) (lift c)
-    → ¬ WithinSegment (whole c) (whole b) (whole c)
-not_own_start a b c turns w = left_not_zero (E.within_second b c a _
-    (within_turned c b c w) (rw bracket-turn at turns)) (bracket-outer _ _)
-
 module _ (n : ℕ) (p : ℕ → Point) (faces : List Face) (outer : List (ℕ × ℕ))
     (m : SignMesh n p faces outer) where
   -- the way from u to v has the point of index n on its left
   abbrev Sees : ℕ → ℕ → Type 0
   Sees u v = pos 0 <ℤ bracket (at p u) (at p v) (at p n)
-
-  run_as : (u : ℕ) (vs : List ℕ) → IsRun n p outer u vs → H.IsRun n p faces outer m (p n) u vs
-  run_as u [] r = tt
-  run_as u (v ∷ vs) r = (r.0, r.1, run_as v vs r.2)
-
-  end_is : (u : ℕ) (vs : List ℕ) → H.end_of n p faces outer m (p n) u vs ≡ last_of u vs
-  end_is u [] = refl
-  end_is u (v ∷ vs) = end_is v vs
-
-  step_of_run : (u : ℕ) (vs : List ℕ) (s r : ℕ) → H.IsOfRun n p faces outer m (p n) u vs s r
-      → Contains (steps u vs) (s, r)
-  step_of_run u [] s r h = absurd h
-  step_of_run u (v ∷ vs) s r (inl e) = subst (Contains ((u, v) ∷ steps v vs))
-      (λ i. (sym e.0 i, sym e.1 i)) (0, omega arith, refl)
-  step_of_run u (v ∷ vs) s r (inr h) =
-      Contains-later (u, v) (steps v vs) (s, r) (step_of_run v vs s r h)
 
   -- no vertex is on the way from a to n, where an outer edge a b or b a sees n
   start_bare : (a b : ℕ) → Contains outer (a, b) → Sees a b → (k : ℕ) → k < n
@@ -170,10 +136,6 @@ module _ (n : ℕ) (p : ℕ → Point) (faces : List Face) (outer : List (ℕ ×
       → ¬ WithinSegment (whole (p n)) (whole (p b)) (whole (p k))
   end_bare a b h sees k l w = left_not_below (E.within_third _ _ _ _
       (within_turned _ _ _ w) (rw bracket-turn at sees)) (m.supporting (a, b) h k l)
-
-  -- a run never comes back to its start
-  pub run_open : AreOpen n p outer
-  run_open u v vs run e = H.run_is_open n p _ _ m _ u v vs (run_as u (v ∷ vs) run) (end_is v vs ∙ e)
 
   steps_there : (u : ℕ) (vs : List ℕ) → IsRun n p outer u vs → AreAmong (steps u vs) outer
   steps_there u vs run e h = (run_up_to n p _ u vs run e.0 e.1 h).3
@@ -195,20 +157,14 @@ module _ (n : ℕ) (p : ℕ → Point) (faces : List Face) (outer : List (ℕ ×
     final_index = (m.ends (final.0, last_of v vs) final.1).1
 
     starts : (z : ℕ) → z < n → bracket (at p u) (at p n) (at p z) ≤ℤ pos 0
-    starts = H.start_supports n p _ _ m _ t u v before run.0 blind_before run.1
+    starts = H.start_supports n p _ _ m t u v before run.0 blind_before run.1
 
     finish : (z : ℕ) → z < n → bracket (at p n) (at p (last_of v vs)) (at p z) ≤ℤ pos 0
-    finish = H.end_supports n p _ _ m _ final.0 _ w final.1 after final.2 blind_after
+    finish = H.end_supports n p _ _ m final.0 _ w final.1 after final.2 blind_after
 
     seen_is_step : AreSeen n p outer (steps u (v ∷ vs))
-    seen_is_step e h sees = step_of_run u (v ∷ vs) e.0 e.1
-        (H.seen_in_run n p _ _ m _ e.0 e.1 h sees u v vs (run_as u (v ∷ vs) run)
-        (from_start (starts e.0 (m.ends e h).0)) (λ z k. subst
-        (λ i. bracket (at p n) (at p i) (at p z) ≤ℤ pos 0) (sym (end_is v vs)) (finish z k)))
-      where
-        from_start : bracket (at p u) (at p n) (at p e.0) ≤ℤ pos 0
-            → pos 0 ≤ℤ bracket (at p n) (at p u) (at p e.0)
-        from_start k = negated_below (bracket-swap _ _ _) k
+    seen_is_step e h sees = H.seen_in_run n p _ _ m e.0 e.1 h sees u v vs run
+        (negated_below (bracket-swap _ _ _) (starts e.0 (m.ends e h).0)) finish
 
     fresh : IsFresh n p
     fresh k h e = left_not_below (rw e run.1) (m.supporting (u, v) run.0 k h)
@@ -217,22 +173,6 @@ module _ (n : ℕ) (p : ℕ → Point) (faces : List Face) (outer : List (ℕ ×
     n_outside : IsWithinNone n p outer
     n_outside e h w = P.side_not_outside n p faces outer m (whole (p n))
         (within_outer n p faces outer m e h w) (record { e = (u, v); here = run.0; left = run.1 })
-
-    first_supports : SupportsUpTo n p (u, n)
-    first_supports k (inl l) = starts k l
-    first_supports k (inr l) = rw l (zero_weak (bracket-last _ _))
-
-    second_supports : SupportsUpTo n p (n, last)
-    second_supports k (inl l) = finish k l
-    second_supports k (inr l) = rw l (zero_weak (bracket-outer _ _))
-
-    first_bare : IsBareUpTo n p (u, n)
-    first_bare k (inl l) x = start_bare u v run.0 run.1 k l x
-    first_bare k (inr l) x = not_own_end _ _ _ run.1 (rw l at x)
-
-    second_bare : IsBareUpTo n p (n, last)
-    second_bare k (inl l) x = end_bare final.0 last final.1 final.2 k l x
-    second_bare k (inr l) x = not_own_start _ _ _ final.2 (rw l at x)
 
     -- the extended mesh is local
     pub extended : (new : List Face) → FacesChange faces new [] (fan n u (v ∷ vs)) →
@@ -251,11 +191,12 @@ module _ (n : ℕ) (p : ℕ → Point) (faces : List Face) (outer : List (ℕ ×
             unseen n p outer (steps u (v ∷ vs)) seen_is_step e h away,
             n_outside e h,
           );
-          edges = new_edges_owe n p outer (steps u (v ∷ vs)) u last first.0 final_index
-              (λ e h. let c = m.ends e h in (c.0, c.1))
+          edges = new_edges_owe n p outer (steps u (v ∷ vs)) u last v final.0 first.0 final_index
+              run.1 final.2 (λ e h. let c = m.ends e h in (c.0, c.1))
               (to_each (Contains outer) (steps u (v ∷ vs)) (steps_there u (v ∷ vs) run))
-              (to_once (steps u (v ∷ vs)) (steps_once n p outer run_open u (v ∷ vs) run))
-              first_supports first_bare second_supports second_bare;
+              (to_once (steps u (v ∷ vs)) (steps_once n p outer
+              (H.run_is_open n p faces outer m) u (v ∷ vs) run)) starts
+              (start_bare u v run.0 run.1) finish (end_bare final.0 last final.1 final.2);
           same = λ flow anti. let t = fan_total flow anti n u (v ∷ vs) in
               omega (arith, ints, anti last n, anti n u);
         })

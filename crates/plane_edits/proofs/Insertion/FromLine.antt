@@ -1,7 +1,7 @@
 -- A vertex off the line of all others: with a face on each edge of the line, the mesh is local.
 -- Notions: both_ways_cancel; spot (places along the line), stands, goes_on (a vertex is on the
 -- path); seen_is_step; `raised`.
-use Rattle.std.proofs.Common.{◌≡◌, ◌⊎◌, ◌<◌, [], ◌∷◌, ◌∙◌, ℕ, suc, List, refl, sym, ap, subst}
+use Rattle.std.proofs.Common.{◌≡◌, ◌⊎◌, ◌<◌, [], ◌∷◌, ◌∙◌, ℕ, suc, List, map, refl, sym, ap, subst}
 use Rattle.std.proofs.Common.{arith}
 use mathlib.Core.Logic.{inl, inr}
 use Rattle.std.specs.Prelude.{ℤ, pos, ◌+ℤ◌, ◌-ℤ◌, ◌*ℤ◌, ◌≤ℤ◌, ◌<ℤ◌, neg_ℤ, Contains}
@@ -14,7 +14,7 @@ use Rattle.plane.proofs.IntegerOrder.{nonneg_of_mul-nonneg_ℤ, mul-nonneg_ℤ}
 use Rattle.plane.proofs.Steps.{product_zero_left, weak, left_not_zero, left_not_below, zero_weak}
 use Rattle.plane.proofs.Solver.{Poly, num, ◌⊕◌, ◌⊖◌, ◌⊗◌, ring_over}
 use Rattle.plane.proofs.Bracket.{bracket, bracketᵖ, lift, Pointᵖ, points, liftᵖ}
-use Rattle.plane.proofs.BracketIdentities.{bracket-turn, bracket-swap, bracket-outer, bracket-last}
+use Rattle.plane.proofs.BracketIdentities.{bracket-turn, bracket-swap}
 use Rattle.plane.proofs.Means.{two_weights}
 use Rattle.plane.proofs.Collinear.{place_on, place_of_end}
 use Rattle.plane_tiling.proofs.Totals.{Contains-later, Contains-cases, Contains-none}
@@ -28,15 +28,15 @@ use Rattle.plane.proofs.Generic.{IsFresh, LieOnLine, distinct_with_next}
 use Rattle.plane.proofs.LineOrder.{IsBetween, place_within, within_places}
 use Rattle.plane_edits.specs.Change.{FacesChange, OuterChange}
 use Rattle.plane_edits.specs.Extension.{fan, steps, last_of}
-use Rattle.plane_edits.proofs.LocalMesh.Changes.{face_from, to_each, to_once, IsOnce, once_none}
-use Rattle.plane_edits.proofs.LocalMesh.Changes.{once_cons, once_tail, once_head, same_total}
+use Rattle.plane_edits.proofs.LocalMesh.Changes.{face_from, to_each, to_once, IsOnce}
+use Rattle.plane_edits.proofs.LocalMesh.Changes.{same_total, mapped, from_map, total_map}
+use Rattle.plane_edits.proofs.LocalMesh.Changes.{once_under_map}
 use Rattle.plane_edits.proofs.LocalMesh.Exchange.{IsUsed, IsTouched, IsBorder, all_turn, exchanged}
 use Rattle.plane_edits.proofs.LocalMesh.Exchange.{to_signs, some_made}
-use Rattle.plane_edits.proofs.LocalMesh.Additions.{LivesUpTo, lives_below, SupportsUpTo, IsBareUpTo}
+use Rattle.plane_edits.proofs.LocalMesh.Additions.{LivesUpTo, lives_below, SupportsOld, IsBareOfOld}
 use Rattle.plane_edits.proofs.LocalMesh.Additions.{new_edges, new_edges_owe}
 use Rattle.plane_edits.proofs.Insertion.Extension.{IsRun, AreOpen, AreSeen, steps_once, unseen}
 use Rattle.plane_edits.proofs.Insertion.Extension.{run_up_to, fan_turns, fan_total, last_step}
-use Rattle.plane_edits.proofs.Insertion.Extension.{not_own_end, not_own_start}
 use Rattle.plane.proofs.Signs.{difference_is_positive, difference_not_negative, less_by_difference}
 use Rattle.plane.proofs.Signs.{sum_of_zeros, opposite_not_positive, at_most_both_ways}
 use Rattle.plane.proofs.Signs.{at_most_itself}
@@ -78,51 +78,22 @@ places_back n p f q = record {
 }
 
 -- ---- the two ways of each pair cancel out
-all_swapped : List (ℕ × ℕ) → List (ℕ × ℕ)
-all_swapped [] = []
-all_swapped (e ∷ es) = (e.1, e.0) ∷ all_swapped es
+abbrev back_of : ℕ × ℕ → ℕ × ℕ
+back_of e = (e.1, e.0)
 
-has_swapped : (es : List (ℕ × ℕ)) (i j : ℕ) → Contains es (i, j) → Contains (all_swapped es) (j, i)
-unfolding all_swapped
-has_swapped [] i j h = absurd (Contains-none (i, j) h)
-has_swapped (e ∷ es) i j h = elim (Contains-cases e es (i, j) h) [
-  | inl s ↦ subst (λ (x : ℕ × ℕ). Contains ((e.1, e.0) ∷ all_swapped es) (x.1, x.0)) s
-      (0, omega arith, refl)
-  | inr k ↦ Contains-later (e.1, e.0) (all_swapped es) (j, i) (has_swapped es i j k)
-]
-
-was_swapped : (es : List (ℕ × ℕ)) (i j : ℕ) → Contains (all_swapped es) (i, j) → Contains es (j, i)
-unfolding all_swapped
-was_swapped [] i j h = absurd (Contains-none (i, j) h)
-was_swapped (e ∷ es) i j h = elim (Contains-cases (e.1, e.0) (all_swapped es) (i, j) h) [
-  | inl s ↦ subst (λ (x : ℕ × ℕ). Contains (e ∷ es) (x.1, x.0)) s (0, omega arith, refl)
-  | inr k ↦ Contains-later e es (j, i) (was_swapped es i j k)
-]
-
-swapped_once : (es : List (ℕ × ℕ)) → IsOnce es → IsOnce (all_swapped es)
-unfolding all_swapped
-swapped_once [] o = once_none
-swapped_once (e ∷ es) o = once_cons (e.1, e.0) (all_swapped es)
-    (λ h. once_head e es o (was_swapped es e.1 e.0 h)) (swapped_once es (once_tail e es o))
-
-total_swapped : (flow : ℕ → ℕ → ℤ) → IsAntisymmetric flow → (es : List (ℕ × ℕ))
-    → total (along flow) (all_swapped es) ≡ neg_ℤ (total (along flow) es)
-unfolding all_swapped
-total_swapped flow anti [] = refl
-total_swapped flow anti (e ∷ es) = next _ _ _ _ (anti e.1 e.0) (total_swapped flow anti es)
-  where
-    next : (a b s t : ℤ) → a ≡ neg_ℤ b → s ≡ neg_ℤ t → a +ℤ s ≡ neg_ℤ (b +ℤ t)
-    next a b s t h k = omega (arith, ints)
-
-own_negative : (t : ℤ) → t ≡ neg_ℤ t → t ≡ pos 0
-own_negative t h = omega (arith, ints)
+total_back : (flow : ℕ → ℕ → ℤ) → IsAntisymmetric flow → (es : List (ℕ × ℕ))
+    → total (λ e. along flow (back_of e)) es ≡ neg_ℤ (total (along flow) es)
+total_back flow anti [] = refl
+total_back flow anti (e ∷ es) = omega (arith, ints, anti e.1 e.0, total_back flow anti es)
 
 both_ways_cancel : (flow : ℕ → ℕ → ℤ) → IsAntisymmetric flow → (es : List (ℕ × ℕ)) → IsOnce es
     → ((i j : ℕ) → Contains es (i, j) → Contains es (j, i)) → total (along flow) es ≡ pos 0
-both_ways_cancel flow anti es once back = own_negative _ (
-    same_total _ es (all_swapped es) once (swapped_once es once) (λ e h. has_swapped es
-    e.1 e.0 (back e.0 e.1 h)) (λ e h. back e.1 e.0 (was_swapped es e.0 e.1 h))
-    ∙ total_swapped flow anti es)
+both_ways_cancel flow anti es once back =
+    let same = same_total (along flow) es (map back_of es) once
+    (once_under_map back_of es once (λ a b _ _ e. ap back_of e))
+    (λ e h. mapped back_of es (e.1, e.0) (back e.0 e.1 h))
+    (λ e h. let r = from_map back_of es e h in subst (Contains es) r.2 (back r.0.0 r.0.1 r.1)) in
+    omega (arith, ints, same, total_map back_of (along flow) es, total_back flow anti es)
 
 module _ (n : ℕ) (p : ℕ → Point) (outer now : List (ℕ × ℕ)) (new : List Face)
     (m : SignLine n p outer) (u v : ℕ) (vs : List ℕ) (run : IsRun n p outer u (v ∷ vs)) where
@@ -311,28 +282,24 @@ module _ (n : ℕ) (p : ℕ → Point) (outer now : List (ℕ × ℕ)) (new : Li
             (n, final.0, inr (inr (fan_at u (v ∷ vs) final.0 last final.3)))
       ])
 
-      first_supports : SupportsUpTo n p (u, n)
-      first_supports k (inl h) = opposite_not_positive (bracket-turn _ _ _ ∙ bracket-turn _ _ _
+      first_supports : SupportsOld n p (u, n)
+      first_supports k h = opposite_not_positive (bracket-turn _ _ _ ∙ bracket-turn _ _ _
           ∙ bracket-swap _ _ _) (level_or_rising u k first.first h (from_start k h))
-      first_supports k (inr e) = rw e (zero_weak (bracket-last _ _))
 
-      last_supports : SupportsUpTo n p (n, last_of v vs)
-      last_supports k (inl h) = opposite_not_positive (bracket-turn _ _ _ ∙ bracket-swap _ _ _)
+      last_supports : SupportsOld n p (n, last_of v vs)
+      last_supports k h = opposite_not_positive (bracket-turn _ _ _ ∙ bracket-swap _ _ _)
           (level_or_rising k _ h final_index (to_end k h))
-      last_supports k (inr e) = rw e (zero_weak (bracket-outer _ _))
 
       -- a point strictly within a way to the new vertex is off the line
-      first_bare : IsBareUpTo n p (u, n)
-      first_bare k (inl h) w = left_not_zero (E.within_second _ _ _ _ (within_turned _ _ _ w)
+      first_bare : IsBareOfOld n p (u, n)
+      first_bare k h w = left_not_zero (E.within_second _ _ _ _ (within_turned _ _ _ w)
           (rw (bracket-turn _ _ _) run.1)) (on k h)
-      first_bare k (inr e) w = not_own_end _ _ _ run.1 (rw e at w)
 
-      last_bare : IsBareUpTo n p (n, last_of v vs)
-      last_bare k (inl h) w = let c = (m.neighbours final.0 last).0 final.1 in
+      last_bare : IsBareOfOld n p (n, last_of v vs)
+      last_bare k h w = let c = (m.neighbours final.0 last).0 final.1 in
           left_not_zero (E.within_third _ _ _ _
           (within_turned _ _ _ w) (rw bracket-turn at final.2))
           (m.straight final.0 last k c.first c.second h)
-      last_bare k (inr e) w = not_own_start _ _ _ final.2 (rw e at w)
 
       -- an edge of the line, which does not see the new vertex
       stays : (e : ℕ × ℕ) → Contains outer e → ¬ Contains (steps u (v ∷ vs)) e
@@ -383,8 +350,8 @@ module _ (n : ℕ) (p : ℕ → Point) (outer now : List (ℕ × ℕ)) (new : Li
                       (inl c.first, inl c.second)) u (v ∷ vs) run) i j k o
                 ];
             stays = stays;
-            edges = new_edges_owe n p outer (steps u (v ∷ vs)) u last first.first final_index
-                (λ e h. let c = (m.neighbours e.0 e.1).0 h in (c.first, c.second))
+            edges = new_edges_owe n p outer (steps u (v ∷ vs)) u last v final.0 first.first
+                final_index run.1 final.2 (λ e h. let c = (m.neighbours e.0 e.1).0 h in (c.first, c.second))
                 (to_each (Contains outer) (steps u (v ∷ vs))
                 (λ e h. (run_up_to n p outer u (v ∷ vs) run e.0 e.1 h).3))
                 (to_once (steps u (v ∷ vs)) (steps_once n p outer runs_open u (v ∷ vs) run))

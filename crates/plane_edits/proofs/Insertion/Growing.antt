@@ -30,7 +30,8 @@ use Rattle.plane_edits.proofs.LocalMesh.Changes.{total_append}
 use Rattle.plane_edits.proofs.LocalMesh.Additions.{new_edges}
 use Rattle.plane_edits.proofs.LocalMesh.Exchange.{outer_totals}
 use Rattle.plane_edits.proofs.Insertion.Extension.{steps_snoc, fan_snoc, last_of_snoc, IsRun}
-use Rattle.plane_edits.proofs.Insertion.Extension.{run_open, extended}
+use Rattle.plane_edits.proofs.Insertion.Extension.{extended}
+use Rattle.plane_edits.proofs.Insertion.Hull.{run_is_open}
 use Rattle.plane_edits.proofs.LocalMesh.Kept.{with_last, from_last}
 use Rattle.plane_tiling.proofs.Rising.{total_ones}
 
@@ -321,7 +322,7 @@ module _ (points : List Point) (q : Point) where
       signs = run_signs outer u (g.second ∷ g.rest) g.run
 
       not_closed : w ≢ u
-      not_closed e = run_open n p _ _ mesh u g.second g.rest signs (g.last ∙ e)
+      not_closed e = run_is_open n p _ _ mesh u g.second g.rest signs (g.last ∙ e)
 
       before_outer : Contains outer (t, u)
       before_outer = (old_of_now (t, u) before (λ s. not_n u own_index

@@ -2,7 +2,7 @@
 -- by one; the edges that see q stand in one run, and the lines from q to its two ends support all
 -- vertices.
 -- Notions: on_side, halves (a segment and its parts, seen from a point); next_unique; Sees;
--- start_supports, end_supports (the lines to q); IsRun, IsOfRun; run_is_open, seen_in_run.
+-- start_supports, end_supports (the lines to q); IsRun, seen_in_run, run_is_open.
 use Rattle.std.proofs.Common.{◌≡◌, ◌⊎◌, ◌↔◌, ℕ, ◌<◌, List, [], ◌∷◌, refl, sym, ap, ◌∙◌, subst}
 use Rattle.std.proofs.Common.{arith}
 use mathlib.Core.Logic.{inl, inr, ◌≢◌}
@@ -24,11 +24,13 @@ use Rattle.plane.proofs.Bracket.{Vec3, bracket, bracketᵖ, vec3, lift}
 use Rattle.plane.proofs.BracketIdentities.{bracket-turn, bracket-swap, bracket-sum, bracket-outer}
 use Rattle.plane.proofs.BracketIdentities.{pluecker, bracket-last, cramer, cramer_x, cramer_y}
 use Rattle.plane.proofs.BracketIdentities.{cramer_w}
-use Rattle.plane.proofs.Means.{TwoWeights, two_weights, mean_of_two}
+use Rattle.plane.proofs.Means.{two_weights, mean_of_two}
 use Rattle.plane.proofs.Collinear.{place_on, place_of_start, place_of_end, within_by_places}
 use Rattle.plane.proofs.Collinear.{same_by_places}
 use Rattle.plane.proofs.Generic.{not_on_line}
 use Rattle.plane_tiling.proofs.Counting.{at, SignMesh, within_turned}
+use Rattle.plane_tiling.proofs.Totals.{Contains-later}
+use Rattle.plane_edits.specs.Extension.{steps, last_of}
 use Rattle.plane_tiling.proofs.Covering as C
 use Rattle.plane_tiling.proofs.Edges as E
 use Rattle.plane.proofs.Signs.{last_of_three, opposite_not_positive, at_most_if_not_less}
@@ -74,49 +76,27 @@ last_weight : (d s k l : ℤ) → d *ℤ pos 1 ≡ s *ℤ pos 1 +ℤ l *ℤ pos 
     → l ≡ pos 0 → pos 0 <ℤ d → pos 0 <ℤ k
 last_weight d s k l e h z p = omega (arith, ints)
 
+-- two numbers with positive factors that make them one have one sign
+same_sign : {x y n l : ℤ} → n *ℤ x ≡ l *ℤ y → pos 0 <ℤ n → pos 0 <ℤ l
+    → (pos 0 <ℤ x) ↔ (pos 0 <ℤ y)
+same_sign e hn hl = (
+  (λ s. pos_of_mul-pos_ℤ hl (rw e at (mul-pos_ℤ hn s))),
+  (λ s. pos_of_mul-pos_ℤ hn (rw e (mul-pos_ℤ hl s))),
+)
+
 -- where b is strictly within a c, a point is left of a c if it is left of either half
 pub halves : (a b c q : Point) → WithinSegment (whole a) (whole c) (whole b) →
     ((pos 0 <ℤ bracket (lift a) (lift b) (lift q)) ↔ (pos 0 <ℤ bracket (lift a) (lift c) (lift q)))
     × ((pos 0 <ℤ bracket (lift b) (lift c) (lift q)) ↔ (pos 0 <ℤ bracket (lift a) (lift c)
     (lift q)))
-halves a b c q h = (
-  ((λ s. of_first s), (λ s. to_first s)),
-  ((λ s. of_second s), (λ s. to_second s)),
+halves a b c q h = let t = two_weights IsPositive _ _ _ h in (
+  same_sign (rw (bracket-turn (lift q) (lift a) (lift b), bracket-turn (lift q) (lift a) (lift c))
+      at (drop_zero _ _ _ (E.mean_bracket IsPositive q a a c _ t)
+      (zero-mul_ℤ t.k (bracket-last _ _)))) t.positive t.l_allowed,
+  same_sign (rw (bracket-turn (lift b) (lift c) (lift q), bracket-turn (lift a) (lift c) (lift q))
+      (drop_zero_last _ _ _ (E.mean_bracket IsPositive c q a c _ t)
+      (zero-mul_ℤ t.l (bracket-outer _ _)))) t.positive t.k_allowed,
 )
-  where
-    t : TwoWeights IsPositive (whole a) (whole c) (whole b)
-    t = two_weights IsPositive _ _ _ h
-
-    first : t.n *ℤ bracket (lift q) (lift a) (lift b) ≡ t.l *ℤ bracket (lift q) (lift a) (lift c)
-    first = drop_zero _ _ _ (E.mean_bracket IsPositive q a a c _ t)
-        (zero-mul_ℤ t.k (bracket-last _ _))
-
-    second : t.n *ℤ bracket (lift c) (lift q) (lift b) ≡ t.k *ℤ bracket (lift c) (lift q) (lift a)
-    second = drop_zero_last _ _ _ (E.mean_bracket IsPositive c q a c _ t)
-        (zero-mul_ℤ t.l (bracket-outer _ _))
-
-    Mid : Type 0
-    Mid = pos 0 <ℤ bracket (lift a) (lift c) (lift q)
-
-    of_first : pos 0 <ℤ bracket (lift a) (lift b) (lift q) → Mid
-    of_first s = let f : pos 0 <ℤ bracket (lift q) (lift a) (lift b) = rw bracket-turn s in
-        let g : pos 0 <ℤ bracket (lift q) (lift a) (lift c) =
-        pos_of_mul-pos_ℤ t.l_allowed (rw first at (mul-pos_ℤ t.positive f)) in rw bracket-turn at g
-
-    to_first : Mid → pos 0 <ℤ bracket (lift a) (lift b) (lift q)
-    to_first s = let g : pos 0 <ℤ bracket (lift q) (lift a) (lift c) = rw bracket-turn s in
-        let f : pos 0 <ℤ bracket (lift q) (lift a) (lift b) =
-        pos_of_mul-pos_ℤ t.positive (rw first (mul-pos_ℤ t.l_allowed g)) in rw bracket-turn at f
-
-    of_second : pos 0 <ℤ bracket (lift b) (lift c) (lift q) → Mid
-    of_second s = let f : pos 0 <ℤ bracket (lift c) (lift q) (lift b) = rw bracket-turn at s in
-        let g : pos 0 <ℤ bracket (lift c) (lift q) (lift a) =
-        pos_of_mul-pos_ℤ t.k_allowed (rw second at (mul-pos_ℤ t.positive f)) in rw bracket-turn g
-
-    to_second : Mid → pos 0 <ℤ bracket (lift b) (lift c) (lift q)
-    to_second s = let g : pos 0 <ℤ bracket (lift c) (lift q) (lift a) = rw bracket-turn at s in
-        let f : pos 0 <ℤ bracket (lift c) (lift q) (lift b) =
-        pos_of_mul-pos_ℤ t.positive (rw second (mul-pos_ℤ t.k_allowed g)) in rw bracket-turn f
 
 -- so it is left of both or of neither
 seen_on : (a b c q : Point) → WithinSegment (whole a) (whole c) (whole b)
@@ -126,6 +106,12 @@ seen_on a b c q h s = let t = halves a b c q h in t.1.1 (t.0.0 s)
 seen_before : (a b c q : Point) → WithinSegment (whole a) (whole c) (whole b)
     → pos 0 <ℤ bracket (lift b) (lift c) (lift q) → pos 0 <ℤ bracket (lift a) (lift b) (lift q)
 seen_before a b c q h s = let t = halves a b c q h in t.0.1 (t.1.0 s)
+
+-- outer edges that see the point of index n, one after another
+abbrev pub IsRun : ℕ → (ℕ → Point) → List (ℕ × ℕ) → ℕ → List ℕ → Type 0
+IsRun n p outer u [] = Unit {0}
+IsRun n p outer u (v ∷ vs) =
+    Contains outer (u, v) × (pos 0 <ℤ bracket (at p u) (at p v) (at p n)) × IsRun n p outer v vs
 
 module _ (n : ℕ) (p : ℕ → Point) (faces : List Face) (outer : List (ℕ × ℕ))
     (m : SignMesh n p faces outer) where
@@ -223,142 +209,131 @@ module _ (n : ℕ) (p : ℕ → Point) (faces : List Face) (outer : List (ℕ ×
       second : (u < n) × (v < n) × (u ≢ v)
       second = m.ends (u, v) b
 
-  -- ---- q is a new point
-  module _ (q : Point) where
-    -- the way from u to v has q on its left
-    abbrev Sees : ℕ → ℕ → Type 0
-    Sees u v = pos 0 <ℤ bracket (at p u) (at p v) (lift q)
+  -- ---- n is a new point, q below
+  -- the way from u to v has q on its left
+  abbrev Sees : ℕ → ℕ → Type 0
+  Sees u v = pos 0 <ℤ bracket (at p u) (at p v) (at p n)
 
-    back_weak : (u t k : Vec3) → bracket u t k ≤ℤ pos 0 → pos 0 ≤ℤ bracket t u k
-    back_weak u t k h = negated_below (bracket-swap t u k) h
+  back_weak : (u t k : Vec3) → bracket u t k ≤ℤ pos 0 → pos 0 ≤ℤ bracket t u k
+  back_weak u t k h = negated_below (bracket-swap t u k) h
 
-    -- the line from the first seen edge's start to q supports all vertices
-    pub start_supports : (t u v : ℕ) → Contains outer (t, u) → Contains outer (u, v)
-        → bracket (at p t) (at p u) (lift q) ≤ℤ pos 0 → Sees u v → (z : ℕ) → z < n
-        → bracket (at p u) (lift q) (at p z) ≤ℤ pos 0
-    start_supports t u v a b blind sees z h = elim (zero_or_left
-        (back_weak (at p t) (at p u) (at p v) (m.supporting (t, u) a v (m.ends (u, v) b).1))) [
-          | inl e ↦ absurd (left_not_below
-              (seen_before _ _ _ q (straight_on t u v a b e) sees) blind)
-          | inr l ↦ not_left_of_product l (first_not_left (bracket (at p u) (at p t) (at p v)) _
-              (bracket (at p u) (at p t) (lift q)) _ (bracket (at p u) (at p t) (at p z)) _
-              (pluecker _ _ _ _ _) (mul-nonpos_of_nonneg_nonpos_ℤ (back_weak _ _ _ blind)
-              (m.supporting (u, v) b z h))
-              (mul-nonneg_ℤ (back_weak _ _ _ (m.supporting (t, u) a z h)) (weak sees)))
-        ]
-
-    -- and the line from q to the last seen edge's end
-    pub end_supports : (u v w : ℕ) → Contains outer (u, v) → Contains outer (v, w) → Sees u v
-        → bracket (at p v) (at p w) (lift q) ≤ℤ pos 0 → (z : ℕ) → z < n
-        → bracket (lift q) (at p v) (at p z) ≤ℤ pos 0
-    end_supports u v w a b sees blind z h = elim (zero_or_left
-        (back_weak (at p u) (at p v) (at p w) (m.supporting (u, v) a w (m.ends (v, w) b).1))) [
-          | inl e ↦ absurd (left_not_below (seen_on _ _ _ q (straight_on u v w a b e) sees) blind)
-          | inr l ↦ opposite_not_positive (bracket-swap _ _ _)
-              (nonneg_of_mul-nonneg_ℤ l (subst (λ y. pos 0 ≤ℤ y)
-              (*ℤ_comm _ (bracket (at p v) (at p u) (at p w)))
-              (first_not_right (bracket (at p v) (lift q) (at p z)) _
-              (bracket (at p v) (lift q) (at p u)) _ (bracket (at p v) (lift q) (at p w)) _
-              (pluecker _ _ _ _ _) (mul-nonneg_ℤ (weak to_q)
-              (swapped_weak _ _ _ (m.supporting (v, w) b z h)))
-              (mul-nonpos_of_nonneg_nonpos_ℤ (swapped_weak _ _ _ blind)
-              (subst (λ y. y ≤ℤ pos 0) (sym (bracket-turn _ _ _ ∙ bracket-turn _ _ _))
-              (m.supporting (u, v) a z h))))))
-        ]
-      where
-        to_q : pos 0 <ℤ bracket (at p v) (lift q) (at p u)
-        to_q = rw bracket-turn at sees
-
-        swapped_weak : (x y z : Vec3) → bracket x y z ≤ℤ pos 0 → pos 0 ≤ℤ bracket x z y
-        swapped_weak x y z k =
-            negated_below (bracket-turn x z y ∙ bracket-turn z y x ∙ bracket-swap y x z) k
-
-    -- ---- one seen edge, and another from s that q sees, with s in the angle from q to the first
-    module _ (u v s r : ℕ) (own : Contains outer (u, v)) (other : Contains outer (s, r))
-        (sees : Sees u v) (sees_other : Sees s r) where
-      index : (u < n) × (v < n) × (u ≢ v)
-      index = m.ends (u, v) own
-
-      index_other : (s < n) × (r < n) × (s ≢ r)
-      index_other = m.ends (s, r) other
-
-      -- q, u and v turn left
-      seen : pos 0 <ℤ bracket (lift q) (at p u) (at p v)
-      seen = subst (λ z. pos 0 <ℤ z) (bracket-turn _ _ _ ∙ bracket-turn _ _ _) sees
-
-      in_angle : pos 0 ≤ℤ bracket (lift q) (at p u) (at p s)
-          → pos 0 <ℤ bracket (at p v) (lift q) (at p s) → (s ≡ u) × (r ≡ v)
-      in_angle from_u to_v = elim (zero_or_left from_u) [
-        | inl e ↦ (at_u e, next_unique u r v (rw (at_u e) at other) own)
-        | inr l ↦ absurd (m.bare (u, v) own s index_other.0
-            (within_turned _ _ _ (on_side _ q _ _ l flat to_v)))
+  -- the line from the first seen edge's start to q supports all vertices
+  pub start_supports : (t u v : ℕ) → Contains outer (t, u) → Contains outer (u, v)
+      → bracket (at p t) (at p u) (at p n) ≤ℤ pos 0 → Sees u v → (z : ℕ) → z < n
+      → bracket (at p u) (at p n) (at p z) ≤ℤ pos 0
+  start_supports t u v a b blind sees z h = elim (zero_or_left
+      (back_weak (at p t) (at p u) (at p v) (m.supporting (t, u) a v (m.ends (u, v) b).1))) [
+        | inl e ↦ absurd (left_not_below
+            (seen_before _ _ _ (p n) (straight_on t u v a b e) sees) blind)
+        | inr l ↦ not_left_of_product l (first_not_left (bracket (at p u) (at p t) (at p v)) _
+            (bracket (at p u) (at p t) (at p n)) _ (bracket (at p u) (at p t) (at p z)) _
+            (pluecker _ _ _ _ _) (mul-nonpos_of_nonneg_nonpos_ℤ (back_weak _ _ _ blind)
+            (m.supporting (u, v) b z h))
+            (mul-nonneg_ℤ (back_weak _ _ _ (m.supporting (t, u) a z h)) (weak sees)))
       ]
-        where
-          flat : bracket (at p u) (at p v) (at p s) ≡ pos 0
-          flat = zero_of_mul-zero_ℤ (pos-ne-zero_ℤ sees_other)
-              (*ℤ_comm (bracket (at p s) (at p r) (lift q)) _ ∙ three_none _ _ _ _
-              (zero-mul_ℤ _ (bracket-outer _ _)) (cramer _ _ _ _ _ _)
-              (nonpos_product (m.supporting (u, v) own s index_other.0) (weak sees_other))
-              (mul-nonpos_of_nonneg_nonpos_ℤ (weak to_v) (m.supporting (s, r) other u index.0))
-              (mul-nonpos_of_nonneg_nonpos_ℤ from_u (m.supporting (s, r) other v index.1)))
 
-          -- s is on no way from q to u but at u
-          at_u : bracket (lift q) (at p u) (at p s) ≡ pos 0 → s ≡ u
-          at_u e = elim (cases_eq s u) [
-            | inl d ↦ d
-            | inr d ↦ absurd (m.distinct s u index_other.0 index.0 d
-                (not_on_line _ _ _ _ _ seen
-                (bracket-swap _ _ _ ∙ ap neg_ℤ (sym (bracket-turn _ _ _) ∙ e)) (bracket-last _ _)
-                (sym (bracket-turn _ _ _ ∙ bracket-turn _ _ _) ∙ flat)))
-          ]
+  -- and the line from q to the last seen edge's end
+  pub end_supports : (u v w : ℕ) → Contains outer (u, v) → Contains outer (v, w) → Sees u v
+      → bracket (at p v) (at p w) (at p n) ≤ℤ pos 0 → (z : ℕ) → z < n
+      → bracket (at p n) (at p v) (at p z) ≤ℤ pos 0
+  end_supports u v w a b sees blind z h = elim (zero_or_left
+      (back_weak (at p u) (at p v) (at p w) (m.supporting (u, v) a w (m.ends (v, w) b).1))) [
+        | inl e ↦ absurd (left_not_below (seen_on _ _ _ (p n) (straight_on u v w a b e) sees) blind)
+        | inr l ↦ opposite_not_positive (bracket-swap _ _ _)
+            (nonneg_of_mul-nonneg_ℤ l (subst (λ y. pos 0 ≤ℤ y)
+            (*ℤ_comm _ (bracket (at p v) (at p u) (at p w)))
+            (first_not_right (bracket (at p v) (at p n) (at p z)) _
+            (bracket (at p v) (at p n) (at p u)) _ (bracket (at p v) (at p n) (at p w)) _
+            (pluecker _ _ _ _ _) (mul-nonneg_ℤ (weak to_q)
+            (swapped_weak _ _ _ (m.supporting (v, w) b z h)))
+            (mul-nonpos_of_nonneg_nonpos_ℤ (swapped_weak _ _ _ blind)
+            (subst (λ y. y ≤ℤ pos 0) (sym (bracket-turn _ _ _ ∙ bracket-turn _ _ _))
+            (m.supporting (u, v) a z h))))))
+      ]
+    where
+      to_q : pos 0 <ℤ bracket (at p v) (at p n) (at p u)
+      to_q = rw bracket-turn at sees
 
-      -- s is not on the line from q to the run's end
-      not_at_end : pos 0 ≤ℤ bracket (lift q) (at p u) (at p s) → bracket (at p v) (lift q) (at p s)
-          ≡ pos 0 → ((z : ℕ) → z < n → bracket (lift q) (at p v) (at p z) ≤ℤ pos 0) → ⊥
-      not_at_end from_u level ends =
-          let K = last_weight _ _ _ _ (cramer_w _ _ _ _)
-          (m.supporting (u, v) own s index_other.0) level seen in
-          left_not_below (mul-pos_ℤ seen
-          (rw bracket-turn at sees_other))
-          (subst (λ z. z ≤ℤ pos 0)
-          (sym (last_of_three _ _ _ _ (cramer _ _ _ _ _ _) (zero-mul_ℤ _ (bracket-last _ _))
-          (product_zero_left _ level)))
-          (mul-nonpos_of_nonneg_nonpos_ℤ (weak K) (subst (λ z. z ≤ℤ pos 0)
-          (sym (bracket-turn _ _ _)) (ends r index_other.1))))
+      swapped_weak : (x y z : Vec3) → bracket x y z ≤ℤ pos 0 → pos 0 ≤ℤ bracket x z y
+      swapped_weak x y z k =
+          negated_below (bracket-turn x z y ∙ bracket-turn z y x ∙ bracket-swap y x z) k
 
-    -- ---- a run of seen outer edges, from u through the indexes of a list
-    -- from u through the indexes of the list run outer edges that q sees
-    abbrev pub IsRun : ℕ → List ℕ → Type 0
-    IsRun u [] = Unit {0}
-    IsRun u (v ∷ vs) = Contains outer (u, v) × Sees u v × IsRun v vs
+  -- ---- one seen edge, and another from s that q sees, with s in the angle from q to the first
+  module _ (u v s r : ℕ) (own : Contains outer (u, v)) (other : Contains outer (s, r))
+      (sees : Sees u v) (sees_other : Sees s r) where
+    index : (u < n) × (v < n) × (u ≢ v)
+    index = m.ends (u, v) own
 
-    -- the vertex where a run ends
-    abbrev pub end_of : ℕ → List ℕ → ℕ
-    end_of u [] = u
-    end_of u (v ∷ vs) = end_of v vs
+    index_other : (s < n) × (r < n) × (s ≢ r)
+    index_other = m.ends (s, r) other
 
-    -- the edge from s to r is of the run
-    abbrev pub IsOfRun : ℕ → List ℕ → ℕ → ℕ → Type 0
-    IsOfRun u [] s r = ⊥
-    IsOfRun u (v ∷ vs) s r = ((s ≡ u) × (r ≡ v)) ⊎ IsOfRun v vs s r
+    -- q, u and v turn left
+    seen : pos 0 <ℤ bracket (at p n) (at p u) (at p v)
+    seen = subst (λ z. pos 0 <ℤ z) (bracket-turn _ _ _ ∙ bracket-turn _ _ _) sees
 
-    -- each outer edge that q sees is of the run, if the lines from q to the run's ends support all
-    -- vertices
-    pub seen_in_run : (s r : ℕ) → Contains outer (s, r) → Sees s r → (u v : ℕ) (vs : List ℕ)
-        → IsRun u (v ∷ vs) → pos 0 ≤ℤ bracket (lift q) (at p u) (at p s)
-        → ((z : ℕ) → z < n → bracket (lift q) (at p (end_of v vs)) (at p z) ≤ℤ pos 0)
-        → IsOfRun u (v ∷ vs) s r
-    seen_in_run s r other sees_other u v [] run from_u ends = elim (zero_or_left
-        (back_weak (lift q) (at p v) (at p s) (ends s (m.ends (s, r) other).0))) [
-          | inl e ↦ absurd (not_at_end u v s r run.0 other run.1 sees_other from_u e ends)
-          | inr l ↦ inl (in_angle u v s r run.0 other run.1 sees_other from_u l)
+    in_angle : pos 0 ≤ℤ bracket (at p n) (at p u) (at p s)
+        → pos 0 <ℤ bracket (at p v) (at p n) (at p s) → ◌≡◌ {A = ℕ × ℕ} (u, v) (s, r)
+    in_angle from_u to_v = elim (zero_or_left from_u) [
+      | inl e ↦ (λ i. (sym (at_u e) i, next_unique u v r own (rw (at_u e) at other) i))
+      | inr l ↦ absurd (m.bare (u, v) own s index_other.0
+          (within_turned _ _ _ (on_side _ (p n) _ _ l flat to_v)))
+    ]
+      where
+        flat : bracket (at p u) (at p v) (at p s) ≡ pos 0
+        flat = zero_of_mul-zero_ℤ (pos-ne-zero_ℤ sees_other)
+            (*ℤ_comm (bracket (at p s) (at p r) (at p n)) _ ∙ three_none _ _ _ _
+            (zero-mul_ℤ _ (bracket-outer _ _)) (cramer _ _ _ _ _ _)
+            (nonpos_product (m.supporting (u, v) own s index_other.0) (weak sees_other))
+            (mul-nonpos_of_nonneg_nonpos_ℤ (weak to_v) (m.supporting (s, r) other u index.0))
+            (mul-nonpos_of_nonneg_nonpos_ℤ from_u (m.supporting (s, r) other v index.1)))
+
+        -- s is on no way from q to u but at u
+        at_u : bracket (at p n) (at p u) (at p s) ≡ pos 0 → s ≡ u
+        at_u e = elim (cases_eq s u) [
+          | inl d ↦ d
+          | inr d ↦ absurd (m.distinct s u index_other.0 index.0 d
+              (not_on_line _ _ _ _ _ seen
+              (bracket-swap _ _ _ ∙ ap neg_ℤ (sym (bracket-turn _ _ _) ∙ e)) (bracket-last _ _)
+              (sym (bracket-turn _ _ _ ∙ bracket-turn _ _ _) ∙ flat)))
         ]
-    seen_in_run s r other sees_other u v (w ∷ vs) run from_u ends =
-        elim (lt_or_ge_ℤ (bracket (lift q) (at p v) (at p s)) (pos 0)) [
-          | inl l ↦ inl (in_angle u v s r run.0 other run.1 sees_other from_u
-              (subst (λ z. pos 0 <ℤ z) (sym (bracket-swap _ _ _)) (neg-pos_ℤ l)))
-          | inr l ↦ inr (seen_in_run s r other sees_other v w vs run.2 l ends)
-        ]
+
+    -- s is not on the line from q to the run's end
+    not_at_end : pos 0 ≤ℤ bracket (at p n) (at p u) (at p s) → bracket (at p v) (at p n) (at p s)
+        ≡ pos 0 → ((z : ℕ) → z < n → bracket (at p n) (at p v) (at p z) ≤ℤ pos 0) → ⊥
+    not_at_end from_u level ends =
+        let K = last_weight _ _ _ _ (cramer_w _ _ _ _)
+        (m.supporting (u, v) own s index_other.0) level seen in
+        left_not_below (mul-pos_ℤ seen
+        (rw bracket-turn at sees_other))
+        (subst (λ z. z ≤ℤ pos 0)
+        (sym (last_of_three _ _ _ _ (cramer _ _ _ _ _ _) (zero-mul_ℤ _ (bracket-last _ _))
+        (product_zero_left _ level)))
+        (mul-nonpos_of_nonneg_nonpos_ℤ (weak K) (subst (λ z. z ≤ℤ pos 0)
+        (sym (bracket-turn _ _ _)) (ends r index_other.1))))
+
+  -- ---- a run of seen outer edges, from u through the indexes of a list
+  -- each outer edge that q sees is of the run, if the lines from q to the run's ends support all
+  -- vertices
+  pub seen_in_run : (s r : ℕ) → Contains outer (s, r) → Sees s r → (u v : ℕ) (vs : List ℕ)
+      → IsRun n p outer u (v ∷ vs) → pos 0 ≤ℤ bracket (at p n) (at p u) (at p s)
+      → ((z : ℕ) → z < n → bracket (at p n) (at p (last_of v vs)) (at p z) ≤ℤ pos 0)
+      → Contains (steps u (v ∷ vs)) (s, r)
+  seen_in_run s r other sees_other u v [] run from_u ends = elim (zero_or_left
+      (back_weak (at p n) (at p v) (at p s) (ends s (m.ends (s, r) other).0))) [
+        | inl e ↦ absurd (not_at_end u v s r run.0 other run.1 sees_other from_u e ends)
+        | inr l ↦ (0, omega arith, in_angle u v s r run.0 other run.1 sees_other from_u l)
+      ]
+  seen_in_run s r other sees_other u v (w ∷ vs) run from_u ends =
+      elim (lt_or_ge_ℤ (bracket (at p n) (at p v) (at p s)) (pos 0)) [
+        | inl l ↦ (
+          0,
+          omega arith,
+          in_angle u v s r run.0 other run.1 sees_other from_u
+              (subst (λ z. pos 0 <ℤ z) (sym (bracket-swap _ _ _)) (neg-pos_ℤ l)),
+        )
+        | inr l ↦ Contains-later (u, v) (steps v (w ∷ vs)) (s, r)
+            (seen_in_run s r other sees_other v w vs run.2 l ends)
+      ]
 
 -- ---- not all of an outer loop sees q
 four_around : (k : ℤ) (q a b x y z : Vec3) → bracket q x y *ℤ
@@ -382,35 +357,35 @@ pub factor_left : {a b : ℤ} → pos 0 <ℤ b → pos 0 <ℤ (a *ℤ b) → pos
 factor_left {a} {b} h e = pos_of_mul-pos_ℤ h (rw (*ℤ_comm a b) at e)
 
 module _ (n : ℕ) (p : ℕ → Point) (faces : List Face) (outer : List (ℕ × ℕ))
-    (m : SignMesh n p faces outer) (q : Point) where
+    (m : SignMesh n p faces outer) where
   -- round q, each end of a run is left of its start
   module _ (u v : ℕ) (own : Contains outer (u, v))
-      (sees : pos 0 <ℤ bracket (at p u) (at p v) (lift q)) where
+      (sees : pos 0 <ℤ bracket (at p u) (at p v) (at p n)) where
     abbrev kappa : ℕ → ℤ
-    kappa z = bracket (at p u) (at p v) (lift q) *ℤ pos 1 -ℤ bracket (at p u) (at p v) (at p z)
+    kappa z = bracket (at p u) (at p v) (at p n) *ℤ pos 1 -ℤ bracket (at p u) (at p v) (at p z)
 
     kappa_left : (z : ℕ) → z < n → pos 0 <ℤ kappa z
     kappa_left z h = farther _ _ sees (m.supporting (u, v) own z h)
 
-    next_left : (x y : ℕ) → x < n → y < n → pos 0 <ℤ bracket (lift q) (at p u) (at p x)
-        → pos 0 <ℤ bracket (at p x) (at p y) (lift q) → pos 0 <ℤ bracket (lift q) (at p u) (at p y)
+    next_left : (x y : ℕ) → x < n → y < n → pos 0 <ℤ bracket (at p n) (at p u) (at p x)
+        → pos 0 <ℤ bracket (at p x) (at p y) (at p n) → pos 0 <ℤ bracket (at p n) (at p u) (at p y)
     next_left x y hx hy left sees_xy = factor_left (kappa_left x hx)
-        (middle_left _ _ _ _ (pos 0) (four_around (bracket (at p u) (at p v) (lift q)) (lift q)
+        (middle_left _ _ _ _ (pos 0) (four_around (bracket (at p u) (at p v) (at p n)) (at p n)
         (at p u) (at p v) (at p u) (at p x) (at p y)) (mul-pos_ℤ left (kappa_left y hy))
         (mul-pos_ℤ (subst (λ z. pos 0 <ℤ z) (bracket-turn _ _ _ ∙ bracket-turn _ _ _) sees_xy)
         (kappa_left u (m.ends (u, v) own).0)) (zero-mul_ℤ (bracket (at p u) (at p x) (at p y))
         (omega (arith, ints))))
 
-    stays_left : (x : ℕ) (ws : List ℕ) → x < n → IsRun n p faces outer m q x ws
-        → pos 0 <ℤ bracket (lift q) (at p u) (at p x)
-        → pos 0 <ℤ bracket (lift q) (at p u) (at p (end_of n p faces outer m q x ws))
+    stays_left : (x : ℕ) (ws : List ℕ) → x < n → IsRun n p outer x ws
+        → pos 0 <ℤ bracket (at p n) (at p u) (at p x)
+        → pos 0 <ℤ bracket (at p n) (at p u) (at p (last_of x ws))
     stays_left x [] h run left = left
     stays_left x (w ∷ ws) h run left = stays_left w ws (m.ends (x, w) run.0).1 run.2
         (next_left x w h (m.ends (x, w) run.0).1 left run.1)
 
   -- so a run of seen edges never comes back to its start
-  pub run_is_open : (u v : ℕ) (vs : List ℕ) → IsRun n p faces outer m q u (v ∷ vs)
-      → ¬ (end_of n p faces outer m q v vs ≡ u)
+  pub run_is_open : (u v : ℕ) (vs : List ℕ) → IsRun n p outer u (v ∷ vs)
+      → ¬ (last_of v vs ≡ u)
   run_is_open u v vs run e = left_not_zero (stays_left u v run.0 run.1 v vs (m.ends (u, v) run.0).1
       run.2 (subst (λ z. pos 0 <ℤ z) (bracket-turn _ _ _ ∙ bracket-turn _ _ _) run.1))
-      (ap (λ i. bracket (lift q) (at p u) (at p i)) e ∙ bracket-last _ _)
+      (ap (λ i. bracket (at p n) (at p u) (at p i)) e ∙ bracket-last _ _)

@@ -8,10 +8,10 @@ use Rattle.std.proofs.lemmas.Int.{ints}
 use Rattle.plane.specs.Fraction.{Point, whole, IsPositive, WithinSegment}
 use Rattle.plane.specs.Tiling.{Face, face}
 use Rattle.plane.proofs.IntegerOrder.{mul-pos_ℤ}
-use Rattle.plane.proofs.Steps.{left_not_below, left_not_zero, zero_weak}
+use Rattle.plane.proofs.Steps.{left_not_below}
 use Rattle.plane.proofs.Solver.{◌⊕◌, ◌⊗◌, ring_in_from}
 use Rattle.plane.proofs.Bracket.{bracket}
-use Rattle.plane.proofs.BracketIdentities.{bracket-turn, bracket-outer, bracket-last}
+use Rattle.plane.proofs.BracketIdentities.{bracket-turn}
 use Rattle.plane.proofs.Means.{two_weights, mean_of_two}
 use Rattle.plane.proofs.Generic.{Inside, IsFresh}
 use Rattle.plane_tiling.proofs.Counting.{at, SignMesh, within_turned}
@@ -23,8 +23,8 @@ use Rattle.plane_tiling.proofs.Edges as E
 use Rattle.plane_tiling.proofs.Loops as L
 use Rattle.plane_edits.specs.Change.{FacesChange, OuterChange}
 use Rattle.plane_edits.proofs.LocalMesh.Exchange.{IsUsed, all_stay}
-use Rattle.plane_edits.proofs.LocalMesh.Additions.{LivesUpTo, IsWithinNone, SupportsUpTo, not_left}
-use Rattle.plane_edits.proofs.LocalMesh.Additions.{within_outer, IsBareUpTo, new_edges}
+use Rattle.plane_edits.proofs.LocalMesh.Additions.{LivesUpTo, IsWithinNone, SupportsOld, not_left}
+use Rattle.plane_edits.proofs.LocalMesh.Additions.{within_outer, IsBareOfOld, new_edges}
 use Rattle.plane_edits.proofs.LocalMesh.Additions.{new_edges_owe, added}
 use Rattle.plane.proofs.Signs.{sum_is_positive, at_most_if_not_less}
 
@@ -206,15 +206,13 @@ module _ (n : ℕ) (p : ℕ → Point) (old new : List Face) (outer outer' : Lis
     hull_turns : pos 0 <ℤ bracket (at p v) (at p u) (at p c)
     hull_turns = C.turn_left_of n p old _ m v u c behind
 
-    first_supports : SupportsUpTo n p (u, n)
-    first_supports k (inl l) = at_most_if_not_less _ _ (λ s.
+    first_supports : SupportsOld n p (u, n)
+    first_supports k l = at_most_if_not_less _ _ (λ s.
         left_not_below ((halves _ _ _ _ within).0.0 s) (m.supporting (u, v) own k l))
-    first_supports k (inr l) = rw l (zero_weak (bracket-last _ _))
 
-    second_supports : SupportsUpTo n p (n, v)
-    second_supports k (inl l) = at_most_if_not_less _ _ (λ s.
+    second_supports : SupportsOld n p (n, v)
+    second_supports k l = at_most_if_not_less _ _ (λ s.
         left_not_below ((halves _ _ _ _ within).1.0 s) (m.supporting (u, v) own k l))
-    second_supports k (inr l) = rw l (zero_weak (bracket-outer _ _))
 
     first_turns : pos 0 <ℤ bracket (at p v) (at p n) (at p c)
     first_turns = rw (bracket-turn _ _ _) at (E.within_third _ _ _ _ back hull_turns)
@@ -222,16 +220,12 @@ module _ (n : ℕ) (p : ℕ → Point) (old new : List Face) (outer outer' : Lis
     second_turns : pos 0 <ℤ bracket (at p n) (at p u) (at p c)
     second_turns = rw (bracket-turn _ _ _) (E.within_second _ _ _ _ back hull_turns)
 
-    first_bare : IsBareUpTo n p (u, n)
-    first_bare k (inl l) w = m.bare (u, v) own k l (part_within _ _ _ _ within w)
-    first_bare k (inr l) w = left_not_zero (E.within_third _ _ _ _
-        (within_turned _ _ _ (rw l at w)) second_turns) (bracket-last _ _)
+    first_bare : IsBareOfOld n p (u, n)
+    first_bare k l w = m.bare (u, v) own k l (part_within _ _ _ _ within w)
 
-    second_bare : IsBareUpTo n p (n, v)
-    second_bare k (inl l) w = m.bare (u, v) own k l (within_turned _ _ _
+    second_bare : IsBareOfOld n p (n, v)
+    second_bare k l w = m.bare (u, v) own k l (within_turned _ _ _
         (part_within _ _ _ _ back (within_turned _ _ _ w)))
-    second_bare k (inr l) w = left_not_zero (E.within_second _ _ _ _
-        (within_turned _ _ _ (rw l at w)) first_turns) (bracket-outer _ _)
 
     hull_off : (e : ℕ × ℕ) → Contains outer e → ¬ Contains ((u, v) ∷ []) e
         → ¬ WithinSegment (whole (p e.0)) (whole (p e.1)) (whole (p n))
@@ -269,8 +263,8 @@ module _ (n : ℕ) (p : ℕ → Point) (old new : List Face) (outer outer' : Lis
                 (record { u = v; v = u; side = (c, behind); within = back })) e h,
             hull_off e h away,
           );
-          edges = new_edges_owe n p outer ((u, v) ∷ []) u v hull_index.1 hull_index.0
-              (λ e h. let c = m.ends e h in (c.0, c.1)) (own, tt) (tt, tt) first_supports first_bare
+          edges = new_edges_owe n p outer ((u, v) ∷ []) u v c c hull_index.1 hull_index.0
+              (rw bracket-turn at second_turns) (rw (bracket-turn _ _ _) first_turns) (λ e h. let c = m.ends e h in (c.0, c.1)) (own, tt) (tt, tt) first_supports first_bare
               second_supports second_bare;
           same = λ flow anti. omega (arith, ints, anti v n, anti c n, anti n u, anti v u);
         })

@@ -5,10 +5,9 @@
 use Rattle.std.proofs.Common.{◌≡◌, ◌⊎◌, ◌<◌, ◌≤◌, ◌+◌, ◌*◌, ◌-◌, [], ◌∷◌, ◌++◌, ◌∙◌, ℕ, zero, suc}
 use Rattle.std.proofs.Common.{List, length, refl, ap, subst, arith}
 use mathlib.Core.Logic.{inl, inr}
-use Rattle.std.specs.Prelude.{ℤ, pos, ◌+ℤ◌, ◌-ℤ◌, ◌*ℤ◌, ◌≤ℤ◌, ◌<ℤ◌, Contains}
+use Rattle.std.specs.Prelude.{ℤ, pos, ◌+ℤ◌, ◌-ℤ◌, ◌*ℤ◌, ◌≤ℤ◌, ◌<ℤ◌, neg_ℤ, Contains}
 use Rattle.std.proofs.lemmas.Int.{ints}
 use Rattle.std.proofs.lemmas.Bool.{cases_eq}
-use Rattle.std.proofs.Math.Nat.{mul-suc, suc-mul}
 use Rattle.std.proofs.lemmas.List.{length-append}
 use Rattle.std.proofs.lemmas.List.Elements.{Contains-append_left, Contains-append_right}
 use Rattle.plane.specs.Fraction.{Point, Fraction, whole, IsPositive, WithinSegment}
@@ -17,9 +16,9 @@ use Rattle.plane.proofs.IntegerOrder.{mul-pos_ℤ, mul-nonneg_ℤ, lt_or_ge_ℤ}
 use Rattle.plane.proofs.Steps.{weak}
 use Rattle.plane.proofs.Means.{mean_of_two}
 use Rattle.plane.proofs.Solver.{Poly, num, ◌⊕◌, ◌⊖◌, ◌⊗◌, ring_over, ring_in}
-use Rattle.plane.proofs.Bracket.{Vec3, bracket, Vec3ᵖ, bracketᵖ, vec3, lift, liftᵖ}
-use Rattle.plane.proofs.Bracket.{points as points_shape}
-use Rattle.plane.proofs.BracketIdentities.{bracket-turn, mix, cramer_x, cramer_y, cramer_w}
+use Rattle.plane.proofs.Bracket.{Vec3, bracket, Vec3ᵖ, bracketᵖ, vec3}
+use Rattle.plane.proofs.BracketIdentities.{bracket-turn, bracket-swap, mix, cramer_x, cramer_y}
+use Rattle.plane.proofs.BracketIdentities.{cramer_w}
 use Rattle.plane.proofs.Circles.{height, heightᵖ, incircle, incircleᵖ}
 use Rattle.plane_tiling.proofs.Counting.{at, SignMesh, corners_differ}
 use Rattle.plane_tiling.proofs.Flows.{HasSide, turned}
@@ -43,7 +42,7 @@ use Rattle.plane.proofs.Signs.{difference_is_positive, difference_not_negative}
 use Rattle.plane.proofs.Signs.{less_by_named_difference, same_is_not_less}
 use lib.IntN.{+ℤ_comm}
 use Rattle.plane.proofs.Indexes.{less_or_more}
-use Rattle.plane.proofs.IntegerLaws.{one-*ℤ}
+use Rattle.plane.proofs.IntegerLaws.{one-*ℤ, neg-mul_ℤ}
 
 carried-mix : (a b c : Vec3) (k : ℤ) (u : Vec3) (l : ℤ) (v : Vec3)
     → carried a b c (mix k u l v) ≡ k *ℤ carried a b c u +ℤ l *ℤ carried a b c v
@@ -59,16 +58,6 @@ carried-corner : (a b c : Vec3) → carried a b c a ≡ bracket a b c *ℤ heigh
 unfolding carried bracket
 carried-corner a b c = ring_over vec3 [] (a ∷ b ∷ c ∷ []) (λ a b c. carriedᵖ a b c a)
     (λ a b c. bracketᵖ a b c ⊗ heightᵖ a) tt
-
-carried-second : (a b c : Vec3) → carried a b c b ≡ bracket a b c *ℤ height b
-unfolding carried bracket
-carried-second a b c = ring_over vec3 [] (a ∷ b ∷ c ∷ []) (λ a b c. carriedᵖ a b c b)
-    (λ a b c. bracketᵖ a b c ⊗ heightᵖ b) tt
-
-carried-third : (a b c : Vec3) → carried a b c c ≡ bracket a b c *ℤ height c
-unfolding carried bracket
-carried-third a b c = ring_over vec3 [] (a ∷ b ∷ c ∷ []) (λ a b c. carriedᵖ a b c c)
-    (λ a b c. bracketᵖ a b c ⊗ heightᵖ c) tt
 
 carried-weights : (a b c z : Vec3) → bracket b c z *ℤ height a +ℤ bracket c a z *ℤ height b
     +ℤ bracket a b z *ℤ height c ≡ carried a b c z
@@ -310,39 +299,15 @@ module _ (points : List Point) (u v : ℕ) where
       at_corner : (a b c w : ℕ) → (w ≡ a) ⊎ ((w ≡ b) ⊎ (w ≡ c)) → carried (at p a) (at p b) (at p c)
           (at p w) ≡ bracket (at p a) (at p b) (at p c) *ℤ height (at p w)
       at_corner a b c w (inl e) = rw e (carried-corner _ _ _)
-      at_corner a b c w (inr (inl e)) = rw e (carried-second _ _ _)
-      at_corner a b c w (inr (inr e)) = rw e (carried-third _ _ _)
+      at_corner a b c w (inr (inl e)) = rw (e, carried-turn, bracket-turn) (carried-corner _ _ _)
+      at_corner a b c w (inr (inr e)) =
+          rw (e, carried-turn, carried-turn, bracket-turn, bracket-turn) (carried-corner _ _ _)
 
 -- a pair that has been flipped away is no edge
 pub away_is_no_edge : AwayIsNoEdge
 away_is_no_edge points faces outer i j k m h f = no_edge _ i j _ _ m h (k, f)
 
 -- ---- one flip
-balance_x : (a b c d : Point) → bracket (lift b) (lift c) (lift d) *ℤ a.x +ℤ bracket (lift a)
-    (lift b) (lift d) *ℤ c.x ≡ pos 0 *ℤ a.x +ℤ bracket (lift a) (lift c) (lift d) *ℤ b.x +ℤ bracket
-    (lift a) (lift b) (lift c) *ℤ d.x
-unfolding bracket
-balance_x a b c d = ring_over points_shape [] (a ∷ b ∷ c ∷ d ∷ []) (λ a b c d. bracketᵖ (liftᵖ b)
-    (liftᵖ c) (liftᵖ d) ⊗ a.x ⊕ bracketᵖ (liftᵖ a) (liftᵖ b) (liftᵖ d) ⊗ c.x)
-    (λ a b c d. num 0 ⊗ a.x ⊕ bracketᵖ (liftᵖ a) (liftᵖ c) (liftᵖ d) ⊗ b.x
-    ⊕ bracketᵖ (liftᵖ a) (liftᵖ b) (liftᵖ c) ⊗ d.x) tt
-
-balance_y : (a b c d : Point) → bracket (lift b) (lift c) (lift d) *ℤ a.y +ℤ bracket (lift a)
-    (lift b) (lift d) *ℤ c.y ≡ pos 0 *ℤ a.y +ℤ bracket (lift a) (lift c) (lift d) *ℤ b.y +ℤ bracket
-    (lift a) (lift b) (lift c) *ℤ d.y
-unfolding bracket
-balance_y a b c d = ring_over points_shape [] (a ∷ b ∷ c ∷ d ∷ []) (λ a b c d. bracketᵖ (liftᵖ b)
-    (liftᵖ c) (liftᵖ d) ⊗ a.y ⊕ bracketᵖ (liftᵖ a) (liftᵖ b) (liftᵖ d) ⊗ c.y)
-    (λ a b c d. num 0 ⊗ a.y ⊕ bracketᵖ (liftᵖ a) (liftᵖ c) (liftᵖ d) ⊗ b.y
-    ⊕ bracketᵖ (liftᵖ a) (liftᵖ b) (liftᵖ c) ⊗ d.y) tt
-
-balance_w : (a b c d : Point) → bracket (lift b) (lift c) (lift d) +ℤ bracket (lift a) (lift b)
-    (lift d) ≡ pos 0 +ℤ bracket (lift a) (lift c) (lift d) +ℤ bracket (lift a) (lift b) (lift c)
-unfolding bracket
-balance_w a b c d = ring_over points_shape [] (a ∷ b ∷ c ∷ d ∷ []) (λ a b c d. bracketᵖ (liftᵖ b)
-    (liftᵖ c) (liftᵖ d) ⊕ bracketᵖ (liftᵖ a) (liftᵖ b) (liftᵖ d)) (λ a b c d. num 0
-    ⊕ bracketᵖ (liftᵖ a) (liftᵖ c) (liftᵖ d) ⊕ bracketᵖ (liftᵖ a) (liftᵖ b) (liftᵖ c)) tt
-
 chord_above : (a b c d : Vec3) → incircle a b c d ≡ (bracket b c d *ℤ height a +ℤ bracket a b d *ℤ
     height c) -ℤ (pos 0 *ℤ height a +ℤ bracket a c d *ℤ height b +ℤ bracket a b c *ℤ height d)
 unfolding incircle bracket
@@ -403,11 +368,18 @@ module _ (points : List Point) (faces new : List Face) (outer : List (ℕ × ℕ
     r_allowed = record { le = tt };
     s_allowed = weak acd;
     t_allowed = weak abc;
-    x = balance_x (P' a) (P' b) (P' c) (P' d);
-    y = balance_y (P' a) (P' b) (P' c) (P' d);
-    w = balance_w (P' a) (P' b) (P' c) (P' d);
+    x = omega (arith, ints, swapped (P' b).x, cramer_x (at P' a) (at P' b) (at P' c) (at P' d));
+    y = omega (arith, ints, swapped (P' b).y, cramer_y (at P' a) (at P' b) (at P' c) (at P' d));
+    w = omega (arith, ints, swap, cramer_w (at P' a) (at P' b) (at P' c) (at P' d));
     lower = less_by_named_difference _ _ (incircle _ _ _ _) (chord_above _ _ _ _) excess;
   }
+    where
+      swap : bracket (at P' c) (at P' a) (at P' d) ≡ neg_ℤ (bracket (at P' a) (at P' c) (at P' d))
+      swap = bracket-swap _ _ _
+
+      swapped : (z : ℤ) → bracket (at P' c) (at P' a) (at P' d) *ℤ z
+          ≡ neg_ℤ (bracket (at P' a) (at P' c) (at P' d) *ℤ z)
+      swapped z = ap (λ t. t *ℤ z) swap ∙ neg-mul_ℤ (bracket (at P' a) (at P' c) (at P' d)) z
 
   -- and what was away stays away
   module _ (u v : ℕ) (h : IsAway points faces u v) where
@@ -566,15 +538,12 @@ unfolding below_with
 length_below_with zero k = refl
 length_below_with (suc i) k = ap suc (length_below_with i k)
 
-not_last : (i j : ℕ) → j < suc i → (i ≡ j → ⊥) → j < i
-not_last i j h n = grind arith
-
 in_below_with : (i k j : ℕ) → j < i → Contains (below_with i k) (j, k)
 unfolding below_with
 in_below_with zero k j h = absurd (omega arith)
 in_below_with (suc i) k j h = elim (cases_eq i j) [
   | inl e ↦ subst (λ (x : ℕ). Contains ((i, k) ∷ below_with i k) (x, k)) e (0, omega arith, refl)
-  | inr n ↦ Contains-later (i, k) (below_with i k) (j, k) (in_below_with i k j (not_last i j h n))
+  | inr n ↦ Contains-later (i, k) (below_with i k) (j, k) (in_below_with i k j (omega arith))
 ]
 
 in_all_below : (n i j : ℕ) → i < j → j < n → Contains (all_below n) (i, j)
@@ -584,36 +553,22 @@ in_all_below (suc n) i j h k = elim (cases_eq n j) [
   | inl e ↦ subst (λ (x : ℕ). Contains (below_with n n ++ all_below n) (i, x)) e
       (Contains-append_left (below_with n n) (all_below n) (i, n) (in_below_with n n i (rw e h)))
   | inr m ↦ Contains-append_right (below_with n n) (all_below n) (i, j)
-      (in_all_below n i j h (not_last n j k m))
+      (in_all_below n i j h (omega arith))
 ]
-
-row_more : (l n q a b c : ℕ) → a ≡ b + l → b ≡ n → 2 * l + n ≡ q → c ≡ (q + n) + suc n
-    → 2 * a + suc n ≡ c
-row_more l n q a b c e f g h = omega arith
 
 twice_all_below : (n : ℕ) → 2 * length (all_below n) + n ≡ n * n
 unfolding all_below
 twice_all_below zero = refl
-twice_all_below (suc n) = row_more _ n (n * n) _ _ _ (length-append (below_with n n) (all_below n))
-    (length_below_with n n) (twice_all_below n) (suc-mul n _ ∙ ap (λ (z : ℕ). z + suc n)
-    (mul-suc n n))
+twice_all_below (suc n) = let e = length-append (below_with n n) (all_below n) in
+    omega (arith, length_below_with n n, twice_all_below n)
 
 half_of_square : (n l : ℕ) → 2 * l + n ≡ n * n → 2 * l ≤ n * (n - 1)
 half_of_square zero l e = omega arith
-half_of_square (suc n) l e = go _ (ap (λ (z : ℕ). suc n * z) (omega arith)) (e ∙ mul-suc _ n)
-  where
-    by : (q r : ℕ) → q ≡ r → 2 * l + suc n ≡ r + suc n → 2 * l ≤ q
-    by q r f h = omega arith
-
-    go : (q : ℕ) → q ≡ suc n * n → 2 * l + suc n ≡ suc n * n + suc n → 2 * l ≤ q
-    go q f h = by q _ f h
-
-at_most_twice : (a b q : ℕ) → a ≤ b → 2 * b ≤ q → 2 * a ≤ q
-at_most_twice a b q h k = omega arith
+half_of_square (suc n) l e = subst (λ k. 2 * l ≤ suc n * k) {x = n} (omega arith) (omega arith)
 
 -- of n vertices, at most n (n - 1) / 2 pairs have been flipped away
 pub away_is_bounded : AwayIsBounded
-away_is_bounded points faces away g = at_most_twice _ _ _
-    (once_length away (all_below _) g.once (λ e h. let o = g.ordered e.0 e.1 h in
-    in_all_below _ e.0 e.1 o.0 o.1)) (half_of_square _
-    _ (twice_all_below _))
+away_is_bounded points faces away g =
+    let some = once_length away (all_below _) g.once
+    (λ e h. let o = g.ordered e.0 e.1 h in in_all_below _ e.0 e.1 o.0 o.1) in
+    omega (arith, some, half_of_square _ _ (twice_all_below (length points)))

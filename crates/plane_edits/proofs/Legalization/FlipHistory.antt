@@ -21,7 +21,7 @@ use Rattle.plane_edits.proofs.LocalMesh.Kept.{turning_of, same_outer, flip_kept}
 use Rattle.plane_edits.proofs.Legalization.Flipping.{failing_is_convex}
 use Rattle.plane_edits.proofs.Legalization.Away.{away_back, away_is_no_edge, flip_goes_away}
 use Rattle.plane_edits.proofs.Legalization.Away.{away_is_bounded}
-use Rattle.plane.proofs.Indexes.{same_joined, next_sum}
+use Rattle.plane.proofs.Indexes.{same_joined, next_sum, pair_turned}
 
 -- ---- one flip
 -- i and j are corners of a face, or are u and v
@@ -44,8 +44,7 @@ sides_stay old new gone u v stays left i j (k, inr h) = elim (stays j i k h) [
     back : IsSideOfOne new j i ⊎ IsSamePair j i u v → IsSideOfOne new i j ⊎ IsSamePair i j u v
     back (inl (l, inl o)) = inl (l, inr o)
     back (inl (l, inr o)) = inl (l, inl o)
-    back (inr (inl e)) = inr (inr (e.1, e.0))
-    back (inr (inr e)) = inr (inl (e.1, e.0))
+    back (inr e) = inr (pair_turned j i u v e)
 
 module _ (faces new : List Face) (a b c d : ℕ) (change :
     FacesChange faces new (face a b c ∷ face a c d ∷ []) (face a b d ∷ face b c d ∷ [])) where
@@ -183,44 +182,32 @@ module _ (points : List Point) (outer : List (ℕ × ℕ)) where
     way : IsOnItsWay now away
     either : Stands now ⊎ Away away
 
-  parted : (start : List Face) (Stands : List Face → Type 0) (Away : List (ℕ × ℕ) → Type 0)
-      → ((faces new : List Face) (a b c d : ℕ) → IsFailingFlip points faces new a b c d
+  module _ (Stands : List Face → Type 0) (Away : List (ℕ × ℕ) → Type 0)
+      (flips : (faces new : List Face) (a b c d : ℕ) → IsFailingFlip points faces new a b c d
       → Stands faces → (more : List (ℕ × ℕ)) → Joins more a c → Stands new ⊎ Away more)
-      → ((away more : List (ℕ × ℕ)) → ((i j : ℕ) → Joins away i j → Joins more i j) → Away away
-      → Away more) → LocalMesh points start outer → Stands start → {count : ℕ} {now : List Face}
-      → ByFailingFlips points start count now → Parted now Stands Away
-  parted start Stands Away flips grows m h no_flip =
-      record { away = []; way = at_first start m; either = inl h }
-  parted start Stands Away flips grows m h (one_more {before = before} {now = now} e a b c d s) =
-      go (parted start Stands Away flips grows m h e)
-    where
-      go : Parted before Stands Away → Parted now Stands Away
-      go r = let n = next _ _ r.away a b c d r.way s in
-          record {
-            away = n.0;
-            way = n.1;
-            either = elim r.either [
-              | inl o ↦ flips _ _ a b c d s o n.0 n.3
-              | inr o ↦ inr (grows r.away n.0 n.4 o)
-            ];
-          }
+      (grows : (away more : List (ℕ × ℕ)) → ((i j : ℕ) → Joins away i j → Joins more i j)
+      → Away away → Away more) where
+    parted : (start : List Face) → LocalMesh points start outer → Stands start → {count : ℕ}
+        {now : List Face} → ByFailingFlips points start count now → Parted now Stands Away
+    parted start m h no_flip = record { away = []; way = at_first start m; either = inl h }
+    parted start m h (one_more {before = before} {now = now} e a b c d s) =
+        let r = parted start m h e in let n = next _ _ r.away a b c d r.way s in record {
+          away = n.0;
+          way = n.1;
+          either = elim r.either
+              [ inl o ↦ flips _ _ a b c d s o n.0 n.3 | inr o ↦ inr (grows r.away n.0 n.4 o) ];
+        }
 
-  stood : (start between now : List Face) (Stands : List Face → Type 0) (Away : List (ℕ × ℕ)
-      → Type 0) → ((faces new : List Face) (a b c d : ℕ) → IsFailingFlip points faces new a b c d
-      → Stands faces → (more : List (ℕ × ℕ)) → Joins more a c → Stands new ⊎ Away more)
-      → ((away more : List (ℕ × ℕ)) → ((i j : ℕ) → Joins away i j → Joins more i j) → Away away
-      → Away more) → ((faces : List Face) (away : List (ℕ × ℕ)) → IsOnItsWay faces away → Away away
-      → ¬ Stands faces) → (earlier later : ℕ) → LocalMesh points start outer
-      → ByFailingFlips points start earlier between → ByFailingFlips points between later now
-      → Stands start → Stands now → Stands between
-  stood start between now Stands Away flips grows clash earlier later m before after
-      at_start at_end =
-      let r = parted start Stands Away flips grows m at_start before in
-      elim r.either [
-        | inl o ↦ o
-        | inr o ↦ (let n = onward r.away r.way after in
-            absurd (clash now n.0 n.1 (grows r.away n.0 n.3 o) at_end))
-      ]
+    stood : (start between now : List Face) → ((faces : List Face) (away : List (ℕ × ℕ))
+        → IsOnItsWay faces away → Away away → ¬ Stands faces) → (earlier later : ℕ)
+        → LocalMesh points start outer → ByFailingFlips points start earlier between
+        → ByFailingFlips points between later now → Stands start → Stands now → Stands between
+    stood start between now clash earlier later m before after at_start at_end =
+        let r = parted start m at_start before in elim r.either [
+          | inl o ↦ o
+          | inr o ↦ (let n = onward r.away r.way after in
+              absurd (clash now n.0 n.1 (grows r.away n.0 n.3 o) at_end))
+        ]
 
 -- an edge that fails and is flipped does not come back by further flips of failing edges
 pub flipped_stays_away : FlippedStaysAway
@@ -232,11 +219,11 @@ flipped_stays_away points faces new now outer a b c d count m s after =
 -- edges and faces that stand before and after stand all the time between
 pub what_stands_was_not_touched : WhatStandsWasNotTouched
 what_stands_was_not_touched points start between now outer earlier later m before after = (
-  λ i j. stood _ _ start between _ (λ faces. IsSideOfOne faces i j) (λ away. Joins away i j)
+  λ i j. stood _ _ (λ faces. IsSideOfOne faces i j) (λ away. Joins away i j)
       (λ faces new a b c d s h more o. elim (side_stays _ new a b c d s.change i j h)
       [ inl k ↦ inl k | inr e ↦ inr (same_joined _ i j a c e o) ]) (λ away more kept h. kept i j h)
-      (λ faces away w h. no_side _ _ _ away w i j h) earlier later m before after,
-  λ i j k. stood _ _ start between _ (λ faces. IsFaceOf faces i j k)
+      start between _ (λ faces away w h. no_side _ _ _ away w i j h) earlier later m before after,
+  λ i j k. stood _ _ (λ faces. IsFaceOf faces i j k)
       (λ away. Joins away i j ⊎ (Joins away j k ⊎ Joins away k i))
       (λ faces new a b c d s h more o. elim (face_stays _ new a b c d s.change i j k h) [
         | inl f ↦ inl f
@@ -252,7 +239,7 @@ what_stands_was_not_touched points start between now outer earlier later m befor
         | inl x ↦ inl (kept i j x)
         | inr y ↦ elim y [ inl x ↦ inr (inl (kept j k x)) | inr x ↦ inr (inr (kept k i x)) ]
       ])
-      (λ faces away w h f. elim h [
+      start between _ (λ faces away w h f. elim h [
         | inl x ↦ no_side _ _ _ away w i j x (k, inl f)
         | inr y ↦ elim y [
           | inl x ↦ no_side _ _ _ away w j k x (i, inl (turned _ i j k f))

@@ -40,6 +40,7 @@ use Rattle.plane_edits.proofs.Legalization.Legal.{convex_at_first, convex_at_thi
 use Rattle.plane_edits.proofs.LocalMesh.Kept.{turning_of, same_outer, flip_kept}
 use Rattle.plane_edits.proofs.LocalMesh.Exchange.{side_gone}
 use Rattle.plane.proofs.Signs.{sum_not_negative, sum_of_three_not_negative, lower_magnitude}
+use Rattle.plane.proofs.Indexes.{pair_turned, turned_join}
 
 -- ---- the test
 -- from both sides of an edge the circle test has one answer
@@ -272,22 +273,14 @@ module _ (points : List Point) (faces new : List Face) (outer : List (ℕ × ℕ
       signs change i j (there s) (λ h. not_made i j s (made_sides i j h.0 h.1))
     where
       there : IsSamePair i j a c → HasSide gone i j
-      there (inl e) = subst (λ (x : ℕ × ℕ). HasSide gone x.0 x.1) (λ o. (sym e.0 o, sym e.1 o)) (
-        d,
-        inl (1, omega arith, refl),
-      )
-      there (inr e) = subst (λ (x : ℕ × ℕ). HasSide gone x.0 x.1) (λ o. (sym e.0 o, sym e.1 o))
-          (b, inr (inl (0, omega arith, refl)))
+      there (inl e) = rw (e.0, e.1) (d, inl (1, omega arith, refl))
+      there (inr e) = rw (e.0, e.1) (b, inr (inl (0, omega arith, refl)))
 
   round_back : (i j : ℕ) → IsRoundSide a b c d j i → IsRoundSide a b c d i j
-  round_back i j (inl (inl (inl e))) = inl (inl (inr (e.1, e.0)))
-  round_back i j (inl (inl (inr e))) = inl (inl (inl (e.1, e.0)))
-  round_back i j (inl (inr (inl e))) = inl (inr (inr (e.1, e.0)))
-  round_back i j (inl (inr (inr e))) = inl (inr (inl (e.1, e.0)))
-  round_back i j (inr (inl (inl e))) = inr (inl (inr (e.1, e.0)))
-  round_back i j (inr (inl (inr e))) = inr (inl (inl (e.1, e.0)))
-  round_back i j (inr (inr (inl e))) = inr (inr (inr (e.1, e.0)))
-  round_back i j (inr (inr (inr e))) = inr (inr (inl (e.1, e.0)))
+  round_back i j (inl (inl e)) = inl (inl (pair_turned j i a b e))
+  round_back i j (inl (inr e)) = inl (inr (pair_turned j i b c e))
+  round_back i j (inr (inl e)) = inr (inl (pair_turned j i c d e))
+  round_back i j (inr (inr e)) = inr (inr (pair_turned j i d a e))
 
   beside_first : IsTurnOf new b d a
   beside_first = turned new a b d (change.come a b d (inl (0, omega arith, refl)))
@@ -300,13 +293,9 @@ module _ (points : List Point) (faces new : List Face) (outer : List (ℕ × ℕ
   from_first : (i j k l : ℕ) → IsTurnOf new i j k → IsTurnOf new j i l → i ≡ b → j ≡ d
       → Pass points i j k l
   from_first i j k l f g e h =
-      let x = third_unique _ _ new _ new_signs b d k a
-      (subst (λ (y : ℕ × ℕ). IsTurnOf new y.0 y.1 k) (λ o. (e o, h o)) f) beside_first in
-      let y = third_unique _ _ new _ new_signs d b l c
-      (subst (λ (y : ℕ × ℕ). IsTurnOf new y.1 y.0 l) (λ o. (e o, h o)) g) beside_second in
-      subst (λ (z : ℕ × ℕ × ℕ × ℕ). Pass points z.0 z.1 z.2 z.3)
-      (λ o. (sym e o, sym h o, sym x o, sym y o)) (new_diagonal_passes _
-      _ _ _ convex.0 convex.1 excess)
+      let x = third_unique _ _ new _ new_signs b d k a (rw (e, h) at f) beside_first in
+      let y = third_unique _ _ new _ new_signs d b l c (rw (e, h) at g) beside_second in
+      rw (e, h, x, y) (new_diagonal_passes _ _ _ _ convex.0 convex.1 excess)
 
   diagonal_passes : (i j k l : ℕ) → IsTurnOf new i j k → IsTurnOf new j i l → IsSamePair i j b d
       → Pass points i j k l
@@ -328,10 +317,8 @@ module _ (points : List Point) (faces new : List Face) (outer : List (ℕ × ℕ
         go : IsTurnOf faces i j k ⊎ IsTurnOf made i j k → IsTurnOf faces j i l ⊎ IsTurnOf made j i l
             → Pass points i j k l
         go (inr x) y = of_made (made_sides i j k x)
-        go (inl x) (inr y) = of_made (elim (made_sides j i l y) [
-          | inl r ↦ inl (round_back i j r)
-          | inr s ↦ inr (elim s [ inl e ↦ inr (e.1, e.0) | inr e ↦ inl (e.1, e.0) ])
-        ])
+        go (inl x) (inr y) = of_made (elim (made_sides j i l y)
+            [ inl r ↦ inl (round_back i j r) | inr s ↦ inr (pair_turned j i b d s) ])
         go (inl x) (inl y) = passing i j k l x y free
             (λ h. elim (left i j h) [ inl s ↦ old_diagonal_gone i j s (k, f) | inr z ↦ untested z ])
 
@@ -352,17 +339,10 @@ passing_is_dropped points faces constraints before after u v passing left own i 
     untested = go (joins_or_not _ i j)
   where
     of_own : IsSamePair i j u v → Pass points i j k l
-    of_own (inl e) = subst (λ (x : ℕ × ℕ). Pass points x.0 x.1 k l) (λ o. (sym e.0 o, sym e.1 o))
-        (own k l (subst (λ (x : ℕ × ℕ). IsFaceOf faces x.0 x.1 k) (λ o. (e.0 o, e.1 o)) f)
-        (subst (λ (x : ℕ × ℕ). IsFaceOf faces x.1 x.0 l) (λ o. (e.0 o, e.1 o)) g)
-        (λ h. free
-        (subst (λ (x : ℕ × ℕ). Joins constraints x.0 x.1) (λ o. (sym e.0 o, sym e.1 o)) h)))
-    of_own (inr e) =
-        let x = own l k (subst (λ (x : ℕ × ℕ). IsFaceOf faces x.1 x.0 l) (λ o. (e.0 o, e.1 o)) g)
-        (subst (λ (x : ℕ × ℕ). IsFaceOf faces x.0 x.1 k) (λ o. (e.0 o, e.1 o)) f)
-        (λ h. free (elim (subst (λ (x : ℕ × ℕ). Joins constraints x.1 x.0)
-        (λ o. (sym e.0 o, sym e.1 o)) h) [ inl y ↦ inr y | inr y ↦ inl y ])) in
-        subst (λ (x : ℕ × ℕ). Pass points x.0 x.1 k l) (λ o. (sym e.0 o, sym e.1 o)) (x.1, x.0)
+    of_own (inl e) = rw (e.0, e.1)
+        (own k l (rw (e.0, e.1) at f) (rw (e.0, e.1) at g) (λ h. free (rw (e.0, e.1) h)))
+    of_own (inr e) = let x = own l k (rw (e.0, e.1) at g) (rw (e.0, e.1) at f)
+        (λ h. free (turned_join constraints j i (rw (e.0, e.1) h))) in rw (e.0, e.1) (x.1, x.0)
 
     go : Joins before i j ⊎ (¬ Joins before i j) → Pass points i j k l
     go (inl h) = elim (left i j h) [ inl s ↦ of_own s | inr z ↦ absurd (untested z) ]

@@ -3,9 +3,12 @@
 -- new_edges (its two outer edges), new_edges_owe; IsAddition (what such an edit owes) and `added`.
 use Rattle.std.proofs.Common.{◌≡◌, ◌⊎◌, ℕ, suc, ◌<◌, List, [], ◌∷◌, refl, sym, ap, subst, arith}
 use mathlib.Core.Logic.{inl, inr}
-use Rattle.std.specs.Prelude.{pos, ◌≤ℤ◌, Contains}
+use Rattle.std.specs.Prelude.{pos, ◌≤ℤ◌, ◌<ℤ◌, Contains}
 use Rattle.plane.proofs.Signs.{at_most_if_not_less}
-use Rattle.plane.proofs.Bracket.{bracket}
+use Rattle.plane.proofs.Bracket.{bracket, lift}
+use Rattle.plane.proofs.BracketIdentities.{bracket-turn, bracket-outer, bracket-last}
+use Rattle.plane.proofs.Steps.{left_not_zero, zero_weak}
+use Rattle.plane_tiling.proofs.Edges as E
 use Rattle.plane.proofs.Generic.{IsFresh, distinct_with_next}
 use Rattle.plane.proofs.Indexes.{below_or_last}
 use Rattle.plane.specs.Fraction.{Point, whole, WithinSegment}
@@ -33,14 +36,13 @@ abbrev IsRightOf : ℕ → (ℕ → Point) → ℕ × ℕ → Type 0
 IsRightOf n p e = (bracket (at p e.0) (at p e.1) (at p n) ≤ℤ pos 0)
     × ¬ WithinSegment (whole (p e.0)) (whole (p e.1)) (whole (p n))
 
--- none of the points up to n is left of the pair
-abbrev pub SupportsUpTo : ℕ → (ℕ → Point) → ℕ × ℕ → Type 0
-SupportsUpTo n p e = (k : ℕ) → LivesUpTo n k → bracket (at p e.0) (at p e.1) (at p k) ≤ℤ pos 0
+-- none of the points below n is left of the pair
+abbrev pub SupportsOld : ℕ → (ℕ → Point) → ℕ × ℕ → Type 0
+SupportsOld n p e = (k : ℕ) → k < n → bracket (at p e.0) (at p e.1) (at p k) ≤ℤ pos 0
 
 -- none of them is strictly within it
-abbrev pub IsBareUpTo : ℕ → (ℕ → Point) → ℕ × ℕ → Type 0
-IsBareUpTo n p e = (k : ℕ) → LivesUpTo n k
-    → ¬ WithinSegment (whole (p e.0)) (whole (p e.1)) (whole (p k))
+abbrev pub IsBareOfOld : ℕ → (ℕ → Point) → ℕ × ℕ → Type 0
+IsBareOfOld n p e = (k : ℕ) → k < n → ¬ WithinSegment (whole (p e.0)) (whole (p e.1)) (whole (p k))
 
 -- point n is strictly within no pair of the list
 abbrev pub IsWithinNone : ℕ → (ℕ → Point) → List (ℕ × ℕ) → Type 0
@@ -65,19 +67,45 @@ within_outer n p faces outer m e h w = record {
   within = within_turned _ _ _ w;
 }
 
+-- an end is not strictly within its own segment
+not_own_end : (a b c : Point) → pos 0 <ℤ bracket (lift a) (lift b) (lift c)
+    → ¬ WithinSegment (whole a) (whole c) (whole c)
+not_own_end a b c turns w = left_not_zero (E.within_third c a b _ (within_turned a c c w)
+    (rw (bracket-turn _ _ _) turns)) (bracket-last _ _)
+
+-- where a b c turns left, c is not strictly within the segment from c to b
+not_own_start : (a b c : Point) → pos 0 <ℤ bracket (lift a) (lift b) (lift c)
+    → ¬ WithinSegment (whole c) (whole b) (whole c)
+not_own_start a b c turns w = left_not_zero (E.within_second b c a _
+    (within_turned c b c w) (rw bracket-turn at turns)) (bracket-outer _ _)
+
 -- the outer edges from u to n and from n to w
 abbrev pub new_edges : ℕ → ℕ → ℕ → List (ℕ × ℕ)
 new_edges n u w = (u, n) ∷ (n, w) ∷ []
 
--- what is owed of them: they support all points and have none strictly within them
-pub new_edges_owe : (n : ℕ) (p : ℕ → Point) (outer left : List (ℕ × ℕ)) (u w : ℕ) → u < n → w < n
-    → ((e : ℕ × ℕ) → Contains outer e → (e.0 < n) × (e.1 < n)) → Each (Contains outer) left
-    → Once left → SupportsUpTo n p (u, n) → IsBareUpTo n p (u, n) → SupportsUpTo n p (n, w)
-    → IsBareUpTo n p (n, w) → EdgesOwe (LivesUpTo n) p outer left (new_edges n u w)
-new_edges_owe n p outer left u w h k old there once a b c d = record {
+-- what is owed of them, where u x n and y w n turn left: they support all points and have none
+-- strictly within them
+pub new_edges_owe : (n : ℕ) (p : ℕ → Point) (outer left : List (ℕ × ℕ)) (u w x y : ℕ) → u < n
+    → w < n → pos 0 <ℤ bracket (at p u) (at p x) (at p n) → pos 0 <ℤ bracket (at p y) (at p w)
+    (at p n) → ((e : ℕ × ℕ) → Contains outer e → (e.0 < n) × (e.1 < n)) → Each (Contains outer) left
+    → Once left → SupportsOld n p (u, n) → IsBareOfOld n p (u, n) → SupportsOld n p (n, w)
+    → IsBareOfOld n p (n, w) → EdgesOwe (LivesUpTo n) p outer left (new_edges n u w)
+new_edges_owe n p outer left u w x y h k first second old there once a b c d = record {
   comes = (
-    record { ends = (inl h, inr refl, λ e. omega arith); supporting = a; bare = b },
-    (record { ends = (inr refl, inl k, λ e. omega arith); supporting = c; bare = d }, tt),
+    record {
+      ends = (inl h, inr refl, λ e. omega arith);
+      supporting = λ z l. elim l [ inl o ↦ a z o | inr e ↦ rw e (zero_weak (bracket-last _ _)) ];
+      bare = λ z l i. elim l [ inl o ↦ b z o i | inr e ↦ not_own_end _ _ _ first (rw e at i) ];
+    },
+    (
+      record {
+        ends = (inr refl, inl k, λ e. omega arith);
+        supporting =
+            λ z l. elim l [ inl o ↦ c z o | inr e ↦ rw e (zero_weak (bracket-outer _ _)) ];
+        bare = λ z l i. elim l [ inl o ↦ d z o i | inr e ↦ not_own_start _ _ _ second (rw e at i) ];
+      },
+      tt,
+    ),
   );
   left_there = there;
   left_once = once;

@@ -2,9 +2,9 @@
 -- comes from, and totals.
 -- Notions: face_from, face_kept; Each, of_each, to_each (a property of each entry, as a tuple for a
 -- list that is written out), turn_of_all, corner_of_each; IsOnce, Once (no entry twice),
--- changed_total; change_after (two changes as one).
+-- changed_total; mapped, from_map (lists renamed); change_after (two changes as one).
 use Rattle.std.proofs.Common.{◌≡◌, ◌⊎◌, ◌<◌, ◌≤◌, [], ◌∷◌, ◌++◌, ◌∙◌, ℕ, zero, suc, List, length}
-use Rattle.std.proofs.Common.{get_or, refl, sym, ap, subst, arith}
+use Rattle.std.proofs.Common.{get_or, map, refl, sym, ap, subst, arith}
 use mathlib.Core.Logic.{inl, inr, ◌≢◌}
 use mathlib.Core.Bool.{Bool, true, false, ◌&&◌}
 use lib.Dec.{eqb, eqb_refl}
@@ -14,6 +14,7 @@ use Rattle.std.proofs.lemmas.Int.{ints}
 use Rattle.std.proofs.lemmas.Bool.{cases_eq}
 use Rattle.std.proofs.lemmas.List.Elements.{Contains-append_left, Contains-append_right}
 use Rattle.std.proofs.lemmas.List.Elements.{Contains-append_cases}
+use Rattle.std.proofs.lemmas.List.{length-map, get_or-map}
 use Rattle.std.proofs.lemmas.List.Edits.{length-remove}
 use Rattle.std.proofs.lemmas.List.Quantifiers.{all_pairs_remove}
 use Rattle.plane.specs.Tiling.{Face, face}
@@ -336,6 +337,50 @@ module _ {X : Type 0} where
         ]
         | inr k ↦ Contains-append_left new gone x (come x k)
       ]
+
+-- ---- lists, each element renamed
+module _ {X Y : Type 0} (f : X → Y) where
+  -- what a list has, its image has
+  pub mapped : (xs : List X) (x : X) → Contains xs x → Contains (map f xs) (f x)
+  mapped [] x h = absurd (Contains-none x h)
+  mapped (y ∷ ys) x h = elim (Contains-cases y ys x h) [
+    | inl e ↦ subst (λ o. Contains (map f (y ∷ ys)) (f o)) e (0, omega arith, refl)
+    | inr k ↦ Contains-later (f y) (map f ys) (f x) (mapped ys x k)
+  ]
+
+  -- what an image has comes from the list
+  pub from_map : (xs : List X) (y : Y) → Contains (map f xs) y → (x : X) × Contains xs x × (f x ≡ y)
+  from_map [] y h = absurd (Contains-none y h)
+  from_map (x ∷ xs) y h = elim (Contains-cases (f x) (map f xs) y h) [
+    | inl e ↦ (x, (0, omega arith, refl), e)
+    | inr k ↦ (let r = from_map xs y k in (r.0, Contains-later x xs r.0 r.1, r.2))
+  ]
+
+  -- a sum over an image is a sum over the list
+  pub total_map : (g : Y → ℤ) (xs : List X) → total g (map f xs) ≡ total (λ x. g (f x)) xs
+  total_map g [] = refl
+  total_map g (x ∷ xs) = λ i. g (f x) +ℤ total_map g xs i
+
+-- under a map that tells listed pairs apart, a list without a pair twice stays one
+pub once_under_map : (f : ℕ × ℕ → ℕ × ℕ) (pairs : List (ℕ × ℕ)) → IsOnce pairs → ((a b : ℕ × ℕ)
+    → Contains pairs a → Contains pairs b → f a ≡ f b → a ≡ b) → IsOnce (map f pairs)
+once_under_map f pairs once apart i j d low high e =
+    let o = get_or pairs i d in
+    once i j o low in_list (apart _ _ (entry i in_first)
+    (entry j in_list) (sym (read i in_first) ∙ e ∙ read j in_list))
+  where
+    in_list : j < length pairs
+    in_list = omega (arith, length-map pairs f)
+
+    in_first : i < length pairs
+    in_first = omega (arith, length-map pairs f)
+
+    entry : (k : ℕ) → k < length pairs → Contains pairs (get_or pairs k (get_or pairs i d))
+    entry k h = (k, h, get_or_any pairs k _ _ h)
+
+    read : (k : ℕ) → k < length pairs
+        → get_or (map f pairs) k d ≡ f (get_or pairs k (get_or pairs i d))
+    read k h = get_or-map f pairs k _ d h
 
 -- ---- a pair is in a list of pairs or not
 -- a pair is in a list or is not

@@ -24,7 +24,7 @@ use Rattle.plane_tiling.proofs.Totals.{Contains-none}
 use Rattle.plane_edits.proofs.LocalMesh.Changes.{IsOnce}
 use Rattle.plane_edits.proofs.Insertion.Insertions as I
 use Rattle.plane_edits.proofs.Legalization.Flips as F
-use Rattle.plane_edits.proofs.Legalization.Legal.{InClosed, halved}
+use Rattle.plane_edits.proofs.Legalization.Legal.{halved}
 
 -- ---- one more point
 -- the mesh, read with the new point
@@ -123,58 +123,52 @@ flip_kept points faces new outer outer' a b c d m f g left right change edges = 
     _ (F.flipped _ _ _ new _ _ (by_signs _ _ _ m) edges a b c d change f g (if_left _ _ _ left)
     (if_left _ _ _ right))
 
+-- each three corners of a b c d after one another turn left
+abbrev IsConvex : Fraction → Fraction → Fraction → Fraction → Type 0
+IsConvex a b c d = TurnsLeft a b c × TurnsLeft b c d × TurnsLeft c d a × TurnsLeft d a b
+
+-- then a point of d a b is in a b c or in c d a
+half : (a b c d p : Fraction) → IsConvex a b c d → InTriangle d a b p
+    → InTriangle a b c p ⊎ InTriangle c d a p
+half a b c d p q h = let i = in_signs d a b p q.3 h in
+    elim (halved (vec a) (vec b) (vec c) (vec d) (vec p) (if_left a b c q.0)
+    (rw (bracket-turn _ _ _) (if_left c d a q.2)) (rw bracket-turn at (if_left d a b q.3))
+    (if_left b c d q.1) (record { first = i.1; second = i.2; third = i.0 })) [
+      | inl x ↦ inl (signs_in a b c p q.0 x.first x.second x.third)
+      | inr x ↦ inr (signs_in c d a p q.2 x.second x.third x.first)
+    ]
+
 -- the two halvings of a strictly convex quadrilateral cover the same points
 pub flip_covers : FlipCovers
 flip_covers a b c d p abc acd abd bcd = ((λ h. forth h), (λ h. back h))
   where
-    turned : (a b c : Fraction) → pos 0 <ℤ bracket (vec a) (vec b) (vec c)
-        → pos 0 <ℤ bracket (vec b) (vec c) (vec a)
-    turned a b c h = rw (bracket-turn _ _ _) at h
+    left_turned : (a b c : Fraction) → TurnsLeft a b c → TurnsLeft b c a
+    left_turned a b c h = left_if b c a (rw bracket-turn at (if_left a b c h))
 
-    reads : (a b c : Fraction) → TurnsLeft a b c → InTriangle a b c p
-        → InClosed (vec a) (vec b) (vec c) (vec p)
-    reads a b c t h = let s = in_signs a b c p t h in
-        record { first = s.0; second = s.1; third = s.2 }
+    turned : (a b c : Fraction) → TurnsLeft a b c → InTriangle a b c p → InTriangle b c a p
+    turned a b c t h =
+        let i = in_signs a b c p t h in signs_in b c a p (left_turned a b c t) i.1 i.2 i.0
 
-    says : (a b c : Fraction) → TurnsLeft a b c → InClosed (vec a) (vec b) (vec c) (vec p)
-        → InTriangle a b c p
-    says a b c t h = signs_in a b c p t h.first h.second h.third
+    bda : TurnsLeft b d a
+    bda = left_turned a b d abd
 
-    turned_closed : (a b c : Fraction) → InClosed (vec a) (vec b) (vec c) (vec p)
-        → InClosed (vec b) (vec c) (vec a) (vec p)
-    turned_closed a b c h = record { first = h.second; second = h.third; third = h.first }
+    cda : TurnsLeft c d a
+    cda = left_turned a c d acd
 
-    sabc : pos 0 <ℤ bracket (vec a) (vec b) (vec c)
-    sabc = if_left a b c abc
+    dab : TurnsLeft d a b
+    dab = left_turned b d a bda
 
-    sacd : pos 0 <ℤ bracket (vec a) (vec c) (vec d)
-    sacd = if_left a c d acd
-
-    sabd : pos 0 <ℤ bracket (vec a) (vec b) (vec d)
-    sabd = if_left a b d abd
-
-    sbcd : pos 0 <ℤ bracket (vec b) (vec c) (vec d)
-    sbcd = if_left b c d bcd
-
-    back : InTriangle a b d p ⊎ InTriangle b c d p → InTriangle a b c p ⊎ InTriangle a c d p
-    back (inl h) = elim (halved _ _ _ _ _ sabc sacd sabd sbcd
-        (reads a b d abd h)) [ inl x ↦ inl (says a b c abc x) | inr x ↦ inr (says a c d acd x) ]
-    back (inr h) = elim (halved _ _ _ _ _ (turned a c d sacd)
-        (turned b c a (turned a b c sabc)) (turned b c d sbcd) (turned b d a (turned a b d sabd))
-        (turned_closed b c d (reads b c d bcd h))) [
-          | inl x ↦ inr (says a c d acd (turned_closed d a c (turned_closed c d a x)))
-          | inr x ↦ inl (says a b c abc (turned_closed c a b x))
-        ]
+    to_acd : InTriangle c d a p → InTriangle a c d p
+    to_acd h = turned d a c (left_turned c d a cda) (turned c d a cda h)
 
     forth : InTriangle a b c p ⊎ InTriangle a c d p → InTriangle a b d p ⊎ InTriangle b c d p
-    forth (inl h) = elim (halved _ _ _ _ _ sbcd (turned a b d sabd)
-        (turned a b c sabc) (turned a c d sacd) (turned_closed a b c (reads a b c abc h))) [
-          | inl x ↦ inr (says b c d bcd x)
-          | inr x ↦ inl (says a b d abd (turned_closed d a b (turned_closed b d a x)))
-        ]
-    forth (inr h) = elim (halved _ _ _ _ _ (turned b d a (turned a b d sabd))
-        (turned c d b (turned b c d sbcd)) (turned c d a (turned a c d sacd)) sabc
-        (turned_closed c d a (turned_closed a c d (reads a c d acd h)))) [
-          | inl x ↦ inl (says a b d abd (turned_closed d a b x))
-          | inr x ↦ inr (says b c d bcd (turned_closed d b c x))
-        ]
+    forth (inl h) = elim (half b c d a p (bcd, cda, dab, abc) h)
+        [ inl x ↦ inr x | inr x ↦ inl (turned d a b dab x) ]
+    forth (inr h) = elim (half d a b c p (dab, abc, bcd, cda) (turned a c d acd h))
+        [ inl x ↦ inl (turned d a b dab x) | inr x ↦ inr x ]
+
+    back : InTriangle a b d p ⊎ InTriangle b c d p → InTriangle a b c p ⊎ InTriangle a c d p
+    back (inl h) = elim (half a b c d p (abc, bcd, cda, dab) (turned b d a bda (turned a b d abd h)))
+        [ inl x ↦ inl x | inr x ↦ inr (to_acd x) ]
+    back (inr h) = elim (half c d a b p (cda, dab, abc, bcd) h)
+        [ inl x ↦ inr (to_acd x) | inr x ↦ inl x ]

@@ -5,18 +5,18 @@
 -- flip_or_four.
 use Rattle.std.proofs.Common.{◌≡◌, ◌⊎◌, ◌<◌, ◌≤◌, [], ◌∷◌, ◌∙◌, ℕ, zero, suc, List, sym, ap, subst}
 use Rattle.std.proofs.Common.{arith}
-use Prim.Native.Nat.{◌+◌, ◌-◌}
+use Prim.Native.Nat.{◌+◌}
 use mathlib.Core.Logic.{inl, inr, ◌≢◌}
 use Rattle.std.specs.Prelude.{ℤ, pos, ◌+ℤ◌, ◌-ℤ◌, ◌*ℤ◌, ◌≤ℤ◌, ◌<ℤ◌}
 use Rattle.std.proofs.lemmas.Int.{ints}
-use Rattle.std.proofs.lemmas.Bool.{cases_eq, cases_lt}
+use Rattle.std.proofs.lemmas.Bool.{cases_eq}
 use Rattle.plane.specs.Fraction.{Point, whole, WithinSegment}
 use Rattle.plane.specs.Tiling.{Face}
 use Rattle.plane.proofs.IntegerOrder.{lt_or_ge_ℤ, mul-pos_ℤ, mul-nonneg_ℤ, pos_of_mul-pos_ℤ}
 use Rattle.plane.proofs.Steps.{weak}
 use Rattle.plane.proofs.Solver.{◌⊕◌, ◌⊖◌, ◌⊗◌, ring_over}
 use Rattle.plane.proofs.Bracket.{bracket, bracketᵖ, lift, liftᵖ, points}
-use Rattle.plane.proofs.BracketIdentities.{bracket-turn, bracket-swap, bracket-outer, bracket-last}
+use Rattle.plane.proofs.BracketIdentities.{bracket-turn, bracket-swap, bracket-outer}
 use Rattle.plane_tiling.proofs.Flows.{IsTurnOf}
 use Rattle.plane_tiling.proofs.Counting.{at, SignMesh}
 use Rattle.plane_tiling.proofs.Covering as C

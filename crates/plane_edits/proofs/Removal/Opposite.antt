@@ -1,7 +1,7 @@
 -- Round a vertex v: two corners of its star that do not turn left, and are not next to one another,
 -- are opposite corners of four, with v between the other two.
 -- Notions: turns_of_four, AgreeInFours; corners_meet.
-use Rattle.std.proofs.Common.{◌≡◌, ◌⊎◌, ℕ, [], ◌∷◌, sym, ap, ◌∙◌, subst, arith}
+use Rattle.std.proofs.Common.{◌≡◌, ◌⊎◌, ℕ, sym, ap, ◌∙◌, subst, arith}
 use mathlib.Core.Logic.{inl, inr, ◌≢◌}
 use Rattle.std.specs.Prelude.{List, ℤ, pos, ◌+ℤ◌, ◌-ℤ◌, ◌*ℤ◌, ◌≤ℤ◌, ◌<ℤ◌, neg_ℤ}
 use Rattle.std.proofs.lemmas.Int.{ints}
@@ -20,7 +20,7 @@ use Rattle.plane_tiling.proofs.Covering as C
 use Rattle.plane_edits.proofs.Insertion.Hull.{on_side}
 use Rattle.plane_edits.proofs.Removal.Star.{IsInAngle, same_angle}
 use Rattle.plane.proofs.Signs.{neither_sign_is_zero, opposite_of_not_positive}
-use Rattle.plane.proofs.Signs.{positive_plus_not_negative, at_most_if_not_less, less_if_not_same}
+use Rattle.plane.proofs.Signs.{at_most_if_not_less, less_if_not_same}
 
 -- the six turns between four ways have Pluecker's relation
 abbrev pub AgreeInFours : (ℕ → ℕ → ℤ) → Type 0
@@ -72,14 +72,9 @@ module _ (n : ℕ) (p : ℕ → Point) (faces : List Face) (outer : List (ℕ ×
         → IsInAngle n p faces outer m v a b (at p w) ⊎ IsInAngle n p faces outer m v b c (at p w)
     left_in w h = elim (lt_or_ge_ℤ _ (turn w b)) [
       | inl k ↦ inl (in_angle a b w (weak h) k)
-      | inr k ↦ inr (in_angle b c w (opposite_of_not_positive (turn b w) (turn w b)
-          (turn_back b w) k) (pos_of_mul-pos_ℤ ab (omega (
-            arith,
-            ints,
-            turns_of_four a w b c,
-            mul-pos_ℤ h bc,
-            mul-nonneg_of_nonpos_ℤ bad k,
-          ))))
+      | inr k ↦ (let r = turns_of_four a w b c in let l = mul-pos_ℤ h bc in
+          inr (in_angle b c w (opposite_of_not_positive (turn b w) (turn w b) (turn_back b w) k)
+          (pos_of_mul-pos_ℤ ab (omega (arith, ints, mul-nonneg_of_nonpos_ℤ bad k)))))
     ]
 
     -- on the way to a, short of b: in the first
@@ -131,13 +126,8 @@ module _ (n : ℕ) (p : ℕ → Point) (faces : List Face) (outer : List (ℕ ×
     far : turn d b <ℤ pos 0
     far = less_if_not_same _ _
         (not_on a b c ab_face bc_face bad d e de_face (λ s. a_not_d (sym s)) level)
-        (λ s. left_not_zero (mul-pos_ℤ ab' de') (omega (
-          arith,
-          ints,
-          turns_of_four a d b e,
-          product_zero_left (turn b e) level,
-          zero-mul_ℤ (turn a e) s,
-        )))
+        (λ s. let r = turns_of_four a d b e in let z = product_zero_left (turn b e) level in
+        left_not_zero (mul-pos_ℤ ab' de') (omega (arith, ints, zero-mul_ℤ (turn a e) s)))
 
     abdc : turn a b *ℤ turn d c ≡ turn a c *ℤ turn d b
     abdc = omega (arith, ints, turns_of_four a d b c, product_zero_left (turn b c) level)
@@ -172,13 +162,9 @@ module _ (n : ℕ) (p : ℕ → Point) (faces : List Face) (outer : List (ℕ ×
     ]
       where
         ce : pos 0 <ℤ turn c e
-        ce = pos_of_mul-pos_ℤ (negated_left (turn_back b d) far) (omega (
-          arith,
-          ints,
-          turns_of_four b d c e,
-          zero-mul_ℤ (turn b e) dc_zero,
-          mul-pos_ℤ bc' de',
-        ))
+        ce = let r = turns_of_four b d c e in let l = mul-pos_ℤ bc' de' in
+            pos_of_mul-pos_ℤ (negated_left (turn_back b d) far)
+            (omega (arith, ints, zero-mul_ℤ (turn b e) dc_zero))
 
     -- the two corners are one, and v is strictly between a and c
     pub corners_meet : (c ≡ d) × WithinSegment (whole (p a)) (whole (p c)) (whole (p v))

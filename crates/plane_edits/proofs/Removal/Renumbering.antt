@@ -6,66 +6,23 @@ use Rattle.std.proofs.Common.{◌≡◌, ◌⊎◌, ◌<◌, [], ◌∷◌, ◌�
 use Rattle.std.proofs.Common.{refl, sym, ap, subst, arith}
 use Prim.Native.Nat.{◌-◌}
 use mathlib.Core.Logic.{inl, inr, ◌≢◌}
-use Rattle.std.specs.Prelude.{ℤ, pos, ◌+ℤ◌, nat_eq, if◌then◌else◌, swap_remove, Contains, AllPairs}
+use Rattle.std.specs.Prelude.{pos, ◌+ℤ◌, nat_eq, if◌then◌else◌, swap_remove, Contains, AllPairs}
 use Rattle.std.proofs.lemmas.Bool.{cases_eq}
 use Rattle.std.proofs.lemmas.Bool.Decides.{nat_tests}
-use Rattle.std.proofs.lemmas.List.{length-map, length-take, length-set, get_or-map, get_or-take}
+use Rattle.std.proofs.lemmas.List.{length-take, length-set, get_or-take}
 use Rattle.std.proofs.lemmas.List.{get_or-set_same, get_or-set_other}
 use Rattle.plane.specs.Fraction.{Point, Fraction, whole, WithinSegment}
 use Rattle.plane.specs.Side.{side, TurnsLeft}
 use Rattle.plane.specs.Pairs.{place, IsIndex}
 use Rattle.plane.specs.Tiling.{Face, AreNeighbours}
-use Rattle.plane_tiling.specs.Local.{total, around, along, IsCorner, LocalMesh, LineMesh, alone}
-use Rattle.plane_tiling.proofs.Totals.{Contains-later, Contains-cases, Contains-none, get_or_any}
+use Rattle.plane_tiling.specs.Local.{around, along, IsCorner, LocalMesh, LineMesh, alone}
+use Rattle.plane_tiling.proofs.Totals.{Contains-none, get_or_any}
 use Rattle.plane_edits.specs.RemovalLaws.{LastTakesFreedIndex, LastTakesFreedIndexOnLine}
 use Rattle.plane_edits.specs.Removal.{IsOther, LocalMeshWithout, LineMeshWithout, AreNeighboursBut}
 use Rattle.plane_edits.specs.Removal.{new_index, renumbered, renumbered_pair}
 use Rattle.plane.proofs.Indexes.{one_more_than_last, at_most_last}
-
--- ---- lists, each element renamed
-module _ {X Y : Type 0} (f : X → Y) where
-  -- what a list has, its image has
-  pub mapped : (xs : List X) (x : X) → Contains xs x → Contains (map f xs) (f x)
-  mapped [] x h = absurd (Contains-none x h)
-  mapped (y ∷ ys) x h = elim (Contains-cases y ys x h) [
-    | inl e ↦ subst (λ o. Contains (map f (y ∷ ys)) (f o)) e (0, omega arith, refl)
-    | inr k ↦ Contains-later (f y) (map f ys) (f x) (mapped ys x k)
-  ]
-
-  -- what an image has comes from the list
-  pub from_map : (xs : List X) (y : Y) → Contains (map f xs) y → (x : X) × Contains xs x × (f x ≡ y)
-  from_map [] y h = absurd (Contains-none y h)
-  from_map (x ∷ xs) y h = elim (Contains-cases (f x) (map f xs) y h) [
-    | inl e ↦ (x, (0, omega arith, refl), e)
-    | inr k ↦ (let r = from_map xs y k in (r.0, Contains-later x xs r.0 r.1, r.2))
-  ]
-
-  -- a sum over an image is a sum over the list
-  pub total_map : (g : Y → ℤ) (xs : List X) → total g (map f xs) ≡ total (λ x. g (f x)) xs
-  total_map g [] = refl
-  total_map g (x ∷ xs) = λ i. g (f x) +ℤ total_map g xs i
-
--- under a map that tells listed pairs apart, a list without a pair twice stays one
-once_under_map : (f : ℕ × ℕ → ℕ × ℕ) (pairs : List (ℕ × ℕ)) → AllPairs (λ d e. d ≢ e) pairs
-    → ((a b : ℕ × ℕ) → Contains pairs a → Contains pairs b → f a ≡ f b → a ≡ b)
-    → AllPairs (λ d e. d ≢ e) (map f pairs)
-once_under_map f pairs once apart i j d low high e =
-    let o = get_or pairs i d in
-    once i j o low in_list (apart _ _ (entry i in_first)
-    (entry j in_list) (sym (read i in_first) ∙ e ∙ read j in_list))
-  where
-    in_list : j < length pairs
-    in_list = omega (arith, length-map pairs f)
-
-    in_first : i < length pairs
-    in_first = omega (arith, length-map pairs f)
-
-    entry : (k : ℕ) → k < length pairs → Contains pairs (get_or pairs k (get_or pairs i d))
-    entry k h = (k, h, get_or_any pairs k _ _ h)
-
-    read : (k : ℕ) → k < length pairs
-        → get_or (map f pairs) k d ≡ f (get_or pairs k (get_or pairs i d))
-    read k h = get_or-map f pairs k _ d h
+use Rattle.plane_edits.proofs.LocalMesh.Changes.{mapped, total_map, once_under_map}
+pub use Rattle.plane_edits.proofs.LocalMesh.Changes.{from_map}
 
 -- ---- the indexes
 module _ (v last : ℕ) where

@@ -1,26 +1,24 @@
 -- Round a vertex: its neighbours may be counted from any of them, and the half-open angles of two
 -- faces at the vertex share no point.
 -- Notions: IsAgain, AreOneToOne, apart_later; IsInAngle, same_angle.
-use Rattle.std.proofs.Common.{◌≡◌, ◌⊎◌, ◌<◌, suc, ℕ, List, [], ◌∷◌, refl, sym, ap, ◌∙◌, subst, arith}
+use Rattle.std.proofs.Common.{◌≡◌, ◌⊎◌, ◌<◌, suc, ℕ, List, refl, sym, ap, ◌∙◌, subst, arith}
 use mathlib.Core.Logic.{inl, inr, ◌≢◌}
-use Rattle.std.specs.Prelude.{ℤ, pos, ◌+ℤ◌, ◌-ℤ◌, ◌*ℤ◌, ◌≤ℤ◌, ◌<ℤ◌, neg_ℤ}
+use Rattle.std.specs.Prelude.{pos, ◌≤ℤ◌, ◌<ℤ◌, neg_ℤ}
 use Rattle.std.proofs.lemmas.Int.{ints}
 use Rattle.plane.specs.Fraction.{Point}
 use Rattle.plane.specs.Tiling.{Face}
-use Rattle.plane.proofs.IntegerOrder.{mul-pos_ℤ, mul-nonneg_ℤ, pos_from_ℤ, pos_of_mul-pos_ℤ}
+use Rattle.plane.proofs.IntegerOrder.{mul-pos_ℤ, pos_of_mul-pos_ℤ}
 use Rattle.plane.proofs.Steps.{both_signs, negated_right, zero_or_left, product_zero_left}
 use Rattle.plane.proofs.Nudges.{nudged_left}
 use Rattle.std.proofs.lemmas.Bool.{cases_eq}
 use Prim.Native.Nat.{◌+◌}
-use Rattle.plane.proofs.Bracket.{Vec3, bracket, lift}
-use Rattle.plane.proofs.BracketIdentities.{bracket-turn, bracket-swap, pluecker, form, four_terms}
+use Rattle.plane.proofs.Bracket.{Vec3, bracket}
+use Rattle.plane.proofs.BracketIdentities.{bracket-turn, bracket-swap, pluecker}
 use Rattle.plane.proofs.BracketIdentities.{bracket-outer, bracket-last}
 use Rattle.plane.proofs.Generic.{Inside, near}
 use Rattle.plane_tiling.proofs.Flows.{IsTurnOf, turned}
 use Rattle.plane_tiling.proofs.Counting.{at, SignMesh, corners_differ}
 use Rattle.plane_tiling.proofs.Covering as C
-use Rattle.plane.proofs.Signs.{difference_is_positive, difference_not_negative}
-use Rattle.plane.proofs.Signs.{positive_plus_not_negative, times_one}
 
 -- ---- a round of neighbours that closes after k steps, and not before
 abbrev pub IsAgain : (ℕ → ℕ) → ℕ → Type 0
@@ -94,13 +92,9 @@ module _ (n : ℕ) (p : ℕ → Point) (faces : List Face) (outer : List (ℕ ×
 
       -- where q is on the way to c, b is left of it
       c_left : bracket (at p v) (at p c) q ≡ pos 0 → pos 0 <ℤ bracket (at p v) (at p c) (at p b)
-      c_left e = pos_of_mul-pos_ℤ q_d (omega (
-        arith,
-        ints,
-        mul-pos_ℤ turns_second q_b,
-        pluecker (at p v) (at p c) q (at p d) (at p b),
-        product_zero_left (bracket (at p v) (at p d) (at p b)) e,
-      ))
+      c_left e = let r = pluecker (at p v) (at p c) q (at p d) (at p b) in
+          let z = product_zero_left (bracket (at p v) (at p d) (at p b)) e in
+          pos_of_mul-pos_ℤ q_d (omega (arith, ints, mul-pos_ℤ turns_second q_b))
         where
           q_d : pos 0 <ℤ bracket (at p v) q (at p d)
           q_d = subst (λ s. pos 0 <ℤ s) (bracket-turn _ _ q) j.to
