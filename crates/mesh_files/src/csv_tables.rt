@@ -90,6 +90,7 @@ struct Runs {
 }
 
 impl Runs {
+    /// Takes a row in, with its point.
     fn row(
         &mut self,
         record: &ByteRecord,
@@ -98,6 +99,7 @@ impl Runs {
         line: u32,
         drawing: &mut Drawing,
     ) -> Result<(), FileFault> {
+        take_point_row(drawing, record, columns, line)?;
         if let Some(column) = columns.ring {
             self.ring
                 .row(word_of(record, column), place, line, drawing)?;
@@ -111,7 +113,7 @@ impl Runs {
 }
 
 /// Takes the numbers of a row in.
-fn take_point(
+fn take_point_row(
     drawing: &mut Drawing,
     record: &ByteRecord,
     columns: &Columns,
@@ -161,7 +163,6 @@ fn read_points<R: Read>(
             return runs.ring.end(drawing);
         };
         line = next;
-        take_point(drawing, &record, columns, line)?;
         runs.row(&record, columns, place, line, drawing)?;
     }
     Err(FileFault::at(line, Reason::TooMany))
@@ -176,6 +177,20 @@ fn header_of<R: Read>(reader: &mut Reader<R>, alloc: Global) -> Result<ByteRecor
     }
 }
 
+/// Notes the columns that are left out.
+fn leave_out_others(
+    drawing: &mut Drawing,
+    header: &ByteRecord,
+    columns: &Columns,
+) -> Result<(), FileFault> {
+    for column in 0..header.len() {
+        if !columns.has(column) {
+            leave_out(drawing, header, column)?;
+        }
+    }
+    Ok(())
+}
+
 fn read_drawing<R: Read + Drop>(
     text: R,
     drawing: &mut Drawing,
@@ -186,11 +201,7 @@ fn read_drawing<R: Read + Drop>(
         .from_reader(alloc, text);
     let header = header_of(&mut reader, alloc)?;
     let columns = Columns::of(&header)?;
-    for column in 0..header.len() {
-        if !columns.has(column) {
-            leave_out(drawing, &header, column)?;
-        }
-    }
+    leave_out_others(drawing, &header, &columns)?;
     read_points(&mut reader, &columns, drawing, alloc)
 }
 
@@ -220,6 +231,40 @@ fn point_named(
     }
 }
 
+/// The columns of a segment's ends.
+#[derive(Clone, Copy)]
+struct EndColumns {
+    from: usize,
+    to: usize,
+}
+
+/// The columns of a header, of which all others are left out.
+fn end_columns(drawing: &mut Drawing, header: &ByteRecord) -> Result<EndColumns, FileFault> {
+    let ends = EndColumns {
+        from: needed_column(header, "from")?,
+        to: needed_column(header, "to")?,
+    };
+    for column in 0..header.len() {
+        if column != ends.from && column != ends.to {
+            leave_out(drawing, header, column)?;
+        }
+    }
+    Ok(ends)
+}
+
+/// Takes a row with a segment in.
+fn take_segment_row(
+    drawing: &mut Drawing,
+    record: &ByteRecord,
+    ends: EndColumns,
+    line: u32,
+) -> Result<(), FileFault> {
+    let count = drawing.spots.len();
+    let from = point_named(record, ends.from, count, line)?;
+    let to = point_named(record, ends.to, count, line)?;
+    drawing.join(from, to, FilePlace::of_line(line))
+}
+
 fn read_ends<R: Read + Drop>(
     text: R,
     drawing: &mut Drawing,
@@ -229,15 +274,7 @@ fn read_ends<R: Read + Drop>(
         .has_headers(false)
         .from_reader(alloc, text);
     let header = header_of(&mut reader, alloc)?;
-    let (start, end) = (
-        needed_column(&header, "from")?,
-        needed_column(&header, "to")?,
-    );
-    for column in 0..header.len() {
-        if column != start && column != end {
-            leave_out(drawing, &header, column)?;
-        }
-    }
+    let ends = end_columns(drawing, &header)?;
     let mut record = ByteRecord::new(alloc);
     let mut line = 1;
     for _ in 0..u64::MAX {
@@ -245,10 +282,7 @@ fn read_ends<R: Read + Drop>(
             return Ok(());
         };
         line = next;
-        let count = drawing.spots.len();
-        let from = point_named(&record, start, count, line)?;
-        let to = point_named(&record, end, count, line)?;
-        drawing.join(from, to, FilePlace::of_line(line))?;
+        take_segment_row(drawing, &record, ends, line)?;
     }
     Ok(())
 }

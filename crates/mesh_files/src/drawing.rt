@@ -73,6 +73,15 @@ impl Segment {
     }
 }
 
+/// A ring of a polygon: points next to one another in the list, from `start` up to `end`, each of
+/// them joined to the next, and the last to the first.
+#[derive(Clone, Copy)]
+pub struct Ring {
+    pub start: u32,
+    pub end: u32,
+    pub is_hole: bool,
+}
+
 /// The texts of numbers, one behind the other.
 #[derive(Drop)]
 pub(crate) struct NumberTexts {
@@ -113,14 +122,15 @@ impl NumberTexts {
     }
 }
 
-/// Points, their heights, which all of them have or none, segments between them, and points in
-/// holes.
+/// Points, their heights, which all of them have or none, segments between them, points in holes,
+/// and the rings of polygons whose holes have rings.
 #[derive(Drop)]
 pub struct Drawing {
     pub spots: Vec<Spot>,
     pub heights: Vec<Number>,
     pub segments: Vec<Segment>,
     pub holes: Vec<Spot>,
+    pub(crate) rings: Vec<Ring>,
     pub(crate) texts: NumberTexts,
     left_out: String,
     pub ghost ends_are_points: { All (HasEnds (length spots.items)) segments.items },
@@ -136,6 +146,7 @@ impl Drawing {
             heights: Vec::new(alloc),
             segments: Vec::new(alloc),
             holes: Vec::new(alloc),
+            rings: Vec::new(alloc),
             texts: NumberTexts {
                 bytes: Vec::new(alloc),
             },

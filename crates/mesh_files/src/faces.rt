@@ -1,5 +1,5 @@
 //! Faces as tables with areas and as GeoJSON.
-use crate::writing::MeshText;
+use crate::writing::{MeshText, corner_numbers};
 use decimal_numbers::Decimal;
 use std::alloc::AllocError;
 use std::io;
@@ -31,23 +31,23 @@ impl MeshText<'_> {
             .unsigned_abs()
     }
 
+    /// The area of a face.
+    fn area(&self, face: &[u32; 3]) -> Decimal {
+        let digits = self.scaled.x_scale.digits;
+        let area = Decimal {
+            negative: false,
+            magnitude: self.doubled_area(face).saturating_mul(5),
+            digits: digits.saturating_mul(2).saturating_add(1),
+        };
+        area.shortened()
+    }
+
     /// A line for each face: the numbers of its corners, from 1, and its area.
     pub(crate) fn write_csv<W: Write>(&self, writer: &mut W, line: &mut String) -> io::Result<()> {
         writer.write_all(b"a,b,c,area\n")?;
         for face in self.faces {
-            let area = Decimal {
-                negative: false,
-                magnitude: self.doubled_area(face).saturating_mul(5),
-                digits: self
-                    .scaled
-                    .x_scale
-                    .digits
-                    .saturating_mul(2)
-                    .saturating_add(1),
-            };
-            let area = area.shortened();
-            let [a, b, c] = face;
-            let (a, b, c) = (u64::from(*a) + 1, u64::from(*b) + 1, u64::from(*c) + 1);
+            let area = self.area(face);
+            let (a, b, c) = corner_numbers(face);
             line.clear();
             writeln!(line, "{a},{b},{c},{area}")?;
             writer.write_all(line.as_bytes())?;
@@ -68,6 +68,18 @@ impl MeshText<'_> {
         Ok(())
     }
 
+    /// Puts a face behind a line, as a polygon.
+    fn push_polygon(&self, line: &mut String, [a, b, c]: &[u32; 3]) -> Result<(), AllocError> {
+        line.push_str("{\"type\":\"Feature\",\"properties\":{},\"geometry\":")?;
+        line.push_str("{\"type\":\"Polygon\",\"coordinates\":[[[")?;
+        for corner in [a, b, c] {
+            self.push_position(line, *corner as usize)?;
+            line.push_str("],[")?;
+        }
+        self.push_position(line, *a as usize)?;
+        line.push_str("]]]}}")
+    }
+
     /// Each face as a polygon.
     pub(crate) fn write_geojson<W: Write>(
         &self,
@@ -75,18 +87,13 @@ impl MeshText<'_> {
         line: &mut String,
     ) -> io::Result<()> {
         writer.write_all(b"{\"type\":\"FeatureCollection\",\"features\":[")?;
-        for (i, [a, b, c]) in self.faces.iter().enumerate() {
+        let mut before = "\n";
+        for face in self.faces {
             line.clear();
-            line.push_str(if i > 0 { ",\n" } else { "\n" })?;
-            line.push_str("{\"type\":\"Feature\",\"properties\":{},\"geometry\":")?;
-            line.push_str("{\"type\":\"Polygon\",\"coordinates\":[[[")?;
-            for corner in [a, b, c] {
-                self.push_position(line, *corner as usize)?;
-                line.push_str("],[")?;
-            }
-            self.push_position(line, *a as usize)?;
-            line.push_str("]]]}}")?;
+            line.push_str(before)?;
+            self.push_polygon(line, face)?;
             writer.write_all(line.as_bytes())?;
+            before = ",\n";
         }
         writer.write_all(b"\n]}\n")
     }

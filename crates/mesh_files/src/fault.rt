@@ -4,7 +4,7 @@ use std::fmt;
 use thiserror::Error;
 
 /// What is wrong.
-#[derive(Debug, Drop, Error)]
+#[derive(Clone, Copy, Debug, Drop, Error)]
 pub enum Reason {
     #[error("there is no column named {0}")]
     NoColumn(&'static str),
@@ -93,7 +93,7 @@ impl fmt::Display for FilePlace {
 }
 
 /// What is wrong with a file, and where.
-#[derive(Debug, Drop, Error)]
+#[derive(Clone, Copy, Debug, Drop, Error)]
 #[error("{place}: {reason}")]
 pub struct FileFault {
     pub place: FilePlace,

@@ -91,6 +91,20 @@ impl Member {
     }
 }
 
+/// How deep arrays of coordinates are nested where a token stands, and round numbers, or 0 before
+/// the first number.
+#[derive(Clone, Copy)]
+struct Nesting {
+    depth: u32,
+    most: u32,
+}
+
+impl Nesting {
+    fn with_depth(self, depth: u32) -> Self {
+        Nesting { depth, ..self }
+    }
+}
+
 /// An object as far as it was read: its type, the member that says what it is of, how deep that
 /// nests if it is coordinates with a number, and whether it is a list that is being read.
 #[derive(Clone, Copy)]
@@ -173,31 +187,51 @@ impl<'a> GeoText<'a> {
         Ok(GeoPosition { spot, height })
     }
 
+    /// Reads a token of coordinates.
+    fn coordinate_token(
+        &mut self,
+        at: Nesting,
+        drawing: &mut Drawing,
+    ) -> Result<Nesting, FileFault> {
+        let Nesting { depth, most } = at;
+        match self.text.next()? {
+            Token::BeginArray if depth < MAX_NESTING => Ok(at.with_depth(depth + 1)),
+            Token::EndArray if depth > 0 && depth != most => Ok(at.with_depth(depth - 1)),
+            Token::Number(first) if depth > 0 && (most == 0 || most == depth) => {
+                let position = self.position(first, drawing)?;
+                self.shape.add(position, drawing)?;
+                Ok(Nesting {
+                    depth: depth - 1,
+                    most: depth,
+                })
+            }
+            _ => Err(self.fault(Reason::Expected("an array of coordinates"))),
+        }
+    }
+
+    /// Ends the line and the polygon that end here.
+    fn end_parts(&mut self, at: Nesting, drawing: &mut Drawing) -> Result<(), FileFault> {
+        if at.depth.saturating_add(2) < at.most {
+            self.shape.end_polygon();
+        }
+        if at.depth == 0 || at.depth.saturating_add(1) < at.most {
+            return self.shape.end_line(drawing);
+        }
+        Ok(())
+    }
+
     /// Reads coordinates, and gives how deep arrays nest round the numbers, or 0 without a number.
     fn coordinates(&mut self, drawing: &mut Drawing) -> Result<u32, FileFault> {
-        let mut nesting = 0u32;
-        let mut depth = 0u32;
+        let mut at = Nesting { depth: 0, most: 0 };
         self.shape.clear();
         for _ in 0..u64::MAX {
-            match self.text.next()? {
-                Token::BeginArray if depth < MAX_NESTING => depth += 1,
-                Token::EndArray if depth > 0 && depth != nesting => depth -= 1,
-                Token::Number(first) if depth > 0 && (nesting == 0 || nesting == depth) => {
-                    let position = self.position(first, drawing)?;
-                    self.shape.add(position, drawing)?;
-                    nesting = depth;
-                    depth -= 1;
-                }
-                _ => return Err(self.fault(Reason::Expected("an array of coordinates"))),
-            }
-            if depth == 0 || depth.saturating_add(1) < nesting {
-                self.shape.end_line(drawing)?;
-            }
-            if depth == 0 {
+            at = self.coordinate_token(at, drawing)?;
+            self.end_parts(at, drawing)?;
+            if at.depth == 0 {
                 break;
             }
         }
-        Ok(nesting)
+        Ok(at.most)
     }
 
     /// Passes over the properties of a feature.
@@ -321,19 +355,19 @@ impl<'a> GeoText<'a> {
         }
     }
 
-    /// Reads the whole text.
-    fn read(&mut self, drawing: &mut Drawing) -> Result<(), FileFault> {
-        match self.text.next()? {
-            Token::BeginObject => self.open_object()?,
-            _ => return Err(self.fault(Reason::Expected("an object of GeoJSON"))),
-        }
+    /// Reads the object that the text is.
+    fn read_objects(&mut self, drawing: &mut Drawing) -> Result<(), FileFault> {
         for _ in 0..u64::MAX {
-            match self.open.pop() {
-                Some(object) => self.step(object, drawing)?,
-                None => break,
-            }
+            let Some(object) = self.open.pop() else {
+                break;
+            };
+            self.step(object, drawing)?;
         }
-        self.text.end()?;
+        self.text.end()
+    }
+
+    /// Notes what is left out.
+    fn note_left_out(&self, drawing: &mut Drawing) -> Result<(), FileFault> {
         if self.has_properties {
             drawing.leave_out("properties")?;
         }
@@ -341,6 +375,16 @@ impl<'a> GeoText<'a> {
             drawing.leave_out("numbers of positions behind the third")?;
         }
         Ok(())
+    }
+
+    /// Reads the whole text.
+    fn read(&mut self, drawing: &mut Drawing) -> Result<(), FileFault> {
+        let Token::BeginObject = self.text.next()? else {
+            return Err(self.fault(Reason::Expected("an object of GeoJSON")));
+        };
+        self.open_object()?;
+        self.read_objects(drawing)?;
+        self.note_left_out(drawing)
     }
 }
 

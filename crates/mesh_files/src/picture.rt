@@ -1,6 +1,7 @@
 //! A mesh as a picture: faces with thin edges, and constraints with thick ones.
 use crate::writing::MeshText;
 use decimal_numbers::Decimal;
+use std::alloc::AllocError;
 use std::io;
 use std::io::Write;
 
@@ -69,25 +70,30 @@ impl MeshText<'_> {
         Ok(())
     }
 
-    // Lines are as thick on the screen whatever the coordinates are.
-    pub(crate) fn write_svg<W: Write>(&self, writer: &mut W, line: &mut String) -> io::Result<()> {
+    fn push_svg_head(&self, line: &mut String, frame: Frame) -> Result<(), AllocError> {
         let Frame {
             left,
             top,
             width,
             height,
-        } = self.frame();
+        } = frame;
         let pixels = self.width;
-        line.clear();
         line.push_str("<svg xmlns=\"http://www.w3.org/2000/svg\" ")?;
         writeln!(
             line,
             "viewBox=\"{left} {top} {width} {height}\" width=\"{pixels}\">"
-        )?;
+        )
+    }
+
+    // Lines are as thick on the screen whatever the coordinates are.
+    pub(crate) fn write_svg<W: Write>(&self, writer: &mut W, line: &mut String) -> io::Result<()> {
+        let frame = self.frame();
+        line.clear();
+        self.push_svg_head(line, frame)?;
         line.push_str("<g fill=\"#eef3f8\" stroke=\"#456\" stroke-linejoin=\"round\" ")?;
         let mut thin = Decimal {
             negative: false,
-            magnitude: width.max(height).unsigned_abs(),
+            magnitude: frame.width.max(frame.height).unsigned_abs(),
             digits: 3,
         };
         writeln!(line, "stroke-width=\"{thin}\">")?;

@@ -117,6 +117,23 @@ fn points_of(
     Ok(points)
 }
 
+/// Rounds the numbers of a drawing where that is asked for, and counts those of points that this
+/// changed.
+fn round(drawing: &mut Drawing, rounding: Rounding) -> Result<u64, FileFault> {
+    let Rounding::To(digits) = rounding else {
+        return Ok(0);
+    };
+    let rounded = round_all(&mut drawing.texts, drawing.spots.as_mut_slice(), digits)?;
+    round_all(&mut drawing.texts, drawing.holes.as_mut_slice(), digits)?;
+    Ok(rounded)
+}
+
+/// The scale of one coordinate of points.
+fn scale_of(axis: Axis, spots: &[Spot], digits: u32) -> Result<Scale, FileFault> {
+    let (least, most) = axis.ends(spots, digits)?;
+    Ok(Scale::between(digits, least, most))
+}
+
 /// Gives each point of a drawing whole coordinates: its numbers times the least power of ten that
 /// makes all of them whole, moved where they are far from 0. Numbers are exact, or are rounded
 /// before.
@@ -125,17 +142,11 @@ pub fn scale(
     rounding: Rounding,
     alloc: Global,
 ) -> Result<Scaled, FileFault> {
-    let mut rounded = 0;
-    if let Rounding::To(digits) = rounding {
-        rounded = round_all(&mut drawing.texts, drawing.spots.as_mut_slice(), digits)?;
-        round_all(&mut drawing.texts, drawing.holes.as_mut_slice(), digits)?;
-    }
+    let rounded = round(drawing, rounding)?;
     let (spots, holes) = (drawing.spots.as_slice(), drawing.holes.as_slice());
     let digits = most_digits(spots).max(most_digits(holes));
-    let (left, right) = Axis::X.ends(spots, digits)?;
-    let (bottom, top) = Axis::Y.ends(spots, digits)?;
-    let x_scale = Scale::between(digits, left, right);
-    let y_scale = Scale::between(digits, bottom, top);
+    let x_scale = scale_of(Axis::X, spots, digits)?;
+    let y_scale = scale_of(Axis::Y, spots, digits)?;
     Ok(Scaled {
         points: points_of(spots, &x_scale, &y_scale, alloc)?,
         holes: points_of(holes, &x_scale, &y_scale, alloc)?,

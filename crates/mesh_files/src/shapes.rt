@@ -1,5 +1,5 @@
 //! Positions of GeoJSON as points, and the lines that they make as segments.
-use crate::drawing::{Drawing, Number, Spot};
+use crate::drawing::{Drawing, Number, Ring, Spot};
 use crate::fault::{FileFault, FilePlace, Reason};
 use std::alloc::Global;
 
@@ -44,13 +44,15 @@ struct OpenLine {
 }
 
 /// Positions next to one another, and where the first stands: points from `start` up to `end`, and
-/// one that repeats the first of them and is no point.
+/// one that repeats the first of them and is no point. Whether another line comes before it in its
+/// polygon.
 #[derive(Clone, Copy)]
 struct WholeLine {
     at: FilePlace,
     start: u32,
     end: u32,
     closing: Option<GeoPosition>,
+    is_inner: bool,
 }
 
 impl WholeLine {
@@ -90,6 +92,11 @@ impl WholeLine {
             LineKind::Path => self.join(drawing),
             LineKind::Ring => {
                 self.check_ring()?;
+                drawing.rings.push(Ring {
+                    start: self.start,
+                    end: self.end,
+                    is_hole: self.is_inner,
+                })?;
                 self.join(drawing)
             }
         }
@@ -101,6 +108,7 @@ impl WholeLine {
 pub(crate) struct Shape {
     lines: Vec<WholeLine>,
     open: Option<OpenLine>,
+    has_outer: bool,
 }
 
 impl Shape {
@@ -108,6 +116,7 @@ impl Shape {
         Shape {
             lines: Vec::new(alloc),
             open: None,
+            has_outer: false,
         }
     }
 
@@ -115,6 +124,12 @@ impl Shape {
     pub(crate) fn clear(&mut self) {
         self.lines.clear();
         self.open = None;
+        self.has_outer = false;
+    }
+
+    /// Ends the polygon, if the lines are rings.
+    pub(crate) fn end_polygon(&mut self) {
+        self.has_outer = false;
     }
 
     /// Takes a position in, behind those of its line.
@@ -162,7 +177,9 @@ impl Shape {
             start: line.start,
             end,
             closing,
+            is_inner: self.has_outer,
         })?;
+        self.has_outer = true;
         Ok(())
     }
 

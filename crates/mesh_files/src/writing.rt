@@ -44,6 +44,11 @@ pub struct MeshText<'a> {
     pub width: u32,
 }
 
+/// The numbers of a face's corners, from 1.
+pub(crate) fn corner_numbers([a, b, c]: &[u32; 3]) -> (u64, u64, u64) {
+    (u64::from(*a) + 1, u64::from(*b) + 1, u64::from(*c) + 1)
+}
+
 /// Puts bytes that are text behind a line.
 fn push_text(line: &mut String, bytes: &[u8]) -> Result<(), AllocError> {
     match str::from_utf8(bytes) {
@@ -94,9 +99,9 @@ impl MeshText<'_> {
 
     fn write_obj<W: Write>(&self, writer: &mut W, line: &mut String) -> io::Result<()> {
         self.write_points("v ", writer, line)?;
-        for [a, b, c] in self.faces {
+        for face in self.faces {
             line.clear();
-            let (a, b, c) = (u64::from(*a) + 1, u64::from(*b) + 1, u64::from(*c) + 1);
+            let (a, b, c) = corner_numbers(face);
             writeln!(line, "f {a} {b} {c}")?;
             writer.write_all(line.as_bytes())?;
         }
@@ -130,7 +135,8 @@ impl MeshText<'_> {
         let attributes = u8::from(!self.drawing.heights.is_empty());
         writeln!(line, "{count} 2 {attributes} 0")?;
         writer.write_all(line.as_bytes())?;
-        for (place, number) in (0..count).zip(1u64..) {
+        for place in 0..count {
+            let number = place.saturating_add(1);
             line.clear();
             write!(line, "{number} ")?;
             self.push_point(line, place, " ")?;
@@ -145,9 +151,11 @@ impl MeshText<'_> {
         let count = self.faces.len();
         writeln!(line, "{count} 3 0")?;
         writer.write_all(line.as_bytes())?;
-        for ([a, b, c], number) in self.faces.iter().zip(1u64..) {
+        let mut number = 0u64;
+        for face in self.faces {
+            number = number.saturating_add(1);
             line.clear();
-            let (a, b, c) = (u64::from(*a) + 1, u64::from(*b) + 1, u64::from(*c) + 1);
+            let (a, b, c) = corner_numbers(face);
             writeln!(line, "{number} {a} {b} {c}")?;
             writer.write_all(line.as_bytes())?;
         }
