@@ -1,6 +1,6 @@
 -- Lists of what a test says of the numbers below a count: at a number, of a test that none passes,
 -- and with one more. And bits in pages of words, as one more is set.
-use Rattle.std.proofs.Common.{◌≡◌, ◌⊎◌, ◌+◌, ◌-◌, ◌*◌, ◌/◌, ◌%◌, ◌^◌, ◌<◌, ◌≤◌, ◌∙◌, [], ◌∷◌, ◌++◌}
+use Rattle.std.proofs.Common.{◌≡◌, ◌⊎◌, ◌-◌, ◌*◌, ◌/◌, ◌%◌, ◌^◌, ◌<◌, ◌≤◌, ◌∙◌, [], ◌∷◌, ◌++◌}
 use Rattle.std.proofs.Common.{List, ℕ, length, get_or, set, replicate, refl, sym, ap, subst, eq-eqb}
 use Rattle.std.proofs.Common.{arith, w64}
 use mathlib.Core.Logic.{inl, inr, ◌≢◌}
@@ -87,13 +87,15 @@ no_bit k = ap (λ (b : ℕ). nat_eq b 1) (bit_at-zero (k % 64))
 
 -- whether the bit of a number is set, by the word that was read
 pub bit_read : (words : List ℕ) (n word : ℕ) → n / 64 < length words
-    → word ≡ get_or words (n / 64) word → nat_eq (bit_and (word / 2 ^ (n % 64)) 1) 1 ≡ has_bit words n
+    → word ≡ get_or words (n / 64) word
+    → nat_eq (bit_and (word / 2 ^ (n % 64)) 1) 1 ≡ has_bit words n
 bit_read words n word here read = ap (λ (b : ℕ). nat_eq b 1) (shr_and_one word (n % 64))
     ∙ ap (λ (x : ℕ). nat_eq (bit_at x (n % 64)) 1) (read ∙ get_or_any words (n / 64) word 0 here)
 
 -- it is not where the words end before
 pub no_word : (words : List ℕ) (n : ℕ) → length words ≤ n / 64 → has_bit words n ≡ false
-no_word words n over = ap (λ (x : ℕ). nat_eq (bit_at x (n % 64)) 1) (get_or_past words (n / 64) 0 over)
+no_word words n over =
+    ap (λ (x : ℕ). nat_eq (bit_at x (n % 64)) 1) (get_or_past words (n / 64) 0 over)
     ∙ no_bit n
 
 -- words with more that are 0 behind them have the same words
@@ -124,7 +126,8 @@ pub one_bit_more : (was words : List ℕ) (n old : ℕ)
 one_bit_more was words n old same here read k =
     elim (cases_eq n k) [
       | inl e ↦ subst (λ b. has_bit (set words (n / 64) more) k ≡ cond b true (has_bit was k))
-          (sym (eq-eqb n k e)) (subst (λ (x : ℕ). has_bit (set words (n / 64) more) x ≡ true) e set_now)
+          (sym (eq-eqb n k e))
+          (subst (λ (x : ℕ). has_bit (set words (n / 64) more) x ≡ true) e set_now)
       | inr a ↦ subst (λ b. has_bit (set words (n / 64) more) k ≡ cond b true (has_bit was k))
           (sym (ne_eqb n k a)) (as_before a (cases_eq (k / 64) (n / 64)))
     ]
@@ -157,7 +160,8 @@ one_bit_more was words n old same here read k =
 
 -- ---- pages of words
 -- a page without words behind the others adds nothing
-pub empty_page : (pages : List (List ℕ)) (j : ℕ) → get_or (pages ++ [] ∷ []) j [] ≡ get_or pages j []
+pub empty_page : (pages : List (List ℕ)) (j : ℕ)
+    → get_or (pages ++ [] ∷ []) j [] ≡ get_or pages j []
 empty_page pages j = elim (cases_lt j (length pages)) [
   | inl h ↦ get_or_append_left pages ([] ∷ []) [] j h
   | inr h ↦ get_or-append_right pages ([] ∷ []) (length pages) j [] refl h

@@ -6,8 +6,8 @@ use mathlib.Core.Bool.{Bool, true, false}
 use Rattle.std.specs.Prelude.{ℤ, pos, ◌*ℤ◌, Contains, Some, IsSome, IsTrue}
 use Rattle.std.proofs.lemmas.Int.{ints}
 use Rattle.std.proofs.lemmas.Bool.{cases_eq}
-use Rattle.std.proofs.lemmas.Grind.{common_steps}
 use Rattle.half_edge_mesh.specs.Mesh.{Mesh, origin, out_edge, rev, IsValidMesh}
+use Rattle.half_edge_links.proofs.Lists.Rev.{rev_differs}
 use Rattle.half_edge_links.proofs.Removing.CollapseLemmas.{some_of}
 use Rattle.plane.specs.Fraction.{Point, Fraction, whole, IsSame}
 use Rattle.plane.specs.Pairs.{place}
@@ -18,26 +18,15 @@ use Rattle.plane_edits.proofs.LocalMesh.Changes.{IsOnce, once_none}
 use Rattle.plane_delaunay.proofs.Floods.FloodRules.{vertices_are_ends}
 use Rattle.mesh_embedding.specs.Drawn.{drawn, faces_of, outer_of}
 use Rattle.mesh_embedding.proofs.EdgePairs.{joins_edge}
+use Rattle.mesh_embedding.proofs.Entries.{one_value}
 use Rattle.mesh_embedding.proofs.MeshStays.{half_same}
 use Rattle.mesh_embedding.proofs.WorkLists.{contains_last, contains_before, last_or_before}
 use Rattle.mesh_embedding.proofs.WorkLists.{once_after}
 use Rattle.delaunay_shapes.specs.Known.{point_at}
 use Rattle.delaunay_shapes.specs.InShape.{AreEdgesInShape, AreVerticesInShape}
-use Rattle.delaunay_shapes.specs.Flood.{AreNamedIn, IsNamedIn, IsKept, KeepsStart, IsRegion}
+use Rattle.delaunay_shapes.specs.Flood.{AreNamedIn, IsNamedIn, IsStartKept, KeepsStart, IsRegion}
 use Rattle.delaunay_shapes.proofs.Asking.{below_other}
-use Rattle.delaunay_shapes.proofs.Flooding.{tiles, to_half}
-
-some_same : (g h : ℕ) → Some g ≡ Some h → g ≡ h
-some_same g h e = cc
-
-half_of_even : (k : ℕ) → (2 * k) / 2 ≡ k
-half_of_even k = omega arith
-
-half_of_rev : (k : ℕ) → rev (2 * k) / 2 ≡ k
-half_of_rev k = grind (arith, common_steps)
-
-rev_apart : (k : ℕ) → rev (2 * k) ≢ 2 * k
-rev_apart k e = absurd (grind (arith, common_steps))
+use Rattle.delaunay_shapes.proofs.Flooding.{half_of_even, half_of_rev, tiles, to_half}
 
 never : (j : ℕ) → j < 0 → ⊥
 never j h = omega (arith, h)
@@ -81,8 +70,8 @@ keeps Inside m found found' h v a b named on inside told is grown =
     inl ((named.0 on, inside.0 told), grown ∙ ap (λ (x : ℕ). found ++ x ∷ []) is)
 
 -- directed edge h is one of the first i of these edges
-abbrev pub IsBefore : List ℕ → ℕ → ℕ → Type 0
-IsBefore edges i h = (j : ℕ) × (j < i) × (j < length edges) × (get_or edges j 0 ≡ h / 2)
+abbrev pub IsAmongFirst : List ℕ → ℕ → ℕ → Type 0
+IsAmongFirst edges i h = (j : ℕ) × (j < i) × (j < length edges) × (get_or edges j 0 ≡ h / 2)
 
 module _ (Inside : ℕ → Type 0) (m : Mesh)
     (starts : (v h : ℕ) → out_edge m v ≡ Some h → origin m h ≡ v) where
@@ -114,7 +103,7 @@ module _ (Inside : ℕ → Type 0) (m : Mesh)
       })
     where
       again : Names Among (origin m h) → Among h
-      again r = subst Among (some_same r.0.0 h (sym r.0.1 ∙ k.0.0)) r.0.2
+      again r = subst Among (one_value r.0.0 h (sym r.0.1 ∙ k.0.0)) r.0.2
 
       there : (v : ℕ) → Contains (found ++ origin m h ∷ []) v → Names (λ g. Among g ⊎ (g ≡ h)) v
       there v c = elim (last_or_before found (origin m h) v c) as
@@ -136,7 +125,7 @@ module _ (Inside : ℕ → Type 0) (m : Mesh)
         exact = λ v. ((λ c. more Among h v ((s.exact v).0 c)), back v);
       })
     where
-      kept : (v g : ℕ) → out_edge m v ≡ Some g → g ≡ h → Inside v → IsKept Inside m h
+      kept : (v g : ℕ) → out_edge m v ≡ Some g → g ≡ h → Inside v → IsStartKept Inside m h
       kept v g o e i =
           let at : v ≡ origin m h = sym (starts v g o) ∙ ap (origin m) e in
           (subst (λ x. out_edge m x ≡ Some h) at (o ∙ ap Some e), subst Inside at i)
@@ -149,26 +138,27 @@ module _ (Inside : ℕ → Type 0) (m : Mesh)
 
   -- before the first edge none is found
   pub named_first : (edges found : List ℕ) → found ≡ []
-      → AreNamedAmong Inside m (IsBefore edges 0) found
-  named_first edges found e = subst (AreNamedAmong Inside m (IsBefore edges 0)) (sym e) (record {
-    once = once_none;
-    exact = λ v. (
-      (λ c. absurd (Contains-none v c)),
-      (λ r. absurd (never r.0.2.0 r.0.2.1)),
-    );
-  })
+      → AreNamedAmong Inside m (IsAmongFirst edges 0) found
+  named_first edges found e = subst (AreNamedAmong Inside m (IsAmongFirst edges 0)) (sym e)
+      (record {
+        once = once_none;
+        exact = λ v. (
+          (λ c. absurd (Contains-none v c)),
+          (λ r. absurd (never r.0.2.0 r.0.2.1)),
+        );
+      })
 
   -- once both directions of the next edge are done, one edge more is
   pub named_more : (edges : List ℕ) → IsOnce edges → (found mid found' : List ℕ) (i d a b : ℕ)
-      → AreNamedAmong Inside m (IsBefore edges i) found → i < length edges
+      → AreNamedAmong Inside m (IsAmongFirst edges i) found → i < length edges
       → a ≡ 2 * get_or edges i d → b ≡ rev (2 * get_or edges i d)
       → KeepsStart Inside m found mid a → KeepsStart Inside m mid found' b
-      → AreNamedAmong Inside m (IsBefore edges (i + 1)) found'
+      → AreNamedAmong Inside m (IsAmongFirst edges (i + 1)) found'
   named_more edges once found mid found' i d a b s here p q from to =
-      among_same (λ h. (IsBefore edges i h ⊎ (h ≡ a)) ⊎ (h ≡ b)) (IsBefore edges (i + 1)) found'
-      there back
-      (keeps_more (λ h. IsBefore edges i h ⊎ (h ≡ a)) mid found' b
-      (keeps_more (IsBefore edges i) found mid a s (fresh a half_a) from) other to)
+      among_same (λ h. (IsAmongFirst edges i h ⊎ (h ≡ a)) ⊎ (h ≡ b)) (IsAmongFirst edges (i + 1))
+      found' there back
+      (keeps_more (λ h. IsAmongFirst edges i h ⊎ (h ≡ a)) mid found' b
+      (keeps_more (IsAmongFirst edges i) found mid a s (fresh a half_a) from) other to)
     where
       half_a : a / 2 ≡ get_or edges i 0
       half_a = ap (λ (x : ℕ). x / 2) p ∙ half_of_even (get_or edges i d)
@@ -178,39 +168,39 @@ module _ (Inside : ℕ → Type 0) (m : Mesh)
       half_b = ap (λ (x : ℕ). x / 2) q ∙ half_of_rev (get_or edges i d)
           ∙ get_or_any edges i d 0 here
 
-      fresh : (h : ℕ) → h / 2 ≡ get_or edges i 0 → ¬ IsBefore edges i h
+      fresh : (h : ℕ) → h / 2 ≡ get_or edges i 0 → ¬ IsAmongFirst edges i h
       fresh h e r = once r.0 i 0 r.1 here (r.3 ∙ e)
 
-      other : ¬ (IsBefore edges i b ⊎ (b ≡ a))
+      other : ¬ (IsAmongFirst edges i b ⊎ (b ≡ a))
       other (inl r) = fresh b half_b r
-      other (inr e) = rev_apart (get_or edges i d) (sym q ∙ e ∙ p)
+      other (inr e) = rev_differs (2 * get_or edges i d) (sym q ∙ e ∙ p)
 
-      now : (h : ℕ) → h / 2 ≡ get_or edges i 0 → IsBefore edges (i + 1) h
+      now : (h : ℕ) → h / 2 ≡ get_or edges i 0 → IsAmongFirst edges (i + 1) h
       now h e = (i, last_more i, here, sym e)
 
-      there : (h : ℕ) → (IsBefore edges i h ⊎ (h ≡ a)) ⊎ (h ≡ b) → IsBefore edges (i + 1) h
+      there : (h : ℕ) → (IsAmongFirst edges i h ⊎ (h ≡ a)) ⊎ (h ≡ b) → IsAmongFirst edges (i + 1) h
       there h (inl (inl r)) = (r.0, less_more r.0 i r.1, r.2, r.3)
       there h (inl (inr e)) = now h (ap (λ (x : ℕ). x / 2) e ∙ half_a)
       there h (inr e) = now h (ap (λ (x : ℕ). x / 2) e ∙ half_b)
 
       one : (h j : ℕ) → j ≡ i → get_or edges j 0 ≡ h / 2
-          → (IsBefore edges i h ⊎ (h ≡ a)) ⊎ (h ≡ b)
+          → (IsAmongFirst edges i h ⊎ (h ≡ a)) ⊎ (h ≡ b)
       one h j e o =
           elim (half_same a h (sym (half_a ∙ ap (λ (x : ℕ). get_or edges x 0) (sym e) ∙ o))) as
-          (λ _. (IsBefore edges i h ⊎ (h ≡ a)) ⊎ (h ≡ b)) [
+          (λ _. (IsAmongFirst edges i h ⊎ (h ≡ a)) ⊎ (h ≡ b)) [
             | inl f ↦ inl (inr f)
             | inr f ↦ inr (f ∙ ap rev p ∙ sym q)
           ]
 
-      back : (h : ℕ) → IsBefore edges (i + 1) h → (IsBefore edges i h ⊎ (h ≡ a)) ⊎ (h ≡ b)
-      back h r = elim (cases_eq r.0 i) as (λ _. (IsBefore edges i h ⊎ (h ≡ a)) ⊎ (h ≡ b)) [
+      back : (h : ℕ) → IsAmongFirst edges (i + 1) h → (IsAmongFirst edges i h ⊎ (h ≡ a)) ⊎ (h ≡ b)
+      back h r = elim (cases_eq r.0 i) as (λ _. (IsAmongFirst edges i h ⊎ (h ≡ a)) ⊎ (h ≡ b)) [
         | inl e ↦ one h r.0 e r.3
         | inr n ↦ inl (inl (r.0, below_other r.0 i r.1 n, r.2, r.3))
       ]
 
   -- once the end of the edges is reached, all that name one of them are done
   pub named_last : (edges found : List ℕ) (i : ℕ)
-      → AreNamedAmong Inside m (IsBefore edges i) found → length edges ≤ i
+      → AreNamedAmong Inside m (IsAmongFirst edges i) found → length edges ≤ i
       → AreNamedIn Inside m edges found
   named_last edges found i s last = record {
     once = s.once;
@@ -221,10 +211,10 @@ module _ (Inside : ℕ → Type 0) (m : Mesh)
     );
   }
     where
-      listed : (h : ℕ) → IsBefore edges i h → Contains edges (h / 2)
+      listed : (h : ℕ) → IsAmongFirst edges i h → Contains edges (h / 2)
       listed h r = (r.0, r.2, get_or_any edges r.0 (h / 2) 0 r.2 ∙ r.3)
 
-      before : (h : ℕ) → Contains edges (h / 2) → IsBefore edges i h
+      before : (h : ℕ) → Contains edges (h / 2) → IsAmongFirst edges i h
       before h c = (
         c.0,
         less_all c.0 (length edges) i c.1 last,
