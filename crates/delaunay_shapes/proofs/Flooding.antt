@@ -33,10 +33,11 @@ use Rattle.delaunay_shapes.specs.InShape.{IsEdgeInShape, AreEdgesInShape}
 use Rattle.delaunay_shapes.specs.Flood.{IsAsked, IsFlooding, AreAskedBeside, IsSpread, IsRegion}
 use Rattle.delaunay_shapes.specs.Flood.{IsBegunBy}
 
-half_of_even : (k : ℕ) → (2 * k) / 2 ≡ k
+-- the undirected edge of either of its directions
+pub half_of_even : (k : ℕ) → (2 * k) / 2 ≡ k
 half_of_even k = omega arith
 
-half_of_rev : (k : ℕ) → rev (2 * k) / 2 ≡ k
+pub half_of_rev : (k : ℕ) → rev (2 * k) / 2 ≡ k
 half_of_rev k = grind (arith, common_steps)
 
 half_below : (h n : ℕ) → h < 2 * n → h / 2 < n

@@ -1,6 +1,6 @@
 -- Lists of what a test says of the numbers below a count: at a number, of a test that none passes,
 -- and with one more. And bits in pages of words, as one more is set.
-use Rattle.std.proofs.Common.{◌≡◌, ◌⊎◌, ◌+◌, ◌-◌, ◌*◌, ◌/◌, ◌%◌, ◌^◌, ◌<◌, ◌≤◌, ◌∙◌, [], ◌∷◌, ◌++◌}
+use Rattle.std.proofs.Common.{◌≡◌, ◌⊎◌, ◌-◌, ◌*◌, ◌/◌, ◌%◌, ◌^◌, ◌<◌, ◌≤◌, ◌∙◌, [], ◌∷◌, ◌++◌}
 use Rattle.std.proofs.Common.{List, ℕ, length, get_or, set, replicate, refl, sym, ap, subst, eq-eqb}
 use Rattle.std.proofs.Common.{arith, w64}
 use mathlib.Core.Logic.{inl, inr, ◌≢◌}

@@ -6,8 +6,8 @@ use mathlib.Core.Bool.{Bool, true, false}
 use Rattle.std.specs.Prelude.{ℤ, pos, ◌*ℤ◌, Contains, Some, IsSome, IsTrue}
 use Rattle.std.proofs.lemmas.Int.{ints}
 use Rattle.std.proofs.lemmas.Bool.{cases_eq}
-use Rattle.std.proofs.lemmas.Grind.{common_steps}
 use Rattle.half_edge_mesh.specs.Mesh.{Mesh, origin, out_edge, rev, IsValidMesh}
+use Rattle.half_edge_links.proofs.Lists.Rev.{rev_differs}
 use Rattle.half_edge_links.proofs.Removing.CollapseLemmas.{some_of}
 use Rattle.plane.specs.Fraction.{Point, Fraction, whole, IsSame}
 use Rattle.plane.specs.Pairs.{place}
@@ -18,26 +18,15 @@ use Rattle.plane_edits.proofs.LocalMesh.Changes.{IsOnce, once_none}
 use Rattle.plane_delaunay.proofs.Floods.FloodRules.{vertices_are_ends}
 use Rattle.mesh_embedding.specs.Drawn.{drawn, faces_of, outer_of}
 use Rattle.mesh_embedding.proofs.EdgePairs.{joins_edge}
+use Rattle.mesh_embedding.proofs.Entries.{one_value}
 use Rattle.mesh_embedding.proofs.MeshStays.{half_same}
 use Rattle.mesh_embedding.proofs.WorkLists.{contains_last, contains_before, last_or_before}
 use Rattle.mesh_embedding.proofs.WorkLists.{once_after}
 use Rattle.delaunay_shapes.specs.Known.{point_at}
 use Rattle.delaunay_shapes.specs.InShape.{AreEdgesInShape, AreVerticesInShape}
-use Rattle.delaunay_shapes.specs.Flood.{AreNamedIn, IsNamedIn, IsNamedStart, KeepsStart, IsRegion}
+use Rattle.delaunay_shapes.specs.Flood.{AreNamedIn, IsNamedIn, IsStartKept, KeepsStart, IsRegion}
 use Rattle.delaunay_shapes.proofs.Asking.{below_other}
-use Rattle.delaunay_shapes.proofs.Flooding.{tiles, to_half}
-
-some_same : (g h : ℕ) → Some g ≡ Some h → g ≡ h
-some_same g h e = cc
-
-half_of_even : (k : ℕ) → (2 * k) / 2 ≡ k
-half_of_even k = omega arith
-
-half_of_rev : (k : ℕ) → rev (2 * k) / 2 ≡ k
-half_of_rev k = grind (arith, common_steps)
-
-rev_apart : (k : ℕ) → rev (2 * k) ≢ 2 * k
-rev_apart k e = absurd (grind (arith, common_steps))
+use Rattle.delaunay_shapes.proofs.Flooding.{half_of_even, half_of_rev, tiles, to_half}
 
 never : (j : ℕ) → j < 0 → ⊥
 never j h = omega (arith, h)
@@ -114,7 +103,7 @@ module _ (Inside : ℕ → Type 0) (m : Mesh)
       })
     where
       again : Names Among (origin m h) → Among h
-      again r = subst Among (some_same r.0.0 h (sym r.0.1 ∙ k.0.0)) r.0.2
+      again r = subst Among (one_value r.0.0 h (sym r.0.1 ∙ k.0.0)) r.0.2
 
       there : (v : ℕ) → Contains (found ++ origin m h ∷ []) v → Names (λ g. Among g ⊎ (g ≡ h)) v
       there v c = elim (last_or_before found (origin m h) v c) as
@@ -136,7 +125,7 @@ module _ (Inside : ℕ → Type 0) (m : Mesh)
         exact = λ v. ((λ c. more Among h v ((s.exact v).0 c)), back v);
       })
     where
-      kept : (v g : ℕ) → out_edge m v ≡ Some g → g ≡ h → Inside v → IsNamedStart Inside m h
+      kept : (v g : ℕ) → out_edge m v ≡ Some g → g ≡ h → Inside v → IsStartKept Inside m h
       kept v g o e i =
           let at : v ≡ origin m h = sym (starts v g o) ∙ ap (origin m) e in
           (subst (λ x. out_edge m x ≡ Some h) at (o ∙ ap Some e), subst Inside at i)
@@ -150,8 +139,8 @@ module _ (Inside : ℕ → Type 0) (m : Mesh)
   -- before the first edge none is found
   pub named_first : (edges found : List ℕ) → found ≡ []
       → AreNamedAmong Inside m (IsAmongFirst edges 0) found
-  named_first edges found e =
-      subst (AreNamedAmong Inside m (IsAmongFirst edges 0)) (sym e) (record {
+  named_first edges found e = subst (AreNamedAmong Inside m (IsAmongFirst edges 0)) (sym e)
+      (record {
         once = once_none;
         exact = λ v. (
           (λ c. absurd (Contains-none v c)),
@@ -166,9 +155,8 @@ module _ (Inside : ℕ → Type 0) (m : Mesh)
       → KeepsStart Inside m found mid a → KeepsStart Inside m mid found' b
       → AreNamedAmong Inside m (IsAmongFirst edges (i + 1)) found'
   named_more edges once found mid found' i d a b s here p q from to =
-      among_same (λ h. (IsAmongFirst edges i h ⊎ (h ≡ a)) ⊎ (h ≡ b))
-      (IsAmongFirst edges (i + 1)) found'
-      there back
+      among_same (λ h. (IsAmongFirst edges i h ⊎ (h ≡ a)) ⊎ (h ≡ b)) (IsAmongFirst edges (i + 1))
+      found' there back
       (keeps_more (λ h. IsAmongFirst edges i h ⊎ (h ≡ a)) mid found' b
       (keeps_more (IsAmongFirst edges i) found mid a s (fresh a half_a) from) other to)
     where
@@ -185,7 +173,7 @@ module _ (Inside : ℕ → Type 0) (m : Mesh)
 
       other : ¬ (IsAmongFirst edges i b ⊎ (b ≡ a))
       other (inl r) = fresh b half_b r
-      other (inr e) = rev_apart (get_or edges i d) (sym q ∙ e ∙ p)
+      other (inr e) = rev_differs (2 * get_or edges i d) (sym q ∙ e ∙ p)
 
       now : (h : ℕ) → h / 2 ≡ get_or edges i 0 → IsAmongFirst edges (i + 1) h
       now h e = (i, last_more i, here, sym e)

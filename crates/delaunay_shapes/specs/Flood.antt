@@ -93,10 +93,10 @@ pub record AreNamedIn (Inside : ℕ → Type 0) (m : Mesh) (edges found : List �
   pub exact : (v : ℕ) → Contains found v ↔ (((h : ℕ) × IsNamedIn m edges v h) × Inside v)
 
 -- the start of directed edge h names it, and is in the shape
-abbrev pub IsNamedStart : (ℕ → Type 0) → Mesh → ℕ → Type 0
-IsNamedStart Inside m h = (out_edge m (origin m h) ≡ Some h) × Inside (origin m h)
+abbrev pub IsStartKept : (ℕ → Type 0) → Mesh → ℕ → Type 0
+IsStartKept Inside m h = (out_edge m (origin m h) ≡ Some h) × Inside (origin m h)
 
 -- the start of directed edge h was put at the end of what is found, if it is kept
 abbrev pub KeepsStart : (ℕ → Type 0) → Mesh → List ℕ → List ℕ → ℕ → Type 0
-KeepsStart Inside m found found' h = (IsNamedStart Inside m h × (found' ≡ found ++ origin m h ∷ []))
-    ⊎ ((¬ IsNamedStart Inside m h) × (found' ≡ found))
+KeepsStart Inside m found found' h = (IsStartKept Inside m h × (found' ≡ found ++ origin m h ∷ []))
+    ⊎ ((¬ IsStartKept Inside m h) × (found' ≡ found))

@@ -86,8 +86,8 @@ impl<S: SpadeNum> RectangleMetric<S> {
         ensures { IsTrue result ↔ InClosedRectangle (place_of S.whole self.now.lower)
             (place_of S.whole self.now.upper) (fraction (place_of S.whole point)) }
     {
-        is_in_bounds(self.lower.x, self.upper.x, point.x)
-            && is_in_bounds(self.lower.y, self.upper.y, point.y)
+        lies_between(self.lower.x, self.upper.x, point.x)
+            && lies_between(self.lower.y, self.upper.y, point.y)
     }
 
     // Whether an edge meets the rectangle: an end is in it, which is soon told, or the ranges meet
@@ -111,7 +111,7 @@ impl<S: SpadeNum> RectangleMetric<S> {
     }
 }
 
-fn is_in_bounds<S: SpadeNum>(low: S, high: S, a: S) -> bool
+fn lies_between<S: SpadeNum>(low: S, high: S, a: S) -> bool
     ensures { IsTrue result ↔ ((S.whole low ≤ℤ S.whole a) × (S.whole a ≤ℤ S.whole high)) }
 {
     low.to_i64() <= a.to_i64() && a.to_i64() <= high.to_i64()
