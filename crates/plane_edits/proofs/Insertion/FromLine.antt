@@ -351,7 +351,8 @@ module _ (n : ℕ) (p : ℕ → Point) (outer now : List (ℕ × ℕ)) (new : Li
                 ];
             stays = stays;
             edges = new_edges_owe n p outer (steps u (v ∷ vs)) u last v final.0 first.first
-                final_index run.1 final.2 (λ e h. let c = (m.neighbours e.0 e.1).0 h in (c.first, c.second))
+                final_index run.1 final.2
+                (λ e h. let c = (m.neighbours e.0 e.1).0 h in (c.first, c.second))
                 (to_each (Contains outer) (steps u (v ∷ vs))
                 (λ e h. (run_up_to n p outer u (v ∷ vs) run e.0 e.1 h).3))
                 (to_once (steps u (v ∷ vs)) (steps_once n p outer runs_open u (v ∷ vs) run))

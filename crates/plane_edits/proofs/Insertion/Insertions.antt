@@ -264,7 +264,8 @@ module _ (n : ℕ) (p : ℕ → Point) (old new : List Face) (outer outer' : Lis
             hull_off e h away,
           );
           edges = new_edges_owe n p outer ((u, v) ∷ []) u v c c hull_index.1 hull_index.0
-              (rw bracket-turn at second_turns) (rw (bracket-turn _ _ _) first_turns) (λ e h. let c = m.ends e h in (c.0, c.1)) (own, tt) (tt, tt) first_supports first_bare
+              (rw bracket-turn at second_turns) (rw (bracket-turn _ _ _) first_turns)
+              (λ e h. let c = m.ends e h in (c.0, c.1)) (own, tt) (tt, tt) first_supports first_bare
               second_supports second_bare;
           same = λ flow anti. omega (arith, ints, anti v n, anti c n, anti n u, anti v u);
         })

@@ -168,7 +168,8 @@ flip_covers a b c d p abc acd abd bcd = ((λ h. forth h), (λ h. back h))
         [ inl x ↦ inl (turned d a b dab x) | inr x ↦ inr x ]
 
     back : InTriangle a b d p ⊎ InTriangle b c d p → InTriangle a b c p ⊎ InTriangle a c d p
-    back (inl h) = elim (half a b c d p (abc, bcd, cda, dab) (turned b d a bda (turned a b d abd h)))
+    back (inl h) =
+        elim (half a b c d p (abc, bcd, cda, dab) (turned b d a bda (turned a b d abd h)))
         [ inl x ↦ inl x | inr x ↦ inr (to_acd x) ]
     back (inr h) = elim (half c d a b p (cda, dab, abc, bcd) h)
         [ inl x ↦ inr (to_acd x) | inr x ↦ inl x ]

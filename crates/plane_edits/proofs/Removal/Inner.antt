@@ -1,8 +1,7 @@
 -- An inner vertex with four neighbours or more: one of its edges can be flipped, or there are four
 -- and it is strictly between two opposite ones.
--- Notions: turns_at_farthest, descend; IsRound, IsCycle (the neighbours); Bad, Good;
--- CanFlip, IsFour;
--- flip_or_four.
+-- Notions: turns_at_farthest, descend; IsRound, IsCycle (the neighbours); Bad, Good; CanFlip,
+-- IsFour; flip_or_four.
 use Rattle.std.proofs.Common.{◌≡◌, ◌⊎◌, ◌<◌, ◌≤◌, [], ◌∷◌, ◌∙◌, ℕ, zero, suc, List, sym, ap, subst}
 use Rattle.std.proofs.Common.{arith}
 use Prim.Native.Nat.{◌+◌}
