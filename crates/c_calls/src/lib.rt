@@ -1,5 +1,5 @@
-//! The calls of include/tevasulim.h, as Rattle makes them: each has its contract here, and
-//! `tevasulim_c` hands them to C.
+//! The calls of include/tevasulim.h, as Rattle makes them: each but `triangulate`, which
+//! `c_triangulate` makes, has its contract here, and `tevasulim_c` hands them to C.
 #![tactic(auto)]
 
 mod calls;
@@ -14,13 +14,13 @@ mod loose;
 mod queries;
 mod raw;
 mod shapes;
-mod statuses;
+pub mod statuses;
 mod told;
-mod whole;
 mod words;
 
 pub use handle::Handle;
+pub use lists::write_faces;
+pub use queries::is_in_range;
 pub use raw::{RawCounts, RawEdge, RawFace, RawMeeting, RawPlace, RawPoint, RawSegment};
 pub use shapes::{RawCircle, RawRectangle};
-pub use whole::triangulate;
 pub use words::write_words;

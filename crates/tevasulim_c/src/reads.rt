@@ -6,6 +6,7 @@ ghost use Rattle.c_calls.specs.Calls.{TellsNearest, TellsNumbers, TellsPlaces, T
 ghost use Rattle.c_calls.specs.Calls.{TellsVerticesInCircle, TellsVerticesInRectangle, raw_circle};
 ghost use Rattle.c_calls.specs.Calls.{raw_rectangle};
 ghost use Rattle.c_calls.specs.Words.{TellsWords};
+ghost use Rattle.c_triangulate.specs.Whole.{DrawsFaces};
 
 use c_calls::{
     Handle, RawCircle, RawCounts, RawEdge, RawFace, RawMeeting, RawPlace, RawPoint, RawRectangle,
@@ -234,6 +235,9 @@ pub extern "C" fn tevasulim_triangulate(
     faces: &mut [RawFace],
     length: &mut usize,
     at: &mut usize,
-) -> u32 {
-    c_calls::triangulate(points, segments, faces, length, at, alloc)
+) -> u32
+    ensures { DrawsFaces points.now segments.now result at.new length.old length.new faces.old
+        faces.new }
+{
+    c_triangulate::triangulate(points, segments, faces, length, at, alloc)
 }

@@ -1,0 +1,118 @@
+-- What one call makes of points and segments, put together from its steps.
+use Rattle.std.proofs.Common.{◌≡◌, ◌≢◌, ◌<◌, ◌≤◌, ◌+◌, ◌∙◌, [], ◌∷◌, ℕ, zero, suc, List, length}
+use Rattle.std.proofs.Common.{drop, set, refl, sym, ap, subst, arith}
+use Rattle.std.specs.Prelude.{IsSomeAnd, None, Option, Some, slice_get}
+use Rattle.std.proofs.lemmas.Option.{slice_get_within}
+use Rattle.delaunay_edit.specs.Constrained.{constraints_of}
+use Rattle.drawing_faces.specs.declared.drawn.DrawnMesh.{DrawnMesh}
+use Rattle.c_calls.specs.declared.raw.RawFace.{RawFace}
+use Rattle.c_calls.specs.declared.raw.RawPoint.{RawPoint}
+use Rattle.c_calls.specs.declared.raw.RawSegment.{RawSegment}
+use Rattle.c_calls.specs.declared.statuses.TheConstants.{WELL, TOO_SHORT}
+use Rattle.c_calls.specs.Queries.{IsFaceAt, ListsFaces}
+use Rattle.c_calls.specs.Written.{Answered, listed, too_long}
+use Rattle.c_triangulate.specs.Whole.{AllTaken, DrawsFaces, DrawsFirst, IsNamedFaceAt}
+use Rattle.c_triangulate.specs.Whole.{IsNamedOf, ListsNamedFaces, drawing_of, faces_drawn}
+use Rattle.c_triangulate.specs.Whole.{named_face}
+use Rattle.c_calls.proofs.Writing.{one_more}
+
+-- ---- what an option has
+some_is : {A : Type 0} (P : A → Type 0) (o : Option A) → IsSomeAnd o P
+    → (a : A) × (o ≡ Some a) × P a
+some_is P None has = absurd has
+some_is P (Some a) has = (a, refl, has)
+
+-- so many places that have answers are there
+pub answered_within : {A : Type 0} (IsAnswer : ℕ → A → Type 0) (count : ℕ) (old new : List A)
+    → Answered IsAnswer count old new → count ≤ length new
+answered_within IsAnswer zero old new answered = omega arith
+answered_within IsAnswer (suc n) old new answered =
+    let last = some_is (IsAnswer n) (slice_get new n) (answered.answers n (omega arith)) in
+    let within = slice_get_within new n last.0 last.1 in
+    omega (arith, within)
+
+-- ---- faces whose corners get names
+-- what is left of a list begins with its next element
+next_read : {A : Type 0} (xs : List A) (i : ℕ) → slice_get (drop i xs) 0 ≡ slice_get xs i
+next_read [] zero = refl
+next_read [] (suc i) = refl
+next_read (x ∷ xs) zero = refl
+next_read (x ∷ xs) (suc i) = next_read xs i
+
+-- one more gets them
+pub one_more_named : (names : List ℕ) (i : ℕ) (old now : List RawFace) (g : RawFace)
+    → i < length now → Answered (IsNamedOf names old) i old now → slice_get now i ≡ Some g
+    → Answered (IsNamedOf names old) (i + 1) old (set now i (named_face names g))
+one_more_named names i old now g within so_far read =
+    one_more (IsNamedOf names old) i old now (named_face names g) within so_far
+    (subst (λ (o : Option RawFace). IsSomeAnd o (λ h. named_face names g ≡ named_face names h))
+    (sym same) refl)
+  where
+    same : slice_get old i ≡ Some g
+    same = sym (next_read old i)
+        ∙ ap (λ (fs : List RawFace). slice_get fs 0) (sym so_far.others) ∙ next_read now i ∙ read
+
+-- all have them, of the faces that were listed
+all_named : (m : DrawnMesh) (count : ℕ) (before mid after : List RawFace)
+    → Answered (IsFaceAt (drawing_of m) (constraints_of m.site)) count before mid
+    → Answered (IsNamedOf m.vertices.items mid) count mid after
+    → Answered (IsNamedFaceAt m) count before after
+all_named m count before mid after faces named = record {
+  answers = λ k less.
+      let was = some_is _ (slice_get mid k) (faces.answers k less) in
+      let is = some_is _ (slice_get after k) (named.answers k less) in
+      subst (λ (o : Option RawFace). IsSomeAnd o (IsNamedFaceAt m k)) (sym is.1) (record {
+        face = was.0;
+        is_face = was.2;
+        is_named = subst (λ (o : Option RawFace). IsSomeAnd o
+            (λ g. is.0 ≡ named_face m.vertices.items g)) was.1 is.2;
+      });
+  others = named.others ∙ faces.others;
+}
+
+module _ (m : DrawnMesh) (status told : ℕ) (old mid : List RawFace)
+    (lists : ListsFaces (drawing_of m) (constraints_of m.site) status told old mid) where
+  -- there was no room
+  pub unlisted_named : status ≢ WELL → ListsNamedFaces m status told old mid
+  unlisted_named ill = go lists
+    where
+      go : ListsFaces (drawing_of m) (constraints_of m.site) status told old mid
+          → ListsNamedFaces m status told old mid
+      go (listed is t answers) = absurd (ill is)
+      go (too_long is t less same) = too_long is t less same
+
+  module _ (well : status ≡ WELL) where
+    -- as many faces are there
+    pub listed_within : told ≤ length mid
+    listed_within = go lists
+      where
+        go : ListsFaces (drawing_of m) (constraints_of m.site) status told old mid
+            → told ≤ length mid
+        go (listed is t answers) = subst (λ (n : ℕ). n ≤ length mid) (sym t)
+            (answered_within (IsFaceAt (drawing_of m) (constraints_of m.site)) _ old mid answers)
+        go (too_long is t less same) =
+            let differ : TOO_SHORT ≡ WELL = sym is ∙ well in absurd (omega (arith, differ))
+
+    -- and each has the names of its corners then
+    pub listed_named : (new : List RawFace)
+        → Answered (IsNamedOf m.vertices.items mid) told mid new
+        → ListsNamedFaces m WELL told old new
+    listed_named new named = go lists
+      where
+        go : ListsFaces (drawing_of m) (constraints_of m.site) status told old mid
+            → ListsNamedFaces m WELL told old new
+        go (listed is t answers) = listed refl t (all_named m _ old mid new answers
+            (subst (λ (n : ℕ). Answered (IsNamedOf m.vertices.items mid) n mid new) t named))
+        go (too_long is t less same) =
+            let differ : TOO_SHORT ≡ WELL = sym is ∙ well in absurd (omega (arith, differ))
+
+-- ---- the call
+-- the drawing has all segments where none is left behind those that were known
+pub whole_is_drawn : (points : List RawPoint) (segments : List RawSegment) (known : ℕ)
+    (m : DrawnMesh) (status at was told : ℕ) (old new : List RawFace) → known ≤ length segments
+    → length segments ≤ known → DrawsFirst points segments known m → AllTaken m
+    → ListsNamedFaces m status told old new
+    → DrawsFaces points segments status at was told old new
+whole_is_drawn points segments known m status at was told old new within all first taken lists =
+    let same : known ≡ length segments = omega (arith, within, all) in
+    faces_drawn m (subst (λ (n : ℕ). DrawsFirst points segments n m) same first) taken lists

@@ -1,0 +1,33 @@
+use Rattle.std.proofs.Common.{List, length, Bool, refl, subst, arith}
+use Rattle.std.specs.Prelude.{IsTrue}
+use Rattle.c_triangulate.specs.Whole.{FirstAre, IsFirstNot, segment_crossing, segment_of_none}
+use Rattle.c_triangulate.proofs.Drawings.{whole_is_drawn}
+use Rattle.c_triangulate.proofs.whole.triangulate.Goals as goal
+
+pub returns-in-Some-first_untaken : goal.returns-in-Some-first_untaken
+returns-in-Some-first_untaken c =
+    let known = c.known_segments-known in
+    segment_crossing c.in-Ok.drawn known.result refl
+    (record { ends = known.ensures.known; drawn = c.in-Ok.ensures })
+    (subst (λ (ts : List Bool). IsFirstNot IsTrue ts c.in-Some-first_untaken.place)
+    c.as_slice.ensures.value c.in-Some-first_untaken.ensures) refl refl
+
+pub returns-then-known-segments : goal.returns-then-known-segments
+returns-then-known-segments c =
+    let known = c.known_segments-known in
+    segment_of_none c.in-Ok.drawn refl
+    (record { ends = known.ensures.known; drawn = c.in-Ok.ensures })
+    (subst (λ (ts : List Bool). FirstAre IsTrue ts (length ts)) c.as_slice.ensures.value
+    c.in_default-first_untaken.ensures) (known.ensures.next c.if-known-segments.true) refl refl
+
+pub returns : goal.returns
+returns c =
+    let known = c.known_segments-known in
+    let none_left = c.if-known-segments.false in
+    let write = c.write_drawn in
+    whole_is_drawn c.args.points.now c.args.segments.now known.result c.in-Ok.drawn write.result
+    c.args.at.now c.args.length.now write.new.length c.args.faces.now write.new.faces
+    known.ensures.within (omega (arith, none_left))
+    (record { ends = known.ensures.known; drawn = c.in-Ok.ensures })
+    (subst (λ (ts : List Bool). FirstAre IsTrue ts (length ts)) c.as_slice.ensures.value
+    c.in_default-first_untaken.ensures) write.ensures
