@@ -1,5 +1,5 @@
 -- What lists that are written at places hold.
-use Rattle.std.proofs.Common.{◌≡◌, [], ◌∷◌, ◌++◌, ◌∙◌, ◌<◌, ◌+◌, List, ℕ, length, refl, drop, ap, subst}
+use Rattle.std.proofs.Common.{◌≡◌, [], ◌∷◌, ◌++◌, ◌∙◌, ◌<◌, ◌+◌, List, ℕ, length, refl, drop, ap, subst, arith}
 use Rattle.std.specs.Prelude.{All, slice_set, get_or}
 use Rattle.std.proofs.lemmas.List.{at_drop_more, length-set}
 use Rattle.std.proofs.lemmas.List.Elements.{All-push}
@@ -40,3 +40,8 @@ pub one_more_within : {X : Type 0} (items : List X) (waiting : List (ℕ × X)) 
 one_more_within items waiting e within below =
     All-push (λ w. w.0 < length items) waiting e within
     (subst (λ n. e.0 < n) (length-written items waiting) below)
+
+-- a list with a place is not empty
+pub not_empty : {X : Type 0} (items : List X) (waiting : List (ℕ × X)) (place : ℕ)
+    → place < length (written items waiting) → 0 < length items
+not_empty items waiting place below = omega (arith, below, length-written items waiting)

@@ -27,18 +27,20 @@ impl<T> Model for ByPlace<T> {
     ghost view = { λ s. written s.items.items s.waiting.items };
 
     ghost invariant = { λ s. All (λ e. e.0 < length s.items.items) s.waiting.items
-        × (64 ≤ vec_capacity s.waiting)
+        × (0 < length s.items.items → 64 ≤ vec_capacity s.waiting)
         × (vec_len s.waiting < 64) };
 }
 
 impl<T: Copy + Drop> ByPlace<T> {
-    /// So many copies of an item. It gives `AllocError` where memory was refused.
+    /// So many copies of an item; of none it takes no memory. It gives `AllocError` where memory
+    /// was refused.
     pub(crate) fn new(alloc: Global, item: T, count: usize) -> Result<Self, AllocError>
         ensures { IfOk result (λ list. length list ≡ count) }
     {
+        let room = if count == 0 { 0 } else { WAITING };
         Ok(ByPlace {
             items: repeated(alloc, item, count)?,
-            waiting: Vec::with_capacity(alloc, WAITING)?,
+            waiting: Vec::with_capacity(alloc, room)?,
         })
     }
 
