@@ -177,6 +177,18 @@ fn header_of<R: Read>(reader: &mut Reader<R>, alloc: Global) -> Result<ByteRecor
     }
 }
 
+/// The reader of a table, and the header that it has read.
+fn open_table<R: Read + Drop>(
+    text: R,
+    alloc: Global,
+) -> Result<(Reader<R>, ByteRecord), FileFault> {
+    let mut reader = ReaderBuilder::new()
+        .has_headers(false)
+        .from_reader(alloc, text);
+    let header = header_of(&mut reader, alloc)?;
+    Ok((reader, header))
+}
+
 /// Notes the columns that are left out.
 fn leave_out_others(
     drawing: &mut Drawing,
@@ -196,10 +208,7 @@ fn read_drawing<R: Read + Drop>(
     drawing: &mut Drawing,
     alloc: Global,
 ) -> Result<(), FileFault> {
-    let mut reader = ReaderBuilder::new()
-        .has_headers(false)
-        .from_reader(alloc, text);
-    let header = header_of(&mut reader, alloc)?;
+    let (mut reader, header) = open_table(text, alloc)?;
     let columns = Columns::of(&header)?;
     leave_out_others(drawing, &header, &columns)?;
     read_points(&mut reader, &columns, drawing, alloc)
@@ -270,10 +279,7 @@ fn read_ends<R: Read + Drop>(
     drawing: &mut Drawing,
     alloc: Global,
 ) -> Result<(), FileFault> {
-    let mut reader = ReaderBuilder::new()
-        .has_headers(false)
-        .from_reader(alloc, text);
-    let header = header_of(&mut reader, alloc)?;
+    let (mut reader, header) = open_table(text, alloc)?;
     let ends = end_columns(drawing, &header)?;
     let mut record = ByteRecord::new(alloc);
     let mut line = 1;
