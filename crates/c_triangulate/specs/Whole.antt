@@ -42,7 +42,7 @@ drawn_segment s = record { from = s.from; to = s.to }
 -- the constrained Delaunay triangulation of these points, and which segments are in it
 abbrev pub AreDrawn : List RawPoint → List RawSegment → DrawnMesh → Type 0
 AreDrawn points segments m =
-    IsDrawn (map drawn_point points) (map drawn_segment segments) [] All m
+    IsDrawn (map drawn_point points) (map drawn_segment segments) [] [] All m
 
 -- what it draws
 abbrev pub drawing_of : DrawnMesh → Triangulation

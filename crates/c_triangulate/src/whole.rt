@@ -101,6 +101,7 @@ fn drawn_mesh(
         points.as_slice(),
         segments.as_slice(),
         &[],
+        &[],
         Kept::All,
         alloc,
     )

@@ -8,6 +8,7 @@ pub mod Listing
 pub mod Flooding
 pub mod InFaces
 pub mod Inside
+pub mod Beside
 pub mod Keeping
 -- All steps together.
 pub mod Together

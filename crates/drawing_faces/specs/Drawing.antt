@@ -1,5 +1,5 @@
 -- The triangulation of a drawing.
-use Rattle.std.specs.Prelude.{◌≡◌, ◌↔◌, [], ◌∷◌, ℕ, ℤ, Bool, true, false, List, map}
+use Rattle.std.specs.Prelude.{◌≡◌, ◌↔◌, [], ◌∷◌, ◌++◌, ℕ, ℤ, Bool, true, false, List, map}
 use Rattle.std.specs.Prelude.{slice_index, if◌then◌else◌, nat_eq}
 use Rattle.half_edge_mesh.specs.Mesh.{Mesh, face_edge}
 use Rattle.half_edge_mesh.specs.Triangles.{Triangle, triangle_at}
@@ -23,6 +23,7 @@ use Rattle.drawing_faces.specs.Holes.{AreIn}
 use Rattle.drawing_faces.specs.Kept.{AreKept, IsLeftOut}
 use Rattle.drawing_faces.specs.Names.{NamesVertices, places_of, position}
 use Rattle.drawing_faces.specs.Segments.{AreOnTaken, AreTaken}
+use Rattle.drawing_faces.specs.Sides.{AreBeside}
 
 -- a face of the tiling, by its corners
 abbrev pub face_of : FaceCorners → Face
@@ -63,9 +64,11 @@ IsDecided (Refused Conflict) = Unit {0}
 IsDecided o = ⊥
 
 -- the constrained Delaunay triangulation of these points, with the constraints that the segments
--- make which were taken; its faces that are kept, each once, by the places of their corners
+-- make which were taken; its faces that are kept, each once, by the places of their corners. Faces
+-- in holes are those that a point of a hole is in, and those on the left of a hole's side
 pub record IsDrawn (points : List (Point2 ℤ)) (segments : List DrawnSegment)
-    (holes : List (Point2 ℤ)) (kept : Kept) (m : DrawnMesh) : Type 0 where
+    (holes : List (Point2 ℤ)) (sides : List DrawnSegment) (kept : Kept) (m : DrawnMesh) :
+    Type 0 where
   pub delaunay : IsDelaunay position constraint_edges m.site
   pub vertices : NamesVertices points (map position m.site.vertices) m.vertices.items
   pub handles : List ℕ
@@ -77,8 +80,10 @@ pub record IsDrawn (points : List (Point2 ℤ)) (segments : List DrawnSegment)
       m.taken.items a b
   pub in_holes : List ℕ
   pub in_holes_are : AreIn m.site holes in_holes
+  pub beside : List ℕ
+  pub beside_are : AreBeside m.site (map (ends_of handles) sides) beside
   pub faces : List Face
   pub faces_are : AreKept
-      (IsLeftOut kept m.site.mesh (constraint_edges m.site.undirected) in_holes) 1
+      (IsLeftOut kept m.site.mesh (constraint_edges m.site.undirected) (in_holes ++ beside)) 1
       (triangulation_of position m.site).faces faces
   pub places : m.faces.items ≡ map (places_of m.vertices.items) faces

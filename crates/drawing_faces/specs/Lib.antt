@@ -3,4 +3,5 @@ pub mod Segments
 pub mod Kept
 pub mod Flood
 pub mod Holes
+pub mod Sides
 pub mod Drawing

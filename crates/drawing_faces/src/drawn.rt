@@ -10,6 +10,7 @@ use crate::error::DrawingError;
 use crate::faces::{Kept, kept_faces};
 use crate::holes::hole_faces;
 use crate::names::{first_places, name_corners};
+use crate::sides::add_side_faces;
 use spade_delaunay::handles::FixedVertexHandle;
 use spade_delaunay::{
     ConstrainedDelaunayTriangulation, DelaunayTriangulation, Point2, Triangulation,
@@ -75,20 +76,22 @@ fn constrained(plain: Plain) -> Result<Site, DrawingError>
 }
 
 /// Triangulates a drawing: the constrained Delaunay triangulation of its points, with a path of
-/// constraints along each segment that no constraint before it crosses. Segments have their ends by
-/// the places of points in the list. Where only the inside is kept, faces that a way from a point
-/// in a hole reaches are left out, too. It gives `TooLarge` where a coordinate passes 2^29,
-/// `TooMany` where there are too many points for the indexes of a mesh, `NoPoint` where a segment
-/// ends at none, `HoleTooLarge`, `HoleOnSegment` or `HoleInNoFace` where a point in a hole is out
-/// of range, on a constraint, or on a vertex or in no triangulation, and `OutOfMemory`.
+/// constraints along each segment that no constraint before it crosses. Segments have their ends
+/// by the places of points in the list. Where only the inside is kept, faces that a way from a
+/// point in a hole reaches are left out, too, and those that a way from the left of a hole's side
+/// reaches. It gives `TooLarge` where a coordinate passes 2^29, `TooMany` where there are too many
+/// points for the indexes of a mesh, `NoPoint` where a segment or a side ends at none,
+/// `HoleTooLarge`, `HoleOnSegment` or `HoleInNoFace` where a point in a hole is out of range, on a
+/// constraint, or on a vertex or in no triangulation, and `OutOfMemory`.
 pub fn triangulate_drawing(
     points: &[Point2<i32>],
     segments: &[DrawnSegment],
     holes: &[Point2<i32>],
+    sides: &[DrawnSegment],
     kept: Kept,
     alloc: Global,
 ) -> Result<DrawnMesh, DrawingError>
-    ensures { IfOk result (IsDrawn points.now segments.now holes.now kept) }
+    ensures { IfOk result (IsDrawn points.now segments.now holes.now sides.now kept) }
 {
     let placed = place_points(points, alloc)?;
     let PlacedPoints {
@@ -98,7 +101,8 @@ pub fn triangulate_drawing(
     } = placed;
     let mut site = constrained(plain)?;
     let taken = add_segments(&mut site, segments, handles.as_slice(), alloc)?;
-    let in_holes = hole_faces(&site, holes, alloc)?;
+    let mut in_holes = hole_faces(&site, holes, alloc)?;
+    add_side_faces(&site, sides, handles.as_slice(), &mut in_holes)?;
     let corners = kept_faces(&site, kept, in_holes.as_slice(), alloc)?;
     let faces = name_corners(corners.as_slice(), vertices.as_slice(), alloc)?;
     Ok(DrawnMesh {

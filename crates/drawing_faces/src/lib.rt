@@ -8,6 +8,7 @@ mod faces;
 mod flood;
 mod holes;
 mod names;
+mod sides;
 
 pub use drawn::{DrawnMesh, PlacedPoints, Plain, Site, place_points, triangulate_drawing};
 pub use edits::{DrawnSegment, add_segments, insert_points};

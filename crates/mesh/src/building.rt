@@ -4,7 +4,7 @@ use crate::crossings::first_crossed;
 use crate::reading::{Scene, input_name};
 use anyhow::{anyhow, bail};
 use drawing_faces::{DrawingError, DrawnMesh, DrawnSegment, Kept, triangulate_drawing};
-use mesh_files::{Drawing, FilePlace};
+use mesh_files::{Drawing, FilePlace, hole_sides};
 use spade_delaunay::{Point2, Triangulation};
 use std::alloc::{AllocError, Global};
 
@@ -54,6 +54,21 @@ fn segments_of(drawing: &Drawing, alloc: Global) -> Result<Vec<DrawnSegment>, Al
         })?;
     }
     Ok(segments)
+}
+
+/// The sides of the drawing's rings round holes, where only the inside is kept.
+fn drawn_sides(
+    task: &Task<'_>,
+    scene: &Scene,
+    alloc: Global,
+) -> Result<Vec<DrawnSegment>, AllocError> {
+    let mut sides = Vec::new(alloc);
+    if task.keeps_inside {
+        for [from, to] in hole_sides(&scene.drawing, scene.scaled.points.as_slice(), alloc)? {
+            sides.push(DrawnSegment { from, to })?;
+        }
+    }
+    Ok(sides)
 }
 
 /// Tells which segments were left out, or that one crosses another where that is an error.
@@ -131,23 +146,36 @@ fn tell_counts(rt: &impl Eprint, scene: &Scene, drawn: &DrawnMesh) -> anyhow::Re
     Ok(())
 }
 
-/// Triangulates a drawing.
-pub fn build(
-    rt: &(impl Eprint + AllocGlobal),
-    task: &Task<'_>,
-    scene: &Scene,
-) -> anyhow::Result<DrawnMesh> {
+/// The triangulation of a drawing, with the faces that are kept.
+fn triangulate_scene(task: &Task<'_>, scene: &Scene, alloc: Global) -> anyhow::Result<DrawnMesh> {
     let points = scene.scaled.points.as_slice();
-    let segments = segments_of(&scene.drawing, rt.alloc())?;
+    let segments = segments_of(&scene.drawing, alloc)?;
+    let sides = drawn_sides(task, scene, alloc)?;
     let (kept, holes) = if task.keeps_inside {
         (Kept::Inside, scene.scaled.holes.as_slice())
     } else {
         (Kept::All, [].as_slice())
     };
-    let drawn = match triangulate_drawing(points, segments.as_slice(), holes, kept, rt.alloc()) {
-        Ok(drawn) => drawn,
-        Err(error) => return Err(drawing_fault(task, &scene.drawing, error)),
-    };
+    match triangulate_drawing(
+        points,
+        segments.as_slice(),
+        holes,
+        sides.as_slice(),
+        kept,
+        alloc,
+    ) {
+        Ok(drawn) => Ok(drawn),
+        Err(error) => Err(drawing_fault(task, &scene.drawing, error)),
+    }
+}
+
+/// Triangulates a drawing, and tells what is to be told of it.
+pub fn build(
+    rt: &(impl Eprint + AllocGlobal),
+    task: &Task<'_>,
+    scene: &Scene,
+) -> anyhow::Result<DrawnMesh> {
+    let drawn = triangulate_scene(task, scene, rt.alloc())?;
     tell_crossings(rt, task, scene, &drawn.site, drawn.taken.as_slice())?;
     if !task.is_quiet {
         tell_counts(rt, scene, &drawn)?;

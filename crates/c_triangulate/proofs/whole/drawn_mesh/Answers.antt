@@ -8,7 +8,7 @@ use Rattle.c_triangulate.proofs.whole.drawn_mesh.Goals as goal
 pub returns : goal.returns
 returns c =
     let drawn = c.triangulate_drawing.result in
-    subst (λ ps. IfOk drawn (IsDrawn ps (map drawn_segment c.args.segments.now) [] All))
+    subst (λ ps. IfOk drawn (IsDrawn ps (map drawn_segment c.args.segments.now) [] [] All))
     (c.as_slice.ensures.value ∙ c.in_ok-points.ensures)
-    (subst (λ ss. IfOk drawn (IsDrawn c.as_slice.result.now ss [] All))
+    (subst (λ ss. IfOk drawn (IsDrawn c.as_slice.result.now ss [] [] All))
     (c.as_slice-2.ensures.value ∙ c.in_ok-segments.ensures) c.triangulate_drawing.ensures)

@@ -1,0 +1,8 @@
+use Rattle.std.proofs.Common.{map, take}
+use Rattle.drawing_faces.specs.Drawing.{ends_of}
+use Rattle.drawing_faces.specs.Sides.{AddsBeside}
+use Rattle.drawing_faces.proofs.sides.add_side_faces.Given as goal
+
+abbrev pub invariant-loop-side : goal.invariant-loop-side
+invariant-loop-side g l = AddsBeside (g.T.HasMesh.mesh_state l.site)
+    (map (ends_of l.vertices) (take l.side-index l.sides)) l.fn.faces.items l.faces.items

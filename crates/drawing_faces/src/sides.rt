@@ -1,0 +1,90 @@
+//! The faces beside the sides of holes.
+ghost use Rattle.std.specs.Prelude.{◌≡◌, ◌∷◌, ◌<◌, [], List, map, length, OnOk};
+ghost use Rattle.plane.specs.Line.{Item};
+ghost use Rattle.delaunay_legalization.specs.State.{state_of};
+ghost use Rattle.delaunay_lines.specs.Items.{item_in, mesh_of};
+ghost use Rattle.delaunay_lines.specs.Walk.{AreLeft, IsReady};
+ghost use Rattle.drawing_faces.specs.Drawing.{ends_of};
+ghost use Rattle.drawing_faces.specs.Names.{position};
+ghost use Rattle.drawing_faces.specs.Sides.{AddsBeside, AddsOnLeft};
+
+use crate::edits::DrawnSegment;
+use crate::error::DrawingError;
+use exact_predicates::ExactTests;
+use half_edge_mesh::{FixedFaceHandle, FixedVertexHandle};
+use spade_delaunay::{HasMesh, Intersection, LineIntersectionIterator, PlaneTests, Point2};
+use std::alloc::AllocError;
+
+// Adds the face on the left of what a way meets, if that is an edge along which it goes.
+fn add_left_of<DE, UE, F>(
+    item: &Intersection<'_, Point2<i32>, DE, UE, F>,
+    faces: &mut Vec<FixedFaceHandle>,
+) -> Result<(), AllocError>
+    ensures { OnOk result (AddsOnLeft (state_of (mesh_of item.now).now) (item_in item.now ∷ [])
+        faces.old.items faces.new.items) }
+{
+    match item {
+        Intersection::EdgeOverlap(edge) => {
+            faces.push(edge.face().fix())?;
+            Ok(())
+        }
+        Intersection::EdgeIntersection(_) | Intersection::VertexIntersection(_) => Ok(()),
+    }
+}
+
+// Adds the faces on the left of the edges along which a way goes.
+fn add_left<DE, UE, F, P: PlaneTests<i32>>(
+    way: &mut LineIntersectionIterator<'_, Point2<i32>, DE, UE, F, P>,
+    faces: &mut Vec<FixedFaceHandle>,
+) -> Result<(), AllocError>
+    requires { IsReady position (λ z. z) P.sites P.covered way.old }
+    ensures { OnOk result ((items : List Item) → AreLeft position (λ z. z) way.old items
+        → AddsOnLeft (state_of way.old.dcel.now) items faces.old.items faces.new.items) }
+{
+    while let Some(item) = way.next() {
+        add_left_of(&item, faces)?;
+    }
+    Ok(())
+}
+
+// Adds the faces on the left of the way from one vertex to another.
+fn add_beside<DE, UE, F, T: HasMesh<Point2<i32>, DE, UE, F>>(
+    site: &T,
+    from: FixedVertexHandle,
+    to: FixedVertexHandle,
+    faces: &mut Vec<FixedFaceHandle>,
+) -> Result<(), AllocError>
+    requires from_in { from < length (T.mesh_state site.now).vertices }
+    requires to_in { to < length (T.mesh_state site.now).vertices }
+    ensures { OnOk result (AddsBeside (T.mesh_state site.now) ((from, to) ∷ []) faces.old.items
+        faces.new.items) }
+{
+    let mut way = LineIntersectionIterator::new_from_handles(site, from, to, &ExactTests);
+    add_left(&mut way, faces)
+}
+
+/// Adds the faces on the left of the edges that lie on the sides of holes, in the direction of
+/// these: it gives `NoPoint` where one ends at none.
+pub(crate) fn add_side_faces<DE, UE, F, T: HasMesh<Point2<i32>, DE, UE, F>>(
+    site: &T,
+    sides: &[DrawnSegment],
+    vertices: &[FixedVertexHandle],
+    faces: &mut Vec<FixedFaceHandle>,
+) -> Result<(), DrawingError>
+    ensures { OnOk result (AddsBeside (T.mesh_state site.now)
+        (map (ends_of vertices.now) sides.now) faces.old.items faces.new.items) }
+{
+    let count = site.mesh().num_vertices();
+    for side in sides {
+        let (from, to) = (side.from as usize, side.to as usize);
+        if from >= vertices.len() || to >= vertices.len() {
+            return Err(DrawingError::NoPoint);
+        }
+        let (from, to) = (vertices[from], vertices[to]);
+        if from.index() as usize >= count || to.index() as usize >= count {
+            return Err(DrawingError::NoPoint);
+        }
+        add_beside(site, from, to, faces)?;
+    }
+    Ok(())
+}
