@@ -1,4 +1,7 @@
 -- How the addition of a chain of constraints that C asks for ended.
+-- Lemmas: segment_count, segment_at, closing, turns_stay, one_joined, none_joined, every_joined,
+-- joined_well, path_goes_on, path_stops, path_ends, chain_stopped, chain_done, chain_closed,
+-- chain_unclosed, chain_empty, chain_missing, no_chain_in_plain, chain_in_constrained.
 use Rattle.std.proofs.Common.{◌≡◌, ◌≢◌, ◌<◌, ◌+◌, ◌-◌, ◌∙◌, [], ◌∷◌, ◌++◌, ℕ, zero, suc}
 use Rattle.std.proofs.Common.{Bool, true, false, List, length, take, get_or, refl, sym, ap, subst}
 use Rattle.std.proofs.Common.{arith}

@@ -1,4 +1,5 @@
 -- The corners of a rectangle.
+-- Lemmas: corners_in_range.
 use Rattle.std.proofs.Common.{◌∷◌, []}
 use Rattle.std.specs.Prelude.{All}
 use Rattle.std.proofs.lemmas.List.Elements.{All-cons, All-nil}

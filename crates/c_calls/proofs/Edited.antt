@@ -1,4 +1,7 @@
 -- How an edit of a triangulation that C keeps ended, by what the library's edit says.
+-- Lemmas: edited_at, is_removed, is_not_removed, removes_none, removed_from_plain,
+-- removed_from_constrained, is_added, is_not_added, is_crossing, adds_no_first, adds_no_second,
+-- not_added_to_plain, added_to_constrained, is_allowed, is_not_allowed, is_constrained.
 use Rattle.std.proofs.Common.{◌≡◌, ◌<◌, ℕ, Bool, List, length, refl, sym, subst}
 use Rattle.std.specs.Prelude.{Option, Some, Result, Ok, Err, IfErr, IfOk, OnOk, OnErr}
 use Rattle.plane.specs.Fraction.{Point}

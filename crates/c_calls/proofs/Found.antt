@@ -1,4 +1,5 @@
 -- The vertices and edges in a shape, by the indexes that C is told.
+-- Lemmas: circle_asked, rectangle_asked, vertices_are, few_vertices, edges_are, few_edges.
 use Rattle.std.proofs.Common.{◌≡◌, ◌≢◌, ◌∙◌, ◌<◌, ◌≤◌, ℕ, List, [], ◌∷◌}
 use Rattle.std.proofs.Common.{length, map, eqb, refl, sym, ap, subst, arith}
 use Rattle.std.proofs.lemmas.Bool.{eqb-true}

@@ -1,4 +1,5 @@
 -- The machine value of a handle, and what it owns.
+-- Lemmas: keeps_cases, handle_in.
 use Rattle.std.proofs.Common.{◌≡◌, ℕ, List, [], ◌∷◌, refl}
 use mathlib.Core.Bool.{Bool, true, false}
 use seplogic.Ra.Ura.{Ura}

@@ -1,4 +1,5 @@
 -- What an insertion into a triangulation that C keeps says.
+-- Lemmas: into_plain, into_constrained, inserted_at, refused_at.
 use Rattle.std.proofs.Common.{◌≡◌, ℕ, refl, sym, ap, subst}
 use Rattle.std.specs.Prelude.{Option, Some, Result, Ok, Err, IfOk}
 use Rattle.delaunay_core.specs.declared.math.InsertionError.{InsertionError}

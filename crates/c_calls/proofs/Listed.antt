@@ -1,4 +1,6 @@
 -- How the insertion of a list that C asks for ended, by what the library's insertion says.
+-- Lemmas: write_more, write_all, is_all_inserted, is_stopped, is_short, is_refused,
+-- listed_in_plain, listed_in_constrained.
 use Rattle.std.proofs.Common.{◌≡◌, ◌≢◌, ◌<◌, ◌≤◌, ◌+◌, ◌∙◌, [], ◌∷◌, ◌++◌, ℕ, List, length}
 use Rattle.std.proofs.Common.{take, drop, set, get_or, refl, sym, ap, subst, inl, inr, arith}
 use Rattle.std.proofs.Common.{append_assoc}

@@ -1,4 +1,5 @@
 -- The marks of edges, and the edges of a triangulation by index.
+-- Lemmas: mark_joins, edge_at.
 use Rattle.std.proofs.Common.{◌≡◌, ◌∙◌, ◌<◌, ◌+◌, ◌*◌, ◌/◌, ◌%◌, ℕ, Bool, List, length}
 use Rattle.std.proofs.Common.{get_or, option_map, sym, ap, subst, inl, inr, arith}
 use Rattle.std.specs.Prelude.{Some, slice_get}

@@ -1,4 +1,7 @@
 -- How it ended that C gave numbers to vertices.
+-- Lemmas: read_other, read_same, read_pushed, read_last, read_before, is_in, no_numbers,
+-- one_number, one_more_number, as_many, is_numbered, is_unequal, numbers_none, numbered_in_plain,
+-- numbered_in_constrained.
 use Rattle.std.proofs.Common.{◌≡◌, ◌≢◌, ◌<◌, ◌+◌, ◌∙◌, ◌⊎◌, [], ◌∷◌, ◌++◌, ℕ, zero, suc}
 use Rattle.std.proofs.Common.{List, length, map, take, get_or, refl, sym, ap, subst, inl, inr}
 use Rattle.std.proofs.Common.{arith}

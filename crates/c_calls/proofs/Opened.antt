@@ -1,4 +1,5 @@
 -- What a call says of the triangulation that a handle has, by what it says of that itself.
+-- Lemmas: told_of.
 use Rattle.std.proofs.Common.{◌≡◌, sym, subst}
 use Rattle.std.specs.Prelude.{Option, Some}
 use Rattle.c_calls.specs.declared.kept.KeptPoints.{KeptPoints}

@@ -1,4 +1,6 @@
 -- How the release of a constraint that C asks for ended.
+-- Lemmas: releases_no_first, releases_no_second, releases_no_edge, is_released, is_free,
+-- not_released, release_of_handles, not_released_in_plain, released_in_constrained.
 use Rattle.std.proofs.Common.{◌≡◌, ◌*◌, ◌/◌, ◌<◌}
 use Rattle.std.proofs.Common.{ℕ, Bool, true, false, length, refl, inl, inr, sym, subst}
 use Rattle.std.specs.Prelude.{◌↔◌, Contains, Result, Ok, Err}

@@ -1,4 +1,5 @@
 -- The sides of the faces of a triangulation, and the faces by index.
+-- Lemmas: face_at.
 use Rattle.std.proofs.Common.{◌≡◌, ◌∙◌, ◌<◌, ◌≤◌, ◌+◌, ◌-◌, ℕ, Bool, List, length, map}
 use Rattle.std.proofs.Common.{option_map, refl, sym, ap, subst, inl, inr, arith}
 use Rattle.std.specs.Prelude.{Option, Some, slice_get, IsSomeAnd}

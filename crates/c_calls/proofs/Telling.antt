@@ -1,4 +1,6 @@
 -- Answers that are told as far as there is room, one after another.
+-- Notions: IsTold, IsTelling; none_told, told_more, all_told, telling_begins, telling_goes_on,
+-- are_more, telling_ends.
 use Rattle.std.proofs.Common.{◌≡◌, ◌∙◌, ◌<◌, ◌≤◌, ◌+◌, ◌++◌, ℕ, List, [], ◌∷◌, length, take, drop}
 use Rattle.std.proofs.Common.{set, get_or, refl, sym, ap, subst, inl, inr, arith, append-nil}
 use Rattle.std.proofs.Common.{append_assoc, length-take, length-append}

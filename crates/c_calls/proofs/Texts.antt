@@ -1,4 +1,5 @@
 -- What C is told of a status in words.
+-- Lemmas: words_end.
 use Rattle.std.proofs.Common.{◌≡◌, ◌∙◌, ◌<◌, ◌+◌, ◌++◌, ◌∷◌, ℕ, List, length, drop, set, get_or}
 use Rattle.std.proofs.Common.{refl, ap}
 use Rattle.std.proofs.lemmas.List.{drop_more, set_at}

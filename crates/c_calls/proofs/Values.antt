@@ -1,4 +1,5 @@
 -- The machine values of a `Loose`.
+-- Notions: both, Loose; loose_good, loose_out, loose_in.
 use Rattle.std.proofs.Common.{◌≡◌, ℕ, List, [], ◌∷◌, ◌++◌, refl, subst}
 use mathlib.Core.Bool.{true, ◌&&◌}
 use lib.Dec.{T}

@@ -1,4 +1,6 @@
 -- What C is told of a walk along a line, one item after another.
+-- Notions: IsPart, IsToldOf; walk_begins, walk_goes_on, item_mesh, item_more, walk_ends,
+-- meeting_of.
 use Rattle.std.proofs.Common.{◌≡◌, ◌∙◌, ◌<◌, ◌≤◌, ◌+◌, ◌++◌, ℕ, Bool, List, [], ◌∷◌, length, set}
 use Rattle.std.proofs.Common.{refl, sym, ap, subst, arith, append-nil, append_assoc}
 use Rattle.std.proofs.Common.{length-append}

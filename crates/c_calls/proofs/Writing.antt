@@ -1,4 +1,5 @@
 -- What calls leave in the lists that C hands in, place by place.
+-- Lemmas: get_same, get_other, none_answered, one_more, all_answered, answer_at, ranges_more.
 use Rattle.std.proofs.Common.{◌≡◌, ◌≢◌, ◌∙◌, ◌<◌, ◌+◌, ℕ, zero, suc, List, [], ◌∷◌, length, drop}
 use Rattle.std.proofs.Common.{set, get_or, below_more, refl, sym, ap, subst, inl, inr, arith}
 use Rattle.std.specs.Prelude.{Option, Some, IsSomeAnd, slice_get}

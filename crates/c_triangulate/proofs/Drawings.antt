@@ -1,4 +1,6 @@
 -- What one call makes of points and segments, put together from its steps.
+-- Lemmas: answered_within, one_more_named, unlisted_named, listed_within, listed_named,
+-- whole_is_drawn.
 use Rattle.std.proofs.Common.{◌≡◌, ◌≢◌, ◌<◌, ◌≤◌, ◌+◌, ◌∙◌, [], ◌∷◌, ℕ, zero, suc, List, length}
 use Rattle.std.proofs.Common.{drop, set, refl, sym, ap, subst, arith}
 use Rattle.std.specs.Prelude.{IsSomeAnd, None, Option, Some, slice_get}

@@ -1,4 +1,6 @@
 -- Digits and powers of ten.
+-- Lemmas: digit_taken, digits_append, lowered_magnitude, raised_magnitude, zero_taken,
+-- power_divided, too_large, ten_or_more, rounds, rounds_to_none.
 use Rattle.std.proofs.Common.{◌≡◌, ◌+◌, ◌-◌, ◌*◌, ◌/◌, ◌%◌, ◌^◌, ◌<◌, ◌≤◌, [], ◌∷◌, ◌++◌, ◌∙◌}
 use Rattle.std.proofs.Common.{ℕ, suc, true, false, List, length, get_or, drop, refl, sym, ap, inl, inr}
 use Rattle.std.proofs.Common.{arith, add-one, add-zero, drop-cons}

@@ -1,4 +1,6 @@
 -- A number's text has its parts in one way only.
+-- Lemmas: digit_is_low, digits_end, sign_ends, point_ends, parts_are, integer_is, sign_of,
+-- integer_of, point_of, number_of, if_none, no_power_behind, is_none, is_some.
 use Rattle.std.proofs.Common.{◌≡◌, ◌≢◌, ◌+◌, ◌<◌, ◌≤◌, ◌⊎◌, [], ◌∷◌, ◌++◌, ◌∙◌}
 use Rattle.std.proofs.Common.{ℕ, Bool, true, false, eqb, List, length, drop, inl, inr, refl, sym, ap, subst, arith}
 use Rattle.std.proofs.Common.{append-nil}

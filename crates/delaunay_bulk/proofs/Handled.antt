@@ -1,4 +1,5 @@
 -- Handles of the vertices of a list, as they are inserted.
+-- Notions: AreHandled; all_handled, one_handled.
 use Rattle.std.proofs.Common.{◌≡◌, ◌≢◌, ◌<◌, ◌≤◌, [], ◌∷◌, ◌∙◌, ◌⊎◌}
 use Rattle.std.proofs.Common.{ℕ, zero, suc, List, length, map, Some, sym, ap, subst, arith}
 use Rattle.std.proofs.Common.{inl, inr}

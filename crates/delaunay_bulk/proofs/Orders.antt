@@ -1,4 +1,5 @@
 -- The places of a list, each of them once.
+-- Lemmas: no_place, one_place_more, reordered.
 use Rattle.std.proofs.Common.{◌≡◌, ◌+◌, ◌<◌, [], ◌∷◌, ◌++◌, ◌∙◌, ◌⊎◌}
 use Rattle.std.proofs.Common.{ℕ, List, sym, subst, refl, arith, inl, inr}
 use Rattle.std.specs.Prelude.{Contains, IsPermutation}

@@ -1,4 +1,5 @@
 -- The vertices of a list, each with its place and its key, before and after their sort.
+-- Notions: key_of, IsTrueOf, ArePlaced; none_placed, one_placed, sorted_is_listed.
 use Rattle.std.proofs.Common.{◌≡◌, ◌+◌, ◌-◌, ◌<◌, ◌≤◌, [], ◌∷◌, ◌++◌, ◌∙◌}
 use Rattle.std.proofs.Common.{ℕ, zero, suc, List, length, map, Some, false}
 use Rattle.std.proofs.Common.{rules, sym, ap, subst, refl, arith, append_assoc, length-append}

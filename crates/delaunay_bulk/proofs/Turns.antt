@@ -1,4 +1,6 @@
 -- Vertices that are inserted one after another.
+-- Notions: plain_of, NextWas, RefusedWas, IsUnderway; one_of_all, idle, tried, next_was, none_was,
+-- refused_was, begins, read, has_place, goes_on, stops, ends.
 use Rattle.std.proofs.Common.{◌≡◌, ◌<◌, [], ◌∷◌, ◌++◌, ◌∙◌}
 use Rattle.std.proofs.Common.{ℕ, List, length, map, Option, None, Some, Result, Ok, Err}
 use Rattle.std.proofs.Common.{sym, ap, subst, refl, arith, inl, append_assoc, append-nil}

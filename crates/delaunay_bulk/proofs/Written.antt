@@ -1,4 +1,5 @@
 -- What lists that are written at places hold.
+-- Lemmas: one_more_written, length-written, first_written, none_waits, one_more_within, not_empty.
 use Rattle.std.proofs.Common.{◌≡◌, [], ◌∷◌, ◌++◌, ◌∙◌, ◌<◌, ◌+◌, List, ℕ, length, refl, drop, ap, subst, arith}
 use Rattle.std.specs.Prelude.{All, slice_set, get_or}
 use Rattle.std.proofs.lemmas.List.{at_drop_more, length-set}

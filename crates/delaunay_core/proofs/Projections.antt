@@ -1,4 +1,6 @@
 -- Dot products of the ways between points in range fit their width.
+-- Lemmas: product_bound, stays, way_passes, product_of_ways, sum_of_products, along_bound,
+-- rest_bound, gap_passes.
 use Rattle.std.proofs.Common.{◌≡◌, ◌≤◌, [], ◌∷◌}
 use Rattle.std.proofs.Common.{sym, subst, w64, to_z, of_z, arith, unsigned_abs, mul-le-mul}
 use Rattle.std.specs.Prelude.{ℤ, pos, ◌+ℤ◌, ◌-ℤ◌, ◌*ℤ◌}

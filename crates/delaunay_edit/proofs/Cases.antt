@@ -1,4 +1,5 @@
 -- Where a position is, for the vertex that comes there.
+-- Lemmas: vertex_of_handle, edge_of_handle, past_if_not_left, bare_if_past, not_on_vertex.
 use Rattle.std.proofs.Common.{◌≡◌, ◌⊎◌, ℕ, ◌<◌, ◌≤◌, length, map, sym, subst, inl, inr}
 use Rattle.half_edge_mesh.specs.Mesh.{origin, rev}
 use Rattle.half_edge_mesh.specs.Contents.{Contents}

@@ -1,5 +1,6 @@
 -- A triangulation with constraints that are edges, and one that gets the edges of a triangulation
 -- without constraints.
+-- Lemmas: plain_with_edges, unconstrained, other_data_as.
 use Rattle.std.proofs.Common.{◌≡◌, ◌≢◌, ℕ, ◌<◌, List, [], ◌∷◌, length, sym, ap, ◌∙◌, subst, arith}
 use Rattle.std.specs.List.{AllZip}
 use Rattle.half_edge_mesh.specs.Mesh.{origin, rev}

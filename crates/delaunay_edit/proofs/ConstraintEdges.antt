@@ -1,4 +1,6 @@
 -- How many edges are constraints, which vertices they join, and other data for which none is.
+-- Lemmas: few_marks, count_of_fixed, joined_by, joining_edge, same_edge, fixed_if_joined, as_many,
+-- none_after, other_data, legal_after.
 use Rattle.std.proofs.Common.{◌≡◌, ◌*◌, ◌<◌, ◌≤◌, [], ◌∷◌}
 use Rattle.std.proofs.Common.{ℕ, zero, suc, Bool, true, false, List, length, map}
 use Rattle.std.proofs.Common.{refl, sym, ap, ◌∙◌, subst, arith, inl, inr}

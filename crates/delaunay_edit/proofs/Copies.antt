@@ -1,4 +1,5 @@
 -- A copy of a triangulation is one.
+-- Lemmas: same_image, copies_constraints, copy_is_one, copy_is_counted.
 use Rattle.std.proofs.Common.{◌≡◌, ◌∙◌, [], ◌∷◌}
 use Rattle.std.proofs.Common.{ℕ, suc, Bool, List, length, map, refl, sym, ap, subst}
 use Rattle.std.specs.Prelude.{All}

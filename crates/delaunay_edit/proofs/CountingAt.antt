@@ -1,4 +1,6 @@
 -- The constraints at a vertex are counted, one edge after another.
+-- Notions: IsCountingAt; counting_begins, next_at, counting_goes_past, counting_goes_on,
+-- counting_ends.
 use Rattle.std.proofs.Common.{◌≡◌, ◌⊎◌, ◌↔◌, ◌+◌, ◌/◌, ◌<◌, ◌≤◌, [], ◌∷◌}
 use Rattle.std.proofs.Common.{ℕ, suc, Bool, List, length, map, refl, sym}
 use Rattle.std.proofs.Common.{ap, ◌∙◌, subst, inl, inr, arith}

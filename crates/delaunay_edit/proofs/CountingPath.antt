@@ -1,4 +1,5 @@
 -- The pieces of a path that are no constraints are counted, one after another.
+-- Notions: IsWalking; walk_begins, walk_ends, walk_shortens, walk_goes_past, walk_goes_on.
 use Rattle.std.proofs.Common.{◌≡◌, ◌≢◌, ◌⊎◌, ◌↔◌, ◌+◌, ◌<◌, ◌≤◌}
 use Rattle.std.proofs.Common.{ℕ, suc, List, sym, subst, inl, inr, arith}
 use Rattle.std.specs.Prelude.{All, nat_abs, pos}

@@ -1,5 +1,6 @@
 -- One constraint becomes two where a vertex is strictly within it, and else there are as many as
 -- before.
+-- Lemmas: few_split, as_many, one_more_constraint, counted_split.
 use Rattle.std.proofs.Common.{◌≡◌, ◌+◌, ◌≤◌}
 use Rattle.std.proofs.Common.{ℕ, suc, Bool, List, length, map, refl, ap, inl, inr, arith}
 use Rattle.half_edge_mesh.specs.Contents.{Contents}

@@ -1,4 +1,6 @@
 -- Counts of elements, and handles in the answers to a location.
+-- Lemmas: count_of_edges, count_of_faces, plain_if_kept, element_if_handle, outer_if_handle,
+-- gives_elements.
 use Rattle.std.proofs.Common.{◌≡◌, ℕ, ◌<◌, length, map, sym, ◌∙◌, refl, arith}
 use Rattle.std.specs.Prelude.{pos, List}
 use Rattle.std.specs.Borrow.{Bor}

@@ -1,4 +1,6 @@
 -- What follows for all circles where each edge between two faces passes.
+-- Lemmas: marked_constrained_delaunay, empty_triple_is_face, none_without_edges, legal_empty,
+-- legal_overwritten.
 use Rattle.std.proofs.Common.{◌≡◌, ◌∙◌, ◌<◌, []}
 use Rattle.std.proofs.Common.{ℕ, Bool, List, length, map, sym, ap, subst, slice_set}
 use Rattle.half_edge_mesh.specs.Mesh.{empty}

@@ -1,4 +1,5 @@
 -- The constraints of a triangulation are different pairs, and no more than its edges.
+-- Lemmas: constraints_once, few_constraints.
 use Rattle.std.proofs.Common.{◌≡◌, ◌≢◌, ◌<◌, ◌≤◌, [], ◌∷◌}
 use Rattle.std.proofs.Common.{ℕ, suc, Bool, true, false, List, length, sym, subst, arith}
 use Rattle.std.specs.Prelude.{All, AllPairs, if◌then◌else◌, slice_index_or}

@@ -1,4 +1,5 @@
 -- How many constraints there are after an edit of a plain state.
+-- Lemmas: released_number, added_number, removed_number, free_number, split_number.
 use Rattle.std.proofs.Common.{◌≡◌, ◌≢◌, ◌⊎◌, ◌↔◌, ◌+◌, ◌-◌, ◌<◌, ◌∙◌}
 use Rattle.std.proofs.Common.{ℕ, suc, Bool, length, refl, sym, ap, subst, inl, inr, arith}
 use Rattle.std.specs.Prelude.{nat_eq, cond}

@@ -1,4 +1,6 @@
 -- Paths of constraints that are added to a triangulation, and constraints that are released.
+-- Lemmas: next_of, neighbours_of, unmarked, nothing_added, pairs_differ, path_added,
+-- path_is_there, none_listed, edges_marked, edge_freed, none_released.
 use Rattle.std.proofs.Common.{◌≡◌, ◌⊎◌, ◌<◌, []}
 use Rattle.std.proofs.Common.{ℕ, Bool, true, false, List, length, map, refl, sym, ap}
 use Rattle.std.proofs.Common.{subst, inl, inr}

@@ -1,4 +1,5 @@
 -- Without constraints the circles round a vertex that was put in are empty.
+-- Lemmas: none_counted, put_in_free.
 use Rattle.std.proofs.Common.{◌≡◌, ◌∙◌, ℕ, Bool, List, [], map, sym, subst}
 use Rattle.std.proofs.lemmas.List.{length-map, nil_from_length}
 use Rattle.half_edge_mesh.specs.Contents.{Contents}

@@ -1,4 +1,5 @@
 -- Without constraints no side of a vertex's hole is left to test.
+-- Lemmas: free_circles, sides_settle.
 use Rattle.std.proofs.Common.{◌≡◌, ◌⊎◌, ◌<◌, ℕ, Bool, List, [], length, map, inl, inr, subst}
 use Rattle.plane.specs.Circle.{InsideCircle}
 use Rattle.plane.specs.Fraction.{Point}

@@ -1,4 +1,5 @@
 -- The edges of the hull, by the outer edges of a mesh.
+-- Lemmas: sides_and_outer, counts_outer.
 use Rattle.std.proofs.Common.{◌≡◌, ◌⊎◌, ◌+◌, ◌-◌, ◌*◌, ◌<◌, [], ◌∙◌}
 use Rattle.std.proofs.Common.{ℕ, List, length, map, refl, sym, subst, inl, inr, arith}
 use mathlib.Core.Logic.{◌≢◌}

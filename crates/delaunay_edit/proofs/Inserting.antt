@@ -1,4 +1,5 @@
 -- Each way in which an insertion ends.
+-- Lemmas: overwritten, appended_or_refused, splits_legalized.
 use Rattle.std.proofs.Common.{◌≡◌, ◌<◌}
 use Rattle.std.proofs.Common.{ℕ, List, length, map, refl, sym, ap, subst, inl, slice_set, Result}
 use Rattle.std.proofs.Common.{Ok, Err}

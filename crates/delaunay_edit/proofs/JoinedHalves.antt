@@ -1,5 +1,7 @@
 -- Straight halves in the plain state: where their middle goes, and then their far ends become a
 -- pair, the vertex was removed; and whether two ends are those of such.
+-- Lemmas: former_of_new, removes_without_halves, halves_turned, removes_and_joins,
+-- not_two_no_halves, two_straight, two_bent.
 use Rattle.std.proofs.Common.{◌≡◌, ◌≢◌, ◌⊎◌, ◌↔◌, ◌-◌, ◌<◌, ◌∙◌}
 use Rattle.std.proofs.Common.{ℕ, length, sym, ap, subst, subst₂, inl, inr, arith}
 use Rattle.std.proofs.lemmas.Bool.Decides.{nat_tests}

@@ -1,4 +1,5 @@
 -- What a path leaves to the circle test where a list of edges was left before.
+-- Lemmas: path_leaves, path_renamed.
 use Rattle.std.proofs.Common.{◌≡◌, ℕ, Bool, List, map, sym, ap, subst, subst₂, inl}
 use Rattle.half_edge_mesh.specs.Contents.{Contents}
 use Rattle.plane.specs.Fraction.{Point}

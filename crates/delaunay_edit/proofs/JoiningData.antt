@@ -1,5 +1,6 @@
 -- What stood beside the middle of a straight constraint keeps its data while the far ends of its
 -- halves are joined.
+-- Lemmas: beside_stays.
 use Rattle.std.proofs.Common.{◌≡◌, ◌≢◌, ◌⊎◌, ◌-◌, ◌/◌, ◌<◌, ◌≤◌, ◌∙◌}
 use Rattle.std.proofs.Common.{ℕ, Bool, List, length, map, get_or, Some, None}
 use Rattle.std.proofs.Common.{sym, ap, subst, inl, inr, arith}

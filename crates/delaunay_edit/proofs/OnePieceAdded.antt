@@ -1,4 +1,6 @@
 -- An edge that becomes a constraint, alone or as a path, and paths of which no piece is missing.
+-- Lemmas: none_missing, some_missing, one_joined, none_added, one_missing, not_joined, edge_told,
+-- edge_listed, list_renamed.
 use Rattle.std.proofs.Common.{◌≡◌, ◌≢◌, ◌↔◌, ◌/◌, ◌<◌, [], ◌∷◌, ◌∙◌}
 use Rattle.std.proofs.Common.{ℕ, Bool, false, List, length, map}
 use Rattle.std.proofs.Common.{refl, sym, subst, subst₂, inl, inr, arith}

@@ -1,4 +1,5 @@
 -- A triangulation stays one where data of its edges and faces change.
+-- Lemmas: stays_with_data, stays_with_users, face_written, counted_with_face, counted_with_users.
 use Rattle.std.proofs.Common.{◌≡◌}
 use Rattle.std.proofs.Common.{ℕ, zero, suc, List, length, refl, sym, subst, map, length-set}
 use Rattle.std.proofs.Common.{slice_set}

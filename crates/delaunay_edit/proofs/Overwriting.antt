@@ -1,4 +1,5 @@
 -- A vertex that takes the place of one of its position.
+-- Lemmas: same_places, kept_overwritten, overwriting_replaces.
 use Rattle.std.proofs.Common.{◌≡◌, ◌<◌, ℕ, List, length, map, sym, ap, ◌∙◌, subst, slice_set, set}
 use Rattle.std.specs.Prelude.{pos}
 use Rattle.std.proofs.lemmas.List.{get_or-map, map-set, set-get_or, length-set, length-map}

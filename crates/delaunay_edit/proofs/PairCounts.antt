@@ -1,4 +1,5 @@
 -- How many pairs a relation has.
+-- Lemmas: same_length, same_number, has_pairs_as, no_pairs, listed_pairs, one_more, both, renamed.
 use Rattle.std.proofs.Common.{◌≡◌, ◌⊎◌, ◌↔◌, ◌+◌, [], ◌∷◌, ◌∙◌}
 use Rattle.std.proofs.Common.{ℕ, suc, List, length, refl, sym, ap, subst, inl, inr, arith}
 use Rattle.std.specs.Prelude.{Contains, All}

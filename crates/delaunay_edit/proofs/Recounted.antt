@@ -1,4 +1,5 @@
 -- The kept number of constraints after an edit.
+-- Lemmas: counted_none, counted_released, counted_added, room_for_added.
 use Rattle.std.proofs.Common.{◌≡◌, ◌+◌, ◌-◌, ◌*◌, ◌≤◌, []}
 use Rattle.std.proofs.Common.{ℕ, Bool, List, length, map, sym, ap, arith}
 use Rattle.plane.specs.Fraction.{Point}

@@ -1,4 +1,5 @@
 -- A vertex goes from a triangulation.
+-- Lemmas: read_place, sites_left, room_left, removed_on.
 use Rattle.std.proofs.Common.{◌≡◌, ◌∙◌, ◌+◌, ◌*◌, ◌-◌, ◌≤◌}
 use Rattle.std.proofs.Common.{ℕ, List, length, map, Some, sym, ap, subst, arith}
 use Rattle.std.specs.Prelude.{All, pos, slice_get}

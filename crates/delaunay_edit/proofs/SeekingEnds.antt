@@ -1,4 +1,6 @@
 -- The far end of a constraint at a vertex is sought, one edge after another.
+-- Notions: IsSeekingEnd; seeking_begins, sought_at, seeking_goes_on, seeking_finds, seeking_ends,
+-- not_two, more_than_two.
 use Rattle.std.proofs.Common.{◌≡◌, ◌≢◌, ◌⊎◌, ◌/◌, ◌<◌, [], ◌∷◌, ◌∙◌}
 use Rattle.std.proofs.Common.{ℕ, List, length, Some, None, sym, ap, subst, inl, inr}
 use Rattle.std.specs.Prelude.{Bool, Contains}

@@ -1,5 +1,7 @@
 -- A vertex went, the far ends of its straight halves were joined, if it had such, and edges were
 -- flipped: what the removal made of points, constraints and data, and of their number.
+-- Lemmas: can_settle, pairs_settled, settled_removes, settled_keeps, settled_number,
+-- counted_settled, some_settled.
 use Rattle.std.proofs.Common.{◌≡◌, ◌⊎◌, ◌↔◌, ◌+◌, ◌-◌, ◌≤◌, ◌∙◌}
 use Rattle.std.proofs.Common.{ℕ, Bool, List, length, map, Option, Some, None}
 use Rattle.std.proofs.Common.{refl, sym, ap, subst, inl, inr, arith}

@@ -1,4 +1,5 @@
 -- A position in another place than on a vertex is at none.
+-- Lemmas: here_if_on_vertex, unknown_elsewhere.
 use Rattle.std.proofs.Common.{◌≡◌, ℕ, ◌<◌, length, map, refl, arith}
 use Rattle.std.proofs.lemmas.List.{length-map}
 use Rattle.plane.specs.Fraction.{Point, whole}

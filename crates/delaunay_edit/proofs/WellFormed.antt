@@ -1,4 +1,5 @@
 -- What callers learn of a triangulation, by what its struct keeps.
+-- Lemmas: is_delaunay, well_formed.
 use Rattle.std.proofs.Common.{◌≡◌, ◌≤◌, ℕ, Bool, List, length, map}
 use Rattle.std.proofs.lemmas.List.Elements.{All-map}
 use Rattle.half_edge_links.specs.declared.room.TheConstants.{MAX_ELEMENTS}

@@ -1,4 +1,5 @@
 -- A vertex after the others.
+-- Lemmas: inserted, sites_after.
 use Rattle.std.proofs.Common.{◌≡◌, ◌∙◌, ◌++◌, ◌∷◌, []}
 use Rattle.std.proofs.Common.{ℕ, List, length, map, sym, ap, subst, Result, Ok, Err, inr}
 use Rattle.std.specs.Prelude.{pos, All, IfOk, OnOk}

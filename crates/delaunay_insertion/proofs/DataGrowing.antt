@@ -1,4 +1,7 @@
 -- What each growth of a mesh leaves in its place, with its data.
+-- Lemmas: some_before, with_ends_other, some_edge, parts_of_edge, rev_half, ends_are, within_both,
+-- grows_by_face, grows_inside, grows_within_side, grows_within_hull, grows_past_end,
+-- grows_within_line, grows_from_one, grows_on.
 use Rattle.std.proofs.Common.{◌≡◌, ◌⊎◌, ◌≢◌, ◌+◌, ◌-◌, ◌*◌, ◌/◌, ◌<◌, ◌≤◌, [], ◌∷◌, ◌++◌, ◌∙◌}
 use Rattle.std.proofs.Common.{ℕ, zero, suc, List, length, set, get_or, refl, sym, ap, subst, Some}
 use Rattle.std.proofs.Common.{inl, inr, arith}

@@ -1,5 +1,6 @@
 -- Data that stay where they are while a triangulation grows and edges are turned belong to what
 -- stands before and after.
+-- Lemmas: data_kept, overwritten_keeps, appended_keeps.
 use Rattle.std.proofs.Common.{◌≡◌, ◌/◌, ◌<◌, [], ◌∷◌, ◌++◌, ◌∙◌}
 use Rattle.std.proofs.Common.{ℕ, List, length, map, get_or, sym, ap, subst, Some, inl, inr, arith}
 use Rattle.std.specs.Prelude.{slice_get}

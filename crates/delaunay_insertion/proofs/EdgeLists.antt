@@ -1,4 +1,5 @@
 -- The edges of a mesh, with their data, where edges are added or one is split.
+-- Lemmas: adds_only, adds_on, adds_nothing, splits_at, splits_in_place, along_ends.
 use Rattle.std.proofs.Common.{◌≡◌, ◌≢◌, ◌⊎◌, ◌+◌, ◌%◌, [], ◌∷◌, ◌++◌}
 use Rattle.std.proofs.Common.{ℕ, zero, suc, Bool, true, false, List, length}
 use Rattle.std.proofs.Common.{set, refl, sym, ap, ◌∙◌, subst, Some, inl, inr, arith}

@@ -1,4 +1,6 @@
 -- The room for a vertex, and the two sides of an edge.
+-- Lemmas: positive, room_inside, vertex_of_face, vertex_of_edge, twin_within, within_twin,
+-- no_listed_face, inner_twin.
 use Rattle.std.proofs.Common.{◌≡◌, ◌+◌, ◌*◌, ◌<◌, ◌≤◌, [], ◌∙◌}
 use Rattle.std.proofs.Common.{ℕ, length, map, ap, sym, subst, inl, inr, arith}
 use Rattle.std.proofs.lemmas.List.{length-map}

@@ -1,4 +1,6 @@
 -- An edge of a mesh that is split at a new vertex, and the mark that its second half may get.
+-- Lemmas: inner_split, hull_split, line_split, second_there, second_late, had_mark, had_none,
+-- written_vertices, written_mesh, written_kept, written_grows.
 use Rattle.std.proofs.Common.{◌≡◌, ◌≢◌, ◌↔◌, ◌+◌, ◌*◌, ◌/◌, ◌<◌, ◌≤◌, [], ◌∷◌}
 use Rattle.std.proofs.Common.{ℕ, suc, Bool, true, false, List, length}
 use Rattle.std.proofs.Common.{refl, sym, ap, ◌∙◌, subst, Some, inl, inr, arith}

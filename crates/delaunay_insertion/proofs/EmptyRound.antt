@@ -1,5 +1,6 @@
 -- Where a vertex was put into a triangulation whose circles are empty, the circles round it are
 -- empty.
+-- Lemmas: face_stays_or_contains, grown_is_empty.
 use Rattle.std.proofs.Common.{◌≡◌, ◌⊎◌, ◌<◌, [], ◌∷◌, ◌++◌, ◌∙◌}
 use Rattle.std.proofs.Common.{ℕ, List, length, map, Some, sym, ap, subst, inl, inr}
 use Rattle.std.proofs.Common.{arith}

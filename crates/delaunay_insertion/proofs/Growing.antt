@@ -1,4 +1,5 @@
 -- What a triangulation keeps where it gets one more vertex.
+-- Lemmas: grown, first_shape, second_shape, extended_shape, split_shape.
 use Rattle.std.proofs.Common.{◌≡◌, ◌≢◌, ◌⊎◌, ◌+◌, ◌<◌, ◌≤◌, [], ◌∷◌, ◌++◌, ◌∙◌}
 use Rattle.std.proofs.Common.{ℕ, List, length, map, refl, sym, ap, subst, inl, inr, arith}
 use Rattle.std.proofs.Common.{length-append}

@@ -1,4 +1,5 @@
 -- A mesh with faces gets one more vertex, inside a face or within an edge.
+-- Lemmas: length_moved, inside_shape, within_side_shape, within_outer_shape.
 use Rattle.std.proofs.Common.{◌≡◌, ◌<◌, ◌≤◌, ◌+◌, [], ◌∷◌, ◌++◌, ◌∙◌}
 use Rattle.std.proofs.Common.{ℕ, List, length, length-append, sym, ap, subst, inl, inr, arith}
 use Rattle.std.proofs.lemmas.List.{length-map, length-set}

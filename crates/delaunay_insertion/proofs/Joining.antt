@@ -1,4 +1,8 @@
 -- A new vertex is joined to one outer edge after another.
+-- Notions: IsJoining, IsJoiningBack; sides_at_most, edges_and_faces, has_vertex, not_to, not_from,
+-- grown_count, seen_as, unseen_as, sites_grown, joining_begins, joining_goes_on,
+-- joining_goes_back, unseen_stays, joining_ends, room_for_face, ahead_apart, step_ahead,
+-- before_outer, before_apart, step_behind.
 use Rattle.std.proofs.Common.{◌≡◌, ◌≢◌, ◌⊎◌, ◌+◌, ◌*◌, ◌<◌, ◌≤◌, [], ◌∷◌, ◌++◌, ◌∙◌}
 use Rattle.std.proofs.Common.{ℕ, List, length, map, refl, sym, ap, subst, inl, inr, arith}
 use Rattle.std.proofs.Common.{length-append}

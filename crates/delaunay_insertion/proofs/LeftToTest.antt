@@ -1,4 +1,5 @@
 -- Where a vertex was put in, only the edges of the faces at it are left to test.
+-- Lemmas: passes_beside.
 use Rattle.std.proofs.Common.{◌≡◌, ◌⊎◌, ◌*◌, ◌<◌, [], ◌∷◌, ◌++◌, ◌∙◌}
 use Rattle.std.proofs.Common.{ℕ, Bool, List, length, map, sym, ap, subst, inl}
 use Rattle.std.proofs.Common.{inr, arith}

@@ -1,5 +1,6 @@
 -- A new vertex is joined to edges of a line: where the next outer edge at an end does not see it,
 -- no outer edge there does.
+-- Lemmas: one_of_two_neighbours, none_seen_after, none_seen_before.
 use Rattle.std.proofs.Common.{◌≡◌, ◌≢◌, ◌⊎◌, ◌<◌, [], ◌∷◌, ◌++◌, ◌∙◌}
 use Rattle.std.proofs.Common.{ℕ, List, length, refl, sym, ap, subst, inl, inr, arith}
 use Rattle.std.specs.Prelude.{ℤ, pos, ◌<ℤ◌, ◌≤ℤ◌, Contains}

@@ -1,5 +1,7 @@
 -- A new vertex is a corner of each face that is made for it, so that no other edge is left to test.
 -- The side opposite it was a side of a face before, or an outer edge.
+-- Lemmas: made_inside, made_within_side, made_within_outer, made_at_count, made_none, made_first,
+-- made_outside.
 use Rattle.std.proofs.Common.{◌≡◌, ◌⊎◌, ◌<◌, ◌≤◌, [], ◌∷◌}
 use Rattle.std.proofs.Common.{ℕ, List, length, map, refl, sym, ap, subst, inl, inr, arith}
 use Rattle.std.specs.Prelude.{Contains}

@@ -1,4 +1,5 @@
 -- The pairs that constraints join, by the list of edges with their data.
+-- Notions: JoinsWithMark; own_ends, own_edge, joins_with_mark, joined_with_mark.
 use Rattle.std.proofs.Common.{◌≡◌, ◌*◌, ◌<◌, ◌∙◌}
 use Rattle.std.proofs.Common.{ℕ, Bool, true, List, length, sym, ap, subst, Some, arith}
 use Rattle.std.specs.Prelude.{slice_get}

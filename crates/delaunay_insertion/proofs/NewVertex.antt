@@ -1,5 +1,6 @@
 -- The vertex that was appended, in the triangulation that has it: no edge there has it strictly
 -- within.
+-- Lemmas: place_stays, place_last, is_vertex, not_within, source_in, target_in.
 use Rattle.std.proofs.Common.{◌≡◌, ◌<◌, [], ◌∷◌, ◌++◌, ◌∙◌}
 use Rattle.std.proofs.Common.{ℕ, List, length, map, sym, ap, subst, arith}
 use Rattle.std.proofs.lemmas.List.{length-map, map-append, length-append}

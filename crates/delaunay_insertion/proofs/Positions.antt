@@ -1,4 +1,5 @@
 -- The position of a vertex by its data.
+-- Lemmas: position_at.
 use Rattle.std.proofs.Common.{◌≡◌, ◌<◌, ◌∙◌, ℕ, List, length, map, ap, sym}
 use Rattle.std.specs.Prelude.{Some, pos, slice_get}
 use Rattle.std.proofs.lemmas.List.{get_or-map}

@@ -1,5 +1,6 @@
 -- What becomes of the constraints where a vertex is appended: one that it is strictly within
 -- becomes two.
+-- Lemmas: whole_mesh, adding_splits_none, split_without_mark, split_with_mark.
 use Rattle.std.proofs.Common.{◌≡◌, ◌≢◌, ◌⊎◌, ◌*◌, ◌/◌, ◌<◌, [], ◌∷◌, ◌++◌}
 use Rattle.std.proofs.Common.{ℕ, Bool, true, false, List, length, map, set}
 use Rattle.std.proofs.Common.{sym, ap, ◌∙◌, subst, Some, inl, inr, arith}

@@ -1,4 +1,5 @@
 -- The inner faces that an iterator gives.
+-- Lemmas: row_inner, gives_inner_faces.
 use Rattle.std.proofs.Common.{◌≡◌, ℕ, ◌<◌, ◌≤◌, List, length, All, ap, arith}
 use Rattle.std.specs.List.{range_with_len}
 use Rattle.std.specs.Borrow.{Bor}

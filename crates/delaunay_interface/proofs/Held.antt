@@ -1,4 +1,7 @@
 -- The positions that a hint generator holds stay positions of vertices.
+-- Lemmas: held_are_sites, was_listed, stay_listed, new_is_listed, inserted_if_more,
+-- new_is_in_range, listed_after_insertion, others_are_listed, inserted_in_range, listed_then,
+-- held_then, removed_is_site, swapped_is_site, held_after_removal.
 use Rattle.std.proofs.Common.{◌≡◌, ◌∙◌, ◌⊎◌, ◌+◌, ◌-◌, ◌<◌, [], ◌∷◌}
 use Rattle.std.proofs.Common.{ℕ, List, length, map, get_or, Some, sym, ap, subst, inl, inr, arith}
 use mathlib.Core.Logic.{⊎_elim}

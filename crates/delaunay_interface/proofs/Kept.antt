@@ -1,4 +1,6 @@
 -- The vertices stay where constraints are added or released, or where only data change.
+-- Lemmas: held_of_same, vertices_after_adding, vertices_after_path, vertices_after_release,
+-- held_by_copy.
 use Rattle.std.proofs.Common.{◌≡◌, ℕ, List, Bool, true, false, ap, sym, subst, map, refl}
 use Rattle.std.specs.Prelude.{Contains, Result, Ok, Err, IfOk, OnErr}
 use Rattle.std.specs.List.{AllZip}

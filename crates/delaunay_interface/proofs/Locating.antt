@@ -1,4 +1,5 @@
 -- The answer to a location, by an element of a triangulation.
+-- Lemmas: finds_in, element_in.
 use Rattle.std.proofs.Common.{◌≡◌, map, sym, subst}
 use Rattle.half_edge_mesh.specs.Contents.{Contents}
 use Rattle.plane.specs.Fraction.{Point}

@@ -1,4 +1,5 @@
 -- The edges of the hull that an iterator along the outline gives.
+-- Lemmas: gives_outline.
 use Rattle.std.proofs.Common.{◌≡◌, ◌<◌, ◌∙◌}
 use Rattle.std.proofs.Common.{ℕ, List, length, map, inl, inr, refl, sym, subst, arith}
 use Rattle.std.specs.Borrow.{Bor}

@@ -1,4 +1,8 @@
 -- Steps of edits that insert vertices and join them.
+-- Notions: IsSoFar; inserted_grows, inserted_here, inserted_sites, lacks_memory, joined_now,
+-- one_taken, may_come, may_come_later, comes_now, taken_with, all_taken, taken_anyhow, begins,
+-- ends, stops_at_vertex, stops_at_join, one_more, closes, cannot_close, all_joined, some_joined,
+-- none_inserted, stops_at_from, stops_at_to, both_inserted.
 use Rattle.std.proofs.Common.{◌≡◌, ◌≢◌, ◌∙◌, ◌<◌, ◌≤◌, [], ◌∷◌, ◌++◌}
 use Rattle.std.proofs.Common.{ℕ, Bool, List, length, map, Result, Ok, Err, Option, None, Some, refl}
 use Rattle.std.proofs.Common.{sym, ap, subst, inl, inr, append_assoc, append-nil, arith}

@@ -1,4 +1,5 @@
 -- A value that was put in or took the place of another is at its index, and is located there.
+-- Lemmas: appended_points, appended_point, inserted_here, vertex_is_located, insertion_is_located.
 use Rattle.std.proofs.Common.{◌≡◌, ◌<◌, [], ◌∷◌, ◌++◌, ◌∙◌}
 use Rattle.std.proofs.Common.{ℕ, List, length, map, sym, ap, subst, inl, inr, arith}
 use Rattle.std.specs.Prelude.{pos}

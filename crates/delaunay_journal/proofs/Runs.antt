@@ -1,4 +1,5 @@
 -- A list of edits that was replayed is a run of those that were made.
+-- Notions: IsReplayed; comes_now, comes_later, counts_on, runs, one_more, ends.
 use Rattle.std.proofs.Common.{◌≡◌, ◌+◌, [], ◌∷◌, ◌++◌}
 use Rattle.std.proofs.Common.{ℕ, List, length, refl, arith, sym, ap, subst, append_assoc}
 use Rattle.std.proofs.Common.{append-nil}

@@ -1,4 +1,6 @@
 -- What single edits give.
+-- Lemmas: same_position, position_same, refused_insertion, pair_refused, removed_so, pair_joined,
+-- unjoined_is_free, joined_by_edge, edge_joined_by, pair_released.
 use Rattle.std.proofs.Common.{◌≡◌, ◌∙◌, ◌*◌, ◌/◌, ◌<◌}
 use Rattle.std.proofs.Common.{ℕ, Bool, List, map, Ok, Err, refl, sym, ap, subst, inl, inr}
 use Rattle.half_edge_mesh.specs.Mesh.{origin, rev}

@@ -1,4 +1,5 @@
 -- What is asked of two vertices is answered alike in either order.
+-- Lemmas: queries_are_symmetric.
 use Rattle.std.proofs.Common.{◌≡◌, ◌<◌, ◌∙◌, ℕ, List, length, sym, ap, subst, inl, inr}
 use Rattle.half_edge_links.proofs.Lists.Rev.{rev-rev, rev_within}
 use Rattle.half_edge_mesh.specs.Contents.{Contents}

@@ -1,4 +1,5 @@
 -- A vertex that is put in and taken out again leaves the plain state as it was.
+-- Lemmas: removal_undoes_appending, removal_undoes_insertion.
 use Rattle.std.proofs.Common.{◌≡◌, ◌≢◌, ◌⊎◌, ◌-◌, ◌<◌, [], ◌∷◌, ◌++◌, ◌∙◌}
 use Rattle.std.proofs.Common.{ℕ, List, length, map, take, set, get_or, refl, sym, ap, subst, subst₂}
 use Rattle.std.proofs.Common.{inl, inr, arith}

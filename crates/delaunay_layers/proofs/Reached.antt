@@ -1,5 +1,6 @@
 -- Each face is reached from the outer one. Where faces were left, the sides between them would
 -- cancel out, and so would their areas; but each face turns left, and has a positive area.
+-- Lemmas: goes, flow, all_reached, all_layers.
 use Rattle.std.proofs.Common.{◌≡◌, ◌⊎◌, ◌-◌, ◌<◌, ◌≤◌, [], ◌∙◌}
 use Rattle.std.proofs.Common.{ℕ, zero, suc, List, length, get_or, refl, sym, ap, subst, arith}
 use Rattle.std.proofs.Common.{eq-eqb}

@@ -1,4 +1,8 @@
 -- The steps of a search for the layers of faces.
+-- Lemmas: counted, not_counted, listed_now, listed_later, lists_none, lists_as, lists_both,
+-- lists_beside, no_outer, outer_more, outer_passed, outer_all, three_sides, one_less,
+-- nothing_seen, next_layer, passed, reached, begun, leads_within, stepped, taken, all_found,
+-- less_work, stands_at, few_layers, not_last.
 use Rattle.std.proofs.Common.{◌≡◌, ◌⊎◌, ◌↔◌, ◌+◌, ◌/◌, ◌<◌, ◌≤◌, [], ◌∷◌, ◌++◌, ◌∙◌}
 use Rattle.std.proofs.Common.{ℕ, zero, suc, List, length, get_or, replicate, set}
 use Rattle.std.proofs.Common.{refl, sym, ap, subst, arith, eq-eqb, length-append}

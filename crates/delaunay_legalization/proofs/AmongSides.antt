@@ -1,4 +1,6 @@
 -- The sides of an edge that are among some edges, and the list of these edges' first directions.
+-- Notions: IsListingDirections; gains_among, gains_none_among, round_gained_among,
+-- directions_begin, directions_go_on, directions_end, only_among.
 use Rattle.std.proofs.Common.{◌≡◌, ℕ, ◌+◌, ◌*◌, ◌/◌, ◌≤◌, List, [], ◌∷◌, ◌++◌}
 use Rattle.std.proofs.Common.{length, get_or, sym, ap, ◌∙◌, subst, arith, inl, inr}
 use Rattle.std.specs.Prelude.{◌<◌, Contains}

@@ -1,4 +1,5 @@
 -- Where only some edges may fail, a flip leaves those round it to test that are among these.
+-- Lemmas: six, right_by_edges, moves, only_stay, legal_among.
 use Rattle.std.proofs.Common.{◌≡◌, ◌⊎◌, ℕ, ◌*◌, ◌/◌, ◌<◌, List, [], ◌∷◌, ◌++◌}
 use Rattle.std.proofs.Common.{length, refl, sym, ap, ◌∙◌, subst, arith}
 use mathlib.Core.Logic.{◌≢◌, inl, inr}

@@ -1,5 +1,6 @@
 -- A point on the line of two others is strictly within their segment where it is in their box and
 -- apart from both.
+-- Lemmas: within_of_box, box_of_within.
 use Rattle.std.proofs.Common.{◌≡◌, ◌⊎◌, [], ◌∷◌, sym, subst, arith}
 use mathlib.Core.Logic.{inl, inr}
 use Rattle.std.specs.Prelude.{ℤ, pos, ◌+ℤ◌, ◌-ℤ◌, ◌*ℤ◌, ◌<ℤ◌, ◌≤ℤ◌}

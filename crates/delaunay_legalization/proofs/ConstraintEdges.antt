@@ -1,4 +1,5 @@
 -- The constraints are edges of the mesh, whatever is marked.
+-- Lemmas: constraints_are_edges.
 use Rattle.std.proofs.Common.{◌≡◌, ℕ, ◌*◌, List, length, subst, inl, inr}
 use Rattle.std.specs.Prelude.{Bool, Contains}
 use Rattle.std.specs.List.{range_with_len}

@@ -1,4 +1,5 @@
 -- The edges whose data are marked.
+-- Lemmas: is_marked_edge, marked_edge_is, is_constraint_edge, fixed_edge_is, fixed_within.
 use Rattle.std.proofs.Common.{◌≡◌, ◌⊎◌, ◌+◌, ◌<◌, [], ◌∷◌, ◌∙◌}
 use Rattle.std.proofs.Common.{ℕ, zero, suc, Bool, true, false, List, length, refl, sym, ap, subst}
 use Rattle.std.proofs.Common.{arith}

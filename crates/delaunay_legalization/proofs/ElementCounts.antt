@@ -1,4 +1,5 @@
 -- The data of a mesh are as many as its edges and faces.
+-- Lemmas: edges_counted, faces_counted.
 use Rattle.std.proofs.Common.{◌≡◌, ◌∙◌, length, sym, arith}
 use Rattle.std.proofs.lemmas.List.{length-map}
 use Rattle.half_edge_mesh.specs.Outline.{ends}

@@ -1,4 +1,5 @@
 -- Where only edges opposite one vertex fail, a flip leaves the two sides beyond it to test.
+-- Notions: GainsFarSides; listed_or_not, with_one, flip_keeps_empty, turned_far.
 use Rattle.std.proofs.Common.{◌≡◌, ◌⊎◌, ℕ, ◌*◌, ◌/◌, ◌<◌, List, [], ◌∷◌, ◌++◌}
 use Rattle.std.proofs.Common.{length, refl, sym, ap, ◌∙◌, subst}
 use mathlib.Core.Logic.{◌≢◌, inl, inr}

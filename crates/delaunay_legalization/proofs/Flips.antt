@@ -1,4 +1,5 @@
 -- The flips of insertions fit in a count of 64 bits.
+-- Lemmas: flips_fit, few_flips_fit, first_count_is_small.
 use Rattle.std.proofs.Common.{ℕ, ◌+◌, ◌-◌, ◌*◌, ◌≤◌, ◌<◌, ◌^◌, arith}
 use Rattle.std.proofs.lemmas.Nat.{mul-le}
 use Rattle.delaunay_legalization.specs.Flips.{CountsFlips, FlipsFit}

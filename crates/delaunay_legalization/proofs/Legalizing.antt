@@ -1,4 +1,8 @@
 -- What the functions of a legalisation need of the mesh that they are handed.
+-- Notions: IsUnderway; edges_before, last_edge_within, last_within, failing_flippable,
+-- failing_apart, left_turn, inside_fails, fails_inside, positive, turned_by, fixed_stay, fewer_by,
+-- round_gained, gained, kept, half_within, edges_gained, fits_one, found, fits_len,
+-- underway_begins, step_fits, step_kept, underway_ends, underway_counts, underway_keeps, drained.
 use Rattle.std.proofs.Common.{◌≡◌, ◌+◌, ◌-◌, ◌*◌, ◌/◌, ◌<◌, ◌≤◌, ◌^◌, [], ◌∷◌, ◌++◌, ◌∙◌}
 use Rattle.std.proofs.Common.{ℕ, suc, List, length, map, refl, sym, ap, subst, arith}
 use mathlib.Core.Logic.{◌≢◌}

@@ -1,4 +1,6 @@
 -- The pairs that constraints join, where edges stay, become constraints or cease to be.
+-- Notions: IsMarked, JoinsByMark; set_entry, same_as_third, joined_by_mark, mark_joins,
+-- pairs_stay, marking_joins, unmarking_leaves.
 use Rattle.std.proofs.Common.{◌≡◌, ◌≢◌, ◌⊎◌, ◌↔◌, ◌*◌, ◌<◌, [], ◌∷◌}
 use Rattle.std.proofs.Common.{ℕ, zero, suc, Bool, true, false, List, length}
 use Rattle.std.proofs.Common.{get_or, set, refl, sym, ap, ◌∙◌, subst, inl, inr}

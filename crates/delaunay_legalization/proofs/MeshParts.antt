@@ -1,4 +1,5 @@
 -- Edges and faces of the mesh as edges and faces of the triangulation.
+-- Lemmas: no_side, outer_bare, mesh_edge, mesh_face.
 use Rattle.std.proofs.Common.{◌≡◌, ◌⊎◌, ◌-◌, ◌<◌, ◌≤◌, []}
 use Rattle.std.proofs.Common.{ℕ, List, length, map, refl, ap, subst, inl, inr, arith}
 use Rattle.std.specs.Prelude.{Contains, pos}

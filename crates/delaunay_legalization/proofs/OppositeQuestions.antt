@@ -1,4 +1,6 @@
 -- What is asked of the edge opposite a vertex.
+-- Lemmas: opposite_turns_left, opposite_fails, opposite_is_inside, read_turns_left, read_fails,
+-- read_is_inside, read_outer_passes.
 use Rattle.std.proofs.Common.{◌≡◌, ◌<◌, ◌∙◌}
 use Rattle.std.proofs.Common.{ℕ, false, IsTrue, List, length, refl, sym, ap, subst, inl, inr, arith}
 use Rattle.std.specs.Prelude.{ℤ}

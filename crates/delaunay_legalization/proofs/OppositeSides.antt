@@ -1,4 +1,5 @@
 -- The edges opposite one vertex, where only they may fail; and links that are read.
+-- Notions: HasOpposite; opposite_begins, link_read.
 use Rattle.std.proofs.Common.{◌<◌, ◌≡◌, length, ℕ, ◌/◌, List, ◌∙◌, subst}
 use Rattle.std.specs.Prelude.{Contains}
 use Rattle.half_edge_mesh.specs.Mesh.{Mesh, AreSoundLinks, origin, next, prev, rev}

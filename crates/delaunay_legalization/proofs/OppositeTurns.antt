@@ -1,4 +1,6 @@
 -- The edge opposite a vertex is turned: it comes between two edges of the vertex.
+-- Lemmas: failing_twin, failing_either, either_in, beyond_differs, comes_between, opposite_here,
+-- opposite_behind, opposite_others.
 use Rattle.std.proofs.Common.{◌≡◌, ℕ, ◌*◌, ◌/◌, ◌<◌, List, length, sym, ap, ◌∙◌, subst}
 use mathlib.Core.Logic.{◌≢◌, inl, inr}
 use Rattle.std.proofs.lemmas.Bool.{cases_eq}

@@ -1,4 +1,5 @@
 -- The edges of a vertex are put into a work list, one after another, as far as they are wanted.
+-- Notions: IsPushing; no_edges, pushing_begins, pushing_goes_on, pushing_ends.
 use Rattle.std.proofs.Common.{◌≡◌, ℕ, List, [], ◌∷◌, length, ◌<◌, sym, ◌∙◌, subst}
 use Rattle.std.specs.Prelude.{Contains}
 use Rattle.std.specs.Borrow.{Bor}

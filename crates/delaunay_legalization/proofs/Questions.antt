@@ -1,4 +1,5 @@
 -- What answers to a few tests say of points.
+-- Lemmas: within_if, if_within, both_ways, covered_at, covered_in.
 use Rattle.std.proofs.Common.{◌≡◌, ◌≢◌, ℕ, ◌<◌, Bool, true, false, List, length, sym, subst}
 use Rattle.std.specs.Prelude.{All, Contains, pos}
 use Rattle.std.proofs.lemmas.List.Elements.{All-get_or}

@@ -1,4 +1,5 @@
 -- Lists of the edges opposite a vertex that are left to test.
+-- Notions: PutsLast, LieOpposite, HasAllOpposite; put_last, none_in, legal_with_more, opposites.
 use Rattle.std.proofs.Common.{◌≡◌, ◌≢◌, ◌⊎◌, ℕ, ◌/◌, ◌<◌, List, [], ◌∷◌, ◌++◌}
 use Rattle.std.proofs.Common.{length, refl, sym, ◌∙◌, subst, inl, inr}
 use Rattle.std.specs.Prelude.{Contains}

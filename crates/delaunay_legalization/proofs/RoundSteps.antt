@@ -1,4 +1,6 @@
 -- A legalization that goes round a vertex, from one of its edges to the next.
+-- Notions: IsTurningRound, tests_left; turning_begins, h_in, centre_is, centre_listed, may_turn,
+-- turning_goes_on, fewer_turned, turning_goes_next, fewer_next, turning_ends, none_to_turn.
 use Rattle.std.proofs.Common.{◌≡◌, ◌≢◌, ℕ, suc, ◌+◌, ◌*◌, ◌/◌, ◌<◌, List, [], ◌∷◌, ◌++◌}
 use Rattle.std.proofs.Common.{length, map, Option, Some, None, IsSome, IsNone, refl, sym, ap, ◌∙◌}
 use Rattle.std.proofs.Common.{subst, inl, inr, arith}

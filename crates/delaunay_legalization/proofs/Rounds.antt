@@ -1,4 +1,7 @@
 -- Going through the edges of a vertex, one after another, from any of them.
+-- Notions: IsLeftOfRound, IsWholeRound, IsGoingRound; first_left, none_left, round_of, round_at,
+-- spokes_once, whole_round, one_less_left, none_is_left, next_left, round_begins, seen_as,
+-- next_within, next_starts, round_goes_on, round_ends.
 use Rattle.std.proofs.Common.{◌≡◌, ◌⊎◌, ℕ, ◌<◌, List, [], ◌∷◌, ◌∙◌}
 use Rattle.std.proofs.Common.{length, map, Option, Some, None, IsSome, refl, sym, ap, subst, inl}
 use Rattle.std.proofs.Common.{inr, arith}

@@ -1,4 +1,5 @@
 -- What follows from the shape of a mesh over its points.
+-- Lemmas: laid_out_tiles, laid_out_distinct, kept_empty.
 use Rattle.std.proofs.Common.{◌≡◌, ◌≢◌, ◌<◌, []}
 use Rattle.std.proofs.Common.{ℕ, List, length, refl, sym, ap, subst, inl, inr, arith}
 use Rattle.std.specs.Prelude.{All}

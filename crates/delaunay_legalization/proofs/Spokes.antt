@@ -1,4 +1,6 @@
 -- Edges of a vertex that follow one another against the clock, until a first one comes again.
+-- Notions: Follow, AreNext, how_many_left, ComesBetween; all_left, one_fewer, next_is_left,
+-- none_behind, count_left, one_more_left.
 use Rattle.std.proofs.Common.{◌≡◌, ◌≢◌, ◌⊎◌, ℕ, zero, suc, ◌+◌, ◌<◌, ◌≤◌, ◌==◌, true, false}
 use Rattle.std.proofs.Common.{[], ◌∷◌, ◌∙◌}
 use Rattle.std.proofs.Common.{List, length, map, Some, refl, sym, ap, subst, inl, inr, arith}

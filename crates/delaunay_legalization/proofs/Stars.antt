@@ -1,5 +1,6 @@
 -- Where all faces that were made have one vertex as a corner, only the edges of the faces at this
 -- vertex are left to test.
+-- Lemmas: face_corners, made_at_leaves, star_is_left, sides_kept.
 use Rattle.std.proofs.Common.{◌≡◌, ◌⊎◌, ◌/◌, ◌<◌, [], ◌∷◌, ◌++◌, ◌∙◌}
 use Rattle.std.proofs.Common.{ℕ, List, length, sym, ap, subst, inl, inr, arith}
 use Rattle.std.specs.Prelude.{Contains}

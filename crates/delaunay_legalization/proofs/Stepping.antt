@@ -1,5 +1,7 @@
 -- A legalization from its first work list to its end, by the sides of a turned edge that it leaves
 -- to test.
+-- Notions: IsUnderwayBy; step_drops, step_turns, steps_begin, can_step, steps_go_on, steps_end,
+-- triangulation_legalized.
 use Rattle.std.proofs.Common.{◌≡◌, ℕ, ◌+◌, ◌*◌, ◌<◌, ◌≤◌, List, [], ◌∷◌, ◌++◌}
 use Rattle.std.proofs.Common.{length, map, refl, sym, ap, subst, arith}
 use Rattle.std.proofs.lemmas.List.{length-append}

@@ -1,4 +1,5 @@
 -- The list of all edges, and a mesh after the last flip.
+-- Lemmas: pairs_are_edges, legalized.
 use Rattle.std.proofs.Common.{◌≡◌, ℕ, ◌*◌, ◌<◌, List, length, map, sym, ap, ◌∙◌, subst, arith}
 use Rattle.std.specs.List.{range_with_len}
 use Rattle.std.proofs.lemmas.List.{same_lists, length-map, get_or-map}

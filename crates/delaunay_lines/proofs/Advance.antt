@@ -1,4 +1,6 @@
 -- What is left of a walk from one item to the next.
+-- Notions: Others, Begins; none_further, one_further, further, one_fewer, some_left, first_of,
+-- starts_with, starts_at_vertex.
 use Rattle.std.proofs.Common.{◌≡◌, ◌≢◌, ◌⊎◌, ◌+◌, ◌-◌, ◌<◌, ◌≤◌, [], ◌∷◌}
 use Rattle.std.proofs.Common.{ℕ, List, length, map, Option, Some, None}
 use Rattle.std.proofs.Common.{refl, sym, ap, subst, inl, inr, arith}

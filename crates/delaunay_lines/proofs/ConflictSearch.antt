@@ -1,4 +1,5 @@
 -- The search for the next conflict along a walk.
+-- Notions: IsSearching; searching_begins, searching_goes_on, found, searching_ends.
 use Rattle.std.proofs.Common.{◌≡◌, ◌/◌, ◌<◌, ◌≤◌, [], ◌∷◌, ◌++◌}
 use Rattle.std.proofs.Common.{append-nil, ℕ, List, length, Some, None, refl, sym, ap}
 use Rattle.std.proofs.Common.{◌∙◌, subst, append_assoc, inl, inr, arith}

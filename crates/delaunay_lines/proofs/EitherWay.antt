@@ -1,4 +1,5 @@
 -- An edge that a segment meets in one point within it is crossed in one of its two directions.
+-- Lemmas: crossed_either_way.
 use Rattle.std.proofs.Common.{◌≡◌, ◌⊎◌, ℕ, inl, inr, arith}
 use lib.IntN.{neg_ℤ}
 use Rattle.std.specs.Prelude.{ℤ, pos, ◌<ℤ◌, ◌≤ℤ◌, ◌-ℤ◌, ◌*ℤ◌}

@@ -1,4 +1,7 @@
 -- What a segment meets first, by where in a mesh it starts.
+-- Lemmas: starts_first, nothing, nothing_met, same_ends, alone_on_edge, over_edge, over_twin,
+-- along_edge, along_twin, inside_after, inside_before, alone_inside, last_goes_over, ends_in_face,
+-- through_start, through_side, on_if_neither.
 use Rattle.std.proofs.Common.{◌≡◌, ◌≢◌, ◌⊎◌, ◌<◌, [], ◌∷◌, ◌∙◌}
 use Rattle.std.proofs.Common.{ℕ, List, length, map, Some, None, refl, sym, ap, subst}
 use Rattle.std.proofs.Common.{inl, inr, arith}

@@ -1,4 +1,5 @@
 -- Whether a segment meets a constraint, by the first conflict of its walk.
+-- Lemmas: crosses_one, crosses_none, first_decides.
 use Rattle.std.proofs.Common.{◌≡◌, ◌≢◌, ◌⊎◌, ◌*◌, ◌/◌, ◌<◌, ◌↔◌, [], ◌∷◌, ◌++◌}
 use Rattle.std.proofs.Common.{ℕ, Bool, IsTrue, List, length, map}
 use Rattle.std.proofs.Common.{Option, Some, None, is_some, sym, ap, subst, inl, inr, arith}

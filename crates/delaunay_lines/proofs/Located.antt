@@ -1,4 +1,5 @@
 -- Where a segment starts, by the answer to where its start is.
+-- Lemmas: on_that_vertex, inside_that_face, outside_that_edge, without_triangulation.
 use Rattle.std.proofs.Common.{◌≡◌, ℕ, ◌<◌, ◌≤◌, List, length, map, sym, subst, inl, inr, arith}
 use Rattle.half_edge_mesh.specs.Mesh.{Mesh, origin, prev, face_edge, rev}
 use Rattle.half_edge_mesh.specs.Contents.{Contents}

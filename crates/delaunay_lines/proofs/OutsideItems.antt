@@ -1,4 +1,6 @@
 -- What a segment meets first from outside a mesh.
+-- Lemmas: better_keeps, no_better_itself, no_better_if, found_within, along_weakened,
+-- alone_outside, enters, nearest_is_first, none_is_first.
 use Rattle.std.proofs.Common.{◌≡◌, ◌≢◌, ◌⊎◌, ◌<◌, ◌∙◌}
 use Rattle.std.proofs.Common.{ℕ, List, length, map, Option, Some, None, sym, ap}
 use Rattle.std.proofs.Common.{subst, inl, inr, arith}

@@ -1,4 +1,5 @@
 -- What answers about points of a segment say.
+-- Lemmas: differs_if_within, within_if_differs, on_if_not_apart.
 use Rattle.std.proofs.Common.{◌≡◌, ◌≢◌, ◌⊎◌, sym, subst, inl, inr, arith}
 use Rattle.std.specs.Prelude.{ℤ, pos, ◌<ℤ◌, ◌*ℤ◌}
 use Rattle.std.proofs.lemmas.Int.{ints}

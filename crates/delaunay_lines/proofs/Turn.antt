@@ -1,4 +1,5 @@
 -- One call of the iterator along a segment.
+-- Lemmas: counts_more, gives_some, ready_after.
 use Rattle.std.proofs.Common.{◌≡◌, ◌≢◌, ◌-◌, ◌≤◌, ◌∷◌, ◌∙◌}
 use Rattle.std.proofs.Common.{List, Option, Some, None, refl, sym, ap, subst}
 use Rattle.std.specs.Prelude.{ℤ}

@@ -1,5 +1,8 @@
 -- Going through the edges of a vertex both ways at once, from a first one on until the two ways
 -- meet.
+-- Notions: IsClosingIn, how_many_before; no_edges, named_first, closing_in_begins, left_within,
+-- right_within, left_starts, right_starts, seen_where_left_meets, seen_where_right_meets,
+-- left_goes_on, fewer_before, right_goes_on.
 use Rattle.std.proofs.Common.{◌≡◌, ◌≢◌, ℕ, zero, suc, ◌+◌, ◌-◌, ◌<◌, ◌≤◌, ◌==◌, true, false}
 use Rattle.std.proofs.Common.{◌∙◌}
 use Rattle.std.proofs.Common.{length, map, Some, IsSome, IsNone, refl, sym, ap, subst, inl, inr}

@@ -1,4 +1,6 @@
 -- Candidates for the vertex that is nearest to a position.
+-- Lemmas: candidate_at_end, nearer_than_same, candidate_from_nearer, candidate_from_other,
+-- place_within, vertex_within, distance_read, move_to_nearer, move_to_found.
 use Rattle.std.proofs.Common.{◌≡◌, ◌⊎◌, ◌<◌, ◌∙◌}
 use Rattle.std.proofs.Common.{ℕ, List, length, map, sym, ap, subst, inl, inr, to_z, of_z, w64}
 use Rattle.std.proofs.Common.{arith}

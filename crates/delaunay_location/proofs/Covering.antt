@@ -1,4 +1,5 @@
 -- The points that the tests of a search cover.
+-- Lemmas: vertex_covered, ends_covered.
 use Rattle.std.proofs.Common.{◌≡◌, ℕ, ◌<◌, length, map}
 use Rattle.std.specs.Prelude.{ℤ}
 use Rattle.half_edge_mesh.specs.Contents.{Contents}

@@ -1,4 +1,5 @@
 -- A position beside a line of vertices, or beyond an end of it, at which one edge starts.
+-- Lemmas: all_outer, located_right, located_past.
 use Rattle.std.proofs.Common.{◌≡◌, ◌≢◌, ◌⊎◌, ◌<◌, ◌∙◌}
 use Rattle.std.proofs.Common.{ℕ, List, [], length, map, refl, sym, ap, subst, inl, inr, arith}
 use Rattle.std.specs.Prelude.{ℤ, pos, ◌<ℤ◌, ◌≤ℤ◌, Contains}

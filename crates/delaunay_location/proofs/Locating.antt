@@ -1,5 +1,6 @@
 -- A position that no vertex has, that is clear of each edge and inside no face, is past an end of a
 -- line of vertices.
+-- Lemmas: same_point, at_vertex, in_face, some_edge, past_end.
 use Rattle.std.proofs.Common.{◌≡◌, ◌⊎◌, ◌+◌, ◌-◌, ◌<◌, ◌≤◌, [], ◌∙◌}
 use Rattle.std.proofs.Common.{ℕ, List, length, map, get_or, sym, ap, subst, inl, inr, arith}
 use Rattle.std.specs.Prelude.{ℤ, pos, ◌*ℤ◌, ◌≤ℤ◌, Contains}

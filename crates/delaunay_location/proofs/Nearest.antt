@@ -1,4 +1,5 @@
 -- A running search for the least of some numbers.
+-- Lemmas: first_is_least, less_is_least, still_least, less_than_first.
 use Rattle.std.proofs.Common.{◌≡◌, ◌⊎◌, ℕ, ◌+◌, ◌<◌, arith, below_more, subst, inl, inr}
 use Rattle.std.specs.Prelude.{ℤ, ◌<ℤ◌, ◌≤ℤ◌}
 use Rattle.std.proofs.lemmas.Int.{ints}

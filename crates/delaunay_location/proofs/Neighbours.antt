@@ -1,4 +1,7 @@
 -- A walk from vertex to nearer neighbour.
+-- Notions: IsMove; nearer_by_gaps, no_nearer_neighbour, nearer_if_other, none_counted,
+-- more_counted, count_stays, room_stays, moves_fit, nearer_falls, counted_after, one_counted,
+-- counted_before, room_there, room_at, fewer_moves.
 use Rattle.std.proofs.Common.{◌≡◌, ◌⊎◌, ℕ, ◌+◌, ◌<◌, ◌≤◌, List, length}
 use Rattle.std.proofs.Common.{sym, subst, ◌∙◌, inl, inr, arith}
 use Rattle.std.specs.Prelude.{ℤ, pos, ◌*ℤ◌, ◌<ℤ◌, Bool, true, false, cond, slice_index_or}

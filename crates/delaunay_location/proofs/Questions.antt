@@ -1,4 +1,6 @@
 -- What answers to a few side tests say of the edges and faces of a mesh.
+-- Lemmas: within_edge, left_of_edge, located_left, clear, inside_face, turns_as_face, both_iff,
+-- next_face.
 use Rattle.std.proofs.Common.{◌≡◌, ◌↔◌, ℕ, ◌+◌, ◌<◌, ◌≤◌, arith, List, sym, subst, inl, inr}
 use Rattle.std.proofs.lemmas.Bool.{cases_eq}
 use Rattle.half_edge_mesh.specs.Mesh.{Mesh, origin, next, prev, face, face_edge, rev}

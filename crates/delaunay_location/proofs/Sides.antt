@@ -1,5 +1,6 @@
 -- The sides of the face on the left of an edge: the edges beyond them, and when a position is
 -- inside it.
+-- Lemmas: across_edge, left_of_stop, next_side, prev_side, located_inside.
 use Rattle.std.proofs.Common.{◌≡◌, ◌⊎◌, ℕ, ◌<◌, ◌≤◌, List, length, map}
 use Rattle.std.proofs.Common.{sym, ap, ◌∙◌, subst, inl, inr, arith}
 use Rattle.std.specs.Prelude.{ℤ}

@@ -1,4 +1,5 @@
 -- Where a walk from face to face ends.
+-- Lemmas: apart_elsewhere.
 use Rattle.std.proofs.Common.{◌≡◌, ℕ, List, map, refl, sym, ap}
 use Rattle.std.specs.Prelude.{pos, ◌*ℤ◌}
 use Rattle.plane.specs.Fraction.{Point, IsSame, whole}

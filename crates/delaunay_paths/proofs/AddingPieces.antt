@@ -1,4 +1,8 @@
 -- Pieces of a path that become edges and constraints, one after another.
+-- Notions: AddsPiece, LeavesPiece, IsAddingTo; half_ends, piece_whole, piece_added,
+-- adding_to_begins, same, adding_sites, adding_shape, adding_index, adding_at, adding_free,
+-- adding_clear, adding_to_goes_on, adding_shortens, adding_to_ends, piece_made, same_are_left,
+-- cleared_work, more_is_left, work_fits.
 use Rattle.std.proofs.Common.{◌≡◌, ◌≢◌, ◌⊎◌, ◌↔◌, ◌*◌, ◌/◌, ◌%◌, ◌<◌, ◌≤◌, [], ◌∙◌}
 use Rattle.std.proofs.Common.{ℕ, List, length, map, set, refl, sym, ap, subst, inl, inr, arith}
 use Rattle.std.specs.Prelude.{Bool, true, false, All, nat_abs}

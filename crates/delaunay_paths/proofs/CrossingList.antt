@@ -1,4 +1,6 @@
 -- The list of the edges that cross a segment, where one of them is turned.
+-- Lemmas: one_way, starts_ahead, ends_behind, way_is, way_crosses, way_ends, made_clear,
+-- made_clear_back, others_are_all, others_still, taken, put_waiting, put_unseen.
 use Rattle.std.proofs.Common.{◌≡◌, ◌≢◌, ◌⊎◌, ◌*◌, ◌/◌, ◌<◌, [], ◌∷◌, ◌++◌, ◌∙◌}
 use Rattle.std.proofs.Common.{ℕ, List, length, refl, sym, ap, subst}
 use mathlib.Core.Logic.{inl, inr}

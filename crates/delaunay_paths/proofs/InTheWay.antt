@@ -1,4 +1,5 @@
 -- Which constraints are in the way of a path, by the first conflict of the walk along its segment.
+-- Lemmas: meets_is_cross, first_decides.
 use Rattle.std.proofs.Common.{◌≡◌, ◌⊎◌, ◌↔◌, ◌<◌}
 use Rattle.std.proofs.Common.{ℕ, Bool, true, false, IsTrue, List, length, map, Option, Some, None}
 use Rattle.std.proofs.Common.{is_some, refl, subst, inl, inr}

@@ -1,4 +1,5 @@
 -- The constraint between two vertices, by the edge between them.
+-- Lemmas: edge_joins, no_edge_joins.
 use Rattle.std.proofs.Common.{◌≡◌, ◌≢◌, ◌↔◌, ◌*◌, ◌/◌, ◌<◌, ◌∙◌}
 use Rattle.std.proofs.Common.{ℕ, List, length, refl, sym, ap, subst, inl, inr, arith}
 use Rattle.std.specs.Prelude.{Bool, Contains}

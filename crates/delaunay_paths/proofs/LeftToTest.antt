@@ -1,4 +1,5 @@
 -- What flips towards a segment leave to the circle test.
+-- Lemmas: flip_leaves, crossing_leaves, none_crosses, passing_ends.
 use Rattle.std.proofs.Common.{◌≡◌, ◌≢◌, ◌⊎◌, ◌/◌, [], ◌∷◌, ◌∙◌}
 use Rattle.std.proofs.Common.{ℕ, List, length, refl, sym, subst, inl, inr}
 use Rattle.std.specs.Prelude.{Contains}

@@ -1,4 +1,7 @@
 -- The edges that cross a segment are listed by the walk along it, each once.
+-- Notions: AreListed, IsListingCrossing; not_before_itself, none_listed, other_item, few_listed,
+-- not_listed, edge_more, room_for_more, all_listed, crossing_walk_begins, room_for_item,
+-- crossing_walk_goes_on, crossing_walk_ends.
 use Rattle.std.proofs.Common.{◌≡◌, ◌≢◌, ◌*◌, ◌/◌, ◌<◌, ◌≤◌, [], ◌∷◌, ◌++◌, ◌∙◌}
 use Rattle.std.proofs.Common.{ℕ, suc, List, length, map, Some, None, sym, ap, subst, arith}
 use mathlib.Core.Logic.{inl, inr}

@@ -1,4 +1,5 @@
 -- The edges along a path, listed one after another.
+-- Notions: IsListing; listing_begins, listing_has_room, listing_goes_on, listing_ends.
 use Rattle.std.proofs.Common.{◌≡◌, ◌≢◌, ◌⊎◌, ◌+◌, ◌<◌, ◌≤◌, [], ◌∷◌, ◌++◌, ◌∙◌}
 use Rattle.std.proofs.Common.{ℕ, List, length, sym, subst, inl, inr}
 use Rattle.std.proofs.Common.{arith, append_assoc, append-nil, length-append}

@@ -1,4 +1,5 @@
 -- Data that get the mark.
+-- Lemmas: has_mark, gets_mark, marks_none, marks_one, marks_more.
 use Rattle.std.proofs.Common.{◌≡◌, ◌⊎◌, [], ◌∷◌, ◌∙◌}
 use Rattle.std.proofs.Common.{ℕ, zero, suc, Bool, true, false, List, set, refl, sym, ap, subst}
 use Rattle.std.proofs.Common.{inl, inr}

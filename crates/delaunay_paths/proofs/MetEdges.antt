@@ -1,4 +1,5 @@
 -- The edges that cross a segment are those that it meets, as the walk along it has them.
+-- Lemmas: two, crosses_if_met, met_if_crosses.
 use Rattle.std.proofs.Common.{◌≡◌, ◌⊎◌, ◌<◌, ◌∙◌}
 use Rattle.std.proofs.Common.{ℕ, List, length, sym, subst, inl, inr}
 use Rattle.half_edge_mesh.specs.Mesh.{Mesh, IsValidMesh, origin, rev}

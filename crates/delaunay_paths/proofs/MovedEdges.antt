@@ -1,4 +1,7 @@
 -- Edges that cross a segment move from one of their lists to the other.
+-- Lemmas: nothing_left, less_by_room, less_if_popped, shorter, longer, room_on, room_stays,
+-- fewer_fit, entries_on, entries_begin, crossing_on, crossing_begins, held_with_room,
+-- stepped_back, none_steps_back, none_taken, others_taken, others_wait.
 use Rattle.std.proofs.Common.{◌≡◌, ◌≢◌, ◌+◌, ◌-◌, ◌<◌, ◌≤◌, [], ◌∷◌, ◌++◌, ◌∙◌}
 use Rattle.std.proofs.Common.{ℕ, List, length, take, sym, ap, subst, arith, append-nil}
 use Rattle.std.proofs.Common.{length-append, vec_capacity}

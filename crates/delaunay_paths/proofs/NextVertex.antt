@@ -1,4 +1,6 @@
 -- The first vertex of a walk after its start is the next one of the path.
+-- Notions: SeeksNext; two, none_is_left, comes_next, seeking_begins, seeking_goes_on,
+-- seeking_finds, seeking_finds_index, seeking_never_ends.
 use Rattle.std.proofs.Common.{◌≡◌, ◌≢◌, ◌⊎◌, ◌<◌, [], ◌∷◌, ◌++◌}
 use Rattle.std.proofs.Common.{ℕ, List, length, map, Some, None, sym, ap, subst, inl, inr}
 use Rattle.std.specs.Prelude.{ℤ, Contains}

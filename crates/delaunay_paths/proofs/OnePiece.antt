@@ -1,5 +1,7 @@
 -- A path that is one edge: it has no other piece, no constraint crosses it, and nothing is turned
 -- where it becomes a constraint.
+-- Lemmas: found, first_in, second_in, ends_apart, edge_is_next, one_piece, edge_is_free,
+-- joined_is_free, edge_added.
 use Rattle.std.proofs.Common.{◌≡◌, ◌≢◌, ◌⊎◌, ◌↔◌, ◌/◌, ◌<◌, []}
 use Rattle.std.proofs.Common.{ℕ, Bool, true, List, length, map, Option, Some, None, is_some}
 use Rattle.std.proofs.Common.{refl, sym, ap, subst, subst₂, inl, inr}

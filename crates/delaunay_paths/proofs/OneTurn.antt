@@ -1,4 +1,6 @@
 -- One edge that crosses a segment is turned towards it, and the lists have those that cross then.
+-- Lemmas: turn_from_in, turn_to_in, turn_within, turn_can, turned_across, made_waits, turned_away,
+-- others_cross.
 use Rattle.std.proofs.Common.{◌≡◌, ◌≢◌, ◌⊎◌, ◌*◌, ◌/◌, ◌<◌, [], ◌∷◌, ◌++◌}
 use Rattle.std.proofs.Common.{ℕ, List, length, map, sym, subst}
 use Rattle.std.specs.Prelude.{Contains}

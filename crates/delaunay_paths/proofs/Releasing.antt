@@ -1,4 +1,7 @@
 -- A constraint that is released, and what is left to test then.
+-- Lemmas: same_pair_or_not, double, one_edge, edge_there, same_vertices, released_kept,
+-- released_passing, left_to_test, released, fits_on, counts_on, sites_on, constraints_added,
+-- added_passing, added_room.
 use Rattle.std.proofs.Common.{◌≡◌, ◌≢◌, ◌⊎◌, ◌↔◌, ◌*◌, ◌<◌, ◌≤◌, [], ◌∷◌, ◌∙◌}
 use Rattle.std.proofs.Common.{ℕ, List, length, map, set, sym, ap, subst, inl, inr, arith}
 use Rattle.std.specs.Prelude.{Bool, false, All, Contains}

@@ -1,4 +1,6 @@
 -- The next edge that can be turned is sought among those that cross.
+-- Notions: IsSeeking; some_has, none_has, seeking_begins, seeking_takes, seeking_goes_on,
+-- seeking_shortens, seeking_room, seeking_ends, seeking_has_seen, to_turn, none_left.
 use Rattle.std.proofs.Common.{◌≡◌, ◌⊎◌, ◌+◌, ◌-◌, ◌<◌, [], ◌∷◌, ◌++◌}
 use Rattle.std.proofs.Common.{ℕ, List, length, map, take, Option, Some, None, refl, subst, arith}
 use mathlib.Core.Logic.{inl, inr}

@@ -1,4 +1,7 @@
 -- An edge of a mesh that crosses a segment is turned towards it, and one that crosses can be.
+-- Notions: CanTurn; others_stay, crossing, crossing_at, local_if_crossed, edge_if_none,
+-- last_ends_turn, crosses_both_ways, can_turn, turned_lower, turned_local, turned_keeps,
+-- turned_keeps_faces, some_turns_nearer.
 use Rattle.std.proofs.Common.{◌≡◌, ◌≢◌, ◌⊎◌, ◌*◌, ◌/◌, ◌<◌, [], ◌∷◌, ◌∙◌}
 use Rattle.std.proofs.Common.{ℕ, List, length, refl, sym, ap, subst}
 use mathlib.Core.Logic.{inl, inr}

@@ -1,5 +1,7 @@
 -- A turn of a crossing edge lowers the sum of the ranks of right ends where the edge that is made
 -- does not cross, or has a right end that comes before; and the last one is turned so.
+-- Notions: ComesSooner; after_if_before, before_if_after, turn_lowers, last_x_sooner,
+-- last_z_sooner.
 use Rattle.std.proofs.Common.{◌≡◌, ℕ, ◌<◌, List, [], ◌∷◌, length, sym, ap, ◌∙◌, subst, arith}
 use mathlib.Core.Logic.{inl, inr}
 use Rattle.std.specs.Prelude.{ℤ, pos, neg_ℤ, ◌+ℤ◌, ◌≤ℤ◌, ◌<ℤ◌, true, ◌&&◌, int_lt}

@@ -1,4 +1,5 @@
 -- Points strictly within segments, and the points of vertices.
+-- Lemmas: not_start, not_end, nested, in_map, of_map, placed_apart.
 use Rattle.std.proofs.Common.{◌≡◌, ◌⊎◌, ℕ, ◌<◌, List, length, map, sym, subst, arith}
 use mathlib.Core.Logic.{inl, inr}
 use Rattle.std.specs.Prelude.{ℤ, pos, ◌<ℤ◌}

@@ -1,4 +1,5 @@
 -- An inner vertex with four neighbours, strictly between two of them.
+-- Lemmas: starts_apart, ends_apart, not_from, not_to, between_read, between_at_next.
 use Rattle.std.proofs.Common.{◌≡◌, ◌≢◌, ◌↔◌, ◌<◌, ◌∙◌}
 use Rattle.std.proofs.Common.{ℕ, List, length, sym, ap, subst, arith, inl, inr}
 use Rattle.half_edge_mesh.specs.Mesh.{Mesh, AreSoundLinks, IsValidMesh, origin, rev}

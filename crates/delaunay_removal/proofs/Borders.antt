@@ -1,4 +1,5 @@
 -- The loop that lists the sides opposite a vertex.
+-- Notions: IsGathering; gathering_begins, gathering_goes_on, gathering_ends, no_border.
 use Rattle.std.proofs.Common.{◌≡◌, ◌+◌, ◌<◌, ◌≤◌, [], ◌∷◌, ◌++◌, ◌∙◌}
 use Rattle.std.proofs.Common.{ℕ, suc, List, length, None, IsSome, refl, sym, ap}
 use Rattle.std.proofs.Common.{subst, inl, inr, arith}

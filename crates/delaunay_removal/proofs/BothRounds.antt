@@ -1,4 +1,5 @@
 -- The look for an edge between two vertices, round both of them at once.
+-- Notions: EndsThere, AreSearching; none_back, starts_there, none_when_back, none_of_all.
 use Rattle.std.proofs.Common.{◌≡◌, ◌<◌, ◌≤◌, ◌∙◌}
 use Rattle.std.proofs.Common.{ℕ, length, sym, ap, arith, inl, inr}
 use Rattle.std.proofs.lemmas.Bool.{cases_lt}

@@ -1,4 +1,5 @@
 -- What the tests of the corners round an edge say.
+-- Lemmas: convex_read.
 use Rattle.std.proofs.Common.{◌≡◌, ◌↔◌, ℕ, List}
 use Rattle.half_edge_mesh.specs.Mesh.{Mesh, origin, rev}
 use Rattle.half_edge_mesh.specs.Peel.{turn}

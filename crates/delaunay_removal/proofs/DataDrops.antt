@@ -1,4 +1,5 @@
 -- The data of what stands beside a vertex that goes.
+-- Lemmas: renumbers, data_kept, line_data_kept, line_renumbers, plane_renumbers, plane_data_kept.
 use Rattle.std.proofs.Common.{◌≡◌, ◌≢◌, ◌⊎◌, ◌-◌, ◌<◌, [], ◌∙◌}
 use Rattle.std.proofs.Common.{ℕ, List, length, map, Some, sym, ap, subst, inl, inr, arith}
 use Rattle.std.specs.Prelude.{slice_get, Contains}

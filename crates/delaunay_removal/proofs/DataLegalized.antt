@@ -1,4 +1,5 @@
 -- The data of what was not at a vertex that went, after edges are turned in the mesh that it left.
+-- Lemmas: others_keep_data, legalized_keeps_others.
 use Rattle.std.proofs.Common.{◌≡◌, ◌≢◌, ℕ, ◌-◌, ◌/◌, ◌<◌, length, Some, sym, ap, ◌∙◌, subst}
 use Rattle.std.specs.Prelude.{slice_get}
 use Rattle.half_edge_mesh.specs.Mesh.{origin, rev}

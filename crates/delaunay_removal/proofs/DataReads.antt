@@ -1,4 +1,6 @@
 -- The lists of edges and faces with their data, read by index.
+-- Notions: IsEdgeAt, IsFaceAt; edges_long, edge_read, edge_of, face_read, face_of, even_or_odd,
+-- half_of_odd, same_edge_data, same_face_data, ends_off.
 use Rattle.std.proofs.Common.{◌≡◌, ◌≢◌, ◌⊎◌, ◌+◌, ◌*◌, ◌/◌, ◌%◌, ◌<◌, ◌∙◌}
 use Rattle.std.proofs.Common.{ℕ, length, get_or, Some, sym, ap, subst, inl, inr, arith}
 use Rattle.std.specs.Prelude.{slice_get, Contains}

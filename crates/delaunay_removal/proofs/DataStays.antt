@@ -1,4 +1,7 @@
 -- What stands beside a vertex while its edges go.
+-- Lemmas: all_stands, stands_on, none_to_keep, pairs_kept, pair_put, stands_turned, stands_put,
+-- no_end, no_corner, edges_stand, edges_come, strip_stands, hole_stands, joined_stand,
+-- joined_comes.
 use Rattle.std.proofs.Common.{◌≡◌, ◌≢◌, ◌⊎◌, [], ◌∷◌, ◌++◌, ◌∙◌}
 use Rattle.std.proofs.Common.{ℕ, zero, suc, List, refl, sym, ap, subst, inl, inr}
 use Rattle.std.specs.Prelude.{Contains}

@@ -1,4 +1,5 @@
 -- An edge of a vertex is turned: what is not at the vertex stays.
+-- Lemmas: unwritten, turn_stands, turned_stands.
 use Rattle.std.proofs.Common.{◌≡◌, ◌≢◌, ◌⊎◌, ◌-◌, ◌*◌, ◌/◌, ◌<◌, [], ◌∷◌, ◌∙◌}
 use Rattle.std.proofs.Common.{ℕ, List, length, get_or, set, refl, sym, ap, subst, inl, inr, arith}
 use Rattle.std.specs.Prelude.{Contains}

@@ -1,5 +1,6 @@
 -- A vertex has no more edges than there are vertices, so a list with room for these has room for a
 -- pair at each edge.
+-- Lemmas: room_at_each.
 use Rattle.std.proofs.Common.{◌≡◌, ◌<◌, ◌≤◌, [], ◌∷◌}
 use Rattle.std.proofs.Common.{ℕ, zero, suc, true, false, eqb, List, length, get_or, map, refl}
 use Rattle.std.proofs.Common.{sym, ap, ◌∙◌, subst, inl, inr, arith}

@@ -1,4 +1,6 @@
 -- A vertex that has lost its edges goes, and a triangulation is kept.
+-- Lemmas: dropped_plain, dropped_kept, same_vertices, same_outer, ranged_as, shape_as, value_as,
+-- plain_as, in_the_plane.
 use Rattle.std.proofs.Common.{◌≡◌, ◌<◌, []}
 use Rattle.std.proofs.Common.{ℕ, List, length, map, Some, sym, ap, subst, inl, inr, arith}
 use Rattle.std.specs.Prelude.{All, slice_get, swap_remove}

@@ -1,4 +1,6 @@
 -- The edges round a vertex cease to be constraints, one after another.
+-- Notions: IsFreeing; freeing_begins, same_directed, same_mesh, freeing_goes_on, freeing_ends,
+-- none_to_free, free_already.
 use Rattle.std.proofs.Common.{◌≡◌, ◌≢◌, ◌+◌, ◌*◌, ◌/◌, ◌<◌, ◌∙◌}
 use Rattle.std.proofs.Common.{ℕ, List, length, set, Some, refl, sym, ap, subst, inl, inr, arith}
 use Rattle.std.specs.Prelude.{Bool, true, false, [], Contains, Option, None, IsSome, slice_get}

@@ -1,5 +1,6 @@
 -- A vertex on the hull loses the rest of its edges: at a corner its faces go, on a flat side its
 -- two faces become one.
+-- Lemmas: strip_read, sides_opposite, corner_isolates, flat_strip, flat_starts, flat_isolates.
 use Rattle.std.proofs.Common.{◌≡◌, ◌≢◌, ◌⊎◌, ◌-◌, ◌*◌, ◌/◌, ◌<◌, [], ◌∷◌, ◌∙◌}
 use Rattle.std.proofs.Common.{ℕ, List, length, refl, ap, subst, arith, inl, inr}
 use Rattle.half_edge_mesh.specs.Mesh.{Mesh, AreSoundLinks, origin, prev}

@@ -1,4 +1,5 @@
 -- The search for an edge of a vertex with the outer face on its right.
+-- Lemmas: faces_inner.
 use Rattle.std.proofs.Common.{◌≡◌, ℕ, zero, suc, ◌+◌, ◌<◌, sym, ap, ◌∙◌, arith, inl, inr}
 use Rattle.std.proofs.lemmas.Bool.{cases_lt}
 use Rattle.half_edge_mesh.specs.Mesh.{Mesh, AreSoundLinks, prev, face, rev}

@@ -1,4 +1,5 @@
 -- A vertex on the hull whose star was reduced loses the rest of its edges.
+-- Lemmas: hull_sites, hull_first, hull_room, hull_named, flat_star, flat_side, hull_isolates.
 use Rattle.std.proofs.Common.{◌≡◌, ℕ, ◌-◌, ◌<◌, ◌≤◌, List, length, map, sym, ap, subst, arith}
 use Rattle.std.specs.Prelude.{All}
 use Rattle.half_edge_mesh.specs.Round.{neighbour}

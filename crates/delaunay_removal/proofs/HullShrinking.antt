@@ -1,4 +1,6 @@
 -- The loop that turns edges of a vertex on the hull away.
+-- Notions: IsHullShrinking; hull_sites_stay, bent_at_end, turnable_place, place_starts,
+-- place_left, place_right, place_apart, hull_star_goes_on, hull_shrinking_goes_on.
 use Rattle.std.proofs.Common.{◌≡◌, ◌≢◌, ◌+◌, ◌-◌, ◌*◌, ◌/◌, ◌<◌, ◌≤◌, [], ◌∷◌, ◌++◌, ◌∙◌}
 use Rattle.std.proofs.Common.{ℕ, suc, List, length, map, sym, ap, subst, arith, inl, inr}
 use Rattle.std.specs.Prelude.{All}

@@ -1,4 +1,5 @@
 -- The list of the sides opposite a vertex on the hull, and the question whether it is a corner.
+-- Notions: IsCollecting; collecting_begins, collecting_goes_on, corner_read, one_side.
 use Rattle.std.proofs.Common.{◌≡◌, ◌↔◌, ◌+◌, ◌-◌, ◌<◌, [], ◌∷◌, ◌++◌, ◌∙◌}
 use Rattle.std.proofs.Common.{ℕ, zero, suc, List, length, refl, sym, ap, subst, arith, inl, inr}
 use Rattle.std.specs.Prelude.{slice_index}

@@ -1,4 +1,6 @@
 -- A vertex on the hull loses a neighbour by a turn of an edge.
+-- Lemmas: hull_in_plane, strip_of, has_two, hull_ends_differ, none_turns, flat_has_three, left_of,
+-- right_of, hull_star_less.
 use Rattle.std.proofs.Common.{◌≡◌, ◌≢◌, ◌-◌, ◌*◌, ◌/◌, ◌<◌, ◌≤◌, ◌∙◌}
 use Rattle.std.proofs.Common.{ℕ, zero, suc, List, length, refl, sym, ap, subst, arith, inl, inr}
 use Rattle.std.specs.Prelude.{Contains}

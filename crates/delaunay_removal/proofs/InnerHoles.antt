@@ -1,4 +1,6 @@
 -- The hole that an inner vertex leaves: of three faces one, of four two.
+-- Lemmas: border_read, hole_read, wheel_at, three_isolate, between_first_or_next, wheel_after,
+-- four_isolate, isolates_from.
 use Rattle.std.proofs.Common.{◌≡◌, ◌⊎◌, ◌+◌, ◌*◌, ◌/◌, ◌<◌, [], ◌∷◌, ◌∙◌}
 use Rattle.std.proofs.Common.{ℕ, zero, suc, List, refl, sym, ap, subst, arith, inl, inr}
 use Rattle.half_edge_mesh.specs.Mesh.{Mesh, AreSoundLinks, origin, next, prev, rev}

@@ -1,5 +1,7 @@
 -- An inner vertex loses a neighbour by a turn of an edge, until three are left, or four with the
 -- vertex between two of them.
+-- Lemmas: no_way_back, spokes_inner, plane_star, star_from, has_three, turns, starts_after,
+-- within_after, inner_after, star_shrinks, ends_differ, none_left.
 use Rattle.std.proofs.Common.{◌≡◌, ◌≢◌, ◌+◌, ◌-◌, ◌*◌, ◌/◌, ◌<◌, ◌≤◌, ◌∙◌}
 use Rattle.std.proofs.Common.{ℕ, zero, suc, List, length, refl, sym, ap, subst, arith, inl, inr}
 use Rattle.half_edge_mesh.specs.Mesh.{Mesh, IsValidMesh, origin, face, rev}

@@ -1,4 +1,6 @@
 -- An inner vertex whose star was reduced loses the rest of its edges.
+-- Lemmas: inner_as, same_sites, three_wheel, three_isolates, four_star, four_between,
+-- four_star_named, four_isolates.
 use Rattle.std.proofs.Common.{◌≡◌, ◌≢◌, ℕ, List, map, sym, ap, ◌∙◌, subst, inl, inr}
 use Rattle.std.specs.Prelude.{All}
 use Rattle.half_edge_mesh.specs.Mesh.{Mesh, origin}

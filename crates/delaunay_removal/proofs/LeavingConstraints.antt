@@ -1,4 +1,5 @@
 -- The constraints that are left where a vertex goes that has none.
+-- Lemmas: old_of_freed, old_of_other, there_and_back, back_and_there, constraints_left.
 use Rattle.std.proofs.Common.{◌≡◌, ◌≢◌, ◌⊎◌, ◌↔◌, ◌+◌, ◌-◌, ◌*◌, ◌<◌, ◌∙◌}
 use Rattle.std.proofs.Common.{ℕ, suc, List, length, Some, refl, sym, ap, subst, inl, inr, arith}
 use Rattle.std.specs.Prelude.{Bool, true, false, nat_eq, if◌then◌else◌, Contains}

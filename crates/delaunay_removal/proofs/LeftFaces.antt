@@ -1,5 +1,6 @@
 -- The faces that a vertex leaves: each was there, or each of its sides lay opposite the vertex or
 -- is what a turned edge joins.
+-- Lemmas: faces_leave, plane_faces_leave, line_faces_leave, leaves_more, freed_faces_leave.
 use Rattle.std.proofs.Common.{◌≡◌, ◌≢◌, ◌⊎◌, ◌-◌, ◌<◌, [], ◌∙◌}
 use Rattle.std.proofs.Common.{ℕ, List, length, map, sym, ap, subst, inl, inr, arith}
 use Rattle.std.specs.Prelude.{Bool, Contains}

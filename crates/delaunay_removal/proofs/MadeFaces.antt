@@ -1,5 +1,7 @@
 -- Where a vertex loses its edges, each side of a face that is made lay opposite the vertex, ends at
 -- it, or is what a turned edge joins.
+-- Lemmas: made_none, made_on, made_strip, full_listed, made_hole, made_turn, no_face_listed,
+-- made_on_line.
 use Rattle.std.proofs.Common.{◌≡◌, ◌⊎◌, ◌*◌, ◌/◌, ◌<◌, [], ◌∷◌, ◌++◌}
 use Rattle.std.proofs.Common.{ℕ, List, length, map, refl, ap, subst, inl, inr, arith}
 use Rattle.std.specs.Prelude.{Contains}

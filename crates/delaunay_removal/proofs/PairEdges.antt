@@ -1,4 +1,6 @@
 -- The edges of some pairs of vertices, where only these may fail the circle test.
+-- Notions: IsListing; edge_kept, edge_put, listing_begins, listing_goes_on, listing_ends,
+-- pairs_are_left, only_listed.
 use Rattle.std.proofs.Common.{◌≡◌, ◌⊎◌, ◌+◌, ◌*◌, ◌/◌, ◌<◌, ◌≤◌, ◌++◌, ◌∙◌}
 use Rattle.std.proofs.Common.{ℕ, List, length, get_or, refl, sym, ap, subst, inl, inr, arith}
 use Rattle.std.specs.Prelude.{Contains}

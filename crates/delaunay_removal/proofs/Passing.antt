@@ -1,4 +1,5 @@
 -- What is left to test where a vertex has gone: what its turned edges join, and sides of its hole.
+-- Notions: AreSettled; left_point, border_settles, passes_but, fails_only_at.
 use Rattle.std.proofs.Common.{◌≡◌, ◌≢◌, ◌⊎◌, ◌-◌, ◌*◌, ◌<◌, ◌++◌, ◌∙◌}
 use Rattle.std.proofs.Common.{ℕ, List, length, get_or, map, sym, ap, subst, inl, inr, arith}
 use Rattle.std.specs.Prelude.{Contains, pos, swap_remove}

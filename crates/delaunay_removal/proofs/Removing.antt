@@ -1,4 +1,5 @@
 -- What a triangulation keeps when a vertex goes.
+-- Lemmas: all_left, kept_by_shape, few_edges_of, value_was, line_kept.
 use Rattle.std.proofs.Common.{◌≡◌, ◌<◌, ◌-◌, [], ◌⊎◌, ◌≢◌, ◌≤◌, ◌*◌, ◌∙◌}
 use Rattle.std.proofs.Common.{ℕ, List, length, map, get_or, set, Some, sym, ap, subst, inl, inr}
 use Rattle.std.proofs.Common.{arith}

@@ -1,4 +1,5 @@
 -- A vertex whose edges have ceased to be constraints goes.
+-- Lemmas: freed_vertices, freed_directed, freed_kept, plain_left, data_left.
 use Rattle.std.proofs.Common.{◌≡◌, ◌≢◌, ◌⊎◌, ◌↔◌, ◌-◌, ◌*◌, ◌/◌, ◌<◌, ◌∙◌}
 use Rattle.std.proofs.Common.{ℕ, List, length, sym, ap, subst, inl, inr, arith}
 use Rattle.std.specs.Prelude.{Bool, false, Contains, nat_eq, if◌then◌else◌, slice_get, swap_remove}

@@ -1,4 +1,5 @@
 -- The count of the edges of a vertex.
+-- Notions: IsCounting; counted, counting_fits, counting_goes_on.
 use Rattle.std.proofs.Common.{◌≡◌, ◌≢◌, ◌+◌, ◌<◌, ◌∙◌}
 use Rattle.std.proofs.Common.{ℕ, length, refl, sym, ap, subst, arith, inl, inr}
 use Rattle.std.proofs.lemmas.Bool.{cases_eq, cases_lt}

@@ -1,4 +1,5 @@
 -- A walk round a vertex that looks for an edge.
+-- Notions: IsSearching; search_goes_on.
 use Rattle.std.proofs.Common.{◌≡◌, ℕ, ◌+◌, ◌<◌, sym, ap, ◌∙◌, subst, arith, inl, inr}
 use Rattle.std.proofs.lemmas.Bool.{cases_eq}
 use Rattle.std.proofs.Math.Numerals.{add-one}

@@ -1,4 +1,6 @@
 -- The loop that turns edges of an inner vertex away.
+-- Notions: IsShrinking; still_within, vertices_stay, star_at, shrinking_goes_on, shrinking_from,
+-- shrinking_stops, shrinking_ends.
 use Rattle.std.proofs.Common.{◌≡◌, ◌+◌, ◌-◌, ◌*◌, ◌/◌, ◌<◌, ◌≤◌, [], ◌∷◌, ◌++◌, ◌∙◌}
 use Rattle.std.proofs.Common.{ℕ, suc, List, length, map, sym, ap, subst, arith, inl}
 use Rattle.half_edge_mesh.specs.Mesh.{face, origin}

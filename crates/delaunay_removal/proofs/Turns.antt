@@ -1,4 +1,5 @@
 -- An edge of a vertex between two inner faces may be turned.
+-- Lemmas: may_turn.
 use Rattle.std.proofs.Common.{◌≢◌, ℕ, ◌*◌, ◌/◌, ◌<◌, List, length, refl}
 use Rattle.half_edge_mesh.specs.Mesh.{Mesh, IsValidMesh, origin, prev, face, rev}
 use Rattle.half_edge_mesh.specs.Flip.{IsFlippable}

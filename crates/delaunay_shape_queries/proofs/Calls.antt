@@ -1,4 +1,6 @@
 -- What the calls of a triangulation hand to a search over its mesh, and make of what it gives.
+-- Lemmas: lower_corner, upper_corner, same_corners, same_circle, same_rectangle, kept_in_mesh,
+-- sites_in_mesh, edges_found, vertices_found.
 use Rattle.std.proofs.Common.{◌≡◌, map, sym, subst, arith}
 use Rattle.std.specs.Prelude.{ℤ, All, Result, Ok, Err, IfOk}
 use Rattle.std.specs.Borrow.{Bor}

@@ -1,4 +1,7 @@
 -- Lists of what has a point in a shape, as they grow.
+-- Notions: IsFilteredTo, IsSpreadTo, AreAskedTo; below_other, filter_finds, filter_passes,
+-- none_asked, asked_inside, asked_outside, goes_on_twice, asked_both, spread_more, spread_ends,
+-- ask_first, ask_more, ask_last.
 use Rattle.std.proofs.Common.{◌≡◌, ◌↔◌, ◌+◌, ◌<◌, ◌≤◌, [], ◌∷◌, ◌++◌}
 use Rattle.std.proofs.Common.{ℕ, List, length, get_or, replicate, set, refl}
 use Rattle.std.proofs.Common.{sym, ap, ◌∙◌, subst, arith, append_assoc, length-append, ◌*◌, ◌/◌}

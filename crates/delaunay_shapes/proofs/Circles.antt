@@ -1,4 +1,5 @@
 -- The test of an edge and a circle.
+-- Lemmas: rim_inside, near_answer, near_inside.
 use Rattle.std.proofs.Common.{◌≡◌, [], ◌∷◌, arith}
 use mathlib.Core.Logic.{◌↔◌, inl, inr}
 use mathlib.Core.Bool.{Bool}

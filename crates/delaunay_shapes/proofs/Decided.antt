@@ -1,4 +1,5 @@
 -- What tests on whole numbers decide, and tests made of them.
+-- Lemmas: decides_le, decides_lt, decides_not, decides_or, decides_and, decides_and_4, and_also.
 use Rattle.std.proofs.Common.{◌≡◌, refl, rules}
 use mathlib.Core.Logic.{◌⊎◌, ◌↔◌, inl, inr}
 use mathlib.Core.Bool.{Bool, true, false, not, ◌&&◌, ◌||◌}

@@ -1,4 +1,5 @@
 -- The squared distance to a rectangle is that to the nearest of its points.
+-- Notions: IsNearestIn; nearest_in_range, nearest_value, nearest_distance, nearest_inside.
 use Rattle.std.proofs.Common.{◌≡◌, [], ◌∷◌, refl, sym, subst, arith}
 use mathlib.Core.Logic.{◌↔◌, inl, inr}
 use mathlib.Core.Bool.{Bool, true, false, cond}

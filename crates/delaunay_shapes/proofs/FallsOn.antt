@@ -1,4 +1,5 @@
 -- What the code asks of the fall of a centre on an edge, as it is asked.
+-- Lemmas: falls_told.
 use Rattle.std.proofs.Common.{◌≡◌, sym, subst, w64, to_z, of_z}
 use mathlib.Core.Logic.{◌↔◌}
 use mathlib.Core.Bool.{Bool, true}

@@ -1,4 +1,5 @@
 -- Lists of the edges that a flood begins with.
+-- Lemmas: three_sides, if_ok, if_both.
 use Rattle.std.proofs.Common.{◌≡◌, ℕ, ◌/◌, [], ◌∷◌, arith}
 use Rattle.std.specs.Prelude.{Result, Ok, Err, IfOk}
 use Rattle.half_edge_mesh.specs.Mesh.{Mesh, next, prev}

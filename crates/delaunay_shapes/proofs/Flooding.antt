@@ -1,5 +1,7 @@
 -- A flood over a mesh that has spread is a flood round the triangulation, and has each edge in its
 -- region.
+-- Lemmas: half_of_even, half_of_rev, tiles, below_half, to_half, from_half, half_by_ends,
+-- pair_edge, joined_half, half_joined, joined_by_ends, flooded_around, spread_finds_all.
 use Rattle.std.proofs.Common.{◌≡◌, ◌⊎◌, ◌*◌, ◌/◌, ◌<◌, ◌∙◌}
 use Rattle.std.proofs.Common.{ℕ, List, length, refl, sym, ap, subst, arith, eq-eqb}
 use mathlib.Core.Logic.{inl, inr, ◌≢◌}

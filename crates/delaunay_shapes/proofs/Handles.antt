@@ -1,4 +1,7 @@
 -- What a handle tells, of the mesh and the index that it has.
+-- Lemmas: start_is, end_is, vertex_covered, start_covered, end_covered, edge_told, vertex_told,
+-- after_is, before_is, ends_told, filtered_within, filtered_edges, filtered_vertices, not_asked,
+-- marked_by, found_below, found_fits.
 use Rattle.std.proofs.Common.{◌≡◌, ◌↔◌, ◌*◌, ◌/◌, ◌<◌, ◌≤◌, ◌∙◌}
 use Rattle.std.proofs.Common.{ℕ, List, length, map, get_or, set, sym, ap, subst, arith}
 use mathlib.Core.Bool.{Bool, true, false}

@@ -1,5 +1,7 @@
 -- Lists of what a test says of the numbers below a count: at a number, of a test that none passes,
 -- and with one more. And bits in pages of words, as one more is set.
+-- Lemmas: test_within, none_passes, one_more, no_bit, bit_read, no_word, words_with_more,
+-- one_bit_more, empty_page, one_mark_more, mark_read, no_page.
 use Rattle.std.proofs.Common.{◌≡◌, ◌⊎◌, ◌-◌, ◌*◌, ◌/◌, ◌%◌, ◌^◌, ◌<◌, ◌≤◌, ◌∙◌, [], ◌∷◌, ◌++◌}
 use Rattle.std.proofs.Common.{List, ℕ, length, get_or, set, replicate, refl, sym, ap, subst, eq-eqb}
 use Rattle.std.proofs.Common.{arith, w64}

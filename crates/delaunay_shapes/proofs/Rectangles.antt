@@ -1,4 +1,6 @@
 -- The test of an edge and a rectangle.
+-- Lemmas: decides_reversed, rectangle_answer, sorted_x, sorted_y, rectangle_inside, between_told,
+-- beside_told, start_meets, end_meets.
 use Rattle.std.proofs.Common.{◌≡◌, [], ◌∷◌, refl, subst, arith}
 use mathlib.Core.Logic.{◌↔◌, inl, inr}
 use mathlib.Core.Bool.{Bool, true, false}

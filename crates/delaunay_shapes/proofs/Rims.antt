@@ -1,4 +1,5 @@
 -- The distance of a point from a circle's rim, in numbers of 64 bits.
+-- Lemmas: rim_fits, rim_is.
 use Rattle.std.proofs.Common.{◌≡◌, ap, rules, w64, to_z, of_z, SFits}
 use Rattle.std.specs.Prelude.{ℤ, pos, ◌-ℤ◌, ◌≤ℤ◌}
 use Rattle.std.proofs.lemmas.Int.{ints, to_z-of_z}

@@ -1,4 +1,5 @@
 -- What a search from the start of a shape needs: the shapes' starts, and covered points.
+-- Lemmas: circle_begins, rectangle_begins, region_of_start, all_are.
 use Rattle.std.proofs.Common.{List, refl, get_or}
 use Rattle.std.specs.Prelude.{All, ℤ}
 use Rattle.plane.specs.Fraction.{Point, Fraction}

@@ -1,4 +1,6 @@
 -- Where a flood begins: if any edge has a point in the region, one of those tried first has.
+-- Lemmas: begun_on_edge, begun_on_face, begun_outside, begun_at_vertex, begun_alone,
+-- begun_by_location, begun_by_starts.
 use Rattle.std.proofs.Common.{◌≡◌, ◌↔◌, ◌*◌, ◌/◌, ◌<◌, ◌∙◌}
 use Rattle.std.proofs.Common.{ℕ, List, length, refl, sym, ap, subst, arith, None}
 use mathlib.Core.Logic.{inl, inr, ◌≢◌}

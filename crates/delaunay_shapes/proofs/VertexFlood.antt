@@ -1,4 +1,6 @@
 -- The vertices in a region as those that name one of its edges.
+-- Notions: AreNamedAmong, IsAmongFirst; not_named, not_inside, keeps, named_first, named_more,
+-- named_last, named_below, named_are_all.
 use Rattle.std.proofs.Common.{◌≡◌, ◌⊎◌, ◌+◌, ◌*◌, ◌/◌, ◌<◌, ◌≤◌, [], ◌∷◌, ◌++◌, ◌∙◌}
 use Rattle.std.proofs.Common.{ℕ, List, length, get_or, refl, sym, ap, subst, arith}
 use mathlib.Core.Logic.{inl, inr, ◌≢◌, ◌↔◌}

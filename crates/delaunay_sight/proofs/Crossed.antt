@@ -1,4 +1,6 @@
 -- What the questions about edges say of the items of a segment.
+-- Lemmas: crossed_iff, along_iff, second_decides, not_crossed, iff_through, iff_named,
+-- crossed_within, crossing_item, overlap_item.
 use Rattle.std.proofs.Common.{◌≡◌, ◌⊎◌, ◌<◌, ◌↔◌, ◌∙◌, ℕ, Bool, IsTrue, List, length, map}
 use Rattle.std.proofs.Common.{sym, ap, subst, inl, inr}
 use Rattle.half_edge_mesh.specs.Mesh.{Mesh, origin, rev}

@@ -1,5 +1,7 @@
 -- Whether a position is in a closed free face, by its location; and whether a segment is a line of
 -- sight.
+-- Lemmas: at_vertex_iff, on_edge_iff, in_face_iff, not_outside, not_without, sees_if, sees_start,
+-- sees_end, goes_free, over_line, of_state.
 use Rattle.std.proofs.Common.{◌≡◌, ◌⊎◌, ◌<◌, ◌↔◌, ℕ, Bool, IsTrue, List, length, map}
 use Rattle.std.proofs.Common.{sym, subst, inl, inr}
 use Rattle.std.specs.Prelude.{Contains, All}

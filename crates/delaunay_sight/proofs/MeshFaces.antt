@@ -1,4 +1,5 @@
 -- Free faces of a mesh beside its edges, as faces of the triangulation that it draws.
+-- Lemmas: laid, tiles_with, free_edge, beside_iff, behind_iff.
 use Rattle.std.proofs.Common.{◌≡◌, ◌⊎◌, ◌+◌, ◌-◌, ◌<◌, ◌↔◌, ◌∙◌, ℕ, Bool, IsTrue, List, length}
 use Rattle.std.proofs.Common.{sym, ap, subst, inl, inr, arith}
 use Rattle.std.specs.Prelude.{slice_index_or}

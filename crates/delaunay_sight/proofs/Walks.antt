@@ -1,4 +1,5 @@
 -- What holds of each item of a line, one call after another.
+-- Notions: IsWalking; walking_begins, item_mesh, walking_goes_on, stops_at, walking_ends.
 use Rattle.std.proofs.Common.{◌≡◌, ◌++◌, [], ◌∷◌, ◌∙◌, List, Some, None}
 use Rattle.std.proofs.Common.{refl, sym, ap, subst, append-nil, append_assoc, inl, inr}
 use Rattle.std.specs.Prelude.{ℤ, Contains}

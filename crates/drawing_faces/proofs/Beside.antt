@@ -1,4 +1,6 @@
 -- The faces beside the sides of holes, one item and one side after another.
+-- Notions: AddsPassed; left_append, adds_nothing, adds_more, passed_none, passed_more, passed_all,
+-- beside_append, beside_one, beside_none, beside_more, beside_within, sides_next.
 use Rattle.std.proofs.Common.{◌≡◌, ◌+◌, ◌<◌, ◌≤◌, [], ◌∷◌, ◌++◌, ◌∙◌}
 use Rattle.std.proofs.Common.{ℕ, List, length, map, take, get_or, Some, None, refl, sym, ap, subst}
 use Rattle.std.proofs.Common.{append-nil, append_assoc}

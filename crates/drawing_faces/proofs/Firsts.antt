@@ -1,4 +1,5 @@
 -- First places, found from the end of a list to its front.
+-- Notions: AreFirstsFrom; firsts_more.
 use Rattle.std.proofs.Common.{◌≡◌, ◌≢◌, ◌+◌, ◌<◌, ◌≤◌, ◌∙◌, ◌⊎◌}
 use Rattle.std.proofs.Common.{ℕ, List, length, sym, ap, inl, inr, arith}
 use Rattle.std.specs.Prelude.{slice_index, slice_set}

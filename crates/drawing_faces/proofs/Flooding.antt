@@ -1,4 +1,7 @@
 -- A search for the faces that are reached past no constraint: its beginning, its steps and its end.
+-- Notions: AreBegun; open_across, begun, stays_reached, taken, open_start, open_next, next_within,
+-- all_open, begin_first, begin_more, begin_last, edge_within, next_small, next_entered,
+-- next_keeps, small_face, told_open.
 use Rattle.std.proofs.Common.{◌≡◌, ◌≢◌, ◌⊎◌, ◌+◌, ◌<◌, ◌≤◌, [], ◌∷◌, ◌++◌, ◌∙◌}
 use Rattle.std.proofs.Common.{ℕ, zero, suc, List, length, get_or}
 use Rattle.std.proofs.Common.{refl, sym, ap, subst, inl, inr, arith}

@@ -1,4 +1,5 @@
 -- The faces that points in holes are in, one point after another.
+-- Lemmas: in_more, in_next, all_there.
 use Rattle.std.proofs.Common.{◌+◌, ◌<◌, ◌≤◌, [], ◌∷◌, ◌++◌, ◌∙◌}
 use Rattle.std.proofs.Common.{ℕ, List, length, take, get_or, refl, sym, ap, subst}
 use Rattle.std.proofs.Common.{append-nil, append_assoc}

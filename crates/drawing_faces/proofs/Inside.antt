@@ -1,4 +1,5 @@
 -- The faces of a layer above 0, taken off the front of a list.
+-- Lemmas: inside_ends, inside_kept, inside_left.
 use Rattle.std.proofs.Common.{◌≡◌, ◌≢◌, ◌⊎◌, ◌+◌, ◌<◌, ◌≤◌, [], ◌∷◌, ◌++◌, ◌∙◌}
 use Rattle.std.proofs.Common.{ℕ, true, false, eqb, List, length, drop, get_or, inl, inr, refl, sym, ap, arith}
 use Rattle.std.proofs.Common.{append-nil, append_assoc, length-drop, eq-eqb, if◌then◌else◌}

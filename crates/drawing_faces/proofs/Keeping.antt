@@ -1,4 +1,5 @@
 -- The faces that are kept, by the layers of all faces.
+-- Lemmas: reached_kept, all_of, named_faces.
 use Rattle.std.proofs.Common.{◌≡◌, ◌≢◌, ◌+◌, ◌<◌, [], ◌∷◌, ◌⊎◌}
 use Rattle.std.proofs.Common.{ℕ, suc, List, length, map, drop, get_or, true, false, eqb}
 use Rattle.std.proofs.Common.{refl, sym, ap, subst, inl, inr, arith, eq-eqb, if◌then◌else◌}

@@ -1,5 +1,7 @@
 -- Free edges that are listed, and a face that is entered: it is marked, and its free edges are
 -- listed.
+-- Lemmas: free_one, free_none, free_sides, one_less, stands_at, entered_before, entered_first,
+-- less_work.
 use Rattle.std.proofs.Common.{◌≡◌, ◌≢◌, ◌⊎◌, ◌↔◌, ◌+◌, ◌<◌, ◌≤◌, [], ◌∷◌, ◌++◌, ◌∙◌}
 use Rattle.std.proofs.Common.{ℕ, List, length, get_or, set}
 use Rattle.std.proofs.Common.{refl, sym, ap, subst, inl, inr, arith}

@@ -1,4 +1,5 @@
 -- The faces of a mesh, one after another, by their corners.
+-- Lemmas: rows_by_index, as_faces, name_at, row_more, rows_end, indexes_if, same_indexes.
 use Rattle.std.proofs.Common.{◌≡◌, ◌+◌, ◌-◌, ◌<◌, [], ◌∷◌, ◌++◌, ◌∙◌}
 use Rattle.std.proofs.Common.{ℕ, List, length, map, get_or, refl, sym, ap, arith, append_assoc}
 use Rattle.std.proofs.Common.{append-nil}

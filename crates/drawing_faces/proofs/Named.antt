@@ -1,4 +1,6 @@
 -- The vertices that insertions of a list of points gave, by the places of their points.
+-- Notions: IsAmong; step_from, came_from, one_vertex, has_point, handle_below, handles_below,
+-- named_by_firsts, placed_below, placed_names.
 use Rattle.std.proofs.Common.{◌≡◌, ◌⊎◌, ◌<◌, ◌≤◌, [], ◌∷◌, ◌∙◌}
 use Rattle.std.proofs.Common.{ℕ, suc, List, length, map, get_or, Some}
 use Rattle.std.proofs.Common.{refl, sym, ap, subst, inl, inr, arith}

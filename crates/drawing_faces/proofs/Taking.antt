@@ -1,4 +1,5 @@
 -- Segments that are joined one after another: which are taken, and what they join.
+-- Lemmas: taken_in_turn, same_vertices, added_segments.
 use Rattle.std.proofs.Common.{◌≡◌, ◌⊎◌, ◌↔◌, [], ◌∷◌, ◌∙◌}
 use Rattle.std.proofs.Common.{ℕ, suc, List, map, refl, sym, ap, subst, inl, inr, arith}
 use Rattle.std.specs.Prelude.{Bool, Result, Ok, Err, IfOk, OnOk, All}

@@ -1,4 +1,5 @@
 -- From points and segments to faces: what the steps of a drawing's triangulation give together.
+-- Lemmas: named, handled, taken_first, joined_first.
 use Rattle.std.proofs.Common.{◌≡◌, ◌⊎◌, ◌↔◌, [], ◌∙◌}
 use Rattle.std.proofs.Common.{ℕ, List, map, sym, subst, inl, inr, arith}
 use Rattle.std.specs.Prelude.{ℤ, Bool}

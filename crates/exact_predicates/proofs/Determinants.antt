@@ -1,4 +1,5 @@
 -- The inside of a circle as the code tests it: a positive lifted determinant.
+-- Lemmas: inside_if_positive, determinant_by_angles.
 use Rattle.std.proofs.Common.{◌≡◌, [], ◌∷◌, subst, sym, arith}
 use Rattle.std.specs.Prelude.{ℤ, pos, ◌-ℤ◌, ◌*ℤ◌, ◌<ℤ◌, ◌↔◌, int_lt, IsTrue}
 use Rattle.std.proofs.lemmas.Int.{ints}

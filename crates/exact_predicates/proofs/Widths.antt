@@ -1,5 +1,7 @@
 -- Numbers that fit their width keep their value as they are passed on, and so do sums, differences
 -- and products of them.
+-- Lemmas: kept_is, product_of, sum_of, sum_fits, sum_bound, difference_of, difference_fits,
+-- difference_bound, term_of, long_difference_fits, long_difference_of.
 use Rattle.std.proofs.Common.{◌≡◌, ◌≤◌, arith, w64, to_z, of_z}
 use mir.Syntax.{w128}
 use Rattle.std.specs.Prelude.{ℤ, ◌+ℤ◌, ◌-ℤ◌, ◌*ℤ◌, unsigned_abs}

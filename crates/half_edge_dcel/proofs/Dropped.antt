@@ -1,4 +1,5 @@
 -- The parts of a mesh where a vertex went and the last one took its index.
+-- Notions: renumbered_triangle; edges_dropped, faces_dropped, outline_dropped.
 use Rattle.std.proofs.Common.{◌≡◌, ◌-◌, ◌<◌, ◌≤◌, [], ◌∷◌, ◌∙◌}
 use Rattle.std.proofs.Common.{ℕ, zero, suc, List, length, map, refl, sym, ap, inl, inr, arith}
 use Rattle.std.proofs.lemmas.Bool.{cases_eq}

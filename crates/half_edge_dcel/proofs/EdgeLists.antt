@@ -1,5 +1,7 @@
 -- Data of a mesh that grows: lists of edges with their data, and items that move to the end of a
 -- list.
+-- Lemmas: edges_of-set, length-ends, adds_edges, splits_edge, along-even, moves_item,
+-- moves_two_items.
 use Rattle.std.proofs.Common.{◌≡◌, ◌*◌, ◌%◌, [], ◌∷◌, ◌++◌, ◌∙◌, ◌≢◌}
 use Rattle.std.proofs.Common.{ℕ, zero, suc, List, length, refl, sym, ap, arith, set, get_or, Some}
 use Rattle.std.proofs.Common.{append_assoc}

@@ -1,4 +1,6 @@
 -- Filters of lists where an item gives way to another one, and of lists in another order.
+-- Notions: Contains-filter; filter_gains, filter_loses, filter_stays, filter_all, filter_none,
+-- filter_permutation, sorted_out, items_at, taken_all.
 use Rattle.std.proofs.Common.{◌≡◌, ◌≢◌, ◌<◌, ◌≤◌, [], ◌∷◌, ◌++◌, ◌∙◌}
 use Rattle.std.proofs.Common.{ℕ, zero, suc, Bool, true, false, cond, not, List, length, set, get_or}
 use Rattle.std.proofs.Common.{refl, sym, ap, inl, inr, arith, append_assoc, append-nil}

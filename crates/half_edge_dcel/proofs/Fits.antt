@@ -1,4 +1,6 @@
 -- There are data for each part of a mesh after a change.
+-- Lemmas: length-grown, fits_as, fits_vertex, fits_hung, fits_closed, fits_flipped, fits_inserted,
+-- length_moved, length_moved_two.
 use Rattle.std.proofs.Common.{◌≡◌, ℕ, ◌+◌, List, ◌∷◌, length, arith, set, length-append}
 use Rattle.std.proofs.lemmas.List.{length-set}
 use Rattle.half_edge_links.specs.Mesh.{Mesh, with_vertex}

@@ -1,4 +1,5 @@
 -- A vertex whose edges but three were turned away from it loses these, and the hole is filled.
+-- Lemmas: edges_miss, faces_miss, hole_filled, hole_filled_by, fan_of_three.
 use Rattle.std.proofs.Common.{◌≡◌, ◌≢◌, ◌+◌, ◌-◌, ◌*◌, ◌<◌, [], ◌∷◌, ◌++◌, ◌∙◌}
 use Rattle.std.proofs.Common.{ℕ, zero, suc, true, false, List, length, get_or, refl, sym, ap, inl}
 use Rattle.std.proofs.Common.{arith, subst, Option, Some, None}

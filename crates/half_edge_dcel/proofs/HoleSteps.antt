@@ -1,4 +1,6 @@
 -- An inner vertex with three faces loses them and its edges, and one face takes their place.
+-- Lemmas: first_face, third_face, first_peelable, second_peelable, pendant_within,
+-- pendant_removable, border_open, has_room, collapsed.
 use Rattle.std.proofs.Common.{◌≡◌, ◌+◌, ◌<◌, ◌≤◌, [], ◌∷◌, ◌++◌, ◌∙◌}
 use Rattle.std.proofs.Common.{ℕ, List, length, refl, sym, ap, inr, arith, subst}
 use Rattle.std.specs.Prelude.{ℤ, pos}

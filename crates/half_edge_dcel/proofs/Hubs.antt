@@ -1,5 +1,8 @@
 -- A vertex with inner faces all round: what turning one of its edges away from it leaves, and the
 -- faces at it, those between its neighbours and no others.
+-- Lemmas: turnable, turn_corners, first_again, spokes_apart, twin_is, can_turn, spokes_after,
+-- start_after, ends_after, tip_after, hub_after, count_faces, no_face_of, round_faces,
+-- round_faces_are, faces_round.
 use Rattle.std.proofs.Common.{◌≡◌, ◌≢◌, ◌-◌, ◌<◌, ◌≤◌, ◌∙◌}
 use Rattle.std.proofs.Common.{ℕ, zero, suc, true, false, List, length, get_or, refl, sym, ap, inl}
 use Rattle.std.proofs.Common.{inr, arith, subst}

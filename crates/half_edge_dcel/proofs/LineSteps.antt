@@ -1,4 +1,6 @@
 -- A vertex of a line loses its edges.
+-- Lemmas: alone_after, after_turn, passable, removable_end, removable_hanging, are_joined,
+-- outer_joined, no_inner_face, end_left, middle_left.
 use Rattle.std.proofs.Common.{◌≡◌, ◌≢◌, ◌⊎◌, ◌+◌, ◌*◌, ◌/◌, ◌%◌, ◌<◌, [], ◌∷◌, ◌∙◌}
 use Rattle.std.proofs.Common.{ℕ, List, length, set, get_or, None, sym, ap, inl, inr, arith, map}
 use Rattle.std.proofs.lemmas.Bool.{cases_eq}

@@ -1,5 +1,8 @@
 -- How the outer edges change where edges and faces go: the two directions of each edge are the
 -- sides of the faces and the outer edges.
+-- Notions: edge_ends; total-permutation, total-append, total_full_edges, total_full_faces,
+-- either_way, any_corner, total_lost_faces, outer_sum, total_edges, total_faces, ends_sum,
+-- corners_sum.
 use Rattle.std.proofs.Common.{◌≡◌, ◌*◌, ◌<◌, [], ◌∷◌, ◌++◌, ◌∙◌}
 use Rattle.std.proofs.Common.{ℕ, zero, suc, List, length, set, get_or, refl, sym, ap, inl, inr}
 use Rattle.std.proofs.Common.{arith}

@@ -1,4 +1,6 @@
 -- A vertex without edges changes no outer edge and no face; the list of outer edges, edge by edge.
+-- Lemmas: outer_changes, keeps_outer, edge_into_kept, empty_list, no_faces, no_faces_hung, listed,
+-- passed_over.
 use Rattle.std.proofs.Common.{◌≡◌, ◌<◌, [], ◌∷◌, ◌++◌}
 use Rattle.std.proofs.Common.{ℕ, zero, suc, List, length, get_or, Option, None, refl, ap, inl, inr}
 use Rattle.std.proofs.Common.{arith}

@@ -1,4 +1,7 @@
 -- A vertex on the hull loses its faces one by one.
+-- Notions: IsStripped; same_but, same_but_faces, same_but_edges, one_more_gone, none_gone,
+-- stripped_none, stripped_next, strip_sum, stripped_inner, stripped_peelable, stripped_removable,
+-- strip_lost.
 use Rattle.std.proofs.Common.{◌≡◌, ◌+◌, ◌<◌, ◌≤◌, [], ◌∷◌, ◌++◌, ◌∙◌}
 use Rattle.std.proofs.Common.{ℕ, zero, suc, List, refl, sym, ap, inr, arith}
 use Rattle.std.specs.Prelude.{ℤ, pos, ◌+ℤ◌}

@@ -1,4 +1,6 @@
 -- Edges and faces with their data where one of them goes.
+-- Lemmas: listed_ends, between, takes_edge, loses_edge, named_corners, listed_face, gives_face,
+-- loses_face_at.
 use Rattle.std.proofs.Common.{◌≡◌, ◌+◌, ◌-◌, ◌*◌, ◌/◌, ◌%◌, ◌<◌, [], ◌∷◌, ◌++◌, ◌∙◌}
 use Rattle.std.proofs.Common.{ℕ, List, length, get_or, refl, sym, ap, inl, inr, arith}
 use Rattle.std.proofs.lemmas.Bool.{cases_eq}

@@ -1,5 +1,8 @@
 -- An item goes from a list and the last one takes its place, also in lists of edges and faces with
 -- their data.
+-- Notions: full_edge, full_face; takes_out, permuted, taken_item, length-full_edges,
+-- get_or-full_edges, full_edges_taken, length-full_faces, get_or-full_faces, full_faces_taken,
+-- full_faces-append.
 use Rattle.std.proofs.Common.{◌≡◌, ◌+◌, ◌-◌, ◌*◌, ◌<◌, [], ◌∷◌, ◌++◌, ◌∙◌}
 use Rattle.std.proofs.Common.{ℕ, zero, suc, List, length, get_or, refl, sym, ap, inl, inr, arith}
 use Rattle.std.proofs.lemmas.Bool.{cases_eq}

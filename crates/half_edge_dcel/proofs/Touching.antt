@@ -1,5 +1,8 @@
 -- The edges and faces at a vertex, told by their numbers, and lists of them where one gets other
 -- ends or corners.
+-- Notions: misses, lacks_corner; has_corner, touches, touches_it, touches_not, ends_off,
+-- corner_there, corner_missing, corners_off, which_corner, with_other_ends, full_edges-set,
+-- with_other_corners, full_faces-set, along_between.
 use Rattle.std.proofs.Common.{◌≡◌, ◌≢◌, ◌⊎◌, ◌*◌, ◌%◌, ◌<◌, ◌==◌, if◌then◌else◌, [], ◌∷◌, ◌∙◌}
 use Rattle.std.proofs.Common.{ℕ, zero, suc, Bool, true, false, not, List, length, set, get_or, refl}
 use Rattle.std.proofs.Common.{ap, inl, inr, arith}

@@ -1,5 +1,8 @@
 -- Edges of an inner vertex are turned away from it, one after the other, and what that makes of the
 -- lists of edges and faces.
+-- Notions: HasTurned; gone_edge, gone_between, come_edge, come_between, come_data, edges_lose,
+-- edges_gain, come_face, come_corners, faces_gain, come_at, fewer_there, turned_none, value_at,
+-- turned_next, turned_first, turned_second, turned_corners, turned_wheel.
 use Rattle.std.proofs.Common.{◌≡◌, ◌≢◌, ◌-◌, ◌/◌, ◌<◌, ◌≤◌, ◌∷◌, ◌∙◌, ◌+◌, [], ◌++◌}
 use Rattle.std.proofs.Common.{ℕ, zero, suc, true, false, not, List, length, set, get_or, refl, sym}
 use Rattle.std.proofs.Common.{ap, inl, inr, arith, subst}

@@ -1,4 +1,5 @@
 -- A list that is turned into another one, item by item.
+-- Notions: MapsSoFar; all_zip-push, maps_begins, maps_goes_on, maps_ends, fewer_made.
 use Rattle.std.proofs.Common.{◌≡◌, ◌<◌, [], ◌∷◌, ◌++◌, ◌∙◌}
 use Rattle.std.proofs.Common.{List, length, sym, ap, arith, append_assoc, append-nil, length-append}
 use Rattle.std.specs.List.{AllZip}

@@ -1,4 +1,6 @@
 -- One step of an iterator over indexes.
+-- Lemmas: range_step, fewer_after, map_range_step, range_last, fewer_before, range_below,
+-- range_len, rest_below.
 use Rattle.std.proofs.Common.{◌≡◌, ◌+◌, ◌-◌, ◌<◌, ◌≤◌, ◌∷◌, [], ◌++◌}
 use Rattle.std.proofs.Common.{ℕ, List, zero, suc, length, map, All, refl, ap, arith}
 use Rattle.std.specs.List.{range_with_len}

@@ -1,4 +1,5 @@
 -- The mesh that a value of `Links` holds.
+-- Notions: mesh_in.
 use Rattle.half_edge_links.specs.declared.links.Links.TheInside.{Inside}
 use Rattle.half_edge_links.specs.EdgeList.{shown}
 use Rattle.half_edge_links.specs.Mesh.{Mesh}

@@ -1,4 +1,5 @@
 -- Rounds that are taken from behind.
+-- Lemmas: round_before, loop_before.
 use Rattle.std.proofs.Common.{◌≡◌, ◌-◌, ◌<◌, ◌==◌, if◌then◌else◌, ◌∙◌, ℕ, length, ap, subst}
 use Rattle.half_edge_links.specs.Mesh.{Mesh, IsValidMesh, next, prev, rev}
 use Rattle.half_edge_links.specs.Peel.{turn}

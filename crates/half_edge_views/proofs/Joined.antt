@@ -1,4 +1,6 @@
 -- The search for an edge round a vertex.
+-- Lemmas: turned_spoke, turned_end, spoke-within, spoke-starts, missed_more, missed_all,
+-- none_joined.
 use Rattle.std.proofs.Common.{◌≡◌, ◌≢◌, ◌+◌, ◌-◌, ◌<◌, ◌≤◌, ◌∙◌}
 use Rattle.std.proofs.Common.{ℕ, zero, suc, length, Some, sym, ap, inl, inr, arith}
 use Rattle.std.proofs.lemmas.Bool.{cases_lt}

@@ -1,4 +1,5 @@
 -- The lists of the edges of a vertex and of the outer loop.
+-- Lemmas: round_fits, gives_round, gives_loop, round_begins, loop_begins.
 use Rattle.std.proofs.Common.{◌≡◌, ◌≢◌, ◌⊎◌, ◌+◌, ◌-◌, ◌<◌, ◌≤◌, ◌∙◌}
 use Rattle.std.proofs.Common.{ℕ, zero, suc, length, Some, None, sym, ap, inl, inr, arith}
 use Rattle.std.specs.Borrow.{Bor}

@@ -1,4 +1,5 @@
 -- The edges that a mesh names are edges of it.
+-- Lemmas: out_edge-within, outer_edge-within.
 use Rattle.std.proofs.Common.{◌≡◌, ℕ, ◌<◌, length, Some}
 use Rattle.half_edge_links.specs.Mesh.{out_edge}
 use Rattle.half_edge_dcel.specs.Contents.{Contents, IsMeshWithData}

@@ -1,4 +1,5 @@
 -- Names taken from either end of a list.
+-- Lemmas: row_below, rest_holds, front_holds, length_each.
 use Rattle.std.proofs.Common.{◌≡◌, ◌+◌, ◌<◌, ◌≤◌}
 use Rattle.std.proofs.Common.{ℕ, List, length, Option, None, Some, All, sym, subst, arith}
 use Rattle.std.specs.List.{range_with_len}

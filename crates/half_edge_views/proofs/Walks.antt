@@ -1,4 +1,6 @@
 -- Walks that come back to their start.
+-- Notions: Undoes, EndsBefore; map_walk_step, walk_left_is, none_left, ended, walk_goes_on,
+-- less_is_left, ending_goes_on, ends_before, comes_round, walk-list.
 use Rattle.std.proofs.Common.{◌≡◌, ◌≢◌, ◌+◌, ◌-◌, ◌<◌, ◌≤◌, ◌==◌, if◌then◌else◌, [], ◌∷◌, ◌++◌}
 use Rattle.std.proofs.Common.{◌∙◌, ℕ, zero, suc, true, false, List, length, map, refl, sym, ap}
 use Rattle.std.proofs.Common.{inl, inr, arith}

@@ -1,4 +1,5 @@
 -- The positions of a layer's vertices after an insertion or a removal, and in a copy.
+-- Lemmas: at_most_with, inserted_at_most, removed_at_most, copied.
 use Rattle.std.proofs.Common.{◌≡◌, ◌∙◌, ◌⊎◌, [], ◌∷◌, ◌++◌}
 use Rattle.std.proofs.Common.{ℕ, List, map, refl, sym, ap, subst, inl, inr}
 use Rattle.std.specs.Prelude.{Contains, Result, Ok, Err, IfOk, OnErr}

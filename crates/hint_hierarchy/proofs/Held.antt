@@ -1,4 +1,7 @@
 -- What layers hold after one of them changed, and after one was added or dropped.
+-- Notions: IsVacantBelow; all_from_each, nothing_contained, sites_with, sites_or, with_then_with,
+-- all_from_held, held_from_all, held_at, held_after_set, held_since, sites_at, vacant_if_all,
+-- vacant_one_more, held_in_first, pushed_within.
 use Rattle.std.proofs.Common.{
   ◌≡◌,
   ◌∙◌,

@@ -1,4 +1,5 @@
 -- What a hierarchy holds when it is made from positions, and a copy of a layer.
+-- Lemmas: element_is_listed, of_then_with, sites_of, same_place.
 use Rattle.std.proofs.Common.{◌≡◌, ◌∙◌, ℕ, ◌<◌, ℤ, List, length, map, get_or, sym, ap, subst, arith}
 use mathlib.Core.Logic.{⊎_elim}
 use Rattle.std.specs.Prelude.{All, Contains}

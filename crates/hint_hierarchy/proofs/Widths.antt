@@ -1,4 +1,5 @@
 -- The squared distance of points in range fits its width.
+-- Lemmas: square_fits, squares_fit.
 use Rattle.std.proofs.Common.{◌≡◌, ◌≤◌, arith, w32, w64, to_z, of_z}
 use Rattle.std.specs.Prelude.{ℤ, ◌+ℤ◌, ◌-ℤ◌, ◌*ℤ◌, unsigned_abs}
 use Rattle.std.specs.Int.RustNames.{FitsSigned}

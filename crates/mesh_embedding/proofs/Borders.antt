@@ -1,5 +1,6 @@
 -- The sides opposite a vertex, as the mesh's calls ask for them: round three faces, and along a
 -- strip on the hull.
+-- Lemmas: border_of_wheel, opposite_of_strip.
 use Rattle.std.proofs.Common.{◌≡◌, ◌<◌, [], ◌∷◌, ◌∙◌}
 use Rattle.std.proofs.Common.{ℕ, zero, suc, List, length, sym, ap, subst, arith}
 use Rattle.std.specs.Prelude.{slice_index}

@@ -1,4 +1,6 @@
 -- The directed edges of a mesh and the pairs of vertices that its edges join.
+-- Notions: Contains-map, Contains-map_from; rev_of_even, rev_of_odd, half_of_even, half_of_odd,
+-- no_joins, starts_within, edge_joins, joins_edge.
 use Rattle.std.proofs.Common.{◌≡◌, ◌≢◌, ◌⊎◌, ◌+◌, ◌*◌, ◌/◌, ◌%◌, ◌<◌, ◌∙◌, []}
 use Rattle.std.proofs.Common.{ℕ, List, length, map, get_or, refl, sym, ap, inl, inr, arith, subst}
 use Rattle.std.specs.Prelude.{Contains}

@@ -1,4 +1,5 @@
 -- Optional values, entries of lists, and lists of indexes.
+-- Lemmas: not_some, one_value, some_entry, index_listed.
 use Rattle.std.proofs.Common.{◌≡◌, ◌+◌, ◌<◌, [], ◌∷◌, ◌∙◌}
 use Rattle.std.proofs.Common.{ℕ, List, length, Option, Some, None, IsSome, arith}
 use Rattle.std.specs.Prelude.{Contains}

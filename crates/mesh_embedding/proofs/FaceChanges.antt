@@ -1,5 +1,8 @@
 -- The faces of a mesh as triples of vertices: the face of a directed edge, and how a list with some
 -- faces written anew has changed.
+-- Notions: face_at; one_written, two_written, two_set, set_has, sets_have, sets_have_last,
+-- contains_map, length_map, face_within, listed_face, is_face_at, turned_faces, come_of,
+-- total_faces, face_listed.
 use Rattle.std.proofs.Common.{◌≡◌, ◌⊎◌, ◌<◌, ◌-◌, [], ◌∷◌, ◌++◌, ◌∙◌}
 use Rattle.std.proofs.Common.{ℕ, zero, suc, List, length, map, set, get_or, refl, sym, ap, subst}
 use Rattle.std.proofs.Common.{arith, length-set, get_or-set_same, get_or-set_other}

@@ -1,5 +1,6 @@
 -- A change of faces, from permutations of faces with their data; changes of faces one after the
 -- other.
+-- Lemmas: faces_lost, hole_filled, change_as, both_changes.
 use Rattle.std.proofs.Common.{◌≡◌, ◌⊎◌, [], ◌∷◌, ◌++◌, ◌∙◌}
 use Rattle.std.proofs.Common.{ℕ, List, map, refl, sym, ap, subst, arith}
 use mathlib.Core.Logic.{inl, inr, ◌≢◌}

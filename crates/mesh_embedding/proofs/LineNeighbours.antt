@@ -1,5 +1,7 @@
 -- Neighbours on a line: a vertex with none is the only one, none has three, no three are neighbours
 -- of one another, and two with no further ones are all.
+-- Notions: HaveOwnHeights; spot, own_spots, below_edge, one_above, lone_vertex, lone_vertex_goes,
+-- apart_neighbours, two_neighbours, only_pair.
 use Rattle.std.proofs.Common.{◌≡◌, ◌⊎◌, ℕ, ◌<◌, List, length, sym, ap, subst, arith}
 use mathlib.Core.Logic.{inl, inr, ◌≢◌}
 use Rattle.std.specs.Prelude.{ℤ, pos, ◌-ℤ◌, ◌<ℤ◌, Contains}

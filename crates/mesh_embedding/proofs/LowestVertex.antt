@@ -1,4 +1,5 @@
 -- Where an outer edge comes down to a vertex and the next one goes up, the vertex is lowest.
+-- Lemmas: turns_at_lowest.
 use Rattle.std.proofs.Common.{◌≡◌, ◌⊎◌, ℕ, ◌<◌, List, arith}
 use mathlib.Core.Logic.{inl, inr, ◌≢◌}
 use Rattle.std.specs.Prelude.{ℤ, pos, ◌+ℤ◌, ◌-ℤ◌, ◌*ℤ◌, ◌<ℤ◌, ◌≤ℤ◌, Contains}

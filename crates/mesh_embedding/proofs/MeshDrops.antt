@@ -1,5 +1,7 @@
 -- A vertex without edges goes, and the last one takes its index: in the faces and the outer edges,
 -- the points and the plain state.
+-- Lemmas: alone_has_none, mapped_twice, whole_faces, index_within, dropped_on_line, dropped,
+-- dropped_faces, removes_vertex.
 use Rattle.std.proofs.Common.{◌≡◌, ◌<◌, ◌-◌, [], ◌∷◌, ◌∙◌}
 use Rattle.std.proofs.Common.{ℕ, List, length, map, refl, sym, ap, subst}
 use Rattle.std.proofs.Common.{arith}

@@ -1,4 +1,7 @@
 -- What each change of a mesh makes of its faces, and that it keeps a mesh local.
+-- Lemmas: inserted_faces, half_split_faces, added_faces, two_places, start_of_twin, end_of_twin,
+-- split_faces, flipped_faces, face_behind, face_before, insertion_inside, insertion_within_side,
+-- insertion_within_outer, flip_kept_by.
 use Rattle.std.proofs.Common.{◌≡◌, ◌<◌, ◌-◌, [], ◌∷◌, ◌++◌, ◌∙◌}
 use Rattle.std.proofs.Common.{ℕ, List, length, set, get_or, sym, ap, subst, arith}
 use mathlib.Core.Logic.{inl, ◌≢◌}

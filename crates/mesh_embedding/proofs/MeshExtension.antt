@@ -1,5 +1,7 @@
 -- A vertex outside the hull is joined to one outer edge of a mesh after another, by changes of the
 -- mesh.
+-- Lemmas: ends_below, from_new, to_new, mesh_extension_goes_on, mesh_extension_goes_back,
+-- mesh_extension_ends.
 use Rattle.std.proofs.Common.{◌≡◌, ◌⊎◌, ◌<◌, [], ◌∷◌, ◌++◌, ◌∙◌}
 use Rattle.std.proofs.Common.{ℕ, List, length, refl, sym, ap, subst, arith}
 use mathlib.Core.Logic.{inl, inr}

@@ -1,5 +1,6 @@
 -- A vertex on the hull of a mesh goes: at a corner its faces go, on a flat side its two faces
 -- become one.
+-- Notions: IsLeftWithout; strip_outer, corner_cut, flat_vertex_goes.
 use Rattle.std.proofs.Common.{◌≡◌, ◌<◌, ◌≤◌, [], ◌∷◌, ◌∙◌}
 use Rattle.std.proofs.Common.{ℕ, zero, suc, List, length, map, refl, sym, ap, subst, arith}
 use mathlib.Core.Logic.{inl, inr, ◌≢◌}

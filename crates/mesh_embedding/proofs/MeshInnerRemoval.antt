@@ -1,5 +1,6 @@
 -- An inner vertex of a mesh goes: its three faces become one, or its four faces two where it is
 -- strictly between two opposite neighbours.
+-- Lemmas: outer_then, three_faces_go, four_faces_go.
 use Rattle.std.proofs.Common.{◌≡◌, ◌⊎◌, ℕ, List, [], ◌∷◌, refl, sym, ap, ◌∙◌, subst, arith}
 use mathlib.Core.Logic.{inl, inr, ◌≢◌}
 use Rattle.std.specs.Prelude.{ℤ, pos, ◌+ℤ◌, Contains}

@@ -1,5 +1,10 @@
 -- One step of the legalising of a mesh: an edge that passes is dropped, one that fails is turned
 -- and leaves the four edges round it.
+-- Notions: IsListedEdge; joins_edge, joins_directed, listed_edge, no_outer_face, two_faces,
+-- between_inner, line_has_none, local_of, none_or_some, dropped, can_turn, flip_is_local,
+-- apart_corners, volume_falls, pairs_stay, has_local, turned, one_more_flip, begins, few_flips,
+-- indexes_kept, own_indexes, few_edges, room_for_one, fewer_after_flip, gains_edges, gains_round,
+-- gains_last, gains_none.
 use Rattle.std.proofs.Common.{◌≡◌, ◌⊎◌, ◌↔◌, ◌+◌, ◌-◌, ◌*◌, ◌/◌, ◌<◌, ◌≤◌, [], ◌∷◌, ◌++◌, ◌∙◌}
 use Rattle.std.proofs.Common.{ℕ, suc, List, length, refl, sym, ap, subst, arith}
 use mathlib.Core.Logic.{inl, inr, ◌≢◌}

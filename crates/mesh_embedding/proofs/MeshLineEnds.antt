@@ -1,4 +1,5 @@
 -- A vertex of a line has at most two edges, and an edge that is joined to no other is the only one.
+-- Lemmas: only_edge, is_outer, line_has_few_edges.
 use Rattle.std.proofs.Common.{◌≡◌, ◌⊎◌, ◌<◌, ◌+◌, [], ◌∙◌}
 use Rattle.std.proofs.Common.{ℕ, List, length, refl, sym, ap, subst, arith}
 use mathlib.Core.Bool.{true}

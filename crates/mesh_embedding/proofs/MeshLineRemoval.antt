@@ -1,4 +1,5 @@
 -- A vertex leaves a line: an end, one from between two neighbours, or the only one.
+-- Lemmas: first_of, second_of, line_left, line_removed.
 use Rattle.std.proofs.Common.{◌≡◌, ◌⊎◌, ◌<◌, [], ◌∷◌, ◌∙◌}
 use Rattle.std.proofs.Common.{ℕ, List, length, map, refl, sym, ap, subst, arith}
 use mathlib.Core.Logic.{inl, inr, ◌≢◌}

@@ -1,5 +1,6 @@
 -- A mesh of one line: a vertex past an end and a vertex between two neighbours, by changes of the
 -- mesh.
+-- Lemmas: outer_joined, line_extended, outer_split, line_split_at.
 use Rattle.std.proofs.Common.{◌≡◌, ◌⊎◌, ◌<◌, ◌+◌, [], ◌∷◌, ◌++◌, ◌∙◌}
 use Rattle.std.proofs.Common.{ℕ, List, length, refl, sym, ap, subst, arith}
 use mathlib.Core.Logic.{inl, inr, ◌≢◌}

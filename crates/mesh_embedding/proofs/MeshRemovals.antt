@@ -1,5 +1,6 @@
 -- A vertex that has lost its edges goes, and the last one takes its index: what is left is a mesh
 -- of the other points.
+-- Lemmas: vertex_goes, vertex_goes_to_line, plain_removes, line_plain_removes.
 use Rattle.std.proofs.Common.{◌≡◌, ℕ, List, [], map, sym, ap, subst}
 use Rattle.half_edge_mesh.specs.Contents.{Contents, IsMeshWithData}
 use Rattle.half_edge_mesh.specs.Removal.{DropsVertex, LeavesMesh}

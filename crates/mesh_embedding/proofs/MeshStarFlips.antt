@@ -1,4 +1,6 @@
 -- An edge of a mesh at a vertex is turned: its star in the plane, and what is left of it.
+-- Lemmas: from_other_side, spoke_flippable, twin_flippable, can_turn_spoke, spoke_turned,
+-- star_flip, star_flip_local, one_neighbour_less, one_hull_neighbour_less.
 use Rattle.std.proofs.Common.{◌≡◌, ◌<◌, ◌≤◌, ◌-◌, ◌*◌, ◌/◌, [], ◌∷◌, ◌∙◌}
 use Rattle.std.proofs.Common.{ℕ, suc, List, length, refl, sym, ap, subst, arith}
 use mathlib.Core.Logic.{inl, inr, ◌≢◌}

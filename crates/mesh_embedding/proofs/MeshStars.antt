@@ -1,5 +1,7 @@
 -- The round of a vertex in a mesh is its star in the plane: inside the hull all the way round, on
 -- the hull from one outer edge to the other.
+-- Notions: IsEdgeOfFace, last; edge_of_face, pairs_once, spoke_face, face_spoke, neighbours_apart,
+-- inner_star, hull_strip, hull_star, vertex_has_edge.
 use Rattle.std.proofs.Common.{◌≡◌, ◌⊎◌, ◌<◌, ◌+◌, ◌-◌, ◌∙◌}
 use Rattle.std.proofs.Common.{ℕ, zero, suc, List, length, get_or, refl, sym, ap, subst, arith}
 use Rattle.std.proofs.Common.{zero-add}

@@ -1,4 +1,7 @@
 -- Each edge and face of a mesh has one index, and keeps it while other edges are turned.
+-- Lemmas: slice_get-set_other, halved, half_same, same_pair_on, same_pair_back, one_way,
+-- neighbours_differ, one_face, face_there, turned_back, edges_once, keeps_indexes, stays_none,
+-- stays_turned.
 use Rattle.std.proofs.Common.{◌≡◌, ◌⊎◌, ◌+◌, ◌-◌, ◌*◌, ◌/◌, ◌<◌, [], ◌∙◌}
 use Rattle.std.proofs.Common.{ℕ, suc, List, length, get_or, set, refl, sym, ap, subst, Some, arith}
 use mathlib.Core.Logic.{inl, inr, ◌≢◌}

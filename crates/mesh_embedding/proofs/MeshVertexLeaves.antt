@@ -1,5 +1,7 @@
 -- A vertex loses its edges, by the round that the mesh gives of it: inside the hull with three
 -- faces or four, on the hull at a corner or on a flat side.
+-- Lemmas: leaves_three, inner_choice, four_turned, leaves_four, leaves_corner, leaves_to_line,
+-- flat_turned, leaves_flat.
 use Rattle.std.proofs.Common.{◌≡◌, ◌⊎◌, ◌<◌, ◌≤◌, ◌-◌, ◌*◌, ◌/◌, [], ◌∙◌}
 use Rattle.std.proofs.Common.{ℕ, suc, List, sym, subst, arith}
 use mathlib.Core.Logic.{inl, inr, ◌≢◌}

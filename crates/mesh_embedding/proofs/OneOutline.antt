@@ -1,5 +1,6 @@
 -- The outer edges of a mesh of points are one loop: each loop turns up at the lowest vertex, which
 -- one of them leaves.
+-- Lemmas: one_outline.
 use Rattle.std.proofs.Common.{ℕ, List, length, sym, subst}
 use mathlib.Core.Logic.{inl, inr}
 use Rattle.std.specs.Prelude.{ℤ, Contains}

@@ -1,4 +1,5 @@
 -- How each change of a mesh changes its outer edges as pairs of vertices.
+-- Lemmas: two_pairs, own_ends, outer_kept, outer_replaced, outer_closed.
 use Rattle.std.proofs.Common.{◌≡◌, ◌⊎◌, ◌<◌, ◌+◌, [], ◌∷◌, ◌∙◌}
 use Rattle.std.proofs.Common.{ℕ, length, refl, sym, ap, subst, arith}
 use mathlib.Core.Logic.{inl, inr, ◌≢◌}

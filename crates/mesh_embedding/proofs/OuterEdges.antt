@@ -1,5 +1,7 @@
 -- The outer edges of a mesh as pairs of vertices: where each comes from, and how a change of
 -- directed edges changes them.
+-- Notions: ends_at, GoneAreListed, GoneAreReal, MadeAreListed, MadeAreReal, AreMadeOnce,
+-- AreMadeFresh, IsPairs; listed, real, one_edge, each_once, changed_pairs.
 use Rattle.std.proofs.Common.{◌≡◌, ◌⊎◌, ◌<◌, ◌∷◌, ◌==◌, if◌then◌else◌, ◌∙◌}
 use Rattle.std.proofs.Common.{ℕ, zero, suc, List, length, map, false, refl, sym, ap, subst, arith}
 use mathlib.Core.Logic.{inl, inr, ◌≢◌}

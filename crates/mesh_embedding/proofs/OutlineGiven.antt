@@ -1,5 +1,7 @@
 -- The outer edges of a mesh with one outline, as an iterator along it gives them: each once, and
 -- after each its next one.
+-- Notions: IsOutlineList, indexes, IsGoingAlong; outline_given, along_begins, along_next,
+-- along_goes_on, along_ends.
 use Rattle.std.proofs.Common.{◌≡◌, ◌⊎◌, ◌+◌, ◌%◌, ◌<◌, [], ◌∷◌}
 use Rattle.std.proofs.Common.{ℕ, suc, List, length, map, Option, Some, None, refl}
 use Rattle.std.proofs.Common.{sym, ap, ◌∙◌, subst, inl, inr, arith}

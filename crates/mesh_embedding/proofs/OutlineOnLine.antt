@@ -1,4 +1,5 @@
 -- The outer edges of a mesh of points on one line are one loop: it turns up at one end of the line.
+-- Lemmas: line_outline.
 use Rattle.std.proofs.Common.{◌≡◌, ℕ, ◌<◌, List, [], length, sym, ap, ◌∙◌, subst}
 use mathlib.Core.Logic.{inl, inr, ◌≢◌}
 use Rattle.std.specs.Prelude.{ℤ, ◌<ℤ◌, Contains}

@@ -1,5 +1,7 @@
 -- Loops of outer edges, by heights: where each loop turns up at a vertex that one outer edge
 -- leaves, there is one loop.
+-- Notions: IsOut, end, TurnsUp, HasOneLow, IsLowest; next_out, outline_by_low, out_edge, out_pair,
+-- same_ends, same_low.
 use Rattle.std.proofs.Common.{◌≡◌, ◌+◌, ◌-◌, ◌<◌, ◌≤◌, ◌∙◌}
 use Rattle.std.proofs.Common.{ℕ, zero, suc, length, Bool, true, refl, sym, ap, subst}
 use Rattle.std.proofs.Common.{arith}

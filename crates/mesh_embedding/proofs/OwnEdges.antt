@@ -1,5 +1,6 @@
 -- The two ways of each edge of a mesh are the sides of its faces and its outer edges, as the plane
 -- reads them.
+-- Lemmas: total-read, total-map, own_edges.
 use Rattle.std.proofs.Common.{◌≡◌, List, [], ◌∷◌, map, refl, sym, ◌∙◌}
 use Rattle.std.specs.Prelude.{ℤ, ◌+ℤ◌}
 use Rattle.half_edge_mesh.specs.Mesh.{Mesh, IsValidMesh}

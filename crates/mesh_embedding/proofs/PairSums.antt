@@ -1,4 +1,6 @@
 -- A change of outer edges, from sums over them: each pair is counted.
+-- Notions: HaveNoneIn, SumsChange; times, gone_there, still_there, must_go, sums_change,
+-- outer_sums.
 use Rattle.std.proofs.Common.{◌≡◌, ◌⊎◌, ℕ, List, map, get_or, sym, ap, ◌∙◌, subst, arith}
 use mathlib.Core.Logic.{inl, inr}
 use Rattle.std.specs.Prelude.{ℤ, pos, ◌+ℤ◌, ◌≤ℤ◌, ◌<ℤ◌, Contains}

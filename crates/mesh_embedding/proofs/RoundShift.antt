@@ -1,4 +1,5 @@
 -- The round of a vertex read from another of its edges, and places on a round below its length.
+-- Lemmas: place_below, three_below, spoke_shift, neighbour_shift, round_from.
 use Rattle.std.proofs.Common.{◌≡◌, ◌<◌, ◌+◌, ◌*◌, ◌-◌, ◌∙◌}
 use Rattle.std.proofs.Common.{ℕ, zero, suc, length, refl, sym, ap, subst, arith}
 use mathlib.Core.Logic.{inl, inr, ◌≢◌}

@@ -1,5 +1,8 @@
 -- An edge at a vertex is turned: of four faces round the vertex three are left, of two on the hull
 -- one.
+-- Notions: TurnsAway; turns_away, neighbour_other, first_turn, first_inner, other_turn,
+-- other_face, other_next, same_end, same_start, first_end, second_end, wheel_left, third_end,
+-- again_end, strip_left, wheel_of_three.
 use Rattle.std.proofs.Common.{◌≡◌, ℕ, zero, suc, ◌<◌, ◌*◌, ◌/◌, length, sym, ap, ◌∙◌, subst, arith}
 use mathlib.Core.Logic.{inl, inr, ◌≢◌}
 use Rattle.half_edge_links.specs.declared.records.HalfEdge.{HalfEdge}

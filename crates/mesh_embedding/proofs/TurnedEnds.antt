@@ -1,4 +1,5 @@
 -- Where directed edges start and end, before and after one edge is turned.
+-- Notions: KeepsOtherOrigins; other_ends_stay, ends_at_next.
 use Rattle.std.proofs.Common.{◌≡◌, ◌≢◌, ℕ, ◌<◌, length, sym, ap, ◌∙◌}
 use Rattle.half_edge_mesh.specs.Mesh.{Mesh, origin, next, rev, AreSoundLinks}
 use Rattle.half_edge_links.proofs.Lists.Rev.{rev-rev}

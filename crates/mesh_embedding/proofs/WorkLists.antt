@@ -1,4 +1,6 @@
 -- Lists with each entry once, as they grow and shrink at their end.
+-- Lemmas: contains_last, contains_before, last_or_before, once_before, last_not_before,
+-- once_after, contains_map, contains_map_from, same_map, at_most_so_many.
 use Rattle.std.proofs.Common.{◌≡◌, ◌⊎◌, ◌<◌, ◌≤◌, [], ◌∷◌, ◌++◌}
 use Rattle.std.proofs.Common.{ℕ, zero, suc, List, length, map, refl, sym, ap, subst, arith}
 use mathlib.Core.Logic.{inl, inr}

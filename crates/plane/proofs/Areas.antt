@@ -1,4 +1,5 @@
 -- The side of a point by twice the signed area of a triangle.
+-- Lemmas: left_if_positive, right_if_negative, on_if_zero, side_by_area.
 use Rattle.std.proofs.Common.{◌≡◌, subst, sym, ◌∙◌}
 use Rattle.std.specs.Prelude.{pos, ◌<ℤ◌}
 use Rattle.plane.specs.Fraction.{Point, whole}

@@ -1,4 +1,5 @@
 -- The means of two points are their weighted averages.
+-- Lemmas: segment_is_averages.
 use Rattle.std.proofs.Common.{◌≡◌, ◌↔◌, [], ◌∷◌, subst}
 use Rattle.std.specs.Prelude.{◌≤ℤ◌, ℤ, pos, ◌<ℤ◌, ◌*ℤ◌, ◌+ℤ◌}
 use Rattle.plane.specs.Fraction.{Fraction, IsNotNegative, OnSegment}

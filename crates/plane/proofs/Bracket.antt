@@ -1,5 +1,6 @@
 -- Points of the plane as homogeneous triples, and the bracket of three: their determinant. Over ℤ,
 -- and in the ring solver's syntax.
+-- Notions: Vec3, lift, vec, Vec3ᵖ, bracketᵖ, vec3, Pointᵖ, points, liftᵖ; bracket.
 use Prim.Native.Nat.{◌+◌}
 use lib.IntN.{ℤ, pos, ◌+ℤ◌, ◌-ℤ◌, ◌*ℤ◌}
 use mathlib.Core.List.{[], ◌∷◌}

@@ -1,4 +1,7 @@
 -- The identities of the bracket, each once.
+-- Notions: mix, form; bracket-swap, bracket-turn, bracket-same, bracket-outer, bracket-last,
+-- bracket-mix, cramer_x, cramer_y, cramer_w, cramer, pluecker, rays, four_terms, passing,
+-- passing_x, passing_y, passing_w, bracket-affine, bracket-sum, bracket_at_x, bracket_at_y.
 use lib.IntN.{ℤ, pos, ◌+ℤ◌, ◌-ℤ◌, ◌*ℤ◌, neg_ℤ}
 use mathlib.Core.Path.{◌≡◌}
 use mathlib.Core.List.{[], ◌∷◌}

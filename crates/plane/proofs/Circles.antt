@@ -1,5 +1,9 @@
 -- The circle of a left-turning triple as the sign of a determinant: that of the corners and the
 -- point, each with its squared length.
+-- Notions: height, heightᵖ, incircleᵖ; incircle, incircle-turn, incircle-exchange,
+-- incircle-opposite, incircle-flipped, incircle-first, incircle-second, incircle-third,
+-- incircle-across, inside_is_incircle, far_if_carried, on_is_incircle, inside_is_determinant,
+-- on_is_determinant, incircle-from_first.
 use lib.IntN.{ℤ, pos, ◌+ℤ◌, ◌-ℤ◌, ◌*ℤ◌, neg_ℤ}
 use lib.Signed.{◌<ℤ◌}
 use mathlib.Core.Path.{◌≡◌, refl, sym, ◌∙◌, ap, subst}

@@ -1,4 +1,6 @@
 -- Whole points on one line, by their place along it.
+-- Lemmas: place_on, place_of_start, place-moved, passing_place, place_of_end, line_x, line_y,
+-- within_by_places, same_by_places, same_ends, mean_place.
 use Rattle.std.proofs.Common.{◌≡◌, ◌⊎◌, [], ◌∷◌, arith, ap, sym, ◌∙◌}
 use mathlib.Core.Logic.{inl, inr}
 use Rattle.std.specs.Prelude.{ℤ, pos, ◌+ℤ◌, ◌-ℤ◌, ◌*ℤ◌, ◌<ℤ◌, ◌≤ℤ◌}

@@ -1,5 +1,8 @@
 -- Questions of the plane are decided: each has an answer, by the signs of whole numbers and by
 -- search below a bound.
+-- Notions: Decision; decided_by, decide_both, decide_either, find_below, decide_some_below,
+-- decide_zero, decide_below, decide_point, decide_on_segment, decide_within_segment,
+-- decide_meets_within, decide_turns_left.
 use Rattle.std.proofs.Common.{◌≡◌, ◌⊎◌, ◌↔◌, ℕ, zero, suc, ◌<◌, refl, arith, sym, subst, ◌∙◌, ap}
 use mathlib.Core.Logic.{inl, inr}
 use Rattle.std.specs.Prelude.{ℤ, pos, ◌<ℤ◌, ◌≤ℤ◌, ◌*ℤ◌, ◌-ℤ◌}

@@ -1,4 +1,6 @@
 -- Points off all lines of two vertices: one inside any triangle, and one near any point.
+-- Notions: Inside, AllDiffer, IsOneToOne, IsFresh, LieOnLine, IsGeneric, IsNudged, IsSpot;
+-- distinct_with_next, not_on_line, near, generic_near, spot.
 use Rattle.std.proofs.Common.{◌≡◌, ◌⊎◌, ℕ, suc, ◌<◌, sym, ap, ◌∙◌, subst}
 use mathlib.Core.Logic.{inl, inr, ◌≢◌}
 use Rattle.std.specs.Prelude.{pos, ◌*ℤ◌, ◌≤ℤ◌, ◌<ℤ◌}

@@ -1,4 +1,6 @@
 -- Small facts of indexes, of pairs of indexes and of lists of them.
+-- Notions: IsTurned; below_or_last, less_or_more, one_below, one_more_than_last, at_most_last,
+-- next_sum, no_pairs, pair_turned, turned_join, same_joined, turns_of_one, cases_turned.
 use Rattle.std.proofs.Common.{◌≡◌, ◌≢◌, ◌⊎◌, ◌+◌, ◌-◌, ◌<◌, ◌≤◌, [], ◌∙◌}
 use Rattle.std.proofs.Common.{ℕ, suc, List, sym, subst, arith}
 use mathlib.Core.Logic.{inl, inr}

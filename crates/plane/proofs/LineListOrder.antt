@@ -1,4 +1,5 @@
 -- The order of a line list at work: a vertex, the overlap that begins there, the vertex at its end.
+-- Lemmas: vertex_first, overlap_first.
 use Rattle.std.proofs.Common.{refl}
 use mathlib.Core.Logic.{inl, inr}
 use Rattle.plane.specs.Fraction.{OnSegment}

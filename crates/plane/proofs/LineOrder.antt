@@ -1,6 +1,8 @@
 -- Points of one line in the order of their places on the way from one of them to another: between
 -- in the plane is between in the order. Two segments of one line that overlap, none with an end
 -- within the other, have the same ends.
+-- Notions: IsBetween, AreOneSign; place_within, within_places, ahead, within_if_ahead,
+-- ahead_if_within, same_if_level, level_if_same, overlap_by_average, overlap_ends.
 use Rattle.std.proofs.Common.{◌≡◌, ◌⊎◌, [], ◌∷◌, ap, sym, ◌∙◌, subst, arith}
 use mathlib.Core.Logic.{inl, inr}
 use Rattle.std.specs.Prelude.{ℤ, pos, ◌+ℤ◌, ◌-ℤ◌, ◌*ℤ◌, ◌<ℤ◌}

@@ -1,5 +1,7 @@
 -- How two segments meet: whether they cross, or one ends within the other, by the signs of four
 -- brackets.
+-- Notions: AreOpposite, AreParted; cross_if, meets_within_if, meets_within_is, cross_is,
+-- cross_at_point, meets_at_point, meets_a_point, crossing_is_sides.
 use Rattle.std.proofs.Common.{◌≡◌, ◌⊎◌, ◌↔◌, ℕ, zero, suc, [], ◌∷◌, arith, sym, ◌∙◌}
 use mathlib.Core.Logic.{inl, inr}
 use Rattle.std.specs.Prelude.{ℤ, pos, neg_ℤ, ◌<ℤ◌, ◌≤ℤ◌, ◌*ℤ◌, ◌+ℤ◌, ◌-ℤ◌}

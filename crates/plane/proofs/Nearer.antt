@@ -1,5 +1,6 @@
 -- What is nearer than what: nothing is nearer to a point than the point itself, and one and the
 -- same point is not nearer.
+-- Lemmas: gap_of_none, gap_not_negative, nothing_nearer, same_not_nearer.
 use Rattle.std.proofs.Common.{◌≡◌, [], ◌∷◌, arith, ◌∙◌}
 use Rattle.std.specs.Prelude.{ℤ, pos, ◌<ℤ◌, ◌≤ℤ◌, ◌*ℤ◌, ◌-ℤ◌}
 use Rattle.std.proofs.lemmas.Int.{ints}

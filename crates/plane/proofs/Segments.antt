@@ -1,5 +1,9 @@
 -- Points of a segment: by the bracket, and by how far they are on the way from one end to the
 -- other.
+-- Notions: runᵖ, riseᵖ, reachᵖ, IsWhole; same_is_no_way, same-refl, same-sym, same-trans,
+-- on_segment-same, within_segment-same, on_of_within, start_part, start_on_segment,
+-- end_on_segment, only_point, within_itself, reach, reach-start, reach-end, reach_of_two,
+-- weights_x, weights_y, weights_w, line_weights, on_segment_is, within_segment_is.
 use Rattle.std.proofs.Common.{◌≡◌, ◌↔◌, [], ◌∷◌, refl, arith, sym, subst}
 use mathlib.Core.Logic.{inl}
 use Rattle.std.specs.Prelude.{ℤ, pos, ◌<ℤ◌, ◌≤ℤ◌, ◌*ℤ◌, ◌+ℤ◌, ◌-ℤ◌}

@@ -1,5 +1,7 @@
 -- Answers of the definitions, read off printed tables: of a grid of nine points, at unit size and
 -- at the greatest coordinates, and of five points with two more.
+-- Lemmas: grid_holds, large_grid_holds, grid_lines_hold, large_grid_lines_hold, five_hold,
+-- seven_turn_left, seven_lines_hold.
 use Rattle.std.proofs.Common.{◌≡◌, ◌↔◌, ℕ, zero, suc, List, [], ◌∷◌, sym, subst, refl}
 use mathlib.Core.Bool.{Bool, true, false, not, ◌&&◌}
 use lib.Dec.{T}

@@ -1,5 +1,6 @@
 -- The points of a segment are in closed free faces exactly if its ends are and the faces at the
 -- items that it meets are free.
+-- Notions: IsCovers; edge_differs, covers-same, covered_along, beside_either, items_are_free.
 use Rattle.std.proofs.Common.{◌≡◌, ◌<◌, ℕ, suc, arith, sym, ◌∙◌, subst}
 use mathlib.Core.Logic.{◌⊎◌, inl, inr}
 use Rattle.std.specs.Prelude.{pos, ◌<ℤ◌, ◌≤ℤ◌, sum_by}

@@ -1,4 +1,6 @@
 -- Closed faces, some of them free, at the points of a segment.
+-- Notions: HasBeside; nudge_on_segment, nudge_between, nudge_back, not_right_along,
+-- covered_between, near_side, free_turned, free_where_shared, free_beside, at_side.
 use Rattle.std.proofs.Common.{◌≡◌, ◌<◌, ◌+◌, ℕ, suc, [], ◌∷◌, arith, sym, subst, subst₂}
 use mathlib.Core.Logic.{◌⊎◌, inl, inr}
 use Rattle.std.specs.Prelude.{ℤ, pos, ◌<ℤ◌, ◌≤ℤ◌, ◌+ℤ◌, ◌*ℤ◌}

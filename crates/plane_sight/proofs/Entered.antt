@@ -1,5 +1,6 @@
 -- A face that a segment enters is free: an end is strictly inside, or a side of the face is
 -- crossed.
+-- Notions: IsCoveredFree, FreeAtItems; entered_is_free.
 use Rattle.std.proofs.Common.{◌≡◌, ℕ, arith, ap, sym, ◌∙◌, subst}
 use mathlib.Core.Logic.{◌⊎◌, inl, inr}
 use Rattle.std.specs.Prelude.{◌≢◌, ℤ, pos, ◌<ℤ◌, ◌≤ℤ◌, ◌+ℤ◌, ◌*ℤ◌}

@@ -1,5 +1,6 @@
 -- Two points that two segments share: one overlaps the other, in one of its directions, and the
 -- middle of an overlap is strictly within.
+-- Lemmas: decide_same, nudge_moves, overlap_either, middle_within.
 use Rattle.std.proofs.Common.{◌≡◌, ℕ, [], ◌∷◌, arith, ap, ◌∙◌, sym, subst}
 use mathlib.Core.Logic.{◌⊎◌, inl, inr}
 use Rattle.std.specs.Prelude.{ℤ, pos, ◌<ℤ◌, ◌≤ℤ◌, ◌+ℤ◌, ◌-ℤ◌, ◌*ℤ◌}

@@ -1,4 +1,5 @@
 -- Lines of sight, in the definitions' words.
+-- Lemmas: in_free_by_place, sight_by_line.
 use Rattle.std.proofs.Common.{◌≡◌, ◌<◌, ℕ, List, [], ◌∷◌, length, refl, sym, subst}
 use mathlib.Core.Logic.{◌⊎◌, inl, inr}
 use Rattle.std.specs.Prelude.{◌↔◌}

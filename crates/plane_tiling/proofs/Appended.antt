@@ -1,4 +1,5 @@
 -- A list of points with one more at its end.
+-- Lemmas: length_appended, kept_point, last_point.
 use Rattle.std.proofs.Common.{◌≡◌, ℕ, suc, ◌<◌, List, [], ◌∷◌, ◌++◌, length, sym, arith}
 use Rattle.std.specs.Prelude.{pos}
 use Rattle.std.proofs.lemmas.List.{length-append}

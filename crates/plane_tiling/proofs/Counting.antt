@@ -1,5 +1,8 @@
 -- A point off all lines, right of every outer edge, is strictly inside exactly one face: the
 -- crossings of a ray, counted over faces and outer edges.
+-- Notions: at, IsPairBelow, ArePairsBelow, SignMesh; same_index, same_place, corners_differ,
+-- within_turned, hits, hits_is, hits_inside, inside_hits, hits_nonneg, crossed_is_first,
+-- outer_edge, total_hits.
 use Rattle.std.proofs.Common.{◌≡◌, ◌⊎◌, ℕ, ◌<◌, List, [], ◌∷◌, sym, ap, ◌∙◌, subst}
 use mathlib.Core.Logic.{inl, inr, ◌≢◌}
 use Rattle.std.specs.Prelude.{ℤ, pos, negsuc, ◌+ℤ◌, ◌*ℤ◌, ◌≤ℤ◌, ◌<ℤ◌, neg_ℤ, Contains, AllPairs}

@@ -1,4 +1,5 @@
 -- How many edges and faces there are, by the number of vertices and outer edges.
+-- Lemmas: hull_edges_count, line_edges_count.
 use Rattle.std.proofs.Common.{◌≡◌, ◌⊎◌, ◌<◌, ◌≤◌, [], ◌∷◌, ◌∙◌}
 use Rattle.std.proofs.Common.{ℕ, List, length, refl, sym, subst, arith}
 use Prim.Native.Nat.{◌+◌, ◌-◌, ◌*◌}

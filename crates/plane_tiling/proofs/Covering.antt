@@ -1,5 +1,8 @@
 -- The faces of a local mesh cover the half planes of its outer edges, are apart, meet along their
 -- sides, and have no further vertex.
+-- Notions: IsNotOutside; next_corner, in_some_face, inside_not_outside, entries_apart, same_face,
+-- turn_corners, turn_left_of, shared_corner, no_outer_back, behind_outer, behind_side, face_at,
+-- vertex_in_face.
 use Rattle.std.proofs.Common.{◌≡◌, ◌⊎◌, ◌<◌, ◌≤◌, ◌∙◌}
 use Rattle.std.proofs.Common.{ℕ, List, length, get_or, refl, sym, ap, subst, arith}
 use mathlib.Core.Logic.{inl, inr}

@@ -1,6 +1,8 @@
 -- The sides of faces: no vertex is strictly within one, two different ones have no common point
 -- strictly within both, and a closed face at a point strictly within one has it as a side. Where a
 -- point is in a local mesh.
+-- Notions: IsSideOf; mean_bracket, turned_within, within_on, within_second, within_third,
+-- side_index, side_bare, sides_meet.
 use Rattle.std.proofs.Common.{◌≡◌, ◌⊎◌, ℕ, ◌<◌, List, sym, ap, ◌∙◌, subst, arith}
 use mathlib.Core.Logic.{inl, inr, ◌≢◌}
 use Rattle.std.specs.Prelude.{ℤ, pos, ◌+ℤ◌, ◌*ℤ◌, ◌<ℤ◌}

@@ -1,4 +1,7 @@
 -- What balance says of one pair of indexes: as many sides and outer edges go one way as the other.
+-- Notions: bit, IsTurnOf, HasSide; is_pair, bit_is, is_pair_is, bit_nonneg, is_pair_nonneg,
+-- is_pair_own, pair_found, around_nonneg, no_turn, turned, one_of_three, side_found, side_counts,
+-- outer_counts, either, back_from_count, back_of_side, back_of_outer.
 use Rattle.std.proofs.Common.{◌≡◌, ◌⊎◌, ℕ, List, [], refl, ap, ◌∙◌, subst, arith}
 use mathlib.Core.Logic.{inl, inr}
 use mathlib.Core.Bool.{Bool, true, false, ◌&&◌}

@@ -1,5 +1,6 @@
 -- Points on one line: what a mesh of them keeps, by signs, and two edits that keep it: a vertex
 -- past an end, and one between two neighbours.
+-- Notions: Adjoin, SignLine; next_turned, back_way, flat, extended, between.
 use Rattle.std.proofs.Common.{◌≡◌, ◌⊎◌, ◌↔◌, ℕ, suc, ◌<◌, List, sym, ap, ◌∙◌, subst, arith}
 use mathlib.Core.Logic.{inl, inr, ◌≢◌}
 use Rattle.std.specs.Prelude.{ℤ, pos, ◌<ℤ◌, ◌≤ℤ◌, Contains, AllPairs}

@@ -1,5 +1,6 @@
 -- Meshes of points on one line, over lists of points: none, one, one more past an end or between
 -- two neighbours; and that they join the line.
+-- Lemmas: line_by_signs, same_line, no_vertex, one_vertex, joins_line, line_extended, line_split.
 use Rattle.std.proofs.Common.{◌≡◌, ◌⊎◌, ◌↔◌, ◌<◌, [], ◌∷◌, ◌++◌, ◌∙◌}
 use Rattle.std.proofs.Common.{ℕ, zero, suc, List, length, refl, sym, subst, arith}
 use mathlib.Core.Logic.{inl, inr, ◌≢◌}

@@ -1,5 +1,9 @@
 -- Where a point is among points on one line: at a vertex, strictly within an edge, left of an edge
 -- or past an end, and in one of these ways alone.
+-- Notions: IsBelow, ArePlaces, IsAtPoint, IsOnEdge, IsBeyond, IsBesideEdge; nearest_below,
+-- none_between_places, next_below, spot, mark, same_spot, spot_at, within_k, order_k, places,
+-- lower_edge, turned_level, turned_spots, somewhere, point_unique, point_not_on_edge, on_one_edge,
+-- point_not_beside, edge_not_beside.
 use Rattle.std.proofs.Common.{◌≡◌, ◌⊎◌, ◌<◌, [], ◌∷◌, ◌∙◌}
 use Rattle.std.proofs.Common.{ℕ, zero, suc, List, sym, ap, subst, arith}
 use mathlib.Core.Logic.{inl, inr, ◌≢◌}

@@ -1,5 +1,6 @@
 -- The location of a point, in the definition's words, in a mesh of the plane and on a line; and
 -- where edges meet.
+-- Lemmas: no_edges_cross, each_point_has_one_location.
 use Rattle.std.proofs.Common.{◌≡◌, ◌⊎◌, ℕ, ◌<◌, ◌≤◌, List, [], length, sym, subst, arith}
 use mathlib.Core.Logic.{inl, inr, ◌≢◌}
 use Rattle.std.specs.Prelude.{ℤ, ◌*ℤ◌, Contains}

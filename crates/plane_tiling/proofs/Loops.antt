@@ -1,5 +1,8 @@
 -- In a local mesh each way from an index to another is at most once a side or an outer edge. So a
 -- mesh whose directed edges are these has the sides of faces as edges, each once.
+-- Notions: IsFaceOn; sum_of_bits, edge_of_side, edge_of_outer, way_of_edge, edges_once,
+-- listed_once, beside, inside_face_on, turn_on, outer_is_no_side, way_once, edges_are_sides,
+-- mesh_tiles.
 use Rattle.std.proofs.Common.{◌≡◌, ◌⊎◌, ◌↔◌, ℕ, ◌<◌, List, length, get_or, sym, ◌∙◌, subst, arith}
 use mathlib.Core.Logic.{inl, inr, ◌≢◌}
 use Rattle.std.specs.Prelude.{ℤ, pos, ◌+ℤ◌, ◌*ℤ◌, ◌≤ℤ◌, ◌<ℤ◌, Contains, AllPairs}

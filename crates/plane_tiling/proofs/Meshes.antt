@@ -1,4 +1,5 @@
 -- A mesh, in the plane or on a line, with its own edges.
+-- Lemmas: meshes_tile.
 use Rattle.std.proofs.Common.{◌≡◌, ℕ, List, [], sym, subst}
 use mathlib.Core.Logic.{inl, inr}
 use Rattle.plane.specs.Fraction.{Point}

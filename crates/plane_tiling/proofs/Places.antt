@@ -1,5 +1,9 @@
 -- Where a point is in a local mesh: left of an outer edge, at a vertex, strictly within one side or
 -- strictly inside one face, and in one of these ways alone.
+-- Notions: IsLeftOfOuter, IsAtVertex, IsOnSide, IsInsideFace; same_within, in_closed_face,
+-- somewhere, side_not_inside, vertex_not_side, face_at_side, bracket_at, one_vertex_at,
+-- vertex_not_outside, side_not_outside, inside_not_outside, vertex_not_inside, vertex_unique,
+-- face_unique, none_beyond.
 use Rattle.std.proofs.Common.{◌≡◌, ◌⊎◌, ℕ, ◌<◌, List, [], ◌∷◌, refl, sym, ap, ◌∙◌, subst, arith}
 use mathlib.Core.Logic.{inl, inr, ◌≢◌}
 use Rattle.std.specs.Prelude.{ℤ, pos, ◌+ℤ◌, ◌*ℤ◌, ◌≤ℤ◌, ◌<ℤ◌, neg_ℤ, Contains}

@@ -1,4 +1,5 @@
 -- The invariant between its two readings.
+-- Lemmas: by_words, same_points.
 use Rattle.std.proofs.Common.{◌≡◌, ◌<◌, [], ◌∙◌, ℕ, List, length, sym, subst}
 use mathlib.Core.Logic.{◌≢◌}
 use Rattle.std.specs.Prelude.{pos, ◌≤ℤ◌, ◌<ℤ◌, Contains}

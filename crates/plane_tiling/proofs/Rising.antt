@@ -1,5 +1,8 @@
 -- Vertices in the order of a height: each way rises or falls. Faces and outer edges are counted by
 -- the vertex at which they begin to rise again, which gives the number of edges.
+-- Notions: up, rise; greatest, not_equal, equal, first, total_first, total_ones, begins_at,
+-- leaves, leaves_found, leaves_bits, leaves_nonneg, leaves_counted, rises_nowhere, rises_once,
+-- second_rise, count_at, total_counts, edges_counted, below_top.
 use Rattle.std.proofs.Common.{◌≡◌, ◌⊎◌, ◌<◌, ◌≤◌, [], ◌∷◌, ◌∙◌}
 use Rattle.std.proofs.Common.{ℕ, zero, suc, List, length, get_or, refl, sym, ap, subst, arith}
 use mathlib.Core.Logic.{inl, inr, ◌≢◌}

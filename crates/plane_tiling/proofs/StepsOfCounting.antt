@@ -1,4 +1,6 @@
 -- Small steps on whole numbers, for the count of crossings.
+-- Lemmas: sum_is_positive, all_zero, minus_one_and, one_more, zero_plus', average_from,
+-- weight_below, weights_from.
 use Rattle.std.proofs.Common.{◌≡◌, [], ◌∷◌, arith}
 use Rattle.std.specs.Prelude.{ℤ, pos, negsuc, ◌+ℤ◌, ◌-ℤ◌, ◌*ℤ◌, ◌≤ℤ◌, ◌<ℤ◌, neg_ℤ}
 use Rattle.std.proofs.lemmas.Int.{ints}

@@ -1,5 +1,6 @@
 -- In a local mesh exactly one face or outer edge begins to rise again at each vertex but the top
 -- one, in the order of a height that tells all vertices apart.
+-- Notions: IsSweep; sweep, count_one, count_none.
 use Rattle.std.proofs.Common.{◌≡◌, ◌⊎◌, ◌<◌, [], ◌∷◌, ◌∙◌}
 use Rattle.std.proofs.Common.{ℕ, zero, suc, List, length, get_or, refl, sym, ap, subst, arith}
 use mathlib.Core.Logic.{inl, inr, ◌≢◌}

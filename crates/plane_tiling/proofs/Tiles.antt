@@ -1,4 +1,5 @@
 -- A local mesh tiles the hull of its points.
+-- Notions: point_at; bracket_not_left, by_signs, inside_signs, in_signs, signs_in, tiles.
 use Rattle.std.proofs.Common.{◌≡◌, ◌⊎◌, ◌↔◌, ◌<◌, [], ◌∷◌, ◌∙◌}
 use Rattle.std.proofs.Common.{ℕ, List, length, map, get_or, refl, sym, subst, arith}
 use mathlib.Core.Logic.{inl, inr, ◌≢◌}

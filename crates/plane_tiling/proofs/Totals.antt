@@ -1,4 +1,7 @@
 -- Sums over a list: of equal terms, of terms that are 0 or 1, of one term that is not 0.
+-- Notions: Contains-head, Contains-later, Contains-cases, Contains-none; get_or_any, total_agree,
+-- total-difference, total-sum, total_nonneg, total_at_least, total_positive, total_reached,
+-- total_twice, total_of_two, total_at_most_one, all_none, total_single, total_exchanged.
 use Rattle.std.proofs.Common.{◌≡◌, ◌⊎◌, ◌<◌, [], ◌∷◌, ◌∙◌}
 use Rattle.std.proofs.Common.{ℕ, zero, suc, List, length, get_or, refl, sym, ap, arith}
 use mathlib.Core.Logic.{inl, inr, ◌≢◌}

@@ -1,4 +1,5 @@
 -- A piece of a path in a mesh has no vertex within, nor has it in a copy of the mesh.
+-- Lemmas: free_in_copy.
 use Rattle.std.proofs.Common.{◌≡◌, ℕ, List, map, sym, subst}
 use Rattle.plane.specs.Fraction.{Point}
 use Rattle.plane_segments.specs.Constraints.{AreNextOn}

@@ -1,4 +1,5 @@
 -- What a removal asks for, from the links round one vertex.
+-- Lemmas: one_side, three_sides, four_sides.
 use Rattle.std.proofs.Common.{◌≡◌, ◌≢◌, ℕ, zero, suc, ◌<◌, [], ◌∷◌, length, sym, ap, ◌∙◌, arith}
 use Rattle.std.specs.Prelude.{slice_index}
 use Rattle.half_edge_mesh.specs.Mesh.{Mesh, origin, next, prev, face, rev, AreSoundLinks}

@@ -1,4 +1,5 @@
 -- What a search over a mesh asks.
+-- Lemmas: begins_at, corners_in_range.
 use Rattle.std.proofs.Common.{◌≡◌, ◌∷◌, [], subst}
 use Rattle.std.specs.Prelude.{All}
 use Rattle.std.proofs.lemmas.List.Elements.{All-cons, All-nil}

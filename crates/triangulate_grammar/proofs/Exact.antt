@@ -1,4 +1,5 @@
 -- What is read is what the grammar says, and nothing else.
+-- Lemmas: complete, sound, spelled, unspelled.
 use Rattle.std.proofs.Common.{◌≡◌, [], ◌∷◌, ◌∙◌, ◌⊎◌}
 use Rattle.std.proofs.Common.{ℕ, Bool, true, false, cond, ℤ, List, length, drop, codes, Option}
 use Rattle.std.proofs.Common.{Some, None, refl, sym, ap, inl, inr, subst}

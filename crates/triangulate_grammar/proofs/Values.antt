@@ -1,4 +1,6 @@
 -- Numbers are read as they are spelled.
+-- Lemmas: index_value-ok, index_value-is, index_from, number_value-ok, number_value-is,
+-- number_from.
 use Rattle.std.proofs.Common.{◌≡◌, ◌&&◌, [], ◌∷◌}
 use Rattle.std.proofs.Common.{ℕ, Bool, true, false, ltb, leb, ℤ, pos, neg_ℤ, List, length, Option}
 use Rattle.std.proofs.Common.{Some, None, IfSome, IfNone, refl, sym, ap, arith, inl, inr, subst}

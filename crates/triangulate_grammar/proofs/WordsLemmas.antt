@@ -1,4 +1,5 @@
 -- The words of a line, taken off from the front.
+-- Lemmas: word_at, last_word, none_left.
 use Rattle.std.proofs.Common.{◌≡◌, ◌+◌, ◌<◌, [], ◌∷◌, ◌++◌, ◌∙◌}
 use Rattle.std.proofs.Common.{ℕ, false, true, eqb, List, length, take, drop, get_or, arith, refl}
 use Rattle.std.proofs.Common.{sym, ap, length-take}

@@ -1,4 +1,6 @@
 -- How far the nearest vertex is.
+-- Notions: IsLeastBefore, IsLeastSoFar, IsLesser; vertex_in_range, least_distance, no_vertex,
+-- covered_if_listed, least_goes_on, least_found.
 use Rattle.std.proofs.Common.{◌≡◌, ◌∙◌, ℕ, ◌<◌, List, length, map, inl, inr, ap, sym, subst, arith}
 use Rattle.std.specs.Prelude.{◌⊎◌, ◌+◌, ◌≤◌, ◌≤ℤ◌}
 use Rattle.std.specs.Prelude.{ℤ, pos, Option, None, Some, slice_get, All, MatchOption}

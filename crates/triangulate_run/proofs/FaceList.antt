@@ -1,4 +1,6 @@
 -- The faces of a tiling, each from its least corner on: all of them, and no two the same.
+-- Notions: Least, rows; first_least, second_least, third_least, least, differ, from_least_of,
+-- rows_differ, lists_faces.
 use Rattle.std.proofs.Common.{◌≡◌, ◌≢◌, ◌<◌, ◌≤◌, ◌&&◌, ◌⊎◌, ◌∙◌}
 use Rattle.std.proofs.Common.{ℕ, Bool, true, false, inl, inr, List, length, map, get_or, refl, sym}
 use Rattle.std.proofs.Common.{ap, subst, arith, ltb, lt-ltb, le-ltb}

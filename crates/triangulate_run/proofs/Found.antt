@@ -1,4 +1,5 @@
 -- The lookups' steps: nothing is found up to a place.
+-- Lemmas: none_up_to, not_here, all_listed, all_listed_sites.
 use Rattle.std.proofs.Common.{◌≡◌, ◌+◌, ◌<◌, ◌&&◌, ◌∙◌}
 use Rattle.std.proofs.Common.{true, ℕ, Bool, false, List, arith, inl, inr, ap, sym, subst}
 use Rattle.std.specs.Ordering.{int_eq}

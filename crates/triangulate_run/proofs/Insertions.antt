@@ -1,4 +1,6 @@
 -- What an insertion makes of the vertices, and which replies it may get.
+-- Lemmas: fresh_if_unknown, unknown_if_fresh, known_if_there, site_if_listed, listed_if_found,
+-- places_kept, sites_kept, sites_more, listed_if_known, may_refuse, mesh_kept.
 use Rattle.std.proofs.Common.{◌≡◌, ◌+◌, ◌<◌, [], ◌∷◌, ◌++◌, ◌∙◌}
 use Rattle.std.proofs.Common.{ℕ, true, List, length, map, get_or, Option, Some, None, is_some, refl}
 use Rattle.std.proofs.Common.{sym, ap, subst, arith}

@@ -1,4 +1,5 @@
 -- Points of the line y = 0: a table without triples is true of them.
+-- Lemmas: are_level, level_sides_true, level_circles_true.
 use Rattle.std.proofs.Common.{◌≡◌, ℕ, ◌<◌, Bool, true, List, [], ◌∷◌, length, sym}
 use Rattle.std.specs.Prelude.{pos}
 use Rattle.std.specs.Ordering.{int_eq}

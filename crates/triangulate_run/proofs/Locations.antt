@@ -1,4 +1,6 @@
 -- Where a point is, as the replies write it: the lesser end first, the least corner first.
+-- Lemmas: on_edge_back, on_face_from_least, ends_differ, edges_counted, edge_there, face_there,
+-- located.
 use Rattle.std.proofs.Common.{◌≡◌, ◌≢◌, ◌≤◌, ◌<◌}
 use Rattle.std.proofs.Common.{List, ℕ, inl, inr, length, arith, sym, cond, ltb, lt-ltb, le-ltb}
 use Rattle.plane.specs.Fraction.{Point, whole, Fraction, IsPositive}

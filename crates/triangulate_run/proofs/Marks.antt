@@ -1,4 +1,5 @@
 -- How many constraints there are, an order of the ends apart.
+-- Notions: contents_of; constraints_counted.
 use Rattle.std.proofs.Common.{◌≡◌, ◌≤◌, ◌<◌, [], ◌∷◌}
 use Rattle.std.proofs.Common.{ℕ, suc, Bool, true, false, List, length, get_or, cond, refl, sym}
 use Rattle.std.proofs.Common.{subst, arith}

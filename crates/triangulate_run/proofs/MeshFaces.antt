@@ -1,4 +1,5 @@
 -- The faces of a mesh, one after another, as rows of corners.
+-- Lemmas: rows_by_index, twice, name_at, row_more, rows_end, row_if, row_same_mesh.
 use Rattle.std.proofs.Common.{◌≡◌, ◌+◌, ◌-◌, ◌<◌, [], ◌∷◌, ◌++◌, ◌∙◌}
 use Rattle.std.proofs.Common.{ℕ, List, length, map, get_or, refl, sym, ap, arith, append_assoc}
 use Rattle.std.proofs.Common.{append-nil}

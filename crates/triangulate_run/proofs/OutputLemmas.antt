@@ -1,4 +1,7 @@
 -- Texts that are written one after another.
+-- Lemmas: appends_more, appends_keep, appends_nil, part_more, part_longer, passes_nil,
+-- passes_more, passes_part, passes_at, part_at, part_before, puts_behind, puts_direct,
+-- writes_held, writes_flushed, first_fails, second_fails, third_fails, all_passed.
 use Rattle.std.proofs.Common.{◌≡◌, [], ◌++◌, ◌∙◌, ◌∷◌, ◌<◌, ◌+◌}
 use Rattle.std.proofs.Common.{ℕ, List, Option, Some, None, sym, ap, append_assoc, append-nil, subst}
 use Rattle.std.proofs.Common.{suc, add-one, length, take, drop, get_or}

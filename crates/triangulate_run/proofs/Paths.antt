@@ -1,4 +1,6 @@
 -- The edges of a path, as a reply names them, and what becomes of the stage.
+-- Notions: edge_piece; leads, can_add, no_edges, some_edges, pieces_text, joins_none,
+-- edges_within, joins_some, joins_refused.
 use Rattle.std.proofs.Common.{◌≡◌, ◌≢◌, ◌<◌, [], ◌∷◌, ◌++◌}
 use Rattle.std.proofs.Common.{ℕ, Bool, true, false, List, length, map, refl, inl, inr, ap}
 use Rattle.std.proofs.Common.{sym, ◌∙◌, subst}

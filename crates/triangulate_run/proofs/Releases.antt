@@ -1,4 +1,5 @@
 -- A constraint that is released, by the edge between its ends.
+-- Lemmas: no_edge, is_edge, is_released, is_none, not_released.
 use Rattle.std.proofs.Common.{◌≡◌, ◌*◌, ◌/◌, ◌<◌}
 use Rattle.std.proofs.Common.{ℕ, Bool, true, false, length, refl, inl, inr, ap, sym, subst}
 use Rattle.std.specs.Prelude.{◌↔◌, ℤ, Contains, Result, Ok, Err}

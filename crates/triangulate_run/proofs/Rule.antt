@@ -1,4 +1,6 @@
 -- The rules of a table as one test of all its places, and what the test shows at each.
+-- Notions: all_below, same_side, SidesAreTrue, CirclesAreTrue; all_below_at, side_agrees,
+-- sides_agree, circle_agrees, circles_agree, sides_true, circles_true.
 use Rattle.std.proofs.Common.{◌≡◌, ◌<◌, ◌&&◌, ◌↔◌, ◌∙◌}
 use Rattle.std.proofs.Common.{ℕ, zero, suc, Bool, true, false, cond, List, length, refl, arith, inl}
 use Rattle.std.proofs.Common.{inr, IsTrue, sym}

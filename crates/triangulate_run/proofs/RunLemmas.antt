@@ -1,4 +1,6 @@
 -- The states of a run, one after another.
+-- Notions: IsRunning; consumes_break, start, byte_more, line_more, line_fault, end_fault,
+-- end_more.
 use Rattle.std.proofs.Common.{◌≡◌, ◌≢◌, [], ◌∷◌, ◌++◌, ◌∙◌}
 use Rattle.std.proofs.Common.{ℕ, true, false, List, Option, Some, None, refl, sym, ap, subst, arith}
 use Rattle.std.proofs.Common.{append_assoc, append-nil}

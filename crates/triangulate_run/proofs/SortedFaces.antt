@@ -1,4 +1,5 @@
 -- Different faces that are sorted come strictly one before another.
+-- Lemmas: sorted_rises.
 use Rattle.std.proofs.Common.{◌≡◌, ◌≢◌, ◌+◌, ◌-◌, ◌<◌, ◌&&◌, ◌∙◌}
 use Rattle.std.proofs.Common.{ℕ, zero, suc, Bool, false, eqb, List, length, get_or, ap, arith}
 use Rattle.std.proofs.Common.{subst, Result, Ok, Err}

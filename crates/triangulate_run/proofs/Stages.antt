@@ -1,4 +1,5 @@
 -- The stages of the two types of triangulations.
+-- Lemmas: stage_taken, fits, joins_there, answered_so, walks_there.
 use Rattle.std.proofs.Common.{◌≡◌, List, map, refl, ap, subst}
 use Rattle.std.specs.Prelude.{ℕ, ℤ}
 use Rattle.plane.specs.Plain.{Unconstrains}

@@ -1,4 +1,5 @@
 -- The tables of the sheets pass the tests.
+-- Lemmas: g_sides, g_circles, b_sides, b_circles, l_sides, l_circles, x_sides, x_circles, r_level.
 use Rattle.std.proofs.Common.{◌≡◌, true, refl}
 use Rattle.plane.specs.Side.{side}
 use Rattle.triangulate_run.specs.declared.table.TheConstants.{G_POINTS, B_POINTS, R_POINTS}

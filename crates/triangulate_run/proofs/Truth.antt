@@ -1,4 +1,5 @@
 -- The answers of the sheets are true.
+-- Lemmas: side_from, inside_from.
 use Rattle.std.proofs.Common.{◌≡◌, ℕ, Bool, List, ap, ◌∙◌, IsTrue, ◌↔◌}
 use Rattle.plane.specs.Fraction.{Point, whole}
 use Rattle.plane.specs.Side.{Side, side, TurnsLeft}

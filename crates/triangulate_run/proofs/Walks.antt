@@ -1,4 +1,6 @@
 -- The items of a line, as they are put one after another.
+-- Notions: PutsSome, PutsEach; puts_begin, puts_one, puts_end, puts_part, line_none,
+-- line_first_fails, line_others_fail, line_end_fails, line_passed.
 use Rattle.std.proofs.Common.{◌≡◌, [], ◌∷◌, ◌++◌, ◌∙◌}
 use Rattle.std.proofs.Common.{ℕ, List, Option, Some, None, refl, sym, ap, subst, append_assoc}
 use Rattle.std.proofs.Common.{append-nil}

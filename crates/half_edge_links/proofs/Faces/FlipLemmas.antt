@@ -1,4 +1,5 @@
 -- What turning an edge does.
+-- Lemmas: links_from, flips, flips_is.
 use Rattle.std.proofs.Common.{◌≡◌, ℕ, refl, ap, arith}
 use Rattle.std.proofs.lemmas.List.{get_or-set_same, get_or-set_other, length-set}
 use Rattle.half_edge_links.specs.declared.records.HalfEdge.{HalfEdge}

@@ -1,4 +1,6 @@
 -- Turning an edge keeps a mesh sound.
+-- Notions: IsOffFlip; six, left, right, away_by_face, next_away, prev_away, kept, origin_kept,
+-- sound_after_flip.
 use Rattle.std.proofs.Common.{◌≡◌, ◌≢◌, ◌⊎◌, ◌<◌, ◌∙◌}
 use Rattle.std.proofs.Common.{ℕ, length, Some, refl, sym, ap, inl, inr, arith}
 use Rattle.std.proofs.lemmas.Bool.{cases_eq}

@@ -1,4 +1,5 @@
 -- What turning an edge does to the corners of the faces.
+-- Lemmas: triangles_flipped.
 use Rattle.std.proofs.Common.{◌≡◌, ◌≢◌, ◌+◌, ◌-◌, ◌<◌, ◌∙◌}
 use Rattle.std.proofs.Common.{ℕ, length, get_or, set, sym, ap, inl, inr, arith}
 use Rattle.std.proofs.lemmas.Bool.{cases_eq}

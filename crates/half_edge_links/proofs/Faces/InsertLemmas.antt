@@ -1,4 +1,5 @@
 -- What putting a vertex into a face does.
+-- Lemmas: inserts, inserts_is.
 use Rattle.std.proofs.Common.{◌≡◌, ◌-◌, [], ◌∷◌, ◌++◌}
 use Rattle.std.proofs.Common.{ℕ, length, None, set, refl, sym, arith, append_assoc, length-append}
 use Rattle.std.proofs.lemmas.List.{get_or-set_same, get_or-set_other, length-set}

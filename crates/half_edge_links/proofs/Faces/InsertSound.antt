@@ -1,4 +1,6 @@
 -- Putting a vertex into a face keeps a mesh sound.
+-- Notions: IsOffFace; round, rev0, rev1, rev2, rev3, rev4, rev5, kept, away_by_face, next_away,
+-- prev_away, origin_kept, sound_after_insert.
 use Rattle.std.proofs.Common.{◌≡◌, ◌≢◌, ◌+◌, ◌%◌, ◌<◌, ◌≤◌, ◌∙◌}
 use Rattle.std.proofs.Common.{ℕ, length, refl, sym, ap, inl, inr, arith}
 use Rattle.std.proofs.lemmas.Bool.{cases_eq}

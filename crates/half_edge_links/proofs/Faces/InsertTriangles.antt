@@ -1,4 +1,5 @@
 -- What putting a vertex into a face does to the corners of the faces.
+-- Lemmas: triangles_inserted.
 use Rattle.std.proofs.Common.{◌≡◌, ◌≢◌, ◌+◌, ◌-◌, ◌<◌, [], ◌∷◌, ◌++◌, ◌∙◌}
 use Rattle.std.proofs.Common.{ℕ, List, length, get_or, set, refl, sym, inl, inr, arith}
 use Rattle.std.proofs.Common.{length-append}

@@ -1,4 +1,5 @@
 -- A flip, and a vertex put into a face, keep the outer edges.
+-- Lemmas: outer_flipped, outer_flipped_is, outer_inserted.
 use Rattle.std.proofs.Common.{◌≡◌, ◌≢◌, ℕ, ◌<◌, sym, ap, ◌∙◌, arith, ◌+◌, length, refl}
 use Rattle.half_edge_links.specs.declared.records.HalfEdge.{HalfEdge}
 use Rattle.half_edge_links.specs.Mesh.{Mesh, face, rev, AreSoundLinks, IsInnerEdge, IsAlone}

@@ -1,5 +1,6 @@
 -- An edge is split by putting a vertex into the face on its left and turning it: that it can be
 -- turned, and what becomes of the faces, of the ends of the edges and of the outer edges.
+-- Lemmas: flippable_inserted, corners_inserted, splits_triangles_is, kept_twice, ends_split.
 use Rattle.std.proofs.Common.{◌≡◌, ◌-◌, ◌<◌, [], ◌∷◌, ◌++◌, ◌∙◌, ◌≢◌, ◌/◌}
 use Rattle.std.proofs.Common.{ℕ, List, length, set, refl, sym, ap, arith}
 use Rattle.std.proofs.lemmas.List.{set-set, set-append_left, length-set, length-map}

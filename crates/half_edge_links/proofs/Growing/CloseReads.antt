@@ -1,4 +1,5 @@
 -- What the links are after an outer edge and the next one got a face.
+-- Notions: ClosesEdges; closes_edges.
 use Rattle.std.proofs.Common.{◌≡◌, ◌≢◌, ℕ, ◌+◌, ◌<◌, List, length, refl, sym, ap, ◌∙◌}
 use Rattle.half_edge_links.specs.declared.records.HalfEdge.{HalfEdge}
 use Rattle.half_edge_links.specs.Mesh.{no_edge, edge_at}

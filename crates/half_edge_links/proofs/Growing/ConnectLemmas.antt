@@ -1,4 +1,5 @@
 -- The first edge.
+-- Lemmas: sound_connected.
 use Rattle.std.proofs.Common.{◌≡◌, ◌<◌, [], ◌∙◌}
 use Rattle.std.proofs.Common.{ℕ, zero, suc, length, Some, None, IsSome, set, refl, sym, ap, inl}
 use Rattle.std.proofs.Common.{inr, arith}

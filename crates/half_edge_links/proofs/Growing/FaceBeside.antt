@@ -1,4 +1,5 @@
 -- A face of an outer edge and a lonely vertex.
+-- Lemmas: differs_alone, adds_face, replaces_outer.
 use Rattle.std.proofs.Common.{◌≡◌, ◌≢◌, ◌+◌, ◌<◌, [], ◌∷◌, ◌++◌, ◌∙◌}
 use Rattle.std.proofs.Common.{ℕ, length, Some, None, sym, ap, inl, inr, arith}
 use Rattle.half_edge_links.specs.Mesh.{Mesh, origin, next, prev, out_edge, rev, AreSoundLinks}

@@ -1,4 +1,5 @@
 -- What a new edge at the hull and new faces beside it do, in one record each.
+-- Lemmas: hangs_edge, closes_corner, adds_face_beside, extends_line.
 use Rattle.std.proofs.Common.{◌≡◌, ℕ, length, Option, Some, ap, ◌∙◌}
 use Rattle.half_edge_links.specs.Mesh.{Mesh, origin, next, rev, out_edge, AreSoundLinks, IsAlone}
 use Rattle.half_edge_links.specs.Grow.{OnOuter, IsClosable, Hangs, Closes, hung, closed, or_zero}

@@ -1,4 +1,6 @@
 -- An edge of the hull is split.
+-- Lemmas: twin_outer, replaced_kept, flippable_beside, apex_is, new_corner, corners_beside,
+-- half_splits_triangles, half_splits.
 use Rattle.std.proofs.Common.{◌≤◌, ◌+◌, ◌≡◌, ◌≢◌, ◌-◌, ◌<◌, [], ◌∷◌, ◌++◌, ◌∙◌}
 use Rattle.std.proofs.Common.{ℕ, List, length, set, refl, sym, ap, arith}
 use Rattle.std.proofs.lemmas.List.{set-append_left, set-append_right, length-set, length-map}

@@ -1,4 +1,6 @@
 -- An edge to a lonely vertex, beside the outer face.
+-- Lemmas: length-hung, next_x, next_other, origin_kept, at_0, at_1, hangs, after_outer,
+-- sound_after_hang.
 use Rattle.std.proofs.Common.{◌≡◌, ◌≢◌, ◌+◌, ◌<◌, ◌≤◌, ◌∙◌}
 use Rattle.std.proofs.Common.{ℕ, List, length, None, refl, sym, ap, inl, inr, arith}
 use Rattle.std.proofs.lemmas.Bool.{cases_eq}

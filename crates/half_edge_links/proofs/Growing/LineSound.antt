@@ -1,5 +1,6 @@
 -- An edge of a mesh without inner faces gets another place along the outer face, and one end of the
 -- edge beside it another vertex: what is kept.
+-- Notions: IsLineMove; sound_moved, outline_moved, apart_moved, ends_move.
 use Rattle.std.proofs.Common.{◌≡◌, ◌≢◌, ◌⊎◌, ℕ, ◌<◌, [], length, Some, refl, sym, ap, ◌∙◌}
 use Rattle.std.proofs.Common.{inl, inr, arith}
 use Rattle.std.proofs.lemmas.Bool.{cases_eq}

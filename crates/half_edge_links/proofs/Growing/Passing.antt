@@ -1,4 +1,6 @@
 -- An edge of a line that passes the vertex at its end.
+-- Notions: far_edge, IsBeside; beside, passed_places, passes, line_passes, outline_passed,
+-- valid_passed, ends_passed_is.
 use Rattle.std.proofs.Common.{◌≡◌, ◌≢◌, ◌⊎◌, ◌<◌, ◌∙◌}
 use Rattle.std.proofs.Common.{ℕ, length, Some, None, refl, sym, ap, inr}
 use Rattle.std.proofs.lemmas.List.{get_or-set_same, get_or-set_other, length-set}

@@ -1,4 +1,6 @@
 -- An edge that is moved to the far end of the next one.
+-- Notions: IsTail; tail, slid_places, slides, line_slides, sound_after_slide, outline_slid,
+-- ends_slid, stars_slid, apart_slid.
 use Rattle.std.proofs.Common.{◌≡◌, ◌≢◌, ◌⊎◌, ◌<◌, ◌==◌, ◌∙◌}
 use Rattle.std.proofs.Common.{ℕ, length, Some, None, refl, sym, ap, inl}
 use Rattle.std.proofs.lemmas.Bool.{eq-eqb, eqb-true}

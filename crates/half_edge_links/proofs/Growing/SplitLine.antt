@@ -1,4 +1,5 @@
 -- An edge of a line is split, and a line is extended at a vertex.
+-- Lemmas: line_outer, splits_line, splits_outer, into_outer, into_ends.
 use Rattle.std.proofs.Common.{◌≡◌, ◌≢◌, ℕ, ◌+◌, ◌<◌, length, Some, sym, ap, ◌∙◌, inl, inr, arith}
 use Rattle.std.proofs.lemmas.Bool.{cases_eq}
 use Rattle.half_edge_links.proofs.Lists.Cases.{◌or_else◌}

@@ -1,4 +1,5 @@
 -- One more vertex.
+-- Lemmas: sound_with_vertex.
 use Rattle.std.proofs.Common.{◌≡◌, [], ◌∷◌, ◌++◌}
 use Rattle.std.proofs.Common.{ℕ, zero, suc, List, Option, None, get_or, refl, arith, length-append}
 use Rattle.std.proofs.lemmas.List.{get_or_append_left}

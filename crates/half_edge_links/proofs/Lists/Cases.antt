@@ -1,4 +1,5 @@
 -- Questions with two answers, asked one after another.
+-- Lemmas: ◌or_else◌, ◌each_with◌.
 use Rattle.std.proofs.Common.{◌⊎◌, inl, inr}
 
 infixr 2 ◌or_else◌

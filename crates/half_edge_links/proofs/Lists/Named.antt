@@ -1,6 +1,8 @@
 -- Facts about the numbers of a few named things, and about all other numbers.
 --   Each, OneOf, NoneOf, Off: of each; one of them; none of them; the last asked one by one
 --   at_places, elsewhere: by cases; a fact about none of them used
+-- Notions: Each, OneOf, NoneOf, Off, itself, ◌and◌; each_at, one_or_none, at_places, elsewhere,
+-- each_map.
 use Rattle.std.proofs.Common.{◌≡◌, ◌≢◌, ◌⊎◌, [], ◌∷◌, ℕ, List, inl, inr}
 use Rattle.std.proofs.lemmas.Bool.{cases_eq}
 

@@ -1,5 +1,6 @@
 -- The edges of a vertex are one round, and so are the edges of the outer face, where these are one
 -- loop.
+-- Lemmas: one_orbit, edges_go_round, outline_goes_round.
 use Rattle.std.proofs.Common.{◌≡◌, ℕ, suc, ◌+◌, ◌-◌, ◌<◌, length, sym, ap, ◌∙◌, arith, zero}
 use Rattle.half_edge_links.specs.Mesh.{Mesh, origin, prev, rev, IsValidMesh, IsClosed, next, face}
 use Rattle.half_edge_links.specs.Mesh.{AreSoundLinks}

@@ -1,4 +1,5 @@
 -- A walk by a one-to-one function over finitely many numbers comes back to its start.
+-- Notions: IsPeriod; step_add, step_back, period_of, comes_back, reached.
 use Rattle.std.proofs.Common.{◌≡◌, ◌≢◌, ◌⊎◌, ◌+◌, ◌-◌, ◌<◌, ◌≤◌, [], ◌∷◌, ◌∙◌}
 use Rattle.std.proofs.Common.{ℕ, zero, suc, true, false, eqb, List, length, get_or, refl, sym, ap}
 use Rattle.std.proofs.Common.{inl, inr, arith}

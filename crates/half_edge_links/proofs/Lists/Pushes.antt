@@ -1,4 +1,6 @@
 -- Reads of a list after three writes at different places and six pushes.
+-- Notions: AreThreePlaces; written, length-grown, grown_at_i, grown_at_j, grown_at_k, grown_at,
+-- grown_at_0, grown_other.
 use Rattle.std.proofs.Common.{◌≡◌, ◌≢◌, ◌+◌, ◌<◌, [], ◌∷◌, ◌++◌}
 use Rattle.std.proofs.Common.{ℕ, List, length, get_or, set, arith, append_assoc, length-append}
 use Rattle.std.proofs.Common.{add-zero}

@@ -1,4 +1,5 @@
 -- The other side of a directed edge.
+-- Lemmas: rev-rev, rev_differs, rev_within, rev_same.
 use Rattle.std.proofs.Common.{◌≡◌, ◌≢◌, ℕ, ◌%◌, ◌<◌, sym, ap, ◌∙◌, arith}
 use Rattle.std.proofs.lemmas.Grind.{common_steps}
 use Rattle.half_edge_links.specs.Mesh.{rev}

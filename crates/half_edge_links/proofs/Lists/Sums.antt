@@ -1,4 +1,6 @@
 -- Sums of the first values of a function, and over a list.
+-- Notions: sum_to, only_at; same_sum, sums_agree, sums_added, sums_none, sums_exchanged, at_place,
+-- off_place, zero_first, zero_last, sum_single, total_by_place, sum_in_pairs.
 use Rattle.std.proofs.Common.{◌≡◌, ◌≢◌, ◌+◌, ◌*◌, ◌<◌, [], ◌∷◌, ◌==◌, if◌then◌else◌, ◌∙◌}
 use Rattle.std.proofs.Common.{ℕ, zero, suc, List, length, get_or, refl, sym, ap, inl, inr, arith}
 use Rattle.std.specs.Prelude.{ℤ, pos, ◌+ℤ◌}

@@ -1,5 +1,6 @@
 -- A list of vertices after writes, as the list of the edges that they name and the list of their
 -- data.
+-- Lemmas: set_named, set_value, copied_out_edges, copied_values, swap_remove-map.
 use Rattle.std.proofs.Common.{◌≡◌, ◌-◌, ◌<◌, [], ◌∷◌, ◌∙◌}
 use Rattle.std.proofs.Common.{ℕ, List, length, get_or, set, map, refl, sym, ap, arith}
 use Rattle.std.proofs.lemmas.List.{map-set, take-map, length-map, get_or-map}

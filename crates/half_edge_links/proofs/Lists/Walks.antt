@@ -1,4 +1,6 @@
 -- The places that a one-to-one walk over finitely many numbers goes through.
+-- Lemmas: among_steps, to_steps, from_steps, steps_closed, steps_apart, steps_again, in_period,
+-- period_closed.
 use Rattle.std.proofs.Common.{◌≡◌, ◌≢◌, ◌⊎◌, ◌+◌, ◌-◌, ◌<◌, ◌≤◌, ◌==◌, if◌then◌else◌, ◌∙◌}
 use Rattle.std.proofs.Common.{ℕ, zero, suc, Bool, true, false, refl, sym, ap, inl, inr, arith}
 use Rattle.std.proofs.lemmas.Bool.{cases_eq, eq-eqb, eqb-true}

@@ -1,4 +1,5 @@
 -- The outer edges after a call.
+-- Lemmas: same_outer, at_edge, is_edge, outer_hung, outer_closed.
 use Rattle.std.proofs.Common.{◌≡◌, ◌≢◌, ℕ, ◌+◌, ◌<◌, length, sym, ap, ◌∙◌, inl, inr, arith}
 use Rattle.std.proofs.lemmas.Bool.{cases_eq}
 use Rattle.half_edge_links.proofs.Lists.Cases.{◌or_else◌}

@@ -1,4 +1,6 @@
 -- The outer face keeps one loop.
+-- Notions: SameOuter; outline_same, outline_flipped, outline_inserted, outline_hung,
+-- outline_closed, outline_connected.
 use Rattle.std.proofs.Common.{◌≡◌, ◌≢◌, ◌+◌, ◌<◌, [], ◌∷◌, ◌∙◌}
 use Rattle.std.proofs.Common.{ℕ, zero, suc, List, length, refl, sym, ap, arith}
 use Rattle.half_edge_links.specs.declared.records.HalfEdge.{HalfEdge}

@@ -1,4 +1,5 @@
 -- The outer face keeps one loop where a vertex with three faces goes and the hole is filled.
+-- Lemmas: outline_filled.
 use Rattle.std.proofs.Common.{◌≡◌, ◌⊎◌, ◌-◌, ◌%◌, ◌<◌, ◌∙◌}
 use Rattle.std.proofs.Common.{ℕ, length, refl, sym, ap, inl, inr, subst, arith}
 use Rattle.half_edge_links.specs.Mesh.{Mesh, next, face, rev, AreSoundLinks}

@@ -1,4 +1,5 @@
 -- The outer face keeps one loop where an edge of the hull, or one with a free end, goes.
+-- Lemmas: outline_moved, outline_peeled, outline_removed.
 use Rattle.std.proofs.Common.{◌≡◌, ◌≢◌, [], ◌∷◌, ◌<◌, ◌∙◌}
 use Rattle.std.proofs.Common.{ℕ, List, length, refl, sym, ap, inl, inr, arith}
 use Rattle.std.proofs.lemmas.Bool.{cases_eq}

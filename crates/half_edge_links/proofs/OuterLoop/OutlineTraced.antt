@@ -1,4 +1,6 @@
 -- The outer edges through steps that make a hole, change it and fill it.
+-- Notions: IsNamed, IsTraced, TracesOuter, Opened, renamed, IsLeftOver, InLoop; traces_itself,
+-- same_hole, traces_opened, traces_removed, outline_traced.
 use Rattle.std.proofs.Common.{◌≡◌, ◌≢◌, ◌⊎◌, ◌-◌, ◌%◌, ◌<◌, ◌∙◌}
 use Rattle.std.proofs.Common.{ℕ, length, sym, ap, inl, inr, subst, arith}
 use Rattle.std.proofs.lemmas.Bool.{cases_eq}

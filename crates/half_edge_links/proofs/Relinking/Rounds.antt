@@ -4,6 +4,9 @@
 --   stand, Way, GoesAlone: what numbers that left stand for; a way of the walk; a round by itself
 --   Exchange, one_round: how a walk changes; the law
 --   renamed_walk, round_renamed: the same under other numbers
+-- Notions: Walk, IsClosedUnder, HasOneRound, KeepsLabel, replaced, stand, Way, start_of,
+-- IsStretch, GoesAlone, within_all, Exchange, renamed_walk; stand_off, stand_first, stand_second,
+-- one_round, round_renamed.
 use Rattle.std.proofs.Common.{◌≡◌, ◌≢◌, ◌⊎◌, [], ◌∷◌, ◌==◌, if◌then◌else◌, ◌∙◌}
 use Rattle.std.proofs.Common.{ℕ, Bool, true, List, refl, sym, ap, subst, inl, inr, arith}
 use Rattle.std.proofs.lemmas.Grind.{common_steps}

@@ -2,6 +2,8 @@
 --   star_walk, outer_walk: the walks
 --   stars_exchanged, outline_exchanged: the law of rounds for each
 --   IsMoved, exchange_moved: one edge that gets another place
+-- Notions: star_walk, outer_walk, IsMoved; star_goes, outer_goes, round_of_outline,
+-- stars_exchanged, outline_exchanged, exchange_moved.
 use Rattle.std.proofs.Common.{◌≡◌, ◌≢◌, [], ◌∷◌, ℕ, ◌<◌, List, length, refl, sym, ap, ◌∙◌}
 use Rattle.half_edge_links.specs.Mesh.{Mesh, origin, next, prev, AreSoundLinks, HasStars}
 use Rattle.half_edge_links.specs.Grow.{OnOuter}

@@ -1,4 +1,5 @@
 -- Making a loop of three edges of the outer face a face keeps a mesh sound.
+-- Notions: IsOfFace; round, closes, sound_closed, small_closed.
 use Rattle.std.proofs.Common.{◌≡◌, ◌≢◌, ◌⊎◌, ◌+◌, ◌-◌, ◌<◌, ◌≤◌, [], ◌∷◌, ◌∙◌}
 use Rattle.std.proofs.Common.{ℕ, length, refl, sym, ap, inl, inr, arith, length-append}
 use Rattle.std.proofs.lemmas.Bool.{cases_eq}

@@ -1,4 +1,7 @@
 -- The steps in which a vertex with three faces goes.
+-- Notions: can, s1, can1, nm; some_of, outer_of, removable_last, b3, b1, b2, before, twin_before,
+-- next_border, prev_border, open_triangle, at_a, a_before, twin_before1, z_left, c3_left, c1_left,
+-- c2_left, w_left, nz, rev_z, origin_now, to1, to2, fan_of_one.
 use Rattle.std.proofs.Common.{◌≡◌, ◌≢◌, ◌<◌, ◌∙◌}
 use Rattle.std.proofs.Common.{ℕ, length, Option, Some, None, IsSome, refl, sym, ap, inl, inr, arith}
 use Rattle.half_edge_links.specs.Mesh.{Mesh, origin, next, prev, face, rev, AreSoundLinks, IsInner}

@@ -1,4 +1,8 @@
 -- What the steps of a removal find, and how it follows from what always holds of a mesh.
+-- Notions: IsUnlinkable, IsHullEdge, IsFullWheel, IsFanOfTwo, IsFanOfOne, IsFullStrip; alone_at,
+-- unlinkable, removable, hull_edge, peelable, turn_in, turn_starts, same_spoke, turned_apart,
+-- full_wheel, spoke_at, turn_one, full_strip, faces_apart, flippable, turns_between,
+-- between_faces.
 use Rattle.std.proofs.Common.{◌≡◌, ◌≢◌, ◌⊎◌, ◌+◌, ◌-◌, ◌<◌, ◌≤◌, ◌==◌, if◌then◌else◌, ◌∙◌}
 use Rattle.std.proofs.Common.{ℕ, zero, suc, Bool, true, length, Some, refl, sym, ap, inl, inr}
 use Rattle.std.proofs.Common.{arith}

@@ -1,4 +1,7 @@
 -- The last edge takes the index of one to which nothing refers.
+-- Notions: pair_written; pair_first, pair_second, pair_other, old_left, new_left, old_rev,
+-- two_filled, next_written, prev_written, count_written, origin_written, face_written, in_range,
+-- joined_but, counts, renames_filled.
 use Rattle.std.proofs.Common.{◌≡◌, ◌≢◌, ◌⊎◌, ◌+◌, ◌-◌, ◌%◌, ◌<◌, ◌≤◌, ◌==◌, if◌then◌else◌, ◌∙◌}
 use Rattle.std.proofs.Common.{ℕ, List, length, get_or, set, Option, Some, None, refl, sym, ap, inl}
 use Rattle.std.proofs.Common.{inr, arith}

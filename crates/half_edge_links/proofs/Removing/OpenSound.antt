@@ -1,4 +1,7 @@
 -- Giving an inner face to the outer one keeps a mesh sound.
+-- Lemmas: same_renamed, get_or-swap_remove_same, get_or-swap_remove_other, swap_remove_default,
+-- length-swap_remove, opens, moved_hit, moved_miss, face_opened, face_named, sound_opened,
+-- small_opened, opened-is, in_loop.
 use Rattle.std.proofs.Common.{◌≡◌, ◌≢◌, ◌+◌, ◌-◌, ◌<◌, ◌≤◌, ◌∙◌}
 use Rattle.std.proofs.Common.{ℕ, List, length, get_or, set, take, Option, Some, None, refl, sym, ap}
 use Rattle.std.proofs.Common.{inl, inr, arith}

@@ -1,5 +1,6 @@
 -- An edge between an inner face and the outer one can be removed once the face is open, and one
 -- face is less.
+-- Lemmas: removable_opened, peels_faces.
 use Rattle.std.proofs.Common.{ℕ, ◌+◌, ◌≡◌, length, refl, sym, ap, ◌∙◌, arith}
 use Rattle.half_edge_links.specs.Mesh.{Mesh, prev, face, rev, AreSoundLinks}
 use Rattle.half_edge_links.specs.Remove.{Opens}

@@ -1,4 +1,6 @@
 -- Removing an edge keeps a mesh sound.
+-- Notions: IsInRange, AreLastTwo; removes, joined_unlinked, unlinked_places, last_two,
+-- sound_removed, small_removed.
 use Rattle.std.proofs.Common.{◌≡◌, ℕ, ◌+◌, ◌-◌, ◌%◌, ◌<◌, ◌≤◌, List, length, sym, ap, ◌∙◌, arith}
 use Rattle.half_edge_links.specs.declared.records.HalfEdge.{HalfEdge}
 use Rattle.half_edge_links.specs.Mesh.{Mesh, IsSmall, edge_at, rev, AreSoundLinks, IsValidMesh}

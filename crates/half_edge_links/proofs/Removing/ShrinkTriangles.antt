@@ -1,4 +1,6 @@
 -- The corners of the faces, and the ends of the edges, after elements went.
+-- Lemmas: same_triangle, get_map, map-swap_remove, triangles_opened, triangles_closed,
+-- triangles_removed, sides_removed, triangles_peeled, triangle_moved.
 use Rattle.std.proofs.Common.{◌≡◌, ◌+◌, ◌-◌, ◌<◌, [], ◌∷◌, ◌++◌, ◌∙◌}
 use Rattle.std.proofs.Common.{ℕ, zero, suc, List, length, get_or, set, take, map, refl, sym, ap}
 use Rattle.std.proofs.Common.{arith}

@@ -1,4 +1,6 @@
 -- A vertex of the hull loses its faces one by one.
+-- Notions: nm; removable_strip, can, s1, spoke_left, spokes, origin_now, start, strip_from,
+-- strip_ends, one_more.
 use Rattle.std.proofs.Common.{◌≡◌, ◌≢◌, ◌-◌, ◌%◌, ◌<◌, ◌≤◌, ◌∙◌}
 use Rattle.std.proofs.Common.{ℕ, zero, suc, length, refl, sym, ap, inl, inr, arith}
 use Rattle.std.proofs.lemmas.Bool.{cases_eq}

@@ -1,4 +1,7 @@
 -- The ends of the edges, the outer edges and the corners of the faces after a removal.
+-- Lemmas: removes_triangle, ends_opened, ends_loop_closed, ends_at, count_ends, removes_ends,
+-- outer_left, removes_outer, opens_outer, closes_outer, peels_outer, peels_triangle, peels_ends,
+-- moves_ends, moves_triangles, moves_outer.
 use Rattle.std.proofs.Common.{◌≡◌, ◌≢◌, ◌⊎◌, ◌+◌, ◌-◌, ◌*◌, ◌/◌, ◌%◌, ◌<◌, [], ◌∷◌, ◌∙◌}
 use Rattle.std.proofs.Common.{ℕ, List, length, get_or, map, refl, sym, ap, inl, inr, arith}
 use Rattle.std.proofs.lemmas.Bool.{cases_eq}

@@ -1,4 +1,6 @@
 -- The edges that are left once one was removed, under their new indexes.
+-- Notions: IsLeft, last_pair, pair_at, name, former, left_walk; side_left, former_is, name_in,
+-- name_same, origin_at, face_at, next_at, next_before, next_twin_before, old_at, rev_at, outer_at.
 use Rattle.std.proofs.Common.{◌≡◌, ◌≢◌, ◌-◌, ◌%◌, ◌<◌, ◌≤◌, ◌∙◌}
 use Rattle.std.proofs.Common.{ℕ, length, Some, sym, ap, inl, inr, arith}
 use Rattle.half_edge_links.specs.Mesh.{Mesh, origin, next, prev, face, rev, AreSoundLinks}

@@ -1,4 +1,7 @@
 -- Taking an edge out of its loops leaves the rest of a mesh sound.
+-- Notions: next_of, prev_of, both, IsAfter, IsBefore; length_both, next_both, next_both_other,
+-- prev_both, prev_both_other, origin_both, face_both, unlinks, some_same, halves, after_cases,
+-- t_in, at_e, at_t, after, before, inner_next, inner_prev, sides, sides_back, sound_but.
 use Rattle.std.proofs.Common.{◌≡◌, ◌≢◌, ◌⊎◌, ◌+◌, ◌-◌, ◌%◌, ◌<◌, ◌∙◌}
 use Rattle.std.proofs.Common.{ℕ, List, length, get_or, set, Option, Some, None, IsSome, refl, sym}
 use Rattle.std.proofs.Common.{ap, inl, inr, arith}

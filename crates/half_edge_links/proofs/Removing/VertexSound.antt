@@ -1,4 +1,6 @@
 -- The last vertex takes the index of one without edges.
+-- Notions: HasWalked; can_walk, walk_more, walk_ends, no_end, vertex_count, sound_moved,
+-- small_moved, moves_vertex.
 use Rattle.std.proofs.Common.{◌≡◌, ◌≢◌, ◌+◌, ◌-◌, ◌<◌, ◌≤◌, ◌∙◌}
 use Rattle.std.proofs.Common.{ℕ, zero, suc, List, length, get_or, Option, Some, None, refl, sym, ap}
 use Rattle.std.proofs.Common.{inl, inr, arith}

@@ -1,4 +1,5 @@
 -- The corners of the hole that a vertex with three faces leaves.
+-- Notions: IsHoleOfFour, IsHoleOfThree; hole_of_four, hole_of_three, closed_corners.
 use Rattle.std.proofs.Common.{◌≡◌, ℕ, ◌-◌, ◌%◌, length, sym, ap, ◌∙◌}
 use Rattle.half_edge_links.specs.Mesh.{Mesh, origin, next, prev, face, rev, AreSoundLinks}
 use Rattle.half_edge_links.specs.Renames.{pair_moved}

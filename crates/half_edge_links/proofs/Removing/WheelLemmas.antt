@@ -1,4 +1,7 @@
 -- The first step in which a vertex with three faces goes.
+-- Notions: nm; still_inner, still_apart, turn_in, turn_starts, a_in, z_in, t1, t2, t3, before_o,
+-- before_z, inner_z, peelable_first, s1, s2, can, prev_is, twin_face, a_left, z_left, b1_left,
+-- b3_left, ra_left, mid_before, mid_twin_before, nz, n3, s3, origin_now, rev_a, fan_of_two.
 use Rattle.std.proofs.Common.{◌≡◌, ◌≢◌, ℕ, ◌<◌, length, sym, ap, ◌∙◌, inl, inr, arith}
 use Rattle.std.proofs.lemmas.Bool.{cases_eq}
 use Rattle.half_edge_links.proofs.Lists.Cases.{◌each_with◌}

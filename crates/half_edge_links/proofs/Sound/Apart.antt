@@ -1,4 +1,6 @@
 -- No edge joins a vertex to itself after a change.
+-- Lemmas: apart_flipped, apart_hung, apart_closed, apart_inserted, apart_connected,
+-- stars_connected.
 use Rattle.std.proofs.Common.{◌≡◌, ◌≢◌, ◌+◌, ◌<◌, ◌∙◌}
 use Rattle.std.proofs.Common.{ℕ, zero, suc, length, refl, sym, ap, inl, inr, arith}
 use Rattle.std.proofs.lemmas.Bool.{cases_eq}

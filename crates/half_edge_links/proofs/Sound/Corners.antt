@@ -1,4 +1,5 @@
 -- The corners of the faces where no inner face changes.
+-- Lemmas: triangles_hung, triangles_closed.
 use Rattle.std.proofs.Common.{◌≡◌, ◌+◌, ◌-◌, ◌<◌, [], ◌∷◌, ◌++◌, ◌∙◌}
 use Rattle.std.proofs.Common.{ℕ, List, length, map, sym, ap, arith}
 use Rattle.std.proofs.lemmas.List.{same_lists, get_or-map, length-map, map-append}

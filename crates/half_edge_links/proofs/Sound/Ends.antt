@@ -1,4 +1,6 @@
 -- The ends of the edges after a change.
+-- Lemmas: length-paired, length-origins, get_or-origins, ends_grown, ends_moved, length-ends,
+-- length-ends_twice, get_or-ends.
 use Rattle.std.proofs.Common.{◌≡◌, ◌≢◌, ◌⊎◌, ◌+◌, ◌-◌, ◌*◌, ◌/◌, ◌%◌, ◌<◌, [], ◌∷◌, ◌++◌, ◌∙◌}
 use Rattle.std.proofs.Common.{ℕ, zero, suc, List, length, get_or, set, refl, sym, ap, inl, inr}
 use Rattle.std.proofs.Common.{arith, length-append}

@@ -1,4 +1,6 @@
 -- The ends of the edges after each call.
+-- Lemmas: ends_hung, ends_closed, ends_beside, ends_line, ends_flipped_is, ends_inserted_is,
+-- ends_half.
 use Rattle.std.proofs.Common.{◌≡◌, ◌+◌, ◌/◌, ◌<◌, [], ◌∷◌, ◌∙◌}
 use Rattle.std.proofs.Common.{ℕ, zero, suc, length, get_or, refl, ap, arith, append_assoc}
 use Rattle.std.proofs.Common.{add-zero}

@@ -1,4 +1,6 @@
 -- Reads of the directed edges after a write of one link.
+-- Notions: next_link, prev_link, face_link, origin_link, Writes, SetsLoopFace; writes_next,
+-- writes_prev, writes_face, writes_origin, swap_writes, swap_prevs, sets_loop_face.
 use Rattle.std.proofs.Common.{◌≡◌, ◌≢◌, ◌⊎◌, ℕ, ◌<◌, List, length, set, refl, sym, ap, ◌∙◌}
 use Rattle.std.proofs.Common.{inl, inr}
 use Rattle.std.proofs.lemmas.Bool.{cases_eq, cases_lt}

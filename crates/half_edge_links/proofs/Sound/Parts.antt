@@ -1,5 +1,10 @@
 -- The parts of an edge's soundness, for changes that write single links, or nothing beside the
 -- edge.
+-- Notions: IsSpoke, IsNextSound, IsPrevSound, IsInnerSound, IsInMesh, IsBusy, EachNextIsSound,
+-- EachEdgeIsSound, NamesOutEdges, NamesFaces, NamesOuterEdge, HasNoFace, KeepsOutEdges, KeepsBusy,
+-- KeepsFaceEdges, KeepsEnds, IsLoop, IsKept; grown_cases, late_cases, rev_of_even, rev_of_odd,
+-- sound_from, next_kept, prev_kept, inner_kept, next_of_sound, next_at, prev_sound, loop_sound,
+-- still_out, still_named, sound_kept.
 use Rattle.std.proofs.Common.{◌≡◌, ◌≢◌, ◌⊎◌, ◌+◌, ◌%◌, ◌<◌, ◌≤◌, ◌∙◌}
 use Rattle.std.proofs.Common.{ℕ, length, Some, IsSome, refl, inl, inr, sym, ap, arith}
 use Rattle.std.proofs.lemmas.Bool.{cases_eq}

@@ -1,4 +1,5 @@
 -- What the links are after three writes of next edges, three of edges before, and one of an origin.
+-- Notions: Relinks, relinked; relinks, three_joined.
 use Rattle.std.proofs.Common.{◌≡◌, ◌≢◌, ℕ, ◌<◌, List, length, refl, ap, ◌∙◌}
 use Rattle.half_edge_links.specs.declared.records.HalfEdge.{HalfEdge}
 use Rattle.half_edge_links.specs.Mesh.{edge_at}

@@ -1,4 +1,5 @@
 -- A mesh stays sound under new indexes, also where elements go to which nothing refers.
+-- Lemmas: kept_edge, sound_renamed.
 use Rattle.std.proofs.Common.{◌≡◌, ◌∙◌}
 use Rattle.std.proofs.Common.{ℕ, length, Option, Some, None, IsSome, refl, sym, ap, inl, inr}
 use Rattle.std.proofs.lemmas.Bool.{cases_lt}

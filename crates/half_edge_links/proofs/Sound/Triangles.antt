@@ -1,4 +1,5 @@
 -- The loops of inner faces.
+-- Notions: IsTriangle; triangle_at, same_loop, six_round.
 use Rattle.std.proofs.Common.{◌≡◌, ◌≢◌, ◌⊎◌, ℕ, ◌<◌, length, inl, inr, arith}
 use Rattle.half_edge_links.specs.Mesh.{Mesh, next, prev, face, rev, AreSoundLinks}
 use Rattle.half_edge_links.specs.Flip.{IsFlippable}

@@ -1,4 +1,5 @@
 -- The edges round each vertex stay one round where edges are put between them, or turned.
+-- Lemmas: stars_hung, stars_closed, stars_flipped, stars_inserted.
 use Rattle.std.proofs.Common.{◌≡◌, ◌≢◌, ◌+◌, ◌<◌, [], ◌∷◌, ◌∙◌}
 use Rattle.std.proofs.Common.{ℕ, List, length, refl, sym, ap, arith}
 use Rattle.half_edge_links.specs.declared.records.HalfEdge.{HalfEdge}

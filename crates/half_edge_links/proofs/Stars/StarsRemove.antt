@@ -1,4 +1,5 @@
 -- No edge joins a vertex to itself, and each vertex has one round of edges, after a removal.
+-- Lemmas: stars_same, apart_same, apart_removed, stars_removed, moved_back.
 use Rattle.std.proofs.Common.{◌≡◌, ◌≢◌, [], ◌∷◌, ◌-◌, ◌%◌, ◌<◌, ◌∙◌}
 use Rattle.std.proofs.Common.{ℕ, List, length, refl, sym, ap, inl, inr}
 use Rattle.std.proofs.lemmas.Bool.{cases_eq}

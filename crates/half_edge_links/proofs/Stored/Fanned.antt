@@ -1,4 +1,5 @@
 -- A vertex is put into a face among the records.
+-- Lemmas: say_fanned, shows_fanned.
 use Rattle.std.proofs.Common.{◌≡◌, ◌≢◌, ◌+◌, ◌<◌, ◌≤◌, [], ◌∷◌, ◌++◌, ◌∙◌}
 use Rattle.std.proofs.Common.{ℕ, List, length, get_or, set, refl, sym, inl, inr, arith, add-zero}
 use Rattle.std.proofs.lemmas.Bool.{cases_eq, cases_lt}

@@ -1,4 +1,5 @@
 -- Edges are hung and closed among the records.
+-- Lemmas: shows_hung, shows_closed.
 use Rattle.std.proofs.Common.{◌≡◌, ◌≢◌, ◌+◌, ◌<◌, [], ◌∷◌, ◌++◌, ◌∙◌}
 use Rattle.std.proofs.Common.{ℕ, List, length, set, sym, ap, inl, inr}
 use Rattle.std.proofs.lemmas.Bool.{cases_eq}

@@ -1,4 +1,5 @@
 -- Lists of directed edges whose links are joined.
+-- Lemmas: joined_sound, kept_in, joined_kept, loop_of_three.
 use Rattle.std.proofs.Common.{◌≡◌, ℕ, ◌<◌, List, length, ◌∙◌}
 use Rattle.half_edge_links.specs.declared.records.HalfEdge.{HalfEdge}
 use Rattle.half_edge_links.specs.declared.records.StoredEdge.{StoredEdge}

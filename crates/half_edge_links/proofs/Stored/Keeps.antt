@@ -1,5 +1,8 @@
 -- What a list of records keeps through writes to it: the links of directed edges, and where the
 -- edge before each starts.
+-- Notions: Suit, HasLinksOf, IsCornerOf, Keeps, SayOrigins, HaveOwnNexts; corners_of, keeps_shown,
+-- count_corners, apart_joined, corner_shown, corner_at, shown_is, keeps_set, keeps_push,
+-- keeps_remove, keeps_next, keeps_prev, keeps_face, keeps_corner, keeps_origin, keeps_joined.
 use Rattle.std.proofs.Common.{◌≡◌, ◌+◌, ◌-◌, ◌<◌, [], ◌∷◌, ◌++◌, ◌∙◌}
 use Rattle.std.proofs.Common.{ℕ, List, length, get_or, set, map, refl, sym, ap, inl, inr, arith}
 use Rattle.std.proofs.Common.{length-append}

@@ -1,4 +1,5 @@
 -- Edges are slid and pass a vertex among the records.
+-- Notions: AreThree, relinked_corners; say_relinked, shows_slid, shows_passed.
 use Rattle.std.proofs.Common.{◌≡◌, ◌≢◌, ℕ, ◌<◌, List, length, set, sym, ap, ◌∙◌, inl, inr}
 use Rattle.std.proofs.lemmas.Bool.{cases_eq}
 use Rattle.std.proofs.lemmas.List.{get_or-set_same, get_or-set_other, length-set}

@@ -1,4 +1,5 @@
 -- Edges are taken out among the records.
+-- Lemmas: shows_unlinked, shows_filled.
 use Rattle.std.proofs.Common.{◌≡◌, ◌≢◌, ◌+◌, ◌%◌, ◌<◌, ◌≤◌, ◌∙◌}
 use Rattle.std.proofs.Common.{ℕ, List, length, get_or, set, refl, sym, ap, inl, inr, arith}
 use Rattle.std.proofs.lemmas.Bool.{cases_eq}

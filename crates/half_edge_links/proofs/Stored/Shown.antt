@@ -1,4 +1,6 @@
 -- The directed edges that a list keeps.
+-- Lemmas: length_shown, shown_at, next_shown, prev_shown, face_shown, origin_shown, next_within,
+-- prev_within, shown_whole.
 use Rattle.std.proofs.Common.{◌≡◌, ℕ, ◌<◌, List, length, refl, sym, ap, ◌∙◌, inl, inr}
 use Rattle.std.proofs.lemmas.Bool.{cases_lt}
 use Rattle.std.proofs.lemmas.List.{length-map, get_or-map, get_or_past}

@@ -1,4 +1,6 @@
 -- The edges that a write to a list gives new links are in the list.
+-- Notions: LinkedIn, KeptIn, MovedIn, AreLastPlaces; linked_at, linked_in, kept_edge_in, slid_in,
+-- passed_in, last_places.
 use Rattle.std.proofs.Common.{◌≡◌, ℕ, ◌+◌, ◌-◌, ◌%◌, ◌<◌, ◌≤◌, List, length}
 use Rattle.std.proofs.Common.{arith}
 use Rattle.half_edge_links.specs.declared.records.StoredEdge.{StoredEdge}

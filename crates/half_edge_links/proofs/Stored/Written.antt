@@ -1,4 +1,5 @@
 -- Single links are written among the records.
+-- Lemmas: shows_loop_face, shows_origin, shows_first.
 use Rattle.std.proofs.Common.{◌≡◌, ◌<◌, [], ◌∷◌, ◌++◌, ◌∙◌}
 use Rattle.std.proofs.Common.{ℕ, List, length, refl, sym, ap, inl, inr}
 use Rattle.std.proofs.lemmas.Bool.{cases_eq}

@@ -1,4 +1,5 @@
 -- The cell of a circle inside which no vertex is: the hull of the vertices that the circle carries.
+-- Notions: zero_point; cell_is_hull.
 use Rattle.std.proofs.Common.{◌≡◌, ◌<◌, ℕ, List, [], map, length, get_or, arith, sym, ◌∙◌, ap}
 use Rattle.std.proofs.Common.{subst}
 use mathlib.Core.Logic.{inl, inr}

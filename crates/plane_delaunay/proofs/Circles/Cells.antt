@@ -1,5 +1,7 @@
 -- The cell of a circle inside which no vertex is: what it has of the vertices that the circle
 -- carries.
+-- Notions: steps, HasWay, IsTiedAt; lift-moved, inside_agrees, on_agrees, none_joined,
+-- face_is_empty, empty_open, triple_in_hull, germ_goes_on, has_way, tied_at, triple_in_cell.
 use Rattle.std.proofs.Common.{◌≡◌, ◌<◌, ◌+◌, ℕ, suc, [], ◌∷◌, map, arith, sym, ◌∙◌, subst}
 use mathlib.Core.Logic.{◌⊎◌, inl, inr}
 use Rattle.std.specs.Prelude.{◌↔◌, ℤ, pos, ◌<ℤ◌, ◌≤ℤ◌, ◌*ℤ◌, ◌+ℤ◌}

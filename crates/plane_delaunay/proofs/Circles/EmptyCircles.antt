@@ -1,5 +1,8 @@
 -- The global theorems in the definitions' words: the local test gives a constrained Delaunay
 -- triangulation, and a strictly empty triple is a face of it.
+-- Notions: spot, OneCircle, IsOpenTriple; no_face, straight_line, circle_lift,
+-- local_gives_constrained_delaunay, weights_along, same_at_end, overlapping, face_open,
+-- visibly_empty_is_face, strictly_empty_is_face.
 use Rattle.std.proofs.Common.{◌≡◌, ℕ, List, [], ◌∷◌, length, arith, ap, sym, ◌∙◌, subst}
 use mathlib.Core.Path.{subst₃}
 use mathlib.Core.Logic.{◌⊎◌, inl, inr}

@@ -1,5 +1,6 @@
 -- From the local test at each edge to the circle of each face: a vertex that no constraint hides is
 -- not inside.
+-- Notions: rays, IsJoined, PassesLocally; off-on_way, rays-off, not_above_face.
 use Prim.Native.Nat.{ℕ, zero, suc, ◌<◌}
 use lib.IntN.{ℤ, pos, ◌+ℤ◌, ◌*ℤ◌}
 use lib.Signed.{◌<ℤ◌, ◌≤ℤ◌}

@@ -1,5 +1,6 @@
 -- Two constrained Delaunay triangulations of one plain state: the same faces by position, where no
 -- circle carries a fourth vertex; and where two faces overlap, one circle.
+-- Lemmas: distinct, faces_are_unique, overlapping_faces_tie, history_free.
 use Rattle.std.proofs.Common.{◌≡◌, ℕ, List, sym, ◌∙◌, ap, subst}
 use mathlib.Core.Path.{subst₂, subst₃}
 use mathlib.Core.Logic.{inl, inr}

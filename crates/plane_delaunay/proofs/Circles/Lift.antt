@@ -1,5 +1,7 @@
 -- The circle of three fraction points as a linear form: a vertex is inside where the form is above
 -- 0. Its facts are those of homogeneous triples.
+-- Notions: pointᵖ; lift, lift-turned, lift-first, lift-second, lift-third, lift-across,
+-- inside_is_lift, far_if_none, on_is_lift.
 use Prim.Native.Nat.{◌+◌}
 use lib.IntN.{ℤ, pos, ◌+ℤ◌, ◌*ℤ◌}
 use lib.Signed.{◌<ℤ◌}

@@ -1,4 +1,5 @@
 -- The number of nearer vertices falls from a vertex to a nearer one.
+-- Lemmas: nearer_count_falls.
 use Rattle.std.proofs.Common.{◌≡◌, ℕ, ◌<◌, ◌≤◌, List, [], ◌∷◌, length, arith, ap, subst}
 use mathlib.Core.Logic.{◌⊎◌, inl, inr}
 use Rattle.std.specs.Prelude.{ℤ, pos, ◌<ℤ◌, ◌*ℤ◌, sum_by, ◌≤ℤ◌, cond, slice_index_or, int_lt}

@@ -1,4 +1,5 @@
 -- Without constraints: a vertex to which no neighbour is nearer than it is nearest of all.
+-- Lemmas: circles_are_empty, nearest_by_neighbours.
 use Rattle.std.proofs.Common.{◌≡◌, ℕ, [], ◌∷◌, arith}
 use mathlib.Core.Logic.{◌⊎◌, inl, inr}
 use Rattle.std.specs.Prelude.{ℤ, pos, ◌<ℤ◌, ◌≤ℤ◌, ◌+ℤ◌, ◌-ℤ◌, ◌*ℤ◌}

@@ -1,5 +1,6 @@
 -- Of two vertices and a point within their segment: how far they are from a third point. On one
 -- line a vertex to which no neighbour is nearer than it is nearest of all.
+-- Lemmas: nearest_on_line.
 use Rattle.std.proofs.Common.{◌≡◌, ℕ, zero, suc, ◌<◌, [], ◌∷◌, arith, sym, subst}
 use lib.IntN.{nat_abs}
 use mathlib.Core.Logic.{◌⊎◌, inl, inr}

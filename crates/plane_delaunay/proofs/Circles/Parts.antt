@@ -1,5 +1,6 @@
 -- A part of the vertices, with a Delaunay triangulation of its own: which of its cells are cells of
 -- the whole.
+-- Lemmas: part_has_cells, part_face_stays, part_has_face, part_knows_cells.
 use Rattle.std.proofs.Common.{◌≡◌, ◌<◌, ℕ, [], length, map, arith, sym, ◌∙◌, ap, subst}
 use mathlib.Core.Path.{subst₃}
 use mathlib.Core.Logic.{◌⊎◌, inl, inr}

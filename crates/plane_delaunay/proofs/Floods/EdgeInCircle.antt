@@ -1,5 +1,6 @@
 -- A closed edge has a point of a closed circle exactly if an end is in it, or the centre falls
 -- between the ends and is near enough to the line.
+-- Lemmas: edge_meets_circle.
 use Rattle.std.proofs.Common.{◌≡◌, [], ◌∷◌, arith, sym, subst}
 use mathlib.Core.Logic.{◌⊎◌, ◌↔◌, inl, inr}
 use Rattle.std.specs.Prelude.{ℤ, pos, ◌<ℤ◌, ◌≤ℤ◌, ◌+ℤ◌, ◌-ℤ◌, ◌*ℤ◌}

@@ -1,5 +1,6 @@
 -- A closed edge has a point of a closed rectangle exactly if its ranges meet the rectangle's and
 -- the corners are not all strictly on one side of its line.
+-- Lemmas: edge_meets_rectangle.
 use Rattle.std.proofs.Common.{◌≡◌, [], ◌∷◌, refl, arith, ap, sym, ◌∙◌, subst}
 use mathlib.Core.Logic.{◌⊎◌, ◌↔◌, inl, inr}
 use lib.IntN.{neg_ℤ, negsuc}

@@ -1,4 +1,6 @@
 -- The edges that meet a convex set are connected through faces: from one of them a flood finds all.
+-- Notions: InShape, IsFlooded; on_side-first, swapped_above, swapped_below, star, through_point,
+-- flood_finds.
 use Prim.Native.Nat.{ℕ, zero, suc, ◌+◌, ◌<◌}
 use lib.IntN.{ℤ, pos, ◌+ℤ◌, ◌-ℤ◌, ◌*ℤ◌}
 use lib.Signed.{◌<ℤ◌, ◌≤ℤ◌}

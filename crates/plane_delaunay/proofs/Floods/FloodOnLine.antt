@@ -1,5 +1,7 @@
 -- Where all vertices are on one line: a flood along shared vertices finds each edge in a region,
 -- and where it starts; each vertex has an edge.
+-- Lemmas: turned_edge, edge_at, first_edge, finds, flood_finds_on_line, edge_beside,
+-- flood_starts_on_line.
 use Rattle.std.proofs.Common.{◌≡◌, ℕ, zero, suc, ◌<◌, List, length, arith, ap, sym, ◌∙◌, subst}
 use lib.IntN.{nat_abs, *ℤ_comm}
 use mathlib.Core.Logic.{◌⊎◌, inl, inr}

@@ -1,4 +1,6 @@
 -- The exact start of a flood, vertices as ends of edges, and how many edges a flood finds.
+-- Lemmas: region_has_start, vertices_are_ends, one_vertex_is_alone, start_is_exact,
+-- flood_is_bounded, marks_fill_up, flood_by_vertices_finds, flood_is_exact.
 use Rattle.std.proofs.Common.{◌≡◌, ◌↔◌, ◌<◌, ◌≤◌, [], ◌∷◌, ◌+◌, ◌∙◌}
 use Rattle.std.proofs.Common.{ℕ, zero, suc, List, length, refl, arith, ap, sym}
 use Rattle.std.proofs.Common.{subst}

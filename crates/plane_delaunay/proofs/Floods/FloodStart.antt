@@ -1,5 +1,6 @@
 -- Where a flood starts: beside a point of a convex set, inside a face or beyond an outer edge, is
 -- an edge that meets the set, if any edge does.
+-- Notions: Border, BorderIn, MeetsSide; border_of_outside, side_of_inside.
 use Prim.Native.Nat.{ℕ, zero, suc, ◌<◌}
 use lib.IntN.{ℤ, pos, ◌+ℤ◌, ◌*ℤ◌, neg_ℤ}
 use lib.Signed.{◌<ℤ◌, ◌≤ℤ◌}

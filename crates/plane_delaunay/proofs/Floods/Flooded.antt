@@ -1,4 +1,5 @@
 -- Floods in the definitions' words: where one starts, and that it finds each edge in a region.
+-- Lemmas: segment_from, side_of_segment, edge_of, flood_finds_region, not_few, flood_starts.
 use Rattle.std.proofs.Common.{◌≡◌, ℕ, ◌≤◌, List, [], ◌∷◌, length, arith, ap, sym, ◌∙◌}
 use mathlib.Core.Logic.{◌⊎◌, inl, inr}
 use Rattle.std.specs.Prelude.{◌≢◌, ℤ, pos, ◌<ℤ◌, ◌+ℤ◌, ◌*ℤ◌}

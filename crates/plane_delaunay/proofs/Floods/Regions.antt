@@ -1,4 +1,5 @@
 -- Closed circles and closed rectangles have the segment of each two of their points.
+-- Notions: IsConvex; above_line, below_line, region_convex.
 use Rattle.std.proofs.Common.{◌≡◌, [], ◌∷◌, arith, sym, subst}
 use Rattle.std.specs.Prelude.{ℤ, pos, ◌<ℤ◌, ◌≤ℤ◌, ◌+ℤ◌, ◌-ℤ◌, ◌*ℤ◌}
 use Rattle.std.proofs.lemmas.Int.{ints}

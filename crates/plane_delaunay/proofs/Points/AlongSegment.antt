@@ -1,5 +1,8 @@
 -- Points of a segment in their order along it: the one nearer to the start comes first, and points
 -- as near are one.
+-- Notions: Placed; nearer_if, placed, not_both_nearer, reach_less, after_first, on_line,
+-- on_line_last, before, not_before, not_past, not_from_end, first_on, none_sooner, same_on_line,
+-- within_on_line.
 use Rattle.std.proofs.Common.{◌≡◌, [], ◌∷◌, arith, ap, sym, ◌∙◌, subst, subst₂, refl}
 use mathlib.Core.Logic.{◌⊎◌, inl, inr}
 use lib.IntN.{neg_ℤ}

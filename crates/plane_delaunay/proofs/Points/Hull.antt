@@ -1,5 +1,7 @@
 -- The hull of a list of points has each of them, and with two points the points between them. A
 -- linear form that is 0 at each point, or nowhere below 0, is so in the hull.
+-- Notions: AreSomewhere, IsForm; corner_in_hull, nudge_in_hull, triangle_in_hull, part_in_hull,
+-- bracket_form, sum_form, form-nudge, none_in_hull, least_in_hull.
 use Rattle.std.proofs.Common.{◌≡◌, ◌<◌, [], ◌∷◌, ◌∙◌}
 use Rattle.std.proofs.Common.{ℕ, zero, suc, List, length, get_or, refl, arith, ap, sym, subst}
 use Rattle.std.specs.Prelude.{ℤ, pos, ◌≤ℤ◌, ◌*ℤ◌, ◌+ℤ◌, ◌-ℤ◌, All}

@@ -1,4 +1,5 @@
 -- Members of lists by recursion, and sums over lists.
+-- Notions: Member; member, contained, member-le-sum_by, sum_by-lt.
 use Rattle.std.proofs.Common.{◌≡◌, ℕ, zero, suc, ◌<◌, ◌≤◌, List, [], ◌∷◌, arith, ap}
 use mathlib.Core.Logic.{◌⊎◌, inl, inr}
 use Rattle.std.specs.Prelude.{Contains, sum_by}

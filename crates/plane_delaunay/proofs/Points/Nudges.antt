@@ -1,4 +1,7 @@
 -- Closed and open triangles by brackets, and moving a point a little.
+-- Notions: Closed, Inside; size, nudged, germ_sign, nudge_positive, nudge, bracket-nudge,
+-- nudge-above, nudge-on, nudge-least, closed-turned, inside-turned, closed_of_inside, room,
+-- inside-nudge.
 use Prim.Native.Nat.{ℕ, zero, suc, ◌+◌, ◌<◌, ◌≤◌}
 use lib.IntN.{ℤ, pos, negsuc, ◌+ℤ◌, ◌*ℤ◌, nat_abs}
 use lib.Signed.{◌<ℤ◌, ◌≤ℤ◌}

@@ -1,4 +1,6 @@
 -- Sums of two products, and an order, over plain numbers.
+-- Lemmas: less_again, mix_positive, sum_above, sum_least, sum_none, stays_above, stays_below,
+-- none_before.
 use Prim.Native.Nat.{ℕ, suc, ◌<◌}
 use lib.IntN.{ℤ, pos, ◌+ℤ◌, ◌*ℤ◌, neg_ℤ}
 use lib.Signed.{◌<ℤ◌, ◌≤ℤ◌}

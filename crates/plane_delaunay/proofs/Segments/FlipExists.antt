@@ -1,5 +1,6 @@
 -- Among the edges that cross a segment is one that can be flipped: of the last right end, the edge
 -- to the last left end.
+-- Notions: far, IsLastRight, IsLastLeft; swap_below, front, x_around_v, z_around_v, flip_exists.
 use Prim.Native.Nat.{ℕ}
 use lib.IntN.{ℤ, pos, ◌+ℤ◌, ◌-ℤ◌, ◌*ℤ◌, neg_ℤ}
 use lib.Signed.{◌<ℤ◌, ◌≤ℤ◌}

@@ -1,5 +1,6 @@
 -- A segment of two vertices that is to become an edge: it is one where no edge crosses it, and an
 -- edge that crosses it leads to the next.
+-- Notions: Crosses, Before; before_crossing.
 use Prim.Native.Nat.{ℕ}
 use lib.IntN.{ℤ, pos, ◌+ℤ◌, ◌-ℤ◌, ◌*ℤ◌, neg_ℤ}
 use lib.Signed.{◌<ℤ◌, ◌≤ℤ◌}

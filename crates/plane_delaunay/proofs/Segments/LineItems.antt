@@ -1,5 +1,8 @@
 -- What a segment meets of a tiling: each item begins somewhere on the segment, and of two different
 -- items one comes first.
+-- Notions: Begins, SharedAt, Meeting; between_of, turned_segment, begins, no_vertex_within,
+-- one_vertex, edge_last, same_place, meeting_of_hull, met_within, not_met_once,
+-- crossing_and_overlap, line_items_are_ordered.
 use Rattle.std.proofs.Common.{◌≡◌, ℕ, arith, ap, sym, ◌∙◌, subst, subst₂}
 use mathlib.Core.Logic.{◌⊎◌, inl, inr}
 use Rattle.std.specs.Prelude.{ℤ, pos, ◌<ℤ◌, ◌-ℤ◌, ◌*ℤ◌}

@@ -1,4 +1,5 @@
 -- A segment of two vertices that carries no third and that no edge crosses is an edge.
+-- Lemmas: edge_if_uncrossed.
 use Prim.Native.Nat.{ℕ}
 use lib.IntN.{ℤ, pos, ◌+ℤ◌, ◌*ℤ◌, neg_ℤ}
 use lib.Signed.{◌<ℤ◌, ◌≤ℤ◌}

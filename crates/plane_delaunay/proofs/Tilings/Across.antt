@@ -1,4 +1,5 @@
 -- Two edges that share a point within both are one, and the face on the other side of an edge.
+-- Notions: IsClear; none_of_sum, inner_between, clear-swapped, sides_same.
 use Prim.Native.Nat.{ℕ, suc, ◌+◌}
 use lib.IntN.{ℤ, pos, ◌+ℤ◌, ◌-ℤ◌, ◌*ℤ◌, neg_ℤ}
 use lib.Signed.{◌<ℤ◌, ◌≤ℤ◌}

@@ -1,5 +1,6 @@
 -- Through a side of a face: the face beyond it, the side at which a way leaves a face, and the next
 -- point of a walk.
+-- Notions: Exit; halfway, between-halfway, exit, not_second, face_across.
 use Prim.Native.Nat.{ℕ}
 use lib.IntN.{ℤ, pos, ◌+ℤ◌, ◌-ℤ◌, ◌*ℤ◌, neg_ℤ}
 use lib.Signed.{◌<ℤ◌, ◌≤ℤ◌}

@@ -1,4 +1,5 @@
 -- At a vertex: a face whose closed cone holds the way to a point of the hull.
+-- Notions: Cone; cone, cone_at_vertex.
 use Rattle.std.proofs.Common.{◌≡◌, ℕ, ap, sym, ◌∙◌, subst}
 use mathlib.Core.Logic.{◌⊎◌, inl, inr}
 use Rattle.std.specs.Prelude.{◌≢◌, pos, ◌<ℤ◌, ◌≤ℤ◌, map}

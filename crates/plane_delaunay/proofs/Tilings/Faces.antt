@@ -1,4 +1,8 @@
 -- Faces that tile a hull: what the global theorems use of a tiling, and how a point and a face lie.
+-- Notions: Tiling, AreWeights, Between, StartsFrom, Germ; middle, turned-above, middle-inside,
+-- both_inside, between-swapped, between-on, between-second, between-third, between-closed,
+-- turns_2, corner_2, side_left, side_not_inside, none_within, germ-turned, starts-least,
+-- germ-closed, germ.
 use Prim.Native.Nat.{ℕ, suc}
 use lib.IntN.{ℤ, pos, ◌+ℤ◌, ◌*ℤ◌}
 use lib.Signed.{◌<ℤ◌, ◌≤ℤ◌}

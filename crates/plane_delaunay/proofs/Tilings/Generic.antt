@@ -1,4 +1,6 @@
 -- A point that stays left of some lines and is off others, and when no constraint hides a point.
+-- Notions: AllOff, IsOpen, AllOpen, Keeps; generic_point, open-swapped, same_bracket,
+-- swapped_weights, open_if_free, keeps.
 use Prim.Native.Nat.{ℕ, suc, ◌+◌, ◌<◌}
 use lib.IntN.{ℤ, pos, ◌+ℤ◌, ◌-ℤ◌, ◌*ℤ◌, neg_ℤ}
 use lib.Signed.{◌<ℤ◌, ◌≤ℤ◌}

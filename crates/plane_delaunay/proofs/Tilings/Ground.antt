@@ -1,5 +1,7 @@
 -- What the global theorems use of a tiling, from its definition, and the theorems in the
 -- definitions' words.
+-- Notions: sides_of, origin; inside_of, triangle_of_inside, closed_of, triangle_of_closed,
+-- face_of_side, faces_same, side_listed, in_map, face_in_hull, tiling.
 use Rattle.std.proofs.Common.{◌≡◌, ◌<◌, [], ◌∷◌, ◌∙◌}
 use Rattle.std.proofs.Common.{ℕ, List, length, map, refl, arith, ap, sym, subst}
 use mathlib.Core.Logic.{◌⊎◌, inl, inr}

@@ -1,4 +1,6 @@
 -- Two edges of a tiling meet in an end of both, or are one.
+-- Notions: OnSide, IsAt, Place, IsEdge, Shared; on_side-swapped, place_of, on_side-closed,
+-- on_side_of_closed, at_here, edge-swapped, edges_meet, edge_outside.
 use Prim.Native.Nat.{ℕ}
 use lib.IntN.{ℤ, pos, ◌+ℤ◌, ◌*ℤ◌}
 use lib.Signed.{◌<ℤ◌, ◌≤ℤ◌}

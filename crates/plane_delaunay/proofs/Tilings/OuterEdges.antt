@@ -1,5 +1,7 @@
 -- The outer edges of a tiling, in the definitions' words: what is in no face is left of one, and
 -- the hull is left of none.
+-- Notions: EachHasEdge; edge_of_corner, outside_is_left_of_outer, face_of_outer, beyond_outer,
+-- face_not_left_of_outer, hull_not_left_of_outer.
 use Rattle.std.proofs.Common.{ℕ}
 use mathlib.Core.Logic.{◌⊎◌, inl, inr}
 use Rattle.std.specs.Prelude.{map}

@@ -1,5 +1,7 @@
 -- Steps along a way through faces, and from the local test at each edge to the circles of all
 -- faces.
+-- Notions: Leaves, Step, OnWay, IsOff; step, passes_between, separation, nearer_on_way,
+-- far_end_nearer, leave, beyond.
 use Prim.Native.Nat.{ℕ, zero, suc, ◌+◌, ◌<◌, ◌≤◌}
 use lib.IntN.{ℤ, pos, negsuc, ◌+ℤ◌, ◌-ℤ◌, ◌*ℤ◌, neg_ℤ}
 use lib.Signed.{◌<ℤ◌, ◌≤ℤ◌}

@@ -1,5 +1,7 @@
 -- Where a point is: in a closed face, or beyond a side that has a face on one side alone, and never
 -- both.
+-- Notions: IsBeyond, IsCovered; listed_or_not, covered_or_beyond, vertex_not_beyond,
+-- not_covered_and_beyond, corner_of_face, vertex_not_inside, vertices_apart.
 use Rattle.std.proofs.Common.{◌≡◌, ℕ, zero, suc, ◌<◌, List, [], ◌∷◌, arith, ap, sym, ◌∙◌, subst}
 use mathlib.Core.Logic.{◌⊎◌, inl, inr}
 use native.Mathlib.Decide.{ℕ_discrete}

@@ -157,10 +157,10 @@ module _ (n : ℕ) (p : ℕ → Point) (faces : List Face) (outer : List (ℕ ×
     final_index = (m.ends (final.0, last_of v vs) final.1).1
 
     starts : (z : ℕ) → z < n → bracket (at p u) (at p n) (at p z) ≤ℤ pos 0
-    starts = H.start_supports n p _ _ m t u v before run.0 blind_before run.1
+    starts = H.start_supports n p _ _ m (p n) t u v before run.0 blind_before run.1
 
     finish : (z : ℕ) → z < n → bracket (at p n) (at p (last_of v vs)) (at p z) ≤ℤ pos 0
-    finish = H.end_supports n p _ _ m final.0 _ w final.1 after final.2 blind_after
+    finish = H.end_supports n p _ _ m (p n) final.0 _ w final.1 after final.2 blind_after
 
     seen_is_step : AreSeen n p outer (steps u (v ∷ vs))
     seen_is_step e h sees = H.seen_in_run n p _ _ m e.0 e.1 h sees u v vs run

@@ -209,7 +209,7 @@ module _ (n : ℕ) (p : ℕ → Point) (faces : List Face) (outer : List (ℕ ×
       second : (u < n) × (v < n) × (u ≢ v)
       second = m.ends (u, v) b
 
-  -- ---- n is a new point, q below
+  -- ---- n is a new point, q below, or q is any point
   -- the way from u to v has q on its left
   abbrev Sees : ℕ → ℕ → Type 0
   Sees u v = pos 0 <ℤ bracket (at p u) (at p v) (at p n)
@@ -218,32 +218,32 @@ module _ (n : ℕ) (p : ℕ → Point) (faces : List Face) (outer : List (ℕ ×
   back_weak u t k h = negated_below (bracket-swap t u k) h
 
   -- the line from the first seen edge's start to q supports all vertices
-  pub start_supports : (t u v : ℕ) → Contains outer (t, u) → Contains outer (u, v)
-      → bracket (at p t) (at p u) (at p n) ≤ℤ pos 0 → Sees u v → (z : ℕ) → z < n
-      → bracket (at p u) (at p n) (at p z) ≤ℤ pos 0
-  start_supports t u v a b blind sees z h = elim (zero_or_left
+  pub start_supports : (q : Point) (t u v : ℕ) → Contains outer (t, u) → Contains outer (u, v)
+      → bracket (at p t) (at p u) (lift q) ≤ℤ pos 0 → pos 0 <ℤ bracket (at p u) (at p v) (lift q)
+      → (z : ℕ) → z < n → bracket (at p u) (lift q) (at p z) ≤ℤ pos 0
+  start_supports q t u v a b blind sees z h = elim (zero_or_left
       (back_weak (at p t) (at p u) (at p v) (m.supporting (t, u) a v (m.ends (u, v) b).1))) [
         | inl e ↦ absurd (left_not_below
-            (seen_before _ _ _ (p n) (straight_on t u v a b e) sees) blind)
+            (seen_before _ _ _ q (straight_on t u v a b e) sees) blind)
         | inr l ↦ not_left_of_product l (first_not_left (bracket (at p u) (at p t) (at p v)) _
-            (bracket (at p u) (at p t) (at p n)) _ (bracket (at p u) (at p t) (at p z)) _
+            (bracket (at p u) (at p t) (lift q)) _ (bracket (at p u) (at p t) (at p z)) _
             (pluecker _ _ _ _ _) (mul-nonpos_of_nonneg_nonpos_ℤ (back_weak _ _ _ blind)
             (m.supporting (u, v) b z h))
             (mul-nonneg_ℤ (back_weak _ _ _ (m.supporting (t, u) a z h)) (weak sees)))
       ]
 
   -- and the line from q to the last seen edge's end
-  pub end_supports : (u v w : ℕ) → Contains outer (u, v) → Contains outer (v, w) → Sees u v
-      → bracket (at p v) (at p w) (at p n) ≤ℤ pos 0 → (z : ℕ) → z < n
-      → bracket (at p n) (at p v) (at p z) ≤ℤ pos 0
-  end_supports u v w a b sees blind z h = elim (zero_or_left
+  pub end_supports : (q : Point) (u v w : ℕ) → Contains outer (u, v) → Contains outer (v, w)
+      → pos 0 <ℤ bracket (at p u) (at p v) (lift q) → bracket (at p v) (at p w) (lift q) ≤ℤ pos 0
+      → (z : ℕ) → z < n → bracket (lift q) (at p v) (at p z) ≤ℤ pos 0
+  end_supports q u v w a b sees blind z h = elim (zero_or_left
       (back_weak (at p u) (at p v) (at p w) (m.supporting (u, v) a w (m.ends (v, w) b).1))) [
-        | inl e ↦ absurd (left_not_below (seen_on _ _ _ (p n) (straight_on u v w a b e) sees) blind)
+        | inl e ↦ absurd (left_not_below (seen_on _ _ _ q (straight_on u v w a b e) sees) blind)
         | inr l ↦ opposite_not_positive (bracket-swap _ _ _)
             (nonneg_of_mul-nonneg_ℤ l (subst (λ y. pos 0 ≤ℤ y)
             (*ℤ_comm _ (bracket (at p v) (at p u) (at p w)))
-            (first_not_right (bracket (at p v) (at p n) (at p z)) _
-            (bracket (at p v) (at p n) (at p u)) _ (bracket (at p v) (at p n) (at p w)) _
+            (first_not_right (bracket (at p v) (lift q) (at p z)) _
+            (bracket (at p v) (lift q) (at p u)) _ (bracket (at p v) (lift q) (at p w)) _
             (pluecker _ _ _ _ _) (mul-nonneg_ℤ (weak to_q)
             (swapped_weak _ _ _ (m.supporting (v, w) b z h)))
             (mul-nonpos_of_nonneg_nonpos_ℤ (swapped_weak _ _ _ blind)
@@ -251,7 +251,7 @@ module _ (n : ℕ) (p : ℕ → Point) (faces : List Face) (outer : List (ℕ ×
             (m.supporting (u, v) a z h))))))
       ]
     where
-      to_q : pos 0 <ℤ bracket (at p v) (at p n) (at p u)
+      to_q : pos 0 <ℤ bracket (at p v) (lift q) (at p u)
       to_q = rw bracket-turn at sees
 
       swapped_weak : (x y z : Vec3) → bracket x y z ≤ℤ pos 0 → pos 0 ≤ℤ bracket x z y

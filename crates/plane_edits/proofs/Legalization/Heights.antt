@@ -1,5 +1,7 @@
 -- The height that a face carries over a point, times the turn of its corners: linear in the point.
 -- What a flip does to it.
+-- Notions: carriedᵖ; carried, carried-turn, lower_abd_abc, lower_abd_acd, lower_bcd_abc,
+-- lower_bcd_acd.
 use Rattle.std.proofs.Common.{◌≡◌, [], ◌∷◌, arith}
 use Rattle.std.specs.Prelude.{ℤ, pos, ◌+ℤ◌, ◌-ℤ◌, ◌*ℤ◌, ◌≤ℤ◌, neg_ℤ}
 use Rattle.std.proofs.lemmas.Int.{ints}

@@ -1,4 +1,5 @@
 -- A path of constraints that is added piece by piece.
+-- Notions: IsAddingPath; adding_begins, adding_ends, adding_goes_on, piece_is_clear, adding_adds.
 use Rattle.std.proofs.Common.{◌≡◌, ◌≢◌, ◌⊎◌, ◌↔◌, ℕ, ◌<◌, List, length, subst, inl, inr}
 use Rattle.plane.specs.Fraction.{Point}
 use Rattle.plane.specs.Crossing.{Cross}

@@ -1,5 +1,6 @@
 -- The far ends of a straight constraint's halves, after their vertex has gone: nothing stands
 -- between them, so they can be joined.
+-- Lemmas: straight_halves_join_after_removal.
 use Rattle.std.proofs.Common.{◌≡◌, ◌⊎◌, ◌<◌, [], ◌∷◌, ◌∙◌}
 use Rattle.std.proofs.Common.{ℕ, suc, List, length, map, take, set, get_or, sym, ap, subst, subst₂}
 use Rattle.std.proofs.Common.{arith}

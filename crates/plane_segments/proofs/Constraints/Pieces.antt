@@ -1,4 +1,5 @@
 -- A path of constraints between two vertices: its first piece, and the path of the rest.
+-- Notions: On; on_parts, on_of_mean, path_begins, path_goes_on, path_ends, next_is_neighbours.
 use Rattle.std.proofs.Common.{◌≡◌, ◌⊎◌, ◌↔◌, ◌<◌, [], ◌∷◌, ◌∙◌}
 use Rattle.std.proofs.Common.{ℕ, List, length, refl, sym, ap, subst, subst₂, arith}
 use mathlib.Core.Logic.{inl, inr}

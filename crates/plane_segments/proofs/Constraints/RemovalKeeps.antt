@@ -1,5 +1,6 @@
 -- Where the faces at a vertex go, each edge that does not end there has a face or the outer face on
 -- its other side.
+-- Lemmas: removal_keeps_constraints.
 use Rattle.std.proofs.Common.{◌≡◌, ◌⊎◌, ℕ, List, length, sym, subst}
 use mathlib.Core.Logic.{inl, inr, ◌≢◌}
 use Rattle.std.specs.Prelude.{pos, ◌<ℤ◌, Contains}

@@ -1,5 +1,6 @@
 -- A new vertex on a constraint splits that one alone, and straight halves can be joined when their
 -- vertex goes.
+-- Lemmas: split_is_append, straight_halves_join.
 use Rattle.std.proofs.Common.{◌≡◌, ◌⊎◌, ℕ, List, refl, sym, ap, ◌∙◌, subst, subst₂}
 use mathlib.Core.Logic.{inl, inr}
 use Rattle.plane.specs.Fraction.{Point, Fraction, whole, IsSame, WithinSegment}

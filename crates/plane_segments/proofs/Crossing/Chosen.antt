@@ -1,4 +1,5 @@
 -- Where some edge crosses, there is one from a last right end to a last left end there.
+-- Notions: IsLastBelow; decide_listed, last_below, chosen_flip_exists.
 use Rattle.std.proofs.Common.{◌≡◌, ◌⊎◌, ◌<◌, [], ◌∷◌}
 use Rattle.std.proofs.Common.{ℕ, zero, suc, List, length, refl, ap, subst, arith}
 use mathlib.Core.Logic.{inl, inr}

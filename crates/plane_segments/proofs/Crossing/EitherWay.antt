@@ -1,4 +1,5 @@
 -- An edge crosses a segment exactly if one of its two ways does so from right to left.
+-- Lemmas: one_point, one_vertex, crossing_is_either_way.
 use Rattle.std.proofs.Common.{◌≡◌, ◌⊎◌, ℕ, ap, ◌∙◌, arith}
 use mathlib.Core.Logic.{inl, inr}
 use Rattle.std.specs.Prelude.{ℤ, pos, ◌-ℤ◌, ◌<ℤ◌}

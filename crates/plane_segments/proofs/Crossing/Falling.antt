@@ -1,5 +1,7 @@
 -- The order of the right ends as seen from the start, their ranks, and that a flip lowers the sum
 -- of ranks.
+-- Notions: Precedes, IsBefore-trans, ranked; off, rank_positive, and_true, and_first, and_second,
+-- rank_falls, same_values, strictly_nearer, ranked_nonneg, ranked_two, sum_falls.
 use Rattle.std.proofs.Common.{◌≡◌, ◌⊎◌, ◌+◌, ◌<◌, ◌≤◌, [], ◌∷◌, ◌∙◌}
 use Rattle.std.proofs.Common.{ℕ, zero, suc, List, length, refl, sym, ap, subst, arith}
 use mathlib.Core.Logic.{inl, inr}

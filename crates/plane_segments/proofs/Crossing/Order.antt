@@ -1,4 +1,6 @@
 -- The ends of crossing edges in their order as seen from the start, on the right and on the left.
+-- Lemmas: right-trans, left-trans, right-irrefl, left-irrefl, ends_are_ordered,
+-- last_has_none_after.
 use Rattle.std.proofs.Common.{◌≡◌, sym, subst₂, arith}
 use mathlib.Core.Logic.{inl, inr}
 use Rattle.std.specs.Prelude.{ℤ, pos, ◌<ℤ◌, neg_ℤ}

@@ -1,5 +1,6 @@
 -- A flip on a path keeps the constraints; a piece of a path is free of vertices, and on one line it
 -- is an edge.
+-- Lemmas: path_flip_keeps_constraints, piece_is_free, piece_on_line_is_edge.
 use Rattle.std.proofs.Common.{ℕ, sym, subst₂}
 use mathlib.Core.Logic.{inl, inr}
 use Rattle.plane.specs.Crossing.{Cross}

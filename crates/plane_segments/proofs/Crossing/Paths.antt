@@ -1,5 +1,7 @@
 -- The path to a constraint, in the words of specs/: where nothing crosses, an edge; else a flip
 -- that can be made.
+-- Lemmas: at_first, at_second, clear, crossing, crosses, last_right, last_left, uncrossed_is_edge,
+-- chosen_flip_is_convex.
 use Rattle.std.proofs.Common.{◌≡◌, ℕ, [], ◌∷◌, sym, ap, ◌∙◌}
 use mathlib.Core.Logic.{inl, inr}
 use Rattle.std.specs.Prelude.{ℤ, pos, ◌+ℤ◌, ◌-ℤ◌, ◌*ℤ◌, ◌≤ℤ◌}

@@ -1,4 +1,6 @@
 -- The sides of three points of the code, by the turn that they make.
+-- Notions: turnᵖ; left_turn, right_turn, no_turn, turn_left, turn-swapped, turn-same,
+-- turns-differ, mirrored, turn-mirrored, way-mirrored.
 use Rattle.std.proofs.Common.{◌≡◌, [], ◌∷◌, sym, ◌∙◌, subst}
 use Rattle.std.specs.Prelude.{pos, ◌-ℤ◌, ◌<ℤ◌, neg_ℤ}
 use Rattle.plane.specs.Fraction.{Point, whole}

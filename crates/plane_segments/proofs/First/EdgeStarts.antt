@@ -1,5 +1,7 @@
 -- What a segment meets first from strictly within an edge; and a point outside the vertices of one
 -- line, which no edge carries.
+-- Lemmas: first_to_left, first_along, one_ahead, first_from_an_edge, off_past,
+-- outside_is_off_line, crossing_on_line.
 use Rattle.std.proofs.Common.{◌≡◌, ◌≢◌, ℕ, [], ◌∷◌, arith, sym, ◌∙◌, subst}
 use mathlib.Core.Logic.{◌⊎◌, inl, inr}
 use native.Mathlib.Decide.{ℕ_discrete}

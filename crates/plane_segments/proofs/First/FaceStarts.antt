@@ -1,5 +1,7 @@
 -- What a segment meets first from strictly inside a face: nothing, a corner, or a side that it
 -- crosses.
+-- Lemmas: still_left, ends_inside, reaches_corner, bare_within, first_corner, first_side,
+-- first_from_a_face.
 use Rattle.std.proofs.Common.{◌≡◌, ℕ, [], ◌∷◌, arith, ap, sym, ◌∙◌}
 use mathlib.Core.Logic.{◌⊎◌, inl, inr}
 use lib.IntN.{neg_ℤ}

@@ -1,4 +1,5 @@
 -- What a segment meets first, by where it starts.
+-- Lemmas: first_vertex, first_crossing_here, first_overlap, first_from_outside, first_from_face.
 use Rattle.std.proofs.Common.{ℕ}
 use mathlib.Core.Logic.{◌⊎◌, inl, inr}
 use Rattle.std.specs.Prelude.{pos, ◌<ℤ◌}

@@ -1,5 +1,7 @@
 -- The walk where all vertices are on one line: after a vertex, and from the start. And from a point
 -- to itself.
+-- Lemmas: crossing_alone, last_without_edge, nearest_on_line, none_on_line, next_on_line,
+-- first_on_line, equal_ends.
 use Rattle.std.proofs.Common.{◌≡◌, ℕ, zero, suc, ◌<◌, List, [], ◌∷◌, arith, refl, sym, subst}
 use mathlib.Core.Logic.{◌⊎◌, inl, inr}
 use lib.IntN.{nat_abs}

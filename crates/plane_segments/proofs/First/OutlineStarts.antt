@@ -1,5 +1,6 @@
 -- From outside the hull, where a vertex is the first that a segment meets, an outer edge begins or
 -- ends there. So it is looked for along the outline alone.
+-- Notions: IsOnOutline; nearest_of_outline, none_of_outline.
 use Rattle.std.proofs.Common.{◌≡◌, ℕ, ◌<◌, [], length, arith, sym, ap, ◌∙◌, subst}
 use mathlib.Core.Logic.{◌⊎◌, inl, inr}
 use lib.IntN.{neg_ℤ}

@@ -1,5 +1,7 @@
 -- What a segment meets first from outside the hull, where it crosses no outer edge from there: a
 -- nearest vertex, or nothing.
+-- Notions: NearestIsFirst; vertex_begins, overlap_not_first, before_nearer, nearest_of_firsts,
+-- nearest_first, none_of_firsts, none_without, not_from_face, only_vertex, first_from_the_outside.
 use Rattle.std.proofs.Common.{◌≡◌, ℕ, List, [], ◌∷◌, arith, refl, sym, ◌∙◌, subst}
 use mathlib.Core.Logic.{◌⊎◌, inl, inr}
 use lib.IntN.{neg_ℤ}

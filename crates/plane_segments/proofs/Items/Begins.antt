@@ -1,4 +1,6 @@
 -- Where the items that a segment meets begin, by the sides of an edge that it crosses.
+-- Notions: Signs; above-same, edge_flipped, on_line, rising, begins_once, signs_of, met_if,
+-- after_crossing, before_crossing, bare_inside.
 use Rattle.std.proofs.Common.{◌≡◌, ℕ, arith, subst}
 use mathlib.Core.Logic.{◌⊎◌, inl, inr}
 use lib.IntN.{neg_ℤ}

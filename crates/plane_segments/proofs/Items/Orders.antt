@@ -1,5 +1,7 @@
 -- The order of the items that a segment meets: none is before itself, and what is before what is
 -- before is before.
+-- Lemmas: through, through_weak, nearer_through, nearer-same_first, nearer-same_second,
+-- not_both_before, before_through.
 use Rattle.std.proofs.Common.{◌≡◌, arith}
 use mathlib.Core.Logic.{◌⊎◌, inl, inr}
 use Rattle.std.specs.Prelude.{ℤ, pos, ◌<ℤ◌, ◌≤ℤ◌, ◌*ℤ◌}

@@ -1,5 +1,6 @@
 -- Whether a segment overlaps another along its way is decided: by two brackets, and by how far the
 -- ends are on the way.
+-- Notions: Overlaps; through_last, overlaps_if, decide_overlap.
 use Rattle.std.proofs.Common.{◌≡◌, ◌∙◌, arith, subst}
 use mathlib.Core.Logic.{◌⊎◌, inl, inr}
 use Rattle.std.specs.Prelude.{ℤ, pos, ◌<ℤ◌, ◌≤ℤ◌, ◌+ℤ◌, ◌-ℤ◌, ◌*ℤ◌}

@@ -1,4 +1,5 @@
 -- What the answers of the side function say of brackets.
+-- Lemmas: not_left, not_right, below_if_right, none_if_on.
 use Rattle.std.proofs.Common.{◌≡◌}
 use mathlib.Core.Logic.{◌⊎◌, inl, inr}
 use Rattle.std.specs.Prelude.{◌≢◌, pos, ◌<ℤ◌, ◌≤ℤ◌}

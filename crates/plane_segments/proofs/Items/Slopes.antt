@@ -1,5 +1,7 @@
 -- Along a segment a bracket rises or falls evenly: the order of its points by the sides of another
 -- line.
+-- Lemmas: slope, slope_above, even, evenly, later_is_higher, higher_is_later, left_along,
+-- left_from, left_before, slope_between, left_until.
 use Rattle.std.proofs.Common.{◌≡◌, [], ◌∷◌, arith, sym, ◌∙◌, subst}
 use mathlib.Core.Logic.{◌⊎◌, inl, inr}
 use lib.IntN.{neg_ℤ}

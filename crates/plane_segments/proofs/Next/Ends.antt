@@ -1,4 +1,5 @@
 -- A segment's last crossing: where it ends on the edge, or leaves the hull there.
+-- Lemmas: last_on_edge, edge_not_left, item_not_left_of_outer, last_at_outer.
 use Rattle.std.proofs.Common.{◌≡◌, ℕ}
 use mathlib.Core.Logic.{◌⊎◌, inl, inr}
 use Rattle.std.specs.Prelude.{pos, ◌<ℤ◌}

@@ -1,4 +1,5 @@
 -- What a segment meets next after an edge that it crosses: through the face on the edge's left.
+-- Notions: A, B, D, crossed; next_left, next_right, next_vertex, last_left, last_right.
 use Rattle.std.proofs.Common.{◌≡◌, ℕ, [], ◌∷◌, arith, ap, sym, ◌∙◌}
 use mathlib.Core.Logic.{◌⊎◌, inl, inr}
 use lib.IntN.{neg_ℤ}

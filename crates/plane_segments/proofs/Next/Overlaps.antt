@@ -1,4 +1,5 @@
 -- What a segment meets next after an edge that it overlaps: the vertex at its end, or nothing.
+-- Notions: A, B; next_at_end, last_before_end, reaches_end, next_unless_within, last_within.
 use Rattle.std.proofs.Common.{◌≡◌, ℕ, arith, subst, subst₂}
 use mathlib.Core.Logic.{◌⊎◌, inl, inr}
 use Rattle.std.specs.Prelude.{ℤ, pos, ◌<ℤ◌, ◌≤ℤ◌, ◌*ℤ◌}

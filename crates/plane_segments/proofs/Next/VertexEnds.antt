@@ -1,5 +1,6 @@
 -- Where nothing starts at a vertex towards the segment's end: the vertex is the last that the
 -- segment meets. And an edge there that points to the end is overlapped.
+-- Notions: V; ahead_met, last_bare.
 use Rattle.std.proofs.Common.{◌≡◌, ℕ, [], ◌∷◌, arith, ap, sym, ◌∙◌, subst}
 use mathlib.Core.Logic.{◌⊎◌, inl, inr}
 use lib.IntN.{neg_ℤ}

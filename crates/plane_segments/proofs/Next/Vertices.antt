@@ -1,5 +1,7 @@
 -- What a segment meets next after a vertex: an edge that it overlaps, one across a face there, or
 -- nothing.
+-- Notions: V, IsPast, B, C; is_past, last_at_end, next_overlap, before_end, past_left,
+-- last_inside, next_across.
 use Rattle.std.proofs.Common.{◌≡◌, ℕ, suc, [], ◌∷◌, arith, ap, sym, subst}
 use mathlib.Core.Logic.{◌⊎◌, inl, inr}
 use lib.IntN.{neg_ℤ}

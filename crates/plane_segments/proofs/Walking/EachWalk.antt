@@ -1,5 +1,6 @@
 -- Each segment has a walk: what it meets of vertices and edges, one by one, is put in a list in
 -- order.
+-- Notions: InOrder, Walked; ends_differ, walk_of, each_walk.
 use Rattle.std.proofs.Common.{◌≡◌, ◌<◌, ◌≤◌, ◌+◌, [], ◌∷◌, ◌∙◌}
 use Rattle.std.proofs.Common.{ℕ, zero, suc, List, length, arith, ap, refl, sym, subst}
 use Rattle.std.proofs.Common.{subst₂}

@@ -1,4 +1,5 @@
 -- Each mesh is a tiling, or has its vertices on one line with edges that meet at their ends alone.
+-- Lemmas: meshes_are_laid.
 use Rattle.std.proofs.Common.{◌≡◌, ◌≢◌, ℕ, ap}
 use mathlib.Core.Logic.{inl, inr}
 use native.Mathlib.Decide.{ℕ_discrete}

@@ -1,4 +1,5 @@
 -- Where all vertices are on one line: what the order of items rests on, and the last items there.
+-- Lemmas: line_ends, edge_level, item_level, last_across_line, meeting_if, steps_on_one_line.
 use Rattle.std.proofs.Common.{◌≡◌, ℕ, refl}
 use mathlib.Core.Logic.{◌⊎◌, inl, inr}
 use Rattle.std.specs.Prelude.{pos, ◌<ℤ◌}

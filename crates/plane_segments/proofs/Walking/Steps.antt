@@ -1,4 +1,7 @@
 -- The steps of the walk, by sides.
+-- Lemmas: edge_apart, items_follow, next_after_crossing, last_crossing, next_after_overlap,
+-- next_after_vertex, last_vertex, overlap_ahead, right_if_below, crossing_sides,
+-- crossing_by_sides, first_item, walk_is_line_list.
 use Rattle.std.proofs.Common.{◌≡◌, ℕ}
 use mathlib.Core.Logic.{◌⊎◌, ◌↔◌, inl, inr}
 use Rattle.std.specs.Prelude.{◌≢◌, pos, ◌<ℤ◌, ◌≤ℤ◌}

@@ -1,4 +1,7 @@
 -- A segment's walk is one, its rest gets shorter at each step, and the line list is the walk.
+-- Lemmas: meeting_of, next_is_one, first_is_one, next_at_head, none_at_last, first_at_head,
+-- one_walk, walk_is_short, rest_from, line_list_is_walk, each_segment_has_walk, rest_falls,
+-- line_list_is_the_walk.
 use Rattle.std.proofs.Common.{◌≡◌, ◌<◌, ◌≤◌, ◌+◌, [], ◌∷◌}
 use Rattle.std.proofs.Common.{suc, List, length, arith, ap, ap₂, refl, sym, subst}
 use mathlib.Core.Logic.{◌⊎◌, inl, inr}

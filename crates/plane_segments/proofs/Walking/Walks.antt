@@ -1,4 +1,5 @@
 -- A walk from the first item to the last is the line list.
+-- Lemmas: walk_is_line_list.
 use Rattle.std.proofs.Common.{◌≡◌, List, [], ◌∷◌, subst, refl}
 use mathlib.Core.Logic.{◌⊎◌, inl, inr}
 use Rattle.std.specs.Prelude.{All, AllPairs}

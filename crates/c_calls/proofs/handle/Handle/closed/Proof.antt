@@ -1,4 +1,5 @@
 -- `closed` owns nothing.
+-- Lemmas: closed_spec.
 use Rattle.std.proofs.Common.{[], ◌∷◌, refl, lit<}
 use mathlib.Core.Bool.{false}
 use mir.Val.{Val, vbool}

@@ -1,4 +1,5 @@
 -- `into_loose` tells by its mark whether there is a box.
+-- Lemmas: into_loose_spec.
 use Rattle.std.proofs.Common.{◌≡◌, List, [], ◌∷◌, ◌++◌, refl, sym, ap, ◌∙◌, subst, lit<}
 use mathlib.Core.Bool.{Bool, true, false}
 use lib.Dec.{T}

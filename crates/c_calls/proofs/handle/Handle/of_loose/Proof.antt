@@ -1,4 +1,5 @@
 -- `of_loose` moves the pointer, and what it owns goes with it.
+-- Lemmas: of_loose_spec.
 use Rattle.std.proofs.Common.{List, [], ◌∷◌, ◌++◌, refl, sym, subst}
 use mathlib.Core.Bool.{true}
 use mir.Val.{Val, vptr, vbool}

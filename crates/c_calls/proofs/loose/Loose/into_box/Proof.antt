@@ -1,4 +1,5 @@
 -- `into_box` makes the box again.
+-- Lemmas: into_box_spec.
 use Rattle.std.proofs.Common.{◌≡◌, List, [], ◌∷◌, ◌++◌, refl, sym, ap, subst}
 use mir.Syntax.{a_type, dcons, dnil}
 use mir.Val.{Val, vptr}
