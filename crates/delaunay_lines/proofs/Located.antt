@@ -1,5 +1,5 @@
 -- Where a segment starts, by the answer to where its start is.
--- Lemmas: on_that_vertex, inside_that_face, outside_that_edge, without_triangulation.
+-- Lemmas: on_that_vertex, inside_that_face, none_past, outside_that_edge, without_triangulation.
 use Rattle.std.proofs.Common.{◌≡◌, ℕ, ◌<◌, ◌≤◌, List, length, map, sym, subst, inl, inr, arith}
 use Rattle.half_edge_mesh.specs.Mesh.{Mesh, origin, prev, face_edge, rev}
 use Rattle.half_edge_mesh.specs.Contents.{Contents}
@@ -125,7 +125,7 @@ module _ {V D U F : Type 0} (at : V → Point) (IsSite IsCovered : Point → Typ
       within no_triangulation away is w = one no_triangulation (on_edge i j) is (e, w)
 
   -- where faces tile the hull, no position is past the end of a line
-  none_past : TilesHull t → (i : ℕ) → IsVertex t i → ¬ IsPast t i (whole p)
+  pub none_past : TilesHull t → (i : ℕ) → IsVertex t i → ¬ IsPast t i (whole p)
   none_past tiles i v past = elim over.shape as (λ _. ⊥) [
     | inl l ↦ P.none_beyond (length points) (point_at points) (faces_of m) (outer_of m)
         (by_signs points (faces_of m) (outer_of m) l) (whole p) i v past

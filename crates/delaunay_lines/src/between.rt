@@ -45,8 +45,8 @@ impl<'a, V: HasPosition, DE, UE, F, P: PlaneTests<V::Scalar>> Segment<'a, V, DE,
             PositionInTriangulation::OnVertex(vertex) => Some(FixedIntersection::Vertex(vertex)),
             PositionInTriangulation::OnEdge(edge) => Some(self.first_on_edge(edge)),
             PositionInTriangulation::OnFace(face) => self.first_in_face(edge_of(dcel, face)),
-            PositionInTriangulation::OutsideOfConvexHull(_)
-            | PositionInTriangulation::NoTriangulation => self.first_outside(),
+            PositionInTriangulation::OutsideOfConvexHull(edge) => self.first_beyond(edge),
+            PositionInTriangulation::NoTriangulation => self.first_outside(),
         }
     }
 }

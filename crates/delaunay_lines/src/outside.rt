@@ -1,18 +1,22 @@
 //! What a segment meets first, from outside the triangulation.
-ghost use Rattle.std.specs.Prelude.{◌≢◌, ◌↔◌, ◌<◌, ◌<ℤ◌, ℕ};
-ghost use Rattle.std.specs.Prelude.{length, map, IsTrue, IfSome, MatchOption};
+ghost use Rattle.std.specs.Prelude.{◌≡◌, ◌≢◌, ◌↔◌, ◌<◌, ◌<ℤ◌, ℕ};
+ghost use Rattle.std.specs.Prelude.{length, map, IsTrue, IfSome, IfNone, MatchOption};
 ghost use Rattle.plane.specs.Fraction.{whole as fraction};
 ghost use Rattle.plane.specs.Circle.{gap};
 ghost use Rattle.mesh_embedding.specs.Drawn.{drawn};
 ghost use Rattle.delaunay_core.specs.Place.{place_of};
+ghost use Rattle.delaunay_location.specs.Location.{Locates};
+ghost use Rattle.delaunay_location.specs.declared.position_in_triangulation.PositionInTriangulation.TheVariants.{OutsideOfConvexHull};
 ghost use Rattle.delaunay_lines.specs.Starts.{GoesRight, HasEndsOnSides, IsBetter, IsCrossed};
 ghost use Rattle.delaunay_lines.specs.Starts.{IsEntered, IsNearerVertex, IsNearestOf};
 ghost use Rattle.delaunay_lines.specs.Starts.{IsNoBetter, IsOnSegment, StartsOutside};
+ghost use Rattle.delaunay_lines.specs.Steps.{IsLeftOf};
+ghost use Rattle.delaunay_lines.specs.Outline.{IsSeenOuter, IsTurningPoint};
 ghost use Rattle.delaunay_lines.specs.Walk.{Starts};
 
 use crate::intersection::FixedIntersection;
 use crate::segment::Segment;
-use crate::sides::{side_of_edge, twin_of};
+use crate::sides::{edge_after, edge_before, side_of_edge, twin_of};
 use crate::way::Way;
 use delaunay_core::math::PlaneTests;
 use delaunay_core::point::{HasPosition, Point2, SpadeNum};
@@ -193,5 +197,103 @@ impl<'a, V: HasPosition, DE, UE, F, P: PlaneTests<V::Scalar>> Segment<'a, V, DE,
             Some(vertex) => Some(FixedIntersection::Vertex(vertex)),
             None => None,
         }
+    }
+
+    // An edge, where the segment begins strictly on its left.
+    fn if_seen(&self, edge: FixedDirectedEdgeHandle) -> Option<FixedDirectedEdgeHandle>
+        requires { edge < length self.now.dcel.directed }
+        ensures { let points = map V.place self.now.dcel.vertices in let m = self.now.dcel.mesh in
+            MatchOption result (¬ IsLeftOf points m self.now.from edge)
+            (λ e. (e ≡ edge) × IsLeftOf points m self.now.from edge) }
+    {
+        if side_of_edge(self.dcel, edge, self.from, self.tests).is_on_left_side() {
+            return Some(edge);
+        }
+        None
+    }
+
+    // The neighbour of a seen outer edge along the outline, on the side where the segment's line
+    // passes the edge, if there is such a side and the start sees the neighbour.
+    fn seen_neighbour(&self, edge: FixedDirectedEdgeHandle) -> Option<FixedDirectedEdgeHandle>
+        requires { IsSeenOuter V.place self.now.dcel self.now.from edge }
+        ensures some { IfSome result (IsSeenOuter V.place self.now.dcel self.now.from) }
+        ensures none { IfNone result (IsTurningPoint V.place self.now.dcel self.now.from
+            self.now.to edge) }
+    {
+        let end = self.side_of_start(twin_of(self.dcel, edge));
+        if end.is_on_right_side() {
+            return self.if_seen(edge_after(self.dcel, edge));
+        }
+        let start = self.side_of_start(edge);
+        if start.is_on_left_side() {
+            return self.if_seen(edge_before(self.dcel, edge));
+        }
+        None
+    }
+
+    // What it meets first, where the outline comes no nearer to its line beyond a seen outer edge.
+    fn first_at(&self, edge: FixedDirectedEdgeHandle) -> Option<FixedIntersection>
+        requires apart { self.now.from ≢ self.now.to }
+        requires inner { 0 < length self.now.dcel.faces }
+        requires start { StartsOutside (drawn (map V.place self.now.dcel.vertices)
+            self.now.dcel.mesh) self.now.from }
+        requires seen { IsSeenOuter V.place self.now.dcel self.now.from edge }
+        requires stop { IsTurningPoint V.place self.now.dcel self.now.from self.now.to edge }
+        ensures { Starts V.place self.now.dcel self.now.from self.now.to result }
+    {
+        let twin = twin_of(self.dcel, edge);
+        let (start, end) = (self.side_of_start(edge), self.side_of_start(twin));
+        if self.ends_left_of(edge) {
+            return None;
+        }
+        if end.is_on_right_side() {
+            return None;
+        }
+        if start.is_on_left_side() {
+            return None;
+        }
+        if end.is_on_line() {
+            return Some(self.start_item(twin));
+        }
+        if start.is_on_line() {
+            return Some(self.start_item(edge));
+        }
+        Some(FixedIntersection::Edge(twin))
+    }
+
+    // From a seen outer edge along the outline to what it meets first: each step leads nearer to
+    // its line.
+    fn first_along(&self, edge: FixedDirectedEdgeHandle) -> Option<FixedIntersection>
+        requires apart { self.now.from ≢ self.now.to }
+        requires inner { 0 < length self.now.dcel.faces }
+        requires start { StartsOutside (drawn (map V.place self.now.dcel.vertices)
+            self.now.dcel.mesh) self.now.from }
+        requires seen { IsSeenOuter V.place self.now.dcel self.now.from edge }
+        ensures { Starts V.place self.now.dcel self.now.from self.now.to result }
+    {
+        let mut here = edge;
+        for _ in 0..self.dcel.num_directed_edges() {
+            match self.seen_neighbour(here) {
+                Some(neighbour) => here = neighbour,
+                None => return self.first_at(here),
+            }
+        }
+        self.first_outside()
+    }
+
+    // From beyond an outer edge: it goes along the outline from this edge on. Without a face all
+    // vertices are on one line.
+    pub(crate) fn first_beyond(&self, edge: FixedDirectedEdgeHandle) -> Option<FixedIntersection>
+        requires { Locates (map V.place self.now.dcel.vertices) self.now.dcel.mesh self.now.from
+            (OutsideOfConvexHull edge) }
+        ensures { Starts V.place self.now.dcel self.now.from self.now.to result }
+    {
+        if self.dcel.num_inner_faces() == 0 {
+            return self.first_outside();
+        }
+        if is_same_point(self.from, self.to) {
+            return self.first_outside();
+        }
+        self.first_along(edge)
     }
 }

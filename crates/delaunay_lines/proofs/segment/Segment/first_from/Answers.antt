@@ -1,6 +1,6 @@
-use Rattle.std.proofs.Common.{sym, inl, inr, arith}
+use Rattle.std.proofs.Common.{sym, arith}
 use Rattle.delaunay_lines.proofs.Advance.{starts_at_vertex}
-use Rattle.delaunay_lines.proofs.Located.{inside_that_face, on_that_vertex, outside_that_edge}
+use Rattle.delaunay_lines.proofs.Located.{inside_that_face, on_that_vertex}
 use Rattle.delaunay_lines.proofs.Located.{without_triangulation}
 use Rattle.delaunay_lines.proofs.segment.Segment.first_from.Goals as goal
 
@@ -23,10 +23,10 @@ first_in_face-requires-clause-start g c =
     rw (← c.self.view_is, c.edge_of.ensures.value)
     (inside_that_face _ _ _ _ _ _ c.self.invariant c.in-OnFace.face located)
 
+pub first_beyond-requires : goal.first_beyond-requires
+first_beyond-requires g c = rw c.in-OutsideOfConvexHull.is at c.requires
+
 pub first_outside-requires : goal.first_outside-requires
 first_outside-requires g c =
-    let located = rw (← c.self.view_is) at c.requires in
-    rw (← c.self.view_is) (elim c.in-OutsideOfConvexHull.is [
-      | inl a ↦ outside_that_edge _ _ _ _ _ _ c.self.invariant a.0 (rw a.1 at located)
-      | inr e ↦ without_triangulation _ _ _ _ _ _ c.self.invariant (rw e at located)
-    ])
+    let located = rw (← c.self.view_is, c.in-NoTriangulation.is) at c.requires in
+    rw (← c.self.view_is) (without_triangulation _ _ _ _ _ _ c.self.invariant located)

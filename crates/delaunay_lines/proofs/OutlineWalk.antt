@@ -1,0 +1,513 @@
+-- What a segment meets first from beyond an outer edge, told from this edge and its neighbours.
+-- Lemmas: nothing_on_left, nothing_beyond, vertex_first, end_first, start_first, not_both_on,
+-- left_if_neither, right_if_neither, tiled, seen_from, seen_after, seen_before, neighbour_after,
+-- neighbour_before, stops_after, stops_before, nothing_on_its_left, nothing_past_end,
+-- nothing_past_start, end_met, start_met, edge_met.
+use Rattle.std.proofs.Common.{◌≡◌, ◌≢◌, ◌⊎◌, ◌<◌, ◌∙◌, ℕ, List, [], length, map, Option, Some, None}
+use Rattle.std.proofs.Common.{refl, sym, ap, subst, inl, inr, arith}
+use lib.IntN.{neg_ℤ}
+use Rattle.std.specs.Prelude.{IfSome, IfNone, MatchOption}
+use Rattle.std.specs.Prelude.{ℤ, pos, ◌<ℤ◌, ◌≤ℤ◌, ◌+ℤ◌, ◌-ℤ◌, ◌*ℤ◌, Contains}
+use Rattle.std.proofs.lemmas.Int.{ints}
+use Rattle.half_edge_mesh.specs.Mesh.{Mesh, origin, next, prev, face, rev}
+use Rattle.half_edge_links.proofs.Lists.Rev.{rev-rev, rev_within}
+use Rattle.half_edge_mesh.specs.Contents.{Contents}
+use Rattle.plane.specs.Fraction.{Point, Fraction, whole, IsSame, OnSegment}
+use Rattle.plane.specs.Side.{Side, side, left, right, on, opposite, TurnsLeft}
+use Rattle.plane.specs.Pairs.{place}
+use Rattle.plane.specs.Circle.{IsNearer}
+use Rattle.plane.specs.Tiling.{Triangulation, IsVertex, IsEdge, vertex, TilesHull}
+use Rattle.plane.specs.Location.{IsOuter}
+use Rattle.plane.specs.Line.{Item, IsPointOf, Meets, IsBefore, IsVertexThenOverlap}
+use Rattle.plane.specs.Line as L
+use Rattle.plane.proofs.IntegerLaws.{neg-mul_ℤ}
+use Rattle.plane.proofs.IntegerOrder.{lt_or_ge_ℤ, trichotomy_ℤ, mul-pos_ℤ}
+use Rattle.plane.proofs.IntegerOrder.{mul-nonpos_of_nonneg_nonpos_ℤ}
+use Rattle.plane.proofs.Nearer.{nothing_nearer}
+use Rattle.plane.proofs.Segments.{start_on_segment}
+use Rattle.plane.proofs.Sides.{if_left, if_right, if_on, side_swapped}
+use Rattle.plane.proofs.Steps.{weak, weak_right, zero_weak_left, left_not_below, left_not_zero}
+use Rattle.plane.proofs.Steps.{product_zero_left}
+use Rattle.plane.proofs.Signs.{negated_negative, opposite_of_negative, opposite_of_positive}
+use Rattle.plane.proofs.Signs.{opposite_of_zero_of, opposite_of_not_positive}
+use Rattle.plane_delaunay.proofs.Points.AlongSegment.{Placed, sooner, as_soon, later, placed}
+use Rattle.plane_delaunay.proofs.Points.Bracket.{bracket, bracket-swapped, bracket-turned, cramer-w}
+use Rattle.plane_delaunay.proofs.Points.Bracket.{bracket-first, bracket-second, meeting}
+use Rattle.plane_delaunay.proofs.Points.Bracket.{above_if_left, left_if_above}
+use Rattle.plane_tiling.proofs.Counting.{SignMesh}
+use Rattle.plane_tiling.proofs.Tiles.{point_at, by_signs, bracket_not_left}
+use Rattle.plane_edits.proofs.Insertion.Hull.{start_supports, end_supports}
+use Rattle.mesh_embedding.specs.Drawn.{drawn, faces_of, outer_of}
+use Rattle.mesh_embedding.proofs.OuterEdges.{listed}
+use Rattle.delaunay_legalization.proofs.ElementCounts.{faces_counted}
+use Rattle.delaunay_location.specs.Location.{Locates}
+use Rattle.delaunay_location.specs.declared.position_in_triangulation.PositionInTriangulation.TheVariants.{OutsideOfConvexHull}
+use Rattle.delaunay_lines.specs.declared.intersection.FixedIntersection.TheVariants.{Edge, Vertex}
+use Rattle.delaunay_lines.specs.Steps.{IsOverMesh, IsLeftOf}
+use Rattle.delaunay_lines.specs.Starts.{StartsOutside}
+use Rattle.delaunay_lines.specs.Outline.{IsSeenOuter, IsTurningPoint}
+use Rattle.delaunay_lines.specs.Walk.{Starts}
+use Rattle.delaunay_lines.proofs.Located.{none_past}
+use Rattle.delaunay_lines.proofs.MeshSteps.{laid, in_mesh, of_mesh, joined, bare, start_in, not_same}
+use Rattle.delaunay_lines.proofs.FirstItems.{starts_first, nothing_met}
+use Rattle.delaunay_lines.proofs.OutsideItems.{enters}
+use Rattle.plane_delaunay.proofs.Floods.Flooded.{segment_from}
+use Rattle.plane_delaunay.proofs.Segments.LineItems.{Begins, begins, meeting_of_hull}
+use Rattle.plane_segments.specs.Steps.{IsFirst, IsWalk}
+use Rattle.plane_segments.proofs.Items.Begins.{above-same}
+use Rattle.plane_segments.proofs.Items.Orders.{nearer-same_second}
+use Rattle.plane_segments.proofs.Items.Slopes.{slope, slope_above, later_is_higher, left_along}
+use Rattle.plane_segments.proofs.Items.Slopes.{left_before}
+use Rattle.plane_segments.proofs.Next.Ends.{item_not_left_of_outer}
+use Rattle.plane_segments.proofs.Walking.Steps.{edge_apart}
+
+-- ---- numbers
+first_part : (f g x y k z l w : ℤ) → f *ℤ x -ℤ g *ℤ y ≡ k *ℤ z -ℤ l *ℤ w → l ≡ pos 0
+    → k *ℤ z ≡ f *ℤ x +ℤ neg_ℤ g *ℤ y
+first_part f g x y k z l w e d =
+    let a = product_zero_left {a = l} w d in omega (arith, ints, neg-mul_ℤ g y)
+
+second_part : (f g x y k z m w : ℤ) → f *ℤ x -ℤ g *ℤ y ≡ k *ℤ z -ℤ neg_ℤ m *ℤ w → k ≡ pos 0
+    → m *ℤ w ≡ f *ℤ x +ℤ neg_ℤ g *ℤ y
+second_part f g x y k z m w e d =
+    let a = product_zero_left {a = k} z d in omega (arith, ints, neg-mul_ℤ g y, neg-mul_ℤ m w)
+
+only_last : (s pw x aw y bw z qw : ℤ) → s *ℤ pw ≡ x *ℤ aw +ℤ y *ℤ bw +ℤ z *ℤ qw → x ≡ pos 0
+    → y ≡ pos 0 → pos 0 <ℤ pw → pos 0 <ℤ z → pos 0 <ℤ qw → pos 0 <ℤ s
+only_last s pw x aw y bw z qw e hx hy hp hz hq = go (lt_or_ge_ℤ (pos 0) s)
+  where
+    low : s ≤ℤ pos 0 → ⊥
+    low h =
+        let m = mul-pos_ℤ {a = z} {b = qw} hz hq in
+        let n = mul-nonpos_of_nonneg_nonpos_ℤ {a = pw} {b = s}
+        (weak hp) h in
+        let i = product_zero_left {a = x} aw hx in
+        let j = product_zero_left {a = y} bw hy in
+        let c = lib.IntN.*ℤ_comm s pw in
+        omega (arith, ints)
+
+    go : (pos 0 <ℤ s) ⊎ (s ≤ℤ pos 0) → pos 0 <ℤ s
+    go (inl h) = h
+    go (inr h) = absurd (low h)
+
+-- from a point of a line to one on its left, the slope is above 0
+rises : (u v p q : Fraction) → bracket u v p ≡ pos 0 → pos 0 <ℤ bracket u v q
+    → pos 0 <ℤ slope u v p q
+unfolding slope
+rises u v p q e k = let m = mul-pos_ℤ {a = bracket u v q} {b = p.w} k p.positive in
+    let n = product_zero_left {a = bracket u v p} q.w e in omega (arith, ints)
+
+-- ---- an outer edge from a to b that has the start on its left
+module _ (t : Triangulation) (h : TilesHull t) (p q : Fraction) (apart : ¬ IsSame p q) (a b : ℕ)
+    (outer : IsOuter t a b) (seen : pos 0 <ℤ bracket (vertex t a) (vertex t b) p) where
+  abbrev A : Fraction
+  A = vertex t a
+
+  abbrev B : Fraction
+  B = vertex t b
+
+  -- no point of an item is on the left of the edge
+  beneath : (k : Item) → Meets t p q k → (z : Fraction) → IsPointOf t k z
+      → ¬ (pos 0 <ℤ bracket A B z)
+  beneath = item_not_left_of_outer t h p q a b outer
+
+  -- a segment that stays on its left meets nothing
+  pub nothing_on_left : pos 0 <ℤ bracket A B q → IsWalk t p q []
+  nothing_on_left high k met = let s = begins t p q k met in
+      beneath k met s.at s.begins.of_item (left_along p q apart A B s.at s.begins.shared seen high)
+
+  -- ---- a line through the start that has all vertices on one side
+  module _ (u v : Fraction) (supports : (k : ℕ) → IsVertex t k → bracket u v (vertex t k) ≤ℤ pos 0)
+    where
+      edge_below : (i j : ℕ) (z : Fraction) → IsEdge t i j → OnSegment (vertex t i) (vertex t j) z
+          → ¬ (pos 0 <ℤ bracket u v z)
+      edge_below i j z e there high =
+          let ends = (meeting_of_hull t h).ends i j e in
+          left_not_below (left_before (vertex t i) (vertex t j) (edge_apart t h i j e) u v z there
+          high (supports j ends.1)) (supports i ends.0)
+
+      item_below : (k : Item) → Meets t p q k → (z : Fraction) → IsPointOf t k z
+          → ¬ (pos 0 <ℤ bracket u v z)
+      item_below (L.at_vertex i) met z s high =
+          left_not_below (above-same u v z (vertex t i) s high) (supports i met.0)
+      item_below (L.across i j) met z s high = edge_below i j z met.0 s high
+      item_below (L.along i j) met z s high = edge_below i j z met.0 s high
+
+      -- a segment to its other side meets nothing
+      pub nothing_beyond : bracket u v p ≡ pos 0 → pos 0 <ℤ bracket u v q → IsWalk t p q []
+      nothing_beyond level high k met = go (placed p q apart p s.at (start_on_segment p q)
+          s.begins.shared)
+        where
+          s : Begins t p q k
+          s = begins t p q k met
+
+          go : Placed p p s.at → ⊥
+          go (sooner n) = item_below k met s.at s.begins.of_item
+              (later_is_higher p q apart u v p s.at (start_on_segment p q) s.begins.shared n
+              (rises u v p q level high) (zero_weak_left level))
+          go (as_soon e) = beneath k met s.at s.begins.of_item (above-same A B p s.at e seen)
+          go (later n) = nothing_nearer p s.at n
+
+  not_then_overlap : (k : Item) (v : ℕ) → IsVertexThenOverlap k (L.at_vertex v) → ⊥
+  not_then_overlap (L.at_vertex i) v x = x
+  not_then_overlap (L.across i j) v x = x
+  not_then_overlap (L.along i j) v x = x
+
+  -- ---- where the segment does not end on the edge's left
+  module _ (reaches : ¬ (pos 0 <ℤ bracket A B q)) where
+    before_low : bracket B A p <ℤ pos 0
+    before_low = opposite_of_positive (bracket B A p) (bracket A B p) (bracket-swapped A B p) seen
+
+    after_high : pos 0 ≤ℤ bracket B A q
+    after_high = go (lt_or_ge_ℤ (pos 0) (bracket A B q))
+      where
+        go : (pos 0 <ℤ bracket A B q) ⊎ (bracket A B q ≤ℤ pos 0) → pos 0 ≤ℤ bracket B A q
+        go (inl l) = absurd (reaches l)
+        go (inr l) = opposite_of_not_positive _ _ (bracket-swapped A B q) l
+
+    -- a vertex on it and on the edge's line is what it meets first
+    pub vertex_first : (v : ℕ) → IsVertex t v → OnSegment p q (vertex t v)
+        → bracket A B (vertex t v) ≡ pos 0 → IsFirst t p q (L.at_vertex v)
+    vertex_first v hv there level = record {
+      met = (hv, there);
+      none_before = λ k met o. order k met o o.order;
+    }
+      where
+        order : (k : Item) → Meets t p q k → (o : IsBefore t p q k (L.at_vertex v))
+            → IsNearer p o.first o.second
+            ⊎ (IsSame o.first o.second × IsVertexThenOverlap k (L.at_vertex v)) → ⊥
+        order k met o (inl near) = go (lt_or_ge_ℤ (pos 0) (bracket A B o.first))
+          where
+            to_vertex : IsNearer p o.first (vertex t v)
+            to_vertex = nearer-same_second p q apart o.first o.second (vertex t v)
+                o.first_begins.shared o.second_begins.shared there o.second_begins.of_item near
+
+            go : (pos 0 <ℤ bracket A B o.first) ⊎ (bracket A B o.first ≤ℤ pos 0) → ⊥
+            go (inl high) = beneath k met o.first o.first_begins.of_item high
+            go (inr low) = left_not_zero
+                (later_is_higher p q apart B A o.first (vertex t v) o.first_begins.shared there
+                to_vertex (slope_above B A p q before_low after_high)
+                (opposite_of_not_positive _ _ (bracket-swapped A B o.first) low))
+                (opposite_of_zero_of (bracket-swapped A B (vertex t v)) level)
+        order k met o (inr same) = not_then_overlap k v same.1
+
+    -- the end, where it is on the segment's line
+    pub end_first : IsVertex t b → bracket p q B ≡ pos 0 → bracket p q A <ℤ pos 0
+        → IsFirst t p q (L.at_vertex b)
+    end_first hb level below = vertex_first b hb
+        (segment_from (bracket q p A) (bracket B A q) (neg_ℤ (bracket B A p)) p q B
+        (opposite_of_negative _ _ (bracket-swapped p q A) below) after_high
+        (negated_negative before_low)
+        (λ x y. first_part (bracket B A q) (bracket B A p) (bracket x y p) (bracket x y q)
+        (bracket q p A) (bracket x y B) (bracket q p B) (bracket x y A) (meeting B A p q x y)
+        (opposite_of_zero_of (bracket-swapped p q B) level)))
+        (bracket-second A B)
+
+    -- the start, likewise
+    pub start_first : IsVertex t a → bracket p q A ≡ pos 0 → pos 0 <ℤ bracket p q B
+        → IsFirst t p q (L.at_vertex a)
+    start_first ha level above = vertex_first a ha
+        (segment_from (bracket p q B) (bracket B A q) (neg_ℤ (bracket B A p)) p q A
+        above after_high (negated_negative before_low)
+        (λ x y. second_part (bracket B A q) (bracket B A p) (bracket x y p) (bracket x y q)
+        (bracket q p A) (bracket x y B) (bracket p q B) (bracket x y A)
+        (meeting B A p q x y ∙ ap (λ s. bracket q p A *ℤ bracket x y B -ℤ s *ℤ bracket x y A)
+        (bracket-swapped p q B)) (opposite_of_zero_of (bracket-swapped p q A) level)))
+        (bracket-first A B)
+
+    -- not both ends are on the segment's line
+    pub not_both_on : bracket p q B ≡ pos 0 → bracket p q A ≡ pos 0 → ⊥
+    not_both_on e f = reaches (only_last (bracket A B q) p.w (bracket B q p) A.w (bracket q A p) B.w
+        (bracket A B p) q.w (cramer-w A B q p)
+        (opposite_of_zero_of (sym (bracket-turned B q p) ∙ bracket-swapped p q B) e)
+        (bracket-turned p q A ∙ f) p.positive seen q.positive)
+
+-- ---- sides
+not_left_and_on : (z : Side) → z ≡ on → z ≡ left → ⊥
+not_left_and_on z e f = cc
+
+pub left_if_neither : (z : Side) → ¬ (z ≡ right) → ¬ (z ≡ on) → z ≡ left
+left_if_neither left r n = refl
+left_if_neither on r n = absurd (n refl)
+left_if_neither right r n = absurd (r refl)
+
+pub right_if_neither : (z : Side) → ¬ (z ≡ left) → ¬ (z ≡ on) → z ≡ right
+right_if_neither left l n = absurd (l refl)
+right_if_neither on l n = absurd (n refl)
+right_if_neither right l n = refl
+
+swapped_left : (z : Side) → z ≡ left → opposite z ≡ left → ⊥
+swapped_left z e f = let g : opposite z ≡ right = ap opposite e in cc
+
+swapped_right : (z : Side) → ¬ (z ≡ left) → opposite z ≡ right → ⊥
+swapped_right left n f = n refl
+swapped_right on n f = cc
+swapped_right right n f = cc
+
+-- ---- over a mesh
+module _ {V D U F : Type 0} (at : V → Point) (IsSite IsCovered : Point → Type 0)
+    (c : Contents V D U F) (p q : Point) (over : IsOverMesh at IsSite IsCovered c p q) where
+  abbrev m : Mesh
+  m = c.mesh
+
+  abbrev points : List Point
+  points = map at c.vertices
+
+  abbrev t : Triangulation
+  t = drawn points m
+
+  -- with a face, the faces tile the hull
+  pub tiled : 0 < length c.faces → TilesHull t
+  tiled some = elim (laid at IsSite IsCovered c p q over) [
+    | inl h ↦ h
+    | inr l ↦ absurd (none (ap length l.0.no_face))
+  ]
+    where
+      none : length (faces_of m) ≡ 0 → ⊥
+      none e = let n = faces_counted c over.mesh in omega (arith, some, n, e)
+
+  -- located beyond an edge of the hull, p is on the left of this edge
+  pub seen_from : TilesHull t → (e : ℕ) → Locates points m p (OutsideOfConvexHull e)
+      → IsSeenOuter at c p e
+  seen_from tiles e l = record {
+    within = of_mesh at IsSite IsCovered c p q over e l.handle.0;
+    outer = l.handle.1;
+    seen = elim l.location.1 [
+      | inl w ↦ w
+      | inr past ↦ absurd (none_past at IsSite IsCovered c p q over tiles (origin m e)
+          (start_in at IsSite IsCovered c p q over e l.handle.0) past)
+    ];
+  }
+
+  -- the edges before and after an outer edge are outer edges
+  pub seen_after : (h : ℕ) → h < length c.directed → face m h ≡ 0
+      → IsLeftOf points m p (next m h) → IsSeenOuter at c p (next m h)
+  seen_after h within o l =
+      let here = over.mesh.valid.sound.edges h (in_mesh at IsSite IsCovered c p q over h within) in
+      record {
+        within = of_mesh at IsSite IsCovered c p q over (next m h) here.next_in;
+        outer = here.same_face ∙ o;
+        seen = l;
+      }
+
+  outer_before : (h : ℕ) → h < length m.half_edges → face m h ≡ 0 → face m (prev m h) ≡ 0
+  outer_before h w o =
+      let here = over.mesh.valid.sound.edges h w in
+      sym (over.mesh.valid.sound.edges (prev m h) here.prev_in).same_face
+      ∙ ap (face m) here.next_prev ∙ o
+
+  pub seen_before : (h : ℕ) → h < length c.directed → face m h ≡ 0
+      → IsLeftOf points m p (prev m h) → IsSeenOuter at c p (prev m h)
+  seen_before h within o l =
+      let w = in_mesh at IsSite IsCovered c p q over h within in
+      record {
+        within = of_mesh at IsSite IsCovered c p q over (prev m h)
+            (over.mesh.valid.sound.edges h w).prev_in;
+        outer = outer_before h w o;
+        seen = l;
+      }
+
+  -- ---- a neighbour of outer edge h
+  module _ (h : ℕ) (within : h < length c.directed) (o : face m h ≡ 0) where
+    -- edge g, if p is on its left
+    abbrev IfSeen : Option ℕ → ℕ → Type 0
+    IfSeen r g = MatchOption r (¬ IsLeftOf points m p g) (λ e. (e ≡ g) × IsLeftOf points m p g)
+
+    pub neighbour_after : (r : Option ℕ) (g : ℕ) → g ≡ next m h → IfSeen r g
+        → IfSome r (IsSeenOuter at c p)
+    neighbour_after None g e x = tt
+    neighbour_after (Some k) g e x = subst (IsSeenOuter at c p) (sym (x.0 ∙ e))
+        (seen_after h within o (subst (IsLeftOf points m p) e x.1))
+
+    pub neighbour_before : (r : Option ℕ) (g : ℕ) → g ≡ prev m h → IfSeen r g
+        → IfSome r (IsSeenOuter at c p)
+    neighbour_before None g e x = tt
+    neighbour_before (Some k) g e x = subst (IsSeenOuter at c p) (sym (x.0 ∙ e))
+        (seen_before h within o (subst (IsLeftOf points m p) e x.1))
+
+    -- the segment's line passes the edge on one side, and p does not see the neighbour there
+    pub stops_after : (r : Option ℕ) (g : ℕ) → g ≡ next m h → IfSeen r g
+        → side (whole p) (whole q) (place points (origin m (rev h))) ≡ right
+        → IfNone r (IsTurningPoint at c p q h)
+    stops_after None g e x past = record {
+      after = λ _. subst (λ (k : ℕ). ¬ IsLeftOf points m p k) e x;
+      before = λ n _. absurd (n past);
+    }
+    stops_after (Some k) g e x past = tt
+
+    pub stops_before : (r : Option ℕ) (g : ℕ) → g ≡ prev m h → IfSeen r g
+        → ¬ (side (whole p) (whole q) (place points (origin m (rev h))) ≡ right)
+        → IfNone r (IsTurningPoint at c p q h)
+    stops_before None g e x short = record {
+      after = λ past. absurd (short past);
+      before = λ _ _. subst (λ (k : ℕ). ¬ IsLeftOf points m p k) e x;
+    }
+    stops_before (Some k) g e x short = tt
+
+  -- ---- from the left of outer edge h
+  module _ (apart : p ≢ q) (tiles : TilesHull t) (h : ℕ) (s : IsSeenOuter at c p h) where
+    abbrev X : Fraction
+    X = place points (origin m h)
+
+    abbrev Y : Fraction
+    Y = place points (origin m (rev h))
+
+    ways_apart : ¬ IsSame (whole p) (whole q)
+    ways_apart = not_same p q apart
+
+    w : h < length m.half_edges
+    w = in_mesh at IsSite IsCovered c p q over h s.within
+
+    r_in : rev h < length m.half_edges
+    r_in = rev_within h (length m.half_edges) over.mesh.valid.sound.even w
+
+    outer : IsOuter t (origin m h) (origin m (rev h))
+    outer = (
+      joined at IsSite IsCovered c p q over h w,
+      bare at IsSite IsCovered c p q over h w s.outer,
+    )
+
+    seen : pos 0 <ℤ bracket X Y (whole p)
+    seen = above_if_left _ _ _ s.seen
+
+    -- to its left it meets nothing
+    pub nothing_on_its_left : IsLeftOf points m q h → Starts at c p q None
+    nothing_on_its_left l = nothing_met at IsSite IsCovered c p q over apart
+        (nothing_on_left t tiles (whole p) (whole q) ways_apart (origin m h) (origin m (rev h))
+        outer seen (above_if_left _ _ _ l))
+
+    -- ---- the hull between two lines through p
+    signs : SignMesh (length points) (point_at points) (faces_of m) (outer_of m)
+    signs = elim over.shape [
+      | inl l ↦ by_signs points (faces_of m) (outer_of m) l
+      | inr l ↦ (let x = tiles.spread in
+          absurd (not_left_and_on (side (vertex t x.0) (vertex t x.1) (vertex t x.2))
+          (l.1.straight x.0 x.1 x.2 x.3 x.4 x.5) x.6))
+    ]
+
+    ends_listed : (g : ℕ) → g < length m.half_edges → face m g ≡ 0
+        → Contains (outer_of m) (origin m g, origin m (rev g))
+    ends_listed g k o = listed m g (origin m g) (origin m (rev g))
+        (record { within = k; outer = o; source = refl; target = refl })
+
+    end_side : ¬ IsLeftOf points m p (next m h) → (k : ℕ) → IsVertex t k
+        → bracket (whole p) Y (vertex t k) ≤ℤ pos 0
+    unfolding bracket
+    end_side blind k hk =
+        let here = over.mesh.valid.sound.edges h w in
+        let far = origin m (rev (next m h)) in
+        end_supports (length points) (point_at points) (faces_of m) (outer_of m) signs p
+        (origin m h) (origin m (rev h)) far (ends_listed h w s.outer)
+        (subst (λ (i : ℕ). Contains (outer_of m) (i, far)) here.starts
+        (ends_listed (next m h) here.next_in (here.same_face ∙ s.outer)))
+        (if_left X Y (whole p) s.seen)
+        (bracket_not_left Y (place points far) (whole p) (λ l. blind
+        (subst (λ (i : ℕ). TurnsLeft (place points i) (place points far) (whole p))
+        (sym here.starts) l))) k hk
+
+    start_side : ¬ IsLeftOf points m p (prev m h) → (k : ℕ) → IsVertex t k
+        → bracket X (whole p) (vertex t k) ≤ℤ pos 0
+    unfolding bracket
+    start_side blind k hk =
+        let here = over.mesh.valid.sound.edges h w in
+        let far = origin m (prev m h) in
+        let joint : origin m (rev (prev m h)) ≡ origin m h =
+        sym (over.mesh.valid.sound.edges (prev m h) here.prev_in).starts
+        ∙ ap (origin m) here.next_prev in
+        start_supports (length points) (point_at points) (faces_of m) (outer_of m) signs p
+        far (origin m h) (origin m (rev h))
+        (subst (λ (i : ℕ). Contains (outer_of m) (far, i)) joint
+        (ends_listed (prev m h) here.prev_in (outer_before h w s.outer)))
+        (ends_listed h w s.outer)
+        (bracket_not_left (place points far) X (whole p) (λ l. blind
+        (subst (λ (i : ℕ). TurnsLeft (place points far) (place points i) (whole p)) (sym joint)
+        l)))
+        (if_left X Y (whole p) s.seen) k hk
+
+    right_below : (z : Fraction) → side (whole p) (whole q) z ≡ right
+        → bracket (whole p) (whole q) z <ℤ pos 0
+    unfolding bracket
+    right_below z e = if_right (whole p) (whole q) z e
+
+    on_level : (z : Fraction) → side (whole p) (whole q) z ≡ on
+        → bracket (whole p) (whole q) z ≡ pos 0
+    unfolding bracket
+    on_level z e = if_on (whole p) (whole q) z e
+
+    -- past the last edge that p sees it meets nothing
+    pub nothing_past_end : side (whole p) (whole q) Y ≡ right → ¬ IsLeftOf points m p (next m h)
+        → Starts at c p q None
+    nothing_past_end e blind = nothing_met at IsSite IsCovered c p q over apart
+        (nothing_beyond t tiles (whole p) (whole q) ways_apart (origin m h) (origin m (rev h))
+        outer seen (whole p) Y (end_side blind) (bracket-first (whole p) Y)
+        (opposite_of_negative (bracket (whole p) Y (whole q)) (bracket (whole p) (whole q) Y)
+        (bracket-turned (whole q) (whole p) Y ∙ bracket-swapped (whole p) (whole q) Y)
+        (right_below Y e)))
+
+    -- nor before the first one
+    pub nothing_past_start : side (whole p) (whole q) X ≡ left → ¬ IsLeftOf points m p (prev m h)
+        → Starts at c p q None
+    nothing_past_start e blind = nothing_met at IsSite IsCovered c p q over apart
+        (nothing_beyond t tiles (whole p) (whole q) ways_apart (origin m h) (origin m (rev h))
+        outer seen X (whole p) (start_side blind) (bracket-second X (whole p))
+        (subst (λ z. pos 0 <ℤ z) (bracket-turned X (whole p) (whole q))
+        (above_if_left (whole p) (whole q) X e)))
+
+    -- ---- where q is not on the edge's left
+    module _ (reaches : ¬ IsLeftOf points m q h) where
+      not_above : ¬ (pos 0 <ℤ bracket X Y (whole q))
+      not_above k = reaches (left_if_above X Y (whole q) k)
+
+      start_below : side (whole p) (whole q) Y ≡ on → ¬ (side (whole p) (whole q) X ≡ left)
+          → bracket (whole p) (whole q) X <ℤ pos 0
+      start_below e n = elim (trichotomy_ℤ (bracket (whole p) (whole q) X)) [
+        | inl k ↦ k
+        | inr r ↦ elim r [
+          | inl k ↦ absurd (not_both_on t tiles (whole p) (whole q) ways_apart (origin m h)
+              (origin m (rev h)) outer seen not_above (on_level Y e) k)
+          | inr k ↦ absurd (n (left_if_above (whole p) (whole q) X k))
+        ]
+      ]
+
+      -- the end of the edge
+      pub end_met : side (whole p) (whole q) Y ≡ on → ¬ (side (whole p) (whole q) X ≡ left)
+          → origin m (rev h) < length c.vertices
+          → Starts at c p q (Some (Vertex (origin m (rev h))))
+      end_met e n here = starts_first at IsSite IsCovered c p q over apart
+          (Vertex (origin m (rev h))) here
+          (end_first t tiles (whole p) (whole q) ways_apart (origin m h) (origin m (rev h)) outer
+          seen not_above (start_in at IsSite IsCovered c p q over (rev h) r_in) (on_level Y e)
+          (start_below e n))
+
+      -- the start of the edge
+      pub start_met : side (whole p) (whole q) X ≡ on → side (whole p) (whole q) Y ≡ left
+          → origin m h < length c.vertices → Starts at c p q (Some (Vertex (origin m h)))
+      start_met e l here = starts_first at IsSite IsCovered c p q over apart (Vertex (origin m h))
+          here (start_first t tiles (whole p) (whole q) ways_apart (origin m h) (origin m (rev h))
+          outer seen not_above (start_in at IsSite IsCovered c p q over h w) (on_level X e)
+          (above_if_left (whole p) (whole q) Y l))
+
+      -- the edge itself
+      pub edge_met : StartsOutside t p → side (whole p) (whole q) X ≡ right
+          → side (whole p) (whole q) Y ≡ left → Starts at c p q (Some (Edge (rev h)))
+      edge_met outside r l = enters at IsSite IsCovered c p q over outside apart (rev h)
+          (of_mesh at IsSite IsCovered c p q over (rev h) r_in) (
+            subst (λ (k : ℕ). face m k ≡ 0) twice s.outer,
+            (
+              record {
+                start = l;
+                end = subst
+                    (λ (k : ℕ). side (whole p) (whole q) (place points (origin m k)) ≡ right)
+                    twice r;
+              },
+              record {
+                from = subst (λ (k : ℕ). side Y (place points (origin m k)) (whole p) ≢ left)
+                    twice (λ e. swapped_left _ s.seen (sym (side_swapped X Y (whole p)) ∙ e));
+                to = subst (λ (k : ℕ). side Y (place points (origin m k)) (whole q) ≢ right)
+                    twice (λ e. swapped_right _ reaches (sym (side_swapped X Y (whole q)) ∙ e));
+              },
+            ),
+          )
+        where
+          twice : h ≡ rev (rev h)
+          twice = sym (rev-rev h)
