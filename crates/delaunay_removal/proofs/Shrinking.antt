@@ -2,8 +2,8 @@
 -- Notions: IsShrinking; still_within, vertices_stay, star_at, shrinking_goes_on, shrinking_from,
 -- shrinking_stops, shrinking_ends.
 use Rattle.std.proofs.Common.{◌≡◌, ◌+◌, ◌-◌, ◌*◌, ◌/◌, ◌<◌, ◌≤◌, [], ◌∷◌, ◌++◌, ◌∙◌}
-use Rattle.std.proofs.Common.{ℕ, suc, List, length, map, sym, ap, subst, arith, inl}
-use Rattle.half_edge_mesh.specs.Mesh.{face, origin}
+use Rattle.std.proofs.Common.{ℕ, List, length, map, sym, ap, subst, arith, inl}
+use Rattle.half_edge_mesh.specs.Mesh.{origin}
 use Rattle.half_edge_mesh.specs.Flip.{flipped}
 use Rattle.half_edge_mesh.specs.Outline.{KeepsOuter}
 use Rattle.half_edge_mesh.specs.Peel.{turn, spoke}
@@ -11,10 +11,9 @@ use Rattle.half_edge_mesh.specs.Triangles.{FlipsTriangles}
 use Rattle.half_edge_mesh.specs.Contents.{Contents, IsMeshWithData}
 use Rattle.plane.specs.Fraction.{Point}
 use Rattle.delaunay_removal.specs.Data.{StandsBeside}
-use Rattle.delaunay_removal.specs.Star.{IsConvexAt, IsInnerStar, IsReduced, IsTurnable}
+use Rattle.delaunay_removal.specs.Star.{IsConvexAt, IsInnerStar, IsReduced}
 use Rattle.delaunay_removal.proofs.DataStays.{stands_turned}
 use Rattle.delaunay_removal.proofs.InnerStars.{star_from, star_shrinks, has_three, none_left}
-use Rattle.delaunay_removal.proofs.InnerStars.{spokes_inner}
 
 -- vertex v lost edges by turns, and still has so many, from edge first on; what the turned ones
 -- join is listed, with room for one more at each edge
@@ -87,20 +86,11 @@ module _ {V D U F : Type 0} {turned : List (ℕ × ℕ)} {listed capacity : ℕ}
 
     -- no edge can be turned any more
     pub shrinking_stops : 3 < count → ((i : ℕ) → i < count
-        → ¬ IsTurnable (map place now.vertices) now.mesh (spoke now.mesh first i))
+        → ¬ IsConvexAt (map place now.vertices) now.mesh (spoke now.mesh first i))
         → IsReduced (map place old.vertices) now.mesh v first count
     shrinking_stops many none =
         subst (λ (vs : List V). IsReduced (map place vs) now.mesh v first count) vertices_stay
-        (none_left (map place now.vertices) now whole v first count shrinking.star many
-        (λ i less convex. none i less (record {
-          convex = convex;
-          left = inner i;
-          right = inner (suc i);
-        })))
-      where
-        inner : (i : ℕ) → 0 < face now.mesh (spoke now.mesh first i)
-        inner = spokes_inner (map place now.vertices) now.mesh whole.valid v first count
-            shrinking.star
+        (none_left (map place now.vertices) now whole v first count shrinking.star many none)
 
     -- three edges are left
     pub shrinking_ends : count ≤ 3 → IsReduced (map place old.vertices) now.mesh v first count

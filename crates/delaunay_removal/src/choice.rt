@@ -5,7 +5,7 @@ ghost use Rattle.half_edge_mesh.specs.Mesh.{origin};
 ghost use Rattle.half_edge_mesh.specs.Peel.{spoke};
 ghost use Rattle.delaunay_removal.specs.Star.{IsConvexAt, IsTurnable};
 
-use crate::star::{ccw_edge, cw_edge, is_convex_at};
+use crate::star::{ccw_edge, cw_edge, find_convex, is_convex_at};
 use delaunay_core::math::PlaneTests;
 use delaunay_core::point::HasPosition;
 use delaunay_legalization::{end_of, is_outer};
@@ -95,10 +95,34 @@ fn find_turnable<V: HasPosition, DE, UE, F, P: PlaneTests<V::Scalar>>(
     None
 }
 
-// Of so many edges from `first` on, round the vertex where they start, one before an edge that can
-// be turned away: any, or, where there are many, if possible such a one that few edges have to be
-// flipped later.
+// Of so many edges of a vertex inside the hull, from `first` on, one before an edge across a strictly
+// convex quadrilateral: any, or, where there are many, if possible such a one that few edges have to
+// be flipped later.
 pub(crate) fn choose_edge<V: HasPosition, DE, UE, F, P: PlaneTests<V::Scalar>>(
+    dcel: &Dcel<V, DE, UE, F>,
+    first: FixedDirectedEdgeHandle,
+    count: usize,
+    tests: &P,
+) -> Option<FixedDirectedEdgeHandle>
+    requires within { first < length dcel.now.directed }
+    requires sites { All (P.sites tests.now) (map V.place dcel.now.vertices) }
+    ensures within { IfSome result (λ e. e < length dcel.now.directed) }
+    ensures starts { IfSome result (λ e. origin dcel.now.mesh e ≡ origin dcel.now.mesh first) }
+    ensures convex { IfSome result (λ e. IsConvexAt (map V.place dcel.now.vertices) dcel.now.mesh
+        e) }
+    ensures none { IfNone result ((i : ℕ) → i < count →
+        ¬ IsConvexAt (map V.place dcel.now.vertices) dcel.now.mesh (spoke dcel.now.mesh first i)) }
+{
+    if count > FEW_EDGES {
+        if let Some(edge) = find_turnable(dcel, first, count, true, tests) {
+            return Some(edge);
+        }
+    }
+    find_convex(dcel, first, count, tests)
+}
+
+// The same of a vertex on the hull, where the edge lies between two faces besides.
+pub(crate) fn choose_hull_edge<V: HasPosition, DE, UE, F, P: PlaneTests<V::Scalar>>(
     dcel: &Dcel<V, DE, UE, F>,
     first: FixedDirectedEdgeHandle,
     count: usize,

@@ -12,7 +12,7 @@ ghost use Rattle.delaunay_removal.specs.Hull.{HasHullEdge, IsHullStar};
 ghost use Rattle.delaunay_removal.specs.Pairs.{HasRoomAt, KeepsPairs};
 ghost use Rattle.delaunay_removal.specs.Star.{HasInnerFaces, LosesEdges};
 
-use crate::choice::{choose_edge, edge_to_go_on};
+use crate::choice::{choose_hull_edge, edge_to_go_on};
 use crate::lists::RemovalLists;
 use crate::pairs::VertexPair;
 use crate::star::{ccw_edge, count_edges, cw_edge, opposite_side, turn_away};
@@ -44,7 +44,7 @@ fn shrink_hull_star<V: HasPosition, DE, UE, F, P: PlaneTests<V::Scalar>>(
     let mut count = count_edges(dcel, first);
     let mut from = first;
     dcel.recall_invariant();
-    while let Some(edge) = choose_edge(dcel, from, count, tests) {
+    while let Some(edge) = choose_hull_edge(dcel, from, count, tests) {
         turn_away(dcel, edge, turned);
         dcel.recall_invariant();
         from = edge_to_go_on(dcel, edge, count, first);

@@ -1,8 +1,9 @@
 //! The edges round a vertex, and turns of them.
-ghost use Rattle.std.specs.Prelude.{◌≡◌, ◌≢◌, ◌↔◌, ◌<◌, length, map, All, IsTrue};
+ghost use Rattle.std.specs.Prelude.{◌≡◌, ◌≢◌, ◌↔◌, ℕ, ◌<◌};
+ghost use Rattle.std.specs.Prelude.{length, map, All, IsTrue, IfSome, IfNone};
 ghost use Rattle.std.specs.Prelude.{vec_capacity, vec_len};
 ghost use Rattle.half_edge_mesh.specs.Mesh.{origin, next, face, rev};
-ghost use Rattle.half_edge_mesh.specs.Peel.{turn};
+ghost use Rattle.half_edge_mesh.specs.Peel.{spoke, turn};
 ghost use Rattle.half_edge_mesh.specs.Round.{IsRound, neighbour};
 ghost use Rattle.half_edge_mesh.specs.Contents.{IsMeshWithData};
 ghost use Rattle.plane_tiling.specs.Local.{LocalMesh};
@@ -88,6 +89,34 @@ pub(crate) fn is_convex_at<V: HasPosition, DE, UE, F, P: PlaneTests<V::Scalar>>(
     let corner = end_of(dcel, second);
     let after = end_of(dcel, third);
     turns_left(before, corner, after, tests) && turns_left(centre, before, after, tests)
+}
+
+// Of the first `count` edges from `first` on, round the vertex where they start, one before an edge
+// across a strictly convex quadrilateral.
+pub(crate) fn find_convex<V: HasPosition, DE, UE, F, P: PlaneTests<V::Scalar>>(
+    dcel: &Dcel<V, DE, UE, F>,
+    first: FixedDirectedEdgeHandle,
+    count: usize,
+    tests: &P,
+) -> Option<FixedDirectedEdgeHandle>
+    requires within { first < length dcel.now.directed }
+    requires sites { All (P.sites tests.now) (map V.place dcel.now.vertices) }
+    ensures within { IfSome result (λ e. e < length dcel.now.directed) }
+    ensures starts { IfSome result (λ e. origin dcel.now.mesh e ≡ origin dcel.now.mesh first) }
+    ensures convex { IfSome result (λ e. IsConvexAt (map V.place dcel.now.vertices) dcel.now.mesh
+        e) }
+    ensures none { IfNone result ((i : ℕ) → i < count →
+        ¬ IsConvexAt (map V.place dcel.now.vertices) dcel.now.mesh (spoke dcel.now.mesh first i)) }
+{
+    dcel.recall_invariant();
+    let mut edge = first;
+    for i in 0..count {
+        if is_convex_at(dcel, edge, tests) {
+            return Some(edge);
+        }
+        edge = ccw_edge(dcel, edge);
+    }
+    None
 }
 
 // Turns the edge after an edge, round the vertex where they start, so that it leaves this vertex,

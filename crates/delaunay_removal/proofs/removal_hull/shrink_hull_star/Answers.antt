@@ -31,11 +31,11 @@ loop-edge-init g c =
       from_starts = refl;
     }
 
-pub choose_edge-requires-clause-within : goal.choose_edge-requires-clause-within
-choose_edge-requires-clause-within g c = c.loop-edge.invariant.from_within
+pub choose_hull_edge-requires-clause-within : goal.choose_hull_edge-requires-clause-within
+choose_hull_edge-requires-clause-within g c = c.loop-edge.invariant.from_within
 
-pub choose_edge-requires-clause-sites : goal.choose_edge-requires-clause-sites
-choose_edge-requires-clause-sites g c = hull_sites_stay g.V.HasPosition.place c.args.dcel.now
+pub choose_hull_edge-requires-clause-sites : goal.choose_hull_edge-requires-clause-sites
+choose_hull_edge-requires-clause-sites g c = hull_sites_stay g.V.HasPosition.place c.args.dcel.now
     c.loop-edge.dcel (origin c.args.dcel.now.mesh c.args.first) c.args.first c.loop-edge.from
     c.loop-edge.count c.loop-edge.invariant (g.P.PlaneTests.sites c.args.tests.now)
     c.requires.sites

@@ -3,7 +3,7 @@ use Rattle.std.proofs.Common.{subst, sym, arith}
 use Rattle.half_edge_mesh.specs.Mesh.{origin}
 use Rattle.half_edge_mesh.specs.Round.{neighbour}
 use Rattle.delaunay_removal.proofs.DataStays.{all_stands}
-use Rattle.delaunay_removal.proofs.InnerStars.{ends_differ}
+use Rattle.delaunay_removal.proofs.InnerStars.{spokes_inner, ends_differ}
 use Rattle.delaunay_removal.proofs.Shrinking.{star_at, shrinking_goes_on, shrinking_stops}
 use Rattle.delaunay_removal.proofs.Shrinking.{shrinking_ends, shrinking_from, still_within}
 use Rattle.delaunay_removal.proofs.removal_inner.shrink_star.Goals as goal
@@ -23,10 +23,24 @@ choose_edge-requires-clause-within g c = subst (λ (n : ℕ). c.loop-count.first
     (c.loop-count.invariant.star.round.within 0)
 
 pub turn_away-requires-clause-left : goal.turn_away-requires-clause-left
-turn_away-requires-clause-left g c = c.in-Some.ensures.turnable.left
+turn_away-requires-clause-left g c =
+    let w = c.recall_invariant.ensures.whole in
+    let v = origin c.args.dcel.now.mesh c.args.first in
+    spokes_inner (map g.V.HasPosition.place c.loop-count.dcel.vertices) c.loop-count.dcel.mesh
+    w.valid v c.in-Some.edge c.loop-count.count
+    (star_at g.V.HasPosition.place c.args.dcel.now c.loop-count.dcel v c.loop-count.first
+    c.loop-count.count c.loop-count.invariant w c.in-Some.edge c.in-Some.ensures.within
+    c.in-Some.ensures.starts) 0
 
 pub turn_away-requires-clause-right : goal.turn_away-requires-clause-right
-turn_away-requires-clause-right g c = c.in-Some.ensures.turnable.right
+turn_away-requires-clause-right g c =
+    let w = c.recall_invariant.ensures.whole in
+    let v = origin c.args.dcel.now.mesh c.args.first in
+    spokes_inner (map g.V.HasPosition.place c.loop-count.dcel.vertices) c.loop-count.dcel.mesh
+    w.valid v c.in-Some.edge c.loop-count.count
+    (star_at g.V.HasPosition.place c.args.dcel.now c.loop-count.dcel v c.loop-count.first
+    c.loop-count.count c.loop-count.invariant w c.in-Some.edge c.in-Some.ensures.within
+    c.in-Some.ensures.starts) 1
 
 pub turn_away-requires-clause-apart : goal.turn_away-requires-clause-apart
 turn_away-requires-clause-apart g c =
@@ -67,7 +81,7 @@ loop-count-preserved g c =
     c.loop-count.invariant c.turn_away.ensures.whole
     c.turn_away.new.dcel whole c.loop-count-test.true
     c.in-Some.edge c.in-Some.ensures.within c.in-Some.ensures.starts
-    c.in-Some.ensures.turnable.convex
+    c.in-Some.ensures.convex
     turned.mesh turned.contents turned.triangles turned.outer (
       neighbour c.loop-count.dcel.mesh
           c.in-Some.edge 0,
