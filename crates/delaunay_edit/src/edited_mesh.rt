@@ -10,13 +10,10 @@ ghost use Rattle.delaunay_edit.specs.Headline.{IsDelaunay, IsWellFormed};
 ghost use Rattle.delaunay_edit.specs.Location.{IsMeshEdge};
 
 use delaunay_core::point::{HasPosition, Point2};
-use delaunay_legalization::{CdtEdge, ConstraintMarker, EdgeConstraints, NoConstraints};
+use delaunay_legalization::{CdtEdge, ConstraintMarker, EdgeConstraints, EdgeSet, NoConstraints};
 use delaunay_paths::CrossingLists;
 use delaunay_removal::RemovalLists;
-use half_edge_mesh::{
-    Dcel, FixedDirectedEdgeHandle, FixedUndirectedEdgeHandle, FixedVertexHandle, MAX_ELEMENTS,
-    MeshViews,
-};
+use half_edge_mesh::{Dcel, FixedDirectedEdgeHandle, FixedVertexHandle, MAX_ELEMENTS, MeshViews};
 use std::alloc::Global;
 use std::marker::{Model, PhantomData};
 
@@ -29,7 +26,7 @@ pub struct EditedMesh<V: HasPosition, DE, UE, F, M: ConstraintMarker<UE>> {
     pub(crate) dcel: Dcel<V, DE, UE, F>,
     // The edges that a legalization has still to test: none between edits, but the room for them
     // stays.
-    pub(crate) work: Vec<FixedUndirectedEdgeHandle>,
+    pub(crate) work: EdgeSet,
     // What a removal lists besides.
     pub(crate) lists: RemovalLists,
     // The edges that cross a piece of a path while it becomes one.
@@ -83,7 +80,7 @@ impl<V: HasPosition, DE, UE, F, M: ConstraintMarker<UE>> EditedMesh<V, DE, UE, F
     {
         EditedMesh {
             dcel,
-            work: Vec::new(alloc),
+            work: EdgeSet::new(alloc),
             lists: RemovalLists::new(alloc),
             crossing: CrossingLists::new(alloc),
             num_constraints,

@@ -2,7 +2,6 @@
 ghost use Rattle.std.specs.Prelude.{◌≡◌, ◌↔◌, ℕ, ◌+◌, ◌*◌, ◌<◌, ◌≤◌, ◌++◌, ◌∷◌, []};
 ghost use Rattle.std.specs.Prelude.{length, map, All, IsFalse, IsTrue};
 ghost use Rattle.std.specs.Prelude.{Err, OnErr, OnOk};
-ghost use Rattle.std.specs.Prelude.{vec_capacity};
 ghost use Rattle.plane.specs.Tests.{InRange};
 ghost use Rattle.delaunay_core.specs.declared.math.InsertionError.TheVariants.{OutOfMemory};
 ghost use Rattle.delaunay_legalization.specs.Flips.{CountsFlips, FlipsFit};
@@ -17,9 +16,9 @@ use crate::insertion_cases::insert_at;
 use delaunay_core::math::{InsertionError, PlaneTests, validate_vertex};
 use delaunay_core::point::HasPosition;
 use delaunay_insertion::{FreeByDefault, reserve_for_vertex};
-use delaunay_legalization::{legalize_vertex, reserve_for_edges, turns_left};
+use delaunay_legalization::{EdgeSet, legalize_vertex, reserve_for_edges, turns_left};
 use delaunay_location::PositionInTriangulation;
-use half_edge_mesh::{FixedUndirectedEdgeHandle, FixedVertexHandle, MAX_ELEMENTS};
+use half_edge_mesh::{FixedVertexHandle, MAX_ELEMENTS};
 
 /// What is at the position of a value.
 pub(crate) enum Entry {
@@ -33,11 +32,11 @@ pub(crate) enum Entry {
 // Makes room for so many edges that a legalization may list, which it does unless the triangulation
 // is free of constraints.
 pub(crate) fn reserve_to_test(
-    work: &mut Vec<FixedUndirectedEdgeHandle>,
+    work: &mut EdgeSet,
     edges: usize,
     free: bool,
 ) -> Result<(), InsertionError>
-    ensures ok { OnOk result (IsFalse free → edges ≤ vec_capacity work.new) }
+    ensures ok { OnOk result (IsFalse free → edges ≤ work.new.room) }
     ensures err { OnErr result (result ≡ Err OutOfMemory) }
 {
     if free {

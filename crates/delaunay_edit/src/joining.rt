@@ -1,7 +1,7 @@
 //! What is left to do where a vertex went: the halves of a straight constraint are joined, and each
 //! edge is made to pass the circle test.
 ghost use Rattle.std.specs.Prelude.{◌≡◌, ◌*◌, ◌≤◌, ◌++◌};
-ghost use Rattle.std.specs.Prelude.{length, map, All, IfSome, IsTrue, OnOk, Some, vec_capacity};
+ghost use Rattle.std.specs.Prelude.{length, map, All, IfSome, IsTrue, OnOk, Some};
 ghost use Rattle.delaunay_legalization.specs.Flips.{FlipsFit};
 ghost use Rattle.delaunay_paths.specs.Lists.{HaveRoom};
 ghost use Rattle.delaunay_removal.specs.Pairs.{FailOnlyAt, pairs_left};
@@ -9,10 +9,10 @@ ghost use Rattle.delaunay_edit.specs.Halves.{CanSettle, Settles};
 
 use delaunay_core::math::PlaneTests;
 use delaunay_core::point::HasPosition;
-use delaunay_legalization::{ConstraintMarker, legalize};
+use delaunay_legalization::{ConstraintMarker, EdgeSet, legalize};
 use delaunay_paths::{CrossingLists, add_path};
 use delaunay_removal::{RemovalLists, VertexPair, index_left, legalize_pairs, list_pairs};
-use half_edge_mesh::{Dcel, FixedUndirectedEdgeHandle, FixedVertexHandle};
+use half_edge_mesh::{Dcel, FixedVertexHandle};
 use std::alloc::AllocError;
 
 /// Makes room to join the far ends of straight halves, if there are such, in a mesh of at most so
@@ -41,13 +41,13 @@ fn join_halves<M: ConstraintMarker<UE>, V: HasPosition, DE, UE, F, P: PlaneTests
     tests: &P,
     lists: &RemovalLists,
     crossing: &mut CrossingLists,
-    work: &mut Vec<FixedUndirectedEdgeHandle>,
+    work: &mut EdgeSet,
     flips: &mut u64,
 )
     requires can { CanSettle V.place M.can_mark M.constraints dcel.old vertex (Some ends)
         (border.now ++ lists.now.turned.items) }
     requires sites { All (P.sites tests.now) (map V.place dcel.old.vertices) }
-    requires room { 3 * length dcel.old.vertices ≤ vec_capacity work.old }
+    requires room { 3 * length dcel.old.vertices ≤ work.old.room }
     requires room_crossing { HaveRoom (3 * length dcel.old.vertices) crossing.old }
     requires fits { FlipsFit (length dcel.old.vertices) flips.old }
 
@@ -73,7 +73,7 @@ pub(crate) fn settle<M: ConstraintMarker<UE>, V: HasPosition, DE, UE, F, P: Plan
     tests: &P,
     lists: &mut RemovalLists,
     crossing: &mut CrossingLists,
-    work: &mut Vec<FixedUndirectedEdgeHandle>,
+    work: &mut EdgeSet,
     flips: &mut u64,
 )
     requires can { CanSettle V.place M.can_mark M.constraints dcel.old vertex halves
@@ -81,8 +81,8 @@ pub(crate) fn settle<M: ConstraintMarker<UE>, V: HasPosition, DE, UE, F, P: Plan
     requires only { IsTrue is_free → FailOnlyAt (map V.place dcel.old.vertices) dcel.old.mesh
         (pairs_left (length dcel.old.vertices) vertex (border.now ++ lists.old.turned.items)) }
     requires sites { All (P.sites tests.now) (map V.place dcel.old.vertices) }
-    requires room { 3 * length dcel.old.vertices ≤ vec_capacity work.old }
-    requires room_among { 3 * length dcel.old.vertices ≤ vec_capacity lists.old.sides }
+    requires room { 3 * length dcel.old.vertices ≤ work.old.room }
+    requires room_among { 3 * length dcel.old.vertices ≤ lists.old.tested.room }
     requires room_crossing { IfSome halves
         (λ _. HaveRoom (3 * length dcel.old.vertices) crossing.old) }
     requires fits { FlipsFit (length dcel.old.vertices) flips.old }

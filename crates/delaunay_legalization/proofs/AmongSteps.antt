@@ -25,7 +25,7 @@ use Rattle.mesh_embedding.specs.Legal.{AreEdges, IsFailing, IsPartlyLegal, Gains
 use Rattle.mesh_embedding.proofs.MeshEdits.{face_before, face_behind}
 use Rattle.mesh_embedding.proofs.MeshLegal as M
 use Rattle.mesh_embedding.proofs.TurnedEnds.{KeepsOtherOrigins}
-use Rattle.delaunay_legalization.specs.Among.{IsQuiet, IsQuietEdge, FailOnlyAmong}
+use Rattle.delaunay_legalization.specs.Among.{IsQuiet, IsQuietEdge, FailOnlyOf}
 use Rattle.delaunay_legalization.specs.Pushing.{GainsRoundAmong}
 use Rattle.delaunay_legalization.proofs.FarSides.{listed_or_not}
 use Rattle.delaunay_legalization.proofs.Legalizing.{edges_gained}
@@ -183,14 +183,14 @@ module _ (points : List Point) (m : Mesh) (s : IsValidMesh m) (shape : IsMesh po
           (λ o. (own o, next_own o, prev_own o)) i))
 
   -- so still only edges among hs fail
-  pub only_stay : (hs : List ℕ) → FailOnlyAmong points m hs → FailOnlyAmong points (flipped m e) hs
+  pub only_stay : (hs : List ℕ) → FailOnlyOf points m hs → FailOnlyOf points (flipped m e) hs
   only_stay hs only k k_in = go (only k old_in)
     where
       old_in : (2 * k) < length m.half_edges
       old_in = subst (λ (n : ℕ). (2 * k) < n) moves.edge_count k_in
 
-      go : Contains hs (2 * k) ⊎ IsQuietEdge points m k
-          → Contains hs (2 * k) ⊎ IsQuietEdge points (flipped m e) k
+      go : Contains hs k ⊎ IsQuietEdge points m k
+          → Contains hs k ⊎ IsQuietEdge points (flipped m e) k
       go (inl l) = inl l
       go (inr (inl q)) = inr (inl (quiet_stays (2 * k) old_in q))
       go (inr (inr q)) = inr (inr (quiet_stays (rev (2 * k))
@@ -230,7 +230,7 @@ first_within n h k l f = grind arith
 module _ (points : List Point) (constraints : List (ℕ × ℕ)) (was m new : Mesh) (s : IsValidMesh m)
     (after : IsValidMesh new) (e start flips : ℕ) (hs ks more : List ℕ) (six : AreSixPlaces
     (length m.half_edges) e (rev e) (next m e) (next m (rev e)) (prev m e) (prev m (rev e)))
-    (count : length new.half_edges ≡ length m.half_edges) (only : FailOnlyAmong points new hs)
+    (count : length new.half_edges ≡ length m.half_edges) (only : FailOnlyOf points new hs)
     (gains : GainsRoundAmong m hs e ks more) (own : AreEdges m more)
     (legal : (all : List ℕ) → GainsRound m e ks all → AreEdges m all
     → IsPartlyLegal points constraints was new all start flips) where
@@ -251,7 +251,7 @@ module _ (points : List Point) (constraints : List (ℕ × ℕ)) (was m new : Me
 
   -- a side that is not in the work list is not among hs, and so does not fail
   calm : IsMesh points (faces_of new) (outer_of new) → (f : ℕ) → f < length m.half_edges
-      → (zs : List ℕ) → (Contains hs (2 * (f / 2)) → Contains zs (f / 2)) → ¬ Contains zs (f / 2)
+      → (zs : List ℕ) → (Contains hs (f / 2) → Contains zs (f / 2)) → ¬ Contains zs (f / 2)
       → IsFailing points new (2 * (f / 2)) → ⊥
   calm shape f f_in zs has not fails = elim (only (f / 2) k_in) as (λ _. ⊥) [
     | inl l ↦ not (has l)

@@ -1,17 +1,12 @@
 -- What the functions of a legalisation need of the mesh that they are handed.
 -- Notions: IsUnderway; edges_before, last_edge_within, last_within, failing_flippable,
 -- failing_apart, left_turn, inside_fails, fails_inside, positive, turned_by, fixed_stay, fewer_by,
--- round_gained, gained, kept, half_within, edges_gained, fits_one, found, fits_len,
--- underway_begins, step_fits, step_kept, underway_ends, underway_counts, underway_keeps, drained.
+-- round_gained, half_within, edges_gained, half_below, underway_begins, step_fits, step_kept,
+-- underway_ends, underway_counts, underway_keeps, drained.
 use Rattle.std.proofs.Common.{◌≡◌, ◌+◌, ◌-◌, ◌*◌, ◌/◌, ◌<◌, ◌≤◌, ◌^◌, [], ◌∷◌, ◌++◌, ◌∙◌}
 use Rattle.std.proofs.Common.{ℕ, suc, List, length, map, refl, sym, ap, subst, arith}
 use mathlib.Core.Logic.{◌≢◌}
-use Rattle.std.specs.Prelude.{Bool, Contains, take}
-use Rattle.std.specs.Bool.{Decides}
-use Rattle.std.specs.List.{IsAnyAnswer}
-use Rattle.std.proofs.Math.Dec.{eqb}
-use Rattle.std.proofs.lemmas.Bool.Decides.{Decides-eqb}
-use Rattle.std.proofs.lemmas.List.Elements.{contains_decides, Decides-contains}
+use Rattle.std.specs.Prelude.{Contains, take}
 use Rattle.half_edge_mesh.specs.Contents.{Contents}
 use Rattle.half_edge_mesh.specs.Mesh.{Mesh, origin, next, prev, face, rev, IsValidMesh}
 use Rattle.half_edge_mesh.specs.Flip.{IsFlippable, flipped}
@@ -198,16 +193,6 @@ one_more_fits points constraints was m ks k start flips n s p e h x = fits start
         → flips + 1 < 2 ^ 64
     fits start a flips q c h b = omega arith
 
--- an edge that was not listed is gained at the end of the list
-pub gained : (ks more : List ℕ) (k l : ℕ) → l ≡ k → more ≡ ks ++ l ∷ [] → ¬ Contains ks l
-    → Gains ks more k
-gained ks more k l e f n = subst (λ (z : ℕ). Gains ks more z) e
-    (subst (λ (zs : List ℕ). Gains ks zs l) (sym f) (M.gains_last ks l n))
-
--- an edge that was listed is gained by leaving the list as it is
-pub kept : (ks : List ℕ) (k l : ℕ) → l ≡ k → Contains ks l → Gains ks ks k
-kept ks k l e c = subst (λ (z : ℕ). Gains ks ks z) e (M.gains_none ks l c)
-
 -- the first direction of a half edge is one of the mesh
 pub half_within : (m : Mesh) (h n k : ℕ) → n ≡ length m.half_edges → h < n → k ≡ h / 2
     → (2 * k) < length m.half_edges
@@ -219,25 +204,9 @@ pub edges_gained : (m : Mesh) (old new : List ℕ) (h n : ℕ) → n ≡ length 
 edges_gained m old new h n e l o g =
     M.gains_edges m old new (h / 2) o (half_within m h n (h / 2) e l refl) g
 
--- a list of edges without this one has room for it
-pub fits_one : (m : Mesh) (ks : List ℕ) (h n d k room : ℕ) → d ≡ length m.half_edges
-    → 2 * n ≡ length m.half_edges → h < d → k ≡ h / 2 → AreEdges m ks → n ≤ room → ¬ Contains ks k
-    → length ks < room
-fits_one m ks h n d k room e f l r o b c = let w = half_within m h d k e l r in
-    below (length ks) n room (M.room_for_one m ks n k f o (omega (arith, w, f)) c) b
-  where
-    below : (a n room : ℕ) → a < n → n ≤ room → a < room
-    below a n room h k = omega arith
-
--- whether a list holds a number is what `any` answers of it
-pub found : (xs ys : List ℕ) (x : ℕ) (r : Bool) → ys ≡ xs → IsAnyAnswer (λ y t. eqb y x ≡ t) ys r
-    → Decides r (Contains xs x)
-found xs ys x r e h = subst (λ zs. Decides r (Contains zs x)) e
-    (Decides-contains ys x r (contains_decides eqb Decides-eqb ys x r h))
-
--- a list with room for one more has a length below the room
-pub fits_len : (xs ys : List ℕ) (v room : ℕ) → ys ≡ xs → length ys ≡ v → length xs < room → v < room
-fits_len xs ys v room e f h = subst (λ (z : ℕ). z < room) (sym (ap (λ zs. length zs) e) ∙ f) h
+-- the edge of a half edge is below a room for all
+pub half_below : (h d n k room e : ℕ) → d ≡ e → 2 * n ≡ e → h < d → k ≡ h / 2 → n ≤ room → k < room
+half_below h d n k room e f g l i r = grind arith
 
 -- before the first edge nothing has changed yet
 pub underway_begins : {V D U F : Type 0} (fix : List U → List ℕ) (points : List Point)

@@ -9,6 +9,7 @@ pub mod Constraints
 pub mod ConstraintEdges
 pub mod MarkedPairs
 -- Flips until no edge fails: the work list, each step, and the end.
+pub mod EdgeSets
 pub mod Legalizing
 pub mod WorkList
 pub mod Stepping

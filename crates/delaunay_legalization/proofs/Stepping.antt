@@ -37,7 +37,7 @@ module _ (points : List Point) (m : Mesh) (s : IsValidMesh m) (shape : IsMesh po
   -- sides that were enough to test still are after a flip
   suffice_still : (sides : Sides) → Suffice sides points m → Suffice sides points (flipped m e)
   suffice_still Round enough = enough
-  suffice_still (Among hs) enough = only_stay points m s shape e within x hs.now enough
+  suffice_still (Among es) enough = only_stay points m s shape e within x es.now.items enough
 
   -- where these sides are enough, the others need not be in the work list
   left_by : (constraints : List (ℕ × ℕ)) (was : Mesh) → IsValidMesh (flipped m e)
@@ -46,10 +46,10 @@ module _ (points : List Point) (m : Mesh) (s : IsValidMesh m) (shape : IsMesh po
       → AreEdges m all → IsPartlyLegal points constraints was (flipped m e) all start flips)
       → IsPartlyLegal points constraints was (flipped m e) more start flips
   left_by constraints was valid start flips ks more Round enough g own legal = legal more g own
-  left_by constraints was valid start flips ks more (Among hs) enough g own legal =
-      legal_among points constraints was m (flipped m e) s valid e start flips hs.now ks more
+  left_by constraints was valid start flips ks more (Among es) enough g own legal =
+      legal_among points constraints was m (flipped m e) s valid e start flips es.now.items ks more
       (six points m s shape e within x) (moves points m s shape e within x).edge_count
-      (only_stay points m s shape e within x hs.now enough) g own legal
+      (only_stay points m s shape e within x es.now.items enough) g own legal
 
 module _ (sides : Sides) (points : List Point) (constraints : List (ℕ × ℕ)) (m : Mesh) (s :
     IsValidMesh m) (ks : List ℕ) (k before : ℕ) (can : CanStep sides points m ks k before) where

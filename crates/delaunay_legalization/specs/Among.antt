@@ -21,11 +21,6 @@ IsQuiet points m h = (face m h ≡ 0) ⊎ HasEmptyCircle points m h
 abbrev pub IsQuietEdge : List Point → Mesh → ℕ → Type 0
 IsQuietEdge points m k = IsQuiet points m (2 * k) ⊎ IsQuiet points m (rev (2 * k))
 
--- each undirected edge is among hs by its first direction, or quiet on one of its sides
-abbrev pub FailOnlyAmong : List Point → Mesh → List ℕ → Type 0
-FailOnlyAmong points m hs =
-    (k : ℕ) → (2 * k) < length m.half_edges → Contains hs (2 * k) ⊎ IsQuietEdge points m k
-
 -- each undirected edge is one of ks, or quiet on one of its sides
 abbrev pub FailOnlyOf : List Point → Mesh → List ℕ → Type 0
 FailOnlyOf points m ks = (k : ℕ) → (2 * k) < length m.half_edges

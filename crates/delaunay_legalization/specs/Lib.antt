@@ -5,6 +5,7 @@ pub mod Shape
 pub mod Known
 pub mod Flips
 pub mod CdtEdge
+pub mod EdgeSet
 pub mod Lending
 pub mod Star
 pub mod Around

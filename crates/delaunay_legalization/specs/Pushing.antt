@@ -1,5 +1,5 @@
 -- Work lists of undirected edges, and what is put into them.
-use Rattle.std.specs.Prelude.{ℕ, ◌*◌, ◌/◌, ◌<◌, ◌≤◌, List, length, Contains}
+use Rattle.std.specs.Prelude.{ℕ, ◌/◌, ◌<◌, ◌≤◌, List, length, Contains}
 use Rattle.half_edge_mesh.specs.Contents.{Contents}
 use Rattle.half_edge_mesh.specs.Mesh.{Mesh, next, prev, rev}
 use Rattle.mesh_embedding.specs.Legal.{AreEdges}
@@ -15,15 +15,15 @@ pub record CanGain {V D U F : Type 0} (c : Contents V D U F) (e : ℕ) (ks : Lis
 abbrev pub KeepsEntries : List ℕ → List ℕ → Type 0
 KeepsEntries old new = (j : ℕ) → Contains old j → Contains new j
 
--- the entries of old, and the edge of directed edge h where its first direction is among hs
-pub record GainsAmong (hs : List ℕ) (h : ℕ) (old new : List ℕ) : Type 0 where
+-- the entries of old, and the edge of directed edge h where it is among these
+pub record GainsAmong (among : List ℕ) (h : ℕ) (old new : List ℕ) : Type 0 where
   pub kept : KeepsEntries old new
-  pub there : Contains hs (2 * (h / 2)) → Contains new (h / 2)
+  pub there : Contains among (h / 2) → Contains new (h / 2)
 
 -- so for the four edges round directed edge e
-pub record GainsRoundAmong (m : Mesh) (hs : List ℕ) (e : ℕ) (old new : List ℕ) : Type 0 where
+pub record GainsRoundAmong (m : Mesh) (among : List ℕ) (e : ℕ) (old new : List ℕ) : Type 0 where
   pub kept : KeepsEntries old new
-  pub next_there : Contains hs (2 * (next m e / 2)) → Contains new (next m e / 2)
-  pub prev_there : Contains hs (2 * (prev m e / 2)) → Contains new (prev m e / 2)
-  pub twin_next_there : Contains hs (2 * (next m (rev e) / 2)) → Contains new (next m (rev e) / 2)
-  pub twin_prev_there : Contains hs (2 * (prev m (rev e) / 2)) → Contains new (prev m (rev e) / 2)
+  pub next_there : Contains among (next m e / 2) → Contains new (next m e / 2)
+  pub prev_there : Contains among (prev m e / 2) → Contains new (prev m e / 2)
+  pub twin_next_there : Contains among (next m (rev e) / 2) → Contains new (next m (rev e) / 2)
+  pub twin_prev_there : Contains among (prev m (rev e) / 2) → Contains new (prev m (rev e) / 2)

@@ -12,7 +12,7 @@ use Rattle.mesh_embedding.specs.Legal.{steps_left}
 use Rattle.mesh_embedding.specs.Stays.{KeepsIndexes}
 use Rattle.delaunay_legalization.specs.declared.sides.Sides.{Sides}
 use Rattle.delaunay_legalization.specs.declared.sides.Sides.TheVariants.{Round, Among}
-use Rattle.delaunay_legalization.specs.Among.{FailOnlyAmong}
+use Rattle.delaunay_legalization.specs.Among.{FailOnlyOf}
 use Rattle.delaunay_legalization.specs.Constraints.{constraint_pairs}
 use Rattle.delaunay_legalization.specs.Flips.{CountsFlips, FlipsFit}
 use Rattle.delaunay_legalization.specs.Pushing.{GainsRoundAmong}
@@ -20,12 +20,12 @@ use Rattle.delaunay_legalization.specs.Pushing.{GainsRoundAmong}
 -- what of a mesh makes it enough to test these sides of a turned edge
 abbrev pub Suffice : Sides → List Point → Mesh → Type 0
 Suffice Round points m = ⊤
-Suffice (Among hs) points m = FailOnlyAmong points m hs.now
+Suffice (Among es) points m = FailOnlyOf points m es.now.items
 
 -- the entries of old, and these sides of directed edge e
 abbrev pub GainsSides : Sides → Mesh → ℕ → List ℕ → List ℕ → Type 0
 GainsSides Round m e old new = GainsRound m e old new
-GainsSides (Among hs) m e old new = GainsRoundAmong m hs.now e old new
+GainsSides (Among es) m e old new = GainsRoundAmong m es.now.items e old new
 
 -- undirected edge k, the last of the work list, may be tested and turned
 pub record CanStep (sides : Sides) (points : List Point) (m : Mesh) (ks : List ℕ)

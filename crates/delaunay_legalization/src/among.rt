@@ -1,7 +1,7 @@
 //! A legalization where at most some edges fail: each other one has an empty circle on one of its
 //! sides.
-ghost use Rattle.std.specs.Prelude.{◌≡◌, ℕ, ◌*◌, ◌≤◌};
-ghost use Rattle.std.specs.Prelude.{length, map, All, Contains, IsTrue, vec_capacity};
+ghost use Rattle.std.specs.Prelude.{◌≡◌, ℕ, ◌*◌, ◌<◌, ◌≤◌};
+ghost use Rattle.std.specs.Prelude.{length, map, All, Contains, IsTrue};
 ghost use Rattle.mesh_embedding.specs.Legal.{AreEdges};
 ghost use Rattle.delaunay_legalization.specs.Among.{FailOnlyOf};
 ghost use Rattle.delaunay_legalization.specs.Flips.{FlipsFit};
@@ -12,26 +12,26 @@ ghost use Rattle.delaunay_legalization.specs.Sides.{AreLeftToTest};
 ghost use Rattle.delaunay_legalization.specs.State.{state_of};
 
 use crate::constraint_marker::ConstraintMarker;
+use crate::edge_set::EdgeSet;
 use crate::legalization::{legalize_by, push_side, sides_round};
 use crate::sides::Sides;
 use delaunay_core::math::PlaneTests;
 use delaunay_core::point::HasPosition;
 use half_edge_mesh::{Dcel, FixedDirectedEdgeHandle, FixedUndirectedEdgeHandle};
 
-// Puts an edge into a work list where its first direction is among these edges, unless it is there.
+// Puts an edge into a work list where it is among these edges, unless it is there.
 fn push_among<V, DE, UE, F>(
     dcel: &Dcel<V, DE, UE, F>,
     edge: FixedDirectedEdgeHandle,
-    among: &[FixedDirectedEdgeHandle],
-    work: &mut Vec<FixedUndirectedEdgeHandle>,
+    among: &EdgeSet,
+    work: &mut EdgeSet,
 )
-    requires gain { CanGain dcel.now edge work.old.items (vec_capacity work.old) }
-    ensures gains { GainsAmong among.now edge work.old.items work.new.items }
+    requires gain { CanGain dcel.now edge work.old.items work.old.room }
+    ensures gains { GainsAmong among.now.items edge work.old.items work.new.items }
     ensures edges { AreEdges dcel.now.mesh work.new.items }
-    ensures capacity { vec_capacity work.new ≡ vec_capacity work.old }
+    ensures capacity { work.new.room ≡ work.old.room }
 {
-    let first = edge.as_undirected().as_directed();
-    if among.contains(&first) {
+    if among.contains(edge.as_undirected()) {
         push_side(dcel, edge, work);
     }
 }
@@ -41,13 +41,14 @@ fn push_among<V, DE, UE, F>(
 pub(crate) fn push_sides_among<V, DE, UE, F>(
     dcel: &Dcel<V, DE, UE, F>,
     edge: FixedDirectedEdgeHandle,
-    among: &[FixedDirectedEdgeHandle],
-    work: &mut Vec<FixedUndirectedEdgeHandle>,
+    among: &EdgeSet,
+    work: &mut EdgeSet,
 )
-    requires gain { CanGain dcel.now edge work.old.items (vec_capacity work.old) }
-    ensures gains { GainsRoundAmong dcel.now.mesh among.now edge work.old.items work.new.items }
+    requires gain { CanGain dcel.now edge work.old.items work.old.room }
+    ensures gains { GainsRoundAmong dcel.now.mesh among.now.items edge work.old.items
+        work.new.items }
     ensures edges { AreEdges dcel.now.mesh work.new.items }
-    ensures capacity { vec_capacity work.new ≡ vec_capacity work.old }
+    ensures capacity { work.new.room ≡ work.old.room }
 {
     let (next, prev, twin_next, twin_prev) = sides_round(dcel, edge);
     push_among(dcel, next, among, work);
@@ -56,18 +57,14 @@ pub(crate) fn push_sides_among<V, DE, UE, F>(
     push_among(dcel, twin_prev, among, work);
 }
 
-// Lists the first directions of some edges, in place of what was in the list.
-fn list_directions(
-    edges: &[FixedUndirectedEdgeHandle],
-    directions: &mut Vec<FixedDirectedEdgeHandle>,
-)
-    requires room { length edges.now ≤ vec_capacity directions.old }
-    ensures { (k : ℕ) → Contains edges.now k → Contains directions.new.items (2 * k) }
+// Lists some edges, in place of what was in the list.
+fn list_again(edges: &[FixedUndirectedEdgeHandle], list: &mut EdgeSet)
+    requires room { (k : ℕ) → Contains edges.now k → k < list.old.room }
+    ensures { (k : ℕ) → Contains edges.now k → Contains list.new.items k }
 {
-    directions.clear();
+    list.clear();
     for i in 0..edges.len() {
-        let edge = edges[i];
-        directions.push_reserved(edge.as_directed());
+        list.put(edges[i]);
     }
 }
 
@@ -79,8 +76,8 @@ pub fn legalize_list<M: ConstraintMarker<UE>, V: HasPosition, DE, UE, F, P: Plan
     dcel: &mut Dcel<V, DE, UE, F>,
     is_free: bool,
     tests: &P,
-    among: &mut Vec<FixedDirectedEdgeHandle>,
-    work: &mut Vec<FixedUndirectedEdgeHandle>,
+    among: &mut EdgeSet,
+    work: &mut EdgeSet,
     flips: &mut u64,
 )
     requires sites { All (P.sites tests.now) (map V.place dcel.old.vertices) }
@@ -88,14 +85,14 @@ pub fn legalize_list<M: ConstraintMarker<UE>, V: HasPosition, DE, UE, F, P: Plan
     requires left { AreLeftToTest V.place M.constraints dcel.old work.old.items }
     requires only { IsTrue is_free →
         FailOnlyOf (map V.place dcel.old.vertices) dcel.old.mesh work.old.items }
-    requires room { 3 * length dcel.old.vertices ≤ vec_capacity work.old }
-    requires room_among { 3 * length dcel.old.vertices ≤ vec_capacity among.old }
+    requires room { 3 * length dcel.old.vertices ≤ work.old.room }
+    requires room_among { 3 * length dcel.old.vertices ≤ among.old.room }
     requires fits { FlipsFit (length dcel.old.vertices) flips.old }
     ensures legalizes { Legalizes V.place M.constraints dcel.old dcel.new flips.old flips.new }
 {
     if is_free {
-        list_directions(work.as_slice(), among);
-        let sides = &Sides::Among(among.as_slice());
+        list_again(work.as_slice(), among);
+        let sides = &Sides::Among(among);
         legalize_by::<M, _, _, _, _, _>(dcel, sides, tests, work, flips);
     } else {
         legalize_by::<M, _, _, _, _, _>(dcel, &Sides::Round, tests, work, flips);

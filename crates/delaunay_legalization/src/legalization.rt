@@ -1,6 +1,6 @@
 //! Flips of edges that fail the circle test, until each edge passes but the constraints.
 ghost use Rattle.std.specs.Prelude.{◌≡◌, ◌↔◌, ◌+◌, ◌-◌, ◌*◌, ◌/◌, ◌<◌, ◌≤◌, ◌^◌, ◌++◌, ◌∷◌, []};
-ghost use Rattle.std.specs.Prelude.{length, map, All, Contains, IsTrue, vec_capacity};
+ghost use Rattle.std.specs.Prelude.{length, map, All, Contains, IsTrue};
 ghost use Rattle.half_edge_mesh.specs.Mesh.{origin, next, prev, face, rev};
 ghost use Rattle.half_edge_mesh.specs.Flip.{flipped};
 ghost use Rattle.plane_tiling.specs.Local.{IsMesh};
@@ -17,6 +17,7 @@ ghost use Rattle.delaunay_legalization.specs.Sides.{HasLegalized, HasStepped};
 ghost use Rattle.delaunay_legalization.specs.State.{state_of};
 
 use crate::constraint_marker::ConstraintMarker;
+use crate::edge_set::EdgeSet;
 use crate::sides::{Sides, push_left};
 use delaunay_core::math::PlaneTests;
 use delaunay_core::point::{HasPosition, Point2};
@@ -176,20 +177,17 @@ pub(crate) fn flip<V: HasPosition, DE, UE, F>(
 pub fn push_side<V, DE, UE, F>(
     dcel: &Dcel<V, DE, UE, F>,
     edge: FixedDirectedEdgeHandle,
-    work: &mut Vec<FixedUndirectedEdgeHandle>,
+    work: &mut EdgeSet,
 )
     requires within { edge < length dcel.now.directed }
     requires edges { AreEdges dcel.now.mesh work.old.items }
-    requires room { length dcel.now.undirected ≤ vec_capacity work.old }
+    requires room { length dcel.now.undirected ≤ work.old.room }
     ensures gains { Gains work.old.items work.new.items (edge / 2) }
     ensures edges { AreEdges dcel.now.mesh work.new.items }
-    ensures capacity { vec_capacity work.new ≡ vec_capacity work.old }
+    ensures capacity { work.new.room ≡ work.old.room }
 {
     dcel.recall_invariant();
-    let side = edge.as_undirected();
-    if !work.as_slice().contains(&side) {
-        work.push_reserved(side);
-    }
+    work.put(edge.as_undirected());
 }
 
 /// Puts the four edges round an edge into a work list, unless they are there. The list has room for
@@ -197,14 +195,14 @@ pub fn push_side<V, DE, UE, F>(
 pub fn push_sides<V, DE, UE, F>(
     dcel: &Dcel<V, DE, UE, F>,
     edge: FixedDirectedEdgeHandle,
-    work: &mut Vec<FixedUndirectedEdgeHandle>,
+    work: &mut EdgeSet,
 )
     requires within { edge < length dcel.now.directed }
     requires edges { AreEdges dcel.now.mesh work.old.items }
-    requires room { length dcel.now.undirected ≤ vec_capacity work.old }
+    requires room { length dcel.now.undirected ≤ work.old.room }
     ensures gains { GainsRound dcel.now.mesh edge work.old.items work.new.items }
     ensures edges { AreEdges dcel.now.mesh work.new.items }
-    ensures capacity { vec_capacity work.new ≡ vec_capacity work.old }
+    ensures capacity { work.new.room ≡ work.old.room }
 {
     let (next, prev, twin_next, twin_prev) = sides_round(dcel, edge);
     push_side(dcel, next, work);
@@ -220,20 +218,20 @@ fn legalize_edge<M: ConstraintMarker<UE>, V: HasPosition, DE, UE, F, P: PlaneTes
     edge: FixedUndirectedEdgeHandle,
     sides: &Sides,
     tests: &P,
-    work: &mut Vec<FixedUndirectedEdgeHandle>,
+    work: &mut EdgeSet,
     flips: &mut u64,
 )
     requires sites { All (P.sites tests.now) (map V.place dcel.old.vertices) }
     requires step { CanStep sides.now (map V.place dcel.old.vertices) dcel.old.mesh work.old.items
         edge flips.old }
-    requires room { length dcel.old.undirected ≤ vec_capacity work.old }
+    requires room { length dcel.old.undirected ≤ work.old.room }
     ensures contents { dcel.new ≡ record dcel.old { mesh = dcel.new.mesh } }
     ensures constraints { constraint_pairs M.constraints dcel.new.mesh dcel.new.undirected ≡
         constraint_pairs M.constraints dcel.old.mesh dcel.old.undirected }
     ensures step { HasStepped sides.now (map V.place dcel.old.vertices)
         (constraint_pairs M.constraints dcel.old.mesh dcel.old.undirected) dcel.old.mesh
         dcel.new.mesh (work.old.items ++ edge ∷ []) work.new.items flips.old flips.new }
-    ensures capacity { vec_capacity work.new ≡ vec_capacity work.old }
+    ensures capacity { work.new.room ≡ work.old.room }
 {
     dcel.recall_invariant();
     if is_constraint_edge::<M, _, _, _, _>(dcel, edge) {
@@ -255,19 +253,13 @@ pub(crate) fn legalize_by<
     UE,
     F,
     P: PlaneTests<V::Scalar>,
->(
-    dcel: &mut Dcel<V, DE, UE, F>,
-    sides: &Sides,
-    tests: &P,
-    work: &mut Vec<FixedUndirectedEdgeHandle>,
-    flips: &mut u64,
-)
+>(dcel: &mut Dcel<V, DE, UE, F>, sides: &Sides, tests: &P, work: &mut EdgeSet, flips: &mut u64)
     requires sites { All (P.sites tests.now) (map V.place dcel.old.vertices) }
     requires can { CanLegalize V.place M.constraints sides.now dcel.old work.old.items flips.old }
-    requires room { length dcel.old.undirected ≤ vec_capacity work.old }
+    requires room { length dcel.old.undirected ≤ work.old.room }
     ensures has { HasLegalized V.place M.constraints dcel.old dcel.new flips.old flips.new }
     ensures done { work.new.items ≡ [] }
-    ensures capacity { vec_capacity work.new ≡ vec_capacity work.old }
+    ensures capacity { work.new.room ≡ work.old.room }
 {
     while let Some(edge) = work.pop() {
         dcel.recall_invariant();
@@ -282,17 +274,17 @@ pub(crate) fn legalize_by<
 pub fn legalize<M: ConstraintMarker<UE>, V: HasPosition, DE, UE, F, P: PlaneTests<V::Scalar>>(
     dcel: &mut Dcel<V, DE, UE, F>,
     tests: &P,
-    work: &mut Vec<FixedUndirectedEdgeHandle>,
+    work: &mut EdgeSet,
     flips: &mut u64,
 )
     requires sites { All (P.sites tests.now) (map V.place dcel.old.vertices) }
     requires kept { IsTriangulated V.place (state_of dcel.old) }
     requires left { AreLeftToTest V.place M.constraints dcel.old work.old.items }
-    requires room { length dcel.old.undirected ≤ vec_capacity work.old }
+    requires room { length dcel.old.undirected ≤ work.old.room }
     requires fits { FlipsFit (length dcel.old.vertices) flips.old }
     ensures legalizes { Legalizes V.place M.constraints dcel.old dcel.new flips.old flips.new }
     ensures done { work.new.items ≡ [] }
-    ensures capacity { vec_capacity work.new ≡ vec_capacity work.old }
+    ensures capacity { work.new.room ≡ work.old.room }
 {
     legalize_by::<M, _, _, _, _, _>(dcel, &Sides::Round, tests, work, flips);
 }

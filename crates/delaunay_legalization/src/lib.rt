@@ -6,6 +6,7 @@ mod among;
 mod around;
 mod cdt_edge;
 mod constraint_marker;
+mod edge_set;
 mod legalization;
 mod marking;
 mod predicates;
@@ -18,6 +19,7 @@ pub use constraint_marker::{ConstraintMarker, NoConstraints};
 
 // For the crates of edits, and not for users.
 pub use among::legalize_list;
+pub use edge_set::EdgeSet;
 pub use legalization::{
     end_of, is_constraint_edge, is_outer, legalize, position_of, push_side, push_sides,
     start_before, start_of,

@@ -1,6 +1,6 @@
 //! A legalization that begins at one vertex, where only edges of the faces there may fail.
 ghost use Rattle.std.specs.Prelude.{◌≡◌, ◌*◌, ◌<◌, ◌≤◌};
-ghost use Rattle.std.specs.Prelude.{length, map, All, IsFalse, IsTrue, vec_capacity};
+ghost use Rattle.std.specs.Prelude.{length, map, All, IsFalse, IsTrue};
 ghost use Rattle.mesh_embedding.specs.Drawn.{faces_of};
 ghost use Rattle.mesh_embedding.specs.Legal.{AreEdges};
 ghost use Rattle.delaunay_legalization.specs.Constraints.{constraints_by};
@@ -14,25 +14,24 @@ ghost use Rattle.delaunay_legalization.specs.State.{state_of};
 
 use crate::around::legalize_round;
 use crate::constraint_marker::ConstraintMarker;
+use crate::edge_set::EdgeSet;
 use crate::legalization::{legalize_by, push_side};
 use crate::sides::Sides;
 use delaunay_core::math::PlaneTests;
 use delaunay_core::point::HasPosition;
-use half_edge_mesh::{
-    Dcel, FixedDirectedEdgeHandle, FixedUndirectedEdgeHandle, FixedVertexHandle, MeshViews,
-};
+use half_edge_mesh::{Dcel, FixedDirectedEdgeHandle, FixedVertexHandle, MeshViews};
 
 // Puts an edge into a work list, and the one after it in its loop, unless they are there.
 fn push_with_next<V, DE, UE, F>(
     dcel: &Dcel<V, DE, UE, F>,
     edge: FixedDirectedEdgeHandle,
-    work: &mut Vec<FixedUndirectedEdgeHandle>,
+    work: &mut EdgeSet,
 )
-    requires gain { CanGain dcel.now edge work.old.items (vec_capacity work.old) }
+    requires gain { CanGain dcel.now edge work.old.items work.old.room }
     ensures kept { KeepsEntries work.old.items work.new.items }
     ensures sides { HasSidesAt dcel.now.mesh edge work.new.items }
     ensures edges { AreEdges dcel.now.mesh work.new.items }
-    ensures capacity { vec_capacity work.new ≡ vec_capacity work.old }
+    ensures capacity { work.new.room ≡ work.old.room }
 {
     push_side(dcel, edge, work);
     push_side(dcel, dcel.directed_edge(edge).next().fix(), work);
@@ -40,16 +39,12 @@ fn push_with_next<V, DE, UE, F>(
 
 // Puts the edges of a vertex into a work list, and those of the faces there that lie opposite it,
 // in place of what was in the list.
-fn push_star<V, DE, UE, F>(
-    dcel: &Dcel<V, DE, UE, F>,
-    vertex: FixedVertexHandle,
-    work: &mut Vec<FixedUndirectedEdgeHandle>,
-)
+fn push_star<V, DE, UE, F>(dcel: &Dcel<V, DE, UE, F>, vertex: FixedVertexHandle, work: &mut EdgeSet)
     requires within { vertex < length dcel.now.vertices }
-    requires room { length dcel.now.undirected ≤ vec_capacity work.old }
+    requires room { length dcel.now.undirected ≤ work.old.room }
     ensures star { HasStar dcel.now.mesh vertex work.new.items }
     ensures edges { AreEdges dcel.now.mesh work.new.items }
-    ensures capacity { vec_capacity work.new ≡ vec_capacity work.old }
+    ensures capacity { work.new.room ≡ work.old.room }
 {
     work.clear();
     dcel.recall_invariant();
@@ -75,7 +70,7 @@ pub fn legalize_vertex<
     vertex: FixedVertexHandle,
     is_free: bool,
     tests: &P,
-    work: &mut Vec<FixedUndirectedEdgeHandle>,
+    work: &mut EdgeSet,
     flips: &mut u64,
 )
     requires within { vertex < length dcel.old.vertices }
@@ -85,7 +80,7 @@ pub fn legalize_vertex<
         (constraints_by M.constraints (state_of dcel.old)) vertex }
     requires empty { IsTrue is_free →
         IsEmptyRound (map V.place dcel.old.vertices) (faces_of dcel.old.mesh) vertex }
-    requires room { IsFalse is_free → 3 * length dcel.old.vertices ≤ vec_capacity work.old }
+    requires room { IsFalse is_free → 3 * length dcel.old.vertices ≤ work.old.room }
     requires fits { FlipsFit (length dcel.old.vertices) flips.old }
     ensures legalizes { Legalizes V.place M.constraints dcel.old dcel.new flips.old flips.new }
 {

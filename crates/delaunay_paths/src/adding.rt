@@ -1,6 +1,6 @@
 //! Constraints along the path between two vertices.
 ghost use Rattle.std.specs.Prelude.{◌≡◌, ◌≢◌, ◌↔◌, ◌<◌};
-ghost use Rattle.std.specs.Prelude.{true, length, map, All, IsTrue, IfNone, IfSome, vec_capacity};
+ghost use Rattle.std.specs.Prelude.{true, length, map, All, IsTrue, IfNone, IfSome};
 ghost use Rattle.half_edge_mesh.specs.Contents.{IsMeshWithData};
 ghost use Rattle.plane.specs.Pairs.{Joins};
 ghost use Rattle.plane_tiling.specs.Local.{IsMesh};
@@ -19,7 +19,7 @@ use crate::joined::{edge_between, edge_if_joined};
 use crate::path::{is_same_vertex, next_on_path};
 use delaunay_core::math::PlaneTests;
 use delaunay_core::point::HasPosition;
-use delaunay_legalization::{ConstraintMarker, make_constraint};
+use delaunay_legalization::{ConstraintMarker, EdgeSet, make_constraint};
 use delaunay_lines::ConflictingEdgesIterator;
 use half_edge_mesh::{Dcel, FixedUndirectedEdgeHandle, FixedVertexHandle};
 
@@ -112,19 +112,19 @@ pub fn add_path<M: ConstraintMarker<UE>, V: HasPosition, DE, UE, F, P: PlaneTest
     to: FixedVertexHandle,
     tests: &P,
     lists: &mut CrossingLists,
-    work: &mut Vec<FixedUndirectedEdgeHandle>,
+    work: &mut EdgeSet,
 )
     requires can_mark { M.can_mark ≡ true }
     requires way { HasFreeWay V.place M.constraints dcel.old from to }
     requires kept { IsTriangulated V.place (state_of dcel.old) }
     requires sites { All (P.sites tests.now) (map V.place dcel.old.vertices) }
-    requires room { IsWorkList dcel.old work.old.items (vec_capacity work.old) ×
+    requires room { IsWorkList dcel.old work.old.items work.old.room ×
         HaveRoom (length dcel.old.undirected) lists.old }
 
     ensures adds { AddsPath V.place M.marks M.marked M.constraints dcel.old dcel.new from to }
     ensures leaves { LeavesToTest (map V.place dcel.old.vertices) dcel.old dcel.new work.old.items
         work.new.items }
-    ensures capacity { vec_capacity work.new ≡ vec_capacity work.old }
+    ensures capacity { work.new.room ≡ work.old.room }
 {
     let mut at = from;
     while let Some(next) = next_piece(dcel, at, to, tests) {

@@ -1,6 +1,6 @@
 //! Constraints that are added and released, with each other edge legal afterwards.
 ghost use Rattle.std.specs.Prelude.{◌≡◌, ◌*◌, ◌<◌, ◌≤◌, ◌∷◌, []};
-ghost use Rattle.std.specs.Prelude.{true, length, map, All, Contains, vec_capacity};
+ghost use Rattle.std.specs.Prelude.{true, length, map, All, Contains};
 ghost use Rattle.half_edge_mesh.specs.Mesh.{origin, rev};
 ghost use Rattle.delaunay_legalization.specs.Flips.{CountsFlips, FlipsFit};
 ghost use Rattle.delaunay_legalization.specs.Shape.{IsDelaunayTriangulation};
@@ -13,7 +13,7 @@ use crate::adding::{add_path, mark};
 use crate::crossing::CrossingLists;
 use delaunay_core::math::PlaneTests;
 use delaunay_core::point::HasPosition;
-use delaunay_legalization::{ConstraintMarker, free_edge, legalize};
+use delaunay_legalization::{ConstraintMarker, EdgeSet, free_edge, legalize};
 use half_edge_mesh::{Dcel, FixedDirectedEdgeHandle, FixedUndirectedEdgeHandle, FixedVertexHandle};
 
 /// Adds the pieces of the path between two vertices, whose segment no constraint crosses, to the
@@ -32,14 +32,14 @@ pub fn add_constraints<
     to: FixedVertexHandle,
     tests: &P,
     lists: &mut CrossingLists,
-    work: &mut Vec<FixedUndirectedEdgeHandle>,
+    work: &mut EdgeSet,
     flips: &mut u64,
 )
     requires can_mark { M.can_mark ≡ true }
     requires way { HasFreeWay V.place M.constraints dcel.old from to }
     requires legal { IsDelaunayTriangulation V.place M.constraints (state_of dcel.old) }
     requires sites { All (P.sites tests.now) (map V.place dcel.old.vertices) }
-    requires room { (3 * length dcel.old.vertices ≤ vec_capacity work.old) ×
+    requires room { (3 * length dcel.old.vertices ≤ work.old.room) ×
         HaveRoom (3 * length dcel.old.vertices) lists.old }
     requires fits { FlipsFit (length dcel.old.vertices) flips.old }
 
@@ -71,13 +71,13 @@ pub fn constrain_edge<M: ConstraintMarker<UE>, V: HasPosition, DE, UE, F>(
 }
 
 // Puts an edge into a work list, in place of what was there.
-fn put_alone(edge: FixedUndirectedEdgeHandle, work: &mut Vec<FixedUndirectedEdgeHandle>)
-    requires { 0 < vec_capacity work.old }
+fn put_alone(edge: FixedUndirectedEdgeHandle, work: &mut EdgeSet)
+    requires { edge < work.old.room }
     ensures edges { work.new.items ≡ edge ∷ [] }
-    ensures capacity { vec_capacity work.new ≡ vec_capacity work.old }
+    ensures capacity { work.new.room ≡ work.old.room }
 {
     work.clear();
-    work.push_reserved(edge);
+    work.put(edge);
 }
 
 /// Makes a constraint an edge that is none, and flips edges from there on until each that is no
@@ -93,13 +93,13 @@ pub fn release_constraint<
     dcel: &mut Dcel<V, DE, UE, F>,
     edge: FixedUndirectedEdgeHandle,
     tests: &P,
-    work: &mut Vec<FixedUndirectedEdgeHandle>,
+    work: &mut EdgeSet,
     flips: &mut u64,
 )
     requires constraint { Contains (M.constraints dcel.old.undirected) edge }
     requires legal { IsDelaunayTriangulation V.place M.constraints (state_of dcel.old) }
     requires sites { All (P.sites tests.now) (map V.place dcel.old.vertices) }
-    requires room { 3 * length dcel.old.vertices ≤ vec_capacity work.old }
+    requires room { 3 * length dcel.old.vertices ≤ work.old.room }
     requires fits { FlipsFit (length dcel.old.vertices) flips.old }
 
     ensures releases { ReleasesEdge V.place M.unmarked M.constraints dcel.old dcel.new edge }

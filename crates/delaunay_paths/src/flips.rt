@@ -1,5 +1,5 @@
 //! Flips until a segment between two vertices is an edge.
-ghost use Rattle.std.specs.Prelude.{◌≡◌, length, map, All, IfNone, IfSome, vec_capacity};
+ghost use Rattle.std.specs.Prelude.{◌≡◌, length, map, All, IfNone, IfSome};
 ghost use Rattle.plane.specs.Tiling.{IsEdge};
 ghost use Rattle.plane_tiling.specs.Local.{IsMesh};
 ghost use Rattle.plane_segments.specs.Path.{IsFreeOfVertices};
@@ -14,7 +14,8 @@ use crate::leaving::push_round;
 use crate::nearer::{turns_nearer, way_made};
 use delaunay_core::math::PlaneTests;
 use delaunay_core::point::HasPosition;
-use half_edge_mesh::{Dcel, FixedDirectedEdgeHandle, FixedUndirectedEdgeHandle, FixedVertexHandle};
+use delaunay_legalization::EdgeSet;
+use half_edge_mesh::{Dcel, FixedDirectedEdgeHandle, FixedVertexHandle};
 
 // Takes out the next edge that can be turned, of those still to be seen; the others before it wait.
 fn seek<V: HasPosition, DE, UE, F, P: PlaneTests<V::Scalar>>(
@@ -84,16 +85,16 @@ fn turn<V: HasPosition, DE, UE, F, P: PlaneTests<V::Scalar>>(
     to: FixedVertexHandle,
     tests: &P,
     lists: &mut CrossingLists,
-    work: &mut Vec<FixedUndirectedEdgeHandle>,
+    work: &mut EdgeSet,
 )
     requires turning { IsToTurn (map V.place dcel.old.vertices) dcel.old from to edge lists.old }
     requires sites { All (P.sites tests.now) (map V.place dcel.old.vertices) }
-    requires work { IsWorkList dcel.old work.old.items (vec_capacity work.old) }
+    requires work { IsWorkList dcel.old work.old.items work.old.room }
     ensures turns { TurnsTowards (map V.place dcel.old.vertices) dcel.old dcel.new from to
         work.old.items work.new.items }
     ensures lists { ListCrossing (map V.place dcel.old.vertices) dcel.new.mesh from to lists.new }
     ensures room { KeepRoom lists.old lists.new }
-    ensures capacity { vec_capacity work.new ≡ vec_capacity work.old }
+    ensures capacity { work.new.room ≡ work.old.room }
 {
     dcel.recall_invariant();
     let whole = edge.as_undirected();
@@ -121,19 +122,19 @@ pub fn make_edge<V: HasPosition, DE, UE, F, P: PlaneTests<V::Scalar>>(
     to: FixedVertexHandle,
     tests: &P,
     lists: &mut CrossingLists,
-    work: &mut Vec<FixedUndirectedEdgeHandle>,
+    work: &mut EdgeSet,
 )
     requires free { IsFreeOfVertices (drawn (map V.place dcel.old.vertices) dcel.old.mesh) from to }
     requires shape { IsMesh (map V.place dcel.old.vertices) (faces_of dcel.old.mesh)
         (outer_of dcel.old.mesh) }
     requires sites { All (P.sites tests.now) (map V.place dcel.old.vertices) }
     requires lists { HaveRoom (length dcel.old.undirected) lists.old }
-    requires work { IsWorkList dcel.old work.old.items (vec_capacity work.old) }
+    requires work { IsWorkList dcel.old work.old.items work.old.room }
 
     ensures makes { MakesEdge (map V.place dcel.old.vertices) dcel.old dcel.new from to
         work.old.items work.new.items }
     ensures room { KeepRoom lists.old lists.new }
-    ensures capacity { vec_capacity work.new ≡ vec_capacity work.old }
+    ensures capacity { work.new.room ≡ work.old.room }
 {
     lists.list(dcel, from, to, tests);
     while let Some(edge) = next_turn(dcel, from, to, tests, lists) {

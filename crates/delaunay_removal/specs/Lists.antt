@@ -7,6 +7,6 @@ use Rattle.delaunay_removal.specs.declared.lists.RemovalLists.{RemovalLists}
 pub record HasRoomToRemove {V D U F : Type 0} (c : Contents V D U F)
     (lists : RemovalLists) : Type 0 where
   pub sides : length c.directed ≤ vec_capacity lists.sides
-  pub tested : 3 * length c.vertices ≤ vec_capacity lists.sides
+  pub tested : 3 * length c.vertices ≤ lists.tested.room
   pub none : vec_len lists.turned ≡ 0
   pub turned : length c.vertices ≤ vec_capacity lists.turned

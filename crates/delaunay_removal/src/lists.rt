@@ -3,6 +3,7 @@ ghost use Rattle.std.specs.Prelude.{◌≡◌, [], OnOk};
 ghost use Rattle.delaunay_removal.specs.Lists.{HasRoomToRemove};
 
 use crate::pairs::VertexPair;
+use delaunay_legalization::EdgeSet;
 use half_edge_mesh::{Dcel, FixedDirectedEdgeHandle};
 use std::alloc::{AllocError, Global};
 
@@ -10,8 +11,10 @@ use std::alloc::{AllocError, Global};
 /// the room for it stays.
 #[derive(Drop)]
 pub struct RemovalLists {
-    // The sides opposite a vertex that goes from the hull, and then the edges that are tested.
+    // The sides opposite a vertex that goes from the hull.
     pub(crate) sides: Vec<FixedDirectedEdgeHandle>,
+    // The edges that are tested.
+    pub(crate) tested: EdgeSet,
     // What edges join that were turned away. A vertex has fewer edges than there are vertices.
     pub(crate) turned: Vec<VertexPair>,
 }
@@ -24,6 +27,7 @@ impl RemovalLists {
     {
         RemovalLists {
             sides: Vec::new(alloc),
+            tested: EdgeSet::new(alloc),
             turned: Vec::new(alloc),
         }
     }
@@ -34,10 +38,9 @@ impl RemovalLists {
     {
         let vertices = dcel.num_vertices();
         let directed = dcel.num_directed_edges();
-        let tested = 3 * vertices;
         self.sides.clear();
-        self.sides
-            .reserve(if directed < tested { tested } else { directed })?;
+        self.sides.reserve(directed)?;
+        self.tested.reserve(3 * vertices)?;
         self.turned.clear();
         self.turned.reserve(vertices)
     }

@@ -1,7 +1,6 @@
 //! Pairs of vertices that bound new faces where a vertex went, and a legalization from them on.
 ghost use Rattle.std.specs.Prelude.{◌≡◌, ℕ, ◌*◌, ◌<◌, ◌≤◌, ◌++◌};
 ghost use Rattle.std.specs.Prelude.{length, map, All, Contains, IsTrue};
-ghost use Rattle.std.specs.Prelude.{vec_capacity};
 ghost use Rattle.half_edge_mesh.specs.Mesh.{origin, rev};
 ghost use Rattle.half_edge_mesh.specs.Renames.{moved};
 ghost use Rattle.half_edge_mesh.specs.Round.{neighbour};
@@ -23,10 +22,8 @@ use crate::lists::RemovalLists;
 use crate::star::ccw_edge;
 use delaunay_core::math::PlaneTests;
 use delaunay_core::point::HasPosition;
-use delaunay_legalization::{ConstraintMarker, legalize_list, push_side};
-use half_edge_mesh::{
-    Dcel, FixedDirectedEdgeHandle, FixedUndirectedEdgeHandle, FixedVertexHandle, MeshViews,
-};
+use delaunay_legalization::{ConstraintMarker, EdgeSet, legalize_list, push_side};
+use half_edge_mesh::{Dcel, FixedDirectedEdgeHandle, FixedVertexHandle, MeshViews};
 
 /// Two vertices.
 pub type VertexPair = (FixedVertexHandle, FixedVertexHandle);
@@ -77,14 +74,14 @@ fn push_between<V, DE, UE, F>(
     dcel: &Dcel<V, DE, UE, F>,
     from: FixedVertexHandle,
     to: FixedVertexHandle,
-    work: &mut Vec<FixedUndirectedEdgeHandle>,
+    work: &mut EdgeSet,
 )
     requires edges { AreEdges dcel.now.mesh work.old.items }
-    requires room { length dcel.now.undirected ≤ vec_capacity work.old }
+    requires room { length dcel.now.undirected ≤ work.old.room }
     ensures kept { (j : ℕ) → Contains work.old.items j → Contains work.new.items j }
     ensures there { HasEdgeOf dcel.now.mesh from to work.new.items }
     ensures edges { AreEdges dcel.now.mesh work.new.items }
-    ensures capacity { vec_capacity work.new ≡ vec_capacity work.old }
+    ensures capacity { work.new.room ≡ work.old.room }
 {
     dcel.recall_invariant();
     match find_edge_between(dcel, from, to) {
@@ -99,15 +96,15 @@ fn push_pairs<V, DE, UE, F>(
     dcel: &Dcel<V, DE, UE, F>,
     vertex: FixedVertexHandle,
     pairs: &[VertexPair],
-    work: &mut Vec<FixedUndirectedEdgeHandle>,
+    work: &mut EdgeSet,
 )
     requires edges { AreEdges dcel.now.mesh work.old.items }
-    requires room { length dcel.now.undirected ≤ vec_capacity work.old }
+    requires room { length dcel.now.undirected ≤ work.old.room }
     ensures kept { (j : ℕ) → Contains work.old.items j → Contains work.new.items j }
     ensures there { HasEdgesOf dcel.now.mesh
         (pairs_left (length dcel.now.vertices) vertex pairs.now) work.new.items }
     ensures edges { AreEdges dcel.now.mesh work.new.items }
-    ensures capacity { vec_capacity work.new ≡ vec_capacity work.old }
+    ensures capacity { work.new.room ≡ work.old.room }
 {
     for i in 0..pairs.len() {
         let pair = pairs[i];
@@ -127,19 +124,19 @@ pub fn list_pairs<M: ConstraintMarker<UE>, V: HasPosition, DE, UE, F>(
     vertex: FixedVertexHandle,
     border: &[VertexPair],
     lists: &RemovalLists,
-    work: &mut Vec<FixedUndirectedEdgeHandle>,
+    work: &mut EdgeSet,
 )
     requires kept { IsTriangulated V.place (state_of dcel.now) }
     requires passing { AllPassBut (map V.place dcel.now.vertices) (faces_of dcel.now.mesh)
         (constraints_by M.constraints (state_of dcel.now))
         (pairs_left (length dcel.now.vertices) vertex (border.now ++ lists.now.turned.items)) }
-    requires room { 3 * length dcel.now.vertices ≤ vec_capacity work.old }
+    requires room { 3 * length dcel.now.vertices ≤ work.old.room }
 
     ensures left { AreLeftToTest V.place M.constraints dcel.now work.new.items }
     ensures only { FailOnlyAt (map V.place dcel.now.vertices) dcel.now.mesh
         (pairs_left (length dcel.now.vertices) vertex (border.now ++ lists.now.turned.items)) →
         FailOnlyOf (map V.place dcel.now.vertices) dcel.now.mesh work.new.items }
-    ensures capacity { vec_capacity work.new ≡ vec_capacity work.old }
+    ensures capacity { work.new.room ≡ work.old.room }
 {
     work.clear();
     push_pairs(dcel, vertex, border, work);
@@ -157,7 +154,7 @@ pub fn legalize_pairs<M: ConstraintMarker<UE>, V: HasPosition, DE, UE, F, P: Pla
     border: &[VertexPair],
     tests: &P,
     lists: &mut RemovalLists,
-    work: &mut Vec<FixedUndirectedEdgeHandle>,
+    work: &mut EdgeSet,
     flips: &mut u64,
 )
     requires sites { All (P.sites tests.now) (map V.place dcel.old.vertices) }
@@ -167,12 +164,12 @@ pub fn legalize_pairs<M: ConstraintMarker<UE>, V: HasPosition, DE, UE, F, P: Pla
         (pairs_left (length dcel.old.vertices) vertex (border.now ++ lists.old.turned.items)) }
     requires only { IsTrue is_free → FailOnlyAt (map V.place dcel.old.vertices) dcel.old.mesh
         (pairs_left (length dcel.old.vertices) vertex (border.now ++ lists.old.turned.items)) }
-    requires room { 3 * length dcel.old.vertices ≤ vec_capacity work.old }
-    requires room_among { 3 * length dcel.old.vertices ≤ vec_capacity lists.old.sides }
+    requires room { 3 * length dcel.old.vertices ≤ work.old.room }
+    requires room_among { 3 * length dcel.old.vertices ≤ lists.old.tested.room }
     requires fits { FlipsFit (length dcel.old.vertices) flips.old }
 
     ensures legalizes { Legalizes V.place M.constraints dcel.old dcel.new flips.old flips.new }
 {
     list_pairs::<M, _, _, _, _>(dcel, vertex, border, lists, work);
-    legalize_list::<M, _, _, _, _, _>(dcel, is_free, tests, &mut lists.sides, work, flips);
+    legalize_list::<M, _, _, _, _, _>(dcel, is_free, tests, &mut lists.tested, work, flips);
 }

@@ -1,7 +1,6 @@
 //! Vertices that go, with their edges.
 ghost use Rattle.std.specs.Prelude.{◌≡◌, ◌<◌, []};
 ghost use Rattle.std.specs.Prelude.{length, map, All, Some, IsSome, IsTrue, slice_get};
-ghost use Rattle.std.specs.Prelude.{vec_capacity};
 ghost use Rattle.half_edge_mesh.specs.Contents.{IsMeshWithData};
 ghost use Rattle.half_edge_mesh.specs.Mesh.{origin, out_edge, IsAlone};
 ghost use Rattle.half_edge_mesh.specs.Removal.{DropsVertex};
@@ -83,7 +82,7 @@ fn isolate<V: HasPosition, DE: Drop, UE: Drop, F: Drop, P: PlaneTests<V::Scalar>
     requires sites { All (P.sites tests.now) (map V.place dcel.old.vertices) }
     requires room { HasRoomToRemove dcel.old lists.old }
     ensures isolates { LosesEdges V.place dcel.old dcel.new vertex lists.new.turned.items }
-    ensures capacity { vec_capacity lists.new.sides ≡ vec_capacity lists.old.sides }
+    ensures capacity { lists.new.tested.room ≡ lists.old.tested.room }
 {
     dcel.recall_invariant();
     let first = first_edge(dcel, vertex);
@@ -110,7 +109,7 @@ fn take_vertex<V: HasPosition, DE: Drop, UE: Drop, F: Drop, P: PlaneTests<V::Sca
     ensures takes { TakesVertexOut V.place points_and_constraints (state_of dcel.old)
         (state_of dcel.new) vertex result lists.new.turned.items }
     ensures edges { RenumbersEdges dcel.old dcel.new vertex }
-    ensures capacity { vec_capacity lists.new.sides ≡ vec_capacity lists.old.sides }
+    ensures capacity { lists.new.tested.room ≡ lists.old.tested.room }
 {
     if dcel.num_inner_faces() == 0 {
         return remove_on_line(dcel, vertex);
@@ -164,7 +163,7 @@ pub fn remove_vertex<
 
     ensures takes { TakesVertexOut V.place (points_and_constraints_by M.constraints)
         (state_of dcel.old) (state_of dcel.new) vertex result lists.new.turned.items }
-    ensures capacity { vec_capacity lists.new.sides ≡ vec_capacity lists.old.sides }
+    ensures capacity { lists.new.tested.room ≡ lists.old.tested.room }
 {
     free_unless::<M, _, _, _, _>(dcel, vertex, is_free);
     take_vertex(dcel, vertex, tests, lists)

@@ -159,7 +159,7 @@ pub(crate) fn isolate_on_hull<
     requires pairs { HasRoomAt dcel.old.mesh vertex (vec_len lists.old.turned)
         (vec_capacity lists.old.turned) }
     ensures isolates { LosesEdges V.place dcel.old dcel.new vertex lists.new.turned.items }
-    ensures capacity { vec_capacity lists.new.sides ≡ vec_capacity lists.old.sides }
+    ensures capacity { lists.new.tested.room ≡ lists.old.tested.room }
 {
     let count = shrink_hull_star(dcel, first, tests, &mut lists.turned);
     dcel.recall_invariant();

@@ -1,5 +1,5 @@
 //! Segments between vertices: the next vertex on the way, and flips that make one an edge.
-ghost use Rattle.std.specs.Prelude.{◌≡◌, ◌≢◌, ◌<◌, length, map, All, IfSome, vec_capacity};
+ghost use Rattle.std.specs.Prelude.{◌≡◌, ◌≢◌, ◌<◌, length, map, All, IfSome};
 ghost use Rattle.plane.specs.Tests.{InRange};
 ghost use Rattle.plane_tiling.specs.Local.{IsMesh};
 ghost use Rattle.mesh_embedding.specs.Drawn.{faces_of, outer_of};
@@ -9,9 +9,10 @@ ghost use Rattle.test_points.specs.Vertices.{position_of};
 
 use delaunay_core::HintGenerator;
 use delaunay_interface::Triangulation;
+use delaunay_legalization::EdgeSet;
 use delaunay_paths::{CrossingLists, make_edge, next_on_path};
 use exact_predicates::ExactTests;
-use half_edge_mesh::{Dcel, FixedUndirectedEdgeHandle, FixedVertexHandle, MeshViews};
+use half_edge_mesh::{Dcel, FixedVertexHandle, MeshViews};
 use std::alloc::Global;
 use test_points::{Plain, TaggedVertex};
 
@@ -66,10 +67,10 @@ fn copy_of(mesh: &Mesh) -> Option<Mesh>
 }
 
 // A work list with no edge and room for each edge of a mesh, or nothing where memory was refused.
-fn room_for_edges(alloc: Global, mesh: &Mesh) -> Option<Vec<FixedUndirectedEdgeHandle>>
-    ensures { IfSome result (λ w. IsWorkList mesh.now w.items (vec_capacity w)) }
+fn room_for_edges(alloc: Global, mesh: &Mesh) -> Option<EdgeSet>
+    ensures { IfSome result (λ w. IsWorkList mesh.now w.items w.room) }
 {
-    let mut work = Vec::new(alloc);
+    let mut work = EdgeSet::new(alloc);
     match work.reserve(mesh.num_undirected_edges()) {
         Ok(()) => Some(work),
         Err(_) => None,

@@ -1,31 +1,29 @@
-use Rattle.std.proofs.Common.{List, ℕ, ◌*◌, ◌≤◌, length, map, sym, subst, arith}
+use Rattle.std.proofs.Common.{List, ℕ, map, sym, subst, arith}
 use Rattle.std.specs.Prelude.{Contains}
-use Rattle.mesh_embedding.proofs.MeshLegal.{few_edges}
 use Rattle.delaunay_legalization.proofs.AmongSides.{only_among}
 use Rattle.delaunay_legalization.proofs.Stepping.{triangulation_legalized}
 use Rattle.delaunay_legalization.proofs.among.legalize_list.Goals as goal
 
-pub list_directions-requires : goal.list_directions-requires
-list_directions-requires g c =
-    let listed = subst (λ (zs : List ℕ). length zs ≤ length c.args.dcel.now.undirected)
-    (sym {A = List ℕ} c.as_slice.ensures.value)
-    (few_edges c.args.dcel.now.mesh c.args.work.now.items (length c.args.dcel.now.undirected)
-    c.requires.kept.fits.undirected_fit c.requires.left.edges) in
-    let few = c.requires.kept.few_edges in
-    let room = c.requires.room_among in
-    omega (arith, listed, few, room)
+pub list_again-requires : goal.list_again-requires
+list_again-requires g c = record {
+  room = λ k l.
+      let within = c.requires.left.edges.within k
+      (subst (λ (zs : List ℕ). Contains zs k) c.as_slice.ensures l) in
+      let fit = c.requires.kept.fits.undirected_fit in
+      let few = c.requires.kept.few_edges in
+      let room = c.requires.room_among in
+      omega (arith, within, fit, few, room);
+}
 
 pub legalize_by-requires-clause-can : goal.legalize_by-requires-clause-can
 legalize_by-requires-clause-can g c = record {
   shape = c.requires.kept.shape;
   left = c.requires.left;
   suffice = only_among (map g.V.HasPosition.place c.args.dcel.now.vertices) c.args.dcel.now.mesh
-      c.args.work.now.items _
-      (λ k l. subst (λ (zs : List ℕ). Contains zs (2 * k))
-      (sym {A = List ℕ} c.as_slice-then-is_free.ensures.value)
-      (c.list_directions.ensures k
-      (subst (λ (zs : List ℕ). Contains zs k) (sym {A = List ℕ} c.as_slice.ensures.value)
-      l))) (c.requires.only c.if-is_free.true);
+      c.args.work.now.items c.list_again.new.list.items
+      (λ k l. c.list_again.ensures k
+      (subst (λ (zs : List ℕ). Contains zs k) (sym {A = List ℕ} c.as_slice.ensures) l))
+      (c.requires.only c.if-is_free.true);
   fits = c.requires.fits;
 }
 

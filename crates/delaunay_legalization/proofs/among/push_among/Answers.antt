@@ -1,18 +1,14 @@
-use Rattle.std.proofs.Common.{ℕ, ◌*◌, refl, ap, ◌∙◌}
 use Rattle.delaunay_legalization.proofs.AmongSides.{gains_among, gains_none_among}
-use Rattle.delaunay_legalization.proofs.Legalizing.{found}
 use Rattle.delaunay_legalization.proofs.Questions.{both_ways}
 use Rattle.delaunay_legalization.proofs.among.push_among.Goals as goal
 
 pub returns-then-contains-clause-gains : goal.returns-then-contains-clause-gains
 returns-then-contains-clause-gains g c =
-    gains_among c.args.among.now c.args.work.now.items c.push_side.new.work.items c.args.edge
+    gains_among c.args.among.now.items c.args.work.now.items c.push_side.new.work.items c.args.edge
     c.push_side.ensures.gains
 
 pub returns-else-contains-clause-gains : goal.returns-else-contains-clause-gains
 returns-else-contains-clause-gains g c =
-    gains_none_among c.args.among.now c.args.work.now.items c.args.edge c.as_directed-first.result
-    (c.as_directed-first.ensures ∙ ap (λ (k : ℕ). 2 * k) c.as_undirected.ensures)
-    (λ h. both_ways _
-    ((found c.args.among.now c.args.among.now c.as_directed-first.result c.contains.result refl
-    c.contains.ensures.cases).1 h) c.if-contains.false)
+    gains_none_among c.args.among.now.items c.args.work.now.items c.args.edge
+    c.as_undirected.result c.as_undirected.ensures
+    (λ h. both_ways _ (c.contains.ensures.1 h) c.if-contains.false)

@@ -1,5 +1,4 @@
-use Rattle.std.proofs.Common.{◌∙◌, vec_capacity}
-use Rattle.delaunay_legalization.proofs.Legalizing.{drained}
+use Rattle.std.proofs.Common.{◌∙◌}
 use Rattle.delaunay_legalization.proofs.Stepping.{steps_begin, can_step, steps_go_on, steps_end}
 use Rattle.delaunay_legalization.proofs.legalization.legalize_by.Goals as goal
 
@@ -7,7 +6,7 @@ pub loop-edge-init : goal.loop-edge-init
 loop-edge-init g c =
     steps_begin c.args.sides.now g.V.HasPosition.place g.M.ConstraintMarker.constraints
     c.args.dcel.now
-    (vec_capacity c.args.work.now) c.args.flips.now c.args.work.now.items c.requires.can
+    c.args.work.now.room c.args.flips.now c.args.work.now.items c.requires.can
 
 pub legalize_edge-requires-clause-step : goal.legalize_edge-requires-clause-step
 legalize_edge-requires-clause-step g c =
@@ -15,7 +14,7 @@ legalize_edge-requires-clause-step g c =
     _ c.args.flips.now
     c.loop-edge.dcel c.loop-edge.work.items _ c.loop-edge.flips c.loop-edge.invariant
     c.pop.new.self.items
-    c.in-Some.edge c.in-Some.ensures.items c.recall_invariant.ensures.whole.valid
+    c.in-Some.edge c.in-Some.ensures.last c.recall_invariant.ensures.whole.valid
     c.requires.can.fits
 
 pub loop-edge-preserved : goal.loop-edge-preserved
@@ -25,9 +24,9 @@ loop-edge-preserved g c =
     c.args.flips.now c.loop-edge.dcel c.loop-edge.work.items _ c.loop-edge.flips
     c.loop-edge.invariant
     c.pop.new.self.items
-    c.in-Some.edge c.in-Some.ensures.items c.legalize_edge.new.dcel c.legalize_edge.new.work.items _
+    c.in-Some.edge c.in-Some.ensures.last c.legalize_edge.new.dcel c.legalize_edge.new.work.items _
     c.legalize_edge.new.flips c.legalize_edge.ensures.contents c.legalize_edge.ensures.constraints
-    c.legalize_edge.ensures.step (c.legalize_edge.ensures.capacity ∙ c.pop.ensures.capacity)
+    c.legalize_edge.ensures.step (c.legalize_edge.ensures.capacity ∙ c.pop.ensures.room)
 
 pub returns-clause-has : goal.returns-clause-has
 returns-clause-has g c =
@@ -35,6 +34,4 @@ returns-clause-has g c =
     c.args.dcel.now _ c.args.flips.now
     c.loop-edge.dcel c.loop-edge.work.items _ c.loop-edge.flips c.loop-edge.invariant
     c.recall_invariant-2.ensures.whole
-    (drained c.loop-edge.work.items c.pop.new.self.items _ c.in_default.ensures.items
-    c.in_default.ensures.rest
-    c.in_default.ensures.cases.0)
+    c.in_default.ensures.none.0

@@ -18,7 +18,7 @@ loop-edge-init g c =
     (subst (λ (v : ℕ). GivesRound d v (out_edges_left c.out_edges-edge-items.result))
     c.vertex.ensures.index
     c.out_edges-edge-items.ensures))
-    c.clear.ensures.items (no_edges c.args.dcel.now.mesh) c.clear.ensures.capacity
+    c.clear.ensures.items (no_edges c.args.dcel.now.mesh) c.clear.ensures.room
 
 pub push_with_next-requires : goal.push_with_next-requires
 push_with_next-requires g c =

@@ -1,4 +1,4 @@
-use Rattle.std.proofs.Common.{[], vec_capacity}
+use Rattle.std.proofs.Common.{[]}
 use Rattle.half_edge_mesh.specs.Rounds.{out_edges_left}
 use Rattle.delaunay_legalization.specs.Star.{HasSidesAt}
 use Rattle.delaunay_legalization.proofs.Pushing.{IsPushing}
@@ -7,4 +7,4 @@ use Rattle.delaunay_legalization.proofs.star.push_star.Given as goal
 abbrev pub invariant-loop-edge : goal.invariant-loop-edge
 invariant-loop-edge g l =
     IsPushing l.dcel l.fn.vertex (HasSidesAt l.dcel.mesh) [] (out_edges_left l.edge-iterator)
-    l.work.items (vec_capacity l.fn.work) (vec_capacity l.work)
+    l.work.items l.fn.work.room l.work.room

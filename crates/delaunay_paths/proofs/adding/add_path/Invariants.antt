@@ -1,5 +1,5 @@
 use Rattle.std.proofs.Common.{◌≡◌, map}
-use Rattle.std.specs.Prelude.{nat_abs, vec_capacity}
+use Rattle.std.specs.Prelude.{nat_abs}
 use Rattle.plane.specs.Laws.{squared_way}
 use Rattle.plane_edits.specs.Legal.{point_of}
 use Rattle.delaunay_paths.specs.Leaving.{LeavesToTest}
@@ -13,7 +13,7 @@ invariant-loop-next g l = IsAddingTo g.M.ConstraintMarker.marks g.M.ConstraintMa
     g.M.ConstraintMarker.marked l.fn.dcel l.dcel
     l.fn.from l.fn.to l.at
     × LeavesToTest (map g.V.HasPosition.place l.fn.dcel.vertices) l.fn.dcel l.dcel l.fn.work.items
-    l.work.items × (vec_capacity l.work ≡ vec_capacity l.fn.work) × KeepRoom l.fn.lists l.lists
+    l.work.items × (l.work.room ≡ l.fn.work.room) × KeepRoom l.fn.lists l.lists
 
 abbrev pub decreases-loop-next : goal.decreases-loop-next
 decreases-loop-next g l =

@@ -8,7 +8,7 @@ use Rattle.delaunay_paths.proofs.constraints.add_constraints.Goals as goal
 pub add_path-requires-clause-room : goal.add_path-requires-clause-room
 add_path-requires-clause-room g c = (
   cleared_work c.args.dcel.now c.clear.new.self.items _ _ c.requires.legal.kept.few_edges
-      c.requires.room.0 c.clear.ensures.capacity c.clear.ensures.items,
+      c.requires.room.0 c.clear.ensures.room c.clear.ensures.items,
   fewer_fit _ (length c.args.dcel.now.undirected) c.args.lists.now c.requires.legal.kept.few_edges
       c.requires.room.1,
 )
@@ -36,7 +36,7 @@ legalize-requires-clause-left g c =
 pub legalize-requires-clause-room : goal.legalize-requires-clause-room
 legalize-requires-clause-room g c =
     let m = g.M.ConstraintMarker in
-    rw (c.add_path.ensures.capacity ∙ c.clear.ensures.capacity)
+    rw (c.add_path.ensures.capacity ∙ c.clear.ensures.room)
     (added_room g.V.HasPosition.place m.marks m.marked m.constraints c.args.dcel.now
     c.add_path.new.dcel c.args.from c.args.to c.add_path.ensures.adds c.clear.new.self.items
     c.add_path.new.work.items c.add_path.ensures.leaves _ c.requires.room.0)

@@ -1,5 +1,4 @@
 use Rattle.std.proofs.Common.{map}
-use Rattle.std.specs.Prelude.{vec_capacity}
 use Rattle.plane_segments.specs.Measure.{crossing_sum}
 use Rattle.mesh_embedding.specs.Drawn.{faces_of}
 use Rattle.delaunay_paths.specs.Lists.{KeepRoom, ListCrossing}
@@ -8,7 +7,7 @@ use Rattle.delaunay_paths.proofs.flips.make_edge.Given as goal
 
 abbrev pub invariant-loop-edge : goal.invariant-loop-edge
 invariant-loop-edge g l = IsMaking g.V.HasPosition.place l.fn.dcel l.dcel l.from l.to
-    l.fn.work.items l.work.items (vec_capacity l.fn.work) (vec_capacity l.work)
+    l.fn.work.items l.work.items l.fn.work.room l.work.room
     × ListCrossing (map g.V.HasPosition.place l.dcel.vertices) l.dcel.mesh l.from l.to l.lists
     × KeepRoom l.fn.lists l.lists
 

@@ -43,7 +43,7 @@ take_vertex-requires-clause-room g c =
     record {
       sides = subst (λ ds. length ds ≤ vec_capacity lists.sides) directed c.requires.room.sides;
       tested =
-          subst (λ vs. 3 * length vs ≤ vec_capacity lists.sides) vertices c.requires.room.tested;
+          subst (λ vs. 3 * length vs ≤ lists.tested.room) vertices c.requires.room.tested;
       none = c.requires.room.none;
       turned = subst (λ vs. length vs ≤ vec_capacity lists.turned) vertices c.requires.room.turned;
     }

@@ -22,7 +22,7 @@ add_constraints-requires-clause-way g c = record {
 
 pub add_constraints-requires-clause-room : goal.add_constraints-requires-clause-room
 add_constraints-requires-clause-room g c =
-    let enough = c.in_ok-reserve.ensures.ok in
+    let enough = c.in_ok-reserve.ensures.room in
     let count = c.num_vertices-edges.ensures.value in (
       omega (arith, enough, count),
       subst (λ n. HaveRoom (3 * n) c.reserve-2.new.self) count c.in_ok-reserve-2.ensures,

@@ -1,5 +1,4 @@
 use Rattle.std.proofs.Common.{◌*◌, ◌<◌, ℕ, List, ◌++◌, length, map, refl, sym, ap, subst, arith}
-use Rattle.std.proofs.Common.{vec_capacity}
 use Rattle.std.specs.Prelude.{All}
 use Rattle.std.proofs.lemmas.Bool.{eqb-true}
 use Rattle.std.proofs.lemmas.Option.{IfSome_then}
@@ -34,10 +33,11 @@ settle-requires-clause-sites g c =
 
 pub settle-requires-clause-room : goal.settle-requires-clause-room
 settle-requires-clause-room g c =
+    let room = c.in_ok-reserve.ensures.room in
     room_left g.V.HasPosition.place g.M.ConstraintMarker.constraints (state_of c.self.inside.dcel)
     (state_of c.remove_vertex-value.new.dcel) c.args.vertex c.remove_vertex-value.result
-    c.remove_vertex-value.ensures.takes.plain _ _ _ c.num_vertices-edges.ensures.value
-    c.in_ok-reserve.ensures.ok
+    c.remove_vertex-value.ensures.takes.plain c.num_vertices-edges.result 0 _
+    c.num_vertices-edges.ensures.value (omega (arith, room))
 
 pub remove_vertex-value-requires-clause-free : goal.remove_vertex-value-requires-clause-free
 remove_vertex-value-requires-clause-free g c free =
@@ -83,7 +83,7 @@ settle-requires-clause-room_among g c =
     room_left g.V.HasPosition.place g.M.ConstraintMarker.constraints (state_of c.self.inside.dcel)
     (state_of c.remove_vertex-value.new.dcel) c.args.vertex c.remove_vertex-value.result
     c.remove_vertex-value.ensures.takes.plain
-    (length c.self.inside.dcel.vertices) 0 (vec_capacity c.remove_vertex-value.new.lists.sides) refl
+    (length c.self.inside.dcel.vertices) 0 c.remove_vertex-value.new.lists.tested.room refl
     (omega (arith, tested, same))
 
 pub settle-requires-clause-room_crossing : goal.settle-requires-clause-room_crossing

@@ -1,0 +1,107 @@
+//! Lists of edges that are marked while they are listed, so that none is searched for.
+ghost use Rattle.std.specs.Prelude.{◌≡◌, ◌<◌, ◌≤◌, ◌++◌, ◌∷◌, []};
+ghost use Rattle.std.specs.Prelude.{◌↔◌, Contains, IfNone, IfSome, IsTrue, OnOk};
+ghost use Rattle.mesh_embedding.specs.Legal.{Gains};
+
+use half_edge_mesh::FixedUndirectedEdgeHandle;
+use std::alloc::{AllocError, Global};
+use std::marker::Model;
+
+/// Undirected edges, each once, in the order in which they were put there, and how many indexes of
+/// edges there is room for.
+#[derive(Drop)]
+pub struct EdgeSet {
+    edges: Vec<FixedUndirectedEdgeHandle>,
+    // Whether the edge of an index is listed.
+    flags: Vec<bool>,
+}
+
+impl Model for EdgeSet {
+    ghost use Rattle.std.specs.Prelude.{length, vec_capacity};
+    ghost use Rattle.delaunay_legalization.specs.EdgeSet.{EdgesInSet, AreFlagged};
+
+    ghost Value = { EdgesInSet };
+
+    ghost view = { λ l. record { items = l.edges.items; room = length l.flags.items } };
+
+    ghost invariant = { λ l. AreFlagged l.edges.items l.flags.items (vec_capacity l.edges) };
+}
+
+impl EdgeSet {
+    /// No edge, and no room.
+    pub fn new(alloc: Global) -> Self
+        ensures { result.items ≡ [] }
+    {
+        EdgeSet {
+            edges: Vec::new(alloc),
+            flags: Vec::new(alloc),
+        }
+    }
+
+    /// Makes room for the edges of so many indexes. It gives `AllocError` where memory was refused.
+    pub fn reserve(&mut self, edges: usize) -> Result<(), AllocError>
+        ensures room { OnOk result (edges ≤ self.new.room) }
+        ensures items { self.new.items ≡ self.old.items }
+    {
+        if edges <= self.flags.len() {
+            return Ok(());
+        }
+        self.edges.reserve(edges)?;
+        self.flags.resize(self.edges.capacity(), false)
+    }
+
+    /// What allocates for the list.
+    pub fn allocator(&self) -> &Global {
+        self.edges.allocator()
+    }
+
+    /// The edges.
+    pub fn as_slice(&self) -> &[FixedUndirectedEdgeHandle]
+        ensures { result.now ≡ self.now.items }
+    {
+        self.edges.as_slice()
+    }
+
+    /// Whether an edge is listed.
+    pub fn contains(&self, edge: FixedUndirectedEdgeHandle) -> bool
+        ensures { IsTrue result ↔ Contains self.now.items edge }
+    {
+        let index = edge.index() as usize;
+        index < self.flags.len() && self.flags[index]
+    }
+
+    /// Lists an edge as the last one, unless it is listed.
+    pub fn put(&mut self, edge: FixedUndirectedEdgeHandle)
+        requires { edge < self.old.room }
+        ensures gains { Gains self.old.items self.new.items edge }
+        ensures last { (¬ Contains self.old.items edge) →
+            self.new.items ≡ self.old.items ++ edge ∷ [] }
+        ensures room { self.new.room ≡ self.old.room }
+    {
+        let index = edge.index() as usize;
+        if self.flags[index] {
+            return;
+        }
+        self.flags[index] = true;
+        self.edges.push_reserved(edge);
+    }
+
+    /// Takes the last edge out, if there is one.
+    pub fn pop(&mut self) -> Option<FixedUndirectedEdgeHandle>
+        ensures last { IfSome result (λ k. self.old.items ≡ self.new.items ++ k ∷ []) }
+        ensures none { IfNone result ((self.old.items ≡ []) × (self.new.items ≡ [])) }
+        ensures room { self.new.room ≡ self.old.room }
+    {
+        let edge = self.edges.pop()?;
+        self.flags[edge.index() as usize] = false;
+        Some(edge)
+    }
+
+    /// Takes each edge out.
+    pub fn clear(&mut self)
+        ensures items { self.new.items ≡ [] }
+        ensures room { self.new.room ≡ self.old.room }
+    {
+        'edges: while let Some(_) = self.pop() {}
+    }
+}
