@@ -1,9 +1,8 @@
 -- The loop that turns edges of a vertex on the hull away.
--- Notions: IsHullShrinking; hull_sites_stay, bent_at_end, turnable_place, place_starts,
+-- Notions: IsHullShrinking; bent_at_end, turnable_place, place_starts,
 -- place_left, place_right, place_apart, hull_star_goes_on, hull_shrinking_goes_on.
 use Rattle.std.proofs.Common.{◌≡◌, ◌≢◌, ◌+◌, ◌-◌, ◌*◌, ◌/◌, ◌<◌, ◌≤◌, [], ◌∷◌, ◌++◌, ◌∙◌}
 use Rattle.std.proofs.Common.{ℕ, suc, List, length, map, sym, ap, subst, arith, inl, inr}
-use Rattle.std.specs.Prelude.{All}
 use Rattle.std.proofs.lemmas.Bool.{cases_eq, cases_lt}
 use Rattle.half_edge_mesh.specs.Flip.{flipped}
 use Rattle.half_edge_mesh.specs.Mesh.{Mesh, origin, face}
@@ -43,12 +42,6 @@ pub record IsHullShrinking {V D U F : Type 0} (place : V → Point) (old now : C
 module _ {V D U F : Type 0} {turned : List (ℕ × ℕ)} {listed capacity : ℕ} (place : V → Point)
     (old now : Contents V D U F) (v first from count : ℕ)
     (shrinking : IsHullShrinking place old now v first from count turned listed capacity) where
-  -- the vertices are sites as they were
-  pub hull_sites_stay : (IsSite : Point → Type 0) → All IsSite (map place old.vertices)
-      → All IsSite (map place now.vertices)
-  hull_sites_stay IsSite sites = subst (λ (vs : List V). All IsSite (map place vs))
-      (sym (ap (λ (c : Contents V D U F). c.vertices) shrinking.contents)) sites
-
   -- the edges of the vertex from one of them on
   round_from_edge : (edge : ℕ) → edge < length now.directed → origin now.mesh edge ≡ v
       → IsRound now.mesh v edge count

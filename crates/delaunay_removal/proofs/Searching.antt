@@ -1,10 +1,16 @@
 -- A walk round a vertex that looks for an edge.
--- Notions: IsSearching; search_goes_on.
-use Rattle.std.proofs.Common.{◌≡◌, ℕ, ◌+◌, ◌<◌, sym, ap, ◌∙◌, subst, arith, inl, inr}
+-- Notions: IsSearching; search_goes_on, search_begins, search_ends, found_spoke.
+use Rattle.std.proofs.Common.{◌≡◌, ℕ, ◌+◌, ◌<◌, List, length, map, refl, sym, ap, ◌∙◌, subst, arith}
+use Rattle.std.proofs.Common.{inl, inr}
+use Rattle.std.specs.Prelude.{Some}
 use Rattle.std.proofs.lemmas.Bool.{cases_eq}
 use Rattle.std.proofs.Math.Numerals.{add-one}
-use Rattle.half_edge_mesh.specs.Mesh.{Mesh}
+use Rattle.half_edge_mesh.specs.Contents.{Contents}
+use Rattle.half_edge_mesh.specs.Mesh.{Mesh, origin}
 use Rattle.half_edge_mesh.specs.Peel.{turn, spoke}
+use Rattle.plane.specs.Fraction.{Point}
+use Rattle.delaunay_legalization.proofs.Rounds.{round_at}
+use Rattle.delaunay_removal.specs.Star.{Surrounding, HasSpoke, IsSpokeThat, FindsSpoke}
 
 -- after so many steps from edge first on the walk is at an edge, and none before it is one
 pub record IsSearching (Found : ℕ → Type 0) (bound : ℕ) (m : Mesh)
@@ -25,3 +31,37 @@ search_goes_on Found bound m first count edge after search not within is = recor
     | inr n ↦ search.none k (omega (arith, less, n))
   ];
 }
+
+-- it begins at its first edge
+pub search_begins : {V D U F : Type 0} {place : V → Point} {IsSite : Point → Type 0}
+    (Found : ℕ → Type 0) (c : Contents V D U F) (first : ℕ) → HasSpoke place IsSite c first
+    → IsSearching Found (length c.directed) c.mesh first 0 first
+search_begins Found c first has = record {
+  within = has.within;
+  here = refl;
+  none = λ k less. absurd (omega (arith, less));
+}
+
+-- where such a walk is at an edge of the kind, it has found one
+pub search_ends : {V D U F : Type 0} {place : V → Point} {IsSite : Point → Type 0}
+    {Found : ℕ → Type 0} (Is : List Point → Mesh → ℕ → Type 0) (c : Contents V D U F)
+    (first count edge : ℕ) → HasSpoke place IsSite c first
+    → IsSearching Found (length c.directed) c.mesh first count edge
+    → Is (map place c.vertices) c.mesh edge → IsSpokeThat Is (record {
+      points = map place c.vertices;
+      mesh = c.mesh;
+      directed = c.directed;
+      first = first;
+    }) edge
+search_ends Is c first count edge has walk is = record {
+  within = walk.within;
+  starts = ap (origin c.mesh) walk.here
+      ∙ (round_at c.mesh has.whole.valid (origin c.mesh first) first
+      (subst (λ (n : ℕ). first < n) has.whole.fits.directed_fit has.within) refl).1.starts count;
+  is = is;
+}
+
+-- and none need be missing
+pub found_spoke : {D : Type 0} (Is : List Point → Mesh → ℕ → Type 0) (s : Surrounding D)
+    (count h : ℕ) → IsSpokeThat Is s h → FindsSpoke Is s count (Some h)
+found_spoke Is s count h one = record { some = one; none = search }

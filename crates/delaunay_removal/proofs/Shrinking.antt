@@ -1,8 +1,9 @@
 -- The loop that turns edges of an inner vertex away.
--- Notions: IsShrinking; still_within, vertices_stay, star_at, shrinking_goes_on, shrinking_from,
--- shrinking_stops, shrinking_ends.
+-- Notions: IsShrinking; still_within, still_sites, vertices_stay, star_at, shrinking_goes_on,
+-- shrinking_from, shrinking_stops, shrinking_ends.
 use Rattle.std.proofs.Common.{◌≡◌, ◌+◌, ◌-◌, ◌*◌, ◌/◌, ◌<◌, ◌≤◌, [], ◌∷◌, ◌++◌, ◌∙◌}
 use Rattle.std.proofs.Common.{ℕ, List, length, map, sym, ap, subst, arith, inl}
+use Rattle.std.specs.Prelude.{All}
 use Rattle.half_edge_mesh.specs.Mesh.{origin}
 use Rattle.half_edge_mesh.specs.Flip.{flipped}
 use Rattle.half_edge_mesh.specs.Outline.{KeepsOuter}
@@ -30,6 +31,13 @@ module _ {V D U F : Type 0} (old new : Contents V D U F) where
       → e < length new.directed
   still_within contents e within = subst (λ (ds : List D). e < length ds)
       (sym (ap (λ (c : Contents V D U F). c.directed) contents)) within
+
+  -- and the vertices stay sites
+  pub still_sites : new ≡ record old { mesh = new.mesh } → (place : V → Point)
+      (IsSite : Point → Type 0) → All IsSite (map place old.vertices)
+      → All IsSite (map place new.vertices)
+  still_sites contents place IsSite sites = subst (λ (vs : List V). All IsSite (map place vs))
+      (sym (ap (λ (c : Contents V D U F). c.vertices) contents)) sites
 
 module _ {V D U F : Type 0} {turned : List (ℕ × ℕ)} {listed capacity : ℕ} (place : V → Point)
     (old now : Contents V D U F) (v first count : ℕ)

@@ -1,13 +1,14 @@
 -- The edges and faces round a vertex that is to go.
 use Rattle.std.specs.Prelude.{◌≡◌, ◌⊎◌, ◌+◌, ◌*◌, ◌/◌, ◌<◌, ◌++◌, ◌∷◌, []}
 use Rattle.std.specs.Prelude.{ℕ, suc, List, length, map, vec_capacity, vec_len}
+use Rattle.std.specs.Prelude.{Option, IfSome, IfNone, All}
 use Rattle.std.specs.Global.{Vec}
 use Rattle.half_edge_mesh.specs.Flip.{flipped}
 use Rattle.half_edge_mesh.specs.Mesh.{Mesh, origin, face, IsAlone}
 use Rattle.half_edge_mesh.specs.Outline.{KeepsOuter}
-use Rattle.half_edge_mesh.specs.Peel.{turn}
+use Rattle.half_edge_mesh.specs.Peel.{turn, spoke}
 use Rattle.half_edge_mesh.specs.Round.{IsRound, neighbour}
-use Rattle.half_edge_mesh.specs.Contents.{Contents}
+use Rattle.half_edge_mesh.specs.Contents.{Contents, IsMeshWithData}
 use Rattle.half_edge_mesh.specs.Triangles.{FlipsTriangles}
 use Rattle.plane.specs.Fraction.{Point, WithinSegment}
 use Rattle.plane.specs.Pairs.{place}
@@ -31,6 +32,34 @@ pub record IsTurnable (points : List Point) (m : Mesh) (h : ℕ) : Type 0 where
   pub convex : IsConvexAt points m h
   pub left : 0 < face m h
   pub right : 0 < face m (turn m h)
+
+-- what a contract sees of the edges of a vertex from one on: the mesh, with the positions of its
+-- vertices and the data of its directed edges
+pub record Surrounding (D : Type 0) : Type 0 where
+  pub points : List Point
+  pub mesh : Mesh
+  pub directed : List D
+  pub first : ℕ
+
+-- a mesh has this edge, and its vertices are sites
+pub record HasSpoke {V D U F : Type 0} (place : V → Point) (IsSite : Point → Type 0)
+    (c : Contents V D U F) (h : ℕ) : Type 0 where
+  pub whole : IsMeshWithData c
+  pub sites : All IsSite (map place c.vertices)
+  pub within : h < length c.directed
+
+-- edge h is one of these edges, and of this kind
+pub record IsSpokeThat {D : Type 0} (Is : List Point → Mesh → ℕ → Type 0) (s : Surrounding D)
+    (h : ℕ) : Type 0 where
+  pub within : h < length s.directed
+  pub starts : origin s.mesh h ≡ origin s.mesh s.first
+  pub is : Is s.points s.mesh h
+
+-- such an edge, or none where so many of these edges are of another kind
+pub record FindsSpoke {D : Type 0} (Is : List Point → Mesh → ℕ → Type 0) (s : Surrounding D)
+    (count : ℕ) (found : Option ℕ) : Type 0 where
+  pub some : IfSome found (IsSpokeThat Is s)
+  pub none : IfNone found ((i : ℕ) → i < count → ¬ Is s.points s.mesh (spoke s.mesh s.first i))
 
 -- the faces round vertex v are inner ones
 abbrev pub HasInnerFaces : Mesh → ℕ → Type 0

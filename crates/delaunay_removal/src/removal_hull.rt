@@ -12,7 +12,7 @@ ghost use Rattle.delaunay_removal.specs.Hull.{HasHullEdge, IsHullStar};
 ghost use Rattle.delaunay_removal.specs.Pairs.{HasRoomAt, KeepsPairs};
 ghost use Rattle.delaunay_removal.specs.Star.{HasInnerFaces, LosesEdges};
 
-use crate::choice::{choose_hull_edge, edge_to_go_on};
+use crate::choice::{Spokes, edge_to_go_on};
 use crate::lists::RemovalLists;
 use crate::pairs::VertexPair;
 use crate::star::{ccw_edge, count_edges, cw_edge, opposite_side, turn_away};
@@ -44,13 +44,22 @@ fn shrink_hull_star<V: HasPosition, DE, UE, F, P: PlaneTests<V::Scalar>>(
     let mut count = count_edges(dcel, first);
     let mut from = first;
     dcel.recall_invariant();
-    while let Some(edge) = choose_hull_edge(dcel, from, count, tests) {
-        turn_away(dcel, edge, turned);
-        dcel.recall_invariant();
-        from = edge_to_go_on(dcel, edge, count, first);
-        count -= 1;
+    loop {
+        let spokes = Spokes {
+            dcel,
+            first: from,
+            tests,
+        };
+        match spokes.choose_hull_edge(count) {
+            Some(edge) => {
+                turn_away(dcel, edge, turned);
+                dcel.recall_invariant();
+                from = edge_to_go_on(dcel, edge, count, first);
+                count -= 1;
+            }
+            None => return count,
+        }
     }
-    count
 }
 
 // Whether the vertex where `first` starts, with the outer face on its right, is a corner of the

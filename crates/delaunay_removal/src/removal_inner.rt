@@ -13,7 +13,7 @@ ghost use Rattle.delaunay_removal.specs.Pairs.{HasRoomAt, KeepsPairs};
 ghost use Rattle.delaunay_removal.specs.Star.{HasInnerFaces, IsBetweenAt, IsInnerStar, IsReduced};
 ghost use Rattle.delaunay_removal.specs.Star.{LosesEdges, StandsBetween};
 
-use crate::choice::{choose_edge, edge_to_go_on};
+use crate::choice::{Spokes, edge_to_go_on};
 use crate::pairs::VertexPair;
 use crate::star::{ccw_edge, opposite_side, turn_away};
 use delaunay_core::math::PlaneTests;
@@ -49,7 +49,8 @@ fn shrink_star<V: HasPosition, DE, UE, F, P: PlaneTests<V::Scalar>>(
     let mut count = count;
     while count > 3 {
         dcel.recall_invariant();
-        match choose_edge(dcel, first, count, tests) {
+        let spokes = Spokes { dcel, first, tests };
+        match spokes.choose_edge(count) {
             Some(edge) => {
                 turn_away(dcel, edge, turned);
                 dcel.recall_invariant();

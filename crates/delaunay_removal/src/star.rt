@@ -1,19 +1,17 @@
 //! The edges round a vertex, and turns of them.
-ghost use Rattle.std.specs.Prelude.{◌≡◌, ◌≢◌, ◌↔◌, ℕ, ◌<◌};
-ghost use Rattle.std.specs.Prelude.{length, map, All, IsTrue, IfSome, IfNone};
+ghost use Rattle.std.specs.Prelude.{◌≡◌, ◌≢◌, ◌↔◌, ◌<◌, length, map, IsTrue};
 ghost use Rattle.std.specs.Prelude.{vec_capacity, vec_len};
 ghost use Rattle.half_edge_mesh.specs.Mesh.{origin, next, face, rev};
-ghost use Rattle.half_edge_mesh.specs.Peel.{spoke, turn};
+ghost use Rattle.half_edge_mesh.specs.Peel.{turn};
 ghost use Rattle.half_edge_mesh.specs.Round.{IsRound, neighbour};
 ghost use Rattle.half_edge_mesh.specs.Contents.{IsMeshWithData};
 ghost use Rattle.plane_tiling.specs.Local.{LocalMesh};
 ghost use Rattle.mesh_embedding.specs.Drawn.{faces_of, outer_of};
-ghost use Rattle.delaunay_removal.specs.Star.{IsConvexAt, TurnsAway};
+ghost use Rattle.delaunay_removal.specs.Star.{TurnsAway};
 
 use crate::pairs::{VertexPair, ends_beside};
-use delaunay_core::math::PlaneTests;
-use delaunay_core::point::{HasPosition, Point2};
-use delaunay_legalization::{end_of, start_of, turns_left};
+use delaunay_core::point::HasPosition;
+use delaunay_legalization::is_outer;
 use half_edge_mesh::{Dcel, FixedDirectedEdgeHandle, MeshViews};
 
 // The edge after an edge, against the clock round the vertex where it starts.
@@ -71,52 +69,16 @@ pub(crate) fn count_edges<V, DE, UE, F>(
     count
 }
 
-// Whether the edge after an edge, round the vertex where they start, lies across a strictly convex
-// quadrilateral.
-pub(crate) fn is_convex_at<V: HasPosition, DE, UE, F, P: PlaneTests<V::Scalar>>(
+// Whether the edge after an edge, round the vertex where they start, lies between two faces.
+pub(crate) fn is_between_faces<V, DE, UE, F>(
     dcel: &Dcel<V, DE, UE, F>,
     edge: FixedDirectedEdgeHandle,
-    tests: &P,
 ) -> bool
-    requires within { edge < length dcel.now.directed }
-    requires sites { All (P.sites tests.now) (map V.place dcel.now.vertices) }
-    ensures { IsTrue result ↔ IsConvexAt (map V.place dcel.now.vertices) dcel.now.mesh edge }
+    requires { edge < length dcel.now.directed }
+    ensures { let m = dcel.now.mesh in
+        IsTrue result ↔ ((0 < face m edge) × (0 < face m (turn m edge))) }
 {
-    let second = ccw_edge(dcel, edge);
-    let third = ccw_edge(dcel, second);
-    let centre = start_of(dcel, edge);
-    let before = end_of(dcel, edge);
-    let corner = end_of(dcel, second);
-    let after = end_of(dcel, third);
-    turns_left(before, corner, after, tests) && turns_left(centre, before, after, tests)
-}
-
-// Of the first `count` edges from `first` on, round the vertex where they start, one before an edge
-// across a strictly convex quadrilateral.
-pub(crate) fn find_convex<V: HasPosition, DE, UE, F, P: PlaneTests<V::Scalar>>(
-    dcel: &Dcel<V, DE, UE, F>,
-    first: FixedDirectedEdgeHandle,
-    count: usize,
-    tests: &P,
-) -> Option<FixedDirectedEdgeHandle>
-    requires within { first < length dcel.now.directed }
-    requires sites { All (P.sites tests.now) (map V.place dcel.now.vertices) }
-    ensures within { IfSome result (λ e. e < length dcel.now.directed) }
-    ensures starts { IfSome result (λ e. origin dcel.now.mesh e ≡ origin dcel.now.mesh first) }
-    ensures convex { IfSome result (λ e. IsConvexAt (map V.place dcel.now.vertices) dcel.now.mesh
-        e) }
-    ensures none { IfNone result ((i : ℕ) → i < count →
-        ¬ IsConvexAt (map V.place dcel.now.vertices) dcel.now.mesh (spoke dcel.now.mesh first i)) }
-{
-    dcel.recall_invariant();
-    let mut edge = first;
-    for i in 0..count {
-        if is_convex_at(dcel, edge, tests) {
-            return Some(edge);
-        }
-        edge = ccw_edge(dcel, edge);
-    }
-    None
+    !is_outer(dcel, edge) && !is_outer(dcel, ccw_edge(dcel, edge))
 }
 
 // Turns the edge after an edge, round the vertex where they start, so that it leaves this vertex,

@@ -3,10 +3,10 @@ use Rattle.half_edge_mesh.specs.Mesh.{origin}
 use Rattle.half_edge_mesh.specs.Round.{neighbour}
 use Rattle.delaunay_removal.proofs.DataStays.{all_stands}
 use Rattle.delaunay_removal.proofs.HullStars.{has_two}
-use Rattle.delaunay_removal.proofs.HullShrinking.{hull_sites_stay, bent_at_end, turnable_place}
+use Rattle.delaunay_removal.proofs.HullShrinking.{bent_at_end, turnable_place}
 use Rattle.delaunay_removal.proofs.HullShrinking.{place_starts, place_apart, hull_star_goes_on}
 use Rattle.delaunay_removal.proofs.HullShrinking.{hull_shrinking_goes_on}
-use Rattle.delaunay_removal.proofs.Shrinking.{still_within}
+use Rattle.delaunay_removal.proofs.Shrinking.{still_within, still_sites}
 use Rattle.delaunay_removal.specs.Hull.{IsHullStar}
 use Rattle.delaunay_removal.proofs.removal_hull.shrink_hull_star.Goals as goal
 
@@ -31,30 +31,29 @@ loop-edge-init g c =
       from_starts = refl;
     }
 
-pub choose_hull_edge-requires-clause-within : goal.choose_hull_edge-requires-clause-within
-choose_hull_edge-requires-clause-within g c = c.loop-edge.invariant.from_within
-
-pub choose_hull_edge-requires-clause-sites : goal.choose_hull_edge-requires-clause-sites
-choose_hull_edge-requires-clause-sites g c = hull_sites_stay g.V.HasPosition.place c.args.dcel.now
-    c.loop-edge.dcel (origin c.args.dcel.now.mesh c.args.first) c.args.first c.loop-edge.from
-    c.loop-edge.count c.loop-edge.invariant (g.P.PlaneTests.sites c.args.tests.now)
-    c.requires.sites
+pub invariant_of-spokes : goal.invariant_of-spokes
+invariant_of-spokes g c = record {
+  whole = c.loop-edge.invariant.whole;
+  sites = still_sites c.args.dcel.now c.loop-edge.dcel c.loop-edge.invariant.contents
+      g.V.HasPosition.place (g.P.PlaneTests.sites c.args.tests.now) c.requires.sites;
+  within = c.loop-edge.invariant.from_within;
+}
 
 pub turn_away-requires-clause-left : goal.turn_away-requires-clause-left
-turn_away-requires-clause-left g c = c.in-Some.ensures.turnable.left
+turn_away-requires-clause-left g c = c.in-Some.ensures.some.is.left
 
 pub turn_away-requires-clause-right : goal.turn_away-requires-clause-right
-turn_away-requires-clause-right g c = c.in-Some.ensures.turnable.right
+turn_away-requires-clause-right g c = c.in-Some.ensures.some.is.right
 
 pub turn_away-requires-clause-apart : goal.turn_away-requires-clause-apart
 turn_away-requires-clause-apart g c =
     let v = origin c.args.dcel.now.mesh c.args.first in
-    let found = c.in-Some.ensures in
+    let found = c.in-Some.ensures.some in
     place_apart g.V.HasPosition.place c.args.dcel.now c.loop-edge.dcel v c.args.first
     c.loop-edge.from c.loop-edge.count c.loop-edge.invariant c.in-Some.edge
     (turnable_place g.V.HasPosition.place c.args.dcel.now c.loop-edge.dcel v c.args.first
     c.loop-edge.from c.loop-edge.count c.loop-edge.invariant c.in-Some.edge found.within
-    (found.starts ∙ c.loop-edge.invariant.from_starts) found.turnable.left found.turnable.right)
+    (found.starts ∙ c.loop-edge.invariant.from_starts) found.is.left found.is.right)
 
 pub turn_away-requires-clause-room : goal.turn_away-requires-clause-room
 turn_away-requires-clause-room g c =
@@ -65,7 +64,7 @@ turn_away-requires-clause-room g c =
 pub edge_to_go_on-from-requires-clause-within : goal.edge_to_go_on-from-requires-clause-within
 edge_to_go_on-from-requires-clause-within g c =
     still_within c.loop-edge.dcel c.turn_away.new.dcel c.turn_away.ensures.turns.contents
-    c.in-Some.edge c.in-Some.ensures.within
+    c.in-Some.edge c.in-Some.ensures.some.within
 
 pub edge_to_go_on-from-requires-clause-few_within :
     goal.edge_to_go_on-from-requires-clause-few_within
@@ -79,36 +78,36 @@ pub edge_to_go_on-from-requires-clause-few_starts :
     goal.edge_to_go_on-from-requires-clause-few_starts
 edge_to_go_on-from-requires-clause-few_starts g c =
     let v = origin c.args.dcel.now.mesh c.args.first in
-    let found = c.in-Some.ensures in
+    let found = c.in-Some.ensures.some in
     let turned = c.turn_away.ensures.turns in
     let starts = found.starts ∙ c.loop-edge.invariant.from_starts in
     let place = turnable_place g.V.HasPosition.place c.args.dcel.now c.loop-edge.dcel v
     c.args.first c.loop-edge.from c.loop-edge.count c.loop-edge.invariant c.in-Some.edge
-    found.within starts found.turnable.left found.turnable.right in
+    found.within starts found.is.left found.is.right in
     let star = hull_star_goes_on g.V.HasPosition.place c.args.dcel.now c.loop-edge.dcel v
     c.args.first c.loop-edge.from c.loop-edge.count c.loop-edge.invariant c.in-Some.edge place
-    c.turn_away.new.dcel c.recall_invariant-in-Some.ensures.whole found.turnable.convex
+    c.turn_away.new.dcel c.recall_invariant-in-Some.ensures.whole found.is.convex
     turned.contents turned.triangles turned.outer in
     star.round.starts 0
     ∙ sym (place_starts g.V.HasPosition.place c.args.dcel.now c.loop-edge.dcel v c.args.first
     c.loop-edge.from c.loop-edge.count c.loop-edge.invariant c.in-Some.edge found.within starts
-    found.turnable.left found.turnable.right c.turn_away.new.dcel turned.mesh)
+    found.is.left found.is.right c.turn_away.new.dcel turned.mesh)
 
 pub loop-edge-preserved : goal.loop-edge-preserved
 loop-edge-preserved g c =
     let v = origin c.args.dcel.now.mesh c.args.first in
-    let found = c.in-Some.ensures in
+    let found = c.in-Some.ensures.some in
     let turned = c.turn_away.ensures.turns in
     let whole = c.recall_invariant-in-Some.ensures.whole in
     let starts = found.starts ∙ c.loop-edge.invariant.from_starts in
     let place = turnable_place g.V.HasPosition.place c.args.dcel.now c.loop-edge.dcel v
     c.args.first c.loop-edge.from c.loop-edge.count c.loop-edge.invariant c.in-Some.edge
-    found.within starts found.turnable.left found.turnable.right in
+    found.within starts found.is.left found.is.right in
     hull_shrinking_goes_on g.V.HasPosition.place c.args.dcel.now c.loop-edge.dcel v c.args.first
     c.loop-edge.from c.loop-edge.count c.loop-edge.invariant c.in-Some.edge place
     c.turn_away.new.dcel whole (hull_star_goes_on g.V.HasPosition.place c.args.dcel.now
     c.loop-edge.dcel v c.args.first c.loop-edge.from c.loop-edge.count c.loop-edge.invariant
-    c.in-Some.edge place c.turn_away.new.dcel whole found.turnable.convex turned.contents
+    c.in-Some.edge place c.turn_away.new.dcel whole found.is.convex turned.contents
     turned.triangles turned.outer) turned.contents (
       neighbour c.loop-edge.dcel.mesh c.in-Some.edge 0,
       neighbour c.loop-edge.dcel.mesh c.in-Some.edge 2,
@@ -117,10 +116,10 @@ loop-edge-preserved g c =
     c.edge_to_go_on-from.result c.edge_to_go_on-from.ensures.within
     (c.edge_to_go_on-from.ensures.starts ∙ place_starts g.V.HasPosition.place c.args.dcel.now
     c.loop-edge.dcel v c.args.first c.loop-edge.from c.loop-edge.count c.loop-edge.invariant
-    c.in-Some.edge found.within starts found.turnable.left found.turnable.right
+    c.in-Some.edge found.within starts found.is.left found.is.right
     c.turn_away.new.dcel turned.mesh)
 
-pub returns-clause-bent : goal.returns-clause-bent
-returns-clause-bent g c = bent_at_end g.V.HasPosition.place c.args.dcel.now c.loop-edge.dcel
+pub returns-in-None-clause-bent : goal.returns-in-None-clause-bent
+returns-in-None-clause-bent g c = bent_at_end g.V.HasPosition.place c.args.dcel.now c.loop-edge.dcel
     (origin c.args.dcel.now.mesh c.args.first) c.args.first c.loop-edge.from c.loop-edge.count
-    c.loop-edge.invariant c.in_default.ensures.none
+    c.loop-edge.invariant c.in-None.ensures.none

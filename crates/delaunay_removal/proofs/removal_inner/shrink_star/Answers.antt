@@ -5,7 +5,8 @@ use Rattle.half_edge_mesh.specs.Round.{neighbour}
 use Rattle.delaunay_removal.proofs.DataStays.{all_stands}
 use Rattle.delaunay_removal.proofs.InnerStars.{spokes_inner, ends_differ}
 use Rattle.delaunay_removal.proofs.Shrinking.{star_at, shrinking_goes_on, shrinking_stops}
-use Rattle.delaunay_removal.proofs.Shrinking.{shrinking_ends, shrinking_from, still_within}
+use Rattle.delaunay_removal.proofs.Shrinking.{shrinking_ends, shrinking_from, still_sites}
+use Rattle.delaunay_removal.proofs.Shrinking.{still_within}
 use Rattle.delaunay_removal.proofs.removal_inner.shrink_star.Goals as goal
 
 pub loop-count-init : goal.loop-count-init
@@ -17,10 +18,15 @@ loop-count-init g c = record {
   room = c.requires.room c.args.first c.args.count c.requires.star.round;
 }
 
-pub choose_edge-requires-clause-within : goal.choose_edge-requires-clause-within
-choose_edge-requires-clause-within g c = subst (λ (n : ℕ). c.loop-count.first < n)
-    (sym c.recall_invariant.ensures.whole.fits.directed_fit)
-    (c.loop-count.invariant.star.round.within 0)
+pub invariant_of-spokes : goal.invariant_of-spokes
+invariant_of-spokes g c = record {
+  whole = c.recall_invariant.ensures.whole;
+  sites = still_sites c.args.dcel.now c.loop-count.dcel c.loop-count.invariant.contents
+      g.V.HasPosition.place (g.P.PlaneTests.sites c.args.tests.now) c.requires.sites;
+  within = subst (λ (n : ℕ). c.loop-count.first < n)
+      (sym c.recall_invariant.ensures.whole.fits.directed_fit)
+      (c.loop-count.invariant.star.round.within 0);
+}
 
 pub turn_away-requires-clause-left : goal.turn_away-requires-clause-left
 turn_away-requires-clause-left g c =
@@ -29,8 +35,8 @@ turn_away-requires-clause-left g c =
     spokes_inner (map g.V.HasPosition.place c.loop-count.dcel.vertices) c.loop-count.dcel.mesh
     w.valid v c.in-Some.edge c.loop-count.count
     (star_at g.V.HasPosition.place c.args.dcel.now c.loop-count.dcel v c.loop-count.first
-    c.loop-count.count c.loop-count.invariant w c.in-Some.edge c.in-Some.ensures.within
-    c.in-Some.ensures.starts) 0
+    c.loop-count.count c.loop-count.invariant w c.in-Some.edge c.in-Some.ensures.some.within
+    c.in-Some.ensures.some.starts) 0
 
 pub turn_away-requires-clause-right : goal.turn_away-requires-clause-right
 turn_away-requires-clause-right g c =
@@ -39,8 +45,8 @@ turn_away-requires-clause-right g c =
     spokes_inner (map g.V.HasPosition.place c.loop-count.dcel.vertices) c.loop-count.dcel.mesh
     w.valid v c.in-Some.edge c.loop-count.count
     (star_at g.V.HasPosition.place c.args.dcel.now c.loop-count.dcel v c.loop-count.first
-    c.loop-count.count c.loop-count.invariant w c.in-Some.edge c.in-Some.ensures.within
-    c.in-Some.ensures.starts) 1
+    c.loop-count.count c.loop-count.invariant w c.in-Some.edge c.in-Some.ensures.some.within
+    c.in-Some.ensures.some.starts) 1
 
 pub turn_away-requires-clause-apart : goal.turn_away-requires-clause-apart
 turn_away-requires-clause-apart g c =
@@ -50,8 +56,8 @@ turn_away-requires-clause-apart g c =
     ends_differ (map g.V.HasPosition.place c.loop-count.dcel.vertices) c.loop-count.dcel.mesh
     w.valid v c.in-Some.edge c.loop-count.count
     (star_at g.V.HasPosition.place c.args.dcel.now c.loop-count.dcel v c.loop-count.first
-    c.loop-count.count c.loop-count.invariant w c.in-Some.edge c.in-Some.ensures.within
-    c.in-Some.ensures.starts) many
+    c.loop-count.count c.loop-count.invariant w c.in-Some.edge c.in-Some.ensures.some.within
+    c.in-Some.ensures.some.starts) many
 
 pub turn_away-requires-clause-room : goal.turn_away-requires-clause-room
 turn_away-requires-clause-room g c =
@@ -62,13 +68,13 @@ turn_away-requires-clause-room g c =
 pub edge_to_go_on-first-requires-clause-within : goal.edge_to_go_on-first-requires-clause-within
 edge_to_go_on-first-requires-clause-within g c =
     still_within c.loop-count.dcel c.turn_away.new.dcel c.turn_away.ensures.turns.contents
-    c.in-Some.edge c.in-Some.ensures.within
+    c.in-Some.edge c.in-Some.ensures.some.within
 
 pub edge_to_go_on-first-requires-clause-few_within :
     goal.edge_to_go_on-first-requires-clause-few_within
 edge_to_go_on-first-requires-clause-few_within g c =
     still_within c.loop-count.dcel c.turn_away.new.dcel c.turn_away.ensures.turns.contents
-    c.in-Some.edge c.in-Some.ensures.within
+    c.in-Some.edge c.in-Some.ensures.some.within
 
 pub loop-count-preserved : goal.loop-count-preserved
 loop-count-preserved g c =
@@ -80,8 +86,8 @@ loop-count-preserved g c =
     v c.loop-count.first c.loop-count.count
     c.loop-count.invariant c.turn_away.ensures.whole
     c.turn_away.new.dcel whole c.loop-count-test.true
-    c.in-Some.edge c.in-Some.ensures.within c.in-Some.ensures.starts
-    c.in-Some.ensures.convex
+    c.in-Some.edge c.in-Some.ensures.some.within c.in-Some.ensures.some.starts
+    c.in-Some.ensures.some.is
     turned.mesh turned.contents turned.triangles turned.outer (
       neighbour c.loop-count.dcel.mesh
           c.in-Some.edge 0,

@@ -1,0 +1,76 @@
+use Rattle.std.proofs.Common.{map}
+use Rattle.delaunay_legalization.proofs.Questions.{both_ways, covered_in}
+use Rattle.delaunay_removal.proofs.Convex.{convex_read}
+use Rattle.delaunay_removal.proofs.choice.Spokes.is_convex_at.Goals as goal
+
+pub turns_left-requires-clause-a_covered : goal.turns_left-requires-clause-a_covered
+turns_left-requires-clause-a_covered g c =
+    let tests = c.self.inside.tests.now in
+    covered_in (g.P.PlaneTests.covered tests) (g.P.PlaneTests.sites tests)
+    (g.met.P.PlaneTests.sites_are_covered tests) _ _ c.self.invariant.sites
+    c.end_of-before.ensures.listed
+
+pub turns_left-requires-clause-b_covered : goal.turns_left-requires-clause-b_covered
+turns_left-requires-clause-b_covered g c =
+    let tests = c.self.inside.tests.now in
+    covered_in (g.P.PlaneTests.covered tests) (g.P.PlaneTests.sites tests)
+    (g.met.P.PlaneTests.sites_are_covered tests) _ _ c.self.invariant.sites
+    c.end_of-corner.ensures.listed
+
+pub turns_left-requires-clause-c_covered : goal.turns_left-requires-clause-c_covered
+turns_left-requires-clause-c_covered g c =
+    let tests = c.self.inside.tests.now in
+    covered_in (g.P.PlaneTests.covered tests) (g.P.PlaneTests.sites tests)
+    (g.met.P.PlaneTests.sites_are_covered tests) _ _ c.self.invariant.sites
+    c.end_of-after.ensures.listed
+
+pub turns_left-requires-then-turns_left-clause-a_covered :
+    goal.turns_left-requires-then-turns_left-clause-a_covered
+turns_left-requires-then-turns_left-clause-a_covered g c =
+    let tests = c.self.inside.tests.now in
+    covered_in (g.P.PlaneTests.covered tests) (g.P.PlaneTests.sites tests)
+    (g.met.P.PlaneTests.sites_are_covered tests) _ _ c.self.invariant.sites
+    c.start_of-centre.ensures.listed
+
+pub turns_left-requires-then-turns_left-clause-b_covered :
+    goal.turns_left-requires-then-turns_left-clause-b_covered
+turns_left-requires-then-turns_left-clause-b_covered g c =
+    let tests = c.self.inside.tests.now in
+    covered_in (g.P.PlaneTests.covered tests) (g.P.PlaneTests.sites tests)
+    (g.met.P.PlaneTests.sites_are_covered tests) _ _ c.self.invariant.sites
+    c.end_of-before.ensures.listed
+
+pub turns_left-requires-then-turns_left-clause-c_covered :
+    goal.turns_left-requires-then-turns_left-clause-c_covered
+turns_left-requires-then-turns_left-clause-c_covered g c =
+    let tests = c.self.inside.tests.now in
+    covered_in (g.P.PlaneTests.covered tests) (g.P.PlaneTests.sites tests)
+    (g.met.P.PlaneTests.sites_are_covered tests) _ _ c.self.invariant.sites
+    c.end_of-after.ensures.listed
+
+pub returns-then-turns_left : goal.returns-then-turns_left
+returns-then-turns_left g c =
+    let d = c.self.inside.dcel.now in
+    let r = convex_read (map g.V.HasPosition.place d.vertices) d.mesh c.args.edge _ _ _ _ _ _
+    c.ccw_edge-second.ensures.value c.ccw_edge-third.ensures.value
+    c.start_of-centre.ensures.place c.end_of-before.ensures.place c.end_of-corner.ensures.place
+    c.end_of-after.ensures.place in
+    rw (← c.self.view_is) (
+      λ t. r.1 (
+        c.turns_left.ensures.0 c.if-turns_left.true,
+        c.turns_left-then-turns_left.ensures.0 t,
+      ),
+      λ k. c.turns_left-then-turns_left.ensures.1 (r.0 k).1,
+    )
+
+pub returns-else-turns_left : goal.returns-else-turns_left
+returns-else-turns_left g c =
+    let d = c.self.inside.dcel.now in
+    let r = convex_read (map g.V.HasPosition.place d.vertices) d.mesh c.args.edge _ _ _ _ _ _
+    c.ccw_edge-second.ensures.value c.ccw_edge-third.ensures.value
+    c.start_of-centre.ensures.place c.end_of-before.ensures.place c.end_of-corner.ensures.place
+    c.end_of-after.ensures.place in
+    rw (← c.self.view_is) (
+      λ t. absurd (both_ways _ t c.if-turns_left.false),
+      λ k. c.turns_left.ensures.1 (r.0 k).0,
+    )
