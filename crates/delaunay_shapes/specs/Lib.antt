@@ -6,3 +6,5 @@ pub mod Flood
 pub mod Marks
 pub mod Left
 pub mod Start
+pub mod Enclosing
+pub mod ShapeSearch

@@ -6,6 +6,7 @@ ghost use Rattle.delaunay_shapes.specs.Left.{vertices_left};
 use crate::distance_metric::DistanceMetric;
 use crate::in_shape::{EdgesInShapeIterator, VerticesInShapeIterator};
 use crate::positions::spot_of;
+use crate::shape_search::ShapeSearch;
 use delaunay_core::math::PlaneTests;
 use delaunay_core::point::HasPosition;
 use half_edge_mesh::{Dcel, FixedUndirectedEdgeHandle, FixedVertexHandle, MeshViews};
@@ -35,10 +36,11 @@ pub fn edges_by_filter<
     ensures { IfOk result (λ it. GivesEdgesIn (M.shape metric.now) V.place dcel.entry
         (edges_left it)) }
 {
+    let search = ShapeSearch::new(dcel, metric, tests);
     let mut edges = Vec::new(alloc);
     for index in 0..dcel.num_undirected_edges() {
         let edge = FixedUndirectedEdgeHandle::from_index(index as u32);
-        if metric.is_handle_inside(dcel.undirected_edge(edge), tests) {
+        if search.has_edge(edge) {
             edges.push(edge)?;
         }
     }

@@ -1,174 +1,145 @@
 //! A flood over the edges of a mesh that have a point in a shape: from those found, to those beside
 //! them in their faces.
 ghost use Rattle.std.specs.Prelude.{◌<◌, ℕ, length, map, All, Contains, IfOk, OnOk};
-ghost use Rattle.delaunay_shapes.specs.Flood.{Asks, AsksBeside, CanFlood, GoesOn, IsAsked};
-ghost use Rattle.delaunay_shapes.specs.Flood.{IsFlooding, IsSpread};
-ghost use Rattle.delaunay_shapes.specs.InShape.{AreEdgesInShape, IsInside};
+ghost use Rattle.delaunay_shapes.specs.Flood.{CanFlood, GoesOn, IsAsked, IsSpread};
+ghost use Rattle.delaunay_shapes.specs.InShape.{AreEdgesInShape};
 ghost use Rattle.delaunay_shapes.specs.Left.{GivesEdgesIn, edges_left};
+ghost use Rattle.delaunay_shapes.specs.ShapeSearch.{AsksBesideFor, AsksFor, IsFloodFor};
 
 use crate::distance_metric::DistanceMetric;
 use crate::in_shape::EdgesInShapeIterator;
 use crate::marks::Marks;
+use crate::shape_search::ShapeSearch;
 use delaunay_core::math::PlaneTests;
 use delaunay_core::point::HasPosition;
 use half_edge_mesh::{Dcel, FixedDirectedEdgeHandle, FixedUndirectedEdgeHandle, MeshViews};
 use std::alloc::{AllocError, Global};
 
-// Asks the metric of an edge that was not asked before, and keeps the edge where it has a point in
-// the shape.
-#[inline(never)]
-fn ask_new<V: HasPosition, DE, UE, F, M: DistanceMetric<V::Scalar>, P: PlaneTests<V::Scalar>>(
-    dcel: &Dcel<V, DE, UE, F>,
-    metric: &M,
-    tests: &P,
-    edge: FixedUndirectedEdgeHandle,
-    asked: &mut Marks,
-    found: &mut Vec<FixedUndirectedEdgeHandle>,
-) -> Result<(), AllocError>
-    requires own_covered { All (P.covered tests.now) (M.own_points metric.now) }
-    requires covered { All (P.covered tests.now) (map V.place dcel.now.vertices) }
-    requires within { edge < length dcel.now.undirected }
-    requires new { ¬ IsAsked asked.old edge }
-    requires flooding { IsFlooding (IsInside (M.shape metric.now) V.place dcel.now)
-        (length dcel.now.undirected) asked.old found.old.items }
-    ensures { OnOk result (Asks (IsInside (M.shape metric.now) V.place dcel.now)
-        (length dcel.now.undirected) asked.old asked.new found.old.items found.new.items edge) }
-{
-    asked.mark(edge.index())?;
-    dcel.recall_invariant();
-    if metric.is_handle_inside(dcel.undirected_edge(edge), tests) {
-        found.push(edge)?;
-    }
-    Ok(())
+// The edges that a flood has asked of, and those of them that have a point in the shape.
+#[derive(Drop)]
+struct EdgeFlood {
+    asked: Marks,
+    found: Vec<FixedUndirectedEdgeHandle>,
 }
 
-// Asks the metric of an edge, unless it was asked before, and keeps the edge where it has a point
-// in the shape.
-#[inline(always)]
-fn ask<V: HasPosition, DE, UE, F, M: DistanceMetric<V::Scalar>, P: PlaneTests<V::Scalar>>(
-    dcel: &Dcel<V, DE, UE, F>,
-    metric: &M,
-    tests: &P,
-    edge: FixedUndirectedEdgeHandle,
-    asked: &mut Marks,
-    found: &mut Vec<FixedUndirectedEdgeHandle>,
-) -> Result<(), AllocError>
-    requires own_covered { All (P.covered tests.now) (M.own_points metric.now) }
-    requires covered { All (P.covered tests.now) (map V.place dcel.now.vertices) }
-    requires within { edge < length dcel.now.undirected }
-    requires flooding { IsFlooding (IsInside (M.shape metric.now) V.place dcel.now)
-        (length dcel.now.undirected) asked.old found.old.items }
-    ensures { OnOk result (Asks (IsInside (M.shape metric.now) V.place dcel.now)
-        (length dcel.now.undirected) asked.old asked.new found.old.items found.new.items edge) }
-{
-    if asked.is_marked(edge.index()) {
-        return Ok(());
-    }
-    ask_new(dcel, metric, tests, edge, asked, found)
-}
-
-// Asks of the edges before and after an edge in its loop.
-#[inline(always)]
-fn ask_beside<V: HasPosition, DE, UE, F, M: DistanceMetric<V::Scalar>, P: PlaneTests<V::Scalar>>(
-    dcel: &Dcel<V, DE, UE, F>,
-    metric: &M,
-    tests: &P,
-    edge: FixedDirectedEdgeHandle,
-    asked: &mut Marks,
-    found: &mut Vec<FixedUndirectedEdgeHandle>,
-) -> Result<(), AllocError>
-    requires own_covered { All (P.covered tests.now) (M.own_points metric.now) }
-    requires covered { All (P.covered tests.now) (map V.place dcel.now.vertices) }
-    requires within { edge < length dcel.now.directed }
-    requires flooding { IsFlooding (IsInside (M.shape metric.now) V.place dcel.now)
-        (length dcel.now.undirected) asked.old found.old.items }
-    ensures { OnOk result (AsksBeside (IsInside (M.shape metric.now) V.place dcel.now) dcel.now.mesh
-        (length dcel.now.undirected) asked.old asked.new found.old.items found.new.items edge) }
-{
-    let edge = dcel.directed_edge(edge);
-    let after = edge.next().as_undirected().fix();
-    let before = edge.prev().as_undirected().fix();
-    ask(dcel, metric, tests, after, asked, found)?;
-    ask(dcel, metric, tests, before, asked, found)
-}
-
-// Goes on from each edge found to those beside it, until none is new.
-fn spread<V: HasPosition, DE, UE, F, M: DistanceMetric<V::Scalar>, P: PlaneTests<V::Scalar>>(
-    dcel: &Dcel<V, DE, UE, F>,
-    metric: &M,
-    tests: &P,
-    asked: &mut Marks,
-    found: &mut Vec<FixedUndirectedEdgeHandle>,
-) -> Result<(), AllocError>
-    requires own_covered { All (P.covered tests.now) (M.own_points metric.now) }
-    requires covered { All (P.covered tests.now) (map V.place dcel.now.vertices) }
-    requires flooding { IsFlooding (IsInside (M.shape metric.now) V.place dcel.now)
-        (length dcel.now.undirected) asked.old found.old.items }
-    ensures flooding { OnOk result (IsFlooding (IsInside (M.shape metric.now) V.place dcel.now)
-        (length dcel.now.undirected) asked.new found.new.items) }
-    ensures on { OnOk result (GoesOn asked.old asked.new found.old.items found.new.items) }
-    ensures spread { OnOk result (IsSpread dcel.now.mesh asked.new found.new.items) }
-{
-    let mut index = 0;
-    'edges: while index < found.len() {
-        let edge = dcel.undirected_edge(found[index]).as_directed();
-        ask_beside(dcel, metric, tests, edge.fix(), asked, found)?;
-        ask_beside(dcel, metric, tests, edge.rev().fix(), asked, found)?;
-        index += 1;
-    }
-    Ok(())
-}
-
-// Asks of each edge of a list.
-fn ask_each<V: HasPosition, DE, UE, F, M: DistanceMetric<V::Scalar>, P: PlaneTests<V::Scalar>>(
-    dcel: &Dcel<V, DE, UE, F>,
-    metric: &M,
-    tests: &P,
-    edges: &[FixedUndirectedEdgeHandle],
-    asked: &mut Marks,
-    found: &mut Vec<FixedUndirectedEdgeHandle>,
-) -> Result<(), AllocError>
-    requires own_covered { All (P.covered tests.now) (M.own_points metric.now) }
-    requires covered { All (P.covered tests.now) (map V.place dcel.now.vertices) }
-    requires within { All (λ e. e < length dcel.now.undirected) edges.now }
-    requires flooding { IsFlooding (IsInside (M.shape metric.now) V.place dcel.now)
-        (length dcel.now.undirected) asked.old found.old.items }
-    ensures flooding { OnOk result (IsFlooding (IsInside (M.shape metric.now) V.place dcel.now)
-        (length dcel.now.undirected) asked.new found.new.items) }
-    ensures each { OnOk result ((k : ℕ) → Contains edges.now k → IsAsked asked.new k) }
-{
-    for edge in edges {
-        ask(dcel, metric, tests, *edge, asked, found)?;
-    }
-    Ok(())
-}
-
-// The edges with a point in a closed circle or rectangle, each once.
-pub(crate) fn flood<
+impl<
+    'a,
     V: HasPosition,
     DE,
     UE,
     F,
     M: DistanceMetric<V::Scalar>,
     P: PlaneTests<V::Scalar>,
->(
-    dcel: &Dcel<V, DE, UE, F>,
-    metric: &M,
-    tests: &P,
-    starts: &[FixedUndirectedEdgeHandle],
-    alloc: Global,
-) -> Result<Vec<FixedUndirectedEdgeHandle>, AllocError>
-    requires { CanFlood (P.covered tests.now) (M.own_points metric.now) (M.shape metric.now)
-        V.place dcel.now starts.now }
-    ensures exact { IfOk result (λ v. AreEdgesInShape (M.shape metric.now)
-        (map V.place dcel.now.vertices) dcel.now.mesh v.items) }
-    ensures within { IfOk result (λ v. All (λ e. e < length dcel.now.undirected) v.items) }
-{
-    let mut asked = Marks::new(dcel.num_undirected_edges(), alloc);
-    let mut edges = Vec::new(alloc);
-    ask_each(dcel, metric, tests, starts, &mut asked, &mut edges)?;
-    spread(dcel, metric, tests, &mut asked, &mut edges)?;
-    Ok(edges)
+> ShapeSearch<'a, V, DE, UE, F, M, P> {
+    // Asks the metric of an edge that was not asked before, and keeps the edge where it has a point
+    // in the shape.
+    #[inline(never)]
+    fn ask_new(
+        &self,
+        edge: FixedUndirectedEdgeHandle,
+        flood: &mut EdgeFlood,
+    ) -> Result<(), AllocError>
+        requires new { ¬ IsAsked flood.old.asked edge }
+        requires within { edge < length self.now.dcel.undirected }
+        requires flooding { IsFloodFor V.place M.shape self.now flood.old }
+        ensures { OnOk result (AsksFor V.place M.shape self.now flood.old flood.new edge) }
+    {
+        flood.asked.mark(edge.index())?;
+        if self.has_edge(edge) {
+            flood.found.push(edge)?;
+        }
+        Ok(())
+    }
+
+    // Asks the metric of an edge, unless it was asked before, and keeps the edge where it has a
+    // point in the shape.
+    #[inline(always)]
+    fn ask(&self, edge: FixedUndirectedEdgeHandle, flood: &mut EdgeFlood) -> Result<(), AllocError>
+        requires within { edge < length self.now.dcel.undirected }
+        requires flooding { IsFloodFor V.place M.shape self.now flood.old }
+        ensures { OnOk result (AsksFor V.place M.shape self.now flood.old flood.new edge) }
+    {
+        if flood.asked.is_marked(edge.index()) {
+            return Ok(());
+        }
+        self.ask_new(edge, flood)
+    }
+
+    // Asks of the edges before and after an edge in its loop.
+    #[inline(always)]
+    fn ask_beside(
+        &self,
+        edge: FixedDirectedEdgeHandle,
+        flood: &mut EdgeFlood,
+    ) -> Result<(), AllocError>
+        requires within { edge < length self.now.dcel.directed }
+        requires flooding { IsFloodFor V.place M.shape self.now flood.old }
+        ensures { OnOk result (AsksBesideFor V.place M.shape self.now flood.old flood.new edge) }
+    {
+        let edge = self.dcel.directed_edge(edge);
+        let after = edge.next().as_undirected().fix();
+        let before = edge.prev().as_undirected().fix();
+        self.ask(after, flood)?;
+        self.ask(before, flood)
+    }
+
+    // Goes on from each edge found to those beside it, until none is new.
+    fn spread(&self, flood: &mut EdgeFlood) -> Result<(), AllocError>
+        requires { IsFloodFor V.place M.shape self.now flood.old }
+        ensures flooding { OnOk result (IsFloodFor V.place M.shape self.now flood.new) }
+        ensures on { OnOk result (GoesOn flood.old.asked flood.new.asked flood.old.found.items
+            flood.new.found.items) }
+        ensures spread { OnOk result (IsSpread self.now.dcel.mesh flood.new.asked
+            flood.new.found.items) }
+    {
+        let mut index = 0;
+        'edges: while index < flood.found.len() {
+            let edge = self.dcel.undirected_edge(flood.found[index]).as_directed();
+            self.ask_beside(edge.fix(), flood)?;
+            self.ask_beside(edge.rev().fix(), flood)?;
+            index += 1;
+        }
+        Ok(())
+    }
+
+    // Asks of each edge of a list.
+    fn ask_each(
+        &self,
+        edges: &[FixedUndirectedEdgeHandle],
+        flood: &mut EdgeFlood,
+    ) -> Result<(), AllocError>
+        requires within { All (λ e. e < length self.now.dcel.undirected) edges.now }
+        requires flooding { IsFloodFor V.place M.shape self.now flood.old }
+        ensures flooding { OnOk result (IsFloodFor V.place M.shape self.now flood.new) }
+        ensures each { OnOk result ((k : ℕ) → Contains edges.now k → IsAsked flood.new.asked k) }
+    {
+        for edge in edges {
+            self.ask(*edge, flood)?;
+        }
+        Ok(())
+    }
+
+    // The edges with a point in the shape, each once, from some of which one has, if any has.
+    pub(crate) fn edges_from(
+        &self,
+        starts: &[FixedUndirectedEdgeHandle],
+        alloc: Global,
+    ) -> Result<Vec<FixedUndirectedEdgeHandle>, AllocError>
+        requires { CanFlood (P.covered self.now.tests) (M.own_points self.now.metric)
+            (M.shape self.now.metric) V.place self.now.dcel starts.now }
+        ensures exact { IfOk result (λ v. AreEdgesInShape (M.shape self.now.metric)
+            (map V.place self.now.dcel.vertices) self.now.dcel.mesh v.items) }
+        ensures within { IfOk result (λ v. All (λ e. e < length self.now.dcel.undirected) v.items) }
+    {
+        let mut flood = EdgeFlood {
+            asked: Marks::new(self.dcel.num_undirected_edges(), alloc),
+            found: Vec::new(alloc),
+        };
+        self.ask_each(starts, &mut flood)?;
+        self.spread(&mut flood)?;
+        let EdgeFlood { found, .. } = flood;
+        Ok(found)
+    }
 }
 
 /// The edges with a point in a closed circle or rectangle, each once, found from a list of edges of
@@ -196,7 +167,8 @@ pub fn edges_by_flood<
     ensures { IfOk result (λ it. GivesEdgesIn (M.shape metric.now) V.place dcel.entry
         (edges_left it)) }
 {
-    let edges = flood(dcel, metric, tests, starts, alloc)?;
+    let search = ShapeSearch::new(dcel, metric, tests);
+    let edges = search.edges_from(starts, alloc)?;
     Ok(EdgesInShapeIterator {
         dcel,
         edges,

@@ -1,17 +1,16 @@
 //! The vertices in a shape, each found with the edge that it names: a flood finds that, too.
-ghost use Rattle.std.specs.Prelude.{◌≡◌, ◌≢◌, ◌↔◌, ◌<◌, length, map, All, AllPairs, IfOk};
+ghost use Rattle.std.specs.Prelude.{◌≡◌, ◌≢◌, ◌↔◌, ◌<◌, length, All, AllPairs, IfOk};
 ghost use Rattle.std.specs.Prelude.{IsTrue, OnOk, Some};
 ghost use Rattle.half_edge_mesh.specs.Mesh.{origin, out_edge};
-ghost use Rattle.plane.specs.Tests.{InRange};
 ghost use Rattle.delaunay_shapes.specs.Flood.{AreNamedIn, CanFlood, KeepsStart};
-ghost use Rattle.delaunay_shapes.specs.InShape.{IsVertexInside};
 ghost use Rattle.delaunay_shapes.specs.Left.{GivesVerticesIn, vertices_left};
+ghost use Rattle.delaunay_shapes.specs.ShapeSearch.{EnclosesVertex};
 
 use crate::distance_metric::DistanceMetric;
 use crate::filter::vertices_by_filter;
-use crate::flood::flood;
 use crate::in_shape::VerticesInShapeIterator;
 use crate::positions::spot_of;
+use crate::shape_search::ShapeSearch;
 use delaunay_core::math::PlaneTests;
 use delaunay_core::point::HasPosition;
 use half_edge_mesh::{
@@ -32,49 +31,54 @@ fn is_named<V, DE, UE, F>(dcel: &Dcel<V, DE, UE, F>, edge: FixedDirectedEdgeHand
     }
 }
 
-// Keeps the start of an edge, if it names this edge and is in the shape.
-#[inline(always)]
-fn keep_start<V: HasPosition, DE, UE, F, M: DistanceMetric<V::Scalar>>(
-    dcel: &Dcel<V, DE, UE, F>,
-    metric: &M,
-    edge: FixedDirectedEdgeHandle,
-    found: &mut Vec<FixedVertexHandle>,
-) -> Result<(), AllocError>
-    requires in_range { All InRange (map V.place dcel.now.vertices) }
-    requires within { edge < length dcel.now.directed }
-    ensures { OnOk result (KeepsStart (IsVertexInside (M.shape metric.now) V.place dcel.now)
-        dcel.now.mesh found.old.items found.new.items edge) }
-{
-    if is_named(dcel, edge) {
-        let vertex = dcel.directed_edge(edge).from();
-        if metric.is_point_inside(spot_of(vertex)) {
-            found.push(vertex.fix())?;
+impl<
+    'a,
+    V: HasPosition,
+    DE,
+    UE,
+    F,
+    M: DistanceMetric<V::Scalar>,
+    P: PlaneTests<V::Scalar>,
+> ShapeSearch<'a, V, DE, UE, F, M, P> {
+    // Keeps the start of an edge, if it names this edge and is in the shape.
+    #[inline(always)]
+    fn keep_start(
+        &self,
+        edge: FixedDirectedEdgeHandle,
+        found: &mut Vec<FixedVertexHandle>,
+    ) -> Result<(), AllocError>
+        requires { edge < length self.now.dcel.directed }
+        ensures { OnOk result (KeepsStart (EnclosesVertex V.place M.shape self.now)
+            self.now.dcel.mesh found.old.items found.new.items edge) }
+    {
+        if is_named(self.dcel, edge) {
+            let vertex = self.dcel.directed_edge(edge).from();
+            if self.metric.is_point_inside(spot_of(vertex)) {
+                found.push(vertex.fix())?;
+            }
         }
+        Ok(())
     }
-    Ok(())
-}
 
-// The vertices in a shape that name one of these edges.
-fn named_inside<V: HasPosition, DE, UE, F, M: DistanceMetric<V::Scalar>>(
-    dcel: &Dcel<V, DE, UE, F>,
-    metric: &M,
-    edges: &[FixedUndirectedEdgeHandle],
-    alloc: Global,
-) -> Result<Vec<FixedVertexHandle>, AllocError>
-    requires in_range { All InRange (map V.place dcel.now.vertices) }
-    requires within { All (λ e. e < length dcel.now.undirected) edges.now }
-    requires once { AllPairs (λ d e. d ≢ e) edges.now }
-    ensures { IfOk result (λ v. AreNamedIn (IsVertexInside (M.shape metric.now) V.place dcel.now)
-        dcel.now.mesh edges.now v.items) }
-{
-    let mut found = Vec::new(alloc);
-    dcel.recall_invariant();
-    for edge in edges {
-        let edge = dcel.undirected_edge(*edge).as_directed();
-        keep_start(dcel, metric, edge.fix(), &mut found)?;
-        keep_start(dcel, metric, edge.rev().fix(), &mut found)?;
+    // The vertices in the shape that name one of these edges.
+    fn named_inside(
+        &self,
+        edges: &[FixedUndirectedEdgeHandle],
+        alloc: Global,
+    ) -> Result<Vec<FixedVertexHandle>, AllocError>
+        requires within { All (λ e. e < length self.now.dcel.undirected) edges.now }
+        requires once { AllPairs (λ d e. d ≢ e) edges.now }
+        ensures { IfOk result (λ v. AreNamedIn (EnclosesVertex V.place M.shape self.now)
+            self.now.dcel.mesh edges.now v.items) }
+    {
+        let mut found = Vec::new(alloc);
+        for edge in edges {
+            let edge = self.dcel.undirected_edge(*edge).as_directed();
+            self.keep_start(edge.fix(), &mut found)?;
+            self.keep_start(edge.rev().fix(), &mut found)?;
+        }
+        Ok(found)
     }
-    Ok(found)
 }
 
 /// The vertices in a closed circle or rectangle, each once, found from a list of edges of which one
@@ -105,8 +109,9 @@ pub fn vertices_by_flood<
     if dcel.num_vertices() < 2 {
         return vertices_by_filter(dcel, metric, tests, alloc);
     }
-    let edges = flood(dcel, metric, tests, starts, alloc)?;
-    let vertices = named_inside(dcel, metric, edges.as_slice(), alloc)?;
+    let search = ShapeSearch::new(dcel, metric, tests);
+    let edges = search.edges_from(starts, alloc)?;
+    let vertices = search.named_inside(edges.as_slice(), alloc)?;
     Ok(VerticesInShapeIterator {
         dcel,
         vertices,

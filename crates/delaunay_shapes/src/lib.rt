@@ -12,6 +12,7 @@ mod marks;
 mod positions;
 mod rectangle;
 mod shape_queries;
+mod shape_search;
 
 pub use circle::CircleMetric;
 pub use distance_metric::DistanceMetric;

@@ -9,9 +9,9 @@ ghost use Rattle.delaunay_shapes.specs.Start.{BeginsAt};
 
 use crate::distance_metric::DistanceMetric;
 use crate::flood::edges_by_flood;
-use crate::flood_start::first_edges;
 use crate::flood_vertices::vertices_by_flood;
 use crate::in_shape::{EdgesInShapeIterator, VerticesInShapeIterator};
+use crate::shape_search::ShapeSearch;
 use delaunay_core::math::PlaneTests;
 use delaunay_core::point::{HasPosition, Point2};
 use half_edge_mesh::{Dcel, FixedVertexHandle};
@@ -49,7 +49,8 @@ pub fn edges_in_shape<
     ensures { IfOk result (λ it. GivesEdgesIn (M.shape metric.now) V.place dcel.entry
         (edges_left it)) }
 {
-    let starts = first_edges(dcel, metric, start, hint, tests, alloc)?;
+    let search = ShapeSearch::new(dcel, metric, tests);
+    let starts = search.first_edges(start, hint, alloc)?;
     edges_by_flood(dcel, metric, tests, starts.as_slice(), alloc)
 }
 
@@ -85,6 +86,7 @@ pub fn vertices_in_shape<
     ensures { IfOk result (λ it. GivesVerticesIn (M.shape metric.now) V.place dcel.entry
         (vertices_left it)) }
 {
-    let starts = first_edges(dcel, metric, start, hint, tests, alloc)?;
+    let search = ShapeSearch::new(dcel, metric, tests);
+    let starts = search.first_edges(start, hint, alloc)?;
     vertices_by_flood(dcel, metric, tests, starts.as_slice(), alloc)
 }

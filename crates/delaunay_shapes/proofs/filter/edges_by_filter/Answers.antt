@@ -1,53 +1,38 @@
 use Rattle.std.proofs.Common.{ℕ, ◌+◌, List, ◌∙◌, refl, sym, ap, map, length, subst, arith}
 use Rattle.delaunay_shapes.specs.InShape.{IsInside}
 use Rattle.delaunay_shapes.proofs.Asking.{IsFilteredTo, filter_finds, filter_passes}
-use Rattle.delaunay_shapes.proofs.Handles.{edge_told, end_covered, filtered_within, filtered_edges}
-use Rattle.delaunay_shapes.proofs.Handles.{start_covered}
-use Rattle.delaunay_shapes.proofs.filter.edges_by_filter.Goals.{then-is_handle_inside+in_ok-push}
-use Rattle.delaunay_shapes.proofs.filter.edges_by_filter.Goals.{else-is_handle_inside}
+use Rattle.delaunay_shapes.proofs.Handles.{filtered_within, filtered_edges}
+use Rattle.delaunay_shapes.proofs.filter.edges_by_filter.Goals.{then-has_edge+in_ok-push}
+use Rattle.delaunay_shapes.proofs.filter.edges_by_filter.Goals.{else-has_edge}
 use Rattle.delaunay_shapes.proofs.filter.edges_by_filter.Goals as goal
 
-pub is_handle_inside-requires-clause-start_covered :
-    goal.is_handle_inside-requires-clause-start_covered
-is_handle_inside-requires-clause-start_covered g c =
-    start_covered g.V.HasPosition.place c.args.dcel (g.P.PlaneTests.covered c.args.tests.now)
-    c.requires.covered c.num_undirected_edges-index-end.ensures.whole
-    c.undirected_edge.result.dcel c.undirected_edge.result.index c.from_index-edge.result
-    (let count = c.num_undirected_edges-index-end.ensures.value in
-    omega (arith, count, c.loop-index-test.true, c.from_index-edge.ensures))
-    c.undirected_edge.ensures.dcel c.undirected_edge.ensures.index
-
-pub is_handle_inside-requires-clause-end_covered : goal.is_handle_inside-requires-clause-end_covered
-is_handle_inside-requires-clause-end_covered g c =
-    end_covered g.V.HasPosition.place c.args.dcel (g.P.PlaneTests.covered c.args.tests.now)
-    c.requires.covered c.num_undirected_edges-index-end.ensures.whole
-    c.undirected_edge.result.dcel c.undirected_edge.result.index c.from_index-edge.result
-    (let count = c.num_undirected_edges-index-end.ensures.value in
-    omega (arith, count, c.loop-index-test.true, c.from_index-edge.ensures))
-    c.undirected_edge.ensures.dcel c.undirected_edge.ensures.index
+pub has_edge-requires : goal.has_edge-requires
+has_edge-requires g c =
+    rw c.new-search.ensures (omega (
+      arith,
+      c.num_undirected_edges-index-end.ensures.value,
+      c.loop-index-test.true,
+      c.from_index-edge.ensures,
+    ))
 
 pub loop-index-preserved : goal.loop-index-preserved
 loop-index-preserved g c =
     let Inside : ℕ → Type 0 =
     IsInside (g.M.DistanceMetric.shape c.args.metric.now) g.V.HasPosition.place c.args.dcel.now in
-    let told = edge_told g.V.HasPosition.place c.args.dcel c.is_handle_inside.result
-    (g.M.DistanceMetric.shape c.args.metric.now) c.undirected_edge.result.dcel
-    c.undirected_edge.result.index
-    c.from_index-edge.result c.undirected_edge.ensures.dcel c.undirected_edge.ensures.index
-    c.is_handle_inside.ensures.inside in
-    elim c.if-is_handle_inside.branch [
-      | then-is_handle_inside+in_ok-push w ↦
+    let told = rw c.new-search.ensures at c.has_edge.ensures in
+    elim c.if-has_edge.branch [
+      | then-has_edge+in_ok-push w ↦
           filter_finds Inside c.loop-index.index c.from_index-edge.result
-          c.loop-index.edges.items c.if-is_handle_inside.edges.items c.loop-index.invariant
+          c.loop-index.edges.items c.if-has_edge.edges.items c.loop-index.invariant
           c.from_index-edge.ensures
-          (told.0 w.if-is_handle_inside.true)
+          (told.0 w.if-has_edge.true)
           (ap (λ x. x.items) w.edges-is ∙ w.in_ok-push.ensures.items)
-      | else-is_handle_inside w ↦
+      | else-has_edge w ↦
           subst (λ (xs : List ℕ). IsFilteredTo Inside (c.loop-index.index + 1) xs)
           (sym (ap (λ x. x.items) w.edges-is))
           (filter_passes Inside c.loop-index.index c.from_index-edge.result
           c.loop-index.edges.items c.loop-index.invariant c.from_index-edge.ensures
-          (λ p. let on = told.1 p in let off = w.if-is_handle_inside.false in absurd (cc)))
+          (λ p. let on = told.1 p in let off = w.if-has_edge.false in absurd (cc)))
     ]
 
 pub invariant_of-result : goal.invariant_of-result

@@ -1,6 +1,12 @@
 use Rattle.std.proofs.Common.{refl}
 use Rattle.delaunay_shapes.proofs.flood.edges_by_flood.Goals as goal
 
+pub edges_from-requires : goal.edges_from-requires
+edges_from-requires g c = rw c.new-search.ensures c.requires
+
 pub returns : goal.returns
-returns g c =
-    record { edges = c.in_ok-edges.edges.items; listed = refl; exact = c.in_ok-edges.ensures.exact }
+returns g c = record {
+  edges = c.in_ok-edges.edges.items;
+  listed = refl;
+  exact = rw c.new-search.ensures at c.in_ok-edges.ensures.exact;
+}

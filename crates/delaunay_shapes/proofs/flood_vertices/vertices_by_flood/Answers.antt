@@ -1,11 +1,7 @@
-use Rattle.std.proofs.Common.{ℕ, List, ◌<◌, ◌∙◌, refl, sym, map, length, subst, arith}
-use Rattle.std.specs.Prelude.{All, AllPairs}
-use mathlib.Core.Logic.{◌≢◌}
+use Rattle.std.proofs.Common.{ℕ, List, ◌∙◌, refl, map, length, subst, arith}
 use Rattle.std.proofs.lemmas.List.{length-map}
-use Rattle.plane.specs.Tests.{InRange}
 use Rattle.delaunay_shapes.specs.Flood.{AreNamedIn}
 use Rattle.delaunay_shapes.specs.InShape.{IsVertexInside}
-use Rattle.delaunay_shapes.proofs.Shapes.{all_are}
 use Rattle.delaunay_shapes.proofs.VertexFlood.{named_are_all, named_below}
 use Rattle.delaunay_shapes.proofs.flood_vertices.vertices_by_flood.Goals as goal
 
@@ -16,7 +12,7 @@ invariant_of-result g c =
       in_range = named_below (IsVertexInside (g.M.DistanceMetric.shape c.args.metric.now)
           g.V.HasPosition.place c.args.dcel.now) c.args.dcel.now.mesh whole.valid
           c.as_slice.result.now c.in_ok-vertices.vertices.items (length c.args.dcel.now.vertices)
-          whole.fits.vertices_fit c.in_ok-vertices.ensures;
+          whole.fits.vertices_fit (rw c.new-search.ensures at c.in_ok-vertices.ensures);
     }
 
 pub returns : goal.returns
@@ -29,32 +25,24 @@ returns g c =
       exact = named_are_all (map g.V.HasPosition.place c.args.dcel.now.vertices)
           c.args.dcel.now.mesh whole.valid c.requires.shape
           (g.M.DistanceMetric.shape c.args.metric.now) c.requires.region
-          c.in_ok-edges.edges.items c.in_ok-vertices.vertices.items c.in_ok-edges.ensures.exact
+          c.in_ok-edges.edges.items c.in_ok-vertices.vertices.items
+          (rw c.new-search.ensures at c.in_ok-edges.ensures.exact)
           (subst (λ (edges : List ℕ). AreNamedIn
           (IsVertexInside (g.M.DistanceMetric.shape c.args.metric.now) g.V.HasPosition.place
           c.args.dcel.now) c.args.dcel.now.mesh edges c.in_ok-vertices.vertices.items)
-          c.as_slice.ensures.value c.in_ok-vertices.ensures)
+          c.as_slice.ensures.value (rw c.new-search.ensures at c.in_ok-vertices.ensures))
           (many ∙ whole.fits.vertices_fit)
           (let some = c.if-num_vertices-lt2.false in let count = c.num_vertices.ensures.value in
           omega (arith, some, count, many));
     }
 
-pub flood-requires : goal.flood-requires
-flood-requires g c = c.requires
-
-pub named_inside-requires-clause-in_range : goal.named_inside-requires-clause-in_range
-named_inside-requires-clause-in_range g c =
-    all_are (g.P.PlaneTests.covered c.args.tests.now) InRange
-    (g.met.P.PlaneTests.covered_are_in_range c.args.tests.now)
-    (map g.V.HasPosition.place c.args.dcel.now.vertices)
-    c.requires.covered
+pub edges_from-requires : goal.edges_from-requires
+edges_from-requires g c = rw c.new-search.ensures c.requires
 
 pub named_inside-requires-clause-within : goal.named_inside-requires-clause-within
 named_inside-requires-clause-within g c =
-    subst (λ (edges : List ℕ). All (λ e. e < length c.args.dcel.now.undirected) edges)
-    (sym c.as_slice.ensures.value) c.in_ok-edges.ensures.within
+    rw c.as_slice.ensures.value c.in_ok-edges.ensures.within
 
 pub named_inside-requires-clause-once : goal.named_inside-requires-clause-once
 named_inside-requires-clause-once g c =
-    subst (λ (edges : List ℕ). AllPairs (λ d e. d ≢ e) edges)
-    (sym c.as_slice.ensures.value) c.in_ok-edges.ensures.exact.once
+    rw c.as_slice.ensures.value c.in_ok-edges.ensures.exact.once

@@ -1,27 +1,14 @@
-use Rattle.std.proofs.Common.{sym, subst}
-use Rattle.delaunay_shapes.specs.Flood.{CanFlood}
+use Rattle.std.proofs.Common.{map}
+use Rattle.delaunay_shapes.proofs.Shapes.{all_are}
 use Rattle.delaunay_shapes.proofs.shape_queries.edges_in_shape.Goals as goal
 
-pub first_edges-requires-clause-kept : goal.first_edges-requires-clause-kept
-first_edges-requires-clause-kept g c = c.requires.kept
-
-pub first_edges-requires-clause-sites : goal.first_edges-requires-clause-sites
-first_edges-requires-clause-sites g c = c.requires.sites
-
-pub first_edges-requires-clause-own_covered : goal.first_edges-requires-clause-own_covered
-first_edges-requires-clause-own_covered g c = c.requires.own_covered
-
-pub first_edges-requires-clause-start_covered : goal.first_edges-requires-clause-start_covered
-first_edges-requires-clause-start_covered g c = c.requires.start_covered
-
-pub first_edges-requires-clause-begins : goal.first_edges-requires-clause-begins
-first_edges-requires-clause-begins g c = c.requires.begins
+pub new-search-requires-clause-covered : goal.new-search-requires-clause-covered
+new-search-requires-clause-covered g c =
+    let tests = c.args.tests.now in
+    all_are (g.P.PlaneTests.sites tests) (g.P.PlaneTests.covered tests)
+    (g.met.P.PlaneTests.sites_are_covered tests)
+    (map g.V.HasPosition.place c.args.dcel.now.vertices) c.requires.sites
 
 pub edges_by_flood-requires : goal.edges_by_flood-requires
 edges_by_flood-requires g c =
-    let IsCovered = g.P.PlaneTests.covered c.args.tests.now in
-    let own = g.M.DistanceMetric.own_points c.args.metric.now in
-    let Shape = g.M.DistanceMetric.shape c.args.metric.now in
-    subst (CanFlood IsCovered own Shape g.V.HasPosition.place c.args.dcel.now)
-    (sym c.as_slice.ensures.value)
-    c.in_ok-starts.ensures
+    rw c.as_slice.ensures.value (rw c.new-search.ensures at c.in_ok-starts.ensures)

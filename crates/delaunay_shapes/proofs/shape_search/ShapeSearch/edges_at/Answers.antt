@@ -1,0 +1,36 @@
+use Rattle.std.proofs.Common.{ℕ, ◌/◌, sym, subst}
+use Rattle.std.specs.Prelude.{Contains}
+use Rattle.delaunay_shapes.specs.ShapeSearch.{EnclosesEdge}
+use Rattle.delaunay_shapes.specs.Start.{HasStarts}
+use Rattle.delaunay_shapes.proofs.FirstEdges.{if_ok}
+use Rattle.delaunay_shapes.proofs.shape_search.ShapeSearch.edges_at.Goals as goal
+
+pub outer_edge-requires : goal.outer_edge-requires
+outer_edge-requires g c = c.requires.kept
+
+pub edge_alone-requires-in-Some : goal.edge_alone-requires-in-Some
+edge_alone-requires-in-Some g c = rw (← c.self.view_is) at c.in-Some.ensures.some.0
+
+pub returns-in-OnFace-clause-within : goal.returns-in-OnFace-clause-within
+returns-in-OnFace-clause-within g c = rw (← c.self.view_is) c.sides_of_face.ensures.within
+
+pub returns-in-Some-clause-starts : goal.returns-in-Some-clause-starts
+returns-in-Some-clause-starts g c =
+    let s = c.args.self.now in
+    let Inside : ℕ → Type 0 = EnclosesEdge g.V.HasPosition.place g.M.DistanceMetric.shape s in
+    if_ok (λ v. Contains v.items (c.in-Some.edge / 2))
+    (λ v. HasStarts Inside s.dcel.mesh v.items c.args.location)
+    c.edge_alone-in-Some.result
+    (λ v there. subst (HasStarts Inside s.dcel.mesh v.items) (sym c.in-OutsideOfConvexHull.is)
+    (λ h within outer inside. (c.in-Some.edge / 2, there, c.in-Some.ensures.some.1)))
+    c.edge_alone-in-Some.ensures.starts
+
+pub returns-in-Some-clause-within : goal.returns-in-Some-clause-within
+returns-in-Some-clause-within g c = rw (← c.self.view_is) c.edge_alone-in-Some.ensures.within
+
+pub returns-in-None-clause-starts : goal.returns-in-None-clause-starts
+returns-in-None-clause-starts g c =
+    let s = c.args.self.now in
+    let Inside : ℕ → Type 0 = EnclosesEdge g.V.HasPosition.place g.M.DistanceMetric.shape s in
+    subst (HasStarts Inside s.dcel.mesh c.new.result.items) (sym c.in-OutsideOfConvexHull.is)
+    (λ h within outer inside. absurd (c.in-None.ensures.none h within outer inside))
