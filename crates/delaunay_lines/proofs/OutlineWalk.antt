@@ -26,7 +26,7 @@ use Rattle.plane.proofs.IntegerOrder.{mul-nonpos_of_nonneg_nonpos_ℤ}
 use Rattle.plane.proofs.Nearer.{nothing_nearer}
 use Rattle.plane.proofs.Segments.{start_on_segment}
 use Rattle.plane.proofs.Sides.{if_left, if_right, if_on, side_swapped}
-use Rattle.plane.proofs.Steps.{weak, weak_right, zero_weak_left, left_not_below, left_not_zero}
+use Rattle.plane.proofs.Steps.{weak, zero_weak_left, left_not_below, left_not_zero}
 use Rattle.plane.proofs.Steps.{product_zero_left}
 use Rattle.plane.proofs.Signs.{negated_negative, opposite_of_negative, opposite_of_positive}
 use Rattle.plane.proofs.Signs.{opposite_of_zero_of, opposite_of_not_positive}

@@ -261,8 +261,9 @@ impl<'a, V: HasPosition, DE, UE, F, P: PlaneTests<V::Scalar>> Segment<'a, V, DE,
         Some(FixedIntersection::Edge(twin))
     }
 
-    // From a seen outer edge along the outline to what it meets first. Each step leads nearer to its
-    // line, but nothing here rests on it: behind the last step is the look along all of the outline.
+    // From a seen outer edge along the outline to what it meets first. Each step leads nearer to
+    // its line, but nothing here rests on that: behind the last step is the look along the whole
+    // outline.
     fn first_along(&self, edge: FixedDirectedEdgeHandle) -> Option<FixedIntersection>
         requires apart { self.now.from ≢ self.now.to }
         requires inner { 0 < length self.now.dcel.faces }
