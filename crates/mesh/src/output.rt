@@ -21,8 +21,45 @@ fn write_to<W: Write + Drop>(
     Ok(())
 }
 
-/// Writes a mesh to standard output, or to a file beside the one that is asked for, which then
-/// takes its place.
+/// Writes a mesh to a file, and puts that into the place of another.
+fn write_and_rename<W: Write + Drop>(
+    rt: &HostRuntime,
+    task: &Task<'_>,
+    text: &MeshText<'_>,
+    writer: W,
+    beside: &str,
+    path: &str,
+) -> anyhow::Result<()> {
+    write_to(rt, task, text, writer).context(format_args!("{beside}"))?;
+    fs::rename(rt, beside, path).context(format_args!("{path}"))
+}
+
+/// Writes a mesh to a file beside the one that is asked for, which then takes its place. Where it
+/// does not come to that, nothing is left of it.
+fn write_beside(
+    rt: &HostRuntime,
+    task: &Task<'_>,
+    text: &MeshText<'_>,
+    path: &str,
+) -> anyhow::Result<()> {
+    let beside = format!(in rt.alloc(); "{path}.part")?;
+    let file = fs::create(rt, beside.as_str()).context(format_args!("{beside}"))?;
+    let outcome = write_and_rename(rt, task, text, file, beside.as_str(), path);
+    if outcome.is_err() {
+        let _ = fs::remove_file(rt, beside.as_str());
+    }
+    outcome
+}
+
+/// Whether a path is that of a device or a pipe, whose place no file may take.
+fn is_stream(rt: &HostRuntime, path: &str) -> bool {
+    match fs::metadata(rt, path) {
+        Ok(metadata) => !metadata.is_file() && !metadata.is_dir(),
+        Err(_) => false,
+    }
+}
+
+/// Writes a mesh to standard output, or to the file that is asked for.
 pub fn write(
     rt: &HostRuntime,
     task: &Task<'_>,
@@ -40,13 +77,9 @@ pub fn write(
     let Some(path) = task.output else {
         return write_to(rt, task, &text, io::writer(rt)).context("standard output");
     };
-    let beside = format!(in rt.alloc(); "{path}.part")?;
-    let file = fs::create(rt, beside.as_str()).context(format_args!("{beside}"))?;
-    let outcome = write_to(rt, task, &text, file);
-    if outcome.is_err() {
-        let _ = fs::remove_file(rt, beside.as_str());
-        return outcome.context(format_args!("{beside}"));
+    if is_stream(rt, path) {
+        let stream = fs::create(rt, path).context(format_args!("{path}"))?;
+        return write_to(rt, task, &text, stream).context(format_args!("{path}"));
     }
-    fs::rename(rt, beside.as_str(), path).context(format_args!("{path}"))?;
-    Ok(())
+    write_beside(rt, task, &text, path)
 }

@@ -3,40 +3,63 @@ use crate::drawing::{Drawing, Ring};
 use delaunay_core::point::Point2;
 use std::alloc::{AllocError, Global};
 
-/// A side of a ring, by the places of its ends.
-#[derive(Clone, Copy)]
-struct RingSide {
-    from: u32,
-    to: u32,
-}
-
-/// The positions of its ends.
+/// A line that goes one way, by its direction in least numbers and how far it is from 0.
 #[derive(Clone, Copy, PartialEq, Eq, PartialOrd, Ord)]
-struct SideEnds {
-    from_x: i32,
-    from_y: i32,
-    to_x: i32,
-    to_y: i32,
+struct Heading {
+    dx: i64,
+    dy: i64,
+    offset: i64,
 }
 
-impl RingSide {
-    fn reversed(self) -> Self {
-        RingSide {
-            from: self.to,
-            to: self.from,
-        }
-    }
+/// An end of a ring's side: how far on the line it is, and its point's place.
+#[derive(Clone, Copy, PartialEq, Eq, PartialOrd, Ord)]
+struct SideEnd {
+    along: i64,
+    place: u32,
+}
 
-    fn ends(self, points: &[Point2<i32>]) -> Option<SideEnds> {
-        let from = points.get(self.from as usize)?;
-        let to = points.get(self.to as usize)?;
-        Some(SideEnds {
-            from_x: from.x,
-            from_y: from.y,
-            to_x: to.x,
-            to_y: to.y,
-        })
+/// A side of a ring, or a part of one.
+#[derive(Clone, Copy, PartialEq, Eq, PartialOrd, Ord)]
+struct RingSide {
+    line: Heading,
+    from: SideEnd,
+    to: SideEnd,
+}
+
+/// The greatest common divisor of two numbers.
+fn common_divisor(first: u64, second: u64) -> u64 {
+    if second == 0 {
+        return first;
     }
+    common_divisor(second, first % second)
+}
+
+/// The side between two points; none where they are at one position.
+fn side_between(points: &[Point2<i32>], from: u32, to: u32) -> Option<RingSide> {
+    let start = points.get(from as usize)?;
+    let end = points.get(to as usize)?;
+    let (x, y) = (i64::from(start.x), i64::from(start.y));
+    let (end_x, end_y) = (i64::from(end.x), i64::from(end.y));
+    let (dx, dy) = (end_x.wrapping_sub(x), end_y.wrapping_sub(y));
+    let divisor = common_divisor(dx.unsigned_abs(), dy.unsigned_abs());
+    let divisor = i64::try_from(divisor).ok()?;
+    let (dx, dy) = (dx.checked_div(divisor)?, dy.checked_div(divisor)?);
+    let along = |x: i64, y: i64| dx.wrapping_mul(x).wrapping_add(dy.wrapping_mul(y));
+    Some(RingSide {
+        line: Heading {
+            dx,
+            dy,
+            offset: dx.wrapping_mul(y).wrapping_sub(dy.wrapping_mul(x)),
+        },
+        from: SideEnd {
+            along: along(x, y),
+            place: from,
+        },
+        to: SideEnd {
+            along: along(end_x, end_y),
+            place: to,
+        },
+    })
 }
 
 /// Twice the area within points that go round against the clock; with it, below 0.
@@ -57,27 +80,31 @@ fn area_within(points: &[Point2<i32>]) -> i128 {
     area
 }
 
-/// The sides of a ring, each with what is within on its left; none of a ring without an area.
-fn sides_of(
+/// Adds the sides of a ring, each with what is within on its left, or what is not; none of a ring
+/// without an area.
+fn add_sides(
     ring: &Ring,
+    is_within: bool,
     points: &[Point2<i32>],
-    alloc: Global,
-) -> Result<Vec<RingSide>, AllocError> {
-    let mut sides = Vec::new(alloc);
+    sides: &mut Vec<RingSide>,
+) -> Result<(), AllocError> {
     let corners = points
         .get(ring.start as usize..ring.end as usize)
         .unwrap_or(&[]);
     let area = area_within(corners);
     if area == 0 {
-        return Ok(sides);
+        return Ok(());
     }
-    let mut from = ring.end.saturating_sub(1);
-    for to in ring.start..ring.end {
-        let side = RingSide { from, to };
-        sides.push(if area > 0 { side } else { side.reversed() })?;
-        from = to;
+    let goes_on = (area > 0) == is_within;
+    let mut last = ring.end.saturating_sub(1);
+    for next in ring.start..ring.end {
+        let (from, to) = if goes_on { (last, next) } else { (next, last) };
+        if let Some(side) = side_between(points, from, to) {
+            sides.push(side)?;
+        }
+        last = next;
     }
-    Ok(sides)
+    Ok(())
 }
 
 /// The sides of all rings, each with its polygon on the left, in order.
@@ -85,21 +112,58 @@ fn polygon_sides(
     rings: &[Ring],
     points: &[Point2<i32>],
     alloc: Global,
-) -> Result<Vec<SideEnds>, AllocError> {
-    let mut all = Vec::new(alloc);
+) -> Result<Vec<RingSide>, AllocError> {
+    let mut sides = Vec::new(alloc);
     for ring in rings {
-        for side in sides_of(ring, points, alloc)? {
-            let side = if ring.is_hole { side.reversed() } else { side };
-            if let Some(ends) = side.ends(points) {
-                all.push(ends)?;
-            }
-        }
+        add_sides(ring, !ring.is_hole, points, &mut sides)?;
     }
-    all.sort()?;
-    Ok(all)
+    sides.sort()?;
+    Ok(sides)
 }
 
-/// The sides of rings round holes, by the places of their ends, with the hole on the left. Those
+/// The first place in a list in order at which a side on this line may stand.
+fn first_on(line: Heading, sides: &[RingSide]) -> usize {
+    let least = SideEnd {
+        along: i64::MIN,
+        place: 0,
+    };
+    let least = RingSide {
+        line,
+        from: least,
+        to: least,
+    };
+    match sides.binary_search(&least) {
+        Ok(first) | Err(first) => first,
+    }
+}
+
+/// Adds the parts of a side along which no side of a list in order goes, by the places of their
+/// ends.
+fn add_open(
+    side: &RingSide,
+    sides: &[RingSide],
+    open: &mut Vec<[u32; 2]>,
+) -> Result<(), AllocError> {
+    let mut from = side.from;
+    let others = sides.get(first_on(side.line, sides)..).unwrap_or(&[]);
+    for other in others {
+        if other.line != side.line || other.from.along >= side.to.along {
+            break;
+        }
+        if from.along < other.from.along {
+            open.push([from.place, other.from.place])?;
+        }
+        if from.along < other.to.along {
+            from = other.to;
+        }
+    }
+    if from.along < side.to.along {
+        open.push([from.place, side.to.place])?;
+    }
+    Ok(())
+}
+
+/// The sides of rings round holes, by the places of their ends, with the hole on the left. Parts
 /// are left out that have another polygon there: it fills the hole.
 pub fn hole_sides(
     drawing: &Drawing,
@@ -112,17 +176,14 @@ pub fn hole_sides(
         return Ok(open);
     }
     let polygons = polygon_sides(rings, points, alloc)?;
+    let mut sides = Vec::new(alloc);
     for ring in rings {
-        if !ring.is_hole {
-            continue;
+        if ring.is_hole {
+            add_sides(ring, true, points, &mut sides)?;
         }
-        for side in sides_of(ring, points, alloc)? {
-            if let Some(ends) = side.ends(points) {
-                if polygons.binary_search(&ends).is_err() {
-                    open.push([side.from, side.to])?;
-                }
-            }
-        }
+    }
+    for side in &sides {
+        add_open(side, polygons.as_slice(), &mut open)?;
     }
     Ok(open)
 }
