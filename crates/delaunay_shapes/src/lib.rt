@@ -20,5 +20,6 @@ pub use filter::{edges_by_filter, vertices_by_filter};
 pub use flood::edges_by_flood;
 pub use flood_vertices::vertices_by_flood;
 pub use in_shape::{EdgesInShapeIterator, VerticesInShapeIterator};
+pub use marks::Marks;
 pub use rectangle::RectangleMetric;
 pub use shape_queries::{edges_in_shape, vertices_in_shape};

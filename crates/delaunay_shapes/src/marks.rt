@@ -81,8 +81,9 @@ fn reach_page(pages: &mut Vec<Page>, place: usize, alloc: Global) -> Result<(), 
     Ok(())
 }
 
+/// Numbers below a count, of which some are marked.
 #[derive(Drop)]
-pub(crate) struct Marks {
+pub struct Marks {
     pages: Vec<Page>,
     count: usize,
     alloc: Global,
@@ -98,8 +99,8 @@ impl Model for Marks {
 }
 
 impl Marks {
-    // So many, none marked, in no memory yet.
-    pub(crate) fn new(count: usize, alloc: Global) -> Marks
+    /// So many, none marked, in no memory yet.
+    pub fn new(count: usize, alloc: Global) -> Marks
         ensures { result ≡ replicate count false }
     {
         Marks {
@@ -109,8 +110,9 @@ impl Marks {
         }
     }
 
-    // This is asked far more often than a number is marked, and is short for that.
-    pub(crate) fn is_marked(&self, index: u32) -> bool
+    /// Whether a number is marked. This is asked far more often than a number is marked, and is
+    /// short for that.
+    pub fn is_marked(&self, index: u32) -> bool
         requires { index < length self.now }
         ensures { result ≡ slice_index_or self.now index false }
     {
@@ -118,7 +120,8 @@ impl Marks {
         place < self.pages.len() && self.pages[place].is_marked(index % NUMBERS)
     }
 
-    pub(crate) fn mark(&mut self, index: u32) -> Result<(), AllocError>
+    /// Marks a number.
+    pub fn mark(&mut self, index: u32) -> Result<(), AllocError>
         ensures { OnOk result (self.new ≡ slice_set self.old index true) }
     {
         let place = (index / NUMBERS) as usize;

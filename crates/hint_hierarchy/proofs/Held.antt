@@ -1,7 +1,7 @@
 -- What layers hold after one of them changed, and after one was added or dropped.
--- Notions: IsVacantBelow; all_from_each, nothing_contained, sites_with, sites_or, with_then_with,
--- all_from_held, held_from_all, held_at, held_after_set, held_since, sites_at, vacant_if_all,
--- vacant_one_more, held_in_first, pushed_within.
+-- Notions: AllBefore, IsVacantBelow; all_from_each, nothing_contained, all_before_next, sites_with,
+-- sites_or, with_then_with, all_from_held, held_from_all, held_at, held_after_set, held_since,
+-- sites_at, vacant_if_all, vacant_one_more, held_in_first, pushed_within.
 use Rattle.std.proofs.Common.{
   ◌≡◌,
   ◌∙◌,
@@ -50,6 +50,20 @@ all_from_each P points each =
 -- nothing is in no list
 pub nothing_contained : {X : Type 0} (x : X) → ¬ Contains [] x
 nothing_contained x h = All-contains (λ _. ⊥) [] x (All-nil _) h
+
+-- each element before a place meets P
+abbrev pub AllBefore : {X : Type 0} → (X → Type 0) → ℕ → List X → Type 0
+AllBefore P n xs = (k : ℕ) (d : _) → k < n → k < length xs → P (get_or xs k d)
+
+-- one element more
+pub all_before_next : {X : Type 0} (P : X → Type 0) (n : ℕ) (xs : List X) (x : X)
+    → x ≡ get_or xs n x → n < length xs → P x → AllBefore P n xs → AllBefore P (n + 1) xs
+all_before_next P n xs x here within meets before = λ k d under k-in.
+    ⊎_elim
+    (λ same. subst P
+    (sym (ap (λ i. get_or xs i d) same ∙ get_or_default xs n d x within ∙ sym here)) meets)
+    (λ other. before k d (omega (arith, under, other)) k-in)
+    (cases_eq k n)
 
 -- sites with one more
 pub sites_with : (sites old now : Point → Type 0) (q : Point) → IsAtMost sites old → sites q
@@ -126,8 +140,7 @@ module _ {L : Type 0} (positions_of : L → List Point) where
 
   -- none of the layers before one has a vertex at q
   abbrev pub IsVacantBelow : Point → ℕ → List L → Type 0
-  IsVacantBelow q level layers = (k : ℕ) (d : L) → k < level → k < length layers
-      → ¬ Contains (positions_of (get_or layers k d)) q
+  IsVacantBelow q level layers = AllBefore (λ l. ¬ Contains (positions_of l) q) level layers
 
   -- no layer is left out
   pub vacant_if_all : (q : Point) (layers : List L) → IsVacantBelow q (length layers) layers
@@ -140,13 +153,9 @@ module _ {L : Type 0} (positions_of : L → List Point) where
   pub vacant_one_more : (q : Point) (level : ℕ) (layers : List L) (layer : L) → layer
       ≡ get_or layers level layer → level < length layers → ¬ Contains (positions_of layer) q
       → IsVacantBelow q level layers → IsVacantBelow q (level + 1) layers
-  vacant_one_more q level layers layer here within apart vacant = λ k d under k-in h.
-      ⊎_elim
-      (λ same. apart
-      (subst (λ (l : L). Contains (positions_of l) q)
-      (ap (λ n. get_or layers n d) same ∙ get_or_default layers level d layer within ∙ sym here) h))
-      (λ other. vacant k d (omega (arith, under, other)) k-in h)
-      (cases_eq k level)
+  vacant_one_more q level layers layer here within apart vacant =
+      all_before_next (λ l. ¬ Contains (positions_of l) q) level layers layer here within apart
+      vacant
 
   -- the first n layers
   pub held_in_first : (n : ℕ) (layers later : List L) → later ≡ take n layers

@@ -1,16 +1,16 @@
 -- What the layers of a hierarchy hold.
 use Rattle.std.specs.Prelude.{◌≡◌, ◌⊎◌, ℤ, List, map, Contains, Option, Some}
 use Rattle.plane.specs.Fraction.{Point}
+use Rattle.delaunay_core.specs.declared.point.Point2.{Point2}
 use Rattle.delaunay_core.specs.Place.{place_of}
-use Rattle.hint_hierarchy.specs.declared.layer.Layer.{Layer}
 
 -- the positions of a layer's vertices
-abbrev pub positions : {S : Type 0} → (S → ℤ) → Layer S → List Point
-positions number layer = map (place_of number) layer.triangulation.vertices
+abbrev pub positions : {S : Type 0} → (S → ℤ) → List (Point2 S) → List Point
+positions number vertices = map (place_of number) vertices
 
 -- p is the position of one of them
-abbrev pub IsPositionOf : {S : Type 0} → (S → ℤ) → Layer S → Point → Type 0
-IsPositionOf number layer p = Contains (positions number layer) p
+abbrev pub IsPositionOf : {S : Type 0} → (S → ℤ) → List (Point2 S) → Point → Type 0
+IsPositionOf number vertices p = Contains (positions number vertices) p
 
 -- p is one of the positions of some layer
 pub record IsInSome {L : Type 0} (positions_of : L → List Point) (layers : List L)
@@ -20,7 +20,7 @@ pub record IsInSome {L : Type 0} (positions_of : L → List Point) (layers : Lis
   pub vertex : Contains (positions_of layer) p
 
 -- p is the position of a vertex of some layer
-abbrev pub IsHeld : {S : Type 0} → (S → ℤ) → List (Layer S) → Point → Type 0
+abbrev pub IsHeld : {S : Type 0} → (S → ℤ) → List (List (Point2 S)) → Point → Type 0
 IsHeld number layers p = IsInSome (positions number) layers p
 
 -- each position of the new set is one of the old, or that of the vertex that is swapped in, if any

@@ -118,7 +118,7 @@ impl<S: SpadeNum, const BRANCH_FACTOR: u32> HierarchyHintGeneratorWithBranchFact
     // The index of a vertex near a position, by a search from the top layer down. It goes on at the
     // nearest vertex of each layer, which the layer keeps as the last that was used. The top layer
     // has one vertex, and is passed over.
-    fn index_near<P: PlaneTests<S>>(&self, position: Point2<S>, tests: &P) -> u32
+    pub(crate) fn index_near<P: PlaneTests<S>>(&self, position: Point2<S>, tests: &P) -> u32
         requires held { IsAtMost (P.sites tests.now) (IsHeld S.whole self.now.layers.items) }
         requires covered { P.covered tests.now (place_of S.whole position) }
     {
@@ -132,8 +132,8 @@ impl<S: SpadeNum, const BRANCH_FACTOR: u32> HierarchyHintGeneratorWithBranchFact
         start
     }
 
-    // Whether no layer has a vertex at a position.
-    fn is_vacant<P: PlaneTests<S>>(&self, position: Point2<S>, tests: &P) -> bool
+    // Whether no layer has a vertex at a position, by a search in each.
+    fn is_found_vacant<P: PlaneTests<S>>(&self, position: Point2<S>, tests: &P) -> bool
         requires held { IsAtMost (P.sites tests.now) (IsHeld S.whole self.now.layers.items) }
         requires covered { P.covered tests.now (place_of S.whole position) }
         ensures { IsTrue result →
@@ -144,6 +144,21 @@ impl<S: SpadeNum, const BRANCH_FACTOR: u32> HierarchyHintGeneratorWithBranchFact
         for layer in &self.layers {
             if !layer.is_vacant(position, tests) {
                 return false;
+            }
+        }
+        true
+    }
+
+    // Whether no layer has a vertex at a position, by a search only where a filter does not tell.
+    fn is_vacant<P: PlaneTests<S>>(&self, position: Point2<S>, tests: &P) -> bool
+        requires held { IsAtMost (P.sites tests.now) (IsHeld S.whole self.now.layers.items) }
+        requires covered { P.covered tests.now (place_of S.whole position) }
+        ensures { IsTrue result →
+            ¬ IsHeld S.whole self.now.layers.items (place_of S.whole position) }
+    {
+        for layer in &self.layers {
+            if layer.may_have(position) {
+                return self.is_found_vacant(position, tests);
             }
         }
         true

@@ -1,9 +1,11 @@
 //! One layer of a hierarchy: a plain triangulation of positions, with the stars of its vertices.
-ghost use Rattle.std.specs.Prelude.{◌≡◌, ◌⊎◌, [], All, IfOk, IsTrue};
+ghost use Rattle.std.specs.Prelude.{◌≡◌, ◌⊎◌, [], All, IfOk, IsTrue, false, true};
 ghost use Rattle.plane.specs.Hint.{IsAtMost, IsAtMostWith};
 ghost use Rattle.delaunay_core.specs.Place.{place_of};
+ghost use Rattle.hint_hierarchy.specs.Bloom.{HaveBits, may_have};
 ghost use Rattle.hint_hierarchy.specs.Layers.{IsPositionOf, positions};
 
+use crate::bloom::BloomFilter;
 use crate::stars::Stars;
 use delaunay_core::HintGenerator;
 use delaunay_core::math::PlaneTests;
@@ -11,13 +13,78 @@ use delaunay_core::point::{Point2, SpadeNum};
 use delaunay_interface::{DelaunayTriangulation, Triangulation};
 use half_edge_mesh::FixedVertexHandle;
 use std::alloc::{AllocError, Global};
+use std::marker::Model;
 
-/// A plain triangulation of some vertices' positions, and the star of each vertex for searches.
+/// For how many positions there is room in a filter beyond twice those of the layer.
+const LEAST_ROOM: u32 = 32;
+
+/// A plain triangulation of some vertices' positions, and the star of each vertex for searches. The
+/// filter has each of the positions, so that most others are told from them without a search.
 #[derive(Drop)]
 pub(crate) struct Layer<S: SpadeNum> {
     triangulation: DelaunayTriangulation<Point2<S>>,
     stars: Stars,
+    filter: BloomFilter,
     alloc: Global,
+}
+
+impl<S: SpadeNum> Model for Layer<S> {
+    ghost use Rattle.std.specs.Prelude.{List};
+    ghost use Rattle.delaunay_core.specs.declared.point.Point2.{Point2};
+    ghost use Rattle.hint_hierarchy.specs.Bloom.{HaveBits};
+
+    ghost Value = { List (Point2 S) };
+
+    ghost view = { λ l. l.triangulation.vertices };
+
+    ghost invariant = { λ l. HaveBits S.whole l.filter l.triangulation.vertices };
+}
+
+// A filter of the positions of all vertices, with room for as many more.
+fn filter_of<S: SpadeNum>(
+    triangulation: &DelaunayTriangulation<Point2<S>>,
+    alloc: Global,
+) -> Result<BloomFilter, AllocError>
+    ensures { IfOk result (λ f. HaveBits S.whole f triangulation.now.vertices) }
+{
+    let count = triangulation.num_vertices() as u32;
+    let room = count.saturating_mul(2).saturating_add(LEAST_ROOM);
+    let mut filter = BloomFilter::with_room(room, alloc);
+    for index in 0..count {
+        let vertex = triangulation.vertex(FixedVertexHandle::from_index(index));
+        filter.add(*vertex.data())?;
+    }
+    Ok(filter)
+}
+
+// Puts a larger filter in place of one that is full.
+fn make_room<S: SpadeNum>(
+    filter: &mut BloomFilter,
+    triangulation: &DelaunayTriangulation<Point2<S>>,
+    alloc: Global,
+) -> Result<(), AllocError>
+    requires { HaveBits S.whole filter.old triangulation.now.vertices }
+    ensures { HaveBits S.whole filter.new triangulation.now.vertices }
+{
+    if filter.is_full() {
+        *filter = filter_of(triangulation, alloc)?;
+    }
+    Ok(())
+}
+
+// Adds a position to the filter of a triangulation; whether there was memory for it.
+fn add_to_filter<S: SpadeNum>(
+    filter: &mut BloomFilter,
+    triangulation: &DelaunayTriangulation<Point2<S>>,
+    position: Point2<S>,
+    alloc: Global,
+) -> bool
+    requires { HaveBits S.whole filter.old triangulation.now.vertices }
+    ensures all { HaveBits S.whole filter.new triangulation.now.vertices }
+    ensures added { may_have filter.new (place_of S.whole position) ≡ true }
+{
+    let has_room = make_room(filter, triangulation, alloc).is_ok();
+    filter.add(position).is_ok() && has_room
 }
 
 impl<S: SpadeNum> Layer<S> {
@@ -28,6 +95,7 @@ impl<S: SpadeNum> Layer<S> {
         Layer {
             triangulation: DelaunayTriangulation::new(alloc),
             stars: Stars::new(alloc),
+            filter: BloomFilter::new(alloc),
             alloc,
         }
     }
@@ -48,6 +116,9 @@ impl<S: SpadeNum> Layer<S> {
         ensures { IsAtMostWith (IsPositionOf S.whole self.old) (IsPositionOf S.whole self.new)
             (place_of S.whole position) }
     {
+        if !add_to_filter(&mut self.filter, &self.triangulation, position, self.alloc) {
+            return false;
+        }
         let Ok(vertex) = self.triangulation.insert(position, tests) else {
             return false;
         };
@@ -114,6 +185,14 @@ impl<S: SpadeNum> Layer<S> {
         }
     }
 
+    // Whether a vertex may have this position.
+    pub(crate) fn may_have(&self, position: Point2<S>) -> bool
+        ensures { result ≡ false →
+            ¬ IsPositionOf S.whole self.now (place_of S.whole position) }
+    {
+        self.filter.may_have(position)
+    }
+
     // Whether no vertex has this position.
     pub(crate) fn is_vacant<P: PlaneTests<S>>(&self, position: Point2<S>, tests: &P) -> bool
         requires sites { All (P.sites tests.now) (positions S.whole self.now) }
@@ -140,9 +219,13 @@ impl<S: SpadeNum> Layer<S> {
     pub(crate) fn try_clone(&self) -> Result<Self, AllocError>
         ensures { IfOk result (λ l. positions S.whole l ≡ positions S.whole self.now) }
     {
+        let triangulation = self.triangulation.try_clone()?;
+        let stars = self.stars.try_clone(self.alloc)?;
+        let filter = filter_of(&triangulation, self.alloc)?;
         Ok(Layer {
-            triangulation: self.triangulation.try_clone()?,
-            stars: self.stars.try_clone(self.alloc)?,
+            triangulation,
+            stars,
+            filter,
             alloc: self.alloc,
         })
     }

@@ -2,6 +2,7 @@
 //! it, and a search goes down from the nearest vertex of one layer to the next.
 #![tactic(auto)]
 
+mod bloom;
 mod hierarchy;
 mod layer;
 mod positions;

@@ -67,6 +67,14 @@ impl<S: SpadeNum, const BRANCH_FACTOR: u32> HierarchyHintGeneratorWithBranchFact
             return false;
         }
         self.count -= 1;
+        if let (Some(_), None, Some(position)) = (
+            index_above::<BRANCH_FACTOR>(index),
+            index_above::<BRANCH_FACTOR>(self.count),
+            swapped_in,
+        ) {
+            // The first layer is to take up the last vertex, and searches its place from here on.
+            self.index_near(position, tests);
+        }
         let mut removed = Some(index);
         let mut last = Some(self.count);
         for level in 0..self.layers.len() {

@@ -6,7 +6,7 @@ use Rattle.hint_hierarchy.proofs.layer.Layer.first_position.Goals as goal
 pub returns-in-Some : goal.returns-in-Some
 returns-in-Some g c =
     let vertex = c.in-Some.vertex in
-    inl (rw (← c.in-Some.ensures.0) (was_listed (place_of g.S.SpadeNum.whole)
+    inl (rw (← c.self.view_is, ← c.in-Some.ensures.0) (was_listed (place_of g.S.SpadeNum.whole)
     vertex.dcel.now.vertices vertex.index c.data.result.now c.data.ensures))
 
 pub returns-in-None : goal.returns-in-None

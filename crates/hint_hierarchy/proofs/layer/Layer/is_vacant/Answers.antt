@@ -18,8 +18,9 @@ none_found points q P (Some x) true unknown same is at = absurd (cc same)
 none_found points q P (Some x) false unknown same is at = absurd (cc is)
 
 pub returns : goal.returns
-returns g c = λ is.
+returns g c =
     let number = g.S.SpadeNum.whole in
-    none_found (positions number c.args.self.now)
+    rw (← c.self.view_is) (λ is.
+    none_found (positions number c.self.inside.triangulation.vertices)
     (place_of number c.args.position) _ c.locate_vertex.result
-    c.is_none.result c.locate_vertex.ensures c.is_none.ensures is
+    c.is_none.result c.locate_vertex.ensures c.is_none.ensures is)

@@ -6,7 +6,9 @@ use Rattle.hint_hierarchy.proofs.layer.Layer.try_clone.Goals as goal
 
 pub returns : goal.returns
 returns g c =
-    copied {E = ⊤} (λ v w. g.S.Clone.is_clone v.x w.x × g.S.Clone.is_clone v.y w.y) _ _ _
+    rw (← c.self.view_is)
+    (copied {E = ⊤} (λ v w. g.S.Clone.is_clone v.x w.x × g.S.Clone.is_clone v.y w.y) _ _ _
     (place_of g.S.SpadeNum.whole)
     (same_place g.S.SpadeNum.whole g.S.Clone.is_clone g.met.S.SpadeNum.clone_is_equal)
-    c.args.self.now.triangulation (Ok c.in_ok-try_clone.field-0) c.in_ok-try_clone.ensures.copy
+    c.self.inside.triangulation (Ok c.in_ok-triangulation.triangulation)
+    c.in_ok-triangulation.ensures.copy)

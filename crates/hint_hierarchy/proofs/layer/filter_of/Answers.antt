@@ -1,0 +1,23 @@
+use Rattle.std.proofs.Common.{◌≡◌, ◌∙◌, length, Some, subst, arith}
+use Rattle.std.specs.Prelude.{slice_get}
+use Rattle.std.proofs.lemmas.List.{length-map}
+use Rattle.std.proofs.lemmas.Grind.{common_steps}
+use Rattle.delaunay_core.specs.Place.{place_of}
+use Rattle.hint_hierarchy.proofs.Filtered.{filtered_next}
+use Rattle.hint_hierarchy.proofs.layer.filter_of.Goals as goal
+
+pub loop-index-preserved : goal.loop-index-preserved
+loop-index-preserved g c =
+    filtered_next (place_of g.S.SpadeNum.whole) c.args.triangulation.now.vertices c.loop-index.index
+    c.data.result.now c.loop-index.filter c.add.new.self
+    (rw (← c.vertex-vertex.ensures.state)
+    (subst (λ n. slice_get c.vertex-vertex.result.dcel.now.vertices n ≡ Some c.data.result.now)
+    (c.vertex-vertex.ensures.index ∙ c.from_index.ensures) c.data.ensures))
+    c.add.ensures.has c.add.ensures.others c.loop-index.invariant
+
+pub returns : goal.returns
+returns g c = λ k d below.
+    let points = c.args.triangulation.now.vertices in
+    let many = length-map points (place_of g.S.SpadeNum.whole) in
+    let count : c.loop-index.index ≡ length points = grind (arith, common_steps) in
+    c.loop-index.invariant k d (omega (arith, below, many, count)) below
