@@ -21,7 +21,7 @@ use Rattle.delaunay_legalization.proofs.WorkList.{pairs_are_edges}
 use Rattle.delaunay_edit.proofs.ConstraintEdges.{joined_by, fixed_if_joined}
 use Rattle.c_calls.specs.declared.raw.RawEdge.{RawEdge}
 use Rattle.c_calls.specs.Links.{IsMarkOf, IsRawEdge}
-use Rattle.c_calls.specs.Queries.{IsEdgeAt, IsMark}
+use Rattle.c_calls.specs.Queries.{IsEdgeEntry, IsMark}
 
 -- a pair that is joined is so by each name of its ends
 joins_same : (pairs : List (ℕ × ℕ)) (a b i j : ℕ) → IsSamePair a b i j → Joins pairs a b
@@ -87,7 +87,7 @@ module _ {V D U F : Type 0} (place : V → Point) (marks : U → Bool) (constrai
   -- an edge by its index, as C is told of it
   edge_read : (k h : ℕ) (e : RawEdge) → k < length s.undirected → h ≡ 2 * k
       → IsRawEdge constraints s h e.from e.to e.constrained
-      → IsEdgeAt (triangulation_of place s) (constraints_by constraints s) k e
+      → IsEdgeEntry (triangulation_of place s) (constraints_by constraints s) k e
   edge_read k h e w double raw =
       let fit = kept.fits.undirected_fit in
       let from : e.from ≡ origin s.mesh (2 * k) = raw.starts ∙ ap (origin s.mesh) double in
@@ -105,6 +105,6 @@ module _ {V D U F : Type 0} (place : V → Point) (marks : U → Bool) (constrai
   -- the same, where the edge is read from a mesh in this state
   pub edge_at : (t : State V D U F) (k h : ℕ) (e : RawEdge) → t ≡ s → k < length s.undirected
       → h ≡ 2 * k → IsRawEdge constraints t h e.from e.to e.constrained
-      → IsEdgeAt (triangulation_of place s) (constraints_by constraints s) k e
+      → IsEdgeEntry (triangulation_of place s) (constraints_by constraints s) k e
   edge_at t k h e same w double raw = edge_read k h e w double
       (subst (λ u. IsRawEdge constraints u h e.from e.to e.constrained) same raw)

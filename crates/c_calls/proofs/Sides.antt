@@ -20,7 +20,7 @@ use Rattle.delaunay_legalization.proofs.MeshParts.{outer_bare}
 use Rattle.c_calls.specs.declared.raw.RawFace.{RawFace}
 use Rattle.c_calls.specs.declared.statuses.TheConstants.{NONE}
 use Rattle.c_calls.specs.Links.{IsRawFace, IsRawSide}
-use Rattle.c_calls.specs.Queries.{HasWayRound, IsBeyond, IsFaceAt, IsSide, face_number}
+use Rattle.c_calls.specs.Queries.{HasWayRound, IsBeyond, IsFaceEntry, SideEntry, face_number}
 use Rattle.c_calls.proofs.Marks.{mark_joins}
 
 -- ---- the numbers of faces
@@ -107,11 +107,11 @@ module _ {V D U F : Type 0} (place : V → Point) (marks : U → Bool) (constrai
   side_read : (h from beyond mark i j : ℕ) → h < length s.mesh.half_edges
       → IsRawSide constraints s h from beyond mark → i ≡ origin s.mesh h
       → j ≡ origin s.mesh (rev h)
-      → IsSide (triangulation_of place s) (constraints_by constraints s) i j beyond mark
+      → SideEntry (triangulation_of place s) (constraints_by constraints s) i j beyond mark
   side_read h from beyond mark i j w raw starts ends =
-      subst (λ (a : ℕ). IsSide (triangulation_of place s) (constraints_by constraints s) a j
+      subst (λ (a : ℕ). SideEntry (triangulation_of place s) (constraints_by constraints s) a j
       beyond mark) (sym starts)
-      (subst (λ (b : ℕ). IsSide (triangulation_of place s) (constraints_by constraints s)
+      (subst (λ (b : ℕ). SideEntry (triangulation_of place s) (constraints_by constraints s)
       (origin s.mesh h) b beyond mark) (sym ends) (record {
         neighbor = subst (λ (n : ℕ). IsBeyond (triangulation_of place s) (origin s.mesh h)
             (origin s.mesh (rev h)) n) (sym raw.right) (is_beyond place s kept h w);
@@ -121,7 +121,7 @@ module _ {V D U F : Type 0} (place : V → Point) (marks : U → Bool) (constrai
   -- a face by its index, as C is told of it
   face_told : (k : ℕ) (f : RawFace) → k < length s.faces
       → IsRawFace constraints s (face_edge s.mesh (k + 1)) f
-      → IsFaceAt (triangulation_of place s) (constraints_by constraints s) k f
+      → IsFaceEntry (triangulation_of place s) (constraints_by constraints s) k f
   face_told k f w raw =
       let m = s.mesh in
       let e : ℕ = face_edge m (k + 1) in
@@ -153,7 +153,7 @@ module _ {V D U F : Type 0} (place : V → Point) (marks : U → Bool) (constrai
   -- the same, where the face is read from a mesh in this state
   pub face_at : (t : State V D U F) (k index : ℕ) (f : RawFace) → t ≡ s → index ≡ k + 1
       → k < length s.faces → IsRawFace constraints t (face_edge t.mesh index) f
-      → IsFaceAt (triangulation_of place s) (constraints_by constraints s) k f
+      → IsFaceEntry (triangulation_of place s) (constraints_by constraints s) k f
   face_at t k index f same is w raw = face_told k f w
       (subst (λ (n : ℕ). IsRawFace constraints s (face_edge s.mesh n) f) is
       (subst (λ u. IsRawFace constraints u (face_edge u.mesh index) f) same raw))

@@ -14,7 +14,7 @@ use Rattle.c_calls.specs.Answers.{OpensAt}
 use Rattle.c_calls.specs.Kept.{CountsKept, kept_drawing, kept_links, kept_state, kept_vertices}
 use Rattle.c_calls.specs.Queries.{FindsEdgesInCircle, FindsEdgesInRectangle, FindsKeptNearest}
 use Rattle.c_calls.specs.Queries.{FindsLine, FindsVerticesInCircle, FindsVerticesInRectangle}
-use Rattle.c_calls.specs.Queries.{IsKeptPlace, ListsEdges, ListsFaces, ListsNumbers}
+use Rattle.c_calls.specs.Queries.{IsKeptPlace, ListsRawEdges, ListsRawFaces, ListsNumbers}
 use Rattle.c_calls.specs.Queries.{ListsPositions}
 use Rattle.c_calls.specs.Written.{Answering}
 
@@ -49,11 +49,11 @@ TellsNumbers kept status was told old new = AsksOpen ((new ≡ old) × (told ≡
 
 abbrev pub TellsEdges : Option KeptPoints → ℕ → ℕ → ℕ → List RawEdge → List RawEdge → Type 0
 TellsEdges kept status was told old new = AsksOpen ((new ≡ old) × (told ≡ was))
-    (λ k. ListsEdges (kept_drawing k) (kept_state k).constraints status told old new) status kept
+    (λ k. ListsRawEdges (kept_drawing k) (kept_state k).constraints status told old new) status kept
 
 abbrev pub TellsFaces : Option KeptPoints → ℕ → ℕ → ℕ → List RawFace → List RawFace → Type 0
 TellsFaces kept status was told old new = AsksOpen ((new ≡ old) × (told ≡ was))
-    (λ k. ListsFaces (kept_drawing k) (kept_state k).constraints status told old new) status kept
+    (λ k. ListsRawFaces (kept_drawing k) (kept_state k).constraints status told old new) status kept
 
 -- ---- answers to many queries
 abbrev pub TellsPlaces : Option KeptPoints → List RawPoint → ℕ → List RawPlace → List RawPlace

@@ -107,16 +107,16 @@ IsMark constraints i j mark =
     ((mark ≡ 1) × Joins constraints i j) ⊎ ((mark ≡ 0) × ¬ Joins constraints i j)
 
 -- the edge at a place: its ends, and its mark
-pub record IsEdgeAt (t : Triangulation) (constraints : List (ℕ × ℕ)) (k : ℕ)
+pub record IsEdgeEntry (t : Triangulation) (constraints : List (ℕ × ℕ)) (k : ℕ)
     (e : RawEdge) : Type 0 where
   pub ends : IsElementAt t.edges k (e.from, e.to)
   pub marked : IsMark constraints e.from e.to e.constrained
 
 -- each edge is listed
-abbrev pub ListsEdges : Triangulation → List (ℕ × ℕ) → ℕ → ℕ → List RawEdge → List RawEdge
+abbrev pub ListsRawEdges : Triangulation → List (ℕ × ℕ) → ℕ → ℕ → List RawEdge → List RawEdge
     → Type 0
-ListsEdges t constraints status told old new =
-    Listing (IsEdgeAt t constraints) (length t.edges) status told old new
+ListsRawEdges t constraints status told old new =
+    Listing (IsEdgeEntry t constraints) (length t.edges) status told old new
 
 -- the way from i to j is round the face
 abbrev pub HasWayRound : Face → ℕ → ℕ → Type 0
@@ -130,24 +130,24 @@ IsBeyond t i j n = ((n ≡ NONE) × ¬ HasFace t j i)
     ⊎ IsSomeAnd (slice_get t.faces n) (λ f. HasWayRound f j i)
 
 -- the side of a face from i to j: the face beyond it, and its mark
-pub record IsSide (t : Triangulation) (constraints : List (ℕ × ℕ)) (i j beyond mark : ℕ) : Type 0
+pub record SideEntry (t : Triangulation) (constraints : List (ℕ × ℕ)) (i j beyond mark : ℕ) : Type 0
   where
     pub neighbor : IsBeyond t i j beyond
     pub marked : IsMark constraints i j mark
 
 -- the face at a place: its corners, and the side opposite each
-pub record IsFaceAt (t : Triangulation) (constraints : List (ℕ × ℕ)) (k : ℕ)
+pub record IsFaceEntry (t : Triangulation) (constraints : List (ℕ × ℕ)) (k : ℕ)
     (f : RawFace) : Type 0 where
   pub corners : IsElementAt t.faces k (face f.corner_0 f.corner_1 f.corner_2)
-  pub side_0 : IsSide t constraints f.corner_1 f.corner_2 f.neighbor_0 f.constrained_0
-  pub side_1 : IsSide t constraints f.corner_2 f.corner_0 f.neighbor_1 f.constrained_1
-  pub side_2 : IsSide t constraints f.corner_0 f.corner_1 f.neighbor_2 f.constrained_2
+  pub side_0 : SideEntry t constraints f.corner_1 f.corner_2 f.neighbor_0 f.constrained_0
+  pub side_1 : SideEntry t constraints f.corner_2 f.corner_0 f.neighbor_1 f.constrained_1
+  pub side_2 : SideEntry t constraints f.corner_0 f.corner_1 f.neighbor_2 f.constrained_2
 
 -- each face is listed
-abbrev pub ListsFaces : Triangulation → List (ℕ × ℕ) → ℕ → ℕ → List RawFace → List RawFace
+abbrev pub ListsRawFaces : Triangulation → List (ℕ × ℕ) → ℕ → ℕ → List RawFace → List RawFace
     → Type 0
-ListsFaces t constraints status told old new =
-    Listing (IsFaceAt t constraints) (length t.faces) status told old new
+ListsRawFaces t constraints status told old new =
+    Listing (IsFaceEntry t constraints) (length t.faces) status told old new
 
 -- ---- what is in a shape
 -- a circle may be asked about

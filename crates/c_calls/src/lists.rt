@@ -5,7 +5,7 @@ ghost use Rattle.delaunay_legalization.specs.Constraints.{constraints_by};
 ghost use Rattle.delaunay_legalization.specs.State.{state_of, triangulation_of};
 ghost use Rattle.c_calls.specs.Kept.{kept_drawing, kept_state, kept_vertices};
 ghost use Rattle.c_calls.specs.Links.{IsMarkOf, IsRawEdge, IsRawFace, IsRawSide};
-ghost use Rattle.c_calls.specs.Queries.{IsElementAt, IsEdgeAt, IsFaceAt, ListsEdges, ListsFaces};
+ghost use Rattle.c_calls.specs.Queries.{IsElementAt, IsEdgeEntry, IsFaceEntry, ListsRawEdges, ListsRawFaces};
 ghost use Rattle.c_calls.specs.Queries.{ListsNumbers, ListsPositions, face_number, number_of};
 ghost use Rattle.c_calls.specs.Queries.{raw_position};
 
@@ -85,7 +85,7 @@ fn raw_face<M: ConstraintMarker<UE>, V, DE, UE, F>(face: FaceHandle<'_, V, DE, U
 // The face with this index, for C.
 fn face_at<T: Triangulation>(points: &T, index: u32) -> RawFace
     requires { index < length (T.state points.now).faces }
-    ensures { IsFaceAt (triangulation_of T.Vertex.place (T.state points.now))
+    ensures { IsFaceEntry (triangulation_of T.Vertex.place (T.state points.now))
         (constraints_by T.Constraints.constraints (T.state points.now)) index result }
 {
     points.recall_invariant();
@@ -94,7 +94,7 @@ fn face_at<T: Triangulation>(points: &T, index: u32) -> RawFace
 
 /// Writes the faces, if there is room.
 pub fn write_faces<T: Triangulation>(points: &T, faces: &mut [RawFace], length: &mut usize) -> u32
-    ensures { ListsFaces (triangulation_of T.Vertex.place (T.state points.now))
+    ensures { ListsRawFaces (triangulation_of T.Vertex.place (T.state points.now))
         (constraints_by T.Constraints.constraints (T.state points.now)) result length.new faces.old
         faces.new }
 {
@@ -126,7 +126,7 @@ pub fn raw_edge<M: ConstraintMarker<UE>, V, DE, UE, F>(
 // The edge with this index, for C.
 fn edge_at<T: Triangulation>(points: &T, index: u32) -> RawEdge
     requires { index < length (T.state points.now).undirected }
-    ensures { IsEdgeAt (triangulation_of T.Vertex.place (T.state points.now))
+    ensures { IsEdgeEntry (triangulation_of T.Vertex.place (T.state points.now))
         (constraints_by T.Constraints.constraints (T.state points.now)) index result }
 {
     points.recall_invariant();
@@ -136,7 +136,7 @@ fn edge_at<T: Triangulation>(points: &T, index: u32) -> RawEdge
 
 // Writes the edges, if there is room.
 fn write_edges<T: Triangulation>(points: &T, edges: &mut [RawEdge], length: &mut usize) -> u32
-    ensures { ListsEdges (triangulation_of T.Vertex.place (T.state points.now))
+    ensures { ListsRawEdges (triangulation_of T.Vertex.place (T.state points.now))
         (constraints_by T.Constraints.constraints (T.state points.now)) result length.new edges.old
         edges.new }
 {
@@ -231,7 +231,7 @@ impl KeptPoints {
 
     /// Writes the edges, if there is room.
     pub fn write_edges(&self, edges: &mut [RawEdge], length: &mut usize) -> u32
-        ensures { ListsEdges (kept_drawing self.now) (kept_state self.now).constraints result
+        ensures { ListsRawEdges (kept_drawing self.now) (kept_state self.now).constraints result
             length.new edges.old edges.new }
     {
         match self {
@@ -242,7 +242,7 @@ impl KeptPoints {
 
     /// Writes the faces, if there is room.
     pub fn write_faces(&self, faces: &mut [RawFace], length: &mut usize) -> u32
-        ensures { ListsFaces (kept_drawing self.now) (kept_state self.now).constraints result
+        ensures { ListsRawFaces (kept_drawing self.now) (kept_state self.now).constraints result
             length.new faces.old faces.new }
     {
         match self {

@@ -11,7 +11,7 @@ use Rattle.c_calls.specs.declared.raw.RawFace.{RawFace}
 use Rattle.c_calls.specs.declared.raw.RawPoint.{RawPoint}
 use Rattle.c_calls.specs.declared.raw.RawSegment.{RawSegment}
 use Rattle.c_calls.specs.declared.statuses.TheConstants.{WELL, TOO_SHORT}
-use Rattle.c_calls.specs.Queries.{IsFaceAt, ListsFaces}
+use Rattle.c_calls.specs.Queries.{IsFaceEntry, ListsRawFaces}
 use Rattle.c_calls.specs.Written.{Answered, listed, too_long}
 use Rattle.c_triangulate.specs.Whole.{AllTaken, DrawsFaces, DrawsFirst, IsNamedFaceAt}
 use Rattle.c_triangulate.specs.Whole.{IsNamedOf, ListsNamedFaces, drawing_of, faces_drawn}
@@ -56,7 +56,7 @@ one_more_named names i old now g within so_far read =
 
 -- all have them, of the faces that were listed
 all_named : (m : DrawnMesh) (count : ℕ) (before mid after : List RawFace)
-    → Answered (IsFaceAt (drawing_of m) (constraints_of m.site)) count before mid
+    → Answered (IsFaceEntry (drawing_of m) (constraints_of m.site)) count before mid
     → Answered (IsNamedOf m.vertices.items mid) count mid after
     → Answered (IsNamedFaceAt m) count before after
 all_named m count before mid after faces named = record {
@@ -73,12 +73,12 @@ all_named m count before mid after faces named = record {
 }
 
 module _ (m : DrawnMesh) (status told : ℕ) (old mid : List RawFace)
-    (lists : ListsFaces (drawing_of m) (constraints_of m.site) status told old mid) where
+    (lists : ListsRawFaces (drawing_of m) (constraints_of m.site) status told old mid) where
   -- there was no room
   pub unlisted_named : status ≢ WELL → ListsNamedFaces m status told old mid
   unlisted_named ill = go lists
     where
-      go : ListsFaces (drawing_of m) (constraints_of m.site) status told old mid
+      go : ListsRawFaces (drawing_of m) (constraints_of m.site) status told old mid
           → ListsNamedFaces m status told old mid
       go (listed is t answers) = absurd (ill is)
       go (too_long is t less same) = too_long is t less same
@@ -88,10 +88,10 @@ module _ (m : DrawnMesh) (status told : ℕ) (old mid : List RawFace)
     pub listed_within : told ≤ length mid
     listed_within = go lists
       where
-        go : ListsFaces (drawing_of m) (constraints_of m.site) status told old mid
+        go : ListsRawFaces (drawing_of m) (constraints_of m.site) status told old mid
             → told ≤ length mid
         go (listed is t answers) = subst (λ (n : ℕ). n ≤ length mid) (sym t)
-            (answered_within (IsFaceAt (drawing_of m) (constraints_of m.site)) _ old mid answers)
+            (answered_within (IsFaceEntry (drawing_of m) (constraints_of m.site)) _ old mid answers)
         go (too_long is t less same) =
             let differ : TOO_SHORT ≡ WELL = sym is ∙ well in absurd (omega (arith, differ))
 
@@ -101,7 +101,7 @@ module _ (m : DrawnMesh) (status told : ℕ) (old mid : List RawFace)
         → ListsNamedFaces m WELL told old new
     listed_named new named = go lists
       where
-        go : ListsFaces (drawing_of m) (constraints_of m.site) status told old mid
+        go : ListsRawFaces (drawing_of m) (constraints_of m.site) status told old mid
             → ListsNamedFaces m WELL told old new
         go (listed is t answers) = listed refl t (all_named m _ old mid new answers
             (subst (λ (n : ℕ). Answered (IsNamedOf m.vertices.items mid) n mid new) t named))

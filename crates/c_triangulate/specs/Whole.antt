@@ -15,7 +15,7 @@ use Rattle.c_calls.specs.declared.raw.RawPoint.{RawPoint}
 use Rattle.c_calls.specs.declared.raw.RawSegment.{RawSegment}
 use Rattle.c_calls.specs.declared.statuses.TheConstants.{CROSSING, NO_SUCH_POINT, OUT_OF_INDEXES}
 use Rattle.c_calls.specs.declared.statuses.TheConstants.{OUT_OF_MEMORY, TOO_LARGE}
-use Rattle.c_calls.specs.Queries.{IsFaceAt}
+use Rattle.c_calls.specs.Queries.{IsFaceEntry}
 use Rattle.c_calls.specs.Written.{IsRawInRange, Listing}
 
 -- ---- the first of a list that is not so
@@ -64,7 +64,7 @@ IsNamedOf names faces k f = IsSomeAnd (slice_get faces k) (λ g. f ≡ named_fac
 -- the face at a place, with its corners by the first points that are there
 pub record IsNamedFaceAt (m : DrawnMesh) (k : ℕ) (f : RawFace) : Type 0 where
   pub face : RawFace
-  pub is_face : IsFaceAt (drawing_of m) (constraints_of m.site) k face
+  pub is_face : IsFaceEntry (drawing_of m) (constraints_of m.site) k face
   pub is_named : f ≡ named_face m.vertices.items face
 
 -- each face is listed

@@ -10,7 +10,7 @@ use Rattle.std.proofs.lemmas.Bool.{cases_lt}
 use Rattle.std.proofs.lemmas.Bool.Decides.{nat_tests}
 use Rattle.std.proofs.lemmas.Grind.{pow_more}
 use Rattle.std.proofs.lemmas.Nat.{pow-add}
-use Rattle.decimal_numbers.specs.Grammar.{Parts}
+use Rattle.decimal_numbers.specs.Grammar.{Spelling}
 use Rattle.std.proofs.Math.Nat.{pow-le-pow_right, mul-le-mul_left}
 use Rattle.decimal_numbers.specs.Value.{IsMagnitude, IsRounded}
 
@@ -40,7 +40,7 @@ digits_append n (x ∷ xs) ys = digits_append (n * 10 + digit_value x) xs ys
 same_lowered : (x y k : ℕ) → x ≡ y → x * 10 ^ k ≡ y * 10 ^ 0 * 10 ^ k
 same_lowered x y k e = rw e (omega arith)
 
-pub lowered_magnitude : (p : Parts) (m d : ℕ) → p.lowers ≡ true
+pub lowered_magnitude : (p : Spelling) (m d : ℕ) → p.lowers ≡ true
     → m ≡ digits_value_after 10 (digits_value_after 10 0 p.whole) p.fraction
     → d ≡ length p.fraction + digits_value 10 p.power → IsMagnitude p m d
 lowered_magnitude p m d lowers e digits =
@@ -51,7 +51,7 @@ lowered_magnitude p m d lowers e digits =
 same_raised : (x y k n : ℕ) → x ≡ y → x * 10 ^ n * 10 ^ (k + 0) ≡ y * 10 ^ n * 10 ^ k
 same_raised x y k n e = rw (e, add-zero) refl
 
-pub raised_magnitude : (p : Parts) (n m d : ℕ) → p.lowers ≡ false
+pub raised_magnitude : (p : Spelling) (n m d : ℕ) → p.lowers ≡ false
     → n ≡ digits_value_after 10 (digits_value_after 10 0 p.whole) p.fraction
     → m ≡ n * 10 ^ digits_value 10 p.power → d ≡ length p.fraction → IsMagnitude p m d
 raised_magnitude p n m d lowers e raised digits =

@@ -9,9 +9,9 @@ use Rattle.std.specs.Char.{digit_value, is_ascii_digit}
 use Rattle.std.specs.Str.Parse.{AllDigits}
 use Rattle.std.proofs.lemmas.Bool.{ne_eqb}
 use Rattle.std.proofs.lemmas.Bool.Decides.{nat_tests}
-use Rattle.decimal_numbers.specs.Grammar.{Parts, IsSign, IsPoint, IsPower, Spells, SpellsInteger}
+use Rattle.decimal_numbers.specs.Grammar.{Spelling, IsSign, IsPoint, IsPower, SpellsNumber, SpellsInteger}
 use Rattle.decimal_numbers.specs.Reading.{IsNoInteger, IsNoPower}
-use Rattle.decimal_numbers.specs.Reading.{NoDigitFirst, NoSignFirst, NoPointFirst, Signs, TakesPoint}
+use Rattle.decimal_numbers.specs.Reading.{NoDigitFirst, NoSignFirst, NoPointFirst, TakenSign, TakesPoint}
 
 -- a digit's byte has a value below ten, and no other byte does
 pub digit_is_low : (c : ℕ) → is_ascii_digit c ≡ true → digit_value c < 10
@@ -35,7 +35,7 @@ digits_end (x ∷ a) b (y ∷ c) d e all all' first first' =
 
 -- a sign and what begins with none
 pub sign_ends : (text : List ℕ) (negative : Bool) (rest sign : List ℕ) (negative' : Bool)
-    (rest' : List ℕ) → Signs text negative rest → IsSign sign negative' → text ≡ sign ++ rest'
+    (rest' : List ℕ) → TakenSign text negative rest → IsSign sign negative' → text ≡ sign ++ rest'
     → NoSignFirst rest' → rest ≡ rest'
 sign_ends text n r s n' r' (inl (e, _)) (inl (es, _)) t first =
     let at : 45 ∷ r ≡ r' = sym e ∙ t ∙ ap (λ x. x ++ r') es in
@@ -127,8 +127,9 @@ unsigned_first [] point f t l w all (inr ep) some =
 
 -- a text that was taken apart has its parts in no other way
 pub parts_are : (text : List ℕ) (negative : Bool) (unsigned whole behind fraction rest : List ℕ)
-    (p : Parts) → Signs text negative unsigned → unsigned ≡ whole ++ behind → AllDigits 10 whole
-    → NoDigitFirst behind → TakesPoint behind fraction rest → (s : Spells text p)
+    (p : Spelling) → TakenSign text negative unsigned → unsigned ≡ whole ++ behind
+    → AllDigits 10 whole
+    → NoDigitFirst behind → TakesPoint behind fraction rest → (s : SpellsNumber text p)
     → (whole ≡ p.whole) × (fraction ≡ p.fraction) × (rest ≡ s.power)
 parts_are text n u whole behind f r p signs split all first point s =
     let e = sign_ends text n u s.sign p.negative (p.whole ++ (s.point ++ s.power)) signs s.is_sign
@@ -142,7 +143,7 @@ parts_are text n u whole behind f r p signs split all first point s =
 
 -- the digits of a whole number that was taken apart are no others
 pub integer_is : (text : List ℕ) (negative : Bool) (unsigned digits behind : List ℕ)
-    (negative' : Bool) (digits' : List ℕ) → Signs text negative unsigned
+    (negative' : Bool) (digits' : List ℕ) → TakenSign text negative unsigned
     → unsigned ≡ digits ++ behind → AllDigits 10 digits → NoDigitFirst behind
     → SpellsInteger text negative' digits'
     → (digits ≡ digits') × (behind ≡ []) × (0 < length digits')
@@ -158,7 +159,7 @@ integer_is text n u d b n' w signs split all first s =
     no_sign (x ∷ xs) all some = digit_no_sign x all.0
 
 -- a sign that was taken off is one
-pub sign_of : (text : List ℕ) (negative : Bool) (rest : List ℕ) → Signs text negative rest
+pub sign_of : (text : List ℕ) (negative : Bool) (rest : List ℕ) → TakenSign text negative rest
     → (sign : List ℕ) × IsSign sign negative × (text ≡ sign ++ rest)
 sign_of text n r (inl (e, is)) = (45 ∷ [], inr (inr (refl, is)), e)
 sign_of text n r (inr (inl (e, is))) = (43 ∷ [], inr (inl (refl, is)), e)
@@ -166,7 +167,7 @@ sign_of text n r (inr (inr (e, is, clear))) = ([], inl (refl, is), e)
 
 -- a whole number that was taken apart
 pub integer_of : (text : List ℕ) (negative : Bool) (unsigned digits behind : List ℕ)
-    → Signs text negative unsigned → unsigned ≡ digits ++ behind → behind ≡ []
+    → TakenSign text negative unsigned → unsigned ≡ digits ++ behind → behind ≡ []
     → AllDigits 10 digits → 0 < length digits → SpellsInteger text negative digits
 integer_of text n u digits b signs split ended all some =
     let s = sign_of text n u signs in
@@ -187,10 +188,10 @@ point_of b f r (inr (e, none, first)) =
     ([], inl (refl, none), e, subst (λ x. AllDigits 10 x) (sym none) tt)
 
 -- a number that was taken apart
-pub number_of : (text : List ℕ) (unsigned behind rest : List ℕ) (p : Parts)
-    → Signs text p.negative unsigned → unsigned ≡ p.whole ++ behind → AllDigits 10 p.whole
+pub number_of : (text : List ℕ) (unsigned behind rest : List ℕ) (p : Spelling)
+    → TakenSign text p.negative unsigned → unsigned ≡ p.whole ++ behind → AllDigits 10 p.whole
     → TakesPoint behind p.fraction rest → 0 < length p.whole + length p.fraction
-    → IsPower rest p.lowers p.power → Spells text p
+    → IsPower rest p.lowers p.power → SpellsNumber text p
 number_of text u b r p signs split all point some power =
     let s = sign_of text p.negative u signs in
     let q = point_of b p.fraction r point in

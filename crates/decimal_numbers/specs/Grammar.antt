@@ -6,7 +6,7 @@ use Rattle.std.specs.Str.Parse.{AllDigits}
 
 -- what a number is written with: whether with a minus, the digits before the point and behind it,
 -- and the power of ten behind an e, which is none where that has no digit
-pub record Parts : Type 0 where
+pub record Spelling : Type 0 where
   pub negative : Bool
   pub whole : List ℕ
   pub fraction : List ℕ
@@ -44,7 +44,7 @@ IsPower text lowers power = ((text ≡ []) × (lowers ≡ false) × (power ≡ [
     ⊎ SpellsPower text lowers power
 
 -- the text is the number with these parts
-pub record Spells (text : List ℕ) (p : Parts) : Type 0 where
+pub record SpellsNumber (text : List ℕ) (p : Spelling) : Type 0 where
   pub sign : List ℕ
   pub point : List ℕ
   pub power : List ℕ
@@ -57,5 +57,5 @@ pub record Spells (text : List ℕ) (p : Parts) : Type 0 where
   pub some : 0 < length p.whole + length p.fraction
 
 -- the text is no number
-abbrev pub SpellsNone : List ℕ → Type 0
-SpellsNone text = (p : Parts) → Spells text p → ⊥
+abbrev pub SpellsNoNumber : List ℕ → Type 0
+SpellsNoNumber text = (p : Spelling) → SpellsNumber text p → ⊥

@@ -4,7 +4,7 @@ use Rattle.std.specs.Prelude.{ℕ, List, Bool, true, false}
 use Rattle.std.specs.Char.{digit_value}
 use Rattle.std.specs.Str.Parse.{AllDigits}
 use Rattle.decimal_numbers.specs.declared.parts.Written.{Written}
-use Rattle.decimal_numbers.specs.Grammar.{Parts, SpellsInteger, IsPower}
+use Rattle.decimal_numbers.specs.Grammar.{Spelling, SpellsInteger, IsPower}
 
 -- the text begins with no digit
 abbrev pub NoDigitFirst : List ℕ → Type 0
@@ -22,8 +22,8 @@ NoPointFirst [] = ⊤
 NoPointFirst (c ∷ cs) = c ≢ 46
 
 -- a sign is taken off
-abbrev pub Signs : List ℕ → Bool → List ℕ → Type 0
-Signs text negative rest = ((text ≡ 45 ∷ rest) × (negative ≡ true))
+abbrev pub TakenSign : List ℕ → Bool → List ℕ → Type 0
+TakenSign text negative rest = ((text ≡ 45 ∷ rest) × (negative ≡ true))
     ⊎ (((text ≡ 43 ∷ rest) × (negative ≡ false))
     ⊎ ((text ≡ rest) × (negative ≡ false) × NoSignFirst rest))
 
@@ -41,7 +41,7 @@ abbrev pub IsNoPower : List ℕ → Type 0
 IsNoPower text = (lowers : Bool) (power : List ℕ) → IsPower text lowers power → ⊥
 
 -- the parts that a number is written with
-abbrev pub parts_of : Written → Parts
+abbrev pub parts_of : Written → Spelling
 parts_of w = record {
   negative = w.negative;
   whole = w.whole.now;

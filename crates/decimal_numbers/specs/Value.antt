@@ -3,25 +3,25 @@ use Rattle.std.specs.Prelude.{◌≡◌, ◌≢◌, ◌+◌, ◌-◌, ◌*◌, �
 use Rattle.std.specs.Prelude.{◌≤ℤ◌}
 use Rattle.std.specs.Prelude.{ℕ, ℤ, pos, neg_ℤ, List, Bool, length, if◌then◌else◌}
 use Rattle.std.specs.Str.Parse.{digits_value}
-use Rattle.decimal_numbers.specs.Grammar.{Parts, Spells}
+use Rattle.decimal_numbers.specs.Grammar.{Spelling, SpellsNumber}
 
 -- by which power of ten the digits are raised, or lowered
-abbrev pub raised_by : Parts → ℕ
+abbrev pub raised_by : Spelling → ℕ
 raised_by p = if p.lowers then 0 else digits_value 10 p.power
 
-abbrev pub lowered_by : Parts → ℕ
+abbrev pub lowered_by : Spelling → ℕ
 lowered_by p = length p.fraction + (if p.lowers then digits_value 10 p.power else 0)
 
 -- magnitude / 10 ^ digits is all digits, raised and lowered by their powers
-abbrev pub IsMagnitude : Parts → ℕ → ℕ → Type 0
+abbrev pub IsMagnitude : Spelling → ℕ → ℕ → Type 0
 IsMagnitude p magnitude digits =
     magnitude * 10 ^ lowered_by p
     ≡ digits_value 10 (p.whole ++ p.fraction) * 10 ^ raised_by p * 10 ^ digits
 
 -- the text is the number magnitude / 10 ^ digits, with this sign
-pub record Writes (text : List ℕ) (negative : Bool) (magnitude digits : ℕ) : Type 0 where
-  pub parts : Parts
-  pub spelled : Spells text parts
+pub record SpellsValue (text : List ℕ) (negative : Bool) (magnitude digits : ℕ) : Type 0 where
+  pub parts : Spelling
+  pub spelled : SpellsNumber text parts
   pub sign : parts.negative ≡ negative
   pub value : IsMagnitude parts magnitude digits
 

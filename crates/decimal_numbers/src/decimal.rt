@@ -2,9 +2,9 @@
 ghost use Rattle.std.specs.Prelude.{◌≡◌, ◌+◌, ◌*◌, ◌^◌, ◌<◌, ◌≤◌, ◌++◌, ◌↔◌, length};
 ghost use Rattle.std.specs.Prelude.{IfOk, IfSome, IfNone, IsErrOf, ◌%◌};
 ghost use Rattle.std.specs.Str.Parse.{AllDigits, digits_value, digits_value_after};
-ghost use Rattle.decimal_numbers.specs.Grammar.{SpellsNone};
+ghost use Rattle.decimal_numbers.specs.Grammar.{SpellsNoNumber};
 ghost use Rattle.decimal_numbers.specs.Reading.{parts_of};
-ghost use Rattle.decimal_numbers.specs.Value.{IsMagnitude, IsShortest, Writes};
+ghost use Rattle.decimal_numbers.specs.Value.{IsMagnitude, IsShortest, SpellsValue};
 ghost use Rattle.decimal_numbers.specs.declared.decimal.DecimalError.TheVariants.{Malformed};
 
 use crate::parts::{Written, written_of};
@@ -94,8 +94,8 @@ impl Decimal {
     /// of which only a digit has to be there. It gives `Malformed` where the text is none, and
     /// `TooLong` where its digits pass 2^64 or one of its powers of ten is above 400.
     pub fn parse(text: &[u8]) -> Result<Decimal, DecimalError>
-        ensures ok { IfOk result (λ d. Writes text.now d.negative d.magnitude d.digits) }
-        ensures malformed { IsErrOf result Malformed ↔ SpellsNone text.now }
+        ensures ok { IfOk result (λ d. SpellsValue text.now d.negative d.magnitude d.digits) }
+        ensures malformed { IsErrOf result Malformed ↔ SpellsNoNumber text.now }
     {
         let Some(written) = written_of(text) else {
             return Err(DecimalError::Malformed);

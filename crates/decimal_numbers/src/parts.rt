@@ -1,8 +1,8 @@
 //! The parts of a number as it is written.
 ghost use Rattle.std.specs.Prelude.{◌≡◌, ◌++◌, IfSome, IfNone};
 ghost use Rattle.std.specs.Str.Parse.{AllDigits};
-ghost use Rattle.decimal_numbers.specs.Grammar.{Spells, SpellsNone, SpellsInteger, IsPower};
-ghost use Rattle.decimal_numbers.specs.Reading.{NoDigitFirst, Signs, TakesPoint, IsNoInteger, IsNoPower};
+ghost use Rattle.decimal_numbers.specs.Grammar.{SpellsNumber, SpellsNoNumber, SpellsInteger, IsPower};
+ghost use Rattle.decimal_numbers.specs.Reading.{NoDigitFirst, TakenSign, TakesPoint, IsNoInteger, IsNoPower};
 ghost use Rattle.decimal_numbers.specs.Reading.{parts_of};
 
 /// A number as it is written: digits before and behind the point, and those of the power of ten.
@@ -31,7 +31,7 @@ fn split_digits(text: &[u8]) -> (&[u8], &[u8])
 
 /// Whether a text begins with a minus, and what stands behind its sign.
 fn split_sign(text: &[u8]) -> (bool, &[u8])
-    ensures { Signs text.now result.0 result.1.now }
+    ensures { TakenSign text.now result.0 result.1.now }
 {
     match text {
         [b'-', rest @ ..] => (true, rest),
@@ -80,8 +80,8 @@ fn power_of(text: &[u8]) -> Option<(bool, &[u8])>
 
 /// The parts of a number, if the text is one.
 pub(crate) fn written_of(text: &[u8]) -> Option<Written<'_>>
-    ensures found { IfSome result (λ w. Spells text.now (parts_of w)) }
-    ensures none { IfNone result (SpellsNone text.now) }
+    ensures found { IfSome result (λ w. SpellsNumber text.now (parts_of w)) }
+    ensures none { IfNone result (SpellsNoNumber text.now) }
 {
     let (negative, unsigned) = split_sign(text);
     let (whole, behind) = split_digits(unsigned);

@@ -10,7 +10,7 @@ use Rattle.plane_edits.specs.EmptyRound.{IsEmptyRound}
 use Rattle.mesh_embedding.specs.Drawn.{faces_of}
 use Rattle.delaunay_legalization.specs.Constraints.{marked_edges, constraints_by}
 use Rattle.delaunay_legalization.specs.State.{State, state_of, triangulation_of}
-use Rattle.delaunay_insertion.specs.Growth.{TakesVertex}
+use Rattle.delaunay_insertion.specs.Growth.{GainsVertex}
 use Rattle.delaunay_insertion.proofs.EmptyRound.{grown_is_empty}
 use Rattle.delaunay_edit.specs.Counting.{IsCounted}
 use Rattle.delaunay_edit.proofs.Delaunay.{marked_constrained_delaunay}
@@ -27,7 +27,7 @@ pub put_in_free : {V D U F : Type 0} (place : V → Point) (marks : U → Bool)
     (constraints : List U → List ℕ) → ((ds : List U) → constraints ds ≡ marked_edges marks ds)
     → (old : State V D U F) (ready mid : Contents V D U F) (value : V) (vertex number : ℕ)
     → IsCounted place constraints old number → state_of ready ≡ old
-    → TakesVertex place value (state_of ready) (state_of mid) vertex → number ≡ 0
+    → GainsVertex place value (state_of ready) (state_of mid) vertex → number ≡ 0
     → IsEmptyRound (map place mid.vertices) (faces_of mid.mesh) vertex
 put_in_free place marks constraints marked old ready mid value vertex number counted
     same takes none =

@@ -2,7 +2,7 @@
 ghost use Rattle.std.specs.Prelude.{◌+◌, ◌*◌, length, map, All};
 ghost use Rattle.half_edge_mesh.specs.Room.{HasRoomFor};
 ghost use Rattle.delaunay_insertion.specs.Constraints.{SplitsConstraints};
-ghost use Rattle.delaunay_insertion.specs.Growth.{CanTake, TakesVertex};
+ghost use Rattle.delaunay_insertion.specs.Growth.{CanTake, GainsVertex};
 ghost use Rattle.delaunay_edit.specs.Entry.{IsVacant};
 ghost use Rattle.delaunay_legalization.specs.State.{state_of};
 
@@ -38,7 +38,7 @@ pub(crate) fn insert_at<
         location turns }
     requires room { HasRoomFor dcel.old.room (length dcel.old.vertices + 1)
         (3 * (length dcel.old.vertices + 1)) (2 * (length dcel.old.vertices + 1)) }
-    ensures takes { TakesVertex V.place value (state_of dcel.old) (state_of dcel.new) result }
+    ensures takes { GainsVertex V.place value (state_of dcel.old) (state_of dcel.new) result }
     ensures constraints { SplitsConstraints V.place M.constraints (state_of dcel.old)
         (state_of dcel.new) value }
 {

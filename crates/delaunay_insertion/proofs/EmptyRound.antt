@@ -24,12 +24,12 @@ use Rattle.delaunay_legalization.specs.Shape.{IsTriangulated}
 use Rattle.delaunay_legalization.specs.Star.{MakesFacesAt}
 use Rattle.delaunay_legalization.specs.State.{State}
 use Rattle.plane_edits.specs.EmptyRound.{IsEmptyRound}
-use Rattle.delaunay_insertion.specs.Growth.{TakesVertex}
+use Rattle.delaunay_insertion.specs.Growth.{GainsVertex}
 use Rattle.delaunay_insertion.proofs.MadeFaces.{made_at_count}
 use Rattle.plane_edits.proofs.Legalization.NewPoint.{put_in_is_empty}
 
 module _ {V D U F : Type 0} (at : V → Point) (v : V) (old new : State V D U F) (vertex : ℕ)
-    (takes : TakesVertex at v old new vertex) where
+    (takes : GainsVertex at v old new vertex) where
   abbrev before : List Point
   before = map at old.vertices
 
@@ -67,7 +67,7 @@ module _ {V D U F : Type 0} (at : V → Point) (v : V) (old new : State V D U F)
 
 -- where all circles were empty, the circles round the new vertex are
 pub grown_is_empty : {V D U F : Type 0} (at : V → Point) (v : V) (old new : State V D U F)
-    (vertex : ℕ) → IsTriangulated at old → TakesVertex at v old new vertex
+    (vertex : ℕ) → IsTriangulated at old → GainsVertex at v old new vertex
     → ((i j k n : ℕ) → IsFaceOf (faces_of old.mesh) i j k → n < length old.vertices
     → ¬ InsideCircle (place (map at old.vertices) i) (place (map at old.vertices) j)
     (place (map at old.vertices) k) (place (map at old.vertices) n))

@@ -30,14 +30,14 @@ abbrev WasSide : List Face → List (ℕ × ℕ) → ℕ → ℕ → Type 0
 WasSide old outer j k = ((o : ℕ) × IsFaceOf old j k o) ⊎ Contains outer (j, k)
 
 -- v is a corner of i j k, and the side opposite each corner that it is was one
-record IsFaceAt (old : List Face) (outer : List (ℕ × ℕ)) (v i j k : ℕ) : Type 0 where
+record HadSides (old : List Face) (outer : List (ℕ × ℕ)) (v i j k : ℕ) : Type 0 where
   pub corner : IsOneOf v i j k
   pub at_first : i ≡ v → WasSide old outer j k
   pub at_second : j ≡ v → WasSide old outer k i
   pub at_third : k ≡ v → WasSide old outer i j
 
 module _ (old : List Face) (outer : List (ℕ × ℕ)) (v : ℕ) where
-  turned_at : (i j k : ℕ) → IsFaceAt old outer v i j k → IsFaceAt old outer v j k i
+  turned_at : (i j k : ℕ) → HadSides old outer v i j k → HadSides old outer v j k i
   turned_at i j k x = record {
     corner = turned x.corner;
     at_first = x.at_second;
@@ -51,7 +51,7 @@ module _ (old : List Face) (outer : List (ℕ × ℕ)) (v : ℕ) where
       turned (inr (inr e)) = inr (inl e)
 
   -- a face whose last corner is v, and no other
-  last_at : (i j : ℕ) → i < v → j < v → WasSide old outer i j → IsFaceAt old outer v i j v
+  last_at : (i j : ℕ) → i < v → j < v → WasSide old outer i j → HadSides old outer v i j v
   last_at i j a b s = record {
     corner = inr (inr refl);
     at_first = λ e. absurd (omega (arith, a, e));
@@ -59,24 +59,24 @@ module _ (old : List Face) (outer : List (ℕ × ℕ)) (v : ℕ) where
     at_third = λ e. s;
   }
 
-  second_at : (i j : ℕ) → i < v → j < v → WasSide old outer i j → IsFaceAt old outer v j v i
+  second_at : (i j : ℕ) → i < v → j < v → WasSide old outer i j → HadSides old outer v j v i
   second_at i j a b s = turned_at i j v (last_at i j a b s)
 
-  first_at : (i j : ℕ) → i < v → j < v → WasSide old outer i j → IsFaceAt old outer v v i j
+  first_at : (i j : ℕ) → i < v → j < v → WasSide old outer i j → HadSides old outer v v i j
   first_at i j a b s = turned_at j v i (second_at i j a b s)
 
   abbrev AreFacesAt : List Face → Type 0
   AreFacesAt [] = Unit {0}
-  AreFacesAt (f ∷ fs) = IsFaceAt old outer v f.a f.b f.c × AreFacesAt fs
+  AreFacesAt (f ∷ fs) = HadSides old outer v f.a f.b f.c × AreFacesAt fs
 
   each_at : (fs : List Face) → AreFacesAt fs → (f : Face) → Contains fs f
-      → IsFaceAt old outer v f.a f.b f.c
+      → HadSides old outer v f.a f.b f.c
   each_at [] a f c = absurd (Contains-none f c)
   each_at (g ∷ gs) a f c = go (Contains-cases g gs f c) (each_at gs a.1 f)
     where
-      go : (g ≡ f) ⊎ Contains gs f → (Contains gs f → IsFaceAt old outer v f.a f.b f.c) →
-          IsFaceAt old outer v f.a f.b f.c
-      go (inl e) r = subst (λ (h : Face). IsFaceAt old outer v h.a h.b h.c) e a.0
+      go : (g ≡ f) ⊎ Contains gs f → (Contains gs f → HadSides old outer v f.a f.b f.c) →
+          HadSides old outer v f.a f.b f.c
+      go (inl e) r = subst (λ (h : Face). HadSides old outer v h.a h.b h.c) e a.0
       go (inr k) r = r k
 
   made_by : (new gone made : List Face) → FacesChange old new gone made → AreFacesAt made
@@ -92,8 +92,8 @@ module _ (old : List Face) (outer : List (ℕ × ℕ)) (v : ℕ) where
     ];
   }
     where
-      of_made : (i j k : ℕ) → IsFaceOf made i j k → IsFaceAt old outer v i j k
-      of_made = turn_of_all made (IsFaceAt old outer v) turned_at (each_at made all)
+      of_made : (i j k : ℕ) → IsFaceOf made i j k → HadSides old outer v i j k
+      of_made = turn_of_all made (HadSides old outer v) turned_at (each_at made all)
 
   -- the faces on a run of outer edges
   fan_at : (points : List Point) (n u : ℕ) (vs : List ℕ)

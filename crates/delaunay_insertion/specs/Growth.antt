@@ -25,7 +25,7 @@ pub record CanSplit {V D U F : Type 0} (at : V → Point) (value : V) (s : State
 -- the value is the new last vertex of a mesh that is triangulated again. Data stay but of what the
 -- value lies in, and each face that came has the vertex as a corner, opposite what was a side of a
 -- face or an outer edge
-pub record TakesVertex {V D U F : Type 0} (at : V → Point) (value : V) (old new : State V D U F)
+pub record GainsVertex {V D U F : Type 0} (at : V → Point) (value : V) (old new : State V D U F)
     (vertex : ℕ) : Type 0 where
   pub is : vertex ≡ length old.vertices
   pub vertices : new.vertices ≡ old.vertices ++ value ∷ []

@@ -6,7 +6,7 @@ ghost use Rattle.half_edge_mesh.specs.Room.{HasRoomFor};
 ghost use Rattle.half_edge_mesh.specs.Contents.{HasRoom, edges};
 ghost use Rattle.delaunay_insertion.specs.Constraints.{SplitsConstraints};
 ghost use Rattle.delaunay_insertion.specs.Edges.{AddsOnly, SplitsAt};
-ghost use Rattle.delaunay_insertion.specs.Growth.{CanSplit, CanTake, TakesVertex};
+ghost use Rattle.delaunay_insertion.specs.Growth.{CanSplit, CanTake, GainsVertex};
 ghost use Rattle.delaunay_legalization.specs.Parts.{IsInsideFaceOf, IsWithinEdge};
 ghost use Rattle.delaunay_legalization.specs.State.{state_of};
 
@@ -31,7 +31,7 @@ pub fn insert_inside_face<V: HasPosition, DE: Default, UE: Default, F: Default>(
     requires inside { IsInsideFaceOf (map V.place dcel.old.vertices) dcel.old.mesh (V.place value)
         (face_edge dcel.old.mesh face) }
     requires room { HasRoom dcel.old 1 3 2 }
-    ensures takes { TakesVertex V.place value (state_of dcel.old) (state_of dcel.new) result }
+    ensures takes { GainsVertex V.place value (state_of dcel.old) (state_of dcel.new) result }
     ensures edges { AddsOnly UE.is_default (edges dcel.old) (edges dcel.new) }
 {
     let vertex = dcel.insert_into_triangle(value, face);
@@ -49,7 +49,7 @@ fn split_inner_edge<V: HasPosition, DE: Default, UE: Default, F: Default>(
     requires inner { 0 < face dcel.old.mesh edge }
     requires twin_inner { 0 < face dcel.old.mesh (rev edge) }
     requires room { HasRoom dcel.old 1 3 2 }
-    ensures takes { TakesVertex V.place value (state_of dcel.old) (state_of dcel.new) result.0 }
+    ensures takes { GainsVertex V.place value (state_of dcel.old) (state_of dcel.new) result.0 }
     ensures edges { SplitsAt UE.is_default (edges dcel.old) (edges dcel.new) (edge / 2) result.0
         result.1 }
 {
@@ -68,7 +68,7 @@ fn split_hull_edge<V: HasPosition, DE: Default, UE: Default, F: Default>(
     requires can { CanSplit V.place value (state_of dcel.old) edge }
     requires half { IsHalfSplittable dcel.old.mesh edge }
     requires room { HasRoom dcel.old 1 2 1 }
-    ensures takes { TakesVertex V.place value (state_of dcel.old) (state_of dcel.new) result.0 }
+    ensures takes { GainsVertex V.place value (state_of dcel.old) (state_of dcel.new) result.0 }
     ensures edges { SplitsAt UE.is_default (edges dcel.old) (edges dcel.new) (edge / 2) result.0
         result.1 }
 {
@@ -87,7 +87,7 @@ fn split_at<V: HasPosition, DE: Default, UE: Default, F: Default>(
     requires can { CanSplit V.place value (state_of dcel.old) edge }
     requires room { HasRoomFor dcel.old.room (length dcel.old.vertices + 1)
         (3 * (length dcel.old.vertices + 1)) (2 * (length dcel.old.vertices + 1)) }
-    ensures takes { TakesVertex V.place value (state_of dcel.old) (state_of dcel.new) result.0 }
+    ensures takes { GainsVertex V.place value (state_of dcel.old) (state_of dcel.new) result.0 }
     ensures edges { SplitsAt UE.is_default (edges dcel.old) (edges dcel.new) (edge / 2) result.0
         result.1 }
 {
@@ -118,7 +118,7 @@ pub fn insert_within_edge<
         edge }
     requires room { HasRoomFor dcel.old.room (length dcel.old.vertices + 1)
         (3 * (length dcel.old.vertices + 1)) (2 * (length dcel.old.vertices + 1)) }
-    ensures takes { TakesVertex V.place value (state_of dcel.old) (state_of dcel.new) result }
+    ensures takes { GainsVertex V.place value (state_of dcel.old) (state_of dcel.new) result }
     ensures constraints { SplitsConstraints V.place M.constraints (state_of dcel.old)
         (state_of dcel.new) value }
 {

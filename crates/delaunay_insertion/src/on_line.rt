@@ -6,7 +6,7 @@ ghost use Rattle.plane.specs.Fraction.{whole as fraction};
 ghost use Rattle.plane.specs.Location.{IsPast};
 ghost use Rattle.plane_tiling.specs.Local.{alone};
 ghost use Rattle.delaunay_insertion.specs.Edges.{AddsOnly, SplitsAt};
-ghost use Rattle.delaunay_insertion.specs.Growth.{CanSplit, CanTake, TakesVertex};
+ghost use Rattle.delaunay_insertion.specs.Growth.{CanSplit, CanTake, GainsVertex};
 ghost use Rattle.delaunay_legalization.specs.Parts.{IsApart};
 ghost use Rattle.delaunay_legalization.specs.State.{state_of};
 
@@ -23,7 +23,7 @@ pub fn insert_first<V: HasPosition, DE, UE: Default, F>(
     requires can { CanTake V.place value (state_of dcel.old) }
     requires none { length dcel.old.vertices ≡ 0 }
     requires room { HasRoom dcel.old 1 0 0 }
-    ensures takes { TakesVertex V.place value (state_of dcel.old) (state_of dcel.new) result }
+    ensures takes { GainsVertex V.place value (state_of dcel.old) (state_of dcel.new) result }
     ensures edges { AddsOnly UE.is_default (edges dcel.old) (edges dcel.new) }
 {
     let vertex = dcel.append_unconnected_vertex(value);
@@ -40,7 +40,7 @@ pub fn insert_second<V: HasPosition, DE: Default, UE: Default, F>(
     requires apart { IsApart (map V.place dcel.old.vertices) (V.place value) }
     requires one { length dcel.old.vertices ≡ 1 }
     requires room { HasRoom dcel.old 1 1 0 }
-    ensures takes { TakesVertex V.place value (state_of dcel.old) (state_of dcel.new) result }
+    ensures takes { GainsVertex V.place value (state_of dcel.old) (state_of dcel.new) result }
     ensures edges { AddsOnly UE.is_default (edges dcel.old) (edges dcel.new) }
 {
     dcel.recall_invariant();
@@ -64,7 +64,7 @@ pub fn insert_past_end<V: HasPosition, DE: Default, UE: Default, F>(
     requires past { IsPast (alone (map V.place dcel.old.vertices)) (origin dcel.old.mesh edge)
         (fraction (V.place value)) }
     requires room { HasRoom dcel.old 1 1 0 }
-    ensures takes { TakesVertex V.place value (state_of dcel.old) (state_of dcel.new) result }
+    ensures takes { GainsVertex V.place value (state_of dcel.old) (state_of dcel.new) result }
     ensures edges { AddsOnly UE.is_default (edges dcel.old) (edges dcel.new) }
 {
     let end = dcel.directed_edge(edge).from().fix();
@@ -82,7 +82,7 @@ pub(crate) fn split_line_edge<V: HasPosition, DE: Default, UE: Default, F>(
     requires can { CanSplit V.place value (state_of dcel.old) edge }
     requires one_face { length dcel.old.faces ≡ 0 }
     requires room { HasRoom dcel.old 1 1 0 }
-    ensures takes { TakesVertex V.place value (state_of dcel.old) (state_of dcel.new) result.0 }
+    ensures takes { GainsVertex V.place value (state_of dcel.old) (state_of dcel.new) result.0 }
     ensures edges { SplitsAt UE.is_default (edges dcel.old) (edges dcel.new) (edge / 2) result.0
         result.1 }
 {

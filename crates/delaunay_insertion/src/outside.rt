@@ -8,7 +8,7 @@ ghost use Rattle.plane.specs.Fraction.{whole as fraction};
 ghost use Rattle.plane.specs.Side.{TurnsLeft};
 ghost use Rattle.plane.specs.Pairs.{place};
 ghost use Rattle.delaunay_insertion.specs.Edges.{AddsOnly};
-ghost use Rattle.delaunay_insertion.specs.Growth.{CanTake, TakesVertex};
+ghost use Rattle.delaunay_insertion.specs.Growth.{CanTake, GainsVertex};
 ghost use Rattle.delaunay_insertion.specs.Joining.{Sees};
 ghost use Rattle.delaunay_legalization.specs.State.{state_of};
 
@@ -100,7 +100,7 @@ pub fn join_outside<V: HasPosition, DE: Default, UE: Default, F: Default, P: Pla
         (fraction (V.place value)) }
     requires room { HasRoomFor dcel.old.room (length dcel.old.vertices + 1)
         (3 * (length dcel.old.vertices + 1)) (2 * (length dcel.old.vertices + 1)) }
-    ensures takes { TakesVertex V.place value (state_of dcel.old) (state_of dcel.new) result }
+    ensures takes { GainsVertex V.place value (state_of dcel.old) (state_of dcel.new) result }
     ensures edges { AddsOnly UE.is_default (edges dcel.old) (edges dcel.new) }
 {
     let vertex = dcel.create_new_face_adjacent_to_edge(edge, value);

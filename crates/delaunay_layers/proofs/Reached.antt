@@ -27,7 +27,7 @@ use Rattle.mesh_embedding.proofs.MeshStars.{IsEdgeOfFace, edge_of_face}
 use Rattle.mesh_embedding.proofs.OuterEdges.{real}
 use Rattle.mesh_embedding.proofs.WorkLists.{contains_map}
 use Rattle.delaunay_layers.specs.Layers.{AreLayers}
-use Rattle.delaunay_layers.specs.Search.{unseen, layer_at, IsSeen, IsFound}
+use Rattle.delaunay_layers.specs.Search.{unseen, layer_at, IsMet, IsFound}
 use Rattle.delaunay_layers.proofs.Ways.{no_shorter}
 
 -- ---- a test of the numbers below a bound
@@ -157,7 +157,7 @@ module _ (points : List Point) (m : Mesh) (v : IsValidMesh m)
   ]
 
   -- an edge of a face that was not left
-  goes_not : (i j h : ℕ) → h < n → origin m h ≡ i → origin m (rev h) ≡ j → IsSeen layers (face m h)
+  goes_not : (i j h : ℕ) → h < n → origin m h ≡ i → origin m (rev h) ≡ j → IsMet layers (face m h)
       → goes i j ≡ false
   goes_not i j h w a b seen = elim (whether (goes i j)) [
     | inl e ↦ let r = goes_by i j e in
@@ -208,14 +208,14 @@ module _ (points : List Point) (m : Mesh) (v : IsValidMesh m)
     third_end = sym (v.sound.edges (prev m h) t.prev_in).starts
         ∙ ap (origin m) t.next_prev ∙ of.first
 
-    none_around : IsSeen layers (face m h)
+    none_around : IsMet layers (face m h)
         → flow i j +ℤ flow j k +ℤ flow k i ≡ pos 0
     none_around seen = three_none (flow i j) (flow j k) (flow k i)
         (flow_none i j (goes_not i j h of.inner.0 of.first first_end seen))
         (flow_none j k (goes_not j k (next m h) t.next_in of.second second_end
-        (subst (IsSeen layers) (sym t.face_next) seen)))
+        (subst (IsMet layers) (sym t.face_next) seen)))
         (flow_none k i (goes_not k i (prev m h) t.prev_in of.third third_end
-        (subst (IsSeen layers) (sym t.face_prev) seen)))
+        (subst (IsMet layers) (sym t.face_prev) seen)))
 
     some_around : IsLeft (face m h)
         → pos 0 <ℤ bracket (lift (p i)) (lift (p j)) (lift (p k))
@@ -243,7 +243,7 @@ module _ (points : List Point) (m : Mesh) (v : IsValidMesh m)
           | inr seen ↦ at_least_none (around flow f) (none_around r.0 f.a f.b f.c r.1 seen)
         ]
 
-    outer_seen : (h : ℕ) → face m h ≡ 0 → IsSeen layers (face m h)
+    outer_seen : (h : ℕ) → face m h ≡ 0 → IsMet layers (face m h)
     outer_seen h e l = let z = ap (layer_at layers) e in
         let o = found.outer in absurd (omega (arith, z, o, l))
 
@@ -281,7 +281,7 @@ module _ (points : List Point) (m : Mesh) (v : IsValidMesh m)
       let d = found.count in
       omega (arith, a, b, c, d, w)
 
-  pub all_reached : (f : ℕ) → f < length layers → IsSeen layers f
+  pub all_reached : (f : ℕ) → f < length layers → IsMet layers f
   all_reached f w left = elim shape [
     | inl local ↦ elim (cases_eq f 0) [
       | inl e ↦ let z = ap (layer_at layers) e in
@@ -293,7 +293,7 @@ module _ (points : List Point) (m : Mesh) (v : IsValidMesh m)
         let o = found.outer in absurd (omega (arith, z, o, left))
   ]
 
-  outer_is_seen : IsSeen layers 0
+  outer_is_seen : IsMet layers 0
   outer_is_seen e = let o = found.outer in omega (arith, e, o)
 
   -- what the search has found are the layers

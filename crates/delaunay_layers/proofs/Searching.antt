@@ -24,8 +24,8 @@ use Rattle.std.proofs.lemmas.List.Elements.{Contains-append_left}
 use Rattle.std.proofs.lemmas.List.Sums.{count_by-le-length, sum_by-set}
 use Rattle.half_edge_mesh.specs.Mesh.{Mesh, face, rev, next, prev, face_edge, AreSoundLinks}
 use Rattle.half_edge_links.proofs.Sound.Triangles.{same_loop, triangle_at}
-use Rattle.delaunay_layers.specs.Search.{unseen, layer_at, IsSeen, left_unseen, weight, HasWay}
-use Rattle.delaunay_layers.specs.Search.{IsDue, IsReachedAcross, IsSearch, IsSideOf, Lists, work_left}
+use Rattle.delaunay_layers.specs.Search.{unseen, layer_at, IsMet, left_unseen, weight, HasWay}
+use Rattle.delaunay_layers.specs.Search.{IsDue, IsReachedAcross, IsLayered, IsSideOf, Lists, work_left}
 use Rattle.delaunay_layers.specs.Search.{IsFound, TakesNow, TakesLater}
 use Rattle.half_edge_links.specs.declared.room.TheConstants.{MAX_ELEMENTS}
 use Rattle.delaunay_layers.specs.Layers.{is_constrained}
@@ -300,7 +300,7 @@ all_unseen (suc n) (suc f) = all_unseen n f
 module _ (m : Mesh) (constraints : List ℕ) where
   -- before the search no face was reached
   pub nothing_seen : (n : ℕ) → n ≡ length m.face_edges + 1
-      → IsSearch m constraints (replicate n unseen) [] [] 0
+      → IsLayered m constraints (replicate n unseen) [] [] 0
   nothing_seen n e = record {
     count = length-replicate n unseen ∙ e;
     ways = λ f seen. absurd (seen (all_unseen n f));
@@ -315,8 +315,8 @@ module _ (m : Mesh) (constraints : List ℕ) where
 
   -- where no edge is left for this layer, those of the next one come
   pub next_layer : (layers later : List ℕ) (layer : ℕ)
-      → IsSearch m constraints layers [] later layer → 0 < length later
-      → IsSearch m constraints layers later [] (layer + 1)
+      → IsLayered m constraints layers [] later layer → 0 < length later
+      → IsLayered m constraints layers later [] (layer + 1)
   next_layer layers later layer s some = record {
     count = s.count;
     ways = s.ways;
@@ -334,8 +334,8 @@ module _ (m : Mesh) (constraints : List ℕ) where
 
   -- an edge that leads to a face that was reached is done with
   pub passed : (layers now later : List ℕ) (layer h : ℕ)
-      → IsSearch m constraints layers (now ++ h ∷ []) later layer
-      → IsSeen layers (face m (rev h)) → IsSearch m constraints layers now later layer
+      → IsLayered m constraints layers (now ++ h ∷ []) later layer
+      → IsMet layers (face m (rev h)) → IsLayered m constraints layers now later layer
   passed layers now later layer h s seen = record {
     count = s.count;
     ways = s.ways;
@@ -361,7 +361,7 @@ module _ (m : Mesh) (constraints : List ℕ) where
 
   -- a face gets its layer, and its edges are listed
   module _ (layers now later now' later' : List ℕ) (layer f : ℕ)
-      (s : IsSearch m constraints layers now later layer) (within : f < length layers)
+      (s : IsLayered m constraints layers now later layer) (within : f < length layers)
       (new : layer_at layers f ≡ unseen) (small : layer < unseen)
       (way : HasWay m constraints f layer)
       (l : Lists constraints (IsSideOf m f) now later now' later') where
@@ -372,21 +372,21 @@ module _ (m : Mesh) (constraints : List ℕ) where
     at_f : layer_at known f ≡ layer
     at_f = get_or-set_same layers f layer unseen within
 
-    seen_f : IsSeen known f
+    seen_f : IsMet known f
     seen_f e = omega (arith, e, at_f, small)
 
     -- a face that was reached before is another one
-    off_f : (g : ℕ) → IsSeen layers g → g ≢ f
+    off_f : (g : ℕ) → IsMet layers g → g ≢ f
     off_f g seen e = seen (ap (layer_at layers) e ∙ new)
 
     -- a face that was reached before keeps its layer
-    kept : (g : ℕ) → IsSeen layers g → layer_at known g ≡ layer_at layers g
+    kept : (g : ℕ) → IsMet layers g → layer_at known g ≡ layer_at layers g
     kept g seen = get_or-set_other layers f g layer unseen (off_f g seen)
 
-    seen_kept : (g : ℕ) → IsSeen layers g → IsSeen known g
+    seen_kept : (g : ℕ) → IsMet layers g → IsMet known g
     seen_kept g seen e = seen (sym (kept g seen) ∙ e)
 
-    seen_before : (g : ℕ) → IsSeen known g → (g ≡ f) ⊎ IsSeen layers g
+    seen_before : (g : ℕ) → IsMet known g → (g ≡ f) ⊎ IsMet layers g
     seen_before g seen = elim (cases_eq g f) [
       | inl e ↦ inl e
       | inr n ↦ inr (λ e. seen (get_or-set_other layers f g layer unseen n ∙ e))
@@ -403,11 +403,11 @@ module _ (m : Mesh) (constraints : List ℕ) where
         → IsDue m constraints known h (layer + n)
     due_side h n w counts = let at = ap (layer_at known) w.1 ∙ at_f in record {
       within = w.0;
-      seen = subst (IsSeen known) (sym w.1) seen_f;
+      seen = subst (IsMet known) (sym w.1) seen_f;
       due = omega (arith, at, counts);
     }
 
-    crossed_kept : (h : ℕ) → IsSeen layers (face m h) → IsReachedAcross m constraints layers h
+    crossed_kept : (h : ℕ) → IsMet layers (face m h) → IsReachedAcross m constraints layers h
         → IsReachedAcross m constraints known h
     crossed_kept h seen c =
         let low = c.low in
@@ -415,7 +415,7 @@ module _ (m : Mesh) (constraints : List ℕ) where
         let second = kept (face m (rev h)) c.seen in
         record { seen = seen_kept (face m (rev h)) c.seen; low = omega (arith, low, first, second) }
 
-    complete' : (h : ℕ) → h < length m.half_edges → (face m h ≡ f) ⊎ IsSeen layers (face m h)
+    complete' : (h : ℕ) → h < length m.half_edges → (face m h ≡ f) ⊎ IsMet layers (face m h)
         → Contains now' h ⊎ (Contains later' h ⊎ IsReachedAcross m constraints known h)
     complete' h w (inl e) = elim (l.there h (w, e)) [
       | inl c ↦ inl c
@@ -428,20 +428,20 @@ module _ (m : Mesh) (constraints : List ℕ) where
     ]
 
     -- each face that was reached has a way past as many constraints as its layer says
-    ways' : (g : ℕ) → (g ≡ f) ⊎ IsSeen layers g → HasWay m constraints g (layer_at known g)
+    ways' : (g : ℕ) → (g ≡ f) ⊎ IsMet layers g → HasWay m constraints g (layer_at known g)
     ways' g (inl e) = subst (λ x. HasWay m constraints x (layer_at known x)) (sym e)
         (subst (HasWay m constraints f) (sym at_f) way)
     ways' g (inr old) = subst (HasWay m constraints g) (sym (kept g old)) (s.ways g old)
 
     -- no face that was reached has a layer above the one that f gets
-    low' : (g : ℕ) → (g ≡ f) ⊎ IsSeen layers g → layer_at known g ≤ layer
+    low' : (g : ℕ) → (g ≡ f) ⊎ IsMet layers g → layer_at known g ≤ layer
     low' g (inl e) = let at = ap (layer_at known) e in omega (arith, at, at_f)
     low' g (inr old) = let at = kept g old in let low = s.low g old in omega (arith, at, low)
 
     none_more : (n : ℕ) → layer + 0 ≡ layer
     none_more n = omega arith
 
-    pub reached : IsSearch m constraints known now' later' layer
+    pub reached : IsLayered m constraints known now' later' layer
     reached =
         let less = one_less layers f layer within new small in
         let same = length-set layers f layer in
@@ -467,9 +467,9 @@ module _ (m : Mesh) (constraints : List ℕ) where
   -- the outer face has its layer from the beginning
   pub begun : (layers now later : List ℕ) → layers ≡ replicate (length m.face_edges + 1) unseen
       → Lists constraints (IsSideOf m 0) [] [] now later
-      → IsSearch m constraints (set layers 0 0) now later 0
+      → IsLayered m constraints (set layers 0 0) now later 0
   begun layers now later all l =
-      subst (λ (xs : List ℕ). IsSearch m constraints (set xs 0 0) now later 0) (sym all)
+      subst (λ (xs : List ℕ). IsLayered m constraints (set xs 0 0) now later 0) (sym all)
       (reached (replicate (length m.face_edges + 1) unseen) [] [] now later 0 0
       (nothing_seen (length m.face_edges + 1) refl)
       (let e = length-replicate (length m.face_edges + 1) unseen in omega (arith, e))
@@ -477,7 +477,7 @@ module _ (m : Mesh) (constraints : List ℕ) where
 
   -- what an edge leads to is listed among the faces
   pub leads_within : AreSoundLinks m → (layers now later : List ℕ) (layer h : ℕ)
-      → IsSearch m constraints layers (now ++ h ∷ []) later layer
+      → IsLayered m constraints layers (now ++ h ∷ []) later layer
       → (h < length m.half_edges) × (face m (rev h) < length layers)
   leads_within sound layers now later layer h s =
       let w = (s.now_due h (Contains-push now h)).within in
@@ -489,19 +489,19 @@ module _ (m : Mesh) (constraints : List ℕ) where
   pub stepped : AreSoundLinks m → length m.face_edges + 1 ≤ unseen
       → (layers now later now1 later1 now2 later2 now3 later3 : List ℕ)
       → (layer h f e1 e2 e3 : ℕ)
-      → IsSearch m constraints layers (now ++ h ∷ []) later layer → layer_at layers 0 ≡ 0
+      → IsLayered m constraints layers (now ++ h ∷ []) later layer → layer_at layers 0 ≡ 0
       → f ≡ face m (rev h) → layer_at layers f ≡ unseen
       → e1 ≡ face_edge m f → e2 ≡ next m (face_edge m f) → e3 ≡ prev m (face_edge m f)
       → Lists constraints (λ g. g ≡ e1) now later now1 later1
       → Lists constraints (λ g. g ≡ e2) now1 later1 now2 later2
       → Lists constraints (λ g. g ≡ e3) now2 later2 now3 later3
-      → IsSearch m constraints (set layers f layer) now3 later3 layer
+      → IsLayered m constraints (set layers f layer) now3 later3 layer
   stepped sound few layers now later now1 later1 now2 later2 now3 later3 layer h f e1 e2 e3 s outer
       at new p q r a b c =
       passed (set layers f layer) now3 later3 layer h
       (reached layers (now ++ h ∷ []) later (now3 ++ h ∷ []) later3 layer f s within new small way
       (lists_beside constraints (IsSideOf m f) now later now3 later3 h sides))
-      (subst (IsSeen (set layers f layer)) at seen)
+      (subst (IsMet (set layers f layer)) at seen)
     where
       within : f < length layers
       within = let w = (leads_within sound layers now later layer h s).1 in omega (arith, w, at)
@@ -529,7 +529,7 @@ module _ (m : Mesh) (constraints : List ℕ) where
           (way_on m constraints h (layer_at layers (face m h)) due.within
           (s.ways (face m h) due.seen)))
 
-      seen : IsSeen (set layers f layer) f
+      seen : IsMet (set layers f layer) f
       seen e = let g = get_or-set_same layers f layer unseen within in omega (arith, e, g, small)
 
       sides : Lists constraints (IsSideOf m f) now later now3 later3
@@ -548,24 +548,24 @@ module _ (m : Mesh) (constraints : List ℕ) where
 
   -- the next edge was taken
   pub taken : (layers now later now' later' : List ℕ) (layer layer' h : ℕ)
-      → IsSearch m constraints layers now later layer
+      → IsLayered m constraints layers now later layer
       → TakesNow h now later layer now' later' layer'
       ⊎ TakesLater h now later layer now' later' layer'
-      → IsSearch m constraints layers (now' ++ h ∷ []) later' layer'
+      → IsLayered m constraints layers (now' ++ h ∷ []) later' layer'
   taken layers now later now' later' layer layer' h s (inl t) =
-      subst (IsSearch m constraints layers (now' ++ h ∷ []) later') (sym t.layer_stays)
-      (subst (λ xs. IsSearch m constraints layers (now' ++ h ∷ []) xs layer) (sym t.later_stays)
-      (subst (λ xs. IsSearch m constraints layers xs later layer) t.taken s))
+      subst (IsLayered m constraints layers (now' ++ h ∷ []) later') (sym t.layer_stays)
+      (subst (λ xs. IsLayered m constraints layers (now' ++ h ∷ []) xs layer) (sym t.later_stays)
+      (subst (λ xs. IsLayered m constraints layers xs later layer) t.taken s))
   taken layers now later now' later' layer layer' h s (inr t) =
-      subst (IsSearch m constraints layers (now' ++ h ∷ []) later') (sym t.next)
-      (subst (λ xs. IsSearch m constraints layers (now' ++ h ∷ []) xs (layer + 1)) (sym t.empty)
-      (subst (λ xs. IsSearch m constraints layers xs [] (layer + 1)) t.taken
+      subst (IsLayered m constraints layers (now' ++ h ∷ []) later') (sym t.next)
+      (subst (λ xs. IsLayered m constraints layers (now' ++ h ∷ []) xs (layer + 1)) (sym t.empty)
+      (subst (λ xs. IsLayered m constraints layers xs [] (layer + 1)) t.taken
       (next_layer layers later layer
-      (subst (λ xs. IsSearch m constraints layers xs later layer) t.none s)
+      (subst (λ xs. IsLayered m constraints layers xs later layer) t.none s)
       (let n = ap length t.taken ∙ length-append now' (h ∷ []) in omega (arith, n)))))
 
   -- a search with no edge left is at its end
-  pub all_found : (layers : List ℕ) (layer : ℕ) → IsSearch m constraints layers [] [] layer
+  pub all_found : (layers : List ℕ) (layer : ℕ) → IsLayered m constraints layers [] [] layer
       → layer_at layers 0 ≡ 0 → IsFound m constraints layers
   all_found layers layer s outer = record {
     count = s.count;

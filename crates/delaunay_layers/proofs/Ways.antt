@@ -6,7 +6,7 @@ use Rattle.std.proofs.lemmas.List.Sums.{sum_by-append}
 use Rattle.std.specs.Prelude.{cond}
 use Rattle.half_edge_mesh.specs.Mesh.{Mesh, face, rev}
 use Rattle.delaunay_layers.specs.Layers.{Leads, is_constrained, crossed}
-use Rattle.delaunay_layers.specs.Search.{weight, HasWay, IsSeen, IsReachedAcross, layer_at}
+use Rattle.delaunay_layers.specs.Search.{weight, HasWay, IsMet, IsReachedAcross, layer_at}
 
 module _ (m : Mesh) (constraints : List ℕ) where
   -- one edge more
@@ -38,15 +38,15 @@ module _ (m : Mesh) (constraints : List ℕ) where
 
   -- where each edge was crossed, no way is shorter than what is known
   pub no_shorter : (layers : List ℕ) → ((h : ℕ) → h < length m.half_edges
-      → IsSeen layers (face m h) → IsReachedAcross m constraints layers h) → (hs : List ℕ) (f g : ℕ)
-      → Leads m hs f g → IsSeen layers f
-      → IsSeen layers g × (layer_at layers g ≤ layer_at layers f + crossed constraints hs)
+      → IsMet layers (face m h) → IsReachedAcross m constraints layers h) → (hs : List ℕ) (f g : ℕ)
+      → Leads m hs f g → IsMet layers f
+      → IsMet layers g × (layer_at layers g ≤ layer_at layers f + crossed constraints hs)
   no_shorter layers all [] f g e seen = (
-    subst (IsSeen layers) e seen,
+    subst (IsMet layers) e seen,
     subst (λ x. layer_at layers x ≤ layer_at layers f + 0) e (omega arith),
   )
   no_shorter layers all (h ∷ hs) f g l seen =
-      let here = all h l.0 (subst (IsSeen layers) (sym l.1) seen) in
+      let here = all h l.0 (subst (IsMet layers) (sym l.1) seen) in
       let rest = no_shorter layers all hs (face m (rev h)) g l.2 here.seen in
       let first = here.low in
       let last = rest.1 in

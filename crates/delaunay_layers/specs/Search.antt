@@ -15,8 +15,8 @@ abbrev pub layer_at : List ℕ → ℕ → ℕ
 layer_at layers f = slice_index_or layers f unseen
 
 -- face f was reached
-abbrev pub IsSeen : List ℕ → ℕ → Type 0
-IsSeen layers f = layer_at layers f ≢ unseen
+abbrev pub IsMet : List ℕ → ℕ → Type 0
+IsMet layers f = layer_at layers f ≢ unseen
 
 -- how many faces were not
 abbrev pub left_unseen : List ℕ → ℕ
@@ -33,23 +33,23 @@ HasWay m constraints f n = (hs : List ℕ) × Leads m hs 0 f × (crossed constra
 -- directed edge h leads from a face that was reached to one of this layer, or of a lower one
 pub record IsDue (m : Mesh) (constraints layers : List ℕ) (h layer : ℕ) : Type 0 where
   pub within : h < length m.half_edges
-  pub seen : IsSeen layers (face m h)
+  pub seen : IsMet layers (face m h)
   pub due : layer_at layers (face m h) + weight constraints h ≡ layer
 
 -- what directed edge h leads to was reached, and no later than across it
 pub record IsReachedAcross (m : Mesh) (constraints layers : List ℕ) (h : ℕ) : Type 0 where
-  pub seen : IsSeen layers (face m (rev h))
+  pub seen : IsMet layers (face m (rev h))
   pub low : layer_at layers (face m (rev h)) ≤ layer_at layers (face m h) + weight constraints h
 
 -- a search that has come to this layer: the edges that lead on from faces that were reached are
 -- listed, for now or for the next layer, or were crossed
-pub record IsSearch (m : Mesh) (constraints layers now later : List ℕ) (layer : ℕ) : Type 0 where
+pub record IsLayered (m : Mesh) (constraints layers now later : List ℕ) (layer : ℕ) : Type 0 where
   pub count : length layers ≡ length m.face_edges + 1
-  pub ways : (f : ℕ) → IsSeen layers f → HasWay m constraints f (layer_at layers f)
-  pub low : (f : ℕ) → IsSeen layers f → layer_at layers f ≤ layer
+  pub ways : (f : ℕ) → IsMet layers f → HasWay m constraints f (layer_at layers f)
+  pub low : (f : ℕ) → IsMet layers f → layer_at layers f ≤ layer
   pub now_due : (h : ℕ) → Contains now h → IsDue m constraints layers h layer
   pub later_due : (h : ℕ) → Contains later h → IsDue m constraints layers h (layer + 1)
-  pub complete : (h : ℕ) → h < length m.half_edges → IsSeen layers (face m h)
+  pub complete : (h : ℕ) → h < length m.half_edges → IsMet layers (face m h)
       → Contains now h ⊎ (Contains later h ⊎ IsReachedAcross m constraints layers h)
   pub bound : layer + left_unseen layers ≤ length layers
   pub more : 0 < length later → layer + left_unseen layers < length layers
@@ -100,6 +100,6 @@ work_left layers now later = 8 * left_unseen layers + length now + 2 * length la
 pub record IsFound (m : Mesh) (constraints layers : List ℕ) : Type 0 where
   pub count : length layers ≡ length m.face_edges + 1
   pub outer : layer_at layers 0 ≡ 0
-  pub ways : (f : ℕ) → IsSeen layers f → HasWay m constraints f (layer_at layers f)
-  pub crossed : (h : ℕ) → h < length m.half_edges → IsSeen layers (face m h)
+  pub ways : (f : ℕ) → IsMet layers f → HasWay m constraints f (layer_at layers f)
+  pub crossed : (h : ℕ) → h < length m.half_edges → IsMet layers (face m h)
       → IsReachedAcross m constraints layers h

@@ -5,7 +5,7 @@ ghost use Rattle.std.specs.Prelude.{IfOk, MatchOption, OnOk};
 ghost use Rattle.delaunay_legalization.specs.Shape.{IsTriangulated};
 ghost use Rattle.delaunay_legalization.specs.State.{state_of};
 ghost use Rattle.delaunay_layers.specs.Layers.{AreLayers};
-ghost use Rattle.delaunay_layers.specs.Search.{IsSearch, IsSideOf, Lists, TakesNext};
+ghost use Rattle.delaunay_layers.specs.Search.{IsLayered, IsSideOf, Lists, TakesNext};
 ghost use Rattle.delaunay_layers.specs.Search.{layer_at, unseen, work_left};
 
 use delaunay_core::point::HasPosition;
@@ -32,7 +32,7 @@ impl LayerSearch {
         dcel: &Dcel<V, DE, UE, F>,
         alloc: Global,
     ) -> Result<LayerSearch, AllocError>
-        ensures search { IfOk result (λ s. IsSearch dcel.now.mesh
+        ensures search { IfOk result (λ s. IsLayered dcel.now.mesh
             (M.constraints dcel.now.undirected) s.layers.items s.now.items s.later.items
             s.layer) }
         ensures outer { IfOk result (λ s. layer_at s.layers.items 0 ≡ 0) }
@@ -114,11 +114,11 @@ impl LayerSearch {
         dcel: &Dcel<V, DE, UE, F>,
         edge: FixedDirectedEdgeHandle,
     ) -> Result<(), AllocError>
-        requires search { IsSearch dcel.now.mesh (M.constraints dcel.now.undirected)
+        requires search { IsLayered dcel.now.mesh (M.constraints dcel.now.undirected)
             self.old.layers.items (self.old.now.items ++ edge ∷ []) self.old.later.items
             self.old.layer }
         requires outer { layer_at self.old.layers.items 0 ≡ 0 }
-        ensures search { OnOk result (IsSearch dcel.now.mesh (M.constraints dcel.now.undirected)
+        ensures search { OnOk result (IsLayered dcel.now.mesh (M.constraints dcel.now.undirected)
             self.new.layers.items self.new.now.items self.new.later.items self.new.layer) }
         ensures outer { OnOk result (layer_at self.new.layers.items 0 ≡ 0) }
         ensures work { OnOk result (work_left self.new.layers.items self.new.now.items

@@ -1,5 +1,5 @@
 -- What is left of a walk from one item to the next.
--- Notions: Others, Begins; none_further, one_further, further, one_fewer, some_left, first_of,
+-- Notions: Others, IsFirstOf; none_further, one_further, further, one_fewer, some_left, first_of,
 -- starts_with, starts_at_vertex.
 use Rattle.std.proofs.Common.{◌≡◌, ◌≢◌, ◌⊎◌, ◌+◌, ◌-◌, ◌<◌, ◌≤◌, [], ◌∷◌}
 use Rattle.std.proofs.Common.{ℕ, List, length, map, Option, Some, None}
@@ -96,7 +96,7 @@ some_left items others k n is few =
 
 -- ---- where a walk begins
 -- a first item, with what follows it
-pub record Begins (t : Triangulation) (p q : Point) (k : Item) : Type 0 where
+pub record IsFirstOf (t : Triangulation) (p q : Point) (k : Item) : Type 0 where
   pub others : List Item
   pub line_list : IsLineList t (whole p) (whole q) (k ∷ others)
   pub after : ComeAfter t p q k others
@@ -104,7 +104,7 @@ pub record Begins (t : Triangulation) (p q : Point) (k : Item) : Type 0 where
 
 -- an item that a segment meets first begins its line list
 pub first_of : (t : Triangulation) (p q : Point) → IsLaid t → p ≢ q → (k : Item)
-    → IsFirst t (whole p) (whole q) k → Begins t p q k
+    → IsFirst t (whole p) (whole q) k → IsFirstOf t p q k
 first_of t p q laid apart k first = go walks.0
   where
     ways_apart : ¬ IsSame (whole p) (whole q)
@@ -116,7 +116,7 @@ first_of t p q laid apart k first = go walks.0
         → length items ≤ length t.points + length t.edges)
     walks = each_segment_has_walk t laid (whole p) (whole q) ways_apart
 
-    go : (items : List Item) × IsWalk t (whole p) (whole q) items → Begins t p q k
+    go : (items : List Item) × IsWalk t (whole p) (whole q) items → IsFirstOf t p q k
     go w =
         let r = (rest_falls t laid (whole p) (whole q) ways_apart).3 k w.0 w.1 first in
         let walk = subst (IsWalk t (whole p) (whole q)) r.1 w.1 in
@@ -138,7 +138,7 @@ first_vertex t p q (inr l) apart v is at =
 
 -- at a vertex
 begins_at_vertex : (t : Triangulation) (p q : Point) → IsLaid t → (p ≡ q) ⊎ (p ≢ q) → (v : ℕ)
-    → IsVertex t v → IsSame (whole p) (vertex t v) → Begins t p q (at_vertex v)
+    → IsVertex t v → IsSame (whole p) (vertex t v) → IsFirstOf t p q (at_vertex v)
 begins_at_vertex t p q laid (inr apart) v is at =
     first_of t p q laid apart (at_vertex v) (first_vertex t p q laid apart v is at)
 begins_at_vertex t p q laid (inl same) v is at = record {
@@ -162,7 +162,7 @@ module _ {V D U F : Type 0} (at : V → Point) (IsSite IsCovered : Point → Typ
 
   -- an item that begins the line list, by a handle of the mesh, is where the walk starts
   pub starts_with : (i : FixedIntersection) → IsHandleOf c i →
-      Begins (drawn (map at c.vertices) c.mesh) p q (item_of c.mesh i) → Starts at c p q (Some i)
+      IsFirstOf (drawn (map at c.vertices) c.mesh) p q (item_of c.mesh i) → Starts at c p q (Some i)
   starts_with i here b = record {
     items = item_of c.mesh i ∷ b.others;
     line_list = b.line_list;

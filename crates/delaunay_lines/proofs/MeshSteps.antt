@@ -35,7 +35,7 @@ use Rattle.delaunay_legalization.specs.Known.{point_at}
 use Rattle.delaunay_lines.specs.declared.intersection.FixedIntersection.{FixedIntersection}
 use Rattle.delaunay_lines.specs.Items.{item_of, IsHandleOf}
 use Rattle.delaunay_lines.specs.Steps.{IsOverMesh, IsNext, IsLeftOf, LeavesBy, IsEdgeAhead}
-use Rattle.delaunay_lines.specs.Steps.{IsInCone, LeadsTo}
+use Rattle.delaunay_lines.specs.Steps.{IsInCone, LeadsOn}
 
 -- a number that is not 0 is positive
 pub positive : (n : ℕ) → (n ≡ 0 → ⊥) → 0 < n
@@ -317,7 +317,7 @@ module _ {V D U F : Type 0} (at : V → Point) (IsSite IsCovered : Point → Typ
       module _ (before_end : ¬ IsSame (place points v) (whole q)) where
         -- before q, a vertex is the last item if no edge from it leads towards q
         pub last_if_none_leads : ((h : ℕ) → h < length c.directed → origin m h ≡ v
-            → ¬ LeadsTo points m q h) → Last (at_vertex v)
+            → ¬ LeadsOn points m q h) → Last (at_vertex v)
         last_if_none_leads none = elim laid [
           | inl tiles ↦ last_vertex t tiles (whole p)
               (whole q) ways_apart v met before_end none_ahead none_into

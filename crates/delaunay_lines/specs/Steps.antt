@@ -57,5 +57,5 @@ pub record IsInCone (points : List Point) (m : Mesh) (q : Point) (h : ℕ) : Typ
   pub right : IsLeftOf points m q (prev m h)
 
 -- directed edge h, or the face on its left, leads towards q
-abbrev pub LeadsTo : List Point → Mesh → Point → ℕ → Type 0
-LeadsTo points m q h = IsEdgeAhead points m q h ⊎ IsInCone points m q h
+abbrev pub LeadsOn : List Point → Mesh → Point → ℕ → Type 0
+LeadsOn points m q h = IsEdgeAhead points m q h ⊎ IsInCone points m q h

@@ -3,7 +3,7 @@ ghost use Rattle.std.specs.Prelude.{◌≡◌, ◌≢◌, ◌↔◌, ◌<◌, �
 ghost use Rattle.half_edge_mesh.specs.Mesh.{origin};
 ghost use Rattle.delaunay_legalization.specs.Known.{point_at};
 ghost use Rattle.delaunay_lines.specs.Over.{GoesOnTo, IsAtItem};
-ghost use Rattle.delaunay_lines.specs.Steps.{IsEdgeAhead, IsInCone, LeadsTo};
+ghost use Rattle.delaunay_lines.specs.Steps.{IsEdgeAhead, IsInCone, LeadsOn};
 
 use crate::intersection::FixedIntersection;
 use crate::segment::Segment;
@@ -43,7 +43,7 @@ impl<'a, V: HasPosition, DE, UE, F, P: PlaneTests<V::Scalar>> Segment<'a, V, DE,
         requires within { edge < length self.now.dcel.directed }
         requires starts_apart { point_at (map V.place self.now.dcel.vertices)
             (origin self.now.dcel.mesh edge) ≢ self.now.to }
-        ensures { IsTrue result ↔ LeadsTo (map V.place self.now.dcel.vertices) self.now.dcel.mesh
+        ensures { IsTrue result ↔ LeadsOn (map V.place self.now.dcel.vertices) self.now.dcel.mesh
             self.now.to edge }
     {
         self.is_edge_ahead(edge) || self.is_in_cone(edge)
@@ -57,9 +57,9 @@ impl<'a, V: HasPosition, DE, UE, F, P: PlaneTests<V::Scalar>> Segment<'a, V, DE,
         ensures { let points = map V.place self.now.dcel.vertices in let m = self.now.dcel.mesh in
             let q = self.now.to in MatchOption result
             ((h : ℕ) → h < length self.now.dcel.directed → origin m h ≡ vertex →
-            ¬ LeadsTo points m q h)
+            ¬ LeadsOn points m q h)
             (λ h. (h < length self.now.dcel.directed) × (origin m h ≡ vertex) ×
-            LeadsTo points m q h) }
+            LeadsOn points m q h) }
     {
         for edge in self.dcel.vertex(vertex).out_edges() {
             let edge = edge.fix();

@@ -19,10 +19,10 @@ use Rattle.mesh_embedding.specs.Drawn.{faces_of}
 use Rattle.mesh_embedding.proofs.Borders.{opposite_of_strip}
 use Rattle.mesh_embedding.proofs.MeshVertexLeaves.{leaves_corner, leaves_to_line, leaves_flat}
 use Rattle.mesh_embedding.proofs.MeshVertexLeaves.{flat_turned}
-use Rattle.mesh_embedding.proofs.StarTurns.{TurnsAway, strip_left, same_start}
+use Rattle.mesh_embedding.proofs.StarTurns.{TurnsOff, strip_left, same_start}
 use Rattle.delaunay_removal.specs.Data.{StandsBeside}
 use Rattle.delaunay_removal.specs.Star.{IsolatesVertex}
-use Rattle.delaunay_removal.specs.Hull.{AreSides, IsHullStar, HasNoFlippableEdge}
+use Rattle.delaunay_removal.specs.Hull.{AreSides, IsHullFan, HasNoFlippableEdge}
 use Rattle.delaunay_removal.proofs.DataStays.{strip_stands, stands_on}
 use Rattle.delaunay_removal.proofs.HullStars.{strip_of, none_turns, left_of, right_of}
 
@@ -54,7 +54,7 @@ sides_opposite m first count sides s strip some are =
 -- ---- at a corner
 module _ {V D U F : Type 0} (points : List Point) (old new : Contents V D U F)
     (before : IsMeshWithData old) (after : IsMeshWithData new) (v first count : ℕ)
-    (star : IsHullStar points old.mesh v first count) (bent : HasNoFlippableEdge points old.mesh
+    (star : IsHullFan points old.mesh v first count) (bent : HasNoFlippableEdge points old.mesh
     first count) (corner : TurnsLeft (place points v) (place points (neighbour old.mesh first 0))
     (place points (neighbour old.mesh first (count - 1)))) where
   -- at a corner where no edge can be turned, v has lost its edges when its faces go
@@ -80,12 +80,12 @@ module _ {V D U F : Type 0} (points : List Point) (old new : Contents V D U F)
 
 -- ---- on a flat side
 module _ {V D U F : Type 0} (points : List Point) (old mid : Contents V D U F)
-    (before : IsMeshWithData old) (v first : ℕ) (star : IsHullStar points old.mesh v first 3)
+    (before : IsMeshWithData old) (v first : ℕ) (star : IsHullFan points old.mesh v first 3)
     (turned : mid.mesh ≡ flipped old.mesh (2 * (turn old.mesh first / 2)))
     (triangles : FlipsTriangles old.mesh mid.mesh (2 * (turn old.mesh first / 2)))
     (kept : KeepsOuter old.mesh mid.mesh) where
   module _ (middle : IsMeshWithData mid) where
-    turns_first : TurnsAway old.mesh mid.mesh (turn old.mesh first)
+    turns_first : TurnsOff old.mesh mid.mesh (turn old.mesh first)
     turns_first = flat_turned points old before star.shape v first star.outer mid mid middle middle
         star.round turned triangles kept
 

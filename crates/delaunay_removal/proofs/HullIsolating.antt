@@ -11,14 +11,14 @@ use Rattle.plane.specs.Side.{side, on}
 use Rattle.delaunay_removal.specs.Data.{StandsBeside}
 use Rattle.delaunay_removal.specs.Pairs.{KeepsPairs}
 use Rattle.delaunay_removal.specs.Star.{IsolatesVertex}
-use Rattle.delaunay_removal.specs.Hull.{HasNoFlippableEdge, IsCornerAt, IsHullStar}
+use Rattle.delaunay_removal.specs.Hull.{HasNoFlippableEdge, IsCornerAt, IsHullFan}
 use Rattle.delaunay_removal.proofs.HullStars.{flat_has_three}
 use Rattle.delaunay_removal.proofs.HullSides.{corner_read}
 use Rattle.delaunay_removal.proofs.InnerHoles.{isolates_from}
 
 module _ {V D U F : Type 0} (place : V → Point) (old mid : Contents V D U F) (whole :
     IsMeshWithData mid) (v first count : ℕ) (contents : mid ≡ record old { mesh = mid.mesh })
-    (star : IsHullStar (map place mid.vertices) mid.mesh v first count) where
+    (star : IsHullFan (map place mid.vertices) mid.mesh v first count) where
   -- the vertices stay
   same : mid.vertices ≡ old.vertices
   same = ap (λ (c : Contents V D U F). c.vertices) contents
@@ -42,9 +42,9 @@ module _ {V D U F : Type 0} (place : V → Point) (old mid : Contents V D U F) (
 
   -- the star by another name of the vertex
   pub hull_named : (vertex : ℕ) → v ≡ vertex
-      → IsHullStar (map place mid.vertices) mid.mesh vertex first count
+      → IsHullFan (map place mid.vertices) mid.mesh vertex first count
   hull_named vertex named =
-      subst (λ (x : ℕ). IsHullStar (map place mid.vertices) mid.mesh x first count) named star
+      subst (λ (x : ℕ). IsHullFan (map place mid.vertices) mid.mesh x first count) named star
 
   -- no corner, and no edge to turn: a flat side with two faces
   module _ (bent : HasNoFlippableEdge (map place mid.vertices) mid.mesh first count) (not :
@@ -58,8 +58,8 @@ module _ {V D U F : Type 0} (place : V → Point) (old mid : Contents V D U F) (
         ((corner_read (map place mid.vertices) mid.mesh whole.valid v first count star).1 t))
 
     -- off a corner, with no edge to turn, the vertex has three edges
-    pub flat_star : IsHullStar (map place mid.vertices) mid.mesh vertex first 3
-    flat_star = subst (λ (n : ℕ). IsHullStar (map place mid.vertices) mid.mesh vertex first n)
+    pub flat_star : IsHullFan (map place mid.vertices) mid.mesh vertex first 3
+    flat_star = subst (λ (n : ℕ). IsHullFan (map place mid.vertices) mid.mesh vertex first n)
         flat.0 (hull_named vertex named)
 
     -- and it is on the line of the ends of the first and the last

@@ -17,7 +17,7 @@ use Rattle.mesh_embedding.proofs.StarTurns.{turns_away, same_start}
 use Rattle.delaunay_legalization.proofs.Rounds.{round_of}
 use Rattle.delaunay_removal.specs.Data.{StandsBeside}
 use Rattle.delaunay_removal.specs.Star.{IsConvexAt, IsTurnable}
-use Rattle.delaunay_removal.specs.Hull.{IsHullStar, HasNoFlippableEdge}
+use Rattle.delaunay_removal.specs.Hull.{IsHullFan, HasNoFlippableEdge}
 use Rattle.delaunay_removal.proofs.DataStays.{stands_turned}
 use Rattle.delaunay_removal.proofs.HullStars.{has_two, hull_ends_differ, left_of, right_of}
 use Rattle.delaunay_removal.proofs.HullStars.{hull_star_less, strip_of}
@@ -31,7 +31,7 @@ IsPlace m first count edge = (i : ℕ) × (i < count - 2) × (edge ≡ spoke m f
 pub record IsHullShrinking {V D U F : Type 0} (place : V → Point) (old now : Contents V D U F)
     (v first from count : ℕ) (turned : List (ℕ × ℕ)) (listed capacity : ℕ) : Type 0 where
   pub contents : now ≡ record old { mesh = now.mesh }
-  pub star : IsHullStar (map place now.vertices) now.mesh v first count
+  pub star : IsHullFan (map place now.vertices) now.mesh v first count
   pub many : 2 ≤ count
   pub whole : IsMeshWithData now
   pub beside : StandsBeside old now v turned
@@ -131,9 +131,9 @@ module _ {V D U F : Type 0} {turned : List (ℕ × ℕ)} {listed capacity : ℕ}
         → IsConvexAt (map place now.vertices) now.mesh edge → new ≡ record now { mesh = new.mesh }
         → FlipsTriangles now.mesh new.mesh (2 * (turn now.mesh edge / 2))
         → KeepsOuter now.mesh new.mesh
-        → IsHullStar (map place new.vertices) new.mesh v first (count - 1)
+        → IsHullFan (map place new.vertices) new.mesh v first (count - 1)
     hull_star_goes_on new after convex contents triangles outer =
-        subst (λ (vs : List V). IsHullStar (map place vs) new.mesh v first (count - 1))
+        subst (λ (vs : List V). IsHullFan (map place vs) new.mesh v first (count - 1))
         (sym (ap (λ (c : Contents V D U F). c.vertices) contents))
         (hull_star_less (map place now.vertices) now.mesh shrinking.whole.valid v first count
         shrinking.star at.0 below new.mesh after.valid
@@ -143,7 +143,7 @@ module _ {V D U F : Type 0} {turned : List (ℕ × ℕ)} {listed capacity : ℕ}
 
     -- one more turn
     pub hull_shrinking_goes_on : (new : Contents V D U F) → IsMeshWithData new
-        → IsHullStar (map place new.vertices) new.mesh v first (count - 1)
+        → IsHullFan (map place new.vertices) new.mesh v first (count - 1)
         → new ≡ record now { mesh = new.mesh } → (p : ℕ × ℕ)
         → StandsBeside now new (origin now.mesh edge) (p ∷ [])
         → (more : List (ℕ × ℕ)) (listed_now capacity_now : ℕ) → more ≡ turned ++ p ∷ []

@@ -12,7 +12,7 @@ use Rattle.half_edge_mesh.specs.Round.{neighbour}
 use Rattle.plane.specs.Fraction.{Point}
 use Rattle.plane.specs.Pairs.{place}
 use Rattle.plane.specs.Side.{TurnsLeft}
-use Rattle.delaunay_removal.specs.Hull.{AreSides, IsCornerAt, IsHullStar}
+use Rattle.delaunay_removal.specs.Hull.{AreSides, IsCornerAt, IsHullFan}
 use Rattle.delaunay_removal.proofs.HullStars.{strip_of}
 
 -- after so many steps from edge first on the walk is at an edge, and the sides before it are listed
@@ -68,7 +68,7 @@ collecting_goes_on m bound room first count edge sides listed capacity so_far si
 
 -- the question is that of the first and the last neighbour
 pub corner_read : (points : List Point) (m : Mesh) → IsValidMesh m → (v first count : ℕ)
-    → IsHullStar points m v first count → IsCornerAt points m first ↔ TurnsLeft (place points v)
+    → IsHullFan points m v first count → IsCornerAt points m first ↔ TurnsLeft (place points v)
     (place points (neighbour m first 0)) (place points (neighbour m first (count - 1)))
 corner_read points m valid v first count star = (
   (λ t. subst (λ (x : ℕ × ℕ). TurnsLeft (place points x.0) (place points (neighbour m first 0))

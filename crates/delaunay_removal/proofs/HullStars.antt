@@ -25,12 +25,12 @@ use Rattle.mesh_embedding.specs.Drawn.{faces_of, outer_of}
 use Rattle.mesh_embedding.proofs.MeshStars.{hull_star, hull_strip, neighbours_apart}
 use Rattle.mesh_embedding.proofs.MeshStarFlips.{star_flip, star_flip_local, one_hull_neighbour_less}
 use Rattle.delaunay_removal.specs.Star.{IsConvexAt}
-use Rattle.delaunay_removal.specs.Hull.{IsHullStar, HasNoFlippableEdge}
+use Rattle.delaunay_removal.specs.Hull.{IsHullFan, HasNoFlippableEdge}
 use Rattle.delaunay_legalization.proofs.Rounds.{round_at}
 
 -- ---- what the edges of a vertex on the hull know
 module _ (points : List Point) (m : Mesh) (valid : IsValidMesh m) (v first count : ℕ)
-    (star : IsHullStar points m v first count) where
+    (star : IsHullFan points m v first count) where
   -- its star is one on the hull of the plane
   pub hull_in_plane : P.IsHullStar (faces_of m) (outer_of m) v (count - 1) (neighbour m first)
   hull_in_plane = hull_star points m valid star.shape v first count star.round star.outer
@@ -142,7 +142,7 @@ module _ (points : List Point) (m : Mesh) (valid : IsValidMesh m) (v first count
       starts_after = ap (origin new) (sym (rev-rev first)) ∙ back_after.target
 
       -- leaves one neighbour less
-      pub hull_star_less : IsHullStar points new v first (count - 1)
+      pub hull_star_less : IsHullFan points new v first (count - 1)
       hull_star_less = record {
         shape = shape_after;
         outer = back_after.outer;

@@ -24,7 +24,7 @@ use Rattle.mesh_embedding.proofs.MeshStars.{inner_star}
 use Rattle.mesh_embedding.proofs.MeshStarFlips.{spoke_flippable, twin_flippable, star_flip}
 use Rattle.mesh_embedding.proofs.MeshStarFlips.{star_flip_local, one_neighbour_less}
 use Rattle.mesh_embedding.proofs.MeshVertexLeaves.{inner_choice}
-use Rattle.mesh_embedding.proofs.StarTurns.{TurnsAway, turns_away, same_start}
+use Rattle.mesh_embedding.proofs.StarTurns.{TurnsOff, turns_away, same_start}
 use Rattle.delaunay_removal.specs.Star.{IsConvexAt, HasInnerFaces, IsInnerStar, IsReduced}
 use Rattle.delaunay_legalization.proofs.Rounds.{round_of, round_at}
 
@@ -92,7 +92,7 @@ module _ (points : List Point) (m new : Mesh) (valid : IsValidMesh m) (v h count
   spoke_in = spokes_inner points m valid v h count star
 
   -- the flip turns the edge after h away from the vertex
-  pub turns : TurnsAway m new (turn m h)
+  pub turns : TurnsOff m new (turn m h)
   turns = turns_away m new (turn m h) valid.sound
       (spoke_flippable points m valid star.shape v h count star.round 0 (spoke_in 0) (spoke_in 1))
       (twin_flippable points m valid star.shape v h count star.round 0 (spoke_in 0) (spoke_in 1))

@@ -19,7 +19,7 @@ pub record HasHullEdge {V D U F : Type 0} (place : V → Point) (c : Contents V 
   pub outer : face c.mesh (rev h) ≡ 0
 
 -- vertex v is on the hull, and has so many edges, from the one with the outer face on its right on
-pub record IsHullStar (points : List Point) (m : Mesh) (v first count : ℕ) : Type 0 where
+pub record IsHullFan (points : List Point) (m : Mesh) (v first count : ℕ) : Type 0 where
   pub shape : LocalMesh points (faces_of m) (outer_of m)
   pub outer : face m (rev first) ≡ 0
   pub round : IsRound m v first count

@@ -102,10 +102,10 @@ pub record IsolatesVertex {V D U F : Type 0} (points : List Point) (old new : Co
   pub beside : StandsBeside old new v pairs
 
 -- so it has, where the mesh has the vertices of before
-abbrev pub LosesEdges : {V D U F : Type 0} → (V → Point) → Contents V D U F → Contents V D U F → ℕ
+abbrev pub LosesStar : {V D U F : Type 0} → (V → Point) → Contents V D U F → Contents V D U F → ℕ
     → List (ℕ × ℕ)
     → Type 0
-LosesEdges place old new v pairs = IsolatesVertex (map place old.vertices) old new v pairs
+LosesStar place old new v pairs = IsolatesVertex (map place old.vertices) old new v pairs
 
 -- the edge after edge h, round the vertex where they start, was turned so that it leaves this
 -- vertex, and a list got what it joins then

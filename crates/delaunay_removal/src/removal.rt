@@ -15,7 +15,7 @@ ghost use Rattle.delaunay_removal.specs.Data.{RenumbersEdges};
 ghost use Rattle.delaunay_removal.specs.Freeing.{FreesEdgesAt};
 ghost use Rattle.delaunay_removal.specs.Lists.{HasRoomToRemove};
 ghost use Rattle.delaunay_removal.specs.Removal.{TakesVertexOut};
-ghost use Rattle.delaunay_removal.specs.Star.{IsMeshWithout, LosesEdges};
+ghost use Rattle.delaunay_removal.specs.Star.{IsMeshWithout, LosesStar};
 
 use crate::freeing::free_edges_at;
 use crate::lists::RemovalLists;
@@ -81,7 +81,7 @@ fn isolate<V: HasPosition, DE: Drop, UE: Drop, F: Drop, P: PlaneTests<V::Scalar>
     requires within { vertex < length dcel.old.vertices }
     requires sites { All (P.sites tests.now) (map V.place dcel.old.vertices) }
     requires room { HasRoomToRemove dcel.old lists.old }
-    ensures isolates { LosesEdges V.place dcel.old dcel.new vertex lists.new.turned.items }
+    ensures isolates { LosesStar V.place dcel.old dcel.new vertex lists.new.turned.items }
     ensures capacity { lists.new.tested.room ≡ lists.old.tested.room }
 {
     dcel.recall_invariant();

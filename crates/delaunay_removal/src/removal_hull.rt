@@ -8,9 +8,9 @@ ghost use Rattle.plane.specs.Pairs.{place};
 ghost use Rattle.plane.specs.Side.{on, side};
 ghost use Rattle.delaunay_removal.specs.Data.{StandsBeside};
 ghost use Rattle.delaunay_removal.specs.Hull.{AreSides, HasNoFlippableEdge, IsCornerAt};
-ghost use Rattle.delaunay_removal.specs.Hull.{HasHullEdge, IsHullStar};
+ghost use Rattle.delaunay_removal.specs.Hull.{HasHullEdge, IsHullFan};
 ghost use Rattle.delaunay_removal.specs.Pairs.{HasRoomAt, KeepsPairs};
-ghost use Rattle.delaunay_removal.specs.Star.{HasInnerFaces, LosesEdges};
+ghost use Rattle.delaunay_removal.specs.Star.{HasInnerFaces, LosesStar};
 
 use crate::choice::{Spokes, edge_to_go_on};
 use crate::lists::RemovalLists;
@@ -35,7 +35,7 @@ fn shrink_hull_star<V: HasPosition, DE, UE, F, P: PlaneTests<V::Scalar>>(
     requires room { HasRoomAt dcel.old.mesh (origin dcel.old.mesh first) (vec_len turned.old)
         (vec_capacity turned.old) }
     ensures contents { dcel.new ≡ record dcel.old { mesh = dcel.new.mesh } }
-    ensures star { IsHullStar (map V.place dcel.new.vertices) dcel.new.mesh
+    ensures star { IsHullFan (map V.place dcel.new.vertices) dcel.new.mesh
         (origin dcel.old.mesh first) first result }
     ensures bent { HasNoFlippableEdge (map V.place dcel.new.vertices) dcel.new.mesh first result }
     ensures beside { StandsBeside dcel.old dcel.new (origin dcel.old.mesh first) turned.new.items }
@@ -108,11 +108,11 @@ fn cut_corner<V: HasPosition, DE: Drop, UE: Drop, F: Drop>(
     vertex: FixedVertexHandle,
     sides: &mut Vec<FixedDirectedEdgeHandle>,
 )
-    requires star { IsHullStar (map V.place dcel.old.vertices) dcel.old.mesh vertex first count }
+    requires star { IsHullFan (map V.place dcel.old.vertices) dcel.old.mesh vertex first count }
     requires bent { HasNoFlippableEdge (map V.place dcel.old.vertices) dcel.old.mesh first count }
     requires corner { IsCornerAt (map V.place dcel.old.vertices) dcel.old.mesh first }
     requires room { count ≤ vec_capacity sides.old }
-    ensures isolates { LosesEdges V.place dcel.old dcel.new vertex [] }
+    ensures isolates { LosesStar V.place dcel.old dcel.new vertex [] }
     ensures capacity { vec_capacity sides.new ≡ vec_capacity sides.old }
 {
     dcel.recall_invariant();
@@ -129,12 +129,12 @@ fn close_flat<V: HasPosition, DE: Drop, UE: Drop, F: Drop>(
     vertex: FixedVertexHandle,
     turned: &mut Vec<VertexPair>,
 )
-    requires star { IsHullStar (map V.place dcel.old.vertices) dcel.old.mesh vertex first 3 }
+    requires star { IsHullFan (map V.place dcel.old.vertices) dcel.old.mesh vertex first 3 }
     requires flat { side (place (map V.place dcel.old.vertices) (neighbour dcel.old.mesh first 0))
         (place (map V.place dcel.old.vertices) vertex)
         (place (map V.place dcel.old.vertices) (neighbour dcel.old.mesh first 2)) ≡ on }
     requires room { vec_len turned.old < vec_capacity turned.old }
-    ensures isolates { LosesEdges V.place dcel.old dcel.new vertex turned.new.items }
+    ensures isolates { LosesStar V.place dcel.old dcel.new vertex turned.new.items }
     ensures pairs { KeepsPairs turned.old.items turned.new.items }
 {
     dcel.recall_invariant();
@@ -167,7 +167,7 @@ pub(crate) fn isolate_on_hull<
     requires room { length dcel.old.directed ≤ vec_capacity lists.old.sides }
     requires pairs { HasRoomAt dcel.old.mesh vertex (vec_len lists.old.turned)
         (vec_capacity lists.old.turned) }
-    ensures isolates { LosesEdges V.place dcel.old dcel.new vertex lists.new.turned.items }
+    ensures isolates { LosesStar V.place dcel.old dcel.new vertex lists.new.turned.items }
     ensures capacity { lists.new.tested.room ≡ lists.old.tested.room }
 {
     let count = shrink_hull_star(dcel, first, tests, &mut lists.turned);

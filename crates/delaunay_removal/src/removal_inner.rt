@@ -11,7 +11,7 @@ ghost use Rattle.mesh_embedding.specs.Drawn.{faces_of, outer_of};
 ghost use Rattle.delaunay_removal.specs.Data.{StandsBeside};
 ghost use Rattle.delaunay_removal.specs.Pairs.{HasRoomAt, KeepsPairs};
 ghost use Rattle.delaunay_removal.specs.Star.{HasInnerFaces, IsBetweenAt, IsInnerStar, IsReduced};
-ghost use Rattle.delaunay_removal.specs.Star.{LosesEdges, StandsBetween};
+ghost use Rattle.delaunay_removal.specs.Star.{LosesStar, StandsBetween};
 
 use crate::choice::{Spokes, edge_to_go_on};
 use crate::pairs::VertexPair;
@@ -145,7 +145,7 @@ fn fill_four<V: HasPosition, DE: Drop, UE: Drop, F: Drop>(
     requires star { IsInnerStar (map V.place dcel.old.vertices) dcel.old.mesh vertex first 4 }
     requires between { IsBetweenAt (map V.place dcel.old.vertices) dcel.old.mesh first }
     requires room { vec_len turned.old < vec_capacity turned.old }
-    ensures isolates { LosesEdges V.place dcel.old dcel.new vertex turned.new.items }
+    ensures isolates { LosesStar V.place dcel.old dcel.new vertex turned.new.items }
     ensures pairs { KeepsPairs turned.old.items turned.new.items }
 {
     dcel.recall_invariant();
@@ -172,7 +172,7 @@ pub(crate) fn isolate_inner<V: HasPosition, DE: Drop, UE: Drop, F: Drop, P: Plan
     requires sites { All (P.sites tests.now) (map V.place dcel.old.vertices) }
     requires room { HasRoomAt dcel.old.mesh vertex (vec_len turned.old)
         (vec_capacity turned.old) }
-    ensures { LosesEdges V.place dcel.old dcel.new vertex turned.new.items }
+    ensures { LosesStar V.place dcel.old dcel.new vertex turned.new.items }
 {
     let (first, count) = shrink_star(dcel, first, count, tests, turned);
     dcel.recall_invariant();

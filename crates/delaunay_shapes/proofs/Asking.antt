@@ -16,7 +16,7 @@ use Rattle.plane_tiling.proofs.Totals.{Contains-none, get_or_any}
 use Rattle.plane_edits.proofs.LocalMesh.Changes.{IsOnce, once_none}
 use Rattle.mesh_embedding.proofs.WorkLists.{contains_last, contains_before, last_or_before}
 use Rattle.mesh_embedding.proofs.WorkLists.{once_after}
-use Rattle.delaunay_shapes.specs.Flood.{IsAsked, IsFlooding, GoesOn, Asks, AsksBeside}
+use Rattle.delaunay_shapes.specs.Flood.{IsAsked, IsFlooding, Spreads, Asks, AsksBeside}
 use Rattle.delaunay_shapes.specs.Flood.{AreAskedBeside, IsSpread}
 
 -- ---- a filter
@@ -168,7 +168,8 @@ module _ (Inside : ℕ → Type 0) (count : ℕ) where
 -- ---- questions one after the other
 -- a flood that goes on twice has gone on
 pub goes_on_twice : (asked mid asked' : List Bool) (found more found' : List ℕ)
-    → GoesOn asked mid found more → GoesOn mid asked' more found' → GoesOn asked asked' found found'
+    → Spreads asked mid found more → Spreads mid asked' more found'
+    → Spreads asked asked' found found'
 goes_on_twice asked mid asked' found more found' a b = record {
   kept = λ k h. b.kept k (a.kept k h);
   more = a.more ++ b.more;
@@ -177,7 +178,7 @@ goes_on_twice asked mid asked' found more found' a b = record {
 
 -- the edges beside h that a flood has asked of are asked of still when it goes on
 stays_beside : (m : Mesh) (asked asked' : List Bool) (found found' : List ℕ) (h : ℕ) →
-    GoesOn asked asked' found found' → AreAskedBeside m asked h → AreAskedBeside m asked' h
+    Spreads asked asked' found found' → AreAskedBeside m asked h → AreAskedBeside m asked' h
 stays_beside m asked asked' found found' h on b =
     record { after = on.kept (next m h / 2) b.after; before = on.kept (prev m h / 2) b.before }
 
@@ -204,7 +205,7 @@ pub record IsSpreadTo (m : Mesh) (asked : List Bool) (found : List ℕ) (i : ℕ
   pub right : (j : ℕ) → j < i → AreAskedBeside m asked (rev (2 * get_or found j 0))
 
 kept_place : (asked asked' : List Bool) (found found' : List ℕ) (j : ℕ)
-    → GoesOn asked asked' found found' → j < length found → get_or found' j 0 ≡ get_or found j 0
+    → Spreads asked asked' found found' → j < length found → get_or found' j 0 ≡ get_or found j 0
 kept_place asked asked' found found' j on h =
     ap (λ xs. get_or xs j 0) on.grown ∙ get_or_append_left found on.more 0 j h
 
@@ -234,7 +235,7 @@ spread_more Inside m count asked mid asked' found more found' i d s here a b = r
       ];
 }
   where
-    on : GoesOn asked asked' found found'
+    on : Spreads asked asked' found found'
     on = goes_on_twice asked mid asked' found more found' a.on b.on
 
     same : get_or found i 0 ≡ get_or found i d

@@ -6,21 +6,21 @@ use Rattle.plane.specs.Fraction.{Point, Fraction}
 use Rattle.plane.specs.Shape.{InClosedCircle, InClosedRectangle}
 use Rattle.plane_delaunay.specs.Flood.{circle, rectangle}
 use Rattle.delaunay_shapes.specs.Flood.{IsRegion}
-use Rattle.delaunay_shapes.specs.Start.{BeginsAt}
+use Rattle.delaunay_shapes.specs.Start.{HasStartAt}
 
 -- a closed circle and a closed rectangle are regions with a start
 pub circle_begins : (centre : Point) (radius_2 : ℤ)
-    → BeginsAt (InClosedCircle centre radius_2) centre
+    → HasStartAt (InClosedCircle centre radius_2) centre
 circle_begins centre radius_2 =
     record { region = circle centre radius_2; same = λ q. ((λ x. x), (λ x. x)); start = refl }
 
 -- a closed rectangle is a region that starts at its lower corner
-pub rectangle_begins : (lower upper : Point) → BeginsAt (InClosedRectangle lower upper) lower
+pub rectangle_begins : (lower upper : Point) → HasStartAt (InClosedRectangle lower upper) lower
 rectangle_begins lower upper =
     record { region = rectangle lower upper; same = λ q. ((λ x. x), (λ x. x)); start = refl }
 
 -- a shape that starts at a point is a region
-pub region_of_start : (Shape : Fraction → Type 0) (p : Point) → BeginsAt Shape p → IsRegion Shape
+pub region_of_start : (Shape : Fraction → Type 0) (p : Point) → HasStartAt Shape p → IsRegion Shape
 region_of_start Shape p b = record { region = b.region; same = b.same }
 
 -- points of one kind are of another

@@ -33,7 +33,7 @@ use Rattle.delaunay_location.specs.declared.position_in_triangulation.PositionIn
 use Rattle.delaunay_location.specs.declared.position_in_triangulation.PositionInTriangulation.TheVariants.{NoTriangulation}
 use Rattle.delaunay_location.specs.Location.{location_of, Locates}
 use Rattle.delaunay_shapes.specs.Flood.{HasBegun, IsBegunBy}
-use Rattle.delaunay_shapes.specs.Start.{BeginsAt, HasOuter, HasSides, HasStarts}
+use Rattle.delaunay_shapes.specs.Start.{HasStartAt, HasOuter, HasSides, HasStarts}
 use Rattle.delaunay_shapes.proofs.Flooding.{half_by_ends, tiles}
 
 module _ (points : List Point) (m : Mesh) (v : IsValidMesh m) (shape :
@@ -165,7 +165,7 @@ module _ (points : List Point) (m : Mesh) (v : IsValidMesh m) (shape :
           first.begun s.0 s.1 s.2 (s.3.0, (s.3.1.0, s.3.1.1, (same s.3.1.0).1 s.3.1.2))
 
   -- ---- the edges to begin with
-  module _ (p : Point) (at : BeginsAt Shape p) where
+  module _ (p : Point) (at : HasStartAt Shape p) where
     at_vertex : (i : ℕ) → IsSame (whole p) (vertex (drawn points m) i)
         → ((h : ℕ) → out_edge m i ≡ Some h → Contains starts (h / 2)) → (o : Option ℕ)
         → out_edge m i ≡ o → HasBegun Shape points m starts (on_vertex i)

@@ -27,7 +27,7 @@ pub record IsFlooding (Inside : ℕ → Type 0) (count : ℕ) (asked : List Bool
   pub complete : (k : ℕ) → k < count → IsAsked asked k → Inside k → Contains found k
 
 -- each edge that was asked of still is, and found edges keep their places
-pub record GoesOn (asked asked' : List Bool) (found found' : List ℕ) : Type 0 where
+pub record Spreads (asked asked' : List Bool) (found found' : List ℕ) : Type 0 where
   pub kept : (k : ℕ) → IsAsked asked k → IsAsked asked' k
   pub more : List ℕ
   pub grown : found' ≡ found ++ more
@@ -36,7 +36,7 @@ pub record GoesOn (asked asked' : List Bool) (found found' : List ℕ) : Type 0 
 pub record Asks (Inside : ℕ → Type 0) (count : ℕ) (asked asked' : List Bool) (found found' : List ℕ)
     (k : ℕ) : Type 0 where
   pub flooding : IsFlooding Inside count asked' found'
-  pub on : GoesOn asked asked' found found'
+  pub on : Spreads asked asked' found found'
   pub there : IsAsked asked' k
 
 -- the edges before and after directed edge h in its loop were asked of
@@ -53,7 +53,7 @@ pub record IsSpread (m : Mesh) (asked : List Bool) (found : List ℕ) : Type 0 w
 pub record AsksBeside (Inside : ℕ → Type 0) (m : Mesh) (count : ℕ) (asked asked' : List Bool)
     (found found' : List ℕ) (h : ℕ) : Type 0 where
   pub flooding : IsFlooding Inside count asked' found'
-  pub on : GoesOn asked asked' found found'
+  pub on : Spreads asked asked' found found'
   pub beside : AreAskedBeside m asked' h
 
 -- the shape is a closed circle or a closed rectangle

@@ -11,7 +11,7 @@ use Rattle.delaunay_location.specs.declared.position_in_triangulation.PositionIn
 use Rattle.delaunay_location.specs.declared.position_in_triangulation.PositionInTriangulation.TheVariants.{NoTriangulation}
 
 -- the shape is a closed circle with centre p, or a closed rectangle with lower corner p
-pub record BeginsAt (Shape : Fraction → Type 0) (p : Point) : Type 0 where
+pub record HasStartAt (Shape : Fraction → Type 0) (p : Point) : Type 0 where
   pub region : Region
   pub same : (q : Fraction) → Shape q ↔ InRegion region q
   pub start : start_point region ≡ p

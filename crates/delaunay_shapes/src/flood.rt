@@ -1,7 +1,7 @@
 //! A flood over the edges of a mesh that have a point in a shape: from those found, to those beside
 //! them in their faces.
 ghost use Rattle.std.specs.Prelude.{◌<◌, ℕ, length, map, All, Contains, IfOk, OnOk};
-ghost use Rattle.delaunay_shapes.specs.Flood.{CanFlood, GoesOn, IsAsked, IsSpread};
+ghost use Rattle.delaunay_shapes.specs.Flood.{CanFlood, Spreads, IsAsked, IsSpread};
 ghost use Rattle.delaunay_shapes.specs.InShape.{AreEdgesInShape};
 ghost use Rattle.delaunay_shapes.specs.Left.{GivesEdgesIn, edges_left};
 ghost use Rattle.delaunay_shapes.specs.ShapeSearch.{AsksBesideFor, AsksFor, IsFloodFor};
@@ -87,7 +87,7 @@ impl<
     fn spread(&self, flood: &mut EdgeFlood) -> Result<(), AllocError>
         requires { IsFloodFor V.place M.shape self.now flood.old }
         ensures flooding { OnOk result (IsFloodFor V.place M.shape self.now flood.new) }
-        ensures on { OnOk result (GoesOn flood.old.asked flood.new.asked flood.old.found.items
+        ensures on { OnOk result (Spreads flood.old.asked flood.new.asked flood.old.found.items
             flood.new.found.items) }
         ensures spread { OnOk result (IsSpread self.now.dcel.mesh flood.new.asked
             flood.new.found.items) }

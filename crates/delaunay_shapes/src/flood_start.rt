@@ -8,7 +8,7 @@ ghost use Rattle.delaunay_legalization.specs.State.{state_of};
 ghost use Rattle.delaunay_location.specs.Location.{HasHandle};
 ghost use Rattle.delaunay_shapes.specs.Flood.{CanFlood};
 ghost use Rattle.delaunay_shapes.specs.ShapeSearch.{EnclosesEdge};
-ghost use Rattle.delaunay_shapes.specs.Start.{BeginsAt, HasSides, HasStarts};
+ghost use Rattle.delaunay_shapes.specs.Start.{HasStartAt, HasSides, HasStarts};
 
 use crate::distance_metric::DistanceMetric;
 use crate::shape_search::ShapeSearch;
@@ -137,7 +137,7 @@ impl<
         requires kept { IsTriangulated V.place (state_of self.now.dcel) }
         requires sites { All (P.sites self.now.tests) (map V.place self.now.dcel.vertices) }
         requires start_covered { P.covered self.now.tests (place_of V.Scalar.whole start) }
-        requires begins { BeginsAt (M.shape self.now.metric) (place_of V.Scalar.whole start) }
+        requires begins { HasStartAt (M.shape self.now.metric) (place_of V.Scalar.whole start) }
         ensures { IfOk result (λ v. CanFlood (P.covered self.now.tests)
             (M.own_points self.now.metric) (M.shape self.now.metric) V.place self.now.dcel
             v.items) }

@@ -5,7 +5,7 @@ ghost use Rattle.delaunay_legalization.specs.Shape.{IsTriangulated};
 ghost use Rattle.delaunay_legalization.specs.State.{state_of};
 ghost use Rattle.delaunay_shapes.specs.Left.{GivesEdgesIn, GivesVerticesIn, edges_left};
 ghost use Rattle.delaunay_shapes.specs.Left.{vertices_left};
-ghost use Rattle.delaunay_shapes.specs.Start.{BeginsAt};
+ghost use Rattle.delaunay_shapes.specs.Start.{HasStartAt};
 
 use crate::distance_metric::DistanceMetric;
 use crate::flood::edges_by_flood;
@@ -45,7 +45,7 @@ pub fn edges_in_shape<
     requires sites { All (P.sites tests.now) (map V.place dcel.now.vertices) }
     requires own_covered { All (P.covered tests.now) (M.own_points metric.now) }
     requires start_covered { P.covered tests.now (place_of V.Scalar.whole start) }
-    requires begins { BeginsAt (M.shape metric.now) (place_of V.Scalar.whole start) }
+    requires begins { HasStartAt (M.shape metric.now) (place_of V.Scalar.whole start) }
     ensures { IfOk result (λ it. GivesEdgesIn (M.shape metric.now) V.place dcel.entry
         (edges_left it)) }
 {
@@ -82,7 +82,7 @@ pub fn vertices_in_shape<
     requires sites { All (P.sites tests.now) (map V.place dcel.now.vertices) }
     requires own_covered { All (P.covered tests.now) (M.own_points metric.now) }
     requires start_covered { P.covered tests.now (place_of V.Scalar.whole start) }
-    requires begins { BeginsAt (M.shape metric.now) (place_of V.Scalar.whole start) }
+    requires begins { HasStartAt (M.shape metric.now) (place_of V.Scalar.whole start) }
     ensures { IfOk result (λ it. GivesVerticesIn (M.shape metric.now) V.place dcel.entry
         (vertices_left it)) }
 {

@@ -30,7 +30,7 @@ use Rattle.half_edge_links.proofs.Removing.WheelLemmas as wheel
 use Rattle.half_edge_dcel.specs.Contents.{Contents, IsMeshWithData, KeepsVertices}
 use Rattle.half_edge_dcel.specs.Growth.{joins}
 use Rattle.half_edge_dcel.specs.Removal.{FullFace, Connects, HasCorners, LosesEdges, LosesFaces}
-use Rattle.half_edge_dcel.specs.Removal.{GivesFace, OuterChanges, FillsHole, full_edges}
+use Rattle.half_edge_dcel.specs.Removal.{GivesFace, OuterSumsChange, FillsHole, full_edges}
 use Rattle.half_edge_dcel.specs.Removal.{full_edges_of, full_faces, full_faces_of, spokes_to}
 use Rattle.half_edge_dcel.specs.Removal.{faces_between}
 use Rattle.half_edge_dcel.proofs.LineSteps.{alone_after}
@@ -87,7 +87,7 @@ outer_filled : {V D U F : Type 0} (old new : Contents V D U F) (v : ℕ) (n : �
     → AllZip HasCorners lost (faces_between v n 3)
     → HasCorners made (record { first = n 0; second = n 1; third = n 2 })
     → IsPermutation (full_faces old) (lost ++ rest)
-    → IsPermutation (full_faces new) (made ∷ rest) → OuterChanges old.mesh new.mesh [] []
+    → IsPermutation (full_faces new) (made ∷ rest) → OuterSumsChange old.mesh new.mesh [] []
 outer_filled {V} {D} {U} {F} old new v n lost made rest again a b edges lost_are made_is was is f =
     let g : FullFace F → ℤ = λ x. around f x.corners in
     let es = ends_sum f old new _ a b edges in

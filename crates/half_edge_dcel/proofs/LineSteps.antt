@@ -23,7 +23,7 @@ use Rattle.half_edge_links.proofs.Removing.TakenLists.{count_ends}
 use Rattle.half_edge_dcel.specs.Contents.{Contents, IsMeshWithData}
 use Rattle.half_edge_dcel.specs.Growth.{joins}
 use Rattle.half_edge_dcel.specs.Removal.{TakesOut, FullEdge, full_edges, full_edges_of, Connects}
-use Rattle.half_edge_dcel.specs.Removal.{JoinsNeighbours, OuterChanges, LosesEdges, LeavesLine}
+use Rattle.half_edge_dcel.specs.Removal.{JoinsNeighbours, OuterSumsChange, LosesEdges, LeavesLine}
 use Rattle.half_edge_dcel.proofs.TakenOut.{length-full_edges}
 use Rattle.half_edge_dcel.proofs.TakenEdges.{listed_ends, between}
 use Rattle.half_edge_dcel.proofs.TwoEdges.{item_at, one_written_one_taken}
@@ -227,7 +227,7 @@ module _ {V D U F : Type 0} (c0 c2 : Contents V D U F) (mid : Mesh) (e : ℕ)
 -- the only edge of a vertex goes
 outer_end : (m new : Mesh) (v u : ℕ) → IsValidMesh m → IsValidMesh new → triangles new ≡ triangles m
     → ((f : ℕ → ℕ → ℤ) → total (both_ways f) (ends m) ≡ total (both_ways f) (joins v u ∷ [])
-    +ℤ total (both_ways f) (ends new)) → OuterChanges m new (joins v u ∷ joins u v ∷ []) []
+    +ℤ total (both_ways f) (ends new)) → OuterSumsChange m new (joins v u ∷ joins u v ∷ []) []
 outer_end m new v u valid valid' same sums f =
     let a = outer_sum f m new valid valid' (f v u +ℤ f u v) (pos 0) (pos 0) (pos 0)
     (omega (arith, ints, sums f)) (ap (λ ts. total (around f) ts +ℤ pos 0) same) in
@@ -236,7 +236,7 @@ outer_end m new v u valid valid' same sums f =
 -- two edges of a vertex give way to one
 pub outer_joined : {V D U F : Type 0} (old new : Contents V D U F) (v u w : ℕ) → IsMeshWithData old
     → IsMeshWithData new → triangles new.mesh ≡ triangles old.mesh → JoinsNeighbours old new v u w
-    → OuterChanges old.mesh new.mesh (joins v u ∷ joins u v ∷ joins v w ∷ joins w v ∷ [])
+    → OuterSumsChange old.mesh new.mesh (joins v u ∷ joins u v ∷ joins v w ∷ joins w v ∷ [])
     (joins u w ∷ joins w u ∷ [])
 outer_joined {V} {D} {U} {F} old new v u w a b same j f =
     let g : FullEdge D U → ℤ = λ x. both_ways f (edge_ends x) in

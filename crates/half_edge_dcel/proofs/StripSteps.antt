@@ -24,7 +24,7 @@ use Rattle.half_edge_links.proofs.Removing.StripLemmas.{removable_strip}
 use Rattle.half_edge_dcel.specs.Contents.{Contents, IsMeshWithData, KeepsVertices}
 use Rattle.half_edge_dcel.specs.Growth.{joins}
 use Rattle.half_edge_dcel.specs.Removal.{Connects, HasCorners, LosesEdges, LosesFaces, LosesStrip}
-use Rattle.half_edge_dcel.specs.Removal.{OuterChanges, full_edges, full_faces, full_faces_of}
+use Rattle.half_edge_dcel.specs.Removal.{OuterSumsChange, full_edges, full_faces, full_faces_of}
 use Rattle.half_edge_dcel.specs.Removal.{spokes_to, faces_between, chain}
 use Rattle.half_edge_dcel.proofs.LineSteps.{alone_after}
 use Rattle.half_edge_dcel.proofs.OuterSums.{ends_sum, corners_sum, outer_sum}
@@ -166,7 +166,7 @@ module _ (f : ℕ → ℕ → ℤ) (v : ℕ) (n : ℕ → ℕ) where
 outer_stripped : {V D U F : Type 0} (old new : Contents V D U F) (v : ℕ) (n : ℕ → ℕ) (k : ℕ)
     → IsMeshWithData old → IsMeshWithData new → LosesEdges old new (spokes_to v n (suc k))
     → LosesFaces old new (faces_between v n k)
-    → OuterChanges old.mesh new.mesh (joins (n 0) v ∷ joins v (n k) ∷ []) (chain n k)
+    → OuterSumsChange old.mesh new.mesh (joins (n 0) v ∷ joins v (n k) ∷ []) (chain n k)
 outer_stripped old new v n k a b edges faces f =
     let es = ends_sum f old new _ a b edges in
     let ts = corners_sum f old new _ a b faces in

@@ -11,7 +11,7 @@ use Rattle.half_edge_links.specs.Round.{neighbour}
 use Rattle.half_edge_links.specs.Triangles.{Triangle}
 use Rattle.half_edge_dcel.specs.Contents.{Contents}
 use Rattle.half_edge_dcel.specs.Growth.{joins}
-use Rattle.half_edge_dcel.specs.Removal.{FullEdge, FullFace, Connects, HasCorners, OuterChanges}
+use Rattle.half_edge_dcel.specs.Removal.{FullEdge, FullFace, Connects, HasCorners, OuterSumsChange}
 use Rattle.half_edge_dcel.specs.Removal.{full_edges, full_faces, spokes_to, faces_between}
 use Rattle.half_edge_dcel.specs.Removal.{first_spoke}
 
@@ -85,5 +85,5 @@ pub record FillsWithFan {V D U F : Type 0} (old new : Contents V D U F) (v : ℕ
   pub other_faces : List (FullFace F)
   pub faces_were : IsPermutation (full_faces old) (lost_faces ++ other_faces)
   pub faces_are : IsPermutation (full_faces new) (made_faces ++ other_faces)
-  pub outer : OuterChanges old.mesh new.mesh [] []
+  pub outer : OuterSumsChange old.mesh new.mesh [] []
   pub outline : KeepsOneOutline old.mesh new.mesh

@@ -104,8 +104,8 @@ GivesFace old new corners value =
 
 -- the outer edges are the former ones, without those that are gone, and those that were made: as
 -- sums of any number that a direction has
-abbrev pub OuterChanges : Mesh → Mesh → List Ends → List Ends → Type 0
-OuterChanges old new gone made =
+abbrev pub OuterSumsChange : Mesh → Mesh → List Ends → List Ends → Type 0
+OuterSumsChange old new gone made =
     (f : ℕ → ℕ → ℤ) → total (along f) (outline new) +ℤ total (along f) gone
     ≡ total (along f) (outline old) +ℤ total (along f) made
 
@@ -170,8 +170,8 @@ pub record LeavesLine {V D U F : Type 0} (old new : Contents V D U F) (v : ℕ) 
       ≡ record old { mesh = new.mesh; directed = new.directed; undirected = new.undirected }
   pub alone : IsAlone new.mesh v
   pub how : (new ≡ old) ⊎ (((u : ℕ) × (u ≢ v) × LosesEdges old new (joins v u ∷ [])
-      × OuterChanges old.mesh new.mesh (joins v u ∷ joins u v ∷ []) [])
-      ⊎ ((u : ℕ) × (w : ℕ) × (u ≢ w) × JoinsNeighbours old new v u w × OuterChanges old.mesh
+      × OuterSumsChange old.mesh new.mesh (joins v u ∷ joins u v ∷ []) [])
+      ⊎ ((u : ℕ) × (w : ℕ) × (u ≢ w) × JoinsNeighbours old new v u w × OuterSumsChange old.mesh
       new.mesh (joins v u ∷ joins u v ∷ joins v w ∷ joins w v ∷ []) (joins u w ∷ joins w u ∷ [])))
 
 -- vertex v goes from a line: its neighbours, if it has two, are joined, and the last vertex takes
@@ -220,7 +220,7 @@ pub record LosesStrip {V D U F : Type 0} (old new : Contents V D U F) (v : ℕ) 
   pub alone : IsAlone new.mesh v
   pub edges : LosesEdges old new (spokes_to v n (suc k))
   pub faces : LosesFaces old new (faces_between v n k)
-  pub outer : OuterChanges old.mesh new.mesh (joins (n 0) v ∷ joins v (n k) ∷ []) (chain n k)
+  pub outer : OuterSumsChange old.mesh new.mesh (joins (n 0) v ∷ joins v (n k) ∷ []) (chain n k)
   pub outline : KeepsOneOutline old.mesh new.mesh
 
 -- inner vertex v, with faces between the three vertices n 0, n 1, n 2 round it, has no edges any
@@ -239,5 +239,5 @@ pub record FillsHole {V D U F : Type 0} (old new : Contents V D U F) (v : ℕ)
   pub rest : List (FullFace F)
   pub was : IsPermutation (full_faces old) (lost ++ rest)
   pub is : IsPermutation (full_faces new) (made ∷ rest)
-  pub outer : OuterChanges old.mesh new.mesh [] []
+  pub outer : OuterSumsChange old.mesh new.mesh [] []
   pub outline : KeepsOneOutline old.mesh new.mesh

@@ -6,7 +6,7 @@ use mathlib.Core.Logic.{inl, inr, ◌≢◌}
 use Rattle.std.specs.Prelude.{ℤ, pos, ◌+ℤ◌, Contains}
 use Rattle.std.proofs.lemmas.Int.{ints}
 use Rattle.half_edge_mesh.specs.Contents.{Contents, IsMeshWithData}
-use Rattle.half_edge_mesh.specs.Removal.{FillsHole, OuterChanges}
+use Rattle.half_edge_mesh.specs.Removal.{FillsHole, OuterSumsChange}
 use Rattle.plane.specs.Fraction.{Point, WithinSegment}
 use Rattle.plane.specs.Pairs.{place}
 use Rattle.plane.specs.Tiling.{Face, face as corners}
@@ -22,7 +22,7 @@ use Rattle.mesh_embedding.proofs.PairSums.{sums_change, outer_sums}
 
 -- the outer edges stay
 outer_same : {V D U F : Type 0} (old new : Contents V D U F) → IsOnce (outer_of old.mesh)
-    → OuterChanges old.mesh new.mesh [] []
+    → OuterSumsChange old.mesh new.mesh [] []
     → OuterChange (outer_of old.mesh) (outer_of new.mesh) [] []
 outer_same old new once sums = sums_change (outer_of old.mesh) (outer_of new.mesh) [] []
     (outer_sums old.mesh new.mesh [] [] sums) once once_none

@@ -25,7 +25,7 @@ use Rattle.mesh_embedding.proofs.OuterChanges.{outer_kept}
 use Rattle.mesh_embedding.proofs.RoundShift.{three_below}
 use Rattle.mesh_embedding.proofs.MeshStars.{inner_star, hull_star, hull_strip, neighbours_apart}
 use Rattle.mesh_embedding.proofs.MeshStarFlips.{spoke_flippable, twin_flippable, spoke_turned}
-use Rattle.mesh_embedding.proofs.StarTurns.{TurnsAway, turns_away, first_end, second_end, third_end}
+use Rattle.mesh_embedding.proofs.StarTurns.{TurnsOff, turns_away, first_end, second_end, third_end}
 use Rattle.mesh_embedding.proofs.StarTurns.{again_end}
 use Rattle.mesh_embedding.proofs.MeshInnerRemoval.{three_faces_go, four_faces_go}
 use Rattle.mesh_embedding.proofs.MeshHullRemoval.{corner_cut, flat_vertex_goes}
@@ -90,7 +90,7 @@ module _ {V D U F : Type 0} (points : List Point) (old : Contents V D U F) (befo
         (faces : FlipsTriangles old.mesh between.mesh (2 * (spoke old.mesh first 1 / 2)))
         (outer : KeepsOuter old.mesh between.mesh) where
       -- the flip turns the second edge of v away from it
-      pub four_turned : TurnsAway old.mesh between.mesh (spoke old.mesh first 1)
+      pub four_turned : TurnsOff old.mesh between.mesh (spoke old.mesh first 1)
       four_turned = turns_away old.mesh between.mesh (spoke old.mesh first 1) before.valid.sound
           (spoke_flippable points old.mesh before.valid local v first 4 round 0 (inner 0) (inner 1))
           (twin_flippable points old.mesh before.valid local v first 4 round 0 (inner 0)
@@ -157,7 +157,7 @@ module _ {V D U F : Type 0} (points : List Point) (old : Contents V D U F) (befo
           1 (omega arith)
 
       -- the flip turns the one inner edge at v away from it
-      pub flat_turned : TurnsAway old.mesh between.mesh (spoke old.mesh first 1)
+      pub flat_turned : TurnsOff old.mesh between.mesh (spoke old.mesh first 1)
       flat_turned = turns_away old.mesh between.mesh (spoke old.mesh first 1) before.valid.sound
           (spoke_flippable points old.mesh before.valid local v first 3 round 0 left right)
           (twin_flippable points old.mesh before.valid local v first 3 round 0 left right)

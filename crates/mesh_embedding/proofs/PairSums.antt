@@ -9,7 +9,7 @@ use Rattle.plane.proofs.IntegerOrder.{lt_or_ge_ℤ}
 use Rattle.half_edge_mesh.specs.Mesh.{Mesh}
 use Rattle.half_edge_mesh.specs.Outline.{Ends}
 use Rattle.half_edge_mesh.specs.Flow.{outline}
-use Rattle.half_edge_mesh.specs.Removal.{OuterChanges}
+use Rattle.half_edge_mesh.specs.Removal.{OuterSumsChange}
 use Rattle.plane_tiling.specs.Local.{total, along}
 use Rattle.plane_tiling.proofs.Flows.{is_pair, is_pair_nonneg, is_pair_own, pair_found}
 use Rattle.plane_tiling.proofs.Flows.{outer_counts}
@@ -153,7 +153,7 @@ module _ (old new gone made : List (ℕ × ℕ)) (sums : SumsChange old new gone
           (counts i j) (times_nonneg gone i j) (at_most_once old i j once) (not_listed made i j n)
 
 -- the sums that a call of the mesh gives
-pub outer_sums : (old new : Mesh) (gone made : List Ends) → OuterChanges old new gone made
+pub outer_sums : (old new : Mesh) (gone made : List Ends) → OuterSumsChange old new gone made
     → SumsChange (outer_of old) (outer_of new) (map pair_of gone) (map pair_of made)
 outer_sums old new gone made c f =
     (λ t. total-read (along f) pair_of (outline new) t +ℤ total-read (along f) pair_of gone t)

@@ -1,6 +1,6 @@
 -- An edge at a vertex is turned: of four faces round the vertex three are left, of two on the hull
 -- one.
--- Notions: TurnsAway; turns_away, neighbour_other, first_turn, first_inner, other_turn,
+-- Notions: TurnsOff; turns_away, neighbour_other, first_turn, first_inner, other_turn,
 -- other_face, other_next, same_end, same_start, first_end, second_end, wheel_left, third_end,
 -- again_end, strip_left, wheel_of_three.
 use Rattle.std.proofs.Common.{◌≡◌, ℕ, zero, suc, ◌<◌, ◌*◌, ◌/◌, length, sym, ap, ◌∙◌, subst, arith}
@@ -20,7 +20,7 @@ use Rattle.mesh_embedding.proofs.TurnedEnds.{KeepsOtherOrigins}
 
 -- what a turn of edge e leaves at the vertex where it starts, whichever of its two directions was
 -- turned
-pub record TurnsAway (m new : Mesh) (e : ℕ) : Type 0 where
+pub record TurnsOff (m new : Mesh) (e : ℕ) : Type 0 where
   pub edge_count : length new.half_edges ≡ length m.half_edges
   pub others : (h : ℕ) → IsOffFlip m e h → edge_at new.half_edges h ≡ edge_at m.half_edges h
   pub origins : KeepsOtherOrigins m new e
@@ -28,7 +28,7 @@ pub record TurnsAway (m new : Mesh) (e : ℕ) : Type 0 where
   pub inner : face new (next m (rev e)) ≡ face m (rev e)
 
 turns_edge : (m new : Mesh) (e : ℕ) → AreSoundLinks m → IsFlippable m e → Flips m new e
-    → TurnsAway m new e
+    → TurnsOff m new e
 turns_edge m new e s can flips = record {
   edge_count = flips.edge_count;
   others = λ h k. flips.other_edges h k.edge k.twin k.edge_next k.twin_next k.edge_prev k.twin_prev;
@@ -38,7 +38,7 @@ turns_edge m new e s can flips = record {
 }
 
 turns_twin : (m new : Mesh) (e : ℕ) → AreSoundLinks m → IsFlippable m (rev e) → Flips m new (rev e)
-    → TurnsAway m new e
+    → TurnsOff m new e
 turns_twin m new e s can flips = record {
   edge_count = flips.edge_count;
   others = λ h k. flips.other_edges h k.twin (λ q. k.edge (q ∙ rev-rev e)) k.twin_next
@@ -51,7 +51,7 @@ turns_twin m new e s can flips = record {
 
 -- the turn of the undirected edge of e
 pub turns_away : (m new : Mesh) (e : ℕ) → AreSoundLinks m → IsFlippable m e → IsFlippable m (rev e)
-    → new ≡ flipped m (2 * (e / 2)) → TurnsAway m new e
+    → new ≡ flipped m (2 * (e / 2)) → TurnsOff m new e
 turns_away m new e s one other is = elim (halved e) [
   | inl q ↦ turns_edge m new e s one (flips_is m new e s one (is ∙ ap (flipped m) q))
   | inr q ↦ turns_twin m new e s other (flips_is m new (rev e) s other (is ∙ ap (flipped m) q))
@@ -60,7 +60,7 @@ turns_away m new e s one other is = elim (halved e) [
 -- ---- the edge that comes second round a vertex
 module _ (m new : Mesh) (valid : IsValidMesh m) (v first count : ℕ)
     (round : IsRound m v first count) (many : 2 < count) (left : 0 < face m first)
-    (right : 0 < face m (turn m first)) (turns : TurnsAway m new (turn m first)) where
+    (right : 0 < face m (turn m first)) (turns : TurnsOff m new (turn m first)) where
   abbrev e : ℕ
   e = turn m first
 
@@ -152,7 +152,7 @@ module _ (m new : Mesh) (valid : IsValidMesh m) (v first count : ℕ)
 
 -- ---- of four faces round a vertex three are left
 module _ (m new : Mesh) (valid : IsValidMesh m) (v first : ℕ) (round : IsRound m v first 4)
-    (inner : (i : ℕ) → 0 < face m (spoke m first i)) (turns : TurnsAway m new (turn m first)) where
+    (inner : (i : ℕ) → 0 < face m (spoke m first i)) (turns : TurnsOff m new (turn m first)) where
   third_turn : turn new (turn new first) ≡ spoke m first 3
   third_turn =
       ap (turn new) (first_turn m new valid v first 4 round (omega arith) (inner 0) (inner 1) turns)
@@ -186,7 +186,7 @@ module _ (m new : Mesh) (valid : IsValidMesh m) (v first : ℕ) (round : IsRound
 
 -- ---- of two faces at a vertex on the hull one is left
 module _ (m new : Mesh) (valid : IsValidMesh m) (v first : ℕ) (round : IsRound m v first 3)
-    (strip : IsStrip m first 2) (turns : TurnsAway m new (turn m first)) where
+    (strip : IsStrip m first 2) (turns : TurnsOff m new (turn m first)) where
   -- the outer edge to the vertex stays
   beside_back : IsOffFlip m (turn m first) (rev first)
   beside_back =

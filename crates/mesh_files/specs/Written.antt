@@ -1,6 +1,6 @@
 -- Numbers as a file has them, and segments between points of a list.
 use Rattle.std.specs.Prelude.{◌<◌, ℕ, List}
-use Rattle.decimal_numbers.specs.Value.{Writes, IsShortest}
+use Rattle.decimal_numbers.specs.Value.{SpellsValue, IsShortest}
 use Rattle.decimal_numbers.specs.declared.decimal.Decimal.{Decimal}
 use Rattle.mesh_files.specs.declared.drawing.Segment.{Segment}
 
@@ -12,5 +12,5 @@ HasEnds count s = (s.from < count) × (s.to < count)
 pub record IsAsWritten (text : List ℕ) (d : Decimal) : Type 0 where
   pub magnitude : ℕ
   pub digits : ℕ
-  pub written : Writes text d.negative magnitude digits
+  pub written : SpellsValue text d.negative magnitude digits
   pub shortest : IsShortest magnitude digits d.magnitude d.digits

@@ -16,7 +16,7 @@ use Rattle.plane.specs.Fraction.{Fraction, OnSegment}
 use Rattle.plane.specs.Tiling.{Triangulation, IsFace, vertex, TilesHull}
 use Rattle.plane_delaunay.proofs.Points.Bracket.{bracket, above_if_left}
 use Rattle.plane_delaunay.proofs.Points.Nudges.{size, nudge, bracket-nudge, nudge-above, nudge-on}
-use Rattle.plane_delaunay.proofs.Points.Nudges.{Closed, Inside, closed-turned, closed_of_inside}
+use Rattle.plane_delaunay.proofs.Points.Nudges.{Closed, InOpen, closed-turned, closed_of_inside}
 use Rattle.plane_delaunay.proofs.Tilings.Faces.{Between, between-on, between-second, between-third}
 use Rattle.plane_delaunay.proofs.Tilings.Faces.{between-closed, both_inside, side_not_inside}
 use Rattle.plane_delaunay.proofs.Tilings.Faces.{none_within}
@@ -132,7 +132,7 @@ module _ (t : Triangulation) (h : TilesHull t) where
       → pos 0 <ℤ bracket (vertex t a) (vertex t b) x
       → size (bracket (vertex t b) (vertex t c) x) < n
       → size (bracket (vertex t c) (vertex t a) x) < n
-      → Inside (vertex t a) (vertex t b) (vertex t c)
+      → InOpen (vertex t a) (vertex t b) (vertex t c)
       (nudge n (halfway (vertex t a) (vertex t b)) x)
   near_side a b c x n f left i j =
       let A = vertex t a in
@@ -162,14 +162,14 @@ module _ (t : Triangulation) (h : TilesHull t) where
 
     -- a face with a point strictly inside that is in a closed free face is free
     pub free_where_shared : (a b c d e f : ℕ) → IsFace t a b c → Free d e f → (x : Fraction)
-        → Inside (vertex t a) (vertex t b) (vertex t c) x
+        → InOpen (vertex t a) (vertex t b) (vertex t c) x
         → Closed (vertex t d) (vertex t e) (vertex t f) x → Free a b c
     free_where_shared a b c d e f g free x inside closed =
         go (both_inside (vertex t d) (vertex t e) (vertex t f) (vertex t a) (vertex t b)
         (vertex t c) x (above_if_left _ _ _ (h.turning d e f (is_face d e f free))) closed inside)
       where
-        go : (y : Fraction) × Inside (vertex t d) (vertex t e) (vertex t f) y
-            × Inside (vertex t a) (vertex t b) (vertex t c) y → Free a b c
+        go : (y : Fraction) × InOpen (vertex t d) (vertex t e) (vertex t f) y
+            × InOpen (vertex t a) (vertex t b) (vertex t c) y → Free a b c
         go y = free_turned d e f a b c
             (faces_same t h d e f a b c (is_face d e f free) g y.0 y.1 y.2) free
 

@@ -20,7 +20,7 @@ use Rattle.plane.specs.Line.{Meets}
 use Rattle.plane.specs.Line as L
 use Rattle.plane_delaunay.proofs.Points.Bracket.{bracket, bracket-turned, bracket-swapped}
 use Rattle.plane_delaunay.proofs.Points.Bracket.{bracket-first, cramer, above_if_left}
-use Rattle.plane_delaunay.proofs.Points.Nudges.{Closed, Inside, inside-turned}
+use Rattle.plane_delaunay.proofs.Points.Nudges.{Closed, InOpen, inside-turned}
 use Rattle.plane_delaunay.proofs.Tilings.Faces.{Between, between-swapped, between-on, turned-above}
 use Rattle.plane_delaunay.proofs.Tilings.Meets.{Place, at_first, at_second, within, place_of}
 use Rattle.plane_delaunay.proofs.Tilings.Ground.{triangle_of_inside}
@@ -102,7 +102,7 @@ module _ (t : Triangulation) (h : TilesHull t) (Free : ℕ → ℕ → ℕ → T
       (on : OnSegment p q z) where
     -- a face with a covered point strictly inside is free
     inside_free : (a b c : ℕ) (x : Fraction) → IsFace t a b c → IsCoveredFree x
-        → Inside (vertex t a) (vertex t b) (vertex t c) x → Free a b c
+        → InOpen (vertex t a) (vertex t b) (vertex t c) x → Free a b c
     inside_free a b c x f o i =
         free_where_shared t h Free is_face turned a b c o.a o.b o.c f o.is_free x i o.closed
 
@@ -110,7 +110,7 @@ module _ (t : Triangulation) (h : TilesHull t) (Free : ℕ → ℕ → ℕ → T
     from_beside a b c f s = free_beside t h Free is_face turned a b c s.0 f s.1
 
     at_place : (x : Fraction) (a b c : ℕ) → IsSame x z → IsCoveredFree x → IsFace t a b c
-        → Inside (vertex t a) (vertex t b) (vertex t c) z → Free a b c
+        → InOpen (vertex t a) (vertex t b) (vertex t c) z → Free a b c
     at_place x a b c e o f i =
         let s = same-sym x z e in
         inside_free a b c x f o (record {
@@ -121,7 +121,7 @@ module _ (t : Triangulation) (h : TilesHull t) (Free : ℕ → ℕ → ℕ → T
 
     module _ (zp : ¬ IsSame z p) (zq : ¬ IsSame z q) (m : Between p q z) where
       -- the side from a to b starts not on the left of the segment and ends there
-      by_side : (a b c : ℕ) → IsFace t a b c → Inside (vertex t a) (vertex t b) (vertex t c) z
+      by_side : (a b c : ℕ) → IsFace t a b c → InOpen (vertex t a) (vertex t b) (vertex t c) z
           → bracket z q (vertex t a) ≤ℤ pos 0 → pos 0 <ℤ bracket z q (vertex t b) → Free a b c
       by_side a b c f i low high = go (not_positive_or_positive (bracket A B q))
         where
@@ -204,12 +204,12 @@ module _ (t : Triangulation) (h : TilesHull t) (Free : ℕ → ℕ → ℕ → T
               split (inr (inl level)) = back level
               split (inr (inr up)) = absurd (left_not_below up low)
 
-      strictly : (a b c : ℕ) → IsFace t a b c → Inside (vertex t a) (vertex t b) (vertex t c) z
+      strictly : (a b c : ℕ) → IsFace t a b c → InOpen (vertex t a) (vertex t b) (vertex t c) z
           → Free a b c
       strictly a b c f i = go (first_from_a_face t h z q zq a b c f
           (triangle_of_inside _ _ _ z (h.turning a b c f) i)).1
         where
-          at : (a b c : ℕ) → IsFace t a b c → Inside (vertex t a) (vertex t b) (vertex t c) z
+          at : (a b c : ℕ) → IsFace t a b c → InOpen (vertex t a) (vertex t b) (vertex t c) z
               → side z q (vertex t a) ≢ left → side z q (vertex t b) ≡ left → Free a b c
           at a b c f i low high = by_side a b c f i (not_left z q (vertex t a) low)
               (above_if_left z q (vertex t b) high)
@@ -228,7 +228,7 @@ module _ (t : Triangulation) (h : TilesHull t) (Free : ℕ → ℕ → ℕ → T
 
     -- a face that has a point of the segment strictly inside is free
     pub entered_is_free : (a b c : ℕ) → IsFace t a b c
-        → Inside (vertex t a) (vertex t b) (vertex t c) z → Free a b c
+        → InOpen (vertex t a) (vertex t b) (vertex t c) z → Free a b c
     entered_is_free a b c f i =
         go (decide_same z p)
         (decide_same z q)

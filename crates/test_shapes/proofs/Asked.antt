@@ -6,15 +6,15 @@ use Rattle.std.proofs.lemmas.List.Elements.{All-cons, All-nil}
 use Rattle.plane.specs.Fraction.{Point}
 use Rattle.plane.specs.Shape.{InClosedRectangle}
 use Rattle.plane.specs.Tests.{InRange}
-use Rattle.delaunay_shapes.specs.Start.{BeginsAt}
+use Rattle.delaunay_shapes.specs.Start.{HasStartAt}
 use Rattle.delaunay_shapes.specs.Tests.{corners}
 use Rattle.delaunay_shapes.proofs.Shapes.{rectangle_begins}
 
 -- a rectangle's search begins at its lower corner
 pub begins_at : (lower upper corner : Point) → lower ≡ corner
-    → BeginsAt (InClosedRectangle lower upper) corner
+    → HasStartAt (InClosedRectangle lower upper) corner
 begins_at lower upper corner e =
-    subst (BeginsAt (InClosedRectangle lower upper)) e (rectangle_begins lower upper)
+    subst (HasStartAt (InClosedRectangle lower upper)) e (rectangle_begins lower upper)
 
 -- all four corners are in range where two opposite ones are
 pub corners_in_range : (lower upper : Point) → InRange lower → InRange upper

@@ -9,7 +9,7 @@ use Rattle.std.specs.List.{flat_map}
 use Rattle.std.proofs.lemmas.Grind.{flat_map-append}
 use Rattle.std.proofs.Math.Seq.{split_at, take-suc}
 use Rattle.std.specs.Io.KnownBytes.{Appends, Keeps}
-use Rattle.triangulate_run.specs.Output.{AppendsPart, Writes, Passes, Puts}
+use Rattle.triangulate_run.specs.Output.{AppendsPart, Writes, Sends, Puts}
 use Rattle.std.proofs.Common.{Result, Ok, Err, true, false}
 use Rattle.std.specs.Prelude.{OnOk, OnErr}
 use Rattle.triangulate_watched.specs.declared.Watched.{Watched}
@@ -58,7 +58,7 @@ part_longer a b s t p = record {
 }
 
 -- nothing was put
-pub passes_nil : (a : Option (List ℕ)) (held : List ℕ) → Passes a a held held []
+pub passes_nil : (a : Option (List ℕ)) (held : List ℕ) → Sends a a held held []
 passes_nil a held = record { part = []; whole = append-nil held; written = appends_nil a }
 
 -- what is held, and then the second text, is what was passed on and is held afterwards
@@ -69,8 +69,8 @@ passed_on held mid kept s t p q e f =
     ∙ sym (append_assoc p q kept)
 
 -- one text was put behind another
-pub passes_more : (a b c : Option (List ℕ)) (held mid kept s t : List ℕ) → Passes a b held mid s
-    → Passes b c mid kept t → Passes a c held kept (s ++ t)
+pub passes_more : (a b c : Option (List ℕ)) (held mid kept s t : List ℕ) → Sends a b held mid s
+    → Sends b c mid kept t → Sends a c held kept (s ++ t)
 passes_more a b c held mid kept s t x y = record {
   part = x.part ++ y.part;
   whole = passed_on held mid kept s t x.part y.part x.whole y.whole;
@@ -78,7 +78,7 @@ passes_more a b c held mid kept s t x y = record {
 }
 
 -- the writer failed at the second text
-pub passes_part : (a b c : Option (List ℕ)) (held mid s t : List ℕ) → Passes a b held mid s
+pub passes_part : (a b c : Option (List ℕ)) (held mid s t : List ℕ) → Sends a b held mid s
     → AppendsPart b c (mid ++ t) → AppendsPart a c (held ++ (s ++ t))
 passes_part a b c held mid s t x y = record {
   part = x.part ++ y.part;
@@ -97,15 +97,15 @@ texts_more f xs i d h = ap (λ n. flat_map f (take n xs)) (add-one i)
 -- one more text of a list was put
 pub passes_at : {X : Type 0} (f : X → List ℕ) (xs : List X) (i : ℕ) (d : X)
     (a b c : Option (List ℕ)) (held mid kept : List ℕ) → i < length xs
-    → Passes a b held mid (flat_map f (take i xs)) → Passes b c mid kept (f (get_or xs i d))
-    → Passes a c held kept (flat_map f (take (i + 1) xs))
+    → Sends a b held mid (flat_map f (take i xs)) → Sends b c mid kept (f (get_or xs i d))
+    → Sends a c held kept (flat_map f (take (i + 1) xs))
 passes_at f xs i d a b c held mid kept h x y =
-    subst (λ (t : List ℕ). Passes a c held kept t) (sym (texts_more f xs i d h))
+    subst (λ (t : List ℕ). Sends a c held kept t) (sym (texts_more f xs i d h))
     (passes_more a b c held mid kept (flat_map f (take i xs)) (f (get_or xs i d)) x y)
 
 -- the writer failed at a text of a list
 pub part_at : {X : Type 0} (f : X → List ℕ) (xs : List X) (i : ℕ) (d : X) (a b c : Option (List ℕ))
-    (held mid : List ℕ) → i < length xs → Passes a b held mid (flat_map f (take i xs))
+    (held mid : List ℕ) → i < length xs → Sends a b held mid (flat_map f (take i xs))
     → AppendsPart b c (mid ++ f (get_or xs i d)) → AppendsPart a c (held ++ flat_map f xs)
 part_at f xs i d a b c held mid h x y =
     let before = flat_map f (take i xs) in
@@ -122,7 +122,7 @@ part_at f xs i d a b c held mid h x y =
 -- the writer failed at a text of a list, which another text follows
 pub part_before : {X : Type 0} (f : X → List ℕ) (xs : List X) (i : ℕ) (d : X) (end : List ℕ)
     (a b c : Option (List ℕ)) (held mid : List ℕ) → i < length xs
-    → Passes a b held mid (flat_map f (take i xs)) → AppendsPart b c (mid ++ f (get_or xs i d))
+    → Sends a b held mid (flat_map f (take i xs)) → AppendsPart b c (mid ++ f (get_or xs i d))
     → AppendsPart a c (held ++ (flat_map f xs ++ end))
 part_before f xs i d end a b c held mid h x y =
     subst (λ (t : List ℕ). AppendsPart a c t) (append_assoc held (flat_map f xs) end)
@@ -131,7 +131,7 @@ part_before f xs i d end a b c held mid h x y =
 -- the last text is put behind the others
 pub puts_behind : {W T E : Type 0} (contents : W → Option (List ℕ)) (w0 w1 w2 : Watched W)
     (r : Result T E) (held mid kept s t : List ℕ)
-    → Passes (contents (inner_of w0)) (contents (inner_of w1)) held mid s
+    → Sends (contents (inner_of w0)) (contents (inner_of w1)) held mid s
     → Puts contents w1 w2 mid kept r t → Puts contents w0 w2 held kept r (s ++ t)
 puts_behind contents w0 w1 w2 (Ok x) held mid kept s t p (q, works) =
     (passes_more _ _ _ held mid kept s t p q, works)
@@ -160,7 +160,7 @@ puts_direct contents w0 w1 w2 (Err x) held kept bytes e h (wrote, failed) = (
 -- what is held at the end is written
 pub writes_held : {W T E : Type 0} (contents : W → Option (List ℕ)) (w0 w1 w2 : Watched W)
     (r : Result T E) (held kept text : List ℕ) → held ≡ []
-    → Passes (contents (inner_of w0)) (contents (inner_of w1)) held kept text
+    → Sends (contents (inner_of w0)) (contents (inner_of w1)) held kept text
     → Writes contents w1 w2 r kept → Writes contents w0 w2 r text
 writes_held contents w0 w1 w2 (Ok x) held kept text e p (wrote, works) =
     let whole : text ≡ p.part ++ kept = ap (λ ys. ys ++ text) (sym e) ∙ p.whole in (
@@ -203,19 +203,19 @@ module _ (a b c : Option (List ℕ)) (held mid s t u : List ℕ) where
       (part_longer a b (held ++ s) (t ++ u) x)
 
   -- so it was where the first was passed on and the writer fails at the second
-  pub second_fails : Passes a b held mid s → AppendsPart b c (mid ++ t)
+  pub second_fails : Sends a b held mid s → AppendsPart b c (mid ++ t)
       → AppendsPart a c (held ++ (s ++ (t ++ u)))
   second_fails x y = passes_part a b c held mid s (t ++ u) x
       (subst (λ (ys : List ℕ). AppendsPart b c ys) (append_assoc mid t u)
       (part_longer b c (mid ++ t) u y))
 
-module _ (a b c d : Option (List ℕ)) (held mid then s t u : List ℕ) (x : Passes a b held mid s)
-    (y : Passes b c mid then t) where
+module _ (a b c d : Option (List ℕ)) (held mid then s t u : List ℕ) (x : Sends a b held mid s)
+    (y : Sends b c mid then t) where
   -- so it was where two were passed on and the writer fails at the third
   pub third_fails : AppendsPart c d (then ++ u) → AppendsPart a d (held ++ (s ++ (t ++ u)))
   third_fails z = passes_part a b d held mid s (t ++ u) x (passes_part b c d mid then t u y z)
 
   -- where the third is passed on, all three were
-  pub all_passed : (kept : List ℕ) → Passes c d then kept u → Passes a d held kept (s ++ (t ++ u))
+  pub all_passed : (kept : List ℕ) → Sends c d then kept u → Sends a d held kept (s ++ (t ++ u))
   all_passed kept z =
       passes_more a b d held mid kept s (t ++ u) x (passes_more b c d mid then kept t u y z)

@@ -22,7 +22,7 @@ use Rattle.delaunay_paths.specs.PathEdges.{LeadAlong}
 use Rattle.delaunay_edit.specs.Constrained.{constrained, constraint_edges}
 use Rattle.delaunay_edit.specs.ConstraintEdits.{AddsPathIfFree}
 use Rattle.triangulate_run.specs.declared.reply.Reply.TheVariants.{NoPath, Refused}
-use Rattle.triangulate_run.specs.Answer.{AddsPath, LeadsTo, MayRefuse}
+use Rattle.triangulate_run.specs.Answer.{ConstrainsPath, LeadsTo, MayRefuse}
 use Rattle.triangulate_run.specs.Engine.{ends_in, stage_by}
 use Rattle.triangulate_run.specs.Reply.{piece_text}
 use Rattle.triangulate_run.specs.Stage.{position}
@@ -114,7 +114,7 @@ module _ {D U F : Type 0} (old new : State (Point2 ℤ) D (CdtEdge U) F) (i j : 
           leads_within (map position new.vertices) new.mesh i j edges (adds.along apart free)
 
       -- the stage has the path with the ends of these edges
-      pub joins_some : AddsPath (stage_by constraint_edges old) i j (ends_in new.mesh edges)
+      pub joins_some : ConstrainsPath (stage_by constraint_edges old) i j (ends_in new.mesh edges)
           (stage_by constraint_edges new)
       joins_some =
           let plain = adds.plain apart free in

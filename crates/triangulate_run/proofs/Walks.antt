@@ -13,7 +13,7 @@ use Rattle.delaunay_lines.specs.declared.intersection.Intersection.{Intersection
 use Rattle.delaunay_lines.specs.declared.iterator.LineIntersectionIterator.{LineIntersectionIterator}
 use Rattle.delaunay_lines.specs.Items.{item_in}
 use Rattle.delaunay_lines.specs.Walk.{AreLeft, GivesNext}
-use Rattle.triangulate_run.specs.Output.{AppendsPart, Passes}
+use Rattle.triangulate_run.specs.Output.{AppendsPart, Sends}
 use Rattle.triangulate_run.specs.Reply.{item_text, line_text, next_text}
 use Rattle.triangulate_run.proofs.OutputLemmas.{passes_nil, passes_more, passes_part, part_longer}
 use Rattle.triangulate_run.proofs.OutputLemmas.{first_fails, second_fails, third_fails, all_passed}
@@ -26,7 +26,7 @@ pub record PutsSome {V D U F P S : Type 0} (at : V → Point) (number : S → �
   pub rest : List Item
   pub all : items ≡ done ++ rest
   pub are_left : AreLeft at number it rest
-  pub passes : Passes before now held kept (flat_map next_text done)
+  pub passes : Sends before now held kept (flat_map next_text done)
 
 -- of any items that were left before, the first have been put, and the others are left now
 abbrev pub PutsEach : {V D U F P S : Type 0} → (V → Point) → (S → ℤ) → Option (List ℕ)
@@ -55,7 +55,7 @@ module _ {V D U F P S : Type 0} (at : V → Point) (number : S → ℤ) (a b c :
   -- the next item is put, and the others are left
   pub puts_one : PutsEach at number a b held mid old it → (x : Intersection V D U F)
       → GivesNext at number it (Some x) after
-      → Passes b c mid kept (next_text (item_in x)) → PutsEach at number a c held kept old after
+      → Sends b c mid kept (next_text (item_in x)) → PutsEach at number a c held kept old after
   puts_one so_far x step put = λ items left.
       let p = so_far items left in
       let s = (step.gives p.rest p.are_left).1 in
@@ -64,7 +64,7 @@ module _ {V D U F P S : Type 0} (at : V → Point) (number : S → ℤ) (a b c :
         rest = s.0;
         all = p.all ∙ ap (λ ys. p.done ++ ys) s.1 ∙ sym (append_assoc p.done (item_in x ∷ []) s.0);
         are_left = s.2;
-        passes = subst (λ (t : List ℕ). Passes a c held kept t) (sym (text_more p.done (item_in x)))
+        passes = subst (λ (t : List ℕ). Sends a c held kept t) (sym (text_more p.done (item_in x)))
             (passes_more a b c held mid kept (flat_map next_text p.done)
             (next_text (item_in x)) p.passes put);
       }
@@ -72,11 +72,11 @@ module _ {V D U F P S : Type 0} (at : V → Point) (number : S → ℤ) (a b c :
   -- where no item is left, the text of all has been put
   pub puts_end : PutsEach at number a b held mid old it → GivesNext at number it None after
       → (items : List Item) → AreLeft at number old items
-      → Passes a b held mid (flat_map next_text items)
+      → Sends a b held mid (flat_map next_text items)
   puts_end so_far step items left =
       let p = so_far items left in
       let none = (step.gives p.rest p.are_left).0 in
-      subst (λ (ys : List Item). Passes a b held mid (flat_map next_text ys))
+      subst (λ (ys : List Item). Sends a b held mid (flat_map next_text ys))
       (sym (p.all ∙ ap (λ ys. p.done ++ ys) none ∙ append-nil p.done)) p.passes
 
   -- where the writer fails at the next item, a beginning of the text of all was put
@@ -131,7 +131,7 @@ module _ {V D U F P S : Type 0} (at : V → Point) (number : S → ℤ)
           (codes "\n") part)
 
       -- so it was where the first item was passed on and the writer fails at the others
-      pub line_others_fail : Passes a b held mid (item_text (item_in x)) → ((others : List Item)
+      pub line_others_fail : Sends a b held mid (item_text (item_in x)) → ((others : List Item)
           → AreLeft at number after others → AppendsPart b c (mid ++ flat_map next_text others))
           → (items : List Item) → AreLeft at number it items
           → AppendsPart a c (held ++ line_text items)
@@ -142,9 +142,9 @@ module _ {V D U F P S : Type 0} (at : V → Point) (number : S → ℤ)
           (codes "\n") first (part others left))
 
     module _ (a b c d : Option (List ℕ)) (held mid then : List ℕ)
-        (first : Passes a b held mid (item_text (item_in x)))
+        (first : Sends a b held mid (item_text (item_in x)))
         (rest : (others : List Item) → AreLeft at number after others
-        → Passes b c mid then (flat_map next_text others))
+        → Sends b c mid then (flat_map next_text others))
       where
         -- so it was where all items were passed on and the writer fails at the end of the line
         pub line_end_fails : AppendsPart c d (then ++ codes "\n") → (items : List Item)
@@ -155,10 +155,10 @@ module _ {V D U F P S : Type 0} (at : V → Point) (number : S → ℤ)
             (codes "\n") first (rest others left) part)
 
         -- where the end of the line is passed on, the line is
-        pub line_passed : (kept : List ℕ) → Passes c d then kept (codes "\n")
+        pub line_passed : (kept : List ℕ) → Sends c d then kept (codes "\n")
             → (items : List Item) → AreLeft at number it items
-            → Passes a d held kept (line_text items)
-        line_passed kept end = by_first (λ t. Passes a d held kept t)
+            → Sends a d held kept (line_text items)
+        line_passed kept end = by_first (λ t. Sends a d held kept t)
             (λ others left. all_passed a b c d held mid then (item_text (item_in x))
             (flat_map next_text others)
             (codes "\n") first (rest others left) kept end)

@@ -183,7 +183,7 @@ LeadsTo points i j (p ∷ path) =
 
 -- the vertices on the segment of i and j are joined, each to the next, and these pairs lead from i
 -- to j
-pub record AddsPath (old : Stage) (i j : ℕ) (path : List (ℕ × ℕ)) (new : Stage) : Type 0 where
+pub record ConstrainsPath (old : Stage) (i j : ℕ) (path : List (ℕ × ℕ)) (new : Stage) : Type 0 where
   pub apart : i ≢ j
   pub adds : Adds position old.plain new.plain i j
   pub leads : LeadsTo (points_of position old.plain) i j path
@@ -192,7 +192,7 @@ pub record AddsPath (old : Stage) (i j : ℕ) (path : List (ℕ × ℕ)) (new : 
 -- why
 abbrev pub MayJoin : Stage → ℕ → ℕ → List ℕ → Stage → Type 0
 MayJoin old i j text new =
-    ((path : List (ℕ × ℕ)) × AddsPath old i j path new × (text ≡ path_text path))
+    ((path : List (ℕ × ℕ)) × ConstrainsPath old i j path new × (text ≡ path_text path))
     ⊎ ((reply : Reply) × MayRefuse old i j reply new × (text ≡ reply_text reply))
 
 -- what a release of i and j may be answered, and what it leaves: it released, or the old stage and

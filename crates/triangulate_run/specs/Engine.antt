@@ -29,7 +29,7 @@ abbrev pub HasSites : (Point → Type 0) → Stage → Type 0
 HasSites sites s = All sites (map position s.plain.vertices)
 
 -- the list's points are covered, its sites are sites, and each vertex is a site
-pub record IsReady (covered sites : Point → Type 0) (points : List SheetPoint)
+pub record IsStageReady (covered sites : Point → Type 0) (points : List SheetPoint)
     (s : Stage) : Type 0 where
   pub points_covered : All (λ s. covered (place s)) points
   pub points_sites : All (λ s. s.site ≡ true → sites (place s)) points

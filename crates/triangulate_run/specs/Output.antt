@@ -21,7 +21,7 @@ Writes contents old new result text = MatchResult result
     × (has_failed new ≡ true))
 
 -- the text was put behind what was held, and what is not held any more was written
-pub record Passes (old new : Option (List ℕ)) (held kept text : List ℕ) : Type 0 where
+pub record Sends (old new : Option (List ℕ)) (held kept text : List ℕ) : Type 0 where
   pub part : List ℕ
   pub whole : held ++ text ≡ part ++ kept
   pub written : Appends old new part
@@ -31,7 +31,7 @@ pub record Passes (old new : Option (List ℕ)) (held kept text : List ℕ) : Ty
 abbrev pub Puts : {W T E : Type 0} → (W → Option (List ℕ)) → Watched W → Watched W → List ℕ → List ℕ
     → Result T E → List ℕ → Type 0
 Puts contents old new held kept result text = MatchResult result
-    (λ _. Passes (contents (inner_of old)) (contents (inner_of new)) held kept text
+    (λ _. Sends (contents (inner_of old)) (contents (inner_of new)) held kept text
     × (has_failed new ≡ false))
     (λ _. AppendsPart (contents (inner_of old)) (contents (inner_of new)) (held ++ text)
     × (has_failed new ≡ true))

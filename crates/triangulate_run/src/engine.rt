@@ -4,7 +4,7 @@ ghost use Rattle.triangulate_watched.specs.Watched.{has_failed};
 ghost use Rattle.triangulate_run.specs.Stage.{position, first_stage, Fits};
 ghost use Rattle.triangulate_run.specs.Points.{place};
 ghost use Rattle.triangulate_run.specs.Output.{Writes};
-ghost use Rattle.triangulate_run.specs.Engine.{stage_of, IsReady};
+ghost use Rattle.triangulate_run.specs.Engine.{stage_of, IsStageReady};
 ghost use Rattle.triangulate_run.specs.Answer.{AreVertices, IsReplied, MayCount, MayInsert};
 ghost use Rattle.triangulate_run.specs.Answer.{MayJoin, MayList, MayLocate, MayMeasure, MayRelease};
 ghost use Rattle.triangulate_run.specs.Answer.{MayRemove, MayReply, MayWalk, point_at};
@@ -54,7 +54,7 @@ impl<P: PlaneTests<i64>, L: HintGenerator<i64>> Engine for PointEngine<'_, P, L>
 
     ghost stage = { λ e. stage_of e.triangulation };
 
-    ghost is_ready = { λ e. IsReady (P.covered e.tests.now) (P.sites e.tests.now) e.points.now
+    ghost is_ready = { λ e. IsStageReady (P.covered e.tests.now) (P.sites e.tests.now) e.points.now
         (stage_of e.triangulation) };
 
     fn answer<W: Write>(
@@ -80,7 +80,7 @@ impl<'a, P: PlaneTests<i64>, L: HintGenerator<i64>> PointEngine<'a, P, L> {
     pub(crate) fn new(alloc: Global, tests: &'a P, points: &'a [SheetPoint]) -> Self
         requires covered { All (λ s. P.covered tests.now (place s)) points.now }
         requires sites { All (λ s. s.site ≡ true → P.sites tests.now (place s)) points.now }
-        ensures ready { IsReady (P.covered result.tests.now) (P.sites result.tests.now)
+        ensures ready { IsStageReady (P.covered result.tests.now) (P.sites result.tests.now)
             result.points.now (stage_of result.triangulation) }
         ensures points { result.points.now ≡ points.now }
         ensures stage { stage_of result.triangulation ≡ first_stage }
@@ -108,10 +108,10 @@ impl<'a, P: PlaneTests<i64>, L: HintGenerator<i64>> PointEngine<'a, P, L> {
 
     /// Does what a command asks for whose reply is one line or the list of faces.
     fn reply_to(&mut self, command: Command) -> Reply
-        requires ready { IsReady (P.covered self.old.tests.now) (P.sites self.old.tests.now)
+        requires ready { IsStageReady (P.covered self.old.tests.now) (P.sites self.old.tests.now)
             self.old.points.now (stage_of self.old.triangulation) }
         requires other { IsReplied command }
-        ensures ready { IsReady (P.covered self.new.tests.now) (P.sites self.new.tests.now)
+        ensures ready { IsStageReady (P.covered self.new.tests.now) (P.sites self.new.tests.now)
             self.new.points.now (stage_of self.new.triangulation) }
         ensures points { self.new.points ≡ self.old.points }
         ensures reply { MayReply self.old.points.now (stage_of self.old.triangulation) command
@@ -130,9 +130,9 @@ impl<'a, P: PlaneTests<i64>, L: HintGenerator<i64>> PointEngine<'a, P, L> {
     }
 
     fn insert(&mut self, point: Point2<i64>) -> Reply
-        requires ready { IsReady (P.covered self.old.tests.now) (P.sites self.old.tests.now)
+        requires ready { IsStageReady (P.covered self.old.tests.now) (P.sites self.old.tests.now)
             self.old.points.now (stage_of self.old.triangulation) }
-        ensures ready { IsReady (P.covered self.new.tests.now) (P.sites self.new.tests.now)
+        ensures ready { IsStageReady (P.covered self.new.tests.now) (P.sites self.new.tests.now)
             self.new.points.now (stage_of self.new.triangulation) }
         ensures points { self.new.points ≡ self.old.points }
         ensures reply { MayInsert self.old.points.now (stage_of self.old.triangulation) point result
@@ -147,9 +147,9 @@ impl<'a, P: PlaneTests<i64>, L: HintGenerator<i64>> PointEngine<'a, P, L> {
     }
 
     fn remove(&mut self, index: u64) -> Reply
-        requires ready { IsReady (P.covered self.old.tests.now) (P.sites self.old.tests.now)
+        requires ready { IsStageReady (P.covered self.old.tests.now) (P.sites self.old.tests.now)
             self.old.points.now (stage_of self.old.triangulation) }
-        ensures ready { IsReady (P.covered self.new.tests.now) (P.sites self.new.tests.now)
+        ensures ready { IsStageReady (P.covered self.new.tests.now) (P.sites self.new.tests.now)
             self.new.points.now (stage_of self.new.triangulation) }
         ensures points { self.new.points ≡ self.old.points }
         ensures reply { MayRemove (stage_of self.old.triangulation) index result
@@ -162,7 +162,7 @@ impl<'a, P: PlaneTests<i64>, L: HintGenerator<i64>> PointEngine<'a, P, L> {
     }
 
     fn locate(&self, point: Point2<i64>) -> Reply
-        requires ready { IsReady (P.covered self.now.tests.now) (P.sites self.now.tests.now)
+        requires ready { IsStageReady (P.covered self.now.tests.now) (P.sites self.now.tests.now)
             self.now.points.now (stage_of self.now.triangulation) }
         ensures { MayLocate self.now.points.now (stage_of self.now.triangulation).triangulation
             (position point) result }
@@ -176,7 +176,7 @@ impl<'a, P: PlaneTests<i64>, L: HintGenerator<i64>> PointEngine<'a, P, L> {
     }
 
     fn nearest(&self, point: Point2<i64>) -> Reply
-        requires ready { IsReady (P.covered self.now.tests.now) (P.sites self.now.tests.now)
+        requires ready { IsStageReady (P.covered self.now.tests.now) (P.sites self.now.tests.now)
             self.now.points.now (stage_of self.now.triangulation) }
         ensures { MayMeasure self.now.points.now (stage_of self.now.triangulation).triangulation
             (position point) result }
@@ -211,9 +211,9 @@ impl<'a, P: PlaneTests<i64>, L: HintGenerator<i64>> PointEngine<'a, P, L> {
     }
 
     fn release(&mut self, from: u64, to: u64) -> Reply
-        requires ready { IsReady (P.covered self.old.tests.now) (P.sites self.old.tests.now)
+        requires ready { IsStageReady (P.covered self.old.tests.now) (P.sites self.old.tests.now)
             self.old.points.now (stage_of self.old.triangulation) }
-        ensures ready { IsReady (P.covered self.new.tests.now) (P.sites self.new.tests.now)
+        ensures ready { IsStageReady (P.covered self.new.tests.now) (P.sites self.new.tests.now)
             self.new.points.now (stage_of self.new.triangulation) }
         ensures points { self.new.points ≡ self.old.points }
         ensures reply { MayRelease (stage_of self.old.triangulation) from to result
@@ -234,10 +234,10 @@ impl<'a, P: PlaneTests<i64>, L: HintGenerator<i64>> PointEngine<'a, P, L> {
         to: u64,
         writer: &mut Watched<W>,
     ) -> Result<(), Failed>
-        requires ready { IsReady (P.covered self.old.tests.now) (P.sites self.old.tests.now)
+        requires ready { IsStageReady (P.covered self.old.tests.now) (P.sites self.old.tests.now)
             self.old.points.now (stage_of self.old.triangulation) }
         requires works { has_failed writer.old ≡ false }
-        ensures ready { IsReady (P.covered self.new.tests.now) (P.sites self.new.tests.now)
+        ensures ready { IsStageReady (P.covered self.new.tests.now) (P.sites self.new.tests.now)
             self.new.points.now (stage_of self.new.triangulation) }
         ensures points { self.new.points ≡ self.old.points }
         ensures answered { (text : List ℕ)
@@ -265,7 +265,7 @@ impl<'a, P: PlaneTests<i64>, L: HintGenerator<i64>> PointEngine<'a, P, L> {
         to: Point2<i64>,
         writer: &mut Watched<W>,
     ) -> Result<(), Failed>
-        requires ready { IsReady (P.covered self.now.tests.now) (P.sites self.now.tests.now)
+        requires ready { IsStageReady (P.covered self.now.tests.now) (P.sites self.now.tests.now)
             self.now.points.now (stage_of self.now.triangulation) }
         requires works { has_failed writer.old ≡ false }
         ensures answered { (text : List ℕ)

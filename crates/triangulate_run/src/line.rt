@@ -6,9 +6,9 @@ ghost use Rattle.triangulate_watched.specs.Watched.{has_failed};
 ghost use Rattle.plane.specs.Line.{Item};
 ghost use Rattle.delaunay_legalization.specs.State.{triangulation_of};
 ghost use Rattle.delaunay_lines.specs.Items.{item_in};
-ghost use Rattle.delaunay_lines.specs.Walk.{AreLeft, IsReady as IsReadyLine};
+ghost use Rattle.delaunay_lines.specs.Walk.{AreLeft, IsReady};
 ghost use Rattle.triangulate_run.specs.Answer.{MayWalk};
-ghost use Rattle.triangulate_run.specs.Engine.{stage_by, IsReady};
+ghost use Rattle.triangulate_run.specs.Engine.{stage_by, IsStageReady};
 ghost use Rattle.triangulate_run.specs.Output.{Writes, Puts};
 ghost use Rattle.triangulate_run.specs.Reply.{edge_text, item_text, line_text, next_text};
 ghost use Rattle.triangulate_run.specs.Stage.{position};
@@ -34,7 +34,7 @@ pub(crate) fn write_line<L: HintGenerator<i64>, UE, M: EdgeData<UE>, P: PlaneTes
     to: Point2<i64>,
     writer: &mut Watched<W>,
 ) -> Result<(), Failed>
-    requires ready { IsReady (P.covered tests.now) (P.sites tests.now) points.now
+    requires ready { IsStageReady (P.covered tests.now) (P.sites tests.now) points.now
         (stage_by M.constraints triangulation.now) }
     requires works { has_failed writer.old ≡ false }
     ensures { (text : List ℕ)
@@ -54,7 +54,7 @@ fn write_items<DE, UE, F, P: PlaneTests<i64>, W: Write>(
     writer: &mut Watched<W>,
     line: &mut LineIntersectionIterator<'_, Point2<i64>, DE, UE, F, P>,
 ) -> Result<(), Failed>
-    requires ready { IsReadyLine position (λ z. z) P.sites P.covered line.old }
+    requires ready { IsReady position (λ z. z) P.sites P.covered line.old }
     requires works { has_failed writer.old ≡ false }
     ensures { (items : List Item) → AreLeft position (λ z. z) line.old items
         → Writes W.contents writer.old writer.new result (line_text items) }
@@ -75,7 +75,7 @@ fn put_items<DE, UE, F, P: PlaneTests<i64>, W: Write>(
     held: &mut Held,
     line: &mut LineIntersectionIterator<'_, Point2<i64>, DE, UE, F, P>,
 ) -> Result<(), Failed>
-    requires ready { IsReadyLine position (λ z. z) P.sites P.covered line.old }
+    requires ready { IsReady position (λ z. z) P.sites P.covered line.old }
     requires works { has_failed writer.old ≡ false }
     ensures { (items : List Item) → AreLeft position (λ z. z) line.old items
         → Puts W.contents writer.old writer.new held.old.items held.new.items result

@@ -4,7 +4,7 @@ ghost use Rattle.plane.specs.Tests.{InRange};
 ghost use Rattle.delaunay_edit.specs.Constrained.{none};
 ghost use Rattle.delaunay_legalization.specs.State.{triangulation_of};
 ghost use Rattle.triangulate_run.specs.Answer.{IsVertexDistance, MayMeasure};
-ghost use Rattle.triangulate_run.specs.Engine.{stage_by, IsReady};
+ghost use Rattle.triangulate_run.specs.Engine.{stage_by, IsStageReady};
 ghost use Rattle.triangulate_run.specs.Points.{place};
 ghost use Rattle.triangulate_run.specs.Stage.{position};
 
@@ -21,7 +21,7 @@ pub(crate) fn nearest_of_plain<L: HintGenerator<i64>, P: PlaneTests<i64>>(
     points: &[SheetPoint],
     point: Point2<i64>,
 ) -> Reply
-    requires ready { IsReady (P.covered tests.now) (P.sites tests.now) points.now
+    requires ready { IsStageReady (P.covered tests.now) (P.sites tests.now) points.now
         (stage_by none triangulation.now) }
     ensures { MayMeasure points.now (triangulation_of position triangulation.now)
         (position point) result }

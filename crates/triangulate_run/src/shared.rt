@@ -9,7 +9,7 @@ ghost use Rattle.delaunay_legalization.specs.Constraints.{constraints_by};
 ghost use Rattle.delaunay_legalization.specs.State.{triangulation_of};
 ghost use Rattle.triangulate_run.specs.MeshFaces.{row_at};
 ghost use Rattle.triangulate_run.specs.Stage.{position};
-ghost use Rattle.triangulate_run.specs.Engine.{stage_by, HasSites, IsReady};
+ghost use Rattle.triangulate_run.specs.Engine.{stage_by, HasSites, IsStageReady};
 ghost use Rattle.triangulate_run.specs.Answer.{AreSoMany, AreVertices, ListsFaces, IsThere};
 ghost use Rattle.triangulate_run.specs.Answer.{MayCount, MayInsert, MayList, MayLocate, MayRemove};
 ghost use Rattle.triangulate_run.specs.declared.reply.Reply.TheVariants.{Edge};
@@ -30,9 +30,9 @@ pub(crate) fn insert<T: Triangulation<Vertex = Point2<i64>>, P: PlaneTests<i64>>
     points: &[SheetPoint],
     point: Point2<i64>,
 ) -> Reply
-    requires ready { IsReady (P.covered tests.now) (P.sites tests.now) points.now
+    requires ready { IsStageReady (P.covered tests.now) (P.sites tests.now) points.now
         (stage_by T.Constraints.constraints (T.state triangulation.old)) }
-    ensures ready { IsReady (P.covered tests.now) (P.sites tests.now) points.now
+    ensures ready { IsStageReady (P.covered tests.now) (P.sites tests.now) points.now
         (stage_by T.Constraints.constraints (T.state triangulation.new)) }
     ensures reply { MayInsert points.now
         (stage_by T.Constraints.constraints (T.state triangulation.old)) point result
@@ -102,7 +102,7 @@ pub(crate) fn locate<T: Triangulation<Vertex = Point2<i64>>, P: PlaneTests<i64>>
     points: &[SheetPoint],
     point: Point2<i64>,
 ) -> Reply
-    requires ready { IsReady (P.covered tests.now) (P.sites tests.now) points.now
+    requires ready { IsStageReady (P.covered tests.now) (P.sites tests.now) points.now
         (stage_by T.Constraints.constraints (T.state triangulation.now)) }
     ensures { MayLocate points.now (triangulation_of position (T.state triangulation.now))
         (position point) result }

@@ -1,5 +1,5 @@
 -- Reads of the directed edges after a write of one link.
--- Notions: next_link, prev_link, face_link, origin_link, Writes, SetsLoopFace; writes_next,
+-- Notions: next_link, prev_link, face_link, origin_link, WritesEdge, SetsLoopFace; writes_next,
 -- writes_prev, writes_face, writes_origin, swap_writes, swap_prevs, sets_loop_face.
 use Rattle.std.proofs.Common.{◌≡◌, ◌≢◌, ◌⊎◌, ℕ, ◌<◌, List, length, set, refl, sym, ap, ◌∙◌}
 use Rattle.std.proofs.Common.{inl, inr}
@@ -28,14 +28,14 @@ abbrev pub origin_link : HalfEdge → ℕ
 origin_link e = e.origin
 
 -- edge h is x now, and a link that x shares with what edge h was is that of each edge as before
-pub record Writes (old new : List HalfEdge) (h : ℕ) (x : HalfEdge) : Type 0 where
+pub record WritesEdge (old new : List HalfEdge) (h : ℕ) (x : HalfEdge) : Type 0 where
   pub count : length new ≡ length old
   pub here : h < length old → edge_at new h ≡ x
   pub other : (k : ℕ) → k ≢ h → edge_at new k ≡ edge_at old k
   pub kept : (link : HalfEdge → ℕ) → link x ≡ link (edge_at old h) → (k : ℕ)
       → link (edge_at new k) ≡ link (edge_at old k)
 
-writes : (hs : List HalfEdge) (h : ℕ) (x : HalfEdge) → Writes hs (set hs h x) h x
+writes : (hs : List HalfEdge) (h : ℕ) (x : HalfEdge) → WritesEdge hs (set hs h x) h x
 writes hs h x = record {
   count = length-set hs h x;
   here = get_or-set_same hs h x no_edge;
@@ -51,22 +51,22 @@ writes hs h x = record {
 
 module _ (hs : List HalfEdge) (h x : ℕ) where
   -- a write of the next edge of h changes this link of h alone
-  pub writes_next : Writes hs (with_next hs h x) h (record (edge_at hs h) { next = x })
+  pub writes_next : WritesEdge hs (with_next hs h x) h (record (edge_at hs h) { next = x })
   unfolding with_next
   writes_next = writes hs h _
 
   -- a write of the edge before h changes this link of h alone
-  pub writes_prev : Writes hs (with_prev hs h x) h (record (edge_at hs h) { prev = x })
+  pub writes_prev : WritesEdge hs (with_prev hs h x) h (record (edge_at hs h) { prev = x })
   unfolding with_prev
   writes_prev = writes hs h _
 
   -- a write of the face of h changes this link of h alone
-  pub writes_face : Writes hs (with_face hs h x) h (record (edge_at hs h) { face = x })
+  pub writes_face : WritesEdge hs (with_face hs h x) h (record (edge_at hs h) { face = x })
   unfolding with_face
   writes_face = writes hs h _
 
   -- a write of the origin of h changes this link of h alone
-  pub writes_origin : Writes hs (with_origin hs h x) h (record (edge_at hs h) { origin = x })
+  pub writes_origin : WritesEdge hs (with_origin hs h x) h (record (edge_at hs h) { origin = x })
   unfolding with_origin
   writes_origin = writes hs h _
 

@@ -1,6 +1,6 @@
 -- What a list of records keeps through writes to it: the links of directed edges, and where the
 -- edge before each starts.
--- Notions: Suit, HasLinksOf, IsCornerOf, Keeps, SayOrigins, HaveOwnNexts; corners_of, keeps_shown,
+-- Notions: Suit, HasLinksOf, IsCornerOf, Stores, SayOrigins, HaveOwnNexts; corners_of, keeps_shown,
 -- count_corners, apart_joined, corner_shown, corner_at, shown_is, keeps_set, keeps_push,
 -- keeps_remove, keeps_next, keeps_prev, keeps_face, keeps_corner, keeps_origin, keeps_joined.
 use Rattle.std.proofs.Common.{◌≡◌, ◌+◌, ◌-◌, ◌<◌, [], ◌∷◌, ◌++◌, ◌∙◌}
@@ -114,7 +114,7 @@ IsCornerOf r c = r.prev_origin ≡ c
 
 -- a list of records has the links of directed edges hs, and of each the edge before starts as cs
 -- says
-pub record Keeps (rs : List StoredEdge) (hs : List HalfEdge) (cs : List ℕ) : Type 0 where
+pub record Stores (rs : List StoredEdge) (hs : List HalfEdge) (cs : List ℕ) : Type 0 where
   pub links : Suit HasLinksOf no_edge no_stored hs rs
   pub corners : Suit IsCornerOf no_stored 0 rs cs
 
@@ -123,7 +123,7 @@ pub corners_of : List StoredEdge → List ℕ
 corners_of rs = map (λ (r : StoredEdge). r.prev_origin) rs
 
 -- a list keeps the edges that it shows
-pub keeps_shown : (rs : List StoredEdge) → Keeps rs (shown rs) (corners_of rs)
+pub keeps_shown : (rs : List StoredEdge) → Stores rs (shown rs) (corners_of rs)
 unfolding corners_of
 keeps_shown rs = record {
   links = record {
@@ -174,7 +174,7 @@ same_edge : (e : HalfEdge) (r : StoredEdge) (o : ℕ) → HasLinksOf e r → o �
 same_edge e r o same is = rw (is, ← same.next, ← same.prev, ← same.face) refl
 
 -- where the record of each edge's next one says where that edge starts, the list shows the edges
-pub shown_is : (rs : List StoredEdge) (hs : List HalfEdge) (cs : List ℕ) → Keeps rs hs cs
+pub shown_is : (rs : List StoredEdge) (hs : List HalfEdge) (cs : List ℕ) → Stores rs hs cs
     → SayOrigins hs cs → shown rs ≡ hs
 shown_is rs hs cs k right =
     ext_get_or no_edge (shown rs) hs (length_shown rs ∙ sym k.links.count) (λ h within.
@@ -183,10 +183,10 @@ shown_is rs hs cs k right =
     shown_at rs h h_in ∙ same_edge (edge_at hs h) (stored_at rs h) _ links (k.corners.each _
     ∙ ap (λ n. get_or cs n 0) (sym links.next) ∙ right h (rw k.links.count h_in)))
 
-module _ (rs : List StoredEdge) (hs : List HalfEdge) (cs : List ℕ) (k : Keeps rs hs cs) where
+module _ (rs : List StoredEdge) (hs : List HalfEdge) (cs : List ℕ) (k : Stores rs hs cs) where
   -- an edge with new links is written
   pub keeps_set : (h c o n p f : ℕ)
-      → Keeps (set rs h (record { prev_origin = c; next = n; prev = p; face = f }))
+      → Stores (set rs h (record { prev_origin = c; next = n; prev = p; face = f }))
       (set hs h (record { origin = o; next = n; prev = p; face = f })) (set cs h c)
   keeps_set h c o n p f = record {
     links = suit_set HasLinksOf no_edge no_stored hs rs k.links h _ _
@@ -196,7 +196,7 @@ module _ (rs : List StoredEdge) (hs : List HalfEdge) (cs : List ℕ) (k : Keeps 
 
   -- an edge is pushed
   pub keeps_push : (c o n p f : ℕ)
-      → Keeps (rs ++ record { prev_origin = c; next = n; prev = p; face = f } ∷ [])
+      → Stores (rs ++ record { prev_origin = c; next = n; prev = p; face = f } ∷ [])
       (hs ++ record { origin = o; next = n; prev = p; face = f } ∷ []) (cs ++ c ∷ [])
   keeps_push c o n p f = record {
     links = suit_push HasLinksOf no_edge no_stored hs rs k.links _ _
@@ -207,7 +207,7 @@ module _ (rs : List StoredEdge) (hs : List HalfEdge) (cs : List ℕ) (k : Keeps 
 
   -- the last record takes the place of another
   pub keeps_remove : (h : ℕ) → h < length rs
-      → Keeps (swap_remove rs h no_stored) (swap_remove hs h no_edge) (swap_remove cs h 0)
+      → Stores (swap_remove rs h no_stored) (swap_remove hs h no_edge) (swap_remove cs h 0)
   keeps_remove h within = record {
     links = suit_remove HasLinksOf no_edge no_stored hs rs k.links h (rw k.links.count within)
         (record { next = refl; prev = refl; face = refl });
@@ -216,7 +216,7 @@ module _ (rs : List StoredEdge) (hs : List HalfEdge) (cs : List ℕ) (k : Keeps 
 
   -- a record is written, where the edge before it starts as before
   keeps_links : (h : ℕ) (r : StoredEdge) (e : HalfEdge) → HasLinksOf e r
-      → r.prev_origin ≡ (stored_at rs h).prev_origin → Keeps (set rs h r) (set hs h e) cs
+      → r.prev_origin ≡ (stored_at rs h).prev_origin → Stores (set rs h r) (set hs h e) cs
   keeps_links h r e same kept = record {
     links = suit_set HasLinksOf no_edge no_stored hs rs k.links h e r same;
     corners = rw set-get_or at (suit_set IsCornerOf no_stored 0 rs cs k.corners h r (get_or cs h 0)
@@ -224,25 +224,25 @@ module _ (rs : List StoredEdge) (hs : List HalfEdge) (cs : List ℕ) (k : Keeps 
   }
 
   -- the edge after one is written
-  pub keeps_next : (h x : ℕ) → Keeps (stored_next rs h x) (with_next hs h x) cs
+  pub keeps_next : (h x : ℕ) → Stores (stored_next rs h x) (with_next hs h x) cs
   unfolding stored_next with_next
   keeps_next h x = let was = k.links.each h in
       keeps_links h _ _ (record { next = refl; prev = was.prev; face = was.face }) refl
 
   -- the edge before one is written
-  pub keeps_prev : (h x : ℕ) → Keeps (stored_prev rs h x) (with_prev hs h x) cs
+  pub keeps_prev : (h x : ℕ) → Stores (stored_prev rs h x) (with_prev hs h x) cs
   unfolding stored_prev with_prev
   keeps_prev h x = let was = k.links.each h in
       keeps_links h _ _ (record { next = was.next; prev = refl; face = was.face }) refl
 
   -- the face of an edge is written
-  pub keeps_face : (h x : ℕ) → Keeps (stored_face rs h x) (with_face hs h x) cs
+  pub keeps_face : (h x : ℕ) → Stores (stored_face rs h x) (with_face hs h x) cs
   unfolding stored_face with_face
   keeps_face h x = let was = k.links.each h in
       keeps_links h _ _ (record { next = was.next; prev = was.prev; face = refl }) refl
 
   -- where the edge before one starts is written
-  pub keeps_corner : (h x : ℕ) → Keeps (stored_corner rs h x) hs (set cs h x)
+  pub keeps_corner : (h x : ℕ) → Stores (stored_corner rs h x) hs (set cs h x)
   unfolding stored_corner
   keeps_corner h x =
       let was = k.links.each h in
@@ -254,7 +254,7 @@ module _ (rs : List StoredEdge) (hs : List HalfEdge) (cs : List ℕ) (k : Keeps 
       }
 
   -- where an edge starts is written among the directed edges alone
-  pub keeps_origin : (h x : ℕ) → Keeps rs (with_origin hs h x) cs
+  pub keeps_origin : (h x : ℕ) → Stores rs (with_origin hs h x) cs
   unfolding with_origin
   keeps_origin h x =
       let was = k.links.each h in
@@ -266,7 +266,7 @@ module _ (rs : List StoredEdge) (hs : List HalfEdge) (cs : List ℕ) (k : Keeps 
       }
 
 -- an edge is put after another
-pub keeps_joined : (rs : List StoredEdge) (hs : List HalfEdge) (cs : List ℕ) → Keeps rs hs cs
-    → (h n o : ℕ) → Keeps (stored_joined rs h n o) (with_prev (with_next hs h n) n h) (set cs n o)
+pub keeps_joined : (rs : List StoredEdge) (hs : List HalfEdge) (cs : List ℕ) → Stores rs hs cs
+    → (h n o : ℕ) → Stores (stored_joined rs h n o) (with_prev (with_next hs h n) n h) (set cs n o)
 keeps_joined rs hs cs k h n o =
     keeps_corner _ _ _ (keeps_prev _ _ _ (keeps_next rs hs cs k h n) n h) n o

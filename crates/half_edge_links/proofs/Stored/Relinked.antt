@@ -13,7 +13,7 @@ use Rattle.half_edge_links.specs.Places.{AreJoined, AreSlidPlaces, ArePassedPlac
 use Rattle.half_edge_links.specs.EdgeList.{shown, stored_corner, stored_joined}
 use Rattle.half_edge_links.proofs.Sound.FieldWrites.{swap_prevs}
 use Rattle.half_edge_links.proofs.Sound.Relinks.{Relinks, relinks, three_joined}
-use Rattle.half_edge_links.proofs.Stored.Keeps.{Keeps, keeps_shown, keeps_joined, keeps_corner}
+use Rattle.half_edge_links.proofs.Stored.Keeps.{Stores, keeps_shown, keeps_joined, keeps_corner}
 use Rattle.half_edge_links.proofs.Stored.Keeps.{keeps_origin, shown_is, corner_shown, corners_of}
 use Rattle.half_edge_links.proofs.Stored.Keeps.{count_corners, SayOrigins, apart_joined}
 
@@ -81,7 +81,7 @@ module _ (rs : List StoredEdge) (e t k l z : ℕ) (j : AreJoined (shown rs)) whe
   hs = shown rs
 
   keeps_three : (x y w : ℕ) → x < length hs → y < length hs
-      → Keeps (stored_joined (stored_joined (stored_joined rs e x (edge_at hs e).origin) z y
+      → Stores (stored_joined (stored_joined (stored_joined rs e x (edge_at hs e).origin) z y
       (edge_at hs z).origin) k w (edge_at hs k).origin)
       (with_prev (with_prev (with_prev (with_next (with_next (with_next hs e x) z y) k w) x e) y z)
       w k) (set (set (set (corners_of rs) x (edge_at hs e).origin) y (edge_at hs z).origin) w

@@ -20,7 +20,7 @@ use Rattle.half_edge_links.proofs.Removing.FillSound.{old_left, new_left, two_fi
 use Rattle.half_edge_links.proofs.Removing.FillSound.{next_written, origin_written, count_written}
 use Rattle.half_edge_links.proofs.Removing.OpenSound.{length-swap_remove}
 use Rattle.half_edge_links.proofs.Sound.FieldWrites.{next_link, origin_link}
-use Rattle.half_edge_links.proofs.Stored.Keeps.{Keeps, keeps_shown, keeps_joined, keeps_next}
+use Rattle.half_edge_links.proofs.Stored.Keeps.{Stores, keeps_shown, keeps_joined, keeps_next}
 use Rattle.half_edge_links.proofs.Stored.Keeps.{keeps_prev, keeps_remove, shown_is, corner_shown}
 use Rattle.half_edge_links.proofs.Stored.Keeps.{corners_of, count_corners, SayOrigins, apart_joined}
 
@@ -182,7 +182,7 @@ shows_filled rs last hole j at_last i =
     let written : List StoredEdge =
     stored_prev (stored_next (stored_prev (stored_next rs even.prev hole) even.next hole)
     odd.prev (hole + 1)) odd.next (hole + 1) in
-    let k : Keeps written (pair_written hs last hole) (corners_of rs) = keeps_prev _ _ _
+    let k : Stores written (pair_written hs last hole) (corners_of rs) = keeps_prev _ _ _
     (keeps_next _ _ _ (keeps_prev _ _ _ (keeps_next _ _ _ (keeps_shown rs) _ _) _ _) _ _) _ _ in
     let hole_in = i.within in
     let count : length written ≡ length hs =

@@ -14,7 +14,7 @@ use Rattle.plane.proofs.Signs.{index_not_negative}
 use Rattle.plane_delaunay.proofs.Points.Bracket.{bracket, above_if_left}
 use Rattle.plane_delaunay.proofs.Points.Hull.{triangle_in_hull, part_in_hull, AreSomewhere, IsForm}
 use Rattle.plane_delaunay.proofs.Points.Hull.{bracket_form, sum_form, form-nudge, least_in_hull}
-use Rattle.plane_delaunay.proofs.Points.Nudges.{nudge, Closed, Inside, closed_of_inside}
+use Rattle.plane_delaunay.proofs.Points.Nudges.{nudge, Closed, InOpen, closed_of_inside}
 use Rattle.plane_delaunay.proofs.Circles.Lift.{lift, lift-first, lift-second, lift-third}
 use Rattle.plane_delaunay.proofs.Circles.Lift.{on_is_lift}
 use Rattle.plane_delaunay.proofs.Tilings.Faces.{middle, middle-inside}
@@ -186,7 +186,7 @@ module _ (t : Triangulation) (D : IsConstrainedDelaunay t []) (i j k : ℕ)
     abbrev aim : Fraction
     aim = middle (vertex t i) (vertex t j) (vertex t k)
 
-    aim_inside : Inside (vertex t i) (vertex t j) (vertex t k) aim
+    aim_inside : InOpen (vertex t i) (vertex t j) (vertex t k) aim
     aim_inside = middle-inside _ _ _ above
 
     in_whole : InHull (map whole t.points) p

@@ -15,7 +15,7 @@ use Rattle.plane.proofs.IntegerOrder.{pos-ne-zero_ℤ, zero-mul_ℤ}
 use Rattle.plane_delaunay.proofs.Points.Bracket.{fraction, bracket, bracketᵖ, above_if_left}
 use Rattle.plane_delaunay.proofs.Points.Hull.{triangle_in_hull}
 use Rattle.plane_delaunay.proofs.Points.Nudges.{size, nudge, nudge-above, nudge-on, nudge-least}
-use Rattle.plane_delaunay.proofs.Points.Nudges.{Closed, Inside, closed_of_inside}
+use Rattle.plane_delaunay.proofs.Points.Nudges.{Closed, InOpen, closed_of_inside}
 use Rattle.plane_delaunay.proofs.Circles.Lift.{lift, liftᵖ, inside_is_lift, on_is_lift}
 use Rattle.plane_delaunay.proofs.Tilings.Faces.{Germ, germ, germ-closed, middle}
 use Rattle.plane_delaunay.proofs.Tilings.Faces.{middle-inside, both_inside}
@@ -232,14 +232,14 @@ module _ (t : Triangulation) (h : TilesHull t) where
       m : Fraction
       m = middle (vertex t a) (vertex t b) (vertex t c)
 
-      m_inside : Inside (vertex t a) (vertex t b) (vertex t c) m
+      m_inside : InOpen (vertex t a) (vertex t b) (vertex t c) m
       m_inside = middle-inside _ _ _ (above_if_left _ _ _ o.turns)
 
       in_hull : (q : Fraction) → Closed (vertex t a) (vertex t b) (vertex t c) q
           → InHull (map whole t.points) q
       in_hull = triple_in_hull a b c o.corners o.turns
 
-      nudged_inside : (n : ℕ) → Inside (vertex t a) (vertex t b) (vertex t c) (nudge n p m)
+      nudged_inside : (n : ℕ) → InOpen (vertex t a) (vertex t b) (vertex t c) (nudge n p m)
       nudged_inside n = record {
         first = nudge-least _ _ n p m closed.first m_inside.first;
         second = nudge-least _ _ n p m closed.second m_inside.second;
@@ -251,8 +251,8 @@ module _ (t : Triangulation) (h : TilesHull t) where
           (vertex t b) (vertex t c) _ (above_if_left _ _ _ (h.turning w.d w.e w.f w.is_face))
           w.goes_on (nudged_inside w.n))
         where
-          next : (y : Fraction) × Inside (vertex t w.d) (vertex t w.e) (vertex t w.f) y
-              × Inside (vertex t a) (vertex t b) (vertex t c) y → IsTiedAt a b c p
+          next : (y : Fraction) × InOpen (vertex t w.d) (vertex t w.e) (vertex t w.f) y
+              × InOpen (vertex t a) (vertex t b) (vertex t c) y → IsTiedAt a b c p
           next y = record {
             d = w.d;
             e = w.e;

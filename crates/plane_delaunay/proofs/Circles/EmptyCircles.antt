@@ -24,7 +24,7 @@ use Rattle.plane_delaunay.proofs.Circles.Lift.{lift, liftᵖ, lift-turned, lift-
 use Rattle.plane_delaunay.proofs.Circles.Lift.{lift-third, inside_is_lift, on_is_lift}
 use Rattle.plane.proofs.Means.{TwoWeights, mean_of_two, two_weights, bracket_of_two}
 use Rattle.plane_delaunay.proofs.Points.Members.{Member, member, contained}
-use Rattle.plane_delaunay.proofs.Points.Nudges.{Closed, Inside, inside-turned, nudge}
+use Rattle.plane_delaunay.proofs.Points.Nudges.{Closed, InOpen, inside-turned, nudge}
 use Rattle.plane_delaunay.proofs.Tilings.Faces.{turned-above, both_inside, side_not_inside, middle}
 use Rattle.plane_delaunay.proofs.Tilings.Faces.{middle-inside}
 use Rattle.plane_delaunay.proofs.Tilings.Generic.{AllOpen, open_if_free, swapped_weights}
@@ -161,7 +161,7 @@ pub record OneCircle (a b c d e f : Fraction) : Type 0 where
   pub fifth : lift a b c e ≡ pos 0
   pub sixth : lift a b c f ≡ pos 0
 
-one_circle : (a b c d e f q : Fraction) → Inside a b c q → Inside d e f q → lift d e f a ≤ℤ pos 0
+one_circle : (a b c d e f q : Fraction) → InOpen a b c q → InOpen d e f q → lift d e f a ≤ℤ pos 0
     → lift d e f b ≤ℤ pos 0 → lift d e f c ≤ℤ pos 0 → lift a b c d ≤ℤ pos 0 → lift a b c e ≤ℤ pos 0
     → lift a b c f ≤ℤ pos 0 → OneCircle a b c d e f
 one_circle a b c d e f q i j h₁ h₂ h₃ h₄ h₅ h₆ =
@@ -187,7 +187,7 @@ weights_along A a b p w u v = bracket_of_two A (vec u) (vec v) a b p w
 
 -- from a point strictly inside to a corner: still strictly inside, until the corner
 inside_on_way : (a b c q y : Fraction) (w : TwoWeights IsNotNegative q a y) → pos 0 <ℤ bracket a b c
-    → Inside a b c q → pos 0 <ℤ w.k → Inside a b c y
+    → InOpen a b c q → pos 0 <ℤ w.k → InOpen a b c y
 inside_on_way a b c q y w t i h = record {
   first = sum_above w.n w.k w.l _ _ _ w.positive (weights_along IsNotNegative q a y w a b) h i.first
       w.l_allowed (zero_weak_left (bracket-first a b));
@@ -232,7 +232,7 @@ segment_closed a b c y w t = (
 
 -- a way from a point strictly inside a triple to a corner meets what does not enter the triple in
 -- the corner alone
-way_to_corner : (a b c q y : Fraction) → pos 0 <ℤ bracket a b c → Inside a b c q → ¬ Inside a b c y
+way_to_corner : (a b c q y : Fraction) → pos 0 <ℤ bracket a b c → InOpen a b c q → ¬ InOpen a b c y
     → OnSegment q a y → IsSame y a
 way_to_corner a b c q y t i out m = go (sign w.k)
   where
@@ -247,7 +247,7 @@ way_to_corner a b c q y t i out m = go (sign w.k)
 -- no point of an edge is strictly inside a face
 edge_not_inside : (t : Triangulation) (h : TilesHull t) (i j d e f : ℕ) (y : Fraction)
     → IsEdge t i j → IsFace t d e f → OnSegment (vertex t i) (vertex t j) y
-    → ¬ Inside (vertex t d) (vertex t e) (vertex t f) y
+    → ¬ InOpen (vertex t d) (vertex t e) (vertex t f) y
 unfolding tiling
 edge_not_inside t h i j d e f y edge g m inside = go ((h.sides i j).0 edge)
   where
@@ -346,14 +346,14 @@ covering_middle t h a b c v = let T = tiling t h in
     (vertex t b) (T.vertex_in_hull a v.0) (T.vertex_in_hull b v.1)) (T.vertex_in_hull c v.2))
 
 -- ---- triples that no constraint enters
-inside-turned_back : {a b c p : Fraction} → Inside b c a p → Inside a b c p
+inside-turned_back : {a b c p : Fraction} → InOpen b c a p → InOpen a b c p
 inside-turned_back s = record { first = s.third; second = s.first; third = s.second }
 
 -- no constraint enters the triple, and no vertex that is seen from inside it is inside its circle
 pub record IsOpenTriple (t : Triangulation) (constraints : List (ℕ × ℕ)) (i j k : ℕ) : Type 0 where
   pub corners : IsVertex t i × IsVertex t j × IsVertex t k
   pub turns : TurnsLeft (vertex t i) (vertex t j) (vertex t k)
-  pub unentered : (p : Fraction) → Inside (vertex t i) (vertex t j) (vertex t k) p → (m n : ℕ)
+  pub unentered : (p : Fraction) → InOpen (vertex t i) (vertex t j) (vertex t k) p → (m n : ℕ)
       → Joins constraints m n → ¬ OnSegment (vertex t m) (vertex t n) p
   pub outside : (n : ℕ) → IsVertex t n
       → IsSeen t constraints (vertex t i) (vertex t j) (vertex t k) (vertex t n)
@@ -363,8 +363,8 @@ module _ (t : Triangulation) (constraints : List (ℕ × ℕ)) where
   -- the first corner of one triple is seen from inside the other, from a point strictly inside both
   corner_seen : (a b c d e f : ℕ) (q : Fraction) → IsOpenTriple t constraints a b c
       → TurnsLeft (vertex t d) (vertex t e) (vertex t f)
-      → Inside (vertex t a) (vertex t b) (vertex t c) q
-      → Inside (vertex t d) (vertex t e) (vertex t f) q
+      → InOpen (vertex t a) (vertex t b) (vertex t c) q
+      → InOpen (vertex t d) (vertex t e) (vertex t f) q
       → IsSeen t constraints (vertex t d) (vertex t e) (vertex t f) (vertex t a)
   corner_seen a b c d e f q o turns i j = record {
     from = q;
@@ -392,8 +392,8 @@ module _ (t : Triangulation) (constraints : List (ℕ × ℕ)) where
 
   -- two such triples that overlap have one circle
   pub overlapping : (a b c d e f : ℕ) (q : Fraction) → IsOpenTriple t constraints a b c
-      → IsOpenTriple t constraints d e f → Inside (vertex t a) (vertex t b) (vertex t c) q
-      → Inside (vertex t d) (vertex t e) (vertex t f) q
+      → IsOpenTriple t constraints d e f → InOpen (vertex t a) (vertex t b) (vertex t c) q
+      → InOpen (vertex t d) (vertex t e) (vertex t f) q
       → OneCircle (vertex t a) (vertex t b) (vertex t c) (vertex t d) (vertex t e) (vertex t f)
   overlapping a b c d e f q o p i j =
       let o₂ = open-turned a b c o in let o₃ = open-turned b c a o₂ in
@@ -456,8 +456,8 @@ module _ (t : Triangulation) (constraints : List (ℕ × ℕ)) (a b c : ℕ)
           ((on_is_lift (spot t a) (spot t b) (spot t c) (spot t n) s.turns).1 z))
 
   overlapped : (h : TilesHull t) → IsConstrainedDelaunay t constraints → (d e f : ℕ) (q : Fraction)
-      → IsFace t d e f → Inside (vertex t a) (vertex t b) (vertex t c) q
-      → Inside (vertex t d) (vertex t e) (vertex t f) q → IsFace t a b c
+      → IsFace t d e f → InOpen (vertex t a) (vertex t b) (vertex t c) q
+      → InOpen (vertex t d) (vertex t e) (vertex t f) q → IsFace t a b c
   overlapped h D d e f q g i j =
       let p = face_open t constraints h D d e f g in
       let o = empty_open in
@@ -485,8 +485,8 @@ module _ (t : Triangulation) (constraints : List (ℕ × ℕ)) (a b c : ℕ)
               (above_if_left _ _ _ (h.turning r.0 r.1 r.2 r.3)) r.4
               (middle-inside (vertex t a) (vertex t b) (vertex t c) (above_if_left _ _ _ s.turns)))
             where
-              next : (y : Fraction) × Inside (vertex t r.0) (vertex t r.1) (vertex t r.2) y
-                  × Inside (vertex t a) (vertex t b) (vertex t c) y → IsFace t a b c
+              next : (y : Fraction) × InOpen (vertex t r.0) (vertex t r.1) (vertex t r.2) y
+                  × InOpen (vertex t a) (vertex t b) (vertex t c) y → IsFace t a b c
               next y = overlapped h D r.0 r.1 r.2 y.0 r.3 y.2 y.1
       go (inr l) = absurd (straight_line t l a b c s.corners.0 s.corners.1 s.corners.2 s.turns)
 

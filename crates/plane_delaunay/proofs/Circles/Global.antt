@@ -18,7 +18,7 @@ use Rattle.plane_delaunay.proofs.Points.Bracket.{bracket-first}
 use Rattle.plane_delaunay.proofs.Circles.Lift.{lift, lift-turned, lift-first, lift-second}
 use Rattle.plane_delaunay.proofs.Circles.Lift.{lift-third, lift-across}
 use Rattle.plane_delaunay.proofs.Points.Members.{Member}
-use Rattle.plane_delaunay.proofs.Points.Nudges.{Inside, inside-turned, closed_of_inside}
+use Rattle.plane_delaunay.proofs.Points.Nudges.{InOpen, inside-turned, closed_of_inside}
 use Rattle.plane_delaunay.proofs.Tilings.Faces.{Tiling}
 use Rattle.plane_delaunay.proofs.Tilings.Beyond.{face_across}
 use Rattle.plane_delaunay.proofs.Tilings.Walk.{IsOff, OnWay, Leaves, Step, reached, leaves_first}
@@ -113,12 +113,12 @@ module _ (T : Tiling) (cs : List (ℕ × ℕ)) where
     Generic x = (i j : ℕ) → Member (i, j) T.sides → IsOff (at n) (at i) x
 
     abbrev Walks : ℕ → Type 0
-    Walks m = (a b c : ℕ) (x : Fraction) → IsFace a b c → Inside (at a) (at b) (at c) x
+    Walks m = (a b c : ℕ) (x : Fraction) → IsFace a b c → InOpen (at a) (at b) (at c) x
         → AllOpen at cs (at n) x → Generic x → separation T x (at n) < m
         → lift (at a) (at b) (at c) (at n) ≤ℤ pos 0
 
     through : (m : ℕ) → Walks m → (a b c : ℕ) (x : Fraction) → IsFace a b c
-        → Inside (at a) (at b) (at c) x → AllOpen at cs (at n) x → Generic x → separation T x (at n)
+        → InOpen (at a) (at b) (at c) x → AllOpen at cs (at n) x → Generic x → separation T x (at n)
         < suc m → Leaves x (at n) (at a) (at b) (at c) → lift (at a) (at b) (at c) (at n) ≤ℤ pos 0
     through m walks a b c x f inside is_open generic less leaves =
         go (face_across T a b c n f vn leaves.right)
@@ -136,7 +136,7 @@ module _ (T : Tiling) (cs : List (ℕ × ℕ)) where
         go : (d : ℕ) × IsFace b a d → lift (at a) (at b) (at c) (at n) ≤ℤ pos 0
         go g = next (beyond T a b c g.0 x (at n) f g.1 inside.first leaves.right passes.0 passes.1)
           where
-            next : (x' : Fraction) × OnWay x (at n) x' × Inside (at b) (at a) (at g.0) x'
+            next : (x' : Fraction) × OnWay x (at n) x' × InOpen (at b) (at a) (at g.0) x'
                 × (separation T x' (at n) < separation T x (at n))
                 → lift (at a) (at b) (at c) (at n) ≤ℤ pos 0
             next r =
@@ -179,7 +179,7 @@ module _ (T : Tiling) (cs : List (ℕ × ℕ)) where
 
     -- a vertex that no constraint hides from a point strictly inside a face is not inside its
     -- circle
-    pub not_above_face : (a b c : ℕ) (q : Fraction) → IsFace a b c → Inside (at a) (at b) (at c) q
+    pub not_above_face : (a b c : ℕ) (q : Fraction) → IsFace a b c → InOpen (at a) (at b) (at c) q
         → AllOpen at cs (at n) q → lift (at a) (at b) (at c) (at n) ≤ℤ pos 0
     not_above_face a b c q f inside is_open =
         let k = keeps at cs (at n) q is_open in

@@ -9,7 +9,7 @@ use Rattle.plane.proofs.Steps.{left_not_below}
 use Rattle.plane.proofs.Centre.{centre, centre_is_centre}
 use Rattle.plane_delaunay.proofs.Points.Bracket.{bracket}
 use Rattle.plane_delaunay.proofs.Circles.Lift.{lift, inside_is_lift, far_if_none}
-use Rattle.plane_delaunay.proofs.Points.Nudges.{Inside}
+use Rattle.plane_delaunay.proofs.Points.Nudges.{InOpen}
 use Rattle.plane_delaunay.proofs.Tilings.Ground.{tiling, inside_of}
 use Rattle.plane_delaunay.proofs.Tilings.Where.{vertices_apart}
 use Rattle.plane_delaunay.proofs.Circles.EmptyCircles.{visibly_empty_is_face, IsOpenTriple}
@@ -29,7 +29,7 @@ use Rattle.plane_delaunay.specs.History.{NoFourOnCircle, HaveOneCircle, IsHistor
 -- inside its circle
 record IsOpenAt (t : Triangulation) (constraints : List (ℕ × ℕ)) (u v w : Fraction) : Type 0 where
   turns : TurnsLeft u v w
-  unentered : (p : Fraction) → Inside u v w p → (m n : ℕ) → Joins constraints m n
+  unentered : (p : Fraction) → InOpen u v w p → (m n : ℕ) → Joins constraints m n
       → ¬ OnSegment (vertex t m) (vertex t n) p
   outside : (n : ℕ) → IsVertex t n → IsSeen t constraints u v w (vertex t n)
       → lift u v w (vertex t n) ≤ℤ pos 0
@@ -150,7 +150,7 @@ module _ (s t : Triangulation) (d c : List (ℕ × ℕ)) (there : IsPartOf s d t
             subst₃ (λ u v w. HaveOneCircle u v w (vertex t l) (vertex t m) (vertex t n))
             (sym r.first) (sym r.second) (sym r.third) (one_circle r.l r.m r.n l m n r.is_open.turns
             (overlapping t c r.l r.m r.n l m n q r.is_open (face_open t c h' E l m n g)
-            (subst₃ (λ u v w. Inside u v w q) r.first r.second r.third (inside_of _ _ _ q
+            (subst₃ (λ u v w. InOpen u v w q) r.first r.second r.third (inside_of _ _ _ q
             (h.turning i j k f) in_f)) (inside_of _ _ _ q (h'.turning l m n g) in_g)))
           where
             r : Moved i j k

@@ -12,7 +12,7 @@ use Rattle.plane_delaunay.proofs.Points.Bracket.{bracket, bracket-turned, bracke
 use Rattle.plane_delaunay.proofs.Points.Bracket.{bracket-first, bracket-second, left_if_above}
 use Rattle.plane_delaunay.proofs.Points.Bracket.{above_if_left}
 use Rattle.plane_delaunay.proofs.Points.Hull.{corner_in_hull, bracket_form, none_in_hull}
-use Rattle.plane_delaunay.proofs.Points.Nudges.{nudge, nudge-least, Inside, closed_of_inside}
+use Rattle.plane_delaunay.proofs.Points.Nudges.{nudge, nudge-least, InOpen, closed_of_inside}
 use Rattle.plane_delaunay.proofs.Circles.Lift.{lift, on_is_lift}
 use Rattle.plane_delaunay.proofs.Tilings.Faces.{Tiling, Germ, germ, germ-closed, germ-turned}
 use Rattle.plane_delaunay.proofs.Tilings.Faces.{middle, middle-inside, both_inside, turned-above}
@@ -228,8 +228,8 @@ module _ (s t : Triangulation) (there : HasVerticesOf t s) (D : IsConstrainedDel
     -- a face of the part whose disk is known and that overlaps the face: the disks are one
     disk_moves : (d e f : ℕ) → IsFace s d e f
         → HasDiskOf s t (vertex s d) (vertex s e) (vertex s f) → (q : Fraction)
-        → Inside (vertex s d) (vertex s e) (vertex s f) q
-        → Inside (vertex t l) (vertex t m) (vertex t n) q
+        → InOpen (vertex s d) (vertex s e) (vertex s f) q
+        → InOpen (vertex t l) (vertex t m) (vertex t n) q
         → HasDiskOf s t (vertex t l) (vertex t m) (vertex t n)
     disk_moves d e f known disk q i j o v u = disk o v (moved u)
       where
@@ -250,7 +250,7 @@ module _ (s t : Triangulation) (there : HasVerticesOf t s) (D : IsConstrainedDel
         one = subst₃ (λ a b c. OneCircle a b c (vertex t l) (vertex t m) (vertex t n)) (sym x.2)
             (sym y.2) (sym z.2) (overlapping t [] x.0 y.0 z.0 l m n q
             (stays_open d e f known disk x y z) (face_open t [] g E l m n face)
-            (subst₃ (λ a b c. Inside a b c q) x.2 y.2 z.2 i) j)
+            (subst₃ (λ a b c. InOpen a b c q) x.2 y.2 z.2 i) j)
 
         on : (k : ℕ) → lift (vertex s d) (vertex s e) (vertex s f) (vertex t k) ≡ pos 0
             → OnCircle (vertex s d) (vertex s e) (vertex s f) (vertex t k)
@@ -274,12 +274,12 @@ module _ (s t : Triangulation) (there : HasVerticesOf t s) (D : IsConstrainedDel
         abbrev aim : Fraction
         aim = middle (vertex t l) (vertex t m) (vertex t n)
 
-        aim_inside : Inside (vertex t l) (vertex t m) (vertex t n) aim
+        aim_inside : InOpen (vertex t l) (vertex t m) (vertex t n) aim
         aim_inside = middle-inside _ _ _ (above_if_left _ _ _ turns)
 
         on_way : (steps : ℕ)
-            → Inside (vertex t l) (vertex t m) (vertex t n) (nudge steps (vertex s i) aim)
-        on_way steps = subst (λ x. Inside (vertex t l) (vertex t m) (vertex t n)
+            → InOpen (vertex t l) (vertex t m) (vertex t n) (nudge steps (vertex s i) aim)
+        on_way steps = subst (λ x. InOpen (vertex t l) (vertex t m) (vertex t n)
             (nudge steps x aim)) (sym same) (record {
               first = nudge-least _ _ steps _ aim (zero_weak_left (bracket-first _ _))
                   aim_inside.first;
@@ -297,8 +297,8 @@ module _ (s t : Triangulation) (there : HasVerticesOf t s) (D : IsConstrainedDel
             (above_if_left _ _ _ (h.turning d e f face))
             (germ_goes_on s h (vertex s i) aim d e f begins) (on_way _))
           where
-            go : (q : Fraction) × Inside (vertex s d) (vertex s e) (vertex s f) q
-                × Inside (vertex t l) (vertex t m) (vertex t n) q
+            go : (q : Fraction) × InOpen (vertex s d) (vertex s e) (vertex s f) q
+                × InOpen (vertex t l) (vertex t m) (vertex t n) q
                 → HasDiskOf s t (vertex t l) (vertex t m) (vertex t n)
             go q = disk_moves d e f face (subst (λ d. IsFace s d e f
                 → HasDiskOf s t (vertex s d) (vertex s e) (vertex s f)) is_corner (known e f) face)

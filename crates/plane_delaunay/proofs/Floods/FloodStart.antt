@@ -17,7 +17,7 @@ use Rattle.plane.proofs.IntegerOrder.{lt_or_ge_ℤ, neg-pos_ℤ, zero-mul_ℤ}
 use Rattle.plane_delaunay.proofs.Points.Numbers.{less_again, mix_positive}
 use Rattle.plane_delaunay.proofs.Points.Bracket.{bracket, bracket-swapped, bracket-mixed, mixed}
 use Rattle.plane_delaunay.proofs.Points.Bracket.{cramer, cramer-w}
-use Rattle.plane_delaunay.proofs.Points.Nudges.{Closed, Inside, closed_of_inside, closed-turned}
+use Rattle.plane_delaunay.proofs.Points.Nudges.{Closed, InOpen, closed_of_inside, closed-turned}
 use Rattle.plane_delaunay.proofs.Tilings.Faces.{Tiling, corner_2}
 use Rattle.plane_delaunay.proofs.Tilings.Walk.{OnWay, Leaves, Step, reached, leaves_first}
 use Rattle.plane_delaunay.proofs.Tilings.Walk.{leaves_second, leaves_third, step, leave, separation}
@@ -370,7 +370,7 @@ module _ (T : Tiling) where
 
     -- a set with a point inside a face and one on an edge has a point of a side of the face
     pub side_of_inside : (i j k u v : ℕ) (c : Fraction) → IsFace i j k
-        → Inside (at i) (at j) (at k) c → K c → IsEdge T u v → OnSide (at u) (at v) x
+        → InOpen (at i) (at j) (at k) c → K c → IsEdge T u v → OnSide (at u) (at v) x
         → MeetsSide i j ⊎ (MeetsSide j k ⊎ MeetsSide k i)
     side_of_inside i j k u v c f h kc e o = go (step c x (at i) (at j) (at k) (closed_of_inside h))
       where

@@ -1,5 +1,5 @@
 -- Closed and open triangles by brackets, and moving a point a little.
--- Notions: Closed, Inside; size, nudged, germ_sign, nudge_positive, nudge, bracket-nudge,
+-- Notions: Closed, InOpen; size, nudged, germ_sign, nudge_positive, nudge, bracket-nudge,
 -- nudge-above, nudge-on, nudge-least, closed-turned, inside-turned, closed_of_inside, room,
 -- inside-nudge.
 use Prim.Native.Nat.{ℕ, zero, suc, ◌+◌, ◌<◌, ◌≤◌}
@@ -93,7 +93,7 @@ pub record Closed (a b c x : Fraction) : Type 0 where
   pub third : pos 0 ≤ℤ bracket c a x
 
 -- x is left of the three sides of a b c
-pub record Inside (a b c x : Fraction) : Type 0 where
+pub record InOpen (a b c x : Fraction) : Type 0 where
   pub first : pos 0 <ℤ bracket a b x
   pub second : pos 0 <ℤ bracket b c x
   pub third : pos 0 <ℤ bracket c a x
@@ -103,11 +103,11 @@ pub closed-turned : {a b c x : Fraction} → Closed a b c x → Closed b c a x
 closed-turned h = record { first = h.second; second = h.third; third = h.first }
 
 -- a point strictly inside a triangle is so in its next rotation
-pub inside-turned : {a b c x : Fraction} → Inside a b c x → Inside b c a x
+pub inside-turned : {a b c x : Fraction} → InOpen a b c x → InOpen b c a x
 inside-turned h = record { first = h.second; second = h.third; third = h.first }
 
 -- a point strictly inside a triangle is in the closed one
-pub closed_of_inside : {a b c x : Fraction} → Inside a b c x → Closed a b c x
+pub closed_of_inside : {a b c x : Fraction} → InOpen a b c x → Closed a b c x
 closed_of_inside h = record { first = weak h.first; second = weak h.second; third = weak h.third }
 
 -- a nudge keeps a point strictly inside
@@ -115,8 +115,8 @@ pub room : (a b c m : Fraction) → ℕ
 room a b c m = suc (size (bracket a b m) + size (bracket b c m) + size (bracket c a m))
 
 -- a point strictly inside stays so, nudged towards m, where n is at least the room for m
-pub inside-nudge : (a b c x m : Fraction) (n : ℕ) → Inside a b c x → room a b c m ≤ n
-    → Inside a b c (nudge n x m)
+pub inside-nudge : (a b c x m : Fraction) (n : ℕ) → InOpen a b c x → room a b c m ≤ n
+    → InOpen a b c (nudge n x m)
 unfolding room
 inside-nudge a b c x m n h r = record {
   first = nudge-above a b n x m h.first (omega arith);

@@ -19,7 +19,7 @@ use Rattle.plane_delaunay.proofs.Points.Bracket.{bracket, bracket-turned, bracke
 use Rattle.plane_delaunay.proofs.Points.Bracket.{bracket-second}
 use Rattle.plane_delaunay.proofs.Points.Members.{Member, member-le-sum_by}
 use Rattle.plane_delaunay.proofs.Points.Nudges.{size, nudge, bracket-nudge, nudge-least, germ_sign}
-use Rattle.plane_delaunay.proofs.Points.Nudges.{Closed, Inside, room, inside-nudge}
+use Rattle.plane_delaunay.proofs.Points.Nudges.{Closed, InOpen, room, inside-nudge}
 use Rattle.plane.specs.Fraction.{Fraction}
 use Rattle.plane.proofs.Signs.{swapped_sum}
 use Rattle.plane.proofs.Indexes.{IsTurned}
@@ -44,7 +44,7 @@ pub record Tiling : Type 1 where
   pub covering : (p : Fraction) → InHull p
       → (i j k : ℕ) × IsFace i j k × Closed (at i) (at j) (at k) p
   pub apart : (a b c d e f : ℕ) → IsFace a b c → IsFace d e f → (p : Fraction)
-      → Inside (at a) (at b) (at c) p → Inside (at d) (at e) (at f) p → IsTurned a b c d e f
+      → InOpen (at a) (at b) (at c) p → InOpen (at d) (at e) (at f) p → IsTurned a b c d e f
   pub empty : (i j k n : ℕ) → IsFace i j k → IsVertex n → Closed (at i) (at j) (at k) (at n)
       → (n ≡ i) ⊎ ((n ≡ j) ⊎ (n ≡ k))
 
@@ -74,7 +74,7 @@ middle-turned u v a b c = let e = bracket-middle u v a b c in let f = bracket-mi
     omega (arith, ints)
 
 -- the sum of the corners of a left-turning triple is strictly inside it
-pub middle-inside : (a b c : Fraction) → pos 0 <ℤ bracket a b c → Inside a b c (middle a b c)
+pub middle-inside : (a b c : Fraction) → pos 0 <ℤ bracket a b c → InOpen a b c (middle a b c)
 middle-inside a b c h = let h₂ = turned-above a b c h in record {
   first = middle-left a b c h;
   second = subst (λ t. pos 0 <ℤ t) (middle-turned b c a b c) (middle-left b c a h₂);
@@ -84,7 +84,7 @@ middle-inside a b c h = let h₂ = turned-above a b c h in record {
 
 -- a point of a closed triangle that is strictly inside another: some point is strictly inside both
 pub both_inside : (a b c d e f x : Fraction) → pos 0 <ℤ bracket a b c → Closed a b c x
-    → Inside d e f x → (y : Fraction) × Inside a b c y × Inside d e f y
+    → InOpen d e f x → (y : Fraction) × InOpen a b c y × InOpen d e f y
 both_inside a b c d e f x h closed inside =
     let m = middle a b c in
     let i = middle-inside a b c h in
@@ -171,7 +171,7 @@ module _ (T : Tiling) where
 
   -- a point of a closed face that is strictly inside another is left of each side of the first
   pub side_left : (a b c d e f : ℕ) → IsFace a b c → IsFace d e f → (x : Fraction)
-      → Closed (at a) (at b) (at c) x → Inside (at d) (at e) (at f) x
+      → Closed (at a) (at b) (at c) x → InOpen (at d) (at e) (at f) x
       → pos 0 <ℤ bracket (at a) (at b) x
   side_left a b c d e f g h x closed inside =
       go (both_inside (at a) (at b) (at c) (at d) (at e) (at f) x (T.turns a b c g) closed inside)
@@ -181,14 +181,14 @@ module _ (T : Tiling) where
       found (inr (inl s)) = subst₂ (λ i j. pos 0 <ℤ bracket (at i) (at j) x) s.2 s.0 inside.third
       found (inr (inr s)) = subst₂ (λ i j. pos 0 <ℤ bracket (at i) (at j) x) s.1 s.2 inside.second
 
-      go : (y : Fraction) × Inside (at a) (at b) (at c) y × Inside (at d) (at e) (at f) y
+      go : (y : Fraction) × InOpen (at a) (at b) (at c) y × InOpen (at d) (at e) (at f) y
           → pos 0 <ℤ bracket (at a) (at b) x
       go y = found (T.apart a b c d e f g h y.0 y.1 y.2)
 
   -- a point of a closed side is strictly inside no face
   pub side_not_inside : (a b c d e f : ℕ) → IsFace a b c → IsFace d e f → (x : Fraction)
       → Closed (at a) (at b) (at c) x → bracket (at a) (at b) x ≡ pos 0
-      → ¬ Inside (at d) (at e) (at f) x
+      → ¬ InOpen (at d) (at e) (at f) x
   side_not_inside a b c d e f g h x closed e₀ inside =
       left_not_zero (side_left a b c d e f g h x closed inside) e₀
 

@@ -22,7 +22,7 @@ use Rattle.plane_delaunay.proofs.Points.Bracket.{fraction, bracket, bracketᵖ, 
 use Rattle.plane_delaunay.proofs.Points.Bracket.{bracket-turned, bracket-swapped, meeting-x}
 use Rattle.plane_delaunay.proofs.Points.Bracket.{meeting-y, meeting-w, cramer}
 use Rattle.plane_delaunay.proofs.Points.Members.{Member}
-use Rattle.plane_delaunay.proofs.Points.Nudges.{size, nudge, nudge-above, nudge-on, Inside, room}
+use Rattle.plane_delaunay.proofs.Points.Nudges.{size, nudge, nudge-above, nudge-on, InOpen, room}
 use Rattle.plane_delaunay.proofs.Points.Nudges.{inside-nudge}
 use Rattle.plane_delaunay.proofs.Tilings.Across.{none_of_sum}
 use Rattle.plane_delaunay.proofs.Tilings.Walk.{IsOff}
@@ -54,23 +54,23 @@ left-nudge (l ∷ ls) n q m h r = (
 )
 
 data Found (ls : List (Fraction × Fraction)) (a b c u v : Fraction) : Type 0 where
-  to_left : (q : Fraction) → Inside a b c q → AllLeft ls q → pos 0 <ℤ bracket u v q
+  to_left : (q : Fraction) → InOpen a b c q → AllLeft ls q → pos 0 <ℤ bracket u v q
       → Found ls a b c u v
-  to_right : (q : Fraction) → Inside a b c q → AllLeft ls q → pos 0 <ℤ bracket v u q
+  to_right : (q : Fraction) → InOpen a b c q → AllLeft ls q → pos 0 <ℤ bracket v u q
       → Found ls a b c u v
-  nowhere : (q : Fraction) → Inside a b c q → AllLeft ls q
+  nowhere : (q : Fraction) → InOpen a b c q → AllLeft ls q
       → ((s : Fraction) → bracket u v s ≡ pos 0) → Found ls a b c u v
 
 -- inside a b c, left of the lines and off the line of u and v is a point, if any is off this line
 find : (ls : List (Fraction × Fraction)) (a b c u v q : Fraction) → pos 0 <ℤ bracket a b c
-    → Inside a b c q → AllLeft ls q → Found ls a b c u v
+    → InOpen a b c q → AllLeft ls q → Found ls a b c u v
 find ls a b c u v q t inside left = go (sign (bracket u v q))
   where
     moved : (e : Fraction) → bracket u v q ≡ pos 0 → Sign (bracket u v e)
         → (bracket u v e ≡ pos 0 → Found ls a b c u v) → Found ls a b c u v
     moved e z s other =
         let n = room a b c e + suc (sum_by (line_size e) ls) in
-        let i : Inside a b c (nudge n q e) = inside-nudge a b c q e n inside (omega arith) in
+        let i : InOpen a b c (nudge n q e) = inside-nudge a b c q e n inside (omega arith) in
         let l : AllLeft ls (nudge n q e) = left-nudge ls n q e left (omega arith) in
         let v' : bracket u v (nudge n q e) ≡ bracket u v e = nudge-on u v n q e z in
         elim s [
@@ -98,15 +98,15 @@ swapped_none u v q h = let e = bracket-swapped u v q in omega (arith, ints)
 -- strictly inside a left-turning triple and left of some lines, where some point is: a point that
 -- is off each of further lines
 pub generic_point : (ms ls : List (Fraction × Fraction)) (a b c q : Fraction)
-    → pos 0 <ℤ bracket a b c → Inside a b c q → AllLeft ls q
-    → (q' : Fraction) × Inside a b c q' × AllLeft ls q' × AllOff ms q'
+    → pos 0 <ℤ bracket a b c → InOpen a b c q → AllLeft ls q
+    → (q' : Fraction) × InOpen a b c q' × AllLeft ls q' × AllOff ms q'
 generic_point [] ls a b c q t inside left = (q, inside, left, tt)
 generic_point (m ∷ ms) ls a b c q t inside left =
     go (λ ls q i l. generic_point ms ls a b c q t i l) (find ls a b c m.0 m.1 q t inside left)
   where
-    go : ((ls : List (Fraction × Fraction)) (q : Fraction) → Inside a b c q → AllLeft ls q
-        → (q' : Fraction) × Inside a b c q' × AllLeft ls q' × AllOff ms q') → Found ls a b c m.0 m.1
-        → (q' : Fraction) × Inside a b c q' × AllLeft ls q' × AllOff (m ∷ ms) q'
+    go : ((ls : List (Fraction × Fraction)) (q : Fraction) → InOpen a b c q → AllLeft ls q
+        → (q' : Fraction) × InOpen a b c q' × AllLeft ls q' × AllOff ms q') → Found ls a b c m.0 m.1
+        → (q' : Fraction) × InOpen a b c q' × AllLeft ls q' × AllOff (m ∷ ms) q'
     go more (to_left q i l h) = let r = more ((m.0, m.1) ∷ ls) q i (h, l) in
         (r.0, r.1, r.2.1, ((λ z. absurd (left_not_zero r.2.0 z)), r.3))
     go more (to_right q i l h) = let r = more ((m.1, m.0) ∷ ls) q i (h, l) in

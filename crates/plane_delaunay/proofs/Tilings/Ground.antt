@@ -13,7 +13,7 @@ use Rattle.plane.proofs.Means.{three_weights}
 use Rattle.plane.proofs.Sides.{if_left}
 use Rattle.plane.proofs.Triangles.{turned_face, in_is_brackets, inside_is_brackets}
 use Rattle.plane_delaunay.proofs.Points.Members.{Member, member, contained}
-use Rattle.plane_delaunay.proofs.Points.Nudges.{Closed, Inside}
+use Rattle.plane_delaunay.proofs.Points.Nudges.{Closed, InOpen}
 use Rattle.plane_delaunay.proofs.Tilings.Faces.{Tiling}
 use Rattle.plane.proofs.Indexes.{IsTurned, turns_of_one}
 use Rattle.plane_delaunay.proofs.Points.Hull.{corner_in_hull, nudge_in_hull, triangle_in_hull}
@@ -25,13 +25,13 @@ use Rattle.plane.specs.Tiling.{AreApart, InsideCorners}
 
 -- ---- triangles by brackets
 -- inside of a left-turning triangle is on the left of its sides
-pub inside_of : (a b c p : Fraction) → TurnsLeft a b c → InsideTriangle a b c p → Inside a b c p
+pub inside_of : (a b c p : Fraction) → TurnsLeft a b c → InsideTriangle a b c p → InOpen a b c p
 unfolding bracket
 inside_of a b c p t h = let s = (inside_is_brackets a b c p (if_left a b c t)).0 h in
     record { first = s.0; second = s.1; third = s.2 }
 
 -- a point left of the three sides of a left-turning triple is a mean under positive weights
-pub triangle_of_inside : (a b c p : Fraction) → TurnsLeft a b c → Inside a b c p
+pub triangle_of_inside : (a b c p : Fraction) → TurnsLeft a b c → InOpen a b c p
     → InsideTriangle a b c p
 unfolding bracket
 triangle_of_inside a b c p t h =
@@ -146,8 +146,8 @@ module _ (t : Triangulation) (h : TilesHull t) where
       record { f = face k i j; is_listed = c; is_turned = inr (inl (refl, refl, refl)) }
 
   untwisted : (a b c i j k : ℕ) (p : Fraction) → IsTurned a b c i j k
-      → Inside (vertex t i) (vertex t j) (vertex t k) p
-      → Inside (vertex t a) (vertex t b) (vertex t c) p
+      → InOpen (vertex t i) (vertex t j) (vertex t k) p
+      → InOpen (vertex t a) (vertex t b) (vertex t c) p
   untwisted a b c i j k p (inl e) s = record {
     first = moved i j a b e.0 e.1 s.first;
     second = moved j k b c e.1 e.2 s.second;
@@ -185,8 +185,8 @@ module _ (t : Triangulation) (h : TilesHull t) where
 
   -- two faces with a common point inside are one, from whichever corner
   pub faces_same : (a b c d e f : ℕ) → IsFace t a b c → IsFace t d e f → (p : Fraction)
-      → Inside (vertex t a) (vertex t b) (vertex t c) p
-      → Inside (vertex t d) (vertex t e) (vertex t f) p → IsTurned a b c d e f
+      → InOpen (vertex t a) (vertex t b) (vertex t c) p
+      → InOpen (vertex t d) (vertex t e) (vertex t f) p → IsTurned a b c d e f
   faces_same a b c d e f g g' p in_g in_g' = go (listing a b c g) (listing d e f g')
     where
       go : Listed a b c → Listed d e f → IsTurned a b c d e f

@@ -16,7 +16,7 @@ use Rattle.plane.proofs.IntegerOrder.{zero_of_mul-zero_ℤ, pos-ne-zero_ℤ, Sig
 use Rattle.plane.proofs.IntegerOrder.{above, zero-mul_ℤ}
 use Rattle.plane_delaunay.proofs.Points.Bracket.{bracket, bracket-first, bracket-second, cramer}
 use Rattle.plane_delaunay.proofs.Points.Bracket.{cramer-w}
-use Rattle.plane_delaunay.proofs.Points.Nudges.{Closed, Inside}
+use Rattle.plane_delaunay.proofs.Points.Nudges.{Closed, InOpen}
 use Rattle.plane_delaunay.proofs.Tilings.Faces.{Tiling, AreWeights, Between, none_within}
 use Rattle.plane_delaunay.proofs.Tilings.Faces.{side_not_inside, turned-above, corner_2}
 use Rattle.plane_delaunay.proofs.Tilings.Across.{sides_same}
@@ -249,7 +249,7 @@ module _ (T : Tiling) where
 
   -- a point of an edge is strictly inside no face
   pub edge_outside : (a b d e f : ℕ) (x : Fraction) → IsEdge a b → IsFace d e f
-      → OnSide (at a) (at b) x → ¬ Inside (at d) (at e) (at f) x
+      → OnSide (at a) (at b) x → ¬ InOpen (at d) (at e) (at f) x
   edge_outside a b d e f x (inl s) g h =
       side_not_inside T a b s.0 d e f s.1 g x (on_side-closed (at a) (at b) (at s.0) x h
       (T.turns a b s.0 s.1)) (on_side-none (at a) (at b) x h)

@@ -21,7 +21,7 @@ use Rattle.plane_delaunay.proofs.Points.Bracket.{bracket, mixed, bracket-mixed, 
 use Rattle.plane_delaunay.proofs.Points.Bracket.{bracket-swapped, bracket-first, bracket-second}
 use Rattle.plane_delaunay.proofs.Points.Bracket.{meeting}
 use Rattle.plane_delaunay.proofs.Points.Members.{sum_by-lt}
-use Rattle.plane_delaunay.proofs.Points.Nudges.{size, nudged, Closed, Inside}
+use Rattle.plane_delaunay.proofs.Points.Nudges.{size, nudged, Closed, InOpen}
 use Rattle.plane_delaunay.proofs.Tilings.Faces.{Tiling}
 use Rattle.plane_delaunay.proofs.Tilings.Beyond.{Exit, stays, by_first, by_second, by_third, exit}
 use Rattle.plane.specs.Fraction.{Fraction}
@@ -283,7 +283,7 @@ module _ (T : Tiling) where
   pub beyond : (a b c d : ℕ) (x p : Fraction) → IsFace a b c → IsFace b a d
       → pos 0 <ℤ bracket (at a) (at b) x → bracket (at a) (at b) p <ℤ pos 0
       → bracket x p (at a) <ℤ pos 0 → pos 0 <ℤ bracket x p (at b) → (x' : Fraction) × OnWay x p x'
-      × Inside (at b) (at a) (at d) x' × (separation x' p < separation x p)
+      × InOpen (at b) (at a) (at d) x' × (separation x' p < separation x p)
   beyond a b c d x p f g left right pass_a pass_b = (
     x',
     way,
@@ -340,7 +340,7 @@ module _ (T : Tiling) where
       t : pos 0 <ℤ bracket (at b) (at a) (at d)
       t = T.turns b a d g
 
-      inside : Inside (at b) (at a) (at d) x'
+      inside : InOpen (at b) (at a) (at d) x'
       inside = record {
         first = negated_left (bracket-swapped (at a) (at b) x')
             (subst (λ t. t <ℤ pos 0) (sym on) right);

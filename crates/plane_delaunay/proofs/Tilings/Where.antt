@@ -12,7 +12,7 @@ use Rattle.plane.proofs.IntegerOrder.{mul-nonneg_ℤ, nonneg_of_mul-nonneg_ℤ, 
 use Rattle.plane_delaunay.proofs.Points.Bracket.{bracket, cramer, bracket-first, bracket-second}
 use Rattle.plane_delaunay.proofs.Points.Members.{Member}
 use Rattle.plane_delaunay.proofs.Points.Numbers.{less_again}
-use Rattle.plane_delaunay.proofs.Points.Nudges.{Closed, Inside, inside-turned, closed_of_inside}
+use Rattle.plane_delaunay.proofs.Points.Nudges.{Closed, InOpen, inside-turned, closed_of_inside}
 use Rattle.plane_delaunay.proofs.Tilings.Faces.{Tiling, side_not_inside, turned-above, middle}
 use Rattle.plane_delaunay.proofs.Tilings.Faces.{middle-inside}
 use Rattle.plane_delaunay.proofs.Tilings.Beyond.{face_across}
@@ -74,12 +74,12 @@ module _ (T : Tiling) where
   Generic p x = (i j : ℕ) → Member (i, j) T.sides → IsOff p (at i) x
 
   abbrev Finds : Fraction → ℕ → Type 0
-  Finds p m = (a b c : ℕ) (x : Fraction) → IsFace a b c → Inside (at a) (at b) (at c) x
+  Finds p m = (a b c : ℕ) (x : Fraction) → IsFace a b c → InOpen (at a) (at b) (at c) x
       → Generic p x → separation T x p < m → IsCovered p ⊎ IsBeyond p
 
   -- on the way out through the side a b: p is found from the face across, or is beyond the side
   pass : (p : Fraction) (m : ℕ) → Finds p m → (a b c : ℕ) (x : Fraction) → IsFace a b c
-      → Inside (at a) (at b) (at c) x → Generic p x → separation T x p < suc m
+      → InOpen (at a) (at b) (at c) x → Generic p x → separation T x p < suc m
       → Leaves x p (at a) (at b) (at c) → IsCovered p ⊎ IsBeyond p
   pass p m finds a b c x f inside generic less leaves = go (listed_or_not b a T.sides)
     where
@@ -101,7 +101,7 @@ module _ (T : Tiling) where
           next : (d : ℕ) × IsFace b a d → IsCovered p ⊎ IsBeyond p
           next g = found (beyond T a b c g.0 x p f g.1 inside.first leaves.right passes.0 passes.1)
             where
-              found : (x' : Fraction) × OnWay x p x' × Inside (at b) (at a) (at g.0) x'
+              found : (x' : Fraction) × OnWay x p x' × InOpen (at b) (at a) (at g.0) x'
                   × (separation T x' p < separation T x p) → IsCovered p ⊎ IsBeyond p
               found r =
                   finds b a g.0 r.0 g.1 r.2 (λ i j h. off-on_way p (at i) x r.0 r.1 (generic i j h))
@@ -170,7 +170,7 @@ module _ (T : Tiling) where
 
   -- no vertex is strictly inside a face
   pub vertex_not_inside : (v d e f : ℕ) → IsVertex v → IsFace d e f
-      → ¬ Inside (at d) (at e) (at f) (at v)
+      → ¬ InOpen (at d) (at e) (at f) (at v)
   vertex_not_inside v d e f hv g inside = go (corner_of_face v hv)
     where
       go : (b c : ℕ) × IsFace v b c → ⊥

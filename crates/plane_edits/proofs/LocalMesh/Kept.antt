@@ -124,11 +124,11 @@ flip_kept points faces new outer outer' a b c d m f g left right change edges = 
     (if_left _ _ _ right))
 
 -- each three corners of a b c d after one another turn left
-abbrev IsConvex : Fraction → Fraction → Fraction → Fraction → Type 0
-IsConvex a b c d = TurnsLeft a b c × TurnsLeft b c d × TurnsLeft c d a × TurnsLeft d a b
+abbrev TurnAllLeft : Fraction → Fraction → Fraction → Fraction → Type 0
+TurnAllLeft a b c d = TurnsLeft a b c × TurnsLeft b c d × TurnsLeft c d a × TurnsLeft d a b
 
 -- then a point of d a b is in a b c or in c d a
-half : (a b c d p : Fraction) → IsConvex a b c d → InTriangle d a b p
+half : (a b c d p : Fraction) → TurnAllLeft a b c d → InTriangle d a b p
     → InTriangle a b c p ⊎ InTriangle c d a p
 half a b c d p q h = let i = in_signs d a b p q.3 h in
     elim (halved (vec a) (vec b) (vec c) (vec d) (vec p) (if_left a b c q.0)

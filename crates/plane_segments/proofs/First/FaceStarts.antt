@@ -26,7 +26,7 @@ use Rattle.plane_delaunay.proofs.Points.Bracket.{bracket, bracket-swapped, brack
 use Rattle.plane_delaunay.proofs.Points.Bracket.{bracket-second, meeting}
 use Rattle.plane_delaunay.proofs.Points.Bracket.{meeting-x, meeting-y, meeting-w, cramer}
 use Rattle.plane_delaunay.proofs.Points.Bracket.{above_if_left, left_if_above}
-use Rattle.plane_delaunay.proofs.Points.Nudges.{Inside}
+use Rattle.plane_delaunay.proofs.Points.Nudges.{InOpen}
 use Rattle.plane_delaunay.proofs.Tilings.Faces.{turned-above}
 use Rattle.plane_delaunay.proofs.Floods.Flooded.{segment_from}
 use Rattle.plane_delaunay.proofs.Tilings.Ground.{inside_of}
@@ -97,10 +97,10 @@ turned_most : (x y : ℤ) → x ≡ neg_ℤ y → pos 0 ≤ℤ y → x ≤ℤ po
 turned_most x y e h = omega (arith, ints)
 
 module _ (p q : Fraction) (apart : ¬ IsSame p q) (A B C : Fraction)
-    (turning : pos 0 <ℤ bracket A B C) (inside : Inside A B C p) where
+    (turning : pos 0 <ℤ bracket A B C) (inside : InOpen A B C p) where
   -- where the segment goes towards the side from A to B and does not reach it, it ends inside
   pub ends_inside : bracket p q A ≤ℤ pos 0 → pos 0 <ℤ bracket p q B → pos 0 <ℤ bracket A B q
-      → Inside A B C q
+      → InOpen A B C q
   ends_inside low high side = record {
     first = side;
     second = kept (bracket A B q) (bracket A B p) (bracket B C p) (bracket B C q) _
@@ -210,7 +210,7 @@ turn x y z a b c e hx hy hz some =
 
 -- ---- the items
 module _ (t : Triangulation) (h : TilesHull t) (p q : Fraction) (apart : ¬ IsSame p q) (a b c : ℕ)
-    (f : IsFace t a b c) (inside : Inside (vertex t a) (vertex t b) (vertex t c) p) where
+    (f : IsFace t a b c) (inside : InOpen (vertex t a) (vertex t b) (vertex t c) p) where
   abbrev A : Fraction
   A = vertex t a
 
@@ -224,7 +224,7 @@ module _ (t : Triangulation) (h : TilesHull t) (p q : Fraction) (apart : ¬ IsSa
   turning = above_if_left A B C (h.turning a b c f)
 
   -- a segment strictly inside a face meets nothing
-  pub bare_within : Inside A B C q → (m : Item) → ¬ Meets t p q m
+  pub bare_within : InOpen A B C q → (m : Item) → ¬ Meets t p q m
   bare_within ends m met = go (begins t p q m met)
     where
       go : Begins t p q m → ⊥
@@ -300,7 +300,7 @@ first_from_a_face t h p q apart a b c f within = (
     turns : pos 0 <ℤ bracket (vertex t a) (vertex t b) (vertex t c)
     turns = above_if_left _ _ _ (h.turning a b c f)
 
-    inside : Inside (vertex t a) (vertex t b) (vertex t c) p
+    inside : InOpen (vertex t a) (vertex t b) (vertex t c) p
     inside = inside_of _ _ _ p (h.turning a b c f) within
 
     not_left_if : (x : Fraction) → bracket p q x ≤ℤ pos 0 → side p q x ≢ left

@@ -13,7 +13,7 @@ use Rattle.plane.specs.Location.{IsOuter}
 use Rattle.plane.specs.Line.{Item, IsPointOf, Meets, BeginsAt, IsBefore, IsVertexThenOverlap}
 use Rattle.plane.specs.Line as L
 use Rattle.plane_delaunay.proofs.Points.Bracket.{bracket, above_if_left}
-use Rattle.plane_delaunay.proofs.Points.Nudges.{Inside}
+use Rattle.plane_delaunay.proofs.Points.Nudges.{InOpen}
 use Rattle.plane_delaunay.proofs.Tilings.Faces.{Between, between-second, between-third}
 use Rattle.plane_delaunay.proofs.Tilings.Faces.{between-swapped}
 use Rattle.plane_delaunay.proofs.Points.AlongSegment.{Placed, sooner, as_soon, later, placed}
@@ -100,7 +100,7 @@ module _ (t : Triangulation) (p q : Fraction) (apart : ¬ IsSame p q) where
     }
 
     -- from inside a face, the side that is crossed comes first
-    pub first_from_face : (c : ℕ) → IsFace t a b c → Inside (vertex t a) (vertex t b) (vertex t c) p
+    pub first_from_face : (c : ℕ) → IsFace t a b c → InOpen (vertex t a) (vertex t b) (vertex t c) p
         → IsFirst t p q (L.across b a)
     first_from_face c f inside = record {
       met = side_met;

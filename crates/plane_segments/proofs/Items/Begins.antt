@@ -25,7 +25,7 @@ use Rattle.plane.specs.Line as L
 use Rattle.plane_delaunay.proofs.Points.Bracket.{bracket, meeting-w, bracket-swapped, above_if_left}
 use Rattle.plane_delaunay.proofs.Points.Bracket.{left_if_above}
 use Rattle.plane_delaunay.proofs.Tilings.Generic.{same_bracket}
-use Rattle.plane_delaunay.proofs.Points.Nudges.{Inside}
+use Rattle.plane_delaunay.proofs.Points.Nudges.{InOpen}
 use Rattle.plane_delaunay.proofs.Tilings.Where.{vertex_not_inside}
 use Rattle.plane_delaunay.proofs.Tilings.Meets.{edge_outside}
 use Rattle.plane_delaunay.proofs.Tilings.Ground.{tiling}
@@ -242,7 +242,7 @@ module _ (t : Triangulation) (p q : Fraction) (apart : ¬ IsSame p q) where
 -- no item has a point strictly inside a face
 pub bare_inside : (t : Triangulation) (h : TilesHull t) (p q : Fraction) (m : Item) → Meets t p q m
     → (z : Fraction) → IsPointOf t m z → (i j k : ℕ) → IsFace t i j k
-    → ¬ Inside (vertex t i) (vertex t j) (vertex t k) z
+    → ¬ InOpen (vertex t i) (vertex t j) (vertex t k) z
 unfolding tiling
 bare_inside t h p q (L.at_vertex n) met z s i j k f inside =
     vertex_not_inside (tiling t h) n i j k met.0 f (record {

@@ -19,7 +19,7 @@ use Rattle.plane.specs.Line.{Item, Meets, BeginsAt, IsBefore, IsVertexThenOverla
 use Rattle.plane.specs.Line as L
 use Rattle.plane_delaunay.proofs.Points.Bracket.{bracket, bracket-swapped, bracket-first, cramer}
 use Rattle.plane_delaunay.proofs.Points.Bracket.{meeting, above_if_left}
-use Rattle.plane_delaunay.proofs.Points.Nudges.{Inside}
+use Rattle.plane_delaunay.proofs.Points.Nudges.{InOpen}
 use Rattle.plane_delaunay.proofs.Tilings.Faces.{Between, between-swapped, between-second}
 use Rattle.plane_delaunay.proofs.Tilings.Faces.{between-third, turned-above}
 use Rattle.plane.proofs.Triangles.{turned_face}
@@ -121,7 +121,7 @@ module _ (t : Triangulation) (h : TilesHull t) (p q : Fraction) (apart : ¬ IsSa
 
   -- what begins between the crossing and the other sides is strictly inside the face
   inside_left : (z : Fraction) → OnSegment p q z → pos 0 ≤ℤ bracket p q D → pos 0 <ℤ bracket A B z
-      → pos 0 <ℤ bracket B D z → Inside A B D z
+      → pos 0 <ℤ bracket B D z → InOpen A B D z
   inside_left z hz hd first second = record {
     first = first;
     second = second;
@@ -130,7 +130,7 @@ module _ (t : Triangulation) (h : TilesHull t) (p q : Fraction) (apart : ¬ IsSa
   }
 
   inside_right : (z : Fraction) → OnSegment p q z → bracket p q D ≤ℤ pos 0 → pos 0 <ℤ bracket A B z
-      → pos 0 <ℤ bracket D A z → Inside A B D z
+      → pos 0 <ℤ bracket D A z → InOpen A B D z
   inside_right z hz hd first third = record {
     first = first;
     second =

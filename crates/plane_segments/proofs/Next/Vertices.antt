@@ -18,7 +18,7 @@ use Rattle.plane.specs.Line.{Item, IsPointOf, Meets, BeginsAt, IsBefore, IsVerte
 use Rattle.plane.specs.Line as L
 use Rattle.plane_delaunay.proofs.Points.Bracket.{bracket, bracket-swapped, bracket-turned}
 use Rattle.plane_delaunay.proofs.Points.Bracket.{bracket-first, bracket-second, above_if_left}
-use Rattle.plane_delaunay.proofs.Points.Nudges.{Inside, size, nudge, nudge-above, nudge-on}
+use Rattle.plane_delaunay.proofs.Points.Nudges.{InOpen, size, nudge, nudge-above, nudge-on}
 use Rattle.plane_delaunay.proofs.Tilings.Faces.{turned-above}
 use Rattle.plane.proofs.Triangles.{turned_face}
 use Rattle.plane_delaunay.proofs.Points.Hull.{nudge_in_hull}
@@ -216,7 +216,7 @@ module _ (t : Triangulation) (p q : Fraction) (apart : ¬ IsSame p q) (v : ℕ)
         w : Fraction
         w = nudge n V z
 
-        inside : Inside V B C w
+        inside : InOpen V B C w
         inside = record {
           first = subst (λ x. pos 0 <ℤ x) (sym (nudge-on V B n V z (bracket-first V B)))
               (cone_first z hz near);

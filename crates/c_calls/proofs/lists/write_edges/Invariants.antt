@@ -1,10 +1,10 @@
 use Rattle.delaunay_legalization.specs.Constraints.{constraints_by}
 use Rattle.delaunay_legalization.specs.State.{triangulation_of}
-use Rattle.c_calls.specs.Queries.{IsEdgeAt}
+use Rattle.c_calls.specs.Queries.{IsEdgeEntry}
 use Rattle.c_calls.specs.Written.{Answered}
 use Rattle.c_calls.proofs.lists.write_edges.Given as goal
 
 abbrev pub invariant-loop-index : goal.invariant-loop-index
 invariant-loop-index g l = let s = g.T.Triangulation.state l.points in
-    Answered (IsEdgeAt (triangulation_of g.T.Vertex.HasPosition.place s)
+    Answered (IsEdgeEntry (triangulation_of g.T.Vertex.HasPosition.place s)
     (constraints_by g.T.Constraints.ConstraintMarker.constraints s)) l.index l.fn.edges l.edges

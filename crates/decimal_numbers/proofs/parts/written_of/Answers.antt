@@ -1,5 +1,5 @@
 use Rattle.std.proofs.Common.{◌+◌, ◌<◌, length, arith, ap, sym, subst}
-use Rattle.decimal_numbers.specs.Grammar.{IsPower, SpellsNone}
+use Rattle.decimal_numbers.specs.Grammar.{IsPower, SpellsNoNumber}
 use Rattle.decimal_numbers.proofs.Splits.{parts_are, number_of, if_none, is_none, is_some}
 use Rattle.decimal_numbers.proofs.parts.written_of.Goals as goal
 use Rattle.decimal_numbers.proofs.parts.written_of.Goals.{
@@ -17,7 +17,7 @@ returns-then-is_empty-2-clause-none c = λ p s.
 
 pub returns-in_err-lowers-clause-none : goal.returns-in_err-lowers-clause-none
 returns-in_err-lowers-clause-none c =
-    let none : SpellsNone c.args.text.now = λ p s.
+    let none : SpellsNoNumber c.args.text.now = λ p s.
     let q = parts_are _ _ _ _ _ _ _ p c.split_sign-negative.ensures c.split_digits.ensures.split
     c.split_digits.ensures.digits c.split_digits.ensures.ended c.split_point.ensures s in
     c.in_err-lowers.ensures.none p.lowers p.power

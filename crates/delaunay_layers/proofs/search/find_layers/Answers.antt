@@ -1,6 +1,6 @@
 use Rattle.std.proofs.Common.{◌≡◌, ◌++◌, ◌∷◌, [], arith, length, ap, sym, subst, map}
 use Rattle.delaunay_layers.specs.Layers.{AreLayers}
-use Rattle.delaunay_layers.specs.Search.{IsSearch, work_left}
+use Rattle.delaunay_layers.specs.Search.{IsLayered, work_left}
 use Rattle.delaunay_layers.proofs.Reached.{all_layers}
 use Rattle.delaunay_layers.proofs.Searching.{all_found, few_layers, less_work, not_last, taken}
 use Rattle.delaunay_layers.proofs.search.find_layers.Goals as goal
@@ -20,7 +20,7 @@ cross-requires-clause-search g c =
     let constraints = g.M.ConstraintMarker.constraints c.args.dcel.now.undirected in
     let s = c.loop-edge.search in
     let t = c.next.new.self in
-    subst (λ v. IsSearch m constraints v.items (t.now.items ++ c.in-Some.edge ∷ []) t.later.items
+    subst (λ v. IsLayered m constraints v.items (t.now.items ++ c.in-Some.edge ∷ []) t.later.items
     t.layer) (sym c.next.ensures.layers)
     (taken m constraints s.layers.items s.now.items s.later.items t.now.items t.later.items
     s.layer t.layer c.in-Some.edge c.loop-edge.invariant.search c.in-Some.ensures.takes)
@@ -47,6 +47,6 @@ returns g c =
     (all_layers (map g.V.HasPosition.place c.args.dcel.now.vertices) m c.requires.valid
     c.requires.shape constraints s.layers.items
     (all_found m constraints s.layers.items s.layer
-    (subst (λ xs. IsSearch m constraints s.layers.items xs [] s.layer) none.0
-    (subst (λ xs. IsSearch m constraints s.layers.items s.now.items xs s.layer) none.1
+    (subst (λ xs. IsLayered m constraints s.layers.items xs [] s.layer) none.0
+    (subst (λ xs. IsLayered m constraints s.layers.items s.now.items xs s.layer) none.1
     c.loop-edge.invariant.search)) c.loop-edge.invariant.outer))

@@ -7,13 +7,13 @@ use Rattle.delaunay_removal.proofs.HullShrinking.{bent_at_end, turnable_place}
 use Rattle.delaunay_removal.proofs.HullShrinking.{place_starts, place_apart, hull_star_goes_on}
 use Rattle.delaunay_removal.proofs.HullShrinking.{hull_shrinking_goes_on}
 use Rattle.delaunay_removal.proofs.Shrinking.{still_within, still_sites}
-use Rattle.delaunay_removal.specs.Hull.{IsHullStar}
+use Rattle.delaunay_removal.specs.Hull.{IsHullFan}
 use Rattle.delaunay_removal.proofs.removal_hull.shrink_hull_star.Goals as goal
 
 pub loop-edge-init : goal.loop-edge-init
 loop-edge-init g c =
     let hull = c.requires.hull in
-    let star : IsHullStar (map g.V.HasPosition.place c.args.dcel.now.vertices)
+    let star : IsHullFan (map g.V.HasPosition.place c.args.dcel.now.vertices)
     c.args.dcel.now.mesh (origin c.args.dcel.now.mesh c.args.first) c.args.first
     c.count_edges-count.result =
     record { shape = hull.shape; outer = hull.outer; round = c.count_edges-count.ensures } in

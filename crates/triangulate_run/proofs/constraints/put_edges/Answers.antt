@@ -3,7 +3,7 @@ use Rattle.std.specs.List.{flat_map}
 use Rattle.std.proofs.lemmas.List.{take_all}
 use Rattle.std.proofs.lemmas.Result.{err_from_is_err_and}
 use Rattle.triangulate_watched.specs.Watched.{inner_of}
-use Rattle.triangulate_run.specs.Output.{AppendsPart, Passes}
+use Rattle.triangulate_run.specs.Output.{AppendsPart, Sends}
 use Rattle.triangulate_run.proofs.OutputLemmas.{passes_nil, passes_at, part_at}
 use Rattle.triangulate_run.proofs.Paths.{edge_piece, pieces_text}
 use Rattle.triangulate_run.proofs.constraints.put_edges.Goals as goal
@@ -15,7 +15,7 @@ pub loop-edge-preserved : goal.loop-edge-preserved
 loop-edge-preserved g c =
     let put = c.in_ok-put_path_edge.ensures in
     let m = c.args.triangulation.now.mesh in
-    let here = subst (λ (h : ℕ). Passes (g.W.Write.contents (inner_of c.loop-edge.writer))
+    let here = subst (λ (h : ℕ). Sends (g.W.Write.contents (inner_of c.loop-edge.writer))
     (g.W.Write.contents (inner_of c.put_path_edge.new.writer)) c.loop-edge.held.items
     c.put_path_edge.new.held.items
     (edge_piece m h)) c.edge-item.is put.0 in
@@ -50,7 +50,7 @@ returns g c =
     let m = c.args.triangulation.now.mesh in
     let path = c.args.path.now in
     let all = take_all c.loop-edge.edge-index path c.loop-edge-test.false in (
-      subst (λ (t : List ℕ). Passes (g.W.Write.contents (inner_of c.args.writer.now))
+      subst (λ (t : List ℕ). Sends (g.W.Write.contents (inner_of c.args.writer.now))
           (g.W.Write.contents (inner_of c.loop-edge.writer)) c.args.held.now.items
           c.loop-edge.held.items t)
           (ap (flat_map (edge_piece m)) all ∙ pieces_text m path) c.loop-edge.invariant.so_far,

@@ -4,7 +4,7 @@ use Rattle.std.proofs.lemmas.List.{take_all}
 use Rattle.std.proofs.lemmas.Result.{err_from_is_err_and}
 use Rattle.triangulate_watched.specs.Watched.{inner_of}
 use Rattle.triangulate_run.specs.declared.piece.Piece.{Piece}
-use Rattle.triangulate_run.specs.Output.{Passes}
+use Rattle.triangulate_run.specs.Output.{Sends}
 use Rattle.triangulate_run.proofs.OutputLemmas.{passes_nil, passes_at, part_at}
 use Rattle.triangulate_run.specs.Piece.{text_of}
 use Rattle.triangulate_run.proofs.output.put_pieces.Goals as goal
@@ -35,7 +35,7 @@ returns-in_err-put_piece g c =
 pub returns : goal.returns
 returns g c =
     let all = take_all c.loop-piece.piece-index c.args.pieces.now c.loop-piece-test.false in (
-      subst (λ (ys : List Piece). Passes (g.W.Write.contents (inner_of c.args.writer.now))
+      subst (λ (ys : List Piece). Sends (g.W.Write.contents (inner_of c.args.writer.now))
           (g.W.Write.contents (inner_of c.loop-piece.writer)) c.args.held.now.items
           c.loop-piece.held.items
           (flat_map text_of ys)) all c.loop-piece.invariant.so_far,

@@ -1,13 +1,13 @@
 use Rattle.std.proofs.Common.{◌≡◌, false, take}
 use Rattle.std.specs.List.{flat_map}
 use Rattle.triangulate_watched.specs.Watched.{inner_of, has_failed}
-use Rattle.triangulate_run.specs.Output.{Passes}
+use Rattle.triangulate_run.specs.Output.{Sends}
 use Rattle.triangulate_run.specs.Piece.{text_of}
 use Rattle.triangulate_run.proofs.output.put_pieces.Given as goal
 
 abbrev pub invariant-loop-piece : goal.invariant-loop-piece
 invariant-loop-piece g l = record {
-  so_far : Passes (g.W.Write.contents (inner_of l.fn.writer))
+  so_far : Sends (g.W.Write.contents (inner_of l.fn.writer))
       (g.W.Write.contents (inner_of l.writer)) l.fn.held.items l.held.items
       (flat_map text_of (take l.piece-index l.pieces));
   works : has_failed l.writer ≡ false;

@@ -4,7 +4,7 @@ use Rattle.std.proofs.lemmas.List.{take_all}
 use Rattle.std.proofs.lemmas.Result.{err_from_is_err_and}
 use Rattle.triangulate_watched.specs.Watched.{inner_of}
 use Rattle.triangulate_run.specs.declared.corners.Corners.{Corners}
-use Rattle.triangulate_run.specs.Output.{Passes}
+use Rattle.triangulate_run.specs.Output.{Sends}
 use Rattle.triangulate_run.specs.Reply.{corners_text}
 use Rattle.triangulate_run.proofs.OutputLemmas.{passes_nil, passes_at, part_before, puts_behind}
 use Rattle.triangulate_run.proofs.reply.put_faces.Goals as goal
@@ -36,7 +36,7 @@ returns g c =
     let faces = c.args.faces.now in
     let all = take_all c.loop-corners.corners-index faces c.loop-corners-test.false in
     let so_far =
-    subst (λ (ys : List Corners). Passes (g.W.Write.contents (inner_of c.args.writer.now))
+    subst (λ (ys : List Corners). Sends (g.W.Write.contents (inner_of c.args.writer.now))
     (g.W.Write.contents (inner_of c.loop-corners.writer)) c.args.held.now.items
     c.loop-corners.held.items
     (flat_map corners_text ys)) all c.loop-corners.invariant.so_far in

@@ -2,7 +2,7 @@ use Rattle.std.proofs.Common.{◌<◌, ◌≡◌, ◌∙◌, arith, length, set,
 use Rattle.std.proofs.lemmas.Result.{on_ok_weaker}
 use Rattle.half_edge_mesh.specs.Mesh.{face, rev, next, prev, face_edge}
 use Rattle.std.proofs.lemmas.List.Elements.{Contains-push}
-use Rattle.delaunay_layers.specs.Search.{IsSearch}
+use Rattle.delaunay_layers.specs.Search.{IsLayered}
 use Rattle.delaunay_layers.proofs.Searching.{few_layers, passed, leads_within, stands_at, stepped}
 use Rattle.delaunay_layers.proofs.search.LayerSearch.cross.Goals as goal
 
@@ -64,9 +64,9 @@ returns-clause-search g c =
     let layer : c.list-3.new.self.layer ≡ s.layer =
     c.list-3.ensures.layer ∙ c.list-2.ensures.layer ∙ c.list.ensures.layer in
     on_ok_weaker c.list-3.result
-    (λ last. subst (IsSearch m constraints c.list-3.new.self.layers.items
+    (λ last. subst (IsLayered m constraints c.list-3.new.self.layers.items
     c.list-3.new.self.now.items c.list-3.new.self.later.items) (sym layer)
-    (subst (λ xs. IsSearch m constraints xs c.list-3.new.self.now.items
+    (subst (λ xs. IsLayered m constraints xs c.list-3.new.self.now.items
     c.list-3.new.self.later.items s.layer) (sym layers)
     (stepped m constraints whole.valid.sound few s.layers.items s.now.items s.later.items
     c.list.new.self.now.items c.list.new.self.later.items

@@ -1,5 +1,5 @@
 use Rattle.std.proofs.Common.{◌+◌, ◌≡◌, ◌∙◌, [], arith, length, replicate, set, ap, sym, subst}
-use Rattle.delaunay_layers.specs.Search.{IsSearch, Lists, IsSideOf, unseen}
+use Rattle.delaunay_layers.specs.Search.{IsLayered, Lists, IsSideOf, unseen}
 use Rattle.delaunay_layers.proofs.Searching.{begun}
 use Rattle.delaunay_layers.proofs.search.LayerSearch.new.Goals as goal
 
@@ -16,9 +16,9 @@ returns-clause-search g c =
     ∙ ap (λ n. replicate n unseen) many in
     let layers : t.layers.items ≡ set c.in_ok-layers.layers.items 0 0 =
     ap (λ v. v.items) c.list_outer_edges.ensures.layers in
-    subst (IsSearch m constraints t.layers.items t.now.items t.later.items)
+    subst (IsLayered m constraints t.layers.items t.now.items t.later.items)
     (sym c.list_outer_edges.ensures.layer)
-    (subst (λ xs. IsSearch m constraints xs t.now.items t.later.items 0) (sym layers)
+    (subst (λ xs. IsLayered m constraints xs t.now.items t.later.items 0) (sym layers)
     (begun m constraints c.in_ok-layers.layers.items t.now.items t.later.items all
     (subst (λ xs. Lists constraints (IsSideOf m 0) xs [] t.now.items t.later.items)
     c.new.ensures.items

@@ -1,10 +1,10 @@
 use Rattle.std.proofs.Common.{ℕ, map}
 use Rattle.half_edge_mesh.specs.Rounds.{out_edges_left}
 use Rattle.delaunay_legalization.proofs.Rounds.{IsGoingRound}
-use Rattle.delaunay_lines.specs.Steps.{LeadsTo}
+use Rattle.delaunay_lines.specs.Steps.{LeadsOn}
 use Rattle.delaunay_lines.proofs.segment.Segment.edge_towards.Given as goal
 
 abbrev pub invariant-loop-edge : goal.invariant-loop-edge
 invariant-loop-edge g l = IsGoingRound l.self.dcel l.fn.vertex
-    (λ (h : ℕ). ¬ LeadsTo (map g.V.HasPosition.place l.self.dcel.vertices) l.self.dcel.mesh
+    (λ (h : ℕ). ¬ LeadsOn (map g.V.HasPosition.place l.self.dcel.vertices) l.self.dcel.mesh
     l.self.to h) (out_edges_left l.edge-iterator)

@@ -4,7 +4,7 @@ use Rattle.std.specs.Prelude.{IfOk}
 use Rattle.plane.specs.Shape.{InClosedCircle}
 use Rattle.delaunay_core.specs.Place.{place_of}
 use Rattle.delaunay_shapes.specs.Left.{edges_left}
-use Rattle.delaunay_shapes.specs.Start.{BeginsAt}
+use Rattle.delaunay_shapes.specs.Start.{HasStartAt}
 use Rattle.delaunay_shapes.proofs.Shapes.{circle_begins}
 use Rattle.delaunay_shape_queries.specs.Found.{FindsEdges}
 use Rattle.delaunay_shape_queries.proofs.Calls.{same_circle, sites_in_mesh, edges_found}
@@ -18,7 +18,7 @@ edges_in_shape-requires-clause-sites g c = sites_in_mesh g.Self.Vertex.HasPositi
 
 pub edges_in_shape-requires-clause-begins : goal.edges_in_shape-requires-clause-begins
 edges_in_shape-requires-clause-begins g c = subst
-    (λ p. BeginsAt
+    (λ p. HasStartAt
     (InClosedCircle (place_of g.Self.Vertex.Scalar.SpadeNum.whole c.new-circle.result.center)
     c.new-circle.result.radius_2) p) (ap (λ p. place_of g.Self.Vertex.Scalar.SpadeNum.whole p)
     c.new-circle.ensures.center) (circle_begins (place_of g.Self.Vertex.Scalar.SpadeNum.whole

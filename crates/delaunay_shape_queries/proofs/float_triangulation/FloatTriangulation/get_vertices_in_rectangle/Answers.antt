@@ -3,7 +3,7 @@ use Rattle.std.specs.Prelude.{IfOk}
 use Rattle.plane.specs.Shape.{InClosedRectangle}
 use Rattle.delaunay_core.specs.Place.{place_of}
 use Rattle.delaunay_shapes.specs.Left.{vertices_left}
-use Rattle.delaunay_shapes.specs.Start.{BeginsAt}
+use Rattle.delaunay_shapes.specs.Start.{HasStartAt}
 use Rattle.delaunay_shapes.proofs.Shapes.{rectangle_begins}
 use Rattle.delaunay_shape_queries.specs.Found.{FindsVertices}
 use Rattle.delaunay_shape_queries.proofs.Calls.{lower_corner, upper_corner, same_corners}
@@ -41,7 +41,7 @@ vertices_in_shape-requires-clause-sites g c = sites_in_mesh g.Self.Vertex.HasPos
 
 pub vertices_in_shape-requires-clause-begins : goal.vertices_in_shape-requires-clause-begins
 vertices_in_shape-requires-clause-begins g c =
-    subst (λ p. BeginsAt (InClosedRectangle
+    subst (λ p. HasStartAt (InClosedRectangle
     (place_of g.Self.Vertex.Scalar.SpadeNum.whole c.new-rectangle.result.lower)
     (place_of g.Self.Vertex.Scalar.SpadeNum.whole c.new-rectangle.result.upper)) p)
     (ap (λ p. place_of g.Self.Vertex.Scalar.SpadeNum.whole p) c.new-rectangle.ensures.lower)
