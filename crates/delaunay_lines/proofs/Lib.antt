@@ -3,6 +3,7 @@ pub mod SegmentTests
 pub mod Located
 pub mod FirstItems
 pub mod OutsideItems
+pub mod LineOutline
 pub mod OutlineWalk
 pub mod EitherWay
 -- From one item to the next.

@@ -1,6 +1,6 @@
 -- What a segment meets first from beyond an outer edge, told from this edge and its neighbours.
 -- Lemmas: nothing_on_left, nothing_beyond, vertex_first, end_first, start_first, not_both_on,
--- left_if_neither, right_if_neither, tiled, seen_from, seen_after, seen_before, neighbour_after,
+-- left_if_neither, right_if_neither, seen_from, neighbour_after,
 -- neighbour_before, stops_after, stops_before, nothing_on_its_left, nothing_past_end,
 -- nothing_past_start, end_met, start_met, edge_met.
 use Rattle.std.proofs.Common.{◌≡◌, ◌≢◌, ◌⊎◌, ◌<◌, ◌∙◌, ℕ, List, [], length, map, Option, Some, None}
@@ -8,15 +8,18 @@ use Rattle.std.proofs.Common.{refl, sym, ap, subst, inl, inr, arith}
 use lib.IntN.{neg_ℤ}
 use Rattle.std.specs.Prelude.{IfSome, IfNone, MatchOption}
 use Rattle.std.specs.Prelude.{ℤ, pos, ◌<ℤ◌, ◌≤ℤ◌, ◌+ℤ◌, ◌-ℤ◌, ◌*ℤ◌, Contains}
+use Rattle.std.proofs.lemmas.Bool.{cases_eq}
 use Rattle.std.proofs.lemmas.Int.{ints}
 use Rattle.half_edge_mesh.specs.Mesh.{Mesh, origin, next, prev, face, rev}
 use Rattle.half_edge_links.proofs.Lists.Rev.{rev-rev, rev_within}
+use Rattle.half_edge_links.proofs.Removing.Conditions.{alone_at}
 use Rattle.half_edge_mesh.specs.Contents.{Contents}
+use Rattle.half_edge_mesh.specs.Outline.{IsOuterEdge}
 use Rattle.plane.specs.Fraction.{Point, Fraction, whole, IsSame, OnSegment}
 use Rattle.plane.specs.Side.{Side, side, left, right, on, opposite, TurnsLeft}
 use Rattle.plane.specs.Pairs.{place}
 use Rattle.plane.specs.Circle.{IsNearer}
-use Rattle.plane.specs.Tiling.{Triangulation, IsVertex, IsEdge, vertex, TilesHull}
+use Rattle.plane.specs.Tiling.{Triangulation, IsVertex, IsEdge, vertex}
 use Rattle.plane.specs.Location.{IsOuter}
 use Rattle.plane.specs.Line.{Item, IsPointOf, Meets, IsBefore, IsVertexThenOverlap}
 use Rattle.plane.specs.Line as L
@@ -25,7 +28,7 @@ use Rattle.plane.proofs.IntegerOrder.{lt_or_ge_ℤ, trichotomy_ℤ, mul-pos_ℤ}
 use Rattle.plane.proofs.IntegerOrder.{mul-nonpos_of_nonneg_nonpos_ℤ}
 use Rattle.plane.proofs.Nearer.{nothing_nearer}
 use Rattle.plane.proofs.Segments.{start_on_segment}
-use Rattle.plane.proofs.Sides.{if_left, if_right, if_on, side_swapped}
+use Rattle.plane.proofs.Sides.{if_right, if_on, side_swapped}
 use Rattle.plane.proofs.Steps.{weak, zero_weak_left, left_not_below, left_not_zero}
 use Rattle.plane.proofs.Steps.{product_zero_left}
 use Rattle.plane.proofs.Signs.{negated_negative, opposite_of_negative, opposite_of_positive}
@@ -36,10 +39,13 @@ use Rattle.plane_delaunay.proofs.Points.Bracket.{bracket-first, bracket-second, 
 use Rattle.plane_delaunay.proofs.Points.Bracket.{above_if_left, left_if_above}
 use Rattle.plane_tiling.proofs.Counting.{SignMesh}
 use Rattle.plane_tiling.proofs.Tiles.{point_at, by_signs, bracket_not_left}
+use Rattle.plane_tiling.specs.Local.{LineMesh}
+use Rattle.plane_tiling.proofs.Line.{SignLine, Adjoin, next_turned}
+use Rattle.plane_tiling.proofs.LineMeshes.{line_by_signs}
 use Rattle.plane_edits.proofs.Insertion.Hull.{start_supports, end_supports}
 use Rattle.mesh_embedding.specs.Drawn.{drawn, faces_of, outer_of}
-use Rattle.mesh_embedding.proofs.OuterEdges.{listed}
-use Rattle.delaunay_legalization.proofs.ElementCounts.{faces_counted}
+use Rattle.mesh_embedding.proofs.MeshLegal.{line_has_none, none_or_some}
+use Rattle.mesh_embedding.proofs.OuterEdges.{listed, real, one_edge}
 use Rattle.delaunay_location.specs.Location.{Locates}
 use Rattle.delaunay_location.specs.declared.position_in_triangulation.PositionInTriangulation.TheVariants.{OutsideOfConvexHull}
 use Rattle.delaunay_lines.specs.declared.intersection.FixedIntersection.TheVariants.{Edge, Vertex}
@@ -47,19 +53,24 @@ use Rattle.delaunay_lines.specs.Steps.{IsOverMesh, IsLeftOf}
 use Rattle.delaunay_lines.specs.Starts.{StartsOutside}
 use Rattle.delaunay_lines.specs.Outline.{IsSeenOuter, IsTurningPoint}
 use Rattle.delaunay_lines.specs.Walk.{Starts}
-use Rattle.delaunay_lines.proofs.Located.{none_past}
-use Rattle.delaunay_lines.proofs.MeshSteps.{laid, in_mesh, of_mesh, joined, bare, start_in, not_same}
+use Rattle.delaunay_lines.proofs.LineOutline.{end_supported, start_supported, seen_after}
+use Rattle.delaunay_lines.proofs.LineOutline.{seen_before}
+use Rattle.delaunay_lines.proofs.MeshSteps.{laid, in_mesh, of_mesh, joined, bare, face_at}
+use Rattle.delaunay_lines.proofs.MeshSteps.{start_in, not_same}
 use Rattle.delaunay_lines.proofs.FirstItems.{starts_first, nothing_met}
 use Rattle.delaunay_lines.proofs.OutsideItems.{enters}
 use Rattle.plane_delaunay.proofs.Floods.Flooded.{segment_from}
-use Rattle.plane_delaunay.proofs.Segments.LineItems.{Begins, begins, meeting_of_hull}
+use Rattle.plane_delaunay.proofs.Segments.LineItems.{Begins, begins}
 use Rattle.plane_segments.specs.Steps.{IsFirst, IsWalk}
 use Rattle.plane_segments.proofs.Items.Begins.{above-same}
 use Rattle.plane_segments.proofs.Items.Orders.{nearer-same_second}
 use Rattle.plane_segments.proofs.Items.Slopes.{slope, slope_above, later_is_higher, left_along}
 use Rattle.plane_segments.proofs.Items.Slopes.{left_before}
 use Rattle.plane_segments.proofs.Next.Ends.{item_not_left_of_outer}
-use Rattle.plane_segments.proofs.Walking.Steps.{edge_apart}
+use Rattle.plane_segments.specs.WalkLaws.{IsLaid}
+use Rattle.plane_segments.proofs.Walking.EachWalk.{ends_differ}
+use Rattle.plane_segments.proofs.Walking.OneLine.{line_ends, item_level}
+use Rattle.plane_segments.proofs.Walking.WalkSteps.{meeting_of}
 
 -- ---- numbers
 first_part : (f g x y k z l w : ℤ) → f *ℤ x -ℤ g *ℤ y ≡ k *ℤ z -ℤ l *ℤ w → l ≡ pos 0
@@ -98,7 +109,7 @@ rises u v p q e k = let m = mul-pos_ℤ {a = bracket u v q} {b = p.w} k p.positi
     let n = product_zero_left {a = bracket u v p} q.w e in omega (arith, ints)
 
 -- ---- an outer edge from a to b that has the start on its left
-module _ (t : Triangulation) (h : TilesHull t) (p q : Fraction) (apart : ¬ IsSame p q) (a b : ℕ)
+module _ (t : Triangulation) (h : IsLaid t) (p q : Fraction) (apart : ¬ IsSame p q) (a b : ℕ)
     (outer : IsOuter t a b) (seen : pos 0 <ℤ bracket (vertex t a) (vertex t b) p) where
   abbrev A : Fraction
   A = vertex t a
@@ -109,7 +120,11 @@ module _ (t : Triangulation) (h : TilesHull t) (p q : Fraction) (apart : ¬ IsSa
   -- no point of an item is on the left of the edge
   beneath : (k : Item) → Meets t p q k → (z : Fraction) → IsPointOf t k z
       → ¬ (pos 0 <ℤ bracket A B z)
-  beneath = item_not_left_of_outer t h p q a b outer
+  beneath k met z there = elim h as (λ _. ¬ (pos 0 <ℤ bracket A B z)) [
+    | inl tiles ↦ item_not_left_of_outer t tiles p q a b outer k met z there
+    | inr l ↦ (let ends = line_ends t l.0 a b outer.0 in
+        item_level t l.0 p q a b ends.0 ends.1 k met z there)
+  ]
 
   -- a segment that stays on its left meets nothing
   pub nothing_on_left : pos 0 <ℤ bracket A B q → IsWalk t p q []
@@ -122,9 +137,11 @@ module _ (t : Triangulation) (h : TilesHull t) (p q : Fraction) (apart : ¬ IsSa
       edge_below : (i j : ℕ) (z : Fraction) → IsEdge t i j → OnSegment (vertex t i) (vertex t j) z
           → ¬ (pos 0 <ℤ bracket u v z)
       edge_below i j z e there high =
-          let ends = (meeting_of_hull t h).ends i j e in
-          left_not_below (left_before (vertex t i) (vertex t j) (edge_apart t h i j e) u v z there
-          high (supports j ends.1)) (supports i ends.0)
+          let meets = meeting_of t h in
+          let ends = meets.ends i j e in
+          left_not_below (left_before (vertex t i) (vertex t j)
+          (ends_differ t meets p q apart i j e)
+          u v z there high (supports j ends.1)) (supports i ends.0)
 
       item_below : (k : Item) → Meets t p q k → (z : Fraction) → IsPointOf t k z
           → ¬ (pos 0 <ℤ bracket u v z)
@@ -223,9 +240,6 @@ module _ (t : Triangulation) (h : TilesHull t) (p q : Fraction) (apart : ¬ IsSa
         (bracket-turned p q A ∙ f) p.positive seen q.positive)
 
 -- ---- sides
-not_left_and_on : (z : Side) → z ≡ on → z ≡ left → ⊥
-not_left_and_on z e f = cc
-
 pub left_if_neither : (z : Side) → ¬ (z ≡ right) → ¬ (z ≡ on) → z ≡ left
 left_if_neither left r n = refl
 left_if_neither on r n = absurd (n refl)
@@ -256,33 +270,24 @@ module _ {V D U F : Type 0} (at : V → Point) (IsSite IsCovered : Point → Typ
   abbrev t : Triangulation
   t = drawn points m
 
-  -- with a face, the faces tile the hull
-  pub tiled : 0 < length c.faces → TilesHull t
-  tiled some = elim (laid at IsSite IsCovered c p q over) [
-    | inl h ↦ h
-    | inr l ↦ absurd (none (ap length l.0.no_face))
-  ]
-    where
-      none : length (faces_of m) ≡ 0 → ⊥
-      none e = let n = faces_counted c over.mesh in omega (arith, some, n, e)
+  t_laid : IsLaid t
+  t_laid = laid at IsSite IsCovered c p q over
 
-  -- located beyond an edge of the hull, p is on the left of this edge
-  pub seen_from : TilesHull t → (e : ℕ) → Locates points m p (OutsideOfConvexHull e)
-      → IsSeenOuter at c p e
-  seen_from tiles e l = record {
+  -- located beyond an outer edge with p on its left, p sees this edge
+  pub seen_from : (e : ℕ) → Locates points m p (OutsideOfConvexHull e) → (r : Option ℕ)
+      → MatchOption r (¬ IsLeftOf points m p e) (λ k. (k ≡ e) × IsLeftOf points m p e)
+      → IfSome r (IsSeenOuter at c p)
+  seen_from e l None x = tt
+  seen_from e l (Some k) x = subst (IsSeenOuter at c p) (sym x.0) (record {
     within = of_mesh at IsSite IsCovered c p q over e l.handle.0;
     outer = l.handle.1;
-    seen = elim l.location.1 [
-      | inl w ↦ w
-      | inr past ↦ absurd (none_past at IsSite IsCovered c p q over tiles (origin m e)
-          (start_in at IsSite IsCovered c p q over e l.handle.0) past)
-    ];
-  }
+    seen = x.1;
+  })
 
   -- the edges before and after an outer edge are outer edges
-  pub seen_after : (h : ℕ) → h < length c.directed → face m h ≡ 0
+  sees_after : (h : ℕ) → h < length c.directed → face m h ≡ 0
       → IsLeftOf points m p (next m h) → IsSeenOuter at c p (next m h)
-  seen_after h within o l =
+  sees_after h within o l =
       let here = over.mesh.valid.sound.edges h (in_mesh at IsSite IsCovered c p q over h within) in
       record {
         within = of_mesh at IsSite IsCovered c p q over (next m h) here.next_in;
@@ -296,9 +301,9 @@ module _ {V D U F : Type 0} (at : V → Point) (IsSite IsCovered : Point → Typ
       sym (over.mesh.valid.sound.edges (prev m h) here.prev_in).same_face
       ∙ ap (face m) here.next_prev ∙ o
 
-  pub seen_before : (h : ℕ) → h < length c.directed → face m h ≡ 0
+  sees_before : (h : ℕ) → h < length c.directed → face m h ≡ 0
       → IsLeftOf points m p (prev m h) → IsSeenOuter at c p (prev m h)
-  seen_before h within o l =
+  sees_before h within o l =
       let w = in_mesh at IsSite IsCovered c p q over h within in
       record {
         within = of_mesh at IsSite IsCovered c p q over (prev m h)
@@ -317,13 +322,13 @@ module _ {V D U F : Type 0} (at : V → Point) (IsSite IsCovered : Point → Typ
         → IfSome r (IsSeenOuter at c p)
     neighbour_after None g e x = tt
     neighbour_after (Some k) g e x = subst (IsSeenOuter at c p) (sym (x.0 ∙ e))
-        (seen_after h within o (subst (IsLeftOf points m p) e x.1))
+        (sees_after h within o (subst (IsLeftOf points m p) e x.1))
 
     pub neighbour_before : (r : Option ℕ) (g : ℕ) → g ≡ prev m h → IfSeen r g
         → IfSome r (IsSeenOuter at c p)
     neighbour_before None g e x = tt
     neighbour_before (Some k) g e x = subst (IsSeenOuter at c p) (sym (x.0 ∙ e))
-        (seen_before h within o (subst (IsLeftOf points m p) e x.1))
+        (sees_before h within o (subst (IsLeftOf points m p) e x.1))
 
     -- the segment's line passes the edge on one side, and p does not see the neighbour there
     pub stops_after : (r : Option ℕ) (g : ℕ) → g ≡ next m h → IfSeen r g
@@ -345,7 +350,7 @@ module _ {V D U F : Type 0} (at : V → Point) (IsSite IsCovered : Point → Typ
     stops_before (Some k) g e x short = tt
 
   -- ---- from the left of outer edge h
-  module _ (apart : p ≢ q) (tiles : TilesHull t) (h : ℕ) (s : IsSeenOuter at c p h) where
+  module _ (apart : p ≢ q) (h : ℕ) (s : IsSeenOuter at c p h) where
     abbrev X : Fraction
     X = place points (origin m h)
 
@@ -373,56 +378,156 @@ module _ {V D U F : Type 0} (at : V → Point) (IsSite IsCovered : Point → Typ
     -- to its left it meets nothing
     pub nothing_on_its_left : IsLeftOf points m q h → Starts at c p q None
     nothing_on_its_left l = nothing_met at IsSite IsCovered c p q over apart
-        (nothing_on_left t tiles (whole p) (whole q) ways_apart (origin m h) (origin m (rev h))
+        (nothing_on_left t t_laid (whole p) (whole q) ways_apart (origin m h) (origin m (rev h))
         outer seen (above_if_left _ _ _ l))
 
-    -- ---- the hull between two lines through p
-    signs : SignMesh (length points) (point_at points) (faces_of m) (outer_of m)
-    signs = elim over.shape [
-      | inl l ↦ by_signs points (faces_of m) (outer_of m) l
-      | inr l ↦ (let x = tiles.spread in
-          absurd (not_left_and_on (side (vertex t x.0) (vertex t x.1) (vertex t x.2))
-          (l.1.straight x.0 x.1 x.2 x.3 x.4 x.5) x.6))
-    ]
+    -- ---- all vertices between two lines through p
+    -- the edges after and before h, by their ends
+    abbrev far : ℕ
+    far = origin m (rev (next m h))
 
-    ends_listed : (g : ℕ) → g < length m.half_edges → face m g ≡ 0
-        → Contains (outer_of m) (origin m g, origin m (rev g))
-    ends_listed g k o = listed m g (origin m g) (origin m (rev g))
-        (record { within = k; outer = o; source = refl; target = refl })
+    abbrev early : ℕ
+    early = origin m (prev m h)
+
+    pair : (g i j : ℕ) → IsOuterEdge m g i j → Contains (outer_of m) (i, j)
+    pair g i j o = listed m g i j o
+
+    own : IsOuterEdge m h (origin m h) (origin m (rev h))
+    own = record { within = w; outer = s.outer; source = refl; target = refl }
+
+    after : IsOuterEdge m (next m h) (origin m (rev h)) far
+    after = let here = over.mesh.valid.sound.edges h w in record {
+      within = here.next_in;
+      outer = here.same_face ∙ s.outer;
+      source = here.starts;
+      target = refl;
+    }
+
+    before : IsOuterEdge m (prev m h) early (origin m h)
+    before = let here = over.mesh.valid.sound.edges h w in record {
+      within = here.prev_in;
+      outer = outer_before h w s.outer;
+      source = refl;
+      target = sym (over.mesh.valid.sound.edges (prev m h) here.prev_in).starts
+          ∙ ap (origin m) here.next_prev;
+    }
+
+    blind_after : ¬ IsLeftOf points m p (next m h)
+        → bracket Y (place points far) (whole p) ≤ℤ pos 0
+    unfolding bracket
+    blind_after blind = bracket_not_left Y (place points far) (whole p) (λ l. blind
+        (subst (λ (i : ℕ). TurnsLeft (place points i) (place points far) (whole p))
+        (sym after.source) l))
+
+    blind_before : ¬ IsLeftOf points m p (prev m h)
+        → bracket (place points early) X (whole p) ≤ℤ pos 0
+    unfolding bracket
+    blind_before blind = bracket_not_left (place points early) X (whole p) (λ l. blind
+        (subst (λ (i : ℕ). TurnsLeft (place points early) (place points i) (whole p))
+        (sym before.target) l))
+
+    module _ (signs : SignMesh (length points) (point_at points) (faces_of m) (outer_of m)) where
+      end_of_hull : ¬ IsLeftOf points m p (next m h) → (k : ℕ) → IsVertex t k
+          → bracket (whole p) Y (vertex t k) ≤ℤ pos 0
+      unfolding bracket
+      end_of_hull blind k hk = end_supports (length points) (point_at points) (faces_of m)
+          (outer_of m) signs p (origin m h) (origin m (rev h)) far
+          (pair h (origin m h) (origin m (rev h)) own)
+          (pair (next m h) (origin m (rev h)) far after) seen (blind_after blind) k hk
+
+      start_of_hull : ¬ IsLeftOf points m p (prev m h) → (k : ℕ) → IsVertex t k
+          → bracket X (whole p) (vertex t k) ≤ℤ pos 0
+      unfolding bracket
+      start_of_hull blind k hk = start_supports (length points) (point_at points) (faces_of m)
+          (outer_of m) signs p early (origin m h) (origin m (rev h))
+          (pair (prev m h) early (origin m h) before)
+          (pair h (origin m h) (origin m (rev h)) own) (blind_before blind) seen k hk
+
+    -- ---- where all are on one line, this turns back at its ends
+    module _ (flat : faces_of m ≡ []) (line : LineMesh points (outer_of m)) where
+      signs : SignLine (length points) (point_at points) (outer_of m)
+      signs = line_by_signs points (outer_of m) line
+
+      next_to : (g i j : ℕ) → IsOuterEdge m g i j
+          → Adjoin (length points) (point_at points) i j
+      next_to g i j o = (signs.neighbours i j).0 (pair g i j o)
+
+      twin : IsOuterEdge m (rev h) (origin m (rev h)) (origin m h)
+      twin = record {
+        within = r_in;
+        outer = elim (none_or_some (face m (rev h))) [
+          | inl o ↦ o
+          | inr inner ↦ absurd (line_has_none m (origin m (rev h)) (origin m (rev (rev h)))
+              (origin m (prev m (rev h))) flat
+              (face_at at IsSite IsCovered c p q over (rev h) r_in inner))
+        ];
+        source = refl;
+        target = ap (origin m) (rev-rev h);
+      }
+
+      only_after : next m h ≡ rev h → (j : ℕ) → Contains (outer_of m) (origin m (rev h), j)
+          → j ≡ origin m h
+      only_after back j l =
+          let g = real m (origin m (rev h)) j l in
+          sym g.1.target ∙ ap (λ k. origin m (rev k)) (alone_at m (rev h) over.mesh.valid r_in
+          (ap (next m) (rev-rev h) ∙ back) g.0 g.1.within g.1.source) ∙ ap (origin m) (rev-rev h)
+
+      only_before : prev m h ≡ rev h → (j : ℕ) → Contains (outer_of m) (origin m h, j)
+          → j ≡ origin m (rev h)
+      only_before back j l =
+          let g = real m (origin m h) j l in
+          sym g.1.target ∙ ap (λ k. origin m (rev k)) (alone_at m h over.mesh.valid w
+          (ap (next m) (sym back) ∙ (over.mesh.valid.sound.edges h w).next_prev)
+          g.0 g.1.within g.1.source)
+
+      end_of_line : ¬ IsLeftOf points m p (next m h) → (k : ℕ) → IsVertex t k
+          → bracket (whole p) Y (vertex t k) ≤ℤ pos 0
+      unfolding bracket
+      end_of_line blind k hk =
+          elim (cases_eq far (origin m h)) as (λ _. bracket (whole p) Y (vertex t k) ≤ℤ pos 0) [
+            | inl e ↦ end_supported (length points) (point_at points) (outer_of m) signs
+                (origin m (rev h)) (origin m h)
+                (next_to (rev h) (origin m (rev h)) (origin m h) twin)
+                p seen (only_after (one_edge m line.once (next m h) (rev h) (origin m (rev h))
+                (origin m h) (subst (IsOuterEdge m (next m h) (origin m (rev h))) e after)
+                twin)) k hk
+            | inr d ↦ absurd (left_not_below (seen_after (length points) (point_at points)
+                (outer_of m) signs (origin m (rev h)) (origin m h)
+                (next_to (rev h) (origin m (rev h)) (origin m h) twin) p seen far
+                (next_to (next m h) (origin m (rev h)) far after) d) (blind_after blind))
+          ]
+
+      start_of_line : ¬ IsLeftOf points m p (prev m h) → (k : ℕ) → IsVertex t k
+          → bracket X (whole p) (vertex t k) ≤ℤ pos 0
+      unfolding bracket
+      start_of_line blind k hk =
+          elim (cases_eq early (origin m (rev h))) as
+          (λ _. bracket X (whole p) (vertex t k) ≤ℤ pos 0) [
+            | inl e ↦ start_supported (length points) (point_at points) (outer_of m) signs
+                (origin m h) (origin m (rev h)) (next_to h (origin m h) (origin m (rev h)) own)
+                p seen (only_before (one_edge m line.once (prev m h) (rev h) (origin m (rev h))
+                (origin m h)
+                (subst (λ (i : ℕ). IsOuterEdge m (prev m h) i (origin m h)) e before) twin)) k hk
+            | inr d ↦ absurd (left_not_below (seen_before (length points) (point_at points)
+                (outer_of m) signs (origin m h) (origin m (rev h))
+                (next_to h (origin m h) (origin m (rev h)) own) p seen early
+                (next_turned (length points) (point_at points) early (origin m h)
+                (next_to (prev m h) early (origin m h) before)) d) (blind_before blind))
+          ]
 
     end_side : ¬ IsLeftOf points m p (next m h) → (k : ℕ) → IsVertex t k
         → bracket (whole p) Y (vertex t k) ≤ℤ pos 0
-    unfolding bracket
-    end_side blind k hk =
-        let here = over.mesh.valid.sound.edges h w in
-        let far = origin m (rev (next m h)) in
-        end_supports (length points) (point_at points) (faces_of m) (outer_of m) signs p
-        (origin m h) (origin m (rev h)) far (ends_listed h w s.outer)
-        (subst (λ (i : ℕ). Contains (outer_of m) (i, far)) here.starts
-        (ends_listed (next m h) here.next_in (here.same_face ∙ s.outer)))
-        (if_left X Y (whole p) s.seen)
-        (bracket_not_left Y (place points far) (whole p) (λ l. blind
-        (subst (λ (i : ℕ). TurnsLeft (place points i) (place points far) (whole p))
-        (sym here.starts) l))) k hk
+    end_side = elim over.shape [
+      | inl l ↦ end_of_hull (by_signs points (faces_of m) (outer_of m) l)
+      | inr l ↦ end_of_line l.0 l.1
+    ]
 
     start_side : ¬ IsLeftOf points m p (prev m h) → (k : ℕ) → IsVertex t k
         → bracket X (whole p) (vertex t k) ≤ℤ pos 0
-    unfolding bracket
-    start_side blind k hk =
-        let here = over.mesh.valid.sound.edges h w in
-        let far = origin m (prev m h) in
-        let joint : origin m (rev (prev m h)) ≡ origin m h =
-        sym (over.mesh.valid.sound.edges (prev m h) here.prev_in).starts
-        ∙ ap (origin m) here.next_prev in
-        start_supports (length points) (point_at points) (faces_of m) (outer_of m) signs p
-        far (origin m h) (origin m (rev h))
-        (subst (λ (i : ℕ). Contains (outer_of m) (far, i)) joint
-        (ends_listed (prev m h) here.prev_in (outer_before h w s.outer)))
-        (ends_listed h w s.outer)
-        (bracket_not_left (place points far) X (whole p) (λ l. blind
-        (subst (λ (i : ℕ). TurnsLeft (place points far) (place points i) (whole p)) (sym joint)
-        l)))
-        (if_left X Y (whole p) s.seen) k hk
+    start_side = elim over.shape [
+      | inl l ↦ start_of_hull (by_signs points (faces_of m) (outer_of m) l)
+      | inr l ↦ start_of_line l.0 l.1
+    ]
 
     right_below : (z : Fraction) → side (whole p) (whole q) z ≡ right
         → bracket (whole p) (whole q) z <ℤ pos 0
@@ -438,7 +543,7 @@ module _ {V D U F : Type 0} (at : V → Point) (IsSite IsCovered : Point → Typ
     pub nothing_past_end : side (whole p) (whole q) Y ≡ right → ¬ IsLeftOf points m p (next m h)
         → Starts at c p q None
     nothing_past_end e blind = nothing_met at IsSite IsCovered c p q over apart
-        (nothing_beyond t tiles (whole p) (whole q) ways_apart (origin m h) (origin m (rev h))
+        (nothing_beyond t t_laid (whole p) (whole q) ways_apart (origin m h) (origin m (rev h))
         outer seen (whole p) Y (end_side blind) (bracket-first (whole p) Y)
         (opposite_of_negative (bracket (whole p) Y (whole q)) (bracket (whole p) (whole q) Y)
         (bracket-turned (whole q) (whole p) Y ∙ bracket-swapped (whole p) (whole q) Y)
@@ -448,7 +553,7 @@ module _ {V D U F : Type 0} (at : V → Point) (IsSite IsCovered : Point → Typ
     pub nothing_past_start : side (whole p) (whole q) X ≡ left → ¬ IsLeftOf points m p (prev m h)
         → Starts at c p q None
     nothing_past_start e blind = nothing_met at IsSite IsCovered c p q over apart
-        (nothing_beyond t tiles (whole p) (whole q) ways_apart (origin m h) (origin m (rev h))
+        (nothing_beyond t t_laid (whole p) (whole q) ways_apart (origin m h) (origin m (rev h))
         outer seen X (whole p) (start_side blind) (bracket-second X (whole p))
         (subst (λ z. pos 0 <ℤ z) (bracket-turned X (whole p) (whole q))
         (above_if_left (whole p) (whole q) X e)))
@@ -463,7 +568,7 @@ module _ {V D U F : Type 0} (at : V → Point) (IsSite IsCovered : Point → Typ
       start_below e n = elim (trichotomy_ℤ (bracket (whole p) (whole q) X)) [
         | inl k ↦ k
         | inr r ↦ elim r [
-          | inl k ↦ absurd (not_both_on t tiles (whole p) (whole q) ways_apart (origin m h)
+          | inl k ↦ absurd (not_both_on t t_laid (whole p) (whole q) ways_apart (origin m h)
               (origin m (rev h)) outer seen not_above (on_level Y e) k)
           | inr k ↦ absurd (n (left_if_above (whole p) (whole q) X k))
         ]
@@ -475,7 +580,7 @@ module _ {V D U F : Type 0} (at : V → Point) (IsSite IsCovered : Point → Typ
           → Starts at c p q (Some (Vertex (origin m (rev h))))
       end_met e n here = starts_first at IsSite IsCovered c p q over apart
           (Vertex (origin m (rev h))) here
-          (end_first t tiles (whole p) (whole q) ways_apart (origin m h) (origin m (rev h)) outer
+          (end_first t t_laid (whole p) (whole q) ways_apart (origin m h) (origin m (rev h)) outer
           seen not_above (start_in at IsSite IsCovered c p q over (rev h) r_in) (on_level Y e)
           (start_below e n))
 
@@ -483,7 +588,7 @@ module _ {V D U F : Type 0} (at : V → Point) (IsSite IsCovered : Point → Typ
       pub start_met : side (whole p) (whole q) X ≡ on → side (whole p) (whole q) Y ≡ left
           → origin m h < length c.vertices → Starts at c p q (Some (Vertex (origin m h)))
       start_met e l here = starts_first at IsSite IsCovered c p q over apart (Vertex (origin m h))
-          here (start_first t tiles (whole p) (whole q) ways_apart (origin m h) (origin m (rev h))
+          here (start_first t t_laid (whole p) (whole q) ways_apart (origin m h) (origin m (rev h))
           outer seen not_above (start_in at IsSite IsCovered c p q over h w) (on_level X e)
           (above_if_left (whole p) (whole q) Y l))
 

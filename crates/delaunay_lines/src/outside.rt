@@ -234,7 +234,6 @@ impl<'a, V: HasPosition, DE, UE, F, P: PlaneTests<V::Scalar>> Segment<'a, V, DE,
     // What it meets first, where the outline comes no nearer to its line beyond a seen outer edge.
     fn first_at(&self, edge: FixedDirectedEdgeHandle) -> Option<FixedIntersection>
         requires apart { self.now.from ≢ self.now.to }
-        requires inner { 0 < length self.now.dcel.faces }
         requires start { StartsOutside (drawn (map V.place self.now.dcel.vertices)
             self.now.dcel.mesh) self.now.from }
         requires seen { IsSeenOuter V.place self.now.dcel self.now.from edge }
@@ -261,19 +260,22 @@ impl<'a, V: HasPosition, DE, UE, F, P: PlaneTests<V::Scalar>> Segment<'a, V, DE,
         Some(FixedIntersection::Edge(twin))
     }
 
-    // From a seen outer edge along the outline to what it meets first. Each step leads nearer to
-    // its line, but nothing here rests on that: behind the last step is the look along the whole
-    // outline.
+    // From a seen outer edge along the outline to what it meets first: nothing, where it ends on
+    // the left of this edge too. Each step leads nearer to its line, but nothing here rests on
+    // that: behind the last step is the look along the whole outline.
     fn first_along(&self, edge: FixedDirectedEdgeHandle) -> Option<FixedIntersection>
         requires apart { self.now.from ≢ self.now.to }
-        requires inner { 0 < length self.now.dcel.faces }
         requires start { StartsOutside (drawn (map V.place self.now.dcel.vertices)
             self.now.dcel.mesh) self.now.from }
         requires seen { IsSeenOuter V.place self.now.dcel self.now.from edge }
         ensures { Starts V.place self.now.dcel self.now.from self.now.to result }
     {
+        let steps = self.dcel.num_directed_edges();
+        if self.ends_left_of(edge) {
+            return None;
+        }
         let mut here = edge;
-        for _ in 0..self.dcel.num_directed_edges() {
+        for _ in 0..steps {
             match self.seen_neighbour(here) {
                 Some(neighbour) => here = neighbour,
                 None => return self.first_at(here),
@@ -282,19 +284,19 @@ impl<'a, V: HasPosition, DE, UE, F, P: PlaneTests<V::Scalar>> Segment<'a, V, DE,
         self.first_outside()
     }
 
-    // From beyond an outer edge: it goes along the outline from this edge on. Without a face all
-    // vertices are on one line.
+    // From beyond an outer edge: it goes along the outline from this edge on. Past the end of a
+    // line of vertices, where it sees no edge, it looks at all.
     pub(crate) fn first_beyond(&self, edge: FixedDirectedEdgeHandle) -> Option<FixedIntersection>
         requires { Locates (map V.place self.now.dcel.vertices) self.now.dcel.mesh self.now.from
             (OutsideOfConvexHull edge) }
         ensures { Starts V.place self.now.dcel self.now.from self.now.to result }
     {
-        if self.dcel.num_inner_faces() == 0 {
-            return self.first_outside();
-        }
         if is_same_point(self.from, self.to) {
             return self.first_outside();
         }
-        self.first_along(edge)
+        match self.if_seen(edge) {
+            Some(seen) => self.first_along(seen),
+            None => self.first_outside(),
+        }
     }
 }

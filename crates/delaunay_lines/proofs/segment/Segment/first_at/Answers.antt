@@ -1,6 +1,6 @@
 use Rattle.std.proofs.Common.{sym, ◌∙◌}
 use Rattle.delaunay_legalization.proofs.Questions.{both_ways}
-use Rattle.delaunay_lines.proofs.OutlineWalk.{tiled, nothing_on_its_left, nothing_past_end}
+use Rattle.delaunay_lines.proofs.OutlineWalk.{nothing_on_its_left, nothing_past_end}
 use Rattle.delaunay_lines.proofs.OutlineWalk.{nothing_past_start, end_met, start_met, edge_met}
 use Rattle.delaunay_lines.proofs.OutlineWalk.{left_if_neither, right_if_neither}
 use Rattle.delaunay_lines.proofs.segment.Segment.first_at.Goals as goal
@@ -10,7 +10,7 @@ returns-then-ends_left_of g c =
     let ends = rw (← c.self.view_is) at c.ends_left_of.ensures in
     rw (← c.self.view_is) (nothing_on_its_left _ _ _ _ _ _ c.self.invariant
     (rw (← c.self.view_is) at c.requires.apart)
-    (tiled _ _ _ _ _ _ c.self.invariant (rw (← c.self.view_is) at c.requires.inner)) c.args.edge
+    c.args.edge
     (rw (← c.self.view_is) at c.requires.seen)
     (ends.0 c.if-ends_left_of.true))
 
@@ -21,7 +21,7 @@ returns-then-is_on_right_side g c =
     let stop = rw (← c.self.view_is) at c.requires.stop in
     rw (← c.self.view_is) (nothing_past_end _ _ _ _ _ _ c.self.invariant
     (rw (← c.self.view_is) at c.requires.apart)
-    (tiled _ _ _ _ _ _ c.self.invariant (rw (← c.self.view_is) at c.requires.inner)) c.args.edge
+    c.args.edge
     (rw (← c.self.view_is) at c.requires.seen)
     past (stop.after past))
 
@@ -33,7 +33,7 @@ returns-then-is_on_left_side g c =
     let stop = rw (← c.self.view_is) at c.requires.stop in
     rw (← c.self.view_is) (nothing_past_start _ _ _ _ _ _ c.self.invariant
     (rw (← c.self.view_is) at c.requires.apart)
-    (tiled _ _ _ _ _ _ c.self.invariant (rw (← c.self.view_is) at c.requires.inner)) c.args.edge
+    c.args.edge
     (rw (← c.self.view_is) at c.requires.seen)
     past (stop.before
     (λ e. both_ways _ (c.is_on_right_side.ensures.1 (end ∙ e)) c.if-is_on_right_side.false) past))
@@ -46,7 +46,7 @@ returns-then-is_on_line g c =
     let item = rw (← c.self.view_is, c.twin_of-twin.ensures.value) at c.start_item.ensures in
     rw (← c.self.view_is, item.item) (end_met _ _ _ _ _ _ c.self.invariant
     (rw (← c.self.view_is) at c.requires.apart)
-    (tiled _ _ _ _ _ _ c.self.invariant (rw (← c.self.view_is) at c.requires.inner)) c.args.edge
+    c.args.edge
     (rw (← c.self.view_is) at c.requires.seen)
     (λ l. both_ways _ (ends.1 l) c.if-ends_left_of.false)
     (sym end ∙ c.is_on_line.ensures.0 c.if-is_on_line.true)
@@ -61,7 +61,7 @@ returns-then-is_on_line-2 g c =
     let item = rw (← c.self.view_is) at c.start_item-then-is_on_line-2.ensures in
     rw (← c.self.view_is, item.item) (start_met _ _ _ _ _ _ c.self.invariant
     (rw (← c.self.view_is) at c.requires.apart)
-    (tiled _ _ _ _ _ _ c.self.invariant (rw (← c.self.view_is) at c.requires.inner)) c.args.edge
+    c.args.edge
     (rw (← c.self.view_is) at c.requires.seen)
     (λ l. both_ways _ (ends.1 l) c.if-ends_left_of.false)
     (sym start ∙ c.is_on_line-2.ensures.0 c.if-is_on_line-2.true)
@@ -77,7 +77,7 @@ returns g c =
     let ends = rw (← c.self.view_is) at c.ends_left_of.ensures in
     rw (← c.self.view_is, c.twin_of-twin.ensures.value) (edge_met _ _ _ _ _ _ c.self.invariant
     (rw (← c.self.view_is) at c.requires.apart)
-    (tiled _ _ _ _ _ _ c.self.invariant (rw (← c.self.view_is) at c.requires.inner)) c.args.edge
+    c.args.edge
     (rw (← c.self.view_is) at c.requires.seen)
     (λ l. both_ways _ (ends.1 l) c.if-ends_left_of.false)
     (rw (← c.self.view_is) at c.requires.start)
