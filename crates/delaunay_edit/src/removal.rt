@@ -125,7 +125,7 @@ impl<V: HasPosition, DE: Drop, UE: Drop, F: Drop, M: ConstraintMarker<UE>> Edite
     {
         let edges = 3 * self.dcel.num_vertices();
         self.work.reserve(edges)?;
-        self.lists.reserve_for(&self.dcel)?;
+        self.lists.reserve_for(&self.dcel, vertex)?;
         let border = self.sides_to_test(vertex)?;
         let halves = self.halves_at(vertex, tests);
         reserve_to_join(&mut self.crossing, &halves, edges)?;

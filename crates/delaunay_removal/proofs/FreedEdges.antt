@@ -3,7 +3,7 @@
 -- none_to_free, free_already.
 use Rattle.std.proofs.Common.{◌≡◌, ◌≢◌, ◌+◌, ◌*◌, ◌/◌, ◌<◌, ◌∙◌}
 use Rattle.std.proofs.Common.{ℕ, List, length, set, Some, refl, sym, ap, subst, inl, inr, arith}
-use Rattle.std.specs.Prelude.{Bool, true, false, [], Contains, Option, None, IsSome, slice_get}
+use Rattle.std.specs.Prelude.{Bool, true, false, [], Contains, None, slice_get}
 use Rattle.std.proofs.lemmas.Bool.{cases_eq}
 use Rattle.std.proofs.lemmas.List.{length-set, get_or-set_same}
 use Rattle.std.proofs.lemmas.Option.{slice_get_within, get_or_from_slice_get}
@@ -20,6 +20,7 @@ use Rattle.mesh_embedding.proofs.WorkLists.{contains_map}
 use Rattle.delaunay_legalization.specs.Constraints.{marked_edges, constraint_pairs}
 use Rattle.delaunay_legalization.specs.Marking.{HasEdgeData}
 use Rattle.delaunay_legalization.proofs.Constraints.{is_constraint_edge}
+use Rattle.delaunay_removal.proofs.Degrees.{starts_none}
 use Rattle.delaunay_removal.specs.Freeing.{IsUnmarked, FreesEdgesAt}
 use Rattle.mesh_embedding.proofs.EdgePairs.{rev_of_even, half_of_even}
 use Rattle.delaunay_removal.proofs.DataReads.{even_or_odd, half_of_odd}
@@ -150,13 +151,7 @@ module _ {V D U F : Type 0} (marks : U → Bool) (old : Contents V D U F) (first
 module _ {V D U F : Type 0} (marks : U → Bool) (old : Contents V D U F) (v : ℕ)
     (whole : IsMeshWithData old) (none : out_edge old.mesh v ≡ None) where
   not_at : (h : ℕ) → h < length old.mesh.half_edges → origin old.mesh h ≡ v → ⊥
-  not_at h within at = nothing (out_edge old.mesh v) none
-      (subst (λ (x : ℕ). IsSome (out_edge old.mesh x)) at
-      (whole.valid.sound.edges h within).has_out)
-    where
-      nothing : (o : Option ℕ) → o ≡ None → IsSome o → ⊥
-      nothing None e had = absurd (cc)
-      nothing (Some k) e had = absurd (cc)
+  not_at = starts_none old.mesh v whole.valid.sound none
 
   -- no edge at the vertex has the mark
   pub none_to_free : FreesEdgesAt marks old old v

@@ -62,6 +62,7 @@ module _ {V D U F : Type 0} (points : List Point) (old new : Contents V D U F)
       → IsolatesVertex points old new v []
   corner_isolates loses = record {
     contents = loses.contents;
+    whole = after;
     alone = loses.alone;
     shape = elim (empty_or_not (faces_of new.mesh)) [
       | inl none ↦ inr (
@@ -113,6 +114,7 @@ module _ {V D U F : Type 0} (points : List Point) (old mid : Contents V D U F)
         undirected = new.undirected;
         faces = new.faces;
       }) same;
+      whole = after;
       alone = loses.alone;
       shape = inl (leaves_flat points old before star.shape v first star.outer mid new middle after
           star.round turned triangles kept flat loses);

@@ -1,27 +1,26 @@
 -- A vertex on the hull whose star was reduced loses the rest of its edges.
--- Lemmas: hull_sites, hull_first, hull_room, hull_named, flat_star, flat_side, hull_isolates.
-use Rattle.std.proofs.Common.{◌≡◌, ℕ, ◌-◌, ◌<◌, ◌≤◌, List, length, map, sym, ap, subst, arith}
+-- Lemmas: hull_sites, hull_first, hull_named, flat_star, flat_side, hull_isolates.
+use Rattle.std.proofs.Common.{◌≡◌, ℕ, ◌-◌, ◌<◌, List, length, map, sym, ap, subst, arith}
 use Rattle.std.specs.Prelude.{All}
 use Rattle.half_edge_mesh.specs.Round.{neighbour}
-use Rattle.half_edge_mesh.specs.Contents.{Contents, IsMeshWithData}
-use Rattle.half_edge_views.proofs.Loops.{round_fits}
+use Rattle.half_edge_mesh.specs.Contents.{Contents}
 use Rattle.plane.specs.Fraction.{Point}
 use Rattle.plane.specs.Pairs.{place as at}
 use Rattle.plane.specs.Side.{side, on}
 use Rattle.delaunay_removal.specs.Data.{StandsBeside}
 use Rattle.delaunay_removal.specs.Pairs.{KeepsPairs}
 use Rattle.delaunay_removal.specs.Star.{IsolatesVertex}
-use Rattle.delaunay_removal.specs.Hull.{HasNoFlippableEdge, IsCornerAt, IsHullFan}
+use Rattle.delaunay_removal.specs.Hull.{IsCornerAt, IsHullFan, ShrinksFan}
 use Rattle.delaunay_removal.proofs.HullStars.{flat_has_three}
 use Rattle.delaunay_removal.proofs.HullSides.{corner_read}
 use Rattle.delaunay_removal.proofs.InnerHoles.{isolates_from}
 
-module _ {V D U F : Type 0} (place : V → Point) (old mid : Contents V D U F) (whole :
-    IsMeshWithData mid) (v first count : ℕ) (contents : mid ≡ record old { mesh = mid.mesh })
-    (star : IsHullFan (map place mid.vertices) mid.mesh v first count) where
+module _ {V D U F : Type 0} {turned : List (ℕ × ℕ)} (place : V → Point)
+    (old mid : Contents V D U F) (v first count : ℕ)
+    (shrinks : ShrinksFan place old mid v first count turned) where
   -- the vertices stay
   same : mid.vertices ≡ old.vertices
-  same = ap (λ (c : Contents V D U F). c.vertices) contents
+  same = ap (λ (c : Contents V D U F). c.vertices) shrinks.contents
 
   -- the vertices are sites as they were
   pub hull_sites : (IsSite : Point → Type 0) → All IsSite (map place old.vertices)
@@ -30,32 +29,26 @@ module _ {V D U F : Type 0} (place : V → Point) (old mid : Contents V D U F) (
 
   -- edge first is one of the directed edges
   pub hull_first : first < length mid.directed
-  hull_first = subst (λ (n : ℕ). first < n) (sym whole.fits.directed_fit) (star.round.within 0)
-
-  -- where there is room for the directed edges of before, there is for those of the vertex
-  pub hull_room : (room : ℕ) → length old.directed ≤ room → count ≤ room
-  hull_room room fits =
-      let few = round_fits mid.mesh v first count whole.valid star.round in
-      let fit = whole.fits.directed_fit in
-      let kept = ap (λ (c : Contents V D U F). length c.directed) contents in
-      omega (arith, few, fit, kept, fits)
+  hull_first = subst (λ (n : ℕ). first < n) (sym shrinks.whole.fits.directed_fit)
+      (shrinks.star.round.within 0)
 
   -- the star by another name of the vertex
   pub hull_named : (vertex : ℕ) → v ≡ vertex
       → IsHullFan (map place mid.vertices) mid.mesh vertex first count
   hull_named vertex named =
-      subst (λ (x : ℕ). IsHullFan (map place mid.vertices) mid.mesh x first count) named star
+      subst (λ (x : ℕ). IsHullFan (map place mid.vertices) mid.mesh x first count) named
+      shrinks.star
 
   -- no corner, and no edge to turn: a flat side with two faces
-  module _ (bent : HasNoFlippableEdge (map place mid.vertices) mid.mesh first count) (not :
-      ¬ IsCornerAt (map place mid.vertices) mid.mesh first) (vertex : ℕ) (named : v ≡ vertex) where
+  module _ (not : ¬ IsCornerAt (map place mid.vertices) mid.mesh first) (vertex : ℕ)
+      (named : v ≡ vertex) where
     -- the vertex has three edges, and is on one line with its first and last neighbours
     flat : (count ≡ 3) × (side (at (map place mid.vertices) (neighbour mid.mesh first 0))
         (at (map place mid.vertices) v)
         (at (map place mid.vertices) (neighbour mid.mesh first (count - 1))) ≡ on)
-    flat = flat_has_three
-        (map place mid.vertices) mid.mesh whole.valid v first count star bent (λ t. not
-        ((corner_read (map place mid.vertices) mid.mesh whole.valid v first count star).1 t))
+    flat = flat_has_three (map place mid.vertices) mid.mesh shrinks.whole.valid v first count
+        shrinks.star shrinks.bent (λ t. not ((corner_read (map place mid.vertices) mid.mesh
+        shrinks.whole.valid v first count shrinks.star).1 t))
 
     -- off a corner, with no edge to turn, the vertex has three edges
     pub flat_star : IsHullFan (map place mid.vertices) mid.mesh vertex first 3
@@ -76,10 +69,11 @@ module _ {V D U F : Type 0} (place : V → Point) (old mid : Contents V D U F) (
 
   -- what is left is what the turns and the rest left
   pub hull_isolates : (new : Contents V D U F) (vertex : ℕ) → v ≡ vertex
-      → (first second pairs : List (ℕ × ℕ)) → KeepsPairs first pairs → KeepsPairs second pairs
-      → StandsBeside old mid v first → IsolatesVertex (map place mid.vertices) mid new vertex second
+      → (second pairs : List (ℕ × ℕ)) → KeepsPairs turned pairs → KeepsPairs second pairs
+      → IsolatesVertex (map place mid.vertices) mid new vertex second
       → IsolatesVertex (map place old.vertices) old new vertex pairs
-  hull_isolates new vertex named first second pairs has_first has_second stands isolates =
-      isolates_from (map place old.vertices) old mid new vertex first second pairs has_first
-      has_second contents (subst (λ (x : ℕ). StandsBeside old mid x first) named stands) (subst
+  hull_isolates new vertex named second pairs has_first has_second isolates =
+      isolates_from (map place old.vertices) old mid new vertex turned second pairs has_first
+      has_second shrinks.contents
+      (subst (λ (x : ℕ). StandsBeside old mid x turned) named shrinks.beside) (subst
       (λ (vs : List V). IsolatesVertex (map place vs) mid new vertex second) same isolates)

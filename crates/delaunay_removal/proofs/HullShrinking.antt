@@ -18,6 +18,7 @@ use Rattle.delaunay_legalization.proofs.Rounds.{round_of}
 use Rattle.delaunay_removal.specs.Data.{StandsBeside}
 use Rattle.delaunay_removal.specs.Star.{IsConvexAt, IsTurnable}
 use Rattle.delaunay_removal.specs.Hull.{IsHullFan, HasNoFlippableEdge}
+use Rattle.delaunay_removal.specs.Pairs.{HasRoomAt}
 use Rattle.delaunay_removal.proofs.DataStays.{stands_turned}
 use Rattle.delaunay_removal.proofs.HullStars.{has_two, hull_ends_differ, left_of, right_of}
 use Rattle.delaunay_removal.proofs.HullStars.{hull_star_less, strip_of}
@@ -27,7 +28,8 @@ abbrev IsPlace : Mesh → ℕ → ℕ → ℕ → Type 0
 IsPlace m first count edge = (i : ℕ) × (i < count - 2) × (edge ≡ spoke m first i)
 
 -- vertex v lost edges by turns, and still has so many, from edge first on, and edge `from` among
--- them; what the turned ones join is listed, with room for one more at each edge
+-- them, no more than before; what the turned ones join is listed, with room for one more at each
+-- edge
 pub record IsHullShrinking {V D U F : Type 0} (place : V → Point) (old now : Contents V D U F)
     (v first from count : ℕ) (turned : List (ℕ × ℕ)) (listed capacity : ℕ) : Type 0 where
   pub contents : now ≡ record old { mesh = now.mesh }
@@ -36,6 +38,7 @@ pub record IsHullShrinking {V D U F : Type 0} (place : V → Point) (old now : C
   pub whole : IsMeshWithData now
   pub beside : StandsBeside old now v turned
   pub room : listed + count ≤ capacity
+  pub few : (n : ℕ) → HasRoomAt old.mesh v 0 n → count ≤ n
   pub from_within : from < length now.directed
   pub from_starts : origin now.mesh from ≡ v
 
@@ -162,6 +165,7 @@ module _ {V D U F : Type 0} {turned : List (ℕ × ℕ)} {listed capacity : ℕ}
               (ap (origin now.mesh) at.2 ∙ shrinking.star.round.starts at.0) stands);
           room = let fits = shrinking.room in let many = shrinking.many in
               omega (arith, fits, many, one_more, same);
+          few = λ n at_each. let fits = shrinking.few n at_each in omega (arith, fits);
           from_within = next_within;
           from_starts = next_starts;
         }

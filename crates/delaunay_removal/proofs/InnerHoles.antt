@@ -64,6 +64,7 @@ module _ {V D U F : Type 0} (points : List Point) (old new : Contents V D U F)
       → IsolatesVertex points old new v pairs
   three_isolate star hole pairs = record {
     contents = hole.contents;
+    whole = after;
     alone = hole.alone;
     shape = inl (leaves_three points old before star.shape v first
         (spokes_inner points old.mesh before.valid v first 3 star) new after star.round hole);
@@ -127,6 +128,7 @@ module _ {V D U F : Type 0} (points : List Point) (old mid : Contents V D U F)
       undirected = new.undirected;
       faces = new.faces;
     }) same;
+    whole = after;
     alone = hole.alone;
     shape = inl (leaves_four points old before star.shape v first (spokes_inner points old.mesh
         before.valid v first 4 star) mid new middle after star.round turned triangles outer
@@ -151,6 +153,7 @@ isolates_from {V} {D} {U} {F} points old mid new v first second pairs has_first 
         undirected = new.undirected;
         faces = new.faces;
       }) same;
+      whole = isolates.whole;
       alone = isolates.alone;
       shape = isolates.shape;
       beside =

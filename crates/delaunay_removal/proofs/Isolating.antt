@@ -11,8 +11,8 @@ use Rattle.half_edge_mesh.specs.Removal.{FillsHole}
 use Rattle.plane.specs.Fraction.{Point}
 use Rattle.delaunay_removal.specs.Data.{StandsBeside}
 use Rattle.delaunay_removal.specs.Pairs.{KeepsPairs}
-use Rattle.delaunay_removal.specs.Star.{HasInnerFaces, IsInnerStar, IsReduced, IsolatesVertex}
-use Rattle.delaunay_removal.specs.Star.{StandsBetween}
+use Rattle.delaunay_removal.specs.Star.{HasInnerFaces, IsInnerStar, IsolatesVertex}
+use Rattle.delaunay_removal.specs.Star.{ShrinksStar, StandsBetween}
 use Rattle.delaunay_removal.proofs.InnerHoles.{wheel_at, three_isolate, isolates_from}
 
 -- the faces round the vertex, by its name
@@ -21,11 +21,10 @@ pub inner_as : (m : Mesh) (v first : ℕ) → origin m first ≡ v → HasInnerF
 inner_as m v first starts inner = subst (HasInnerFaces m) (sym starts) inner
 
 module _ {V D U F : Type 0} {pairs : List (ℕ × ℕ)} (place : V → Point) (old mid : Contents V D U F)
-    (v first count : ℕ) (contents : mid ≡ record old { mesh = mid.mesh }) (stands : StandsBeside old
-    mid v pairs) (star : IsInnerStar (map place old.vertices) mid.mesh v first count) where
+    (v first count : ℕ) (shrinks : ShrinksStar place old mid v first count pairs) where
   -- the vertices stay
   same : mid.vertices ≡ old.vertices
-  same = ap (λ (c : Contents V D U F). c.vertices) contents
+  same = ap (λ (c : Contents V D U F). c.vertices) shrinks.contents
 
   -- the vertices are sites as they were
   pub same_sites : (IsSite : Point → Type 0) → All IsSite (map place old.vertices)
@@ -34,38 +33,39 @@ module _ {V D U F : Type 0} {pairs : List (ℕ × ℕ)} (place : V → Point) (o
 
   -- ---- three edges are left
   -- three edges that are left go round with three inner faces
-  pub three_wheel : IsMeshWithData mid → count ≡ 3 → IsWheel mid.mesh first
-  three_wheel whole three = wheel_at (map place old.vertices) mid whole v first
-      (subst (λ (n : ℕ). IsInnerStar (map place old.vertices) mid.mesh v first n) three star)
+  pub three_wheel : count ≡ 3 → IsWheel mid.mesh first
+  three_wheel three = wheel_at (map place old.vertices) mid shrinks.whole v first
+      (subst (λ (n : ℕ). IsInnerStar (map place old.vertices) mid.mesh v first n) three
+      shrinks.star)
 
   -- where one face fills their hole, the vertex has lost the edges of before
-  pub three_isolates : (new : Contents V D U F) → IsMeshWithData mid → IsMeshWithData new
-      → count ≡ 3 → (vertex : ℕ) → v ≡ vertex → FillsHole mid new vertex (neighbour mid.mesh first)
+  pub three_isolates : (new : Contents V D U F) → IsMeshWithData new → count ≡ 3
+      → (vertex : ℕ) → v ≡ vertex → FillsHole mid new vertex (neighbour mid.mesh first)
       → IsolatesVertex (map place old.vertices) old new vertex pairs
-  three_isolates new whole after three vertex named hole =
+  three_isolates new after three vertex named hole =
       isolates_from (map place old.vertices) old mid new vertex pairs pairs pairs (λ i j p. p)
-      (λ i j p. p) contents (subst (λ (x : ℕ). StandsBeside old mid x pairs) named stands)
-      (three_isolate (map place old.vertices) mid new whole after vertex first
+      (λ i j p. p) shrinks.contents
+      (subst (λ (x : ℕ). StandsBeside old mid x pairs) named shrinks.beside)
+      (three_isolate (map place old.vertices) mid new shrinks.whole after vertex first
       (subst (λ (x : ℕ × ℕ). IsInnerStar (map place old.vertices) mid.mesh x.0 first x.1)
-      (λ i. (named i, three i)) star) hole pairs)
+      (λ i. (named i, three i)) shrinks.star) hole pairs)
 
   -- ---- or four
-  module _ (reduced : IsReduced (map place old.vertices) mid.mesh v first count)
-      (more : count ≢ 3) where
+  module _ (more : count ≢ 3) where
     -- there are four edges, and the vertex is strictly between two opposite neighbours
     four : (count ≡ 4) × StandsBetween (map place old.vertices) mid.mesh v first 4
-    four = elim reduced [ inl e ↦ absurd (more e) | inr r ↦ r ]
+    four = elim shrinks.reduced [ inl e ↦ absurd (more e) | inr r ↦ r ]
 
     -- else four edges are left
     pub four_star : IsInnerStar (map place mid.vertices) mid.mesh (origin mid.mesh first) first 4
     four_star = subst (λ (x : List V × ℕ × ℕ). IsInnerStar (map place x.0) mid.mesh x.1 first x.2)
-        (λ i. (sym same i, sym (star.round.starts 0) i, four.0 i)) star
+        (λ i. (sym same i, sym (shrinks.star.round.starts 0) i, four.0 i)) shrinks.star
 
     -- and the vertex is strictly between two of their ends
     pub four_between :
         StandsBetween (map place mid.vertices) mid.mesh (origin mid.mesh first) first 4
     four_between = subst (λ (x : List V × ℕ). StandsBetween (map place x.0) mid.mesh x.1 first 4)
-        (λ i. (sym same i, sym (star.round.starts 0) i)) four.1
+        (λ i. (sym same i, sym (shrinks.star.round.starts 0) i)) four.1
 
     -- the star by another name of the vertex
     pub four_star_named : (h vertex : ℕ) → v ≡ vertex
@@ -73,7 +73,7 @@ module _ {V D U F : Type 0} {pairs : List (ℕ × ℕ)} (place : V → Point) (o
         → IsInnerStar (map place mid.vertices) mid.mesh vertex h 4
     four_star_named h vertex named s =
         subst (λ (x : ℕ). IsInnerStar (map place mid.vertices) mid.mesh x h 4)
-        (star.round.starts 0 ∙ named) s
+        (shrinks.star.round.starts 0 ∙ named) s
 
     -- a vertex that loses these four has lost the edges of before
     pub four_isolates : (new : Contents V D U F) (vertex : ℕ) → v ≡ vertex → (more : List (ℕ × ℕ))
@@ -81,5 +81,5 @@ module _ {V D U F : Type 0} {pairs : List (ℕ × ℕ)} (place : V → Point) (o
         → IsolatesVertex (map place old.vertices) old new vertex more
     four_isolates new vertex named more has isolates =
         isolates_from (map place old.vertices) old mid new vertex pairs more more has (λ i j p. p)
-        contents (subst (λ (x : ℕ). StandsBeside old mid x pairs) named stands) (subst
-        (λ (vs : List V). IsolatesVertex (map place vs) mid new vertex more) same isolates)
+        shrinks.contents (subst (λ (x : ℕ). StandsBeside old mid x pairs) named shrinks.beside)
+        (subst (λ (vs : List V). IsolatesVertex (map place vs) mid new vertex more) same isolates)

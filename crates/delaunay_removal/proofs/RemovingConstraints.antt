@@ -1,5 +1,5 @@
 -- A vertex whose edges have ceased to be constraints goes.
--- Lemmas: freed_vertices, freed_directed, freed_kept, plain_left, data_left.
+-- Lemmas: freed_vertices, freed_room, freed_kept, plain_left, data_left.
 use Rattle.std.proofs.Common.{◌≡◌, ◌≢◌, ◌⊎◌, ◌↔◌, ◌-◌, ◌*◌, ◌/◌, ◌<◌, ◌∙◌}
 use Rattle.std.proofs.Common.{ℕ, List, length, sym, ap, subst, inl, inr, arith}
 use Rattle.std.specs.Prelude.{Bool, false, Contains, nat_eq, if◌then◌else◌, slice_get, swap_remove}
@@ -16,13 +16,15 @@ use Rattle.delaunay_legalization.specs.State.{state_of, points_and_constraints}
 use Rattle.delaunay_legalization.proofs.MarkedPairs.{JoinsByMark, mark_joins, joined_by_mark}
 use Rattle.delaunay_removal.specs.Data.{KeepsDataBeside, RenumbersEdges}
 use Rattle.delaunay_removal.specs.Freeing.{FreesEdgesAt}
+use Rattle.delaunay_removal.specs.Lists.{HasRoomToRemove}
+use Rattle.delaunay_removal.specs.declared.lists.RemovalLists.{RemovalLists}
 use Rattle.mesh_embedding.proofs.EdgePairs.{rev_of_even}
 use Rattle.delaunay_removal.proofs.DataReads.{edge_read, even_or_odd}
 use Rattle.delaunay_removal.proofs.LeavingConstraints.{constraints_left, back_and_there}
 
 module _ {V D U F : Type 0} (place : V → Point) (marks : U → Bool) (constraints : List U → List ℕ)
     (marked : (ds : List U) → constraints ds ≡ marked_edges marks ds) (old mid : Contents V D U F)
-    (v : ℕ) (frees : FreesEdgesAt marks old mid v) (whole : IsMeshWithData mid)
+    (v : ℕ) (frees : FreesEdgesAt marks old mid v)
     (kept : IsTriangulated place (state_of old)) where
   same_mesh : mid.mesh ≡ old.mesh
   same_mesh = ap (λ (c : Contents V D U F). c.mesh) frees.contents
@@ -31,9 +33,17 @@ module _ {V D U F : Type 0} (place : V → Point) (marks : U → Bool) (constrai
   pub freed_vertices : mid.vertices ≡ old.vertices
   freed_vertices = ap (λ (c : Contents V D U F). c.vertices) frees.contents
 
-  -- the data of the directed edges stay
-  pub freed_directed : mid.directed ≡ old.directed
-  freed_directed = ap (λ (c : Contents V D U F). c.directed) frees.contents
+  -- there is room as before
+  pub freed_room : (lists : RemovalLists) → HasRoomToRemove old v lists
+      → HasRoomToRemove mid v lists
+  freed_room lists room = subst (λ (c : Contents V D U F). HasRoomToRemove c v lists)
+      (sym frees.contents)
+      (record {
+        edges = room.edges;
+        sides = room.sides;
+        tested = room.tested;
+        turned = room.turned;
+      })
 
   -- a triangulation stays one
   pub freed_kept : IsTriangulated place (state_of mid)
@@ -46,6 +56,9 @@ module _ {V D U F : Type 0} (place : V → Point) (marks : U → Bool) (constrai
         fits = rw frees.count kept.fits;
         shape = kept.shape;
       })
+
+  whole : IsMeshWithData mid
+  whole = record { valid = freed_kept.valid; fits = freed_kept.fits }
 
   -- no edge at the vertex is a constraint
   unmarked : (e : FullEdge D U) → Contains (full_edges mid) e → (e.source ≡ v) ⊎ (e.target ≡ v)

@@ -3,17 +3,19 @@ use Rattle.std.specs.Prelude.{◌≡◌, ℕ, suc, ◌<◌, List, length, map, s
 use Rattle.half_edge_mesh.specs.Mesh.{Mesh, origin, next, face, rev}
 use Rattle.half_edge_mesh.specs.Peel.{spoke}
 use Rattle.half_edge_mesh.specs.Round.{IsRound, neighbour}
-use Rattle.half_edge_mesh.specs.Contents.{Contents}
+use Rattle.half_edge_mesh.specs.Contents.{Contents, IsMeshWithData}
 use Rattle.plane.specs.Fraction.{Point}
 use Rattle.plane.specs.Pairs.{place}
 use Rattle.plane.specs.Side.{TurnsLeft}
 use Rattle.plane_tiling.specs.Local.{LocalMesh}
 use Rattle.mesh_embedding.specs.Drawn.{faces_of, outer_of}
+use Rattle.delaunay_removal.specs.Data.{StandsBeside}
 use Rattle.delaunay_removal.specs.Star.{IsConvexAt}
 
 -- a mesh in the plane has this edge, with the outer face on its right
 pub record HasHullEdge {V D U F : Type 0} (place : V → Point) (c : Contents V D U F) (h : ℕ)
     : Type 0 where
+  pub whole : IsMeshWithData c
   pub within : h < length c.directed
   pub shape : LocalMesh (map place c.vertices) (faces_of c.mesh) (outer_of c.mesh)
   pub outer : face c.mesh (rev h) ≡ 0
@@ -28,6 +30,16 @@ pub record IsHullFan (points : List Point) (m : Mesh) (v first count : ℕ) : Ty
 abbrev pub HasNoFlippableEdge : List Point → Mesh → ℕ → ℕ → Type 0
 HasNoFlippableEdge points m first count =
     (i : ℕ) → suc (suc i) < count → ¬ IsConvexAt points m (spoke m first i)
+
+-- edges of a vertex v on the hull were turned away until these were left, from edge first on, of
+-- which none can be turned, and what the turned ones join is one of the pairs
+pub record ShrinksFan {V D U F : Type 0} (place : V → Point) (old new : Contents V D U F)
+    (v first count : ℕ) (pairs : List (ℕ × ℕ)) : Type 0 where
+  pub contents : new ≡ record old { mesh = new.mesh }
+  pub whole : IsMeshWithData new
+  pub star : IsHullFan (map place new.vertices) new.mesh v first count
+  pub bent : HasNoFlippableEdge (map place new.vertices) new.mesh first count
+  pub beside : StandsBeside old new v pairs
 
 -- the vertex where edge first starts, with the outer face on its right, is a corner of the hull
 abbrev pub IsCornerAt : List Point → Mesh → ℕ → Type 0

@@ -1,8 +1,8 @@
 -- The pairs of vertices that bound the faces made where a vertex goes: the sides of its hole, and
 -- what its edges join once they are turned.
 use Rattle.std.specs.Prelude.{◌≡◌, ◌≢◌, ◌⊎◌, ◌+◌, ◌-◌, ◌*◌, ◌<◌, ◌≤◌, if◌then◌else◌}
-use Rattle.std.specs.Prelude.{ℕ, List, length, map, nat_eq}
-use Rattle.half_edge_mesh.specs.Mesh.{Mesh, origin, rev}
+use Rattle.std.specs.Prelude.{ℕ, List, Some, length, map, nat_eq}
+use Rattle.half_edge_mesh.specs.Mesh.{Mesh, origin, out_edge, rev}
 use Rattle.half_edge_mesh.specs.Peel.{turn}
 use Rattle.half_edge_mesh.specs.Renames.{moved}
 use Rattle.half_edge_mesh.specs.Round.{IsRound}
@@ -38,6 +38,10 @@ KeepsPairs old new = (i j : ℕ) → Joins old i j → Joins new i j
 abbrev pub HasRoomAt : Mesh → ℕ → ℕ → ℕ → Type 0
 HasRoomAt m v listed capacity =
     (first count : ℕ) → IsRound m v first count → listed + count ≤ capacity
+
+-- so many edges go round vertex v from the one on with which it is listed
+abbrev pub IsRoundOf : Mesh → ℕ → ℕ → Type 0
+IsRoundOf m v count = (first : ℕ) → out_edge m v ≡ Some first → IsRound m v first count
 
 -- the ends of each edge of vertex v and of the edge after it are one of the pairs: so are the sides
 -- opposite v

@@ -86,6 +86,16 @@ StandsBetween points m v first count =
 abbrev pub IsReduced : List Point → Mesh → ℕ → ℕ → ℕ → Type 0
 IsReduced points m v first count = (count ≡ 3) ⊎ ((count ≡ 4) × StandsBetween points m v first 4)
 
+-- edges of an inner vertex v were turned away until these were left, from edge first on, and what
+-- the turned ones join is one of the pairs
+pub record ShrinksStar {V D U F : Type 0} (place : V → Point) (old new : Contents V D U F)
+    (v first count : ℕ) (pairs : List (ℕ × ℕ)) : Type 0 where
+  pub contents : new ≡ record old { mesh = new.mesh }
+  pub whole : IsMeshWithData new
+  pub star : IsInnerStar (map place old.vertices) new.mesh v first count
+  pub reduced : IsReduced (map place old.vertices) new.mesh v first count
+  pub beside : StandsBeside old new v pairs
+
 -- a mesh of all vertices but v, in the plane or on a line
 abbrev pub IsMeshWithout : ℕ → List Point → List Face → List (ℕ × ℕ) → Type 0
 IsMeshWithout v points faces outer =
@@ -97,6 +107,7 @@ pub record IsolatesVertex {V D U F : Type 0} (points : List Point) (old new : Co
     (v : ℕ) (pairs : List (ℕ × ℕ)) : Type 0 where
   pub contents : new ≡ record old
       { mesh = new.mesh; directed = new.directed; undirected = new.undirected; faces = new.faces }
+  pub whole : IsMeshWithData new
   pub alone : IsAlone new.mesh v
   pub shape : IsMeshWithout v points (faces_of new.mesh) (outer_of new.mesh)
   pub beside : StandsBeside old new v pairs
@@ -113,6 +124,7 @@ pub record TurnsAway {V D U F : Type 0} (old new : Contents V D U F) (h : ℕ)
     (listed list : Vec (ℕ × ℕ)) : Type 0 where
   pub mesh : new.mesh ≡ flipped old.mesh (2 * (turn old.mesh h / 2))
   pub contents : new ≡ record old { mesh = new.mesh }
+  pub whole : IsMeshWithData new
   pub triangles : FlipsTriangles old.mesh new.mesh (2 * (turn old.mesh h / 2))
   pub outer : KeepsOuter old.mesh new.mesh
   pub beside : StandsBeside old new (origin old.mesh h)

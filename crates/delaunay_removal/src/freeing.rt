@@ -1,5 +1,5 @@
 //! The edges of a vertex cease to be constraints.
-ghost use Rattle.std.specs.Prelude.{◌≡◌, ◌<◌, length, None, IfNone, IfSome};
+ghost use Rattle.std.specs.Prelude.{◌≡◌, ◌<◌, length, None, Some, IfNone, IfSome};
 ghost use Rattle.half_edge_mesh.specs.Contents.{IsMeshWithData};
 ghost use Rattle.half_edge_mesh.specs.Mesh.{origin, out_edge};
 ghost use Rattle.delaunay_removal.specs.Freeing.{FreesEdgesAt};
@@ -16,6 +16,7 @@ pub(crate) fn some_edge<V, DE, UE, F>(
     requires { vertex < length dcel.now.vertices }
     ensures within { IfSome result (λ e. e < length dcel.now.directed) }
     ensures starts { IfSome result (λ e. origin dcel.now.mesh e ≡ vertex) }
+    ensures some { IfSome result (λ e. out_edge dcel.now.mesh vertex ≡ Some e) }
     ensures none { IfNone result (out_edge dcel.now.mesh vertex ≡ None) }
 {
     dcel.recall_invariant();
@@ -30,18 +31,16 @@ fn free_round<M: ConstraintMarker<UE>, V, DE, UE, F>(
     dcel: &mut Dcel<V, DE, UE, F>,
     first: FixedDirectedEdgeHandle,
 )
-    requires { first < length dcel.old.directed }
-    ensures frees { FreesEdgesAt M.marks dcel.old dcel.new (origin dcel.old.mesh first) }
-    ensures whole { IsMeshWithData dcel.new }
+    requires whole { IsMeshWithData dcel.old }
+    requires within { first < length dcel.old.directed }
+    ensures { FreesEdgesAt M.marks dcel.old dcel.new (origin dcel.old.mesh first) }
 {
-    dcel.recall_invariant();
     let count = count_edges(dcel, first);
     let mut edge = first;
     for i in 0..count {
         free_edge::<M, _, _, _, _>(dcel, edge.as_undirected());
         edge = ccw_edge(dcel, edge);
     }
-    dcel.recall_invariant();
 }
 
 // Makes each edge of a vertex one that is no constraint.
@@ -49,11 +48,10 @@ pub(crate) fn free_edges_at<M: ConstraintMarker<UE>, V, DE, UE, F>(
     dcel: &mut Dcel<V, DE, UE, F>,
     vertex: FixedVertexHandle,
 )
-    requires { vertex < length dcel.old.vertices }
-    ensures frees { FreesEdgesAt M.marks dcel.old dcel.new vertex }
-    ensures whole { IsMeshWithData dcel.new }
+    requires whole { IsMeshWithData dcel.old }
+    requires within { vertex < length dcel.old.vertices }
+    ensures { FreesEdgesAt M.marks dcel.old dcel.new vertex }
 {
-    dcel.recall_invariant();
     match some_edge(dcel, vertex) {
         Some(first) => free_round::<M, _, _, _, _>(dcel, first),
         None => {}

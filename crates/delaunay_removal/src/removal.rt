@@ -22,7 +22,6 @@ use crate::lists::RemovalLists;
 use crate::removal_hull::{isolate_on_hull, outer_edge_beside};
 use crate::removal_inner::isolate_inner;
 use crate::removal_line::remove_on_line;
-use crate::star::count_edges;
 use delaunay_core::math::PlaneTests;
 use delaunay_core::point::HasPosition;
 use delaunay_legalization::ConstraintMarker;
@@ -37,6 +36,7 @@ fn first_edge<V, DE, UE, F>(
     requires some { IsSome (out_edge dcel.now.mesh vertex) }
     ensures within { result < length dcel.now.directed }
     ensures starts { origin dcel.now.mesh result ≡ vertex }
+    ensures out { out_edge dcel.now.mesh vertex ≡ Some result }
 {
     dcel.recall_invariant();
     match dcel.vertex(vertex).out_edge() {
@@ -51,6 +51,7 @@ fn drop_vertex<V: HasPosition, DE, UE, F>(
     dcel: &mut Dcel<V, DE, UE, F>,
     vertex: FixedVertexHandle,
 ) -> V
+    requires whole { IsMeshWithData dcel.old }
     requires in_range { All (λ v. InRange (V.place v)) dcel.old.vertices }
     requires alone { IsAlone dcel.old.mesh vertex }
     requires shape { IsMeshWithout vertex (map V.place dcel.old.vertices) (faces_of dcel.old.mesh)
@@ -60,9 +61,7 @@ fn drop_vertex<V: HasPosition, DE, UE, F>(
         (points_and_constraints (state_of dcel.new)) vertex }
     ensures kept { IsTriangulated V.place (state_of dcel.new) }
     ensures drops { DropsVertex dcel.old dcel.new vertex result }
-    ensures before { IsMeshWithData dcel.old }
 {
-    dcel.recall_invariant();
     let value = dcel.swap_remove_vertex(vertex);
     dcel.recall_invariant();
     value
@@ -80,16 +79,14 @@ fn isolate<V: HasPosition, DE: Drop, UE: Drop, F: Drop, P: PlaneTests<V::Scalar>
     requires some_face { 0 < length dcel.old.faces }
     requires within { vertex < length dcel.old.vertices }
     requires sites { All (P.sites tests.now) (map V.place dcel.old.vertices) }
-    requires room { HasRoomToRemove dcel.old lists.old }
+    requires room { HasRoomToRemove dcel.old vertex lists.old }
     ensures isolates { LosesStar V.place dcel.old dcel.new vertex lists.new.turned.items }
     ensures capacity { lists.new.tested.room ≡ lists.old.tested.room }
 {
-    dcel.recall_invariant();
     let first = first_edge(dcel, vertex);
-    let count = count_edges(dcel, first);
-    match outer_edge_beside(dcel, first, count) {
+    match outer_edge_beside(dcel, first, lists.edges) {
         Some(edge) => isolate_on_hull(dcel, edge, vertex, tests, lists),
-        None => isolate_inner(dcel, first, count, vertex, tests, &mut lists.turned),
+        None => isolate_inner(dcel, first, lists.edges, vertex, tests, &mut lists.turned),
     }
 }
 
@@ -105,7 +102,7 @@ fn take_vertex<V: HasPosition, DE: Drop, UE: Drop, F: Drop, P: PlaneTests<V::Sca
     requires kept { IsTriangulated V.place (state_of dcel.old) }
     requires within { vertex < length dcel.old.vertices }
     requires sites { All (P.sites tests.now) (map V.place dcel.old.vertices) }
-    requires room { HasRoomToRemove dcel.old lists.old }
+    requires room { HasRoomToRemove dcel.old vertex lists.old }
     ensures takes { TakesVertexOut V.place points_and_constraints (state_of dcel.old)
         (state_of dcel.new) vertex result lists.new.turned.items }
     ensures edges { RenumbersEdges dcel.old dcel.new vertex }
@@ -125,12 +122,11 @@ fn free_unless<M: ConstraintMarker<UE>, V, DE, UE, F>(
     vertex: FixedVertexHandle,
     is_free: bool,
 )
+    requires whole { IsMeshWithData dcel.old }
     requires within { vertex < length dcel.old.vertices }
     requires free { IsTrue is_free → constraints_by M.constraints (state_of dcel.old) ≡ [] }
-    ensures frees { FreesEdgesAt M.marks dcel.old dcel.new vertex }
-    ensures whole { IsMeshWithData dcel.new }
+    ensures { FreesEdgesAt M.marks dcel.old dcel.new vertex }
 {
-    dcel.recall_invariant();
     if is_free {
         return;
     }
@@ -159,7 +155,7 @@ pub fn remove_vertex<
     requires within { vertex < length dcel.old.vertices }
     requires free { IsTrue is_free → constraints_by M.constraints (state_of dcel.old) ≡ [] }
     requires sites { All (P.sites tests.now) (map V.place dcel.old.vertices) }
-    requires room { HasRoomToRemove dcel.old lists.old }
+    requires room { HasRoomToRemove dcel.old vertex lists.old }
 
     ensures takes { TakesVertexOut V.place (points_and_constraints_by M.constraints)
         (state_of dcel.old) (state_of dcel.new) vertex result lists.new.turned.items }

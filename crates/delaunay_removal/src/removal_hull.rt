@@ -1,14 +1,14 @@
 //! A vertex on the hull loses its edges.
-ghost use Rattle.std.specs.Prelude.{◌≡◌, ◌↔◌, ◌+◌, ◌-◌, ◌<◌, ◌≤◌, []};
+ghost use Rattle.std.specs.Prelude.{◌≡◌, ◌↔◌, ℕ, ◌+◌, ◌-◌, ◌<◌, ◌≤◌, []};
 ghost use Rattle.std.specs.Prelude.{length, map, All, IsTrue, IfSome, IfNone};
 ghost use Rattle.std.specs.Prelude.{vec_capacity, vec_len};
+ghost use Rattle.half_edge_mesh.specs.Contents.{IsMeshWithData};
 ghost use Rattle.half_edge_mesh.specs.Mesh.{face, next, origin, rev};
 ghost use Rattle.half_edge_mesh.specs.Round.{IsRound, neighbour};
 ghost use Rattle.plane.specs.Pairs.{place};
 ghost use Rattle.plane.specs.Side.{on, side};
-ghost use Rattle.delaunay_removal.specs.Data.{StandsBeside};
 ghost use Rattle.delaunay_removal.specs.Hull.{AreSides, HasNoFlippableEdge, IsCornerAt};
-ghost use Rattle.delaunay_removal.specs.Hull.{HasHullEdge, IsHullFan};
+ghost use Rattle.delaunay_removal.specs.Hull.{HasHullEdge, IsHullFan, ShrinksFan};
 ghost use Rattle.delaunay_removal.specs.Pairs.{HasRoomAt, KeepsPairs};
 ghost use Rattle.delaunay_removal.specs.Star.{HasInnerFaces, LosesStar};
 
@@ -34,16 +34,13 @@ fn shrink_hull_star<V: HasPosition, DE, UE, F, P: PlaneTests<V::Scalar>>(
     requires sites { All (P.sites tests.now) (map V.place dcel.old.vertices) }
     requires room { HasRoomAt dcel.old.mesh (origin dcel.old.mesh first) (vec_len turned.old)
         (vec_capacity turned.old) }
-    ensures contents { dcel.new ≡ record dcel.old { mesh = dcel.new.mesh } }
-    ensures star { IsHullFan (map V.place dcel.new.vertices) dcel.new.mesh
-        (origin dcel.old.mesh first) first result }
-    ensures bent { HasNoFlippableEdge (map V.place dcel.new.vertices) dcel.new.mesh first result }
-    ensures beside { StandsBeside dcel.old dcel.new (origin dcel.old.mesh first) turned.new.items }
+    ensures shrinks { ShrinksFan V.place dcel.old dcel.new (origin dcel.old.mesh first) first result
+        turned.new.items }
+    ensures few { (n : ℕ) → HasRoomAt dcel.old.mesh (origin dcel.old.mesh first) 0 n → result ≤ n }
     ensures room { vec_len turned.new + result ≤ vec_capacity turned.new }
 {
     let mut count = count_edges(dcel, first);
     let mut from = first;
-    dcel.recall_invariant();
     loop {
         let spokes = Spokes {
             dcel,
@@ -53,7 +50,6 @@ fn shrink_hull_star<V: HasPosition, DE, UE, F, P: PlaneTests<V::Scalar>>(
         match spokes.choose_hull_edge(count) {
             Some(edge) => {
                 turn_away(dcel, edge, turned);
-                dcel.recall_invariant();
                 from = edge_to_go_on(dcel, edge, count, first);
                 count -= 1;
             }
@@ -108,6 +104,7 @@ fn cut_corner<V: HasPosition, DE: Drop, UE: Drop, F: Drop>(
     vertex: FixedVertexHandle,
     sides: &mut Vec<FixedDirectedEdgeHandle>,
 )
+    requires whole { IsMeshWithData dcel.old }
     requires star { IsHullFan (map V.place dcel.old.vertices) dcel.old.mesh vertex first count }
     requires bent { HasNoFlippableEdge (map V.place dcel.old.vertices) dcel.old.mesh first count }
     requires corner { IsCornerAt (map V.place dcel.old.vertices) dcel.old.mesh first }
@@ -115,7 +112,6 @@ fn cut_corner<V: HasPosition, DE: Drop, UE: Drop, F: Drop>(
     ensures isolates { LosesStar V.place dcel.old dcel.new vertex [] }
     ensures capacity { vec_capacity sides.new ≡ vec_capacity sides.old }
 {
-    dcel.recall_invariant();
     collect_sides(dcel, first, count - 1, sides);
     let _ = dcel.disconnect_edge_strip(sides.as_slice());
     dcel.recall_invariant();
@@ -129,6 +125,7 @@ fn close_flat<V: HasPosition, DE: Drop, UE: Drop, F: Drop>(
     vertex: FixedVertexHandle,
     turned: &mut Vec<VertexPair>,
 )
+    requires whole { IsMeshWithData dcel.old }
     requires star { IsHullFan (map V.place dcel.old.vertices) dcel.old.mesh vertex first 3 }
     requires flat { side (place (map V.place dcel.old.vertices) (neighbour dcel.old.mesh first 0))
         (place (map V.place dcel.old.vertices) vertex)
@@ -137,16 +134,14 @@ fn close_flat<V: HasPosition, DE: Drop, UE: Drop, F: Drop>(
     ensures isolates { LosesStar V.place dcel.old dcel.new vertex turned.new.items }
     ensures pairs { KeepsPairs turned.old.items turned.new.items }
 {
-    dcel.recall_invariant();
     turn_away(dcel, first, turned);
-    dcel.recall_invariant();
     let sides = [opposite_side(dcel, first)];
     let _ = dcel.disconnect_edge_strip(&sides);
     dcel.recall_invariant();
 }
 
 // Removes the edges of a vertex on the hull, from which `first` starts, with the outer face on its
-// right. `lists` has room for each edge, and for a pair at each; it gets what each turned one
+// right. `lists` has room for a side and for a pair at each edge, and gets what each turned one
 // joins.
 pub(crate) fn isolate_on_hull<
     V: HasPosition,
@@ -164,14 +159,13 @@ pub(crate) fn isolate_on_hull<
     requires hull { HasHullEdge V.place dcel.old first }
     requires starts { origin dcel.old.mesh first ≡ vertex }
     requires sites { All (P.sites tests.now) (map V.place dcel.old.vertices) }
-    requires room { length dcel.old.directed ≤ vec_capacity lists.old.sides }
+    requires room { HasRoomAt dcel.old.mesh vertex 0 (vec_capacity lists.old.sides) }
     requires pairs { HasRoomAt dcel.old.mesh vertex (vec_len lists.old.turned)
         (vec_capacity lists.old.turned) }
     ensures isolates { LosesStar V.place dcel.old dcel.new vertex lists.new.turned.items }
     ensures capacity { lists.new.tested.room ≡ lists.old.tested.room }
 {
     let count = shrink_hull_star(dcel, first, tests, &mut lists.turned);
-    dcel.recall_invariant();
     if is_corner(dcel, first, tests) {
         cut_corner(dcel, first, count, vertex, &mut lists.sides);
     } else {

@@ -8,10 +8,9 @@ ghost use Rattle.half_edge_mesh.specs.Contents.{IsMeshWithData};
 ghost use Rattle.half_edge_mesh.specs.Removal.{FillsHole};
 ghost use Rattle.plane_tiling.specs.Local.{LocalMesh};
 ghost use Rattle.mesh_embedding.specs.Drawn.{faces_of, outer_of};
-ghost use Rattle.delaunay_removal.specs.Data.{StandsBeside};
 ghost use Rattle.delaunay_removal.specs.Pairs.{HasRoomAt, KeepsPairs};
-ghost use Rattle.delaunay_removal.specs.Star.{HasInnerFaces, IsBetweenAt, IsInnerStar, IsReduced};
-ghost use Rattle.delaunay_removal.specs.Star.{LosesStar, StandsBetween};
+ghost use Rattle.delaunay_removal.specs.Star.{HasInnerFaces, IsBetweenAt, IsInnerStar, LosesStar};
+ghost use Rattle.delaunay_removal.specs.Star.{ShrinksStar, StandsBetween};
 
 use crate::choice::{Spokes, edge_to_go_on};
 use crate::pairs::VertexPair;
@@ -32,35 +31,29 @@ fn shrink_star<V: HasPosition, DE, UE, F, P: PlaneTests<V::Scalar>>(
     tests: &P,
     turned: &mut Vec<VertexPair>,
 ) -> (FixedDirectedEdgeHandle, usize)
+    requires whole { IsMeshWithData dcel.old }
     requires star { IsInnerStar (map V.place dcel.old.vertices) dcel.old.mesh
         (origin dcel.old.mesh first) first count }
     requires sites { All (P.sites tests.now) (map V.place dcel.old.vertices) }
     requires room { HasRoomAt dcel.old.mesh (origin dcel.old.mesh first) (vec_len turned.old)
         (vec_capacity turned.old) }
-    ensures contents { dcel.new ≡ record dcel.old { mesh = dcel.new.mesh } }
-    ensures star { IsInnerStar (map V.place dcel.old.vertices) dcel.new.mesh
-        (origin dcel.old.mesh first) result.0 result.1 }
-    ensures reduced { IsReduced (map V.place dcel.old.vertices) dcel.new.mesh
-        (origin dcel.old.mesh first) result.0 result.1 }
-    ensures beside { StandsBeside dcel.old dcel.new (origin dcel.old.mesh first) turned.new.items }
+    ensures shrinks { ShrinksStar V.place dcel.old dcel.new (origin dcel.old.mesh first) result.0
+        result.1 turned.new.items }
     ensures room { vec_len turned.new + result.1 ≤ vec_capacity turned.new }
 {
     let mut first = first;
     let mut count = count;
     while count > 3 {
-        dcel.recall_invariant();
         let spokes = Spokes { dcel, first, tests };
         match spokes.choose_edge(count) {
             Some(edge) => {
                 turn_away(dcel, edge, turned);
-                dcel.recall_invariant();
                 first = edge_to_go_on(dcel, edge, count, edge);
                 count -= 1;
             }
             None => return (first, count),
         }
     }
-    dcel.recall_invariant();
     (first, count)
 }
 
@@ -71,13 +64,12 @@ fn fill_three<V, DE: Drop, UE: Drop, F: Drop>(
     first: FixedDirectedEdgeHandle,
     vertex: FixedVertexHandle,
 )
+    requires whole { IsMeshWithData dcel.old }
     requires wheel { IsWheel dcel.old.mesh first }
     requires starts { origin dcel.old.mesh first ≡ vertex }
     ensures hole { FillsHole dcel.old dcel.new vertex (neighbour dcel.old.mesh first) }
-    ensures before { IsMeshWithData dcel.old }
     ensures whole { IsMeshWithData dcel.new }
 {
-    dcel.recall_invariant();
     let second = ccw_edge(dcel, first);
     let third = ccw_edge(dcel, second);
     let border = [
@@ -142,13 +134,13 @@ fn fill_four<V: HasPosition, DE: Drop, UE: Drop, F: Drop>(
     vertex: FixedVertexHandle,
     turned: &mut Vec<VertexPair>,
 )
+    requires whole { IsMeshWithData dcel.old }
     requires star { IsInnerStar (map V.place dcel.old.vertices) dcel.old.mesh vertex first 4 }
     requires between { IsBetweenAt (map V.place dcel.old.vertices) dcel.old.mesh first }
     requires room { vec_len turned.old < vec_capacity turned.old }
     ensures isolates { LosesStar V.place dcel.old dcel.new vertex turned.new.items }
     ensures pairs { KeepsPairs turned.old.items turned.new.items }
 {
-    dcel.recall_invariant();
     turn_away(dcel, first, turned);
     fill_three(dcel, first, vertex);
 }
@@ -164,6 +156,7 @@ pub(crate) fn isolate_inner<V: HasPosition, DE: Drop, UE: Drop, F: Drop, P: Plan
     tests: &P,
     turned: &mut Vec<VertexPair>,
 )
+    requires whole { IsMeshWithData dcel.old }
     requires round { IsRound dcel.old.mesh (origin dcel.old.mesh first) first count }
     requires starts { origin dcel.old.mesh first ≡ vertex }
     requires shape { LocalMesh (map V.place dcel.old.vertices) (faces_of dcel.old.mesh)
@@ -175,7 +168,6 @@ pub(crate) fn isolate_inner<V: HasPosition, DE: Drop, UE: Drop, F: Drop, P: Plan
     ensures { LosesStar V.place dcel.old dcel.new vertex turned.new.items }
 {
     let (first, count) = shrink_star(dcel, first, count, tests, turned);
-    dcel.recall_invariant();
     if count == 3 {
         fill_three(dcel, first, vertex);
     } else {

@@ -88,6 +88,7 @@ pub(crate) fn turn_away<V: HasPosition, DE, UE, F>(
     edge: FixedDirectedEdgeHandle,
     turned: &mut Vec<VertexPair>,
 )
+    requires whole { IsMeshWithData dcel.old }
     requires within { edge < length dcel.old.directed }
     requires shape { LocalMesh (map V.place dcel.old.vertices) (faces_of dcel.old.mesh)
         (outer_of dcel.old.mesh) }
@@ -95,11 +96,10 @@ pub(crate) fn turn_away<V: HasPosition, DE, UE, F>(
     requires right { 0 < face dcel.old.mesh (turn dcel.old.mesh edge) }
     requires apart { neighbour dcel.old.mesh edge 0 ≢ neighbour dcel.old.mesh edge 2 }
     requires room { vec_len turned.old < vec_capacity turned.old }
-    ensures turns { TurnsAway dcel.old dcel.new edge turned.old turned.new }
-    ensures whole { IsMeshWithData dcel.old }
+    ensures { TurnsAway dcel.old dcel.new edge turned.old turned.new }
 {
-    dcel.recall_invariant();
     let after = ccw_edge(dcel, edge);
     turned.push_reserved(ends_beside(dcel, edge));
     dcel.flip_cw(after.as_undirected());
+    dcel.recall_invariant();
 }

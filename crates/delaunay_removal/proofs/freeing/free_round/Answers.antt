@@ -6,15 +6,16 @@ use Rattle.delaunay_removal.proofs.FreedEdges.{same_directed}
 use Rattle.delaunay_removal.proofs.freeing.free_round.Goals as goal
 
 pub loop-i-init : goal.loop-i-init
-loop-i-init g c = freeing_begins g.M.ConstraintMarker.marks c.args.dcel.now c.args.first c.requires
+loop-i-init g c =
+    freeing_begins g.M.ConstraintMarker.marks c.args.dcel.now c.args.first c.requires.within
 
 pub free_edge-requires : goal.free_edge-requires
 free_edge-requires g c =
     let half = c.as_undirected.ensures in
     let within = c.loop-i.invariant.within in
     let count = c.loop-i.invariant.count in
-    let us = c.recall_invariant.ensures.whole.fits.undirected_fit in
-    let ds = c.recall_invariant.ensures.whole.fits.directed_fit in
+    let us = c.requires.whole.fits.undirected_fit in
+    let ds = c.requires.whole.fits.directed_fit in
     omega (arith, half, within, count, us, ds)
 
 pub ccw_edge-edge-requires : goal.ccw_edge-edge-requires
@@ -33,10 +34,10 @@ loop-i-preserved g c =
     c.free_edge.ensures)
     c.ccw_edge-edge.result c.ccw_edge-edge.ensures.within c.ccw_edge-edge.ensures.value
 
-pub returns-clause-frees : goal.returns-clause-frees
-returns-clause-frees g c =
+pub returns : goal.returns
+returns g c =
     freeing_ends g.M.ConstraintMarker.marks c.args.dcel.now c.args.first
-    c.recall_invariant.ensures.whole
+    c.requires.whole
     (origin c.args.dcel.now.mesh c.args.first) c.count_edges-count.result
     c.count_edges-count.ensures
     c.loop-i.dcel c.loop-i.i c.loop-i.edge c.loop-i.invariant

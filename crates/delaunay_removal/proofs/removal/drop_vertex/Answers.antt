@@ -13,5 +13,5 @@ pub returns-clause-kept : goal.returns-clause-kept
 returns-clause-kept g c =
     dropped_kept g.V.HasPosition.place c.args.dcel.now c.swap_remove_vertex-value.new.self
     c.args.vertex c.swap_remove_vertex-value.result c.swap_remove_vertex-value.ensures.drops
-    c.recall_invariant.ensures.whole c.recall_invariant-2.ensures.whole c.requires.in_range
+    c.requires.whole c.recall_invariant.ensures.whole c.requires.in_range
     c.requires.shape

@@ -30,7 +30,7 @@ returns-clause-takes g c =
       beside = plane_data_kept at was alone new c.args.vertex value c.requires.kept kept isolates
           drops;
       faces = plane_faces_leave at was alone new c.args.vertex value c.requires.kept
-          c.drop_vertex.ensures.before kept c.requires.within c.isolate.new.lists.turned.items
+          isolates.whole kept c.requires.within c.isolate.new.lists.turned.items
           isolates drops;
     }
 

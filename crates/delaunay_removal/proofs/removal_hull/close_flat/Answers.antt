@@ -10,74 +10,74 @@ use Rattle.delaunay_removal.proofs.removal_hull.close_flat.Goals as goal
 
 pub turn_away-requires-clause-within : goal.turn_away-requires-clause-within
 turn_away-requires-clause-within g c = subst (λ (n : ℕ). c.args.first < n)
-    (sym c.recall_invariant.ensures.whole.fits.directed_fit) (c.requires.star.round.within 0)
+    (sym c.requires.whole.fits.directed_fit) (c.requires.star.round.within 0)
 
 pub turn_away-requires-clause-left : goal.turn_away-requires-clause-left
 turn_away-requires-clause-left g c = left_of (map g.V.HasPosition.place c.args.dcel.now.vertices)
-    c.args.dcel.now.mesh c.recall_invariant.ensures.whole.valid c.args.vertex c.args.first 3
+    c.args.dcel.now.mesh c.requires.whole.valid c.args.vertex c.args.first 3
     c.requires.star 0 (omega arith)
 
 pub turn_away-requires-clause-right : goal.turn_away-requires-clause-right
 turn_away-requires-clause-right g c = right_of (map g.V.HasPosition.place c.args.dcel.now.vertices)
-    c.args.dcel.now.mesh c.recall_invariant.ensures.whole.valid c.args.vertex c.args.first 3
+    c.args.dcel.now.mesh c.requires.whole.valid c.args.vertex c.args.first 3
     c.requires.star 0 (omega arith)
 
 pub turn_away-requires-clause-apart : goal.turn_away-requires-clause-apart
 turn_away-requires-clause-apart g c =
     hull_ends_differ (map g.V.HasPosition.place c.args.dcel.now.vertices) c.args.dcel.now.mesh
-    c.recall_invariant.ensures.whole.valid c.args.vertex c.args.first 3
+    c.requires.whole.valid c.args.vertex c.args.first 3
     c.requires.star 0 (omega arith)
 
 pub opposite_side-requires : goal.opposite_side-requires
 opposite_side-requires g c =
     let s = flat_strip (map g.V.HasPosition.place c.args.dcel.now.vertices) c.args.dcel.now
-    c.turn_away.new.dcel c.recall_invariant.ensures.whole c.args.vertex c.args.first
-    c.requires.star c.turn_away.ensures.turns.mesh c.turn_away.ensures.turns.triangles
-    c.turn_away.ensures.turns.outer c.recall_invariant-2.ensures.whole in
+    c.turn_away.new.dcel c.requires.whole c.args.vertex c.args.first
+    c.requires.star c.turn_away.ensures.mesh c.turn_away.ensures.triangles
+    c.turn_away.ensures.outer c.turn_away.ensures.whole in
     subst (λ (n : ℕ). c.args.first < n)
-    (sym c.recall_invariant-2.ensures.whole.fits.directed_fit) s.within
+    (sym c.turn_away.ensures.whole.fits.directed_fit) s.within
 
 pub disconnect_edge_strip-requires : goal.disconnect_edge_strip-requires
 disconnect_edge_strip-requires g c =
     sides_opposite c.turn_away.new.dcel.mesh c.args.first 1
-    (c.opposite_side.result ∷ []) c.recall_invariant-2.ensures.whole.valid.sound
+    (c.opposite_side.result ∷ []) c.turn_away.ensures.whole.valid.sound
     (flat_strip (map g.V.HasPosition.place c.args.dcel.now.vertices) c.args.dcel.now
-    c.turn_away.new.dcel c.recall_invariant.ensures.whole c.args.vertex c.args.first
-    c.requires.star c.turn_away.ensures.turns.mesh c.turn_away.ensures.turns.triangles
-    c.turn_away.ensures.turns.outer c.recall_invariant-2.ensures.whole)
+    c.turn_away.new.dcel c.requires.whole c.args.vertex c.args.first
+    c.requires.star c.turn_away.ensures.mesh c.turn_away.ensures.triangles
+    c.turn_away.ensures.outer c.turn_away.ensures.whole)
     (omega arith) (one_side c.turn_away.new.dcel.mesh c.args.first c.opposite_side.result
     c.opposite_side.ensures)
 
 pub returns-clause-isolates : goal.returns-clause-isolates
 returns-clause-isolates g c =
     flat_isolates (map g.V.HasPosition.place c.args.dcel.now.vertices) c.args.dcel.now
-    c.turn_away.new.dcel c.recall_invariant.ensures.whole c.args.vertex c.args.first
-    c.requires.star c.turn_away.ensures.turns.mesh c.turn_away.ensures.turns.triangles
-    c.turn_away.ensures.turns.outer
-    c.disconnect_edge_strip.new.self c.recall_invariant-2.ensures.whole
-    c.recall_invariant-3.ensures.whole c.turn_away.ensures.turns.contents
+    c.turn_away.new.dcel c.requires.whole c.args.vertex c.args.first
+    c.requires.star c.turn_away.ensures.mesh c.turn_away.ensures.triangles
+    c.turn_away.ensures.outer
+    c.disconnect_edge_strip.new.self c.turn_away.ensures.whole
+    c.recall_invariant.ensures.whole c.turn_away.ensures.contents
     c.turn_away.new.turned.items
     (stands_put c.args.dcel.now c.turn_away.new.dcel c.args.vertex c.args.turned.now.items
     c.turn_away.new.turned.items (
       neighbour c.args.dcel.now.mesh c.args.first 0,
       neighbour c.args.dcel.now.mesh c.args.first 2,
-    ) c.turn_away.ensures.turns.items
+    ) c.turn_away.ensures.items
     (subst (λ (x : ℕ). StandsBeside c.args.dcel.now c.turn_away.new.dcel x ((
       neighbour
           c.args.dcel.now.mesh c.args.first 0,
       neighbour c.args.dcel.now.mesh c.args.first 2,
     ) ∷ []))
-    (c.requires.star.round.starts 0) c.turn_away.ensures.turns.beside)) c.requires.flat
+    (c.requires.star.round.starts 0) c.turn_away.ensures.beside)) c.requires.flat
     (strip_read c.turn_away.new.dcel c.disconnect_edge_strip.new.self c.args.vertex c.args.first 1
-    (c.opposite_side.result ∷ []) c.recall_invariant-2.ensures.whole.valid.sound
+    (c.opposite_side.result ∷ []) c.turn_away.ensures.whole.valid.sound
     (flat_strip (map g.V.HasPosition.place c.args.dcel.now.vertices) c.args.dcel.now
-    c.turn_away.new.dcel c.recall_invariant.ensures.whole c.args.vertex c.args.first
-    c.requires.star c.turn_away.ensures.turns.mesh c.turn_away.ensures.turns.triangles
-    c.turn_away.ensures.turns.outer c.recall_invariant-2.ensures.whole)
+    c.turn_away.new.dcel c.requires.whole c.args.vertex c.args.first
+    c.requires.star c.turn_away.ensures.mesh c.turn_away.ensures.triangles
+    c.turn_away.ensures.outer c.turn_away.ensures.whole)
     (flat_starts (map g.V.HasPosition.place c.args.dcel.now.vertices) c.args.dcel.now
-    c.turn_away.new.dcel c.recall_invariant.ensures.whole c.args.vertex c.args.first
-    c.requires.star c.turn_away.ensures.turns.mesh c.turn_away.ensures.turns.triangles
-    c.turn_away.ensures.turns.outer c.recall_invariant-2.ensures.whole)
+    c.turn_away.new.dcel c.requires.whole c.args.vertex c.args.first
+    c.requires.star c.turn_away.ensures.mesh c.turn_away.ensures.triangles
+    c.turn_away.ensures.outer c.turn_away.ensures.whole)
     (omega arith) (one_side c.turn_away.new.dcel.mesh c.args.first c.opposite_side.result
     c.opposite_side.ensures) c.disconnect_edge_strip.ensures.strip)
 
@@ -87,4 +87,4 @@ returns-clause-pairs g c =
       neighbour c.args.dcel.now.mesh
           c.args.first 0,
       neighbour c.args.dcel.now.mesh c.args.first 2,
-    ) c.turn_away.ensures.turns.items
+    ) c.turn_away.ensures.items

@@ -7,11 +7,11 @@ use Rattle.delaunay_removal.proofs.removal_hull.cut_corner.Goals as goal
 
 pub collect_sides-requires-clause-within : goal.collect_sides-requires-clause-within
 collect_sides-requires-clause-within g c = subst (λ (n : ℕ). c.args.first < n)
-    (sym c.recall_invariant.ensures.whole.fits.directed_fit) (c.requires.star.round.within 0)
+    (sym c.requires.whole.fits.directed_fit) (c.requires.star.round.within 0)
 
 pub disconnect_edge_strip-requires : goal.disconnect_edge_strip-requires
 disconnect_edge_strip-requires g c =
-    let w = c.recall_invariant.ensures.whole in
+    let w = c.requires.whole in
     let two = has_two (map g.V.HasPosition.place c.args.dcel.now.vertices) c.args.dcel.now.mesh
     w.valid c.args.vertex c.args.first c.args.count c.requires.star in
     sides_opposite c.args.dcel.now.mesh c.args.first
@@ -23,12 +23,12 @@ disconnect_edge_strip-requires g c =
 
 pub returns-clause-isolates : goal.returns-clause-isolates
 returns-clause-isolates g c =
-    let w = c.recall_invariant.ensures.whole in
+    let w = c.requires.whole in
     let points = map g.V.HasPosition.place c.args.dcel.now.vertices in
     let two = has_two points c.args.dcel.now.mesh w.valid c.args.vertex c.args.first c.args.count
     c.requires.star in
     corner_isolates points c.args.dcel.now c.disconnect_edge_strip.new.self w
-    c.recall_invariant-2.ensures.whole c.args.vertex c.args.first c.args.count c.requires.star
+    c.recall_invariant.ensures.whole c.args.vertex c.args.first c.args.count c.requires.star
     c.requires.bent
     ((corner_read points c.args.dcel.now.mesh w.valid c.args.vertex c.args.first c.args.count
     c.requires.star).0 c.requires.corner)

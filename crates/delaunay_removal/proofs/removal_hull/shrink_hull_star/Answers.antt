@@ -21,12 +21,15 @@ loop-edge-init g c =
       contents = refl;
       star = star;
       many = has_two (map g.V.HasPosition.place c.args.dcel.now.vertices) c.args.dcel.now.mesh
-          c.recall_invariant.ensures.whole.valid
+          hull.whole.valid
           (origin c.args.dcel.now.mesh c.args.first) c.args.first c.count_edges-count.result star;
-      whole = c.recall_invariant.ensures.whole;
+      whole = hull.whole;
       beside = all_stands c.args.dcel.now
           (origin c.args.dcel.now.mesh c.args.first) c.args.turned.now.items;
       room = c.requires.room c.args.first c.count_edges-count.result c.count_edges-count.ensures;
+      few = λ n at_each.
+          let fits = at_each c.args.first c.count_edges-count.result c.count_edges-count.ensures in
+          omega (arith, fits);
       from_within = hull.within;
       from_starts = refl;
     }
@@ -63,13 +66,13 @@ turn_away-requires-clause-room g c =
 
 pub edge_to_go_on-from-requires-clause-within : goal.edge_to_go_on-from-requires-clause-within
 edge_to_go_on-from-requires-clause-within g c =
-    still_within c.loop-edge.dcel c.turn_away.new.dcel c.turn_away.ensures.turns.contents
+    still_within c.loop-edge.dcel c.turn_away.new.dcel c.turn_away.ensures.contents
     c.in-Some.edge c.in-Some.ensures.some.within
 
 pub edge_to_go_on-from-requires-clause-few_within :
     goal.edge_to_go_on-from-requires-clause-few_within
 edge_to_go_on-from-requires-clause-few_within g c =
-    still_within c.loop-edge.dcel c.turn_away.new.dcel c.turn_away.ensures.turns.contents
+    still_within c.loop-edge.dcel c.turn_away.new.dcel c.turn_away.ensures.contents
     c.args.first (subst (λ n. c.args.first < n)
     (sym c.loop-edge.invariant.whole.fits.directed_fit)
     (c.loop-edge.invariant.star.round.within 0))
@@ -79,14 +82,14 @@ pub edge_to_go_on-from-requires-clause-few_starts :
 edge_to_go_on-from-requires-clause-few_starts g c =
     let v = origin c.args.dcel.now.mesh c.args.first in
     let found = c.in-Some.ensures.some in
-    let turned = c.turn_away.ensures.turns in
+    let turned = c.turn_away.ensures in
     let starts = found.starts ∙ c.loop-edge.invariant.from_starts in
     let place = turnable_place g.V.HasPosition.place c.args.dcel.now c.loop-edge.dcel v
     c.args.first c.loop-edge.from c.loop-edge.count c.loop-edge.invariant c.in-Some.edge
     found.within starts found.is.left found.is.right in
     let star = hull_star_goes_on g.V.HasPosition.place c.args.dcel.now c.loop-edge.dcel v
     c.args.first c.loop-edge.from c.loop-edge.count c.loop-edge.invariant c.in-Some.edge place
-    c.turn_away.new.dcel c.recall_invariant-in-Some.ensures.whole found.is.convex
+    c.turn_away.new.dcel c.turn_away.ensures.whole found.is.convex
     turned.contents turned.triangles turned.outer in
     star.round.starts 0
     ∙ sym (place_starts g.V.HasPosition.place c.args.dcel.now c.loop-edge.dcel v c.args.first
@@ -97,8 +100,8 @@ pub loop-edge-preserved : goal.loop-edge-preserved
 loop-edge-preserved g c =
     let v = origin c.args.dcel.now.mesh c.args.first in
     let found = c.in-Some.ensures.some in
-    let turned = c.turn_away.ensures.turns in
-    let whole = c.recall_invariant-in-Some.ensures.whole in
+    let turned = c.turn_away.ensures in
+    let whole = c.turn_away.ensures.whole in
     let starts = found.starts ∙ c.loop-edge.invariant.from_starts in
     let place = turnable_place g.V.HasPosition.place c.args.dcel.now c.loop-edge.dcel v
     c.args.first c.loop-edge.from c.loop-edge.count c.loop-edge.invariant c.in-Some.edge
@@ -119,7 +122,16 @@ loop-edge-preserved g c =
     c.in-Some.edge found.within starts found.is.left found.is.right
     c.turn_away.new.dcel turned.mesh)
 
-pub returns-in-None-clause-bent : goal.returns-in-None-clause-bent
-returns-in-None-clause-bent g c = bent_at_end g.V.HasPosition.place c.args.dcel.now c.loop-edge.dcel
-    (origin c.args.dcel.now.mesh c.args.first) c.args.first c.loop-edge.from c.loop-edge.count
-    c.loop-edge.invariant c.in-None.ensures.none
+pub returns-in-None-clause-shrinks : goal.returns-in-None-clause-shrinks
+returns-in-None-clause-shrinks g c = record {
+  contents = c.loop-edge.invariant.contents;
+  whole = c.loop-edge.invariant.whole;
+  star = c.loop-edge.invariant.star;
+  bent = bent_at_end g.V.HasPosition.place c.args.dcel.now c.loop-edge.dcel
+      (origin c.args.dcel.now.mesh c.args.first) c.args.first c.loop-edge.from c.loop-edge.count
+      c.loop-edge.invariant c.in-None.ensures.none;
+  beside = c.loop-edge.invariant.beside;
+}
+
+pub returns-in-None-clause-few : goal.returns-in-None-clause-few
+returns-in-None-clause-few g c = c.loop-edge.invariant.few

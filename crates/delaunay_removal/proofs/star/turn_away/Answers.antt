@@ -9,7 +9,7 @@ use Rattle.delaunay_removal.proofs.star.turn_away.Goals as goal
 
 pub flip_cw-requires-clause-between : goal.flip_cw-requires-clause-between
 flip_cw-requires-clause-between g c =
-    let w = c.recall_invariant.ensures.whole in
+    let w = c.requires.whole in
     between_faces _ _ (subst (λ (k : ℕ). IsFlippable c.args.dcel.now.mesh (2 * k))
     (sym (c.as_undirected.ensures ∙ ap (λ e. e / 2) c.ccw_edge-after.ensures.value))
     (may_turn (map g.V.HasPosition.place c.args.dcel.now.vertices) c.args.dcel.now.mesh w.valid
@@ -18,7 +18,7 @@ flip_cw-requires-clause-between g c =
 
 pub flip_cw-requires-clause-corners : goal.flip_cw-requires-clause-corners
 flip_cw-requires-clause-corners g c =
-    let w = c.recall_invariant.ensures.whole in
+    let w = c.requires.whole in
     subst (λ (k : ℕ). origin c.args.dcel.now.mesh (prev c.args.dcel.now.mesh (2 * k))
     ≢ origin c.args.dcel.now.mesh (prev c.args.dcel.now.mesh (rev (2 * k))))
     (sym (c.as_undirected.ensures ∙ ap (λ e. e / 2) c.ccw_edge-after.ensures.value))
@@ -26,18 +26,19 @@ flip_cw-requires-clause-corners g c =
     c.requires.shape c.args.edge (subst (λ (n : ℕ). c.args.edge < n) w.fits.directed_fit
     c.requires.within) c.requires.left c.requires.right c.requires.apart).1
 
-pub returns-clause-turns : goal.returns-clause-turns
-returns-clause-turns g c =
+pub returns : goal.returns
+returns g c =
     let m = c.args.dcel.now.mesh in
     let crossed = c.as_undirected.ensures ∙ ap (λ e. e / 2) c.ccw_edge-after.ensures.value in
     record {
       mesh = c.flip_cw.ensures.mesh ∙ ap (λ (k : ℕ). flipped m (2 * k)) crossed;
       contents = c.flip_cw.ensures.contents;
+      whole = c.recall_invariant.ensures.whole;
       triangles = subst (λ (k : ℕ). FlipsTriangles m c.flip_cw.new.self.mesh (2 * k)) crossed
           c.flip_cw.ensures.triangles;
       outer = c.flip_cw.ensures.outer;
       beside = turned_stands (map g.V.HasPosition.place c.args.dcel.now.vertices) c.args.dcel.now
-          c.flip_cw.new.self c.recall_invariant.ensures.whole c.requires.shape c.args.edge
+          c.flip_cw.new.self c.requires.whole c.requires.shape c.args.edge
           c.requires.within c.requires.left c.requires.right c.requires.apart
           c.as_undirected.result crossed c.flip_cw.ensures.mesh c.flip_cw.ensures.contents
           c.flip_cw.ensures.triangles;

@@ -199,6 +199,10 @@ invariant_of-self-3 g c = c.self.invariant
 pub invariant_of-self-4 : goal.invariant_of-self-4
 invariant_of-self-4 g c = c.self.invariant
 
+pub reserve_for-requires : goal.reserve_for-requires
+reserve_for-requires g c =
+    subst (λ s. c.args.vertex < length s.vertices) (sym c.self.view_is) c.requires.within
+
 pub sides_to_test-requires : goal.sides_to_test-requires
 sides_to_test-requires g c =
     subst (λ s. c.args.vertex < length s.vertices) (sym c.self.view_is) c.requires.within
