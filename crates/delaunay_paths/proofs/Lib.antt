@@ -3,6 +3,7 @@ pub mod Places
 pub mod Walking
 -- The edges that cross a segment, listed.
 pub mod MetEdges
+pub mod Beginning
 pub mod Listing
 pub mod CrossingList
 pub mod MovedEdges

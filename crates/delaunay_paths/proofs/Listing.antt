@@ -1,22 +1,29 @@
--- The edges that cross a segment are listed by the walk along it, each once.
--- Notions: AreListed, IsListingCrossing; not_before_itself, none_listed, other_item, few_listed,
--- not_listed, edge_more, room_for_more, all_listed, crossing_walk_begins, room_for_item,
--- crossing_walk_goes_on, crossing_walk_ends.
+-- The edges that cross a piece of a path are listed by the walk along it, each once.
+-- Notions: IsMet, AreListed, IsListingPiece; not_before_itself, none_listed, other_item,
+-- few_listed, not_listed, edge_more, room_for_more, piece_listed, piece_walk_begins, seeks_next,
+-- room_for_item, piece_walk_goes_on, piece_walk_ends, whole_piece.
 use Rattle.std.proofs.Common.{◌≡◌, ◌≢◌, ◌*◌, ◌/◌, ◌<◌, ◌≤◌, [], ◌∷◌, ◌++◌, ◌∙◌}
-use Rattle.std.proofs.Common.{ℕ, suc, List, length, map, Some, None, sym, ap, subst, arith}
+use Rattle.std.proofs.Common.{◌⊎◌, ℕ, suc, List, length, map, Option, Some, None, sym, ap, subst}
+use Rattle.std.proofs.Common.{arith}
 use mathlib.Core.Logic.{inl, inr}
-use Rattle.std.specs.Prelude.{ℤ, AllPairs, Contains}
+use Rattle.std.specs.Prelude.{ℤ, AllPairs, Contains, IfNone, IfSome}
+use Rattle.std.proofs.lemmas.Bool.{cases_eq}
 use Rattle.std.proofs.lemmas.List.{length-map}
-use Rattle.std.proofs.lemmas.List.Elements.{Contains-append_left, Contains-push_cases}
+use Rattle.std.proofs.lemmas.List.Elements.{Contains-append_cases, Contains-append_left}
+use Rattle.std.proofs.lemmas.List.Elements.{Contains-push_cases}
 use Rattle.std.specs.Borrow.{Bor}
 use Rattle.half_edge_mesh.specs.Contents.{Contents, IsMeshWithData}
 use Rattle.half_edge_mesh.specs.Mesh.{Mesh, IsValidMesh, origin, rev}
-use Rattle.plane.specs.Fraction.{Fraction, Point, IsSame}
+use Rattle.half_edge_links.proofs.Lists.Rev.{rev-rev, rev_within}
+use Rattle.plane.specs.Fraction.{Fraction, Point, IsSame, WithinSegment}
 use Rattle.plane.specs.Line.{Item, IsBefore, IsLineList, Meets, across, along, at_vertex}
-use Rattle.plane.specs.Pairs.{place}
+use Rattle.plane.specs.Pairs.{place, IsIndex}
 use Rattle.plane.specs.Tiling.{Triangulation}
 use Rattle.plane_edits.proofs.LocalMesh.Changes.{once_none, once_head, once_tail, once_cons}
+use Rattle.plane_segments.specs.Constraints.{AreNextOn, ArePlacedApart}
 use Rattle.plane_segments.specs.Path.{IsFreeOfVertices}
+use Rattle.plane_segments.proofs.Constraints.Pieces.{on_parts}
+use Rattle.plane_segments.proofs.Crossing.PathFlips.{piece_is_free}
 use Rattle.plane_tiling.specs.Local.{IsMesh}
 use Rattle.plane_tiling.proofs.Totals.{Contains-cases, Contains-head, Contains-later}
 use Rattle.plane_tiling.proofs.Totals.{Contains-none}
@@ -34,11 +41,17 @@ use Rattle.delaunay_lines.specs.declared.iterator.LineIntersectionIterator.{Line
 use Rattle.delaunay_lines.specs.Items.{item_in, mesh_of}
 use Rattle.delaunay_lines.specs.Walk.{GivesNext, IsReady, WalksLine}
 use Rattle.delaunay_paths.specs.Crossing.{AreAllCrossing, CrossesFromRight, ListsAllCrossing}
-use Rattle.delaunay_paths.specs.Items.{HasRoomForItem, ListsItem, crossed_twin}
-use Rattle.delaunay_paths.proofs.CrossingList.{one_way}
-use Rattle.delaunay_paths.proofs.MetEdges.{crosses_if_met, met_if_crosses, two}
-use Rattle.delaunay_paths.proofs.Passing.{HasPassed, all_passed, later_ones, list_with, none_passed}
+use Rattle.delaunay_paths.specs.Lists.{ListCrossing, ListPiece}
+use Rattle.delaunay_paths.specs.declared.crossing.CrossingLists.{CrossingLists}
+use Rattle.delaunay_paths.specs.Items.{HasRoomForItem, IsOtherVertex, ListsItem, crossed_twin}
+use Rattle.delaunay_paths.proofs.Beginning.{crossed_one_way, met_before, part_meets, whole_meets}
+use Rattle.delaunay_paths.proofs.MetEdges.{crosses_if_met, met_if_crosses}
+use Rattle.delaunay_paths.proofs.NextVertex.{HasNoOther, SeeksNext, no_other_yet, still_no_other}
+use Rattle.delaunay_paths.proofs.NextVertex.{seeking_finds, two}
+use Rattle.delaunay_paths.proofs.Passing.{HasPassed, later_ones, list_with, none_passed}
 use Rattle.delaunay_paths.proofs.Passing.{one_more_passed}
+use Rattle.delaunay_paths.proofs.Places.{no_same_place}
+use Rattle.delaunay_paths.proofs.Walking.{in_map, placed_apart}
 
 -- ---- no crossed edge comes before itself
 pub not_before_itself : (t : Triangulation) (p q : Fraction) (a b : ℕ)
@@ -86,14 +99,22 @@ once_map f (x ∷ xs) once apart = once_cons (f x) (map f xs)
 half_below : (h n : ℕ) → h < 2 * n → h / 2 < n
 half_below h n less = grind arith
 
+-- a vertex is no crossed edge
+not_crossed : (v a b : ℕ) → ¬ (at_vertex v ≡ across a b)
+not_crossed v a b e = cc
+
 module _ (points : List Point) (m : Mesh) (i j n : ℕ) where
-  -- of the directed edges below n, these are those from the right whose twins these items cross
+  -- the segment from i to j crosses the twin of directed edge h
+  abbrev pub IsMet : ℕ → Type 0
+  IsMet h = Meets (drawn points m) (place points i) (place points j) (crossed_twin m h)
+
+  -- of the directed edges below n, these are those whose twins are among these items, which the
+  -- segment meets
   pub record AreListed (passed : List Item) (hs : List ℕ) : Type 0 where
     pub once : AllPairs (λ k l. k ≢ l) hs
-    pub cross : (h : ℕ) → Contains hs h → (h < n) × CrossesFromRight points m i j h
+    pub cross : (h : ℕ) → Contains hs h → (h < n) × IsMet h
     pub passed_by : (h : ℕ) → Contains hs h → Contains passed (crossed_twin m h)
-    pub all : (h : ℕ) → h < n → CrossesFromRight points m i j h
-        → Contains passed (crossed_twin m h) → Contains hs h
+    pub all : (h : ℕ) → h < n → IsMet h → Contains passed (crossed_twin m h) → Contains hs h
 
   -- without items there is none
   pub none_listed : AreListed [] []
@@ -106,7 +127,33 @@ module _ (points : List Point) (m : Mesh) (i j n : ℕ) where
 
 module _ (points : List Point) (m : Mesh) (s : IsValidMesh m)
     (shape : IsMesh points (faces_of m) (outer_of m)) (i j n : ℕ)
-    (count : n ≡ length m.half_edges) where
+    (count : n ≡ length m.half_edges) (vertices : length points ≡ length m.out_edges)
+    (ends_apart : ¬ IsSame (place points i) (place points j)) where
+  distinct : ArePlacedApart points
+  distinct = placed_apart points (faces_of m) (outer_of m) shape
+
+  in_mesh : (h : ℕ) → h < n → h < length m.half_edges
+  in_mesh h within = subst (λ (k : ℕ). h < k) count within
+
+  -- the ends of an edge are at two places
+  ends : (h : ℕ) → h < length m.half_edges
+      → ¬ IsSame (place points (origin m (rev h))) (place points (origin m h))
+  ends h within = no_same_place points distinct (origin m (rev h)) (origin m h)
+      (there (origin m (rev h)) (s.sound.edges (rev h)
+      (rev_within h (length m.half_edges) s.sound.even within)).origin_in)
+      (there (origin m h) (s.sound.edges h within).origin_in)
+      (λ e. s.apart h within (sym e))
+    where
+      there : (k : ℕ) → k < length m.out_edges → IsIndex points k
+      there k less = subst (λ (l : ℕ). k < l) (sym vertices) less
+
+  -- no edge is met both ways
+  one_way_met : (h : ℕ) → h < n → IsMet points m i j n h → ¬ IsMet points m i j n (rev h)
+  one_way_met h within c d = crossed_one_way (drawn points m) (place points i) (place points j)
+      ends_apart (origin m (rev h)) (origin m h) (ends h (in_mesh h within)) c
+      (subst (λ (k : ℕ). Meets (drawn points m) (place points i) (place points j)
+      (across (origin m k) (origin m (rev h)))) (rev-rev h) d)
+
   module _ (passed : List Item) (hs : List ℕ) (listed : AreListed points m i j n passed hs) where
     -- an item that is no crossed edge changes nothing
     pub other_item : (k : Item) → ((a b : ℕ) → ¬ (k ≡ across a b))
@@ -124,12 +171,12 @@ module _ (points : List Point) (m : Mesh) (s : IsValidMesh m)
 
     -- ---- as many as there are undirected edges, at most
     -- edges that cross the same way are different undirected edges
-    same_half : (g h : ℕ) → CrossesFromRight points m i j g → CrossesFromRight points m i j h
+    same_half : (g h : ℕ) → h < n → IsMet points m i j n g → IsMet points m i j n h
         → g / 2 ≡ h / 2 → g ≡ h
-    same_half g h c d e = elim (half_same h g e) [
+    same_half g h within c d e = elim (half_same h g e) [
       | inl is ↦ is
-      | inr is ↦ absurd (one_way points m i j h d
-          (subst (λ (k : ℕ). CrossesFromRight points m i j k) is c))
+      | inr is ↦ absurd (one_way_met h within d
+          (subst (λ (k : ℕ). IsMet points m i j n k) is c))
     ]
 
     abbrev halves : List ℕ
@@ -140,7 +187,8 @@ module _ (points : List Point) (m : Mesh) (s : IsValidMesh m)
       within = λ k there. let r = contains_map_from (λ (h : ℕ). h / 2) hs k there in
           half_within m r.0 n k count (listed.cross r.0 r.1).0 (sym r.2);
       once = once_map (λ (h : ℕ). h / 2) hs listed.once
-          (λ g h a b e. same_half g h (listed.cross g a).1 (listed.cross h b).1 e);
+          (λ g h a b e. same_half g h (listed.cross h b).0 (listed.cross g a).1 (listed.cross h b).1
+          e);
     }
 
     pub few_listed : (u : ℕ) → 2 * u ≡ length m.half_edges → length hs ≤ u
@@ -149,7 +197,7 @@ module _ (points : List Point) (m : Mesh) (s : IsValidMesh m)
 
     -- a crossed edge that comes after them is one more
     module _ (t : Triangulation) (p q : Fraction) (others : List Item) (f : ℕ) (f_in : f < n)
-        (crosses : CrossesFromRight points m i j f)
+        (met : IsMet points m i j n f)
         (ordered : AllPairs (IsBefore t p q) ((passed ++ crossed_twin m f ∷ []) ++ others)) where
       same_edge : (h : ℕ) → h < n → crossed_twin m f ≡ crossed_twin m h → h ≡ f
       same_edge h within e = (own_indexes points m s shape).edges f h
@@ -169,7 +217,7 @@ module _ (points : List Point) (m : Mesh) (s : IsValidMesh m)
           | inl before ↦ listed.cross h before
           | inr is ↦ (
             subst (λ (k : ℕ). k < n) is f_in,
-            subst (λ (k : ℕ). CrossesFromRight points m i j k) is crosses,
+            subst (λ (k : ℕ). IsMet points m i j n k) is met,
           )
         ];
         passed_by = λ h there. elim (Contains-push_cases hs f h there) [
@@ -193,20 +241,65 @@ module _ (points : List Point) (m : Mesh) (s : IsValidMesh m)
           (room_for_one m halves u (f / 2) twice halves_are_edges
           (half_below f u (subst (λ (k : ℕ). f < k) (count ∙ sym twice) f_in))
           (λ there. let r = contains_map_from (λ (h : ℕ). h / 2) hs (f / 2) there in
-          not_listed (subst (Contains hs) (same_half r.0 f (listed.cross r.0 r.1).1 crosses r.2)
+          not_listed (subst (Contains hs) (same_half r.0 f f_in (listed.cross r.0 r.1).1 met r.2)
           r.1)))
 
-  -- where the items are all that the segment meets, these are all that cross
-  pub all_listed : (passed : List Item) (hs : List ℕ) → AreListed points m i j n passed hs
-      → ((h : ℕ) → h < n → CrossesFromRight points m i j h → Contains passed (crossed_twin m h))
-      → AreAllCrossing points m i j (Contains hs)
-  all_listed passed hs listed met = record {
-    cross = λ h there.
-        let c = listed.cross h there in (subst (λ (k : ℕ). h < k) count c.0, c.1);
-    all = λ h within c.
-        let inside = subst (λ (k : ℕ). h < k) (sym count) within in
-        listed.all h inside c (met h inside c);
-  }
+  -- ---- the piece up to the vertex that is met next
+  module _ (passed others : List Item) (v : ℕ) (hs : List ℕ)
+      (listed : AreListed points m i j n passed hs)
+      (list : IsLineList (drawn points m) (place points i) (place points j)
+      ((passed ++ at_vertex v ∷ []) ++ others)) (next : AreNextOn points i j i v) where
+    free : IsFreeOfVertices (drawn points m) i v
+    free = piece_is_free (drawn points m) i j i v next
+
+    away : ¬ IsSame (place points v) (place points i)
+    away = no_same_place points distinct v i next.second_index next.first_index
+        (λ e. next.apart (sym e))
+
+    -- what is listed crosses it
+    listed_crosses : (h : ℕ) → Contains hs h
+        → (h < length m.half_edges) × CrossesFromRight points m i v h
+    listed_crosses h there =
+        let within = in_mesh h (listed.cross h there).0 in (
+          within,
+          crosses_if_met points m s i v shape vertices free h within
+              (part_meets (drawn points m) (place points i) (place points j) ends_apart
+              (origin m (rev h)) (origin m h) (ends h within) v next.second away
+              (listed.cross h there).1
+              (earlier_ones (IsBefore (drawn points m) (place points i) (place points j)) passed
+              (at_vertex v) others (list.ordered ends_apart) (crossed_twin m h)
+              (listed.passed_by h there))),
+        )
+
+    -- what crosses it is listed
+    crossing_listed : (h : ℕ) → h < length m.half_edges → CrossesFromRight points m i v h
+        → Contains hs h
+    crossing_listed h within crosses =
+        go (Contains-append_cases (passed ++ at_vertex v ∷ []) others (crossed_twin m h)
+        (list.complete ends_apart (crossed_twin m h) met))
+      where
+        met_by_piece : Meets (drawn points m) (place points i) (place points v) (crossed_twin m h)
+        met_by_piece = met_if_crosses points m s i v shape vertices free h within crosses
+
+        met : IsMet points m i j n h
+        met = whole_meets (drawn points m) (place points i) (place points j) ends_apart
+            (origin m (rev h)) (origin m h) (ends h within) v next.second away met_by_piece
+
+        go : Contains (passed ++ at_vertex v ∷ []) (crossed_twin m h)
+            ⊎ Contains others (crossed_twin m h) → Contains hs h
+        go (inl before) =
+            elim (Contains-push_cases passed (at_vertex v) (crossed_twin m h) before) [
+              | inl so_far ↦ listed.all h (subst (λ (k : ℕ). h < k) (sym count) within) met so_far
+              | inr is ↦ absurd (not_crossed v (origin m (rev h)) (origin m h) is)
+            ]
+        go (inr later) = absurd (met_before (drawn points m) (place points i) (place points j)
+            ends_apart (origin m (rev h)) (origin m h) (ends h within) v next.second away
+            met_by_piece (later_ones (IsBefore (drawn points m) (place points i) (place points j))
+            passed (at_vertex v) others (list.ordered ends_apart) (crossed_twin m h) later))
+
+    -- so these are all that do
+    pub piece_listed : AreAllCrossing points m i v (Contains hs)
+    piece_listed = record { cross = listed_crosses; all = crossing_listed }
 
 -- ---- the walk
 module _ {V D U F P S : Type 0} (at : V → Point) (number : S → ℤ)
@@ -214,144 +307,178 @@ module _ {V D U F P S : Type 0} (at : V → Point) (number : S → ℤ)
   abbrev points_of_mesh : List Point
   points_of_mesh = map at c.vertices
 
-  -- these edges are listed so far
-  pub record IsListingCrossing (hs : List ℕ)
+  -- no other vertex than i was passed, and these edges are listed so far
+  pub record IsListingPiece (hs : List ℕ)
       (now : LineIntersectionIterator V D U F P S) : Type 0 where
     pub passed : List Item
     pub so_far : HasPassed at number IsSite IsCovered (state_of c) (point_at points_of_mesh i)
         (point_at points_of_mesh j) passed now
     pub ready : IsReady at number IsSite IsCovered now
+    pub none : HasNoOther passed i
     pub listed : AreListed points_of_mesh c.mesh i j (length c.directed) passed hs
 
   -- at the beginning there is none
-  pub crossing_walk_begins : (hs : List ℕ) → hs ≡ [] → (it : LineIntersectionIterator V D U F P S)
+  pub piece_walk_begins : (hs : List ℕ) → hs ≡ [] → (it : LineIntersectionIterator V D U F P S)
       → IsReady at number IsSite IsCovered it
       → WalksLine at number (state_of c) (point_at points_of_mesh i) (point_at points_of_mesh j) it
-      → IsListingCrossing hs it
-  crossing_walk_begins hs none it ready walks = record {
+      → IsListingPiece hs it
+  piece_walk_begins hs none it ready walks = record {
     passed = [];
     so_far = none_passed at number IsSite IsCovered (state_of c) (point_at points_of_mesh i)
         (point_at points_of_mesh j) it ready walks;
     ready = ready;
+    none = no_other_yet i;
     listed = subst (AreListed points_of_mesh c.mesh i j (length c.directed) []) (sym none)
         (none_listed points_of_mesh c.mesh i j (length c.directed));
   }
 
+  -- it seeks the next vertex
+  pub seeks_next : (hs : List ℕ) (now : LineIntersectionIterator V D U F P S)
+      → IsListingPiece hs now → SeeksNext at number IsSite IsCovered c i j now
+  seeks_next hs now l =
+      record { passed = l.passed; so_far = l.so_far; ready = l.ready; none = l.none }
+
   module _ (whole_mesh : IsMeshWithData c)
-      (free : IsFreeOfVertices (drawn points_of_mesh c.mesh) i j)
-      (shape : IsMesh points_of_mesh (faces_of c.mesh) (outer_of c.mesh)) (hs : List ℕ)
-      (now after : LineIntersectionIterator V D U F P S) (listing : IsListingCrossing hs now) where
-    count : length points_of_mesh ≡ length c.mesh.out_edges
-    count = length-map c.vertices at ∙ whole_mesh.fits.vertices_fit
+      (shape : IsMesh points_of_mesh (faces_of c.mesh) (outer_of c.mesh))
+      (hi : i < length c.vertices) (hj : j < length c.vertices) (i_not_j : i ≢ j) (hs : List ℕ)
+      (now after : LineIntersectionIterator V D U F P S) (listing : IsListingPiece hs now)
+      (x : Intersection V D U F) (gives : GivesNext at number now (Some x) after) where
+    vertices_of_mesh : length points_of_mesh ≡ length c.mesh.out_edges
+    vertices_of_mesh = length-map c.vertices at ∙ whole_mesh.fits.vertices_fit
 
-    in_mesh : (h : ℕ) → h < length c.directed → h < length c.mesh.half_edges
-    in_mesh h within = subst (λ (n : ℕ). h < n) whole_mesh.fits.directed_fit within
+    two_ends : ¬ IsSame (place points_of_mesh i) (place points_of_mesh j)
+    two_ends = two points_of_mesh c.mesh
+        (placed_apart points_of_mesh (faces_of c.mesh) (outer_of c.mesh) shape) i j
+        (in_map at c.vertices i hi) (in_map at c.vertices j hj) i_not_j
 
-    ends_apart : ¬ IsSame (place points_of_mesh i) (place points_of_mesh j)
-    ends_apart = two points_of_mesh c.mesh whole_mesh.valid i j shape count free
+    -- the line list with the item that the call gives
+    line : (others : List Item) × IsLineList (drawn points_of_mesh c.mesh)
+        (place points_of_mesh i) (place points_of_mesh j)
+        ((listing.passed ++ item_in x ∷ []) ++ others)
+    line = list_with at number IsSite IsCovered (state_of c) (point_at points_of_mesh i)
+        (point_at points_of_mesh j) listing.passed now after listing.so_far x gives
 
-    module _ (x : Intersection V D U F) (gives : GivesNext at number now (Some x) after) where
-      -- the line list with the item that the call gives
-      line : (others : List Item) × IsLineList (drawn points_of_mesh c.mesh)
-          (place points_of_mesh i) (place points_of_mesh j)
-          ((listing.passed ++ item_in x ∷ []) ++ others)
-      line = list_with at number IsSite IsCovered (state_of c) (point_at points_of_mesh i)
-          (point_at points_of_mesh j) listing.passed now after listing.so_far x gives
+    -- the segment meets it
+    met_now : Meets (drawn points_of_mesh c.mesh) (place points_of_mesh i)
+        (place points_of_mesh j) (item_in x)
+    met_now = line.1.met two_ends (item_in x)
+        (Contains-append_left (listing.passed ++ item_in x ∷ []) line.0 (item_in x)
+        (contains_last listing.passed (item_in x)))
 
-      -- the segment meets it
-      met : Meets (drawn points_of_mesh c.mesh) (place points_of_mesh i) (place points_of_mesh j)
-          (item_in x)
-      met = line.1.met ends_apart (item_in x)
-          (Contains-append_left (listing.passed ++ item_in x ∷ []) line.0 (item_in x)
-          (contains_last listing.passed (item_in x)))
+    -- it is one of this mesh
+    same_mesh : state_of (mesh_of x).now ≡ state_of c
+    same_mesh = ap (λ (d : Bor (Contents V D U F)). state_of d.now)
+        (gives.gives listing.so_far.others listing.so_far.are_left).0 ∙ listing.so_far.state
 
-      -- it is one of this mesh
-      same_mesh : state_of (mesh_of x).now ≡ state_of c
-      same_mesh = ap (λ (d : Bor (Contents V D U F)). state_of d.now)
-          (gives.gives listing.so_far.others listing.so_far.are_left).0 ∙ listing.so_far.state
+    -- where it is that of a directed edge
+    module _ (h : ℕ) (within : h < length c.directed)
+        (is : item_in x ≡ crossed_twin c.mesh h) where
+      h_met : IsMet points_of_mesh c.mesh i j (length c.directed) h
+      h_met = subst (Meets (drawn points_of_mesh c.mesh) (place points_of_mesh i)
+          (place points_of_mesh j)) is met_now
 
-      -- where it is that of a directed edge, this crosses from the right
-      module _ (h : ℕ) (within : h < length c.directed)
-          (is : item_in x ≡ crossed_twin c.mesh h) where
-        crosses : CrossesFromRight points_of_mesh c.mesh i j h
-        crosses = crosses_if_met points_of_mesh c.mesh whole_mesh.valid i j shape count free h
-            (in_mesh h within) (subst (Meets (drawn points_of_mesh c.mesh)
-            (place points_of_mesh i) (place points_of_mesh j)) is met)
+      ordered : AllPairs (IsBefore (drawn points_of_mesh c.mesh) (place points_of_mesh i)
+          (place points_of_mesh j)) ((listing.passed ++ crossed_twin c.mesh h ∷ []) ++ line.0)
+      ordered = subst (λ (k : Item). AllPairs (IsBefore (drawn points_of_mesh c.mesh)
+          (place points_of_mesh i) (place points_of_mesh j))
+          ((listing.passed ++ k ∷ []) ++ line.0)) is (line.1.ordered two_ends)
 
-        ordered : AllPairs (IsBefore (drawn points_of_mesh c.mesh) (place points_of_mesh i)
-            (place points_of_mesh j)) ((listing.passed ++ crossed_twin c.mesh h ∷ []) ++ line.0)
-        ordered = subst (λ (k : Item). AllPairs (IsBefore (drawn points_of_mesh c.mesh)
-            (place points_of_mesh i) (place points_of_mesh j))
-            ((listing.passed ++ k ∷ []) ++ line.0)) is (line.1.ordered ends_apart)
+      -- it is one more
+      more : AreListed points_of_mesh c.mesh i j (length c.directed)
+          (listing.passed ++ crossed_twin c.mesh h ∷ []) (hs ++ h ∷ [])
+      more = edge_more points_of_mesh c.mesh whole_mesh.valid shape i j (length c.directed)
+          whole_mesh.fits.directed_fit vertices_of_mesh two_ends listing.passed hs listing.listed
+          (drawn points_of_mesh c.mesh) (place points_of_mesh i) (place points_of_mesh j) line.0 h
+          within h_met ordered
 
-        -- it is one more
-        more : AreListed points_of_mesh c.mesh i j (length c.directed)
-            (listing.passed ++ crossed_twin c.mesh h ∷ []) (hs ++ h ∷ [])
-        more = edge_more points_of_mesh c.mesh whole_mesh.valid shape i j (length c.directed)
-            whole_mesh.fits.directed_fit listing.passed hs listing.listed
-            (drawn points_of_mesh c.mesh) (place points_of_mesh i) (place points_of_mesh j) line.0 h
-            within crosses ordered
+      -- and there is room for it
+      room : length hs < length c.undirected
+      room = room_for_more points_of_mesh c.mesh whole_mesh.valid shape i j (length c.directed)
+          whole_mesh.fits.directed_fit vertices_of_mesh two_ends listing.passed hs listing.listed
+          (drawn points_of_mesh c.mesh) (place points_of_mesh i) (place points_of_mesh j) line.0 h
+          within h_met ordered (length c.undirected) whole_mesh.fits.undirected_fit
 
-        -- and there is room for it
-        room : length hs < length c.undirected
-        room = room_for_more points_of_mesh c.mesh whole_mesh.valid shape i j (length c.directed)
-            whole_mesh.fits.directed_fit listing.passed hs listing.listed
-            (drawn points_of_mesh c.mesh) (place points_of_mesh i) (place points_of_mesh j) line.0 h
-            within crosses ordered (length c.undirected) whole_mesh.fits.undirected_fit
+    -- a list with room for each edge has room for that of the item
+    pub room_for_item : (capacity : ℕ) → length c.undirected ≤ capacity
+        → HasRoomForItem (mesh_of x).now (item_in x) hs capacity
+    room_for_item capacity fits h within is = below (length hs) (length c.undirected)
+        capacity
+        (room h (subst (λ (s : State V D U F). h < length s.directed) same_mesh within)
+        (subst (λ (s : State V D U F). item_in x ≡ crossed_twin s.mesh h) same_mesh is)) fits
+      where
+        below : (a n room : ℕ) → a < n → n ≤ room → a < room
+        below a n room less fits = omega arith
 
-      -- a list with room for each edge has room for that of the item
-      pub room_for_item : (capacity : ℕ) → length c.undirected ≤ capacity
-          → HasRoomForItem (mesh_of x).now (item_in x) hs capacity
-      room_for_item capacity fits h within is = below (length hs) (length c.undirected)
-          capacity
-          (room h (subst (λ (s : State V D U F). h < length s.directed) same_mesh within)
-          (subst (λ (s : State V D U F). item_in x ≡ crossed_twin s.mesh h) same_mesh is)) fits
-        where
-          below : (a n room : ℕ) → a < n → n ≤ room → a < room
-          below a n room less fits = omega arith
-
-      -- with it the edges are listed on
-      pub crossing_walk_goes_on : (more_hs : List ℕ) → IsReady at number IsSite IsCovered after
-          → ListsItem (mesh_of x).now (item_in x) hs more_hs → IsListingCrossing more_hs after
-      crossing_walk_goes_on more_hs ready lists = record {
-        passed = listing.passed ++ item_in x ∷ [];
-        so_far = one_more_passed at number IsSite IsCovered (state_of c) (point_at points_of_mesh i)
-            (point_at points_of_mesh j) listing.passed now after listing.so_far x gives ready;
-        ready = ready;
-        listed = go lists;
-      }
-        where
-          Listed : Item → List ℕ → Type 0
-          Listed k ks = AreListed points_of_mesh c.mesh i j (length c.directed)
-              (listing.passed ++ k ∷ []) ks
-
-          go : ListsItem (mesh_of x).now (item_in x) hs more_hs → Listed (item_in x) more_hs
-          go (inl y) = subst (Listed (item_in x)) (sym y.1)
-              (other_item points_of_mesh c.mesh whole_mesh.valid shape i j (length c.directed)
-              whole_mesh.fits.directed_fit listing.passed hs listing.listed (item_in x) y.0)
-          go (inr y) =
-              let is = subst (λ (s : State V D U F). item_in x ≡ crossed_twin s.mesh y.0)
-              same_mesh y.2 in
-              let within = subst (λ (s : State V D U F). y.0 < length s.directed) same_mesh y.1 in
-              subst (λ (z : Item × List ℕ). Listed z.0 z.1) (λ k. (sym is k, sym y.3 k))
-              (more y.0 within is)
-
-    -- where no item is left, all that cross are listed
-    pub crossing_walk_ends : GivesNext at number now None after
-        → ListsAllCrossing points_of_mesh c i j hs
-    crossing_walk_ends gives = record {
-      once = listing.listed.once;
-      all = all_listed points_of_mesh c.mesh whole_mesh.valid shape i j (length c.directed)
-          whole_mesh.fits.directed_fit listing.passed hs listing.listed
-          (λ h within crosses. list.complete ends_apart (crossed_twin c.mesh h)
-          (met_if_crosses points_of_mesh c.mesh whole_mesh.valid i j shape count free h
-          (in_mesh h within) crosses));
-      few = few_listed points_of_mesh c.mesh whole_mesh.valid shape i j (length c.directed)
-          whole_mesh.fits.directed_fit listing.passed hs listing.listed (length c.undirected)
-          whole_mesh.fits.undirected_fit;
+    -- with it the edges are listed on, where it is no other vertex
+    pub piece_walk_goes_on : (more_hs : List ℕ) → IsReady at number IsSite IsCovered after
+        → IsOtherVertex (item_in x) i None
+        → ListsItem (mesh_of x).now (item_in x) hs more_hs → IsListingPiece more_hs after
+    piece_walk_goes_on more_hs ready none lists = record {
+      passed = listing.passed ++ item_in x ∷ [];
+      so_far = one_more_passed at number IsSite IsCovered (state_of c) (point_at points_of_mesh i)
+          (point_at points_of_mesh j) listing.passed now after listing.so_far x gives ready;
+      ready = ready;
+      none = still_no_other listing.passed (item_in x) i listing.none none;
+      listed = go lists;
     }
       where
-        list : IsLineList (drawn points_of_mesh c.mesh) (place points_of_mesh i)
-            (place points_of_mesh j) listing.passed
-        list = all_passed at number IsSite IsCovered (state_of c) (point_at points_of_mesh i)
-            (point_at points_of_mesh j) listing.passed now after listing.so_far gives
+        Listed : Item → List ℕ → Type 0
+        Listed k ks = AreListed points_of_mesh c.mesh i j (length c.directed)
+            (listing.passed ++ k ∷ []) ks
+
+        go : ListsItem (mesh_of x).now (item_in x) hs more_hs → Listed (item_in x) more_hs
+        go (inl y) = subst (Listed (item_in x)) (sym y.1)
+            (other_item points_of_mesh c.mesh whole_mesh.valid shape i j (length c.directed)
+            whole_mesh.fits.directed_fit vertices_of_mesh two_ends listing.passed hs
+            listing.listed (item_in x) y.0)
+        go (inr y) =
+            let is = subst (λ (s : State V D U F). item_in x ≡ crossed_twin s.mesh y.0)
+            same_mesh y.2 in
+            let within = subst (λ (s : State V D U F). y.0 < length s.directed) same_mesh y.1 in
+            subst (λ (z : Item × List ℕ). Listed z.0 z.1) (λ k. (sym is k, sym y.3 k))
+            (more y.0 within is)
+
+    -- where it is another vertex, all that cross the piece up to it are listed
+    pub piece_walk_ends : (v : ℕ) → IsOtherVertex (item_in x) i (Some v)
+        → ListsAllCrossing points_of_mesh c i v hs
+    piece_walk_ends v other = record {
+      once = listing.listed.once;
+      all = piece_listed points_of_mesh c.mesh whole_mesh.valid shape i j (length c.directed)
+          whole_mesh.fits.directed_fit vertices_of_mesh two_ends listing.passed line.0 v hs
+          listing.listed (subst (λ (k : Item). IsLineList (drawn points_of_mesh c.mesh)
+          (place points_of_mesh i) (place points_of_mesh j)
+          ((listing.passed ++ k ∷ []) ++ line.0)) other.0 line.1)
+          (seeking_finds at number IsSite IsCovered c i j now (seeks_next hs now listing) after
+          shape hi hj i_not_j x gives v other);
+      few = few_listed points_of_mesh c.mesh whole_mesh.valid shape i j (length c.directed)
+          whole_mesh.fits.directed_fit vertices_of_mesh two_ends listing.passed hs listing.listed
+          (length c.undirected) whole_mesh.fits.undirected_fit;
+    }
+
+-- ---- a segment of one piece
+-- where no vertex is strictly within the segment, its first piece is the whole
+pub whole_piece : (points : List Point) (m : Mesh) (i j : ℕ)
+    → IsFreeOfVertices (drawn points m) i j → IsMesh points (faces_of m) (outer_of m)
+    → (l : CrossingLists) (r : Option ℕ) → IfNone r (i ≡ j)
+    → IfSome r (λ v. ListPiece points m i j v l) → ListCrossing points m i j l
+whole_piece points m i j free shape l None end piece = absurd (free.apart end)
+whole_piece points m i j free shape l (Some v) end piece =
+    subst (λ (k : ℕ). ListCrossing points m i k l) same piece.crossing
+  where
+    apart : ArePlacedApart points
+    apart = placed_apart points (faces_of m) (outer_of m) shape
+
+    go : IsSame (place points v) (place points i) ⊎ (IsSame (place points v) (place points j)
+        ⊎ WithinSegment (place points i) (place points j) (place points v)) → v ≢ j → ⊥
+    go (inl e) n = no_same_place points apart v i piece.next.second_index free.first
+        (λ s. piece.next.apart (sym s)) e
+    go (inr (inl e)) n =
+        no_same_place points apart v j piece.next.second_index free.second n e
+    go (inr (inr w)) n = free.none_between v piece.next.second_index w
+
+    same : v ≡ j
+    same = elim (cases_eq v j) [
+      | inl e ↦ e
+      | inr n ↦ absurd (go (on_parts (place points i) (place points j) (place points v)
+          piece.next.second) n)
+    ]

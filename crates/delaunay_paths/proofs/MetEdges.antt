@@ -1,5 +1,5 @@
 -- The edges that cross a segment are those that it meets, as the walk along it has them.
--- Lemmas: two, crosses_if_met, met_if_crosses.
+-- Lemmas: crosses_if_met, met_if_crosses.
 use Rattle.std.proofs.Common.{◌≡◌, ◌⊎◌, ◌<◌, ◌∙◌}
 use Rattle.std.proofs.Common.{ℕ, List, length, sym, subst, inl, inr}
 use Rattle.half_edge_mesh.specs.Mesh.{Mesh, IsValidMesh, origin, rev}
@@ -48,7 +48,7 @@ module _ (points : List Point) (m : Mesh) (s : IsValidMesh m) (i j : ℕ)
   distinct = placed_apart points (faces_of m) (outer_of m) shape
 
   -- the ends of the segment are at two places
-  pub two : ¬ IsSame (place points i) (place points j)
+  two : ¬ IsSame (place points i) (place points j)
   two = no_same_place points distinct i j free.first free.second free.apart
 
   none_within : (a b k : ℕ) → k < length points → IsEdge (drawn points m) a b

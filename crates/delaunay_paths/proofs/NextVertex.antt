@@ -1,6 +1,6 @@
 -- The first vertex of a walk after its start is the next one of the path.
--- Notions: SeeksNext; two, none_is_left, comes_next, seeking_begins, seeking_goes_on,
--- seeking_finds, seeking_finds_index, seeking_never_ends.
+-- Notions: HasNoOther, SeeksNext; no_other_yet, still_no_other, two, none_is_left, comes_next,
+-- seeking_begins, seeking_goes_on, seeking_finds, seeking_finds_index, seeking_never_ends.
 use Rattle.std.proofs.Common.{◌≡◌, ◌≢◌, ◌⊎◌, ◌<◌, [], ◌∷◌, ◌++◌}
 use Rattle.std.proofs.Common.{ℕ, List, length, map, Some, None, sym, ap, subst, inl, inr}
 use Rattle.std.specs.Prelude.{ℤ, Contains}
@@ -47,15 +47,15 @@ vertex_of (across a b) = a
 vertex_of (along a b) = a
 
 -- no other vertex than i is among the items
-abbrev HasNoOther : List Item → ℕ → Type 0
+abbrev pub HasNoOther : List Item → ℕ → Type 0
 HasNoOther items i = (v : ℕ) → Contains items (at_vertex v) → v ≡ i
 
 -- the empty list of items has no other vertex
-no_other_yet : (i : ℕ) → HasNoOther [] i
+pub no_other_yet : (i : ℕ) → HasNoOther [] i
 no_other_yet i v c = absurd (Contains-none (at_vertex v) c)
 
 -- items without another vertex than i get none with an item that is none
-still_no_other : (passed : List Item) (k : Item) (i : ℕ) → HasNoOther passed i
+pub still_no_other : (passed : List Item) (k : Item) (i : ℕ) → HasNoOther passed i
     → ((v : ℕ) → k ≡ at_vertex v → v ≡ i) → HasNoOther (passed ++ k ∷ []) i
 still_no_other passed k i none this v c = elim (Contains-push_cases passed k (at_vertex v) c) [
   | inl x ↦ none v x

@@ -111,7 +111,7 @@ module _ {V D U F : Type 0} (at : V → Point) (c : Contents V D U F) (mesh : Is
   pub to_turn : (l : CrossingLists) (e : ℕ) → ListOthers points c.mesh i j e l
       → TurnsNearer points c.mesh i j e → IsToTurn points c i j e l
   to_turn l e others nearer =
-      record { free = free; shape = shape; nearer = nearer; others = others }
+      record { whole = mesh; free = free; shape = shape; nearer = nearer; others = others }
 
   -- where none of those that cross can be turned, none crosses
   pub none_left : (l : CrossingLists) (was : List ℕ) → was ≡ [] → ListCrossing points c.mesh i j l

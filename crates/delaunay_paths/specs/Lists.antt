@@ -1,10 +1,12 @@
 -- The lists of the edges that cross a segment, while they are turned.
 use Rattle.std.specs.Prelude.{◌≡◌, ◌≢◌, ◌⊎◌, ◌+◌, ◌≤◌, ℕ, List, [], length, AllPairs}
 use Rattle.std.specs.Prelude.{Contains, vec_capacity}
-use Rattle.half_edge_mesh.specs.Contents.{Contents}
+use Rattle.half_edge_mesh.specs.Contents.{Contents, IsMeshWithData}
 use Rattle.half_edge_mesh.specs.Mesh.{Mesh}
 use Rattle.plane.specs.Fraction.{Point}
+use Rattle.plane.specs.Tiling.{IsEdge}
 use Rattle.plane_tiling.specs.Local.{IsMesh}
+use Rattle.plane_segments.specs.Constraints.{AreNextOn}
 use Rattle.plane_segments.specs.Path.{IsFreeOfVertices}
 use Rattle.mesh_embedding.specs.Drawn.{drawn, faces_of, outer_of}
 use Rattle.delaunay_paths.specs.declared.crossing.CrossingLists.{CrossingLists}
@@ -51,6 +53,11 @@ pub record ListCrossing (points : List Point) (m : Mesh) (i j : ℕ)
   pub held : AreHeld l
   pub all : AreAllCrossing points m i j (HasEntry l)
 
+-- vertex v ends the first piece of the path from i to j, and they are those that cross this piece
+pub record ListPiece (points : List Point) (m : Mesh) (i j v : ℕ) (l : CrossingLists) : Type 0 where
+  pub next : AreNextOn points i j i v
+  pub crossing : ListCrossing points m i v l
+
 -- they are those but e, for which there is room
 pub record ListOthers (points : List Point) (m : Mesh) (i j e : ℕ)
     (l : CrossingLists) : Type 0 where
@@ -66,10 +73,17 @@ pub record HaveSeen (points : List Point) (m : Mesh) (i j : ℕ) (was : List ℕ
       → Contains was h ⊎ (¬ TurnsNearer points m i j h)
 
 -- directed edge e crosses the segment from i to j, which has no vertex strictly within, and can be
--- turned towards it; the entries are the others that cross
+-- turned towards it; the entries are the others that cross. The mesh has all its data
 pub record IsToTurn {V D U F : Type 0} (points : List Point) (c : Contents V D U F) (i j e : ℕ)
     (l : CrossingLists) : Type 0 where
+  pub whole : IsMeshWithData c
   pub free : IsFreeOfVertices (drawn points c.mesh) i j
   pub shape : IsMesh points (faces_of c.mesh) (outer_of c.mesh)
   pub nearer : TurnsNearer points c.mesh i j e
   pub others : ListOthers points c.mesh i j e l
+
+-- the segment from i to j is an edge of a mesh that has all its data
+pub record HasAsEdge {V D U F : Type 0} (points : List Point) (c : Contents V D U F)
+    (i j : ℕ) : Type 0 where
+  pub whole : IsMeshWithData c
+  pub edge : IsEdge (drawn points c.mesh) i j

@@ -1,11 +1,8 @@
 //! Constraints along the path between two vertices.
-ghost use Rattle.std.specs.Prelude.{◌≡◌, ◌≢◌, ◌↔◌, ◌<◌};
-ghost use Rattle.std.specs.Prelude.{true, length, map, All, IsTrue, IfNone, IfSome};
+ghost use Rattle.std.specs.Prelude.{◌≡◌, ◌↔◌, ◌<◌, true, length, map, All, IsTrue};
 ghost use Rattle.half_edge_mesh.specs.Contents.{IsMeshWithData};
 ghost use Rattle.plane.specs.Pairs.{Joins};
-ghost use Rattle.plane_tiling.specs.Local.{IsMesh};
-ghost use Rattle.plane_segments.specs.Constraints.{AreNextOn};
-ghost use Rattle.mesh_embedding.specs.Drawn.{edges_of, faces_of, outer_of};
+ghost use Rattle.mesh_embedding.specs.Drawn.{edges_of};
 ghost use Rattle.delaunay_legalization.specs.Shape.{IsTriangulated};
 ghost use Rattle.delaunay_legalization.specs.State.{state_of};
 ghost use Rattle.delaunay_paths.specs.Adding.{AddsPath, CanAddPath, HasFreeWay, MarksBetween};
@@ -14,9 +11,8 @@ ghost use Rattle.delaunay_paths.specs.Leaving.{IsWorkList, LeavesToTest};
 ghost use Rattle.delaunay_paths.specs.Lists.{HaveRoom};
 
 use crate::crossing::CrossingLists;
-use crate::flips::make_edge;
+use crate::flips::turn_listed;
 use crate::joined::{edge_between, edge_if_joined};
-use crate::path::{is_same_vertex, next_on_path};
 use delaunay_core::math::PlaneTests;
 use delaunay_core::point::HasPosition;
 use delaunay_legalization::{ConstraintMarker, EdgeSet, make_constraint};
@@ -77,29 +73,6 @@ fn mark_between<M: ConstraintMarker<UE>, V, DE, UE, F>(
     mark::<M, _, _, _, _>(dcel, edge.as_undirected());
 }
 
-// The vertex where the first piece of the path between two vertices ends, unless they are one.
-pub(crate) fn next_piece<V: HasPosition, DE, UE, F, P: PlaneTests<V::Scalar>>(
-    dcel: &Dcel<V, DE, UE, F>,
-    from: FixedVertexHandle,
-    to: FixedVertexHandle,
-    tests: &P,
-) -> Option<FixedVertexHandle>
-    requires from_in { from < length dcel.now.vertices }
-    requires to_in { to < length dcel.now.vertices }
-    requires shape { IsMesh (map V.place dcel.now.vertices) (faces_of dcel.now.mesh)
-        (outer_of dcel.now.mesh) }
-    requires sites { All (P.sites tests.now) (map V.place dcel.now.vertices) }
-    ensures end { IfNone result (from ≡ to) }
-    ensures apart { IfSome result (λ v. from ≢ to) }
-    ensures next { IfSome result (λ v. AreNextOn (map V.place dcel.now.vertices) from to from v) }
-{
-    if is_same_vertex(from, to) {
-        None
-    } else {
-        Some(next_on_path(dcel, from, to, tests))
-    }
-}
-
 /// Makes constraints of the pieces of the path between two vertices, whose segment no constraint
 /// crosses: each of its vertices is joined to the next. Edges that cross a piece are flipped; each
 /// edge that does not cross the segment keeps its index, and so does each face with no side that
@@ -127,8 +100,8 @@ pub fn add_path<M: ConstraintMarker<UE>, V: HasPosition, DE, UE, F, P: PlaneTest
     ensures capacity { work.new.room ≡ work.old.room }
 {
     let mut at = from;
-    while let Some(next) = next_piece(dcel, at, to, tests) {
-        make_edge(dcel, at, next, tests, lists, work);
+    while let Some(next) = lists.list_piece(dcel, at, to, tests) {
+        turn_listed(dcel, at, next, tests, lists, work);
         mark_between::<M, _, _, _, _>(dcel, at, next);
         at = next;
     }

@@ -50,7 +50,6 @@ pub fn add_constraints<
     work.clear();
     add_path::<M, _, _, _, _, _>(dcel, from, to, tests, lists, work);
     legalize::<M, _, _, _, _, _>(dcel, tests, work, flips);
-    dcel.recall_invariant();
 }
 
 /// Makes an edge a constraint, unless it is one. No edge is turned for it.
@@ -108,5 +107,4 @@ pub fn release_constraint<
     free_edge::<M, _, _, _, _>(dcel, edge);
     put_alone(edge, work);
     legalize::<M, _, _, _, _, _>(dcel, tests, work, flips);
-    dcel.recall_invariant();
 }

@@ -1,14 +1,15 @@
 //! The edges that cross a segment between two vertices, in the lists from which they are turned.
-ghost use Rattle.std.specs.Prelude.{◌≡◌, ◌≤◌, [], length, map, All, OnOk, vec_capacity};
+ghost use Rattle.std.specs.Prelude.{◌≡◌, ◌≢◌, ◌<◌, ◌≤◌, []};
+ghost use Rattle.std.specs.Prelude.{length, map, All, IfNone, IfSome, OnOk, vec_capacity};
 ghost use Rattle.plane_tiling.specs.Local.{IsMesh};
-ghost use Rattle.plane_segments.specs.Path.{IsFreeOfVertices};
-ghost use Rattle.mesh_embedding.specs.Drawn.{drawn, faces_of, outer_of};
+ghost use Rattle.plane_segments.specs.Constraints.{AreNextOn};
+ghost use Rattle.mesh_embedding.specs.Drawn.{faces_of, outer_of};
 ghost use Rattle.delaunay_lines.specs.Items.{item_in, mesh_of};
 ghost use Rattle.delaunay_paths.specs.Crossing.{ListsAllCrossing};
 ghost use Rattle.delaunay_paths.specs.Items.{HasRoomForItem, IsCrossedTwin, ListsItem};
-ghost use Rattle.delaunay_paths.specs.Lists.{AreHeld, HaveRoom, KeepEntries, KeepRoom};
-ghost use Rattle.delaunay_paths.specs.Lists.{ListCrossing};
+ghost use Rattle.delaunay_paths.specs.Lists.{AreHeld, HaveRoom, KeepEntries, KeepRoom, ListPiece};
 
+use crate::path::{is_same_vertex, other_vertex};
 use delaunay_core::math::PlaneTests;
 use delaunay_core::point::HasPosition;
 use delaunay_lines::{Intersection, line_between_vertices};
@@ -71,28 +72,34 @@ impl CrossingLists {
         }
     }
 
-    // Lists the edges that cross the segment between two vertices with none strictly between, in
-    // place of what was listed. The first on the way is to be seen first.
-    pub(crate) fn list<V: HasPosition, DE, UE, F, P: PlaneTests<V::Scalar>>(
+    // Lists the edges that cross the first piece of the path between two vertices, in place of what
+    // was listed, and gives the vertex where it ends, unless the two are one. The first edge on the
+    // way is to be seen first. It is one walk, which stops at that vertex.
+    pub(crate) fn list_piece<V: HasPosition, DE, UE, F, P: PlaneTests<V::Scalar>>(
         &mut self,
         dcel: &Dcel<V, DE, UE, F>,
         from: FixedVertexHandle,
         to: FixedVertexHandle,
         tests: &P,
-    )
-        requires free { IsFreeOfVertices (drawn (map V.place dcel.now.vertices) dcel.now.mesh) from
-            to }
+    ) -> Option<FixedVertexHandle>
+        requires ends { (from < length dcel.now.vertices) × (to < length dcel.now.vertices) }
         requires shape { IsMesh (map V.place dcel.now.vertices) (faces_of dcel.now.mesh)
             (outer_of dcel.now.mesh) }
         requires sites { All (P.sites tests.now) (map V.place dcel.now.vertices) }
         requires room { HaveRoom (length dcel.now.undirected) self.old }
-        ensures lists { ListCrossing (map V.place dcel.now.vertices) dcel.now.mesh from to
-            self.new }
+        ensures end { IfNone result (from ≡ to) }
+        ensures apart { IfSome result (λ v. from ≢ to) }
+        ensures piece { IfSome result (λ v. ListPiece (map V.place dcel.now.vertices) dcel.now.mesh
+            from to v self.new) }
         ensures room { KeepRoom self.old self.new }
     {
-        list_crossing(dcel, from, to, tests, &mut self.waiting);
+        if is_same_vertex(from, to) {
+            return None;
+        }
+        let next = list_to_next(dcel, from, to, tests, &mut self.waiting);
         self.unseen.clear();
         self.see_again();
+        Some(next)
     }
 }
 
@@ -125,21 +132,24 @@ fn list_item<V, DE, UE, F>(
     }
 }
 
-// Lists the edges that cross the segment between two vertices with none strictly between, from
-// right to left, in their order from the first, in place of what was in the list.
-fn list_crossing<V: HasPosition, DE, UE, F, P: PlaneTests<V::Scalar>>(
+// Lists the edges that cross the first piece of the path between two vertices, from right to left,
+// in their order from the first, in place of what was in the list. It gives the vertex where the
+// piece ends.
+fn list_to_next<V: HasPosition, DE, UE, F, P: PlaneTests<V::Scalar>>(
     dcel: &Dcel<V, DE, UE, F>,
     from: FixedVertexHandle,
     to: FixedVertexHandle,
     tests: &P,
     edges: &mut Vec<FixedDirectedEdgeHandle>,
-)
-    requires free { IsFreeOfVertices (drawn (map V.place dcel.now.vertices) dcel.now.mesh) from to }
+) -> FixedVertexHandle
+    requires ends { (from < length dcel.now.vertices) × (to < length dcel.now.vertices) }
+    requires apart { from ≢ to }
     requires shape { IsMesh (map V.place dcel.now.vertices) (faces_of dcel.now.mesh)
         (outer_of dcel.now.mesh) }
     requires sites { All (P.sites tests.now) (map V.place dcel.now.vertices) }
     requires room { length dcel.now.undirected ≤ vec_capacity edges.old }
-    ensures lists { ListsAllCrossing (map V.place dcel.now.vertices) dcel.now from to
+    ensures next { AreNextOn (map V.place dcel.now.vertices) from to from result }
+    ensures lists { ListsAllCrossing (map V.place dcel.now.vertices) dcel.now from result
         edges.new.items }
     ensures capacity { vec_capacity edges.new ≡ vec_capacity edges.old }
 {
@@ -147,6 +157,10 @@ fn list_crossing<V: HasPosition, DE, UE, F, P: PlaneTests<V::Scalar>>(
     edges.clear();
     let mut line = line_between_vertices(dcel, from, to, tests);
     while let Some(item) = line.next() {
+        if let Some(vertex) = other_vertex(&item, from) {
+            return vertex;
+        }
         list_item(&item, edges);
     }
+    unreachable!()
 }

@@ -1,13 +1,12 @@
 //! Flips until a segment between two vertices is an edge.
 ghost use Rattle.std.specs.Prelude.{◌≡◌, length, map, All, IfNone, IfSome};
-ghost use Rattle.plane.specs.Tiling.{IsEdge};
 ghost use Rattle.plane_tiling.specs.Local.{IsMesh};
 ghost use Rattle.plane_segments.specs.Path.{IsFreeOfVertices};
 ghost use Rattle.mesh_embedding.specs.Drawn.{drawn, faces_of, outer_of};
 ghost use Rattle.delaunay_paths.specs.Crossing.{TurnsNearer};
 ghost use Rattle.delaunay_paths.specs.Leaving.{IsWorkList, MakesEdge, TurnsTowards};
-ghost use Rattle.delaunay_paths.specs.Lists.{HaveRoom, HaveSeen, IsToTurn, KeepRoom, ListCrossing};
-ghost use Rattle.delaunay_paths.specs.Lists.{ListOthers};
+ghost use Rattle.delaunay_paths.specs.Lists.{HasAsEdge, HaveRoom, HaveSeen, IsToTurn, KeepRoom};
+ghost use Rattle.delaunay_paths.specs.Lists.{ListCrossing, ListOthers};
 
 use crate::crossing::CrossingLists;
 use crate::leaving::push_round;
@@ -64,8 +63,7 @@ fn next_turn<V: HasPosition, DE, UE, F, P: PlaneTests<V::Scalar>>(
     requires lists { ListCrossing (map V.place dcel.now.vertices) dcel.now.mesh from to lists.old }
     ensures some { IfSome result (λ e. IsToTurn (map V.place dcel.now.vertices) dcel.now from to e
         lists.new) }
-    ensures none { IfNone result
-        (IsEdge (drawn (map V.place dcel.now.vertices) dcel.now.mesh) from to) }
+    ensures none { IfNone result (HasAsEdge (map V.place dcel.now.vertices) dcel.now from to) }
     ensures room { KeepRoom lists.old lists.new }
 {
     dcel.recall_invariant();
@@ -96,7 +94,6 @@ fn turn<V: HasPosition, DE, UE, F, P: PlaneTests<V::Scalar>>(
     ensures room { KeepRoom lists.old lists.new }
     ensures capacity { work.new.room ≡ work.old.room }
 {
-    dcel.recall_invariant();
     let whole = edge.as_undirected();
     match way_made(dcel, edge, from, to, tests) {
         Some(way) => {
@@ -109,6 +106,33 @@ fn turn<V: HasPosition, DE, UE, F, P: PlaneTests<V::Scalar>>(
             dcel.flip_cw(whole);
             lists.step_back();
         }
+    }
+}
+
+// Makes an edge of the segment between two vertices with none strictly between, by turns of the
+// edges that cross it, which are listed. What stays, and what is put into `work`, `make_edge` says.
+pub(crate) fn turn_listed<V: HasPosition, DE, UE, F, P: PlaneTests<V::Scalar>>(
+    dcel: &mut Dcel<V, DE, UE, F>,
+    from: FixedVertexHandle,
+    to: FixedVertexHandle,
+    tests: &P,
+    lists: &mut CrossingLists,
+    work: &mut EdgeSet,
+)
+    requires free { IsFreeOfVertices (drawn (map V.place dcel.old.vertices) dcel.old.mesh) from to }
+    requires shape { IsMesh (map V.place dcel.old.vertices) (faces_of dcel.old.mesh)
+        (outer_of dcel.old.mesh) }
+    requires sites { All (P.sites tests.now) (map V.place dcel.old.vertices) }
+    requires lists { ListCrossing (map V.place dcel.old.vertices) dcel.old.mesh from to lists.old }
+    requires work { IsWorkList dcel.old work.old.items work.old.room }
+
+    ensures makes { MakesEdge (map V.place dcel.old.vertices) dcel.old dcel.new from to
+        work.old.items work.new.items }
+    ensures room { KeepRoom lists.old lists.new }
+    ensures capacity { work.new.room ≡ work.old.room }
+{
+    while let Some(edge) = next_turn(dcel, from, to, tests, lists) {
+        turn(dcel, edge, from, to, tests, lists, work);
     }
 }
 
@@ -136,9 +160,6 @@ pub fn make_edge<V: HasPosition, DE, UE, F, P: PlaneTests<V::Scalar>>(
     ensures room { KeepRoom lists.old lists.new }
     ensures capacity { work.new.room ≡ work.old.room }
 {
-    lists.list(dcel, from, to, tests);
-    while let Some(edge) = next_turn(dcel, from, to, tests, lists) {
-        turn(dcel, edge, from, to, tests, lists, work);
-    }
-    dcel.recall_invariant();
+    lists.list_piece(dcel, from, to, tests);
+    turn_listed(dcel, from, to, tests, lists, work);
 }

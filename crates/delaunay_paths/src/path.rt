@@ -19,7 +19,7 @@ pub(crate) fn is_same_vertex(one: FixedVertexHandle, other: FixedVertexHandle) -
 }
 
 // The vertex of an item, unless it is no vertex or this one.
-fn other_vertex<V, DE, UE, F>(
+pub(crate) fn other_vertex<V, DE, UE, F>(
     item: &Intersection<'_, V, DE, UE, F>,
     start: FixedVertexHandle,
 ) -> Option<FixedVertexHandle>

@@ -1,14 +1,41 @@
 //! The edges along the path between two vertices.
-ghost use Rattle.std.specs.Prelude.{◌<◌, ◌≤◌, length, map, All, vec_capacity};
+ghost use Rattle.std.specs.Prelude.{◌≡◌, ◌≢◌, ◌<◌, ◌≤◌};
+ghost use Rattle.std.specs.Prelude.{length, map, All, IfNone, IfSome, vec_capacity};
+ghost use Rattle.plane_tiling.specs.Local.{IsMesh};
+ghost use Rattle.plane_segments.specs.Constraints.{AreNextOn};
+ghost use Rattle.mesh_embedding.specs.Drawn.{faces_of, outer_of};
 ghost use Rattle.delaunay_legalization.specs.Shape.{IsTriangulated};
 ghost use Rattle.delaunay_legalization.specs.State.{state_of};
 ghost use Rattle.delaunay_paths.specs.PathEdges.{HasPath, LeadAlong};
 
-use crate::adding::next_piece;
 use crate::joined::edge_between;
+use crate::path::{is_same_vertex, next_on_path};
 use delaunay_core::math::PlaneTests;
 use delaunay_core::point::HasPosition;
 use half_edge_mesh::{Dcel, FixedDirectedEdgeHandle, FixedVertexHandle};
+
+// The vertex where the first piece of the path between two vertices ends, unless they are one.
+fn next_piece<V: HasPosition, DE, UE, F, P: PlaneTests<V::Scalar>>(
+    dcel: &Dcel<V, DE, UE, F>,
+    from: FixedVertexHandle,
+    to: FixedVertexHandle,
+    tests: &P,
+) -> Option<FixedVertexHandle>
+    requires from_in { from < length dcel.now.vertices }
+    requires to_in { to < length dcel.now.vertices }
+    requires shape { IsMesh (map V.place dcel.now.vertices) (faces_of dcel.now.mesh)
+        (outer_of dcel.now.mesh) }
+    requires sites { All (P.sites tests.now) (map V.place dcel.now.vertices) }
+    ensures end { IfNone result (from ≡ to) }
+    ensures apart { IfSome result (λ v. from ≢ to) }
+    ensures next { IfSome result (λ v. AreNextOn (map V.place dcel.now.vertices) from to from v) }
+{
+    if is_same_vertex(from, to) {
+        None
+    } else {
+        Some(next_on_path(dcel, from, to, tests))
+    }
+}
 
 /// The edges along the path between two vertices, in order, where each of its pieces is one. They
 /// replace what is in `edges`, which has room for as many as there are vertices.

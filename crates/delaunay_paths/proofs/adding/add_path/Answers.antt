@@ -20,38 +20,35 @@ loop-next-init g c =
       record { waiting = refl; unseen = refl },
     )
 
-pub make_edge-requires-clause-work : goal.make_edge-requires-clause-work
-make_edge-requires-clause-work g c =
+pub turn_listed-requires-clause-work : goal.turn_listed-requires-clause-work
+turn_listed-requires-clause-work g c =
     work_fits c.args.dcel.now c.loop-next.dcel c.args.work.now.items c.loop-next.work.items _ _
     c.loop-next.invariant.0.count c.requires.room.0 c.loop-next.invariant.2
     c.loop-next.invariant.1.edges
 
-pub make_edge-requires-clause-lists : goal.make_edge-requires-clause-lists
-make_edge-requires-clause-lists g c =
+pub turn_listed-requires-clause-lists : goal.turn_listed-requires-clause-lists
+turn_listed-requires-clause-lists g c = c.in-Some.ensures.piece.crossing
+
+pub list_piece-requires-clause-room : goal.list_piece-requires-clause-room
+list_piece-requires-clause-room g c =
     room_stays (length c.args.dcel.now.undirected) (length c.loop-next.dcel.undirected)
     c.args.lists.now c.loop-next.lists c.loop-next.invariant.3 c.loop-next.invariant.0.count
     c.requires.room.1
 
-pub next_piece-requires-clause-from_in : goal.next_piece-requires-clause-from_in
-next_piece-requires-clause-from_in g c =
+pub list_piece-requires-clause-ends : goal.list_piece-requires-clause-ends
+list_piece-requires-clause-ends g c =
     let m = g.M.ConstraintMarker in
-    let marked = g.met.M.ConstraintMarker.constraints_are_marked in
-    adding_at m.marks m.constraints marked g.V.HasPosition.place m.marked c.args.dcel.now
-    c.loop-next.dcel c.args.from
-    c.args.to c.loop-next.at c.requires.way.from c.requires.way.to c.loop-next.invariant.0
+    let marked = g.met.M.ConstraintMarker.constraints_are_marked in (
+      adding_at m.marks m.constraints marked g.V.HasPosition.place m.marked c.args.dcel.now
+          c.loop-next.dcel c.args.from c.args.to c.loop-next.at c.requires.way.from
+          c.requires.way.to c.loop-next.invariant.0,
+      adding_index m.marks m.constraints marked g.V.HasPosition.place m.marked c.args.dcel.now
+          c.loop-next.dcel c.args.from c.args.to c.loop-next.at c.requires.way.from
+          c.requires.way.to c.loop-next.invariant.0 c.args.to c.requires.way.to,
+    )
 
-pub next_piece-requires-clause-to_in : goal.next_piece-requires-clause-to_in
-next_piece-requires-clause-to_in g c =
-    let m = g.M.ConstraintMarker in
-    let marked = g.met.M.ConstraintMarker.constraints_are_marked in
-    adding_index m.marks m.constraints marked g.V.HasPosition.place m.marked c.args.dcel.now
-    c.loop-next.dcel
-    c.args.from c.args.to c.loop-next.at c.requires.way.from c.requires.way.to
-    c.loop-next.invariant.0 c.args.to
-    c.requires.way.to
-
-pub next_piece-requires-clause-shape : goal.next_piece-requires-clause-shape
-next_piece-requires-clause-shape g c =
+pub list_piece-requires-clause-shape : goal.list_piece-requires-clause-shape
+list_piece-requires-clause-shape g c =
     let m = g.M.ConstraintMarker in
     let marked = g.met.M.ConstraintMarker.constraints_are_marked in
     adding_shape m.marks m.constraints marked g.V.HasPosition.place m.marked c.args.dcel.now
@@ -59,8 +56,8 @@ next_piece-requires-clause-shape g c =
     c.args.from c.args.to c.loop-next.at c.requires.way.from c.requires.way.to
     c.loop-next.invariant.0
 
-pub next_piece-requires-clause-sites : goal.next_piece-requires-clause-sites
-next_piece-requires-clause-sites g c =
+pub list_piece-requires-clause-sites : goal.list_piece-requires-clause-sites
+list_piece-requires-clause-sites g c =
     let m = g.M.ConstraintMarker in
     let marked = g.met.M.ConstraintMarker.constraints_are_marked in
     adding_sites m.marks m.constraints marked g.V.HasPosition.place m.marked c.args.dcel.now
@@ -69,18 +66,18 @@ next_piece-requires-clause-sites g c =
     c.loop-next.invariant.0
     (g.P.PlaneTests.sites c.args.tests.now) c.requires.sites
 
-pub make_edge-requires-clause-free : goal.make_edge-requires-clause-free
-make_edge-requires-clause-free g c =
+pub turn_listed-requires-clause-free : goal.turn_listed-requires-clause-free
+turn_listed-requires-clause-free g c =
     let m = g.M.ConstraintMarker in
     let marked = g.met.M.ConstraintMarker.constraints_are_marked in
     adding_free m.marks m.constraints marked g.V.HasPosition.place m.marked c.args.dcel.now
     c.loop-next.dcel c.args.from
     c.args.to c.loop-next.at c.requires.way.from c.requires.way.to c.loop-next.invariant.0
     c.in-Some.next
-    c.in-Some.ensures.apart c.in-Some.ensures.next
+    c.in-Some.ensures.apart c.in-Some.ensures.piece.next
 
-pub make_edge-requires-clause-shape : goal.make_edge-requires-clause-shape
-make_edge-requires-clause-shape g c =
+pub turn_listed-requires-clause-shape : goal.turn_listed-requires-clause-shape
+turn_listed-requires-clause-shape g c =
     let m = g.M.ConstraintMarker in
     let marked = g.met.M.ConstraintMarker.constraints_are_marked in
     adding_shape m.marks m.constraints marked g.V.HasPosition.place m.marked c.args.dcel.now
@@ -88,8 +85,8 @@ make_edge-requires-clause-shape g c =
     c.args.from c.args.to c.loop-next.at c.requires.way.from c.requires.way.to
     c.loop-next.invariant.0
 
-pub make_edge-requires-clause-sites : goal.make_edge-requires-clause-sites
-make_edge-requires-clause-sites g c =
+pub turn_listed-requires-clause-sites : goal.turn_listed-requires-clause-sites
+turn_listed-requires-clause-sites g c =
     let m = g.M.ConstraintMarker in
     let marked = g.met.M.ConstraintMarker.constraints_are_marked in
     adding_sites m.marks m.constraints marked g.V.HasPosition.place m.marked c.args.dcel.now
@@ -99,7 +96,7 @@ make_edge-requires-clause-sites g c =
     (g.P.PlaneTests.sites c.args.tests.now) c.requires.sites
 
 pub mark_between-requires-clause-joined : goal.mark_between-requires-clause-joined
-mark_between-requires-clause-joined g c = c.make_edge.ensures.makes.edge
+mark_between-requires-clause-joined g c = c.turn_listed.ensures.makes.edge
 
 pub loop-next-preserved : goal.loop-next-preserved
 loop-next-preserved g c =
@@ -110,31 +107,32 @@ loop-next-preserved g c =
     c.loop-next.dcel
     c.args.from c.args.to c.loop-next.at c.requires.way.from c.requires.way.to
     c.loop-next.invariant.0 c.in-Some.next
-    c.in-Some.ensures.apart c.in-Some.ensures.next c.requires.way.free in
+    c.in-Some.ensures.apart c.in-Some.ensures.piece.next c.requires.way.free in
     let piece =
     piece_made m.marks m.constraints marked g.V.HasPosition.place m.marked c.loop-next.dcel
-    c.make_edge.new.dcel
+    c.turn_listed.new.dcel
     c.mark_between.new.dcel c.loop-next.at c.in-Some.next c.loop-next.work.items
-    c.make_edge.new.work.items
-    c.make_edge.ensures.makes c.mark_between.ensures.whole c.mark_between.ensures.marks clear in (
+    c.turn_listed.new.work.items
+    c.turn_listed.ensures.makes c.mark_between.ensures.whole c.mark_between.ensures.marks clear in (
       adding_to_goes_on m.marks m.constraints marked g.V.HasPosition.place m.marked c.args.dcel.now
           c.loop-next.dcel
           c.args.from c.args.to c.loop-next.at c.requires.way.from c.requires.way.to
           c.loop-next.invariant.0
-          c.in-Some.next c.in-Some.ensures.apart c.in-Some.ensures.next
+          c.in-Some.next c.in-Some.ensures.apart c.in-Some.ensures.piece.next
           (λ x. g.met.M.ConstraintMarker.marked_has_mark x c.requires.can_mark)
-          c.mark_between.new.dcel c.loop-next.work.items c.make_edge.new.work.items piece,
+          c.mark_between.new.dcel c.loop-next.work.items c.turn_listed.new.work.items piece,
       more_is_left g.V.HasPosition.place m.marks m.marked m.constraints c.args.dcel.now
           c.loop-next.dcel
           c.mark_between.new.dcel c.loop-next.at c.in-Some.next c.args.work.now.items
-          c.loop-next.work.items c.make_edge.new.work.items
+          c.loop-next.work.items c.turn_listed.new.work.items
           (same m.marks m.constraints marked g.V.HasPosition.place m.marked c.args.dcel.now
           c.loop-next.dcel c.args.from
           c.args.to c.loop-next.at c.requires.way.from c.requires.way.to c.loop-next.invariant.0)
           c.loop-next.invariant.1 piece,
-      c.make_edge.ensures.capacity ∙ c.loop-next.invariant.2,
+      c.turn_listed.ensures.capacity ∙ c.loop-next.invariant.2,
       room_on c.args.lists.now c.loop-next.lists _ c.loop-next.invariant.3
-          c.make_edge.ensures.room,
+          (room_on c.loop-next.lists c.list_piece.new.self _ c.list_piece.ensures.room
+          c.turn_listed.ensures.room),
     )
 
 pub loop-next-smaller : goal.loop-next-smaller
@@ -145,7 +143,7 @@ loop-next-smaller g c =
     c.loop-next.dcel
     c.args.from c.args.to c.loop-next.at c.requires.way.from c.requires.way.to
     c.loop-next.invariant.0
-    c.in-Some.next c.in-Some.ensures.apart c.in-Some.ensures.next
+    c.in-Some.next c.in-Some.ensures.apart c.in-Some.ensures.piece.next
 
 pub returns-clause-adds : goal.returns-clause-adds
 returns-clause-adds g c =

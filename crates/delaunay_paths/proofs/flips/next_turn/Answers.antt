@@ -27,9 +27,12 @@ returns-clause-some g c =
 pub returns-clause-none : goal.returns-clause-none
 returns-clause-none g c =
     none_has c.seek-2.result c.seek-2.ensures.crossing c.seek-2.ensures.seen
-    (λ crossing seen. none_left g.V.HasPosition.place c.args.dcel.now
-    c.recall_invariant.ensures.whole c.args.from c.args.to c.requires.free c.requires.shape _ _
-    c.see_again.ensures.none crossing seen)
+    (λ crossing seen. record {
+      whole = c.recall_invariant.ensures.whole;
+      edge = none_left g.V.HasPosition.place c.args.dcel.now c.recall_invariant.ensures.whole
+          c.args.from c.args.to c.requires.free c.requires.shape _ _ c.see_again.ensures.none
+          crossing seen;
+    })
 
 pub returns-clause-room : goal.returns-clause-room
 returns-clause-room g c =

@@ -9,29 +9,29 @@ use Rattle.delaunay_paths.proofs.flips.turn.Goals as goal
 
 pub way_made-requires-clause-within : goal.way_made-requires-clause-within
 way_made-requires-clause-within g c = turn_within g.V.HasPosition.place c.args.dcel.now
-    c.recall_invariant.ensures.whole c.args.from c.args.to c.args.edge c.args.lists.now
+    c.requires.turning.whole c.args.from c.args.to c.args.edge c.args.lists.now
     c.requires.turning
 
 pub way_made-requires-clause-from_in : goal.way_made-requires-clause-from_in
 way_made-requires-clause-from_in g c = turn_from_in g.V.HasPosition.place c.args.dcel.now
-    c.recall_invariant.ensures.whole c.args.from c.args.to c.args.edge c.args.lists.now
+    c.requires.turning.whole c.args.from c.args.to c.args.edge c.args.lists.now
     c.requires.turning
 
 pub way_made-requires-clause-to_in : goal.way_made-requires-clause-to_in
 way_made-requires-clause-to_in g c = turn_to_in g.V.HasPosition.place c.args.dcel.now
-    c.recall_invariant.ensures.whole c.args.from c.args.to c.args.edge c.args.lists.now
+    c.requires.turning.whole c.args.from c.args.to c.args.edge c.args.lists.now
     c.requires.turning
 
 -- ---- the edge that is made crosses
 pub flip_cw-requires-clause-between : goal.flip_cw-requires-clause-between
 flip_cw-requires-clause-between g c = between_faces _ _
-    (turn_can g.V.HasPosition.place c.args.dcel.now c.recall_invariant.ensures.whole c.args.from
+    (turn_can g.V.HasPosition.place c.args.dcel.now c.requires.turning.whole c.args.from
     c.args.to c.args.edge c.args.lists.now c.requires.turning c.as_undirected-whole.result
     c.as_undirected-whole.ensures).0
 
 pub flip_cw-requires-clause-corners : goal.flip_cw-requires-clause-corners
 flip_cw-requires-clause-corners g c =
-    (turn_can g.V.HasPosition.place c.args.dcel.now c.recall_invariant.ensures.whole c.args.from
+    (turn_can g.V.HasPosition.place c.args.dcel.now c.requires.turning.whole c.args.from
     c.args.to c.args.edge c.args.lists.now c.requires.turning c.as_undirected-whole.result
     c.as_undirected-whole.ensures).1
 
@@ -43,16 +43,16 @@ push_reserved-requires g c =
 
 pub returns-in-Some-clause-turns : goal.returns-in-Some-clause-turns
 returns-in-Some-clause-turns g c =
-    turned_across g.V.HasPosition.place c.args.dcel.now c.recall_invariant.ensures.whole
+    turned_across g.V.HasPosition.place c.args.dcel.now c.requires.turning.whole
     c.args.from c.args.to c.args.edge c.args.lists.now c.requires.turning
     c.as_undirected-whole.result c.as_undirected-whole.ensures c.flip_cw.new.self
     c.flip_cw.ensures.contents c.flip_cw.ensures.mesh c.flip_cw.ensures.triangles
-    c.flip_cw.ensures.outer c.in-Some.way c.in-Some.ensures c.recall_invariant-in-Some.ensures.whole
+    c.flip_cw.ensures.outer c.in-Some.way c.in-Some.ensures c.recall_invariant.ensures.whole
     c.args.work.now.items c.requires.work.edges
 
 pub returns-in-Some-clause-lists : goal.returns-in-Some-clause-lists
 returns-in-Some-clause-lists g c =
-    made_waits g.V.HasPosition.place c.args.dcel.now c.recall_invariant.ensures.whole
+    made_waits g.V.HasPosition.place c.args.dcel.now c.requires.turning.whole
     c.args.from c.args.to c.args.edge c.args.lists.now c.requires.turning
     c.as_undirected-whole.result c.as_undirected-whole.ensures c.flip_cw.new.self
     c.flip_cw.ensures.contents c.flip_cw.ensures.mesh c.flip_cw.ensures.triangles
@@ -63,13 +63,13 @@ returns-in-Some-clause-lists g c =
 -- ---- it does not
 pub flip_cw-requires-in-None-clause-between : goal.flip_cw-requires-in-None-clause-between
 flip_cw-requires-in-None-clause-between g c = between_faces _ _
-    (turn_can g.V.HasPosition.place c.args.dcel.now c.recall_invariant.ensures.whole c.args.from
+    (turn_can g.V.HasPosition.place c.args.dcel.now c.requires.turning.whole c.args.from
     c.args.to c.args.edge c.args.lists.now c.requires.turning c.as_undirected-whole.result
     c.as_undirected-whole.ensures).0
 
 pub flip_cw-requires-in-None-clause-corners : goal.flip_cw-requires-in-None-clause-corners
 flip_cw-requires-in-None-clause-corners g c =
-    (turn_can g.V.HasPosition.place c.args.dcel.now c.recall_invariant.ensures.whole c.args.from
+    (turn_can g.V.HasPosition.place c.args.dcel.now c.requires.turning.whole c.args.from
     c.args.to c.args.edge c.args.lists.now c.requires.turning c.as_undirected-whole.result
     c.as_undirected-whole.ensures).1
 
@@ -78,7 +78,7 @@ step_back-requires g c = held_with_room _ _ _ _ _ c.args.lists.now c.requires.tu
 
 pub returns-in-None-clause-turns : goal.returns-in-None-clause-turns
 returns-in-None-clause-turns g c =
-    turned_away g.V.HasPosition.place c.args.dcel.now c.recall_invariant.ensures.whole
+    turned_away g.V.HasPosition.place c.args.dcel.now c.requires.turning.whole
     c.args.from c.args.to c.args.edge c.args.lists.now c.requires.turning
     c.as_undirected-whole.result c.as_undirected-whole.ensures c.flip_cw-in-None.new.self
     c.flip_cw-in-None.ensures.contents c.flip_cw-in-None.ensures.mesh
@@ -91,7 +91,7 @@ returns-in-None-clause-turns g c =
 
 pub returns-in-None-clause-lists : goal.returns-in-None-clause-lists
 returns-in-None-clause-lists g c =
-    others_cross g.V.HasPosition.place c.args.dcel.now c.recall_invariant.ensures.whole
+    others_cross g.V.HasPosition.place c.args.dcel.now c.requires.turning.whole
     c.args.from c.args.to c.args.edge c.args.lists.now c.requires.turning
     c.as_undirected-whole.result c.as_undirected-whole.ensures c.flip_cw-in-None.new.self
     c.flip_cw-in-None.ensures.contents c.flip_cw-in-None.ensures.mesh

@@ -3,7 +3,7 @@ use Rattle.plane_segments.specs.Measure.{crossing_sum}
 use Rattle.mesh_embedding.specs.Drawn.{faces_of}
 use Rattle.delaunay_paths.specs.Lists.{KeepRoom, ListCrossing}
 use Rattle.delaunay_paths.proofs.Making.{IsMaking}
-use Rattle.delaunay_paths.proofs.flips.make_edge.Given as goal
+use Rattle.delaunay_paths.proofs.flips.turn_listed.Given as goal
 
 abbrev pub invariant-loop-edge : goal.invariant-loop-edge
 invariant-loop-edge g l = IsMaking g.V.HasPosition.place l.fn.dcel l.dcel l.from l.to
