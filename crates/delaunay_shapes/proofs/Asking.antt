@@ -1,23 +1,26 @@
 -- Lists of what has a point in a shape, as they grow.
--- Notions: IsFilteredTo, IsSpreadTo, AreAskedTo; below_other, filter_finds, filter_passes,
--- none_asked, asked_inside, asked_outside, goes_on_twice, asked_both, spread_more, spread_ends,
--- ask_first, ask_more, ask_last.
-use Rattle.std.proofs.Common.{◌≡◌, ◌↔◌, ◌+◌, ◌<◌, ◌≤◌, [], ◌∷◌, ◌++◌}
+-- Notions: IsFilteredTo, AreAskedTo; below_other, filter_finds, filter_passes, none_asked,
+-- rev_half, undirected_more, asked_inside, asked_outside, asked_before, goes_on_twice, asked_both,
+-- ask_first,
+-- ask_more, ask_last.
+use Rattle.std.proofs.Common.{◌≡◌, ◌⊎◌, ◌↔◌, ◌+◌, ◌<◌, ◌≤◌, [], ◌∷◌, ◌++◌}
 use Rattle.std.proofs.Common.{ℕ, List, length, get_or, replicate, set, refl}
-use Rattle.std.proofs.Common.{sym, ap, ◌∙◌, subst, arith, append_assoc, length-append, ◌*◌, ◌/◌}
+use Rattle.std.proofs.Common.{sym, ap, ◌∙◌, subst, arith, append_assoc, ◌/◌}
 use mathlib.Core.Logic.{inl, inr, ◌≢◌}
 use mathlib.Core.Bool.{Bool, true, false}
 use Rattle.std.specs.Prelude.{Contains}
 use Rattle.std.proofs.lemmas.Bool.{cases_eq}
-use Rattle.std.proofs.lemmas.List.{get_or-set_same, get_or-set_other, get_or_append_left}
+use Rattle.std.proofs.lemmas.Grind.{common_steps}
+use Rattle.std.proofs.lemmas.List.{get_or-set_same, get_or-set_other, map-append}
 use Rattle.std.proofs.lemmas.List.{length-set, length-replicate, get_or-replicate, append-nil}
+use Rattle.std.proofs.lemmas.List.Elements.{Contains-append_cases}
 use Rattle.half_edge_mesh.specs.Mesh.{Mesh, next, prev, rev}
 use Rattle.plane_tiling.proofs.Totals.{Contains-none, get_or_any}
 use Rattle.plane_edits.proofs.LocalMesh.Changes.{IsOnce, once_none}
 use Rattle.mesh_embedding.proofs.WorkLists.{contains_last, contains_before, last_or_before}
 use Rattle.mesh_embedding.proofs.WorkLists.{once_after}
 use Rattle.delaunay_shapes.specs.Flood.{IsAsked, IsFlooding, Spreads, Asks, AsksBeside}
-use Rattle.delaunay_shapes.specs.Flood.{AreAskedBeside, IsSpread}
+use Rattle.delaunay_shapes.specs.InShape.{undirected_of}
 
 -- ---- a filter
 -- of the numbers below i those that are inside, each once
@@ -94,6 +97,17 @@ none_asked Inside count n asked found a e f =
     })))
 
 -- ---- a question of a flood
+-- both directions have one undirected edge
+pub rev_half : (h : ℕ) → rev h / 2 ≡ h / 2
+rev_half h = grind (arith, common_steps)
+
+-- with one more directed edge there is its undirected edge more
+pub undirected_more : (found found' : List ℕ) (h k : ℕ) → found' ≡ found ++ h ∷ [] → h / 2 ≡ k
+    → undirected_of found' ≡ undirected_of found ++ k ∷ []
+undirected_more found found' h k grown e = ap undirected_of grown
+    ∙ map-append (λ (x : ℕ). x / 2) found (h ∷ [])
+    ∙ ap (λ (x : ℕ). undirected_of found ++ x ∷ []) e
+
 module _ (Inside : ℕ → Type 0) (count : ℕ) where
   marks_more : (asked : List Bool) (k j : ℕ) → k < length asked → IsAsked asked j
       → IsAsked (set asked k true) j
@@ -106,68 +120,102 @@ module _ (Inside : ℕ → Type 0) (count : ℕ) where
       → IsAsked asked j
   marks_other asked k j n h = sym (get_or-set_other asked k j true false n) ∙ h
 
-  -- asked of now, and inside, it is found
-  pub asked_inside : (asked asked' : List Bool) (found found' : List ℕ) (k : ℕ)
-      → IsFlooding Inside count asked found → k < count → ¬ IsAsked asked k → Inside k → asked'
-      ≡ set asked k true → found' ≡ found ++ k ∷ [] → Asks Inside count asked asked' found found' k
-  asked_inside asked asked' found found' k f w new inside e grown =
+  -- with one more that is inside
+  with_inside : (asked : List Bool) (found : List ℕ) (k : ℕ) → IsFlooding Inside count asked found
+      → k < count → ¬ IsAsked asked k → Inside k
+      → IsFlooding Inside count (set asked k true) (found ++ k ∷ [])
+  with_inside asked found k f w new inside =
       let here : k < length asked = let l = f.marks in omega (arith, l, w) in
-      subst (λ a. Asks Inside count asked a found found' k) (sym e)
-      (subst (λ xs. Asks Inside count asked (set asked k true) found xs k) (sym grown) (record {
-        flooding = record {
-          marks = length-set asked k true ∙ f.marks;
-          once = once_after found k f.once (λ c. new (f.marked k c));
-          within = λ j c. elim (last_or_before found k j c) as
-              (λ _. j < count)
-              [ inl e ↦ subst (λ (x : ℕ). x < count) (sym e) w | inr d ↦ f.within j d ];
-          inside = λ j c. elim (last_or_before found k j c) as (λ _. Inside j) [
-            | inl e ↦ subst Inside (sym e) inside
-            | inr d ↦ f.inside j d
-          ];
-          marked = λ j c. elim (last_or_before found k j c) as
-              (λ _. IsAsked (set asked k true) j) [
-                | inl e ↦ subst (IsAsked (set asked k true)) (sym e)
-                    (get_or-set_same asked k true false here)
-                | inr d ↦ marks_more asked k j here (f.marked j d)
-              ];
-          complete = λ j h m p. elim (cases_eq j k) as (λ _. Contains (found ++ k ∷ []) j) [
-            | inl e ↦ subst (Contains (found ++ k ∷ [])) (sym e) (contains_last found k)
-            | inr n ↦ contains_before found k j (f.complete j h (marks_other asked k j n m) p)
-          ];
+      record {
+        marks = length-set asked k true ∙ f.marks;
+        once = once_after found k f.once (λ c. new (f.marked k c));
+        within = λ j c. elim (last_or_before found k j c) as
+            (λ _. j < count)
+            [ inl e ↦ subst (λ (x : ℕ). x < count) (sym e) w | inr d ↦ f.within j d ];
+        inside = λ j c. elim (last_or_before found k j c) as (λ _. Inside j) [
+          | inl e ↦ subst Inside (sym e) inside
+          | inr d ↦ f.inside j d
+        ];
+        marked = λ j c. elim (last_or_before found k j c) as
+            (λ _. IsAsked (set asked k true) j) [
+              | inl e ↦ subst (IsAsked (set asked k true)) (sym e)
+                  (get_or-set_same asked k true false here)
+              | inr d ↦ marks_more asked k j here (f.marked j d)
+            ];
+        complete = λ j h m p. elim (cases_eq j k) as (λ _. Contains (found ++ k ∷ []) j) [
+          | inl e ↦ subst (Contains (found ++ k ∷ [])) (sym e) (contains_last found k)
+          | inr n ↦ contains_before found k j (f.complete j h (marks_other asked k j n m) p)
+        ];
+      }
+
+  -- asked of now, and inside, its other side is found
+  pub asked_inside : (asked asked' : List Bool) (found found' : List ℕ) (h : ℕ)
+      → IsFlooding Inside count asked (undirected_of found) → h / 2 < count
+      → ¬ IsAsked asked (h / 2) → Inside (h / 2) → asked' ≡ set asked (h / 2) true
+      → found' ≡ found ++ rev h ∷ []
+      → Asks Inside count asked asked' found found' h
+  asked_inside asked asked' found found' h f w new inside e grown =
+      let here : h / 2 < length asked = let l = f.marks in omega (arith, l, w) in
+      subst (λ a. Asks Inside count asked a found found' h) (sym e)
+      (subst (λ xs. Asks Inside count asked (set asked (h / 2) true) found xs h) (sym grown)
+      (record {
+        flooding = subst (IsFlooding Inside count (set asked (h / 2) true))
+            (sym (undirected_more found (found ++ rev h ∷ []) (rev h) (h / 2) refl (rev_half h)))
+            (with_inside asked (undirected_of found) (h / 2) f w new inside);
+        on = record {
+          kept = λ j c. marks_more asked (h / 2) j here c;
+          more = rev h ∷ [];
+          grown = refl;
         };
-        on = record { kept = λ j h. marks_more asked k j here h; more = k ∷ []; grown = refl };
-        there = get_or-set_same asked k true false here;
+        there = get_or-set_same asked (h / 2) true false here;
+        only = λ g c. elim (last_or_before [] (rev h) g c) as (λ _. g ≡ rev h) [
+          | inl d ↦ d
+          | inr d ↦ absurd (Contains-none g d)
+        ];
       }))
 
   -- asked of now, and not inside, it is not found
-  pub asked_outside : (asked asked' : List Bool) (found : List ℕ) (k : ℕ)
-      → IsFlooding Inside count asked found → k < count → ¬ Inside k → asked' ≡ set asked k true
-      → Asks Inside count asked asked' found found k
-  asked_outside asked asked' found k f w out e =
-      let here : k < length asked = let l = f.marks in omega (arith, l, w) in
-      subst (λ a. Asks Inside count asked a found found k) (sym e) (record {
+  pub asked_outside : (asked asked' : List Bool) (found : List ℕ) (h : ℕ)
+      → IsFlooding Inside count asked (undirected_of found) → h / 2 < count → ¬ Inside (h / 2)
+      → asked' ≡ set asked (h / 2) true → Asks Inside count asked asked' found found h
+  asked_outside asked asked' found h f w out e =
+      let here : h / 2 < length asked = let l = f.marks in omega (arith, l, w) in
+      subst (λ a. Asks Inside count asked a found found h) (sym e) (record {
         flooding = record {
-          marks = length-set asked k true ∙ f.marks;
+          marks = length-set asked (h / 2) true ∙ f.marks;
           once = f.once;
           within = f.within;
           inside = f.inside;
-          marked = λ j c. marks_more asked k j here (f.marked j c);
-          complete = λ j h m p. elim (cases_eq j k) as (λ _. Contains found j) [
-            | inl e ↦ absurd (out (subst Inside e p))
-            | inr n ↦ f.complete j h (marks_other asked k j n m) p
-          ];
+          marked = λ j c. marks_more asked (h / 2) j here (f.marked j c);
+          complete = λ j b m p.
+              elim (cases_eq j (h / 2)) as (λ _. Contains (undirected_of found) j) [
+                | inl e ↦ absurd (out (subst Inside e p))
+                | inr n ↦ f.complete j b (marks_other asked (h / 2) j n m) p
+              ];
         };
         on = record {
-          kept = λ j h. marks_more asked k j here h;
+          kept = λ j c. marks_more asked (h / 2) j here c;
           more = [];
           grown = sym (append-nil found);
         };
-        there = get_or-set_same asked k true false here;
+        there = get_or-set_same asked (h / 2) true false here;
+        only = λ g c. absurd (Contains-none g c);
       })
+
+  -- asked of before, nothing changes
+  pub asked_before : (asked : List Bool) (found : List ℕ) (h : ℕ)
+      → IsFlooding Inside count asked (undirected_of found) → IsAsked asked (h / 2)
+      → Asks Inside count asked asked found found h
+  asked_before asked found h f there = record {
+    flooding = f;
+    on = record { kept = λ j c. c; more = []; grown = sym (append-nil found) };
+    there = there;
+    only = λ g c. absurd (Contains-none g c);
+  }
 
 -- ---- questions one after the other
 -- a flood that goes on twice has gone on
-pub goes_on_twice : (asked mid asked' : List Bool) (found more found' : List ℕ)
+abbrev pub goes_on_twice : (asked mid asked' : List Bool) (found more found' : List ℕ)
     → Spreads asked mid found more → Spreads mid asked' more found'
     → Spreads asked asked' found found'
 goes_on_twice asked mid asked' found more found' a b = record {
@@ -176,102 +224,36 @@ goes_on_twice asked mid asked' found more found' a b = record {
   grown = b.grown ∙ ap (λ xs. xs ++ b.more) a.grown ∙ append_assoc found a.more b.more;
 }
 
--- the edges beside h that a flood has asked of are asked of still when it goes on
-stays_beside : (m : Mesh) (asked asked' : List Bool) (found found' : List ℕ) (h : ℕ) →
-    Spreads asked asked' found found' → AreAskedBeside m asked h → AreAskedBeside m asked' h
-stays_beside m asked asked' found found' h on b =
-    record { after = on.kept (next m h / 2) b.after; before = on.kept (prev m h / 2) b.before }
-
 -- both edges beside an edge, one after the other
 pub asked_both : (Inside : ℕ → Type 0) (m : Mesh) (count : ℕ) (asked mid asked' : List Bool)
-    (found more found' : List ℕ) (h after before : ℕ) → after ≡ next m h / 2 → before ≡ prev m h / 2
+    (found more found' : List ℕ) (h after before : ℕ) → after ≡ next m h → before ≡ prev m h
     → Asks Inside count asked mid found more after → Asks Inside count mid asked' more found' before
     → AsksBeside Inside m count asked asked' found found' h
 asked_both Inside m count asked mid asked' found more found' h after before e f a b = record {
   flooding = b.flooding;
   on = goes_on_twice asked mid asked' found more found' a.on b.on;
-  beside =
-      record {
-        after = subst (IsAsked asked') e (b.on.kept after a.there);
-        before = subst (IsAsked asked') f b.there;
-      };
-}
-
--- ---- a flood that has spread from the first i edges
--- the edges beside both directions of each of the first i edges found were asked of
-pub record IsSpreadTo (m : Mesh) (asked : List Bool) (found : List ℕ) (i : ℕ) : Type 0 where
-  pub bound : i ≤ length found
-  pub left : (j : ℕ) → j < i → AreAskedBeside m asked (2 * get_or found j 0)
-  pub right : (j : ℕ) → j < i → AreAskedBeside m asked (rev (2 * get_or found j 0))
-
-kept_place : (asked asked' : List Bool) (found found' : List ℕ) (j : ℕ)
-    → Spreads asked asked' found found' → j < length found → get_or found' j 0 ≡ get_or found j 0
-kept_place asked asked' found found' j on h =
-    ap (λ xs. get_or xs j 0) on.grown ∙ get_or_append_left found on.more 0 j h
-
--- a flood that asks beside both directions of the next edge found has spread from one edge more
-pub spread_more : (Inside : ℕ → Type 0) (m : Mesh) (count : ℕ) (asked mid asked' : List Bool)
-    (found more found' : List ℕ) (i d : ℕ) → IsSpreadTo m asked found i → i < length found
-    → AsksBeside Inside m count asked mid found more (2 * get_or found i d)
-    → AsksBeside Inside m count mid asked' more found' (rev (2 * get_or found i d))
-    → IsSpreadTo m asked' found' (i + 1)
-spread_more Inside m count asked mid asked' found more found' i d s here a b = record {
-  bound = let l = ap length on.grown ∙ length-append found on.more in omega (arith, l, here);
-  left = λ j h. elim (cases_eq j i) as (λ _. AreAskedBeside m asked' (2 * get_or found' j 0)) [
-    | inl e ↦ subst (λ k. AreAskedBeside m asked' (2 * k))
-        (sym (place j (within j h) ∙ ap (λ k. get_or found k 0) e ∙ same))
-        (stays_beside m mid asked' more found' (2 * get_or found i d) b.on a.beside)
-    | inr n ↦ subst (λ k. AreAskedBeside m asked' (2 * k)) (sym (place j (within j h)))
-        (stays_beside m asked asked' found found' (2 * get_or found j 0) on
-        (s.left j (before j h n)))
-  ];
-  right =
-      λ j h. elim (cases_eq j i) as (λ _. AreAskedBeside m asked' (rev (2 * get_or found' j 0))) [
-        | inl e ↦ subst (λ k. AreAskedBeside m asked' (rev (2 * k)))
-            (sym (place j (within j h) ∙ ap (λ k. get_or found k 0) e ∙ same)) b.beside
-        | inr n ↦ subst (λ k. AreAskedBeside m asked' (rev (2 * k))) (sym (place j (within j h)))
-            (stays_beside m asked asked' found found' (rev (2 * get_or found j 0)) on
-            (s.right j (before j h n)))
+  beside = record {
+    after = subst (λ (x : ℕ). IsAsked asked' (x / 2)) e (b.on.kept (after / 2) a.there);
+    before = subst (λ (x : ℕ). IsAsked asked' (x / 2)) f b.there;
+  };
+  only = λ g c. elim (Contains-append_cases a.on.more b.on.more g c) as
+      (λ _. (g ≡ rev (next m h)) ⊎ (g ≡ rev (prev m h))) [
+        | inl d ↦ inl (a.only g d ∙ ap rev e)
+        | inr d ↦ inr (b.only g d ∙ ap rev f)
       ];
-}
-  where
-    on : Spreads asked asked' found found'
-    on = goes_on_twice asked mid asked' found more found' a.on b.on
-
-    same : get_or found i 0 ≡ get_or found i d
-    same = get_or_any found i 0 d here
-
-    within : (j : ℕ) → j < i + 1 → j < length found
-    within j h = omega (arith, h, here)
-
-    before : (j : ℕ) → j < i + 1 → j ≢ i → j < i
-    before j h n = omega (arith, h, n)
-
-    place : (j : ℕ) → j < length found → get_or found' j 0 ≡ get_or found j 0
-    place j h = kept_place asked asked' found found' j on h
-
--- a flood that has spread from the first i edges found, where these are all, has spread from each
-pub spread_ends : (m : Mesh) (asked : List Bool) (found : List ℕ) (i : ℕ)
-    → IsSpreadTo m asked found i → length found ≤ i → IsSpread m asked found
-spread_ends m asked found i s last = record {
-  left = λ k c. let w = c.1 in
-      subst (λ x. AreAskedBeside m asked (2 * x)) (get_or_any found c.0 0 k c.1 ∙ c.2)
-      (s.left c.0 (omega (arith, w, last)));
-  right = λ k c. let w = c.1 in
-      subst (λ x. AreAskedBeside m asked (rev (2 * x))) (get_or_any found c.0 0 k c.1 ∙ c.2)
-      (s.right c.0 (omega (arith, w, last)));
 }
 
 -- ---- one after the other, of a list
 -- the flood has asked of the first i of the starts
 pub record AreAskedTo (Inside : ℕ → Type 0) (count : ℕ) (asked : List Bool) (found starts : List ℕ)
     (i : ℕ) : Type 0 where
-  pub flooding : IsFlooding Inside count asked found
+  pub flooding : IsFlooding Inside count asked (undirected_of found)
   pub all : (j : ℕ) → j < i → IsAsked asked (get_or starts j 0)
 
 -- before the first question none of the starts needs an answer
 pub ask_first : (Inside : ℕ → Type 0) (count : ℕ) (asked : List Bool) (found starts : List ℕ) →
-    IsFlooding Inside count asked found → AreAskedTo Inside count asked found starts 0
+    IsFlooding Inside count asked (undirected_of found)
+    → AreAskedTo Inside count asked found starts 0
 ask_first Inside count asked found starts f =
     record { flooding = f; all = λ j h. absurd (never j h) }
   where
@@ -280,15 +262,15 @@ ask_first Inside count asked found starts f =
 
 -- once one more of the starts is asked of, one more has its answer
 pub ask_more : (Inside : ℕ → Type 0) (count : ℕ) (asked asked' : List Bool)
-    (found found' starts : List ℕ) (i k d : ℕ) → AreAskedTo Inside count asked found starts i
-    → k ≡ get_or starts i d → i < length starts → Asks Inside count asked asked' found found' k
+    (found found' starts : List ℕ) (i h d : ℕ) → AreAskedTo Inside count asked found starts i
+    → h / 2 ≡ get_or starts i d → i < length starts → Asks Inside count asked asked' found found' h
     → AreAskedTo Inside count asked' found' starts (i + 1)
-ask_more Inside count asked asked' found found' starts i k d s is here a = record {
+ask_more Inside count asked asked' found found' starts i h d s is here a = record {
   flooding = a.flooding;
-  all = λ j h. elim (cases_eq j i) as (λ _. IsAsked asked' (get_or starts j 0)) [
+  all = λ j w. elim (cases_eq j i) as (λ _. IsAsked asked' (get_or starts j 0)) [
     | inl e ↦ subst (λ (x : ℕ). IsAsked asked' (get_or starts x 0)) (sym e)
         (subst (IsAsked asked') (is ∙ get_or_any starts i d 0 here) a.there)
-    | inr n ↦ a.on.kept (get_or starts j 0) (s.all j (below_other j i h n))
+    | inr n ↦ a.on.kept (get_or starts j 0) (s.all j (below_other j i w n))
   ];
 }
 

@@ -1,6 +1,6 @@
 -- A flood over a mesh that has spread is a flood round the triangulation, and has each edge in its
 -- region.
--- Lemmas: half_of_even, half_of_rev, tiles, below_half, to_half, from_half, half_by_ends,
+-- Notions: GoesOn; half_of_even, half_of_rev, tiles, below_half, to_half, from_half, half_by_ends,
 -- pair_edge, joined_half, half_joined, joined_by_ends, flooded_around, spread_finds_all.
 use Rattle.std.proofs.Common.{◌≡◌, ◌⊎◌, ◌*◌, ◌/◌, ◌<◌, ◌∙◌}
 use Rattle.std.proofs.Common.{ℕ, List, length, refl, sym, ap, subst, arith, eq-eqb}
@@ -9,8 +9,9 @@ use mathlib.Core.Bool.{Bool}
 use Rattle.std.specs.Prelude.{Contains, ◌==◌}
 use Rattle.std.proofs.lemmas.Bool.{cases_eq, eqb-true}
 use Rattle.std.proofs.lemmas.Grind.{common_steps}
-use Rattle.half_edge_mesh.specs.Mesh.{Mesh, origin, next, prev, rev, IsValidMesh, IsClosed}
-use Rattle.half_edge_links.proofs.Lists.Rev.{rev-rev, rev_within}
+use Rattle.half_edge_mesh.specs.Mesh.{Mesh, origin, next, prev, face, rev}
+use Rattle.half_edge_mesh.specs.Mesh.{IsValidMesh, IsClosed, IsInnerEdge}
+use Rattle.half_edge_links.proofs.Lists.Rev.{rev-rev, rev_same, rev_within}
 use Rattle.plane.specs.Fraction.{Point, Fraction}
 use Rattle.plane.specs.Pairs.{Joins}
 use Rattle.plane.specs.Shape.{IsEdgeIn}
@@ -31,9 +32,10 @@ use Rattle.mesh_embedding.proofs.MeshLegal.{own_indexes}
 use Rattle.mesh_embedding.proofs.LineNeighbours.{two_neighbours}
 use Rattle.mesh_embedding.proofs.WorkLists.{contains_map, contains_map_from}
 use Rattle.delaunay_shapes.specs.Known.{point_at}
-use Rattle.delaunay_shapes.specs.InShape.{IsEdgeInShape, AreEdgesInShape}
+use Rattle.delaunay_shapes.specs.InShape.{IsEdgeInShape, AreEdgesInShape, undirected_of}
 use Rattle.delaunay_shapes.specs.Flood.{IsAsked, IsFlooding, AreAskedBeside, IsSpread, IsRegion}
 use Rattle.delaunay_shapes.specs.Flood.{IsBegunBy}
+use Rattle.delaunay_shapes.proofs.Asking.{rev_half}
 
 -- the undirected edge of either of its directions
 pub half_of_even : (k : ℕ) → (2 * k) / 2 ≡ k
@@ -112,6 +114,14 @@ module _ (points : List Point) (m : Mesh) (v : IsValidMesh m)
         (λ x. HasPointIn Shape (point_at points x) (point_at points (origin m (rev h)))) (sym a)
         (subst (λ x. HasPointIn Shape (point_at points i) (point_at points x)) (sym b) e.1))
 
+  -- directed edge g goes on from where h ends, at the other side of h only where h is the last, and
+  -- is found if it is in the shape
+  pub record GoesOn (Shape : Fraction → Type 0) (found : List ℕ) (h g : ℕ) : Type 0 where
+    pub within : g < length m.half_edges
+    pub starts : origin m g ≡ origin m (rev h)
+    pub turns : g ≡ rev h → next m h ≡ rev h
+    pub finds : IsEdgeInShape Shape points m (g / 2) → Contains found (g / 2)
+
   -- ---- edges found, as pairs of vertices
   module _ (found : List ℕ)
       (within : (k : ℕ) → Contains found k → 2 * k < length m.half_edges) where
@@ -162,12 +172,15 @@ module _ (points : List Point) (m : Mesh) (v : IsValidMesh m)
     joined_by_ends h i j a b c =
         subst (λ x. Joins pairs x j) a (subst (λ x. Joins pairs (origin m h) x) b (half_joined h c))
 
-    -- ---- with an edge, the edges beside it that are in the shape
+    -- ---- with an edge, the edges beside it in its face that are in the shape, and one that goes
+    -- on from where it ends
     module _ (Shape : Fraction → Type 0)
-        (after : (h : ℕ) → h < length m.half_edges → Contains found (h / 2) →
+        (after : (h : ℕ) → IsInnerEdge m h → Contains found (h / 2) →
         IsEdgeInShape Shape points m (next m h / 2) → Contains found (next m h / 2))
-        (before : (h : ℕ) → h < length m.half_edges → Contains found (h / 2) →
-        IsEdgeInShape Shape points m (prev m h / 2) → Contains found (prev m h / 2)) where
+        (before : (h : ℕ) → IsInnerEdge m h → Contains found (h / 2) →
+        IsEdgeInShape Shape points m (prev m h / 2) → Contains found (prev m h / 2))
+        (onward : (h : ℕ) → h < length m.half_edges → Contains found (h / 2)
+        → (g : ℕ) × GoesOn Shape found h g) where
       -- through faces
       face_next : (i j k : ℕ) → IsFace t i j k → Joins pairs i j → IsEdgeIn Shape t j k
           → Joins pairs j k
@@ -180,7 +193,7 @@ module _ (points : List Point) (m : Mesh) (v : IsValidMesh m)
           after_ends (next m h) links.next_in ∙ ap (origin m) (links.three r.1.inner.1)
           ∙ r.1.third in
           joined_by_ends (next m h) j k r.1.second far
-          (after h w (joined_half i j h w r.1.first (after_ends h w ∙ r.1.second) s)
+          (after h r.1.inner (joined_half i j h w r.1.first (after_ends h w ∙ r.1.second) s)
           (half_by_ends Shape (next m h) j k links.next_in r.1.second far e))
 
       face_last : (i j k : ℕ) → IsFace t i j k → Joins pairs i j → IsEdgeIn Shape t k i
@@ -192,7 +205,7 @@ module _ (points : List Point) (m : Mesh) (v : IsValidMesh m)
           let links = v.sound.edges h w in
           let far : origin m (rev (prev m h)) ≡ i = before_ends h w ∙ r.1.first in
           joined_by_ends (prev m h) k i r.1.third far
-          (before h w (joined_half i j h w r.1.first (after_ends h w ∙ r.1.second) s)
+          (before h r.1.inner (joined_half i j h w r.1.first (after_ends h w ∙ r.1.second) s)
           (half_by_ends Shape (prev m h) k i links.prev_in r.1.third far e))
 
       -- ---- on a line
@@ -213,9 +226,9 @@ module _ (points : List Point) (m : Mesh) (v : IsValidMesh m)
       line_next line outer i j k s e =
           let r = pair_edge i j s in
           let g = joins_edge m v.sound j k e.0 in
-          go r.0 r.1 r.2 r.3 r.4 g.0 g.1 g.2 g.3 (cases_eq k i)
-          (cases_eq (origin m (rev (next m r.0))) i)
-          (cases_eq (origin m (rev (next m r.0))) k)
+          let o = onward r.0 r.1 r.4 in
+          go r.0 r.1 r.2 r.3 o.0 o.1 g.0 g.1 g.2 g.3 (cases_eq k i)
+          (cases_eq (origin m (rev o.0)) i) (cases_eq (origin m (rev o.0)) k)
         where
           near : (a b : ℕ) → IsEdge t a b → Contains (outer_of m) (a, b)
           near a b c = let n = (line.neighbours a b).0 c in
@@ -227,36 +240,33 @@ module _ (points : List Point) (m : Mesh) (v : IsValidMesh m)
               })
 
           go : (h : ℕ) (w : h < length m.half_edges) → origin m h ≡ i → origin m (rev h) ≡ j
-              → Contains found (h / 2) → (g : ℕ) → g < length m.half_edges → origin m g ≡ j
-              → origin m (rev g) ≡ k → (k ≡ i) ⊎ (k ≢ i)
-              → (origin m (rev (next m h)) ≡ i) ⊎ (origin m (rev (next m h)) ≢ i)
-              → (origin m (rev (next m h)) ≡ k) ⊎ (origin m (rev (next m h)) ≢ k) → Joins pairs j k
-          go h w a b c g u p q (inl back) x y =
+              → (o : ℕ) → GoesOn Shape found h o → (g : ℕ) → g < length m.half_edges
+              → origin m g ≡ j → origin m (rev g) ≡ k → (k ≡ i) ⊎ (k ≢ i)
+              → (origin m (rev o) ≡ i) ⊎ (origin m (rev o) ≢ i)
+              → (origin m (rev o) ≡ k) ⊎ (origin m (rev o) ≢ k) → Joins pairs j k
+          go h w a b o on g u p q (inl back) x y =
               subst (Joins pairs j) (sym back) (turned_join pairs i j s)
-          go h w a b c g u p q (inr far) (inl x) y =
-              let at_j : origin m (next m h) ≡ j = sym (after_ends h w) ∙ b in
-              let nx : next m h ≡ rev h =
-              one_edge (rev h) (next m h) (rev_in h w) (v.sound.edges h w).next_in
-              (at_j ∙ sym b) (x ∙ sym a ∙ ap (origin m) (sym (rev-rev h))) in
+          go h w a b o on g u p q (inr far) (inl x) y =
+              let at_j : origin m o ≡ j = on.starts ∙ b in
+              let nx : next m h ≡ rev h = on.turns (one_edge (rev h) o (rev_in h w) on.within
+              (at_j ∙ sym b) (x ∙ sym a ∙ ap (origin m) (sym (rev-rev h)))) in
               let is : g ≡ rev h = only_back h g w u nx (p ∙ sym b) in
               absurd (far (sym q ∙ ap (λ z. origin m (rev z)) is ∙ ap (origin m) (rev-rev h) ∙ a))
-          go h w a b c g u p q (inr far) (inr x) (inl y) =
-              let at_j : origin m (next m h) ≡ j = sym (after_ends h w) ∙ b in
-              joined_by_ends (next m h) j k at_j y (after h w c
-              (half_by_ends Shape (next m h) j k (v.sound.edges h w).next_in at_j y e))
-          go h w a b c g u p q (inr far) (inr x) (inr y) =
-              let at_j : origin m (next m h) ≡ j = sym (after_ends h w) ∙ b in
+          go h w a b o on g u p q (inr far) (inr x) (inl y) =
+              let at_j : origin m o ≡ j = on.starts ∙ b in
+              joined_by_ends o j k at_j y
+              (on.finds (half_by_ends Shape o j k on.within at_j y e))
+          go h w a b o on g u p q (inr far) (inr x) (inr y) =
+              let at_j : origin m o ≡ j = on.starts ∙ b in
               let back : IsEdge t j i = subst (λ z. IsEdge t z i) b
               (subst (λ z. IsEdge t (origin m (rev h)) z) a
               (turned_join t.edges (origin m h) (origin m (rev h))
               (edge_joins m v.sound h w))) in
-              let there : IsEdge t j (origin m (rev (next m h))) =
-              subst (λ z. IsEdge t z (origin m (rev (next m h))))
-              at_j (edge_joins m v.sound (next m h) (v.sound.edges h w).next_in) in
-              absurd (two_neighbours points (outer_of m) outer j i (origin m (rev (next m h))) k
-              (near j i back)
-              (near j (origin m (rev (next m h))) there) (near j k e.0) (λ z. x (sym z)) y
-              (λ z. far (sym z)))
+              let there : IsEdge t j (origin m (rev o)) = subst (λ z. IsEdge t z (origin m (rev o)))
+              at_j (edge_joins m v.sound o on.within) in
+              absurd (two_neighbours points (outer_of m) outer j i (origin m (rev o)) k
+              (near j i back) (near j (origin m (rev o)) there) (near j k e.0)
+              (λ z. x (sym z)) y (λ z. far (sym z)))
 
       -- a tiling of the hull has a face, and a line none
       line_of : JoinsLine t → IsMesh points (faces_of m) (outer_of m) → LineMesh points (outer_of m)
@@ -280,16 +290,19 @@ module _ (points : List Point) (m : Mesh) (v : IsValidMesh m)
   -- ---- a flood that has spread
   -- a flood that has spread from where a region begins has found all edges in it
   pub spread_finds_all : (Shape : Fraction → Type 0) → IsRegion Shape → (count : ℕ)
-      → 2 * count ≡ length m.half_edges → (starts : List ℕ) (asked : List Bool) (found : List ℕ)
-      → IsFlooding (IsEdgeInShape Shape points m) count asked found → IsSpread m asked found
-      → IsBegunBy (IsEdgeInShape Shape points m) count starts
+      → 2 * count ≡ length m.half_edges → (starts : List ℕ) (asked : List Bool) (sides : List ℕ)
+      → IsFlooding (IsEdgeInShape Shape points m) count asked (undirected_of sides)
+      → IsSpread m asked sides → IsBegunBy (IsEdgeInShape Shape points m) count starts
       → ((k : ℕ) → Contains starts k → (k < count) × IsAsked asked k)
-      → AreEdgesInShape Shape points m found
-  spread_finds_all Shape shaped count even starts asked found flooding spread begun tried = record {
+      → AreEdgesInShape Shape points m (undirected_of sides)
+  spread_finds_all Shape shaped count even starts asked sides flooding spread begun tried = record {
     once = flooding.once;
     exact = λ k. ((λ c. (within k c, flooding.inside k c)), (λ p. back k p.0 p.1));
   }
     where
+      found : List ℕ
+      found = undirected_of sides
+
       region : Region
       region = shaped.region
 
@@ -302,24 +315,69 @@ module _ (points : List Point) (m : Mesh) (v : IsValidMesh m)
       out_of : (i j : ℕ) → IsEdgeIn Shape t i j → IsEdgeIn (InRegion region) t i j
       out_of i j e = (e.0, (e.1.0, e.1.1, (shaped.same e.1.0).0 e.1.2))
 
-      beside : (h : ℕ) → Contains found (h / 2) → AreAskedBeside m asked h
-      beside h c = elim (half_same (2 * (h / 2)) h (sym (half_of_even (h / 2)))) [
-        | inl e ↦ subst (AreAskedBeside m asked) (sym e) (spread.left (h / 2) c)
-        | inr e ↦ subst (AreAskedBeside m asked) (sym e) (spread.right (h / 2) c)
-      ]
+      -- the side of a found edge from which the flood went on
+      side_of : (h : ℕ) → Contains found (h / 2)
+          → (g : ℕ) × Contains sides g × ((h ≡ g) ⊎ (h ≡ rev g))
+      side_of h c = let r = contains_map_from (λ (x : ℕ). x / 2) sides (h / 2) c in
+          (r.0, r.1, half_same r.0 h (sym r.2))
 
-      below : (h : ℕ) → h < length m.half_edges → h / 2 < count
-      below h w = below_half count even h w
+      beside : (h : ℕ) → IsInnerEdge m h → Contains found (h / 2) → AreAskedBeside m asked h
+      beside h inner c = let r = side_of h c in
+          elim r.2 as (λ _. AreAskedBeside m asked h) [
+            | inl e ↦ subst (AreAskedBeside m asked) (sym e) (spread.on r.0 r.1)
+            | inr e ↦ subst (AreAskedBeside m asked) (sym e)
+                (spread.back r.0 r.1 (subst (λ x. 0 < face m x) e inner.1))
+          ]
+
+      finds : (h : ℕ) → h < length m.half_edges → IsAsked asked (h / 2)
+          → IsEdgeInShape Shape points m (h / 2) → Contains found (h / 2)
+      finds h w a p = flooding.complete (h / 2) (below_half count even h w) a p
+
+      -- the edge after h goes on from its end, or the other side of the edge before its other side
+      onward : (h : ℕ) → h < length m.half_edges → Contains found (h / 2)
+          → (g : ℕ) × GoesOn Shape found h g
+      onward h w c = let r = side_of h c in
+          elim r.2 as (λ _. (g : ℕ) × GoesOn Shape found h g) [
+            | inl e ↦ (
+              next m h,
+              record {
+                within = (v.sound.edges h w).next_in;
+                starts = (v.sound.edges h w).starts;
+                turns = λ back. back;
+                finds = finds (next m h) (v.sound.edges h w).next_in
+                    (subst (AreAskedBeside m asked) (sym e) (spread.on r.0 r.1)).after;
+              },
+            )
+            | inr e ↦ other h w (subst (AreAskedBeside m asked) (sym (ap rev e ∙ rev-rev r.0))
+                (spread.on r.0 r.1))
+          ]
+        where
+          other : (h : ℕ) → h < length m.half_edges → AreAskedBeside m asked (rev h)
+              → (g : ℕ) × GoesOn Shape found h g
+          other h w b =
+              let r = rev h in
+              let links = v.sound.edges r (rev_in h w) in
+              let half = rev_half (prev m r) in (
+                rev (prev m r),
+                record {
+                  within = rev_in (prev m r) links.prev_in;
+                  starts = before_ends r (rev_in h w);
+                  turns = λ back.
+                      let same : prev m r ≡ h = rev_same (prev m r) h back in
+                      ap (next m) (sym same) ∙ links.next_prev;
+                  finds = λ p. subst (Contains found) (sym half)
+                      (finds (prev m r) links.prev_in b.before
+                      (subst (IsEdgeInShape Shape points m) half p));
+                },
+              )
 
       around : IsFloodedAround t region (pairs found within)
       around = flooded_around found within Shape
-          (λ h w c p. flooding.complete (next m h / 2)
-          (below (next m h) (v.sound.edges h w).next_in) (beside h c).after
-          p)
-          (λ h w c p. flooding.complete (prev m h / 2)
-          (below (prev m h) (v.sound.edges h w).prev_in)
-          (beside h c).before p)
-          region into
+          (λ h inner c p.
+          finds (next m h) (v.sound.edges h inner.0).next_in (beside h inner c).after p)
+          (λ h inner c p.
+          finds (prev m h) (v.sound.edges h inner.0).prev_in (beside h inner c).before p)
+          onward region into
 
       sound : (i j : ℕ) → Joins (pairs found within) i j → IsEdgeIn (InRegion region) t i j
       sound i j s =
@@ -341,7 +399,8 @@ module _ (points : List Point) (m : Mesh) (v : IsValidMesh m)
           → Contains found k
       back k w p =
           let first =
-          begun.begun k (subst (λ (x : ℕ). x < count) (half_of_even k) (below (2 * k) w)) p in
+          begun.begun k (subst (λ (x : ℕ). x < count) (half_of_even k)
+          (below_half count even (2 * k) w)) p in
           let here = flooding.complete first.0 (tried first.0 first.1).0
           (tried first.0 first.1).1 first.2 in
           let s = half_joined found within (2 * first.0)

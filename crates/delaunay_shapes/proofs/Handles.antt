@@ -1,7 +1,7 @@
 -- What a handle tells, of the mesh and the index that it has.
 -- Lemmas: start_is, end_is, vertex_covered, start_covered, end_covered, edge_told, vertex_told,
--- after_is, before_is, ends_told, filtered_within, filtered_edges, filtered_vertices, not_asked,
--- marked_by, found_below, found_fits.
+-- after_is, before_is, ends_told, filtered_within, filtered_directed, filtered_edges,
+-- filtered_vertices, not_asked, marked_by, found_fits.
 use Rattle.std.proofs.Common.{◌≡◌, ◌↔◌, ◌*◌, ◌/◌, ◌<◌, ◌≤◌, ◌∙◌}
 use Rattle.std.proofs.Common.{ℕ, List, length, map, get_or, set, sym, ap, subst, arith}
 use mathlib.Core.Bool.{Bool, true, false}
@@ -14,10 +14,10 @@ use Rattle.half_edge_links.proofs.Lists.Rev.{rev_within}
 use Rattle.plane.specs.Fraction.{Point, Fraction, whole}
 use Rattle.plane_delaunay.specs.EdgeTests.{HasPointIn}
 use Rattle.plane_tiling.proofs.Totals.{get_or_any}
-use Rattle.mesh_embedding.proofs.WorkLists.{at_most_so_many}
+use Rattle.mesh_embedding.proofs.WorkLists.{at_most_so_many, contains_map}
 use Rattle.delaunay_shapes.specs.Known.{point_at}
 use Rattle.delaunay_shapes.specs.InShape.{IsEdgeInShape, AreEdgesInShape, AreVerticesInShape}
-use Rattle.delaunay_shapes.specs.InShape.{IsInside}
+use Rattle.delaunay_shapes.specs.InShape.{IsInside, undirected_of}
 use Rattle.delaunay_shapes.specs.Flood.{IsAsked, IsFlooding}
 use Rattle.delaunay_shapes.proofs.Asking.{IsFilteredTo}
 
@@ -104,17 +104,15 @@ module _ {V D U F : Type 0} (place : V → Point) (d : Bor (Contents V D U F)) w
       is ∙ (λ t. point_at (map place (same t).now.vertices) (index t)) in
       subst (λ (x : Point). IsTrue b ↔ Shape (whole x)) at told
 
-  -- the undirected edges after and before a directed edge
-  pub after_is : (e n u : Bor (Contents V D U F)) (h i j k r : ℕ) → e ≡ d → i ≡ h
-      → j ≡ next e.now.mesh i → k ≡ j / 2 → r ≡ k → r ≡ next d.now.mesh h / 2
-  after_is e n u h i j k r same index to half is =
-      is ∙ half ∙ ap (λ (x : ℕ). x / 2) (to ∙ (λ t. next (same t).now.mesh (index t)))
+  -- the edge after a directed edge, by handles, is that in the mesh
+  pub after_is : (e : Bor (Contents V D U F)) (h i j r : ℕ) → e ≡ d → i ≡ h
+      → j ≡ next e.now.mesh i → r ≡ j → r ≡ next d.now.mesh h
+  after_is e h i j r same index to is = is ∙ to ∙ (λ t. next (same t).now.mesh (index t))
 
-  -- the undirected edge before a directed one, by handles, is that in the mesh
-  pub before_is : (e n u : Bor (Contents V D U F)) (h i j k r : ℕ) → e ≡ d → i ≡ h
-      → j ≡ prev e.now.mesh i → k ≡ j / 2 → r ≡ k → r ≡ prev d.now.mesh h / 2
-  before_is e n u h i j k r same index to half is =
-      is ∙ half ∙ ap (λ (x : ℕ). x / 2) (to ∙ (λ t. prev (same t).now.mesh (index t)))
+  -- so is the edge before it
+  pub before_is : (e : Bor (Contents V D U F)) (h i j r : ℕ) → e ≡ d → i ≡ h
+      → j ≡ prev e.now.mesh i → r ≡ j → r ≡ prev d.now.mesh h
+  before_is e h i j r same index to is = is ∙ to ∙ (λ t. prev (same t).now.mesh (index t))
 
 -- an edge by its ends
 pub ends_told :
@@ -132,6 +130,17 @@ pub filtered_within : (Inside : ℕ → Type 0) (i n : ℕ) (found : List ℕ) �
 filtered_within Inside i n found f last k d h = let low =
     ((f.exact (get_or found k d)).0 (k, h, get_or_any found k (get_or found k d) d h)).0 in
     omega (arith, low, last)
+
+low_half : (h i n b : ℕ) → h / 2 < i → i ≤ n → 2 * n ≡ b → h < b
+low_half h i n b low last e = omega (arith, low, last, e)
+
+-- each directed edge whose undirected edge a filter has found is below their count
+pub filtered_directed : (Inside : ℕ → Type 0) (i n b : ℕ) (found : List ℕ)
+    → IsFilteredTo Inside i (undirected_of found) → i ≤ n → 2 * n ≡ b → (k d : ℕ) → k < length found
+    → get_or found k d < b
+filtered_directed Inside i n b found f last e k d h = low_half (get_or found k d) i n b
+    ((f.exact (get_or found k d / 2)).0 (contains_map (λ (x : ℕ). x / 2) found (get_or found k d)
+    (k, h, get_or_any found k (get_or found k d) d h))).0 last e
 
 same_bound : (i n : ℕ) → i ≡ n → (k : ℕ) → k < i → k < n
 same_bound i n e k h = omega (arith, e, h)
@@ -178,13 +187,9 @@ pub marked_by : (asked asked' : List Bool) (k i : ℕ) → i ≡ k → asked' �
     → asked' ≡ set asked k true
 marked_by asked asked' k i e is = is ∙ ap (λ (x : ℕ). set asked x true) e
 
--- each index that a flood has found is below the count
-pub found_below : (Inside : ℕ → Type 0) (count : ℕ) (asked : List Bool) (found : List ℕ) (i d : ℕ) →
-    IsFlooding Inside count asked found → i < length found → get_or found i d < count
-found_below Inside count asked found i d f h =
-    f.within (get_or found i d) (i, h, get_or_any found i (get_or found i d) d h)
-
 -- a flood has found at most as many as there are
 pub found_fits : (Inside : ℕ → Type 0) (count : ℕ) (asked : List Bool) (found : List ℕ) →
-    IsFlooding Inside count asked found → length found ≤ count
-found_fits Inside count asked found f = at_most_so_many found count f.once f.within
+    IsFlooding Inside count asked (undirected_of found) → length found ≤ count
+found_fits Inside count asked found f =
+    subst (λ (n : ℕ). n ≤ count) (length-map found (λ (x : ℕ). x / 2))
+    (at_most_so_many (undirected_of found) count f.once f.within)

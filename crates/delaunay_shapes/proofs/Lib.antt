@@ -5,6 +5,7 @@ pub mod Distances
 pub mod FallsOn
 pub mod Rims
 pub mod Asking
+pub mod Spreading
 pub mod Handles
 pub mod Flooding
 pub mod Starting

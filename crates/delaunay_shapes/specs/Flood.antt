@@ -1,16 +1,16 @@
 -- A flood over the edges of a mesh: which were asked of, and which of them were found.
-use Rattle.std.specs.Prelude.{◌≡◌, ◌≢◌, ◌↔◌, ◌⊎◌, ℕ, ◌*◌, ◌/◌, ◌<◌, List, [], ◌∷◌, ◌++◌, length}
+use Rattle.std.specs.Prelude.{◌≡◌, ◌≢◌, ◌↔◌, ◌⊎◌, ℕ, ◌/◌, ◌<◌, List, [], ◌∷◌, ◌++◌, length}
 use Rattle.std.specs.Prelude.{map, Some}
-use Rattle.std.specs.Prelude.{Bool, true, false, All, Contains, AllPairs, slice_index_or}
+use Rattle.std.specs.Prelude.{Bool, true, false, All, Contains, AllPairs, slice_index_or, ◌≤◌}
 use Rattle.half_edge_mesh.specs.Contents.{Contents}
-use Rattle.half_edge_mesh.specs.Mesh.{Mesh, origin, next, prev, rev, out_edge}
+use Rattle.half_edge_mesh.specs.Mesh.{Mesh, origin, next, prev, face, rev, out_edge}
 use Rattle.plane.specs.Fraction.{Point, Fraction}
 use Rattle.plane.specs.Shape.{IsEdgeIn}
 use Rattle.plane.specs.Location.{Location}
 use Rattle.plane_delaunay.specs.Flood.{Region, InRegion, IsTried}
 use Rattle.plane_tiling.specs.Local.{IsMesh}
 use Rattle.mesh_embedding.specs.Drawn.{drawn, faces_of, outer_of}
-use Rattle.delaunay_shapes.specs.InShape.{IsEdgeInShape, IsInside}
+use Rattle.delaunay_shapes.specs.InShape.{IsEdgeInShape, IsInside, undirected_of}
 
 -- the flood has asked of edge or vertex k
 abbrev pub IsAsked : List Bool → ℕ → Type 0
@@ -32,29 +32,42 @@ pub record Spreads (asked asked' : List Bool) (found found' : List ℕ) : Type 0
   pub more : List ℕ
   pub grown : found' ≡ found ++ more
 
--- edge k was asked of
+-- directed edge h was asked of, and found in its other direction, if at all; those found are
+-- directed
 pub record Asks (Inside : ℕ → Type 0) (count : ℕ) (asked asked' : List Bool) (found found' : List ℕ)
-    (k : ℕ) : Type 0 where
-  pub flooding : IsFlooding Inside count asked' found'
+    (h : ℕ) : Type 0 where
+  pub flooding : IsFlooding Inside count asked' (undirected_of found')
   pub on : Spreads asked asked' found found'
-  pub there : IsAsked asked' k
+  pub there : IsAsked asked' (h / 2)
+  pub only : (g : ℕ) → Contains on.more g → g ≡ rev h
 
 -- the edges before and after directed edge h in its loop were asked of
 pub record AreAskedBeside (m : Mesh) (asked : List Bool) (h : ℕ) : Type 0 where
   pub after : IsAsked asked (next m h / 2)
   pub before : IsAsked asked (prev m h / 2)
 
--- so were those beside both directions of each edge that was found
+-- so were those beside each directed edge that was found, and, where an inner face is on its other
+-- side, those beside it there
 pub record IsSpread (m : Mesh) (asked : List Bool) (found : List ℕ) : Type 0 where
-  pub left : (k : ℕ) → Contains found k → AreAskedBeside m asked (2 * k)
-  pub right : (k : ℕ) → Contains found k → AreAskedBeside m asked (rev (2 * k))
+  pub on : (h : ℕ) → Contains found h → AreAskedBeside m asked h
+  pub back : (h : ℕ) → Contains found h → 0 < face m (rev h) → AreAskedBeside m asked (rev h)
 
--- the edges beside directed edge h were asked of
+-- so were those beside each of the first i directed edges found; and, for these and for those from
+-- number `first` on, those in an inner face on the other side
+pub record IsSpreadTo (m : Mesh) (asked : List Bool) (found : List ℕ) (first i : ℕ) : Type 0 where
+  pub bound : i ≤ length found
+  pub on : (j : ℕ) → j < i → AreAskedBeside m asked (slice_index_or found j 0)
+  pub back : (j : ℕ) → j < length found → (j < i) ⊎ (first ≤ j)
+      → 0 < face m (rev (slice_index_or found j 0))
+      → AreAskedBeside m asked (rev (slice_index_or found j 0))
+
+-- the edges beside directed edge h were asked of, and found on their other sides, if at all
 pub record AsksBeside (Inside : ℕ → Type 0) (m : Mesh) (count : ℕ) (asked asked' : List Bool)
     (found found' : List ℕ) (h : ℕ) : Type 0 where
-  pub flooding : IsFlooding Inside count asked' found'
+  pub flooding : IsFlooding Inside count asked' (undirected_of found')
   pub on : Spreads asked asked' found found'
   pub beside : AreAskedBeside m asked' h
+  pub only : (g : ℕ) → Contains on.more g → (g ≡ rev (next m h)) ⊎ (g ≡ rev (prev m h))
 
 -- the shape is a closed circle or a closed rectangle
 pub record IsRegion (Shape : Fraction → Type 0) : Type 0 where

@@ -1,10 +1,14 @@
 -- Which edges and vertices of a mesh have a point in a shape.
-use Rattle.std.specs.Prelude.{◌≢◌, ◌↔◌, ℕ, ◌*◌, ◌<◌, List, length, map, Contains, AllPairs}
+use Rattle.std.specs.Prelude.{◌≢◌, ◌↔◌, ℕ, ◌*◌, ◌/◌, ◌<◌, List, length, map, Contains, AllPairs}
 use Rattle.half_edge_mesh.specs.Contents.{Contents}
 use Rattle.half_edge_mesh.specs.Mesh.{Mesh, origin, rev}
 use Rattle.plane.specs.Fraction.{Point, Fraction, whole}
 use Rattle.plane_delaunay.specs.EdgeTests.{HasPointIn}
 use Rattle.delaunay_shapes.specs.Known.{point_at}
+
+-- directed edges, each without its direction
+abbrev pub undirected_of : List ℕ → List ℕ
+undirected_of hs = map (λ h. h / 2) hs
 
 -- closed undirected edge k has a point in the shape
 abbrev pub IsEdgeInShape : (Fraction → Type 0) → List Point → Mesh → ℕ → Type 0

@@ -4,14 +4,14 @@ use Rattle.std.specs.Borrow.{Bor}
 use Rattle.half_edge_mesh.specs.Contents.{Contents}
 use Rattle.half_edge_mesh.specs.Left.{each_in}
 use Rattle.plane.specs.Fraction.{Point, Fraction}
-use Rattle.delaunay_shapes.specs.InShape.{AreEdgesInShape, AreVerticesInShape}
+use Rattle.delaunay_shapes.specs.InShape.{AreEdgesInShape, AreVerticesInShape, undirected_of}
 use Rattle.delaunay_shapes.specs.declared.in_shape.EdgesInShapeIterator.{EdgesInShapeIterator}
 use Rattle.delaunay_shapes.specs.declared.in_shape.VerticesInShapeIterator.{VerticesInShapeIterator}
 
 -- the edges in a shape that an iterator has still to give
 abbrev pub edges_left : {V D U F : Type 0} → EdgesInShapeIterator V D U F
     → List (Bor (Contents V D U F) × ℕ)
-edges_left it = each_in it.dcel (drop it.next it.edges.items)
+edges_left it = each_in it.dcel (undirected_of (drop it.next it.edges.items))
 
 -- the vertices in a shape that an iterator has still to give
 abbrev pub vertices_left : {V D U F : Type 0} → VerticesInShapeIterator V D U F

@@ -3,7 +3,7 @@ use Rattle.std.specs.Prelude.{ℕ, length}
 use Rattle.plane.specs.Fraction.{Point, Fraction}
 use Rattle.delaunay_shapes.specs.Enclosing.{Enclosing}
 use Rattle.delaunay_shapes.specs.Flood.{Asks, AsksBeside, IsFlooding}
-use Rattle.delaunay_shapes.specs.InShape.{IsInside, IsVertexInside}
+use Rattle.delaunay_shapes.specs.InShape.{IsInside, IsVertexInside, undirected_of}
 use Rattle.delaunay_shapes.specs.declared.flood.EdgeFlood.{EdgeFlood}
 
 module _ {V D U F M P : Type 0} (at : V → Point) (Shape : M → Fraction → Type 0)
@@ -18,9 +18,10 @@ module _ {V D U F M P : Type 0} (at : V → Point) (Shape : M → Fraction → T
 
   -- of the edges asked of, those with a point in its shape were found, each once
   abbrev pub IsFloodFor : EdgeFlood → Type 0
-  IsFloodFor f = IsFlooding EnclosesEdge (length s.dcel.undirected) f.asked f.found.items
+  IsFloodFor f =
+      IsFlooding EnclosesEdge (length s.dcel.undirected) f.asked (undirected_of f.found.items)
 
-  -- edge k was asked of
+  -- directed edge h was asked of
   abbrev pub AsksFor : EdgeFlood → EdgeFlood → ℕ → Type 0
   AsksFor f f' =
       Asks EnclosesEdge (length s.dcel.undirected) f.asked f'.asked f.found.items f'.found.items

@@ -41,7 +41,7 @@ pub fn edges_by_filter<
     for index in 0..dcel.num_undirected_edges() {
         let edge = FixedUndirectedEdgeHandle::from_index(index as u32);
         if search.has_edge(edge) {
-            edges.push(edge)?;
+            edges.push(edge.as_directed())?;
         }
     }
     Ok(EdgesInShapeIterator {

@@ -1,8 +1,8 @@
 //! A flood over the edges of a mesh that have a point in a shape: from those found, to those beside
 //! them in their faces.
-ghost use Rattle.std.specs.Prelude.{◌<◌, ℕ, length, map, All, Contains, IfOk, OnOk};
-ghost use Rattle.delaunay_shapes.specs.Flood.{CanFlood, Spreads, IsAsked, IsSpread};
-ghost use Rattle.delaunay_shapes.specs.InShape.{AreEdgesInShape};
+ghost use Rattle.std.specs.Prelude.{◌<◌, ◌/◌, ℕ, length, map, All, Contains, IfOk, OnOk};
+ghost use Rattle.delaunay_shapes.specs.Flood.{CanFlood, Spreads, IsAsked, IsSpread, IsSpreadTo};
+ghost use Rattle.delaunay_shapes.specs.InShape.{AreEdgesInShape, undirected_of};
 ghost use Rattle.delaunay_shapes.specs.Left.{GivesEdgesIn, edges_left};
 ghost use Rattle.delaunay_shapes.specs.ShapeSearch.{AsksBesideFor, AsksFor, IsFloodFor};
 
@@ -15,11 +15,12 @@ use delaunay_core::point::HasPosition;
 use half_edge_mesh::{Dcel, FixedDirectedEdgeHandle, FixedUndirectedEdgeHandle, MeshViews};
 use std::alloc::{AllocError, Global};
 
-// The edges that a flood has asked of, and those of them that have a point in the shape.
+// The edges that a flood has asked of, and those of them that have a point in the shape, each in
+// the direction on whose left the flood goes on: it comes from the other side.
 #[derive(Drop)]
 struct EdgeFlood {
     asked: Marks,
-    found: Vec<FixedUndirectedEdgeHandle>,
+    found: Vec<FixedDirectedEdgeHandle>,
 }
 
 impl<
@@ -31,35 +32,36 @@ impl<
     M: DistanceMetric<V::Scalar>,
     P: PlaneTests<V::Scalar>,
 > ShapeSearch<'a, V, DE, UE, F, M, P> {
-    // Asks the metric of an edge that was not asked before, and keeps the edge where it has a point
-    // in the shape.
+    // Asks the metric of an edge that was not asked before, and keeps its other side where it has a
+    // point in the shape.
     #[inline(never)]
     fn ask_new(
         &self,
-        edge: FixedUndirectedEdgeHandle,
+        edge: FixedDirectedEdgeHandle,
         flood: &mut EdgeFlood,
     ) -> Result<(), AllocError>
-        requires new { ¬ IsAsked flood.old.asked edge }
-        requires within { edge < length self.now.dcel.undirected }
+        requires new { ¬ IsAsked flood.old.asked (edge / 2) }
+        requires within { edge / 2 < length self.now.dcel.undirected }
         requires flooding { IsFloodFor V.place M.shape self.now flood.old }
         ensures { OnOk result (AsksFor V.place M.shape self.now flood.old flood.new edge) }
     {
-        flood.asked.mark(edge.index())?;
-        if self.has_edge(edge) {
-            flood.found.push(edge)?;
+        let whole = edge.as_undirected();
+        flood.asked.mark(whole.index())?;
+        if self.has_edge(whole) {
+            flood.found.push(edge.rev())?;
         }
         Ok(())
     }
 
-    // Asks the metric of an edge, unless it was asked before, and keeps the edge where it has a
-    // point in the shape.
+    // Asks the metric of an edge, unless it was asked before, and keeps its other side where it has
+    // a point in the shape.
     #[inline(always)]
-    fn ask(&self, edge: FixedUndirectedEdgeHandle, flood: &mut EdgeFlood) -> Result<(), AllocError>
-        requires within { edge < length self.now.dcel.undirected }
+    fn ask(&self, edge: FixedDirectedEdgeHandle, flood: &mut EdgeFlood) -> Result<(), AllocError>
+        requires within { edge / 2 < length self.now.dcel.undirected }
         requires flooding { IsFloodFor V.place M.shape self.now flood.old }
         ensures { OnOk result (AsksFor V.place M.shape self.now flood.old flood.new edge) }
     {
-        if flood.asked.is_marked(edge.index()) {
+        if flood.asked.is_marked(edge.as_undirected().index()) {
             return Ok(());
         }
         self.ask_new(edge, flood)
@@ -77,10 +79,27 @@ impl<
         ensures { OnOk result (AsksBesideFor V.place M.shape self.now flood.old flood.new edge) }
     {
         let edge = self.dcel.directed_edge(edge);
-        let after = edge.next().as_undirected().fix();
-        let before = edge.prev().as_undirected().fix();
+        let after = edge.next().fix();
+        let before = edge.prev().fix();
         self.ask(after, flood)?;
         self.ask(before, flood)
+    }
+
+    // Goes on from the edges that a flood began with, to both sides.
+    fn spread_starts(&self, flood: &mut EdgeFlood) -> Result<(), AllocError>
+        requires { IsFloodFor V.place M.shape self.now flood.old }
+        ensures flooding { OnOk result (IsFloodFor V.place M.shape self.now flood.new) }
+        ensures on { OnOk result (Spreads flood.old.asked flood.new.asked flood.old.found.items
+            flood.new.found.items) }
+        ensures spread { OnOk result (IsSpreadTo self.now.dcel.mesh flood.new.asked
+            flood.new.found.items 0 (length flood.old.found.items)) }
+    {
+        for index in 0..flood.found.len() {
+            let edge = self.dcel.directed_edge(flood.found[index]);
+            self.ask_beside(edge.rev().fix(), flood)?;
+            self.ask_beside(edge.fix(), flood)?;
+        }
+        Ok(())
     }
 
     // Goes on from each edge found to those beside it, until none is new.
@@ -92,11 +111,10 @@ impl<
         ensures spread { OnOk result (IsSpread self.now.dcel.mesh flood.new.asked
             flood.new.found.items) }
     {
-        let mut index = 0;
+        let mut index = flood.found.len();
+        self.spread_starts(flood)?;
         'edges: while index < flood.found.len() {
-            let edge = self.dcel.undirected_edge(flood.found[index]).as_directed();
-            self.ask_beside(edge.fix(), flood)?;
-            self.ask_beside(edge.rev().fix(), flood)?;
+            self.ask_beside(self.dcel.directed_edge(flood.found[index]).fix(), flood)?;
             index += 1;
         }
         Ok(())
@@ -114,22 +132,23 @@ impl<
         ensures each { OnOk result ((k : ℕ) → Contains edges.now k → IsAsked flood.new.asked k) }
     {
         for edge in edges {
-            self.ask(*edge, flood)?;
+            self.ask(edge.as_directed(), flood)?;
         }
         Ok(())
     }
 
-    // The edges with a point in the shape, each once, from some of which one has, if any has.
+    // The edges with a point in the shape, each once and in one of its directions, from some of
+    // which one has, if any has.
     pub(crate) fn edges_from(
         &self,
         starts: &[FixedUndirectedEdgeHandle],
         alloc: Global,
-    ) -> Result<Vec<FixedUndirectedEdgeHandle>, AllocError>
+    ) -> Result<Vec<FixedDirectedEdgeHandle>, AllocError>
         requires { CanFlood (P.covered self.now.tests) (M.own_points self.now.metric)
             (M.shape self.now.metric) V.place self.now.dcel starts.now }
         ensures exact { IfOk result (λ v. AreEdgesInShape (M.shape self.now.metric)
-            (map V.place self.now.dcel.vertices) self.now.dcel.mesh v.items) }
-        ensures within { IfOk result (λ v. All (λ e. e < length self.now.dcel.undirected) v.items) }
+            (map V.place self.now.dcel.vertices) self.now.dcel.mesh (undirected_of v.items)) }
+        ensures within { IfOk result (λ v. All (λ e. e < length self.now.dcel.directed) v.items) }
     {
         let mut flood = EdgeFlood {
             asked: Marks::new(self.dcel.num_undirected_edges(), alloc),
@@ -147,7 +166,7 @@ impl<
 ///
 /// `AllocError` comes where memory for the marks of the edges that were asked of, or for the list
 /// of those found, is refused, and only from this call: the iterator takes none.
-pub fn edges_by_flood<
+pub(crate) fn edges_by_flood<
     'a,
     V: HasPosition,
     DE,

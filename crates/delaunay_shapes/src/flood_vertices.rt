@@ -3,6 +3,7 @@ ghost use Rattle.std.specs.Prelude.{◌≡◌, ◌≢◌, ◌↔◌, ◌<◌, le
 ghost use Rattle.std.specs.Prelude.{IsTrue, OnOk, Some};
 ghost use Rattle.half_edge_mesh.specs.Mesh.{origin, out_edge};
 ghost use Rattle.delaunay_shapes.specs.Flood.{AreNamedIn, CanFlood, KeepsStart};
+ghost use Rattle.delaunay_shapes.specs.InShape.{undirected_of};
 ghost use Rattle.delaunay_shapes.specs.Left.{GivesVerticesIn, vertices_left};
 ghost use Rattle.delaunay_shapes.specs.ShapeSearch.{EnclosesVertex};
 
@@ -63,17 +64,20 @@ impl<
     // The vertices in the shape that name one of these edges.
     fn named_inside(
         &self,
-        edges: &[FixedUndirectedEdgeHandle],
+        edges: &[FixedDirectedEdgeHandle],
         alloc: Global,
     ) -> Result<Vec<FixedVertexHandle>, AllocError>
-        requires within { All (λ e. e < length self.now.dcel.undirected) edges.now }
-        requires once { AllPairs (λ d e. d ≢ e) edges.now }
+        requires within { All (λ e. e < length self.now.dcel.directed) edges.now }
+        requires once { AllPairs (λ d e. d ≢ e) (undirected_of edges.now) }
         ensures { IfOk result (λ v. AreNamedIn (EnclosesVertex V.place M.shape self.now)
-            self.now.dcel.mesh edges.now v.items) }
+            self.now.dcel.mesh (undirected_of edges.now) v.items) }
     {
         let mut found = Vec::new(alloc);
         for edge in edges {
-            let edge = self.dcel.undirected_edge(*edge).as_directed();
+            let edge = self
+                .dcel
+                .undirected_edge(edge.as_undirected())
+                .as_directed();
             self.keep_start(edge.fix(), &mut found)?;
             self.keep_start(edge.rev().fix(), &mut found)?;
         }
@@ -86,7 +90,7 @@ impl<
 ///
 /// `AllocError` comes where memory for the marks of the edges that were asked of, or for the lists
 /// of edges and vertices found, is refused, and only from this call: the iterator takes none.
-pub fn vertices_by_flood<
+pub(crate) fn vertices_by_flood<
     'a,
     V: HasPosition,
     DE,

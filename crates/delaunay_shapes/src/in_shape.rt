@@ -3,8 +3,7 @@ ghost use Rattle.std.specs.Prelude.{◌<◌, length, All};
 ghost use Rattle.std.specs.Iterator.{YieldsFirstBy, item_count};
 
 use half_edge_mesh::{
-    Dcel, FixedUndirectedEdgeHandle, FixedVertexHandle, MeshViews, UndirectedEdgeHandle,
-    VertexHandle,
+    Dcel, FixedDirectedEdgeHandle, FixedVertexHandle, MeshViews, UndirectedEdgeHandle, VertexHandle,
 };
 
 /// The edges with a point in a shape, of which some are left: each once, in no promised order.
@@ -18,9 +17,9 @@ use half_edge_mesh::{
 #[derive(Drop)]
 pub struct EdgesInShapeIterator<'a, V, DE, UE, F> {
     pub(crate) dcel: &'a Dcel<V, DE, UE, F>,
-    pub(crate) edges: Vec<FixedUndirectedEdgeHandle>,
+    pub(crate) edges: Vec<FixedDirectedEdgeHandle>,
     pub(crate) next: usize,
-    ghost in_range: { All (λ e. e < length dcel.now.undirected) edges.items },
+    ghost in_range: { All (λ e. e < length dcel.now.directed) edges.items },
 }
 
 impl<'a, V, DE, UE, F> Iterator for EdgesInShapeIterator<'a, V, DE, UE, F> {
@@ -38,7 +37,7 @@ impl<'a, V, DE, UE, F> Iterator for EdgesInShapeIterator<'a, V, DE, UE, F> {
         }
         let edge = self.edges[self.next];
         self.next += 1;
-        Some(self.dcel.undirected_edge(edge))
+        Some(self.dcel.directed_edge(edge).as_undirected())
     }
 }
 

@@ -17,8 +17,6 @@ mod shape_search;
 pub use circle::CircleMetric;
 pub use distance_metric::DistanceMetric;
 pub use filter::{edges_by_filter, vertices_by_filter};
-pub use flood::edges_by_flood;
-pub use flood_vertices::vertices_by_flood;
 pub use in_shape::{EdgesInShapeIterator, VerticesInShapeIterator};
 pub use marks::Marks;
 pub use rectangle::RectangleMetric;

@@ -1,7 +1,9 @@
-use Rattle.std.proofs.Common.{ℕ, ◌+◌, List, ◌∙◌, refl, sym, ap, map, length, subst, arith}
-use Rattle.delaunay_shapes.specs.InShape.{IsInside}
+use Rattle.std.proofs.Common.{ℕ, ◌+◌, ◌/◌, List, ◌∙◌, refl, sym, ap, map, length, subst, arith}
+use Rattle.delaunay_shapes.specs.InShape.{IsInside, undirected_of}
 use Rattle.delaunay_shapes.proofs.Asking.{IsFilteredTo, filter_finds, filter_passes}
-use Rattle.delaunay_shapes.proofs.Handles.{filtered_within, filtered_edges}
+use Rattle.delaunay_shapes.proofs.Asking.{undirected_more}
+use Rattle.delaunay_shapes.proofs.Flooding.{half_of_even}
+use Rattle.delaunay_shapes.proofs.Handles.{filtered_directed, filtered_edges}
 use Rattle.delaunay_shapes.proofs.filter.edges_by_filter.Goals.{then-has_edge+in_ok-push}
 use Rattle.delaunay_shapes.proofs.filter.edges_by_filter.Goals.{else-has_edge}
 use Rattle.delaunay_shapes.proofs.filter.edges_by_filter.Goals as goal
@@ -23,15 +25,16 @@ loop-index-preserved g c =
     elim c.if-has_edge.branch [
       | then-has_edge+in_ok-push w ↦
           filter_finds Inside c.loop-index.index c.from_index-edge.result
-          c.loop-index.edges.items c.if-has_edge.edges.items c.loop-index.invariant
-          c.from_index-edge.ensures
-          (told.0 w.if-has_edge.true)
-          (ap (λ x. x.items) w.edges-is ∙ w.in_ok-push.ensures.items)
+          (undirected_of c.loop-index.edges.items) (undirected_of c.if-has_edge.edges.items)
+          c.loop-index.invariant c.from_index-edge.ensures (told.0 w.if-has_edge.true)
+          (undirected_more c.loop-index.edges.items c.if-has_edge.edges.items w.as_directed.result
+          c.from_index-edge.result (ap (λ x. x.items) w.edges-is ∙ w.in_ok-push.ensures.items)
+          (ap (λ (x : ℕ). x / 2) w.as_directed.ensures ∙ half_of_even c.from_index-edge.result))
       | else-has_edge w ↦
-          subst (λ (xs : List ℕ). IsFilteredTo Inside (c.loop-index.index + 1) xs)
+          subst (λ (xs : List ℕ). IsFilteredTo Inside (c.loop-index.index + 1) (undirected_of xs))
           (sym (ap (λ x. x.items) w.edges-is))
           (filter_passes Inside c.loop-index.index c.from_index-edge.result
-          c.loop-index.edges.items c.loop-index.invariant c.from_index-edge.ensures
+          (undirected_of c.loop-index.edges.items) c.loop-index.invariant c.from_index-edge.ensures
           (λ p. let on = told.1 p in let off = w.if-has_edge.false in absurd (cc)))
     ]
 
@@ -40,11 +43,12 @@ invariant_of-result g c = record {
   in_range = λ k d h.
       let fits = c.num_undirected_edges-index-end.ensures.value in
       let last = c.loop-index.auto.index-end in
-      filtered_within (IsInside (g.M.DistanceMetric.shape c.args.metric.now) g.V.HasPosition.place
+      let whole = c.num_undirected_edges-index-end.ensures.whole.fits in
+      filtered_directed (IsInside (g.M.DistanceMetric.shape c.args.metric.now) g.V.HasPosition.place
       c.args.dcel.now)
-      c.loop-index.index
-      (length c.args.dcel.now.undirected) c.loop-index.edges.items c.loop-index.invariant
-      (omega (arith, fits, last)) k d h;
+      c.loop-index.index (length c.args.dcel.now.undirected) (length c.args.dcel.now.directed)
+      c.loop-index.edges.items c.loop-index.invariant (omega (arith, fits, last))
+      (whole.undirected_fit ∙ sym whole.directed_fit) k d h;
 }
 
 pub returns : goal.returns
@@ -53,12 +57,12 @@ returns g c =
     let last = c.loop-index.auto.index-end in
     let over = c.loop-index-test.false in
     record {
-      edges = c.loop-index.edges.items;
+      edges = undirected_of c.loop-index.edges.items;
       listed = refl;
       exact = filtered_edges (g.M.DistanceMetric.shape c.args.metric.now)
           (map g.V.HasPosition.place c.args.dcel.now.vertices) c.args.dcel.now.mesh
           c.loop-index.index
-          (length c.args.dcel.now.undirected) c.loop-index.edges.items c.loop-index.invariant
-          (omega (arith, fits, last, over))
+          (length c.args.dcel.now.undirected) (undirected_of c.loop-index.edges.items)
+          c.loop-index.invariant (omega (arith, fits, last, over))
           c.num_undirected_edges-index-end.ensures.whole.fits.undirected_fit;
     }

@@ -1,7 +1,7 @@
 use Rattle.std.proofs.Common.{ℕ, List, ◌∙◌, refl, map, length, subst, arith}
 use Rattle.std.proofs.lemmas.List.{length-map}
 use Rattle.delaunay_shapes.specs.Flood.{AreNamedIn}
-use Rattle.delaunay_shapes.specs.InShape.{IsVertexInside}
+use Rattle.delaunay_shapes.specs.InShape.{IsVertexInside, undirected_of}
 use Rattle.delaunay_shapes.proofs.VertexFlood.{named_are_all, named_below}
 use Rattle.delaunay_shapes.proofs.flood_vertices.vertices_by_flood.Goals as goal
 
@@ -11,7 +11,8 @@ invariant_of-result g c =
     record {
       in_range = named_below (IsVertexInside (g.M.DistanceMetric.shape c.args.metric.now)
           g.V.HasPosition.place c.args.dcel.now) c.args.dcel.now.mesh whole.valid
-          c.as_slice.result.now c.in_ok-vertices.vertices.items (length c.args.dcel.now.vertices)
+          (undirected_of c.as_slice.result.now) c.in_ok-vertices.vertices.items
+          (length c.args.dcel.now.vertices)
           whole.fits.vertices_fit (rw c.new-search.ensures at c.in_ok-vertices.ensures);
     }
 
@@ -25,11 +26,12 @@ returns g c =
       exact = named_are_all (map g.V.HasPosition.place c.args.dcel.now.vertices)
           c.args.dcel.now.mesh whole.valid c.requires.shape
           (g.M.DistanceMetric.shape c.args.metric.now) c.requires.region
-          c.in_ok-edges.edges.items c.in_ok-vertices.vertices.items
+          (undirected_of c.in_ok-edges.edges.items) c.in_ok-vertices.vertices.items
           (rw c.new-search.ensures at c.in_ok-edges.ensures.exact)
           (subst (λ (edges : List ℕ). AreNamedIn
           (IsVertexInside (g.M.DistanceMetric.shape c.args.metric.now) g.V.HasPosition.place
-          c.args.dcel.now) c.args.dcel.now.mesh edges c.in_ok-vertices.vertices.items)
+          c.args.dcel.now) c.args.dcel.now.mesh (undirected_of edges)
+          c.in_ok-vertices.vertices.items)
           c.as_slice.ensures.value (rw c.new-search.ensures at c.in_ok-vertices.ensures))
           (many ∙ whole.fits.vertices_fit)
           (let some = c.if-num_vertices-lt2.false in let count = c.num_vertices.ensures.value in

@@ -20,13 +20,11 @@ returns g c =
     c.ask.new.flood.asked c.ask-2.new.flood.asked c.args.flood.now.found.items
     c.ask.new.flood.found.items c.ask-2.new.flood.found.items c.args.edge c.fix-after.result
     c.fix-before.result
-    (rw (← c.self.view_is) (after_is g.V.HasPosition.place d c.directed_edge-edge.result.dcel d d
-    c.args.edge c.directed_edge-edge.result.index c.next.result.index
-    c.as_undirected.result.index c.fix-after.result edge.dcel edge.index c.next.ensures.index
-    c.as_undirected.ensures.index c.fix-after.ensures.value))
-    (rw (← c.self.view_is) (before_is g.V.HasPosition.place d c.directed_edge-edge.result.dcel d d
-    c.args.edge c.directed_edge-edge.result.index c.prev.result.index
-    c.as_undirected-2.result.index c.fix-before.result edge.dcel edge.index c.prev.ensures.index
-    c.as_undirected-2.ensures.index c.fix-before.ensures.value))
+    (rw (← c.self.view_is) (after_is g.V.HasPosition.place d c.directed_edge-edge.result.dcel
+    c.args.edge c.directed_edge-edge.result.index c.next.result.index c.fix-after.result edge.dcel
+    edge.index c.next.ensures.index c.fix-after.ensures.value))
+    (rw (← c.self.view_is) (before_is g.V.HasPosition.place d c.directed_edge-edge.result.dcel
+    c.args.edge c.directed_edge-edge.result.index c.prev.result.index c.fix-before.result edge.dcel
+    edge.index c.prev.ensures.index c.fix-before.ensures.value))
     c.in_ok-ask.ensures asks)
     c.ask-2.ensures

@@ -1,6 +1,7 @@
-use Rattle.std.proofs.Common.{length}
+use Rattle.std.proofs.Common.{ℕ, ◌/◌, ◌∙◌, ap, length}
 use Rattle.delaunay_shapes.specs.ShapeSearch.{EnclosesEdge}
 use Rattle.delaunay_shapes.proofs.Asking.{ask_first, ask_more, ask_last}
+use Rattle.delaunay_shapes.proofs.Flooding.{half_of_even}
 use Rattle.delaunay_shapes.proofs.shape_search.ShapeSearch.ask_each.Goals as goal
 
 pub loop-edge-init : goal.loop-edge-init
@@ -14,8 +15,9 @@ loop-edge-preserved g c =
     ask_more (EnclosesEdge g.V.HasPosition.place g.M.DistanceMetric.shape c.args.self.now)
     (length c.args.self.now.dcel.undirected) c.loop-edge.flood.asked c.ask.new.flood.asked
     c.loop-edge.flood.found.items c.ask.new.flood.found.items c.args.edges.now
-    c.loop-edge.edge-index c.edge-item.result c.edge-item.result c.loop-edge.invariant
-    c.edge-item.is c.loop-edge-test.true c.in_ok-ask.ensures
+    c.loop-edge.edge-index c.as_directed.result c.edge-item.result c.loop-edge.invariant
+    (ap (λ (x : ℕ). x / 2) c.as_directed.ensures ∙ half_of_even c.edge-item.result ∙ c.edge-item.is)
+    c.loop-edge-test.true c.in_ok-ask.ensures
 
 pub returns-clause-each : goal.returns-clause-each
 returns-clause-each g c =

@@ -1,8 +1,8 @@
-use Rattle.std.proofs.Common.{ℕ, ◌<◌, map, length, subst}
-use Rattle.delaunay_shapes.specs.InShape.{IsInside}
+use Rattle.std.proofs.Common.{ℕ, ◌<◌, get_or, map, length, subst, sym, ap}
+use Rattle.delaunay_shapes.specs.InShape.{IsInside, undirected_of}
 use Rattle.delaunay_shapes.proofs.Asking.{none_asked}
 use Rattle.delaunay_shapes.proofs.Flooding.{spread_finds_all}
-use Rattle.delaunay_shapes.proofs.Handles.{found_below}
+use Rattle.delaunay_shapes.proofs.Spreading.{found_within}
 use Rattle.delaunay_shapes.proofs.shape_search.ShapeSearch.edges_from.Goals as goal
 
 pub returns : goal.returns
@@ -23,7 +23,9 @@ returns g c =
             subst (λ (x : ℕ). x < length d.undirected) h.2 (can.within h.0 k h.1),
             c.in_ok-spread.ensures.on.kept k (c.in_ok-ask_each.ensures.each k h),
           ));
-      within = λ k d h. found_below _ _ _ _ k d flooding h;
+      within = λ k e h. subst (λ (n : ℕ). get_or c.spread.new.flood.found.items k e < n)
+          (sym whole.fits.directed_fit) (found_within _ _ whole.valid _ whole.fits.undirected_fit
+          _ _ k e flooding h);
     })
 
 pub ask_each-requires-clause-within : goal.ask_each-requires-clause-within
@@ -35,5 +37,5 @@ ask_each-requires-clause-flooding g c =
     rw (← c.self.view_is) (none_asked
     (IsInside (g.M.DistanceMetric.shape c.self.inside.metric.now) g.V.HasPosition.place d)
     (length d.undirected)
-    c.num_undirected_edges.result c.new.result c.new-2.result.items c.new.ensures
-    c.num_undirected_edges.ensures.value c.new-2.ensures.items)
+    c.num_undirected_edges.result c.new.result (undirected_of c.new-2.result.items) c.new.ensures
+    c.num_undirected_edges.ensures.value (ap undirected_of c.new-2.ensures.items))

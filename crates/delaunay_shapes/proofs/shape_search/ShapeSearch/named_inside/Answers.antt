@@ -1,6 +1,7 @@
-use Rattle.std.proofs.Common.{ℕ, ◌*◌, ◌∙◌, ap}
+use Rattle.std.proofs.Common.{ℕ, ◌*◌, ◌/◌, ◌<◌, ◌≤◌, ◌∙◌, ap, subst, sym, arith}
+use Rattle.std.proofs.lemmas.List.{get_or-map, length-map}
 use Rattle.half_edge_mesh.specs.Mesh.{rev}
-use Rattle.delaunay_shapes.specs.InShape.{IsVertexInside}
+use Rattle.delaunay_shapes.specs.InShape.{IsVertexInside, undirected_of}
 use Rattle.delaunay_shapes.specs.ShapeSearch.{EnclosesVertex}
 use Rattle.delaunay_shapes.proofs.VertexFlood.{named_first, named_more, named_last}
 use Rattle.delaunay_shapes.proofs.shape_search.ShapeSearch.named_inside.Goals as goal
@@ -12,19 +13,37 @@ loop-edge-init g c =
     (g.M.DistanceMetric.shape c.self.inside.metric.now) g.V.HasPosition.place d.now)
     d.now.mesh
     (λ v h o. (c.self.invariant.whole.valid.sound.vertices v h o).1)
-    c.args.edges.now c.new-found.result.items c.new-found.ensures.items)
+    (undirected_of c.args.edges.now) c.new-found.result.items c.new-found.ensures.items)
+
+pub undirected_edge-requires : goal.undirected_edge-requires
+undirected_edge-requires g c =
+    let low = c.requires.within c.loop-edge.edge-index c.edge-item.result c.loop-edge-test.true in
+    let fits = c.self.invariant.whole.fits in
+    omega (
+      arith,
+      rw (← c.self.view_is) at low,
+      c.edge-item.is,
+      fits.directed_fit,
+      fits.undirected_fit,
+      c.as_undirected.ensures,
+    )
 
 pub loop-edge-preserved : goal.loop-edge-preserved
 loop-edge-preserved g c =
-    let way =
-    c.as_directed-edge.ensures.index
-    ∙ ap (λ (k : ℕ). 2 * k) (c.undirected_edge.ensures.index ∙ c.edge-item.is) in
+    let edges = c.args.edges.now in
+    let half = c.undirected_edge.ensures.index ∙ c.as_undirected.ensures
+    ∙ ap (λ (x : ℕ). x / 2) c.edge-item.is
+    ∙ sym (get_or-map (λ (x : ℕ). x / 2) edges c.loop-edge.edge-index c.edge-item.result
+    c.edge-item.result c.loop-edge-test.true) in
+    let way = c.as_directed-edge.ensures.index ∙ ap (λ (k : ℕ). 2 * k) half in
     named_more (EnclosesVertex g.V.HasPosition.place g.M.DistanceMetric.shape c.args.self.now)
     c.args.self.now.dcel.mesh
     (rw (← c.self.view_is) (λ v h o. (c.self.invariant.whole.valid.sound.vertices v h o).1))
-    c.args.edges.now c.requires.once c.loop-edge.found.items c.keep_start.new.found.items
+    (undirected_of edges) c.requires.once c.loop-edge.found.items c.keep_start.new.found.items
     c.keep_start-in-loop-edge.new.found.items c.loop-edge.edge-index c.edge-item.result
-    c.fix.result c.fix-in-loop-edge.result c.loop-edge.invariant c.loop-edge-test.true
+    c.fix.result c.fix-in-loop-edge.result c.loop-edge.invariant
+    (subst (λ (n : ℕ). c.loop-edge.edge-index < n) (sym (length-map edges (λ (x : ℕ). x / 2)))
+    c.loop-edge-test.true)
     (c.fix.ensures.value ∙ way)
     (c.fix-in-loop-edge.ensures.value ∙ c.rev.ensures.index ∙ ap rev way)
     c.in_ok-keep_start.ensures c.in_ok-keep_start-2.ensures
@@ -34,5 +53,7 @@ returns g c =
     named_last (EnclosesVertex g.V.HasPosition.place g.M.DistanceMetric.shape c.args.self.now)
     c.args.self.now.dcel.mesh
     (rw (← c.self.view_is) (λ v h o. (c.self.invariant.whole.valid.sound.vertices v h o).1))
-    c.args.edges.now c.loop-edge.found.items c.loop-edge.edge-index c.loop-edge.invariant
-    c.loop-edge-test.false
+    (undirected_of c.args.edges.now) c.loop-edge.found.items c.loop-edge.edge-index
+    c.loop-edge.invariant
+    (subst (λ (n : ℕ). n ≤ c.loop-edge.edge-index)
+    (sym (length-map c.args.edges.now (λ (x : ℕ). x / 2))) c.loop-edge-test.false)
