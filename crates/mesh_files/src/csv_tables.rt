@@ -17,8 +17,8 @@ fn line_of(line: u64) -> u32 {
 }
 
 /// What is wrong where a record could not be read, the last before it being in this line.
-fn fault_of(error: csv::Error, line: u32) -> FileFault {
-    match error.into_kind() {
+fn fault_of(error: &csv::Error, line: u32) -> FileFault {
+    match error.kind() {
         ErrorKind::UnequalLengths { pos, .. } => FileFault::at(
             match pos {
                 Some(pos) => line_of(pos.line()),
@@ -138,12 +138,31 @@ fn next_row<R: Read>(
     match reader.read_byte_record(record) {
         Ok(true) => {}
         Ok(false) => return Ok(None),
-        Err(error) => return Err(fault_of(error, line)),
+        Err(error) => return Err(fault_of(&error, line)),
     }
     match record.position() {
         Some(position) => Ok(Some(line_of(position.line()))),
         None => Ok(Some(line)),
     }
+}
+
+/// Reads the rows of points, into a record that is used for each of them.
+fn read_point_rows<R: Read>(
+    reader: &mut Reader<R>,
+    record: &mut ByteRecord,
+    columns: &Columns,
+    runs: &mut Runs,
+    drawing: &mut Drawing,
+) -> Result<(), FileFault> {
+    let mut line = 1;
+    for place in 0..u32::MAX {
+        let Some(next) = next_row(reader, record, line)? else {
+            return runs.ring.end(drawing);
+        };
+        line = next;
+        runs.row(record, columns, place, line, drawing)?;
+    }
+    Err(FileFault::at(line, Reason::TooMany))
 }
 
 fn read_points<R: Read>(
@@ -157,15 +176,7 @@ fn read_points<R: Read>(
         ring: Run::new(alloc, true),
         path: Run::new(alloc, false),
     };
-    let mut line = 1;
-    for place in 0..u32::MAX {
-        let Some(next) = next_row(reader, &mut record, line)? else {
-            return runs.ring.end(drawing);
-        };
-        line = next;
-        runs.row(&record, columns, place, line, drawing)?;
-    }
-    Err(FileFault::at(line, Reason::TooMany))
+    read_point_rows(reader, &mut record, columns, &mut runs, drawing)
 }
 
 /// The header of a table.
@@ -274,23 +285,32 @@ fn take_segment_row(
     drawing.join(from, to, FilePlace::of_line(line))
 }
 
+/// Reads the rows of segments, into a record that is used for each of them.
+fn read_segment_rows<R: Read>(
+    reader: &mut Reader<R>,
+    record: &mut ByteRecord,
+    ends: EndColumns,
+    drawing: &mut Drawing,
+) -> Result<(), FileFault> {
+    let mut line = 1;
+    for _ in 0..u64::MAX {
+        let Some(next) = next_row(reader, record, line)? else {
+            return Ok(());
+        };
+        line = next;
+        take_segment_row(drawing, record, ends, line)?;
+    }
+    Ok(())
+}
+
 fn read_ends<R: Read + Drop>(
     text: R,
     drawing: &mut Drawing,
     alloc: Global,
 ) -> Result<(), FileFault> {
-    let (mut reader, header) = open_table(text, alloc)?;
-    let ends = end_columns(drawing, &header)?;
-    let mut record = ByteRecord::new(alloc);
-    let mut line = 1;
-    for _ in 0..u64::MAX {
-        let Some(next) = next_row(&mut reader, &mut record, line)? else {
-            return Ok(());
-        };
-        line = next;
-        take_segment_row(drawing, &record, ends, line)?;
-    }
-    Ok(())
+    let (mut reader, mut record) = open_table(text, alloc)?;
+    let ends = end_columns(drawing, &record)?;
+    read_segment_rows(&mut reader, &mut record, ends, drawing)
 }
 
 /// Reads segments between the points of a drawing from a table.

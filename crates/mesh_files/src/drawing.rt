@@ -93,16 +93,18 @@ impl NumberTexts {
     fn keep(&mut self, decimal: Decimal, word: &[u8], at: FilePlace) -> Result<Number, FileFault>
         ensures { IfOk result (λ n. n.decimal ≡ decimal) }
     {
-        let start = u32::try_from(self.bytes.len());
+        let start = self.bytes.len();
         self.bytes.extend_from_slice(word)?;
-        match (start, u32::try_from(self.bytes.len())) {
-            (Ok(start), Ok(end)) => Ok(Number {
-                decimal,
-                start,
-                end,
-            }),
-            _ => Err(FileFault::in_place(at, Reason::TooMany)),
+        let end = self.bytes.len();
+        let most = u32::MAX as usize;
+        if start > most || end > most {
+            return Err(FileFault::in_place(at, Reason::TooMany));
         }
+        Ok(Number {
+            decimal,
+            start: start as u32,
+            end: end as u32,
+        })
     }
 
     /// The number rounded to so many digits behind the point, and whether that changed it.

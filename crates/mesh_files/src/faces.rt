@@ -1,9 +1,7 @@
 //! Faces as tables with areas and as GeoJSON.
-use crate::writing::{MeshText, corner_numbers};
+use crate::writing::{Form, MeshText};
 use decimal_numbers::Decimal;
 use std::alloc::AllocError;
-use std::io;
-use std::io::Write;
 
 impl MeshText<'_> {
     /// Twice the area of a face, in square units of the last digit.
@@ -42,17 +40,34 @@ impl MeshText<'_> {
         area.shortened()
     }
 
-    /// A line for each face: the numbers of its corners, from 1, and its area.
-    pub(crate) fn write_csv<W: Write>(&self, writer: &mut W, line: &mut String) -> io::Result<()> {
-        writer.write_all(b"a,b,c,area\n")?;
-        for face in self.faces {
-            let area = self.area(face);
-            let (a, b, c) = corner_numbers(face);
-            line.clear();
-            writeln!(line, "{a},{b},{c},{area}")?;
-            writer.write_all(line.as_bytes())?;
+    /// Puts the numbers of a face's corners behind a line, from 1 but in a text of form `ply`, with
+    /// what else the form has.
+    fn push_corners(
+        &self,
+        form: Form,
+        line: &mut String,
+        place: usize,
+        face: &[u32; 3],
+    ) -> Result<(), AllocError> {
+        let first = u64::from(form != Form::Ply);
+        let [a, b, c] = face;
+        let (a, b, c) = (
+            u64::from(*a).saturating_add(first),
+            u64::from(*b).saturating_add(first),
+            u64::from(*c).saturating_add(first),
+        );
+        match form {
+            Form::Obj => writeln!(line, "f {a} {b} {c}"),
+            Form::Ply => writeln!(line, "3 {a} {b} {c}"),
+            Form::Csv => {
+                let area = self.area(face);
+                writeln!(line, "{a},{b},{c},{area}")
+            }
+            _ => {
+                let number = place.saturating_add(1);
+                writeln!(line, "{number} {a} {b} {c}")
+            }
         }
-        Ok(())
     }
 
     /// Puts the numbers of a point behind a line, as JSON spells numbers.
@@ -80,21 +95,23 @@ impl MeshText<'_> {
         line.push_str("]]]}}")
     }
 
-    /// Each face as a polygon.
-    pub(crate) fn write_geojson<W: Write>(
+    /// Puts a face's line behind a line.
+    pub(crate) fn push_face_line(
         &self,
-        writer: &mut W,
+        form: Form,
         line: &mut String,
-    ) -> io::Result<()> {
-        writer.write_all(b"{\"type\":\"FeatureCollection\",\"features\":[")?;
-        let mut before = "\n";
-        for face in self.faces {
-            line.clear();
-            line.push_str(before)?;
-            self.push_polygon(line, face)?;
-            writer.write_all(line.as_bytes())?;
-            before = ",\n";
+        place: usize,
+    ) -> Result<(), AllocError> {
+        let Some(face) = self.faces.get(place) else {
+            return Ok(());
+        };
+        match form {
+            Form::GeoJson => {
+                line.push_str(if place == 0 { "\n" } else { ",\n" })?;
+                self.push_polygon(line, face)
+            }
+            Form::Svg => self.push_svg_face(line, face),
+            _ => self.push_corners(form, line, place, face),
         }
-        writer.write_all(b"\n]}\n")
     }
 }

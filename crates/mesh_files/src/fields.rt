@@ -1,7 +1,7 @@
 //! Quoted fields in a table.
 
 /// Where in a row of a table a byte stands, as the crate `csv` reads it.
-#[derive(Clone, Copy, PartialEq, Eq)]
+#[derive(Clone, Copy)]
 pub(crate) enum Field {
     /// At the beginning of the text, where the three bytes of a mark may stand.
     First,
@@ -30,6 +30,11 @@ impl Field {
             (_, b',' | b'\n' | b'\r') => Field::Start,
             _ => Field::Bare,
         }
+    }
+
+    /// Whether a field is open that a quote opened.
+    pub(crate) fn is_quoted(self) -> bool {
+        matches!(self, Field::Quoted)
     }
 
     /// Whether a quote that comes next opens a field.

@@ -3,7 +3,7 @@
 //! Where a line ends in the position that it began with, that is one point. Properties and further
 //! numbers of a position are left out, which the drawing notes.
 use crate::drawing::{Drawing, Number, Spot};
-use crate::fault::{FileFault, Reason};
+use crate::fault::{FileFault, FilePlace, Reason};
 use crate::json_text::JsonText;
 use crate::shapes::{GeoPosition, LineKind, Shape};
 use crate::text::CheckedText;
@@ -13,6 +13,12 @@ use std::io::Read;
 
 /// How deep arrays nest round the numbers of a position, at most.
 const MAX_NESTING: u32 = 4;
+
+/// What should stand where coordinates are read.
+const COORDINATES: &str = "an array of coordinates";
+
+/// What should stand in an object that has not ended.
+const INNER: &str = "a member or an object of GeoJSON";
 
 /// The types of objects.
 #[derive(Clone, Copy)]
@@ -25,7 +31,7 @@ enum GeoType {
 }
 
 /// The members that say what an object is of.
-#[derive(Clone, Copy, PartialEq, Eq)]
+#[derive(Clone, Copy)]
 enum Member {
     Coordinates,
     Geometry,
@@ -49,13 +55,13 @@ impl GeoType {
         }
     }
 
-    /// The member that objects of this type have.
-    fn member(self) -> Member {
+    /// The name of the member that objects of this type have.
+    fn member(self) -> &'static str {
         match self {
-            GeoType::Shape(_, _) => Member::Coordinates,
-            GeoType::GeometryCollection => Member::Geometries,
-            GeoType::Feature => Member::Geometry,
-            GeoType::FeatureCollection => Member::Features,
+            GeoType::Shape(_, _) => "coordinates",
+            GeoType::GeometryCollection => "geometries",
+            GeoType::Feature => "geometry",
+            GeoType::FeatureCollection => "features",
         }
     }
 }
@@ -80,6 +86,17 @@ impl Member {
         }
     }
 
+    /// Whether objects of this type have this member.
+    fn is_of(self, kind: GeoType) -> bool {
+        matches!(
+            (self, kind),
+            (Member::Coordinates, GeoType::Shape(_, _))
+                | (Member::Geometry, GeoType::Feature)
+                | (Member::Geometries, GeoType::GeometryCollection)
+                | (Member::Features, GeoType::FeatureCollection)
+        )
+    }
+
     /// What is told where an object of this type does not stand in this member.
     fn refuses(self, inner: GeoType) -> Option<&'static str> {
         match (self, inner) {
@@ -100,8 +117,97 @@ struct Nesting {
 }
 
 impl Nesting {
-    fn with_depth(self, depth: u32) -> Self {
-        Nesting { depth, ..self }
+    /// Within another array, if there may be one.
+    fn opened(self) -> Option<Self> {
+        if self.depth < MAX_NESTING {
+            Some(Nesting {
+                depth: self.depth + 1,
+                most: self.most,
+            })
+        } else {
+            None
+        }
+    }
+
+    /// Behind the array, if it ends in no number.
+    fn closed(self) -> Option<Self> {
+        if self.depth == self.most {
+            return None;
+        }
+        Some(Nesting {
+            depth: self.depth.checked_sub(1)?,
+            most: self.most,
+        })
+    }
+
+    /// Behind an array of numbers, if it may be one.
+    fn passed(self) -> Option<Self> {
+        if self.most != 0 && self.most != self.depth {
+            return None;
+        }
+        Some(Nesting {
+            depth: self.depth.checked_sub(1)?,
+            most: self.depth,
+        })
+    }
+}
+
+/// What comes next in a text.
+#[derive(Clone, Copy)]
+enum Wanted {
+    /// The object that the text is.
+    Whole,
+    /// What stands in an object or its list, or the end of that.
+    Inner,
+    /// The name of a type.
+    Type,
+    /// The properties of a feature.
+    Properties,
+    /// One of them, or their end.
+    Property,
+    /// The geometry of a feature.
+    Geometry,
+    /// A list of objects.
+    List,
+    Coordinates,
+    /// The second number of a position, whose first stands there.
+    SecondNumber(Number, FilePlace),
+    /// Further numbers of a position, or its end.
+    MoreNumbers(GeoPosition),
+}
+
+/// What a token says that is part of no position.
+#[derive(Clone, Copy)]
+enum Step {
+    Next(Wanted),
+    Kind(GeoType),
+    Property,
+    List,
+    Object,
+}
+
+impl Wanted {
+    /// What a token says where this is wanted, or what should stand there.
+    fn step(self, token: Token<'_>) -> Result<Step, &'static str> {
+        match (self, token) {
+            (Wanted::Whole, Token::BeginObject) => Ok(Step::Next(Wanted::Inner)),
+            (Wanted::Whole, _) => Err("an object of GeoJSON"),
+            (Wanted::Type, Token::String(name)) => match GeoType::named(name) {
+                Some(kind) => Ok(Step::Kind(kind)),
+                None => Err("a type of GeoJSON"),
+            },
+            (Wanted::Type, _) => Err("a type of GeoJSON"),
+            (Wanted::Properties | Wanted::Geometry, Token::Null)
+            | (Wanted::Property, Token::EndObject) => Ok(Step::Next(Wanted::Inner)),
+            (Wanted::Properties, Token::BeginObject) => Ok(Step::Next(Wanted::Property)),
+            (Wanted::Properties, _) => Err("an object of properties"),
+            (Wanted::Property, Token::Key(_)) => Ok(Step::Property),
+            (Wanted::Property, _) => Err("a name of a property"),
+            (Wanted::Geometry, Token::BeginObject) => Ok(Step::Object),
+            (Wanted::Geometry, _) => Err("a geometry"),
+            (_, Token::BeginArray) => Ok(Step::List),
+            _ => Err("a list"),
+        }
     }
 }
 
@@ -115,255 +221,315 @@ struct GeoObject {
     is_in_list: bool,
 }
 
-/// A text as far as it was read, with the objects that have not ended.
-#[derive(Drop)]
-struct GeoText<'a> {
-    text: JsonText<'a>,
-    open: Vec<GeoObject>,
-    shape: Shape,
-    has_properties: bool,
-    has_more_numbers: bool,
-}
-
-impl<'a> GeoText<'a> {
-    fn fault(&self, reason: Reason) -> FileFault {
-        self.text.fault(reason)
-    }
-
-    /// Begins an object.
-    fn open_object(&mut self) -> Result<(), FileFault> {
-        if self.open.len() >= MAX_DEPTH {
-            return Err(self.fault(Reason::NotJson(MAX_DEPTH)));
-        }
-        self.open.push(GeoObject {
+impl GeoObject {
+    /// As it begins.
+    fn new() -> Self {
+        GeoObject {
             kind: None,
             member: None,
             nesting: 0,
             is_in_list: false,
-        })?;
+        }
+    }
+
+    /// The type of an object that ends: it has one and what goes with that, and may stand in this
+    /// member.
+    fn whole_type(&self, outer: Option<Member>) -> Result<GeoType, Reason> {
+        let Some(kind) = self.kind else {
+            return Err(Reason::NoMember("type"));
+        };
+        let Some(member) = self.member else {
+            return Err(Reason::NoMember(kind.member()));
+        };
+        if !member.is_of(kind) {
+            return Err(Reason::NotOfType(member.name()));
+        }
+        let Some(outer) = outer else {
+            return Ok(kind);
+        };
+        match outer.refuses(kind) {
+            Some(wanted) => Err(Reason::Expected(wanted)),
+            None => Ok(kind),
+        }
+    }
+}
+
+/// What was read of a text: the innermost object that has not ended, and those round it.
+#[derive(Drop)]
+struct GeoState {
+    wanted: Wanted,
+    object: GeoObject,
+    outer: Vec<GeoObject>,
+    nesting: Nesting,
+    shape: Shape,
+    feature: u32,
+    has_properties: bool,
+    has_more_numbers: bool,
+    skips_value: bool,
+    has_ended: bool,
+}
+
+impl GeoState {
+    fn new(alloc: Global) -> Self {
+        GeoState {
+            wanted: Wanted::Whole,
+            object: GeoObject::new(),
+            outer: Vec::new(alloc),
+            nesting: Nesting { depth: 0, most: 0 },
+            shape: Shape::new(alloc),
+            feature: 0,
+            has_properties: false,
+            has_more_numbers: false,
+            skips_value: false,
+            has_ended: false,
+        }
+    }
+
+    /// Begins an object in the innermost.
+    fn open_object(&mut self, at: FilePlace) -> Result<(), FileFault> {
+        self.outer.push(self.object)?;
+        if self.outer.len() >= MAX_DEPTH {
+            return Err(FileFault::in_place(at, Reason::NotJson(MAX_DEPTH)));
+        }
+        self.object = GeoObject::new();
+        self.wanted = Wanted::Inner;
         Ok(())
     }
 
-    /// Goes on with an object.
-    fn reopen(&mut self, object: GeoObject) -> Result<(), FileFault> {
-        self.open.push(object)?;
-        Ok(())
-    }
-
-    fn geo_type(&mut self) -> Result<GeoType, FileFault> {
-        if let Token::String(name) = self.text.next()? {
-            if let Some(kind) = GeoType::named(name) {
-                return Ok(kind);
+    /// Takes a token in that is part of no position.
+    fn take_step(&mut self, step: Step, at: FilePlace) -> Result<(), FileFault> {
+        match step {
+            Step::Next(wanted) => self.wanted = wanted,
+            Step::Kind(kind) => {
+                self.object.kind = Some(kind);
+                self.wanted = Wanted::Inner;
             }
+            Step::Property => {
+                self.has_properties = true;
+                self.skips_value = true;
+            }
+            Step::List => {
+                self.object.is_in_list = true;
+                self.wanted = Wanted::Inner;
+            }
+            Step::Object => return self.open_object(at),
         }
-        Err(self.fault(Reason::Expected("a type of GeoJSON")))
+        Ok(())
     }
 
-    /// A number of a position.
-    fn number(&mut self, name: &'static str, drawing: &mut Drawing) -> Result<Number, FileFault> {
-        match self.text.next()? {
-            Token::Number(word) => drawing.number(word.as_bytes(), name, self.text.at),
-            _ => Err(self.fault(Reason::Missing(name))),
+    /// Begins what an object is of.
+    fn begin_content(&mut self, member: Member, at: FilePlace) -> Result<(), FileFault> {
+        if let Some(other) = self.object.member {
+            let reason = Reason::Both(other.name(), member.name());
+            return Err(FileFault::in_place(at, reason));
         }
+        self.object.member = Some(member);
+        self.wanted = match member {
+            Member::Coordinates => Wanted::Coordinates,
+            Member::Geometry => Wanted::Geometry,
+            Member::Geometries | Member::Features => Wanted::List,
+        };
+        self.nesting = Nesting { depth: 0, most: 0 };
+        self.shape.clear();
+        Ok(())
     }
 
-    /// A position from its second number on.
-    fn position(&mut self, first: &str, drawing: &mut Drawing) -> Result<GeoPosition, FileFault> {
-        let at = self.text.at;
-        let x = drawing.number(first.as_bytes(), "x", at)?;
-        let y = self.number("y", drawing)?;
-        let spot = Spot::new(x, y, at);
-        let mut height = None;
-        for _ in 0..u64::MAX {
-            match self.text.next()? {
-                Token::Number(word) if height.is_none() => {
-                    height = Some(drawing.number(word.as_bytes(), "z", self.text.at)?);
+    /// Begins a member of an object.
+    fn begin_member(&mut self, name: &str, at: FilePlace) -> Result<(), FileFault> {
+        if let Some(member) = Member::named(name) {
+            return self.begin_content(member, at);
+        }
+        match name {
+            "type" => self.wanted = Wanted::Type,
+            "properties" => self.wanted = Wanted::Properties,
+            _ => self.skips_value = true,
+        }
+        Ok(())
+    }
+
+    /// Draws the coordinates of an object.
+    fn draw(&self, kind: GeoType, at: FilePlace, drawing: &mut Drawing) -> Result<(), FileFault> {
+        let GeoType::Shape(kind, nesting) = kind else {
+            return Ok(());
+        };
+        if self.object.nesting != 0 && self.object.nesting != nesting {
+            return Err(FileFault::in_place(at, Reason::OtherNesting));
+        }
+        self.shape.draw(kind, drawing)
+    }
+
+    /// Ends an object, and goes on with that round it.
+    fn close(&mut self, at: FilePlace, drawing: &mut Drawing) -> Result<(), FileFault> {
+        let outer = self.outer.pop();
+        let member = match outer {
+            Some(outer) => outer.member,
+            None => None,
+        };
+        match self.object.whole_type(member) {
+            Ok(kind) => self.draw(kind, at, drawing)?,
+            Err(reason) => return Err(FileFault::in_place(at, reason)),
+        }
+        match outer {
+            Some(outer) => self.object = outer,
+            None => self.has_ended = true,
+        }
+        Ok(())
+    }
+
+    /// Takes a token of a list of objects in.
+    fn take_in_list(&mut self, token: Token<'_>, at: FilePlace) -> Result<(), FileFault> {
+        match token {
+            Token::BeginObject => {
+                if matches!(self.object.member, Some(Member::Features)) {
+                    self.feature = self.feature.saturating_add(1);
                 }
-                Token::Number(_) => self.has_more_numbers = true,
-                Token::EndArray => break,
-                _ => return Err(self.fault(Reason::Expected("a number"))),
-            }
-        }
-        Ok(GeoPosition { spot, height })
-    }
-
-    /// Reads a token of coordinates.
-    fn coordinate_token(
-        &mut self,
-        at: Nesting,
-        drawing: &mut Drawing,
-    ) -> Result<Nesting, FileFault> {
-        let Nesting { depth, most } = at;
-        match self.text.next()? {
-            Token::BeginArray if depth < MAX_NESTING => Ok(at.with_depth(depth + 1)),
-            Token::EndArray if depth > 0 && depth != most => Ok(at.with_depth(depth - 1)),
-            Token::Number(first) if depth > 0 && (most == 0 || most == depth) => {
-                let position = self.position(first, drawing)?;
-                self.shape.add(position, drawing)?;
-                Ok(Nesting {
-                    depth: depth - 1,
-                    most: depth,
+                let FilePlace { line, .. } = at;
+                self.open_object(FilePlace {
+                    line,
+                    feature: self.feature,
                 })
             }
-            _ => Err(self.fault(Reason::Expected("an array of coordinates"))),
+            Token::EndArray => {
+                self.feature = 0;
+                self.object.is_in_list = false;
+                Ok(())
+            }
+            _ => Err(FileFault::in_place(at, Reason::Expected(INNER))),
         }
     }
 
-    /// Ends the line and the polygon that end here.
-    fn end_parts(&mut self, at: Nesting, drawing: &mut Drawing) -> Result<(), FileFault> {
-        if at.depth.saturating_add(2) < at.most {
+    /// Takes a token of an object in.
+    fn take_inner(
+        &mut self,
+        token: Token<'_>,
+        at: FilePlace,
+        drawing: &mut Drawing,
+    ) -> Result<(), FileFault> {
+        if self.object.is_in_list {
+            return self.take_in_list(token, at);
+        }
+        match token {
+            Token::Key(name) => self.begin_member(name, at),
+            Token::EndObject => self.close(at, drawing),
+            _ => Err(FileFault::in_place(at, Reason::Expected(INNER))),
+        }
+    }
+
+    /// Goes on behind a position, an array's begin or its end: ends the line, the polygon and the
+    /// coordinates that end here.
+    fn end_parts(&mut self, nesting: Nesting, drawing: &mut Drawing) -> Result<(), FileFault> {
+        let Nesting { depth, most } = nesting;
+        self.nesting = nesting;
+        self.wanted = Wanted::Coordinates;
+        if depth == 0 {
+            self.object.nesting = most;
+            self.wanted = Wanted::Inner;
+        }
+        if depth.saturating_add(2) < most {
             self.shape.end_polygon();
         }
-        if at.depth == 0 || at.depth.saturating_add(1) < at.most {
+        if depth == 0 || depth.saturating_add(1) < most {
             return self.shape.end_line(drawing);
         }
         Ok(())
     }
 
-    /// Reads coordinates, and gives how deep arrays nest round the numbers, or 0 without a number.
-    fn coordinates(&mut self, drawing: &mut Drawing) -> Result<u32, FileFault> {
-        let mut at = Nesting { depth: 0, most: 0 };
-        self.shape.clear();
-        for _ in 0..u64::MAX {
-            at = self.coordinate_token(at, drawing)?;
-            self.end_parts(at, drawing)?;
-            if at.depth == 0 {
-                break;
-            }
-        }
-        Ok(at.most)
-    }
-
-    /// Passes over the properties of a feature.
-    fn properties(&mut self) -> Result<(), FileFault> {
-        match self.text.next()? {
-            Token::Null => return Ok(()),
-            Token::BeginObject => {}
-            _ => return Err(self.fault(Reason::Expected("an object of properties"))),
-        }
-        for _ in 0..u64::MAX {
-            match self.text.next()? {
-                Token::Key(_) => {
-                    self.has_properties = true;
-                    self.text.skip_value()?;
-                }
-                Token::EndObject => break,
-                _ => return Err(self.fault(Reason::Expected("a name of a property"))),
-            }
-        }
-        Ok(())
-    }
-
-    /// Reads what an object is of, up to the first object in it.
-    fn content(
+    /// Takes a token of coordinates in.
+    fn take_coordinate(
         &mut self,
-        mut object: GeoObject,
-        member: Member,
+        token: Token<'_>,
+        at: FilePlace,
         drawing: &mut Drawing,
     ) -> Result<(), FileFault> {
-        if let Some(other) = object.member {
-            return Err(self.fault(Reason::Both(other.name(), member.name())));
-        }
-        object.member = Some(member);
-        match member {
-            Member::Coordinates => object.nesting = self.coordinates(drawing)?,
-            Member::Geometry => match self.text.next()? {
-                Token::Null => {}
-                Token::BeginObject => {
-                    self.reopen(object)?;
-                    return self.open_object();
-                }
-                _ => return Err(self.fault(Reason::Expected("a geometry"))),
-            },
-            Member::Geometries | Member::Features => match self.text.next()? {
-                Token::BeginArray => object.is_in_list = true,
-                _ => return Err(self.fault(Reason::Expected("a list"))),
-            },
-        }
-        self.reopen(object)
-    }
-
-    /// Reads a member of an object.
-    fn member(
-        &mut self,
-        mut object: GeoObject,
-        name: &str,
-        drawing: &mut Drawing,
-    ) -> Result<(), FileFault> {
-        if let Some(member) = Member::named(name) {
-            return self.content(object, member, drawing);
-        }
-        match name {
-            "type" => object.kind = Some(self.geo_type()?),
-            "properties" => self.properties()?,
-            _ => self.text.skip_value()?,
-        }
-        self.reopen(object)
-    }
-
-    /// Draws the coordinates of an object.
-    fn draw(&mut self, object: GeoObject, drawing: &mut Drawing) -> Result<(), FileFault> {
-        if let Some(GeoType::Shape(kind, nesting)) = object.kind {
-            if object.nesting != 0 && object.nesting != nesting {
-                return Err(self.fault(Reason::OtherNesting));
+        let next = match token {
+            Token::BeginArray => self.nesting.opened(),
+            Token::EndArray => self.nesting.closed(),
+            Token::Number(first) if self.nesting.passed().is_some() => {
+                let x = drawing.number(first.as_bytes(), "x", at)?;
+                self.wanted = Wanted::SecondNumber(x, at);
+                return Ok(());
             }
-            self.shape.draw(kind, drawing)?;
-        }
-        Ok(())
-    }
-
-    /// Ends an object: it has a type and what goes with that, and may stand where it does.
-    fn close(&mut self, object: GeoObject, drawing: &mut Drawing) -> Result<(), FileFault> {
-        let Some(kind) = object.kind else {
-            return Err(self.fault(Reason::NoMember("type")));
+            _ => None,
         };
-        match object.member {
-            None => return Err(self.fault(Reason::NoMember(kind.member().name()))),
-            Some(member) if member != kind.member() => {
-                return Err(self.fault(Reason::NotOfType(member.name())));
-            }
-            Some(_) => {}
-        }
-        if let Some(outer) = self.open.last() {
-            if let Some(member) = outer.member {
-                if let Some(wanted) = member.refuses(kind) {
-                    return Err(self.fault(Reason::Expected(wanted)));
-                }
-            }
-        }
-        self.draw(object, drawing)
-    }
-
-    /// Goes one step on in the innermost object.
-    fn step(&mut self, mut object: GeoObject, drawing: &mut Drawing) -> Result<(), FileFault> {
-        match self.text.next()? {
-            Token::Key(name) if !object.is_in_list => self.member(object, name, drawing),
-            Token::EndObject if !object.is_in_list => self.close(object, drawing),
-            Token::BeginObject if object.is_in_list => {
-                if matches!(object.member, Some(Member::Features)) {
-                    self.text.at.feature = self.text.at.feature.saturating_add(1);
-                }
-                self.reopen(object)?;
-                self.open_object()
-            }
-            Token::EndArray if object.is_in_list => {
-                self.text.at.feature = 0;
-                object.is_in_list = false;
-                self.reopen(object)
-            }
-            _ => Err(self.fault(Reason::Expected("a member or an object of GeoJSON"))),
+        match next {
+            Some(next) => self.end_parts(next, drawing),
+            None => Err(FileFault::in_place(at, Reason::Expected(COORDINATES))),
         }
     }
 
-    /// Reads the object that the text is.
-    fn read_objects(&mut self, drawing: &mut Drawing) -> Result<(), FileFault> {
-        for _ in 0..u64::MAX {
-            let Some(object) = self.open.pop() else {
-                break;
-            };
-            self.step(object, drawing)?;
+    /// Takes the second number of a position in.
+    fn take_second(
+        &mut self,
+        x: Number,
+        place: FilePlace,
+        token: Token<'_>,
+        at: FilePlace,
+        drawing: &mut Drawing,
+    ) -> Result<(), FileFault> {
+        let Token::Number(word) = token else {
+            return Err(FileFault::in_place(at, Reason::Missing("y")));
+        };
+        let y = drawing.number(word.as_bytes(), "y", at)?;
+        self.wanted = Wanted::MoreNumbers(GeoPosition {
+            spot: Spot::new(x, y, place),
+            height: None,
+        });
+        Ok(())
+    }
+
+    /// Ends a position.
+    fn end_position(
+        &mut self,
+        position: GeoPosition,
+        drawing: &mut Drawing,
+    ) -> Result<(), FileFault> {
+        self.shape.add(position, drawing)?;
+        match self.nesting.passed() {
+            Some(next) => self.end_parts(next, drawing),
+            None => Ok(()),
         }
-        self.text.end()
+    }
+
+    /// Takes a further number of a position in, or its end.
+    fn take_more(
+        &mut self,
+        position: GeoPosition,
+        token: Token<'_>,
+        at: FilePlace,
+        drawing: &mut Drawing,
+    ) -> Result<(), FileFault> {
+        match token {
+            Token::Number(_) if position.height.is_some() => self.has_more_numbers = true,
+            Token::Number(word) => {
+                let height = drawing.number(word.as_bytes(), "z", at)?;
+                self.wanted = Wanted::MoreNumbers(GeoPosition {
+                    spot: position.spot,
+                    height: Some(height),
+                });
+            }
+            Token::EndArray => return self.end_position(position, drawing),
+            _ => return Err(FileFault::in_place(at, Reason::Expected("a number"))),
+        }
+        Ok(())
+    }
+
+    /// Takes a token in.
+    fn take(
+        &mut self,
+        token: Token<'_>,
+        at: FilePlace,
+        drawing: &mut Drawing,
+    ) -> Result<(), FileFault> {
+        match self.wanted {
+            Wanted::Inner => self.take_inner(token, at, drawing),
+            Wanted::Coordinates => self.take_coordinate(token, at, drawing),
+            Wanted::SecondNumber(x, place) => self.take_second(x, place, token, at, drawing),
+            Wanted::MoreNumbers(position) => self.take_more(position, token, at, drawing),
+            wanted => match wanted.step(token) {
+                Ok(step) => self.take_step(step, at),
+                Err(wanted) => Err(FileFault::in_place(at, Reason::Expected(wanted))),
+            },
+        }
     }
 
     /// Notes what is left out.
@@ -376,16 +542,27 @@ impl<'a> GeoText<'a> {
         }
         Ok(())
     }
+}
 
-    /// Reads the whole text.
-    fn read(&mut self, drawing: &mut Drawing) -> Result<(), FileFault> {
-        let Token::BeginObject = self.text.next()? else {
-            return Err(self.fault(Reason::Expected("an object of GeoJSON")));
-        };
-        self.open_object()?;
-        self.read_objects(drawing)?;
-        self.note_left_out(drawing)
+/// Reads the object that a text is.
+fn read_object(
+    text: &mut JsonText<'_>,
+    state: &mut GeoState,
+    drawing: &mut Drawing,
+) -> Result<(), FileFault> {
+    for _ in 0..u64::MAX {
+        let token = text.next()?;
+        state.take(token, text.at, drawing)?;
+        text.at.feature = state.feature;
+        if state.skips_value {
+            text.skip_value()?;
+            state.skips_value = false;
+        }
+        if state.has_ended {
+            break;
+        }
     }
+    text.end()
 }
 
 /// A text without the mark that it may begin with.
@@ -396,10 +573,8 @@ fn without_mark(bytes: &[u8]) -> &[u8] {
     }
 }
 
-/// Reads GeoJSON.
-pub fn read_geojson<R: Read + Drop>(reader: R, alloc: Global) -> Result<Drawing, FileFault> {
-    let whole = CheckedText::whole(reader).read_all(alloc)?;
-    let bytes = without_mark(whole.as_slice()).trim_ascii_end();
+/// Reads a text of GeoJSON.
+fn read_text(bytes: &[u8], drawing: &mut Drawing, alloc: Global) -> Result<(), FileFault> {
     let Ok(text) = str::from_utf8(bytes) else {
         return Err(FileFault::at(0, Reason::NotUtf8));
     };
@@ -407,14 +582,17 @@ pub fn read_geojson<R: Read + Drop>(reader: R, alloc: Global) -> Result<Drawing,
     let Ok(reader) = Reader::new(text, &mut scratch) else {
         return Err(FileFault::at(0, Reason::NoMemory));
     };
+    let mut text = JsonText::new(reader, bytes);
+    let mut state = GeoState::new(alloc);
+    read_object(&mut text, &mut state, drawing)?;
+    state.note_left_out(drawing)
+}
+
+/// Reads GeoJSON.
+pub fn read_geojson<R: Read + Drop>(reader: R, alloc: Global) -> Result<Drawing, FileFault> {
+    let whole = CheckedText::whole(reader).read_all(alloc)?;
     let mut drawing = Drawing::new(alloc);
-    let mut source = GeoText {
-        text: JsonText::new(reader, bytes),
-        open: Vec::new(alloc),
-        shape: Shape::new(alloc),
-        has_properties: false,
-        has_more_numbers: false,
-    };
-    source.read(&mut drawing)?;
+    let bytes = without_mark(whole.as_slice()).trim_ascii_end();
+    read_text(bytes, &mut drawing, alloc)?;
     Ok(drawing)
 }

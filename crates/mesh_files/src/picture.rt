@@ -2,8 +2,6 @@
 use crate::writing::MeshText;
 use decimal_numbers::Decimal;
 use std::alloc::AllocError;
-use std::io;
-use std::io::Write;
 
 /// The part of the plane that a picture shows, in whole coordinates, with y downwards.
 #[derive(Clone, Copy)]
@@ -12,6 +10,21 @@ struct Frame {
     top: i64,
     width: i64,
     height: i64,
+}
+
+impl Frame {
+    /// The width of lines: so many thousandths of the picture's greater side.
+    fn line_width(&self, thousandths: u64) -> Decimal {
+        Decimal {
+            negative: false,
+            magnitude: self
+                .width
+                .max(self.height)
+                .unsigned_abs()
+                .saturating_mul(thousandths),
+            digits: 3,
+        }
+    }
 }
 
 impl MeshText<'_> {
@@ -37,7 +50,7 @@ impl MeshText<'_> {
         }
     }
 
-    fn push_corner(&self, line: &mut String, place: u32) -> io::Result<()> {
+    fn push_corner(&self, line: &mut String, place: u32) -> Result<(), AllocError> {
         if let Some(point) = self.scaled.points.get(place as usize) {
             let (x, y) = (point.x, i64::from(point.y).wrapping_neg());
             write!(line, "{x},{y} ")?;
@@ -45,32 +58,32 @@ impl MeshText<'_> {
         Ok(())
     }
 
-    fn write_svg_faces<W: Write>(&self, writer: &mut W, line: &mut String) -> io::Result<()> {
-        for [a, b, c] in self.faces {
-            line.clear();
-            line.push_str("<polygon points=\"")?;
-            self.push_corner(line, *a)?;
-            self.push_corner(line, *b)?;
-            self.push_corner(line, *c)?;
-            line.push_str("\"/>\n")?;
-            writer.write_all(line.as_bytes())?;
-        }
-        Ok(())
+    pub(crate) fn push_svg_face(
+        &self,
+        line: &mut String,
+        [a, b, c]: &[u32; 3],
+    ) -> Result<(), AllocError> {
+        line.push_str("<polygon points=\"")?;
+        self.push_corner(line, *a)?;
+        self.push_corner(line, *b)?;
+        self.push_corner(line, *c)?;
+        line.push_str("\"/>\n")
     }
 
-    fn write_svg_walls<W: Write>(&self, writer: &mut W, line: &mut String) -> io::Result<()> {
-        for [a, b] in self.walls {
-            line.clear();
-            line.push_str("<polyline points=\"")?;
-            self.push_corner(line, *a)?;
-            self.push_corner(line, *b)?;
-            line.push_str("\"/>\n")?;
-            writer.write_all(line.as_bytes())?;
-        }
-        Ok(())
+    /// Puts the line of a constraint behind a line.
+    pub(crate) fn push_wall(&self, line: &mut String, place: usize) -> Result<(), AllocError> {
+        let Some([a, b]) = self.walls.get(place) else {
+            return Ok(());
+        };
+        line.push_str("<polyline points=\"")?;
+        self.push_corner(line, *a)?;
+        self.push_corner(line, *b)?;
+        line.push_str("\"/>\n")
     }
 
-    fn push_svg_head(&self, line: &mut String, frame: Frame) -> Result<(), AllocError> {
+    // Lines are as thick on the screen whatever the coordinates are.
+    pub(crate) fn push_svg_head(&self, line: &mut String) -> Result<(), AllocError> {
+        let frame = self.frame();
         let Frame {
             left,
             top,
@@ -78,35 +91,21 @@ impl MeshText<'_> {
             height,
         } = frame;
         let pixels = self.width;
+        let thin = frame.line_width(1);
         line.push_str("<svg xmlns=\"http://www.w3.org/2000/svg\" ")?;
         writeln!(
             line,
             "viewBox=\"{left} {top} {width} {height}\" width=\"{pixels}\">"
-        )
+        )?;
+        line.push_str("<g fill=\"#eef3f8\" stroke=\"#456\" stroke-linejoin=\"round\" ")?;
+        writeln!(line, "stroke-width=\"{thin}\">")
     }
 
-    // Lines are as thick on the screen whatever the coordinates are.
-    pub(crate) fn write_svg<W: Write>(&self, writer: &mut W, line: &mut String) -> io::Result<()> {
-        let frame = self.frame();
-        line.clear();
-        self.push_svg_head(line, frame)?;
-        line.push_str("<g fill=\"#eef3f8\" stroke=\"#456\" stroke-linejoin=\"round\" ")?;
-        let mut thin = Decimal {
-            negative: false,
-            magnitude: frame.width.max(frame.height).unsigned_abs(),
-            digits: 3,
-        };
-        writeln!(line, "stroke-width=\"{thin}\">")?;
-        writer.write_all(line.as_bytes())?;
-        self.write_svg_faces(writer, line)?;
-        line.clear();
-        thin.magnitude = thin.magnitude.saturating_mul(3);
+    pub(crate) fn push_wall_head(&self, line: &mut String) -> Result<(), AllocError> {
+        let thick = self.frame().line_width(3);
         writeln!(
             line,
-            "</g>\n<g fill=\"none\" stroke=\"#c30\" stroke-width=\"{thin}\">"
-        )?;
-        writer.write_all(line.as_bytes())?;
-        self.write_svg_walls(writer, line)?;
-        writer.write_all(b"</g>\n</svg>\n")
+            "</g>\n<g fill=\"none\" stroke=\"#c30\" stroke-width=\"{thick}\">"
+        )
     }
 }

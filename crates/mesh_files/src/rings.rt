@@ -3,27 +3,24 @@ use crate::drawing::{Drawing, Ring};
 use delaunay_core::point::Point2;
 use std::alloc::{AllocError, Global};
 
-/// A line that goes one way, by its direction in least numbers and how far it is from 0.
+/// A side of a ring, or a part of one: the direction of its line in least numbers, how far the line
+/// is from 0, and of both ends how far on the line they are, and the places of their points.
 #[derive(Clone, Copy, PartialEq, Eq, PartialOrd, Ord)]
-struct Heading {
+struct RingSide {
     dx: i64,
     dy: i64,
     offset: i64,
+    from: i64,
+    from_place: u32,
+    to: i64,
+    to_place: u32,
 }
 
-/// An end of a ring's side: how far on the line it is, and its point's place.
-#[derive(Clone, Copy, PartialEq, Eq, PartialOrd, Ord)]
-struct SideEnd {
-    along: i64,
-    place: u32,
-}
-
-/// A side of a ring, or a part of one.
-#[derive(Clone, Copy, PartialEq, Eq, PartialOrd, Ord)]
-struct RingSide {
-    line: Heading,
-    from: SideEnd,
-    to: SideEnd,
+impl RingSide {
+    /// Whether two sides are on one line, and go the same way.
+    fn is_along(&self, other: &RingSide) -> bool {
+        self.dx == other.dx && self.dy == other.dy && self.offset == other.offset
+    }
 }
 
 /// The greatest common divisor of two numbers.
@@ -35,30 +32,23 @@ fn common_divisor(first: u64, second: u64) -> u64 {
 }
 
 /// The side between two points; none where they are at one position.
-fn side_between(points: &[Point2<i32>], from: u32, to: u32) -> Option<RingSide> {
-    let start = points.get(from as usize)?;
-    let end = points.get(to as usize)?;
+fn side_between(points: &[Point2<i32>], from_place: u32, to_place: u32) -> Option<RingSide> {
+    let start = points.get(from_place as usize)?;
+    let end = points.get(to_place as usize)?;
     let (x, y) = (i64::from(start.x), i64::from(start.y));
     let (end_x, end_y) = (i64::from(end.x), i64::from(end.y));
     let (dx, dy) = (end_x.wrapping_sub(x), end_y.wrapping_sub(y));
     let divisor = common_divisor(dx.unsigned_abs(), dy.unsigned_abs());
     let divisor = i64::try_from(divisor).ok()?;
     let (dx, dy) = (dx.checked_div(divisor)?, dy.checked_div(divisor)?);
-    let along = |x: i64, y: i64| dx.wrapping_mul(x).wrapping_add(dy.wrapping_mul(y));
     Some(RingSide {
-        line: Heading {
-            dx,
-            dy,
-            offset: dx.wrapping_mul(y).wrapping_sub(dy.wrapping_mul(x)),
-        },
-        from: SideEnd {
-            along: along(x, y),
-            place: from,
-        },
-        to: SideEnd {
-            along: along(end_x, end_y),
-            place: to,
-        },
+        dx,
+        dy,
+        offset: dx.wrapping_mul(y).wrapping_sub(dy.wrapping_mul(x)),
+        from: dx.wrapping_mul(x).wrapping_add(dy.wrapping_mul(y)),
+        from_place,
+        to: dx.wrapping_mul(end_x).wrapping_add(dy.wrapping_mul(end_y)),
+        to_place,
     })
 }
 
@@ -121,17 +111,13 @@ fn polygon_sides(
     Ok(sides)
 }
 
-/// The first place in a list in order at which a side on this line may stand.
-fn first_on(line: Heading, sides: &[RingSide]) -> usize {
-    let least = SideEnd {
-        along: i64::MIN,
-        place: 0,
-    };
-    let least = RingSide {
-        line,
-        from: least,
-        to: least,
-    };
+/// The first place in a list in order at which a side on this one's line may stand.
+fn first_on(side: &RingSide, sides: &[RingSide]) -> usize {
+    let mut least = *side;
+    least.from = i64::MIN;
+    least.from_place = 0;
+    least.to = i64::MIN;
+    least.to_place = 0;
     match sides.binary_search(&least) {
         Ok(first) | Err(first) => first,
     }
@@ -144,21 +130,22 @@ fn add_open(
     sides: &[RingSide],
     open: &mut Vec<[u32; 2]>,
 ) -> Result<(), AllocError> {
-    let mut from = side.from;
-    let others = sides.get(first_on(side.line, sides)..).unwrap_or(&[]);
+    let (mut from, mut place) = (side.from, side.from_place);
+    let others = sides.get(first_on(side, sides)..).unwrap_or(&[]);
     for other in others {
-        if other.line != side.line || other.from.along >= side.to.along {
+        if !other.is_along(side) || other.from >= side.to {
             break;
         }
-        if from.along < other.from.along {
-            open.push([from.place, other.from.place])?;
+        if from < other.from {
+            open.push([place, other.from_place])?;
         }
-        if from.along < other.to.along {
+        if from < other.to {
             from = other.to;
+            place = other.to_place;
         }
     }
-    if from.along < side.to.along {
-        open.push([from.place, side.to.place])?;
+    if from < side.to {
+        open.push([place, side.to_place])?;
     }
     Ok(())
 }

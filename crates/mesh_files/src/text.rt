@@ -13,7 +13,7 @@ const MAX_LINE: u32 = 1 << 16;
 const MAX_TEXT: u32 = 1 << 29;
 
 /// What of a text has a greatest length.
-#[derive(Clone, Copy, PartialEq, Eq)]
+#[derive(Clone, Copy)]
 enum Bound {
     Line,
     /// A row of a table, with the line ends that stand in its quoted fields.
@@ -22,7 +22,7 @@ enum Bound {
 }
 
 /// Why a text is read no further.
-#[derive(Clone, Copy, PartialEq, Eq)]
+#[derive(Clone, Copy)]
 enum Stop {
     LongLine,
     LongText,
@@ -84,7 +84,7 @@ impl<R: Read> CheckedText<R> {
         if self.size > limit {
             self.stop = Some(match self.bound {
                 Bound::Text => Stop::LongText,
-                Bound::Row if self.field == Field::Quoted => Stop::OpenQuote,
+                Bound::Row if self.field.is_quoted() => Stop::OpenQuote,
                 Bound::Line | Bound::Row => Stop::LongLine,
             });
         }
@@ -93,7 +93,7 @@ impl<R: Read> CheckedText<R> {
     /// Passes the end of a line, which ends a row too where it stands in no quoted field.
     fn end_line(&mut self) {
         self.line = self.line.saturating_add(1);
-        if self.bound == Bound::Text || self.field == Field::Quoted {
+        if matches!(self.bound, Bound::Text) || self.field.is_quoted() {
             self.count(1);
         } else {
             self.size = 0;
@@ -143,7 +143,7 @@ impl<R: Read> CheckedText<R> {
             None => bytes,
         };
         let is_bare = self.field.is_bare_without_quotes() && memchr(b'"', text).is_none();
-        if self.bound != Bound::Row || is_bare {
+        if is_bare || !matches!(self.bound, Bound::Row) {
             self.check_lines(text);
         } else {
             self.check_fields(text);
@@ -185,7 +185,7 @@ impl<R: Read> Read for CheckedText<R> {
         match self.reader.read(buf) {
             Ok(count) => {
                 self.check(&buf[..count]);
-                if count == 0 && !buf.is_empty() && self.field == Field::Quoted {
+                if count == 0 && !buf.is_empty() && self.field.is_quoted() {
                     self.stop = Some(Stop::OpenQuote);
                 }
                 match self.stop {

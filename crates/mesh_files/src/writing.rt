@@ -1,5 +1,5 @@
 //! A mesh that is to be written, and its forms.
-use crate::drawing::Drawing;
+use crate::drawing::{Drawing, Number};
 use crate::scaled::Scaled;
 use std::alloc::{AllocError, Global};
 use std::io;
@@ -33,6 +33,27 @@ impl Form {
     }
 }
 
+/// What of a mesh lines of a text are for.
+#[derive(Clone, Copy)]
+enum Part {
+    Head,
+    Points,
+    Faces,
+    WallHead,
+    Walls,
+    Tail,
+}
+
+/// The parts of a text, in order.
+const PARTS: [Part; 6] = [
+    Part::Head,
+    Part::Points,
+    Part::Faces,
+    Part::WallHead,
+    Part::Walls,
+    Part::Tail,
+];
+
 /// A mesh that is to be written: a drawing, faces by the places of their corners in its list of
 /// points, and in the same way the edges that are constraints. A picture has this width, in pixels.
 #[derive(Drop)]
@@ -44,135 +65,128 @@ pub struct MeshText<'a> {
     pub width: u32,
 }
 
-/// The numbers of a face's corners, from 1.
-pub(crate) fn corner_numbers([a, b, c]: &[u32; 3]) -> (u64, u64, u64) {
-    (u64::from(*a) + 1, u64::from(*b) + 1, u64::from(*c) + 1)
-}
-
-/// Puts bytes that are text behind a line.
-fn push_text(line: &mut String, bytes: &[u8]) -> Result<(), AllocError> {
-    match str::from_utf8(bytes) {
-        Ok(text) => line.push_str(text),
-        Err(_) => Ok(()),
-    }
-}
-
 impl MeshText<'_> {
+    /// Puts a number behind a line, as it came.
+    fn push_number(&self, line: &mut String, number: &Number) -> Result<(), AllocError> {
+        match str::from_utf8(self.drawing.text_of(number)) {
+            Ok(text) => line.push_str(text),
+            Err(_) => Ok(()),
+        }
+    }
+
     /// Puts the numbers of a point behind a line, as they came.
-    pub(crate) fn push_point(
-        &self,
-        line: &mut String,
-        place: usize,
-        between: &str,
-    ) -> Result<(), AllocError> {
+    fn push_point(&self, line: &mut String, place: usize) -> Result<(), AllocError> {
         if let Some(spot) = self.drawing.spots.get(place) {
-            push_text(line, self.drawing.text_of(&spot.x))?;
-            line.push_str(between)?;
-            push_text(line, self.drawing.text_of(&spot.y))?;
+            self.push_number(line, &spot.x)?;
+            line.push(' ')?;
+            self.push_number(line, &spot.y)?;
         }
         if let Some(height) = self.drawing.heights.get(place) {
-            line.push_str(between)?;
-            push_text(line, self.drawing.text_of(height))?;
+            line.push(' ')?;
+            self.push_number(line, height)?;
         }
         Ok(())
     }
 
-    /// Writes each point behind a word, with height 0 where it has none.
-    fn write_points<W: Write>(
+    /// Puts a point's line behind a line, which has what stands before its numbers.
+    fn push_point_line(
         &self,
-        word: &str,
-        writer: &mut W,
+        form: Form,
         line: &mut String,
-    ) -> io::Result<()> {
-        for place in 0..self.drawing.spots.len() {
-            line.clear();
-            line.push_str(word)?;
-            self.push_point(line, place, " ")?;
-            if self.drawing.heights.is_empty() {
-                line.push_str(" 0")?;
+        place: usize,
+    ) -> Result<(), AllocError> {
+        match form {
+            Form::Obj => line.push_str("v ")?,
+            Form::Node => {
+                let number = place.saturating_add(1);
+                write!(line, "{number} ")?;
             }
-            line.push('\n')?;
-            writer.write_all(line.as_bytes())?;
+            _ => {}
         }
-        Ok(())
+        self.push_point(line, place)?;
+        line.push_str(if self.drawing.heights.is_empty() && form != Form::Node {
+            " 0\n"
+        } else {
+            "\n"
+        })
     }
 
-    fn write_obj<W: Write>(&self, writer: &mut W, line: &mut String) -> io::Result<()> {
-        self.write_points("v ", writer, line)?;
-        for face in self.faces {
-            line.clear();
-            let (a, b, c) = corner_numbers(face);
-            writeln!(line, "f {a} {b} {c}")?;
-            writer.write_all(line.as_bytes())?;
-        }
-        Ok(())
-    }
-
-    fn write_ply_head<W: Write>(&self, writer: &mut W, line: &mut String) -> io::Result<()> {
+    fn push_ply_head(&self, line: &mut String) -> Result<(), AllocError> {
         let (points, faces) = (self.drawing.spots.len(), self.faces.len());
-        line.clear();
         writeln!(line, "ply\nformat ascii 1.0\nelement vertex {points}")?;
         line.push_str("property double x\nproperty double y\nproperty double z\n")?;
         writeln!(line, "element face {faces}")?;
-        line.push_str("property list uchar uint vertex_indices\nend_header\n")?;
-        writer.write_all(line.as_bytes())
+        line.push_str("property list uchar uint vertex_indices\nend_header\n")
     }
 
-    fn write_ply<W: Write>(&self, writer: &mut W, line: &mut String) -> io::Result<()> {
-        self.write_ply_head(writer, line)?;
-        self.write_points("", writer, line)?;
-        for [a, b, c] in self.faces {
-            line.clear();
-            writeln!(line, "3 {a} {b} {c}")?;
-            writer.write_all(line.as_bytes())?;
-        }
-        Ok(())
-    }
-
-    fn write_node<W: Write>(&self, writer: &mut W, line: &mut String) -> io::Result<()> {
-        line.clear();
+    fn push_node_head(&self, line: &mut String) -> Result<(), AllocError> {
         let count = self.drawing.spots.len();
         let attributes = u8::from(!self.drawing.heights.is_empty());
-        writeln!(line, "{count} 2 {attributes} 0")?;
-        writer.write_all(line.as_bytes())?;
-        for place in 0..count {
-            let number = place.saturating_add(1);
-            line.clear();
-            write!(line, "{number} ")?;
-            self.push_point(line, place, " ")?;
-            line.push('\n')?;
-            writer.write_all(line.as_bytes())?;
-        }
-        Ok(())
+        writeln!(line, "{count} 2 {attributes} 0")
     }
 
-    fn write_ele<W: Write>(&self, writer: &mut W, line: &mut String) -> io::Result<()> {
-        line.clear();
+    fn push_ele_head(&self, line: &mut String) -> Result<(), AllocError> {
         let count = self.faces.len();
-        writeln!(line, "{count} 3 0")?;
-        writer.write_all(line.as_bytes())?;
-        let mut number = 0u64;
-        for face in self.faces {
-            number = number.saturating_add(1);
-            line.clear();
-            let (a, b, c) = corner_numbers(face);
-            writeln!(line, "{number} {a} {b} {c}")?;
-            writer.write_all(line.as_bytes())?;
+        writeln!(line, "{count} 3 0")
+    }
+
+    fn push_head(&self, form: Form, line: &mut String) -> Result<(), AllocError> {
+        match form {
+            Form::Obj => Ok(()),
+            Form::Ply => self.push_ply_head(line),
+            Form::GeoJson => line.push_str("{\"type\":\"FeatureCollection\",\"features\":["),
+            Form::Svg => self.push_svg_head(line),
+            Form::Ele => self.push_ele_head(line),
+            Form::Node => self.push_node_head(line),
+            Form::Csv => line.push_str("a,b,c,area\n"),
         }
-        Ok(())
+    }
+
+    /// How many lines a part has.
+    fn count(&self, form: Form, part: Part) -> usize {
+        match (part, form) {
+            (Part::Head, _) => 1,
+            (Part::Points, Form::Obj | Form::Ply | Form::Node) => self.drawing.spots.len(),
+            (Part::Faces, Form::Node) => 0,
+            (Part::Faces, _) => self.faces.len(),
+            (Part::Walls, Form::Svg) => self.walls.len(),
+            (Part::WallHead, Form::Svg) => 1,
+            (Part::Tail, Form::GeoJson | Form::Svg) => 1,
+            _ => 0,
+        }
+    }
+
+    /// Puts a line of a part behind a line.
+    fn push_line(
+        &self,
+        form: Form,
+        part: Part,
+        place: usize,
+        line: &mut String,
+    ) -> Result<(), AllocError> {
+        match part {
+            Part::Head => self.push_head(form, line),
+            Part::Points => self.push_point_line(form, line, place),
+            Part::Faces => self.push_face_line(form, line, place),
+            Part::WallHead => self.push_wall_head(line),
+            Part::Walls => self.push_wall(line, place),
+            Part::Tail => line.push_str(match form {
+                Form::Svg => "</g>\n</svg>\n",
+                _ => "\n]}\n",
+            }),
+        }
     }
 
     /// Writes the mesh in this form.
     pub fn write<W: Write>(&self, form: Form, writer: &mut W, alloc: Global) -> io::Result<()> {
         let mut line = String::new(alloc);
-        match form {
-            Form::Obj => self.write_obj(writer, &mut line),
-            Form::Ply => self.write_ply(writer, &mut line),
-            Form::GeoJson => self.write_geojson(writer, &mut line),
-            Form::Svg => self.write_svg(writer, &mut line),
-            Form::Ele => self.write_ele(writer, &mut line),
-            Form::Node => self.write_node(writer, &mut line),
-            Form::Csv => self.write_csv(writer, &mut line),
+        for part in PARTS {
+            for place in 0..self.count(form, part) {
+                line.clear();
+                self.push_line(form, part, place, &mut line)?;
+                writer.write_all(line.as_bytes())?;
+            }
         }
+        Ok(())
     }
 }
