@@ -34,9 +34,7 @@ pub fn insert_inside_face<V: HasPosition, DE: Default, UE: Default, F: Default>(
     ensures takes { GainsVertex V.place value (state_of dcel.old) (state_of dcel.new) result }
     ensures edges { AddsOnly UE.is_default (edges dcel.old) (edges dcel.new) }
 {
-    let vertex = dcel.insert_into_triangle(value, face);
-    dcel.recall_invariant();
-    vertex
+    dcel.insert_into_triangle(value, face)
 }
 
 // A vertex strictly within an edge between two inner faces, joined to their corners.
@@ -54,7 +52,6 @@ fn split_inner_edge<V: HasPosition, DE: Default, UE: Default, F: Default>(
         result.1 }
 {
     let (vertex, parts) = dcel.split_edge(edge, value);
-    dcel.recall_invariant();
     (vertex, parts[1].as_undirected())
 }
 
@@ -73,7 +70,6 @@ fn split_hull_edge<V: HasPosition, DE: Default, UE: Default, F: Default>(
         result.1 }
 {
     let (vertex, parts) = dcel.split_half_edge(edge, value);
-    dcel.recall_invariant();
     (vertex, parts[1].as_undirected())
 }
 

@@ -26,9 +26,7 @@ pub fn insert_first<V: HasPosition, DE, UE: Default, F>(
     ensures takes { GainsVertex V.place value (state_of dcel.old) (state_of dcel.new) result }
     ensures edges { AddsOnly UE.is_default (edges dcel.old) (edges dcel.new) }
 {
-    let vertex = dcel.append_unconnected_vertex(value);
-    dcel.recall_invariant();
-    vertex
+    dcel.append_unconnected_vertex(value)
 }
 
 /// Puts the second vertex into a mesh, joins it to the first, and gives its handle.
@@ -43,10 +41,8 @@ pub fn insert_second<V: HasPosition, DE: Default, UE: Default, F>(
     ensures takes { GainsVertex V.place value (state_of dcel.old) (state_of dcel.new) result }
     ensures edges { AddsOnly UE.is_default (edges dcel.old) (edges dcel.new) }
 {
-    dcel.recall_invariant();
     let vertex = dcel.append_unconnected_vertex(value);
     dcel.setup_initial_two_vertices(FixedVertexHandle::from_index(0), vertex);
-    dcel.recall_invariant();
     vertex
 }
 
@@ -68,9 +64,7 @@ pub fn insert_past_end<V: HasPosition, DE: Default, UE: Default, F>(
     ensures edges { AddsOnly UE.is_default (edges dcel.old) (edges dcel.new) }
 {
     let end = dcel.directed_edge(edge).from().fix();
-    let vertex = dcel.extend_line(end, value);
-    dcel.recall_invariant();
-    vertex
+    dcel.extend_line(end, value)
 }
 
 // A vertex strictly within an edge of the line of all vertices, and the second half of the edge.
@@ -87,6 +81,5 @@ pub(crate) fn split_line_edge<V: HasPosition, DE: Default, UE: Default, F>(
         result.1 }
 {
     let (vertex, parts) = dcel.split_edge_when_all_vertices_on_line(edge, value);
-    dcel.recall_invariant();
     (vertex, parts[1].as_undirected())
 }

@@ -109,11 +109,9 @@ pub fn join_outside<V: HasPosition, DE: Default, UE: Default, F: Default, P: Pla
     let mut behind = FixedDirectedEdgeHandle::from_index(edges - 1);
     while let Some(_after) = if_seen(dcel, edge_after(dcel, ahead), vertex, tests) {
         ahead = dcel.create_single_face_between_edge_and_next(ahead);
-        dcel.recall_invariant();
     }
     while let Some(before) = if_seen(dcel, edge_before(dcel, behind), vertex, tests) {
         behind = dcel.create_single_face_between_edge_and_next(before);
-        dcel.recall_invariant();
     }
     vertex
 }

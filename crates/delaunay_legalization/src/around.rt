@@ -120,5 +120,4 @@ pub(crate) fn legalize_round<
             break;
         }
     }
-    dcel.recall_invariant();
 }

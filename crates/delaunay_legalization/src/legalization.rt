@@ -1,6 +1,7 @@
 //! Flips of edges that fail the circle test, until each edge passes but the constraints.
 ghost use Rattle.std.specs.Prelude.{◌≡◌, ◌↔◌, ◌+◌, ◌-◌, ◌*◌, ◌/◌, ◌<◌, ◌≤◌, ◌^◌, ◌++◌, ◌∷◌, []};
 ghost use Rattle.std.specs.Prelude.{length, map, All, Contains, IsTrue};
+ghost use Rattle.half_edge_mesh.specs.Contents.{IsMeshWithData};
 ghost use Rattle.half_edge_mesh.specs.Mesh.{origin, next, prev, face, rev};
 ghost use Rattle.half_edge_mesh.specs.Flip.{flipped};
 ghost use Rattle.plane_tiling.specs.Local.{IsMesh};
@@ -166,6 +167,7 @@ pub(crate) fn flip<V: HasPosition, DE, UE, F>(
     ensures mesh { dcel.new.mesh ≡ flipped dcel.old.mesh (2 * edge) }
     ensures contents { dcel.new ≡ record dcel.old { mesh = dcel.new.mesh } }
     ensures flips { flips.new ≡ flips.old + 1 }
+    ensures whole { IsMeshWithData dcel.new }
 {
     dcel.recall_invariant();
     dcel.flip_cw(edge);
@@ -231,6 +233,7 @@ fn legalize_edge<M: ConstraintMarker<UE>, V: HasPosition, DE, UE, F, P: PlaneTes
     ensures step { HasStepped sides.now (map V.place dcel.old.vertices)
         (constraint_pairs M.constraints dcel.old.mesh dcel.old.undirected) dcel.old.mesh
         dcel.new.mesh (work.old.items ++ edge ∷ []) work.new.items flips.old flips.new }
+    ensures whole { IsMeshWithData dcel.new }
     ensures capacity { work.new.room ≡ work.old.room }
 {
     dcel.recall_invariant();
@@ -240,7 +243,6 @@ fn legalize_edge<M: ConstraintMarker<UE>, V: HasPosition, DE, UE, F, P: PlaneTes
     if is_failing(dcel, edge, tests) {
         push_left(dcel, edge.as_directed(), sides, work);
         flip(dcel, edge, flips);
-        dcel.recall_invariant();
     }
 }
 
@@ -261,11 +263,10 @@ pub(crate) fn legalize_by<
     ensures done { work.new.items ≡ [] }
     ensures capacity { work.new.room ≡ work.old.room }
 {
+    dcel.recall_invariant();
     while let Some(edge) = work.pop() {
-        dcel.recall_invariant();
         legalize_edge::<M, _, _, _, _, _>(dcel, edge, sides, tests, work, flips);
     }
-    dcel.recall_invariant();
 }
 
 /// Flips edges until each passes the circle test, but for the outer ones and the constraints, where

@@ -98,7 +98,6 @@ fn turn<V: HasPosition, DE, UE, F, P: PlaneTests<V::Scalar>>(
     match way_made(dcel, edge, from, to, tests) {
         Some(way) => {
             dcel.flip_cw(whole);
-            dcel.recall_invariant();
             lists.waiting.push_reserved(way);
         }
         None => {

@@ -62,9 +62,7 @@ fn drop_vertex<V: HasPosition, DE, UE, F>(
     ensures kept { IsTriangulated V.place (state_of dcel.new) }
     ensures drops { DropsVertex dcel.old dcel.new vertex result }
 {
-    let value = dcel.swap_remove_vertex(vertex);
-    dcel.recall_invariant();
-    value
+    dcel.swap_remove_vertex(vertex)
 }
 
 // Removes the edges of a vertex in the plane, and its faces. `lists` gets what each turned one

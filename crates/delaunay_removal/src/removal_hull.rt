@@ -114,7 +114,6 @@ fn cut_corner<V: HasPosition, DE: Drop, UE: Drop, F: Drop>(
 {
     collect_sides(dcel, first, count - 1, sides);
     let _ = dcel.disconnect_edge_strip(sides.as_slice());
-    dcel.recall_invariant();
 }
 
 // Removes the edges of a vertex on a flat side of the hull that has three of them. Its two faces
@@ -137,7 +136,6 @@ fn close_flat<V: HasPosition, DE: Drop, UE: Drop, F: Drop>(
     turn_away(dcel, first, turned);
     let sides = [opposite_side(dcel, first)];
     let _ = dcel.disconnect_edge_strip(&sides);
-    dcel.recall_invariant();
 }
 
 // Removes the edges of a vertex on the hull, from which `first` starts, with the outer face on its

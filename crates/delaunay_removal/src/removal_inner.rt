@@ -78,7 +78,6 @@ fn fill_three<V, DE: Drop, UE: Drop, F: Drop>(
         opposite_side(dcel, third),
     ];
     let _ = dcel.isolate_vertex_and_fill_hole(&border, vertex);
-    dcel.recall_invariant();
 }
 
 // Whether a vertex is strictly between the end of an edge at it and the end of the edge after the

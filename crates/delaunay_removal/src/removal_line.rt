@@ -21,7 +21,5 @@ pub(crate) fn remove_on_line<V: HasPosition, DE: Drop, UE: Drop, F>(
         (state_of dcel.new) vertex result [] }
     ensures edges { RenumbersEdges dcel.old dcel.new vertex }
 {
-    let value = dcel.remove_when_degenerate(vertex);
-    dcel.recall_invariant();
-    value
+    dcel.remove_when_degenerate(vertex)
 }

@@ -101,5 +101,4 @@ pub(crate) fn turn_away<V: HasPosition, DE, UE, F>(
     let after = ccw_edge(dcel, edge);
     turned.push_reserved(ends_beside(dcel, edge));
     dcel.flip_cw(after.as_undirected());
-    dcel.recall_invariant();
 }

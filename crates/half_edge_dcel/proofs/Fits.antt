@@ -1,13 +1,13 @@
 -- There are data for each part of a mesh after a change.
--- Lemmas: length-grown, fits_as, fits_vertex, fits_hung, fits_closed, fits_flipped, fits_inserted,
--- length_moved, length_moved_two.
+-- Lemmas: length-grown, fits_as, fits_vertex, fits_hung, fits_closed, fits_connected, fits_slid,
+-- fits_flipped, fits_inserted, length_moved, length_moved_two.
 use Rattle.std.proofs.Common.{◌≡◌, ℕ, ◌+◌, List, ◌∷◌, length, arith, set, length-append}
 use Rattle.std.proofs.lemmas.List.{length-set}
-use Rattle.half_edge_links.specs.Mesh.{Mesh, with_vertex}
+use Rattle.half_edge_links.specs.Mesh.{Mesh, with_vertex, connected}
 use Rattle.half_edge_links.specs.Flip.{flipped, flip_by}
 use Rattle.half_edge_links.specs.Insert.{inserted, insert_by}
 use Rattle.half_edge_links.specs.Grow.{hung, hung_edges, closed, closed_edges, with_next, with_prev}
-use Rattle.half_edge_links.specs.Grow.{with_face}
+use Rattle.half_edge_links.specs.Grow.{with_face, with_origin, slid, slid_edges}
 use Rattle.half_edge_dcel.specs.Contents.{FitsMesh}
 use Rattle.half_edge_dcel.specs.Growth.{Grows, MovesItem, MovesTwoItems}
 
@@ -51,6 +51,26 @@ fits_closed m e v d u f fit = record {
   directed_fit = simp (length-set, length-append) (omega (arith, fit.directed_fit));
   undirected_fit = simp (length-set, length-append) (omega (arith, fit.undirected_fit));
   faces_fit = simp length-append (omega (arith, fit.faces_fit));
+}
+
+-- there are data for each part once the first edge is added with its data
+pub fits_connected : (m : Mesh) (a b v d u f : ℕ) → u ≡ 0 → FitsMesh m v d u f
+    → FitsMesh (connected m a b) v (d + 2) (u + 1) f
+fits_connected m a b v d u f none fit = record {
+  vertices_fit = simp length-set fit.vertices_fit;
+  directed_fit = omega (arith, none, fit.directed_fit, fit.undirected_fit);
+  undirected_fit = omega (arith, none);
+  faces_fit = fit.faces_fit;
+}
+
+-- there are data for each part after an edge slid, which needs no more of them
+pub fits_slid : (m : Mesh) (e v d u f : ℕ) → FitsMesh m v d u f → FitsMesh (slid m e) v d u f
+unfolding slid slid_edges with_next with_prev with_origin
+fits_slid m e v d u f fit = record {
+  vertices_fit = simp length-set fit.vertices_fit;
+  directed_fit = simp length-set fit.directed_fit;
+  undirected_fit = simp length-set fit.undirected_fit;
+  faces_fit = fit.faces_fit;
 }
 
 -- there are data for each part after a flip, which needs no more of them

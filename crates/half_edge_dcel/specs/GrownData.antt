@@ -1,14 +1,15 @@
 -- How all data of a mesh change where it grows. New data are as D, U and F say, for directed edges,
--- undirected edges and faces; data of the outer face and room stay.
+-- undirected edges and faces; data of the outer face and room stay, and the mesh is whole.
 use Rattle.std.specs.Prelude.{◌≡◌, ℕ, ◌/◌, List}
 use Rattle.half_edge_links.specs.Mesh.{rev}
-use Rattle.half_edge_dcel.specs.Contents.{Contents}
+use Rattle.half_edge_dcel.specs.Contents.{Contents, IsMeshWithData}
 use Rattle.half_edge_dcel.specs.Growth.{Grows, MovesItem, MovesTwoItems}
 
 module _ {V DE UE FA : Type 0} where
   -- these vertex data, and so many more directed edges, undirected edges and faces
   pub record AddsData (D : DE → Type 0) (U : UE → Type 0) (F : FA → Type 0) (vertices : List V)
       (old new : Contents V DE UE FA) (d u f : ℕ) : Type 0 where
+    pub whole : IsMeshWithData new
     pub contents : new ≡ record old {
       mesh = new.mesh;
       vertices = vertices;
@@ -23,6 +24,7 @@ module _ {V DE UE FA : Type 0} where
   -- these vertex data and one more edge; data of the faces stay
   pub record AddsEdgeData (D : DE → Type 0) (U : UE → Type 0) (vertices : List V)
       (old new : Contents V DE UE FA) : Type 0 where
+    pub whole : IsMeshWithData new
     pub contents : new ≡ record old {
       mesh = new.mesh;
       vertices = vertices;
@@ -36,6 +38,7 @@ module _ {V DE UE FA : Type 0} where
   -- edges, undirected edges and faces follow
   pub record MovesData (D : DE → Type 0) (U : UE → Type 0) (F : FA → Type 0) (vertices : List V)
       (old new : Contents V DE UE FA) (e d u f : ℕ) : Type 0 where
+    pub whole : IsMeshWithData new
     pub contents : new ≡ record old {
       mesh = new.mesh;
       vertices = vertices;

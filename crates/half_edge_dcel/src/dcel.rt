@@ -78,8 +78,7 @@ impl<V, DE, UE, F> Dcel<V, DE, UE, F> {
         ensures few_edges { length self.now.directed ≤ MAX_ELEMENTS }
         ensures few_faces { length self.now.faces < MAX_ELEMENTS }
     {
-        let _ = self.links.half_edge_count();
-        let _ = self.links.inner_face_count();
+        self.links.recall_invariant();
     }
 
     /// How many vertices there are.

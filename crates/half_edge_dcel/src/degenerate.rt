@@ -17,6 +17,7 @@ impl<V, DE, UE, F> Dcel<V, DE, UE, F> {
     pub fn swap_remove_vertex(&mut self, vertex: FixedVertexHandle) -> V
         requires { IsAlone self.old.mesh vertex }
         ensures drops { DropsVertex self.old self.new vertex result }
+        ensures whole { IsMeshWithData self.new }
         ensures outline { KeepsOneOutline self.old.mesh self.new.mesh }
     {
         self.links.swap_remove_vertex(vertex.index())
@@ -32,9 +33,8 @@ impl<V, DE, UE, F> Dcel<V, DE, UE, F> {
         ensures ends { let m = self.old.mesh in
             MovesEdge m self.new.mesh edge (origin m edge) (origin m (rev (next m edge))) }
         ensures outline { KeepsOneOutline self.old.mesh self.new.mesh }
-        ensures whole { IsMeshWithData self.old }
+        ensures whole { IsMeshWithData self.new }
     {
-        self.recall_invariant();
         self.links.pass(edge);
     }
 }
@@ -49,28 +49,13 @@ impl<V, DE: Drop, UE: Drop, F> Dcel<V, DE, UE, F> {
             origin m (rev out) ≢ origin m (rev (turn m out)) }
         ensures leaves { LeavesLine self.old self.new (origin self.old.mesh out) }
         ensures outline { KeepsOneOutline self.old.mesh self.new.mesh }
+        ensures whole { IsMeshWithData self.new }
     {
         self.recall_invariant();
         let edge = reversed(out);
         let lost = self.next_edge(edge);
         self.pass(edge);
         self.remove_edge(lost);
-        self.recall_invariant();
-    }
-
-    // Removes the only edge of the vertex where `out` starts.
-    fn remove_end(&mut self, out: u32)
-        requires within { out < length self.old.directed }
-        requires one_face { length self.old.faces ≡ 0 }
-        requires one { turn self.old.mesh out ≡ out }
-        requires whole { let m = self.old.mesh in
-            next m out ≡ rev out → prev m out ≡ rev out → length m.half_edges ≡ 2 }
-        ensures leaves { LeavesLine self.old self.new (origin self.old.mesh out) }
-        ensures outline { KeepsOneOutline self.old.mesh self.new.mesh }
-    {
-        self.recall_invariant();
-        self.remove_edge(out);
-        self.recall_invariant();
     }
 
     // Removes the edges of a vertex of a line, and joins its neighbours, if it has two.
@@ -80,11 +65,12 @@ impl<V, DE: Drop, UE: Drop, F> Dcel<V, DE, UE, F> {
         requires few { HasFewEdges self.old.mesh vertex }
         ensures leaves { LeavesLine self.old self.new vertex }
         ensures outline { KeepsOneOutline self.old.mesh self.new.mesh }
+        ensures whole { IsMeshWithData self.new }
     {
         if let Some(out) = self.out_edge(vertex) {
             let other = reversed(self.prev_edge(out));
             if other == out {
-                self.remove_end(out);
+                self.remove_edge(out);
             } else {
                 self.join_neighbours(out);
             }
@@ -100,9 +86,9 @@ impl<V, DE: Drop, UE: Drop, F> Dcel<V, DE, UE, F> {
         requires few { HasFewEdges self.old.mesh vertex }
         ensures leaves { LeavesMesh self.old self.new vertex result }
         ensures outline { KeepsOneOutline self.old.mesh self.new.mesh }
+        ensures whole { IsMeshWithData self.new }
     {
         self.leave_line(vertex.index());
-        self.recall_invariant();
         self.swap_remove_vertex(vertex)
     }
 }

@@ -5,7 +5,7 @@ ghost use Rattle.half_edge_links.specs.Mesh.{origin, next, prev, rev, face, face
 ghost use Rattle.half_edge_links.specs.Flip.{IsBetweenFaces, flipped};
 ghost use Rattle.half_edge_links.specs.Triangles.{FlipsTriangles};
 ghost use Rattle.half_edge_links.specs.Outline.{KeepsOuter, along};
-ghost use Rattle.half_edge_dcel.specs.Contents.{HasRoom, edges};
+ghost use Rattle.half_edge_dcel.specs.Contents.{HasRoom, IsMeshWithData, edges};
 ghost use Rattle.half_edge_dcel.specs.Growth.{AddsEdges};
 ghost use Rattle.half_edge_dcel.specs.Growth.{SplitsEdge, joins, with_ends};
 ghost use Rattle.half_edge_dcel.specs.GrownData.{AddsData, MovesData};
@@ -32,7 +32,7 @@ impl<V, DE, UE, F> Dcel<V, DE, UE, F> {
             (joins (origin m (prev m (2 * edge))) (origin m (prev m (rev (2 * edge))))) }
         ensures triangles { FlipsTriangles self.old.mesh self.new.mesh (2 * edge) }
         ensures outer { KeepsOuter self.old.mesh self.new.mesh }
-        ensures outline { KeepsOneOutline self.old.mesh self.new.mesh }
+        ensures whole { KeepsOneOutline self.old.mesh self.new.mesh × IsMeshWithData self.new }
     {
         self.links.flip(edge.as_directed().index());
     }

@@ -41,8 +41,9 @@ impl<V, DE, UE, F> Dcel<V, DE, UE, F> {
         UE: Drop,
         F: Drop,
         requires { IsStrip self.old.mesh first count }
-        ensures { let m = self.old.mesh in
+        ensures strip { let m = self.old.mesh in
             LosesStrip self.old self.new (origin m first) (neighbour m first) count }
+        ensures whole { IsMeshWithData self.new }
     {
         self.recall_invariant();
         let mut h = first;
@@ -50,7 +51,6 @@ impl<V, DE, UE, F> Dcel<V, DE, UE, F> {
             h = self.peel(h);
         }
         self.remove_edge(h);
-        self.recall_invariant();
     }
 
     /// Removes the edges of a vertex on the hull, and its faces. `edges` are the sides opposite it
@@ -71,6 +71,7 @@ impl<V, DE, UE, F> Dcel<V, DE, UE, F> {
         ensures strip { let first = first_spoke self.old.mesh edges.now in
             LosesStrip self.old self.new (origin self.old.mesh first)
             (neighbour self.old.mesh first) (length edges.now) }
+        ensures whole { IsMeshWithData self.new }
     {
         let (first, vertex) = self.spoke_to(edges[0]);
         self.disconnect(first, edges.len());
@@ -99,8 +100,9 @@ impl<V, DE, UE, F> Dcel<V, DE, UE, F> {
         UE: Drop,
         F: Drop,
         requires { IsWheel self.old.mesh first }
-        ensures { let m = self.old.mesh in
+        ensures fills { let m = self.old.mesh in
             FillsHole self.old self.new (origin m first) (neighbour m first) }
+        ensures whole { IsMeshWithData self.new }
     {
         let face = self.third_face(first);
         let value = self.open_face(face);
@@ -109,7 +111,6 @@ impl<V, DE, UE, F> Dcel<V, DE, UE, F> {
         let border = self.index_after_removal(pendant);
         self.remove_edge(pendant);
         self.close_face(border, value);
-        self.recall_invariant();
     }
 
     // Turns the edge after `first` round their vertex, so that it leaves the vertex.
@@ -123,9 +124,8 @@ impl<V, DE, UE, F> Dcel<V, DE, UE, F> {
         ensures triangles { let m = self.old.mesh in FlipsTriangles m self.new.mesh (turn m first) }
         ensures outer { KeepsOuter self.old.mesh self.new.mesh }
         ensures outline { KeepsOneOutline self.old.mesh self.new.mesh }
-        ensures whole { IsMeshWithData self.old }
+        ensures whole { IsMeshWithData self.new }
     {
-        self.recall_invariant();
         let spoke = reversed(self.links.prev(first));
         self.links.flip(spoke);
     }
@@ -140,16 +140,15 @@ impl<V, DE, UE, F> Dcel<V, DE, UE, F> {
         requires many { 3 ≤ count }
         requires hub { IsHub self.old.mesh first count }
         requires tip { HasFreeTip (neighbour self.old.mesh first) count }
-        ensures { let m = self.old.mesh in
+        ensures fan { let m = self.old.mesh in
             FillsWithFan self.old self.new (origin m first) (neighbour m first) count }
+        ensures whole { IsMeshWithData self.new }
     {
         self.recall_invariant();
         for _ in 3..count {
             self.turn_away(first);
         }
-        self.recall_invariant();
         self.collapse(first);
-        self.recall_invariant();
     }
 
     /// Removes the edges of an inner vertex and fills the hole with a fan of faces. `border` is the
@@ -173,6 +172,7 @@ impl<V, DE, UE, F> Dcel<V, DE, UE, F> {
         ensures hole { let m = self.old.mesh in
             FillsWithFan self.old self.new vertex (neighbour m (first_spoke m border.now))
             (length border.now) }
+        ensures whole { IsMeshWithData self.new }
     {
         let (first, _) = self.spoke_to(border[0]);
         self.fill_hole(first, border.len());

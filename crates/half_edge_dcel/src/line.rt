@@ -3,7 +3,7 @@ ghost use Rattle.std.specs.Prelude.{◌≡◌, ◌≢◌, ◌+◌, ◌/◌, ◌<
 ghost use Rattle.half_edge_links.specs.Hull.{KeepsOneOutline};
 ghost use Rattle.half_edge_links.specs.Mesh.{with_vertex, origin, rev, out_edge};
 ghost use Rattle.half_edge_links.specs.Outline.{along};
-ghost use Rattle.half_edge_dcel.specs.Contents.{HasRoom, edges};
+ghost use Rattle.half_edge_dcel.specs.Contents.{HasRoom, IsMeshWithData, edges};
 ghost use Rattle.half_edge_dcel.specs.Growth.{AddsEdges, joins, with_ends};
 ghost use Rattle.half_edge_dcel.specs.GrownData.{AddsEdgeData};
 ghost use Rattle.half_edge_dcel.specs.Shapes.{JoinsFirst, ExtendsLineTo, SplitsOnLine};
@@ -22,6 +22,7 @@ impl<V, DE, UE, F> Dcel<V, DE, UE, F> {
           vertices = self.old.vertices ++ value ∷ [];
         } }
         ensures outline { KeepsOneOutline self.old.mesh self.new.mesh }
+        ensures whole { IsMeshWithData self.new }
     {
         FixedVertexHandle::from_index(self.links.push_vertex(value))
     }

@@ -44,11 +44,10 @@ impl<V, DE, UE, F> Dcel<V, DE, UE, F> {
             LosesEdges self.old self.new (joins (origin m edge) (origin m (rev edge)) ∷ []) }
         ensures taken { TakesOut (full_edges self.old) (full_edges self.new) (edge / 2) }
         ensures triangles { triangles self.new.mesh ≡ triangles self.old.mesh }
-        ensures whole { IsMeshWithData self.old }
+        ensures whole { IsMeshWithData self.new }
         ensures outline { IsPendant self.old.mesh edge →
             KeepsOneOutline self.old.mesh self.new.mesh }
     {
-        self.recall_invariant();
         self.links.remove_edge(edge);
         self.undirected.swap_remove(edge as usize / 2);
         remove_pair(&mut self.directed, edge as usize / 2);
@@ -67,9 +66,8 @@ impl<V, DE, UE, F> Dcel<V, DE, UE, F> {
             (triangle_at self.old.mesh (face_edge self.old.mesh face)) result }
         ensures ends { ends self.new.mesh ≡ ends self.old.mesh }
         ensures spare { length self.new.faces + 1 ≤ self.new.room.faces }
-        ensures whole { IsMeshWithData self.old }
+        ensures whole { IsMeshWithData self.new }
     {
-        self.recall_invariant();
         self.links.open_face(face);
         let _count = self.faces.len();
         self.faces.swap_remove(face as usize - 1)
@@ -91,7 +89,7 @@ impl<V, DE, UE, F> Dcel<V, DE, UE, F> {
             LosesEdges self.old self.new (joins (origin m edge) (origin m (rev edge)) ∷ []) }
         ensures faces { LosesFaces self.old self.new (triangle_at self.old.mesh edge ∷ []) }
         ensures spoke { result ≡ after_removal self.old.mesh edge (rev (prev self.old.mesh edge)) }
-        ensures whole { IsMeshWithData self.old }
+        ensures whole { IsMeshWithData self.new }
         ensures outline { KeepsOneOutline self.old.mesh self.new.mesh }
     {
         let left = self.left_face(edge) as usize - 1;
@@ -118,6 +116,7 @@ impl<V, DE, UE, F> Dcel<V, DE, UE, F> {
               value = value;
             } ∷ [] }
         ensures ends { ends self.new.mesh ≡ ends self.old.mesh }
+        ensures whole { IsMeshWithData self.new }
     {
         self.links.close_face(edge);
         self.faces.push_reserved(value);

@@ -1,6 +1,6 @@
 -- What calls that grow a mesh beside the outer face ask for, and what they do to it.
 use Rattle.std.specs.Prelude.{◌≡◌, ◌≢◌, ℕ, ◌+◌, ◌<◌, [], length}
-use Rattle.half_edge_links.specs.Mesh.{Mesh, origin, next, rev}
+use Rattle.half_edge_links.specs.Mesh.{Mesh, IsValidMesh, origin, next, rev}
 use Rattle.half_edge_links.specs.Room.{Room, HasEdgeRoom, HasFaceRoom}
 use Rattle.half_edge_links.specs.Hull.{KeepsOneOutline}
 use Rattle.half_edge_links.specs.Triangles.{triangles}
@@ -54,6 +54,7 @@ pub record AddsFaceBeside (old new : Mesh) (e v : ℕ) : Type 0 where
 -- edge e, with the outer face on its right, is split at vertex v: the links and ends of the edges,
 -- the corners of the faces and the outer edges
 pub record SplitsHalfEdge (old new : Mesh) (e v : ℕ) : Type 0 where
+  pub valid : IsValidMesh new
   pub links : HalfSplits old new e v (length old.half_edges) (length old.face_edges)
   pub ends : HalfSplitsEnds old new e v
   pub corners : HalfSplitsTriangles old new v e
@@ -70,6 +71,7 @@ pub record ExtendsLine (old new : Mesh) (u v : ℕ) : Type 0 where
 
 -- edge e of a line is split at vertex v: the links and ends of the edges, and the outer edges
 pub record SplitsLineEdge (old new : Mesh) (e v : ℕ) : Type 0 where
+  pub valid : IsValidMesh new
   pub links : SplitsLine old new e v (length old.half_edges)
   pub ends : SplitsLineEnds old new e v
   pub outer : SplitsOuter old new e v (length old.half_edges)

@@ -1,6 +1,6 @@
 -- What calls do that change a mesh inside the outer loop.
 use Rattle.std.specs.Prelude.{ℕ, length}
-use Rattle.half_edge_links.specs.Mesh.{Mesh, origin, prev, face, rev}
+use Rattle.half_edge_links.specs.Mesh.{Mesh, IsValidMesh, origin, prev, face, rev}
 use Rattle.half_edge_links.specs.Hull.{KeepsOneOutline}
 use Rattle.half_edge_links.specs.Triangles.{FlipsTriangles, InsertsTriangles, SplitsTriangles}
 use Rattle.half_edge_links.specs.Outline.{KeepsOuter, MovesEdge, InsertsEnds, SplitsEnds}
@@ -19,6 +19,7 @@ pub record FlipsEdge (old new : Mesh) (e : ℕ) : Type 0 where
 -- vertex v is put into the face on the left of edge a: the links, the ends of the new edges, the
 -- corners of the three faces and the outer edges
 pub record InsertsBeside (old new : Mesh) (v a : ℕ) : Type 0 where
+  pub valid : IsValidMesh new
   pub links : Inserts old new v (face old a) a (length old.half_edges) (length old.face_edges)
   pub ends : InsertsEnds old new v a
   pub corners : InsertsTriangles old new v a
@@ -28,6 +29,7 @@ pub record InsertsBeside (old new : Mesh) (v a : ℕ) : Type 0 where
 -- edge e, between two inner faces, is split at vertex v: the ends of the edges, the corners of the
 -- four faces and the outer edges
 pub record SplitsInnerEdge (old new : Mesh) (v e : ℕ) : Type 0 where
+  pub valid : IsValidMesh new
   pub ends : SplitsEnds old new e v
   pub corners : SplitsTriangles old new v e
   pub outer : KeepsOuter old new

@@ -88,6 +88,7 @@ impl<V> Links<V> {
         ensures rest { KeepsRest self.old self.new }
         ensures sound { AreSoundLinks self.old.mesh }
         ensures flips { FlipsEdge self.old.mesh self.new.mesh e }
+        ensures valid { IsValidMesh self.new.mesh }
     {
         let t = reversed(e);
         let edge = self.half_edges.get(e);

@@ -2,6 +2,7 @@
 ghost use Rattle.std.specs.Prelude.{◌≡◌, ◌+◌, ◌-◌, length, Some, [], ◌∷◌};
 ghost use Rattle.half_edge_links.specs.Hull.{HasOneOutline, KeepsOneOutline};
 ghost use Rattle.half_edge_links.specs.Mesh.{origin, next, IsAlone, connected, AreSoundLinks};
+ghost use Rattle.half_edge_links.specs.Mesh.{IsValidMesh};
 ghost use Rattle.half_edge_links.specs.Room.{HasEdgeRoom};
 ghost use Rattle.half_edge_links.specs.Outline.{MovesEdge};
 ghost use Rattle.half_edge_links.specs.Grow.{hung, slid, IsSlidable, Slides, IsLineEdge};
@@ -22,6 +23,7 @@ impl<V> Links<V> {
         ensures rest { KeepsRest self.old self.new }
         ensures sound { AreSoundLinks self.old.mesh }
         ensures outline { HasOneOutline self.new.mesh }
+        ensures valid { IsValidMesh self.new.mesh }
     {
         self.half_edges.push_reserved(linked(b, 1, 1, 0));
         self.half_edges.push_reserved(linked(a, 0, 0, 0));
@@ -39,8 +41,8 @@ impl<V> Links<V> {
         ensures rest { KeepsRest self.old self.new }
         ensures sound { AreSoundLinks self.old.mesh }
         ensures extends { ExtendsLine self.old.mesh self.new.mesh u v }
+        ensures valid { IsValidMesh self.new.mesh }
     {
-        let _count = self.half_edge_count();
         if let Some(edge) = self.out_edge(u) {
             self.hang(reversed(edge), v);
         }
@@ -58,6 +60,7 @@ impl<V> Links<V> {
         ensures links { let m = self.old.mesh in
             Slides m self.new.mesh e (next m e) (next m (next m e)) }
         ensures outline { KeepsOneOutline self.old.mesh self.new.mesh }
+        ensures valid { IsValidMesh self.new.mesh }
     {
         let t = reversed(e);
         let k = self.half_edges.next(e);

@@ -69,6 +69,13 @@ impl<V> Links<V> {
         }
     }
 
+    /// Gives a proof what holds of each mesh. It does nothing when it runs.
+    pub fn recall_invariant(&self)
+        ensures { IsValidMesh self.now.mesh }
+    {
+        let _ = &self.vertices;
+    }
+
     /// The directed edge `h`.
     #[tactic(auto, using(crate::proofs::Stored::Shown::shown_reads))]
     pub fn half_edge(&self, h: u32) -> HalfEdge

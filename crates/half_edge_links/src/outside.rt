@@ -1,6 +1,6 @@
 //! Changes of the outer loop.
 ghost use Rattle.std.specs.Prelude.{◌≡◌, ◌+◌, ◌-◌, length, Some, [], ◌∷◌};
-ghost use Rattle.half_edge_links.specs.Mesh.{IsAlone, AreSoundLinks};
+ghost use Rattle.half_edge_links.specs.Mesh.{IsAlone, AreSoundLinks, IsValidMesh};
 ghost use Rattle.half_edge_links.specs.Room.{HasEdgeRoom};
 ghost use Rattle.half_edge_links.specs.Grow.{hung, closed, OnOuter, IsClosable};
 ghost use Rattle.half_edge_links.specs.Grow.{with_face_beside, IsHalfSplittable, half_split};
@@ -22,6 +22,7 @@ impl<V> Links<V> {
         ensures rest { KeepsRest self.old self.new }
         ensures sound { AreSoundLinks self.old.mesh }
         ensures hangs { HangsEdge self.old.mesh self.new.mesh x v }
+        ensures valid { IsValidMesh self.new.mesh }
     {
         let n = self.half_edges.len() as u32;
         hang_edges(&mut self.half_edges, x, v);
@@ -37,6 +38,7 @@ impl<V> Links<V> {
         ensures rest { KeepsRest self.old self.new }
         ensures sound { AreSoundLinks self.old.mesh }
         ensures closes { ClosesCorner self.old.mesh self.new.mesh e }
+        ensures valid { IsValidMesh self.new.mesh }
     {
         let n = self.half_edges.len() as u32;
         let g = self.face_edges.len() as u32 + 1;
@@ -56,6 +58,7 @@ impl<V> Links<V> {
         ensures rest { KeepsRest self.old self.new }
         ensures sound { AreSoundLinks self.old.mesh }
         ensures adds { AddsFaceBeside self.old.mesh self.new.mesh e v }
+        ensures valid { IsValidMesh self.new.mesh }
     {
         self.hang(e, v);
         self.close(e);

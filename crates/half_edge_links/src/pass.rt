@@ -1,7 +1,7 @@
 //! An edge of a line that passes a vertex.
 ghost use Rattle.std.specs.Prelude.{◌≡◌, ◌<◌};
 ghost use Rattle.half_edge_links.specs.Hull.{KeepsOneOutline};
-ghost use Rattle.half_edge_links.specs.Mesh.{origin, next, rev, AreSoundLinks};
+ghost use Rattle.half_edge_links.specs.Mesh.{origin, next, rev, AreSoundLinks, IsValidMesh};
 ghost use Rattle.half_edge_links.specs.Outline.{MovesEdge};
 ghost use Rattle.half_edge_links.specs.EdgeList.{shown};
 ghost use Rattle.half_edge_links.specs.Places.{AreJoined, ArePassedPlaces};
@@ -46,6 +46,7 @@ impl<V> Links<V> {
         ensures links { let m = self.old.mesh in
             Passes m self.new.mesh e (rev (next m e)) (next m e) }
         ensures outline { KeepsOneOutline self.old.mesh self.new.mesh }
+        ensures valid { IsValidMesh self.new.mesh }
     {
         let t = reversed(e);
         let l = self.half_edges.next(e);

@@ -1,7 +1,7 @@
 //! Taking edges, faces and vertices out of a mesh.
 ghost use Rattle.std.specs.Prelude.{◌≡◌, ◌-◌, ◌<◌, length};
 ghost use Rattle.half_edge_links.specs.Hull.{KeepsOneOutline};
-ghost use Rattle.half_edge_links.specs.Mesh.{prev, rev, IsInner, IsAlone, AreSoundLinks};
+ghost use Rattle.half_edge_links.specs.Mesh.{prev, rev, IsInner, IsAlone, AreSoundLinks, IsValidMesh};
 ghost use Rattle.half_edge_links.specs.Taken.{MovesTriangles, MovesEnds, MovesOuter};
 ghost use Rattle.half_edge_links.specs.Room.{HasFaceRoom};
 ghost use Rattle.half_edge_links.specs.Remove.{opened, removed, IsRemovable};
@@ -25,6 +25,7 @@ impl<V> Links<V> {
         requires { IsInner self.old.mesh f }
         ensures mesh { self.new.mesh ≡ opened self.old.mesh f }
         ensures opens { OpensFace self.old.mesh self.new.mesh f }
+        ensures valid { IsValidMesh self.new.mesh }
         ensures spare { HasFaceRoom self.new.mesh self.new.room 1 }
         ensures rest { KeepsRest self.old self.new }
         ensures sound { AreSoundLinks self.old.mesh }
@@ -42,6 +43,7 @@ impl<V> Links<V> {
         requires room { HasFaceRoom self.old.mesh self.old.room 1 }
         ensures mesh { self.new.mesh ≡ loop_closed self.old.mesh h }
         ensures closes { ClosesFace self.old.mesh self.new.mesh h }
+        ensures valid { IsValidMesh self.new.mesh }
         ensures rest { KeepsRest self.old self.new }
         ensures sound { AreSoundLinks self.old.mesh }
     {
@@ -56,6 +58,7 @@ impl<V> Links<V> {
         requires { IsRemovable self.old.mesh e }
         ensures mesh { self.new.mesh ≡ removed self.old.mesh e }
         ensures removes { RemovesEdge self.old.mesh self.new.mesh e }
+        ensures valid { IsValidMesh self.new.mesh }
         ensures rest { KeepsRest self.old self.new }
         ensures sound { AreSoundLinks self.old.mesh }
     {
@@ -97,6 +100,7 @@ impl<V> Links<V> {
     pub fn peel(&mut self, h: u32) -> u32
         requires { IsPeelable self.old.mesh h }
         ensures peels { PeelsEdge self.old.mesh self.new.mesh h }
+        ensures valid { IsValidMesh self.new.mesh }
         ensures rest { KeepsRest self.old self.new }
         ensures sound { AreSoundLinks self.old.mesh }
         ensures spoke { result ≡ after_removal self.old.mesh h (rev (prev self.old.mesh h)) }

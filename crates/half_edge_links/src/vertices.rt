@@ -2,7 +2,7 @@
 ghost use Rattle.std.specs.Prelude.{◌≡◌, ◌-◌, ◌<◌, ◌∷◌, ◌++◌, []};
 ghost use Rattle.std.specs.Prelude.{length, Some, slice_get, slice_set};
 ghost use Rattle.half_edge_links.specs.Hull.{KeepsOneOutline};
-ghost use Rattle.half_edge_links.specs.Mesh.{with_vertex};
+ghost use Rattle.half_edge_links.specs.Mesh.{with_vertex, IsValidMesh};
 ghost use Rattle.half_edge_links.specs.Room.{HasVertexRoom};
 
 use crate::links::Links;
@@ -16,6 +16,7 @@ impl<V> Links<V> {
         ensures room { self.new.room ≡ self.old.room }
         ensures values { self.new.values ≡ self.old.values ++ value ∷ [] }
         ensures outline { KeepsOneOutline self.old.mesh self.new.mesh }
+        ensures valid { IsValidMesh self.new.mesh }
     {
         let v = self.vertices.len() as u32;
         self.vertices.push_reserved(value);

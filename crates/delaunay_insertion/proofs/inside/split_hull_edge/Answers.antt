@@ -41,7 +41,7 @@ returns-clause-takes g c =
           let f = c.requires.can.takes.kept.fits.directed_fit in omega (arith, w, f) in
           grown g.V.HasPosition.place old new c.args.value c.requires.can.takes.kept
           (ap (λ d. d.vertices) done.data.contents) c.requires.can.takes.in_range
-          c.recall_invariant.ensures.whole
+          c.split_half_edge-vertex.ensures.data.whole
           edges faces
           (within_outer_shape (map g.V.HasPosition.place old.vertices)
           (g.V.HasPosition.place c.args.value) old.mesh
@@ -57,7 +57,7 @@ returns-clause-takes g c =
           let here : c.args.edge < length old.mesh.half_edges = let w = c.requires.can.within in
           let f = c.requires.can.takes.kept.fits.directed_fit in omega (arith, w, f) in
           grows_within_hull old c.split_half_edge-vertex.new.self c.requires.can.takes.kept.valid
-          c.requires.can.takes.kept.fits c.recall_invariant.ensures.whole
+          c.requires.can.takes.kept.fits c.split_half_edge-vertex.ensures.data.whole
           (map g.V.HasPosition.place old.vertices)
           (g.V.HasPosition.place c.args.value) _ _ _ c.args.edge _ _ _ _ _ _ here
           c.requires.half.inner

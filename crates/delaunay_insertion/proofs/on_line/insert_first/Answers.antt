@@ -10,19 +10,19 @@ use Rattle.delaunay_insertion.proofs.on_line.insert_first.Goals as goal
 pub returns-clause-takes : goal.returns-clause-takes
 returns-clause-takes g c =
     record {
-      is = c.append_unconnected_vertex-vertex.ensures.vertex;
-      vertices = ap (λ d. d.vertices) c.append_unconnected_vertex-vertex.ensures.contents;
+      is = c.append_unconnected_vertex.ensures.vertex;
+      vertices = ap (λ d. d.vertices) c.append_unconnected_vertex.ensures.contents;
       kept =
           let old = c.args.dcel.now in
-          let new = c.append_unconnected_vertex-vertex.new.self in
-          let is = c.append_unconnected_vertex-vertex.ensures.contents in
+          let new = c.append_unconnected_vertex.new.self in
+          let is = c.append_unconnected_vertex.ensures.contents in
           let edges : length new.undirected ≤ length old.undirected + 3 =
           let e = ap (λ d. length d.undirected) is in omega (arith, e) in
           let faces : length new.faces ≤ length old.faces + 2 =
           let e = ap (λ d. length d.faces) is in omega (arith, e) in
           grown g.V.HasPosition.place old new c.args.value c.requires.can.kept
           (ap (λ d. d.vertices) is)
-          c.requires.can.in_range c.recall_invariant.ensures.whole edges faces
+          c.requires.can.in_range c.append_unconnected_vertex.ensures.whole edges faces
           (subst (λ m. IsMesh
           (map g.V.HasPosition.place old.vertices ++ g.V.HasPosition.place c.args.value ∷ [])
           (faces_of m) (outer_of m)) (sym (ap (λ d. d.mesh) is))
@@ -32,11 +32,11 @@ returns-clause-takes g c =
           c.requires.can.kept.shape));
       grows =
           let old = c.args.dcel.now in
-          let new = c.append_unconnected_vertex-vertex.new.self in
+          let new = c.append_unconnected_vertex.new.self in
           grows_from_one old new c.requires.can.kept.valid c.requires.can.kept.fits
           (map g.V.HasPosition.place old.vertices) (g.V.HasPosition.place c.args.value)
           (omega (arith, c.requires.none))
-          (ap (λ d. d.outer) c.append_unconnected_vertex-vertex.ensures.contents);
-      made = made_first c.args.dcel.now.mesh c.append_unconnected_vertex-vertex.new.self.mesh _
-          (ap (λ d. d.mesh) c.append_unconnected_vertex-vertex.ensures.contents);
+          (ap (λ d. d.outer) c.append_unconnected_vertex.ensures.contents);
+      made = made_first c.args.dcel.now.mesh c.append_unconnected_vertex.new.self.mesh _
+          (ap (λ d. d.mesh) c.append_unconnected_vertex.ensures.contents);
     }

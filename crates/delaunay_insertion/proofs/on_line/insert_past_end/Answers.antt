@@ -15,21 +15,21 @@ use Rattle.delaunay_insertion.proofs.EdgeLists.{adds_only}
 pub returns-clause-edges : goal.returns-clause-edges
 returns-clause-edges g c =
     adds_only _ (edges c.args.dcel.now)
-    (edges c.extend_line-vertex.new.self) _ c.extend_line-vertex.ensures.edges
+    (edges c.extend_line.new.self) _ c.extend_line.ensures.edges
 
 pub returns-clause-takes : goal.returns-clause-takes
 returns-clause-takes g c =
     record {
-      is = c.extend_line-vertex.ensures.vertex;
-      vertices = ap (λ d. d.vertices) c.extend_line-vertex.ensures.data.contents;
+      is = c.extend_line.ensures.vertex;
+      vertices = ap (λ d. d.vertices) c.extend_line.ensures.data.contents;
       kept =
           let old = c.args.dcel.now in
-          let new = c.extend_line-vertex.new.self in
-          let is = c.extend_line-vertex.ensures.data.contents in
+          let new = c.extend_line.new.self in
+          let is = c.extend_line.ensures.data.contents in
           let places = length-map old.vertices g.V.HasPosition.place in
           let edges : length new.undirected ≤ length old.undirected + 3 = let f =
           length-grown _ old.undirected new.undirected 1
-          c.extend_line-vertex.ensures.data.undirected in
+          c.extend_line.ensures.data.undirected in
           omega (arith, f) in
           let faces : length new.faces ≤ length old.faces + 2 =
           let e = ap (λ d. length d.faces) is in omega (arith, e) in
@@ -44,28 +44,28 @@ returns-clause-takes g c =
           let fit = c.requires.can.kept.fits.vertices_fit in
           grown g.V.HasPosition.place old new c.args.value c.requires.can.kept
           (ap (λ d. d.vertices) is)
-          c.requires.can.in_range c.recall_invariant.ensures.whole edges faces
+          c.requires.can.in_range c.extend_line.ensures.data.whole edges faces
           (extended_shape (map g.V.HasPosition.place old.vertices)
           (g.V.HasPosition.place c.args.value) old.mesh
-          new.mesh end c.extend_line-vertex.result (length old.directed)
+          new.mesh end c.extend_line.result (length old.directed)
           (sym c.requires.can.kept.fits.faces_fit ∙ c.requires.one_face)
           c.requires.can.kept.valid.sound
           (places ∙ c.requires.can.kept.fits.vertices_fit) c.requires.can.kept.shape
           c.requires.apart
           (omega (arith, starts, start_in, fit, places))
-          (c.extend_line-vertex.ensures.vertex ∙ sym places)
+          (c.extend_line.ensures.vertex ∙ sym places)
           (subst (λ i. IsPast (alone (map g.V.HasPosition.place old.vertices)) i
           (whole (g.V.HasPosition.place c.args.value))) (sym starts) c.requires.past)
-          c.extend_line-vertex.ensures.links.triangles c.extend_line-vertex.ensures.links.outer);
+          c.extend_line.ensures.links.triangles c.extend_line.ensures.links.outer);
       grows =
           let old = c.args.dcel.now in
-          let done = c.extend_line-vertex.ensures in
-          grows_past_end old c.extend_line-vertex.new.self c.requires.can.kept.valid
+          let done = c.extend_line.ensures in
+          grows_past_end old c.extend_line.new.self c.requires.can.kept.valid
           c.requires.can.kept.fits
-          c.recall_invariant.ensures.whole (map g.V.HasPosition.place old.vertices)
+          c.extend_line.ensures.data.whole (map g.V.HasPosition.place old.vertices)
           (g.V.HasPosition.place c.args.value) _ _ _ _ c.requires.one_face
           done.data.directed done.edges
           (ap (λ d. d.outer) done.data.contents);
-      made = made_none c.args.dcel.now.mesh c.extend_line-vertex.new.self.mesh _
-          c.extend_line-vertex.ensures.links.triangles;
+      made = made_none c.args.dcel.now.mesh c.extend_line.new.self.mesh _
+          c.extend_line.ensures.links.triangles;
     }

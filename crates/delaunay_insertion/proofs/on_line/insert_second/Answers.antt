@@ -42,7 +42,7 @@ returns-clause-takes g c =
           omega (arith, e, f) in
           grown g.V.HasPosition.place old new c.args.value c.requires.can.kept
           (ap (λ d. d.vertices) then ∙ ap (λ d. d.vertices) is) c.requires.can.in_range
-          c.recall_invariant-2.ensures.whole edges faces
+          c.setup_initial_two_vertices.ensures.data.whole edges faces
           (second_shape (map g.V.HasPosition.place old.vertices)
           (g.V.HasPosition.place c.args.value) old.mesh new.mesh
           a b (places ∙ c.requires.one) c.requires.can.kept.valid.sound

@@ -1,4 +1,5 @@
 use Rattle.std.proofs.Common.{List, map, sym, ap, ◌∙◌, subst, arith}
+use Rattle.half_edge_mesh.specs.Contents.{IsMeshWithData}
 use Rattle.half_edge_mesh.specs.Mesh.{Mesh, origin}
 use Rattle.half_edge_mesh.specs.Peel.{turn}
 use Rattle.plane.specs.Fraction.{Point}
@@ -126,5 +127,7 @@ returns g c =
           c.turn_opposite.new.dcel c.turn_opposite.new.flips c.turn_opposite.ensures.contents
           stays c.fix-next.result is
           (sym c.index.ensures ∙ c.if-index.true ∙ c.index-in-loop-next.ensures)
-          c.recall_invariant-2.ensures.whole;
+          (subst IsMeshWithData (sym (c.turn_opposite.ensures.contents
+          ∙ ap (λ m. record c.loop-next.dcel { mesh = m }) stays.same))
+          c.recall_invariant-in-loop-next.ensures.whole);
     }

@@ -1,4 +1,5 @@
 use Rattle.std.proofs.Common.{map}
+use Rattle.half_edge_mesh.specs.Contents.{IsMeshWithData}
 use Rattle.mesh_embedding.specs.Legal.{steps_left}
 use Rattle.delaunay_legalization.proofs.Stepping.{IsUnderwayBy}
 use Rattle.delaunay_legalization.proofs.legalization.legalize_by.Given as goal
@@ -7,7 +8,7 @@ abbrev pub invariant-loop-edge : goal.invariant-loop-edge
 invariant-loop-edge g l =
     IsUnderwayBy l.sides g.V.HasPosition.place g.M.ConstraintMarker.constraints l.fn.dcel
     l.dcel l.work.items
-    l.fn.work.room l.work.room l.fn.flips l.flips
+    l.fn.work.room l.work.room l.fn.flips l.flips × IsMeshWithData l.dcel
 
 abbrev pub decreases-loop-edge : goal.decreases-loop-edge
 decreases-loop-edge g l =

@@ -63,7 +63,7 @@ returns-then-is_failing-clause-step g c =
     (map g.V.HasPosition.place c.args.dcel.now.vertices) _ c.args.dcel.now.mesh
     c.recall_invariant.ensures.whole.valid c.args.work.now.items c.args.edge c.args.flips.now
     c.requires.step
-    c.flip.new.dcel.mesh c.recall_invariant-then-is_failing.ensures.whole.valid
+    c.flip.new.dcel.mesh c.flip.ensures.whole.valid
     c.push_left.new.work.items
     c.flip.new.flips c.flip.ensures.mesh c.flip.ensures.flips
     (c.is_failing.ensures.0 c.if-is_failing.true)

@@ -47,7 +47,7 @@ returns-in-Some-clause-turns g c =
     c.args.from c.args.to c.args.edge c.args.lists.now c.requires.turning
     c.as_undirected-whole.result c.as_undirected-whole.ensures c.flip_cw.new.self
     c.flip_cw.ensures.contents c.flip_cw.ensures.mesh c.flip_cw.ensures.triangles
-    c.flip_cw.ensures.outer c.in-Some.way c.in-Some.ensures c.recall_invariant.ensures.whole
+    c.flip_cw.ensures.outer c.in-Some.way c.in-Some.ensures c.flip_cw.ensures.whole.1
     c.args.work.now.items c.requires.work.edges
 
 pub returns-in-Some-clause-lists : goal.returns-in-Some-clause-lists

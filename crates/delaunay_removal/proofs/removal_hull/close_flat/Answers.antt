@@ -55,7 +55,7 @@ returns-clause-isolates g c =
     c.requires.star c.turn_away.ensures.mesh c.turn_away.ensures.triangles
     c.turn_away.ensures.outer
     c.disconnect_edge_strip.new.self c.turn_away.ensures.whole
-    c.recall_invariant.ensures.whole c.turn_away.ensures.contents
+    c.disconnect_edge_strip.ensures.whole c.turn_away.ensures.contents
     c.turn_away.new.turned.items
     (stands_put c.args.dcel.now c.turn_away.new.dcel c.args.vertex c.args.turned.now.items
     c.turn_away.new.turned.items (

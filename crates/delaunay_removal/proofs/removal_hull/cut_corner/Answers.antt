@@ -28,7 +28,7 @@ returns-clause-isolates g c =
     let two = has_two points c.args.dcel.now.mesh w.valid c.args.vertex c.args.first c.args.count
     c.requires.star in
     corner_isolates points c.args.dcel.now c.disconnect_edge_strip.new.self w
-    c.recall_invariant.ensures.whole c.args.vertex c.args.first c.args.count c.requires.star
+    c.disconnect_edge_strip.ensures.whole c.args.vertex c.args.first c.args.count c.requires.star
     c.requires.bent
     ((corner_read points c.args.dcel.now.mesh w.valid c.args.vertex c.args.first c.args.count
     c.requires.star).0 c.requires.corner)

@@ -4,9 +4,9 @@ use Rattle.delaunay_removal.proofs.DataDrops.{line_data_kept, line_renumbers}
 use Rattle.delaunay_removal.proofs.LeftFaces.{line_faces_leave}
 use Rattle.delaunay_removal.proofs.removal_line.remove_on_line.Goals as goal
 
-pub remove_when_degenerate-value-requires-clause-few :
-    goal.remove_when_degenerate-value-requires-clause-few
-remove_when_degenerate-value-requires-clause-few g c = few_edges_of g.V.HasPosition.place
+pub remove_when_degenerate-requires-clause-few :
+    goal.remove_when_degenerate-requires-clause-few
+remove_when_degenerate-requires-clause-few g c = few_edges_of g.V.HasPosition.place
     c.args.dcel.now c.requires.kept c.requires.one_face c.args.vertex
 
 pub returns-clause-takes : goal.returns-clause-takes
@@ -14,10 +14,10 @@ returns-clause-takes g c =
     let at = g.V.HasPosition.place in
     let was = c.args.dcel.now in
     let kept = c.requires.kept in
-    let new = c.remove_when_degenerate-value.new.self in
-    let whole = c.recall_invariant.ensures.whole in
-    let value = c.remove_when_degenerate-value.result in
-    let leaves = c.remove_when_degenerate-value.ensures.leaves in
+    let new = c.remove_when_degenerate.new.self in
+    let whole = c.remove_when_degenerate.ensures.whole in
+    let value = c.remove_when_degenerate.result in
+    let leaves = c.remove_when_degenerate.ensures.leaves in
     record {
       value = value_was at was kept c.requires.one_face new whole c.args.vertex value leaves;
       plain = line_plain_removes at was new c.args.vertex value leaves;
@@ -29,7 +29,7 @@ returns-clause-takes g c =
 
 pub returns-clause-edges : goal.returns-clause-edges
 returns-clause-edges g c =
-    line_renumbers c.args.dcel.now c.remove_when_degenerate-value.new.self
+    line_renumbers c.args.dcel.now c.remove_when_degenerate.new.self
     (record { valid = c.requires.kept.valid; fits = c.requires.kept.fits })
-    c.recall_invariant.ensures.whole c.requires.one_face c.args.vertex
-    c.remove_when_degenerate-value.result c.remove_when_degenerate-value.ensures.leaves
+    c.remove_when_degenerate.ensures.whole c.requires.one_face c.args.vertex
+    c.remove_when_degenerate.result c.remove_when_degenerate.ensures.leaves

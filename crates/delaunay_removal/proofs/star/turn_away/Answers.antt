@@ -33,7 +33,7 @@ returns g c =
     record {
       mesh = c.flip_cw.ensures.mesh ∙ ap (λ (k : ℕ). flipped m (2 * k)) crossed;
       contents = c.flip_cw.ensures.contents;
-      whole = c.recall_invariant.ensures.whole;
+      whole = c.flip_cw.ensures.whole.1;
       triangles = subst (λ (k : ℕ). FlipsTriangles m c.flip_cw.new.self.mesh (2 * k)) crossed
           c.flip_cw.ensures.triangles;
       outer = c.flip_cw.ensures.outer;

@@ -20,7 +20,7 @@ peel-pendant-requires g c =
     second_peelable c.args.self.now c.open_face-value.new.self c.peel-spoke.new.self c.args.self.now
     c.args.first c.third_face-face.result c.peel-spoke.result 0 c.third_face-face.ensures.whole
     c.requires c.third_face-face.ensures.value c.open_face-value.ensures.opens
-    c.peel-spoke.ensures.whole c.peel-spoke.ensures.peels c.peel-spoke.ensures.spoke
+    c.open_face-value.ensures.whole c.peel-spoke.ensures.peels c.peel-spoke.ensures.spoke
 
 pub index_after_removal-border-requires : goal.index_after_removal-border-requires
 index_after_removal-border-requires g c =
@@ -28,8 +28,8 @@ index_after_removal-border-requires g c =
     c.peel-pendant.new.self c.args.first c.third_face-face.result c.peel-spoke.result
     c.peel-pendant.result c.third_face-face.ensures.whole c.requires
     c.third_face-face.ensures.value c.open_face-value.ensures.opens
-    c.peel-spoke.ensures.whole c.peel-spoke.ensures.peels c.peel-spoke.ensures.spoke
-    c.peel-pendant.ensures.whole c.peel-pendant.ensures.peels c.peel-pendant.ensures.spoke
+    c.open_face-value.ensures.whole c.peel-spoke.ensures.peels c.peel-spoke.ensures.spoke
+    c.peel-spoke.ensures.whole c.peel-pendant.ensures.peels c.peel-pendant.ensures.spoke
 
 pub remove_edge-requires : goal.remove_edge-requires
 remove_edge-requires g c =
@@ -37,8 +37,8 @@ remove_edge-requires g c =
     c.peel-pendant.new.self c.args.first c.third_face-face.result c.peel-spoke.result
     c.peel-pendant.result c.third_face-face.ensures.whole c.requires
     c.third_face-face.ensures.value c.open_face-value.ensures.opens
-    c.peel-spoke.ensures.whole c.peel-spoke.ensures.peels c.peel-spoke.ensures.spoke
-    c.peel-pendant.ensures.whole c.peel-pendant.ensures.peels c.peel-pendant.ensures.spoke
+    c.open_face-value.ensures.whole c.peel-spoke.ensures.peels c.peel-spoke.ensures.spoke
+    c.peel-spoke.ensures.whole c.peel-pendant.ensures.peels c.peel-pendant.ensures.spoke
     c.index_after_removal-border.ensures.whole
 
 pub close_face-requires-clause-open : goal.close_face-requires-clause-open
@@ -47,8 +47,8 @@ close_face-requires-clause-open g c =
     c.peel-pendant.new.self c.args.first c.third_face-face.result c.peel-spoke.result
     c.peel-pendant.result c.third_face-face.ensures.whole c.requires
     c.third_face-face.ensures.value c.open_face-value.ensures.opens
-    c.peel-spoke.ensures.whole c.peel-spoke.ensures.peels c.peel-spoke.ensures.spoke
-    c.peel-pendant.ensures.whole c.peel-pendant.ensures.peels c.peel-pendant.ensures.spoke
+    c.open_face-value.ensures.whole c.peel-spoke.ensures.peels c.peel-spoke.ensures.spoke
+    c.peel-spoke.ensures.whole c.peel-pendant.ensures.peels c.peel-pendant.ensures.spoke
     c.index_after_removal-border.ensures.whole
     c.remove_edge.new.self c.index_after_removal-border.result
     c.index_after_removal-border.ensures.value c.remove_edge.ensures.removes
@@ -59,26 +59,26 @@ close_face-requires-clause-room g c =
     c.peel-pendant.new.self c.args.first c.third_face-face.result c.peel-spoke.result
     c.peel-pendant.result c.third_face-face.ensures.whole c.requires
     c.third_face-face.ensures.value c.open_face-value.ensures.opens
-    c.peel-spoke.ensures.whole c.peel-spoke.ensures.peels c.peel-spoke.ensures.spoke
-    c.peel-pendant.ensures.whole c.peel-pendant.ensures.peels c.peel-pendant.ensures.spoke
+    c.open_face-value.ensures.whole c.peel-spoke.ensures.peels c.peel-spoke.ensures.spoke
+    c.peel-spoke.ensures.whole c.peel-pendant.ensures.peels c.peel-pendant.ensures.spoke
     c.index_after_removal-border.ensures.whole
     c.remove_edge.new.self c.index_after_removal-border.result
     c.index_after_removal-border.ensures.value c.remove_edge.ensures.removes
     c.open_face-value.ensures.spare c.peel-spoke.ensures.contents
     c.peel-pendant.ensures.contents c.remove_edge.ensures.contents
 
-pub returns : goal.returns
-returns g c =
+pub returns-clause-fills : goal.returns-clause-fills
+returns-clause-fills g c =
     collapsed c.args.self.now c.open_face-value.new.self c.peel-spoke.new.self
     c.peel-pendant.new.self c.args.first c.third_face-face.result c.peel-spoke.result
     c.peel-pendant.result c.third_face-face.ensures.whole c.requires
     c.third_face-face.ensures.value c.open_face-value.ensures.opens
-    c.peel-spoke.ensures.whole c.peel-spoke.ensures.peels c.peel-spoke.ensures.spoke
-    c.peel-pendant.ensures.whole c.peel-pendant.ensures.peels c.peel-pendant.ensures.spoke
+    c.open_face-value.ensures.whole c.peel-spoke.ensures.peels c.peel-spoke.ensures.spoke
+    c.peel-spoke.ensures.whole c.peel-pendant.ensures.peels c.peel-pendant.ensures.spoke
     c.index_after_removal-border.ensures.whole
     c.remove_edge.new.self c.index_after_removal-border.result
     c.index_after_removal-border.ensures.value c.remove_edge.ensures.removes
-    c.close_face.new.self c.open_face-value.result c.recall_invariant.ensures.whole
+    c.close_face.new.self c.open_face-value.result c.close_face.ensures.whole
     c.open_face-value.ensures.contents c.open_face-value.ensures.faces
     c.open_face-value.ensures.ends c.peel-spoke.ensures.contents c.peel-spoke.ensures.edges
     c.peel-spoke.ensures.faces c.peel-pendant.ensures.contents c.peel-pendant.ensures.edges

@@ -1,4 +1,6 @@
-use Rattle.std.proofs.Common.{refl, arith}
+use Rattle.std.proofs.Common.{refl, ap, ◌∙◌, length, arith}
+use Rattle.std.proofs.lemmas.List.{length_push}
+use Rattle.half_edge_dcel.proofs.Fits.{fits_as, fits_vertex, fits_hung, fits_closed, length-grown}
 use Rattle.half_edge_dcel.proofs.EdgeLists.{adds_edges, length-ends}
 use Rattle.half_edge_dcel.proofs.Outlines.{outer_changes}
 use Rattle.half_edge_dcel.proofs.dcel.Dcel.create_new_face_adjacent_to_edge.Goals as goal
@@ -30,8 +32,20 @@ returns-clause-links g c =
       outline = λ one. c.add_face_beside.ensures.adds.outline (c.push_vertex-v.ensures.outline one);
     })
 
+pub invariant_of-self : goal.invariant_of-self
+invariant_of-self g c =
+    rw (c.add_face_beside.ensures.mesh, c.push_vertex-v.ensures.mesh)
+    (fits_as _ _ _ _ _ _ _ _ _
+    (fits_closed _ _ _ _ _ _ (fits_hung _ _ _ _ _ _ _ (fits_vertex _ _ _ _ _ c.self.invariant)))
+    (ap length c.add_face_beside.ensures.rest.values ∙ ap length c.push_vertex-v.ensures.values
+    ∙ length_push _ _)
+    (omega (arith, length-grown _ _ _ _ c.push_defaults.ensures.grows))
+    (omega (arith, length-grown _ _ _ _ c.push_defaults-2.ensures.grows))
+    (length-grown _ _ _ _ c.push_defaults-3.ensures.grows))
+
 pub returns-clause-data : goal.returns-clause-data
 returns-clause-data g c = rw (← c.self.view_is) (record {
+  whole = record { valid = c.add_face_beside.ensures.valid; fits = invariant_of-self g c };
   contents = rw (
     c.add_face_beside.ensures.rest.room,
     c.push_vertex-v.ensures.room,

@@ -1,4 +1,5 @@
-use Rattle.std.proofs.Common.{refl, arith}
+use Rattle.std.proofs.Common.{refl, ap, length, arith}
+use Rattle.half_edge_dcel.proofs.Fits.{fits_as, fits_closed, length-grown}
 use Rattle.half_edge_dcel.proofs.EdgeLists.{adds_edges, length-ends}
 use Rattle.half_edge_dcel.proofs.dcel.Dcel.create_single_face_between_edge_and_next.Goals as goal
 
@@ -25,8 +26,19 @@ returns-clause-links g c =
       outline = closed.closes.outline;
     })
 
+pub invariant_of-self : goal.invariant_of-self
+invariant_of-self g c =
+    rw (c.close.ensures.mesh)
+    (fits_as _ _ _ _ _ _ _ _ _
+    (fits_closed _ _ _ _ _ _ c.self.invariant)
+    (ap length c.close.ensures.rest.values)
+    (length-grown _ _ _ _ c.push_defaults.ensures.grows)
+    (length-grown _ _ _ _ c.push_defaults-2.ensures.grows)
+    (length-grown _ _ _ _ c.push_defaults-3.ensures.grows))
+
 pub returns-clause-data : goal.returns-clause-data
 returns-clause-data g c = rw (← c.self.view_is) (record {
+  whole = record { valid = c.close.ensures.valid; fits = invariant_of-self g c };
   contents = rw (
     c.close.ensures.rest.room,
     c.close.ensures.rest.values,

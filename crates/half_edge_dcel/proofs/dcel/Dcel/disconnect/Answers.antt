@@ -8,6 +8,7 @@ loop-init g c = record {
   strip = stripped_none c.args.self.now c.args.first c.args.count c.requires;
   contents = refl;
   outline = λ one. one;
+  whole = c.recall_invariant.ensures.whole;
 }
 
 pub peel-h-requires : goal.peel-h-requires
@@ -19,24 +20,25 @@ loop-preserved g c =
     let f = c.loop.invariant.strip in
     record {
       strip = stripped_next c.args.self.now c.loop.self c.peel-h.new.self c.args.first c.args.count
-          c.loop.h c.peel-h.result c.loop.counter c.peel-h.ensures.whole.valid f
+          c.loop.h c.peel-h.result c.loop.counter c.loop.invariant.whole.valid f
           (stripped_inner c.args.self.now c.loop.self c.args.first c.args.count c.loop.h
           c.loop.counter f (omega arith)) c.peel-h.ensures.peels c.peel-h.ensures.spoke
           c.peel-h.ensures.edges c.peel-h.ensures.faces _ (omega arith);
       contents = same_but c.args.self.now c.loop.self c.peel-h.new.self c.loop.invariant.contents
           c.peel-h.ensures.contents;
       outline = λ one. c.peel-h.ensures.outline (c.loop.invariant.outline one);
+      whole = c.peel-h.ensures.whole;
     }
 
 pub remove_edge-requires : goal.remove_edge-requires
 remove_edge-requires g c = stripped_removable c.args.self.now c.loop.self c.args.first c.args.count
     c.loop.h c.loop.counter c.loop.invariant.strip (omega arith)
 
-pub returns : goal.returns
-returns g c =
+pub returns-clause-strip : goal.returns-clause-strip
+returns-clause-strip g c =
     strip_lost c.args.self.now c.loop.self c.args.first c.args.count c.loop.h c.loop.counter
     c.loop.invariant.strip c.remove_edge.new.self (omega arith) c.recall_invariant.ensures.whole
-    c.remove_edge.ensures.whole c.recall_invariant-2.ensures.whole
+    c.loop.invariant.whole c.remove_edge.ensures.whole
     c.loop.invariant.contents c.loop.invariant.outline c.remove_edge.ensures.contents
     c.remove_edge.ensures.removes c.remove_edge.ensures.edges c.remove_edge.ensures.triangles
     c.remove_edge.ensures.outline

@@ -1,5 +1,6 @@
 use Rattle.std.proofs.Common.{◌≡◌}
 use Rattle.half_edge_links.specs.Hull.{KeepsOneOutline}
+use Rattle.half_edge_dcel.specs.Contents.{IsMeshWithData}
 use Rattle.half_edge_dcel.proofs.StripSteps.{IsStripped}
 use Rattle.half_edge_dcel.proofs.dcel.Dcel.disconnect.Given as goal
 
@@ -13,4 +14,5 @@ invariant-loop g l = record {
     faces = l.self.faces;
   };
   outline : KeepsOneOutline l.fn.self.mesh l.self.mesh;
+  whole : IsMeshWithData l.self;
 }

@@ -1,5 +1,7 @@
-use Rattle.std.proofs.Common.{◌≡◌, [], length, refl, arith}
+use Rattle.std.proofs.Common.{◌≡◌, [], length, refl, ap, ◌∙◌, arith}
 use Rattle.half_edge_links.specs.Mesh.{Mesh}
+use Rattle.std.proofs.lemmas.List.{length_push}
+use Rattle.half_edge_dcel.proofs.Fits.{fits_as, fits_vertex, fits_hung, length-grown}
 use Rattle.half_edge_dcel.proofs.EdgeLists.{adds_edges, length-ends}
 use Rattle.half_edge_dcel.proofs.Outlines.{outer_changes, empty_list, edge_into_kept, no_faces_hung}
 use Rattle.half_edge_dcel.proofs.dcel.Dcel.extend_line.Goals as goal
@@ -28,8 +30,20 @@ returns-clause-links g c =
       outline = λ one. c.extend_line.ensures.extends.outline (c.push_vertex-v.ensures.outline one);
     })
 
+pub invariant_of-self : goal.invariant_of-self
+invariant_of-self g c =
+    rw (c.extend_line.ensures.mesh, c.push_vertex-v.ensures.mesh)
+    (fits_as _ _ _ _ _ _ _ _ _
+    (fits_hung _ _ _ _ _ _ _ (fits_vertex _ _ _ _ _ c.self.invariant))
+    (ap length c.extend_line.ensures.rest.values ∙ ap length c.push_vertex-v.ensures.values
+    ∙ length_push _ _)
+    (length-grown _ _ _ _ c.push_defaults.ensures.grows)
+    (length-grown _ _ _ _ c.push_defaults-2.ensures.grows)
+    refl)
+
 pub returns-clause-data : goal.returns-clause-data
 returns-clause-data g c = rw (← c.self.view_is) (record {
+  whole = record { valid = c.extend_line.ensures.valid; fits = invariant_of-self g c };
   contents = rw (
     c.extend_line.ensures.rest.room,
     c.push_vertex-v.ensures.room,

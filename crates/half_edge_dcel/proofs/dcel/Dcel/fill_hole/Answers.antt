@@ -5,11 +5,14 @@ use Rattle.half_edge_dcel.proofs.TurnedEdge.{turned_corners, turned_wheel}
 use Rattle.half_edge_dcel.proofs.dcel.Dcel.fill_hole.Goals as goal
 
 pub loop-init : goal.loop-init
-loop-init g c = turned_none c.args.self.now c.args.first c.args.count c.requires.hub
+loop-init g c = record {
+  turned = turned_none c.args.self.now c.args.first c.args.count c.requires.hub;
+  whole = c.recall_invariant.ensures.whole;
+}
 
 pub turn_away-requires : goal.turn_away-requires
 turn_away-requires g c =
-    let f = c.loop.invariant in
+    let f = c.loop.invariant.turned in
     record {
       within = f.hub.within;
       before = turned_first c.args.self.now c.loop.self c.args.first c.args.count
@@ -23,20 +26,24 @@ turn_away-requires g c =
 pub loop-preserved : goal.loop-preserved
 loop-preserved g c =
     let t = c.turn_away.ensures in
-    turned_next c.args.self.now c.loop.self c.args.first c.args.count (c.loop.counter - 3)
-    c.recall_invariant.ensures.whole t.whole c.requires.tip c.loop.invariant (omega arith)
-    c.turn_away.new.self t.flips t.contents t.ends t.triangles t.outer t.outline _ (omega arith)
+    record {
+      turned = turned_next c.args.self.now c.loop.self c.args.first c.args.count
+          (c.loop.counter - 3) c.recall_invariant.ensures.whole c.loop.invariant.whole
+          c.requires.tip c.loop.invariant.turned (omega arith) c.turn_away.new.self t.flips
+          t.contents t.ends t.triangles t.outer t.outline _ (omega arith);
+      whole = t.whole;
+    }
 
 pub collapse-requires : goal.collapse-requires
 collapse-requires g c =
     let last = c.loop.auto.counter-end c.requires.many in
     turned_wheel c.args.self.now c.loop.self c.args.first c.args.count
-    (c.loop.counter - 3) c.loop.invariant (omega (arith, last))
+    (c.loop.counter - 3) c.loop.invariant.turned (omega (arith, last))
 
-pub returns : goal.returns
-returns g c =
+pub returns-clause-fan : goal.returns-clause-fan
+returns-clause-fan g c =
     let last = c.loop.auto.counter-end c.requires.many in
     hole_filled_by c.args.self.now c.loop.self c.collapse.new.self c.args.first c.args.count
     (c.loop.counter - 3) (omega (arith, last)) c.recall_invariant.ensures.whole
-    c.recall_invariant-2.ensures.whole c.recall_invariant-3.ensures.whole c.requires.hub
-    c.requires.tip c.loop.invariant c.collapse.ensures
+    c.loop.invariant.whole c.collapse.ensures.whole c.requires.hub
+    c.requires.tip c.loop.invariant.turned c.collapse.ensures.fills

@@ -1,4 +1,4 @@
-use Rattle.std.proofs.Common.{◌≡◌, ◌*◌, ◌/◌, refl, arith}
+use Rattle.std.proofs.Common.{◌≡◌, ◌*◌, ◌/◌, refl, arith, rules}
 use Rattle.half_edge_dcel.proofs.EdgeLists.{edges_of-set, along-even}
 use Rattle.half_edge_dcel.proofs.dcel.Dcel.flip_cw.Goals as goal
 
@@ -9,8 +9,9 @@ returns-clause-edges g c =
     (c.index.ensures, c.as_directed.ensures, half, along-even) at c.flip.ensures.flips.ends in
     rw (← c.self.view_is, ends_are) (edges_of-set _ _ _ _)
 
-pub returns-clause-outline : goal.returns-clause-outline
-returns-clause-outline g c = rw (← c.self.view_is) c.flip.ensures.flips.outline
+pub returns-clause-whole : goal.returns-clause-whole
+returns-clause-whole g c = rw (← c.self.view_is)
+    (c.flip.ensures.flips.outline, record { valid = c.flip.ensures.valid; fits = search rules })
 
 pub returns-clause-contents : goal.returns-clause-contents
 returns-clause-contents g c =

@@ -1,4 +1,6 @@
-use Rattle.std.proofs.Common.{refl}
+use Rattle.std.proofs.Common.{refl, ap, ◌∙◌, length}
+use Rattle.std.proofs.lemmas.List.{length_push}
+use Rattle.half_edge_dcel.proofs.Fits.{fits_as, fits_vertex, fits_inserted, length-grown}
 use Rattle.half_edge_dcel.proofs.EdgeLists.{adds_edges, length-ends}
 use Rattle.half_edge_dcel.proofs.Outlines.{keeps_outer}
 use Rattle.half_edge_dcel.proofs.dcel.Dcel.insert_into_triangle.Goals as goal
@@ -32,8 +34,20 @@ returns-clause-links g c =
           λ one. c.insert_beside.ensures.inserts.outline (c.push_vertex-v.ensures.outline one);
     })
 
+pub invariant_of-self : goal.invariant_of-self
+invariant_of-self g c =
+    rw (c.insert_beside.ensures.mesh, c.push_vertex-v.ensures.mesh)
+    (fits_as _ _ _ _ _ _ _ _ _
+    (fits_inserted _ _ _ _ _ _ _ (fits_vertex _ _ _ _ _ c.self.invariant))
+    (ap length c.insert_beside.ensures.rest.values ∙ ap length c.push_vertex-v.ensures.values
+    ∙ length_push _ _)
+    (length-grown _ _ _ _ c.push_defaults.ensures.grows)
+    (length-grown _ _ _ _ c.push_defaults-2.ensures.grows)
+    (length-grown _ _ _ _ c.push_defaults-3.ensures.grows))
+
 pub returns-clause-data : goal.returns-clause-data
 returns-clause-data g c = rw (← c.self.view_is) (record {
+  whole = record { valid = c.insert_beside.ensures.inserts.valid; fits = invariant_of-self g c };
   contents = rw (
     c.insert_beside.ensures.rest.room,
     c.push_vertex-v.ensures.room,

@@ -40,7 +40,7 @@ returns-clause-leaves g c =
     let is : c.next_edge-lost.result ≡ next m (rev c.args.out) =
     rw c.reversed-edge.ensures at (c.next_edge-lost.ensures.value) in
     middle_left c.args.self.now c.pass.new.self c.remove_edge.new.self c.args.out
-    c.next_edge-lost.result w c.remove_edge.ensures.whole c.recall_invariant-2.ensures.whole can
+    c.next_edge-lost.result w c.pass.ensures.whole c.remove_edge.ensures.whole can
     is c.pass.ensures.contents
     (rw c.reversed-edge.ensures at c.pass.ensures.links)
     (rw c.reversed-edge.ensures at c.pass.ensures.ends) c.remove_edge.ensures.contents

@@ -7,7 +7,7 @@ pub returns-clause-leaves : goal.returns-clause-leaves
 returns-clause-leaves g c = record {
   between = c.leave_line.new.self;
   leaves = rw c.index.ensures at c.leave_line.ensures.leaves;
-  whole = c.recall_invariant.ensures.whole;
+  whole = c.leave_line.ensures.whole;
   drops = c.swap_remove_vertex.ensures.drops;
 }
 

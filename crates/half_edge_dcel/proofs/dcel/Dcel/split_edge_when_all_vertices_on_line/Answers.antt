@@ -1,5 +1,6 @@
-use Rattle.std.proofs.Common.{refl, sym, rules, ◌∙◌}
-use Rattle.std.proofs.lemmas.List.{length-set}
+use Rattle.std.proofs.Common.{refl, ap, sym, rules, ◌∙◌, length}
+use Rattle.std.proofs.lemmas.List.{length-set, length_push}
+use Rattle.half_edge_dcel.proofs.Fits.{fits_as, fits_vertex, fits_hung, fits_slid, length-grown}
 use Rattle.half_edge_dcel.proofs.EdgeLists.{adds_edges, edges_of-set, length-ends}
 use Rattle.half_edge_dcel.proofs.Outlines.{outer_changes}
 use Rattle.half_edge_dcel.proofs.dcel.Dcel.split_edge_when_all_vertices_on_line.Goals as goal
@@ -34,8 +35,20 @@ returns-clause-links g c =
           λ one. c.split_line-parts.ensures.splits.outline (c.push_vertex-v.ensures.outline one);
     })
 
+pub invariant_of-self : goal.invariant_of-self
+invariant_of-self g c =
+    rw (c.split_line-parts.ensures.mesh, c.push_vertex-v.ensures.mesh)
+    (fits_as _ _ _ _ _ _ _ _ _
+    (fits_slid _ _ _ _ _ _ (fits_hung _ _ _ _ _ _ _ (fits_vertex _ _ _ _ _ c.self.invariant)))
+    (ap length c.split_line-parts.ensures.rest.values ∙ ap length c.push_vertex-v.ensures.values
+    ∙ length_push _ _)
+    (length-grown _ _ _ _ c.push_defaults.ensures.grows)
+    (length-grown _ _ _ _ c.push_defaults-2.ensures.grows)
+    refl)
+
 pub returns-clause-data : goal.returns-clause-data
 returns-clause-data g c = rw (← c.self.view_is) (record {
+  whole = record { valid = c.split_line-parts.ensures.splits.valid; fits = invariant_of-self g c };
   contents = rw (
     c.split_line-parts.ensures.rest.room,
     c.push_vertex-v.ensures.room,

@@ -43,6 +43,10 @@ returns-clause-links g c =
 
 pub returns-clause-data : goal.returns-clause-data
 returns-clause-data g c = rw (← c.self.view_is) (record {
+  whole = record {
+    valid = c.split_half_edge-parts.ensures.splits.valid;
+    fits = invariant_of-self g c;
+  };
   contents = rw (
     c.split_half_edge-parts.ensures.rest.room,
     c.push_vertex-v.ensures.room,

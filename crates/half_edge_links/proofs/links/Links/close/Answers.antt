@@ -97,3 +97,6 @@ returns-clause-closes g c =
     rw (← c.self.view_is) (closes_corner (mesh_in c.self.inside) _ c.args.e c.self.invariant.sound
     (rw (← c.self.view_is) at c.requires.closable)
     (rw (← c.self.view_is) at (returns-clause-mesh g c)))
+
+pub returns-clause-valid : goal.returns-clause-valid
+returns-clause-valid g c = invariant_of-self g c

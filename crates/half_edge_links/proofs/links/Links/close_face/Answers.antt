@@ -42,3 +42,6 @@ invariant_of-self g c =
     let room = rw (← c.self.view_is) at c.requires.room in
     valid_loop_closed m _ c.args.h c.self.invariant can
     (rw (← c.self.view_is) at (returns-clause-closes g c)).links (omega (arith, room))
+
+pub returns-clause-valid : goal.returns-clause-valid
+returns-clause-valid g c = invariant_of-self g c

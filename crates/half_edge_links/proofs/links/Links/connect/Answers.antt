@@ -46,3 +46,6 @@ returns-clause-outline g c =
       shows_first c.self.inside.half_edges.items c.args.a c.args.b can.no_edges,
     )
     (outline_connected (mesh_in c.self.inside) c.args.a c.args.b)
+
+pub returns-clause-valid : goal.returns-clause-valid
+returns-clause-valid g c = invariant_of-self g c

@@ -141,3 +141,6 @@ returns-clause-flips g c =
       outer = outer_flipped_is m _ c.args.e s can is;
       outline = outline_flipped m _ c.args.e s can links;
     })
+
+pub returns-clause-valid : goal.returns-clause-valid
+returns-clause-valid g c = invariant_of-self g c

@@ -68,3 +68,6 @@ returns-clause-hangs g c =
     rw (← c.self.view_is) (hangs_edge (mesh_in c.self.inside) _ c.args.x c.args.v
     c.self.invariant.sound (rw (← c.self.view_is) at c.requires.outer) (rw (← c.self.view_is) at
     c.requires.alone) (rw (← c.self.view_is) at (returns-clause-mesh g c)))
+
+pub returns-clause-valid : goal.returns-clause-valid
+returns-clause-valid g c = invariant_of-self g c

@@ -109,6 +109,7 @@ returns-clause-inserts g c =
     let is = rw (← c.self.view_is) at (returns-clause-mesh g c) in
     let links = inserts_is m _ c.args.v c.args.edge s inner alone is in
     rw (← c.self.view_is) (record {
+      valid = invariant_of-self g c;
       links = links;
       ends = ends_inserted_is m _ c.args.v c.args.edge s inner alone is;
       corners = triangles_inserted m _ c.args.v c.args.edge s inner alone is;

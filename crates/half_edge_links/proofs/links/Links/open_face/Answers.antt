@@ -31,6 +31,7 @@ returns g c =
     let o = rw (← mesh) at (opens m c.args.f s inner) in
     rw (← c.self.view_is) (record {
       mesh = mesh;
+      valid = valid_opened (mesh_in c.self.inside) _ c.args.f c.self.invariant inner o;
       opens = record {
         links = o;
         ends = ends_opened m _ c.args.f o;

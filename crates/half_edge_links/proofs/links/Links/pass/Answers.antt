@@ -90,3 +90,6 @@ returns-clause-outline g c =
     let can = rw (← c.self.view_is) at c.requires in
     rw (← c.self.view_is) (outline_passed (mesh_in c.self.inside) _ c.args.e c.self.invariant.sound
     can (rw (← c.self.view_is, ← can.two) at (returns-clause-links g c)))
+
+pub returns-clause-valid : goal.returns-clause-valid
+returns-clause-valid g c = invariant_of-self g c

@@ -34,6 +34,7 @@ returns g c =
         outer = peels_outer _ _ c.args.h v.sound can peels sound;
         outline = outline_peeled _ _ c.args.h v.sound can peels;
       };
+      valid = c.remove_edge.ensures.valid;
       rest = record { values = search rules; room = search rules };
       sound = v.sound;
       spoke = search rules;

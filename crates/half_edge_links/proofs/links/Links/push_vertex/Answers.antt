@@ -10,3 +10,6 @@ invariant_of-self g c =
 
 pub returns-clause-outline : goal.returns-clause-outline
 returns-clause-outline g c = rw (← c.self.view_is) (λ one. one)
+
+pub returns-clause-valid : goal.returns-clause-valid
+returns-clause-valid g c = invariant_of-self g c

@@ -216,3 +216,6 @@ pub invariant_of-self : goal.invariant_of-self
 invariant_of-self g c =
     valid_removed (mesh_in c.self.inside) _ c.args.e c.self.invariant (rw (← c.self.view_is) at
     c.requires) (rw (← c.self.view_is) at (returns-clause-removes g c)).links
+
+pub returns-clause-valid : goal.returns-clause-valid
+returns-clause-valid g c = invariant_of-self g c

@@ -81,3 +81,6 @@ pub returns-clause-outline : goal.returns-clause-outline
 returns-clause-outline g c =
     rw (← c.self.view_is) (outline_slid (mesh_in c.self.inside) _ c.args.e c.self.invariant.sound
     (rw (← c.self.view_is) at c.requires) (rw (← c.self.view_is) at (returns-clause-links g c)))
+
+pub returns-clause-valid : goal.returns-clause-valid
+returns-clause-valid g c = invariant_of-self g c

@@ -19,6 +19,7 @@ returns-clause-splits g c =
     let inserts = c.insert_beside.ensures.inserts in
     let flips = c.flip.ensures.flips in
     record {
+      valid = c.flip.ensures.valid;
       ends = ends_split _ _ c.flip.new.self.mesh _ _ s can c.requires.alone
           c.insert_beside.ensures.mesh inserts.ends flips.ends;
       corners = splits_triangles_is _ c.flip.new.self.mesh _ _ s can

@@ -32,6 +32,7 @@ returns g c =
       rest = record { values = search rules; room = search rules };
       sound = s;
       splits = record {
+        valid = c.flip.ensures.valid;
         links = half_splits _ _ _ _ s half adds new c.flip.ensures.sound c.flip.ensures.flips.links;
         ends = ends_half _ _ new _ _ s half adds (rw c.reversed.ensures at
             c.add_face_beside.ensures.adds.ends) c.flip.ensures.flips.ends;

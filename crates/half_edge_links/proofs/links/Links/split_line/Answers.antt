@@ -18,6 +18,7 @@ returns g c =
       rest = record { values = search rules; room = search rules };
       sound = s;
       splits = record {
+        valid = c.slide.ensures.valid;
         links = links;
         ends = ends_line _ _ c.slide.new.self.mesh _ _ s line hung.links hung.ends
             c.slide.ensures.ends;

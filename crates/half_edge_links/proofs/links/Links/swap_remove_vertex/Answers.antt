@@ -1,4 +1,4 @@
-use Rattle.std.proofs.Common.{◌≡◌, ◌-◌, length, ap, sym, ◌∙◌, refl}
+use Rattle.std.proofs.Common.{◌≡◌, ◌-◌, length, ap, sym, ◌∙◌, refl, rules}
 use Rattle.half_edge_links.proofs.Views.{mesh_in}
 use Rattle.half_edge_links.proofs.Stored.Shown.{length_shown}
 use Rattle.half_edge_links.specs.Mesh.{Mesh, IsAlone, out_edge}
@@ -36,6 +36,13 @@ invariant_of-self g c =
     let alone : IsAlone (mesh_in c.self.inside) c.args.v = rw (← c.self.view_is) at c.requires in
     valid_moved (mesh_in c.self.inside) _ c.args.v c.self.invariant alone
     (rw (← c.self.view_is) at (returns-clause-moves g c))
+
+pub returns-clause-rest : goal.returns-clause-rest
+returns-clause-rest g c = record {
+  valid = invariant_of-self g c;
+  values = search rules;
+  room = search rules;
+}
 
 pub returns-clause-triangles : goal.returns-clause-triangles
 returns-clause-triangles g c = rw (← c.self.view_is) (moves_triangles (mesh_in c.self.inside) _
