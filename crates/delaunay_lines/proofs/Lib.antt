@@ -5,6 +5,7 @@ pub mod FirstItems
 pub mod OutsideItems
 pub mod LineOutline
 pub mod OutlineWalk
+pub mod PastEnd
 pub mod EitherWay
 -- From one item to the next.
 pub mod MeshSteps

@@ -15,8 +15,9 @@ use Rattle.plane.proofs.IntegerOrder.{trichotomy_ℤ, mul-nonneg_ℤ, mul-pos_of
 use Rattle.plane.proofs.IntegerOrder.{mul-nonpos_of_nonneg_nonpos_ℤ, mul-neg_of_pos_neg_ℤ}
 use Rattle.plane.proofs.IntegerOrder.{pos_of_mul-pos_ℤ, nonneg_of_mul-nonneg_ℤ, neg_of_mul-neg_ℤ}
 use Rattle.plane.proofs.LineOrder.{IsBetween, place_within}
-use Rattle.plane.proofs.Signs.{less_both_ways}
+use Rattle.plane.proofs.Signs.{less_both_ways, less_by_negative_difference, more_by_difference}
 use Rattle.plane.proofs.Steps.{weak, weak_right, product_zero_left, not_left_of_product}
+use Rattle.plane.proofs.Steps.{no_difference}
 use Rattle.plane_tiling.proofs.Counting.{same_place}
 use Rattle.plane_tiling.proofs.Line.{SignLine, Adjoin}
 use Rattle.plane_tiling.proofs.LinePlaces.{ArePlaces, nearest_below, next_below}
@@ -83,24 +84,17 @@ module _ (n : ℕ) (p : ℕ → Point) (outer : List (ℕ × ℕ)) (m : SignLine
       | inl l ↦ absurd (f.apart (places.same e z near.first f.second (starts ∙ sym l)))
       | inr l ↦ absurd (elim (trichotomy_ℤ (spot z -ℤ spot o)) as (λ _. ⊥) [
         | inl k ↦ none_between_places n p spot places e o z near f.second
-            (subst (λ a. a <ℤ spot z) (sym starts) l) (under (spot z) (spot o) k)
+            (subst (λ a. a <ℤ spot z) (sym starts) l)
+            (less_by_negative_difference (spot z) (spot o) k)
         | inr k ↦ elim k as (λ _. ⊥) [
-          | inl k ↦ d (places.same z o f.second near.second (equal (spot z) (spot o) k))
+          | inl k ↦ d (places.same z o f.second near.second (no_difference (spot z) (spot o) k))
           | inr k ↦ none_between_places n p spot places e z o f near.second
-              (subst (λ a. a <ℤ spot o) (sym starts) ends) (over (spot z) (spot o) k)
+              (subst (λ a. a <ℤ spot o) (sym starts) ends)
+              (more_by_difference (spot z) (spot o) k)
         ]
       ])
     ]
   ]
-    where
-      under : (a b : ℤ) → (a -ℤ b) <ℤ pos 0 → a <ℤ b
-      under a b h = omega (arith, ints)
-
-      equal : (a b : ℤ) → a -ℤ b ≡ pos 0 → a ≡ b
-      equal a b h = omega (arith, ints)
-
-      over : (a b : ℤ) → pos 0 <ℤ (a -ℤ b) → b <ℤ a
-      over a b h = omega (arith, ints)
 
   -- ---- and a point q
   module _ (q : Point) where

@@ -28,7 +28,7 @@ use Rattle.plane.proofs.IntegerOrder.{lt_or_ge_ℤ, trichotomy_ℤ, mul-pos_ℤ}
 use Rattle.plane.proofs.IntegerOrder.{mul-nonpos_of_nonneg_nonpos_ℤ}
 use Rattle.plane.proofs.Nearer.{nothing_nearer}
 use Rattle.plane.proofs.Segments.{start_on_segment}
-use Rattle.plane.proofs.Sides.{if_right, if_on, side_swapped}
+use Rattle.plane.proofs.Sides.{side_swapped}
 use Rattle.plane.proofs.Steps.{weak, zero_weak_left, left_not_below, left_not_zero}
 use Rattle.plane.proofs.Steps.{product_zero_left}
 use Rattle.plane.proofs.Signs.{negated_negative, opposite_of_negative, opposite_of_positive}
@@ -64,6 +64,7 @@ use Rattle.plane_delaunay.proofs.Segments.LineItems.{Begins, begins}
 use Rattle.plane_segments.specs.Steps.{IsFirst, IsWalk}
 use Rattle.plane_segments.proofs.Items.Begins.{above-same}
 use Rattle.plane_segments.proofs.Items.Orders.{nearer-same_second}
+use Rattle.plane_segments.proofs.Items.SideSigns.{below_if_right, none_if_on}
 use Rattle.plane_segments.proofs.Items.Slopes.{slope, slope_above, later_is_higher, left_along}
 use Rattle.plane_segments.proofs.Items.Slopes.{left_before}
 use Rattle.plane_segments.proofs.Next.Ends.{item_not_left_of_outer}
@@ -529,16 +530,6 @@ module _ {V D U F : Type 0} (at : V → Point) (IsSite IsCovered : Point → Typ
       | inr l ↦ start_of_line l.0 l.1
     ]
 
-    right_below : (z : Fraction) → side (whole p) (whole q) z ≡ right
-        → bracket (whole p) (whole q) z <ℤ pos 0
-    unfolding bracket
-    right_below z e = if_right (whole p) (whole q) z e
-
-    on_level : (z : Fraction) → side (whole p) (whole q) z ≡ on
-        → bracket (whole p) (whole q) z ≡ pos 0
-    unfolding bracket
-    on_level z e = if_on (whole p) (whole q) z e
-
     -- past the last edge that p sees it meets nothing
     pub nothing_past_end : side (whole p) (whole q) Y ≡ right → ¬ IsLeftOf points m p (next m h)
         → Starts at c p q None
@@ -547,7 +538,7 @@ module _ {V D U F : Type 0} (at : V → Point) (IsSite IsCovered : Point → Typ
         outer seen (whole p) Y (end_side blind) (bracket-first (whole p) Y)
         (opposite_of_negative (bracket (whole p) Y (whole q)) (bracket (whole p) (whole q) Y)
         (bracket-turned (whole q) (whole p) Y ∙ bracket-swapped (whole p) (whole q) Y)
-        (right_below Y e)))
+        (below_if_right (whole p) (whole q) Y e)))
 
     -- nor before the first one
     pub nothing_past_start : side (whole p) (whole q) X ≡ left → ¬ IsLeftOf points m p (prev m h)
@@ -569,7 +560,7 @@ module _ {V D U F : Type 0} (at : V → Point) (IsSite IsCovered : Point → Typ
         | inl k ↦ k
         | inr r ↦ elim r [
           | inl k ↦ absurd (not_both_on t t_laid (whole p) (whole q) ways_apart (origin m h)
-              (origin m (rev h)) outer seen not_above (on_level Y e) k)
+              (origin m (rev h)) outer seen not_above (none_if_on (whole p) (whole q) Y e) k)
           | inr k ↦ absurd (n (left_if_above (whole p) (whole q) X k))
         ]
       ]
@@ -581,7 +572,8 @@ module _ {V D U F : Type 0} (at : V → Point) (IsSite IsCovered : Point → Typ
       end_met e n here = starts_first at IsSite IsCovered c p q over apart
           (Vertex (origin m (rev h))) here
           (end_first t t_laid (whole p) (whole q) ways_apart (origin m h) (origin m (rev h)) outer
-          seen not_above (start_in at IsSite IsCovered c p q over (rev h) r_in) (on_level Y e)
+          seen not_above (start_in at IsSite IsCovered c p q over (rev h) r_in)
+          (none_if_on (whole p) (whole q) Y e)
           (start_below e n))
 
       -- the start of the edge
@@ -589,7 +581,8 @@ module _ {V D U F : Type 0} (at : V → Point) (IsSite IsCovered : Point → Typ
           → origin m h < length c.vertices → Starts at c p q (Some (Vertex (origin m h)))
       start_met e l here = starts_first at IsSite IsCovered c p q over apart (Vertex (origin m h))
           here (start_first t t_laid (whole p) (whole q) ways_apart (origin m h) (origin m (rev h))
-          outer seen not_above (start_in at IsSite IsCovered c p q over h w) (on_level X e)
+          outer seen not_above (start_in at IsSite IsCovered c p q over h w)
+          (none_if_on (whole p) (whole q) X e)
           (above_if_left (whole p) (whole q) Y l))
 
       -- the edge itself

@@ -1,8 +1,10 @@
 //! What a segment meets first, from outside the triangulation.
 ghost use Rattle.std.specs.Prelude.{◌≡◌, ◌≢◌, ◌↔◌, ◌<◌, ◌<ℤ◌, ℕ};
 ghost use Rattle.std.specs.Prelude.{length, map, IsTrue, IfSome, IfNone, MatchOption};
+ghost use Rattle.half_edge_mesh.specs.Mesh.{origin};
 ghost use Rattle.plane.specs.Fraction.{whole as fraction};
 ghost use Rattle.plane.specs.Circle.{gap};
+ghost use Rattle.plane.specs.Location.{IsPast};
 ghost use Rattle.mesh_embedding.specs.Drawn.{drawn};
 ghost use Rattle.delaunay_core.specs.Place.{place_of};
 ghost use Rattle.delaunay_location.specs.Location.{Locates};
@@ -20,7 +22,7 @@ use crate::sides::{edge_after, edge_before, side_of_edge, twin_of};
 use crate::way::Way;
 use delaunay_core::math::PlaneTests;
 use delaunay_core::point::{HasPosition, Point2, SpadeNum};
-use delaunay_legalization::{is_same_point, position_of};
+use delaunay_legalization::{is_same_point, position_of, start_of};
 use half_edge_mesh::{FixedDirectedEdgeHandle, FixedVertexHandle, MeshViews};
 
 // Whether a point is nearer to a position than another.
@@ -284,8 +286,30 @@ impl<'a, V: HasPosition, DE, UE, F, P: PlaneTests<V::Scalar>> Segment<'a, V, DE,
         self.first_outside()
     }
 
+    // From past the vertex at the end of a line of vertices, where an edge starts: this vertex, if
+    // it is on the segment.
+    fn first_past(&self, edge: FixedDirectedEdgeHandle) -> Option<FixedIntersection>
+        requires within { edge < length self.now.dcel.directed }
+        requires apart { self.now.from ≢ self.now.to }
+        requires start { StartsOutside (drawn (map V.place self.now.dcel.vertices)
+            self.now.dcel.mesh) self.now.from }
+        requires past { IsPast (drawn (map V.place self.now.dcel.vertices) self.now.dcel.mesh)
+            (origin self.now.dcel.mesh edge) (fraction self.now.from) }
+        ensures { Starts V.place self.now.dcel self.now.from self.now.to result }
+    {
+        let way = Way {
+            from: self.from,
+            to: self.to,
+            tests: self.tests,
+        };
+        if way.carries(start_of(self.dcel, edge)) {
+            return Some(self.start_item(edge));
+        }
+        None
+    }
+
     // From beyond an outer edge: it goes along the outline from this edge on. Past the end of a
-    // line of vertices, where it sees no edge, it looks at all.
+    // line of vertices, where it sees no edge, it looks at this end alone.
     pub(crate) fn first_beyond(&self, edge: FixedDirectedEdgeHandle) -> Option<FixedIntersection>
         requires { Locates (map V.place self.now.dcel.vertices) self.now.dcel.mesh self.now.from
             (OutsideOfConvexHull edge) }
@@ -296,7 +320,7 @@ impl<'a, V: HasPosition, DE, UE, F, P: PlaneTests<V::Scalar>> Segment<'a, V, DE,
         }
         match self.if_seen(edge) {
             Some(seen) => self.first_along(seen),
-            None => self.first_outside(),
+            None => self.first_past(edge),
         }
     }
 }

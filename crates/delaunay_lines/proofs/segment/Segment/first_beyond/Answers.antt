@@ -2,6 +2,7 @@ use Rattle.std.proofs.Common.{Some}
 use Rattle.delaunay_legalization.proofs.Questions.{both_ways}
 use Rattle.delaunay_lines.proofs.Located.{outside_that_edge}
 use Rattle.delaunay_lines.proofs.OutlineWalk.{seen_from}
+use Rattle.delaunay_lines.proofs.PastEnd.{past_if_unseen}
 use Rattle.delaunay_lines.proofs.segment.Segment.first_beyond.Goals as goal
 
 pub first_along-requires-clause-apart : goal.first_along-requires-clause-apart
@@ -24,7 +25,16 @@ first_outside-requires g c =
     rw (← c.self.view_is) (outside_that_edge _ _ _ _ _ _ c.self.invariant c.args.edge
     (rw (← c.self.view_is) at c.requires))
 
-pub first_outside-requires-in-None : goal.first_outside-requires-in-None
-first_outside-requires-in-None g c =
+pub first_past-requires-clause-apart : goal.first_past-requires-clause-apart
+first_past-requires-clause-apart g c =
+    rw (← c.self.view_is) (λ e. both_ways _ (c.is_same_point.ensures.1 e) c.if-is_same_point.false)
+
+pub first_past-requires-clause-start : goal.first_past-requires-clause-start
+first_past-requires-clause-start g c =
     rw (← c.self.view_is) (outside_that_edge _ _ _ _ _ _ c.self.invariant c.args.edge
     (rw (← c.self.view_is) at c.requires))
+
+pub first_past-requires-clause-past : goal.first_past-requires-clause-past
+first_past-requires-clause-past g c =
+    rw (← c.self.view_is) (past_if_unseen _ _ _ _ _ _ c.self.invariant c.args.edge
+    (rw (← c.self.view_is) at c.requires) (rw (← c.self.view_is) at c.in-None.ensures))
