@@ -1,5 +1,5 @@
 -- A copy of a triangulation is one.
--- Lemmas: same_image, copies_constraints, copy_is_one, copy_is_counted.
+-- Lemmas: same_image, same_constraints, copy_is_one, copy_is_counted.
 use Rattle.std.proofs.Common.{◌≡◌, ◌∙◌, [], ◌∷◌}
 use Rattle.std.proofs.Common.{ℕ, suc, Bool, List, length, map, refl, sym, ap, subst}
 use Rattle.std.specs.Prelude.{All}
@@ -12,7 +12,7 @@ use Rattle.delaunay_legalization.specs.Constraints.{constraints_by, marked_edges
 use Rattle.delaunay_legalization.specs.Shape.{IsDelaunayTriangulation}
 use Rattle.delaunay_legalization.specs.State.{State}
 use Rattle.delaunay_edit.specs.Counting.{IsCounted}
-use Rattle.delaunay_edit.specs.Storage.{CopiesConstraints, IsCopy, KeepsImage}
+use Rattle.delaunay_edit.specs.Storage.{IsCopy, KeepsImage}
 
 same_length : {X : Type 0} (R : X → X → Type 0) (xs ys : List X) → AllZip R xs ys
     → length ys ≡ length xs
@@ -64,12 +64,8 @@ module _ {V D U F : Type 0} (place : V → Point) (marks : U → Bool) (constrai
       ∙ sym (marked old.undirected)
 
   -- where copied edges keep their marks, the same pairs are joined by constraints
-  same_constraints : constraints_by constraints new ≡ constraints_by constraints old
+  pub same_constraints : constraints_by constraints new ≡ constraints_by constraints old
   same_constraints = rw (copy.mesh, same_edges) refl
-
-  -- so it is a copy with its constraints
-  pub copies_constraints : CopiesConstraints RV RD RU RF constraints old new
-  copies_constraints = record { copy = copy; same = same_constraints }
 
   module _ (places : KeepsImage RV place old.vertices) where
     -- where copied vertices keep their places, too, a copy is Delaunay as the first is

@@ -1,10 +1,11 @@
 -- What follows for all circles where each edge between two faces passes.
--- Lemmas: marked_constrained_delaunay, empty_triple_is_face, none_without_edges, legal_empty,
+-- Lemmas: marked_constrained_delaunay, empty_triple_is_face, none_without_edges, counted_empty,
 -- legal_overwritten.
 use Rattle.std.proofs.Common.{◌≡◌, ◌∙◌, ◌<◌, []}
 use Rattle.std.proofs.Common.{ℕ, Bool, List, length, map, sym, ap, subst, slice_set}
-use Rattle.half_edge_mesh.specs.Mesh.{empty}
-use Rattle.half_edge_mesh.specs.Contents.{Contents, IsMeshWithData}
+use Rattle.std.proofs.Common.{None, Some, refl, arith}
+use Rattle.half_edge_mesh.specs.Mesh.{IsValidMesh, empty}
+use Rattle.half_edge_mesh.specs.Contents.{Contents}
 use Rattle.plane.specs.Fraction.{Point}
 use Rattle.plane.specs.Tiling.{IsFace}
 use Rattle.plane.specs.Delaunay.{IsConstrainedDelaunay, IsLocallyDelaunay, IsStrictlyEmpty}
@@ -19,6 +20,7 @@ use Rattle.delaunay_legalization.specs.Shape.{IsDelaunayTriangulation}
 use Rattle.delaunay_legalization.specs.State.{State, state_of, triangulation_of}
 use Rattle.delaunay_legalization.proofs.ConstraintEdges.{constraints_are_edges}
 use Rattle.delaunay_legalization.proofs.Shapes.{laid_out_tiles, kept_empty}
+use Rattle.delaunay_edit.specs.Counting.{IsCounted}
 use Rattle.delaunay_edit.proofs.Overwriting.{kept_overwritten, same_places}
 
 -- the marked edges are the constraints, whatever is marked
@@ -51,13 +53,51 @@ none_without_edges marks constraints marked s none =
 
 -- ---- a mesh with nothing but the outer face, and a vertex that takes the place of one of its
 -- position
+none_is_not_some : {X : Type 0} (x : X) → ¬ (None ≡ Some x)
+none_is_not_some x h = cc
+
+-- the mesh without any element is valid
+empty_is_valid : IsValidMesh empty
+empty_is_valid = record {
+  sound = record {
+    even = refl;
+    edges = λ h below. absurd (omega (arith, below));
+    vertices = λ v h e. absurd (none_is_not_some h e);
+    faces = λ f above below. absurd (omega (arith, above, below));
+    outer = λ h e. absurd (none_is_not_some h e);
+    has_outer = λ some. absurd (omega (arith, some));
+  };
+  apart = λ h below. absurd (omega (arith, below));
+  stars = λ among closed h g below. absurd (omega (arith, below));
+  small = record { vertices = omega arith; edges = omega arith; faces = omega arith };
+}
+
 -- a triangulation without vertices, edges and inner faces is Delaunay
-pub legal_empty : {V D U F : Type 0} (place : V → Point) (constraints : List U → List ℕ)
-    (c : Contents V D U F) → c.mesh ≡ empty → c.vertices ≡ [] → c.undirected ≡ [] → c.faces ≡ []
-    → IsMeshWithData c → IsDelaunayTriangulation place constraints (state_of c)
-legal_empty place constraints c mesh vertices undirected faces w = record {
-  kept = kept_empty place c mesh vertices undirected faces w;
+legal_empty : {V D U F : Type 0} (place : V → Point) (constraints : List U → List ℕ)
+    (c : Contents V D U F) → c.mesh ≡ empty → c.vertices ≡ [] → c.directed ≡ []
+    → c.undirected ≡ [] → c.faces ≡ [] → IsDelaunayTriangulation place constraints (state_of c)
+legal_empty place constraints c mesh vertices directed undirected faces = record {
+  kept = kept_empty place c mesh vertices undirected faces (record {
+    valid = rw mesh empty_is_valid;
+    fits = rw (mesh, vertices, directed, undirected, faces) (record {
+      vertices_fit = refl;
+      directed_fit = refl;
+      undirected_fit = refl;
+      faces_fit = refl;
+    });
+  });
   passing = λ i j k n f. absurd (line_has_none c.mesh i j k (ap faces_of mesh) f);
+}
+
+-- and has no constraint
+pub counted_empty : {V D U F : Type 0} (place : V → Point) (marks : U → Bool)
+    (constraints : List U → List ℕ) → ((ds : List U) → constraints ds ≡ marked_edges marks ds)
+    → (c : Contents V D U F) → c.mesh ≡ empty → c.vertices ≡ [] → c.directed ≡ []
+    → c.undirected ≡ [] → c.faces ≡ [] → IsCounted place constraints (state_of c) 0
+counted_empty place marks constraints marked c mesh vertices directed undirected faces = record {
+  legal = legal_empty place constraints c mesh vertices directed undirected faces;
+  counted = ap (λ (ps : List (ℕ × ℕ)). length ps)
+      (sym (none_without_edges marks constraints marked (state_of c) undirected));
 }
 
 -- a vertex overwritten at its own position leaves a Delaunay triangulation as it is

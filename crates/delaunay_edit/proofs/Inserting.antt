@@ -1,8 +1,10 @@
 -- Each way in which an insertion ends.
--- Lemmas: overwritten, appended_or_refused, splits_legalized.
+-- Lemmas: refused_far, overwritten, appended_or_refused, splits_legalized.
 use Rattle.std.proofs.Common.{◌≡◌, ◌<◌}
 use Rattle.std.proofs.Common.{ℕ, List, length, map, refl, sym, ap, subst, inl, slice_set, Result}
 use Rattle.std.proofs.Common.{Ok, Err}
+use Rattle.std.specs.Prelude.{◌↔◌, IsErrOf, IsOk}
+use Rattle.std.proofs.lemmas.Bool.{false≢true}
 use Rattle.std.proofs.lemmas.List.{length-map}
 use Rattle.plane.specs.Fraction.{Point}
 use Rattle.plane.specs.Pairs.{Joins}
@@ -23,8 +25,33 @@ use Rattle.delaunay_insertion.proofs.DataKept.{overwritten_keeps}
 ok_is_no_error : {E : Type 0} (i : ℕ) (e : E) → ¬ (Ok i ≡ Err e)
 ok_is_no_error i e h = cc
 
+abbrev error_or : {T E : Type 0} → E → Result T E → E
+error_or d (Ok x) = d
+error_or d (Err e) = e
+
+same_error : {T E : Type 0} (e d : E) → ◌≡◌ {A = Result T E} (Err e) (Err d) → e ≡ d
+same_error e d h = ap (error_or e) h
+
 module _ {V D U F : Type 0} (place : V → Point) (constraints : List U → List ℕ)
     (old : State V D U F) (value : V) where
+  -- a vertex that is out of range is refused
+  pub refused_far : {T : Type 0} (e : InsertionError)
+      → IsErrOf {T = T} {E = InsertionError} (Err e) TooLarge
+      → (IsOk {T = T} {E = InsertionError} (Err e) ↔ InRange (place value))
+      → InsertsVertex place constraints value (Err e) old old
+  refused_far e too_large near =
+      let far : ¬ InRange (place value) = λ h. false≢true (near.1 h) in
+      rw (same_error e TooLarge too_large) (record {
+        too_large = ((λ _. far), (λ _. refl));
+        known = λ h _. absurd (far h);
+        full = ((λ h. absurd (cc)), (λ h. absurd (far h.0)));
+        ok = tt;
+        replaced = λ _. tt;
+        outer = refl;
+        «data» = tt;
+        err = refl;
+      })
+
   -- a vertex is overwritten
   pub overwritten : (new : State V D U F) (i : ℕ) → IsTriangulated place old → InRange (place value)
       → i < length old.vertices → point_at (map place old.vertices) i ≡ place value

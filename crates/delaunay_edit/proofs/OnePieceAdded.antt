@@ -1,6 +1,6 @@
 -- An edge that becomes a constraint, alone or as a path, and paths of which no piece is missing.
--- Lemmas: none_missing, some_missing, one_joined, none_added, one_missing, not_joined, edge_told,
--- edge_listed, list_renamed.
+-- Lemmas: none_missing, some_missing, none_to_itself, one_joined, none_added, one_missing,
+-- not_joined, edge_told, edge_listed, list_renamed.
 use Rattle.std.proofs.Common.{◌≡◌, ◌≢◌, ◌↔◌, ◌/◌, ◌<◌, [], ◌∷◌, ◌∙◌}
 use Rattle.std.proofs.Common.{ℕ, Bool, false, List, length, map}
 use Rattle.std.proofs.Common.{refl, sym, subst, subst₂, inl, inr, arith}
@@ -9,19 +9,30 @@ use Rattle.half_edge_mesh.specs.Mesh.{Mesh, origin, rev}
 use Rattle.half_edge_mesh.specs.Contents.{Contents}
 use Rattle.plane.specs.Fraction.{Point}
 use Rattle.plane.specs.Pairs.{IsSamePair, Joins, SamePairs}
+use Rattle.plane.specs.Pairs.{place as point_place}
 use Rattle.plane.specs.Plain.{Adds}
 use Rattle.plane.proofs.Indexes.{same_joined}
+use Rattle.plane.proofs.Meetings.{cross_at_point}
+use Rattle.plane.proofs.Segments.{same-refl}
 use Rattle.plane_edits.proofs.Legalization.Flipping.{joins_or_not}
+use Rattle.plane_segments.specs.Constraints.{ArePlacedApart}
+use Rattle.plane_segments.proofs.Constraints.Pieces.{path_ends}
+use Rattle.plane_tiling.proofs.Locations.{no_edges_cross}
 use Rattle.plane_tiling.proofs.Totals.{Contains-head}
+use Rattle.mesh_embedding.specs.Drawn.{edges_of, faces_of, outer_of}
 use Rattle.mesh_embedding.proofs.EdgePairs.{no_joins}
+use Rattle.mesh_embedding.proofs.OwnEdges.{own_edges}
 use Rattle.delaunay_legalization.specs.declared.cdt_edge.CdtEdge.{CdtEdge}
 use Rattle.delaunay_legalization.specs.CdtEdge.{is_constraint}
 use Rattle.delaunay_legalization.specs.Shape.{IsTriangulated}
 use Rattle.delaunay_legalization.specs.State.{State, state_of}
+use Rattle.delaunay_legalization.proofs.ConstraintEdges.{constraints_are_edges}
+use Rattle.delaunay_paths.specs.Adding.{NoneCrosses}
 use Rattle.delaunay_paths.specs.PathEdges.{AreJoinedAlong, LeadAlong}
 use Rattle.delaunay_paths.proofs.JoinedPairs.{edge_joins}
 use Rattle.delaunay_paths.proofs.OnePiece.{edge_is_free, edge_is_next, ends_apart, first_in}
 use Rattle.delaunay_paths.proofs.OnePiece.{one_piece, second_in}
+use Rattle.delaunay_paths.proofs.Walking.{in_map, placed_apart}
 use Rattle.delaunay_edit.specs.Constrained.{constrained, constraint_edges, constraints_of}
 use Rattle.delaunay_edit.specs.ConstraintEdits.{AddsConstraint, AddsPathIfFree, MarksEdges}
 use Rattle.delaunay_edit.specs.Counting.{HasPairs, IsMissing}
@@ -54,6 +65,31 @@ module _ (points : List Point) (pairs : List (ℕ × ℕ)) (i j n : ℕ)
       let p = some_pair has.pairs (λ e. some (sym has.count ∙ e)) in
       let m = (has.exact p.0 p.1).0 p.2 in
       m.1 (all p.0 p.1 m.0)
+
+-- ---- from a vertex to itself
+-- no piece is missing, and no constraint crosses
+pub none_to_itself : {V D U F E : Type 0} (place : V → Point) (s : State V D (CdtEdge U) F)
+    → IsTriangulated place s → (i j : ℕ) → i < length s.vertices → i ≡ j
+    → AddsConstraint place {E = E} i j (Ok false) s s
+none_to_itself {E = E} at s kept i j within same =
+    subst (λ (k : ℕ). AddsConstraint at {E = E} i k (Ok false) s s) same
+    (nothing_added at s i i (Ok false) refl within within none_crosses
+    (λ a b next. absurd (path_ends points i distinct_places a b next)))
+  where
+    points : List Point
+    points = map at s.vertices
+
+    distinct_places : ArePlacedApart points
+    distinct_places = placed_apart points (faces_of s.mesh) (outer_of s.mesh) kept.shape
+
+    none_crosses : NoneCrosses points (constraints_of s) i i
+    none_crosses a b joined cross =
+        (no_edges_cross points (faces_of s.mesh) (outer_of s.mesh) (edges_of s.mesh) kept.shape
+        (own_edges s.mesh kept.valid)).0 a b i
+        (constraints_are_edges is_constraint constraint_edges (λ ds. refl) s.mesh s.undirected
+        kept.fits.undirected_fit kept.valid a b joined) (in_map at s.vertices i within)
+        ((cross_at_point (point_place points i) (point_place points i) (point_place points a)
+        (point_place points b) (same-refl (point_place points i))).0 cross)
 
 -- ---- an edge becomes a constraint
 module _ {V D U F : Type 0} (place : V → Point) (d : Contents V D (CdtEdge U) F)

@@ -1,7 +1,8 @@
 -- What the edits of constraints make of a triangulation.
 use Rattle.std.specs.Prelude.{◌≡◌, ◌≢◌, ◌⊎◌, ◌↔◌, ◌*◌, ◌<◌, []}
 use Rattle.std.specs.Prelude.{ℕ, Bool, true, false, List, length, map, Some, Result}
-use Rattle.std.specs.Prelude.{Ok, Contains, IsTrue, IfOk, OnOk, OnErr, slice_get, slice_set}
+use Rattle.std.specs.Prelude.{Ok, Option, Contains, IsTrue, IfOk, OnOk, OnErr, slice_get, slice_set}
+use Rattle.std.specs.Prelude.{MatchOption, MatchResult}
 use Rattle.half_edge_mesh.specs.Mesh.{origin, rev}
 use Rattle.plane.specs.Fraction.{Point}
 use Rattle.plane.specs.Pairs.{SamePairs}
@@ -55,8 +56,17 @@ module _ {V D U F : Type 0} (place : V → Point) where
     pub «data» : OnOk result (MarksEdges old new)
     pub err : OnErr result (new ≡ old)
 
-  -- the same where a constraint may cross, with the edges of the path: none, and no change, where
-  -- one does or where the two vertices are one
+  -- the same where a constraint may cross: where one does, the result is none, and nothing changed
+  abbrev pub AddsIfFree : {E : Type 0} → ℕ → ℕ → Result (Option Bool) E
+      → (old new : State V D (CdtEdge U) F) → Type 0
+  AddsIfFree {E = E} from to result old new =
+      MatchResult result (λ r. MatchOption r
+      ((¬ CanAdd place (constrained old) from to) × (new ≡ old))
+      (λ made. AddsConstraint {E = E} from to (Ok made) old new))
+      (λ e. CanAdd place (constrained old) from to × (new ≡ old))
+
+  -- a constraint may cross, and the edges of the path are told: none, and no change, where one does
+  -- or where the two vertices are one
   pub record AddsPathIfFree (from to : ℕ) (edges : List ℕ)
       (old new : State V D (CdtEdge U) F) : Type 0 where
     pub refused : (from ≡ to) ⊎ (¬ CanAdd place (constrained old) from to)

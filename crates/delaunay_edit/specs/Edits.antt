@@ -10,7 +10,6 @@ use Rattle.delaunay_core.specs.declared.math.InsertionError.{InsertionError}
 use Rattle.delaunay_core.specs.declared.math.InsertionError.TheVariants.{TooLarge, OutOfIndexes}
 use Rattle.delaunay_insertion.specs.Constraints.{SplitsConstraints}
 use Rattle.delaunay_legalization.specs.Constraints.{points_and_constraints_by}
-use Rattle.delaunay_legalization.specs.Flips.{FlipsFit}
 use Rattle.delaunay_legalization.specs.Known.{IsKnown}
 use Rattle.delaunay_legalization.specs.State.{State}
 use Rattle.delaunay_removal.specs.Data.{KeepsDataOfOthers}
@@ -23,12 +22,6 @@ module _ {V : Type 0} (place : V → Point) (IsSite : Point → Type 0) where
   pub record AreSitesWith (vertices : List V) (value : V) : Type 0 where
     pub sites : AreSites place IsSite vertices
     pub new_site : InRange (place value) → IsSite (place value)
-
-  -- a value may be inserted among these vertices, and the count of flips has room for those of the
-  -- insertion
-  pub record MayInsert (vertices : List V) (value : V) (flips : ℕ) : Type 0 where
-    pub sites : AreSitesWith vertices value
-    pub fits : FlipsFit (length vertices + 1) flips
 
 module _ {V D U F : Type 0} (place : V → Point) (constraints : List U → List ℕ) where
   -- an insertion of a value whose position no vertex has gave this result: the index of the new

@@ -2,7 +2,6 @@
 use Rattle.std.specs.Prelude.{◌≡◌, [], ℕ, List, All}
 use Rattle.std.specs.List.{AllZip}
 use Rattle.half_edge_mesh.specs.Mesh.{empty}
-use Rattle.delaunay_legalization.specs.Constraints.{constraints_by}
 use Rattle.delaunay_legalization.specs.State.{State}
 
 -- no vertex and no edge, and the outer face with data that are as they are at first
@@ -27,10 +26,3 @@ pub record IsCopy {V D U F : Type 0} (RV : V → V → Type 0) (RD : D → D →
   pub undirected : AllZip RU old.undirected new.undirected
   pub outer : RF old.outer new.outer
   pub faces : AllZip RF old.faces new.faces
-
--- such a copy, in which the same edges are constraints
-pub record CopiesConstraints {V D U F : Type 0} (RV : V → V → Type 0) (RD : D → D → Type 0)
-    (RU : U → U → Type 0) (RF : F → F → Type 0) (constraints : List U → List ℕ)
-    (old new : State V D U F) : Type 0 where
-  pub copy : IsCopy RV RD RU RF old new
-  pub same : constraints_by constraints new ≡ constraints_by constraints old

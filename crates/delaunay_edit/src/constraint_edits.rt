@@ -6,13 +6,13 @@ ghost use Rattle.half_edge_mesh.specs.Mesh.{origin, rev};
 ghost use Rattle.plane.specs.Pairs.{SamePairs};
 ghost use Rattle.plane.specs.Plain.{Adds, CanAdd, Releases};
 ghost use Rattle.delaunay_edit.specs.Constrained.{constrained, constraint_edges, constraints_of};
-ghost use Rattle.delaunay_edit.specs.ConstraintEdits.{AddsConstraint, AddsPathIfFree, FreesEdge};
-ghost use Rattle.delaunay_edit.specs.ConstraintEdits.{MarksEdges, MayJoin, MayRelease};
+ghost use Rattle.delaunay_edit.specs.ConstraintEdits.{AddsConstraint, AddsIfFree, AddsPathIfFree};
+ghost use Rattle.delaunay_edit.specs.ConstraintEdits.{FreesEdge, MarksEdges, MayJoin, MayRelease};
 ghost use Rattle.delaunay_edit.specs.ConstraintEdits.{ReleasesConstraint};
 ghost use Rattle.delaunay_edit.specs.Counting.{HasPairs, IsMissing};
 ghost use Rattle.delaunay_edit.specs.Headline.{IsDelaunay};
 
-use crate::counting::count_missing;
+use crate::counting::count_path;
 use crate::edited_mesh::ConstrainedMesh;
 use delaunay_core::math::PlaneTests;
 use delaunay_core::point::HasPosition;
@@ -50,6 +50,7 @@ impl<V: HasPosition, DE, UE, F> ConstrainedMesh<V, DE, UE, F> {
         ensures none_made { (¬ IsTrue result) → self.new ≡ self.old }
         ensures data { MarksEdges self.old self.new }
         ensures mesh { self.new.mesh ≡ self.old.mesh }
+        ensures headline { IsDelaunay V.place constraint_edges self.new }
     {
         self.recall_invariant();
         if is_constraint_edge::<EdgeConstraints, _, _, _, _>(&self.dcel, edge.as_undirected()) {
@@ -74,12 +75,13 @@ impl<V: HasPosition, DE, UE, F> ConstrainedMesh<V, DE, UE, F> {
             (constraints_of self.old) from to) missing }
         requires free { CanAdd V.place (constrained self.old) from to }
         requires sites { All (P.sites tests.now) (map V.place self.old.vertices) }
-        requires few { length self.old.vertices ≤ MAX_ELEMENTS }
         ensures plain { OnOk result (Adds V.place (constrained self.old) (constrained self.new) from
             to) }
         ensures data { OnOk result (MarksEdges self.old self.new) }
+        ensures headline { IsDelaunay V.place constraint_edges self.new }
         ensures err { OnErr result (self.new ≡ self.old) }
     {
+        self.recall_invariant();
         let edges = 3 * self.dcel.num_vertices();
         self.work.reserve(edges)?;
         self.crossing.reserve(edges)?;
@@ -95,6 +97,59 @@ impl<V: HasPosition, DE, UE, F> ConstrainedMesh<V, DE, UE, F> {
         );
         self.num_constraints += missing;
         Ok(())
+    }
+
+    // Adds the path between two vertices, which no constraint crosses, where some of its pieces are
+    // no constraints, and tells whether there were such.
+    fn add_missing<P: PlaneTests<V::Scalar>>(
+        &mut self,
+        from: FixedVertexHandle,
+        to: FixedVertexHandle,
+        missing: usize,
+        tests: &P,
+    ) -> Result<bool, AllocError>
+        requires ends { MayJoin V.place (P.sites tests.now) self.old from to }
+        requires missing { HasPairs (IsMissing (map V.place self.old.vertices)
+            (constraints_of self.old) from to) missing }
+        requires free { CanAdd V.place (constrained self.old) from to }
+        ensures adds { AddsConstraint V.place from to result self.old self.new }
+        ensures headline { IsDelaunay V.place constraint_edges self.new }
+    {
+        self.recall_invariant();
+        if missing == 0 {
+            return Ok(false);
+        }
+        self.add_path(from, to, missing, tests)?;
+        Ok(true)
+    }
+
+    /// Does what `join` does, unless a constraint crosses the segment: then it tells that by
+    /// `None`, changes nothing and takes no memory.
+    pub fn try_join<P: PlaneTests<V::Scalar>>(
+        &mut self,
+        from: FixedVertexHandle,
+        to: FixedVertexHandle,
+        tests: &P,
+    ) -> Result<Option<bool>, AllocError>
+        requires { MayJoin V.place (P.sites tests.now) self.old from to }
+        ensures adds { AddsIfFree V.place from to result self.old self.new }
+        ensures headline { IsDelaunay V.place constraint_edges self.new }
+    {
+        self.recall_invariant();
+        if from == to {
+            return Ok(Some(false));
+        }
+        if let Some(edge) = edge_if_joined(&self.dcel, from, to) {
+            return Ok(Some(self.constrain(edge)));
+        }
+        let counted = count_path::<EdgeConstraints, _, _, _, _, _>(&self.dcel, from, to, tests);
+        let Some(missing) = counted else {
+            return Ok(None);
+        };
+        match self.add_missing(from, to, missing, tests) {
+            Ok(made) => Ok(Some(made)),
+            Err(refused) => Err(refused),
+        }
     }
 
     /// Makes constraints of the edges between neighbours among the vertices on the segment between
@@ -113,20 +168,11 @@ impl<V: HasPosition, DE, UE, F> ConstrainedMesh<V, DE, UE, F> {
         ensures adds { AddsConstraint V.place from to result self.old self.new }
         ensures headline { IsDelaunay V.place constraint_edges self.new }
     {
-        self.recall_invariant();
-        if let Some(edge) = edge_if_joined(&self.dcel, from, to) {
-            let made = self.constrain(edge);
-            self.recall_invariant();
-            return Ok(made);
+        match self.try_join(from, to, tests) {
+            Ok(Some(made)) => Ok(made),
+            Ok(None) => unreachable!(),
+            Err(refused) => Err(refused),
         }
-        let missing = count_missing::<EdgeConstraints, _, _, _, _, _>(&self.dcel, from, to, tests);
-        if missing == 0 {
-            return Ok(false);
-        }
-        let added = self.add_path(from, to, missing, tests);
-        self.recall_invariant();
-        added?;
-        Ok(true)
     }
 
     // An edge, which becomes a constraint, in a list of its own.
@@ -137,6 +183,7 @@ impl<V: HasPosition, DE, UE, F> ConstrainedMesh<V, DE, UE, F> {
         requires { edge < length self.old.directed }
         ensures path { let m = self.old.mesh in IfOk result (λ edges. AddsPathIfFree V.place
             (origin m edge) (origin m (rev edge)) edges.items self.old self.new) }
+        ensures headline { IsDelaunay V.place constraint_edges self.new }
         ensures err { OnErr result (self.new ≡ self.old) }
     {
         self.recall_invariant();
@@ -146,27 +193,28 @@ impl<V: HasPosition, DE, UE, F> ConstrainedMesh<V, DE, UE, F> {
         Ok(edges)
     }
 
-    // The edges of the path between two vertices, which becomes constraints.
-    fn add_free_path<P: PlaneTests<V::Scalar>>(
+    // The edges of the path between two vertices, which no constraint crosses and of which so many
+    // pieces are none, and which becomes constraints.
+    fn add_listed_path<P: PlaneTests<V::Scalar>>(
         &mut self,
         from: FixedVertexHandle,
         to: FixedVertexHandle,
+        missing: usize,
         tests: &P,
     ) -> Result<Vec<FixedDirectedEdgeHandle>, AllocError>
         requires ends { MayJoin V.place (P.sites tests.now) self.old from to }
         requires apart { from ≢ to }
+        requires missing { HasPairs (IsMissing (map V.place self.old.vertices)
+            (constraints_of self.old) from to) missing }
         requires free { CanAdd V.place (constrained self.old) from to }
         ensures path { IfOk result (λ edges. AddsPathIfFree V.place from to edges.items self.old
             self.new) }
+        ensures headline { IsDelaunay V.place constraint_edges self.new }
         ensures err { OnErr result (self.new ≡ self.old) }
     {
         self.recall_invariant();
-        if let Some(edge) = edge_if_joined(&self.dcel, from, to) {
-            return self.constrain_alone(edge);
-        }
         let mut edges = Vec::new(*self.work.allocator());
         edges.reserve(self.num_vertices())?;
-        let missing = count_missing::<EdgeConstraints, _, _, _, _, _>(&self.dcel, from, to, tests);
         self.add_path(from, to, missing, tests)?;
         self.recall_invariant();
         edges_along(&self.dcel, from, to, tests, &mut edges);
@@ -192,12 +240,17 @@ impl<V: HasPosition, DE, UE, F> ConstrainedMesh<V, DE, UE, F> {
         ensures headline { IsDelaunay V.place constraint_edges self.new }
     {
         self.recall_invariant();
-        if from == to || !self.can_join(from, to, tests) {
+        if from == to {
             return Ok(Vec::new(*self.work.allocator()));
         }
-        let edges = self.add_free_path(from, to, tests);
-        self.recall_invariant();
-        edges
+        if let Some(edge) = edge_if_joined(&self.dcel, from, to) {
+            return self.constrain_alone(edge);
+        }
+        let counted = count_path::<EdgeConstraints, _, _, _, _, _>(&self.dcel, from, to, tests);
+        let Some(missing) = counted else {
+            return Ok(Vec::new(*self.work.allocator()));
+        };
+        self.add_listed_path(from, to, missing, tests)
     }
 
     // Makes a constraint an edge that is none, or a refusal that changes nothing.
@@ -213,6 +266,7 @@ impl<V: HasPosition, DE, UE, F> ConstrainedMesh<V, DE, UE, F> {
             OnOk result (Releases V.place (constrained self.old) (constrained self.new)
             (origin m (2 * edge)) (origin m (rev (2 * edge)))) }
         ensures data { OnOk result (FreesEdge self.old self.new edge) }
+        ensures headline { OnOk result (IsDelaunay V.place constraint_edges self.new) }
         ensures err { OnErr result (self.new ≡ self.old) }
     {
         self.work.reserve(3 * self.dcel.num_vertices())?;
@@ -245,9 +299,7 @@ impl<V: HasPosition, DE, UE, F> ConstrainedMesh<V, DE, UE, F> {
         if !self.is_constraint_edge(edge) {
             return Ok(false);
         }
-        let released = self.release(edge, tests);
-        self.recall_invariant();
-        released?;
+        self.release(edge, tests)?;
         Ok(true)
     }
 }

@@ -1,16 +1,19 @@
 //! How many constraints an edit makes or takes, by a look at what it changes.
-ghost use Rattle.std.specs.Prelude.{◌≡◌, ◌<◌, length, map, All};
+ghost use Rattle.std.specs.Prelude.{◌≡◌, ◌≢◌, ◌↔◌, ◌<◌, length, map, All, IsTrue};
+ghost use Rattle.std.specs.Prelude.{IfNone, IfSome};
 ghost use Rattle.delaunay_legalization.specs.Constraints.{constraints_by};
 ghost use Rattle.delaunay_legalization.specs.Shape.{IsTriangulated};
 ghost use Rattle.delaunay_legalization.specs.State.{state_of};
+ghost use Rattle.delaunay_paths.specs.Adding.{CanAddPath};
 ghost use Rattle.delaunay_edit.specs.Counting.{EndsAt, HasPairs, IsMissing, IsSplitCount};
 ghost use Rattle.delaunay_edit.specs.Location.{HasHandle};
 
 use delaunay_core::math::PlaneTests;
 use delaunay_core::point::HasPosition;
 use delaunay_legalization::{ConstraintMarker, is_constraint_edge};
+use delaunay_lines::{Intersection, line_between_vertices};
 use delaunay_location::PositionInTriangulation;
-use delaunay_paths::{is_constraint_between, next_on_path};
+use delaunay_paths::is_constraint_between;
 use half_edge_mesh::{Dcel, FixedVertexHandle, MeshViews};
 
 // How many constraints a new vertex at a location makes of one: one more where it is on a
@@ -54,30 +57,58 @@ pub(crate) fn count_constraints_at<M: ConstraintMarker<UE>, V: HasPosition, DE, 
     count
 }
 
-// How many pieces of the path between two vertices are no constraints.
-pub(crate) fn count_missing<
+// Whether two vertices are one.
+fn is_same_vertex(one: FixedVertexHandle, other: FixedVertexHandle) -> bool
+    ensures { IsTrue result ↔ (one ≡ other) }
+{
+    one == other
+}
+
+// How many pieces of the path between two different vertices are no constraints, unless a
+// constraint crosses it. It is one walk, which stops at the first that does, and takes no memory.
+pub(crate) fn count_path<
     M: ConstraintMarker<UE>,
     V: HasPosition,
     DE,
     UE,
     F,
     P: PlaneTests<V::Scalar>,
->(dcel: &Dcel<V, DE, UE, F>, from: FixedVertexHandle, to: FixedVertexHandle, tests: &P) -> usize
-    requires from_in { from < length dcel.now.vertices }
-    requires to_in { to < length dcel.now.vertices }
+>(
+    dcel: &Dcel<V, DE, UE, F>,
+    from: FixedVertexHandle,
+    to: FixedVertexHandle,
+    tests: &P,
+) -> Option<usize>
+    requires ends { (from < length dcel.now.vertices) × (to < length dcel.now.vertices) }
+    requires apart { from ≢ to }
     requires kept { IsTriangulated V.place (state_of dcel.now) }
     requires sites { All (P.sites tests.now) (map V.place dcel.now.vertices) }
-    ensures { let pairs = constraints_by M.constraints (state_of dcel.now) in
-        HasPairs (IsMissing (map V.place dcel.now.vertices) pairs from to) result }
+    ensures barred { IfNone result (¬ CanAddPath V.place M.constraints dcel.now from to) }
+    ensures free { IfSome result (λ n. CanAddPath V.place M.constraints dcel.now from to) }
+    ensures missing { let pairs = constraints_by M.constraints (state_of dcel.now) in
+        IfSome result (λ n. HasPairs (IsMissing (map V.place dcel.now.vertices) pairs from to) n) }
 {
     let mut count = 0;
     let mut at = from;
-    while at != to {
-        let next = next_on_path(dcel, at, to, tests);
-        if !is_constraint_between::<M, _, _, _, _>(dcel, at, next) {
-            count += 1;
+    let mut line = line_between_vertices(dcel, from, to, tests);
+    while let Some(item) = line.next() {
+        match item {
+            Intersection::EdgeIntersection(edge) => {
+                if is_constraint_edge::<M, _, _, _, _>(dcel, edge.fix().as_undirected()) {
+                    return None;
+                }
+            }
+            Intersection::VertexIntersection(vertex) => {
+                let next = vertex.fix();
+                if !is_same_vertex(next, at) {
+                    if !is_constraint_between::<M, _, _, _, _>(dcel, at, next) {
+                        count += 1;
+                    }
+                    at = next;
+                }
+            }
+            Intersection::EdgeOverlap(_) => {}
         }
-        at = next;
     }
-    count
+    Some(count)
 }

@@ -1,13 +1,13 @@
 //! A mesh with its edits, which both triangulation types hold.
-ghost use Rattle.std.specs.Prelude.{◌≡◌, ℕ, ◌<◌, ◌≤◌, [], length, map};
-ghost use Rattle.half_edge_mesh.specs.Mesh.{empty, origin, rev};
+ghost use Rattle.std.specs.Prelude.{◌≡◌, ◌<◌, ◌≤◌, length, map};
+ghost use Rattle.half_edge_mesh.specs.Mesh.{origin, rev};
 ghost use Rattle.delaunay_core.specs.Place.{place_of};
-ghost use Rattle.delaunay_legalization.specs.Constraints.{constraints_by};
 ghost use Rattle.delaunay_legalization.specs.Known.{point_at};
 ghost use Rattle.delaunay_legalization.specs.State.{state_of};
 ghost use Rattle.delaunay_edit.specs.Counting.{IsCounted};
 ghost use Rattle.delaunay_edit.specs.Headline.{IsDelaunay, IsWellFormed};
 ghost use Rattle.delaunay_edit.specs.Location.{IsMeshEdge};
+ghost use Rattle.delaunay_edit.specs.Storage.{IsEmptyState};
 
 use delaunay_core::point::{HasPosition, Point2};
 use delaunay_legalization::{CdtEdge, ConstraintMarker, EdgeConstraints, EdgeSet, NoConstraints};
@@ -54,21 +54,14 @@ impl<V: HasPosition, DE, UE, F, M: ConstraintMarker<UE>> Model for EditedMesh<V,
 }
 
 impl<V: HasPosition, DE, UE, F, M: ConstraintMarker<UE>> EditedMesh<V, DE, UE, F, M> {
-    /// No vertex, no edge, and the outer face with default data.
-    pub fn new(alloc: Global) -> Self
+    /// The triangulation of a mesh with nothing but its outer face. It takes no memory.
+    pub fn of_empty(dcel: Dcel<V, DE, UE, F>, alloc: Global) -> Self
     where
         F: Default,
-        ensures vertices { result.vertices ≡ [] }
-        ensures mesh { result.mesh ≡ empty }
-        ensures directed { result.directed ≡ [] }
-        ensures undirected { result.undirected ≡ [] }
-        ensures outer { F.is_default result.outer }
-        ensures faces { result.faces ≡ [] }
-        ensures constraints { constraints_by M.constraints result ≡ [] }
+        requires { IsEmptyState F.is_default (state_of dcel) }
+        ensures state { result ≡ state_of dcel }
         ensures headline { IsDelaunay V.place M.constraints result }
     {
-        let dcel = Dcel::new(alloc);
-        dcel.recall_invariant();
         EditedMesh::of_mesh(dcel, 0, alloc)
     }
 

@@ -1,13 +1,14 @@
-//! New vertices, and new data at a known position.
+//! What is at a position, and new vertices.
 ghost use Rattle.std.specs.Prelude.{◌≡◌, ◌↔◌, ℕ, ◌+◌, ◌*◌, ◌<◌, ◌≤◌, ◌++◌, ◌∷◌, []};
 ghost use Rattle.std.specs.Prelude.{length, map, All, IsFalse, IsTrue};
-ghost use Rattle.std.specs.Prelude.{Err, OnErr, OnOk};
+ghost use Rattle.std.specs.Prelude.{Err, IfOk, IsErrOf, IsOk, OnErr, OnOk};
 ghost use Rattle.plane.specs.Tests.{InRange};
 ghost use Rattle.delaunay_core.specs.declared.math.InsertionError.TheVariants.{OutOfMemory};
+ghost use Rattle.delaunay_core.specs.declared.math.InsertionError.TheVariants.{TooLarge};
 ghost use Rattle.delaunay_legalization.specs.Flips.{CountsFlips, FlipsFit};
-ghost use Rattle.delaunay_edit.specs.Edits.{AppendsVertex, InsertsVertex, MayInsert};
+ghost use Rattle.delaunay_edit.specs.Edits.{AppendsVertex, AreSitesWith};
 ghost use Rattle.delaunay_edit.specs.Entry.{IsEntry, IsVacant};
-ghost use Rattle.delaunay_edit.specs.Headline.{IsDelaunay};
+ghost use Rattle.delaunay_edit.specs.Headline.{IsDelaunay, IsWellFormed};
 ghost use Rattle.delaunay_edit.specs.Location.{HasHandle, IsLeftOfPlace};
 
 use crate::counting::count_split;
@@ -17,11 +18,11 @@ use delaunay_core::math::{InsertionError, PlaneTests, validate_vertex};
 use delaunay_core::point::HasPosition;
 use delaunay_insertion::{FreeByDefault, reserve_for_vertex};
 use delaunay_legalization::{EdgeSet, legalize_vertex, reserve_for_edges, turns_left};
-use delaunay_location::PositionInTriangulation;
+use delaunay_location::{PositionInTriangulation, locate_with_hint};
 use half_edge_mesh::{FixedVertexHandle, MAX_ELEMENTS};
 
 /// What is at the position of a value.
-pub(crate) enum Entry {
+pub enum Entry {
     /// This vertex.
     Occupied(FixedVertexHandle),
     /// No vertex. The location of the position, and whether the position is strictly on the left of
@@ -52,9 +53,9 @@ impl<V: HasPosition + Drop, DE: Default, UE: Default, F: Default, M: FreeByDefau
     F,
     M,
 > {
-    // The new last vertex, with the edges of the faces at it tested, or a refusal that changes
-    // nothing.
-    fn append<P: PlaneTests<V::Scalar>>(
+    /// The new last vertex at a vacant position, with the edges of the faces at it tested, or a
+    /// refusal that changes nothing.
+    pub fn append<P: PlaneTests<V::Scalar>>(
         &mut self,
         location: PositionInTriangulation,
         turns: bool,
@@ -69,6 +70,7 @@ impl<V: HasPosition + Drop, DE: Default, UE: Default, F: Default, M: FreeByDefau
         requires new_site { P.sites tests.now (V.place value) }
         requires fits { FlipsFit (length self.old.vertices + 1) flips.old }
         ensures appends { AppendsVertex V.place M.constraints value result self.old self.new }
+        ensures headline { IsDelaunay V.place M.constraints self.new }
         ensures counted { CountsFlips (length self.new.vertices) flips.old flips.new }
     {
         reserve_for_vertex(&mut self.dcel)?;
@@ -107,61 +109,28 @@ impl<V: HasPosition + Drop, DE: Default, UE: Default, F: Default, M: FreeByDefau
         }
     }
 
-    // What is at the position of a value. The search begins at a vertex, or at vertex 0 where there
-    // is no such vertex.
-    fn entry<P: PlaneTests<V::Scalar>>(
+    /// What is at the position of a value, or `TooLarge` where that is out of range. The search
+    /// begins at a vertex, or at vertex 0 where there is no such vertex.
+    pub fn entry<P: PlaneTests<V::Scalar>>(
         &self,
         value: &V,
         start: FixedVertexHandle,
         tests: &P,
-    ) -> Entry
-        requires sites { All (P.sites tests.now) (map V.place self.now.vertices) }
-        requires covered { P.covered tests.now (V.place value.now) }
-        ensures { IsEntry V.place self.now (V.place value.now) result }
+    ) -> Result<Entry, InsertionError>
+        requires { AreSitesWith V.place (P.sites tests.now) self.now.vertices value.now }
+        ensures well_formed { IsWellFormed V.place M.constraints self.now }
+        ensures only { OnErr result (IsErrOf result TooLarge) }
+        ensures exactly { IsOk result ↔ InRange (V.place value.now) }
+        ensures entry { IfOk result (IsEntry V.place self.now (V.place value.now)) }
     {
         self.recall_invariant();
-        let location = self.find_location(value.position(), start, tests);
+        validate_vertex(value)?;
+        let location = locate_with_hint(&self.dcel, value.position(), start, tests);
         match location {
-            PositionInTriangulation::OnVertex(vertex) => Entry::Occupied(vertex),
+            PositionInTriangulation::OnVertex(vertex) => Ok(Entry::Occupied(vertex)),
             _ => {
                 let turns = self.is_left_of(&location, value, tests);
-                Entry::Vacant(location, turns)
-            }
-        }
-    }
-
-    /// Inserts a vertex and gives its handle. The first of these that applies decides: `TooLarge`
-    /// where a coordinate is out of range; the handle of the vertex at its position, which it
-    /// replaces; `OutOfIndexes` where the mesh is full; `OutOfMemory` where memory was refused;
-    /// else the handle of the new last vertex. A constraint that the new vertex is strictly within
-    /// becomes two, and no other edge becomes one. Handles of vertices stay, and those of edges and
-    /// faces may change. An edge or a face that is there before and after keeps its data, and so
-    /// does the outer face. A refused vertex is dropped, and nothing else changes. The search for
-    /// the position begins at a vertex, or at vertex 0 where there is no such vertex. The number of
-    /// flips is added to `flips`.
-    pub fn insert_from<P: PlaneTests<V::Scalar>>(
-        &mut self,
-        value: V,
-        start: FixedVertexHandle,
-        tests: &P,
-        flips: &mut u64,
-    ) -> Result<FixedVertexHandle, InsertionError>
-        requires { MayInsert V.place (P.sites tests.now) self.old.vertices value flips.old }
-        ensures inserts { InsertsVertex V.place M.constraints value result self.old self.new }
-        ensures headline { IsDelaunay V.place M.constraints self.new }
-        ensures counted { CountsFlips (length self.new.vertices) flips.old flips.new }
-    {
-        self.recall_invariant();
-        validate_vertex(&value)?;
-        match self.entry(&value, start, tests) {
-            Entry::Occupied(vertex) => {
-                let _ = self.replace_vertex(vertex, value);
-                Ok(vertex)
-            }
-            Entry::Vacant(location, turns) => {
-                let appended = self.append(location, turns, value, tests, flips);
-                self.recall_invariant();
-                appended
+                Ok(Entry::Vacant(location, turns))
             }
         }
     }

@@ -61,9 +61,6 @@ pub(crate) fn insert_at<
                 insert_second(dcel, value)
             }
         }
-        PositionInTriangulation::OnVertex(vertex) => {
-            let _ = vertex;
-            unreachable!()
-        }
+        PositionInTriangulation::OnVertex(_) => unreachable!(),
     }
 }

@@ -10,11 +10,11 @@ mod halves;
 mod insertion;
 mod insertion_cases;
 mod joining;
-mod location;
 mod removal;
 mod storage;
 mod writing;
 
 pub use edge_data::EdgeData;
 pub use edited_mesh::EditedMesh;
+pub use insertion::Entry;
 pub use writing::WriteData;

@@ -2,16 +2,15 @@
 ghost use Rattle.std.specs.Prelude.{◌≡◌, ◌⊎◌, ◌<◌, [], slice_get, slice_set};
 ghost use Rattle.std.specs.Prelude.{length, map, All, Some, IfOk, OnErr, OnOk};
 ghost use Rattle.half_edge_mesh.specs.Mesh.{empty};
-ghost use Rattle.plane.specs.Plain.{IsCleared, Removes, Replaces};
+ghost use Rattle.plane.specs.Plain.{Removes};
 ghost use Rattle.delaunay_legalization.specs.Constraints.{constraints_by};
 ghost use Rattle.delaunay_legalization.specs.Constraints.{points_and_constraints_by};
 ghost use Rattle.delaunay_legalization.specs.Known.{point_at};
 ghost use Rattle.delaunay_removal.specs.Data.{KeepsDataOfOthers};
 ghost use Rattle.delaunay_removal.specs.Pairs.{HasBorder};
 ghost use Rattle.delaunay_edit.specs.Counting.{EndsAt, HasPairs};
-ghost use Rattle.delaunay_edit.specs.Edits.{RemovesVertex};
 ghost use Rattle.delaunay_edit.specs.Halves.{AreHalvesAt, IsLoss};
-ghost use Rattle.delaunay_edit.specs.Headline.{AreSites, IsDelaunay};
+ghost use Rattle.delaunay_edit.specs.Headline.{IsDelaunay};
 
 use crate::counting::count_constraints_at;
 use crate::edited_mesh::EditedMesh;
@@ -25,21 +24,16 @@ use half_edge_mesh::FixedVertexHandle;
 use std::alloc::AllocError;
 
 impl<V: HasPosition, DE, UE, F, M: ConstraintMarker<UE>> EditedMesh<V, DE, UE, F, M> {
-    /// Exchanges a vertex for one of the same position, and gives the old one back.
+    /// Writes a vertex over one of its position, which it gives back.
     pub fn replace_vertex(&mut self, vertex: FixedVertexHandle, value: V) -> V
         requires within { vertex < length self.old.vertices }
         requires same { point_at (map V.place self.old.vertices) vertex ≡ V.place value }
-
         ensures value { slice_get self.old.vertices vertex ≡ Some result }
         ensures new { self.new ≡ record self.old
             { vertices = slice_set self.old.vertices vertex value } }
-        ensures plain { Replaces V.place (points_and_constraints_by M.constraints self.old)
-            (points_and_constraints_by M.constraints self.new) vertex value }
         ensures headline { IsDelaunay V.place M.constraints self.new }
     {
-        let former = self.dcel.update_vertex(vertex, value);
-        self.recall_invariant();
-        former
+        self.dcel.update_vertex(vertex, value)
     }
 }
 
@@ -105,10 +99,10 @@ impl<V: HasPosition, DE: Drop, UE: Drop, F: Drop, M: ConstraintMarker<UE>> Edite
         }
     }
 
-    // Takes a vertex out, joins the halves of a straight constraint whose middle it is, and tests
-    // what its turned edges join, and beside constraints the sides of its hole; or a refusal that
-    // changes nothing.
-    fn take_out<P: PlaneTests<V::Scalar>>(
+    /// Takes a vertex out, joins the halves of a straight constraint whose middle it is, and tests
+    /// what its turned edges join, and beside constraints the sides of its hole; or a refusal that
+    /// changes nothing.
+    pub fn take_out<P: PlaneTests<V::Scalar>>(
         &mut self,
         vertex: FixedVertexHandle,
         tests: &P,
@@ -122,6 +116,7 @@ impl<V: HasPosition, DE: Drop, UE: Drop, F: Drop, M: ConstraintMarker<UE>> Edite
         ensures outer { self.new.outer ≡ self.old.outer }
         ensures data { OnOk result (KeepsDataOfOthers self.old self.new vertex) }
         ensures err { OnErr result (self.new ≡ self.old) }
+        ensures headline { IsDelaunay V.place M.constraints self.new }
     {
         let edges = 3 * self.dcel.num_vertices();
         self.work.reserve(edges)?;
@@ -154,28 +149,6 @@ impl<V: HasPosition, DE: Drop, UE: Drop, F: Drop, M: ConstraintMarker<UE>> Edite
         self.num_constraints -= lost;
         Ok(value)
     }
-
-    /// Removes a vertex, with the constraints that end at it, and gives it back; the last vertex
-    /// takes its handle. Where exactly two constraints end at it, and it is strictly between their
-    /// other ends, a constraint joins these then. Handles of edges and faces change too. Each other
-    /// constraint stays. An edge that did not end at the vertex, or a face without that corner,
-    /// that is there before and after keeps its data, and so does the outer face. It gives
-    /// `AllocError` where memory was refused, and then nothing changes.
-    pub fn remove<P: PlaneTests<V::Scalar>>(
-        &mut self,
-        vertex: FixedVertexHandle,
-        tests: &P,
-    ) -> Result<V, AllocError>
-        requires within { vertex < length self.old.vertices }
-        requires sites { AreSites V.place (P.sites tests.now) self.old.vertices }
-        ensures removes { RemovesVertex V.place M.constraints vertex result self.old self.new }
-        ensures headline { IsDelaunay V.place M.constraints self.new }
-    {
-        self.recall_invariant();
-        let removed = self.take_out(vertex, tests);
-        self.recall_invariant();
-        removed
-    }
 }
 
 impl<V: HasPosition + Drop, DE: Drop, UE: Drop, F: Drop, M: ConstraintMarker<UE>> EditedMesh<
@@ -185,8 +158,7 @@ impl<V: HasPosition + Drop, DE: Drop, UE: Drop, F: Drop, M: ConstraintMarker<UE>
     F,
     M,
 > {
-    /// Forgets each vertex, each edge with its constraint, and each inner face. The outer face
-    /// keeps its data, and memory that was taken is kept for later insertions. It is never refused.
+    /// Empties the mesh but for its outer face. The room stays.
     pub fn clear(&mut self)
         ensures new { self.new ≡ record self.old {
           vertices = [];
@@ -195,12 +167,9 @@ impl<V: HasPosition + Drop, DE: Drop, UE: Drop, F: Drop, M: ConstraintMarker<UE>
           undirected = [];
           faces = [];
         } }
-        ensures plain { IsCleared V.place (points_and_constraints_by M.constraints self.new) }
         ensures headline { IsDelaunay V.place M.constraints self.new }
     {
         self.dcel.clear();
         self.num_constraints = 0;
-        self.dcel.recall_invariant();
-        self.recall_invariant();
     }
 }

@@ -1,14 +1,14 @@
 -- The positions that a hint generator holds stay positions of vertices.
--- Lemmas: held_are_sites, was_listed, stay_listed, new_is_listed, inserted_if_more,
--- new_is_in_range, listed_after_insertion, others_are_listed, inserted_in_range, listed_then,
--- held_then, removed_is_site, swapped_is_site, held_after_removal.
+-- Lemmas: held_are_sites, was_listed, stay_listed, new_is_listed, others_are_listed,
+-- held_overwritten, held_after_insertion, held_then, removed_is_site, swapped_is_site,
+-- held_after_removal.
 use Rattle.std.proofs.Common.{◌≡◌, ◌∙◌, ◌⊎◌, ◌+◌, ◌-◌, ◌<◌, [], ◌∷◌}
 use Rattle.std.proofs.Common.{ℕ, List, length, map, get_or, Some, sym, ap, subst, inl, inr, arith}
 use mathlib.Core.Logic.{⊎_elim}
 use Rattle.std.proofs.lemmas.Bool.{cases_eq}
 use Rattle.std.specs.Prelude.{◌≢◌}
 use Rattle.std.specs.Prelude.{All, Contains, Option, Result, Ok, Err, IfOk, OnErr, OnOk, slice_get}
-use Rattle.std.specs.Prelude.{swap_remove}
+use Rattle.std.specs.Prelude.{slice_set, swap_remove}
 use Rattle.std.proofs.lemmas.List.{length-map, map-append, get_or-map, get_or_default}
 use Rattle.std.proofs.lemmas.List.Elements.{All-contains, Contains-append_left, Contains-push}
 use Rattle.std.proofs.lemmas.Option.{get_or_from_slice_get, slice_get_within}
@@ -17,13 +17,13 @@ use Rattle.half_edge_links.proofs.Removing.OpenSound.{length-swap_remove, get_or
 use Rattle.half_edge_links.proofs.Removing.OpenSound.{get_or-swap_remove_other}
 use Rattle.half_edge_links.proofs.Removing.ShrinkTriangles.{map-swap_remove}
 use Rattle.plane.specs.Fraction.{Point}
-use Rattle.plane.specs.Hint.{IsAtMost, IsAtMostOf, IsAtMostWithout}
+use Rattle.plane.specs.Hint.{IsAtMost, IsAtMostOf, IsAtMostWith, IsAtMostWithout}
 use Rattle.plane.specs.Plain.{Plain, Inserts, Removes}
-use Rattle.plane.specs.Tests.{InRange}
-use Rattle.delaunay_core.specs.declared.math.InsertionError.{InsertionError}
 use Rattle.delaunay_legalization.specs.Constraints.{points_and_constraints_by}
+use Rattle.delaunay_legalization.specs.Known.{point_at}
 use Rattle.delaunay_legalization.specs.State.{State}
-use Rattle.delaunay_edit.specs.Edits.{InsertsVertex, RemovesVertex}
+use Rattle.delaunay_edit.specs.Edits.{InsertsVertex}
+use Rattle.delaunay_edit.proofs.Overwriting.{same_places}
 use Rattle.delaunay_edit.proofs.Removing.{sites_left}
 
 -- what is held is a site where each vertex is one
@@ -95,37 +95,6 @@ module _ {V : Type 0} (place : V → Point) (old new : Plain V) where
       (sym (ap (map place) more.vertices ∙ map-append place old.vertices (v ∷ [])))
       (Contains-push (map place old.vertices) (place v))
 
-  -- an insertion that leaves more vertices inserted one
-  pub inserted_if_more : {E : Type 0} (v : V) (r : Result ℕ E) → IfOk r (Inserts place old new v) →
-      OnErr r (new.vertices ≡ old.vertices) → length old.vertices < length new.vertices →
-      (i : ℕ) × Inserts place old new v i
-  inserted_if_more v (Ok i) ok err more = (i, ok)
-  inserted_if_more v (Err e) ok err more =
-      let same = ap (λ (vs : List V). length vs) err in absurd (omega (arith, same, more))
-
-  -- and it is in range, as all are
-  pub new_is_in_range : {E : Type 0} (v : V) (r : Result ℕ E) → IfOk r (Inserts place old new v) →
-      OnErr r (new.vertices ≡ old.vertices) → All InRange (map place new.vertices) →
-      length old.vertices < length new.vertices → InRange (place v)
-  new_is_in_range v r ok err all more =
-      let w = inserted_if_more v r ok err more in
-      All-contains InRange (map place new.vertices) (place v) all (new_is_listed v w.0 w.1)
-
-  -- what was a position of a vertex is one after an insertion, whether it was refused or not, and
-  -- so is a new one
-  pub listed_after_insertion : {E : Type 0} (v : V) (r : Result ℕ E)
-      → IfOk r (Inserts place old new v) → OnErr r (new.vertices ≡ old.vertices) → (p : Point)
-      → (Contains (map place old.vertices) p
-      ⊎ ((length old.vertices < length new.vertices) × (p ≡ place v)))
-      → Contains (map place new.vertices) p
-  listed_after_insertion v (Ok i) ok err p (inl c) = stay_listed v i ok p c
-  listed_after_insertion v (Ok i) ok err p (inr (more, e)) =
-      subst (Contains (map place new.vertices)) (sym e) (new_is_listed v i ok)
-  listed_after_insertion v (Err e) ok err p (inl c) =
-      subst (λ (vs : List V). Contains (map place vs) p) (sym err) c
-  listed_after_insertion v (Err e) ok err p (inr (more, _)) =
-      let same = ap (λ (vs : List V). length vs) err in absurd (omega (arith, same, more))
-
   -- after a removal each other position is one
   pub others_are_listed : (v : ℕ) (value : V) → slice_get old.vertices v ≡ Some value
       → Removes place old new v → (p : Point) → p ≢ place value
@@ -140,31 +109,31 @@ module _ {V : Type 0} (place : V → Point) (old new : Plain V) where
       (omega (arith, within, length-map old.vertices place))
       (λ e. apart (e ∙ at)) c)
 
--- of an insertion and a removal as their records say
-vertices_if_refused : {V D U F E : Type 0} (old new : State V D U F) (r : Result ℕ E)
-    → OnErr r (new ≡ old) → OnErr r (new.vertices ≡ old.vertices)
-vertices_if_refused old new (Ok i) h = tt
-vertices_if_refused old new (Err e) h = ap (λ s. s.vertices) h
+-- what is held stays so where a vertex is written over one of its position
+pub held_overwritten : {V D U F : Type 0} (place : V → Point) (holds : Point → Type 0)
+    (old new : State V D U F) (i : ℕ) (v : V) → point_at (map place old.vertices) i ≡ place v
+    → new ≡ record old { vertices = slice_set old.vertices i v }
+    → IsAtMostOf holds (map place old.vertices) → IsAtMostOf holds (map place new.vertices)
+held_overwritten place holds old new i v same is held =
+    subst (λ (ps : List Point). IsAtMostOf holds ps) (sym (ap (λ s. map place s.vertices) is
+    ∙ same_places place old.vertices i v same)) held
 
-module _ {V D U F : Type 0} (place : V → Point) (constraints : List U → List ℕ)
-    (old new : State V D U F) (value : V) (r : Result ℕ InsertionError)
-    (done : InsertsVertex place constraints value r old new) where
-  refused : OnErr r (new.vertices ≡ old.vertices)
-  refused = vertices_if_refused old new r done.err
+-- and the position of a vertex that is appended may be held, too
+pub held_after_insertion : {V D U F : Type 0} (place : V → Point) (constraints : List U → List ℕ)
+    (old new : State V D U F) (value : V) (i : ℕ)
+    → InsertsVertex place constraints value (Ok i) old new → (held held' : Point → Type 0)
+    → IsAtMostOf held (map place old.vertices) → IsAtMostWith held held' (place value)
+    → IsAtMostOf held' (map place new.vertices)
+held_after_insertion place constraints old new value i done held held' before told =
+    let old_plain = points_and_constraints_by constraints old in
+    let new_plain = points_and_constraints_by constraints new in
+    λ p h. ⊎_elim
+    (λ was. stay_listed place old_plain new_plain value i done.ok p (before p was))
+    (λ e. subst (λ q. Contains (map place new.vertices) q) (sym e)
+    (new_is_listed place old_plain new_plain value i done.ok))
+    (told p h)
 
-  -- where there is a vertex more, and all are in range, the new one is
-  pub inserted_in_range : All InRange (map place new.vertices)
-      → length old.vertices < length new.vertices → InRange (place value)
-  inserted_in_range = new_is_in_range place (points_and_constraints_by constraints old)
-      (points_and_constraints_by constraints new) value r done.ok refused
-
-  -- a position of a vertex before, or that of the new vertex, is one of a vertex afterwards
-  pub listed_then : (p : Point) → (Contains (map place old.vertices) p
-      ⊎ ((length old.vertices < length new.vertices) × (p ≡ place value)))
-      → Contains (map place new.vertices) p
-  listed_then = listed_after_insertion place (points_and_constraints_by constraints old)
-      (points_and_constraints_by constraints new) value r done.ok refused
-
+-- of a removal as its step says
 module _ {V D U F : Type 0} (place : V → Point) (constraints : List U → List ℕ) (old new : State V D
     U F) (v : ℕ) (value : V) (had : slice_get old.vertices v ≡ Some value) (removes : Removes place
     (points_and_constraints_by constraints old) (points_and_constraints_by constraints new) v) where
@@ -180,36 +149,39 @@ module _ {V D U F : Type 0} (place : V → Point) (constraints : List U → List
       (before p old_one))
       (λ e. there p e) (told p h).0
 
+-- where all positions were sites, so is that of a vertex that was removed
+pub removed_is_site : {V E : Type 0} (place : V → Point) (vs : List V) (v : ℕ)
+    (sites : Point → Type 0) (r : Result V E) → IfOk r (λ value. slice_get vs v ≡ Some value)
+    → All sites (map place vs) → IfOk r (λ value. sites (place value))
+removed_is_site place vs v sites (Ok value) had all =
+    All-contains sites (map place vs) (place value) all (was_listed place vs v value had)
+removed_is_site place vs v sites (Err e) had all = tt
+
 module _ {V D U F E : Type 0} (place : V → Point) (constraints : List U → List ℕ)
-    (old new : State V D U F) (v : ℕ) where
-  -- where all positions were sites, so is that of a vertex that was removed
-  pub removed_is_site : (sites : Point → Type 0) (r : Result V E)
-      → RemovesVertex place constraints v r old new → All sites (map place old.vertices)
-      → IfOk r (λ value. sites (place value))
-  removed_is_site sites (Ok value) done all = All-contains sites (map place old.vertices)
-      (place value) all (was_listed place old.vertices v value done.value)
-  removed_is_site sites (Err e) done all = tt
+    (old new : State V D U F) (v : ℕ) (swapped : Option Point)
+    (there : (p : Point) → swapped ≡ Some p → Contains (map place new.vertices) p) where
+  -- and that of the vertex that took its handle
+  pub swapped_is_site : (sites : Point → Type 0) (r : Result V E)
+      → OnOk r (Removes place (points_and_constraints_by constraints old)
+      (points_and_constraints_by constraints new) v)
+      → All sites (map place old.vertices)
+      → OnOk r ((p : Point) → swapped ≡ Some p → sites p)
+  swapped_is_site sites (Ok value) removes all = λ p is.
+      All-contains sites (map place new.vertices) p
+      (sites_left place constraints old new v value removes sites all) (there p is)
+  swapped_is_site sites (Err e) removes all = tt
 
-  module _ (swapped : Option Point)
-      (there : (p : Point) → swapped ≡ Some p → Contains (map place new.vertices) p) where
-    -- and that of the vertex that took its handle
-    pub swapped_is_site : (sites : Point → Type 0) (r : Result V E)
-        → RemovesVertex place constraints v r old new → All sites (map place old.vertices)
-        → OnOk r ((p : Point) → swapped ≡ Some p → sites p)
-    swapped_is_site sites (Ok value) done all = λ p is.
-        All-contains sites (map place new.vertices) p
-        (sites_left place constraints old new v value done.plain sites all) (there p is)
-    swapped_is_site sites (Err e) done all = tt
-
-    -- what a generator holds that is told of a removal, and left where that was refused
-    pub held_after_removal : {G : Type 0} (holds : G → Point → Type 0) (before after : G)
-        (r : Result V E) → RemovesVertex place constraints v r old new
-        → IsAtMostOf (holds before) (map place old.vertices)
-        → IfOk r (λ value. IsAtMostWithout (holds before) (holds after) (place value) swapped)
-        → OnErr r (after ≡ before) → IsAtMostOf (holds after) (map place new.vertices)
-    held_after_removal holds before after (Ok value) done held told stays =
-        held_then place constraints old new v value done.value done.plain (holds before)
-        (holds after) swapped held there told
-    held_after_removal holds before after (Err e) done held told stays = λ p h.
-        subst (λ (s : State V D U F). Contains (map place s.vertices) p) (sym done.err)
-        (held p (subst (λ (x : _). holds x p) stays h))
+  -- what a generator holds that is told of a removal, and left where that was refused
+  pub held_after_removal : {G : Type 0} (holds : G → Point → Type 0) (before after : G)
+      (r : Result V E) → IfOk r (λ value. slice_get old.vertices v ≡ Some value)
+      → OnOk r (Removes place (points_and_constraints_by constraints old)
+      (points_and_constraints_by constraints new) v)
+      → OnErr r (new ≡ old) → IsAtMostOf (holds before) (map place old.vertices)
+      → IfOk r (λ value. IsAtMostWithout (holds before) (holds after) (place value) swapped)
+      → OnErr r (after ≡ before) → IsAtMostOf (holds after) (map place new.vertices)
+  held_after_removal holds before after (Ok value) had removes err held told stays =
+      held_then place constraints old new v value had removes (holds before)
+      (holds after) swapped held there told
+  held_after_removal holds before after (Err e) had removes err held told stays = λ p h.
+      subst (λ (s : State V D U F). Contains (map place s.vertices) p) (sym err)
+      (held p (subst (λ (x : _). holds x p) stays h))

@@ -1,8 +1,8 @@
 -- The vertices stay where constraints are added or released, or where only data change.
--- Lemmas: held_of_same, vertices_after_adding, vertices_after_path, vertices_after_release,
--- held_by_copy.
+-- Lemmas: held_of_same, vertices_after_adding, vertices_after_trying, vertices_after_path,
+-- vertices_after_release, held_by_copy.
 use Rattle.std.proofs.Common.{◌≡◌, ℕ, List, Bool, true, false, ap, sym, subst, map, refl}
-use Rattle.std.specs.Prelude.{Contains, Result, Ok, Err, IfOk, OnErr}
+use Rattle.std.specs.Prelude.{Contains, Option, Some, None, Result, Ok, Err, IfOk, OnErr}
 use Rattle.std.specs.List.{AllZip}
 use Rattle.plane.specs.Fraction.{Point}
 use Rattle.plane.specs.Hint.{IsAtMost, IsAtMostOf}
@@ -11,7 +11,8 @@ use Rattle.delaunay_legalization.specs.State.{State}
 use Rattle.delaunay_legalization.proofs.Questions.{both_ways}
 use Rattle.delaunay_edit.proofs.Copies.{same_image}
 use Rattle.delaunay_edit.specs.Storage.{KeepsImage}
-use Rattle.delaunay_edit.specs.ConstraintEdits.{AddsConstraint, AddsPathIfFree, ReleasesConstraint}
+use Rattle.delaunay_edit.specs.ConstraintEdits.{AddsConstraint, AddsIfFree, AddsPathIfFree}
+use Rattle.delaunay_edit.specs.ConstraintEdits.{ReleasesConstraint}
 
 -- what is held is of the new vertices where they are the old ones
 pub held_of_same : {V : Type 0} (place : V → Point) (holds : Point → Type 0) (vs ws : List V)
@@ -25,6 +26,13 @@ module _ {V D U F E : Type 0} (place : V → Point) (old new : State V D (CdtEdg
       → AddsConstraint place from to r old new → new.vertices ≡ old.vertices
   vertices_after_adding from to (Ok made) done = ap (λ s. s.vertices) done.«data».rest
   vertices_after_adding from to (Err e) done = ap (λ s. s.vertices) done.err
+
+  -- also where one may cross
+  pub vertices_after_trying : (from to : ℕ) (r : Result (Option Bool) E)
+      → AddsIfFree place from to r old new → new.vertices ≡ old.vertices
+  vertices_after_trying from to (Ok (Some made)) done = ap (λ s. s.vertices) done.«data».rest
+  vertices_after_trying from to (Ok None) done = ap (λ s. s.vertices) done.1
+  vertices_after_trying from to (Err e) done = ap (λ s. s.vertices) done.1
 
   -- and so does a path
   pub vertices_after_path : {X : Type 0} (from to : ℕ) (edges : X → List ℕ) (r : Result X E)

@@ -1,8 +1,8 @@
 -- Steps of edits that insert vertices and join them.
 -- Notions: IsSoFar; inserted_grows, inserted_here, inserted_sites, lacks_memory, joined_now,
--- one_taken, may_come, may_come_later, comes_now, taken_with, all_taken, taken_anyhow, begins,
--- ends, stops_at_vertex, stops_at_join, one_more, closes, cannot_close, all_joined, some_joined,
--- none_inserted, stops_at_from, stops_at_to, both_inserted.
+-- crossed_now, one_taken, may_come, may_come_later, comes_now, taken_with, all_taken,
+-- taken_anyhow, begins, ends, stops_at_vertex, stops_at_join, one_more, closes, cannot_close,
+-- all_joined, some_joined, none_inserted, stops_at_from, stops_at_to, both_inserted.
 use Rattle.std.proofs.Common.{◌≡◌, ◌≢◌, ◌∙◌, ◌<◌, ◌≤◌, [], ◌∷◌, ◌++◌}
 use Rattle.std.proofs.Common.{ℕ, Bool, List, length, map, Result, Ok, Err, Option, None, Some, refl}
 use Rattle.std.proofs.Common.{sym, ap, subst, inl, inr, append_assoc, append-nil, arith}
@@ -23,7 +23,10 @@ use Rattle.delaunay_edit.specs.ConstraintEdits.{AddsConstraint}
 use Rattle.delaunay_edit.specs.Edits.{InsertsVertex}
 use Rattle.delaunay_edit.specs.Headline.{AreSites}
 use Rattle.delaunay_interface.specs.declared.constraint_error.ConstraintError.{ConstraintError}
-use Rattle.delaunay_interface.specs.declared.constraint_error.ConstraintError.TheVariants.{Insertion}
+use Rattle.delaunay_interface.specs.declared.constraint_error.ConstraintError.TheVariants.{
+  Insertion,
+  Conflict,
+}
 use Rattle.delaunay_interface.specs.ConstraintEdges.{AddsConstraintEdge, AddsConstraintEdges}
 use Rattle.delaunay_interface.specs.ConstraintEdges.{ClosesPath, ExtendsPath}
 use Rattle.delaunay_interface.specs.ConstraintEdges.{JoinsVertices, MayGive, RefusesEnd, Takes}
@@ -113,6 +116,18 @@ module _ {V D U F : Type 0} (place : V → Point) (from to : ℕ) where
           «data» = added.«data»;
           err = tt;
         };
+      })
+
+  -- a constraint crosses
+  pub crossed_now : (s new : State V D (CdtEdge U) F) (result : Result Bool ConstraintError)
+      → result ≡ Err Conflict → (¬ CanAdd place (constrained s) from to) × (new ≡ s)
+      → JoinsVertices place from to result s new
+  crossed_now s new result is barred =
+      subst (λ (r : Result Bool ConstraintError). JoinsVertices place from to r s new)
+      (sym is) (record {
+        conflict = ((λ e. barred.0), (λ crossed. refl));
+        memory = inl refl;
+        adds = record { plain = tt; told = tt; none_made = tt; «data» = tt; err = barred.1 };
       })
 
 -- ---- what calls of an iterator gave

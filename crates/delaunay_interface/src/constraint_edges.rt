@@ -57,12 +57,9 @@ impl<
         ensures vertices { self.new.vertices ≡ self.old.vertices }
         ensures headline { IsDelaunay V.place constraint_edges self.new }
     {
-        self.recall_invariant();
-        if !self.can_add_constraint(from, to, tests) {
-            return Err(ConstraintError::Conflict);
-        }
-        match self.add_constraint(from, to, tests) {
-            Ok(made) => Ok(made),
+        match self.edited.try_join(from, to, tests) {
+            Ok(Some(made)) => Ok(made),
+            Ok(None) => Err(ConstraintError::Conflict),
             Err(_) => Err(ConstraintError::Insertion(InsertionError::OutOfMemory)),
         }
     }

@@ -1,16 +1,16 @@
 //! Insertions, of which the hint generator is told.
-ghost use Rattle.std.specs.Prelude.{◌+◌, length};
+ghost use Rattle.std.specs.Prelude.{◌+◌, ◌≤◌, length};
+ghost use Rattle.half_edge_links.specs.declared.room.TheConstants.{MAX_ELEMENTS};
 ghost use Rattle.plane.specs.Tests.{InRange};
 ghost use Rattle.delaunay_legalization.specs.Flips.{CountsFlips, FlipsFit};
 ghost use Rattle.delaunay_edit.specs.Edits.{AreSitesWith, InsertsVertex};
 ghost use Rattle.delaunay_edit.specs.Headline.{AreSites, IsDelaunay};
 
-use crate::telling::tell_if_appended;
 use crate::triangulation_core::TriangulationCore;
 use delaunay_core::HintGenerator;
 use delaunay_core::math::{InsertionError, PlaneTests, validate_vertex};
 use delaunay_core::point::HasPosition;
-use delaunay_edit::EdgeData;
+use delaunay_edit::{EdgeData, Entry};
 use delaunay_insertion::FreeByDefault;
 use half_edge_mesh::FixedVertexHandle;
 
@@ -70,7 +70,7 @@ impl<
     }
 
     // Inserts a vertex by a search from `hint`, and tells the generator of it where it was
-    // appended.
+    // appended. A count of 0 has room where there are no more vertices than a mesh can have.
     pub(crate) fn insert_told<P: PlaneTests<V::Scalar>>(
         &mut self,
         value: V,
@@ -79,34 +79,25 @@ impl<
         flips: &mut u64,
     ) -> Result<FixedVertexHandle, InsertionError>
         requires sites { AreSitesWith V.place (P.sites tests.now) self.old.vertices value }
-        requires fits { FlipsFit (length self.old.vertices + 1) flips.old }
+        requires fits { length self.old.vertices ≤ MAX_ELEMENTS →
+            FlipsFit (length self.old.vertices + 1) flips.old }
         ensures inserts { InsertsVertex V.place M.constraints value result self.old self.new }
         ensures headline { IsDelaunay V.place M.constraints self.new }
         ensures counted { CountsFlips (length self.new.vertices) flips.old flips.new }
     {
-        self.edited.recall_invariant();
-        let former = self.edited.num_vertices();
-        let position = value.position();
-        let inserted = self.edited.insert_from(value, hint, tests, flips);
-        self.edited.recall_invariant();
-        let current = self.edited.num_vertices();
-        tell_if_appended(&mut self.hint_generator, former, current, position, tests);
-        inserted
-    }
-
-    // The same without a count.
-    pub(crate) fn insert_hinted<P: PlaneTests<V::Scalar>>(
-        &mut self,
-        value: V,
-        hint: FixedVertexHandle,
-        tests: &P,
-    ) -> Result<FixedVertexHandle, InsertionError>
-        requires sites { AreSitesWith V.place (P.sites tests.now) self.old.vertices value }
-        ensures inserts { InsertsVertex V.place M.constraints value result self.old self.new }
-        ensures headline { IsDelaunay V.place M.constraints self.new }
-    {
-        self.edited.recall_invariant();
-        let mut flips = 0;
-        self.insert_told(value, hint, tests, &mut flips)
+        let entry = self.edited.entry(&value, hint, tests)?;
+        match entry {
+            Entry::Occupied(vertex) => {
+                let _ = self.edited.replace_vertex(vertex, value);
+                Ok(vertex)
+            }
+            Entry::Vacant(location, turns) => {
+                let position = value.position();
+                let vertex = self.edited.append(location, turns, value, tests, flips)?;
+                self.hint_generator
+                    .notify_vertex_inserted(vertex, position, tests);
+                Ok(vertex)
+            }
+        }
     }
 }

@@ -9,10 +9,11 @@ use crate::triangulation_core::TriangulationCore;
 use delaunay_core::HintGenerator;
 use delaunay_core::math::{InsertionError, PlaneTests};
 use delaunay_core::point::HasPosition;
-use delaunay_edit::{EdgeData, EditedMesh, WriteData};
+use delaunay_edit::{EdgeData, WriteData};
 use delaunay_insertion::FreeByDefault;
 use half_edge_mesh::{
     Dcel, FixedDirectedEdgeHandle, FixedFaceHandle, FixedUndirectedEdgeHandle, FixedVertexHandle,
+    MAX_ELEMENTS, ReserveError,
 };
 use std::alloc::{AllocError, Global};
 
@@ -70,11 +71,7 @@ impl<
     }
 
     fn new(alloc: Global) -> Self {
-        TriangulationCore {
-            edited: EditedMesh::new(alloc),
-            hint_generator: L::new(alloc),
-            alloc,
-        }
+        TriangulationCore::of_empty(Dcel::new(alloc), alloc)
     }
 
     fn with_capacity(
@@ -83,15 +80,20 @@ impl<
         undirected_edges: usize,
         faces: usize,
     ) -> Result<Self, InsertionError> {
-        Ok(TriangulationCore {
-            edited: EditedMesh::with_capacity(alloc, vertices, undirected_edges, faces)?,
-            hint_generator: L::new(alloc),
-            alloc,
-        })
+        match Dcel::with_capacity(alloc, vertices, undirected_edges, faces) {
+            Ok(dcel) => Ok(TriangulationCore::of_empty(dcel, alloc)),
+            Err(ReserveError::TooMany) => Err(InsertionError::OutOfIndexes),
+            Err(ReserveError::OutOfMemory) => Err(InsertionError::OutOfMemory),
+        }
     }
 
     fn reserve(&mut self, additional: usize) -> Result<(), InsertionError> {
-        self.edited.reserve(additional)
+        let former = self.edited.num_vertices();
+        let most = MAX_ELEMENTS / 6;
+        if additional > most || former > most - additional {
+            return Err(InsertionError::OutOfIndexes);
+        }
+        self.edited.reserve_totals(former + additional)
     }
 
     fn insert<P: PlaneTests<V::Scalar>>(
@@ -100,7 +102,7 @@ impl<
         tests: &P,
     ) -> Result<FixedVertexHandle, InsertionError> {
         let hint = self.hint_for(&value, tests);
-        self.insert_hinted(value, hint, tests)
+        self.insert_with_hint(value, hint, tests)
     }
 
     fn insert_with_hint<P: PlaneTests<V::Scalar>>(
@@ -109,7 +111,8 @@ impl<
         hint: FixedVertexHandle,
         tests: &P,
     ) -> Result<FixedVertexHandle, InsertionError> {
-        self.insert_hinted(value, hint, tests)
+        let mut flips = 0;
+        self.insert_told(value, hint, tests, &mut flips)
     }
 
     fn remove<P: PlaneTests<V::Scalar>>(
@@ -118,7 +121,7 @@ impl<
         tests: &P,
     ) -> Result<V, AllocError> {
         self.edited.recall_invariant();
-        let removed = self.edited.remove(vertex, tests);
+        let removed = self.edited.take_out(vertex, tests);
         let swapped_in = position_if(self.edited.mesh(), vertex);
         tell_if_removed(
             &mut self.hint_generator,

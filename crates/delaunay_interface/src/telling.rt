@@ -1,37 +1,14 @@
-//! What a hint generator is told of edits.
-ghost use Rattle.std.specs.Prelude.{◌≡◌, ◌⊎◌, ◌<◌, ◌≤◌, map, Contains, Some, IfOk, OnErr, OnOk};
+//! What a hint generator is told of removals and copies.
+ghost use Rattle.std.specs.Prelude.{◌≡◌, map, Contains, Some, IfOk, OnErr, OnOk};
 ghost use Rattle.plane.specs.Fraction.{Point};
 ghost use Rattle.plane.specs.Hint.{IsAtMost, IsAtMostWithout};
 ghost use Rattle.delaunay_core.specs.Held.{place_if};
-ghost use Rattle.delaunay_core.specs.Place.{place_of};
 
 use delaunay_core::HintGenerator;
 use delaunay_core::math::PlaneTests;
 use delaunay_core::point::{HasPosition, Point2, SpadeNum};
-use half_edge_mesh::{Dcel, FixedVertexHandle, MAX_ELEMENTS, MeshViews};
+use half_edge_mesh::{Dcel, FixedVertexHandle, MeshViews};
 use std::alloc::AllocError;
-
-// Tells a generator of the vertex that was appended, where there are more vertices than before, and
-// else leaves it.
-pub(crate) fn tell_if_appended<S: SpadeNum, L: HintGenerator<S>, P: PlaneTests<S>>(
-    generator: &mut L,
-    former: usize,
-    current: usize,
-    position: Point2<S>,
-    tests: &P,
-)
-    requires few { former ≤ MAX_ELEMENTS }
-    requires held { IsAtMost (P.sites tests.now) (L.holds generator.old) }
-    requires site { former < current → P.sites tests.now (place_of S.whole position) }
-    ensures holds { (p : Point) → L.holds generator.new p → L.holds generator.old p ⊎
-        ((former < current) × (p ≡ place_of S.whole position)) }
-    ensures stays { current ≤ former → generator.new ≡ generator.old }
-{
-    if former < current {
-        let vertex = FixedVertexHandle::from_index(former as u32);
-        generator.notify_vertex_inserted(vertex, position, tests);
-    }
-}
 
 // Tells a generator of the vertex that was removed, where one was, and else leaves it. The last
 // vertex has its handle then.

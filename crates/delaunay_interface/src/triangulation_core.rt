@@ -1,8 +1,14 @@
 //! The struct that both triangulation types are.
+ghost use Rattle.std.specs.Prelude.{◌≡◌};
+ghost use Rattle.delaunay_legalization.specs.State.{state_of};
+ghost use Rattle.delaunay_edit.specs.Headline.{IsDelaunay};
+ghost use Rattle.delaunay_edit.specs.Storage.{IsEmptyState};
+
 use delaunay_core::point::HasPosition;
 use delaunay_core::{HintGenerator, LastUsedVertexHintGenerator};
 use delaunay_edit::{EdgeData, EditedMesh};
 use delaunay_legalization::{CdtEdge, EdgeConstraints, NoConstraints};
+use half_edge_mesh::Dcel;
 use std::alloc::Global;
 use std::marker::Model;
 
@@ -38,6 +44,30 @@ impl<V: HasPosition, DE, UE, F, L: HintGenerator<V::Scalar>, M: EdgeData<UE>> Mo
     // What the generator holds are positions of vertices.
     ghost invariant = { λ c.
         IsAtMostOf (L.holds c.hint_generator) (map V.place c.edited.vertices) };
+}
+
+impl<V: HasPosition, DE, UE, F, L: HintGenerator<V::Scalar>, M: EdgeData<UE>> TriangulationCore<
+    V,
+    DE,
+    UE,
+    F,
+    L,
+    M,
+> {
+    // The triangulation of a mesh with nothing but its outer face.
+    pub(crate) fn of_empty(dcel: Dcel<V, DE, UE, F>, alloc: Global) -> Self
+    where
+        F: Default,
+        requires { IsEmptyState F.is_default (state_of dcel) }
+        ensures state { result ≡ state_of dcel }
+        ensures headline { IsDelaunay V.place M.constraints result }
+    {
+        TriangulationCore {
+            edited: EditedMesh::of_empty(dcel, alloc),
+            hint_generator: L::new(alloc),
+            alloc,
+        }
+    }
 }
 
 /// A triangulation of vertices with different positions. Its inner faces turn left and tile the

@@ -33,7 +33,7 @@ insert_past_end-requires-clause-one_face g c =
 pub unreachable-requires : goal.unreachable-requires
 unreachable-requires g c =
     not_on_vertex g.V.HasPosition.place c.args.dcel.now c.requires.can.kept
-    (g.V.HasPosition.place c.args.value) c.requires.vacant.apart c.in-OnVertex.vertex
+    (g.V.HasPosition.place c.args.value) c.requires.vacant.apart c.in-OnVertex.field-0
     (subst (Locates (map g.V.HasPosition.place c.args.dcel.now.vertices) c.args.dcel.now.mesh
     (g.V.HasPosition.place c.args.value)) c.in-OnVertex.is c.requires.vacant.location)
 

@@ -9,6 +9,7 @@ use Rattle.delaunay_edit.specs.ConstraintEdits.{MarksEdges}
 use Rattle.delaunay_edit.specs.Counting.{HasPairs, IsMissing}
 use Rattle.delaunay_edit.proofs.EditingConstraints.{edges_marked}
 use Rattle.delaunay_edit.proofs.Recounted.{counted_added, room_for_added}
+use Rattle.delaunay_edit.proofs.WellFormed.{is_delaunay}
 use Rattle.delaunay_edit.proofs.constraint_edits.ConstrainedMesh+V+DE+UE+F.add_path.Goals as goal
 
 pub add_constraints-requires-clause-way : goal.add_constraints-requires-clause-way
@@ -46,7 +47,8 @@ overflow_add-self g c =
     (subst (λ s. HasPairs (IsMissing (map g.V.HasPosition.place s.vertices) (constraints_of s)
     c.args.from c.args.to) c.args.missing) (sym c.self.view_is) c.requires.missing) in
     let same = ap length c.add_constraints.ensures.adds.plain.vertices in
-    let few = subst (λ s. length s.vertices ≤ MAX_ELEMENTS) (sym c.self.view_is) c.requires.few in
+    let few = subst (λ s. length s.vertices ≤ MAX_ELEMENTS) (sym c.self.view_is)
+    c.recall_invariant.ensures.small in
     omega (arith, room, same, few)
 
 pub invariant_of-self-2 : goal.invariant_of-self-2
@@ -58,3 +60,15 @@ invariant_of-self-2 g c =
     c.add_constraints.ensures.adds.plain
     (subst (λ s. HasPairs (IsMissing (map g.V.HasPosition.place s.vertices) (constraints_of s)
     c.args.from c.args.to) c.args.missing) (sym c.self.view_is) c.requires.missing)
+
+pub returns-clause-headline : goal.returns-clause-headline
+returns-clause-headline g c = is_delaunay g.V.HasPosition.place is_constraint constraint_edges
+    (λ ds. refl) (state_of c.add_constraints.new.dcel) c.add_constraints.ensures.adds.legal
+
+pub returns-in_err-reserve-clause-headline : goal.returns-in_err-reserve-clause-headline
+returns-in_err-reserve-clause-headline g c = is_delaunay g.V.HasPosition.place is_constraint
+    constraint_edges (λ ds. refl) (state_of c.self.inside.dcel) c.self.invariant.legal
+
+pub returns-in_err-reserve-2-clause-headline : goal.returns-in_err-reserve-2-clause-headline
+returns-in_err-reserve-2-clause-headline g c = is_delaunay g.V.HasPosition.place is_constraint
+    constraint_edges (λ ds. refl) (state_of c.self.inside.dcel) c.self.invariant.legal

@@ -13,6 +13,7 @@ use Rattle.delaunay_edit.specs.ConstraintEdits.{MarksEdges}
 use Rattle.delaunay_edit.proofs.EditingConstraints.{edges_marked, pairs_differ, unmarked}
 use Rattle.delaunay_edit.proofs.OnePieceAdded.{none_added, not_joined, one_missing}
 use Rattle.delaunay_edit.proofs.Recounted.{counted_added, room_for_added}
+use Rattle.delaunay_edit.proofs.WellFormed.{is_delaunay}
 use Rattle.delaunay_edit.proofs.constraint_edits.ConstrainedMesh+V+DE+UE+F.constrain.Goals as goal
 
 pub is_constraint_edge-requires : goal.is_constraint_edge-requires
@@ -121,3 +122,7 @@ returns-clause-data g c =
 
 pub returns-clause-mesh : goal.returns-clause-mesh
 returns-clause-mesh g c = c.constrain_edge.ensures.mesh ∙ ap (λ s. s.mesh) c.self.view_is
+
+pub returns-clause-headline : goal.returns-clause-headline
+returns-clause-headline g c = is_delaunay g.V.HasPosition.place is_constraint constraint_edges
+    (λ ds. refl) (state_of c.constrain_edge.new.dcel) c.constrain_edge.ensures.adds.legal

@@ -12,6 +12,7 @@ use Rattle.delaunay_insertion.proofs.DataKept.{appended_keeps}
 use Rattle.delaunay_insertion.proofs.LeftToTest.{passes_beside}
 use Rattle.delaunay_edit.proofs.EmptyRound.{put_in_free}
 use Rattle.delaunay_edit.proofs.Inserting.{splits_legalized}
+use Rattle.delaunay_edit.proofs.WellFormed.{is_delaunay}
 use Rattle.delaunay_edit.proofs.edited_mesh.EditedMesh.append.Goals as goal
 
 pub insert_at-vertex-requires-clause-vacant : goal.insert_at-vertex-requires-clause-vacant
@@ -80,6 +81,27 @@ returns-clause-appends g c =
           c.legalize_vertex.ensures.legalizes.constraints;
       err = tt;
     }
+
+pub returns-clause-headline : goal.returns-clause-headline
+returns-clause-headline g c = is_delaunay g.V.HasPosition.place g.M.ConstraintMarker.marks
+    g.M.ConstraintMarker.constraints g.met.M.ConstraintMarker.constraints_are_marked
+    (state_of c.legalize_vertex.new.dcel) c.legalize_vertex.ensures.legalizes.legal
+
+pub returns-in_err-reserve_for_vertex-clause-headline :
+    goal.returns-in_err-reserve_for_vertex-clause-headline
+returns-in_err-reserve_for_vertex-clause-headline g c =
+    is_delaunay g.V.HasPosition.place g.M.ConstraintMarker.marks g.M.ConstraintMarker.constraints
+    g.met.M.ConstraintMarker.constraints_are_marked (state_of c.reserve_for_vertex.new.dcel)
+    (subst (IsDelaunayTriangulation g.V.HasPosition.place g.M.ConstraintMarker.constraints)
+    (sym c.reserve_for_vertex.ensures.same) c.self.invariant.legal)
+
+pub returns-in_err-reserve_to_test-clause-headline :
+    goal.returns-in_err-reserve_to_test-clause-headline
+returns-in_err-reserve_to_test-clause-headline g c =
+    is_delaunay g.V.HasPosition.place g.M.ConstraintMarker.marks g.M.ConstraintMarker.constraints
+    g.met.M.ConstraintMarker.constraints_are_marked (state_of c.reserve_for_vertex.new.dcel)
+    (subst (IsDelaunayTriangulation g.V.HasPosition.place g.M.ConstraintMarker.constraints)
+    (sym c.reserve_for_vertex.ensures.same) c.self.invariant.legal)
 
 pub invariant_of-self-2 : goal.invariant_of-self-2
 invariant_of-self-2 g c =

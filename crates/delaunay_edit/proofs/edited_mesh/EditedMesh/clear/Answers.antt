@@ -1,20 +1,21 @@
 use Rattle.std.proofs.Common.{ap}
-use Rattle.delaunay_edit.proofs.Delaunay.{legal_empty, none_without_edges}
 use Rattle.delaunay_legalization.specs.State.{state_of}
-use Rattle.delaunay_edit.proofs.Recounted.{counted_none}
+use Rattle.delaunay_edit.proofs.Delaunay.{counted_empty}
+use Rattle.delaunay_edit.proofs.WellFormed.{is_delaunay}
 use Rattle.delaunay_edit.proofs.edited_mesh.EditedMesh.clear.Goals as goal
 
 pub invariant_of-self : goal.invariant_of-self
 invariant_of-self g c =
     let now = c.clear.ensures.contents in
-    counted_none g.V.HasPosition.place g.M.ConstraintMarker.constraints (state_of c.clear.new.self)
-    (legal_empty g.V.HasPosition.place g.M.ConstraintMarker.constraints c.clear.new.self
-    (ap (λ d. d.mesh) now)
-    (ap (λ d. d.vertices) now) (ap (λ d. d.undirected) now) (ap (λ d. d.faces) now)
-    c.recall_invariant.ensures.whole)
-    (none_without_edges g.M.ConstraintMarker.marks g.M.ConstraintMarker.constraints
-    g.met.M.ConstraintMarker.constraints_are_marked (state_of c.clear.new.self)
-    (ap (λ d. d.undirected) now))
+    counted_empty g.V.HasPosition.place g.M.ConstraintMarker.marks g.M.ConstraintMarker.constraints
+    g.met.M.ConstraintMarker.constraints_are_marked c.clear.new.self
+    (ap (λ d. d.mesh) now) (ap (λ d. d.vertices) now) (ap (λ d. d.directed) now)
+    (ap (λ d. d.undirected) now) (ap (λ d. d.faces) now)
 
 pub returns-clause-new : goal.returns-clause-new
 returns-clause-new g c = rw (← c.self.view_is) (ap state_of c.clear.ensures.contents)
+
+pub returns-clause-headline : goal.returns-clause-headline
+returns-clause-headline g c = is_delaunay g.V.HasPosition.place g.M.ConstraintMarker.marks
+    g.M.ConstraintMarker.constraints g.met.M.ConstraintMarker.constraints_are_marked
+    (state_of c.clear.new.self) (invariant_of-self g c).legal

@@ -16,6 +16,7 @@ use Rattle.delaunay_edit.proofs.FreeRemoval.{free_circles, sides_settle}
 use Rattle.delaunay_edit.proofs.Removing.{sites_left, room_left}
 use Rattle.delaunay_edit.proofs.Settling.{can_settle, counted_settled, settled_keeps}
 use Rattle.delaunay_edit.proofs.Settling.{settled_removes, some_settled}
+use Rattle.delaunay_edit.proofs.WellFormed.{is_delaunay}
 use Rattle.delaunay_edit.proofs.edited_mesh.EditedMesh.take_out.Goals as goal
 
 pub settle-requires-clause-sites : goal.settle-requires-clause-sites
@@ -175,6 +176,36 @@ invariant_of-self-5 g c =
     c.settle.new.dcel _ _ c.halves_at-halves.result c.halves_at-halves.ensures c.settle.ensures
     c.count_lost-lost.result c.count_lost-lost.ensures c.self.inside.num_constraints
     c.self.invariant
+
+pub returns-clause-headline : goal.returns-clause-headline
+returns-clause-headline g c = is_delaunay g.V.HasPosition.place g.M.ConstraintMarker.marks
+    g.M.ConstraintMarker.constraints g.met.M.ConstraintMarker.constraints_are_marked
+    (state_of c.settle.new.dcel) (invariant_of-self-5 g c).legal
+
+pub returns-in_err-reserve-clause-headline : goal.returns-in_err-reserve-clause-headline
+returns-in_err-reserve-clause-headline g c =
+    is_delaunay g.V.HasPosition.place g.M.ConstraintMarker.marks g.M.ConstraintMarker.constraints
+    g.met.M.ConstraintMarker.constraints_are_marked (state_of c.self.inside.dcel)
+    c.self.invariant.legal
+
+pub returns-in_err-reserve_for-clause-headline : goal.returns-in_err-reserve_for-clause-headline
+returns-in_err-reserve_for-clause-headline g c =
+    is_delaunay g.V.HasPosition.place g.M.ConstraintMarker.marks g.M.ConstraintMarker.constraints
+    g.met.M.ConstraintMarker.constraints_are_marked (state_of c.self.inside.dcel)
+    c.self.invariant.legal
+
+pub returns-in_err-border-clause-headline : goal.returns-in_err-border-clause-headline
+returns-in_err-border-clause-headline g c =
+    is_delaunay g.V.HasPosition.place g.M.ConstraintMarker.marks g.M.ConstraintMarker.constraints
+    g.met.M.ConstraintMarker.constraints_are_marked (state_of c.self.inside.dcel)
+    c.self.invariant.legal
+
+pub returns-in_err-reserve_to_join-clause-headline :
+    goal.returns-in_err-reserve_to_join-clause-headline
+returns-in_err-reserve_to_join-clause-headline g c =
+    is_delaunay g.V.HasPosition.place g.M.ConstraintMarker.marks g.M.ConstraintMarker.constraints
+    g.met.M.ConstraintMarker.constraints_are_marked (state_of c.self.inside.dcel)
+    c.self.invariant.legal
 
 pub overflow_mul-edges : goal.overflow_mul-edges
 overflow_mul-edges g c =

@@ -1,7 +1,7 @@
 use Rattle.std.proofs.Common.{sym, subst}
 use Rattle.delaunay_legalization.specs.State.{state_of}
-use Rattle.delaunay_edit.specs.Storage.{CopiesConstraints, KeepsImage}
-use Rattle.delaunay_edit.proofs.Copies.{copies_constraints, copy_is_counted}
+use Rattle.delaunay_edit.specs.Storage.{IsCopy, KeepsImage}
+use Rattle.delaunay_edit.proofs.Copies.{copy_is_counted}
 use Rattle.delaunay_edit.proofs.edited_mesh.EditedMesh.try_clone.Goals as goal
 
 pub of_mesh-requires : goal.of_mesh-requires
@@ -27,14 +27,10 @@ of_mesh-requires g c =
 pub returns-clause-copy : goal.returns-clause-copy
 returns-clause-copy g c =
     let copied = c.in_ok-dcel.ensures.cases in
-    let Copies = CopiesConstraints g.V.Clone.is_clone g.DE.Clone.is_clone g.UE.Clone.is_clone
-    g.F.Clone.is_clone g.M.ConstraintMarker.constraints in
+    let Copies =
+    IsCopy g.V.Clone.is_clone g.DE.Clone.is_clone g.UE.Clone.is_clone g.F.Clone.is_clone in
     subst (λ s. Copies c.args.self.now s) (sym c.of_mesh.ensures.state)
     (subst (λ s. Copies s (state_of c.in_ok-dcel.dcel)) c.self.view_is
-    (copies_constraints g.V.HasPosition.place g.M.ConstraintMarker.marks
-    g.M.ConstraintMarker.constraints g.met.M.ConstraintMarker.constraints_are_marked
-    g.V.Clone.is_clone g.DE.Clone.is_clone g.UE.Clone.is_clone g.F.Clone.is_clone
-    (state_of c.self.inside.dcel) (state_of c.in_ok-dcel.dcel)
     (record {
       mesh = copied.mesh;
       vertices = copied.vertices;
@@ -42,6 +38,4 @@ returns-clause-copy g c =
       undirected = copied.undirected;
       outer = copied.outer;
       faces = copied.faces;
-    })
-    (subst (λ s. KeepsImage g.UE.Clone.is_clone g.M.ConstraintMarker.marks s.undirected)
-    (sym c.self.view_is) c.requires.marks)))
+    }))

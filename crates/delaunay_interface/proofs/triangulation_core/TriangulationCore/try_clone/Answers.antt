@@ -1,6 +1,7 @@
 use Rattle.std.proofs.Common.{◌∙◌, ap, sym, subst}
 use Rattle.delaunay_legalization.specs.Constraints.{constraints_by}
 use Rattle.delaunay_edit.specs.Storage.{KeepsImage}
+use Rattle.delaunay_edit.proofs.Copies.{same_constraints}
 use Rattle.delaunay_interface.proofs.Kept.{held_by_copy}
 use Rattle.delaunay_interface.proofs.triangulation_core.TriangulationCore.try_clone.Goals as goal
 
@@ -10,9 +11,15 @@ invariant_of-result g c =
     c.in_ok-try_clone.field-0.vertices
     (subst (λ s. KeepsImage g.V.Clone.is_clone g.V.HasPosition.place s.vertices)
     (sym c.self.view_is) c.requires.places)
-    c.in_ok-try_clone.ensures.copy.copy.vertices _ _ c.self.invariant
+    c.in_ok-try_clone.ensures.copy.vertices _ _ c.self.invariant
     c.generator_of_copy.ensures.holds
 
 pub returns-clause-constraints : goal.returns-clause-constraints
-returns-clause-constraints g c = c.in_ok-try_clone.ensures.copy.same
+returns-clause-constraints g c =
+    same_constraints g.V.HasPosition.place g.M.ConstraintMarker.marks
+    g.M.ConstraintMarker.constraints g.met.M.ConstraintMarker.constraints_are_marked
+    g.V.Clone.is_clone g.DE.Clone.is_clone g.UE.Clone.is_clone g.F.Clone.is_clone
+    c.self.inside.edited c.in_ok-try_clone.field-0 c.in_ok-try_clone.ensures.copy
+    (subst (λ s. KeepsImage g.UE.Clone.is_clone g.M.ConstraintMarker.marks s.undirected)
+    (sym c.self.view_is) c.requires.marks)
     ∙ ap (λ s. constraints_by g.M.ConstraintMarker.constraints s) c.self.view_is
