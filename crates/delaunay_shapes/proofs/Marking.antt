@@ -1,23 +1,22 @@
 -- Lists of what a test says of the numbers below a count: at a number, of a test that none passes,
--- and with one more. And bits in pages of words, as one more is set.
--- Lemmas: test_within, none_passes, one_more, no_bit, bit_read, no_word, words_with_more,
--- one_bit_more, empty_page, one_mark_more, mark_read, no_page.
-use Rattle.std.proofs.Common.{◌≡◌, ◌⊎◌, ◌-◌, ◌*◌, ◌/◌, ◌%◌, ◌^◌, ◌<◌, ◌≤◌, ◌∙◌, [], ◌∷◌, ◌++◌}
-use Rattle.std.proofs.Common.{List, ℕ, length, get_or, set, replicate, refl, sym, ap, subst, eq-eqb}
-use Rattle.std.proofs.Common.{arith, w64}
+-- and with one more. And bits in pages that a directory names, as one more is set.
+-- Lemmas: test_within, none_passes, one_more, one_bit_more, others_longer, no_places, entry_read,
+-- pages_below, names_new_page, no_page, same_with_page, page_read, one_mark_more.
+use Rattle.std.proofs.Common.{◌≡◌, ◌⊎◌, ◌-◌, ◌*◌, ◌/◌, ◌%◌, ◌^◌, ◌<◌, ◌≤◌, ◌∙◌}
+use Rattle.std.proofs.Common.{[], ◌∷◌, ◌++◌, List, ℕ, zero, suc, length, get_or, set, take}
+use Rattle.std.proofs.Common.{replicate, refl, sym, ap, subst, eq-eqb, arith, w64}
 use mathlib.Core.Logic.{inl, inr, ◌≢◌}
 use mathlib.Core.Bool.{Bool, true, false}
-use Rattle.std.specs.Prelude.{cond, nat_eq, bit_and, bit_or}
+use Rattle.std.specs.Prelude.{cond, nat_eq, bit_or}
 use Rattle.std.specs.Int.{bit_at}
-use Rattle.std.proofs.lemmas.Bool.{eqb-true, ne_eqb, cases_eq, cases_lt}
-use Rattle.std.proofs.lemmas.List.{ext_get_or, get_or-set_same, get_or-set_other, get_or_past}
-use Rattle.std.proofs.lemmas.List.{get_or_append_left, get_or-append_right}
+use Rattle.std.proofs.lemmas.Bool.{eqb-true, ne_eqb, cases_eq}
+use Rattle.std.proofs.lemmas.List.{ext_get_or, get_or-set_same, get_or-set_other}
+use Rattle.std.proofs.lemmas.List.{get_or_append_left, get_or-append_right, length-append}
 use Rattle.std.proofs.lemmas.List.{length-set, length-replicate, get_or-replicate}
 use Rattle.std.proofs.lemmas.List.FromFn.{length-map-range_with_len, get_or-map-range_with_len}
 use Rattle.std.proofs.lemmas.Nat.Bits.{bit_at-zero, bit_at_set_same, bit_at_set_other}
-use Rattle.std.proofs.lemmas.Nat.Bits.{shr_and_one}
 use Rattle.plane_tiling.proofs.Totals.{get_or_any}
-use Rattle.delaunay_shapes.specs.Marks.{tests_below, has_bit, has_mark}
+use Rattle.delaunay_shapes.specs.Marks.{tests_below, has_bit, has_mark, count_others, IsDirectory}
 
 -- so many entries
 tests_count : (n : ℕ) (f : ℕ → Bool) → length (tests_below n f) ≡ n
@@ -84,34 +83,17 @@ one_more n f f' k more =
 
 -- ---- bits in words
 -- the bit of a place that is not there is not set
-pub no_bit : (k : ℕ) → has_bit [] k ≡ false
+no_bit : (k : ℕ) → has_bit [] k ≡ false
 no_bit k = ap (λ (b : ℕ). nat_eq b 1) (bit_at-zero (k % 64))
 
--- whether the bit of a number is set, by the word that was read
-pub bit_read : (words : List ℕ) (n word : ℕ) → n / 64 < length words
-    → word ≡ get_or words (n / 64) word
-    → nat_eq (bit_and (word / 2 ^ (n % 64)) 1) 1 ≡ has_bit words n
-bit_read words n word here read = ap (λ (b : ℕ). nat_eq b 1) (shr_and_one word (n % 64))
-    ∙ ap (λ (x : ℕ). nat_eq (bit_at x (n % 64)) 1) (read ∙ get_or_any words (n / 64) word 0 here)
-
--- it is not where the words end before
-pub no_word : (words : List ℕ) (n : ℕ) → length words ≤ n / 64 → has_bit words n ≡ false
-no_word words n over =
-    ap (λ (x : ℕ). nat_eq (bit_at x (n % 64)) 1) (get_or_past words (n / 64) 0 over)
-    ∙ no_bit n
-
--- words with more that are 0 behind them have the same words
-pub words_with_more : (was now : List ℕ) (n : ℕ) → length was ≤ n → length now ≡ n
-    → ((k d : ℕ) → k < n → k < length was → get_or now k d ≡ get_or was k d)
-    → ((k d : ℕ) → length was ≤ k → k < n → get_or now k d ≡ 0)
-    → (j : ℕ) → get_or now j 0 ≡ get_or was j 0
-words_with_more was now n short count same more j = elim (cases_lt j (length was)) [
-  | inl h ↦ same j 0 (omega (arith, h, short)) h
-  | inr h ↦ elim (cases_lt j n) [
-    | inl l ↦ more j 0 h l ∙ sym (get_or_past was j 0 h)
-    | inr l ↦ get_or_past now j 0 (omega (arith, l, count)) ∙ sym (get_or_past was j 0 h)
-  ]
-]
+-- nor is one in words that are 0
+no_bits : (n k : ℕ) → has_bit (replicate n 0) k ≡ false
+no_bits n k = ap (λ (x : ℕ). nat_eq (bit_at x (k % 64)) 1) (zeros n (k / 64)) ∙ no_bit k
+  where
+    zeros : (n j : ℕ) → get_or {A = ℕ} (replicate n 0) j 0 ≡ 0
+    zeros zero j = refl
+    zeros (suc n) zero = refl
+    zeros (suc n) (suc j) = zeros n j
 
 same_number : (n k : ℕ) → k / 64 ≡ n / 64 → k % 64 ≡ n % 64 → n ≡ k
 same_number n k e f = omega (arith, e, f)
@@ -120,20 +102,21 @@ low_bit : (n : ℕ) → n % 64 < 64
 low_bit n = omega arith
 
 -- words of which one has the bit of a number more
-pub one_bit_more : (was words : List ℕ) (n old : ℕ)
-    → ((j : ℕ) → get_or words j 0 ≡ get_or was j 0) → n / 64 < length words
-    → old ≡ get_or words (n / 64) old → (k : ℕ)
-    → has_bit (set words (n / 64) (bit_or old (1 * 2 ^ (n % 64) % 2 ^ 64))) k
-    ≡ cond (nat_eq n k) true (has_bit was k)
-one_bit_more was words n old same here read k =
+pub one_bit_more : (words : List ℕ) (n : ℕ) → n / 64 < length words → (k : ℕ)
+    → has_bit (set words (n / 64) (bit_or (get_or words (n / 64) 0) (1 * 2 ^ (n % 64) % 2 ^ 64))) k
+    ≡ cond (nat_eq n k) true (has_bit words k)
+one_bit_more words n here k =
     elim (cases_eq n k) [
-      | inl e ↦ subst (λ b. has_bit (set words (n / 64) more) k ≡ cond b true (has_bit was k))
+      | inl e ↦ subst (λ b. has_bit (set words (n / 64) more) k ≡ cond b true (has_bit words k))
           (sym (eq-eqb n k e))
           (subst (λ (x : ℕ). has_bit (set words (n / 64) more) x ≡ true) e set_now)
-      | inr a ↦ subst (λ b. has_bit (set words (n / 64) more) k ≡ cond b true (has_bit was k))
+      | inr a ↦ subst (λ b. has_bit (set words (n / 64) more) k ≡ cond b true (has_bit words k))
           (sym (ne_eqb n k a)) (as_before a (cases_eq (k / 64) (n / 64)))
     ]
   where
+    old : ℕ
+    old = get_or words (n / 64) 0
+
     more : ℕ
     more = bit_or old (1 * 2 ^ (n % 64) % 2 ^ 64)
 
@@ -144,89 +127,214 @@ one_bit_more was words n old same here read k =
     set_now = ap (λ (x : ℕ). nat_eq (bit_at x (n % 64)) 1) placed
         ∙ ap (λ (b : ℕ). nat_eq b 1) (bit_at_set_same w64 old (n % 64) (low_bit n))
 
-    old_is : old ≡ get_or was (n / 64) 0
-    old_is = read ∙ get_or_any words (n / 64) old 0 here ∙ same (n / 64)
-
     as_before : n ≢ k → (k / 64 ≡ n / 64) ⊎ (k / 64 ≢ n / 64)
-        → has_bit (set words (n / 64) more) k ≡ has_bit was k
+        → has_bit (set words (n / 64) more) k ≡ has_bit words k
     as_before a (inl e) =
         let there : get_or (set words (n / 64) more) (k / 64) 0 ≡ more =
         ap (λ (x : ℕ). get_or (set words (n / 64) more) x 0) e ∙ placed in
         let apart : k % 64 ≢ n % 64 = λ f. a (same_number n k e f) in
         ap (λ (x : ℕ). nat_eq (bit_at x (k % 64)) 1) there
         ∙ ap (λ (b : ℕ). nat_eq b 1) (bit_at_set_other w64 old (n % 64) (low_bit n) (k % 64) apart)
-        ∙ ap (λ (x : ℕ). nat_eq (bit_at x (k % 64)) 1)
-        (old_is ∙ ap (λ (x : ℕ). get_or was x 0) (sym e))
+        ∙ ap (λ (x : ℕ). nat_eq (bit_at (get_or words x 0) (k % 64)) 1) (sym e)
     as_before a (inr o) = ap (λ (x : ℕ). nat_eq (bit_at x (k % 64)) 1)
-        (get_or-set_other words (n / 64) (k / 64) more 0 o ∙ same (k / 64))
+        (get_or-set_other words (n / 64) (k / 64) more 0 o)
 
--- ---- pages of words
--- a page without words behind the others adds nothing
-pub empty_page : (pages : List (List ℕ)) (j : ℕ)
-    → get_or (pages ++ [] ∷ []) j [] ≡ get_or pages j []
-empty_page pages j = elim (cases_lt j (length pages)) [
-  | inl h ↦ get_or_append_left pages ([] ∷ []) [] j h
-  | inr h ↦ get_or-append_right pages ([] ∷ []) (length pages) j [] refl h
-      ∙ only (j - length pages) ∙ sym (get_or_past pages j [] h)
-]
+-- ---- how many numbers of a list are not 0
+no_others : (m : ℕ) → count_others (replicate m 0) ≡ 0
+no_others zero = refl
+no_others (suc m) = no_others m
+
+-- as many with more that are 0
+pub others_longer : (xs : List ℕ) (n m : ℕ) → length xs ≤ n
+    → count_others (take n xs ++ replicate m 0) ≡ count_others xs
+others_longer [] zero m h = no_others m
+others_longer [] (suc n) m h = no_others m
+others_longer (x ∷ xs) zero m h = absurd (omega (arith, h))
+others_longer (zero ∷ xs) (suc n) m h = others_longer xs n m (omega (arith, h))
+others_longer (suc x ∷ xs) (suc n) m h =
+    ap (λ (c : ℕ). suc c) (others_longer xs n m (omega (arith, h)))
+
+-- fewer than there are numbers, where one is 0
+others_below : (xs : List ℕ) (p : ℕ) → p < length xs → get_or xs p 0 ≡ 0
+    → count_others xs < length xs
+others_below [] p h e = absurd (omega (arith, h))
+others_below (zero ∷ xs) zero h e = let few = others_at_most xs in omega (arith, few)
   where
-    none : List ℕ
-    none = []
+    others_at_most : (xs : List ℕ) → count_others xs ≤ length xs
+    others_at_most [] = omega arith
+    others_at_most (zero ∷ xs) = let few = others_at_most xs in omega (arith, few)
+    others_at_most (suc x ∷ xs) = let few = others_at_most xs in omega (arith, few)
+others_below (suc x ∷ xs) zero h e = absurd (omega (arith, e))
+others_below (zero ∷ xs) (suc p) h e =
+    let few = others_below xs p (omega (arith, h)) e in omega (arith, few)
+others_below (suc x ∷ xs) (suc p) h e =
+    let few = others_below xs p (omega (arith, h)) e in omega (arith, few)
 
-    positive : (i : ℕ) → i ≢ 0 → 1 ≤ i
-    positive i n = omega (arith, n)
+-- one more where it is no longer 0
+others_more : (xs : List ℕ) (p n : ℕ) → p < length xs → get_or xs p 0 ≡ 0
+    → count_others (set xs p (suc n)) ≡ suc (count_others xs)
+others_more [] p n h e = absurd (omega (arith, h))
+others_more (zero ∷ xs) zero n h e = refl
+others_more (suc x ∷ xs) zero n h e = absurd (omega (arith, e))
+others_more (zero ∷ xs) (suc p) n h e = others_more xs p n (omega (arith, h)) e
+others_more (suc x ∷ xs) (suc p) n h e =
+    ap (λ (c : ℕ). suc c) (others_more xs p n (omega (arith, h)) e)
 
-    only : (i : ℕ) → get_or (none ∷ []) i none ≡ none
-    only i = elim (cases_eq i 0) [
-      | inl e ↦ ap (λ (x : ℕ). get_or (none ∷ []) x none) e
-      | inr n ↦ get_or_past (none ∷ []) i none (positive i n)
-    ]
+-- ---- pages of words, and their directory
+-- none, and no directory, is one
+pub no_places : IsDirectory [] []
+no_places = record {
+  within = λ p. omega arith;
+  once = λ p q h e. absurd (omega (arith, h));
+  used = refl;
+  short = omega arith;
+}
 
-same_in_pages : (n k : ℕ) → k / 4096 ≡ n / 4096 → n % 4096 ≡ k % 4096 → n ≡ k
-same_in_pages n k e f = omega (arith, e, f)
+-- the entry of a place as it was read
+pub entry_read : (places : List ℕ) (p e : ℕ) → p < length places → e ≡ get_or places p e
+    → get_or places p 0 ≡ e
+entry_read places p e here read = sym (read ∙ get_or_any places p e 0 here)
+
+-- there are fewer pages than places, where one has none
+pub pages_below : (places : List ℕ) (pages : List (List ℕ)) (p : ℕ) → IsDirectory places pages
+    → p < length places → get_or places p 0 ≡ 0 → length pages < 8388608
+pages_below places pages p d h e =
+    let few = others_below places p h e in let used = d.used in let short = d.short in
+    omega (arith, few, used, short)
+
+-- a page more, of a place that had none
+pub names_new_page : (places : List ℕ) (pages : List (List ℕ)) (p : ℕ) (page : List ℕ)
+    → IsDirectory places pages → p < length places → get_or places p 0 ≡ 0
+    → IsDirectory (set places p (suc (length pages))) (pages ++ page ∷ [])
+names_new_page places pages p page d here none = record {
+  within = λ q. subst (λ (n : ℕ). get_or now q 0 ≤ n) (sym count) (bound q (cases_eq q p));
+  once = λ q r h e. one q r h e (cases_eq q p) (cases_eq r p);
+  used = count ∙ ap (λ (n : ℕ). suc n) d.used ∙ sym (others_more places p (length pages) here none);
+  short = subst (λ (n : ℕ). n ≤ 8388608) (sym (length-set places p (suc (length pages)))) d.short;
+}
+  where
+    now : List ℕ
+    now = set places p (suc (length pages))
+
+    count : length (pages ++ page ∷ []) ≡ suc (length pages)
+    count = let both = length-append pages (page ∷ []) in omega (arith, both)
+
+    placed : get_or now p 0 ≡ suc (length pages)
+    placed = get_or-set_same places p (suc (length pages)) 0 here
+
+    other : (q : ℕ) → q ≢ p → get_or now q 0 ≡ get_or places q 0
+    other q a = get_or-set_other places p q (suc (length pages)) 0 a
+
+    at_p : (q : ℕ) → q ≡ p → get_or now q 0 ≡ suc (length pages)
+    at_p q e = ap (λ (x : ℕ). get_or now x 0) e ∙ placed
+
+    bound : (q : ℕ) → (q ≡ p) ⊎ (q ≢ p) → get_or now q 0 ≤ suc (length pages)
+    bound q (inl e) = let is = at_p q e in omega (arith, is)
+    bound q (inr a) = let is = other q a in let old = d.within q in omega (arith, is, old)
+
+    one : (q r : ℕ) → 0 < get_or now q 0 → get_or now q 0 ≡ get_or now r 0
+        → (q ≡ p) ⊎ (q ≢ p) → (r ≡ p) ⊎ (r ≢ p) → q ≡ r
+    one q r h e (inl f) (inl g) = f ∙ sym g
+    one q r h e (inl f) (inr b) =
+        let is = at_p q f in let was = other r b in let old = d.within r in
+        absurd (omega (arith, e, is, was, old))
+    one q r h e (inr a) (inl g) =
+        let is = at_p r g in let was = other q a in let old = d.within q in
+        absurd (omega (arith, e, is, was, old))
+    one q r h e (inr a) (inr b) =
+        let was = other q a in
+        d.once q r (omega (arith, h, was)) (sym was ∙ e ∙ other r b)
+
+-- a place without a page has no marks
+pub no_page : (places : List ℕ) (pages : List (List ℕ)) (n : ℕ) → get_or places (n / 512) 0 ≡ 0
+    → has_mark places pages n ≡ false
+no_page places pages n none =
+    ap (λ (e : ℕ). has_bit (get_or ([] ∷ pages) e []) (n % 512)) none ∙ no_bit (n % 512)
+
+-- with a page more that has no bit set the same numbers are marked
+pub same_with_page : (places : List ℕ) (pages : List (List ℕ)) (p : ℕ)
+    → IsDirectory places pages → p < length places → get_or places p 0 ≡ 0 → (k : ℕ)
+    → has_mark (set places p (suc (length pages))) (pages ++ replicate 8 0 ∷ []) k
+    ≡ has_mark places pages k
+same_with_page places pages p d here none k = either (cases_eq (k / 512) p)
+  where
+    now : List ℕ
+    now = set places p (suc (length pages))
+
+    more : List (List ℕ)
+    more = pages ++ replicate 8 0 ∷ []
+
+    at_page : ℕ → Bool
+    at_page e = has_bit (get_or ([] ∷ more) e []) (k % 512)
+
+    self_less : length pages - length pages ≡ 0
+    self_less = omega arith
+
+    last : get_or ([] ∷ more) (suc (length pages)) [] ≡ replicate 8 0
+    last = get_or-append_right pages (replicate 8 0 ∷ []) (length pages) (length pages) [] refl
+        (omega arith)
+        ∙ ap (λ (i : ℕ). get_or (replicate 8 0 ∷ []) i []) self_less
+
+    either : (k / 512 ≡ p) ⊎ (k / 512 ≢ p) → has_mark now more k ≡ has_mark places pages k
+    either (inl e) =
+        ap at_page (ap (λ (x : ℕ). get_or now x 0) e
+        ∙ get_or-set_same places p (suc (length pages)) 0 here)
+        ∙ ap (λ xs. has_bit xs (k % 512)) last ∙ no_bits 8 (k % 512)
+        ∙ sym (no_page places pages k (ap (λ (x : ℕ). get_or places x 0) e ∙ none))
+    either (inr a) =
+        ap at_page (get_or-set_other places p (k / 512) (suc (length pages)) 0 a)
+        ∙ ap (λ xs. has_bit xs (k % 512)) (get_or_append_left ([] ∷ pages) (replicate 8 0 ∷ []) []
+        (get_or places (k / 512) 0) (let old = d.within (k / 512) in omega (arith, old)))
+
+-- whether a number is marked, by the page of its place
+pub page_read : (places : List ℕ) (pages : List (List ℕ)) (n e : ℕ) (page : List ℕ)
+    → IsDirectory places pages → get_or places (n / 512) 0 ≡ suc e → page ≡ get_or pages e page
+    → has_bit page (n % 512) ≡ has_mark places pages n
+page_read places pages n e page d named read =
+    ap (λ xs. has_bit xs (n % 512)) (read ∙ get_or_any pages e page [] here)
+    ∙ sym (ap (λ (x : ℕ). has_bit (get_or ([] ∷ pages) x []) (n % 512)) named)
+  where
+    here : e < length pages
+    here = let old = d.within (n / 512) in omega (arith, old, named)
 
 -- pages of which one has the bit of a number more
-pub one_mark_more : (was pages pages' : List (List ℕ)) (n : ℕ) (page page' : List ℕ)
-    → ((j : ℕ) → get_or pages j [] ≡ get_or was j []) → n / 4096 < length pages
-    → page ≡ get_or pages (n / 4096) page → pages' ≡ set pages (n / 4096) page'
-    → ((k : ℕ) → has_bit page' k ≡ cond (nat_eq (n % 4096) k) true (has_bit page k))
-    → (k : ℕ) → has_mark pages' k ≡ cond (nat_eq n k) true (has_mark was k)
-one_mark_more was pages pages' n page page' same here read is marks k =
-    subst (λ xs. has_mark xs k ≡ cond (nat_eq n k) true (has_mark was k)) (sym is)
-    (by_page (cases_eq (k / 4096) (n / 4096)))
+pub one_mark_more : (places : List ℕ) (pages : List (List ℕ)) (n e : ℕ) (page page' : List ℕ)
+    → IsDirectory places pages → get_or places (n / 512) 0 ≡ suc e → e < length pages
+    → page ≡ get_or pages e page
+    → ((k : ℕ) → has_bit page' k ≡ cond (nat_eq (n % 512) k) true (has_bit page k))
+    → (k : ℕ) → has_mark places (set pages e page') k
+    ≡ cond (nat_eq n k) true (has_mark places pages k)
+one_mark_more places pages n e page page' d named here read marks k =
+    by_place (cases_eq (k / 512) (n / 512))
   where
-    page_is : page ≡ get_or was (n / 4096) []
-    page_is = read ∙ get_or_any pages (n / 4096) page [] here ∙ same (n / 4096)
+    same_in_page : k / 512 ≡ n / 512 → n % 512 ≡ k % 512 → n ≡ k
+    same_in_page f g = omega (arith, f, g)
 
-    both : k / 4096 ≡ n / 4096 → nat_eq (n % 4096) (k % 4096) ≡ nat_eq n k
-    both e = elim (cases_eq n k) [
-      | inl f ↦ eq-eqb (n % 4096) (k % 4096) (ap (λ (x : ℕ). x % 4096) f) ∙ sym (eq-eqb n k f)
-      | inr a ↦ ne_eqb (n % 4096) (k % 4096) (λ f. a (same_in_pages n k e f)) ∙ sym (ne_eqb n k a)
+    both : k / 512 ≡ n / 512 → nat_eq (n % 512) (k % 512) ≡ nat_eq n k
+    both f = elim (cases_eq n k) [
+      | inl g ↦ eq-eqb (n % 512) (k % 512) (ap (λ (x : ℕ). x % 512) g) ∙ sym (eq-eqb n k g)
+      | inr a ↦ ne_eqb (n % 512) (k % 512) (λ g. a (same_in_page f g)) ∙ sym (ne_eqb n k a)
     ]
 
-    by_page : (k / 4096 ≡ n / 4096) ⊎ (k / 4096 ≢ n / 4096)
-        → has_mark (set pages (n / 4096) page') k ≡ cond (nat_eq n k) true (has_mark was k)
-    by_page (inl e) =
-        ap (λ xs. has_bit xs (k % 4096))
-        (ap (λ (x : ℕ). get_or (set pages (n / 4096) page') x []) e
-        ∙ get_or-set_same pages (n / 4096) page' [] here)
-        ∙ marks (k % 4096)
-        ∙ ap (λ b. cond b true (has_bit page (k % 4096))) (both e)
-        ∙ ap (λ xs. cond (nat_eq n k) true (has_bit xs (k % 4096)))
-        (page_is ∙ ap (λ (x : ℕ). get_or was x []) (sym e))
-    by_page (inr o) =
-        let apart : n ≢ k = λ f. o (ap (λ (x : ℕ). x / 4096) (sym f)) in
-        ap (λ xs. has_bit xs (k % 4096))
-        (get_or-set_other pages (n / 4096) (k / 4096) page' [] o ∙ same (k / 4096))
-        ∙ sym (ap (λ b. cond b true (has_mark was k)) (ne_eqb n k apart))
+    at_entry : List (List ℕ) → ℕ → Bool
+    at_entry xss x = has_bit (get_or ([] ∷ xss) x []) (k % 512)
 
--- whether a number is marked, by the page that was read
-pub mark_read : (pages : List (List ℕ)) (n : ℕ) (page : List ℕ) → n / 4096 < length pages
-    → page ≡ get_or pages (n / 4096) page → has_bit page (n % 4096) ≡ has_mark pages n
-mark_read pages n page here read = ap (λ xs. has_bit xs (n % 4096))
-    (read ∙ get_or_any pages (n / 4096) page [] here)
+    apart : (x : ℕ) → x ≢ suc e → at_entry (set pages e page') x ≡ at_entry pages x
+    apart zero a = refl
+    apart (suc x) a = ap (λ xs. has_bit xs (k % 512))
+        (get_or-set_other pages e x page' [] (λ f. a (ap (λ (y : ℕ). suc y) f)))
 
--- it is not where the pages end before
-pub no_page : (pages : List (List ℕ)) (n : ℕ) → length pages ≤ n / 4096 → has_mark pages n ≡ false
-no_page pages n over = ap (λ xs. has_bit xs (n % 4096)) (get_or_past pages (n / 4096) [] over)
-    ∙ no_bit (n % 4096)
+    by_place : (k / 512 ≡ n / 512) ⊎ (k / 512 ≢ n / 512)
+        → has_mark places (set pages e page') k ≡ cond (nat_eq n k) true (has_mark places pages k)
+    by_place (inl f) =
+        let entry = ap (λ (x : ℕ). get_or places x 0) f ∙ named in
+        ap (at_entry (set pages e page')) entry
+        ∙ ap (λ xs. has_bit xs (k % 512)) (get_or-set_same pages e page' [] here)
+        ∙ marks (k % 512)
+        ∙ ap (λ b. cond b true (has_bit page (k % 512))) (both f)
+        ∙ ap (λ b. cond (nat_eq n k) true b) (page_read places pages k e page d entry read)
+    by_place (inr o) =
+        apart (get_or places (k / 512) 0) (λ f. o (sym (d.once (n / 512) (k / 512)
+        (omega (arith, named)) (named ∙ sym f))))
+        ∙ sym (ap (λ b. cond b true (has_mark places pages k))
+        (ne_eqb n k (λ f. o (ap (λ (x : ℕ). x / 512) (sym f)))))

@@ -1,101 +1,128 @@
-//! Marks on the numbers below a count: bits, in pages that get their words as numbers of them are
-//! marked. So memory and time go by those marked, and 24 bytes for each 4,096 numbers.
-ghost use Rattle.std.specs.Prelude.{◌≡◌, ℕ, ◌<◌, [], false, true, cond, nat_eq, length};
-ghost use Rattle.std.specs.Prelude.{replicate, slice_index_or, slice_set, OnOk};
-ghost use Rattle.delaunay_shapes.specs.Marks.{has_bit};
+//! Marks on the numbers below a count: bits, in pages that are made as numbers of them are marked,
+//! one behind the other. So memory and time go by those marked, and 4 bytes for each 512 numbers.
+ghost use Rattle.std.specs.Prelude.{◌≡◌, ℕ, ◌+◌, ◌<◌, ◌≤◌, false, true, cond, nat_eq, length};
+ghost use Rattle.std.specs.Prelude.{replicate, slice_index_or, slice_set, IfOk, OnOk};
+ghost use Rattle.delaunay_shapes.specs.Marks.{has_bit, has_mark, count_others, IsDirectory};
 
 use std::alloc::{AllocError, Global};
 use std::marker::Model;
 
 // How many words a page has, and how many numbers.
-const WORDS: usize = 64;
+const WORDS: usize = 8;
 
-const NUMBERS: u32 = 4096;
+const NUMBERS: u32 = 512;
 
-// Adds words that are 0 where there is none at this place of a page.
-fn reach_word(words: &mut Vec<u64>, place: usize) -> Result<(), AllocError>
-    requires { place < 64 }
-    ensures within { OnOk result (place < length words.new.items) }
-    ensures same { OnOk result ((j : ℕ) →
-        slice_index_or words.new.items j 0 ≡ slice_index_or words.old.items j 0) }
+// The pages of all numbers that can be marked.
+const MOST: usize = 8388608;
+
+// How many pages there is room for at first, if there are so many.
+const FIRST: usize = 64;
+
+// Makes the directory reach a place: at once as far as the places of all numbers below the count.
+fn reach_place(directory: &mut Vec<u32>, place: usize, count: usize) -> Result<(), AllocError>
+    requires within { place < 8388608 }
+    requires short { length directory.old.items ≤ 8388608 }
+    ensures short { length directory.new.items ≤ 8388608 }
+    ensures within { OnOk result (place < length directory.new.items) }
+    ensures same { (j : ℕ) →
+        slice_index_or directory.new.items j 0 ≡ slice_index_or directory.old.items j 0 }
+    ensures used { count_others directory.new.items ≡ count_others directory.old.items }
 {
-    if place >= words.len() {
-        words.resize(WORDS, 0)?;
+    if place >= directory.len() {
+        let last = (count / NUMBERS as usize).min(MOST - 1).max(place);
+        directory.resize(last + 1, 0)?;
     }
     Ok(())
 }
 
-// The bits of the numbers of a page, in words: none before the first is marked.
-#[derive(Drop)]
-struct Page {
-    words: Vec<u64>,
-}
-
-impl Model for Page {
-    ghost use Rattle.std.specs.Prelude.{List, ℕ};
-
-    ghost Value = { List ℕ };
-
-    ghost view = { λ p. p.words.items };
-}
-
-impl Page {
-    fn new(alloc: Global) -> Page
-        ensures { result ≡ [] }
-    {
-        Page {
-            words: Vec::new(alloc),
-        }
-    }
-
-    fn is_marked(&self, number: u32) -> bool
-        ensures { result ≡ has_bit self.now number }
-    {
-        let place = number as usize / 64;
-        place < self.words.len() && (self.words[place] >> (number % 64)) & 1 == 1
-    }
-
-    // Marks a number of the page.
-    fn mark(&mut self, number: u32) -> Result<(), AllocError>
-        requires { number < 4096 }
-        ensures { OnOk result ((k : ℕ) → has_bit self.new k ≡
-            cond (nat_eq number k) true (has_bit self.old k)) }
-    {
-        let place = number as usize / 64;
-        reach_word(&mut self.words, place)?;
-        let word = self.words[place];
-        self.words[place] = word | 1 << (number % 64);
-        Ok(())
-    }
-}
-
-// Adds pages without words until there is one at this place.
-fn reach_page(pages: &mut Vec<Page>, place: usize, alloc: Global) -> Result<(), AllocError>
-    ensures within { OnOk result (place < length pages.new.items) }
-    ensures same { OnOk result ((j : ℕ) →
-        slice_index_or pages.new.items j [] ≡ slice_index_or pages.old.items j []) }
+// Makes room for one page more, and for as many again as there are, if there can be so many.
+fn reserve_page(pages: &mut Vec<[u64; WORDS]>, most: usize) -> Result<(), AllocError>
+    ensures { pages.new.items ≡ pages.old.items }
 {
-    'pages: while pages.len() <= place {
-        pages.push(Page::new(alloc))?;
+    let count = pages.len();
+    if count == pages.capacity() {
+        pages.reserve_exact(count.max(FIRST).min(most.saturating_sub(count)))?;
     }
     Ok(())
+}
+
+// Adds a page with no number marked for a place, unless it has one.
+fn fill_place(
+    directory: &mut Vec<u32>,
+    pages: &mut Vec<[u64; WORDS]>,
+    place: usize,
+) -> Result<(), AllocError>
+    requires within { place < length directory.old.items }
+    requires directory { IsDirectory directory.old.items pages.old.items }
+    ensures directory { IsDirectory directory.new.items pages.new.items }
+    ensures has { OnOk result (0 < slice_index_or directory.new.items place 0) }
+    ensures same { (k : ℕ) → has_mark directory.new.items pages.new.items k ≡
+        has_mark directory.old.items pages.old.items k }
+{
+    if directory[place] == 0 {
+        reserve_page(pages, directory.len())?;
+        pages.push([0; WORDS])?;
+        directory[place] = pages.len() as u32;
+    }
+    Ok(())
+}
+
+// Where the page of a place is: it is made where there is none.
+fn page_for(
+    directory: &mut Vec<u32>,
+    pages: &mut Vec<[u64; WORDS]>,
+    place: usize,
+    count: usize,
+) -> Result<usize, AllocError>
+    requires within { place < 8388608 }
+    requires directory { IsDirectory directory.old.items pages.old.items }
+    ensures directory { IsDirectory directory.new.items pages.new.items }
+    ensures there { IfOk result (λ page. page < length pages.new.items) }
+    ensures at { IfOk result (λ page. slice_index_or directory.new.items place 0 ≡ page + 1) }
+    ensures same { (k : ℕ) → has_mark directory.new.items pages.new.items k ≡
+        has_mark directory.old.items pages.old.items k }
+{
+    reach_place(directory, place, count)?;
+    fill_place(directory, pages, place)?;
+    Ok(directory[place] as usize - 1)
+}
+
+// Whether a number of a page is marked.
+fn is_set(page: &[u64; WORDS], number: u32) -> bool
+    requires { number < 512 }
+    ensures { result ≡ has_bit page.now number }
+{
+    (page[number as usize / 64] >> (number % 64)) & 1 == 1
+}
+
+// Marks a number of a page.
+fn set_bit(page: &mut [u64; WORDS], number: u32)
+    requires { number < 512 }
+    ensures { (k : ℕ) → has_bit page.new k ≡ cond (nat_eq number k) true (has_bit page.old k) }
+{
+    let place = number as usize / 64;
+    let word = page[place];
+    page[place] = word | 1 << (number % 64);
 }
 
 /// Numbers below a count, of which some are marked.
 #[derive(Drop)]
 pub struct Marks {
-    pages: Vec<Page>,
+    // For each place one more than where its page is, or 0.
+    directory: Vec<u32>,
+    pages: Vec<[u64; WORDS]>,
     count: usize,
-    alloc: Global,
 }
 
 impl Model for Marks {
     ghost use Rattle.std.specs.Prelude.{List, Bool};
-    ghost use Rattle.delaunay_shapes.specs.Marks.{has_mark, tests_below};
+    ghost use Rattle.delaunay_shapes.specs.Marks.{has_mark, tests_below, IsDirectory};
 
     ghost Value = { List Bool };
 
-    ghost view = { λ a. tests_below a.count (has_mark a.pages.items) };
+    ghost view = { λ a. tests_below a.count (has_mark a.directory.items a.pages.items) };
+
+    ghost invariant = { λ a. IsDirectory a.directory.items a.pages.items };
 }
 
 impl Marks {
@@ -104,9 +131,9 @@ impl Marks {
         ensures { result ≡ replicate count false }
     {
         Marks {
+            directory: Vec::new(alloc),
             pages: Vec::new(alloc),
             count,
-            alloc,
         }
     }
 
@@ -117,7 +144,11 @@ impl Marks {
         ensures { result ≡ slice_index_or self.now index false }
     {
         let place = (index / NUMBERS) as usize;
-        place < self.pages.len() && self.pages[place].is_marked(index % NUMBERS)
+        if place >= self.directory.len() {
+            return false;
+        }
+        let page = self.directory[place] as usize;
+        page > 0 && is_set(&self.pages[page - 1], index % NUMBERS)
     }
 
     /// Marks a number.
@@ -125,8 +156,8 @@ impl Marks {
         ensures { OnOk result (self.new ≡ slice_set self.old index true) }
     {
         let place = (index / NUMBERS) as usize;
-        reach_page(&mut self.pages, place, self.alloc)?;
-        self.pages[place].mark(index % NUMBERS)?;
+        let page = page_for(&mut self.directory, &mut self.pages, place, self.count)?;
+        set_bit(&mut self.pages[page], index % NUMBERS);
         Ok(())
     }
 }
