@@ -1,12 +1,26 @@
 //! The triangulation of a drawing, and what is told of it.
-use crate::command::Task;
 use crate::crossings::first_crossed;
-use crate::reading::{Scene, input_name};
 use anyhow::{anyhow, bail};
 use drawing_faces::{DrawingError, DrawnMesh, DrawnSegment, Kept, triangulate_drawing};
-use mesh_files::{Drawing, FilePlace, hole_sides};
-use spade_delaunay::{Point2, Triangulation};
+use mesh_files::{Drawing, FilePlace, MeshText, hole_sides};
+use mesh_io::{Scene, Task, input_name, write_mesh};
+use spade_delaunay::handles::UndirectedEdgeHandle;
+use spade_delaunay::{ConstraintMarker, Point2, Triangulation};
 use std::alloc::{AllocError, Global};
+use std::fmt;
+
+/// What there is of a drawing beside its triangulation.
+#[derive(Clone, Copy)]
+pub struct DrawnLists<'a> {
+    /// Of each vertex the place of its point.
+    pub places: &'a [u32],
+    /// Of each segment whether it was taken.
+    pub taken: &'a [bool],
+    /// The faces that are kept, by the places of their corners.
+    pub faces: &'a [[u32; 3]],
+    /// How many edges are constraints.
+    pub constraints: usize,
+}
 
 /// Where a segment stands in its file.
 fn segment_line(scene: &Scene, place: usize) -> FilePlace {
@@ -24,23 +38,43 @@ fn segment_file<'a>(task: &Task<'a>, scene: &Scene, place: usize) -> &'a str {
     }
 }
 
+/// That a segment crosses another, by where they stand, if it is known which.
+#[derive(Clone, Copy)]
+struct Crossing<'a> {
+    file: &'a str,
+    place: FilePlace,
+    other: Option<(&'a str, FilePlace)>,
+}
+
+impl fmt::Display for Crossing<'_> {
+    fn fmt<W: fmt::Write>(&self, f: &mut fmt::Formatter<W>) -> fmt::Result {
+        let (file, place) = (self.file, self.place);
+        write!(f, "{file}: {place}: the segment crosses ")?;
+        let Some((other_file, other)) = self.other else {
+            return f.write_str("another");
+        };
+        write!(f, "that of {other}")?;
+        if file == other_file {
+            return Ok(());
+        }
+        write!(f, " of {other_file}")
+    }
+}
+
 /// That a segment crosses one before it, by their places.
-fn crossing_text(
-    task: &Task<'_>,
+fn crossing_of<'a>(
+    task: &Task<'a>,
     scene: &Scene,
     place: usize,
     crossed: Option<usize>,
-    alloc: Global,
-) -> Result<String, AllocError> {
-    let (file, line) = (segment_file(task, scene, place), segment_line(scene, place));
-    let Some(other) = crossed else {
-        return format!(in alloc; "{file}: {line}: the segment crosses another");
-    };
-    let (other_file, other) = (segment_file(task, scene, other), segment_line(scene, other));
-    if file == other_file {
-        format!(in alloc; "{file}: {line}: the segment crosses that of {other}")
-    } else {
-        format!(in alloc; "{file}: {line}: the segment crosses that of {other} of {other_file}")
+) -> Crossing<'a> {
+    Crossing {
+        file: segment_file(task, scene, place),
+        place: segment_line(scene, place),
+        other: match crossed {
+            Some(other) => Some((segment_file(task, scene, other), segment_line(scene, other))),
+            None => None,
+        },
     }
 }
 
@@ -56,24 +90,43 @@ fn segments_of(drawing: &Drawing, alloc: Global) -> Result<Vec<DrawnSegment>, Al
     Ok(segments)
 }
 
+/// Segments between points by their places.
+fn sides_of(sides: &[[u32; 2]], alloc: Global) -> Result<Vec<DrawnSegment>, AllocError> {
+    let mut segments = Vec::with_capacity(alloc, sides.len())?;
+    for [from, to] in sides {
+        segments.push(DrawnSegment {
+            from: *from,
+            to: *to,
+        })?;
+    }
+    Ok(segments)
+}
+
 /// The sides of the drawing's rings round holes, where only the inside is kept.
 fn drawn_sides(
     task: &Task<'_>,
     scene: &Scene,
     alloc: Global,
 ) -> Result<Vec<DrawnSegment>, AllocError> {
-    let mut sides = Vec::new(alloc);
-    if task.keeps_inside {
-        for [from, to] in hole_sides(&scene.drawing, scene.scaled.points.as_slice(), alloc)? {
-            sides.push(DrawnSegment { from, to })?;
-        }
+    if !task.keeps_inside {
+        return Ok(Vec::new(alloc));
     }
-    Ok(sides)
+    let sides = hole_sides(&scene.drawing, scene.scaled.points.as_slice(), alloc)?;
+    sides_of(sides.as_slice(), alloc)
+}
+
+/// Tells that a segment was left out, or gives that as an error.
+fn tell_crossing(rt: &impl Eprint, task: &Task<'_>, crossing: Crossing<'_>) -> anyhow::Result<()> {
+    if !task.skips_crossing {
+        bail!("{crossing}");
+    }
+    eprintln!(rt; "mesh: {crossing}, and is left out")?;
+    Ok(())
 }
 
 /// Tells which segments were left out, or that one crosses another where that is an error.
 fn tell_crossings<T: Triangulation<Vertex = Point2<i32>>>(
-    rt: &(impl Eprint + AllocGlobal),
+    rt: &impl Eprint,
     task: &Task<'_>,
     scene: &Scene,
     site: &T,
@@ -83,15 +136,10 @@ fn tell_crossings<T: Triangulation<Vertex = Point2<i32>>>(
         return Ok(());
     }
     for (place, is_taken) in taken.iter().enumerate() {
-        if *is_taken {
-            continue;
+        if !*is_taken {
+            let crossed = first_crossed(scene, site, taken, place);
+            tell_crossing(rt, task, crossing_of(task, scene, place, crossed))?;
         }
-        let crossed = first_crossed(scene, site, taken, place);
-        let text = crossing_text(task, scene, place, crossed, rt.alloc())?;
-        if !task.skips_crossing {
-            bail!("{text}");
-        }
-        eprintln!(rt; "mesh: {text}, and is left out")?;
     }
     Ok(())
 }
@@ -101,17 +149,28 @@ pub fn point_place(places: &[u32], vertex: u32) -> u32 {
     places.get(vertex as usize).copied().unwrap_or(u32::MAX)
 }
 
+/// The places of the ends of an edge's points.
+fn end_places<V, DE, UE, F>(
+    places: &[u32],
+    edge: UndirectedEdgeHandle<'_, V, DE, UE, F>,
+) -> [u32; 2] {
+    let [a, b] = edge.vertices();
+    [
+        point_place(places, a.fix().index()),
+        point_place(places, b.fix().index()),
+    ]
+}
+
 /// The edges that are constraints, by the places of their ends.
-pub fn walls_of(drawn: &DrawnMesh, alloc: Global) -> Result<Vec<[u32; 2]>, AllocError> {
-    let places = drawn.vertices.as_slice();
-    let mut walls = Vec::with_capacity(alloc, drawn.site.num_constraints())?;
-    for edge in drawn.site.undirected_edges() {
-        if edge.data().is_constraint_edge() {
-            let [a, b] = edge.vertices();
-            walls.push([
-                point_place(places, a.fix().index()),
-                point_place(places, b.fix().index()),
-            ])?;
+fn walls_of<T: Triangulation<Vertex = Point2<i32>>>(
+    site: &T,
+    drawn: &DrawnLists<'_>,
+    alloc: Global,
+) -> Result<Vec<[u32; 2]>, AllocError> {
+    let mut walls = Vec::with_capacity(alloc, drawn.constraints)?;
+    for edge in site.undirected_edges() {
+        if T::Constraints::is_constraint_edge(edge.data()) {
+            walls.push(end_places(drawn.places, edge))?;
         }
     }
     Ok(walls)
@@ -135,20 +194,23 @@ fn drawing_fault(task: &Task<'_>, drawing: &Drawing, error: DrawingError) -> any
 }
 
 /// Tells how many there are of each.
-fn tell_counts(rt: &impl Eprint, scene: &Scene, drawn: &DrawnMesh) -> anyhow::Result<()> {
-    let (points, vertices) = (scene.scaled.points.len(), drawn.vertices.len());
+fn tell_counts(rt: &impl Eprint, points: usize, drawn: &DrawnLists<'_>) -> anyhow::Result<()> {
+    let vertices = drawn.places.len();
     if vertices < points {
         let repeated = points.saturating_sub(vertices);
         eprintln!(rt; "mesh: {repeated} points repeat others, and are in no face")?;
     }
-    let (faces, walls) = (drawn.faces.len(), drawn.site.num_constraints());
+    let (faces, walls) = (drawn.faces.len(), drawn.constraints);
     eprintln!(rt; "mesh: {vertices} vertices, {faces} faces, {walls} constraints")?;
     Ok(())
 }
 
 /// The triangulation of a drawing, with the faces that are kept.
-fn triangulate_scene(task: &Task<'_>, scene: &Scene, alloc: Global) -> anyhow::Result<DrawnMesh> {
-    let points = scene.scaled.points.as_slice();
+pub fn triangulate_scene(
+    task: &Task<'_>,
+    scene: &Scene,
+    alloc: Global,
+) -> anyhow::Result<DrawnMesh> {
     let segments = segments_of(&scene.drawing, alloc)?;
     let sides = drawn_sides(task, scene, alloc)?;
     let (kept, holes) = if task.keeps_inside {
@@ -157,7 +219,7 @@ fn triangulate_scene(task: &Task<'_>, scene: &Scene, alloc: Global) -> anyhow::R
         (Kept::All, [].as_slice())
     };
     match triangulate_drawing(
-        points,
+        scene.scaled.points.as_slice(),
         segments.as_slice(),
         holes,
         sides.as_slice(),
@@ -169,16 +231,36 @@ fn triangulate_scene(task: &Task<'_>, scene: &Scene, alloc: Global) -> anyhow::R
     }
 }
 
-/// Triangulates a drawing, and tells what is to be told of it.
-pub fn build(
-    rt: &(impl Eprint + AllocGlobal),
+/// Tells what is to be told of a triangulation.
+pub fn tell_drawn<T: Triangulation<Vertex = Point2<i32>>>(
+    rt: &impl Eprint,
     task: &Task<'_>,
     scene: &Scene,
-) -> anyhow::Result<DrawnMesh> {
-    let drawn = triangulate_scene(task, scene, rt.alloc())?;
-    tell_crossings(rt, task, scene, &drawn.site, drawn.taken.as_slice())?;
-    if !task.is_quiet {
-        tell_counts(rt, scene, &drawn)?;
+    site: &T,
+    drawn: &DrawnLists<'_>,
+) -> anyhow::Result<()> {
+    tell_crossings(rt, task, scene, site, drawn.taken)?;
+    if task.is_quiet {
+        return Ok(());
     }
-    Ok(drawn)
+    tell_counts(rt, scene.scaled.points.len(), drawn)
+}
+
+/// Writes a mesh to standard output, or to the file that is asked for.
+pub fn write_triangulated<T: Triangulation<Vertex = Point2<i32>>>(
+    rt: &HostRuntime,
+    task: &Task<'_>,
+    scene: &Scene,
+    site: &T,
+    drawn: &DrawnLists<'_>,
+) -> anyhow::Result<()> {
+    let walls = walls_of(site, drawn, rt.alloc())?;
+    let text = MeshText {
+        drawing: &scene.drawing,
+        scaled: &scene.scaled,
+        faces: drawn.faces,
+        walls: walls.as_slice(),
+        width: task.width,
+    };
+    write_mesh(rt, task, &text)
 }

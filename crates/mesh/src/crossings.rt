@@ -1,7 +1,7 @@
 //! Which segment of a drawing is in the way of another.
 use crate::areas::turned_area;
-use crate::reading::Scene;
 use exact_predicates::ExactTests;
+use mesh_io::Scene;
 use spade_delaunay::{Point2, PositionInTriangulation, Triangulation, validate_vertex};
 
 /// The ends of a segment.

@@ -4,56 +4,66 @@
 
 mod areas;
 mod building;
-mod command;
 mod crossings;
 mod heights;
 mod nearest;
-mod output;
 mod places;
-mod progress;
-mod reading;
 mod way;
 
-use crate::building::build;
-use crate::command::{Question, Task, command, task_of};
+use crate::building::{DrawnLists, tell_drawn, triangulate_scene, write_triangulated};
 use crate::nearest::tell_nearest;
-use crate::output::write;
 use crate::places::tell_places;
-use crate::progress::tell_step;
-use crate::reading::{Scene, read_scene};
 use crate::way::tell_way;
-use drawing_faces::DrawnMesh;
+use mesh_io::{Question, Scene, Task, command, read_scene, task_of, tell_step};
+use spade_delaunay::{Point2, Triangulation};
 use std::process::ExitCode;
 
 /// Answers a question of the triangulation with its constraints.
-fn answer_question(
+fn answer_question<T: Triangulation<Vertex = Point2<i32>>>(
     rt: &HostRuntime,
     question: Question<'_>,
     scene: &Scene,
-    drawn: &DrawnMesh,
+    site: &T,
+    places: &[u32],
 ) -> anyhow::Result<()> {
-    let places = drawn.vertices.as_slice();
     match question {
         Question::Nearest(_) => Ok(()),
-        Question::Locate(_) => tell_places(rt, scene, &drawn.site, places),
-        Question::Line(_) => tell_way(rt, scene, &drawn.site, places),
+        Question::Locate(_) => tell_places(rt, scene, site, places),
+        Question::Line(_) => tell_way(rt, scene, site, places),
     }
 }
 
-/// Triangulates a drawing, answers the question, and writes the mesh: where there is a question,
-/// to a file alone.
-fn build_and_write(rt: &HostRuntime, task: &Task<'_>, scene: &Scene) -> anyhow::Result<()> {
-    let points = scene.scaled.points.len();
-    tell_step(rt, task, points, "triangulating")?;
-    let drawn = build(rt, task, scene)?;
+/// Tells what is to be told of a triangulation, answers the question, and writes the mesh: where
+/// there is a question, to a file alone.
+fn tell_and_write<T: Triangulation<Vertex = Point2<i32>>>(
+    rt: &HostRuntime,
+    task: &Task<'_>,
+    scene: &Scene,
+    site: &T,
+    drawn: &DrawnLists<'_>,
+) -> anyhow::Result<()> {
+    tell_drawn(rt, task, scene, site, drawn)?;
     if let Some(question) = task.question {
-        answer_question(rt, question, scene, &drawn)?;
+        answer_question(rt, question, scene, site, drawn.places)?;
         if task.output.is_none() {
             return Ok(());
         }
     }
-    tell_step(rt, task, points, "writing")?;
-    write(rt, task, scene, &drawn)
+    tell_step(rt, task, scene.scaled.points.len(), "writing")?;
+    write_triangulated(rt, task, scene, site, drawn)
+}
+
+/// Triangulates a drawing, and tells and writes what is asked for.
+fn build_and_write(rt: &HostRuntime, task: &Task<'_>, scene: &Scene) -> anyhow::Result<()> {
+    tell_step(rt, task, scene.scaled.points.len(), "triangulating")?;
+    let drawn = triangulate_scene(task, scene, rt.alloc())?;
+    let lists = DrawnLists {
+        places: drawn.vertices.as_slice(),
+        taken: drawn.taken.as_slice(),
+        faces: drawn.faces.as_slice(),
+        constraints: drawn.site.num_constraints(),
+    };
+    tell_and_write(rt, task, scene, &drawn.site, &lists)
 }
 
 /// Does what a task asks for. Which point is nearest does not depend on the segments.
@@ -68,21 +78,32 @@ fn carry_out(rt: &HostRuntime, task: &Task<'_>) -> anyhow::Result<()> {
     build_and_write(rt, task, &scene)
 }
 
-fn main(rt: HostRuntime) -> anyhow::Result<ExitCode> {
-    let words: Vec<String> = std::env::args(&rt)?.collect(rt.alloc())?;
-    let matches = match command(rt.alloc())?.try_get_matches_from(words.as_slice()) {
-        Ok(matches) => matches,
-        Err(error) => {
-            error.print(&rt)?;
-            return Ok(ExitCode::from(error.exit_code() as u8));
-        }
-    };
-    let task = task_of(&matches);
-    match carry_out(&rt, &task) {
+/// Tells what is wrong with the command line, or what it asks to be told of it.
+fn tell_words(rt: &HostRuntime, error: &clap::Error) -> anyhow::Result<ExitCode> {
+    error.print(rt)?;
+    Ok(ExitCode::from(error.exit_code() as u8))
+}
+
+/// Tells what went wrong, if something did.
+fn tell_outcome(rt: &impl Eprint, outcome: &anyhow::Result<()>) -> anyhow::Result<ExitCode> {
+    match outcome {
         Ok(()) => Ok(ExitCode::SUCCESS),
         Err(error) => {
-            eprintln!(&rt; "mesh: {error:#}")?;
+            eprintln!(rt; "mesh: {error:#}")?;
             Ok(ExitCode::from(1))
         }
     }
+}
+
+/// Does what the words of a command line ask for.
+fn run_words(rt: &HostRuntime, words: &[String]) -> anyhow::Result<ExitCode> {
+    match command(rt.alloc())?.try_get_matches_from(words) {
+        Ok(matches) => tell_outcome(rt, &carry_out(rt, &task_of(&matches))),
+        Err(error) => tell_words(rt, &error),
+    }
+}
+
+fn main(rt: HostRuntime) -> anyhow::Result<ExitCode> {
+    let words: Vec<String> = std::env::args(&rt)?.collect(rt.alloc())?;
+    run_words(&rt, words.as_slice())
 }

@@ -1,13 +1,15 @@
 //! Which point of a drawing is nearest to each that is asked about.
 use crate::areas::squared_distance;
 use crate::building::point_place;
-use crate::reading::Scene;
 use anyhow::Context;
 use decimal_numbers::Decimal;
-use drawing_faces::{PlacedPoints, place_points};
+use drawing_faces::place_points;
 use exact_predicates::ExactTests;
 use mesh_files::Spot;
-use spade_delaunay::{DelaunayTriangulation, Point2, Triangulation, validate_vertex};
+use mesh_io::Scene;
+use spade_delaunay::{
+    DelaunayTriangulation, HintGenerator, Point2, Triangulation, validate_vertex,
+};
 use std::alloc::{AllocError, Global};
 use std::io;
 use std::io::{BufWriter, Write};
@@ -19,10 +21,15 @@ struct NearestPoint {
     squared: u64,
 }
 
+/// Puts a number behind a line, with a comma.
+fn push_number(line: &mut String, number: &Decimal) -> Result<(), AllocError> {
+    write!(line, "{number},")
+}
+
 /// Puts the numbers of a point behind a line, each with a comma.
 pub fn push_spot(line: &mut String, spot: &Spot) -> Result<(), AllocError> {
-    let (x, y) = (spot.x.decimal, spot.y.decimal);
-    write!(line, "{x},{y},")
+    push_number(line, &spot.x.decimal)?;
+    push_number(line, &spot.y.decimal)
 }
 
 /// The distance of two points, rounded to three digits more than their numbers have.
@@ -40,13 +47,17 @@ fn distance_of(squared: u64, digits: u32) -> Decimal {
 }
 
 /// The point that is nearest to one in range, if there is a point.
-fn nearest_to(placed: &PlacedPoints, point: Point2<i32>) -> Option<NearestPoint> {
+fn nearest_to<DE, UE, F, L: HintGenerator<i32>>(
+    plain: &DelaunayTriangulation<Point2<i32>, DE, UE, F, L>,
+    places: &[u32],
+    point: Point2<i32>,
+) -> Option<NearestPoint> {
     if validate_vertex(&point).is_err() {
         return None;
     }
-    let vertex = placed.plain.nearest_neighbor(point, &ExactTests)?;
+    let vertex = plain.nearest_neighbor(point, &ExactTests)?;
     Some(NearestPoint {
-        place: point_place(placed.vertices.as_slice(), vertex.fix().index()),
+        place: point_place(places, vertex.fix().index()),
         squared: squared_distance(point, *vertex.data()),
     })
 }
@@ -71,10 +82,11 @@ fn push_nearest(
     writeln!(line, "{number},{distance},{squared}")
 }
 
-fn write_nearest<W: Write>(
+fn write_nearest<W: Write, DE, UE, F, L: HintGenerator<i32>>(
     writer: &mut W,
     scene: &Scene,
-    placed: &PlacedPoints,
+    plain: &DelaunayTriangulation<Point2<i32>, DE, UE, F, L>,
+    places: &[u32],
     alloc: Global,
 ) -> io::Result<()> {
     let digits = scene.scaled.x_scale.digits;
@@ -83,15 +95,25 @@ fn write_nearest<W: Write>(
     for (spot, point) in scene.asked.iter().zip(&scene.asked_points) {
         line.clear();
         push_spot(&mut line, spot)?;
-        push_nearest(&mut line, digits, nearest_to(placed, *point))?;
+        push_nearest(&mut line, digits, nearest_to(plain, places, *point))?;
         writer.write_all(line.as_bytes())?;
     }
     writer.flush()
 }
 
+/// Tells which of some points is nearest to each that is asked about.
+fn tell_nearest_of<DE, UE, F, L: HintGenerator<i32>>(
+    rt: &HostRuntime,
+    scene: &Scene,
+    plain: &DelaunayTriangulation<Point2<i32>, DE, UE, F, L>,
+    places: &[u32],
+) -> anyhow::Result<()> {
+    let mut writer = BufWriter::new(rt.alloc(), io::writer(rt))?;
+    write_nearest(&mut writer, scene, plain, places, rt.alloc()).context("standard output")
+}
+
 /// Tells which point is nearest to each that is asked about.
 pub fn tell_nearest(rt: &HostRuntime, scene: &Scene) -> anyhow::Result<()> {
     let placed = place_points(scene.scaled.points.as_slice(), rt.alloc())?;
-    let mut writer = BufWriter::new(rt.alloc(), io::writer(rt))?;
-    write_nearest(&mut writer, scene, &placed, rt.alloc()).context("standard output")
+    tell_nearest_of(rt, scene, &placed.plain, placed.vertices.as_slice())
 }

@@ -1,8 +1,9 @@
 //! What the way from one point to another meets.
 use crate::building::point_place;
-use crate::reading::Scene;
 use anyhow::{Context, bail};
 use exact_predicates::ExactTests;
+use mesh_io::Scene;
+use spade_delaunay::handles::{DirectedEdgeHandle, FixedVertexHandle};
 use spade_delaunay::{
     Intersection, LineIntersectionIterator, Point2, Triangulation, validate_vertex,
 };
@@ -10,24 +11,44 @@ use std::alloc::{AllocError, Global};
 use std::io;
 use std::io::{BufWriter, Write};
 
+/// The number of the point of a vertex, from 1.
+fn vertex_number(places: &[u32], vertex: FixedVertexHandle) -> u64 {
+    u64::from(point_place(places, vertex.index())).saturating_add(1)
+}
+
+/// Puts an edge behind a line, by the numbers of its ends.
+fn push_edge<V, DE, UE, F>(
+    line: &mut String,
+    kind: &str,
+    places: &[u32],
+    edge: DirectedEdgeHandle<'_, V, DE, UE, F>,
+) -> Result<(), AllocError> {
+    let [from, to] = edge.vertices();
+    let (from, to) = (
+        vertex_number(places, from.fix()),
+        vertex_number(places, to.fix()),
+    );
+    writeln!(line, "{kind},{from},{to}")
+}
+
+/// Puts a vertex behind a line, by its number.
+fn push_vertex(line: &mut String, number: u64) -> Result<(), AllocError> {
+    writeln!(line, "point,{number},")
+}
+
 /// Puts what a way meets behind a line: a vertex, or an edge that it crosses or runs along.
-fn push_met<DE, UE, F>(
+fn push_met<V, DE, UE, F>(
     line: &mut String,
     places: &[u32],
-    met: &Intersection<'_, Point2<i32>, DE, UE, F>,
+    met: &Intersection<'_, V, DE, UE, F>,
 ) -> Result<(), AllocError> {
-    let (kind, edge) = match met {
+    match met {
         Intersection::VertexIntersection(vertex) => {
-            let number = u64::from(point_place(places, vertex.fix().index())) + 1;
-            return writeln!(line, "point,{number},");
+            push_vertex(line, vertex_number(places, vertex.fix()))
         }
-        Intersection::EdgeIntersection(edge) => ("crosses", *edge),
-        Intersection::EdgeOverlap(edge) => ("along", *edge),
-    };
-    let [from, to] = edge.vertices();
-    let from = u64::from(point_place(places, from.fix().index())) + 1;
-    let to = u64::from(point_place(places, to.fix().index())) + 1;
-    writeln!(line, "{kind},{from},{to}")
+        Intersection::EdgeIntersection(edge) => push_edge(line, "crosses", places, *edge),
+        Intersection::EdgeOverlap(edge) => push_edge(line, "along", places, *edge),
+    }
 }
 
 /// Writes what the way between two points in range meets.

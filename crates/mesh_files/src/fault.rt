@@ -3,68 +3,153 @@ use std::alloc::{AllocError, AllocFailed};
 use std::fmt;
 use thiserror::Error;
 
-/// What is wrong.
-#[derive(Clone, Copy, Debug, Drop, Error)]
+/// What is wrong. Words are what is wrong itself: a column's name, or what should stand there.
+#[derive(Clone, Copy, Drop)]
 pub enum Reason {
-    #[error("there is no column named {0}")]
     NoColumn(&'static str),
-    #[error("{0} is not a decimal number")]
     NotNumber(&'static str),
-    #[error("{0} has too many digits")]
     TooLong(&'static str),
-    #[error("{0} has more digits behind the point than fit the range: --round DIGITS keeps fewer")]
     TooFine(&'static str),
-    #[error("{0} is too far from the others: all have to be within 2^30 units of {1} digits")]
+    /// What is too far from the others, which have so many digits behind the point.
     TooFar(&'static str, u32),
-    #[error("it has another number of fields than the first line")]
     OtherFields,
-    #[error("the file ends where {0} should come")]
     Ends(&'static str),
-    #[error("{0} is missing")]
     Missing(&'static str),
-    #[error("{0} is not a whole number from 0 on")]
     NotCount(&'static str),
-    #[error("only points of the plane are read, and these have another number of coordinates")]
     NotPlane,
-    #[error("point {0} is named here, and there is none")]
     NoPoint(u64),
-    #[error("the points are numbered from 0 or from 1, and this one is not the next")]
     NotNext,
-    #[error("its points are in a .node file, which is to be read in its place")]
     PointsElsewhere,
-    #[error("there are too many points, or their numbers are longer than 4 GiB together")]
     TooMany,
-    #[error("it is longer than {0} bytes")]
     LongLine(u32),
-    #[error("the file is longer than {0} bytes")]
     LongText(u32),
-    #[error("it has a NUL byte, so this is no text")]
     NulByte,
-    #[error("the file is no text in UTF-8")]
     NotUtf8,
-    #[error("a quoted field does not end")]
     OpenQuote,
-    #[error("this is no JSON, or it nests more than {0} deep")]
     NotJson(usize),
-    #[error("{0} should stand here")]
     Expected(&'static str),
-    #[error("there is no member named {0}")]
     NoMember(&'static str),
-    #[error("it has {0}, and its type has none")]
     NotOfType(&'static str),
-    #[error("it has {0} and {1}, of which an object has one")]
     Both(&'static str, &'static str),
-    #[error("coordinates are nested otherwise than the type has them")]
     OtherNesting,
-    #[error("a ring has four positions or more, and ends where it began")]
     OpenRing,
-    #[error("some points have a height, and others have none")]
     SomeHeights,
-    #[error("reading failed")]
     Unreadable,
-    #[error("memory was refused")]
     NoMemory,
 }
+
+const TOO_FINE: &str =
+    " has more digits behind the point than fit the range: --round DIGITS keeps fewer";
+
+/// What the text of a reason names.
+#[derive(Clone, Copy)]
+enum Named {
+    Nothing,
+    Word(&'static str),
+    Number(u64),
+}
+
+impl fmt::Display for Named {
+    fn fmt<W: fmt::Write>(&self, f: &mut fmt::Formatter<W>) -> fmt::Result {
+        match *self {
+            Named::Nothing => Ok(()),
+            Named::Word(word) => f.write_str(word),
+            Named::Number(number) => write!(f, "{number}"),
+        }
+    }
+}
+
+impl Reason {
+    /// The text of a reason that names nothing.
+    fn text(self) -> &'static str {
+        match self {
+            Reason::OtherFields => "it has another number of fields than the first line",
+            Reason::NotPlane => {
+                "only points of the plane are read, and these have another number of coordinates"
+            }
+            Reason::NotNext => {
+                "the points are numbered from 0 or from 1, and this one is not the next"
+            }
+            Reason::PointsElsewhere => {
+                "its points are in a .node file, which is to be read in its place"
+            }
+            Reason::TooMany => {
+                "there are too many points, or their numbers are longer than 4 GiB together"
+            }
+            Reason::NulByte => "it has a NUL byte, so this is no text",
+            Reason::NotUtf8 => "the file is no text in UTF-8",
+            Reason::OpenQuote => "a quoted field does not end",
+            Reason::OtherNesting => "coordinates are nested otherwise than the type has them",
+            Reason::OpenRing => "a ring has four positions or more, and ends where it began",
+            Reason::SomeHeights => "some points have a height, and others have none",
+            Reason::Unreadable => "reading failed",
+            Reason::NoMemory => "memory was refused",
+            _ => "",
+        }
+    }
+
+    /// What a reason names, with the text before and behind it.
+    fn parts(self) -> (&'static str, Named, &'static str) {
+        match self {
+            Reason::NoColumn(name) => ("there is no column named ", Named::Word(name), ""),
+            Reason::NotNumber(name) => ("", Named::Word(name), " is not a decimal number"),
+            Reason::TooLong(name) => ("", Named::Word(name), " has too many digits"),
+            Reason::TooFine(name) => ("", Named::Word(name), TOO_FINE),
+            Reason::Ends(what) => ("the file ends where ", Named::Word(what), " should come"),
+            Reason::Missing(what) => ("", Named::Word(what), " is missing"),
+            Reason::NotCount(what) => ("", Named::Word(what), " is not a whole number from 0 on"),
+            Reason::NoPoint(number) => (
+                "point ",
+                Named::Number(number),
+                " is named here, and there is none",
+            ),
+            Reason::LongLine(most) => ("it is longer than ", Named::Number(most as u64), " bytes"),
+            Reason::LongText(most) => (
+                "the file is longer than ",
+                Named::Number(most as u64),
+                " bytes",
+            ),
+            Reason::NotJson(most) => (
+                "this is no JSON, or it nests more than ",
+                Named::Number(most as u64),
+                " deep",
+            ),
+            Reason::Expected(what) => ("", Named::Word(what), " should stand here"),
+            Reason::NoMember(name) => ("there is no member named ", Named::Word(name), ""),
+            Reason::NotOfType(name) => ("it has ", Named::Word(name), ", and its type has none"),
+            _ => (self.text(), Named::Nothing, ""),
+        }
+    }
+}
+
+impl fmt::Display for Reason {
+    fn fmt<W: fmt::Write>(&self, f: &mut fmt::Formatter<W>) -> fmt::Result {
+        match *self {
+            Reason::TooFar(name, digits) => {
+                write!(
+                    f,
+                    "{name} is too far from the others: all have to be within "
+                )?;
+                write!(f, "2^30 units of {digits} digits")
+            }
+            Reason::Both(one, other) => {
+                write!(f, "it has {one} and {other}, of which an object has one")
+            }
+            reason => {
+                let (before, named, behind) = reason.parts();
+                write!(f, "{before}{named}{behind}")
+            }
+        }
+    }
+}
+
+impl fmt::Debug for Reason {
+    fn fmt<W: fmt::Write>(&self, f: &mut fmt::Formatter<W>) -> fmt::Result {
+        write!(f, "{self}")
+    }
+}
+
+impl std::error::Error for Reason {}
 
 /// Where something stands in a file: its line, from 1, and where it is in a feature of GeoJSON the
 /// number of that, from 1, else 0.

@@ -1,14 +1,16 @@
 //! What is read: a drawing, and points that are asked about, all on one scale.
-use crate::command::{Question, Source, Task, Way};
 use crate::progress::ToldReader;
+use crate::tasks::{Question, Source, Task, Way};
 use anyhow::{Context, anyhow};
+use decimal_numbers::{Decimal, Scale};
+use delaunay_core::point::Point2;
 use mesh_files::{
     Drawing, FileFault, Reason, Scaled, Spot, read_csv, read_geojson, read_node, read_poly,
     read_segments, scale,
 };
-use spade_delaunay::Point2;
 use std::alloc::{AllocError, Global};
 use std::fs;
+use std::fs::File;
 use std::io::{BufReader, Read};
 
 /// A drawing with whole coordinates, and points that are asked about. Segments come from the file
@@ -27,30 +29,45 @@ pub fn input_name<'a>(task: &Task<'a>) -> &'a str {
     task.file.unwrap_or("standard input")
 }
 
-/// Reads a drawing of the task's form.
+/// Reads a drawing of a form.
 fn read_form<R: Read + Drop>(
-    rt: &impl AllocGlobal,
     source: Source,
     reader: R,
-) -> anyhow::Result<Drawing> {
-    Ok(match source {
-        Source::Csv => read_csv(reader, rt.alloc())?,
-        Source::Node => read_node(reader, rt.alloc())?,
-        Source::Poly => read_poly(reader, rt.alloc())?,
-        Source::GeoJson => read_geojson(reader, rt.alloc())?,
-    })
+    alloc: Global,
+) -> Result<Drawing, FileFault> {
+    match source {
+        Source::Csv => read_csv(reader, alloc),
+        Source::Node => read_node(reader, alloc),
+        Source::Poly => read_poly(reader, alloc),
+        Source::GeoJson => read_geojson(reader, alloc),
+    }
+}
+
+/// Reads standard input.
+fn read_standard_input(rt: &HostRuntime, task: &Task<'_>) -> anyhow::Result<Drawing> {
+    let reader = BufReader::new(rt.alloc(), ToldReader::new(rt, task, rt.reader()))?;
+    read_form(task.source, reader, rt.alloc()).context("standard input")
+}
+
+/// Reads a file.
+fn read_file(rt: &HostRuntime, task: &Task<'_>, file: &str) -> anyhow::Result<Drawing> {
+    let opened = fs::open(rt, file).context(format_args!("{file}"))?;
+    let reader = BufReader::new(rt.alloc(), ToldReader::new(rt, task, opened))?;
+    read_form(task.source, reader, rt.alloc()).context(format_args!("{file}"))
 }
 
 /// Reads the file of a task, or standard input.
 fn read_input(rt: &HostRuntime, task: &Task<'_>) -> anyhow::Result<Drawing> {
-    let name = input_name(task);
-    let Some(file) = task.file else {
-        let reader = BufReader::new(rt.alloc(), ToldReader::new(rt, task, rt.reader()))?;
-        return read_form(rt, task.source, reader).context(format_args!("{name}"));
-    };
-    let opened = fs::open(rt, file).context(format_args!("{name}"))?;
-    let reader = BufReader::new(rt.alloc(), ToldReader::new(rt, task, opened))?;
-    read_form(rt, task.source, reader).context(format_args!("{name}"))
+    match task.file {
+        Some(file) => read_file(rt, task, file),
+        None => read_standard_input(rt, task),
+    }
+}
+
+/// Opens a table.
+fn table_reader(rt: &HostRuntime, file: &str) -> anyhow::Result<BufReader<File>> {
+    let opened = fs::open(rt, file).context(format_args!("{file}"))?;
+    Ok(BufReader::new(rt.alloc(), opened)?)
 }
 
 /// Tells what of files is left out.
@@ -63,24 +80,26 @@ fn tell_left_out(rt: &impl Eprint, task: &Task<'_>, drawing: &Drawing) -> anyhow
     Ok(())
 }
 
-/// Reads what a task names: points, and a table of segments where it names one. It gives the
-/// drawing, and how many segments it has without that table.
-fn open_drawing(rt: &HostRuntime, task: &Task<'_>) -> anyhow::Result<(Drawing, usize)> {
-    let mut drawing = read_input(rt, task)?;
+/// Reads a table of segments.
+fn add_lines(rt: &HostRuntime, lines: &str, drawing: &mut Drawing) -> anyhow::Result<()> {
+    let reader = table_reader(rt, lines)?;
+    read_segments(reader, drawing, rt.alloc()).context(format_args!("{lines}"))
+}
+
+/// Adds the table of segments that a task names, if it names one, and tells what is left out. It
+/// gives how many segments there are without that table.
+fn complete(rt: &HostRuntime, task: &Task<'_>, drawing: &mut Drawing) -> anyhow::Result<usize> {
     let own_segments = drawing.segments.len();
     if let Some(lines) = task.lines {
-        let opened = fs::open(rt, lines).context(format_args!("{lines}"))?;
-        let reader = BufReader::new(rt.alloc(), opened)?;
-        read_segments(reader, &mut drawing, rt.alloc()).context(format_args!("{lines}"))?;
+        add_lines(rt, lines, drawing)?;
     }
-    tell_left_out(rt, task, &drawing)?;
-    Ok((drawing, own_segments))
+    tell_left_out(rt, task, drawing)?;
+    Ok(own_segments)
 }
 
 /// Reads the points that a question is about from a table.
 fn read_asked(rt: &HostRuntime, file: &str) -> anyhow::Result<Drawing> {
-    let opened = fs::open(rt, file).context(format_args!("{file}"))?;
-    let reader = BufReader::new(rt.alloc(), opened)?;
+    let reader = table_reader(rt, file)?;
     read_csv(reader, rt.alloc()).context(format_args!("{file}"))
 }
 
@@ -100,26 +119,41 @@ fn read_way(rt: &HostRuntime, way: Way<'_>) -> anyhow::Result<Drawing> {
     }
 }
 
+/// What is wrong with a coordinate of a point that is asked about, if it is too far from those of a
+/// drawing.
+fn far_coordinate(
+    name: &'static str,
+    number: &Decimal,
+    scale: &Scale,
+    line: u32,
+) -> Option<FileFault> {
+    let rounded = number.rounded_to(scale.digits);
+    match scale.coordinate(&rounded) {
+        Ok(_) => None,
+        Err(_) => Some(FileFault::at(line, Reason::TooFar(name, scale.digits))),
+    }
+}
+
 /// What is wrong with a point that is asked about, if it is too far from a drawing.
 fn far_fault(scaled: &Scaled, spot: &Spot) -> Option<FileFault> {
-    for (name, number, scale) in [("x", spot.x, scaled.x_scale), ("y", spot.y, scaled.y_scale)] {
-        let rounded = number.decimal.rounded_to(scale.digits);
-        if scale.coordinate(&rounded).is_err() {
-            return Some(FileFault::at(spot.line, Reason::TooFar(name, scale.digits)));
-        }
+    match far_coordinate("x", &spot.x.decimal, &scaled.x_scale, spot.line) {
+        Some(fault) => Some(fault),
+        None => far_coordinate("y", &spot.y.decimal, &scaled.y_scale, spot.line),
     }
-    None
 }
 
 /// What is wrong with a point that is asked about, if it has more digits behind the point than a
 /// drawing.
 fn fine_fault(scaled: &Scaled, spot: &Spot) -> Option<FileFault> {
-    for (name, number) in [("x", spot.x), ("y", spot.y)] {
-        if number.decimal.digits > scaled.x_scale.digits {
-            return Some(FileFault::at(spot.line, Reason::TooFine(name)));
-        }
-    }
-    None
+    let digits = scaled.x_scale.digits;
+    let name = if spot.x.decimal.digits > digits {
+        "x"
+    } else if spot.y.decimal.digits > digits {
+        "y"
+    } else {
+        return None;
+    };
+    Some(FileFault::at(spot.line, Reason::TooFine(name)))
 }
 
 /// The fault of points that have no place on the scale of a drawing: the first that is too far, or
@@ -164,26 +198,24 @@ fn scale_asked(
     Ok(())
 }
 
-/// Scales a drawing.
-fn scale_drawing(
-    rt: &(impl Eprint + AllocGlobal),
-    task: &Task<'_>,
-    mut drawing: Drawing,
-    own_segments: usize,
-) -> anyhow::Result<Scene> {
-    let name = input_name(task);
-    let scaled = scale(&mut drawing, task.rounding, rt.alloc()).context(format_args!("{name}"))?;
-    if scaled.rounded > 0 && !task.is_quiet {
-        let count = scaled.rounded;
+/// Tells how many numbers were rounded, if some were.
+fn tell_rounded(rt: &impl Eprint, task: &Task<'_>, count: u64) -> anyhow::Result<()> {
+    if count > 0 && !task.is_quiet {
         eprintln!(rt; "mesh: {count} numbers were rounded")?;
     }
-    Ok(Scene {
-        drawing,
-        scaled,
-        own_segments,
-        asked: Vec::new(rt.alloc()),
-        asked_points: Vec::new(rt.alloc()),
-    })
+    Ok(())
+}
+
+/// Scales a drawing.
+fn scale_drawing(
+    rt: &HostRuntime,
+    task: &Task<'_>,
+    drawing: &mut Drawing,
+) -> anyhow::Result<Scaled> {
+    let name = input_name(task);
+    let scaled = scale(drawing, task.rounding, rt.alloc()).context(format_args!("{name}"))?;
+    tell_rounded(rt, task, scaled.rounded)?;
+    Ok(scaled)
 }
 
 /// Takes the points of a table in that a question is about.
@@ -212,16 +244,28 @@ fn add_way(
     }
 }
 
-/// Reads what a task names, and scales it.
-pub fn read_scene(rt: &HostRuntime, task: &Task<'_>) -> anyhow::Result<Scene> {
-    let (drawing, own_segments) = open_drawing(rt, task)?;
-    let mut scene = scale_drawing(rt, task, drawing, own_segments)?;
+/// Takes the points that a question is about in, if there is a question.
+fn add_question(rt: &HostRuntime, task: &Task<'_>, scene: &mut Scene) -> anyhow::Result<()> {
     match task.question {
-        Some(Question::Nearest(file) | Question::Locate(file)) => {
-            add_asked(rt, task, file, &mut scene)?;
-        }
-        Some(Question::Line(way)) => add_way(rt, task, way, &mut scene)?,
-        None => {}
+        Some(Question::Nearest(file) | Question::Locate(file)) => add_asked(rt, task, file, scene),
+        Some(Question::Line(way)) => add_way(rt, task, way, scene),
+        None => Ok(()),
     }
+}
+
+/// Reads what a task names: points, a table of segments where it names one, and the points that its
+/// question is about. They are scaled.
+pub fn read_scene(rt: &HostRuntime, task: &Task<'_>) -> anyhow::Result<Scene> {
+    let mut drawing = read_input(rt, task)?;
+    let own_segments = complete(rt, task, &mut drawing)?;
+    let scaled = scale_drawing(rt, task, &mut drawing)?;
+    let mut scene = Scene {
+        drawing,
+        scaled,
+        own_segments,
+        asked: Vec::new(rt.alloc()),
+        asked_points: Vec::new(rt.alloc()),
+    };
+    add_question(rt, task, &mut scene)?;
     Ok(scene)
 }

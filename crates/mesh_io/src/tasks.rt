@@ -1,0 +1,283 @@
+//! The words of the command line.
+use clap::builder::ValueParser;
+use clap::{Arg, ArgAction, ArgMatches, Command};
+use mesh_files::{Form, Rounding};
+use std::alloc::{AllocError, Global};
+
+/// The form of a file that is read.
+#[derive(Clone, Copy, PartialEq, Eq)]
+pub enum Source {
+    Csv,
+    Node,
+    Poly,
+    GeoJson,
+}
+
+/// The coordinates of the ends of a way, as words.
+#[derive(Clone, Copy)]
+pub struct Way<'a> {
+    pub x1: &'a str,
+    pub y1: &'a str,
+    pub x2: &'a str,
+    pub y2: &'a str,
+}
+
+/// What is asked of a triangulation, by the file of the points that are asked about, or by the ends
+/// of a way.
+#[derive(Clone, Copy)]
+pub enum Question<'a> {
+    Nearest(&'a str),
+    Locate(&'a str),
+    Line(Way<'a>),
+}
+
+/// What is asked for.
+#[derive(Drop)]
+pub struct Task<'a> {
+    pub file: Option<&'a str>,
+    pub source: Source,
+    pub form: Form,
+    pub output: Option<&'a str>,
+    pub lines: Option<&'a str>,
+    pub question: Option<Question<'a>>,
+    pub rounding: Rounding,
+    pub skips_crossing: bool,
+    pub keeps_inside: bool,
+    pub is_quiet: bool,
+    pub width: u32,
+}
+
+/// An option of the command line.
+#[derive(Clone, Copy)]
+struct Choice {
+    name: &'static str,
+    letter: Option<char>,
+    action: ArgAction,
+    /// What each value has to be.
+    operand: ValueParser<'static>,
+    /// What help calls the values, and how many there are.
+    values: &'static [&'static str],
+    may_be_negative: bool,
+    /// Options that are not given beside it.
+    rivals: &'static [&'static str],
+    help: &'static str,
+}
+
+static CHOICES: [Choice; 12] = [
+    Choice {
+        name: "from",
+        letter: None,
+        action: ArgAction::Set,
+        operand: ValueParser::Names(&["csv", "node", "poly", "geojson"]),
+        values: &["FORM"],
+        may_be_negative: false,
+        rivals: &[],
+        help: "What is read; else what FILE ends in tells, or it is csv",
+    },
+    Choice {
+        name: "to",
+        letter: None,
+        action: ArgAction::Set,
+        operand: ValueParser::Names(&["obj", "ply", "geojson", "svg", "ele", "node", "csv"]),
+        values: &["FORM"],
+        may_be_negative: false,
+        rivals: &[],
+        help: "What is written; else what the output file ends in tells, or it is obj",
+    },
+    Choice {
+        name: "output",
+        letter: Some('o'),
+        action: ArgAction::Set,
+        operand: ValueParser::String,
+        values: &["FILE"],
+        may_be_negative: false,
+        rivals: &[],
+        help: "Writes to this file in place of standard output",
+    },
+    Choice {
+        name: "lines",
+        letter: None,
+        action: ArgAction::Set,
+        operand: ValueParser::String,
+        values: &["FILE"],
+        may_be_negative: false,
+        rivals: &[],
+        help: "A table of segments beside a table of points: columns from, to",
+    },
+    Choice {
+        name: "nearest",
+        letter: None,
+        action: ArgAction::Set,
+        operand: ValueParser::String,
+        values: &["FILE"],
+        may_be_negative: false,
+        rivals: &["locate", "line"],
+        help: "Tells which point is nearest to each of a table, and how far it is",
+    },
+    Choice {
+        name: "locate",
+        letter: None,
+        action: ArgAction::Set,
+        operand: ValueParser::String,
+        values: &["FILE"],
+        may_be_negative: false,
+        rivals: &["line"],
+        help: "Tells which face, edge or point each of a table is on, and its height",
+    },
+    Choice {
+        name: "line",
+        letter: None,
+        action: ArgAction::Set,
+        operand: ValueParser::String,
+        values: &["X1", "Y1", "X2", "Y2"],
+        may_be_negative: true,
+        rivals: &[],
+        help: "Tells which edges and points the way between two points meets",
+    },
+    Choice {
+        name: "round",
+        letter: None,
+        action: ArgAction::Set,
+        operand: ValueParser::Signed(0, 30),
+        values: &["DIGITS"],
+        may_be_negative: false,
+        rivals: &[],
+        help: "Rounds to so many digits behind the point; else numbers are taken exactly",
+    },
+    Choice {
+        name: "skip-crossing",
+        letter: None,
+        action: ArgAction::SetTrue,
+        operand: ValueParser::Bool,
+        values: &[],
+        may_be_negative: false,
+        rivals: &[],
+        help: "Leaves out segments that cross those before them",
+    },
+    Choice {
+        name: "keep",
+        letter: None,
+        action: ArgAction::Set,
+        operand: ValueParser::Names(&["inside"]),
+        values: &["PART"],
+        may_be_negative: false,
+        rivals: &[],
+        help: "Keeps the faces that segments close off from outside and from holes",
+    },
+    Choice {
+        name: "size",
+        letter: None,
+        action: ArgAction::Set,
+        operand: ValueParser::Signed(1, 100_000),
+        values: &["PIXELS"],
+        may_be_negative: false,
+        rivals: &[],
+        help: "How wide a picture is",
+    },
+    Choice {
+        name: "quiet",
+        letter: Some('q'),
+        action: ArgAction::SetTrue,
+        operand: ValueParser::Bool,
+        values: &[],
+        may_be_negative: false,
+        rivals: &[],
+        help: "Tells nothing but errors on standard error",
+    },
+];
+
+/// An option with its letter.
+fn with_letter(arg: Arg<'_>, letter: Option<char>) -> Arg<'_> {
+    match letter {
+        Some(letter) => arg.short(letter),
+        None => arg,
+    }
+}
+
+/// An option of the command line.
+fn option_of<'a>(choice: &Choice, alloc: Global) -> Result<Arg<'a>, AllocError> {
+    let arg = Arg::new(alloc, choice.name)
+        .long(choice.name)
+        .action(choice.action)
+        .value_parser(choice.operand)
+        .value_names(choice.values)
+        .allow_negative_numbers(choice.may_be_negative)
+        .help(choice.help);
+    with_letter(arg, choice.letter).conflicts_with_all(choice.rivals)
+}
+
+/// The words that there are.
+pub fn command<'a>(alloc: Global) -> Result<Command<'a>, AllocError> {
+    let about = "Reads points and segments, and writes their constrained Delaunay triangulation.";
+    let file = Arg::new(alloc, "FILE").help("The file that is read; else standard input");
+    let mut command = Command::new(alloc, "mesh")
+        .version("0.1.0")
+        .about(about)
+        .arg(file)?;
+    for choice in &CHOICES {
+        command = command.arg(option_of(choice, alloc)?)?;
+    }
+    Ok(command)
+}
+
+/// What a file's name ends in, behind its last point.
+fn suffix(name: Option<&str>) -> &str {
+    match name {
+        Some(name) => match name.rsplit_once('.') {
+            Some((_, suffix)) => suffix,
+            None => "",
+        },
+        None => "",
+    }
+}
+
+fn source_named(name: &str) -> Source {
+    match name {
+        "node" => Source::Node,
+        "poly" => Source::Poly,
+        "geojson" | "json" => Source::GeoJson,
+        _ => Source::Csv,
+    }
+}
+
+/// The question that is asked, if one is.
+fn question_of<'a>(matches: &ArgMatches<'a>) -> Option<Question<'a>> {
+    if let Some(file) = matches.get_str("nearest") {
+        return Some(Question::Nearest(file));
+    }
+    if let Some(file) = matches.get_str("locate") {
+        return Some(Question::Locate(file));
+    }
+    match matches.get_strs("line") {
+        Some([x1, y1, x2, y2]) => Some(Question::Line(Way {
+            x1: *x1,
+            y1: *y1,
+            x2: *x2,
+            y2: *y2,
+        })),
+        _ => None,
+    }
+}
+
+/// What the words ask for.
+pub fn task_of<'a>(matches: &ArgMatches<'a>) -> Task<'a> {
+    let file = matches.get_str("FILE");
+    let output = matches.get_str("output");
+    let form = matches.get_str("to").unwrap_or(suffix(output));
+    Task {
+        file,
+        source: source_named(matches.get_str("from").unwrap_or(suffix(file))),
+        form: Form::named(form).unwrap_or(Form::Obj),
+        output,
+        lines: matches.get_str("lines"),
+        question: question_of(matches),
+        rounding: match matches.get_one::<u32>("round") {
+            Some(digits) => Rounding::To(digits),
+            None => Rounding::Exact,
+        },
+        skips_crossing: matches.get_flag("skip-crossing"),
+        keeps_inside: matches.contains_id("keep"),
+        is_quiet: matches.get_flag("quiet"),
+        width: matches.get_one::<u32>("size").unwrap_or(800),
+    }
+}
