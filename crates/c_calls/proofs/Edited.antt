@@ -4,11 +4,11 @@
 -- not_added_to_plain, added_to_constrained, is_allowed, is_not_allowed, is_constrained.
 use Rattle.std.proofs.Common.{◌≡◌, ◌<◌, ℕ, Bool, List, length, refl, sym, subst}
 use Rattle.std.specs.Prelude.{Option, Some, Result, Ok, Err, IfErr, IfOk, OnOk, OnErr}
-use Rattle.plane.specs.Fraction.{Point}
-use Rattle.plane.specs.Plain.{Adds, CanAdd, Removes, Unconstrains}
-use Rattle.delaunay_legalization.specs.declared.cdt_edge.CdtEdge.{CdtEdge}
-use Rattle.delaunay_legalization.specs.Constraints.{points_and_constraints_by}
-use Rattle.delaunay_legalization.specs.State.{State, points_and_constraints}
+use Rattle.delaunay_edit.specs.plane.Fraction.{Point}
+use Rattle.delaunay_edit.specs.plane.Plain.{Adds, CanAdd, Removes, Unconstrains}
+use Rattle.delaunay_edit.specs.delaunay_legalization.declared.cdt_edge.CdtEdge.{CdtEdge}
+use Rattle.delaunay_edit.specs.delaunay_legalization.Constraints.{points_and_constraints_by}
+use Rattle.delaunay_edit.specs.delaunay_legalization.State.{State, points_and_constraints}
 use Rattle.delaunay_edit.specs.Constrained.{none, constrained, constraint_edges}
 use Rattle.delaunay_edit.specs.ConstraintEdits.{AddsConstraint}
 use Rattle.delaunay_edit.specs.Edits.{RemovesVertex}

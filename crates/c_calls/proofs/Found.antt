@@ -10,15 +10,15 @@ use Rattle.std.proofs.lemmas.Bool.Decides.{Decides-eqb}
 use Rattle.std.proofs.lemmas.List.Folds.{Any-from_list_any}
 use Rattle.std.proofs.lemmas.Map.Made.{IsDistinct-from_AllPairs}
 use Rattle.std.proofs.lemmas.Map.Steps.{length-le_from_distinct_below}
-use Rattle.half_edge_links.specs.declared.room.TheConstants.{MAX_ELEMENTS}
-use Rattle.half_edge_mesh.specs.Contents.{Contents}
-use Rattle.half_edge_mesh.specs.Left.{each_in}
-use Rattle.plane.specs.Fraction.{Point, Fraction}
-use Rattle.plane.specs.Shape.{InClosedCircle, InClosedRectangle}
-use Rattle.delaunay_core.specs.Place.{place_of}
-use Rattle.delaunay_core.specs.declared.point.Point2.{Point2}
-use Rattle.delaunay_legalization.specs.Shape.{IsTriangulated}
-use Rattle.delaunay_legalization.specs.State.{State}
+use Rattle.delaunay_edit.specs.half_edge_links.declared.room.TheConstants.{MAX_ELEMENTS}
+use Rattle.delaunay_edit.specs.half_edge_mesh.Contents.{Contents}
+use Rattle.delaunay_edit.specs.half_edge_mesh.Left.{each_in}
+use Rattle.delaunay_edit.specs.plane.Fraction.{Point, Fraction}
+use Rattle.delaunay_edit.specs.plane.Shape.{InClosedCircle, InClosedRectangle}
+use Rattle.delaunay_edit.specs.delaunay_core.Place.{place_of}
+use Rattle.delaunay_edit.specs.delaunay_core.declared.point.Point2.{Point2}
+use Rattle.delaunay_edit.specs.delaunay_legalization.Shape.{IsTriangulated}
+use Rattle.delaunay_edit.specs.delaunay_legalization.State.{State}
 use Rattle.delaunay_shapes.specs.InShape.{AreEdgesInShape, AreVerticesInShape}
 use Rattle.spade_delaunay.specs.Found.{FindsEdges, FindsVertices}
 use Rattle.c_calls.specs.declared.shapes.RawCircle.{RawCircle}

@@ -2,9 +2,9 @@
 -- Lemmas: into_plain, into_constrained, inserted_at, refused_at.
 use Rattle.std.proofs.Common.{◌≡◌, ℕ, refl, sym, ap, subst}
 use Rattle.std.specs.Prelude.{Option, Some, Result, Ok, Err, IfOk}
-use Rattle.delaunay_core.specs.declared.math.InsertionError.{InsertionError}
-use Rattle.delaunay_legalization.specs.declared.cdt_edge.CdtEdge.{CdtEdge}
-use Rattle.delaunay_legalization.specs.State.{State}
+use Rattle.delaunay_edit.specs.delaunay_core.declared.math.InsertionError.{InsertionError}
+use Rattle.delaunay_edit.specs.delaunay_legalization.declared.cdt_edge.CdtEdge.{CdtEdge}
+use Rattle.delaunay_edit.specs.delaunay_legalization.State.{State}
 use Rattle.delaunay_edit.specs.Constrained.{none, constraint_edges}
 use Rattle.delaunay_edit.specs.Edits.{InsertsVertex}
 use Rattle.c_calls.specs.declared.raw.NumberedPoint.{NumberedPoint}

@@ -7,17 +7,17 @@ use Rattle.std.specs.List.{range_with_len}
 use Rattle.std.proofs.lemmas.Bool.{cases_eq}
 use Rattle.std.proofs.lemmas.List.FromFn.{get_or-range_with_len, length-range_with_len}
 use Rattle.std.proofs.lemmas.Option.{slice_get-map, slice_get-get_or}
-use Rattle.half_edge_links.proofs.Lists.Rev.{rev-rev}
-use Rattle.half_edge_links.proofs.Sound.Parts.{rev_of_odd}
-use Rattle.half_edge_mesh.specs.Mesh.{origin, rev}
-use Rattle.plane.specs.Fraction.{Point}
-use Rattle.plane.specs.Pairs.{Joins, IsSamePair}
-use Rattle.mesh_embedding.specs.Drawn.{edges_of}
-use Rattle.mesh_embedding.specs.Legal.{pair_at}
-use Rattle.delaunay_legalization.specs.Constraints.{constraints_by, marked_edges}
-use Rattle.delaunay_legalization.specs.Shape.{IsTriangulated}
-use Rattle.delaunay_legalization.specs.State.{State, triangulation_of}
-use Rattle.delaunay_legalization.proofs.WorkList.{pairs_are_edges}
+use Rattle.delaunay_edit.proofs.half_edge_links.Lists.Rev.{rev-rev}
+use Rattle.delaunay_edit.proofs.half_edge_links.Sound.Parts.{rev_of_odd}
+use Rattle.delaunay_edit.specs.half_edge_mesh.Mesh.{origin, rev}
+use Rattle.delaunay_edit.specs.plane.Fraction.{Point}
+use Rattle.delaunay_edit.specs.plane.Pairs.{Joins, IsSamePair}
+use Rattle.delaunay_edit.specs.mesh_embedding.Drawn.{edges_of}
+use Rattle.delaunay_edit.specs.mesh_embedding.Legal.{pair_at}
+use Rattle.delaunay_edit.specs.delaunay_legalization.Constraints.{constraints_by, marked_edges}
+use Rattle.delaunay_edit.specs.delaunay_legalization.Shape.{IsTriangulated}
+use Rattle.delaunay_edit.specs.delaunay_legalization.State.{State, triangulation_of}
+use Rattle.delaunay_edit.proofs.delaunay_legalization_lemmas.WorkList.{pairs_are_edges}
 use Rattle.delaunay_edit.proofs.ConstraintEdges.{joined_by, fixed_if_joined}
 use Rattle.c_calls.specs.declared.raw.RawEdge.{RawEdge}
 use Rattle.c_calls.specs.Links.{IsMarkOf, IsRawEdge}

@@ -4,20 +4,20 @@
 use Rattle.std.proofs.Common.{◌≡◌, ◌*◌, ◌/◌, ◌<◌}
 use Rattle.std.proofs.Common.{ℕ, Bool, true, false, length, refl, inl, inr, sym, subst}
 use Rattle.std.specs.Prelude.{◌↔◌, Contains, Result, Ok, Err}
-use Rattle.half_edge_mesh.specs.Mesh.{origin, rev}
-use Rattle.half_edge_mesh.specs.Contents.{Contents}
-use Rattle.plane.specs.Fraction.{Point}
-use Rattle.plane.specs.Pairs.{Joins, IsSamePair}
-use Rattle.plane.specs.Plain.{Plain as PlainState, Releases}
-use Rattle.plane.proofs.Indexes.{same_joined}
-use Rattle.plane_edits.proofs.Legalization.Flipping.{joins_or_not}
-use Rattle.delaunay_legalization.specs.CdtEdge.{is_constraint}
-use Rattle.delaunay_legalization.specs.declared.cdt_edge.CdtEdge.{CdtEdge}
-use Rattle.delaunay_legalization.specs.Shape.{IsTriangulated}
-use Rattle.delaunay_legalization.specs.State.{State}
-use Rattle.delaunay_legalization.proofs.Questions.{both_ways}
-use Rattle.delaunay_paths.proofs.AddingPieces.{half_ends}
-use Rattle.delaunay_paths.proofs.JoinedPairs as joined
+use Rattle.delaunay_edit.specs.half_edge_mesh.Mesh.{origin, rev}
+use Rattle.delaunay_edit.specs.half_edge_mesh.Contents.{Contents}
+use Rattle.delaunay_edit.specs.plane.Fraction.{Point}
+use Rattle.delaunay_edit.specs.plane.Pairs.{Joins, IsSamePair}
+use Rattle.delaunay_edit.specs.plane.Plain.{Plain as PlainState, Releases}
+use Rattle.delaunay_edit.proofs.plane.Indexes.{same_joined}
+use Rattle.delaunay_edit.proofs.plane_edits.Legalization.Flipping.{joins_or_not}
+use Rattle.delaunay_edit.specs.delaunay_legalization.CdtEdge.{is_constraint}
+use Rattle.delaunay_edit.specs.delaunay_legalization.declared.cdt_edge.CdtEdge.{CdtEdge}
+use Rattle.delaunay_edit.specs.delaunay_legalization.Shape.{IsTriangulated}
+use Rattle.delaunay_edit.specs.delaunay_legalization.State.{State}
+use Rattle.delaunay_edit.proofs.delaunay_legalization_lemmas.Questions.{both_ways}
+use Rattle.delaunay_edit.proofs.delaunay_paths_lemmas.AddingPieces.{half_ends}
+use Rattle.delaunay_edit.proofs.delaunay_paths_lemmas.JoinedPairs as joined
 use Rattle.delaunay_edit.specs.Constrained.{constrained, constraints_of, constraint_edges}
 use Rattle.delaunay_edit.specs.ConstraintEdits.{ReleasesConstraint}
 use Rattle.spade_delaunay.specs.Views.{AreNotJoined}

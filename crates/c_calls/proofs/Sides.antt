@@ -6,17 +6,17 @@ use Rattle.std.specs.Prelude.{Option, Some, slice_get, IsSomeAnd}
 use Rattle.std.proofs.lemmas.Bool.{cases_eq}
 use Rattle.std.proofs.lemmas.Bool.Decides.{nat_tests}
 use Rattle.std.proofs.lemmas.Option.{slice_get-map, slice_get-get_or}
-use Rattle.half_edge_links.proofs.Lists.Rev.{rev-rev, rev_within}
-use Rattle.half_edge_mesh.specs.Mesh.{face, face_edge, next, origin, prev, rev}
-use Rattle.half_edge_mesh.specs.Triangles.{triangle_at, triangles}
-use Rattle.plane.specs.Fraction.{Point}
-use Rattle.plane.specs.Tiling.{Face, face as corners}
-use Rattle.mesh_embedding.specs.Drawn.{corners_of, faces_of}
-use Rattle.mesh_embedding.proofs.OuterEdges.{listed}
-use Rattle.delaunay_legalization.specs.Constraints.{constraints_by, marked_edges}
-use Rattle.delaunay_legalization.specs.Shape.{IsTriangulated}
-use Rattle.delaunay_legalization.specs.State.{State, triangulation_of}
-use Rattle.delaunay_legalization.proofs.MeshParts.{outer_bare}
+use Rattle.delaunay_edit.proofs.half_edge_links.Lists.Rev.{rev-rev, rev_within}
+use Rattle.delaunay_edit.specs.half_edge_mesh.Mesh.{face, face_edge, next, origin, prev, rev}
+use Rattle.delaunay_edit.specs.half_edge_mesh.Triangles.{triangle_at, triangles}
+use Rattle.delaunay_edit.specs.plane.Fraction.{Point}
+use Rattle.delaunay_edit.specs.plane.Tiling.{Face, face as corners}
+use Rattle.delaunay_edit.specs.mesh_embedding.Drawn.{corners_of, faces_of}
+use Rattle.delaunay_edit.proofs.mesh_embedding.OuterEdges.{listed}
+use Rattle.delaunay_edit.specs.delaunay_legalization.Constraints.{constraints_by, marked_edges}
+use Rattle.delaunay_edit.specs.delaunay_legalization.Shape.{IsTriangulated}
+use Rattle.delaunay_edit.specs.delaunay_legalization.State.{State, triangulation_of}
+use Rattle.delaunay_edit.proofs.delaunay_legalization_lemmas.MeshParts.{outer_bare}
 use Rattle.c_calls.specs.declared.raw.RawFace.{RawFace}
 use Rattle.c_calls.specs.declared.statuses.TheConstants.{NONE}
 use Rattle.c_calls.specs.Links.{IsRawFace, IsRawSide}

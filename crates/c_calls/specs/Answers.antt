@@ -1,8 +1,8 @@
 -- What calls on a handle say.
 use Rattle.std.specs.Prelude.{◌≡◌, ◌≢◌, ℕ, nat_eq, [], Option, None, Some, Result, Ok, Err}
 use Rattle.std.specs.Prelude.{◌↔◌, ◌<◌, IfOk, IfSome}
-use Rattle.delaunay_core.specs.declared.math.InsertionError.{InsertionError}
-use Rattle.delaunay_core.specs.declared.math.InsertionError.TheVariants.{
+use Rattle.delaunay_edit.specs.delaunay_core.declared.math.InsertionError.{InsertionError}
+use Rattle.delaunay_edit.specs.delaunay_core.declared.math.InsertionError.TheVariants.{
   TooLarge,
   OutOfMemory,
   OutOfIndexes,

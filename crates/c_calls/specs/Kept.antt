@@ -1,12 +1,13 @@
 -- A triangulation that C keeps, as a contract sees it.
 use Rattle.std.specs.Prelude.{◌≡◌, ℕ, ℤ, Bool, true, false, List, length, Result}
-use Rattle.half_edge_mesh.specs.Mesh.{Mesh}
-use Rattle.plane.specs.Fraction.{Point}
-use Rattle.plane.specs.Plain.{Plain as PlainState}
-use Rattle.plane.specs.Tiling.{Triangulation}
-use Rattle.delaunay_core.specs.Place.{place_of}
-use Rattle.delaunay_core.specs.declared.math.InsertionError.{InsertionError}
-use Rattle.delaunay_legalization.specs.State.{triangulation_of, points_and_constraints}
+use Rattle.delaunay_edit.specs.half_edge_mesh.Mesh.{Mesh}
+use Rattle.delaunay_edit.specs.plane.Fraction.{Point}
+use Rattle.delaunay_edit.specs.plane.Plain.{Plain as PlainState}
+use Rattle.delaunay_edit.specs.plane.Tiling.{Triangulation}
+use Rattle.delaunay_edit.specs.delaunay_core.Place.{place_of}
+use Rattle.delaunay_edit.specs.delaunay_core.declared.math.InsertionError.{InsertionError}
+use Rattle.delaunay_edit.specs.delaunay_legalization.State.{triangulation_of}
+use Rattle.delaunay_edit.specs.delaunay_legalization.State.{points_and_constraints}
 use Rattle.delaunay_edit.specs.Constrained.{none, constrained, constraint_edges}
 use Rattle.delaunay_edit.specs.Edits.{InsertsVertex}
 use Rattle.delaunay_edit.specs.Headline.{IsDelaunay}

@@ -1,14 +1,14 @@
 -- What handles of a mesh say, in the numbers that C is told.
 use Rattle.std.specs.Prelude.{◌≡◌, ◌⊎◌, ◌/◌, ◌≤◌, ℕ, List, length, map, Contains}
 use Rattle.std.specs.Borrow.{Bor}
-use Rattle.half_edge_links.specs.declared.room.TheConstants.{MAX_ELEMENTS}
-use Rattle.half_edge_mesh.specs.Contents.{Contents}
-use Rattle.half_edge_mesh.specs.Mesh.{face, next, prev, origin, rev}
-use Rattle.delaunay_legalization.specs.State.{State, state_of}
-use Rattle.delaunay_lines.specs.declared.intersection.Intersection.{Intersection}
-use Rattle.delaunay_lines.specs.declared.intersection.Intersection.TheVariants.{EdgeIntersection}
-use Rattle.delaunay_lines.specs.declared.intersection.Intersection.TheVariants.{VertexIntersection}
-use Rattle.delaunay_lines.specs.declared.intersection.Intersection.TheVariants.{EdgeOverlap}
+use Rattle.delaunay_edit.specs.half_edge_links.declared.room.TheConstants.{MAX_ELEMENTS}
+use Rattle.delaunay_edit.specs.half_edge_mesh.Contents.{Contents}
+use Rattle.delaunay_edit.specs.half_edge_mesh.Mesh.{face, next, prev, origin, rev}
+use Rattle.delaunay_edit.specs.delaunay_legalization.State.{State, state_of}
+use Rattle.delaunay_edit.specs.delaunay_lines.declared.intersection.Intersection.{Intersection}
+use Rattle.delaunay_edit.specs.delaunay_lines.declared.intersection.Intersection.TheVariants.{EdgeIntersection}
+use Rattle.delaunay_edit.specs.delaunay_lines.declared.intersection.Intersection.TheVariants.{VertexIntersection}
+use Rattle.delaunay_edit.specs.delaunay_lines.declared.intersection.Intersection.TheVariants.{EdgeOverlap}
 use Rattle.c_calls.specs.declared.lines.TheConstants.{AT_VERTEX, ACROSS_EDGE, ALONG_EDGE}
 use Rattle.c_calls.specs.declared.raw.RawEdge.{RawEdge}
 use Rattle.c_calls.specs.declared.raw.RawFace.{RawFace}

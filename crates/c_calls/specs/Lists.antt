@@ -1,13 +1,13 @@
 -- What edits of a triangulation that C keeps make of it by a list of C's, by their statuses.
 use Rattle.std.specs.Prelude.{◌≡◌, ◌≢◌, ◌<◌, [], ◌∷◌, ◌++◌, ℕ, Bool, true, false, List, length, map}
 use Rattle.std.specs.Prelude.{All, Contains, Some, drop, slice_get, take}
-use Rattle.plane.specs.Fraction.{Point}
-use Rattle.plane.specs.Plain.{Adds, CanAdd}
-use Rattle.plane.specs.Tests.{InRange}
-use Rattle.delaunay_core.specs.declared.math.InsertionError.{InsertionError}
-use Rattle.delaunay_core.specs.declared.math.InsertionError.TheVariants.{TooLarge}
-use Rattle.delaunay_legalization.specs.State.{State}
-use Rattle.delaunay_legalization.specs.declared.cdt_edge.CdtEdge.{CdtEdge}
+use Rattle.delaunay_edit.specs.plane.Fraction.{Point}
+use Rattle.delaunay_edit.specs.plane.Plain.{Adds, CanAdd}
+use Rattle.delaunay_edit.specs.plane.Tests.{InRange}
+use Rattle.delaunay_edit.specs.delaunay_core.declared.math.InsertionError.{InsertionError}
+use Rattle.delaunay_edit.specs.delaunay_core.declared.math.InsertionError.TheVariants.{TooLarge}
+use Rattle.delaunay_edit.specs.delaunay_legalization.State.{State}
+use Rattle.delaunay_edit.specs.delaunay_legalization.declared.cdt_edge.CdtEdge.{CdtEdge}
 use Rattle.delaunay_edit.specs.Constrained.{none, constrained, constraint_edges}
 use Rattle.delaunay_bulk.specs.declared.error.BulkInsertionError.{BulkInsertionError}
 use Rattle.delaunay_bulk.specs.declared.error.BulkInsertionError.TheVariants.{Vertex, NoRoom}

@@ -2,17 +2,17 @@
 use Rattle.std.specs.Prelude.{◌≡◌, ◌⊎◌, ◌-◌, ◌/◌, ◌<◌, ◌<ℤ◌, ◌≤ℤ◌, ◌==◌, if◌then◌else◌}
 use Rattle.std.specs.Prelude.{ℕ, ℤ, pos, List, length, map, Some, slice_get, IsSomeAnd}
 use Rattle.std.specs.List.{AllZip}
-use Rattle.half_edge_mesh.specs.Mesh.{Mesh}
-use Rattle.plane.specs.Fraction.{Point, Fraction, whole}
-use Rattle.plane.specs.Line.{Item, at_vertex, across, along, IsLineList}
-use Rattle.plane.specs.Pairs.{Joins}
-use Rattle.plane.specs.Shape.{IsNearest, InClosedCircle, InClosedRectangle}
-use Rattle.plane.specs.Tiling.{Face, Triangulation, HasFace, face}
-use Rattle.delaunay_legalization.specs.State.{State, triangulation_of}
+use Rattle.delaunay_edit.specs.half_edge_mesh.Mesh.{Mesh}
+use Rattle.delaunay_edit.specs.plane.Fraction.{Point, Fraction, whole}
+use Rattle.delaunay_edit.specs.plane.Line.{Item, at_vertex, across, along, IsLineList}
+use Rattle.delaunay_edit.specs.plane.Pairs.{Joins}
+use Rattle.delaunay_edit.specs.plane.Shape.{IsNearest, InClosedCircle, InClosedRectangle}
+use Rattle.delaunay_edit.specs.plane.Tiling.{Face, Triangulation, HasFace, face}
+use Rattle.delaunay_edit.specs.delaunay_legalization.State.{State, triangulation_of}
 use Rattle.delaunay_shapes.specs.InShape.{AreEdgesInShape, AreVerticesInShape}
 use Rattle.spade_delaunay.specs.Elements.{FindsLocation}
-use Rattle.delaunay_location.specs.declared.position_in_triangulation.PositionInTriangulation.{PositionInTriangulation}
-use Rattle.delaunay_location.specs.declared.position_in_triangulation.PositionInTriangulation.TheVariants.{
+use Rattle.delaunay_edit.specs.delaunay_location.declared.position_in_triangulation.PositionInTriangulation.{PositionInTriangulation}
+use Rattle.delaunay_edit.specs.delaunay_location.declared.position_in_triangulation.PositionInTriangulation.TheVariants.{
   OnVertex,
   OnEdge,
   OnFace,

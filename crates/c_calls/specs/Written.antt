@@ -1,8 +1,8 @@
 -- What calls leave in the lists that C hands in.
 use Rattle.std.specs.Prelude.{◌≡◌, ◌<◌, ◌++◌, if◌then◌else◌, nat_lt}
 use Rattle.std.specs.Prelude.{ℕ, List, length, take, drop, slice_get, IsSomeAnd, All}
-use Rattle.plane.specs.Fraction.{Point}
-use Rattle.plane.specs.Tests.{InRange}
+use Rattle.delaunay_edit.specs.plane.Fraction.{Point}
+use Rattle.delaunay_edit.specs.plane.Tests.{InRange}
 use Rattle.c_calls.specs.declared.raw.RawPoint.{RawPoint}
 use Rattle.c_calls.specs.declared.statuses.TheConstants.{WELL, TOO_LARGE, TOO_SHORT}
 

@@ -1,10 +1,10 @@
 //! What a segment meets.
 ghost use Rattle.std.specs.Prelude.{◌≡◌, ◌↔◌, List, IsTrue};
-ghost use Rattle.plane.specs.Line.{Item};
-ghost use Rattle.delaunay_legalization.specs.Constraints.{constraints_by};
-ghost use Rattle.delaunay_legalization.specs.Shape.{IsTriangulated};
-ghost use Rattle.delaunay_legalization.specs.State.{state_of, triangulation_of};
-ghost use Rattle.delaunay_lines.specs.Walk.{AreLeft, IsReady};
+ghost use Rattle.delaunay_edit.specs.plane.Line.{Item};
+ghost use Rattle.delaunay_edit.specs.delaunay_legalization.Constraints.{constraints_by};
+ghost use Rattle.delaunay_edit.specs.delaunay_legalization.Shape.{IsTriangulated};
+ghost use Rattle.delaunay_edit.specs.delaunay_legalization.State.{state_of, triangulation_of};
+ghost use Rattle.delaunay_edit.specs.delaunay_lines.Walk.{AreLeft, IsReady};
 ghost use Rattle.c_calls.specs.Kept.{kept_drawing, kept_place, kept_state};
 ghost use Rattle.c_calls.specs.Links.{IsMetEdge, IsRawMeeting};
 ghost use Rattle.c_calls.specs.Queries.{FindsLine, MayAskLine, TellsItems};

@@ -1,6 +1,6 @@
 //! Vertices and edges in circles and rectangles.
 ghost use Rattle.std.specs.Prelude.{◌≡◌, MatchOption};
-ghost use Rattle.delaunay_legalization.specs.State.{triangulation_of};
+ghost use Rattle.delaunay_edit.specs.delaunay_legalization.State.{triangulation_of};
 ghost use Rattle.spade_delaunay.specs.Found.{edges_left, vertices_left};
 ghost use Rattle.c_calls.specs.Kept.{kept_drawing, kept_links, kept_place};
 ghost use Rattle.c_calls.specs.Links.{AreFew, indexes_in};

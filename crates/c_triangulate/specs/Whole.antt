@@ -1,9 +1,9 @@
 -- What one call makes of points and segments between them.
 use Rattle.std.specs.Prelude.{◌≡◌, ◌⊎◌, ◌<◌, [], ℕ, ℤ, List, length, map, take, IsTrue, IsSomeAnd}
 use Rattle.std.specs.Prelude.{slice_get, slice_index}
-use Rattle.plane.specs.Tiling.{Triangulation}
-use Rattle.delaunay_core.specs.declared.point.Point2.{Point2}
-use Rattle.delaunay_legalization.specs.State.{triangulation_of}
+use Rattle.delaunay_edit.specs.plane.Tiling.{Triangulation}
+use Rattle.delaunay_edit.specs.delaunay_core.declared.point.Point2.{Point2}
+use Rattle.delaunay_edit.specs.delaunay_legalization.State.{triangulation_of}
 use Rattle.delaunay_edit.specs.Constrained.{constraints_of}
 use Rattle.drawing_faces.specs.declared.drawn.DrawnMesh.{DrawnMesh}
 use Rattle.drawing_faces.specs.declared.edits.DrawnSegment.{DrawnSegment}

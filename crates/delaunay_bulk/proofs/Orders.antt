@@ -8,7 +8,7 @@ use Rattle.std.proofs.lemmas.List.Elements.{All-push, All-weaker}
 use Rattle.std.proofs.lemmas.List.Elements.{Contains-append_left, Contains-push}
 use Rattle.std.proofs.lemmas.List.Sorted.{All-permutation, Contains-permutation}
 use Rattle.std.proofs.lemmas.List.Sorted.{length_permutation}
-use Rattle.plane.proofs.Indexes.{below_or_last}
+use Rattle.delaunay_interface.proofs.plane.Indexes.{below_or_last}
 use Rattle.delaunay_bulk.specs.Order.{IsOrder}
 
 -- there is no place in an empty list

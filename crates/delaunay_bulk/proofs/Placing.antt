@@ -13,7 +13,7 @@ use Rattle.std.proofs.lemmas.List.Elements.{All-map, All-push, All-weaker}
 use Rattle.std.proofs.lemmas.List.Sorted.{IsNonDecreasingBy-push}
 use Rattle.std.proofs.lemmas.List.Sorted.{IsPermutation-map, All-permutation, ties_still_rise}
 use Rattle.std.proofs.lemmas.Option.{slice_get-get_or}
-use Rattle.plane.specs.Fraction.{Point}
+use Rattle.delaunay_interface.specs.plane.Fraction.{Point}
 use Rattle.delaunay_bulk.specs.Curve.{key_at}
 use Rattle.delaunay_bulk.specs.Order.{IsListed, IsOrder, entry_of}
 use Rattle.delaunay_bulk.specs.declared.order.Placed.{Placed}

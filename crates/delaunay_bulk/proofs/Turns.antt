@@ -7,11 +7,11 @@ use Rattle.std.proofs.Common.{sym, ap, subst, refl, arith, inl, append_assoc, ap
 use Rattle.std.specs.Prelude.{All, slice_get, slice_set}
 use Rattle.std.proofs.lemmas.List.Elements.{All-head, All-rest}
 use Rattle.std.proofs.lemmas.Option.{slice_get_within, get_or_from_slice_get}
-use Rattle.plane.specs.Fraction.{Point}
-use Rattle.plane.specs.Plain.{IsSameState, Plain, Run, insert}
-use Rattle.plane.specs.Tests.{InRange}
-use Rattle.delaunay_legalization.specs.Constraints.{points_and_constraints_by}
-use Rattle.delaunay_legalization.specs.State.{State}
+use Rattle.delaunay_interface.specs.plane.Fraction.{Point}
+use Rattle.delaunay_interface.specs.plane.Plain.{IsSameState, Plain, Run, insert}
+use Rattle.delaunay_interface.specs.plane.Tests.{InRange}
+use Rattle.delaunay_interface.specs.delaunay_legalization.Constraints.{points_and_constraints_by}
+use Rattle.delaunay_interface.specs.delaunay_legalization.State.{State}
 use Rattle.delaunay_interface.proofs.Stepping.{inserted_grows, inserted_here}
 use Rattle.delaunay_bulk.specs.declared.error.BulkInsertionError.{BulkInsertionError}
 use Rattle.delaunay_bulk.specs.Order.{IsListed}

@@ -1,14 +1,14 @@
 -- What insertions of many vertices make of a triangulation.
 use Rattle.std.specs.Prelude.{◌≡◌, ◌≢◌, ◌⊎◌, ◌<◌, [], ◌∷◌, ◌++◌, ℕ, List, length, map}
 use Rattle.std.specs.Prelude.{Option, None, Some, Result, Ok, Err, IfOk, IfErr, All, slice_get}
-use Rattle.plane.specs.Fraction.{Point}
-use Rattle.plane.specs.Plain.{Run, insert}
-use Rattle.plane.specs.Tests.{InRange}
-use Rattle.delaunay_core.specs.declared.math.InsertionError.{InsertionError}
-use Rattle.delaunay_core.specs.declared.math.InsertionError.TheVariants.{TooLarge}
-use Rattle.delaunay_legalization.specs.Constraints.{points_and_constraints_by}
-use Rattle.delaunay_legalization.specs.Known.{point_at}
-use Rattle.delaunay_legalization.specs.State.{State}
+use Rattle.delaunay_interface.specs.plane.Fraction.{Point}
+use Rattle.delaunay_interface.specs.plane.Plain.{Run, insert}
+use Rattle.delaunay_interface.specs.plane.Tests.{InRange}
+use Rattle.delaunay_interface.specs.delaunay_core.declared.math.InsertionError.{InsertionError}
+use Rattle.delaunay_interface.specs.delaunay_core.declared.math.InsertionError.TheVariants.{TooLarge}
+use Rattle.delaunay_interface.specs.delaunay_legalization.Constraints.{points_and_constraints_by}
+use Rattle.delaunay_interface.specs.delaunay_legalization.Known.{point_at}
+use Rattle.delaunay_interface.specs.delaunay_legalization.State.{State}
 use Rattle.delaunay_interface.specs.Edits.{InsertsVertex}
 use Rattle.delaunay_bulk.specs.declared.error.BulkInsertionError.{BulkInsertionError}
 use Rattle.delaunay_bulk.specs.declared.error.BulkInsertionError.TheVariants.{Vertex, NoRoom}

@@ -1,8 +1,8 @@
 -- The vertices of a list in the order of their insertion.
 use Rattle.std.specs.Prelude.{◌≡◌, ◌<◌, ◌≤◌, ℕ, List, length, map, All, AllPairs, Contains}
 use Rattle.std.specs.Prelude.{Some, slice_get, take}
-use Rattle.plane.specs.Fraction.{Point}
-use Rattle.plane.specs.Tests.{InRange}
+use Rattle.delaunay_interface.specs.plane.Fraction.{Point}
+use Rattle.delaunay_interface.specs.plane.Tests.{InRange}
 use Rattle.delaunay_bulk.specs.declared.order.Placed.{Placed}
 
 -- these are the places of a list of so many, each of them once

@@ -1,16 +1,16 @@
 //! Vertices that are inserted one after another, as the caller asks.
 ghost use Rattle.std.specs.Prelude.{◌≡◌, ◌↔◌, [], length, map, All, IfErr, IfOk, IsTrue, OnOk};
-ghost use Rattle.plane.specs.Tests.{InRange};
+ghost use Rattle.delaunay_interface.specs.plane.Tests.{InRange};
 ghost use Rattle.delaunay_interface.specs.Headline.{AreSites, IsDelaunay};
 ghost use Rattle.delaunay_bulk.specs.Order.{IsListed};
 ghost use Rattle.delaunay_bulk.specs.Bulk.{InsertsNext, RefusesList};
 
 use crate::error::BulkInsertionError;
 use crate::order::{Placed, along_curve, first_too_large};
-use delaunay_core::math::{InsertionError, PlaneTests};
-use delaunay_core::point::HasPosition;
 use delaunay_interface::Triangulation;
-use half_edge_mesh::FixedVertexHandle;
+use delaunay_interface::delaunay_core::math::{InsertionError, PlaneTests};
+use delaunay_interface::delaunay_core::point::HasPosition;
+use delaunay_interface::half_edge_mesh::FixedVertexHandle;
 use std::marker::Model;
 use std::vec::IntoIter;
 

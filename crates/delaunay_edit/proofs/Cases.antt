@@ -1,28 +1,28 @@
 -- Where a position is, for the vertex that comes there.
 -- Lemmas: vertex_of_handle, edge_of_handle, past_if_not_left, bare_if_past, not_on_vertex.
 use Rattle.std.proofs.Common.{◌≡◌, ◌⊎◌, ℕ, ◌<◌, ◌≤◌, length, map, sym, subst, inl, inr}
-use Rattle.half_edge_mesh.specs.Mesh.{origin, rev}
-use Rattle.half_edge_mesh.specs.Contents.{Contents}
-use Rattle.plane.specs.Fraction.{Point, whole}
-use Rattle.plane.specs.Pairs.{place}
-use Rattle.plane.specs.Side.{TurnsLeft}
-use Rattle.plane.specs.Location.{IsPast}
-use Rattle.plane_tiling.specs.Local.{IsMesh, alone}
-use Rattle.plane_tiling.proofs.Places as P
-use Rattle.plane_tiling.proofs.Tiles.{by_signs, point_at}
-use Rattle.mesh_embedding.specs.Drawn.{faces_of, outer_of}
-use Rattle.delaunay_location.specs.declared.position_in_triangulation.PositionInTriangulation.{PositionInTriangulation}
-use Rattle.delaunay_location.specs.declared.position_in_triangulation.PositionInTriangulation.TheVariants.{
+use Rattle.delaunay_paths.specs.half_edge_mesh.Mesh.{origin, rev}
+use Rattle.delaunay_paths.specs.half_edge_mesh.Contents.{Contents}
+use Rattle.delaunay_paths.specs.plane.Fraction.{Point, whole}
+use Rattle.delaunay_paths.specs.plane.Pairs.{place}
+use Rattle.delaunay_paths.specs.plane.Side.{TurnsLeft}
+use Rattle.delaunay_paths.specs.plane.Location.{IsPast}
+use Rattle.delaunay_paths.specs.plane_tiling.Local.{IsMesh, alone}
+use Rattle.delaunay_paths.proofs.plane_tiling.Places as P
+use Rattle.delaunay_paths.proofs.plane_tiling.Tiles.{by_signs, point_at}
+use Rattle.delaunay_paths.specs.mesh_embedding.Drawn.{faces_of, outer_of}
+use Rattle.delaunay_paths.specs.delaunay_location.declared.position_in_triangulation.PositionInTriangulation.{PositionInTriangulation}
+use Rattle.delaunay_paths.specs.delaunay_location.declared.position_in_triangulation.PositionInTriangulation.TheVariants.{
   OnVertex,
   OnFace,
   OutsideOfConvexHull,
 }
 use Rattle.delaunay_edit.specs.Location.{Locates, IsApart, IsLeftOfPlace}
-use Rattle.delaunay_legalization.specs.Shape.{IsTriangulated}
-use Rattle.delaunay_legalization.specs.State.{state_of}
-use Rattle.delaunay_legalization.proofs.MeshParts.{mesh_edge}
+use Rattle.delaunay_paths.specs.delaunay_legalization.Shape.{IsTriangulated}
+use Rattle.delaunay_paths.specs.delaunay_legalization.State.{state_of}
+use Rattle.delaunay_paths.proofs.delaunay_legalization_lemmas.MeshParts.{mesh_edge}
 use Rattle.delaunay_insertion.proofs.EdgeSides.{vertex_of_face, no_listed_face}
-use Rattle.delaunay_location.proofs.Locating.{same_point}
+use Rattle.delaunay_paths.proofs.delaunay_location_lemmas.Locating.{same_point}
 
 module _ {V D U F : Type 0} (at : V → Point) (c : Contents V D U F)
     (kept : IsTriangulated at (state_of c)) where

@@ -6,11 +6,12 @@ use Rattle.std.specs.Prelude.{All}
 use Rattle.std.specs.List.{AllZip}
 use Rattle.std.proofs.lemmas.List.{length-map, get_or-map}
 use Rattle.std.proofs.lemmas.List.Elements.{All-head, All-map, All-tail}
-use Rattle.plane.specs.Fraction.{Point}
-use Rattle.plane.specs.Tests.{InRange}
-use Rattle.delaunay_legalization.specs.Constraints.{constraints_by, marked_edges, marked_from}
-use Rattle.delaunay_legalization.specs.Shape.{IsDelaunayTriangulation}
-use Rattle.delaunay_legalization.specs.State.{State}
+use Rattle.delaunay_paths.specs.plane.Fraction.{Point}
+use Rattle.delaunay_paths.specs.plane.Tests.{InRange}
+use Rattle.delaunay_paths.specs.delaunay_legalization.Constraints.{constraints_by, marked_edges}
+use Rattle.delaunay_paths.specs.delaunay_legalization.Constraints.{marked_from}
+use Rattle.delaunay_paths.specs.delaunay_legalization.Shape.{IsDelaunayTriangulation}
+use Rattle.delaunay_paths.specs.delaunay_legalization.State.{State}
 use Rattle.delaunay_edit.specs.Counting.{IsCounted}
 use Rattle.delaunay_edit.specs.Storage.{IsCopy, KeepsImage}
 

@@ -6,23 +6,25 @@ use Rattle.std.proofs.Common.{ℕ, suc, Bool, List, length, map, refl, sym}
 use Rattle.std.proofs.Common.{ap, ◌∙◌, subst, inl, inr, arith}
 use Rattle.std.specs.Prelude.{Contains}
 use Rattle.std.specs.Borrow.{Bor}
-use Rattle.half_edge_mesh.specs.Mesh.{origin, rev}
-use Rattle.half_edge_mesh.specs.Contents.{Contents}
-use Rattle.half_edge_mesh.specs.Rounds.{GivesRound}
-use Rattle.plane.specs.Fraction.{Point}
-use Rattle.plane.specs.Pairs.{IsSamePair, Joins}
-use Rattle.plane.proofs.Indexes.{same_joined, turned_join}
-use Rattle.plane_tiling.proofs.Totals.{Contains-head, Contains-later, Contains-none, Contains-cases}
-use Rattle.plane_edits.proofs.LocalMesh.Changes.{IsOnce, once_head}
-use Rattle.mesh_embedding.proofs.MeshLegal.{own_indexes}
-use Rattle.mesh_embedding.proofs.WorkLists.{at_most_so_many}
-use Rattle.mesh_embedding.specs.Stays.{KeepsIndexes}
-use Rattle.delaunay_legalization.specs.Constraints.{marked_edges, constraints_by}
-use Rattle.delaunay_legalization.specs.Shape.{IsTriangulated}
-use Rattle.delaunay_legalization.specs.State.{state_of}
-use Rattle.delaunay_legalization.proofs.ConstraintEdges.{constraints_are_edges}
-use Rattle.delaunay_legalization.proofs.Rounds.{IsLeftOfRound, IsWholeRound}
-use Rattle.delaunay_legalization.proofs.Rounds.{whole_round, one_less_left, next_left, none_is_left}
+use Rattle.delaunay_paths.specs.half_edge_mesh.Mesh.{origin, rev}
+use Rattle.delaunay_paths.specs.half_edge_mesh.Contents.{Contents}
+use Rattle.delaunay_paths.specs.half_edge_mesh.Rounds.{GivesRound}
+use Rattle.delaunay_paths.specs.plane.Fraction.{Point}
+use Rattle.delaunay_paths.specs.plane.Pairs.{IsSamePair, Joins}
+use Rattle.delaunay_paths.proofs.plane.Indexes.{same_joined, turned_join}
+use Rattle.delaunay_paths.proofs.plane_tiling.Totals.{Contains-head, Contains-later, Contains-none}
+use Rattle.delaunay_paths.proofs.plane_tiling.Totals.{Contains-cases}
+use Rattle.delaunay_paths.proofs.plane_edits.LocalMesh.Changes.{IsOnce, once_head}
+use Rattle.delaunay_paths.proofs.mesh_embedding.MeshLegal.{own_indexes}
+use Rattle.delaunay_paths.proofs.mesh_embedding.WorkLists.{at_most_so_many}
+use Rattle.delaunay_paths.specs.mesh_embedding.Stays.{KeepsIndexes}
+use Rattle.delaunay_paths.specs.delaunay_legalization.Constraints.{marked_edges, constraints_by}
+use Rattle.delaunay_paths.specs.delaunay_legalization.Shape.{IsTriangulated}
+use Rattle.delaunay_paths.specs.delaunay_legalization.State.{state_of}
+use Rattle.delaunay_paths.proofs.delaunay_legalization_lemmas.ConstraintEdges.{constraints_are_edges}
+use Rattle.delaunay_paths.proofs.delaunay_legalization_lemmas.Rounds.{IsLeftOfRound, IsWholeRound}
+use Rattle.delaunay_paths.proofs.delaunay_legalization_lemmas.Rounds.{whole_round, one_less_left}
+use Rattle.delaunay_paths.proofs.delaunay_legalization_lemmas.Rounds.{next_left, none_is_left}
 use Rattle.delaunay_paths.proofs.JoinedPairs.{edge_joins}
 use Rattle.delaunay_edit.specs.Counting.{EndsAt, HasPairs}
 use Rattle.delaunay_edit.proofs.Edges.{joins_edge}

@@ -9,38 +9,39 @@ use Rattle.std.proofs.Common.{arith}
 use Rattle.std.specs.Prelude.{ℤ, Contains}
 use Rattle.std.specs.Borrow.{Bor}
 use Rattle.std.proofs.lemmas.List.Elements.{All-map, Contains-append_left, Contains-push_cases}
-use Rattle.half_edge_views.specs.declared.edge.DirectedEdgeHandle.{DirectedEdgeHandle}
-use Rattle.half_edge_views.specs.declared.vertex.VertexHandle.{VertexHandle}
-use Rattle.half_edge_mesh.specs.Contents.{Contents}
-use Rattle.half_edge_mesh.specs.Mesh.{origin, rev}
-use Rattle.half_edge_links.proofs.Lists.Rev.{rev_within}
-use Rattle.plane.specs.Fraction.{Point, IsSame, OnSegment, WithinSegment}
-use Rattle.plane.specs.Line.{Item, IsLineList, Meets, across, along, at_vertex}
-use Rattle.plane.specs.Pairs.{Joins, IsIndex, place}
-use Rattle.plane.specs.Tests.{InRange}
-use Rattle.plane.specs.Tiling.{IsEdge, Triangulation}
-use Rattle.plane.proofs.Indexes.{turned_join}
-use Rattle.plane_segments.specs.Constraints.{AreNextOn, ArePlacedApart}
-use Rattle.plane_tiling.proofs.Locations.{no_edges_cross}
-use Rattle.plane_tiling.proofs.Totals.{Contains-none}
-use Rattle.mesh_embedding.specs.Drawn.{drawn, edges_of, faces_of, outer_of}
-use Rattle.mesh_embedding.proofs.MeshLegal.{IsListedEdge, joins_directed, listed_edge, own_indexes}
-use Rattle.mesh_embedding.proofs.OwnEdges.{own_edges}
-use Rattle.mesh_embedding.proofs.WorkLists.{contains_last}
-use Rattle.delaunay_legalization.specs.Constraints.{constraints_by, marked_edges}
-use Rattle.delaunay_legalization.specs.Known.{point_at}
-use Rattle.delaunay_legalization.specs.Shape.{IsTriangulated}
-use Rattle.delaunay_legalization.specs.State.{State, state_of}
-use Rattle.delaunay_legalization.proofs.ConstraintEdges.{constraints_are_edges}
-use Rattle.delaunay_legalization.proofs.Constraints.{fixed_within}
-use Rattle.delaunay_lines.specs.declared.intersection.Intersection.{Intersection}
-use Rattle.delaunay_lines.specs.declared.intersection.Intersection.TheVariants.{EdgeIntersection}
-use Rattle.delaunay_lines.specs.declared.intersection.Intersection.TheVariants.{VertexIntersection}
-use Rattle.delaunay_lines.specs.declared.iterator.LineIntersectionIterator.{LineIntersectionIterator}
-use Rattle.delaunay_lines.specs.Conflicts.{HasNoConflict, IsConflict}
-use Rattle.delaunay_lines.specs.Items.{item_in, mesh_of}
-use Rattle.delaunay_lines.specs.Walk.{GivesNext, IsReady, WalksLine}
-use Rattle.delaunay_lines.proofs.EitherWay.{crossed_either_way}
+use Rattle.delaunay_paths.specs.half_edge_views.declared.edge.DirectedEdgeHandle.{DirectedEdgeHandle}
+use Rattle.delaunay_paths.specs.half_edge_views.declared.vertex.VertexHandle.{VertexHandle}
+use Rattle.delaunay_paths.specs.half_edge_mesh.Contents.{Contents}
+use Rattle.delaunay_paths.specs.half_edge_mesh.Mesh.{origin, rev}
+use Rattle.delaunay_paths.proofs.half_edge_links.Lists.Rev.{rev_within}
+use Rattle.delaunay_paths.specs.plane.Fraction.{Point, IsSame, OnSegment, WithinSegment}
+use Rattle.delaunay_paths.specs.plane.Line.{Item, IsLineList, Meets, across, along, at_vertex}
+use Rattle.delaunay_paths.specs.plane.Pairs.{Joins, IsIndex, place}
+use Rattle.delaunay_paths.specs.plane.Tests.{InRange}
+use Rattle.delaunay_paths.specs.plane.Tiling.{IsEdge, Triangulation}
+use Rattle.delaunay_paths.proofs.plane.Indexes.{turned_join}
+use Rattle.delaunay_paths.specs.plane_segments.Constraints.{AreNextOn, ArePlacedApart}
+use Rattle.delaunay_paths.proofs.plane_tiling.Locations.{no_edges_cross}
+use Rattle.delaunay_paths.proofs.plane_tiling.Totals.{Contains-none}
+use Rattle.delaunay_paths.specs.mesh_embedding.Drawn.{drawn, edges_of, faces_of, outer_of}
+use Rattle.delaunay_paths.proofs.mesh_embedding.MeshLegal.{IsListedEdge, joins_directed}
+use Rattle.delaunay_paths.proofs.mesh_embedding.MeshLegal.{listed_edge, own_indexes}
+use Rattle.delaunay_paths.proofs.mesh_embedding.OwnEdges.{own_edges}
+use Rattle.delaunay_paths.proofs.mesh_embedding.WorkLists.{contains_last}
+use Rattle.delaunay_paths.specs.delaunay_legalization.Constraints.{constraints_by, marked_edges}
+use Rattle.delaunay_paths.specs.delaunay_legalization.Known.{point_at}
+use Rattle.delaunay_paths.specs.delaunay_legalization.Shape.{IsTriangulated}
+use Rattle.delaunay_paths.specs.delaunay_legalization.State.{State, state_of}
+use Rattle.delaunay_paths.proofs.delaunay_legalization_lemmas.ConstraintEdges.{constraints_are_edges}
+use Rattle.delaunay_paths.proofs.delaunay_legalization_lemmas.Constraints.{fixed_within}
+use Rattle.delaunay_paths.specs.delaunay_lines.declared.intersection.Intersection.{Intersection}
+use Rattle.delaunay_paths.specs.delaunay_lines.declared.intersection.Intersection.TheVariants.{EdgeIntersection}
+use Rattle.delaunay_paths.specs.delaunay_lines.declared.intersection.Intersection.TheVariants.{VertexIntersection}
+use Rattle.delaunay_paths.specs.delaunay_lines.declared.iterator.LineIntersectionIterator.{LineIntersectionIterator}
+use Rattle.delaunay_paths.specs.delaunay_lines.Conflicts.{HasNoConflict, IsConflict}
+use Rattle.delaunay_paths.specs.delaunay_lines.Items.{item_in, mesh_of}
+use Rattle.delaunay_paths.specs.delaunay_lines.Walk.{GivesNext, IsReady, WalksLine}
+use Rattle.delaunay_paths.proofs.delaunay_lines_lemmas.EitherWay.{crossed_either_way}
 use Rattle.delaunay_paths.specs.Adding.{CanAddPath}
 use Rattle.delaunay_paths.proofs.InTheWay.{meets_is_cross}
 use Rattle.delaunay_paths.proofs.NextVertex.{two}

@@ -4,22 +4,24 @@
 use Rattle.std.proofs.Common.{◌≡◌, ◌∙◌, ◌<◌, []}
 use Rattle.std.proofs.Common.{ℕ, Bool, List, length, map, sym, ap, subst, slice_set}
 use Rattle.std.proofs.Common.{None, Some, refl, arith}
-use Rattle.half_edge_mesh.specs.Mesh.{IsValidMesh, empty}
-use Rattle.half_edge_mesh.specs.Contents.{Contents}
-use Rattle.plane.specs.Fraction.{Point}
-use Rattle.plane.specs.Tiling.{IsFace}
-use Rattle.plane.specs.Delaunay.{IsConstrainedDelaunay, IsLocallyDelaunay, IsStrictlyEmpty}
-use Rattle.plane_delaunay.proofs.Circles.EmptyCircles.{local_gives_constrained_delaunay}
-use Rattle.plane_delaunay.proofs.Circles.EmptyCircles.{strictly_empty_is_face}
-use Rattle.mesh_embedding.specs.Drawn.{drawn, faces_of}
-use Rattle.mesh_embedding.specs.Legal.{pairs_at}
-use Rattle.mesh_embedding.proofs.MeshLegal.{line_has_none}
-use Rattle.delaunay_legalization.specs.Constraints.{marked_edges, constraint_pairs, constraints_by}
-use Rattle.delaunay_legalization.specs.Known.{point_at}
-use Rattle.delaunay_legalization.specs.Shape.{IsDelaunayTriangulation}
-use Rattle.delaunay_legalization.specs.State.{State, state_of, triangulation_of}
-use Rattle.delaunay_legalization.proofs.ConstraintEdges.{constraints_are_edges}
-use Rattle.delaunay_legalization.proofs.Shapes.{laid_out_tiles, kept_empty}
+use Rattle.delaunay_paths.specs.half_edge_mesh.Mesh.{IsValidMesh, empty}
+use Rattle.delaunay_paths.specs.half_edge_mesh.Contents.{Contents}
+use Rattle.delaunay_paths.specs.plane.Fraction.{Point}
+use Rattle.delaunay_paths.specs.plane.Tiling.{IsFace}
+use Rattle.delaunay_paths.specs.plane.Delaunay.{IsConstrainedDelaunay, IsLocallyDelaunay}
+use Rattle.delaunay_paths.specs.plane.Delaunay.{IsStrictlyEmpty}
+use Rattle.delaunay_paths.proofs.plane_delaunay.Circles.EmptyCircles.{local_gives_constrained_delaunay}
+use Rattle.delaunay_paths.proofs.plane_delaunay.Circles.EmptyCircles.{strictly_empty_is_face}
+use Rattle.delaunay_paths.specs.mesh_embedding.Drawn.{drawn, faces_of}
+use Rattle.delaunay_paths.specs.mesh_embedding.Legal.{pairs_at}
+use Rattle.delaunay_paths.proofs.mesh_embedding.MeshLegal.{line_has_none}
+use Rattle.delaunay_paths.specs.delaunay_legalization.Constraints.{marked_edges, constraint_pairs}
+use Rattle.delaunay_paths.specs.delaunay_legalization.Constraints.{constraints_by}
+use Rattle.delaunay_paths.specs.delaunay_legalization.Known.{point_at}
+use Rattle.delaunay_paths.specs.delaunay_legalization.Shape.{IsDelaunayTriangulation}
+use Rattle.delaunay_paths.specs.delaunay_legalization.State.{State, state_of, triangulation_of}
+use Rattle.delaunay_paths.proofs.delaunay_legalization_lemmas.ConstraintEdges.{constraints_are_edges}
+use Rattle.delaunay_paths.proofs.delaunay_legalization_lemmas.Shapes.{laid_out_tiles, kept_empty}
 use Rattle.delaunay_edit.specs.Counting.{IsCounted}
 use Rattle.delaunay_edit.proofs.Overwriting.{kept_overwritten, same_places}
 

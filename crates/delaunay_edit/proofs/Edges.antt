@@ -1,3 +1,3 @@
 -- The directed edges of a mesh and the pairs of vertices that its edges join, passed on.
-pub use Rattle.mesh_embedding.proofs.EdgePairs.{Contains-map, Contains-map_from, edge_joins}
-pub use Rattle.mesh_embedding.proofs.EdgePairs.{joins_edge}
+pub use Rattle.delaunay_paths.proofs.mesh_embedding.EdgePairs.{Contains-map, Contains-map_from}
+pub use Rattle.delaunay_paths.proofs.mesh_embedding.EdgePairs.{edge_joins, joins_edge}

@@ -5,13 +5,13 @@ use Rattle.std.proofs.Common.{ℕ, suc, Bool, length, refl, sym, ap, subst, inl,
 use Rattle.std.specs.Prelude.{nat_eq, cond}
 use Rattle.std.proofs.lemmas.Bool.{cases_eq}
 use Rattle.std.proofs.lemmas.Bool.Decides.{eqb_tells}
-use Rattle.plane.specs.Fraction.{Point, whole}
-use Rattle.plane.specs.Pairs.{Joins, IsSamePair, EachPairOnce, place}
-use Rattle.plane.specs.Plain.{Plain, Adds, AreNeighboursOn, Carries, IsHalf, IsPlain, Releases}
-use Rattle.plane.specs.Plain.{TakesOut, points_of}
-use Rattle.plane.proofs.Indexes.{pair_turned, same_joined}
-use Rattle.plane_tiling.proofs.Edges.{turned_within}
-use Rattle.plane_edits.proofs.Legalization.Flipping.{joins_or_not}
+use Rattle.delaunay_paths.specs.plane.Fraction.{Point, whole}
+use Rattle.delaunay_paths.specs.plane.Pairs.{Joins, IsSamePair, EachPairOnce, place}
+use Rattle.delaunay_paths.specs.plane.Plain.{Plain, Adds, AreNeighboursOn, Carries, IsHalf, IsPlain}
+use Rattle.delaunay_paths.specs.plane.Plain.{Releases, TakesOut, points_of}
+use Rattle.delaunay_paths.proofs.plane.Indexes.{pair_turned, same_joined}
+use Rattle.delaunay_paths.proofs.plane_tiling.Edges.{turned_within}
+use Rattle.delaunay_paths.proofs.plane_edits.Legalization.Flipping.{joins_or_not}
 use Rattle.delaunay_paths.proofs.Releasing.{same_pair_or_not}
 use Rattle.delaunay_edit.specs.Counting.{EndsAt, HasPairs}
 use Rattle.delaunay_edit.proofs.PairCounts.{same_number, listed_pairs, one_more, both, renamed}

@@ -2,14 +2,14 @@
 -- Lemmas: none_counted, put_in_free.
 use Rattle.std.proofs.Common.{◌≡◌, ◌∙◌, ℕ, Bool, List, [], map, sym, subst}
 use Rattle.std.proofs.lemmas.List.{length-map, nil_from_length}
-use Rattle.half_edge_mesh.specs.Contents.{Contents}
-use Rattle.plane.specs.Fraction.{Point}
-use Rattle.plane.specs.Delaunay.{IsConstrainedDelaunay}
-use Rattle.plane_delaunay.proofs.Circles.Nearest.{circles_are_empty}
-use Rattle.plane_edits.specs.EmptyRound.{IsEmptyRound}
-use Rattle.mesh_embedding.specs.Drawn.{faces_of}
-use Rattle.delaunay_legalization.specs.Constraints.{marked_edges, constraints_by}
-use Rattle.delaunay_legalization.specs.State.{State, state_of, triangulation_of}
+use Rattle.delaunay_paths.specs.half_edge_mesh.Contents.{Contents}
+use Rattle.delaunay_paths.specs.plane.Fraction.{Point}
+use Rattle.delaunay_paths.specs.plane.Delaunay.{IsConstrainedDelaunay}
+use Rattle.delaunay_paths.proofs.plane_delaunay.Circles.Nearest.{circles_are_empty}
+use Rattle.delaunay_paths.specs.plane_edits.EmptyRound.{IsEmptyRound}
+use Rattle.delaunay_paths.specs.mesh_embedding.Drawn.{faces_of}
+use Rattle.delaunay_paths.specs.delaunay_legalization.Constraints.{marked_edges, constraints_by}
+use Rattle.delaunay_paths.specs.delaunay_legalization.State.{State, state_of, triangulation_of}
 use Rattle.delaunay_insertion.specs.Growth.{GainsVertex}
 use Rattle.delaunay_insertion.proofs.EmptyRound.{grown_is_empty}
 use Rattle.delaunay_edit.specs.Counting.{IsCounted}

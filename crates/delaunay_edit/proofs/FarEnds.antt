@@ -7,29 +7,30 @@ use Rattle.std.proofs.Common.{ℕ, Bool, List, length, map, refl, sym, ap, subst
 use Rattle.std.specs.Prelude.{swap_remove}
 use Rattle.std.proofs.lemmas.Bool.Decides.{nat_tests}
 use Rattle.std.proofs.lemmas.List.{length-map}
-use Rattle.half_edge_mesh.specs.Contents.{Contents}
-use Rattle.half_edge_mesh.specs.Renames.{moved}
-use Rattle.half_edge_links.proofs.Removing.OpenSound.{length-swap_remove}
-use Rattle.plane.specs.Crossing.{Cross}
-use Rattle.plane.specs.Fraction.{Fraction, Point, WithinSegment, whole}
-use Rattle.plane.specs.Pairs.{Joins, place as at}
-use Rattle.plane.specs.Plain.{AreStraightHalves, IsPlain}
-use Rattle.plane.specs.Tiling.{Triangulation}
-use Rattle.plane.proofs.Indexes.{turned_join}
-use Rattle.plane_tiling.specs.Laws.{EdgesMeetAtVertices}
-use Rattle.plane_tiling.proofs.Locations.{no_edges_cross}
-use Rattle.plane_segments.specs.PathSteps.{CanBeJoined}
-use Rattle.plane_segments.proofs.Constraints.HalvesJoin.{straight_halves_join_after_removal}
-use Rattle.plane_segments.proofs.Constraints.Splits.{straight_halves_join}
-use Rattle.mesh_embedding.specs.Drawn.{edges_of, faces_of, outer_of}
-use Rattle.half_edge_links.proofs.Removing.ShrinkTriangles.{map-swap_remove}
-use Rattle.mesh_embedding.proofs.OwnEdges.{own_edges}
-use Rattle.delaunay_legalization.specs.Constraints.{constraints_by, marked_edges}
-use Rattle.delaunay_legalization.specs.Constraints.{points_and_constraints_by}
-use Rattle.delaunay_legalization.specs.Known.{point_at}
-use Rattle.delaunay_legalization.specs.Shape.{IsDelaunayTriangulation, IsTriangulated}
-use Rattle.delaunay_legalization.specs.State.{State, state_of}
-use Rattle.delaunay_legalization.proofs.ConstraintEdges.{constraints_are_edges}
+use Rattle.delaunay_paths.specs.half_edge_mesh.Contents.{Contents}
+use Rattle.delaunay_paths.specs.half_edge_mesh.Renames.{moved}
+use Rattle.delaunay_paths.proofs.half_edge_links.Removing.OpenSound.{length-swap_remove}
+use Rattle.delaunay_paths.specs.plane.Crossing.{Cross}
+use Rattle.delaunay_paths.specs.plane.Fraction.{Fraction, Point, WithinSegment, whole}
+use Rattle.delaunay_paths.specs.plane.Pairs.{Joins, place as at}
+use Rattle.delaunay_paths.specs.plane.Plain.{AreStraightHalves, IsPlain}
+use Rattle.delaunay_paths.specs.plane.Tiling.{Triangulation}
+use Rattle.delaunay_paths.proofs.plane.Indexes.{turned_join}
+use Rattle.delaunay_paths.specs.plane_tiling.Laws.{EdgesMeetAtVertices}
+use Rattle.delaunay_paths.proofs.plane_tiling.Locations.{no_edges_cross}
+use Rattle.delaunay_paths.specs.plane_segments.PathSteps.{CanBeJoined}
+use Rattle.delaunay_paths.proofs.plane_segments.Constraints.HalvesJoin.{straight_halves_join_after_removal}
+use Rattle.delaunay_paths.proofs.plane_segments.Constraints.Splits.{straight_halves_join}
+use Rattle.delaunay_paths.specs.mesh_embedding.Drawn.{edges_of, faces_of, outer_of}
+use Rattle.delaunay_paths.proofs.half_edge_links.Removing.ShrinkTriangles.{map-swap_remove}
+use Rattle.delaunay_paths.proofs.mesh_embedding.OwnEdges.{own_edges}
+use Rattle.delaunay_paths.specs.delaunay_legalization.Constraints.{constraints_by, marked_edges}
+use Rattle.delaunay_paths.specs.delaunay_legalization.Constraints.{points_and_constraints_by}
+use Rattle.delaunay_paths.specs.delaunay_legalization.Known.{point_at}
+use Rattle.delaunay_paths.specs.delaunay_legalization.Shape.{IsDelaunayTriangulation}
+use Rattle.delaunay_paths.specs.delaunay_legalization.Shape.{IsTriangulated}
+use Rattle.delaunay_paths.specs.delaunay_legalization.State.{State, state_of}
+use Rattle.delaunay_paths.proofs.delaunay_legalization_lemmas.ConstraintEdges.{constraints_are_edges}
 use Rattle.delaunay_paths.specs.Adding.{HasFreeWay}
 use Rattle.delaunay_paths.proofs.Walking.{in_map, placed_apart}
 use Rattle.delaunay_removal.specs.Pairs.{former_index}

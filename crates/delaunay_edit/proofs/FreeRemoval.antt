@@ -1,16 +1,16 @@
 -- Without constraints no side of a vertex's hole is left to test.
 -- Lemmas: free_circles, sides_settle.
 use Rattle.std.proofs.Common.{◌≡◌, ◌⊎◌, ◌<◌, ℕ, Bool, List, [], length, map, inl, inr, subst}
-use Rattle.plane.specs.Circle.{InsideCircle}
-use Rattle.plane.specs.Fraction.{Point}
-use Rattle.plane.specs.Pairs.{place as at}
-use Rattle.plane_edits.specs.Change.{IsFaceOf}
-use Rattle.plane.specs.Delaunay.{IsConstrainedDelaunay}
-use Rattle.plane_delaunay.proofs.Circles.Nearest.{circles_are_empty}
-use Rattle.mesh_embedding.specs.Drawn.{faces_of}
-use Rattle.delaunay_legalization.specs.Constraints.{marked_edges, constraints_by}
-use Rattle.delaunay_legalization.specs.Shape.{IsDelaunayTriangulation}
-use Rattle.delaunay_legalization.specs.State.{State, triangulation_of}
+use Rattle.delaunay_paths.specs.plane.Circle.{InsideCircle}
+use Rattle.delaunay_paths.specs.plane.Fraction.{Point}
+use Rattle.delaunay_paths.specs.plane.Pairs.{place as at}
+use Rattle.delaunay_paths.specs.plane_edits.Change.{IsFaceOf}
+use Rattle.delaunay_paths.specs.plane.Delaunay.{IsConstrainedDelaunay}
+use Rattle.delaunay_paths.proofs.plane_delaunay.Circles.Nearest.{circles_are_empty}
+use Rattle.delaunay_paths.specs.mesh_embedding.Drawn.{faces_of}
+use Rattle.delaunay_paths.specs.delaunay_legalization.Constraints.{marked_edges, constraints_by}
+use Rattle.delaunay_paths.specs.delaunay_legalization.Shape.{IsDelaunayTriangulation}
+use Rattle.delaunay_paths.specs.delaunay_legalization.State.{State, triangulation_of}
 use Rattle.delaunay_removal.specs.Pairs.{HasBorder}
 use Rattle.delaunay_removal.proofs.Passing.{AreSettled, border_settles}
 use Rattle.delaunay_edit.proofs.Delaunay.{marked_constrained_delaunay}

@@ -5,13 +5,14 @@
 use Rattle.std.proofs.Common.{◌≡◌, ◌≢◌, ◌⊎◌, ◌↔◌, ◌-◌, ◌<◌, ◌∙◌}
 use Rattle.std.proofs.Common.{ℕ, length, sym, ap, subst, subst₂, inl, inr, arith}
 use Rattle.std.proofs.lemmas.Bool.Decides.{nat_tests}
-use Rattle.plane.specs.Fraction.{Point, WithinSegment}
-use Rattle.plane.specs.Pairs.{IsSamePair, Joins, place}
-use Rattle.plane.specs.Plain.{AreStraightHalves, IsPlain, Plain, Removes, TakesOut, points_of}
-use Rattle.plane.proofs.Indexes.{at_most_last, one_more_than_last}
-use Rattle.plane_edits.specs.Removal.{new_index}
-use Rattle.plane_edits.proofs.Removal.Renumbering.{new_below}
-use Rattle.plane_tiling.proofs.Edges.{turned_within}
+use Rattle.delaunay_paths.specs.plane.Fraction.{Point, WithinSegment}
+use Rattle.delaunay_paths.specs.plane.Pairs.{IsSamePair, Joins, place}
+use Rattle.delaunay_paths.specs.plane.Plain.{AreStraightHalves, IsPlain, Plain, Removes, TakesOut}
+use Rattle.delaunay_paths.specs.plane.Plain.{points_of}
+use Rattle.delaunay_paths.proofs.plane.Indexes.{at_most_last, one_more_than_last}
+use Rattle.delaunay_paths.specs.plane_edits.Removal.{new_index}
+use Rattle.delaunay_paths.proofs.plane_edits.Removal.Renumbering.{new_below}
+use Rattle.delaunay_paths.proofs.plane_tiling.Edges.{turned_within}
 use Rattle.delaunay_removal.specs.Pairs.{former_index}
 use Rattle.delaunay_edit.specs.Halves.{AreOnlyEnds}
 

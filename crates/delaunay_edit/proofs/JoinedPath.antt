@@ -1,13 +1,13 @@
 -- What a path leaves to the circle test where a list of edges was left before.
 -- Lemmas: path_leaves, path_renamed.
 use Rattle.std.proofs.Common.{◌≡◌, ℕ, Bool, List, map, sym, ap, subst, subst₂, inl}
-use Rattle.half_edge_mesh.specs.Contents.{Contents}
-use Rattle.plane.specs.Fraction.{Point}
-use Rattle.plane_edits.specs.Legal.{AllPassBut}
-use Rattle.mesh_embedding.specs.Drawn.{faces_of}
-use Rattle.mesh_embedding.specs.Legal.{pairs_at}
-use Rattle.delaunay_legalization.specs.Constraints.{constraint_pairs}
-use Rattle.delaunay_legalization.specs.Sides.{AreLeftToTest}
+use Rattle.delaunay_paths.specs.half_edge_mesh.Contents.{Contents}
+use Rattle.delaunay_paths.specs.plane.Fraction.{Point}
+use Rattle.delaunay_paths.specs.plane_edits.Legal.{AllPassBut}
+use Rattle.delaunay_paths.specs.mesh_embedding.Drawn.{faces_of}
+use Rattle.delaunay_paths.specs.mesh_embedding.Legal.{pairs_at}
+use Rattle.delaunay_paths.specs.delaunay_legalization.Constraints.{constraint_pairs}
+use Rattle.delaunay_paths.specs.delaunay_legalization.Sides.{AreLeftToTest}
 use Rattle.delaunay_paths.specs.Adding.{AddsPath}
 use Rattle.delaunay_paths.specs.Leaving.{LeavesToTest}
 

@@ -6,27 +6,28 @@ use Rattle.std.proofs.Common.{ℕ, Bool, List, length, map, get_or, Some, None}
 use Rattle.std.proofs.Common.{sym, ap, subst, inl, inr, arith}
 use Rattle.std.specs.Prelude.{true, false, slice_get}
 use Rattle.std.proofs.lemmas.Option.{slice_get_cases}
-use Rattle.half_edge_mesh.specs.Contents.{Contents}
-use Rattle.half_edge_mesh.specs.Mesh.{origin, rev}
-use Rattle.half_edge_mesh.specs.Renames.{moved}
-use Rattle.half_edge_mesh.specs.Triangles.{Triangle, triangles}
-use Rattle.plane.specs.Crossing.{Cross}
-use Rattle.plane.specs.Fraction.{Point}
-use Rattle.plane.specs.Pairs.{IsSamePair, Joins, place as at}
-use Rattle.plane.specs.Plain.{AreStraightHalves}
-use Rattle.plane.proofs.Indexes.{turned_join}
-use Rattle.plane_edits.specs.Change.{IsFaceOf}
-use Rattle.plane_edits.proofs.Removal.Renumbering.{new_apart}
-use Rattle.mesh_embedding.specs.Drawn.{edges_of, faces_of}
-use Rattle.mesh_embedding.proofs.EdgePairs.{edge_joins as joins_ends}
-use Rattle.mesh_embedding.proofs.FaceChanges.{turned_faces}
-use Rattle.mesh_embedding.proofs.MeshStays.{face_there}
-use Rattle.mesh_embedding.proofs.MeshStars.{edge_of_face}
-use Rattle.delaunay_legalization.specs.Constraints.{marked_edges, not_both}
-use Rattle.delaunay_legalization.specs.Constraints.{points_and_constraints_by}
-use Rattle.delaunay_legalization.specs.Shape.{IsDelaunayTriangulation}
-use Rattle.delaunay_legalization.specs.State.{State, state_of}
-use Rattle.delaunay_legalization.proofs.Constraints.{fixed_edge_is, is_constraint_edge}
+use Rattle.delaunay_paths.specs.half_edge_mesh.Contents.{Contents}
+use Rattle.delaunay_paths.specs.half_edge_mesh.Mesh.{origin, rev}
+use Rattle.delaunay_paths.specs.half_edge_mesh.Renames.{moved}
+use Rattle.delaunay_paths.specs.half_edge_mesh.Triangles.{Triangle, triangles}
+use Rattle.delaunay_paths.specs.plane.Crossing.{Cross}
+use Rattle.delaunay_paths.specs.plane.Fraction.{Point}
+use Rattle.delaunay_paths.specs.plane.Pairs.{IsSamePair, Joins, place as at}
+use Rattle.delaunay_paths.specs.plane.Plain.{AreStraightHalves}
+use Rattle.delaunay_paths.proofs.plane.Indexes.{turned_join}
+use Rattle.delaunay_paths.specs.plane_edits.Change.{IsFaceOf}
+use Rattle.delaunay_paths.proofs.plane_edits.Removal.Renumbering.{new_apart}
+use Rattle.delaunay_paths.specs.mesh_embedding.Drawn.{edges_of, faces_of}
+use Rattle.delaunay_paths.proofs.mesh_embedding.EdgePairs.{edge_joins as joins_ends}
+use Rattle.delaunay_paths.proofs.mesh_embedding.FaceChanges.{turned_faces}
+use Rattle.delaunay_paths.proofs.mesh_embedding.MeshStays.{face_there}
+use Rattle.delaunay_paths.proofs.mesh_embedding.MeshStars.{edge_of_face}
+use Rattle.delaunay_paths.specs.delaunay_legalization.Constraints.{marked_edges, not_both}
+use Rattle.delaunay_paths.specs.delaunay_legalization.Constraints.{points_and_constraints_by}
+use Rattle.delaunay_paths.specs.delaunay_legalization.Shape.{IsDelaunayTriangulation}
+use Rattle.delaunay_paths.specs.delaunay_legalization.State.{State, state_of}
+use Rattle.delaunay_paths.proofs.delaunay_legalization_lemmas.Constraints.{fixed_edge_is}
+use Rattle.delaunay_paths.proofs.delaunay_legalization_lemmas.Constraints.{is_constraint_edge}
 use Rattle.delaunay_paths.specs.Adding.{AddsPath}
 use Rattle.delaunay_paths.proofs.JoinedPairs.{edge_joins}
 use Rattle.delaunay_removal.specs.Data.{HasDataOfEdge, HasDataOfFace, KeepsDataBeside}

@@ -1,3 +1,15 @@
+pub use Rattle.delaunay_paths.proofs.plane as plane
+pub use Rattle.delaunay_paths.proofs.plane_tiling as plane_tiling
+pub use Rattle.delaunay_paths.proofs.plane_edits as plane_edits
+pub use Rattle.delaunay_paths.proofs.plane_delaunay as plane_delaunay
+pub use Rattle.delaunay_paths.proofs.plane_segments as plane_segments
+pub use Rattle.delaunay_paths.proofs.half_edge_links as half_edge_links
+pub use Rattle.delaunay_paths.proofs.half_edge_views as half_edge_views
+pub use Rattle.delaunay_paths.proofs.delaunay_core_lemmas as delaunay_core_lemmas
+pub use Rattle.delaunay_paths.proofs.mesh_embedding as mesh_embedding
+pub use Rattle.delaunay_paths.proofs.delaunay_legalization_lemmas as delaunay_legalization_lemmas
+pub use Rattle.delaunay_paths.proofs.delaunay_location_lemmas as delaunay_location_lemmas
+pub use Rattle.delaunay_paths.proofs as delaunay_paths_lemmas
 -- What each triangulation keeps, and what callers learn of it.
 pub mod WellFormed
 pub mod Delaunay

@@ -5,28 +5,27 @@ use Rattle.std.proofs.Common.{◌≡◌, ◌≢◌, ◌↔◌, ◌/◌, ◌<◌,
 use Rattle.std.proofs.Common.{ℕ, Bool, false, List, length, map}
 use Rattle.std.proofs.Common.{refl, sym, subst, subst₂, inl, inr, arith}
 use Rattle.std.specs.Prelude.{Contains, IsTrue, Result, Ok}
-use Rattle.half_edge_mesh.specs.Mesh.{Mesh, origin, rev}
-use Rattle.half_edge_mesh.specs.Contents.{Contents}
-use Rattle.plane.specs.Fraction.{Point}
-use Rattle.plane.specs.Pairs.{IsSamePair, Joins, SamePairs}
-use Rattle.plane.specs.Pairs.{place as point_place}
-use Rattle.plane.specs.Plain.{Adds}
-use Rattle.plane.proofs.Indexes.{same_joined}
-use Rattle.plane.proofs.Meetings.{cross_at_point}
-use Rattle.plane.proofs.Segments.{same-refl}
-use Rattle.plane_edits.proofs.Legalization.Flipping.{joins_or_not}
-use Rattle.plane_segments.specs.Constraints.{ArePlacedApart}
-use Rattle.plane_segments.proofs.Constraints.Pieces.{path_ends}
-use Rattle.plane_tiling.proofs.Locations.{no_edges_cross}
-use Rattle.plane_tiling.proofs.Totals.{Contains-head}
-use Rattle.mesh_embedding.specs.Drawn.{edges_of, faces_of, outer_of}
-use Rattle.mesh_embedding.proofs.EdgePairs.{no_joins}
-use Rattle.mesh_embedding.proofs.OwnEdges.{own_edges}
-use Rattle.delaunay_legalization.specs.declared.cdt_edge.CdtEdge.{CdtEdge}
-use Rattle.delaunay_legalization.specs.CdtEdge.{is_constraint}
-use Rattle.delaunay_legalization.specs.Shape.{IsTriangulated}
-use Rattle.delaunay_legalization.specs.State.{State, state_of}
-use Rattle.delaunay_legalization.proofs.ConstraintEdges.{constraints_are_edges}
+use Rattle.delaunay_paths.specs.half_edge_mesh.Mesh.{Mesh, origin, rev}
+use Rattle.delaunay_paths.specs.half_edge_mesh.Contents.{Contents}
+use Rattle.delaunay_paths.specs.plane.Fraction.{Point}
+use Rattle.delaunay_paths.specs.plane.Pairs.{IsSamePair, Joins, SamePairs, place as point_place}
+use Rattle.delaunay_paths.specs.plane.Plain.{Adds}
+use Rattle.delaunay_paths.proofs.plane.Indexes.{same_joined}
+use Rattle.delaunay_paths.proofs.plane.Meetings.{cross_at_point}
+use Rattle.delaunay_paths.proofs.plane.Segments.{same-refl}
+use Rattle.delaunay_paths.proofs.plane_edits.Legalization.Flipping.{joins_or_not}
+use Rattle.delaunay_paths.specs.plane_segments.Constraints.{ArePlacedApart}
+use Rattle.delaunay_paths.proofs.plane_segments.Constraints.Pieces.{path_ends}
+use Rattle.delaunay_paths.proofs.plane_tiling.Locations.{no_edges_cross}
+use Rattle.delaunay_paths.proofs.plane_tiling.Totals.{Contains-head}
+use Rattle.delaunay_paths.specs.mesh_embedding.Drawn.{edges_of, faces_of, outer_of}
+use Rattle.delaunay_paths.proofs.mesh_embedding.EdgePairs.{no_joins}
+use Rattle.delaunay_paths.proofs.mesh_embedding.OwnEdges.{own_edges}
+use Rattle.delaunay_paths.specs.delaunay_legalization.declared.cdt_edge.CdtEdge.{CdtEdge}
+use Rattle.delaunay_paths.specs.delaunay_legalization.CdtEdge.{is_constraint}
+use Rattle.delaunay_paths.specs.delaunay_legalization.Shape.{IsTriangulated}
+use Rattle.delaunay_paths.specs.delaunay_legalization.State.{State, state_of}
+use Rattle.delaunay_paths.proofs.delaunay_legalization_lemmas.ConstraintEdges.{constraints_are_edges}
 use Rattle.delaunay_paths.specs.Adding.{NoneCrosses}
 use Rattle.delaunay_paths.specs.PathEdges.{AreJoinedAlong, LeadAlong}
 use Rattle.delaunay_paths.proofs.JoinedPairs.{edge_joins}

@@ -3,14 +3,14 @@
 use Rattle.std.proofs.Common.{◌≡◌}
 use Rattle.std.proofs.Common.{ℕ, zero, suc, List, length, refl, sym, subst, map, length-set}
 use Rattle.std.proofs.Common.{slice_set}
-use Rattle.half_edge_mesh.specs.Contents.{Contents}
-use Rattle.half_edge_mesh.specs.Writing.{with_face}
-use Rattle.plane.specs.Fraction.{Point}
-use Rattle.plane.specs.Delaunay.{IsLocallyDelaunay}
-use Rattle.mesh_embedding.specs.Drawn.{drawn}
-use Rattle.mesh_embedding.specs.Legal.{pairs_at}
-use Rattle.delaunay_legalization.specs.Shape.{IsDelaunayTriangulation}
-use Rattle.delaunay_legalization.specs.State.{State, state_of}
+use Rattle.delaunay_paths.specs.half_edge_mesh.Contents.{Contents}
+use Rattle.delaunay_paths.specs.half_edge_mesh.Writing.{with_face}
+use Rattle.delaunay_paths.specs.plane.Fraction.{Point}
+use Rattle.delaunay_paths.specs.plane.Delaunay.{IsLocallyDelaunay}
+use Rattle.delaunay_paths.specs.mesh_embedding.Drawn.{drawn}
+use Rattle.delaunay_paths.specs.mesh_embedding.Legal.{pairs_at}
+use Rattle.delaunay_paths.specs.delaunay_legalization.Shape.{IsDelaunayTriangulation}
+use Rattle.delaunay_paths.specs.delaunay_legalization.State.{State, state_of}
 use Rattle.delaunay_edit.specs.Counting.{IsCounted}
 use Rattle.delaunay_edit.specs.Writing.{with_face_data}
 

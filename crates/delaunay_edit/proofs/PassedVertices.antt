@@ -9,29 +9,29 @@ use Rattle.std.proofs.lemmas.Bool.{cases_eq}
 use Rattle.std.proofs.lemmas.Int.{ints}
 use Rattle.std.proofs.lemmas.List.Elements.{Contains-append_cases, Contains-append_left}
 use Rattle.std.proofs.lemmas.List.Elements.{Contains-push_cases}
-use Rattle.half_edge_mesh.specs.Mesh.{Mesh}
-use Rattle.plane.specs.Circle.{IsNearer}
-use Rattle.plane.specs.Fraction.{Point, whole, IsSame, OnSegment, WithinSegment}
-use Rattle.plane.specs.Line.{Item, IsLineList, IsBefore, IsVertexThenOverlap, at_vertex, across}
-use Rattle.plane.specs.Line.{along}
-use Rattle.plane.specs.Pairs.{IsIndex, place}
-use Rattle.plane.specs.Tiling.{Triangulation}
-use Rattle.plane.proofs.Bracket.{bracket, lift}
-use Rattle.plane.proofs.BracketIdentities.{bracket-last}
-use Rattle.plane.proofs.Collinear.{place_on, place_of_start, same_by_places}
-use Rattle.plane.proofs.IntegerOrder.{trichotomy_ℤ}
-use Rattle.plane.proofs.LineOrder.{IsBetween, place_within, within_places}
-use Rattle.plane.proofs.Segments.{reach, on_segment_is, on_of_within, start_on_segment}
-use Rattle.plane.proofs.Segments.{end_on_segment}
-use Rattle.plane.proofs.Solver.{num, ◌⊕◌, ◌⊖◌, ◌⊗◌, ring_in}
-use Rattle.plane_delaunay.proofs.Points.AlongSegment.{reach_less}
-use Rattle.plane_edits.specs.Legal.{point_of}
-use Rattle.plane_segments.specs.Constraints.{AreNextOn, ArePlacedApart}
-use Rattle.plane_segments.proofs.Constraints.Pieces.{on_of_mean}
-use Rattle.plane_segments.proofs.Items.Orders.{nearer-same_first, nearer-same_second}
-use Rattle.plane_tiling.proofs.Totals.{Contains-cases, Contains-none}
-use Rattle.mesh_embedding.specs.Drawn.{drawn}
-use Rattle.mesh_embedding.proofs.WorkLists.{contains_before, contains_last}
+use Rattle.delaunay_paths.specs.half_edge_mesh.Mesh.{Mesh}
+use Rattle.delaunay_paths.specs.plane.Circle.{IsNearer}
+use Rattle.delaunay_paths.specs.plane.Fraction.{Point, whole, IsSame, OnSegment, WithinSegment}
+use Rattle.delaunay_paths.specs.plane.Line.{Item, IsLineList, IsBefore, IsVertexThenOverlap}
+use Rattle.delaunay_paths.specs.plane.Line.{at_vertex, across, along}
+use Rattle.delaunay_paths.specs.plane.Pairs.{IsIndex, place}
+use Rattle.delaunay_paths.specs.plane.Tiling.{Triangulation}
+use Rattle.delaunay_paths.proofs.plane.Bracket.{bracket, lift}
+use Rattle.delaunay_paths.proofs.plane.BracketIdentities.{bracket-last}
+use Rattle.delaunay_paths.proofs.plane.Collinear.{place_on, place_of_start, same_by_places}
+use Rattle.delaunay_paths.proofs.plane.IntegerOrder.{trichotomy_ℤ}
+use Rattle.delaunay_paths.proofs.plane.LineOrder.{IsBetween, place_within, within_places}
+use Rattle.delaunay_paths.proofs.plane.Segments.{reach, on_segment_is, on_of_within}
+use Rattle.delaunay_paths.proofs.plane.Segments.{start_on_segment, end_on_segment}
+use Rattle.delaunay_paths.proofs.plane.Solver.{num, ◌⊕◌, ◌⊖◌, ◌⊗◌, ring_in}
+use Rattle.delaunay_paths.proofs.plane_delaunay.Points.AlongSegment.{reach_less}
+use Rattle.delaunay_paths.specs.plane_edits.Legal.{point_of}
+use Rattle.delaunay_paths.specs.plane_segments.Constraints.{AreNextOn, ArePlacedApart}
+use Rattle.delaunay_paths.proofs.plane_segments.Constraints.Pieces.{on_of_mean}
+use Rattle.delaunay_paths.proofs.plane_segments.Items.Orders.{nearer-same_first, nearer-same_second}
+use Rattle.delaunay_paths.proofs.plane_tiling.Totals.{Contains-cases, Contains-none}
+use Rattle.delaunay_paths.specs.mesh_embedding.Drawn.{drawn}
+use Rattle.delaunay_paths.proofs.mesh_embedding.WorkLists.{contains_before, contains_last}
 use Rattle.delaunay_paths.proofs.Passing.{later_ones}
 use Rattle.delaunay_paths.proofs.Places.{no_same_place}
 

@@ -2,13 +2,13 @@
 -- Lemmas: counted_none, counted_released, counted_added, room_for_added.
 use Rattle.std.proofs.Common.{◌≡◌, ◌+◌, ◌-◌, ◌*◌, ◌≤◌, []}
 use Rattle.std.proofs.Common.{ℕ, Bool, List, length, map, sym, ap, arith}
-use Rattle.plane.specs.Fraction.{Point}
-use Rattle.plane.specs.Pairs.{EachPairOnce}
-use Rattle.plane.specs.Plain.{Adds, Releases}
-use Rattle.delaunay_legalization.specs.Constraints.{constraints_by, marked_edges}
-use Rattle.delaunay_legalization.specs.Constraints.{points_and_constraints_by}
-use Rattle.delaunay_legalization.specs.Shape.{IsDelaunayTriangulation}
-use Rattle.delaunay_legalization.specs.State.{State}
+use Rattle.delaunay_paths.specs.plane.Fraction.{Point}
+use Rattle.delaunay_paths.specs.plane.Pairs.{EachPairOnce}
+use Rattle.delaunay_paths.specs.plane.Plain.{Adds, Releases}
+use Rattle.delaunay_paths.specs.delaunay_legalization.Constraints.{constraints_by, marked_edges}
+use Rattle.delaunay_paths.specs.delaunay_legalization.Constraints.{points_and_constraints_by}
+use Rattle.delaunay_paths.specs.delaunay_legalization.Shape.{IsDelaunayTriangulation}
+use Rattle.delaunay_paths.specs.delaunay_legalization.State.{State}
 use Rattle.delaunay_edit.specs.Counting.{HasPairs, IsCounted, IsMissing}
 use Rattle.delaunay_edit.proofs.DifferentConstraints.{constraints_once, few_constraints}
 use Rattle.delaunay_edit.proofs.EditCounts.{added_number, released_number}

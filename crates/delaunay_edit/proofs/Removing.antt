@@ -5,14 +5,15 @@ use Rattle.std.proofs.Common.{ℕ, List, length, map, Some, sym, ap, subst, arit
 use Rattle.std.specs.Prelude.{All, pos, slice_get}
 use Rattle.std.proofs.lemmas.List.{length-map, get_or-map}
 use Rattle.std.proofs.lemmas.Option.{get_or_from_slice_get, slice_get_within}
-use Rattle.half_edge_links.proofs.Removing.OpenSound.{length-swap_remove}
-use Rattle.half_edge_links.proofs.Removing.ShrinkTriangles.{map-swap_remove}
-use Rattle.half_edge_mesh.specs.Contents.{Contents}
-use Rattle.plane.specs.Fraction.{Point}
-use Rattle.plane.specs.Plain.{Drops}
-use Rattle.delaunay_legalization.specs.Known.{point_at}
-use Rattle.delaunay_legalization.specs.Constraints.{constraints_by, points_and_constraints_by}
-use Rattle.delaunay_legalization.specs.State.{State, state_of}
+use Rattle.delaunay_paths.proofs.half_edge_links.Removing.OpenSound.{length-swap_remove}
+use Rattle.delaunay_paths.proofs.half_edge_links.Removing.ShrinkTriangles.{map-swap_remove}
+use Rattle.delaunay_paths.specs.half_edge_mesh.Contents.{Contents}
+use Rattle.delaunay_paths.specs.plane.Fraction.{Point}
+use Rattle.delaunay_paths.specs.plane.Plain.{Drops}
+use Rattle.delaunay_paths.specs.delaunay_legalization.Known.{point_at}
+use Rattle.delaunay_paths.specs.delaunay_legalization.Constraints.{constraints_by}
+use Rattle.delaunay_paths.specs.delaunay_legalization.Constraints.{points_and_constraints_by}
+use Rattle.delaunay_paths.specs.delaunay_legalization.State.{State, state_of}
 use Rattle.delaunay_removal.proofs.Removing.{all_left}
 
 -- the data that are read at an index have the position that stands there

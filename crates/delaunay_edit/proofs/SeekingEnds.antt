@@ -6,18 +6,19 @@ use Rattle.std.proofs.Common.{ℕ, List, length, Some, None, sym, ap, subst, inl
 use Rattle.std.specs.Prelude.{Bool, Contains}
 use Rattle.std.proofs.lemmas.Bool.{cases_eq}
 use Rattle.std.specs.Borrow.{Bor}
-use Rattle.half_edge_mesh.specs.Mesh.{origin, rev}
-use Rattle.half_edge_mesh.specs.Contents.{Contents}
-use Rattle.half_edge_mesh.specs.Rounds.{GivesRound}
-use Rattle.plane.specs.Fraction.{Point}
-use Rattle.plane.specs.Pairs.{Joins}
-use Rattle.plane_tiling.proofs.Totals.{Contains-cases, Contains-none}
-use Rattle.delaunay_legalization.specs.Constraints.{marked_edges, constraints_by}
-use Rattle.delaunay_legalization.specs.Shape.{IsTriangulated}
-use Rattle.delaunay_legalization.specs.State.{state_of}
-use Rattle.delaunay_legalization.proofs.ConstraintEdges.{constraints_are_edges}
-use Rattle.delaunay_legalization.proofs.Rounds.{IsLeftOfRound, IsWholeRound}
-use Rattle.delaunay_legalization.proofs.Rounds.{whole_round, one_less_left, next_left, none_is_left}
+use Rattle.delaunay_paths.specs.half_edge_mesh.Mesh.{origin, rev}
+use Rattle.delaunay_paths.specs.half_edge_mesh.Contents.{Contents}
+use Rattle.delaunay_paths.specs.half_edge_mesh.Rounds.{GivesRound}
+use Rattle.delaunay_paths.specs.plane.Fraction.{Point}
+use Rattle.delaunay_paths.specs.plane.Pairs.{Joins}
+use Rattle.delaunay_paths.proofs.plane_tiling.Totals.{Contains-cases, Contains-none}
+use Rattle.delaunay_paths.specs.delaunay_legalization.Constraints.{marked_edges, constraints_by}
+use Rattle.delaunay_paths.specs.delaunay_legalization.Shape.{IsTriangulated}
+use Rattle.delaunay_paths.specs.delaunay_legalization.State.{state_of}
+use Rattle.delaunay_paths.proofs.delaunay_legalization_lemmas.ConstraintEdges.{constraints_are_edges}
+use Rattle.delaunay_paths.proofs.delaunay_legalization_lemmas.Rounds.{IsLeftOfRound, IsWholeRound}
+use Rattle.delaunay_paths.proofs.delaunay_legalization_lemmas.Rounds.{whole_round, one_less_left}
+use Rattle.delaunay_paths.proofs.delaunay_legalization_lemmas.Rounds.{next_left, none_is_left}
 use Rattle.delaunay_paths.proofs.JoinedPairs.{edge_joins}
 use Rattle.delaunay_edit.specs.Halves.{AreTwoEnds, IsEndBeside, LeadsBeside}
 use Rattle.delaunay_edit.proofs.Edges.{joins_edge}

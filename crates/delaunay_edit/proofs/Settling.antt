@@ -6,20 +6,20 @@ use Rattle.std.proofs.Common.{◌≡◌, ◌⊎◌, ◌↔◌, ◌+◌, ◌-◌,
 use Rattle.std.proofs.Common.{ℕ, Bool, List, length, map, Option, Some, None}
 use Rattle.std.proofs.Common.{refl, sym, ap, subst, inl, inr, arith}
 use Rattle.std.specs.Prelude.{IfSome, true}
-use Rattle.half_edge_mesh.specs.Contents.{Contents}
-use Rattle.half_edge_mesh.specs.Renames.{moved}
-use Rattle.plane.specs.Fraction.{Point}
-use Rattle.plane.specs.Pairs.{EachPairOnce, IsSamePair, Joins}
-use Rattle.plane.specs.Plain.{AreStraightHalves, Plain, Removes}
-use Rattle.plane.proofs.Indexes.{same_joined, turned_join}
-use Rattle.plane_edits.specs.Legal.{AllPassBut}
-use Rattle.mesh_embedding.specs.Drawn.{faces_of}
-use Rattle.mesh_embedding.specs.Stays.{KeepsIndexes}
-use Rattle.delaunay_legalization.specs.Constraints.{constraints_by, marked_edges}
-use Rattle.delaunay_legalization.specs.Constraints.{points_and_constraints_by}
-use Rattle.delaunay_legalization.specs.Shape.{IsDelaunayTriangulation}
-use Rattle.delaunay_legalization.specs.State.{State, state_of}
-use Rattle.delaunay_legalization.proofs.MarkedPairs.{mark_joins}
+use Rattle.delaunay_paths.specs.half_edge_mesh.Contents.{Contents}
+use Rattle.delaunay_paths.specs.half_edge_mesh.Renames.{moved}
+use Rattle.delaunay_paths.specs.plane.Fraction.{Point}
+use Rattle.delaunay_paths.specs.plane.Pairs.{EachPairOnce, IsSamePair, Joins}
+use Rattle.delaunay_paths.specs.plane.Plain.{AreStraightHalves, Plain, Removes}
+use Rattle.delaunay_paths.proofs.plane.Indexes.{same_joined, turned_join}
+use Rattle.delaunay_paths.specs.plane_edits.Legal.{AllPassBut}
+use Rattle.delaunay_paths.specs.mesh_embedding.Drawn.{faces_of}
+use Rattle.delaunay_paths.specs.mesh_embedding.Stays.{KeepsIndexes}
+use Rattle.delaunay_paths.specs.delaunay_legalization.Constraints.{constraints_by, marked_edges}
+use Rattle.delaunay_paths.specs.delaunay_legalization.Constraints.{points_and_constraints_by}
+use Rattle.delaunay_paths.specs.delaunay_legalization.Shape.{IsDelaunayTriangulation}
+use Rattle.delaunay_paths.specs.delaunay_legalization.State.{State, state_of}
+use Rattle.delaunay_paths.proofs.delaunay_legalization_lemmas.MarkedPairs.{mark_joins}
 use Rattle.delaunay_paths.specs.Adding.{AddsPath, HasFreeWay}
 use Rattle.delaunay_removal.specs.Data.{KeepsDataOfOthers}
 use Rattle.delaunay_removal.specs.Pairs.{pairs_left}

@@ -2,15 +2,15 @@
 -- Lemmas: is_delaunay, well_formed.
 use Rattle.std.proofs.Common.{◌≡◌, ◌≤◌, ℕ, Bool, List, length, map}
 use Rattle.std.proofs.lemmas.List.Elements.{All-map}
-use Rattle.half_edge_links.specs.declared.room.TheConstants.{MAX_ELEMENTS}
-use Rattle.plane.specs.Fraction.{Point}
-use Rattle.plane.specs.Tests.{InRange}
-use Rattle.plane.specs.Delaunay.{IsConstrainedDelaunay}
-use Rattle.plane_delaunay.proofs.Circles.History.{history_free}
-use Rattle.delaunay_legalization.specs.Constraints.{marked_edges, constraints_by}
-use Rattle.delaunay_legalization.specs.Shape.{IsDelaunayTriangulation}
-use Rattle.delaunay_legalization.specs.State.{State, triangulation_of}
-use Rattle.delaunay_legalization.proofs.Shapes.{laid_out_tiles}
+use Rattle.delaunay_paths.specs.half_edge_links.declared.room.TheConstants.{MAX_ELEMENTS}
+use Rattle.delaunay_paths.specs.plane.Fraction.{Point}
+use Rattle.delaunay_paths.specs.plane.Tests.{InRange}
+use Rattle.delaunay_paths.specs.plane.Delaunay.{IsConstrainedDelaunay}
+use Rattle.delaunay_paths.proofs.plane_delaunay.Circles.History.{history_free}
+use Rattle.delaunay_paths.specs.delaunay_legalization.Constraints.{marked_edges, constraints_by}
+use Rattle.delaunay_paths.specs.delaunay_legalization.Shape.{IsDelaunayTriangulation}
+use Rattle.delaunay_paths.specs.delaunay_legalization.State.{State, triangulation_of}
+use Rattle.delaunay_paths.proofs.delaunay_legalization_lemmas.Shapes.{laid_out_tiles}
 use Rattle.delaunay_edit.specs.Headline.{IsDelaunay, IsWellFormed}
 use Rattle.delaunay_edit.proofs.Constrained.{plain_with_edges}
 use Rattle.delaunay_edit.proofs.Delaunay.{marked_constrained_delaunay, empty_triple_is_face}

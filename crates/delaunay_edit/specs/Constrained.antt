@@ -1,13 +1,13 @@
 -- The constraints of a triangulation, which are the edges whose data say so.
 use Rattle.std.specs.Prelude.{◌≡◌, ◌↔◌, ℕ, ◌*◌, Bool, false, List, [], Contains, IsTrue}
-use Rattle.half_edge_mesh.specs.Mesh.{origin, rev}
-use Rattle.plane.specs.Pairs.{Joins}
-use Rattle.plane.specs.Plain.{Plain}
-use Rattle.delaunay_legalization.specs.declared.cdt_edge.CdtEdge.{CdtEdge}
-use Rattle.delaunay_legalization.specs.CdtEdge.{is_constraint}
-use Rattle.delaunay_legalization.specs.Constraints.{marked_edges, constraints_by}
-use Rattle.delaunay_legalization.specs.Constraints.{points_and_constraints_by}
-use Rattle.delaunay_legalization.specs.State.{State}
+use Rattle.delaunay_paths.specs.half_edge_mesh.Mesh.{origin, rev}
+use Rattle.delaunay_paths.specs.plane.Pairs.{Joins}
+use Rattle.delaunay_paths.specs.plane.Plain.{Plain}
+use Rattle.delaunay_paths.specs.delaunay_legalization.declared.cdt_edge.CdtEdge.{CdtEdge}
+use Rattle.delaunay_paths.specs.delaunay_legalization.CdtEdge.{is_constraint}
+use Rattle.delaunay_paths.specs.delaunay_legalization.Constraints.{marked_edges, constraints_by}
+use Rattle.delaunay_paths.specs.delaunay_legalization.Constraints.{points_and_constraints_by}
+use Rattle.delaunay_paths.specs.delaunay_legalization.State.{State}
 
 -- no edge is a constraint
 abbrev pub none : {U : Type 0} → List U → List ℕ

@@ -3,14 +3,14 @@ use Rattle.std.specs.Prelude.{◌≡◌, ◌≢◌, ◌⊎◌, ◌↔◌, ◌*�
 use Rattle.std.specs.Prelude.{ℕ, Bool, true, false, List, length, map, Some, Result}
 use Rattle.std.specs.Prelude.{Ok, Option, Contains, IsTrue, IfOk, OnOk, OnErr, slice_get, slice_set}
 use Rattle.std.specs.Prelude.{MatchOption, MatchResult}
-use Rattle.half_edge_mesh.specs.Mesh.{origin, rev}
-use Rattle.plane.specs.Fraction.{Point}
-use Rattle.plane.specs.Pairs.{SamePairs}
-use Rattle.plane.specs.Plain.{Adds, CanAdd, Releases}
-use Rattle.mesh_embedding.specs.Stays.{KeepsIndexes}
-use Rattle.delaunay_legalization.specs.declared.cdt_edge.CdtEdge.{CdtEdge}
-use Rattle.delaunay_legalization.specs.CdtEdge.{is_constraint, with_mark}
-use Rattle.delaunay_legalization.specs.State.{State}
+use Rattle.delaunay_paths.specs.half_edge_mesh.Mesh.{origin, rev}
+use Rattle.delaunay_paths.specs.plane.Fraction.{Point}
+use Rattle.delaunay_paths.specs.plane.Pairs.{SamePairs}
+use Rattle.delaunay_paths.specs.plane.Plain.{Adds, CanAdd, Releases}
+use Rattle.delaunay_paths.specs.mesh_embedding.Stays.{KeepsIndexes}
+use Rattle.delaunay_paths.specs.delaunay_legalization.declared.cdt_edge.CdtEdge.{CdtEdge}
+use Rattle.delaunay_paths.specs.delaunay_legalization.CdtEdge.{is_constraint, with_mark}
+use Rattle.delaunay_paths.specs.delaunay_legalization.State.{State}
 use Rattle.delaunay_paths.specs.Adding.{MarksSome}
 use Rattle.delaunay_paths.specs.PathEdges.{LeadAlong}
 use Rattle.delaunay_edit.specs.Constrained.{constrained, constraint_edges, constraints_of}

@@ -1,7 +1,7 @@
 -- What becomes of the data of edges and faces.
 use Rattle.std.specs.Prelude.{◌≡◌}
 use Rattle.std.specs.List.{AllZip}
-use Rattle.delaunay_legalization.specs.State.{State}
+use Rattle.delaunay_paths.specs.delaunay_legalization.State.{State}
 pub use Rattle.delaunay_insertion.specs.Data.{KeepsData}
 
 -- the data of each undirected edge are as R says of the former ones, and all else is as it was

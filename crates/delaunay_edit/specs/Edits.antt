@@ -2,16 +2,17 @@
 use Rattle.std.specs.Prelude.{◌≡◌, ◌↔◌, ◌+◌, ◌*◌, ◌<◌, ◌++◌, ◌∷◌, []}
 use Rattle.std.specs.Prelude.{ℕ, List, length, map, Option, None, Some, Result, Ok, IsOk, IsErrOf}
 use Rattle.std.specs.Prelude.{IfOk, OnOk, OnErr, MatchOption, slice_get, slice_set}
-use Rattle.half_edge_links.specs.declared.room.TheConstants.{MAX_ELEMENTS}
-use Rattle.plane.specs.Fraction.{Point}
-use Rattle.plane.specs.Plain.{Inserts, Removes}
-use Rattle.plane.specs.Tests.{InRange}
-use Rattle.delaunay_core.specs.declared.math.InsertionError.{InsertionError}
-use Rattle.delaunay_core.specs.declared.math.InsertionError.TheVariants.{TooLarge, OutOfIndexes}
+use Rattle.delaunay_paths.specs.half_edge_links.declared.room.TheConstants.{MAX_ELEMENTS}
+use Rattle.delaunay_paths.specs.plane.Fraction.{Point}
+use Rattle.delaunay_paths.specs.plane.Plain.{Inserts, Removes}
+use Rattle.delaunay_paths.specs.plane.Tests.{InRange}
+use Rattle.delaunay_paths.specs.delaunay_core.declared.math.InsertionError.{InsertionError}
+use Rattle.delaunay_paths.specs.delaunay_core.declared.math.InsertionError.TheVariants.{TooLarge}
+use Rattle.delaunay_paths.specs.delaunay_core.declared.math.InsertionError.TheVariants.{OutOfIndexes}
 use Rattle.delaunay_insertion.specs.Constraints.{SplitsConstraints}
-use Rattle.delaunay_legalization.specs.Constraints.{points_and_constraints_by}
-use Rattle.delaunay_legalization.specs.Known.{IsKnown}
-use Rattle.delaunay_legalization.specs.State.{State}
+use Rattle.delaunay_paths.specs.delaunay_legalization.Constraints.{points_and_constraints_by}
+use Rattle.delaunay_paths.specs.delaunay_legalization.Known.{IsKnown}
+use Rattle.delaunay_paths.specs.delaunay_legalization.State.{State}
 use Rattle.delaunay_removal.specs.Data.{KeepsDataOfOthers}
 use Rattle.delaunay_edit.specs.Data.{KeepsData}
 use Rattle.delaunay_edit.specs.Headline.{AreSites}

@@ -1,13 +1,13 @@
 -- What is at the position of a value that is to be inserted.
 use Rattle.std.specs.Prelude.{◌≡◌, ◌↔◌, ◌<◌, Bool, List, length, map, IsTrue}
-use Rattle.half_edge_mesh.specs.Mesh.{Mesh}
-use Rattle.plane.specs.Fraction.{Point}
+use Rattle.delaunay_paths.specs.half_edge_mesh.Mesh.{Mesh}
+use Rattle.delaunay_paths.specs.plane.Fraction.{Point}
 use Rattle.delaunay_edit.specs.declared.insertion.Entry.{Entry}
 use Rattle.delaunay_edit.specs.declared.insertion.Entry.TheVariants.{Occupied, Vacant}
-use Rattle.delaunay_location.specs.declared.position_in_triangulation.PositionInTriangulation.{PositionInTriangulation}
+use Rattle.delaunay_paths.specs.delaunay_location.declared.position_in_triangulation.PositionInTriangulation.{PositionInTriangulation}
 use Rattle.delaunay_edit.specs.Location.{IsApart, IsLeftOfPlace, Locates}
-use Rattle.delaunay_legalization.specs.Known.{point_at}
-use Rattle.delaunay_legalization.specs.State.{State}
+use Rattle.delaunay_paths.specs.delaunay_legalization.Known.{point_at}
+use Rattle.delaunay_paths.specs.delaunay_legalization.State.{State}
 
 -- p is at none of the points, it is at this location, and turns says whether it is strictly on the
 -- left of the edge there

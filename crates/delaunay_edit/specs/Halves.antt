@@ -3,18 +3,18 @@
 use Rattle.std.specs.Prelude.{◌≡◌, ◌≢◌, ◌⊎◌, ◌/◌}
 use Rattle.std.specs.Prelude.{ℕ, Bool, true, List, length, map, Option, MatchOption, IfSome}
 use Rattle.std.specs.Prelude.{Contains}
-use Rattle.half_edge_mesh.specs.Contents.{Contents}
-use Rattle.half_edge_mesh.specs.Mesh.{origin, rev}
-use Rattle.half_edge_mesh.specs.Renames.{moved}
-use Rattle.plane.specs.Fraction.{Point}
-use Rattle.plane.specs.Pairs.{Joins}
-use Rattle.plane.specs.Plain.{AreStraightHalves, Plain}
-use Rattle.plane_edits.specs.Legal.{AllPassBut}
-use Rattle.mesh_embedding.specs.Drawn.{faces_of}
-use Rattle.delaunay_legalization.specs.Constraints.{constraints_by}
-use Rattle.delaunay_legalization.specs.Legalized.{Legalizes}
-use Rattle.delaunay_legalization.specs.Shape.{IsTriangulated}
-use Rattle.delaunay_legalization.specs.State.{state_of}
+use Rattle.delaunay_paths.specs.half_edge_mesh.Contents.{Contents}
+use Rattle.delaunay_paths.specs.half_edge_mesh.Mesh.{origin, rev}
+use Rattle.delaunay_paths.specs.half_edge_mesh.Renames.{moved}
+use Rattle.delaunay_paths.specs.plane.Fraction.{Point}
+use Rattle.delaunay_paths.specs.plane.Pairs.{Joins}
+use Rattle.delaunay_paths.specs.plane.Plain.{AreStraightHalves, Plain}
+use Rattle.delaunay_paths.specs.plane_edits.Legal.{AllPassBut}
+use Rattle.delaunay_paths.specs.mesh_embedding.Drawn.{faces_of}
+use Rattle.delaunay_paths.specs.delaunay_legalization.Constraints.{constraints_by}
+use Rattle.delaunay_paths.specs.delaunay_legalization.Legalized.{Legalizes}
+use Rattle.delaunay_paths.specs.delaunay_legalization.Shape.{IsTriangulated}
+use Rattle.delaunay_paths.specs.delaunay_legalization.State.{state_of}
 use Rattle.delaunay_paths.specs.Adding.{AddsPath, HasFreeWay}
 use Rattle.delaunay_removal.specs.Pairs.{pairs_left}
 use Rattle.delaunay_edit.specs.Counting.{EndsAt, HasPairs}

@@ -1,15 +1,17 @@
 -- What holds of each triangulation between edits.
 use Rattle.std.specs.Prelude.{◌≡◌, ℕ, ◌≤◌, List, [], length, map, All}
-use Rattle.half_edge_links.specs.declared.room.TheConstants.{MAX_ELEMENTS}
-use Rattle.plane.specs.Fraction.{Point}
-use Rattle.plane.specs.Plain.{IsPlain}
-use Rattle.plane.specs.Tests.{InRange}
-use Rattle.plane.specs.Tiling.{IsTiling, IsFace}
-use Rattle.plane.specs.Delaunay.{IsConstrainedDelaunay, IsLocallyDelaunay, IsStrictlyEmpty}
-use Rattle.plane_delaunay.specs.History.{IsHistoryFree}
-use Rattle.delaunay_legalization.specs.Constraints.{constraints_by, points_and_constraints_by}
-use Rattle.delaunay_legalization.specs.Shape.{IsTriangulated}
-use Rattle.delaunay_legalization.specs.State.{State, triangulation_of}
+use Rattle.delaunay_paths.specs.half_edge_links.declared.room.TheConstants.{MAX_ELEMENTS}
+use Rattle.delaunay_paths.specs.plane.Fraction.{Point}
+use Rattle.delaunay_paths.specs.plane.Plain.{IsPlain}
+use Rattle.delaunay_paths.specs.plane.Tests.{InRange}
+use Rattle.delaunay_paths.specs.plane.Tiling.{IsTiling, IsFace}
+use Rattle.delaunay_paths.specs.plane.Delaunay.{IsConstrainedDelaunay, IsLocallyDelaunay}
+use Rattle.delaunay_paths.specs.plane.Delaunay.{IsStrictlyEmpty}
+use Rattle.delaunay_paths.specs.plane_delaunay.History.{IsHistoryFree}
+use Rattle.delaunay_paths.specs.delaunay_legalization.Constraints.{constraints_by}
+use Rattle.delaunay_paths.specs.delaunay_legalization.Constraints.{points_and_constraints_by}
+use Rattle.delaunay_paths.specs.delaunay_legalization.Shape.{IsTriangulated}
+use Rattle.delaunay_paths.specs.delaunay_legalization.State.{State, triangulation_of}
 
 -- this is the constrained Delaunay triangulation of its points with its constraints: the faces tile
 -- the hull; the constraints are edges, and no face has a vertex strictly inside its circle that is

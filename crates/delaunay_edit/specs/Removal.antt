@@ -1,9 +1,9 @@
 -- What becomes of a triangulation where the vertex at a point goes.
 use Rattle.std.specs.Prelude.{◌≡◌, ℕ, List, Some, slice_get}
-use Rattle.plane.specs.Fraction.{Point}
-use Rattle.plane.specs.Plain.{Removes}
-use Rattle.delaunay_legalization.specs.Constraints.{points_and_constraints_by}
-use Rattle.delaunay_legalization.specs.State.{State}
+use Rattle.delaunay_paths.specs.plane.Fraction.{Point}
+use Rattle.delaunay_paths.specs.plane.Plain.{Removes}
+use Rattle.delaunay_paths.specs.delaunay_legalization.Constraints.{points_and_constraints_by}
+use Rattle.delaunay_paths.specs.delaunay_legalization.State.{State}
 use Rattle.delaunay_removal.specs.Data.{KeepsDataOfOthers}
 
 -- a vertex at p went, which had this value, and what was not at it has the data that it had

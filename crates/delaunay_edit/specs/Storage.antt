@@ -1,8 +1,8 @@
 -- Triangulations as they are at first, and copies.
 use Rattle.std.specs.Prelude.{◌≡◌, [], ℕ, List, All}
 use Rattle.std.specs.List.{AllZip}
-use Rattle.half_edge_mesh.specs.Mesh.{empty}
-use Rattle.delaunay_legalization.specs.State.{State}
+use Rattle.delaunay_paths.specs.half_edge_mesh.Mesh.{empty}
+use Rattle.delaunay_paths.specs.delaunay_legalization.State.{State}
 
 -- no vertex and no edge, and the outer face with data that are as they are at first
 pub record IsEmptyState {V D U F : Type 0} (IsFirst : F → Type 0) (s : State V D U F) : Type 0 where

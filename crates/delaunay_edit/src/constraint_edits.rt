@@ -1,10 +1,10 @@
 //! Constraints that are added and released.
 ghost use Rattle.std.specs.Prelude.{◌≡◌, ◌≢◌, ◌⊎◌, ◌↔◌, ◌*◌, ◌<◌, ◌≤◌, []};
 ghost use Rattle.std.specs.Prelude.{length, map, All, Contains, IsTrue, IsOk, IfOk, OnErr, OnOk};
-ghost use Rattle.half_edge_links.specs.declared.room.TheConstants.{MAX_ELEMENTS};
-ghost use Rattle.half_edge_mesh.specs.Mesh.{origin, rev};
-ghost use Rattle.plane.specs.Pairs.{SamePairs};
-ghost use Rattle.plane.specs.Plain.{Adds, CanAdd, Releases};
+ghost use Rattle.delaunay_paths.specs.half_edge_links.declared.room.TheConstants.{MAX_ELEMENTS};
+ghost use Rattle.delaunay_paths.specs.half_edge_mesh.Mesh.{origin, rev};
+ghost use Rattle.delaunay_paths.specs.plane.Pairs.{SamePairs};
+ghost use Rattle.delaunay_paths.specs.plane.Plain.{Adds, CanAdd, Releases};
 ghost use Rattle.delaunay_edit.specs.Constrained.{constrained, constraint_edges, constraints_of};
 ghost use Rattle.delaunay_edit.specs.ConstraintEdits.{AddsConstraint, AddsIfFree, AddsPathIfFree};
 ghost use Rattle.delaunay_edit.specs.ConstraintEdits.{FreesEdge, MarksEdges, MayJoin, MayRelease};
@@ -14,13 +14,15 @@ ghost use Rattle.delaunay_edit.specs.Headline.{IsDelaunay};
 
 use crate::counting::count_path;
 use crate::edited_mesh::ConstrainedMesh;
-use delaunay_core::math::PlaneTests;
-use delaunay_core::point::HasPosition;
-use delaunay_legalization::{EdgeConstraints, is_constraint_edge};
+use delaunay_paths::delaunay_core::math::PlaneTests;
+use delaunay_paths::delaunay_core::point::HasPosition;
+use delaunay_paths::delaunay_legalization::{EdgeConstraints, is_constraint_edge};
+use delaunay_paths::half_edge_mesh::{
+    FixedDirectedEdgeHandle, FixedUndirectedEdgeHandle, FixedVertexHandle,
+};
 use delaunay_paths::{
     add_constraints, can_add_path, constrain_edge, edge_if_joined, edges_along, release_constraint,
 };
-use half_edge_mesh::{FixedDirectedEdgeHandle, FixedUndirectedEdgeHandle, FixedVertexHandle};
 use std::alloc::AllocError;
 
 impl<V: HasPosition, DE, UE, F> ConstrainedMesh<V, DE, UE, F> {

@@ -1,18 +1,18 @@
 //! Which edges of a mesh are constraints, and a mesh that takes on constraints.
 ghost use Rattle.std.specs.Prelude.{◌≡◌, ◌↔◌, ◌<◌, length, IsTrue, IfErr, IfOk};
-ghost use Rattle.plane.specs.Pairs.{Joins};
-ghost use Rattle.plane.specs.Plain.{Unconstrains};
-ghost use Rattle.delaunay_legalization.specs.State.{points_and_constraints};
+ghost use Rattle.delaunay_paths.specs.plane.Pairs.{Joins};
+ghost use Rattle.delaunay_paths.specs.plane.Plain.{Unconstrains};
+ghost use Rattle.delaunay_paths.specs.delaunay_legalization.State.{points_and_constraints};
 ghost use Rattle.delaunay_edit.specs.Constrained.{IsFree, constrained, constraint_edges};
 ghost use Rattle.delaunay_edit.specs.Constrained.{TellsConstraint, constraints_of};
 ghost use Rattle.delaunay_edit.specs.Data.{HasOtherEdgeData};
 ghost use Rattle.delaunay_edit.specs.Headline.{IsDelaunay};
 
 use crate::edited_mesh::{ConstrainedMesh, EditedMesh, PlainMesh};
-use delaunay_core::point::HasPosition;
-use delaunay_legalization::{EdgeConstraints, free_edge_data, is_constraint_edge};
+use delaunay_paths::delaunay_core::point::HasPosition;
+use delaunay_paths::delaunay_legalization::{EdgeConstraints, free_edge_data, is_constraint_edge};
+use delaunay_paths::half_edge_mesh::{FixedUndirectedEdgeHandle, FixedVertexHandle};
 use delaunay_paths::is_constraint_between;
-use half_edge_mesh::{FixedUndirectedEdgeHandle, FixedVertexHandle};
 use std::marker::PhantomData;
 
 impl<V: HasPosition, DE, UE, F> ConstrainedMesh<V, DE, UE, F> {

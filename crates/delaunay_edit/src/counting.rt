@@ -1,20 +1,20 @@
 //! How many constraints an edit makes or takes, by a look at what it changes.
 ghost use Rattle.std.specs.Prelude.{◌≡◌, ◌≢◌, ◌↔◌, ◌<◌, length, map, All, IsTrue};
 ghost use Rattle.std.specs.Prelude.{IfNone, IfSome};
-ghost use Rattle.delaunay_legalization.specs.Constraints.{constraints_by};
-ghost use Rattle.delaunay_legalization.specs.Shape.{IsTriangulated};
-ghost use Rattle.delaunay_legalization.specs.State.{state_of};
+ghost use Rattle.delaunay_paths.specs.delaunay_legalization.Constraints.{constraints_by};
+ghost use Rattle.delaunay_paths.specs.delaunay_legalization.Shape.{IsTriangulated};
+ghost use Rattle.delaunay_paths.specs.delaunay_legalization.State.{state_of};
 ghost use Rattle.delaunay_paths.specs.Adding.{CanAddPath};
 ghost use Rattle.delaunay_edit.specs.Counting.{EndsAt, HasPairs, IsMissing, IsSplitCount};
 ghost use Rattle.delaunay_edit.specs.Location.{HasHandle};
 
-use delaunay_core::math::PlaneTests;
-use delaunay_core::point::HasPosition;
-use delaunay_legalization::{ConstraintMarker, is_constraint_edge};
-use delaunay_lines::{Intersection, line_between_vertices};
-use delaunay_location::PositionInTriangulation;
+use delaunay_paths::delaunay_core::math::PlaneTests;
+use delaunay_paths::delaunay_core::point::HasPosition;
+use delaunay_paths::delaunay_legalization::{ConstraintMarker, is_constraint_edge};
+use delaunay_paths::delaunay_lines::{Intersection, line_between_vertices};
+use delaunay_paths::delaunay_location::PositionInTriangulation;
+use delaunay_paths::half_edge_mesh::{Dcel, FixedVertexHandle, MeshViews};
 use delaunay_paths::is_constraint_between;
-use half_edge_mesh::{Dcel, FixedVertexHandle, MeshViews};
 
 // How many constraints a new vertex at a location makes of one: one more where it is on a
 // constraint.

@@ -1,19 +1,23 @@
 //! A mesh with its edits, which both triangulation types hold.
 ghost use Rattle.std.specs.Prelude.{◌≡◌, ◌<◌, ◌≤◌, length, map};
-ghost use Rattle.half_edge_mesh.specs.Mesh.{origin, rev};
-ghost use Rattle.delaunay_core.specs.Place.{place_of};
-ghost use Rattle.delaunay_legalization.specs.Known.{point_at};
-ghost use Rattle.delaunay_legalization.specs.State.{state_of};
+ghost use Rattle.delaunay_paths.specs.half_edge_mesh.Mesh.{origin, rev};
+ghost use Rattle.delaunay_paths.specs.delaunay_core.Place.{place_of};
+ghost use Rattle.delaunay_paths.specs.delaunay_legalization.Known.{point_at};
+ghost use Rattle.delaunay_paths.specs.delaunay_legalization.State.{state_of};
 ghost use Rattle.delaunay_edit.specs.Counting.{IsCounted};
 ghost use Rattle.delaunay_edit.specs.Headline.{IsDelaunay, IsWellFormed};
 ghost use Rattle.delaunay_edit.specs.Location.{IsMeshEdge};
 ghost use Rattle.delaunay_edit.specs.Storage.{IsEmptyState};
 
-use delaunay_core::point::{HasPosition, Point2};
-use delaunay_legalization::{CdtEdge, ConstraintMarker, EdgeConstraints, EdgeSet, NoConstraints};
 use delaunay_paths::CrossingLists;
+use delaunay_paths::delaunay_core::point::{HasPosition, Point2};
+use delaunay_paths::delaunay_legalization::{
+    CdtEdge, ConstraintMarker, EdgeConstraints, EdgeSet, NoConstraints,
+};
+use delaunay_paths::half_edge_mesh::{
+    Dcel, FixedDirectedEdgeHandle, FixedVertexHandle, MAX_ELEMENTS, MeshViews,
+};
 use delaunay_removal::RemovalLists;
-use half_edge_mesh::{Dcel, FixedDirectedEdgeHandle, FixedVertexHandle, MAX_ELEMENTS, MeshViews};
 use std::alloc::Global;
 use std::marker::{Model, PhantomData};
 
@@ -43,7 +47,7 @@ pub(crate) type PlainMesh<V, DE, UE, F> = EditedMesh<V, DE, UE, F, NoConstraints
 pub(crate) type ConstrainedMesh<V, DE, UE, F> = EditedMesh<V, DE, CdtEdge<UE>, F, EdgeConstraints>;
 
 impl<V: HasPosition, DE, UE, F, M: ConstraintMarker<UE>> Model for EditedMesh<V, DE, UE, F, M> {
-    ghost use Rattle.delaunay_legalization.specs.State.{State, state_of};
+    ghost use Rattle.delaunay_paths.specs.delaunay_legalization.State.{State, state_of};
     ghost use Rattle.delaunay_edit.specs.Counting.{IsCounted};
 
     ghost Value = { State V DE UE F };

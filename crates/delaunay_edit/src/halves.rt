@@ -1,19 +1,19 @@
 //! The halves of a straight constraint, whose middle is a vertex.
 ghost use Rattle.std.specs.Prelude.{◌≡◌, ◌⊎◌, ◌↔◌, ◌<◌, length, map, All, IsTrue};
-ghost use Rattle.delaunay_legalization.specs.Constraints.{constraints_by};
-ghost use Rattle.delaunay_legalization.specs.Constraints.{points_and_constraints_by};
-ghost use Rattle.delaunay_legalization.specs.Shape.{IsTriangulated};
-ghost use Rattle.delaunay_legalization.specs.State.{state_of};
+ghost use Rattle.delaunay_paths.specs.delaunay_legalization.Constraints.{constraints_by};
+ghost use Rattle.delaunay_paths.specs.delaunay_legalization.Constraints.{points_and_constraints_by};
+ghost use Rattle.delaunay_paths.specs.delaunay_legalization.Shape.{IsTriangulated};
+ghost use Rattle.delaunay_paths.specs.delaunay_legalization.State.{state_of};
 ghost use Rattle.delaunay_edit.specs.Halves.{AreHalvesAt, AreTwoEnds, IsEndBeside};
 ghost use Rattle.delaunay_edit.specs.Halves.{LeadsBeside};
 
-use delaunay_core::math::PlaneTests;
-use delaunay_core::point::HasPosition;
-use delaunay_legalization::{
+use delaunay_paths::delaunay_core::math::PlaneTests;
+use delaunay_paths::delaunay_core::point::HasPosition;
+use delaunay_paths::delaunay_legalization::{
     ConstraintMarker, is_constraint_edge, is_strictly_within, position_of,
 };
+use delaunay_paths::half_edge_mesh::{Dcel, FixedDirectedEdgeHandle, FixedVertexHandle, MeshViews};
 use delaunay_removal::VertexPair;
-use half_edge_mesh::{Dcel, FixedDirectedEdgeHandle, FixedVertexHandle, MeshViews};
 
 // Whether a vertex is one of two.
 fn is_either(vertex: FixedVertexHandle, one: FixedVertexHandle, other: FixedVertexHandle) -> bool

@@ -2,10 +2,10 @@
 ghost use Rattle.std.specs.Prelude.{◌≡◌, ◌↔◌, ℕ, ◌+◌, ◌*◌, ◌<◌, ◌≤◌, ◌++◌, ◌∷◌, []};
 ghost use Rattle.std.specs.Prelude.{length, map, All, IsFalse, IsTrue};
 ghost use Rattle.std.specs.Prelude.{Err, IfOk, IsErrOf, IsOk, OnErr, OnOk};
-ghost use Rattle.plane.specs.Tests.{InRange};
-ghost use Rattle.delaunay_core.specs.declared.math.InsertionError.TheVariants.{OutOfMemory};
-ghost use Rattle.delaunay_core.specs.declared.math.InsertionError.TheVariants.{TooLarge};
-ghost use Rattle.delaunay_legalization.specs.Flips.{CountsFlips, FlipsFit};
+ghost use Rattle.delaunay_paths.specs.plane.Tests.{InRange};
+ghost use Rattle.delaunay_paths.specs.delaunay_core.declared.math.InsertionError.TheVariants.{OutOfMemory};
+ghost use Rattle.delaunay_paths.specs.delaunay_core.declared.math.InsertionError.TheVariants.{TooLarge};
+ghost use Rattle.delaunay_paths.specs.delaunay_legalization.Flips.{CountsFlips, FlipsFit};
 ghost use Rattle.delaunay_edit.specs.Edits.{AppendsVertex, AreSitesWith};
 ghost use Rattle.delaunay_edit.specs.Entry.{IsEntry, IsVacant};
 ghost use Rattle.delaunay_edit.specs.Headline.{IsDelaunay, IsWellFormed};
@@ -14,12 +14,14 @@ ghost use Rattle.delaunay_edit.specs.Location.{HasHandle, IsLeftOfPlace};
 use crate::counting::count_split;
 use crate::edited_mesh::EditedMesh;
 use crate::insertion_cases::insert_at;
-use delaunay_core::math::{InsertionError, PlaneTests, validate_vertex};
-use delaunay_core::point::HasPosition;
 use delaunay_insertion::{FreeByDefault, reserve_for_vertex};
-use delaunay_legalization::{EdgeSet, legalize_vertex, reserve_for_edges, turns_left};
-use delaunay_location::{PositionInTriangulation, locate_with_hint};
-use half_edge_mesh::{FixedVertexHandle, MAX_ELEMENTS};
+use delaunay_paths::delaunay_core::math::{InsertionError, PlaneTests, validate_vertex};
+use delaunay_paths::delaunay_core::point::HasPosition;
+use delaunay_paths::delaunay_legalization::{
+    EdgeSet, legalize_vertex, reserve_for_edges, turns_left,
+};
+use delaunay_paths::delaunay_location::{PositionInTriangulation, locate_with_hint};
+use delaunay_paths::half_edge_mesh::{FixedVertexHandle, MAX_ELEMENTS};
 
 /// What is at the position of a value.
 pub enum Entry {

@@ -1,19 +1,19 @@
 //! A new vertex at any position that no vertex has.
 ghost use Rattle.std.specs.Prelude.{◌+◌, ◌*◌, length, map, All};
-ghost use Rattle.half_edge_mesh.specs.Room.{HasRoomFor};
+ghost use Rattle.delaunay_paths.specs.half_edge_mesh.Room.{HasRoomFor};
 ghost use Rattle.delaunay_insertion.specs.Constraints.{SplitsConstraints};
 ghost use Rattle.delaunay_insertion.specs.Growth.{CanTake, GainsVertex};
 ghost use Rattle.delaunay_edit.specs.Entry.{IsVacant};
-ghost use Rattle.delaunay_legalization.specs.State.{state_of};
+ghost use Rattle.delaunay_paths.specs.delaunay_legalization.State.{state_of};
 
-use delaunay_core::math::PlaneTests;
-use delaunay_core::point::HasPosition;
 use delaunay_insertion::{
     FreeByDefault, insert_first, insert_inside_face, insert_past_end, insert_second,
     insert_within_edge, join_outside,
 };
-use delaunay_location::PositionInTriangulation;
-use half_edge_mesh::{Dcel, FixedVertexHandle};
+use delaunay_paths::delaunay_core::math::PlaneTests;
+use delaunay_paths::delaunay_core::point::HasPosition;
+use delaunay_paths::delaunay_location::PositionInTriangulation;
+use delaunay_paths::half_edge_mesh::{Dcel, FixedVertexHandle};
 
 // The new last vertex at a position that no vertex has. A constraint that the position is strictly
 // within becomes two.

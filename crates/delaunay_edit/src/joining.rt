@@ -2,17 +2,17 @@
 //! edge is made to pass the circle test.
 ghost use Rattle.std.specs.Prelude.{◌≡◌, ◌*◌, ◌≤◌, ◌++◌};
 ghost use Rattle.std.specs.Prelude.{length, map, All, IfSome, IsTrue, OnOk, Some};
-ghost use Rattle.delaunay_legalization.specs.Flips.{FlipsFit};
+ghost use Rattle.delaunay_paths.specs.delaunay_legalization.Flips.{FlipsFit};
 ghost use Rattle.delaunay_paths.specs.Lists.{HaveRoom};
 ghost use Rattle.delaunay_removal.specs.Pairs.{FailOnlyAt, pairs_left};
 ghost use Rattle.delaunay_edit.specs.Halves.{CanSettle, Settles};
 
-use delaunay_core::math::PlaneTests;
-use delaunay_core::point::HasPosition;
-use delaunay_legalization::{ConstraintMarker, EdgeSet, legalize};
+use delaunay_paths::delaunay_core::math::PlaneTests;
+use delaunay_paths::delaunay_core::point::HasPosition;
+use delaunay_paths::delaunay_legalization::{ConstraintMarker, EdgeSet, legalize};
+use delaunay_paths::half_edge_mesh::{Dcel, FixedVertexHandle};
 use delaunay_paths::{CrossingLists, add_path};
 use delaunay_removal::{RemovalLists, VertexPair, index_left, legalize_pairs, list_pairs};
-use half_edge_mesh::{Dcel, FixedVertexHandle};
 use std::alloc::AllocError;
 
 /// Makes room to join the far ends of straight halves, if there are such, in a mesh of at most so

@@ -1,6 +1,12 @@
 //! The mesh that a triangulation holds, with its edits.
 #![tactic(auto)]
 
+pub use delaunay_insertion;
+pub use delaunay_paths;
+pub use delaunay_paths::{
+    delaunay_core, delaunay_legalization, delaunay_lines, delaunay_location, half_edge_mesh,
+};
+
 mod constraint_edits;
 mod constraint_reads;
 mod counting;

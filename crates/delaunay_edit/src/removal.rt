@@ -1,11 +1,11 @@
 //! Vertices that go, one or all of them, and a vertex that gives way to one of its position.
 ghost use Rattle.std.specs.Prelude.{◌≡◌, ◌⊎◌, ◌<◌, [], slice_get, slice_set};
 ghost use Rattle.std.specs.Prelude.{length, map, All, Some, IfOk, OnErr, OnOk};
-ghost use Rattle.half_edge_mesh.specs.Mesh.{empty};
-ghost use Rattle.plane.specs.Plain.{Removes};
-ghost use Rattle.delaunay_legalization.specs.Constraints.{constraints_by};
-ghost use Rattle.delaunay_legalization.specs.Constraints.{points_and_constraints_by};
-ghost use Rattle.delaunay_legalization.specs.Known.{point_at};
+ghost use Rattle.delaunay_paths.specs.half_edge_mesh.Mesh.{empty};
+ghost use Rattle.delaunay_paths.specs.plane.Plain.{Removes};
+ghost use Rattle.delaunay_paths.specs.delaunay_legalization.Constraints.{constraints_by};
+ghost use Rattle.delaunay_paths.specs.delaunay_legalization.Constraints.{points_and_constraints_by};
+ghost use Rattle.delaunay_paths.specs.delaunay_legalization.Known.{point_at};
 ghost use Rattle.delaunay_removal.specs.Data.{KeepsDataOfOthers};
 ghost use Rattle.delaunay_removal.specs.Pairs.{HasBorder};
 ghost use Rattle.delaunay_edit.specs.Counting.{EndsAt, HasPairs};
@@ -16,11 +16,11 @@ use crate::counting::count_constraints_at;
 use crate::edited_mesh::EditedMesh;
 use crate::halves::straight_halves;
 use crate::joining::{reserve_to_join, settle};
-use delaunay_core::math::PlaneTests;
-use delaunay_core::point::HasPosition;
-use delaunay_legalization::ConstraintMarker;
+use delaunay_paths::delaunay_core::math::PlaneTests;
+use delaunay_paths::delaunay_core::point::HasPosition;
+use delaunay_paths::delaunay_legalization::ConstraintMarker;
+use delaunay_paths::half_edge_mesh::FixedVertexHandle;
 use delaunay_removal::{VertexPair, remove_vertex, sides_of_hole};
-use half_edge_mesh::FixedVertexHandle;
 use std::alloc::AllocError;
 
 impl<V: HasPosition, DE, UE, F, M: ConstraintMarker<UE>> EditedMesh<V, DE, UE, F, M> {

@@ -1,16 +1,16 @@
 //! Room for more, and copies.
 ghost use Rattle.std.specs.Prelude.{◌≡◌, ◌*◌, ◌≤◌, Err, IfOk, OnErr};
-ghost use Rattle.half_edge_links.specs.declared.room.TheConstants.{MAX_ELEMENTS};
-ghost use Rattle.delaunay_core.specs.declared.math.InsertionError.TheVariants.{OutOfMemory};
+ghost use Rattle.delaunay_paths.specs.half_edge_links.declared.room.TheConstants.{MAX_ELEMENTS};
+ghost use Rattle.delaunay_paths.specs.delaunay_core.declared.math.InsertionError.TheVariants.{OutOfMemory};
 ghost use Rattle.delaunay_edit.specs.Headline.{IsDelaunay};
 ghost use Rattle.delaunay_edit.specs.Storage.{IsCopy, KeepsImage};
 
 use crate::edge_data::EdgeData;
 use crate::edited_mesh::EditedMesh;
 use crate::insertion::reserve_to_test;
-use delaunay_core::math::InsertionError;
-use delaunay_core::point::HasPosition;
-use delaunay_legalization::ConstraintMarker;
+use delaunay_paths::delaunay_core::math::InsertionError;
+use delaunay_paths::delaunay_core::point::HasPosition;
+use delaunay_paths::delaunay_legalization::ConstraintMarker;
 use std::alloc::AllocError;
 
 impl<V: HasPosition, DE, UE, F, M: ConstraintMarker<UE>> EditedMesh<V, DE, UE, F, M> {

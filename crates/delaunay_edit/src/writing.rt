@@ -1,14 +1,16 @@
 //! References for writing to the data of edges and faces.
 ghost use Rattle.std.specs.Prelude.{◌≡◌, ◌<◌, ◌≤◌, ◌∷◌, ℕ, length, map, Some, slice_get};
 ghost use Rattle.std.specs.Borrow.{Lends, sem};
-ghost use Rattle.delaunay_legalization.specs.State.{State};
+ghost use Rattle.delaunay_paths.specs.delaunay_legalization.State.{State};
 ghost use Rattle.delaunay_edit.specs.Writing.{with_directed_data, with_undirected_data};
 ghost use Rattle.delaunay_edit.specs.Writing.{with_face_data};
 
 use crate::edge_data::EdgeData;
 use crate::edited_mesh::EditedMesh;
-use delaunay_core::point::HasPosition;
-use half_edge_mesh::{FixedDirectedEdgeHandle, FixedFaceHandle, FixedUndirectedEdgeHandle};
+use delaunay_paths::delaunay_core::point::HasPosition;
+use delaunay_paths::half_edge_mesh::{
+    FixedDirectedEdgeHandle, FixedFaceHandle, FixedUndirectedEdgeHandle,
+};
 
 /// Data of edges and faces that can be written. That of vertices cannot, since it has their
 /// positions.

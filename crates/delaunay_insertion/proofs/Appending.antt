@@ -5,8 +5,8 @@ use Rattle.std.proofs.Common.{ℕ, List, length, map, sym, ap, subst, Result, Ok
 use Rattle.std.specs.Prelude.{pos, All, IfOk, OnOk}
 use Rattle.std.proofs.lemmas.List.{length-map, get_or-map, map-append}
 use Rattle.std.proofs.lemmas.List.Elements.{All-from_get_or, All-push}
-use Rattle.plane.specs.Fraction.{Point}
-use Rattle.plane.specs.Plain.{DifferInPosition, Appends, Inserts}
+use Rattle.delaunay_legalization.specs.plane.Fraction.{Point}
+use Rattle.delaunay_legalization.specs.plane.Plain.{DifferInPosition, Appends, Inserts}
 use Rattle.delaunay_legalization.specs.Parts.{IsApart}
 use Rattle.delaunay_legalization.specs.Constraints.{points_and_constraints_by}
 use Rattle.delaunay_legalization.specs.State.{State}

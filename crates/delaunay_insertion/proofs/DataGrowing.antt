@@ -11,32 +11,38 @@ use Rattle.std.proofs.lemmas.Grind.{common_steps}
 use Rattle.std.proofs.lemmas.Int.{ints}
 use Rattle.std.proofs.lemmas.List.{length-map, length-set, get_or-map}
 use Rattle.std.proofs.lemmas.Option.{slice_get_within, slice_get-get_or, get_or_from_slice_get}
-use Rattle.half_edge_mesh.specs.Mesh.{Mesh, origin, next, prev, face, face_edge, rev, AreSoundLinks}
-use Rattle.half_edge_mesh.specs.Mesh.{IsValidMesh}
-use Rattle.half_edge_mesh.specs.Outline.{Ends, ends, AddsTriangle, HalfSplitsTriangles}
-use Rattle.half_edge_mesh.specs.Triangles.{Triangle, triangle_at, triangles, InsertsTriangles}
-use Rattle.half_edge_mesh.specs.Triangles.{SplitsTriangles}
-use Rattle.half_edge_links.proofs.Sound.Ends.{length-ends_twice, get_or-ends}
-use Rattle.half_edge_links.proofs.Lists.Rev.{rev-rev, rev_within}
-use Rattle.half_edge_links.proofs.Sound.Triangles as T
-use Rattle.half_edge_mesh.specs.Contents.{Contents, FitsMesh, IsMeshWithData, Edge, edges, edges_of}
-use Rattle.half_edge_mesh.specs.Contents.{edge_with}
-use Rattle.half_edge_mesh.specs.Growth.{Grows, MovesTwoItems, AddsEdges, SplitsEdge, with_ends}
-use Rattle.plane.specs.Fraction.{Point, Fraction, whole, IsPositive, IsNotNegative, WithinSegment}
-use Rattle.plane.specs.Fraction.{InTriangle, InsideTriangle}
-use Rattle.plane.specs.Pairs.{place}
-use Rattle.plane.proofs.Means.{TwoWeights, ThreeWeights, two_weights, three_weights, mean_of_three}
-use Rattle.plane.proofs.Solver.{◌⊕◌, ◌⊗◌, num, ring_in}
-use Rattle.plane.proofs.Steps.{weak}
-use Rattle.plane.proofs.Triangles.{turned_in}
-use Rattle.plane_tiling.proofs.Edges.{turned_within}
-use Rattle.mesh_embedding.specs.Stays.{GoSameWay}
-use Rattle.mesh_embedding.proofs.EdgePairs.{rev_of_even}
-use Rattle.mesh_embedding.proofs.MeshStays.{halved, half_same, slice_get-set_other}
+use Rattle.delaunay_legalization.specs.half_edge_mesh.Mesh.{Mesh, origin, next, prev, face}
+use Rattle.delaunay_legalization.specs.half_edge_mesh.Mesh.{face_edge, rev, AreSoundLinks}
+use Rattle.delaunay_legalization.specs.half_edge_mesh.Mesh.{IsValidMesh}
+use Rattle.delaunay_legalization.specs.half_edge_mesh.Outline.{Ends, ends, AddsTriangle}
+use Rattle.delaunay_legalization.specs.half_edge_mesh.Outline.{HalfSplitsTriangles}
+use Rattle.delaunay_legalization.specs.half_edge_mesh.Triangles.{Triangle, triangle_at, triangles}
+use Rattle.delaunay_legalization.specs.half_edge_mesh.Triangles.{InsertsTriangles, SplitsTriangles}
+use Rattle.delaunay_legalization.proofs.half_edge_links.Sound.Ends.{length-ends_twice, get_or-ends}
+use Rattle.delaunay_legalization.proofs.half_edge_links.Lists.Rev.{rev-rev, rev_within}
+use Rattle.delaunay_legalization.proofs.half_edge_links.Sound.Triangles as T
+use Rattle.delaunay_legalization.specs.half_edge_mesh.Contents.{Contents, FitsMesh, IsMeshWithData}
+use Rattle.delaunay_legalization.specs.half_edge_mesh.Contents.{Edge, edges, edges_of, edge_with}
+use Rattle.delaunay_legalization.specs.half_edge_mesh.Growth.{Grows, MovesTwoItems, AddsEdges}
+use Rattle.delaunay_legalization.specs.half_edge_mesh.Growth.{SplitsEdge, with_ends}
+use Rattle.delaunay_legalization.specs.plane.Fraction.{Point, Fraction, whole, IsPositive}
+use Rattle.delaunay_legalization.specs.plane.Fraction.{IsNotNegative, WithinSegment, InTriangle}
+use Rattle.delaunay_legalization.specs.plane.Fraction.{InsideTriangle}
+use Rattle.delaunay_legalization.specs.plane.Pairs.{place}
+use Rattle.delaunay_legalization.proofs.plane.Means.{TwoWeights, ThreeWeights, two_weights}
+use Rattle.delaunay_legalization.proofs.plane.Means.{three_weights, mean_of_three}
+use Rattle.delaunay_legalization.proofs.plane.Solver.{◌⊕◌, ◌⊗◌, num, ring_in}
+use Rattle.delaunay_legalization.proofs.plane.Steps.{weak}
+use Rattle.delaunay_legalization.proofs.plane.Triangles.{turned_in}
+use Rattle.delaunay_legalization.proofs.plane_tiling.Edges.{turned_within}
+use Rattle.delaunay_legalization.specs.mesh_embedding.Stays.{GoSameWay}
+use Rattle.delaunay_legalization.proofs.mesh_embedding.EdgePairs.{rev_of_even}
+use Rattle.delaunay_legalization.proofs.mesh_embedding.MeshStays.{halved, half_same}
+use Rattle.delaunay_legalization.proofs.mesh_embedding.MeshStays.{slice_get-set_other}
 use Rattle.delaunay_insertion.specs.Data.{KeepsEdge, KeepsFace, GrowsAround, IsInCorners}
 use Rattle.delaunay_legalization.specs.Parts.{IsWithinEdge, IsInsideFaceOf}
 use Rattle.delaunay_legalization.specs.State.{State, state_of}
-use Rattle.plane.proofs.Indexes.{one_below}
+use Rattle.delaunay_legalization.proofs.plane.Indexes.{one_below}
 
 -- ---- entries of lists
 get_before : {X : Type 0} (xs ys : List X) (k : ℕ) → k < length xs

@@ -6,24 +6,25 @@ use Rattle.std.proofs.Common.{ℕ, List, length, map, get_or, sym, ap, subst, So
 use Rattle.std.specs.Prelude.{slice_get}
 use Rattle.std.proofs.lemmas.List.{length-map}
 use Rattle.std.proofs.lemmas.Option.{slice_get_within, slice_get-get_or}
-use Rattle.half_edge_mesh.specs.Mesh.{origin, rev}
-use Rattle.half_edge_mesh.specs.Triangles.{Triangle, triangles}
-use Rattle.half_edge_mesh.specs.Contents.{Contents}
-use Rattle.plane.specs.Fraction.{Point, Fraction, InTriangle}
-use Rattle.plane.specs.Pairs.{place, Joins}
-use Rattle.plane.specs.Tiling.{IsEdge}
-use Rattle.plane_edits.specs.Change.{IsFaceOf}
-use Rattle.mesh_embedding.specs.Drawn.{drawn, faces_of, edges_of}
-use Rattle.mesh_embedding.specs.Stays.{GoSameWay, HaveSameCorners, KeepsIndexes}
-use Rattle.mesh_embedding.proofs.MeshStays.{face_there, turned_back}
-use Rattle.mesh_embedding.proofs.MeshLegal.{own_indexes}
+use Rattle.delaunay_legalization.specs.half_edge_mesh.Mesh.{origin, rev}
+use Rattle.delaunay_legalization.specs.half_edge_mesh.Triangles.{Triangle, triangles}
+use Rattle.delaunay_legalization.specs.half_edge_mesh.Contents.{Contents}
+use Rattle.delaunay_legalization.specs.plane.Fraction.{Point, Fraction, InTriangle}
+use Rattle.delaunay_legalization.specs.plane.Pairs.{place, Joins}
+use Rattle.delaunay_legalization.specs.plane.Tiling.{IsEdge}
+use Rattle.delaunay_legalization.specs.plane_edits.Change.{IsFaceOf}
+use Rattle.delaunay_legalization.specs.mesh_embedding.Drawn.{drawn, faces_of, edges_of}
+use Rattle.delaunay_legalization.specs.mesh_embedding.Stays.{GoSameWay, HaveSameCorners}
+use Rattle.delaunay_legalization.specs.mesh_embedding.Stays.{KeepsIndexes}
+use Rattle.delaunay_legalization.proofs.mesh_embedding.MeshStays.{face_there, turned_back}
+use Rattle.delaunay_legalization.proofs.mesh_embedding.MeshLegal.{own_indexes}
 use Rattle.delaunay_insertion.proofs.NewVertex.{place_stays, place_last, is_vertex, not_within}
 use Rattle.delaunay_insertion.proofs.NewVertex.{source_in, target_in}
 use Rattle.delaunay_insertion.specs.Data.{KeepsData, KeepsEdge, GrowsAround, IsInCorners}
 use Rattle.delaunay_legalization.specs.Shape.{IsTriangulated}
 use Rattle.delaunay_legalization.specs.State.{State, state_of}
-use Rattle.mesh_embedding.proofs.EdgePairs.{edge_joins}
-use Rattle.mesh_embedding.proofs.Entries.{some_entry}
+use Rattle.delaunay_legalization.proofs.mesh_embedding.EdgePairs.{edge_joins}
+use Rattle.delaunay_legalization.proofs.mesh_embedding.Entries.{some_entry}
 use Rattle.delaunay_legalization.proofs.MeshParts.{no_side}
 use Rattle.delaunay_legalization.proofs.Shapes.{laid_out_tiles}
 

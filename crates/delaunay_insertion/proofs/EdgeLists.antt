@@ -8,13 +8,13 @@ use Rattle.std.proofs.lemmas.Bool.{cases_eq}
 use Rattle.std.proofs.lemmas.List.{length-set}
 use Rattle.std.proofs.lemmas.List.Elements.{All-get_or}
 use Rattle.std.proofs.lemmas.Option.{slice_get_within, get_or_from_slice_get}
-use Rattle.half_edge_mesh.specs.Outline.{Ends, along}
-use Rattle.half_edge_mesh.specs.Contents.{Edge, edges_of, edge_with}
-use Rattle.half_edge_mesh.specs.Growth.{AddsEdges, SplitsEdge, with_ends}
-use Rattle.plane.specs.Pairs.{IsSamePair}
-use Rattle.mesh_embedding.proofs.MeshStays.{slice_get-set_other}
+use Rattle.delaunay_legalization.specs.half_edge_mesh.Outline.{Ends, along}
+use Rattle.delaunay_legalization.specs.half_edge_mesh.Contents.{Edge, edges_of, edge_with}
+use Rattle.delaunay_legalization.specs.half_edge_mesh.Growth.{AddsEdges, SplitsEdge, with_ends}
+use Rattle.delaunay_legalization.specs.plane.Pairs.{IsSamePair}
+use Rattle.delaunay_legalization.proofs.mesh_embedding.MeshStays.{slice_get-set_other}
 use Rattle.delaunay_insertion.specs.Edges.{AddsOnly, SplitsAt}
-use Rattle.mesh_embedding.proofs.Entries.{one_value}
+use Rattle.delaunay_legalization.proofs.mesh_embedding.Entries.{one_value}
 use Rattle.delaunay_insertion.proofs.DataGrowing.{some_before, with_ends_other, parts_of_edge}
 use Rattle.delaunay_legalization.proofs.MarkedPairs.{set_entry}
 

@@ -4,16 +4,16 @@
 use Rattle.std.proofs.Common.{◌≡◌, ◌+◌, ◌*◌, ◌<◌, ◌≤◌, [], ◌∙◌}
 use Rattle.std.proofs.Common.{ℕ, length, map, ap, sym, subst, inl, inr, arith}
 use Rattle.std.proofs.lemmas.List.{length-map}
-use Rattle.half_edge_mesh.specs.Mesh.{origin, rev, face}
-use Rattle.half_edge_mesh.specs.Room.{HasRoomFor}
-use Rattle.half_edge_mesh.specs.Triangles.{triangle_at, triangles}
-use Rattle.half_edge_links.proofs.Lists.Rev.{rev-rev, rev_within}
-use Rattle.half_edge_mesh.specs.Contents.{Contents, HasRoom}
-use Rattle.plane.specs.Fraction.{Point, whole, WithinSegment}
-use Rattle.plane.specs.Pairs.{place}
-use Rattle.plane.specs.Tiling.{IsTiling, HasFace}
-use Rattle.plane_tiling.proofs.Edges.{turned_within}
-use Rattle.mesh_embedding.specs.Drawn.{drawn, faces_of, corners_of}
+use Rattle.delaunay_legalization.specs.half_edge_mesh.Mesh.{origin, rev, face}
+use Rattle.delaunay_legalization.specs.half_edge_mesh.Room.{HasRoomFor}
+use Rattle.delaunay_legalization.specs.half_edge_mesh.Triangles.{triangle_at, triangles}
+use Rattle.delaunay_legalization.proofs.half_edge_links.Lists.Rev.{rev-rev, rev_within}
+use Rattle.delaunay_legalization.specs.half_edge_mesh.Contents.{Contents, HasRoom}
+use Rattle.delaunay_legalization.specs.plane.Fraction.{Point, whole, WithinSegment}
+use Rattle.delaunay_legalization.specs.plane.Pairs.{place}
+use Rattle.delaunay_legalization.specs.plane.Tiling.{IsTiling, HasFace}
+use Rattle.delaunay_legalization.proofs.plane_tiling.Edges.{turned_within}
+use Rattle.delaunay_legalization.specs.mesh_embedding.Drawn.{drawn, faces_of, corners_of}
 use Rattle.delaunay_legalization.specs.Parts.{IsMeshEdge, IsWithinEdge}
 use Rattle.delaunay_legalization.specs.Shape.{IsTriangulated}
 use Rattle.delaunay_legalization.specs.State.{state_of}

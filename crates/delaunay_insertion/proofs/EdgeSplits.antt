@@ -7,15 +7,17 @@ use Rattle.std.proofs.Common.{refl, sym, ap, ◌∙◌, subst, Some, inl, inr, a
 use Rattle.std.specs.Prelude.{Contains, IsTrue, slice_get}
 use Rattle.std.proofs.lemmas.List.{length-set}
 use Rattle.std.proofs.lemmas.Option.{slice_get_within}
-use Rattle.half_edge_mesh.specs.Mesh.{origin, next, rev}
-use Rattle.half_edge_mesh.specs.Outline.{Ends, along, ends}
-use Rattle.half_edge_links.proofs.Sound.Ends.{length-ends_twice}
-use Rattle.half_edge_links.proofs.Lists.Rev.{rev-rev}
-use Rattle.half_edge_mesh.specs.Contents.{Contents, Edge, edges, edges_of, FitsMesh, IsMeshWithData}
-use Rattle.half_edge_mesh.specs.Growth.{AddsEdges, SplitsEdge, with_ends, joins}
-use Rattle.plane.specs.Fraction.{Point}
-use Rattle.plane.specs.Pairs.{IsSamePair}
-use Rattle.mesh_embedding.proofs.MeshStays.{halved, slice_get-set_other}
+use Rattle.delaunay_legalization.specs.half_edge_mesh.Mesh.{origin, next, rev}
+use Rattle.delaunay_legalization.specs.half_edge_mesh.Outline.{Ends, along, ends}
+use Rattle.delaunay_legalization.proofs.half_edge_links.Sound.Ends.{length-ends_twice}
+use Rattle.delaunay_legalization.proofs.half_edge_links.Lists.Rev.{rev-rev}
+use Rattle.delaunay_legalization.specs.half_edge_mesh.Contents.{Contents, Edge, edges, edges_of}
+use Rattle.delaunay_legalization.specs.half_edge_mesh.Contents.{FitsMesh, IsMeshWithData}
+use Rattle.delaunay_legalization.specs.half_edge_mesh.Growth.{AddsEdges, SplitsEdge, with_ends}
+use Rattle.delaunay_legalization.specs.half_edge_mesh.Growth.{joins}
+use Rattle.delaunay_legalization.specs.plane.Fraction.{Point}
+use Rattle.delaunay_legalization.specs.plane.Pairs.{IsSamePair}
+use Rattle.delaunay_legalization.proofs.mesh_embedding.MeshStays.{halved, slice_get-set_other}
 use Rattle.delaunay_legalization.specs.Constraints.{marked_edges, not_both}
 use Rattle.delaunay_legalization.specs.Marking.{HasEdgeData}
 use Rattle.delaunay_legalization.specs.Shape.{IsTriangulated}

@@ -7,26 +7,26 @@ use Rattle.std.proofs.Common.{arith}
 use Rattle.std.specs.Prelude.{Contains, slice_get}
 use Rattle.std.proofs.lemmas.List.{length-map, map-append}
 use Rattle.std.proofs.lemmas.Option.{slice_get-get_or}
-use Rattle.half_edge_mesh.specs.Triangles.{Triangle, triangles}
-use Rattle.plane.specs.Fraction.{Point, whole, InTriangle}
-use Rattle.plane.specs.Circle.{InsideCircle}
-use Rattle.plane.specs.Pairs.{place}
-use Rattle.plane.specs.Tiling.{Face}
-use Rattle.plane.proofs.Triangles.{turned_in}
-use Rattle.plane_tiling.specs.Local.{IsMesh}
-use Rattle.plane_edits.specs.Change.{IsFaceOf}
-use Rattle.plane_edits.proofs.LocalMesh.Changes.{turn_of_all}
-use Rattle.mesh_embedding.specs.Drawn.{corners_of, faces_of, outer_of}
-use Rattle.mesh_embedding.proofs.FaceChanges.{turned_faces}
-use Rattle.mesh_embedding.proofs.MeshStays.{face_there}
-use Rattle.mesh_embedding.proofs.WorkLists.{contains_map_from}
+use Rattle.delaunay_legalization.specs.half_edge_mesh.Triangles.{Triangle, triangles}
+use Rattle.delaunay_legalization.specs.plane.Fraction.{Point, whole, InTriangle}
+use Rattle.delaunay_legalization.specs.plane.Circle.{InsideCircle}
+use Rattle.delaunay_legalization.specs.plane.Pairs.{place}
+use Rattle.delaunay_legalization.specs.plane.Tiling.{Face}
+use Rattle.delaunay_legalization.proofs.plane.Triangles.{turned_in}
+use Rattle.delaunay_legalization.specs.plane_tiling.Local.{IsMesh}
+use Rattle.delaunay_legalization.specs.plane_edits.Change.{IsFaceOf}
+use Rattle.delaunay_legalization.proofs.plane_edits.LocalMesh.Changes.{turn_of_all}
+use Rattle.delaunay_legalization.specs.mesh_embedding.Drawn.{corners_of, faces_of, outer_of}
+use Rattle.delaunay_legalization.proofs.mesh_embedding.FaceChanges.{turned_faces}
+use Rattle.delaunay_legalization.proofs.mesh_embedding.MeshStays.{face_there}
+use Rattle.delaunay_legalization.proofs.mesh_embedding.WorkLists.{contains_map_from}
 use Rattle.delaunay_legalization.specs.Shape.{IsTriangulated}
 use Rattle.delaunay_legalization.specs.Star.{MakesFacesAt}
 use Rattle.delaunay_legalization.specs.State.{State}
-use Rattle.plane_edits.specs.EmptyRound.{IsEmptyRound}
+use Rattle.delaunay_legalization.specs.plane_edits.EmptyRound.{IsEmptyRound}
 use Rattle.delaunay_insertion.specs.Growth.{GainsVertex}
 use Rattle.delaunay_insertion.proofs.MadeFaces.{made_at_count}
-use Rattle.plane_edits.proofs.Legalization.NewPoint.{put_in_is_empty}
+use Rattle.delaunay_legalization.proofs.plane_edits.Legalization.NewPoint.{put_in_is_empty}
 
 module _ {V D U F : Type 0} (at : V → Point) (v : V) (old new : State V D U F) (vertex : ℕ)
     (takes : GainsVertex at v old new vertex) where

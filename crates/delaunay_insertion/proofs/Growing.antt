@@ -6,24 +6,26 @@ use Rattle.std.proofs.Common.{length-append}
 use Rattle.std.specs.Prelude.{All}
 use Rattle.std.proofs.lemmas.List.{length-map, map-append}
 use Rattle.std.proofs.lemmas.List.Elements.{All-push}
-use Rattle.half_edge_mesh.specs.Mesh.{Mesh, AreSoundLinks, IsValidMesh, with_vertex}
-use Rattle.half_edge_mesh.specs.Triangles.{triangle_at, triangles}
-use Rattle.half_edge_mesh.specs.Outline.{OuterChanges, ExtendsOuter, SplitsOuter, IsThis}
-use Rattle.half_edge_mesh.specs.Contents.{Contents, IsMeshWithData}
-use Rattle.half_edge_dcel.proofs.Outlines.{outer_changes, empty_list}
-use Rattle.plane.specs.Fraction.{Point, Fraction, whole}
-use Rattle.plane.specs.Pairs.{IsIndex, place}
-use Rattle.plane.specs.Location.{IsPast}
-use Rattle.plane.specs.Tests.{InRange}
-use Rattle.plane.specs.Tiling.{Face}
-use Rattle.plane_tiling.specs.Local.{IsMesh, LocalMesh, LineMesh, alone}
-use Rattle.plane_tiling.proofs.Totals.{Contains-head}
-use Rattle.plane_tiling.proofs.Counting.{corners_differ}
-use Rattle.plane_tiling.proofs.Tiles.{by_signs}
-use Rattle.plane_tiling.proofs.Tiles as P
-use Rattle.plane_tiling.proofs.LineMeshes.{one_vertex}
-use Rattle.mesh_embedding.specs.Drawn.{faces_of, outer_of, corners_of}
-use Rattle.mesh_embedding.proofs.MeshLines.{line_extended, line_split_at}
+use Rattle.delaunay_legalization.specs.half_edge_mesh.Mesh.{Mesh, AreSoundLinks, IsValidMesh}
+use Rattle.delaunay_legalization.specs.half_edge_mesh.Mesh.{with_vertex}
+use Rattle.delaunay_legalization.specs.half_edge_mesh.Triangles.{triangle_at, triangles}
+use Rattle.delaunay_legalization.specs.half_edge_mesh.Outline.{OuterChanges, ExtendsOuter}
+use Rattle.delaunay_legalization.specs.half_edge_mesh.Outline.{SplitsOuter, IsThis}
+use Rattle.delaunay_legalization.specs.half_edge_mesh.Contents.{Contents, IsMeshWithData}
+use Rattle.delaunay_legalization.proofs.half_edge_dcel.Outlines.{outer_changes, empty_list}
+use Rattle.delaunay_legalization.specs.plane.Fraction.{Point, Fraction, whole}
+use Rattle.delaunay_legalization.specs.plane.Pairs.{IsIndex, place}
+use Rattle.delaunay_legalization.specs.plane.Location.{IsPast}
+use Rattle.delaunay_legalization.specs.plane.Tests.{InRange}
+use Rattle.delaunay_legalization.specs.plane.Tiling.{Face}
+use Rattle.delaunay_legalization.specs.plane_tiling.Local.{IsMesh, LocalMesh, LineMesh, alone}
+use Rattle.delaunay_legalization.proofs.plane_tiling.Totals.{Contains-head}
+use Rattle.delaunay_legalization.proofs.plane_tiling.Counting.{corners_differ}
+use Rattle.delaunay_legalization.proofs.plane_tiling.Tiles.{by_signs}
+use Rattle.delaunay_legalization.proofs.plane_tiling.Tiles as P
+use Rattle.delaunay_legalization.proofs.plane_tiling.LineMeshes.{one_vertex}
+use Rattle.delaunay_legalization.specs.mesh_embedding.Drawn.{faces_of, outer_of, corners_of}
+use Rattle.delaunay_legalization.proofs.mesh_embedding.MeshLines.{line_extended, line_split_at}
 use Rattle.delaunay_legalization.specs.State.{state_of}
 use Rattle.delaunay_legalization.specs.Shape.{IsTriangulated}
 use Rattle.delaunay_legalization.specs.Parts.{IsApart, IsWithinEdge}

@@ -3,21 +3,24 @@
 use Rattle.std.proofs.Common.{◌≡◌, ◌<◌, ◌≤◌, ◌+◌, [], ◌∷◌, ◌++◌, ◌∙◌}
 use Rattle.std.proofs.Common.{ℕ, List, length, length-append, sym, ap, subst, inl, inr, arith}
 use Rattle.std.proofs.lemmas.List.{length-map, length-set}
-use Rattle.half_edge_mesh.specs.Mesh.{Mesh, AreSoundLinks, IsValidMesh, IsInnerEdge, origin, next}
-use Rattle.half_edge_mesh.specs.Mesh.{face_edge, rev}
-use Rattle.half_edge_mesh.specs.Flip.{IsFlippable}
-use Rattle.half_edge_mesh.specs.Grow.{IsHalfSplittable}
-use Rattle.half_edge_mesh.specs.Triangles.{triangle_at, triangles, InsertsTriangles}
-use Rattle.half_edge_mesh.specs.Triangles.{SplitsTriangles}
-use Rattle.half_edge_mesh.specs.Outline.{KeepsOuter, ReplacesOuter, HalfSplitsTriangles}
-use Rattle.half_edge_mesh.specs.Growth.{MovesItem}
-use Rattle.plane.specs.Fraction.{Point, whole, WithinSegment}
-use Rattle.plane.specs.Pairs.{place}
-use Rattle.plane_tiling.specs.Local.{IsMesh, LocalMesh}
-use Rattle.plane_tiling.proofs.Edges.{turned_within}
-use Rattle.mesh_embedding.specs.Drawn.{faces_of, outer_of, corners_of}
-use Rattle.mesh_embedding.proofs.MeshEdits.{insertion_inside, insertion_within_side}
-use Rattle.mesh_embedding.proofs.MeshEdits.{insertion_within_outer}
+use Rattle.delaunay_legalization.specs.half_edge_mesh.Mesh.{Mesh, AreSoundLinks, IsValidMesh}
+use Rattle.delaunay_legalization.specs.half_edge_mesh.Mesh.{IsInnerEdge, origin, next, face_edge}
+use Rattle.delaunay_legalization.specs.half_edge_mesh.Mesh.{rev}
+use Rattle.delaunay_legalization.specs.half_edge_mesh.Flip.{IsFlippable}
+use Rattle.delaunay_legalization.specs.half_edge_mesh.Grow.{IsHalfSplittable}
+use Rattle.delaunay_legalization.specs.half_edge_mesh.Triangles.{triangle_at, triangles}
+use Rattle.delaunay_legalization.specs.half_edge_mesh.Triangles.{InsertsTriangles, SplitsTriangles}
+use Rattle.delaunay_legalization.specs.half_edge_mesh.Outline.{KeepsOuter, ReplacesOuter}
+use Rattle.delaunay_legalization.specs.half_edge_mesh.Outline.{HalfSplitsTriangles}
+use Rattle.delaunay_legalization.specs.half_edge_mesh.Growth.{MovesItem}
+use Rattle.delaunay_legalization.specs.plane.Fraction.{Point, whole, WithinSegment}
+use Rattle.delaunay_legalization.specs.plane.Pairs.{place}
+use Rattle.delaunay_legalization.specs.plane_tiling.Local.{IsMesh, LocalMesh}
+use Rattle.delaunay_legalization.proofs.plane_tiling.Edges.{turned_within}
+use Rattle.delaunay_legalization.specs.mesh_embedding.Drawn.{faces_of, outer_of, corners_of}
+use Rattle.delaunay_legalization.proofs.mesh_embedding.MeshEdits.{insertion_inside}
+use Rattle.delaunay_legalization.proofs.mesh_embedding.MeshEdits.{insertion_within_side}
+use Rattle.delaunay_legalization.proofs.mesh_embedding.MeshEdits.{insertion_within_outer}
 use Rattle.delaunay_legalization.specs.Parts.{IsInsideFaceOf, IsWithinEdge}
 
 -- an item that gives way, and more

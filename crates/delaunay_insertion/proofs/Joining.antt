@@ -10,39 +10,42 @@ use Rattle.std.specs.Prelude.{All, Contains, pos, ℤ, ◌+ℤ◌}
 use Rattle.std.proofs.lemmas.Int.{ints}
 use Rattle.std.proofs.lemmas.List.{length-map, map-append}
 use Rattle.std.proofs.lemmas.List.Elements.{All-push}
-use Rattle.half_edge_mesh.specs.Mesh.{Mesh, AreSoundLinks, IsSoundEdge, origin, next, prev, face}
-use Rattle.half_edge_mesh.specs.Mesh.{rev}
-use Rattle.half_edge_mesh.specs.Outline.{IsOuterEdge, AddsTriangle, ReplacesOuter, ClosesOuter}
-use Rattle.half_edge_mesh.specs.Grow.{IsClosable, Closes, closed}
-use Rattle.half_edge_mesh.specs.Room.{HasRoomFor}
-use Rattle.half_edge_links.proofs.Growing.Close.{closes}
-use Rattle.half_edge_links.proofs.Lists.Rev.{rev_within}
-use Rattle.half_edge_mesh.specs.Contents.{Contents, HasRoom, IsMeshWithData}
-use Rattle.plane.specs.Fraction.{Point, whole}
-use Rattle.plane.specs.Pairs.{place}
-use Rattle.plane.specs.Tests.{InRange}
-use Rattle.plane.specs.Side.{TurnsLeft}
-use Rattle.plane.proofs.Steps.{left_not_zero}
-use Rattle.plane.proofs.Sides.{if_left}
-use Rattle.plane.proofs.BracketIdentities.{bracket-last, bracket-outer}
-use Rattle.plane_tiling.specs.Local.{total, around, along, IsMesh, LocalMesh}
-use Rattle.plane_tiling.proofs.Counts.{hull_edges_count, line_edges_count}
-use Rattle.plane_tiling.proofs.Counting.{at}
-use Rattle.plane_tiling.proofs.Rising.{total_ones}
-use Rattle.plane_tiling.proofs.Totals.{total-sum}
-use Rattle.plane_tiling.proofs.Tiles.{point_at}
-use Rattle.plane_tiling.proofs.Appended.{kept_point, last_point}
-use Rattle.plane_edits.specs.Extension.{IsExtending}
-use Rattle.plane_edits.proofs.LocalMesh.Changes.{IsOnce}
-use Rattle.plane_edits.proofs.Insertion.Growing.{extension_begins}
-use Rattle.plane_edits.proofs.Insertion.OnLine.{over_line_ends}
-use Rattle.mesh_embedding.specs.Drawn.{faces_of, edges_of, outer_of}
-use Rattle.mesh_embedding.proofs.OuterEdges.{listed}
-use Rattle.mesh_embedding.proofs.OuterChanges.{outer_replaced}
-use Rattle.mesh_embedding.proofs.MeshEdits.{added_faces}
-use Rattle.mesh_embedding.proofs.MeshExtension.{ends_below, mesh_extension_goes_on}
-use Rattle.mesh_embedding.proofs.MeshExtension.{mesh_extension_goes_back, mesh_extension_ends}
-use Rattle.mesh_embedding.proofs.OwnEdges.{own_edges}
+use Rattle.delaunay_legalization.specs.half_edge_mesh.Mesh.{Mesh, AreSoundLinks, IsSoundEdge}
+use Rattle.delaunay_legalization.specs.half_edge_mesh.Mesh.{origin, next, prev, face, rev}
+use Rattle.delaunay_legalization.specs.half_edge_mesh.Outline.{IsOuterEdge, AddsTriangle}
+use Rattle.delaunay_legalization.specs.half_edge_mesh.Outline.{ReplacesOuter, ClosesOuter}
+use Rattle.delaunay_legalization.specs.half_edge_mesh.Grow.{IsClosable, Closes, closed}
+use Rattle.delaunay_legalization.specs.half_edge_mesh.Room.{HasRoomFor}
+use Rattle.delaunay_legalization.proofs.half_edge_links.Growing.Close.{closes}
+use Rattle.delaunay_legalization.proofs.half_edge_links.Lists.Rev.{rev_within}
+use Rattle.delaunay_legalization.specs.half_edge_mesh.Contents.{Contents, HasRoom, IsMeshWithData}
+use Rattle.delaunay_legalization.specs.plane.Fraction.{Point, whole}
+use Rattle.delaunay_legalization.specs.plane.Pairs.{place}
+use Rattle.delaunay_legalization.specs.plane.Tests.{InRange}
+use Rattle.delaunay_legalization.specs.plane.Side.{TurnsLeft}
+use Rattle.delaunay_legalization.proofs.plane.Steps.{left_not_zero}
+use Rattle.delaunay_legalization.proofs.plane.Sides.{if_left}
+use Rattle.delaunay_legalization.proofs.plane.BracketIdentities.{bracket-last, bracket-outer}
+use Rattle.delaunay_legalization.specs.plane_tiling.Local.{total, around, along, IsMesh, LocalMesh}
+use Rattle.delaunay_legalization.proofs.plane_tiling.Counts.{hull_edges_count, line_edges_count}
+use Rattle.delaunay_legalization.proofs.plane_tiling.Counting.{at}
+use Rattle.delaunay_legalization.proofs.plane_tiling.Rising.{total_ones}
+use Rattle.delaunay_legalization.proofs.plane_tiling.Totals.{total-sum}
+use Rattle.delaunay_legalization.proofs.plane_tiling.Tiles.{point_at}
+use Rattle.delaunay_legalization.proofs.plane_tiling.Appended.{kept_point, last_point}
+use Rattle.delaunay_legalization.specs.plane_edits.Extension.{IsExtending}
+use Rattle.delaunay_legalization.proofs.plane_edits.LocalMesh.Changes.{IsOnce}
+use Rattle.delaunay_legalization.proofs.plane_edits.Insertion.Growing.{extension_begins}
+use Rattle.delaunay_legalization.proofs.plane_edits.Insertion.OnLine.{over_line_ends}
+use Rattle.delaunay_legalization.specs.mesh_embedding.Drawn.{faces_of, edges_of, outer_of}
+use Rattle.delaunay_legalization.proofs.mesh_embedding.OuterEdges.{listed}
+use Rattle.delaunay_legalization.proofs.mesh_embedding.OuterChanges.{outer_replaced}
+use Rattle.delaunay_legalization.proofs.mesh_embedding.MeshEdits.{added_faces}
+use Rattle.delaunay_legalization.proofs.mesh_embedding.MeshExtension.{ends_below}
+use Rattle.delaunay_legalization.proofs.mesh_embedding.MeshExtension.{mesh_extension_goes_on}
+use Rattle.delaunay_legalization.proofs.mesh_embedding.MeshExtension.{mesh_extension_goes_back}
+use Rattle.delaunay_legalization.proofs.mesh_embedding.MeshExtension.{mesh_extension_ends}
+use Rattle.delaunay_legalization.proofs.mesh_embedding.OwnEdges.{own_edges}
 use Rattle.delaunay_insertion.specs.Joining.{Sees}
 use Rattle.delaunay_legalization.specs.State.{state_of}
 use Rattle.delaunay_legalization.specs.Shape.{IsTriangulated}

@@ -6,15 +6,15 @@ use Rattle.std.proofs.Common.{inr, arith}
 use Rattle.std.specs.Prelude.{slice_get, Some}
 use Rattle.std.proofs.lemmas.List.{map-append}
 use Rattle.std.proofs.lemmas.Option.{slice_get_within}
-use Rattle.half_edge_mesh.specs.Mesh.{origin, rev}
-use Rattle.half_edge_mesh.specs.Contents.{Contents, edges}
-use Rattle.plane.specs.Fraction.{Point}
-use Rattle.plane.specs.Pairs.{Joins, IsSamePair}
-use Rattle.plane.specs.Tiling.{IsEdge}
-use Rattle.plane_edits.specs.Change.{IsFaceOf}
-use Rattle.mesh_embedding.specs.Drawn.{drawn, faces_of, edges_of, outer_of}
-use Rattle.mesh_embedding.proofs.EdgePairs.{edge_joins}
-use Rattle.mesh_embedding.proofs.MeshStars.{edge_of_face}
+use Rattle.delaunay_legalization.specs.half_edge_mesh.Mesh.{origin, rev}
+use Rattle.delaunay_legalization.specs.half_edge_mesh.Contents.{Contents, edges}
+use Rattle.delaunay_legalization.specs.plane.Fraction.{Point}
+use Rattle.delaunay_legalization.specs.plane.Pairs.{Joins, IsSamePair}
+use Rattle.delaunay_legalization.specs.plane.Tiling.{IsEdge}
+use Rattle.delaunay_legalization.specs.plane_edits.Change.{IsFaceOf}
+use Rattle.delaunay_legalization.specs.mesh_embedding.Drawn.{drawn, faces_of, edges_of, outer_of}
+use Rattle.delaunay_legalization.proofs.mesh_embedding.EdgePairs.{edge_joins}
+use Rattle.delaunay_legalization.proofs.mesh_embedding.MeshStars.{edge_of_face}
 use Rattle.delaunay_legalization.specs.Constraints.{marked_edges, constraints_by}
 use Rattle.delaunay_legalization.specs.Shape.{IsTriangulated, IsDelaunayTriangulation}
 use Rattle.delaunay_legalization.specs.Star.{MakesFacesAt, AllPassBeside}
@@ -24,7 +24,7 @@ use Rattle.delaunay_insertion.specs.Constraints.{SplitsConstraints}
 use Rattle.delaunay_insertion.proofs.MarkedEdges.{JoinsWithMark, own_ends, joins_with_mark}
 use Rattle.delaunay_insertion.proofs.NewVertex.{not_within, source_in, target_in}
 use Rattle.delaunay_insertion.proofs.SplitConstraints.{whole_mesh}
-use Rattle.plane_edits.proofs.Legalization.Flipping.{joins_or_not}
+use Rattle.delaunay_legalization.proofs.plane_edits.Legalization.Flipping.{joins_or_not}
 
 module _ {V D U F : Type 0} (at : V → Point) (marks : U → Bool) (constraints : List U → List ℕ)
     (marked : (ds : List U) → constraints ds ≡ marked_edges marks ds) where

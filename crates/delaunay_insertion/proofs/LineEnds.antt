@@ -5,38 +5,41 @@ use Rattle.std.proofs.Common.{◌≡◌, ◌≢◌, ◌⊎◌, ◌<◌, [], ◌�
 use Rattle.std.proofs.Common.{ℕ, List, length, refl, sym, ap, subst, inl, inr, arith}
 use Rattle.std.specs.Prelude.{ℤ, pos, ◌<ℤ◌, ◌≤ℤ◌, Contains}
 use Rattle.std.proofs.lemmas.Bool.{cases_eq}
-use Rattle.half_edge_mesh.specs.Mesh.{Mesh, IsValidMesh, IsSoundEdge, origin, next, prev, face, rev}
-use Rattle.half_edge_mesh.specs.Outline.{IsOuterEdge}
-use Rattle.half_edge_links.proofs.Lists.Rev.{rev-rev, rev_within}
-use Rattle.plane.specs.Fraction.{Point}
-use Rattle.plane.specs.Pairs.{place}
-use Rattle.plane.specs.Side.{TurnsLeft}
-use Rattle.plane.specs.Tiling.{Face}
-use Rattle.plane.specs.Tiling as T
-use Rattle.plane.proofs.IntegerOrder.{lt_or_ge_ℤ}
-use Rattle.plane.proofs.Steps.{left_not_zero}
-use Rattle.plane.proofs.Sides.{if_left}
-use Rattle.plane.proofs.Bracket.{bracket}
-use Rattle.plane.proofs.BracketIdentities.{bracket-swap, bracket-last, bracket-outer}
-use Rattle.plane.proofs.Collinear.{place_on, place_of_start, place_of_end}
-use Rattle.plane.proofs.LineOrder.{IsBetween, within_places}
-use Rattle.plane_tiling.specs.Local.{LineMesh}
-use Rattle.plane_tiling.proofs.Counting.{at, same_place}
-use Rattle.plane_tiling.proofs.Line.{Adjoin, SignLine, next_turned}
-use Rattle.plane_tiling.proofs.LineMeshes.{line_by_signs, same_line}
-use Rattle.plane_tiling.proofs.Tiles.{point_at}
-use Rattle.plane_tiling.proofs.Appended.{kept_point}
-use Rattle.plane_tiling.proofs.Totals.{Contains-head, Contains-later}
-use Rattle.plane_edits.specs.Change.{IsFaceOf}
-use Rattle.plane_edits.specs.Extension.{fan, steps, last_of, IsSeenRun, IsExtending}
-use Rattle.plane_edits.proofs.LocalMesh.Changes.{face_from}
-use Rattle.plane_edits.proofs.Insertion.Extension.{fan_from}
-use Rattle.plane_edits.proofs.Insertion.Growing.{run_signs, in_two}
-use Rattle.mesh_embedding.specs.Drawn.{faces_of, outer_of}
-use Rattle.mesh_embedding.proofs.OuterEdges.{listed, real, one_edge}
-use Rattle.mesh_embedding.proofs.MeshEdits.{face_before}
-use Rattle.plane.proofs.Signs.{opposites_not_both_positive, at_most_both_ways}
-use Rattle.half_edge_links.proofs.Removing.Conditions.{alone_at}
+use Rattle.delaunay_legalization.specs.half_edge_mesh.Mesh.{Mesh, IsValidMesh, IsSoundEdge, origin}
+use Rattle.delaunay_legalization.specs.half_edge_mesh.Mesh.{next, prev, face, rev}
+use Rattle.delaunay_legalization.specs.half_edge_mesh.Outline.{IsOuterEdge}
+use Rattle.delaunay_legalization.proofs.half_edge_links.Lists.Rev.{rev-rev, rev_within}
+use Rattle.delaunay_legalization.specs.plane.Fraction.{Point}
+use Rattle.delaunay_legalization.specs.plane.Pairs.{place}
+use Rattle.delaunay_legalization.specs.plane.Side.{TurnsLeft}
+use Rattle.delaunay_legalization.specs.plane.Tiling.{Face}
+use Rattle.delaunay_legalization.specs.plane.Tiling as T
+use Rattle.delaunay_legalization.proofs.plane.IntegerOrder.{lt_or_ge_ℤ}
+use Rattle.delaunay_legalization.proofs.plane.Steps.{left_not_zero}
+use Rattle.delaunay_legalization.proofs.plane.Sides.{if_left}
+use Rattle.delaunay_legalization.proofs.plane.Bracket.{bracket}
+use Rattle.delaunay_legalization.proofs.plane.BracketIdentities.{bracket-swap, bracket-last}
+use Rattle.delaunay_legalization.proofs.plane.BracketIdentities.{bracket-outer}
+use Rattle.delaunay_legalization.proofs.plane.Collinear.{place_on, place_of_start, place_of_end}
+use Rattle.delaunay_legalization.proofs.plane.LineOrder.{IsBetween, within_places}
+use Rattle.delaunay_legalization.specs.plane_tiling.Local.{LineMesh}
+use Rattle.delaunay_legalization.proofs.plane_tiling.Counting.{at, same_place}
+use Rattle.delaunay_legalization.proofs.plane_tiling.Line.{Adjoin, SignLine, next_turned}
+use Rattle.delaunay_legalization.proofs.plane_tiling.LineMeshes.{line_by_signs, same_line}
+use Rattle.delaunay_legalization.proofs.plane_tiling.Tiles.{point_at}
+use Rattle.delaunay_legalization.proofs.plane_tiling.Appended.{kept_point}
+use Rattle.delaunay_legalization.proofs.plane_tiling.Totals.{Contains-head, Contains-later}
+use Rattle.delaunay_legalization.specs.plane_edits.Change.{IsFaceOf}
+use Rattle.delaunay_legalization.specs.plane_edits.Extension.{fan, steps, last_of, IsSeenRun}
+use Rattle.delaunay_legalization.specs.plane_edits.Extension.{IsExtending}
+use Rattle.delaunay_legalization.proofs.plane_edits.LocalMesh.Changes.{face_from}
+use Rattle.delaunay_legalization.proofs.plane_edits.Insertion.Extension.{fan_from}
+use Rattle.delaunay_legalization.proofs.plane_edits.Insertion.Growing.{run_signs, in_two}
+use Rattle.delaunay_legalization.specs.mesh_embedding.Drawn.{faces_of, outer_of}
+use Rattle.delaunay_legalization.proofs.mesh_embedding.OuterEdges.{listed, real, one_edge}
+use Rattle.delaunay_legalization.proofs.mesh_embedding.MeshEdits.{face_before}
+use Rattle.delaunay_legalization.proofs.plane.Signs.{opposites_not_both_positive, at_most_both_ways}
+use Rattle.delaunay_legalization.proofs.half_edge_links.Removing.Conditions.{alone_at}
 
 -- ---- a vertex of a line has at most two neighbours
 module _ (n : ℕ) (p : ℕ → Point) (outer : List (ℕ × ℕ)) (m : SignLine n p outer) (w a : ℕ)

@@ -5,23 +5,26 @@
 use Rattle.std.proofs.Common.{◌≡◌, ◌⊎◌, ◌<◌, ◌≤◌, [], ◌∷◌}
 use Rattle.std.proofs.Common.{ℕ, List, length, map, refl, sym, ap, subst, inl, inr, arith}
 use Rattle.std.specs.Prelude.{Contains}
-use Rattle.half_edge_mesh.specs.Mesh.{Mesh, IsValidMesh, IsInnerEdge, face_edge, with_vertex}
-use Rattle.half_edge_mesh.specs.Flip.{IsFlippable}
-use Rattle.half_edge_mesh.specs.Triangles.{triangles, InsertsTriangles, SplitsTriangles}
-use Rattle.half_edge_mesh.specs.Outline.{HalfSplitsTriangles}
-use Rattle.plane.specs.Fraction.{Point}
-use Rattle.plane.specs.Tiling.{Face}
-use Rattle.plane_tiling.specs.Local.{IsMesh}
-use Rattle.plane_tiling.proofs.Totals.{Contains-none, Contains-cases}
-use Rattle.plane_edits.specs.Change.{IsFaceOf, FacesChange}
-use Rattle.plane_edits.specs.Extension.{IsExtending, IsSeenRun, fan}
-use Rattle.plane_edits.proofs.LocalMesh.Changes.{face_from, turn_of_all}
-use Rattle.mesh_embedding.specs.Drawn.{corners_of, faces_of, outer_of}
-use Rattle.mesh_embedding.proofs.FaceChanges.{turned_faces}
-use Rattle.mesh_embedding.proofs.MeshEdits.{inserted_faces, split_faces, half_split_faces}
-use Rattle.mesh_embedding.proofs.MeshEdits.{face_before, face_behind}
+use Rattle.delaunay_legalization.specs.half_edge_mesh.Mesh.{Mesh, IsValidMesh, IsInnerEdge}
+use Rattle.delaunay_legalization.specs.half_edge_mesh.Mesh.{face_edge, with_vertex}
+use Rattle.delaunay_legalization.specs.half_edge_mesh.Flip.{IsFlippable}
+use Rattle.delaunay_legalization.specs.half_edge_mesh.Triangles.{triangles, InsertsTriangles}
+use Rattle.delaunay_legalization.specs.half_edge_mesh.Triangles.{SplitsTriangles}
+use Rattle.delaunay_legalization.specs.half_edge_mesh.Outline.{HalfSplitsTriangles}
+use Rattle.delaunay_legalization.specs.plane.Fraction.{Point}
+use Rattle.delaunay_legalization.specs.plane.Tiling.{Face}
+use Rattle.delaunay_legalization.specs.plane_tiling.Local.{IsMesh}
+use Rattle.delaunay_legalization.proofs.plane_tiling.Totals.{Contains-none, Contains-cases}
+use Rattle.delaunay_legalization.specs.plane_edits.Change.{IsFaceOf, FacesChange}
+use Rattle.delaunay_legalization.specs.plane_edits.Extension.{IsExtending, IsSeenRun, fan}
+use Rattle.delaunay_legalization.proofs.plane_edits.LocalMesh.Changes.{face_from, turn_of_all}
+use Rattle.delaunay_legalization.specs.mesh_embedding.Drawn.{corners_of, faces_of, outer_of}
+use Rattle.delaunay_legalization.proofs.mesh_embedding.FaceChanges.{turned_faces}
+use Rattle.delaunay_legalization.proofs.mesh_embedding.MeshEdits.{inserted_faces, split_faces}
+use Rattle.delaunay_legalization.proofs.mesh_embedding.MeshEdits.{half_split_faces, face_before}
+use Rattle.delaunay_legalization.proofs.mesh_embedding.MeshEdits.{face_behind}
 use Rattle.delaunay_legalization.specs.Star.{IsOneOf, MakesFacesAt}
-use Rattle.plane_edits.proofs.Legalization.NewPoint.{none_in_empty}
+use Rattle.delaunay_legalization.proofs.plane_edits.Legalization.NewPoint.{none_in_empty}
 use Rattle.delaunay_legalization.proofs.Stars.{face_corners}
 
 -- ---- faces with one corner in common

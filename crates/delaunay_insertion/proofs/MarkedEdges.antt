@@ -4,15 +4,16 @@ use Rattle.std.proofs.Common.{◌≡◌, ◌*◌, ◌<◌, ◌∙◌}
 use Rattle.std.proofs.Common.{ℕ, Bool, true, List, length, sym, ap, subst, Some, arith}
 use Rattle.std.specs.Prelude.{slice_get}
 use Rattle.std.proofs.lemmas.Option.{slice_get_within}
-use Rattle.half_edge_mesh.specs.Mesh.{origin, rev}
-use Rattle.half_edge_mesh.specs.Outline.{ends}
-use Rattle.half_edge_links.proofs.Sound.Ends.{length-ends_twice}
-use Rattle.half_edge_mesh.specs.Contents.{Contents, Edge, edges, IsMeshWithData}
-use Rattle.plane.specs.Pairs.{Joins, IsSamePair}
+use Rattle.delaunay_legalization.specs.half_edge_mesh.Mesh.{origin, rev}
+use Rattle.delaunay_legalization.specs.half_edge_mesh.Outline.{ends}
+use Rattle.delaunay_legalization.proofs.half_edge_links.Sound.Ends.{length-ends_twice}
+use Rattle.delaunay_legalization.specs.half_edge_mesh.Contents.{Contents, Edge, edges}
+use Rattle.delaunay_legalization.specs.half_edge_mesh.Contents.{IsMeshWithData}
+use Rattle.delaunay_legalization.specs.plane.Pairs.{Joins, IsSamePair}
 use Rattle.delaunay_legalization.specs.Constraints.{marked_edges, constraint_pairs}
 use Rattle.delaunay_legalization.proofs.MarkedPairs.{JoinsByMark, joined_by_mark, mark_joins}
 use Rattle.delaunay_insertion.proofs.DataGrowing.{some_edge, parts_of_edge, ends_are}
-use Rattle.mesh_embedding.proofs.Entries.{one_value}
+use Rattle.delaunay_legalization.proofs.mesh_embedding.Entries.{one_value}
 
 -- edge k of the list joins a and b, and has the mark
 pub record JoinsWithMark {U : Type 0} (marks : U → Bool) (es : List (Edge U))

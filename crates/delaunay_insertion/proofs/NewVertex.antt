@@ -4,15 +4,15 @@
 use Rattle.std.proofs.Common.{◌≡◌, ◌<◌, [], ◌∷◌, ◌++◌, ◌∙◌}
 use Rattle.std.proofs.Common.{ℕ, List, length, map, sym, ap, subst, arith}
 use Rattle.std.proofs.lemmas.List.{length-map, map-append, length-append}
-use Rattle.half_edge_mesh.specs.Mesh.{origin, rev}
-use Rattle.half_edge_links.proofs.Lists.Rev.{rev_within}
-use Rattle.plane.specs.Fraction.{Point, Fraction, whole, WithinSegment}
-use Rattle.plane.specs.Pairs.{place}
-use Rattle.plane.specs.Tiling.{IsEdge}
-use Rattle.plane_tiling.proofs.Appended.{kept_point, last_point}
-use Rattle.plane_tiling.proofs.Locations.{no_edges_cross}
-use Rattle.mesh_embedding.specs.Drawn.{drawn, faces_of, edges_of, outer_of}
-use Rattle.mesh_embedding.proofs.OwnEdges.{own_edges}
+use Rattle.delaunay_legalization.specs.half_edge_mesh.Mesh.{origin, rev}
+use Rattle.delaunay_legalization.proofs.half_edge_links.Lists.Rev.{rev_within}
+use Rattle.delaunay_legalization.specs.plane.Fraction.{Point, Fraction, whole, WithinSegment}
+use Rattle.delaunay_legalization.specs.plane.Pairs.{place}
+use Rattle.delaunay_legalization.specs.plane.Tiling.{IsEdge}
+use Rattle.delaunay_legalization.proofs.plane_tiling.Appended.{kept_point, last_point}
+use Rattle.delaunay_legalization.proofs.plane_tiling.Locations.{no_edges_cross}
+use Rattle.delaunay_legalization.specs.mesh_embedding.Drawn.{drawn, faces_of, edges_of, outer_of}
+use Rattle.delaunay_legalization.proofs.mesh_embedding.OwnEdges.{own_edges}
 use Rattle.delaunay_legalization.specs.Shape.{IsTriangulated}
 use Rattle.delaunay_legalization.specs.State.{State}
 

@@ -4,7 +4,7 @@ use Rattle.std.proofs.Common.{◌≡◌, ◌<◌, ◌∙◌, ℕ, List, length, 
 use Rattle.std.specs.Prelude.{Some, pos, slice_get}
 use Rattle.std.proofs.lemmas.List.{get_or-map}
 use Rattle.std.proofs.lemmas.Option.{get_or_from_slice_get}
-use Rattle.plane.specs.Fraction.{Point}
+use Rattle.delaunay_legalization.specs.plane.Fraction.{Point}
 use Rattle.delaunay_legalization.specs.Known.{point_at}
 
 -- the position of a vertex is the point at its index

@@ -7,15 +7,16 @@ use Rattle.std.proofs.Common.{sym, ap, ◌∙◌, subst, Some, inl, inr, arith}
 use Rattle.std.specs.Prelude.{◌↔◌, Contains, slice_get}
 use Rattle.std.proofs.lemmas.Bool.{cases_eq}
 use Rattle.std.proofs.lemmas.Option.{slice_get_within, get_or_from_slice_get}
-use Rattle.half_edge_mesh.specs.Mesh.{Mesh, origin, rev}
-use Rattle.half_edge_mesh.specs.Outline.{Ends, ends}
-use Rattle.half_edge_mesh.specs.Contents.{Contents, Edge, edges, IsMeshWithData}
-use Rattle.plane.specs.Fraction.{Point, whole, WithinSegment}
-use Rattle.plane.specs.Pairs.{Joins, IsSamePair, place}
-use Rattle.plane.specs.Plain.{IsHalf}
-use Rattle.plane_tiling.proofs.Edges.{turned_within}
-use Rattle.mesh_embedding.specs.Drawn.{edges_of, pair_of}
-use Rattle.mesh_embedding.proofs.EdgePairs.{Contains-map}
+use Rattle.delaunay_legalization.specs.half_edge_mesh.Mesh.{Mesh, origin, rev}
+use Rattle.delaunay_legalization.specs.half_edge_mesh.Outline.{Ends, ends}
+use Rattle.delaunay_legalization.specs.half_edge_mesh.Contents.{Contents, Edge, edges}
+use Rattle.delaunay_legalization.specs.half_edge_mesh.Contents.{IsMeshWithData}
+use Rattle.delaunay_legalization.specs.plane.Fraction.{Point, whole, WithinSegment}
+use Rattle.delaunay_legalization.specs.plane.Pairs.{Joins, IsSamePair, place}
+use Rattle.delaunay_legalization.specs.plane.Plain.{IsHalf}
+use Rattle.delaunay_legalization.proofs.plane_tiling.Edges.{turned_within}
+use Rattle.delaunay_legalization.specs.mesh_embedding.Drawn.{edges_of, pair_of}
+use Rattle.delaunay_legalization.proofs.mesh_embedding.EdgePairs.{Contains-map}
 use Rattle.delaunay_legalization.specs.Constraints.{marked_edges, constraint_pairs, constraints_by}
 use Rattle.delaunay_legalization.specs.Constraints.{points_and_constraints_by, not_both}
 use Rattle.delaunay_legalization.specs.Marking.{HasEdgeData}
@@ -29,9 +30,9 @@ use Rattle.delaunay_insertion.proofs.DataGrowing.{parts_of_edge, within_both}
 use Rattle.delaunay_insertion.proofs.MarkedEdges.{JoinsWithMark, own_ends, joins_with_mark}
 use Rattle.delaunay_insertion.proofs.MarkedEdges.{joined_with_mark}
 use Rattle.delaunay_insertion.proofs.NewVertex.{not_within, source_in, target_in}
-use Rattle.mesh_embedding.proofs.Entries.{one_value}
-use Rattle.mesh_embedding.proofs.MeshStays.{same_pair_back, same_pair_on}
-use Rattle.plane.proofs.Indexes.{pair_turned}
+use Rattle.delaunay_legalization.proofs.mesh_embedding.Entries.{one_value}
+use Rattle.delaunay_legalization.proofs.mesh_embedding.MeshStays.{same_pair_back, same_pair_on}
+use Rattle.delaunay_legalization.proofs.plane.Indexes.{pair_turned}
 
 -- what is triangulated is a mesh with its data
 pub whole_mesh : {V D U F : Type 0} (at : V → Point) (c : Contents V D U F)

@@ -1,8 +1,8 @@
 -- What becomes of the constraints where a vertex is appended.
 use Rattle.std.specs.Prelude.{◌⊎◌, ◌↔◌, ℕ, List, length}
-use Rattle.plane.specs.Fraction.{Point}
-use Rattle.plane.specs.Pairs.{Joins}
-use Rattle.plane.specs.Plain.{Carries, IsHalf}
+use Rattle.delaunay_legalization.specs.plane.Fraction.{Point}
+use Rattle.delaunay_legalization.specs.plane.Pairs.{Joins}
+use Rattle.delaunay_legalization.specs.plane.Plain.{Carries, IsHalf}
 use Rattle.delaunay_legalization.specs.Constraints.{constraints_by, points_and_constraints_by}
 use Rattle.delaunay_legalization.specs.State.{State}
 

@@ -1,9 +1,9 @@
 -- What becomes of the data of edges and faces.
 use Rattle.std.specs.Prelude.{◌≡◌, ◌⊎◌, ℕ, ◌/◌, ◌<◌, List, length, Some, slice_get}
-use Rattle.half_edge_mesh.specs.Triangles.{Triangle, triangles}
-use Rattle.plane.specs.Fraction.{Point, whole, InTriangle}
-use Rattle.plane.specs.Pairs.{place}
-use Rattle.mesh_embedding.specs.Stays.{GoSameWay, HaveSameCorners}
+use Rattle.delaunay_legalization.specs.half_edge_mesh.Triangles.{Triangle, triangles}
+use Rattle.delaunay_legalization.specs.plane.Fraction.{Point, whole, InTriangle}
+use Rattle.delaunay_legalization.specs.plane.Pairs.{place}
+use Rattle.delaunay_legalization.specs.mesh_embedding.Stays.{GoSameWay, HaveSameCorners}
 use Rattle.delaunay_legalization.specs.Parts.{IsWithinEdge}
 use Rattle.delaunay_legalization.specs.State.{State}
 

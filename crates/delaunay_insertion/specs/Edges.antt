@@ -1,7 +1,7 @@
 -- What becomes of the edges of a mesh, with their data, where it grows.
 use Rattle.std.specs.Prelude.{◌≡◌, ◌≢◌, ◌⊎◌, ℕ, ◌≤◌, List, length, Some, slice_get}
-use Rattle.half_edge_mesh.specs.Contents.{Edge}
-use Rattle.plane.specs.Pairs.{IsSamePair}
+use Rattle.delaunay_legalization.specs.half_edge_mesh.Contents.{Edge}
+use Rattle.delaunay_legalization.specs.plane.Pairs.{IsSamePair}
 
 -- each edge stays, and the data of those that are added are as P says
 pub record AddsOnly {U : Type 0} (P : U → Type 0) (old new : List (Edge U)) : Type 0 where

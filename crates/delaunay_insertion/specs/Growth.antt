@@ -1,8 +1,8 @@
 -- What a mesh is to be where a vertex is appended, and what the vertex makes of it.
 use Rattle.std.specs.Prelude.{◌≡◌, ◌<◌, ◌++◌, ◌∷◌, [], ℕ, length, map}
-use Rattle.plane.specs.Fraction.{Point}
-use Rattle.plane.specs.Tests.{InRange}
-use Rattle.mesh_embedding.specs.Drawn.{faces_of, outer_of}
+use Rattle.delaunay_legalization.specs.plane.Fraction.{Point}
+use Rattle.delaunay_legalization.specs.plane.Tests.{InRange}
+use Rattle.delaunay_legalization.specs.mesh_embedding.Drawn.{faces_of, outer_of}
 use Rattle.delaunay_insertion.specs.Data.{GrowsAround}
 use Rattle.delaunay_legalization.specs.Parts.{IsWithinEdge}
 use Rattle.delaunay_legalization.specs.Shape.{IsTriangulated}

@@ -1,9 +1,9 @@
 //! A new vertex inside a face or within an edge.
 ghost use Rattle.std.specs.Prelude.{◌+◌, ◌*◌, ◌/◌, ◌<◌, ◌≤◌, length, map};
-ghost use Rattle.half_edge_mesh.specs.Grow.{IsHalfSplittable};
-ghost use Rattle.half_edge_mesh.specs.Mesh.{rev, face, face_edge};
-ghost use Rattle.half_edge_mesh.specs.Room.{HasRoomFor};
-ghost use Rattle.half_edge_mesh.specs.Contents.{HasRoom, edges};
+ghost use Rattle.delaunay_legalization.specs.half_edge_mesh.Grow.{IsHalfSplittable};
+ghost use Rattle.delaunay_legalization.specs.half_edge_mesh.Mesh.{rev, face, face_edge};
+ghost use Rattle.delaunay_legalization.specs.half_edge_mesh.Room.{HasRoomFor};
+ghost use Rattle.delaunay_legalization.specs.half_edge_mesh.Contents.{HasRoom, edges};
 ghost use Rattle.delaunay_insertion.specs.Constraints.{SplitsConstraints};
 ghost use Rattle.delaunay_insertion.specs.Edges.{AddsOnly, SplitsAt};
 ghost use Rattle.delaunay_insertion.specs.Growth.{CanSplit, CanTake, GainsVertex};
@@ -12,11 +12,11 @@ ghost use Rattle.delaunay_legalization.specs.State.{state_of};
 
 use crate::free_by_default::FreeByDefault;
 use crate::on_line::split_line_edge;
-use delaunay_core::point::HasPosition;
-use delaunay_legalization::{is_constraint_edge, is_outer, make_constraint};
-use half_edge_mesh::{
+use delaunay_legalization::delaunay_core::point::HasPosition;
+use delaunay_legalization::half_edge_mesh::{
     Dcel, FixedDirectedEdgeHandle, FixedFaceHandle, FixedUndirectedEdgeHandle, FixedVertexHandle,
 };
+use delaunay_legalization::{is_constraint_edge, is_outer, make_constraint};
 
 /// Puts a vertex strictly inside an inner face, joins it to the corners of the face, and gives its
 /// handle.

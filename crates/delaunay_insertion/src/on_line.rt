@@ -1,17 +1,17 @@
 //! New vertices on the line of all vertices.
 ghost use Rattle.std.specs.Prelude.{◌≡◌, ◌/◌, ◌<◌, length, map};
-ghost use Rattle.half_edge_mesh.specs.Mesh.{origin};
-ghost use Rattle.half_edge_mesh.specs.Contents.{HasRoom, edges};
-ghost use Rattle.plane.specs.Fraction.{whole as fraction};
-ghost use Rattle.plane.specs.Location.{IsPast};
-ghost use Rattle.plane_tiling.specs.Local.{alone};
+ghost use Rattle.delaunay_legalization.specs.half_edge_mesh.Mesh.{origin};
+ghost use Rattle.delaunay_legalization.specs.half_edge_mesh.Contents.{HasRoom, edges};
+ghost use Rattle.delaunay_legalization.specs.plane.Fraction.{whole as fraction};
+ghost use Rattle.delaunay_legalization.specs.plane.Location.{IsPast};
+ghost use Rattle.delaunay_legalization.specs.plane_tiling.Local.{alone};
 ghost use Rattle.delaunay_insertion.specs.Edges.{AddsOnly, SplitsAt};
 ghost use Rattle.delaunay_insertion.specs.Growth.{CanSplit, CanTake, GainsVertex};
 ghost use Rattle.delaunay_legalization.specs.Parts.{IsApart};
 ghost use Rattle.delaunay_legalization.specs.State.{state_of};
 
-use delaunay_core::point::HasPosition;
-use half_edge_mesh::{
+use delaunay_legalization::delaunay_core::point::HasPosition;
+use delaunay_legalization::half_edge_mesh::{
     Dcel, FixedDirectedEdgeHandle, FixedUndirectedEdgeHandle, FixedVertexHandle, MeshViews,
 };
 

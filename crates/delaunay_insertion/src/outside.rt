@@ -1,21 +1,23 @@
 //! A new vertex outside the hull, or off the line of all vertices.
 ghost use Rattle.std.specs.Prelude.{◌≡◌, ◌↔◌, ◌+◌, ◌*◌, ◌<◌};
 ghost use Rattle.std.specs.Prelude.{length, map, All, IsTrue, IfSome, IfNone};
-ghost use Rattle.half_edge_mesh.specs.Mesh.{origin, next, prev, rev, face};
-ghost use Rattle.half_edge_mesh.specs.Room.{HasRoomFor};
-ghost use Rattle.half_edge_mesh.specs.Contents.{IsMeshWithData, edges};
-ghost use Rattle.plane.specs.Fraction.{whole as fraction};
-ghost use Rattle.plane.specs.Side.{TurnsLeft};
-ghost use Rattle.plane.specs.Pairs.{place};
+ghost use Rattle.delaunay_legalization.specs.half_edge_mesh.Mesh.{origin, next, prev, rev, face};
+ghost use Rattle.delaunay_legalization.specs.half_edge_mesh.Room.{HasRoomFor};
+ghost use Rattle.delaunay_legalization.specs.half_edge_mesh.Contents.{IsMeshWithData, edges};
+ghost use Rattle.delaunay_legalization.specs.plane.Fraction.{whole as fraction};
+ghost use Rattle.delaunay_legalization.specs.plane.Side.{TurnsLeft};
+ghost use Rattle.delaunay_legalization.specs.plane.Pairs.{place};
 ghost use Rattle.delaunay_insertion.specs.Edges.{AddsOnly};
 ghost use Rattle.delaunay_insertion.specs.Growth.{CanTake, GainsVertex};
 ghost use Rattle.delaunay_insertion.specs.Joining.{Sees};
 ghost use Rattle.delaunay_legalization.specs.State.{state_of};
 
-use delaunay_core::math::PlaneTests;
-use delaunay_core::point::HasPosition;
+use delaunay_legalization::delaunay_core::math::PlaneTests;
+use delaunay_legalization::delaunay_core::point::HasPosition;
+use delaunay_legalization::half_edge_mesh::{
+    Dcel, FixedDirectedEdgeHandle, FixedVertexHandle, MeshViews,
+};
 use delaunay_legalization::{start_of, turns_left};
-use half_edge_mesh::{Dcel, FixedDirectedEdgeHandle, FixedVertexHandle, MeshViews};
 
 // The edge after an edge in its loop.
 fn edge_after<V, DE, UE, F>(

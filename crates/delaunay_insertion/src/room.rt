@@ -1,12 +1,12 @@
 //! Room for what one more vertex can bring.
 ghost use Rattle.std.specs.Prelude.{◌≡◌, ◌↔◌, ◌+◌, ◌*◌, ◌<◌, length, IsErrOf, OnOk};
-ghost use Rattle.half_edge_mesh.specs.Room.{HasRoomFor};
-ghost use Rattle.delaunay_core.specs.declared.math.InsertionError.TheVariants.{TooLarge};
-ghost use Rattle.delaunay_core.specs.declared.math.InsertionError.TheVariants.{OutOfIndexes};
+ghost use Rattle.delaunay_legalization.specs.half_edge_mesh.Room.{HasRoomFor};
+ghost use Rattle.delaunay_legalization.specs.delaunay_core.declared.math.InsertionError.TheVariants.{TooLarge};
+ghost use Rattle.delaunay_legalization.specs.delaunay_core.declared.math.InsertionError.TheVariants.{OutOfIndexes};
 ghost use Rattle.delaunay_legalization.specs.State.{state_of};
 
-use delaunay_core::math::InsertionError;
-use half_edge_mesh::{Dcel, MAX_ELEMENTS, ReserveError};
+use delaunay_legalization::delaunay_core::math::InsertionError;
+use delaunay_legalization::half_edge_mesh::{Dcel, MAX_ELEMENTS, ReserveError};
 
 /// Makes room for one more vertex, with the edges and faces that it can bring. After an error the
 /// mesh is as it was: `OutOfIndexes` comes exactly where six times the new number of vertices

@@ -4,10 +4,10 @@ use Rattle.std.proofs.Common.{◌≡◌, ℕ, ◌<◌, ◌≤◌, List, length, 
 use Rattle.std.specs.List.{range_with_len}
 use Rattle.std.specs.Borrow.{Bor}
 use Rattle.std.proofs.lemmas.List.FromFn.{length-range_with_len, get_or-range_with_len}
-use Rattle.half_edge_mesh.specs.Contents.{Contents}
-use Rattle.half_edge_mesh.specs.Left.{each_in}
+use Rattle.delaunay_edit.specs.half_edge_mesh.Contents.{Contents}
+use Rattle.delaunay_edit.specs.half_edge_mesh.Left.{each_in}
 use Rattle.delaunay_edit.specs.Elements.{GivesElements}
-use Rattle.delaunay_legalization.specs.State.{State, state_of}
+use Rattle.delaunay_edit.specs.delaunay_legalization.State.{State, state_of}
 use Rattle.delaunay_interface.specs.declared.inner_faces.InnerFaceIterator.{InnerFaceIterator}
 use Rattle.delaunay_interface.specs.InnerFaces.{inner_faces_left}
 

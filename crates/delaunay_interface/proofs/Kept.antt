@@ -4,11 +4,11 @@
 use Rattle.std.proofs.Common.{◌≡◌, ℕ, List, Bool, true, false, ap, sym, subst, map, refl}
 use Rattle.std.specs.Prelude.{Contains, Option, Some, None, Result, Ok, Err, IfOk, OnErr}
 use Rattle.std.specs.List.{AllZip}
-use Rattle.plane.specs.Fraction.{Point}
-use Rattle.plane.specs.Hint.{IsAtMost, IsAtMostOf}
-use Rattle.delaunay_legalization.specs.declared.cdt_edge.CdtEdge.{CdtEdge}
-use Rattle.delaunay_legalization.specs.State.{State}
-use Rattle.delaunay_legalization.proofs.Questions.{both_ways}
+use Rattle.delaunay_edit.specs.plane.Fraction.{Point}
+use Rattle.delaunay_edit.specs.plane.Hint.{IsAtMost, IsAtMostOf}
+use Rattle.delaunay_edit.specs.delaunay_legalization.declared.cdt_edge.CdtEdge.{CdtEdge}
+use Rattle.delaunay_edit.specs.delaunay_legalization.State.{State}
+use Rattle.delaunay_edit.proofs.delaunay_legalization_lemmas.Questions.{both_ways}
 use Rattle.delaunay_edit.proofs.Copies.{same_image}
 use Rattle.delaunay_edit.specs.Storage.{KeepsImage}
 use Rattle.delaunay_edit.specs.ConstraintEdits.{AddsConstraint, AddsIfFree, AddsPathIfFree}

@@ -3,23 +3,23 @@
 use Rattle.std.proofs.Common.{◌≡◌, ◌<◌, ◌∙◌}
 use Rattle.std.proofs.Common.{ℕ, List, length, map, inl, inr, refl, sym, subst, arith}
 use Rattle.std.specs.Borrow.{Bor}
-use Rattle.half_edge_mesh.specs.Mesh.{face, origin, rev}
-use Rattle.half_edge_mesh.specs.Outline.{IsOuterEdge}
-use Rattle.half_edge_mesh.specs.Contents.{Contents}
-use Rattle.half_edge_mesh.specs.Rounds.{GivesOuterLoop}
-use Rattle.plane.specs.Fraction.{Point}
-use Rattle.plane.specs.Side.{left, on, TurnsLeft}
-use Rattle.plane.specs.Tiling.{Triangulation, IsVertex, IsTiling, vertex}
-use Rattle.plane.specs.Location.{IsOuter}
-use Rattle.plane_delaunay.proofs.Tilings.Ground.{tiling}
-use Rattle.plane_delaunay.proofs.Tilings.OuterEdges.{hull_not_left_of_outer}
-use Rattle.mesh_embedding.proofs.EdgePairs.{edge_joins}
-use Rattle.mesh_embedding.proofs.OneOutline.{one_outline}
-use Rattle.mesh_embedding.proofs.OuterEdges.{listed}
-use Rattle.mesh_embedding.proofs.OutlineGiven.{outline_given}
-use Rattle.delaunay_legalization.specs.Shape.{IsTriangulated}
-use Rattle.delaunay_legalization.specs.State.{State, state_of, triangulation_of}
-use Rattle.delaunay_legalization.proofs.MeshParts.{outer_bare}
+use Rattle.delaunay_edit.specs.half_edge_mesh.Mesh.{face, origin, rev}
+use Rattle.delaunay_edit.specs.half_edge_mesh.Outline.{IsOuterEdge}
+use Rattle.delaunay_edit.specs.half_edge_mesh.Contents.{Contents}
+use Rattle.delaunay_edit.specs.half_edge_mesh.Rounds.{GivesOuterLoop}
+use Rattle.delaunay_edit.specs.plane.Fraction.{Point}
+use Rattle.delaunay_edit.specs.plane.Side.{left, on, TurnsLeft}
+use Rattle.delaunay_edit.specs.plane.Tiling.{Triangulation, IsVertex, IsTiling, vertex}
+use Rattle.delaunay_edit.specs.plane.Location.{IsOuter}
+use Rattle.delaunay_edit.proofs.plane_delaunay.Tilings.Ground.{tiling}
+use Rattle.delaunay_edit.proofs.plane_delaunay.Tilings.OuterEdges.{hull_not_left_of_outer}
+use Rattle.delaunay_edit.proofs.mesh_embedding.EdgePairs.{edge_joins}
+use Rattle.delaunay_edit.proofs.mesh_embedding.OneOutline.{one_outline}
+use Rattle.delaunay_edit.proofs.mesh_embedding.OuterEdges.{listed}
+use Rattle.delaunay_edit.proofs.mesh_embedding.OutlineGiven.{outline_given}
+use Rattle.delaunay_edit.specs.delaunay_legalization.Shape.{IsTriangulated}
+use Rattle.delaunay_edit.specs.delaunay_legalization.State.{State, state_of, triangulation_of}
+use Rattle.delaunay_edit.proofs.delaunay_legalization_lemmas.MeshParts.{outer_bare}
 use Rattle.delaunay_interface.specs.Views.{GivesOutline}
 
 -- no vertex is on the left of an outer edge

@@ -2,17 +2,17 @@
 use Rattle.std.specs.Prelude.{◌≡◌, ◌≢◌, ◌↔◌, ◌+◌, ◌%◌, ◌<◌, ◌∷◌, []}
 use Rattle.std.specs.Prelude.{ℕ, List, length, map, Contains, AllPairs, slice_index_or}
 use Rattle.std.specs.Borrow.{Bor}
-use Rattle.half_edge_mesh.specs.Mesh.{origin, rev, next, prev, face, face_edge}
-use Rattle.half_edge_mesh.specs.Contents.{Contents}
-use Rattle.half_edge_mesh.specs.Left.{each_in}
-use Rattle.plane.specs.Fraction.{Point}
-use Rattle.plane.specs.Side.{side, on, TurnsLeft}
-use Rattle.plane.specs.Location.{IsOuter}
-use Rattle.plane.specs.Tiling.{Triangulation, IsVertex, vertex}
-use Rattle.plane.specs.Plain.{CanAdd}
-use Rattle.delaunay_legalization.specs.declared.cdt_edge.CdtEdge.{CdtEdge}
-use Rattle.delaunay_legalization.specs.Known.{point_at}
-use Rattle.delaunay_legalization.specs.State.{State, state_of, triangulation_of}
+use Rattle.delaunay_edit.specs.half_edge_mesh.Mesh.{origin, rev, next, prev, face, face_edge}
+use Rattle.delaunay_edit.specs.half_edge_mesh.Contents.{Contents}
+use Rattle.delaunay_edit.specs.half_edge_mesh.Left.{each_in}
+use Rattle.delaunay_edit.specs.plane.Fraction.{Point}
+use Rattle.delaunay_edit.specs.plane.Side.{side, on, TurnsLeft}
+use Rattle.delaunay_edit.specs.plane.Location.{IsOuter}
+use Rattle.delaunay_edit.specs.plane.Tiling.{Triangulation, IsVertex, vertex}
+use Rattle.delaunay_edit.specs.plane.Plain.{CanAdd}
+use Rattle.delaunay_edit.specs.delaunay_legalization.declared.cdt_edge.CdtEdge.{CdtEdge}
+use Rattle.delaunay_edit.specs.delaunay_legalization.Known.{point_at}
+use Rattle.delaunay_edit.specs.delaunay_legalization.State.{State, state_of, triangulation_of}
 use Rattle.delaunay_edit.specs.Constrained.{constrained}
 
 -- all vertices are on one line

@@ -1,7 +1,7 @@
 //! Constraints between vertices that are inserted for them.
 ghost use Rattle.std.specs.Prelude.{◌≡◌, ◌<◌, List, length, IfOk};
 ghost use Rattle.std.specs.Iterator.{IsFinite};
-ghost use Rattle.plane.specs.Tests.{InRange};
+ghost use Rattle.delaunay_edit.specs.plane.Tests.{InRange};
 ghost use Rattle.delaunay_edit.specs.Constrained.{constraint_edges};
 ghost use Rattle.delaunay_edit.specs.Headline.{AreSites, IsDelaunay};
 ghost use Rattle.delaunay_interface.specs.ConstraintEdges.{AddsConstraintEdge, AddsConstraintEdges};
@@ -12,10 +12,10 @@ ghost use Rattle.delaunay_interface.specs.ConstraintEdges.{Takes};
 use crate::constraint_error::ConstraintError;
 use crate::triangulation::Triangulation;
 use crate::triangulation_core::ConstrainedDelaunayTriangulation;
-use delaunay_core::HintGenerator;
-use delaunay_core::math::{InsertionError, PlaneTests};
-use delaunay_core::point::HasPosition;
-use half_edge_mesh::FixedVertexHandle;
+use delaunay_edit::delaunay_core::HintGenerator;
+use delaunay_edit::delaunay_core::math::{InsertionError, PlaneTests};
+use delaunay_edit::delaunay_core::point::HasPosition;
+use delaunay_edit::half_edge_mesh::FixedVertexHandle;
 
 impl<
     V: HasPosition + Drop,

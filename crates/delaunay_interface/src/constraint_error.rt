@@ -1,6 +1,6 @@
 //! Why constraint edges were not added.
 
-use delaunay_core::math::InsertionError;
+use delaunay_edit::delaunay_core::math::InsertionError;
 use thiserror::Error;
 
 /// Why an edge between two new vertices did not become a constraint.

@@ -1,6 +1,6 @@
 //! Constraints that are added and released.
 ghost use Rattle.std.specs.Prelude.{◌≡◌, ◌⊎◌, ◌↔◌, ◌<◌, length, IsTrue, IsOk, IfOk, OnErr};
-ghost use Rattle.plane.specs.Plain.{CanAdd};
+ghost use Rattle.delaunay_edit.specs.plane.Plain.{CanAdd};
 ghost use Rattle.delaunay_edit.specs.Constrained.{constrained, constraint_edges};
 ghost use Rattle.delaunay_edit.specs.ConstraintEdits.{AddsConstraint, AddsPathIfFree};
 ghost use Rattle.delaunay_edit.specs.ConstraintEdits.{ReleasesConstraint};
@@ -8,10 +8,12 @@ ghost use Rattle.delaunay_edit.specs.Headline.{AreSites, IsDelaunay};
 ghost use Rattle.delaunay_interface.specs.Views.{CanAddConstraint};
 
 use crate::triangulation_core::ConstrainedDelaunayTriangulation;
-use delaunay_core::HintGenerator;
-use delaunay_core::math::PlaneTests;
-use delaunay_core::point::HasPosition;
-use half_edge_mesh::{FixedDirectedEdgeHandle, FixedUndirectedEdgeHandle, FixedVertexHandle};
+use delaunay_edit::delaunay_core::HintGenerator;
+use delaunay_edit::delaunay_core::math::PlaneTests;
+use delaunay_edit::delaunay_core::point::HasPosition;
+use delaunay_edit::half_edge_mesh::{
+    FixedDirectedEdgeHandle, FixedUndirectedEdgeHandle, FixedVertexHandle,
+};
 use std::alloc::AllocError;
 
 impl<V: HasPosition, DE, UE, F, L: HintGenerator<V::Scalar>> ConstrainedDelaunayTriangulation<

@@ -1,9 +1,9 @@
 //! Which edges of a triangulation are constraints, and a triangulation that takes on constraints.
 ghost use Rattle.std.specs.Prelude.{◌≡◌, ◌↔◌, ◌*◌, ◌<◌, length, Contains, IsTrue, IfErr, IfOk};
-ghost use Rattle.half_edge_mesh.specs.Mesh.{origin, rev};
-ghost use Rattle.plane.specs.Pairs.{Joins};
-ghost use Rattle.plane.specs.Plain.{Unconstrains};
-ghost use Rattle.delaunay_legalization.specs.State.{points_and_constraints};
+ghost use Rattle.delaunay_edit.specs.half_edge_mesh.Mesh.{origin, rev};
+ghost use Rattle.delaunay_edit.specs.plane.Pairs.{Joins};
+ghost use Rattle.delaunay_edit.specs.plane.Plain.{Unconstrains};
+ghost use Rattle.delaunay_edit.specs.delaunay_legalization.State.{points_and_constraints};
 ghost use Rattle.delaunay_edit.specs.Constrained.{IsFree, constrained, constraint_edges};
 ghost use Rattle.delaunay_edit.specs.Constrained.{constraints_of};
 ghost use Rattle.delaunay_edit.specs.Data.{HasOtherEdgeData};
@@ -12,10 +12,10 @@ ghost use Rattle.delaunay_edit.specs.Headline.{IsDelaunay};
 use crate::triangulation_core::{
     ConstrainedDelaunayTriangulation, DelaunayTriangulation, TriangulationCore,
 };
-use delaunay_core::HintGenerator;
-use delaunay_core::point::HasPosition;
 use delaunay_edit::EditedMesh;
-use half_edge_mesh::{FixedUndirectedEdgeHandle, FixedVertexHandle};
+use delaunay_edit::delaunay_core::HintGenerator;
+use delaunay_edit::delaunay_core::point::HasPosition;
+use delaunay_edit::half_edge_mesh::{FixedUndirectedEdgeHandle, FixedVertexHandle};
 
 impl<V: HasPosition, DE, UE, F, L: HintGenerator<V::Scalar>> ConstrainedDelaunayTriangulation<
     V,

@@ -1,14 +1,14 @@
 //! Copies of a triangulation.
 ghost use Rattle.std.specs.Prelude.{◌≡◌, IfOk};
-ghost use Rattle.delaunay_legalization.specs.Constraints.{constraints_by};
+ghost use Rattle.delaunay_edit.specs.delaunay_legalization.Constraints.{constraints_by};
 ghost use Rattle.delaunay_edit.specs.Headline.{IsDelaunay};
 ghost use Rattle.delaunay_edit.specs.Storage.{IsCopy, KeepsImage};
 
 use crate::telling::generator_of_copy;
 use crate::triangulation_core::TriangulationCore;
-use delaunay_core::HintGenerator;
-use delaunay_core::point::HasPosition;
 use delaunay_edit::EdgeData;
+use delaunay_edit::delaunay_core::HintGenerator;
+use delaunay_edit::delaunay_core::point::HasPosition;
 use std::alloc::AllocError;
 
 impl<

@@ -1,18 +1,18 @@
 //! Insertions, of which the hint generator is told.
 ghost use Rattle.std.specs.Prelude.{◌+◌, ◌≤◌, length};
-ghost use Rattle.half_edge_links.specs.declared.room.TheConstants.{MAX_ELEMENTS};
-ghost use Rattle.plane.specs.Tests.{InRange};
-ghost use Rattle.delaunay_legalization.specs.Flips.{CountsFlips, FlipsFit};
+ghost use Rattle.delaunay_edit.specs.half_edge_links.declared.room.TheConstants.{MAX_ELEMENTS};
+ghost use Rattle.delaunay_edit.specs.plane.Tests.{InRange};
+ghost use Rattle.delaunay_edit.specs.delaunay_legalization.Flips.{CountsFlips, FlipsFit};
 ghost use Rattle.delaunay_edit.specs.Edits.{AreSitesWith, InsertsVertex};
 ghost use Rattle.delaunay_edit.specs.Headline.{AreSites, IsDelaunay};
 
 use crate::triangulation_core::TriangulationCore;
-use delaunay_core::HintGenerator;
-use delaunay_core::math::{InsertionError, PlaneTests, validate_vertex};
-use delaunay_core::point::HasPosition;
+use delaunay_edit::delaunay_core::HintGenerator;
+use delaunay_edit::delaunay_core::math::{InsertionError, PlaneTests, validate_vertex};
+use delaunay_edit::delaunay_core::point::HasPosition;
+use delaunay_edit::delaunay_insertion::FreeByDefault;
+use delaunay_edit::half_edge_mesh::FixedVertexHandle;
 use delaunay_edit::{EdgeData, Entry};
-use delaunay_insertion::FreeByDefault;
-use half_edge_mesh::FixedVertexHandle;
 
 impl<
     V: HasPosition + Drop,

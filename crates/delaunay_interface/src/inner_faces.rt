@@ -1,11 +1,11 @@
 //! An iterator over the faces but the outer one.
-#![tactic(auto, using(half_edge_views::proofs::Taken::length_each))]
+#![tactic(auto, using(delaunay_edit::proofs::half_edge_views::Taken::length_each))]
 
 ghost use Rattle.std.specs.Prelude.{◌≡◌, ◌<◌, ◌≤◌, ⊤, All, IfSome, length};
 ghost use Rattle.std.specs.List.{range_with_len};
 ghost use Rattle.std.specs.Iterator.{YieldsFirstBy, YieldsLastBy, item_count};
 
-use half_edge_mesh::{Dcel, FaceHandle, FixedFaceIterator, MeshViews};
+use delaunay_edit::half_edge_mesh::{Dcel, FaceHandle, FixedFaceIterator, MeshViews};
 use std::alloc::AllocError;
 use std::iter::FusedIterator;
 

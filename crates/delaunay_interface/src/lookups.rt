@@ -1,9 +1,9 @@
 //! The vertex that a search ended at.
 ghost use Rattle.delaunay_edit.specs.Elements.{HasElement};
-ghost use Rattle.delaunay_legalization.specs.State.{state_of};
+ghost use Rattle.delaunay_edit.specs.delaunay_legalization.State.{state_of};
 
-use delaunay_location::PositionInTriangulation;
-use half_edge_mesh::{Dcel, FixedVertexHandle, MeshViews};
+use delaunay_edit::delaunay_location::PositionInTriangulation;
+use delaunay_edit::half_edge_mesh::{Dcel, FixedVertexHandle, MeshViews};
 
 // A vertex of what an answer names, or the first.
 pub(crate) fn vertex_near<V, DE, UE, F>(

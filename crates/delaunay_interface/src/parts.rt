@@ -2,7 +2,7 @@
 
 use crate::inner_faces::InnerFaceIterator;
 use crate::triangulation::Triangulation;
-use half_edge_mesh::{
+use delaunay_edit::half_edge_mesh::{
     DirectedEdgeIterator, FaceIterator, HullIterator, UndirectedEdgeIterator, VertexIterator,
 };
 use half_edge_voronoi::{

@@ -1,21 +1,21 @@
 //! What a segment meets in a triangulation, and the constraints that it crosses.
 ghost use Rattle.std.specs.Prelude.{◌↔◌, ◌<◌, length, map, IsTrue};
-ghost use Rattle.delaunay_core.specs.Place.{place_of};
-ghost use Rattle.delaunay_legalization.specs.Known.{point_at};
-ghost use Rattle.delaunay_legalization.specs.State.{triangulation_of};
-ghost use Rattle.delaunay_lines.specs.Conflicts.{IntersectsConstraint};
-ghost use Rattle.delaunay_lines.specs.Walk.{IsReady, WalksLine};
+ghost use Rattle.delaunay_edit.specs.delaunay_core.Place.{place_of};
+ghost use Rattle.delaunay_edit.specs.delaunay_legalization.Known.{point_at};
+ghost use Rattle.delaunay_edit.specs.delaunay_legalization.State.{triangulation_of};
+ghost use Rattle.delaunay_edit.specs.delaunay_lines.Conflicts.{IntersectsConstraint};
+ghost use Rattle.delaunay_edit.specs.delaunay_lines.Walk.{IsReady, WalksLine};
 ghost use Rattle.delaunay_edit.specs.Constrained.{constraints_of};
 ghost use Rattle.delaunay_edit.specs.Headline.{AreSites};
 
 use crate::triangulation_core::{ConstrainedDelaunayTriangulation, TriangulationCore};
-use delaunay_core::HintGenerator;
-use delaunay_core::math::PlaneTests;
-use delaunay_core::point::{HasPosition, Point2};
 use delaunay_edit::EdgeData;
-use delaunay_legalization::{CdtEdge, EdgeConstraints};
-use delaunay_lines::{ConflictingEdgesIterator, HasMesh, intersects_constraint};
-use half_edge_mesh::{Dcel, FixedVertexHandle};
+use delaunay_edit::delaunay_core::HintGenerator;
+use delaunay_edit::delaunay_core::math::PlaneTests;
+use delaunay_edit::delaunay_core::point::{HasPosition, Point2};
+use delaunay_edit::delaunay_legalization::{CdtEdge, EdgeConstraints};
+use delaunay_edit::delaunay_lines::{ConflictingEdgesIterator, HasMesh, intersects_constraint};
+use delaunay_edit::half_edge_mesh::{Dcel, FixedVertexHandle};
 
 impl<V: HasPosition, DE, UE, F, L: HintGenerator<V::Scalar>, M: EdgeData<UE>> HasMesh<V, DE, UE, F>
     for TriangulationCore<V, DE, UE, F, L, M> {

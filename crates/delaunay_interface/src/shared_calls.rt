@@ -6,15 +6,15 @@ ghost use Rattle.delaunay_edit.specs.Writing.{with_face_data};
 use crate::telling::{position_if, tell_if_removed};
 use crate::triangulation::{Triangulation, sealed};
 use crate::triangulation_core::TriangulationCore;
-use delaunay_core::HintGenerator;
-use delaunay_core::math::{InsertionError, PlaneTests};
-use delaunay_core::point::HasPosition;
-use delaunay_edit::{EdgeData, WriteData};
-use delaunay_insertion::FreeByDefault;
-use half_edge_mesh::{
+use delaunay_edit::delaunay_core::HintGenerator;
+use delaunay_edit::delaunay_core::math::{InsertionError, PlaneTests};
+use delaunay_edit::delaunay_core::point::HasPosition;
+use delaunay_edit::delaunay_insertion::FreeByDefault;
+use delaunay_edit::half_edge_mesh::{
     Dcel, FixedDirectedEdgeHandle, FixedFaceHandle, FixedUndirectedEdgeHandle, FixedVertexHandle,
     MAX_ELEMENTS, ReserveError,
 };
+use delaunay_edit::{EdgeData, WriteData};
 use std::alloc::{AllocError, Global};
 
 impl<V: HasPosition, DE, UE, F, L: HintGenerator<V::Scalar>, M: EdgeData<UE>> sealed::Sealed

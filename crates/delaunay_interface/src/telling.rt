@@ -1,13 +1,13 @@
 //! What a hint generator is told of removals and copies.
 ghost use Rattle.std.specs.Prelude.{◌≡◌, map, Contains, Some, IfOk, OnErr, OnOk};
-ghost use Rattle.plane.specs.Fraction.{Point};
-ghost use Rattle.plane.specs.Hint.{IsAtMost, IsAtMostWithout};
-ghost use Rattle.delaunay_core.specs.Held.{place_if};
+ghost use Rattle.delaunay_edit.specs.plane.Fraction.{Point};
+ghost use Rattle.delaunay_edit.specs.plane.Hint.{IsAtMost, IsAtMostWithout};
+ghost use Rattle.delaunay_edit.specs.delaunay_core.Held.{place_if};
 
-use delaunay_core::HintGenerator;
-use delaunay_core::math::PlaneTests;
-use delaunay_core::point::{HasPosition, Point2, SpadeNum};
-use half_edge_mesh::{Dcel, FixedVertexHandle, MeshViews};
+use delaunay_edit::delaunay_core::HintGenerator;
+use delaunay_edit::delaunay_core::math::PlaneTests;
+use delaunay_edit::delaunay_core::point::{HasPosition, Point2, SpadeNum};
+use delaunay_edit::half_edge_mesh::{Dcel, FixedVertexHandle, MeshViews};
 use std::alloc::AllocError;
 
 // Tells a generator of the vertex that was removed, where one was, and else leaves it. The last

@@ -2,23 +2,24 @@
 ghost use Rattle.std.specs.Prelude.{◌≡◌, ℕ, ◌+◌, ◌*◌, ◌<◌, ◌≤◌, ◌↔◌, [], ◌∷◌, length, map, Some};
 ghost use Rattle.std.specs.Prelude.{IsTrue, IsOk, IsErrOf, IfOk, MatchOption, slice_get, slice_set};
 ghost use Rattle.std.specs.Borrow.{Lends, sem};
-ghost use Rattle.half_edge_links.specs.declared.room.TheConstants.{MAX_ELEMENTS};
-ghost use Rattle.half_edge_mesh.specs.Mesh.{empty};
-ghost use Rattle.half_edge_mesh.specs.Room.{AreFewEnough};
-ghost use Rattle.plane.specs.Plain.{IsCleared, Replaces};
-ghost use Rattle.plane.specs.Tests.{InRange};
-ghost use Rattle.delaunay_core.specs.declared.math.InsertionError.TheVariants.{TooLarge};
-ghost use Rattle.delaunay_core.specs.declared.math.InsertionError.TheVariants.{OutOfIndexes};
-ghost use Rattle.delaunay_legalization.specs.Constraints.{points_and_constraints_by};
+ghost use Rattle.delaunay_edit.specs.half_edge_links.declared.room.TheConstants.{MAX_ELEMENTS};
+ghost use Rattle.delaunay_edit.specs.half_edge_mesh.Mesh.{empty};
+ghost use Rattle.delaunay_edit.specs.half_edge_mesh.Room.{AreFewEnough};
+ghost use Rattle.delaunay_edit.specs.plane.Plain.{IsCleared, Replaces};
+ghost use Rattle.delaunay_edit.specs.plane.Tests.{InRange};
+ghost use Rattle.delaunay_edit.specs.delaunay_core.declared.math.InsertionError.TheVariants.{TooLarge};
+ghost use Rattle.delaunay_edit.specs.delaunay_core.declared.math.InsertionError.TheVariants.{OutOfIndexes};
+ghost use Rattle.delaunay_edit.specs.delaunay_legalization.Constraints.{points_and_constraints_by};
 ghost use Rattle.delaunay_edit.specs.Storage.{IsEmptyState};
 ghost use Rattle.std.specs.List.{range_with_len};
-ghost use Rattle.half_edge_mesh.specs.Left.{vertices_left, directed_edges_left};
-ghost use Rattle.half_edge_mesh.specs.Left.{undirected_edges_left, faces_left};
-ghost use Rattle.half_edge_mesh.specs.Rounds.{hull_left};
-ghost use Rattle.plane.specs.Hint.{IsAtMostOf};
-ghost use Rattle.delaunay_core.specs.Place.{place_of};
-ghost use Rattle.delaunay_legalization.specs.Known.{IsKnown, point_at};
-ghost use Rattle.delaunay_legalization.specs.State.{State, state_of, triangulation_of};
+ghost use Rattle.delaunay_edit.specs.half_edge_mesh.Left.{vertices_left, directed_edges_left};
+ghost use Rattle.delaunay_edit.specs.half_edge_mesh.Left.{undirected_edges_left, faces_left};
+ghost use Rattle.delaunay_edit.specs.half_edge_mesh.Rounds.{hull_left};
+ghost use Rattle.delaunay_edit.specs.plane.Hint.{IsAtMostOf};
+ghost use Rattle.delaunay_edit.specs.delaunay_core.Place.{place_of};
+ghost use Rattle.delaunay_edit.specs.delaunay_legalization.Known.{IsKnown, point_at};
+ghost use Rattle.delaunay_edit.specs.delaunay_legalization.State.{State, state_of};
+ghost use Rattle.delaunay_edit.specs.delaunay_legalization.State.{triangulation_of};
 ghost use Rattle.delaunay_edit.specs.Edits.{InsertsVertex, LocatesAndRemoves, RemovesVertex};
 ghost use Rattle.delaunay_edit.specs.Elements.{FindsLocation, GivesElements, IsVertexAt};
 ghost use Rattle.delaunay_edit.specs.Headline.{AreSites, IsDelaunay, IsWellFormed};
@@ -35,13 +36,13 @@ use crate::parts::{
     DirectedEdgesOf, DirectedVoronoiEdgesOf, FacesOf, HullOf, InnerFacesOf, UndirectedEdgesOf,
     UndirectedVoronoiEdgesOf, VerticesOf, VoronoiFacesOf,
 };
-use delaunay_core::HintGenerator;
-use delaunay_core::math::{InsertionError, PlaneTests};
-use delaunay_core::point::{HasPosition, Point2};
 use delaunay_edit::EdgeData;
-use delaunay_lines::HasMesh;
-use delaunay_location::{PositionInTriangulation, locate_with_hint};
-use half_edge_mesh::{
+use delaunay_edit::delaunay_core::HintGenerator;
+use delaunay_edit::delaunay_core::math::{InsertionError, PlaneTests};
+use delaunay_edit::delaunay_core::point::{HasPosition, Point2};
+use delaunay_edit::delaunay_lines::HasMesh;
+use delaunay_edit::delaunay_location::{PositionInTriangulation, locate_with_hint};
+use delaunay_edit::half_edge_mesh::{
     Dcel, DirectedEdgeHandle, FaceHandle, FixedDirectedEdgeHandle, FixedDirectedEdgeIterator,
     FixedFaceHandle, FixedFaceIterator, FixedUndirectedEdgeHandle, FixedUndirectedEdgeIterator,
     FixedVertexHandle, FixedVertexIterator, MeshViews, UndirectedEdgeHandle, VertexHandle,

@@ -1,14 +1,14 @@
 //! The struct that both triangulation types are.
 ghost use Rattle.std.specs.Prelude.{◌≡◌};
-ghost use Rattle.delaunay_legalization.specs.State.{state_of};
+ghost use Rattle.delaunay_edit.specs.delaunay_legalization.State.{state_of};
 ghost use Rattle.delaunay_edit.specs.Headline.{IsDelaunay};
 ghost use Rattle.delaunay_edit.specs.Storage.{IsEmptyState};
 
-use delaunay_core::point::HasPosition;
-use delaunay_core::{HintGenerator, LastUsedVertexHintGenerator};
+use delaunay_edit::delaunay_core::point::HasPosition;
+use delaunay_edit::delaunay_core::{HintGenerator, LastUsedVertexHintGenerator};
+use delaunay_edit::delaunay_legalization::{CdtEdge, EdgeConstraints, NoConstraints};
+use delaunay_edit::half_edge_mesh::Dcel;
 use delaunay_edit::{EdgeData, EditedMesh};
-use delaunay_legalization::{CdtEdge, EdgeConstraints, NoConstraints};
-use half_edge_mesh::Dcel;
 use std::alloc::Global;
 use std::marker::Model;
 
@@ -34,8 +34,8 @@ pub struct TriangulationCore<
 impl<V: HasPosition, DE, UE, F, L: HintGenerator<V::Scalar>, M: EdgeData<UE>> Model
     for TriangulationCore<V, DE, UE, F, L, M> {
     ghost use Rattle.std.specs.Prelude.{map};
-    ghost use Rattle.plane.specs.Hint.{IsAtMostOf};
-    ghost use Rattle.delaunay_legalization.specs.State.{State};
+    ghost use Rattle.delaunay_edit.specs.plane.Hint.{IsAtMostOf};
+    ghost use Rattle.delaunay_edit.specs.delaunay_legalization.State.{State};
 
     ghost Value = { State V DE UE F };
 

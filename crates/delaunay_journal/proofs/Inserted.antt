@@ -5,27 +5,27 @@ use Rattle.std.proofs.Common.{ℕ, List, length, map, sym, ap, subst, inl, inr, 
 use Rattle.std.specs.Prelude.{pos}
 use Rattle.std.proofs.lemmas.List.{length-append, length-map, length-set, map-append, map-set}
 use Rattle.std.proofs.lemmas.List.{get_or_push, get_or-set_same}
-use Rattle.plane.specs.Fraction.{Point, whole}
-use Rattle.plane.specs.Location.{Location, on_vertex, IsLocation}
-use Rattle.plane.specs.Plain.{Plain, Appends, Inserts, Replaces, points_of}
-use Rattle.plane_tiling.specs.Laws.{IsSameLocation}
-use Rattle.plane_tiling.proofs.Locations.{each_point_has_one_location}
-use Rattle.mesh_embedding.specs.Drawn.{faces_of, edges_of, outer_of}
-use Rattle.mesh_embedding.proofs.OwnEdges.{own_edges}
-use Rattle.delaunay_legalization.specs.Constraints.{points_and_constraints_by}
-use Rattle.delaunay_legalization.specs.Known.{point_at}
-use Rattle.delaunay_legalization.specs.Shape.{IsTriangulated}
-use Rattle.delaunay_legalization.specs.State.{State, triangulation_of}
-use Rattle.delaunay_location.specs.declared.position_in_triangulation.PositionInTriangulation.{PositionInTriangulation}
-use Rattle.delaunay_location.specs.declared.position_in_triangulation.PositionInTriangulation.TheVariants.{
+use Rattle.delaunay_interface.specs.plane.Fraction.{Point, whole}
+use Rattle.delaunay_interface.specs.plane.Location.{Location, on_vertex, IsLocation}
+use Rattle.delaunay_interface.specs.plane.Plain.{Plain, Appends, Inserts, Replaces, points_of}
+use Rattle.delaunay_interface.specs.plane_tiling.Laws.{IsSameLocation}
+use Rattle.delaunay_interface.proofs.plane_tiling.Locations.{each_point_has_one_location}
+use Rattle.delaunay_interface.specs.mesh_embedding.Drawn.{faces_of, edges_of, outer_of}
+use Rattle.delaunay_interface.proofs.mesh_embedding.OwnEdges.{own_edges}
+use Rattle.delaunay_interface.specs.delaunay_legalization.Constraints.{points_and_constraints_by}
+use Rattle.delaunay_interface.specs.delaunay_legalization.Known.{point_at}
+use Rattle.delaunay_interface.specs.delaunay_legalization.Shape.{IsTriangulated}
+use Rattle.delaunay_interface.specs.delaunay_legalization.State.{State, triangulation_of}
+use Rattle.delaunay_interface.specs.delaunay_location.declared.position_in_triangulation.PositionInTriangulation.{PositionInTriangulation}
+use Rattle.delaunay_interface.specs.delaunay_location.declared.position_in_triangulation.PositionInTriangulation.TheVariants.{
   OnVertex,
   OnEdge,
   OnFace,
   OutsideOfConvexHull,
   NoTriangulation,
 }
-use Rattle.delaunay_location.specs.Location.{location_of}
-use Rattle.delaunay_location.proofs.Locating.{at_vertex}
+use Rattle.delaunay_interface.specs.delaunay_location.Location.{location_of}
+use Rattle.delaunay_interface.proofs.delaunay_location.Locating.{at_vertex}
 use Rattle.delaunay_interface.specs.Elements.{FindsLocation}
 use Rattle.delaunay_interface.specs.Headline.{IsWellFormed}
 

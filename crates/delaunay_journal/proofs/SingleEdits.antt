@@ -3,21 +3,21 @@
 -- unjoined_is_free, joined_by_edge, edge_joined_by, pair_released.
 use Rattle.std.proofs.Common.{◌≡◌, ◌∙◌, ◌*◌, ◌/◌, ◌<◌}
 use Rattle.std.proofs.Common.{ℕ, Bool, List, map, Ok, Err, refl, sym, ap, subst, inl, inr}
-use Rattle.half_edge_mesh.specs.Mesh.{origin, rev}
-use Rattle.plane.specs.Fraction.{Point}
-use Rattle.plane.specs.Pairs.{Joins, IsSamePair}
-use Rattle.plane.specs.Plain.{Plain, Releases}
-use Rattle.mesh_embedding.proofs.EdgePairs.{joins_edge}
-use Rattle.mesh_embedding.proofs.MeshLegal.{same_joined, turned_join}
-use Rattle.mesh_embedding.proofs.MeshStays.{same_pair_back}
-use Rattle.delaunay_core.specs.declared.math.InsertionError.{InsertionError}
-use Rattle.delaunay_legalization.specs.declared.cdt_edge.CdtEdge.{CdtEdge}
-use Rattle.delaunay_legalization.specs.CdtEdge.{is_constraint}
-use Rattle.delaunay_legalization.specs.Known.{point_at}
-use Rattle.delaunay_legalization.specs.Shape.{IsTriangulated}
-use Rattle.delaunay_legalization.specs.State.{State}
-use Rattle.delaunay_legalization.proofs.ConstraintEdges.{constraints_are_edges}
-use Rattle.delaunay_paths.proofs.AddingPieces.{half_ends}
+use Rattle.delaunay_interface.specs.half_edge_mesh.Mesh.{origin, rev}
+use Rattle.delaunay_interface.specs.plane.Fraction.{Point}
+use Rattle.delaunay_interface.specs.plane.Pairs.{Joins, IsSamePair}
+use Rattle.delaunay_interface.specs.plane.Plain.{Plain, Releases}
+use Rattle.delaunay_interface.proofs.mesh_embedding.EdgePairs.{joins_edge}
+use Rattle.delaunay_interface.proofs.mesh_embedding.MeshLegal.{same_joined, turned_join}
+use Rattle.delaunay_interface.proofs.mesh_embedding.MeshStays.{same_pair_back}
+use Rattle.delaunay_interface.specs.delaunay_core.declared.math.InsertionError.{InsertionError}
+use Rattle.delaunay_interface.specs.delaunay_legalization.declared.cdt_edge.CdtEdge.{CdtEdge}
+use Rattle.delaunay_interface.specs.delaunay_legalization.CdtEdge.{is_constraint}
+use Rattle.delaunay_interface.specs.delaunay_legalization.Known.{point_at}
+use Rattle.delaunay_interface.specs.delaunay_legalization.Shape.{IsTriangulated}
+use Rattle.delaunay_interface.specs.delaunay_legalization.State.{State}
+use Rattle.delaunay_interface.proofs.delaunay_legalization_lemmas.ConstraintEdges.{constraints_are_edges}
+use Rattle.delaunay_interface.proofs.delaunay_paths_lemmas.AddingPieces.{half_ends}
 use Rattle.delaunay_interface.specs.Constrained.{constrained, constraint_edges, constraints_of}
 use Rattle.delaunay_interface.specs.ConstraintEdits.{AddsConstraint, FreesEdge}
 use Rattle.delaunay_interface.specs.Edits.{InsertsVertex, RemovesVertex}

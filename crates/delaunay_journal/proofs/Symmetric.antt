@@ -1,15 +1,15 @@
 -- What is asked of two vertices is answered alike in either order.
 -- Lemmas: queries_are_symmetric.
 use Rattle.std.proofs.Common.{◌≡◌, ◌<◌, ◌∙◌, ℕ, List, length, sym, ap, subst, inl, inr}
-use Rattle.half_edge_links.proofs.Lists.Rev.{rev-rev, rev_within}
-use Rattle.half_edge_mesh.specs.Contents.{Contents}
-use Rattle.half_edge_mesh.specs.Mesh.{origin, rev}
-use Rattle.plane.specs.Fraction.{Point}
-use Rattle.plane.specs.Pairs.{EachPairOnce}
-use Rattle.plane.proofs.Indexes.{turned_join}
-use Rattle.mesh_embedding.specs.Drawn.{edges_of}
-use Rattle.mesh_embedding.proofs.MeshStays.{one_way}
-use Rattle.delaunay_legalization.specs.State.{State}
+use Rattle.delaunay_interface.proofs.half_edge_links.Lists.Rev.{rev-rev, rev_within}
+use Rattle.delaunay_interface.specs.half_edge_mesh.Contents.{Contents}
+use Rattle.delaunay_interface.specs.half_edge_mesh.Mesh.{origin, rev}
+use Rattle.delaunay_interface.specs.plane.Fraction.{Point}
+use Rattle.delaunay_interface.specs.plane.Pairs.{EachPairOnce}
+use Rattle.delaunay_interface.proofs.plane.Indexes.{turned_join}
+use Rattle.delaunay_interface.specs.mesh_embedding.Drawn.{edges_of}
+use Rattle.delaunay_interface.proofs.mesh_embedding.MeshStays.{one_way}
+use Rattle.delaunay_interface.specs.delaunay_legalization.State.{State}
 use Rattle.delaunay_interface.specs.Constrained.{constraints_of}
 use Rattle.delaunay_interface.specs.Headline.{IsWellFormed}
 use Rattle.delaunay_interface.specs.Views.{AreNotJoined, IsEdgeBetween}

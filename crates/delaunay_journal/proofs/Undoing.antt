@@ -6,18 +6,18 @@ use Rattle.std.proofs.Common.{inl, inr, arith}
 use Rattle.std.specs.Prelude.{nat_eq, if◌then◌else◌, pos, swap_remove}
 use Rattle.std.proofs.lemmas.Bool.Decides.{nat_tests}
 use Rattle.std.proofs.lemmas.List.{length-append, length-map, get_or_append_left}
-use Rattle.plane.specs.Fraction.{Point, whole, IsPositive, WithinSegment}
-use Rattle.plane.specs.Pairs.{Joins, IsSamePair, place}
-use Rattle.plane.specs.Plain.{Plain, IsPlain, IsSameState, points_of, Appends, Carries}
-use Rattle.plane.specs.Plain.{AreStraightHalves, Removes}
-use Rattle.plane.proofs.Means.{turned_mean_of_two}
-use Rattle.plane.proofs.Indexes.{turned_join}
-use Rattle.plane.proofs.Decisions.{Decision, decide_within_segment}
-use Rattle.plane_tiling.proofs.Locations.{no_edges_cross}
-use Rattle.mesh_embedding.specs.Drawn.{faces_of, edges_of, outer_of}
-use Rattle.mesh_embedding.proofs.OwnEdges.{own_edges}
-use Rattle.delaunay_legalization.specs.Constraints.{points_and_constraints_by}
-use Rattle.delaunay_legalization.specs.State.{State}
+use Rattle.delaunay_interface.specs.plane.Fraction.{Point, whole, IsPositive, WithinSegment}
+use Rattle.delaunay_interface.specs.plane.Pairs.{Joins, IsSamePair, place}
+use Rattle.delaunay_interface.specs.plane.Plain.{Plain, IsPlain, IsSameState, points_of, Appends}
+use Rattle.delaunay_interface.specs.plane.Plain.{Carries, AreStraightHalves, Removes}
+use Rattle.delaunay_interface.proofs.plane.Means.{turned_mean_of_two}
+use Rattle.delaunay_interface.proofs.plane.Indexes.{turned_join}
+use Rattle.delaunay_interface.proofs.plane.Decisions.{Decision, decide_within_segment}
+use Rattle.delaunay_interface.proofs.plane_tiling.Locations.{no_edges_cross}
+use Rattle.delaunay_interface.specs.mesh_embedding.Drawn.{faces_of, edges_of, outer_of}
+use Rattle.delaunay_interface.proofs.mesh_embedding.OwnEdges.{own_edges}
+use Rattle.delaunay_interface.specs.delaunay_legalization.Constraints.{points_and_constraints_by}
+use Rattle.delaunay_interface.specs.delaunay_legalization.State.{State}
 use Rattle.delaunay_interface.specs.Headline.{IsWellFormed}
 use Rattle.delaunay_journal.proofs.Inserted.{appended_point, appended_points}
 

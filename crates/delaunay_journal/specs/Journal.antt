@@ -2,16 +2,18 @@
 use Rattle.std.specs.Prelude.{◌≡◌, ◌≢◌, ◌↔◌, ◌<◌, ◌≤◌, [], ◌∷◌, ◌++◌}
 use Rattle.std.specs.Prelude.{ℕ, Bool, true, false, List, length, map, Some, Ok}
 use Rattle.std.specs.Prelude.{Err, IsTrue, slice_get, slice_set}
-use Rattle.half_edge_mesh.specs.Mesh.{empty}
-use Rattle.plane.specs.Fraction.{Point}
-use Rattle.plane.specs.Pairs.{Joins, SamePairs}
-use Rattle.plane.specs.Plain.{Plain, Edit as PlainEdit, insert, replace, remove, add, release}
-use Rattle.plane.specs.Plain.{clear, Adds, CanAdd, IsCleared, Releases, Replaces}
-use Rattle.mesh_embedding.specs.Stays.{KeepsIndexes}
-use Rattle.delaunay_legalization.specs.Constraints.{constraints_by, points_and_constraints_by}
-use Rattle.delaunay_legalization.specs.Known.{point_at}
-use Rattle.delaunay_legalization.specs.State.{State}
-use Rattle.delaunay_paths.specs.Adding.{MarksSome}
+use Rattle.delaunay_interface.specs.half_edge_mesh.Mesh.{empty}
+use Rattle.delaunay_interface.specs.plane.Fraction.{Point}
+use Rattle.delaunay_interface.specs.plane.Pairs.{Joins, SamePairs}
+use Rattle.delaunay_interface.specs.plane.Plain.{Plain, Edit as PlainEdit, insert, replace, remove}
+use Rattle.delaunay_interface.specs.plane.Plain.{add, release, clear, Adds, CanAdd, IsCleared}
+use Rattle.delaunay_interface.specs.plane.Plain.{Releases, Replaces}
+use Rattle.delaunay_interface.specs.mesh_embedding.Stays.{KeepsIndexes}
+use Rattle.delaunay_interface.specs.delaunay_legalization.Constraints.{constraints_by}
+use Rattle.delaunay_interface.specs.delaunay_legalization.Constraints.{points_and_constraints_by}
+use Rattle.delaunay_interface.specs.delaunay_legalization.Known.{point_at}
+use Rattle.delaunay_interface.specs.delaunay_legalization.State.{State}
+use Rattle.delaunay_interface.specs.delaunay_paths.Adding.{MarksSome}
 use Rattle.delaunay_interface.specs.Edits.{InsertsVertex, RemovesVertex}
 use Rattle.delaunay_journal.specs.declared.edit.Edit.{Edit}
 use Rattle.delaunay_journal.specs.declared.edit.Edit.TheVariants.{Insert, Remove, Replace, Clear}

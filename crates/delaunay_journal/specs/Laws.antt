@@ -1,15 +1,15 @@
 -- What follows of several calls.
 use Rattle.std.specs.Prelude.{◌≡◌, ◌↔◌, ◌<◌, ℕ, List, length}
-use Rattle.half_edge_mesh.specs.Contents.{Contents}
-use Rattle.half_edge_mesh.specs.Mesh.{rev}
-use Rattle.plane.specs.Fraction.{Point}
-use Rattle.plane.specs.Pairs.{Joins}
-use Rattle.plane.specs.Plain.{Plain, IsSameState, Appends, Inserts, Removes}
-use Rattle.delaunay_legalization.specs.declared.cdt_edge.CdtEdge.{CdtEdge}
-use Rattle.delaunay_legalization.specs.Constraints.{points_and_constraints_by}
-use Rattle.delaunay_legalization.specs.State.{State}
-use Rattle.delaunay_location.specs.declared.position_in_triangulation.PositionInTriangulation.{PositionInTriangulation}
-use Rattle.delaunay_location.specs.declared.position_in_triangulation.PositionInTriangulation.TheVariants.{OnVertex}
+use Rattle.delaunay_interface.specs.half_edge_mesh.Contents.{Contents}
+use Rattle.delaunay_interface.specs.half_edge_mesh.Mesh.{rev}
+use Rattle.delaunay_interface.specs.plane.Fraction.{Point}
+use Rattle.delaunay_interface.specs.plane.Pairs.{Joins}
+use Rattle.delaunay_interface.specs.plane.Plain.{Plain, IsSameState, Appends, Inserts, Removes}
+use Rattle.delaunay_interface.specs.delaunay_legalization.declared.cdt_edge.CdtEdge.{CdtEdge}
+use Rattle.delaunay_interface.specs.delaunay_legalization.Constraints.{points_and_constraints_by}
+use Rattle.delaunay_interface.specs.delaunay_legalization.State.{State}
+use Rattle.delaunay_interface.specs.delaunay_location.declared.position_in_triangulation.PositionInTriangulation.{PositionInTriangulation}
+use Rattle.delaunay_interface.specs.delaunay_location.declared.position_in_triangulation.PositionInTriangulation.TheVariants.{OnVertex}
 use Rattle.delaunay_interface.specs.Constrained.{constraints_of}
 use Rattle.delaunay_interface.specs.Elements.{FindsLocation}
 use Rattle.delaunay_interface.specs.Headline.{IsWellFormed}

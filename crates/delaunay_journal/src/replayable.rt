@@ -5,9 +5,9 @@ ghost use Rattle.delaunay_journal.specs.Journal.{Gives, edit_of};
 ghost use Rattle.delaunay_journal.specs.Marking.{Marking, flag_marking, no_marking};
 
 use crate::edit::{Outcome, PairEdit, Refusal};
-use delaunay_core::HintGenerator;
-use delaunay_core::math::PlaneTests;
-use delaunay_core::point::HasPosition;
+use delaunay_interface::delaunay_core::HintGenerator;
+use delaunay_interface::delaunay_core::math::PlaneTests;
+use delaunay_interface::delaunay_core::point::HasPosition;
 use delaunay_interface::{ConstrainedDelaunayTriangulation, DelaunayTriangulation, Triangulation};
 
 /// A triangulation on which lists of edits are replayed: a `DelaunayTriangulation`, which refuses

@@ -1,8 +1,8 @@
 //! A list of edits.
 ghost use Rattle.std.specs.Prelude.{◌≡◌, Contains, IfOk, OnErr};
-ghost use Rattle.plane.specs.Plain.{Run};
-ghost use Rattle.plane.specs.Tests.{InRange};
-ghost use Rattle.delaunay_legalization.specs.Constraints.{points_and_constraints_by};
+ghost use Rattle.delaunay_interface.specs.plane.Plain.{Run};
+ghost use Rattle.delaunay_interface.specs.plane.Tests.{InRange};
+ghost use Rattle.delaunay_interface.specs.delaunay_legalization.Constraints.{points_and_constraints_by};
 ghost use Rattle.delaunay_interface.specs.Headline.{AreSites, IsDelaunay};
 ghost use Rattle.delaunay_journal.specs.declared.edit.Edit.TheVariants.{Insert};
 ghost use Rattle.delaunay_journal.specs.Journal.{Replays, edits_made};
@@ -10,9 +10,9 @@ ghost use Rattle.delaunay_journal.specs.Journal.{Replays, edits_made};
 use crate::edit::{Edit, Outcome};
 use crate::replayable::Replayable;
 use crate::steps::make;
-use delaunay_core::math::PlaneTests;
-use delaunay_core::point::HasPosition;
 use delaunay_interface::Triangulation;
+use delaunay_interface::delaunay_core::math::PlaneTests;
+use delaunay_interface::delaunay_core::point::HasPosition;
 use std::alloc::AllocError;
 
 /// Makes the edits of a list, one after another, and gives what each gave. An edit that is refused

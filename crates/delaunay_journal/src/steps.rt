@@ -1,17 +1,17 @@
 //! One edit.
 ghost use Rattle.std.specs.Prelude.{◌≡◌, ◌↔◌, map, IsTrue};
-ghost use Rattle.plane.specs.Tests.{InRange};
-ghost use Rattle.delaunay_core.specs.Place.{place_of};
+ghost use Rattle.delaunay_interface.specs.plane.Tests.{InRange};
+ghost use Rattle.delaunay_interface.specs.delaunay_core.Place.{place_of};
 ghost use Rattle.delaunay_interface.specs.Headline.{AreSites, IsDelaunay};
 ghost use Rattle.delaunay_journal.specs.declared.edit.Edit.TheVariants.{Insert, Remove, Replace};
 ghost use Rattle.delaunay_journal.specs.Journal.{Gives};
 
 use crate::edit::{Edit, Outcome, PairEdit, Refusal};
 use crate::replayable::Replayable;
-use delaunay_core::math::PlaneTests;
-use delaunay_core::point::{HasPosition, Point2, SpadeNum};
 use delaunay_interface::Triangulation;
-use half_edge_mesh::FixedVertexHandle;
+use delaunay_interface::delaunay_core::math::PlaneTests;
+use delaunay_interface::delaunay_core::point::{HasPosition, Point2, SpadeNum};
+use delaunay_interface::half_edge_mesh::FixedVertexHandle;
 
 // Whether two points are one.
 fn is_same<S: SpadeNum>(first: Point2<S>, second: Point2<S>) -> bool

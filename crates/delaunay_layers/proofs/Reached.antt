@@ -10,22 +10,24 @@ use Rattle.std.specs.Prelude.{ℤ, pos, ◌+ℤ◌, ◌≤ℤ◌, ◌<ℤ◌, ne
 use Rattle.std.proofs.lemmas.Bool.{cases_eq, eqb-true}
 use Rattle.std.proofs.lemmas.Int.{ints}
 use Rattle.std.proofs.lemmas.List.{length-map}
-use Rattle.half_edge_mesh.specs.Mesh.{Mesh, origin, next, prev, face, rev, face_edge, IsValidMesh}
-use Rattle.half_edge_mesh.specs.Triangles.{triangles, triangle_at}
-use Rattle.half_edge_links.proofs.Lists.Rev.{rev-rev, rev_within}
-use Rattle.half_edge_links.proofs.Sound.Triangles as T
-use Rattle.plane.specs.Fraction.{Point, whole}
-use Rattle.plane.specs.Tiling.{Face}
-use Rattle.plane.proofs.Bracket.{lift, bracket}
-use Rattle.plane.proofs.BracketIdentities.{bracket-sum, bracket-swap}
-use Rattle.plane.proofs.Sides.{if_left}
-use Rattle.plane_tiling.specs.Local.{LocalMesh, IsMesh, around, along, total, IsAntisymmetric}
-use Rattle.plane_tiling.proofs.Totals.{all_none, get_or_any, total_at_least}
-use Rattle.mesh_embedding.specs.Drawn.{corners_of, faces_of, outer_of}
-use Rattle.mesh_embedding.proofs.MeshLegal.{own_indexes}
-use Rattle.mesh_embedding.proofs.MeshStars.{IsEdgeOfFace, edge_of_face}
-use Rattle.mesh_embedding.proofs.OuterEdges.{real}
-use Rattle.mesh_embedding.proofs.WorkLists.{contains_map}
+use Rattle.delaunay_interface.specs.half_edge_mesh.Mesh.{Mesh, origin, next, prev, face, rev}
+use Rattle.delaunay_interface.specs.half_edge_mesh.Mesh.{face_edge, IsValidMesh}
+use Rattle.delaunay_interface.specs.half_edge_mesh.Triangles.{triangles, triangle_at}
+use Rattle.delaunay_interface.proofs.half_edge_links.Lists.Rev.{rev-rev, rev_within}
+use Rattle.delaunay_interface.proofs.half_edge_links.Sound.Triangles as T
+use Rattle.delaunay_interface.specs.plane.Fraction.{Point, whole}
+use Rattle.delaunay_interface.specs.plane.Tiling.{Face}
+use Rattle.delaunay_interface.proofs.plane.Bracket.{lift, bracket}
+use Rattle.delaunay_interface.proofs.plane.BracketIdentities.{bracket-sum, bracket-swap}
+use Rattle.delaunay_interface.proofs.plane.Sides.{if_left}
+use Rattle.delaunay_interface.specs.plane_tiling.Local.{LocalMesh, IsMesh, around, along, total}
+use Rattle.delaunay_interface.specs.plane_tiling.Local.{IsAntisymmetric}
+use Rattle.delaunay_interface.proofs.plane_tiling.Totals.{all_none, get_or_any, total_at_least}
+use Rattle.delaunay_interface.specs.mesh_embedding.Drawn.{corners_of, faces_of, outer_of}
+use Rattle.delaunay_interface.proofs.mesh_embedding.MeshLegal.{own_indexes}
+use Rattle.delaunay_interface.proofs.mesh_embedding.MeshStars.{IsEdgeOfFace, edge_of_face}
+use Rattle.delaunay_interface.proofs.mesh_embedding.OuterEdges.{real}
+use Rattle.delaunay_interface.proofs.mesh_embedding.WorkLists.{contains_map}
 use Rattle.delaunay_layers.specs.Layers.{AreLayers}
 use Rattle.delaunay_layers.specs.Search.{unseen, layer_at, IsMet, IsFound}
 use Rattle.delaunay_layers.proofs.Ways.{no_shorter}

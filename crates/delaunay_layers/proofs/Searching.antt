@@ -10,8 +10,8 @@ use mathlib.Core.Bool.{Bool, true, false, ◌||◌}
 use Rattle.std.specs.List.{list_any}
 use Rattle.std.proofs.lemmas.List.Folds.{list_any_at}
 use Rattle.std.proofs.lemmas.Bool.Decides.{eqb_tells}
-use Rattle.half_edge_links.proofs.Lists.Rev.{rev_within}
-use Rattle.plane_tiling.proofs.Totals.{get_or_any}
+use Rattle.delaunay_interface.proofs.half_edge_links.Lists.Rev.{rev_within}
+use Rattle.delaunay_interface.proofs.plane_tiling.Totals.{get_or_any}
 use Rattle.delaunay_layers.proofs.Ways.{way_on}
 use mathlib.Core.Logic.{inl, inr, ◌≢◌}
 use Rattle.std.specs.Prelude.{Contains, cond, nat_eq}
@@ -22,12 +22,13 @@ use Rattle.std.proofs.lemmas.List.{length-replicate}
 use Rattle.std.proofs.lemmas.List.Elements.{Contains-push, Contains-push_cases}
 use Rattle.std.proofs.lemmas.List.Elements.{Contains-append_left}
 use Rattle.std.proofs.lemmas.List.Sums.{count_by-le-length, sum_by-set}
-use Rattle.half_edge_mesh.specs.Mesh.{Mesh, face, rev, next, prev, face_edge, AreSoundLinks}
-use Rattle.half_edge_links.proofs.Sound.Triangles.{same_loop, triangle_at}
+use Rattle.delaunay_interface.specs.half_edge_mesh.Mesh.{Mesh, face, rev, next, prev, face_edge}
+use Rattle.delaunay_interface.specs.half_edge_mesh.Mesh.{AreSoundLinks}
+use Rattle.delaunay_interface.proofs.half_edge_links.Sound.Triangles.{same_loop, triangle_at}
 use Rattle.delaunay_layers.specs.Search.{unseen, layer_at, IsMet, left_unseen, weight, HasWay}
 use Rattle.delaunay_layers.specs.Search.{IsDue, IsReachedAcross, IsLayered, IsSideOf, Lists, work_left}
 use Rattle.delaunay_layers.specs.Search.{IsFound, TakesNow, TakesLater}
-use Rattle.half_edge_links.specs.declared.room.TheConstants.{MAX_ELEMENTS}
+use Rattle.delaunay_interface.specs.half_edge_links.declared.room.TheConstants.{MAX_ELEMENTS}
 use Rattle.delaunay_layers.specs.Layers.{is_constrained}
 
 none_in : (h : ℕ) → Contains [] h → ⊥

@@ -4,7 +4,7 @@ use Rattle.std.proofs.Common.{◌≡◌, ◌+◌, ◌<◌, ◌≤◌, [], ◌∷
 use Rattle.std.proofs.Common.{ℕ, List, length, refl, sym, ap, subst, arith}
 use Rattle.std.proofs.lemmas.List.Sums.{sum_by-append}
 use Rattle.std.specs.Prelude.{cond}
-use Rattle.half_edge_mesh.specs.Mesh.{Mesh, face, rev}
+use Rattle.delaunay_interface.specs.half_edge_mesh.Mesh.{Mesh, face, rev}
 use Rattle.delaunay_layers.specs.Layers.{Leads, is_constrained, crossed}
 use Rattle.delaunay_layers.specs.Search.{weight, HasWay, IsMet, IsReachedAcross, layer_at}
 

@@ -3,7 +3,7 @@ use Rattle.std.specs.Prelude.{◌≡◌, ◌≢◌, ◌⊎◌, ◌+◌, ◌*◌,
 use Rattle.std.specs.Prelude.{[], ◌∷◌, ◌++◌, Option, MatchOption}
 use Rattle.std.specs.Prelude.{ℕ, List, length, Contains, cond, nat_eq, slice_index_or}
 use Rattle.std.specs.List.{count_by}
-use Rattle.half_edge_mesh.specs.Mesh.{Mesh, face, rev}
+use Rattle.delaunay_interface.specs.half_edge_mesh.Mesh.{Mesh, face, rev}
 use Rattle.delaunay_layers.specs.Layers.{Leads, is_constrained, crossed}
 
 -- what stands in place of the layer of a face that was not reached

@@ -4,22 +4,23 @@ use Rattle.std.proofs.Common.{◌≡◌, ◌⊎◌, ℕ, ◌*◌, ◌/◌, ◌<�
 use Rattle.std.proofs.Common.{length, refl, sym, ap, ◌∙◌, subst, arith}
 use mathlib.Core.Logic.{◌≢◌, inl, inr}
 use Rattle.std.specs.Prelude.{Contains}
-use Rattle.half_edge_mesh.specs.Mesh.{Mesh, origin, next, prev, face, rev, edge_at, IsValidMesh}
-use Rattle.half_edge_mesh.specs.Flip.{IsFlippable, Flips, flipped}
-use Rattle.half_edge_links.proofs.Lists.Rev.{rev-rev, rev_within}
-use Rattle.half_edge_links.specs.Places.{AreSixPlaces}
-use Rattle.half_edge_links.proofs.Sound.Triangles as T
-use Rattle.half_edge_links.proofs.Faces.FlipLemmas.{flips}
-use Rattle.half_edge_links.proofs.Faces.FlipSound.{origin_kept}
-use Rattle.plane.proofs.Centre.{circle_turned}
-use Rattle.plane.specs.Circle.{InsideCircle}
-use Rattle.plane.specs.Fraction.{Point}
-use Rattle.plane.specs.Pairs.{place}
-use Rattle.plane_tiling.specs.Local.{LocalMesh, IsMesh}
-use Rattle.plane_tiling.proofs.Tiles.{point_at}
-use Rattle.plane_edits.specs.Change.{IsFaceOf}
-use Rattle.plane_edits.proofs.Legalization.Flipping.{one_question}
-use Rattle.plane_edits.proofs.LocalMesh.Kept.{turning_of, index_of}
+use Rattle.mesh_embedding.specs.half_edge_mesh.Mesh.{Mesh, origin, next, prev, face, rev, edge_at}
+use Rattle.mesh_embedding.specs.half_edge_mesh.Mesh.{IsValidMesh}
+use Rattle.mesh_embedding.specs.half_edge_mesh.Flip.{IsFlippable, Flips, flipped}
+use Rattle.mesh_embedding.proofs.half_edge_links.Lists.Rev.{rev-rev, rev_within}
+use Rattle.mesh_embedding.specs.half_edge_links.Places.{AreSixPlaces}
+use Rattle.mesh_embedding.proofs.half_edge_links.Sound.Triangles as T
+use Rattle.mesh_embedding.proofs.half_edge_links.Faces.FlipLemmas.{flips}
+use Rattle.mesh_embedding.proofs.half_edge_links.Faces.FlipSound.{origin_kept}
+use Rattle.mesh_embedding.proofs.plane.Centre.{circle_turned}
+use Rattle.mesh_embedding.specs.plane.Circle.{InsideCircle}
+use Rattle.mesh_embedding.specs.plane.Fraction.{Point}
+use Rattle.mesh_embedding.specs.plane.Pairs.{place}
+use Rattle.mesh_embedding.specs.plane_tiling.Local.{LocalMesh, IsMesh}
+use Rattle.mesh_embedding.proofs.plane_tiling.Tiles.{point_at}
+use Rattle.mesh_embedding.specs.plane_edits.Change.{IsFaceOf}
+use Rattle.mesh_embedding.proofs.plane_edits.Legalization.Flipping.{one_question}
+use Rattle.mesh_embedding.proofs.plane_edits.LocalMesh.Kept.{turning_of, index_of}
 use Rattle.mesh_embedding.specs.Drawn.{faces_of, outer_of}
 use Rattle.mesh_embedding.specs.Legal.{AreEdges, IsFailing, IsPartlyLegal, Gains, GainsRound}
 use Rattle.mesh_embedding.proofs.MeshEdits.{face_before, face_behind}

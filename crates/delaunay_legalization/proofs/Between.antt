@@ -5,18 +5,20 @@ use Rattle.std.proofs.Common.{◌≡◌, ◌⊎◌, [], ◌∷◌, sym, subst, a
 use mathlib.Core.Logic.{inl, inr}
 use Rattle.std.specs.Prelude.{ℤ, pos, ◌+ℤ◌, ◌-ℤ◌, ◌*ℤ◌, ◌<ℤ◌, ◌≤ℤ◌}
 use Rattle.std.proofs.lemmas.Int.{ints}
-use Rattle.plane.specs.Fraction.{Point, whole, IsPositive, WithinSegment}
-use Rattle.plane.proofs.IntegerOrder.{mul-nonneg_ℤ, mul-nonneg_of_nonpos_ℤ}
-use Rattle.plane.proofs.IntegerOrder.{mul-nonpos_of_nonneg_nonpos_ℤ, nonneg_from_ℤ, lt_or_ge_ℤ}
-use Rattle.plane.proofs.Steps.{weak}
-use Rattle.plane.proofs.Solver.{num, ◌⊕◌, ◌⊖◌, ◌⊗◌, ring_in, ring_in_from}
-use Rattle.plane.proofs.Means.{two_weights}
-use Rattle.plane.proofs.Bracket.{bracket, lift}
-use Rattle.plane.proofs.BracketIdentities.{bracket-outer, bracket-last}
-use Rattle.plane.proofs.Collinear.{place_on, place_of_start, within_by_places, same_by_places}
+use Rattle.mesh_embedding.specs.plane.Fraction.{Point, whole, IsPositive, WithinSegment}
+use Rattle.mesh_embedding.proofs.plane.IntegerOrder.{mul-nonneg_ℤ, mul-nonneg_of_nonpos_ℤ}
+use Rattle.mesh_embedding.proofs.plane.IntegerOrder.{mul-nonpos_of_nonneg_nonpos_ℤ, nonneg_from_ℤ}
+use Rattle.mesh_embedding.proofs.plane.IntegerOrder.{lt_or_ge_ℤ}
+use Rattle.mesh_embedding.proofs.plane.Steps.{weak}
+use Rattle.mesh_embedding.proofs.plane.Solver.{num, ◌⊕◌, ◌⊖◌, ◌⊗◌, ring_in, ring_in_from}
+use Rattle.mesh_embedding.proofs.plane.Means.{two_weights}
+use Rattle.mesh_embedding.proofs.plane.Bracket.{bracket, lift}
+use Rattle.mesh_embedding.proofs.plane.BracketIdentities.{bracket-outer, bracket-last}
+use Rattle.mesh_embedding.proofs.plane.Collinear.{place_on, place_of_start, within_by_places}
+use Rattle.mesh_embedding.proofs.plane.Collinear.{same_by_places}
 use Rattle.delaunay_legalization.specs.Between.{IsFrom, IsInBox}
-use Rattle.plane.proofs.Signs.{at_most_by_difference, difference_not_positive, less_if_not_same}
-use Rattle.plane.proofs.Signs.{sum_not_negative}
+use Rattle.mesh_embedding.proofs.plane.Signs.{at_most_by_difference, difference_not_positive}
+use Rattle.mesh_embedding.proofs.plane.Signs.{less_if_not_same, sum_not_negative}
 
 -- the part of a place that one coordinate has is not negative, nor more than that of the end
 part_low : (u v p : ℤ) → IsFrom u v p → pos 0 ≤ℤ ((v -ℤ u) *ℤ (p -ℤ pos 1 *ℤ u))

@@ -3,8 +3,8 @@
 use Rattle.std.proofs.Common.{◌≡◌, ℕ, ◌*◌, List, length, subst, inl, inr}
 use Rattle.std.specs.Prelude.{Bool, Contains}
 use Rattle.std.specs.List.{range_with_len}
-use Rattle.half_edge_mesh.specs.Mesh.{Mesh, IsValidMesh}
-use Rattle.plane.specs.Pairs.{Joins}
+use Rattle.mesh_embedding.specs.half_edge_mesh.Mesh.{Mesh, IsValidMesh}
+use Rattle.mesh_embedding.specs.plane.Pairs.{Joins}
 use Rattle.mesh_embedding.specs.Drawn.{edges_of}
 use Rattle.mesh_embedding.specs.Legal.{pair_at}
 use Rattle.mesh_embedding.proofs.Entries.{index_listed}

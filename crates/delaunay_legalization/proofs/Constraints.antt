@@ -6,7 +6,8 @@ use Rattle.std.proofs.Common.{arith}
 use mathlib.Core.Logic.{inl, inr}
 use Rattle.std.specs.Prelude.{Contains, Some, slice_get, if◌then◌else◌}
 use Rattle.std.proofs.lemmas.Option.{slice_get_within}
-use Rattle.plane_tiling.proofs.Totals.{Contains-head, Contains-later, Contains-none, Contains-cases}
+use Rattle.mesh_embedding.proofs.plane_tiling.Totals.{Contains-head, Contains-later, Contains-none}
+use Rattle.mesh_embedding.proofs.plane_tiling.Totals.{Contains-cases}
 use Rattle.mesh_embedding.proofs.Entries.{one_value}
 use Rattle.delaunay_legalization.specs.Constraints.{marked_from, marked_edges}
 

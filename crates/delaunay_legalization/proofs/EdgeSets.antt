@@ -9,7 +9,7 @@ use Rattle.std.specs.Prelude.{Contains, if◌then◌else◌}
 use Rattle.std.proofs.lemmas.Bool.{cases_eq, cases_lt}
 use Rattle.std.proofs.lemmas.List.{get_or-set_same, get_or-set_other, length-set}
 use Rattle.std.proofs.lemmas.List.{length-append, length-replicate, take_all}
-use Rattle.plane_tiling.proofs.Totals.{get_or_any}
+use Rattle.mesh_embedding.proofs.plane_tiling.Totals.{get_or_any}
 use Rattle.delaunay_legalization.specs.EdgeSet.{AreFlagged}
 use Rattle.mesh_embedding.proofs.WorkLists.{once_after, once_before, last_not_before}
 use Rattle.mesh_embedding.proofs.WorkLists.{at_most_so_many, contains_last, contains_before}

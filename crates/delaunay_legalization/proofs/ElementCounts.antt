@@ -2,10 +2,10 @@
 -- Lemmas: edges_counted, faces_counted.
 use Rattle.std.proofs.Common.{◌≡◌, ◌∙◌, length, sym, arith}
 use Rattle.std.proofs.lemmas.List.{length-map}
-use Rattle.half_edge_mesh.specs.Outline.{ends}
-use Rattle.half_edge_mesh.specs.Triangles.{triangle_at, triangles}
-use Rattle.half_edge_links.proofs.Sound.Ends.{length-ends_twice}
-use Rattle.half_edge_mesh.specs.Contents.{Contents, IsMeshWithData}
+use Rattle.mesh_embedding.specs.half_edge_mesh.Outline.{ends}
+use Rattle.mesh_embedding.specs.half_edge_mesh.Triangles.{triangle_at, triangles}
+use Rattle.mesh_embedding.proofs.half_edge_links.Sound.Ends.{length-ends_twice}
+use Rattle.mesh_embedding.specs.half_edge_mesh.Contents.{Contents, IsMeshWithData}
 use Rattle.mesh_embedding.specs.Drawn.{corners_of, pair_of, edges_of, faces_of}
 
 module _ {V D U F : Type 0} (c : Contents V D U F) (w : IsMeshWithData c) where

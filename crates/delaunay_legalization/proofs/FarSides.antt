@@ -5,21 +5,22 @@ use Rattle.std.proofs.Common.{length, refl, sym, ap, ◌∙◌, subst}
 use mathlib.Core.Logic.{◌≢◌, inl, inr}
 use Rattle.std.specs.Prelude.{Contains}
 use Rattle.std.proofs.lemmas.Bool.{cases_eq}
-use Rattle.half_edge_mesh.specs.Mesh.{Mesh, origin, next, prev, rev, IsValidMesh}
-use Rattle.half_edge_mesh.specs.Flip.{IsFlippable, Flips, flipped}
-use Rattle.half_edge_links.proofs.Lists.Rev.{rev-rev}
-use Rattle.half_edge_links.specs.Places.{AreSixPlaces}
-use Rattle.half_edge_links.proofs.Sound.Triangles as T
-use Rattle.half_edge_links.proofs.Faces.FlipLemmas.{flips}
-use Rattle.half_edge_links.proofs.Faces.FlipSound.{origin_kept}
-use Rattle.half_edge_links.proofs.Faces.FlipTriangles.{triangles_flipped}
-use Rattle.plane.specs.Fraction.{Point}
-use Rattle.plane.specs.Pairs.{Joins}
-use Rattle.plane.specs.Tiling.{face as corners}
-use Rattle.plane_tiling.specs.Local.{LocalMesh, IsMesh}
-use Rattle.plane_tiling.proofs.Totals.{Contains-head, Contains-later, Contains-none, Contains-cases}
-use Rattle.plane_edits.specs.Change.{IsFaceOf, FacesChange}
-use Rattle.plane_edits.specs.Legal.{AllPassBut}
+use Rattle.mesh_embedding.specs.half_edge_mesh.Mesh.{Mesh, origin, next, prev, rev, IsValidMesh}
+use Rattle.mesh_embedding.specs.half_edge_mesh.Flip.{IsFlippable, Flips, flipped}
+use Rattle.mesh_embedding.proofs.half_edge_links.Lists.Rev.{rev-rev}
+use Rattle.mesh_embedding.specs.half_edge_links.Places.{AreSixPlaces}
+use Rattle.mesh_embedding.proofs.half_edge_links.Sound.Triangles as T
+use Rattle.mesh_embedding.proofs.half_edge_links.Faces.FlipLemmas.{flips}
+use Rattle.mesh_embedding.proofs.half_edge_links.Faces.FlipSound.{origin_kept}
+use Rattle.mesh_embedding.proofs.half_edge_links.Faces.FlipTriangles.{triangles_flipped}
+use Rattle.mesh_embedding.specs.plane.Fraction.{Point}
+use Rattle.mesh_embedding.specs.plane.Pairs.{Joins}
+use Rattle.mesh_embedding.specs.plane.Tiling.{face as corners}
+use Rattle.mesh_embedding.specs.plane_tiling.Local.{LocalMesh, IsMesh}
+use Rattle.mesh_embedding.proofs.plane_tiling.Totals.{Contains-head, Contains-later, Contains-none}
+use Rattle.mesh_embedding.proofs.plane_tiling.Totals.{Contains-cases}
+use Rattle.mesh_embedding.specs.plane_edits.Change.{IsFaceOf, FacesChange}
+use Rattle.mesh_embedding.specs.plane_edits.Legal.{AllPassBut}
 use Rattle.mesh_embedding.specs.Drawn.{faces_of, outer_of}
 use Rattle.mesh_embedding.specs.Legal.{pairs_at, AreEdges, IsFailing, IsPartlyLegal, Gains}
 use Rattle.mesh_embedding.specs.Legal.{GainsRound}
@@ -28,10 +29,10 @@ use Rattle.mesh_embedding.proofs.MeshEdits.{face_before, face_behind, flipped_fa
 use Rattle.mesh_embedding.proofs.MeshLegal as M
 use Rattle.mesh_embedding.proofs.MeshStays.{half_same}
 use Rattle.mesh_embedding.proofs.TurnedEnds.{KeepsOtherOrigins, other_ends_stay, ends_at_next}
-use Rattle.plane_edits.specs.EmptyRound.{IsEmptyRound}
+use Rattle.mesh_embedding.specs.plane_edits.EmptyRound.{IsEmptyRound}
 use Rattle.delaunay_legalization.specs.Pushing.{KeepsEntries}
-use Rattle.plane_edits.proofs.Legalization.EmptyRound.{failing_is_opposite, flip_stays_empty}
-use Rattle.plane_edits.proofs.Legalization.EmptyRound.{spokes_pass}
+use Rattle.mesh_embedding.proofs.plane_edits.Legalization.EmptyRound.{failing_is_opposite}
+use Rattle.mesh_embedding.proofs.plane_edits.Legalization.EmptyRound.{flip_stays_empty, spokes_pass}
 use Rattle.delaunay_legalization.proofs.Legalizing.{edges_gained}
 
 -- ---- an edge at the vertex may be left out

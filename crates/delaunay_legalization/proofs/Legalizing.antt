@@ -7,18 +7,19 @@ use Rattle.std.proofs.Common.{◌≡◌, ◌+◌, ◌-◌, ◌*◌, ◌/◌, ◌
 use Rattle.std.proofs.Common.{ℕ, suc, List, length, map, refl, sym, ap, subst, arith}
 use mathlib.Core.Logic.{◌≢◌}
 use Rattle.std.specs.Prelude.{Contains, take}
-use Rattle.half_edge_mesh.specs.Contents.{Contents}
-use Rattle.half_edge_mesh.specs.Mesh.{Mesh, origin, next, prev, face, rev, IsValidMesh}
-use Rattle.half_edge_mesh.specs.Flip.{IsFlippable, flipped}
-use Rattle.half_edge_links.proofs.Faces.FlipLemmas.{flips}
-use Rattle.plane.specs.Fraction.{Point, whole}
-use Rattle.plane.specs.Side.{TurnsLeft}
-use Rattle.plane.specs.Circle.{InsideCircle}
-use Rattle.plane_tiling.specs.Local.{LocalMesh, IsMesh}
-use Rattle.plane_edits.proofs.LocalMesh.Kept.{turning_of}
-use Rattle.plane.specs.Delaunay.{IsLocallyDelaunay}
-use Rattle.plane_edits.specs.Legal.{AllPassBut}
-use Rattle.plane_edits.proofs.Legalization.Flipping.{none_left}
+use Rattle.mesh_embedding.specs.half_edge_mesh.Contents.{Contents}
+use Rattle.mesh_embedding.specs.half_edge_mesh.Mesh.{Mesh, origin, next, prev, face, rev}
+use Rattle.mesh_embedding.specs.half_edge_mesh.Mesh.{IsValidMesh}
+use Rattle.mesh_embedding.specs.half_edge_mesh.Flip.{IsFlippable, flipped}
+use Rattle.mesh_embedding.proofs.half_edge_links.Faces.FlipLemmas.{flips}
+use Rattle.mesh_embedding.specs.plane.Fraction.{Point, whole}
+use Rattle.mesh_embedding.specs.plane.Side.{TurnsLeft}
+use Rattle.mesh_embedding.specs.plane.Circle.{InsideCircle}
+use Rattle.mesh_embedding.specs.plane_tiling.Local.{LocalMesh, IsMesh}
+use Rattle.mesh_embedding.proofs.plane_edits.LocalMesh.Kept.{turning_of}
+use Rattle.mesh_embedding.specs.plane.Delaunay.{IsLocallyDelaunay}
+use Rattle.mesh_embedding.specs.plane_edits.Legal.{AllPassBut}
+use Rattle.mesh_embedding.proofs.plane_edits.Legalization.Flipping.{none_left}
 use Rattle.std.proofs.lemmas.List.{length-map}
 use Rattle.mesh_embedding.specs.Drawn.{drawn, faces_of, edges_of, outer_of}
 use Rattle.mesh_embedding.specs.Legal.{AreEdges, IsFailing, IsPartlyLegal, Gains, GainsRound}

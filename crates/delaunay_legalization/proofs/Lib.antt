@@ -1,3 +1,11 @@
+pub use Rattle.mesh_embedding.proofs.plane as plane
+pub use Rattle.mesh_embedding.proofs.plane_tiling as plane_tiling
+pub use Rattle.mesh_embedding.proofs.plane_edits as plane_edits
+pub use Rattle.mesh_embedding.proofs.half_edge_links as half_edge_links
+pub use Rattle.mesh_embedding.proofs.half_edge_dcel as half_edge_dcel
+pub use Rattle.mesh_embedding.proofs.half_edge_views as half_edge_views
+pub use Rattle.delaunay_core.proofs as delaunay_core_lemmas
+pub use Rattle.mesh_embedding.proofs as mesh_embedding
 -- What answers to tests say of points, and what follows from the shape of a mesh.
 pub mod Between
 pub mod Shapes

@@ -7,8 +7,8 @@ use Rattle.std.proofs.Common.{get_or, set, refl, sym, ap, ◌∙◌, subst, inl,
 use Rattle.std.specs.Prelude.{Contains, Some, slice_get}
 use Rattle.std.proofs.lemmas.Bool.{cases_eq}
 use Rattle.std.proofs.lemmas.Option.{slice_get_within, slice_get-get_or}
-use Rattle.half_edge_mesh.specs.Mesh.{Mesh, origin, rev}
-use Rattle.plane.specs.Pairs.{Joins, IsSamePair}
+use Rattle.mesh_embedding.specs.half_edge_mesh.Mesh.{Mesh, origin, rev}
+use Rattle.mesh_embedding.specs.plane.Pairs.{Joins, IsSamePair}
 use Rattle.mesh_embedding.specs.Legal.{pair_at}
 use Rattle.mesh_embedding.specs.Stays.{GoSameWay}
 use Rattle.mesh_embedding.proofs.Entries.{one_value, some_entry}

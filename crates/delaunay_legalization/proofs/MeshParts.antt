@@ -5,19 +5,19 @@ use Rattle.std.proofs.Common.{ℕ, List, length, map, refl, ap, subst, inl, inr,
 use Rattle.std.specs.Prelude.{Contains, pos}
 use Rattle.std.proofs.lemmas.List.Elements.{All-get_or, All-map}
 use Rattle.std.proofs.lemmas.List.{length-map, get_or-map}
-use Rattle.half_edge_mesh.specs.Mesh.{Mesh, origin, next, prev, face_edge, rev}
-use Rattle.half_edge_mesh.specs.Triangles.{triangle_at, triangles}
-use Rattle.half_edge_links.proofs.Lists.Rev.{rev_within}
-use Rattle.plane.specs.Fraction.{Point}
-use Rattle.plane.specs.Tests.{InRange}
-use Rattle.plane.specs.Pairs.{place}
-use Rattle.plane.specs.Side.{TurnsLeft}
-use Rattle.plane.specs.Tiling.{IsTiling, IsFace, HasFace}
-use Rattle.plane.specs.Tiling as T
-use Rattle.plane_tiling.specs.Local.{IsMesh}
-use Rattle.plane_tiling.proofs.Totals.{Contains-none}
-use Rattle.plane_tiling.proofs.Tiles.{by_signs, point_at}
-use Rattle.plane_tiling.proofs.Loops as L
+use Rattle.mesh_embedding.specs.half_edge_mesh.Mesh.{Mesh, origin, next, prev, face_edge, rev}
+use Rattle.mesh_embedding.specs.half_edge_mesh.Triangles.{triangle_at, triangles}
+use Rattle.mesh_embedding.proofs.half_edge_links.Lists.Rev.{rev_within}
+use Rattle.mesh_embedding.specs.plane.Fraction.{Point}
+use Rattle.mesh_embedding.specs.plane.Tests.{InRange}
+use Rattle.mesh_embedding.specs.plane.Pairs.{place}
+use Rattle.mesh_embedding.specs.plane.Side.{TurnsLeft}
+use Rattle.mesh_embedding.specs.plane.Tiling.{IsTiling, IsFace, HasFace}
+use Rattle.mesh_embedding.specs.plane.Tiling as T
+use Rattle.mesh_embedding.specs.plane_tiling.Local.{IsMesh}
+use Rattle.mesh_embedding.proofs.plane_tiling.Totals.{Contains-none}
+use Rattle.mesh_embedding.proofs.plane_tiling.Tiles.{by_signs, point_at}
+use Rattle.mesh_embedding.proofs.plane_tiling.Loops as L
 use Rattle.mesh_embedding.specs.Drawn.{drawn, faces_of, outer_of, corners_of}
 use Rattle.mesh_embedding.proofs.OuterEdges.{listed}
 use Rattle.delaunay_legalization.specs.State.{State}

@@ -4,11 +4,12 @@
 use Rattle.std.proofs.Common.{◌≡◌, ◌<◌, ◌∙◌}
 use Rattle.std.proofs.Common.{ℕ, false, IsTrue, List, length, refl, sym, ap, subst, inl, inr, arith}
 use Rattle.std.specs.Prelude.{ℤ}
-use Rattle.half_edge_mesh.specs.Mesh.{Mesh, IsValidMesh, origin, next, prev, face, rev}
-use Rattle.plane.specs.Circle.{InsideCircle}
-use Rattle.plane.specs.Fraction.{Point, whole}
-use Rattle.plane.specs.Side.{TurnsLeft}
-use Rattle.plane_tiling.specs.Local.{IsMesh}
+use Rattle.mesh_embedding.specs.half_edge_mesh.Mesh.{Mesh, IsValidMesh, origin, next, prev, face}
+use Rattle.mesh_embedding.specs.half_edge_mesh.Mesh.{rev}
+use Rattle.mesh_embedding.specs.plane.Circle.{InsideCircle}
+use Rattle.mesh_embedding.specs.plane.Fraction.{Point, whole}
+use Rattle.mesh_embedding.specs.plane.Side.{TurnsLeft}
+use Rattle.mesh_embedding.specs.plane_tiling.Local.{IsMesh}
 use Rattle.mesh_embedding.specs.Drawn.{faces_of, outer_of}
 use Rattle.mesh_embedding.specs.Legal.{IsFailing}
 use Rattle.delaunay_core.specs.Place.{place_of}

@@ -2,15 +2,15 @@
 -- Notions: HasOpposite; opposite_begins, link_read.
 use Rattle.std.proofs.Common.{◌<◌, ◌≡◌, length, ℕ, ◌/◌, List, ◌∙◌, subst}
 use Rattle.std.specs.Prelude.{Contains}
-use Rattle.half_edge_mesh.specs.Mesh.{Mesh, AreSoundLinks, origin, next, prev, rev}
-use Rattle.half_edge_links.proofs.Sound.Triangles as T
-use Rattle.plane.specs.Fraction.{Point}
-use Rattle.plane.specs.Pairs.{Joins}
-use Rattle.plane_tiling.specs.Local.{IsMesh}
-use Rattle.plane_edits.specs.Change.{IsFaceOf}
-use Rattle.plane_edits.specs.EmptyRound.{IsEmptyRound}
-use Rattle.plane_edits.specs.Legal.{AllPassBut}
-use Rattle.plane_edits.proofs.Legalization.EmptyRound.{opposite_left}
+use Rattle.mesh_embedding.specs.half_edge_mesh.Mesh.{Mesh, AreSoundLinks, origin, next, prev, rev}
+use Rattle.mesh_embedding.proofs.half_edge_links.Sound.Triangles as T
+use Rattle.mesh_embedding.specs.plane.Fraction.{Point}
+use Rattle.mesh_embedding.specs.plane.Pairs.{Joins}
+use Rattle.mesh_embedding.specs.plane_tiling.Local.{IsMesh}
+use Rattle.mesh_embedding.specs.plane_edits.Change.{IsFaceOf}
+use Rattle.mesh_embedding.specs.plane_edits.EmptyRound.{IsEmptyRound}
+use Rattle.mesh_embedding.specs.plane_edits.Legal.{AllPassBut}
+use Rattle.mesh_embedding.proofs.plane_edits.Legalization.EmptyRound.{opposite_left}
 use Rattle.mesh_embedding.specs.Drawn.{faces_of, outer_of}
 use Rattle.mesh_embedding.specs.Legal.{pairs_at}
 use Rattle.mesh_embedding.proofs.MeshLegal.{joins_directed}

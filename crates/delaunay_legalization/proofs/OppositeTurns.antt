@@ -4,21 +4,21 @@
 use Rattle.std.proofs.Common.{◌≡◌, ℕ, ◌*◌, ◌/◌, ◌<◌, List, length, sym, ap, ◌∙◌, subst}
 use mathlib.Core.Logic.{◌≢◌, inl, inr}
 use Rattle.std.proofs.lemmas.Bool.{cases_eq}
-use Rattle.half_edge_mesh.specs.Mesh.{Mesh, origin, next, prev, face, rev, edge_at, HasLinks}
-use Rattle.half_edge_mesh.specs.Mesh.{IsValidMesh}
-use Rattle.half_edge_mesh.specs.Flip.{Flips, flipped}
-use Rattle.half_edge_links.specs.declared.records.HalfEdge.{HalfEdge}
-use Rattle.half_edge_links.proofs.Faces.FlipLemmas.{flips_is}
-use Rattle.half_edge_links.proofs.Faces.FlipSound.{IsOffFlip}
-use Rattle.half_edge_links.proofs.Lists.Rev.{rev-rev, rev_within}
-use Rattle.half_edge_links.proofs.Sound.Triangles as T
-use Rattle.plane.specs.Circle.{InsideCircle}
-use Rattle.plane.specs.Fraction.{Point}
-use Rattle.plane.specs.Pairs.{place}
-use Rattle.plane_tiling.specs.Local.{LocalMesh, IsMesh}
-use Rattle.plane_tiling.proofs.Counting.{corners_differ}
-use Rattle.plane_tiling.proofs.Covering as C
-use Rattle.plane_tiling.proofs.Tiles.{point_at, by_signs}
+use Rattle.mesh_embedding.specs.half_edge_mesh.Mesh.{Mesh, origin, next, prev, face, rev, edge_at}
+use Rattle.mesh_embedding.specs.half_edge_mesh.Mesh.{HasLinks, IsValidMesh}
+use Rattle.mesh_embedding.specs.half_edge_mesh.Flip.{Flips, flipped}
+use Rattle.mesh_embedding.specs.half_edge_links.declared.records.HalfEdge.{HalfEdge}
+use Rattle.mesh_embedding.proofs.half_edge_links.Faces.FlipLemmas.{flips_is}
+use Rattle.mesh_embedding.proofs.half_edge_links.Faces.FlipSound.{IsOffFlip}
+use Rattle.mesh_embedding.proofs.half_edge_links.Lists.Rev.{rev-rev, rev_within}
+use Rattle.mesh_embedding.proofs.half_edge_links.Sound.Triangles as T
+use Rattle.mesh_embedding.specs.plane.Circle.{InsideCircle}
+use Rattle.mesh_embedding.specs.plane.Fraction.{Point}
+use Rattle.mesh_embedding.specs.plane.Pairs.{place}
+use Rattle.mesh_embedding.specs.plane_tiling.Local.{LocalMesh, IsMesh}
+use Rattle.mesh_embedding.proofs.plane_tiling.Counting.{corners_differ}
+use Rattle.mesh_embedding.proofs.plane_tiling.Covering as C
+use Rattle.mesh_embedding.proofs.plane_tiling.Tiles.{point_at, by_signs}
 use Rattle.mesh_embedding.specs.Drawn.{faces_of, outer_of}
 use Rattle.mesh_embedding.specs.Legal.{IsFailing}
 use Rattle.mesh_embedding.proofs.MeshEdits.{face_before}

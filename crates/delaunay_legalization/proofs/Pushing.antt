@@ -3,11 +3,11 @@
 use Rattle.std.proofs.Common.{◌≡◌, ℕ, List, [], ◌∷◌, length, ◌<◌, sym, ◌∙◌, subst}
 use Rattle.std.specs.Prelude.{Contains}
 use Rattle.std.specs.Borrow.{Bor}
-use Rattle.half_edge_mesh.specs.Mesh.{Mesh, IsValidMesh, origin}
-use Rattle.half_edge_mesh.specs.Contents.{Contents}
-use Rattle.half_edge_mesh.specs.Rounds.{GivesRound}
-use Rattle.plane_tiling.proofs.Totals.{Contains-none}
-use Rattle.plane_edits.proofs.LocalMesh.Changes.{once_none}
+use Rattle.mesh_embedding.specs.half_edge_mesh.Mesh.{Mesh, IsValidMesh, origin}
+use Rattle.mesh_embedding.specs.half_edge_mesh.Contents.{Contents}
+use Rattle.mesh_embedding.specs.half_edge_mesh.Rounds.{GivesRound}
+use Rattle.mesh_embedding.proofs.plane_tiling.Totals.{Contains-none}
+use Rattle.mesh_embedding.proofs.plane_edits.LocalMesh.Changes.{once_none}
 use Rattle.mesh_embedding.specs.Legal.{AreEdges}
 use Rattle.delaunay_legalization.proofs.Rounds.{IsGoingRound, round_begins, round_goes_on}
 use Rattle.delaunay_legalization.proofs.Rounds.{round_ends, seen_as}

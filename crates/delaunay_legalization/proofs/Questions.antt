@@ -3,10 +3,10 @@
 use Rattle.std.proofs.Common.{◌≡◌, ◌≢◌, ℕ, ◌<◌, Bool, true, false, List, length, sym, subst}
 use Rattle.std.specs.Prelude.{All, Contains, pos}
 use Rattle.std.proofs.lemmas.List.Elements.{All-get_or}
-use Rattle.plane.specs.Fraction.{Point, whole, WithinSegment}
-use Rattle.plane.specs.Side.{side, on}
-use Rattle.plane.proofs.Sides.{on_if, if_on}
-use Rattle.plane_tiling.proofs.Edges.{within_on}
+use Rattle.mesh_embedding.specs.plane.Fraction.{Point, whole, WithinSegment}
+use Rattle.mesh_embedding.specs.plane.Side.{side, on}
+use Rattle.mesh_embedding.proofs.plane.Sides.{on_if, if_on}
+use Rattle.mesh_embedding.proofs.plane_tiling.Edges.{within_on}
 use Rattle.delaunay_legalization.specs.Between.{IsInBox}
 use Rattle.delaunay_legalization.specs.Known.{point_at}
 use Rattle.delaunay_legalization.proofs.Between.{within_of_box, box_of_within}

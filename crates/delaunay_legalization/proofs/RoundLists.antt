@@ -4,11 +4,13 @@ use Rattle.std.proofs.Common.{◌≡◌, ◌≢◌, ◌⊎◌, ℕ, ◌/◌, ◌
 use Rattle.std.proofs.Common.{length, refl, sym, ◌∙◌, subst, inl, inr}
 use Rattle.std.specs.Prelude.{Contains}
 use Rattle.std.proofs.lemmas.Bool.{cases_eq}
-use Rattle.half_edge_mesh.specs.Mesh.{Mesh, IsValidMesh, next}
-use Rattle.plane.specs.Fraction.{Point}
-use Rattle.plane.specs.Pairs.{Joins}
-use Rattle.plane_tiling.proofs.Totals.{Contains-head, Contains-later, Contains-none, Contains-cases}
-use Rattle.plane_edits.proofs.LocalMesh.Changes.{IsOnce, once_none, once_head, once_tail, once_cons}
+use Rattle.mesh_embedding.specs.half_edge_mesh.Mesh.{Mesh, IsValidMesh, next}
+use Rattle.mesh_embedding.specs.plane.Fraction.{Point}
+use Rattle.mesh_embedding.specs.plane.Pairs.{Joins}
+use Rattle.mesh_embedding.proofs.plane_tiling.Totals.{Contains-head, Contains-later, Contains-none}
+use Rattle.mesh_embedding.proofs.plane_tiling.Totals.{Contains-cases}
+use Rattle.mesh_embedding.proofs.plane_edits.LocalMesh.Changes.{IsOnce, once_none, once_head}
+use Rattle.mesh_embedding.proofs.plane_edits.LocalMesh.Changes.{once_tail, once_cons}
 use Rattle.mesh_embedding.specs.Legal.{AreEdges, Gains, IsPartlyLegal, pair_at, pairs_at}
 use Rattle.mesh_embedding.proofs.WorkLists.{contains_last, contains_map, contains_map_from}
 use Rattle.delaunay_legalization.proofs.FarSides.{with_one}

@@ -5,18 +5,20 @@ use Rattle.std.proofs.Common.{◌≡◌, ◌≢◌, ℕ, suc, ◌+◌, ◌*◌, 
 use Rattle.std.proofs.Common.{length, map, Option, Some, None, IsSome, IsNone, refl, sym, ap, ◌∙◌}
 use Rattle.std.proofs.Common.{subst, inl, inr, arith}
 use Rattle.std.specs.Prelude.{Contains}
-use Rattle.half_edge_mesh.specs.Contents.{Contents, IsMeshWithData}
-use Rattle.half_edge_mesh.specs.Flip.{flipped}
-use Rattle.half_edge_mesh.specs.Mesh.{Mesh, IsValidMesh, origin, next, prev, rev, out_edge}
-use Rattle.half_edge_mesh.specs.Peel.{turn}
-use Rattle.half_edge_links.proofs.Lists.Rev.{rev-rev, rev_within}
-use Rattle.plane.specs.Fraction.{Point}
-use Rattle.plane.specs.Pairs.{Joins}
-use Rattle.plane_tiling.specs.Local.{IsMesh}
-use Rattle.plane_tiling.proofs.Totals.{Contains-head, Contains-later, Contains-none, Contains-cases}
-use Rattle.plane_edits.specs.EmptyRound.{IsEmptyRound}
-use Rattle.plane_edits.specs.Legal.{lifted_volume}
-use Rattle.plane_edits.proofs.LocalMesh.Changes.{once_head}
+use Rattle.mesh_embedding.specs.half_edge_mesh.Contents.{Contents, IsMeshWithData}
+use Rattle.mesh_embedding.specs.half_edge_mesh.Flip.{flipped}
+use Rattle.mesh_embedding.specs.half_edge_mesh.Mesh.{Mesh, IsValidMesh, origin, next, prev, rev}
+use Rattle.mesh_embedding.specs.half_edge_mesh.Mesh.{out_edge}
+use Rattle.mesh_embedding.specs.half_edge_mesh.Peel.{turn}
+use Rattle.mesh_embedding.proofs.half_edge_links.Lists.Rev.{rev-rev, rev_within}
+use Rattle.mesh_embedding.specs.plane.Fraction.{Point}
+use Rattle.mesh_embedding.specs.plane.Pairs.{Joins}
+use Rattle.mesh_embedding.specs.plane_tiling.Local.{IsMesh}
+use Rattle.mesh_embedding.proofs.plane_tiling.Totals.{Contains-head, Contains-later, Contains-none}
+use Rattle.mesh_embedding.proofs.plane_tiling.Totals.{Contains-cases}
+use Rattle.mesh_embedding.specs.plane_edits.EmptyRound.{IsEmptyRound}
+use Rattle.mesh_embedding.specs.plane_edits.Legal.{lifted_volume}
+use Rattle.mesh_embedding.proofs.plane_edits.LocalMesh.Changes.{once_head}
 use Rattle.mesh_embedding.specs.Drawn.{faces_of, outer_of}
 use Rattle.mesh_embedding.specs.Legal.{AreEdges, Gains, IsFailing, IsPartlyLegal}
 use Rattle.mesh_embedding.proofs.MeshLegal as M
@@ -39,7 +41,7 @@ use Rattle.delaunay_legalization.proofs.OppositeTurns.{failing_either}
 use Rattle.delaunay_legalization.proofs.OppositeTurns.{failing_twin, opposite_behind, opposite_here}
 use Rattle.delaunay_legalization.proofs.OppositeTurns.{opposite_others}
 use Rattle.delaunay_legalization.proofs.Pushing.{no_edges}
-use Rattle.plane.proofs.Indexes.{turned_join}
+use Rattle.mesh_embedding.proofs.plane.Indexes.{turned_join}
 use Rattle.delaunay_legalization.proofs.Spokes.{AreNext, ComesBetween, all_left, count_left}
 use Rattle.delaunay_legalization.proofs.Spokes.{how_many_left, next_is_left}
 use Rattle.delaunay_legalization.proofs.Spokes.{none_behind, one_fewer, one_more_left}

@@ -9,16 +9,17 @@ use Rattle.std.specs.Prelude.{Contains}
 use Rattle.std.specs.Borrow.{Bor}
 use Rattle.std.specs.List.{range_with_len}
 use Rattle.std.proofs.lemmas.List.FromFn.{length-map-range_with_len, get_or-map-range_with_len}
-use Rattle.half_edge_mesh.specs.Mesh.{Mesh, IsValidMesh, origin, out_edge}
-use Rattle.half_edge_mesh.specs.Peel.{spoke}
-use Rattle.half_edge_mesh.specs.Round.{IsRound}
-use Rattle.half_edge_mesh.specs.Contents.{Contents}
-use Rattle.half_edge_mesh.specs.Left.{each_in}
-use Rattle.half_edge_mesh.specs.Rounds.{GivesRound}
-use Rattle.half_edge_links.proofs.Lists.OneOrbit.{edges_go_round}
-use Rattle.half_edge_links.proofs.Removing.CollapseLemmas.{some_of}
-use Rattle.plane_tiling.proofs.Totals.{Contains-head, Contains-later, Contains-none, Contains-cases}
-use Rattle.plane_edits.proofs.LocalMesh.Changes.{IsOnce, once_none, once_tail}
+use Rattle.mesh_embedding.specs.half_edge_mesh.Mesh.{Mesh, IsValidMesh, origin, out_edge}
+use Rattle.mesh_embedding.specs.half_edge_mesh.Peel.{spoke}
+use Rattle.mesh_embedding.specs.half_edge_mesh.Round.{IsRound}
+use Rattle.mesh_embedding.specs.half_edge_mesh.Contents.{Contents}
+use Rattle.mesh_embedding.specs.half_edge_mesh.Left.{each_in}
+use Rattle.mesh_embedding.specs.half_edge_mesh.Rounds.{GivesRound}
+use Rattle.mesh_embedding.proofs.half_edge_links.Lists.OneOrbit.{edges_go_round}
+use Rattle.mesh_embedding.proofs.half_edge_links.Removing.CollapseLemmas.{some_of}
+use Rattle.mesh_embedding.proofs.plane_tiling.Totals.{Contains-head, Contains-later, Contains-none}
+use Rattle.mesh_embedding.proofs.plane_tiling.Totals.{Contains-cases}
+use Rattle.mesh_embedding.proofs.plane_edits.LocalMesh.Changes.{IsOnce, once_none, once_tail}
 use Rattle.mesh_embedding.proofs.Entries.{not_some, index_listed}
 use Rattle.mesh_embedding.proofs.RoundShift.{round_from}
 use Rattle.mesh_embedding.proofs.WorkLists.{contains_map, contains_map_from}

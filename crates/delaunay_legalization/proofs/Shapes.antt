@@ -3,15 +3,15 @@
 use Rattle.std.proofs.Common.{◌≡◌, ◌≢◌, ◌<◌, []}
 use Rattle.std.proofs.Common.{ℕ, List, length, refl, sym, ap, subst, inl, inr, arith}
 use Rattle.std.specs.Prelude.{All}
-use Rattle.half_edge_mesh.specs.Mesh.{Mesh, IsValidMesh, empty}
-use Rattle.half_edge_mesh.specs.Contents.{Contents, IsMeshWithData}
-use Rattle.plane.specs.Fraction.{Point, whole}
-use Rattle.plane.specs.Tests.{InRange}
-use Rattle.plane.specs.Pairs.{place}
-use Rattle.plane.specs.Tiling.{Face, IsTiling}
-use Rattle.plane_tiling.specs.Local.{IsMesh}
-use Rattle.plane_tiling.proofs.Meshes.{meshes_tile}
-use Rattle.plane_tiling.proofs.LineMeshes.{no_vertex}
+use Rattle.mesh_embedding.specs.half_edge_mesh.Mesh.{Mesh, IsValidMesh, empty}
+use Rattle.mesh_embedding.specs.half_edge_mesh.Contents.{Contents, IsMeshWithData}
+use Rattle.mesh_embedding.specs.plane.Fraction.{Point, whole}
+use Rattle.mesh_embedding.specs.plane.Tests.{InRange}
+use Rattle.mesh_embedding.specs.plane.Pairs.{place}
+use Rattle.mesh_embedding.specs.plane.Tiling.{Face, IsTiling}
+use Rattle.mesh_embedding.specs.plane_tiling.Local.{IsMesh}
+use Rattle.mesh_embedding.proofs.plane_tiling.Meshes.{meshes_tile}
+use Rattle.mesh_embedding.proofs.plane_tiling.LineMeshes.{no_vertex}
 use Rattle.delaunay_legalization.specs.Known.{point_at}
 use Rattle.mesh_embedding.specs.Drawn.{drawn, faces_of, edges_of, outer_of}
 use Rattle.mesh_embedding.proofs.OwnEdges.{own_edges}

@@ -8,13 +8,14 @@ use Rattle.std.specs.Prelude.{Contains}
 use Rattle.std.specs.List.{range_with_len}
 use Rattle.std.proofs.lemmas.Bool.{eq-eqb}
 use Rattle.std.proofs.lemmas.Bool.Decides.{eqb_tells}
-use Rattle.half_edge_mesh.specs.Mesh.{Mesh, IsValidMesh, origin, out_edge}
-use Rattle.half_edge_mesh.specs.Peel.{turn, spoke}
-use Rattle.half_edge_mesh.specs.Round.{IsRound}
-use Rattle.half_edge_mesh.specs.Walks.{walk}
-use Rattle.half_edge_links.proofs.Lists.OneOrbit.{edges_go_round}
-use Rattle.plane_tiling.proofs.Totals.{Contains-head, Contains-later, Contains-cases}
-use Rattle.plane_edits.proofs.LocalMesh.Changes.{IsOnce, once_head, once_tail, once_cons}
+use Rattle.mesh_embedding.specs.half_edge_mesh.Mesh.{Mesh, IsValidMesh, origin, out_edge}
+use Rattle.mesh_embedding.specs.half_edge_mesh.Peel.{turn, spoke}
+use Rattle.mesh_embedding.specs.half_edge_mesh.Round.{IsRound}
+use Rattle.mesh_embedding.specs.half_edge_mesh.Walks.{walk}
+use Rattle.mesh_embedding.proofs.half_edge_links.Lists.OneOrbit.{edges_go_round}
+use Rattle.mesh_embedding.proofs.plane_tiling.Totals.{Contains-head, Contains-later, Contains-cases}
+use Rattle.mesh_embedding.proofs.plane_edits.LocalMesh.Changes.{IsOnce, once_head, once_tail}
+use Rattle.mesh_embedding.proofs.plane_edits.LocalMesh.Changes.{once_cons}
 use Rattle.mesh_embedding.proofs.Entries.{index_listed}
 use Rattle.mesh_embedding.proofs.WorkLists.{contains_map, contains_map_from, at_most_so_many}
 use Rattle.delaunay_legalization.proofs.Rounds.{spokes_once}

@@ -5,26 +5,26 @@ use Rattle.std.proofs.Common.{◌≡◌, ◌⊎◌, ◌/◌, ◌<◌, [], ◌∷
 use Rattle.std.proofs.Common.{ℕ, List, length, sym, ap, subst, inl, inr, arith}
 use Rattle.std.specs.Prelude.{Contains}
 use Rattle.std.proofs.lemmas.Bool.{cases_eq}
-use Rattle.half_edge_mesh.specs.Mesh.{Mesh, AreSoundLinks, next, prev, rev}
-use Rattle.half_edge_links.proofs.Lists.Rev.{rev_within}
-use Rattle.half_edge_links.proofs.Sound.Triangles as T
-use Rattle.plane.specs.Fraction.{Point, Fraction, whole}
-use Rattle.plane.specs.Circle.{InsideCircle}
-use Rattle.plane.specs.Pairs.{place, Joins}
-use Rattle.plane.specs.Tiling.{Face}
-use Rattle.plane_tiling.specs.Local.{IsMesh}
-use Rattle.plane_tiling.proofs.Appended.{kept_point}
-use Rattle.plane_tiling.proofs.Totals.{Contains-none}
-use Rattle.plane_edits.specs.Change.{IsFaceOf}
-use Rattle.plane_edits.specs.Legal.{Pass, AllPassBut}
+use Rattle.mesh_embedding.specs.half_edge_mesh.Mesh.{Mesh, AreSoundLinks, next, prev, rev}
+use Rattle.mesh_embedding.proofs.half_edge_links.Lists.Rev.{rev_within}
+use Rattle.mesh_embedding.proofs.half_edge_links.Sound.Triangles as T
+use Rattle.mesh_embedding.specs.plane.Fraction.{Point, Fraction, whole}
+use Rattle.mesh_embedding.specs.plane.Circle.{InsideCircle}
+use Rattle.mesh_embedding.specs.plane.Pairs.{place, Joins}
+use Rattle.mesh_embedding.specs.plane.Tiling.{Face}
+use Rattle.mesh_embedding.specs.plane_tiling.Local.{IsMesh}
+use Rattle.mesh_embedding.proofs.plane_tiling.Appended.{kept_point}
+use Rattle.mesh_embedding.proofs.plane_tiling.Totals.{Contains-none}
+use Rattle.mesh_embedding.specs.plane_edits.Change.{IsFaceOf}
+use Rattle.mesh_embedding.specs.plane_edits.Legal.{Pass, AllPassBut}
 use Rattle.mesh_embedding.specs.Drawn.{faces_of}
 use Rattle.mesh_embedding.specs.Legal.{pairs_at}
 use Rattle.mesh_embedding.proofs.MeshLegal.{joins_directed}
 use Rattle.mesh_embedding.proofs.MeshStars.{IsEdgeOfFace, edge_of_face}
 use Rattle.delaunay_legalization.specs.Star.{IsOneOf, MakesFacesAt, AllPassBeside, HasSidesAt}
 use Rattle.delaunay_legalization.specs.Star.{HasStar}
-use Rattle.plane_edits.proofs.LocalMesh.Kept.{index_of}
-use Rattle.plane_edits.proofs.Legalization.NewPoint.{none_in_empty}
+use Rattle.mesh_embedding.proofs.plane_edits.LocalMesh.Kept.{index_of}
+use Rattle.mesh_embedding.proofs.plane_edits.Legalization.NewPoint.{none_in_empty}
 
 -- the corners of a face are points
 pub face_corners : (points : List Point) (faces : List Face) (outer : List (ℕ × ℕ))

@@ -4,13 +4,13 @@ use Rattle.std.proofs.Common.{◌≡◌, ℕ, ◌*◌, ◌<◌, List, length, ma
 use Rattle.std.specs.List.{range_with_len}
 use Rattle.std.proofs.lemmas.List.{same_lists, length-map, get_or-map}
 use Rattle.std.proofs.lemmas.List.FromFn.{length-map-range_with_len, get_or-map-range_with_len}
-use Rattle.half_edge_mesh.specs.Mesh.{Mesh, origin, IsValidMesh}
-use Rattle.half_edge_mesh.specs.Outline.{Ends, ends}
-use Rattle.half_edge_links.proofs.Sound.Ends.{length-ends_twice, get_or-ends}
-use Rattle.half_edge_mesh.specs.Contents.{Contents, FitsMesh, IsMeshWithData}
-use Rattle.plane.specs.Fraction.{Point}
-use Rattle.plane.specs.Delaunay.{IsLocallyDelaunay}
-use Rattle.plane_tiling.specs.Local.{IsMesh}
+use Rattle.mesh_embedding.specs.half_edge_mesh.Mesh.{Mesh, origin, IsValidMesh}
+use Rattle.mesh_embedding.specs.half_edge_mesh.Outline.{Ends, ends}
+use Rattle.mesh_embedding.proofs.half_edge_links.Sound.Ends.{length-ends_twice, get_or-ends}
+use Rattle.mesh_embedding.specs.half_edge_mesh.Contents.{Contents, FitsMesh, IsMeshWithData}
+use Rattle.mesh_embedding.specs.plane.Fraction.{Point}
+use Rattle.mesh_embedding.specs.plane.Delaunay.{IsLocallyDelaunay}
+use Rattle.mesh_embedding.specs.plane_tiling.Local.{IsMesh}
 use Rattle.mesh_embedding.specs.Drawn.{drawn, pair_of, faces_of, edges_of, outer_of}
 use Rattle.mesh_embedding.specs.Legal.{pair_at, pairs_at}
 use Rattle.mesh_embedding.proofs.EdgePairs.{rev_of_even}

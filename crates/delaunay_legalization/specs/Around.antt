@@ -2,13 +2,13 @@
 -- edges.
 use Rattle.std.specs.Prelude.{◌≡◌, ◌↔◌, ◌⊎◌, ◌+◌, ◌*◌, ◌/◌, ◌<◌, ◌^◌}
 use Rattle.std.specs.Prelude.{ℕ, ℤ, List, length, map, Contains, IsTrue, Some}
-use Rattle.half_edge_mesh.specs.Contents.{Contents}
-use Rattle.half_edge_mesh.specs.Flip.{flipped}
-use Rattle.half_edge_mesh.specs.Mesh.{Mesh, origin, next, prev, face, rev, out_edge}
-use Rattle.plane.specs.Fraction.{Point}
-use Rattle.plane.specs.Pairs.{Joins}
-use Rattle.plane_tiling.specs.Local.{IsMesh}
-use Rattle.plane_edits.specs.EmptyRound.{IsEmptyRound}
+use Rattle.mesh_embedding.specs.half_edge_mesh.Contents.{Contents}
+use Rattle.mesh_embedding.specs.half_edge_mesh.Flip.{flipped}
+use Rattle.mesh_embedding.specs.half_edge_mesh.Mesh.{Mesh, origin, next, prev, face, rev, out_edge}
+use Rattle.mesh_embedding.specs.plane.Fraction.{Point}
+use Rattle.mesh_embedding.specs.plane.Pairs.{Joins}
+use Rattle.mesh_embedding.specs.plane_tiling.Local.{IsMesh}
+use Rattle.mesh_embedding.specs.plane_edits.EmptyRound.{IsEmptyRound}
 use Rattle.mesh_embedding.specs.Drawn.{faces_of, outer_of}
 use Rattle.mesh_embedding.specs.Legal.{IsFailing}
 use Rattle.delaunay_core.specs.Place.{place_of}

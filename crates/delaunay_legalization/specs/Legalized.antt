@@ -1,7 +1,7 @@
 -- What a legalization makes of a triangulation.
 use Rattle.std.specs.Prelude.{◌≡◌, ℕ, List, length}
-use Rattle.half_edge_mesh.specs.Contents.{Contents}
-use Rattle.plane.specs.Fraction.{Point}
+use Rattle.mesh_embedding.specs.half_edge_mesh.Contents.{Contents}
+use Rattle.mesh_embedding.specs.plane.Fraction.{Point}
 use Rattle.mesh_embedding.specs.Stays.{KeepsIndexes}
 use Rattle.delaunay_legalization.specs.Constraints.{constraints_by}
 use Rattle.delaunay_legalization.specs.Flips.{CountsFlips}

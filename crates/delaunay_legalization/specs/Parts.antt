@@ -1,12 +1,12 @@
 -- Edges and faces of a mesh by the points of its vertices, and where a further point is.
 use Rattle.std.specs.Prelude.{◌≡◌, ◌≢◌, ℕ, ◌<◌, List, length}
-use Rattle.half_edge_mesh.specs.Mesh.{Mesh, origin, next, prev, face, face_edge, rev}
-use Rattle.half_edge_mesh.specs.Triangles.{triangle_at}
-use Rattle.plane.specs.Fraction.{Point, whole, WithinSegment, InsideTriangle}
-use Rattle.plane.specs.Side.{TurnsLeft}
-use Rattle.plane.specs.Tests.{InRange}
-use Rattle.plane.specs.Pairs.{place}
-use Rattle.plane.specs.Tiling.{IsEdge, IsFace, HasFace}
+use Rattle.mesh_embedding.specs.half_edge_mesh.Mesh.{Mesh, origin, next, prev, face, face_edge, rev}
+use Rattle.mesh_embedding.specs.half_edge_mesh.Triangles.{triangle_at}
+use Rattle.mesh_embedding.specs.plane.Fraction.{Point, whole, WithinSegment, InsideTriangle}
+use Rattle.mesh_embedding.specs.plane.Side.{TurnsLeft}
+use Rattle.mesh_embedding.specs.plane.Tests.{InRange}
+use Rattle.mesh_embedding.specs.plane.Pairs.{place}
+use Rattle.mesh_embedding.specs.plane.Tiling.{IsEdge, IsFace, HasFace}
 use Rattle.delaunay_legalization.specs.Known.{point_at}
 use Rattle.mesh_embedding.specs.Drawn.{drawn}
 

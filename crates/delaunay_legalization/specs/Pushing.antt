@@ -1,7 +1,7 @@
 -- Work lists of undirected edges, and what is put into them.
 use Rattle.std.specs.Prelude.{ℕ, ◌/◌, ◌<◌, ◌≤◌, List, length, Contains}
-use Rattle.half_edge_mesh.specs.Contents.{Contents}
-use Rattle.half_edge_mesh.specs.Mesh.{Mesh, next, prev, rev}
+use Rattle.mesh_embedding.specs.half_edge_mesh.Contents.{Contents}
+use Rattle.mesh_embedding.specs.half_edge_mesh.Mesh.{Mesh, next, prev, rev}
 use Rattle.mesh_embedding.specs.Legal.{AreEdges}
 
 -- a list of edges of a mesh has room for each of them, and directed edge e is in the mesh

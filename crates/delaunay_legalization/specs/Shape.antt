@@ -1,11 +1,11 @@
 -- What always holds of the positions of the vertices and of the mesh of their indexes.
 use Rattle.std.specs.Prelude.{◌*◌, ◌≤◌, ℕ, List, length, map, All}
-use Rattle.half_edge_mesh.specs.Mesh.{IsValidMesh}
-use Rattle.half_edge_mesh.specs.Contents.{FitsMesh}
-use Rattle.plane.specs.Fraction.{Point}
-use Rattle.plane.specs.Tests.{InRange}
-use Rattle.plane.specs.Delaunay.{IsLocallyDelaunay}
-use Rattle.plane_tiling.specs.Local.{IsMesh}
+use Rattle.mesh_embedding.specs.half_edge_mesh.Mesh.{IsValidMesh}
+use Rattle.mesh_embedding.specs.half_edge_mesh.Contents.{FitsMesh}
+use Rattle.mesh_embedding.specs.plane.Fraction.{Point}
+use Rattle.mesh_embedding.specs.plane.Tests.{InRange}
+use Rattle.mesh_embedding.specs.plane.Delaunay.{IsLocallyDelaunay}
+use Rattle.mesh_embedding.specs.plane_tiling.Local.{IsMesh}
 use Rattle.delaunay_legalization.specs.Constraints.{constraints_by}
 use Rattle.delaunay_legalization.specs.State.{State, triangulation_of}
 use Rattle.mesh_embedding.specs.Drawn.{faces_of, outer_of}

@@ -1,11 +1,11 @@
 -- The flips of a legalization, by the sides of a turned edge that it leaves to test.
 use Rattle.std.specs.Prelude.{◌≡◌, ℕ, ◌+◌, ◌*◌, ◌<◌, ◌^◌, List, [], ◌∷◌, ◌++◌, length, map, ⊤}
-use Rattle.half_edge_mesh.specs.Contents.{Contents, IsMeshWithData}
-use Rattle.half_edge_mesh.specs.Mesh.{Mesh}
-use Rattle.plane.specs.Delaunay.{IsLocallyDelaunay}
-use Rattle.plane.specs.Fraction.{Point}
-use Rattle.plane_tiling.specs.Local.{IsMesh}
-use Rattle.plane_edits.specs.Legal.{AllPassBut}
+use Rattle.mesh_embedding.specs.half_edge_mesh.Contents.{Contents, IsMeshWithData}
+use Rattle.mesh_embedding.specs.half_edge_mesh.Mesh.{Mesh}
+use Rattle.mesh_embedding.specs.plane.Delaunay.{IsLocallyDelaunay}
+use Rattle.mesh_embedding.specs.plane.Fraction.{Point}
+use Rattle.mesh_embedding.specs.plane_tiling.Local.{IsMesh}
+use Rattle.mesh_embedding.specs.plane_edits.Legal.{AllPassBut}
 use Rattle.mesh_embedding.specs.Drawn.{drawn, faces_of, outer_of}
 use Rattle.mesh_embedding.specs.Legal.{AreEdges, GainsRound, IsFailing, IsPartlyLegal, pairs_at}
 use Rattle.mesh_embedding.specs.Legal.{steps_left}

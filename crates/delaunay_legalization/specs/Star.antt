@@ -1,11 +1,11 @@
 -- The faces at one vertex, and the edges round them, where only these may fail the circle test.
 use Rattle.std.specs.Prelude.{◌≡◌, ◌⊎◌, ℕ, ◌/◌, ◌<◌, List, length, Contains}
-use Rattle.half_edge_mesh.specs.Mesh.{Mesh, origin, next}
-use Rattle.plane.specs.Fraction.{Point}
-use Rattle.plane.specs.Pairs.{Joins}
-use Rattle.plane.specs.Tiling.{Face}
-use Rattle.plane_edits.specs.Change.{IsFaceOf}
-use Rattle.plane_edits.specs.Legal.{Pass}
+use Rattle.mesh_embedding.specs.half_edge_mesh.Mesh.{Mesh, origin, next}
+use Rattle.mesh_embedding.specs.plane.Fraction.{Point}
+use Rattle.mesh_embedding.specs.plane.Pairs.{Joins}
+use Rattle.mesh_embedding.specs.plane.Tiling.{Face}
+use Rattle.mesh_embedding.specs.plane_edits.Change.{IsFaceOf}
+use Rattle.mesh_embedding.specs.plane_edits.Legal.{Pass}
 
 -- v is one of the corners i j k
 abbrev pub IsOneOf : ℕ → ℕ → ℕ → ℕ → Type 0

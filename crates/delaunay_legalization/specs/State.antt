@@ -1,11 +1,11 @@
 -- What a contract sees of a triangulation.
 use Rattle.std.specs.Prelude.{List, [], map}
-use Rattle.half_edge_mesh.specs.Mesh.{Mesh}
+use Rattle.mesh_embedding.specs.half_edge_mesh.Mesh.{Mesh}
 use Rattle.mesh_embedding.specs.Drawn.{drawn}
-use Rattle.half_edge_mesh.specs.Contents.{Contents}
-use Rattle.plane.specs.Fraction.{Point}
-use Rattle.plane.specs.Plain.{Plain}
-use Rattle.plane.specs.Tiling.{Triangulation}
+use Rattle.mesh_embedding.specs.half_edge_mesh.Contents.{Contents}
+use Rattle.mesh_embedding.specs.plane.Fraction.{Point}
+use Rattle.mesh_embedding.specs.plane.Plain.{Plain}
+use Rattle.mesh_embedding.specs.plane.Tiling.{Triangulation}
 
 -- the vertices, the mesh of their indexes, and the data of its directed and undirected edges, of
 -- the outer face and of the faces from face 1 on

@@ -17,7 +17,7 @@ use crate::legalization::{legalize_by, push_side, sides_round};
 use crate::sides::Sides;
 use delaunay_core::math::PlaneTests;
 use delaunay_core::point::HasPosition;
-use half_edge_mesh::{Dcel, FixedDirectedEdgeHandle, FixedUndirectedEdgeHandle};
+use mesh_embedding::half_edge_mesh::{Dcel, FixedDirectedEdgeHandle, FixedUndirectedEdgeHandle};
 
 // Puts an edge into a work list where it is among these edges, unless it is there.
 fn push_among<V, DE, UE, F>(

@@ -1,6 +1,6 @@
 //! A legalization round a vertex, where only edges opposite it may fail.
 ghost use Rattle.std.specs.Prelude.{◌≡◌, ◌↔◌, ◌<◌, length, map, All, IsTrue, IsFalse};
-ghost use Rattle.half_edge_mesh.specs.Mesh.{origin, next, rev};
+ghost use Rattle.mesh_embedding.specs.half_edge_mesh.Mesh.{origin, next, rev};
 ghost use Rattle.delaunay_core.specs.Place.{place_of};
 ghost use Rattle.delaunay_legalization.specs.Around.{CanGoRound, CanTurn, IsListedAt, IsOpposite};
 ghost use Rattle.delaunay_legalization.specs.Around.{Stays, Turns};
@@ -11,7 +11,7 @@ use crate::constraint_marker::ConstraintMarker;
 use crate::legalization::{end_of, flip, is_constraint_edge, is_outer, start_before, start_of};
 use delaunay_core::math::PlaneTests;
 use delaunay_core::point::{HasPosition, Point2};
-use half_edge_mesh::{Dcel, FixedDirectedEdgeHandle, MeshViews};
+use mesh_embedding::half_edge_mesh::{Dcel, FixedDirectedEdgeHandle, MeshViews};
 
 // What a test of the edge opposite a vertex reads, in the face on the left of one of the vertex's
 // edges: whether a face beside the edge is the outer one, the positions of the edge's ends, and

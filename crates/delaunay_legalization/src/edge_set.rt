@@ -3,7 +3,7 @@ ghost use Rattle.std.specs.Prelude.{◌≡◌, ◌<◌, ◌≤◌, ◌++◌, ◌
 ghost use Rattle.std.specs.Prelude.{◌↔◌, Contains, IfNone, IfSome, IsTrue, OnOk};
 ghost use Rattle.mesh_embedding.specs.Legal.{Gains};
 
-use half_edge_mesh::FixedUndirectedEdgeHandle;
+use mesh_embedding::half_edge_mesh::FixedUndirectedEdgeHandle;
 use std::alloc::{AllocError, Global};
 use std::marker::Model;
 

@@ -1,10 +1,10 @@
 //! Flips of edges that fail the circle test, until each edge passes but the constraints.
 ghost use Rattle.std.specs.Prelude.{◌≡◌, ◌↔◌, ◌+◌, ◌-◌, ◌*◌, ◌/◌, ◌<◌, ◌≤◌, ◌^◌, ◌++◌, ◌∷◌, []};
 ghost use Rattle.std.specs.Prelude.{length, map, All, Contains, IsTrue};
-ghost use Rattle.half_edge_mesh.specs.Contents.{IsMeshWithData};
-ghost use Rattle.half_edge_mesh.specs.Mesh.{origin, next, prev, face, rev};
-ghost use Rattle.half_edge_mesh.specs.Flip.{flipped};
-ghost use Rattle.plane_tiling.specs.Local.{IsMesh};
+ghost use Rattle.mesh_embedding.specs.half_edge_mesh.Contents.{IsMeshWithData};
+ghost use Rattle.mesh_embedding.specs.half_edge_mesh.Mesh.{origin, next, prev, face, rev};
+ghost use Rattle.mesh_embedding.specs.half_edge_mesh.Flip.{flipped};
+ghost use Rattle.mesh_embedding.specs.plane_tiling.Local.{IsMesh};
 ghost use Rattle.mesh_embedding.specs.Drawn.{faces_of, outer_of};
 ghost use Rattle.mesh_embedding.specs.Legal.{AreEdges, Gains, GainsRound, IsFailing};
 ghost use Rattle.delaunay_core.specs.Place.{place_of};
@@ -22,7 +22,7 @@ use crate::edge_set::EdgeSet;
 use crate::sides::{Sides, push_left};
 use delaunay_core::math::PlaneTests;
 use delaunay_core::point::{HasPosition, Point2};
-use half_edge_mesh::{
+use mesh_embedding::half_edge_mesh::{
     Dcel, FixedDirectedEdgeHandle, FixedUndirectedEdgeHandle, FixedVertexHandle, MeshViews,
 };
 

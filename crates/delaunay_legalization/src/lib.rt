@@ -2,6 +2,9 @@
 //! are constraints, and flips until each other edge passes the circle test.
 #![tactic(auto)]
 
+pub use delaunay_core;
+pub use mesh_embedding::half_edge_mesh;
+
 mod among;
 mod around;
 mod cdt_edge;

@@ -7,7 +7,7 @@ ghost use Rattle.delaunay_legalization.specs.Sides.{GainsSides};
 use crate::among::push_sides_among;
 use crate::edge_set::EdgeSet;
 use crate::legalization::push_sides;
-use half_edge_mesh::{Dcel, FixedDirectedEdgeHandle};
+use mesh_embedding::half_edge_mesh::{Dcel, FixedDirectedEdgeHandle};
 
 // Which of them may fail then.
 #[derive(Clone, Copy)]

@@ -4,7 +4,7 @@ ghost use Rattle.std.specs.Prelude.{length, map, All, IsFalse, IsTrue};
 ghost use Rattle.mesh_embedding.specs.Drawn.{faces_of};
 ghost use Rattle.mesh_embedding.specs.Legal.{AreEdges};
 ghost use Rattle.delaunay_legalization.specs.Constraints.{constraints_by};
-ghost use Rattle.plane_edits.specs.EmptyRound.{IsEmptyRound};
+ghost use Rattle.mesh_embedding.specs.plane_edits.EmptyRound.{IsEmptyRound};
 ghost use Rattle.delaunay_legalization.specs.Flips.{FlipsFit};
 ghost use Rattle.delaunay_legalization.specs.Legalized.{Legalizes};
 ghost use Rattle.delaunay_legalization.specs.Pushing.{CanGain, KeepsEntries};
@@ -19,7 +19,7 @@ use crate::legalization::{legalize_by, push_side};
 use crate::sides::Sides;
 use delaunay_core::math::PlaneTests;
 use delaunay_core::point::HasPosition;
-use half_edge_mesh::{Dcel, FixedDirectedEdgeHandle, FixedVertexHandle, MeshViews};
+use mesh_embedding::half_edge_mesh::{Dcel, FixedDirectedEdgeHandle, FixedVertexHandle, MeshViews};
 
 // Puts an edge into a work list, and the one after it in its loop, unless they are there.
 fn push_with_next<V, DE, UE, F>(

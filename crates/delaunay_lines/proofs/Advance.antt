@@ -5,22 +5,22 @@ use Rattle.std.proofs.Common.{◌≡◌, ◌≢◌, ◌⊎◌, ◌+◌, ◌-◌,
 use Rattle.std.proofs.Common.{ℕ, List, length, map, Option, Some, None}
 use Rattle.std.proofs.Common.{refl, sym, ap, subst, inl, inr, arith}
 use Rattle.std.proofs.lemmas.List.{length-map}
-use Rattle.half_edge_mesh.specs.Contents.{Contents}
-use Rattle.plane.specs.Fraction.{Point, whole, IsSame}
-use Rattle.plane.specs.Line.{Item, IsLineList, at_vertex}
+use Rattle.delaunay_location.specs.half_edge_mesh.Contents.{Contents}
+use Rattle.delaunay_location.specs.plane.Fraction.{Point, whole, IsSame}
+use Rattle.delaunay_location.specs.plane.Line.{Item, IsLineList, at_vertex}
 use Rattle.plane_segments.specs.Steps.{IsWalk, IsFirst}
 use Rattle.plane_segments.proofs.Walking.Steps.{first_item}
 use Rattle.plane_segments.proofs.First.LineStarts.{first_on_line, equal_ends}
 use Rattle.plane_segments.proofs.Walking.WalkSteps.{each_segment_has_walk, rest_falls}
 use Rattle.plane_segments.proofs.Walking.WalkSteps.{line_list_is_the_walk}
 use Rattle.plane_segments.specs.WalkLaws.{IsLaid}
-use Rattle.plane.specs.Tiling.{Triangulation, IsVertex, vertex}
-use Rattle.plane.proofs.Decisions.{decide_point}
-use Rattle.plane.proofs.Segments.{same-refl}
+use Rattle.delaunay_location.specs.plane.Tiling.{Triangulation, IsVertex, vertex}
+use Rattle.delaunay_location.proofs.plane.Decisions.{decide_point}
+use Rattle.delaunay_location.proofs.plane.Segments.{same-refl}
 use Rattle.plane_segments.proofs.Crossing.EitherWay.{one_point}
-use Rattle.mesh_embedding.specs.Drawn.{drawn, edges_of}
-use Rattle.delaunay_legalization.proofs.ElementCounts.{edges_counted}
-use Rattle.delaunay_legalization.specs.Known.{point_at}
+use Rattle.delaunay_location.specs.mesh_embedding.Drawn.{drawn, edges_of}
+use Rattle.delaunay_location.proofs.delaunay_legalization_lemmas.ElementCounts.{edges_counted}
+use Rattle.delaunay_location.specs.delaunay_legalization.Known.{point_at}
 use Rattle.delaunay_lines.specs.declared.intersection.FixedIntersection.{FixedIntersection}
 use Rattle.delaunay_lines.specs.declared.intersection.FixedIntersection.TheVariants.{Vertex}
 use Rattle.delaunay_lines.specs.Items.{item_of, IsHandleOf}

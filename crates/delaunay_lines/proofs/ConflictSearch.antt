@@ -6,17 +6,17 @@ use Rattle.std.proofs.Common.{◌∙◌, subst, append_assoc, inl, inr, arith}
 use Rattle.std.specs.Prelude.{ℤ, Contains}
 use Rattle.std.specs.Borrow.{Bor}
 use Rattle.std.proofs.lemmas.List.Elements.{Contains-push_cases}
-use Rattle.half_edge_mesh.specs.Mesh.{origin, rev}
-use Rattle.half_edge_mesh.specs.Contents.{Contents}
-use Rattle.half_edge_views.specs.declared.edge.DirectedEdgeHandle.{DirectedEdgeHandle}
-use Rattle.plane.specs.Fraction.{Point}
-use Rattle.plane.specs.Pairs.{EachPairOnce}
-use Rattle.plane.specs.Line.{Item, at_vertex, across, along}
-use Rattle.plane_tiling.proofs.Totals.{Contains-none}
-use Rattle.mesh_embedding.specs.Drawn.{edges_of}
-use Rattle.mesh_embedding.proofs.Entries.{one_value}
-use Rattle.mesh_embedding.proofs.MeshStays.{one_way}
-use Rattle.delaunay_core.specs.Place.{place_of}
+use Rattle.delaunay_location.specs.half_edge_mesh.Mesh.{origin, rev}
+use Rattle.delaunay_location.specs.half_edge_mesh.Contents.{Contents}
+use Rattle.delaunay_location.specs.half_edge_views.declared.edge.DirectedEdgeHandle.{DirectedEdgeHandle}
+use Rattle.delaunay_location.specs.plane.Fraction.{Point}
+use Rattle.delaunay_location.specs.plane.Pairs.{EachPairOnce}
+use Rattle.delaunay_location.specs.plane.Line.{Item, at_vertex, across, along}
+use Rattle.delaunay_location.proofs.plane_tiling.Totals.{Contains-none}
+use Rattle.delaunay_location.specs.mesh_embedding.Drawn.{edges_of}
+use Rattle.delaunay_location.proofs.mesh_embedding.Entries.{one_value}
+use Rattle.delaunay_location.proofs.mesh_embedding.MeshStays.{one_way}
+use Rattle.delaunay_location.specs.delaunay_core.Place.{place_of}
 use Rattle.delaunay_lines.specs.declared.intersection.Intersection.{Intersection}
 use Rattle.delaunay_lines.specs.declared.intersection.Intersection.TheVariants.{EdgeIntersection}
 use Rattle.delaunay_lines.specs.declared.intersection.Intersection.TheVariants.{VertexIntersection}

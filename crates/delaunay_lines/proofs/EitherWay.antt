@@ -4,14 +4,14 @@ use Rattle.std.proofs.Common.{◌≡◌, ◌⊎◌, ℕ, inl, inr, arith}
 use lib.IntN.{neg_ℤ}
 use Rattle.std.specs.Prelude.{ℤ, pos, ◌<ℤ◌, ◌≤ℤ◌, ◌-ℤ◌, ◌*ℤ◌}
 use Rattle.std.proofs.lemmas.Int.{ints}
-use Rattle.plane.specs.Crossing.{MeetsWithin}
-use Rattle.plane.specs.Fraction.{Fraction, IsSame}
-use Rattle.plane.specs.Tiling.{Triangulation, IsEdge, vertex}
-use Rattle.plane.specs.Line.{Meets, across}
-use Rattle.plane.proofs.IntegerOrder.{mul-nonneg_ℤ, mul-nonpos_of_nonneg_nonpos_ℤ}
-use Rattle.plane.proofs.Meetings.{AreOpposite, AreParted, meets_within_is}
-use Rattle.plane.proofs.Steps.{weak}
-use Rattle.plane_delaunay.proofs.Points.Bracket.{bracket, bracket-swapped}
+use Rattle.delaunay_location.specs.plane.Crossing.{MeetsWithin}
+use Rattle.delaunay_location.specs.plane.Fraction.{Fraction, IsSame}
+use Rattle.delaunay_location.specs.plane.Tiling.{Triangulation, IsEdge, vertex}
+use Rattle.delaunay_location.specs.plane.Line.{Meets, across}
+use Rattle.delaunay_location.proofs.plane.IntegerOrder.{mul-nonneg_ℤ, mul-nonpos_of_nonneg_nonpos_ℤ}
+use Rattle.delaunay_location.proofs.plane.Meetings.{AreOpposite, AreParted, meets_within_is}
+use Rattle.delaunay_location.proofs.plane.Steps.{weak}
+use Rattle.delaunay_location.proofs.plane_delaunay.Points.Bracket.{bracket, bracket-swapped}
 use Rattle.plane_segments.proofs.Items.Begins.{Signs, edge_flipped, met_if, rising}
 use Rattle.plane_segments.proofs.Items.Slopes.{slope}
 

@@ -6,26 +6,26 @@ use Rattle.std.proofs.Common.{◌≡◌, ◌≢◌, ◌⊎◌, ◌<◌, [], ◌�
 use Rattle.std.proofs.Common.{ℕ, List, length, map, Some, None, refl, sym, ap, subst}
 use Rattle.std.proofs.Common.{inl, inr, arith}
 use Rattle.std.proofs.lemmas.List.{length-map}
-use Rattle.half_edge_mesh.specs.Mesh.{Mesh, origin, next, prev, rev}
-use Rattle.half_edge_links.proofs.Lists.Rev.{rev-rev}
-use Rattle.half_edge_links.proofs.Sound.Triangles as T
-use Rattle.half_edge_mesh.specs.Contents.{Contents}
-use Rattle.plane.specs.Fraction.{Point, Fraction, whole, IsSame, InsideTriangle}
-use Rattle.plane.specs.Side.{Side, side, left, right, on, opposite}
-use Rattle.plane.specs.Pairs.{place}
-use Rattle.plane.specs.Tiling.{Triangulation, IsFace, TilesHull}
-use Rattle.plane.specs.Line.{IsLineList, at_vertex, across, along}
-use Rattle.plane.proofs.Segments.{same-refl}
-use Rattle.plane.proofs.Sides.{side_swapped}
-use Rattle.plane.proofs.Triangles.{turned_inside}
-use Rattle.plane_tiling.proofs.Edges.{turned_within}
+use Rattle.delaunay_location.specs.half_edge_mesh.Mesh.{Mesh, origin, next, prev, rev}
+use Rattle.delaunay_location.proofs.half_edge_links.Lists.Rev.{rev-rev}
+use Rattle.delaunay_location.proofs.half_edge_links.Sound.Triangles as T
+use Rattle.delaunay_location.specs.half_edge_mesh.Contents.{Contents}
+use Rattle.delaunay_location.specs.plane.Fraction.{Point, Fraction, whole, IsSame, InsideTriangle}
+use Rattle.delaunay_location.specs.plane.Side.{Side, side, left, right, on, opposite}
+use Rattle.delaunay_location.specs.plane.Pairs.{place}
+use Rattle.delaunay_location.specs.plane.Tiling.{Triangulation, IsFace, TilesHull}
+use Rattle.delaunay_location.specs.plane.Line.{IsLineList, at_vertex, across, along}
+use Rattle.delaunay_location.proofs.plane.Segments.{same-refl}
+use Rattle.delaunay_location.proofs.plane.Sides.{side_swapped}
+use Rattle.delaunay_location.proofs.plane.Triangles.{turned_inside}
+use Rattle.delaunay_location.proofs.plane_tiling.Edges.{turned_within}
 use Rattle.plane_segments.specs.Steps.{IsFirst, IsWalk, IsAhead}
 use Rattle.plane_segments.proofs.Items.Begins.{edge_flipped}
 use Rattle.plane_segments.proofs.First.EdgeStarts.{first_from_an_edge}
 use Rattle.plane_segments.proofs.First.FaceStarts.{first_from_a_face}
 use Rattle.plane_segments.proofs.First.LineStarts.{equal_ends}
 use Rattle.plane_segments.proofs.Walking.WalkSteps.{line_list_is_the_walk}
-use Rattle.mesh_embedding.specs.Drawn.{drawn}
+use Rattle.delaunay_location.specs.mesh_embedding.Drawn.{drawn}
 use Rattle.delaunay_lines.specs.declared.intersection.FixedIntersection.{FixedIntersection}
 use Rattle.delaunay_lines.specs.declared.intersection.FixedIntersection.TheVariants.{
   Edge,

@@ -5,24 +5,26 @@ use Rattle.std.proofs.Common.{ℕ, Bool, IsTrue, List, length, map}
 use Rattle.std.proofs.Common.{Option, Some, None, is_some, sym, ap, subst, inl, inr, arith}
 use Rattle.std.specs.Prelude.{ℤ, Contains}
 use Rattle.std.proofs.lemmas.List.Elements.{Contains-append_right}
-use Rattle.half_edge_mesh.specs.Mesh.{Mesh, origin, rev}
-use Rattle.half_edge_mesh.specs.Contents.{Contents}
-use Rattle.half_edge_views.specs.declared.edge.DirectedEdgeHandle.{DirectedEdgeHandle}
-use Rattle.plane.specs.Fraction.{Point, whole, IsSame}
-use Rattle.plane.specs.Pairs.{Joins}
-use Rattle.plane.specs.Tiling.{Triangulation, IsEdge}
-use Rattle.plane.specs.Line.{Item, IsLineList, IsListAt, Meets, at_vertex, across, along}
-use Rattle.plane.proofs.Segments.{same-refl}
-use Rattle.plane_tiling.proofs.Totals.{Contains-head}
-use Rattle.mesh_embedding.specs.Drawn.{drawn}
-use Rattle.mesh_embedding.specs.Legal.{pairs_at}
-use Rattle.mesh_embedding.proofs.MeshLegal.{joins_directed, IsListedEdge, listed_edge}
-use Rattle.delaunay_core.specs.Place.{place_of}
-use Rattle.delaunay_legalization.specs.Constraints.{marked_edges, constraints_by}
-use Rattle.delaunay_legalization.specs.Known.{point_at}
-use Rattle.delaunay_legalization.specs.State.{State, triangulation_of}
-use Rattle.delaunay_legalization.proofs.Constraints.{fixed_within}
-use Rattle.delaunay_legalization.proofs.Questions.{both_ways}
+use Rattle.delaunay_location.specs.half_edge_mesh.Mesh.{Mesh, origin, rev}
+use Rattle.delaunay_location.specs.half_edge_mesh.Contents.{Contents}
+use Rattle.delaunay_location.specs.half_edge_views.declared.edge.DirectedEdgeHandle.{DirectedEdgeHandle}
+use Rattle.delaunay_location.specs.plane.Fraction.{Point, whole, IsSame}
+use Rattle.delaunay_location.specs.plane.Pairs.{Joins}
+use Rattle.delaunay_location.specs.plane.Tiling.{Triangulation, IsEdge}
+use Rattle.delaunay_location.specs.plane.Line.{Item, IsLineList, IsListAt, Meets, at_vertex, across}
+use Rattle.delaunay_location.specs.plane.Line.{along}
+use Rattle.delaunay_location.proofs.plane.Segments.{same-refl}
+use Rattle.delaunay_location.proofs.plane_tiling.Totals.{Contains-head}
+use Rattle.delaunay_location.specs.mesh_embedding.Drawn.{drawn}
+use Rattle.delaunay_location.specs.mesh_embedding.Legal.{pairs_at}
+use Rattle.delaunay_location.proofs.mesh_embedding.MeshLegal.{joins_directed, IsListedEdge}
+use Rattle.delaunay_location.proofs.mesh_embedding.MeshLegal.{listed_edge}
+use Rattle.delaunay_location.specs.delaunay_core.Place.{place_of}
+use Rattle.delaunay_location.specs.delaunay_legalization.Constraints.{marked_edges, constraints_by}
+use Rattle.delaunay_location.specs.delaunay_legalization.Known.{point_at}
+use Rattle.delaunay_location.specs.delaunay_legalization.State.{State, triangulation_of}
+use Rattle.delaunay_location.proofs.delaunay_legalization_lemmas.Constraints.{fixed_within}
+use Rattle.delaunay_location.proofs.delaunay_legalization_lemmas.Questions.{both_ways}
 use Rattle.delaunay_lines.specs.declared.iterator.LineIntersectionIterator.{LineIntersectionIterator}
 use Rattle.delaunay_lines.specs.Conflicts.{GivesConflict, HasNoConflict, IntersectsConstraint}
 use Rattle.delaunay_lines.specs.Conflicts.{IsConflict}

@@ -6,22 +6,25 @@ use Rattle.std.proofs.Common.{◌≡◌, ◌≢◌, ◌⊎◌, ◌<◌, ◌∙�
 use lib.IntN.{neg_ℤ}
 use Rattle.std.specs.Prelude.{ℤ, pos, ◌+ℤ◌, ◌-ℤ◌, ◌*ℤ◌, ◌<ℤ◌, ◌≤ℤ◌, Contains}
 use Rattle.std.proofs.lemmas.Int.{ints}
-use Rattle.plane.specs.Fraction.{Point}
-use Rattle.plane.proofs.Bracket.{bracket, lift}
-use Rattle.plane.proofs.BracketIdentities.{bracket-swap, bracket-turn}
-use Rattle.plane.proofs.Collinear.{place_on, place_of_start, place_of_end, passing_place}
-use Rattle.plane.proofs.Collinear.{within_by_places}
-use Rattle.plane.proofs.IntegerOrder.{trichotomy_ℤ, mul-nonneg_ℤ, mul-pos_of_neg_ℤ}
-use Rattle.plane.proofs.IntegerOrder.{mul-nonpos_of_nonneg_nonpos_ℤ, mul-neg_of_pos_neg_ℤ}
-use Rattle.plane.proofs.IntegerOrder.{pos_of_mul-pos_ℤ, nonneg_of_mul-nonneg_ℤ, neg_of_mul-neg_ℤ}
-use Rattle.plane.proofs.LineOrder.{IsBetween, place_within}
-use Rattle.plane.proofs.Signs.{less_both_ways, less_by_negative_difference, more_by_difference}
-use Rattle.plane.proofs.Steps.{weak, weak_right, product_zero_left, not_left_of_product}
-use Rattle.plane.proofs.Steps.{no_difference}
-use Rattle.plane_tiling.proofs.Counting.{same_place}
-use Rattle.plane_tiling.proofs.Line.{SignLine, Adjoin}
-use Rattle.plane_tiling.proofs.LinePlaces.{ArePlaces, nearest_below, next_below}
-use Rattle.plane_tiling.proofs.LinePlaces.{none_between_places}
+use Rattle.delaunay_location.specs.plane.Fraction.{Point}
+use Rattle.delaunay_location.proofs.plane.Bracket.{bracket, lift}
+use Rattle.delaunay_location.proofs.plane.BracketIdentities.{bracket-swap, bracket-turn}
+use Rattle.delaunay_location.proofs.plane.Collinear.{place_on, place_of_start, place_of_end}
+use Rattle.delaunay_location.proofs.plane.Collinear.{passing_place, within_by_places}
+use Rattle.delaunay_location.proofs.plane.IntegerOrder.{trichotomy_ℤ, mul-nonneg_ℤ}
+use Rattle.delaunay_location.proofs.plane.IntegerOrder.{mul-pos_of_neg_ℤ}
+use Rattle.delaunay_location.proofs.plane.IntegerOrder.{mul-nonpos_of_nonneg_nonpos_ℤ}
+use Rattle.delaunay_location.proofs.plane.IntegerOrder.{mul-neg_of_pos_neg_ℤ, pos_of_mul-pos_ℤ}
+use Rattle.delaunay_location.proofs.plane.IntegerOrder.{nonneg_of_mul-nonneg_ℤ, neg_of_mul-neg_ℤ}
+use Rattle.delaunay_location.proofs.plane.LineOrder.{IsBetween, place_within}
+use Rattle.delaunay_location.proofs.plane.Signs.{less_both_ways, less_by_negative_difference}
+use Rattle.delaunay_location.proofs.plane.Signs.{more_by_difference}
+use Rattle.delaunay_location.proofs.plane.Steps.{weak, weak_right, product_zero_left}
+use Rattle.delaunay_location.proofs.plane.Steps.{not_left_of_product, no_difference}
+use Rattle.delaunay_location.proofs.plane_tiling.Counting.{same_place}
+use Rattle.delaunay_location.proofs.plane_tiling.Line.{SignLine, Adjoin}
+use Rattle.delaunay_location.proofs.plane_tiling.LinePlaces.{ArePlaces, nearest_below, next_below}
+use Rattle.delaunay_location.proofs.plane_tiling.LinePlaces.{none_between_places}
 
 -- ---- numbers
 four_to_two : (a b c d f g h i : ℤ) → a *ℤ b -ℤ c *ℤ d +ℤ f *ℤ g -ℤ h *ℤ i ≡ pos 0 → g ≡ pos 0

@@ -1,29 +1,30 @@
 -- Where a segment starts, by the answer to where its start is.
 -- Lemmas: on_that_vertex, inside_that_face, none_past, outside_that_edge, without_triangulation.
 use Rattle.std.proofs.Common.{◌≡◌, ℕ, ◌<◌, ◌≤◌, List, length, map, sym, subst, inl, inr, arith}
-use Rattle.half_edge_mesh.specs.Mesh.{Mesh, origin, prev, face_edge, rev}
-use Rattle.half_edge_mesh.specs.Contents.{Contents}
-use Rattle.plane.specs.Fraction.{Point, whole, IsSame, OnSegment, WithinSegment, InsideTriangle}
-use Rattle.plane.specs.Side.{Side, side, left, on, TurnsLeft}
-use Rattle.plane.specs.Pairs.{place}
-use Rattle.plane.specs.Tiling.{Triangulation, IsVertex, IsEdge, vertex, TilesHull}
-use Rattle.plane.specs.Location.{Location, IsLocation, IsOuter, IsPast, on_vertex, on_edge, on_face}
-use Rattle.plane.specs.Location.{outside_hull, no_triangulation}
-use Rattle.plane.proofs.Bracket.{vec}
-use Rattle.plane.proofs.BracketIdentities.{bracket-same}
-use Rattle.plane.proofs.Sides.{if_left}
-use Rattle.plane.proofs.Steps.{left_not_zero}
-use Rattle.plane_tiling.specs.Laws.{IsSameLocation}
-use Rattle.plane_tiling.proofs.Tiles.{by_signs}
-use Rattle.plane_tiling.proofs.Places as P
-use Rattle.plane_tiling.proofs.Locations.{each_point_has_one_location}
+use Rattle.delaunay_location.specs.half_edge_mesh.Mesh.{Mesh, origin, prev, face_edge, rev}
+use Rattle.delaunay_location.specs.half_edge_mesh.Contents.{Contents}
+use Rattle.delaunay_location.specs.plane.Fraction.{Point, whole, IsSame, OnSegment, WithinSegment}
+use Rattle.delaunay_location.specs.plane.Fraction.{InsideTriangle}
+use Rattle.delaunay_location.specs.plane.Side.{Side, side, left, on, TurnsLeft}
+use Rattle.delaunay_location.specs.plane.Pairs.{place}
+use Rattle.delaunay_location.specs.plane.Tiling.{Triangulation, IsVertex, IsEdge, vertex, TilesHull}
+use Rattle.delaunay_location.specs.plane.Location.{Location, IsLocation, IsOuter, IsPast, on_vertex}
+use Rattle.delaunay_location.specs.plane.Location.{on_edge, on_face, outside_hull, no_triangulation}
+use Rattle.delaunay_location.proofs.plane.Bracket.{vec}
+use Rattle.delaunay_location.proofs.plane.BracketIdentities.{bracket-same}
+use Rattle.delaunay_location.proofs.plane.Sides.{if_left}
+use Rattle.delaunay_location.proofs.plane.Steps.{left_not_zero}
+use Rattle.delaunay_location.specs.plane_tiling.Laws.{IsSameLocation}
+use Rattle.delaunay_location.proofs.plane_tiling.Tiles.{by_signs}
+use Rattle.delaunay_location.proofs.plane_tiling.Places as P
+use Rattle.delaunay_location.proofs.plane_tiling.Locations.{each_point_has_one_location}
 use Rattle.plane_segments.proofs.Items.Begins.{edge_flipped}
 use Rattle.plane_segments.proofs.Crossing.EitherWay.{one_point}
 use Rattle.plane_segments.proofs.Constraints.Pieces.{on_parts}
-use Rattle.mesh_embedding.specs.Drawn.{drawn, faces_of, outer_of, edges_of}
-use Rattle.mesh_embedding.proofs.EdgePairs.{joins_edge}
-use Rattle.mesh_embedding.proofs.OwnEdges.{own_edges}
-use Rattle.delaunay_legalization.specs.Known.{point_at}
+use Rattle.delaunay_location.specs.mesh_embedding.Drawn.{drawn, faces_of, outer_of, edges_of}
+use Rattle.delaunay_location.proofs.mesh_embedding.EdgePairs.{joins_edge}
+use Rattle.delaunay_location.proofs.mesh_embedding.OwnEdges.{own_edges}
+use Rattle.delaunay_location.specs.delaunay_legalization.Known.{point_at}
 use Rattle.delaunay_location.specs.declared.position_in_triangulation.PositionInTriangulation.TheVariants.{OnVertex}
 use Rattle.delaunay_location.specs.declared.position_in_triangulation.PositionInTriangulation.TheVariants.{OnFace}
 use Rattle.delaunay_location.specs.declared.position_in_triangulation.PositionInTriangulation.TheVariants.{OutsideOfConvexHull}

@@ -7,15 +7,16 @@ use Rattle.std.proofs.Common.{◌≡◌, ◌≢◌, ◌⊎◌, ◌↔◌, ◌<�
 use Rattle.std.proofs.Common.{ℕ, List, length, map, Option, Some, None, sym, ap, subst}
 use Rattle.std.proofs.Common.{inl, inr, arith}
 use Rattle.std.proofs.lemmas.List.{length-map}
-use Rattle.half_edge_mesh.specs.Mesh.{Mesh, IsValidMesh, origin, next, prev, face, rev}
-use Rattle.half_edge_links.proofs.Lists.Rev.{rev-rev, rev_within}
-use Rattle.half_edge_links.proofs.Sound.Triangles as T
-use Rattle.half_edge_mesh.specs.Contents.{Contents}
-use Rattle.plane.specs.Fraction.{Point, Fraction, whole, IsSame, WithinSegment}
-use Rattle.plane.specs.Side.{Side, side, left, right, on}
-use Rattle.plane.specs.Pairs.{place}
-use Rattle.plane.specs.Tiling.{Triangulation, IsEdge, IsFace, HasFace, TilesHull}
-use Rattle.plane.specs.Line.{Item, Meets, at_vertex, across, along}
+use Rattle.delaunay_location.specs.half_edge_mesh.Mesh.{Mesh, IsValidMesh, origin, next, prev, face}
+use Rattle.delaunay_location.specs.half_edge_mesh.Mesh.{rev}
+use Rattle.delaunay_location.proofs.half_edge_links.Lists.Rev.{rev-rev, rev_within}
+use Rattle.delaunay_location.proofs.half_edge_links.Sound.Triangles as T
+use Rattle.delaunay_location.specs.half_edge_mesh.Contents.{Contents}
+use Rattle.delaunay_location.specs.plane.Fraction.{Point, Fraction, whole, IsSame, WithinSegment}
+use Rattle.delaunay_location.specs.plane.Side.{Side, side, left, right, on}
+use Rattle.delaunay_location.specs.plane.Pairs.{place}
+use Rattle.delaunay_location.specs.plane.Tiling.{Triangulation, IsEdge, IsFace, HasFace, TilesHull}
+use Rattle.delaunay_location.specs.plane.Line.{Item, Meets, at_vertex, across, along}
 use Rattle.plane_segments.specs.Steps.{ComesNext, IsLast, IsAhead}
 use Rattle.plane_segments.specs.WalkLaws.{IsLaid}
 use Rattle.plane_segments.proofs.Walking.LaidMeshes.{meshes_are_laid}
@@ -25,13 +26,13 @@ use Rattle.plane_segments.proofs.Walking.Steps.{next_after_vertex, last_vertex, 
 use Rattle.plane_segments.proofs.Walking.OneLine.{steps_on_one_line}
 use Rattle.plane_segments.proofs.First.LineStarts.{next_on_line}
 use Rattle.plane_segments.proofs.Crossing.EitherWay.{one_point}
-use Rattle.mesh_embedding.specs.Drawn.{drawn, faces_of, edges_of, outer_of}
-use Rattle.mesh_embedding.proofs.EdgePairs.{edge_joins, joins_edge, starts_within}
-use Rattle.mesh_embedding.proofs.MeshEdits.{face_before}
-use Rattle.mesh_embedding.proofs.MeshLegal.{no_outer_face, line_has_none}
-use Rattle.mesh_embedding.proofs.MeshStars.{edge_of_face}
-use Rattle.mesh_embedding.proofs.OwnEdges.{own_edges}
-use Rattle.delaunay_legalization.specs.Known.{point_at}
+use Rattle.delaunay_location.specs.mesh_embedding.Drawn.{drawn, faces_of, edges_of, outer_of}
+use Rattle.delaunay_location.proofs.mesh_embedding.EdgePairs.{edge_joins, joins_edge, starts_within}
+use Rattle.delaunay_location.proofs.mesh_embedding.MeshEdits.{face_before}
+use Rattle.delaunay_location.proofs.mesh_embedding.MeshLegal.{no_outer_face, line_has_none}
+use Rattle.delaunay_location.proofs.mesh_embedding.MeshStars.{edge_of_face}
+use Rattle.delaunay_location.proofs.mesh_embedding.OwnEdges.{own_edges}
+use Rattle.delaunay_location.specs.delaunay_legalization.Known.{point_at}
 use Rattle.delaunay_lines.specs.declared.intersection.FixedIntersection.{FixedIntersection}
 use Rattle.delaunay_lines.specs.Items.{item_of, IsHandleOf}
 use Rattle.delaunay_lines.specs.Steps.{IsOverMesh, IsNext, IsLeftOf, LeavesBy, IsEdgeAhead}

@@ -10,42 +10,47 @@ use Rattle.std.specs.Prelude.{IfSome, IfNone, MatchOption}
 use Rattle.std.specs.Prelude.{ℤ, pos, ◌<ℤ◌, ◌≤ℤ◌, ◌+ℤ◌, ◌-ℤ◌, ◌*ℤ◌, Contains}
 use Rattle.std.proofs.lemmas.Bool.{cases_eq}
 use Rattle.std.proofs.lemmas.Int.{ints}
-use Rattle.half_edge_mesh.specs.Mesh.{Mesh, origin, next, prev, face, rev}
-use Rattle.half_edge_links.proofs.Lists.Rev.{rev-rev, rev_within}
-use Rattle.half_edge_links.proofs.Removing.Conditions.{alone_at}
-use Rattle.half_edge_mesh.specs.Contents.{Contents}
-use Rattle.half_edge_mesh.specs.Outline.{IsOuterEdge}
-use Rattle.plane.specs.Fraction.{Point, Fraction, whole, IsSame, OnSegment}
-use Rattle.plane.specs.Side.{Side, side, left, right, on, opposite, TurnsLeft}
-use Rattle.plane.specs.Pairs.{place}
-use Rattle.plane.specs.Circle.{IsNearer}
-use Rattle.plane.specs.Tiling.{Triangulation, IsVertex, IsEdge, vertex}
-use Rattle.plane.specs.Location.{IsOuter}
-use Rattle.plane.specs.Line.{Item, IsPointOf, Meets, IsBefore, IsVertexThenOverlap}
-use Rattle.plane.specs.Line as L
-use Rattle.plane.proofs.IntegerLaws.{neg-mul_ℤ}
-use Rattle.plane.proofs.IntegerOrder.{lt_or_ge_ℤ, trichotomy_ℤ, mul-pos_ℤ}
-use Rattle.plane.proofs.IntegerOrder.{mul-nonpos_of_nonneg_nonpos_ℤ}
-use Rattle.plane.proofs.Nearer.{nothing_nearer}
-use Rattle.plane.proofs.Segments.{start_on_segment}
-use Rattle.plane.proofs.Sides.{side_swapped}
-use Rattle.plane.proofs.Steps.{weak, zero_weak_left, left_not_below, left_not_zero}
-use Rattle.plane.proofs.Steps.{product_zero_left}
-use Rattle.plane.proofs.Signs.{negated_negative, opposite_of_negative, opposite_of_positive}
-use Rattle.plane.proofs.Signs.{opposite_of_zero_of, opposite_of_not_positive}
-use Rattle.plane_delaunay.proofs.Points.AlongSegment.{Placed, sooner, as_soon, later, placed}
-use Rattle.plane_delaunay.proofs.Points.Bracket.{bracket, bracket-swapped, bracket-turned, cramer-w}
-use Rattle.plane_delaunay.proofs.Points.Bracket.{bracket-first, bracket-second, meeting}
-use Rattle.plane_delaunay.proofs.Points.Bracket.{above_if_left, left_if_above}
-use Rattle.plane_tiling.proofs.Counting.{SignMesh}
-use Rattle.plane_tiling.proofs.Tiles.{point_at, by_signs, bracket_not_left}
-use Rattle.plane_tiling.specs.Local.{LineMesh}
-use Rattle.plane_tiling.proofs.Line.{SignLine, Adjoin, next_turned}
-use Rattle.plane_tiling.proofs.LineMeshes.{line_by_signs}
-use Rattle.plane_edits.proofs.Insertion.Hull.{start_supports, end_supports}
-use Rattle.mesh_embedding.specs.Drawn.{drawn, faces_of, outer_of}
-use Rattle.mesh_embedding.proofs.MeshLegal.{line_has_none, none_or_some}
-use Rattle.mesh_embedding.proofs.OuterEdges.{listed, real, one_edge}
+use Rattle.delaunay_location.specs.half_edge_mesh.Mesh.{Mesh, origin, next, prev, face, rev}
+use Rattle.delaunay_location.proofs.half_edge_links.Lists.Rev.{rev-rev, rev_within}
+use Rattle.delaunay_location.proofs.half_edge_links.Removing.Conditions.{alone_at}
+use Rattle.delaunay_location.specs.half_edge_mesh.Contents.{Contents}
+use Rattle.delaunay_location.specs.half_edge_mesh.Outline.{IsOuterEdge}
+use Rattle.delaunay_location.specs.plane.Fraction.{Point, Fraction, whole, IsSame, OnSegment}
+use Rattle.delaunay_location.specs.plane.Side.{Side, side, left, right, on, opposite, TurnsLeft}
+use Rattle.delaunay_location.specs.plane.Pairs.{place}
+use Rattle.delaunay_location.specs.plane.Circle.{IsNearer}
+use Rattle.delaunay_location.specs.plane.Tiling.{Triangulation, IsVertex, IsEdge, vertex}
+use Rattle.delaunay_location.specs.plane.Location.{IsOuter}
+use Rattle.delaunay_location.specs.plane.Line.{Item, IsPointOf, Meets, IsBefore}
+use Rattle.delaunay_location.specs.plane.Line.{IsVertexThenOverlap}
+use Rattle.delaunay_location.specs.plane.Line as L
+use Rattle.delaunay_location.proofs.plane.IntegerLaws.{neg-mul_ℤ}
+use Rattle.delaunay_location.proofs.plane.IntegerOrder.{lt_or_ge_ℤ, trichotomy_ℤ, mul-pos_ℤ}
+use Rattle.delaunay_location.proofs.plane.IntegerOrder.{mul-nonpos_of_nonneg_nonpos_ℤ}
+use Rattle.delaunay_location.proofs.plane.Nearer.{nothing_nearer}
+use Rattle.delaunay_location.proofs.plane.Segments.{start_on_segment}
+use Rattle.delaunay_location.proofs.plane.Sides.{side_swapped}
+use Rattle.delaunay_location.proofs.plane.Steps.{weak, zero_weak_left, left_not_below}
+use Rattle.delaunay_location.proofs.plane.Steps.{left_not_zero, product_zero_left}
+use Rattle.delaunay_location.proofs.plane.Signs.{negated_negative, opposite_of_negative}
+use Rattle.delaunay_location.proofs.plane.Signs.{opposite_of_positive, opposite_of_zero_of}
+use Rattle.delaunay_location.proofs.plane.Signs.{opposite_of_not_positive}
+use Rattle.delaunay_location.proofs.plane_delaunay.Points.AlongSegment.{Placed, sooner, as_soon}
+use Rattle.delaunay_location.proofs.plane_delaunay.Points.AlongSegment.{later, placed}
+use Rattle.delaunay_location.proofs.plane_delaunay.Points.Bracket.{bracket, bracket-swapped}
+use Rattle.delaunay_location.proofs.plane_delaunay.Points.Bracket.{bracket-turned, cramer-w}
+use Rattle.delaunay_location.proofs.plane_delaunay.Points.Bracket.{bracket-first, bracket-second}
+use Rattle.delaunay_location.proofs.plane_delaunay.Points.Bracket.{meeting, above_if_left}
+use Rattle.delaunay_location.proofs.plane_delaunay.Points.Bracket.{left_if_above}
+use Rattle.delaunay_location.proofs.plane_tiling.Counting.{SignMesh}
+use Rattle.delaunay_location.proofs.plane_tiling.Tiles.{point_at, by_signs, bracket_not_left}
+use Rattle.delaunay_location.specs.plane_tiling.Local.{LineMesh}
+use Rattle.delaunay_location.proofs.plane_tiling.Line.{SignLine, Adjoin, next_turned}
+use Rattle.delaunay_location.proofs.plane_tiling.LineMeshes.{line_by_signs}
+use Rattle.delaunay_location.proofs.plane_edits.Insertion.Hull.{start_supports, end_supports}
+use Rattle.delaunay_location.specs.mesh_embedding.Drawn.{drawn, faces_of, outer_of}
+use Rattle.delaunay_location.proofs.mesh_embedding.MeshLegal.{line_has_none, none_or_some}
+use Rattle.delaunay_location.proofs.mesh_embedding.OuterEdges.{listed, real, one_edge}
 use Rattle.delaunay_location.specs.Location.{Locates}
 use Rattle.delaunay_location.specs.declared.position_in_triangulation.PositionInTriangulation.TheVariants.{OutsideOfConvexHull}
 use Rattle.delaunay_lines.specs.declared.intersection.FixedIntersection.TheVariants.{Edge, Vertex}
@@ -59,8 +64,8 @@ use Rattle.delaunay_lines.proofs.MeshSteps.{laid, in_mesh, of_mesh, joined, bare
 use Rattle.delaunay_lines.proofs.MeshSteps.{start_in, not_same}
 use Rattle.delaunay_lines.proofs.FirstItems.{starts_first, nothing_met}
 use Rattle.delaunay_lines.proofs.OutsideItems.{enters}
-use Rattle.plane_delaunay.proofs.Floods.Flooded.{segment_from}
-use Rattle.plane_delaunay.proofs.Segments.LineItems.{Begins, begins}
+use Rattle.delaunay_location.proofs.plane_delaunay.Floods.Flooded.{segment_from}
+use Rattle.delaunay_location.proofs.plane_delaunay.Segments.LineItems.{Begins, begins}
 use Rattle.plane_segments.specs.Steps.{IsFirst, IsWalk}
 use Rattle.plane_segments.proofs.Items.Begins.{above-same}
 use Rattle.plane_segments.proofs.Items.Orders.{nearer-same_second}

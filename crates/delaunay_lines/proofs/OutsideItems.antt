@@ -8,18 +8,19 @@ use Rattle.std.specs.Prelude.{IfSome, ℤ, ◌<ℤ◌}
 use Rattle.std.proofs.lemmas.Int.{ints}
 use Rattle.std.proofs.lemmas.Bool.{cases_eq}
 use Rattle.std.proofs.lemmas.List.{length-map}
-use Rattle.half_edge_mesh.specs.Mesh.{Mesh, origin, next, prev, face, rev}
-use Rattle.half_edge_links.proofs.Lists.Rev.{rev-rev, rev_within}
-use Rattle.half_edge_mesh.specs.Contents.{Contents}
-use Rattle.plane.specs.Fraction.{Point, whole, IsSame, OnSegment}
-use Rattle.plane.specs.Side.{side, left, right}
-use Rattle.plane.specs.Circle.{gap, IsNearer}
-use Rattle.plane.specs.Pairs.{place}
-use Rattle.plane.specs.Tiling.{Triangulation, IsVertex, HasFace, vertex, TilesHull, JoinsLine}
-use Rattle.plane.specs.Location.{IsOuter}
-use Rattle.plane.specs.Line.{Meets, across}
-use Rattle.plane.proofs.Segments.{on_of_within, same-refl}
-use Rattle.plane_delaunay.proofs.Floods.FloodOnLine.{edge_beside}
+use Rattle.delaunay_location.specs.half_edge_mesh.Mesh.{Mesh, origin, next, prev, face, rev}
+use Rattle.delaunay_location.proofs.half_edge_links.Lists.Rev.{rev-rev, rev_within}
+use Rattle.delaunay_location.specs.half_edge_mesh.Contents.{Contents}
+use Rattle.delaunay_location.specs.plane.Fraction.{Point, whole, IsSame, OnSegment}
+use Rattle.delaunay_location.specs.plane.Side.{side, left, right}
+use Rattle.delaunay_location.specs.plane.Circle.{gap, IsNearer}
+use Rattle.delaunay_location.specs.plane.Pairs.{place}
+use Rattle.delaunay_location.specs.plane.Tiling.{Triangulation, IsVertex, HasFace, vertex}
+use Rattle.delaunay_location.specs.plane.Tiling.{TilesHull, JoinsLine}
+use Rattle.delaunay_location.specs.plane.Location.{IsOuter}
+use Rattle.delaunay_location.specs.plane.Line.{Meets, across}
+use Rattle.delaunay_location.proofs.plane.Segments.{on_of_within, same-refl}
+use Rattle.delaunay_location.proofs.plane_delaunay.Floods.FloodOnLine.{edge_beside}
 use Rattle.plane_segments.specs.WalkLaws.{IsLaid}
 use Rattle.plane_segments.specs.LineLaws.{ArePlacedOnce}
 use Rattle.plane_segments.proofs.Walking.Steps.{crossing_by_sides, first_item}
@@ -27,10 +28,10 @@ use Rattle.plane_segments.proofs.First.EdgeStarts.{crossing_on_line}
 use Rattle.plane_segments.proofs.First.OutlineStarts.{IsOnOutline, nearest_of_outline, none_of_outline}
 use Rattle.plane_segments.proofs.First.LineStarts.{equal_ends, first_on_line}
 use Rattle.plane_segments.proofs.Items.Begins.{edge_flipped}
-use Rattle.mesh_embedding.specs.Drawn.{drawn}
-use Rattle.mesh_embedding.proofs.EdgePairs.{joins_edge}
-use Rattle.mesh_embedding.proofs.OutlineGiven.{IsGoingAlong}
-use Rattle.mesh_embedding.proofs.MeshLegal.{line_has_none, none_or_some}
+use Rattle.delaunay_location.specs.mesh_embedding.Drawn.{drawn}
+use Rattle.delaunay_location.proofs.mesh_embedding.EdgePairs.{joins_edge}
+use Rattle.delaunay_location.proofs.mesh_embedding.OutlineGiven.{IsGoingAlong}
+use Rattle.delaunay_location.proofs.mesh_embedding.MeshLegal.{line_has_none, none_or_some}
 use Rattle.delaunay_lines.specs.declared.intersection.FixedIntersection.TheVariants.{Edge, Vertex}
 use Rattle.delaunay_lines.specs.Steps.{IsOverMesh}
 use Rattle.delaunay_lines.specs.Starts.{IsCrossed, IsEntered, IsNearestOf, IsBetter, StartsOutside}
@@ -38,7 +39,7 @@ use Rattle.delaunay_lines.specs.Starts.{IsNoBetter, IsOnSegment}
 use Rattle.delaunay_lines.specs.Walk.{Starts}
 use Rattle.delaunay_lines.proofs.MeshSteps.{laid, in_mesh, of_mesh, joined, bare, face_at, not_same}
 use Rattle.delaunay_lines.proofs.FirstItems.{starts_first, nothing, nothing_met, same_ends}
-use Rattle.plane.proofs.Signs.{less_with_ones, less_without_ones}
+use Rattle.delaunay_location.proofs.plane.Signs.{less_with_ones, less_without_ones}
 
 -- ---- the nearest of some vertices
 through : (a b c : ℤ) → a <ℤ b → c <ℤ a → c <ℤ b

@@ -5,35 +5,38 @@ use Rattle.std.proofs.Common.{subst, inl, inr, arith}
 use Rattle.std.specs.Prelude.{ℤ, pos, ◌<ℤ◌, ◌+ℤ◌, ◌*ℤ◌}
 use Rattle.std.proofs.lemmas.Bool.{cases_eq}
 use Rattle.std.proofs.lemmas.Int.{ints}
-use Rattle.half_edge_mesh.specs.Contents.{Contents}
-use Rattle.half_edge_mesh.specs.Mesh.{Mesh, origin}
-use Rattle.plane.specs.Circle.{IsNearer}
-use Rattle.plane.specs.Fraction.{Point, Fraction, whole, IsSame, OnSegment, WithinSegment}
-use Rattle.plane.specs.Fraction.{IsNotNegative, IsPositive}
-use Rattle.plane.specs.Line.{Meets, at_vertex, across}
-use Rattle.plane.specs.Location.{IsPast}
-use Rattle.plane.specs.Tiling.{Triangulation, IsVertex, vertex, TilesHull, JoinsLine}
-use Rattle.plane.proofs.IntegerOrder.{mul-pos_ℤ, mul-nonneg_ℤ, pos_of_mul-pos_ℤ}
-use Rattle.plane.proofs.Means.{TwoWeights, two_weights}
-use Rattle.plane.proofs.Nearer.{same_not_nearer}
-use Rattle.plane.proofs.Segments.{on_segment_is, on_of_within, end_on_segment, same-refl}
-use Rattle.plane.proofs.Signs.{at_most_and_more, sum_not_negative_of, opposite_of_negative}
-use Rattle.plane.proofs.Signs.{opposites_not_both_positive}
-use Rattle.plane.proofs.Solver.{◌⊕◌, ◌⊗◌, ring_in_from}
-use Rattle.plane.proofs.Steps.{weak, product_zero_left}
-use Rattle.plane_delaunay.proofs.Circles.EmptyCircles.{weights_along}
-use Rattle.plane_delaunay.proofs.Floods.Flooded.{segment_from}
-use Rattle.plane_delaunay.proofs.Points.AlongSegment.{reach_less}
-use Rattle.plane_delaunay.proofs.Points.Bracket.{bracket, bracket-first, bracket-second}
-use Rattle.plane_delaunay.proofs.Points.Bracket.{bracket-swapped, above_if_left}
-use Rattle.plane_tiling.specs.Laws.{EdgesMeetAtVertices}
+use Rattle.delaunay_location.specs.half_edge_mesh.Contents.{Contents}
+use Rattle.delaunay_location.specs.half_edge_mesh.Mesh.{Mesh, origin}
+use Rattle.delaunay_location.specs.plane.Circle.{IsNearer}
+use Rattle.delaunay_location.specs.plane.Fraction.{Point, Fraction, whole, IsSame, OnSegment}
+use Rattle.delaunay_location.specs.plane.Fraction.{WithinSegment, IsNotNegative, IsPositive}
+use Rattle.delaunay_location.specs.plane.Line.{Meets, at_vertex, across}
+use Rattle.delaunay_location.specs.plane.Location.{IsPast}
+use Rattle.delaunay_location.specs.plane.Tiling.{Triangulation, IsVertex, vertex, TilesHull}
+use Rattle.delaunay_location.specs.plane.Tiling.{JoinsLine}
+use Rattle.delaunay_location.proofs.plane.IntegerOrder.{mul-pos_ℤ, mul-nonneg_ℤ, pos_of_mul-pos_ℤ}
+use Rattle.delaunay_location.proofs.plane.Means.{TwoWeights, two_weights}
+use Rattle.delaunay_location.proofs.plane.Nearer.{same_not_nearer}
+use Rattle.delaunay_location.proofs.plane.Segments.{on_segment_is, on_of_within, end_on_segment}
+use Rattle.delaunay_location.proofs.plane.Segments.{same-refl}
+use Rattle.delaunay_location.proofs.plane.Signs.{at_most_and_more, sum_not_negative_of}
+use Rattle.delaunay_location.proofs.plane.Signs.{opposite_of_negative, opposites_not_both_positive}
+use Rattle.delaunay_location.proofs.plane.Solver.{◌⊕◌, ◌⊗◌, ring_in_from}
+use Rattle.delaunay_location.proofs.plane.Steps.{weak, product_zero_left}
+use Rattle.delaunay_location.proofs.plane_delaunay.Circles.EmptyCircles.{weights_along}
+use Rattle.delaunay_location.proofs.plane_delaunay.Floods.Flooded.{segment_from}
+use Rattle.delaunay_location.proofs.plane_delaunay.Points.AlongSegment.{reach_less}
+use Rattle.delaunay_location.proofs.plane_delaunay.Points.Bracket.{bracket, bracket-first}
+use Rattle.delaunay_location.proofs.plane_delaunay.Points.Bracket.{bracket-second, bracket-swapped}
+use Rattle.delaunay_location.proofs.plane_delaunay.Points.Bracket.{above_if_left}
+use Rattle.delaunay_location.specs.plane_tiling.Laws.{EdgesMeetAtVertices}
 use Rattle.plane_segments.specs.LineLaws.{ArePlacedOnce}
 use Rattle.plane_segments.specs.WalkLaws.{IsLaid}
 use Rattle.plane_segments.proofs.First.EdgeStarts.{crossing_on_line}
 use Rattle.plane_segments.proofs.First.LineStarts.{first_on_line}
 use Rattle.plane_segments.proofs.Items.SideSigns.{below_if_right}
 use Rattle.plane_segments.proofs.Walking.OneLine.{line_ends}
-use Rattle.mesh_embedding.specs.Drawn.{drawn}
+use Rattle.delaunay_location.specs.mesh_embedding.Drawn.{drawn}
 use Rattle.delaunay_location.specs.Location.{Locates}
 use Rattle.delaunay_location.specs.declared.position_in_triangulation.PositionInTriangulation.TheVariants.{OutsideOfConvexHull}
 use Rattle.delaunay_lines.specs.declared.intersection.FixedIntersection.TheVariants.{Vertex}

@@ -3,10 +3,10 @@
 use Rattle.std.proofs.Common.{◌≡◌, ◌≢◌, ◌⊎◌, sym, subst, inl, inr, arith}
 use Rattle.std.specs.Prelude.{ℤ, pos, ◌<ℤ◌, ◌*ℤ◌}
 use Rattle.std.proofs.lemmas.Int.{ints}
-use Rattle.plane.specs.Fraction.{Point, whole, IsSame, OnSegment, WithinSegment}
-use Rattle.plane.proofs.Decisions.{Decision, decide_point}
-use Rattle.plane.proofs.Segments.{reach, reach-start, within_segment_is, start_on_segment}
-use Rattle.plane.proofs.Segments.{end_on_segment}
+use Rattle.delaunay_location.specs.plane.Fraction.{Point, whole, IsSame, OnSegment, WithinSegment}
+use Rattle.delaunay_location.proofs.plane.Decisions.{Decision, decide_point}
+use Rattle.delaunay_location.proofs.plane.Segments.{reach, reach-start, within_segment_is}
+use Rattle.delaunay_location.proofs.plane.Segments.{start_on_segment, end_on_segment}
 use Rattle.plane_segments.proofs.Crossing.EitherWay.{one_point}
 use Rattle.plane_segments.proofs.Constraints.Pieces.{on_parts}
 

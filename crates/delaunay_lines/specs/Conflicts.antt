@@ -1,14 +1,14 @@
 -- The constraints that a segment crosses.
 use Rattle.std.specs.Prelude.{◌≡◌, ◌≢◌, ◌/◌, ◌<◌, [], ◌∷◌, ◌++◌}
 use Rattle.std.specs.Prelude.{ℕ, List, length, ℤ, Option, Some, MatchOption, Contains}
-use Rattle.half_edge_mesh.specs.Mesh.{origin, rev}
-use Rattle.half_edge_mesh.specs.Contents.{Contents}
-use Rattle.half_edge_views.specs.declared.edge.DirectedEdgeHandle.{DirectedEdgeHandle}
-use Rattle.plane.specs.Crossing.{MeetsWithin}
-use Rattle.plane.specs.Fraction.{Point, whole}
-use Rattle.plane.specs.Line.{Item, across}
-use Rattle.plane.specs.Pairs.{Joins}
-use Rattle.plane.specs.Tiling.{Triangulation, vertex}
+use Rattle.delaunay_location.specs.half_edge_mesh.Mesh.{origin, rev}
+use Rattle.delaunay_location.specs.half_edge_mesh.Contents.{Contents}
+use Rattle.delaunay_location.specs.half_edge_views.declared.edge.DirectedEdgeHandle.{DirectedEdgeHandle}
+use Rattle.delaunay_location.specs.plane.Crossing.{MeetsWithin}
+use Rattle.delaunay_location.specs.plane.Fraction.{Point, whole}
+use Rattle.delaunay_location.specs.plane.Line.{Item, across}
+use Rattle.delaunay_location.specs.plane.Pairs.{Joins}
+use Rattle.delaunay_location.specs.plane.Tiling.{Triangulation, vertex}
 use Rattle.delaunay_lines.specs.declared.iterator.LineIntersectionIterator.{LineIntersectionIterator}
 use Rattle.delaunay_lines.specs.declared.intersection.Intersection.{Intersection}
 use Rattle.delaunay_lines.specs.Items.{crossed_edge}

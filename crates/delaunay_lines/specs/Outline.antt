@@ -1,10 +1,10 @@
 -- A walk along the outline of a mesh from outside, towards the line of a segment.
 use Rattle.std.specs.Prelude.{◌≡◌, ◌≢◌, ℕ, ◌<◌, length, map}
-use Rattle.half_edge_mesh.specs.Mesh.{origin, next, prev, face, rev}
-use Rattle.half_edge_mesh.specs.Contents.{Contents}
-use Rattle.plane.specs.Fraction.{Point, whole}
-use Rattle.plane.specs.Side.{side, left, right}
-use Rattle.plane.specs.Pairs.{place}
+use Rattle.delaunay_location.specs.half_edge_mesh.Mesh.{origin, next, prev, face, rev}
+use Rattle.delaunay_location.specs.half_edge_mesh.Contents.{Contents}
+use Rattle.delaunay_location.specs.plane.Fraction.{Point, whole}
+use Rattle.delaunay_location.specs.plane.Side.{side, left, right}
+use Rattle.delaunay_location.specs.plane.Pairs.{place}
 use Rattle.delaunay_lines.specs.Steps.{IsLeftOf}
 
 -- directed edge h has the outer face on its left, and p strictly on its left

@@ -1,9 +1,9 @@
 -- A segment over the mesh of a triangulation.
 use Rattle.std.specs.Prelude.{◌≢◌, Option, map}
-use Rattle.half_edge_mesh.specs.Contents.{Contents}
-use Rattle.plane.specs.Fraction.{Point, whole}
-use Rattle.plane.specs.Line.{Meets}
-use Rattle.mesh_embedding.specs.Drawn.{drawn}
+use Rattle.delaunay_location.specs.half_edge_mesh.Contents.{Contents}
+use Rattle.delaunay_location.specs.plane.Fraction.{Point, whole}
+use Rattle.delaunay_location.specs.plane.Line.{Meets}
+use Rattle.delaunay_location.specs.mesh_embedding.Drawn.{drawn}
 use Rattle.delaunay_lines.specs.declared.intersection.FixedIntersection.{FixedIntersection}
 use Rattle.delaunay_lines.specs.Items.{item_of, IsHandleOf}
 use Rattle.delaunay_lines.specs.Steps.{IsNext}

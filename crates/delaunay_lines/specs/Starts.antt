@@ -1,13 +1,14 @@
 -- Where a segment starts in a mesh.
 use Rattle.std.specs.Prelude.{◌≡◌, ◌≢◌, ℕ, ◌<◌, ◌<ℤ◌, List, length, Option, MatchOption, IfSome}
 use Rattle.std.specs.Prelude.{⊤}
-use Rattle.half_edge_mesh.specs.Mesh.{Mesh, origin, prev, face, rev}
-use Rattle.plane.specs.Fraction.{Point, whole, IsSame, OnSegment, WithinSegment, InsideTriangle}
-use Rattle.plane.specs.Side.{side, left, right, TurnsLeft}
-use Rattle.plane.specs.Circle.{gap, IsNearer}
-use Rattle.plane.specs.Pairs.{place}
-use Rattle.plane.specs.Tiling.{Triangulation, IsVertex, IsEdge, vertex, TilesHull}
-use Rattle.plane.specs.Location.{IsOuter}
+use Rattle.delaunay_location.specs.half_edge_mesh.Mesh.{Mesh, origin, prev, face, rev}
+use Rattle.delaunay_location.specs.plane.Fraction.{Point, whole, IsSame, OnSegment, WithinSegment}
+use Rattle.delaunay_location.specs.plane.Fraction.{InsideTriangle}
+use Rattle.delaunay_location.specs.plane.Side.{side, left, right, TurnsLeft}
+use Rattle.delaunay_location.specs.plane.Circle.{gap, IsNearer}
+use Rattle.delaunay_location.specs.plane.Pairs.{place}
+use Rattle.delaunay_location.specs.plane.Tiling.{Triangulation, IsVertex, IsEdge, vertex, TilesHull}
+use Rattle.delaunay_location.specs.plane.Location.{IsOuter}
 
 -- p is strictly within directed edge h
 abbrev pub StartsWithin : List Point → Mesh → Point → ℕ → Type 0

@@ -1,14 +1,14 @@
 -- From an item that a segment meets in a mesh to the next, by handles.
 use Rattle.std.specs.Prelude.{◌≡◌, ◌⊎◌, ℕ, ◌<◌, List, length, map, All, Option, MatchOption}
-use Rattle.half_edge_mesh.specs.Mesh.{Mesh, origin, prev, face, rev}
-use Rattle.half_edge_mesh.specs.Contents.{Contents, IsMeshWithData}
-use Rattle.plane.specs.Fraction.{Point, whole}
-use Rattle.plane.specs.Side.{TurnsLeft}
-use Rattle.plane.specs.Pairs.{place}
-use Rattle.plane.specs.Line.{Item}
-use Rattle.plane_tiling.specs.Local.{IsMesh}
+use Rattle.delaunay_location.specs.half_edge_mesh.Mesh.{Mesh, origin, prev, face, rev}
+use Rattle.delaunay_location.specs.half_edge_mesh.Contents.{Contents, IsMeshWithData}
+use Rattle.delaunay_location.specs.plane.Fraction.{Point, whole}
+use Rattle.delaunay_location.specs.plane.Side.{TurnsLeft}
+use Rattle.delaunay_location.specs.plane.Pairs.{place}
+use Rattle.delaunay_location.specs.plane.Line.{Item}
+use Rattle.delaunay_location.specs.plane_tiling.Local.{IsMesh}
 use Rattle.plane_segments.specs.Steps.{ComesNext, IsLast, IsAhead}
-use Rattle.mesh_embedding.specs.Drawn.{drawn, faces_of, outer_of}
+use Rattle.delaunay_location.specs.mesh_embedding.Drawn.{drawn, faces_of, outer_of}
 use Rattle.delaunay_lines.specs.declared.intersection.FixedIntersection.{FixedIntersection}
 use Rattle.delaunay_lines.specs.declared.intersection.FixedIntersection.TheVariants.{Edge}
 use Rattle.delaunay_lines.specs.Items.{item_of, IsHandleOf}

@@ -1,15 +1,15 @@
 -- What is left of the walk along a segment over a mesh.
 use Rattle.std.specs.Prelude.{◌≡◌, ◌+◌, ◌≤◌, [], ◌∷◌}
 use Rattle.std.specs.Prelude.{ℕ, List, ℤ, length, map, Option, Some, None, IfNone, MatchOption}
-use Rattle.half_edge_mesh.specs.Contents.{Contents}
-use Rattle.plane.specs.Fraction.{Point, whole}
-use Rattle.plane.specs.Tiling.{Triangulation}
-use Rattle.plane.specs.Line.{Item, Meets, IsLineList}
+use Rattle.delaunay_location.specs.half_edge_mesh.Contents.{Contents}
+use Rattle.delaunay_location.specs.plane.Fraction.{Point, whole}
+use Rattle.delaunay_location.specs.plane.Tiling.{Triangulation}
+use Rattle.delaunay_location.specs.plane.Line.{Item, Meets, IsLineList}
 use Rattle.plane_segments.specs.Steps.{GoesOn}
-use Rattle.mesh_embedding.specs.Drawn.{drawn}
-use Rattle.delaunay_core.specs.Place.{place_of}
-use Rattle.delaunay_legalization.specs.Known.{point_at}
-use Rattle.delaunay_legalization.specs.State.{State, state_of, triangulation_of}
+use Rattle.delaunay_location.specs.mesh_embedding.Drawn.{drawn}
+use Rattle.delaunay_location.specs.delaunay_core.Place.{place_of}
+use Rattle.delaunay_location.specs.delaunay_legalization.Known.{point_at}
+use Rattle.delaunay_location.specs.delaunay_legalization.State.{State, state_of, triangulation_of}
 use Rattle.delaunay_lines.specs.declared.intersection.Intersection.{Intersection}
 use Rattle.delaunay_lines.specs.declared.intersection.FixedIntersection.{FixedIntersection}
 use Rattle.delaunay_lines.specs.declared.iterator.LineIntersectionIterator.{LineIntersectionIterator}

@@ -1,6 +1,6 @@
 -- The way from one point to another.
 use Rattle.std.specs.Prelude.{◌≢◌}
-use Rattle.plane.specs.Fraction.{Point}
+use Rattle.delaunay_location.specs.plane.Fraction.{Point}
 
 -- what a contract sees of it: its ends and the tests
 pub record Heading (P : Type 0) : Type 0 where

@@ -1,24 +1,24 @@
 //! The walk along a segment, from wherever its start is.
 ghost use Rattle.std.specs.Prelude.{◌≡◌, ◌<◌, ◌≤◌, length, map, All};
-ghost use Rattle.half_edge_mesh.specs.Mesh.{face_edge};
-ghost use Rattle.plane_tiling.specs.Local.{IsMesh};
-ghost use Rattle.mesh_embedding.specs.Drawn.{faces_of, outer_of};
-ghost use Rattle.delaunay_core.specs.Place.{place_of};
-ghost use Rattle.delaunay_legalization.specs.Shape.{IsTriangulated};
-ghost use Rattle.delaunay_legalization.specs.State.{state_of};
+ghost use Rattle.delaunay_location.specs.half_edge_mesh.Mesh.{face_edge};
+ghost use Rattle.delaunay_location.specs.plane_tiling.Local.{IsMesh};
+ghost use Rattle.delaunay_location.specs.mesh_embedding.Drawn.{faces_of, outer_of};
+ghost use Rattle.delaunay_location.specs.delaunay_core.Place.{place_of};
+ghost use Rattle.delaunay_location.specs.delaunay_legalization.Shape.{IsTriangulated};
+ghost use Rattle.delaunay_location.specs.delaunay_legalization.State.{state_of};
 ghost use Rattle.delaunay_location.specs.Location.{Locates};
 ghost use Rattle.delaunay_lines.specs.Walk.{IsReady, Starts, WalksBetween, WalksLine};
 
 use crate::intersection::FixedIntersection;
 use crate::iterator::LineIntersectionIterator;
 use crate::segment::Segment;
-use delaunay_core::math::PlaneTests;
-use delaunay_core::point::{HasPosition, Point2};
-use delaunay_legalization::position_of;
-use delaunay_location::{PositionInTriangulation, locate_with_hint};
-use half_edge_mesh::{
+use delaunay_location::delaunay_core::math::PlaneTests;
+use delaunay_location::delaunay_core::point::{HasPosition, Point2};
+use delaunay_location::delaunay_legalization::position_of;
+use delaunay_location::half_edge_mesh::{
     Dcel, FixedDirectedEdgeHandle, FixedFaceHandle, FixedVertexHandle, MeshViews,
 };
+use delaunay_location::{PositionInTriangulation, locate_with_hint};
 
 // An edge with an inner face on its left.
 fn edge_of<V, DE, UE, F>(

@@ -2,23 +2,23 @@
 ghost use Rattle.std.specs.Prelude.{◌↔◌, ◌/◌, ◌<◌, length, map, All, Contains};
 ghost use Rattle.std.specs.Prelude.{IfNone, IfSome, IsTrue};
 ghost use Rattle.std.specs.Iterator.{at_most};
-ghost use Rattle.plane_tiling.specs.Local.{IsMesh};
-ghost use Rattle.mesh_embedding.specs.Drawn.{faces_of, outer_of};
-ghost use Rattle.delaunay_core.specs.Place.{place_of};
-ghost use Rattle.delaunay_legalization.specs.Constraints.{constraints_by};
-ghost use Rattle.delaunay_legalization.specs.Known.{point_at};
-ghost use Rattle.delaunay_legalization.specs.Shape.{IsTriangulated};
-ghost use Rattle.delaunay_legalization.specs.State.{state_of, triangulation_of};
+ghost use Rattle.delaunay_location.specs.plane_tiling.Local.{IsMesh};
+ghost use Rattle.delaunay_location.specs.mesh_embedding.Drawn.{faces_of, outer_of};
+ghost use Rattle.delaunay_location.specs.delaunay_core.Place.{place_of};
+ghost use Rattle.delaunay_location.specs.delaunay_legalization.Constraints.{constraints_by};
+ghost use Rattle.delaunay_location.specs.delaunay_legalization.Known.{point_at};
+ghost use Rattle.delaunay_location.specs.delaunay_legalization.Shape.{IsTriangulated};
+ghost use Rattle.delaunay_location.specs.delaunay_legalization.State.{state_of, triangulation_of};
 ghost use Rattle.delaunay_lines.specs.Conflicts.{GivesConflict, IntersectsConstraint, IsConflictOf};
 ghost use Rattle.delaunay_lines.specs.Walk.{IsReady, WalksLine};
 
 use crate::between::{line_between, line_between_vertices};
 use crate::intersection::Intersection;
 use crate::iterator::LineIntersectionIterator;
-use delaunay_core::math::PlaneTests;
-use delaunay_core::point::{HasPosition, Point2};
-use delaunay_legalization::ConstraintMarker;
-use half_edge_mesh::{Dcel, DirectedEdgeHandle, FixedVertexHandle};
+use delaunay_location::delaunay_core::math::PlaneTests;
+use delaunay_location::delaunay_core::point::{HasPosition, Point2};
+use delaunay_location::delaunay_legalization::ConstraintMarker;
+use delaunay_location::half_edge_mesh::{Dcel, DirectedEdgeHandle, FixedVertexHandle};
 use std::marker::PhantomData;
 
 // Whether an edge is a constraint.

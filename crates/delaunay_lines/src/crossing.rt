@@ -1,16 +1,16 @@
 //! What a segment meets after an edge that it crosses or goes along.
 ghost use Rattle.std.specs.Prelude.{◌<◌, length};
-ghost use Rattle.half_edge_mesh.specs.Mesh.{face};
+ghost use Rattle.delaunay_location.specs.half_edge_mesh.Mesh.{face};
 ghost use Rattle.delaunay_lines.specs.Over.{GoesOnTo, IsAtItem};
 ghost use Rattle.delaunay_lines.specs.Steps.{LeavesBy};
 
 use crate::intersection::FixedIntersection;
 use crate::segment::Segment;
 use crate::sides::{edge_after, edge_before, side_of_edge, twin_of};
-use delaunay_core::math::PlaneTests;
-use delaunay_core::point::HasPosition;
-use delaunay_legalization::is_outer;
-use half_edge_mesh::FixedDirectedEdgeHandle;
+use delaunay_location::delaunay_core::math::PlaneTests;
+use delaunay_location::delaunay_core::point::HasPosition;
+use delaunay_location::delaunay_legalization::is_outer;
+use delaunay_location::half_edge_mesh::FixedDirectedEdgeHandle;
 
 impl<'a, V: HasPosition, DE, UE, F, P: PlaneTests<V::Scalar>> Segment<'a, V, DE, UE, F, P> {
     // The way out of a face by one of its sides: nothing where the segment ends on the left of the

@@ -2,7 +2,7 @@
 ghost use Rattle.std.specs.Prelude.{◌≡◌};
 ghost use Rattle.delaunay_lines.specs.Items.{item_of, item_in, mesh_of, crossed_edge, IsHandleOf};
 
-use half_edge_mesh::{
+use delaunay_location::half_edge_mesh::{
     Dcel, DirectedEdgeHandle, FixedDirectedEdgeHandle, FixedVertexHandle, MeshViews, VertexHandle,
 };
 

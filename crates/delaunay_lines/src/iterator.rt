@@ -1,20 +1,20 @@
 //! The items that a segment meets, one after another.
 ghost use Rattle.std.specs.Prelude.{◌≡◌, ◌≢◌, map};
 ghost use Rattle.std.specs.Iterator.{at_most};
-ghost use Rattle.plane.specs.Fraction.{whole as fraction};
-ghost use Rattle.plane.specs.Line.{Meets};
-ghost use Rattle.mesh_embedding.specs.Drawn.{drawn};
-ghost use Rattle.delaunay_legalization.specs.State.{state_of};
+ghost use Rattle.delaunay_location.specs.plane.Fraction.{whole as fraction};
+ghost use Rattle.delaunay_location.specs.plane.Line.{Meets};
+ghost use Rattle.delaunay_location.specs.mesh_embedding.Drawn.{drawn};
+ghost use Rattle.delaunay_location.specs.delaunay_legalization.State.{state_of};
 ghost use Rattle.delaunay_lines.specs.Items.{item_of, IsHandleOf};
 ghost use Rattle.delaunay_lines.specs.Steps.{IsNext};
 ghost use Rattle.delaunay_lines.specs.Walk.{GivesNext, IsReady, Starts, WalksLine};
 
 use crate::intersection::{FixedIntersection, Intersection, intersection_in};
 use crate::segment::Segment;
-use delaunay_core::math::PlaneTests;
-use delaunay_core::point::{HasPosition, Point2};
-use delaunay_legalization::is_same_point;
-use half_edge_mesh::Dcel;
+use delaunay_location::delaunay_core::math::PlaneTests;
+use delaunay_location::delaunay_core::point::{HasPosition, Point2};
+use delaunay_location::delaunay_legalization::is_same_point;
+use delaunay_location::half_edge_mesh::Dcel;
 
 /// The vertices and edges that a segment meets, in the order along the segment. No call takes
 /// memory. A call of `next` looks at the edges of one vertex at most. After the last item it gives

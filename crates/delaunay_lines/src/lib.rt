@@ -1,6 +1,9 @@
 //! What a segment meets in a triangulation, item by item: the walk along a line over the mesh.
 #![tactic(auto)]
 
+pub use delaunay_location;
+pub use delaunay_location::{delaunay_core, delaunay_legalization, half_edge_mesh};
+
 mod between;
 mod conflicts;
 mod crossing;

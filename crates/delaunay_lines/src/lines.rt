@@ -1,17 +1,17 @@
 //! The walk along a segment over whatever has the mesh of a triangulation.
 ghost use Rattle.std.specs.Prelude.{◌≡◌, ◌<◌, length, map, All};
-ghost use Rattle.plane.specs.Tests.{InRange};
-ghost use Rattle.delaunay_core.specs.Place.{place_of};
-ghost use Rattle.delaunay_legalization.specs.Known.{point_at};
-ghost use Rattle.delaunay_legalization.specs.Shape.{IsTriangulated};
-ghost use Rattle.delaunay_legalization.specs.State.{State, state_of};
+ghost use Rattle.delaunay_location.specs.plane.Tests.{InRange};
+ghost use Rattle.delaunay_location.specs.delaunay_core.Place.{place_of};
+ghost use Rattle.delaunay_location.specs.delaunay_legalization.Known.{point_at};
+ghost use Rattle.delaunay_location.specs.delaunay_legalization.Shape.{IsTriangulated};
+ghost use Rattle.delaunay_location.specs.delaunay_legalization.State.{State, state_of};
 ghost use Rattle.delaunay_lines.specs.Walk.{IsReady, WalksLine};
 
 use crate::between::{line_between, line_between_vertices};
 use crate::iterator::LineIntersectionIterator;
-use delaunay_core::math::PlaneTests;
-use delaunay_core::point::{HasPosition, Point2};
-use half_edge_mesh::{Dcel, FixedVertexHandle};
+use delaunay_location::delaunay_core::math::PlaneTests;
+use delaunay_location::delaunay_core::point::{HasPosition, Point2};
+use delaunay_location::half_edge_mesh::{Dcel, FixedVertexHandle};
 
 /// What has the mesh of a triangulation, and says where searches in it begin: each of the two types
 /// of triangulations.

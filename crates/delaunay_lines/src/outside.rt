@@ -1,12 +1,12 @@
 //! What a segment meets first, from outside the triangulation.
 ghost use Rattle.std.specs.Prelude.{◌≡◌, ◌≢◌, ◌↔◌, ◌<◌, ◌<ℤ◌, ℕ};
 ghost use Rattle.std.specs.Prelude.{length, map, IsTrue, IfSome, IfNone, MatchOption};
-ghost use Rattle.half_edge_mesh.specs.Mesh.{origin};
-ghost use Rattle.plane.specs.Fraction.{whole as fraction};
-ghost use Rattle.plane.specs.Circle.{gap};
-ghost use Rattle.plane.specs.Location.{IsPast};
-ghost use Rattle.mesh_embedding.specs.Drawn.{drawn};
-ghost use Rattle.delaunay_core.specs.Place.{place_of};
+ghost use Rattle.delaunay_location.specs.half_edge_mesh.Mesh.{origin};
+ghost use Rattle.delaunay_location.specs.plane.Fraction.{whole as fraction};
+ghost use Rattle.delaunay_location.specs.plane.Circle.{gap};
+ghost use Rattle.delaunay_location.specs.plane.Location.{IsPast};
+ghost use Rattle.delaunay_location.specs.mesh_embedding.Drawn.{drawn};
+ghost use Rattle.delaunay_location.specs.delaunay_core.Place.{place_of};
 ghost use Rattle.delaunay_location.specs.Location.{Locates};
 ghost use Rattle.delaunay_location.specs.declared.position_in_triangulation.PositionInTriangulation.TheVariants.{OutsideOfConvexHull};
 ghost use Rattle.delaunay_lines.specs.Starts.{GoesRight, HasEndsOnSides, IsBetter, IsCrossed};
@@ -20,10 +20,10 @@ use crate::intersection::FixedIntersection;
 use crate::segment::Segment;
 use crate::sides::{edge_after, edge_before, side_of_edge, twin_of};
 use crate::way::Way;
-use delaunay_core::math::PlaneTests;
-use delaunay_core::point::{HasPosition, Point2, SpadeNum};
-use delaunay_legalization::{is_same_point, position_of, start_of};
-use half_edge_mesh::{FixedDirectedEdgeHandle, FixedVertexHandle, MeshViews};
+use delaunay_location::delaunay_core::math::PlaneTests;
+use delaunay_location::delaunay_core::point::{HasPosition, Point2, SpadeNum};
+use delaunay_location::delaunay_legalization::{is_same_point, position_of, start_of};
+use delaunay_location::half_edge_mesh::{FixedDirectedEdgeHandle, FixedVertexHandle, MeshViews};
 
 // Whether a point is nearer to a position than another.
 fn is_point_nearer<S: SpadeNum, P: PlaneTests<S>>(

@@ -1,20 +1,20 @@
 //! A segment over a mesh.
 ghost use Rattle.std.specs.Prelude.{◌≡◌, ◌↔◌, ◌<◌, length, map, IsTrue};
-ghost use Rattle.half_edge_mesh.specs.Mesh.{origin, rev};
-ghost use Rattle.plane.specs.Fraction.{whole as fraction};
-ghost use Rattle.plane.specs.Side.{side};
-ghost use Rattle.plane.specs.Pairs.{place};
-ghost use Rattle.delaunay_legalization.specs.Known.{point_at};
+ghost use Rattle.delaunay_location.specs.half_edge_mesh.Mesh.{origin, rev};
+ghost use Rattle.delaunay_location.specs.plane.Fraction.{whole as fraction};
+ghost use Rattle.delaunay_location.specs.plane.Side.{side};
+ghost use Rattle.delaunay_location.specs.plane.Pairs.{place};
+ghost use Rattle.delaunay_location.specs.delaunay_legalization.Known.{point_at};
 ghost use Rattle.delaunay_lines.specs.Steps.{IsLeftOf};
 
 use crate::intersection::FixedIntersection;
 use crate::sides::{side_of_edge, twin_of};
 use crate::way::Way;
-use delaunay_core::line_side_info::LineSideInfo;
-use delaunay_core::math::PlaneTests;
-use delaunay_core::point::{HasPosition, Point2};
-use delaunay_legalization::start_of;
-use half_edge_mesh::{Dcel, FixedDirectedEdgeHandle, MeshViews};
+use delaunay_location::delaunay_core::line_side_info::LineSideInfo;
+use delaunay_location::delaunay_core::math::PlaneTests;
+use delaunay_location::delaunay_core::point::{HasPosition, Point2};
+use delaunay_location::delaunay_legalization::start_of;
+use delaunay_location::half_edge_mesh::{Dcel, FixedDirectedEdgeHandle, MeshViews};
 use std::marker::Model;
 
 /// A segment over the mesh of a triangulation, with tests that cover its ends and have the vertices
@@ -29,7 +29,7 @@ pub(crate) struct Segment<'a, V: HasPosition, DE, UE, F, P: PlaneTests<V::Scalar
 
 impl<'a, V: HasPosition, DE, UE, F, P: PlaneTests<V::Scalar>> Model
     for Segment<'a, V, DE, UE, F, P> {
-    ghost use Rattle.delaunay_core.specs.Place.{place_of};
+    ghost use Rattle.delaunay_location.specs.delaunay_core.Place.{place_of};
     ghost use Rattle.delaunay_lines.specs.Over.{Spanning};
     ghost use Rattle.delaunay_lines.specs.Steps.{IsOverMesh};
 

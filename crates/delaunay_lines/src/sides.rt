@@ -1,16 +1,16 @@
 //! Questions about the vertices and edges of a mesh.
 ghost use Rattle.std.specs.Prelude.{◌≡◌, ◌<◌, length, map, All};
-ghost use Rattle.half_edge_mesh.specs.Mesh.{origin, next, prev, rev};
-ghost use Rattle.plane.specs.Fraction.{whole as fraction};
-ghost use Rattle.plane.specs.Side.{side};
-ghost use Rattle.plane.specs.Pairs.{place};
-ghost use Rattle.delaunay_core.specs.Place.{place_of};
+ghost use Rattle.delaunay_location.specs.half_edge_mesh.Mesh.{origin, next, prev, rev};
+ghost use Rattle.delaunay_location.specs.plane.Fraction.{whole as fraction};
+ghost use Rattle.delaunay_location.specs.plane.Side.{side};
+ghost use Rattle.delaunay_location.specs.plane.Pairs.{place};
+ghost use Rattle.delaunay_location.specs.delaunay_core.Place.{place_of};
 
-use delaunay_core::line_side_info::LineSideInfo;
-use delaunay_core::math::PlaneTests;
-use delaunay_core::point::{HasPosition, Point2};
-use delaunay_legalization::start_of;
-use half_edge_mesh::{Dcel, FixedDirectedEdgeHandle, MeshViews};
+use delaunay_location::delaunay_core::line_side_info::LineSideInfo;
+use delaunay_location::delaunay_core::math::PlaneTests;
+use delaunay_location::delaunay_core::point::{HasPosition, Point2};
+use delaunay_location::delaunay_legalization::start_of;
+use delaunay_location::half_edge_mesh::{Dcel, FixedDirectedEdgeHandle, MeshViews};
 
 // The edge after an edge in its loop.
 pub(crate) fn edge_after<V, DE, UE, F>(

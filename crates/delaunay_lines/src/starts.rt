@@ -7,10 +7,10 @@ use crate::intersection::FixedIntersection;
 use crate::segment::Segment;
 use crate::sides::{edge_after, edge_before, side_of_edge, twin_of};
 use crate::way::Way;
-use delaunay_core::math::PlaneTests;
-use delaunay_core::point::HasPosition;
-use delaunay_legalization::{is_same_point, start_of};
-use half_edge_mesh::FixedDirectedEdgeHandle;
+use delaunay_location::delaunay_core::math::PlaneTests;
+use delaunay_location::delaunay_core::point::HasPosition;
+use delaunay_location::delaunay_legalization::{is_same_point, start_of};
+use delaunay_location::half_edge_mesh::FixedDirectedEdgeHandle;
 
 impl<'a, V: HasPosition, DE, UE, F, P: PlaneTests<V::Scalar>> Segment<'a, V, DE, UE, F, P> {
     // From strictly within an edge: the edge, crossed or gone along.

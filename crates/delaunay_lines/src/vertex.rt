@@ -1,17 +1,17 @@
 //! What a segment meets after a vertex.
 ghost use Rattle.std.specs.Prelude.{◌≡◌, ◌≢◌, ◌↔◌, ◌<◌, ℕ, length, map, IsTrue, MatchOption};
-ghost use Rattle.half_edge_mesh.specs.Mesh.{origin};
-ghost use Rattle.delaunay_legalization.specs.Known.{point_at};
+ghost use Rattle.delaunay_location.specs.half_edge_mesh.Mesh.{origin};
+ghost use Rattle.delaunay_location.specs.delaunay_legalization.Known.{point_at};
 ghost use Rattle.delaunay_lines.specs.Over.{GoesOnTo, IsAtItem};
 ghost use Rattle.delaunay_lines.specs.Steps.{IsEdgeAhead, IsInCone, LeadsOn};
 
 use crate::intersection::FixedIntersection;
 use crate::segment::Segment;
 use crate::sides::{edge_after, edge_before};
-use delaunay_core::math::PlaneTests;
-use delaunay_core::point::HasPosition;
-use delaunay_legalization::{is_outer, is_same_point, position_of};
-use half_edge_mesh::{FixedDirectedEdgeHandle, FixedVertexHandle, MeshViews};
+use delaunay_location::delaunay_core::math::PlaneTests;
+use delaunay_location::delaunay_core::point::HasPosition;
+use delaunay_location::delaunay_legalization::{is_outer, is_same_point, position_of};
+use delaunay_location::half_edge_mesh::{FixedDirectedEdgeHandle, FixedVertexHandle, MeshViews};
 
 impl<'a, V: HasPosition, DE, UE, F, P: PlaneTests<V::Scalar>> Segment<'a, V, DE, UE, F, P> {
     // Whether an edge points towards a position, or the position is on the edge.

@@ -1,12 +1,13 @@
 //! Questions about a point and the segment from one point to another.
 ghost use Rattle.std.specs.Prelude.{◌≢◌, ◌↔◌, IsTrue};
-ghost use Rattle.plane.specs.Fraction.{whole as fraction, OnSegment, WithinSegment};
+ghost use Rattle.delaunay_location.specs.plane.Fraction.{whole as fraction, OnSegment};
+ghost use Rattle.delaunay_location.specs.plane.Fraction.{WithinSegment};
 ghost use Rattle.plane_segments.specs.Steps.{IsAhead};
-ghost use Rattle.delaunay_core.specs.Place.{place_of};
+ghost use Rattle.delaunay_location.specs.delaunay_core.Place.{place_of};
 
-use delaunay_core::math::PlaneTests;
-use delaunay_core::point::{Point2, SpadeNum};
-use delaunay_legalization::{is_same_point, is_strictly_within};
+use delaunay_location::delaunay_core::math::PlaneTests;
+use delaunay_location::delaunay_core::point::{Point2, SpadeNum};
+use delaunay_location::delaunay_legalization::{is_same_point, is_strictly_within};
 use std::marker::Model;
 
 /// The way from one point to another that differs from it, with tests that cover both.
@@ -18,7 +19,7 @@ pub(crate) struct Way<'a, S: SpadeNum, P: PlaneTests<S>> {
 }
 
 impl<'a, S: SpadeNum, P: PlaneTests<S>> Model for Way<'a, S, P> {
-    ghost use Rattle.delaunay_core.specs.Place.{place_of};
+    ghost use Rattle.delaunay_location.specs.delaunay_core.Place.{place_of};
     ghost use Rattle.delaunay_lines.specs.Way.{Heading, IsWay};
 
     ghost Value = { Heading P };

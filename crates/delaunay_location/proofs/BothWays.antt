@@ -13,13 +13,14 @@ use Rattle.std.proofs.lemmas.Bool.{cases_lt}
 use Rattle.std.proofs.lemmas.Bool.{eq-eqb}
 use Rattle.std.proofs.lemmas.Bool.Decides.{eqb_tells}
 use Rattle.std.proofs.lemmas.List.FromFn.{length-map-range_with_len}
-use Rattle.half_edge_mesh.specs.Mesh.{Mesh, IsValidMesh, AreSoundLinks, origin, next, prev, rev}
-use Rattle.half_edge_mesh.specs.Mesh.{out_edge}
-use Rattle.half_edge_mesh.specs.Peel.{turn, spoke}
-use Rattle.half_edge_mesh.specs.Round.{IsRound}
-use Rattle.half_edge_mesh.specs.Walks.{walk}
-use Rattle.half_edge_links.proofs.Lists.Rev.{rev-rev}
-use Rattle.mesh_embedding.proofs.WorkLists.{contains_map_from, at_most_so_many}
+use Rattle.delaunay_legalization.specs.half_edge_mesh.Mesh.{Mesh, IsValidMesh, AreSoundLinks}
+use Rattle.delaunay_legalization.specs.half_edge_mesh.Mesh.{origin, next, prev, rev, out_edge}
+use Rattle.delaunay_legalization.specs.half_edge_mesh.Peel.{turn, spoke}
+use Rattle.delaunay_legalization.specs.half_edge_mesh.Round.{IsRound}
+use Rattle.delaunay_legalization.specs.half_edge_mesh.Walks.{walk}
+use Rattle.delaunay_legalization.proofs.half_edge_links.Lists.Rev.{rev-rev}
+use Rattle.delaunay_legalization.proofs.mesh_embedding.WorkLists.{contains_map_from}
+use Rattle.delaunay_legalization.proofs.mesh_embedding.WorkLists.{at_most_so_many}
 use Rattle.delaunay_legalization.proofs.Rounds.{round_at, spokes_once}
 
 -- edges left and right of vertex v lie at two places of the round against the clock that begins

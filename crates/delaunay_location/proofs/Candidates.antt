@@ -8,14 +8,15 @@ use Rattle.std.proofs.lemmas.List.{length-map}
 use Rattle.std.proofs.lemmas.List.Elements.{All-get_or, All-map}
 use Rattle.std.specs.Prelude.{pos, ◌<ℤ◌}
 use Rattle.std.specs.Int.Signed.{<ℤ-≤ℤ_trans}
-use Rattle.half_edge_mesh.specs.Mesh.{Mesh, origin, rev}
-use Rattle.half_edge_links.proofs.Lists.Rev.{rev-rev}
-use Rattle.plane.specs.Fraction.{Point, whole}
-use Rattle.plane.specs.Circle.{gap, IsNearer}
-use Rattle.plane.specs.Pairs.{place}
-use Rattle.plane.specs.Tests.{InRange}
-use Rattle.plane.proofs.Signs.{at_most_and_more, less_is_at_most, less_with_ones, less_without_ones}
-use Rattle.delaunay_core.proofs.Projections.{gap_passes}
+use Rattle.delaunay_legalization.specs.half_edge_mesh.Mesh.{Mesh, origin, rev}
+use Rattle.delaunay_legalization.proofs.half_edge_links.Lists.Rev.{rev-rev}
+use Rattle.delaunay_legalization.specs.plane.Fraction.{Point, whole}
+use Rattle.delaunay_legalization.specs.plane.Circle.{gap, IsNearer}
+use Rattle.delaunay_legalization.specs.plane.Pairs.{place}
+use Rattle.delaunay_legalization.specs.plane.Tests.{InRange}
+use Rattle.delaunay_legalization.proofs.plane.Signs.{at_most_and_more, less_is_at_most}
+use Rattle.delaunay_legalization.proofs.plane.Signs.{less_with_ones, less_without_ones}
+use Rattle.delaunay_legalization.proofs.delaunay_core_lemmas.Projections.{gap_passes}
 use Rattle.delaunay_legalization.specs.Known.{point_at}
 use Rattle.delaunay_legalization.specs.Shape.{IsTriangulated}
 use Rattle.delaunay_legalization.specs.State.{State, triangulation_of}

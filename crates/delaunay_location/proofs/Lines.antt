@@ -4,28 +4,31 @@ use Rattle.std.proofs.Common.{◌≡◌, ◌≢◌, ◌⊎◌, ◌<◌, ◌∙�
 use Rattle.std.proofs.Common.{ℕ, List, [], length, map, refl, sym, ap, subst, inl, inr, arith}
 use Rattle.std.specs.Prelude.{ℤ, pos, ◌<ℤ◌, ◌≤ℤ◌, Contains}
 use Rattle.std.proofs.lemmas.List.{length-map, nil_from_length}
-use Rattle.half_edge_mesh.specs.Mesh.{Mesh, origin, next, face, rev}
-use Rattle.half_edge_mesh.specs.Triangles.{triangle_at, triangles}
-use Rattle.half_edge_mesh.specs.Outline.{IsOuterEdge}
-use Rattle.half_edge_links.proofs.Removing.Conditions.{alone_at}
-use Rattle.plane.specs.Fraction.{Point, whole, WithinSegment}
-use Rattle.plane.specs.Side.{Side, side, right, opposite}
-use Rattle.plane.specs.Location.{IsPast}
-use Rattle.plane.proofs.Bracket.{bracket, lift}
-use Rattle.plane.proofs.BracketIdentities.{bracket-swap, bracket-turn}
-use Rattle.plane.proofs.Collinear.{place_on, place_of_start, place_of_end, within_by_places}
-use Rattle.plane.proofs.LineOrder.{IsBetween, place_within}
-use Rattle.plane.proofs.Sides.{side_swapped}
-use Rattle.plane.proofs.Signs.{less_both_ways, less_if_not_same, less_is_not_same, opposite_of_zero}
-use Rattle.plane_tiling.proofs.Counting.{same_place}
-use Rattle.plane_tiling.proofs.Edges.{within_on}
-use Rattle.plane_tiling.proofs.Line.{Adjoin, SignLine}
-use Rattle.plane_tiling.proofs.LineMeshes.{line_by_signs}
-use Rattle.plane_tiling.proofs.LinePlaces.{ArePlaces, nearest_below, next_below}
-use Rattle.plane_tiling.proofs.Tiles.{point_at}
-use Rattle.mesh_embedding.specs.Drawn.{drawn, faces_of, outer_of, corners_of}
-use Rattle.mesh_embedding.proofs.OuterEdges.{listed, real}
-use Rattle.delaunay_core.specs.Place.{place_of}
+use Rattle.delaunay_legalization.specs.half_edge_mesh.Mesh.{Mesh, origin, next, face, rev}
+use Rattle.delaunay_legalization.specs.half_edge_mesh.Triangles.{triangle_at, triangles}
+use Rattle.delaunay_legalization.specs.half_edge_mesh.Outline.{IsOuterEdge}
+use Rattle.delaunay_legalization.proofs.half_edge_links.Removing.Conditions.{alone_at}
+use Rattle.delaunay_legalization.specs.plane.Fraction.{Point, whole, WithinSegment}
+use Rattle.delaunay_legalization.specs.plane.Side.{Side, side, right, opposite}
+use Rattle.delaunay_legalization.specs.plane.Location.{IsPast}
+use Rattle.delaunay_legalization.proofs.plane.Bracket.{bracket, lift}
+use Rattle.delaunay_legalization.proofs.plane.BracketIdentities.{bracket-swap, bracket-turn}
+use Rattle.delaunay_legalization.proofs.plane.Collinear.{place_on, place_of_start, place_of_end}
+use Rattle.delaunay_legalization.proofs.plane.Collinear.{within_by_places}
+use Rattle.delaunay_legalization.proofs.plane.LineOrder.{IsBetween, place_within}
+use Rattle.delaunay_legalization.proofs.plane.Sides.{side_swapped}
+use Rattle.delaunay_legalization.proofs.plane.Signs.{less_both_ways, less_if_not_same}
+use Rattle.delaunay_legalization.proofs.plane.Signs.{less_is_not_same, opposite_of_zero}
+use Rattle.delaunay_legalization.proofs.plane_tiling.Counting.{same_place}
+use Rattle.delaunay_legalization.proofs.plane_tiling.Edges.{within_on}
+use Rattle.delaunay_legalization.proofs.plane_tiling.Line.{Adjoin, SignLine}
+use Rattle.delaunay_legalization.proofs.plane_tiling.LineMeshes.{line_by_signs}
+use Rattle.delaunay_legalization.proofs.plane_tiling.LinePlaces.{ArePlaces, nearest_below}
+use Rattle.delaunay_legalization.proofs.plane_tiling.LinePlaces.{next_below}
+use Rattle.delaunay_legalization.proofs.plane_tiling.Tiles.{point_at}
+use Rattle.delaunay_legalization.specs.mesh_embedding.Drawn.{drawn, faces_of, outer_of, corners_of}
+use Rattle.delaunay_legalization.proofs.mesh_embedding.OuterEdges.{listed, real}
+use Rattle.delaunay_legalization.specs.delaunay_core.Place.{place_of}
 use Rattle.delaunay_legalization.specs.Parts.{IsMeshEdge}
 use Rattle.delaunay_legalization.specs.Shape.{IsTriangulated}
 use Rattle.delaunay_legalization.specs.State.{State}

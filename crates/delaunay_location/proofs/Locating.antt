@@ -7,39 +7,42 @@ use Rattle.std.specs.Prelude.{ℤ, pos, ◌*ℤ◌, ◌≤ℤ◌, Contains}
 use Rattle.std.proofs.lemmas.Int.{ints}
 use Rattle.std.proofs.lemmas.Bool.{cases_eq}
 use Rattle.std.proofs.lemmas.List.{length-map, get_or-map}
-use Rattle.half_edge_mesh.specs.Mesh.{Mesh, origin, face, face_edge, rev}
-use Rattle.half_edge_mesh.specs.Triangles.{triangle_at, triangles}
-use Rattle.plane.specs.Fraction.{Point, whole, IsSame, WithinSegment, InsideTriangle}
-use Rattle.plane.specs.Side.{TurnsLeft}
-use Rattle.plane.specs.Circle.{gap}
-use Rattle.plane.specs.Pairs.{place}
-use Rattle.plane.specs.Tiling.{Face, IsEdge, IsFace, HasFace}
-use Rattle.plane.specs.Tiling as T
-use Rattle.plane.specs.Location.{Location, on_vertex, on_edge, on_face, outside_hull}
-use Rattle.plane.specs.Location.{no_triangulation, IsLocation, IsOuter, IsPast}
-use Rattle.plane.proofs.Triangles.{turned_inside}
-use Rattle.plane_tiling.specs.Local.{IsMesh}
-use Rattle.plane_tiling.proofs.Tiles.{by_signs, point_at}
-use Rattle.plane_tiling.proofs.Loops as L
-use Rattle.plane_tiling.proofs.Places as P
-use Rattle.plane_tiling.proofs.Locations.{each_point_has_one_location}
+use Rattle.delaunay_legalization.specs.half_edge_mesh.Mesh.{Mesh, origin, face, face_edge, rev}
+use Rattle.delaunay_legalization.specs.half_edge_mesh.Triangles.{triangle_at, triangles}
+use Rattle.delaunay_legalization.specs.plane.Fraction.{Point, whole, IsSame, WithinSegment}
+use Rattle.delaunay_legalization.specs.plane.Fraction.{InsideTriangle}
+use Rattle.delaunay_legalization.specs.plane.Side.{TurnsLeft}
+use Rattle.delaunay_legalization.specs.plane.Circle.{gap}
+use Rattle.delaunay_legalization.specs.plane.Pairs.{place}
+use Rattle.delaunay_legalization.specs.plane.Tiling.{Face, IsEdge, IsFace, HasFace}
+use Rattle.delaunay_legalization.specs.plane.Tiling as T
+use Rattle.delaunay_legalization.specs.plane.Location.{Location, on_vertex, on_edge, on_face}
+use Rattle.delaunay_legalization.specs.plane.Location.{outside_hull, no_triangulation, IsLocation}
+use Rattle.delaunay_legalization.specs.plane.Location.{IsOuter, IsPast}
+use Rattle.delaunay_legalization.proofs.plane.Triangles.{turned_inside}
+use Rattle.delaunay_legalization.specs.plane_tiling.Local.{IsMesh}
+use Rattle.delaunay_legalization.proofs.plane_tiling.Tiles.{by_signs, point_at}
+use Rattle.delaunay_legalization.proofs.plane_tiling.Loops as L
+use Rattle.delaunay_legalization.proofs.plane_tiling.Places as P
+use Rattle.delaunay_legalization.proofs.plane_tiling.Locations.{each_point_has_one_location}
 use Rattle.delaunay_location.specs.declared.position_in_triangulation.PositionInTriangulation.TheVariants.{
   OnVertex,
   OnFace,
   OutsideOfConvexHull,
 }
-use Rattle.mesh_embedding.specs.Drawn.{drawn, faces_of, edges_of, outer_of, corners_of}
-use Rattle.mesh_embedding.proofs.OwnEdges.{own_edges}
-use Rattle.mesh_embedding.proofs.OuterEdges.{real}
+use Rattle.delaunay_legalization.specs.mesh_embedding.Drawn.{drawn, faces_of, edges_of, outer_of}
+use Rattle.delaunay_legalization.specs.mesh_embedding.Drawn.{corners_of}
+use Rattle.delaunay_legalization.proofs.mesh_embedding.OwnEdges.{own_edges}
+use Rattle.delaunay_legalization.proofs.mesh_embedding.OuterEdges.{real}
 use Rattle.delaunay_legalization.specs.State.{State}
 use Rattle.delaunay_legalization.specs.Shape.{IsTriangulated}
 use Rattle.delaunay_legalization.specs.Parts.{IsApart, IsInsideFaceOf}
 use Rattle.delaunay_location.specs.Location.{Locates, IsClearOfEdge, StartsNearest}
-use Rattle.mesh_embedding.proofs.EdgePairs.{joins_edge, Contains-map_from}
+use Rattle.delaunay_legalization.proofs.mesh_embedding.EdgePairs.{joins_edge, Contains-map_from}
 use Rattle.delaunay_legalization.proofs.Shapes.{laid_out_distinct}
 use Rattle.delaunay_legalization.proofs.MeshParts.{mesh_edge, mesh_face, no_side}
 use Rattle.delaunay_location.proofs.Distances.{nearer_of_within}
-use Rattle.plane.proofs.Signs.{below_and_not_below}
+use Rattle.delaunay_legalization.proofs.plane.Signs.{below_and_not_below}
 
 same_number : (a b : ℤ) → a *ℤ pos 1 ≡ b *ℤ pos 1 → b ≡ a
 same_number a b e = omega (arith, ints)

@@ -3,7 +3,7 @@
 use Rattle.std.proofs.Common.{◌≡◌, ◌⊎◌, ℕ, ◌+◌, ◌<◌, arith, below_more, subst, inl, inr}
 use Rattle.std.specs.Prelude.{ℤ, ◌<ℤ◌, ◌≤ℤ◌}
 use Rattle.std.proofs.lemmas.Int.{ints}
-use Rattle.plane.proofs.Signs.{at_most_if_not_less, less_through}
+use Rattle.delaunay_legalization.proofs.plane.Signs.{at_most_if_not_less, less_through}
 
 itself : (a : ℤ) → a ≤ℤ a
 itself a = omega (arith, ints)

@@ -9,18 +9,18 @@ use Rattle.std.proofs.Math.Nat.{lt_of_lt_of_le}
 use Rattle.std.proofs.lemmas.Int.{ints}
 use Rattle.std.proofs.lemmas.List.{get_or_default}
 use Rattle.std.proofs.lemmas.List.Sums.{count_by-le-length}
-use Rattle.half_edge_mesh.specs.Mesh.{Mesh, origin, AreSoundLinks}
-use Rattle.plane.specs.Fraction.{Point, Fraction, whole}
-use Rattle.plane.specs.Circle.{gap, IsNearer}
-use Rattle.plane.specs.Pairs.{place}
-use Rattle.plane.specs.Tiling.{Triangulation, vertex}
-use Rattle.plane.proofs.Sides.{test_false}
+use Rattle.delaunay_legalization.specs.half_edge_mesh.Mesh.{Mesh, origin, AreSoundLinks}
+use Rattle.delaunay_legalization.specs.plane.Fraction.{Point, Fraction, whole}
+use Rattle.delaunay_legalization.specs.plane.Circle.{gap, IsNearer}
+use Rattle.delaunay_legalization.specs.plane.Pairs.{place}
+use Rattle.delaunay_legalization.specs.plane.Tiling.{Triangulation, vertex}
+use Rattle.delaunay_legalization.proofs.plane.Sides.{test_false}
 use Rattle.plane_delaunay.specs.Nearer.{is_nearer, nearer_count}
 use Rattle.plane_delaunay.proofs.Circles.NearerCount.{nearer_count_falls}
 use Rattle.plane_delaunay.proofs.Points.Members.{member, sum_by-lt}
 use Rattle.delaunay_location.specs.Candidate.{EndsNoNearer, HasNoNearerNeighbor, IsMoveCount}
-use Rattle.mesh_embedding.proofs.EdgePairs.{joins_edge}
-use Rattle.plane.proofs.Signs.{less_with_ones, less_without_ones}
+use Rattle.delaunay_legalization.proofs.mesh_embedding.EdgePairs.{joins_edge}
+use Rattle.delaunay_legalization.proofs.plane.Signs.{less_with_ones, less_without_ones}
 
 -- which of two points is nearer, by their squared distances
 pub nearer_by_gaps : (p a b : Point) → gap (whole p) (whole a) <ℤ gap (whole p) (whole b) →

@@ -3,10 +3,11 @@
 -- next_face.
 use Rattle.std.proofs.Common.{◌≡◌, ◌↔◌, ℕ, ◌+◌, ◌<◌, ◌≤◌, arith, List, sym, subst, inl, inr}
 use Rattle.std.proofs.lemmas.Bool.{cases_eq}
-use Rattle.half_edge_mesh.specs.Mesh.{Mesh, origin, next, prev, face, face_edge, rev}
-use Rattle.plane.specs.Fraction.{Point, whole, WithinSegment, InsideTriangle}
-use Rattle.plane.specs.Side.{TurnsLeft}
-use Rattle.plane.specs.Pairs.{place}
+use Rattle.delaunay_legalization.specs.half_edge_mesh.Mesh.{Mesh, origin, next, prev, face}
+use Rattle.delaunay_legalization.specs.half_edge_mesh.Mesh.{face_edge, rev}
+use Rattle.delaunay_legalization.specs.plane.Fraction.{Point, whole, WithinSegment, InsideTriangle}
+use Rattle.delaunay_legalization.specs.plane.Side.{TurnsLeft}
+use Rattle.delaunay_legalization.specs.plane.Pairs.{place}
 use Rattle.delaunay_location.specs.declared.position_in_triangulation.PositionInTriangulation.TheVariants.{OutsideOfConvexHull}
 use Rattle.delaunay_legalization.specs.Known.{point_at}
 use Rattle.delaunay_legalization.specs.Parts.{IsMeshEdge, IsMeshFace, IsWithinEdge, IsInsideFaceOf}

@@ -4,15 +4,16 @@
 use Rattle.std.proofs.Common.{◌≡◌, ◌⊎◌, ℕ, ◌<◌, ◌≤◌, List, length, map}
 use Rattle.std.proofs.Common.{sym, ap, ◌∙◌, subst, inl, inr, arith}
 use Rattle.std.specs.Prelude.{ℤ}
-use Rattle.half_edge_mesh.specs.Mesh.{Mesh, origin, next, prev, face, face_edge, rev}
-use Rattle.half_edge_links.proofs.Lists.Rev.{rev-rev, rev_within}
-use Rattle.half_edge_links.proofs.Sound.Triangles as T
-use Rattle.plane.specs.Fraction.{Point, whole}
-use Rattle.plane.specs.Side.{Side, side, left, TurnsLeft}
-use Rattle.plane.specs.Pairs.{place}
-use Rattle.plane.proofs.Triangles.{inside_is_sides}
-use Rattle.delaunay_core.specs.Place.{place_of}
-use Rattle.delaunay_core.specs.declared.point.Point2.{Point2}
+use Rattle.delaunay_legalization.specs.half_edge_mesh.Mesh.{Mesh, origin, next, prev, face}
+use Rattle.delaunay_legalization.specs.half_edge_mesh.Mesh.{face_edge, rev}
+use Rattle.delaunay_legalization.proofs.half_edge_links.Lists.Rev.{rev-rev, rev_within}
+use Rattle.delaunay_legalization.proofs.half_edge_links.Sound.Triangles as T
+use Rattle.delaunay_legalization.specs.plane.Fraction.{Point, whole}
+use Rattle.delaunay_legalization.specs.plane.Side.{Side, side, left, TurnsLeft}
+use Rattle.delaunay_legalization.specs.plane.Pairs.{place}
+use Rattle.delaunay_legalization.proofs.plane.Triangles.{inside_is_sides}
+use Rattle.delaunay_legalization.specs.delaunay_core.Place.{place_of}
+use Rattle.delaunay_legalization.specs.delaunay_core.declared.point.Point2.{Point2}
 use Rattle.delaunay_legalization.specs.Known.{point_at}
 use Rattle.delaunay_legalization.specs.Parts.{IsInsideFaceOf}
 use Rattle.delaunay_legalization.specs.Shape.{IsTriangulated}

@@ -1,13 +1,14 @@
 -- What an answer to a location says: vertices in place of handles.
 use Rattle.std.specs.Prelude.{◌≡◌, ℕ, ◌<◌, ◌≤ℤ◌, List, length}
-use Rattle.half_edge_mesh.specs.Mesh.{Mesh, origin, face, face_edge, rev, IsInner}
-use Rattle.half_edge_mesh.specs.Triangles.{triangle_at}
-use Rattle.plane.specs.Fraction.{Point, whole}
-use Rattle.plane.specs.Side.{TurnsLeft}
-use Rattle.plane.specs.Circle.{gap}
-use Rattle.plane.specs.Pairs.{place}
-use Rattle.plane.specs.Location.{Location, IsLocation, on_vertex, on_edge, on_face, outside_hull}
-use Rattle.plane.specs.Location.{no_triangulation}
+use Rattle.delaunay_legalization.specs.half_edge_mesh.Mesh.{Mesh, origin, face, face_edge, rev}
+use Rattle.delaunay_legalization.specs.half_edge_mesh.Mesh.{IsInner}
+use Rattle.delaunay_legalization.specs.half_edge_mesh.Triangles.{triangle_at}
+use Rattle.delaunay_legalization.specs.plane.Fraction.{Point, whole}
+use Rattle.delaunay_legalization.specs.plane.Side.{TurnsLeft}
+use Rattle.delaunay_legalization.specs.plane.Circle.{gap}
+use Rattle.delaunay_legalization.specs.plane.Pairs.{place}
+use Rattle.delaunay_legalization.specs.plane.Location.{Location, IsLocation, on_vertex, on_edge}
+use Rattle.delaunay_legalization.specs.plane.Location.{on_face, outside_hull, no_triangulation}
 use Rattle.delaunay_location.specs.declared.position_in_triangulation.PositionInTriangulation.{PositionInTriangulation}
 use Rattle.delaunay_location.specs.declared.position_in_triangulation.PositionInTriangulation.TheVariants.{OnVertex}
 use Rattle.delaunay_location.specs.declared.position_in_triangulation.PositionInTriangulation.TheVariants.{OnEdge}
@@ -15,7 +16,7 @@ use Rattle.delaunay_location.specs.declared.position_in_triangulation.PositionIn
 use Rattle.delaunay_location.specs.declared.position_in_triangulation.PositionInTriangulation.TheVariants.{OutsideOfConvexHull}
 use Rattle.delaunay_location.specs.declared.position_in_triangulation.PositionInTriangulation.TheVariants.{NoTriangulation}
 use Rattle.delaunay_legalization.specs.Parts.{IsWithinEdge}
-use Rattle.mesh_embedding.specs.Drawn.{drawn}
+use Rattle.delaunay_legalization.specs.mesh_embedding.Drawn.{drawn}
 
 -- the location that an answer says, by the vertices of the part that it names
 abbrev pub location_of : Mesh → PositionInTriangulation → Location

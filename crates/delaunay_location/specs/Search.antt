@@ -1,7 +1,7 @@
 -- What a search finds.
 use Rattle.std.specs.Prelude.{ℕ, map}
-use Rattle.half_edge_mesh.specs.Mesh.{face_edge}
-use Rattle.plane.specs.Fraction.{Point}
+use Rattle.delaunay_legalization.specs.half_edge_mesh.Mesh.{face_edge}
+use Rattle.delaunay_legalization.specs.plane.Fraction.{Point}
 use Rattle.delaunay_legalization.specs.Parts.{IsApart, IsInsideFaceOf}
 use Rattle.delaunay_location.specs.Location.{Locates, IsClearOfEdge}
 use Rattle.delaunay_location.specs.Seeking.{Seeking}

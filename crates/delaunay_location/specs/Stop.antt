@@ -1,9 +1,9 @@
 -- Where a walk from face to face is.
 use Rattle.std.specs.Prelude.{◌≡◌, ◌⊎◌, ℕ, ℤ, ◌<◌, List, length, map, IfSome}
-use Rattle.half_edge_mesh.specs.Mesh.{Mesh, origin, next, prev, rev}
-use Rattle.plane.specs.Fraction.{Point, whole}
-use Rattle.plane.specs.Side.{Side, side}
-use Rattle.delaunay_core.specs.Place.{place_of}
+use Rattle.delaunay_legalization.specs.half_edge_mesh.Mesh.{Mesh, origin, next, prev, rev}
+use Rattle.delaunay_legalization.specs.plane.Fraction.{Point, whole}
+use Rattle.delaunay_legalization.specs.plane.Side.{Side, side}
+use Rattle.delaunay_legalization.specs.delaunay_core.Place.{place_of}
 use Rattle.delaunay_legalization.specs.Known.{point_at}
 use Rattle.delaunay_location.specs.Search.{IsPlaceOf}
 use Rattle.delaunay_location.specs.Seeking.{Seeking}

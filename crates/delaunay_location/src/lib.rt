@@ -2,6 +2,9 @@
 //! nearest to it.
 #![tactic(auto)]
 
+pub use delaunay_legalization;
+pub use delaunay_legalization::{delaunay_core, half_edge_mesh};
+
 mod line;
 mod location;
 mod nearest_walk;

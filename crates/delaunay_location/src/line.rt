@@ -1,6 +1,6 @@
 //! Where a position is among vertices of one line, by a walk along it.
 ghost use Rattle.std.specs.Prelude.{◌≡◌, ◌<◌, length, IfSome};
-ghost use Rattle.half_edge_mesh.specs.Mesh.{next, rev};
+ghost use Rattle.delaunay_legalization.specs.half_edge_mesh.Mesh.{next, rev};
 ghost use Rattle.delaunay_location.specs.Search.{IsPlaceOf};
 ghost use Rattle.delaunay_location.specs.Stop.{IsWalkOf};
 
@@ -9,10 +9,10 @@ use crate::position_in_triangulation::PositionInTriangulation;
 use crate::search::Search;
 use crate::vertex_distance::is_nearer;
 use crate::walk::{FEW_STEPS, Walked, nearer_edge};
-use delaunay_core::math::PlaneTests;
-use delaunay_core::point::HasPosition;
+use delaunay_legalization::delaunay_core::math::PlaneTests;
+use delaunay_legalization::delaunay_core::point::HasPosition;
+use delaunay_legalization::half_edge_mesh::{FixedDirectedEdgeHandle, MeshViews};
 use delaunay_legalization::{is_same_point, is_strictly_within, position_of};
-use half_edge_mesh::{FixedDirectedEdgeHandle, MeshViews};
 
 impl<'a, V: HasPosition, DE, UE, F, P: PlaneTests<V::Scalar>> Search<'a, V, DE, UE, F, P> {
     // The location of a position that is strictly on one side of the line of all vertices: beyond

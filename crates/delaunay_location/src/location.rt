@@ -1,12 +1,12 @@
 //! Where a position is, by a look at all vertices, edges and faces.
 ghost use Rattle.std.specs.Prelude.{◌≡◌, ◌↔◌, ℕ, ◌<◌, ◌≤◌, ◌<ℤ◌};
 ghost use Rattle.std.specs.Prelude.{length, map, IsTrue, MatchOption};
-ghost use Rattle.half_edge_mesh.specs.Mesh.{origin};
-ghost use Rattle.plane.specs.Fraction.{whole as fraction};
-ghost use Rattle.plane.specs.Circle.{gap};
-ghost use Rattle.plane.specs.Pairs.{place};
-ghost use Rattle.plane.specs.Tests.{InRange};
-ghost use Rattle.delaunay_core.specs.Place.{place_of};
+ghost use Rattle.delaunay_legalization.specs.half_edge_mesh.Mesh.{origin};
+ghost use Rattle.delaunay_legalization.specs.plane.Fraction.{whole as fraction};
+ghost use Rattle.delaunay_legalization.specs.plane.Circle.{gap};
+ghost use Rattle.delaunay_legalization.specs.plane.Pairs.{place};
+ghost use Rattle.delaunay_legalization.specs.plane.Tests.{InRange};
+ghost use Rattle.delaunay_legalization.specs.delaunay_core.Place.{place_of};
 ghost use Rattle.delaunay_legalization.specs.Known.{point_at};
 ghost use Rattle.delaunay_legalization.specs.Shape.{IsTriangulated};
 ghost use Rattle.delaunay_legalization.specs.State.{state_of};
@@ -17,12 +17,14 @@ ghost use Rattle.delaunay_location.specs.Search.{IsAtNoVertex, IsClear, IsInFace
 use crate::parts::{corners_of, ends_of};
 use crate::position_in_triangulation::PositionInTriangulation;
 use crate::search::Search;
-use delaunay_core::math::PlaneTests;
-use delaunay_core::point::{HasPosition, Point2};
+use delaunay_legalization::delaunay_core::math::PlaneTests;
+use delaunay_legalization::delaunay_core::point::{HasPosition, Point2};
+use delaunay_legalization::half_edge_mesh::{
+    Dcel, FixedDirectedEdgeHandle, FixedFaceHandle, FixedVertexHandle,
+};
 use delaunay_legalization::{
     is_outer, is_same_point, is_strictly_inside, is_strictly_within, position_of, turns_left,
 };
-use half_edge_mesh::{Dcel, FixedDirectedEdgeHandle, FixedFaceHandle, FixedVertexHandle};
 
 // The vertex at a position.
 fn vertex_at<V: HasPosition, DE, UE, F>(

@@ -1,14 +1,14 @@
 //! The vertex that is nearest to a position, by a walk from neighbour to neighbour.
 ghost use Rattle.std.specs.Prelude.{◌≡◌, ◌+◌, ◌<◌, ◌≤◌, ◌^◌, [], length, map, MatchOption};
-ghost use Rattle.half_edge_mesh.specs.Mesh.{next, origin, rev};
-ghost use Rattle.plane.specs.Fraction.{whole as fraction};
-ghost use Rattle.plane.specs.Circle.{gap};
-ghost use Rattle.plane.specs.Pairs.{place};
-ghost use Rattle.plane.specs.Delaunay.{IsConstrainedDelaunay};
-ghost use Rattle.plane.specs.Shape.{IsNearest};
-ghost use Rattle.plane.specs.Tests.{InRange};
+ghost use Rattle.delaunay_legalization.specs.half_edge_mesh.Mesh.{next, origin, rev};
+ghost use Rattle.delaunay_legalization.specs.plane.Fraction.{whole as fraction};
+ghost use Rattle.delaunay_legalization.specs.plane.Circle.{gap};
+ghost use Rattle.delaunay_legalization.specs.plane.Pairs.{place};
+ghost use Rattle.delaunay_legalization.specs.plane.Delaunay.{IsConstrainedDelaunay};
+ghost use Rattle.delaunay_legalization.specs.plane.Shape.{IsNearest};
+ghost use Rattle.delaunay_legalization.specs.plane.Tests.{InRange};
 ghost use Rattle.plane_delaunay.specs.Nearer.{nearer_count};
-ghost use Rattle.delaunay_core.specs.Place.{place_of};
+ghost use Rattle.delaunay_legalization.specs.delaunay_core.Place.{place_of};
 ghost use Rattle.delaunay_legalization.specs.Shape.{IsTriangulated};
 ghost use Rattle.delaunay_legalization.specs.State.{state_of, triangulation_of};
 ghost use Rattle.delaunay_location.specs.Candidate.{EndsNoNearer, HasNoNearerNeighbor, IsCandidate};
@@ -18,8 +18,10 @@ ghost use Rattle.delaunay_location.specs.Candidate.{IsNearerCandidate};
 use crate::parts::end_vertex;
 use crate::samples::nearer_sample;
 use crate::vertex_distance::distance_2_to;
-use delaunay_core::point::{HasPosition, Point2};
-use half_edge_mesh::{Dcel, FixedDirectedEdgeHandle, FixedVertexHandle, MeshViews};
+use delaunay_legalization::delaunay_core::point::{HasPosition, Point2};
+use delaunay_legalization::half_edge_mesh::{
+    Dcel, FixedDirectedEdgeHandle, FixedVertexHandle, MeshViews,
+};
 
 // After so many moves a walk looks for a nearer vertex anywhere in the mesh.
 const FEW_MOVES: u64 = 16;

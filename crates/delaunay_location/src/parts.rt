@@ -1,18 +1,18 @@
 //! The positions of vertices, of the ends of edges and of the corners of faces.
 ghost use Rattle.std.specs.Prelude.{◌≡◌, ◌<◌, ◌≤◌, length, map};
-ghost use Rattle.half_edge_mesh.specs.Mesh.{origin, rev, face_edge};
-ghost use Rattle.half_edge_mesh.specs.Triangles.{triangle_at};
-ghost use Rattle.delaunay_core.specs.Place.{place_of};
+ghost use Rattle.delaunay_legalization.specs.half_edge_mesh.Mesh.{origin, rev, face_edge};
+ghost use Rattle.delaunay_legalization.specs.half_edge_mesh.Triangles.{triangle_at};
+ghost use Rattle.delaunay_legalization.specs.delaunay_core.Place.{place_of};
 ghost use Rattle.delaunay_legalization.specs.Known.{point_at};
 ghost use Rattle.delaunay_legalization.specs.Shape.{IsTriangulated};
 ghost use Rattle.delaunay_legalization.specs.State.{state_of};
 ghost use Rattle.delaunay_legalization.specs.Parts.{IsMeshEdge, IsMeshFace};
 
-use delaunay_core::point::{HasPosition, Point2};
-use delaunay_legalization::position_of;
-use half_edge_mesh::{
+use delaunay_legalization::delaunay_core::point::{HasPosition, Point2};
+use delaunay_legalization::half_edge_mesh::{
     Dcel, FixedDirectedEdgeHandle, FixedFaceHandle, FixedVertexHandle, MeshViews,
 };
+use delaunay_legalization::position_of;
 
 // The vertex where an edge ends.
 pub(crate) fn end_vertex<V, DE, UE, F>(

@@ -1,5 +1,7 @@
 //! The answer to a location.
-use half_edge_mesh::{FixedDirectedEdgeHandle, FixedFaceHandle, FixedVertexHandle};
+use delaunay_legalization::half_edge_mesh::{
+    FixedDirectedEdgeHandle, FixedFaceHandle, FixedVertexHandle,
+};
 
 /// Where a position is in a triangulation.
 ///

@@ -1,16 +1,16 @@
 //! Vertices all over a mesh, of which one may be nearer to a position than where a search is.
 ghost use Rattle.std.specs.Prelude.{◌≡◌, ◌⊎◌, ◌+◌, ◌<◌, ◌≤◌, length};
-ghost use Rattle.plane.specs.Fraction.{whole as fraction};
-ghost use Rattle.plane.specs.Circle.{IsNearer};
-ghost use Rattle.plane.specs.Tests.{InRange};
-ghost use Rattle.plane.specs.Tiling.{vertex};
-ghost use Rattle.delaunay_core.specs.Place.{place_of};
+ghost use Rattle.delaunay_legalization.specs.plane.Fraction.{whole as fraction};
+ghost use Rattle.delaunay_legalization.specs.plane.Circle.{IsNearer};
+ghost use Rattle.delaunay_legalization.specs.plane.Tests.{InRange};
+ghost use Rattle.delaunay_legalization.specs.plane.Tiling.{vertex};
+ghost use Rattle.delaunay_legalization.specs.delaunay_core.Place.{place_of};
 ghost use Rattle.delaunay_legalization.specs.Shape.{IsTriangulated};
 ghost use Rattle.delaunay_legalization.specs.State.{state_of, triangulation_of};
 
 use crate::vertex_distance::is_nearer;
-use delaunay_core::point::{HasPosition, Point2};
-use half_edge_mesh::{Dcel, FixedVertexHandle};
+use delaunay_legalization::delaunay_core::point::{HasPosition, Point2};
+use delaunay_legalization::half_edge_mesh::{Dcel, FixedVertexHandle};
 
 // How far apart the indexes of samples are: of so many vertices about the cube root is taken.
 fn stride(count: usize) -> usize

@@ -1,7 +1,7 @@
 //! A search for a position in a mesh.
-use delaunay_core::math::PlaneTests;
-use delaunay_core::point::{HasPosition, Point2};
-use half_edge_mesh::Dcel;
+use delaunay_legalization::delaunay_core::math::PlaneTests;
+use delaunay_legalization::delaunay_core::point::{HasPosition, Point2};
+use delaunay_legalization::half_edge_mesh::Dcel;
 use std::marker::Model;
 
 /// A search for a position in the mesh of a triangulation, with tests that cover the position and
@@ -15,7 +15,7 @@ pub(crate) struct Search<'a, V: HasPosition, DE, UE, F, P: PlaneTests<V::Scalar>
 
 impl<'a, V: HasPosition, DE, UE, F, P: PlaneTests<V::Scalar>> Model
     for Search<'a, V, DE, UE, F, P> {
-    ghost use Rattle.delaunay_core.specs.Place.{place_of};
+    ghost use Rattle.delaunay_legalization.specs.delaunay_core.Place.{place_of};
     ghost use Rattle.delaunay_location.specs.Seeking.{IsSearch, Seeking};
 
     ghost Value = { Seeking V DE UE F P };

@@ -1,6 +1,6 @@
 //! The steps of a walk from face to face towards a position.
 ghost use Rattle.std.specs.Prelude.{◌≡◌, ◌<◌, length, IsFalse};
-ghost use Rattle.half_edge_mesh.specs.Mesh.{face, prev, rev};
+ghost use Rattle.delaunay_legalization.specs.half_edge_mesh.Mesh.{face, prev, rev};
 ghost use Rattle.delaunay_legalization.specs.Shape.{IsTriangulated};
 ghost use Rattle.delaunay_legalization.specs.State.{state_of};
 ghost use Rattle.delaunay_location.specs.Stop.{AreOtherSides, IsSideAt, IsStepOf, IsStopOf};
@@ -9,11 +9,11 @@ ghost use Rattle.delaunay_location.specs.declared.steps.Step.TheVariants.{Beyond
 use crate::parts::ends_of;
 use crate::position_in_triangulation::PositionInTriangulation;
 use crate::search::Search;
-use delaunay_core::line_side_info::LineSideInfo;
-use delaunay_core::math::PlaneTests;
-use delaunay_core::point::{HasPosition, Point2};
+use delaunay_legalization::delaunay_core::line_side_info::LineSideInfo;
+use delaunay_legalization::delaunay_core::math::PlaneTests;
+use delaunay_legalization::delaunay_core::point::{HasPosition, Point2};
+use delaunay_legalization::half_edge_mesh::{FixedDirectedEdgeHandle, MeshViews};
 use delaunay_legalization::{start_before, turns_left};
-use half_edge_mesh::{FixedDirectedEdgeHandle, MeshViews};
 
 // Where a walk is: in the face on the left of an edge. The positions of its ends are kept, so that
 // a step reads that of one vertex.

@@ -1,7 +1,7 @@
 //! Where a position is, by a walk from face to face.
 ghost use Rattle.std.specs.Prelude.{◌<◌, length, map, All, IfSome};
-ghost use Rattle.plane.specs.Tests.{InRange};
-ghost use Rattle.delaunay_core.specs.Place.{place_of};
+ghost use Rattle.delaunay_legalization.specs.plane.Tests.{InRange};
+ghost use Rattle.delaunay_legalization.specs.delaunay_core.Place.{place_of};
 ghost use Rattle.delaunay_legalization.specs.Shape.{IsTriangulated};
 ghost use Rattle.delaunay_legalization.specs.State.{state_of};
 ghost use Rattle.delaunay_location.specs.Location.{Locates};
@@ -13,10 +13,12 @@ use crate::position_in_triangulation::PositionInTriangulation;
 use crate::samples::nearer_sample;
 use crate::search::Search;
 use crate::steps::Step;
-use delaunay_core::math::PlaneTests;
-use delaunay_core::point::{HasPosition, Point2};
+use delaunay_legalization::delaunay_core::math::PlaneTests;
+use delaunay_legalization::delaunay_core::point::{HasPosition, Point2};
+use delaunay_legalization::half_edge_mesh::{
+    Dcel, FixedDirectedEdgeHandle, FixedVertexHandle, MeshViews,
+};
 use delaunay_legalization::{is_same_point, is_strictly_within};
-use half_edge_mesh::{Dcel, FixedDirectedEdgeHandle, FixedVertexHandle, MeshViews};
 
 // After so many steps a walk looks for a nearer vertex anywhere in the mesh.
 pub(crate) const FEW_STEPS: usize = 16;

@@ -8,43 +8,46 @@ use Rattle.std.proofs.Common.{ℕ, List, length, map, set, refl, sym, ap, subst,
 use Rattle.std.specs.Prelude.{Bool, true, false, All, nat_abs}
 use Rattle.std.proofs.lemmas.Bool.{cases_lt}
 use Rattle.std.proofs.lemmas.List.{get_or_past, length-set}
-use Rattle.half_edge_links.specs.declared.records.HalfEdge.{HalfEdge}
-use Rattle.half_edge_mesh.specs.Mesh.{Mesh, IsSoundEdge, no_edge, origin, rev}
-use Rattle.half_edge_links.proofs.Lists.Rev.{rev-rev, rev_within}
-use Rattle.half_edge_mesh.specs.Contents.{Contents, IsMeshWithData}
-use Rattle.plane.specs.Crossing.{Cross}
-use Rattle.plane.specs.Fraction.{Point}
-use Rattle.plane.specs.Laws.{squared_way}
-use Rattle.plane.specs.Pairs.{Joins, IsSamePair, IsIndex, place}
-use Rattle.plane.specs.Tests.{InRange}
-use Rattle.plane_edits.specs.Change.{IsFaceOf}
-use Rattle.plane_edits.specs.Legal.{AllPassBut, point_of}
-use Rattle.plane_edits.proofs.LocalMesh.Changes.{once_none}
-use Rattle.plane_tiling.proofs.Totals.{Contains-none}
-use Rattle.plane_tiling.specs.Local.{IsMesh}
-use Rattle.plane_segments.specs.Constraints.{AreNextOn, ArePlacedApart}
-use Rattle.plane_segments.specs.Path.{IsFreeOfVertices}
-use Rattle.plane_segments.proofs.Constraints.Adding.{IsAddingPath, adding_begins, adding_goes_on}
-use Rattle.plane_segments.proofs.Constraints.Adding.{adding_ends, adding_adds, piece_is_clear}
-use Rattle.plane_segments.proofs.Crossing.PathFlips.{piece_is_free}
-use Rattle.plane_segments.proofs.Constraints.Pieces.{path_ends}
-use Rattle.plane_segments.proofs.Constraints.Shorter.{path_shortens}
-use Rattle.plane_segments.proofs.Constraints.Whole.{piece_crosses_whole}
-use Rattle.mesh_embedding.specs.Drawn.{drawn, faces_of, outer_of}
-use Rattle.mesh_embedding.specs.Legal.{AreEdges, pairs_at}
-use Rattle.mesh_embedding.specs.Stays.{GoSameWay}
-use Rattle.mesh_embedding.proofs.EdgePairs as E
-use Rattle.mesh_embedding.proofs.FaceChanges.{turned_faces}
-use Rattle.mesh_embedding.proofs.MeshLegal.{joins_edge}
-use Rattle.mesh_embedding.proofs.MeshStars.{edge_of_face}
-use Rattle.mesh_embedding.proofs.MeshStays.{face_there, halved}
-use Rattle.delaunay_legalization.specs.Constraints.{marked_edges, constraint_pairs, constraints_by}
-use Rattle.delaunay_legalization.specs.Constraints.{points_and_constraints_by}
-use Rattle.delaunay_legalization.specs.Marking.{HasEdgeData}
-use Rattle.delaunay_legalization.specs.Shape.{IsTriangulated}
-use Rattle.delaunay_legalization.specs.State.{state_of}
-use Rattle.delaunay_legalization.proofs.ConstraintEdges.{constraints_are_edges}
-use Rattle.delaunay_legalization.proofs.MarkedPairs.{pairs_stay, marking_joins}
+use Rattle.delaunay_lines.specs.half_edge_links.declared.records.HalfEdge.{HalfEdge}
+use Rattle.delaunay_lines.specs.half_edge_mesh.Mesh.{Mesh, IsSoundEdge, no_edge, origin, rev}
+use Rattle.delaunay_lines.proofs.half_edge_links.Lists.Rev.{rev-rev, rev_within}
+use Rattle.delaunay_lines.specs.half_edge_mesh.Contents.{Contents, IsMeshWithData}
+use Rattle.delaunay_lines.specs.plane.Crossing.{Cross}
+use Rattle.delaunay_lines.specs.plane.Fraction.{Point}
+use Rattle.delaunay_lines.specs.plane.Laws.{squared_way}
+use Rattle.delaunay_lines.specs.plane.Pairs.{Joins, IsSamePair, IsIndex, place}
+use Rattle.delaunay_lines.specs.plane.Tests.{InRange}
+use Rattle.delaunay_lines.specs.plane_edits.Change.{IsFaceOf}
+use Rattle.delaunay_lines.specs.plane_edits.Legal.{AllPassBut, point_of}
+use Rattle.delaunay_lines.proofs.plane_edits.LocalMesh.Changes.{once_none}
+use Rattle.delaunay_lines.proofs.plane_tiling.Totals.{Contains-none}
+use Rattle.delaunay_lines.specs.plane_tiling.Local.{IsMesh}
+use Rattle.delaunay_lines.specs.plane_segments.Constraints.{AreNextOn, ArePlacedApart}
+use Rattle.delaunay_lines.specs.plane_segments.Path.{IsFreeOfVertices}
+use Rattle.delaunay_lines.proofs.plane_segments.Constraints.Adding.{IsAddingPath, adding_begins}
+use Rattle.delaunay_lines.proofs.plane_segments.Constraints.Adding.{adding_goes_on, adding_ends}
+use Rattle.delaunay_lines.proofs.plane_segments.Constraints.Adding.{adding_adds, piece_is_clear}
+use Rattle.delaunay_lines.proofs.plane_segments.Crossing.PathFlips.{piece_is_free}
+use Rattle.delaunay_lines.proofs.plane_segments.Constraints.Pieces.{path_ends}
+use Rattle.delaunay_lines.proofs.plane_segments.Constraints.Shorter.{path_shortens}
+use Rattle.delaunay_lines.proofs.plane_segments.Constraints.Whole.{piece_crosses_whole}
+use Rattle.delaunay_lines.specs.mesh_embedding.Drawn.{drawn, faces_of, outer_of}
+use Rattle.delaunay_lines.specs.mesh_embedding.Legal.{AreEdges, pairs_at}
+use Rattle.delaunay_lines.specs.mesh_embedding.Stays.{GoSameWay}
+use Rattle.delaunay_lines.proofs.mesh_embedding.EdgePairs as E
+use Rattle.delaunay_lines.proofs.mesh_embedding.FaceChanges.{turned_faces}
+use Rattle.delaunay_lines.proofs.mesh_embedding.MeshLegal.{joins_edge}
+use Rattle.delaunay_lines.proofs.mesh_embedding.MeshStars.{edge_of_face}
+use Rattle.delaunay_lines.proofs.mesh_embedding.MeshStays.{face_there, halved}
+use Rattle.delaunay_lines.specs.delaunay_legalization.Constraints.{marked_edges, constraint_pairs}
+use Rattle.delaunay_lines.specs.delaunay_legalization.Constraints.{constraints_by}
+use Rattle.delaunay_lines.specs.delaunay_legalization.Constraints.{points_and_constraints_by}
+use Rattle.delaunay_lines.specs.delaunay_legalization.Marking.{HasEdgeData}
+use Rattle.delaunay_lines.specs.delaunay_legalization.Shape.{IsTriangulated}
+use Rattle.delaunay_lines.specs.delaunay_legalization.State.{state_of}
+use Rattle.delaunay_lines.proofs.delaunay_legalization_lemmas.ConstraintEdges.{constraints_are_edges}
+use Rattle.delaunay_lines.proofs.delaunay_legalization_lemmas.MarkedPairs.{pairs_stay}
+use Rattle.delaunay_lines.proofs.delaunay_legalization_lemmas.MarkedPairs.{marking_joins}
 use Rattle.delaunay_paths.specs.Adding.{NoneCrosses, CanAddPath, MarksBetween, MarksSome, AddsPath}
 use Rattle.delaunay_paths.specs.Kept.{KeepsUncrossed, KeepsUncrossedFaces}
 use Rattle.delaunay_paths.specs.Leaving.{IsWorkList, LeavesFailing, LeavesToTest, MakesEdge}

@@ -5,22 +5,23 @@ use Rattle.std.proofs.Common.{◌≡◌, ◌⊎◌, ℕ, sym, subst, inl, inr, a
 use lib.IntN.{neg_ℤ, *ℤ_comm}
 use Rattle.std.specs.Prelude.{ℤ, pos, ◌+ℤ◌, ◌*ℤ◌, ◌≤ℤ◌, ◌<ℤ◌}
 use Rattle.std.proofs.lemmas.Int.{ints}
-use Rattle.plane.specs.Fraction.{Fraction, IsSame, IsNotNegative, IsPositive, OnSegment}
-use Rattle.plane.specs.Fraction.{WithinSegment}
-use Rattle.plane.specs.Line.{Meets, IsBefore, across, at_vertex}
-use Rattle.plane.specs.Tiling.{Triangulation, vertex}
-use Rattle.plane.proofs.Bracket.{vec}
-use Rattle.plane.proofs.IntegerOrder.{lt_or_ge_ℤ, mul-nonneg_ℤ, mul-pos_ℤ, mul-neg_of_pos_neg_ℤ}
-use Rattle.plane.proofs.IntegerOrder.{mul-nonpos_of_nonneg_nonpos_ℤ, pos_of_mul-pos_ℤ}
-use Rattle.plane.proofs.IntegerOrder.{neg_of_mul-neg_ℤ, zero-mul_ℤ}
-use Rattle.plane.proofs.Means.{TwoWeights, bracket_of_two, two_weights}
-use Rattle.plane.proofs.Segments.{same-sym}
-use Rattle.plane.proofs.Steps.{both_signs, drop_zero, weak}
-use Rattle.plane_delaunay.proofs.Points.Bracket.{bracket, bracket-second, bracket-swapped}
-use Rattle.plane_delaunay.proofs.Points.Bracket.{bracket-turned}
-use Rattle.plane_segments.proofs.Constraints.Pieces.{on_parts}
-use Rattle.plane_segments.proofs.Items.Begins.{Signs, above-same, after_crossing, before_crossing}
-use Rattle.plane_segments.proofs.Items.Begins.{met_if, signs_of}
+use Rattle.delaunay_lines.specs.plane.Fraction.{Fraction, IsSame, IsNotNegative, IsPositive}
+use Rattle.delaunay_lines.specs.plane.Fraction.{OnSegment, WithinSegment}
+use Rattle.delaunay_lines.specs.plane.Line.{Meets, IsBefore, across, at_vertex}
+use Rattle.delaunay_lines.specs.plane.Tiling.{Triangulation, vertex}
+use Rattle.delaunay_lines.proofs.plane.Bracket.{vec}
+use Rattle.delaunay_lines.proofs.plane.IntegerOrder.{lt_or_ge_ℤ, mul-nonneg_ℤ, mul-pos_ℤ}
+use Rattle.delaunay_lines.proofs.plane.IntegerOrder.{mul-neg_of_pos_neg_ℤ}
+use Rattle.delaunay_lines.proofs.plane.IntegerOrder.{mul-nonpos_of_nonneg_nonpos_ℤ}
+use Rattle.delaunay_lines.proofs.plane.IntegerOrder.{pos_of_mul-pos_ℤ, neg_of_mul-neg_ℤ, zero-mul_ℤ}
+use Rattle.delaunay_lines.proofs.plane.Means.{TwoWeights, bracket_of_two, two_weights}
+use Rattle.delaunay_lines.proofs.plane.Segments.{same-sym}
+use Rattle.delaunay_lines.proofs.plane.Steps.{both_signs, drop_zero, weak}
+use Rattle.delaunay_lines.proofs.plane_delaunay.Points.Bracket.{bracket, bracket-second}
+use Rattle.delaunay_lines.proofs.plane_delaunay.Points.Bracket.{bracket-swapped, bracket-turned}
+use Rattle.delaunay_lines.proofs.plane_segments.Constraints.Pieces.{on_parts}
+use Rattle.delaunay_lines.proofs.plane_segments.Items.Begins.{Signs, above-same, after_crossing}
+use Rattle.delaunay_lines.proofs.plane_segments.Items.Begins.{before_crossing, met_if, signs_of}
 
 -- ---- a point of the segment that is not its start
 -- the weights of such a point: that of the end is above 0

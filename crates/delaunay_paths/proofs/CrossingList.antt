@@ -7,16 +7,16 @@ use mathlib.Core.Logic.{inl, inr}
 use Rattle.std.specs.Prelude.{Contains}
 use Rattle.std.proofs.lemmas.Bool.{cases_eq}
 use Rattle.std.proofs.lemmas.List.Elements.{Contains-push_cases}
-use Rattle.half_edge_mesh.specs.Mesh.{Mesh, IsValidMesh, origin, rev}
-use Rattle.half_edge_mesh.specs.Flip.{IsFlippable, Flips}
-use Rattle.half_edge_links.proofs.Lists.Rev.{rev-rev}
-use Rattle.plane.specs.Fraction.{Point}
-use Rattle.plane.specs.Pairs.{place}
-use Rattle.plane.specs.Side.{side, left, right, TurnsLeft}
-use Rattle.mesh_embedding.specs.Stays.{GoSameWay}
-use Rattle.mesh_embedding.proofs.MeshStays.{halved}
-use Rattle.mesh_embedding.proofs.WorkLists.{contains_before, contains_last, last_not_before}
-use Rattle.mesh_embedding.proofs.WorkLists.{once_after, once_before}
+use Rattle.delaunay_lines.specs.half_edge_mesh.Mesh.{Mesh, IsValidMesh, origin, rev}
+use Rattle.delaunay_lines.specs.half_edge_mesh.Flip.{IsFlippable, Flips}
+use Rattle.delaunay_lines.proofs.half_edge_links.Lists.Rev.{rev-rev}
+use Rattle.delaunay_lines.specs.plane.Fraction.{Point}
+use Rattle.delaunay_lines.specs.plane.Pairs.{place}
+use Rattle.delaunay_lines.specs.plane.Side.{side, left, right, TurnsLeft}
+use Rattle.delaunay_lines.specs.mesh_embedding.Stays.{GoSameWay}
+use Rattle.delaunay_lines.proofs.mesh_embedding.MeshStays.{halved}
+use Rattle.delaunay_lines.proofs.mesh_embedding.WorkLists.{contains_before, contains_last}
+use Rattle.delaunay_lines.proofs.mesh_embedding.WorkLists.{last_not_before, once_after, once_before}
 use Rattle.delaunay_paths.specs.Crossing.{AreAllCrossing, AreOthersCrossing, CrossesFromRight}
 use Rattle.delaunay_paths.specs.Crossing.{GoesFromRight, ahead, behind}
 use Rattle.delaunay_paths.specs.Lists.{AreOnce, IsIn}

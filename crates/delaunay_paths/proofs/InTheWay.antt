@@ -4,23 +4,23 @@ use Rattle.std.proofs.Common.{◌≡◌, ◌⊎◌, ◌↔◌, ◌<◌}
 use Rattle.std.proofs.Common.{ℕ, Bool, true, false, IsTrue, List, length, map, Option, Some, None}
 use Rattle.std.proofs.Common.{is_some, refl, subst, inl, inr}
 use Rattle.std.specs.Prelude.{ℤ, not}
-use Rattle.half_edge_views.specs.declared.edge.DirectedEdgeHandle.{DirectedEdgeHandle}
-use Rattle.half_edge_mesh.specs.Contents.{Contents}
-use Rattle.plane.specs.Crossing.{Cross, MeetsWithin}
-use Rattle.plane.specs.Fraction.{Point, Fraction, whole, IsSame, WithinSegment}
-use Rattle.plane.specs.Pairs.{place, Joins}
-use Rattle.plane.proofs.Decisions.{decide_point}
-use Rattle.plane.proofs.Meetings.{cross_at_point}
-use Rattle.plane.proofs.Segments.{same-refl, within_segment-same}
-use Rattle.plane_tiling.proofs.Locations.{no_edges_cross}
-use Rattle.plane_segments.proofs.Constraints.Pieces.{on_parts}
-use Rattle.mesh_embedding.specs.Drawn.{edges_of, faces_of, outer_of}
-use Rattle.mesh_embedding.proofs.OwnEdges.{own_edges}
-use Rattle.delaunay_legalization.specs.Constraints.{marked_edges, constraints_by}
-use Rattle.delaunay_legalization.specs.Known.{point_at}
-use Rattle.delaunay_legalization.specs.Shape.{IsTriangulated}
-use Rattle.delaunay_legalization.specs.State.{state_of, triangulation_of}
-use Rattle.delaunay_legalization.proofs.ConstraintEdges.{constraints_are_edges}
+use Rattle.delaunay_lines.specs.half_edge_views.declared.edge.DirectedEdgeHandle.{DirectedEdgeHandle}
+use Rattle.delaunay_lines.specs.half_edge_mesh.Contents.{Contents}
+use Rattle.delaunay_lines.specs.plane.Crossing.{Cross, MeetsWithin}
+use Rattle.delaunay_lines.specs.plane.Fraction.{Point, Fraction, whole, IsSame, WithinSegment}
+use Rattle.delaunay_lines.specs.plane.Pairs.{place, Joins}
+use Rattle.delaunay_lines.proofs.plane.Decisions.{decide_point}
+use Rattle.delaunay_lines.proofs.plane.Meetings.{cross_at_point}
+use Rattle.delaunay_lines.proofs.plane.Segments.{same-refl, within_segment-same}
+use Rattle.delaunay_lines.proofs.plane_tiling.Locations.{no_edges_cross}
+use Rattle.delaunay_lines.proofs.plane_segments.Constraints.Pieces.{on_parts}
+use Rattle.delaunay_lines.specs.mesh_embedding.Drawn.{edges_of, faces_of, outer_of}
+use Rattle.delaunay_lines.proofs.mesh_embedding.OwnEdges.{own_edges}
+use Rattle.delaunay_lines.specs.delaunay_legalization.Constraints.{marked_edges, constraints_by}
+use Rattle.delaunay_lines.specs.delaunay_legalization.Known.{point_at}
+use Rattle.delaunay_lines.specs.delaunay_legalization.Shape.{IsTriangulated}
+use Rattle.delaunay_lines.specs.delaunay_legalization.State.{state_of, triangulation_of}
+use Rattle.delaunay_lines.proofs.delaunay_legalization_lemmas.ConstraintEdges.{constraints_are_edges}
 use Rattle.delaunay_lines.specs.declared.iterator.LineIntersectionIterator.{LineIntersectionIterator}
 use Rattle.delaunay_lines.specs.Conflicts.{GivesConflict, IntersectsConstraint}
 use Rattle.delaunay_lines.specs.Walk.{IsReady, WalksLine}

@@ -4,17 +4,18 @@ use Rattle.std.proofs.Common.{◌≡◌, ◌≢◌, ◌↔◌, ◌*◌, ◌/◌,
 use Rattle.std.proofs.Common.{ℕ, List, length, refl, sym, ap, subst, inl, inr, arith}
 use Rattle.std.specs.Prelude.{Bool, Contains}
 use Rattle.std.proofs.lemmas.Option.{slice_get_within}
-use Rattle.half_edge_mesh.specs.Mesh.{origin, rev}
-use Rattle.half_edge_links.proofs.Lists.Rev.{rev-rev, rev_within}
-use Rattle.half_edge_mesh.specs.Contents.{Contents}
-use Rattle.plane.specs.Fraction.{Point}
-use Rattle.plane.specs.Pairs.{Joins, IsSamePair}
-use Rattle.mesh_embedding.proofs.MeshLegal.{joins_edge, same_joined}
-use Rattle.delaunay_legalization.specs.Constraints.{marked_edges, constraint_pairs}
-use Rattle.delaunay_legalization.specs.Shape.{IsTriangulated}
-use Rattle.delaunay_legalization.specs.State.{state_of}
-use Rattle.delaunay_legalization.proofs.Constraints.{is_constraint_edge}
-use Rattle.delaunay_legalization.proofs.MarkedPairs.{JoinsByMark, mark_joins, same_as_third}
+use Rattle.delaunay_lines.specs.half_edge_mesh.Mesh.{origin, rev}
+use Rattle.delaunay_lines.proofs.half_edge_links.Lists.Rev.{rev-rev, rev_within}
+use Rattle.delaunay_lines.specs.half_edge_mesh.Contents.{Contents}
+use Rattle.delaunay_lines.specs.plane.Fraction.{Point}
+use Rattle.delaunay_lines.specs.plane.Pairs.{Joins, IsSamePair}
+use Rattle.delaunay_lines.proofs.mesh_embedding.MeshLegal.{joins_edge, same_joined}
+use Rattle.delaunay_lines.specs.delaunay_legalization.Constraints.{marked_edges, constraint_pairs}
+use Rattle.delaunay_lines.specs.delaunay_legalization.Shape.{IsTriangulated}
+use Rattle.delaunay_lines.specs.delaunay_legalization.State.{state_of}
+use Rattle.delaunay_lines.proofs.delaunay_legalization_lemmas.Constraints.{is_constraint_edge}
+use Rattle.delaunay_lines.proofs.delaunay_legalization_lemmas.MarkedPairs.{JoinsByMark, mark_joins}
+use Rattle.delaunay_lines.proofs.delaunay_legalization_lemmas.MarkedPairs.{same_as_third}
 use Rattle.delaunay_paths.proofs.AddingPieces.{half_ends}
 use Rattle.delaunay_paths.proofs.Releasing.{one_edge, double}
 

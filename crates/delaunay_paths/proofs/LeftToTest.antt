@@ -3,32 +3,35 @@
 use Rattle.std.proofs.Common.{◌≡◌, ◌≢◌, ◌⊎◌, ◌/◌, [], ◌∷◌, ◌∙◌}
 use Rattle.std.proofs.Common.{ℕ, List, length, refl, sym, subst, inl, inr}
 use Rattle.std.specs.Prelude.{Contains}
-use Rattle.half_edge_mesh.specs.Mesh.{Mesh, IsValidMesh, origin, next, prev, rev}
-use Rattle.half_edge_mesh.specs.Flip.{IsFlippable, Flips}
-use Rattle.half_edge_links.proofs.Faces.FlipSound.{origin_kept}
-use Rattle.half_edge_links.proofs.Sound.Triangles as T
-use Rattle.half_edge_links.specs.Places.{AreSixPlaces}
-use Rattle.plane.specs.Crossing.{Cross}
-use Rattle.plane.specs.Fraction.{Point, IsSame, OnSegment}
-use Rattle.plane.specs.Pairs.{place, Joins, IsSamePair}
-use Rattle.plane.specs.Tiling.{Face, face as corners, IsEdge}
-use Rattle.plane.proofs.Segments.{end_on_segment, same-sym, start_on_segment, within_segment-same}
-use Rattle.plane.proofs.Indexes.{turned_join}
-use Rattle.plane_tiling.specs.Local.{IsMesh}
-use Rattle.plane_tiling.proofs.Locations.{no_edges_cross}
-use Rattle.plane_edits.specs.Change.{FacesChange, IsFaceOf}
-use Rattle.plane_edits.specs.Legal.{AllPassBut, Pass}
-use Rattle.plane_edits.proofs.LocalMesh.Changes.{each, each_none, face_from, turn_of_all}
-use Rattle.mesh_embedding.specs.Drawn.{drawn, edges_of, faces_of, outer_of}
-use Rattle.mesh_embedding.specs.Legal.{GainsRound, pairs_at}
-use Rattle.mesh_embedding.proofs.EdgePairs.{edge_joins}
-use Rattle.mesh_embedding.proofs.FaceChanges.{turned_faces}
-use Rattle.mesh_embedding.proofs.MeshEdits.{start_of_twin, end_of_twin}
-use Rattle.mesh_embedding.proofs.MeshLegal.{joins_directed, listed_edge}
-use Rattle.mesh_embedding.proofs.MeshStars.{edge_of_face}
-use Rattle.mesh_embedding.proofs.OwnEdges.{own_edges}
-use Rattle.mesh_embedding.proofs.TurnedEnds.{KeepsOtherOrigins, other_ends_stay, ends_at_next}
-use Rattle.delaunay_legalization.specs.Known.{point_at}
+use Rattle.delaunay_lines.specs.half_edge_mesh.Mesh.{Mesh, IsValidMesh, origin, next, prev, rev}
+use Rattle.delaunay_lines.specs.half_edge_mesh.Flip.{IsFlippable, Flips}
+use Rattle.delaunay_lines.proofs.half_edge_links.Faces.FlipSound.{origin_kept}
+use Rattle.delaunay_lines.proofs.half_edge_links.Sound.Triangles as T
+use Rattle.delaunay_lines.specs.half_edge_links.Places.{AreSixPlaces}
+use Rattle.delaunay_lines.specs.plane.Crossing.{Cross}
+use Rattle.delaunay_lines.specs.plane.Fraction.{Point, IsSame, OnSegment}
+use Rattle.delaunay_lines.specs.plane.Pairs.{place, Joins, IsSamePair}
+use Rattle.delaunay_lines.specs.plane.Tiling.{Face, face as corners, IsEdge}
+use Rattle.delaunay_lines.proofs.plane.Segments.{end_on_segment, same-sym, start_on_segment}
+use Rattle.delaunay_lines.proofs.plane.Segments.{within_segment-same}
+use Rattle.delaunay_lines.proofs.plane.Indexes.{turned_join}
+use Rattle.delaunay_lines.specs.plane_tiling.Local.{IsMesh}
+use Rattle.delaunay_lines.proofs.plane_tiling.Locations.{no_edges_cross}
+use Rattle.delaunay_lines.specs.plane_edits.Change.{FacesChange, IsFaceOf}
+use Rattle.delaunay_lines.specs.plane_edits.Legal.{AllPassBut, Pass}
+use Rattle.delaunay_lines.proofs.plane_edits.LocalMesh.Changes.{each, each_none, face_from}
+use Rattle.delaunay_lines.proofs.plane_edits.LocalMesh.Changes.{turn_of_all}
+use Rattle.delaunay_lines.specs.mesh_embedding.Drawn.{drawn, edges_of, faces_of, outer_of}
+use Rattle.delaunay_lines.specs.mesh_embedding.Legal.{GainsRound, pairs_at}
+use Rattle.delaunay_lines.proofs.mesh_embedding.EdgePairs.{edge_joins}
+use Rattle.delaunay_lines.proofs.mesh_embedding.FaceChanges.{turned_faces}
+use Rattle.delaunay_lines.proofs.mesh_embedding.MeshEdits.{start_of_twin, end_of_twin}
+use Rattle.delaunay_lines.proofs.mesh_embedding.MeshLegal.{joins_directed, listed_edge}
+use Rattle.delaunay_lines.proofs.mesh_embedding.MeshStars.{edge_of_face}
+use Rattle.delaunay_lines.proofs.mesh_embedding.OwnEdges.{own_edges}
+use Rattle.delaunay_lines.proofs.mesh_embedding.TurnedEnds.{KeepsOtherOrigins, other_ends_stay}
+use Rattle.delaunay_lines.proofs.mesh_embedding.TurnedEnds.{ends_at_next}
+use Rattle.delaunay_lines.specs.delaunay_legalization.Known.{point_at}
 use Rattle.delaunay_paths.specs.Kept.{KeepsUncrossed}
 use Rattle.delaunay_paths.specs.Leaving.{AllPassAway, IsCrossedFace}
 use Rattle.delaunay_paths.proofs.Walking.{not_start}

@@ -12,30 +12,32 @@ use Rattle.std.proofs.lemmas.List.{length-map}
 use Rattle.std.proofs.lemmas.List.Elements.{Contains-append_cases, Contains-append_left}
 use Rattle.std.proofs.lemmas.List.Elements.{Contains-push_cases}
 use Rattle.std.specs.Borrow.{Bor}
-use Rattle.half_edge_mesh.specs.Contents.{Contents, IsMeshWithData}
-use Rattle.half_edge_mesh.specs.Mesh.{Mesh, IsValidMesh, origin, rev}
-use Rattle.half_edge_links.proofs.Lists.Rev.{rev-rev, rev_within}
-use Rattle.plane.specs.Fraction.{Fraction, Point, IsSame, WithinSegment}
-use Rattle.plane.specs.Line.{Item, IsBefore, IsLineList, Meets, across, along, at_vertex}
-use Rattle.plane.specs.Pairs.{place, IsIndex}
-use Rattle.plane.specs.Tiling.{Triangulation}
-use Rattle.plane_edits.proofs.LocalMesh.Changes.{once_none, once_head, once_tail, once_cons}
-use Rattle.plane_segments.specs.Constraints.{AreNextOn, ArePlacedApart}
-use Rattle.plane_segments.specs.Path.{IsFreeOfVertices}
-use Rattle.plane_segments.proofs.Constraints.Pieces.{on_parts}
-use Rattle.plane_segments.proofs.Crossing.PathFlips.{piece_is_free}
-use Rattle.plane_tiling.specs.Local.{IsMesh}
-use Rattle.plane_tiling.proofs.Totals.{Contains-cases, Contains-head, Contains-later}
-use Rattle.plane_tiling.proofs.Totals.{Contains-none}
-use Rattle.mesh_embedding.specs.Drawn.{drawn, faces_of, outer_of}
-use Rattle.mesh_embedding.specs.Legal.{AreEdges}
-use Rattle.mesh_embedding.proofs.MeshLegal.{few_edges, own_indexes, room_for_one}
-use Rattle.mesh_embedding.proofs.MeshStays.{half_same}
-use Rattle.mesh_embedding.proofs.WorkLists.{contains_before, contains_last, contains_map_from}
-use Rattle.mesh_embedding.proofs.WorkLists.{once_after}
-use Rattle.delaunay_legalization.specs.Known.{point_at}
-use Rattle.delaunay_legalization.specs.State.{State, state_of}
-use Rattle.delaunay_legalization.proofs.Legalizing.{half_within}
+use Rattle.delaunay_lines.specs.half_edge_mesh.Contents.{Contents, IsMeshWithData}
+use Rattle.delaunay_lines.specs.half_edge_mesh.Mesh.{Mesh, IsValidMesh, origin, rev}
+use Rattle.delaunay_lines.proofs.half_edge_links.Lists.Rev.{rev-rev, rev_within}
+use Rattle.delaunay_lines.specs.plane.Fraction.{Fraction, Point, IsSame, WithinSegment}
+use Rattle.delaunay_lines.specs.plane.Line.{Item, IsBefore, IsLineList, Meets, across, along}
+use Rattle.delaunay_lines.specs.plane.Line.{at_vertex}
+use Rattle.delaunay_lines.specs.plane.Pairs.{place, IsIndex}
+use Rattle.delaunay_lines.specs.plane.Tiling.{Triangulation}
+use Rattle.delaunay_lines.proofs.plane_edits.LocalMesh.Changes.{once_none, once_head, once_tail}
+use Rattle.delaunay_lines.proofs.plane_edits.LocalMesh.Changes.{once_cons}
+use Rattle.delaunay_lines.specs.plane_segments.Constraints.{AreNextOn, ArePlacedApart}
+use Rattle.delaunay_lines.specs.plane_segments.Path.{IsFreeOfVertices}
+use Rattle.delaunay_lines.proofs.plane_segments.Constraints.Pieces.{on_parts}
+use Rattle.delaunay_lines.proofs.plane_segments.Crossing.PathFlips.{piece_is_free}
+use Rattle.delaunay_lines.specs.plane_tiling.Local.{IsMesh}
+use Rattle.delaunay_lines.proofs.plane_tiling.Totals.{Contains-cases, Contains-head, Contains-later}
+use Rattle.delaunay_lines.proofs.plane_tiling.Totals.{Contains-none}
+use Rattle.delaunay_lines.specs.mesh_embedding.Drawn.{drawn, faces_of, outer_of}
+use Rattle.delaunay_lines.specs.mesh_embedding.Legal.{AreEdges}
+use Rattle.delaunay_lines.proofs.mesh_embedding.MeshLegal.{few_edges, own_indexes, room_for_one}
+use Rattle.delaunay_lines.proofs.mesh_embedding.MeshStays.{half_same}
+use Rattle.delaunay_lines.proofs.mesh_embedding.WorkLists.{contains_before, contains_last}
+use Rattle.delaunay_lines.proofs.mesh_embedding.WorkLists.{contains_map_from, once_after}
+use Rattle.delaunay_lines.specs.delaunay_legalization.Known.{point_at}
+use Rattle.delaunay_lines.specs.delaunay_legalization.State.{State, state_of}
+use Rattle.delaunay_lines.proofs.delaunay_legalization_lemmas.Legalizing.{half_within}
 use Rattle.delaunay_lines.specs.declared.intersection.Intersection.{Intersection}
 use Rattle.delaunay_lines.specs.declared.iterator.LineIntersectionIterator.{LineIntersectionIterator}
 use Rattle.delaunay_lines.specs.Items.{item_in, mesh_of}

@@ -6,21 +6,21 @@ use Rattle.std.proofs.Common.{arith, append_assoc, append-nil, length-append}
 use Rattle.std.specs.Prelude.{ℤ, pos, negsuc, ◌*ℤ◌, ◌≤ℤ◌, ◌<ℤ◌, nat_abs}
 use Rattle.std.proofs.lemmas.Bool.{cases_eq}
 use Rattle.std.proofs.lemmas.Int.{ints}
-use Rattle.half_edge_mesh.specs.Mesh.{Mesh, origin, rev}
-use Rattle.plane.specs.Circle.{gap, IsNearer}
-use Rattle.plane.specs.Fraction.{Point, whole}
-use Rattle.plane.specs.Laws.{squared_way}
-use Rattle.plane.specs.Pairs.{IsIndex, place}
-use Rattle.plane_delaunay.specs.Nearer.{nearer_count}
-use Rattle.plane_delaunay.proofs.Circles.NearerCount.{nearer_count_falls}
-use Rattle.plane_edits.specs.Legal.{point_of}
-use Rattle.plane_segments.specs.Constraints.{AreNextOn, ArePlacedApart}
-use Rattle.plane_segments.proofs.Constraints.Pieces.{path_begins, path_goes_on}
-use Rattle.plane_segments.proofs.Constraints.Shorter.{path_shortens}
-use Rattle.mesh_embedding.specs.Drawn.{drawn}
+use Rattle.delaunay_lines.specs.half_edge_mesh.Mesh.{Mesh, origin, rev}
+use Rattle.delaunay_lines.specs.plane.Circle.{gap, IsNearer}
+use Rattle.delaunay_lines.specs.plane.Fraction.{Point, whole}
+use Rattle.delaunay_lines.specs.plane.Laws.{squared_way}
+use Rattle.delaunay_lines.specs.plane.Pairs.{IsIndex, place}
+use Rattle.delaunay_lines.specs.plane_delaunay.Nearer.{nearer_count}
+use Rattle.delaunay_lines.proofs.plane_delaunay.Circles.NearerCount.{nearer_count_falls}
+use Rattle.delaunay_lines.specs.plane_edits.Legal.{point_of}
+use Rattle.delaunay_lines.specs.plane_segments.Constraints.{AreNextOn, ArePlacedApart}
+use Rattle.delaunay_lines.proofs.plane_segments.Constraints.Pieces.{path_begins, path_goes_on}
+use Rattle.delaunay_lines.proofs.plane_segments.Constraints.Shorter.{path_shortens}
+use Rattle.delaunay_lines.specs.mesh_embedding.Drawn.{drawn}
 use Rattle.delaunay_paths.specs.PathEdges.{LeadAlong}
 use Rattle.delaunay_paths.proofs.Places.{gap_is_way_back}
-use Rattle.plane_edits.proofs.Legalization.Legal.{squared_way_nonneg}
+use Rattle.delaunay_lines.proofs.plane_edits.Legalization.Legal.{squared_way_nonneg}
 
 -- ---- the next vertex is nearer to the end
 less_of_abs : (x y : ℤ) → pos 0 ≤ℤ x → pos 0 ≤ℤ y → nat_abs x < nat_abs y → x <ℤ y

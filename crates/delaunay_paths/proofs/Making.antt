@@ -8,26 +8,26 @@ use Rattle.std.proofs.Common.{ℕ, List, length, map, refl, sym, ap, subst}
 use mathlib.Core.Logic.{inl, inr}
 use Rattle.std.specs.Prelude.{Contains}
 use Rattle.std.proofs.lemmas.List.{length-map}
-use Rattle.half_edge_mesh.specs.Mesh.{Mesh, IsValidMesh, origin, rev}
-use Rattle.half_edge_mesh.specs.Flip.{IsFlippable, Flips, flipped}
-use Rattle.half_edge_mesh.specs.Outline.{KeepsOuter}
-use Rattle.half_edge_mesh.specs.Triangles.{FlipsTriangles}
-use Rattle.half_edge_mesh.specs.Contents.{Contents, IsMeshWithData}
-use Rattle.half_edge_links.proofs.Faces.FlipLemmas.{flips_is}
-use Rattle.half_edge_links.proofs.Lists.Rev.{rev-rev, rev_within}
-use Rattle.plane.specs.Crossing.{Cross}
-use Rattle.plane.specs.Fraction.{Point, whole}
-use Rattle.plane.specs.Pairs.{place}
-use Rattle.plane.specs.Tiling.{IsEdge}
-use Rattle.plane_tiling.specs.Local.{LocalMesh, IsMesh}
-use Rattle.plane_segments.specs.Measure.{crossing_sum}
-use Rattle.plane_segments.specs.Path.{IsFreeOfVertices}
-use Rattle.plane_edits.specs.Legal.{AllPassBut}
-use Rattle.mesh_embedding.specs.Drawn.{drawn, faces_of, outer_of}
-use Rattle.mesh_embedding.specs.Legal.{AreEdges, GainsRound, pairs_at}
-use Rattle.mesh_embedding.proofs.MeshEdits.{flipped_faces}
-use Rattle.mesh_embedding.proofs.MeshStays.{halved}
-use Rattle.delaunay_legalization.specs.Known.{point_at}
+use Rattle.delaunay_lines.specs.half_edge_mesh.Mesh.{Mesh, IsValidMesh, origin, rev}
+use Rattle.delaunay_lines.specs.half_edge_mesh.Flip.{IsFlippable, Flips, flipped}
+use Rattle.delaunay_lines.specs.half_edge_mesh.Outline.{KeepsOuter}
+use Rattle.delaunay_lines.specs.half_edge_mesh.Triangles.{FlipsTriangles}
+use Rattle.delaunay_lines.specs.half_edge_mesh.Contents.{Contents, IsMeshWithData}
+use Rattle.delaunay_lines.proofs.half_edge_links.Faces.FlipLemmas.{flips_is}
+use Rattle.delaunay_lines.proofs.half_edge_links.Lists.Rev.{rev-rev, rev_within}
+use Rattle.delaunay_lines.specs.plane.Crossing.{Cross}
+use Rattle.delaunay_lines.specs.plane.Fraction.{Point, whole}
+use Rattle.delaunay_lines.specs.plane.Pairs.{place}
+use Rattle.delaunay_lines.specs.plane.Tiling.{IsEdge}
+use Rattle.delaunay_lines.specs.plane_tiling.Local.{LocalMesh, IsMesh}
+use Rattle.delaunay_lines.specs.plane_segments.Measure.{crossing_sum}
+use Rattle.delaunay_lines.specs.plane_segments.Path.{IsFreeOfVertices}
+use Rattle.delaunay_lines.specs.plane_edits.Legal.{AllPassBut}
+use Rattle.delaunay_lines.specs.mesh_embedding.Drawn.{drawn, faces_of, outer_of}
+use Rattle.delaunay_lines.specs.mesh_embedding.Legal.{AreEdges, GainsRound, pairs_at}
+use Rattle.delaunay_lines.proofs.mesh_embedding.MeshEdits.{flipped_faces}
+use Rattle.delaunay_lines.proofs.mesh_embedding.MeshStays.{halved}
+use Rattle.delaunay_lines.specs.delaunay_legalization.Known.{point_at}
 use Rattle.delaunay_paths.specs.Crossing.{AreAllCrossing, AreOthersCrossing, CrossesFromRight}
 use Rattle.delaunay_paths.specs.Crossing.{GoesFromRight, TurnsNearer, ahead, behind}
 use Rattle.delaunay_paths.specs.Kept.{KeepsUncrossed, KeepsUncrossedFaces}

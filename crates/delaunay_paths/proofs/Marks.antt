@@ -5,13 +5,13 @@ use Rattle.std.proofs.Common.{ℕ, zero, suc, Bool, true, false, List, set, refl
 use Rattle.std.proofs.Common.{inl, inr}
 use Rattle.std.specs.Prelude.{Some, slice_get}
 use Rattle.std.proofs.lemmas.Bool.{cases_eq}
-use Rattle.mesh_embedding.proofs.Entries.{one_value}
-use Rattle.mesh_embedding.proofs.MeshStays.{slice_get-set_other}
-use Rattle.delaunay_legalization.specs.Constraints.{not_both}
-use Rattle.half_edge_mesh.specs.Contents.{Contents}
-use Rattle.delaunay_legalization.specs.Marking.{HasEdgeData}
+use Rattle.delaunay_lines.proofs.mesh_embedding.Entries.{one_value}
+use Rattle.delaunay_lines.proofs.mesh_embedding.MeshStays.{slice_get-set_other}
+use Rattle.delaunay_lines.specs.delaunay_legalization.Constraints.{not_both}
+use Rattle.delaunay_lines.specs.half_edge_mesh.Contents.{Contents}
+use Rattle.delaunay_lines.specs.delaunay_legalization.Marking.{HasEdgeData}
 use Rattle.delaunay_paths.specs.Adding.{MarksEdge, MarksSome}
-use Rattle.delaunay_legalization.proofs.MarkedPairs.{set_entry}
+use Rattle.delaunay_lines.proofs.delaunay_legalization_lemmas.MarkedPairs.{set_entry}
 
 -- a list stays where an entry is written over by itself
 set_same : {X : Type 0} (xs : List X) (k : ℕ) (d : X) → slice_get xs k ≡ Some d → set xs k d ≡ xs

@@ -2,27 +2,27 @@
 -- Lemmas: crosses_if_met, met_if_crosses.
 use Rattle.std.proofs.Common.{◌≡◌, ◌⊎◌, ◌<◌, ◌∙◌}
 use Rattle.std.proofs.Common.{ℕ, List, length, sym, subst, inl, inr}
-use Rattle.half_edge_mesh.specs.Mesh.{Mesh, IsValidMesh, origin, rev}
-use Rattle.half_edge_links.proofs.Lists.Rev.{rev_within}
-use Rattle.plane.specs.Crossing.{Cross}
-use Rattle.plane.specs.Fraction.{Point, IsSame, WithinSegment}
-use Rattle.plane.specs.Laws.{Parts}
-use Rattle.plane.specs.Line.{Meets, across}
-use Rattle.plane.specs.Pairs.{place}
-use Rattle.plane.specs.Side.{side, left, right, on}
-use Rattle.plane.specs.Tiling.{IsEdge}
-use Rattle.plane.proofs.Meetings.{crossing_is_sides}
-use Rattle.plane.proofs.Segments.{same-sym}
-use Rattle.plane_tiling.specs.Local.{IsMesh}
-use Rattle.plane_tiling.proofs.Locations.{no_edges_cross}
-use Rattle.plane_tiling.proofs.Loops.{mesh_tiles}
-use Rattle.plane_segments.specs.Constraints.{ArePlacedApart}
-use Rattle.plane_segments.specs.Path.{IsCrossing}
-use Rattle.plane_segments.specs.Path.{IsFreeOfVertices}
-use Rattle.plane_segments.proofs.Crossing.EitherWay.{crossing_is_either_way, edge_back}
-use Rattle.mesh_embedding.specs.Drawn.{drawn, edges_of, faces_of, outer_of}
-use Rattle.mesh_embedding.proofs.EdgePairs.{edge_joins}
-use Rattle.mesh_embedding.proofs.OwnEdges.{own_edges}
+use Rattle.delaunay_lines.specs.half_edge_mesh.Mesh.{Mesh, IsValidMesh, origin, rev}
+use Rattle.delaunay_lines.proofs.half_edge_links.Lists.Rev.{rev_within}
+use Rattle.delaunay_lines.specs.plane.Crossing.{Cross}
+use Rattle.delaunay_lines.specs.plane.Fraction.{Point, IsSame, WithinSegment}
+use Rattle.delaunay_lines.specs.plane.Laws.{Parts}
+use Rattle.delaunay_lines.specs.plane.Line.{Meets, across}
+use Rattle.delaunay_lines.specs.plane.Pairs.{place}
+use Rattle.delaunay_lines.specs.plane.Side.{side, left, right, on}
+use Rattle.delaunay_lines.specs.plane.Tiling.{IsEdge}
+use Rattle.delaunay_lines.proofs.plane.Meetings.{crossing_is_sides}
+use Rattle.delaunay_lines.proofs.plane.Segments.{same-sym}
+use Rattle.delaunay_lines.specs.plane_tiling.Local.{IsMesh}
+use Rattle.delaunay_lines.proofs.plane_tiling.Locations.{no_edges_cross}
+use Rattle.delaunay_lines.proofs.plane_tiling.Loops.{mesh_tiles}
+use Rattle.delaunay_lines.specs.plane_segments.Constraints.{ArePlacedApart}
+use Rattle.delaunay_lines.specs.plane_segments.Path.{IsCrossing, IsFreeOfVertices}
+use Rattle.delaunay_lines.proofs.plane_segments.Crossing.EitherWay.{crossing_is_either_way}
+use Rattle.delaunay_lines.proofs.plane_segments.Crossing.EitherWay.{edge_back}
+use Rattle.delaunay_lines.specs.mesh_embedding.Drawn.{drawn, edges_of, faces_of, outer_of}
+use Rattle.delaunay_lines.proofs.mesh_embedding.EdgePairs.{edge_joins}
+use Rattle.delaunay_lines.proofs.mesh_embedding.OwnEdges.{own_edges}
 use Rattle.delaunay_lines.proofs.EitherWay.{crossed_either_way}
 use Rattle.delaunay_paths.specs.Crossing.{CrossesFromRight}
 use Rattle.delaunay_paths.specs.Items.{crossed_twin}

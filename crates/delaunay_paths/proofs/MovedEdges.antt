@@ -8,13 +8,13 @@ use Rattle.std.proofs.Common.{length-append, vec_capacity}
 use mathlib.Core.Logic.{inl, inr}
 use Rattle.std.specs.Prelude.{AllPairs, Contains}
 use Rattle.std.proofs.lemmas.List.Elements.{Contains-push_cases}
-use Rattle.half_edge_mesh.specs.Mesh.{Mesh}
-use Rattle.plane.specs.Fraction.{Point}
-use Rattle.plane_edits.proofs.LocalMesh.Changes.{once_none}
-use Rattle.plane_tiling.proofs.Totals.{Contains-none}
-use Rattle.mesh_embedding.proofs.WorkLists.{contains_before, contains_last, last_not_before}
-use Rattle.mesh_embedding.proofs.WorkLists.{once_after, once_before}
-use Rattle.delaunay_legalization.proofs.Legalizing.{drained}
+use Rattle.delaunay_lines.specs.half_edge_mesh.Mesh.{Mesh}
+use Rattle.delaunay_lines.specs.plane.Fraction.{Point}
+use Rattle.delaunay_lines.proofs.plane_edits.LocalMesh.Changes.{once_none}
+use Rattle.delaunay_lines.proofs.plane_tiling.Totals.{Contains-none}
+use Rattle.delaunay_lines.proofs.mesh_embedding.WorkLists.{contains_before, contains_last}
+use Rattle.delaunay_lines.proofs.mesh_embedding.WorkLists.{last_not_before, once_after, once_before}
+use Rattle.delaunay_lines.proofs.delaunay_legalization_lemmas.Legalizing.{drained}
 use Rattle.delaunay_paths.specs.declared.crossing.CrossingLists.{CrossingLists}
 use Rattle.delaunay_paths.specs.Crossing.{AreAllCrossing}
 use Rattle.delaunay_paths.specs.Lists.{AreHeld, AreOnce, HaveRoom, IsIn}

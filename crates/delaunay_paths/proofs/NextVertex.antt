@@ -6,25 +6,27 @@ use Rattle.std.proofs.Common.{ℕ, List, length, map, Some, None, sym, ap, subst
 use Rattle.std.specs.Prelude.{ℤ, Contains}
 use Rattle.std.proofs.lemmas.List.Elements.{Contains-append_cases, Contains-append_left}
 use Rattle.std.proofs.lemmas.List.Elements.{Contains-append_right, Contains-push_cases}
-use Rattle.half_edge_mesh.specs.Mesh.{Mesh}
-use Rattle.half_edge_mesh.specs.Contents.{Contents}
-use Rattle.plane.specs.Circle.{IsNearer}
-use Rattle.plane.specs.Fraction.{Point, Fraction, whole, IsSame, OnSegment, WithinSegment}
-use Rattle.plane.specs.Line.{Item, IsLineList, IsBefore, IsVertexThenOverlap, at_vertex, across}
-use Rattle.plane.specs.Line.{along}
-use Rattle.plane.specs.Pairs.{place}
-use Rattle.plane.specs.Tiling.{Triangulation}
-use Rattle.plane.proofs.Segments.{on_of_within, start_on_segment, end_on_segment, within_segment_is}
-use Rattle.plane_delaunay.proofs.Points.AlongSegment.{nearer_if, not_both_nearer}
-use Rattle.plane_tiling.specs.Local.{IsMesh}
-use Rattle.plane_tiling.proofs.Totals.{Contains-head, Contains-none}
-use Rattle.plane_segments.specs.Constraints.{AreNextOn, ArePlacedApart}
-use Rattle.plane_segments.proofs.Crossing.EitherWay.{one_point}
-use Rattle.plane_segments.proofs.Items.Orders.{nearer-same_first, nearer-same_second}
-use Rattle.plane_segments.proofs.Constraints.Pieces.{on_parts}
-use Rattle.mesh_embedding.specs.Drawn.{drawn, faces_of, outer_of}
-use Rattle.delaunay_legalization.specs.Known.{point_at}
-use Rattle.delaunay_legalization.specs.State.{state_of}
+use Rattle.delaunay_lines.specs.half_edge_mesh.Mesh.{Mesh}
+use Rattle.delaunay_lines.specs.half_edge_mesh.Contents.{Contents}
+use Rattle.delaunay_lines.specs.plane.Circle.{IsNearer}
+use Rattle.delaunay_lines.specs.plane.Fraction.{Point, Fraction, whole, IsSame, OnSegment}
+use Rattle.delaunay_lines.specs.plane.Fraction.{WithinSegment}
+use Rattle.delaunay_lines.specs.plane.Line.{Item, IsLineList, IsBefore, IsVertexThenOverlap}
+use Rattle.delaunay_lines.specs.plane.Line.{at_vertex, across, along}
+use Rattle.delaunay_lines.specs.plane.Pairs.{place}
+use Rattle.delaunay_lines.specs.plane.Tiling.{Triangulation}
+use Rattle.delaunay_lines.proofs.plane.Segments.{on_of_within, start_on_segment, end_on_segment}
+use Rattle.delaunay_lines.proofs.plane.Segments.{within_segment_is}
+use Rattle.delaunay_lines.proofs.plane_delaunay.Points.AlongSegment.{nearer_if, not_both_nearer}
+use Rattle.delaunay_lines.specs.plane_tiling.Local.{IsMesh}
+use Rattle.delaunay_lines.proofs.plane_tiling.Totals.{Contains-head, Contains-none}
+use Rattle.delaunay_lines.specs.plane_segments.Constraints.{AreNextOn, ArePlacedApart}
+use Rattle.delaunay_lines.proofs.plane_segments.Crossing.EitherWay.{one_point}
+use Rattle.delaunay_lines.proofs.plane_segments.Items.Orders.{nearer-same_first, nearer-same_second}
+use Rattle.delaunay_lines.proofs.plane_segments.Constraints.Pieces.{on_parts}
+use Rattle.delaunay_lines.specs.mesh_embedding.Drawn.{drawn, faces_of, outer_of}
+use Rattle.delaunay_lines.specs.delaunay_legalization.Known.{point_at}
+use Rattle.delaunay_lines.specs.delaunay_legalization.State.{state_of}
 use Rattle.delaunay_lines.specs.declared.intersection.Intersection.{Intersection}
 use Rattle.delaunay_lines.specs.declared.iterator.LineIntersectionIterator.{LineIntersectionIterator}
 use Rattle.delaunay_lines.specs.Items.{item_in}

@@ -6,28 +6,29 @@ use Rattle.std.proofs.Common.{◌≡◌, ◌≢◌, ◌⊎◌, ◌↔◌, ◌/�
 use Rattle.std.proofs.Common.{ℕ, Bool, true, List, length, map, Option, Some, None, is_some}
 use Rattle.std.proofs.Common.{refl, sym, ap, subst, subst₂, inl, inr}
 use Rattle.std.specs.Prelude.{IfSome}
-use Rattle.half_edge_mesh.specs.Mesh.{origin, rev}
-use Rattle.half_edge_links.proofs.Lists.Rev.{rev_within}
-use Rattle.half_edge_mesh.specs.Contents.{Contents, IsMeshWithData}
-use Rattle.plane.specs.Fraction.{Point, whole}
-use Rattle.plane.specs.Pairs.{IsSamePair, place}
-use Rattle.plane.specs.Tiling.{IsEdge}
-use Rattle.plane.proofs.Segments.{start_on_segment, end_on_segment}
-use Rattle.plane_edits.proofs.LocalMesh.Changes.{once_none}
-use Rattle.plane_tiling.proofs.Locations.{no_edges_cross}
-use Rattle.plane_tiling.proofs.Totals.{Contains-none}
-use Rattle.plane_segments.specs.Constraints.{AreNextOn, ArePlacedApart}
-use Rattle.plane_segments.proofs.Constraints.Pieces.{path_ends, path_goes_on}
-use Rattle.mesh_embedding.specs.Drawn.{drawn, edges_of, faces_of, outer_of}
-use Rattle.mesh_embedding.specs.Legal.{AreEdges}
-use Rattle.mesh_embedding.proofs.EdgePairs.{edge_joins, no_joins}
-use Rattle.mesh_embedding.proofs.OwnEdges.{own_edges}
-use Rattle.delaunay_legalization.specs.Constraints.{constraints_by, marked_edges}
-use Rattle.delaunay_legalization.specs.Known.{point_at}
-use Rattle.delaunay_legalization.specs.Shape.{IsDelaunayTriangulation, IsTriangulated}
-use Rattle.delaunay_legalization.specs.State.{State, state_of}
-use Rattle.delaunay_legalization.proofs.ConstraintEdges.{constraints_are_edges}
-use Rattle.delaunay_legalization.proofs.Questions.{both_ways}
+use Rattle.delaunay_lines.specs.half_edge_mesh.Mesh.{origin, rev}
+use Rattle.delaunay_lines.proofs.half_edge_links.Lists.Rev.{rev_within}
+use Rattle.delaunay_lines.specs.half_edge_mesh.Contents.{Contents, IsMeshWithData}
+use Rattle.delaunay_lines.specs.plane.Fraction.{Point, whole}
+use Rattle.delaunay_lines.specs.plane.Pairs.{IsSamePair, place}
+use Rattle.delaunay_lines.specs.plane.Tiling.{IsEdge}
+use Rattle.delaunay_lines.proofs.plane.Segments.{start_on_segment, end_on_segment}
+use Rattle.delaunay_lines.proofs.plane_edits.LocalMesh.Changes.{once_none}
+use Rattle.delaunay_lines.proofs.plane_tiling.Locations.{no_edges_cross}
+use Rattle.delaunay_lines.proofs.plane_tiling.Totals.{Contains-none}
+use Rattle.delaunay_lines.specs.plane_segments.Constraints.{AreNextOn, ArePlacedApart}
+use Rattle.delaunay_lines.proofs.plane_segments.Constraints.Pieces.{path_ends, path_goes_on}
+use Rattle.delaunay_lines.specs.mesh_embedding.Drawn.{drawn, edges_of, faces_of, outer_of}
+use Rattle.delaunay_lines.specs.mesh_embedding.Legal.{AreEdges}
+use Rattle.delaunay_lines.proofs.mesh_embedding.EdgePairs.{edge_joins, no_joins}
+use Rattle.delaunay_lines.proofs.mesh_embedding.OwnEdges.{own_edges}
+use Rattle.delaunay_lines.specs.delaunay_legalization.Constraints.{constraints_by, marked_edges}
+use Rattle.delaunay_lines.specs.delaunay_legalization.Known.{point_at}
+use Rattle.delaunay_lines.specs.delaunay_legalization.Shape.{IsDelaunayTriangulation}
+use Rattle.delaunay_lines.specs.delaunay_legalization.Shape.{IsTriangulated}
+use Rattle.delaunay_lines.specs.delaunay_legalization.State.{State, state_of}
+use Rattle.delaunay_lines.proofs.delaunay_legalization_lemmas.ConstraintEdges.{constraints_are_edges}
+use Rattle.delaunay_lines.proofs.delaunay_legalization_lemmas.Questions.{both_ways}
 use Rattle.delaunay_paths.specs.Adding.{AddsPath, MarksEdge, NoneCrosses}
 use Rattle.delaunay_paths.specs.Leaving.{MakesEdge}
 use Rattle.delaunay_paths.specs.Releasing.{AddsConstraints}

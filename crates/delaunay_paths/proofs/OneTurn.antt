@@ -4,13 +4,13 @@
 use Rattle.std.proofs.Common.{◌≡◌, ◌≢◌, ◌⊎◌, ◌*◌, ◌/◌, ◌<◌, [], ◌∷◌, ◌++◌}
 use Rattle.std.proofs.Common.{ℕ, List, length, map, sym, subst}
 use Rattle.std.specs.Prelude.{Contains}
-use Rattle.half_edge_mesh.specs.Contents.{Contents, IsMeshWithData}
-use Rattle.half_edge_mesh.specs.Flip.{IsFlippable, flipped}
-use Rattle.half_edge_mesh.specs.Mesh.{origin, prev, rev}
-use Rattle.half_edge_mesh.specs.Outline.{KeepsOuter}
-use Rattle.half_edge_mesh.specs.Triangles.{FlipsTriangles}
-use Rattle.plane.specs.Fraction.{Point}
-use Rattle.mesh_embedding.specs.Legal.{AreEdges, GainsRound}
+use Rattle.delaunay_lines.specs.half_edge_mesh.Contents.{Contents, IsMeshWithData}
+use Rattle.delaunay_lines.specs.half_edge_mesh.Flip.{IsFlippable, flipped}
+use Rattle.delaunay_lines.specs.half_edge_mesh.Mesh.{origin, prev, rev}
+use Rattle.delaunay_lines.specs.half_edge_mesh.Outline.{KeepsOuter}
+use Rattle.delaunay_lines.specs.half_edge_mesh.Triangles.{FlipsTriangles}
+use Rattle.delaunay_lines.specs.plane.Fraction.{Point}
+use Rattle.delaunay_lines.specs.mesh_embedding.Legal.{AreEdges, GainsRound}
 use Rattle.delaunay_paths.specs.declared.crossing.CrossingLists.{CrossingLists}
 use Rattle.delaunay_paths.specs.Crossing.{CrossesFromRight, GoesFromRight, ahead, behind}
 use Rattle.delaunay_paths.specs.Leaving.{TurnsTowards}

@@ -5,10 +5,10 @@ use Rattle.std.proofs.Common.{append-nil, suc, List, Some, None, sym, ap, subst,
 use Rattle.std.proofs.Common.{arith}
 use Rattle.std.specs.Prelude.{ℤ, Contains, AllPairs}
 use Rattle.std.specs.Borrow.{Bor}
-use Rattle.half_edge_mesh.specs.Contents.{Contents}
-use Rattle.plane.specs.Fraction.{Point, whole}
-use Rattle.plane.specs.Line.{Item, IsLineList}
-use Rattle.delaunay_legalization.specs.State.{State, state_of, triangulation_of}
+use Rattle.delaunay_lines.specs.half_edge_mesh.Contents.{Contents}
+use Rattle.delaunay_lines.specs.plane.Fraction.{Point, whole}
+use Rattle.delaunay_lines.specs.plane.Line.{Item, IsLineList}
+use Rattle.delaunay_lines.specs.delaunay_legalization.State.{State, state_of, triangulation_of}
 use Rattle.delaunay_lines.specs.declared.intersection.Intersection.{Intersection}
 use Rattle.delaunay_lines.specs.declared.iterator.LineIntersectionIterator.{LineIntersectionIterator}
 use Rattle.delaunay_lines.specs.Items.{item_in}

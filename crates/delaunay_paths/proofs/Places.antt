@@ -3,14 +3,14 @@
 use Rattle.std.proofs.Common.{◌≡◌, ◌≢◌, ◌↔◌, ℕ, ◌<◌, List, [], ◌∷◌, length, ap, ◌∙◌, subst, arith}
 use Rattle.std.specs.Prelude.{ℤ, pos, ◌+ℤ◌, ◌-ℤ◌, ◌*ℤ◌, ◌<ℤ◌}
 use Rattle.std.proofs.lemmas.Int.{ints}
-use Rattle.plane.specs.Fraction.{Point, whole, IsSame}
-use Rattle.plane.specs.Circle.{gap}
-use Rattle.plane.specs.Laws.{squared_way}
-use Rattle.plane.specs.Pairs.{place}
-use Rattle.plane.proofs.Solver.{◌⊖◌, ◌⊗◌, ring_in}
-use Rattle.plane_segments.specs.Constraints.{ArePlacedApart}
-use Rattle.plane_segments.proofs.Crossing.EitherWay.{one_point}
-use Rattle.delaunay_legalization.specs.Known.{point_at}
+use Rattle.delaunay_lines.specs.plane.Fraction.{Point, whole, IsSame}
+use Rattle.delaunay_lines.specs.plane.Circle.{gap}
+use Rattle.delaunay_lines.specs.plane.Laws.{squared_way}
+use Rattle.delaunay_lines.specs.plane.Pairs.{place}
+use Rattle.delaunay_lines.proofs.plane.Solver.{◌⊖◌, ◌⊗◌, ring_in}
+use Rattle.delaunay_lines.specs.plane_segments.Constraints.{ArePlacedApart}
+use Rattle.delaunay_lines.proofs.plane_segments.Crossing.EitherWay.{one_point}
+use Rattle.delaunay_lines.specs.delaunay_legalization.Known.{point_at}
 
 -- the squared distance of two points
 gap_is_way : (p q : Point) → gap (whole p) (whole q) ≡ squared_way p q

@@ -7,32 +7,34 @@ use Rattle.std.proofs.Common.{ℕ, List, length, map, set, sym, ap, subst, inl, 
 use Rattle.std.specs.Prelude.{Bool, false, All, Contains}
 use Rattle.std.proofs.lemmas.Bool.{cases_eq}
 use Rattle.std.proofs.lemmas.List.{length-set}
-use Rattle.half_edge_mesh.specs.Mesh.{Mesh, origin, rev}
-use Rattle.half_edge_links.proofs.Lists.Rev.{rev-rev, rev_within}
-use Rattle.half_edge_mesh.specs.Contents.{Contents}
-use Rattle.plane.specs.Fraction.{Point}
-use Rattle.plane.specs.Pairs.{Joins, IsSamePair}
-use Rattle.plane.specs.Plain.{points_of, AreNeighboursOn}
-use Rattle.plane_edits.specs.Legal.{AllPassBut}
-use Rattle.plane_edits.proofs.LocalMesh.Changes.{once_none}
-use Rattle.plane_tiling.proofs.Totals.{Contains-head, Contains-none, Contains-cases}
-use Rattle.mesh_embedding.specs.Drawn.{faces_of}
-use Rattle.mesh_embedding.specs.Legal.{AreEdges, pairs_at}
-use Rattle.mesh_embedding.specs.Stays.{KeepsIndexes}
-use Rattle.mesh_embedding.proofs.MeshLegal.{joins_edge, own_indexes, same_joined}
-use Rattle.mesh_embedding.proofs.WorkLists.{once_after}
-use Rattle.delaunay_legalization.specs.Constraints.{marked_edges, constraint_pairs, constraints_by}
-use Rattle.delaunay_legalization.specs.Constraints.{points_and_constraints_by}
-use Rattle.delaunay_legalization.specs.Flips.{CountsFlips, FlipsFit}
-use Rattle.delaunay_legalization.specs.Marking.{HasEdgeData}
-use Rattle.delaunay_legalization.specs.Shape.{IsTriangulated, IsDelaunayTriangulation}
-use Rattle.delaunay_legalization.specs.State.{state_of}
-use Rattle.delaunay_legalization.proofs.Constraints.{fixed_within}
-use Rattle.delaunay_legalization.proofs.MarkedPairs.{unmarking_leaves}
+use Rattle.delaunay_lines.specs.half_edge_mesh.Mesh.{Mesh, origin, rev}
+use Rattle.delaunay_lines.proofs.half_edge_links.Lists.Rev.{rev-rev, rev_within}
+use Rattle.delaunay_lines.specs.half_edge_mesh.Contents.{Contents}
+use Rattle.delaunay_lines.specs.plane.Fraction.{Point}
+use Rattle.delaunay_lines.specs.plane.Pairs.{Joins, IsSamePair}
+use Rattle.delaunay_lines.specs.plane.Plain.{points_of, AreNeighboursOn}
+use Rattle.delaunay_lines.specs.plane_edits.Legal.{AllPassBut}
+use Rattle.delaunay_lines.proofs.plane_edits.LocalMesh.Changes.{once_none}
+use Rattle.delaunay_lines.proofs.plane_tiling.Totals.{Contains-head, Contains-none, Contains-cases}
+use Rattle.delaunay_lines.specs.mesh_embedding.Drawn.{faces_of}
+use Rattle.delaunay_lines.specs.mesh_embedding.Legal.{AreEdges, pairs_at}
+use Rattle.delaunay_lines.specs.mesh_embedding.Stays.{KeepsIndexes}
+use Rattle.delaunay_lines.proofs.mesh_embedding.MeshLegal.{joins_edge, own_indexes, same_joined}
+use Rattle.delaunay_lines.proofs.mesh_embedding.WorkLists.{once_after}
+use Rattle.delaunay_lines.specs.delaunay_legalization.Constraints.{marked_edges, constraint_pairs}
+use Rattle.delaunay_lines.specs.delaunay_legalization.Constraints.{constraints_by}
+use Rattle.delaunay_lines.specs.delaunay_legalization.Constraints.{points_and_constraints_by}
+use Rattle.delaunay_lines.specs.delaunay_legalization.Flips.{CountsFlips, FlipsFit}
+use Rattle.delaunay_lines.specs.delaunay_legalization.Marking.{HasEdgeData}
+use Rattle.delaunay_lines.specs.delaunay_legalization.Shape.{IsTriangulated}
+use Rattle.delaunay_lines.specs.delaunay_legalization.Shape.{IsDelaunayTriangulation}
+use Rattle.delaunay_lines.specs.delaunay_legalization.State.{state_of}
+use Rattle.delaunay_lines.proofs.delaunay_legalization_lemmas.Constraints.{fixed_within}
+use Rattle.delaunay_lines.proofs.delaunay_legalization_lemmas.MarkedPairs.{unmarking_leaves}
 use Rattle.delaunay_paths.specs.Leaving.{LeavesToTest}
 use Rattle.delaunay_paths.specs.Adding.{AddsPath, MarksSome}
 use Rattle.delaunay_paths.specs.Releasing.{AddsConstraints, ReleasesEdge}
-use Rattle.mesh_embedding.proofs.EdgePairs.{rev_of_even}
+use Rattle.delaunay_lines.proofs.mesh_embedding.EdgePairs.{rev_of_even}
 
 -- two pairs have the same ends, or not
 pub same_pair_or_not : (a b u v : ℕ) → IsSamePair a b u v ⊎ (¬ IsSamePair a b u v)

@@ -6,14 +6,14 @@ use Rattle.std.proofs.Common.{ℕ, List, length, map, take, Option, Some, None, 
 use mathlib.Core.Logic.{inl, inr}
 use Rattle.std.specs.Prelude.{Contains, IfNone, IfSome}
 use Rattle.std.proofs.lemmas.List.Elements.{Contains-push_cases}
-use Rattle.half_edge_mesh.specs.Contents.{Contents, IsMeshWithData}
-use Rattle.half_edge_mesh.specs.Mesh.{Mesh}
-use Rattle.plane.specs.Fraction.{Point}
-use Rattle.plane.specs.Tiling.{IsEdge}
-use Rattle.plane_tiling.specs.Local.{IsMesh}
-use Rattle.plane_tiling.proofs.Totals.{Contains-none}
-use Rattle.plane_segments.specs.Path.{IsFreeOfVertices}
-use Rattle.mesh_embedding.specs.Drawn.{drawn, faces_of, outer_of}
+use Rattle.delaunay_lines.specs.half_edge_mesh.Contents.{Contents, IsMeshWithData}
+use Rattle.delaunay_lines.specs.half_edge_mesh.Mesh.{Mesh}
+use Rattle.delaunay_lines.specs.plane.Fraction.{Point}
+use Rattle.delaunay_lines.specs.plane.Tiling.{IsEdge}
+use Rattle.delaunay_lines.specs.plane_tiling.Local.{IsMesh}
+use Rattle.delaunay_lines.proofs.plane_tiling.Totals.{Contains-none}
+use Rattle.delaunay_lines.specs.plane_segments.Path.{IsFreeOfVertices}
+use Rattle.delaunay_lines.specs.mesh_embedding.Drawn.{drawn, faces_of, outer_of}
 use Rattle.delaunay_paths.specs.declared.crossing.CrossingLists.{CrossingLists}
 use Rattle.delaunay_paths.specs.Crossing.{CrossesFromRight, TurnsNearer}
 use Rattle.delaunay_paths.specs.Lists.{HaveSeen, IsToTurn, KeepRoom, ListCrossing}

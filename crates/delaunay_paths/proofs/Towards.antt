@@ -6,56 +6,61 @@ use Rattle.std.proofs.Common.{◌≡◌, ◌≢◌, ◌⊎◌, ◌*◌, ◌/◌,
 use Rattle.std.proofs.Common.{ℕ, List, length, refl, sym, ap, subst}
 use mathlib.Core.Logic.{inl, inr}
 use Rattle.std.specs.Prelude.{pos, ◌<ℤ◌, Contains, Some, slice_get}
-use Rattle.half_edge_mesh.specs.Mesh.{Mesh, AreSoundLinks, IsValidMesh, origin, next, prev, face}
-use Rattle.half_edge_mesh.specs.Mesh.{rev}
-use Rattle.half_edge_mesh.specs.Flip.{IsFlippable, Flips, flipped}
-use Rattle.half_edge_mesh.specs.Outline.{KeepsOuter}
-use Rattle.half_edge_mesh.specs.Triangles.{FlipsTriangles, triangles}
-use Rattle.half_edge_links.proofs.Faces.FlipLemmas.{flips_is}
-use Rattle.half_edge_links.proofs.Faces.FlipSound.{origin_kept}
-use Rattle.half_edge_links.proofs.Lists.Rev.{rev-rev, rev_within}
-use Rattle.plane.specs.Fraction.{Point}
-use Rattle.plane.specs.Pairs.{place, Joins}
-use Rattle.plane.specs.Side.{side, right, on, opposite, TurnsLeft}
-use Rattle.plane.specs.Laws.{turn_at}
-use Rattle.plane.specs.Crossing.{Cross}
-use Rattle.plane.specs.Tiling.{face as corners, Triangulation, IsFace, IsEdge, TilesHull, vertex}
-use Rattle.plane.proofs.Areas.{right_if_negative}
-use Rattle.plane.proofs.Sides.{side_swapped}
-use Rattle.plane.proofs.Steps.{left_not_zero}
-use Rattle.plane_tiling.specs.Local.{LocalMesh, IsMesh}
-use Rattle.plane_tiling.proofs.Loops.{mesh_tiles}
-use Rattle.plane_tiling.proofs.Meshes.{meshes_tile}
-use Rattle.plane_edits.specs.Change.{FacesChange}
-use Rattle.plane_edits.specs.Legal.{point_of}
-use Rattle.plane_edits.proofs.LocalMesh.Changes.{each, each_none}
-use Rattle.plane_edits.proofs.LocalMesh.Kept.{flip_kept}
-use Rattle.plane_segments.specs.Measure.{crossing_sum}
-use Rattle.plane_segments.specs.Path.{IsFreeOfVertices, IsCrossing, IsLastRight, IsLastLeft}
-use Rattle.plane_segments.proofs.Crossing.Chosen.{chosen_flip_exists}
-use Rattle.plane_segments.proofs.Crossing.EitherWay.{crossing_is_either_way, edge_back}
-use Rattle.plane_segments.proofs.Crossing.PathFlips.{piece_on_line_is_edge}
-use Rattle.plane_segments.proofs.Crossing.Paths.{chosen_flip_is_convex, uncrossed_is_edge}
-use Rattle.plane_segments.proofs.Crossing.Falling.{Precedes}
-use Rattle.plane_segments.proofs.Crossing.Turns.{left_turn, right_turn, turn-same, turn_left}
-use Rattle.mesh_embedding.specs.Drawn.{drawn, faces_of, edges_of, outer_of}
-use Rattle.mesh_embedding.specs.Stays.{GoSameWay, HasSideIn, StaysBut}
-use Rattle.mesh_embedding.proofs.FaceChanges.{turned_faces}
-use Rattle.mesh_embedding.proofs.MeshEdits.{face_before, face_behind, flipped_faces}
-use Rattle.mesh_embedding.proofs.MeshLegal.{between_inner}
-use Rattle.mesh_embedding.proofs.MeshStarFlips.{from_other_side}
-use Rattle.mesh_embedding.proofs.MeshStays.{halved, stays_none, stays_turned}
-use Rattle.mesh_embedding.proofs.OuterChanges.{own_ends, outer_kept}
-use Rattle.mesh_embedding.proofs.OuterEdges.{listed}
-use Rattle.mesh_embedding.proofs.OwnEdges.{own_edges}
-use Rattle.mesh_embedding.proofs.WorkLists.{contains_last}
-use Rattle.delaunay_legalization.proofs.Legalizing.{positive}
+use Rattle.delaunay_lines.specs.half_edge_mesh.Mesh.{Mesh, AreSoundLinks, IsValidMesh, origin, next}
+use Rattle.delaunay_lines.specs.half_edge_mesh.Mesh.{prev, face, rev}
+use Rattle.delaunay_lines.specs.half_edge_mesh.Flip.{IsFlippable, Flips, flipped}
+use Rattle.delaunay_lines.specs.half_edge_mesh.Outline.{KeepsOuter}
+use Rattle.delaunay_lines.specs.half_edge_mesh.Triangles.{FlipsTriangles, triangles}
+use Rattle.delaunay_lines.proofs.half_edge_links.Faces.FlipLemmas.{flips_is}
+use Rattle.delaunay_lines.proofs.half_edge_links.Faces.FlipSound.{origin_kept}
+use Rattle.delaunay_lines.proofs.half_edge_links.Lists.Rev.{rev-rev, rev_within}
+use Rattle.delaunay_lines.specs.plane.Fraction.{Point}
+use Rattle.delaunay_lines.specs.plane.Pairs.{place, Joins}
+use Rattle.delaunay_lines.specs.plane.Side.{side, right, on, opposite, TurnsLeft}
+use Rattle.delaunay_lines.specs.plane.Laws.{turn_at}
+use Rattle.delaunay_lines.specs.plane.Crossing.{Cross}
+use Rattle.delaunay_lines.specs.plane.Tiling.{face as corners, Triangulation, IsFace, IsEdge}
+use Rattle.delaunay_lines.specs.plane.Tiling.{TilesHull, vertex}
+use Rattle.delaunay_lines.proofs.plane.Areas.{right_if_negative}
+use Rattle.delaunay_lines.proofs.plane.Sides.{side_swapped}
+use Rattle.delaunay_lines.proofs.plane.Steps.{left_not_zero}
+use Rattle.delaunay_lines.specs.plane_tiling.Local.{LocalMesh, IsMesh}
+use Rattle.delaunay_lines.proofs.plane_tiling.Loops.{mesh_tiles}
+use Rattle.delaunay_lines.proofs.plane_tiling.Meshes.{meshes_tile}
+use Rattle.delaunay_lines.specs.plane_edits.Change.{FacesChange}
+use Rattle.delaunay_lines.specs.plane_edits.Legal.{point_of}
+use Rattle.delaunay_lines.proofs.plane_edits.LocalMesh.Changes.{each, each_none}
+use Rattle.delaunay_lines.proofs.plane_edits.LocalMesh.Kept.{flip_kept}
+use Rattle.delaunay_lines.specs.plane_segments.Measure.{crossing_sum}
+use Rattle.delaunay_lines.specs.plane_segments.Path.{IsFreeOfVertices, IsCrossing, IsLastRight}
+use Rattle.delaunay_lines.specs.plane_segments.Path.{IsLastLeft}
+use Rattle.delaunay_lines.proofs.plane_segments.Crossing.Chosen.{chosen_flip_exists}
+use Rattle.delaunay_lines.proofs.plane_segments.Crossing.EitherWay.{crossing_is_either_way}
+use Rattle.delaunay_lines.proofs.plane_segments.Crossing.EitherWay.{edge_back}
+use Rattle.delaunay_lines.proofs.plane_segments.Crossing.PathFlips.{piece_on_line_is_edge}
+use Rattle.delaunay_lines.proofs.plane_segments.Crossing.Paths.{chosen_flip_is_convex}
+use Rattle.delaunay_lines.proofs.plane_segments.Crossing.Paths.{uncrossed_is_edge}
+use Rattle.delaunay_lines.proofs.plane_segments.Crossing.Falling.{Precedes}
+use Rattle.delaunay_lines.proofs.plane_segments.Crossing.Turns.{left_turn, right_turn, turn-same}
+use Rattle.delaunay_lines.proofs.plane_segments.Crossing.Turns.{turn_left}
+use Rattle.delaunay_lines.specs.mesh_embedding.Drawn.{drawn, faces_of, edges_of, outer_of}
+use Rattle.delaunay_lines.specs.mesh_embedding.Stays.{GoSameWay, HasSideIn, StaysBut}
+use Rattle.delaunay_lines.proofs.mesh_embedding.FaceChanges.{turned_faces}
+use Rattle.delaunay_lines.proofs.mesh_embedding.MeshEdits.{face_before, face_behind, flipped_faces}
+use Rattle.delaunay_lines.proofs.mesh_embedding.MeshLegal.{between_inner}
+use Rattle.delaunay_lines.proofs.mesh_embedding.MeshStarFlips.{from_other_side}
+use Rattle.delaunay_lines.proofs.mesh_embedding.MeshStays.{halved, stays_none, stays_turned}
+use Rattle.delaunay_lines.proofs.mesh_embedding.OuterChanges.{own_ends, outer_kept}
+use Rattle.delaunay_lines.proofs.mesh_embedding.OuterEdges.{listed}
+use Rattle.delaunay_lines.proofs.mesh_embedding.OwnEdges.{own_edges}
+use Rattle.delaunay_lines.proofs.mesh_embedding.WorkLists.{contains_last}
+use Rattle.delaunay_lines.proofs.delaunay_legalization_lemmas.Legalizing.{positive}
 use Rattle.delaunay_paths.specs.Crossing.{ComesSooner, CrossesFromRight, CrossesSegment}
 use Rattle.delaunay_paths.specs.Crossing.{TurnsNearer}
 use Rattle.delaunay_paths.specs.Kept.{KeepsUncrossed, KeepsUncrossedFaces}
 use Rattle.delaunay_paths.proofs.TurnLowers.{after_if_before, before_if_after, last_x_sooner}
 use Rattle.delaunay_paths.proofs.TurnLowers.{last_z_sooner, turn_lowers}
-use Rattle.mesh_embedding.proofs.EdgePairs.{edge_joins, joins_edge}
+use Rattle.delaunay_lines.proofs.mesh_embedding.EdgePairs.{edge_joins, joins_edge}
 
 -- ---- the ends of edges that are not turned
 -- a directed edge keeps its ends where another one, not its reverse, is flipped

@@ -6,35 +6,40 @@ use Rattle.std.proofs.Common.{◌≡◌, ℕ, ◌<◌, List, [], ◌∷◌, leng
 use mathlib.Core.Logic.{inl, inr}
 use Rattle.std.specs.Prelude.{ℤ, pos, neg_ℤ, ◌+ℤ◌, ◌≤ℤ◌, ◌<ℤ◌, true, ◌&&◌, int_lt}
 use Rattle.std.proofs.lemmas.Int.{ints}
-use Rattle.plane.specs.Fraction.{Point, whole}
-use Rattle.plane.specs.Laws.{turn_at, squared_way}
-use Rattle.plane.specs.Tiling.{Face, face, Triangulation, IsFace, TilesHull}
-use Rattle.plane.proofs.Areas.{right_if_negative, on_if_zero}
-use Rattle.plane.proofs.Bracket.{lift}
-use Rattle.plane.proofs.BracketIdentities.{bracket-affine, bracket-outer}
-use Rattle.plane.proofs.Sides.{on_if, test_true, less_by_test}
-use Rattle.plane.proofs.Signs.{lower_magnitude, opposite_of_negative, opposite_of_zero}
-use Rattle.plane.proofs.Signs.{sum_of_three_not_negative}
-use Rattle.plane.proofs.Steps.{both_signs, left_not_zero, right_not_zero, zero_or_left}
-use Rattle.plane.proofs.Triangles.{turned_face}
-use Rattle.plane_tiling.specs.Local.{total, around}
-use Rattle.plane_tiling.proofs.Totals.{total_nonneg}
-use Rattle.plane_delaunay.proofs.Points.Bracket.{bracket}
-use Rattle.plane_delaunay.proofs.Tilings.Ground.{tiling}
-use Rattle.plane_delaunay.proofs.Segments.Joining.{Crosses, Before, by_right, by_left, from_start}
-use Rattle.plane_delaunay.proofs.Segments.FlipExists as F
-use Rattle.plane_edits.specs.Change.{FacesChange}
-use Rattle.plane_edits.specs.Legal.{point_of}
-use Rattle.plane_edits.proofs.LocalMesh.Additions.{around_turn_free}
-use Rattle.plane_segments.specs.Measure.{is_right, rank_below, crosses, crossing_rank, crossing_sum}
-use Rattle.plane_segments.specs.Path.{ComesAfterOnRight, IsCrossing, IsFreeOfVertices, IsLastLeft}
-use Rattle.plane_segments.specs.Path.{IsLastRight}
-use Rattle.plane_segments.proofs.Crossing.Falling.{and_true, and_first, and_second, Precedes}
-use Rattle.plane_segments.proofs.Crossing.Falling.{rank_falls, rank_positive, ranked}
-use Rattle.plane_segments.proofs.Crossing.Falling.{ranked_nonneg, ranked_two, strictly_nearer}
-use Rattle.plane_segments.proofs.Crossing.Falling.{sum_falls}
-use Rattle.plane_segments.proofs.Crossing.Paths as P
-use Rattle.plane_segments.proofs.Crossing.Turns.{left_turn, no_turn, right_turn, turn-swapped}
+use Rattle.delaunay_lines.specs.plane.Fraction.{Point, whole}
+use Rattle.delaunay_lines.specs.plane.Laws.{turn_at, squared_way}
+use Rattle.delaunay_lines.specs.plane.Tiling.{Face, face, Triangulation, IsFace, TilesHull}
+use Rattle.delaunay_lines.proofs.plane.Areas.{right_if_negative, on_if_zero}
+use Rattle.delaunay_lines.proofs.plane.Bracket.{lift}
+use Rattle.delaunay_lines.proofs.plane.BracketIdentities.{bracket-affine, bracket-outer}
+use Rattle.delaunay_lines.proofs.plane.Sides.{on_if, test_true, less_by_test}
+use Rattle.delaunay_lines.proofs.plane.Signs.{lower_magnitude, opposite_of_negative}
+use Rattle.delaunay_lines.proofs.plane.Signs.{opposite_of_zero, sum_of_three_not_negative}
+use Rattle.delaunay_lines.proofs.plane.Steps.{both_signs, left_not_zero, right_not_zero}
+use Rattle.delaunay_lines.proofs.plane.Steps.{zero_or_left}
+use Rattle.delaunay_lines.proofs.plane.Triangles.{turned_face}
+use Rattle.delaunay_lines.specs.plane_tiling.Local.{total, around}
+use Rattle.delaunay_lines.proofs.plane_tiling.Totals.{total_nonneg}
+use Rattle.delaunay_lines.proofs.plane_delaunay.Points.Bracket.{bracket}
+use Rattle.delaunay_lines.proofs.plane_delaunay.Tilings.Ground.{tiling}
+use Rattle.delaunay_lines.proofs.plane_delaunay.Segments.Joining.{Crosses, Before, by_right}
+use Rattle.delaunay_lines.proofs.plane_delaunay.Segments.Joining.{by_left, from_start}
+use Rattle.delaunay_lines.proofs.plane_delaunay.Segments.FlipExists as F
+use Rattle.delaunay_lines.specs.plane_edits.Change.{FacesChange}
+use Rattle.delaunay_lines.specs.plane_edits.Legal.{point_of}
+use Rattle.delaunay_lines.proofs.plane_edits.LocalMesh.Additions.{around_turn_free}
+use Rattle.delaunay_lines.specs.plane_segments.Measure.{is_right, rank_below, crosses}
+use Rattle.delaunay_lines.specs.plane_segments.Measure.{crossing_rank, crossing_sum}
+use Rattle.delaunay_lines.specs.plane_segments.Path.{ComesAfterOnRight, IsCrossing}
+use Rattle.delaunay_lines.specs.plane_segments.Path.{IsFreeOfVertices, IsLastLeft, IsLastRight}
+use Rattle.delaunay_lines.proofs.plane_segments.Crossing.Falling.{and_true, and_first, and_second}
+use Rattle.delaunay_lines.proofs.plane_segments.Crossing.Falling.{Precedes, rank_falls}
+use Rattle.delaunay_lines.proofs.plane_segments.Crossing.Falling.{rank_positive, ranked}
+use Rattle.delaunay_lines.proofs.plane_segments.Crossing.Falling.{ranked_nonneg, ranked_two}
+use Rattle.delaunay_lines.proofs.plane_segments.Crossing.Falling.{strictly_nearer, sum_falls}
+use Rattle.delaunay_lines.proofs.plane_segments.Crossing.Paths as P
+use Rattle.delaunay_lines.proofs.plane_segments.Crossing.Turns.{left_turn, no_turn, right_turn}
+use Rattle.delaunay_lines.proofs.plane_segments.Crossing.Turns.{turn-swapped}
 
 -- ---- the order, by turns
 below_back : (a b : ℤ) → a ≡ neg_ℤ b → pos 0 <ℤ a → b <ℤ pos 0

@@ -5,17 +5,17 @@ use mathlib.Core.Logic.{inl, inr}
 use Rattle.std.specs.Prelude.{ℤ, pos, ◌<ℤ◌}
 use Rattle.std.proofs.lemmas.Int.{ints}
 use Rattle.std.proofs.lemmas.List.{length-map}
-use Rattle.plane.specs.Fraction.{Point, whole, WithinSegment}
-use Rattle.plane.specs.Tiling.{Face}
-use Rattle.plane.proofs.Bracket.{lift}
-use Rattle.plane.proofs.BracketIdentities.{bracket-outer, bracket-last}
-use Rattle.plane.proofs.Collinear.{place_on, place_of_start, place_of_end}
-use Rattle.plane.proofs.LineOrder.{IsBetween, place_within, within_places}
-use Rattle.plane_tiling.specs.Local.{IsMesh}
-use Rattle.plane_tiling.proofs.Edges.{within_on}
-use Rattle.plane_segments.proofs.Constraints.Pieces.{on_of_mean}
-use Rattle.plane_segments.specs.Constraints.{ArePlacedApart}
-use Rattle.plane.proofs.Signs.{less_through}
+use Rattle.delaunay_lines.specs.plane.Fraction.{Point, whole, WithinSegment}
+use Rattle.delaunay_lines.specs.plane.Tiling.{Face}
+use Rattle.delaunay_lines.proofs.plane.Bracket.{lift}
+use Rattle.delaunay_lines.proofs.plane.BracketIdentities.{bracket-outer, bracket-last}
+use Rattle.delaunay_lines.proofs.plane.Collinear.{place_on, place_of_start, place_of_end}
+use Rattle.delaunay_lines.proofs.plane.LineOrder.{IsBetween, place_within, within_places}
+use Rattle.delaunay_lines.specs.plane_tiling.Local.{IsMesh}
+use Rattle.delaunay_lines.proofs.plane_tiling.Edges.{within_on}
+use Rattle.delaunay_lines.proofs.plane_segments.Constraints.Pieces.{on_of_mean}
+use Rattle.delaunay_lines.specs.plane_segments.Constraints.{ArePlacedApart}
+use Rattle.delaunay_lines.proofs.plane.Signs.{less_through}
 
 -- ---- points strictly within a segment
 module _ (a b : Point) (apart : ¬ (a ≡ b)) where

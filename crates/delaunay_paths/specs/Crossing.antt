@@ -2,14 +2,14 @@
 -- turned towards it.
 use Rattle.std.specs.Prelude.{◌≡◌, ◌≢◌, ◌⊎◌, ◌<◌, ◌≤◌, ℕ, List, length, Option, MatchOption}
 use Rattle.std.specs.Prelude.{AllPairs, Contains}
-use Rattle.half_edge_mesh.specs.Contents.{Contents}
-use Rattle.half_edge_mesh.specs.Mesh.{Mesh, origin, next, prev, rev}
-use Rattle.plane.specs.Fraction.{Point, whole}
-use Rattle.plane.specs.Crossing.{Cross}
-use Rattle.plane.specs.Pairs.{place}
-use Rattle.plane.specs.Side.{side, right, TurnsLeft}
-use Rattle.plane_segments.specs.Path.{ComesAfterOnRight}
-use Rattle.delaunay_legalization.specs.Known.{point_at}
+use Rattle.delaunay_lines.specs.half_edge_mesh.Contents.{Contents}
+use Rattle.delaunay_lines.specs.half_edge_mesh.Mesh.{Mesh, origin, next, prev, rev}
+use Rattle.delaunay_lines.specs.plane.Fraction.{Point, whole}
+use Rattle.delaunay_lines.specs.plane.Crossing.{Cross}
+use Rattle.delaunay_lines.specs.plane.Pairs.{place}
+use Rattle.delaunay_lines.specs.plane.Side.{side, right, TurnsLeft}
+use Rattle.delaunay_lines.specs.plane_segments.Path.{ComesAfterOnRight}
+use Rattle.delaunay_lines.specs.delaunay_legalization.Known.{point_at}
 
 -- directed edge h and the segment from i to j have a point strictly within both
 abbrev pub CrossesSegment : List Point → Mesh → ℕ → ℕ → ℕ → Type 0

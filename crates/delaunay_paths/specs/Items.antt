@@ -1,9 +1,9 @@
 -- What an item of a walk along a segment is for a path.
 use Rattle.std.specs.Prelude.{◌≡◌, ◌≢◌, ◌⊎◌, ◌<◌, [], ◌∷◌, ◌++◌}
 use Rattle.std.specs.Prelude.{ℕ, List, length, Option, MatchOption}
-use Rattle.half_edge_mesh.specs.Contents.{Contents}
-use Rattle.half_edge_mesh.specs.Mesh.{Mesh, origin, rev}
-use Rattle.plane.specs.Line.{Item, at_vertex, across}
+use Rattle.delaunay_lines.specs.half_edge_mesh.Contents.{Contents}
+use Rattle.delaunay_lines.specs.half_edge_mesh.Mesh.{Mesh, origin, rev}
+use Rattle.delaunay_lines.specs.plane.Line.{Item, at_vertex, across}
 
 -- item k is this vertex, which is not i, or no other vertex than i
 abbrev pub IsOtherVertex : Item → ℕ → Option ℕ → Type 0

@@ -1,11 +1,11 @@
 -- What stays where a segment between two vertices is made an edge.
 use Rattle.std.specs.Prelude.{◌≡◌, ℕ, List, Some, slice_get}
-use Rattle.half_edge_mesh.specs.Mesh.{Mesh}
-use Rattle.half_edge_mesh.specs.Triangles.{Triangle, triangles}
-use Rattle.plane.specs.Crossing.{Cross}
-use Rattle.plane.specs.Fraction.{Point}
-use Rattle.plane.specs.Pairs.{place}
-use Rattle.mesh_embedding.specs.Stays.{GoSameWay}
+use Rattle.delaunay_lines.specs.half_edge_mesh.Mesh.{Mesh}
+use Rattle.delaunay_lines.specs.half_edge_mesh.Triangles.{Triangle, triangles}
+use Rattle.delaunay_lines.specs.plane.Crossing.{Cross}
+use Rattle.delaunay_lines.specs.plane.Fraction.{Point}
+use Rattle.delaunay_lines.specs.plane.Pairs.{place}
+use Rattle.delaunay_lines.specs.mesh_embedding.Stays.{GoSameWay}
 use Rattle.delaunay_paths.specs.Crossing.{CrossesSegment}
 
 -- each edge that does not cross the segment from i to j joins what it joined, under its index

@@ -1,17 +1,17 @@
 -- What a path leaves to the circle test.
 use Rattle.std.specs.Prelude.{◌≡◌, ◌⊎◌, ℕ, ◌<◌, ◌≤◌, List, length}
-use Rattle.half_edge_mesh.specs.Contents.{Contents}
-use Rattle.half_edge_mesh.specs.Mesh.{Mesh}
-use Rattle.plane.specs.Crossing.{Cross}
-use Rattle.plane.specs.Fraction.{Point}
-use Rattle.plane.specs.Pairs.{place, Joins}
-use Rattle.plane.specs.Tiling.{Face, IsEdge}
-use Rattle.plane_edits.specs.Change.{IsFaceOf}
-use Rattle.plane_edits.specs.Legal.{AllPassBut, Pass}
-use Rattle.plane_tiling.specs.Local.{IsMesh}
-use Rattle.plane_segments.specs.Measure.{crossing_sum}
-use Rattle.mesh_embedding.specs.Drawn.{drawn, faces_of, outer_of}
-use Rattle.mesh_embedding.specs.Legal.{AreEdges, pairs_at}
+use Rattle.delaunay_lines.specs.half_edge_mesh.Contents.{Contents}
+use Rattle.delaunay_lines.specs.half_edge_mesh.Mesh.{Mesh}
+use Rattle.delaunay_lines.specs.plane.Crossing.{Cross}
+use Rattle.delaunay_lines.specs.plane.Fraction.{Point}
+use Rattle.delaunay_lines.specs.plane.Pairs.{place, Joins}
+use Rattle.delaunay_lines.specs.plane.Tiling.{Face, IsEdge}
+use Rattle.delaunay_lines.specs.plane_edits.Change.{IsFaceOf}
+use Rattle.delaunay_lines.specs.plane_edits.Legal.{AllPassBut, Pass}
+use Rattle.delaunay_lines.specs.plane_tiling.Local.{IsMesh}
+use Rattle.delaunay_lines.specs.plane_segments.Measure.{crossing_sum}
+use Rattle.delaunay_lines.specs.mesh_embedding.Drawn.{drawn, faces_of, outer_of}
+use Rattle.delaunay_lines.specs.mesh_embedding.Legal.{AreEdges, pairs_at}
 use Rattle.delaunay_paths.specs.Kept.{KeepsUncrossed, KeepsUncrossedFaces}
 
 -- the segment from i to j crosses a side of the face a b k

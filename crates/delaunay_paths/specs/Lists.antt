@@ -1,14 +1,14 @@
 -- The lists of the edges that cross a segment, while they are turned.
 use Rattle.std.specs.Prelude.{◌≡◌, ◌≢◌, ◌⊎◌, ◌+◌, ◌≤◌, ℕ, List, [], length, AllPairs}
 use Rattle.std.specs.Prelude.{Contains, vec_capacity}
-use Rattle.half_edge_mesh.specs.Contents.{Contents, IsMeshWithData}
-use Rattle.half_edge_mesh.specs.Mesh.{Mesh}
-use Rattle.plane.specs.Fraction.{Point}
-use Rattle.plane.specs.Tiling.{IsEdge}
-use Rattle.plane_tiling.specs.Local.{IsMesh}
-use Rattle.plane_segments.specs.Constraints.{AreNextOn}
-use Rattle.plane_segments.specs.Path.{IsFreeOfVertices}
-use Rattle.mesh_embedding.specs.Drawn.{drawn, faces_of, outer_of}
+use Rattle.delaunay_lines.specs.half_edge_mesh.Contents.{Contents, IsMeshWithData}
+use Rattle.delaunay_lines.specs.half_edge_mesh.Mesh.{Mesh}
+use Rattle.delaunay_lines.specs.plane.Fraction.{Point}
+use Rattle.delaunay_lines.specs.plane.Tiling.{IsEdge}
+use Rattle.delaunay_lines.specs.plane_tiling.Local.{IsMesh}
+use Rattle.delaunay_lines.specs.plane_segments.Constraints.{AreNextOn}
+use Rattle.delaunay_lines.specs.plane_segments.Path.{IsFreeOfVertices}
+use Rattle.delaunay_lines.specs.mesh_embedding.Drawn.{drawn, faces_of, outer_of}
 use Rattle.delaunay_paths.specs.declared.crossing.CrossingLists.{CrossingLists}
 use Rattle.delaunay_paths.specs.Crossing.{AreAllCrossing, AreOthersCrossing, TurnsNearer}
 

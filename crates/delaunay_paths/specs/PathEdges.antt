@@ -1,10 +1,10 @@
 -- The directed edges along a path, in order.
 use Rattle.std.specs.Prelude.{◌≡◌, ℕ, ◌<◌, List, [], ◌∷◌, length}
-use Rattle.half_edge_mesh.specs.Mesh.{Mesh, origin, rev}
-use Rattle.plane.specs.Fraction.{Point}
-use Rattle.plane.specs.Pairs.{Joins}
-use Rattle.plane_segments.specs.Constraints.{AreNextOn}
-use Rattle.mesh_embedding.specs.Drawn.{edges_of}
+use Rattle.delaunay_lines.specs.half_edge_mesh.Mesh.{Mesh, origin, rev}
+use Rattle.delaunay_lines.specs.plane.Fraction.{Point}
+use Rattle.delaunay_lines.specs.plane.Pairs.{Joins}
+use Rattle.delaunay_lines.specs.plane_segments.Constraints.{AreNextOn}
+use Rattle.delaunay_lines.specs.mesh_embedding.Drawn.{edges_of}
 
 -- each piece of the path from i to j is an edge
 abbrev pub HasPath : List Point → Mesh → ℕ → ℕ → Type 0

@@ -1,14 +1,14 @@
 -- What becomes of a triangulation where constraints are added or released, and each other edge is
 -- legal afterwards.
 use Rattle.std.specs.Prelude.{◌≡◌, ℕ, ◌*◌, Bool, List, Some, slice_get, slice_set}
-use Rattle.half_edge_mesh.specs.Mesh.{origin, rev}
-use Rattle.half_edge_mesh.specs.Contents.{Contents}
-use Rattle.plane.specs.Fraction.{Point}
-use Rattle.plane.specs.Plain.{Adds, Releases}
-use Rattle.mesh_embedding.specs.Stays.{KeepsIndexes}
-use Rattle.delaunay_legalization.specs.Constraints.{points_and_constraints_by}
-use Rattle.delaunay_legalization.specs.Shape.{IsDelaunayTriangulation}
-use Rattle.delaunay_legalization.specs.State.{state_of}
+use Rattle.delaunay_lines.specs.half_edge_mesh.Mesh.{origin, rev}
+use Rattle.delaunay_lines.specs.half_edge_mesh.Contents.{Contents}
+use Rattle.delaunay_lines.specs.plane.Fraction.{Point}
+use Rattle.delaunay_lines.specs.plane.Plain.{Adds, Releases}
+use Rattle.delaunay_lines.specs.mesh_embedding.Stays.{KeepsIndexes}
+use Rattle.delaunay_lines.specs.delaunay_legalization.Constraints.{points_and_constraints_by}
+use Rattle.delaunay_lines.specs.delaunay_legalization.Shape.{IsDelaunayTriangulation}
+use Rattle.delaunay_lines.specs.delaunay_legalization.State.{state_of}
 use Rattle.delaunay_paths.specs.Adding.{MarksSome}
 
 -- the path from i to j was added

@@ -1,5 +1,5 @@
 -- Two points as they are seen from a position.
-use Rattle.plane.specs.Fraction.{Point}
+use Rattle.delaunay_lines.specs.plane.Fraction.{Point}
 
 -- what a contract sees of them: the position, the points and the tests
 pub record Viewing (P : Type 0) : Type 0 where

@@ -1,9 +1,9 @@
 -- The corners round an edge that is to be turned towards a segment, by their positions.
 use Rattle.std.specs.Prelude.{ℕ, List}
-use Rattle.half_edge_mesh.specs.Mesh.{Mesh, origin, next}
-use Rattle.plane.specs.Fraction.{Point, whole}
-use Rattle.plane.specs.Side.{TurnsLeft}
-use Rattle.delaunay_legalization.specs.Known.{point_at}
+use Rattle.delaunay_lines.specs.half_edge_mesh.Mesh.{Mesh, origin, next}
+use Rattle.delaunay_lines.specs.plane.Fraction.{Point, whole}
+use Rattle.delaunay_lines.specs.plane.Side.{TurnsLeft}
+use Rattle.delaunay_lines.specs.delaunay_legalization.Known.{point_at}
 use Rattle.delaunay_paths.specs.Crossing.{PassesSooner, ahead, behind}
 
 -- the corners v x y z turn left at v and at y, and where an edge between x and z crosses the way

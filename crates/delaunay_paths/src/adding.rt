@@ -1,10 +1,10 @@
 //! Constraints along the path between two vertices.
 ghost use Rattle.std.specs.Prelude.{◌≡◌, ◌↔◌, ◌<◌, true, length, map, All, IsTrue};
-ghost use Rattle.half_edge_mesh.specs.Contents.{IsMeshWithData};
-ghost use Rattle.plane.specs.Pairs.{Joins};
-ghost use Rattle.mesh_embedding.specs.Drawn.{edges_of};
-ghost use Rattle.delaunay_legalization.specs.Shape.{IsTriangulated};
-ghost use Rattle.delaunay_legalization.specs.State.{state_of};
+ghost use Rattle.delaunay_lines.specs.half_edge_mesh.Contents.{IsMeshWithData};
+ghost use Rattle.delaunay_lines.specs.plane.Pairs.{Joins};
+ghost use Rattle.delaunay_lines.specs.mesh_embedding.Drawn.{edges_of};
+ghost use Rattle.delaunay_lines.specs.delaunay_legalization.Shape.{IsTriangulated};
+ghost use Rattle.delaunay_lines.specs.delaunay_legalization.State.{state_of};
 ghost use Rattle.delaunay_paths.specs.Adding.{AddsPath, CanAddPath, HasFreeWay, MarksBetween};
 ghost use Rattle.delaunay_paths.specs.Adding.{MarksEdge};
 ghost use Rattle.delaunay_paths.specs.Leaving.{IsWorkList, LeavesToTest};
@@ -13,11 +13,11 @@ ghost use Rattle.delaunay_paths.specs.Lists.{HaveRoom};
 use crate::crossing::CrossingLists;
 use crate::flips::turn_listed;
 use crate::joined::{edge_between, edge_if_joined};
-use delaunay_core::math::PlaneTests;
-use delaunay_core::point::HasPosition;
-use delaunay_legalization::{ConstraintMarker, EdgeSet, make_constraint};
 use delaunay_lines::ConflictingEdgesIterator;
-use half_edge_mesh::{Dcel, FixedUndirectedEdgeHandle, FixedVertexHandle};
+use delaunay_lines::delaunay_core::math::PlaneTests;
+use delaunay_lines::delaunay_core::point::HasPosition;
+use delaunay_lines::delaunay_legalization::{ConstraintMarker, EdgeSet, make_constraint};
+use delaunay_lines::half_edge_mesh::{Dcel, FixedUndirectedEdgeHandle, FixedVertexHandle};
 
 /// Whether no constraint crosses the segment between two vertices. Where an edge joins them, a look
 /// round the first tells.

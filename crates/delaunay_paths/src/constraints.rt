@@ -1,20 +1,22 @@
 //! Constraints that are added and released, with each other edge legal afterwards.
 ghost use Rattle.std.specs.Prelude.{◌≡◌, ◌*◌, ◌<◌, ◌≤◌, ◌∷◌, []};
 ghost use Rattle.std.specs.Prelude.{true, length, map, All, Contains};
-ghost use Rattle.half_edge_mesh.specs.Mesh.{origin, rev};
-ghost use Rattle.delaunay_legalization.specs.Flips.{CountsFlips, FlipsFit};
-ghost use Rattle.delaunay_legalization.specs.Shape.{IsDelaunayTriangulation};
-ghost use Rattle.delaunay_legalization.specs.State.{state_of};
+ghost use Rattle.delaunay_lines.specs.half_edge_mesh.Mesh.{origin, rev};
+ghost use Rattle.delaunay_lines.specs.delaunay_legalization.Flips.{CountsFlips, FlipsFit};
+ghost use Rattle.delaunay_lines.specs.delaunay_legalization.Shape.{IsDelaunayTriangulation};
+ghost use Rattle.delaunay_lines.specs.delaunay_legalization.State.{state_of};
 ghost use Rattle.delaunay_paths.specs.Adding.{HasFreeWay};
 ghost use Rattle.delaunay_paths.specs.Lists.{HaveRoom};
 ghost use Rattle.delaunay_paths.specs.Releasing.{AddsConstraints, ReleasesEdge};
 
 use crate::adding::{add_path, mark};
 use crate::crossing::CrossingLists;
-use delaunay_core::math::PlaneTests;
-use delaunay_core::point::HasPosition;
-use delaunay_legalization::{ConstraintMarker, EdgeSet, free_edge, legalize};
-use half_edge_mesh::{Dcel, FixedDirectedEdgeHandle, FixedUndirectedEdgeHandle, FixedVertexHandle};
+use delaunay_lines::delaunay_core::math::PlaneTests;
+use delaunay_lines::delaunay_core::point::HasPosition;
+use delaunay_lines::delaunay_legalization::{ConstraintMarker, EdgeSet, free_edge, legalize};
+use delaunay_lines::half_edge_mesh::{
+    Dcel, FixedDirectedEdgeHandle, FixedUndirectedEdgeHandle, FixedVertexHandle,
+};
 
 /// Adds the pieces of the path between two vertices, whose segment no constraint crosses, to the
 /// constraints, and flips edges that fail the circle test until none does. `work` and each of the

@@ -1,19 +1,19 @@
 //! The edges that cross a segment between two vertices, in the lists from which they are turned.
 ghost use Rattle.std.specs.Prelude.{◌≡◌, ◌≢◌, ◌<◌, ◌≤◌, []};
 ghost use Rattle.std.specs.Prelude.{length, map, All, IfNone, IfSome, OnOk, vec_capacity};
-ghost use Rattle.plane_tiling.specs.Local.{IsMesh};
-ghost use Rattle.plane_segments.specs.Constraints.{AreNextOn};
-ghost use Rattle.mesh_embedding.specs.Drawn.{faces_of, outer_of};
+ghost use Rattle.delaunay_lines.specs.plane_tiling.Local.{IsMesh};
+ghost use Rattle.delaunay_lines.specs.plane_segments.Constraints.{AreNextOn};
+ghost use Rattle.delaunay_lines.specs.mesh_embedding.Drawn.{faces_of, outer_of};
 ghost use Rattle.delaunay_lines.specs.Items.{item_in, mesh_of};
 ghost use Rattle.delaunay_paths.specs.Crossing.{ListsAllCrossing};
 ghost use Rattle.delaunay_paths.specs.Items.{HasRoomForItem, IsCrossedTwin, ListsItem};
 ghost use Rattle.delaunay_paths.specs.Lists.{AreHeld, HaveRoom, KeepEntries, KeepRoom, ListPiece};
 
 use crate::path::{is_same_vertex, other_vertex};
-use delaunay_core::math::PlaneTests;
-use delaunay_core::point::HasPosition;
+use delaunay_lines::delaunay_core::math::PlaneTests;
+use delaunay_lines::delaunay_core::point::HasPosition;
+use delaunay_lines::half_edge_mesh::{Dcel, FixedDirectedEdgeHandle, FixedVertexHandle};
 use delaunay_lines::{Intersection, line_between_vertices};
-use half_edge_mesh::{Dcel, FixedDirectedEdgeHandle, FixedVertexHandle};
 use std::alloc::{AllocError, Global};
 
 /// The lists of the edges that cross a segment, each from its right to its left. What stands in

@@ -1,8 +1,8 @@
 //! Flips until a segment between two vertices is an edge.
 ghost use Rattle.std.specs.Prelude.{◌≡◌, length, map, All, IfNone, IfSome};
-ghost use Rattle.plane_tiling.specs.Local.{IsMesh};
-ghost use Rattle.plane_segments.specs.Path.{IsFreeOfVertices};
-ghost use Rattle.mesh_embedding.specs.Drawn.{drawn, faces_of, outer_of};
+ghost use Rattle.delaunay_lines.specs.plane_tiling.Local.{IsMesh};
+ghost use Rattle.delaunay_lines.specs.plane_segments.Path.{IsFreeOfVertices};
+ghost use Rattle.delaunay_lines.specs.mesh_embedding.Drawn.{drawn, faces_of, outer_of};
 ghost use Rattle.delaunay_paths.specs.Crossing.{TurnsNearer};
 ghost use Rattle.delaunay_paths.specs.Leaving.{IsWorkList, MakesEdge, TurnsTowards};
 ghost use Rattle.delaunay_paths.specs.Lists.{HasAsEdge, HaveRoom, HaveSeen, IsToTurn, KeepRoom};
@@ -11,10 +11,10 @@ ghost use Rattle.delaunay_paths.specs.Lists.{ListCrossing, ListOthers};
 use crate::crossing::CrossingLists;
 use crate::leaving::push_round;
 use crate::nearer::{turns_nearer, way_made};
-use delaunay_core::math::PlaneTests;
-use delaunay_core::point::HasPosition;
-use delaunay_legalization::EdgeSet;
-use half_edge_mesh::{Dcel, FixedDirectedEdgeHandle, FixedVertexHandle};
+use delaunay_lines::delaunay_core::math::PlaneTests;
+use delaunay_lines::delaunay_core::point::HasPosition;
+use delaunay_lines::delaunay_legalization::EdgeSet;
+use delaunay_lines::half_edge_mesh::{Dcel, FixedDirectedEdgeHandle, FixedVertexHandle};
 
 // Takes out the next edge that can be turned, of those still to be seen; the others before it wait.
 fn seek<V: HasPosition, DE, UE, F, P: PlaneTests<V::Scalar>>(

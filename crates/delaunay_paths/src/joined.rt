@@ -1,17 +1,17 @@
 //! Edges and constraints between two vertices, by a look round the first.
 ghost use Rattle.std.specs.Prelude.{◌≡◌, ◌≢◌, ◌↔◌, ◌<◌, ℕ};
 ghost use Rattle.std.specs.Prelude.{length, IsTrue, IfNone, IfSome};
-ghost use Rattle.half_edge_mesh.specs.Mesh.{origin, rev};
-ghost use Rattle.half_edge_mesh.specs.Contents.{IsMeshWithData};
-ghost use Rattle.plane.specs.Pairs.{Joins};
-ghost use Rattle.mesh_embedding.specs.Drawn.{edges_of};
-ghost use Rattle.delaunay_legalization.specs.Constraints.{constraints_by};
-ghost use Rattle.delaunay_legalization.specs.Shape.{IsTriangulated};
-ghost use Rattle.delaunay_legalization.specs.State.{state_of};
+ghost use Rattle.delaunay_lines.specs.half_edge_mesh.Mesh.{origin, rev};
+ghost use Rattle.delaunay_lines.specs.half_edge_mesh.Contents.{IsMeshWithData};
+ghost use Rattle.delaunay_lines.specs.plane.Pairs.{Joins};
+ghost use Rattle.delaunay_lines.specs.mesh_embedding.Drawn.{edges_of};
+ghost use Rattle.delaunay_lines.specs.delaunay_legalization.Constraints.{constraints_by};
+ghost use Rattle.delaunay_lines.specs.delaunay_legalization.Shape.{IsTriangulated};
+ghost use Rattle.delaunay_lines.specs.delaunay_legalization.State.{state_of};
 
-use delaunay_core::point::HasPosition;
-use delaunay_legalization::{ConstraintMarker, is_constraint_edge};
-use half_edge_mesh::{Dcel, FixedDirectedEdgeHandle, FixedVertexHandle, MeshViews};
+use delaunay_lines::delaunay_core::point::HasPosition;
+use delaunay_lines::delaunay_legalization::{ConstraintMarker, is_constraint_edge};
+use delaunay_lines::half_edge_mesh::{Dcel, FixedDirectedEdgeHandle, FixedVertexHandle, MeshViews};
 
 /// The edge from one vertex to another, if there is one, by a look round the first.
 pub fn edge_if_joined<V, DE, UE, F>(

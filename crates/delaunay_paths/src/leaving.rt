@@ -1,10 +1,10 @@
 //! The edges that flips towards a segment leave to the circle test.
 ghost use Rattle.std.specs.Prelude.{◌≡◌, ◌/◌, ◌<◌, length, Contains};
-ghost use Rattle.mesh_embedding.specs.Legal.{AreEdges, GainsRound};
+ghost use Rattle.delaunay_lines.specs.mesh_embedding.Legal.{AreEdges, GainsRound};
 ghost use Rattle.delaunay_paths.specs.Leaving.{IsWorkList};
 
-use delaunay_legalization::{EdgeSet, push_side, push_sides};
-use half_edge_mesh::{Dcel, FixedDirectedEdgeHandle};
+use delaunay_lines::delaunay_legalization::{EdgeSet, push_side, push_sides};
+use delaunay_lines::half_edge_mesh::{Dcel, FixedDirectedEdgeHandle};
 
 // Puts an edge and the four edges round it into a work list, unless they are there.
 pub(crate) fn push_round<V, DE, UE, F>(

@@ -2,6 +2,9 @@
 //! edges that cross a piece, and flips until the piece is an edge.
 #![tactic(auto)]
 
+pub use delaunay_lines;
+pub use delaunay_lines::{delaunay_core, delaunay_legalization, delaunay_location, half_edge_mesh};
+
 mod adding;
 mod constraints;
 mod crossing;

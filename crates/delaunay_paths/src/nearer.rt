@@ -1,17 +1,17 @@
 //! Whether an edge that crosses a segment can be turned towards it, and whether the edge that is
 //! made then crosses too.
 ghost use Rattle.std.specs.Prelude.{◌≡◌, ◌↔◌, ◌<◌, length, map, All, IsTrue};
-ghost use Rattle.plane_segments.specs.Path.{ComesAfterOnRight};
-ghost use Rattle.delaunay_core.specs.Place.{place_of};
+ghost use Rattle.delaunay_lines.specs.plane_segments.Path.{ComesAfterOnRight};
+ghost use Rattle.delaunay_lines.specs.delaunay_core.Place.{place_of};
 ghost use Rattle.delaunay_paths.specs.Crossing.{IsWayMade, PassesFromRight, PassesSooner};
 ghost use Rattle.delaunay_paths.specs.Crossing.{TurnsNearer};
 ghost use Rattle.delaunay_paths.specs.Turning.{corners_round, CornersTurn};
 
 use crate::order::Seen;
-use delaunay_core::math::PlaneTests;
-use delaunay_core::point::{HasPosition, Point2, SpadeNum};
-use delaunay_legalization::{position_of, start_before, start_of, turns_left};
-use half_edge_mesh::{Dcel, FixedDirectedEdgeHandle, FixedVertexHandle, MeshViews};
+use delaunay_lines::delaunay_core::math::PlaneTests;
+use delaunay_lines::delaunay_core::point::{HasPosition, Point2, SpadeNum};
+use delaunay_lines::delaunay_legalization::{position_of, start_before, start_of, turns_left};
+use delaunay_lines::half_edge_mesh::{Dcel, FixedDirectedEdgeHandle, FixedVertexHandle, MeshViews};
 use std::marker::Model;
 
 // A segment, and the corners round an edge from `start` to `end`, of which one is ahead of it, on
@@ -28,7 +28,7 @@ struct Turning<'a, S: SpadeNum, P: PlaneTests<S>> {
 }
 
 impl<'a, S: SpadeNum, P: PlaneTests<S>> Model for Turning<'a, S, P> {
-    ghost use Rattle.delaunay_core.specs.Place.{place_of};
+    ghost use Rattle.delaunay_lines.specs.delaunay_core.Place.{place_of};
     ghost use Rattle.delaunay_paths.specs.Turning.{AreCovered, Corners};
 
     ghost Value = { Corners P };

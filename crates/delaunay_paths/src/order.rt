@@ -1,12 +1,12 @@
 //! Two points in the order in which they are seen from a position.
 ghost use Rattle.std.specs.Prelude.{◌↔◌, ◌<ℤ◌, IsTrue};
-ghost use Rattle.plane.specs.Fraction.{whole as fraction};
-ghost use Rattle.plane.specs.Circle.{gap};
-ghost use Rattle.plane.specs.Laws.{squared_way};
-ghost use Rattle.plane_segments.specs.Path.{ComesAfterOnRight};
+ghost use Rattle.delaunay_lines.specs.plane.Fraction.{whole as fraction};
+ghost use Rattle.delaunay_lines.specs.plane.Circle.{gap};
+ghost use Rattle.delaunay_lines.specs.plane.Laws.{squared_way};
+ghost use Rattle.delaunay_lines.specs.plane_segments.Path.{ComesAfterOnRight};
 
-use delaunay_core::math::PlaneTests;
-use delaunay_core::point::{Point2, SpadeNum};
+use delaunay_lines::delaunay_core::math::PlaneTests;
+use delaunay_lines::delaunay_core::point::{Point2, SpadeNum};
 use std::marker::Model;
 
 // Two points as they are seen from a position, with tests that cover all three.
@@ -19,7 +19,7 @@ pub(crate) struct Seen<'a, S: SpadeNum, P: PlaneTests<S>> {
 }
 
 impl<'a, S: SpadeNum, P: PlaneTests<S>> Model for Seen<'a, S, P> {
-    ghost use Rattle.delaunay_core.specs.Place.{place_of};
+    ghost use Rattle.delaunay_lines.specs.delaunay_core.Place.{place_of};
     ghost use Rattle.delaunay_paths.specs.Seen.{AreViewed, Viewing};
 
     ghost Value = { Viewing P };

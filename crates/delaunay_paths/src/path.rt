@@ -1,15 +1,15 @@
 //! The path of pieces between two vertices.
 ghost use Rattle.std.specs.Prelude.{◌≡◌, ◌≢◌, ◌↔◌, ◌<◌, length, map, All, IsTrue};
-ghost use Rattle.plane_tiling.specs.Local.{IsMesh};
-ghost use Rattle.plane_segments.specs.Constraints.{AreNextOn};
-ghost use Rattle.mesh_embedding.specs.Drawn.{faces_of, outer_of};
+ghost use Rattle.delaunay_lines.specs.plane_tiling.Local.{IsMesh};
+ghost use Rattle.delaunay_lines.specs.plane_segments.Constraints.{AreNextOn};
+ghost use Rattle.delaunay_lines.specs.mesh_embedding.Drawn.{faces_of, outer_of};
 ghost use Rattle.delaunay_lines.specs.Items.{item_in};
 ghost use Rattle.delaunay_paths.specs.Items.{IsOtherVertex};
 
-use delaunay_core::math::PlaneTests;
-use delaunay_core::point::HasPosition;
+use delaunay_lines::delaunay_core::math::PlaneTests;
+use delaunay_lines::delaunay_core::point::HasPosition;
+use delaunay_lines::half_edge_mesh::{Dcel, FixedVertexHandle};
 use delaunay_lines::{Intersection, line_between_vertices};
-use half_edge_mesh::{Dcel, FixedVertexHandle};
 
 // Whether two vertices are one.
 pub(crate) fn is_same_vertex(one: FixedVertexHandle, other: FixedVertexHandle) -> bool

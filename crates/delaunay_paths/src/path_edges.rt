@@ -1,18 +1,18 @@
 //! The edges along the path between two vertices.
 ghost use Rattle.std.specs.Prelude.{◌≡◌, ◌≢◌, ◌<◌, ◌≤◌};
 ghost use Rattle.std.specs.Prelude.{length, map, All, IfNone, IfSome, vec_capacity};
-ghost use Rattle.plane_tiling.specs.Local.{IsMesh};
-ghost use Rattle.plane_segments.specs.Constraints.{AreNextOn};
-ghost use Rattle.mesh_embedding.specs.Drawn.{faces_of, outer_of};
-ghost use Rattle.delaunay_legalization.specs.Shape.{IsTriangulated};
-ghost use Rattle.delaunay_legalization.specs.State.{state_of};
+ghost use Rattle.delaunay_lines.specs.plane_tiling.Local.{IsMesh};
+ghost use Rattle.delaunay_lines.specs.plane_segments.Constraints.{AreNextOn};
+ghost use Rattle.delaunay_lines.specs.mesh_embedding.Drawn.{faces_of, outer_of};
+ghost use Rattle.delaunay_lines.specs.delaunay_legalization.Shape.{IsTriangulated};
+ghost use Rattle.delaunay_lines.specs.delaunay_legalization.State.{state_of};
 ghost use Rattle.delaunay_paths.specs.PathEdges.{HasPath, LeadAlong};
 
 use crate::joined::edge_between;
 use crate::path::{is_same_vertex, next_on_path};
-use delaunay_core::math::PlaneTests;
-use delaunay_core::point::HasPosition;
-use half_edge_mesh::{Dcel, FixedDirectedEdgeHandle, FixedVertexHandle};
+use delaunay_lines::delaunay_core::math::PlaneTests;
+use delaunay_lines::delaunay_core::point::HasPosition;
+use delaunay_lines::half_edge_mesh::{Dcel, FixedDirectedEdgeHandle, FixedVertexHandle};
 
 // The vertex where the first piece of the path between two vertices ends, unless they are one.
 fn next_piece<V: HasPosition, DE, UE, F, P: PlaneTests<V::Scalar>>(

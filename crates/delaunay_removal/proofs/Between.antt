@@ -2,13 +2,14 @@
 -- Lemmas: starts_apart, ends_apart, not_from, not_to, between_read, between_at_next.
 use Rattle.std.proofs.Common.{◌≡◌, ◌≢◌, ◌↔◌, ◌<◌, ◌∙◌}
 use Rattle.std.proofs.Common.{ℕ, List, length, sym, ap, subst, arith, inl, inr}
-use Rattle.half_edge_mesh.specs.Mesh.{Mesh, AreSoundLinks, IsValidMesh, origin, rev}
-use Rattle.half_edge_mesh.specs.Peel.{turn, spoke}
-use Rattle.half_edge_mesh.specs.Round.{neighbour}
-use Rattle.half_edge_links.proofs.Lists.Rev.{rev_within}
-use Rattle.plane.specs.Fraction.{Point, whole, WithinSegment}
-use Rattle.plane_tiling.specs.Local.{LocalMesh}
-use Rattle.mesh_embedding.specs.Drawn.{faces_of, outer_of}
+use Rattle.delaunay_legalization.specs.half_edge_mesh.Mesh.{Mesh, AreSoundLinks, IsValidMesh}
+use Rattle.delaunay_legalization.specs.half_edge_mesh.Mesh.{origin, rev}
+use Rattle.delaunay_legalization.specs.half_edge_mesh.Peel.{turn, spoke}
+use Rattle.delaunay_legalization.specs.half_edge_mesh.Round.{neighbour}
+use Rattle.delaunay_legalization.proofs.half_edge_links.Lists.Rev.{rev_within}
+use Rattle.delaunay_legalization.specs.plane.Fraction.{Point, whole, WithinSegment}
+use Rattle.delaunay_legalization.specs.plane_tiling.Local.{LocalMesh}
+use Rattle.delaunay_legalization.specs.mesh_embedding.Drawn.{faces_of, outer_of}
 use Rattle.delaunay_legalization.specs.Known.{point_at}
 use Rattle.delaunay_removal.specs.Star.{IsBetweenAt, IsInnerStar, StandsBetween}
 use Rattle.delaunay_removal.proofs.InnerStars.{ends_differ}

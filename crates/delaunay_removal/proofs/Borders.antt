@@ -6,12 +6,13 @@ use Rattle.std.proofs.Common.{subst, inl, inr, arith}
 use Rattle.std.specs.Prelude.{Contains}
 use Rattle.std.proofs.Math.Numerals.{add-one}
 use Rattle.std.proofs.lemmas.Bool.{cases_eq}
-use Rattle.half_edge_mesh.specs.Mesh.{Mesh, IsValidMesh, origin, out_edge, rev}
-use Rattle.half_edge_mesh.specs.Peel.{turn, spoke}
-use Rattle.half_edge_mesh.specs.Round.{IsRound, neighbour}
-use Rattle.plane.specs.Pairs.{Joins}
-use Rattle.plane_tiling.proofs.Totals.{Contains-head}
-use Rattle.mesh_embedding.proofs.Entries.{not_some}
+use Rattle.delaunay_legalization.specs.half_edge_mesh.Mesh.{Mesh, IsValidMesh, origin, out_edge}
+use Rattle.delaunay_legalization.specs.half_edge_mesh.Mesh.{rev}
+use Rattle.delaunay_legalization.specs.half_edge_mesh.Peel.{turn, spoke}
+use Rattle.delaunay_legalization.specs.half_edge_mesh.Round.{IsRound, neighbour}
+use Rattle.delaunay_legalization.specs.plane.Pairs.{Joins}
+use Rattle.delaunay_legalization.proofs.plane_tiling.Totals.{Contains-head}
+use Rattle.delaunay_legalization.proofs.mesh_embedding.Entries.{not_some}
 use Rattle.delaunay_removal.specs.Pairs.{HasBorder}
 use Rattle.delaunay_removal.proofs.DataStays.{pair_put, pairs_kept}
 

@@ -3,10 +3,10 @@
 use Rattle.std.proofs.Common.{◌≡◌, ◌<◌, ◌≤◌, ◌∙◌}
 use Rattle.std.proofs.Common.{ℕ, length, sym, ap, arith, inl, inr}
 use Rattle.std.proofs.lemmas.Bool.{cases_lt}
-use Rattle.half_edge_links.proofs.Lists.Rev.{rev-rev, rev_within}
-use Rattle.half_edge_mesh.specs.Mesh.{Mesh, IsValidMesh, origin, rev}
-use Rattle.half_edge_mesh.specs.Round.{IsRound}
-use Rattle.half_edge_views.proofs.Loops.{round_fits}
+use Rattle.delaunay_legalization.proofs.half_edge_links.Lists.Rev.{rev-rev, rev_within}
+use Rattle.delaunay_legalization.specs.half_edge_mesh.Mesh.{Mesh, IsValidMesh, origin, rev}
+use Rattle.delaunay_legalization.specs.half_edge_mesh.Round.{IsRound}
+use Rattle.delaunay_legalization.proofs.half_edge_views.Loops.{round_fits}
 use Rattle.delaunay_legalization.proofs.Rounds.{round_at}
 use Rattle.delaunay_removal.specs.Pairs.{HasNoEdgeBetween}
 use Rattle.delaunay_removal.proofs.Searching.{IsSearching}

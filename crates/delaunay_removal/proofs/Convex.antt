@@ -1,10 +1,10 @@
 -- What the tests of the corners round an edge say.
 -- Lemmas: convex_read.
 use Rattle.std.proofs.Common.{◌≡◌, ◌↔◌, ℕ, List}
-use Rattle.half_edge_mesh.specs.Mesh.{Mesh, origin, rev}
-use Rattle.half_edge_mesh.specs.Peel.{turn}
-use Rattle.plane.specs.Fraction.{Point, whole}
-use Rattle.plane.specs.Side.{TurnsLeft}
+use Rattle.delaunay_legalization.specs.half_edge_mesh.Mesh.{Mesh, origin, rev}
+use Rattle.delaunay_legalization.specs.half_edge_mesh.Peel.{turn}
+use Rattle.delaunay_legalization.specs.plane.Fraction.{Point, whole}
+use Rattle.delaunay_legalization.specs.plane.Side.{TurnsLeft}
 use Rattle.delaunay_legalization.specs.Known.{point_at}
 use Rattle.delaunay_removal.specs.Star.{IsConvexAt}
 

@@ -3,16 +3,18 @@
 use Rattle.std.proofs.Common.{◌≡◌, ◌≢◌, ◌⊎◌, ◌-◌, ◌<◌, [], ◌∙◌}
 use Rattle.std.proofs.Common.{ℕ, List, length, map, Some, sym, ap, subst, inl, inr, arith}
 use Rattle.std.specs.Prelude.{slice_get, Contains}
-use Rattle.half_edge_mesh.specs.Mesh.{origin, rev}
-use Rattle.half_edge_mesh.specs.Triangles.{Triangle, triangles}
-use Rattle.half_edge_mesh.specs.Contents.{Contents, IsMeshWithData}
-use Rattle.half_edge_mesh.specs.Removal.{FullEdge, FullFace, full_edges, full_faces}
-use Rattle.half_edge_mesh.specs.Removal.{renumbered_edge, renumbered_face, DropsVertex, LeavesMesh}
-use Rattle.half_edge_dcel.proofs.Hubs.{count_faces}
-use Rattle.mesh_embedding.specs.Drawn.{faces_of}
-use Rattle.mesh_embedding.proofs.FaceChanges.{contains_map}
-use Rattle.mesh_embedding.proofs.WorkLists.{contains_map_from}
-use Rattle.plane.specs.Fraction.{Point}
+use Rattle.delaunay_legalization.specs.half_edge_mesh.Mesh.{origin, rev}
+use Rattle.delaunay_legalization.specs.half_edge_mesh.Triangles.{Triangle, triangles}
+use Rattle.delaunay_legalization.specs.half_edge_mesh.Contents.{Contents, IsMeshWithData}
+use Rattle.delaunay_legalization.specs.half_edge_mesh.Removal.{FullEdge, FullFace, full_edges}
+use Rattle.delaunay_legalization.specs.half_edge_mesh.Removal.{full_faces, renumbered_edge}
+use Rattle.delaunay_legalization.specs.half_edge_mesh.Removal.{renumbered_face, DropsVertex}
+use Rattle.delaunay_legalization.specs.half_edge_mesh.Removal.{LeavesMesh}
+use Rattle.delaunay_legalization.proofs.half_edge_dcel.Hubs.{count_faces}
+use Rattle.delaunay_legalization.specs.mesh_embedding.Drawn.{faces_of}
+use Rattle.delaunay_legalization.proofs.mesh_embedding.FaceChanges.{contains_map}
+use Rattle.delaunay_legalization.proofs.mesh_embedding.WorkLists.{contains_map_from}
+use Rattle.delaunay_legalization.specs.plane.Fraction.{Point}
 use Rattle.delaunay_legalization.specs.Shape.{IsTriangulated}
 use Rattle.delaunay_legalization.specs.State.{state_of}
 use Rattle.delaunay_removal.specs.Star.{IsolatesVertex}

@@ -8,20 +8,24 @@ use Rattle.std.proofs.lemmas.Bool.{cases_eq}
 use Rattle.std.proofs.lemmas.Grind.{common_steps}
 use Rattle.std.proofs.lemmas.List.{length-map}
 use Rattle.std.proofs.lemmas.Option.{slice_get-get_or, slice_get_within}
-use Rattle.half_edge_mesh.specs.Mesh.{AreSoundLinks, origin, rev}
-use Rattle.half_edge_mesh.specs.Outline.{Ends, ends}
-use Rattle.half_edge_mesh.specs.Renames.{moved}
-use Rattle.half_edge_mesh.specs.Triangles.{Triangle, triangles, triangle_at}
-use Rattle.half_edge_links.proofs.Removing.TakenLists.{ends_at, count_ends}
-use Rattle.half_edge_mesh.specs.Contents.{Contents, IsMeshWithData}
-use Rattle.half_edge_mesh.specs.Removal.{FullEdge, FullFace, full_edges, full_faces}
-use Rattle.half_edge_mesh.specs.Removal.{renumbered_edge, renumbered_face}
-use Rattle.half_edge_dcel.proofs.Hubs.{count_faces}
-use Rattle.half_edge_dcel.proofs.TakenOut.{length-full_edges, get_or-full_edges, get_or-full_faces}
-use Rattle.half_edge_dcel.proofs.TwoEdges.{item_at}
+use Rattle.delaunay_legalization.specs.half_edge_mesh.Mesh.{AreSoundLinks, origin, rev}
+use Rattle.delaunay_legalization.specs.half_edge_mesh.Outline.{Ends, ends}
+use Rattle.delaunay_legalization.specs.half_edge_mesh.Renames.{moved}
+use Rattle.delaunay_legalization.specs.half_edge_mesh.Triangles.{Triangle, triangles, triangle_at}
+use Rattle.delaunay_legalization.proofs.half_edge_links.Removing.TakenLists.{ends_at, count_ends}
+use Rattle.delaunay_legalization.specs.half_edge_mesh.Contents.{Contents, IsMeshWithData}
+use Rattle.delaunay_legalization.specs.half_edge_mesh.Removal.{FullEdge, FullFace, full_edges}
+use Rattle.delaunay_legalization.specs.half_edge_mesh.Removal.{full_faces, renumbered_edge}
+use Rattle.delaunay_legalization.specs.half_edge_mesh.Removal.{renumbered_face}
+use Rattle.delaunay_legalization.proofs.half_edge_dcel.Hubs.{count_faces}
+use Rattle.delaunay_legalization.proofs.half_edge_dcel.TakenOut.{length-full_edges}
+use Rattle.delaunay_legalization.proofs.half_edge_dcel.TakenOut.{get_or-full_edges}
+use Rattle.delaunay_legalization.proofs.half_edge_dcel.TakenOut.{get_or-full_faces}
+use Rattle.delaunay_legalization.proofs.half_edge_dcel.TwoEdges.{item_at}
 use Rattle.delaunay_legalization.specs.State.{state_of}
 use Rattle.delaunay_removal.specs.Data.{HasDataOfEdge, HasDataOfFace}
-use Rattle.mesh_embedding.proofs.EdgePairs.{rev_of_even, rev_of_odd, half_of_even}
+use Rattle.delaunay_legalization.proofs.mesh_embedding.EdgePairs.{rev_of_even, rev_of_odd}
+use Rattle.delaunay_legalization.proofs.mesh_embedding.EdgePairs.{half_of_even}
 
 -- undirected edge k, with all its data
 pub record IsEdgeAt {V D U F : Type 0} (c : Contents V D U F) (k : ℕ)

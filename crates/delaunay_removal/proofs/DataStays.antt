@@ -10,15 +10,18 @@ use Rattle.std.specs.List.Sorted.{IsPermutation}
 use Rattle.std.proofs.lemmas.List.Elements.{Contains-append_left, Contains-append_right}
 use Rattle.std.proofs.lemmas.List.Elements.{Contains-append_cases}
 use Rattle.std.proofs.lemmas.List.Sorted.{Contains-permutation, IsPermutation-sym}
-use Rattle.half_edge_mesh.specs.Outline.{Ends}
-use Rattle.half_edge_mesh.specs.Triangles.{Triangle}
-use Rattle.half_edge_mesh.specs.Contents.{Contents, IsMeshWithData}
-use Rattle.half_edge_mesh.specs.Growth.{joins}
-use Rattle.half_edge_mesh.specs.Removal.{FullEdge, FullFace, Connects, HasCorners, full_edges}
-use Rattle.half_edge_mesh.specs.Removal.{full_faces, spokes_to, faces_between, LosesEdges}
-use Rattle.half_edge_mesh.specs.Removal.{JoinsNeighbours, LosesStrip, FillsHole}
-use Rattle.plane_tiling.proofs.Totals.{Contains-none, Contains-head, Contains-later, Contains-cases}
-use Rattle.mesh_embedding.specs.Drawn.{faces_of}
+use Rattle.delaunay_legalization.specs.half_edge_mesh.Outline.{Ends}
+use Rattle.delaunay_legalization.specs.half_edge_mesh.Triangles.{Triangle}
+use Rattle.delaunay_legalization.specs.half_edge_mesh.Contents.{Contents, IsMeshWithData}
+use Rattle.delaunay_legalization.specs.half_edge_mesh.Growth.{joins}
+use Rattle.delaunay_legalization.specs.half_edge_mesh.Removal.{FullEdge, FullFace, Connects}
+use Rattle.delaunay_legalization.specs.half_edge_mesh.Removal.{HasCorners, full_edges, full_faces}
+use Rattle.delaunay_legalization.specs.half_edge_mesh.Removal.{spokes_to, faces_between, LosesEdges}
+use Rattle.delaunay_legalization.specs.half_edge_mesh.Removal.{JoinsNeighbours, LosesStrip}
+use Rattle.delaunay_legalization.specs.half_edge_mesh.Removal.{FillsHole}
+use Rattle.delaunay_legalization.proofs.plane_tiling.Totals.{Contains-none, Contains-head}
+use Rattle.delaunay_legalization.proofs.plane_tiling.Totals.{Contains-later, Contains-cases}
+use Rattle.delaunay_legalization.specs.mesh_embedding.Drawn.{faces_of}
 use Rattle.delaunay_removal.specs.Data.{HasValueAt, StandsBeside}
 use Rattle.delaunay_removal.specs.Pairs.{KeepsPairs}
 use Rattle.delaunay_removal.proofs.MadeFaces.{made_none, made_on, made_strip, made_hole}

@@ -5,28 +5,33 @@ use Rattle.std.proofs.Common.{ℕ, List, length, get_or, set, refl, sym, ap, sub
 use Rattle.std.specs.Prelude.{Contains}
 use Rattle.std.proofs.lemmas.Bool.{cases_eq}
 use Rattle.std.proofs.lemmas.List.{length-map, length-set, get_or-set_same, get_or-set_other}
-use Rattle.half_edge_mesh.specs.Flip.{IsFlippable, flipped}
-use Rattle.half_edge_mesh.specs.Mesh.{Mesh, AreSoundLinks, IsInner, origin, next, prev, face, rev}
-use Rattle.half_edge_mesh.specs.Outline.{Ends, ends, along}
-use Rattle.half_edge_mesh.specs.Peel.{turn}
-use Rattle.half_edge_mesh.specs.Round.{neighbour}
-use Rattle.half_edge_mesh.specs.Triangles.{Triangle, triangles, triangle_at, FlipsTriangles}
-use Rattle.half_edge_links.proofs.Sound.EndsKept.{ends_flipped_is}
-use Rattle.half_edge_links.proofs.Lists.Rev.{rev-rev, rev_within}
-use Rattle.half_edge_links.proofs.Removing.TakenLists.{count_ends}
-use Rattle.half_edge_mesh.specs.Contents.{Contents, IsMeshWithData}
-use Rattle.half_edge_mesh.specs.Growth.{joins}
-use Rattle.half_edge_mesh.specs.Removal.{FullEdge, FullFace, Connects, full_edges, full_edges_of}
-use Rattle.half_edge_mesh.specs.Removal.{full_faces, full_faces_of}
-use Rattle.half_edge_dcel.proofs.TakenEdges.{between, listed_face, named_corners}
-use Rattle.half_edge_dcel.proofs.TakenOut.{length-full_edges}
-use Rattle.half_edge_dcel.proofs.TwoEdges.{item_at}
-use Rattle.half_edge_dcel.proofs.Touching.{with_other_ends, with_other_corners, full_edges-set}
-use Rattle.half_edge_dcel.proofs.Touching.{full_faces-set}
-use Rattle.plane.specs.Fraction.{Point}
-use Rattle.plane_tiling.specs.Local.{LocalMesh}
-use Rattle.mesh_embedding.specs.Drawn.{faces_of, outer_of}
-use Rattle.mesh_embedding.proofs.MeshStays.{halved}
+use Rattle.delaunay_legalization.specs.half_edge_mesh.Flip.{IsFlippable, flipped}
+use Rattle.delaunay_legalization.specs.half_edge_mesh.Mesh.{Mesh, AreSoundLinks, IsInner, origin}
+use Rattle.delaunay_legalization.specs.half_edge_mesh.Mesh.{next, prev, face, rev}
+use Rattle.delaunay_legalization.specs.half_edge_mesh.Outline.{Ends, ends, along}
+use Rattle.delaunay_legalization.specs.half_edge_mesh.Peel.{turn}
+use Rattle.delaunay_legalization.specs.half_edge_mesh.Round.{neighbour}
+use Rattle.delaunay_legalization.specs.half_edge_mesh.Triangles.{Triangle, triangles, triangle_at}
+use Rattle.delaunay_legalization.specs.half_edge_mesh.Triangles.{FlipsTriangles}
+use Rattle.delaunay_legalization.proofs.half_edge_links.Sound.EndsKept.{ends_flipped_is}
+use Rattle.delaunay_legalization.proofs.half_edge_links.Lists.Rev.{rev-rev, rev_within}
+use Rattle.delaunay_legalization.proofs.half_edge_links.Removing.TakenLists.{count_ends}
+use Rattle.delaunay_legalization.specs.half_edge_mesh.Contents.{Contents, IsMeshWithData}
+use Rattle.delaunay_legalization.specs.half_edge_mesh.Growth.{joins}
+use Rattle.delaunay_legalization.specs.half_edge_mesh.Removal.{FullEdge, FullFace, Connects}
+use Rattle.delaunay_legalization.specs.half_edge_mesh.Removal.{full_edges, full_edges_of}
+use Rattle.delaunay_legalization.specs.half_edge_mesh.Removal.{full_faces, full_faces_of}
+use Rattle.delaunay_legalization.proofs.half_edge_dcel.TakenEdges.{between, listed_face}
+use Rattle.delaunay_legalization.proofs.half_edge_dcel.TakenEdges.{named_corners}
+use Rattle.delaunay_legalization.proofs.half_edge_dcel.TakenOut.{length-full_edges}
+use Rattle.delaunay_legalization.proofs.half_edge_dcel.TwoEdges.{item_at}
+use Rattle.delaunay_legalization.proofs.half_edge_dcel.Touching.{with_other_ends}
+use Rattle.delaunay_legalization.proofs.half_edge_dcel.Touching.{with_other_corners, full_edges-set}
+use Rattle.delaunay_legalization.proofs.half_edge_dcel.Touching.{full_faces-set}
+use Rattle.delaunay_legalization.specs.plane.Fraction.{Point}
+use Rattle.delaunay_legalization.specs.plane_tiling.Local.{LocalMesh}
+use Rattle.delaunay_legalization.specs.mesh_embedding.Drawn.{faces_of, outer_of}
+use Rattle.delaunay_legalization.proofs.mesh_embedding.MeshStays.{halved}
 use Rattle.delaunay_removal.specs.Data.{HasValueAt, StandsBeside}
 use Rattle.delaunay_removal.specs.Pairs.{MakesFaces}
 use Rattle.delaunay_removal.proofs.DataStays.{no_end, no_corner}

@@ -4,10 +4,10 @@
 use Rattle.std.proofs.Common.{◌≡◌, ◌+◌, ◌<◌, ◌≤◌, ℕ, length, ap, sym, ◌∙◌, subst, inl, inr, arith}
 use Rattle.std.specs.Prelude.{Option, None, Some, IsSome}
 use Rattle.std.proofs.lemmas.Bool.{cases_lt}
-use Rattle.half_edge_mesh.specs.Mesh.{Mesh, AreSoundLinks, origin, out_edge}
-use Rattle.half_edge_mesh.specs.Peel.{spoke}
-use Rattle.half_edge_mesh.specs.Round.{IsRound}
-use Rattle.mesh_embedding.proofs.Entries.{one_value}
+use Rattle.delaunay_legalization.specs.half_edge_mesh.Mesh.{Mesh, AreSoundLinks, origin, out_edge}
+use Rattle.delaunay_legalization.specs.half_edge_mesh.Peel.{spoke}
+use Rattle.delaunay_legalization.specs.half_edge_mesh.Round.{IsRound}
+use Rattle.delaunay_legalization.proofs.mesh_embedding.Entries.{one_value}
 use Rattle.delaunay_legalization.proofs.Rounds.{round_of}
 use Rattle.delaunay_removal.specs.Pairs.{HasRoomAt, IsRoundOf}
 

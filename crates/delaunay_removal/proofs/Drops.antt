@@ -5,14 +5,16 @@ use Rattle.std.proofs.Common.{◌≡◌, ◌<◌, []}
 use Rattle.std.proofs.Common.{ℕ, List, length, map, Some, sym, ap, subst, inl, inr, arith}
 use Rattle.std.specs.Prelude.{All, slice_get, swap_remove}
 use Rattle.std.proofs.lemmas.Option.{slice_get_within}
-use Rattle.half_edge_mesh.specs.Contents.{Contents, IsMeshWithData}
-use Rattle.half_edge_mesh.specs.Removal.{DropsVertex}
-use Rattle.plane.specs.Fraction.{Point}
-use Rattle.plane.specs.Plain.{TakesOut}
-use Rattle.plane.specs.Tests.{InRange}
-use Rattle.plane_tiling.specs.Local.{LocalMesh}
-use Rattle.mesh_embedding.specs.Drawn.{faces_of, outer_of}
-use Rattle.mesh_embedding.proofs.MeshRemovals.{vertex_goes, vertex_goes_to_line, plain_removes}
+use Rattle.delaunay_legalization.specs.half_edge_mesh.Contents.{Contents, IsMeshWithData}
+use Rattle.delaunay_legalization.specs.half_edge_mesh.Removal.{DropsVertex}
+use Rattle.delaunay_legalization.specs.plane.Fraction.{Point}
+use Rattle.delaunay_legalization.specs.plane.Plain.{TakesOut}
+use Rattle.delaunay_legalization.specs.plane.Tests.{InRange}
+use Rattle.delaunay_legalization.specs.plane_tiling.Local.{LocalMesh}
+use Rattle.delaunay_legalization.specs.mesh_embedding.Drawn.{faces_of, outer_of}
+use Rattle.delaunay_legalization.proofs.mesh_embedding.MeshRemovals.{vertex_goes}
+use Rattle.delaunay_legalization.proofs.mesh_embedding.MeshRemovals.{vertex_goes_to_line}
+use Rattle.delaunay_legalization.proofs.mesh_embedding.MeshRemovals.{plain_removes}
 use Rattle.delaunay_legalization.specs.State.{state_of}
 use Rattle.delaunay_legalization.specs.Shape.{IsTriangulated}
 use Rattle.delaunay_legalization.proofs.ElementCounts.{faces_counted}

@@ -8,21 +8,21 @@ use Rattle.std.proofs.lemmas.Bool.{cases_eq}
 use Rattle.std.proofs.lemmas.List.{length-set, get_or-set_same}
 use Rattle.std.proofs.lemmas.Option.{slice_get_within, get_or_from_slice_get}
 use Rattle.std.proofs.Math.Numerals.{add-one}
-use Rattle.half_edge_mesh.specs.Contents.{Contents, IsMeshWithData}
-use Rattle.half_edge_mesh.specs.Mesh.{Mesh, origin, out_edge, rev}
-use Rattle.half_edge_mesh.specs.Peel.{turn, spoke}
-use Rattle.half_edge_mesh.specs.Round.{IsRound}
-use Rattle.half_edge_links.proofs.Lists.Rev.{rev_within}
-use Rattle.plane_tiling.proofs.Totals.{Contains-none}
-use Rattle.mesh_embedding.specs.Legal.{pair_at}
-use Rattle.mesh_embedding.proofs.MeshStays.{slice_get-set_other}
-use Rattle.mesh_embedding.proofs.WorkLists.{contains_map}
+use Rattle.delaunay_legalization.specs.half_edge_mesh.Contents.{Contents, IsMeshWithData}
+use Rattle.delaunay_legalization.specs.half_edge_mesh.Mesh.{Mesh, origin, out_edge, rev}
+use Rattle.delaunay_legalization.specs.half_edge_mesh.Peel.{turn, spoke}
+use Rattle.delaunay_legalization.specs.half_edge_mesh.Round.{IsRound}
+use Rattle.delaunay_legalization.proofs.half_edge_links.Lists.Rev.{rev_within}
+use Rattle.delaunay_legalization.proofs.plane_tiling.Totals.{Contains-none}
+use Rattle.delaunay_legalization.specs.mesh_embedding.Legal.{pair_at}
+use Rattle.delaunay_legalization.proofs.mesh_embedding.MeshStays.{slice_get-set_other}
+use Rattle.delaunay_legalization.proofs.mesh_embedding.WorkLists.{contains_map}
 use Rattle.delaunay_legalization.specs.Constraints.{marked_edges, constraint_pairs}
 use Rattle.delaunay_legalization.specs.Marking.{HasEdgeData}
 use Rattle.delaunay_legalization.proofs.Constraints.{is_constraint_edge}
 use Rattle.delaunay_removal.proofs.Degrees.{starts_none}
 use Rattle.delaunay_removal.specs.Freeing.{IsUnmarked, FreesEdgesAt}
-use Rattle.mesh_embedding.proofs.EdgePairs.{rev_of_even, half_of_even}
+use Rattle.delaunay_legalization.proofs.mesh_embedding.EdgePairs.{rev_of_even, half_of_even}
 use Rattle.delaunay_removal.proofs.DataReads.{even_or_odd, half_of_odd}
 
 module _ {V D U F : Type 0} (marks : U → Bool) (old : Contents V D U F) (first : ℕ) where

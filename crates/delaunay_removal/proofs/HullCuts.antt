@@ -3,23 +3,24 @@
 -- Lemmas: strip_read, sides_opposite, corner_isolates, flat_strip, flat_starts, flat_isolates.
 use Rattle.std.proofs.Common.{◌≡◌, ◌≢◌, ◌⊎◌, ◌-◌, ◌*◌, ◌/◌, ◌<◌, [], ◌∷◌, ◌∙◌}
 use Rattle.std.proofs.Common.{ℕ, List, length, refl, ap, subst, arith, inl, inr}
-use Rattle.half_edge_mesh.specs.Mesh.{Mesh, AreSoundLinks, origin, prev}
-use Rattle.half_edge_mesh.specs.Flip.{flipped}
-use Rattle.half_edge_mesh.specs.Outline.{KeepsOuter}
-use Rattle.half_edge_mesh.specs.Peel.{turn, IsStrip}
-use Rattle.half_edge_mesh.specs.Round.{neighbour}
-use Rattle.half_edge_mesh.specs.Triangles.{FlipsTriangles}
-use Rattle.half_edge_mesh.specs.Contents.{Contents, IsMeshWithData}
-use Rattle.half_edge_mesh.specs.Removal.{AreSidesOf, LosesStrip, first_spoke}
-use Rattle.plane.specs.Fraction.{Point}
-use Rattle.plane.specs.Pairs.{place}
-use Rattle.plane.specs.Side.{side, on, TurnsLeft}
-use Rattle.plane_edits.specs.RemovalHull.{NoneTurnsLeft}
-use Rattle.mesh_embedding.specs.Drawn.{faces_of}
-use Rattle.mesh_embedding.proofs.Borders.{opposite_of_strip}
-use Rattle.mesh_embedding.proofs.MeshVertexLeaves.{leaves_corner, leaves_to_line, leaves_flat}
-use Rattle.mesh_embedding.proofs.MeshVertexLeaves.{flat_turned}
-use Rattle.mesh_embedding.proofs.StarTurns.{TurnsOff, strip_left, same_start}
+use Rattle.delaunay_legalization.specs.half_edge_mesh.Mesh.{Mesh, AreSoundLinks, origin, prev}
+use Rattle.delaunay_legalization.specs.half_edge_mesh.Flip.{flipped}
+use Rattle.delaunay_legalization.specs.half_edge_mesh.Outline.{KeepsOuter}
+use Rattle.delaunay_legalization.specs.half_edge_mesh.Peel.{turn, IsStrip}
+use Rattle.delaunay_legalization.specs.half_edge_mesh.Round.{neighbour}
+use Rattle.delaunay_legalization.specs.half_edge_mesh.Triangles.{FlipsTriangles}
+use Rattle.delaunay_legalization.specs.half_edge_mesh.Contents.{Contents, IsMeshWithData}
+use Rattle.delaunay_legalization.specs.half_edge_mesh.Removal.{AreSidesOf, LosesStrip, first_spoke}
+use Rattle.delaunay_legalization.specs.plane.Fraction.{Point}
+use Rattle.delaunay_legalization.specs.plane.Pairs.{place}
+use Rattle.delaunay_legalization.specs.plane.Side.{side, on, TurnsLeft}
+use Rattle.delaunay_legalization.specs.plane_edits.RemovalHull.{NoneTurnsLeft}
+use Rattle.delaunay_legalization.specs.mesh_embedding.Drawn.{faces_of}
+use Rattle.delaunay_legalization.proofs.mesh_embedding.Borders.{opposite_of_strip}
+use Rattle.delaunay_legalization.proofs.mesh_embedding.MeshVertexLeaves.{leaves_corner}
+use Rattle.delaunay_legalization.proofs.mesh_embedding.MeshVertexLeaves.{leaves_to_line}
+use Rattle.delaunay_legalization.proofs.mesh_embedding.MeshVertexLeaves.{leaves_flat, flat_turned}
+use Rattle.delaunay_legalization.proofs.mesh_embedding.StarTurns.{TurnsOff, strip_left, same_start}
 use Rattle.delaunay_removal.specs.Data.{StandsBeside}
 use Rattle.delaunay_removal.specs.Star.{IsolatesVertex}
 use Rattle.delaunay_removal.specs.Hull.{AreSides, IsHullFan, HasNoFlippableEdge}

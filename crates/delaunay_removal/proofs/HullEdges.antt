@@ -2,10 +2,10 @@
 -- Lemmas: faces_inner.
 use Rattle.std.proofs.Common.{◌≡◌, ℕ, zero, suc, ◌+◌, ◌<◌, sym, ap, ◌∙◌, arith, inl, inr}
 use Rattle.std.proofs.lemmas.Bool.{cases_lt}
-use Rattle.half_edge_mesh.specs.Mesh.{Mesh, AreSoundLinks, prev, face, rev}
-use Rattle.half_edge_mesh.specs.Peel.{spoke}
-use Rattle.half_edge_mesh.specs.Round.{IsRound}
-use Rattle.half_edge_links.proofs.Lists.Rev.{rev-rev}
+use Rattle.delaunay_legalization.specs.half_edge_mesh.Mesh.{Mesh, AreSoundLinks, prev, face, rev}
+use Rattle.delaunay_legalization.specs.half_edge_mesh.Peel.{spoke}
+use Rattle.delaunay_legalization.specs.half_edge_mesh.Round.{IsRound}
+use Rattle.delaunay_legalization.proofs.half_edge_links.Lists.Rev.{rev-rev}
 use Rattle.delaunay_removal.specs.Star.{HasInnerFaces}
 
 -- where none has it, the faces round the vertex are inner ones

@@ -2,11 +2,11 @@
 -- Lemmas: hull_sites, hull_first, hull_named, flat_star, flat_side, hull_isolates.
 use Rattle.std.proofs.Common.{◌≡◌, ℕ, ◌-◌, ◌<◌, List, length, map, sym, ap, subst, arith}
 use Rattle.std.specs.Prelude.{All}
-use Rattle.half_edge_mesh.specs.Round.{neighbour}
-use Rattle.half_edge_mesh.specs.Contents.{Contents}
-use Rattle.plane.specs.Fraction.{Point}
-use Rattle.plane.specs.Pairs.{place as at}
-use Rattle.plane.specs.Side.{side, on}
+use Rattle.delaunay_legalization.specs.half_edge_mesh.Round.{neighbour}
+use Rattle.delaunay_legalization.specs.half_edge_mesh.Contents.{Contents}
+use Rattle.delaunay_legalization.specs.plane.Fraction.{Point}
+use Rattle.delaunay_legalization.specs.plane.Pairs.{place as at}
+use Rattle.delaunay_legalization.specs.plane.Side.{side, on}
 use Rattle.delaunay_removal.specs.Data.{StandsBeside}
 use Rattle.delaunay_removal.specs.Pairs.{KeepsPairs}
 use Rattle.delaunay_removal.specs.Star.{IsolatesVertex}

@@ -4,16 +4,17 @@
 use Rattle.std.proofs.Common.{◌≡◌, ◌≢◌, ◌+◌, ◌-◌, ◌*◌, ◌/◌, ◌<◌, ◌≤◌, [], ◌∷◌, ◌++◌, ◌∙◌}
 use Rattle.std.proofs.Common.{ℕ, suc, List, length, map, sym, ap, subst, arith, inl, inr}
 use Rattle.std.proofs.lemmas.Bool.{cases_eq, cases_lt}
-use Rattle.half_edge_mesh.specs.Flip.{flipped}
-use Rattle.half_edge_mesh.specs.Mesh.{Mesh, origin, face}
-use Rattle.half_edge_mesh.specs.Outline.{KeepsOuter}
-use Rattle.half_edge_mesh.specs.Peel.{turn, spoke}
-use Rattle.half_edge_mesh.specs.Triangles.{FlipsTriangles}
-use Rattle.half_edge_mesh.specs.Contents.{Contents, IsMeshWithData}
-use Rattle.half_edge_mesh.specs.Round.{IsRound, neighbour}
-use Rattle.plane.specs.Fraction.{Point}
-use Rattle.mesh_embedding.proofs.MeshStarFlips.{spoke_flippable, twin_flippable}
-use Rattle.mesh_embedding.proofs.StarTurns.{turns_away, same_start}
+use Rattle.delaunay_legalization.specs.half_edge_mesh.Flip.{flipped}
+use Rattle.delaunay_legalization.specs.half_edge_mesh.Mesh.{Mesh, origin, face}
+use Rattle.delaunay_legalization.specs.half_edge_mesh.Outline.{KeepsOuter}
+use Rattle.delaunay_legalization.specs.half_edge_mesh.Peel.{turn, spoke}
+use Rattle.delaunay_legalization.specs.half_edge_mesh.Triangles.{FlipsTriangles}
+use Rattle.delaunay_legalization.specs.half_edge_mesh.Contents.{Contents, IsMeshWithData}
+use Rattle.delaunay_legalization.specs.half_edge_mesh.Round.{IsRound, neighbour}
+use Rattle.delaunay_legalization.specs.plane.Fraction.{Point}
+use Rattle.delaunay_legalization.proofs.mesh_embedding.MeshStarFlips.{spoke_flippable}
+use Rattle.delaunay_legalization.proofs.mesh_embedding.MeshStarFlips.{twin_flippable}
+use Rattle.delaunay_legalization.proofs.mesh_embedding.StarTurns.{turns_away, same_start}
 use Rattle.delaunay_legalization.proofs.Rounds.{round_of}
 use Rattle.delaunay_removal.specs.Data.{StandsBeside}
 use Rattle.delaunay_removal.specs.Star.{IsConvexAt, IsTurnable}

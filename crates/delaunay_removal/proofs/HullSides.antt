@@ -6,12 +6,12 @@ use Rattle.std.specs.Prelude.{slice_index}
 use Rattle.std.proofs.lemmas.Bool.{cases_lt}
 use Rattle.std.proofs.lemmas.List.{length-append, get_or_append_left, get_or_push}
 use Rattle.std.proofs.Math.Numerals.{add-one}
-use Rattle.half_edge_mesh.specs.Mesh.{Mesh, IsValidMesh, origin, next, rev}
-use Rattle.half_edge_mesh.specs.Peel.{turn, spoke}
-use Rattle.half_edge_mesh.specs.Round.{neighbour}
-use Rattle.plane.specs.Fraction.{Point}
-use Rattle.plane.specs.Pairs.{place}
-use Rattle.plane.specs.Side.{TurnsLeft}
+use Rattle.delaunay_legalization.specs.half_edge_mesh.Mesh.{Mesh, IsValidMesh, origin, next, rev}
+use Rattle.delaunay_legalization.specs.half_edge_mesh.Peel.{turn, spoke}
+use Rattle.delaunay_legalization.specs.half_edge_mesh.Round.{neighbour}
+use Rattle.delaunay_legalization.specs.plane.Fraction.{Point}
+use Rattle.delaunay_legalization.specs.plane.Pairs.{place}
+use Rattle.delaunay_legalization.specs.plane.Side.{TurnsLeft}
 use Rattle.delaunay_removal.specs.Hull.{AreSides, IsCornerAt, IsHullFan}
 use Rattle.delaunay_removal.proofs.HullStars.{strip_of}
 

@@ -5,25 +5,28 @@ use Rattle.std.proofs.Common.{◌≡◌, ◌≢◌, ◌-◌, ◌*◌, ◌/◌, �
 use Rattle.std.proofs.Common.{ℕ, zero, suc, List, length, refl, sym, ap, subst, arith, inl, inr}
 use Rattle.std.specs.Prelude.{Contains}
 use Rattle.std.proofs.lemmas.Bool.{cases_lt}
-use Rattle.half_edge_mesh.specs.Mesh.{Mesh, IsValidMesh, origin, face, rev}
-use Rattle.half_edge_mesh.specs.Outline.{KeepsOuter, IsOuterEdge}
-use Rattle.half_edge_mesh.specs.Peel.{spoke, IsStrip}
-use Rattle.half_edge_mesh.specs.Round.{IsRound, neighbour}
-use Rattle.half_edge_mesh.specs.Triangles.{FlipsTriangles}
-use Rattle.half_edge_links.proofs.Lists.Rev.{rev-rev, rev_within}
-use Rattle.plane.specs.Fraction.{Point}
-use Rattle.plane.specs.Pairs.{place}
-use Rattle.plane.specs.Side.{side, on, TurnsLeft}
-use Rattle.plane_tiling.specs.Local.{LocalMesh}
-use Rattle.plane_tiling.proofs.Covering.{no_outer_back}
-use Rattle.plane_tiling.proofs.Tiles.{point_at, by_signs}
-use Rattle.plane_edits.specs.RemovalHull as P
-use Rattle.plane_edits.specs.StarFlips.{IsStarFlip}
-use Rattle.plane_edits.proofs.Removal.HullVertex.{corner_or_flat, corner_star_flips}
-use Rattle.plane_edits.proofs.Removal.HullVertex.{flat_star_flips}
-use Rattle.mesh_embedding.specs.Drawn.{faces_of, outer_of}
-use Rattle.mesh_embedding.proofs.MeshStars.{hull_star, hull_strip, neighbours_apart}
-use Rattle.mesh_embedding.proofs.MeshStarFlips.{star_flip, star_flip_local, one_hull_neighbour_less}
+use Rattle.delaunay_legalization.specs.half_edge_mesh.Mesh.{Mesh, IsValidMesh, origin, face, rev}
+use Rattle.delaunay_legalization.specs.half_edge_mesh.Outline.{KeepsOuter, IsOuterEdge}
+use Rattle.delaunay_legalization.specs.half_edge_mesh.Peel.{spoke, IsStrip}
+use Rattle.delaunay_legalization.specs.half_edge_mesh.Round.{IsRound, neighbour}
+use Rattle.delaunay_legalization.specs.half_edge_mesh.Triangles.{FlipsTriangles}
+use Rattle.delaunay_legalization.proofs.half_edge_links.Lists.Rev.{rev-rev, rev_within}
+use Rattle.delaunay_legalization.specs.plane.Fraction.{Point}
+use Rattle.delaunay_legalization.specs.plane.Pairs.{place}
+use Rattle.delaunay_legalization.specs.plane.Side.{side, on, TurnsLeft}
+use Rattle.delaunay_legalization.specs.plane_tiling.Local.{LocalMesh}
+use Rattle.delaunay_legalization.proofs.plane_tiling.Covering.{no_outer_back}
+use Rattle.delaunay_legalization.proofs.plane_tiling.Tiles.{point_at, by_signs}
+use Rattle.delaunay_legalization.specs.plane_edits.RemovalHull as P
+use Rattle.delaunay_legalization.specs.plane_edits.StarFlips.{IsStarFlip}
+use Rattle.delaunay_legalization.proofs.plane_edits.Removal.HullVertex.{corner_or_flat}
+use Rattle.delaunay_legalization.proofs.plane_edits.Removal.HullVertex.{corner_star_flips}
+use Rattle.delaunay_legalization.proofs.plane_edits.Removal.HullVertex.{flat_star_flips}
+use Rattle.delaunay_legalization.specs.mesh_embedding.Drawn.{faces_of, outer_of}
+use Rattle.delaunay_legalization.proofs.mesh_embedding.MeshStars.{hull_star, hull_strip}
+use Rattle.delaunay_legalization.proofs.mesh_embedding.MeshStars.{neighbours_apart}
+use Rattle.delaunay_legalization.proofs.mesh_embedding.MeshStarFlips.{star_flip, star_flip_local}
+use Rattle.delaunay_legalization.proofs.mesh_embedding.MeshStarFlips.{one_hull_neighbour_less}
 use Rattle.delaunay_removal.specs.Star.{IsConvexAt}
 use Rattle.delaunay_removal.specs.Hull.{IsHullFan, HasNoFlippableEdge}
 use Rattle.delaunay_legalization.proofs.Rounds.{round_at}

@@ -3,22 +3,23 @@
 -- four_isolate, isolates_from.
 use Rattle.std.proofs.Common.{◌≡◌, ◌⊎◌, ◌+◌, ◌*◌, ◌/◌, ◌<◌, [], ◌∷◌, ◌∙◌}
 use Rattle.std.proofs.Common.{ℕ, zero, suc, List, refl, sym, ap, subst, arith, inl, inr}
-use Rattle.half_edge_mesh.specs.Mesh.{Mesh, AreSoundLinks, origin, next, prev, rev}
-use Rattle.half_edge_mesh.specs.Flip.{flipped}
-use Rattle.half_edge_mesh.specs.Outline.{KeepsOuter}
-use Rattle.half_edge_mesh.specs.Peel.{turn, IsWheel}
-use Rattle.half_edge_mesh.specs.Round.{neighbour}
-use Rattle.half_edge_mesh.specs.Triangles.{FlipsTriangles}
-use Rattle.half_edge_mesh.specs.Contents.{Contents, IsMeshWithData}
-use Rattle.half_edge_mesh.specs.Hole.{IsBorder, FillsWithFan}
-use Rattle.half_edge_mesh.specs.Removal.{FillsHole, first_spoke}
-use Rattle.half_edge_dcel.proofs.HoleFilled.{fan_of_three}
-use Rattle.plane.specs.Fraction.{Point, WithinSegment}
-use Rattle.plane.specs.Pairs.{place}
-use Rattle.plane_tiling.proofs.Edges.{turned_within}
-use Rattle.mesh_embedding.proofs.Borders.{border_of_wheel}
-use Rattle.mesh_embedding.proofs.MeshVertexLeaves.{leaves_three, leaves_four}
-use Rattle.mesh_embedding.proofs.StarTurns.{wheel_of_three, wheel_left}
+use Rattle.delaunay_legalization.specs.half_edge_mesh.Mesh.{Mesh, AreSoundLinks, origin, next, prev}
+use Rattle.delaunay_legalization.specs.half_edge_mesh.Mesh.{rev}
+use Rattle.delaunay_legalization.specs.half_edge_mesh.Flip.{flipped}
+use Rattle.delaunay_legalization.specs.half_edge_mesh.Outline.{KeepsOuter}
+use Rattle.delaunay_legalization.specs.half_edge_mesh.Peel.{turn, IsWheel}
+use Rattle.delaunay_legalization.specs.half_edge_mesh.Round.{neighbour}
+use Rattle.delaunay_legalization.specs.half_edge_mesh.Triangles.{FlipsTriangles}
+use Rattle.delaunay_legalization.specs.half_edge_mesh.Contents.{Contents, IsMeshWithData}
+use Rattle.delaunay_legalization.specs.half_edge_mesh.Hole.{IsBorder, FillsWithFan}
+use Rattle.delaunay_legalization.specs.half_edge_mesh.Removal.{FillsHole, first_spoke}
+use Rattle.delaunay_legalization.proofs.half_edge_dcel.HoleFilled.{fan_of_three}
+use Rattle.delaunay_legalization.specs.plane.Fraction.{Point, WithinSegment}
+use Rattle.delaunay_legalization.specs.plane.Pairs.{place}
+use Rattle.delaunay_legalization.proofs.plane_tiling.Edges.{turned_within}
+use Rattle.delaunay_legalization.proofs.mesh_embedding.Borders.{border_of_wheel}
+use Rattle.delaunay_legalization.proofs.mesh_embedding.MeshVertexLeaves.{leaves_three, leaves_four}
+use Rattle.delaunay_legalization.proofs.mesh_embedding.StarTurns.{wheel_of_three, wheel_left}
 use Rattle.delaunay_removal.specs.Data.{StandsBeside}
 use Rattle.delaunay_removal.specs.Pairs.{KeepsPairs}
 use Rattle.delaunay_removal.specs.Star.{IsBetweenAt, IsInnerStar, StandsBetween, IsolatesVertex}

@@ -4,27 +4,29 @@
 -- within_after, inner_after, star_shrinks, ends_differ, none_left.
 use Rattle.std.proofs.Common.{◌≡◌, ◌≢◌, ◌+◌, ◌-◌, ◌*◌, ◌/◌, ◌<◌, ◌≤◌, ◌∙◌}
 use Rattle.std.proofs.Common.{ℕ, zero, suc, List, length, refl, sym, ap, subst, arith, inl, inr}
-use Rattle.half_edge_mesh.specs.Mesh.{Mesh, IsValidMesh, origin, face, rev}
-use Rattle.half_edge_mesh.specs.Flip.{flipped}
-use Rattle.half_edge_mesh.specs.Outline.{KeepsOuter}
-use Rattle.half_edge_mesh.specs.Peel.{turn, spoke}
-use Rattle.half_edge_mesh.specs.Round.{IsRound, neighbour}
-use Rattle.half_edge_mesh.specs.Triangles.{FlipsTriangles}
-use Rattle.half_edge_mesh.specs.Contents.{Contents, IsMeshWithData}
-use Rattle.plane.specs.Fraction.{Point, Fraction}
-use Rattle.plane.specs.Pairs.{place}
-use Rattle.plane.specs.Side.{TurnsLeft, left, right, opposite}
-use Rattle.plane.proofs.Sides.{side_turned, side_swapped}
-use Rattle.plane_tiling.specs.Local.{LocalMesh}
-use Rattle.plane_edits.specs.Removal.{IsStar}
-use Rattle.plane_edits.specs.StarFlips.{IsStarFlip}
-use Rattle.plane_edits.proofs.LocalMesh.Kept.{turning_of}
-use Rattle.mesh_embedding.specs.Drawn.{faces_of, outer_of}
-use Rattle.mesh_embedding.proofs.MeshStars.{inner_star}
-use Rattle.mesh_embedding.proofs.MeshStarFlips.{spoke_flippable, twin_flippable, star_flip}
-use Rattle.mesh_embedding.proofs.MeshStarFlips.{star_flip_local, one_neighbour_less}
-use Rattle.mesh_embedding.proofs.MeshVertexLeaves.{inner_choice}
-use Rattle.mesh_embedding.proofs.StarTurns.{TurnsOff, turns_away, same_start}
+use Rattle.delaunay_legalization.specs.half_edge_mesh.Mesh.{Mesh, IsValidMesh, origin, face, rev}
+use Rattle.delaunay_legalization.specs.half_edge_mesh.Flip.{flipped}
+use Rattle.delaunay_legalization.specs.half_edge_mesh.Outline.{KeepsOuter}
+use Rattle.delaunay_legalization.specs.half_edge_mesh.Peel.{turn, spoke}
+use Rattle.delaunay_legalization.specs.half_edge_mesh.Round.{IsRound, neighbour}
+use Rattle.delaunay_legalization.specs.half_edge_mesh.Triangles.{FlipsTriangles}
+use Rattle.delaunay_legalization.specs.half_edge_mesh.Contents.{Contents, IsMeshWithData}
+use Rattle.delaunay_legalization.specs.plane.Fraction.{Point, Fraction}
+use Rattle.delaunay_legalization.specs.plane.Pairs.{place}
+use Rattle.delaunay_legalization.specs.plane.Side.{TurnsLeft, left, right, opposite}
+use Rattle.delaunay_legalization.proofs.plane.Sides.{side_turned, side_swapped}
+use Rattle.delaunay_legalization.specs.plane_tiling.Local.{LocalMesh}
+use Rattle.delaunay_legalization.specs.plane_edits.Removal.{IsStar}
+use Rattle.delaunay_legalization.specs.plane_edits.StarFlips.{IsStarFlip}
+use Rattle.delaunay_legalization.proofs.plane_edits.LocalMesh.Kept.{turning_of}
+use Rattle.delaunay_legalization.specs.mesh_embedding.Drawn.{faces_of, outer_of}
+use Rattle.delaunay_legalization.proofs.mesh_embedding.MeshStars.{inner_star}
+use Rattle.delaunay_legalization.proofs.mesh_embedding.MeshStarFlips.{spoke_flippable}
+use Rattle.delaunay_legalization.proofs.mesh_embedding.MeshStarFlips.{twin_flippable, star_flip}
+use Rattle.delaunay_legalization.proofs.mesh_embedding.MeshStarFlips.{star_flip_local}
+use Rattle.delaunay_legalization.proofs.mesh_embedding.MeshStarFlips.{one_neighbour_less}
+use Rattle.delaunay_legalization.proofs.mesh_embedding.MeshVertexLeaves.{inner_choice}
+use Rattle.delaunay_legalization.proofs.mesh_embedding.StarTurns.{TurnsOff, turns_away, same_start}
 use Rattle.delaunay_removal.specs.Star.{IsConvexAt, HasInnerFaces, IsInnerStar, IsReduced}
 use Rattle.delaunay_legalization.proofs.Rounds.{round_of, round_at}
 

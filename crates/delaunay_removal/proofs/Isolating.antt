@@ -3,12 +3,12 @@
 -- four_star_named, four_isolates.
 use Rattle.std.proofs.Common.{◌≡◌, ◌≢◌, ℕ, List, map, sym, ap, ◌∙◌, subst, inl, inr}
 use Rattle.std.specs.Prelude.{All}
-use Rattle.half_edge_mesh.specs.Mesh.{Mesh, origin}
-use Rattle.half_edge_mesh.specs.Peel.{IsWheel}
-use Rattle.half_edge_mesh.specs.Round.{neighbour}
-use Rattle.half_edge_mesh.specs.Contents.{Contents, IsMeshWithData}
-use Rattle.half_edge_mesh.specs.Removal.{FillsHole}
-use Rattle.plane.specs.Fraction.{Point}
+use Rattle.delaunay_legalization.specs.half_edge_mesh.Mesh.{Mesh, origin}
+use Rattle.delaunay_legalization.specs.half_edge_mesh.Peel.{IsWheel}
+use Rattle.delaunay_legalization.specs.half_edge_mesh.Round.{neighbour}
+use Rattle.delaunay_legalization.specs.half_edge_mesh.Contents.{Contents, IsMeshWithData}
+use Rattle.delaunay_legalization.specs.half_edge_mesh.Removal.{FillsHole}
+use Rattle.delaunay_legalization.specs.plane.Fraction.{Point}
 use Rattle.delaunay_removal.specs.Data.{StandsBeside}
 use Rattle.delaunay_removal.specs.Pairs.{KeepsPairs}
 use Rattle.delaunay_removal.specs.Star.{HasInnerFaces, IsInnerStar, IsolatesVertex}

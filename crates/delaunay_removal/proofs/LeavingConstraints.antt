@@ -6,17 +6,18 @@ use Rattle.std.specs.Prelude.{Bool, true, false, nat_eq, if◌then◌else◌, Co
 use Rattle.std.proofs.lemmas.Bool.{cases_eq}
 use Rattle.std.proofs.lemmas.Bool.Decides.{nat_tests}
 use Rattle.std.proofs.lemmas.Option.{slice_get_within}
-use Rattle.half_edge_mesh.specs.Contents.{Contents, IsMeshWithData}
-use Rattle.half_edge_mesh.specs.Mesh.{origin}
-use Rattle.half_edge_mesh.specs.Removal.{FullEdge, full_edges, renumbered_edge}
-use Rattle.half_edge_mesh.specs.Renames.{moved}
-use Rattle.half_edge_links.proofs.Removing.OpenSound.{moved_hit, moved_miss}
-use Rattle.plane.specs.Pairs.{Joins, IsSamePair}
+use Rattle.delaunay_legalization.specs.half_edge_mesh.Contents.{Contents, IsMeshWithData}
+use Rattle.delaunay_legalization.specs.half_edge_mesh.Mesh.{origin}
+use Rattle.delaunay_legalization.specs.half_edge_mesh.Removal.{FullEdge, full_edges}
+use Rattle.delaunay_legalization.specs.half_edge_mesh.Removal.{renumbered_edge}
+use Rattle.delaunay_legalization.specs.half_edge_mesh.Renames.{moved}
+use Rattle.delaunay_legalization.proofs.half_edge_links.Removing.OpenSound.{moved_hit, moved_miss}
+use Rattle.delaunay_legalization.specs.plane.Pairs.{Joins, IsSamePair}
 use Rattle.delaunay_legalization.specs.Constraints.{marked_edges, constraint_pairs}
 use Rattle.delaunay_legalization.proofs.MarkedPairs.{JoinsByMark, mark_joins, joined_by_mark}
 use Rattle.delaunay_legalization.proofs.Questions.{both_ways}
 use Rattle.delaunay_removal.specs.Data.{RenumbersEdges}
-use Rattle.mesh_embedding.proofs.EdgePairs.{rev_of_even, half_of_even}
+use Rattle.delaunay_legalization.proofs.mesh_embedding.EdgePairs.{rev_of_even, half_of_even}
 use Rattle.delaunay_removal.proofs.DataReads.{IsEdgeAt, edge_of, edge_read}
 
 -- ---- the indexes

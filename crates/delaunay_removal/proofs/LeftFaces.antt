@@ -5,20 +5,21 @@ use Rattle.std.proofs.Common.{◌≡◌, ◌≢◌, ◌⊎◌, ◌-◌, ◌<◌,
 use Rattle.std.proofs.Common.{ℕ, List, length, map, sym, ap, subst, inl, inr, arith}
 use Rattle.std.specs.Prelude.{Bool, Contains}
 use Rattle.std.proofs.lemmas.List.{length-map}
-use Rattle.half_edge_mesh.specs.Renames.{moved}
-use Rattle.half_edge_mesh.specs.Triangles.{Triangle, triangles}
-use Rattle.half_edge_mesh.specs.Contents.{Contents, IsMeshWithData}
-use Rattle.half_edge_mesh.specs.Removal.{FullFace, full_faces, renumbered_face, DropsVertex}
-use Rattle.half_edge_mesh.specs.Removal.{LeavesMesh}
-use Rattle.plane.specs.Fraction.{Point}
-use Rattle.plane.specs.Tiling.{Face}
-use Rattle.plane_tiling.proofs.Totals.{Contains-none}
-use Rattle.plane_edits.specs.Change.{IsFaceOf}
-use Rattle.plane_edits.proofs.LocalMesh.Changes.{turn_of_all}
-use Rattle.mesh_embedding.specs.Drawn.{corners_of, faces_of, outer_of}
-use Rattle.mesh_embedding.proofs.FaceChanges.{turned_faces}
-use Rattle.mesh_embedding.proofs.MeshDrops.{whole_faces}
-use Rattle.mesh_embedding.proofs.WorkLists.{contains_map_from}
+use Rattle.delaunay_legalization.specs.half_edge_mesh.Renames.{moved}
+use Rattle.delaunay_legalization.specs.half_edge_mesh.Triangles.{Triangle, triangles}
+use Rattle.delaunay_legalization.specs.half_edge_mesh.Contents.{Contents, IsMeshWithData}
+use Rattle.delaunay_legalization.specs.half_edge_mesh.Removal.{FullFace, full_faces}
+use Rattle.delaunay_legalization.specs.half_edge_mesh.Removal.{renumbered_face, DropsVertex}
+use Rattle.delaunay_legalization.specs.half_edge_mesh.Removal.{LeavesMesh}
+use Rattle.delaunay_legalization.specs.plane.Fraction.{Point}
+use Rattle.delaunay_legalization.specs.plane.Tiling.{Face}
+use Rattle.delaunay_legalization.proofs.plane_tiling.Totals.{Contains-none}
+use Rattle.delaunay_legalization.specs.plane_edits.Change.{IsFaceOf}
+use Rattle.delaunay_legalization.proofs.plane_edits.LocalMesh.Changes.{turn_of_all}
+use Rattle.delaunay_legalization.specs.mesh_embedding.Drawn.{corners_of, faces_of, outer_of}
+use Rattle.delaunay_legalization.proofs.mesh_embedding.FaceChanges.{turned_faces}
+use Rattle.delaunay_legalization.proofs.mesh_embedding.MeshDrops.{whole_faces}
+use Rattle.delaunay_legalization.proofs.mesh_embedding.WorkLists.{contains_map_from}
 use Rattle.delaunay_legalization.specs.Shape.{IsTriangulated}
 use Rattle.delaunay_legalization.specs.State.{state_of}
 use Rattle.delaunay_removal.specs.Freeing.{FreesEdgesAt}

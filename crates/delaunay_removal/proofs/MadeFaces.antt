@@ -8,26 +8,28 @@ use Rattle.std.specs.Prelude.{Contains}
 use Rattle.std.specs.List.{AllZip}
 use Rattle.std.proofs.lemmas.List.Elements.{Contains-append_left}
 use Rattle.std.proofs.lemmas.List.Sorted.{Contains-permutation, IsPermutation-sym}
-use Rattle.half_edge_mesh.specs.Mesh.{Mesh, IsValidMesh, face}
-use Rattle.half_edge_mesh.specs.Peel.{turn}
-use Rattle.half_edge_mesh.specs.Round.{IsRound, neighbour}
-use Rattle.half_edge_mesh.specs.Triangles.{Triangle, triangles, FlipsTriangles}
-use Rattle.half_edge_mesh.specs.Contents.{Contents, IsMeshWithData}
-use Rattle.half_edge_mesh.specs.Removal.{FullFace, HasCorners, full_faces, faces_between}
-use Rattle.half_edge_mesh.specs.Removal.{LosesStrip, FillsHole}
-use Rattle.plane.specs.Fraction.{Point}
-use Rattle.plane.specs.Pairs.{Joins}
-use Rattle.plane.specs.Tiling.{Face, face as corners}
-use Rattle.plane_tiling.specs.Local.{LocalMesh}
-use Rattle.plane_tiling.proofs.Totals.{Contains-none, Contains-head, Contains-later, Contains-cases}
-use Rattle.plane_edits.specs.Change.{IsFaceOf, FacesChange}
-use Rattle.plane_edits.proofs.LocalMesh.Changes.{face_from, turn_of_all}
-use Rattle.mesh_embedding.specs.Drawn.{corners_of, faces_of, outer_of}
-use Rattle.mesh_embedding.proofs.FaceChanges.{contains_map}
-use Rattle.mesh_embedding.proofs.FaceSums.{faces_lost, hole_filled}
-use Rattle.mesh_embedding.proofs.MeshDrops.{whole_faces}
-use Rattle.mesh_embedding.proofs.MeshStarFlips.{spoke_turned}
-use Rattle.mesh_embedding.proofs.MeshStars.{spoke_face}
+use Rattle.delaunay_legalization.specs.half_edge_mesh.Mesh.{Mesh, IsValidMesh, face}
+use Rattle.delaunay_legalization.specs.half_edge_mesh.Peel.{turn}
+use Rattle.delaunay_legalization.specs.half_edge_mesh.Round.{IsRound, neighbour}
+use Rattle.delaunay_legalization.specs.half_edge_mesh.Triangles.{Triangle, triangles}
+use Rattle.delaunay_legalization.specs.half_edge_mesh.Triangles.{FlipsTriangles}
+use Rattle.delaunay_legalization.specs.half_edge_mesh.Contents.{Contents, IsMeshWithData}
+use Rattle.delaunay_legalization.specs.half_edge_mesh.Removal.{FullFace, HasCorners, full_faces}
+use Rattle.delaunay_legalization.specs.half_edge_mesh.Removal.{faces_between, LosesStrip, FillsHole}
+use Rattle.delaunay_legalization.specs.plane.Fraction.{Point}
+use Rattle.delaunay_legalization.specs.plane.Pairs.{Joins}
+use Rattle.delaunay_legalization.specs.plane.Tiling.{Face, face as corners}
+use Rattle.delaunay_legalization.specs.plane_tiling.Local.{LocalMesh}
+use Rattle.delaunay_legalization.proofs.plane_tiling.Totals.{Contains-none, Contains-head}
+use Rattle.delaunay_legalization.proofs.plane_tiling.Totals.{Contains-later, Contains-cases}
+use Rattle.delaunay_legalization.specs.plane_edits.Change.{IsFaceOf, FacesChange}
+use Rattle.delaunay_legalization.proofs.plane_edits.LocalMesh.Changes.{face_from, turn_of_all}
+use Rattle.delaunay_legalization.specs.mesh_embedding.Drawn.{corners_of, faces_of, outer_of}
+use Rattle.delaunay_legalization.proofs.mesh_embedding.FaceChanges.{contains_map}
+use Rattle.delaunay_legalization.proofs.mesh_embedding.FaceSums.{faces_lost, hole_filled}
+use Rattle.delaunay_legalization.proofs.mesh_embedding.MeshDrops.{whole_faces}
+use Rattle.delaunay_legalization.proofs.mesh_embedding.MeshStarFlips.{spoke_turned}
+use Rattle.delaunay_legalization.proofs.mesh_embedding.MeshStars.{spoke_face}
 use Rattle.delaunay_legalization.proofs.ElementCounts.{faces_counted}
 use Rattle.delaunay_removal.specs.Pairs.{IsStarSide, KeepsPairs, MakesFaces}
 

@@ -6,21 +6,23 @@ use Rattle.std.proofs.Common.{ℕ, List, length, get_or, refl, sym, ap, subst, i
 use Rattle.std.specs.Prelude.{Contains}
 use Rattle.std.proofs.lemmas.Bool.{cases_eq}
 use Rattle.std.proofs.lemmas.List.Elements.{Contains-append_cases}
-use Rattle.half_edge_links.proofs.Lists.Rev.{rev-rev, rev_within}
-use Rattle.half_edge_mesh.specs.Mesh.{Mesh, AreSoundLinks, IsValidMesh, origin, rev}
-use Rattle.plane.proofs.Indexes.{turned_join}
-use Rattle.plane.specs.Fraction.{Point}
-use Rattle.plane.specs.Pairs.{Joins}
-use Rattle.plane_tiling.specs.Local.{IsMesh}
-use Rattle.plane_tiling.proofs.Totals.{get_or_any}
-use Rattle.plane_edits.specs.Legal.{AllPassBut}
-use Rattle.mesh_embedding.specs.Drawn.{faces_of, outer_of}
-use Rattle.mesh_embedding.specs.Legal.{AreEdges, pair_at, pairs_at}
-use Rattle.mesh_embedding.proofs.EdgePairs.{half_of_even}
-use Rattle.mesh_embedding.proofs.MeshLegal.{IsListedEdge, joins_directed, listed_edge, own_indexes}
-use Rattle.mesh_embedding.proofs.MeshStars.{edge_of_face}
-use Rattle.mesh_embedding.proofs.MeshStays.{half_same}
-use Rattle.mesh_embedding.proofs.WorkLists.{contains_map, contains_map_from}
+use Rattle.delaunay_legalization.proofs.half_edge_links.Lists.Rev.{rev-rev, rev_within}
+use Rattle.delaunay_legalization.specs.half_edge_mesh.Mesh.{Mesh, AreSoundLinks, IsValidMesh}
+use Rattle.delaunay_legalization.specs.half_edge_mesh.Mesh.{origin, rev}
+use Rattle.delaunay_legalization.proofs.plane.Indexes.{turned_join}
+use Rattle.delaunay_legalization.specs.plane.Fraction.{Point}
+use Rattle.delaunay_legalization.specs.plane.Pairs.{Joins}
+use Rattle.delaunay_legalization.specs.plane_tiling.Local.{IsMesh}
+use Rattle.delaunay_legalization.proofs.plane_tiling.Totals.{get_or_any}
+use Rattle.delaunay_legalization.specs.plane_edits.Legal.{AllPassBut}
+use Rattle.delaunay_legalization.specs.mesh_embedding.Drawn.{faces_of, outer_of}
+use Rattle.delaunay_legalization.specs.mesh_embedding.Legal.{AreEdges, pair_at, pairs_at}
+use Rattle.delaunay_legalization.proofs.mesh_embedding.EdgePairs.{half_of_even}
+use Rattle.delaunay_legalization.proofs.mesh_embedding.MeshLegal.{IsListedEdge, joins_directed}
+use Rattle.delaunay_legalization.proofs.mesh_embedding.MeshLegal.{listed_edge, own_indexes}
+use Rattle.delaunay_legalization.proofs.mesh_embedding.MeshStars.{edge_of_face}
+use Rattle.delaunay_legalization.proofs.mesh_embedding.MeshStays.{half_same}
+use Rattle.delaunay_legalization.proofs.mesh_embedding.WorkLists.{contains_map, contains_map_from}
 use Rattle.delaunay_legalization.specs.Among.{FailOnlyOf}
 use Rattle.delaunay_removal.specs.Pairs.{FailOnlyAt, HasEdgeOf, HasEdgesOf, pair_left, pairs_left}
 

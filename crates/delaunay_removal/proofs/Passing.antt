@@ -6,33 +6,36 @@ use Rattle.std.specs.Prelude.{Contains, pos, swap_remove}
 use Rattle.std.proofs.lemmas.Bool.{cases_eq}
 use Rattle.std.proofs.lemmas.List.{length-map}
 use Rattle.std.proofs.lemmas.List.Elements.{Contains-append_left, Contains-append_right}
-use Rattle.half_edge_mesh.specs.Mesh.{Mesh, AreSoundLinks, origin, next, prev, face, rev}
-use Rattle.half_edge_links.proofs.Lists.Rev.{rev-rev, rev_within}
-use Rattle.half_edge_links.proofs.Removing.OpenSound.{length-swap_remove, get_or-swap_remove_same}
-use Rattle.half_edge_links.proofs.Removing.OpenSound.{get_or-swap_remove_other, swap_remove_default}
-use Rattle.plane.proofs.Indexes.{turned_join}
-use Rattle.plane.specs.Circle.{InsideCircle}
-use Rattle.plane.specs.Fraction.{Point, Fraction, whole}
-use Rattle.plane.specs.Pairs.{Joins, place as at}
-use Rattle.plane.specs.Plain.{TakesOut}
-use Rattle.plane.specs.Side.{TurnsLeft}
-use Rattle.plane.specs.Tiling.{Face}
-use Rattle.plane_tiling.specs.Local.{IsMesh}
-use Rattle.plane_edits.specs.Change.{IsFaceOf}
-use Rattle.plane_edits.specs.Legal.{AllPassBut, Pass, point_of}
-use Rattle.plane_edits.proofs.Legalization.Flipping.{one_question}
-use Rattle.plane_edits.proofs.LocalMesh.Kept.{turning_of}
-use Rattle.mesh_embedding.specs.Drawn.{faces_of, outer_of}
-use Rattle.half_edge_links.proofs.Removing.ShrinkTriangles.{map-swap_remove}
-use Rattle.mesh_embedding.proofs.MeshEdits.{face_before}
-use Rattle.mesh_embedding.proofs.MeshLegal.{none_or_some}
-use Rattle.mesh_embedding.proofs.MeshStars.{edge_of_face}
-use Rattle.mesh_embedding.proofs.WorkLists.{contains_map}
+use Rattle.delaunay_legalization.specs.half_edge_mesh.Mesh.{Mesh, AreSoundLinks, origin, next, prev}
+use Rattle.delaunay_legalization.specs.half_edge_mesh.Mesh.{face, rev}
+use Rattle.delaunay_legalization.proofs.half_edge_links.Lists.Rev.{rev-rev, rev_within}
+use Rattle.delaunay_legalization.proofs.half_edge_links.Removing.OpenSound.{length-swap_remove}
+use Rattle.delaunay_legalization.proofs.half_edge_links.Removing.OpenSound.{get_or-swap_remove_same}
+use Rattle.delaunay_legalization.proofs.half_edge_links.Removing.OpenSound.{get_or-swap_remove_other}
+use Rattle.delaunay_legalization.proofs.half_edge_links.Removing.OpenSound.{swap_remove_default}
+use Rattle.delaunay_legalization.proofs.plane.Indexes.{turned_join}
+use Rattle.delaunay_legalization.specs.plane.Circle.{InsideCircle}
+use Rattle.delaunay_legalization.specs.plane.Fraction.{Point, Fraction, whole}
+use Rattle.delaunay_legalization.specs.plane.Pairs.{Joins, place as at}
+use Rattle.delaunay_legalization.specs.plane.Plain.{TakesOut}
+use Rattle.delaunay_legalization.specs.plane.Side.{TurnsLeft}
+use Rattle.delaunay_legalization.specs.plane.Tiling.{Face}
+use Rattle.delaunay_legalization.specs.plane_tiling.Local.{IsMesh}
+use Rattle.delaunay_legalization.specs.plane_edits.Change.{IsFaceOf}
+use Rattle.delaunay_legalization.specs.plane_edits.Legal.{AllPassBut, Pass, point_of}
+use Rattle.delaunay_legalization.proofs.plane_edits.Legalization.Flipping.{one_question}
+use Rattle.delaunay_legalization.proofs.plane_edits.LocalMesh.Kept.{turning_of}
+use Rattle.delaunay_legalization.specs.mesh_embedding.Drawn.{faces_of, outer_of}
+use Rattle.delaunay_legalization.proofs.half_edge_links.Removing.ShrinkTriangles.{map-swap_remove}
+use Rattle.delaunay_legalization.proofs.mesh_embedding.MeshEdits.{face_before}
+use Rattle.delaunay_legalization.proofs.mesh_embedding.MeshLegal.{none_or_some}
+use Rattle.delaunay_legalization.proofs.mesh_embedding.MeshStars.{edge_of_face}
+use Rattle.delaunay_legalization.proofs.mesh_embedding.WorkLists.{contains_map}
 use Rattle.delaunay_legalization.specs.Among.{IsQuiet}
 use Rattle.delaunay_legalization.specs.Constraints.{constraints_by, points_and_constraints_by}
 use Rattle.delaunay_legalization.specs.Shape.{IsTriangulated, IsDelaunayTriangulation}
 use Rattle.delaunay_legalization.specs.State.{State}
-use Rattle.plane_edits.proofs.Legalization.NewPoint.{none_in_empty}
+use Rattle.delaunay_legalization.proofs.plane_edits.Legalization.NewPoint.{none_in_empty}
 use Rattle.delaunay_legalization.proofs.Stars.{face_corners}
 use Rattle.delaunay_removal.specs.Pairs.{FailOnlyAt, HasBorder, IsHoleSide, LeavesFaces}
 use Rattle.delaunay_removal.specs.Pairs.{former_index, pair_left, pairs_left}

@@ -7,19 +7,20 @@ use Rattle.std.specs.Prelude.{All, ℤ, ◌+ℤ◌, slice_get, swap_remove}
 use Rattle.std.proofs.lemmas.Bool.{cases_eq}
 use Rattle.std.proofs.lemmas.List.{length-map, get_or-take, get_or-set_same, get_or-set_other}
 use Rattle.std.proofs.lemmas.Option.{slice_get_within}
-use Rattle.half_edge_mesh.specs.Triangles.{triangle_at}
-use Rattle.half_edge_links.proofs.Removing.OpenSound.{length-swap_remove}
-use Rattle.half_edge_mesh.specs.Contents.{Contents, IsMeshWithData}
-use Rattle.half_edge_mesh.specs.Removal.{HasFewEdges, LeavesMesh}
-use Rattle.half_edge_dcel.proofs.Outlines.{empty_list}
-use Rattle.plane.specs.Fraction.{Point}
-use Rattle.plane.specs.Tests.{InRange}
-use Rattle.plane_tiling.specs.Local.{total, around, along, IsMesh, LineMesh}
-use Rattle.plane_tiling.proofs.Counts.{hull_edges_count, line_edges_count}
-use Rattle.mesh_embedding.specs.Drawn.{corners_of, faces_of, edges_of, outer_of}
-use Rattle.mesh_embedding.proofs.OwnEdges.{own_edges}
-use Rattle.mesh_embedding.proofs.MeshLineRemoval.{line_removed}
-use Rattle.mesh_embedding.proofs.MeshLineEnds.{line_has_few_edges}
+use Rattle.delaunay_legalization.specs.half_edge_mesh.Triangles.{triangle_at}
+use Rattle.delaunay_legalization.proofs.half_edge_links.Removing.OpenSound.{length-swap_remove}
+use Rattle.delaunay_legalization.specs.half_edge_mesh.Contents.{Contents, IsMeshWithData}
+use Rattle.delaunay_legalization.specs.half_edge_mesh.Removal.{HasFewEdges, LeavesMesh}
+use Rattle.delaunay_legalization.proofs.half_edge_dcel.Outlines.{empty_list}
+use Rattle.delaunay_legalization.specs.plane.Fraction.{Point}
+use Rattle.delaunay_legalization.specs.plane.Tests.{InRange}
+use Rattle.delaunay_legalization.specs.plane_tiling.Local.{total, around, along, IsMesh, LineMesh}
+use Rattle.delaunay_legalization.proofs.plane_tiling.Counts.{hull_edges_count, line_edges_count}
+use Rattle.delaunay_legalization.specs.mesh_embedding.Drawn.{corners_of, faces_of, edges_of}
+use Rattle.delaunay_legalization.specs.mesh_embedding.Drawn.{outer_of}
+use Rattle.delaunay_legalization.proofs.mesh_embedding.OwnEdges.{own_edges}
+use Rattle.delaunay_legalization.proofs.mesh_embedding.MeshLineRemoval.{line_removed}
+use Rattle.delaunay_legalization.proofs.mesh_embedding.MeshLineEnds.{line_has_few_edges}
 use Rattle.delaunay_legalization.specs.State.{state_of}
 use Rattle.delaunay_legalization.specs.Shape.{IsTriangulated}
 use Rattle.delaunay_legalization.proofs.ElementCounts.{edges_counted, faces_counted}

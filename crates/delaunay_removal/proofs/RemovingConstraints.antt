@@ -3,12 +3,12 @@
 use Rattle.std.proofs.Common.{◌≡◌, ◌≢◌, ◌⊎◌, ◌↔◌, ◌-◌, ◌*◌, ◌/◌, ◌<◌, ◌∙◌}
 use Rattle.std.proofs.Common.{ℕ, List, length, sym, ap, subst, inl, inr, arith}
 use Rattle.std.specs.Prelude.{Bool, false, Contains, nat_eq, if◌then◌else◌, slice_get, swap_remove}
-use Rattle.half_edge_mesh.specs.Contents.{Contents, IsMeshWithData}
-use Rattle.half_edge_mesh.specs.Mesh.{Mesh, origin, rev}
-use Rattle.half_edge_mesh.specs.Removal.{FullEdge, full_edges}
-use Rattle.plane.specs.Fraction.{Point}
-use Rattle.plane.specs.Pairs.{Joins, IsSamePair}
-use Rattle.plane.specs.Plain.{TakesOut}
+use Rattle.delaunay_legalization.specs.half_edge_mesh.Contents.{Contents, IsMeshWithData}
+use Rattle.delaunay_legalization.specs.half_edge_mesh.Mesh.{Mesh, origin, rev}
+use Rattle.delaunay_legalization.specs.half_edge_mesh.Removal.{FullEdge, full_edges}
+use Rattle.delaunay_legalization.specs.plane.Fraction.{Point}
+use Rattle.delaunay_legalization.specs.plane.Pairs.{Joins, IsSamePair}
+use Rattle.delaunay_legalization.specs.plane.Plain.{TakesOut}
 use Rattle.delaunay_legalization.specs.Constraints.{marked_edges, constraint_pairs}
 use Rattle.delaunay_legalization.specs.Constraints.{points_and_constraints_by}
 use Rattle.delaunay_legalization.specs.Shape.{IsTriangulated}
@@ -18,7 +18,7 @@ use Rattle.delaunay_removal.specs.Data.{KeepsDataBeside, RenumbersEdges}
 use Rattle.delaunay_removal.specs.Freeing.{FreesEdgesAt}
 use Rattle.delaunay_removal.specs.Lists.{HasRoomToRemove}
 use Rattle.delaunay_removal.specs.declared.lists.RemovalLists.{RemovalLists}
-use Rattle.mesh_embedding.proofs.EdgePairs.{rev_of_even}
+use Rattle.delaunay_legalization.proofs.mesh_embedding.EdgePairs.{rev_of_even}
 use Rattle.delaunay_removal.proofs.DataReads.{edge_read, even_or_odd}
 use Rattle.delaunay_removal.proofs.LeavingConstraints.{constraints_left, back_and_there}
 

@@ -4,10 +4,10 @@ use Rattle.std.proofs.Common.{◌≡◌, ◌≢◌, ◌+◌, ◌<◌, ◌∙◌}
 use Rattle.std.proofs.Common.{ℕ, length, refl, sym, ap, subst, arith, inl, inr}
 use Rattle.std.proofs.lemmas.Bool.{cases_eq, cases_lt}
 use Rattle.std.proofs.Math.Numerals.{add-one}
-use Rattle.half_edge_mesh.specs.Mesh.{Mesh, IsValidMesh, origin}
-use Rattle.half_edge_mesh.specs.Peel.{turn, spoke}
-use Rattle.half_edge_mesh.specs.Round.{IsRound}
-use Rattle.half_edge_views.proofs.Loops.{round_fits}
+use Rattle.delaunay_legalization.specs.half_edge_mesh.Mesh.{Mesh, IsValidMesh, origin}
+use Rattle.delaunay_legalization.specs.half_edge_mesh.Peel.{turn, spoke}
+use Rattle.delaunay_legalization.specs.half_edge_mesh.Round.{IsRound}
+use Rattle.delaunay_legalization.proofs.half_edge_views.Loops.{round_fits}
 use Rattle.delaunay_legalization.proofs.Rounds.{round_at}
 
 -- after so many steps from edge first on the walk is at an edge, and none of the steps before led

@@ -4,13 +4,13 @@
 use Rattle.std.proofs.Common.{◌≡◌, ◌+◌, ◌-◌, ◌*◌, ◌/◌, ◌<◌, ◌≤◌, [], ◌∷◌, ◌++◌, ◌∙◌}
 use Rattle.std.proofs.Common.{ℕ, List, length, map, sym, ap, subst, arith, inl}
 use Rattle.std.specs.Prelude.{All}
-use Rattle.half_edge_mesh.specs.Mesh.{origin}
-use Rattle.half_edge_mesh.specs.Flip.{flipped}
-use Rattle.half_edge_mesh.specs.Outline.{KeepsOuter}
-use Rattle.half_edge_mesh.specs.Peel.{turn, spoke}
-use Rattle.half_edge_mesh.specs.Triangles.{FlipsTriangles}
-use Rattle.half_edge_mesh.specs.Contents.{Contents, IsMeshWithData}
-use Rattle.plane.specs.Fraction.{Point}
+use Rattle.delaunay_legalization.specs.half_edge_mesh.Mesh.{origin}
+use Rattle.delaunay_legalization.specs.half_edge_mesh.Flip.{flipped}
+use Rattle.delaunay_legalization.specs.half_edge_mesh.Outline.{KeepsOuter}
+use Rattle.delaunay_legalization.specs.half_edge_mesh.Peel.{turn, spoke}
+use Rattle.delaunay_legalization.specs.half_edge_mesh.Triangles.{FlipsTriangles}
+use Rattle.delaunay_legalization.specs.half_edge_mesh.Contents.{Contents, IsMeshWithData}
+use Rattle.delaunay_legalization.specs.plane.Fraction.{Point}
 use Rattle.delaunay_removal.specs.Data.{StandsBeside}
 use Rattle.delaunay_removal.specs.Star.{IsConvexAt, IsInnerStar, IsReduced, ShrinksStar}
 use Rattle.delaunay_removal.proofs.DataStays.{stands_turned}

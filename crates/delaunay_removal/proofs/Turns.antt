@@ -1,14 +1,15 @@
 -- An edge of a vertex between two inner faces may be turned.
 -- Lemmas: may_turn.
 use Rattle.std.proofs.Common.{◌≢◌, ℕ, ◌*◌, ◌/◌, ◌<◌, List, length, refl}
-use Rattle.half_edge_mesh.specs.Mesh.{Mesh, IsValidMesh, origin, prev, face, rev}
-use Rattle.half_edge_mesh.specs.Flip.{IsFlippable}
-use Rattle.half_edge_mesh.specs.Peel.{turn}
-use Rattle.half_edge_mesh.specs.Round.{neighbour}
-use Rattle.plane.specs.Fraction.{Point}
-use Rattle.plane_tiling.specs.Local.{LocalMesh}
-use Rattle.mesh_embedding.specs.Drawn.{faces_of, outer_of}
-use Rattle.mesh_embedding.proofs.MeshStarFlips.{can_turn_spoke}
+use Rattle.delaunay_legalization.specs.half_edge_mesh.Mesh.{Mesh, IsValidMesh, origin, prev, face}
+use Rattle.delaunay_legalization.specs.half_edge_mesh.Mesh.{rev}
+use Rattle.delaunay_legalization.specs.half_edge_mesh.Flip.{IsFlippable}
+use Rattle.delaunay_legalization.specs.half_edge_mesh.Peel.{turn}
+use Rattle.delaunay_legalization.specs.half_edge_mesh.Round.{neighbour}
+use Rattle.delaunay_legalization.specs.plane.Fraction.{Point}
+use Rattle.delaunay_legalization.specs.plane_tiling.Local.{LocalMesh}
+use Rattle.delaunay_legalization.specs.mesh_embedding.Drawn.{faces_of, outer_of}
+use Rattle.delaunay_legalization.proofs.mesh_embedding.MeshStarFlips.{can_turn_spoke}
 use Rattle.delaunay_legalization.proofs.Rounds.{round_at}
 
 -- the edge after h, where the ends beside it differ

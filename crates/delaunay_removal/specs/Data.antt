@@ -1,14 +1,14 @@
 -- What becomes of the data of edges and faces when a vertex goes.
 use Rattle.std.specs.Prelude.{◌≡◌, ◌≢◌, ◌⊎◌, ◌-◌, ◌/◌, ◌<◌}
 use Rattle.std.specs.Prelude.{ℕ, List, length, Some, slice_get, Contains}
-use Rattle.half_edge_mesh.specs.Mesh.{origin, rev}
-use Rattle.half_edge_mesh.specs.Renames.{moved}
-use Rattle.half_edge_mesh.specs.Triangles.{Triangle, triangles}
-use Rattle.half_edge_mesh.specs.Contents.{Contents}
-use Rattle.half_edge_mesh.specs.Removal.{FullEdge, FullFace, full_edges, full_faces}
-use Rattle.half_edge_mesh.specs.Removal.{renumbered_edge}
-use Rattle.mesh_embedding.specs.Drawn.{faces_of}
-use Rattle.mesh_embedding.specs.Stays.{HaveSameCorners}
+use Rattle.delaunay_legalization.specs.half_edge_mesh.Mesh.{origin, rev}
+use Rattle.delaunay_legalization.specs.half_edge_mesh.Renames.{moved}
+use Rattle.delaunay_legalization.specs.half_edge_mesh.Triangles.{Triangle, triangles}
+use Rattle.delaunay_legalization.specs.half_edge_mesh.Contents.{Contents}
+use Rattle.delaunay_legalization.specs.half_edge_mesh.Removal.{FullEdge, FullFace, full_edges}
+use Rattle.delaunay_legalization.specs.half_edge_mesh.Removal.{full_faces, renumbered_edge}
+use Rattle.delaunay_legalization.specs.mesh_embedding.Drawn.{faces_of}
+use Rattle.delaunay_legalization.specs.mesh_embedding.Stays.{HaveSameCorners}
 use Rattle.delaunay_legalization.specs.State.{State}
 use Rattle.delaunay_removal.specs.Pairs.{MakesFaces}
 

@@ -1,7 +1,7 @@
 -- What becomes of a mesh where the edges of a vertex cease to be constraints.
 use Rattle.std.specs.Prelude.{◌≡◌, ◌≢◌, ℕ, ◌*◌, ◌<◌, Bool, false, length, Some, slice_get}
-use Rattle.half_edge_mesh.specs.Contents.{Contents}
-use Rattle.half_edge_mesh.specs.Mesh.{origin, rev}
+use Rattle.delaunay_legalization.specs.half_edge_mesh.Contents.{Contents}
+use Rattle.delaunay_legalization.specs.half_edge_mesh.Mesh.{origin, rev}
 
 -- undirected edge k has no mark
 abbrev pub IsUnmarked : {V D U F : Type 0} → (U → Bool) → Contents V D U F → ℕ → Type 0

@@ -1,14 +1,14 @@
 -- The edges and faces round a vertex on the hull that is to go.
 use Rattle.std.specs.Prelude.{◌≡◌, ℕ, suc, ◌<◌, List, length, map, slice_index}
-use Rattle.half_edge_mesh.specs.Mesh.{Mesh, origin, next, face, rev}
-use Rattle.half_edge_mesh.specs.Peel.{spoke}
-use Rattle.half_edge_mesh.specs.Round.{IsRound, neighbour}
-use Rattle.half_edge_mesh.specs.Contents.{Contents, IsMeshWithData}
-use Rattle.plane.specs.Fraction.{Point}
-use Rattle.plane.specs.Pairs.{place}
-use Rattle.plane.specs.Side.{TurnsLeft}
-use Rattle.plane_tiling.specs.Local.{LocalMesh}
-use Rattle.mesh_embedding.specs.Drawn.{faces_of, outer_of}
+use Rattle.delaunay_legalization.specs.half_edge_mesh.Mesh.{Mesh, origin, next, face, rev}
+use Rattle.delaunay_legalization.specs.half_edge_mesh.Peel.{spoke}
+use Rattle.delaunay_legalization.specs.half_edge_mesh.Round.{IsRound, neighbour}
+use Rattle.delaunay_legalization.specs.half_edge_mesh.Contents.{Contents, IsMeshWithData}
+use Rattle.delaunay_legalization.specs.plane.Fraction.{Point}
+use Rattle.delaunay_legalization.specs.plane.Pairs.{place}
+use Rattle.delaunay_legalization.specs.plane.Side.{TurnsLeft}
+use Rattle.delaunay_legalization.specs.plane_tiling.Local.{LocalMesh}
+use Rattle.delaunay_legalization.specs.mesh_embedding.Drawn.{faces_of, outer_of}
 use Rattle.delaunay_removal.specs.Data.{StandsBeside}
 use Rattle.delaunay_removal.specs.Star.{IsConvexAt}
 

@@ -1,6 +1,6 @@
 -- The lists that removals work with.
 use Rattle.std.specs.Prelude.{ℕ, ◌*◌, ◌≤◌, length, vec_capacity, vec_len}
-use Rattle.half_edge_mesh.specs.Contents.{Contents}
+use Rattle.delaunay_legalization.specs.half_edge_mesh.Contents.{Contents}
 use Rattle.delaunay_removal.specs.Pairs.{HasRoomAt, IsRoundOf}
 use Rattle.delaunay_removal.specs.declared.lists.RemovalLists.{RemovalLists}
 

@@ -2,16 +2,16 @@
 -- what its edges join once they are turned.
 use Rattle.std.specs.Prelude.{◌≡◌, ◌≢◌, ◌⊎◌, ◌+◌, ◌-◌, ◌*◌, ◌<◌, ◌≤◌, if◌then◌else◌}
 use Rattle.std.specs.Prelude.{ℕ, List, Some, length, map, nat_eq}
-use Rattle.half_edge_mesh.specs.Mesh.{Mesh, origin, out_edge, rev}
-use Rattle.half_edge_mesh.specs.Peel.{turn}
-use Rattle.half_edge_mesh.specs.Renames.{moved}
-use Rattle.half_edge_mesh.specs.Round.{IsRound}
-use Rattle.plane.specs.Fraction.{Point}
-use Rattle.plane.specs.Pairs.{Joins}
-use Rattle.plane.specs.Tiling.{Face}
-use Rattle.plane_edits.specs.Change.{IsFaceOf}
-use Rattle.mesh_embedding.specs.Drawn.{faces_of}
-use Rattle.mesh_embedding.specs.Legal.{pairs_at}
+use Rattle.delaunay_legalization.specs.half_edge_mesh.Mesh.{Mesh, origin, out_edge, rev}
+use Rattle.delaunay_legalization.specs.half_edge_mesh.Peel.{turn}
+use Rattle.delaunay_legalization.specs.half_edge_mesh.Renames.{moved}
+use Rattle.delaunay_legalization.specs.half_edge_mesh.Round.{IsRound}
+use Rattle.delaunay_legalization.specs.plane.Fraction.{Point}
+use Rattle.delaunay_legalization.specs.plane.Pairs.{Joins}
+use Rattle.delaunay_legalization.specs.plane.Tiling.{Face}
+use Rattle.delaunay_legalization.specs.plane_edits.Change.{IsFaceOf}
+use Rattle.delaunay_legalization.specs.mesh_embedding.Drawn.{faces_of}
+use Rattle.delaunay_legalization.specs.mesh_embedding.Legal.{pairs_at}
 use Rattle.delaunay_legalization.specs.Among.{IsQuiet}
 use Rattle.delaunay_legalization.specs.State.{State}
 

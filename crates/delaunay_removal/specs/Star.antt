@@ -3,20 +3,20 @@ use Rattle.std.specs.Prelude.{◌≡◌, ◌⊎◌, ◌+◌, ◌*◌, ◌/◌, �
 use Rattle.std.specs.Prelude.{ℕ, suc, List, length, map, vec_capacity, vec_len}
 use Rattle.std.specs.Prelude.{Option, IfSome, IfNone, All}
 use Rattle.std.specs.Global.{Vec}
-use Rattle.half_edge_mesh.specs.Flip.{flipped}
-use Rattle.half_edge_mesh.specs.Mesh.{Mesh, origin, face, IsAlone}
-use Rattle.half_edge_mesh.specs.Outline.{KeepsOuter}
-use Rattle.half_edge_mesh.specs.Peel.{turn, spoke}
-use Rattle.half_edge_mesh.specs.Round.{IsRound, neighbour}
-use Rattle.half_edge_mesh.specs.Contents.{Contents, IsMeshWithData}
-use Rattle.half_edge_mesh.specs.Triangles.{FlipsTriangles}
-use Rattle.plane.specs.Fraction.{Point, WithinSegment}
-use Rattle.plane.specs.Pairs.{place}
-use Rattle.plane.specs.Side.{TurnsLeft}
-use Rattle.plane.specs.Tiling.{Face}
-use Rattle.plane_tiling.specs.Local.{LocalMesh}
-use Rattle.plane_edits.specs.Removal.{LocalMeshWithout, LineMeshWithout}
-use Rattle.mesh_embedding.specs.Drawn.{faces_of, outer_of}
+use Rattle.delaunay_legalization.specs.half_edge_mesh.Flip.{flipped}
+use Rattle.delaunay_legalization.specs.half_edge_mesh.Mesh.{Mesh, origin, face, IsAlone}
+use Rattle.delaunay_legalization.specs.half_edge_mesh.Outline.{KeepsOuter}
+use Rattle.delaunay_legalization.specs.half_edge_mesh.Peel.{turn, spoke}
+use Rattle.delaunay_legalization.specs.half_edge_mesh.Round.{IsRound, neighbour}
+use Rattle.delaunay_legalization.specs.half_edge_mesh.Contents.{Contents, IsMeshWithData}
+use Rattle.delaunay_legalization.specs.half_edge_mesh.Triangles.{FlipsTriangles}
+use Rattle.delaunay_legalization.specs.plane.Fraction.{Point, WithinSegment}
+use Rattle.delaunay_legalization.specs.plane.Pairs.{place}
+use Rattle.delaunay_legalization.specs.plane.Side.{TurnsLeft}
+use Rattle.delaunay_legalization.specs.plane.Tiling.{Face}
+use Rattle.delaunay_legalization.specs.plane_tiling.Local.{LocalMesh}
+use Rattle.delaunay_legalization.specs.plane_edits.Removal.{LocalMeshWithout, LineMeshWithout}
+use Rattle.delaunay_legalization.specs.mesh_embedding.Drawn.{faces_of, outer_of}
 use Rattle.delaunay_removal.specs.Data.{StandsBeside}
 
 -- the edge after edge h, round the vertex where they start, lies across a strictly convex

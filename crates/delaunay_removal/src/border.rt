@@ -1,12 +1,14 @@
 //! The sides of the hole that a vertex leaves.
 ghost use Rattle.std.specs.Prelude.{◌<◌, length, IfOk};
-ghost use Rattle.half_edge_mesh.specs.Mesh.{origin};
+ghost use Rattle.delaunay_legalization.specs.half_edge_mesh.Mesh.{origin};
 ghost use Rattle.delaunay_removal.specs.Pairs.{HasBorder};
 
 use crate::freeing::some_edge;
 use crate::pairs::{VertexPair, vertex_at_end};
 use crate::star::{ccw_edge, count_edges};
-use half_edge_mesh::{Dcel, FixedDirectedEdgeHandle, FixedVertexHandle, MeshViews};
+use delaunay_legalization::half_edge_mesh::{
+    Dcel, FixedDirectedEdgeHandle, FixedVertexHandle, MeshViews,
+};
 use std::alloc::{AllocError, Global};
 
 // Lists the ends of each edge and of the one after it, round the vertex where `first` starts.

@@ -1,13 +1,13 @@
 //! Which edge of a vertex is turned away next.
 ghost use Rattle.std.specs.Prelude.{◌≡◌, ◌↔◌, ◌<◌, length, IsTrue, IsFalse, IfSome};
-ghost use Rattle.half_edge_mesh.specs.Mesh.{origin};
+ghost use Rattle.delaunay_legalization.specs.half_edge_mesh.Mesh.{origin};
 ghost use Rattle.delaunay_removal.specs.Star.{FindsSpoke, IsConvexAt, IsSpokeThat, IsTurnable};
 
 use crate::star::{ccw_edge, cw_edge, is_between_faces};
-use delaunay_core::math::PlaneTests;
-use delaunay_core::point::{HasPosition, Point2};
+use delaunay_legalization::delaunay_core::math::PlaneTests;
+use delaunay_legalization::delaunay_core::point::{HasPosition, Point2};
+use delaunay_legalization::half_edge_mesh::{Dcel, FixedDirectedEdgeHandle};
 use delaunay_legalization::{end_of, start_of, turns_left};
-use half_edge_mesh::{Dcel, FixedDirectedEdgeHandle};
 use std::marker::Model;
 
 // Where a vertex has no more edges than these, any that can be turned away is as good as another.

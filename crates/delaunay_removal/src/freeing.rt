@@ -1,12 +1,14 @@
 //! The edges of a vertex cease to be constraints.
 ghost use Rattle.std.specs.Prelude.{◌≡◌, ◌<◌, length, None, Some, IfNone, IfSome};
-ghost use Rattle.half_edge_mesh.specs.Contents.{IsMeshWithData};
-ghost use Rattle.half_edge_mesh.specs.Mesh.{origin, out_edge};
+ghost use Rattle.delaunay_legalization.specs.half_edge_mesh.Contents.{IsMeshWithData};
+ghost use Rattle.delaunay_legalization.specs.half_edge_mesh.Mesh.{origin, out_edge};
 ghost use Rattle.delaunay_removal.specs.Freeing.{FreesEdgesAt};
 
 use crate::star::{ccw_edge, count_edges};
+use delaunay_legalization::half_edge_mesh::{
+    Dcel, FixedDirectedEdgeHandle, FixedVertexHandle, MeshViews,
+};
 use delaunay_legalization::{ConstraintMarker, free_edge};
-use half_edge_mesh::{Dcel, FixedDirectedEdgeHandle, FixedVertexHandle, MeshViews};
 
 // An edge that starts at a vertex, if there is one.
 pub(crate) fn some_edge<V, DE, UE, F>(

@@ -1,12 +1,12 @@
 //! The edge that joins two vertices.
 ghost use Rattle.std.specs.Prelude.{◌≡◌, ◌↔◌, ◌<◌, length, IfNone, IfSome, IsTrue};
-ghost use Rattle.half_edge_mesh.specs.Mesh.{origin, rev};
+ghost use Rattle.delaunay_legalization.specs.half_edge_mesh.Mesh.{origin, rev};
 ghost use Rattle.delaunay_removal.specs.Pairs.{HasNoEdgeBetween};
 
 use crate::freeing::some_edge;
 use crate::pairs::vertex_at_end;
 use crate::star::ccw_edge;
-use half_edge_mesh::{Dcel, FixedDirectedEdgeHandle, FixedVertexHandle};
+use delaunay_legalization::half_edge_mesh::{Dcel, FixedDirectedEdgeHandle, FixedVertexHandle};
 
 // Whether an edge ends at a vertex.
 fn ends_at<V, DE, UE, F>(

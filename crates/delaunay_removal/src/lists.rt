@@ -7,7 +7,7 @@ use crate::freeing::some_edge;
 use crate::pairs::VertexPair;
 use crate::star::count_edges;
 use delaunay_legalization::EdgeSet;
-use half_edge_mesh::{Dcel, FixedDirectedEdgeHandle, FixedVertexHandle};
+use delaunay_legalization::half_edge_mesh::{Dcel, FixedDirectedEdgeHandle, FixedVertexHandle};
 use std::alloc::{AllocError, Global};
 
 /// The lists that removals work with. What stands in them between two removals has no meaning, but

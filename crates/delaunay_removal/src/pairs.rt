@@ -1,12 +1,12 @@
 //! Pairs of vertices that bound new faces where a vertex went, and a legalization from them on.
 ghost use Rattle.std.specs.Prelude.{◌≡◌, ℕ, ◌*◌, ◌<◌, ◌≤◌, ◌++◌};
 ghost use Rattle.std.specs.Prelude.{length, map, All, Contains, IsTrue};
-ghost use Rattle.half_edge_mesh.specs.Mesh.{origin, rev};
-ghost use Rattle.half_edge_mesh.specs.Renames.{moved};
-ghost use Rattle.half_edge_mesh.specs.Round.{neighbour};
-ghost use Rattle.plane_edits.specs.Legal.{AllPassBut};
-ghost use Rattle.mesh_embedding.specs.Drawn.{faces_of};
-ghost use Rattle.mesh_embedding.specs.Legal.{AreEdges};
+ghost use Rattle.delaunay_legalization.specs.half_edge_mesh.Mesh.{origin, rev};
+ghost use Rattle.delaunay_legalization.specs.half_edge_mesh.Renames.{moved};
+ghost use Rattle.delaunay_legalization.specs.half_edge_mesh.Round.{neighbour};
+ghost use Rattle.delaunay_legalization.specs.plane_edits.Legal.{AllPassBut};
+ghost use Rattle.delaunay_legalization.specs.mesh_embedding.Drawn.{faces_of};
+ghost use Rattle.delaunay_legalization.specs.mesh_embedding.Legal.{AreEdges};
 ghost use Rattle.delaunay_legalization.specs.Among.{FailOnlyOf};
 ghost use Rattle.delaunay_legalization.specs.Constraints.{constraints_by};
 ghost use Rattle.delaunay_legalization.specs.Flips.{FlipsFit};
@@ -20,10 +20,12 @@ ghost use Rattle.delaunay_removal.specs.Pairs.{pairs_left};
 use crate::joining_edge::find_edge_between;
 use crate::lists::RemovalLists;
 use crate::star::ccw_edge;
-use delaunay_core::math::PlaneTests;
-use delaunay_core::point::HasPosition;
+use delaunay_legalization::delaunay_core::math::PlaneTests;
+use delaunay_legalization::delaunay_core::point::HasPosition;
+use delaunay_legalization::half_edge_mesh::{
+    Dcel, FixedDirectedEdgeHandle, FixedVertexHandle, MeshViews,
+};
 use delaunay_legalization::{ConstraintMarker, EdgeSet, legalize_list, push_side};
-use half_edge_mesh::{Dcel, FixedDirectedEdgeHandle, FixedVertexHandle, MeshViews};
 
 /// Two vertices.
 pub type VertexPair = (FixedVertexHandle, FixedVertexHandle);

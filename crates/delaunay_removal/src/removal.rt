@@ -1,12 +1,12 @@
 //! Vertices that go, with their edges.
 ghost use Rattle.std.specs.Prelude.{◌≡◌, ◌<◌, []};
 ghost use Rattle.std.specs.Prelude.{length, map, All, Some, IsSome, IsTrue, slice_get};
-ghost use Rattle.half_edge_mesh.specs.Contents.{IsMeshWithData};
-ghost use Rattle.half_edge_mesh.specs.Mesh.{origin, out_edge, IsAlone};
-ghost use Rattle.half_edge_mesh.specs.Removal.{DropsVertex};
-ghost use Rattle.plane.specs.Plain.{TakesOut};
-ghost use Rattle.plane.specs.Tests.{InRange};
-ghost use Rattle.mesh_embedding.specs.Drawn.{faces_of, outer_of};
+ghost use Rattle.delaunay_legalization.specs.half_edge_mesh.Contents.{IsMeshWithData};
+ghost use Rattle.delaunay_legalization.specs.half_edge_mesh.Mesh.{origin, out_edge, IsAlone};
+ghost use Rattle.delaunay_legalization.specs.half_edge_mesh.Removal.{DropsVertex};
+ghost use Rattle.delaunay_legalization.specs.plane.Plain.{TakesOut};
+ghost use Rattle.delaunay_legalization.specs.plane.Tests.{InRange};
+ghost use Rattle.delaunay_legalization.specs.mesh_embedding.Drawn.{faces_of, outer_of};
 ghost use Rattle.delaunay_legalization.specs.Constraints.{constraints_by};
 ghost use Rattle.delaunay_legalization.specs.Constraints.{points_and_constraints_by};
 ghost use Rattle.delaunay_legalization.specs.Shape.{IsTriangulated};
@@ -22,10 +22,12 @@ use crate::lists::RemovalLists;
 use crate::removal_hull::{isolate_on_hull, outer_edge_beside};
 use crate::removal_inner::isolate_inner;
 use crate::removal_line::remove_on_line;
-use delaunay_core::math::PlaneTests;
-use delaunay_core::point::HasPosition;
 use delaunay_legalization::ConstraintMarker;
-use half_edge_mesh::{Dcel, FixedDirectedEdgeHandle, FixedVertexHandle, MeshViews};
+use delaunay_legalization::delaunay_core::math::PlaneTests;
+use delaunay_legalization::delaunay_core::point::HasPosition;
+use delaunay_legalization::half_edge_mesh::{
+    Dcel, FixedDirectedEdgeHandle, FixedVertexHandle, MeshViews,
+};
 
 // An edge that starts at a vertex with edges.
 fn first_edge<V, DE, UE, F>(

@@ -2,11 +2,11 @@
 ghost use Rattle.std.specs.Prelude.{◌≡◌, ◌↔◌, ℕ, ◌+◌, ◌-◌, ◌<◌, ◌≤◌, []};
 ghost use Rattle.std.specs.Prelude.{length, map, All, IsTrue, IfSome, IfNone};
 ghost use Rattle.std.specs.Prelude.{vec_capacity, vec_len};
-ghost use Rattle.half_edge_mesh.specs.Contents.{IsMeshWithData};
-ghost use Rattle.half_edge_mesh.specs.Mesh.{face, next, origin, rev};
-ghost use Rattle.half_edge_mesh.specs.Round.{IsRound, neighbour};
-ghost use Rattle.plane.specs.Pairs.{place};
-ghost use Rattle.plane.specs.Side.{on, side};
+ghost use Rattle.delaunay_legalization.specs.half_edge_mesh.Contents.{IsMeshWithData};
+ghost use Rattle.delaunay_legalization.specs.half_edge_mesh.Mesh.{face, next, origin, rev};
+ghost use Rattle.delaunay_legalization.specs.half_edge_mesh.Round.{IsRound, neighbour};
+ghost use Rattle.delaunay_legalization.specs.plane.Pairs.{place};
+ghost use Rattle.delaunay_legalization.specs.plane.Side.{on, side};
 ghost use Rattle.delaunay_removal.specs.Hull.{AreSides, HasNoFlippableEdge, IsCornerAt};
 ghost use Rattle.delaunay_removal.specs.Hull.{HasHullEdge, IsHullFan, ShrinksFan};
 ghost use Rattle.delaunay_removal.specs.Pairs.{HasRoomAt, KeepsPairs};
@@ -16,10 +16,12 @@ use crate::choice::{Spokes, edge_to_go_on};
 use crate::lists::RemovalLists;
 use crate::pairs::VertexPair;
 use crate::star::{ccw_edge, count_edges, cw_edge, opposite_side, turn_away};
-use delaunay_core::math::PlaneTests;
-use delaunay_core::point::HasPosition;
+use delaunay_legalization::delaunay_core::math::PlaneTests;
+use delaunay_legalization::delaunay_core::point::HasPosition;
+use delaunay_legalization::half_edge_mesh::{
+    Dcel, FixedDirectedEdgeHandle, FixedVertexHandle, MeshViews,
+};
 use delaunay_legalization::{end_of, is_outer, start_of, turns_left};
-use half_edge_mesh::{Dcel, FixedDirectedEdgeHandle, FixedVertexHandle, MeshViews};
 
 // Turns edges of a vertex on the hull away while one of them lies across a strictly convex
 // quadrilateral. `first` is the one with the outer face on its right. Gives how many are left.

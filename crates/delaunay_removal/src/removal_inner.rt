@@ -1,13 +1,13 @@
 //! A vertex inside the hull loses its edges.
 ghost use Rattle.std.specs.Prelude.{◌≡◌, ◌↔◌, ◌+◌, ◌<◌, ◌≤◌};
 ghost use Rattle.std.specs.Prelude.{map, All, IsTrue, vec_capacity, vec_len};
-ghost use Rattle.half_edge_mesh.specs.Mesh.{origin};
-ghost use Rattle.half_edge_mesh.specs.Peel.{IsWheel};
-ghost use Rattle.half_edge_mesh.specs.Round.{IsRound, neighbour};
-ghost use Rattle.half_edge_mesh.specs.Contents.{IsMeshWithData};
-ghost use Rattle.half_edge_mesh.specs.Removal.{FillsHole};
-ghost use Rattle.plane_tiling.specs.Local.{LocalMesh};
-ghost use Rattle.mesh_embedding.specs.Drawn.{faces_of, outer_of};
+ghost use Rattle.delaunay_legalization.specs.half_edge_mesh.Mesh.{origin};
+ghost use Rattle.delaunay_legalization.specs.half_edge_mesh.Peel.{IsWheel};
+ghost use Rattle.delaunay_legalization.specs.half_edge_mesh.Round.{IsRound, neighbour};
+ghost use Rattle.delaunay_legalization.specs.half_edge_mesh.Contents.{IsMeshWithData};
+ghost use Rattle.delaunay_legalization.specs.half_edge_mesh.Removal.{FillsHole};
+ghost use Rattle.delaunay_legalization.specs.plane_tiling.Local.{LocalMesh};
+ghost use Rattle.delaunay_legalization.specs.mesh_embedding.Drawn.{faces_of, outer_of};
 ghost use Rattle.delaunay_removal.specs.Pairs.{HasRoomAt, KeepsPairs};
 ghost use Rattle.delaunay_removal.specs.Star.{HasInnerFaces, IsBetweenAt, IsInnerStar, LosesStar};
 ghost use Rattle.delaunay_removal.specs.Star.{ShrinksStar, StandsBetween};
@@ -15,10 +15,10 @@ ghost use Rattle.delaunay_removal.specs.Star.{ShrinksStar, StandsBetween};
 use crate::choice::{Spokes, edge_to_go_on};
 use crate::pairs::VertexPair;
 use crate::star::{ccw_edge, opposite_side, turn_away};
-use delaunay_core::math::PlaneTests;
-use delaunay_core::point::HasPosition;
+use delaunay_legalization::delaunay_core::math::PlaneTests;
+use delaunay_legalization::delaunay_core::point::HasPosition;
+use delaunay_legalization::half_edge_mesh::{Dcel, FixedDirectedEdgeHandle, FixedVertexHandle};
 use delaunay_legalization::{end_of, is_strictly_within, start_of};
-use half_edge_mesh::{Dcel, FixedDirectedEdgeHandle, FixedVertexHandle};
 
 // Turns edges of an inner vertex away, from which `first` and so many in all start, until three are
 // left, or four with the vertex strictly between two ends. Gives one of those that are left, and

@@ -5,8 +5,8 @@ ghost use Rattle.delaunay_legalization.specs.State.{points_and_constraints, stat
 ghost use Rattle.delaunay_removal.specs.Data.{RenumbersEdges};
 ghost use Rattle.delaunay_removal.specs.Removal.{TakesVertexOut};
 
-use delaunay_core::point::HasPosition;
-use half_edge_mesh::{Dcel, FixedVertexHandle};
+use delaunay_legalization::delaunay_core::point::HasPosition;
+use delaunay_legalization::half_edge_mesh::{Dcel, FixedVertexHandle};
 
 // Removes a vertex of a line, and gives its data back. Its neighbours, if it has two, are joined,
 // and the last vertex takes its index.

@@ -1,18 +1,18 @@
 //! The edges round a vertex, and turns of them.
 ghost use Rattle.std.specs.Prelude.{◌≡◌, ◌≢◌, ◌↔◌, ◌<◌, length, map, IsTrue};
 ghost use Rattle.std.specs.Prelude.{vec_capacity, vec_len};
-ghost use Rattle.half_edge_mesh.specs.Mesh.{origin, next, face, rev};
-ghost use Rattle.half_edge_mesh.specs.Peel.{turn};
-ghost use Rattle.half_edge_mesh.specs.Round.{IsRound, neighbour};
-ghost use Rattle.half_edge_mesh.specs.Contents.{IsMeshWithData};
-ghost use Rattle.plane_tiling.specs.Local.{LocalMesh};
-ghost use Rattle.mesh_embedding.specs.Drawn.{faces_of, outer_of};
+ghost use Rattle.delaunay_legalization.specs.half_edge_mesh.Mesh.{origin, next, face, rev};
+ghost use Rattle.delaunay_legalization.specs.half_edge_mesh.Peel.{turn};
+ghost use Rattle.delaunay_legalization.specs.half_edge_mesh.Round.{IsRound, neighbour};
+ghost use Rattle.delaunay_legalization.specs.half_edge_mesh.Contents.{IsMeshWithData};
+ghost use Rattle.delaunay_legalization.specs.plane_tiling.Local.{LocalMesh};
+ghost use Rattle.delaunay_legalization.specs.mesh_embedding.Drawn.{faces_of, outer_of};
 ghost use Rattle.delaunay_removal.specs.Star.{TurnsAway};
 
 use crate::pairs::{VertexPair, ends_beside};
-use delaunay_core::point::HasPosition;
+use delaunay_legalization::delaunay_core::point::HasPosition;
+use delaunay_legalization::half_edge_mesh::{Dcel, FixedDirectedEdgeHandle, MeshViews};
 use delaunay_legalization::is_outer;
-use half_edge_mesh::{Dcel, FixedDirectedEdgeHandle, MeshViews};
 
 // The edge after an edge, against the clock round the vertex where it starts.
 pub(crate) fn ccw_edge<V, DE, UE, F>(

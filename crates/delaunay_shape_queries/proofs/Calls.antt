@@ -5,13 +5,13 @@ use Rattle.std.proofs.Common.{◌≡◌, map, sym, subst, arith}
 use Rattle.std.specs.Prelude.{ℤ, All, Result, Ok, Err, IfOk}
 use Rattle.std.specs.Borrow.{Bor}
 use Rattle.std.proofs.lemmas.List.Elements.{All-map}
-use Rattle.half_edge_mesh.specs.Contents.{Contents}
-use Rattle.plane.specs.Fraction.{Point, Fraction}
-use Rattle.plane.specs.Shape.{InClosedCircle, InClosedRectangle}
-use Rattle.plane.specs.Tests.{InRange}
+use Rattle.delaunay_interface.specs.half_edge_mesh.Contents.{Contents}
+use Rattle.delaunay_interface.specs.plane.Fraction.{Point, Fraction}
+use Rattle.delaunay_interface.specs.plane.Shape.{InClosedCircle, InClosedRectangle}
+use Rattle.delaunay_interface.specs.plane.Tests.{InRange}
 use Rattle.delaunay_interface.specs.Headline.{AreSites}
-use Rattle.delaunay_legalization.specs.Shape.{IsTriangulated}
-use Rattle.delaunay_legalization.specs.State.{State, state_of}
+use Rattle.delaunay_interface.specs.delaunay_legalization.Shape.{IsTriangulated}
+use Rattle.delaunay_interface.specs.delaunay_legalization.State.{State, state_of}
 use Rattle.delaunay_shapes.specs.declared.in_shape.EdgesInShapeIterator.{EdgesInShapeIterator}
 use Rattle.delaunay_shapes.specs.declared.in_shape.VerticesInShapeIterator.{VerticesInShapeIterator}
 use Rattle.delaunay_shapes.specs.Left.{GivesEdgesIn, GivesVerticesIn, edges_left, vertices_left}

@@ -1,9 +1,9 @@
 -- The edges and vertices of a triangulation that have a point in a shape.
 use Rattle.std.specs.Prelude.{◌≡◌, ℕ, List}
 use Rattle.std.specs.Borrow.{Bor}
-use Rattle.half_edge_mesh.specs.Contents.{Contents}
-use Rattle.plane.specs.Fraction.{Point, Fraction}
-use Rattle.delaunay_legalization.specs.State.{State, state_of}
+use Rattle.delaunay_interface.specs.half_edge_mesh.Contents.{Contents}
+use Rattle.delaunay_interface.specs.plane.Fraction.{Point, Fraction}
+use Rattle.delaunay_interface.specs.delaunay_legalization.State.{State, state_of}
 pub use Rattle.delaunay_shapes.specs.Left.{GivesEdgesIn, GivesVerticesIn, edges_left, vertices_left}
 pub use Rattle.delaunay_shapes.specs.Tests.{corners}
 

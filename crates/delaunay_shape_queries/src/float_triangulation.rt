@@ -1,15 +1,15 @@
 //! The calls of both triangulations that ask for edges and vertices in a rectangle or a circle.
 ghost use Rattle.std.specs.Prelude.{◌≤ℤ◌, pos, All, IfOk};
-ghost use Rattle.delaunay_core.specs.Place.{place_of};
+ghost use Rattle.delaunay_interface.specs.delaunay_core.Place.{place_of};
 ghost use Rattle.delaunay_interface.specs.Headline.{AreSites};
 ghost use Rattle.delaunay_shapes.specs.Left.{edges_left, vertices_left};
 ghost use Rattle.delaunay_shapes.specs.Tests.{corners};
 ghost use Rattle.delaunay_shape_queries.specs.Found.{FindsEdges, FindsVertices};
-ghost use Rattle.plane.specs.Shape.{InClosedCircle, InClosedRectangle};
+ghost use Rattle.delaunay_interface.specs.plane.Shape.{InClosedCircle, InClosedRectangle};
 
-use delaunay_core::HintGenerator;
-use delaunay_core::math::PlaneTests;
-use delaunay_core::point::{HasPosition, Point2};
+use delaunay_interface::delaunay_core::HintGenerator;
+use delaunay_interface::delaunay_core::math::PlaneTests;
+use delaunay_interface::delaunay_core::point::{HasPosition, Point2};
 use delaunay_interface::{DirectedOf, FaceOf, Triangulation, UndirectedOf, VertexOf};
 use delaunay_shapes::{
     CircleMetric, EdgesInShapeIterator, RectangleMetric, VerticesInShapeIterator, edges_in_shape,

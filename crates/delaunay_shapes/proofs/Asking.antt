@@ -14,11 +14,11 @@ use Rattle.std.proofs.lemmas.Grind.{common_steps}
 use Rattle.std.proofs.lemmas.List.{get_or-set_same, get_or-set_other, map-append}
 use Rattle.std.proofs.lemmas.List.{length-set, length-replicate, get_or-replicate, append-nil}
 use Rattle.std.proofs.lemmas.List.Elements.{Contains-append_cases}
-use Rattle.half_edge_mesh.specs.Mesh.{Mesh, next, prev, rev}
-use Rattle.plane_tiling.proofs.Totals.{Contains-none, get_or_any}
-use Rattle.plane_edits.proofs.LocalMesh.Changes.{IsOnce, once_none}
-use Rattle.mesh_embedding.proofs.WorkLists.{contains_last, contains_before, last_or_before}
-use Rattle.mesh_embedding.proofs.WorkLists.{once_after}
+use Rattle.delaunay_location.specs.half_edge_mesh.Mesh.{Mesh, next, prev, rev}
+use Rattle.delaunay_location.proofs.plane_tiling.Totals.{Contains-none, get_or_any}
+use Rattle.delaunay_location.proofs.plane_edits.LocalMesh.Changes.{IsOnce, once_none}
+use Rattle.delaunay_location.proofs.mesh_embedding.WorkLists.{contains_last, contains_before}
+use Rattle.delaunay_location.proofs.mesh_embedding.WorkLists.{last_or_before, once_after}
 use Rattle.delaunay_shapes.specs.Flood.{IsAsked, IsFlooding, Spreads, Asks, AsksBeside}
 use Rattle.delaunay_shapes.specs.InShape.{undirected_of}
 

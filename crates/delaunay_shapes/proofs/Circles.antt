@@ -6,14 +6,15 @@ use mathlib.Core.Bool.{Bool}
 use Rattle.std.specs.Prelude.{ℤ, pos, ◌-ℤ◌, ◌*ℤ◌, ◌≤ℤ◌, IsTrue}
 use Rattle.std.proofs.lemmas.Int.{ints}
 use Rattle.std.proofs.lemmas.Bool.Decides.{same_from_decides}
-use Rattle.plane.specs.Fraction.{Point, whole}
-use Rattle.plane.specs.Circle.{gap}
-use Rattle.plane.specs.Shape.{InClosedCircle}
-use Rattle.plane.proofs.Solver.{num, ◌⊕◌, ◌⊖◌, ◌⊗◌, ring_in}
-use Rattle.plane_delaunay.specs.EdgeTests.{distance_2, factor, MeetsCircle, HasPointIn}
-use Rattle.plane_delaunay.proofs.Floods.EdgeInCircle.{edge_meets_circle}
+use Rattle.delaunay_location.specs.plane.Fraction.{Point, whole}
+use Rattle.delaunay_location.specs.plane.Circle.{gap}
+use Rattle.delaunay_location.specs.plane.Shape.{InClosedCircle}
+use Rattle.delaunay_location.proofs.plane.Solver.{num, ◌⊕◌, ◌⊖◌, ◌⊗◌, ring_in}
+use Rattle.delaunay_location.specs.plane_delaunay.EdgeTests.{distance_2, factor, MeetsCircle}
+use Rattle.delaunay_location.specs.plane_delaunay.EdgeTests.{HasPointIn}
+use Rattle.delaunay_location.proofs.plane_delaunay.Floods.EdgeInCircle.{edge_meets_circle}
 use Rattle.delaunay_shapes.specs.Tests.{circle_distance, meets_circle, IsEdgeNear}
-use Rattle.delaunay_core.specs.Projection.{along}
+use Rattle.delaunay_location.specs.delaunay_core.Projection.{along}
 use Rattle.delaunay_shapes.proofs.Decided.{decides_le, decides_lt, decides_or, decides_and_4}
 
 decides_meets : (c : Point) (r : ℤ) (p q : Point) → IsTrue (meets_circle c r p q)

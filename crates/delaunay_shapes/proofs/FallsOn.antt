@@ -4,11 +4,12 @@ use Rattle.std.proofs.Common.{◌≡◌, sym, subst, w64, to_z, of_z}
 use mathlib.Core.Logic.{◌↔◌}
 use mathlib.Core.Bool.{Bool, true}
 use Rattle.std.specs.Prelude.{ℤ, pos, ◌*ℤ◌, ◌≤ℤ◌, IsTrue}
-use Rattle.plane.specs.Fraction.{Point, whole}
-use Rattle.plane.specs.Circle.{gap}
-use Rattle.plane.specs.Tests.{InRange}
-use Rattle.delaunay_core.specs.Projection.{along}
-use Rattle.delaunay_core.proofs.Projections.{stays, along_bound, gap_passes}
+use Rattle.delaunay_location.specs.plane.Fraction.{Point, whole}
+use Rattle.delaunay_location.specs.plane.Circle.{gap}
+use Rattle.delaunay_location.specs.plane.Tests.{InRange}
+use Rattle.delaunay_location.specs.delaunay_core.Projection.{along}
+use Rattle.delaunay_location.proofs.delaunay_core_lemmas.Projections.{stays, along_bound}
+use Rattle.delaunay_location.proofs.delaunay_core_lemmas.Projections.{gap_passes}
 use Rattle.delaunay_shapes.specs.Tests.{circle_distance, FallsOn}
 use Rattle.delaunay_shapes.proofs.Decided.{and_also}
 

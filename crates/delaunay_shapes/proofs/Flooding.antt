@@ -9,28 +9,29 @@ use mathlib.Core.Bool.{Bool}
 use Rattle.std.specs.Prelude.{Contains, ◌==◌}
 use Rattle.std.proofs.lemmas.Bool.{cases_eq, eqb-true}
 use Rattle.std.proofs.lemmas.Grind.{common_steps}
-use Rattle.half_edge_mesh.specs.Mesh.{Mesh, origin, next, prev, face, rev}
-use Rattle.half_edge_mesh.specs.Mesh.{IsValidMesh, IsClosed, IsInnerEdge}
-use Rattle.half_edge_links.proofs.Lists.Rev.{rev-rev, rev_same, rev_within}
-use Rattle.plane.specs.Fraction.{Point, Fraction}
-use Rattle.plane.specs.Pairs.{Joins}
-use Rattle.plane.specs.Shape.{IsEdgeIn}
-use Rattle.plane.specs.Tiling.{Triangulation, IsEdge, IsFace, IsTiling, JoinsLine}
-use Rattle.plane_tiling.specs.Local.{IsMesh, LineMesh}
-use Rattle.plane_delaunay.specs.EdgeTests.{HasPointIn}
-use Rattle.plane_delaunay.specs.Flood.{Region, InRegion, IsFloodedAround}
-use Rattle.plane_delaunay.proofs.Floods.FloodOnLine.{turned_join, turned_edge, flood_finds_on_line}
-use Rattle.plane_delaunay.proofs.Floods.Flooded.{flood_finds_region}
-use Rattle.mesh_embedding.specs.Drawn.{drawn, faces_of, edges_of, outer_of}
-use Rattle.mesh_embedding.specs.Legal.{pair_at, pairs_at}
-use Rattle.mesh_embedding.proofs.OwnEdges.{own_edges}
-use Rattle.plane_tiling.proofs.Meshes.{meshes_tile}
-use Rattle.mesh_embedding.proofs.EdgePairs.{edge_joins, joins_edge}
-use Rattle.mesh_embedding.proofs.MeshStars.{edge_of_face}
-use Rattle.mesh_embedding.proofs.MeshStays.{halved, half_same}
-use Rattle.mesh_embedding.proofs.MeshLegal.{own_indexes}
-use Rattle.mesh_embedding.proofs.LineNeighbours.{two_neighbours}
-use Rattle.mesh_embedding.proofs.WorkLists.{contains_map, contains_map_from}
+use Rattle.delaunay_location.specs.half_edge_mesh.Mesh.{Mesh, origin, next, prev, face, rev}
+use Rattle.delaunay_location.specs.half_edge_mesh.Mesh.{IsValidMesh, IsClosed, IsInnerEdge}
+use Rattle.delaunay_location.proofs.half_edge_links.Lists.Rev.{rev-rev, rev_same, rev_within}
+use Rattle.delaunay_location.specs.plane.Fraction.{Point, Fraction}
+use Rattle.delaunay_location.specs.plane.Pairs.{Joins}
+use Rattle.delaunay_location.specs.plane.Shape.{IsEdgeIn}
+use Rattle.delaunay_location.specs.plane.Tiling.{Triangulation, IsEdge, IsFace, IsTiling, JoinsLine}
+use Rattle.delaunay_location.specs.plane_tiling.Local.{IsMesh, LineMesh}
+use Rattle.delaunay_location.specs.plane_delaunay.EdgeTests.{HasPointIn}
+use Rattle.delaunay_location.specs.plane_delaunay.Flood.{Region, InRegion, IsFloodedAround}
+use Rattle.delaunay_location.proofs.plane_delaunay.Floods.FloodOnLine.{turned_join, turned_edge}
+use Rattle.delaunay_location.proofs.plane_delaunay.Floods.FloodOnLine.{flood_finds_on_line}
+use Rattle.delaunay_location.proofs.plane_delaunay.Floods.Flooded.{flood_finds_region}
+use Rattle.delaunay_location.specs.mesh_embedding.Drawn.{drawn, faces_of, edges_of, outer_of}
+use Rattle.delaunay_location.specs.mesh_embedding.Legal.{pair_at, pairs_at}
+use Rattle.delaunay_location.proofs.mesh_embedding.OwnEdges.{own_edges}
+use Rattle.delaunay_location.proofs.plane_tiling.Meshes.{meshes_tile}
+use Rattle.delaunay_location.proofs.mesh_embedding.EdgePairs.{edge_joins, joins_edge}
+use Rattle.delaunay_location.proofs.mesh_embedding.MeshStars.{edge_of_face}
+use Rattle.delaunay_location.proofs.mesh_embedding.MeshStays.{halved, half_same}
+use Rattle.delaunay_location.proofs.mesh_embedding.MeshLegal.{own_indexes}
+use Rattle.delaunay_location.proofs.mesh_embedding.LineNeighbours.{two_neighbours}
+use Rattle.delaunay_location.proofs.mesh_embedding.WorkLists.{contains_map, contains_map_from}
 use Rattle.delaunay_shapes.specs.Known.{point_at}
 use Rattle.delaunay_shapes.specs.InShape.{IsEdgeInShape, AreEdgesInShape, undirected_of}
 use Rattle.delaunay_shapes.specs.Flood.{IsAsked, IsFlooding, AreAskedBeside, IsSpread, IsRegion}

@@ -15,7 +15,7 @@ use Rattle.std.proofs.lemmas.List.{get_or_append_left, get_or-append_right, leng
 use Rattle.std.proofs.lemmas.List.{length-set, length-replicate, get_or-replicate}
 use Rattle.std.proofs.lemmas.List.FromFn.{length-map-range_with_len, get_or-map-range_with_len}
 use Rattle.std.proofs.lemmas.Nat.Bits.{bit_at-zero, bit_at_set_same, bit_at_set_other}
-use Rattle.plane_tiling.proofs.Totals.{get_or_any}
+use Rattle.delaunay_location.proofs.plane_tiling.Totals.{get_or_any}
 use Rattle.delaunay_shapes.specs.Marks.{tests_below, has_bit, has_mark, count_others, IsDirectory}
 
 -- so many entries

@@ -7,14 +7,15 @@ use mathlib.Core.Bool.{Bool, true, false}
 use Rattle.std.specs.Prelude.{ℤ, pos, ◌*ℤ◌, ◌<ℤ◌, ◌≤ℤ◌, IsTrue}
 use Rattle.std.proofs.lemmas.Int.{ints}
 use Rattle.std.proofs.lemmas.Bool.Decides.{same_from_decides}
-use Rattle.plane.specs.Fraction.{Point, Fraction, whole}
-use Rattle.plane.specs.Side.{Side, left, right, on}
-use Rattle.plane.specs.Shape.{InClosedRectangle}
-use Rattle.plane.proofs.IntegerOrder.{lt_or_ge_ℤ, mul-lt-mul_ℤ}
-use Rattle.plane.proofs.Segments.{start_on_segment, end_on_segment}
-use Rattle.plane.proofs.Solver.{◌⊗◌, ring_in}
-use Rattle.plane_delaunay.specs.EdgeTests.{RangeMeets, AreCornersOn, MeetsRectangle, HasPointIn}
-use Rattle.plane_delaunay.proofs.Floods.EdgeInRectangle.{edge_meets_rectangle}
+use Rattle.delaunay_location.specs.plane.Fraction.{Point, Fraction, whole}
+use Rattle.delaunay_location.specs.plane.Side.{Side, left, right, on}
+use Rattle.delaunay_location.specs.plane.Shape.{InClosedRectangle}
+use Rattle.delaunay_location.proofs.plane.IntegerOrder.{lt_or_ge_ℤ, mul-lt-mul_ℤ}
+use Rattle.delaunay_location.proofs.plane.Segments.{start_on_segment, end_on_segment}
+use Rattle.delaunay_location.proofs.plane.Solver.{◌⊗◌, ring_in}
+use Rattle.delaunay_location.specs.plane_delaunay.EdgeTests.{RangeMeets, AreCornersOn}
+use Rattle.delaunay_location.specs.plane_delaunay.EdgeTests.{MeetsRectangle, HasPointIn}
+use Rattle.delaunay_location.proofs.plane_delaunay.Floods.EdgeInRectangle.{edge_meets_rectangle}
 use Rattle.delaunay_shapes.specs.Tests.{IsReversed, is_reversed, range_meets, is_left, is_right}
 use Rattle.delaunay_shapes.specs.Tests.{are_corners, meets_rectangle}
 use Rattle.delaunay_shapes.proofs.Decided.{decides_le, decides_lt, decides_not, decides_or}

@@ -2,9 +2,9 @@
 -- Lemmas: circle_begins, rectangle_begins, region_of_start, all_are.
 use Rattle.std.proofs.Common.{List, refl, get_or}
 use Rattle.std.specs.Prelude.{All, ℤ}
-use Rattle.plane.specs.Fraction.{Point, Fraction}
-use Rattle.plane.specs.Shape.{InClosedCircle, InClosedRectangle}
-use Rattle.plane_delaunay.specs.Flood.{circle, rectangle}
+use Rattle.delaunay_location.specs.plane.Fraction.{Point, Fraction}
+use Rattle.delaunay_location.specs.plane.Shape.{InClosedCircle, InClosedRectangle}
+use Rattle.delaunay_location.specs.plane_delaunay.Flood.{circle, rectangle}
 use Rattle.delaunay_shapes.specs.Flood.{IsRegion}
 use Rattle.delaunay_shapes.specs.Start.{HasStartAt}
 

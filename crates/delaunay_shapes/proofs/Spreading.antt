@@ -7,10 +7,10 @@ use mathlib.Core.Bool.{Bool}
 use Rattle.std.specs.Prelude.{Contains}
 use Rattle.std.proofs.lemmas.Bool.{cases_eq, cases_lt}
 use Rattle.std.proofs.lemmas.List.{get_or_append_left, get_or-append_right}
-use Rattle.half_edge_links.proofs.Lists.Rev.{rev-rev, rev_within}
-use Rattle.half_edge_mesh.specs.Mesh.{Mesh, next, prev, face, rev, IsValidMesh}
-use Rattle.plane_tiling.proofs.Totals.{get_or_any}
-use Rattle.mesh_embedding.proofs.WorkLists.{contains_map}
+use Rattle.delaunay_location.proofs.half_edge_links.Lists.Rev.{rev-rev, rev_within}
+use Rattle.delaunay_location.specs.half_edge_mesh.Mesh.{Mesh, next, prev, face, rev, IsValidMesh}
+use Rattle.delaunay_location.proofs.plane_tiling.Totals.{get_or_any}
+use Rattle.delaunay_location.proofs.mesh_embedding.WorkLists.{contains_map}
 use Rattle.delaunay_shapes.specs.Flood.{AreAskedBeside, AsksBeside, IsAsked, IsFlooding}
 use Rattle.delaunay_shapes.specs.Flood.{IsSpread, IsSpreadTo, Spreads}
 use Rattle.delaunay_shapes.specs.InShape.{undirected_of}

@@ -8,22 +8,22 @@ use mathlib.Core.Bool.{Bool, true, false}
 use Rattle.std.specs.Prelude.{ℤ, pos, ◌*ℤ◌, Contains, Some, IsSome, IsTrue}
 use Rattle.std.proofs.lemmas.Int.{ints}
 use Rattle.std.proofs.lemmas.Bool.{cases_eq}
-use Rattle.half_edge_mesh.specs.Mesh.{Mesh, origin, out_edge, rev, IsValidMesh}
-use Rattle.half_edge_links.proofs.Lists.Rev.{rev_differs}
-use Rattle.half_edge_links.proofs.Removing.CollapseLemmas.{some_of}
-use Rattle.plane.specs.Fraction.{Point, Fraction, whole, IsSame}
-use Rattle.plane.specs.Pairs.{place}
-use Rattle.plane.proofs.Segments.{start_on_segment}
-use Rattle.plane_tiling.specs.Local.{IsMesh}
-use Rattle.plane_tiling.proofs.Totals.{Contains-none, get_or_any}
-use Rattle.plane_edits.proofs.LocalMesh.Changes.{IsOnce, once_none}
-use Rattle.plane_delaunay.proofs.Floods.FloodRules.{vertices_are_ends}
-use Rattle.mesh_embedding.specs.Drawn.{drawn, faces_of, outer_of}
-use Rattle.mesh_embedding.proofs.EdgePairs.{joins_edge}
-use Rattle.mesh_embedding.proofs.Entries.{one_value}
-use Rattle.mesh_embedding.proofs.MeshStays.{half_same}
-use Rattle.mesh_embedding.proofs.WorkLists.{contains_last, contains_before, last_or_before}
-use Rattle.mesh_embedding.proofs.WorkLists.{once_after}
+use Rattle.delaunay_location.specs.half_edge_mesh.Mesh.{Mesh, origin, out_edge, rev, IsValidMesh}
+use Rattle.delaunay_location.proofs.half_edge_links.Lists.Rev.{rev_differs}
+use Rattle.delaunay_location.proofs.half_edge_links.Removing.CollapseLemmas.{some_of}
+use Rattle.delaunay_location.specs.plane.Fraction.{Point, Fraction, whole, IsSame}
+use Rattle.delaunay_location.specs.plane.Pairs.{place}
+use Rattle.delaunay_location.proofs.plane.Segments.{start_on_segment}
+use Rattle.delaunay_location.specs.plane_tiling.Local.{IsMesh}
+use Rattle.delaunay_location.proofs.plane_tiling.Totals.{Contains-none, get_or_any}
+use Rattle.delaunay_location.proofs.plane_edits.LocalMesh.Changes.{IsOnce, once_none}
+use Rattle.delaunay_location.proofs.plane_delaunay.Floods.FloodRules.{vertices_are_ends}
+use Rattle.delaunay_location.specs.mesh_embedding.Drawn.{drawn, faces_of, outer_of}
+use Rattle.delaunay_location.proofs.mesh_embedding.EdgePairs.{joins_edge}
+use Rattle.delaunay_location.proofs.mesh_embedding.Entries.{one_value}
+use Rattle.delaunay_location.proofs.mesh_embedding.MeshStays.{half_same}
+use Rattle.delaunay_location.proofs.mesh_embedding.WorkLists.{contains_last, contains_before}
+use Rattle.delaunay_location.proofs.mesh_embedding.WorkLists.{last_or_before, once_after}
 use Rattle.delaunay_shapes.specs.Known.{point_at}
 use Rattle.delaunay_shapes.specs.InShape.{AreEdgesInShape, AreVerticesInShape}
 use Rattle.delaunay_shapes.specs.Flood.{AreNamedIn, IsNamedIn, IsStartKept, KeepsStart, IsRegion}

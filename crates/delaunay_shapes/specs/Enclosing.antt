@@ -1,8 +1,8 @@
 -- A search for what has a point in a shape: what a contract sees of it.
 use Rattle.std.specs.Prelude.{List, map, All}
-use Rattle.half_edge_mesh.specs.Contents.{Contents, IsMeshWithData}
-use Rattle.plane.specs.Fraction.{Point}
-use Rattle.plane.specs.Tests.{InRange}
+use Rattle.delaunay_location.specs.half_edge_mesh.Contents.{Contents, IsMeshWithData}
+use Rattle.delaunay_location.specs.plane.Fraction.{Point}
+use Rattle.delaunay_location.specs.plane.Tests.{InRange}
 
 -- the mesh, the shape and the tests
 pub record Enclosing (V D U F M P : Type 0) : Type 0 where

@@ -2,14 +2,15 @@
 use Rattle.std.specs.Prelude.{◌≡◌, ◌≢◌, ◌↔◌, ◌⊎◌, ℕ, ◌/◌, ◌<◌, List, [], ◌∷◌, ◌++◌, length}
 use Rattle.std.specs.Prelude.{map, Some}
 use Rattle.std.specs.Prelude.{Bool, true, false, All, Contains, AllPairs, slice_index_or, ◌≤◌}
-use Rattle.half_edge_mesh.specs.Contents.{Contents}
-use Rattle.half_edge_mesh.specs.Mesh.{Mesh, origin, next, prev, face, rev, out_edge}
-use Rattle.plane.specs.Fraction.{Point, Fraction}
-use Rattle.plane.specs.Shape.{IsEdgeIn}
-use Rattle.plane.specs.Location.{Location}
-use Rattle.plane_delaunay.specs.Flood.{Region, InRegion, IsTried}
-use Rattle.plane_tiling.specs.Local.{IsMesh}
-use Rattle.mesh_embedding.specs.Drawn.{drawn, faces_of, outer_of}
+use Rattle.delaunay_location.specs.half_edge_mesh.Contents.{Contents}
+use Rattle.delaunay_location.specs.half_edge_mesh.Mesh.{Mesh, origin, next, prev, face, rev}
+use Rattle.delaunay_location.specs.half_edge_mesh.Mesh.{out_edge}
+use Rattle.delaunay_location.specs.plane.Fraction.{Point, Fraction}
+use Rattle.delaunay_location.specs.plane.Shape.{IsEdgeIn}
+use Rattle.delaunay_location.specs.plane.Location.{Location}
+use Rattle.delaunay_location.specs.plane_delaunay.Flood.{Region, InRegion, IsTried}
+use Rattle.delaunay_location.specs.plane_tiling.Local.{IsMesh}
+use Rattle.delaunay_location.specs.mesh_embedding.Drawn.{drawn, faces_of, outer_of}
 use Rattle.delaunay_shapes.specs.InShape.{IsEdgeInShape, IsInside, undirected_of}
 
 -- the flood has asked of edge or vertex k

@@ -1,6 +1,6 @@
 -- What a search for edges and vertices in a shape finds, and what a flood of it has asked of.
 use Rattle.std.specs.Prelude.{ℕ, length}
-use Rattle.plane.specs.Fraction.{Point, Fraction}
+use Rattle.delaunay_location.specs.plane.Fraction.{Point, Fraction}
 use Rattle.delaunay_shapes.specs.Enclosing.{Enclosing}
 use Rattle.delaunay_shapes.specs.Flood.{Asks, AsksBeside, IsFlooding}
 use Rattle.delaunay_shapes.specs.InShape.{IsInside, IsVertexInside, undirected_of}

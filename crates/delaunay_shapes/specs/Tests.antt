@@ -1,11 +1,11 @@
 -- What the shapes answer of an edge, as tests on whole numbers.
 use Rattle.std.specs.Prelude.{◌⊎◌, [], ◌∷◌, ◌-ℤ◌, ◌*ℤ◌, ◌<ℤ◌, ◌≤ℤ◌, ◌&&◌, ◌||◌}
 use Rattle.std.specs.Prelude.{List, ℤ, pos, Bool, true, false, not, int_lt, int_le}
-use Rattle.plane.specs.Fraction.{Point, whole}
-use Rattle.plane.specs.Side.{Side, left, right, on, side}
-use Rattle.plane.specs.Circle.{gap}
-use Rattle.delaunay_core.specs.Projection.{along}
-use Rattle.plane_delaunay.specs.EdgeTests.{distance_2, factor}
+use Rattle.delaunay_location.specs.plane.Fraction.{Point, whole}
+use Rattle.delaunay_location.specs.plane.Side.{Side, left, right, on, side}
+use Rattle.delaunay_location.specs.plane.Circle.{gap}
+use Rattle.delaunay_location.specs.delaunay_core.Projection.{along}
+use Rattle.delaunay_location.specs.plane_delaunay.EdgeTests.{distance_2, factor}
 
 -- the squared distance from the centre, less the squared radius
 abbrev pub circle_distance : Point → ℤ → Point → ℤ

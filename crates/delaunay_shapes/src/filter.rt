@@ -7,9 +7,11 @@ use crate::distance_metric::DistanceMetric;
 use crate::in_shape::{EdgesInShapeIterator, VerticesInShapeIterator};
 use crate::positions::spot_of;
 use crate::shape_search::ShapeSearch;
-use delaunay_core::math::PlaneTests;
-use delaunay_core::point::HasPosition;
-use half_edge_mesh::{Dcel, FixedUndirectedEdgeHandle, FixedVertexHandle, MeshViews};
+use delaunay_location::delaunay_core::math::PlaneTests;
+use delaunay_location::delaunay_core::point::HasPosition;
+use delaunay_location::half_edge_mesh::{
+    Dcel, FixedUndirectedEdgeHandle, FixedVertexHandle, MeshViews,
+};
 use std::alloc::{AllocError, Global};
 
 /// The edges with a point in a shape, each once, by a look at all edges. The tests have to cover

@@ -10,9 +10,11 @@ use crate::distance_metric::DistanceMetric;
 use crate::in_shape::EdgesInShapeIterator;
 use crate::marks::Marks;
 use crate::shape_search::ShapeSearch;
-use delaunay_core::math::PlaneTests;
-use delaunay_core::point::HasPosition;
-use half_edge_mesh::{Dcel, FixedDirectedEdgeHandle, FixedUndirectedEdgeHandle, MeshViews};
+use delaunay_location::delaunay_core::math::PlaneTests;
+use delaunay_location::delaunay_core::point::HasPosition;
+use delaunay_location::half_edge_mesh::{
+    Dcel, FixedDirectedEdgeHandle, FixedUndirectedEdgeHandle, MeshViews,
+};
 use std::alloc::{AllocError, Global};
 
 // The edges that a flood has asked of, and those of them that have a point in the shape, each in

@@ -1,10 +1,10 @@
 //! The edges that a flood begins with, by the location of the shape's start.
 ghost use Rattle.std.specs.Prelude.{◌≡◌, ◌↔◌, ℕ, ◌/◌, ◌<◌, ◌≤◌};
 ghost use Rattle.std.specs.Prelude.{length, map, All, IfNone, IfOk, IfSome, IsTrue, Contains, Some};
-ghost use Rattle.half_edge_mesh.specs.Mesh.{face, face_edge, out_edge};
-ghost use Rattle.delaunay_core.specs.Place.{place_of};
-ghost use Rattle.delaunay_legalization.specs.Shape.{IsTriangulated};
-ghost use Rattle.delaunay_legalization.specs.State.{state_of};
+ghost use Rattle.delaunay_location.specs.half_edge_mesh.Mesh.{face, face_edge, out_edge};
+ghost use Rattle.delaunay_location.specs.delaunay_core.Place.{place_of};
+ghost use Rattle.delaunay_location.specs.delaunay_legalization.Shape.{IsTriangulated};
+ghost use Rattle.delaunay_location.specs.delaunay_legalization.State.{state_of};
 ghost use Rattle.delaunay_location.specs.Location.{HasHandle};
 ghost use Rattle.delaunay_shapes.specs.Flood.{CanFlood};
 ghost use Rattle.delaunay_shapes.specs.ShapeSearch.{EnclosesEdge};
@@ -12,13 +12,13 @@ ghost use Rattle.delaunay_shapes.specs.Start.{HasStartAt, HasSides, HasStarts};
 
 use crate::distance_metric::DistanceMetric;
 use crate::shape_search::ShapeSearch;
-use delaunay_core::math::PlaneTests;
-use delaunay_core::point::{HasPosition, Point2};
-use delaunay_location::{PositionInTriangulation, locate_with_hint};
-use half_edge_mesh::{
+use delaunay_location::delaunay_core::math::PlaneTests;
+use delaunay_location::delaunay_core::point::{HasPosition, Point2};
+use delaunay_location::half_edge_mesh::{
     Dcel, FixedDirectedEdgeHandle, FixedFaceHandle, FixedUndirectedEdgeHandle, FixedVertexHandle,
     MeshViews,
 };
+use delaunay_location::{PositionInTriangulation, locate_with_hint};
 use std::alloc::{AllocError, Global};
 
 // An edge at a vertex, if it has one.

@@ -1,7 +1,7 @@
 //! The vertices in a shape, each found with the edge that it names: a flood finds that, too.
 ghost use Rattle.std.specs.Prelude.{◌≡◌, ◌≢◌, ◌↔◌, ◌<◌, length, All, AllPairs, IfOk};
 ghost use Rattle.std.specs.Prelude.{IsTrue, OnOk, Some};
-ghost use Rattle.half_edge_mesh.specs.Mesh.{origin, out_edge};
+ghost use Rattle.delaunay_location.specs.half_edge_mesh.Mesh.{origin, out_edge};
 ghost use Rattle.delaunay_shapes.specs.Flood.{AreNamedIn, CanFlood, KeepsStart};
 ghost use Rattle.delaunay_shapes.specs.InShape.{undirected_of};
 ghost use Rattle.delaunay_shapes.specs.Left.{GivesVerticesIn, vertices_left};
@@ -12,9 +12,9 @@ use crate::filter::vertices_by_filter;
 use crate::in_shape::VerticesInShapeIterator;
 use crate::positions::spot_of;
 use crate::shape_search::ShapeSearch;
-use delaunay_core::math::PlaneTests;
-use delaunay_core::point::HasPosition;
-use half_edge_mesh::{
+use delaunay_location::delaunay_core::math::PlaneTests;
+use delaunay_location::delaunay_core::point::HasPosition;
+use delaunay_location::half_edge_mesh::{
     Dcel, FixedDirectedEdgeHandle, FixedUndirectedEdgeHandle, FixedVertexHandle, MeshViews,
 };
 use std::alloc::{AllocError, Global};

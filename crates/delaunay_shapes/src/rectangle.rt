@@ -1,20 +1,20 @@
 //! Closed rectangles.
 ghost use Rattle.std.specs.Prelude.{◌≡◌, ◌↔◌, ◌⊎◌, ◌∷◌, [], ℤ, pos, ◌<ℤ◌, ◌≤ℤ◌, ⊤, All, IsTrue};
-ghost use Rattle.plane.specs.Fraction.{whole as fraction};
-ghost use Rattle.plane.specs.Shape.{InClosedRectangle};
-ghost use Rattle.plane.specs.Side.{left, right, side};
-ghost use Rattle.plane.specs.Tests.{InRange};
-ghost use Rattle.plane_delaunay.specs.EdgeTests.{AreCornersOn, HasPointIn, MeetsRectangle};
-ghost use Rattle.plane_delaunay.specs.EdgeTests.{RangeMeets};
-ghost use Rattle.delaunay_core.specs.Place.{place_of};
+ghost use Rattle.delaunay_location.specs.plane.Fraction.{whole as fraction};
+ghost use Rattle.delaunay_location.specs.plane.Shape.{InClosedRectangle};
+ghost use Rattle.delaunay_location.specs.plane.Side.{left, right, side};
+ghost use Rattle.delaunay_location.specs.plane.Tests.{InRange};
+ghost use Rattle.delaunay_location.specs.plane_delaunay.EdgeTests.{AreCornersOn, HasPointIn};
+ghost use Rattle.delaunay_location.specs.plane_delaunay.EdgeTests.{MeetsRectangle, RangeMeets};
+ghost use Rattle.delaunay_location.specs.delaunay_core.Place.{place_of};
 ghost use Rattle.delaunay_shapes.specs.Distance.{IsLeastDistance, clamped, farthest};
 ghost use Rattle.delaunay_shapes.specs.Distance.{rectangle_distance};
 ghost use Rattle.delaunay_shapes.specs.Tests.{IsReversed, corners, meets_rectangle};
 
 use crate::distance_metric::DistanceMetric;
-use delaunay_core::line_side_info::LineSideInfo;
-use delaunay_core::math::PlaneTests;
-use delaunay_core::point::{Point2, SpadeNum};
+use delaunay_location::delaunay_core::line_side_info::LineSideInfo;
+use delaunay_location::delaunay_core::math::PlaneTests;
+use delaunay_location::delaunay_core::point::{Point2, SpadeNum};
 use std::alloc::AllocError;
 
 /// A closed rectangle: the points from `lower` to `upper` in both coordinates. One whose corners

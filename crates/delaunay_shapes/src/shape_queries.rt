@@ -1,8 +1,8 @@
 //! The edges and vertices in a shape, by a flood from its start.
 ghost use Rattle.std.specs.Prelude.{map, All, IfOk};
-ghost use Rattle.delaunay_core.specs.Place.{place_of};
-ghost use Rattle.delaunay_legalization.specs.Shape.{IsTriangulated};
-ghost use Rattle.delaunay_legalization.specs.State.{state_of};
+ghost use Rattle.delaunay_location.specs.delaunay_core.Place.{place_of};
+ghost use Rattle.delaunay_location.specs.delaunay_legalization.Shape.{IsTriangulated};
+ghost use Rattle.delaunay_location.specs.delaunay_legalization.State.{state_of};
 ghost use Rattle.delaunay_shapes.specs.Left.{GivesEdgesIn, GivesVerticesIn, edges_left};
 ghost use Rattle.delaunay_shapes.specs.Left.{vertices_left};
 ghost use Rattle.delaunay_shapes.specs.Start.{HasStartAt};
@@ -12,9 +12,9 @@ use crate::flood::edges_by_flood;
 use crate::flood_vertices::vertices_by_flood;
 use crate::in_shape::{EdgesInShapeIterator, VerticesInShapeIterator};
 use crate::shape_search::ShapeSearch;
-use delaunay_core::math::PlaneTests;
-use delaunay_core::point::{HasPosition, Point2};
-use half_edge_mesh::{Dcel, FixedVertexHandle};
+use delaunay_location::delaunay_core::math::PlaneTests;
+use delaunay_location::delaunay_core::point::{HasPosition, Point2};
+use delaunay_location::half_edge_mesh::{Dcel, FixedVertexHandle};
 use std::alloc::{AllocError, Global};
 
 /// The edges with a point in a shape, each once. The shape is a closed circle, and `start` its

@@ -3,9 +3,9 @@ ghost use Rattle.std.specs.Prelude.{◌↔◌, ◌≡◌, ◌<◌, length, map, 
 ghost use Rattle.delaunay_shapes.specs.ShapeSearch.{EnclosesEdge};
 
 use crate::distance_metric::DistanceMetric;
-use delaunay_core::math::PlaneTests;
-use delaunay_core::point::HasPosition;
-use half_edge_mesh::{Dcel, FixedUndirectedEdgeHandle, MeshViews};
+use delaunay_location::delaunay_core::math::PlaneTests;
+use delaunay_location::delaunay_core::point::HasPosition;
+use delaunay_location::half_edge_mesh::{Dcel, FixedUndirectedEdgeHandle, MeshViews};
 use std::marker::Model;
 
 /// A search for the edges and vertices of a mesh that have a point in a closed shape, with tests

@@ -3,17 +3,17 @@
 -- crossed_within, crossing_item, overlap_item.
 use Rattle.std.proofs.Common.{◌≡◌, ◌⊎◌, ◌<◌, ◌↔◌, ◌∙◌, ℕ, Bool, IsTrue, List, length, map}
 use Rattle.std.proofs.Common.{sym, ap, subst, inl, inr}
-use Rattle.half_edge_mesh.specs.Mesh.{Mesh, origin, rev}
-use Rattle.half_edge_mesh.specs.Contents.{Contents}
-use Rattle.half_edge_links.proofs.Lists.Rev.{rev-rev}
-use Rattle.half_edge_views.specs.declared.edge.DirectedEdgeHandle.{DirectedEdgeHandle}
-use Rattle.plane.specs.Fraction.{Point, Fraction, whole}
-use Rattle.plane.specs.Side.{side, on, opposite}
-use Rattle.plane.specs.Pairs.{place}
-use Rattle.plane.specs.Line.{Item, across, along}
-use Rattle.plane.proofs.Sides.{side_swapped}
+use Rattle.delaunay_lines.specs.half_edge_mesh.Mesh.{Mesh, origin, rev}
+use Rattle.delaunay_lines.specs.half_edge_mesh.Contents.{Contents}
+use Rattle.delaunay_lines.proofs.half_edge_links.Lists.Rev.{rev-rev}
+use Rattle.delaunay_lines.specs.half_edge_views.declared.edge.DirectedEdgeHandle.{DirectedEdgeHandle}
+use Rattle.delaunay_lines.specs.plane.Fraction.{Point, Fraction, whole}
+use Rattle.delaunay_lines.specs.plane.Side.{side, on, opposite}
+use Rattle.delaunay_lines.specs.plane.Pairs.{place}
+use Rattle.delaunay_lines.specs.plane.Line.{Item, across, along}
+use Rattle.delaunay_lines.proofs.plane.Sides.{side_swapped}
 use Rattle.plane_sight.specs.Sight.{PassesFree}
-use Rattle.mesh_embedding.specs.Drawn.{drawn}
+use Rattle.delaunay_lines.specs.mesh_embedding.Drawn.{drawn}
 use Rattle.delaunay_lines.specs.declared.intersection.Intersection.{Intersection}
 use Rattle.delaunay_lines.specs.declared.intersection.Intersection.TheVariants.{EdgeIntersection}
 use Rattle.delaunay_lines.specs.declared.intersection.Intersection.TheVariants.{EdgeOverlap}

@@ -5,23 +5,23 @@
 use Rattle.std.proofs.Common.{◌≡◌, ◌⊎◌, ◌<◌, ◌↔◌, ℕ, Bool, IsTrue, List, length, map}
 use Rattle.std.proofs.Common.{sym, subst, inl, inr}
 use Rattle.std.specs.Prelude.{Contains, All}
-use Rattle.half_edge_mesh.specs.Mesh.{Mesh, origin, next, prev, face, face_edge, rev}
-use Rattle.half_edge_mesh.specs.Contents.{Contents, IsMeshWithData}
-use Rattle.plane.specs.Fraction.{Point, Fraction, whole}
-use Rattle.plane.specs.Tiling.{Triangulation, TilesHull}
-use Rattle.plane.specs.Line.{Item, IsLineList}
+use Rattle.delaunay_lines.specs.half_edge_mesh.Mesh.{Mesh, origin, next, prev, face, face_edge, rev}
+use Rattle.delaunay_lines.specs.half_edge_mesh.Contents.{Contents, IsMeshWithData}
+use Rattle.delaunay_lines.specs.plane.Fraction.{Point, Fraction, whole}
+use Rattle.delaunay_lines.specs.plane.Tiling.{Triangulation, TilesHull}
+use Rattle.delaunay_lines.specs.plane.Line.{Item, IsLineList}
 use Rattle.plane_sight.specs.Sight.{IsInFree, IsInSight, HasFreeFace, PassesFree}
 use Rattle.plane_sight.proofs.Sights.{in_free_by_place, sight_by_line}
-use Rattle.plane.proofs.Segments.{start_on_segment, end_on_segment}
-use Rattle.mesh_embedding.specs.Drawn.{drawn, faces_of, outer_of}
-use Rattle.plane_tiling.specs.Local.{IsMesh}
-use Rattle.delaunay_legalization.specs.State.{State, state_of, triangulation_of}
-use Rattle.delaunay_location.specs.declared.position_in_triangulation.PositionInTriangulation.TheVariants.{OnVertex}
-use Rattle.delaunay_location.specs.declared.position_in_triangulation.PositionInTriangulation.TheVariants.{OnEdge}
-use Rattle.delaunay_location.specs.declared.position_in_triangulation.PositionInTriangulation.TheVariants.{OnFace}
-use Rattle.delaunay_location.specs.declared.position_in_triangulation.PositionInTriangulation.TheVariants.{OutsideOfConvexHull}
-use Rattle.delaunay_location.specs.declared.position_in_triangulation.PositionInTriangulation.TheVariants.{NoTriangulation}
-use Rattle.delaunay_location.specs.Location.{Locates}
+use Rattle.delaunay_lines.proofs.plane.Segments.{start_on_segment, end_on_segment}
+use Rattle.delaunay_lines.specs.mesh_embedding.Drawn.{drawn, faces_of, outer_of}
+use Rattle.delaunay_lines.specs.plane_tiling.Local.{IsMesh}
+use Rattle.delaunay_lines.specs.delaunay_legalization.State.{State, state_of, triangulation_of}
+use Rattle.delaunay_lines.specs.delaunay_location.declared.position_in_triangulation.PositionInTriangulation.TheVariants.{OnVertex}
+use Rattle.delaunay_lines.specs.delaunay_location.declared.position_in_triangulation.PositionInTriangulation.TheVariants.{OnEdge}
+use Rattle.delaunay_lines.specs.delaunay_location.declared.position_in_triangulation.PositionInTriangulation.TheVariants.{OnFace}
+use Rattle.delaunay_lines.specs.delaunay_location.declared.position_in_triangulation.PositionInTriangulation.TheVariants.{OutsideOfConvexHull}
+use Rattle.delaunay_lines.specs.delaunay_location.declared.position_in_triangulation.PositionInTriangulation.TheVariants.{NoTriangulation}
+use Rattle.delaunay_lines.specs.delaunay_location.Location.{Locates}
 use Rattle.delaunay_lines.specs.Starts.{StartsOutside}
 use Rattle.delaunay_lines.specs.Steps.{IsOverMesh}
 use Rattle.delaunay_lines.proofs.Located.{outside_that_edge, without_triangulation}

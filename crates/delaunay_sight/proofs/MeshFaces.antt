@@ -4,22 +4,24 @@ use Rattle.std.proofs.Common.{◌≡◌, ◌⊎◌, ◌+◌, ◌-◌, ◌<◌, �
 use Rattle.std.proofs.Common.{sym, ap, subst, inl, inr, arith}
 use Rattle.std.specs.Prelude.{slice_index_or}
 use Rattle.std.proofs.lemmas.List.{get_or-map, length-map}
-use Rattle.half_edge_mesh.specs.Mesh.{Mesh, IsValidMesh, origin, next, prev, face, face_edge, rev}
-use Rattle.half_edge_mesh.specs.Triangles.{Triangle, triangles, triangle_at}
-use Rattle.half_edge_links.proofs.Lists.Rev.{rev-rev, rev_within}
-use Rattle.half_edge_links.proofs.Sound.Triangles as T
-use Rattle.plane.specs.Fraction.{Point}
-use Rattle.plane.specs.Pairs.{EachPairOnce}
-use Rattle.plane.specs.Tiling.{Triangulation, Face, TilesHull}
-use Rattle.plane.specs.Tiling as D
-use Rattle.plane_tiling.specs.Laws.{IsTurned}
-use Rattle.plane_tiling.specs.Local.{IsMesh}
-use Rattle.plane_segments.specs.WalkLaws.{IsLaid}
-use Rattle.plane_segments.proofs.Walking.LaidMeshes.{meshes_are_laid}
+use Rattle.delaunay_lines.specs.half_edge_mesh.Mesh.{Mesh, IsValidMesh, origin, next, prev, face}
+use Rattle.delaunay_lines.specs.half_edge_mesh.Mesh.{face_edge, rev}
+use Rattle.delaunay_lines.specs.half_edge_mesh.Triangles.{Triangle, triangles, triangle_at}
+use Rattle.delaunay_lines.proofs.half_edge_links.Lists.Rev.{rev-rev, rev_within}
+use Rattle.delaunay_lines.proofs.half_edge_links.Sound.Triangles as T
+use Rattle.delaunay_lines.specs.plane.Fraction.{Point}
+use Rattle.delaunay_lines.specs.plane.Pairs.{EachPairOnce}
+use Rattle.delaunay_lines.specs.plane.Tiling.{Triangulation, Face, TilesHull}
+use Rattle.delaunay_lines.specs.plane.Tiling as D
+use Rattle.delaunay_lines.specs.plane_tiling.Laws.{IsTurned}
+use Rattle.delaunay_lines.specs.plane_tiling.Local.{IsMesh}
+use Rattle.delaunay_lines.specs.plane_segments.WalkLaws.{IsLaid}
+use Rattle.delaunay_lines.proofs.plane_segments.Walking.LaidMeshes.{meshes_are_laid}
 use Rattle.plane_sight.specs.Sight.{face_at, HasFreeFace}
-use Rattle.mesh_embedding.specs.Drawn.{drawn, faces_of, edges_of, outer_of, corners_of}
-use Rattle.mesh_embedding.proofs.MeshStays.{one_way}
-use Rattle.mesh_embedding.proofs.OwnEdges.{own_edges}
+use Rattle.delaunay_lines.specs.mesh_embedding.Drawn.{drawn, faces_of, edges_of, outer_of}
+use Rattle.delaunay_lines.specs.mesh_embedding.Drawn.{corners_of}
+use Rattle.delaunay_lines.proofs.mesh_embedding.MeshStays.{one_way}
+use Rattle.delaunay_lines.proofs.mesh_embedding.OwnEdges.{own_edges}
 use Rattle.delaunay_sight.specs.Beside.{by_place, IsFreeBeside}
 
 module _ (points : List Point) (m : Mesh) (s : IsValidMesh m)

@@ -4,9 +4,9 @@ use Rattle.std.proofs.Common.{◌≡◌, ◌++◌, [], ◌∷◌, ◌∙◌, Lis
 use Rattle.std.proofs.Common.{refl, sym, ap, subst, append-nil, append_assoc, inl, inr}
 use Rattle.std.specs.Prelude.{ℤ, Contains}
 use Rattle.std.proofs.lemmas.List.Elements.{Contains-push_cases, Contains-append_right}
-use Rattle.plane.specs.Fraction.{Point}
-use Rattle.plane.specs.Line.{Item}
-use Rattle.plane_tiling.proofs.Totals.{Contains-none, Contains-head}
+use Rattle.delaunay_lines.specs.plane.Fraction.{Point}
+use Rattle.delaunay_lines.specs.plane.Line.{Item}
+use Rattle.delaunay_lines.proofs.plane_tiling.Totals.{Contains-none, Contains-head}
 use Rattle.delaunay_lines.specs.declared.intersection.Intersection.{Intersection}
 use Rattle.delaunay_lines.specs.declared.iterator.LineIntersectionIterator.{LineIntersectionIterator}
 use Rattle.delaunay_lines.specs.Items.{item_in, mesh_of}

@@ -1,9 +1,9 @@
 -- Free faces of a mesh, beside directed edges and round vertices.
 use Rattle.std.specs.Prelude.{◌≡◌, ◌≢◌, ◌+◌, ◌<◌, ℕ, Bool, List, length, IsTrue}
-use Rattle.half_edge_mesh.specs.Mesh.{Mesh, origin, face, rev}
-use Rattle.plane.specs.Fraction.{Point, whole}
-use Rattle.plane.specs.Side.{side, on}
-use Rattle.plane.specs.Pairs.{place}
+use Rattle.delaunay_lines.specs.half_edge_mesh.Mesh.{Mesh, origin, face, rev}
+use Rattle.delaunay_lines.specs.plane.Fraction.{Point, whole}
+use Rattle.delaunay_lines.specs.plane.Side.{side, on}
+use Rattle.delaunay_lines.specs.plane.Pairs.{place}
 
 -- which faces are free, by their places in the list of inner faces: face 1 comes first
 abbrev pub by_place : (ℕ → Bool) → ℕ → Bool

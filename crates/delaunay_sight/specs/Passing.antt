@@ -1,11 +1,11 @@
 -- A segment over a mesh with free faces.
 use Rattle.std.specs.Prelude.{◌↔◌, ℕ, Bool, List, map, Contains, IsTrue}
-use Rattle.half_edge_mesh.specs.Contents.{Contents}
-use Rattle.plane.specs.Fraction.{Point, Fraction, whole}
-use Rattle.plane.specs.Line.{Item, IsLineList}
-use Rattle.plane.specs.Tiling.{Triangulation}
+use Rattle.delaunay_lines.specs.half_edge_mesh.Contents.{Contents}
+use Rattle.delaunay_lines.specs.plane.Fraction.{Point, Fraction, whole}
+use Rattle.delaunay_lines.specs.plane.Line.{Item, IsLineList}
+use Rattle.delaunay_lines.specs.plane.Tiling.{Triangulation}
 use Rattle.plane_sight.specs.Sight.{PassesFree}
-use Rattle.mesh_embedding.specs.Drawn.{drawn}
+use Rattle.delaunay_lines.specs.mesh_embedding.Drawn.{drawn}
 use Rattle.delaunay_sight.specs.Beside.{by_place}
 
 -- what a contract sees of it: the mesh, the free faces, its ends and the tests

@@ -1,11 +1,11 @@
 //! Free faces beside edges and round vertices.
 ghost use Rattle.std.specs.Prelude.{◌⊎◌, ◌↔◌, ◌<◌, length, IsTrue};
-ghost use Rattle.half_edge_mesh.specs.Mesh.{rev};
+ghost use Rattle.delaunay_lines.specs.half_edge_mesh.Mesh.{rev};
 ghost use Rattle.delaunay_sight.specs.Beside.{HasFreeRound, IsFreeBeside};
 
 use crate::free_faces::FreeFaces;
+use delaunay_lines::half_edge_mesh::{Dcel, FixedDirectedEdgeHandle, FixedVertexHandle, MeshViews};
 use delaunay_lines::twin_of;
-use half_edge_mesh::{Dcel, FixedDirectedEdgeHandle, FixedVertexHandle, MeshViews};
 
 // Whether the face on the left of an edge is an inner one, and free.
 pub(crate) fn is_free_beside<V, DE, UE, F, G: FreeFaces>(

@@ -1,7 +1,7 @@
 //! The faces that a caller holds to be free.
 ghost use Rattle.std.specs.Prelude.{◌≡◌, ℕ, Bool};
 
-use half_edge_mesh::FixedFaceHandle;
+use delaunay_lines::half_edge_mesh::FixedFaceHandle;
 
 /// Which inner faces are free.
 ///

@@ -1,11 +1,11 @@
 //! Whether a segment passes free faces at what it meets.
 ghost use Rattle.std.specs.Prelude.{◌≡◌, ◌↔◌, ◌<◌, List, length, map, IsTrue};
-ghost use Rattle.half_edge_mesh.specs.Mesh.{origin, rev};
-ghost use Rattle.plane.specs.Fraction.{whole as fraction};
-ghost use Rattle.plane.specs.Line.{Item, across, along};
-ghost use Rattle.plane.specs.Pairs.{place};
-ghost use Rattle.plane.specs.Side.{side, on};
-ghost use Rattle.delaunay_core.specs.Place.{place_of};
+ghost use Rattle.delaunay_lines.specs.half_edge_mesh.Mesh.{origin, rev};
+ghost use Rattle.delaunay_lines.specs.plane.Fraction.{whole as fraction};
+ghost use Rattle.delaunay_lines.specs.plane.Line.{Item, across, along};
+ghost use Rattle.delaunay_lines.specs.plane.Pairs.{place};
+ghost use Rattle.delaunay_lines.specs.plane.Side.{side, on};
+ghost use Rattle.delaunay_lines.specs.delaunay_core.Place.{place_of};
 ghost use Rattle.delaunay_lines.specs.Items.{item_in, mesh_of};
 ghost use Rattle.delaunay_lines.specs.Walk.{AreLeft, IsReady};
 ghost use Rattle.delaunay_sight.specs.Beside.{IsFreeUnlessOn};
@@ -13,10 +13,10 @@ ghost use Rattle.delaunay_sight.specs.Passing.{Passes, PassesEach};
 
 use crate::edges::{is_free_along, is_free_beside};
 use crate::free_faces::FreeFaces;
-use delaunay_core::math::PlaneTests;
-use delaunay_core::point::{HasPosition, Point2};
+use delaunay_lines::delaunay_core::math::PlaneTests;
+use delaunay_lines::delaunay_core::point::{HasPosition, Point2};
+use delaunay_lines::half_edge_mesh::{Dcel, DirectedEdgeHandle, FixedDirectedEdgeHandle};
 use delaunay_lines::{Intersection, LineIntersectionIterator, side_of_edge, twin_of};
-use half_edge_mesh::{Dcel, DirectedEdgeHandle, FixedDirectedEdgeHandle};
 use std::marker::Model;
 
 /// A segment over the mesh of a triangulation with free faces, and tests that cover its ends and
@@ -32,7 +32,7 @@ pub(crate) struct Sight<'a, V: HasPosition, DE, UE, F, G: FreeFaces, P: PlaneTes
 
 impl<'a, V: HasPosition, DE, UE, F, G: FreeFaces, P: PlaneTests<V::Scalar>> Model
     for Sight<'a, V, DE, UE, F, G, P> {
-    ghost use Rattle.delaunay_core.specs.Place.{place_of};
+    ghost use Rattle.delaunay_lines.specs.delaunay_core.Place.{place_of};
     ghost use Rattle.delaunay_lines.specs.Steps.{IsOverMesh};
     ghost use Rattle.delaunay_sight.specs.Passing.{Looking};
 

@@ -1,18 +1,18 @@
 //! Whether a position is in a closed free face.
 ghost use Rattle.std.specs.Prelude.{◌↔◌, map, All, IsTrue};
-ghost use Rattle.plane.specs.Fraction.{whole as fraction};
+ghost use Rattle.delaunay_lines.specs.plane.Fraction.{whole as fraction};
 ghost use Rattle.plane_sight.specs.Sight.{IsInFree};
-ghost use Rattle.delaunay_core.specs.Place.{place_of};
-ghost use Rattle.delaunay_legalization.specs.Shape.{IsTriangulated};
-ghost use Rattle.delaunay_legalization.specs.State.{state_of, triangulation_of};
+ghost use Rattle.delaunay_lines.specs.delaunay_core.Place.{place_of};
+ghost use Rattle.delaunay_lines.specs.delaunay_legalization.Shape.{IsTriangulated};
+ghost use Rattle.delaunay_lines.specs.delaunay_legalization.State.{state_of, triangulation_of};
 ghost use Rattle.delaunay_sight.specs.Beside.{by_place};
 
 use crate::edges::{is_free_along, is_free_round};
 use crate::free_faces::FreeFaces;
-use delaunay_core::math::PlaneTests;
-use delaunay_core::point::{HasPosition, Point2};
-use delaunay_location::{PositionInTriangulation, locate_with_hint};
-use half_edge_mesh::{Dcel, FixedVertexHandle};
+use delaunay_lines::delaunay_core::math::PlaneTests;
+use delaunay_lines::delaunay_core::point::{HasPosition, Point2};
+use delaunay_lines::delaunay_location::{PositionInTriangulation, locate_with_hint};
+use delaunay_lines::half_edge_mesh::{Dcel, FixedVertexHandle};
 
 // Whether a position is in a closed free face. The search for it begins at the vertex `hint`, or at
 // vertex 0 where there is no such vertex.

@@ -1,21 +1,21 @@
 //! Whether a segment is a line of sight.
 ghost use Rattle.std.specs.Prelude.{◌↔◌, map, All, IsTrue};
-ghost use Rattle.plane.specs.Fraction.{whole as fraction};
-ghost use Rattle.plane.specs.Tests.{InRange};
+ghost use Rattle.delaunay_lines.specs.plane.Fraction.{whole as fraction};
+ghost use Rattle.delaunay_lines.specs.plane.Tests.{InRange};
 ghost use Rattle.plane_sight.specs.Sight.{IsInFree, IsInSight};
-ghost use Rattle.delaunay_core.specs.Place.{place_of};
-ghost use Rattle.delaunay_legalization.specs.Shape.{IsTriangulated};
-ghost use Rattle.delaunay_legalization.specs.State.{state_of, triangulation_of};
+ghost use Rattle.delaunay_lines.specs.delaunay_core.Place.{place_of};
+ghost use Rattle.delaunay_lines.specs.delaunay_legalization.Shape.{IsTriangulated};
+ghost use Rattle.delaunay_lines.specs.delaunay_legalization.State.{state_of, triangulation_of};
 ghost use Rattle.delaunay_sight.specs.Beside.{by_place};
 ghost use Rattle.delaunay_sight.specs.Passing.{GoesFree};
 
 use crate::free_faces::FreeFaces;
 use crate::items::Sight;
 use crate::places::is_in_free;
-use delaunay_core::math::PlaneTests;
-use delaunay_core::point::{HasPosition, Point2};
+use delaunay_lines::delaunay_core::math::PlaneTests;
+use delaunay_lines::delaunay_core::point::{HasPosition, Point2};
+use delaunay_lines::half_edge_mesh::{Dcel, FixedVertexHandle};
 use delaunay_lines::{HasMesh, line_between};
-use half_edge_mesh::{Dcel, FixedVertexHandle};
 
 // Whether a segment passes free faces at each item that it meets. The search for its start begins
 // at the vertex `hint`.

@@ -11,10 +11,10 @@ use Rattle.std.proofs.lemmas.List.{get_or-set_same, get_or-set_other, length-set
 use Rattle.std.proofs.lemmas.List.Elements.{Contains-push, Contains-push_cases}
 use Rattle.std.proofs.lemmas.List.Elements.{Contains-append_left}
 use Rattle.std.proofs.lemmas.List.Sums.{sum_by-append}
-use Rattle.half_edge_mesh.specs.Mesh.{Mesh, face, rev, AreSoundLinks}
-use Rattle.half_edge_links.proofs.Lists.Rev.{rev_within}
-use Rattle.plane.proofs.Indexes.{below_or_last}
-use Rattle.plane_tiling.proofs.Totals.{get_or_any}
+use Rattle.delaunay_interface.specs.half_edge_mesh.Mesh.{Mesh, face, rev, AreSoundLinks}
+use Rattle.delaunay_interface.proofs.half_edge_links.Lists.Rev.{rev_within}
+use Rattle.delaunay_interface.proofs.plane.Indexes.{below_or_last}
+use Rattle.delaunay_interface.proofs.plane_tiling.Totals.{get_or_any}
 use Rattle.delaunay_layers.specs.Layers.{AreLayers, Leads, crossed, is_constrained}
 use Rattle.delaunay_layers.specs.Search.{weight}
 use Rattle.drawing_faces.specs.Flood.{Enters, IsFlood, IsReached, MarkOpenFaces}

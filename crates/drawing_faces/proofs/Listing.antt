@@ -12,8 +12,8 @@ use Rattle.std.proofs.lemmas.List.{set-get_or}
 use Rattle.std.proofs.lemmas.List.Elements.{Contains-push, Contains-push_cases}
 use Rattle.std.proofs.lemmas.List.Elements.{Contains-append_left}
 use Rattle.std.proofs.lemmas.List.Sums.{sum_by-set}
-use Rattle.half_edge_mesh.specs.Mesh.{Mesh, next, prev, face_edge, AreSoundLinks}
-use Rattle.plane_tiling.proofs.Totals.{get_or_any}
+use Rattle.delaunay_interface.specs.half_edge_mesh.Mesh.{Mesh, next, prev, face_edge, AreSoundLinks}
+use Rattle.delaunay_interface.proofs.plane_tiling.Totals.{get_or_any}
 use Rattle.delaunay_layers.specs.Search.{IsSideOf, weight}
 use Rattle.delaunay_layers.proofs.Searching.{three_sides}
 use Rattle.drawing_faces.specs.Flood.{Enters, IsReached, ListsFree, flood_left}

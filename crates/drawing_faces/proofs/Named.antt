@@ -10,13 +10,14 @@ use Rattle.std.proofs.lemmas.List.{length-map, length-set, length_push, map-set}
 use Rattle.std.proofs.lemmas.List.{get_or-map, get_or_append_left, get_or_push, set-get_or}
 use Rattle.std.proofs.lemmas.Option.{slice_get-get_or, slice_get_within, get_or_from_slice_get}
 use Rattle.std.proofs.Math.ListN.{set}
-use Rattle.plane.specs.Fraction.{Point}
-use Rattle.plane.specs.Plain.{Plain, DifferInPosition, Inserts, Replaces, Run, insert, points_of}
-use Rattle.plane.proofs.Indexes.{below_or_last, less_or_more}
-use Rattle.delaunay_core.specs.declared.point.Point2.{Point2}
-use Rattle.delaunay_legalization.specs.Constraints.{points_and_constraints_by}
-use Rattle.delaunay_legalization.specs.Known.{IsKnown, point_at}
-use Rattle.delaunay_legalization.specs.State.{State}
+use Rattle.delaunay_interface.specs.plane.Fraction.{Point}
+use Rattle.delaunay_interface.specs.plane.Plain.{Plain, DifferInPosition, Inserts, Replaces, Run}
+use Rattle.delaunay_interface.specs.plane.Plain.{insert, points_of}
+use Rattle.delaunay_interface.proofs.plane.Indexes.{below_or_last, less_or_more}
+use Rattle.delaunay_interface.specs.delaunay_core.declared.point.Point2.{Point2}
+use Rattle.delaunay_interface.specs.delaunay_legalization.Constraints.{points_and_constraints_by}
+use Rattle.delaunay_interface.specs.delaunay_legalization.Known.{IsKnown, point_at}
+use Rattle.delaunay_interface.specs.delaunay_legalization.State.{State}
 use Rattle.delaunay_interface.specs.Headline.{IsWellFormed}
 use Rattle.delaunay_bulk.specs.Bulk.{HaveHandles, InsertsAll, IsAt}
 use Rattle.delaunay_journal.proofs.Inserted.{appended_points}

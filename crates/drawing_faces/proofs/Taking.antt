@@ -3,12 +3,13 @@
 use Rattle.std.proofs.Common.{◌≡◌, ◌⊎◌, ◌↔◌, [], ◌∷◌, ◌∙◌}
 use Rattle.std.proofs.Common.{ℕ, suc, List, map, refl, sym, ap, subst, inl, inr, arith}
 use Rattle.std.specs.Prelude.{Bool, Result, Ok, Err, IfOk, OnOk, All}
-use Rattle.plane.specs.Fraction.{Point}
-use Rattle.plane.specs.Crossing.{Cross}
-use Rattle.plane.specs.Pairs.{Joins, place}
-use Rattle.plane.specs.Plain.{Adds, AreNeighboursOn, CanAdd}
-use Rattle.delaunay_legalization.specs.Constraints.{constraints_by, points_and_constraints_by}
-use Rattle.delaunay_legalization.specs.State.{State}
+use Rattle.delaunay_interface.specs.plane.Fraction.{Point}
+use Rattle.delaunay_interface.specs.plane.Crossing.{Cross}
+use Rattle.delaunay_interface.specs.plane.Pairs.{Joins, place}
+use Rattle.delaunay_interface.specs.plane.Plain.{Adds, AreNeighboursOn, CanAdd}
+use Rattle.delaunay_interface.specs.delaunay_legalization.Constraints.{constraints_by}
+use Rattle.delaunay_interface.specs.delaunay_legalization.Constraints.{points_and_constraints_by}
+use Rattle.delaunay_interface.specs.delaunay_legalization.State.{State}
 use Rattle.delaunay_journal.specs.declared.edit.Edit.{Edit}
 use Rattle.delaunay_journal.specs.declared.edit.Outcome.{Outcome}
 use Rattle.delaunay_journal.specs.declared.edit.Outcome.TheVariants.{Added, Refused}

@@ -3,11 +3,11 @@
 use Rattle.std.proofs.Common.{◌≡◌, ◌⊎◌, ◌↔◌, [], ◌∙◌}
 use Rattle.std.proofs.Common.{ℕ, List, map, sym, subst, inl, inr, arith}
 use Rattle.std.specs.Prelude.{ℤ, Bool}
-use Rattle.plane.specs.Pairs.{Joins}
+use Rattle.delaunay_interface.specs.plane.Pairs.{Joins}
 use Rattle.delaunay_bulk.specs.Bulk.{HaveHandles}
-use Rattle.delaunay_core.specs.declared.point.Point2.{Point2}
-use Rattle.delaunay_legalization.specs.Constraints.{constraints_by}
-use Rattle.delaunay_legalization.specs.State.{State}
+use Rattle.delaunay_interface.specs.delaunay_core.declared.point.Point2.{Point2}
+use Rattle.delaunay_interface.specs.delaunay_legalization.Constraints.{constraints_by}
+use Rattle.delaunay_interface.specs.delaunay_legalization.State.{State}
 use Rattle.drawing_faces.specs.Names.{NamesVertices, position}
 use Rattle.drawing_faces.specs.Segments.{AddsSegments, AreOnTaken, AreTaken}
 

@@ -1,12 +1,12 @@
 -- The triangulation of a drawing.
 use Rattle.std.specs.Prelude.{◌≡◌, ◌↔◌, [], ◌∷◌, ◌++◌, ℕ, ℤ, Bool, true, false, List, map}
 use Rattle.std.specs.Prelude.{slice_index, if◌then◌else◌, nat_eq}
-use Rattle.half_edge_mesh.specs.Mesh.{Mesh, face_edge}
-use Rattle.half_edge_mesh.specs.Triangles.{Triangle, triangle_at}
-use Rattle.plane.specs.Pairs.{Joins}
-use Rattle.plane.specs.Tiling.{Face, face}
-use Rattle.delaunay_core.specs.declared.point.Point2.{Point2}
-use Rattle.delaunay_legalization.specs.State.{triangulation_of}
+use Rattle.delaunay_interface.specs.half_edge_mesh.Mesh.{Mesh, face_edge}
+use Rattle.delaunay_interface.specs.half_edge_mesh.Triangles.{Triangle, triangle_at}
+use Rattle.delaunay_interface.specs.plane.Pairs.{Joins}
+use Rattle.delaunay_interface.specs.plane.Tiling.{Face, face}
+use Rattle.delaunay_interface.specs.delaunay_core.declared.point.Point2.{Point2}
+use Rattle.delaunay_interface.specs.delaunay_legalization.State.{triangulation_of}
 use Rattle.delaunay_interface.specs.Constrained.{constraint_edges, constraints_of}
 use Rattle.delaunay_interface.specs.Headline.{IsDelaunay}
 use Rattle.delaunay_bulk.specs.Bulk.{HaveHandles}

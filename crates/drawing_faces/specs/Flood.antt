@@ -2,7 +2,7 @@
 use Rattle.std.specs.Prelude.{◌≡◌, ◌⊎◌, ◌+◌, ◌*◌, ◌<◌, ℕ, not, nat_eq, List, length}
 use Rattle.std.specs.Prelude.{Contains, slice_index_or, slice_set}
 use Rattle.std.specs.List.{count_by}
-use Rattle.half_edge_mesh.specs.Mesh.{Mesh, face, rev}
+use Rattle.delaunay_interface.specs.half_edge_mesh.Mesh.{Mesh, face, rev}
 use Rattle.delaunay_layers.specs.Search.{IsSideOf, weight}
 use Rattle.drawing_faces.specs.Kept.{IsOpenFace}
 

@@ -1,10 +1,10 @@
 -- The faces that points in holes are in.
 use Rattle.std.specs.Prelude.{◌≡◌, ◌≤◌, [], ◌∷◌, ◌++◌, ℕ, ℤ, List, length, All}
-use Rattle.half_edge_mesh.specs.Mesh.{Mesh, face, rev}
-use Rattle.delaunay_core.specs.declared.point.Point2.{Point2}
-use Rattle.delaunay_legalization.specs.State.{State}
-use Rattle.delaunay_location.specs.declared.position_in_triangulation.PositionInTriangulation.{PositionInTriangulation}
-use Rattle.delaunay_location.specs.declared.position_in_triangulation.PositionInTriangulation.TheVariants.{
+use Rattle.delaunay_interface.specs.half_edge_mesh.Mesh.{Mesh, face, rev}
+use Rattle.delaunay_interface.specs.delaunay_core.declared.point.Point2.{Point2}
+use Rattle.delaunay_interface.specs.delaunay_legalization.State.{State}
+use Rattle.delaunay_interface.specs.delaunay_location.declared.position_in_triangulation.PositionInTriangulation.{PositionInTriangulation}
+use Rattle.delaunay_interface.specs.delaunay_location.declared.position_in_triangulation.PositionInTriangulation.TheVariants.{
   OnVertex,
   OnEdge,
   OnFace,

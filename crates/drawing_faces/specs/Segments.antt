@@ -1,11 +1,11 @@
 -- Which segments become constraints, one after another, and what they join.
 use Rattle.std.specs.Prelude.{◌≡◌, ◌⊎◌, ◌↔◌, [], ◌∷◌, ℕ, Bool, true, false, List, map}
-use Rattle.plane.specs.Fraction.{Point}
-use Rattle.plane.specs.Crossing.{Cross}
-use Rattle.plane.specs.Pairs.{Joins, place}
-use Rattle.plane.specs.Plain.{AreNeighboursOn}
-use Rattle.delaunay_legalization.specs.Constraints.{constraints_by}
-use Rattle.delaunay_legalization.specs.State.{State}
+use Rattle.delaunay_interface.specs.plane.Fraction.{Point}
+use Rattle.delaunay_interface.specs.plane.Crossing.{Cross}
+use Rattle.delaunay_interface.specs.plane.Pairs.{Joins, place}
+use Rattle.delaunay_interface.specs.plane.Plain.{AreNeighboursOn}
+use Rattle.delaunay_interface.specs.delaunay_legalization.Constraints.{constraints_by}
+use Rattle.delaunay_interface.specs.delaunay_legalization.State.{State}
 
 module _ {V : Type 0} (position : V → Point) (points : List Point) where
   -- no pair of these crosses the segment between two vertices

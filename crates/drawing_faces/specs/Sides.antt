@@ -1,11 +1,11 @@
 -- The faces beside the sides of holes.
 use Rattle.std.specs.Prelude.{◌≡◌, ◌<◌, ◌≤◌, [], ◌∷◌, ◌++◌, ℕ, ℤ, List, length, map, All}
-use Rattle.half_edge_mesh.specs.Mesh.{face, origin, rev}
-use Rattle.plane.specs.Fraction.{Fraction, whole}
-use Rattle.plane.specs.Line.{Item, at_vertex, across, along, IsLineList}
-use Rattle.delaunay_core.specs.declared.point.Point2.{Point2}
-use Rattle.delaunay_legalization.specs.Known.{point_at}
-use Rattle.delaunay_legalization.specs.State.{State, triangulation_of}
+use Rattle.delaunay_interface.specs.half_edge_mesh.Mesh.{face, origin, rev}
+use Rattle.delaunay_interface.specs.plane.Fraction.{Fraction, whole}
+use Rattle.delaunay_interface.specs.plane.Line.{Item, at_vertex, across, along, IsLineList}
+use Rattle.delaunay_interface.specs.delaunay_core.declared.point.Point2.{Point2}
+use Rattle.delaunay_interface.specs.delaunay_legalization.Known.{point_at}
+use Rattle.delaunay_interface.specs.delaunay_legalization.State.{State, triangulation_of}
 use Rattle.drawing_faces.specs.Names.{position}
 
 -- of what a way meets, the edges along which it goes, in its direction: the faces on their left

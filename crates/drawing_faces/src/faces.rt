@@ -1,6 +1,6 @@
 //! The faces of a triangulation.
 ghost use Rattle.std.specs.Prelude.{◌≡◌, ◌<◌, ◌≤◌, All, drop, length, map, IfOk};
-ghost use Rattle.delaunay_legalization.specs.State.{triangulation_of};
+ghost use Rattle.delaunay_interface.specs.delaunay_legalization.State.{triangulation_of};
 ghost use Rattle.drawing_faces.specs.declared.faces.Kept.TheVariants.{Inside};
 ghost use Rattle.drawing_faces.specs.Flood.{MarkOpenFaces};
 ghost use Rattle.drawing_faces.specs.Kept.{AreKept, IsLeftOut};

@@ -5,8 +5,10 @@ ghost use Rattle.delaunay_layers.specs.Layers.{AreLayers};
 ghost use Rattle.drawing_faces.specs.Flood.{Enters, IsFlood, IsReached, ListsFree, MarkOpenFaces};
 ghost use Rattle.drawing_faces.specs.Flood.{flood_left};
 
-use delaunay_legalization::{ConstraintMarker, is_constraint_edge};
-use half_edge_mesh::{Dcel, FixedDirectedEdgeHandle, FixedFaceHandle, MeshViews};
+use delaunay_interface::delaunay_legalization::{ConstraintMarker, is_constraint_edge};
+use delaunay_interface::half_edge_mesh::{
+    Dcel, FixedDirectedEdgeHandle, FixedFaceHandle, MeshViews,
+};
 use std::alloc::{AllocError, Global};
 
 // Faces by index, with 0 for those that were reached, and directed edges that lead on from these,

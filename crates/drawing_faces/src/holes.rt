@@ -3,7 +3,7 @@ ghost use Rattle.std.specs.Prelude.{◌≡◌, ◌≤◌, ◌++◌, All, length,
 ghost use Rattle.drawing_faces.specs.Holes.{AddsFacesAt, AreIn};
 
 use crate::error::DrawingError;
-use delaunay_legalization::is_constraint_edge;
+use delaunay_interface::delaunay_legalization::is_constraint_edge;
 use exact_predicates::ExactTests;
 use spade_delaunay::handles::FixedFaceHandle;
 use spade_delaunay::{Point2, PositionInTriangulation, Triangulation, validate_vertex};

@@ -1,17 +1,17 @@
 //! The faces beside the sides of holes.
 ghost use Rattle.std.specs.Prelude.{◌≡◌, ◌∷◌, ◌<◌, [], List, map, length, OnOk};
-ghost use Rattle.plane.specs.Line.{Item};
-ghost use Rattle.delaunay_legalization.specs.State.{state_of};
-ghost use Rattle.delaunay_lines.specs.Items.{item_in, mesh_of};
-ghost use Rattle.delaunay_lines.specs.Walk.{AreLeft, IsReady};
+ghost use Rattle.delaunay_interface.specs.plane.Line.{Item};
+ghost use Rattle.delaunay_interface.specs.delaunay_legalization.State.{state_of};
+ghost use Rattle.delaunay_interface.specs.delaunay_lines.Items.{item_in, mesh_of};
+ghost use Rattle.delaunay_interface.specs.delaunay_lines.Walk.{AreLeft, IsReady};
 ghost use Rattle.drawing_faces.specs.Drawing.{ends_of};
 ghost use Rattle.drawing_faces.specs.Names.{position};
 ghost use Rattle.drawing_faces.specs.Sides.{AddsBeside, AddsOnLeft};
 
 use crate::edits::DrawnSegment;
 use crate::error::DrawingError;
+use delaunay_interface::half_edge_mesh::{FixedFaceHandle, FixedVertexHandle};
 use exact_predicates::ExactTests;
-use half_edge_mesh::{FixedFaceHandle, FixedVertexHandle};
 use spade_delaunay::{HasMesh, Intersection, LineIntersectionIterator, PlaneTests, Point2};
 use std::alloc::AllocError;
 

@@ -1,3 +1,5 @@
+pub use Rattle.half_edge_links.proofs as half_edge_links_lemmas
+pub use Rattle.half_edge_handles.proofs as half_edge_handles_lemmas
 -- Data beside the parts of a mesh: lists that grow, shrink or are turned.
 pub mod Fits
 pub mod EdgeLists

@@ -1,3 +1,4 @@
+pub use Rattle.half_edge_links.specs as half_edge_links
 pub mod Contents
 pub mod Copied
 pub mod Empty

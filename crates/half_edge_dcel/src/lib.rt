@@ -1,6 +1,9 @@
 //! A mesh of vertices, edges and faces with data on them, held by its directed edges.
 #![tactic(auto)]
 
+pub use half_edge_handles;
+pub use half_edge_links;
+
 mod copies;
 mod dcel;
 mod degenerate;

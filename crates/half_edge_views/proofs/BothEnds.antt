@@ -1,10 +1,10 @@
 -- Rounds that are taken from behind.
 -- Lemmas: round_before, loop_before.
 use Rattle.std.proofs.Common.{◌≡◌, ◌-◌, ◌<◌, ◌==◌, if◌then◌else◌, ◌∙◌, ℕ, length, ap, subst}
-use Rattle.half_edge_links.specs.Mesh.{Mesh, IsValidMesh, next, prev, rev}
-use Rattle.half_edge_links.specs.Peel.{turn}
-use Rattle.half_edge_links.proofs.Lists.Rev.{rev-rev, rev_within}
-use Rattle.half_edge_links.proofs.Removing.Conditions.{turn_in}
+use Rattle.half_edge_dcel.specs.half_edge_links.Mesh.{Mesh, IsValidMesh, next, prev, rev}
+use Rattle.half_edge_dcel.specs.half_edge_links.Peel.{turn}
+use Rattle.half_edge_dcel.proofs.half_edge_links_lemmas.Lists.Rev.{rev-rev, rev_within}
+use Rattle.half_edge_dcel.proofs.half_edge_links_lemmas.Removing.Conditions.{turn_in}
 use Rattle.half_edge_dcel.specs.Contents.{IsMeshWithData}
 use Rattle.half_edge_views.specs.declared.edge_walk.EdgeWalk.{EdgeWalk}
 use Rattle.half_edge_views.specs.Walks.{IsEnding}

@@ -4,15 +4,16 @@ use Rattle.std.proofs.Common.{◌≡◌, ◌≢◌, ◌⊎◌, ◌+◌, ◌-◌,
 use Rattle.std.proofs.Common.{ℕ, zero, suc, length, Some, None, sym, ap, inl, inr, arith}
 use Rattle.std.specs.Borrow.{Bor}
 use Rattle.std.proofs.lemmas.Bool.{cases_eq, cases_lt}
-use Rattle.half_edge_links.specs.Mesh.{Mesh, AreSoundLinks, IsValidMesh, next, prev, face, out_edge}
-use Rattle.half_edge_links.specs.Mesh.{iterate}
-use Rattle.half_edge_links.specs.Hull.{HasOneOutline, IsClosedAlong}
-use Rattle.half_edge_links.specs.Peel.{turn}
-use Rattle.half_edge_links.specs.Round.{IsRound}
-use Rattle.half_edge_links.proofs.Lists.Walks.{among_steps, to_steps, from_steps, steps_closed}
-use Rattle.half_edge_links.proofs.Lists.Orbits.{comes_back}
-use Rattle.half_edge_links.proofs.Lists.OneOrbit.{edges_go_round}
-use Rattle.half_edge_links.proofs.Removing.Conditions.{turn_in, turn_one}
+use Rattle.half_edge_dcel.specs.half_edge_links.Mesh.{Mesh, AreSoundLinks, IsValidMesh, next, prev}
+use Rattle.half_edge_dcel.specs.half_edge_links.Mesh.{face, out_edge, iterate}
+use Rattle.half_edge_dcel.specs.half_edge_links.Hull.{HasOneOutline, IsClosedAlong}
+use Rattle.half_edge_dcel.specs.half_edge_links.Peel.{turn}
+use Rattle.half_edge_dcel.specs.half_edge_links.Round.{IsRound}
+use Rattle.half_edge_dcel.proofs.half_edge_links_lemmas.Lists.Walks.{among_steps, to_steps}
+use Rattle.half_edge_dcel.proofs.half_edge_links_lemmas.Lists.Walks.{from_steps, steps_closed}
+use Rattle.half_edge_dcel.proofs.half_edge_links_lemmas.Lists.Orbits.{comes_back}
+use Rattle.half_edge_dcel.proofs.half_edge_links_lemmas.Lists.OneOrbit.{edges_go_round}
+use Rattle.half_edge_dcel.proofs.half_edge_links_lemmas.Removing.Conditions.{turn_in, turn_one}
 use Rattle.half_edge_dcel.specs.Contents.{Contents, IsMeshWithData}
 use Rattle.half_edge_views.specs.Left.{each_in}
 use Rattle.half_edge_views.specs.Rounds.{GivesRound, IsOuterLoop, GivesOuterLoop}

@@ -1,7 +1,7 @@
 -- The edges that a mesh names are edges of it.
 -- Lemmas: out_edge-within, outer_edge-within.
 use Rattle.std.proofs.Common.{◌≡◌, ℕ, ◌<◌, length, Some}
-use Rattle.half_edge_links.specs.Mesh.{out_edge}
+use Rattle.half_edge_dcel.specs.half_edge_links.Mesh.{out_edge}
 use Rattle.half_edge_dcel.specs.Contents.{Contents, IsMeshWithData}
 
 -- the edge that a vertex names

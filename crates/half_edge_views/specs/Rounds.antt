@@ -3,10 +3,10 @@ use Rattle.std.specs.Prelude.{◌≡◌, ◌≢◌, ◌<◌, []}
 use Rattle.std.specs.Prelude.{ℕ, List, length, map, Some, None}
 use Rattle.std.specs.List.{range_with_len}
 use Rattle.std.specs.Borrow.{Bor}
-use Rattle.half_edge_links.specs.Hull.{HasOneOutline}
-use Rattle.half_edge_links.specs.Mesh.{Mesh, next, face, out_edge, iterate}
-use Rattle.half_edge_links.specs.Peel.{turn, spoke}
-use Rattle.half_edge_links.specs.Round.{IsRound}
+use Rattle.half_edge_dcel.specs.half_edge_links.Hull.{HasOneOutline}
+use Rattle.half_edge_dcel.specs.half_edge_links.Mesh.{Mesh, next, face, out_edge, iterate}
+use Rattle.half_edge_dcel.specs.half_edge_links.Peel.{turn, spoke}
+use Rattle.half_edge_dcel.specs.half_edge_links.Round.{IsRound}
 use Rattle.half_edge_dcel.specs.Contents.{Contents}
 use Rattle.half_edge_views.specs.Left.{each_in}
 use Rattle.half_edge_views.specs.Walks.{walk_left}

@@ -2,7 +2,7 @@
 use Rattle.std.specs.Prelude.{◌≡◌, ◌<◌, ◌==◌, [], ◌∷◌, if◌then◌else◌}
 use Rattle.std.specs.Prelude.{ℕ, zero, suc, Bool, true, false, List}
 use Rattle.std.specs.Borrow.{Bor}
-use Rattle.half_edge_links.specs.Mesh.{Mesh}
+use Rattle.half_edge_dcel.specs.half_edge_links.Mesh.{Mesh}
 use Rattle.half_edge_dcel.specs.Contents.{Contents}
 use Rattle.half_edge_views.specs.Left.{each_in}
 use Rattle.half_edge_views.specs.declared.edge_walk.EdgeWalk.{EdgeWalk}

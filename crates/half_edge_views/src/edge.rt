@@ -2,14 +2,14 @@
 ghost use Rattle.std.specs.Prelude.{◌≡◌, ◌*◌, ◌/◌, ◌<◌, ◌∷◌, [], length};
 ghost use Rattle.std.specs.Prelude.{slice_get, Some, ⊤, All, map, IsNone, IfSome, IsTrue};
 ghost use Rattle.std.specs.Prelude.{◌↔◌};
-ghost use Rattle.half_edge_links.specs.Mesh.{origin, next, prev, face, rev};
+ghost use Rattle.half_edge_dcel.specs.half_edge_links.Mesh.{origin, next, prev, face, rev};
 ghost use Rattle.half_edge_dcel.specs.Contents.{IsMeshWithData};
 
 use crate::face::FaceHandle;
 use crate::vertex::VertexHandle;
 use half_edge_dcel::Dcel;
-use half_edge_handles::{FixedDirectedEdgeHandle, FixedUndirectedEdgeHandle};
-use half_edge_links::reversed;
+use half_edge_dcel::half_edge_handles::{FixedDirectedEdgeHandle, FixedUndirectedEdgeHandle};
+use half_edge_dcel::half_edge_links::reversed;
 use std::alloc::AllocError;
 
 /// A directed edge of a mesh. Two of them are equal where their indexes are.

@@ -2,14 +2,14 @@
 ghost use Rattle.std.specs.Prelude.{◌≡◌, ◌<◌, ◌≤◌, ◌∷◌, [], length};
 ghost use Rattle.std.specs.Prelude.{slice_get, Some, ⊤, All, map, IsTrue};
 ghost use Rattle.std.specs.Prelude.{◌↔◌};
-ghost use Rattle.half_edge_links.specs.Mesh.{next, prev, face_edge};
-ghost use Rattle.half_edge_links.specs.Triangles.{triangle_at};
+ghost use Rattle.half_edge_dcel.specs.half_edge_links.Mesh.{next, prev, face_edge};
+ghost use Rattle.half_edge_dcel.specs.half_edge_links.Triangles.{triangle_at};
 ghost use Rattle.half_edge_dcel.specs.Contents.{IsMeshWithData};
 
 use crate::edge::DirectedEdgeHandle;
 use crate::vertex::VertexHandle;
 use half_edge_dcel::Dcel;
-use half_edge_handles::FixedFaceHandle;
+use half_edge_dcel::half_edge_handles::FixedFaceHandle;
 use std::alloc::AllocError;
 
 /// A face of a mesh: the outer one where its index is 0. Two of them are equal where their indexes

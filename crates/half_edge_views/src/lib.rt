@@ -1,6 +1,9 @@
 //! The vertices, edges and faces of a mesh, together with the mesh that they lie in.
 #![tactic(auto)]
 
+pub use half_edge_dcel;
+pub use half_edge_dcel::half_edge_links;
+
 mod edge;
 mod edge_walk;
 mod face;

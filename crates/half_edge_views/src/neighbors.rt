@@ -1,11 +1,11 @@
 //! The search for an edge between two vertices.
 ghost use Rattle.std.specs.Prelude.{◌≡◌, ◌≢◌, ◌<◌, ℕ, length, IfNone, IfSome};
-ghost use Rattle.half_edge_links.specs.Mesh.{origin, rev};
-ghost use Rattle.half_edge_links.specs.Peel.{spoke};
+ghost use Rattle.half_edge_dcel.specs.half_edge_links.Mesh.{origin, rev};
+ghost use Rattle.half_edge_dcel.specs.half_edge_links.Peel.{spoke};
 ghost use Rattle.half_edge_dcel.specs.Contents.{IsMeshWithData};
 
 use half_edge_dcel::Dcel;
-use half_edge_links::reversed;
+use half_edge_dcel::half_edge_links::reversed;
 
 // Of the edges round the vertex where `first` starts, one that ends at vertex `to`, if there is
 // one.

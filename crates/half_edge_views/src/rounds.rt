@@ -3,8 +3,8 @@
 
 ghost use Rattle.std.specs.Prelude.{⊤};
 ghost use Rattle.std.specs.Iterator.{YieldsFirstBy, YieldsLastBy, item_count};
-ghost use Rattle.half_edge_links.specs.Mesh.{next};
-ghost use Rattle.half_edge_links.specs.Peel.{turn};
+ghost use Rattle.half_edge_dcel.specs.half_edge_links.Mesh.{next};
+ghost use Rattle.half_edge_dcel.specs.half_edge_links.Peel.{turn};
 ghost use Rattle.half_edge_views.specs.Walks.{IsEnding, IsSameWalk};
 
 use crate::edge::DirectedEdgeHandle;

@@ -1,14 +1,14 @@
 //! Vertices together with the mesh that they lie in.
 ghost use Rattle.std.specs.Prelude.{◌≡◌, ◌<◌, ◌↔◌, length, slice_get, Some, ⊤};
 ghost use Rattle.std.specs.Prelude.{IsNone, IfSome};
-ghost use Rattle.half_edge_links.specs.Mesh.{out_edge};
+ghost use Rattle.half_edge_dcel.specs.half_edge_links.Mesh.{out_edge};
 ghost use Rattle.half_edge_dcel.specs.Contents.{IsMeshWithData};
 
 use crate::edge::DirectedEdgeHandle;
 use crate::edge_walk::EdgeWalk;
 use crate::rounds::CircularIterator;
 use half_edge_dcel::Dcel;
-use half_edge_handles::FixedVertexHandle;
+use half_edge_dcel::half_edge_handles::FixedVertexHandle;
 use std::alloc::AllocError;
 
 /// A vertex of a mesh. Two of them are equal where their indexes are.

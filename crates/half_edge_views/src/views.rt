@@ -4,7 +4,7 @@
 ghost use Rattle.std.specs.Prelude.{◌≡◌, ◌≢◌, ◌<◌, ◌≤◌, ◌+◌, ◌↔◌, ℕ};
 ghost use Rattle.std.specs.Prelude.{length, IsSome, IfNone, IfSome};
 ghost use Rattle.std.specs.List.{range_with_len};
-ghost use Rattle.half_edge_links.specs.Mesh.{origin, rev};
+ghost use Rattle.half_edge_dcel.specs.half_edge_links.Mesh.{origin, rev};
 ghost use Rattle.half_edge_dcel.specs.Contents.{Contents};
 ghost use Rattle.half_edge_views.specs.Left.{each_in, vertices_left, directed_edges_left};
 ghost use Rattle.half_edge_views.specs.Left.{undirected_edges_left, faces_left};

@@ -2,8 +2,8 @@
 use Rattle.std.specs.Prelude.{◌≡◌, ◌<◌, ◌==◌, ◌∷◌, [], if◌then◌else◌}
 use Rattle.std.specs.Prelude.{ℕ, List, Option, Some, None, IfSome, All, map}
 use Rattle.std.specs.Borrow.{Bor}
-use Rattle.half_edge_links.specs.Mesh.{next, prev, rev, face, face_edge}
-use Rattle.half_edge_dcel.specs.Contents.{Contents}
+use Rattle.half_edge_views.specs.half_edge_links.Mesh.{next, prev, rev, face, face_edge}
+use Rattle.half_edge_views.specs.half_edge_dcel.Contents.{Contents}
 use Rattle.half_edge_views.specs.declared.face.FaceHandle.{FaceHandle}
 use Rattle.half_edge_voronoi.specs.declared.voronoi.DirectedVoronoiEdge.{DirectedVoronoiEdge}
 use Rattle.half_edge_voronoi.specs.declared.voronoi.VoronoiVertex.{VoronoiVertex}

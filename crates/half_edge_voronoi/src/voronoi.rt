@@ -2,7 +2,7 @@
 //! edge, a vertex for each inner face.
 ghost use Rattle.std.specs.Prelude.{◌≡◌, ◌*◌, ◌/◌, ◌<◌, ◌∷◌, [], ◌↔◌};
 ghost use Rattle.std.specs.Prelude.{All, map, IsNone, IsSome, IfSome};
-ghost use Rattle.half_edge_links.specs.Mesh.{next, prev, rev, origin, face_edge};
+ghost use Rattle.half_edge_views.specs.half_edge_links.Mesh.{next, prev, rev, origin, face_edge};
 
 use crate::voronoi_iterators::VoronoiCircularIterator;
 use half_edge_views::{DirectedEdgeHandle, FaceHandle, UndirectedEdgeHandle, VertexHandle};

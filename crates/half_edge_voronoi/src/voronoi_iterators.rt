@@ -8,7 +8,7 @@ ghost use Rattle.half_edge_views.specs.Left.{undirected_edges_left};
 use crate::voronoi::{
     AsVoronoiEdge, AsVoronoiFace, DirectedVoronoiEdge, UndirectedVoronoiEdge, VoronoiFace,
 };
-use half_edge_dcel::Dcel;
+use half_edge_views::half_edge_dcel::Dcel;
 use half_edge_views::{
     CircularIterator, DirectedEdgeIterator, MeshViews, UndirectedEdgeIterator, VertexIterator,
 };

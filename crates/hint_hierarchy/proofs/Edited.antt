@@ -6,12 +6,12 @@ use Rattle.std.specs.Prelude.{Contains, Result, Ok, Err, IfOk, OnErr}
 use Rattle.std.proofs.lemmas.List.{map-append}
 use Rattle.std.proofs.lemmas.List.Elements.{All-contains, All-contains_itself, All-push}
 use Rattle.std.proofs.Math.Seq.{map-set_same}
-use Rattle.plane.specs.Fraction.{Point}
-use Rattle.plane.specs.Hint.{IsAtMost, IsAtMostWith}
-use Rattle.plane.specs.Plain.{Plain, Inserts}
-use Rattle.delaunay_core.specs.declared.math.InsertionError.{InsertionError}
-use Rattle.delaunay_legalization.specs.Constraints.{points_and_constraints_by}
-use Rattle.delaunay_legalization.specs.State.{State}
+use Rattle.delaunay_interface.specs.plane.Fraction.{Point}
+use Rattle.delaunay_interface.specs.plane.Hint.{IsAtMost, IsAtMostWith}
+use Rattle.delaunay_interface.specs.plane.Plain.{Plain, Inserts}
+use Rattle.delaunay_interface.specs.delaunay_core.declared.math.InsertionError.{InsertionError}
+use Rattle.delaunay_interface.specs.delaunay_legalization.Constraints.{points_and_constraints_by}
+use Rattle.delaunay_interface.specs.delaunay_legalization.State.{State}
 use Rattle.delaunay_interface.specs.Storage.{IsCopy}
 use Rattle.delaunay_interface.specs.Edits.{InsertsVertex, RemovesVertex}
 use Rattle.delaunay_interface.proofs.EditLemmas.{same_image, sites_left}

@@ -37,8 +37,8 @@ use Rattle.std.proofs.lemmas.List.Elements.{
   All-weaker,
   Contains-get_or,
 }
-use Rattle.plane.specs.Fraction.{Point}
-use Rattle.plane.specs.Hint.{IsAtMost, IsAtMostWith}
+use Rattle.delaunay_interface.specs.plane.Fraction.{Point}
+use Rattle.delaunay_interface.specs.plane.Hint.{IsAtMost, IsAtMostWith}
 use Rattle.hint_hierarchy.specs.Layers.{IsAtMostOr, IsInSome}
 
 -- a fact of each position that is contained, as one of each position of the list

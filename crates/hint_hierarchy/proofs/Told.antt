@@ -5,10 +5,10 @@ use mathlib.Core.Logic.{⊎_elim}
 use Rattle.std.specs.Prelude.{All, Contains}
 use Rattle.std.proofs.lemmas.List.{length-map, get_or-map}
 use Rattle.std.proofs.lemmas.List.Elements.{All-contains}
-use Rattle.plane.specs.Fraction.{Point}
-use Rattle.delaunay_core.specs.declared.point.Point2.{Point2}
-use Rattle.delaunay_core.specs.Place.{place_of}
-use Rattle.plane.specs.Hint.{IsAtMost, IsAtMostOf, IsAtMostWith}
+use Rattle.delaunay_interface.specs.plane.Fraction.{Point}
+use Rattle.delaunay_interface.specs.delaunay_core.declared.point.Point2.{Point2}
+use Rattle.delaunay_interface.specs.delaunay_core.Place.{place_of}
+use Rattle.delaunay_interface.specs.plane.Hint.{IsAtMost, IsAtMostOf, IsAtMostWith}
 
 -- the position of an element is one of those of the list
 pub element_is_listed : {V : Type 0} (place : V → Point) (vs : List V) (i : ℕ) (v : V)

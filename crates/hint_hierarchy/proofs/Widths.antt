@@ -4,8 +4,8 @@ use Rattle.std.proofs.Common.{◌≡◌, ◌≤◌, arith, w32, w64, to_z, of_z}
 use Rattle.std.specs.Prelude.{ℤ, ◌+ℤ◌, ◌-ℤ◌, ◌*ℤ◌, unsigned_abs}
 use Rattle.std.specs.Int.RustNames.{FitsSigned}
 use Rattle.std.proofs.lemmas.Int.{ints, fits_signed_from_abs}
-use Rattle.plane.specs.Tests.{IsCoordinate}
-use Rattle.delaunay_core.proofs.Projections.{product_bound}
+use Rattle.delaunay_interface.specs.plane.Tests.{IsCoordinate}
+use Rattle.delaunay_interface.proofs.delaunay_core_lemmas.Projections.{product_bound}
 
 -- a number that was passed on
 abbrev kept : ℤ → ℤ

@@ -2,9 +2,9 @@
 use Rattle.std.specs.Prelude.{◌≡◌, ℕ, ◌+◌, ◌*◌, ◌/◌, ◌%◌, ◌^◌, ℤ, List, Bool, true, All, length}
 use Rattle.std.specs.Prelude.{map, slice_index_or}
 use Rattle.std.specs.Int.{cast_unsigned, w64}
-use Rattle.plane.specs.Fraction.{Point}
-use Rattle.delaunay_core.specs.declared.point.Point2.{Point2}
-use Rattle.delaunay_core.specs.Place.{place_of}
+use Rattle.delaunay_interface.specs.plane.Fraction.{Point}
+use Rattle.delaunay_interface.specs.delaunay_core.declared.point.Point2.{Point2}
+use Rattle.delaunay_interface.specs.delaunay_core.Place.{place_of}
 
 -- the hash of a position: the high half of the sum of its coordinates times two odd numbers, of 64
 -- bits

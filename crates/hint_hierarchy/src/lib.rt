@@ -2,6 +2,11 @@
 //! it, and a search goes down from the nearest vertex of one layer to the next.
 #![tactic(auto)]
 
+pub use delaunay_interface;
+pub use delaunay_interface::{
+    delaunay_core, delaunay_legalization, half_edge_mesh, half_edge_voronoi,
+};
+
 mod bloom;
 mod hierarchy;
 mod layer;

@@ -13,7 +13,7 @@ use Rattle.half_edge_mesh.specs.Triangles.{Triangle}
 use Rattle.half_edge_mesh.specs.Contents.{Contents, IsMeshWithData}
 use Rattle.half_edge_mesh.specs.Removal.{FullFace, full_faces, HasCorners, LosesFaces, FillsHole}
 use Rattle.half_edge_mesh.specs.Removal.{faces_between}
-use Rattle.half_edge_dcel.proofs.OuterSums.{total-permutation, total-append}
+use Rattle.half_edge_mesh.proofs.half_edge_dcel.OuterSums.{total-permutation, total-append}
 use Rattle.plane.specs.Tiling.{Face, face as corners}
 use Rattle.plane_tiling.specs.Local.{total}
 use Rattle.plane_tiling.proofs.Totals.{Contains-head, Contains-none, Contains-cases}

@@ -16,8 +16,8 @@ use Rattle.half_edge_mesh.specs.Triangles.{Triangle, triangles, FlipsTriangles, 
 use Rattle.half_edge_mesh.specs.Triangles.{SplitsTriangles}
 use Rattle.half_edge_mesh.specs.Outline.{KeepsOuter, ReplacesOuter, AddsTriangle}
 use Rattle.half_edge_mesh.specs.Outline.{HalfSplitsTriangles}
-use Rattle.half_edge_links.proofs.Lists.Rev.{rev-rev, rev_within}
-use Rattle.half_edge_links.proofs.Sound.Triangles as T
+use Rattle.half_edge_mesh.proofs.half_edge_links.Lists.Rev.{rev-rev, rev_within}
+use Rattle.half_edge_mesh.proofs.half_edge_links.Sound.Triangles as T
 use Rattle.plane.specs.Fraction.{Point, whole, WithinSegment, InsideTriangle}
 use Rattle.plane.specs.Side.{TurnsLeft}
 use Rattle.plane.specs.Pairs.{place}

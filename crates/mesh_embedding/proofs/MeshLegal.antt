@@ -17,13 +17,13 @@ use Rattle.half_edge_mesh.specs.Mesh.{IsValidMesh, IsInnerEdge}
 use Rattle.half_edge_mesh.specs.Flip.{IsFlippable, Flips, flipped}
 use Rattle.half_edge_mesh.specs.Triangles.{FlipsTriangles}
 use Rattle.half_edge_mesh.specs.Outline.{KeepsOuter}
-use Rattle.half_edge_links.proofs.Lists.Rev.{rev-rev, rev_differs, rev_within}
-use Rattle.half_edge_links.proofs.Sound.Triangles as T
-use Rattle.half_edge_links.specs.Places.{AreSixPlaces}
-use Rattle.half_edge_links.proofs.Faces.FlipLemmas.{flips}
-use Rattle.half_edge_links.proofs.Faces.FlipSound.{origin_kept}
-use Rattle.half_edge_links.proofs.Faces.FlipTriangles.{triangles_flipped}
-use Rattle.half_edge_links.proofs.Faces.KeepsOuter.{outer_flipped_is}
+use Rattle.half_edge_mesh.proofs.half_edge_links.Lists.Rev.{rev-rev, rev_differs, rev_within}
+use Rattle.half_edge_mesh.proofs.half_edge_links.Sound.Triangles as T
+use Rattle.half_edge_mesh.specs.half_edge_links.Places.{AreSixPlaces}
+use Rattle.half_edge_mesh.proofs.half_edge_links.Faces.FlipLemmas.{flips}
+use Rattle.half_edge_mesh.proofs.half_edge_links.Faces.FlipSound.{origin_kept}
+use Rattle.half_edge_mesh.proofs.half_edge_links.Faces.FlipTriangles.{triangles_flipped}
+use Rattle.half_edge_mesh.proofs.half_edge_links.Faces.KeepsOuter.{outer_flipped_is}
 use Rattle.plane.specs.Fraction.{Point}
 use Rattle.plane.specs.Side.{TurnsLeft}
 use Rattle.plane.specs.Circle.{InsideCircle}

@@ -11,8 +11,8 @@ use Rattle.std.proofs.lemmas.Bool.{cases_eq, cases_lt}
 use Rattle.half_edge_mesh.specs.Mesh.{Mesh, origin, prev, face, rev, IsValidMesh}
 use Rattle.half_edge_mesh.specs.Peel.{turn, spoke}
 use Rattle.half_edge_mesh.specs.Round.{IsRound, neighbour}
-use Rattle.half_edge_links.proofs.Lists.Rev.{rev-rev, rev_within}
-use Rattle.half_edge_links.proofs.Lists.OneOrbit.{edges_go_round}
+use Rattle.half_edge_mesh.proofs.half_edge_links.Lists.Rev.{rev-rev, rev_within}
+use Rattle.half_edge_mesh.proofs.half_edge_links.Lists.OneOrbit.{edges_go_round}
 use Rattle.half_edge_mesh.specs.Removal.{HasFewEdges}
 use Rattle.plane.specs.Fraction.{Point}
 use Rattle.plane.specs.Pairs.{EachPairOnce}

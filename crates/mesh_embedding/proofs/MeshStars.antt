@@ -15,8 +15,8 @@ use Rattle.half_edge_mesh.specs.Outline.{IsOuterEdge}
 use Rattle.half_edge_mesh.specs.Peel.{turn, spoke, IsStrip}
 use Rattle.half_edge_mesh.specs.Round.{IsRound, neighbour}
 use Rattle.half_edge_mesh.specs.Triangles.{Triangle, triangles, triangle_at}
-use Rattle.half_edge_links.proofs.Lists.Rev.{rev-rev, rev_within}
-use Rattle.half_edge_links.proofs.Sound.Triangles as T
+use Rattle.half_edge_mesh.proofs.half_edge_links.Lists.Rev.{rev-rev, rev_within}
+use Rattle.half_edge_mesh.proofs.half_edge_links.Sound.Triangles as T
 use Rattle.plane.specs.Fraction.{Point}
 use Rattle.plane.specs.Pairs.{EachPairOnce, IsIndex}
 use Rattle.plane.specs.Tiling.{Face, face as corners}

@@ -16,9 +16,9 @@ use Rattle.half_edge_mesh.specs.Outline.{Ends, ends}
 use Rattle.half_edge_mesh.specs.Peel.{spoke}
 use Rattle.half_edge_mesh.specs.Round.{IsRound, neighbour}
 use Rattle.half_edge_mesh.specs.Triangles.{Triangle, triangle_at, triangles, FlipsTriangles}
-use Rattle.half_edge_links.proofs.Sound.Ends.{length-ends_twice, get_or-ends}
-use Rattle.half_edge_links.proofs.Lists.Rev.{rev-rev, rev_within}
-use Rattle.half_edge_links.proofs.Sound.Triangles as T
+use Rattle.half_edge_mesh.proofs.half_edge_links.Sound.Ends.{length-ends_twice, get_or-ends}
+use Rattle.half_edge_mesh.proofs.half_edge_links.Lists.Rev.{rev-rev, rev_within}
+use Rattle.half_edge_mesh.proofs.half_edge_links.Sound.Triangles as T
 use Rattle.plane.specs.Fraction.{Point}
 use Rattle.plane.specs.Pairs.{Joins, IsSamePair, EachPairOnce}
 use Rattle.plane.specs.Tiling.{Face, IsTiling, face as corners}

@@ -7,7 +7,7 @@ use Rattle.std.specs.Prelude.{Contains}
 use Rattle.half_edge_mesh.specs.Mesh.{Mesh, origin, next, face, rev, AreSoundLinks, IsSoundEdge}
 use Rattle.half_edge_mesh.specs.Outline.{IsOuterEdge, KeepsOuter, ReplacesOuter, ClosesOuter}
 use Rattle.half_edge_mesh.specs.Outline.{IsThis}
-use Rattle.half_edge_links.proofs.Lists.Rev.{rev_within}
+use Rattle.half_edge_mesh.proofs.half_edge_links.Lists.Rev.{rev_within}
 use Rattle.plane_tiling.proofs.Totals.{Contains-head, Contains-later, Contains-none, Contains-cases}
 use Rattle.plane_edits.specs.Change.{OuterChange}
 use Rattle.plane_edits.proofs.LocalMesh.Changes.{IsOnce}

@@ -12,7 +12,7 @@ use Rattle.std.proofs.lemmas.Bool.{cases_eq}
 use Rattle.half_edge_mesh.specs.Mesh.{Mesh, origin, next, prev, face, iterate, AreSoundLinks}
 use Rattle.half_edge_mesh.specs.Outline.{IsOuterEdge}
 use Rattle.half_edge_mesh.specs.Hull.{IsClosedAlong, HasOneOutline}
-use Rattle.half_edge_links.proofs.Lists.Orbits.{step_add, comes_back}
+use Rattle.half_edge_mesh.proofs.half_edge_links.Lists.Orbits.{step_add, comes_back}
 use Rattle.plane.proofs.Signs.{less_if_not_same, at_most_both_ways}
 use Rattle.plane_tiling.proofs.Rising.{greatest}
 use Rattle.plane_edits.proofs.LocalMesh.Changes.{IsOnce}

@@ -8,10 +8,10 @@ use Rattle.half_edge_mesh.specs.Triangles.{triangles}
 use Rattle.half_edge_mesh.specs.Outline.{ends}
 use Rattle.half_edge_mesh.specs.Flow.{outline}
 use Rattle.half_edge_mesh.specs.Flow as F
-use Rattle.half_edge_links.proofs.Sound.Flow.{sides_add_up}
+use Rattle.half_edge_mesh.proofs.half_edge_links.Sound.Flow.{sides_add_up}
 use Rattle.plane_tiling.specs.Local.{total, around, along, AreEdgesOf}
 use Rattle.mesh_embedding.specs.Drawn.{corners_of, pair_of, faces_of, edges_of, outer_of}
-use Rattle.half_edge_links.proofs.Lists.Sums.{same_sum}
+use Rattle.half_edge_mesh.proofs.half_edge_links.Lists.Sums.{same_sum}
 
 -- the sum over a list that was read anew
 pub total-read : {X Y : Type 0} (f : Y → ℤ) (g : X → Y) (xs : List X)

@@ -13,11 +13,11 @@
 //!     }
 //! }
 //! ```
-pub use half_edge_mesh::{
+pub use hint_hierarchy::half_edge_mesh::{
     DirectedEdgeHandle, FaceHandle, FixedDirectedEdgeHandle, FixedFaceHandle,
     FixedUndirectedEdgeHandle, FixedVertexHandle, UndirectedEdgeHandle, VertexHandle,
 };
-pub use half_edge_voronoi::{
+pub use hint_hierarchy::half_edge_voronoi::{
     AsVoronoiEdge, AsVoronoiFace, AsVoronoiVertex, DirectedVoronoiEdge, UndirectedVoronoiEdge,
     VoronoiFace, VoronoiVertex,
 };

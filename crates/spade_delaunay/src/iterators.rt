@@ -7,13 +7,13 @@
 //! let copy = edges.clone()?;
 //! let last = edges.next_back(); // the copy still gives it
 //! ```
-pub use delaunay_interface::InnerFaceIterator;
-pub use half_edge_mesh::{
+pub use hint_hierarchy::delaunay_interface::InnerFaceIterator;
+pub use hint_hierarchy::half_edge_mesh::{
     CircularIterator, DirectedEdgeIterator, FaceIterator, FixedDirectedEdgeIterator,
     FixedFaceIterator, FixedUndirectedEdgeIterator, FixedVertexIterator, HullIterator,
     UndirectedEdgeIterator, VertexIterator,
 };
-pub use half_edge_voronoi::{
+pub use hint_hierarchy::half_edge_voronoi::{
     DirectedVoronoiEdgeIterator, UndirectedVoronoiEdgeIterator, VoronoiCircularIterator,
     VoronoiFaceIterator,
 };

@@ -18,24 +18,26 @@ pub mod handles;
 pub mod iterators;
 
 pub use delaunay_bulk::{BulkInsertion, BulkInsertionError, InsertAll};
-pub use delaunay_core::line_side_info::LineSideInfo;
-pub use delaunay_core::math::{
-    InsertionError, MAX_ALLOWED_VALUE, PlaneTests, PointProjection, is_ordered_ccw, project_point,
-    validate_coordinate, validate_vertex,
-};
-pub use delaunay_core::point::{HasPosition, Point2, SpadeNum};
-pub use delaunay_core::{HintGenerator, LastUsedVertexHintGenerator};
-pub use delaunay_interface::{
-    ConflictingEdgesIterator, ConstrainedDelaunayTriangulation, ConstraintError,
-    DelaunayTriangulation, EdgeData, HasMesh, Intersection, LineIntersectionIterator,
-    PositionInTriangulation, Triangulation, TriangulationCore,
-};
 pub use delaunay_layers::face_layers;
-pub use delaunay_legalization::{CdtEdge, ConstraintMarker, EdgeConstraints, NoConstraints};
 pub use delaunay_shape_queries::{
     CircleMetric, DistanceMetric, EdgesInShapeIterator, FloatTriangulation, RectangleMetric,
     VerticesInShapeIterator,
 };
 pub use delaunay_sight::{FreeFaces, is_in_sight};
-pub use half_edge_mesh::{Dcel, MAX_ELEMENTS};
+pub use hint_hierarchy::delaunay_core::line_side_info::LineSideInfo;
+pub use hint_hierarchy::delaunay_core::math::{
+    InsertionError, MAX_ALLOWED_VALUE, PlaneTests, PointProjection, is_ordered_ccw, project_point,
+    validate_coordinate, validate_vertex,
+};
+pub use hint_hierarchy::delaunay_core::point::{HasPosition, Point2, SpadeNum};
+pub use hint_hierarchy::delaunay_core::{HintGenerator, LastUsedVertexHintGenerator};
+pub use hint_hierarchy::delaunay_interface::{
+    ConflictingEdgesIterator, ConstrainedDelaunayTriangulation, ConstraintError,
+    DelaunayTriangulation, EdgeData, HasMesh, Intersection, LineIntersectionIterator,
+    PositionInTriangulation, Triangulation, TriangulationCore,
+};
+pub use hint_hierarchy::delaunay_legalization::{
+    CdtEdge, ConstraintMarker, EdgeConstraints, NoConstraints,
+};
+pub use hint_hierarchy::half_edge_mesh::{Dcel, MAX_ELEMENTS};
 pub use hint_hierarchy::{HierarchyHintGenerator, HierarchyHintGeneratorWithBranchFactor};

@@ -1,12 +1,12 @@
 -- A piece of a path in a mesh has no vertex within, nor has it in a copy of the mesh.
 -- Lemmas: free_in_copy.
 use Rattle.std.proofs.Common.{◌≡◌, ℕ, List, map, sym, subst}
-use Rattle.plane.specs.Fraction.{Point}
-use Rattle.plane_segments.specs.Constraints.{AreNextOn}
-use Rattle.plane_segments.specs.Path.{IsFreeOfVertices}
-use Rattle.half_edge_mesh.specs.Mesh.{Mesh}
-use Rattle.half_edge_mesh.specs.Contents.{Contents}
-use Rattle.mesh_embedding.specs.Drawn.{drawn}
+use Rattle.delaunay_interface.specs.plane.Fraction.{Point}
+use Rattle.delaunay_interface.specs.plane_segments.Constraints.{AreNextOn}
+use Rattle.delaunay_interface.specs.plane_segments.Path.{IsFreeOfVertices}
+use Rattle.delaunay_interface.specs.half_edge_mesh.Mesh.{Mesh}
+use Rattle.delaunay_interface.specs.half_edge_mesh.Contents.{Contents}
+use Rattle.delaunay_interface.specs.mesh_embedding.Drawn.{drawn}
 use Rattle.test_points.specs.declared.TaggedVertex.{TaggedVertex}
 use Rattle.test_points.specs.Vertices.{position_of}
 

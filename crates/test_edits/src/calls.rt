@@ -1,10 +1,10 @@
 //! Edits of vertices of both types: nothing where a call is not made.
 
-use delaunay_core::math::{InsertionError, validate_vertex};
-use delaunay_core::point::Point2;
 use delaunay_interface::Triangulation;
+use delaunay_interface::delaunay_core::math::{InsertionError, validate_vertex};
+use delaunay_interface::delaunay_core::point::Point2;
+use delaunay_interface::half_edge_mesh::FixedVertexHandle;
 use exact_predicates::ExactTests;
-use half_edge_mesh::FixedVertexHandle;
 use std::alloc::{AllocError, Global};
 use std::io;
 use test_points::TaggedVertex;

@@ -1,9 +1,9 @@
 //! Lines of constraints, by the indexes of vertices: nothing where a call is not made.
 
-use delaunay_core::HintGenerator;
+use delaunay_interface::delaunay_core::HintGenerator;
+use delaunay_interface::half_edge_mesh::{FixedDirectedEdgeHandle, FixedVertexHandle};
 use delaunay_interface::{ConstraintError, Triangulation};
 use exact_predicates::ExactTests;
-use half_edge_mesh::{FixedDirectedEdgeHandle, FixedVertexHandle};
 use std::alloc::AllocError;
 use std::io;
 use test_points::{Constrained, TaggedVertex, both, edge_between, ends_of};

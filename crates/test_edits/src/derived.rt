@@ -2,7 +2,9 @@
 
 use crate::constraint_edges::edge;
 use delaunay_interface::PositionInTriangulation;
-use half_edge_mesh::{FixedDirectedEdgeHandle, FixedFaceHandle, FixedVertexHandle};
+use delaunay_interface::half_edge_mesh::{
+    FixedDirectedEdgeHandle, FixedFaceHandle, FixedVertexHandle,
+};
 use std::cmp::Ordering;
 use std::hash::Hash;
 use test_reader::hash_of;

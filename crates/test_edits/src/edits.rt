@@ -6,8 +6,8 @@ use crate::calls::{
 };
 use crate::flips::insert_counting;
 use crate::paths::{joined, next};
-use delaunay_core::HintGenerator;
 use delaunay_interface::Triangulation;
+use delaunay_interface::delaunay_core::HintGenerator;
 use std::io;
 use test_points::{Plain, TaggedVertex, vertex_of};
 use test_reader::{Call, index};

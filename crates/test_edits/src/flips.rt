@@ -1,13 +1,13 @@
 //! Insertions whose flips are counted.
 
-use delaunay_core::HintGenerator;
-use delaunay_core::math::InsertionError;
 use delaunay_interface::Triangulation;
+use delaunay_interface::delaunay_core::HintGenerator;
+use delaunay_interface::delaunay_core::math::InsertionError;
 use exact_predicates::ExactTests;
 use test_points::{Plain, TaggedVertex};
 
 /// Inserts a vertex, and adds the number of flips. Nothing where there are many already.
-#[tactic(auto, using(delaunay_legalization::proofs::Flips::counted_flips))]
+#[tactic(auto, using(delaunay_interface::proofs::delaunay_legalization_lemmas::Flips::counted_flips))]
 pub fn insert_counting<L: HintGenerator<i64>>(
     points: &mut Plain<L>,
     vertex: TaggedVertex,

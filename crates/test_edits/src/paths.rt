@@ -1,18 +1,18 @@
 //! Segments between vertices: the next vertex on the way, and flips that make one an edge.
 ghost use Rattle.std.specs.Prelude.{◌≡◌, ◌≢◌, ◌<◌, length, map, All, IfSome};
-ghost use Rattle.plane.specs.Tests.{InRange};
-ghost use Rattle.plane_tiling.specs.Local.{IsMesh};
-ghost use Rattle.mesh_embedding.specs.Drawn.{faces_of, outer_of};
-ghost use Rattle.delaunay_paths.specs.Leaving.{IsWorkList};
-ghost use Rattle.delaunay_paths.specs.Lists.{HaveRoom};
+ghost use Rattle.delaunay_interface.specs.plane.Tests.{InRange};
+ghost use Rattle.delaunay_interface.specs.plane_tiling.Local.{IsMesh};
+ghost use Rattle.delaunay_interface.specs.mesh_embedding.Drawn.{faces_of, outer_of};
+ghost use Rattle.delaunay_interface.specs.delaunay_paths.Leaving.{IsWorkList};
+ghost use Rattle.delaunay_interface.specs.delaunay_paths.Lists.{HaveRoom};
 ghost use Rattle.test_points.specs.Vertices.{position_of};
 
-use delaunay_core::HintGenerator;
 use delaunay_interface::Triangulation;
-use delaunay_legalization::EdgeSet;
-use delaunay_paths::{CrossingLists, make_edge, next_on_path};
+use delaunay_interface::delaunay_core::HintGenerator;
+use delaunay_interface::delaunay_legalization::EdgeSet;
+use delaunay_interface::delaunay_paths::{CrossingLists, make_edge, next_on_path};
+use delaunay_interface::half_edge_mesh::{Dcel, FixedVertexHandle, MeshViews};
 use exact_predicates::ExactTests;
-use half_edge_mesh::{Dcel, FixedVertexHandle, MeshViews};
 use std::alloc::Global;
 use test_points::{Plain, TaggedVertex};
 

@@ -1,7 +1,9 @@
 //! Lines that write numbers to edges and faces.
 
 use delaunay_interface::Triangulation;
-use half_edge_mesh::{FixedDirectedEdgeHandle, FixedFaceHandle, FixedUndirectedEdgeHandle};
+use delaunay_interface::half_edge_mesh::{
+    FixedDirectedEdgeHandle, FixedFaceHandle, FixedUndirectedEdgeHandle,
+};
 use std::io;
 use test_points::edge_between;
 use test_reader::Call;

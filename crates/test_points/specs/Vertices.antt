@@ -1,6 +1,6 @@
 -- The vertices of the tests.
-use Rattle.plane.specs.Fraction.{Point}
-use Rattle.delaunay_core.specs.Place.{place_of}
+use Rattle.delaunay_interface.specs.plane.Fraction.{Point}
+use Rattle.delaunay_interface.specs.delaunay_core.Place.{place_of}
 use Rattle.test_points.specs.declared.TaggedVertex.{TaggedVertex}
 
 -- the position of a vertex of the tests

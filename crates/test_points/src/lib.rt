@@ -2,13 +2,15 @@
 #![tactic(auto)]
 
 ghost use Rattle.std.specs.Prelude.{◌<◌, ◌≤ℤ◌, length, pos, IfSome};
-ghost use Rattle.plane.specs.Tests.{InRange};
-ghost use Rattle.delaunay_core.specs.Place.{place_of};
+ghost use Rattle.delaunay_interface.specs.plane.Tests.{InRange};
+ghost use Rattle.delaunay_interface.specs.delaunay_core.Place.{place_of};
 
-use delaunay_core::math::validate_vertex;
-use delaunay_core::point::{HasPosition, Point2};
+use delaunay_interface::delaunay_core::math::validate_vertex;
+use delaunay_interface::delaunay_core::point::{HasPosition, Point2};
+use delaunay_interface::half_edge_mesh::{
+    DirectedEdgeHandle, FixedUndirectedEdgeHandle, FixedVertexHandle,
+};
 use delaunay_interface::{ConstrainedDelaunayTriangulation, DelaunayTriangulation, Triangulation};
-use half_edge_mesh::{DirectedEdgeHandle, FixedUndirectedEdgeHandle, FixedVertexHandle};
 use std::alloc::{AllocError, Global};
 use test_reader::Call;
 

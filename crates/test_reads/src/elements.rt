@@ -3,8 +3,8 @@ ghost use Rattle.std.specs.Prelude.{◌<◌};
 
 use crate::data::{number_between, print_data};
 use delaunay_interface::Triangulation;
-use delaunay_legalization::CdtEdge;
-use half_edge_mesh::{DirectedEdgeHandle, FaceHandle, VertexHandle};
+use delaunay_interface::delaunay_legalization::CdtEdge;
+use delaunay_interface::half_edge_mesh::{DirectedEdgeHandle, FaceHandle, VertexHandle};
 use std::alloc::{AllocError, Global};
 use std::io;
 use test_points::{TaggedVertex, ends_of};

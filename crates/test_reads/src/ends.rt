@@ -3,7 +3,7 @@ ghost use Rattle.std.specs.Prelude.{◌<◌};
 
 use crate::lasts::{print_lasts, print_three};
 use delaunay_interface::Triangulation;
-use half_edge_mesh::FaceHandle;
+use delaunay_interface::half_edge_mesh::FaceHandle;
 use std::io;
 
 fn count_elements<T: Triangulation>(points: &T) -> [usize; 5] {

@@ -1,10 +1,10 @@
 //! The vertices of hints, against a look at each vertex.
 
 use crate::positions::{distance_2, positions_of};
-use delaunay_core::HintGenerator;
-use delaunay_core::math::validate_vertex;
-use delaunay_core::point::Point2;
 use delaunay_interface::Triangulation;
+use delaunay_interface::delaunay_core::HintGenerator;
+use delaunay_interface::delaunay_core::math::validate_vertex;
+use delaunay_interface::delaunay_core::point::Point2;
 use exact_predicates::ExactTests;
 use std::alloc::{AllocError, Global};
 use test_points::TaggedVertex;

@@ -1,14 +1,14 @@
 //! Where points are, by the indexes of vertices.
-ghost use Rattle.delaunay_edit.specs.Elements.{HasElement};
+ghost use Rattle.delaunay_interface.specs.delaunay_edit.Elements.{HasElement};
 
 use crate::elements::corners_of;
 use crate::positions::distance_2;
-use delaunay_core::HintGenerator;
-use delaunay_core::math::validate_vertex;
-use delaunay_core::point::Point2;
+use delaunay_interface::delaunay_core::HintGenerator;
+use delaunay_interface::delaunay_core::math::validate_vertex;
+use delaunay_interface::delaunay_core::point::Point2;
+use delaunay_interface::half_edge_mesh::FixedVertexHandle;
 use delaunay_interface::{PositionInTriangulation, Triangulation};
 use exact_predicates::ExactTests;
-use half_edge_mesh::FixedVertexHandle;
 use std::io;
 use test_points::{Plain, TaggedVertex, ends_of, vertex_of};
 use test_reader::Call;

@@ -1,7 +1,7 @@
 //! Where vertices are, and how far from each other.
 
-use delaunay_core::point::Point2;
 use delaunay_interface::Triangulation;
+use delaunay_interface::delaunay_core::point::Point2;
 use std::alloc::{AllocError, Global};
 use test_points::TaggedVertex;
 

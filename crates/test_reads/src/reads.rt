@@ -7,9 +7,11 @@ use crate::lasts::print_three;
 use crate::layers::{hint, right_and_wrong};
 use crate::locations::{found_from_all, locate, locate_vertex};
 use crate::triples::counts_of_triples;
-use delaunay_core::point::{Point2, SpadeNum};
 use delaunay_interface::Triangulation;
-use half_edge_mesh::{FixedDirectedEdgeHandle, FixedFaceHandle, FixedVertexHandle};
+use delaunay_interface::delaunay_core::point::{Point2, SpadeNum};
+use delaunay_interface::half_edge_mesh::{
+    FixedDirectedEdgeHandle, FixedFaceHandle, FixedVertexHandle,
+};
 use std::io;
 use test_points::{TaggedVertex, vertex_of};
 use test_reader::Call;

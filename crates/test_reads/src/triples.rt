@@ -2,8 +2,8 @@
 //! whose circle neither contains nor carries a further vertex is a face.
 
 use crate::positions::positions_of;
-use delaunay_core::point::Point2;
 use delaunay_interface::Triangulation;
+use delaunay_interface::delaunay_core::point::Point2;
 use std::alloc::{AllocError, Global};
 use test_points::TaggedVertex;
 

@@ -1,21 +1,21 @@
 //! What a triangulation gives in shapes, against a look at each edge and vertex.
 ghost use Rattle.std.specs.Prelude.{All};
-ghost use Rattle.plane.specs.Tests.{InRange};
-ghost use Rattle.delaunay_legalization.specs.Shape.{IsTriangulated};
-ghost use Rattle.delaunay_legalization.specs.State.{state_of};
+ghost use Rattle.delaunay_interface.specs.plane.Tests.{InRange};
+ghost use Rattle.delaunay_interface.specs.delaunay_legalization.Shape.{IsTriangulated};
+ghost use Rattle.delaunay_interface.specs.delaunay_legalization.State.{state_of};
 ghost use Rattle.test_points.specs.Vertices.{position_of};
 
 use crate::counting::counting_rectangle;
 use crate::shapes::{Found, edges_of, found_in_circle, found_in_rectangle, listed};
-use delaunay_core::point::Point2;
 use delaunay_interface::Triangulation;
+use delaunay_interface::delaunay_core::point::Point2;
+use delaunay_interface::half_edge_mesh::{Dcel, FixedVertexHandle};
 use delaunay_shape_queries::FloatTriangulation;
 use delaunay_shapes::{
     CircleMetric, DistanceMetric, RectangleMetric, edges_by_filter, edges_in_shape,
     vertices_by_filter,
 };
 use exact_predicates::ExactTests;
-use half_edge_mesh::{Dcel, FixedVertexHandle};
 use std::alloc::Global;
 use test_points::{TaggedVertex, both_in_range, circle_in_range};
 

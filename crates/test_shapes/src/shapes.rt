@@ -1,7 +1,7 @@
 //! What a triangulation gives in rectangles and circles: nothing where a point is out of range, a
 //! squared radius is negative, or memory was refused.
 
-use delaunay_core::point::Point2;
+use delaunay_interface::delaunay_core::point::Point2;
 use delaunay_shape_queries::FloatTriangulation;
 use delaunay_shapes::{EdgesInShapeIterator, VerticesInShapeIterator};
 use exact_predicates::ExactTests;

@@ -5,9 +5,9 @@ use crate::drawing::Drawing;
 use crate::filter::is_in_order;
 use crate::items::{Item, within_hint};
 use crate::segment::Segment;
-use delaunay_core::HintGenerator;
+use delaunay_interface::delaunay_core::HintGenerator;
+use delaunay_interface::half_edge_mesh::DirectedEdgeHandle;
 use exact_predicates::ExactTests;
-use half_edge_mesh::DirectedEdgeHandle;
 use std::alloc::Global;
 use test_points::{Constrained, both, both_in_range, ends_of};
 

@@ -1,9 +1,9 @@
 //! A triangulation drawn: where its vertices are, and which of them its edges join.
 
 use crate::segment::Segment;
-use delaunay_core::point::Point2;
 use delaunay_interface::Triangulation;
-use delaunay_legalization::CdtEdge;
+use delaunay_interface::delaunay_core::point::Point2;
+use delaunay_interface::delaunay_legalization::CdtEdge;
 use std::alloc::{AllocError, Global};
 use test_points::{TaggedVertex, ends_of};
 

@@ -3,7 +3,7 @@
 use crate::drawing::Drawing;
 use crate::items::Item;
 use crate::segment::{Progress, Segment};
-use delaunay_core::point::Point2;
+use delaunay_interface::delaunay_core::point::Point2;
 
 // Where a segment begins to meet an item that it meets.
 fn beginning(drawing: &Drawing, segment: Segment, item: Item) -> Option<Progress> {

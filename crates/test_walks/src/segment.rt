@@ -1,6 +1,6 @@
 //! What a segment meets, by determinants. Nothing wraps at coordinates in range.
 
-use delaunay_core::point::Point2;
+use delaunay_interface::delaunay_core::point::Point2;
 
 /// A segment from one point to another, which may be one.
 #[derive(Clone, Copy)]

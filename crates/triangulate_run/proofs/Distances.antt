@@ -8,15 +8,15 @@ use Rattle.std.proofs.lemmas.Bool.{cases_lt}
 use Rattle.std.proofs.lemmas.Int.{ints}
 use Rattle.std.proofs.lemmas.List.{length-map}
 use Rattle.std.proofs.lemmas.List.Elements.{All-get_or}
-use Rattle.plane.specs.Fraction.{Point, whole}
-use Rattle.plane.specs.Circle.{gap}
-use Rattle.plane.specs.Shape.{IsNearest}
-use Rattle.plane.specs.Tests.{InRange}
-use Rattle.plane.specs.Pairs.{place as at}
-use Rattle.plane.specs.Tiling.{Triangulation}
-use Rattle.plane.proofs.Signs.{less_without_ones}
-use Rattle.delaunay_core.specs.declared.point.Point2.{Point2}
-use Rattle.delaunay_legalization.specs.Known.{point_at}
+use Rattle.delaunay_edit.specs.plane.Fraction.{Point, whole}
+use Rattle.delaunay_edit.specs.plane.Circle.{gap}
+use Rattle.delaunay_edit.specs.plane.Shape.{IsNearest}
+use Rattle.delaunay_edit.specs.plane.Tests.{InRange}
+use Rattle.delaunay_edit.specs.plane.Pairs.{place as at}
+use Rattle.delaunay_edit.specs.plane.Tiling.{Triangulation}
+use Rattle.delaunay_edit.proofs.plane.Signs.{less_without_ones}
+use Rattle.delaunay_edit.specs.delaunay_core.declared.point.Point2.{Point2}
+use Rattle.delaunay_edit.specs.delaunay_legalization.Known.{point_at}
 use Rattle.delaunay_edit.proofs.Removing.{read_place}
 use Rattle.triangulate_run.specs.declared.points.SheetPoint.{SheetPoint}
 use Rattle.triangulate_run.specs.Points.{place, nowhere, IsListed}

@@ -4,11 +4,11 @@ use Rattle.std.proofs.Common.{◌≡◌, ℕ, ◌<◌, Bool, true, List, [], ◌
 use Rattle.std.specs.Prelude.{pos}
 use Rattle.std.specs.Ordering.{int_eq}
 use Rattle.std.proofs.lemmas.Bool.Decides.{Decides-int_eq}
-use Rattle.plane.specs.Fraction.{Point, whole}
-use Rattle.plane.specs.Side.{side, on}
-use Rattle.plane.proofs.Bracket.{bracket, bracketᵖ, lift, liftᵖ}
-use Rattle.plane.proofs.Sides.{on_if}
-use Rattle.plane.proofs.Solver.{num, ring_in}
+use Rattle.delaunay_edit.specs.plane.Fraction.{Point, whole}
+use Rattle.delaunay_edit.specs.plane.Side.{side, on}
+use Rattle.delaunay_edit.proofs.plane.Bracket.{bracket, bracketᵖ, lift, liftᵖ}
+use Rattle.delaunay_edit.proofs.plane.Sides.{on_if}
+use Rattle.delaunay_edit.proofs.plane.Solver.{num, ring_in}
 use Rattle.triangulate_run.specs.declared.points.SheetPoint.{SheetPoint}
 use Rattle.triangulate_run.specs.Points.{point_in}
 use Rattle.triangulate_run.proofs.Rule.{all_below, all_below_at, SidesAreTrue, CirclesAreTrue}

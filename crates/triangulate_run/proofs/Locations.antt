@@ -3,14 +3,14 @@
 -- located.
 use Rattle.std.proofs.Common.{◌≡◌, ◌≢◌, ◌≤◌, ◌<◌}
 use Rattle.std.proofs.Common.{List, ℕ, inl, inr, length, arith, sym, cond, ltb, lt-ltb, le-ltb}
-use Rattle.plane.specs.Fraction.{Point, whole, Fraction, IsPositive}
+use Rattle.delaunay_edit.specs.plane.Fraction.{Point, whole, Fraction, IsPositive}
 use Rattle.std.proofs.lemmas.Bool.{cases_lt}
-use Rattle.plane.specs.Pairs.{EachPairOnce}
-use Rattle.plane.specs.Tiling.{Triangulation, IsEdge, IsTiling, vertex}
-use Rattle.plane.specs.Location.{IsLocation, on_edge, on_face}
-use Rattle.plane.proofs.Means.{turned_mean_of_two}
-use Rattle.plane.proofs.Triangles.{turned_inside, turned_face}
-use Rattle.plane_segments.proofs.Items.Begins.{edge_flipped}
+use Rattle.delaunay_edit.specs.plane.Pairs.{EachPairOnce}
+use Rattle.delaunay_edit.specs.plane.Tiling.{Triangulation, IsEdge, IsTiling, vertex}
+use Rattle.delaunay_edit.specs.plane.Location.{IsLocation, on_edge, on_face}
+use Rattle.delaunay_edit.proofs.plane.Means.{turned_mean_of_two}
+use Rattle.delaunay_edit.proofs.plane.Triangles.{turned_inside, turned_face}
+use Rattle.delaunay_edit.proofs.plane_segments.Items.Begins.{edge_flipped}
 use Rattle.triangulate_run.specs.Corners.{least_first}
 use Rattle.triangulate_run.specs.Answer.{AreSoMany, IsThere, MayLocate}
 use Rattle.triangulate_run.specs.Points.{IsListed}

@@ -10,15 +10,15 @@ use Rattle.std.specs.Bool.{◌==◌}
 use Rattle.std.proofs.lemmas.Bool.{cases_eq, eqb-true, eqb-false}
 use Rattle.std.proofs.lemmas.List.{nil_from_length}
 use Rattle.std.proofs.lemmas.List.Elements.{All-nil, All-cons}
-use Rattle.plane.specs.Fraction.{Point}
-use Rattle.plane.specs.Plain.{Plain, CanAdd, AreNeighboursOn}
-use Rattle.plane_segments.specs.Constraints.{AreNextOn}
-use Rattle.half_edge_mesh.specs.Mesh.{Mesh, origin, rev}
-use Rattle.delaunay_core.specs.declared.point.Point2.{Point2}
-use Rattle.delaunay_core.specs.declared.math.InsertionError.TheVariants.{OutOfMemory}
-use Rattle.delaunay_legalization.specs.declared.cdt_edge.CdtEdge.{CdtEdge}
-use Rattle.delaunay_legalization.specs.State.{State}
-use Rattle.delaunay_paths.specs.PathEdges.{LeadAlong}
+use Rattle.delaunay_edit.specs.plane.Fraction.{Point}
+use Rattle.delaunay_edit.specs.plane.Plain.{Plain, CanAdd, AreNeighboursOn}
+use Rattle.delaunay_edit.specs.plane_segments.Constraints.{AreNextOn}
+use Rattle.delaunay_edit.specs.half_edge_mesh.Mesh.{Mesh, origin, rev}
+use Rattle.delaunay_edit.specs.delaunay_core.declared.point.Point2.{Point2}
+use Rattle.delaunay_edit.specs.delaunay_core.declared.math.InsertionError.TheVariants.{OutOfMemory}
+use Rattle.delaunay_edit.specs.delaunay_legalization.declared.cdt_edge.CdtEdge.{CdtEdge}
+use Rattle.delaunay_edit.specs.delaunay_legalization.State.{State}
+use Rattle.delaunay_edit.specs.delaunay_paths.PathEdges.{LeadAlong}
 use Rattle.delaunay_edit.specs.Constrained.{constrained, constraint_edges}
 use Rattle.delaunay_edit.specs.ConstraintEdits.{AddsPathIfFree}
 use Rattle.triangulate_run.specs.declared.reply.Reply.TheVariants.{NoPath, Refused}

@@ -7,12 +7,12 @@ use Rattle.std.proofs.Common.{inr, IsTrue, sym}
 use Rattle.std.specs.Prelude.{pos, int_lt}
 use Rattle.std.proofs.lemmas.Bool.{and_parts, cases_eq}
 use Rattle.std.specs.Bool.{beq}
-use Rattle.plane.specs.Fraction.{whole}
-use Rattle.plane.specs.Side.{Side, side, left, right, on, TurnsLeft}
-use Rattle.plane.specs.Circle.{InsideCircle}
-use Rattle.plane.specs.Laws.{lifted_determinant}
-use Rattle.plane.proofs.Circles.{inside_is_determinant}
-use Rattle.plane.proofs.Sides.{less_by_test, test_true}
+use Rattle.delaunay_edit.specs.plane.Fraction.{whole}
+use Rattle.delaunay_edit.specs.plane.Side.{Side, side, left, right, on, TurnsLeft}
+use Rattle.delaunay_edit.specs.plane.Circle.{InsideCircle}
+use Rattle.delaunay_edit.specs.plane.Laws.{lifted_determinant}
+use Rattle.delaunay_edit.proofs.plane.Circles.{inside_is_determinant}
+use Rattle.delaunay_edit.proofs.plane.Sides.{less_by_test, test_true}
 use Rattle.triangulate_run.specs.declared.points.SheetPoint.{SheetPoint}
 use Rattle.triangulate_run.specs.declared.circles.Circle.{Circle}
 use Rattle.triangulate_run.specs.Points.{point_in, is_site_in}

@@ -2,12 +2,12 @@
 -- Lemmas: stage_taken, fits, joins_there, answered_so, walks_there.
 use Rattle.std.proofs.Common.{◌≡◌, List, map, refl, ap, subst}
 use Rattle.std.specs.Prelude.{ℕ, ℤ}
-use Rattle.plane.specs.Plain.{Unconstrains}
-use Rattle.plane.specs.Tiling.{Triangulation}
-use Rattle.mesh_embedding.specs.Drawn.{drawn}
-use Rattle.delaunay_core.specs.declared.point.Point2.{Point2}
-use Rattle.delaunay_legalization.specs.declared.cdt_edge.CdtEdge.{CdtEdge}
-use Rattle.delaunay_legalization.specs.State.{State, points_and_constraints}
+use Rattle.delaunay_edit.specs.plane.Plain.{Unconstrains}
+use Rattle.delaunay_edit.specs.plane.Tiling.{Triangulation}
+use Rattle.delaunay_edit.specs.mesh_embedding.Drawn.{drawn}
+use Rattle.delaunay_edit.specs.delaunay_core.declared.point.Point2.{Point2}
+use Rattle.delaunay_edit.specs.delaunay_legalization.declared.cdt_edge.CdtEdge.{CdtEdge}
+use Rattle.delaunay_edit.specs.delaunay_legalization.State.{State, points_and_constraints}
 use Rattle.delaunay_edit.specs.Constrained.{none, constrained, constraint_edges}
 use Rattle.delaunay_edit.specs.Data.{HasOtherEdgeData}
 use Rattle.delaunay_edit.specs.Headline.{IsWellFormed}

@@ -1,7 +1,7 @@
 -- The tables of the sheets pass the tests.
 -- Lemmas: g_sides, g_circles, b_sides, b_circles, l_sides, l_circles, x_sides, x_circles, r_level.
 use Rattle.std.proofs.Common.{◌≡◌, true, refl}
-use Rattle.plane.specs.Side.{side}
+use Rattle.delaunay_edit.specs.plane.Side.{side}
 use Rattle.triangulate_run.specs.declared.table.TheConstants.{G_POINTS, B_POINTS, R_POINTS}
 use Rattle.triangulate_run.specs.declared.table.TheConstants.{L_POINTS, X_POINTS, GRID_CIRCLES}
 use Rattle.triangulate_run.specs.declared.table.TheConstants.{L_CIRCLES, X_CIRCLES}

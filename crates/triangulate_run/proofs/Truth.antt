@@ -1,9 +1,9 @@
 -- The answers of the sheets are true.
 -- Lemmas: side_from, inside_from.
 use Rattle.std.proofs.Common.{◌≡◌, ℕ, Bool, List, ap, ◌∙◌, IsTrue, ◌↔◌}
-use Rattle.plane.specs.Fraction.{Point, whole}
-use Rattle.plane.specs.Side.{Side, side, TurnsLeft}
-use Rattle.plane.specs.Circle.{InsideCircle}
+use Rattle.delaunay_edit.specs.plane.Fraction.{Point, whole}
+use Rattle.delaunay_edit.specs.plane.Side.{Side, side, TurnsLeft}
+use Rattle.delaunay_edit.specs.plane.Circle.{InsideCircle}
 use Rattle.triangulate_run.specs.declared.sheet.Sheet.{Sheet}
 use Rattle.triangulate_run.specs.declared.sheet.Sheet.TheVariants.{G, B, R, L, X}
 use Rattle.triangulate_run.specs.declared.circles.Circle.{Circle}

@@ -7,12 +7,12 @@ use Rattle.std.proofs.Common.{append-nil}
 use Rattle.std.specs.Prelude.{ℤ, codes}
 use Rattle.std.specs.List.{flat_map}
 use Rattle.std.proofs.lemmas.Grind.{flat_map-append}
-use Rattle.plane.specs.Fraction.{Point}
-use Rattle.plane.specs.Line.{Item}
-use Rattle.delaunay_lines.specs.declared.intersection.Intersection.{Intersection}
-use Rattle.delaunay_lines.specs.declared.iterator.LineIntersectionIterator.{LineIntersectionIterator}
-use Rattle.delaunay_lines.specs.Items.{item_in}
-use Rattle.delaunay_lines.specs.Walk.{AreLeft, GivesNext}
+use Rattle.delaunay_edit.specs.plane.Fraction.{Point}
+use Rattle.delaunay_edit.specs.plane.Line.{Item}
+use Rattle.delaunay_edit.specs.delaunay_lines.declared.intersection.Intersection.{Intersection}
+use Rattle.delaunay_edit.specs.delaunay_lines.declared.iterator.LineIntersectionIterator.{LineIntersectionIterator}
+use Rattle.delaunay_edit.specs.delaunay_lines.Items.{item_in}
+use Rattle.delaunay_edit.specs.delaunay_lines.Walk.{AreLeft, GivesNext}
 use Rattle.triangulate_run.specs.Output.{AppendsPart, Sends}
 use Rattle.triangulate_run.specs.Reply.{item_text, line_text, next_text}
 use Rattle.triangulate_run.proofs.OutputLemmas.{passes_nil, passes_more, passes_part, part_longer}

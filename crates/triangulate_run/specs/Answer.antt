@@ -1,20 +1,21 @@
 -- Which reply a command may get, and what it makes of the stage.
 use Rattle.std.specs.Prelude.{◌≡◌, ◌≢◌, ◌⊎◌, ◌↔◌, ◌<◌, ◌+◌, ◌*◌, [], ◌∷◌}
 use Rattle.std.specs.Prelude.{ℕ, ℤ, List, Some, length, slice_get, All, AllPairs, Contains, ⊤}
-use Rattle.plane.specs.Fraction.{Point, whole}
-use Rattle.plane.specs.Line.{Item, IsLineList}
-use Rattle.plane.specs.Pairs.{Joins, SamePairs, EachPairOnce}
-use Rattle.plane.specs.Plain.{Replaces, Appends, Removes, Adds, CanAdd, Releases, AreNeighboursOn}
-use Rattle.plane.specs.Plain.{DifferInPosition, points_of}
-use Rattle.plane.specs.Tests.{InRange}
-use Rattle.plane.specs.Circle.{gap}
-use Rattle.plane.specs.Shape.{IsNearest}
-use Rattle.plane.specs.Tiling.{Triangulation, IsEdge, IsFace, IsVertex, vertex}
-use Rattle.plane.specs.Location.{IsLocation, on_vertex, on_edge, on_face, outside_hull}
-use Rattle.plane.specs.Location.{no_triangulation}
-use Rattle.delaunay_core.specs.declared.point.Point2.{Point2}
-use Rattle.delaunay_core.specs.declared.math.InsertionError.TheVariants.{TooLarge, OutOfMemory}
-use Rattle.delaunay_core.specs.declared.math.InsertionError.TheVariants.{OutOfIndexes}
+use Rattle.delaunay_edit.specs.plane.Fraction.{Point, whole}
+use Rattle.delaunay_edit.specs.plane.Line.{Item, IsLineList}
+use Rattle.delaunay_edit.specs.plane.Pairs.{Joins, SamePairs, EachPairOnce}
+use Rattle.delaunay_edit.specs.plane.Plain.{Replaces, Appends, Removes, Adds, CanAdd, Releases}
+use Rattle.delaunay_edit.specs.plane.Plain.{AreNeighboursOn, DifferInPosition, points_of}
+use Rattle.delaunay_edit.specs.plane.Tests.{InRange}
+use Rattle.delaunay_edit.specs.plane.Circle.{gap}
+use Rattle.delaunay_edit.specs.plane.Shape.{IsNearest}
+use Rattle.delaunay_edit.specs.plane.Tiling.{Triangulation, IsEdge, IsFace, IsVertex, vertex}
+use Rattle.delaunay_edit.specs.plane.Location.{IsLocation, on_vertex, on_edge, on_face}
+use Rattle.delaunay_edit.specs.plane.Location.{outside_hull, no_triangulation}
+use Rattle.delaunay_edit.specs.delaunay_core.declared.point.Point2.{Point2}
+use Rattle.delaunay_edit.specs.delaunay_core.declared.math.InsertionError.TheVariants.{TooLarge}
+use Rattle.delaunay_edit.specs.delaunay_core.declared.math.InsertionError.TheVariants.{OutOfMemory}
+use Rattle.delaunay_edit.specs.delaunay_core.declared.math.InsertionError.TheVariants.{OutOfIndexes}
 use Rattle.triangulate_grammar.specs.declared.command.Coordinates.{Coordinates}
 use Rattle.triangulate_grammar.specs.declared.command.Command.{Command}
 use Rattle.triangulate_grammar.specs.declared.command.Command.TheVariants.{Insert, Remove, Constrain}

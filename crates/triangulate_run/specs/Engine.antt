@@ -1,10 +1,10 @@
 -- The stage of a triangulation of points, and what it needs to answer commands.
 use Rattle.std.specs.Prelude.{◌≡◌, ℕ, ℤ, true, List, All, map}
-use Rattle.plane.specs.Fraction.{Point}
-use Rattle.half_edge_mesh.specs.Mesh.{Mesh, origin, rev}
-use Rattle.delaunay_core.specs.declared.point.Point2.{Point2}
-use Rattle.delaunay_legalization.specs.Constraints.{points_and_constraints_by}
-use Rattle.delaunay_legalization.specs.State.{State, triangulation_of}
+use Rattle.delaunay_edit.specs.plane.Fraction.{Point}
+use Rattle.delaunay_edit.specs.half_edge_mesh.Mesh.{Mesh, origin, rev}
+use Rattle.delaunay_edit.specs.delaunay_core.declared.point.Point2.{Point2}
+use Rattle.delaunay_edit.specs.delaunay_legalization.Constraints.{points_and_constraints_by}
+use Rattle.delaunay_edit.specs.delaunay_legalization.State.{State, triangulation_of}
 use Rattle.delaunay_edit.specs.Constrained.{none, constraint_edges}
 use Rattle.triangulate_run.specs.declared.engine.Either.{Either}
 use Rattle.triangulate_run.specs.declared.engine.Either.TheVariants.{Plain, Constrained}

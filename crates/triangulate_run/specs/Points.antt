@@ -1,7 +1,7 @@
 -- A list of points, some of them sites.
 use Rattle.std.specs.Prelude.{◌≡◌, ℕ, ◌<◌, pos, Bool, true, false, List, length, get_or}
-use Rattle.plane.specs.Fraction.{Point}
-use Rattle.delaunay_core.specs.Place.{place_of}
+use Rattle.delaunay_edit.specs.plane.Fraction.{Point}
+use Rattle.delaunay_edit.specs.delaunay_core.Place.{place_of}
 use Rattle.triangulate_run.specs.declared.points.SheetPoint.{SheetPoint}
 
 -- the point of the plane that a listed point is

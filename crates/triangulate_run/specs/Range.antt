@@ -3,8 +3,8 @@ use Rattle.std.specs.Prelude.{◌≡◌, ◌&&◌, [], ◌∷◌, ◌≤ℤ◌}
 use Rattle.std.specs.Prelude.{ℕ, zero, suc, ℤ, negsuc, Bool, true, List, int_le, T}
 use Rattle.std.proofs.Common.{refl, sym, subst}
 use Rattle.std.proofs.lemmas.Bool.{and_parts}
-use Rattle.plane.specs.Fraction.{Point}
-use Rattle.plane.specs.Tests.{limit, IsCoordinate, InRange}
+use Rattle.delaunay_edit.specs.plane.Fraction.{Point}
+use Rattle.delaunay_edit.specs.plane.Tests.{limit, IsCoordinate, InRange}
 use Rattle.triangulate_run.specs.declared.sheet.Sheet.{Sheet}
 use Rattle.triangulate_run.specs.declared.sheet.Sheet.TheVariants.{G, B, R, L, X}
 use Rattle.triangulate_run.specs.declared.points.SheetPoint.{SheetPoint}

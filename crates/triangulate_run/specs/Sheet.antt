@@ -1,6 +1,6 @@
 -- The sheets: their points, and the tables of their answers.
 use Rattle.std.specs.Prelude.{ℕ, zero, suc, ℤ, pos, neg_ℤ, ◌+ℤ◌, true, false, List, [], ◌∷◌, codes}
-use Rattle.plane.specs.Fraction.{Point}
+use Rattle.delaunay_edit.specs.plane.Fraction.{Point}
 use Rattle.triangulate_run.specs.declared.sheet.Sheet.{Sheet}
 use Rattle.triangulate_run.specs.declared.sheet.Sheet.TheVariants.{G, B, R, L, X}
 use Rattle.triangulate_run.specs.declared.points.SheetPoint.{SheetPoint}

@@ -1,12 +1,12 @@
 -- What stands between two lines: the vertices and constraints so far, and a triangulation of them.
 use Rattle.std.specs.Prelude.{◌≡◌, ℕ, ℤ, [], map}
-use Rattle.plane.specs.Fraction.{Point}
-use Rattle.plane.specs.Plain.{Plain, IsPlain}
-use Rattle.plane.specs.Tiling.{Triangulation, IsFace}
-use Rattle.plane.specs.Delaunay.{IsConstrainedDelaunay, IsStrictlyEmpty}
-use Rattle.plane_delaunay.specs.History.{IsHistoryFree}
-use Rattle.delaunay_core.specs.declared.point.Point2.{Point2}
-use Rattle.delaunay_core.specs.Place.{place_of}
+use Rattle.delaunay_edit.specs.plane.Fraction.{Point}
+use Rattle.delaunay_edit.specs.plane.Plain.{Plain, IsPlain}
+use Rattle.delaunay_edit.specs.plane.Tiling.{Triangulation, IsFace}
+use Rattle.delaunay_edit.specs.plane.Delaunay.{IsConstrainedDelaunay, IsStrictlyEmpty}
+use Rattle.delaunay_edit.specs.plane_delaunay.History.{IsHistoryFree}
+use Rattle.delaunay_edit.specs.delaunay_core.declared.point.Point2.{Point2}
+use Rattle.delaunay_edit.specs.delaunay_core.Place.{place_of}
 
 -- where a vertex is, which is a point and no more
 abbrev pub position : Point2 ℤ → Point

@@ -2,7 +2,7 @@
 -- three other orders turn right, and the rest is on.
 use Rattle.std.specs.Prelude.{ℕ, ◌==◌, Bool, false, ◌&&◌, ◌||◌, if◌then◌else◌, List, get_or}
 use Rattle.std.specs.List.{list_any}
-use Rattle.plane.specs.Side.{Side, left, right, on}
+use Rattle.delaunay_edit.specs.plane.Side.{Side, left, right, on}
 use Rattle.triangulate_run.specs.declared.circles.Circle.{Circle}
 
 -- the triple t is i, j, k in this order

@@ -3,7 +3,7 @@ ghost use Rattle.std.specs.Prelude.{◌≡◌, false, get_or};
 ghost use Rattle.triangulate_run.specs.Table.{is_triple, is_turned, lists, is_left_in, side_in};
 ghost use Rattle.triangulate_run.specs.Table.{is_inside_in};
 
-use delaunay_core::line_side_info::LineSideInfo;
+use delaunay_edit::delaunay_core::line_side_info::LineSideInfo;
 
 /// Left-turning triples on one circle, and a mark for each point inside it; or triples with a point
 /// that is no site, whose circles are never asked for, and no mark.

@@ -1,7 +1,7 @@
 //! Constraints that are added and released.
 ghost use Rattle.std.specs.Prelude.{◌≡◌, ◌<◌, ℕ, List, false, length, All};
 ghost use Rattle.std.specs.List.{flat_map};
-ghost use Rattle.half_edge_mesh.specs.Mesh.{origin, rev};
+ghost use Rattle.delaunay_edit.specs.half_edge_mesh.Mesh.{origin, rev};
 ghost use Rattle.triangulate_watched.specs.Watched.{has_failed};
 ghost use Rattle.delaunay_edit.specs.Constrained.{none, constraint_edges};
 ghost use Rattle.triangulate_run.specs.Answer.{MayJoin, MayRelease};

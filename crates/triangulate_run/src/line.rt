@@ -1,12 +1,12 @@
 //! What the way from one point to another meets.
 ghost use Rattle.std.specs.Prelude.{◌≡◌, ◌++◌, ℕ, List, false};
 ghost use Rattle.std.specs.List.{flat_map};
-ghost use Rattle.half_edge_mesh.specs.Mesh.{origin, rev};
+ghost use Rattle.delaunay_edit.specs.half_edge_mesh.Mesh.{origin, rev};
 ghost use Rattle.triangulate_watched.specs.Watched.{has_failed};
-ghost use Rattle.plane.specs.Line.{Item};
-ghost use Rattle.delaunay_legalization.specs.State.{triangulation_of};
-ghost use Rattle.delaunay_lines.specs.Items.{item_in};
-ghost use Rattle.delaunay_lines.specs.Walk.{AreLeft, IsReady};
+ghost use Rattle.delaunay_edit.specs.plane.Line.{Item};
+ghost use Rattle.delaunay_edit.specs.delaunay_legalization.State.{triangulation_of};
+ghost use Rattle.delaunay_edit.specs.delaunay_lines.Items.{item_in};
+ghost use Rattle.delaunay_edit.specs.delaunay_lines.Walk.{AreLeft, IsReady};
 ghost use Rattle.triangulate_run.specs.Answer.{MayWalk};
 ghost use Rattle.triangulate_run.specs.Engine.{stage_by, IsStageReady};
 ghost use Rattle.triangulate_run.specs.Output.{Writes, Puts};

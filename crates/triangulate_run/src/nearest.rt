@@ -1,8 +1,8 @@
 //! How far the nearest vertex is.
 ghost use Rattle.std.specs.Prelude.{◌≡◌, ◌⊎◌, ◌≤ℤ◌, length, All, MatchOption};
-ghost use Rattle.plane.specs.Tests.{InRange};
+ghost use Rattle.delaunay_edit.specs.plane.Tests.{InRange};
 ghost use Rattle.delaunay_edit.specs.Constrained.{none};
-ghost use Rattle.delaunay_legalization.specs.State.{triangulation_of};
+ghost use Rattle.delaunay_edit.specs.delaunay_legalization.State.{triangulation_of};
 ghost use Rattle.triangulate_run.specs.Answer.{IsVertexDistance, MayMeasure};
 ghost use Rattle.triangulate_run.specs.Engine.{stage_by, IsStageReady};
 ghost use Rattle.triangulate_run.specs.Points.{place};

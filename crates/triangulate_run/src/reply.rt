@@ -10,7 +10,7 @@ ghost use Rattle.triangulate_run.specs.declared.reply.Reply.TheVariants.{Counts}
 use crate::corners::Corners;
 use crate::output::{Held, put_pieces, write_all};
 use crate::piece::Piece;
-use delaunay_core::math::InsertionError;
+use delaunay_edit::delaunay_core::math::InsertionError;
 use std::io::Write;
 use triangulate_watched::{Failed, Watched};
 

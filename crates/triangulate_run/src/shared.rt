@@ -1,12 +1,12 @@
 //! Replies that a plain and a constrained triangulation give alike.
 ghost use Rattle.std.specs.Prelude.{◌≡◌, ◌<◌, IfOk, MatchOption, nat_lt, if◌then◌else◌};
-ghost use Rattle.plane.specs.Fraction.{Point, whole};
-ghost use Rattle.plane.specs.Location.{IsLocation};
-ghost use Rattle.plane.specs.Tiling.{IsTiling};
+ghost use Rattle.delaunay_edit.specs.plane.Fraction.{Point, whole};
+ghost use Rattle.delaunay_edit.specs.plane.Location.{IsLocation};
+ghost use Rattle.delaunay_edit.specs.plane.Tiling.{IsTiling};
 ghost use Rattle.delaunay_edit.specs.Location.{location_of};
 ghost use Rattle.delaunay_edit.specs.Elements.{HasElement};
-ghost use Rattle.delaunay_legalization.specs.Constraints.{constraints_by};
-ghost use Rattle.delaunay_legalization.specs.State.{triangulation_of};
+ghost use Rattle.delaunay_edit.specs.delaunay_legalization.Constraints.{constraints_by};
+ghost use Rattle.delaunay_edit.specs.delaunay_legalization.State.{triangulation_of};
 ghost use Rattle.triangulate_run.specs.MeshFaces.{row_at};
 ghost use Rattle.triangulate_run.specs.Stage.{position};
 ghost use Rattle.triangulate_run.specs.Engine.{stage_by, HasSites, IsStageReady};

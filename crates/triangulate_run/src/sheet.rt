@@ -1,10 +1,10 @@
 //! The sheets of points that the program knows, with their answers.
 ghost use Rattle.std.specs.Prelude.{◌≡◌, ◌↔◌, [], ◌∷◌};
 ghost use Rattle.std.specs.Prelude.{true, All, IfSome, IfNone, IsTrue, map, string_bytes};
-ghost use Rattle.plane.specs.Fraction.{whole};
-ghost use Rattle.plane.specs.Side.{side, TurnsLeft};
-ghost use Rattle.plane.specs.Circle.{InsideCircle};
-ghost use Rattle.delaunay_core.specs.Place.{place_of};
+ghost use Rattle.delaunay_edit.specs.plane.Fraction.{whole};
+ghost use Rattle.delaunay_edit.specs.plane.Side.{side, TurnsLeft};
+ghost use Rattle.delaunay_edit.specs.plane.Circle.{InsideCircle};
+ghost use Rattle.delaunay_edit.specs.delaunay_core.Place.{place_of};
 ghost use Rattle.triangulate_run.specs.Points.{place, HoldsAt, IsSiteAt};
 ghost use Rattle.triangulate_run.specs.Sheet.{points_of, circles_of, letter_of, IsCovered, IsSite};
 ghost use Rattle.triangulate_run.specs.Range.{covered_in_range};
@@ -15,9 +15,9 @@ use crate::points::{SheetPoint, index_of, site_index_of};
 use crate::table::{
     B_POINTS, G_POINTS, GRID_CIRCLES, L_CIRCLES, L_POINTS, R_POINTS, X_CIRCLES, X_POINTS,
 };
-use delaunay_core::line_side_info::LineSideInfo;
-use delaunay_core::math::PlaneTests;
-use delaunay_core::point::Point2;
+use delaunay_edit::delaunay_core::line_side_info::LineSideInfo;
+use delaunay_edit::delaunay_core::math::PlaneTests;
+use delaunay_edit::delaunay_core::point::Point2;
 
 /// A sheet of points, by its letter. As tests it covers its points, and its answers stand in
 /// tables.

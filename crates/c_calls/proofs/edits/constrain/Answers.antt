@@ -1,4 +1,4 @@
-use Rattle.delaunay_legalization.proofs.Questions.{both_ways}
+use Rattle.delaunay_edit.proofs.delaunay_legalization_lemmas.Questions.{both_ways}
 use Rattle.c_calls.specs.Kept.{kept_place}
 use Rattle.c_calls.proofs.Edited.{is_added, is_not_added, is_crossing}
 use Rattle.c_calls.proofs.edits.constrain.Goals as goal

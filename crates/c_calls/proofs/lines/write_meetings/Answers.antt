@@ -1,6 +1,6 @@
 use Rattle.std.proofs.Common.{◌≡◌, ◌∙◌, ◌+◌, List, length, set, sym, ap, subst, arith}
-use Rattle.delaunay_legalization.specs.Constraints.{constraints_by}
-use Rattle.delaunay_legalization.specs.State.{state_of}
+use Rattle.delaunay_edit.specs.delaunay_legalization.Constraints.{constraints_by}
+use Rattle.delaunay_edit.specs.delaunay_legalization.State.{state_of}
 use Rattle.c_calls.specs.declared.raw.RawMeeting.{RawMeeting}
 use Rattle.c_calls.specs.Queries.{IsMeeting}
 use Rattle.c_calls.proofs.Telling.{all_told}

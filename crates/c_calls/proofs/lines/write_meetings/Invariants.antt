@@ -1,6 +1,6 @@
-use Rattle.delaunay_legalization.specs.Constraints.{constraints_by}
-use Rattle.delaunay_legalization.specs.State.{state_of}
-use Rattle.delaunay_lines.specs.Walk.{IsReady}
+use Rattle.delaunay_edit.specs.delaunay_legalization.Constraints.{constraints_by}
+use Rattle.delaunay_edit.specs.delaunay_legalization.State.{state_of}
+use Rattle.delaunay_edit.specs.delaunay_lines.Walk.{IsReady}
 use Rattle.c_calls.specs.Queries.{IsMeeting}
 use Rattle.c_calls.proofs.Walked.{IsToldOf}
 use Rattle.c_calls.proofs.lines.write_meetings.Given as goal

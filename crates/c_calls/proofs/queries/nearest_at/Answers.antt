@@ -1,8 +1,8 @@
 use Rattle.std.proofs.Common.{◌∙◌, ℕ, refl, sym, subst, inl, inr}
-use Rattle.delaunay_core.specs.Place.{place_of}
-use Rattle.delaunay_legalization.specs.State.{triangulation_of}
-use Rattle.plane.specs.Fraction.{whole}
-use Rattle.plane.specs.Shape.{IsNearest}
+use Rattle.delaunay_edit.specs.delaunay_core.Place.{place_of}
+use Rattle.delaunay_edit.specs.delaunay_legalization.State.{triangulation_of}
+use Rattle.delaunay_edit.specs.plane.Fraction.{whole}
+use Rattle.delaunay_edit.specs.plane.Shape.{IsNearest}
 use Rattle.c_calls.specs.Kept.{kept_place}
 use Rattle.c_calls.specs.Written.{plain_point}
 use Rattle.c_calls.proofs.queries.nearest_at.Goals as goal

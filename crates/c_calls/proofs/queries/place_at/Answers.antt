@@ -1,5 +1,5 @@
 use Rattle.std.proofs.Common.{subst}
-use Rattle.delaunay_core.specs.Place.{place_of}
+use Rattle.delaunay_edit.specs.delaunay_core.Place.{place_of}
 use Rattle.spade_delaunay.specs.Elements.{FindsLocation}
 use Rattle.c_calls.specs.Kept.{kept_place}
 use Rattle.c_calls.proofs.queries.place_at.Goals as goal

@@ -3,7 +3,7 @@ use Rattle.std.proofs.Common.{ℤ, w64, to_z, of_z}
 use Rattle.std.proofs.lemmas.Int.{to_z-of_z}
 use Rattle.std.specs.Vec.Iter.{into_iter_items}
 use Rattle.std.proofs.lemmas.List.Sorted.{IsNonDecreasingBy-from_sort_by_key, answers_always}
-use Rattle.plane.specs.Fraction.{Point}
+use Rattle.delaunay_interface.specs.plane.Fraction.{Point}
 use Rattle.delaunay_bulk.specs.Curve.{key_at}
 use Rattle.delaunay_bulk.specs.declared.order.Placed.{Placed}
 use Rattle.delaunay_bulk.proofs.Placing.{ArePlaced, one_placed, sorted_is_listed}

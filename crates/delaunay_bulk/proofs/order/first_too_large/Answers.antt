@@ -3,7 +3,7 @@ use Rattle.std.specs.Prelude.{All, take}
 use Rattle.std.proofs.Math.Seq.{take-length}
 use Rattle.std.proofs.lemmas.List.{take_more}
 use Rattle.std.proofs.lemmas.List.Elements.{All-push}
-use Rattle.plane.specs.Tests.{InRange}
+use Rattle.delaunay_interface.specs.plane.Tests.{InRange}
 use Rattle.delaunay_bulk.proofs.order.first_too_large.Goals as goal
 
 pub loop-place-preserved : goal.loop-place-preserved

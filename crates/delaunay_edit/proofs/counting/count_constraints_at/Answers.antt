@@ -1,7 +1,7 @@
 use Rattle.std.proofs.Common.{ℕ, ◌/◌, ◌∙◌, sym, ap, subst, arith}
 use Rattle.std.specs.Prelude.{Contains}
-use Rattle.half_edge_mesh.specs.Rounds.{GivesRound, out_edges_left}
-use Rattle.delaunay_legalization.proofs.Questions.{both_ways}
+use Rattle.delaunay_paths.specs.half_edge_mesh.Rounds.{GivesRound, out_edges_left}
+use Rattle.delaunay_paths.proofs.delaunay_legalization_lemmas.Questions.{both_ways}
 use Rattle.delaunay_edit.proofs.CountingAt.{counting_begins, next_at, counting_goes_past}
 use Rattle.delaunay_edit.proofs.CountingAt.{counting_goes_on, counting_ends}
 use Rattle.delaunay_edit.proofs.counting.count_constraints_at.Goals as goal

@@ -1,7 +1,7 @@
 use Rattle.std.proofs.Common.{◌≡◌, ℕ, ap, subst}
-use Rattle.plane.specs.Line.{at_vertex}
-use Rattle.delaunay_legalization.proofs.Questions.{both_ways}
-use Rattle.delaunay_lines.specs.Items.{item_in}
+use Rattle.delaunay_paths.specs.plane.Line.{at_vertex}
+use Rattle.delaunay_paths.proofs.delaunay_legalization_lemmas.Questions.{both_ways}
+use Rattle.delaunay_paths.specs.delaunay_lines.Items.{item_in}
 use Rattle.delaunay_edit.proofs.CountingWalk.{counting_along, counting_crosses, counting_goes_on}
 use Rattle.delaunay_edit.proofs.CountingWalk.{counting_goes_past, counting_path_begins}
 use Rattle.delaunay_edit.proofs.CountingWalk.{counting_stays, crossed_item, crossed_within}

@@ -1,7 +1,7 @@
 use Rattle.std.proofs.Common.{refl, sym, subst, inl, inr, arith, ℕ}
 use Rattle.std.specs.Prelude.{Contains}
 use Rattle.delaunay_edit.specs.Location.{HasHandle}
-use Rattle.delaunay_legalization.proofs.Questions.{both_ways}
+use Rattle.delaunay_paths.proofs.delaunay_legalization_lemmas.Questions.{both_ways}
 use Rattle.delaunay_edit.specs.Counting.{IsSplitCount}
 use Rattle.delaunay_edit.proofs.counting.count_split.Goals as goal
 

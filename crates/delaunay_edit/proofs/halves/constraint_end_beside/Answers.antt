@@ -1,7 +1,7 @@
 use Rattle.std.proofs.Common.{ℕ, ◌∙◌, sym, ap, subst, arith}
-use Rattle.half_edge_mesh.specs.Mesh.{origin, rev}
-use Rattle.half_edge_mesh.specs.Rounds.{GivesRound, out_edges_left}
-use Rattle.delaunay_legalization.proofs.Questions.{both_ways}
+use Rattle.delaunay_paths.specs.half_edge_mesh.Mesh.{origin, rev}
+use Rattle.delaunay_paths.specs.half_edge_mesh.Rounds.{GivesRound, out_edges_left}
+use Rattle.delaunay_paths.proofs.delaunay_legalization_lemmas.Questions.{both_ways}
 use Rattle.delaunay_edit.specs.Halves.{LeadsBeside}
 use Rattle.delaunay_edit.proofs.SeekingEnds.{seeking_begins, seeking_ends, seeking_finds}
 use Rattle.delaunay_edit.proofs.SeekingEnds.{seeking_goes_on, sought_at}

@@ -1,8 +1,8 @@
 use Rattle.std.proofs.Common.{sym, subst}
-use Rattle.plane.specs.Fraction.{Point, WithinSegment, whole}
-use Rattle.delaunay_legalization.specs.Constraints.{points_and_constraints_by}
-use Rattle.delaunay_legalization.specs.State.{state_of}
-use Rattle.delaunay_legalization.proofs.Questions.{both_ways}
+use Rattle.delaunay_paths.specs.plane.Fraction.{Point, WithinSegment, whole}
+use Rattle.delaunay_paths.specs.delaunay_legalization.Constraints.{points_and_constraints_by}
+use Rattle.delaunay_paths.specs.delaunay_legalization.State.{state_of}
+use Rattle.delaunay_paths.proofs.delaunay_legalization_lemmas.Questions.{both_ways}
 use Rattle.delaunay_edit.specs.Halves.{AreHalvesAt}
 use Rattle.delaunay_edit.proofs.FarEnds.{plain_if_triangulated, points_apart}
 use Rattle.delaunay_edit.proofs.JoinedHalves.{not_two_no_halves, two_bent, two_straight}

@@ -1,6 +1,6 @@
 use Rattle.std.proofs.Common.{sym, subst}
-use Rattle.delaunay_legalization.specs.Constraints.{constraints_by}
-use Rattle.delaunay_legalization.specs.State.{state_of}
+use Rattle.delaunay_paths.specs.delaunay_legalization.Constraints.{constraints_by}
+use Rattle.delaunay_paths.specs.delaunay_legalization.State.{state_of}
 use Rattle.delaunay_edit.specs.Halves.{AreTwoEnds}
 use Rattle.delaunay_edit.proofs.SeekingEnds.{more_than_two, not_two}
 use Rattle.delaunay_edit.proofs.halves.two_constraint_ends.Goals as goal

@@ -4,7 +4,7 @@ use Rattle.delaunay_insertion.proofs.EdgeSides.{room_inside}
 use Rattle.delaunay_insertion.proofs.SplitConstraints.{adding_splits_none}
 use Rattle.delaunay_edit.proofs.Cases.{vertex_of_handle, edge_of_handle, past_if_not_left}
 use Rattle.delaunay_edit.proofs.Cases.{bare_if_past, not_on_vertex}
-use Rattle.delaunay_legalization.proofs.Questions.{both_ways}
+use Rattle.delaunay_paths.proofs.delaunay_legalization_lemmas.Questions.{both_ways}
 use Rattle.delaunay_edit.proofs.insertion_cases.insert_at.Goals as goal
 
 pub insert_inside_face-requires-clause-room : goal.insert_inside_face-requires-clause-room

@@ -1,12 +1,12 @@
 use Rattle.std.proofs.Common.{◌≤◌, ◌∙◌, ◌+◌, length, map, ap, sym, arith}
 use Rattle.std.proofs.lemmas.List.{length-map}
-use Rattle.half_edge_dcel.proofs.Fits.{length-grown}
+use Rattle.delaunay_legalization.proofs.half_edge_dcel.Fits.{length-grown}
 use Rattle.delaunay_insertion.proofs.Growing.{grown}
 use Rattle.delaunay_insertion.proofs.InsertionCases.{inside_shape}
 use Rattle.delaunay_insertion.proofs.DataGrowing.{grows_inside}
 use Rattle.delaunay_insertion.proofs.MadeFaces.{made_at_count, made_inside}
 use Rattle.delaunay_insertion.proofs.inside.insert_inside_face.Goals as goal
-use Rattle.half_edge_mesh.specs.Contents.{edges}
+use Rattle.delaunay_legalization.specs.half_edge_mesh.Contents.{edges}
 use Rattle.delaunay_insertion.proofs.EdgeLists.{adds_only}
 
 pub returns-clause-edges : goal.returns-clause-edges

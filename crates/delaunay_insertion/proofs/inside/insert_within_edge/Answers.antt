@@ -1,6 +1,6 @@
 use Rattle.std.proofs.Common.{◌/◌, ◌↔◌, ◌∙◌, refl, length, map, subst, sym}
 use Rattle.delaunay_legalization.specs.Star.{MakesFacesAt}
-use Rattle.mesh_embedding.specs.Drawn.{faces_of, outer_of}
+use Rattle.delaunay_legalization.specs.mesh_embedding.Drawn.{faces_of, outer_of}
 use Rattle.std.specs.Prelude.{Contains, IsTrue}
 use Rattle.delaunay_insertion.proofs.EdgeSplits.{second_there, second_late, had_mark, had_none}
 use Rattle.delaunay_insertion.proofs.EdgeSplits.{written_vertices}

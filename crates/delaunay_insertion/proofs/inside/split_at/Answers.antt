@@ -1,11 +1,11 @@
 use Rattle.std.proofs.Common.{◌/◌, ◌∙◌, ◌<◌, length, map, ap, subst, sym, arith}
-use Rattle.half_edge_mesh.specs.Mesh.{face, rev}
-use Rattle.half_edge_links.proofs.Lists.Rev.{rev-rev}
+use Rattle.delaunay_legalization.specs.half_edge_mesh.Mesh.{face, rev}
+use Rattle.delaunay_legalization.proofs.half_edge_links.Lists.Rev.{rev-rev}
 use Rattle.delaunay_legalization.specs.Parts.{IsWithinEdge}
 use Rattle.delaunay_insertion.proofs.EdgeSides.{inner_twin, twin_within, within_twin, room_inside}
 use Rattle.delaunay_insertion.proofs.EdgeSides.{vertex_of_edge}
 use Rattle.delaunay_insertion.proofs.inside.split_at.Goals as goal
-use Rattle.half_edge_mesh.specs.Contents.{edges}
+use Rattle.delaunay_legalization.specs.half_edge_mesh.Contents.{edges}
 use Rattle.delaunay_insertion.specs.Edges.{SplitsAt}
 use Rattle.delaunay_insertion.proofs.DataGrowing.{rev_half}
 

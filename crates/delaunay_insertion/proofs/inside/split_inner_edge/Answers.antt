@@ -1,8 +1,8 @@
 use Rattle.std.proofs.Common.{◌/◌, get_or, ◌≤◌, ◌<◌, ◌∙◌, ◌+◌, length, map, ap, sym, arith}
 use Rattle.std.proofs.lemmas.List.{length-map}
-use Rattle.half_edge_dcel.proofs.Fits.{length-grown}
+use Rattle.delaunay_legalization.proofs.half_edge_dcel.Fits.{length-grown}
 use Rattle.delaunay_insertion.proofs.Growing.{grown}
-use Rattle.half_edge_links.proofs.Removing.Conditions.{flippable}
+use Rattle.delaunay_legalization.proofs.half_edge_links.Removing.Conditions.{flippable}
 use Rattle.delaunay_insertion.proofs.InsertionCases.{length_moved, within_side_shape}
 use Rattle.delaunay_insertion.proofs.DataGrowing.{grows_within_side}
 use Rattle.delaunay_insertion.proofs.MadeFaces.{made_at_count, made_within_side}

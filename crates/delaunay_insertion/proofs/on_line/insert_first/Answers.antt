@@ -1,7 +1,7 @@
 use Rattle.std.proofs.Common.{◌≤◌, ◌∙◌, ◌+◌, ◌++◌, ◌∷◌, [], length, map, ap, sym, subst, arith}
 use Rattle.std.proofs.lemmas.List.{length-map}
-use Rattle.plane_tiling.specs.Local.{IsMesh}
-use Rattle.mesh_embedding.specs.Drawn.{faces_of, outer_of}
+use Rattle.delaunay_legalization.specs.plane_tiling.Local.{IsMesh}
+use Rattle.delaunay_legalization.specs.mesh_embedding.Drawn.{faces_of, outer_of}
 use Rattle.delaunay_insertion.proofs.Growing.{grown, first_shape}
 use Rattle.delaunay_insertion.proofs.DataGrowing.{grows_from_one}
 use Rattle.delaunay_insertion.proofs.MadeFaces.{made_first}

@@ -1,15 +1,15 @@
 use Rattle.std.proofs.Common.{◌≡◌, ◌≤◌, ◌<◌, ◌∙◌, ◌+◌, refl, length, map, ap, sym, subst, arith}
 use Rattle.std.proofs.lemmas.List.{length-map}
-use Rattle.half_edge_mesh.specs.Mesh.{origin}
-use Rattle.half_edge_dcel.proofs.Fits.{length-grown}
-use Rattle.plane.specs.Fraction.{whole}
-use Rattle.plane.specs.Location.{IsPast}
-use Rattle.plane_tiling.specs.Local.{alone}
+use Rattle.delaunay_legalization.specs.half_edge_mesh.Mesh.{origin}
+use Rattle.delaunay_legalization.proofs.half_edge_dcel.Fits.{length-grown}
+use Rattle.delaunay_legalization.specs.plane.Fraction.{whole}
+use Rattle.delaunay_legalization.specs.plane.Location.{IsPast}
+use Rattle.delaunay_legalization.specs.plane_tiling.Local.{alone}
 use Rattle.delaunay_insertion.proofs.Growing.{grown, extended_shape}
 use Rattle.delaunay_insertion.proofs.DataGrowing.{grows_past_end}
 use Rattle.delaunay_insertion.proofs.MadeFaces.{made_none}
 use Rattle.delaunay_insertion.proofs.on_line.insert_past_end.Goals as goal
-use Rattle.half_edge_mesh.specs.Contents.{edges}
+use Rattle.delaunay_legalization.specs.half_edge_mesh.Contents.{edges}
 use Rattle.delaunay_insertion.proofs.EdgeLists.{adds_only}
 
 pub returns-clause-edges : goal.returns-clause-edges

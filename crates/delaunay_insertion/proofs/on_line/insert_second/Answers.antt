@@ -1,12 +1,12 @@
 use Rattle.std.proofs.Common.{◌≤◌, ◌∙◌, ◌⊎◌, ◌+◌, length, map, ap, sym, subst, arith}
 use Rattle.std.proofs.lemmas.List.{length-map}
-use Rattle.half_edge_mesh.specs.Outline.{OuterChanges, IsThis}
-use Rattle.half_edge_dcel.proofs.Fits.{length-grown}
+use Rattle.delaunay_legalization.specs.half_edge_mesh.Outline.{OuterChanges, IsThis}
+use Rattle.delaunay_legalization.proofs.half_edge_dcel.Fits.{length-grown}
 use Rattle.delaunay_insertion.proofs.Growing.{grown, second_shape}
 use Rattle.delaunay_insertion.proofs.DataGrowing.{grows_from_one}
 use Rattle.delaunay_insertion.proofs.MadeFaces.{made_none}
 use Rattle.delaunay_insertion.proofs.on_line.insert_second.Goals as goal
-use Rattle.half_edge_mesh.specs.Contents.{edges}
+use Rattle.delaunay_legalization.specs.half_edge_mesh.Contents.{edges}
 use Rattle.delaunay_insertion.proofs.EdgeLists.{adds_only, adds_nothing, adds_on}
 
 pub returns-clause-edges : goal.returns-clause-edges

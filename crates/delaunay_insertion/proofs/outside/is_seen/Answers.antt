@@ -1,6 +1,6 @@
 use Rattle.std.proofs.Common.{◌<◌, map, subst, sym, arith, rules}
 use Rattle.std.proofs.lemmas.List.{length-map}
-use Rattle.delaunay_core.specs.Place.{place_of}
+use Rattle.delaunay_legalization.specs.delaunay_core.Place.{place_of}
 use Rattle.delaunay_legalization.proofs.Questions.{covered_at, covered_in}
 use Rattle.delaunay_insertion.proofs.Positions.{position_at}
 use Rattle.delaunay_insertion.proofs.outside.is_seen.Goals as goal

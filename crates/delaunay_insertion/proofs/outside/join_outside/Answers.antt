@@ -1,7 +1,7 @@
 use Rattle.std.proofs.Common.{map, ◌≡◌, ◌∙◌, ◌+◌, ℕ, length, ap, sym, subst, arith}
 use Rattle.std.proofs.lemmas.List.{length-map}
-use Rattle.half_edge_mesh.specs.Mesh.{next}
-use Rattle.half_edge_dcel.proofs.Fits.{length-grown}
+use Rattle.delaunay_legalization.specs.half_edge_mesh.Mesh.{next}
+use Rattle.delaunay_legalization.proofs.half_edge_dcel.Fits.{length-grown}
 use Rattle.delaunay_legalization.specs.State.{state_of}
 use Rattle.delaunay_insertion.proofs.DataGrowing.{grows_by_face, grows_on}
 use Rattle.delaunay_insertion.proofs.Joining.{IsJoining, IsJoiningBack, joining_begins}
@@ -9,10 +9,10 @@ use Rattle.delaunay_insertion.proofs.Joining.{joining_ends, room_for_face}
 use Rattle.delaunay_insertion.proofs.Joining.{unseen_as, sites_grown, grown_count, has_vertex}
 use Rattle.delaunay_insertion.proofs.Joining.{ahead_apart, step_ahead}
 use Rattle.delaunay_insertion.proofs.Joining.{before_outer, before_apart, step_behind}
-use Rattle.mesh_embedding.specs.Drawn.{faces_of, outer_of}
+use Rattle.delaunay_legalization.specs.mesh_embedding.Drawn.{faces_of, outer_of}
 use Rattle.delaunay_insertion.proofs.MadeFaces.{made_outside}
 use Rattle.delaunay_insertion.proofs.outside.join_outside.Goals as goal
-use Rattle.half_edge_mesh.specs.Contents.{edges}
+use Rattle.delaunay_legalization.specs.half_edge_mesh.Contents.{edges}
 use Rattle.delaunay_insertion.proofs.EdgeLists.{adds_only, adds_on}
 
 pub loop-after-init : goal.loop-after-init

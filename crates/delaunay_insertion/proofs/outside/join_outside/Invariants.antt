@@ -1,6 +1,6 @@
 use Rattle.std.proofs.Common.{length, map}
-use Rattle.mesh_embedding.specs.Drawn.{outer_of}
-use Rattle.half_edge_mesh.specs.Contents.{edges}
+use Rattle.delaunay_legalization.specs.mesh_embedding.Drawn.{outer_of}
+use Rattle.delaunay_legalization.specs.half_edge_mesh.Contents.{edges}
 use Rattle.delaunay_insertion.specs.Data.{GrowsAround}
 use Rattle.delaunay_insertion.specs.Edges.{AddsOnly}
 use Rattle.delaunay_legalization.specs.State.{state_of}

@@ -1,7 +1,7 @@
 use Rattle.std.proofs.Common.{◌≡◌, ◌≤◌, ◌+◌, length, vec_capacity}
 use Rattle.std.specs.Prelude.{Contains}
 use Rattle.std.specs.Vec.Iter.{into_iter_items}
-use Rattle.plane.specs.Tests.{InRange}
+use Rattle.delaunay_interface.specs.plane.Tests.{InRange}
 use Rattle.delaunay_interface.specs.Headline.{AreSites}
 use Rattle.delaunay_journal.specs.declared.edit.Edit.TheVariants.{Insert}
 use Rattle.delaunay_journal.proofs.Runs.{IsReplayed}

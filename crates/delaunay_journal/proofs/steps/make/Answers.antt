@@ -1,6 +1,6 @@
 use Rattle.std.proofs.Common.{sym, subst}
 use Rattle.std.specs.Prelude.{All}
-use Rattle.plane.specs.Tests.{InRange}
+use Rattle.delaunay_interface.specs.plane.Tests.{InRange}
 use Rattle.delaunay_journal.specs.declared.edit.Outcome.TheVariants.{Cleared}
 use Rattle.delaunay_journal.specs.Journal.{Gives}
 use Rattle.delaunay_journal.proofs.steps.make.Goals as goal

@@ -1,6 +1,6 @@
 use Rattle.std.proofs.Common.{sym, subst}
 use Rattle.std.specs.Prelude.{IfOk}
-use Rattle.delaunay_legalization.specs.Shape.{IsTriangulated}
+use Rattle.delaunay_interface.specs.delaunay_legalization.Shape.{IsTriangulated}
 use Rattle.delaunay_layers.specs.Layers.{AreLayers}
 use Rattle.delaunay_layers.proofs.layers.face_layers.Goals as goal
 

@@ -1,8 +1,8 @@
 use Rattle.std.proofs.Common.{List, map, sym, ap, ◌∙◌, subst, arith}
-use Rattle.half_edge_mesh.specs.Contents.{IsMeshWithData}
-use Rattle.half_edge_mesh.specs.Mesh.{Mesh, origin}
-use Rattle.half_edge_mesh.specs.Peel.{turn}
-use Rattle.plane.specs.Fraction.{Point}
+use Rattle.mesh_embedding.specs.half_edge_mesh.Contents.{IsMeshWithData}
+use Rattle.mesh_embedding.specs.half_edge_mesh.Mesh.{Mesh, origin}
+use Rattle.mesh_embedding.specs.half_edge_mesh.Peel.{turn}
+use Rattle.mesh_embedding.specs.plane.Fraction.{Point}
 use Rattle.delaunay_legalization.specs.Around.{IsOpposite}
 use Rattle.delaunay_legalization.proofs.OppositeSides.{link_read}
 use Rattle.delaunay_legalization.proofs.RoundSteps.{turning_begins, may_turn, centre_is}

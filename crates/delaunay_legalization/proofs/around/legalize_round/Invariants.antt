@@ -1,5 +1,5 @@
 use Rattle.std.proofs.Common.{map}
-use Rattle.half_edge_mesh.specs.Mesh.{origin}
+use Rattle.mesh_embedding.specs.half_edge_mesh.Mesh.{origin}
 use Rattle.delaunay_legalization.specs.Around.{IsOpposite}
 use Rattle.delaunay_legalization.proofs.RoundSteps.{IsTurningRound, tests_left}
 use Rattle.delaunay_legalization.proofs.around.legalize_round.Given as goal

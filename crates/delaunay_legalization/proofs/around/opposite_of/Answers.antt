@@ -1,5 +1,5 @@
 use Rattle.std.proofs.Common.{◌<◌, length}
-use Rattle.half_edge_links.proofs.Lists.Rev.{rev_within}
+use Rattle.mesh_embedding.proofs.half_edge_links.Lists.Rev.{rev_within}
 use Rattle.delaunay_legalization.proofs.around.opposite_of.Goals as goal
 
 pub directed_edge-requires : goal.directed_edge-requires

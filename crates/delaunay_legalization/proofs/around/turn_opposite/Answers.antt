@@ -1,6 +1,6 @@
 use Rattle.std.proofs.Common.{◌*◌, ◌/◌, ◌<◌, ℕ, length, map, refl, sym, ap, ◌∙◌, subst}
-use Rattle.half_edge_mesh.specs.Flip.{flipped}
-use Rattle.half_edge_mesh.specs.Mesh.{next}
+use Rattle.mesh_embedding.specs.half_edge_mesh.Flip.{flipped}
+use Rattle.mesh_embedding.specs.half_edge_mesh.Mesh.{next}
 use Rattle.mesh_embedding.specs.Legal.{IsFailing}
 use Rattle.mesh_embedding.proofs.MeshLegal.{joins_directed}
 use Rattle.std.specs.Prelude.{Contains}

@@ -1,5 +1,5 @@
 use Rattle.std.proofs.Common.{◌*◌, length, map}
-use Rattle.half_edge_links.proofs.Removing.Conditions.{between_faces}
+use Rattle.mesh_embedding.proofs.half_edge_links.Removing.Conditions.{between_faces}
 use Rattle.delaunay_legalization.proofs.Legalizing.{failing_flippable, failing_apart}
 use Rattle.delaunay_legalization.proofs.legalization.flip.Goals as goal
 

@@ -1,6 +1,6 @@
 use Rattle.std.proofs.Common.{◌≡◌, ◌<◌, ℕ, length, map, refl, ap, subst, sym, arith}
-use Rattle.half_edge_mesh.specs.Mesh.{face, prev}
-use Rattle.half_edge_links.proofs.Lists.Rev.{rev_within}
+use Rattle.mesh_embedding.specs.half_edge_mesh.Mesh.{face, prev}
+use Rattle.mesh_embedding.proofs.half_edge_links.Lists.Rev.{rev_within}
 use Rattle.delaunay_core.specs.Place.{place_of}
 use Rattle.mesh_embedding.specs.Legal.{IsFailing}
 use Rattle.delaunay_legalization.proofs.Questions.{both_ways, covered_in}

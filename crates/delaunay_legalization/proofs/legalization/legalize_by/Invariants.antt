@@ -1,5 +1,5 @@
 use Rattle.std.proofs.Common.{map}
-use Rattle.half_edge_mesh.specs.Contents.{IsMeshWithData}
+use Rattle.mesh_embedding.specs.half_edge_mesh.Contents.{IsMeshWithData}
 use Rattle.mesh_embedding.specs.Legal.{steps_left}
 use Rattle.delaunay_legalization.proofs.Stepping.{IsUnderwayBy}
 use Rattle.delaunay_legalization.proofs.legalization.legalize_by.Given as goal

@@ -1,5 +1,5 @@
 use Rattle.std.proofs.Common.{ℕ, IsNone, map, refl, sym, ap, subst}
-use Rattle.half_edge_mesh.specs.Mesh.{Mesh, out_edge}
+use Rattle.mesh_embedding.specs.half_edge_mesh.Mesh.{Mesh, out_edge}
 use Rattle.delaunay_legalization.specs.Constraints.{constraint_pairs}
 use Rattle.delaunay_legalization.proofs.RoundSteps.{none_to_turn}
 use Rattle.delaunay_legalization.proofs.Stars.{star_is_left}

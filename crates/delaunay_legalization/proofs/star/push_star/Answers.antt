@@ -1,5 +1,5 @@
 use Rattle.std.proofs.Common.{◌≤◌, ℕ, [], length, sym, ap, subst, arith}
-use Rattle.half_edge_mesh.specs.Rounds.{GivesRound, out_edges_left}
+use Rattle.mesh_embedding.specs.half_edge_mesh.Rounds.{GivesRound, out_edges_left}
 use Rattle.delaunay_legalization.specs.Star.{HasSidesAt}
 use Rattle.delaunay_legalization.proofs.Pushing.{no_edges, pushing_begins, pushing_goes_on}
 use Rattle.delaunay_legalization.proofs.Pushing.{pushing_ends}

@@ -1,5 +1,5 @@
 use Rattle.std.proofs.Common.{[]}
-use Rattle.half_edge_mesh.specs.Rounds.{out_edges_left}
+use Rattle.mesh_embedding.specs.half_edge_mesh.Rounds.{out_edges_left}
 use Rattle.delaunay_legalization.specs.Star.{HasSidesAt}
 use Rattle.delaunay_legalization.proofs.Pushing.{IsPushing}
 use Rattle.delaunay_legalization.proofs.star.push_star.Given as goal

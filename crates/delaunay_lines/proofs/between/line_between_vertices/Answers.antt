@@ -1,6 +1,6 @@
 use Rattle.std.proofs.Common.{map}
-use Rattle.delaunay_core.specs.Place.{place_of}
-use Rattle.delaunay_legalization.proofs.Questions.{covered_in}
+use Rattle.delaunay_location.specs.delaunay_core.Place.{place_of}
+use Rattle.delaunay_location.proofs.delaunay_legalization_lemmas.Questions.{covered_in}
 use Rattle.delaunay_lines.proofs.Advance.{starts_at_vertex}
 use Rattle.delaunay_lines.proofs.between.line_between_vertices.Goals as goal
 

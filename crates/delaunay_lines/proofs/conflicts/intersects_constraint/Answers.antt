@@ -1,5 +1,5 @@
-use Rattle.delaunay_core.specs.Place.{place_of}
-use Rattle.delaunay_legalization.specs.State.{state_of}
+use Rattle.delaunay_location.specs.delaunay_core.Place.{place_of}
+use Rattle.delaunay_location.specs.delaunay_legalization.State.{state_of}
 use Rattle.delaunay_lines.proofs.Intersecting.{first_decides}
 use Rattle.delaunay_lines.proofs.conflicts.intersects_constraint.Goals as goal
 

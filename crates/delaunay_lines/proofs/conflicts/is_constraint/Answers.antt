@@ -1,5 +1,6 @@
 use Rattle.std.proofs.Common.{◌≡◌, ◌∙◌, ◌/◌, ap, slice_get, subst, sym, Some}
-use Rattle.delaunay_legalization.proofs.Constraints.{is_constraint_edge, fixed_edge_is}
+use Rattle.delaunay_location.proofs.delaunay_legalization_lemmas.Constraints.{is_constraint_edge}
+use Rattle.delaunay_location.proofs.delaunay_legalization_lemmas.Constraints.{fixed_edge_is}
 use Rattle.delaunay_lines.proofs.conflicts.is_constraint.Goals as goal
 
 pub returns : goal.returns

@@ -1,4 +1,4 @@
-use Rattle.delaunay_core.specs.Place.{place_of}
+use Rattle.delaunay_location.specs.delaunay_core.Place.{place_of}
 use Rattle.delaunay_lines.proofs.outside.is_point_nearer.Goals as goal
 
 pub distance_2-requires-clause-in_range : goal.distance_2-requires-clause-in_range

@@ -1,10 +1,10 @@
 use Rattle.std.proofs.Common.{◌≡◌, ℕ, arith, map, length}
 use Rattle.std.specs.Prelude.{ℤ}
-use Rattle.half_edge_mesh.specs.Mesh.{origin}
-use Rattle.plane.specs.Fraction.{whole}
-use Rattle.plane.specs.Circle.{gap}
-use Rattle.plane.specs.Pairs.{place}
-use Rattle.delaunay_core.specs.Place.{place_of}
+use Rattle.delaunay_legalization.specs.half_edge_mesh.Mesh.{origin}
+use Rattle.delaunay_legalization.specs.plane.Fraction.{whole}
+use Rattle.delaunay_legalization.specs.plane.Circle.{gap}
+use Rattle.delaunay_legalization.specs.plane.Pairs.{place}
+use Rattle.delaunay_legalization.specs.delaunay_core.Place.{place_of}
 use Rattle.delaunay_location.proofs.Nearest.{first_is_least, less_is_least, still_least}
 use Rattle.delaunay_legalization.proofs.Questions.{both_ways}
 use Rattle.delaunay_location.proofs.location.edge_from_nearest.Goals.{then-starts_nearer}

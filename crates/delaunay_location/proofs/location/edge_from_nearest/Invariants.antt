@@ -1,10 +1,10 @@
 use Rattle.std.proofs.Common.{◌<◌, ℕ, map, length}
 use Rattle.std.specs.Prelude.{◌≤ℤ◌}
-use Rattle.half_edge_mesh.specs.Mesh.{origin}
-use Rattle.plane.specs.Fraction.{whole}
-use Rattle.plane.specs.Circle.{gap}
-use Rattle.plane.specs.Pairs.{place}
-use Rattle.delaunay_core.specs.Place.{place_of}
+use Rattle.delaunay_legalization.specs.half_edge_mesh.Mesh.{origin}
+use Rattle.delaunay_legalization.specs.plane.Fraction.{whole}
+use Rattle.delaunay_legalization.specs.plane.Circle.{gap}
+use Rattle.delaunay_legalization.specs.plane.Pairs.{place}
+use Rattle.delaunay_legalization.specs.delaunay_core.Place.{place_of}
 use Rattle.delaunay_location.proofs.location.edge_from_nearest.Given as goal
 
 abbrev pub invariant-loop-index : goal.invariant-loop-index

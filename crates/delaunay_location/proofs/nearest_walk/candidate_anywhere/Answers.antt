@@ -1,5 +1,5 @@
 use Rattle.std.proofs.Common.{◌^◌, ap, inr, arith}
-use Rattle.half_edge_mesh.specs.Mesh.{origin}
+use Rattle.delaunay_legalization.specs.half_edge_mesh.Mesh.{origin}
 use Rattle.delaunay_legalization.proofs.OppositeSides.{link_read}
 use Rattle.delaunay_location.proofs.Candidates.{candidate_from_other, move_to_found}
 use Rattle.delaunay_location.proofs.Neighbours.{counted_after, moves_fit, room_there}

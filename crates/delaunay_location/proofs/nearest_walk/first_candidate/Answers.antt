@@ -2,11 +2,11 @@ use Rattle.std.proofs.Common.{ℕ, ◌^◌, map, IsNone, refl, sym, ap, ◌∙�
 use Rattle.std.proofs.Common.{arith, w64}
 use Rattle.std.proofs.lemmas.Int.{to_z-of_z}
 use Rattle.std.specs.Prelude.{ℤ}
-use Rattle.half_edge_mesh.specs.Mesh.{Mesh, out_edge}
-use Rattle.plane.specs.Fraction.{whole}
-use Rattle.plane.specs.Circle.{gap}
-use Rattle.plane.specs.Pairs.{place}
-use Rattle.delaunay_core.specs.Place.{place_of}
+use Rattle.delaunay_legalization.specs.half_edge_mesh.Mesh.{Mesh, out_edge}
+use Rattle.delaunay_legalization.specs.plane.Fraction.{whole}
+use Rattle.delaunay_legalization.specs.plane.Circle.{gap}
+use Rattle.delaunay_legalization.specs.plane.Pairs.{place}
+use Rattle.delaunay_legalization.specs.delaunay_core.Place.{place_of}
 use Rattle.delaunay_location.proofs.BothWays.{named_first, no_edges}
 use Rattle.delaunay_legalization.specs.State.{state_of, triangulation_of}
 use Rattle.delaunay_location.specs.Candidate.{IsMoveCount}

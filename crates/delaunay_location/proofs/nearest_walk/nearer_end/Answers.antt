@@ -1,13 +1,13 @@
 use Rattle.std.proofs.Common.{ℕ, map, to_z, of_z, ◌∙◌, subst, ap, arith, w64}
 use Rattle.std.proofs.lemmas.Int.{to_z-of_z}
 use Rattle.std.specs.Prelude.{ℤ, ◌<ℤ◌}
-use Rattle.half_edge_mesh.specs.Mesh.{origin}
-use Rattle.half_edge_links.proofs.Lists.Rev.{rev_within}
-use Rattle.plane.specs.Fraction.{whole}
-use Rattle.plane.specs.Circle.{gap}
-use Rattle.plane.specs.Pairs.{place}
-use Rattle.plane.proofs.Sides.{less_by_test}
-use Rattle.delaunay_core.specs.Place.{place_of}
+use Rattle.delaunay_legalization.specs.half_edge_mesh.Mesh.{origin}
+use Rattle.delaunay_legalization.proofs.half_edge_links.Lists.Rev.{rev_within}
+use Rattle.delaunay_legalization.specs.plane.Fraction.{whole}
+use Rattle.delaunay_legalization.specs.plane.Circle.{gap}
+use Rattle.delaunay_legalization.specs.plane.Pairs.{place}
+use Rattle.delaunay_legalization.proofs.plane.Sides.{less_by_test}
+use Rattle.delaunay_legalization.specs.delaunay_core.Place.{place_of}
 use Rattle.delaunay_location.proofs.Candidates.{candidate_at_end}
 use Rattle.delaunay_location.proofs.nearest_walk.nearer_end.Goals as goal
 

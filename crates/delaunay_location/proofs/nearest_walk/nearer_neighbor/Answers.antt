@@ -1,7 +1,7 @@
 use Rattle.std.proofs.Common.{◌≡◌, ◌≢◌, map, refl, sym, ap, ◌∙◌, arith}
-use Rattle.half_edge_mesh.specs.Mesh.{next, origin, prev, rev}
-use Rattle.half_edge_links.proofs.Lists.Rev.{rev-rev}
-use Rattle.delaunay_core.specs.Place.{place_of}
+use Rattle.delaunay_legalization.specs.half_edge_mesh.Mesh.{next, origin, prev, rev}
+use Rattle.delaunay_legalization.proofs.half_edge_links.Lists.Rev.{rev-rev}
+use Rattle.delaunay_legalization.specs.delaunay_core.Place.{place_of}
 use Rattle.delaunay_legalization.specs.State.{state_of}
 use Rattle.delaunay_legalization.proofs.OppositeSides.{link_read}
 use Rattle.delaunay_location.specs.Candidate.{EndsNoNearer}

@@ -1,6 +1,6 @@
 use Rattle.std.proofs.Common.{map}
-use Rattle.half_edge_mesh.specs.Mesh.{origin}
-use Rattle.delaunay_core.specs.Place.{place_of}
+use Rattle.delaunay_legalization.specs.half_edge_mesh.Mesh.{origin}
+use Rattle.delaunay_legalization.specs.delaunay_core.Place.{place_of}
 use Rattle.delaunay_location.specs.Candidate.{EndsNoNearer}
 use Rattle.delaunay_location.proofs.BothWays.{IsClosingIn, how_many_before}
 use Rattle.delaunay_location.proofs.nearest_walk.nearer_neighbor.Given as goal

@@ -1,9 +1,9 @@
 use Rattle.std.proofs.Common.{◌^◌, length}
 use Rattle.std.proofs.lemmas.List.{length-map}
-use Rattle.half_edge_mesh.specs.Mesh.{origin}
-use Rattle.plane.specs.Fraction.{whole}
+use Rattle.delaunay_legalization.specs.half_edge_mesh.Mesh.{origin}
+use Rattle.delaunay_legalization.specs.plane.Fraction.{whole}
 use Rattle.plane_delaunay.proofs.Circles.Nearest.{nearest_by_neighbours}
-use Rattle.delaunay_core.specs.Place.{place_of}
+use Rattle.delaunay_legalization.specs.delaunay_core.Place.{place_of}
 use Rattle.delaunay_legalization.specs.State.{state_of, triangulation_of}
 use Rattle.delaunay_location.proofs.Candidates.{place_within}
 use Rattle.delaunay_location.proofs.Neighbours.{fewer_moves, more_counted, room_at, room_stays}

@@ -1,9 +1,9 @@
 use Rattle.std.proofs.Common.{subst, sym, ap, ℕ, ◌^◌, arith}
-use Rattle.half_edge_mesh.specs.Mesh.{origin}
-use Rattle.plane.specs.Fraction.{whole}
-use Rattle.plane.specs.Shape.{IsNearest}
+use Rattle.delaunay_legalization.specs.half_edge_mesh.Mesh.{origin}
+use Rattle.delaunay_legalization.specs.plane.Fraction.{whole}
+use Rattle.delaunay_legalization.specs.plane.Shape.{IsNearest}
 use Rattle.plane_delaunay.proofs.Circles.Nearest.{nearest_by_neighbours}
-use Rattle.delaunay_core.specs.Place.{place_of}
+use Rattle.delaunay_legalization.specs.delaunay_core.Place.{place_of}
 use Rattle.delaunay_legalization.specs.State.{state_of, triangulation_of}
 use Rattle.delaunay_legalization.proofs.OppositeSides.{link_read}
 use Rattle.delaunay_location.specs.Candidate.{IsMoveCount}

@@ -1,8 +1,8 @@
 use Rattle.std.proofs.Common.{map}
-use Rattle.half_edge_mesh.specs.Mesh.{origin}
-use Rattle.plane.specs.Fraction.{whole}
+use Rattle.delaunay_legalization.specs.half_edge_mesh.Mesh.{origin}
+use Rattle.delaunay_legalization.specs.plane.Fraction.{whole}
 use Rattle.plane_delaunay.specs.Nearer.{nearer_count}
-use Rattle.delaunay_core.specs.Place.{place_of}
+use Rattle.delaunay_legalization.specs.delaunay_core.Place.{place_of}
 use Rattle.delaunay_legalization.specs.State.{state_of, triangulation_of}
 use Rattle.delaunay_location.specs.Candidate.{IsCandidate, IsMoveCount}
 use Rattle.delaunay_location.proofs.nearest_walk.nearest_from.Given as goal

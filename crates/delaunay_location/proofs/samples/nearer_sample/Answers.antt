@@ -1,9 +1,9 @@
 use Rattle.std.proofs.Common.{ℕ, map, inl, inr, arith}
 use Rattle.std.specs.Prelude.{ℤ}
-use Rattle.plane.specs.Fraction.{whole}
-use Rattle.plane.specs.Circle.{gap}
-use Rattle.plane.specs.Pairs.{place}
-use Rattle.delaunay_core.specs.Place.{place_of}
+use Rattle.delaunay_legalization.specs.plane.Fraction.{whole}
+use Rattle.delaunay_legalization.specs.plane.Circle.{gap}
+use Rattle.delaunay_legalization.specs.plane.Pairs.{place}
+use Rattle.delaunay_legalization.specs.delaunay_core.Place.{place_of}
 use Rattle.delaunay_legalization.specs.Known.{point_at}
 use Rattle.delaunay_location.proofs.Nearest.{less_than_first}
 use Rattle.delaunay_location.proofs.Neighbours.{nearer_by_gaps}

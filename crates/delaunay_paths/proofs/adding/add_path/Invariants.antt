@@ -1,7 +1,7 @@
 use Rattle.std.proofs.Common.{◌≡◌, map}
 use Rattle.std.specs.Prelude.{nat_abs}
-use Rattle.plane.specs.Laws.{squared_way}
-use Rattle.plane_edits.specs.Legal.{point_of}
+use Rattle.delaunay_lines.specs.plane.Laws.{squared_way}
+use Rattle.delaunay_lines.specs.plane_edits.Legal.{point_of}
 use Rattle.delaunay_paths.specs.Leaving.{LeavesToTest}
 use Rattle.delaunay_paths.specs.Lists.{KeepRoom}
 use Rattle.delaunay_paths.proofs.AddingPieces.{IsAddingTo}

@@ -1,5 +1,5 @@
 use Rattle.std.proofs.Common.{ℕ, ◌<◌, refl, subst}
-use Rattle.delaunay_legalization.specs.State.{state_of}
+use Rattle.delaunay_lines.specs.delaunay_legalization.State.{state_of}
 use Rattle.delaunay_paths.proofs.InTheWay.{first_decides}
 use Rattle.delaunay_paths.proofs.OnePiece.{found, joined_is_free}
 use Rattle.delaunay_paths.proofs.adding.can_add_path.Goals as goal

@@ -1,6 +1,6 @@
 use Rattle.std.proofs.Common.{◌<◌, ◌++◌, ◌∷◌, [], ◌∙◌, ℕ, List, sym, ap, subst}
 use Rattle.std.specs.Prelude.{Contains}
-use Rattle.plane_tiling.proofs.Totals.{Contains-none}
+use Rattle.delaunay_lines.proofs.plane_tiling.Totals.{Contains-none}
 use Rattle.delaunay_paths.proofs.constraints.put_alone.Goals as goal
 
 pub put-requires : goal.put-requires

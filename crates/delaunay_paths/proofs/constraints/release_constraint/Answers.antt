@@ -1,5 +1,5 @@
 use Rattle.std.proofs.Common.{List, ℕ, subst, sym, arith}
-use Rattle.delaunay_legalization.specs.Sides.{AreLeftToTest}
+use Rattle.delaunay_lines.specs.delaunay_legalization.Sides.{AreLeftToTest}
 use Rattle.delaunay_paths.proofs.Releasing.{edge_there, released_kept, released_passing}
 use Rattle.delaunay_paths.proofs.Releasing.{left_to_test, released}
 use Rattle.delaunay_paths.proofs.constraints.release_constraint.Goals as goal

@@ -1,5 +1,5 @@
 use Rattle.std.proofs.Common.{◌<◌, ℕ, length, map, refl, sym, subst}
-use Rattle.delaunay_legalization.proofs.Questions.{both_ways}
+use Rattle.delaunay_lines.proofs.delaunay_legalization_lemmas.Questions.{both_ways}
 use Rattle.delaunay_paths.proofs.MovedEdges.{less_by_room}
 use Rattle.delaunay_paths.proofs.Seeking.{seeking_begins, seeking_ends, seeking_goes_on}
 use Rattle.delaunay_paths.proofs.Seeking.{seeking_has_seen, seeking_room, seeking_shortens}

@@ -1,7 +1,7 @@
 use Rattle.std.proofs.Common.{◌/◌, ℕ, length, refl, subst}
 use Rattle.std.specs.Prelude.{Contains}
-use Rattle.half_edge_links.proofs.Removing.Conditions.{between_faces}
-use Rattle.mesh_embedding.specs.Legal.{GainsRound}
+use Rattle.delaunay_lines.proofs.half_edge_links.Removing.Conditions.{between_faces}
+use Rattle.delaunay_lines.specs.mesh_embedding.Legal.{GainsRound}
 use Rattle.delaunay_paths.proofs.MovedEdges.{held_with_room, less_by_room}
 use Rattle.delaunay_paths.proofs.OneTurn.{made_waits, others_cross, turn_can, turn_from_in}
 use Rattle.delaunay_paths.proofs.OneTurn.{turn_to_in, turn_within, turned_across, turned_away}

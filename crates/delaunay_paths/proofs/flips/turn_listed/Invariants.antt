@@ -1,6 +1,6 @@
 use Rattle.std.proofs.Common.{map}
-use Rattle.plane_segments.specs.Measure.{crossing_sum}
-use Rattle.mesh_embedding.specs.Drawn.{faces_of}
+use Rattle.delaunay_lines.specs.plane_segments.Measure.{crossing_sum}
+use Rattle.delaunay_lines.specs.mesh_embedding.Drawn.{faces_of}
 use Rattle.delaunay_paths.specs.Lists.{KeepRoom, ListCrossing}
 use Rattle.delaunay_paths.proofs.Making.{IsMaking}
 use Rattle.delaunay_paths.proofs.flips.turn_listed.Given as goal

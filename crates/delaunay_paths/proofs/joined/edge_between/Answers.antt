@@ -1,5 +1,5 @@
 use Rattle.std.proofs.Common.{ℕ, ◌<◌, length, sym, subst}
-use Rattle.mesh_embedding.proofs.EdgePairs.{joins_edge}
+use Rattle.delaunay_lines.proofs.mesh_embedding.EdgePairs.{joins_edge}
 use Rattle.delaunay_paths.proofs.joined.edge_between.Goals as goal
 
 pub get_edge_from_neighbors-requires : goal.get_edge_from_neighbors-requires

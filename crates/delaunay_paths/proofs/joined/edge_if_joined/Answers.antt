@@ -1,5 +1,5 @@
 use Rattle.std.proofs.Common.{ℕ, ◌<◌, ◌∙◌, length, ap, subst}
-use Rattle.half_edge_mesh.specs.Mesh.{origin, rev}
+use Rattle.delaunay_lines.specs.half_edge_mesh.Mesh.{origin, rev}
 use Rattle.delaunay_paths.proofs.joined.edge_if_joined.Goals as goal
 
 pub returns-in-Some-clause-some : goal.returns-in-Some-clause-some

@@ -1,10 +1,10 @@
 use Rattle.std.proofs.Common.{◌≡◌, map, rules}
 use Rattle.std.specs.Prelude.{Contains}
-use Rattle.half_edge_mesh.specs.Mesh.{origin, next}
-use Rattle.plane.specs.Fraction.{Point}
-use Rattle.delaunay_core.specs.Place.{place_of}
-use Rattle.delaunay_legalization.specs.Known.{point_at}
-use Rattle.delaunay_legalization.proofs.Questions.{covered_in}
+use Rattle.delaunay_lines.specs.half_edge_mesh.Mesh.{origin, next}
+use Rattle.delaunay_lines.specs.plane.Fraction.{Point}
+use Rattle.delaunay_lines.specs.delaunay_core.Place.{place_of}
+use Rattle.delaunay_lines.specs.delaunay_legalization.Known.{point_at}
+use Rattle.delaunay_lines.proofs.delaunay_legalization_lemmas.Questions.{covered_in}
 use Rattle.delaunay_paths.specs.Crossing.{behind}
 use Rattle.delaunay_paths.proofs.nearer.turning_at.Goals as goal
 

@@ -1,6 +1,6 @@
 use Rattle.std.proofs.Common.{◌≡◌, ◌↔◌, ◌∙◌, IsTrue, subst, refl}
 use mathlib.Core.Logic.{inl, inr}
-use Rattle.delaunay_legalization.proofs.Questions.{both_ways}
+use Rattle.delaunay_lines.proofs.delaunay_legalization_lemmas.Questions.{both_ways}
 use Rattle.delaunay_paths.specs.Crossing.{PassesFromRight}
 use Rattle.delaunay_paths.specs.Turning.{Corners}
 use Rattle.delaunay_paths.proofs.nearer.way_made.Goals as goal

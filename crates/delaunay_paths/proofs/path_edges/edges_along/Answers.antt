@@ -1,8 +1,8 @@
 use Rattle.std.proofs.Common.{◌<◌, [], ◌∷◌, ◌∙◌}
 use Rattle.std.proofs.Common.{ℕ, length, map, sym, ap, subst, arith, length-append, vec_capacity}
 use Rattle.std.proofs.lemmas.List.{length-map}
-use Rattle.plane_segments.proofs.Constraints.Shorter.{path_shortens}
-use Rattle.mesh_embedding.specs.Drawn.{faces_of, outer_of}
+use Rattle.delaunay_lines.proofs.plane_segments.Constraints.Shorter.{path_shortens}
+use Rattle.delaunay_lines.specs.mesh_embedding.Drawn.{faces_of, outer_of}
 use Rattle.delaunay_paths.proofs.ListingPath.{listing_begins, listing_has_room, listing_goes_on}
 use Rattle.delaunay_paths.proofs.ListingPath.{listing_ends}
 use Rattle.delaunay_paths.proofs.Walking.{in_map, of_map, placed_apart}

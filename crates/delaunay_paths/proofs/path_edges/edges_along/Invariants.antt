@@ -1,7 +1,7 @@
 use Rattle.std.proofs.Common.{◌≡◌, length, map, vec_len, vec_capacity}
 use Rattle.std.specs.Prelude.{nat_abs}
-use Rattle.plane.specs.Laws.{squared_way}
-use Rattle.plane_edits.specs.Legal.{point_of}
+use Rattle.delaunay_lines.specs.plane.Laws.{squared_way}
+use Rattle.delaunay_lines.specs.plane_edits.Legal.{point_of}
 use Rattle.delaunay_paths.proofs.ListingPath.{IsListing}
 use Rattle.delaunay_paths.proofs.path_edges.edges_along.Given as goal
 

@@ -1,5 +1,5 @@
 use Rattle.std.proofs.Common.{ℕ, ◌<◌, vec_len, vec_capacity, subst, arith}
-use Rattle.half_edge_mesh.specs.Mesh.{origin}
+use Rattle.delaunay_legalization.specs.half_edge_mesh.Mesh.{origin}
 use Rattle.delaunay_removal.proofs.Borders.{gathering_begins, gathering_goes_on, gathering_ends}
 use Rattle.delaunay_removal.proofs.border.collect_border.Goals as goal
 

@@ -1,5 +1,5 @@
 use Rattle.std.proofs.Common.{◌<◌, length, sym, ap, ◌∙◌, subst, arith}
-use Rattle.half_edge_mesh.specs.Mesh.{origin}
+use Rattle.delaunay_legalization.specs.half_edge_mesh.Mesh.{origin}
 use Rattle.delaunay_legalization.specs.Marking.{HasEdgeData}
 use Rattle.delaunay_removal.proofs.FreedEdges.{freeing_begins, freeing_goes_on, freeing_ends}
 use Rattle.delaunay_removal.proofs.FreedEdges.{same_directed}

@@ -1,6 +1,6 @@
 use Rattle.std.proofs.Common.{◌+◌, ◌<◌, ◌∙◌, ℕ, length, refl, ap, subst, arith}
-use Rattle.half_edge_links.proofs.Lists.Rev.{rev-rev}
-use Rattle.half_edge_mesh.specs.Mesh.{origin, rev}
+use Rattle.delaunay_legalization.proofs.half_edge_links.Lists.Rev.{rev-rev}
+use Rattle.delaunay_legalization.specs.half_edge_mesh.Mesh.{origin, rev}
 use Rattle.delaunay_legalization.proofs.Questions.{both_ways}
 use Rattle.delaunay_removal.proofs.BothRounds.{EndsThere, none_back, none_of_all, none_when_back}
 use Rattle.delaunay_removal.proofs.BothRounds.{starts_there}

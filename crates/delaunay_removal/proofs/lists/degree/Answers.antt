@@ -1,5 +1,5 @@
 use Rattle.std.proofs.Common.{ℕ, subst}
-use Rattle.half_edge_mesh.specs.Round.{IsRound}
+use Rattle.delaunay_legalization.specs.half_edge_mesh.Round.{IsRound}
 use Rattle.delaunay_removal.specs.Pairs.{HasRoomAt}
 use Rattle.delaunay_removal.proofs.Degrees.{room_of_round, room_of_none, round_listed}
 use Rattle.delaunay_removal.proofs.Degrees.{none_listed}

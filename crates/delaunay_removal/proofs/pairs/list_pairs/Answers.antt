@@ -1,7 +1,7 @@
 use Rattle.std.proofs.Common.{List, ℕ, ◌++◌, length, map, sym, subst}
-use Rattle.plane_edits.specs.Legal.{AllPassBut}
-use Rattle.mesh_embedding.specs.Drawn.{faces_of}
-use Rattle.mesh_embedding.specs.Legal.{AreEdges}
+use Rattle.delaunay_legalization.specs.plane_edits.Legal.{AllPassBut}
+use Rattle.delaunay_legalization.specs.mesh_embedding.Drawn.{faces_of}
+use Rattle.delaunay_legalization.specs.mesh_embedding.Legal.{AreEdges}
 use Rattle.delaunay_legalization.specs.Constraints.{constraint_pairs}
 use Rattle.delaunay_legalization.proofs.Pushing.{no_edges}
 use Rattle.delaunay_removal.specs.Pairs.{FailOnlyAt, pairs_left}

@@ -1,7 +1,7 @@
 use Rattle.std.proofs.Common.{ℕ, ◌<◌, map, sym, subst}
 use Rattle.std.proofs.lemmas.List.{length-map}
-use Rattle.half_edge_mesh.specs.Round.{IsRound}
-use Rattle.mesh_embedding.proofs.MeshStars.{vertex_has_edge}
+use Rattle.delaunay_legalization.specs.half_edge_mesh.Round.{IsRound}
+use Rattle.delaunay_legalization.proofs.mesh_embedding.MeshStars.{vertex_has_edge}
 use Rattle.delaunay_removal.specs.Star.{HasInnerFaces}
 use Rattle.delaunay_removal.proofs.Drops.{in_the_plane}
 use Rattle.delaunay_removal.proofs.removal.isolate.Goals as goal

@@ -1,5 +1,5 @@
 use Rattle.std.proofs.Common.{ℕ, ◌<◌, [], ◌∷◌, map, sym, subst, arith}
-use Rattle.half_edge_mesh.specs.Round.{neighbour}
+use Rattle.delaunay_legalization.specs.half_edge_mesh.Round.{neighbour}
 use Rattle.delaunay_removal.specs.Data.{StandsBeside}
 use Rattle.delaunay_removal.proofs.DataStays.{pairs_kept, stands_put}
 use Rattle.delaunay_removal.proofs.HullStars.{hull_ends_differ, left_of, right_of}

@@ -1,5 +1,5 @@
 use Rattle.std.proofs.Common.{◌≡◌, length, ap, ◌∙◌, arith}
-use Rattle.half_edge_mesh.specs.Mesh.{origin, face, rev}
+use Rattle.delaunay_legalization.specs.half_edge_mesh.Mesh.{origin, face, rev}
 use Rattle.delaunay_legalization.proofs.Questions.{both_ways}
 use Rattle.delaunay_removal.proofs.Searching.{search_goes_on}
 use Rattle.delaunay_removal.proofs.HullEdges.{faces_inner}

@@ -1,5 +1,5 @@
 use Rattle.std.proofs.Common.{◌≡◌, length}
-use Rattle.half_edge_mesh.specs.Mesh.{face, rev}
+use Rattle.delaunay_legalization.specs.half_edge_mesh.Mesh.{face, rev}
 use Rattle.delaunay_removal.proofs.Searching.{IsSearching}
 use Rattle.delaunay_removal.proofs.removal_hull.outer_edge_beside.Given as goal
 

@@ -1,6 +1,6 @@
 use Rattle.std.proofs.Common.{◌<◌, ◌∙◌, map, vec_len, vec_capacity, refl, sym, subst, arith}
-use Rattle.half_edge_mesh.specs.Mesh.{origin}
-use Rattle.half_edge_mesh.specs.Round.{neighbour}
+use Rattle.delaunay_legalization.specs.half_edge_mesh.Mesh.{origin}
+use Rattle.delaunay_legalization.specs.half_edge_mesh.Round.{neighbour}
 use Rattle.delaunay_removal.proofs.DataStays.{all_stands}
 use Rattle.delaunay_removal.proofs.HullStars.{has_two}
 use Rattle.delaunay_removal.proofs.HullShrinking.{bent_at_end, turnable_place}

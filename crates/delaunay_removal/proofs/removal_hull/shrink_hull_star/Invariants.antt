@@ -1,5 +1,5 @@
 use Rattle.std.proofs.Common.{vec_len, vec_capacity}
-use Rattle.half_edge_mesh.specs.Mesh.{origin}
+use Rattle.delaunay_legalization.specs.half_edge_mesh.Mesh.{origin}
 use Rattle.delaunay_removal.proofs.HullShrinking.{IsHullShrinking}
 use Rattle.delaunay_removal.proofs.removal_hull.shrink_hull_star.Given as goal
 

@@ -1,5 +1,5 @@
 use Rattle.std.proofs.Common.{ℕ, ◌<◌, [], ◌∷◌, map, subst, sym, arith}
-use Rattle.half_edge_mesh.specs.Round.{neighbour}
+use Rattle.delaunay_legalization.specs.half_edge_mesh.Round.{neighbour}
 use Rattle.delaunay_removal.specs.Data.{StandsBeside}
 use Rattle.delaunay_removal.proofs.DataStays.{pairs_kept, stands_put}
 use Rattle.delaunay_removal.proofs.InnerStars.{spokes_inner, ends_differ, starts_after}

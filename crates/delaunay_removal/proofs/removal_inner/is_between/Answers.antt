@@ -1,8 +1,8 @@
 use Rattle.std.proofs.Common.{ℕ, ◌<◌, map, subst, sym, ap, ◌∙◌}
 use Rattle.std.proofs.lemmas.List.{length-map}
-use Rattle.half_edge_mesh.specs.Mesh.{origin}
-use Rattle.half_edge_mesh.specs.Peel.{turn}
-use Rattle.delaunay_core.specs.Place.{place_of}
+use Rattle.delaunay_legalization.specs.half_edge_mesh.Mesh.{origin}
+use Rattle.delaunay_legalization.specs.half_edge_mesh.Peel.{turn}
+use Rattle.delaunay_legalization.specs.delaunay_core.Place.{place_of}
 use Rattle.delaunay_legalization.proofs.Questions.{covered_in}
 use Rattle.delaunay_removal.proofs.Between.{ends_apart, not_from, not_to, between_read}
 use Rattle.delaunay_removal.proofs.removal_inner.is_between.Goals as goal

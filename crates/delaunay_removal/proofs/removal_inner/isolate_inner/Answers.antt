@@ -1,5 +1,5 @@
 use Rattle.std.proofs.Common.{ℕ, vec_len, vec_capacity, sym, ◌∙◌, subst, arith}
-use Rattle.half_edge_mesh.specs.Mesh.{origin}
+use Rattle.delaunay_legalization.specs.half_edge_mesh.Mesh.{origin}
 use Rattle.delaunay_removal.specs.Pairs.{HasRoomAt}
 use Rattle.delaunay_removal.proofs.Isolating.{inner_as, same_sites, three_wheel, three_isolates}
 use Rattle.delaunay_removal.proofs.Isolating.{four_star, four_between, four_star_named}

@@ -1,7 +1,7 @@
 use Rattle.std.proofs.Common.{ℕ, ◌<◌, ◌≤◌, ◌-◌, ◌∙◌, map, vec_len, vec_capacity, refl}
 use Rattle.std.proofs.Common.{subst, sym, arith}
-use Rattle.half_edge_mesh.specs.Mesh.{origin}
-use Rattle.half_edge_mesh.specs.Round.{neighbour}
+use Rattle.delaunay_legalization.specs.half_edge_mesh.Mesh.{origin}
+use Rattle.delaunay_legalization.specs.half_edge_mesh.Round.{neighbour}
 use Rattle.delaunay_removal.proofs.DataStays.{all_stands}
 use Rattle.delaunay_removal.proofs.InnerStars.{spokes_inner, ends_differ}
 use Rattle.delaunay_removal.proofs.Shrinking.{star_at, shrinking_goes_on, shrinking_stops}

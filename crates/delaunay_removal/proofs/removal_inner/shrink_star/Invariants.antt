@@ -1,5 +1,5 @@
 use Rattle.std.proofs.Common.{vec_len, vec_capacity}
-use Rattle.half_edge_mesh.specs.Mesh.{origin}
+use Rattle.delaunay_legalization.specs.half_edge_mesh.Mesh.{origin}
 use Rattle.delaunay_removal.proofs.Shrinking.{IsShrinking}
 use Rattle.delaunay_removal.proofs.removal_inner.shrink_star.Given as goal
 

@@ -1,4 +1,4 @@
-use Rattle.mesh_embedding.proofs.MeshRemovals.{line_plain_removes}
+use Rattle.delaunay_legalization.proofs.mesh_embedding.MeshRemovals.{line_plain_removes}
 use Rattle.delaunay_removal.proofs.Removing.{few_edges_of, value_was, line_kept}
 use Rattle.delaunay_removal.proofs.DataDrops.{line_data_kept, line_renumbers}
 use Rattle.delaunay_removal.proofs.LeftFaces.{line_faces_leave}

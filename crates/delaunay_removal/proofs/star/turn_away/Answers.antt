@@ -1,8 +1,8 @@
 use Rattle.std.proofs.Common.{◌≢◌, ℕ, ◌*◌, ◌/◌, ◌<◌, [], ◌∷◌, ◌++◌, map, sym, ap, ◌∙◌, subst}
-use Rattle.half_edge_mesh.specs.Mesh.{origin, prev, rev}
-use Rattle.half_edge_mesh.specs.Flip.{IsFlippable, flipped}
-use Rattle.half_edge_mesh.specs.Triangles.{FlipsTriangles}
-use Rattle.half_edge_links.proofs.Removing.Conditions.{between_faces}
+use Rattle.delaunay_legalization.specs.half_edge_mesh.Mesh.{origin, prev, rev}
+use Rattle.delaunay_legalization.specs.half_edge_mesh.Flip.{IsFlippable, flipped}
+use Rattle.delaunay_legalization.specs.half_edge_mesh.Triangles.{FlipsTriangles}
+use Rattle.delaunay_legalization.proofs.half_edge_links.Removing.Conditions.{between_faces}
 use Rattle.delaunay_removal.proofs.Turns.{may_turn}
 use Rattle.delaunay_removal.proofs.DataTurns.{turned_stands}
 use Rattle.delaunay_removal.proofs.star.turn_away.Goals as goal

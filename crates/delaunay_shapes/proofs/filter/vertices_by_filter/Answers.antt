@@ -1,7 +1,7 @@
 use Rattle.std.proofs.Common.{ℕ, ◌+◌, List, ◌∙◌, refl, sym, ap, map, length, subst, arith}
 use Rattle.std.proofs.lemmas.List.{length-map}
-use Rattle.plane.specs.Fraction.{whole}
-use Rattle.delaunay_core.specs.Place.{place_of}
+use Rattle.delaunay_location.specs.plane.Fraction.{whole}
+use Rattle.delaunay_location.specs.delaunay_core.Place.{place_of}
 use Rattle.delaunay_shapes.specs.Known.{point_at}
 use Rattle.delaunay_shapes.proofs.Asking.{IsFilteredTo, filter_finds, filter_passes}
 use Rattle.delaunay_shapes.proofs.Handles.{vertex_covered, vertex_told, filtered_within}

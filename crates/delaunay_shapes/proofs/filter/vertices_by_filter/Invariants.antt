@@ -1,5 +1,5 @@
 use Rattle.std.proofs.Common.{map}
-use Rattle.plane.specs.Fraction.{whole}
+use Rattle.delaunay_location.specs.plane.Fraction.{whole}
 use Rattle.delaunay_shapes.specs.Known.{point_at}
 use Rattle.delaunay_shapes.proofs.Asking.{IsFilteredTo}
 use Rattle.delaunay_shapes.proofs.filter.vertices_by_filter.Given as goal

@@ -1,9 +1,10 @@
 use Rattle.std.proofs.Common.{ℕ, refl, sym, ap, subst, ◌∙◌, arith}
-use Rattle.half_edge_mesh.specs.Mesh.{origin}
-use Rattle.half_edge_mesh.specs.Rounds.{GivesRound, out_edges_left}
-use Rattle.delaunay_legalization.proofs.Rounds.{round_begins, next_within, next_starts}
-use Rattle.delaunay_legalization.proofs.Rounds.{round_goes_on, round_ends}
-use Rattle.delaunay_legalization.proofs.Questions.{both_ways}
+use Rattle.delaunay_lines.specs.half_edge_mesh.Mesh.{origin}
+use Rattle.delaunay_lines.specs.half_edge_mesh.Rounds.{GivesRound, out_edges_left}
+use Rattle.delaunay_lines.proofs.delaunay_legalization_lemmas.Rounds.{round_begins, next_within}
+use Rattle.delaunay_lines.proofs.delaunay_legalization_lemmas.Rounds.{next_starts, round_goes_on}
+use Rattle.delaunay_lines.proofs.delaunay_legalization_lemmas.Rounds.{round_ends}
+use Rattle.delaunay_lines.proofs.delaunay_legalization_lemmas.Questions.{both_ways}
 use Rattle.delaunay_sight.specs.Beside.{IsFreeBeside}
 use Rattle.delaunay_sight.proofs.edges.is_free_round.Goals as goal
 

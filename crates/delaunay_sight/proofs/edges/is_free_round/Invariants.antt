@@ -1,6 +1,6 @@
 use Rattle.std.proofs.Common.{ℕ}
-use Rattle.half_edge_mesh.specs.Rounds.{out_edges_left}
-use Rattle.delaunay_legalization.proofs.Rounds.{IsGoingRound}
+use Rattle.delaunay_lines.specs.half_edge_mesh.Rounds.{out_edges_left}
+use Rattle.delaunay_lines.proofs.delaunay_legalization_lemmas.Rounds.{IsGoingRound}
 use Rattle.delaunay_sight.specs.Beside.{IsFreeBeside}
 use Rattle.delaunay_sight.proofs.edges.is_free_round.Given as goal
 

@@ -1,7 +1,7 @@
 use Rattle.std.proofs.Common.{◌<◌, ℕ, refl, map, sym, subst, inl, inr}
-use Rattle.delaunay_core.specs.Place.{place_of}
-use Rattle.delaunay_location.specs.Location.{Locates}
-use Rattle.delaunay_legalization.proofs.Questions.{both_ways}
+use Rattle.delaunay_lines.specs.delaunay_core.Place.{place_of}
+use Rattle.delaunay_lines.specs.delaunay_location.Location.{Locates}
+use Rattle.delaunay_lines.proofs.delaunay_legalization_lemmas.Questions.{both_ways}
 use Rattle.delaunay_lines.specs.Steps.{IsOverMesh}
 use Rattle.delaunay_lines.proofs.Located.{on_that_vertex}
 use Rattle.delaunay_sight.proofs.Crossed.{iff_through, iff_named}

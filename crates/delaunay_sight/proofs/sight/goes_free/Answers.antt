@@ -1,6 +1,6 @@
-use Rattle.delaunay_core.specs.Place.{place_of}
-use Rattle.plane.specs.Fraction.{whole}
-use Rattle.delaunay_legalization.specs.State.{state_of}
+use Rattle.delaunay_lines.specs.delaunay_core.Place.{place_of}
+use Rattle.delaunay_lines.specs.plane.Fraction.{whole}
+use Rattle.delaunay_lines.specs.delaunay_legalization.State.{state_of}
 use Rattle.delaunay_sight.specs.Beside.{by_place}
 use Rattle.delaunay_sight.proofs.Decided.{goes_free, over_line}
 use Rattle.delaunay_sight.proofs.sight.goes_free.Goals as goal

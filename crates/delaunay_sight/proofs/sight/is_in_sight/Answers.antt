@@ -1,11 +1,11 @@
 use Rattle.std.proofs.Common.{◌↔◌, IsTrue, refl, map, subst}
 use Rattle.std.specs.Prelude.{All}
-use Rattle.plane.specs.Fraction.{whole}
-use Rattle.plane.specs.Tests.{InRange}
+use Rattle.delaunay_lines.specs.plane.Fraction.{whole}
+use Rattle.delaunay_lines.specs.plane.Tests.{InRange}
 use Rattle.plane_sight.specs.Sight.{IsInFree, IsInSight}
-use Rattle.delaunay_core.specs.Place.{place_of}
-use Rattle.delaunay_legalization.specs.State.{triangulation_of}
-use Rattle.delaunay_legalization.proofs.Questions.{both_ways}
+use Rattle.delaunay_lines.specs.delaunay_core.Place.{place_of}
+use Rattle.delaunay_lines.specs.delaunay_legalization.State.{triangulation_of}
+use Rattle.delaunay_lines.proofs.delaunay_legalization_lemmas.Questions.{both_ways}
 use Rattle.delaunay_sight.specs.Beside.{by_place}
 use Rattle.delaunay_sight.proofs.Decided.{sees_start, of_state}
 use Rattle.delaunay_sight.proofs.sight.is_in_sight.Goals as goal

@@ -1,7 +1,7 @@
 use Rattle.std.proofs.Common.{refl}
-use Rattle.delaunay_core.specs.Place.{place_of}
-use Rattle.delaunay_legalization.specs.State.{state_of, triangulation_of}
-use Rattle.delaunay_legalization.proofs.Questions.{both_ways}
+use Rattle.delaunay_lines.specs.delaunay_core.Place.{place_of}
+use Rattle.delaunay_lines.specs.delaunay_legalization.State.{state_of, triangulation_of}
+use Rattle.delaunay_lines.proofs.delaunay_legalization_lemmas.Questions.{both_ways}
 use Rattle.delaunay_sight.specs.Beside.{by_place}
 use Rattle.delaunay_sight.proofs.Decided.{sees_if, sees_end}
 use Rattle.delaunay_sight.proofs.sight.sees.Goals as goal

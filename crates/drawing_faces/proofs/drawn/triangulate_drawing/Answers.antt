@@ -2,7 +2,7 @@ use Rattle.std.proofs.Common.{ℕ, List, ◌≤◌, ◌∙◌, length, map, ap, 
 use Rattle.std.specs.Prelude.{All}
 use Rattle.delaunay_bulk.specs.Bulk.{HaveHandles}
 use Rattle.delaunay_interface.specs.Constrained.{constraint_edges}
-use Rattle.delaunay_legalization.specs.State.{triangulation_of}
+use Rattle.delaunay_interface.specs.delaunay_legalization.State.{triangulation_of}
 use Rattle.drawing_faces.specs.Drawing.{ends_of, face_of}
 use Rattle.drawing_faces.specs.Kept.{AreKept, IsLeftOut}
 use Rattle.drawing_faces.specs.Names.{places_of, position}

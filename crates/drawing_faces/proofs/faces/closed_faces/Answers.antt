@@ -1,6 +1,6 @@
 use Rattle.std.proofs.Common.{◌≡◌, ◌∙◌, drop, map, ap, sym, subst}
 use Rattle.std.proofs.lemmas.Result.{IfOk-weaker}
-use Rattle.delaunay_legalization.specs.State.{triangulation_of}
+use Rattle.delaunay_interface.specs.delaunay_legalization.State.{triangulation_of}
 use Rattle.drawing_faces.specs.declared.faces.Kept.TheVariants.{Inside}
 use Rattle.drawing_faces.specs.Drawing.{face_of, faces_inside}
 use Rattle.drawing_faces.specs.Kept.{AreKept, IsLeftOut}

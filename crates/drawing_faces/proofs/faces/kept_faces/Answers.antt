@@ -1,6 +1,6 @@
 use Rattle.std.proofs.Common.{◌≡◌, map}
 use Rattle.std.proofs.lemmas.Result.{IfOk-weaker}
-use Rattle.delaunay_legalization.specs.State.{triangulation_of}
+use Rattle.delaunay_interface.specs.delaunay_legalization.State.{triangulation_of}
 use Rattle.drawing_faces.specs.declared.faces.Kept.TheVariants.{All}
 use Rattle.drawing_faces.specs.Drawing.{face_of}
 use Rattle.drawing_faces.specs.Kept.{AreKept, IsLeftOut}

@@ -1,6 +1,6 @@
 use Rattle.std.proofs.Common.{◌≤◌, ℕ, [], length}
 use Rattle.std.proofs.lemmas.List.Elements.{All-cons, All-nil}
-use Rattle.delaunay_location.specs.declared.position_in_triangulation.PositionInTriangulation.TheVariants.{OnFace}
+use Rattle.delaunay_interface.specs.delaunay_location.declared.position_in_triangulation.PositionInTriangulation.TheVariants.{OnFace}
 use Rattle.drawing_faces.proofs.holes.add_faces.Goals as goal
 
 pub returns-in_ok-push-in-OnFace : goal.returns-in_ok-push-in-OnFace

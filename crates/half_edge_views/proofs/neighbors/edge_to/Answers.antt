@@ -1,5 +1,5 @@
 use Rattle.std.proofs.Common.{◌≡◌, ◌+◌, ◌∙◌, ℕ, sym, arith}
-use Rattle.half_edge_links.specs.Peel.{spoke}
+use Rattle.half_edge_dcel.specs.half_edge_links.Peel.{spoke}
 use Rattle.half_edge_views.proofs.Joined.{turned_spoke, turned_end, spoke-within, spoke-starts}
 use Rattle.half_edge_views.proofs.Joined.{missed_more, missed_all}
 use Rattle.half_edge_views.proofs.neighbors.edge_to.Goals as goal

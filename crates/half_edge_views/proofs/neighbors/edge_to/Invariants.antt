@@ -1,6 +1,6 @@
 use Rattle.std.proofs.Common.{◌≡◌, ◌≢◌, ◌<◌, ℕ, length}
-use Rattle.half_edge_links.specs.Mesh.{origin, rev}
-use Rattle.half_edge_links.specs.Peel.{spoke}
+use Rattle.half_edge_dcel.specs.half_edge_links.Mesh.{origin, rev}
+use Rattle.half_edge_dcel.specs.half_edge_links.Peel.{spoke}
 use Rattle.half_edge_views.proofs.neighbors.edge_to.Given as goal
 
 abbrev pub invariant-loop : goal.invariant-loop

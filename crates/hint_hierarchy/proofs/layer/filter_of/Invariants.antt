@@ -1,5 +1,5 @@
 use Rattle.std.proofs.Common.{map}
-use Rattle.delaunay_core.specs.Place.{place_of}
+use Rattle.delaunay_interface.specs.delaunay_core.Place.{place_of}
 use Rattle.hint_hierarchy.proofs.Filtered.{HasBit}
 use Rattle.hint_hierarchy.proofs.Held.{AllBefore}
 use Rattle.hint_hierarchy.proofs.layer.filter_of.Given as goal

@@ -2,7 +2,7 @@ use Rattle.std.proofs.Common.{Some, refl, sym, ap, inl, inr}
 use Rattle.std.specs.Prelude.{Contains}
 use mathlib.Core.Logic.{⊎_elim}
 use Rattle.std.proofs.lemmas.List.Elements.{All-contains}
-use Rattle.delaunay_core.specs.Place.{place_of}
+use Rattle.delaunay_interface.specs.delaunay_core.Place.{place_of}
 use Rattle.hint_hierarchy.specs.Layers.{positions}
 use Rattle.hint_hierarchy.proofs.Held.{all_from_each, sites_with}
 use Rattle.hint_hierarchy.proofs.removal.remove_from_layer.Goals as goal

@@ -1,6 +1,6 @@
 use Rattle.std.proofs.Common.{◌≡◌, List, rules, sym, subst}
 use Rattle.std.specs.Prelude.{All, map}
-use Rattle.plane.specs.Tests.{InRange}
+use Rattle.delaunay_interface.specs.plane.Tests.{InRange}
 use Rattle.test_points.specs.declared.TaggedVertex.{TaggedVertex}
 use Rattle.test_points.specs.Vertices.{position_of}
 use Rattle.test_edits.proofs.CopiedPieces.{free_in_copy}

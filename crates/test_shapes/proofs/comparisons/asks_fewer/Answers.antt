@@ -1,7 +1,7 @@
 use Rattle.std.proofs.Common.{ap}
 use Rattle.std.proofs.lemmas.List.Elements.{All-map}
-use Rattle.plane.specs.Tests.{InRange}
-use Rattle.delaunay_core.specs.Place.{place_of}
+use Rattle.delaunay_interface.specs.plane.Tests.{InRange}
+use Rattle.delaunay_interface.specs.delaunay_core.Place.{place_of}
 use Rattle.test_points.specs.Vertices.{position_of}
 use Rattle.test_shapes.proofs.Asked.{begins_at, corners_in_range}
 use Rattle.test_shapes.proofs.comparisons.asks_fewer.Goals as goal

@@ -1,4 +1,4 @@
-use Rattle.delaunay_core.specs.Place.{place_of}
+use Rattle.delaunay_interface.specs.delaunay_core.Place.{place_of}
 use Rattle.test_shapes.proofs.Asked.{corners_in_range}
 use Rattle.test_shapes.proofs.comparisons.expected_in_rectangle.Goals as goal
 

@@ -1,5 +1,5 @@
 use Rattle.std.proofs.lemmas.List.Elements.{All-map}
-use Rattle.plane.specs.Tests.{InRange}
+use Rattle.delaunay_interface.specs.plane.Tests.{InRange}
 use Rattle.test_points.specs.Vertices.{position_of}
 use Rattle.test_shapes.proofs.comparisons.looked_up.Goals as goal
 

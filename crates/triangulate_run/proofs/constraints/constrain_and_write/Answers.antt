@@ -1,6 +1,6 @@
 use Rattle.std.proofs.Common.{◌≡◌, ◌≢◌, ℕ, ◌<◌, List, [], length, refl, sym, inl, inr, subst, arith}
 use Rattle.std.specs.Prelude.{All}
-use Rattle.delaunay_core.specs.declared.math.InsertionError.TheVariants.{OutOfMemory}
+use Rattle.delaunay_edit.specs.delaunay_core.declared.math.InsertionError.TheVariants.{OutOfMemory}
 use Rattle.triangulate_run.specs.declared.reply.Reply.TheVariants.{NoPath, Refused}
 use Rattle.triangulate_run.specs.Engine.{ends_in}
 use Rattle.triangulate_run.specs.Output.{Writes}

@@ -2,9 +2,9 @@ use Rattle.std.proofs.Common.{◌≡◌, ◌∙◌, ◌+◌}
 use Rattle.std.proofs.Common.{length, map, ap, sym, subst, arith, rules, SFits, w64, to_z-of_z}
 use Rattle.std.specs.Prelude.{ℤ, slice_get, Some}
 use Rattle.std.proofs.lemmas.List.{length-map}
-use Rattle.plane.specs.Fraction.{whole}
-use Rattle.plane.specs.Circle.{gap}
-use Rattle.delaunay_legalization.specs.State.{triangulation_of}
+use Rattle.delaunay_edit.specs.plane.Fraction.{whole}
+use Rattle.delaunay_edit.specs.plane.Circle.{gap}
+use Rattle.delaunay_edit.specs.delaunay_legalization.State.{triangulation_of}
 use Rattle.delaunay_edit.proofs.Removing.{read_place}
 use Rattle.triangulate_run.specs.Stage.{position}
 use Rattle.triangulate_run.proofs.Distances.{IsLeastBefore, IsLesser, vertex_in_range}

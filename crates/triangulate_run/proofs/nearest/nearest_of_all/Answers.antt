@@ -1,5 +1,5 @@
 use Rattle.std.proofs.Common.{sym, subst, rules, SFits, w64, to_z-of_z}
-use Rattle.delaunay_legalization.specs.State.{triangulation_of}
+use Rattle.delaunay_edit.specs.delaunay_legalization.State.{triangulation_of}
 use Rattle.triangulate_run.specs.Answer.{IsVertexDistance}
 use Rattle.triangulate_run.specs.Stage.{position}
 use Rattle.triangulate_run.proofs.Distances.{covered_if_listed, no_vertex}

@@ -1,6 +1,6 @@
 use Rattle.std.proofs.Common.{◌≡◌, ap, sym, subst, rules, SFits, w64, to_z-of_z}
 use Rattle.std.specs.Prelude.{slice_get, Some}
-use Rattle.delaunay_legalization.specs.State.{triangulation_of}
+use Rattle.delaunay_edit.specs.delaunay_legalization.State.{triangulation_of}
 use Rattle.delaunay_edit.proofs.Removing.{read_place}
 use Rattle.triangulate_run.specs.Answer.{IsVertexDistance}
 use Rattle.triangulate_run.specs.Stage.{position}

@@ -1,6 +1,6 @@
 use Rattle.std.proofs.Common.{◌∙◌, sym}
 use Rattle.std.proofs.lemmas.Bool.{true≢false}
-use Rattle.delaunay_core.specs.Place.{place_of}
+use Rattle.delaunay_edit.specs.delaunay_core.Place.{place_of}
 use Rattle.triangulate_run.specs.Points.{IsSiteAt}
 use Rattle.triangulate_run.proofs.Found.{none_up_to, not_here}
 use Rattle.triangulate_run.proofs.points.site_index_of.Goals as goal

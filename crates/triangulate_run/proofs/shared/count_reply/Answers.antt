@@ -1,5 +1,5 @@
 use Rattle.triangulate_run.specs.Stage.{position}
-use Rattle.delaunay_legalization.specs.State.{triangulation_of}
+use Rattle.delaunay_edit.specs.delaunay_legalization.State.{triangulation_of}
 use Rattle.triangulate_run.proofs.Locations.{edges_counted}
 use Rattle.triangulate_run.proofs.shared.count_reply.Goals as goal
 

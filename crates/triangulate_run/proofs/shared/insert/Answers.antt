@@ -1,8 +1,8 @@
 use Rattle.std.proofs.Common.{ℕ, inl, inr, map, refl, sym, ◌∙◌, ap, subst}
-use Rattle.plane.specs.Plain.{Replaces}
+use Rattle.delaunay_edit.specs.plane.Plain.{Replaces}
 use Rattle.triangulate_run.specs.Stage.{position}
-use Rattle.delaunay_legalization.specs.Constraints.{points_and_constraints_by}
-use Rattle.mesh_embedding.specs.Drawn.{drawn}
+use Rattle.delaunay_edit.specs.delaunay_legalization.Constraints.{points_and_constraints_by}
+use Rattle.delaunay_edit.specs.mesh_embedding.Drawn.{drawn}
 use Rattle.triangulate_run.proofs.Insertions.{unknown_if_fresh, known_if_there, may_refuse}
 use Rattle.triangulate_run.proofs.Insertions.{site_if_listed, listed_if_found, mesh_kept}
 use Rattle.triangulate_run.proofs.Insertions.{places_kept, sites_kept, sites_more}

@@ -1,4 +1,4 @@
-use Rattle.delaunay_legalization.specs.State.{triangulation_of}
+use Rattle.delaunay_edit.specs.delaunay_legalization.State.{triangulation_of}
 use Rattle.triangulate_run.specs.Stage.{position}
 use Rattle.triangulate_run.proofs.Insertions.{listed_if_known}
 use Rattle.triangulate_run.proofs.Locations.{located}

@@ -1,12 +1,12 @@
 use Rattle.std.proofs.Common.{◌∙◌, ap, subst}
-use Rattle.plane.specs.Fraction.{whole}
-use Rattle.plane.specs.Location.{IsLocation}
-use Rattle.half_edge_mesh.specs.Mesh.{origin, rev}
-use Rattle.delaunay_location.specs.declared.position_in_triangulation.PositionInTriangulation.{PositionInTriangulation}
+use Rattle.delaunay_edit.specs.plane.Fraction.{whole}
+use Rattle.delaunay_edit.specs.plane.Location.{IsLocation}
+use Rattle.delaunay_edit.specs.half_edge_mesh.Mesh.{origin, rev}
+use Rattle.delaunay_edit.specs.delaunay_location.declared.position_in_triangulation.PositionInTriangulation.{PositionInTriangulation}
 use Rattle.delaunay_edit.specs.Location.{location_of}
 use Rattle.triangulate_run.specs.MeshFaces.{row_at}
 use Rattle.triangulate_run.specs.Stage.{position}
-use Rattle.delaunay_legalization.specs.State.{triangulation_of}
+use Rattle.delaunay_edit.specs.delaunay_legalization.State.{triangulation_of}
 use Rattle.triangulate_run.proofs.Locations.{edge_there, face_there}
 use Rattle.triangulate_run.proofs.shared.location_reply.Goals as goal
 

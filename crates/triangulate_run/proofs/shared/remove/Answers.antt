@@ -1,10 +1,10 @@
 use Rattle.std.proofs.Common.{◌≡◌, ◌∙◌}
 use Rattle.std.proofs.Common.{ℕ, ℤ, List, ap, sym, subst, rules, SFits, w64, to_z, of_z, to_z-of_z}
 use Rattle.std.specs.Prelude.{slice_get, Some}
-use Rattle.delaunay_core.specs.declared.point.Point2.{Point2}
-use Rattle.plane.specs.Plain.{Removes}
+use Rattle.delaunay_edit.specs.delaunay_core.declared.point.Point2.{Point2}
+use Rattle.delaunay_edit.specs.plane.Plain.{Removes}
 use Rattle.triangulate_run.specs.Stage.{position}
-use Rattle.delaunay_legalization.specs.Constraints.{points_and_constraints_by}
+use Rattle.delaunay_edit.specs.delaunay_legalization.Constraints.{points_and_constraints_by}
 use Rattle.delaunay_edit.proofs.Removing.{sites_left}
 use Rattle.triangulate_run.proofs.shared.remove.Goals as goal
 

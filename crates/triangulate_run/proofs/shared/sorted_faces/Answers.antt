@@ -4,13 +4,13 @@ use Rattle.std.proofs.Common.{List, ◌≢◌, ◌≡◌, ◌++◌, length, map,
 use Rattle.std.specs.List.{range_with_len}
 use Rattle.std.proofs.Common.{arith}
 use Rattle.std.proofs.lemmas.List.{length-map}
-use Rattle.half_edge_mesh.specs.Triangles.{triangles, triangle_at}
+use Rattle.delaunay_edit.specs.half_edge_mesh.Triangles.{triangles, triangle_at}
 use Rattle.spade_delaunay.specs.InnerFaces.{inner_faces_left}
 use Rattle.triangulate_run.specs.Stage.{position}
-use Rattle.delaunay_legalization.specs.State.{triangulation_of}
-use Rattle.mesh_embedding.specs.Drawn.{corners_of}
+use Rattle.delaunay_edit.specs.delaunay_legalization.State.{triangulation_of}
+use Rattle.delaunay_edit.specs.mesh_embedding.Drawn.{corners_of}
 use Rattle.triangulate_run.specs.MeshFaces.{row_at}
-use Rattle.delaunay_legalization.proofs.Rounds.{first_left, none_left}
+use Rattle.delaunay_edit.proofs.delaunay_legalization_lemmas.Rounds.{first_left, none_left}
 use Rattle.triangulate_run.proofs.MeshFaces.{row_more, rows_end, rows_by_index, row_same_mesh}
 use Rattle.triangulate_run.proofs.MeshFaces.{twice}
 use Rattle.triangulate_run.proofs.FaceList.{lists_faces, rows_differ}

@@ -2,7 +2,7 @@ use Rattle.std.proofs.Common.{◌∙◌, ℕ, List, map, sym, ap, subst}
 use Rattle.std.specs.Prelude.{All}
 use Rattle.std.specs.Vec.Iter.{into_iter_items}
 use Rattle.std.proofs.lemmas.List.Elements.{All-head}
-use Rattle.plane.specs.Tests.{InRange}
+use Rattle.delaunay_interface.specs.plane.Tests.{InRange}
 use Rattle.delaunay_interface.proofs.Stepping.{inserted_sites}
 use Rattle.delaunay_bulk.specs.Order.{entry_of}
 use Rattle.delaunay_bulk.proofs.bulk_insertion.BulkInsertion.insert_next.Goals as goal

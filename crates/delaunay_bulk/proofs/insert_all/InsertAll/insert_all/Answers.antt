@@ -2,8 +2,8 @@ use Rattle.std.proofs.Common.{ℕ, List, sym, subst, arith, inr}
 use Rattle.std.proofs.lemmas.List.{length-map}
 use Rattle.std.proofs.lemmas.List.Elements.{All-rest}
 use Rattle.std.proofs.lemmas.Result.{err_from_is_err_and}
-use Rattle.plane.specs.Tests.{InRange}
-use Rattle.delaunay_legalization.specs.State.{State}
+use Rattle.delaunay_interface.specs.plane.Tests.{InRange}
+use Rattle.delaunay_interface.specs.delaunay_legalization.State.{State}
 use Rattle.delaunay_interface.specs.Headline.{AreSites}
 use Rattle.delaunay_bulk.proofs.Turns.{IsUnderway, begins, ends, goes_on, has_place, next_was}
 use Rattle.delaunay_bulk.proofs.Turns.{none_was, one_of_all, refused_was, stops}

@@ -1,6 +1,6 @@
 use Rattle.std.proofs.Common.{length}
 use Rattle.std.specs.Prelude.{All}
-use Rattle.plane.specs.Tests.{InRange}
+use Rattle.delaunay_interface.specs.plane.Tests.{InRange}
 use Rattle.delaunay_interface.specs.Headline.{AreSites}
 use Rattle.delaunay_bulk.proofs.Turns.{IsUnderway}
 use Rattle.delaunay_bulk.proofs.insert_all.InsertAll.insert_all.Given as goal

@@ -1,8 +1,8 @@
 use Rattle.std.proofs.Common.{◌*◌, ◌<◌, ◌≤◌, length, map, refl, sym, ap, subst, arith}
-use Rattle.half_edge_links.specs.declared.room.TheConstants.{MAX_ELEMENTS}
-use Rattle.delaunay_legalization.specs.CdtEdge.{is_constraint}
-use Rattle.plane.specs.Plain.{CanAdd}
-use Rattle.delaunay_legalization.specs.State.{state_of}
+use Rattle.delaunay_paths.specs.half_edge_links.declared.room.TheConstants.{MAX_ELEMENTS}
+use Rattle.delaunay_paths.specs.delaunay_legalization.CdtEdge.{is_constraint}
+use Rattle.delaunay_paths.specs.plane.Plain.{CanAdd}
+use Rattle.delaunay_paths.specs.delaunay_legalization.State.{state_of}
 use Rattle.delaunay_paths.specs.Lists.{HaveRoom}
 use Rattle.delaunay_edit.specs.Constrained.{constrained, constraint_edges, constraints_of}
 use Rattle.delaunay_edit.specs.ConstraintEdits.{MarksEdges}

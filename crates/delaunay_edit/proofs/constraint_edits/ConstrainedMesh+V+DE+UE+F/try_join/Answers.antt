@@ -1,7 +1,7 @@
 use Rattle.std.proofs.Common.{◌≡◌, ◌<◌, ◌∙◌, Ok, length, refl, sym, subst}
 use Rattle.std.proofs.lemmas.Bool.{eqb-true}
-use Rattle.half_edge_mesh.specs.Mesh.{origin, rev}
-use Rattle.plane.specs.Plain.{CanAdd}
+use Rattle.delaunay_paths.specs.half_edge_mesh.Mesh.{origin, rev}
+use Rattle.delaunay_paths.specs.plane.Plain.{CanAdd}
 use Rattle.delaunay_edit.specs.Constrained.{constrained}
 use Rattle.delaunay_edit.proofs.OnePieceAdded.{edge_told, none_to_itself}
 use Rattle.delaunay_edit.proofs.constraint_edits.ConstrainedMesh+V+DE+UE+F.try_join.Goals as goal

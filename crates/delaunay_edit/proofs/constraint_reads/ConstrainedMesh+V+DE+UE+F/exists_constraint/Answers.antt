@@ -1,7 +1,7 @@
 use Rattle.std.proofs.Common.{◌↔◌, refl, subst, arith}
 use Rattle.std.specs.Prelude.{IsTrue}
-use Rattle.plane.specs.Pairs.{Joins}
-use Rattle.delaunay_legalization.proofs.Questions.{both_ways}
+use Rattle.delaunay_paths.specs.plane.Pairs.{Joins}
+use Rattle.delaunay_paths.proofs.delaunay_legalization_lemmas.Questions.{both_ways}
 use Rattle.delaunay_edit.specs.Constrained.{constraints_of}
 use Rattle.delaunay_edit.proofs.constraint_reads.ConstrainedMesh+V+DE+UE+F.exists_constraint.Goals as goal
 

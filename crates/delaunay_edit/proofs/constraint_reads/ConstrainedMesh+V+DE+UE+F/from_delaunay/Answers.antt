@@ -1,6 +1,6 @@
 use Rattle.std.proofs.Common.{refl, rules}
-use Rattle.delaunay_legalization.specs.CdtEdge.{is_constraint}
-use Rattle.delaunay_legalization.specs.State.{state_of}
+use Rattle.delaunay_paths.specs.delaunay_legalization.CdtEdge.{is_constraint}
+use Rattle.delaunay_paths.specs.delaunay_legalization.State.{state_of}
 use Rattle.delaunay_edit.specs.Constrained.{IsFree, constraint_edges, none}
 use Rattle.delaunay_edit.proofs.Constrained.{other_data_as, unconstrained}
 use Rattle.delaunay_edit.proofs.ConstraintEdges.{legal_after, none_after, other_data}

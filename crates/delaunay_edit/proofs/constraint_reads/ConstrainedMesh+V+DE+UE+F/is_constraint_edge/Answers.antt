@@ -1,8 +1,8 @@
 use Rattle.std.proofs.Common.{◌↔◌, refl, subst, inl}
 use Rattle.std.specs.Prelude.{Contains, IsTrue}
-use Rattle.delaunay_legalization.specs.Shape.{IsTriangulated}
+use Rattle.delaunay_paths.specs.delaunay_legalization.Shape.{IsTriangulated}
 use Rattle.delaunay_edit.proofs.ConstraintEdges.{joined_by, fixed_if_joined}
-use Rattle.delaunay_legalization.specs.CdtEdge.{is_constraint}
+use Rattle.delaunay_paths.specs.delaunay_legalization.CdtEdge.{is_constraint}
 use Rattle.delaunay_edit.specs.Constrained.{constraint_edges}
 use Rattle.delaunay_edit.proofs.constraint_reads.ConstrainedMesh+V+DE+UE+F.is_constraint_edge.Goals as goal
 

@@ -5,8 +5,9 @@ use Rattle.delaunay_edit.specs.Entry.{IsVacant}
 use Rattle.delaunay_edit.specs.Location.{Locates}
 use Rattle.delaunay_edit.proofs.CountingSplits.{counted_split, few_split}
 use Rattle.delaunay_edit.proofs.DifferentConstraints.{few_constraints}
-use Rattle.delaunay_legalization.specs.Shape.{IsTriangulated, IsDelaunayTriangulation}
-use Rattle.delaunay_legalization.specs.State.{state_of}
+use Rattle.delaunay_paths.specs.delaunay_legalization.Shape.{IsTriangulated}
+use Rattle.delaunay_paths.specs.delaunay_legalization.Shape.{IsDelaunayTriangulation}
+use Rattle.delaunay_paths.specs.delaunay_legalization.State.{state_of}
 use Rattle.delaunay_insertion.proofs.Appending.{sites_after}
 use Rattle.delaunay_insertion.proofs.DataKept.{appended_keeps}
 use Rattle.delaunay_insertion.proofs.LeftToTest.{passes_beside}

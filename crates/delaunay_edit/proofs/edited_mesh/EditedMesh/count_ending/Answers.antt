@@ -1,8 +1,8 @@
 use Rattle.std.proofs.Common.{ℕ, List, subst}
-use Rattle.plane.specs.Pairs.{Joins}
-use Rattle.mesh_embedding.proofs.EdgePairs.{no_joins}
-use Rattle.delaunay_legalization.specs.Constraints.{constraints_by}
-use Rattle.delaunay_legalization.specs.State.{state_of}
+use Rattle.delaunay_paths.specs.plane.Pairs.{Joins}
+use Rattle.delaunay_paths.proofs.mesh_embedding.EdgePairs.{no_joins}
+use Rattle.delaunay_paths.specs.delaunay_legalization.Constraints.{constraints_by}
+use Rattle.delaunay_paths.specs.delaunay_legalization.State.{state_of}
 use Rattle.delaunay_edit.specs.Counting.{EndsAt, HasPairs}
 use Rattle.delaunay_edit.proofs.EmptyRound.{none_counted}
 use Rattle.delaunay_edit.proofs.PairCounts.{no_pairs}

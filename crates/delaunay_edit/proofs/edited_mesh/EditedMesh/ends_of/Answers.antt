@@ -1,5 +1,5 @@
-use Rattle.delaunay_legalization.specs.State.{state_of}
-use Rattle.delaunay_legalization.proofs.MeshParts.{mesh_edge}
+use Rattle.delaunay_paths.specs.delaunay_legalization.State.{state_of}
+use Rattle.delaunay_paths.proofs.delaunay_legalization_lemmas.MeshParts.{mesh_edge}
 use Rattle.delaunay_edit.proofs.edited_mesh.EditedMesh.ends_of.Goals as goal
 
 pub returns-clause-edge : goal.returns-clause-edge

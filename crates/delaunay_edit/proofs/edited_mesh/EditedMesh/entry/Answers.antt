@@ -1,8 +1,8 @@
 use Rattle.std.proofs.Common.{map, subst, sym}
 use Rattle.std.specs.Prelude.{All}
-use Rattle.delaunay_core.specs.Place.{place_of}
-use Rattle.delaunay_location.specs.Location.{Locates}
-use Rattle.delaunay_location.proofs.Walking.{apart_elsewhere}
+use Rattle.delaunay_paths.specs.delaunay_core.Place.{place_of}
+use Rattle.delaunay_paths.specs.delaunay_location.Location.{Locates}
+use Rattle.delaunay_paths.proofs.delaunay_location_lemmas.Walking.{apart_elsewhere}
 use Rattle.delaunay_edit.proofs.Vertices.{here_if_on_vertex}
 use Rattle.delaunay_edit.proofs.edited_mesh.EditedMesh.entry.Goals as goal
 

@@ -1,5 +1,5 @@
 use Rattle.std.proofs.Common.{subst}
-use Rattle.delaunay_legalization.specs.Constraints.{points_and_constraints_by}
+use Rattle.delaunay_paths.specs.delaunay_legalization.Constraints.{points_and_constraints_by}
 use Rattle.delaunay_edit.specs.Halves.{AreHalvesAt}
 use Rattle.delaunay_edit.proofs.edited_mesh.EditedMesh.halves_at.Goals as goal
 

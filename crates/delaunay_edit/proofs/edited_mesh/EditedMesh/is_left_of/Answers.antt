@@ -1,8 +1,8 @@
 use Rattle.std.proofs.Common.{◌<◌, length, map, subst, arith}
-use Rattle.half_edge_mesh.specs.Mesh.{origin, rev}
-use Rattle.delaunay_core.specs.Place.{place_of}
+use Rattle.delaunay_paths.specs.half_edge_mesh.Mesh.{origin, rev}
+use Rattle.delaunay_paths.specs.delaunay_core.Place.{place_of}
 use Rattle.delaunay_edit.specs.Location.{HasHandle}
-use Rattle.delaunay_legalization.proofs.Questions.{covered_at}
+use Rattle.delaunay_paths.proofs.delaunay_legalization_lemmas.Questions.{covered_at}
 use Rattle.delaunay_edit.proofs.edited_mesh.EditedMesh.is_left_of.Goals as goal
 
 pub ends_of-from-requires : goal.ends_of-from-requires

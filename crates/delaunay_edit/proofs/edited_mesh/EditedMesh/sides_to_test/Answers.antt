@@ -1,8 +1,8 @@
 use Rattle.std.proofs.Common.{◌≡◌, ◌⊎◌, [], inl, inr, subst}
 use Rattle.std.specs.Prelude.{IfOk}
 use Rattle.std.proofs.lemmas.Result.{IfOk-weaker}
-use Rattle.delaunay_legalization.specs.Constraints.{constraints_by}
-use Rattle.delaunay_legalization.specs.State.{state_of}
+use Rattle.delaunay_paths.specs.delaunay_legalization.Constraints.{constraints_by}
+use Rattle.delaunay_paths.specs.delaunay_legalization.State.{state_of}
 use Rattle.delaunay_removal.specs.Pairs.{HasBorder}
 use Rattle.delaunay_edit.proofs.EmptyRound.{none_counted}
 use Rattle.delaunay_edit.proofs.edited_mesh.EditedMesh.sides_to_test.Goals as goal

@@ -2,11 +2,12 @@ use Rattle.std.proofs.Common.{◌*◌, ◌<◌, ℕ, List, ◌++◌, length, map
 use Rattle.std.specs.Prelude.{All}
 use Rattle.std.proofs.lemmas.Bool.{eqb-true}
 use Rattle.std.proofs.lemmas.Option.{IfSome_then}
-use Rattle.plane.specs.Plain.{Removes, TakesOut}
-use Rattle.plane_edits.specs.Legal.{AllPassBut}
-use Rattle.mesh_embedding.specs.Drawn.{faces_of}
-use Rattle.delaunay_legalization.specs.Constraints.{constraints_by, points_and_constraints_by}
-use Rattle.delaunay_legalization.specs.State.{state_of}
+use Rattle.delaunay_paths.specs.plane.Plain.{Removes, TakesOut}
+use Rattle.delaunay_paths.specs.plane_edits.Legal.{AllPassBut}
+use Rattle.delaunay_paths.specs.mesh_embedding.Drawn.{faces_of}
+use Rattle.delaunay_paths.specs.delaunay_legalization.Constraints.{constraints_by}
+use Rattle.delaunay_paths.specs.delaunay_legalization.Constraints.{points_and_constraints_by}
+use Rattle.delaunay_paths.specs.delaunay_legalization.State.{state_of}
 use Rattle.delaunay_paths.proofs.MovedEdges.{fewer_fit}
 use Rattle.delaunay_removal.specs.Pairs.{FailOnlyAt, pairs_left}
 use Rattle.delaunay_removal.specs.Data.{KeepsDataOfOthers}

@@ -1,5 +1,5 @@
 use Rattle.std.proofs.Common.{sym, subst}
-use Rattle.delaunay_legalization.specs.State.{state_of}
+use Rattle.delaunay_paths.specs.delaunay_legalization.State.{state_of}
 use Rattle.delaunay_edit.specs.Storage.{IsCopy, KeepsImage}
 use Rattle.delaunay_edit.proofs.Copies.{copy_is_counted}
 use Rattle.delaunay_edit.proofs.edited_mesh.EditedMesh.try_clone.Goals as goal

@@ -1,5 +1,5 @@
 use Rattle.std.proofs.Common.{sym, subst}
-use Rattle.plane.specs.Plain.{CanAdd}
+use Rattle.delaunay_edit.specs.plane.Plain.{CanAdd}
 use Rattle.delaunay_edit.specs.Constrained.{constrained}
 use Rattle.delaunay_interface.proofs.Kept.{held_of_same, vertices_after_adding}
 use Rattle.delaunay_edit.specs.ConstraintEdits.{MayJoin}

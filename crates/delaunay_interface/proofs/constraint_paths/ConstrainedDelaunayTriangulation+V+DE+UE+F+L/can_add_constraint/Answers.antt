@@ -1,6 +1,6 @@
 use Rattle.std.proofs.Common.{◌↔◌, sym, subst}
 use Rattle.std.specs.Prelude.{IsTrue}
-use Rattle.plane.specs.Plain.{CanAdd}
+use Rattle.delaunay_edit.specs.plane.Plain.{CanAdd}
 use Rattle.delaunay_edit.specs.Constrained.{constrained}
 use Rattle.delaunay_edit.specs.ConstraintEdits.{MayJoin}
 use Rattle.delaunay_interface.proofs.constraint_paths.ConstrainedDelaunayTriangulation+V+DE+UE+F+L.can_add_constraint.Goals as goal

@@ -1,6 +1,6 @@
 use Rattle.std.proofs.Common.{◌≡◌, sym, subst}
 use Rattle.std.specs.Prelude.{◌⊎◌, IsOk}
-use Rattle.plane.specs.Plain.{CanAdd}
+use Rattle.delaunay_edit.specs.plane.Plain.{CanAdd}
 use Rattle.delaunay_edit.specs.Constrained.{constrained}
 use Rattle.delaunay_interface.proofs.Kept.{held_of_same, vertices_after_path}
 use Rattle.delaunay_edit.specs.ConstraintEdits.{MayJoin}

@@ -1,5 +1,5 @@
 use Rattle.std.proofs.Common.{map, sym, ap, subst}
-use Rattle.plane.specs.Hint.{IsAtMostOf}
+use Rattle.delaunay_edit.specs.plane.Hint.{IsAtMostOf}
 use Rattle.delaunay_interface.proofs.constraints.ConstrainedDelaunayTriangulation+V+DE+UE+F+L.from_delaunay.Goals as goal
 
 pub invariant_of-result : goal.invariant_of-result

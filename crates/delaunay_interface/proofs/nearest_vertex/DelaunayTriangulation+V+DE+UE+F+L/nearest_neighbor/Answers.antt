@@ -1,12 +1,12 @@
 use Rattle.std.proofs.Common.{[], sym, subst, ap, ◌∙◌, arith}
 use Rattle.std.proofs.lemmas.List.{length-map}
-use Rattle.plane.specs.Fraction.{whole}
-use Rattle.plane.specs.Delaunay.{IsConstrainedDelaunay}
-use Rattle.plane.specs.Shape.{IsNearest}
-use Rattle.delaunay_core.specs.Place.{place_of}
+use Rattle.delaunay_edit.specs.plane.Fraction.{whole}
+use Rattle.delaunay_edit.specs.plane.Delaunay.{IsConstrainedDelaunay}
+use Rattle.delaunay_edit.specs.plane.Shape.{IsNearest}
+use Rattle.delaunay_edit.specs.delaunay_core.Place.{place_of}
 use Rattle.delaunay_edit.specs.Headline.{AreSites}
-use Rattle.delaunay_legalization.specs.Shape.{IsTriangulated}
-use Rattle.delaunay_legalization.specs.State.{state_of, triangulation_of}
+use Rattle.delaunay_edit.specs.delaunay_legalization.Shape.{IsTriangulated}
+use Rattle.delaunay_edit.specs.delaunay_legalization.State.{state_of, triangulation_of}
 use Rattle.delaunay_interface.proofs.Held.{held_are_sites}
 use Rattle.delaunay_interface.proofs.nearest_vertex.DelaunayTriangulation+V+DE+UE+F+L.nearest_neighbor.Goals as goal
 

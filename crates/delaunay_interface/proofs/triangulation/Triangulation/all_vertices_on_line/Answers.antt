@@ -1,11 +1,11 @@
 use Rattle.std.proofs.Common.{◌≡◌, ℕ, length, eqb, refl, sym, ◌∙◌, inl, inr, rules, tests}
 use Rattle.std.specs.Prelude.{◌↔◌, IsTrue}
 use Rattle.std.proofs.lemmas.List.{nil_from_length}
-use Rattle.plane.specs.Side.{left, on}
-use Rattle.plane.specs.Tiling.{Triangulation, IsTiling, vertex}
-use Rattle.plane_delaunay.proofs.Circles.EmptyCircles.{no_face}
-use Rattle.plane_delaunay.proofs.Tilings.Ground.{tiling}
-use Rattle.delaunay_legalization.specs.State.{triangulation_of}
+use Rattle.delaunay_edit.specs.plane.Side.{left, on}
+use Rattle.delaunay_edit.specs.plane.Tiling.{Triangulation, IsTiling, vertex}
+use Rattle.delaunay_edit.proofs.plane_delaunay.Circles.EmptyCircles.{no_face}
+use Rattle.delaunay_edit.proofs.plane_delaunay.Tilings.Ground.{tiling}
+use Rattle.delaunay_edit.specs.delaunay_legalization.State.{triangulation_of}
 use Rattle.delaunay_interface.specs.Views.{AreOnLine}
 use Rattle.delaunay_interface.proofs.triangulation.Triangulation.all_vertices_on_line.Goals as goal
 

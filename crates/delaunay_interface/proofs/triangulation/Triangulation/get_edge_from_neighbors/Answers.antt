@@ -1,10 +1,10 @@
 use Rattle.std.proofs.Common.{◌≡◌, ◌≢◌, ℕ, ◌<◌, Option, Some, None, length, subst}
 use Rattle.std.specs.Prelude.{IfSome, IfNone, MatchOption}
 use Rattle.std.specs.Borrow.{Bor}
-use Rattle.half_edge_mesh.specs.Contents.{Contents}
-use Rattle.half_edge_mesh.specs.Mesh.{origin, rev}
-use Rattle.half_edge_views.specs.declared.edge.DirectedEdgeHandle.{DirectedEdgeHandle}
-use Rattle.delaunay_legalization.specs.State.{State, state_of}
+use Rattle.delaunay_edit.specs.half_edge_mesh.Contents.{Contents}
+use Rattle.delaunay_edit.specs.half_edge_mesh.Mesh.{origin, rev}
+use Rattle.delaunay_edit.specs.half_edge_views.declared.edge.DirectedEdgeHandle.{DirectedEdgeHandle}
+use Rattle.delaunay_edit.specs.delaunay_legalization.State.{State, state_of}
 use Rattle.delaunay_interface.specs.Views.{AreNotJoined, IsEdgeBetween}
 use Rattle.delaunay_interface.proofs.triangulation.Triangulation.get_edge_from_neighbors.Goals as goal
 

@@ -1,8 +1,8 @@
 use Rattle.std.proofs.Common.{◌+◌, ◌≤◌, Ok, Err, length, ap, refl, sym, subst, arith}
 use Rattle.std.proofs.lemmas.Result.{err_from_is_err_and}
-use Rattle.half_edge_links.specs.declared.room.TheConstants.{MAX_ELEMENTS}
-use Rattle.plane.specs.Hint.{IsAtMostWith}
-use Rattle.delaunay_legalization.specs.Flips.{FlipsFit}
+use Rattle.delaunay_edit.specs.half_edge_links.declared.room.TheConstants.{MAX_ELEMENTS}
+use Rattle.delaunay_edit.specs.plane.Hint.{IsAtMostWith}
+use Rattle.delaunay_edit.specs.delaunay_legalization.Flips.{FlipsFit}
 use Rattle.delaunay_edit.specs.Edits.{AreSitesWith, InsertsVertex}
 use Rattle.delaunay_edit.specs.Entry.{IsEntry}
 use Rattle.delaunay_edit.specs.Headline.{AreSites}

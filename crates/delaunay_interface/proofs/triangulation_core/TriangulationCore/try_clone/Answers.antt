@@ -1,5 +1,5 @@
 use Rattle.std.proofs.Common.{◌∙◌, ap, sym, subst}
-use Rattle.delaunay_legalization.specs.Constraints.{constraints_by}
+use Rattle.delaunay_edit.specs.delaunay_legalization.Constraints.{constraints_by}
 use Rattle.delaunay_edit.specs.Storage.{KeepsImage}
 use Rattle.delaunay_edit.proofs.Copies.{same_constraints}
 use Rattle.delaunay_interface.proofs.Kept.{held_by_copy}

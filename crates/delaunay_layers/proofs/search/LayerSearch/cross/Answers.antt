@@ -1,6 +1,6 @@
 use Rattle.std.proofs.Common.{◌<◌, ◌≡◌, ◌∙◌, arith, length, set, refl, ap, sym, subst}
 use Rattle.std.proofs.lemmas.Result.{on_ok_weaker}
-use Rattle.half_edge_mesh.specs.Mesh.{face, rev, next, prev, face_edge}
+use Rattle.delaunay_interface.specs.half_edge_mesh.Mesh.{face, rev, next, prev, face_edge}
 use Rattle.std.proofs.lemmas.List.Elements.{Contains-push}
 use Rattle.delaunay_layers.specs.Search.{IsLayered}
 use Rattle.delaunay_layers.proofs.Searching.{few_layers, passed, leads_within, stands_at, stepped}

@@ -1,5 +1,5 @@
 use Rattle.std.proofs.Common.{ℕ, ◌+◌, ◌<◌, ◌≡◌, ◌∙◌, arith, refl, ap, sym, subst}
-use Rattle.half_edge_mesh.specs.Mesh.{face}
+use Rattle.delaunay_interface.specs.half_edge_mesh.Mesh.{face}
 use Rattle.delaunay_layers.specs.Search.{Lists}
 use Rattle.delaunay_layers.proofs.Searching.{no_outer, outer_more, outer_passed, outer_all}
 use Rattle.delaunay_layers.proofs.search.LayerSearch.list_outer_edges.Goals.{then-is_outer_edge+in_ok-list}

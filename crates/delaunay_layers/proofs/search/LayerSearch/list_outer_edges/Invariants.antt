@@ -1,5 +1,5 @@
 use Rattle.std.proofs.Common.{◌≡◌, ◌<◌, ℕ}
-use Rattle.half_edge_mesh.specs.Mesh.{face}
+use Rattle.delaunay_interface.specs.half_edge_mesh.Mesh.{face}
 use Rattle.delaunay_layers.specs.Search.{Lists}
 use Rattle.delaunay_layers.proofs.search.LayerSearch.list_outer_edges.Given as goal
 

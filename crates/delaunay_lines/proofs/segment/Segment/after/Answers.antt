@@ -1,5 +1,5 @@
 use Rattle.std.proofs.Common.{◌≢◌, subst}
-use Rattle.delaunay_legalization.proofs.Questions.{both_ways}
+use Rattle.delaunay_location.proofs.delaunay_legalization_lemmas.Questions.{both_ways}
 use Rattle.delaunay_lines.specs.declared.intersection.FixedIntersection.{FixedIntersection}
 use Rattle.delaunay_lines.specs.Over.{IsAtItem}
 use Rattle.delaunay_lines.proofs.segment.Segment.after.Goals as goal

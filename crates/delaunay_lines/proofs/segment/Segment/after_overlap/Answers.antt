@@ -1,6 +1,6 @@
 use Rattle.std.proofs.Common.{sym, subst}
-use Rattle.delaunay_core.specs.Place.{place_of}
-use Rattle.delaunay_legalization.proofs.Questions.{both_ways}
+use Rattle.delaunay_location.specs.delaunay_core.Place.{place_of}
+use Rattle.delaunay_location.proofs.delaunay_legalization_lemmas.Questions.{both_ways}
 use Rattle.delaunay_lines.proofs.MeshSteps.{last_within_overlap, end_of_overlap}
 use Rattle.delaunay_lines.proofs.segment.Segment.after_overlap.Goals as goal
 

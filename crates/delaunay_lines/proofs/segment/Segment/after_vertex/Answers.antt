@@ -1,8 +1,8 @@
 use Rattle.std.proofs.Common.{◌⊎◌, map, sym, subst, ◌∙◌, inl, inr}
-use Rattle.plane.specs.Fraction.{Point, whole, IsSame}
-use Rattle.plane.proofs.Segments.{same-refl}
-use Rattle.delaunay_legalization.specs.Known.{point_at}
-use Rattle.delaunay_legalization.proofs.Questions.{both_ways}
+use Rattle.delaunay_location.specs.plane.Fraction.{Point, whole, IsSame}
+use Rattle.delaunay_location.proofs.plane.Segments.{same-refl}
+use Rattle.delaunay_location.specs.delaunay_legalization.Known.{point_at}
+use Rattle.delaunay_location.proofs.delaunay_legalization_lemmas.Questions.{both_ways}
 use Rattle.delaunay_lines.proofs.MeshSteps.{along_ahead, into_face, last_at_end}
 use Rattle.delaunay_lines.proofs.MeshSteps.{last_if_none_leads, not_same}
 use Rattle.delaunay_lines.proofs.segment.Segment.after_vertex.Goals as goal

@@ -1,6 +1,6 @@
 use Rattle.std.proofs.Common.{length, map}
 use Rattle.std.proofs.lemmas.List.{length-map}
-use Rattle.delaunay_legalization.proofs.Questions.{both_ways}
+use Rattle.delaunay_location.proofs.delaunay_legalization_lemmas.Questions.{both_ways}
 use Rattle.delaunay_lines.proofs.OutsideItems.{better_keeps, found_within, no_better_if}
 use Rattle.delaunay_lines.proofs.OutsideItems.{no_better_itself}
 use Rattle.delaunay_lines.proofs.segment.Segment.better_of.Goals as goal

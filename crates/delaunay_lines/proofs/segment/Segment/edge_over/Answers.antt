@@ -1,4 +1,4 @@
-use Rattle.delaunay_legalization.proofs.Questions.{both_ways}
+use Rattle.delaunay_location.proofs.delaunay_legalization_lemmas.Questions.{both_ways}
 use Rattle.delaunay_lines.proofs.FirstItems.{inside_after, inside_before, last_goes_over}
 use Rattle.delaunay_lines.proofs.segment.Segment.edge_over.Goals as goal
 

@@ -1,6 +1,6 @@
 use Rattle.std.proofs.Common.{ℕ, map}
-use Rattle.half_edge_mesh.specs.Rounds.{out_edges_left}
-use Rattle.delaunay_legalization.proofs.Rounds.{IsGoingRound}
+use Rattle.delaunay_location.specs.half_edge_mesh.Rounds.{out_edges_left}
+use Rattle.delaunay_location.proofs.delaunay_legalization_lemmas.Rounds.{IsGoingRound}
 use Rattle.delaunay_lines.specs.Steps.{LeadsOn}
 use Rattle.delaunay_lines.proofs.segment.Segment.edge_towards.Given as goal
 

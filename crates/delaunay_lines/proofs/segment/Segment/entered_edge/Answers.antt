@@ -1,10 +1,11 @@
 use Rattle.std.proofs.Common.{◌<◌, ◌∙◌, ℕ, length, map, sym, ap, subst, arith}
-use Rattle.half_edge_links.proofs.Lists.Rev.{rev-rev, rev_within}
-use Rattle.half_edge_mesh.specs.Mesh.{face, rev}
-use Rattle.half_edge_mesh.specs.Rounds.{GivesOuterLoop, hull_left}
-use Rattle.mesh_embedding.proofs.OneOutline.{one_outline}
-use Rattle.mesh_embedding.proofs.OutlineGiven.{along_begins, along_next, along_goes_on, along_ends}
-use Rattle.delaunay_legalization.proofs.Questions.{both_ways}
+use Rattle.delaunay_location.proofs.half_edge_links.Lists.Rev.{rev-rev, rev_within}
+use Rattle.delaunay_location.specs.half_edge_mesh.Mesh.{face, rev}
+use Rattle.delaunay_location.specs.half_edge_mesh.Rounds.{GivesOuterLoop, hull_left}
+use Rattle.delaunay_location.proofs.mesh_embedding.OneOutline.{one_outline}
+use Rattle.delaunay_location.proofs.mesh_embedding.OutlineGiven.{along_begins, along_next}
+use Rattle.delaunay_location.proofs.mesh_embedding.OutlineGiven.{along_goes_on, along_ends}
+use Rattle.delaunay_location.proofs.delaunay_legalization_lemmas.Questions.{both_ways}
 use Rattle.delaunay_lines.specs.Starts.{IsCrossed}
 use Rattle.delaunay_lines.proofs.segment.Segment.entered_edge.Goals as goal
 

@@ -1,7 +1,7 @@
 use Rattle.std.proofs.Common.{ℕ, map}
-use Rattle.half_edge_mesh.specs.Mesh.{rev}
-use Rattle.half_edge_mesh.specs.Rounds.{hull_left}
-use Rattle.mesh_embedding.proofs.OutlineGiven.{IsGoingAlong, indexes}
+use Rattle.delaunay_location.specs.half_edge_mesh.Mesh.{rev}
+use Rattle.delaunay_location.specs.half_edge_mesh.Rounds.{hull_left}
+use Rattle.delaunay_location.proofs.mesh_embedding.OutlineGiven.{IsGoingAlong, indexes}
 use Rattle.delaunay_lines.specs.Starts.{IsCrossed}
 use Rattle.delaunay_lines.proofs.segment.Segment.entered_edge.Given as goal
 

@@ -1,5 +1,5 @@
 use Rattle.std.proofs.Common.{sym, ◌∙◌}
-use Rattle.delaunay_legalization.proofs.Questions.{both_ways}
+use Rattle.delaunay_location.proofs.delaunay_legalization_lemmas.Questions.{both_ways}
 use Rattle.delaunay_lines.proofs.OutlineWalk.{nothing_on_its_left, nothing_past_end}
 use Rattle.delaunay_lines.proofs.OutlineWalk.{nothing_past_start, end_met, start_met, edge_met}
 use Rattle.delaunay_lines.proofs.OutlineWalk.{left_if_neither, right_if_neither}

@@ -1,5 +1,5 @@
 use Rattle.std.proofs.Common.{Some}
-use Rattle.delaunay_legalization.proofs.Questions.{both_ways}
+use Rattle.delaunay_location.proofs.delaunay_legalization_lemmas.Questions.{both_ways}
 use Rattle.delaunay_lines.proofs.Located.{outside_that_edge}
 use Rattle.delaunay_lines.proofs.OutlineWalk.{seen_from}
 use Rattle.delaunay_lines.proofs.PastEnd.{past_if_unseen}

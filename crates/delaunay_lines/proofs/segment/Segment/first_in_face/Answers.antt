@@ -1,5 +1,5 @@
 use Rattle.std.proofs.Common.{sym, ◌∙◌}
-use Rattle.delaunay_legalization.proofs.Questions.{both_ways}
+use Rattle.delaunay_location.proofs.delaunay_legalization_lemmas.Questions.{both_ways}
 use Rattle.delaunay_lines.proofs.FirstItems.{alone_inside, ends_in_face, through_start}
 use Rattle.delaunay_lines.proofs.FirstItems.{through_side}
 use Rattle.delaunay_lines.proofs.segment.Segment.first_in_face.Goals as goal

@@ -1,10 +1,10 @@
 use Rattle.std.proofs.Common.{◌↔◌, ℕ, IsTrue, map, sym, ap, subst, ◌∙◌}
-use Rattle.half_edge_mesh.specs.Mesh.{origin, rev}
-use Rattle.plane.specs.Fraction.{Point, whole}
+use Rattle.delaunay_location.specs.half_edge_mesh.Mesh.{origin, rev}
+use Rattle.delaunay_location.specs.plane.Fraction.{Point, whole}
 use Rattle.plane_segments.specs.Steps.{IsAhead}
-use Rattle.delaunay_core.specs.Place.{place_of}
-use Rattle.delaunay_legalization.specs.Known.{point_at}
-use Rattle.delaunay_legalization.proofs.Questions.{both_ways, covered_in}
+use Rattle.delaunay_location.specs.delaunay_core.Place.{place_of}
+use Rattle.delaunay_location.specs.delaunay_legalization.Known.{point_at}
+use Rattle.delaunay_location.proofs.delaunay_legalization_lemmas.Questions.{both_ways, covered_in}
 use Rattle.delaunay_lines.proofs.SegmentTests.{differs_if_within}
 use Rattle.delaunay_lines.proofs.MeshSteps.{ends_apart}
 use Rattle.delaunay_lines.proofs.FirstItems.{on_if_neither, alone_on_edge, over_edge, over_twin}

@@ -1,4 +1,4 @@
-use Rattle.delaunay_legalization.proofs.Questions.{both_ways}
+use Rattle.delaunay_location.proofs.delaunay_legalization_lemmas.Questions.{both_ways}
 use Rattle.delaunay_lines.proofs.OutsideItems.{alone_outside, enters}
 use Rattle.delaunay_lines.proofs.OutsideItems.{nearest_is_first, none_is_first}
 use Rattle.delaunay_lines.proofs.segment.Segment.first_outside.Goals as goal

@@ -1,7 +1,7 @@
 use Rattle.std.proofs.Common.{◌↔◌, IsTrue, map, subst}
-use Rattle.plane.specs.Fraction.{Point, whole, OnSegment}
-use Rattle.delaunay_core.specs.Place.{place_of}
-use Rattle.delaunay_legalization.proofs.Questions.{both_ways, covered_in}
+use Rattle.delaunay_location.specs.plane.Fraction.{Point, whole, OnSegment}
+use Rattle.delaunay_location.specs.delaunay_core.Place.{place_of}
+use Rattle.delaunay_location.proofs.delaunay_legalization_lemmas.Questions.{both_ways, covered_in}
 use Rattle.delaunay_lines.proofs.PastEnd.{end_passed, end_missed}
 use Rattle.delaunay_lines.proofs.segment.Segment.first_past.Goals as goal
 

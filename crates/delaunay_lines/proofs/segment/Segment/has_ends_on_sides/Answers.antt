@@ -1,5 +1,5 @@
 use Rattle.std.proofs.Common.{sym, ◌∙◌}
-use Rattle.delaunay_legalization.proofs.Questions.{both_ways}
+use Rattle.delaunay_location.proofs.delaunay_legalization_lemmas.Questions.{both_ways}
 use Rattle.delaunay_lines.proofs.segment.Segment.has_ends_on_sides.Goals as goal
 
 pub returns-then-is_on_right_side_or_on_line : goal.returns-then-is_on_right_side_or_on_line

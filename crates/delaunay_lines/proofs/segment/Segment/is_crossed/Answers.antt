@@ -1,4 +1,4 @@
-use Rattle.delaunay_legalization.proofs.Questions.{both_ways}
+use Rattle.delaunay_location.proofs.delaunay_legalization_lemmas.Questions.{both_ways}
 use Rattle.delaunay_lines.proofs.segment.Segment.is_crossed.Goals as goal
 
 pub returns-then-goes_right : goal.returns-then-goes_right

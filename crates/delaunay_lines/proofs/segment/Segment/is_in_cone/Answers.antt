@@ -1,4 +1,4 @@
-use Rattle.delaunay_legalization.proofs.Questions.{both_ways}
+use Rattle.delaunay_location.proofs.delaunay_legalization_lemmas.Questions.{both_ways}
 use Rattle.delaunay_lines.proofs.segment.Segment.is_in_cone.Goals as goal
 
 pub returns-else-ends_left_of : goal.returns-else-ends_left_of

@@ -1,11 +1,11 @@
 use Rattle.std.proofs.Common.{ℕ, ◌<◌, length, map, subst, ap, sym, arith, ◌∙◌}
 use Rattle.std.proofs.lemmas.List.{length-map}
-use Rattle.half_edge_mesh.specs.Mesh.{origin}
-use Rattle.half_edge_mesh.specs.Rounds.{GivesOuterLoop, hull_left}
-use Rattle.mesh_embedding.proofs.OneOutline.{one_outline}
-use Rattle.mesh_embedding.proofs.OutlineGiven.{along_begins, along_next, along_goes_on, along_ends}
-use Rattle.mesh_embedding.proofs.OutlineGiven.{indexes}
-use Rattle.delaunay_legalization.proofs.OppositeSides.{link_read}
+use Rattle.delaunay_location.specs.half_edge_mesh.Mesh.{origin}
+use Rattle.delaunay_location.specs.half_edge_mesh.Rounds.{GivesOuterLoop, hull_left}
+use Rattle.delaunay_location.proofs.mesh_embedding.OneOutline.{one_outline}
+use Rattle.delaunay_location.proofs.mesh_embedding.OutlineGiven.{along_begins, along_next}
+use Rattle.delaunay_location.proofs.mesh_embedding.OutlineGiven.{along_goes_on, along_ends, indexes}
+use Rattle.delaunay_location.proofs.delaunay_legalization_lemmas.OppositeSides.{link_read}
 use Rattle.delaunay_lines.specs.Starts.{IsNoBetter}
 use Rattle.delaunay_lines.proofs.OutsideItems.{along_weakened}
 use Rattle.delaunay_lines.proofs.segment.Segment.nearest_vertex.Goals as goal

@@ -1,7 +1,7 @@
 use Rattle.std.proofs.Common.{ℕ, ◌<◌, length, map}
-use Rattle.half_edge_mesh.specs.Mesh.{origin}
-use Rattle.half_edge_mesh.specs.Rounds.{hull_left}
-use Rattle.mesh_embedding.proofs.OutlineGiven.{IsGoingAlong, indexes}
+use Rattle.delaunay_location.specs.half_edge_mesh.Mesh.{origin}
+use Rattle.delaunay_location.specs.half_edge_mesh.Rounds.{hull_left}
+use Rattle.delaunay_location.proofs.mesh_embedding.OutlineGiven.{IsGoingAlong, indexes}
 use Rattle.delaunay_lines.specs.Starts.{IsNoBetter, IsOnSegment}
 use Rattle.delaunay_lines.proofs.segment.Segment.nearest_vertex.Given as goal
 

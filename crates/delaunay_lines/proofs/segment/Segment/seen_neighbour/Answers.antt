@@ -1,5 +1,5 @@
 use Rattle.std.proofs.Common.{◌∙◌, sym}
-use Rattle.delaunay_legalization.proofs.Questions.{both_ways}
+use Rattle.delaunay_location.proofs.delaunay_legalization_lemmas.Questions.{both_ways}
 use Rattle.delaunay_lines.proofs.OutlineWalk.{neighbour_after, neighbour_before, stops_after}
 use Rattle.delaunay_lines.proofs.OutlineWalk.{stops_before}
 use Rattle.delaunay_lines.proofs.segment.Segment.seen_neighbour.Goals as goal

@@ -1,6 +1,6 @@
 use Rattle.std.proofs.Common.{map}
-use Rattle.delaunay_core.specs.Place.{place_of}
-use Rattle.delaunay_legalization.proofs.Questions.{covered_in}
+use Rattle.delaunay_location.specs.delaunay_core.Place.{place_of}
+use Rattle.delaunay_location.proofs.delaunay_legalization_lemmas.Questions.{covered_in}
 use Rattle.delaunay_lines.proofs.segment.Segment.side_of_start.Goals as goal
 
 pub side-requires-clause-point_covered : goal.side-requires-clause-point_covered

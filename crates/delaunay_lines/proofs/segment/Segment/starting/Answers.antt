@@ -1,5 +1,5 @@
 use Rattle.std.proofs.Common.{ap, arith}
-use Rattle.delaunay_legalization.specs.State.{state_of}
+use Rattle.delaunay_location.specs.delaunay_legalization.State.{state_of}
 use Rattle.delaunay_lines.proofs.segment.Segment.starting.Goals as goal
 
 pub returns-clause-line : goal.returns-clause-line

@@ -1,5 +1,5 @@
 use Rattle.std.proofs.Common.{sym, ◌∙◌}
-use Rattle.delaunay_legalization.proofs.Questions.{both_ways}
+use Rattle.delaunay_location.proofs.delaunay_legalization_lemmas.Questions.{both_ways}
 use Rattle.delaunay_lines.proofs.MeshSteps.{through_right, through_left, ends_inside, at_corner}
 use Rattle.delaunay_lines.proofs.segment.Segment.through_face.Goals as goal
 

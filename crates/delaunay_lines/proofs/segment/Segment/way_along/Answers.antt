@@ -1,8 +1,8 @@
 use Rattle.std.proofs.Common.{ℕ, map, ap, refl, ◌∙◌}
-use Rattle.half_edge_mesh.specs.Mesh.{origin}
-use Rattle.delaunay_core.specs.Place.{place_of}
-use Rattle.delaunay_legalization.specs.Known.{point_at}
-use Rattle.delaunay_legalization.proofs.Questions.{covered_in}
+use Rattle.delaunay_location.specs.half_edge_mesh.Mesh.{origin}
+use Rattle.delaunay_location.specs.delaunay_core.Place.{place_of}
+use Rattle.delaunay_location.specs.delaunay_legalization.Known.{point_at}
+use Rattle.delaunay_location.proofs.delaunay_legalization_lemmas.Questions.{covered_in}
 use Rattle.delaunay_lines.proofs.MeshSteps.{ends_apart}
 use Rattle.delaunay_lines.proofs.segment.Segment.way_along.Goals as goal
 

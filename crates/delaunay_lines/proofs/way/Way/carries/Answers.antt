@@ -1,8 +1,8 @@
 use Rattle.std.proofs.Common.{refl}
-use Rattle.plane.proofs.Segments.{on_of_within}
-use Rattle.plane.specs.Fraction.{whole}
-use Rattle.delaunay_core.specs.Place.{place_of}
-use Rattle.delaunay_legalization.proofs.Questions.{both_ways}
+use Rattle.delaunay_location.proofs.plane.Segments.{on_of_within}
+use Rattle.delaunay_location.specs.plane.Fraction.{whole}
+use Rattle.delaunay_location.specs.delaunay_core.Place.{place_of}
+use Rattle.delaunay_location.proofs.delaunay_legalization_lemmas.Questions.{both_ways}
 use Rattle.delaunay_lines.proofs.SegmentTests.{within_if_differs, on_if_not_apart}
 use Rattle.delaunay_lines.proofs.way.Way.carries.Goals as goal
 

@@ -1,5 +1,5 @@
-use Rattle.delaunay_core.specs.Place.{place_of}
-use Rattle.delaunay_legalization.proofs.Questions.{both_ways}
+use Rattle.delaunay_location.specs.delaunay_core.Place.{place_of}
+use Rattle.delaunay_location.proofs.delaunay_legalization_lemmas.Questions.{both_ways}
 use Rattle.delaunay_lines.proofs.SegmentTests.{differs_if_within}
 use Rattle.delaunay_lines.proofs.way.Way.has_within.Goals as goal
 

@@ -1,5 +1,5 @@
 use Rattle.std.proofs.Common.{map}
-use Rattle.delaunay_core.specs.Place.{place_of}
+use Rattle.delaunay_legalization.specs.delaunay_core.Place.{place_of}
 use Rattle.delaunay_location.proofs.Covering.{vertex_covered}
 use Rattle.delaunay_location.proofs.Questions.{turns_as_face, inside_face, both_iff}
 use Rattle.delaunay_location.proofs.search.Search.is_inside_face.Goals as goal

@@ -1,5 +1,5 @@
 use Rattle.std.proofs.Common.{◌≤◌, length, arith}
-use Rattle.delaunay_core.specs.Place.{place_of}
+use Rattle.delaunay_legalization.specs.delaunay_core.Place.{place_of}
 use Rattle.delaunay_legalization.specs.State.{state_of}
 use Rattle.delaunay_location.proofs.Locating.{in_face, some_edge, past_end}
 use Rattle.delaunay_location.proofs.search.Search.place_apart.Goals as goal

@@ -1,6 +1,6 @@
 use Rattle.std.proofs.Common.{sym, ap, ◌∙◌}
-use Rattle.half_edge_mesh.specs.Mesh.{next, rev}
-use Rattle.delaunay_core.specs.Place.{place_of}
+use Rattle.delaunay_legalization.specs.half_edge_mesh.Mesh.{next, rev}
+use Rattle.delaunay_legalization.specs.delaunay_core.Place.{place_of}
 use Rattle.delaunay_legalization.specs.State.{state_of}
 use Rattle.delaunay_legalization.proofs.OppositeSides.{link_read}
 use Rattle.delaunay_location.proofs.Locating.{at_vertex}

@@ -1,6 +1,6 @@
 use Rattle.std.proofs.Common.{◌≡◌, ◌∙◌}
-use Rattle.half_edge_mesh.specs.Mesh.{face}
-use Rattle.delaunay_core.specs.Place.{place_of}
+use Rattle.delaunay_legalization.specs.half_edge_mesh.Mesh.{face}
+use Rattle.delaunay_legalization.specs.delaunay_core.Place.{place_of}
 use Rattle.delaunay_legalization.specs.State.{state_of}
 use Rattle.delaunay_location.proofs.Sides.{across_edge, left_of_stop, located_inside}
 use Rattle.delaunay_location.proofs.search.Search.way_across.Goals as goal

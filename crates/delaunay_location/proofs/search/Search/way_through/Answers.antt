@@ -1,5 +1,5 @@
 use Rattle.std.proofs.Common.{◌≡◌, ◌∙◌}
-use Rattle.half_edge_mesh.specs.Mesh.{next, prev}
+use Rattle.delaunay_legalization.specs.half_edge_mesh.Mesh.{next, prev}
 use Rattle.delaunay_legalization.specs.State.{state_of}
 use Rattle.delaunay_location.proofs.Sides.{next_side, prev_side}
 use Rattle.delaunay_location.proofs.search.Search.way_through.Goals as goal

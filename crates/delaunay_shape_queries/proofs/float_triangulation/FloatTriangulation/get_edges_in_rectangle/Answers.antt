@@ -1,7 +1,7 @@
 use Rattle.std.proofs.Common.{ap, subst}
 use Rattle.std.specs.Prelude.{IfOk}
-use Rattle.plane.specs.Shape.{InClosedRectangle}
-use Rattle.delaunay_core.specs.Place.{place_of}
+use Rattle.delaunay_interface.specs.plane.Shape.{InClosedRectangle}
+use Rattle.delaunay_interface.specs.delaunay_core.Place.{place_of}
 use Rattle.delaunay_shapes.specs.Left.{edges_left}
 use Rattle.delaunay_shapes.specs.Start.{HasStartAt}
 use Rattle.delaunay_shapes.proofs.Shapes.{rectangle_begins}

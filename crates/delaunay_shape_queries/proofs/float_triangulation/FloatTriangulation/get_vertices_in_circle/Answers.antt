@@ -1,8 +1,8 @@
 use Rattle.std.proofs.Common.{ap, subst, ◌∙◌, w64}
 use Rattle.std.proofs.lemmas.Int.{to_z-of_z}
 use Rattle.std.specs.Prelude.{IfOk}
-use Rattle.plane.specs.Shape.{InClosedCircle}
-use Rattle.delaunay_core.specs.Place.{place_of}
+use Rattle.delaunay_interface.specs.plane.Shape.{InClosedCircle}
+use Rattle.delaunay_interface.specs.delaunay_core.Place.{place_of}
 use Rattle.delaunay_shapes.specs.Left.{vertices_left}
 use Rattle.delaunay_shapes.specs.Start.{HasStartAt}
 use Rattle.delaunay_shapes.proofs.Shapes.{circle_begins}

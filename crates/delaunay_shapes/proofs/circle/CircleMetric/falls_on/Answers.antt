@@ -1,6 +1,6 @@
 use Rattle.std.proofs.Common.{◌∙◌, w64}
 use Rattle.std.proofs.lemmas.Int.{to_z-of_z}
-use Rattle.delaunay_core.specs.Place.{place_of}
+use Rattle.delaunay_location.specs.delaunay_core.Place.{place_of}
 use Rattle.delaunay_shapes.proofs.FallsOn.{falls_told}
 use Rattle.delaunay_shapes.proofs.circle.CircleMetric.falls_on.Goals as goal
 

@@ -1,7 +1,7 @@
 use Rattle.std.proofs.Common.{rules}
-use Rattle.plane.specs.Fraction.{whole}
-use Rattle.plane.proofs.Nearer.{gap_not_negative}
-use Rattle.delaunay_core.specs.Place.{place_of}
+use Rattle.delaunay_location.specs.plane.Fraction.{whole}
+use Rattle.delaunay_location.proofs.plane.Nearer.{gap_not_negative}
+use Rattle.delaunay_location.specs.delaunay_core.Place.{place_of}
 use Rattle.delaunay_shapes.proofs.Rims.{rim_fits, rim_is}
 use Rattle.delaunay_shapes.proofs.circle.CircleMetric.rim_excess_2.Goals as goal
 

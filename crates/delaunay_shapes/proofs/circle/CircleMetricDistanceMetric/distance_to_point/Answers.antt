@@ -1,6 +1,6 @@
 use Rattle.std.proofs.Common.{◌∙◌, w64}
 use Rattle.std.proofs.lemmas.Int.{to_z-of_z}
-use Rattle.delaunay_core.specs.Place.{place_of}
+use Rattle.delaunay_location.specs.delaunay_core.Place.{place_of}
 use Rattle.delaunay_shapes.proofs.Circles.{rim_inside}
 use Rattle.delaunay_shapes.proofs.circle.CircleMetricDistanceMetric.distance_to_point.Goals as goal
 

@@ -1,5 +1,5 @@
 use Rattle.std.proofs.Common.{map, sym, subst}
-use Rattle.delaunay_core.specs.Place.{place_of}
+use Rattle.delaunay_location.specs.delaunay_core.Place.{place_of}
 use Rattle.delaunay_shapes.proofs.Handles.{start_is, end_is, ends_told}
 use Rattle.delaunay_shapes.proofs.distance_metric.DistanceMetric.is_handle_inside.Goals as goal
 

@@ -1,4 +1,4 @@
-use Rattle.delaunay_core.specs.Place.{place_of}
+use Rattle.delaunay_location.specs.delaunay_core.Place.{place_of}
 use Rattle.delaunay_shapes.proofs.Rectangles.{between_told, beside_told}
 use Rattle.delaunay_shapes.proofs.rectangle.RectangleMetric.has.Goals as goal
 

@@ -1,5 +1,5 @@
 use Rattle.std.proofs.Common.{◌∙◌, sym}
-use Rattle.delaunay_core.specs.Place.{place_of}
+use Rattle.delaunay_location.specs.delaunay_core.Place.{place_of}
 use Rattle.delaunay_shapes.proofs.Rectangles.{start_meets, end_meets}
 use Rattle.delaunay_shapes.proofs.rectangle.RectangleMetric.meets.Goals.{then-has, else-has}
 use Rattle.delaunay_shapes.proofs.rectangle.RectangleMetric.meets.Goals as goal

@@ -1,4 +1,4 @@
-use Rattle.delaunay_core.specs.Place.{place_of}
+use Rattle.delaunay_location.specs.delaunay_core.Place.{place_of}
 use Rattle.delaunay_shapes.proofs.Rectangles.{rectangle_answer, rectangle_inside}
 use Rattle.delaunay_shapes.proofs.rectangle.RectangleMetricDistanceMetric.is_edge_inside.Goals as goal
 

@@ -1,7 +1,7 @@
 use Rattle.std.proofs.Common.{◌∙◌}
-use Rattle.plane.specs.Tests.{InRange}
-use Rattle.half_edge_mesh.specs.Mesh.{origin}
-use Rattle.delaunay_core.specs.Place.{place_of}
+use Rattle.delaunay_location.specs.plane.Tests.{InRange}
+use Rattle.delaunay_location.specs.half_edge_mesh.Mesh.{origin}
+use Rattle.delaunay_location.specs.delaunay_core.Place.{place_of}
 use Rattle.delaunay_shapes.specs.InShape.{IsVertexInside}
 use Rattle.delaunay_shapes.proofs.Handles.{vertex_covered, vertex_told}
 use Rattle.delaunay_shapes.proofs.VertexFlood.{keeps, not_inside, not_named}

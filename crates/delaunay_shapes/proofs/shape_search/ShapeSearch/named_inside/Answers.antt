@@ -1,6 +1,6 @@
 use Rattle.std.proofs.Common.{ℕ, ◌*◌, ◌/◌, ◌<◌, ◌≤◌, ◌∙◌, ap, subst, sym, arith}
 use Rattle.std.proofs.lemmas.List.{get_or-map, length-map}
-use Rattle.half_edge_mesh.specs.Mesh.{rev}
+use Rattle.delaunay_location.specs.half_edge_mesh.Mesh.{rev}
 use Rattle.delaunay_shapes.specs.InShape.{IsVertexInside, undirected_of}
 use Rattle.delaunay_shapes.specs.ShapeSearch.{EnclosesVertex}
 use Rattle.delaunay_shapes.proofs.VertexFlood.{named_first, named_more, named_last}

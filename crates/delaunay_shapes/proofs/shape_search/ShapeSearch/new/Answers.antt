@@ -1,5 +1,5 @@
 use Rattle.std.proofs.Common.{map}
-use Rattle.plane.specs.Tests.{InRange}
+use Rattle.delaunay_location.specs.plane.Tests.{InRange}
 use Rattle.delaunay_shapes.proofs.Shapes.{all_are}
 use Rattle.delaunay_shapes.proofs.shape_search.ShapeSearch.new.Goals as goal
 

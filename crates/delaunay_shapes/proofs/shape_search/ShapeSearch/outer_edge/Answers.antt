@@ -1,8 +1,9 @@
 use Rattle.std.proofs.Common.{ℕ, ◌<◌, ◌/◌, map, length, sym, subst, arith}
-use Rattle.half_edge_mesh.specs.Rounds.{GivesOuterLoop, hull_left}
-use Rattle.mesh_embedding.proofs.OneOutline.{one_outline}
-use Rattle.mesh_embedding.proofs.OutlineGiven.{along_begins, along_next, along_goes_on, along_ends}
-use Rattle.delaunay_legalization.proofs.Questions.{both_ways}
+use Rattle.delaunay_location.specs.half_edge_mesh.Rounds.{GivesOuterLoop, hull_left}
+use Rattle.delaunay_location.proofs.mesh_embedding.OneOutline.{one_outline}
+use Rattle.delaunay_location.proofs.mesh_embedding.OutlineGiven.{along_begins, along_next}
+use Rattle.delaunay_location.proofs.mesh_embedding.OutlineGiven.{along_goes_on, along_ends}
+use Rattle.delaunay_location.proofs.delaunay_legalization_lemmas.Questions.{both_ways}
 use Rattle.delaunay_shapes.specs.ShapeSearch.{EnclosesEdge}
 use Rattle.delaunay_shapes.proofs.shape_search.ShapeSearch.outer_edge.Goals as goal
 

@@ -1,6 +1,6 @@
 use Rattle.std.proofs.Common.{ℕ, ◌/◌}
-use Rattle.half_edge_mesh.specs.Rounds.{hull_left}
-use Rattle.mesh_embedding.proofs.OutlineGiven.{IsGoingAlong, indexes}
+use Rattle.delaunay_location.specs.half_edge_mesh.Rounds.{hull_left}
+use Rattle.delaunay_location.proofs.mesh_embedding.OutlineGiven.{IsGoingAlong, indexes}
 use Rattle.delaunay_shapes.specs.ShapeSearch.{EnclosesEdge}
 use Rattle.delaunay_shapes.proofs.shape_search.ShapeSearch.outer_edge.Given as goal
 

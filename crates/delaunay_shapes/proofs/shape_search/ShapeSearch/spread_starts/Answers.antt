@@ -1,6 +1,6 @@
 use Rattle.std.proofs.Common.{ℕ, ◌<◌, [], ◌∙◌, ap, length, subst, sym, arith}
 use Rattle.std.proofs.lemmas.List.{append-nil}
-use Rattle.half_edge_mesh.specs.Mesh.{rev}
+use Rattle.delaunay_location.specs.half_edge_mesh.Mesh.{rev}
 use Rattle.delaunay_shapes.specs.Flood.{AsksBeside}
 use Rattle.delaunay_shapes.specs.ShapeSearch.{EnclosesEdge}
 use Rattle.delaunay_shapes.proofs.Asking.{goes_on_twice}

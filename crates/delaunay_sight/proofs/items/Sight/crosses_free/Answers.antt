@@ -1,5 +1,5 @@
-use Rattle.delaunay_core.specs.Place.{place_of}
-use Rattle.delaunay_legalization.proofs.Questions.{both_ways}
+use Rattle.delaunay_lines.specs.delaunay_core.Place.{place_of}
+use Rattle.delaunay_lines.proofs.delaunay_legalization_lemmas.Questions.{both_ways}
 use Rattle.delaunay_sight.proofs.Crossed.{second_decides, not_crossed, crossed_within}
 use Rattle.delaunay_sight.proofs.items.Sight.crosses_free.Goals as goal
 

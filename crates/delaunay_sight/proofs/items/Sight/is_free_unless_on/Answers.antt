@@ -1,4 +1,4 @@
-use Rattle.delaunay_legalization.proofs.Questions.{both_ways}
+use Rattle.delaunay_lines.proofs.delaunay_legalization_lemmas.Questions.{both_ways}
 use Rattle.delaunay_sight.proofs.items.Sight.is_free_unless_on.Goals as goal
 
 pub returns : goal.returns

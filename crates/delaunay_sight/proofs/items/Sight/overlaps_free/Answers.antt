@@ -1,4 +1,4 @@
-use Rattle.delaunay_core.specs.Place.{place_of}
+use Rattle.delaunay_lines.specs.delaunay_core.Place.{place_of}
 use Rattle.delaunay_sight.proofs.Crossed.{along_iff, iff_through, crossed_within}
 use Rattle.delaunay_sight.proofs.items.Sight.overlaps_free.Goals as goal
 

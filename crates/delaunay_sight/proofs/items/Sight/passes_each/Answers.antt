@@ -1,5 +1,5 @@
 use Rattle.std.proofs.Common.{◌∙◌, ap, refl}
-use Rattle.delaunay_legalization.proofs.Questions.{both_ways}
+use Rattle.delaunay_lines.proofs.delaunay_legalization_lemmas.Questions.{both_ways}
 use Rattle.delaunay_sight.specs.Passing.{Passes}
 use Rattle.delaunay_sight.proofs.Walks.{walking_begins, walking_goes_on, item_mesh}
 use Rattle.delaunay_sight.proofs.Walks.{stops_at, walking_ends}

@@ -1,4 +1,4 @@
-use Rattle.half_edge_links.specs.Mesh.{next}
+use Rattle.half_edge_dcel.specs.half_edge_links.Mesh.{next}
 use Rattle.half_edge_views.proofs.Walks.{walk_goes_on, less_is_left, ending_goes_on}
 use Rattle.half_edge_views.proofs.rounds.HullIteratorIterator.next.Goals as goal
 

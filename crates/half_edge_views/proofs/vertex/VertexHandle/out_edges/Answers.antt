@@ -1,5 +1,5 @@
 use Rattle.std.proofs.Common.{sym, ◌∙◌, subst}
-use Rattle.half_edge_links.specs.Peel.{turn}
+use Rattle.half_edge_dcel.specs.half_edge_links.Peel.{turn}
 use Rattle.half_edge_views.specs.Rounds.{GivesRound}
 use Rattle.half_edge_views.proofs.Ranges.{out_edge-within}
 use Rattle.half_edge_views.proofs.Loops.{gives_round, round_begins}

@@ -1,5 +1,5 @@
 use Rattle.std.proofs.Common.{sym, ◌∙◌, subst}
-use Rattle.half_edge_links.specs.Mesh.{next}
+use Rattle.half_edge_dcel.specs.half_edge_links.Mesh.{next}
 use Rattle.half_edge_views.specs.Rounds.{GivesOuterLoop}
 use Rattle.half_edge_views.proofs.Ranges.{outer_edge-within}
 use Rattle.half_edge_views.proofs.Loops.{gives_loop, loop_begins}

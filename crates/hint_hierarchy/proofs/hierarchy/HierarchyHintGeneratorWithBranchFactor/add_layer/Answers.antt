@@ -1,8 +1,8 @@
 use Rattle.std.proofs.Common.{◌≡◌, ◌∙◌, ◌⊎◌, sym, ap, subst, inl, inr}
 use mathlib.Core.Logic.{⊎_elim}
 use Rattle.std.specs.Prelude.{Contains}
-use Rattle.plane.specs.Fraction.{Point}
-use Rattle.delaunay_core.specs.Place.{place_of}
+use Rattle.delaunay_interface.specs.plane.Fraction.{Point}
+use Rattle.delaunay_interface.specs.delaunay_core.Place.{place_of}
 use Rattle.hint_hierarchy.specs.Layers.{IsHeld, positions}
 use Rattle.hint_hierarchy.proofs.Held.{nothing_contained, pushed_within}
 use Rattle.hint_hierarchy.proofs.hierarchy.HierarchyHintGeneratorWithBranchFactor.add_layer.Goals as goal

@@ -1,7 +1,7 @@
 use Rattle.std.proofs.Common.{◌≡◌, ◌<◌, length, get_or, List, subst, arith}
 use Rattle.std.specs.Prelude.{Contains}
 use Rattle.std.proofs.lemmas.Grind.{common_steps}
-use Rattle.plane.specs.Fraction.{Point}
+use Rattle.delaunay_interface.specs.plane.Fraction.{Point}
 use Rattle.hint_hierarchy.specs.Layers.{IsHeld, positions}
 use Rattle.hint_hierarchy.proofs.Held.{held_at, pushed_within}
 use Rattle.hint_hierarchy.proofs.hierarchy.HierarchyHintGeneratorWithBranchFactor.copy_layers.Goals as goal

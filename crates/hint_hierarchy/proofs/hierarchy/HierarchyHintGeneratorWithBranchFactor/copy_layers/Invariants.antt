@@ -1,4 +1,4 @@
-use Rattle.plane.specs.Hint.{IsAtMost}
+use Rattle.delaunay_interface.specs.plane.Hint.{IsAtMost}
 use Rattle.hint_hierarchy.specs.Layers.{IsHeld}
 use Rattle.hint_hierarchy.proofs.hierarchy.HierarchyHintGeneratorWithBranchFactor.copy_layers.Given as goal
 

@@ -1,7 +1,7 @@
 use Rattle.std.proofs.Common.{◌<◌, length, inl, inr, arith}
 use mathlib.Core.Logic.{⊎_elim}
 use Rattle.std.proofs.lemmas.Grind.{common_steps}
-use Rattle.delaunay_core.specs.Place.{place_of}
+use Rattle.delaunay_interface.specs.delaunay_core.Place.{place_of}
 use Rattle.hint_hierarchy.specs.Layers.{positions}
 use Rattle.hint_hierarchy.proofs.Held.{held_at}
 use Rattle.hint_hierarchy.proofs.hierarchy.HierarchyHintGeneratorWithBranchFactor.first_or.Goals as goal

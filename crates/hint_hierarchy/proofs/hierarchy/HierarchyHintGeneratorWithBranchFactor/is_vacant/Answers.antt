@@ -1,6 +1,6 @@
 use Rattle.std.proofs.Common.{◌≡◌, ◌<◌, length, get_or, subst, arith}
 use Rattle.std.proofs.lemmas.Grind.{common_steps}
-use Rattle.delaunay_core.specs.Place.{place_of}
+use Rattle.delaunay_interface.specs.delaunay_core.Place.{place_of}
 use Rattle.hint_hierarchy.specs.Layers.{positions}
 use Rattle.hint_hierarchy.proofs.Held.{IsVacantBelow, vacant_if_all, vacant_one_more}
 use Rattle.hint_hierarchy.proofs.hierarchy.HierarchyHintGeneratorWithBranchFactor.is_vacant.Goals as goal

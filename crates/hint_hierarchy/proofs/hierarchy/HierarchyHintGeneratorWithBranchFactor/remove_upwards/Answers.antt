@@ -1,6 +1,6 @@
 use Rattle.std.proofs.Common.{◌≡◌, ◌<◌, length, Some, arith}
 use Rattle.std.proofs.lemmas.Grind.{common_steps}
-use Rattle.delaunay_core.specs.Held.{place_if}
+use Rattle.delaunay_interface.specs.delaunay_core.Held.{place_if}
 use Rattle.hint_hierarchy.specs.Layers.{IsHeld, positions}
 use Rattle.hint_hierarchy.proofs.Held.{held_since, sites_at, sites_or}
 use Rattle.hint_hierarchy.proofs.hierarchy.HierarchyHintGeneratorWithBranchFactor.remove_upwards.Goals as goal

@@ -1,5 +1,5 @@
 use Rattle.std.proofs.Common.{◌≡◌, length}
-use Rattle.delaunay_core.specs.Held.{place_if}
+use Rattle.delaunay_interface.specs.delaunay_core.Held.{place_if}
 use Rattle.hint_hierarchy.specs.Layers.{IsAtMostOr, IsHeld}
 use Rattle.hint_hierarchy.proofs.hierarchy.HierarchyHintGeneratorWithBranchFactor.remove_upwards.Given as goal
 

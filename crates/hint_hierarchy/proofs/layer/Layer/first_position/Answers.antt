@@ -1,5 +1,5 @@
 use Rattle.std.proofs.Common.{inl, inr, refl}
-use Rattle.delaunay_core.specs.Place.{place_of}
+use Rattle.delaunay_interface.specs.delaunay_core.Place.{place_of}
 use Rattle.delaunay_interface.proofs.Held.{was_listed}
 use Rattle.hint_hierarchy.proofs.layer.Layer.first_position.Goals as goal
 

@@ -1,9 +1,9 @@
 use Rattle.std.proofs.Common.{◌≡◌, List, Option, Some, None, Bool, true, false, not, ◌∙◌}
 use Rattle.std.specs.Prelude.{IsTrue, MatchOption, is_some, Contains, pos}
 use Rattle.std.proofs.lemmas.List.{get_or_default}
-use Rattle.plane.specs.Fraction.{Point}
-use Rattle.delaunay_core.specs.Place.{place_of}
-use Rattle.delaunay_legalization.specs.Known.{IsKnown}
+use Rattle.delaunay_interface.specs.plane.Fraction.{Point}
+use Rattle.delaunay_interface.specs.delaunay_core.Place.{place_of}
+use Rattle.delaunay_interface.specs.delaunay_legalization.Known.{IsKnown}
 use Rattle.hint_hierarchy.specs.Layers.{positions}
 use Rattle.hint_hierarchy.proofs.layer.Layer.is_vacant.Goals as goal
 

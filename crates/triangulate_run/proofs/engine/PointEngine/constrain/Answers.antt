@@ -1,5 +1,5 @@
 use Rattle.std.proofs.Common.{◌≡◌, [], refl, sym, ◌∙◌, ap, inl, inr}
-use Rattle.delaunay_core.specs.declared.math.InsertionError.TheVariants.{OutOfMemory}
+use Rattle.delaunay_edit.specs.delaunay_core.declared.math.InsertionError.TheVariants.{OutOfMemory}
 use Rattle.triangulate_run.specs.declared.reply.Reply.TheVariants.{NoVertex, Refused}
 use Rattle.triangulate_run.specs.Engine.{stage_of}
 use Rattle.triangulate_run.specs.Reply.{reply_text}

@@ -1,6 +1,6 @@
 use Rattle.std.proofs.Common.{subst}
 use Rattle.std.specs.Prelude.{ℤ}
-use Rattle.delaunay_core.specs.declared.point.Point2.{Point2}
+use Rattle.delaunay_edit.specs.delaunay_core.declared.point.Point2.{Point2}
 use Rattle.triangulate_run.specs.Answer.{MayInsert}
 use Rattle.triangulate_run.specs.Engine.{stage_of}
 use Rattle.triangulate_run.proofs.engine.PointEngine.reply_to.Goals as goal
