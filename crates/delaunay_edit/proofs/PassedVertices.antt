@@ -23,6 +23,7 @@ use Rattle.delaunay_paths.proofs.plane.IntegerOrder.{trichotomy_ℤ}
 use Rattle.delaunay_paths.proofs.plane.LineOrder.{IsBetween, place_within, within_places}
 use Rattle.delaunay_paths.proofs.plane.Segments.{reach, on_segment_is, on_of_within}
 use Rattle.delaunay_paths.proofs.plane.Segments.{start_on_segment, end_on_segment}
+use Rattle.delaunay_paths.proofs.plane.Signs.{same_is_at_most}
 use Rattle.delaunay_paths.proofs.plane.Solver.{num, ◌⊕◌, ◌⊖◌, ◌⊗◌, ring_in}
 use Rattle.delaunay_paths.proofs.plane_delaunay.Points.AlongSegment.{reach_less}
 use Rattle.delaunay_paths.specs.plane_edits.Legal.{point_of}
@@ -198,12 +199,9 @@ module _ (points : List Point) (m : Mesh) (distinct : ArePlacedApart points) (i 
       last = λ w there. elim (Contains-push_cases passed k (at_vertex w) there)
           as (λ _. f w ≤ℤ f v) [
             | inl before ↦ reached.last w before
-            | inr is ↦ same_is_most (f w) (f v) (ap f (none w is))
+            | inr is ↦ same_is_at_most (f w) (f v) (ap f (none w is))
           ];
     }
-      where
-        same_is_most : (x y : ℤ) → x ≡ y → x ≤ℤ y
-        same_is_most x y e = omega (arith, ints)
 
     -- where all was passed, it is j
     pub reached_ends : IsLineList t (place points i) (place points j) passed → v ≡ j
@@ -268,15 +266,12 @@ module _ (points : List Point) (m : Mesh) (distinct : ArePlacedApart points) (i 
         last = λ k there. elim (Contains-push_cases passed (at_vertex w) (at_vertex k) there)
             as (λ _. f k ≤ℤ f w) [
               | inl before ↦ weaker (f k) (f v) (f w) (reached.last k before) farther
-              | inr is ↦ same_is_most (f k) (f w) (ap f (sym (ap vertex_of is)))
+              | inr is ↦ same_is_at_most (f k) (f w) (ap f (sym (ap vertex_of is)))
             ];
       }
         where
           weaker : (x y z : ℤ) → x ≤ℤ y → y <ℤ z → x ≤ℤ z
           weaker x y z h k = omega (arith, ints)
-
-          same_is_most : (x y : ℤ) → x ≡ y → x ≤ℤ y
-          same_is_most x y e = omega (arith, ints)
 
       -- it is on what is left of the segment
       on_rest : OnSegment (place points v) (place points j) (place points w)

@@ -1,5 +1,5 @@
 -- Triangulations as they are at first, and copies.
-use Rattle.std.specs.Prelude.{◌≡◌, [], ℕ, List, All}
+use Rattle.std.specs.Prelude.{◌≡◌, [], List, All}
 use Rattle.std.specs.List.{AllZip}
 use Rattle.delaunay_paths.specs.half_edge_mesh.Mesh.{empty}
 use Rattle.delaunay_paths.specs.delaunay_legalization.State.{State}

@@ -1,5 +1,5 @@
 //! How many constraints an edit makes or takes, by a look at what it changes.
-ghost use Rattle.std.specs.Prelude.{◌≡◌, ◌≢◌, ◌↔◌, ◌<◌, length, map, All, IsTrue};
+ghost use Rattle.std.specs.Prelude.{◌≡◌, ◌≢◌, ◌<◌, length, map, All};
 ghost use Rattle.std.specs.Prelude.{IfNone, IfSome};
 ghost use Rattle.delaunay_paths.specs.delaunay_legalization.Constraints.{constraints_by};
 ghost use Rattle.delaunay_paths.specs.delaunay_legalization.Shape.{IsTriangulated};
@@ -14,7 +14,7 @@ use delaunay_paths::delaunay_legalization::{ConstraintMarker, is_constraint_edge
 use delaunay_paths::delaunay_lines::{Intersection, line_between_vertices};
 use delaunay_paths::delaunay_location::PositionInTriangulation;
 use delaunay_paths::half_edge_mesh::{Dcel, FixedVertexHandle, MeshViews};
-use delaunay_paths::is_constraint_between;
+use delaunay_paths::{is_constraint_between, is_same_vertex};
 
 // How many constraints a new vertex at a location makes of one: one more where it is on a
 // constraint.
@@ -55,13 +55,6 @@ pub(crate) fn count_constraints_at<M: ConstraintMarker<UE>, V: HasPosition, DE, 
         }
     }
     count
-}
-
-// Whether two vertices are one.
-fn is_same_vertex(one: FixedVertexHandle, other: FixedVertexHandle) -> bool
-    ensures { IsTrue result ↔ (one ≡ other) }
-{
-    one == other
 }
 
 // How many pieces of the path between two different vertices are no constraints, unless a

@@ -22,5 +22,5 @@ pub use constraints::{add_constraints, constrain_edge, release_constraint};
 pub use crossing::CrossingLists;
 pub use flips::make_edge;
 pub use joined::{edge_if_joined, is_constraint_between};
-pub use path::next_on_path;
+pub use path::{is_same_vertex, next_on_path};
 pub use path_edges::edges_along;

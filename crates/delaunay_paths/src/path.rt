@@ -11,8 +11,8 @@ use delaunay_lines::delaunay_core::point::HasPosition;
 use delaunay_lines::half_edge_mesh::{Dcel, FixedVertexHandle};
 use delaunay_lines::{Intersection, line_between_vertices};
 
-// Whether two vertices are one.
-pub(crate) fn is_same_vertex(one: FixedVertexHandle, other: FixedVertexHandle) -> bool
+/// Whether two vertices are one.
+pub fn is_same_vertex(one: FixedVertexHandle, other: FixedVertexHandle) -> bool
     ensures { IsTrue result ↔ (one ≡ other) }
 {
     one == other

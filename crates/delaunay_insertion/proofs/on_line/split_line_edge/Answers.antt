@@ -40,7 +40,8 @@ returns-clause-takes g c =
           let f = c.requires.can.takes.kept.fits.directed_fit in omega (arith, w, f) in
           grown g.V.HasPosition.place old new c.args.value c.requires.can.takes.kept
           (ap (λ d. d.vertices) is)
-          c.requires.can.takes.in_range c.split_edge_when_all_vertices_on_line-vertex.ensures.data.whole edges faces
+          c.requires.can.takes.in_range
+          c.split_edge_when_all_vertices_on_line-vertex.ensures.data.whole edges faces
           (split_shape (map g.V.HasPosition.place old.vertices)
           (g.V.HasPosition.place c.args.value) old.mesh new.mesh
           c.args.edge c.split_edge_when_all_vertices_on_line-vertex.result.0 (length old.directed)
@@ -54,7 +55,8 @@ returns-clause-takes g c =
           let done = c.split_edge_when_all_vertices_on_line-vertex.ensures in
           grows_within_line old c.split_edge_when_all_vertices_on_line-vertex.new.self
           c.requires.can.takes.kept.valid
-          c.requires.can.takes.kept.fits c.split_edge_when_all_vertices_on_line-vertex.ensures.data.whole
+          c.requires.can.takes.kept.fits
+          c.split_edge_when_all_vertices_on_line-vertex.ensures.data.whole
           (map g.V.HasPosition.place old.vertices)
           (g.V.HasPosition.place c.args.value) _ _ c.args.edge _ _ _ c.requires.one_face
           c.requires.can.on_edge

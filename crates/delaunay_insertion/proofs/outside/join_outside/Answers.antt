@@ -107,7 +107,8 @@ loop-after-preserved g c =
           (g.V.HasPosition.place c.args.value)
           (state_of c.args.dcel.now) (state_of now) (state_of new) c.loop-after.invariant.1
           (grows_by_face now new c.in-Some.ensures.whole.valid c.in-Some.ensures.whole.fits
-          c.create_single_face_between_edge_and_next-ahead.ensures.data.whole (map g.V.HasPosition.place c.args.dcel.now.vertices)
+          c.create_single_face_between_edge_and_next-ahead.ensures.data.whole
+          (map g.V.HasPosition.place c.args.dcel.now.vertices)
           (g.V.HasPosition.place c.args.value) _ _ _ _ _ _ _ _ _ done.data.directed
           done.data.faces done.edges
           done.links.triangles (ap (λ d. d.outer) done.data.contents)),

@@ -25,7 +25,8 @@ loop-edge-preserved g c = (
       c.args.flips.now c.loop-edge.dcel c.loop-edge.work.items _ c.loop-edge.flips
       c.loop-edge.invariant.0
       c.pop.new.self.items
-      c.in-Some.edge c.in-Some.ensures.last c.legalize_edge.new.dcel c.legalize_edge.new.work.items _
+      c.in-Some.edge c.in-Some.ensures.last c.legalize_edge.new.dcel
+      c.legalize_edge.new.work.items _
       c.legalize_edge.new.flips c.legalize_edge.ensures.contents c.legalize_edge.ensures.constraints
       c.legalize_edge.ensures.step (c.legalize_edge.ensures.capacity ∙ c.pop.ensures.room),
   c.legalize_edge.ensures.whole,
