@@ -17,6 +17,7 @@ pub mod Constraints
 pub mod ConstraintEdges
 pub mod MarkedPairs
 -- Flips until no edge fails: the work list, each step, and the end.
+pub mod Bits
 pub mod EdgeSets
 pub mod Legalizing
 pub mod WorkList

@@ -14,6 +14,7 @@ pub mod Shape
 pub mod Known
 pub mod Flips
 pub mod CdtEdge
+pub mod Bits
 pub mod EdgeSet
 pub mod Lending
 pub mod Star

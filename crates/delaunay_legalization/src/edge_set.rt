@@ -1,28 +1,62 @@
 //! Lists of edges that are marked while they are listed, so that none is searched for.
-ghost use Rattle.std.specs.Prelude.{◌≡◌, ◌<◌, ◌≤◌, ◌++◌, ◌∷◌, []};
-ghost use Rattle.std.specs.Prelude.{◌↔◌, Contains, IfNone, IfSome, IsTrue, OnOk};
+ghost use Rattle.std.specs.Prelude.{◌≡◌, ℕ, ◌/◌, ◌<◌, ◌≤◌, ◌++◌, ◌∷◌, [], false, true, cond};
+ghost use Rattle.std.specs.Prelude.{nat_eq, length, ◌↔◌, Contains, IfNone, IfSome, IsTrue, OnOk};
 ghost use Rattle.mesh_embedding.specs.Legal.{Gains};
+ghost use Rattle.delaunay_legalization.specs.Bits.{has_bit};
 
 use mesh_embedding::half_edge_mesh::FixedUndirectedEdgeHandle;
 use std::alloc::{AllocError, Global};
 use std::marker::Model;
+
+// How many bits a word has.
+const BITS: usize = 64;
+
+// Whether the bit of an index is set.
+fn is_set(words: &Vec<u64>, index: usize) -> bool
+    requires { index / 64 < length words.now.items }
+    ensures { result ≡ has_bit words.now.items index }
+{
+    (words[index / BITS] >> (index % BITS)) & 1 == 1
+}
+
+// Sets the bit of an index.
+fn set_bit(words: &mut Vec<u64>, index: usize)
+    requires { index / 64 < length words.old.items }
+    ensures bits { (k : ℕ) →
+        has_bit words.new.items k ≡ cond (nat_eq index k) true (has_bit words.old.items k) }
+    ensures count { length words.new.items ≡ length words.old.items }
+{
+    let word = words[index / BITS];
+    words[index / BITS] = word | 1 << (index % BITS);
+}
+
+// Clears the bit of an index.
+fn clear_bit(words: &mut Vec<u64>, index: usize)
+    requires { index / 64 < length words.old.items }
+    ensures bits { (k : ℕ) →
+        has_bit words.new.items k ≡ cond (nat_eq index k) false (has_bit words.old.items k) }
+    ensures count { length words.new.items ≡ length words.old.items }
+{
+    let word = words[index / BITS];
+    words[index / BITS] = word & !(1 << (index % BITS));
+}
 
 /// Undirected edges, each once, in the order in which they were put there, and how many indexes of
 /// edges there is room for.
 #[derive(Drop)]
 pub struct EdgeSet {
     edges: Vec<FixedUndirectedEdgeHandle>,
-    // Whether the edge of an index is listed.
-    flags: Vec<bool>,
+    // Whether the edge of an index is listed, a bit each.
+    flags: Vec<u64>,
 }
 
 impl Model for EdgeSet {
-    ghost use Rattle.std.specs.Prelude.{length, vec_capacity};
+    ghost use Rattle.std.specs.Prelude.{◌*◌, length, vec_capacity};
     ghost use Rattle.delaunay_legalization.specs.EdgeSet.{EdgesInSet, AreFlagged};
 
     ghost Value = { EdgesInSet };
 
-    ghost view = { λ l. record { items = l.edges.items; room = length l.flags.items } };
+    ghost view = { λ l. record { items = l.edges.items; room = 64 * length l.flags.items } };
 
     ghost invariant = { λ l. AreFlagged l.edges.items l.flags.items (vec_capacity l.edges) };
 }
@@ -43,11 +77,12 @@ impl EdgeSet {
         ensures room { OnOk result (edges ≤ self.new.room) }
         ensures items { self.new.items ≡ self.old.items }
     {
-        if edges <= self.flags.len() {
+        if edges <= self.flags.len() * BITS {
             return Ok(());
         }
-        self.edges.reserve(edges)?;
-        self.flags.resize(self.edges.capacity(), false)
+        // By so many more that enough are left as they are rounded down to whole words.
+        self.edges.reserve(edges.saturating_add(BITS - 1))?;
+        self.flags.resize(self.edges.capacity() / BITS, 0)
     }
 
     /// What allocates for the list.
@@ -67,7 +102,7 @@ impl EdgeSet {
         ensures { IsTrue result ↔ Contains self.now.items edge }
     {
         let index = edge.index() as usize;
-        index < self.flags.len() && self.flags[index]
+        index / BITS < self.flags.len() && is_set(&self.flags, index)
     }
 
     /// Lists an edge as the last one, unless it is listed.
@@ -79,10 +114,10 @@ impl EdgeSet {
         ensures room { self.new.room ≡ self.old.room }
     {
         let index = edge.index() as usize;
-        if self.flags[index] {
+        if is_set(&self.flags, index) {
             return;
         }
-        self.flags[index] = true;
+        set_bit(&mut self.flags, index);
         self.edges.push_reserved(edge);
     }
 
@@ -93,7 +128,7 @@ impl EdgeSet {
         ensures room { self.new.room ≡ self.old.room }
     {
         let edge = self.edges.pop()?;
-        self.flags[edge.index() as usize] = false;
+        clear_bit(&mut self.flags, edge.index() as usize);
         Some(edge)
     }
 
