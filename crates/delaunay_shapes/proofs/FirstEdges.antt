@@ -1,5 +1,5 @@
 -- Lists of the edges that a flood begins with.
--- Lemmas: three_sides, if_ok, if_both.
+-- Lemmas: three_sides, if_ok.
 use Rattle.std.proofs.Common.{◌≡◌, ℕ, ◌/◌, [], ◌∷◌, arith}
 use Rattle.std.specs.Prelude.{Result, Ok, Err, IfOk}
 use Rattle.delaunay_location.specs.half_edge_mesh.Mesh.{Mesh, next, prev}
@@ -20,9 +20,3 @@ pub if_ok : {T E : Type 0} (P Q : T → Type 0) (r : Result T E) → ((x : T) �
     → IfOk r P → IfOk r Q
 if_ok P Q (Ok x) into p = into x p
 if_ok P Q (Err e) into p = p
-
--- the same of two things that hold of it
-pub if_both : {T E : Type 0} (P Q R : T → Type 0) (r : Result T E) → ((x : T) → P x → Q x → R x)
-    → IfOk r P → IfOk r Q → IfOk r R
-if_both P Q R (Ok x) into p q = into x p q
-if_both P Q R (Err e) into p q = p

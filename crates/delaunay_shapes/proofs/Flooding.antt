@@ -34,8 +34,9 @@ use Rattle.delaunay_location.proofs.mesh_embedding.LineNeighbours.{two_neighbour
 use Rattle.delaunay_location.proofs.mesh_embedding.WorkLists.{contains_map, contains_map_from}
 use Rattle.delaunay_shapes.specs.Known.{point_at}
 use Rattle.delaunay_shapes.specs.InShape.{IsEdgeInShape, AreEdgesInShape, undirected_of}
-use Rattle.delaunay_shapes.specs.Flood.{IsAsked, IsFlooding, AreAskedBeside, IsSpread, IsRegion}
+use Rattle.delaunay_shapes.specs.Flood.{IsAsked, IsFlooding, AreAskedBeside, IsSpread}
 use Rattle.delaunay_shapes.specs.Flood.{IsBegunBy}
+use Rattle.delaunay_shapes.specs.Start.{HasStartAt}
 use Rattle.delaunay_shapes.proofs.Asking.{rev_half}
 
 -- the undirected edge of either of its directions
@@ -290,16 +291,17 @@ module _ (points : List Point) (m : Mesh) (v : IsValidMesh m)
 
   -- ---- a flood that has spread
   -- a flood that has spread from where a region begins has found all edges in it
-  pub spread_finds_all : (Shape : Fraction → Type 0) → IsRegion Shape → (count : ℕ)
+  pub spread_finds_all : (Shape : Fraction → Type 0) (p : Point) → HasStartAt Shape p → (count : ℕ)
       → 2 * count ≡ length m.half_edges → (starts : List ℕ) (asked : List Bool) (sides : List ℕ)
       → IsFlooding (IsEdgeInShape Shape points m) count asked (undirected_of sides)
       → IsSpread m asked sides → IsBegunBy (IsEdgeInShape Shape points m) count starts
       → ((k : ℕ) → Contains starts k → (k < count) × IsAsked asked k)
       → AreEdgesInShape Shape points m (undirected_of sides)
-  spread_finds_all Shape shaped count even starts asked sides flooding spread begun tried = record {
-    once = flooding.once;
-    exact = λ k. ((λ c. (within k c, flooding.inside k c)), (λ p. back k p.0 p.1));
-  }
+  spread_finds_all Shape p shaped count even starts asked sides flooding spread begun tried =
+      record {
+        once = flooding.once;
+        exact = λ k. ((λ c. (within k c, flooding.inside k c)), (λ q. back k q.0 q.1));
+      }
     where
       found : List ℕ
       found = undirected_of sides

@@ -1,11 +1,10 @@
 -- What a search from the start of a shape needs: the shapes' starts, and covered points.
--- Lemmas: circle_begins, rectangle_begins, region_of_start, all_are.
+-- Lemmas: circle_begins, rectangle_begins, all_are.
 use Rattle.std.proofs.Common.{List, refl, get_or}
 use Rattle.std.specs.Prelude.{All, ℤ}
-use Rattle.delaunay_location.specs.plane.Fraction.{Point, Fraction}
+use Rattle.delaunay_location.specs.plane.Fraction.{Point}
 use Rattle.delaunay_location.specs.plane.Shape.{InClosedCircle, InClosedRectangle}
 use Rattle.delaunay_location.specs.plane_delaunay.Flood.{circle, rectangle}
-use Rattle.delaunay_shapes.specs.Flood.{IsRegion}
 use Rattle.delaunay_shapes.specs.Start.{HasStartAt}
 
 -- a closed circle and a closed rectangle are regions with a start
@@ -18,10 +17,6 @@ circle_begins centre radius_2 =
 pub rectangle_begins : (lower upper : Point) → HasStartAt (InClosedRectangle lower upper) lower
 rectangle_begins lower upper =
     record { region = rectangle lower upper; same = λ q. ((λ x. x), (λ x. x)); start = refl }
-
--- a shape that starts at a point is a region
-pub region_of_start : (Shape : Fraction → Type 0) (p : Point) → HasStartAt Shape p → IsRegion Shape
-region_of_start Shape p b = record { region = b.region; same = b.same }
 
 -- points of one kind are of another
 pub all_are : (P Q : Point → Type 0) → ((p : Point) → P p → Q p) → (points : List Point)

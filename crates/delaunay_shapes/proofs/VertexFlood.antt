@@ -26,7 +26,8 @@ use Rattle.delaunay_location.proofs.mesh_embedding.WorkLists.{contains_last, con
 use Rattle.delaunay_location.proofs.mesh_embedding.WorkLists.{last_or_before, once_after}
 use Rattle.delaunay_shapes.specs.Known.{point_at}
 use Rattle.delaunay_shapes.specs.InShape.{AreEdgesInShape, AreVerticesInShape}
-use Rattle.delaunay_shapes.specs.Flood.{AreNamedIn, IsNamedIn, IsStartKept, KeepsStart, IsRegion}
+use Rattle.delaunay_shapes.specs.Flood.{AreNamedIn, IsNamedIn, IsStartKept, KeepsStart}
+use Rattle.delaunay_shapes.specs.Start.{HasStartAt}
 use Rattle.delaunay_shapes.proofs.Asking.{below_other}
 use Rattle.delaunay_shapes.proofs.Flooding.{half_of_even, half_of_rev, tiles, to_half}
 
@@ -262,12 +263,12 @@ module _ (points : List Point) (m : Mesh) (v : IsValidMesh m)
   ]
 
   -- the vertices inside that name one of the edges in a region are all vertices in it
-  pub named_are_all : (Shape : Fraction → Type 0) → IsRegion Shape → (edges found : List ℕ)
-      → AreEdgesInShape Shape points m edges
+  pub named_are_all : (Shape : Fraction → Type 0) (p : Point) → HasStartAt Shape p
+      → (edges found : List ℕ) → AreEdgesInShape Shape points m edges
       → AreNamedIn (λ i. Shape (whole (point_at points i))) m edges found
       → length points ≡ length m.out_edges → 1 < length points
       → AreVerticesInShape Shape points found
-  named_are_all Shape shaped edges found exact named many some = record {
+  named_are_all Shape p shaped edges found exact named many some = record {
     once = named.once;
     exact = λ i. (
       (λ c. let r = (named.exact i).0 c in (below i r.0.0 r.0.1.names, r.1)),

@@ -1,17 +1,14 @@
 -- A flood over the edges of a mesh: which were asked of, and which of them were found.
 use Rattle.std.specs.Prelude.{◌≡◌, ◌≢◌, ◌↔◌, ◌⊎◌, ℕ, ◌/◌, ◌<◌, List, [], ◌∷◌, ◌++◌, length}
-use Rattle.std.specs.Prelude.{map, Some}
-use Rattle.std.specs.Prelude.{Bool, true, false, All, Contains, AllPairs, slice_index_or, ◌≤◌}
-use Rattle.delaunay_location.specs.half_edge_mesh.Contents.{Contents}
+use Rattle.std.specs.Prelude.{Some, Bool, true, false, Contains, AllPairs, slice_index_or, ◌≤◌}
 use Rattle.delaunay_location.specs.half_edge_mesh.Mesh.{Mesh, origin, next, prev, face, rev}
 use Rattle.delaunay_location.specs.half_edge_mesh.Mesh.{out_edge}
 use Rattle.delaunay_location.specs.plane.Fraction.{Point, Fraction}
 use Rattle.delaunay_location.specs.plane.Shape.{IsEdgeIn}
 use Rattle.delaunay_location.specs.plane.Location.{Location}
-use Rattle.delaunay_location.specs.plane_delaunay.Flood.{Region, InRegion, IsTried}
-use Rattle.delaunay_location.specs.plane_tiling.Local.{IsMesh}
-use Rattle.delaunay_location.specs.mesh_embedding.Drawn.{drawn, faces_of, outer_of}
-use Rattle.delaunay_shapes.specs.InShape.{IsEdgeInShape, IsInside, undirected_of}
+use Rattle.delaunay_location.specs.plane_delaunay.Flood.{IsTried}
+use Rattle.delaunay_location.specs.mesh_embedding.Drawn.{drawn}
+use Rattle.delaunay_shapes.specs.InShape.{IsEdgeInShape, undirected_of}
 
 -- the flood has asked of edge or vertex k
 abbrev pub IsAsked : List Bool → ℕ → Type 0
@@ -70,25 +67,9 @@ pub record AsksBeside (Inside : ℕ → Type 0) (m : Mesh) (count : ℕ) (asked 
   pub beside : AreAskedBeside m asked' h
   pub only : (g : ℕ) → Contains on.more g → (g ≡ rev (next m h)) ⊎ (g ≡ rev (prev m h))
 
--- the shape is a closed circle or a closed rectangle
-pub record IsRegion (Shape : Fraction → Type 0) : Type 0 where
-  pub region : Region
-  pub same : (p : Fraction) → Shape p ↔ InRegion region p
-
 -- where any edge is inside, one of the first is
 pub record IsBegunBy (Inside : ℕ → Type 0) (count : ℕ) (starts : List ℕ) : Type 0 where
   pub begun : (k : ℕ) → k < count → Inside k → (j : ℕ) × Contains starts j × Inside j
-
--- what a flood needs: the tests cover the shape's own points and the vertices of a mesh, the shape
--- is a region, and the flood begins with edges of the mesh of which one is inside, if any is
-pub record CanFlood {V D U F : Type 0} (IsCovered : Point → Type 0) (own : List Point) (Shape :
-    Fraction → Type 0) (place : V → Point) (c : Contents V D U F) (starts : List ℕ) : Type 0 where
-  pub own_covered : All IsCovered own
-  pub covered : All IsCovered (map place c.vertices)
-  pub shape : IsMesh (map place c.vertices) (faces_of c.mesh) (outer_of c.mesh)
-  pub region : IsRegion Shape
-  pub within : All (λ e. e < length c.undirected) starts
-  pub begun : IsBegunBy (IsInside Shape place c) (length c.undirected) starts
 
 -- where any of the edges that are tried first from a location is inside, one of the first is
 pub record HasBegun (Shape : Fraction → Type 0) (points : List Point) (m : Mesh) (starts : List ℕ)

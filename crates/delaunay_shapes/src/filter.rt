@@ -6,7 +6,7 @@ ghost use Rattle.delaunay_shapes.specs.Left.{vertices_left};
 use crate::distance_metric::DistanceMetric;
 use crate::in_shape::{EdgesInShapeIterator, VerticesInShapeIterator};
 use crate::positions::spot_of;
-use crate::shape_search::ShapeSearch;
+use crate::shape_search::has_edge;
 use delaunay_location::delaunay_core::math::PlaneTests;
 use delaunay_location::delaunay_core::point::HasPosition;
 use delaunay_location::half_edge_mesh::{
@@ -38,11 +38,10 @@ pub fn edges_by_filter<
     ensures { IfOk result (λ it. GivesEdgesIn (M.shape metric.now) V.place dcel.entry
         (edges_left it)) }
 {
-    let search = ShapeSearch::new(dcel, metric, tests);
     let mut edges = Vec::new(alloc);
     for index in 0..dcel.num_undirected_edges() {
         let edge = FixedUndirectedEdgeHandle::from_index(index as u32);
-        if search.has_edge(edge) {
+        if has_edge(dcel, metric, tests, edge) {
             edges.push(edge.as_directed())?;
         }
     }

@@ -1,19 +1,17 @@
 //! A flood over the edges of a mesh that have a point in a shape: from those found, to those beside
 //! them in their faces.
 ghost use Rattle.std.specs.Prelude.{◌<◌, ◌/◌, ℕ, length, map, All, Contains, IfOk, OnOk};
-ghost use Rattle.delaunay_shapes.specs.Flood.{CanFlood, Spreads, IsAsked, IsSpread, IsSpreadTo};
+ghost use Rattle.delaunay_shapes.specs.Flood.{Spreads, IsAsked, IsSpread, IsSpreadTo};
 ghost use Rattle.delaunay_shapes.specs.InShape.{AreEdgesInShape, undirected_of};
-ghost use Rattle.delaunay_shapes.specs.Left.{GivesEdgesIn, edges_left};
 ghost use Rattle.delaunay_shapes.specs.ShapeSearch.{AsksBesideFor, AsksFor, IsFloodFor};
 
 use crate::distance_metric::DistanceMetric;
-use crate::in_shape::EdgesInShapeIterator;
 use crate::marks::Marks;
 use crate::shape_search::ShapeSearch;
 use delaunay_location::delaunay_core::math::PlaneTests;
 use delaunay_location::delaunay_core::point::HasPosition;
 use delaunay_location::half_edge_mesh::{
-    Dcel, FixedDirectedEdgeHandle, FixedUndirectedEdgeHandle, MeshViews,
+    FixedDirectedEdgeHandle, FixedUndirectedEdgeHandle, FixedVertexHandle, MeshViews,
 };
 use std::alloc::{AllocError, Global};
 
@@ -139,60 +137,25 @@ impl<
         Ok(())
     }
 
-    // The edges with a point in the shape, each once and in one of its directions, from some of
-    // which one has, if any has.
+    // The edges with a point in the shape, each once and in one of its directions. The first is
+    // looked for from the vertex `hint` on.
     pub(crate) fn edges_from(
         &self,
-        starts: &[FixedUndirectedEdgeHandle],
+        hint: FixedVertexHandle,
         alloc: Global,
     ) -> Result<Vec<FixedDirectedEdgeHandle>, AllocError>
-        requires { CanFlood (P.covered self.now.tests) (M.own_points self.now.metric)
-            (M.shape self.now.metric) V.place self.now.dcel starts.now }
         ensures exact { IfOk result (λ v. AreEdgesInShape (M.shape self.now.metric)
             (map V.place self.now.dcel.vertices) self.now.dcel.mesh (undirected_of v.items)) }
         ensures within { IfOk result (λ v. All (λ e. e < length self.now.dcel.directed) v.items) }
     {
+        let starts = self.first_edges(hint, alloc)?;
         let mut flood = EdgeFlood {
             asked: Marks::new(self.dcel.num_undirected_edges(), alloc),
             found: Vec::new(alloc),
         };
-        self.ask_each(starts, &mut flood)?;
+        self.ask_each(starts.as_slice(), &mut flood)?;
         self.spread(&mut flood)?;
         let EdgeFlood { found, .. } = flood;
         Ok(found)
     }
-}
-
-/// The edges with a point in a closed circle or rectangle, each once, found from a list of edges of
-/// which one has, if any has. The tests have to cover the shape's own points and the vertices.
-///
-/// `AllocError` comes where memory for the marks of the edges that were asked of, or for the list
-/// of those found, is refused, and only from this call: the iterator takes none.
-pub(crate) fn edges_by_flood<
-    'a,
-    V: HasPosition,
-    DE,
-    UE,
-    F,
-    M: DistanceMetric<V::Scalar>,
-    P: PlaneTests<V::Scalar>,
->(
-    dcel: &'a Dcel<V, DE, UE, F>,
-    metric: &M,
-    tests: &P,
-    starts: &[FixedUndirectedEdgeHandle],
-    alloc: Global,
-) -> Result<EdgesInShapeIterator<'a, V, DE, UE, F>, AllocError>
-    requires { CanFlood (P.covered tests.now) (M.own_points metric.now) (M.shape metric.now)
-        V.place dcel.now starts.now }
-    ensures { IfOk result (λ it. GivesEdgesIn (M.shape metric.now) V.place dcel.entry
-        (edges_left it)) }
-{
-    let search = ShapeSearch::new(dcel, metric, tests);
-    let edges = search.edges_from(starts, alloc)?;
-    Ok(EdgesInShapeIterator {
-        dcel,
-        edges,
-        next: 0,
-    })
 }

@@ -1,19 +1,16 @@
 //! The edges that a flood begins with, by the location of the shape's start.
 ghost use Rattle.std.specs.Prelude.{◌≡◌, ◌↔◌, ℕ, ◌/◌, ◌<◌, ◌≤◌};
-ghost use Rattle.std.specs.Prelude.{length, map, All, IfNone, IfOk, IfSome, IsTrue, Contains, Some};
+ghost use Rattle.std.specs.Prelude.{length, All, IfNone, IfOk, IfSome, IsTrue, Contains, Some};
 ghost use Rattle.delaunay_location.specs.half_edge_mesh.Mesh.{face, face_edge, out_edge};
-ghost use Rattle.delaunay_location.specs.delaunay_core.Place.{place_of};
-ghost use Rattle.delaunay_location.specs.delaunay_legalization.Shape.{IsTriangulated};
-ghost use Rattle.delaunay_location.specs.delaunay_legalization.State.{state_of};
 ghost use Rattle.delaunay_location.specs.Location.{HasHandle};
-ghost use Rattle.delaunay_shapes.specs.Flood.{CanFlood};
+ghost use Rattle.delaunay_shapes.specs.Flood.{IsBegunBy};
 ghost use Rattle.delaunay_shapes.specs.ShapeSearch.{EnclosesEdge};
-ghost use Rattle.delaunay_shapes.specs.Start.{HasStartAt, HasSides, HasStarts};
+ghost use Rattle.delaunay_shapes.specs.Start.{HasSides, HasStarts};
 
 use crate::distance_metric::DistanceMetric;
 use crate::shape_search::ShapeSearch;
 use delaunay_location::delaunay_core::math::PlaneTests;
-use delaunay_location::delaunay_core::point::{HasPosition, Point2};
+use delaunay_location::delaunay_core::point::HasPosition;
 use delaunay_location::half_edge_mesh::{
     Dcel, FixedDirectedEdgeHandle, FixedFaceHandle, FixedUndirectedEdgeHandle, FixedVertexHandle,
     MeshViews,
@@ -85,7 +82,6 @@ impl<
 > ShapeSearch<'a, V, DE, UE, F, M, P> {
     // An outer edge with a point in the shape, by a look along the outline.
     fn outer_edge(&self) -> Option<FixedDirectedEdgeHandle>
-        requires { IsTriangulated V.place (state_of self.now.dcel) }
         ensures some { IfSome result (λ e. (e < length self.now.dcel.directed) ×
             EnclosesEdge V.place M.shape self.now (e / 2)) }
         ensures none { IfNone result ((h : ℕ) → h < length self.now.dcel.mesh.half_edges →
@@ -106,8 +102,7 @@ impl<
         location: PositionInTriangulation,
         alloc: Global,
     ) -> Result<Vec<FixedUndirectedEdgeHandle>, AllocError>
-        requires kept { IsTriangulated V.place (state_of self.now.dcel) }
-        requires handle { HasHandle self.now.dcel.mesh location }
+        requires { HasHandle self.now.dcel.mesh location }
         ensures starts { IfOk result (λ v. HasStarts (EnclosesEdge V.place M.shape self.now)
             self.now.dcel.mesh v.items location) }
         ensures within { IfOk result (λ v. All (λ e. e < length self.now.dcel.undirected) v.items) }
@@ -130,18 +125,14 @@ impl<
     // looked for from the vertex `hint` on.
     pub(crate) fn first_edges(
         &self,
-        start: Point2<V::Scalar>,
         hint: FixedVertexHandle,
         alloc: Global,
     ) -> Result<Vec<FixedUndirectedEdgeHandle>, AllocError>
-        requires kept { IsTriangulated V.place (state_of self.now.dcel) }
-        requires sites { All (P.sites self.now.tests) (map V.place self.now.dcel.vertices) }
-        requires start_covered { P.covered self.now.tests (place_of V.Scalar.whole start) }
-        requires begins { HasStartAt (M.shape self.now.metric) (place_of V.Scalar.whole start) }
-        ensures { IfOk result (λ v. CanFlood (P.covered self.now.tests)
-            (M.own_points self.now.metric) (M.shape self.now.metric) V.place self.now.dcel
-            v.items) }
+        ensures begun { IfOk result (λ v. IsBegunBy (EnclosesEdge V.place M.shape self.now)
+            (length self.now.dcel.undirected) v.items) }
+        ensures within { IfOk result (λ v. All (λ e. e < length self.now.dcel.undirected) v.items) }
     {
-        self.edges_at(locate_with_hint(self.dcel, start, hint, self.tests), alloc)
+        let location = locate_with_hint(self.dcel, self.start, hint, self.tests);
+        self.edges_at(location, alloc)
     }
 }

@@ -2,20 +2,17 @@
 ghost use Rattle.std.specs.Prelude.{◌≡◌, ◌≢◌, ◌↔◌, ◌<◌, length, All, AllPairs, IfOk};
 ghost use Rattle.std.specs.Prelude.{IsTrue, OnOk, Some};
 ghost use Rattle.delaunay_location.specs.half_edge_mesh.Mesh.{origin, out_edge};
-ghost use Rattle.delaunay_shapes.specs.Flood.{AreNamedIn, CanFlood, KeepsStart};
+ghost use Rattle.delaunay_shapes.specs.Flood.{AreNamedIn, KeepsStart};
 ghost use Rattle.delaunay_shapes.specs.InShape.{undirected_of};
-ghost use Rattle.delaunay_shapes.specs.Left.{GivesVerticesIn, vertices_left};
 ghost use Rattle.delaunay_shapes.specs.ShapeSearch.{EnclosesVertex};
 
 use crate::distance_metric::DistanceMetric;
-use crate::filter::vertices_by_filter;
-use crate::in_shape::VerticesInShapeIterator;
 use crate::positions::spot_of;
 use crate::shape_search::ShapeSearch;
 use delaunay_location::delaunay_core::math::PlaneTests;
 use delaunay_location::delaunay_core::point::HasPosition;
 use delaunay_location::half_edge_mesh::{
-    Dcel, FixedDirectedEdgeHandle, FixedUndirectedEdgeHandle, FixedVertexHandle, MeshViews,
+    Dcel, FixedDirectedEdgeHandle, FixedVertexHandle, MeshViews,
 };
 use std::alloc::{AllocError, Global};
 
@@ -62,7 +59,7 @@ impl<
     }
 
     // The vertices in the shape that name one of these edges.
-    fn named_inside(
+    pub(crate) fn named_inside(
         &self,
         edges: &[FixedDirectedEdgeHandle],
         alloc: Global,
@@ -83,42 +80,4 @@ impl<
         }
         Ok(found)
     }
-}
-
-/// The vertices in a closed circle or rectangle, each once, found from a list of edges of which one
-/// has a point in it, if any has. The tests have to cover the shape's own points and the vertices.
-///
-/// `AllocError` comes where memory for the marks of the edges that were asked of, or for the lists
-/// of edges and vertices found, is refused, and only from this call: the iterator takes none.
-pub(crate) fn vertices_by_flood<
-    'a,
-    V: HasPosition,
-    DE,
-    UE,
-    F,
-    M: DistanceMetric<V::Scalar>,
-    P: PlaneTests<V::Scalar>,
->(
-    dcel: &'a Dcel<V, DE, UE, F>,
-    metric: &M,
-    tests: &P,
-    starts: &[FixedUndirectedEdgeHandle],
-    alloc: Global,
-) -> Result<VerticesInShapeIterator<'a, V, DE, UE, F>, AllocError>
-    requires { CanFlood (P.covered tests.now) (M.own_points metric.now) (M.shape metric.now)
-        V.place dcel.now starts.now }
-    ensures { IfOk result (λ it. GivesVerticesIn (M.shape metric.now) V.place dcel.entry
-        (vertices_left it)) }
-{
-    if dcel.num_vertices() < 2 {
-        return vertices_by_filter(dcel, metric, tests, alloc);
-    }
-    let search = ShapeSearch::new(dcel, metric, tests);
-    let edges = search.edges_from(starts, alloc)?;
-    let vertices = search.named_inside(edges.as_slice(), alloc)?;
-    Ok(VerticesInShapeIterator {
-        dcel,
-        vertices,
-        next: 0,
-    })
 }

@@ -8,8 +8,7 @@ ghost use Rattle.delaunay_shapes.specs.Left.{vertices_left};
 ghost use Rattle.delaunay_shapes.specs.Start.{HasStartAt};
 
 use crate::distance_metric::DistanceMetric;
-use crate::flood::edges_by_flood;
-use crate::flood_vertices::vertices_by_flood;
+use crate::filter::vertices_by_filter;
 use crate::in_shape::{EdgesInShapeIterator, VerticesInShapeIterator};
 use crate::shape_search::ShapeSearch;
 use delaunay_location::delaunay_core::math::PlaneTests;
@@ -49,9 +48,13 @@ pub fn edges_in_shape<
     ensures { IfOk result (λ it. GivesEdgesIn (M.shape metric.now) V.place dcel.entry
         (edges_left it)) }
 {
-    let search = ShapeSearch::new(dcel, metric, tests);
-    let starts = search.first_edges(start, hint, alloc)?;
-    edges_by_flood(dcel, metric, tests, starts.as_slice(), alloc)
+    let search = ShapeSearch::new(dcel, metric, start, tests);
+    let edges = search.edges_from(hint, alloc)?;
+    Ok(EdgesInShapeIterator {
+        dcel,
+        edges,
+        next: 0,
+    })
 }
 
 /// The vertices in a shape, each once. The shape is a closed circle, and `start` its centre, or a
@@ -86,7 +89,15 @@ pub fn vertices_in_shape<
     ensures { IfOk result (λ it. GivesVerticesIn (M.shape metric.now) V.place dcel.entry
         (vertices_left it)) }
 {
-    let search = ShapeSearch::new(dcel, metric, tests);
-    let starts = search.first_edges(start, hint, alloc)?;
-    vertices_by_flood(dcel, metric, tests, starts.as_slice(), alloc)
+    let search = ShapeSearch::new(dcel, metric, start, tests);
+    if dcel.num_vertices() < 2 {
+        return vertices_by_filter(dcel, metric, tests, alloc);
+    }
+    let edges = search.edges_from(hint, alloc)?;
+    let vertices = search.named_inside(edges.as_slice(), alloc)?;
+    Ok(VerticesInShapeIterator {
+        dcel,
+        vertices,
+        next: 0,
+    })
 }

@@ -1,15 +1,42 @@
 //! A search for what has a point in a shape.
 ghost use Rattle.std.specs.Prelude.{◌↔◌, ◌≡◌, ◌<◌, length, map, All, IsTrue};
+ghost use Rattle.delaunay_location.specs.half_edge_mesh.Contents.{IsMeshWithData};
+ghost use Rattle.delaunay_location.specs.delaunay_core.Place.{place_of};
+ghost use Rattle.delaunay_location.specs.delaunay_legalization.Shape.{IsTriangulated};
+ghost use Rattle.delaunay_location.specs.delaunay_legalization.State.{state_of};
+ghost use Rattle.delaunay_shapes.specs.InShape.{IsInside};
 ghost use Rattle.delaunay_shapes.specs.ShapeSearch.{EnclosesEdge};
+ghost use Rattle.delaunay_shapes.specs.Start.{HasStartAt};
 
 use crate::distance_metric::DistanceMetric;
 use delaunay_location::delaunay_core::math::PlaneTests;
-use delaunay_location::delaunay_core::point::HasPosition;
+use delaunay_location::delaunay_core::point::{HasPosition, Point2};
 use delaunay_location::half_edge_mesh::{Dcel, FixedUndirectedEdgeHandle, MeshViews};
 use std::marker::Model;
 
-/// A search for the edges and vertices of a mesh that have a point in a closed shape, with tests
-/// that cover the shape's own points and the vertices.
+// Whether an edge has a point in a shape, by tests that cover the shape's own points and the
+// vertices.
+#[inline(always)]
+pub(crate) fn has_edge<
+    V: HasPosition,
+    DE,
+    UE,
+    F,
+    M: DistanceMetric<V::Scalar>,
+    P: PlaneTests<V::Scalar>,
+>(dcel: &Dcel<V, DE, UE, F>, metric: &M, tests: &P, edge: FixedUndirectedEdgeHandle) -> bool
+    requires own_covered { All (P.covered tests.now) (M.own_points metric.now) }
+    requires covered { All (P.covered tests.now) (map V.place dcel.now.vertices) }
+    requires whole { IsMeshWithData dcel.now }
+    requires within { edge < length dcel.now.undirected }
+    ensures { IsTrue result ↔ IsInside (M.shape metric.now) V.place dcel.now edge }
+{
+    metric.is_handle_inside(dcel.undirected_edge(edge), tests)
+}
+
+/// A search for the edges and vertices of a triangulation that have a point in a closed shape. It
+/// begins at a point of the shape, if that has any. The tests cover the shape's own points and this
+/// start, and have the vertices as sites.
 #[derive(Drop)]
 pub(crate) struct ShapeSearch<
     'a,
@@ -23,10 +50,12 @@ pub(crate) struct ShapeSearch<
     pub(crate) dcel: &'a Dcel<V, DE, UE, F>,
     pub(crate) metric: &'a M,
     pub(crate) tests: &'a P,
+    pub(crate) start: Point2<V::Scalar>,
 }
 
 impl<'a, V: HasPosition, DE, UE, F, M: DistanceMetric<V::Scalar>, P: PlaneTests<V::Scalar>> Model
     for ShapeSearch<'a, V, DE, UE, F, M, P> {
+    ghost use Rattle.delaunay_location.specs.delaunay_core.Place.{place_of};
     ghost use Rattle.delaunay_shapes.specs.Enclosing.{Enclosing, IsShapeSearch};
 
     ghost Value = { Enclosing V DE UE F M P };
@@ -35,10 +64,11 @@ impl<'a, V: HasPosition, DE, UE, F, M: DistanceMetric<V::Scalar>, P: PlaneTests<
       dcel = s.dcel.now;
       metric = s.metric.now;
       tests = s.tests.now;
+      start = place_of V.Scalar.whole s.start;
     } };
 
-    ghost invariant = { λ s. IsShapeSearch V.place M.own_points P.covered s.dcel.now s.metric.now
-        s.tests.now };
+    ghost invariant = { λ s. IsShapeSearch V.place M.own_points M.shape P.sites P.covered
+        s.dcel.now s.metric.now s.tests.now (place_of V.Scalar.whole s.start) };
 }
 
 impl<
@@ -50,20 +80,30 @@ impl<
     M: DistanceMetric<V::Scalar>,
     P: PlaneTests<V::Scalar>,
 > ShapeSearch<'a, V, DE, UE, F, M, P> {
-    pub(crate) fn new(dcel: &'a Dcel<V, DE, UE, F>, metric: &'a M, tests: &'a P) -> Self
+    pub(crate) fn new(
+        dcel: &'a Dcel<V, DE, UE, F>,
+        metric: &'a M,
+        start: Point2<V::Scalar>,
+        tests: &'a P,
+    ) -> Self
+        requires kept { IsTriangulated V.place (state_of dcel.now) }
+        requires sites { All (P.sites tests.now) (map V.place dcel.now.vertices) }
         requires own_covered { All (P.covered tests.now) (M.own_points metric.now) }
-        requires covered { All (P.covered tests.now) (map V.place dcel.now.vertices) }
-        ensures { result ≡ record {
+        requires start_covered { P.covered tests.now (place_of V.Scalar.whole start) }
+        requires begins { HasStartAt (M.shape metric.now) (place_of V.Scalar.whole start) }
+        ensures value { result ≡ record {
           dcel = dcel.now;
           metric = metric.now;
           tests = tests.now;
+          start = place_of V.Scalar.whole start;
         } }
+        ensures covered { All (P.covered tests.now) (map V.place dcel.now.vertices) }
     {
-        dcel.recall_invariant();
         ShapeSearch {
             dcel,
             metric,
             tests,
+            start,
         }
     }
 
@@ -73,7 +113,6 @@ impl<
         requires { edge < length self.now.dcel.undirected }
         ensures { IsTrue result ↔ EnclosesEdge V.place M.shape self.now edge }
     {
-        self.metric
-            .is_handle_inside(self.dcel.undirected_edge(edge), self.tests)
+        has_edge(self.dcel, self.metric, self.tests, edge)
     }
 }

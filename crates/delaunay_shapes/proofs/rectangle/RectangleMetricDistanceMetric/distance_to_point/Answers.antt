@@ -5,8 +5,8 @@ use Rattle.delaunay_shapes.proofs.Distances.{IsNearestIn, nearest_in_range, near
 use Rattle.delaunay_shapes.proofs.Distances.{nearest_distance, nearest_inside}
 use Rattle.delaunay_shapes.proofs.rectangle.RectangleMetricDistanceMetric.distance_to_point.Goals as goal
 
-pub returns-clause-value : goal.returns-clause-value
-returns-clause-value g c =
+pub returns : goal.returns
+returns g c =
     let number = g.S.SpadeNum.whole in
     let l = place_of number c.args.self.now.lower in
     let u = place_of number c.args.self.now.upper in
@@ -17,36 +17,11 @@ returns-clause-value g c =
       x = ap number c.new.ensures.x ∙ c.clamp.ensures;
       y = ap number c.new.ensures.y ∙ c.clamp-2.ensures;
     } in
-    gap_passes _ p n c.requires (nearest_in_range c.args.self.now.lower_in_range
-    c.args.self.now.upper_in_range c.requires s) c.distance_2.ensures ∙ nearest_value s
-
-pub returns-clause-inside : goal.returns-clause-inside
-returns-clause-inside g c =
-    let number = g.S.SpadeNum.whole in
-    let l = place_of number c.args.self.now.lower in
-    let u = place_of number c.args.self.now.upper in
-    let p = place_of number c.args.point in
-    let n = place_of number c.new.result in
-    let s : IsNearestIn l u p n = record {
-      sorted = search rules;
-      x = ap number c.new.ensures.x ∙ c.clamp.ensures;
-      y = ap number c.new.ensures.y ∙ c.clamp-2.ensures;
-    } in
-    nearest_inside _ s (gap_passes _ p n c.requires (nearest_in_range c.args.self.now.lower_in_range
-    c.args.self.now.upper_in_range c.requires s) c.distance_2.ensures)
-
-pub returns-clause-nearest : goal.returns-clause-nearest
-returns-clause-nearest g c =
-    let number = g.S.SpadeNum.whole in
-    let l = place_of number c.args.self.now.lower in
-    let u = place_of number c.args.self.now.upper in
-    let p = place_of number c.args.point in
-    let n = place_of number c.new.result in
-    let s : IsNearestIn l u p n = record {
-      sorted = search rules;
-      x = ap number c.new.ensures.x ∙ c.clamp.ensures;
-      y = ap number c.new.ensures.y ∙ c.clamp-2.ensures;
-    } in
-    λ _. nearest_distance _ s
-    (gap_passes _ p n c.requires (nearest_in_range c.args.self.now.lower_in_range
-    c.args.self.now.upper_in_range c.requires s) c.distance_2.ensures)
+    let gap = gap_passes _ p n c.requires (nearest_in_range c.args.self.now.lower_in_range
+    c.args.self.now.upper_in_range c.requires s) c.distance_2.ensures in
+    record {
+      value = gap ∙ nearest_value s;
+      inside = nearest_inside _ s gap;
+      reversed = search rules;
+      nearest = λ _. nearest_distance _ s gap;
+    }

@@ -2,16 +2,14 @@ use Rattle.delaunay_location.specs.delaunay_core.Place.{place_of}
 use Rattle.delaunay_shapes.proofs.Rectangles.{rectangle_answer, rectangle_inside}
 use Rattle.delaunay_shapes.proofs.rectangle.RectangleMetricDistanceMetric.is_edge_inside.Goals as goal
 
-pub returns-clause-answer : goal.returns-clause-answer
-returns-clause-answer g c =
+pub returns : goal.returns
+returns g c =
     let number = g.S.SpadeNum.whole in
-    rectangle_answer (place_of number c.args.self.now.lower) (place_of number c.args.self.now.upper)
-    (place_of number c.args.points.0)
-    (place_of number c.args.points.1) c.meets.result c.meets.ensures
-
-pub returns-clause-inside : goal.returns-clause-inside
-returns-clause-inside g c =
-    let number = g.S.SpadeNum.whole in
-    rectangle_inside (place_of number c.args.self.now.lower) (place_of number c.args.self.now.upper)
-    (place_of number c.args.points.0)
-    (place_of number c.args.points.1) c.meets.result c.meets.ensures
+    let l = place_of number c.args.self.now.lower in
+    let u = place_of number c.args.self.now.upper in
+    let from = place_of number c.args.points.0 in
+    let to = place_of number c.args.points.1 in
+    record {
+      answer = rectangle_answer l u from to _ c.meets.ensures;
+      inside = rectangle_inside l u from to _ c.meets.ensures;
+    }

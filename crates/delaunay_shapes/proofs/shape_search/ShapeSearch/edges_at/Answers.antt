@@ -5,9 +5,6 @@ use Rattle.delaunay_shapes.specs.Start.{HasStarts}
 use Rattle.delaunay_shapes.proofs.FirstEdges.{if_ok}
 use Rattle.delaunay_shapes.proofs.shape_search.ShapeSearch.edges_at.Goals as goal
 
-pub outer_edge-requires : goal.outer_edge-requires
-outer_edge-requires g c = c.requires.kept
-
 pub edge_alone-requires-in-Some : goal.edge_alone-requires-in-Some
 edge_alone-requires-in-Some g c = rw (← c.self.view_is) at c.in-Some.ensures.some.0
 
@@ -29,8 +26,5 @@ pub returns-in-Some-clause-within : goal.returns-in-Some-clause-within
 returns-in-Some-clause-within g c = rw (← c.self.view_is) c.edge_alone-in-Some.ensures.within
 
 pub returns-in-None-clause-starts : goal.returns-in-None-clause-starts
-returns-in-None-clause-starts g c =
-    let s = c.args.self.now in
-    let Inside : ℕ → Type 0 = EnclosesEdge g.V.HasPosition.place g.M.DistanceMetric.shape s in
-    subst (HasStarts Inside s.dcel.mesh c.new.result.items) (sym c.in-OutsideOfConvexHull.is)
+returns-in-None-clause-starts g c = rw c.in-OutsideOfConvexHull.is
     (λ h within outer inside. absurd (c.in-None.ensures.none h within outer inside))

@@ -1,24 +1,21 @@
 use Rattle.std.proofs.Common.{ℕ, ◌*◌, ◌/◌, ◌<◌, ◌≤◌, ◌∙◌, ap, subst, sym, arith}
 use Rattle.std.proofs.lemmas.List.{get_or-map, length-map}
 use Rattle.delaunay_location.specs.half_edge_mesh.Mesh.{rev}
-use Rattle.delaunay_shapes.specs.InShape.{IsVertexInside, undirected_of}
-use Rattle.delaunay_shapes.specs.ShapeSearch.{EnclosesVertex}
+use Rattle.delaunay_shapes.specs.InShape.{undirected_of}
 use Rattle.delaunay_shapes.proofs.VertexFlood.{named_first, named_more, named_last}
 use Rattle.delaunay_shapes.proofs.shape_search.ShapeSearch.named_inside.Goals as goal
 
 pub loop-edge-init : goal.loop-edge-init
 loop-edge-init g c =
-    let d = c.self.inside.dcel in
-    rw (← c.self.view_is) (named_first (IsVertexInside
-    (g.M.DistanceMetric.shape c.self.inside.metric.now) g.V.HasPosition.place d.now)
-    d.now.mesh
-    (λ v h o. (c.self.invariant.whole.valid.sound.vertices v h o).1)
+    let kept = c.self.invariant.kept in
+    rw (← c.self.view_is) (named_first _ c.self.inside.dcel.now.mesh
+    (λ v h o. (kept.valid.sound.vertices v h o).1)
     (undirected_of c.args.edges.now) c.new-found.result.items c.new-found.ensures.items)
 
 pub undirected_edge-requires : goal.undirected_edge-requires
 undirected_edge-requires g c =
     let low = c.requires.within c.loop-edge.edge-index c.edge-item.result c.loop-edge-test.true in
-    let fits = c.self.invariant.whole.fits in
+    let fits = c.self.invariant.kept.fits in
     omega (
       arith,
       rw (← c.self.view_is) at low,
@@ -36,12 +33,10 @@ loop-edge-preserved g c =
     ∙ sym (get_or-map (λ (x : ℕ). x / 2) edges c.loop-edge.edge-index c.edge-item.result
     c.edge-item.result c.loop-edge-test.true) in
     let way = c.as_directed-edge.ensures.index ∙ ap (λ (k : ℕ). 2 * k) half in
-    named_more (EnclosesVertex g.V.HasPosition.place g.M.DistanceMetric.shape c.args.self.now)
-    c.args.self.now.dcel.mesh
-    (rw (← c.self.view_is) (λ v h o. (c.self.invariant.whole.valid.sound.vertices v h o).1))
-    (undirected_of edges) c.requires.once c.loop-edge.found.items c.keep_start.new.found.items
-    c.keep_start-in-loop-edge.new.found.items c.loop-edge.edge-index c.edge-item.result
-    c.fix.result c.fix-in-loop-edge.result c.loop-edge.invariant
+    named_more _ c.args.self.now.dcel.mesh
+    (rw (← c.self.view_is) (λ v h o. (c.self.invariant.kept.valid.sound.vertices v h o).1))
+    (undirected_of edges) c.requires.once _ _ _ c.loop-edge.edge-index c.edge-item.result _ _
+    c.loop-edge.invariant
     (subst (λ (n : ℕ). c.loop-edge.edge-index < n) (sym (length-map edges (λ (x : ℕ). x / 2)))
     c.loop-edge-test.true)
     (c.fix.ensures.value ∙ way)
@@ -50,10 +45,8 @@ loop-edge-preserved g c =
 
 pub returns : goal.returns
 returns g c =
-    named_last (EnclosesVertex g.V.HasPosition.place g.M.DistanceMetric.shape c.args.self.now)
-    c.args.self.now.dcel.mesh
-    (rw (← c.self.view_is) (λ v h o. (c.self.invariant.whole.valid.sound.vertices v h o).1))
-    (undirected_of c.args.edges.now) c.loop-edge.found.items c.loop-edge.edge-index
-    c.loop-edge.invariant
+    named_last _ c.args.self.now.dcel.mesh
+    (rw (← c.self.view_is) (λ v h o. (c.self.invariant.kept.valid.sound.vertices v h o).1))
+    (undirected_of c.args.edges.now) _ c.loop-edge.edge-index c.loop-edge.invariant
     (subst (λ (n : ℕ). n ≤ c.loop-edge.edge-index)
     (sym (length-map c.args.edges.now (λ (x : ℕ). x / 2))) c.loop-edge-test.false)

@@ -1,30 +1,25 @@
-use Rattle.std.proofs.Common.{ℕ, ◌<◌, ◌/◌, map, length, sym, subst, arith}
-use Rattle.delaunay_location.specs.half_edge_mesh.Rounds.{GivesOuterLoop, hull_left}
+use Rattle.std.proofs.Common.{◌<◌, length, arith}
+use Rattle.delaunay_location.specs.half_edge_mesh.Rounds.{hull_left}
 use Rattle.delaunay_location.proofs.mesh_embedding.OneOutline.{one_outline}
 use Rattle.delaunay_location.proofs.mesh_embedding.OutlineGiven.{along_begins, along_next}
 use Rattle.delaunay_location.proofs.mesh_embedding.OutlineGiven.{along_goes_on, along_ends}
 use Rattle.delaunay_location.proofs.delaunay_legalization_lemmas.Questions.{both_ways}
-use Rattle.delaunay_shapes.specs.ShapeSearch.{EnclosesEdge}
 use Rattle.delaunay_shapes.proofs.shape_search.ShapeSearch.outer_edge.Goals as goal
 
 pub loop-edge-init : goal.loop-edge-init
 loop-edge-init g c =
     let d = c.self.inside.dcel in
-    let kept = rw (← c.self.view_is) at c.requires in
+    let kept = c.self.invariant.kept in
     rw (← c.self.view_is) (along_begins d (hull_left c.into_iter-edge-iterator.result) _ kept.valid
-    (one_outline (map g.V.HasPosition.place d.now.vertices) d.now.mesh kept.valid kept.shape)
-    (subst (λ it. GivesOuterLoop d (hull_left it))
-    (sym c.into_iter-edge-iterator.ensures.into_iter_gives)
-    c.convex_hull-edge-items.ensures))
+    (one_outline _ _ kept.valid kept.shape)
+    (rw c.into_iter-edge-iterator.ensures.into_iter_gives c.convex_hull-edge-items.ensures))
 
 pub has_edge-requires : goal.has_edge-requires
 has_edge-requires g c =
-    let o = along_next c.self.inside.dcel.now.mesh _ (hull_left c.loop-edge.edge-iterator)
-    (rw (← c.self.view_is) at c.loop-edge.invariant)
-    (c.in-Some.edge.dcel, c.in-Some.edge.index)
-    (hull_left c.next.new.self) c.in-Some.ensures.steps in
+    let o = along_next c.self.inside.dcel.now.mesh _ _ (rw (← c.self.view_is) at
+    c.loop-edge.invariant) _ _ c.in-Some.ensures.steps in
     let w : c.in-Some.edge.index < length c.self.inside.dcel.now.mesh.half_edges = o.0 in
-    let fits = c.self.invariant.whole.fits in
+    let fits = c.self.invariant.kept.fits in
     rw (← c.self.view_is) (omega (
       arith,
       w,
@@ -36,27 +31,20 @@ has_edge-requires g c =
 
 pub loop-edge-preserved : goal.loop-edge-preserved
 loop-edge-preserved g c =
-    let Inside = λ (h : ℕ).
-    EnclosesEdge g.V.HasPosition.place g.M.DistanceMetric.shape c.args.self.now (h / 2) in
-    along_goes_on c.args.self.now.dcel.mesh (λ (h : ℕ). ¬ Inside h)
-    (hull_left c.loop-edge.edge-iterator) c.loop-edge.invariant
-    (c.in-Some.edge.dcel, c.in-Some.edge.index) (hull_left c.next.new.self) c.in-Some.ensures.steps
+    along_goes_on _ _ _ c.loop-edge.invariant _ _ c.in-Some.ensures.steps
     (λ x. both_ways _ (c.has_edge.ensures.1
     (rw (c.as_undirected.ensures, c.fix-edge.ensures.value) x)) c.if-has_edge.false)
 
 pub returns-then-has_edge-clause-some : goal.returns-then-has_edge-clause-some
 returns-then-has_edge-clause-some g c =
-    let o = along_next c.args.self.now.dcel.mesh _ (hull_left c.loop-edge.edge-iterator)
-    c.loop-edge.invariant
-    (c.in-Some.edge.dcel, c.in-Some.edge.index)
-    (hull_left c.next.new.self) c.in-Some.ensures.steps in
+    let o = along_next c.args.self.now.dcel.mesh _ _ c.loop-edge.invariant _ _
+    c.in-Some.ensures.steps in
     let w = rw (← c.self.view_is) at o.0 in
-    let fits = c.self.invariant.whole.fits in (
+    let fits = c.self.invariant.kept.fits in (
       rw (← c.self.view_is) (omega (arith, w, fits.directed_fit, c.fix-edge.ensures.value)),
       rw c.as_undirected.ensures at c.has_edge.ensures.0 c.if-has_edge.true,
     )
 
 pub returns-clause-none : goal.returns-clause-none
 returns-clause-none g c h within outer =
-    along_ends c.args.self.now.dcel.mesh _ (hull_left c.loop-edge.edge-iterator)
-    c.loop-edge.invariant c.in-None.ensures.steps.0 h (within, outer)
+    along_ends _ _ _ c.loop-edge.invariant c.in-None.ensures.steps.0 h (within, outer)
