@@ -1,22 +1,22 @@
 -- Lists of what a test says of the numbers below a count: at a number, of a test that none passes,
 -- and with one more. And bits in pages that a directory names, as one more is set.
--- Lemmas: test_within, none_passes, one_more, one_bit_more, others_longer, no_places, entry_read,
--- pages_below, names_new_page, no_page, same_with_page, page_read, one_mark_more.
-use Rattle.std.proofs.Common.{◌≡◌, ◌⊎◌, ◌-◌, ◌*◌, ◌/◌, ◌%◌, ◌^◌, ◌<◌, ◌≤◌, ◌∙◌}
+-- Lemmas: test_within, none_passes, one_more, others_longer, no_places, entry_read, pages_below,
+-- names_new_page, no_page, same_with_page, page_read, one_mark_more.
+use Rattle.std.proofs.Common.{◌≡◌, ◌⊎◌, ◌-◌, ◌/◌, ◌%◌, ◌<◌, ◌≤◌, ◌∙◌}
 use Rattle.std.proofs.Common.{[], ◌∷◌, ◌++◌, List, ℕ, zero, suc, length, get_or, set, take}
-use Rattle.std.proofs.Common.{replicate, refl, sym, ap, subst, eq-eqb, arith, w64}
+use Rattle.std.proofs.Common.{replicate, refl, sym, ap, subst, eq-eqb, arith}
 use mathlib.Core.Logic.{inl, inr, ◌≢◌}
 use mathlib.Core.Bool.{Bool, true, false}
-use Rattle.std.specs.Prelude.{cond, nat_eq, bit_or}
-use Rattle.std.specs.Int.{bit_at}
+use Rattle.std.specs.Prelude.{cond, nat_eq}
 use Rattle.std.proofs.lemmas.Bool.{eqb-true, ne_eqb, cases_eq}
 use Rattle.std.proofs.lemmas.List.{ext_get_or, get_or-set_same, get_or-set_other}
 use Rattle.std.proofs.lemmas.List.{get_or_append_left, get_or-append_right, length-append}
 use Rattle.std.proofs.lemmas.List.{length-set, length-replicate, get_or-replicate}
 use Rattle.std.proofs.lemmas.List.FromFn.{length-map-range_with_len, get_or-map-range_with_len}
-use Rattle.std.proofs.lemmas.Nat.Bits.{bit_at-zero, bit_at_set_same, bit_at_set_other}
 use Rattle.delaunay_location.proofs.plane_tiling.Totals.{get_or_any}
-use Rattle.delaunay_shapes.specs.Marks.{tests_below, has_bit, has_mark, count_others, IsDirectory}
+use Rattle.delaunay_location.specs.delaunay_legalization.Bits.{has_bit}
+use Rattle.delaunay_location.proofs.delaunay_legalization_lemmas.Bits.{no_bit, no_bits}
+use Rattle.delaunay_shapes.specs.Marks.{tests_below, has_mark, count_others, IsDirectory}
 
 -- so many entries
 tests_count : (n : ℕ) (f : ℕ → Bool) → length (tests_below n f) ≡ n
@@ -80,64 +80,6 @@ one_more n f f' k more =
         → get_or (tests_below n f') i false ≡ get_or (set old k true) i false
     same i h = was i (below_count n (length (tests_below n f')) i (tests_count n f') h)
         (either (nat_eq k i))
-
--- ---- bits in words
--- the bit of a place that is not there is not set
-no_bit : (k : ℕ) → has_bit [] k ≡ false
-no_bit k = ap (λ (b : ℕ). nat_eq b 1) (bit_at-zero (k % 64))
-
--- nor is one in words that are 0
-no_bits : (n k : ℕ) → has_bit (replicate n 0) k ≡ false
-no_bits n k = ap (λ (x : ℕ). nat_eq (bit_at x (k % 64)) 1) (zeros n (k / 64)) ∙ no_bit k
-  where
-    zeros : (n j : ℕ) → get_or {A = ℕ} (replicate n 0) j 0 ≡ 0
-    zeros zero j = refl
-    zeros (suc n) zero = refl
-    zeros (suc n) (suc j) = zeros n j
-
-same_number : (n k : ℕ) → k / 64 ≡ n / 64 → k % 64 ≡ n % 64 → n ≡ k
-same_number n k e f = omega (arith, e, f)
-
-low_bit : (n : ℕ) → n % 64 < 64
-low_bit n = omega arith
-
--- words of which one has the bit of a number more
-pub one_bit_more : (words : List ℕ) (n : ℕ) → n / 64 < length words → (k : ℕ)
-    → has_bit (set words (n / 64) (bit_or (get_or words (n / 64) 0) (1 * 2 ^ (n % 64) % 2 ^ 64))) k
-    ≡ cond (nat_eq n k) true (has_bit words k)
-one_bit_more words n here k =
-    elim (cases_eq n k) [
-      | inl e ↦ subst (λ b. has_bit (set words (n / 64) more) k ≡ cond b true (has_bit words k))
-          (sym (eq-eqb n k e))
-          (subst (λ (x : ℕ). has_bit (set words (n / 64) more) x ≡ true) e set_now)
-      | inr a ↦ subst (λ b. has_bit (set words (n / 64) more) k ≡ cond b true (has_bit words k))
-          (sym (ne_eqb n k a)) (as_before a (cases_eq (k / 64) (n / 64)))
-    ]
-  where
-    old : ℕ
-    old = get_or words (n / 64) 0
-
-    more : ℕ
-    more = bit_or old (1 * 2 ^ (n % 64) % 2 ^ 64)
-
-    placed : get_or (set words (n / 64) more) (n / 64) 0 ≡ more
-    placed = get_or-set_same words (n / 64) more 0 here
-
-    set_now : has_bit (set words (n / 64) more) n ≡ true
-    set_now = ap (λ (x : ℕ). nat_eq (bit_at x (n % 64)) 1) placed
-        ∙ ap (λ (b : ℕ). nat_eq b 1) (bit_at_set_same w64 old (n % 64) (low_bit n))
-
-    as_before : n ≢ k → (k / 64 ≡ n / 64) ⊎ (k / 64 ≢ n / 64)
-        → has_bit (set words (n / 64) more) k ≡ has_bit words k
-    as_before a (inl e) =
-        let there : get_or (set words (n / 64) more) (k / 64) 0 ≡ more =
-        ap (λ (x : ℕ). get_or (set words (n / 64) more) x 0) e ∙ placed in
-        let apart : k % 64 ≢ n % 64 = λ f. a (same_number n k e f) in
-        ap (λ (x : ℕ). nat_eq (bit_at x (k % 64)) 1) there
-        ∙ ap (λ (b : ℕ). nat_eq b 1) (bit_at_set_other w64 old (n % 64) (low_bit n) (k % 64) apart)
-        ∙ ap (λ (x : ℕ). nat_eq (bit_at (get_or words x 0) (k % 64)) 1) (sym e)
-    as_before a (inr o) = ap (λ (x : ℕ). nat_eq (bit_at x (k % 64)) 1)
-        (get_or-set_other words (n / 64) (k / 64) more 0 o)
 
 -- ---- how many numbers of a list are not 0
 no_others : (m : ℕ) → count_others (replicate m 0) ≡ 0

@@ -1,17 +1,13 @@
 -- A list of what a test says of each number below a count, and bits in pages of words, which a
 -- directory names.
 use Rattle.std.specs.Prelude.{◌≡◌, ℕ, zero, suc, ◌/◌, ◌%◌, ◌<◌, ◌≤◌, List, Bool, [], ◌∷◌}
-use Rattle.std.specs.Prelude.{length, map, nat_eq, slice_index_or}
-use Rattle.std.specs.Int.{bit_at}
+use Rattle.std.specs.Prelude.{length, map, slice_index_or}
 use Rattle.std.specs.List.{range_with_len}
+use Rattle.delaunay_location.specs.delaunay_legalization.Bits.{has_bit}
 
 -- what a test says of each number below a count, by rising number
 abbrev pub tests_below : ℕ → (ℕ → Bool) → List Bool
 tests_below count test = map test (range_with_len 0 count)
-
--- the test whether the bit of a number is set, in words of 64 bits
-abbrev pub has_bit : List ℕ → ℕ → Bool
-has_bit words k = nat_eq (bit_at (slice_index_or words (k / 64) 0) (k % 64)) 1
 
 -- the words of a place: the directory has 0 for a place without words, and one more than the place
 -- of its page for another

@@ -1,5 +1,5 @@
 use Rattle.std.proofs.Common.{arith}
-use Rattle.delaunay_shapes.proofs.Marking.{one_bit_more}
+use Rattle.delaunay_location.proofs.delaunay_legalization_lemmas.Bits.{one_bit_more}
 use Rattle.delaunay_shapes.proofs.marks.set_bit.Goals as goal
 
 pub returns : goal.returns
