@@ -1,7 +1,5 @@
 -- The constraints of a triangulation, which are the edges whose data say so.
-use Rattle.std.specs.Prelude.{◌≡◌, ◌↔◌, ℕ, ◌*◌, Bool, false, List, [], Contains, IsTrue}
-use Rattle.delaunay_paths.specs.half_edge_mesh.Mesh.{origin, rev}
-use Rattle.delaunay_paths.specs.plane.Pairs.{Joins}
+use Rattle.std.specs.Prelude.{◌≡◌, ℕ, false, List, []}
 use Rattle.delaunay_paths.specs.plane.Plain.{Plain}
 use Rattle.delaunay_paths.specs.delaunay_legalization.declared.cdt_edge.CdtEdge.{CdtEdge}
 use Rattle.delaunay_paths.specs.delaunay_legalization.CdtEdge.{is_constraint}
@@ -28,10 +26,3 @@ constrained s = points_and_constraints_by constraint_edges s
 -- an edge that is no constraint, with these data
 abbrev pub IsFree : {U : Type 0} → U → CdtEdge U → Type 0
 IsFree u e = (e.is_constraint_edge ≡ false) × (e.«data» ≡ u)
-
--- the answer to whether an undirected edge is a constraint, by its data and by what it joins
-pub record TellsConstraint {V D U F : Type 0} (s : State V D (CdtEdge U) F) (edge : ℕ)
-    (answer : Bool) : Type 0 where
-  pub marked : IsTrue answer ↔ Contains (constraint_edges s.undirected) edge
-  pub joined : IsTrue answer
-      ↔ Joins (constraints_of s) (origin s.mesh (2 * edge)) (origin s.mesh (rev (2 * edge)))

@@ -39,11 +39,6 @@ module _ {V D U F : Type 0} (place : V → Point) (IsSite : Point → Type 0) wh
     pub to_in : to < length s.vertices
     pub sites : AreSites place IsSite s.vertices
 
-  -- an edge may be released: it is there, and the vertices are sites
-  pub record MayRelease (s : State V D U F) (edge : ℕ) : Type 0 where
-    pub within : edge < length s.undirected
-    pub sites : AreSites place IsSite s.vertices
-
 module _ {V D U F : Type 0} (place : V → Point) where
   -- to add the path between two vertices gave this result, which tells whether that made a
   -- constraint

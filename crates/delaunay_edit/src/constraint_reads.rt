@@ -1,45 +1,23 @@
-//! Which edges of a mesh are constraints, and a mesh that takes on constraints.
-ghost use Rattle.std.specs.Prelude.{◌≡◌, ◌↔◌, ◌<◌, length, IsTrue, IfErr, IfOk};
-ghost use Rattle.delaunay_paths.specs.plane.Pairs.{Joins};
+//! How many edges of a mesh are constraints, and a mesh that takes on constraints.
+ghost use Rattle.std.specs.Prelude.{◌≡◌, length, IfErr, IfOk};
 ghost use Rattle.delaunay_paths.specs.plane.Plain.{Unconstrains};
 ghost use Rattle.delaunay_paths.specs.delaunay_legalization.State.{points_and_constraints};
 ghost use Rattle.delaunay_edit.specs.Constrained.{IsFree, constrained, constraint_edges};
-ghost use Rattle.delaunay_edit.specs.Constrained.{TellsConstraint, constraints_of};
+ghost use Rattle.delaunay_edit.specs.Constrained.{constraints_of};
 ghost use Rattle.delaunay_edit.specs.Data.{HasOtherEdgeData};
 ghost use Rattle.delaunay_edit.specs.Headline.{IsDelaunay};
 
 use crate::edited_mesh::{ConstrainedMesh, EditedMesh, PlainMesh};
 use delaunay_paths::delaunay_core::point::HasPosition;
-use delaunay_paths::delaunay_legalization::{EdgeConstraints, free_edge_data, is_constraint_edge};
-use delaunay_paths::half_edge_mesh::{FixedUndirectedEdgeHandle, FixedVertexHandle};
-use delaunay_paths::is_constraint_between;
+use delaunay_paths::delaunay_legalization::free_edge_data;
 use std::marker::PhantomData;
 
 impl<V: HasPosition, DE, UE, F> ConstrainedMesh<V, DE, UE, F> {
-    /// Whether an edge is a constraint.
-    pub fn is_constraint_edge(&self, edge: FixedUndirectedEdgeHandle) -> bool
-        requires { edge < length self.now.undirected }
-        ensures { TellsConstraint self.now edge result }
-    {
-        is_constraint_edge::<EdgeConstraints, _, _, _, _>(&self.dcel, edge)
-    }
-
     /// How many edges are constraints. The number is kept, so this takes constant time.
     pub fn num_constraints(&self) -> usize
         ensures { result ≡ length (constraints_of self.now) }
     {
         self.num_constraints
-    }
-
-    /// Whether a constraint joins two vertices, in either order, by a look round the first.
-    pub fn exists_constraint(&self, from: FixedVertexHandle, to: FixedVertexHandle) -> bool
-        ensures { IsTrue result ↔ Joins (constraints_of self.now) from to }
-    {
-        self.recall_invariant();
-        if (from.index() as usize) < self.num_vertices() {
-            return is_constraint_between::<EdgeConstraints, _, _, _, _>(&self.dcel, from, to);
-        }
-        false
     }
 
     /// The vertices, edges and faces of a triangulation without constraints, under the same

@@ -57,16 +57,9 @@ pub(crate) fn count_constraints_at<M: ConstraintMarker<UE>, V: HasPosition, DE, 
     count
 }
 
-// How many pieces of the path between two different vertices are no constraints, unless a
-// constraint crosses it. It is one walk, which stops at the first that does, and takes no memory.
-pub(crate) fn count_path<
-    M: ConstraintMarker<UE>,
-    V: HasPosition,
-    DE,
-    UE,
-    F,
-    P: PlaneTests<V::Scalar>,
->(
+/// How many pieces of the path between two different vertices are no constraints, unless a
+/// constraint crosses it. It is one walk, which stops at the first that does, and takes no memory.
+pub fn count_path<M: ConstraintMarker<UE>, V: HasPosition, DE, UE, F, P: PlaneTests<V::Scalar>>(
     dcel: &Dcel<V, DE, UE, F>,
     from: FixedVertexHandle,
     to: FixedVertexHandle,

@@ -1,5 +1,5 @@
 //! A mesh with its edits, which both triangulation types hold.
-ghost use Rattle.std.specs.Prelude.{◌≡◌, ◌<◌, ◌≤◌, length, map};
+ghost use Rattle.std.specs.Prelude.{◌≡◌, ◌<◌, length, map};
 ghost use Rattle.delaunay_paths.specs.half_edge_mesh.Mesh.{origin, rev};
 ghost use Rattle.delaunay_paths.specs.delaunay_core.Place.{place_of};
 ghost use Rattle.delaunay_paths.specs.delaunay_legalization.Known.{point_at};
@@ -7,16 +7,13 @@ ghost use Rattle.delaunay_paths.specs.delaunay_legalization.State.{state_of};
 ghost use Rattle.delaunay_edit.specs.Counting.{IsCounted};
 ghost use Rattle.delaunay_edit.specs.Headline.{IsDelaunay, IsWellFormed};
 ghost use Rattle.delaunay_edit.specs.Location.{IsMeshEdge};
-ghost use Rattle.delaunay_edit.specs.Storage.{IsEmptyState};
 
 use delaunay_paths::CrossingLists;
 use delaunay_paths::delaunay_core::point::{HasPosition, Point2};
 use delaunay_paths::delaunay_legalization::{
     CdtEdge, ConstraintMarker, EdgeConstraints, EdgeSet, NoConstraints,
 };
-use delaunay_paths::half_edge_mesh::{
-    Dcel, FixedDirectedEdgeHandle, FixedVertexHandle, MAX_ELEMENTS, MeshViews,
-};
+use delaunay_paths::half_edge_mesh::{Dcel, FixedDirectedEdgeHandle, FixedVertexHandle, MeshViews};
 use delaunay_removal::RemovalLists;
 use std::alloc::Global;
 use std::marker::{Model, PhantomData};
@@ -58,19 +55,8 @@ impl<V: HasPosition, DE, UE, F, M: ConstraintMarker<UE>> Model for EditedMesh<V,
 }
 
 impl<V: HasPosition, DE, UE, F, M: ConstraintMarker<UE>> EditedMesh<V, DE, UE, F, M> {
-    /// The triangulation of a mesh with nothing but its outer face. It takes no memory.
-    pub fn of_empty(dcel: Dcel<V, DE, UE, F>, alloc: Global) -> Self
-    where
-        F: Default,
-        requires { IsEmptyState F.is_default (state_of dcel) }
-        ensures state { result ≡ state_of dcel }
-        ensures headline { IsDelaunay V.place M.constraints result }
-    {
-        EditedMesh::of_mesh(dcel, 0, alloc)
-    }
-
-    // The triangulation of a mesh of which so many edges are constraints. It takes no memory.
-    pub(crate) fn of_mesh(dcel: Dcel<V, DE, UE, F>, num_constraints: usize, alloc: Global) -> Self
+    /// The triangulation of a mesh of which so many edges are constraints. It takes no memory.
+    pub fn of_mesh(dcel: Dcel<V, DE, UE, F>, num_constraints: usize, alloc: Global) -> Self
         requires { IsCounted V.place M.constraints (state_of dcel) num_constraints }
         ensures state { result ≡ state_of dcel }
         ensures headline { IsDelaunay V.place M.constraints result }
@@ -90,14 +76,6 @@ impl<V: HasPosition, DE, UE, F, M: ConstraintMarker<UE>> EditedMesh<V, DE, UE, F
         ensures { IsWellFormed V.place M.constraints self.now }
     {
         self.dcel.recall_invariant();
-    }
-
-    /// How many vertices there are.
-    pub fn num_vertices(&self) -> usize
-        ensures value { result ≡ length self.now.vertices }
-        ensures small { result ≤ MAX_ELEMENTS }
-    {
-        self.dcel.num_vertices()
     }
 
     /// The mesh of the vertices, edges and faces.

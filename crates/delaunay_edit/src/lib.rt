@@ -20,6 +20,7 @@ mod removal;
 mod storage;
 mod writing;
 
+pub use counting::count_path;
 pub use edge_data::EdgeData;
 pub use edited_mesh::EditedMesh;
 pub use insertion::Entry;

@@ -1,18 +1,15 @@
--- The vertices stay where constraints are added or released, or where only data change.
--- Lemmas: held_of_same, vertices_after_adding, vertices_after_trying, vertices_after_path,
--- vertices_after_release, held_by_copy.
-use Rattle.std.proofs.Common.{◌≡◌, ℕ, List, Bool, true, false, ap, sym, subst, map, refl}
+-- The vertices stay where constraints are added, or where only data change.
+-- Lemmas: held_of_same, vertices_after_trying, vertices_after_path, held_by_copy.
+use Rattle.std.proofs.Common.{◌≡◌, ℕ, List, Bool, ap, sym, subst, map}
 use Rattle.std.specs.Prelude.{Contains, Option, Some, None, Result, Ok, Err, IfOk, OnErr}
 use Rattle.std.specs.List.{AllZip}
 use Rattle.delaunay_edit.specs.plane.Fraction.{Point}
 use Rattle.delaunay_edit.specs.plane.Hint.{IsAtMost, IsAtMostOf}
 use Rattle.delaunay_edit.specs.delaunay_legalization.declared.cdt_edge.CdtEdge.{CdtEdge}
 use Rattle.delaunay_edit.specs.delaunay_legalization.State.{State}
-use Rattle.delaunay_edit.proofs.delaunay_legalization_lemmas.Questions.{both_ways}
 use Rattle.delaunay_edit.proofs.Copies.{same_image}
 use Rattle.delaunay_edit.specs.Storage.{KeepsImage}
-use Rattle.delaunay_edit.specs.ConstraintEdits.{AddsConstraint, AddsIfFree, AddsPathIfFree}
-use Rattle.delaunay_edit.specs.ConstraintEdits.{ReleasesConstraint}
+use Rattle.delaunay_edit.specs.ConstraintEdits.{AddsIfFree, AddsPathIfFree}
 
 -- what is held is of the new vertices where they are the old ones
 pub held_of_same : {V : Type 0} (place : V → Point) (holds : Point → Type 0) (vs ws : List V)
@@ -21,13 +18,7 @@ held_of_same place holds vs ws same held =
     subst (λ (us : List _). IsAtMostOf holds (map place us)) (sym same) held
 
 module _ {V D U F E : Type 0} (place : V → Point) (old new : State V D (CdtEdge U) F) where
-  -- a constraint that is added leaves the vertices
-  pub vertices_after_adding : (from to : ℕ) (r : Result Bool E)
-      → AddsConstraint place from to r old new → new.vertices ≡ old.vertices
-  vertices_after_adding from to (Ok made) done = ap (λ s. s.vertices) done.«data».rest
-  vertices_after_adding from to (Err e) done = ap (λ s. s.vertices) done.err
-
-  -- also where one may cross
+  -- a constraint that is added leaves the vertices, also where one may cross
   pub vertices_after_trying : (from to : ℕ) (r : Result (Option Bool) E)
       → AddsIfFree place from to r old new → new.vertices ≡ old.vertices
   vertices_after_trying from to (Ok (Some made)) done = ap (λ s. s.vertices) done.«data».rest
@@ -40,15 +31,6 @@ module _ {V D U F E : Type 0} (place : V → Point) (old new : State V D (CdtEdg
       → new.vertices ≡ old.vertices
   vertices_after_path from to edges (Ok x) done err = ap (λ s. s.vertices) done.«data».rest
   vertices_after_path from to edges (Err e) done err = ap (λ s. s.vertices) err
-
-  -- and a release
-  pub vertices_after_release : (edge : ℕ) (r : Result Bool E)
-      → ReleasesConstraint place edge r old new → new.vertices ≡ old.vertices
-  vertices_after_release edge (Ok true) done =
-      ap (λ s. s.vertices) (done.«data» (done.told.0 refl)).rest
-  vertices_after_release edge (Ok false) done =
-      ap (λ s. s.vertices) (done.none (λ had. both_ways _ (done.told.1 had) refl)).1
-  vertices_after_release edge (Err e) done = ap (λ s. s.vertices) done.err
 
 -- what a duplicate holds is of the copies of the vertices, which have their positions
 pub held_by_copy : {V : Type 0} (place : V → Point) (R : V → V → Type 0) (vs ws : List V)

@@ -8,9 +8,12 @@ ghost use Rattle.delaunay_edit.specs.Headline.{AreSites, IsDelaunay};
 ghost use Rattle.delaunay_interface.specs.Views.{CanAddConstraint};
 
 use crate::triangulation_core::ConstrainedDelaunayTriangulation;
+use delaunay_edit::count_path;
 use delaunay_edit::delaunay_core::HintGenerator;
 use delaunay_edit::delaunay_core::math::PlaneTests;
 use delaunay_edit::delaunay_core::point::HasPosition;
+use delaunay_edit::delaunay_legalization::{EdgeConstraints, is_constraint_edge};
+use delaunay_edit::delaunay_paths::{can_add_path, edge_if_joined};
 use delaunay_edit::half_edge_mesh::{
     FixedDirectedEdgeHandle, FixedUndirectedEdgeHandle, FixedVertexHandle,
 };
@@ -36,7 +39,9 @@ impl<V: HasPosition, DE, UE, F, L: HintGenerator<V::Scalar>> ConstrainedDelaunay
         requires sites { AreSites V.place (P.sites tests.now) self.now.vertices }
         ensures { IsTrue result ↔ CanAddConstraint V.place self.now from to }
     {
-        self.edited.can_join(from, to, tests)
+        self.edited.recall_invariant();
+        let mesh = self.edited.mesh();
+        can_add_path::<EdgeConstraints, _, _, _, _, _>(mesh, from, to, tests)
     }
 
     /// Makes constraints of the edges between neighbours among the vertices on the segment between
@@ -58,7 +63,11 @@ impl<V: HasPosition, DE, UE, F, L: HintGenerator<V::Scalar>> ConstrainedDelaunay
         ensures adds { AddsConstraint V.place from to result self.old self.new }
         ensures headline { IsDelaunay V.place constraint_edges self.new }
     {
-        self.edited.join(from, to, tests)
+        match self.edited.try_join(from, to, tests) {
+            Ok(Some(made)) => Ok(made),
+            Ok(None) => unreachable!(),
+            Err(refused) => Err(refused),
+        }
     }
 
     /// Does what `add_constraint` does and gives the edges of the path, each directed along it, in
@@ -87,7 +96,19 @@ impl<V: HasPosition, DE, UE, F, L: HintGenerator<V::Scalar>> ConstrainedDelaunay
         ensures err { OnErr result (self.new ≡ self.old) }
         ensures headline { IsDelaunay V.place constraint_edges self.new }
     {
-        self.edited.join_if_free(from, to, tests)
+        self.edited.recall_invariant();
+        if from == to {
+            return Ok(Vec::new(self.alloc));
+        }
+        let mesh = self.edited.mesh();
+        if let Some(edge) = edge_if_joined(mesh, from, to) {
+            return self.edited.constrain_alone(edge);
+        }
+        let counted = count_path::<EdgeConstraints, _, _, _, _, _>(mesh, from, to, tests);
+        let Some(missing) = counted else {
+            return Ok(Vec::new(self.alloc));
+        };
+        self.edited.add_listed_path(from, to, missing, tests)
     }
 
     /// Takes from an edge of the triangulation that it is a constraint, and tells whether it was
@@ -111,6 +132,11 @@ impl<V: HasPosition, DE, UE, F, L: HintGenerator<V::Scalar>> ConstrainedDelaunay
         ensures releases { ReleasesConstraint V.place edge result self.old self.new }
         ensures headline { IsDelaunay V.place constraint_edges self.new }
     {
-        self.edited.remove_constraint_edge(edge, tests)
+        self.edited.recall_invariant();
+        if !is_constraint_edge::<EdgeConstraints, _, _, _, _>(self.edited.mesh(), edge) {
+            return Ok(false);
+        }
+        self.edited.release(edge, tests)?;
+        Ok(true)
     }
 }

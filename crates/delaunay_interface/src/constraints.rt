@@ -15,6 +15,8 @@ use crate::triangulation_core::{
 use delaunay_edit::EditedMesh;
 use delaunay_edit::delaunay_core::HintGenerator;
 use delaunay_edit::delaunay_core::point::HasPosition;
+use delaunay_edit::delaunay_legalization::{EdgeConstraints, is_constraint_edge};
+use delaunay_edit::delaunay_paths::is_constraint_between;
 use delaunay_edit::half_edge_mesh::{FixedUndirectedEdgeHandle, FixedVertexHandle};
 
 impl<V: HasPosition, DE, UE, F, L: HintGenerator<V::Scalar>> ConstrainedDelaunayTriangulation<
@@ -32,7 +34,8 @@ impl<V: HasPosition, DE, UE, F, L: HintGenerator<V::Scalar>> ConstrainedDelaunay
             IsTrue result ↔ Joins (constraints_of self.now) (origin m (2 * edge))
             (origin m (rev (2 * edge))) }
     {
-        self.edited.is_constraint_edge(edge)
+        self.edited.recall_invariant();
+        is_constraint_edge::<EdgeConstraints, _, _, _, _>(self.edited.mesh(), edge)
     }
 
     /// How many edges are constraints. The number is kept, so no edge is looked at.
@@ -47,7 +50,12 @@ impl<V: HasPosition, DE, UE, F, L: HintGenerator<V::Scalar>> ConstrainedDelaunay
     pub fn exists_constraint(&self, from: FixedVertexHandle, to: FixedVertexHandle) -> bool
         ensures { IsTrue result ↔ Joins (constraints_of self.now) from to }
     {
-        self.edited.exists_constraint(from, to)
+        self.edited.recall_invariant();
+        let mesh = self.edited.mesh();
+        if (from.index() as usize) < mesh.num_vertices() {
+            return is_constraint_between::<EdgeConstraints, _, _, _, _>(mesh, from, to);
+        }
+        false
     }
 
     /// The vertices, edges and faces of a triangulation without constraints, under the same

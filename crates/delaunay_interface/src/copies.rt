@@ -4,7 +4,6 @@ ghost use Rattle.delaunay_edit.specs.delaunay_legalization.Constraints.{constrai
 ghost use Rattle.delaunay_edit.specs.Headline.{IsDelaunay};
 ghost use Rattle.delaunay_edit.specs.Storage.{IsCopy, KeepsImage};
 
-use crate::telling::generator_of_copy;
 use crate::triangulation_core::TriangulationCore;
 use delaunay_edit::EdgeData;
 use delaunay_edit::delaunay_core::HintGenerator;
@@ -39,7 +38,7 @@ impl<
     {
         Ok(TriangulationCore {
             edited: self.edited.try_clone()?,
-            hint_generator: generator_of_copy::<V::Scalar, L>(&self.hint_generator),
+            hint_generator: self.hint_generator.duplicate(),
             alloc: self.alloc,
         })
     }

@@ -88,7 +88,7 @@ impl<
     }
 
     fn reserve(&mut self, additional: usize) -> Result<(), InsertionError> {
-        let former = self.edited.num_vertices();
+        let former = self.edited.mesh().num_vertices();
         let most = MAX_ELEMENTS / 6;
         if additional > most || former > most - additional {
             return Err(InsertionError::OutOfIndexes);

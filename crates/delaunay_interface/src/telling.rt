@@ -1,4 +1,4 @@
-//! What a hint generator is told of removals and copies.
+//! What a hint generator is told of removals.
 ghost use Rattle.std.specs.Prelude.{◌≡◌, map, Contains, Some, IfOk, OnErr, OnOk};
 ghost use Rattle.delaunay_edit.specs.plane.Fraction.{Point};
 ghost use Rattle.delaunay_edit.specs.plane.Hint.{IsAtMost, IsAtMostWithout};
@@ -6,7 +6,7 @@ ghost use Rattle.delaunay_edit.specs.delaunay_core.Held.{place_if};
 
 use delaunay_edit::delaunay_core::HintGenerator;
 use delaunay_edit::delaunay_core::math::PlaneTests;
-use delaunay_edit::delaunay_core::point::{HasPosition, Point2, SpadeNum};
+use delaunay_edit::delaunay_core::point::{HasPosition, Point2};
 use delaunay_edit::half_edge_mesh::{Dcel, FixedVertexHandle, MeshViews};
 use std::alloc::AllocError;
 
@@ -34,14 +34,6 @@ pub(crate) fn tell_if_removed<
     if let Ok(value) = removed {
         generator.notify_vertex_removed(swapped_in, vertex, value.position(), tests);
     }
-}
-
-// The generator of a copy: a duplicate.
-pub(crate) fn generator_of_copy<S: SpadeNum, L: HintGenerator<S>>(generator: &L) -> L
-    ensures holds { IsAtMost (L.holds generator.now) (L.holds result) }
-    ensures duplicate { L.is_duplicate generator.now result }
-{
-    generator.duplicate()
 }
 
 // The position of a vertex, if there is one with this handle.

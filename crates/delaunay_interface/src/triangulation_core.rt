@@ -63,7 +63,7 @@ impl<V: HasPosition, DE, UE, F, L: HintGenerator<V::Scalar>, M: EdgeData<UE>> Tr
         ensures headline { IsDelaunay V.place M.constraints result }
     {
         TriangulationCore {
-            edited: EditedMesh::of_empty(dcel, alloc),
+            edited: EditedMesh::of_mesh(dcel, 0, alloc),
             hint_generator: L::new(alloc),
             alloc,
         }

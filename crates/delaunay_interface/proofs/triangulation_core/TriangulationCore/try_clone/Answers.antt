@@ -12,7 +12,7 @@ invariant_of-result g c =
     (subst (λ s. KeepsImage g.V.Clone.is_clone g.V.HasPosition.place s.vertices)
     (sym c.self.view_is) c.requires.places)
     c.in_ok-try_clone.ensures.copy.vertices _ _ c.self.invariant
-    c.generator_of_copy.ensures.holds
+    c.duplicate.ensures.holds
 
 pub returns-clause-constraints : goal.returns-clause-constraints
 returns-clause-constraints g c =
