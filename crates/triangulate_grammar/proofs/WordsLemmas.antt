@@ -1,14 +1,12 @@
 -- The words of a line, taken off from the front.
--- Lemmas: word_at, last_word, none_left.
+-- Lemmas: word_at, last_word.
 use Rattle.std.proofs.Common.{◌≡◌, ◌+◌, ◌<◌, [], ◌∷◌, ◌++◌, ◌∙◌}
-use Rattle.std.proofs.Common.{ℕ, false, true, eqb, List, length, take, drop, get_or, arith, refl}
+use Rattle.std.proofs.Common.{ℕ, false, eqb, List, length, take, drop, get_or, arith, refl}
 use Rattle.std.proofs.Common.{sym, ap, length-take}
 use Rattle.std.specs.List.{All}
-use Rattle.std.proofs.lemmas.List.Splits.{slice_split_at, slice_split_none, length-slice_split}
+use Rattle.std.proofs.lemmas.List.Splits.{slice_split_at, slice_split_none}
 use Rattle.std.proofs.lemmas.List.{take-append-drop, get_or-take, get_or_default, at_drop_more}
 use Rattle.std.proofs.lemmas.Bool.{ne_eqb}
-use Rattle.std.proofs.Common.{Option, Some, None, Bool, not, is_some, IsTrue, ◌↔◌, Bor}
-use Rattle.std.specs.Option.{option_map_or}
 use Rattle.triangulate_grammar.specs.Grammar.{words_of}
 
 no_space : (text : List ℕ) → ((k : ℕ) → k < length text → get_or text k 0 ≡ 32 → ⊥)
@@ -32,16 +30,3 @@ word_at text i within at before =
 pub last_word : (text : List ℕ) → ((k : ℕ) → k < length text → get_or text k 0 ≡ 32 → ⊥)
     → words_of text ≡ text ∷ []
 last_word text h = slice_split_none (λ b. eqb b 32) text (no_space text h)
-
--- no text is without words
-some_word : (text : List ℕ) → words_of text ≡ [] → ⊥
-some_word text e = absurd (omega (arith, length-slice_split (λ b. eqb b 32) text, ap length e))
-
--- whether nothing is left of a line tells whether no word is left
-pub none_left : (rest : Option (Bor (List ℕ))) (v : List (List ℕ)) (b : Bool)
-    → option_map_or (λ text. words_of text.now) rest [] ≡ v → is_some rest ≡ not b
-    → IsTrue b ↔ (v ≡ [])
-none_left None v true e h = (λ _. sym e, λ _. refl)
-none_left None v false e h = cc
-none_left (Some text) v true e h = cc
-none_left (Some text) v false e h = (λ t. cc, λ n. absurd (some_word text.now (e ∙ n)))

@@ -1,6 +1,6 @@
 //! The words of a line, and the command that they spell.
-ghost use Rattle.std.specs.Prelude.{◌≡◌, ℕ, [], ◌∷◌, ◌↔◌};
-ghost use Rattle.std.specs.Prelude.{List, Option, None, Some, MatchOption, IfSome, IsTrue};
+ghost use Rattle.std.specs.Prelude.{◌≡◌, ℕ, [], ◌∷◌};
+ghost use Rattle.std.specs.Prelude.{List, Option, None, Some, MatchOption, IfSome};
 ghost use Rattle.triangulate_grammar.specs.Grammar.{words_of};
 ghost use Rattle.std.specs.Prelude.{OnSome, drop};
 ghost use Rattle.triangulate_grammar.specs.Reading.{first_index, first_number, coordinates_of, pair_of};
@@ -32,13 +32,6 @@ impl<'a> Words<'a> {
         ensures { result ≡ words_of line.now }
     {
         Words { rest: Some(line) }
-    }
-
-    /// Whether no word is left.
-    pub fn is_empty(&self) -> bool
-        ensures { IsTrue result ↔ (self.now ≡ []) }
-    {
-        self.rest.is_none()
     }
 
     /// The next word, up to a space or the end.
@@ -98,7 +91,7 @@ pub fn read_command(line: &[u8]) -> Option<Command>
     let mut words = Words::new(line);
     let name = words.next_word()?;
     let command = command_named(name, &mut words)?;
-    if words.is_empty() {
+    if words.next_word().is_none() {
         Some(command)
     } else {
         None
