@@ -1,6 +1,6 @@
 //! Constraints that are added and released.
-ghost use Rattle.std.specs.Prelude.{◌≡◌, ◌≢◌, ◌⊎◌, ◌↔◌, ◌*◌, ◌<◌, ◌≤◌, []};
-ghost use Rattle.std.specs.Prelude.{length, map, All, Contains, IsTrue, IsOk, IfOk, OnErr, OnOk};
+ghost use Rattle.std.specs.Prelude.{◌≡◌, ◌≢◌, ◌↔◌, ◌*◌, ◌<◌, ◌≤◌};
+ghost use Rattle.std.specs.Prelude.{length, map, All, Contains, IsTrue, IfOk, OnErr, OnOk};
 ghost use Rattle.delaunay_paths.specs.half_edge_links.declared.room.TheConstants.{MAX_ELEMENTS};
 ghost use Rattle.delaunay_paths.specs.half_edge_mesh.Mesh.{origin, rev};
 ghost use Rattle.delaunay_paths.specs.plane.Pairs.{SamePairs};

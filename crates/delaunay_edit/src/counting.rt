@@ -1,5 +1,5 @@
 //! How many constraints an edit makes or takes, by a look at what it changes.
-ghost use Rattle.std.specs.Prelude.{◌≡◌, ◌≢◌, ◌<◌, length, map, All};
+ghost use Rattle.std.specs.Prelude.{◌≢◌, ◌<◌, length, map, All};
 ghost use Rattle.std.specs.Prelude.{IfNone, IfSome};
 ghost use Rattle.delaunay_paths.specs.delaunay_legalization.Constraints.{constraints_by};
 ghost use Rattle.delaunay_paths.specs.delaunay_legalization.Shape.{IsTriangulated};

@@ -13,3 +13,4 @@ pub mod Stepping
 pub mod Kept
 pub mod Faces
 pub mod Outlines
+mod Taken

@@ -1,5 +1,5 @@
 //! An iterator over the faces but the outer one.
-#![tactic(auto, using(delaunay_edit::proofs::half_edge_views::Taken::length_each))]
+#![tactic(auto, using(crate::proofs::Taken::length_each))]
 
 ghost use Rattle.std.specs.Prelude.{◌≡◌, ◌<◌, ◌≤◌, ⊤, All, IfSome, length};
 ghost use Rattle.std.specs.List.{range_with_len};

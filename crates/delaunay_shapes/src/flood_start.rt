@@ -1,6 +1,6 @@
 //! The edges that a flood begins with, by the location of the shape's start.
-ghost use Rattle.std.specs.Prelude.{◌≡◌, ◌↔◌, ℕ, ◌/◌, ◌<◌, ◌≤◌};
-ghost use Rattle.std.specs.Prelude.{length, All, IfNone, IfOk, IfSome, IsTrue, Contains, Some};
+ghost use Rattle.std.specs.Prelude.{◌≡◌, ℕ, ◌/◌, ◌<◌, ◌≤◌};
+ghost use Rattle.std.specs.Prelude.{length, All, IfNone, IfOk, IfSome, Contains, Some};
 ghost use Rattle.delaunay_location.specs.half_edge_mesh.Mesh.{face, face_edge, out_edge};
 ghost use Rattle.delaunay_location.specs.Location.{HasHandle};
 ghost use Rattle.delaunay_shapes.specs.Flood.{IsBegunBy};

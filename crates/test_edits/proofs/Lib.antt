@@ -1,1 +1,2 @@
 mod CopiedPieces
+mod FlipCounts

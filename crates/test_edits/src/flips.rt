@@ -7,7 +7,7 @@ use exact_predicates::ExactTests;
 use test_points::{Plain, TaggedVertex};
 
 /// Inserts a vertex, and adds the number of flips. Nothing where there are many already.
-#[tactic(auto, using(delaunay_interface::proofs::delaunay_legalization_lemmas::Flips::counted_flips))]
+#[tactic(auto, using(crate::proofs::FlipCounts::counted_flips))]
 pub fn insert_counting<L: HintGenerator<i64>>(
     points: &mut Plain<L>,
     vertex: TaggedVertex,
