@@ -1,11 +1,9 @@
 -- One step of an iterator over indexes.
--- Lemmas: range_step, fewer_after, map_range_step, range_last, fewer_before, range_below,
--- range_len, rest_below.
-use Rattle.std.proofs.Common.{◌≡◌, ◌+◌, ◌-◌, ◌<◌, ◌≤◌, ◌∷◌, [], ◌++◌}
-use Rattle.std.proofs.Common.{ℕ, List, zero, suc, length, map, All, refl, ap, arith}
+-- Lemmas: range_step, fewer_after, map_range_step, range_last, fewer_before, range_len.
+use Rattle.std.proofs.Common.{◌≡◌, ◌+◌, ◌-◌, ◌<◌, ◌∷◌, [], ◌++◌}
+use Rattle.std.proofs.Common.{ℕ, zero, suc, length, map, refl, ap, arith}
 use Rattle.std.specs.List.{range_with_len}
-use Rattle.std.proofs.lemmas.List.Elements.{All-rest}
-use Rattle.std.proofs.lemmas.List.FromFn.{length-range_with_len, get_or-range_with_len}
+use Rattle.std.proofs.lemmas.List.FromFn.{length-range_with_len}
 
 -- a range with numbers in it is its first number and the range after it
 pub range_step : (a b : ℕ) → a < b
@@ -45,19 +43,6 @@ pub fewer_before : (a b : ℕ) → a < b
 fewer_before a b less =
     omega (arith, length-range_with_len a (b - 1 - a), length-range_with_len a (b - a))
 
--- each is below a bound of the end
-pub range_below : (a e b : ℕ) → e ≤ b → All (λ i. i < b) (range_with_len a (e - a))
-range_below a e b bound = λ k d lt. omega (
-  arith,
-  length-range_with_len a (e - a),
-  get_or-range_with_len a (e - a) k d (omega (arith, length-range_with_len a (e - a))),
-)
-
 -- as many are left as the bounds are apart
 pub range_len : (a b : ℕ) → length (range_with_len a (b - a)) ≡ b - a
 range_len a b = length-range_with_len a (b - a)
-
--- what is left after the first is below the same bound
-pub rest_below : (b x : ℕ) (xs ys : List ℕ) → ys ≡ x ∷ xs → All (λ i. i < b) ys
-    → All (λ i. i < b) xs
-rest_below b x xs ys is all = All-rest (λ i. i < b) x xs ys is all

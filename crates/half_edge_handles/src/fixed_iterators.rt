@@ -1,282 +1,141 @@
 //! Iterators over the fixed handles of the parts of a mesh.
-#![tactic(auto, using(crate::proofs::Steps::range_below))]
+#![tactic(auto, using(crate::proofs::Steps::range_step, crate::proofs::Steps::fewer_after))]
 
 ghost use Rattle.std.specs.Prelude.{◌≡◌, ◌-◌, ◌^◌, ◌≤◌, ⊤};
 ghost use Rattle.std.specs.List.{range_with_len};
-ghost use Rattle.std.specs.Iterator.{YieldsFirst, YieldsLast, item_count};
+ghost use Rattle.std.specs.Iterator.{YieldsFirstBy, YieldsLastBy, item_count};
 
 use crate::handles::{
-    FixedDirectedEdgeHandle, FixedFaceHandle, FixedUndirectedEdgeHandle, FixedVertexHandle,
+    FixedDirectedEdgeHandle, FixedFaceHandle, FixedHandle, FixedUndirectedEdgeHandle,
+    FixedVertexHandle,
 };
-use crate::index_range::IndexRange;
 use std::alloc::AllocError;
+use std::fmt;
 use std::iter::FusedIterator;
-use std::marker::Model;
+use std::marker::{Model, PhantomData};
 
 /// Names of vertices that are left, by rising index.
-#[derive(Drop, Debug)]
-pub struct FixedVertexIterator {
-    indexes: IndexRange,
+pub type FixedVertexIterator = FixedIterator<FixedVertexHandle>;
+
+/// Names of directed edges that are left, by rising index.
+pub type FixedDirectedEdgeIterator = FixedIterator<FixedDirectedEdgeHandle>;
+
+/// Names of undirected edges that are left, by rising index.
+pub type FixedUndirectedEdgeIterator = FixedIterator<FixedUndirectedEdgeHandle>;
+
+/// Names of faces that are left, by rising index.
+pub type FixedFaceIterator = FixedIterator<FixedFaceHandle>;
+
+// Indexes in a row, from `next` up to the one before `end`.
+#[derive(Clone, Copy, Debug)]
+struct IndexRange {
+    next: u32,
+    end: u32,
 }
 
-impl Model for FixedVertexIterator {
-    ghost use Rattle.std.specs.Prelude.{ℕ, List};
+/// Names of one kind that are left, by rising index.
+#[derive(Drop)]
+pub struct FixedIterator<H: FixedHandle> {
+    indexes: IndexRange,
+    kind: PhantomData<H>,
+}
+
+impl<H: FixedHandle> Model for FixedIterator<H> {
+    ghost use Rattle.std.specs.Prelude.{ℕ, List, ◌-◌, ◌≤◌};
+    ghost use Rattle.std.specs.List.{range_with_len};
 
     ghost Value = { List ℕ };
 
-    ghost view = { λ s. s.indexes };
+    ghost view = { λ s. range_with_len s.indexes.next (s.indexes.end - s.indexes.next) };
+
+    ghost invariant = { λ s. s.indexes.end ≤ H.limit };
 }
 
-impl FixedVertexIterator {
+impl FixedIterator<FixedVertexHandle> {
     /// The vertices from index `next` on, up to the one before `end`.
     pub fn new(next: u32, end: u32) -> Self
         ensures { result ≡ range_with_len next (end - next) }
     {
-        FixedVertexIterator {
-            indexes: IndexRange::new(next, end),
+        FixedIterator {
+            indexes: IndexRange { next, end },
+            kind: PhantomData,
         }
     }
 }
 
-impl Clone for FixedVertexIterator {
-    ghost is_clone = { λ it copy. copy ≡ it };
-
-    ghost is_infallible = { λ _. ⊤ };
-
-    fn clone(&self) -> Result<Self, AllocError> {
-        Ok(FixedVertexIterator {
-            indexes: self.indexes.clone()?,
-        })
-    }
-}
-
-impl Iterator for FixedVertexIterator {
-    type Item = FixedVertexHandle;
-
-    ghost next_gives = { YieldsFirst (λ s. s) };
-
-    ghost remaining = { item_count (λ s. s) };
-
-    fn next(&mut self) -> Option<FixedVertexHandle> {
-        let index = self.indexes.next()?;
-        Some(FixedVertexHandle::from_index(index))
-    }
-
-    fn size_hint(&self) -> (usize, Option<usize>) {
-        (self.len(), Some(self.len()))
-    }
-}
-
-impl DoubleEndedIterator for FixedVertexIterator {
-    ghost next_back_gives = { YieldsLast (λ s. s) };
-
-    fn next_back(&mut self) -> Option<FixedVertexHandle> {
-        let index = self.indexes.next_back()?;
-        Some(FixedVertexHandle::from_index(index))
-    }
-}
-
-impl ExactSizeIterator for FixedVertexIterator {
-    fn len(&self) -> usize {
-        self.indexes.len()
-    }
-}
-
-impl FusedIterator for FixedVertexIterator {}
-
-/// Names of directed edges that are left, by rising index.
-#[derive(Drop, Debug)]
-pub struct FixedDirectedEdgeIterator {
-    indexes: IndexRange,
-}
-
-impl Model for FixedDirectedEdgeIterator {
-    ghost use Rattle.std.specs.Prelude.{ℕ, List};
-
-    ghost Value = { List ℕ };
-
-    ghost view = { λ s. s.indexes };
-}
-
-impl FixedDirectedEdgeIterator {
+impl FixedIterator<FixedDirectedEdgeHandle> {
     /// The directed edges from index `next` on, up to the one before `end`.
     pub fn new(next: u32, end: u32) -> Self
         ensures { result ≡ range_with_len next (end - next) }
     {
-        FixedDirectedEdgeIterator {
-            indexes: IndexRange::new(next, end),
+        FixedIterator {
+            indexes: IndexRange { next, end },
+            kind: PhantomData,
         }
     }
 }
 
-impl Clone for FixedDirectedEdgeIterator {
-    ghost is_clone = { λ it copy. copy ≡ it };
-
-    ghost is_infallible = { λ _. ⊤ };
-
-    fn clone(&self) -> Result<Self, AllocError> {
-        Ok(FixedDirectedEdgeIterator {
-            indexes: self.indexes.clone()?,
-        })
-    }
-}
-
-impl Iterator for FixedDirectedEdgeIterator {
-    type Item = FixedDirectedEdgeHandle;
-
-    ghost next_gives = { YieldsFirst (λ s. s) };
-
-    ghost remaining = { item_count (λ s. s) };
-
-    fn next(&mut self) -> Option<FixedDirectedEdgeHandle> {
-        let index = self.indexes.next()?;
-        Some(FixedDirectedEdgeHandle::from_index(index))
-    }
-
-    fn size_hint(&self) -> (usize, Option<usize>) {
-        (self.len(), Some(self.len()))
-    }
-}
-
-impl DoubleEndedIterator for FixedDirectedEdgeIterator {
-    ghost next_back_gives = { YieldsLast (λ s. s) };
-
-    fn next_back(&mut self) -> Option<FixedDirectedEdgeHandle> {
-        let index = self.indexes.next_back()?;
-        Some(FixedDirectedEdgeHandle::from_index(index))
-    }
-}
-
-impl ExactSizeIterator for FixedDirectedEdgeIterator {
-    fn len(&self) -> usize {
-        self.indexes.len()
-    }
-}
-
-impl FusedIterator for FixedDirectedEdgeIterator {}
-
-/// Names of undirected edges that are left, by rising index.
-#[derive(Drop, Debug)]
-pub struct FixedUndirectedEdgeIterator {
-    indexes: IndexRange,
-}
-
-impl Model for FixedUndirectedEdgeIterator {
-    ghost use Rattle.std.specs.Prelude.{ℕ, List, All, ◌<◌, ◌^◌};
-
-    ghost Value = { List ℕ };
-
-    ghost view = { λ s. s.indexes };
-
-    ghost invariant = { λ s. All (λ i. i < 2 ^ 31) s.indexes };
-}
-
-impl FixedUndirectedEdgeIterator {
+impl FixedIterator<FixedUndirectedEdgeHandle> {
     /// The undirected edges from index `next` on, up to the one before `end`, which is at most 2 to
     /// the 31st.
     pub fn new(next: u32, end: u32) -> Self
         requires { end ≤ 2 ^ 31 }
         ensures { result ≡ range_with_len next (end - next) }
     {
-        FixedUndirectedEdgeIterator {
-            indexes: IndexRange::new(next, end),
+        FixedIterator {
+            indexes: IndexRange { next, end },
+            kind: PhantomData,
         }
     }
 }
 
-impl Clone for FixedUndirectedEdgeIterator {
-    ghost is_clone = { λ it copy. copy ≡ it };
-
-    ghost is_infallible = { λ _. ⊤ };
-
-    fn clone(&self) -> Result<Self, AllocError> {
-        Ok(FixedUndirectedEdgeIterator {
-            indexes: self.indexes.clone()?,
-        })
-    }
-}
-
-impl Iterator for FixedUndirectedEdgeIterator {
-    type Item = FixedUndirectedEdgeHandle;
-
-    ghost next_gives = { YieldsFirst (λ s. s) };
-
-    ghost remaining = { item_count (λ s. s) };
-
-    fn next(&mut self) -> Option<FixedUndirectedEdgeHandle> {
-        let index = self.indexes.next()?;
-        Some(FixedUndirectedEdgeHandle::from_index(index))
-    }
-
-    fn size_hint(&self) -> (usize, Option<usize>) {
-        (self.len(), Some(self.len()))
-    }
-}
-
-impl DoubleEndedIterator for FixedUndirectedEdgeIterator {
-    ghost next_back_gives = { YieldsLast (λ s. s) };
-
-    fn next_back(&mut self) -> Option<FixedUndirectedEdgeHandle> {
-        let index = self.indexes.next_back()?;
-        Some(FixedUndirectedEdgeHandle::from_index(index))
-    }
-}
-
-impl ExactSizeIterator for FixedUndirectedEdgeIterator {
-    fn len(&self) -> usize {
-        self.indexes.len()
-    }
-}
-
-impl FusedIterator for FixedUndirectedEdgeIterator {}
-
-/// Names of faces that are left, by rising index.
-#[derive(Drop, Debug)]
-pub struct FixedFaceIterator {
-    indexes: IndexRange,
-}
-
-impl Model for FixedFaceIterator {
-    ghost use Rattle.std.specs.Prelude.{ℕ, List};
-
-    ghost Value = { List ℕ };
-
-    ghost view = { λ s. s.indexes };
-}
-
-impl FixedFaceIterator {
+impl FixedIterator<FixedFaceHandle> {
     /// The faces from index `next` on, up to the one before `end`.
     pub fn new(next: u32, end: u32) -> Self
         ensures { result ≡ range_with_len next (end - next) }
     {
-        FixedFaceIterator {
-            indexes: IndexRange::new(next, end),
+        FixedIterator {
+            indexes: IndexRange { next, end },
+            kind: PhantomData,
         }
     }
 }
 
-impl Clone for FixedFaceIterator {
+impl<H: FixedHandle> fmt::Debug for FixedIterator<H> {
+    fn fmt<W: fmt::Write>(&self, f: &mut fmt::Formatter<W>) -> fmt::Result {
+        f.debug_struct(H::ITERATOR)
+            .field("indexes", &self.indexes)
+            .finish()
+    }
+}
+
+impl<H: FixedHandle> Clone for FixedIterator<H> {
     ghost is_clone = { λ it copy. copy ≡ it };
 
     ghost is_infallible = { λ _. ⊤ };
 
     fn clone(&self) -> Result<Self, AllocError> {
-        Ok(FixedFaceIterator {
-            indexes: self.indexes.clone()?,
+        Ok(FixedIterator {
+            indexes: self.indexes,
+            kind: PhantomData,
         })
     }
 }
 
-impl Iterator for FixedFaceIterator {
-    type Item = FixedFaceHandle;
+impl<H: FixedHandle> Iterator for FixedIterator<H> {
+    type Item = H;
 
-    ghost next_gives = { YieldsFirst (λ s. s) };
+    ghost next_gives = { YieldsFirstBy H.index_of (λ s. s) };
 
     ghost remaining = { item_count (λ s. s) };
 
-    fn next(&mut self) -> Option<FixedFaceHandle> {
-        let index = self.indexes.next()?;
-        Some(FixedFaceHandle::from_index(index))
+    fn next(&mut self) -> Option<H> {
+        let index = self.indexes.next;
+        if index >= self.indexes.end {
+            return None;
+        }
+        self.indexes.next += 1;
+        Some(H::with_index(index))
     }
 
     fn size_hint(&self) -> (usize, Option<usize>) {
@@ -284,19 +143,27 @@ impl Iterator for FixedFaceIterator {
     }
 }
 
-impl DoubleEndedIterator for FixedFaceIterator {
-    ghost next_back_gives = { YieldsLast (λ s. s) };
+#[tactic(auto, using(crate::proofs::Steps::range_last, crate::proofs::Steps::fewer_before))]
+impl<H: FixedHandle> DoubleEndedIterator for FixedIterator<H> {
+    ghost next_back_gives = { YieldsLastBy H.index_of (λ s. s) };
 
-    fn next_back(&mut self) -> Option<FixedFaceHandle> {
-        let index = self.indexes.next_back()?;
-        Some(FixedFaceHandle::from_index(index))
+    fn next_back(&mut self) -> Option<H> {
+        if self.indexes.next >= self.indexes.end {
+            return None;
+        }
+        self.indexes.end -= 1;
+        Some(H::with_index(self.indexes.end))
     }
 }
 
-impl ExactSizeIterator for FixedFaceIterator {
+#[tactic(auto, using(crate::proofs::Steps::range_len))]
+impl<H: FixedHandle> ExactSizeIterator for FixedIterator<H> {
     fn len(&self) -> usize {
-        self.indexes.len()
+        if self.indexes.next >= self.indexes.end {
+            return 0;
+        }
+        (self.indexes.end - self.indexes.next) as usize
     }
 }
 
-impl FusedIterator for FixedFaceIterator {}
+impl<H: FixedHandle> FusedIterator for FixedIterator<H> {}

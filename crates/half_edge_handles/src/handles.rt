@@ -5,6 +5,21 @@ ghost use Rattle.half_edge_links.specs.Mesh.{rev};
 use half_edge_links::reversed;
 use std::marker::Model;
 
+/// A kind of names, which are indexes below a limit.
+pub trait FixedHandle: Drop {
+    /// What an iterator over such names is called where it is written out.
+    const ITERATOR: &'static str;
+
+    ghost index_of: { Self → ℕ };
+
+    ghost limit: { ℕ };
+
+    /// The name with this index.
+    fn with_index(index: u32) -> Self
+        requires { index < limit }
+        ensures { index_of result ≡ index };
+}
+
 /// A vertex of a mesh, by its index.
 #[derive(Clone, Copy, PartialEq, Eq, PartialOrd, Ord, Hash, Debug)]
 pub struct FixedVertexHandle {
@@ -17,6 +32,18 @@ impl Model for FixedVertexHandle {
     ghost view = { λ h. h.index };
 
     ghost inverse = { λ n. record { index = n } };
+}
+
+impl FixedHandle for FixedVertexHandle {
+    const ITERATOR: &'static str = "FixedVertexIterator";
+
+    ghost index_of = { λ h. h };
+
+    ghost limit = { 2 ^ 32 };
+
+    fn with_index(index: u32) -> Self {
+        FixedVertexHandle { index }
+    }
 }
 
 impl FixedVertexHandle {
@@ -48,6 +75,18 @@ impl Model for FixedDirectedEdgeHandle {
     ghost view = { λ h. h.index };
 
     ghost inverse = { λ n. record { index = n } };
+}
+
+impl FixedHandle for FixedDirectedEdgeHandle {
+    const ITERATOR: &'static str = "FixedDirectedEdgeIterator";
+
+    ghost index_of = { λ h. h };
+
+    ghost limit = { 2 ^ 32 };
+
+    fn with_index(index: u32) -> Self {
+        FixedDirectedEdgeHandle { index }
+    }
 }
 
 impl FixedDirectedEdgeHandle {
@@ -100,6 +139,18 @@ impl Model for FixedUndirectedEdgeHandle {
     ghost inverse = { λ n. record { index = n } };
 }
 
+impl FixedHandle for FixedUndirectedEdgeHandle {
+    const ITERATOR: &'static str = "FixedUndirectedEdgeIterator";
+
+    ghost index_of = { λ h. h };
+
+    ghost limit = { 2 ^ 31 };
+
+    fn with_index(index: u32) -> Self {
+        FixedUndirectedEdgeHandle { index }
+    }
+}
+
 impl FixedUndirectedEdgeHandle {
     /// The undirected edge with this index. The index has to be below 2 to the 31st.
     pub fn from_index(index: u32) -> Self
@@ -139,6 +190,18 @@ impl Model for FixedFaceHandle {
     ghost view = { λ h. h.index };
 
     ghost inverse = { λ n. record { index = n } };
+}
+
+impl FixedHandle for FixedFaceHandle {
+    const ITERATOR: &'static str = "FixedFaceIterator";
+
+    ghost index_of = { λ h. h };
+
+    ghost limit = { 2 ^ 32 };
+
+    fn with_index(index: u32) -> Self {
+        FixedFaceHandle { index }
+    }
 }
 
 impl FixedFaceHandle {

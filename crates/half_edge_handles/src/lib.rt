@@ -3,7 +3,6 @@
 
 mod fixed_iterators;
 mod handles;
-mod index_range;
 
 pub use fixed_iterators::{
     FixedDirectedEdgeIterator, FixedFaceIterator, FixedUndirectedEdgeIterator, FixedVertexIterator,
