@@ -1,15 +1,14 @@
 //! The mesh with its data, and reads of them.
 ghost use Rattle.std.specs.Prelude.{◌≡◌, ◌<◌, ◌≤◌, ◌+◌, ◌*◌, ◌∷◌, []};
 ghost use Rattle.std.specs.Prelude.{length, Some, slice_get, slice_set};
-ghost use Rattle.half_edge_links.specs.Mesh.{empty, edge_at, face_edge, out_edge};
-ghost use Rattle.half_edge_links.specs.Mesh.{origin, next, prev, face};
+ghost use Rattle.half_edge_links.specs.Mesh.{empty};
 ghost use Rattle.half_edge_links.specs.declared.room.TheConstants.{MAX_ELEMENTS};
 ghost use Rattle.half_edge_dcel.specs.Contents.{IsMeshWithData};
 
 use half_edge_handles::{
     FixedDirectedEdgeHandle, FixedFaceHandle, FixedUndirectedEdgeHandle, FixedVertexHandle,
 };
-use half_edge_links::{HalfEdge, Links};
+use half_edge_links::Links;
 use std::alloc::Global;
 use std::marker::Model;
 
@@ -79,6 +78,18 @@ impl<V, DE, UE, F> Dcel<V, DE, UE, F> {
         ensures few_faces { length self.now.faces < MAX_ELEMENTS }
     {
         self.links.recall_invariant();
+    }
+
+    /// How the parts lie to each other.
+    pub fn links(&self) -> &Links<V>
+        ensures mesh { result.now.mesh ≡ self.now.mesh }
+        ensures vertices { length result.now.mesh.out_edges ≡ length self.now.vertices }
+        ensures edges { length result.now.mesh.half_edges ≡ length self.now.directed }
+        ensures faces { length result.now.mesh.face_edges ≡ length self.now.faces }
+        ensures whole { IsMeshWithData self.now }
+    {
+        self.links.recall_invariant();
+        &self.links
     }
 
     /// How many vertices there are.
@@ -171,86 +182,5 @@ impl<V, DE, UE, F> Dcel<V, DE, UE, F> {
         } else {
             &self.faces[face.index() as usize - 1]
         }
-    }
-
-    /// The links of a directed edge.
-    pub fn half_edge(&self, edge: u32) -> HalfEdge
-        requires { edge < length self.now.directed }
-        ensures value { result ≡ edge_at self.now.mesh.half_edges edge }
-        ensures whole { IsMeshWithData self.now }
-    {
-        self.links.half_edge(edge)
-    }
-
-    /// The edge after a directed edge in its loop.
-    pub fn next_edge(&self, edge: u32) -> u32
-        requires { edge < length self.now.directed }
-        ensures value { result ≡ next self.now.mesh edge }
-        ensures whole { IsMeshWithData self.now }
-    {
-        self.links.next(edge)
-    }
-
-    /// The edge before a directed edge in its loop.
-    pub fn prev_edge(&self, edge: u32) -> u32
-        requires { edge < length self.now.directed }
-        ensures value { result ≡ prev self.now.mesh edge }
-        ensures whole { IsMeshWithData self.now }
-    {
-        self.links.prev(edge)
-    }
-
-    /// The face on the left of a directed edge.
-    pub fn left_face(&self, edge: u32) -> u32
-        requires { edge < length self.now.directed }
-        ensures value { result ≡ face self.now.mesh edge }
-        ensures whole { IsMeshWithData self.now }
-    {
-        self.links.face(edge)
-    }
-
-    /// The vertex where a directed edge starts.
-    pub fn origin(&self, edge: u32) -> u32
-        requires { edge < length self.now.directed }
-        ensures value { result ≡ origin self.now.mesh edge }
-        ensures whole { IsMeshWithData self.now }
-    {
-        self.links.origin(edge)
-    }
-
-    /// The vertex where the edge before a directed edge starts, which is the cheapest one to read.
-    pub fn prev_origin(&self, edge: u32) -> u32
-        requires { edge < length self.now.directed }
-        ensures value { result ≡ origin self.now.mesh (prev self.now.mesh edge) }
-        ensures whole { IsMeshWithData self.now }
-    {
-        self.links.prev_origin(edge)
-    }
-
-    /// An edge of an inner face.
-    pub fn face_edge(&self, face: u32) -> u32
-        requires within { face ≤ length self.now.faces }
-        requires inner { 0 < face }
-        ensures value { result ≡ face_edge self.now.mesh face }
-        ensures whole { IsMeshWithData self.now }
-    {
-        self.links.face_edge(face)
-    }
-
-    /// An edge of the outer face, if there is an edge.
-    pub fn outer_edge(&self) -> Option<u32>
-        ensures value { result ≡ self.now.mesh.outer_edge }
-        ensures whole { IsMeshWithData self.now }
-    {
-        self.links.outer_edge()
-    }
-
-    /// An edge that starts at a vertex, if there is one.
-    pub fn out_edge(&self, vertex: u32) -> Option<u32>
-        requires { vertex < length self.now.vertices }
-        ensures value { result ≡ out_edge self.now.mesh vertex }
-        ensures whole { IsMeshWithData self.now }
-    {
-        self.links.out_edge(vertex)
     }
 }

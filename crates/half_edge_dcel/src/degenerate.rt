@@ -51,9 +51,8 @@ impl<V, DE: Drop, UE: Drop, F> Dcel<V, DE, UE, F> {
         ensures outline { KeepsOneOutline self.old.mesh self.new.mesh }
         ensures whole { IsMeshWithData self.new }
     {
-        self.recall_invariant();
         let edge = reversed(out);
-        let lost = self.next_edge(edge);
+        let lost = self.links().next(edge);
         self.pass(edge);
         self.remove_edge(lost);
     }
@@ -67,8 +66,8 @@ impl<V, DE: Drop, UE: Drop, F> Dcel<V, DE, UE, F> {
         ensures outline { KeepsOneOutline self.old.mesh self.new.mesh }
         ensures whole { IsMeshWithData self.new }
     {
-        if let Some(out) = self.out_edge(vertex) {
-            let other = reversed(self.prev_edge(out));
+        if let Some(out) = self.links().out_edge(vertex) {
+            let other = reversed(self.links().prev(out));
             if other == out {
                 self.remove_edge(out);
             } else {

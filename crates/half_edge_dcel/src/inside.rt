@@ -57,7 +57,7 @@ impl<V, DE: Default, UE: Default, F: Default> Dcel<V, DE, UE, F> {
             (origin m (prev m e)) result ∷ []) }
         ensures face { face self.old.mesh (face_edge self.old.mesh triangle) ≡ triangle }
     {
-        let edge = self.face_edge(triangle.index());
+        let edge = self.links.face_edge(triangle.index());
         let v = self.links.push_vertex(value);
         self.links.insert_beside(v, edge);
         push_defaults(&mut self.directed, 6);

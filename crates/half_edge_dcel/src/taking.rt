@@ -92,7 +92,7 @@ impl<V, DE, UE, F> Dcel<V, DE, UE, F> {
         ensures whole { IsMeshWithData self.new }
         ensures outline { KeepsOneOutline self.old.mesh self.new.mesh }
     {
-        let left = self.left_face(edge) as usize - 1;
+        let left = self.links.face(edge) as usize - 1;
         let spoke = self.links.peel(edge);
         self.faces.swap_remove(left);
         self.undirected.swap_remove(edge as usize / 2);

@@ -62,7 +62,7 @@ impl<'a, V, DE, UE, F> DirectedEdgeHandle<'a, V, DE, UE, F> {
     {
         VertexHandle {
             dcel: self.dcel,
-            index: self.dcel.origin(self.index),
+            index: self.dcel.links().origin(self.index),
         }
     }
 
@@ -76,7 +76,7 @@ impl<'a, V, DE, UE, F> DirectedEdgeHandle<'a, V, DE, UE, F> {
     {
         VertexHandle {
             dcel: self.dcel,
-            index: self.dcel.prev_origin(self.index),
+            index: self.dcel.links().prev_origin(self.index),
         }
     }
 
@@ -107,7 +107,7 @@ impl<'a, V, DE, UE, F> DirectedEdgeHandle<'a, V, DE, UE, F> {
     {
         DirectedEdgeHandle {
             dcel: self.dcel,
-            index: self.dcel.next_edge(self.index),
+            index: self.dcel.links().next(self.index),
         }
     }
 
@@ -119,7 +119,7 @@ impl<'a, V, DE, UE, F> DirectedEdgeHandle<'a, V, DE, UE, F> {
     {
         DirectedEdgeHandle {
             dcel: self.dcel,
-            index: self.dcel.prev_edge(self.index),
+            index: self.dcel.links().prev(self.index),
         }
     }
 
@@ -162,7 +162,7 @@ impl<'a, V, DE, UE, F> DirectedEdgeHandle<'a, V, DE, UE, F> {
     {
         FaceHandle {
             dcel: self.dcel,
-            index: self.dcel.left_face(self.index),
+            index: self.dcel.links().face(self.index),
         }
     }
 

@@ -72,7 +72,7 @@ impl<'a, V, DE, UE, F> FaceHandle<'a, V, DE, UE, F> {
     {
         DirectedEdgeHandle {
             dcel: self.dcel,
-            index: self.dcel.face_edge(self.index),
+            index: self.dcel.links().face_edge(self.index),
         }
     }
 

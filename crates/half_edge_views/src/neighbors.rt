@@ -20,14 +20,15 @@ pub(crate) fn edge_to<V, DE, UE, F>(mesh: &Dcel<V, DE, UE, F>, first: u32, to: u
     ensures whole { IsMeshWithData mesh.now }
 {
     let count = mesh.num_directed_edges();
+    let links = mesh.links();
     let mut edge = first;
-    let mut end = mesh.origin(reversed(first));
+    let mut end = links.origin(reversed(first));
     for _ in 0..count {
         if end == to {
             return Some(edge);
         }
-        end = mesh.prev_origin(edge);
-        edge = reversed(mesh.prev_edge(edge));
+        end = links.prev_origin(edge);
+        edge = reversed(links.prev(edge));
         if edge == first {
             return None;
         }

@@ -62,7 +62,7 @@ impl<'a, V, DE, UE, F> VertexHandle<'a, V, DE, UE, F> {
             (out_edge self.now.dcel.now.mesh self.now.index ≡ Some e.index)) }
         ensures whole { IsMeshWithData self.now.dcel.now }
     {
-        let index = self.dcel.out_edge(self.index)?;
+        let index = self.dcel.links().out_edge(self.index)?;
         Some(DirectedEdgeHandle {
             dcel: self.dcel,
             index,
@@ -73,7 +73,7 @@ impl<'a, V, DE, UE, F> VertexHandle<'a, V, DE, UE, F> {
     pub fn out_edges(&self) -> CircularIterator<'a, V, DE, UE, F>
         ensures { GivesRound self.now.dcel self.now.index (out_edges_left result) }
     {
-        if let Some(first) = self.dcel.out_edge(self.index) {
+        if let Some(first) = self.dcel.links().out_edge(self.index) {
             return CircularIterator {
                 walk: EdgeWalk::from(self.dcel, first),
             };

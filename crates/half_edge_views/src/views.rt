@@ -164,7 +164,7 @@ impl<V, DE, UE, F> MeshViews<V, DE, UE, F> for Dcel<V, DE, UE, F> {
             IfNone result ((h : ℕ) → h < length self.now.directed → origin m h ≡ from →
             origin m (rev h) ≢ to) }
     {
-        let first = self.out_edge(from.index())?;
+        let first = self.links().out_edge(from.index())?;
         if let Some(index) = edge_to(self, first, to.index()) {
             return Some(DirectedEdgeHandle { dcel: self, index });
         }
@@ -224,7 +224,7 @@ impl<V, DE, UE, F> MeshViews<V, DE, UE, F> for Dcel<V, DE, UE, F> {
     fn convex_hull(&self) -> HullIterator<'_, V, DE, UE, F>
         ensures { GivesOuterLoop self.entry (hull_left result) }
     {
-        if let Some(first) = self.outer_edge() {
+        if let Some(first) = self.links().outer_edge() {
             return HullIterator {
                 walk: EdgeWalk::from(self, first),
             };

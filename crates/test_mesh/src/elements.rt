@@ -171,7 +171,7 @@ fn links_of<V, DE, UE, F>(mesh: &Dcel<V, DE, UE, F>, index: u32) -> Option<HalfE
     if !has_edge(mesh, edge) {
         return None;
     }
-    Some(mesh.half_edge(edge.index()))
+    Some(mesh.links().half_edge(edge.index()))
 }
 
 fn origin_of<V, DE, UE, F>(mesh: &Dcel<V, DE, UE, F>, edge: Option<u32>) -> Option<u32> {
@@ -187,15 +187,15 @@ fn out_edge<V, DE, UE, F>(mesh: &Dcel<V, DE, UE, F>, index: u32) -> Option<u32> 
     if !has_vertex(mesh, vertex) {
         return None;
     }
-    mesh.out_edge(vertex.index())
+    mesh.links().out_edge(vertex.index())
 }
 
 fn edge_of_face<V, DE, UE, F>(mesh: &Dcel<V, DE, UE, F>, face: u32) -> Option<u32> {
     if face == 0 {
-        return mesh.outer_edge();
+        return mesh.links().outer_edge();
     }
     if !has_face(mesh, FixedFaceHandle::from_index(face)) {
         return None;
     }
-    Some(mesh.face_edge(face))
+    Some(mesh.links().face_edge(face))
 }

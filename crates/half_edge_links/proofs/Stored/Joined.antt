@@ -1,10 +1,7 @@
 -- Lists of directed edges whose links are joined.
--- Lemmas: joined_sound, kept_in, joined_kept, loop_of_three.
-use Rattle.std.proofs.Common.{◌≡◌, ℕ, ◌<◌, List, length, ◌∙◌}
+-- Lemmas: joined_sound, joined_kept, loop_of_three.
+use Rattle.std.proofs.Common.{◌≡◌, ℕ, List, length, ◌∙◌}
 use Rattle.half_edge_links.specs.declared.records.HalfEdge.{HalfEdge}
-use Rattle.half_edge_links.specs.declared.records.StoredEdge.{StoredEdge}
-use Rattle.half_edge_links.specs.EdgeList.{shown}
-use Rattle.half_edge_links.proofs.Stored.Shown.{length_shown}
 use Rattle.half_edge_links.specs.Mesh.{Mesh, edge_at, AreSoundLinks}
 use Rattle.half_edge_links.specs.Places.{AreJoined, IsLoopOfThree}
 use Rattle.half_edge_links.proofs.Sound.Triangles.{IsTriangle}
@@ -17,11 +14,6 @@ joined_sound m s = record {
   prev_next = λ h within. (s.edges h within).prev_next;
   next_prev = λ h within. (s.edges h within).next_prev;
 }
-
--- an edge that a list shows is kept in it, and so is the edge after it
-pub kept_in : (rs : List StoredEdge) (h : ℕ) → AreJoined (shown rs) → h < length (shown rs)
-    → (h < length rs) × ((edge_at (shown rs) h).next < length rs)
-kept_in rs h j within = (rw length_shown at within, rw length_shown at (j.next_in h within))
 
 -- links stay joined where no edge gets another one after or before it
 pub joined_kept : (old new : List HalfEdge) → length new ≡ length old

@@ -6,8 +6,7 @@ use Rattle.half_edge_links.proofs.Stored.Within.{linked_at}
 use Rattle.half_edge_links.proofs.records.close_edges.Goals as goal
 
 pub overflow_cast-n : goal.overflow_cast-n
-overflow_cast-n c =
-    omega arith
+overflow_cast-n c = omega arith
 
 pub get-edge-requires : goal.get-edge-requires
 get-edge-requires c =
@@ -33,12 +32,10 @@ origin-start_before-requires c =
     (assumption (linked_at c.args.half_edges.now.items c.requires.joined p.prev))
 
 pub overflow_add-n : goal.overflow_add-n
-overflow_add-n c =
-    omega arith
+overflow_add-n c = omega arith
 
 pub overflow_add-n-2 : goal.overflow_add-n-2
-overflow_add-n-2 c =
-    omega arith
+overflow_add-n-2 c = omega arith
 
 pub set_next-requires : goal.set_next-requires
 set_next-requires c =
@@ -90,12 +87,10 @@ set_corner-requires-2 c =
     ∙ c.set_next.ensures.len) c.requires.within
 
 pub push_reserved-requires : goal.push_reserved-requires
-push_reserved-requires c =
-    omega arith
+push_reserved-requires c = omega arith
 
 pub push_reserved-requires-2 : goal.push_reserved-requires-2
-push_reserved-requires-2 c =
-    omega arith
+push_reserved-requires-2 c = omega arith
 
 pub returns-clause-capacity : goal.returns-clause-capacity
 returns-clause-capacity c =

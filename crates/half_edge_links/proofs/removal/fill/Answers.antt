@@ -5,28 +5,22 @@ use Rattle.half_edge_links.proofs.Stored.Removed.{shows_filled}
 use Rattle.half_edge_links.proofs.removal.fill.Goals as goal
 
 pub next-even_next-requires : goal.next-even_next-requires
-next-even_next-requires c =
-    omega arith
+next-even_next-requires c = omega arith
 
 pub prev-even_prev-requires : goal.prev-even_prev-requires
-prev-even_prev-requires c =
-    omega arith
+prev-even_prev-requires c = omega arith
 
 pub overflow_add-last : goal.overflow_add-last
-overflow_add-last c =
-    omega arith
+overflow_add-last c = omega arith
 
 pub next-odd_next-requires : goal.next-odd_next-requires
-next-odd_next-requires c =
-    omega arith
+next-odd_next-requires c = omega arith
 
 pub overflow_add-last-2 : goal.overflow_add-last-2
-overflow_add-last-2 c =
-    omega arith
+overflow_add-last-2 c = omega arith
 
 pub prev-odd_prev-requires : goal.prev-odd_prev-requires
-prev-odd_prev-requires c =
-    omega arith
+prev-odd_prev-requires c = omega arith
 
 pub set_next-requires : goal.set_next-requires
 set_next-requires c =

@@ -4,16 +4,13 @@ use Rattle.half_edge_links.proofs.Stored.Shown.{length_shown}
 use Rattle.half_edge_links.proofs.removal.set_loop_face.Goals as goal
 
 pub next-next-requires : goal.next-next-requires
-next-next-requires c =
-    rw length_shown at c.requires.edge
+next-next-requires c = rw length_shown at c.requires.edge
 
 pub prev-prev-requires : goal.prev-prev-requires
-prev-prev-requires c =
-    rw length_shown at c.requires.edge
+prev-prev-requires c = rw length_shown at c.requires.edge
 
 pub set_face-requires : goal.set_face-requires
-set_face-requires c =
-    rw length_shown at c.requires.edge
+set_face-requires c = rw length_shown at c.requires.edge
 
 pub set_face-requires-2 : goal.set_face-requires-2
 set_face-requires-2 c =

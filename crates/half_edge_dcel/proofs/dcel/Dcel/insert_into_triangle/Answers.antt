@@ -7,7 +7,7 @@ use Rattle.half_edge_dcel.proofs.dcel.Dcel.insert_into_triangle.Goals as goal
 
 pub returns-clause-edges : goal.returns-clause-edges
 returns-clause-edges g c =
-    let named = rw (← c.self.view_is, c.index.ensures) at c.face_edge-edge.ensures.value in
+    let named = rw c.index.ensures at c.face_edge-edge.ensures.value in
     let ends_are =
     rw (c.push_vertex-v.ensures.mesh, named, ← c.from_index.ensures) at
     c.insert_beside.ensures.inserts.ends in
@@ -17,13 +17,13 @@ returns-clause-edges g c =
 
 pub returns-clause-face : goal.returns-clause-face
 returns-clause-face g c =
-    let w = c.face_edge-edge.ensures.whole in
-    (w.valid.sound.faces c.args.triangle c.requires.inner
-    (rw w.fits.faces_fit at c.requires.within)).1
+    let within = rw c.self.invariant.faces_fit at (rw (← c.self.view_is) at c.requires.within) in
+    rw (← c.self.view_is)
+    (c.face_edge-edge.ensures.sound.faces c.args.triangle c.requires.inner within).1
 
 pub returns-clause-links : goal.returns-clause-links
 returns-clause-links g c =
-    let named = rw (← c.self.view_is, c.index.ensures) at c.face_edge-edge.ensures.value in
+    let named = rw c.index.ensures at c.face_edge-edge.ensures.value in
     let put = rw
     (c.push_vertex-v.ensures.mesh, named, ← c.from_index.ensures) at c.insert_beside.ensures in
     rw (← c.self.view_is) (record {

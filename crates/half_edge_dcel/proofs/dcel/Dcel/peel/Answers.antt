@@ -1,4 +1,4 @@
-use Rattle.std.proofs.Common.{◌≡◌, ◌-◌, ◌/◌, arith}
+use Rattle.std.proofs.Common.{◌-◌, ◌/◌, arith}
 use Rattle.half_edge_links.specs.Mesh.{Mesh, face}
 use Rattle.half_edge_dcel.proofs.TakenEdges.{loses_edge, loses_face_at}
 use Rattle.half_edge_dcel.proofs.TakenOut.{takes_out}
@@ -9,10 +9,8 @@ swap_remove-requires g c =
     let m : Mesh = c.self.inside.links.mesh in
     let fits = c.self.invariant.faces_fit in
     let can = rw (← c.self.view_is) at c.requires in
-    let is : c.left_face.result ≡ face m c.args.edge =
-    rw (← c.self.view_is) at c.left_face.ensures.value in
     let inside = (c.peel-spoke.ensures.sound.edges c.args.edge can.within).face_in in
-    rw is (omega (arith, fits, can.inner, inside))
+    rw c.face.ensures.value (omega (arith, fits, can.inner, inside))
 
 pub returns-clause-edges : goal.returns-clause-edges
 returns-clause-edges g c =
@@ -33,14 +31,12 @@ returns-clause-faces g c =
     let m : Mesh = c.self.inside.links.mesh in
     let fit = c.self.invariant in
     let can = rw (← c.self.view_is) at c.requires in
-    let is : c.left_face.result ≡ face m c.args.edge =
-    rw (← c.self.view_is) at c.left_face.ensures.value in
     let inside = (c.peel-spoke.ensures.sound.edges c.args.edge can.within).face_in in
     rw (← c.self.view_is) (loses_face_at m c.peel-spoke.new.self.mesh c.self.inside.faces.items
     c.swap_remove.new.self.items c.args.edge c.swap_remove.result c.peel-spoke.ensures.sound
     fit.faces_fit can.within can.inner
-    (rw is at c.swap_remove.ensures.value) c.peel-spoke.ensures.peels.corners
-    (rw (c.swap_remove.ensures.items, is) (takes_out c.self.inside.faces.items (face m c.args.edge
+    (rw c.face.ensures.value at c.swap_remove.ensures.value) c.peel-spoke.ensures.peels.corners
+    (rw (c.swap_remove.ensures.items, c.face.ensures.value) (takes_out c.self.inside.faces.items (face m c.args.edge
     - 1) c.swap_remove.result (omega (arith, fit.faces_fit, can.inner, inside)))))
 
 pub returns-clause-outline : goal.returns-clause-outline

@@ -1,12 +1,11 @@
 use Rattle.std.proofs.Common.{◌≡◌, refl, length, arith}
-use Rattle.half_edge_links.proofs.Views.{mesh_in}
+use Rattle.half_edge_links.proofs.Views.{mesh_in, linked}
 use Rattle.half_edge_links.specs.Mesh.{Mesh}
 use Rattle.half_edge_links.specs.Grow.{closed}
 use Rattle.half_edge_links.proofs.Sound.Valid.{valid_as, valid_closed}
 use Rattle.half_edge_links.proofs.Growing.Grown.{closes_corner}
 use Rattle.half_edge_links.proofs.Stored.Shown.{length_shown}
 use Rattle.half_edge_links.proofs.Stored.Joined.{joined_sound}
-use Rattle.half_edge_links.proofs.Stored.Within.{linked_in}
 use Rattle.half_edge_links.proofs.links.Links.close.Goals as goal
 
 pub overflow_cast-n : goal.overflow_cast-n
@@ -26,29 +25,24 @@ overflow_add-g g c =
 
 pub next-second-requires : goal.next-second-requires
 next-second-requires g c =
-    let p = linked_in c.self.inside.half_edges.items (joined_sound (mesh_in c.self.inside)
-    c.self.invariant.sound) (rw (← c.self.view_is) at c.requires.closable).within in
-    p.edge
+    let can = rw (← c.self.view_is) at c.requires.closable in
+    (linked c.self.inside c.self.invariant can.within).edge
 
 pub next-after-requires : goal.next-after-requires
 next-after-requires g c =
-    let p = linked_in c.self.inside.half_edges.items (joined_sound (mesh_in c.self.inside)
-    c.self.invariant.sound) (rw (← c.self.view_is) at c.requires.closable).within in
-    rw c.next-second.ensures p.next
+    let can = rw (← c.self.view_is) at c.requires.closable in
+    rw c.next-second.ensures (linked c.self.inside c.self.invariant can.within).next
 
 pub close_edges-requires-clause-joined : goal.close_edges-requires-clause-joined
-close_edges-requires-clause-joined g c =
-    joined_sound (mesh_in c.self.inside) c.self.invariant.sound
+close_edges-requires-clause-joined g c = joined_sound _ c.self.invariant.sound
 
 pub close_edges-requires-clause-within : goal.close_edges-requires-clause-within
 close_edges-requires-clause-within g c =
-    let p = linked_in c.self.inside.half_edges.items (joined_sound (mesh_in c.self.inside)
-    c.self.invariant.sound) (rw (← c.self.view_is) at c.requires.closable).within in
-    p.edge
+    let can = rw (← c.self.view_is) at c.requires.closable in
+    (linked c.self.inside c.self.invariant can.within).edge
 
 pub close_edges-requires-clause-after : goal.close_edges-requires-clause-after
-close_edges-requires-clause-after g c =
-    rw (c.next-after.ensures, c.next-second.ensures) refl
+close_edges-requires-clause-after g c = rw (c.next-after.ensures, c.next-second.ensures) refl
 
 pub close_edges-requires-clause-room : goal.close_edges-requires-clause-room
 close_edges-requires-clause-room g c =
@@ -74,8 +68,7 @@ returns-clause-rest g c =
     (record { values = refl; room = refl })
 
 pub returns-clause-sound : goal.returns-clause-sound
-returns-clause-sound g c =
-    rw (← c.self.view_is) c.self.invariant.sound
+returns-clause-sound g c = rw (← c.self.view_is) c.self.invariant.sound
 
 pub returns-clause-mesh : goal.returns-clause-mesh
 unfolding closed
@@ -94,7 +87,7 @@ invariant_of-self g c =
 
 pub returns-clause-closes : goal.returns-clause-closes
 returns-clause-closes g c =
-    rw (← c.self.view_is) (closes_corner (mesh_in c.self.inside) _ c.args.e c.self.invariant.sound
+    rw (← c.self.view_is) (closes_corner _ _ _ c.self.invariant.sound
     (rw (← c.self.view_is) at c.requires.closable)
     (rw (← c.self.view_is) at (returns-clause-mesh g c)))
 

@@ -1,10 +1,10 @@
 use Rattle.std.proofs.Common.{refl, ap, arith, ◌∙◌}
-use Rattle.half_edge_links.proofs.Views.{mesh_in}
+use Rattle.half_edge_links.proofs.Views.{mesh_in, linked}
 use Rattle.half_edge_links.specs.Mesh.{Mesh, origin, rev}
 use Rattle.half_edge_links.proofs.Lists.Rev.{rev-rev}
 use Rattle.half_edge_links.specs.Flip.{flip_by, flipped}
 use Rattle.half_edge_links.proofs.Sound.Triangles.{triangle_at, six_round}
-use Rattle.half_edge_links.proofs.Stored.Joined.{joined_sound, kept_in, loop_of_three}
+use Rattle.half_edge_links.proofs.Stored.Joined.{joined_sound, loop_of_three}
 use Rattle.half_edge_links.proofs.Faces.FlipLemmas.{flips_is}
 use Rattle.half_edge_links.proofs.Removing.Conditions.{turns_between}
 use Rattle.half_edge_links.proofs.Sound.Valid.{valid_as, valid_flipped}
@@ -17,9 +17,7 @@ use Rattle.half_edge_links.proofs.links.Links.flip.Goals as goal
 
 pub set_out_edge-requires-2 : goal.set_out_edge-requires-2
 set_out_edge-requires-2 g c =
-    let can =
-    turns_between (mesh_in c.self.inside) c.args.e c.self.invariant (rw (← c.self.view_is) at
-    c.requires.between) in
+    let can = turns_between _ _ c.self.invariant (rw (← c.self.view_is) at c.requires.between) in
     let six = six_round (mesh_in c.self.inside) c.args.e c.self.invariant.sound can in
     record {
       vertex = rw (c.set_out_edge.ensures, c.get-twin.ensures, c.reversed-t.ensures)
@@ -28,27 +26,19 @@ set_out_edge-requires-2 g c =
     }
 
 pub overflow_cast-edge : goal.overflow_cast-edge
-overflow_cast-edge g c =
-    omega arith
+overflow_cast-edge g c = omega arith
 
 pub overflow_cast-twin : goal.overflow_cast-twin
-overflow_cast-twin g c =
-    omega arith
+overflow_cast-twin g c = omega arith
 
 pub overflow_sub-edge : goal.overflow_sub-edge
 overflow_sub-edge g c =
-    let can =
-    turns_between (mesh_in c.self.inside) c.args.e c.self.invariant (rw (← c.self.view_is) at
-    c.requires.between) in
-    let six = six_round (mesh_in c.self.inside) c.args.e c.self.invariant.sound can in
+    let can = turns_between _ _ c.self.invariant (rw (← c.self.view_is) at c.requires.between) in
     rw c.get-edge.ensures can.inner
 
 pub overflow_sub-twin : goal.overflow_sub-twin
 overflow_sub-twin g c =
-    let can =
-    turns_between (mesh_in c.self.inside) c.args.e c.self.invariant (rw (← c.self.view_is) at
-    c.requires.between) in
-    let six = six_round (mesh_in c.self.inside) c.args.e c.self.invariant.sound can in
+    let can = turns_between _ _ c.self.invariant (rw (← c.self.view_is) at c.requires.between) in
     rw (c.get-twin.ensures, c.reversed-t.ensures) can.twin_inner
 
 pub returns-clause-rest : goal.returns-clause-rest
@@ -62,33 +52,24 @@ returns-clause-rest g c =
     (record { values = refl; room = refl })
 
 pub returns-clause-sound : goal.returns-clause-sound
-returns-clause-sound g c =
-    rw (← c.self.view_is) c.self.invariant.sound
+returns-clause-sound g c = rw (← c.self.view_is) c.self.invariant.sound
 
 pub get-edge-requires : goal.get-edge-requires
 get-edge-requires g c =
-    let m : Mesh = mesh_in c.self.inside in
     let can = rw (← c.self.view_is) at c.requires.between in
-    let k = kept_in c.self.inside.half_edges.items c.args.e
-    (joined_sound m c.self.invariant.sound) can.within in
-    record { within = k.0; next_within = k.1 }
+    assumption (linked c.self.inside c.self.invariant can.within)
 
 pub get-twin-requires : goal.get-twin-requires
 get-twin-requires g c =
-    let m : Mesh = mesh_in c.self.inside in
-    let s = c.self.invariant.sound in
-    let can =
-    turns_between m c.args.e c.self.invariant (rw (← c.self.view_is) at c.requires.between) in
-    let k = kept_in c.self.inside.half_edges.items (rev c.args.e) (joined_sound m s)
-    (six_round m c.args.e s can).b_in in
-    rw c.reversed-t.ensures (record { within = k.0; next_within = k.1 })
+    let can = turns_between _ _ c.self.invariant (rw (← c.self.view_is) at c.requires.between) in
+    let six = six_round _ _ c.self.invariant.sound can in
+    rw c.reversed-t.ensures (assumption (linked c.self.inside c.self.invariant six.b_in))
 
 pub turn_edges-requires : goal.turn_edges-requires
 turn_edges-requires g c =
     let m : Mesh = mesh_in c.self.inside in
     let s = c.self.invariant.sound in
-    let can =
-    turns_between m c.args.e c.self.invariant (rw (← c.self.view_is) at c.requires.between) in
+    let can = turns_between _ _ c.self.invariant (rw (← c.self.view_is) at c.requires.between) in
     let six = six_round m c.args.e s can in
     let left = triangle_at m c.args.e s can.within can.inner in
     let right = triangle_at m (rev c.args.e) s six.b_in can.twin_inner in
@@ -103,10 +84,8 @@ turn_edges-requires g c =
 
 pub set_out_edge-requires : goal.set_out_edge-requires
 set_out_edge-requires g c =
-    let m : Mesh = mesh_in c.self.inside in
-    let can =
-    turns_between m c.args.e c.self.invariant (rw (← c.self.view_is) at c.requires.between) in
-    let six = six_round m c.args.e c.self.invariant.sound can in
+    let can = turns_between _ _ c.self.invariant (rw (← c.self.view_is) at c.requires.between) in
+    let six = six_round _ _ c.self.invariant.sound can in
     record {
       vertex = rw c.get-edge.ensures (c.self.invariant.sound.edges _ can.within).origin_in;
       nameable = rw (c.get-twin.ensures, c.reversed-t.ensures)
@@ -120,18 +99,15 @@ returns-clause-mesh g c =
 
 pub invariant_of-self : goal.invariant_of-self
 invariant_of-self g c =
-    let m : Mesh = mesh_in c.self.inside in
-    let can =
-    turns_between m c.args.e c.self.invariant (rw (← c.self.view_is) at c.requires.between) in
+    let can = turns_between _ _ c.self.invariant (rw (← c.self.view_is) at c.requires.between) in
     valid_as _ _ (rw (← c.self.view_is) at (returns-clause-mesh g c))
-    (valid_flipped m c.args.e c.self.invariant can (rw (← c.self.view_is) at c.requires.corners))
+    (valid_flipped _ _ c.self.invariant can (rw (← c.self.view_is) at c.requires.corners))
 
 pub returns-clause-flips : goal.returns-clause-flips
 returns-clause-flips g c =
     let m : Mesh = mesh_in c.self.inside in
     let s = c.self.invariant.sound in
-    let can =
-    turns_between m c.args.e c.self.invariant (rw (← c.self.view_is) at c.requires.between) in
+    let can = turns_between _ _ c.self.invariant (rw (← c.self.view_is) at c.requires.between) in
     let is = rw (← c.self.view_is) at (returns-clause-mesh g c) in
     let links = flips_is m _ c.args.e s can is in
     rw (← c.self.view_is) (record {

@@ -1,11 +1,10 @@
 use Rattle.std.proofs.Common.{◌≡◌, refl, length, arith}
-use Rattle.half_edge_links.proofs.Views.{mesh_in}
+use Rattle.half_edge_links.proofs.Views.{mesh_in, linked}
 use Rattle.half_edge_links.specs.Grow.{hung}
 use Rattle.half_edge_links.proofs.Sound.Valid.{valid_as, valid_hung}
 use Rattle.half_edge_links.proofs.Growing.Grown.{hangs_edge}
 use Rattle.half_edge_links.proofs.Stored.Shown.{length_shown}
 use Rattle.half_edge_links.proofs.Stored.Joined.{joined_sound}
-use Rattle.half_edge_links.proofs.Stored.Within.{linked_in}
 use Rattle.half_edge_links.proofs.links.Links.hang.Goals as goal
 
 pub overflow_cast-n : goal.overflow_cast-n
@@ -15,13 +14,12 @@ overflow_cast-n g c =
 
 pub hang_edges-requires : goal.hang_edges-requires
 hang_edges-requires g c =
-    let p = linked_in c.self.inside.half_edges.items (joined_sound (mesh_in c.self.inside)
-    c.self.invariant.sound) (rw (← c.self.view_is) at c.requires.outer).0 in
+    let outer = rw (← c.self.view_is) at c.requires.outer in
     let room = rw (← c.self.view_is) at c.requires.edge_room in
     let kept = length_shown c.self.inside.half_edges.items in
     record {
       joined = joined_sound (mesh_in c.self.inside) c.self.invariant.sound;
-      within = p.edge;
+      within = (linked c.self.inside c.self.invariant outer.0).edge;
       room = omega arith;
       small = omega arith;
     }
@@ -47,8 +45,7 @@ returns-clause-rest g c =
     (record { values = refl; room = refl })
 
 pub returns-clause-sound : goal.returns-clause-sound
-returns-clause-sound g c =
-    rw (← c.self.view_is) c.self.invariant.sound
+returns-clause-sound g c = rw (← c.self.view_is) c.self.invariant.sound
 
 pub returns-clause-mesh : goal.returns-clause-mesh
 unfolding hung

@@ -43,8 +43,7 @@ fan_edges-requires g c =
     }
 
 pub overflow_cast-first : goal.overflow_cast-first
-overflow_cast-first g c =
-    omega arith
+overflow_cast-first g c = omega arith
 
 pub overflow_sub-first : goal.overflow_sub-first
 overflow_sub-first g c =
@@ -77,8 +76,7 @@ returns-clause-rest g c =
     (record { values = refl; room = refl })
 
 pub returns-clause-valid : goal.returns-clause-valid
-returns-clause-valid g c =
-    rw (← c.self.view_is) c.self.invariant
+returns-clause-valid g c = rw (← c.self.view_is) c.self.invariant
 
 pub returns-clause-mesh : goal.returns-clause-mesh
 unfolding inserted insert_by

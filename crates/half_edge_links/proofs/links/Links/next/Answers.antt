@@ -6,9 +6,7 @@ next-requires g c =
     rw (← length_shown c.self.inside.half_edges.items) (rw (← c.self.view_is) at c.requires)
 
 pub returns-clause-value : goal.returns-clause-value
-returns-clause-value g c =
-    rw (← c.self.view_is) c.next.ensures
+returns-clause-value g c = rw (← c.self.view_is) c.next.ensures
 
 pub returns-clause-valid : goal.returns-clause-valid
-returns-clause-valid g c =
-    rw (← c.self.view_is) c.self.invariant
+returns-clause-valid g c = rw (← c.self.view_is) c.self.invariant

@@ -1,13 +1,11 @@
 use Rattle.std.proofs.Common.{refl, arith}
-use Rattle.half_edge_links.proofs.Views.{mesh_in}
-use Rattle.half_edge_links.specs.Mesh.{Mesh}
+use Rattle.half_edge_links.proofs.Views.{mesh_in, linked}
 use Rattle.half_edge_links.specs.Pass.{passed}
 use Rattle.half_edge_links.proofs.Growing.Passing.{beside, passed_places, passes}
 use Rattle.half_edge_links.proofs.Growing.Passing.{valid_passed, ends_passed_is, outline_passed}
 use Rattle.half_edge_links.proofs.Stored.Shown.{length_shown}
 use Rattle.half_edge_links.proofs.Sound.Valid.{valid_as}
 use Rattle.half_edge_links.proofs.Stored.Joined.{joined_sound}
-use Rattle.half_edge_links.proofs.Stored.Within.{linked_in}
 use Rattle.half_edge_links.proofs.links.Links.pass.Goals as goal
 
 pub next-l-requires : goal.next-l-requires
@@ -17,22 +15,18 @@ next-l-requires g c =
 
 pub prev-z-requires : goal.prev-z-requires
 prev-z-requires g c =
-    let b = beside (mesh_in c.self.inside) c.args.e c.self.invariant.sound (rw (← c.self.view_is)
-    at c.requires) in
+    let b = beside _ _ c.self.invariant.sound (rw (← c.self.view_is) at c.requires) in
     rw (c.prev-k.ensures, c.reversed-t.ensures, ← length_shown c.self.inside.half_edges.items)
     b.there_in
 
 pub origin-passed-requires : goal.origin-passed-requires
 origin-passed-requires g c =
-    let b = beside (mesh_in c.self.inside) c.args.e c.self.invariant.sound (rw (← c.self.view_is)
-    at c.requires) in
-    rw c.next-l.ensures (assumption (linked_in c.self.inside.half_edges.items
-    (joined_sound (mesh_in c.self.inside) c.self.invariant.sound) b.back_in))
+    let b = beside _ _ c.self.invariant.sound (rw (← c.self.view_is) at c.requires) in
+    rw c.next-l.ensures (assumption (linked c.self.inside c.self.invariant b.back_in))
 
 pub set_out_edge-requires : goal.set_out_edge-requires
 set_out_edge-requires g c =
-    let b = beside (mesh_in c.self.inside) c.args.e c.self.invariant.sound (rw (← c.self.view_is)
-    at c.requires) in
+    let b = beside _ _ c.self.invariant.sound (rw (← c.self.view_is) at c.requires) in
     let small = c.self.invariant.small in
     record {
       vertex = rw (c.origin-passed.ensures, c.next-l.ensures)
@@ -46,33 +40,29 @@ returns-clause-rest g c =
     (record { values = refl; room = refl })
 
 pub returns-clause-sound : goal.returns-clause-sound
-returns-clause-sound g c =
-    rw (← c.self.view_is) c.self.invariant.sound
+returns-clause-sound g c = rw (← c.self.view_is) c.self.invariant.sound
 
 pub prev-k-requires : goal.prev-k-requires
 prev-k-requires g c =
-    let m : Mesh = mesh_in c.self.inside in
-    let t = beside m c.args.e c.self.invariant.sound (rw (← c.self.view_is) at c.requires) in
+    let t = beside _ _ c.self.invariant.sound (rw (← c.self.view_is) at c.requires) in
     rw (c.reversed-t.ensures, ← length_shown c.self.inside.half_edges.items) t.twin_in
 
 pub pass_edges-requires : goal.pass_edges-requires
 pass_edges-requires g c =
-    let m : Mesh = mesh_in c.self.inside in
     record {
-      joined = joined_sound (mesh_in c.self.inside) c.self.invariant.sound;
+      joined = joined_sound _ c.self.invariant.sound;
       places = rw (c.prev-z.ensures, c.prev-k.ensures, c.next-l.ensures, c.reversed-t.ensures)
-          (passed_places m c.args.e c.self.invariant.sound (rw (← c.self.view_is) at c.requires));
+          (passed_places _ _ c.self.invariant.sound (rw (← c.self.view_is) at c.requires));
     }
 
 pub returns-clause-mesh : goal.returns-clause-mesh
 unfolding passed
-returns-clause-mesh g c =
-    rw (← c.self.view_is, c.set_out_edge.ensures) (cc)
+returns-clause-mesh g c = rw (← c.self.view_is, c.set_out_edge.ensures) (cc)
 
 pub invariant_of-self : goal.invariant_of-self
 invariant_of-self g c =
-    valid_as _ _ (rw (← c.self.view_is) at (returns-clause-mesh g c)) (valid_passed
-    (mesh_in c.self.inside) c.args.e c.self.invariant (rw (← c.self.view_is) at c.requires))
+    valid_as _ _ (rw (← c.self.view_is) at (returns-clause-mesh g c))
+    (valid_passed _ _ c.self.invariant (rw (← c.self.view_is) at c.requires))
 
 pub returns-clause-links : goal.returns-clause-links
 returns-clause-links g c =

@@ -9,8 +9,7 @@ stored-requires g c =
     rw (← length_shown c.self.inside.half_edges.items) (rw (← c.self.view_is) at c.requires)
 
 pub returns-clause-valid : goal.returns-clause-valid
-returns-clause-valid g c =
-    rw (← c.self.view_is) c.self.invariant
+returns-clause-valid g c = rw (← c.self.view_is) c.self.invariant
 
 pub returns-clause-value : goal.returns-clause-value
 returns-clause-value g c =

@@ -1,13 +1,11 @@
 use Rattle.std.proofs.Common.{refl, arith}
-use Rattle.half_edge_links.proofs.Views.{mesh_in}
-use Rattle.half_edge_links.specs.Mesh.{Mesh}
+use Rattle.half_edge_links.proofs.Views.{linked}
 use Rattle.half_edge_links.specs.Grow.{slid}
 use Rattle.half_edge_links.proofs.Sound.Valid.{valid_as, valid_slid}
 use Rattle.half_edge_links.proofs.Growing.Slide.{tail, slid_places, slides}
 use Rattle.half_edge_links.proofs.Growing.Slide.{outline_slid, ends_slid}
 use Rattle.half_edge_links.proofs.Stored.Shown.{length_shown}
 use Rattle.half_edge_links.proofs.Stored.Joined.{joined_sound}
-use Rattle.half_edge_links.proofs.Stored.Within.{linked_in}
 use Rattle.half_edge_links.proofs.links.Links.slide.Goals as goal
 
 pub next-k-requires : goal.next-k-requires
@@ -17,15 +15,12 @@ next-k-requires g c =
 
 pub get-there-requires : goal.get-there-requires
 get-there-requires g c =
-    let b = tail (mesh_in c.self.inside) c.args.e c.self.invariant.sound (rw (← c.self.view_is) at
-    c.requires) in
-    rw c.next-k.ensures (assumption (linked_in c.self.inside.half_edges.items
-    (joined_sound (mesh_in c.self.inside) c.self.invariant.sound) b.there_in))
+    let b = tail _ _ c.self.invariant.sound (rw (← c.self.view_is) at c.requires) in
+    rw c.next-k.ensures (assumption (linked c.self.inside c.self.invariant b.there_in))
 
 pub set_out_edge-requires : goal.set_out_edge-requires
 set_out_edge-requires g c =
-    let b = tail (mesh_in c.self.inside) c.args.e c.self.invariant.sound (rw (← c.self.view_is) at
-    c.requires) in
+    let b = tail _ _ c.self.invariant.sound (rw (← c.self.view_is) at c.requires) in
     let small = c.self.invariant.small in
     record {
       vertex = rw (c.get-there.ensures, c.next-k.ensures)
@@ -39,47 +34,43 @@ returns-clause-rest g c =
     (record { values = refl; room = refl })
 
 pub returns-clause-sound : goal.returns-clause-sound
-returns-clause-sound g c =
-    rw (← c.self.view_is) c.self.invariant.sound
+returns-clause-sound g c = rw (← c.self.view_is) c.self.invariant.sound
 
 pub prev-z-requires : goal.prev-z-requires
 prev-z-requires g c =
-    let m : Mesh = mesh_in c.self.inside in
-    let t = tail m c.args.e c.self.invariant.sound (rw (← c.self.view_is) at c.requires) in
+    let t = tail _ _ c.self.invariant.sound (rw (← c.self.view_is) at c.requires) in
     rw (c.reversed-t.ensures, ← length_shown c.self.inside.half_edges.items) t.twin_in
 
 pub slide_edges-requires : goal.slide_edges-requires
 slide_edges-requires g c =
-    let m : Mesh = mesh_in c.self.inside in
     record {
-      joined = joined_sound (mesh_in c.self.inside) c.self.invariant.sound;
+      joined = joined_sound _ c.self.invariant.sound;
       places = rw (c.prev-z.ensures, c.get-there.ensures, c.next-k.ensures, c.reversed-t.ensures)
-          (slid_places m c.args.e c.self.invariant.sound (rw (← c.self.view_is) at c.requires));
+          (slid_places _ _ c.self.invariant.sound (rw (← c.self.view_is) at c.requires));
     }
 
 pub returns-clause-mesh : goal.returns-clause-mesh
 unfolding slid
-returns-clause-mesh g c =
-    rw (← c.self.view_is, c.set_out_edge.ensures) (cc)
+returns-clause-mesh g c = rw (← c.self.view_is, c.set_out_edge.ensures) (cc)
 
 pub invariant_of-self : goal.invariant_of-self
 invariant_of-self g c =
-    valid_as _ _ (rw (← c.self.view_is) at (returns-clause-mesh g c)) (valid_slid
-    (mesh_in c.self.inside) c.args.e c.self.invariant (rw (← c.self.view_is) at c.requires))
+    valid_as _ _ (rw (← c.self.view_is) at (returns-clause-mesh g c))
+    (valid_slid _ _ c.self.invariant (rw (← c.self.view_is) at c.requires))
 
 pub returns-clause-links : goal.returns-clause-links
 returns-clause-links g c =
-    rw (returns-clause-mesh g c, ← c.self.view_is) (slides (mesh_in c.self.inside) c.args.e
-    c.self.invariant.sound (rw (← c.self.view_is) at c.requires))
+    rw (returns-clause-mesh g c, ← c.self.view_is)
+    (slides _ _ c.self.invariant.sound (rw (← c.self.view_is) at c.requires))
 
 pub returns-clause-ends : goal.returns-clause-ends
 returns-clause-ends g c =
-    rw (← c.self.view_is) (ends_slid (mesh_in c.self.inside) _ c.args.e c.self.invariant.sound
+    rw (← c.self.view_is) (ends_slid _ _ _ c.self.invariant.sound
     (rw (← c.self.view_is) at c.requires) (rw (← c.self.view_is) at (returns-clause-links g c)))
 
 pub returns-clause-outline : goal.returns-clause-outline
 returns-clause-outline g c =
-    rw (← c.self.view_is) (outline_slid (mesh_in c.self.inside) _ c.args.e c.self.invariant.sound
+    rw (← c.self.view_is) (outline_slid _ _ _ c.self.invariant.sound
     (rw (← c.self.view_is) at c.requires) (rw (← c.self.view_is) at (returns-clause-links g c)))
 
 pub returns-clause-valid : goal.returns-clause-valid

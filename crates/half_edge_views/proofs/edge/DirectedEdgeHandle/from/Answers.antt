@@ -1,4 +1,4 @@
 use Rattle.half_edge_views.proofs.edge.DirectedEdgeHandle.from.Goals as goal
 
 pub returns-clause-index : goal.returns-clause-index
-returns-clause-index g c = c.origin.ensures.value
+returns-clause-index g c = rw c.links.ensures.mesh at c.origin.ensures.value
