@@ -134,14 +134,12 @@ turned_by points constraints was m new ks more k start before after s e f x g o 
     one_more n = omega arith
 
 -- the turned edge is no constraint, so the constraints keep their ends
-pub fixed_stay : {U : Type 0} (constraints : List U → List ℕ) (points : List Point) (m new : Mesh)
-    (ds after : List U) (k : ℕ) → IsValidMesh m → IsMesh points (faces_of m) (outer_of m)
-    → (2 * k) < length m.half_edges → IsFailing points m (2 * k) → new ≡ flipped m (2 * k)
-    → after ≡ ds → ¬ Contains (constraints ds) k
-    → constraint_pairs constraints new after ≡ constraint_pairs constraints m ds
-fixed_stay {U = U} constraints points m new ds after k s shape within x e f free =
-    ap (λ (y : Mesh × List U). constraint_pairs constraints y.0 y.1) (λ i. (e i, f i))
-    ∙ M.pairs_stay points m s (M.local_of points m (2 * k) s.sound shape (within, x.inner)) k
+pub fixed_stay : {U : Type 0} (constraints : List U → List ℕ) (points : List Point) (m : Mesh)
+    (ds : List U) (k : ℕ) → IsValidMesh m → IsMesh points (faces_of m) (outer_of m)
+    → (2 * k) < length m.half_edges → IsFailing points m (2 * k) → ¬ Contains (constraints ds) k
+    → constraint_pairs constraints (flipped m (2 * k)) ds ≡ constraint_pairs constraints m ds
+fixed_stay constraints points m ds k s shape within x free =
+    M.pairs_stay points m s (M.local_of points m (2 * k) s.sound shape (within, x.inner)) k
     within x (constraints ds) free
 
 -- a flip of a failing edge leaves fewer steps, whatever edges are put on the list for it

@@ -21,6 +21,7 @@ pub mod Bits
 pub mod EdgeSets
 pub mod Legalizing
 pub mod WorkList
+pub mod Placing
 pub mod Stepping
 pub mod Flips
 -- The edges of a vertex, one after another.

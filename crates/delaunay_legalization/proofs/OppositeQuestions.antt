@@ -13,8 +13,8 @@ use Rattle.mesh_embedding.specs.plane_tiling.Local.{IsMesh}
 use Rattle.mesh_embedding.specs.Drawn.{faces_of, outer_of}
 use Rattle.mesh_embedding.specs.Legal.{IsFailing}
 use Rattle.delaunay_core.specs.Place.{place_of}
-use Rattle.delaunay_legalization.specs.Around.{IsListedAt, IsOpposite}
-use Rattle.delaunay_legalization.specs.Known.{point_at}
+use Rattle.delaunay_legalization.specs.Around.{IsOpposite}
+use Rattle.delaunay_legalization.specs.Known.{point_at, IsVertexSite}
 use Rattle.delaunay_legalization.specs.declared.around.Opposite.{Opposite}
 use Rattle.delaunay_legalization.proofs.Legalizing.{positive}
 use Rattle.delaunay_legalization.proofs.Questions.{both_ways}
@@ -75,8 +75,9 @@ opposite_inner points m s h n twin count within is_twin x = (
 -- what was read of the edge opposite the vertex at a centre tells whether it fails
 module _ {S : Type 0} (number : S → ℤ) (points : List Point) (m : Mesh) (valid : IsValidMesh m)
     (shape : IsMesh points (faces_of m) (outer_of m)) (h : ℕ) (within : h < length m.half_edges)
-    (it : Opposite S) (read : IsOpposite number points m h it) (centre : Point)
-    (at : IsListedAt points (origin m h) centre) where
+    (it : Opposite S) (IsSite : Point → Type 0)
+    (read : IsOpposite number IsSite points m h it) (centre : Point)
+    (at : IsVertexSite IsSite points (origin m h) centre) where
   read_inner : it.is_outer ≡ false → (0 < face m h) × (0 < face m (rev (next m h)))
   read_inner off = (
     positive (face m h) (λ z. both_ways _ (read.outer.1 (inl z)) off),

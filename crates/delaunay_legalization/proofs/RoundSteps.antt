@@ -1,11 +1,11 @@
 -- A legalization that goes round a vertex, from one of its edges to the next.
--- Notions: IsTurningRound, tests_left; turning_begins, h_in, centre_is, centre_listed, may_turn,
+-- Notions: IsTurningRound, tests_left; turning_begins, h_in, centre_is, turn_fits,
 -- turning_goes_on, fewer_turned, turning_goes_next, fewer_next, turning_ends, none_to_turn.
-use Rattle.std.proofs.Common.{◌≡◌, ◌≢◌, ℕ, suc, ◌+◌, ◌*◌, ◌/◌, ◌<◌, List, [], ◌∷◌, ◌++◌}
+use Rattle.std.proofs.Common.{◌≡◌, ◌≢◌, ℕ, suc, ◌+◌, ◌*◌, ◌/◌, ◌<◌, ◌^◌, List, [], ◌∷◌, ◌++◌}
 use Rattle.std.proofs.Common.{length, map, Option, Some, None, IsSome, IsNone, refl, sym, ap, ◌∙◌}
 use Rattle.std.proofs.Common.{subst, inl, inr, arith}
 use Rattle.std.specs.Prelude.{Contains}
-use Rattle.mesh_embedding.specs.half_edge_mesh.Contents.{Contents, IsMeshWithData}
+use Rattle.mesh_embedding.specs.half_edge_mesh.Contents.{Contents}
 use Rattle.mesh_embedding.specs.half_edge_mesh.Flip.{flipped}
 use Rattle.mesh_embedding.specs.half_edge_mesh.Mesh.{Mesh, IsValidMesh, origin, next, prev, rev}
 use Rattle.mesh_embedding.specs.half_edge_mesh.Mesh.{out_edge}
@@ -25,11 +25,13 @@ use Rattle.mesh_embedding.proofs.MeshLegal as M
 use Rattle.mesh_embedding.proofs.MeshStays.{halved}
 use Rattle.mesh_embedding.proofs.WorkLists.{last_or_before, once_after}
 use Rattle.delaunay_legalization.specs.declared.sides.Sides.TheVariants.{Round}
-use Rattle.delaunay_legalization.specs.Around.{CanGoRound, CanTurn, Stays, Turns}
+use Rattle.delaunay_legalization.specs.Around.{CanGoRound, Stays, Turns}
 use Rattle.delaunay_legalization.specs.Constraints.{constraint_pairs}
 use Rattle.delaunay_legalization.specs.Flips.{FlipsFit}
 use Rattle.delaunay_legalization.specs.Known.{point_at}
-use Rattle.delaunay_legalization.specs.Sides.{HasLegalized}
+use Rattle.delaunay_legalization.specs.Legalized.{Legalizes}
+use Rattle.delaunay_legalization.specs.Shape.{IsTriangulated}
+use Rattle.delaunay_legalization.specs.State.{state_of}
 use Rattle.delaunay_legalization.proofs.FarSides.{GainsFarSides, flip_keeps_empty, turned_far}
 use Rattle.delaunay_legalization.proofs.FarSides.{with_one}
 use Rattle.delaunay_legalization.proofs.Legalizing.{IsUnderway, edges_gained, half_within}
@@ -69,10 +71,13 @@ tests_left points m first h = 2 * lifted_volume points (faces_of m) + how_many_l
 module _ {V D U F : Type 0} (at : V → Point) (fix : List U → List ℕ) (was : Contents V D U F)
     (v first start : ℕ) where
   -- at first all of them
-  pub turning_begins : IsValidMesh was.mesh → CanGoRound at was v first start
+  pub turning_begins : IsTriangulated at (state_of was) → CanGoRound at was v first start
       → IsTurningRound at fix was was v first first start start
-  turning_begins s can = go (all_left was.mesh s v first can.named)
+  turning_begins kept can = go (all_left was.mesh s v first can.named)
     where
+      s : IsValidMesh was.mesh
+      s = kept.valid
+
       go : (gs : List ℕ) × AreNext was.mesh v first first gs × ((h : ℕ)
           → h < length was.mesh.half_edges → origin was.mesh h ≡ v → Contains (first ∷ gs) h)
           → IsTurningRound at fix was was v first first start start
@@ -85,17 +90,20 @@ module _ {V D U F : Type 0} (at : V → Point) (fix : List U → List ℕ) (was 
             first_starts = left.starts first (Contains-head first gs);
             ks = o.0;
             opposite = o.1.only;
-            underway = underway_begins fix (map at was.vertices) was o.0 0 start can.shape o.1.edges
-                (opposite_begins (map at was.vertices)
+            underway = underway_begins fix (map at was.vertices) was o.0 0 start kept.shape
+                o.1.edges (opposite_begins (map at was.vertices)
                 (constraint_pairs fix was.mesh was.undirected) was.mesh s.sound v
-                o.0 can.shape can.empty (λ h w e. o.1.all h (all h w e)));
+                o.0 kept.shape can.empty (λ h w e. o.1.all h (all h w e)));
             empty = can.empty;
           }
 
-  module _ (now : Contents V D U F) (h flips : ℕ) (s : IsValidMesh now.mesh)
+  module _ (now : Contents V D U F) (h flips : ℕ) (kept : IsTriangulated at (state_of now))
       (t : IsTurningRound at fix was now v first h start flips) where
     abbrev m : Mesh
     m = now.mesh
+
+    s : IsValidMesh m
+    s = kept.valid
 
     abbrev e : ℕ
     e = next m h
@@ -107,8 +115,7 @@ module _ {V D U F : Type 0} (at : V → Point) (fix : List U → List ℕ) (was 
     same_points = ap (λ (c : Contents V D U F). map at c.vertices) t.underway.contents
 
     shape : IsMesh points (faces_of m) (outer_of m)
-    shape =
-        subst (λ ps. IsMesh ps (faces_of m) (outer_of m)) (sym same_points) t.underway.legal.shape
+    shape = kept.shape
 
     empty : IsEmptyRound points (faces_of m) v
     empty = subst (λ ps. IsEmptyRound ps (faces_of m) v) (sym same_points) t.empty
@@ -124,10 +131,6 @@ module _ {V D U F : Type 0} (at : V → Point) (fix : List U → List ℕ) (was 
     pub centre_is : (q : Point) → q ≡ point_at (map at was.vertices) v
         → q ≡ point_at points (origin m h)
     centre_is q is = is ∙ (λ i. point_at (sym same_points i) (sym h_starts i))
-
-    -- and it is listed still
-    pub centre_listed : (q : Point) → Contains (map at was.vertices) q → Contains points q
-    centre_listed q c = subst (λ ps. Contains ps q) (sym same_points) c
 
     -- the edge opposite the vertex is one of the mesh
     e_in : e < length m.half_edges
@@ -186,15 +189,10 @@ module _ {V D U F : Type 0} (at : V → Point) (fix : List U → List ℕ) (was 
           | inr d ↦ (y.0, d, y.2)
         ]
 
-    -- the edge opposite may be tested and turned
-    pub may_turn : FlipsFit (length was.vertices) start → CanTurn points m h flips
-    may_turn fit = record {
-      within = h_in;
-      shape = shape;
-      fits = λ x. step_fits at fix was now (rest ++ e / 2 ∷ []) 0 0 start flips with_last rest
-          (e / 2) refl s fit
-          (failing_either points m s shape h h_in x);
-    }
+    -- a flip of the edge opposite can be counted
+    pub turn_fits : FlipsFit (length was.vertices) start → IsFailing points m e → flips + 1 < 2 ^ 64
+    turn_fits fit x = step_fits at fix was now (rest ++ e / 2 ∷ []) 0 0 start flips with_last rest
+        (e / 2) refl s fit (failing_either points m s shape h h_in x)
 
     -- ---- it was turned
     module _ (after : Contents V D U F) (flips_after : ℕ)
@@ -445,35 +443,31 @@ module _ {V D U F : Type 0} (at : V → Point) (fix : List U → List ℕ) (was 
               (how_many_left m first h)
               (length others) behind before)
 
-      -- back at the first edge, the mesh is legalized
-      pub turning_ends : (g : ℕ) → g ≡ turn after.mesh h → g ≡ first → IsMeshWithData after
-          → HasLegalized at fix was after start flips_after
-      turning_ends g is back whole = steps_end Round at fix was 0 start after rest 0 flips_after
-          (record {
-            underway = subst
-                (λ (y : Contents V D U F × ℕ). IsUnderway fix (map at was.vertices) was y.0 rest 0 0
-                start y.1)
-                same_state without_last;
-            suffice = tt;
-          }) whole (none_in rest (λ j c. let y = rest_behind j c in Contains-none y.0
+      -- back at the first edge, the triangulation is legalized
+      pub turning_ends : (g : ℕ) → g ≡ turn after.mesh h → g ≡ first
+          → Legalizes at fix was after start flips_after
+      turning_ends g is back =
+          subst (λ (y : Contents V D U F × ℕ). Legalizes at fix was y.0 start y.1) same_state
+          (steps_end Round at fix was 0 start now rest 0 flips
+          (record { underway = without_last; suffice = tt }) kept
+          (none_in rest (λ j c. let y = rest_behind j c in Contains-none y.0
           (subst (λ (xs : List ℕ). Contains xs y.0)
-          (none_behind m v first h t.behind t.left (sym (same_turn g is) ∙ back)) y.1)))
+          (none_behind m v first h t.behind t.left (sym (same_turn g is) ∙ back)) y.1))))
 
   -- a vertex without edges leaves nothing to test
-  pub none_to_turn : IsMeshWithData was
-      → IsMesh (map at was.vertices) (faces_of was.mesh) (outer_of was.mesh)
+  pub none_to_turn : IsTriangulated at (state_of was)
       → IsEmptyRound (map at was.vertices) (faces_of was.mesh) v → IsNone (out_edge was.mesh v)
-      → HasLegalized at fix was was start start
-  none_to_turn whole shape empty none = steps_end Round at fix was 0 start was [] 0 start (record {
-    underway = underway_begins fix (map at was.vertices) was [] 0 start shape (no_edges was.mesh)
-        (opposite_begins
+      → Legalizes at fix was was start start
+  none_to_turn kept empty none = steps_end Round at fix was 0 start was [] 0 start (record {
+    underway = underway_begins fix (map at was.vertices) was [] 0 start kept.shape
+        (no_edges was.mesh) (opposite_begins
         (map at was.vertices) (constraint_pairs fix was.mesh was.undirected) was.mesh
-        whole.valid.sound v [] shape empty
+        kept.valid.sound v [] kept.shape empty
         (λ h w is. absurd
         (neither (out_edge was.mesh v) none (subst (λ u. IsSome (out_edge was.mesh u)) is
-        (whole.valid.sound.edges h w).has_out))));
+        (kept.valid.sound.edges h w).has_out))));
     suffice = tt;
-  }) whole refl
+  }) kept refl
     where
       neither : (o : Option ℕ) → IsNone o → IsSome o → ⊥
       neither None n x = cc

@@ -1,18 +1,19 @@
 -- A legalization from its first work list to its end, by the sides of a turned edge that it leaves
 -- to test.
--- Notions: IsUnderwayBy; step_drops, step_turns, steps_begin, can_step, steps_go_on, steps_end,
--- triangulation_legalized.
+-- Notions: IsUnderwayBy; step_drops, step_turns, steps_begin, can_step, steps_go_on, steps_end.
 use Rattle.std.proofs.Common.{◌≡◌, ℕ, ◌+◌, ◌*◌, ◌<◌, ◌≤◌, List, [], ◌∷◌, ◌++◌}
 use Rattle.std.proofs.Common.{length, map, refl, sym, ap, subst, arith}
 use Rattle.std.proofs.lemmas.List.{length-append}
-use Rattle.mesh_embedding.specs.half_edge_mesh.Contents.{Contents, IsMeshWithData}
+use Rattle.mesh_embedding.specs.half_edge_mesh.Contents.{Contents}
 use Rattle.mesh_embedding.specs.half_edge_mesh.Flip.{flipped}
 use Rattle.mesh_embedding.specs.half_edge_mesh.Mesh.{Mesh, IsValidMesh, origin, rev}
+use Rattle.mesh_embedding.specs.plane.Delaunay.{IsLocallyDelaunay}
 use Rattle.mesh_embedding.specs.plane.Fraction.{Point}
 use Rattle.mesh_embedding.specs.plane.Pairs.{Joins}
 use Rattle.mesh_embedding.specs.plane_tiling.Local.{IsMesh}
-use Rattle.mesh_embedding.specs.Drawn.{faces_of, outer_of}
+use Rattle.mesh_embedding.specs.Drawn.{drawn, faces_of, outer_of}
 use Rattle.mesh_embedding.specs.Legal.{AreEdges, GainsRound, IsFailing, IsPartlyLegal}
+use Rattle.mesh_embedding.proofs.half_edge_links.Sound.Valid.{valid_flipped}
 use Rattle.mesh_embedding.proofs.MeshLegal.{dropped}
 use Rattle.mesh_embedding.proofs.WorkLists.{contains_last}
 use Rattle.delaunay_legalization.specs.declared.sides.Sides.{Sides}
@@ -21,15 +22,15 @@ use Rattle.delaunay_legalization.specs.Constraints.{constraint_pairs}
 use Rattle.delaunay_legalization.specs.Flips.{FlipsFit}
 use Rattle.delaunay_legalization.specs.Legalized.{Legalizes}
 use Rattle.delaunay_legalization.specs.Shape.{IsTriangulated}
-use Rattle.delaunay_legalization.specs.Sides.{Suffice, GainsSides, CanStep, HasStepped, CanLegalize}
-use Rattle.delaunay_legalization.specs.Sides.{HasLegalized}
+use Rattle.delaunay_legalization.specs.Sides.{AreLeftToTest, CanStep, GainsSides, HasStepped}
+use Rattle.delaunay_legalization.specs.Sides.{Suffice}
 use Rattle.delaunay_legalization.specs.State.{state_of}
 use Rattle.delaunay_legalization.proofs.AmongSteps.{six, moves, only_stay, legal_among}
 use Rattle.delaunay_legalization.proofs.Legalizing.{IsUnderway, underway_begins, step_fits}
 use Rattle.delaunay_legalization.proofs.Legalizing.{step_kept}
 use Rattle.delaunay_legalization.proofs.Legalizing.{underway_ends, underway_counts, underway_keeps}
 use Rattle.delaunay_legalization.proofs.Legalizing.{turned_by, fewer_by}
-use Rattle.delaunay_legalization.proofs.WorkList.{legalized}
+use Rattle.delaunay_legalization.proofs.Legalizing.{failing_apart, failing_flippable}
 
 -- ---- one step
 module _ (points : List Point) (m : Mesh) (s : IsValidMesh m) (shape : IsMesh points (faces_of m)
@@ -52,7 +53,8 @@ module _ (points : List Point) (m : Mesh) (s : IsValidMesh m) (shape : IsMesh po
       (only_stay points m s shape e within x es.now.items enough) g own legal
 
 module _ (sides : Sides) (points : List Point) (constraints : List (ℕ × ℕ)) (m : Mesh) (s :
-    IsValidMesh m) (ks : List ℕ) (k before : ℕ) (can : CanStep sides points m ks k before) where
+    IsValidMesh m) (shape : IsMesh points (faces_of m) (outer_of m)) (ks : List ℕ) (k before : ℕ)
+    (can : CanStep sides points m ks k before) where
   last_within : (2 * k) < length m.half_edges
   last_within = can.edges.within k (contains_last ks k)
 
@@ -70,21 +72,20 @@ module _ (sides : Sides) (points : List Point) (constraints : List (ℕ × ℕ))
       less q a b e = omega (arith, e)
 
   -- one that fails is turned and counted, and the sides that it leaves are in the work list
-  pub step_turns : (new : Mesh) → IsValidMesh new → (more : List ℕ) (after : ℕ)
-      → new ≡ flipped m (2 * k) → after ≡ before + 1 → IsFailing points m (2 * k)
+  pub step_turns : (more : List ℕ) → IsFailing points m (2 * k)
       → GainsSides sides m (2 * k) ks more → AreEdges m more
-      → HasStepped sides points constraints m new (ks ++ k ∷ []) more before after
-  step_turns new valid more after e f x g own = record {
-    legal = λ was start p. subst
-        (λ (y : Mesh). IsPartlyLegal points constraints was y more start after) (sym e)
-        (left_by points m s can.shape (2 * k) last_within x constraints was
-        (subst IsValidMesh e valid) start after ks
-        more sides can.suffice g own (λ all round edges.
-        turned_by points constraints was m
-        (flipped m (2 * k)) ks all k start before after s refl f x round edges p));
-    suffice = subst (Suffice sides points) (sym e)
-        (suffice_still points m s can.shape (2 * k) last_within x sides can.suffice);
-    fewer = fewer_by points m new ks more k s can.shape e x can.edges own;
+      → HasStepped sides points constraints m (flipped m (2 * k)) (ks ++ k ∷ []) more before
+      (before + 1)
+  step_turns more x g own = record {
+    legal = λ was start p. left_by points m s shape (2 * k) last_within x constraints was
+        (valid_flipped m (2 * k) s
+        (failing_flippable points m s shape (2 * k) (length m.half_edges) refl last_within x)
+        (failing_apart points m s shape (2 * k) (length m.half_edges) refl last_within x))
+        start (before + 1) ks more sides can.suffice g own
+        (λ all round edges. turned_by points constraints was m
+        (flipped m (2 * k)) ks all k start before (before + 1) s refl refl x round edges p);
+    suffice = suffice_still points m s shape (2 * k) last_within x sides can.suffice;
+    fewer = fewer_by points m (flipped m (2 * k)) ks more k s shape refl x can.edges own;
   }
 
 -- ---- all steps
@@ -97,12 +98,14 @@ pub record IsUnderwayBy {V D U F : Type 0} (sides : Sides) (at : V → Point) (f
 module _ {V D U F : Type 0} (sides : Sides) (at : V → Point) (fix : List U → List ℕ)
     (was : Contents V D U F) (room_was start : ℕ) where
   -- at first the edges of the work list are left
-  pub steps_begin : (ks : List ℕ) → CanLegalize at fix sides was ks start
+  pub steps_begin : (ks : List ℕ) → IsMesh (map at was.vertices) (faces_of was.mesh)
+      (outer_of was.mesh) → AreLeftToTest at fix was ks
+      → Suffice sides (map at was.vertices) was.mesh
       → IsUnderwayBy sides at fix was was ks room_was room_was start start
-  steps_begin ks can = record {
+  steps_begin ks shape left suffice = record {
     underway = underway_begins fix
-        (map at was.vertices) was ks room_was start can.shape can.left.edges can.left.passing;
-    suffice = can.suffice;
+        (map at was.vertices) was ks room_was start shape left.edges left.passing;
+    suffice = suffice;
   }
 
   module _ (now : Contents V D U F) (all : List ℕ) (room flips : ℕ)
@@ -115,8 +118,6 @@ module _ {V D U F : Type 0} (sides : Sides) (at : V → Point) (fix : List U →
       pub can_step : IsValidMesh now.mesh → FlipsFit (length was.vertices) start
           → CanStep sides (map at now.vertices) now.mesh ks k flips
       can_step s fit = record {
-        shape = subst (λ ps. IsMesh ps (faces_of now.mesh) (outer_of now.mesh)) (sym same_points)
-            u.underway.legal.shape;
         suffice = subst (λ ps. Suffice sides ps now.mesh) (sym same_points) u.suffice;
         edges = subst (AreEdges now.mesh) popped u.underway.legal.edges;
         fits = step_fits at fix was now all room_was room start flips u.underway ks k popped s fit;
@@ -136,32 +137,24 @@ module _ {V D U F : Type 0} (sides : Sides) (at : V → Point) (fix : List U →
         suffice = subst (λ ps. Suffice sides ps after.mesh) same_points step.suffice;
       }
 
-    -- when no edge is left, the mesh is legalized
-    pub steps_end : IsMeshWithData now → all ≡ [] → HasLegalized at fix was now start flips
-    steps_end w none = record {
+    -- when no edge is left, the triangulation is legalized
+    pub steps_end : IsTriangulated at (state_of now) → all ≡ []
+        → Legalizes at fix was now start flips
+    steps_end kept none = record {
       contents = u.underway.contents;
-      whole = w;
-      shape = u.underway.legal.shape;
+      legal = record {
+        kept = kept;
+        passing = subst (λ (y : List Point × List (ℕ × ℕ)). IsLocallyDelaunay
+            (drawn y.0 now.mesh) y.1) (λ i. (sym same_points i, sym u.underway.constraints i))
+            (underway_ends at fix was now all room_was room start flips u.underway none);
+      };
       constraints = u.underway.constraints;
-      passing = underway_ends at fix was now all room_was room start flips u.underway none;
       counted = record {
         grows = grows (length u.underway.legal.away) u.underway.legal.count;
         few = underway_counts at fix was now all room_was room start flips u.underway;
       };
-      indexes = underway_keeps at fix was now all room_was room start flips u.underway w.valid;
+      indexes = underway_keeps at fix was now all room_was room start flips u.underway kept.valid;
     }
       where
         grows : (a : ℕ) → start + a ≡ flips → start ≤ flips
         grows a e = omega (arith, e)
-
--- a triangulation whose mesh is legalized is a Delaunay one
-pub triangulation_legalized : {V D U F : Type 0} (at : V → Point) (fix : List U → List ℕ)
-    (old new : Contents V D U F) (start flips : ℕ) → IsTriangulated at (state_of old)
-    → HasLegalized at fix old new start flips → Legalizes at fix old new start flips
-triangulation_legalized at fix old new start flips kept h = record {
-  contents = h.contents;
-  legal = legalized at fix old new kept h.contents h.whole h.shape h.constraints h.passing;
-  constraints = h.constraints;
-  counted = h.counted;
-  indexes = h.indexes;
-}

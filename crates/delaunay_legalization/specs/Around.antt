@@ -1,40 +1,37 @@
 -- A legalization round a vertex: what becomes of the edge opposite it in the face of one of its
 -- edges.
 use Rattle.std.specs.Prelude.{◌≡◌, ◌↔◌, ◌⊎◌, ◌+◌, ◌*◌, ◌/◌, ◌<◌, ◌^◌}
-use Rattle.std.specs.Prelude.{ℕ, ℤ, List, length, map, Contains, IsTrue, Some}
+use Rattle.std.specs.Prelude.{ℕ, ℤ, List, length, map, IsTrue, Some}
 use Rattle.mesh_embedding.specs.half_edge_mesh.Contents.{Contents}
 use Rattle.mesh_embedding.specs.half_edge_mesh.Flip.{flipped}
 use Rattle.mesh_embedding.specs.half_edge_mesh.Mesh.{Mesh, origin, next, prev, face, rev, out_edge}
 use Rattle.mesh_embedding.specs.plane.Fraction.{Point}
 use Rattle.mesh_embedding.specs.plane.Pairs.{Joins}
-use Rattle.mesh_embedding.specs.plane_tiling.Local.{IsMesh}
 use Rattle.mesh_embedding.specs.plane_edits.EmptyRound.{IsEmptyRound}
-use Rattle.mesh_embedding.specs.Drawn.{faces_of, outer_of}
+use Rattle.mesh_embedding.specs.Drawn.{faces_of}
 use Rattle.mesh_embedding.specs.Legal.{IsFailing}
 use Rattle.delaunay_core.specs.Place.{place_of}
 use Rattle.delaunay_legalization.specs.Flips.{FlipsFit}
-use Rattle.delaunay_legalization.specs.Known.{point_at}
+use Rattle.delaunay_legalization.specs.Known.{IsVertexSite}
+use Rattle.delaunay_legalization.specs.Placed.{IsPlaced}
 use Rattle.delaunay_legalization.specs.declared.around.Opposite.{Opposite}
 
 -- the edge opposite vertex v, in the face on the left of its edge h, may be tested and turned
-pub record CanTurn (points : List Point) (m : Mesh) (h flips : ℕ) : Type 0 where
-  pub within : h < length m.half_edges
-  pub shape : IsMesh points (faces_of m) (outer_of m)
-  pub fits : IsFailing points m (next m h) → flips + 1 < 2 ^ 64
-
--- it is the position of vertex v, one of those listed
-pub record IsListedAt (points : List Point) (v : ℕ) (p : Point) : Type 0 where
-  pub place : p ≡ point_at points v
-  pub listed : Contains points p
+pub record CanTurn {V D U F P : Type 0} (place : V → Point) (IsSite : P → Point → Type 0)
+    (c : Contents V D U F) (t : P) (h flips : ℕ) : Type 0 where
+  pub placed : IsPlaced place IsSite c t
+  pub within : h < length c.mesh.half_edges
+  pub fits : IsFailing (map place c.vertices) c.mesh (next c.mesh h) → flips + 1 < 2 ^ 64
 
 -- it was read whether a face beside that edge is the outer one, and where the edge's ends and the
 -- corner beyond it are
-pub record IsOpposite {S : Type 0} (number : S → ℤ) (points : List Point) (m : Mesh) (h : ℕ)
-    (it : Opposite S) : Type 0 where
+pub record IsOpposite {S : Type 0} (number : S → ℤ) (IsSite : Point → Type 0)
+    (points : List Point) (m : Mesh) (h : ℕ) (it : Opposite S) : Type 0 where
   pub outer : IsTrue it.is_outer ↔ ((face m h ≡ 0) ⊎ (face m (rev (next m h)) ≡ 0))
-  pub from : IsListedAt points (origin m (next m h)) (place_of number it.from)
-  pub to : IsListedAt points (origin m (rev (next m h))) (place_of number it.to)
-  pub beyond : IsListedAt points (origin m (prev m (rev (next m h)))) (place_of number it.beyond)
+  pub from : IsVertexSite IsSite points (origin m (next m h)) (place_of number it.from)
+  pub to : IsVertexSite IsSite points (origin m (rev (next m h))) (place_of number it.to)
+  pub beyond : IsVertexSite IsSite points (origin m (prev m (rev (next m h))))
+      (place_of number it.beyond)
 
 -- it failed, was turned and counted
 pub record Turns (points : List Point) (old new : Mesh) (h before after : ℕ) : Type 0 where
@@ -55,6 +52,5 @@ pub record Stays (points : List Point) (constraints : List (ℕ × ℕ)) (old ne
 pub record CanGoRound {V D U F : Type 0} (place : V → Point) (c : Contents V D U F)
     (v first flips : ℕ) : Type 0 where
   pub named : out_edge c.mesh v ≡ Some first
-  pub shape : IsMesh (map place c.vertices) (faces_of c.mesh) (outer_of c.mesh)
   pub empty : IsEmptyRound (map place c.vertices) (faces_of c.mesh) v
   pub fits : FlipsFit (length c.vertices) flips

@@ -1,5 +1,6 @@
 -- Which edges are constraints, so that no legalising flips them: those whose data are marked.
 use Rattle.std.specs.Prelude.{◌≡◌, ℕ, suc, Bool, true, false, List, [], ◌∷◌, if◌then◌else◌, refl}
+use Rattle.mesh_embedding.specs.half_edge_mesh.Contents.{Contents}
 use Rattle.mesh_embedding.specs.half_edge_mesh.Mesh.{Mesh}
 use Rattle.mesh_embedding.specs.Legal.{pairs_at}
 use Rattle.mesh_embedding.specs.plane.Plain.{Plain}
@@ -31,6 +32,12 @@ not_both e = absurd (cc)
 -- the vertices that the constraints of a mesh join, by the data of all its edges
 abbrev pub constraint_pairs : {U : Type 0} → (List U → List ℕ) → Mesh → List U → List (ℕ × ℕ)
 constraint_pairs constraints m ds = pairs_at m (constraints ds)
+
+-- they are the same
+abbrev pub KeepsConstraints : {V D U F : Type 0} → (List U → List ℕ)
+    → Contents V D U F → Contents V D U F → Type 0
+KeepsConstraints constraints old new = constraint_pairs constraints new.mesh new.undirected
+    ≡ constraint_pairs constraints old.mesh old.undirected
 
 -- those of a triangulation
 abbrev pub constraints_by : {V D U F : Type 0} → (List U → List ℕ) → State V D U F → List (ℕ × ℕ)

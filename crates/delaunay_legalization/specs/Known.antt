@@ -11,3 +11,9 @@ pub record IsKnown (points : List Point) (p : Point) : Type 0 where
   pub index : ℕ
   pub below : index < length points
   pub here : point_at points index ≡ p
+
+-- p is the position of vertex v, and a site
+pub record IsVertexSite (IsSite : Point → Type 0) (points : List Point) (v : ℕ)
+    (p : Point) : Type 0 where
+  pub place : p ≡ point_at points v
+  pub site : IsSite p

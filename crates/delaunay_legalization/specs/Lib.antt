@@ -25,3 +25,4 @@ pub mod Legalized
 pub mod Pushing
 pub mod Among
 pub mod Sides
+pub mod Placed

@@ -1,20 +1,16 @@
 -- The flips of a legalization, by the sides of a turned edge that it leaves to test.
-use Rattle.std.specs.Prelude.{◌≡◌, ℕ, ◌+◌, ◌*◌, ◌<◌, ◌^◌, List, [], ◌∷◌, ◌++◌, length, map, ⊤}
-use Rattle.mesh_embedding.specs.half_edge_mesh.Contents.{Contents, IsMeshWithData}
+use Rattle.std.specs.Prelude.{ℕ, ◌+◌, ◌*◌, ◌<◌, ◌^◌, List, [], ◌∷◌, ◌++◌, map, ⊤}
+use Rattle.mesh_embedding.specs.half_edge_mesh.Contents.{Contents}
 use Rattle.mesh_embedding.specs.half_edge_mesh.Mesh.{Mesh}
-use Rattle.mesh_embedding.specs.plane.Delaunay.{IsLocallyDelaunay}
 use Rattle.mesh_embedding.specs.plane.Fraction.{Point}
-use Rattle.mesh_embedding.specs.plane_tiling.Local.{IsMesh}
 use Rattle.mesh_embedding.specs.plane_edits.Legal.{AllPassBut}
-use Rattle.mesh_embedding.specs.Drawn.{drawn, faces_of, outer_of}
+use Rattle.mesh_embedding.specs.Drawn.{faces_of}
 use Rattle.mesh_embedding.specs.Legal.{AreEdges, GainsRound, IsFailing, IsPartlyLegal, pairs_at}
 use Rattle.mesh_embedding.specs.Legal.{steps_left}
-use Rattle.mesh_embedding.specs.Stays.{KeepsIndexes}
 use Rattle.delaunay_legalization.specs.declared.sides.Sides.{Sides}
 use Rattle.delaunay_legalization.specs.declared.sides.Sides.TheVariants.{Round, Among}
 use Rattle.delaunay_legalization.specs.Among.{FailOnlyOf}
 use Rattle.delaunay_legalization.specs.Constraints.{constraint_pairs}
-use Rattle.delaunay_legalization.specs.Flips.{CountsFlips, FlipsFit}
 use Rattle.delaunay_legalization.specs.Pushing.{GainsRoundAmong}
 
 -- what of a mesh makes it enough to test these sides of a turned edge
@@ -30,7 +26,6 @@ GainsSides (Among es) m e old new = GainsRoundAmong m es.now.items e old new
 -- undirected edge k, the last of the work list, may be tested and turned
 pub record CanStep (sides : Sides) (points : List Point) (m : Mesh) (ks : List ℕ)
     (k flips : ℕ) : Type 0 where
-  pub shape : IsMesh points (faces_of m) (outer_of m)
   pub suffice : Suffice sides points m
   pub edges : AreEdges m (ks ++ k ∷ [])
   pub fits : IsFailing points m (2 * k) → flips + 1 < 2 ^ 64
@@ -50,26 +45,3 @@ pub record AreLeftToTest {V D U F : Type 0} (place : V → Point) (constraints_o
   pub edges : AreEdges c.mesh ks
   pub passing : AllPassBut (map place c.vertices) (faces_of c.mesh)
       (constraint_pairs constraints_of c.mesh c.undirected) (pairs_at c.mesh ks)
-
--- before perhaps only the edges of the work list fail, and each flip that may be needed can be
--- counted
-pub record CanLegalize {V D U F : Type 0} (place : V → Point) (constraints_of : List U → List ℕ)
-    (sides : Sides) (c : Contents V D U F) (ks : List ℕ) (flips : ℕ) : Type 0 where
-  pub shape : IsMesh (map place c.vertices) (faces_of c.mesh) (outer_of c.mesh)
-  pub left : AreLeftToTest place constraints_of c ks
-  pub suffice : Suffice sides (map place c.vertices) c.mesh
-  pub fits : FlipsFit (length c.vertices) flips
-
--- by flips alone, which were counted, each edge passes but the outer ones and the constraints,
--- which are the same
-pub record HasLegalized {V D U F : Type 0} (place : V → Point) (constraints_of : List U → List ℕ)
-    (old new : Contents V D U F) (flips_before flips_after : ℕ) : Type 0 where
-  pub contents : new ≡ record old { mesh = new.mesh }
-  pub whole : IsMeshWithData new
-  pub shape : IsMesh (map place old.vertices) (faces_of new.mesh) (outer_of new.mesh)
-  pub constraints : constraint_pairs constraints_of new.mesh new.undirected
-      ≡ constraint_pairs constraints_of old.mesh old.undirected
-  pub passing : IsLocallyDelaunay (drawn (map place old.vertices) new.mesh)
-      (constraint_pairs constraints_of old.mesh old.undirected)
-  pub counted : CountsFlips (length old.vertices) flips_before flips_after
-  pub indexes : KeepsIndexes old.mesh new.mesh

@@ -1,14 +1,18 @@
 //! A legalization round a vertex, where only edges opposite it may fail.
-ghost use Rattle.std.specs.Prelude.{◌≡◌, ◌↔◌, ◌<◌, length, map, All, IsTrue, IsFalse};
-ghost use Rattle.mesh_embedding.specs.half_edge_mesh.Mesh.{origin, next, rev};
+ghost use Rattle.std.specs.Prelude.{◌≡◌, ◌<◌, length, map, IsTrue, IsFalse};
+ghost use Rattle.mesh_embedding.specs.half_edge_mesh.Mesh.{origin};
+ghost use Rattle.mesh_embedding.specs.half_edge_mesh.Peel.{turn};
 ghost use Rattle.delaunay_core.specs.Place.{place_of};
-ghost use Rattle.delaunay_legalization.specs.Around.{CanGoRound, CanTurn, IsListedAt, IsOpposite};
-ghost use Rattle.delaunay_legalization.specs.Around.{Stays, Turns};
-ghost use Rattle.delaunay_legalization.specs.Constraints.{constraint_pairs};
-ghost use Rattle.delaunay_legalization.specs.Sides.{HasLegalized};
+ghost use Rattle.delaunay_legalization.specs.Around.{CanGoRound, CanTurn, IsOpposite, Stays};
+ghost use Rattle.delaunay_legalization.specs.Around.{Turns};
+ghost use Rattle.delaunay_legalization.specs.Constraints.{constraint_pairs, KeepsConstraints};
+ghost use Rattle.delaunay_legalization.specs.Known.{IsVertexSite};
+ghost use Rattle.delaunay_legalization.specs.Legalized.{Legalizes};
+ghost use Rattle.delaunay_legalization.specs.Placed.{IsPlaced};
 
 use crate::constraint_marker::ConstraintMarker;
-use crate::legalization::{end_of, flip, is_constraint_edge, is_outer, start_before, start_of};
+use crate::legalization::{edge_after, flip, is_constraint_edge, is_outer};
+use crate::placed::Placed;
 use delaunay_core::math::PlaneTests;
 use delaunay_core::point::{HasPosition, Point2};
 use mesh_embedding::half_edge_mesh::{Dcel, FixedDirectedEdgeHandle, MeshViews};
@@ -24,22 +28,35 @@ pub(crate) struct Opposite<S> {
     beyond: Point2<S>,
 }
 
-// What the test of the edge opposite the start of `spoke` reads, in the face on its left.
+// The edge after an edge, against the clock round the vertex where it starts.
 #[inline(always)]
-fn opposite_of<V: HasPosition, DE, UE, F>(
+fn ccw_edge<V, DE, UE, F>(
     dcel: &Dcel<V, DE, UE, F>,
-    spoke: FixedDirectedEdgeHandle,
-) -> Opposite<V::Scalar>
-    requires { spoke < length dcel.now.directed }
-    ensures { IsOpposite V.Scalar.whole (map V.place dcel.now.vertices) dcel.now.mesh spoke
-        result }
+    edge: FixedDirectedEdgeHandle,
+) -> FixedDirectedEdgeHandle
+    requires { edge < length dcel.now.directed }
+    ensures value { result ≡ turn dcel.now.mesh edge }
+    ensures within { result < length dcel.now.directed }
 {
-    let edge = dcel.directed_edge(spoke).next().fix();
-    Opposite {
-        is_outer: is_outer(dcel, spoke) || is_outer(dcel, edge.rev()),
-        from: start_of(dcel, edge),
-        to: end_of(dcel, edge),
-        beyond: start_before(dcel, edge.rev()),
+    dcel.directed_edge(edge).ccw().fix()
+}
+
+impl<'a, V: HasPosition, DE, UE, F, P: PlaneTests<V::Scalar>> Placed<'a, V, DE, UE, F, P> {
+    // What the test of the edge opposite the start of `spoke` reads, in the face on its left.
+    #[inline(always)]
+    pub(crate) fn opposite_of(&self, spoke: FixedDirectedEdgeHandle) -> Opposite<V::Scalar>
+        requires { spoke < length self.now.dcel.directed }
+        ensures { IsOpposite V.Scalar.whole (P.sites self.now.tests)
+            (map V.place self.now.dcel.vertices) self.now.dcel.mesh spoke result }
+    {
+        let edge = edge_after(self.dcel, spoke);
+        let twin = edge.rev();
+        Opposite {
+            is_outer: is_outer(self.dcel, spoke) || is_outer(self.dcel, twin),
+            from: self.start_of(edge),
+            to: self.end_of(edge),
+            beyond: self.start_before(twin),
+        }
     }
 }
 
@@ -54,29 +71,27 @@ fn turn_opposite<M: ConstraintMarker<UE>, V: HasPosition, DE, UE, F, P: PlaneTes
     tests: &P,
     flips: &mut u64,
 ) -> bool
-    requires sites { All (P.sites tests.now) (map V.place dcel.old.vertices) }
-    requires turn { CanTurn (map V.place dcel.old.vertices) dcel.old.mesh spoke flips.old }
-    requires opposite { IsOpposite V.Scalar.whole (map V.place dcel.old.vertices) dcel.old.mesh
-        spoke opposite }
-    requires centre { IsListedAt (map V.place dcel.old.vertices) (origin dcel.old.mesh spoke)
-        (place_of V.Scalar.whole centre) }
+    requires turn { CanTurn V.place P.sites dcel.old tests.now spoke flips.old }
+    requires opposite { IsOpposite V.Scalar.whole (P.sites tests.now)
+        (map V.place dcel.old.vertices) dcel.old.mesh spoke opposite }
+    requires centre { IsVertexSite (P.sites tests.now) (map V.place dcel.old.vertices)
+        (origin dcel.old.mesh spoke) (place_of V.Scalar.whole centre) }
+    ensures placed { IsPlaced V.place P.sites dcel.new tests.now }
     ensures contents { dcel.new ≡ record dcel.old { mesh = dcel.new.mesh } }
-    ensures constraints { constraint_pairs M.constraints dcel.new.mesh dcel.new.undirected ≡
-        constraint_pairs M.constraints dcel.old.mesh dcel.old.undirected }
+    ensures constraints { KeepsConstraints M.constraints dcel.old dcel.new }
     ensures turned { IsTrue result → Turns (map V.place dcel.old.vertices) dcel.old.mesh
         dcel.new.mesh spoke flips.old flips.new }
     ensures stays { IsFalse result → Stays (map V.place dcel.old.vertices)
         (constraint_pairs M.constraints dcel.old.mesh dcel.old.undirected) dcel.old.mesh
         dcel.new.mesh spoke flips.old flips.new }
 {
-    dcel.recall_invariant();
     if opposite.is_outer {
         return false;
     }
     if !tests.is_in_circle(opposite.from, opposite.to, centre, opposite.beyond) {
         return false;
     }
-    let edge = dcel.directed_edge(spoke).next().fix().as_undirected();
+    let edge = edge_after(dcel, spoke).as_undirected();
     if is_constraint_edge::<M, _, _, _, _>(dcel, edge) {
         return false;
     }
@@ -96,22 +111,22 @@ pub(crate) fn legalize_round<
     F,
     P: PlaneTests<V::Scalar>,
 >(dcel: &mut Dcel<V, DE, UE, F>, first: FixedDirectedEdgeHandle, tests: &P, flips: &mut u64)
+    requires placed { IsPlaced V.place P.sites dcel.old tests.now }
     requires within { first < length dcel.old.directed }
-    requires sites { All (P.sites tests.now) (map V.place dcel.old.vertices) }
-    requires can { CanGoRound V.place dcel.old (origin dcel.old.mesh first) first
-        flips.old }
-    ensures has { HasLegalized V.place M.constraints dcel.old dcel.new flips.old flips.new }
+    requires can { CanGoRound V.place dcel.old (origin dcel.old.mesh first) first flips.old }
+    ensures legalizes { Legalizes V.place M.constraints dcel.old dcel.new flips.old flips.new }
 {
-    dcel.recall_invariant();
-    let centre = start_of(dcel, first);
+    let placed = Placed { dcel, tests };
+    let centre = placed.start_of(first);
     let mut spoke = first;
-    let mut opposite = opposite_of(dcel, spoke);
+    let mut opposite = placed.opposite_of(spoke);
     loop {
-        dcel.recall_invariant();
-        let next = dcel.directed_edge(spoke).ccw().fix();
-        let ahead = opposite_of(dcel, next);
+        let next = ccw_edge(dcel, spoke);
+        let placed = Placed { dcel, tests };
+        let ahead = placed.opposite_of(next);
         if turn_opposite::<M, _, _, _, _, _>(dcel, spoke, opposite, centre, tests, flips) {
-            opposite = opposite_of(dcel, spoke);
+            let placed = Placed { dcel, tests };
+            opposite = placed.opposite_of(spoke);
             continue;
         }
         spoke = next;

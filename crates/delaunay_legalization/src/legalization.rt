@@ -1,24 +1,22 @@
 //! Flips of edges that fail the circle test, until each edge passes but the constraints.
 ghost use Rattle.std.specs.Prelude.{◌≡◌, ◌↔◌, ◌+◌, ◌-◌, ◌*◌, ◌/◌, ◌<◌, ◌≤◌, ◌^◌, ◌++◌, ◌∷◌, []};
 ghost use Rattle.std.specs.Prelude.{length, map, All, Contains, IsTrue};
-ghost use Rattle.mesh_embedding.specs.half_edge_mesh.Contents.{IsMeshWithData};
 ghost use Rattle.mesh_embedding.specs.half_edge_mesh.Mesh.{origin, next, prev, face, rev};
 ghost use Rattle.mesh_embedding.specs.half_edge_mesh.Flip.{flipped};
-ghost use Rattle.mesh_embedding.specs.plane_tiling.Local.{IsMesh};
-ghost use Rattle.mesh_embedding.specs.Drawn.{faces_of, outer_of};
 ghost use Rattle.mesh_embedding.specs.Legal.{AreEdges, Gains, GainsRound, IsFailing};
 ghost use Rattle.delaunay_core.specs.Place.{place_of};
-ghost use Rattle.delaunay_legalization.specs.Constraints.{constraint_pairs};
+ghost use Rattle.delaunay_legalization.specs.Constraints.{constraint_pairs, KeepsConstraints};
 ghost use Rattle.delaunay_legalization.specs.Flips.{FlipsFit};
 ghost use Rattle.delaunay_legalization.specs.Known.{point_at};
 ghost use Rattle.delaunay_legalization.specs.Legalized.{Legalizes};
+ghost use Rattle.delaunay_legalization.specs.Placed.{IsPlaced};
 ghost use Rattle.delaunay_legalization.specs.Shape.{IsTriangulated};
-ghost use Rattle.delaunay_legalization.specs.Sides.{AreLeftToTest, CanLegalize, CanStep};
-ghost use Rattle.delaunay_legalization.specs.Sides.{HasLegalized, HasStepped};
+ghost use Rattle.delaunay_legalization.specs.Sides.{AreLeftToTest, CanStep, HasStepped, Suffice};
 ghost use Rattle.delaunay_legalization.specs.State.{state_of};
 
 use crate::constraint_marker::ConstraintMarker;
 use crate::edge_set::EdgeSet;
+use crate::placed::Placed;
 use crate::sides::{Sides, push_left};
 use delaunay_core::math::PlaneTests;
 use delaunay_core::point::{HasPosition, Point2};
@@ -79,6 +77,19 @@ pub fn start_before<V: HasPosition, DE, UE, F>(
     position_of(dcel, dcel.directed_edge(edge).prev_from().fix())
 }
 
+// The edge after an edge in its loop.
+#[inline(always)]
+pub(crate) fn edge_after<V, DE, UE, F>(
+    dcel: &Dcel<V, DE, UE, F>,
+    edge: FixedDirectedEdgeHandle,
+) -> FixedDirectedEdgeHandle
+    requires { edge < length dcel.now.directed }
+    ensures value { result ≡ next dcel.now.mesh edge }
+    ensures within { result < length dcel.now.directed }
+{
+    dcel.directed_edge(edge).next().fix()
+}
+
 /// Whether an edge has the outer face on its left.
 pub fn is_outer<V, DE, UE, F>(dcel: &Dcel<V, DE, UE, F>, edge: FixedDirectedEdgeHandle) -> bool
     requires { edge < length dcel.now.directed }
@@ -126,50 +137,20 @@ pub fn is_constraint_edge<M: ConstraintMarker<UE>, V, DE, UE, F>(
     M::is_constraint_edge(dcel.undirected_edge_data(edge))
 }
 
-// Whether an edge lies between two inner faces, of which one has its third corner inside the circle
-// of the other.
-#[inline(always)]
-fn is_failing<V: HasPosition, DE, UE, F, P: PlaneTests<V::Scalar>>(
-    dcel: &Dcel<V, DE, UE, F>,
-    edge: FixedUndirectedEdgeHandle,
-    tests: &P,
-) -> bool
-    requires within { 2 * edge < length dcel.now.directed }
-    requires sites { All (P.sites tests.now) (map V.place dcel.now.vertices) }
-    requires shape { IsMesh (map V.place dcel.now.vertices) (faces_of dcel.now.mesh)
-        (outer_of dcel.now.mesh) }
-    ensures { IsTrue result ↔ IsFailing (map V.place dcel.now.vertices) dcel.now.mesh (2 * edge) }
-{
-    dcel.recall_invariant();
-    let edge = edge.as_directed();
-    if is_outer(dcel, edge) || is_outer(dcel, edge.rev()) {
-        return false;
-    }
-    let twin = edge.rev();
-    let from = start_of(dcel, edge);
-    let to = start_of(dcel, twin);
-    let left = start_before(dcel, edge);
-    let right = start_before(dcel, twin);
-    tests.is_in_circle(from, to, left, right)
-}
-
 // Turns a failing edge and counts the flip. No other function of a legalization flips.
 pub(crate) fn flip<V: HasPosition, DE, UE, F>(
     dcel: &mut Dcel<V, DE, UE, F>,
     edge: FixedUndirectedEdgeHandle,
     flips: &mut u64,
 )
+    requires kept { IsTriangulated V.place (state_of dcel.old) }
     requires within { 2 * edge < length dcel.old.directed }
-    requires shape { IsMesh (map V.place dcel.old.vertices) (faces_of dcel.old.mesh)
-        (outer_of dcel.old.mesh) }
     requires failing { IsFailing (map V.place dcel.old.vertices) dcel.old.mesh (2 * edge) }
     requires fits { flips.old + 1 < 2 ^ 64 }
-    ensures mesh { dcel.new.mesh ≡ flipped dcel.old.mesh (2 * edge) }
-    ensures contents { dcel.new ≡ record dcel.old { mesh = dcel.new.mesh } }
+    ensures contents { dcel.new ≡ record dcel.old { mesh = flipped dcel.old.mesh (2 * edge) } }
     ensures flips { flips.new ≡ flips.old + 1 }
-    ensures whole { IsMeshWithData dcel.new }
+    ensures kept { IsTriangulated V.place (state_of dcel.new) }
 {
-    dcel.recall_invariant();
     dcel.flip_cw(edge);
     *flips += 1;
 }
@@ -223,24 +204,23 @@ fn legalize_edge<M: ConstraintMarker<UE>, V: HasPosition, DE, UE, F, P: PlaneTes
     work: &mut EdgeSet,
     flips: &mut u64,
 )
-    requires sites { All (P.sites tests.now) (map V.place dcel.old.vertices) }
+    requires placed { IsPlaced V.place P.sites dcel.old tests.now }
     requires step { CanStep sides.now (map V.place dcel.old.vertices) dcel.old.mesh work.old.items
         edge flips.old }
     requires room { length dcel.old.undirected ≤ work.old.room }
+    ensures placed { IsPlaced V.place P.sites dcel.new tests.now }
     ensures contents { dcel.new ≡ record dcel.old { mesh = dcel.new.mesh } }
-    ensures constraints { constraint_pairs M.constraints dcel.new.mesh dcel.new.undirected ≡
-        constraint_pairs M.constraints dcel.old.mesh dcel.old.undirected }
+    ensures constraints { KeepsConstraints M.constraints dcel.old dcel.new }
     ensures step { HasStepped sides.now (map V.place dcel.old.vertices)
         (constraint_pairs M.constraints dcel.old.mesh dcel.old.undirected) dcel.old.mesh
         dcel.new.mesh (work.old.items ++ edge ∷ []) work.new.items flips.old flips.new }
-    ensures whole { IsMeshWithData dcel.new }
     ensures capacity { work.new.room ≡ work.old.room }
 {
-    dcel.recall_invariant();
     if is_constraint_edge::<M, _, _, _, _>(dcel, edge) {
         return;
     }
-    if is_failing(dcel, edge, tests) {
+    let placed = Placed { dcel, tests };
+    if placed.is_failing(edge) {
         push_left(dcel, edge.as_directed(), sides, work);
         flip(dcel, edge, flips);
     }
@@ -256,14 +236,15 @@ pub(crate) fn legalize_by<
     F,
     P: PlaneTests<V::Scalar>,
 >(dcel: &mut Dcel<V, DE, UE, F>, sides: &Sides, tests: &P, work: &mut EdgeSet, flips: &mut u64)
-    requires sites { All (P.sites tests.now) (map V.place dcel.old.vertices) }
-    requires can { CanLegalize V.place M.constraints sides.now dcel.old work.old.items flips.old }
+    requires placed { IsPlaced V.place P.sites dcel.old tests.now }
+    requires left { AreLeftToTest V.place M.constraints dcel.old work.old.items }
+    requires suffice { Suffice sides.now (map V.place dcel.old.vertices) dcel.old.mesh }
+    requires fits { FlipsFit (length dcel.old.vertices) flips.old }
     requires room { length dcel.old.undirected ≤ work.old.room }
-    ensures has { HasLegalized V.place M.constraints dcel.old dcel.new flips.old flips.new }
+    ensures legalizes { Legalizes V.place M.constraints dcel.old dcel.new flips.old flips.new }
     ensures done { work.new.items ≡ [] }
     ensures capacity { work.new.room ≡ work.old.room }
 {
-    dcel.recall_invariant();
     while let Some(edge) = work.pop() {
         legalize_edge::<M, _, _, _, _, _>(dcel, edge, sides, tests, work, flips);
     }

@@ -12,6 +12,7 @@ mod constraint_marker;
 mod edge_set;
 mod legalization;
 mod marking;
+mod placed;
 mod predicates;
 mod sides;
 mod star;
@@ -28,6 +29,7 @@ pub use legalization::{
     start_before, start_of,
 };
 pub use marking::{free_edge, make_constraint};
+pub use placed::Placed;
 pub use predicates::{is_same_point, is_strictly_inside, is_strictly_within, turns_left};
 pub use star::legalize_vertex;
 pub use work_list::reserve_for_edges;

@@ -113,7 +113,7 @@ module _ (m : Mesh) (v first count : ℕ) (round : IsRound m v first count) wher
       walk_length n 0 (suc n) h (length m.half_edges) here (omega arith) among
       (let fits = count_fits in omega (arith, among, fits))
 
-module _ (m : Mesh) (valid : IsValidMesh m) (v first : ℕ) (P : ℕ → Type 0) where
+module _ {m : Mesh} (valid : IsValidMesh m) {v first : ℕ} {P : ℕ → Type 0} where
   -- at first the edge that both ways begin at was seen
   pub closing_in_begins : first < length m.half_edges → origin m first ≡ v → P first
       → IsClosingIn m v first P first first
@@ -133,7 +133,7 @@ module _ (m : Mesh) (valid : IsValidMesh m) (v first : ℕ) (P : ℕ → Type 0)
             (ap (spoke m first) (let q : 0 ≡ j = omega (arith, under) in q)) seen;
       }
 
-  module _ (left right : ℕ) (w : IsClosingIn m v first P left right) where
+  module _ {left right : ℕ} (w : IsClosingIn m v first P left right) where
     -- both edges are of the mesh
     pub left_within : left < length m.half_edges
     left_within = subst (λ (k : ℕ). k < length m.half_edges) (sym w.at_left) (w.round.within w.high)
@@ -204,7 +204,7 @@ module _ (m : Mesh) (valid : IsValidMesh m) (v first : ℕ) (P : ℕ → Type 0)
           (sym next_right ∙ same ∙ w.at_left))
     ])
 
-    module _ (l : ℕ) (is : l ≡ next m (rev left)) (away : l ≢ right) where
+    module _ {l : ℕ} (is : l ≡ next m (rev left)) (away : l ≢ right) where
       still_apart : w.low < one_less
       still_apart = elim (eq-or-lt_of_le not_passed) [
         | inl e ↦ absurd (away (is ∙ next_left ∙ ap (spoke m first) (sym e) ∙ sym w.at_right))
@@ -242,9 +242,9 @@ module _ (m : Mesh) (valid : IsValidMesh m) (v first : ℕ) (P : ℕ → Type 0)
           omega (arith, new, old, place_is)
 
     -- so does the right one
-    pub right_goes_on : (r : ℕ) → r ≡ rev (prev m right) → r ≢ left → P r
+    pub right_goes_on : {r : ℕ} → r ≡ rev (prev m right) → r ≢ left → P r
         → IsClosingIn m v first P left r
-    right_goes_on r is away seen = record {
+    right_goes_on is away seen = record {
       count = w.count;
       round = w.round;
       low = suc w.low;

@@ -106,7 +106,7 @@ module _ (n : ℕ) (p : ℕ → Point) (outer : List (ℕ × ℕ)) (m : SignLine
         (on_line end near.first) (on_line k h) behind (less_if_not_same (spot end) (spot k)
         (none_behind k h) (λ e. differ (sym (places.same end k near.first h e))))
 
-module _ {V D U F : Type 0} (at : V → Point) (s : State V D U F) (kept : IsTriangulated at s)
+module _ {V D U F : Type 0} {at : V → Point} {s : State V D U F} (kept : IsTriangulated at s)
     (p : Point) (bare : length s.faces ≡ 0) where
   abbrev points : List Point
   points = map at s.vertices
@@ -126,13 +126,12 @@ module _ {V D U F : Type 0} (at : V → Point) (s : State V D U F) (kept : IsTri
       omega (arith, inside, fit, bare)
 
   -- a position found strictly on the right of an edge is located outside, by its other direction
-  pub located_right : {S : Type 0} (number : S → ℤ) (stop : Stop S)
-      → IsStop number points m (length s.directed) stop → (found : Side)
+  pub located_right : {S : Type 0} {number : S → ℤ} {stop : Stop S} {found : Side} {back : ℕ}
+      → IsStop number points m (length s.directed) stop
       → found ≡ side (whole (place_of number stop.from)) (whole (place_of number stop.to)) (whole p)
-      → found ≡ right → (back : ℕ) → back ≡ rev stop.edge
-      → Locates points m p (OutsideOfConvexHull back)
-  located_right number stop h found is at_right back same =
-      let turned = across_edge at s kept number stop.edge stop.from stop.to h.within h.from h.to in
+      → found ≡ right → back ≡ rev stop.edge → Locates points m p (OutsideOfConvexHull back)
+  located_right {number = number} {stop = stop} h is at_right same =
+      let turned = across_edge kept h in
       subst (λ k. Locates points m p (OutsideOfConvexHull k)) (sym same) (located_left points m p
       (place_of number stop.to) (place_of number stop.from) (rev stop.edge) turned.from turned.to
       (mesh_edge at s kept (rev stop.edge) turned.within)

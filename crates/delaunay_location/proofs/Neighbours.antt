@@ -109,14 +109,15 @@ module _ (t : Triangulation) (p : Point) where
     pub there : k < length t.points
     pub nearer : IsNearer (whole p) (vertex t k) (vertex t v)
 
+module _ {t : Triangulation} {p : Point} where
   -- where there is no move the count stays
-  pub none_counted : (v was : ℕ) → IsMoveCount t p v v was was
-  none_counted v was = record { grown = omega arith; fewer = omega arith }
+  pub none_counted : {v was : ℕ} → IsMoveCount t p v v was was
+  none_counted = record { grown = omega arith; fewer = omega arith }
 
-  module _ (v w was now : ℕ) (c : IsMoveCount t p v w was now) where
+  module _ {v w was now : ℕ} (c : IsMoveCount t p v w was now) where
     -- moves that follow others are counted with them
-    pub more_counted : (k later : ℕ) → IsMoveCount t p w k now later → IsMoveCount t p v k was later
-    more_counted k later d = record {
+    pub more_counted : {k later : ℕ} → IsMoveCount t p w k now later → IsMoveCount t p v k was later
+    more_counted {k = k} {later = later} d = record {
       grown = (let a = c.grown in let b = d.grown in omega (arith, a, b));
       fewer = more was now later (nearer_count t (whole p) k) (nearer_count t (whole p) w)
           (nearer_count t (whole p) v) d.fewer c.fewer;
@@ -137,28 +138,28 @@ module _ (t : Triangulation) (p : Point) where
     pub moves_fit : (n : ℕ) → was + nearer_count t (whole p) v < n → now < n
     moves_fit n h = less_without now (nearer_count t (whole p) w) n (room_stays n h)
 
-  module _ (v k : ℕ) (move : IsMove v k) where
+  module _ {v k : ℕ} (move : IsMove t p v k) where
     -- a move leads to where fewer vertices are nearer
     pub nearer_falls : nearer_count t (whole p) k < nearer_count t (whole p) v
     nearer_falls = (nearer_count_falls t (whole p) v k move.here move.there move.nearer).0
 
     -- moves after it are counted with it
-    pub counted_after : (w was now : ℕ) → IsMoveCount t p k w was now
+    pub counted_after : {w was now : ℕ} → IsMoveCount t p k w was now
         → IsMoveCount t p v w was (now + 1)
-    counted_after w was now c = record {
+    counted_after {w = w} {was = was} {now = now} c = record {
       grown = (let a = c.grown in omega (arith, a));
       fewer = one_more was now (nearer_count t (whole p) w) (nearer_count t (whole p) k)
           (nearer_count t (whole p) v) c.fewer nearer_falls;
     }
 
     -- it is one more move
-    pub one_counted : (was : ℕ) → IsMoveCount t p v k was (was + 1)
-    one_counted was = counted_after k was was (none_counted k was)
+    pub one_counted : {was : ℕ} → IsMoveCount t p v k was (was + 1)
+    one_counted = counted_after none_counted
 
     -- moves before it are counted with it
-    pub counted_before : (u was now : ℕ) → IsMoveCount t p u v was now
+    pub counted_before : {u was now : ℕ} → IsMoveCount t p u v was now
         → IsMoveCount t p u k was (now + 1)
-    counted_before u was now c = more_counted u v was now c k (now + 1) (one_counted now)
+    counted_before c = more_counted c one_counted
 
     -- the count has room for the moves from where it leads
     pub room_there : (was n : ℕ) → was + nearer_count t (whole p) v < n
@@ -166,21 +167,22 @@ module _ (t : Triangulation) (p : Point) where
     room_there was n h = less_by_some was (nearer_count t (whole p) v)
         (was + nearer_count t (whole p) k) n h (let f = nearer_falls in omega (arith, f))
 
-  module _ (v n : ℕ) (count : length t.points ≡ n) (within : v < n) where
-    -- fewer than all vertices are nearer than v
-    few : nearer_count t (whole p) v < n
-    few = subst (λ (l : ℕ). nearer_count t (whole p) v < l) count
-        (nearer_count_below t (whole p) v (subst (λ (l : ℕ). v < l) (sym count) within))
+module _ (t : Triangulation) (p : Point) (v n : ℕ) (count : length t.points ≡ n)
+    (within : v < n) where
+  -- fewer than all vertices are nearer than v
+  few : nearer_count t (whole p) v < n
+  few = subst (λ (l : ℕ). nearer_count t (whole p) v < l) count
+      (nearer_count_below t (whole p) v (subst (λ (l : ℕ). v < l) (sym count) within))
 
-    -- where the count has room for all vertices it has room for those that are nearer
-    pub room_at : (was limit : ℕ) → was + n ≤ limit → was + nearer_count t (whole p) v < limit
-    room_at was limit fits = fewer_fit was (nearer_count t (whole p) v) n limit few fits
+  -- where the count has room for all vertices it has room for those that are nearer
+  pub room_at : (was limit : ℕ) → was + n ≤ limit → was + nearer_count t (whole p) v < limit
+  room_at was limit fits = fewer_fit was (nearer_count t (whole p) v) n limit few fits
 
-    -- the moves are fewer than the vertices
-    pub fewer_moves : (w was now : ℕ) → IsMoveCount t p v w was now
-        → (was ≤ now) × (now < was + n)
-    fewer_moves w was now c = (
-      c.grown,
-      fewer_than was now (nearer_count t (whole p) w)
-          (nearer_count t (whole p) v) n c.fewer few,
-    )
+  -- the moves are fewer than the vertices
+  pub fewer_moves : {w was now : ℕ} → IsMoveCount t p v w was now
+      → (was ≤ now) × (now < was + n)
+  fewer_moves {w = w} {was = was} {now = now} c = (
+    c.grown,
+    fewer_than was now (nearer_count t (whole p) w)
+        (nearer_count t (whole p) v) n c.fewer few,
+  )

@@ -25,7 +25,7 @@ use Rattle.delaunay_location.specs.declared.steps.Stop.{Stop}
 use Rattle.delaunay_location.specs.declared.position_in_triangulation.PositionInTriangulation.TheVariants.{OnFace}
 use Rattle.delaunay_location.proofs.Locating.{in_face}
 
-module _ {V D U F : Type 0} (at : V → Point) (s : State V D U F) (kept : IsTriangulated at s) where
+module _ {V D U F : Type 0} {at : V → Point} {s : State V D U F} (kept : IsTriangulated at s) where
   abbrev points : List Point
   points = map at s.vertices
 
@@ -36,27 +36,27 @@ module _ {V D U F : Type 0} (at : V → Point) (s : State V D U F) (kept : IsTri
   half_edge_in e w = let f = kept.fits.directed_fit in omega (arith, f, w)
 
   -- the other direction of an edge, with the positions of its ends
-  pub across_edge : {S : Type 0} (number : S → ℤ) (e : ℕ) (from to : Point2 S)
-      → e < length s.directed
-      → place_of number from ≡ point_at points (origin m e)
-      → place_of number to ≡ point_at points (origin m (rev e))
-      → IsStop number points m (length s.directed) (record { edge = rev e; from = to; to = from })
-  across_edge number e from to w starts ends = record {
+  pub across_edge : {S : Type 0} {number : S → ℤ} {stop : Stop S}
+      → IsStop number points m (length s.directed) stop
+      → IsStop number points m (length s.directed)
+      (record { edge = rev stop.edge; from = stop.to; to = stop.from })
+  across_edge {stop = stop} h = record {
     within =
         let f = kept.fits.directed_fit in
-        let r = rev_within e (length m.half_edges) kept.valid.sound.even (half_edge_in e w) in
+        let r = rev_within stop.edge (length m.half_edges) kept.valid.sound.even
+        (half_edge_in stop.edge h.within) in
         omega (arith, f, r);
-    from = ends;
-    to = starts ∙ ap (λ k. point_at points (origin m k)) (sym (rev-rev e));
+    from = h.to;
+    to = h.from ∙ ap (λ k. point_at points (origin m k)) (sym (rev-rev stop.edge));
   }
 
   -- a position that was found strictly on the left of an edge is there
-  pub left_of_stop : {S : Type 0} (number : S → ℤ) (p : Point) (stop : Stop S)
-      → IsStop number points m (length s.directed) stop → (found : Side)
+  pub left_of_stop : {S : Type 0} {number : S → ℤ} {stop : Stop S} {found : Side} (p : Point)
+      → IsStop number points m (length s.directed) stop
       → found ≡ side (whole (place_of number stop.from)) (whole (place_of number stop.to)) (whole p)
       → found ≡ left → TurnsLeft (place points (origin m stop.edge))
       (place points (origin m (rev stop.edge))) (whole p)
-  left_of_stop number p stop h found is at_left = rw (← h.from, ← h.to) (sym is ∙ at_left)
+  left_of_stop p h is at_left = rw (← h.from, ← h.to) (sym is ∙ at_left)
 
   module _ (e : ℕ) (w : e < length s.directed) (inner : 0 < face m e) where
     -- the three edges round the face
@@ -76,22 +76,22 @@ module _ {V D U F : Type 0} (at : V → Point) (s : State V D U F) (kept : IsTri
         ∙ ap (origin m) round.next_prev
 
     -- the edge after an edge of an inner face, with the positions of its ends
-    pub next_side : {S : Type 0} (number : S → ℤ) (h : ℕ) (to corner : Point2 S) → h ≡ next m e
+    pub next_side : {S : Type 0} {number : S → ℤ} {h : ℕ} {to corner : Point2 S} → h ≡ next m e
         → place_of number to ≡ point_at points (origin m (rev e))
         → place_of number corner ≡ point_at points (origin m (prev m e))
         → IsStop number points m (length s.directed) (record { edge = h; from = to; to = corner })
-    next_side number h to corner same starts ends = rw same (record {
+    next_side same starts ends = rw same (record {
       within = (let f = kept.fits.directed_fit in let n = round.next_in in omega (arith, f, n));
       from = starts ∙ ap (point_at points) (sym next_starts);
       to = ends ∙ ap (point_at points) (sym next_ends);
     })
 
     -- and the edge before it
-    pub prev_side : {S : Type 0} (number : S → ℤ) (h : ℕ) (corner from : Point2 S) → h ≡ prev m e
+    pub prev_side : {S : Type 0} {number : S → ℤ} {h : ℕ} {corner from : Point2 S} → h ≡ prev m e
         → place_of number corner ≡ point_at points (origin m (prev m e))
         → place_of number from ≡ point_at points (origin m e)
         → IsStop number points m (length s.directed) (record { edge = h; from = corner; to = from })
-    prev_side number h corner from same starts ends = rw same (record {
+    prev_side same starts ends = rw same (record {
       within = (let f = kept.fits.directed_fit in let n = round.prev_in in omega (arith, f, n));
       from = starts;
       to = ends ∙ ap (point_at points) (sym prev_ends);
@@ -143,9 +143,9 @@ module _ {V D U F : Type 0} (at : V → Point) (s : State V D U F) (kept : IsTri
       )
 
       -- a position strictly on the left of the three sides of an inner face is located in it
-      pub located_inside : (f g h : ℕ) → f ≡ face m e → AreOtherSides m e g h → IsLeftOf e
+      pub located_inside : {f g h : ℕ} → f ≡ face m e → AreOtherSides m e g h → IsLeftOf e
           → IsLeftOf g → IsLeftOf h → Locates points m p (OnFace f)
-      located_inside f g h same others at_e at_g at_h =
+      located_inside {f = f} {g = g} {h = h} same others at_e at_g at_h =
           rw same (in_face at s kept p (face m e) inner face_in (inside_named (go others)))
         where
           go : AreOtherSides m e g h → IsLeftOfSides e

@@ -4,7 +4,7 @@ ghost use Rattle.delaunay_legalization.specs.half_edge_mesh.Mesh.{next, rev};
 ghost use Rattle.delaunay_location.specs.Search.{IsPlaceOf};
 ghost use Rattle.delaunay_location.specs.Stop.{IsWalkOf};
 
-use crate::parts::{end_vertex, ends_of};
+use crate::parts::end_vertex;
 use crate::position_in_triangulation::PositionInTriangulation;
 use crate::search::Search;
 use crate::vertex_distance::is_nearer;
@@ -12,7 +12,7 @@ use crate::walk::{FEW_STEPS, Walked, nearer_edge};
 use delaunay_legalization::delaunay_core::math::PlaneTests;
 use delaunay_legalization::delaunay_core::point::HasPosition;
 use delaunay_legalization::half_edge_mesh::{FixedDirectedEdgeHandle, MeshViews};
-use delaunay_legalization::{is_same_point, is_strictly_within, position_of};
+use delaunay_legalization::{Placed, is_same_point, is_strictly_within, position_of};
 
 impl<'a, V: HasPosition, DE, UE, F, P: PlaneTests<V::Scalar>> Search<'a, V, DE, UE, F, P> {
     // The location of a position that is strictly on one side of the line of all vertices: beyond
@@ -49,7 +49,11 @@ impl<'a, V: HasPosition, DE, UE, F, P: PlaneTests<V::Scalar>> Search<'a, V, DE, 
         requires alone { next self.now.dcel.mesh (rev edge) ≡ edge }
         ensures { IfSome result (IsPlaceOf V.place self.now) }
     {
-        let (from, to) = ends_of(self.dcel, edge);
+        let placed = Placed {
+            dcel: self.dcel,
+            tests: self.tests,
+        };
+        let (from, to) = placed.ends_of(edge);
         if is_same_point(from, self.point) {
             return None;
         }

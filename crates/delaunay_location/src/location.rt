@@ -14,7 +14,6 @@ ghost use Rattle.delaunay_legalization.specs.Parts.{IsApart};
 ghost use Rattle.delaunay_location.specs.Location.{StartsNearest};
 ghost use Rattle.delaunay_location.specs.Search.{IsAtNoVertex, IsClear, IsInFace, IsPlaceOf};
 
-use crate::parts::{corners_of, ends_of};
 use crate::position_in_triangulation::PositionInTriangulation;
 use crate::search::Search;
 use delaunay_legalization::delaunay_core::math::PlaneTests;
@@ -23,7 +22,8 @@ use delaunay_legalization::half_edge_mesh::{
     Dcel, FixedDirectedEdgeHandle, FixedFaceHandle, FixedVertexHandle,
 };
 use delaunay_legalization::{
-    is_outer, is_same_point, is_strictly_inside, is_strictly_within, position_of, turns_left,
+    Placed, is_outer, is_same_point, is_strictly_inside, is_strictly_within, position_of, start_of,
+    turns_left,
 };
 
 // The vertex at a position.
@@ -59,7 +59,7 @@ fn starts_nearer<V: HasPosition, DE, UE, F>(
         (place (map V.place dcel.now.vertices) (origin dcel.now.mesh e)) in
         IsTrue result ↔ (at edge <ℤ at other) }
 {
-    point.distance_2(ends_of(dcel, edge).0) < point.distance_2(ends_of(dcel, other).0)
+    point.distance_2(start_of(dcel, edge)) < point.distance_2(start_of(dcel, other))
 }
 
 // The directed edge that starts nearest to a position.
@@ -91,7 +91,11 @@ impl<'a, V: HasPosition, DE, UE, F, P: PlaneTests<V::Scalar>> Search<'a, V, DE, 
         ensures { MatchOption result (IsClear V.place self.now edge)
             (IsPlaceOf V.place self.now) }
     {
-        let (from, to) = ends_of(self.dcel, edge);
+        let placed = Placed {
+            dcel: self.dcel,
+            tests: self.tests,
+        };
+        let (from, to) = placed.ends_of(edge);
         if is_strictly_within(from, to, self.point, self.tests) {
             return Some(PositionInTriangulation::OnEdge(edge));
         }
@@ -123,7 +127,11 @@ impl<'a, V: HasPosition, DE, UE, F, P: PlaneTests<V::Scalar>> Search<'a, V, DE, 
         requires within { face ≤ length self.now.dcel.faces }
         ensures { IsTrue result ↔ IsInFace V.place self.now face }
     {
-        let (a, b, c) = corners_of(self.dcel, face);
+        let placed = Placed {
+            dcel: self.dcel,
+            tests: self.tests,
+        };
+        let (a, b, c) = placed.corners_of(face);
         is_strictly_inside(a, b, c, self.point, self.tests)
     }
 

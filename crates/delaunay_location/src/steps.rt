@@ -6,14 +6,13 @@ ghost use Rattle.delaunay_legalization.specs.State.{state_of};
 ghost use Rattle.delaunay_location.specs.Stop.{AreOtherSides, IsSideAt, IsStepOf, IsStopOf};
 ghost use Rattle.delaunay_location.specs.declared.steps.Step.TheVariants.{Beyond};
 
-use crate::parts::ends_of;
 use crate::position_in_triangulation::PositionInTriangulation;
 use crate::search::Search;
 use delaunay_legalization::delaunay_core::line_side_info::LineSideInfo;
 use delaunay_legalization::delaunay_core::math::PlaneTests;
 use delaunay_legalization::delaunay_core::point::{HasPosition, Point2};
 use delaunay_legalization::half_edge_mesh::{FixedDirectedEdgeHandle, MeshViews};
-use delaunay_legalization::{start_before, turns_left};
+use delaunay_legalization::{Placed, start_before, turns_left};
 
 // Where a walk is: in the face on the left of an edge. The positions of its ends are kept, so that
 // a step reads that of one vertex.
@@ -54,7 +53,11 @@ impl<'a, V: HasPosition, DE, UE, F, P: PlaneTests<V::Scalar>> Search<'a, V, DE, 
         ensures stop { IsStopOf V.place V.Scalar.whole self.now result }
         ensures kept { IsTriangulated V.place (state_of self.now.dcel) }
     {
-        let (from, to) = ends_of(self.dcel, edge);
+        let placed = Placed {
+            dcel: self.dcel,
+            tests: self.tests,
+        };
+        let (from, to) = placed.ends_of(edge);
         Stop { edge, from, to }
     }
 

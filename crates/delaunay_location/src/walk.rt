@@ -8,7 +8,6 @@ ghost use Rattle.delaunay_location.specs.Location.{Locates};
 ghost use Rattle.delaunay_location.specs.Search.{IsPlaceOf};
 ghost use Rattle.delaunay_location.specs.Stop.{IsWalkOf};
 
-use crate::parts::ends_of;
 use crate::position_in_triangulation::PositionInTriangulation;
 use crate::samples::nearer_sample;
 use crate::search::Search;
@@ -18,7 +17,7 @@ use delaunay_legalization::delaunay_core::point::{HasPosition, Point2};
 use delaunay_legalization::half_edge_mesh::{
     Dcel, FixedDirectedEdgeHandle, FixedVertexHandle, MeshViews,
 };
-use delaunay_legalization::{is_same_point, is_strictly_within};
+use delaunay_legalization::{Placed, is_same_point, is_strictly_within};
 
 // After so many steps a walk looks for a nearer vertex anywhere in the mesh.
 pub(crate) const FEW_STEPS: usize = 16;
@@ -40,7 +39,11 @@ impl<'a, V: HasPosition, DE, UE, F, P: PlaneTests<V::Scalar>> Search<'a, V, DE, 
         requires { edge < length self.now.dcel.directed }
         ensures { IfSome result (IsPlaceOf V.place self.now) }
     {
-        let (from, to) = ends_of(self.dcel, edge);
+        let placed = Placed {
+            dcel: self.dcel,
+            tests: self.tests,
+        };
+        let (from, to) = placed.ends_of(edge);
         if is_same_point(from, self.point) {
             let vertex = self.dcel.directed_edge(edge).from().fix();
             return Some(PositionInTriangulation::OnVertex(vertex));

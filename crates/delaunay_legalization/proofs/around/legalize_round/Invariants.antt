@@ -1,16 +1,18 @@
 use Rattle.std.proofs.Common.{map}
 use Rattle.mesh_embedding.specs.half_edge_mesh.Mesh.{origin}
 use Rattle.delaunay_legalization.specs.Around.{IsOpposite}
+use Rattle.delaunay_legalization.specs.Placed.{IsPlaced}
 use Rattle.delaunay_legalization.proofs.RoundSteps.{IsTurningRound, tests_left}
 use Rattle.delaunay_legalization.proofs.around.legalize_round.Given as goal
 
 abbrev pub invariant-loop-next : goal.invariant-loop-next
-invariant-loop-next g l =
-    IsTurningRound g.V.HasPosition.place g.M.ConstraintMarker.constraints l.fn.dcel l.dcel
-    (origin l.fn.dcel.mesh l.first)
-    l.first l.spoke l.fn.flips l.flips
-    × IsOpposite g.V.Scalar.SpadeNum.whole
-    (map g.V.HasPosition.place l.dcel.vertices) l.dcel.mesh l.spoke l.opposite
+invariant-loop-next g l = record {
+  turning : IsTurningRound g.V.HasPosition.place g.M.ConstraintMarker.constraints l.fn.dcel l.dcel
+      (origin l.fn.dcel.mesh l.first) l.first l.spoke l.fn.flips l.flips;
+  opposite : IsOpposite g.V.Scalar.SpadeNum.whole (g.P.PlaneTests.sites l.tests)
+      (map g.V.HasPosition.place l.dcel.vertices) l.dcel.mesh l.spoke l.opposite;
+  placed : IsPlaced g.V.HasPosition.place g.P.PlaneTests.sites l.dcel l.tests;
+}
 
 abbrev pub decreases-loop-next : goal.decreases-loop-next
 decreases-loop-next g l =

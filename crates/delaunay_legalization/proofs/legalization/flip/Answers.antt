@@ -1,19 +1,27 @@
-use Rattle.std.proofs.Common.{◌*◌, length, map}
+use Rattle.std.proofs.Common.{◌*◌, ap, ◌∙◌}
 use Rattle.mesh_embedding.proofs.half_edge_links.Removing.Conditions.{between_faces}
 use Rattle.delaunay_legalization.proofs.Legalizing.{failing_flippable, failing_apart}
+use Rattle.delaunay_legalization.proofs.Placing.{kept_flipped}
 use Rattle.delaunay_legalization.proofs.legalization.flip.Goals as goal
 
 pub flip_cw-requires-clause-between : goal.flip_cw-requires-clause-between
 flip_cw-requires-clause-between g c =
-    let w = c.recall_invariant.ensures.whole in
-    between_faces _ _
-    (failing_flippable (map g.V.HasPosition.place c.args.dcel.now.vertices) c.args.dcel.now.mesh
-    w.valid c.requires.shape (2 * c.args.edge)
-    (length c.args.dcel.now.directed) w.fits.directed_fit c.requires.within c.requires.failing)
+    let kept = c.requires.kept in
+    between_faces _ _ (failing_flippable _ _ kept.valid kept.shape (2 * c.args.edge) _
+    kept.fits.directed_fit c.requires.within c.requires.failing)
 
 pub flip_cw-requires-clause-corners : goal.flip_cw-requires-clause-corners
 flip_cw-requires-clause-corners g c =
-    let w = c.recall_invariant.ensures.whole in
-    failing_apart (map g.V.HasPosition.place c.args.dcel.now.vertices) c.args.dcel.now.mesh w.valid
-    c.requires.shape (2 * c.args.edge)
-    (length c.args.dcel.now.directed) w.fits.directed_fit c.requires.within c.requires.failing
+    let kept = c.requires.kept in
+    failing_apart _ _ kept.valid kept.shape (2 * c.args.edge) _ kept.fits.directed_fit
+    c.requires.within c.requires.failing
+
+pub returns-clause-contents : goal.returns-clause-contents
+returns-clause-contents g c =
+    c.flip_cw.ensures.contents
+    ∙ ap (λ m. record c.args.dcel.now { mesh = m }) c.flip_cw.ensures.mesh
+
+pub returns-clause-kept : goal.returns-clause-kept
+returns-clause-kept g c =
+    kept_flipped g.V.HasPosition.place _ _ (2 * c.args.edge) c.requires.kept c.requires.within
+    c.requires.failing c.flip_cw.ensures.mesh c.flip_cw.ensures.contents c.flip_cw.ensures.whole.1

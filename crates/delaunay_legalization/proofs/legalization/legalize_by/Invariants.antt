@@ -1,14 +1,15 @@
 use Rattle.std.proofs.Common.{map}
-use Rattle.mesh_embedding.specs.half_edge_mesh.Contents.{IsMeshWithData}
 use Rattle.mesh_embedding.specs.Legal.{steps_left}
+use Rattle.delaunay_legalization.specs.Placed.{IsPlaced}
 use Rattle.delaunay_legalization.proofs.Stepping.{IsUnderwayBy}
 use Rattle.delaunay_legalization.proofs.legalization.legalize_by.Given as goal
 
 abbrev pub invariant-loop-edge : goal.invariant-loop-edge
-invariant-loop-edge g l =
-    IsUnderwayBy l.sides g.V.HasPosition.place g.M.ConstraintMarker.constraints l.fn.dcel
-    l.dcel l.work.items
-    l.fn.work.room l.work.room l.fn.flips l.flips × IsMeshWithData l.dcel
+invariant-loop-edge g l = record {
+  underway : IsUnderwayBy l.sides g.V.HasPosition.place g.M.ConstraintMarker.constraints l.fn.dcel
+      l.dcel l.work.items l.fn.work.room l.work.room l.fn.flips l.flips;
+  placed : IsPlaced g.V.HasPosition.place g.P.PlaneTests.sites l.dcel l.tests;
+}
 
 abbrev pub decreases-loop-edge : goal.decreases-loop-edge
 decreases-loop-edge g l =

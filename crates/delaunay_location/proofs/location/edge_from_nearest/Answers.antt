@@ -32,15 +32,14 @@ loop-index-preserved g c =
           c.loop-index-test.true,
           c.num_directed_edges-index-end.ensures.value,
         );
-        nearest = less_is_least at c.loop-index.index c.from_index-edge.result c.loop-index.nearest
-            c.from_index-edge.ensures
+        nearest = less_is_least at _ _ _ c.from_index-edge.ensures
             (c.starts_nearer.ensures.0 w.if-starts_nearer.true) c.loop-index.invariant.nearest;
       })
       | else-starts_nearer w ↦ rw w.nearest-is (record {
         within = c.loop-index.invariant.within;
-        nearest = still_least at c.loop-index.index c.from_index-edge.result c.loop-index.nearest
-            c.from_index-edge.ensures (λ l. both_ways _
-            (c.starts_nearer.ensures.1 l) w.if-starts_nearer.false) c.loop-index.invariant.nearest;
+        nearest = still_least at _ _ _ c.from_index-edge.ensures
+            (λ l. both_ways _ (c.starts_nearer.ensures.1 l) w.if-starts_nearer.false)
+            c.loop-index.invariant.nearest;
       })
     ]
 

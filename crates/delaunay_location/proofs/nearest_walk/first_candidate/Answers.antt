@@ -8,8 +8,6 @@ use Rattle.delaunay_legalization.specs.plane.Circle.{gap}
 use Rattle.delaunay_legalization.specs.plane.Pairs.{place}
 use Rattle.delaunay_legalization.specs.delaunay_core.Place.{place_of}
 use Rattle.delaunay_location.proofs.BothWays.{named_first, no_edges}
-use Rattle.delaunay_legalization.specs.State.{state_of, triangulation_of}
-use Rattle.delaunay_location.specs.Candidate.{IsMoveCount}
 use Rattle.delaunay_location.proofs.Candidates.{candidate_from_nearer, nearer_than_same}
 use Rattle.delaunay_location.proofs.Candidates.{move_to_nearer, place_within}
 use Rattle.delaunay_location.proofs.Neighbours.{moves_fit, no_nearer_neighbour, none_counted}
@@ -23,9 +21,7 @@ returns-in_err-out_edge g c =
     (λ i. (ap (λ d. d.now.mesh) c.vertex.ensures.dcel i, c.vertex.ensures.index i))
     (c.in_err-out_edge.ensures.none.0 refl) in
     rw c.from_residual.ensures (record {
-      candidate = no_nearer_neighbour (map g.V.HasPosition.place c.args.dcel.now.vertices) m
-          (place_of g.V.Scalar.SpadeNum.whole c.args.point) c.args.from c.requires.kept.valid.sound
-          (λ h within starts.
+      candidate = no_nearer_neighbour _ m _ _ c.requires.kept.valid.sound (λ h within starts.
           absurd (no_edges m c.requires.kept.valid c.args.from h none within starts));
       counted = refl;
     })
@@ -37,8 +33,7 @@ nearer_end-requires-clause-start g c =
     let named = c.requires.kept.valid.sound.vertices c.args.from c.fix-spoke.result
     (named_first _ _ _ _ _ _ (ap (λ d. d.now.mesh) c.vertex.ensures.dcel) c.vertex.ensures.index
     c.in_ok-out_edge.ensures.edge.1 c.fix-spoke.ensures.value) in
-    to_z-of_z w64 c.distance_2_to-distance_2.result
-    (record { sfits = c.distance_2_to-distance_2.type_inv })
+    to_z-of_z w64 _ (record { sfits = c.distance_2_to-distance_2.type_inv })
     ∙ c.distance_2_to-distance_2.ensures ∙ ap far (sym named.1)
 
 pub overflow_add-moves : goal.overflow_add-moves
@@ -46,21 +41,20 @@ overflow_add-moves g c =
     let named = c.requires.kept.valid.sound.vertices c.args.from c.fix-spoke.result
     (named_first _ _ _ _ _ _ (ap (λ d. d.now.mesh) c.vertex.ensures.dcel) c.vertex.ensures.index
     c.in_ok-out_edge.ensures.edge.1 c.fix-spoke.ensures.value) in
-    let move = move_to_nearer _ _ c.requires.kept _ _ _ (place_within _ _ _ c.requires.within)
-    (nearer_than_same _ _ _ _ _ _ named.1 c.in-Some.ensures) in
-    let fits = moves_fit _ _ _ _ _ _ (one_counted _ _ _ _ move _) (2 ^ 64) c.requires.fits in
-    omega (arith, fits)
+    let move = move_to_nearer c.requires.kept (place_within _ _ _ c.requires.within)
+    (nearer_than_same named.1 c.in-Some.ensures) in
+    let fits = moves_fit (one_counted move) (2 ^ 64) c.requires.fits in omega (arith, fits)
 
 pub returns-in-Some : goal.returns-in-Some
 returns-in-Some g c =
     let named = c.requires.kept.valid.sound.vertices c.args.from c.fix-spoke.result
     (named_first _ _ _ _ _ _ (ap (λ d. d.now.mesh) c.vertex.ensures.dcel) c.vertex.ensures.index
     c.in_ok-out_edge.ensures.edge.1 c.fix-spoke.ensures.value) in
-    let near = nearer_than_same _ _ _ _ _ _ named.1 c.in-Some.ensures in
+    let near = nearer_than_same named.1 c.in-Some.ensures in
     let here = place_within _ _ _ c.requires.within in
     record {
-      candidate = candidate_from_nearer _ _ _ _ _ near;
-      counted = one_counted _ _ _ _ (move_to_nearer _ _ c.requires.kept _ _ _ here near) _;
+      candidate = candidate_from_nearer near;
+      counted = one_counted (move_to_nearer c.requires.kept here near);
     }
 
 pub returns-in-None : goal.returns-in-None
@@ -70,21 +64,15 @@ returns-in-None g c =
     let named = c.requires.kept.valid.sound.vertices c.args.from c.fix-spoke.result
     (named_first _ _ _ _ _ _ (ap (λ d. d.now.mesh) c.vertex.ensures.dcel) c.vertex.ensures.index
     c.in_ok-out_edge.ensures.edge.1 c.fix-spoke.ensures.value) in
-    let t = triangulation_of g.V.HasPosition.place (state_of c.args.dcel.now) in
-    let p = place_of g.V.Scalar.SpadeNum.whole c.args.point in
-    let was = c.args.moves.now in
     record {
       candidate = record {
         candidate = record {
           within = named.0;
-          distance =
-              to_z-of_z w64 c.distance_2_to-distance_2.result
-              (record { sfits = c.distance_2_to-distance_2.type_inv })
+          distance = to_z-of_z w64 _ (record { sfits = c.distance_2_to-distance_2.type_inv })
               ∙ c.distance_2_to-distance_2.ensures ∙ ap far (sym named.1);
           ends = c.in-None.ensures;
         };
         nearer = inl named.1;
       };
-      counted = subst (λ (w : ℕ). IsMoveCount t p c.args.from w was was) (sym named.1)
-          (none_counted t p c.args.from was);
+      counted = rw named.1 none_counted;
     }

@@ -2,7 +2,6 @@ use Rattle.std.proofs.Common.{◌≡◌, ◌≢◌, map, refl, sym, ap, ◌∙�
 use Rattle.delaunay_legalization.specs.half_edge_mesh.Mesh.{next, origin, prev, rev}
 use Rattle.delaunay_legalization.proofs.half_edge_links.Lists.Rev.{rev-rev}
 use Rattle.delaunay_legalization.specs.delaunay_core.Place.{place_of}
-use Rattle.delaunay_legalization.specs.State.{state_of}
 use Rattle.delaunay_legalization.proofs.OppositeSides.{link_read}
 use Rattle.delaunay_location.specs.Candidate.{EndsNoNearer}
 use Rattle.delaunay_location.proofs.BothWays.{IsClosingIn, closing_in_begins, fewer_before}
@@ -38,22 +37,17 @@ left_on : (g : Over) (c : In_default g) → let m = c.args.dcel.now.mesh in
     → IsClosingIn m (origin m c.args.from.now.spoke) c.args.from.now.spoke
     (EndsNoNearer (map g.V.HasPosition.place c.args.dcel.now.vertices) m
     (place_of g.V.Scalar.SpadeNum.whole c.args.point)) c.fix-next.result c.loop-point.right
-left_on g c is = left_goes_on _ c.requires.kept.valid _ _ _ _ _ c.loop-point.invariant _ is
+left_on g c is = left_goes_on c.requires.kept.valid c.loop-point.invariant is
     (λ e. c.if-index.false (c.index.ensures ∙ e ∙ sym c.index-in-loop-point.ensures))
     c.in_default.ensures
 
 pub loop-point-init : goal.loop-point-init
 loop-point-init g c =
-    closing_in_begins c.args.dcel.now.mesh c.requires.kept.valid
-    (origin c.args.dcel.now.mesh c.args.from.now.spoke)
-    c.args.from.now.spoke
-    (EndsNoNearer (map g.V.HasPosition.place c.args.dcel.now.vertices) c.args.dcel.now.mesh
-    (place_of g.V.Scalar.SpadeNum.whole c.args.point)) c.requires.from.within refl
-    c.requires.from.ends
+    closing_in_begins c.requires.kept.valid c.requires.from.within refl c.requires.from.ends
 
 pub directed_edge-requires : goal.directed_edge-requires
 directed_edge-requires g c =
-    let w = left_within _ c.requires.kept.valid _ _ _ _ _ c.loop-point.invariant in
+    let w = left_within c.requires.kept.valid c.loop-point.invariant in
     let fit = c.requires.kept.fits.directed_fit in
     omega (arith, w, fit)
 
@@ -61,30 +55,27 @@ pub returns-then-index : goal.returns-then-index
 returns-then-index g c =
     let is = left_is g (goal.at.returns-then-index g c).After-fix-next in
     no_nearer_neighbour _ _ _ _ c.requires.kept.valid.sound
-    (seen_where_left_meets _ c.requires.kept.valid _ _ _ _ _ c.loop-point.invariant
+    (seen_where_left_meets c.requires.kept.valid c.loop-point.invariant
     (sym is ∙ sym c.index.ensures ∙ c.if-index.true ∙ c.index-in-loop-point.ensures))
 
 pub nearer_end-requires-clause-start : goal.nearer_end-requires-clause-start
 nearer_end-requires-clause-start g c =
     let m = c.args.dcel.now.mesh in
     let is = left_is g (goal.at.nearer_end-requires-clause-start g c).After-fix-next in
-    distance_read g.V.HasPosition.place (state_of c.args.dcel.now) c.requires.kept
-    (place_of g.V.Scalar.SpadeNum.whole c.args.point) c.requires.in_range c.args.from.now
-    c.requires.from
-    c.fix-next.result
-    (ap (origin m) is ∙ left_starts _ c.requires.kept.valid _ _ _ _ _ c.loop-point.invariant)
+    distance_read c.requires.kept c.requires.in_range c.requires.from _
+    (ap (origin m) is ∙ left_starts c.requires.kept.valid c.loop-point.invariant)
 
 pub returns-in-Some : goal.returns-in-Some
 returns-in-Some g c =
     let m = c.args.dcel.now.mesh in
     let is = left_is g (goal.at.returns-in-Some g c).After-fix-next in
-    nearer_than_same _ _ _ _ _ _
-    (ap (origin m) is ∙ left_starts _ c.requires.kept.valid _ _ _ _ _ c.loop-point.invariant)
+    nearer_than_same
+    (ap (origin m) is ∙ left_starts c.requires.kept.valid c.loop-point.invariant)
     c.in-Some.ensures
 
 pub directed_edge-requires-in-loop-point : goal.directed_edge-requires-in-loop-point
 directed_edge-requires-in-loop-point g c =
-    let w = right_within _ c.requires.kept.valid _ _ _ _ _ c.loop-point.invariant in
+    let w = right_within c.requires.kept.valid c.loop-point.invariant in
     let fit = c.requires.kept.fits.directed_fit in
     omega (arith, w, fit)
 
@@ -94,7 +85,7 @@ returns-then-index-2 g c =
     let left = left_on g (goal.at.returns-then-index-2 g c).In_default is in
     let r_is = right_is g (goal.at.returns-then-index-2 g c).After-fix-next-in-loop-point in
     no_nearer_neighbour _ _ _ _ c.requires.kept.valid.sound
-    (seen_where_right_meets _ c.requires.kept.valid _ _ _ _ _ left
+    (seen_where_right_meets c.requires.kept.valid left
     (sym r_is ∙ sym c.index-in-loop-point-2.ensures ∙ c.if-index-2.true
     ∙ c.index-in-loop-point-3.ensures))
 
@@ -115,18 +106,15 @@ nearer_end-requires-in-loop-point-clause-start g c =
     let m = c.args.dcel.now.mesh in
     let r_is = right_is g
     (goal.at.nearer_end-requires-in-loop-point-clause-start g c).After-fix-next-in-loop-point in
-    distance_read g.V.HasPosition.place (state_of c.args.dcel.now) c.requires.kept
-    (place_of g.V.Scalar.SpadeNum.whole c.args.point) c.requires.in_range c.args.from.now
-    c.requires.from
-    c.fix-next-in-loop-point.result
-    (ap (origin m) r_is ∙ right_starts _ c.requires.kept.valid _ _ _ _ _ c.loop-point.invariant)
+    distance_read c.requires.kept c.requires.in_range c.requires.from _
+    (ap (origin m) r_is ∙ right_starts c.requires.kept.valid c.loop-point.invariant)
 
 pub returns-in-Some-nearer_end : goal.returns-in-Some-nearer_end
 returns-in-Some-nearer_end g c =
     let m = c.args.dcel.now.mesh in
     let r_is = right_is g (goal.at.returns-in-Some-nearer_end g c).After-fix-next-in-loop-point in
-    nearer_than_same _ _ _ _ _ _
-    (ap (origin m) r_is ∙ right_starts _ c.requires.kept.valid _ _ _ _ _ c.loop-point.invariant)
+    nearer_than_same
+    (ap (origin m) r_is ∙ right_starts c.requires.kept.valid c.loop-point.invariant)
     c.in-Some-nearer_end.ensures
 
 pub loop-point-smaller : goal.loop-point-smaller
@@ -134,7 +122,7 @@ loop-point-smaller g c =
     let is = left_is g (goal.at.loop-point-smaller g c).After-fix-next in
     let away : c.fix-next.result ≢ c.loop-point.right =
     λ e. c.if-index.false (c.index.ensures ∙ e ∙ sym c.index-in-loop-point.ensures) in
-    fewer_before _ c.requires.kept.valid _ _ _ _ _ c.loop-point.invariant c.fix-next.result is away
+    fewer_before c.requires.kept.valid c.loop-point.invariant is away
 
 pub loop-point-preserved : goal.loop-point-preserved
 loop-point-preserved g c =
@@ -144,5 +132,5 @@ loop-point-preserved g c =
     let r_away : c.fix-next-in-loop-point.result ≢ c.fix-next.result =
     λ e. c.if-index-2.false
     (c.index-in-loop-point-2.ensures ∙ e ∙ sym c.index-in-loop-point-3.ensures) in
-    right_goes_on _ c.requires.kept.valid _ _ _ _ _ left c.fix-next-in-loop-point.result r_is
+    right_goes_on c.requires.kept.valid left r_is
     r_away c.in_default-nearer_end.ensures

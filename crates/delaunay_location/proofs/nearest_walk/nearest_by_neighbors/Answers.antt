@@ -1,7 +1,5 @@
-use Rattle.std.proofs.Common.{◌^◌, length}
+use Rattle.std.proofs.Common.{◌^◌}
 use Rattle.std.proofs.lemmas.List.{length-map}
-use Rattle.delaunay_legalization.specs.half_edge_mesh.Mesh.{origin}
-use Rattle.delaunay_legalization.specs.plane.Fraction.{whole}
 use Rattle.plane_delaunay.proofs.Circles.Nearest.{nearest_by_neighbours}
 use Rattle.delaunay_legalization.specs.delaunay_core.Place.{place_of}
 use Rattle.delaunay_legalization.specs.State.{state_of, triangulation_of}
@@ -12,36 +10,24 @@ use Rattle.delaunay_location.proofs.nearest_walk.nearest_by_neighbors.Goals as g
 pub first_candidate-requires-clause-fits : goal.first_candidate-requires-clause-fits
 first_candidate-requires-clause-fits g c =
     room_at (triangulation_of g.V.HasPosition.place (state_of c.args.dcel.now))
-    (place_of g.V.Scalar.SpadeNum.whole c.args.point) c.args.start
-    (length c.args.dcel.now.vertices)
+    (place_of g.V.Scalar.SpadeNum.whole c.args.point) c.args.start _
     (length-map c.args.dcel.now.vertices g.V.HasPosition.place) c.requires.within
     c.args.moves.now (2 ^ 64) c.requires.fits
 
 pub nearest_from-requires-clause-fits : goal.nearest_from-requires-clause-fits
 nearest_from-requires-clause-fits g c =
-    let t = triangulation_of g.V.HasPosition.place (state_of c.args.dcel.now) in
-    let p = place_of g.V.Scalar.SpadeNum.whole c.args.point in
-    room_stays t p c.args.start (origin c.args.dcel.now.mesh c.in-Some.candidate.spoke)
-    c.args.moves.now c.first_candidate.new.moves c.in-Some.ensures.counted (2 ^ 64)
-    (room_at t p c.args.start (length c.args.dcel.now.vertices)
+    room_stays c.in-Some.ensures.counted (2 ^ 64)
+    (room_at (triangulation_of g.V.HasPosition.place (state_of c.args.dcel.now))
+    (place_of g.V.Scalar.SpadeNum.whole c.args.point) c.args.start _
     (length-map c.args.dcel.now.vertices g.V.HasPosition.place) c.requires.within
     c.args.moves.now (2 ^ 64) c.requires.fits)
 
 pub returns-in-Some-clause-counted : goal.returns-in-Some-clause-counted
 returns-in-Some-clause-counted g c =
-    let t = triangulation_of g.V.HasPosition.place (state_of c.args.dcel.now) in
-    let p = place_of g.V.Scalar.SpadeNum.whole c.args.point in
-    fewer_moves t p c.args.start (length c.args.dcel.now.vertices)
-    (length-map c.args.dcel.now.vertices g.V.HasPosition.place) c.requires.within
-    c.nearest_from.result c.args.moves.now c.nearest_from.new.moves
-    (more_counted t p c.args.start (origin c.args.dcel.now.mesh c.in-Some.candidate.spoke)
-    c.args.moves.now c.first_candidate.new.moves c.in-Some.ensures.counted
-    c.nearest_from.result c.nearest_from.new.moves c.nearest_from.ensures.counted)
+    fewer_moves _ _ c.args.start _ (length-map c.args.dcel.now.vertices g.V.HasPosition.place)
+    c.requires.within (more_counted c.in-Some.ensures.counted c.nearest_from.ensures.counted)
 
 pub returns-in-None-clause-nearest : goal.returns-in-None-clause-nearest
 returns-in-None-clause-nearest g c =
-    nearest_by_neighbours
-    (triangulation_of g.V.HasPosition.place (state_of c.args.dcel.now)) c.requires.delaunay
-    (whole (place_of g.V.Scalar.SpadeNum.whole c.args.point)) c.args.start
-    (place_within g.V.HasPosition.place _ _ c.requires.within)
-    c.in-None.ensures.candidate
+    nearest_by_neighbours _ c.requires.delaunay _ c.args.start
+    (place_within g.V.HasPosition.place _ _ c.requires.within) c.in-None.ensures.candidate

@@ -1,36 +1,9 @@
 use Rattle.std.proofs.Common.{sym, ◌∙◌}
-use Rattle.delaunay_legalization.specs.delaunay_core.Place.{place_of}
 use Rattle.delaunay_legalization.proofs.Questions.{both_ways}
-use Rattle.delaunay_location.proofs.Covering.{vertex_covered}
 use Rattle.delaunay_location.proofs.Questions.{clear, located_left}
 use Rattle.delaunay_location.proofs.search.Search.place_at_edge.Goals.{else-is_outer-via-then-is_outer+else-turns_left}
 use Rattle.delaunay_location.proofs.search.Search.place_at_edge.Goals.{else-is_outer-via-else-is_outer}
-use Rattle.delaunay_location.proofs.search.Search.place_at_edge.Given.{Over}
-use Rattle.delaunay_location.proofs.search.Search.place_at_edge.Goals.{After-ends_of}
 use Rattle.delaunay_location.proofs.search.Search.place_at_edge.Goals as goal
-
--- the tests cover both ends of the edge
-ends_are_covered : (g : Over) (c : After-ends_of g) → let t = c.self.inside.tests.now in
-    let number = g.V.Scalar.SpadeNum.whole in
-    g.P.PlaneTests.covered t (place_of number c.ends_of.result.0)
-    × g.P.PlaneTests.covered t (place_of number c.ends_of.result.1)
-ends_are_covered g c =
-    let covers = g.met.P.PlaneTests.sites_are_covered in
-    let ends = c.ends_of.ensures in (
-      vertex_covered _ _ _ covers _ _ _ c.self.invariant _ _ ends.edge.source ends.from,
-      vertex_covered _ _ _ covers _ _ _ c.self.invariant _ _ ends.edge.target ends.to,
-    )
-
-pub is_strictly_within-requires-clause-from_covered :
-    goal.is_strictly_within-requires-clause-from_covered
-is_strictly_within-requires-clause-from_covered g c =
-    (ends_are_covered g
-    (goal.at.is_strictly_within-requires-clause-from_covered g c).After-ends_of).0
-
-pub is_strictly_within-requires-clause-to_covered :
-    goal.is_strictly_within-requires-clause-to_covered
-is_strictly_within-requires-clause-to_covered g c =
-    (ends_are_covered g (goal.at.is_strictly_within-requires-clause-to_covered g c).After-ends_of).1
 
 pub is_strictly_within-requires-clause-not_from : goal.is_strictly_within-requires-clause-not_from
 is_strictly_within-requires-clause-not_from g c same =
@@ -42,13 +15,12 @@ is_strictly_within-requires-clause-not_to g c same =
     let ends = c.ends_of.ensures in
     (rw (← c.self.view_is) at c.requires.apart).apart _ ends.edge.target (sym ends.to ∙ sym same)
 
-pub turns_left-requires-clause-a_covered : goal.turns_left-requires-clause-a_covered
-turns_left-requires-clause-a_covered g c =
-    (ends_are_covered g (goal.at.turns_left-requires-clause-a_covered g c).After-ends_of).0
-
-pub turns_left-requires-clause-b_covered : goal.turns_left-requires-clause-b_covered
-turns_left-requires-clause-b_covered g c =
-    (ends_are_covered g (goal.at.turns_left-requires-clause-b_covered g c).After-ends_of).1
+pub turns_left-requires : goal.turns_left-requires
+turns_left-requires g c = record {
+  a_covered = g.met.P.PlaneTests.sites_are_covered _ _ c.ends_of.ensures.from_site;
+  b_covered = g.met.P.PlaneTests.sites_are_covered _ _ c.ends_of.ensures.to_site;
+  c_covered = c.self.invariant.covered;
+}
 
 pub returns-then-turns_left : goal.returns-then-turns_left
 returns-then-turns_left g c =

@@ -1,7 +1,5 @@
 use Rattle.std.proofs.Common.{sym, ap, ◌∙◌}
 use Rattle.delaunay_legalization.specs.half_edge_mesh.Mesh.{next, rev}
-use Rattle.delaunay_legalization.specs.delaunay_core.Place.{place_of}
-use Rattle.delaunay_legalization.specs.State.{state_of}
 use Rattle.delaunay_legalization.proofs.OppositeSides.{link_read}
 use Rattle.delaunay_location.proofs.Locating.{at_vertex}
 use Rattle.delaunay_location.proofs.search.Search.place_near.Goals as goal
@@ -12,9 +10,7 @@ position_of-requires g c =
 
 pub returns-then-is_same_point : goal.returns-then-is_same_point
 returns-then-is_same_point g c =
-    rw (← c.self.view_is) (at_vertex g.V.HasPosition.place
-    (state_of c.self.inside.dcel.now) c.self.invariant.kept
-    (place_of g.V.Scalar.SpadeNum.whole c.self.inside.point) c.fix-vertex.result
+    rw (← c.self.view_is) (at_vertex _ _ c.self.invariant.kept _ _
     (rw (c.from.ensures.dcel, c.directed_edge-here.ensures.dcel) at c.fix-vertex.ensures.in_range)
     (sym c.position_of.ensures.place ∙ c.is_same_point.ensures.0 c.if-is_same_point.true))
 

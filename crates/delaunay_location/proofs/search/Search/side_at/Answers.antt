@@ -1,14 +1,12 @@
 use Rattle.delaunay_location.proofs.Covering.{ends_covered}
 use Rattle.delaunay_location.proofs.search.Search.side_at.Goals as goal
 
-pub side-requires-clause-from_covered : goal.side-requires-clause-from_covered
-side-requires-clause-from_covered g c =
-    let covers = g.met.P.PlaneTests.sites_are_covered in
-    (ends_covered _ _ _ covers _ _ _ c.self.invariant _ c.args.stop
-    (rw (← c.self.view_is) at c.requires)).0
-
-pub side-requires-clause-to_covered : goal.side-requires-clause-to_covered
-side-requires-clause-to_covered g c =
-    let covers = g.met.P.PlaneTests.sites_are_covered in
-    (ends_covered _ _ _ covers _ _ _ c.self.invariant _ c.args.stop
-    (rw (← c.self.view_is) at c.requires)).1
+pub side-requires : goal.side-requires
+side-requires g c =
+    let ends = ends_covered g.met.P.PlaneTests.sites_are_covered c.self.invariant
+    (rw (← c.self.view_is) at c.requires) in
+    record {
+      from_covered = ends.0;
+      to_covered = ends.1;
+      point_covered = c.self.invariant.covered;
+    }

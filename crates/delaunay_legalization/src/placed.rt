@@ -1,0 +1,149 @@
+//! A mesh with its points, for reads.
+ghost use Rattle.std.specs.Prelude.{◌≡◌, ◌↔◌, ◌*◌, ◌<◌, ◌≤◌, length, map, IsTrue};
+ghost use Rattle.mesh_embedding.specs.half_edge_mesh.Mesh.{origin, prev, face_edge, rev};
+ghost use Rattle.mesh_embedding.specs.half_edge_mesh.Triangles.{triangle_at};
+ghost use Rattle.mesh_embedding.specs.Legal.{IsFailing};
+ghost use Rattle.delaunay_core.specs.Place.{place_of};
+ghost use Rattle.delaunay_legalization.specs.Known.{point_at};
+ghost use Rattle.delaunay_legalization.specs.Parts.{IsMeshEdge, IsMeshFace};
+
+use crate::legalization::{is_outer, position_of};
+use delaunay_core::math::PlaneTests;
+use delaunay_core::point::{HasPosition, Point2};
+use mesh_embedding::half_edge_mesh::{
+    Dcel, FixedDirectedEdgeHandle, FixedFaceHandle, FixedUndirectedEdgeHandle, FixedVertexHandle,
+    MeshViews,
+};
+use std::marker::Model;
+
+/// The mesh of a triangulation whose vertices are sites of tests.
+#[derive(Drop)]
+pub struct Placed<'a, V: HasPosition, DE, UE, F, P: PlaneTests<V::Scalar>> {
+    pub dcel: &'a Dcel<V, DE, UE, F>,
+    pub tests: &'a P,
+}
+
+impl<'a, V: HasPosition, DE, UE, F, P: PlaneTests<V::Scalar>> Model
+    for Placed<'a, V, DE, UE, F, P> {
+    ghost use Rattle.delaunay_legalization.specs.Placed.{IsPlaced, Reading};
+
+    ghost Value = { Reading V DE UE F P };
+
+    ghost view = { λ s. record { dcel = s.dcel.now; tests = s.tests.now } };
+
+    ghost invariant = { λ s. IsPlaced V.place P.sites s.dcel.now s.tests.now };
+}
+
+impl<'a, V: HasPosition, DE, UE, F, P: PlaneTests<V::Scalar>> Placed<'a, V, DE, UE, F, P> {
+    /// The position of a vertex.
+    #[inline(always)]
+    pub fn position_of(&self, vertex: FixedVertexHandle) -> Point2<V::Scalar>
+        requires { vertex < length self.now.dcel.vertices }
+        ensures place { place_of V.Scalar.whole result ≡
+            point_at (map V.place self.now.dcel.vertices) vertex }
+        ensures site { P.sites self.now.tests (place_of V.Scalar.whole result) }
+    {
+        position_of(self.dcel, vertex)
+    }
+
+    /// The position where an edge starts.
+    #[inline(always)]
+    pub fn start_of(&self, edge: FixedDirectedEdgeHandle) -> Point2<V::Scalar>
+        requires { edge < length self.now.dcel.directed }
+        ensures place { place_of V.Scalar.whole result ≡
+            point_at (map V.place self.now.dcel.vertices) (origin self.now.dcel.mesh edge) }
+        ensures site { P.sites self.now.tests (place_of V.Scalar.whole result) }
+    {
+        self.position_of(self.dcel.directed_edge(edge).from().fix())
+    }
+
+    /// The position where an edge ends, which is where the edge after it starts.
+    #[inline(always)]
+    pub fn end_of(&self, edge: FixedDirectedEdgeHandle) -> Point2<V::Scalar>
+        requires { edge < length self.now.dcel.directed }
+        ensures place { place_of V.Scalar.whole result ≡
+            point_at (map V.place self.now.dcel.vertices) (origin self.now.dcel.mesh (rev edge)) }
+        ensures site { P.sites self.now.tests (place_of V.Scalar.whole result) }
+    {
+        self.start_of(self.dcel.directed_edge(edge).next().fix())
+    }
+
+    /// The position where the edge before an edge starts: in an inner face the corner opposite the
+    /// edge.
+    #[inline(always)]
+    pub fn start_before(&self, edge: FixedDirectedEdgeHandle) -> Point2<V::Scalar>
+        requires { edge < length self.now.dcel.directed }
+        ensures place { place_of V.Scalar.whole result ≡
+            point_at (map V.place self.now.dcel.vertices)
+            (origin self.now.dcel.mesh (prev self.now.dcel.mesh edge)) }
+        ensures site { P.sites self.now.tests (place_of V.Scalar.whole result) }
+    {
+        self.position_of(self.dcel.directed_edge(edge).prev_from().fix())
+    }
+
+    /// The positions of the ends of an edge, in its direction.
+    pub fn ends_of(&self, edge: FixedDirectedEdgeHandle) -> (Point2<V::Scalar>, Point2<V::Scalar>)
+        requires { edge < length self.now.dcel.directed }
+        ensures from { place_of V.Scalar.whole result.0 ≡
+            point_at (map V.place self.now.dcel.vertices) (origin self.now.dcel.mesh edge) }
+        ensures to { place_of V.Scalar.whole result.1 ≡
+            point_at (map V.place self.now.dcel.vertices) (origin self.now.dcel.mesh (rev edge)) }
+        ensures edge { IsMeshEdge (map V.place self.now.dcel.vertices) self.now.dcel.mesh edge }
+        ensures from_site { P.sites self.now.tests (place_of V.Scalar.whole result.0) }
+        ensures to_site { P.sites self.now.tests (place_of V.Scalar.whole result.1) }
+    {
+        let edge = self.dcel.directed_edge(edge);
+        let from = edge.from().fix();
+        let to = edge.to().fix();
+        (self.position_of(from), self.position_of(to))
+    }
+
+    /// The positions of the corners of an inner face, in their order round it.
+    pub fn corners_of(
+        &self,
+        face: FixedFaceHandle,
+    ) -> (Point2<V::Scalar>, Point2<V::Scalar>, Point2<V::Scalar>)
+        requires { (0 < face) × (face ≤ length self.now.dcel.faces) }
+        ensures first { place_of V.Scalar.whole result.0 ≡
+            point_at (map V.place self.now.dcel.vertices)
+            (triangle_at self.now.dcel.mesh (face_edge self.now.dcel.mesh face)).first }
+        ensures second { place_of V.Scalar.whole result.1 ≡
+            point_at (map V.place self.now.dcel.vertices)
+            (triangle_at self.now.dcel.mesh (face_edge self.now.dcel.mesh face)).second }
+        ensures third { place_of V.Scalar.whole result.2 ≡
+            point_at (map V.place self.now.dcel.vertices)
+            (triangle_at self.now.dcel.mesh (face_edge self.now.dcel.mesh face)).third }
+        ensures face { IsMeshFace (map V.place self.now.dcel.vertices) self.now.dcel.mesh face }
+        ensures first_site { P.sites self.now.tests (place_of V.Scalar.whole result.0) }
+        ensures second_site { P.sites self.now.tests (place_of V.Scalar.whole result.1) }
+        ensures third_site { P.sites self.now.tests (place_of V.Scalar.whole result.2) }
+    {
+        let edge = self.dcel.face(face).adjacent_edge();
+        let first = edge.from().fix();
+        let second = edge.next().from().fix();
+        let third = edge.prev().from().fix();
+        (
+            self.position_of(first),
+            self.position_of(second),
+            self.position_of(third),
+        )
+    }
+
+    // Whether an edge lies between two inner faces, of which one has its third corner inside the
+    // circle of the other.
+    #[inline(always)]
+    pub(crate) fn is_failing(&self, edge: FixedUndirectedEdgeHandle) -> bool
+        requires { 2 * edge < length self.now.dcel.directed }
+        ensures { IsTrue result ↔
+            IsFailing (map V.place self.now.dcel.vertices) self.now.dcel.mesh (2 * edge) }
+    {
+        let edge = edge.as_directed();
+        let twin = edge.rev();
+        if is_outer(self.dcel, edge) || is_outer(self.dcel, twin) {
+            return false;
+        }
+        let (from, to) = (self.start_of(edge), self.start_of(twin));
+        let (left, right) = (self.start_before(edge), self.start_before(twin));
+        self.tests.is_in_circle(from, to, left, right)
+    }
+}
