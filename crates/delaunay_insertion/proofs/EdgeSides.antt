@@ -8,7 +8,7 @@ use Rattle.delaunay_legalization.specs.half_edge_mesh.Mesh.{origin, rev, face}
 use Rattle.delaunay_legalization.specs.half_edge_mesh.Room.{HasRoomFor}
 use Rattle.delaunay_legalization.specs.half_edge_mesh.Triangles.{triangle_at, triangles}
 use Rattle.delaunay_legalization.proofs.half_edge_links.Lists.Rev.{rev-rev, rev_within}
-use Rattle.delaunay_legalization.specs.half_edge_mesh.Contents.{Contents, HasRoom}
+use Rattle.delaunay_legalization.specs.half_edge_mesh.Contents.{Contents, HasRoom, IsMeshWithData}
 use Rattle.delaunay_legalization.specs.plane.Fraction.{Point, whole, WithinSegment}
 use Rattle.delaunay_legalization.specs.plane.Pairs.{place}
 use Rattle.delaunay_legalization.specs.plane.Tiling.{IsTiling, HasFace}
@@ -17,7 +17,7 @@ use Rattle.delaunay_legalization.specs.mesh_embedding.Drawn.{drawn, faces_of, co
 use Rattle.delaunay_legalization.specs.Parts.{IsMeshEdge, IsWithinEdge}
 use Rattle.delaunay_legalization.specs.Shape.{IsTriangulated}
 use Rattle.delaunay_legalization.specs.State.{state_of}
-use Rattle.delaunay_insertion.proofs.Joining.{sides_at_most, edges_and_faces}
+use Rattle.delaunay_insertion.proofs.Growing.{sides_at_most, edges_and_faces}
 use Rattle.delaunay_legalization.proofs.MeshParts.{mesh_edge}
 use Rattle.delaunay_legalization.proofs.Shapes.{laid_out_tiles}
 
@@ -36,8 +36,9 @@ module _ {V D U F : Type 0} (at : V → Point) (c : Contents V D U F)
         let v = room.vertices_fit in
         let e = room.edges_fit in
         let f = room.faces_fit in
-        let counts = edges_and_faces at c kept some in
-        let sides = sides_at_most c (record { valid = kept.valid; fits = kept.fits }) in
+        let whole : IsMeshWithData c = record { valid = kept.valid; fits = kept.fits } in
+        let counts = edges_and_faces at c whole kept.shape some in
+        let sides = sides_at_most c whole in
         record {
           vertices_fit = omega (arith, v);
           edges_fit = omega (arith, e, counts, sides);

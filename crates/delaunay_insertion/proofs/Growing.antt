@@ -1,9 +1,11 @@
 -- What a triangulation keeps where it gets one more vertex.
--- Lemmas: grown, first_shape, second_shape, extended_shape, split_shape.
-use Rattle.std.proofs.Common.{◌≡◌, ◌≢◌, ◌⊎◌, ◌+◌, ◌<◌, ◌≤◌, [], ◌∷◌, ◌++◌, ◌∙◌}
+-- Lemmas: sides_at_most, edges_and_faces, gains, first_shape, second_shape, extended_shape,
+-- split_shape.
+use Rattle.std.proofs.Common.{◌≡◌, ◌≢◌, ◌⊎◌, ◌+◌, ◌*◌, ◌<◌, ◌≤◌, [], ◌∷◌, ◌++◌, ◌∙◌}
 use Rattle.std.proofs.Common.{ℕ, List, length, map, refl, sym, ap, subst, inl, inr, arith}
 use Rattle.std.proofs.Common.{length-append}
-use Rattle.std.specs.Prelude.{All}
+use Rattle.std.specs.Prelude.{All, pos, ℤ, ◌+ℤ◌}
+use Rattle.std.proofs.lemmas.Int.{ints}
 use Rattle.std.proofs.lemmas.List.{length-map, map-append}
 use Rattle.std.proofs.lemmas.List.Elements.{All-push}
 use Rattle.delaunay_legalization.specs.half_edge_mesh.Mesh.{Mesh, AreSoundLinks, IsValidMesh}
@@ -19,37 +21,121 @@ use Rattle.delaunay_legalization.specs.plane.Location.{IsPast}
 use Rattle.delaunay_legalization.specs.plane.Tests.{InRange}
 use Rattle.delaunay_legalization.specs.plane.Tiling.{Face}
 use Rattle.delaunay_legalization.specs.plane_tiling.Local.{IsMesh, LocalMesh, LineMesh, alone}
-use Rattle.delaunay_legalization.proofs.plane_tiling.Totals.{Contains-head}
+use Rattle.delaunay_legalization.specs.plane_tiling.Local.{total, around, along}
+use Rattle.delaunay_legalization.proofs.plane_tiling.Counts.{hull_edges_count, line_edges_count}
+use Rattle.delaunay_legalization.proofs.plane_tiling.Rising.{total_ones}
+use Rattle.delaunay_legalization.proofs.plane_tiling.Totals.{Contains-head, total-sum}
 use Rattle.delaunay_legalization.proofs.plane_tiling.Counting.{corners_differ}
 use Rattle.delaunay_legalization.proofs.plane_tiling.Tiles.{by_signs}
 use Rattle.delaunay_legalization.proofs.plane_tiling.Tiles as P
 use Rattle.delaunay_legalization.proofs.plane_tiling.LineMeshes.{one_vertex}
-use Rattle.delaunay_legalization.specs.mesh_embedding.Drawn.{faces_of, outer_of, corners_of}
+use Rattle.delaunay_legalization.specs.mesh_embedding.Drawn.{faces_of, edges_of, outer_of}
+use Rattle.delaunay_legalization.specs.mesh_embedding.Drawn.{corners_of}
 use Rattle.delaunay_legalization.proofs.mesh_embedding.MeshLines.{line_extended, line_split_at}
+use Rattle.delaunay_legalization.proofs.mesh_embedding.OwnEdges.{own_edges}
+use Rattle.delaunay_legalization.proofs.ElementCounts.{edges_counted, faces_counted}
 use Rattle.delaunay_legalization.specs.State.{state_of}
 use Rattle.delaunay_legalization.specs.Shape.{IsTriangulated}
 use Rattle.delaunay_legalization.specs.Parts.{IsApart, IsWithinEdge}
+use Rattle.delaunay_legalization.specs.Star.{MakesFacesAt}
+use Rattle.delaunay_insertion.specs.Data.{GrowsAround}
+use Rattle.delaunay_insertion.specs.Growth.{CanTake, GainsVertex}
+use Rattle.delaunay_insertion.proofs.MadeFaces.{made_at_count}
 
-module _ {V D U F : Type 0} (at : V → Point) (old new : Contents V D U F) (v : V) (kept :
-    IsTriangulated at (state_of old)) (vertices : new.vertices ≡ old.vertices ++ v ∷ []) where
-  count : length new.vertices ≡ length old.vertices + 1
-  count = ap length vertices ∙ length-append old.vertices (v ∷ [])
+-- ---- counts
+module _ {V D U F : Type 0} (c : Contents V D U F) (w : IsMeshWithData c) where
+  -- each edge has two ways, and each face three sides
+  pub sides_at_most : 3 * length c.faces ≤ 2 * length c.undirected
+  sides_at_most =
+      numbers (length (edges_of c.mesh)) (length (faces_of c.mesh)) (length (outer_of c.mesh))
+      (length c.undirected) (length c.faces)
+      (total (λ e. pos 1) (edges_of c.mesh)) (total (λ f. pos 1) (faces_of c.mesh))
+      (total (λ e. pos 1) (outer_of c.mesh)) (total_ones (edges_of c.mesh))
+      (total_ones (faces_of c.mesh)) (total_ones (outer_of c.mesh)) ways (edges_counted c w)
+      (faces_counted c w)
+    where
+      ways : total (λ e. pos 1) (edges_of c.mesh) +ℤ total (λ e. pos 1) (edges_of c.mesh)
+          ≡ total (λ f. pos 1) (faces_of c.mesh) +ℤ total (λ f. pos 1) (faces_of c.mesh)
+          +ℤ total (λ f. pos 1) (faces_of c.mesh) +ℤ total (λ e. pos 1) (outer_of c.mesh)
+      ways =
+          sym (total-sum (λ e. pos 1) (λ e. pos 1) (edges_of c.mesh))
+          ∙ own_edges c.mesh w.valid (λ _ _. pos 1)
+          ∙ (λ i. total-sum (λ f. pos 1 +ℤ pos 1) (λ f. pos 1) (faces_of c.mesh) i
+          +ℤ total (λ e. pos 1) (outer_of c.mesh))
+          ∙ (λ i. total-sum (λ f. pos 1) (λ f. pos 1) (faces_of c.mesh) i
+          +ℤ total (λ f. pos 1) (faces_of c.mesh) +ℤ total (λ e. pos 1) (outer_of c.mesh))
 
+      numbers : (e f h u g : ℕ) (a b c : ℤ) → a ≡ pos e → b ≡ pos f → c ≡ pos h
+          → a +ℤ a ≡ b +ℤ b +ℤ b +ℤ c → u ≡ e → g ≡ f → 3 * g ≤ 2 * u
+      numbers e f h u g a b c i j k x p q = omega (arith, ints)
+
+-- with a vertex, one edge fewer than vertices and faces
+pub edges_and_faces : {V D U F : Type 0} (place : V → Point) (c : Contents V D U F)
+    → IsMeshWithData c → IsMesh (map place c.vertices) (faces_of c.mesh) (outer_of c.mesh)
+    → 0 < length c.vertices → length c.undirected + 1 ≡ length c.faces + length c.vertices
+edges_and_faces place c w (inl m) some =
+    let n = hull_edges_count (map place c.vertices) (faces_of c.mesh) (outer_of c.mesh)
+    (edges_of c.mesh) m (own_edges c.mesh w.valid) in
+    let e = n.0 in
+    let f = n.1 in
+    omega (arith, e, f, edges_counted c w, faces_counted c w, length-map c.vertices place)
+edges_and_faces place c w (inr m) some =
+    let n = line_edges_count (map place c.vertices) (outer_of c.mesh) (edges_of c.mesh) m.1
+    (subst (λ fs. (f : ℕ → ℕ → ℤ) → total (λ e. f e.0 e.1 +ℤ f e.1 e.0) (edges_of c.mesh)
+    ≡ total (around f) fs +ℤ total (along f) (outer_of c.mesh)) m.0
+    (own_edges c.mesh w.valid)) in
+    let none = ap length m.0 in
+    omega (
+      arith,
+      n,
+      none,
+      some,
+      edges_counted c w,
+      faces_counted c w,
+      length-map c.vertices place,
+    )
+
+-- ---- one vertex more
+module _ {V D U F : Type 0} (at : V → Point) (old new : Contents V D U F) (v : V)
+    (can : CanTake at v (state_of old)) (vertices : new.vertices ≡ old.vertices ++ v ∷ [])
+    (w : IsMeshWithData new) where
   -- the new vertex is in range, and the mesh is one of all points: the triangulation has grown by
   -- it
-  pub grown : InRange (at v) → IsMeshWithData new
-      → length new.undirected ≤ length old.undirected + 3 → length new.faces ≤ length old.faces + 2
-      → IsMesh (map at old.vertices ++ at v ∷ []) (faces_of new.mesh) (outer_of new.mesh)
+  grown : IsMesh (map at old.vertices ++ at v ∷ []) (faces_of new.mesh) (outer_of new.mesh)
       → IsTriangulated at (state_of new)
-  grown ok w edges faces shape = record {
+  grown mesh = record {
     in_range = subst (λ vs. All (λ u. InRange (at u)) vs) (sym vertices)
-        (All-push (λ u. InRange (at u)) old.vertices v kept.in_range ok);
-    few_edges = let few = kept.few_edges in omega (arith, count, few, edges);
-    few_faces = let few = kept.few_faces in omega (arith, count, few, faces);
+        (All-push (λ u. InRange (at u)) old.vertices v can.kept.in_range can.in_range);
+    few_edges = omega (arith, counts, sides);
+    few_faces = omega (arith, counts, sides);
     valid = w.valid;
     fits = w.fits;
-    shape = subst (λ ps. IsMesh ps (faces_of new.mesh) (outer_of new.mesh))
-        (sym (ap (map at) vertices ∙ map-append at old.vertices (v ∷ []))) shape;
+    shape = shape;
+  }
+    where
+      shape : IsMesh (map at new.vertices) (faces_of new.mesh) (outer_of new.mesh)
+      shape = subst (λ ps. IsMesh ps (faces_of new.mesh) (outer_of new.mesh))
+          (sym (ap (map at) vertices ∙ map-append at old.vertices (v ∷ []))) mesh
+
+      counts : length new.undirected + 1 ≡ length new.faces + length new.vertices
+      counts = edges_and_faces at new w shape
+          (let n = ap length vertices ∙ length-append old.vertices (v ∷ []) in omega (arith, n))
+
+      sides : 3 * length new.faces ≤ 2 * length new.undirected
+      sides = sides_at_most new w
+
+  -- so it gains the vertex, where all beside it stays and each face that came has it as a corner
+  pub gains : (k : ℕ) → k ≡ length old.vertices
+      → IsMesh (map at old.vertices ++ at v ∷ []) (faces_of new.mesh) (outer_of new.mesh)
+      → GrowsAround (map at old.vertices) (at v) (state_of old) (state_of new)
+      → MakesFacesAt k (faces_of old.mesh) (outer_of old.mesh) (faces_of new.mesh)
+      → GainsVertex at v (state_of old) (state_of new) k
+  gains k last mesh grows made = record {
+    is = last;
+    vertices = vertices;
+    kept = grown mesh;
+    grows = grows;
+    made = made_at_count _ _ _ k (length old.vertices) last made;
   }
 
 -- a mesh with few vertices has no face
@@ -68,13 +154,14 @@ bare_empty points faces outer e (inr m) = (m.0, none outer m.1)
         omega (arith, e, c))
 
 -- a mesh without vertices that gets its first vertex is still a mesh of its points
-pub first_shape : (points : List Point) (q : Point) (m : Mesh) → length points ≡ 0
-    → IsMesh points (faces_of m) (outer_of m)
-    → IsMesh (points ++ q ∷ []) (faces_of (with_vertex m)) (outer_of (with_vertex m))
-first_shape [] q m e shape =
+pub first_shape : (points : List Point) (q : Point) (m new : Mesh) → length points ≡ 0
+    → new ≡ with_vertex m → IsMesh points (faces_of m) (outer_of m)
+    → IsMesh (points ++ q ∷ []) (faces_of new) (outer_of new)
+first_shape [] q m new e is shape =
     let b = bare_empty [] (faces_of m) (outer_of m) refl shape in
-    inr (b.0, subst (LineMesh (q ∷ [])) (sym b.1) (one_vertex q))
-first_shape (p ∷ ps) q m e shape = absurd (omega (arith, e))
+    subst (λ x. IsMesh (q ∷ []) (faces_of x) (outer_of x)) (sym is)
+    (inr (b.0, subst (LineMesh (q ∷ [])) (sym b.1) (one_vertex q)))
+first_shape (p ∷ ps) q m new e is shape = absurd (omega (arith, e))
 
 -- a mesh without faces is a line
 bare_line : (points : List Point) (m : Mesh) → length m.face_edges ≡ 0

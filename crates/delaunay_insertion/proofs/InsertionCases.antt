@@ -1,8 +1,8 @@
 -- A mesh with faces gets one more vertex, inside a face or within an edge.
--- Lemmas: length_moved, inside_shape, within_side_shape, within_outer_shape.
-use Rattle.std.proofs.Common.{◌≡◌, ◌<◌, ◌≤◌, ◌+◌, [], ◌∷◌, ◌++◌, ◌∙◌}
-use Rattle.std.proofs.Common.{ℕ, List, length, length-append, sym, ap, subst, inl, inr, arith}
-use Rattle.std.proofs.lemmas.List.{length-map, length-set}
+-- Lemmas: inside_shape, within_side_shape, within_outer_shape.
+use Rattle.std.proofs.Common.{◌≡◌, ◌<◌, ◌≤◌, [], ◌∷◌, ◌++◌, ◌∙◌}
+use Rattle.std.proofs.Common.{ℕ, List, length, sym, ap, subst, inl, inr, arith}
+use Rattle.std.proofs.lemmas.List.{length-map}
 use Rattle.delaunay_legalization.specs.half_edge_mesh.Mesh.{Mesh, AreSoundLinks, IsValidMesh}
 use Rattle.delaunay_legalization.specs.half_edge_mesh.Mesh.{IsInnerEdge, origin, next, face_edge}
 use Rattle.delaunay_legalization.specs.half_edge_mesh.Mesh.{rev}
@@ -12,7 +12,6 @@ use Rattle.delaunay_legalization.specs.half_edge_mesh.Triangles.{triangle_at, tr
 use Rattle.delaunay_legalization.specs.half_edge_mesh.Triangles.{InsertsTriangles, SplitsTriangles}
 use Rattle.delaunay_legalization.specs.half_edge_mesh.Outline.{KeepsOuter, ReplacesOuter}
 use Rattle.delaunay_legalization.specs.half_edge_mesh.Outline.{HalfSplitsTriangles}
-use Rattle.delaunay_legalization.specs.half_edge_mesh.Growth.{MovesItem}
 use Rattle.delaunay_legalization.specs.plane.Fraction.{Point, whole, WithinSegment}
 use Rattle.delaunay_legalization.specs.plane.Pairs.{place}
 use Rattle.delaunay_legalization.specs.plane_tiling.Local.{IsMesh, LocalMesh}
@@ -22,12 +21,6 @@ use Rattle.delaunay_legalization.proofs.mesh_embedding.MeshEdits.{insertion_insi
 use Rattle.delaunay_legalization.proofs.mesh_embedding.MeshEdits.{insertion_within_side}
 use Rattle.delaunay_legalization.proofs.mesh_embedding.MeshEdits.{insertion_within_outer}
 use Rattle.delaunay_legalization.specs.Parts.{IsInsideFaceOf, IsWithinEdge}
-
--- an item that gives way, and more
-pub length_moved : {X : Type 0} (P : X → Type 0) (old new : List X) (i more : ℕ)
-    → MovesItem P old new i more → length new ≡ length old + more + 1
-length_moved P old new i more g =
-    rw g.whole (simp (length-set, length-append) (omega (arith, g.count)))
 
 -- a mesh with an edge of an inner face is not a line
 with_faces : (points : List Point) (m : Mesh) (e : ℕ) → AreSoundLinks m → IsInnerEdge m e

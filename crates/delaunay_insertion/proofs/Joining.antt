@@ -1,43 +1,42 @@
 -- A new vertex is joined to one outer edge after another.
--- Notions: IsJoining, IsJoiningBack; sides_at_most, edges_and_faces, has_vertex, not_to, not_from,
--- grown_count, seen_as, unseen_as, sites_grown, joining_begins, joining_goes_on,
--- joining_goes_back, unseen_stays, joining_ends, room_for_face, ahead_apart, step_ahead,
--- before_outer, before_apart, step_behind.
-use Rattle.std.proofs.Common.{◌≡◌, ◌≢◌, ◌⊎◌, ◌+◌, ◌*◌, ◌<◌, ◌≤◌, [], ◌∷◌, ◌++◌, ◌∙◌}
+-- Notions: IsJoining, IsJoiningBack; has_vertex, not_to, not_from, joining_begins,
+-- joining_goes_on, joining_goes_back, unseen_stays, joining_ends, room_for_face, last_in,
+-- unseen_as, sites_grown, ahead_apart, step_ahead, before_outer, before_apart, step_behind.
+use Rattle.std.proofs.Common.{◌≡◌, ◌≢◌, ◌⊎◌, ◌+◌, ◌-◌, ◌*◌, ◌<◌, ◌≤◌, [], ◌∷◌, ◌++◌, ◌∙◌}
 use Rattle.std.proofs.Common.{ℕ, List, length, map, refl, sym, ap, subst, inl, inr, arith}
 use Rattle.std.proofs.Common.{length-append}
-use Rattle.std.specs.Prelude.{All, Contains, pos, ℤ, ◌+ℤ◌}
-use Rattle.std.proofs.lemmas.Int.{ints}
+use Rattle.std.specs.Prelude.{All, Contains}
 use Rattle.std.proofs.lemmas.List.{length-map, map-append}
 use Rattle.std.proofs.lemmas.List.Elements.{All-push}
 use Rattle.delaunay_legalization.specs.half_edge_mesh.Mesh.{Mesh, AreSoundLinks, IsSoundEdge}
 use Rattle.delaunay_legalization.specs.half_edge_mesh.Mesh.{origin, next, prev, face, rev}
-use Rattle.delaunay_legalization.specs.half_edge_mesh.Outline.{IsOuterEdge, AddsTriangle}
-use Rattle.delaunay_legalization.specs.half_edge_mesh.Outline.{ReplacesOuter, ClosesOuter}
+use Rattle.delaunay_legalization.specs.half_edge_mesh.Outline.{Ends, IsOuterEdge, AddsTriangle}
+use Rattle.delaunay_legalization.specs.half_edge_mesh.Outline.{ReplacesOuter}
 use Rattle.delaunay_legalization.specs.half_edge_mesh.Grow.{IsClosable, Closes, closed}
+use Rattle.delaunay_legalization.specs.half_edge_mesh.GrownData.{AddsData}
+use Rattle.delaunay_legalization.specs.half_edge_mesh.Growth.{AddsEdges}
 use Rattle.delaunay_legalization.specs.half_edge_mesh.Room.{HasRoomFor}
+use Rattle.delaunay_legalization.specs.half_edge_mesh.Shapes.{AddsFaceTo, ClosesTriangle}
 use Rattle.delaunay_legalization.proofs.half_edge_links.Growing.Close.{closes}
 use Rattle.delaunay_legalization.proofs.half_edge_links.Lists.Rev.{rev_within}
 use Rattle.delaunay_legalization.specs.half_edge_mesh.Contents.{Contents, HasRoom, IsMeshWithData}
+use Rattle.delaunay_legalization.specs.half_edge_mesh.Contents.{edges}
+use Rattle.delaunay_legalization.proofs.half_edge_dcel.Fits.{length-grown}
 use Rattle.delaunay_legalization.specs.plane.Fraction.{Point, whole}
 use Rattle.delaunay_legalization.specs.plane.Pairs.{place}
-use Rattle.delaunay_legalization.specs.plane.Tests.{InRange}
 use Rattle.delaunay_legalization.specs.plane.Side.{TurnsLeft}
 use Rattle.delaunay_legalization.proofs.plane.Steps.{left_not_zero}
 use Rattle.delaunay_legalization.proofs.plane.Sides.{if_left}
 use Rattle.delaunay_legalization.proofs.plane.BracketIdentities.{bracket-last, bracket-outer}
-use Rattle.delaunay_legalization.specs.plane_tiling.Local.{total, around, along, IsMesh, LocalMesh}
-use Rattle.delaunay_legalization.proofs.plane_tiling.Counts.{hull_edges_count, line_edges_count}
+use Rattle.delaunay_legalization.specs.plane_tiling.Local.{IsMesh, LocalMesh}
 use Rattle.delaunay_legalization.proofs.plane_tiling.Counting.{at}
-use Rattle.delaunay_legalization.proofs.plane_tiling.Rising.{total_ones}
-use Rattle.delaunay_legalization.proofs.plane_tiling.Totals.{total-sum}
 use Rattle.delaunay_legalization.proofs.plane_tiling.Tiles.{point_at}
 use Rattle.delaunay_legalization.proofs.plane_tiling.Appended.{kept_point, last_point}
 use Rattle.delaunay_legalization.specs.plane_edits.Extension.{IsExtending}
 use Rattle.delaunay_legalization.proofs.plane_edits.LocalMesh.Changes.{IsOnce}
 use Rattle.delaunay_legalization.proofs.plane_edits.Insertion.Growing.{extension_begins}
 use Rattle.delaunay_legalization.proofs.plane_edits.Insertion.OnLine.{over_line_ends}
-use Rattle.delaunay_legalization.specs.mesh_embedding.Drawn.{faces_of, edges_of, outer_of}
+use Rattle.delaunay_legalization.specs.mesh_embedding.Drawn.{faces_of, outer_of}
 use Rattle.delaunay_legalization.proofs.mesh_embedding.OuterEdges.{listed}
 use Rattle.delaunay_legalization.proofs.mesh_embedding.OuterChanges.{outer_replaced}
 use Rattle.delaunay_legalization.proofs.mesh_embedding.MeshEdits.{added_faces}
@@ -45,72 +44,15 @@ use Rattle.delaunay_legalization.proofs.mesh_embedding.MeshExtension.{ends_below
 use Rattle.delaunay_legalization.proofs.mesh_embedding.MeshExtension.{mesh_extension_goes_on}
 use Rattle.delaunay_legalization.proofs.mesh_embedding.MeshExtension.{mesh_extension_goes_back}
 use Rattle.delaunay_legalization.proofs.mesh_embedding.MeshExtension.{mesh_extension_ends}
-use Rattle.delaunay_legalization.proofs.mesh_embedding.OwnEdges.{own_edges}
+use Rattle.delaunay_insertion.specs.Data.{GrowsAround}
+use Rattle.delaunay_insertion.specs.Edges.{AddsOnly}
 use Rattle.delaunay_insertion.specs.Joining.{Sees}
 use Rattle.delaunay_legalization.specs.State.{state_of}
 use Rattle.delaunay_legalization.specs.Shape.{IsTriangulated}
-use Rattle.delaunay_legalization.proofs.ElementCounts.{edges_counted, faces_counted}
+use Rattle.delaunay_insertion.proofs.DataGrowing.{grows_by_face, grows_on}
+use Rattle.delaunay_insertion.proofs.EdgeLists.{adds_only, adds_on}
+use Rattle.delaunay_insertion.proofs.Growing.{edges_and_faces, sides_at_most}
 use Rattle.delaunay_insertion.proofs.LineEnds.{none_seen_after, none_seen_before}
-
--- ---- counts
-module _ {V D U F : Type 0} (c : Contents V D U F) (w : IsMeshWithData c) where
-  -- each edge has two ways, and each face three sides
-  pub sides_at_most : 3 * length c.faces ≤ 2 * length c.undirected
-  sides_at_most =
-      numbers (length (edges_of c.mesh)) (length (faces_of c.mesh)) (length (outer_of c.mesh))
-      (length c.undirected) (length c.faces)
-      (total (λ e. pos 1) (edges_of c.mesh)) (total (λ f. pos 1) (faces_of c.mesh))
-      (total (λ e. pos 1) (outer_of c.mesh)) (total_ones (edges_of c.mesh))
-      (total_ones (faces_of c.mesh)) (total_ones (outer_of c.mesh)) ways (edges_counted c w)
-      (faces_counted c w)
-    where
-      ways : total (λ e. pos 1) (edges_of c.mesh) +ℤ total (λ e. pos 1) (edges_of c.mesh)
-          ≡ total (λ f. pos 1) (faces_of c.mesh) +ℤ total (λ f. pos 1) (faces_of c.mesh)
-          +ℤ total (λ f. pos 1) (faces_of c.mesh) +ℤ total (λ e. pos 1) (outer_of c.mesh)
-      ways =
-          sym (total-sum (λ e. pos 1) (λ e. pos 1) (edges_of c.mesh))
-          ∙ own_edges c.mesh w.valid (λ _ _. pos 1)
-          ∙ (λ i. total-sum (λ f. pos 1 +ℤ pos 1) (λ f. pos 1) (faces_of c.mesh) i
-          +ℤ total (λ e. pos 1) (outer_of c.mesh))
-          ∙ (λ i. total-sum (λ f. pos 1) (λ f. pos 1) (faces_of c.mesh) i
-          +ℤ total (λ f. pos 1) (faces_of c.mesh) +ℤ total (λ e. pos 1) (outer_of c.mesh))
-
-      numbers : (e f h u g : ℕ) (a b c : ℤ) → a ≡ pos e → b ≡ pos f → c ≡ pos h
-          → a +ℤ a ≡ b +ℤ b +ℤ b +ℤ c → u ≡ e → g ≡ f → 3 * g ≤ 2 * u
-      numbers e f h u g a b c i j k x p q = omega (arith, ints)
-
--- with a vertex, one edge fewer than vertices and faces
-pub edges_and_faces : {V D U F : Type 0} (place : V → Point) (c : Contents V D U F)
-    → IsTriangulated place (state_of c) → 0 < length c.vertices
-    → length c.undirected + 1 ≡ length c.faces + length c.vertices
-edges_and_faces place c kept some = go kept.shape
-  where
-    w : IsMeshWithData c
-    w = record { valid = kept.valid; fits = kept.fits }
-
-    go : IsMesh (map place c.vertices) (faces_of c.mesh) (outer_of c.mesh)
-        → length c.undirected + 1 ≡ length c.faces + length c.vertices
-    go (inl m) =
-        let n = hull_edges_count (map place c.vertices) (faces_of c.mesh) (outer_of c.mesh)
-        (edges_of c.mesh) m (own_edges c.mesh kept.valid) in
-        let e = n.0 in
-        let f = n.1 in
-        omega (arith, e, f, edges_counted c w, faces_counted c w, length-map c.vertices place)
-    go (inr m) =
-        let n = line_edges_count (map place c.vertices) (outer_of c.mesh) (edges_of c.mesh) m.1
-        (subst (λ fs. (f : ℕ → ℕ → ℤ) → total (λ e. f e.0 e.1 +ℤ f e.1 e.0) (edges_of c.mesh)
-        ≡ total (around f) fs +ℤ total (along f) (outer_of c.mesh)) m.0
-        (own_edges c.mesh kept.valid)) in
-        let none = ap length m.0 in
-        omega (
-          arith,
-          n,
-          none,
-          some,
-          edges_counted c w,
-          faces_counted c w,
-          length-map c.vertices place,
-        )
 
 -- an edge starts at a vertex
 pub has_vertex : {V D U F : Type 0} (place : V → Point) (c : Contents V D U F) (e : ℕ)
@@ -145,9 +87,11 @@ seen_end points m k e s same = not_to points (origin m e) k
     (subst (λ i. TurnsLeft (place points (origin m e)) (place points i) (place points k)) same s)
 
 -- the new last vertex v of a mesh is joined to the outer edges between the edge ahead, which it
--- starts, and the edge behind, which it ends: the mesh before and now
-pub record IsJoining {V D U F : Type 0} (place : V → Point) (old now : Contents V D U F) (v : V)
-    (ahead behind : ℕ) : Type 0 where
+-- starts, and the edge behind, which it ends: the mesh before and now. All keeps its data, and
+-- those of the edges that came are as P says
+pub record IsJoining {V D U F : Type 0} (place : V → Point) (P : U → Type 0)
+    (old now : Contents V D U F) (v : V) (ahead behind : ℕ) : Type 0 where
+  pub whole : IsMeshWithData now
   pub vertices : now.vertices ≡ old.vertices ++ v ∷ []
   pub room : now.room ≡ old.room
   pub counts : length now.undirected + 1 ≡ length now.faces + length now.vertices
@@ -160,12 +104,14 @@ pub record IsJoining {V D U F : Type 0} (place : V → Point) (old now : Content
   pub extending :
       IsExtending (map place old.vertices) (place v) (faces_of old.mesh) (faces_of now.mesh)
       (outer_of old.mesh) (outer_of now.mesh) (origin now.mesh behind) (origin now.mesh (rev ahead))
+  pub grows : GrowsAround (map place old.vertices) (place v) (state_of old) (state_of now)
+  pub adds : AddsOnly P (edges old) (edges now)
 
 -- the same, where the edge after the edge ahead does not see the vertex
-pub record IsJoiningBack {V D U F : Type 0} (place : V → Point) (old now : Contents V D U F) (v : V)
-    (behind : ℕ) : Type 0 where
+pub record IsJoiningBack {V D U F : Type 0} (place : V → Point) (P : U → Type 0)
+    (old now : Contents V D U F) (v : V) (behind : ℕ) : Type 0 where
   pub ahead : ℕ
-  pub joining : IsJoining place old now v ahead behind
+  pub joining : IsJoining place P old now v ahead behind
   pub unseen : ¬ Sees (map place old.vertices ++ place v ∷ []) now.mesh
       (length (map place old.vertices)) (next now.mesh ahead)
 
@@ -180,12 +126,12 @@ module _ {V D U F : Type 0} (place_at : V → Point) (old : Contents V D U F) (v
   last = length (map place_at old.vertices)
 
   -- the vertices now are one more
-  pub grown_count : (now : Contents V D U F) → now.vertices ≡ old.vertices ++ v ∷ []
+  grown_count : (now : Contents V D U F) → now.vertices ≡ old.vertices ++ v ∷ []
       → length now.vertices ≡ length old.vertices + 1
   grown_count now is = ap length is ∙ length-append old.vertices (v ∷ [])
 
   -- what is seen in the mesh now
-  pub seen_as : (now : Contents V D U F) (k e : ℕ) → now.vertices ≡ old.vertices ++ v ∷ []
+  seen_as : (now : Contents V D U F) (k e : ℕ) → now.vertices ≡ old.vertices ++ v ∷ []
       → k ≡ length old.vertices → Sees (map place_at now.vertices) now.mesh k e
       → Sees grown_points now.mesh last e
   seen_as now k e vertices is h = subst (λ (x : List Point × ℕ). TurnsLeft
@@ -195,39 +141,23 @@ module _ {V D U F : Type 0} (place_at : V → Point) (old : Contents V D U F) (v
         (is ∙ sym (length-map old.vertices place_at)) o,
       )) h
 
-  -- and what is not seen in it
-  pub unseen_as : (now : Contents V D U F) (k e : ℕ) → now.vertices ≡ old.vertices ++ v ∷ []
-      → k ≡ length old.vertices → ¬ Sees (map place_at now.vertices) now.mesh k e
-      → ¬ Sees grown_points now.mesh last e
-  unseen_as now k e vertices is n h = n (subst (λ (x : List Point × ℕ). TurnsLeft
-      (place x.0 (origin now.mesh e)) (place x.0 (origin now.mesh (rev e))) (place x.0 x.1))
-      (λ o. (
-        sym (ap (map place_at) vertices ∙ map-append place_at old.vertices (v ∷ [])) o,
-        sym (is ∙ sym (length-map old.vertices place_at)) o,
-      )) h)
-
-  -- the sites with the new one
-  pub sites_grown : (IsSite : Point → Type 0) (now : Contents V D U F) → now.vertices ≡ old.vertices
-      ++ v ∷ [] → All IsSite points → IsSite (place_at v) → All IsSite (map place_at now.vertices)
-  sites_grown IsSite now vertices all here = subst (λ ps. All IsSite ps)
-      (sym (ap (map place_at) vertices ∙ map-append place_at old.vertices (v ∷ [])))
-      (All-push IsSite points (place_at v) all here)
-
   -- no outer edge is listed twice
   once : IsMesh points (faces_of old.mesh) (outer_of old.mesh) → IsOnce (outer_of old.mesh)
   once (inl m) = m.once
   once (inr m) = m.1.once
 
   -- the first face
-  module _ (new : Contents V D U F) (e k : ℕ) (kept : IsTriangulated place_at (state_of old))
-      (some : 0 < length old.vertices) (within : e < length old.mesh.half_edges)
-      (outer : face old.mesh e ≡ 0) (turns : TurnsLeft (place points (origin old.mesh e))
+  module _ {DP : D → Type 0} {P : U → Type 0} {FP : F → Type 0} {ends : List Ends}
+      (new : Contents V D U F) (e k : ℕ) (kept : IsTriangulated place_at (state_of old))
+      (listed_edge : e < length old.directed) (outer : face old.mesh e ≡ 0)
+      (turns : TurnsLeft (place points (origin old.mesh e))
       (place points (origin old.mesh (rev e))) (whole (place_at v))) (is : k ≡ length old.vertices)
-      (vertices : new.vertices ≡ old.vertices ++ v ∷ []) (room : new.room ≡ old.room)
-      (directed : length new.directed ≡ length old.directed + 4) (undirected : length new.undirected
-      ≡ length old.undirected + 2) (faces : length new.faces ≡ length old.faces + 1) (adds :
-      AddsTriangle old.mesh new.mesh (origin old.mesh e) (origin old.mesh (rev e)) k) (replaces :
-      ReplacesOuter old.mesh new.mesh e k (length old.directed + 3) (length old.directed + 1)) where
+      (brings : AddsData DP P FP (old.vertices ++ v ∷ []) old new 4 2 1)
+      (links : AddsFaceTo old.mesh new.mesh (length old.directed) k e)
+      (edged : AddsEdges P (edges old) (edges new) ends) where
+    within : e < length old.mesh.half_edges
+    within = rw kept.fits.directed_fit at listed_edge
+
     sound_before : AreSoundLinks old.mesh
     sound_before = kept.valid.sound
 
@@ -255,10 +185,10 @@ module _ {V D U F : Type 0} (place_at : V → Point) (old : Contents V D U F) (v
         (rev_within e (length old.mesh.half_edges) sound_before.even within)).origin_in
 
     behind_made : IsOuterEdge new.mesh (length old.directed + 3) a k
-    behind_made = replaces.made (length old.directed + 3) a k (inl (refl, refl, refl))
+    behind_made = links.outer.made (length old.directed + 3) a k (inl (refl, refl, refl))
 
     ahead_made : IsOuterEdge new.mesh (length old.directed + 1) k b
-    ahead_made = replaces.made (length old.directed + 1) k b (inr (refl, refl, refl))
+    ahead_made = links.outer.made (length old.directed + 1) k b (inr (refl, refl, refl))
 
     -- the new vertex is on its left, among the points that include the new one
     left : TurnsLeft (place grown_points a) (place grown_points b) (place grown_points last)
@@ -277,20 +207,30 @@ module _ {V D U F : Type 0} (place_at : V → Point) (old : Contents V D U F) (v
         (listed old.mesh e a b
         (record { within = within; outer = outer; source = refl; target = refl })) left
         (added_faces old.mesh new.mesh a b last
-        (subst (λ i. AddsTriangle old.mesh new.mesh a b i) k_is adds))
+        (subst (λ i. AddsTriangle old.mesh new.mesh a b i) k_is links.triangles))
         (outer_replaced old.mesh new.mesh e last (length old.directed + 3) (length old.directed + 1)
         sound_before (once kept.shape) within outer fit (subst (λ i. ReplacesOuter old.mesh
-        new.mesh e i (length old.directed + 3) (length old.directed + 1)) k_is replaces))
+        new.mesh e i (length old.directed + 3) (length old.directed + 1)) k_is links.outer))
 
     -- after the first face the new vertex has a new edge ahead, and one behind
-    pub joining_begins :
-        IsJoining place_at old new v (length old.directed + 1) (length old.directed + 3)
-    joining_begins =
-        record {
+    pub joining_begins : (n h i : ℕ) → n ≡ length new.directed → h ≡ n - 3 → i ≡ n - 1
+        → IsJoining place_at P old new v h i
+    joining_begins n h i count ahead behind =
+        let vertices = ap (λ (d : Contents V D U F). d.vertices) brings.contents in
+        let directed = length-grown _ old.directed new.directed 4 brings.directed in
+        let first : h ≡ length old.directed + 1 = omega (arith, ahead, count, directed) in
+        let last_one : i ≡ length old.directed + 3 = omega (arith, behind, count, directed) in
+        rw (first, last_one) (record {
+          whole = brings.whole;
           vertices = vertices;
-          room = room;
-          counts = let n = edges_and_faces place_at old kept some in
-              omega (arith, n, grown_count new vertices, undirected, faces);
+          room = ap (λ (d : Contents V D U F). d.room) brings.contents;
+          counts =
+              let n = edges_and_faces place_at old
+              (record { valid = kept.valid; fits = kept.fits }) kept.shape
+              (has_vertex place_at old e kept listed_edge) in
+              let u = length-grown _ old.undirected new.undirected 2 brings.undirected in
+              let f = length-grown _ old.faces new.faces 1 brings.faces in
+              omega (arith, n, grown_count new vertices, u, f);
           ahead_in = omega (arith, directed);
           behind_in = omega (arith, directed);
           ahead_outer = record {
@@ -308,16 +248,20 @@ module _ {V D U F : Type 0} (place_at : V → Point) (old : Contents V D U F) (v
           extending = subst (λ (x : ℕ × ℕ). IsExtending points (place_at v) (faces_of old.mesh)
               (faces_of new.mesh) (outer_of old.mesh) (outer_of new.mesh) x.0 x.1)
               (λ o. (sym behind_made.source o, sym ahead_made.target o)) extending;
-        }
+          grows = grows_by_face old new kept.valid kept.fits brings.whole points (place_at v) _ _ _
+              _ _ _ _ _ _ brings.directed brings.faces edged links.triangles
+              (ap (λ (d : Contents V D U F). d.outer) brings.contents);
+          adds = adds_only P (edges old) (edges new) ends edged;
+        })
 
-  module _ (now new : Contents V D U F) (ahead behind : ℕ) (j :
-      IsJoining place_at old now v ahead behind) (w : IsMeshWithData now) (same : new ≡ record now
-      { mesh = new.mesh; directed = new.directed; undirected = new.undirected; faces = new.faces })
-      (directed : length new.directed ≡ length now.directed + 2) (undirected : length new.undirected
-      ≡ length now.undirected + 1) (faces : length new.faces ≡ length now.faces + 1) where
+  module _ {DP : D → Type 0} {P : U → Type 0} {FP : F → Type 0} {ends : List Ends}
+      (now new : Contents V D U F) (ahead behind : ℕ)
+      (j : IsJoining place_at P old now v ahead behind)
+      (brings : AddsData DP P FP now.vertices now new 2 1 1)
+      (edged : AddsEdges P (edges now) (edges new) ends) where
     -- the links fit together
     s : AreSoundLinks now.mesh
-    s = w.valid.sound
+    s = j.whole.valid.sound
 
     start_below : origin now.mesh behind < last
     start_below = (j.extending.ends (origin now.mesh behind) j.extending.second j.extending.run.0).0
@@ -328,21 +272,38 @@ module _ {V D U F : Type 0} (place_at : V → Point) (old : Contents V D U F) (v
         below : {a b : ℕ} → a < b → a ≢ b
         below h e = omega arith
 
+    directed : length new.directed ≡ length now.directed + 2
+    directed = length-grown _ now.directed new.directed 2 brings.directed
+
     counted : length new.undirected + 1 ≡ length new.faces + length new.vertices
-    counted = let n = j.counts in let k = ap (λ (d : Contents V D U F). length d.vertices) same in
-        omega (arith, n, k, undirected, faces)
+    counted =
+        let n = j.counts in
+        let k = ap (λ (d : Contents V D U F). length d.vertices) brings.contents in
+        let u = length-grown _ now.undirected new.undirected 1 brings.undirected in
+        let f = length-grown _ now.faces new.faces 1 brings.faces in
+        omega (arith, n, k, u, f)
+
+    grown_on : (a b c : ℕ) → AddsTriangle now.mesh new.mesh a b c
+        → GrowsAround points (place_at v) (state_of old) (state_of new)
+    grown_on a b c adds = grows_on points (place_at v) (state_of old) (state_of now) (state_of new)
+        j.grows (grows_by_face now new j.whole.valid j.whole.fits brings.whole points (place_at v)
+        _ _ _ _ _ _ _ _ _ brings.directed brings.faces edged adds
+        (ap (λ (d : Contents V D U F). d.outer) brings.contents))
+
+    added_on : AddsOnly P (edges old) (edges new)
+    added_on = adds_on P (edges old) (edges now) (edges new) j.adds
+        (adds_only P (edges now) (edges new) ends edged)
 
     -- a face with the edge after the edge ahead, which sees v, leaves one outer edge fewer
     pub joining_goes_on : Sees grown_points now.mesh last (next now.mesh ahead)
-        → AddsTriangle now.mesh new.mesh (origin now.mesh ahead)
-        (origin now.mesh (next now.mesh ahead)) (origin now.mesh (rev (next now.mesh ahead)))
-        → ClosesOuter now.mesh new.mesh ahead (length now.directed)
-        → IsJoining place_at old new v (length now.directed + 1) behind
+        → ClosesTriangle now.mesh new.mesh (length now.directed) ahead
+        → IsJoining place_at P old new v (length now.directed + 1) behind
         × (length (outer_of new.mesh) < length (outer_of now.mesh))
-    joining_goes_on sees adds change = (
+    joining_goes_on sees links = (
       record {
-        vertices = ap (λ (d : Contents V D U F). d.vertices) same ∙ j.vertices;
-        room = ap (λ (d : Contents V D U F). d.room) same ∙ j.room;
+        whole = brings.whole;
+        vertices = ap (λ (d : Contents V D U F). d.vertices) brings.contents ∙ j.vertices;
+        room = ap (λ (d : Contents V D U F). d.room) brings.contents ∙ j.room;
         counts = counted;
         ahead_in = omega (arith, directed);
         behind_in = let h = j.behind_in in omega (arith, h, directed);
@@ -361,6 +322,8 @@ module _ {V D U F : Type 0} (place_at : V → Point) (old : Contents V D U F) (v
         extending = subst (λ (x : ℕ × ℕ). IsExtending points (place_at v) (faces_of old.mesh)
             (faces_of new.mesh) (outer_of old.mesh) (outer_of new.mesh) x.0 x.1)
             (λ o. (sym stays.source o, sym made.target o)) step.0;
+        grows = grown_on _ _ _ links.triangles;
+        adds = added_on;
       },
       step.1,
     )
@@ -371,12 +334,13 @@ module _ {V D U F : Type 0} (place_at : V → Point) (old : Contents V D U F) (v
             × (length (outer_of new.mesh) < length (outer_of now.mesh))
         step = mesh_extension_goes_on points (place_at v) (faces_of old.mesh)
             (outer_of old.mesh) now.mesh (origin now.mesh behind) (origin now.mesh (rev ahead))
-            j.extending new.mesh ahead (length now.directed) s w.valid.apart j.ahead_outer.within
-            j.ahead_outer.outer j.ahead_outer.source sees adds change
+            j.extending new.mesh ahead (length now.directed) s j.whole.valid.apart
+            j.ahead_outer.within
+            j.ahead_outer.outer j.ahead_outer.source sees links.triangles links.outer
 
         made : IsOuterEdge new.mesh (length now.directed + 1) (origin now.mesh ahead)
             (origin now.mesh (rev (next now.mesh ahead)))
-        made = change.made (length now.directed + 1) (origin now.mesh ahead)
+        made = links.outer.made (length now.directed + 1) (origin now.mesh ahead)
             (origin now.mesh (rev (next now.mesh ahead))) (refl, refl, refl)
 
         not_gone : ¬ ((behind ≡ ahead) ⊎ (behind ≡ next now.mesh ahead))
@@ -385,7 +349,7 @@ module _ {V D U F : Type 0} (place_at : V → Point) (old : Contents V D U F) (v
             (ap (λ k. origin now.mesh (rev k)) (sym p) ∙ j.behind_outer.target)
 
         stays : IsOuterEdge new.mesh behind (origin now.mesh behind) last
-        stays = change.kept behind (origin now.mesh behind) last j.behind_outer not_gone
+        stays = links.outer.kept behind (origin now.mesh behind) last j.behind_outer not_gone
 
     -- the edge before the edge behind
     module _ (e : ℕ) (is : e ≡ prev now.mesh behind)
@@ -405,15 +369,14 @@ module _ {V D U F : Type 0} (place_at : V → Point) (old : Contents V D U F) (v
       finish = ap (λ k. origin now.mesh (rev k)) next_is ∙ j.behind_outer.target
 
       -- a face with this edge, which sees v, leaves one outer edge fewer
-      pub joining_goes_back : AddsTriangle now.mesh new.mesh (origin now.mesh e)
-          (origin now.mesh (next now.mesh e)) (origin now.mesh (rev (next now.mesh e)))
-          → ClosesOuter now.mesh new.mesh e (length now.directed)
-          → IsJoining place_at old new v ahead (length now.directed + 1)
+      pub joining_goes_back : ClosesTriangle now.mesh new.mesh (length now.directed) e
+          → IsJoining place_at P old new v ahead (length now.directed + 1)
           × (length (outer_of new.mesh) < length (outer_of now.mesh))
-      joining_goes_back adds change = (
+      joining_goes_back links = (
         record {
-          vertices = ap (λ (d : Contents V D U F). d.vertices) same ∙ j.vertices;
-          room = ap (λ (d : Contents V D U F). d.room) same ∙ j.room;
+          whole = brings.whole;
+          vertices = ap (λ (d : Contents V D U F). d.vertices) brings.contents ∙ j.vertices;
+          room = ap (λ (d : Contents V D U F). d.room) brings.contents ∙ j.room;
           counts = counted;
           ahead_in = let h = j.ahead_in in omega (arith, h, directed);
           behind_in = omega (arith, directed);
@@ -432,6 +395,8 @@ module _ {V D U F : Type 0} (place_at : V → Point) (old : Contents V D U F) (v
           extending = subst (λ (x : ℕ × ℕ). IsExtending points (place_at v) (faces_of old.mesh)
               (faces_of new.mesh) (outer_of old.mesh) (outer_of new.mesh) x.0 x.1)
               (λ o. (sym made.source o, sym stays.target o)) step.0;
+          grows = grown_on _ _ _ links.triangles;
+          adds = added_on;
         },
         step.1,
       )
@@ -448,11 +413,12 @@ module _ {V D U F : Type 0} (place_at : V → Point) (old : Contents V D U F) (v
           step =
               mesh_extension_goes_back points (place_at v) (faces_of old.mesh) (outer_of old.mesh)
               now.mesh (origin now.mesh behind) (origin now.mesh (rev ahead)) j.extending new.mesh e
-              (length now.directed) s w.valid.apart e_in e_outer finish left adds change
+              (length now.directed) s j.whole.valid.apart e_in e_outer finish left links.triangles
+              links.outer
 
           made : IsOuterEdge new.mesh (length now.directed + 1) (origin now.mesh e)
               (origin now.mesh (rev (next now.mesh e)))
-          made = change.made (length now.directed + 1) (origin now.mesh e)
+          made = links.outer.made (length now.directed + 1) (origin now.mesh e)
               (origin now.mesh (rev (next now.mesh e))) (refl, refl, refl)
 
           not_gone : ¬ ((ahead ≡ e) ⊎ (ahead ≡ next now.mesh e))
@@ -461,7 +427,7 @@ module _ {V D U F : Type 0} (place_at : V → Point) (old : Contents V D U F) (v
           not_gone (inr p) = apart (p ∙ next_is)
 
           stays : IsOuterEdge new.mesh ahead last (origin now.mesh (rev ahead))
-          stays = change.kept ahead last (origin now.mesh (rev ahead)) j.ahead_outer not_gone
+          stays = links.outer.kept ahead last (origin now.mesh (rev ahead)) j.ahead_outer not_gone
 
       -- the edge after the edge ahead stays the same
       pub unseen_stays : new.mesh ≡ closed now.mesh e
@@ -503,12 +469,12 @@ module _ {V D U F : Type 0} (place_at : V → Point) (old : Contents V D U F) (v
               (rev_within (next now.mesh ahead) (length now.mesh.half_edges) s.even after_in)
 
   -- neither the edge after the edge ahead nor the one before the edge behind sees the vertex
-  module _ (now : Contents V D U F) (ahead behind : ℕ) (kept : IsTriangulated place_at
-      (state_of old)) (j : IsJoining place_at old now v ahead behind) (w : IsMeshWithData now) (ok :
-      InRange (place_at v)) (unseen_after : ¬ Sees grown_points now.mesh last (next now.mesh ahead))
+  module _ {P : U → Type 0} (now : Contents V D U F) (ahead behind : ℕ)
+      (j : IsJoining place_at P old now v ahead behind)
+      (unseen_after : ¬ Sees grown_points now.mesh last (next now.mesh ahead))
       (unseen_before : ¬ Sees grown_points now.mesh last (prev now.mesh behind)) where
     sound_now : AreSoundLinks now.mesh
-    sound_now = w.valid.sound
+    sound_now = j.whole.valid.sound
 
     abbrev u : ℕ
     u = origin now.mesh behind
@@ -559,44 +525,30 @@ module _ {V D U F : Type 0} (place_at : V → Point) (old : Contents V D U F) (v
         (origin now.mesh (rev (next now.mesh ahead)))) (place grown_points last))
         (sym after_start) t)
 
-    shape : IsMesh points (faces_of old.mesh) (outer_of old.mesh)
+    -- where neither the edge after the one ahead nor that before the one behind sees v, all is
+    -- joined
+    pub joining_ends : IsMesh points (faces_of old.mesh) (outer_of old.mesh)
         → LocalMesh grown_points (faces_of now.mesh) (outer_of now.mesh)
-    shape (inl m) =
+    joining_ends (inl m) =
         mesh_extension_ends points (place_at v) (faces_of old.mesh) (outer_of old.mesh) now.mesh
         (origin now.mesh (prev now.mesh behind)) u far (origin now.mesh
         (rev (next now.mesh ahead))) m j.extending before after not_before not_after
-    shape (inr m) =
+    joining_ends (inr m) =
         let x = subst (λ fs. IsExtending points (place_at v) fs (faces_of now.mesh)
         (outer_of old.mesh) (outer_of now.mesh) u far) m.0 j.extending in
         over_line_ends points (faces_of now.mesh) (outer_of old.mesh) (outer_of now.mesh)
         (place_at v) u far m.1 x
         (none_seen_before points (place_at v)
-        (outer_of old.mesh) now.mesh u far m.1 w.valid x behind j.behind_outer unseen_before)
+        (outer_of old.mesh) now.mesh u far m.1 j.whole.valid x behind j.behind_outer unseen_before)
         (none_seen_after points (place_at v)
-        (outer_of old.mesh) now.mesh u far m.1 w.valid x ahead j.ahead_outer unseen_after)
-
-    -- where neither the edge after the one ahead nor that before the one behind sees v, all is
-    -- joined
-    pub joining_ends : IsTriangulated place_at (state_of now)
-    joining_ends =
-        record {
-          in_range = subst (λ vs. All (λ u. InRange (place_at u)) vs) (sym j.vertices)
-              (All-push (λ u. InRange (place_at u)) old.vertices v kept.in_range ok);
-          few_edges = let n = j.counts in let k = sides_at_most now w in omega (arith, n, k);
-          few_faces = let n = j.counts in let k = sides_at_most now w in omega (arith, n, k);
-          valid = w.valid;
-          fits = w.fits;
-          shape = subst (λ ps. IsMesh ps (faces_of now.mesh) (outer_of now.mesh))
-              (sym (ap (map place_at) j.vertices ∙ map-append place_at old.vertices (v ∷ [])))
-              (inl (shape kept.shape));
-        }
+        (outer_of old.mesh) now.mesh u far m.1 j.whole.valid x ahead j.ahead_outer unseen_after)
 
   -- room for one more face
-  pub room_for_face : (now : Contents V D U F) (ahead behind : ℕ)
-      → IsJoining place_at old now v ahead behind → IsMeshWithData now → HasRoomFor old.room
-      (length old.vertices + 1) (3 * (length old.vertices + 1)) (2 * (length old.vertices + 1))
+  pub room_for_face : {P : U → Type 0} (now : Contents V D U F) (ahead behind : ℕ)
+      → IsJoining place_at P old now v ahead behind → HasRoomFor old.room (length old.vertices + 1)
+      (3 * (length old.vertices + 1)) (2 * (length old.vertices + 1))
       → HasRoom now 0 1 1
-  room_for_face now ahead behind j w room =
+  room_for_face now ahead behind j room =
       subst (λ r. HasRoom (record now { room = r }) 0 1 1) (sym j.room) (record {
         vertices_fit = let v = room.vertices_fit in omega (arith, v, count);
         edges_fit = let e = room.edges_fit in omega (arith, e, count, counts, sides);
@@ -610,11 +562,31 @@ module _ {V D U F : Type 0} (place_at : V → Point) (old : Contents V D U F) (v
       counts = j.counts
 
       sides : 3 * length now.faces ≤ 2 * length now.undirected
-      sides = sides_at_most now w
+      sides = sides_at_most now j.whole
 
   -- ---- one step of the loops, by what the code asks
-  module _ (now : Contents V D U F) (ahead behind k e : ℕ)
-      (j : IsJoining place_at old now v ahead behind) (k_is : k ≡ length old.vertices)
+  module _ {P : U → Type 0} {ahead behind : ℕ} (now : Contents V D U F)
+      (j : IsJoining place_at P old now v ahead behind) where
+    grown_to : map place_at now.vertices ≡ grown_points
+    grown_to = ap (map place_at) j.vertices ∙ map-append place_at old.vertices (v ∷ [])
+
+    -- the new vertex is one of the mesh
+    pub last_in : (k : ℕ) → k ≡ length old.vertices → k < length now.vertices
+    last_in k is = omega (arith, is, grown_count now j.vertices)
+
+    -- what the mesh now has it not see
+    pub unseen_as : (k e : ℕ) → k ≡ length old.vertices
+        → ¬ Sees (map place_at now.vertices) now.mesh k e → ¬ Sees grown_points now.mesh last e
+    unseen_as k e is =
+        rw (is ∙ sym (length-map old.vertices place_at), grown_to) (λ n. n)
+
+    -- the sites with the new one
+    pub sites_grown : (IsSite : Point → Type 0) → All IsSite points → IsSite (place_at v)
+        → All IsSite (map place_at now.vertices)
+    sites_grown IsSite all here = rw grown_to (All-push IsSite points (place_at v) all here)
+
+  module _ {P : U → Type 0} (now : Contents V D U F) (ahead behind k e : ℕ)
+      (j : IsJoining place_at P old now v ahead behind) (k_is : k ≡ length old.vertices)
       (is : e ≡ next now.mesh ahead) (sees : Sees (map place_at now.vertices) now.mesh k e) where
     seen_ahead : Sees grown_points now.mesh last (next now.mesh ahead)
     seen_ahead = seen_as now k (next now.mesh ahead) j.vertices k_is
@@ -625,28 +597,26 @@ module _ {V D U F : Type 0} (place_at : V → Point) (old : Contents V D U F) (v
     ahead_apart p = seen_end grown_points now.mesh last (next now.mesh ahead) seen_ahead
         (p ∙ j.ahead_outer.source)
 
-    -- the step ahead, by the parts of the contents that change
-    pub step_ahead : (new : Contents V D U F) → IsMeshWithData now → new ≡ record now
-        { mesh = new.mesh; directed = new.directed; undirected = new.undirected; faces = new.faces }
-        → length new.directed ≡ length now.directed + 2 → length new.undirected
-        ≡ length now.undirected + 1 → length new.faces ≡ length now.faces + 1
-        → AddsTriangle now.mesh new.mesh (origin now.mesh ahead)
-        (origin now.mesh (next now.mesh ahead)) (origin now.mesh (rev (next now.mesh ahead)))
-        → ClosesOuter now.mesh new.mesh ahead (length now.directed)
-        → IsJoining place_at old new v (length now.directed + 1) behind
+    -- the step ahead, to the new edge h
+    pub step_ahead : {DP : D → Type 0} {FP : F → Type 0} {ends : List Ends} (new : Contents V D U F)
+        (h : ℕ) → AddsData DP P FP now.vertices now new 2 1 1
+        → AddsEdges P (edges now) (edges new) ends
+        → ClosesTriangle now.mesh new.mesh (length now.directed) ahead
+        → h ≡ length now.directed + 1 → IsJoining place_at P old new v h behind
         × (length (outer_of new.mesh) < length (outer_of now.mesh))
-    step_ahead new w same directed undirected faces adds change = joining_goes_on now new ahead
-        behind j w same directed undirected faces seen_ahead adds change
+    step_ahead new h brings edged links made =
+        rw made (joining_goes_on now new ahead behind j brings edged seen_ahead links)
 
-  module _ (now : Contents V D U F) (behind k e : ℕ) (b : IsJoiningBack place_at old now v behind)
-      (k_is : k ≡ length old.vertices) (is : e ≡ prev now.mesh behind)
-      (sees : Sees (map place_at now.vertices) now.mesh k e) (w : IsMeshWithData now) where
+  module _ {P : U → Type 0} (now : Contents V D U F) (behind k e : ℕ)
+      (b : IsJoiningBack place_at P old now v behind) (k_is : k ≡ length old.vertices)
+      (is : e ≡ prev now.mesh behind)
+      (sees : Sees (map place_at now.vertices) now.mesh k e) where
     seen_behind : Sees grown_points now.mesh last e
     seen_behind = seen_as now k e b.joining.vertices k_is sees
 
     -- the edge behind fits the edges beside it
     here : IsSoundEdge now.mesh behind
-    here = w.valid.sound.edges behind b.joining.behind_outer.within
+    here = b.joining.whole.valid.sound.edges behind b.joining.behind_outer.within
 
     before_in : e < length now.mesh.half_edges
     before_in = subst (λ i. i < length now.mesh.half_edges) (sym is) here.prev_in
@@ -656,32 +626,30 @@ module _ {V D U F : Type 0} (place_at : V → Point) (old : Contents V D U F) (v
 
     -- the edge before the edge behind is an outer one
     pub before_outer : face now.mesh e ≡ 0
-    before_outer = sym (w.valid.sound.edges e before_in).same_face ∙ ap (face now.mesh) after_is
-        ∙ b.joining.behind_outer.outer
+    before_outer = sym (b.joining.whole.valid.sound.edges e before_in).same_face
+        ∙ ap (face now.mesh) after_is ∙ b.joining.behind_outer.outer
 
     -- the edge after it does not lead back to where it starts
     pub before_apart : origin now.mesh (rev (next now.mesh e)) ≢ origin now.mesh e
     before_apart p = seen_start grown_points now.mesh last e seen_behind
         (sym p ∙ ap (λ i. origin now.mesh (rev i)) after_is ∙ b.joining.behind_outer.target)
 
-    -- the step behind, by the parts of the contents that change, while nothing ahead sees v
-    pub step_behind : (new : Contents V D U F) → new ≡ record now
-        { mesh = new.mesh; directed = new.directed; undirected = new.undirected; faces = new.faces }
-        → length new.directed ≡ length now.directed + 2 → length new.undirected
-        ≡ length now.undirected + 1 → length new.faces ≡ length now.faces + 1
-        → AddsTriangle now.mesh new.mesh (origin now.mesh e) (origin now.mesh (next now.mesh e))
-        (origin now.mesh (rev (next now.mesh e)))
-        → ClosesOuter now.mesh new.mesh e (length now.directed) → new.mesh ≡ closed now.mesh e
-        → IsJoiningBack place_at old new v (length now.directed + 1)
+    -- the step behind, to the new edge h, while nothing ahead sees v
+    pub step_behind : {DP : D → Type 0} {FP : F → Type 0} {ends : List Ends}
+        (new : Contents V D U F) (h : ℕ) → AddsData DP P FP now.vertices now new 2 1 1
+        → AddsEdges P (edges now) (edges new) ends
+        → ClosesTriangle now.mesh new.mesh (length now.directed) e
+        → h ≡ length now.directed + 1 → IsJoiningBack place_at P old new v h
         × (length (outer_of new.mesh) < length (outer_of now.mesh))
-    step_behind new same directed undirected faces adds change mesh =
-        let step = joining_goes_back now new b.ahead behind b.joining w same directed undirected
-        faces e is seen_behind adds change in (
+    step_behind new h brings edged links made =
+        let step = joining_goes_back now new b.ahead behind b.joining brings edged e is seen_behind
+        links in
+        rw made (
           record {
             ahead = b.ahead;
             joining = step.0;
-            unseen = unseen_stays now new b.ahead behind b.joining w same directed undirected faces
-                e is seen_behind mesh b.unseen;
+            unseen = unseen_stays now new b.ahead behind b.joining brings edged e is seen_behind
+                links.mesh b.unseen;
           },
           step.1,
         )

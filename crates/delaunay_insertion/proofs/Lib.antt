@@ -3,7 +3,6 @@ pub mod Growing
 pub mod InsertionCases
 pub mod Appending
 pub mod NewVertex
-pub mod Positions
 pub mod MadeFaces
 pub mod EdgeSides
 -- A vertex outside the hull, and at the ends of a line.

@@ -1,9 +1,9 @@
 //! A new vertex outside the hull, or off the line of all vertices.
-ghost use Rattle.std.specs.Prelude.{◌≡◌, ◌↔◌, ◌+◌, ◌*◌, ◌<◌};
-ghost use Rattle.std.specs.Prelude.{length, map, All, IsTrue, IfSome, IfNone};
+ghost use Rattle.std.specs.Prelude.{◌≡◌, ◌+◌, ◌*◌, ◌<◌};
+ghost use Rattle.std.specs.Prelude.{length, map, All, IfSome, IfNone};
 ghost use Rattle.delaunay_legalization.specs.half_edge_mesh.Mesh.{origin, next, prev, rev, face};
 ghost use Rattle.delaunay_legalization.specs.half_edge_mesh.Room.{HasRoomFor};
-ghost use Rattle.delaunay_legalization.specs.half_edge_mesh.Contents.{IsMeshWithData, edges};
+ghost use Rattle.delaunay_legalization.specs.half_edge_mesh.Contents.{edges};
 ghost use Rattle.delaunay_legalization.specs.plane.Fraction.{whole as fraction};
 ghost use Rattle.delaunay_legalization.specs.plane.Side.{TurnsLeft};
 ghost use Rattle.delaunay_legalization.specs.plane.Pairs.{place};
@@ -17,7 +17,7 @@ use delaunay_legalization::delaunay_core::point::HasPosition;
 use delaunay_legalization::half_edge_mesh::{
     Dcel, FixedDirectedEdgeHandle, FixedVertexHandle, MeshViews,
 };
-use delaunay_legalization::{start_of, turns_left};
+use delaunay_legalization::{position_of, turns_left};
 
 // The edge after an edge in its loop.
 fn edge_after<V, DE, UE, F>(
@@ -41,24 +41,6 @@ fn edge_before<V, DE, UE, F>(
     dcel.directed_edge(edge).prev().fix()
 }
 
-// Whether an edge has a vertex strictly on its left.
-fn is_seen<V: HasPosition, DE, UE, F, P: PlaneTests<V::Scalar>>(
-    dcel: &Dcel<V, DE, UE, F>,
-    edge: FixedDirectedEdgeHandle,
-    vertex: FixedVertexHandle,
-    tests: &P,
-) -> bool
-    requires within { edge < length dcel.now.directed }
-    requires vertex { vertex < length dcel.now.vertices }
-    requires sites { All (P.sites tests.now) (map V.place dcel.now.vertices) }
-    ensures { IsTrue result ↔ Sees (map V.place dcel.now.vertices) dcel.now.mesh vertex edge }
-{
-    let from = start_of(dcel, edge);
-    let to = start_of(dcel, dcel.directed_edge(edge).rev().fix());
-    let point = dcel.vertex_data(vertex).position();
-    turns_left(from, to, point, tests)
-}
-
 // An edge, where it has a vertex strictly on its left.
 fn if_seen<V: HasPosition, DE, UE, F, P: PlaneTests<V::Scalar>>(
     dcel: &Dcel<V, DE, UE, F>,
@@ -69,15 +51,17 @@ fn if_seen<V: HasPosition, DE, UE, F, P: PlaneTests<V::Scalar>>(
     requires within { edge < length dcel.now.directed }
     requires vertex { vertex < length dcel.now.vertices }
     requires sites { All (P.sites tests.now) (map V.place dcel.now.vertices) }
-    ensures whole { IsMeshWithData dcel.now }
     ensures is { IfSome result (λ e. e ≡ edge) }
     ensures some { IfSome result (λ e. Sees (map V.place dcel.now.vertices) dcel.now.mesh vertex
         e) }
     ensures none { IfNone result (¬ Sees (map V.place dcel.now.vertices) dcel.now.mesh vertex
         edge) }
 {
-    dcel.recall_invariant();
-    if is_seen(dcel, edge, vertex, tests) {
+    let ends = dcel.directed_edge(edge);
+    let from = position_of(dcel, ends.from().fix());
+    let to = position_of(dcel, ends.to().fix());
+    let point = position_of(dcel, vertex);
+    if turns_left(from, to, point, tests) {
         Some(edge)
     } else {
         None

@@ -1,7 +1,9 @@
 -- An inner vertex with four neighbours, strictly between two of them.
--- Lemmas: starts_apart, ends_apart, not_from, not_to, between_read, between_at_next.
+-- Lemmas: starts_apart, reads_apart, between_read, between_at_next.
 use Rattle.std.proofs.Common.{◌≡◌, ◌≢◌, ◌↔◌, ◌<◌, ◌∙◌}
-use Rattle.std.proofs.Common.{ℕ, List, length, sym, ap, subst, arith, inl, inr}
+use Rattle.std.proofs.Common.{ℕ, List, length, map, sym, ap, subst, arith, inl, inr}
+use Rattle.std.proofs.lemmas.List.{length-map}
+use Rattle.delaunay_legalization.specs.half_edge_mesh.Contents.{Contents, IsMeshWithData}
 use Rattle.delaunay_legalization.specs.half_edge_mesh.Mesh.{Mesh, AreSoundLinks, IsValidMesh}
 use Rattle.delaunay_legalization.specs.half_edge_mesh.Mesh.{origin, rev}
 use Rattle.delaunay_legalization.specs.half_edge_mesh.Peel.{turn, spoke}
@@ -28,11 +30,27 @@ starts_apart points m s count local a b a_in b_in differ p q at_p at_q e =
 
 -- ---- what is read at an edge of a vertex with four neighbours: its ends, and the end of the edge
 -- after the next
-module _ (points : List Point) (m : Mesh) (valid : IsValidMesh m)
-    (count : length m.out_edges ≡ length points) (v h opposite : ℕ)
-    (star : IsInnerStar points m v h 4) (is : opposite ≡ turn m (turn m h)) (p a b : Point)
-    (at_p : p ≡ point_at points (origin m h)) (at_a : a ≡ point_at points (origin m (rev h)))
-    (at_b : b ≡ point_at points (origin m (rev opposite))) where
+module _ {V D U F : Type 0} (place : V → Point) (c : Contents V D U F) (w : IsMeshWithData c)
+    (v h second opposite : ℕ) (star : IsInnerStar (map place c.vertices) c.mesh v h 4)
+    (is_second : second ≡ turn c.mesh h) (is_opposite : opposite ≡ turn c.mesh second)
+    (p a b : Point) (at_p : p ≡ point_at (map place c.vertices) (origin c.mesh h))
+    (at_a : a ≡ point_at (map place c.vertices) (origin c.mesh (rev h)))
+    (at_b : b ≡ point_at (map place c.vertices) (origin c.mesh (rev opposite))) where
+  abbrev points : List Point
+  points = map place c.vertices
+
+  abbrev m : Mesh
+  m = c.mesh
+
+  valid : IsValidMesh m
+  valid = w.valid
+
+  count : length m.out_edges ≡ length points
+  count = sym w.fits.vertices_fit ∙ sym (length-map c.vertices place)
+
+  is : opposite ≡ turn m (turn m h)
+  is = is_opposite ∙ ap (turn m) is_second
+
   at_end : b ≡ point_at points (neighbour m h 2)
   at_end = at_b ∙ ap (λ e. point_at points (origin m (rev e))) is
 
@@ -46,21 +64,20 @@ module _ (points : List Point) (m : Mesh) (valid : IsValidMesh m)
   far_in : rev (spoke m h 2) < length m.half_edges
   far_in = rev_within (spoke m h 2) (length m.half_edges) valid.sound.even (star.round.within 2)
 
-  -- the ends of the two edges that face one another are different points
-  pub ends_apart : a ≢ b
-  ends_apart = starts_apart points m valid.sound count star.shape (rev h) (rev (spoke m h 2))
-      back_in far_in (ends_differ points m valid v h 4 star (omega arith)) a b at_a at_end
-
-  -- the vertex is not where the one is
-  pub not_from : p ≢ a
-  not_from = starts_apart points m valid.sound count star.shape h (rev h) h_in back_in
-      (valid.apart h h_in) p a at_p at_a
-
-  -- and not where the other is
-  pub not_to : p ≢ b
-  not_to = starts_apart points m valid.sound count star.shape h (rev (spoke m h 2)) h_in far_in
-      (λ e. valid.apart (spoke m h 2) (star.round.within 2)
-      (star.round.starts 2 ∙ sym (star.round.starts 0) ∙ e)) p b at_p at_end
+  -- the ends of the two edges that face one another are different points, and the vertex is at
+  -- neither
+  pub reads_apart : (a ≢ b) × ((p ≢ a) × (p ≢ b))
+  reads_apart = (
+    starts_apart points m valid.sound count star.shape (rev h) (rev (spoke m h 2)) back_in far_in
+        (ends_differ points m valid v h 4 star (omega arith)) a b at_a at_end,
+    (
+      starts_apart points m valid.sound count star.shape h (rev h) h_in back_in
+          (valid.apart h h_in) p a at_p at_a,
+      starts_apart points m valid.sound count star.shape h (rev (spoke m h 2)) h_in far_in
+          (λ e. valid.apart (spoke m h 2) (star.round.within 2)
+          (star.round.starts 2 ∙ sym (star.round.starts 0) ∙ e)) p b at_p at_end,
+    ),
+  )
 
   -- the point of the vertex is strictly between them exactly if the vertex is so at edge h
   pub between_read : WithinSegment (whole a) (whole b) (whole p) ↔ IsBetweenAt points m h

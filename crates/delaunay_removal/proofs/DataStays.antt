@@ -4,13 +4,16 @@
 -- joined_comes.
 use Rattle.std.proofs.Common.{◌≡◌, ◌≢◌, ◌⊎◌, [], ◌∷◌, ◌++◌, ◌∙◌}
 use Rattle.std.proofs.Common.{ℕ, zero, suc, List, refl, sym, ap, subst, inl, inr}
+use Rattle.std.specs.Global.{Vec}
 use Rattle.std.specs.Prelude.{Contains}
 use Rattle.std.specs.List.{AllZip}
 use Rattle.std.specs.List.Sorted.{IsPermutation}
 use Rattle.std.proofs.lemmas.List.Elements.{Contains-append_left, Contains-append_right}
 use Rattle.std.proofs.lemmas.List.Elements.{Contains-append_cases}
 use Rattle.std.proofs.lemmas.List.Sorted.{Contains-permutation, IsPermutation-sym}
+use Rattle.delaunay_legalization.specs.half_edge_mesh.Mesh.{origin}
 use Rattle.delaunay_legalization.specs.half_edge_mesh.Outline.{Ends}
+use Rattle.delaunay_legalization.specs.half_edge_mesh.Round.{neighbour}
 use Rattle.delaunay_legalization.specs.half_edge_mesh.Triangles.{Triangle}
 use Rattle.delaunay_legalization.specs.half_edge_mesh.Contents.{Contents, IsMeshWithData}
 use Rattle.delaunay_legalization.specs.half_edge_mesh.Growth.{joins}
@@ -24,6 +27,7 @@ use Rattle.delaunay_legalization.proofs.plane_tiling.Totals.{Contains-later, Con
 use Rattle.delaunay_legalization.specs.mesh_embedding.Drawn.{faces_of}
 use Rattle.delaunay_removal.specs.Data.{HasValueAt, StandsBeside}
 use Rattle.delaunay_removal.specs.Pairs.{KeepsPairs}
+use Rattle.delaunay_removal.specs.Star.{TurnsAway}
 use Rattle.delaunay_removal.proofs.MadeFaces.{made_none, made_on, made_strip, made_hole}
 
 -- nothing changes
@@ -79,18 +83,21 @@ pair_put pairs more p is i j (inr h) = inr (subst (λ (ps : List (ℕ × ℕ)). 
     (sym is) (Contains-append_right pairs (p ∷ []) (j, i) h))
 
 -- a turn after others
-pub stands_turned : {V D U F : Type 0} (old mid new : Contents V D U F) (v : ℕ)
-    (pairs more : List (ℕ × ℕ)) (p : ℕ × ℕ) → more ≡ pairs ++ p ∷ [] → StandsBeside old mid v pairs
-    → StandsBeside mid new v (p ∷ []) → StandsBeside old new v more
-stands_turned old mid new v pairs more p is one two = stands_on old mid new v pairs (p ∷ []) more
-    (pairs_kept pairs more p is) (pair_put pairs more p is) one two
+pub stands_turned : {V D U F : Type 0} {listed list : Vec (ℕ × ℕ)} (old mid new : Contents V D U F)
+    (v h : ℕ) → StandsBeside old mid v listed.items → TurnsAway mid new h listed list
+    → origin mid.mesh h ≡ v → StandsBeside old new v list.items
+stands_turned {listed = listed} {list = list} old mid new v h one t starts =
+    let p : ℕ × ℕ = (neighbour mid.mesh h 0, neighbour mid.mesh h 2) in
+    stands_on old mid new v listed.items (p ∷ []) list.items
+    (pairs_kept listed.items list.items p t.items) (pair_put listed.items list.items p t.items) one
+    (subst (λ (x : ℕ). StandsBeside mid new x (p ∷ [])) starts t.beside)
 
--- a change that makes one pair's edge is one beside a list that the pair is put to
-pub stands_put :
-    {V D U F : Type 0} (old new : Contents V D U F) (v : ℕ) (pairs more : List (ℕ × ℕ)) (p : ℕ × ℕ)
-    → more ≡ pairs ++ p ∷ [] → StandsBeside old new v (p ∷ []) → StandsBeside old new v more
-stands_put old new v pairs more p is stands =
-    stands_turned old old new v pairs more p is (all_stands old v pairs) stands
+-- a turn alone
+pub stands_put : {V D U F : Type 0} {listed list : Vec (ℕ × ℕ)} (old new : Contents V D U F)
+    (v h : ℕ) → TurnsAway old new h listed list → origin old.mesh h ≡ v
+    → StandsBeside old new v list.items
+stands_put {listed = listed} old new v h t starts =
+    stands_turned old old new v h (all_stands old v listed.items) t starts
 
 -- ---- what is not at the vertex
 -- an edge neither of whose ends is the vertex has none that is, in either order of the ends

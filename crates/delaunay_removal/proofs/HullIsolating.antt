@@ -1,7 +1,6 @@
 -- A vertex on the hull whose star was reduced loses the rest of its edges.
--- Lemmas: hull_sites, hull_first, hull_named, flat_star, flat_side, hull_isolates.
+-- Lemmas: hull_first, hull_named, flat_star, flat_side, hull_isolates.
 use Rattle.std.proofs.Common.{◌≡◌, ℕ, ◌-◌, ◌<◌, List, length, map, sym, ap, subst, arith}
-use Rattle.std.specs.Prelude.{All}
 use Rattle.delaunay_legalization.specs.half_edge_mesh.Round.{neighbour}
 use Rattle.delaunay_legalization.specs.half_edge_mesh.Contents.{Contents}
 use Rattle.delaunay_legalization.specs.plane.Fraction.{Point}
@@ -21,11 +20,6 @@ module _ {V D U F : Type 0} {turned : List (ℕ × ℕ)} (place : V → Point)
   -- the vertices stay
   same : mid.vertices ≡ old.vertices
   same = ap (λ (c : Contents V D U F). c.vertices) shrinks.contents
-
-  -- the vertices are sites as they were
-  pub hull_sites : (IsSite : Point → Type 0) → All IsSite (map place old.vertices)
-      → All IsSite (map place mid.vertices)
-  hull_sites IsSite sites = subst (λ (vs : List V). All IsSite (map place vs)) (sym same) sites
 
   -- edge first is one of the directed edges
   pub hull_first : first < length mid.directed

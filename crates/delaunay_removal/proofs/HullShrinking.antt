@@ -1,12 +1,13 @@
 -- The loop that turns edges of a vertex on the hull away.
 -- Notions: IsHullShrinking; bent_at_end, turnable_place, place_starts,
 -- place_left, place_right, place_apart, hull_star_goes_on, hull_shrinking_goes_on.
-use Rattle.std.proofs.Common.{◌≡◌, ◌≢◌, ◌+◌, ◌-◌, ◌*◌, ◌/◌, ◌<◌, ◌≤◌, [], ◌∷◌, ◌++◌, ◌∙◌}
+use Rattle.std.proofs.Common.{◌≡◌, ◌≢◌, ◌+◌, ◌-◌, ◌*◌, ◌/◌, ◌<◌, ◌≤◌, ◌∙◌}
 use Rattle.std.proofs.Common.{ℕ, suc, List, length, map, sym, ap, subst, arith, inl, inr}
+use Rattle.std.specs.Global.{Vec}
+use Rattle.std.specs.Prelude.{vec_capacity, vec_len}
 use Rattle.std.proofs.lemmas.Bool.{cases_eq, cases_lt}
 use Rattle.delaunay_legalization.specs.half_edge_mesh.Flip.{flipped}
 use Rattle.delaunay_legalization.specs.half_edge_mesh.Mesh.{Mesh, origin, face}
-use Rattle.delaunay_legalization.specs.half_edge_mesh.Outline.{KeepsOuter}
 use Rattle.delaunay_legalization.specs.half_edge_mesh.Peel.{turn, spoke}
 use Rattle.delaunay_legalization.specs.half_edge_mesh.Triangles.{FlipsTriangles}
 use Rattle.delaunay_legalization.specs.half_edge_mesh.Contents.{Contents, IsMeshWithData}
@@ -17,7 +18,7 @@ use Rattle.delaunay_legalization.proofs.mesh_embedding.MeshStarFlips.{twin_flipp
 use Rattle.delaunay_legalization.proofs.mesh_embedding.StarTurns.{turns_away, same_start}
 use Rattle.delaunay_legalization.proofs.Rounds.{round_of}
 use Rattle.delaunay_removal.specs.Data.{StandsBeside}
-use Rattle.delaunay_removal.specs.Star.{IsConvexAt, IsTurnable}
+use Rattle.delaunay_removal.specs.Star.{IsConvexAt, IsTurnable, TurnsAway}
 use Rattle.delaunay_removal.specs.Hull.{IsHullFan, HasNoFlippableEdge}
 use Rattle.delaunay_removal.specs.Pairs.{HasRoomAt}
 use Rattle.delaunay_removal.proofs.DataStays.{stands_turned}
@@ -32,20 +33,20 @@ IsPlace m first count edge = (i : ℕ) × (i < count - 2) × (edge ≡ spoke m f
 -- them, no more than before; what the turned ones join is listed, with room for one more at each
 -- edge
 pub record IsHullShrinking {V D U F : Type 0} (place : V → Point) (old now : Contents V D U F)
-    (v first from count : ℕ) (turned : List (ℕ × ℕ)) (listed capacity : ℕ) : Type 0 where
+    (v first from count : ℕ) (turned : Vec (ℕ × ℕ)) : Type 0 where
   pub contents : now ≡ record old { mesh = now.mesh }
   pub star : IsHullFan (map place now.vertices) now.mesh v first count
   pub many : 2 ≤ count
   pub whole : IsMeshWithData now
-  pub beside : StandsBeside old now v turned
-  pub room : listed + count ≤ capacity
+  pub beside : StandsBeside old now v turned.items
+  pub room : vec_len turned + count ≤ vec_capacity turned
   pub few : (n : ℕ) → HasRoomAt old.mesh v 0 n → count ≤ n
   pub from_within : from < length now.directed
   pub from_starts : origin now.mesh from ≡ v
 
-module _ {V D U F : Type 0} {turned : List (ℕ × ℕ)} {listed capacity : ℕ} (place : V → Point)
+module _ {V D U F : Type 0} {turned : Vec (ℕ × ℕ)} (place : V → Point)
     (old now : Contents V D U F) (v first from count : ℕ)
-    (shrinking : IsHullShrinking place old now v first from count turned listed capacity) where
+    (shrinking : IsHullShrinking place old now v first from count turned) where
   -- the edges of the vertex from one of them on
   round_from_edge : (edge : ℕ) → edge < length now.directed → origin now.mesh edge ≡ v
       → IsRound now.mesh v edge count
@@ -131,41 +132,36 @@ module _ {V D U F : Type 0} {turned : List (ℕ × ℕ)} {listed capacity : ℕ}
         shrinking.star at.0 below)
 
     -- one edge less
-    pub hull_star_goes_on : (new : Contents V D U F) → IsMeshWithData new
-        → IsConvexAt (map place now.vertices) now.mesh edge → new ≡ record now { mesh = new.mesh }
-        → FlipsTriangles now.mesh new.mesh (2 * (turn now.mesh edge / 2))
-        → KeepsOuter now.mesh new.mesh
+    pub hull_star_goes_on : {more : Vec (ℕ × ℕ)} (new : Contents V D U F)
+        → IsConvexAt (map place now.vertices) now.mesh edge → TurnsAway now new edge turned more
         → IsHullFan (map place new.vertices) new.mesh v first (count - 1)
-    hull_star_goes_on new after convex contents triangles outer =
+    hull_star_goes_on new convex t =
         subst (λ (vs : List V). IsHullFan (map place vs) new.mesh v first (count - 1))
-        (sym (ap (λ (c : Contents V D U F). c.vertices) contents))
+        (sym (ap (λ (c : Contents V D U F). c.vertices) t.contents))
         (hull_star_less (map place now.vertices) now.mesh shrinking.whole.valid v first count
-        shrinking.star at.0 below new.mesh after.valid
+        shrinking.star at.0 below new.mesh t.whole.valid
         (subst (IsConvexAt (map place now.vertices) now.mesh) at.2 convex)
         (subst (λ (h : ℕ). FlipsTriangles now.mesh new.mesh (2 * (turn now.mesh h / 2)))
-        at.2 triangles) outer)
+        at.2 t.triangles) t.outer)
 
     -- one more turn
-    pub hull_shrinking_goes_on : (new : Contents V D U F) → IsMeshWithData new
-        → IsHullFan (map place new.vertices) new.mesh v first (count - 1)
-        → new ≡ record now { mesh = new.mesh } → (p : ℕ × ℕ)
-        → StandsBeside now new (origin now.mesh edge) (p ∷ [])
-        → (more : List (ℕ × ℕ)) (listed_now capacity_now : ℕ) → more ≡ turned ++ p ∷ []
-        → listed_now ≡ listed + 1 → capacity_now ≡ capacity → (next : ℕ)
-        → next < length new.directed → origin new.mesh next ≡ v
-        → IsHullShrinking place old new v first next (count - 1) more listed_now capacity_now
-    hull_shrinking_goes_on new after star contents p stands more listed_now capacity_now put
-        one_more same next next_within next_starts = record {
-          contents = contents
+    pub hull_shrinking_goes_on : {more : Vec (ℕ × ℕ)} (new : Contents V D U F)
+        → IsConvexAt (map place now.vertices) now.mesh edge → TurnsAway now new edge turned more
+        → (next : ℕ) → next < length new.directed → origin new.mesh next ≡ v
+        → IsHullShrinking place old new v first next (count - 1) more
+    hull_shrinking_goes_on new convex t next next_within next_starts =
+        let star = hull_star_goes_on new convex t in
+        record {
+          contents = t.contents
               ∙ ap (λ (c : Contents V D U F). record c { mesh = new.mesh }) shrinking.contents;
           star = star;
-          many = has_two (map place new.vertices) new.mesh after.valid v first (count - 1) star;
-          whole = after;
-          beside = stands_turned old now new v turned more p put shrinking.beside
-              (subst (λ (x : ℕ). StandsBeside now new x (p ∷ []))
-              (ap (origin now.mesh) at.2 ∙ shrinking.star.round.starts at.0) stands);
+          many = has_two (map place new.vertices) new.mesh t.whole.valid v first (count - 1) star;
+          whole = t.whole;
+          beside = stands_turned old now new v edge shrinking.beside t
+              (ap (origin now.mesh) at.2 ∙ shrinking.star.round.starts at.0);
           room = let fits = shrinking.room in let many = shrinking.many in
-              omega (arith, fits, many, one_more, same);
+              let len = t.len in let capacity = t.capacity in
+              omega (arith, fits, many, len, capacity);
           few = λ n at_each. let fits = shrinking.few n at_each in omega (arith, fits);
           from_within = next_within;
           from_starts = next_starts;

@@ -1,24 +1,22 @@
 -- An inner vertex whose star was reduced loses the rest of its edges.
--- Lemmas: inner_as, same_sites, three_wheel, three_isolates, four_star, four_between,
+-- Lemmas: star_placed, three_wheel, three_isolates, four_star, four_between,
 -- four_star_named, four_isolates.
 use Rattle.std.proofs.Common.{◌≡◌, ◌≢◌, ℕ, List, map, sym, ap, ◌∙◌, subst, inl, inr}
-use Rattle.std.specs.Prelude.{All}
-use Rattle.delaunay_legalization.specs.half_edge_mesh.Mesh.{Mesh, origin}
+use Rattle.delaunay_legalization.specs.half_edge_mesh.Mesh.{origin}
 use Rattle.delaunay_legalization.specs.half_edge_mesh.Peel.{IsWheel}
 use Rattle.delaunay_legalization.specs.half_edge_mesh.Round.{neighbour}
 use Rattle.delaunay_legalization.specs.half_edge_mesh.Contents.{Contents, IsMeshWithData}
 use Rattle.delaunay_legalization.specs.half_edge_mesh.Removal.{FillsHole}
 use Rattle.delaunay_legalization.specs.plane.Fraction.{Point}
+use Rattle.delaunay_legalization.specs.plane_tiling.Local.{LocalMesh}
+use Rattle.delaunay_legalization.specs.mesh_embedding.Drawn.{faces_of, outer_of}
+use Rattle.delaunay_legalization.specs.Placed.{IsPlaced}
 use Rattle.delaunay_removal.specs.Data.{StandsBeside}
 use Rattle.delaunay_removal.specs.Pairs.{KeepsPairs}
-use Rattle.delaunay_removal.specs.Star.{HasInnerFaces, IsInnerStar, IsolatesVertex}
+use Rattle.delaunay_removal.specs.Star.{IsInnerStar, IsolatesVertex}
 use Rattle.delaunay_removal.specs.Star.{ShrinksStar, StandsBetween}
 use Rattle.delaunay_removal.proofs.InnerHoles.{wheel_at, three_isolate, isolates_from}
-
--- the faces round the vertex, by its name
-pub inner_as : (m : Mesh) (v first : ℕ) → origin m first ≡ v → HasInnerFaces m v
-    → HasInnerFaces m (origin m first)
-inner_as m v first starts inner = subst (HasInnerFaces m) (sym starts) inner
+use Rattle.delaunay_removal.proofs.Shrinking.{still_placed}
 
 module _ {V D U F : Type 0} {pairs : List (ℕ × ℕ)} (place : V → Point) (old mid : Contents V D U F)
     (v first count : ℕ) (shrinks : ShrinksStar place old mid v first count pairs) where
@@ -26,10 +24,12 @@ module _ {V D U F : Type 0} {pairs : List (ℕ × ℕ)} (place : V → Point) (o
   same : mid.vertices ≡ old.vertices
   same = ap (λ (c : Contents V D U F). c.vertices) shrinks.contents
 
-  -- the vertices are sites as they were
-  pub same_sites : (IsSite : Point → Type 0) → All IsSite (map place old.vertices)
-      → All IsSite (map place mid.vertices)
-  same_sites IsSite sites = subst (λ (vs : List V). All IsSite (map place vs)) (sym same) sites
+  -- with the star of after, the mesh is one of a triangulation with the same sites
+  pub star_placed : {P : Type 0} (IsSite : P → Point → Type 0) (t : P) → IsPlaced place IsSite old t
+      → IsPlaced place IsSite mid t
+  star_placed IsSite t placed = still_placed old mid place IsSite t shrinks.contents placed
+      shrinks.whole (subst (λ (vs : List V). LocalMesh (map place vs) (faces_of mid.mesh)
+      (outer_of mid.mesh)) (sym same) shrinks.star.shape)
 
   -- ---- three edges are left
   -- three edges that are left go round with three inner faces

@@ -1,8 +1,8 @@
 -- A walk round a vertex that looks for an edge.
--- Notions: IsSearching; search_goes_on, search_begins, search_ends, found_spoke.
+-- Notions: IsSearching; search_goes_on, search_begins, search_ends, found_spoke, none_found.
 use Rattle.std.proofs.Common.{◌≡◌, ℕ, ◌+◌, ◌<◌, List, length, map, refl, sym, ap, ◌∙◌, subst, arith}
 use Rattle.std.proofs.Common.{inl, inr}
-use Rattle.std.specs.Prelude.{Some}
+use Rattle.std.specs.Prelude.{Some, None}
 use Rattle.std.proofs.lemmas.Bool.{cases_eq}
 use Rattle.std.proofs.Math.Numerals.{add-one}
 use Rattle.delaunay_legalization.specs.half_edge_mesh.Contents.{Contents}
@@ -33,8 +33,8 @@ search_goes_on Found bound m first count edge after search not within is = recor
 }
 
 -- it begins at its first edge
-pub search_begins : {V D U F : Type 0} {place : V → Point} {IsSite : Point → Type 0}
-    (Found : ℕ → Type 0) (c : Contents V D U F) (first : ℕ) → HasSpoke place IsSite c first
+pub search_begins : {V D U F P : Type 0} {place : V → Point} {IsSite : P → Point → Type 0} {t : P}
+    (Found : ℕ → Type 0) (c : Contents V D U F) (first : ℕ) → HasSpoke place IsSite c t first
     → IsSearching Found (length c.directed) c.mesh first 0 first
 search_begins Found c first has = record {
   within = has.within;
@@ -43,9 +43,9 @@ search_begins Found c first has = record {
 }
 
 -- where such a walk is at an edge of the kind, it has found one
-pub search_ends : {V D U F : Type 0} {place : V → Point} {IsSite : Point → Type 0}
+pub search_ends : {V D U F P : Type 0} {place : V → Point} {IsSite : P → Point → Type 0} {t : P}
     {Found : ℕ → Type 0} (Is : List Point → Mesh → ℕ → Type 0) (c : Contents V D U F)
-    (first count edge : ℕ) → HasSpoke place IsSite c first
+    (first count edge : ℕ) → HasSpoke place IsSite c t first
     → IsSearching Found (length c.directed) c.mesh first count edge
     → Is (map place c.vertices) c.mesh edge → IsSpokeThat Is (record {
       points = map place c.vertices;
@@ -56,8 +56,8 @@ pub search_ends : {V D U F : Type 0} {place : V → Point} {IsSite : Point → T
 search_ends Is c first count edge has walk is = record {
   within = walk.within;
   starts = ap (origin c.mesh) walk.here
-      ∙ (round_at c.mesh has.whole.valid (origin c.mesh first) first
-      (subst (λ (n : ℕ). first < n) has.whole.fits.directed_fit has.within) refl).1.starts count;
+      ∙ (round_at c.mesh has.placed.kept.valid (origin c.mesh first) first
+      (rw has.placed.kept.fits.directed_fit at has.within) refl).1.starts count;
   is = is;
 }
 
@@ -65,3 +65,9 @@ search_ends Is c first count edge has walk is = record {
 pub found_spoke : {D : Type 0} (Is : List Point → Mesh → ℕ → Type 0) (s : Surrounding D)
     (count h : ℕ) → IsSpokeThat Is s h → FindsSpoke Is s count (Some h)
 found_spoke Is s count h one = record { some = one; none = search }
+
+-- where each was passed, none is found
+pub none_found : {D : Type 0} (Is : List Point → Mesh → ℕ → Type 0) (s : Surrounding D) (count : ℕ)
+    → ((i : ℕ) → i < count → ¬ Is s.points s.mesh (spoke s.mesh s.first i))
+    → FindsSpoke Is s count None
+none_found Is s count none = record { some = search; none = none }

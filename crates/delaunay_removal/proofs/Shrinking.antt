@@ -1,30 +1,34 @@
 -- The loop that turns edges of an inner vertex away.
--- Notions: IsShrinking; still_within, still_sites, vertices_stay, star_at, shrinking_goes_on,
+-- Notions: IsShrinking; still_within, still_placed, vertices_stay, star_at, shrinking_goes_on,
 -- shrinking_from, shrinking_stops, shrinking_ends, shrunk.
-use Rattle.std.proofs.Common.{◌≡◌, ◌+◌, ◌-◌, ◌*◌, ◌/◌, ◌<◌, ◌≤◌, [], ◌∷◌, ◌++◌, ◌∙◌}
+use Rattle.std.proofs.Common.{◌≡◌, ◌+◌, ◌-◌, ◌<◌, ◌≤◌, ◌∙◌}
 use Rattle.std.proofs.Common.{ℕ, List, length, map, sym, ap, subst, arith, inl}
-use Rattle.std.specs.Prelude.{All}
+use Rattle.std.specs.Prelude.{All, vec_capacity, vec_len}
+use Rattle.std.specs.Global.{Vec}
 use Rattle.delaunay_legalization.specs.half_edge_mesh.Mesh.{origin}
-use Rattle.delaunay_legalization.specs.half_edge_mesh.Flip.{flipped}
-use Rattle.delaunay_legalization.specs.half_edge_mesh.Outline.{KeepsOuter}
-use Rattle.delaunay_legalization.specs.half_edge_mesh.Peel.{turn, spoke}
-use Rattle.delaunay_legalization.specs.half_edge_mesh.Triangles.{FlipsTriangles}
+use Rattle.delaunay_legalization.specs.half_edge_mesh.Peel.{spoke}
 use Rattle.delaunay_legalization.specs.half_edge_mesh.Contents.{Contents, IsMeshWithData}
 use Rattle.delaunay_legalization.specs.plane.Fraction.{Point}
+use Rattle.delaunay_legalization.specs.plane.Tests.{InRange}
+use Rattle.delaunay_legalization.specs.plane_tiling.Local.{LocalMesh}
+use Rattle.delaunay_legalization.specs.mesh_embedding.Drawn.{faces_of, outer_of}
+use Rattle.delaunay_legalization.specs.Placed.{IsPlaced}
 use Rattle.delaunay_removal.specs.Data.{StandsBeside}
-use Rattle.delaunay_removal.specs.Star.{IsConvexAt, IsInnerStar, IsReduced, ShrinksStar}
+use Rattle.delaunay_removal.specs.Star.{IsConvexAt, IsInnerStar, IsReduced, IsSpokeThat}
+use Rattle.delaunay_removal.specs.Star.{ShrinksStar, TurnsAway}
 use Rattle.delaunay_removal.proofs.DataStays.{stands_turned}
 use Rattle.delaunay_removal.proofs.InnerStars.{star_from, star_shrinks, has_three, none_left}
+use Rattle.delaunay_removal.proofs.Removing.{kept_by_shape}
 
 -- vertex v lost edges by turns, and still has so many, from edge first on; what the turned ones
 -- join is listed, with room for one more at each edge
 pub record IsShrinking {V D U F : Type 0} (place : V → Point) (old now : Contents V D U F)
-    (v first count : ℕ) (turned : List (ℕ × ℕ)) (listed capacity : ℕ) : Type 0 where
+    (v first count : ℕ) (turned : Vec (ℕ × ℕ)) : Type 0 where
   pub contents : now ≡ record old { mesh = now.mesh }
   pub whole : IsMeshWithData now
   pub star : IsInnerStar (map place now.vertices) now.mesh v first count
-  pub beside : StandsBeside old now v turned
-  pub room : listed + count ≤ capacity
+  pub beside : StandsBeside old now v turned.items
+  pub room : vec_len turned + count ≤ vec_capacity turned
 
 module _ {V D U F : Type 0} (old new : Contents V D U F) where
   -- where the links alone change, an edge stays one of the directed edges
@@ -33,16 +37,23 @@ module _ {V D U F : Type 0} (old new : Contents V D U F) where
   still_within contents e within = subst (λ (ds : List D). e < length ds)
       (sym (ap (λ (c : Contents V D U F). c.directed) contents)) within
 
-  -- and the vertices stay sites
-  pub still_sites : new ≡ record old { mesh = new.mesh } → (place : V → Point)
-      (IsSite : Point → Type 0) → All IsSite (map place old.vertices)
-      → All IsSite (map place new.vertices)
-  still_sites contents place IsSite sites = subst (λ (vs : List V). All IsSite (map place vs))
-      (sym (ap (λ (c : Contents V D U F). c.vertices) contents)) sites
+  -- and in the plane the mesh is one of a triangulation with the same sites
+  pub still_placed : {P : Type 0} (place : V → Point) (IsSite : P → Point → Type 0) (t : P)
+      → new ≡ record old { mesh = new.mesh } → IsPlaced place IsSite old t → IsMeshWithData new
+      → LocalMesh (map place new.vertices) (faces_of new.mesh) (outer_of new.mesh)
+      → IsPlaced place IsSite new t
+  still_placed place IsSite t contents placed w shape = record {
+    kept = kept_by_shape place new (subst (λ (vs : List V). All (λ v. InRange (place v)) vs)
+        vertices placed.kept.in_range) w (inl shape);
+    sites = subst (λ (vs : List V). All (IsSite t) (map place vs)) vertices placed.sites;
+  }
+    where
+      vertices : old.vertices ≡ new.vertices
+      vertices = sym (ap (λ (c : Contents V D U F). c.vertices) contents)
 
-module _ {V D U F : Type 0} {turned : List (ℕ × ℕ)} {listed capacity : ℕ} (place : V → Point)
+module _ {V D U F : Type 0} {turned : Vec (ℕ × ℕ)} (place : V → Point)
     (old now : Contents V D U F) (v first count : ℕ)
-    (shrinking : IsShrinking place old now v first count turned listed capacity) where
+    (shrinking : IsShrinking place old now v first count turned) where
   -- the vertices stay
   pub vertices_stay : now.vertices ≡ old.vertices
   vertices_stay = ap (λ (c : Contents V D U F). c.vertices) shrinking.contents
@@ -57,34 +68,32 @@ module _ {V D U F : Type 0} {turned : List (ℕ × ℕ)} {listed capacity : ℕ}
       (starts ∙ shrinking.star.round.starts 0)
 
   -- one more turn
-  pub shrinking_goes_on : (new : Contents V D U F) → IsMeshWithData new → 3 < count → (edge : ℕ)
-      → edge < length now.directed → origin now.mesh edge ≡ origin now.mesh first
-      → IsConvexAt (map place now.vertices) now.mesh edge → new.mesh
-      ≡ flipped now.mesh (2 * (turn now.mesh edge / 2)) → new ≡ record now { mesh = new.mesh }
-      → FlipsTriangles now.mesh new.mesh (2 * (turn now.mesh edge / 2))
-      → KeepsOuter now.mesh new.mesh → (p : ℕ × ℕ)
-      → StandsBeside now new (origin now.mesh edge) (p ∷ [])
-      → (more : List (ℕ × ℕ)) (listed_now capacity_now : ℕ) → more ≡ turned ++ p ∷ []
-      → listed_now ≡ listed + 1 → capacity_now ≡ capacity
-      → IsShrinking place old new v edge (count - 1) more listed_now capacity_now
-  shrinking_goes_on new after many edge within starts convex flips contents triangles outer p
-      stands more listed_now capacity_now put one_more same = record {
-        contents = contents
-            ∙ ap (λ (c : Contents V D U F). record c { mesh = new.mesh }) shrinking.contents;
-        whole = after;
-        star = subst (λ (vs : List V). IsInnerStar (map place vs) new.mesh v edge (count - 1))
-            (sym (ap (λ (c : Contents V D U F). c.vertices) contents))
-            (star_shrinks (map place now.vertices) now.mesh new.mesh shrinking.whole.valid v edge
-            count (star_at edge within starts) many flips outer after.valid triangles convex);
-        beside = stands_turned old now new v turned more p put shrinking.beside
-            (subst (λ (x : ℕ). StandsBeside now new x (p ∷ []))
-            (starts ∙ shrinking.star.round.starts 0) stands);
-        room = let fits = shrinking.room in omega (arith, fits, many, one_more, same);
-      }
+  pub shrinking_goes_on : {more : Vec (ℕ × ℕ)} (new : Contents V D U F) → 3 < count → (edge : ℕ)
+      → IsSpokeThat IsConvexAt (record {
+        points = map place now.vertices;
+        mesh = now.mesh;
+        directed = now.directed;
+        first = first;
+      }) edge → TurnsAway now new edge turned more
+      → IsShrinking place old new v edge (count - 1) more
+  shrinking_goes_on new many edge found t = record {
+    contents = t.contents
+        ∙ ap (λ (c : Contents V D U F). record c { mesh = new.mesh }) shrinking.contents;
+    whole = t.whole;
+    star = subst (λ (vs : List V). IsInnerStar (map place vs) new.mesh v edge (count - 1))
+        (sym (ap (λ (c : Contents V D U F). c.vertices) t.contents))
+        (star_shrinks (map place now.vertices) now.mesh new.mesh shrinking.whole.valid v edge count
+        (star_at edge found.within found.starts) many t.mesh t.outer t.whole.valid t.triangles
+        found.is);
+    beside = stands_turned old now new v edge shrinking.beside t
+        (found.starts ∙ shrinking.star.round.starts 0);
+    room = let fits = shrinking.room in let len = t.len in let capacity = t.capacity in
+        omega (arith, fits, many, len, capacity);
+  }
 
   -- the same from another edge of the vertex
   pub shrinking_from : (edge : ℕ) → edge < length now.mesh.half_edges → origin now.mesh edge ≡ v
-      → IsShrinking place old now v edge count turned listed capacity
+      → IsShrinking place old now v edge count turned
   shrinking_from edge within starts = record {
     contents = shrinking.contents;
     whole = shrinking.whole;
@@ -112,7 +121,7 @@ module _ {V D U F : Type 0} {turned : List (ℕ × ℕ)} {listed capacity : ℕ}
 
   -- with none to turn, or three left, the turns are done
   pub shrunk : IsReduced (map place old.vertices) now.mesh v first count
-      → ShrinksStar place old now v first count turned
+      → ShrinksStar place old now v first count turned.items
   shrunk reduced = record {
     contents = shrinking.contents;
     whole = shrinking.whole;

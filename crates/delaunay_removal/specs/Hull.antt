@@ -15,7 +15,6 @@ use Rattle.delaunay_removal.specs.Star.{IsConvexAt}
 -- a mesh in the plane has this edge, with the outer face on its right
 pub record HasHullEdge {V D U F : Type 0} (place : V → Point) (c : Contents V D U F) (h : ℕ)
     : Type 0 where
-  pub whole : IsMeshWithData c
   pub within : h < length c.directed
   pub shape : LocalMesh (map place c.vertices) (faces_of c.mesh) (outer_of c.mesh)
   pub outer : face c.mesh (rev h) ≡ 0

@@ -1,7 +1,7 @@
 -- The edges and faces round a vertex that is to go.
 use Rattle.std.specs.Prelude.{◌≡◌, ◌⊎◌, ◌+◌, ◌*◌, ◌/◌, ◌<◌, ◌++◌, ◌∷◌, []}
 use Rattle.std.specs.Prelude.{ℕ, suc, List, length, map, vec_capacity, vec_len}
-use Rattle.std.specs.Prelude.{Option, IfSome, IfNone, All}
+use Rattle.std.specs.Prelude.{Option, IfSome, IfNone}
 use Rattle.std.specs.Global.{Vec}
 use Rattle.delaunay_legalization.specs.half_edge_mesh.Flip.{flipped}
 use Rattle.delaunay_legalization.specs.half_edge_mesh.Mesh.{Mesh, origin, face, IsAlone}
@@ -17,6 +17,7 @@ use Rattle.delaunay_legalization.specs.plane.Tiling.{Face}
 use Rattle.delaunay_legalization.specs.plane_tiling.Local.{LocalMesh}
 use Rattle.delaunay_legalization.specs.plane_edits.Removal.{LocalMeshWithout, LineMeshWithout}
 use Rattle.delaunay_legalization.specs.mesh_embedding.Drawn.{faces_of, outer_of}
+use Rattle.delaunay_legalization.specs.Placed.{IsPlaced}
 use Rattle.delaunay_removal.specs.Data.{StandsBeside}
 
 -- the edge after edge h, round the vertex where they start, lies across a strictly convex
@@ -41,11 +42,10 @@ pub record Surrounding (D : Type 0) : Type 0 where
   pub directed : List D
   pub first : ℕ
 
--- a mesh has this edge, and its vertices are sites
-pub record HasSpoke {V D U F : Type 0} (place : V → Point) (IsSite : Point → Type 0)
-    (c : Contents V D U F) (h : ℕ) : Type 0 where
-  pub whole : IsMeshWithData c
-  pub sites : All IsSite (map place c.vertices)
+-- the mesh of a triangulation whose vertices are sites has this edge
+pub record HasSpoke {V D U F P : Type 0} (place : V → Point) (IsSite : P → Point → Type 0)
+    (c : Contents V D U F) (t : P) (h : ℕ) : Type 0 where
+  pub placed : IsPlaced place IsSite c t
   pub within : h < length c.directed
 
 -- edge h is one of these edges, and of this kind

@@ -1,19 +1,22 @@
-//! Which edge of a vertex is turned away next.
+//! Which edge of a vertex is turned away next, and where the vertex lies.
 ghost use Rattle.std.specs.Prelude.{◌≡◌, ◌↔◌, ◌<◌, length, IsTrue, IsFalse, IfSome};
 ghost use Rattle.delaunay_legalization.specs.half_edge_mesh.Mesh.{origin};
-ghost use Rattle.delaunay_removal.specs.Star.{FindsSpoke, IsConvexAt, IsSpokeThat, IsTurnable};
+ghost use Rattle.delaunay_removal.specs.Hull.{IsCornerAt};
+ghost use Rattle.delaunay_removal.specs.Star.{FindsSpoke, IsBetweenAt, IsConvexAt, IsInnerStar};
+ghost use Rattle.delaunay_removal.specs.Star.{IsSpokeThat, IsTurnable, StandsBetween};
 
 use crate::star::{ccw_edge, cw_edge, is_between_faces};
 use delaunay_legalization::delaunay_core::math::PlaneTests;
 use delaunay_legalization::delaunay_core::point::{HasPosition, Point2};
 use delaunay_legalization::half_edge_mesh::{Dcel, FixedDirectedEdgeHandle};
-use delaunay_legalization::{end_of, start_of, turns_left};
+use delaunay_legalization::{Placed, is_strictly_within, turns_left};
 use std::marker::Model;
 
 // Where a vertex has no more edges than these, any that can be turned away is as good as another.
 const FEW_EDGES: usize = 16;
 
-// The edges of a vertex, from `first` on, in a mesh whose vertices are sites of the tests.
+// The edges of a vertex, from `first` on, in the mesh of a triangulation whose vertices are sites
+// of the tests.
 #[derive(Drop)]
 pub(crate) struct Spokes<'a, V: HasPosition, DE, UE, F, P: PlaneTests<V::Scalar>> {
     pub(crate) dcel: &'a Dcel<V, DE, UE, F>,
@@ -35,7 +38,7 @@ impl<'a, V: HasPosition, DE, UE, F, P: PlaneTests<V::Scalar>> Model
       first = s.first;
     } };
 
-    ghost invariant = { λ s. HasSpoke V.place (P.sites s.tests.now) s.dcel.now s.first };
+    ghost invariant = { λ s. HasSpoke V.place P.sites s.dcel.now s.tests.now s.first };
 }
 
 impl<'a, V: HasPosition, DE, UE, F, P: PlaneTests<V::Scalar>> Spokes<'a, V, DE, UE, F, P> {
@@ -45,12 +48,16 @@ impl<'a, V: HasPosition, DE, UE, F, P: PlaneTests<V::Scalar>> Spokes<'a, V, DE, 
         requires { edge < length self.now.directed }
         ensures { IsTrue result ↔ IsConvexAt self.now.points self.now.mesh edge }
     {
+        let placed = Placed {
+            dcel: self.dcel,
+            tests: self.tests,
+        };
         let second = ccw_edge(self.dcel, edge);
         let third = ccw_edge(self.dcel, second);
-        let centre = start_of(self.dcel, edge);
-        let before = end_of(self.dcel, edge);
-        let corner = end_of(self.dcel, second);
-        let after = end_of(self.dcel, third);
+        let centre = placed.start_of(edge);
+        let before = placed.end_of(edge);
+        let corner = placed.end_of(second);
+        let after = placed.end_of(third);
         turns_left(before, corner, after, self.tests)
             && turns_left(centre, before, after, self.tests)
     }
@@ -62,12 +69,16 @@ impl<'a, V: HasPosition, DE, UE, F, P: PlaneTests<V::Scalar>> Spokes<'a, V, DE, 
         requires within { edge < length self.now.directed }
         requires convex { IsConvexAt self.now.points self.now.mesh edge }
     {
+        let placed = Placed {
+            dcel: self.dcel,
+            tests: self.tests,
+        };
         let second = ccw_edge(self.dcel, edge);
         let third = ccw_edge(self.dcel, second);
-        let beyond = end_of(self.dcel, ccw_edge(self.dcel, third));
-        let before = end_of(self.dcel, edge);
-        let corner = end_of(self.dcel, second);
-        let after = end_of(self.dcel, third);
+        let beyond = placed.end_of(ccw_edge(self.dcel, third));
+        let before = placed.end_of(edge);
+        let corner = placed.end_of(second);
+        let after = placed.end_of(third);
         !self.tests.is_in_circle(before, corner, after, beyond)
     }
 
@@ -143,6 +154,59 @@ impl<'a, V: HasPosition, DE, UE, F, P: PlaneTests<V::Scalar>> Spokes<'a, V, DE, 
             }
         }
         self.find_turnable(count, false)
+    }
+
+    // Whether the vertex, on the hull with the outer face on the right of `first`, is a corner of
+    // the hull.
+    pub(crate) fn is_corner(&self) -> bool
+        ensures { IsTrue result ↔ IsCornerAt self.now.points self.now.mesh self.now.first }
+    {
+        let placed = Placed {
+            dcel: self.dcel,
+            tests: self.tests,
+        };
+        let last = cw_edge(self.dcel, self.first);
+        let centre = placed.start_of(self.first);
+        let from = placed.end_of(self.first);
+        let to = placed.end_of(last);
+        turns_left(centre, from, to, self.tests)
+    }
+
+    // Whether the vertex, which has four edges, is strictly between the end of `first` and the end
+    // of the edge after the next.
+    fn is_between(&self) -> bool
+        requires { IsInnerStar self.now.points self.now.mesh
+            (origin self.now.mesh self.now.first) self.now.first 4 }
+        ensures { IsTrue result ↔ IsBetweenAt self.now.points self.now.mesh self.now.first }
+    {
+        let placed = Placed {
+            dcel: self.dcel,
+            tests: self.tests,
+        };
+        let second = ccw_edge(self.dcel, self.first);
+        let opposite = ccw_edge(self.dcel, second);
+        let centre = placed.start_of(self.first);
+        let from = placed.end_of(self.first);
+        let to = placed.end_of(opposite);
+        is_strictly_within(from, to, centre, self.tests)
+    }
+
+    // Of `first` and the edge after it, one whose end is one of the two neighbours between which
+    // the vertex is. It has four edges.
+    pub(crate) fn edge_beside_line(&self) -> FixedDirectedEdgeHandle
+        requires star { IsInnerStar self.now.points self.now.mesh
+            (origin self.now.mesh self.now.first) self.now.first 4 }
+        requires between { StandsBetween self.now.points self.now.mesh
+            (origin self.now.mesh self.now.first) self.now.first 4 }
+        ensures star { IsInnerStar self.now.points self.now.mesh
+            (origin self.now.mesh self.now.first) result 4 }
+        ensures between { IsBetweenAt self.now.points self.now.mesh result }
+    {
+        if self.is_between() {
+            self.first
+        } else {
+            ccw_edge(self.dcel, self.first)
+        }
     }
 }
 

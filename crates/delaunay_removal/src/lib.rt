@@ -10,7 +10,6 @@ mod pairs;
 mod removal;
 mod removal_hull;
 mod removal_inner;
-mod removal_line;
 mod star;
 
 pub use border::sides_of_hole;

@@ -1,27 +1,22 @@
 //! Vertices that go, with their edges.
-ghost use Rattle.std.specs.Prelude.{◌≡◌, ◌<◌, []};
-ghost use Rattle.std.specs.Prelude.{length, map, All, Some, IsSome, IsTrue, slice_get};
+ghost use Rattle.std.specs.Prelude.{◌≡◌, ◌<◌, [], length, map, All, Some, IsSome, IsTrue};
 ghost use Rattle.delaunay_legalization.specs.half_edge_mesh.Contents.{IsMeshWithData};
-ghost use Rattle.delaunay_legalization.specs.half_edge_mesh.Mesh.{origin, out_edge, IsAlone};
-ghost use Rattle.delaunay_legalization.specs.half_edge_mesh.Removal.{DropsVertex};
-ghost use Rattle.delaunay_legalization.specs.plane.Plain.{TakesOut};
-ghost use Rattle.delaunay_legalization.specs.plane.Tests.{InRange};
-ghost use Rattle.delaunay_legalization.specs.mesh_embedding.Drawn.{faces_of, outer_of};
+ghost use Rattle.delaunay_legalization.specs.half_edge_mesh.Mesh.{origin, out_edge};
 ghost use Rattle.delaunay_legalization.specs.Constraints.{constraints_by};
 ghost use Rattle.delaunay_legalization.specs.Constraints.{points_and_constraints_by};
+ghost use Rattle.delaunay_legalization.specs.Placed.{IsPlaced};
 ghost use Rattle.delaunay_legalization.specs.Shape.{IsTriangulated};
 ghost use Rattle.delaunay_legalization.specs.State.{points_and_constraints, state_of};
 ghost use Rattle.delaunay_removal.specs.Data.{RenumbersEdges};
 ghost use Rattle.delaunay_removal.specs.Freeing.{FreesEdgesAt};
 ghost use Rattle.delaunay_removal.specs.Lists.{HasRoomToRemove};
 ghost use Rattle.delaunay_removal.specs.Removal.{TakesVertexOut};
-ghost use Rattle.delaunay_removal.specs.Star.{IsMeshWithout, LosesStar};
+ghost use Rattle.delaunay_removal.specs.Star.{LosesStar};
 
 use crate::freeing::free_edges_at;
 use crate::lists::RemovalLists;
 use crate::removal_hull::{isolate_on_hull, outer_edge_beside};
 use crate::removal_inner::isolate_inner;
-use crate::removal_line::remove_on_line;
 use delaunay_legalization::ConstraintMarker;
 use delaunay_legalization::delaunay_core::math::PlaneTests;
 use delaunay_legalization::delaunay_core::point::HasPosition;
@@ -47,26 +42,6 @@ fn first_edge<V, DE, UE, F>(
     }
 }
 
-// Removes a vertex that has lost its edges, and gives its data back. The last vertex takes its
-// index.
-fn drop_vertex<V: HasPosition, DE, UE, F>(
-    dcel: &mut Dcel<V, DE, UE, F>,
-    vertex: FixedVertexHandle,
-) -> V
-    requires whole { IsMeshWithData dcel.old }
-    requires in_range { All (λ v. InRange (V.place v)) dcel.old.vertices }
-    requires alone { IsAlone dcel.old.mesh vertex }
-    requires shape { IsMeshWithout vertex (map V.place dcel.old.vertices) (faces_of dcel.old.mesh)
-        (outer_of dcel.old.mesh) }
-    ensures value { slice_get dcel.old.vertices vertex ≡ Some result }
-    ensures plain { TakesOut V.place (points_and_constraints (state_of dcel.old))
-        (points_and_constraints (state_of dcel.new)) vertex }
-    ensures kept { IsTriangulated V.place (state_of dcel.new) }
-    ensures drops { DropsVertex dcel.old dcel.new vertex result }
-{
-    dcel.swap_remove_vertex(vertex)
-}
-
 // Removes the edges of a vertex in the plane, and its faces. `lists` gets what each turned one
 // joins.
 fn isolate<V: HasPosition, DE: Drop, UE: Drop, F: Drop, P: PlaneTests<V::Scalar>>(
@@ -75,10 +50,9 @@ fn isolate<V: HasPosition, DE: Drop, UE: Drop, F: Drop, P: PlaneTests<V::Scalar>
     tests: &P,
     lists: &mut RemovalLists,
 )
-    requires kept { IsTriangulated V.place (state_of dcel.old) }
+    requires placed { IsPlaced V.place P.sites dcel.old tests.now }
     requires some_face { 0 < length dcel.old.faces }
     requires within { vertex < length dcel.old.vertices }
-    requires sites { All (P.sites tests.now) (map V.place dcel.old.vertices) }
     requires room { HasRoomToRemove dcel.old vertex lists.old }
     ensures isolates { LosesStar V.place dcel.old dcel.new vertex lists.new.turned.items }
     ensures capacity { lists.new.tested.room ≡ lists.old.tested.room }
@@ -91,17 +65,16 @@ fn isolate<V: HasPosition, DE: Drop, UE: Drop, F: Drop, P: PlaneTests<V::Scalar>
 }
 
 // Takes a vertex out, and gives its data back. The hole or the gap that its faces leave is filled
-// so that the others have a mesh, and the last vertex takes its index. `lists` gets what each edge
-// joins that was turned away.
+// so that the others have a mesh, or on a line its two neighbours are joined, and the last vertex
+// takes its index. `lists` gets what each edge joins that was turned away.
 fn take_vertex<V: HasPosition, DE: Drop, UE: Drop, F: Drop, P: PlaneTests<V::Scalar>>(
     dcel: &mut Dcel<V, DE, UE, F>,
     vertex: FixedVertexHandle,
     tests: &P,
     lists: &mut RemovalLists,
 ) -> V
-    requires kept { IsTriangulated V.place (state_of dcel.old) }
+    requires placed { IsPlaced V.place P.sites dcel.old tests.now }
     requires within { vertex < length dcel.old.vertices }
-    requires sites { All (P.sites tests.now) (map V.place dcel.old.vertices) }
     requires room { HasRoomToRemove dcel.old vertex lists.old }
     ensures takes { TakesVertexOut V.place points_and_constraints (state_of dcel.old)
         (state_of dcel.new) vertex result lists.new.turned.items }
@@ -109,10 +82,10 @@ fn take_vertex<V: HasPosition, DE: Drop, UE: Drop, F: Drop, P: PlaneTests<V::Sca
     ensures capacity { lists.new.tested.room ≡ lists.old.tested.room }
 {
     if dcel.num_inner_faces() == 0 {
-        return remove_on_line(dcel, vertex);
+        return dcel.remove_when_degenerate(vertex);
     }
     isolate(dcel, vertex, tests, lists);
-    drop_vertex(dcel, vertex)
+    dcel.swap_remove_vertex(vertex)
 }
 
 // Makes each edge of a vertex one that is no constraint. Where the mesh has no constraint, which

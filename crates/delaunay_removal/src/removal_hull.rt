@@ -1,12 +1,13 @@
 //! A vertex on the hull loses its edges.
-ghost use Rattle.std.specs.Prelude.{◌≡◌, ◌↔◌, ℕ, ◌+◌, ◌-◌, ◌<◌, ◌≤◌, []};
-ghost use Rattle.std.specs.Prelude.{length, map, All, IsTrue, IfSome, IfNone};
+ghost use Rattle.std.specs.Prelude.{◌≡◌, ℕ, ◌+◌, ◌-◌, ◌<◌, ◌≤◌, []};
+ghost use Rattle.std.specs.Prelude.{length, map, IfSome, IfNone};
 ghost use Rattle.std.specs.Prelude.{vec_capacity, vec_len};
 ghost use Rattle.delaunay_legalization.specs.half_edge_mesh.Contents.{IsMeshWithData};
 ghost use Rattle.delaunay_legalization.specs.half_edge_mesh.Mesh.{face, next, origin, rev};
 ghost use Rattle.delaunay_legalization.specs.half_edge_mesh.Round.{IsRound, neighbour};
 ghost use Rattle.delaunay_legalization.specs.plane.Pairs.{place};
 ghost use Rattle.delaunay_legalization.specs.plane.Side.{on, side};
+ghost use Rattle.delaunay_legalization.specs.Placed.{IsPlaced};
 ghost use Rattle.delaunay_removal.specs.Hull.{AreSides, HasNoFlippableEdge, IsCornerAt};
 ghost use Rattle.delaunay_removal.specs.Hull.{HasHullEdge, IsHullFan, ShrinksFan};
 ghost use Rattle.delaunay_removal.specs.Pairs.{HasRoomAt, KeepsPairs};
@@ -15,13 +16,13 @@ ghost use Rattle.delaunay_removal.specs.Star.{HasInnerFaces, LosesStar};
 use crate::choice::{Spokes, edge_to_go_on};
 use crate::lists::RemovalLists;
 use crate::pairs::VertexPair;
-use crate::star::{ccw_edge, count_edges, cw_edge, opposite_side, turn_away};
+use crate::star::{ccw_edge, count_edges, opposite_side, turn_away};
 use delaunay_legalization::delaunay_core::math::PlaneTests;
 use delaunay_legalization::delaunay_core::point::HasPosition;
 use delaunay_legalization::half_edge_mesh::{
     Dcel, FixedDirectedEdgeHandle, FixedVertexHandle, MeshViews,
 };
-use delaunay_legalization::{end_of, is_outer, start_of, turns_left};
+use delaunay_legalization::is_outer;
 
 // Turns edges of a vertex on the hull away while one of them lies across a strictly convex
 // quadrilateral. `first` is the one with the outer face on its right. Gives how many are left.
@@ -32,8 +33,8 @@ fn shrink_hull_star<V: HasPosition, DE, UE, F, P: PlaneTests<V::Scalar>>(
     tests: &P,
     turned: &mut Vec<VertexPair>,
 ) -> usize
+    requires placed { IsPlaced V.place P.sites dcel.old tests.now }
     requires hull { HasHullEdge V.place dcel.old first }
-    requires sites { All (P.sites tests.now) (map V.place dcel.old.vertices) }
     requires room { HasRoomAt dcel.old.mesh (origin dcel.old.mesh first) (vec_len turned.old)
         (vec_capacity turned.old) }
     ensures shrinks { ShrinksFan V.place dcel.old dcel.new (origin dcel.old.mesh first) first result
@@ -58,24 +59,6 @@ fn shrink_hull_star<V: HasPosition, DE, UE, F, P: PlaneTests<V::Scalar>>(
             None => return count,
         }
     }
-}
-
-// Whether the vertex where `first` starts, with the outer face on its right, is a corner of the
-// hull.
-fn is_corner<V: HasPosition, DE, UE, F, P: PlaneTests<V::Scalar>>(
-    dcel: &Dcel<V, DE, UE, F>,
-    first: FixedDirectedEdgeHandle,
-    tests: &P,
-) -> bool
-    requires within { first < length dcel.now.directed }
-    requires sites { All (P.sites tests.now) (map V.place dcel.now.vertices) }
-    ensures { IsTrue result ↔ IsCornerAt (map V.place dcel.now.vertices) dcel.now.mesh first }
-{
-    let last = cw_edge(dcel, first);
-    let centre = start_of(dcel, first);
-    let from = end_of(dcel, first);
-    let to = end_of(dcel, last);
-    turns_left(centre, from, to, tests)
 }
 
 // Lists the sides opposite a vertex in its first `count` faces, from `first` on.
@@ -156,9 +139,9 @@ pub(crate) fn isolate_on_hull<
     tests: &P,
     lists: &mut RemovalLists,
 )
+    requires placed { IsPlaced V.place P.sites dcel.old tests.now }
     requires hull { HasHullEdge V.place dcel.old first }
     requires starts { origin dcel.old.mesh first ≡ vertex }
-    requires sites { All (P.sites tests.now) (map V.place dcel.old.vertices) }
     requires room { HasRoomAt dcel.old.mesh vertex 0 (vec_capacity lists.old.sides) }
     requires pairs { HasRoomAt dcel.old.mesh vertex (vec_len lists.old.turned)
         (vec_capacity lists.old.turned) }
@@ -166,7 +149,8 @@ pub(crate) fn isolate_on_hull<
     ensures capacity { lists.new.tested.room ≡ lists.old.tested.room }
 {
     let count = shrink_hull_star(dcel, first, tests, &mut lists.turned);
-    if is_corner(dcel, first, tests) {
+    let spokes = Spokes { dcel, first, tests };
+    if spokes.is_corner() {
         cut_corner(dcel, first, count, vertex, &mut lists.sides);
     } else {
         close_flat(dcel, first, vertex, &mut lists.turned);

@@ -1,16 +1,13 @@
 //! A vertex inside the hull loses its edges.
-ghost use Rattle.std.specs.Prelude.{◌≡◌, ◌↔◌, ◌+◌, ◌<◌, ◌≤◌};
-ghost use Rattle.std.specs.Prelude.{map, All, IsTrue, vec_capacity, vec_len};
+ghost use Rattle.std.specs.Prelude.{◌≡◌, ◌+◌, ◌<◌, ◌≤◌, map, vec_capacity, vec_len};
 ghost use Rattle.delaunay_legalization.specs.half_edge_mesh.Mesh.{origin};
 ghost use Rattle.delaunay_legalization.specs.half_edge_mesh.Peel.{IsWheel};
-ghost use Rattle.delaunay_legalization.specs.half_edge_mesh.Round.{IsRound, neighbour};
+ghost use Rattle.delaunay_legalization.specs.half_edge_mesh.Round.{neighbour};
 ghost use Rattle.delaunay_legalization.specs.half_edge_mesh.Contents.{IsMeshWithData};
 ghost use Rattle.delaunay_legalization.specs.half_edge_mesh.Removal.{FillsHole};
-ghost use Rattle.delaunay_legalization.specs.plane_tiling.Local.{LocalMesh};
-ghost use Rattle.delaunay_legalization.specs.mesh_embedding.Drawn.{faces_of, outer_of};
+ghost use Rattle.delaunay_legalization.specs.Placed.{IsPlaced};
 ghost use Rattle.delaunay_removal.specs.Pairs.{HasRoomAt, KeepsPairs};
-ghost use Rattle.delaunay_removal.specs.Star.{HasInnerFaces, IsBetweenAt, IsInnerStar, LosesStar};
-ghost use Rattle.delaunay_removal.specs.Star.{ShrinksStar, StandsBetween};
+ghost use Rattle.delaunay_removal.specs.Star.{IsBetweenAt, IsInnerStar, LosesStar, ShrinksStar};
 
 use crate::choice::{Spokes, edge_to_go_on};
 use crate::pairs::VertexPair;
@@ -18,7 +15,6 @@ use crate::star::{ccw_edge, opposite_side, turn_away};
 use delaunay_legalization::delaunay_core::math::PlaneTests;
 use delaunay_legalization::delaunay_core::point::HasPosition;
 use delaunay_legalization::half_edge_mesh::{Dcel, FixedDirectedEdgeHandle, FixedVertexHandle};
-use delaunay_legalization::{end_of, is_strictly_within, start_of};
 
 // Turns edges of an inner vertex away, from which `first` and so many in all start, until three are
 // left, or four with the vertex strictly between two ends. Gives one of those that are left, and
@@ -31,10 +27,9 @@ fn shrink_star<V: HasPosition, DE, UE, F, P: PlaneTests<V::Scalar>>(
     tests: &P,
     turned: &mut Vec<VertexPair>,
 ) -> (FixedDirectedEdgeHandle, usize)
-    requires whole { IsMeshWithData dcel.old }
+    requires placed { IsPlaced V.place P.sites dcel.old tests.now }
     requires star { IsInnerStar (map V.place dcel.old.vertices) dcel.old.mesh
         (origin dcel.old.mesh first) first count }
-    requires sites { All (P.sites tests.now) (map V.place dcel.old.vertices) }
     requires room { HasRoomAt dcel.old.mesh (origin dcel.old.mesh first) (vec_len turned.old)
         (vec_capacity turned.old) }
     ensures shrinks { ShrinksStar V.place dcel.old dcel.new (origin dcel.old.mesh first) result.0
@@ -80,51 +75,6 @@ fn fill_three<V, DE: Drop, UE: Drop, F: Drop>(
     let _ = dcel.isolate_vertex_and_fill_hole(&border, vertex);
 }
 
-// Whether a vertex is strictly between the end of an edge at it and the end of the edge after the
-// next.
-fn is_between<V: HasPosition, DE, UE, F, P: PlaneTests<V::Scalar>>(
-    dcel: &Dcel<V, DE, UE, F>,
-    edge: FixedDirectedEdgeHandle,
-    tests: &P,
-) -> bool
-    requires star { IsInnerStar (map V.place dcel.now.vertices) dcel.now.mesh
-        (origin dcel.now.mesh edge) edge 4 }
-    requires sites { All (P.sites tests.now) (map V.place dcel.now.vertices) }
-    ensures { IsTrue result ↔ IsBetweenAt (map V.place dcel.now.vertices) dcel.now.mesh edge }
-{
-    dcel.recall_invariant();
-    let second = ccw_edge(dcel, edge);
-    let opposite = ccw_edge(dcel, second);
-    let centre = start_of(dcel, edge);
-    let from = end_of(dcel, edge);
-    let to = end_of(dcel, opposite);
-    is_strictly_within(from, to, centre, tests)
-}
-
-// Of an edge of a vertex with four neighbours, strictly between two of them, and of the edge after
-// it, one whose end is one of the two.
-fn edge_beside_line<V: HasPosition, DE, UE, F, P: PlaneTests<V::Scalar>>(
-    dcel: &Dcel<V, DE, UE, F>,
-    first: FixedDirectedEdgeHandle,
-    tests: &P,
-) -> FixedDirectedEdgeHandle
-    requires star { IsInnerStar (map V.place dcel.now.vertices) dcel.now.mesh
-        (origin dcel.now.mesh first) first 4 }
-    requires between { StandsBetween (map V.place dcel.now.vertices) dcel.now.mesh
-        (origin dcel.now.mesh first) first 4 }
-    requires sites { All (P.sites tests.now) (map V.place dcel.now.vertices) }
-    ensures star { IsInnerStar (map V.place dcel.now.vertices) dcel.now.mesh
-        (origin dcel.now.mesh first) result 4 }
-    ensures between { IsBetweenAt (map V.place dcel.now.vertices) dcel.now.mesh result }
-{
-    dcel.recall_invariant();
-    if is_between(dcel, first, tests) {
-        first
-    } else {
-        ccw_edge(dcel, first)
-    }
-}
-
 // Removes the edges of a vertex with four neighbours, strictly between two of them, one of which is
 // the end of `first`. `turned` has room for a pair, and gets what the turned edge joins.
 fn fill_four<V: HasPosition, DE: Drop, UE: Drop, F: Drop>(
@@ -155,13 +105,8 @@ pub(crate) fn isolate_inner<V: HasPosition, DE: Drop, UE: Drop, F: Drop, P: Plan
     tests: &P,
     turned: &mut Vec<VertexPair>,
 )
-    requires whole { IsMeshWithData dcel.old }
-    requires round { IsRound dcel.old.mesh (origin dcel.old.mesh first) first count }
-    requires starts { origin dcel.old.mesh first ≡ vertex }
-    requires shape { LocalMesh (map V.place dcel.old.vertices) (faces_of dcel.old.mesh)
-        (outer_of dcel.old.mesh) }
-    requires inner { HasInnerFaces dcel.old.mesh vertex }
-    requires sites { All (P.sites tests.now) (map V.place dcel.old.vertices) }
+    requires placed { IsPlaced V.place P.sites dcel.old tests.now }
+    requires star { IsInnerStar (map V.place dcel.old.vertices) dcel.old.mesh vertex first count }
     requires room { HasRoomAt dcel.old.mesh vertex (vec_len turned.old)
         (vec_capacity turned.old) }
     ensures { LosesStar V.place dcel.old dcel.new vertex turned.new.items }
@@ -170,7 +115,8 @@ pub(crate) fn isolate_inner<V: HasPosition, DE: Drop, UE: Drop, F: Drop, P: Plan
     if count == 3 {
         fill_three(dcel, first, vertex);
     } else {
-        let first = edge_beside_line(dcel, first, tests);
+        let spokes = Spokes { dcel, first, tests };
+        let first = spokes.edge_beside_line();
         fill_four(dcel, first, vertex, turned);
     }
 }

@@ -1,85 +1,43 @@
-use Rattle.std.proofs.Common.{◌/◌, get_or, ◌≤◌, ◌<◌, ◌∙◌, ◌+◌, length, map, ap, sym, arith}
+use Rattle.std.proofs.Common.{◌/◌, get_or, ◌∙◌, ap, sym}
 use Rattle.std.proofs.lemmas.List.{length-map}
-use Rattle.delaunay_legalization.proofs.half_edge_dcel.Fits.{length-grown}
-use Rattle.delaunay_insertion.proofs.Growing.{grown}
 use Rattle.delaunay_legalization.proofs.half_edge_links.Removing.Conditions.{flippable}
-use Rattle.delaunay_insertion.proofs.InsertionCases.{length_moved, within_side_shape}
 use Rattle.delaunay_insertion.proofs.DataGrowing.{grows_within_side}
-use Rattle.delaunay_insertion.proofs.MadeFaces.{made_at_count, made_within_side}
-use Rattle.delaunay_insertion.proofs.inside.split_inner_edge.Goals as goal
-use Rattle.delaunay_insertion.proofs.SplitConstraints.{whole_mesh}
 use Rattle.delaunay_insertion.proofs.EdgeSplits.{inner_split}
+use Rattle.delaunay_insertion.proofs.Growing.{gains}
+use Rattle.delaunay_insertion.proofs.InsertionCases.{within_side_shape}
+use Rattle.delaunay_insertion.proofs.MadeFaces.{made_within_side}
+use Rattle.delaunay_insertion.proofs.SplitConstraints.{whole_mesh}
+use Rattle.delaunay_insertion.proofs.inside.split_inner_edge.Goals as goal
 
 pub split_edge-vertex-requires-clause-between : goal.split_edge-vertex-requires-clause-between
-split_edge-vertex-requires-clause-between g c =
-    let old = c.args.dcel.now in
-    let here : c.args.edge < length old.mesh.half_edges =
-    let w = c.requires.can.within in let f = c.requires.can.takes.kept.fits.directed_fit in
-    omega (arith, w, f) in
-    record { within = here; inner = c.requires.inner; twin_inner = c.requires.twin_inner }
+split_edge-vertex-requires-clause-between g c = record {
+  within = rw c.requires.can.takes.kept.fits.directed_fit at c.requires.can.within;
+  inner = c.requires.inner;
+  twin_inner = c.requires.twin_inner;
+}
 
-pub returns-clause-edges : goal.returns-clause-edges
-returns-clause-edges g c =
+pub returns : goal.returns
+returns g c =
     let old = c.args.dcel.now in
-    inner_split old c.split_edge-vertex.new.self
-    (whole_mesh g.V.HasPosition.place old c.requires.can.takes.kept) _
-    c.args.edge c.split_edge-vertex.result.0 c.requires.can.within c.as_undirected.result _ _
-    (c.as_undirected.ensures
-    ∙ ap (λ xs. get_or xs 1 c.index-parts-1.result / 2) c.split_edge-vertex.ensures.parts)
-    c.split_edge-vertex.ensures.edges
-
-pub returns-clause-takes : goal.returns-clause-takes
-returns-clause-takes g c =
+    let new = c.split_edge-vertex.new.self in
+    let can = c.requires.can in
+    let kept = can.takes.kept in
+    let done = c.split_edge-vertex.ensures in
+    let last = done.vertex ∙ sym (length-map old.vertices g.V.HasPosition.place) in
+    let here = rw kept.fits.directed_fit at can.within in
+    let turns = flippable old.mesh c.args.edge kept.valid here c.requires.inner
+    c.requires.twin_inner in
     record {
-      is = c.split_edge-vertex.ensures.vertex;
-      vertices = ap (λ d. d.vertices) c.split_edge-vertex.ensures.data.contents;
-      kept =
-          let old = c.args.dcel.now in
-          let new = c.split_edge-vertex.new.self in
-          let done = c.split_edge-vertex.ensures in
-          let places = length-map old.vertices g.V.HasPosition.place in
-          let edges : length new.undirected ≤ length old.undirected + 3 =
-          let f = length_moved _ old.undirected new.undirected _ 2 done.data.undirected in
-          omega (arith, f) in
-          let faces : length new.faces ≤ length old.faces + 2 =
-          let f = length-grown _ old.faces new.faces 2 done.data.faces in omega (arith, f) in
-          let here : c.args.edge < length old.mesh.half_edges = let w = c.requires.can.within in
-          let f = c.requires.can.takes.kept.fits.directed_fit in omega (arith, w, f) in
-          grown g.V.HasPosition.place old new c.args.value c.requires.can.takes.kept
-          (ap (λ d. d.vertices) done.data.contents) c.requires.can.takes.in_range
-          c.split_edge-vertex.ensures.data.whole
-          edges faces
-          (within_side_shape (map g.V.HasPosition.place old.vertices)
-          (g.V.HasPosition.place c.args.value) old.mesh
-          new.mesh c.split_edge-vertex.result.0 c.requires.can.takes.kept.valid
-          c.requires.can.takes.kept.shape
-          (done.vertex ∙ sym places)
-          c.args.edge
-          (flippable old.mesh c.args.edge c.requires.can.takes.kept.valid here c.requires.inner
-          c.requires.twin_inner) c.requires.can.on_edge done.links.triangles done.links.outer);
-      grows =
-          let old = c.args.dcel.now in
-          let done = c.split_edge-vertex.ensures in
-          let here : c.args.edge < length old.mesh.half_edges = let w = c.requires.can.within in
-          let f = c.requires.can.takes.kept.fits.directed_fit in omega (arith, w, f) in
-          grows_within_side old c.split_edge-vertex.new.self c.requires.can.takes.kept.valid
-          c.requires.can.takes.kept.fits c.split_edge-vertex.ensures.data.whole
-          (map g.V.HasPosition.place old.vertices)
-          (g.V.HasPosition.place c.args.value) _ _ _ c.args.edge _ _ _ _ _ _ here c.requires.inner
-          c.requires.twin_inner c.requires.can.on_edge done.data.directed done.data.faces done.edges
-          done.links.triangles (ap (λ d. d.outer) done.data.contents);
-      made =
-          let old = c.args.dcel.now in
-          let done = c.split_edge-vertex.ensures in
-          let here : c.args.edge < length old.mesh.half_edges = let w = c.requires.can.within in
-          let f = c.requires.can.takes.kept.fits.directed_fit in omega (arith, w, f) in
-          made_at_count _ _ _ _ _ done.vertex
-          (made_within_side (map g.V.HasPosition.place old.vertices) old.mesh
-          c.split_edge-vertex.new.self.mesh c.split_edge-vertex.result.0
-          c.requires.can.takes.kept.valid
-          c.requires.can.takes.kept.shape
-          (done.vertex ∙ sym (length-map old.vertices g.V.HasPosition.place))
-          c.args.edge
-          (flippable old.mesh c.args.edge c.requires.can.takes.kept.valid here c.requires.inner
-          c.requires.twin_inner) done.links.triangles);
+      takes = gains g.V.HasPosition.place old _ _ can.takes
+          (ap (λ d. d.vertices) done.data.contents) done.data.whole _ done.vertex
+          (within_side_shape _ _ old.mesh _ _ kept.valid kept.shape last c.args.edge turns
+          can.on_edge done.links.triangles done.links.outer)
+          (grows_within_side old _ kept.valid kept.fits done.data.whole _ _ _ _ _ c.args.edge _ _ _
+          _ _ _ here c.requires.inner c.requires.twin_inner can.on_edge done.data.directed
+          done.data.faces done.edges done.links.triangles (ap (λ d. d.outer) done.data.contents))
+          (made_within_side _ old.mesh new.mesh _ kept.valid kept.shape last c.args.edge turns
+          done.links.triangles);
+      edges = inner_split old new (whole_mesh g.V.HasPosition.place old kept) _ c.args.edge _
+          can.within _ _ _ (c.as_undirected.ensures
+          ∙ ap (λ xs. get_or xs 1 c.index-parts-1.result / 2) done.parts) done.edges;
     }

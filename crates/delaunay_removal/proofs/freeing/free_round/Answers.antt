@@ -1,6 +1,4 @@
 use Rattle.std.proofs.Common.{◌<◌, length, sym, ap, ◌∙◌, subst, arith}
-use Rattle.delaunay_legalization.specs.half_edge_mesh.Mesh.{origin}
-use Rattle.delaunay_legalization.specs.Marking.{HasEdgeData}
 use Rattle.delaunay_removal.proofs.FreedEdges.{freeing_begins, freeing_goes_on, freeing_ends}
 use Rattle.delaunay_removal.proofs.FreedEdges.{same_directed}
 use Rattle.delaunay_removal.proofs.freeing.free_round.Goals as goal
@@ -27,18 +25,11 @@ ccw_edge-edge-requires g c =
 pub loop-i-preserved : goal.loop-i-preserved
 loop-i-preserved g c =
     let m = g.M.ConstraintMarker in
-    freeing_goes_on m.marks c.args.dcel.now c.args.first c.loop-i.dcel c.free_edge.new.dcel
-    c.loop-i.i c.loop-i.edge
-    c.loop-i.invariant m.unmarked g.met.M.ConstraintMarker.unmarked_has_none
-    (subst (HasEdgeData m.unmarked c.loop-i.dcel c.free_edge.new.dcel) c.as_undirected.ensures
-    c.free_edge.ensures)
-    c.ccw_edge-edge.result c.ccw_edge-edge.ensures.within c.ccw_edge-edge.ensures.value
+    freeing_goes_on m.marks c.args.dcel.now _ _ _ _ _ c.loop-i.invariant m.unmarked
+    g.met.M.ConstraintMarker.unmarked_has_none (rw c.as_undirected.ensures at c.free_edge.ensures) _
+    c.ccw_edge-edge.ensures.within c.ccw_edge-edge.ensures.value
 
 pub returns : goal.returns
 returns g c =
-    freeing_ends g.M.ConstraintMarker.marks c.args.dcel.now c.args.first
-    c.requires.whole
-    (origin c.args.dcel.now.mesh c.args.first) c.count_edges-count.result
-    c.count_edges-count.ensures
-    c.loop-i.dcel c.loop-i.i c.loop-i.edge c.loop-i.invariant
-    (λ j less. let e = c.loop-i-test.false in omega (arith, e, less))
+    freeing_ends g.M.ConstraintMarker.marks _ _ c.requires.whole _ _ c.count_edges-count.ensures
+    _ _ _ c.loop-i.invariant (λ j less. let e = c.loop-i-test.false in omega (arith, e, less))

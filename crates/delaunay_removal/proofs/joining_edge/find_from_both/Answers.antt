@@ -1,4 +1,4 @@
-use Rattle.std.proofs.Common.{◌+◌, ◌<◌, ◌∙◌, ℕ, length, refl, ap, subst, arith}
+use Rattle.std.proofs.Common.{◌+◌, ◌∙◌, ℕ, refl, ap, arith}
 use Rattle.delaunay_legalization.proofs.half_edge_links.Lists.Rev.{rev-rev}
 use Rattle.delaunay_legalization.specs.half_edge_mesh.Mesh.{origin, rev}
 use Rattle.delaunay_legalization.proofs.Questions.{both_ways}
@@ -18,10 +18,8 @@ loop-i-init g c = record {
 pub returns-then-ends_at-clause-starts : goal.returns-then-ends_at-clause-starts
 returns-then-ends_at-clause-starts g c =
     let w = c.recall_invariant.ensures.whole in
-    starts_there c.args.dcel.now.mesh w.valid c.args.from c.args.first c.args.to
-    (subst (λ (n : ℕ). c.args.first < n) w.fits.directed_fit c.requires.first_in)
-    c.requires.first_starts (length c.args.dcel.now.directed) c.loop-i.i c.loop-i.forward
-    c.loop-i.invariant.outward
+    starts_there _ w.valid _ _ c.args.to (rw w.fits.directed_fit at c.requires.first_in)
+    c.requires.first_starts _ _ _ c.loop-i.invariant.outward
 
 pub returns-then-ends_at-2-clause-ends : goal.returns-then-ends_at-2-clause-ends
 returns-then-ends_at-2-clause-ends g c =
@@ -29,36 +27,27 @@ returns-then-ends_at-2-clause-ends g c =
     let m = c.args.dcel.now.mesh in
     ap (λ (e : ℕ). origin m (rev e)) c.rev.ensures
     ∙ ap (origin m) (rev-rev c.loop-i.backward)
-    ∙ starts_there m w.valid c.args.to c.args.second c.args.from
-    (subst (λ (n : ℕ). c.args.second < n) w.fits.directed_fit c.requires.second_in)
-    c.requires.second_starts (length c.args.dcel.now.directed) c.loop-i.i c.loop-i.backward
-    c.loop-i.invariant.inward
+    ∙ starts_there _ w.valid _ _ c.args.from (rw w.fits.directed_fit at c.requires.second_in)
+    c.requires.second_starts _ _ _ c.loop-i.invariant.inward
 
 pub returns-then-is_same_edge-clause-none : goal.returns-then-is_same_edge-clause-none
 returns-then-is_same_edge-clause-none g c =
     let w = c.recall_invariant.ensures.whole in
-    let m = c.args.dcel.now.mesh in
-    let bound = length c.args.dcel.now.directed in
-    none_when_back m w.valid c.args.from c.args.first c.args.to
-    (subst (λ (n : ℕ). c.args.first < n) w.fits.directed_fit c.requires.first_in)
-    c.requires.first_starts bound (c.loop-i.i + 1) c.ccw_edge-forward.result
-    (search_goes_on (EndsThere m c.args.to) bound m c.args.first c.loop-i.i c.loop-i.forward
-    c.ccw_edge-forward.result c.loop-i.invariant.outward
-    (λ x. both_ways _ (c.ends_at.ensures.1 x) c.if-ends_at.false)
+    none_when_back _ w.valid _ _ _ (rw w.fits.directed_fit at c.requires.first_in)
+    c.requires.first_starts _ (c.loop-i.i + 1) _
+    (search_goes_on (EndsThere c.args.dcel.now.mesh c.args.to) _ _ _ _ _ _
+    c.loop-i.invariant.outward (λ x. both_ways _ (c.ends_at.ensures.1 x) c.if-ends_at.false)
     c.ccw_edge-forward.ensures.within c.ccw_edge-forward.ensures.value)
     (omega arith) (c.is_same_edge.ensures.0 c.if-is_same_edge.true)
 
 pub returns-then-is_same_edge-2-clause-none : goal.returns-then-is_same_edge-2-clause-none
 returns-then-is_same_edge-2-clause-none g c =
     let w = c.recall_invariant.ensures.whole in
-    let m = c.args.dcel.now.mesh in
-    let bound = length c.args.dcel.now.directed in
-    none_back m c.args.from c.args.to w.valid
-    (none_when_back m w.valid c.args.to c.args.second c.args.from
-    (subst (λ (n : ℕ). c.args.second < n) w.fits.directed_fit c.requires.second_in)
-    c.requires.second_starts bound (c.loop-i.i + 1) c.ccw_edge-backward.result
-    (search_goes_on (EndsThere m c.args.from) bound m c.args.second c.loop-i.i c.loop-i.backward
-    c.ccw_edge-backward.result c.loop-i.invariant.inward
+    none_back _ c.args.from c.args.to w.valid
+    (none_when_back _ w.valid _ _ _ (rw w.fits.directed_fit at c.requires.second_in)
+    c.requires.second_starts _ (c.loop-i.i + 1) _
+    (search_goes_on (EndsThere c.args.dcel.now.mesh c.args.from) _ _ _ _ _ _
+    c.loop-i.invariant.inward
     (λ x. both_ways _ (c.ends_at-in-loop-i.ensures.1 x) c.if-ends_at-2.false)
     c.ccw_edge-backward.ensures.within c.ccw_edge-backward.ensures.value)
     (omega arith) (c.is_same_edge-in-loop-i.ensures.0 c.if-is_same_edge-2.true))
@@ -66,14 +55,11 @@ returns-then-is_same_edge-2-clause-none g c =
 pub loop-i-preserved : goal.loop-i-preserved
 loop-i-preserved g c =
     let m = c.args.dcel.now.mesh in
-    let bound = length c.args.dcel.now.directed in
     record {
-      outward = search_goes_on (EndsThere m c.args.to) bound m c.args.first c.loop-i.i
-          c.loop-i.forward c.ccw_edge-forward.result c.loop-i.invariant.outward
+      outward = search_goes_on (EndsThere m c.args.to) _ _ _ _ _ _ c.loop-i.invariant.outward
           (λ x. both_ways _ (c.ends_at.ensures.1 x) c.if-ends_at.false)
           c.ccw_edge-forward.ensures.within c.ccw_edge-forward.ensures.value;
-      inward = search_goes_on (EndsThere m c.args.from) bound m c.args.second c.loop-i.i
-          c.loop-i.backward c.ccw_edge-backward.result c.loop-i.invariant.inward
+      inward = search_goes_on (EndsThere m c.args.from) _ _ _ _ _ _ c.loop-i.invariant.inward
           (λ x. both_ways _ (c.ends_at-in-loop-i.ensures.1 x) c.if-ends_at-2.false)
           c.ccw_edge-backward.ensures.within c.ccw_edge-backward.ensures.value;
     }
@@ -84,7 +70,5 @@ returns-clause-none g c =
     let fit = w.fits.directed_fit in
     let all = c.num_directed_edges-i-end.ensures.value in
     let past = c.loop-i-test.false in
-    none_of_all c.args.dcel.now.mesh w.valid c.args.from c.args.first c.args.to
-    (subst (λ (n : ℕ). c.args.first < n) fit c.requires.first_in)
-    c.requires.first_starts (length c.args.dcel.now.directed) c.loop-i.i c.loop-i.forward
+    none_of_all _ w.valid _ _ _ (rw fit at c.requires.first_in) c.requires.first_starts _ _ _
     c.loop-i.invariant.outward (omega (arith, fit, all, past))

@@ -1,4 +1,4 @@
-use Rattle.std.proofs.Common.{◌≡◌, length, ap, ◌∙◌, arith}
+use Rattle.std.proofs.Common.{◌≡◌, ap, ◌∙◌, arith}
 use Rattle.delaunay_legalization.specs.half_edge_mesh.Mesh.{origin, face, rev}
 use Rattle.delaunay_legalization.proofs.Questions.{both_ways}
 use Rattle.delaunay_removal.proofs.Searching.{search_goes_on}
@@ -11,15 +11,12 @@ returns-then-is_outer-clause-starts g c =
 
 pub loop-i-preserved : goal.loop-i-preserved
 loop-i-preserved g c =
-    search_goes_on (λ h. face c.args.dcel.now.mesh (rev h) ≡ 0)
-    (length c.args.dcel.now.directed) c.args.dcel.now.mesh c.args.first c.loop-i.i c.loop-i.edge
-    c.ccw_edge-edge.result c.loop-i.invariant
+    search_goes_on (λ h. face c.args.dcel.now.mesh (rev h) ≡ 0) _ _ _ _ _ _ c.loop-i.invariant
     (λ z. both_ways _ (c.is_outer.ensures.1 (ap (face c.args.dcel.now.mesh) (c.fix.ensures.value
     ∙ c.rev.ensures.index ∙ ap rev c.directed_edge.ensures.index) ∙ z)) c.if-is_outer.false)
     c.ccw_edge-edge.ensures.within c.ccw_edge-edge.ensures.value
 
 pub returns-clause-none : goal.returns-clause-none
 returns-clause-none g c =
-    faces_inner c.args.dcel.now.mesh (origin c.args.dcel.now.mesh c.args.first) c.args.first
-    c.args.count c.recall_invariant.ensures.whole.valid.sound c.requires.round
+    faces_inner _ _ _ _ c.recall_invariant.ensures.whole.valid.sound c.requires.round
     (λ i less. c.loop-i.invariant.none i (let e = c.loop-i-test.false in omega (arith, e, less)))

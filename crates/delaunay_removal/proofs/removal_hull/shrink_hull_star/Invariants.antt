@@ -1,12 +1,10 @@
-use Rattle.std.proofs.Common.{vec_len, vec_capacity}
 use Rattle.delaunay_legalization.specs.half_edge_mesh.Mesh.{origin}
 use Rattle.delaunay_removal.proofs.HullShrinking.{IsHullShrinking}
 use Rattle.delaunay_removal.proofs.removal_hull.shrink_hull_star.Given as goal
 
 abbrev pub invariant-loop-edge : goal.invariant-loop-edge
-invariant-loop-edge g l =
-    IsHullShrinking g.V.HasPosition.place l.fn.dcel l.dcel (origin l.fn.dcel.mesh l.fn.first)
-    l.fn.first l.from l.count l.turned.items (vec_len l.turned) (vec_capacity l.turned)
+invariant-loop-edge g l = IsHullShrinking g.V.HasPosition.place l.fn.dcel l.dcel
+    (origin l.fn.dcel.mesh l.fn.first) l.fn.first l.from l.count l.turned
 
 abbrev pub decreases-loop-edge : goal.decreases-loop-edge
 decreases-loop-edge g l = l.count

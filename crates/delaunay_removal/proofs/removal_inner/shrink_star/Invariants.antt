@@ -1,12 +1,10 @@
-use Rattle.std.proofs.Common.{vec_len, vec_capacity}
 use Rattle.delaunay_legalization.specs.half_edge_mesh.Mesh.{origin}
 use Rattle.delaunay_removal.proofs.Shrinking.{IsShrinking}
 use Rattle.delaunay_removal.proofs.removal_inner.shrink_star.Given as goal
 
 abbrev pub invariant-loop-count : goal.invariant-loop-count
-invariant-loop-count g l =
-    IsShrinking g.V.HasPosition.place l.fn.dcel l.dcel (origin l.fn.dcel.mesh l.fn.first) l.first
-    l.count l.turned.items (vec_len l.turned) (vec_capacity l.turned)
+invariant-loop-count g l = IsShrinking g.V.HasPosition.place l.fn.dcel l.dcel
+    (origin l.fn.dcel.mesh l.fn.first) l.first l.count l.turned
 
 abbrev pub decreases-loop-count : goal.decreases-loop-count
 decreases-loop-count g l = l.count

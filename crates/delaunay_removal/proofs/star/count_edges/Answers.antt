@@ -1,13 +1,12 @@
-use Rattle.std.proofs.Common.{ℕ, ◌<◌, sym, ◌∙◌, subst, arith}
+use Rattle.std.proofs.Common.{sym, ◌∙◌, arith}
 use Rattle.delaunay_removal.proofs.Rounds.{counting_fits, counting_goes_on, counted}
 use Rattle.delaunay_removal.proofs.star.count_edges.Goals as goal
 
 pub overflow_add-count : goal.overflow_add-count
 overflow_add-count g c =
     let w = c.recall_invariant.ensures.whole in
-    let few = counting_fits c.args.dcel.now.mesh w.valid c.args.first
-    (subst (λ (n : ℕ). c.args.first < n) w.fits.directed_fit c.requires) c.loop-first.count
-    c.loop-first.edge c.loop-first.invariant
+    let few = counting_fits _ w.valid _ (rw w.fits.directed_fit at c.requires) _ _
+    c.loop-first.invariant
     (λ e. c.loop-first-test.true (c.index.ensures ∙ e ∙ sym c.index-in-loop-first.ensures)) in
     let small = c.recall_invariant.ensures.few_edges in
     let fit = w.fits.directed_fit in
@@ -16,9 +15,8 @@ overflow_add-count g c =
 pub loop-first-smaller : goal.loop-first-smaller
 loop-first-smaller g c =
     let w = c.recall_invariant.ensures.whole in
-    let few = counting_fits c.args.dcel.now.mesh w.valid c.args.first
-    (subst (λ (n : ℕ). c.args.first < n) w.fits.directed_fit c.requires) c.loop-first.count
-    c.loop-first.edge c.loop-first.invariant
+    let few = counting_fits _ w.valid _ (rw w.fits.directed_fit at c.requires) _ _
+    c.loop-first.invariant
     (λ e. c.loop-first-test.true (c.index.ensures ∙ e ∙ sym c.index-in-loop-first.ensures)) in
     let fit = w.fits.directed_fit in
     omega (arith, few, fit)
@@ -26,16 +24,13 @@ loop-first-smaller g c =
 pub loop-first-preserved : goal.loop-first-preserved
 loop-first-preserved g c =
     let w = c.recall_invariant.ensures.whole in
-    counting_goes_on c.args.dcel.now.mesh w.valid c.args.first (subst (λ (n : ℕ). c.args.first < n)
-    w.fits.directed_fit c.requires) c.loop-first.count c.loop-first.edge c.loop-first.invariant
-    (λ e. c.loop-first-test.true (c.index.ensures ∙ e ∙ sym c.index-in-loop-first.ensures))
-    c.ccw_edge-edge-in-loop-first.result (subst (λ (n : ℕ). c.ccw_edge-edge-in-loop-first.result
-    < n) w.fits.directed_fit c.ccw_edge-edge-in-loop-first.ensures.within)
-    c.ccw_edge-edge-in-loop-first.ensures.value
+    let after = c.ccw_edge-edge-in-loop-first.ensures in
+    counting_goes_on _ w.valid _ (rw w.fits.directed_fit at c.requires) _ _ c.loop-first.invariant
+    (λ e. c.loop-first-test.true (c.index.ensures ∙ e ∙ sym c.index-in-loop-first.ensures)) _
+    (rw w.fits.directed_fit at after.within) after.value
 
 pub returns : goal.returns
 returns g c =
     let w = c.recall_invariant.ensures.whole in
-    counted c.args.dcel.now.mesh w.valid c.args.first (subst (λ (n : ℕ). c.args.first < n)
-    w.fits.directed_fit c.requires) c.loop-first.count c.loop-first.edge c.loop-first.invariant
+    counted _ w.valid _ (rw w.fits.directed_fit at c.requires) _ _ c.loop-first.invariant
     (sym c.index.ensures ∙ c.loop-first-test.false ∙ c.index-in-loop-first.ensures)

@@ -1,52 +1,28 @@
 use Rattle.std.proofs.Common.{map}
-use Rattle.delaunay_legalization.proofs.Questions.{both_ways, covered_in}
+use Rattle.delaunay_legalization.proofs.Questions.{both_ways}
 use Rattle.delaunay_removal.proofs.Convex.{convex_read}
 use Rattle.delaunay_removal.proofs.choice.Spokes.is_convex_at.Goals as goal
 
-pub turns_left-requires-clause-a_covered : goal.turns_left-requires-clause-a_covered
-turns_left-requires-clause-a_covered g c =
-    let tests = c.self.inside.tests.now in
-    covered_in (g.P.PlaneTests.covered tests) (g.P.PlaneTests.sites tests)
-    (g.met.P.PlaneTests.sites_are_covered tests) _ _ c.self.invariant.sites
-    c.end_of-before.ensures.listed
+pub invariant_of-placed : goal.invariant_of-placed
+invariant_of-placed g c = c.self.invariant.placed
 
-pub turns_left-requires-clause-b_covered : goal.turns_left-requires-clause-b_covered
-turns_left-requires-clause-b_covered g c =
-    let tests = c.self.inside.tests.now in
-    covered_in (g.P.PlaneTests.covered tests) (g.P.PlaneTests.sites tests)
-    (g.met.P.PlaneTests.sites_are_covered tests) _ _ c.self.invariant.sites
-    c.end_of-corner.ensures.listed
+pub turns_left-requires : goal.turns_left-requires
+turns_left-requires g c =
+    let covers = g.met.P.PlaneTests.sites_are_covered c.self.inside.tests.now in
+    record {
+      a_covered = covers _ c.end_of-before.ensures.site;
+      b_covered = covers _ c.end_of-corner.ensures.site;
+      c_covered = covers _ c.end_of-after.ensures.site;
+    }
 
-pub turns_left-requires-clause-c_covered : goal.turns_left-requires-clause-c_covered
-turns_left-requires-clause-c_covered g c =
-    let tests = c.self.inside.tests.now in
-    covered_in (g.P.PlaneTests.covered tests) (g.P.PlaneTests.sites tests)
-    (g.met.P.PlaneTests.sites_are_covered tests) _ _ c.self.invariant.sites
-    c.end_of-after.ensures.listed
-
-pub turns_left-requires-then-turns_left-clause-a_covered :
-    goal.turns_left-requires-then-turns_left-clause-a_covered
-turns_left-requires-then-turns_left-clause-a_covered g c =
-    let tests = c.self.inside.tests.now in
-    covered_in (g.P.PlaneTests.covered tests) (g.P.PlaneTests.sites tests)
-    (g.met.P.PlaneTests.sites_are_covered tests) _ _ c.self.invariant.sites
-    c.start_of-centre.ensures.listed
-
-pub turns_left-requires-then-turns_left-clause-b_covered :
-    goal.turns_left-requires-then-turns_left-clause-b_covered
-turns_left-requires-then-turns_left-clause-b_covered g c =
-    let tests = c.self.inside.tests.now in
-    covered_in (g.P.PlaneTests.covered tests) (g.P.PlaneTests.sites tests)
-    (g.met.P.PlaneTests.sites_are_covered tests) _ _ c.self.invariant.sites
-    c.end_of-before.ensures.listed
-
-pub turns_left-requires-then-turns_left-clause-c_covered :
-    goal.turns_left-requires-then-turns_left-clause-c_covered
-turns_left-requires-then-turns_left-clause-c_covered g c =
-    let tests = c.self.inside.tests.now in
-    covered_in (g.P.PlaneTests.covered tests) (g.P.PlaneTests.sites tests)
-    (g.met.P.PlaneTests.sites_are_covered tests) _ _ c.self.invariant.sites
-    c.end_of-after.ensures.listed
+pub turns_left-requires-then-turns_left : goal.turns_left-requires-then-turns_left
+turns_left-requires-then-turns_left g c =
+    let covers = g.met.P.PlaneTests.sites_are_covered c.self.inside.tests.now in
+    record {
+      a_covered = covers _ c.start_of-centre.ensures.site;
+      b_covered = covers _ c.end_of-before.ensures.site;
+      c_covered = covers _ c.end_of-after.ensures.site;
+    }
 
 pub returns-then-turns_left : goal.returns-then-turns_left
 returns-then-turns_left g c =
