@@ -28,8 +28,8 @@ use Rattle.delaunay_lines.specs.Steps.{IsOverMesh, IsNext}
 use Rattle.delaunay_lines.specs.Walk.{ComeAfter, AreFrom, Starts}
 use Rattle.delaunay_lines.proofs.MeshSteps.{laid}
 
-module _ {V D U F : Type 0} (at : V → Point) (IsSite IsCovered : Point → Type 0)
-    (c : Contents V D U F) (p q : Point) (over : IsOverMesh at IsSite IsCovered c p q)
+module _ {V D U F : Type 0} {at : V → Point} {IsSite IsCovered : Point → Type 0}
+    {c : Contents V D U F} {p q : Point} (over : IsOverMesh at IsSite IsCovered c p q)
     (i : FixedIntersection) (items : List Item) (left : AreFrom at c p q (Some i) items) where
   -- the others are left after the current one
   abbrev pub Others : Option FixedIntersection → Type 0
@@ -45,13 +45,13 @@ module _ {V D U F : Type 0} (at : V → Point) (IsSite IsCovered : Point → Typ
   one_further apart None last = (
     left.1.0,
     left.1.1,
-    (rest_falls (drawn (map at c.vertices) c.mesh) (laid at IsSite IsCovered c p q over)
+    (rest_falls (drawn (map at c.vertices) c.mesh) (laid over)
         (whole p) (whole q) (λ e. apart (one_point p q e))).2 (item_of c.mesh i) left.1.0
         (left.1.2.goes_on apart)
         last,
   )
   one_further apart (Some n) next =
-      let f = (rest_falls (drawn (map at c.vertices) c.mesh) (laid at IsSite IsCovered c p q over)
+      let f = (rest_falls (drawn (map at c.vertices) c.mesh) (laid over)
       (whole p) (whole q)
       (λ e. apart (one_point p q e))).1 (item_of c.mesh i) (item_of c.mesh n) left.1.0
       (left.1.2.goes_on apart)
@@ -151,8 +151,8 @@ begins_at_vertex t p q laid (inl same) v is at = record {
 }
 
 -- ---- the same of a mesh
-module _ {V D U F : Type 0} (at : V → Point) (IsSite IsCovered : Point → Type 0)
-    (c : Contents V D U F) (p q : Point) (over : IsOverMesh at IsSite IsCovered c p q) where
+module _ {V D U F : Type 0} {at : V → Point} {IsSite IsCovered : Point → Type 0}
+    {c : Contents V D U F} {p q : Point} (over : IsOverMesh at IsSite IsCovered c p q) where
   few_in : (n : ℕ) → n ≤ length (map at c.vertices) + length (edges_of c.mesh) →
       n ≤ length c.vertices + length c.undirected
   few_in n h =
@@ -174,7 +174,7 @@ module _ {V D U F : Type 0} (at : V → Point) (IsSite IsCovered : Point → Typ
   pub starts_at_vertex : (v : ℕ) → v < length c.vertices → p ≡ point_at (map at c.vertices) v →
       Starts at c p q (Some (Vertex v))
   starts_at_vertex v here is = starts_with (Vertex v) here
-      (begins_at_vertex (drawn (map at c.vertices) c.mesh) p q (laid at IsSite IsCovered c p q over)
+      (begins_at_vertex (drawn (map at c.vertices) c.mesh) p q (laid over)
       (decide_point p q)
       v
       (subst (λ (n : ℕ). v < n) (sym (length-map c.vertices at)) here)

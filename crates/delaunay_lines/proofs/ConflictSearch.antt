@@ -16,7 +16,6 @@ use Rattle.delaunay_location.proofs.plane_tiling.Totals.{Contains-none}
 use Rattle.delaunay_location.specs.mesh_embedding.Drawn.{edges_of}
 use Rattle.delaunay_location.proofs.mesh_embedding.Entries.{one_value}
 use Rattle.delaunay_location.proofs.mesh_embedding.MeshStays.{one_way}
-use Rattle.delaunay_location.specs.delaunay_core.Place.{place_of}
 use Rattle.delaunay_lines.specs.declared.intersection.Intersection.{Intersection}
 use Rattle.delaunay_lines.specs.declared.intersection.Intersection.TheVariants.{EdgeIntersection}
 use Rattle.delaunay_lines.specs.declared.intersection.Intersection.TheVariants.{VertexIntersection}
@@ -50,12 +49,12 @@ some_none x e = cc
 none_some : {X : Type 0} (x : X) → ¬ (None ≡ Some x)
 none_some x e = cc
 
-module _ {V D U F : Type 0} (at : V → Point) (IsSite IsCovered : Point → Type 0)
-    (c : Contents V D U F) (p q : Point) (over : IsOverMesh at IsSite IsCovered c p q)
+module _ {V D U F : Type 0} {at : V → Point} {IsSite IsCovered : Point → Type 0}
+    {c : Contents V D U F} {p q : Point} (over : IsOverMesh at IsSite IsCovered c p q)
     (constraints : List U → List ℕ) where
   -- no two edges of the mesh have the same ends
   once : EachPairOnce (edges_of c.mesh)
-  once = elim (laid at IsSite IsCovered c p q over) [
+  once = elim (laid over) [
     | inl tiles ↦ tiles.once
     | inr l ↦ l.0.once
   ]
@@ -68,9 +67,18 @@ module _ {V D U F : Type 0} (at : V → Point) (IsSite IsCovered : Point → Typ
     where
       same : k.0 ≡ e
       same = one_way c.mesh over.mesh.valid once e k.0
-          (in_mesh at IsSite IsCovered c p q over e within)
-          (in_mesh at IsSite IsCovered c p q over k.0 k.1)
+          (in_mesh over e within) (in_mesh over k.0 k.1)
           (sym (ap first_end k.2), sym (ap second_end k.2))
+
+-- one more item, which is no conflict
+one_more : {V D U F : Type 0} (constraints : List U → List ℕ) (c : Contents V D U F)
+    (passed : List Item) (k : Item) → HasNoConflict constraints c passed
+    → ¬ IsConflict constraints c k → HasNoConflict constraints c (passed ++ k ∷ [])
+one_more constraints c passed k none clear j x =
+    elim (Contains-push_cases passed k j x) as (λ _. ¬ IsConflict constraints c j) [
+      | inl y ↦ none j y
+      | inr e ↦ subst (λ (z : Item). ¬ IsConflict constraints c z) e clear
+    ]
 
 module _ {V D U F P S : Type 0} (at : V → Point) (number : S → ℤ)
     (IsSite IsCovered : P → Point → Type 0) (constraints : List U → List ℕ) where
@@ -83,28 +91,21 @@ module _ {V D U F P S : Type 0} (at : V → Point) (number : S → ℤ)
         → (passed : List Item) × (others : List Item) × (items ≡ passed ++ others)
         × HasNoConflict constraints start.dcel.now passed × AreLeft at number now others
 
+module _ {V D U F P S : Type 0} {at : V → Point} {number : S → ℤ}
+    {IsSite IsCovered : P → Point → Type 0} {constraints : List U → List ℕ} where
   -- a search begins before the first item
-  pub searching_begins : (start : LineIntersectionIterator V D U F P S)
-      → IsReady at number IsSite IsCovered start → IsSearching start start
-  searching_begins start ready = record {
+  pub searching_begins : {start : LineIntersectionIterator V D U F P S}
+      → IsReady at number IsSite IsCovered start
+      → IsSearching at number IsSite IsCovered constraints start start
+  searching_begins ready = record {
     ready = ready;
     same_mesh = refl;
     fewer = omega arith;
     passed = λ items left. ([], items, refl, (λ k x. absurd (Contains-none k x)), left);
   }
 
-  -- one more item, which is no conflict
-  one_more : (c : Contents V D U F) (passed : List Item) (k : Item)
-      → HasNoConflict constraints c passed → ¬ IsConflict constraints c k
-      → HasNoConflict constraints c (passed ++ k ∷ [])
-  one_more c passed k none clear j x =
-      elim (Contains-push_cases passed k j x) as (λ _. ¬ IsConflict constraints c j) [
-        | inl y ↦ none j y
-        | inr e ↦ subst (λ (z : Item). ¬ IsConflict constraints c z) e clear
-      ]
-
-  module _ (start now : LineIntersectionIterator V D U F P S)
-      (searching : IsSearching start now) where
+  module _ {start now : LineIntersectionIterator V D U F P S}
+      (searching : IsSearching at number IsSite IsCovered constraints start now) where
     -- no conflict of the mesh of the walk: neither a vertex nor an overlap, nor an edge that is no
     -- constraint
     no_crossing_item : (x : Intersection V D U F) → crossed_edge x ≡ None → mesh_of x ≡ now.dcel →
@@ -118,9 +119,7 @@ module _ {V D U F P S : Type 0} (at : V → Point) (number : S → ℤ)
         → ¬ Contains (constraints e.dcel.now.undirected) (e.index / 2)
         → ¬ IsConflict constraints start.dcel.now (item_in x)
     unmarked_item (EdgeIntersection y) e is mesh off k =
-        unmarked at (IsSite now.tests.now) (IsCovered now.tests.now) now.dcel.now
-        (place_of number now.from)
-        (place_of number now.to) searching.ready.over constraints y.index
+        unmarked searching.ready.over constraints y.index
         (subst (λ (d : Bor (Contents V D U F)). y.index < length d.now.directed) mesh y.in_range)
         (λ z. off
         (subst (λ (h : DirectedEdgeHandle V D U F). Contains (constraints h.dcel.now.undirected)
@@ -136,7 +135,7 @@ module _ {V D U F P S : Type 0} (at : V → Point) (number : S → ℤ)
     unmarked_item (EdgeOverlap o) e is mesh off k = subst IsAcrossItem (sym k.2) tt
 
     -- ---- one call of the walk
-    module _ (x : Intersection V D U F) (after : LineIntersectionIterator V D U F P S)
+    module _ {x : Intersection V D U F} {after : LineIntersectionIterator V D U F P S}
         (gives : GivesNext at number now (Some x) after) where
       missed : (z : Intersection V D U F) → mesh_of z ≡ now.dcel → IsConflictOf constraints z None →
           ¬ IsConflict constraints start.dcel.now (item_in z)
@@ -150,7 +149,8 @@ module _ {V D U F P S : Type 0} (at : V → Point) (number : S → ℤ)
 
       -- an item that is no conflict is passed
       pub searching_goes_on : IsReady at number IsSite IsCovered after → after.left < now.left →
-          IsConflictOf constraints x None → IsSearching start after
+          IsConflictOf constraints x None
+          → IsSearching at number IsSite IsCovered constraints start after
       searching_goes_on ready less none = record {
         ready = ready;
         same_mesh = gives.same_mesh ∙ searching.same_mesh;
@@ -161,7 +161,7 @@ module _ {V D U F P S : Type 0} (at : V → Point) (number : S → ℤ)
               b.0 ++ item_in x ∷ [],
               n.1.0,
               b.2 ∙ ap (λ (l : List Item). b.0 ++ l) n.1.1 ∙ push_middle b.0 (item_in x) n.1.0,
-              one_more start.dcel.now b.0 (item_in x) b.3 (passes none),
+              one_more constraints start.dcel.now b.0 (item_in x) b.3 (passes none),
               n.1.2,
             );
       }
@@ -216,9 +216,9 @@ module _ {V D U F P S : Type 0} (at : V → Point) (number : S → ℤ)
     found (EdgeOverlap o) e after gives is marked = absurd (none_some e is)
 
     -- where no item is left, there is no conflict
-    pub searching_ends : (after : LineIntersectionIterator V D U F P S)
+    pub searching_ends : {after : LineIntersectionIterator V D U F P S}
         → GivesNext at number now None after → GivesConflict at number constraints start None after
-    searching_ends after gives = record {
+    searching_ends gives = record {
       same_mesh = gives.same_mesh ∙ searching.same_mesh;
       gives = λ items left.
           let b = searching.passed items left in

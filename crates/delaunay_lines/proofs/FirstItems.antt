@@ -40,8 +40,8 @@ use Rattle.delaunay_lines.proofs.Advance.{first_of, starts_with}
 use Rattle.delaunay_lines.proofs.MeshSteps.{laid, in_mesh, of_mesh, joined, tiles_with, face_at}
 use Rattle.delaunay_lines.proofs.MeshSteps.{twin_of_prev, twin_of_next, start_in, not_same}
 
-module _ {V D U F : Type 0} (at : V → Point) (IsSite IsCovered : Point → Type 0)
-    (c : Contents V D U F) (p q : Point) (over : IsOverMesh at IsSite IsCovered c p q) where
+module _ {V D U F : Type 0} {at : V → Point} {IsSite IsCovered : Point → Type 0}
+    {c : Contents V D U F} {p q : Point} (over : IsOverMesh at IsSite IsCovered c p q) where
   abbrev m : Mesh
   m = c.mesh
 
@@ -57,8 +57,8 @@ module _ {V D U F : Type 0} (at : V → Point) (IsSite IsCovered : Point → Typ
   -- from p to another point q the walk starts at the item that the segment meets first
   pub starts_first : p ≢ q → (i : FixedIntersection) → IsHandleOf c i
       → IsFirst t (whole p) (whole q) (item_of m i) → Starts at c p q (Some i)
-  starts_first apart i here first = starts_with at IsSite IsCovered c p q over i here
-      (first_of t p q (laid at IsSite IsCovered c p q over) apart (item_of m i) first)
+  starts_first apart i here first = starts_with over i here
+      (first_of t p q (laid over) apart (item_of m i) first)
 
   -- without items on the line list it starts nowhere
   pub nothing : IsLineList t (whole p) (whole q) [] → Starts at c p q None
@@ -67,7 +67,7 @@ module _ {V D U F : Type 0} (at : V → Point) (IsSite IsCovered : Point → Typ
   -- without items that the segment from p to another point meets it starts nowhere
   pub nothing_met : p ≢ q → IsWalk t (whole p) (whole q) [] → Starts at c p q None
   nothing_met apart w =
-      nothing ((line_list_is_the_walk t (laid at IsSite IsCovered c p q over) (whole p) (whole q)
+      nothing ((line_list_is_the_walk t (laid over) (whole p) (whole q)
       (not_same p q apart) []).1 w)
 
   -- equal ends are at the same place
@@ -81,8 +81,8 @@ module _ {V D U F : Type 0} (at : V → Point) (IsSite IsCovered : Point → Typ
     alone_on_edge e = record {
       items = along (origin m h) (origin m (rev h)) ∷ [];
       line_list = (equal_ends t (whole p) (whole q) (same_ends e)).1 (origin m h) (origin m (rev h))
-          (joined at IsSite IsCovered c p q over h
-          (in_mesh at IsSite IsCovered c p q over h within)) here;
+          (joined over h
+          (in_mesh over h within)) here;
       are_from = (
         within,
         (
@@ -91,8 +91,8 @@ module _ {V D U F : Type 0} (at : V → Point) (IsSite IsCovered : Point → Typ
           record { met = λ n. absurd (n e); goes_on = λ n. absurd (n e); alone = λ _. refl },
         ),
       );
-      few = let some = start_in at IsSite IsCovered c p q over h
-          (in_mesh at IsSite IsCovered c p q over h within) in
+      few = let some = start_in over h
+          (in_mesh over h within) in
           let count = length-map c.vertices at in omega (arith, some, count);
     }
 
@@ -106,19 +106,19 @@ module _ {V D U F : Type 0} (at : V → Point) (IsSite IsCovered : Point → Typ
           (whole q) → IsFirst t (whole p) (whole q) (along (origin m h) (origin m (rev h))))
           × (side (start h) (start (rev h)) (whole q) ≡ on
           → IsAhead (whole p) (start (rev h)) (whole q) ⊎ IsAhead (whole p) (start h) (whole q))
-      law = first_from_an_edge t (laid at IsSite IsCovered c p q over) (whole p) (whole q)
+      law = first_from_an_edge t (laid over) (whole p) (whole q)
           (not_same p q apart)
-          (origin m h) (origin m (rev h)) (joined at IsSite IsCovered c p q over h
-          (in_mesh at IsSite IsCovered c p q over h within)) here
+          (origin m h) (origin m (rev h)) (joined over h
+          (in_mesh over h within)) here
 
       -- where q is ahead the other way along the edge, the overlap in that direction comes first
       back : side (start (rev h)) (start h) (whole q) ≡ on → IsAhead (whole p) (start h) (whole q) →
           IsFirst t (whole p) (whole q) (along (origin m (rev h)) (origin m h))
-      back = (first_from_an_edge t (laid at IsSite IsCovered c p q over) (whole p) (whole q)
+      back = (first_from_an_edge t (laid over) (whole p) (whole q)
           (not_same p q apart)
           (origin m (rev h)) (origin m h) (edge_flipped t (origin m h) (origin m (rev h))
-          (joined at IsSite IsCovered c p q over h
-          (in_mesh at IsSite IsCovered c p q over h within)))
+          (joined over h
+          (in_mesh over h within)))
           (turned_within (start h) (start (rev h)) (whole p) here)).2
 
       twice : origin m h ≡ origin m (rev (rev h))
@@ -158,7 +158,7 @@ module _ {V D U F : Type 0} (at : V → Point) (IsSite IsCovered : Point → Typ
   pub inside_after : (h : ℕ) → h < length c.directed → StartsInside points m p h
       → StartsInside points m p (next m h)
   inside_after h within i =
-      let w = in_mesh at IsSite IsCovered c p q over h within in
+      let w = in_mesh over h within in
       let r = T.triangle_at m h over.mesh.valid.sound w i.inner in record {
         inner = subst (λ (x : ℕ). 0 < x) (sym r.face_next) i.inner;
         inside =
@@ -166,7 +166,7 @@ module _ {V D U F : Type 0} (at : V → Point) (IsSite IsCovered : Point → Typ
             (place points x.2) (whole p))
             (λ k. (
               sym (over.mesh.valid.sound.edges h w).starts k,
-              sym (twin_of_next at IsSite IsCovered c p q over h w i.inner) k,
+              sym (twin_of_next over h w i.inner) k,
               ap (origin m) (sym r.prev_next) k,
             ))
             (turned_inside (start h) (start (rev h)) (start (prev m h)) (whole p) i.inside);
@@ -177,20 +177,20 @@ module _ {V D U F : Type 0} (at : V → Point) (IsSite IsCovered : Point → Typ
       → StartsInside points m p (prev m h)
   inside_before h within i =
       let r = T.triangle_at m h over.mesh.valid.sound
-      (in_mesh at IsSite IsCovered c p q over h within) i.inner in
+      (in_mesh over h within) i.inner in
       subst (StartsInside points m p) r.next_next (inside_after (next m h)
-      (of_mesh at IsSite IsCovered c p q over (next m h) r.next_in) (inside_after h within i))
+      (of_mesh over (next m h) r.next_in) (inside_after h within i))
 
   module _ (h : ℕ) (within : h < length c.directed) (i : StartsInside points m p h) where
     -- edge h is one of the mesh
     w : h < length m.half_edges
-    w = in_mesh at IsSite IsCovered c p q over h within
+    w = in_mesh over h within
 
     is_face : IsFace t (origin m h) (origin m (rev h)) (origin m (prev m h))
-    is_face = face_at at IsSite IsCovered c p q over h w i.inner
+    is_face = face_at over h w i.inner
 
     tiles : TilesHull t
-    tiles = tiles_with at IsSite IsCovered c p q over (origin m h) (origin m (rev h))
+    tiles = tiles_with over (origin m h) (origin m (rev h))
         (origin m (prev m h)) is_face
 
     -- from p to itself the walk meets nothing
@@ -235,12 +235,12 @@ module _ {V D U F : Type 0} (at : V → Point) (IsSite IsCovered : Point → Typ
             start = subst (λ (k : ℕ). side (whole p) (whole q) (place points k) ≢ left)
                 (sym (over.mesh.valid.sound.edges h w).starts) x.0;
             end = subst (λ (k : ℕ). side (whole p) (whole q) (place points k) ≡ left)
-                (sym (twin_of_next at IsSite IsCovered c p q over h w i.inner)) x.1;
+                (sym (twin_of_next over h w i.inner)) x.1;
           }))
           go (inr (inr x)) = record {
             start = x.0;
             end = subst (λ (k : ℕ). side (whole p) (whole q) (place points k) ≡ left)
-                (sym (twin_of_prev at IsSite IsCovered c p q over h w i.inner)) x.1;
+                (sym (twin_of_prev over h w i.inner)) x.1;
           }
 
       module _ (o : GoesOver points m p q h) where

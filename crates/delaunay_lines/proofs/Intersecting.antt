@@ -19,7 +19,6 @@ use Rattle.delaunay_location.specs.mesh_embedding.Drawn.{drawn}
 use Rattle.delaunay_location.specs.mesh_embedding.Legal.{pairs_at}
 use Rattle.delaunay_location.proofs.mesh_embedding.MeshLegal.{joins_directed, IsListedEdge}
 use Rattle.delaunay_location.proofs.mesh_embedding.MeshLegal.{listed_edge}
-use Rattle.delaunay_location.specs.delaunay_core.Place.{place_of}
 use Rattle.delaunay_location.specs.delaunay_legalization.Constraints.{marked_edges, constraints_by}
 use Rattle.delaunay_location.specs.delaunay_legalization.Known.{point_at}
 use Rattle.delaunay_location.specs.delaunay_legalization.State.{State, triangulation_of}
@@ -124,20 +123,14 @@ module _ {V D U F P S : Type 0} (at : V → Point) (number : S → ℤ) (IsSite 
 
         edge : IsEdge t x.from x.to
         edge = subst (λ (y : ℕ × ℕ). IsEdge t y.0 y.1) (λ k. (there.1.start k, there.1.end k))
-            (joined at (IsSite it.tests.now) (IsCovered it.tests.now) c (place_of number it.from)
-            (place_of number it.to) ready.over there.0
-            (in_mesh at (IsSite it.tests.now) (IsCovered it.tests.now) c (place_of number it.from)
-            (place_of number it.to) ready.over there.0 h_in))
+            (joined ready.over there.0 (in_mesh ready.over there.0 h_in))
 
         place_at : ℕ → Point
         place_at k = point_at (map at c.vertices) k
 
         two : place_at x.from ≢ place_at x.to
-        two =
-            ends_apart at (IsSite it.tests.now) (IsCovered it.tests.now) c (place_of number it.from)
-            (place_of number it.to) ready.over there.0 h_in
-            (place_at x.from) (place_at x.to) (ap place_at (sym there.1.start))
-            (ap place_at (sym there.1.end))
+        two = ends_apart ready.over there.0 h_in (place_at x.from) (place_at x.to)
+            (ap place_at (sym there.1.start)) (ap place_at (sym there.1.end))
 
         ways : Meets t (whole p) (whole q) (across x.from x.to)
             ⊎ Meets t (whole p) (whole q) (across x.to x.from)

@@ -57,8 +57,8 @@ too_few t i j k a b turns few = left_not_zero
 not_left : (z : Side) → z ≡ on → z ≡ left → ⊥
 not_left z e f = cc
 
-module _ {V D U F : Type 0} (at : V → Point) (IsSite IsCovered : Point → Type 0)
-    (c : Contents V D U F) (p q : Point) (over : IsOverMesh at IsSite IsCovered c p q) where
+module _ {V D U F : Type 0} {at : V → Point} {IsSite IsCovered : Point → Type 0}
+    {c : Contents V D U F} {p q : Point} (over : IsOverMesh at IsSite IsCovered c p q) where
   abbrev m : Mesh
   m = c.mesh
 
@@ -104,7 +104,7 @@ module _ {V D U F : Type 0} (at : V → Point) (IsSite IsCovered : Point → Typ
   start_of_edge : (i j : ℕ) → IsEdge t i j → IsVertex t i
   start_of_edge i j e =
       let h = joins_edge m over.mesh.valid.sound i j e in
-      subst (λ (k : ℕ). k < length points) h.2 (start_in at IsSite IsCovered c p q over h.0 h.1)
+      subst (λ (k : ℕ). k < length points) h.2 (start_in over h.0 h.1)
 
   no_edge_there : (l : Location) → IsBare l → IsLocation t (whole p) l → (i j : ℕ) → IsEdge t i j →
       ¬ OnSegment (vertex t i) (vertex t j) (whole p)

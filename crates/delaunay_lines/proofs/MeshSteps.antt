@@ -1,5 +1,5 @@
 -- From an item that a segment meets to the next, by the links of a mesh.
--- Lemmas: positive, laid, in_mesh, of_mesh, joined, tiles_with, bare, face_at, start_in,
+-- Lemmas: over_value, positive, laid, in_mesh, of_mesh, joined, tiles_with, bare, face_at, start_in,
 -- ends_apart, twin_of_prev, twin_of_next, last_at_edge, through_right, through_left, ends_inside,
 -- at_corner, last_within_overlap, end_of_overlap, last_at_end, last_if_none_leads, along_ahead,
 -- into_face, not_same.
@@ -35,15 +35,25 @@ use Rattle.delaunay_location.proofs.mesh_embedding.OwnEdges.{own_edges}
 use Rattle.delaunay_location.specs.delaunay_legalization.Known.{point_at}
 use Rattle.delaunay_lines.specs.declared.intersection.FixedIntersection.{FixedIntersection}
 use Rattle.delaunay_lines.specs.Items.{item_of, IsHandleOf}
+use Rattle.delaunay_lines.specs.Over.{Spanning}
 use Rattle.delaunay_lines.specs.Steps.{IsOverMesh, IsNext, IsLeftOf, LeavesBy, IsEdgeAhead}
 use Rattle.delaunay_lines.specs.Steps.{IsInCone, LeadsOn}
+
+-- what holds of a segment by its fields holds of its value
+pub over_value : {V D U F P : Type 0} {at : V → Point} {IsSite IsCovered : Point → Type 0}
+    {fields value : Spanning V D U F P} → fields ≡ value
+    → IsOverMesh at IsSite IsCovered fields.dcel fields.from fields.to
+    → IsOverMesh at IsSite IsCovered value.dcel value.from value.to
+over_value {V = V} {D = D} {U = U} {F = F} {P = P} {at = at} {IsSite = IsSite}
+    {IsCovered = IsCovered} same over = subst (λ (s : Spanning V D U F P).
+    IsOverMesh at IsSite IsCovered s.dcel s.from s.to) same over
 
 -- a number that is not 0 is positive
 pub positive : (n : ℕ) → (n ≡ 0 → ⊥) → 0 < n
 positive n h = omega (arith, h)
 
-module _ {V D U F : Type 0} (at : V → Point) (IsSite IsCovered : Point → Type 0)
-    (c : Contents V D U F) (p q : Point) (over : IsOverMesh at IsSite IsCovered c p q) where
+module _ {V D U F : Type 0} {at : V → Point} {IsSite IsCovered : Point → Type 0}
+    {c : Contents V D U F} {p q : Point} (over : IsOverMesh at IsSite IsCovered c p q) where
   abbrev m : Mesh
   m = c.mesh
 

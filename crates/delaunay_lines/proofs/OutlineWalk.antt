@@ -265,8 +265,8 @@ swapped_right on n f = cc
 swapped_right right n f = cc
 
 -- ---- over a mesh
-module _ {V D U F : Type 0} (at : V → Point) (IsSite IsCovered : Point → Type 0)
-    (c : Contents V D U F) (p q : Point) (over : IsOverMesh at IsSite IsCovered c p q) where
+module _ {V D U F : Type 0} {at : V → Point} {IsSite IsCovered : Point → Type 0}
+    {c : Contents V D U F} {p q : Point} (over : IsOverMesh at IsSite IsCovered c p q) where
   abbrev m : Mesh
   m = c.mesh
 
@@ -277,7 +277,7 @@ module _ {V D U F : Type 0} (at : V → Point) (IsSite IsCovered : Point → Typ
   t = drawn points m
 
   t_laid : IsLaid t
-  t_laid = laid at IsSite IsCovered c p q over
+  t_laid = laid over
 
   -- located beyond an outer edge with p on its left, p sees this edge
   pub seen_from : (e : ℕ) → Locates points m p (OutsideOfConvexHull e) → (r : Option ℕ)
@@ -285,7 +285,7 @@ module _ {V D U F : Type 0} (at : V → Point) (IsSite IsCovered : Point → Typ
       → IfSome r (IsSeenOuter at c p)
   seen_from e l None x = tt
   seen_from e l (Some k) x = subst (IsSeenOuter at c p) (sym x.0) (record {
-    within = of_mesh at IsSite IsCovered c p q over e l.handle.0;
+    within = of_mesh over e l.handle.0;
     outer = l.handle.1;
     seen = x.1;
   })
@@ -294,9 +294,9 @@ module _ {V D U F : Type 0} (at : V → Point) (IsSite IsCovered : Point → Typ
   sees_after : (h : ℕ) → h < length c.directed → face m h ≡ 0
       → IsLeftOf points m p (next m h) → IsSeenOuter at c p (next m h)
   sees_after h within o l =
-      let here = over.mesh.valid.sound.edges h (in_mesh at IsSite IsCovered c p q over h within) in
+      let here = over.mesh.valid.sound.edges h (in_mesh over h within) in
       record {
-        within = of_mesh at IsSite IsCovered c p q over (next m h) here.next_in;
+        within = of_mesh over (next m h) here.next_in;
         outer = here.same_face ∙ o;
         seen = l;
       }
@@ -310,9 +310,9 @@ module _ {V D U F : Type 0} (at : V → Point) (IsSite IsCovered : Point → Typ
   sees_before : (h : ℕ) → h < length c.directed → face m h ≡ 0
       → IsLeftOf points m p (prev m h) → IsSeenOuter at c p (prev m h)
   sees_before h within o l =
-      let w = in_mesh at IsSite IsCovered c p q over h within in
+      let w = in_mesh over h within in
       record {
-        within = of_mesh at IsSite IsCovered c p q over (prev m h)
+        within = of_mesh over (prev m h)
             (over.mesh.valid.sound.edges h w).prev_in;
         outer = outer_before h w o;
         seen = l;
@@ -367,15 +367,15 @@ module _ {V D U F : Type 0} (at : V → Point) (IsSite IsCovered : Point → Typ
     ways_apart = not_same p q apart
 
     w : h < length m.half_edges
-    w = in_mesh at IsSite IsCovered c p q over h s.within
+    w = in_mesh over h s.within
 
     r_in : rev h < length m.half_edges
     r_in = rev_within h (length m.half_edges) over.mesh.valid.sound.even w
 
     outer : IsOuter t (origin m h) (origin m (rev h))
     outer = (
-      joined at IsSite IsCovered c p q over h w,
-      bare at IsSite IsCovered c p q over h w s.outer,
+      joined over h w,
+      bare over h w s.outer,
     )
 
     seen : pos 0 <ℤ bracket X Y (whole p)
@@ -383,7 +383,7 @@ module _ {V D U F : Type 0} (at : V → Point) (IsSite IsCovered : Point → Typ
 
     -- to its left it meets nothing
     pub nothing_on_its_left : IsLeftOf points m q h → Starts at c p q None
-    nothing_on_its_left l = nothing_met at IsSite IsCovered c p q over apart
+    nothing_on_its_left l = nothing_met over apart
         (nothing_on_left t t_laid (whole p) (whole q) ways_apart (origin m h) (origin m (rev h))
         outer seen (above_if_left _ _ _ l))
 
@@ -465,7 +465,7 @@ module _ {V D U F : Type 0} (at : V → Point) (IsSite IsCovered : Point → Typ
           | inl o ↦ o
           | inr inner ↦ absurd (line_has_none m (origin m (rev h)) (origin m (rev (rev h)))
               (origin m (prev m (rev h))) flat
-              (face_at at IsSite IsCovered c p q over (rev h) r_in inner))
+              (face_at over (rev h) r_in inner))
         ];
         source = refl;
         target = ap (origin m) (rev-rev h);
@@ -538,7 +538,7 @@ module _ {V D U F : Type 0} (at : V → Point) (IsSite IsCovered : Point → Typ
     -- past the last edge that p sees it meets nothing
     pub nothing_past_end : side (whole p) (whole q) Y ≡ right → ¬ IsLeftOf points m p (next m h)
         → Starts at c p q None
-    nothing_past_end e blind = nothing_met at IsSite IsCovered c p q over apart
+    nothing_past_end e blind = nothing_met over apart
         (nothing_beyond t t_laid (whole p) (whole q) ways_apart (origin m h) (origin m (rev h))
         outer seen (whole p) Y (end_side blind) (bracket-first (whole p) Y)
         (opposite_of_negative (bracket (whole p) Y (whole q)) (bracket (whole p) (whole q) Y)
@@ -548,7 +548,7 @@ module _ {V D U F : Type 0} (at : V → Point) (IsSite IsCovered : Point → Typ
     -- nor before the first one
     pub nothing_past_start : side (whole p) (whole q) X ≡ left → ¬ IsLeftOf points m p (prev m h)
         → Starts at c p q None
-    nothing_past_start e blind = nothing_met at IsSite IsCovered c p q over apart
+    nothing_past_start e blind = nothing_met over apart
         (nothing_beyond t t_laid (whole p) (whole q) ways_apart (origin m h) (origin m (rev h))
         outer seen X (whole p) (start_side blind) (bracket-second X (whole p))
         (subst (λ z. pos 0 <ℤ z) (bracket-turned X (whole p) (whole q))
@@ -574,27 +574,27 @@ module _ {V D U F : Type 0} (at : V → Point) (IsSite IsCovered : Point → Typ
       pub end_met : side (whole p) (whole q) Y ≡ on → ¬ (side (whole p) (whole q) X ≡ left)
           → origin m (rev h) < length c.vertices
           → Starts at c p q (Some (Vertex (origin m (rev h))))
-      end_met e n here = starts_first at IsSite IsCovered c p q over apart
+      end_met e n here = starts_first over apart
           (Vertex (origin m (rev h))) here
           (end_first t t_laid (whole p) (whole q) ways_apart (origin m h) (origin m (rev h)) outer
-          seen not_above (start_in at IsSite IsCovered c p q over (rev h) r_in)
+          seen not_above (start_in over (rev h) r_in)
           (none_if_on (whole p) (whole q) Y e)
           (start_below e n))
 
       -- the start of the edge
       pub start_met : side (whole p) (whole q) X ≡ on → side (whole p) (whole q) Y ≡ left
           → origin m h < length c.vertices → Starts at c p q (Some (Vertex (origin m h)))
-      start_met e l here = starts_first at IsSite IsCovered c p q over apart (Vertex (origin m h))
+      start_met e l here = starts_first over apart (Vertex (origin m h))
           here (start_first t t_laid (whole p) (whole q) ways_apart (origin m h) (origin m (rev h))
-          outer seen not_above (start_in at IsSite IsCovered c p q over h w)
+          outer seen not_above (start_in over h w)
           (none_if_on (whole p) (whole q) X e)
           (above_if_left (whole p) (whole q) Y l))
 
       -- the edge itself
       pub edge_met : StartsOutside t p → side (whole p) (whole q) X ≡ right
           → side (whole p) (whole q) Y ≡ left → Starts at c p q (Some (Edge (rev h)))
-      edge_met outside r l = enters at IsSite IsCovered c p q over outside apart (rev h)
-          (of_mesh at IsSite IsCovered c p q over (rev h) r_in) (
+      edge_met outside r l = enters over outside apart (rev h)
+          (of_mesh over (rev h) r_in) (
             subst (λ (k : ℕ). face m k ≡ 0) twice s.outer,
             (
               record {

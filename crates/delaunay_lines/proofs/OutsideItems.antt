@@ -1,14 +1,15 @@
 -- What a segment meets first from outside a mesh.
 -- Lemmas: better_keeps, no_better_itself, no_better_if, found_within, along_weakened,
--- alone_outside, enters, nearest_is_first, none_is_first.
-use Rattle.std.proofs.Common.{◌≡◌, ◌≢◌, ◌⊎◌, ◌<◌, ◌∙◌}
+-- none_entered, alone_outside, alone_elsewhere, enters, nearest_is_first, none_is_first.
+use Rattle.std.proofs.Common.{◌≡◌, ◌≢◌, ◌⊎◌, ◌<◌, ◌∙◌, []}
 use Rattle.std.proofs.Common.{ℕ, List, length, map, Option, Some, None, sym, ap}
-use Rattle.std.proofs.Common.{subst, inl, inr, arith}
+use Rattle.std.proofs.Common.{refl, subst, inl, inr, arith}
+use Rattle.std.specs.Borrow.{Bor}
 use Rattle.std.specs.Prelude.{IfSome, ℤ, ◌<ℤ◌}
 use Rattle.std.proofs.lemmas.Int.{ints}
 use Rattle.std.proofs.lemmas.Bool.{cases_eq}
 use Rattle.std.proofs.lemmas.List.{length-map}
-use Rattle.delaunay_location.specs.half_edge_mesh.Mesh.{Mesh, origin, next, prev, face, rev}
+use Rattle.delaunay_location.specs.half_edge_mesh.Mesh.{Mesh, origin, next, prev, face, face_edge, rev}
 use Rattle.delaunay_location.proofs.half_edge_links.Lists.Rev.{rev-rev, rev_within}
 use Rattle.delaunay_location.specs.half_edge_mesh.Contents.{Contents}
 use Rattle.delaunay_location.specs.plane.Fraction.{Point, whole, IsSame, OnSegment}
@@ -30,15 +31,27 @@ use Rattle.plane_segments.proofs.First.LineStarts.{equal_ends, first_on_line}
 use Rattle.plane_segments.proofs.Items.Begins.{edge_flipped}
 use Rattle.delaunay_location.specs.mesh_embedding.Drawn.{drawn}
 use Rattle.delaunay_location.proofs.mesh_embedding.EdgePairs.{joins_edge}
-use Rattle.delaunay_location.proofs.mesh_embedding.OutlineGiven.{IsGoingAlong}
+use Rattle.delaunay_location.proofs.mesh_embedding.OutlineGiven.{IsGoingAlong, along_ends, indexes}
 use Rattle.delaunay_location.proofs.mesh_embedding.MeshLegal.{line_has_none, none_or_some}
+use Rattle.delaunay_location.specs.declared.position_in_triangulation.PositionInTriangulation.{PositionInTriangulation}
+use Rattle.delaunay_location.specs.declared.position_in_triangulation.PositionInTriangulation.TheVariants.{
+  OnVertex,
+  OnEdge,
+  OnFace,
+  OutsideOfConvexHull,
+  NoTriangulation,
+}
+use Rattle.delaunay_location.specs.Location.{Locates}
 use Rattle.delaunay_lines.specs.declared.intersection.FixedIntersection.TheVariants.{Edge, Vertex}
 use Rattle.delaunay_lines.specs.Steps.{IsOverMesh}
 use Rattle.delaunay_lines.specs.Starts.{IsCrossed, IsEntered, IsNearestOf, IsBetter, StartsOutside}
 use Rattle.delaunay_lines.specs.Starts.{IsNoBetter, IsOnSegment}
 use Rattle.delaunay_lines.specs.Walk.{Starts}
 use Rattle.delaunay_lines.proofs.MeshSteps.{laid, in_mesh, of_mesh, joined, bare, face_at, not_same}
-use Rattle.delaunay_lines.proofs.FirstItems.{starts_first, nothing, nothing_met, same_ends}
+use Rattle.delaunay_lines.proofs.FirstItems.{alone_inside, starts_first, nothing, nothing_met}
+use Rattle.delaunay_lines.proofs.FirstItems.{same_ends}
+use Rattle.delaunay_lines.proofs.Located.{inside_that_face, outside_that_edge}
+use Rattle.delaunay_lines.proofs.Located.{without_triangulation}
 use Rattle.delaunay_location.proofs.plane.Signs.{less_with_ones, less_without_ones}
 
 -- ---- the nearest of some vertices
@@ -96,9 +109,21 @@ along_weakened m Seen Other rest weaker going = record {
   each = λ h o. elim (going.each h o) [ inl c ↦ inl c | inr s ↦ inr (weaker h s) ];
 }
 
+-- a segment enters by no edge where the search along the outline has seen none that it crosses
+pub none_entered : {V D U F C : Type 0} {at : V → Point} {IsSite IsCovered : Point → Type 0}
+    {c : Contents V D U F} {p q : Point} → IsOverMesh at IsSite IsCovered c p q
+    → (given : List (Bor C × ℕ)) → IsGoingAlong c.mesh
+    (λ (h : ℕ). ¬ IsCrossed (map at c.vertices) c.mesh p q (rev h)) (indexes given) → given ≡ []
+    → (h : ℕ) → h < length c.directed → ¬ IsEntered (map at c.vertices) c.mesh p q h
+none_entered {c = c} over given going none h within entered =
+    along_ends c.mesh _ given going none (rev h) (
+      rev_within h (length c.mesh.half_edges) over.mesh.valid.sound.even (in_mesh over h within),
+      entered.0,
+    ) (rw (rev-rev h) entered.1)
+
 -- ---- the first item
-module _ {V D U F : Type 0} (at : V → Point) (IsSite IsCovered : Point → Type 0)
-    (c : Contents V D U F) (p q : Point) (over : IsOverMesh at IsSite IsCovered c p q)
+module _ {V D U F : Type 0} {at : V → Point} {IsSite IsCovered : Point → Type 0}
+    {c : Contents V D U F} {p q : Point} (over : IsOverMesh at IsSite IsCovered c p q)
     (outside : StartsOutside (drawn (map at c.vertices) c.mesh) p) where
   abbrev m : Mesh
   m = c.mesh
@@ -110,16 +135,16 @@ module _ {V D U F : Type 0} (at : V → Point) (IsSite IsCovered : Point → Typ
   t = drawn points m
 
   t_laid : IsLaid t
-  t_laid = laid at IsSite IsCovered c p q over
+  t_laid = laid over
 
   -- from p to itself the walk meets nothing
   pub alone_outside : p ≡ q → Starts at c p q None
-  alone_outside e = nothing at IsSite IsCovered c p q over (elim t_laid [
+  alone_outside e = nothing over (elim t_laid [
     | inl tiles ↦ (let l = outside.left_of tiles in
-        (equal_ends t (whole p) (whole q) (same_ends at IsSite IsCovered c p q over e)).3 tiles
+        (equal_ends t (whole p) (whole q) (same_ends over e)).3 tiles
         l.0 l.1 l.2 l.3)
     | inr line ↦
-        (equal_ends t (whole p) (whole q) (same_ends at IsSite IsCovered c p q over e)).4 line.0
+        (equal_ends t (whole p) (whole q) (same_ends over e)).4 line.0
         outside.no_vertex (λ i j edge w. outside.no_edge i j edge
         (on_of_within (vertex t i) (vertex t j) (whole p) w))
   ])
@@ -133,10 +158,10 @@ module _ {V D U F : Type 0} (at : V → Point) (IsSite IsCovered : Point → Typ
     met_if h w x = elim t_laid [
       | inl tiles ↦
           (crossing_by_sides t tiles (whole p) (whole q) ways_apart (origin m h) (origin m (rev h))
-          (joined at IsSite IsCovered c p q over h w)).1 (x.0.start, x.0.end, x.1.from, x.1.to)
+          (joined over h w)).1 (x.0.start, x.0.end, x.1.from, x.1.to)
       | inr l ↦ ((crossing_on_line t l.0 l.1 l.2).0 (whole p) (whole q) ways_apart (origin m h)
           (origin m (rev h))
-          (joined at IsSite IsCovered c p q over h w)).1 (x.0.start, x.0.end, x.1.from, x.1.to)
+          (joined over h w)).1 (x.0.start, x.0.end, x.1.from, x.1.to)
     ]
 
     crossed_if : (h : ℕ) → h < length m.half_edges
@@ -145,10 +170,10 @@ module _ {V D U F : Type 0} (at : V → Point) (IsSite IsCovered : Point → Typ
     crossed_if h w x = elim t_laid [
       | inl tiles ↦ of_four
           ((crossing_by_sides t tiles (whole p) (whole q) ways_apart (origin m h) (origin m (rev h))
-          (joined at IsSite IsCovered c p q over h w)).0 x)
+          (joined over h w)).0 x)
       | inr l ↦
           of_four (((crossing_on_line t l.0 l.1 l.2).0 (whole p) (whole q) ways_apart (origin m h)
-          (origin m (rev h)) (joined at IsSite IsCovered c p q over h w)).0 x)
+          (origin m (rev h)) (joined over h w)).0 x)
     ]
       where
         of_four : (side (whole p) (whole q) (vertex t (origin m h)) ≡ left)
@@ -162,7 +187,7 @@ module _ {V D U F : Type 0} (at : V → Point) (IsSite IsCovered : Point → Typ
     pub enters : (h : ℕ) → h < length c.directed → IsEntered points m p q h
         → Starts at c p q (Some (Edge h))
     enters h within x =
-        starts_first at IsSite IsCovered c p q over apart (Edge h) within (elim t_laid [
+        starts_first over apart (Edge h) within (elim t_laid [
           | inl tiles ↦ (first_item t tiles (whole p) (whole q) ways_apart).3 (origin m (rev h))
               (origin m h) met outer
           | inr l ↦ ((first_on_line t l.0 l.1 l.2 (whole p) (whole q) ways_apart).2 (origin m h)
@@ -170,7 +195,7 @@ module _ {V D U F : Type 0} (at : V → Point) (IsSite IsCovered : Point → Typ
         ])
       where
         w : h < length m.half_edges
-        w = in_mesh at IsSite IsCovered c p q over h within
+        w = in_mesh over h within
 
         met : Meets t (whole p) (whole q) (across (origin m h) (origin m (rev h)))
         met = met_if h w x.1
@@ -181,9 +206,9 @@ module _ {V D U F : Type 0} (at : V → Point) (IsSite IsCovered : Point → Typ
         outer : IsOuter t (origin m (rev h)) (origin m h)
         outer = (
           edge_flipped t (origin m h) (origin m (rev h))
-              (joined at IsSite IsCovered c p q over h w),
+              (joined over h w),
           subst (λ (k : ℕ). ¬ HasFace t (origin m (rev h)) (origin m k)) (rev-rev h)
-              (bare at IsSite IsCovered c p q over (rev h) r_in x.0),
+              (bare over (rev h) r_in x.0),
         )
 
     module _ (none : (h : ℕ) → h < length c.directed → ¬ IsEntered points m p q h) where
@@ -191,7 +216,7 @@ module _ {V D U F : Type 0} (at : V → Point) (IsSite IsCovered : Point → Typ
           → ¬ Meets t (whole p) (whole q) (across b a)
       no_outer_crossed tiles a b outer met =
           let h = joins_edge m over.mesh.valid.sound b a met.0 in
-          none h.0 (of_mesh at IsSite IsCovered c p q over h.0 h.1) (
+          none h.0 (of_mesh over h.0 h.1) (
             twin_is_outer h.0 h.1 h.2 h.3 (none_or_some (face m (rev h.0))),
             crossed_if h.0 h.1 (subst (λ (x : ℕ × ℕ). Meets t (whole p) (whole q) (across x.0 x.1))
                 (λ i. (sym h.2 i, sym h.3 i)) met),
@@ -204,14 +229,14 @@ module _ {V D U F : Type 0} (at : V → Point) (IsSite IsCovered : Point → Typ
               (subst (λ (x : ℕ × ℕ). HasFace t x.0 x.1)
               (λ i. (f i, (ap (origin m) (rev-rev h) ∙ e) i)) (
                 origin m (prev m (rev h)),
-                face_at at IsSite IsCovered c p q over (rev h)
+                face_at over (rev h)
                     (rev_within h (length m.half_edges) over.mesh.valid.sound.even w) inner,
               )))
 
       no_crossed_on_line : JoinsLine t → (a b : ℕ) → ¬ Meets t (whole p) (whole q) (across a b)
       no_crossed_on_line line a b met =
           let h = joins_edge m over.mesh.valid.sound a b met.0 in
-          none h.0 (of_mesh at IsSite IsCovered c p q over h.0 h.1) (
+          none h.0 (of_mesh over h.0 h.1) (
             twin_is_outer h.0 h.1 (none_or_some (face m (rev h.0))),
             crossed_if h.0 h.1 (subst (λ (x : ℕ × ℕ). Meets t (whole p) (whole q) (across x.0 x.1))
                 (λ i. (sym h.2 i, sym h.3 i)) met),
@@ -223,7 +248,7 @@ module _ {V D U F : Type 0} (at : V → Point) (IsSite IsCovered : Point → Typ
           twin_is_outer h w (inr inner) =
               absurd (line_has_none m (origin m (rev h)) (origin m (rev (rev h)))
               (origin m (prev m (rev h))) line.no_face
-              (face_at at IsSite IsCovered c p q over (rev h)
+              (face_at over (rev h)
               (rev_within h (length m.half_edges) over.mesh.valid.sound.even w) inner))
 
       outer_edge : (a b : ℕ) → IsOuter t a b → (h : ℕ) × (h < length m.half_edges)
@@ -238,7 +263,7 @@ module _ {V D U F : Type 0} (at : V → Point) (IsSite IsCovered : Point → Typ
           is_outer h w e f (inr inner) = absurd (outer.1
               (subst (λ (x : ℕ × ℕ). HasFace t x.0 x.1) (λ i. (e i, f i)) (
                 origin m (prev m h),
-                face_at at IsSite IsCovered c p q over h w inner,
+                face_at over h w inner,
               )))
 
       -- an outer edge starts at each vertex of the outline
@@ -264,7 +289,7 @@ module _ {V D U F : Type 0} (at : V → Point) (IsSite IsCovered : Point → Typ
               → face m h ≡ 0
           all_outer h w (inl o) = o
           all_outer h w (inr inner) = absurd (line_has_none m (origin m h) (origin m (rev h))
-              (origin m (prev m h)) line.no_face (face_at at IsSite IsCovered c p q over h w inner))
+              (origin m (prev m h)) line.no_face (face_at over h w inner))
 
       -- a vertex on the segment, seen from the outline
       no_better_there : (r : Option ℕ) → IsNearestOf points m p q r → (w : ℕ)
@@ -284,7 +309,7 @@ module _ {V D U F : Type 0} (at : V → Point) (IsSite IsCovered : Point → Typ
       pub nearest_is_first : (v : ℕ) → IsNearestOf points m p q (Some v)
           → Starts at c p q (Some (Vertex v))
       nearest_is_first v x =
-          starts_first at IsSite IsCovered c p q over apart (Vertex v)
+          starts_first over apart (Vertex v)
           (subst (λ (n : ℕ). v < n) (length-map c.vertices at) x.found.0) (elim t_laid [
             | inl tiles ↦ (let l = outside.left_of tiles in
                 nearest_of_outline t tiles (whole p) (whole q) ways_apart l.0 l.1 l.2 l.3
@@ -297,7 +322,7 @@ module _ {V D U F : Type 0} (at : V → Point) (IsSite IsCovered : Point → Typ
 
       -- and with no vertex on it the segment meets nothing
       pub none_is_first : IsNearestOf points m p q None → Starts at c p q None
-      none_is_first x = nothing_met at IsSite IsCovered c p q over apart (elim t_laid [
+      none_is_first x = nothing_met over apart (elim t_laid [
         | inl tiles ↦ (let l = outside.left_of tiles in
             none_of_outline t tiles (whole p) (whole q) ways_apart l.0 l.1 l.2 l.3
             (no_outer_crossed tiles)
@@ -305,3 +330,18 @@ module _ {V D U F : Type 0} (at : V → Point) (IsSite IsCovered : Point → Typ
         | inr l ↦ ((first_on_line t l.0 l.1 l.2 (whole p) (whole q) ways_apart).3 outside.no_edge).1
             (λ w met. no_better_on_line l.0 l.2 None x w met.0 met.1) (no_crossed_on_line l.0)
       ])
+
+-- located neither on a vertex nor on an edge, p meets nothing on the way to itself
+pub alone_elsewhere : {V D U F : Type 0} {at : V → Point} {IsSite IsCovered : Point → Type 0}
+    {c : Contents V D U F} {p q : Point} → IsOverMesh at IsSite IsCovered c p q
+    → (l : PositionInTriangulation) → Locates (map at c.vertices) c.mesh p l
+    → ((v : ℕ) → ¬ (l ≡ OnVertex v)) → ((e : ℕ) → ¬ (l ≡ OnEdge e)) → p ≡ q → Starts at c p q None
+alone_elsewhere over (OnVertex v) here no_vertex no_edge same = absurd (no_vertex v refl)
+alone_elsewhere over (OnEdge e) here no_vertex no_edge same = absurd (no_edge e refl)
+alone_elsewhere {c = c} over (OnFace f) here no_vertex no_edge same =
+    alone_inside over (face_edge c.mesh f) (of_mesh over _
+    (over.mesh.valid.sound.faces f here.handle.0 here.handle.1).0) (inside_that_face over f here) same
+alone_elsewhere over (OutsideOfConvexHull e) here no_vertex no_edge same =
+    alone_outside over (outside_that_edge over e here) same
+alone_elsewhere over NoTriangulation here no_vertex no_edge same =
+    alone_outside over (without_triangulation over here) same

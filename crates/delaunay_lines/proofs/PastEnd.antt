@@ -98,8 +98,8 @@ module _ (p k i : Fraction) (within : WithinSegment p k i) where
           let w = lib.IntN.*ℤ_comm k b in omega (arith, ints)
 
 -- ---- over a mesh
-module _ {V D U F : Type 0} (at : V → Point) (IsSite IsCovered : Point → Type 0)
-    (c : Contents V D U F) (p q : Point) (over : IsOverMesh at IsSite IsCovered c p q) where
+module _ {V D U F : Type 0} {at : V → Point} {IsSite IsCovered : Point → Type 0}
+    {c : Contents V D U F} {p q : Point} (over : IsOverMesh at IsSite IsCovered c p q) where
   abbrev m : Mesh
   m = c.mesh
 
@@ -124,17 +124,17 @@ module _ {V D U F : Type 0} (at : V → Point) (IsSite IsCovered : Point → Typ
     end = origin m h
 
     end_in : IsVertex t end
-    end_in = start_in at IsSite IsCovered c p q over h
-        (in_mesh at IsSite IsCovered c p q over h h_in)
+    end_in = start_in over h
+        (in_mesh over h h_in)
 
     t_laid : IsLaid t
-    t_laid = laid at IsSite IsCovered c p q over
+    t_laid = laid over
 
     ways_apart : ¬ IsSame (whole p) (whole q)
     ways_apart = not_same p q apart
 
     no_hull : ¬ TilesHull t
-    no_hull tiles = none_past at IsSite IsCovered c p q over tiles end end_in past
+    no_hull tiles = none_past over tiles end end_in past
 
     -- a segment through a vertex passes the end
     end_on_way : (k : ℕ) → Meets t (whole p) (whole q) (at_vertex k)
@@ -186,7 +186,7 @@ module _ {V D U F : Type 0} (at : V → Point) (IsSite IsCovered : Point → Typ
     pub end_passed : OnSegment (whole p) (whole q) (vertex t end) → end < length c.vertices
         → Starts at c p q (Some (Vertex end))
     end_passed on here =
-        starts_first at IsSite IsCovered c p q over apart (Vertex end) here (elim t_laid [
+        starts_first over apart (Vertex end) here (elim t_laid [
           | inl tiles ↦ absurd (no_hull tiles)
           | inr l ↦ ((first_on_line t l.0 l.1 l.2 (whole p) (whole q) ways_apart).3
               outside.no_edge).0 end (end_in, on) none_sooner
@@ -194,7 +194,7 @@ module _ {V D U F : Type 0} (at : V → Point) (IsSite IsCovered : Point → Typ
 
     -- else it meets nothing
     pub end_missed : ¬ OnSegment (whole p) (whole q) (vertex t end) → Starts at c p q None
-    end_missed off = nothing_met at IsSite IsCovered c p q over apart (elim t_laid [
+    end_missed off = nothing_met over apart (elim t_laid [
       | inl tiles ↦ absurd (no_hull tiles)
       | inr l ↦ ((first_on_line t l.0 l.1 l.2 (whole p) (whole q) ways_apart).3 outside.no_edge).1
           (λ k met. off (end_on_way k met)) (none_crossed l.0 l.1 l.2)

@@ -14,56 +14,54 @@ use Rattle.delaunay_lines.specs.Steps.{IsNext}
 use Rattle.delaunay_lines.specs.Walk.{AreFrom, AreLeft, GivesNext, IsReady}
 use Rattle.delaunay_lines.proofs.Advance.{further, one_fewer, some_left}
 
-module _ {V D U F P S : Type 0} (at : V → Point) (number : S → ℤ)
-    (IsSite IsCovered : P → Point → Type 0) (it : LineIntersectionIterator V D U F P S) where
+module _ {V D U F P S : Type 0} {at : V → Point} {number : S → ℤ}
+    {IsSite IsCovered : P → Point → Type 0} {it : LineIntersectionIterator V D U F P S}
+    (ready : IsReady at number IsSite IsCovered it) {i : FixedIntersection}
+    (is : it.current ≡ Some i) where
   abbrev p : Point
   p = place_of number it.from
 
   abbrev q : Point
   q = place_of number it.to
 
-  module _ (ready : IsReady at number IsSite IsCovered it) (i : FixedIntersection)
-      (is : it.current ≡ Some i) where
-    from_here : (items : List Item) → AreLeft at number it items
-        → AreFrom at it.dcel.now p q (Some i) items
-    from_here items left =
-        subst (λ (o : Option FixedIntersection). AreFrom at it.dcel.now p q o items) is left
+  from_here : (items : List Item) → AreLeft at number it items
+      → AreFrom at it.dcel.now p q (Some i) items
+  from_here items left =
+      subst (λ (o : Option FixedIntersection). AreFrom at it.dcel.now p q o items) is left
 
-    -- the bound on the items that are left is at least 1
-    pub counts_more : 1 ≤ it.left
-    counts_more = some_left ready.items (from_here ready.items ready.are_left).1.0
-        (item_of it.dcel.now.mesh i) it.left
-        (from_here ready.items ready.are_left).1.1 ready.few
+  -- the bound on the items that are left is at least 1
+  pub counts_more : 1 ≤ it.left
+  counts_more = some_left ready.items (from_here ready.items ready.are_left).1.0
+      (item_of it.dcel.now.mesh i) it.left
+      (from_here ready.items ready.are_left).1.1 ready.few
 
-    module _ (r : Option FixedIntersection) (alone : p ≡ q → r ≡ None)
-        (next : p ≢ q → IsNext at it.dcel.now p q (item_of it.dcel.now.mesh i) r) where
-      abbrev after : LineIntersectionIterator V D U F P S
-      after = record it { current = r; left = it.left - 1 }
+  module _ {r : Option FixedIntersection} (alone : p ≡ q → r ≡ None)
+      (next : p ≢ q → IsNext at it.dcel.now p q (item_of it.dcel.now.mesh i) r) where
+    abbrev after : LineIntersectionIterator V D U F P S
+    after = record it { current = r; left = it.left - 1 }
 
-      others : (items : List Item) → AreLeft at number it items → (others : List Item)
-          × (items ≡ item_of it.dcel.now.mesh i ∷ others) × AreLeft at number after others
-      others items left = further at (IsSite it.tests.now)
-          (IsCovered it.tests.now) it.dcel.now p q ready.over i items
-          (from_here items left) r alone next
+    others : (items : List Item) → AreLeft at number it items → (others : List Item)
+        × (items ≡ item_of it.dcel.now.mesh i ∷ others) × AreLeft at number after others
+    others items left = further ready.over i items (from_here items left) r alone next
 
-      -- an answer with the current item of the same mesh gives what is next
-      pub gives_some : (x : Intersection V D U F) → item_in x ≡ item_of it.dcel.now.mesh i
-          → mesh_of x ≡ it.dcel → GivesNext at number it (Some x) after
-      gives_some x item mesh = record {
-        same_mesh = refl;
-        gives =
-            λ items left. let o = others items left in
-            (mesh, (o.0, o.1 ∙ ap (λ (k : Item). k ∷ o.0) (sym item), o.2));
-        stays = tt;
-      }
+    -- an answer with the current item of the same mesh gives what is next
+    pub gives_some : {x : Intersection V D U F} → item_in x ≡ item_of it.dcel.now.mesh i
+        → mesh_of x ≡ it.dcel → GivesNext at number it (Some x) after
+    gives_some item mesh = record {
+      same_mesh = refl;
+      gives =
+          λ items left. let o = others items left in
+          (mesh, (o.0, o.1 ∙ ap (λ (k : Item). k ∷ o.0) (sym item), o.2));
+      stays = tt;
+    }
 
-      -- the iterator is ready after that
-      pub ready_after : IsReady at number IsSite IsCovered after
-      ready_after = record {
-        over = ready.over;
-        items = (others ready.items ready.are_left).0;
-        are_left = (others ready.items ready.are_left).2;
-        few = one_fewer ready.items (others ready.items ready.are_left).0
-            (item_of it.dcel.now.mesh i) it.left
-            (others ready.items ready.are_left).1 ready.few;
-      }
+    -- the iterator is ready after that
+    pub ready_after : IsReady at number IsSite IsCovered after
+    ready_after = record {
+      over = ready.over;
+      items = (others ready.items ready.are_left).0;
+      are_left = (others ready.items ready.are_left).2;
+      few = one_fewer ready.items (others ready.items ready.are_left).0
+          (item_of it.dcel.now.mesh i) it.left
+          (others ready.items ready.are_left).1 ready.few;
+    }

@@ -34,18 +34,35 @@ fn edge_of<V, DE, UE, F>(
 }
 
 impl<'a, V: HasPosition, DE, UE, F, P: PlaneTests<V::Scalar>> Segment<'a, V, DE, UE, F, P> {
-    // What it meets first, from the location of its start.
+    // What it meets first, from the location of its start. Where its ends are one point, it is the
+    // vertex there, or else the edge.
     fn first_from(&self, start: PositionInTriangulation) -> Option<FixedIntersection>
         requires { Locates (map V.place self.now.dcel.vertices) self.now.dcel.mesh self.now.from
             start }
         ensures { Starts V.place self.now.dcel self.now.from self.now.to result }
     {
         let dcel = self.dcel;
+        if self.is_point() {
+            match start {
+                PositionInTriangulation::OnVertex(vertex) => {
+                    return Some(FixedIntersection::Vertex(vertex));
+                }
+                PositionInTriangulation::OnEdge(edge) => {
+                    return Some(FixedIntersection::Overlap(edge));
+                }
+                _ => return None,
+            }
+        }
         match start {
             PositionInTriangulation::OnVertex(vertex) => Some(FixedIntersection::Vertex(vertex)),
             PositionInTriangulation::OnEdge(edge) => Some(self.first_on_edge(edge)),
             PositionInTriangulation::OnFace(face) => self.first_in_face(edge_of(dcel, face)),
-            PositionInTriangulation::OutsideOfConvexHull(edge) => self.first_beyond(edge),
+            // It goes along the outline from this edge on. Past the end of a line of vertices, where
+            // it sees no edge, it looks at this end alone.
+            PositionInTriangulation::OutsideOfConvexHull(edge) => match self.if_seen(edge) {
+                Some(seen) => self.first_along(seen),
+                None => self.first_past(edge),
+            },
             PositionInTriangulation::NoTriangulation => self.first_outside(),
         }
     }

@@ -1,6 +1,6 @@
 //! The constraints that a segment crosses.
 ghost use Rattle.std.specs.Prelude.{◌↔◌, ◌/◌, ◌<◌, length, map, All, Contains};
-ghost use Rattle.std.specs.Prelude.{IfNone, IfSome, IsTrue};
+ghost use Rattle.std.specs.Prelude.{IfNone, IsTrue};
 ghost use Rattle.std.specs.Iterator.{at_most};
 ghost use Rattle.delaunay_location.specs.plane_tiling.Local.{IsMesh};
 ghost use Rattle.delaunay_location.specs.mesh_embedding.Drawn.{faces_of, outer_of};
@@ -43,23 +43,6 @@ fn conflict_in<'a, M: ConstraintMarker<UE>, V, DE, UE, F>(
     } else {
         None
     }
-}
-
-// The next constraint that a segment crosses.
-fn next_conflict<'a, M: ConstraintMarker<UE>, V: HasPosition, DE, UE, F, P: PlaneTests<V::Scalar>>(
-    line: &mut LineIntersectionIterator<'a, V, DE, UE, F, P>,
-) -> Option<DirectedEdgeHandle<'a, V, DE, UE, F>>
-    requires { IsReady V.place V.Scalar.whole P.sites P.covered line.old }
-    ensures gives { GivesConflict V.place V.Scalar.whole M.constraints line.old result line.new }
-    ensures ready { IsReady V.place V.Scalar.whole P.sites P.covered line.new }
-    ensures fewer { IfSome result (λ _. line.new.left < line.old.left) }
-{
-    while let Some(item) = line.next() {
-        if let Some(edge) = conflict_in::<M, _, _, _, _>(&item) {
-            return Some(edge);
-        }
-    }
-    None
 }
 
 /// The constraints that a segment meets in one point strictly within them, in the order along the
@@ -165,8 +148,10 @@ pub fn intersects_constraint<
         (constraints_by M.constraints s) (place_of V.Scalar.whole from)
         (place_of V.Scalar.whole to) }
 {
-    let mut line = line_between(dcel, from, to, hint, tests);
-    next_conflict::<M, _, _, _, _, _>(&mut line).is_some()
+    let mut crossed = ConflictingEdgesIterator::<M, _, _, _, _, _>::between_points(
+        dcel, from, to, hint, tests,
+    );
+    crossed.next().is_some()
 }
 
 impl<'a, M: ConstraintMarker<UE>, V: HasPosition, DE, UE, F, P: PlaneTests<V::Scalar>> Iterator
@@ -182,7 +167,12 @@ impl<'a, M: ConstraintMarker<UE>, V: HasPosition, DE, UE, F, P: PlaneTests<V::Sc
     ghost remaining = { λ it. at_most it.line.left };
 
     fn next(&mut self) -> Option<DirectedEdgeHandle<'a, V, DE, UE, F>> {
-        next_conflict::<M, _, _, _, _, _>(&mut self.line)
+        while let Some(item) = self.line.next() {
+            if let Some(edge) = conflict_in::<M, _, _, _, _>(&item) {
+                return Some(edge);
+            }
+        }
+        None
     }
 
     fn size_hint(&self) -> (usize, Option<usize>) {

@@ -6,7 +6,7 @@ ghost use Rattle.delaunay_lines.specs.Steps.{LeavesBy};
 
 use crate::intersection::FixedIntersection;
 use crate::segment::Segment;
-use crate::sides::{edge_after, edge_before, side_of_edge, twin_of};
+use crate::sides::{edge_after, edge_before, twin_of};
 use delaunay_location::delaunay_core::math::PlaneTests;
 use delaunay_location::delaunay_core::point::HasPosition;
 use delaunay_location::delaunay_legalization::is_outer;
@@ -43,7 +43,7 @@ impl<'a, V: HasPosition, DE, UE, F, P: PlaneTests<V::Scalar>> Segment<'a, V, DE,
         if self.ends_left_of(next) {
             return None;
         }
-        Some(self.start_item(prev))
+        Some(FixedIntersection::Vertex(self.start_vertex(prev)))
     }
 
     // What a segment meets after an edge that it crosses.
@@ -54,7 +54,7 @@ impl<'a, V: HasPosition, DE, UE, F, P: PlaneTests<V::Scalar>> Segment<'a, V, DE,
         if is_outer(self.dcel, edge) {
             return None;
         }
-        if side_of_edge(self.dcel, edge, self.to, self.tests).is_on_line() {
+        if self.side_of_to(edge).is_on_line() {
             return None;
         }
         self.through_face(edge)
@@ -69,6 +69,6 @@ impl<'a, V: HasPosition, DE, UE, F, P: PlaneTests<V::Scalar>> Segment<'a, V, DE,
             return None;
         }
         let twin = twin_of(self.dcel, edge);
-        Some(self.start_item(twin))
+        Some(FixedIntersection::Vertex(self.start_vertex(twin)))
     }
 }

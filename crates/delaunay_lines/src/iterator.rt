@@ -13,7 +13,6 @@ use crate::intersection::{FixedIntersection, Intersection, intersection_in};
 use crate::segment::Segment;
 use delaunay_location::delaunay_core::math::PlaneTests;
 use delaunay_location::delaunay_core::point::{HasPosition, Point2};
-use delaunay_location::delaunay_legalization::is_same_point;
 use delaunay_location::half_edge_mesh::Dcel;
 
 /// The vertices and edges that a segment meets, in the order along the segment. No call takes
@@ -50,7 +49,7 @@ impl<'a, V: HasPosition, DE, UE, F, P: PlaneTests<V::Scalar>> Segment<'a, V, DE,
             IsNext V.place self.now.dcel self.now.from self.now.to
             (item_of self.now.dcel.mesh item) result }
     {
-        if is_same_point(self.from, self.to) {
+        if self.is_point() {
             return None;
         }
         match item {

@@ -25,4 +25,5 @@ pub use lines::HasMesh;
 // For the crates of paths, of sight and of the struct, and not for users.
 pub use between::{line_between, line_between_vertices};
 pub use conflicts::intersects_constraint;
-pub use sides::{side_of_edge, twin_of};
+pub use segment::Segment;
+pub use sides::twin_of;

@@ -7,10 +7,8 @@ ghost use Rattle.delaunay_location.specs.plane.Circle.{gap};
 ghost use Rattle.delaunay_location.specs.plane.Location.{IsPast};
 ghost use Rattle.delaunay_location.specs.mesh_embedding.Drawn.{drawn};
 ghost use Rattle.delaunay_location.specs.delaunay_core.Place.{place_of};
-ghost use Rattle.delaunay_location.specs.Location.{Locates};
-ghost use Rattle.delaunay_location.specs.declared.position_in_triangulation.PositionInTriangulation.TheVariants.{OutsideOfConvexHull};
 ghost use Rattle.delaunay_lines.specs.Starts.{GoesRight, HasEndsOnSides, IsBetter, IsCrossed};
-ghost use Rattle.delaunay_lines.specs.Starts.{IsEntered, IsNearerVertex, IsNearestOf};
+ghost use Rattle.delaunay_lines.specs.Starts.{IsNearerVertex, IsNearestOf};
 ghost use Rattle.delaunay_lines.specs.Starts.{IsNoBetter, IsOnSegment, StartsOutside};
 ghost use Rattle.delaunay_lines.specs.Steps.{IsLeftOf};
 ghost use Rattle.delaunay_lines.specs.Outline.{IsSeenOuter, IsTurningPoint};
@@ -18,11 +16,11 @@ ghost use Rattle.delaunay_lines.specs.Walk.{Starts};
 
 use crate::intersection::FixedIntersection;
 use crate::segment::Segment;
-use crate::sides::{edge_after, edge_before, side_of_edge, twin_of};
+use crate::sides::{edge_after, edge_before, twin_of};
 use crate::way::Way;
 use delaunay_location::delaunay_core::math::PlaneTests;
 use delaunay_location::delaunay_core::point::{HasPosition, Point2, SpadeNum};
-use delaunay_location::delaunay_legalization::{is_same_point, position_of, start_of};
+use delaunay_location::delaunay_legalization::position_of;
 use delaunay_location::half_edge_mesh::{FixedDirectedEdgeHandle, FixedVertexHandle, MeshViews};
 
 // Whether a point is nearer to a position than another.
@@ -61,9 +59,8 @@ impl<'a, V: HasPosition, DE, UE, F, P: PlaneTests<V::Scalar>> Segment<'a, V, DE,
         ensures { IsTrue result ↔ HasEndsOnSides (map V.place self.now.dcel.vertices)
             self.now.dcel.mesh self.now.from self.now.to edge }
     {
-        let start = side_of_edge(self.dcel, edge, self.from, self.tests);
-        let end = side_of_edge(self.dcel, edge, self.to, self.tests);
-        start.is_on_right_side_or_on_line() && end.is_on_left_side_or_on_line()
+        self.side_of_from(edge).is_on_right_side_or_on_line()
+            && self.side_of_to(edge).is_on_left_side_or_on_line()
     }
 
     // Whether a segment crosses an edge, with its end on the edge's left.
@@ -73,24 +70,6 @@ impl<'a, V: HasPosition, DE, UE, F, P: PlaneTests<V::Scalar>> Segment<'a, V, DE,
             self.now.from self.now.to edge }
     {
         self.goes_right(edge) && self.has_ends_on_sides(edge)
-    }
-
-    // An edge with the outer face on its right that a segment crosses into the triangulation, by a
-    // look along the outline.
-    fn entered_edge(&self) -> Option<FixedDirectedEdgeHandle>
-        ensures { let points = map V.place self.now.dcel.vertices in let m = self.now.dcel.mesh in
-            let p = self.now.from in let q = self.now.to in
-            MatchOption result
-            ((h : ℕ) → h < length self.now.dcel.directed → ¬ IsEntered points m p q h)
-            (λ h. (h < length self.now.dcel.directed) × IsEntered points m p q h) }
-    {
-        for outer in self.dcel.convex_hull() {
-            let edge = outer.rev().fix();
-            if self.is_crossed(edge) {
-                return Some(edge);
-            }
-        }
-        None
     }
 
     // Whether a vertex is nearer to a position than another, if there is one.
@@ -176,7 +155,7 @@ impl<'a, V: HasPosition, DE, UE, F, P: PlaneTests<V::Scalar>> Segment<'a, V, DE,
         let mut nearest = self.first_found();
         for outer in self.dcel.convex_hull() {
             let edge = outer.fix();
-            let vertex = self.dcel.directed_edge(edge).from().fix();
+            let vertex = self.start_vertex(edge);
             nearest = self.better_of(vertex, nearest);
         }
         nearest
@@ -185,15 +164,16 @@ impl<'a, V: HasPosition, DE, UE, F, P: PlaneTests<V::Scalar>> Segment<'a, V, DE,
     // From outside: the edge by which the segment enters, else the nearest vertex on it. It goes
     // along the outline up to such an edge, and, where there is none, once more.
     pub(crate) fn first_outside(&self) -> Option<FixedIntersection>
-        requires { StartsOutside (drawn (map V.place self.now.dcel.vertices) self.now.dcel.mesh)
-            self.now.from }
+        requires apart { self.now.from ≢ self.now.to }
+        requires start { StartsOutside (drawn (map V.place self.now.dcel.vertices)
+            self.now.dcel.mesh) self.now.from }
         ensures { Starts V.place self.now.dcel self.now.from self.now.to result }
     {
-        if is_same_point(self.from, self.to) {
-            return None;
-        }
-        if let Some(edge) = self.entered_edge() {
-            return Some(FixedIntersection::Edge(edge));
+        for outer in self.dcel.convex_hull() {
+            let edge = outer.rev().fix();
+            if self.is_crossed(edge) {
+                return Some(FixedIntersection::Edge(edge));
+            }
         }
         match self.nearest_vertex() {
             Some(vertex) => Some(FixedIntersection::Vertex(vertex)),
@@ -202,13 +182,13 @@ impl<'a, V: HasPosition, DE, UE, F, P: PlaneTests<V::Scalar>> Segment<'a, V, DE,
     }
 
     // An edge, where the segment begins strictly on its left.
-    fn if_seen(&self, edge: FixedDirectedEdgeHandle) -> Option<FixedDirectedEdgeHandle>
+    pub(crate) fn if_seen(&self, edge: FixedDirectedEdgeHandle) -> Option<FixedDirectedEdgeHandle>
         requires { edge < length self.now.dcel.directed }
         ensures { let points = map V.place self.now.dcel.vertices in let m = self.now.dcel.mesh in
             MatchOption result (¬ IsLeftOf points m self.now.from edge)
             (λ e. (e ≡ edge) × IsLeftOf points m self.now.from edge) }
     {
-        if side_of_edge(self.dcel, edge, self.from, self.tests).is_on_left_side() {
+        if self.side_of_from(edge).is_on_left_side() {
             return Some(edge);
         }
         None
@@ -254,10 +234,10 @@ impl<'a, V: HasPosition, DE, UE, F, P: PlaneTests<V::Scalar>> Segment<'a, V, DE,
             return None;
         }
         if end.is_on_line() {
-            return Some(self.start_item(twin));
+            return Some(FixedIntersection::Vertex(self.start_vertex(twin)));
         }
         if start.is_on_line() {
-            return Some(self.start_item(edge));
+            return Some(FixedIntersection::Vertex(self.start_vertex(edge)));
         }
         Some(FixedIntersection::Edge(twin))
     }
@@ -265,7 +245,7 @@ impl<'a, V: HasPosition, DE, UE, F, P: PlaneTests<V::Scalar>> Segment<'a, V, DE,
     // From a seen outer edge along the outline to what it meets first: nothing, where it ends on
     // the left of this edge too. Each step leads nearer to its line, but nothing here rests on
     // that: behind the last step is the look along the whole outline.
-    fn first_along(&self, edge: FixedDirectedEdgeHandle) -> Option<FixedIntersection>
+    pub(crate) fn first_along(&self, edge: FixedDirectedEdgeHandle) -> Option<FixedIntersection>
         requires apart { self.now.from ≢ self.now.to }
         requires start { StartsOutside (drawn (map V.place self.now.dcel.vertices)
             self.now.dcel.mesh) self.now.from }
@@ -288,7 +268,7 @@ impl<'a, V: HasPosition, DE, UE, F, P: PlaneTests<V::Scalar>> Segment<'a, V, DE,
 
     // From past the vertex at the end of a line of vertices, where an edge starts: this vertex, if
     // it is on the segment.
-    fn first_past(&self, edge: FixedDirectedEdgeHandle) -> Option<FixedIntersection>
+    pub(crate) fn first_past(&self, edge: FixedDirectedEdgeHandle) -> Option<FixedIntersection>
         requires within { edge < length self.now.dcel.directed }
         requires apart { self.now.from ≢ self.now.to }
         requires start { StartsOutside (drawn (map V.place self.now.dcel.vertices)
@@ -302,25 +282,9 @@ impl<'a, V: HasPosition, DE, UE, F, P: PlaneTests<V::Scalar>> Segment<'a, V, DE,
             to: self.to,
             tests: self.tests,
         };
-        if way.carries(start_of(self.dcel, edge)) {
-            return Some(self.start_item(edge));
+        if way.carries(self.start_of(edge)) {
+            return Some(FixedIntersection::Vertex(self.start_vertex(edge)));
         }
         None
-    }
-
-    // From beyond an outer edge: it goes along the outline from this edge on. Past the end of a
-    // line of vertices, where it sees no edge, it looks at this end alone.
-    pub(crate) fn first_beyond(&self, edge: FixedDirectedEdgeHandle) -> Option<FixedIntersection>
-        requires { Locates (map V.place self.now.dcel.vertices) self.now.dcel.mesh self.now.from
-            (OutsideOfConvexHull edge) }
-        ensures { Starts V.place self.now.dcel self.now.from self.now.to result }
-    {
-        if is_same_point(self.from, self.to) {
-            return self.first_outside();
-        }
-        match self.if_seen(edge) {
-            Some(seen) => self.first_along(seen),
-            None => self.first_past(edge),
-        }
     }
 }

@@ -4,27 +4,29 @@ ghost use Rattle.delaunay_location.specs.half_edge_mesh.Mesh.{origin, rev};
 ghost use Rattle.delaunay_location.specs.plane.Fraction.{whole as fraction};
 ghost use Rattle.delaunay_location.specs.plane.Side.{side};
 ghost use Rattle.delaunay_location.specs.plane.Pairs.{place};
+ghost use Rattle.delaunay_location.specs.delaunay_core.Place.{place_of};
 ghost use Rattle.delaunay_location.specs.delaunay_legalization.Known.{point_at};
 ghost use Rattle.delaunay_lines.specs.Steps.{IsLeftOf};
 
-use crate::intersection::FixedIntersection;
-use crate::sides::{side_of_edge, twin_of};
+use crate::sides::twin_of;
 use crate::way::Way;
 use delaunay_location::delaunay_core::line_side_info::LineSideInfo;
 use delaunay_location::delaunay_core::math::PlaneTests;
 use delaunay_location::delaunay_core::point::{HasPosition, Point2};
-use delaunay_location::delaunay_legalization::start_of;
-use delaunay_location::half_edge_mesh::{Dcel, FixedDirectedEdgeHandle, MeshViews};
+use delaunay_location::delaunay_legalization::{is_same_point, position_of};
+use delaunay_location::half_edge_mesh::{
+    Dcel, FixedDirectedEdgeHandle, FixedVertexHandle, MeshViews,
+};
 use std::marker::Model;
 
 /// A segment over the mesh of a triangulation, with tests that cover its ends and have the vertices
 /// as sites.
 #[derive(Drop)]
-pub(crate) struct Segment<'a, V: HasPosition, DE, UE, F, P: PlaneTests<V::Scalar>> {
-    pub(crate) dcel: &'a Dcel<V, DE, UE, F>,
-    pub(crate) tests: &'a P,
-    pub(crate) from: Point2<V::Scalar>,
-    pub(crate) to: Point2<V::Scalar>,
+pub struct Segment<'a, V: HasPosition, DE, UE, F, P: PlaneTests<V::Scalar>> {
+    pub dcel: &'a Dcel<V, DE, UE, F>,
+    pub tests: &'a P,
+    pub from: Point2<V::Scalar>,
+    pub to: Point2<V::Scalar>,
 }
 
 impl<'a, V: HasPosition, DE, UE, F, P: PlaneTests<V::Scalar>> Model
@@ -47,13 +49,63 @@ impl<'a, V: HasPosition, DE, UE, F, P: PlaneTests<V::Scalar>> Model
 }
 
 impl<'a, V: HasPosition, DE, UE, F, P: PlaneTests<V::Scalar>> Segment<'a, V, DE, UE, F, P> {
+    // Whether its ends are one point.
+    pub(crate) fn is_point(&self) -> bool
+        ensures { IsTrue result ↔ (self.now.from ≡ self.now.to) }
+    {
+        is_same_point(self.from, self.to)
+    }
+
+    // The vertex where an edge starts.
+    pub(crate) fn start_vertex(&self, edge: FixedDirectedEdgeHandle) -> FixedVertexHandle
+        requires { edge < length self.now.dcel.directed }
+        ensures value { result ≡ origin self.now.dcel.mesh edge }
+        ensures within { result < length self.now.dcel.vertices }
+    {
+        self.dcel.directed_edge(edge).from().fix()
+    }
+
+    // The position where an edge starts.
+    pub(crate) fn start_of(&self, edge: FixedDirectedEdgeHandle) -> Point2<V::Scalar>
+        requires { edge < length self.now.dcel.directed }
+        ensures place { place_of V.Scalar.whole result ≡
+            point_at (map V.place self.now.dcel.vertices) (origin self.now.dcel.mesh edge) }
+        ensures covered { P.covered self.now.tests (place_of V.Scalar.whole result) }
+    {
+        position_of(self.dcel, self.start_vertex(edge))
+    }
+
+    /// The side of where the segment starts, as seen along an edge.
+    pub fn side_of_from(&self, edge: FixedDirectedEdgeHandle) -> LineSideInfo
+        requires { edge < length self.now.dcel.directed }
+        ensures { let points = map V.place self.now.dcel.vertices in let m = self.now.dcel.mesh in
+            result ≡ side (place points (origin m edge)) (place points (origin m (rev edge)))
+            (fraction self.now.from) }
+    {
+        let twin = twin_of(self.dcel, edge);
+        self.tests
+            .side(self.start_of(edge), self.start_of(twin), self.from)
+    }
+
+    /// The side of where it ends.
+    pub fn side_of_to(&self, edge: FixedDirectedEdgeHandle) -> LineSideInfo
+        requires { edge < length self.now.dcel.directed }
+        ensures { let points = map V.place self.now.dcel.vertices in let m = self.now.dcel.mesh in
+            result ≡ side (place points (origin m edge)) (place points (origin m (rev edge)))
+            (fraction self.now.to) }
+    {
+        let twin = twin_of(self.dcel, edge);
+        self.tests
+            .side(self.start_of(edge), self.start_of(twin), self.to)
+    }
+
     // Whether it ends on the left of an edge.
     pub(crate) fn ends_left_of(&self, edge: FixedDirectedEdgeHandle) -> bool
         requires { edge < length self.now.dcel.directed }
         ensures { IsTrue result ↔ IsLeftOf (map V.place self.now.dcel.vertices) self.now.dcel.mesh
             self.now.to edge }
     {
-        side_of_edge(self.dcel, edge, self.to, self.tests).is_on_left_side()
+        self.side_of_to(edge).is_on_left_side()
     }
 
     // The side of the vertex where an edge starts, as seen along the segment.
@@ -63,17 +115,7 @@ impl<'a, V: HasPosition, DE, UE, F, P: PlaneTests<V::Scalar>> Segment<'a, V, DE,
             result ≡ side (fraction self.now.from) (fraction self.now.to)
             (place points (origin self.now.dcel.mesh edge)) }
     {
-        self.tests
-            .side(self.from, self.to, start_of(self.dcel, edge))
-    }
-
-    // The vertex where an edge starts, as an item.
-    pub(crate) fn start_item(&self, edge: FixedDirectedEdgeHandle) -> FixedIntersection
-        requires { edge < length self.now.dcel.directed }
-        ensures item { result ≡ FixedIntersection.Vertex (origin self.now.dcel.mesh edge) }
-        ensures within { origin self.now.dcel.mesh edge < length self.now.dcel.vertices }
-    {
-        FixedIntersection::Vertex(self.dcel.directed_edge(edge).from().fix())
+        self.tests.side(self.from, self.to, self.start_of(edge))
     }
 
     // The way along an edge.
@@ -87,8 +129,8 @@ impl<'a, V: HasPosition, DE, UE, F, P: PlaneTests<V::Scalar>> Segment<'a, V, DE,
             } }
     {
         Way {
-            from: start_of(self.dcel, edge),
-            to: start_of(self.dcel, twin_of(self.dcel, edge)),
+            from: self.start_of(edge),
+            to: self.start_of(twin_of(self.dcel, edge)),
             tests: self.tests,
         }
     }

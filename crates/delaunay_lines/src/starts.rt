@@ -5,35 +5,32 @@ ghost use Rattle.delaunay_lines.specs.Walk.{Starts};
 
 use crate::intersection::FixedIntersection;
 use crate::segment::Segment;
-use crate::sides::{edge_after, edge_before, side_of_edge, twin_of};
+use crate::sides::{edge_after, edge_before, twin_of};
 use crate::way::Way;
 use delaunay_location::delaunay_core::math::PlaneTests;
 use delaunay_location::delaunay_core::point::HasPosition;
-use delaunay_location::delaunay_legalization::{is_same_point, start_of};
 use delaunay_location::half_edge_mesh::FixedDirectedEdgeHandle;
 
 impl<'a, V: HasPosition, DE, UE, F, P: PlaneTests<V::Scalar>> Segment<'a, V, DE, UE, F, P> {
     // From strictly within an edge: the edge, crossed or gone along.
     pub(crate) fn first_on_edge(&self, edge: FixedDirectedEdgeHandle) -> FixedIntersection
         requires within { edge < length self.now.dcel.directed }
+        requires apart { self.now.from ≢ self.now.to }
         requires start { StartsWithin (map V.place self.now.dcel.vertices) self.now.dcel.mesh
             self.now.from edge }
         ensures { Starts V.place self.now.dcel self.now.from self.now.to (Some result) }
     {
-        if is_same_point(self.from, self.to) {
-            return FixedIntersection::Overlap(edge);
-        }
-        let side = side_of_edge(self.dcel, edge, self.to, self.tests);
+        let twin = twin_of(self.dcel, edge);
+        let side = self.side_of_to(edge);
         if side.is_on_left_side() {
             return FixedIntersection::Edge(edge);
         }
-        let twin = twin_of(self.dcel, edge);
         if side.is_on_right_side() {
             return FixedIntersection::Edge(twin);
         }
         let ahead = Way {
             from: self.from,
-            to: start_of(self.dcel, twin),
+            to: self.start_of(twin),
             tests: self.tests,
         };
         if ahead.goes_towards(self.to) {
@@ -80,20 +77,19 @@ impl<'a, V: HasPosition, DE, UE, F, P: PlaneTests<V::Scalar>> Segment<'a, V, DE,
     // From strictly inside a face: nothing where the segment ends there, else a corner or a side.
     pub(crate) fn first_in_face(&self, edge: FixedDirectedEdgeHandle) -> Option<FixedIntersection>
         requires within { edge < length self.now.dcel.directed }
+        requires apart { self.now.from ≢ self.now.to }
         requires start { StartsInside (map V.place self.now.dcel.vertices) self.now.dcel.mesh
             self.now.from edge }
         ensures { Starts V.place self.now.dcel self.now.from self.now.to result }
     {
-        if is_same_point(self.from, self.to) {
-            return None;
-        }
         let exit = self.edge_over(edge);
+        let twin = twin_of(self.dcel, exit);
         if self.ends_left_of(exit) {
             return None;
         }
         if self.side_of_start(exit).is_on_line() {
-            return Some(self.start_item(exit));
+            return Some(FixedIntersection::Vertex(self.start_vertex(exit)));
         }
-        Some(FixedIntersection::Edge(twin_of(self.dcel, exit)))
+        Some(FixedIntersection::Edge(twin))
     }
 }

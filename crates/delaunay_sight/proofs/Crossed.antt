@@ -28,8 +28,8 @@ use Rattle.delaunay_sight.proofs.MeshFaces.{beside_iff, behind_iff}
 on_swapped : (u v p : Fraction) → side u v p ≡ on → side v u p ≡ on
 on_swapped u v p e = side_swapped u v p ∙ ap opposite e
 
-module _ {V D U F : Type 0} (at : V → Point) (IsSite IsCovered : Point → Type 0)
-    (c : Contents V D U F) (p q : Point) (over : IsOverMesh at IsSite IsCovered c p q)
+module _ {V D U F : Type 0} {at : V → Point} {IsSite IsCovered : Point → Type 0}
+    {c : Contents V D U F} {p q : Point} (over : IsOverMesh at IsSite IsCovered c p q)
     (free : ℕ → Bool) (h : ℕ) (within : h < length c.directed) where
   abbrev m : Mesh
   m = c.mesh
@@ -48,7 +48,7 @@ module _ {V D U F : Type 0} (at : V → Point) (IsSite IsCovered : Point → Typ
 
   -- edge h is one of the mesh
   w : h < length m.half_edges
-  w = in_mesh at IsSite IsCovered c p q over h within
+  w = in_mesh over h within
 
   -- the reverse of the reverse starts where the edge does
   back : origin m (rev (rev h)) ≡ origin m h

@@ -1,20 +1,20 @@
 -- Whether a position is in a closed free face, by its location; and whether a segment is a line of
 -- sight.
 -- Lemmas: at_vertex_iff, on_edge_iff, in_face_iff, not_outside, not_without, sees_if, sees_start,
--- sees_end, goes_free, over_line, of_state.
+-- sees_end, goes_free, over_kept, over_line, of_state.
 use Rattle.std.proofs.Common.{◌≡◌, ◌⊎◌, ◌<◌, ◌↔◌, ℕ, Bool, IsTrue, List, length, map}
 use Rattle.std.proofs.Common.{sym, subst, inl, inr}
 use Rattle.std.specs.Prelude.{Contains, All}
 use Rattle.delaunay_lines.specs.half_edge_mesh.Mesh.{Mesh, origin, next, prev, face, face_edge, rev}
-use Rattle.delaunay_lines.specs.half_edge_mesh.Contents.{Contents, IsMeshWithData}
+use Rattle.delaunay_lines.specs.half_edge_mesh.Contents.{Contents}
 use Rattle.delaunay_lines.specs.plane.Fraction.{Point, Fraction, whole}
 use Rattle.delaunay_lines.specs.plane.Tiling.{Triangulation, TilesHull}
 use Rattle.delaunay_lines.specs.plane.Line.{Item, IsLineList}
 use Rattle.plane_sight.specs.Sight.{IsInFree, IsInSight, HasFreeFace, PassesFree}
 use Rattle.plane_sight.proofs.Sights.{in_free_by_place, sight_by_line}
 use Rattle.delaunay_lines.proofs.plane.Segments.{start_on_segment, end_on_segment}
-use Rattle.delaunay_lines.specs.mesh_embedding.Drawn.{drawn, faces_of, outer_of}
-use Rattle.delaunay_lines.specs.plane_tiling.Local.{IsMesh}
+use Rattle.delaunay_lines.specs.mesh_embedding.Drawn.{drawn}
+use Rattle.delaunay_lines.specs.delaunay_legalization.Shape.{IsTriangulated}
 use Rattle.delaunay_lines.specs.delaunay_legalization.State.{State, state_of, triangulation_of}
 use Rattle.delaunay_lines.specs.delaunay_location.declared.position_in_triangulation.PositionInTriangulation.TheVariants.{OnVertex}
 use Rattle.delaunay_lines.specs.delaunay_location.declared.position_in_triangulation.PositionInTriangulation.TheVariants.{OnEdge}
@@ -29,8 +29,8 @@ use Rattle.delaunay_sight.specs.Beside.{by_place, IsFreeBeside, HasFreeRound}
 use Rattle.delaunay_sight.specs.Passing.{GoesFree}
 use Rattle.delaunay_sight.proofs.MeshFaces.{beside_iff, behind_iff, free_edge, tiles_with}
 
-module _ {V D U F : Type 0} (at : V → Point) (IsSite IsCovered : Point → Type 0)
-    (c : Contents V D U F) (p q : Point) (over : IsOverMesh at IsSite IsCovered c p q)
+module _ {V D U F : Type 0} {at : V → Point} {IsSite IsCovered : Point → Type 0}
+    {c : Contents V D U F} {p q : Point} (over : IsOverMesh at IsSite IsCovered c p q)
     (free : ℕ → Bool) where
   abbrev m : Mesh
   m = c.mesh
@@ -118,10 +118,10 @@ module _ {V D U F : Type 0} (at : V → Point) (IsSite IsCovered : Point → Typ
       (in_free_by_place t h (by_place free) (whole p)).3 e.0 e.1 e.2 e.3 o
 
   pub not_outside : (e : ℕ) → Locates points m p (OutsideOfConvexHull e) → ¬ InFree
-  not_outside e l = outside (outside_that_edge at IsSite IsCovered c p q over e l)
+  not_outside e l = outside (outside_that_edge over e l)
 
   pub not_without : Locates points m p NoTriangulation → ¬ InFree
-  not_without l = outside (without_triangulation at IsSite IsCovered c p q over l)
+  not_without l = outside (without_triangulation over l)
 
   -- where both ends are in closed free faces, the items decide
   pub sees_if : InFree → IsInFree t (by_place free) (whole q) → (b : Bool)
@@ -156,19 +156,31 @@ goes_free {V} {D} {U} {F} at s c same free p q items line b iff = (
       ↔ ((k : Item) → Contains items k → PassesFree (triangulation_of at x) free p q k)) same iff,
 )
 
--- a line over the mesh of the same state is over a mesh with the same sites
-pub over_line : {V D U F : Type 0} (at : V → Point) (IsSite IsCovered : Point → Type 0)
-    (c d : Contents V D U F) (p q : Point) → state_of d ≡ state_of c → IsMeshWithData d
-    → IsMesh (map at d.vertices) (faces_of d.mesh) (outer_of d.mesh)
-    → All IsSite (map at c.vertices) → IsCovered p → IsCovered q
-    → IsOverMesh at IsSite IsCovered d p q
-over_line {V} {D} {U} {F} at IsSite IsCovered c d p q same mesh shape sites from to = record {
-  mesh = mesh;
-  shape = shape;
-  sites = subst (λ (x : State V D U F). All IsSite (map at x.vertices)) (sym same) sites;
-  from = from;
-  to = to;
+-- a segment over the mesh of a triangulation, without tests
+pub over_kept : {V D U F : Type 0} {at : V → Point} (c : Contents V D U F) (p q : Point)
+    → IsTriangulated at (state_of c) → IsOverMesh at (λ _. Unit {0}) (λ _. Unit {0}) c p q
+over_kept c p q kept = record {
+  mesh = record { valid = kept.valid; fits = kept.fits };
+  shape = kept.shape;
+  sites = λ i x e. tt;
+  from = tt;
+  to = tt;
 }
+
+-- a segment over the mesh of a line over a mesh with the same state
+pub over_line : {V D U F : Type 0} {at : V → Point} {IsSite IsCovered Site Covered : Point → Type 0}
+    {d : Contents V D U F} {p q u v : Point} (c : Contents V D U F)
+    → IsOverMesh at Site Covered d u v
+    → state_of d ≡ state_of c → All IsSite (map at c.vertices) → IsCovered p → IsCovered q
+    → IsOverMesh at IsSite IsCovered d p q
+over_line {V = V} {D = D} {U = U} {F = F} {at = at} {IsSite = IsSite} c over same sites from to =
+    record {
+      mesh = over.mesh;
+      shape = over.shape;
+      sites = subst (λ (x : State V D U F). All IsSite (map at x.vertices)) (sym same) sites;
+      from = from;
+      to = to;
+    }
 
 -- what holds of a state holds of the same state
 pub of_state : {X : Type 0} (P : X → Type 0) (x y : X) → x ≡ y → P y → P x

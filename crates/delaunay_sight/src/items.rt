@@ -1,22 +1,20 @@
 //! Whether a segment passes free faces at what it meets.
-ghost use Rattle.std.specs.Prelude.{◌≡◌, ◌↔◌, ◌<◌, List, length, map, IsTrue};
+ghost use Rattle.std.specs.Prelude.{◌≡◌, ◌≢◌, ◌↔◌, ◌<◌, List, length, IsTrue};
 ghost use Rattle.delaunay_lines.specs.half_edge_mesh.Mesh.{origin, rev};
-ghost use Rattle.delaunay_lines.specs.plane.Fraction.{whole as fraction};
 ghost use Rattle.delaunay_lines.specs.plane.Line.{Item, across, along};
-ghost use Rattle.delaunay_lines.specs.plane.Pairs.{place};
-ghost use Rattle.delaunay_lines.specs.plane.Side.{side, on};
-ghost use Rattle.delaunay_lines.specs.delaunay_core.Place.{place_of};
+ghost use Rattle.delaunay_lines.specs.plane.Side.{on};
 ghost use Rattle.delaunay_lines.specs.Items.{item_in, mesh_of};
 ghost use Rattle.delaunay_lines.specs.Walk.{AreLeft, IsReady};
-ghost use Rattle.delaunay_sight.specs.Beside.{IsFreeUnlessOn};
+ghost use Rattle.delaunay_sight.specs.Beside.{IsFreeBeside};
 ghost use Rattle.delaunay_sight.specs.Passing.{Passes, PassesEach};
 
 use crate::edges::{is_free_along, is_free_beside};
 use crate::free_faces::FreeFaces;
+use delaunay_lines::delaunay_core::line_side_info::LineSideInfo;
 use delaunay_lines::delaunay_core::math::PlaneTests;
 use delaunay_lines::delaunay_core::point::{HasPosition, Point2};
 use delaunay_lines::half_edge_mesh::{Dcel, DirectedEdgeHandle, FixedDirectedEdgeHandle};
-use delaunay_lines::{Intersection, LineIntersectionIterator, side_of_edge, twin_of};
+use delaunay_lines::{Intersection, LineIntersectionIterator, Segment, twin_of};
 use std::marker::Model;
 
 /// A segment over the mesh of a triangulation with free faces, and tests that cover its ends and
@@ -59,28 +57,14 @@ impl<'a, V: HasPosition, DE, UE, F, G: FreeFaces, P: PlaneTests<V::Scalar>> Sigh
     G,
     P,
 > {
-    // Whether a position is on the line of an edge.
-    fn is_on_line(&self, edge: FixedDirectedEdgeHandle, point: Point2<V::Scalar>) -> bool
-        requires within { edge < length self.now.dcel.directed }
-        requires covered { P.covered self.now.tests (place_of V.Scalar.whole point) }
-        ensures { let points = map V.place self.now.dcel.vertices in let m = self.now.dcel.mesh in
-            IsTrue result ↔ (side (place points (origin m edge))
-            (place points (origin m (rev edge))) (fraction (place_of V.Scalar.whole point)) ≡ on) }
+    // Whether the face on the left of an edge is free, or else a position, which is seen on this
+    // side along the edge, is on its line.
+    fn is_free_unless_on(&self, edge: FixedDirectedEdgeHandle, side: LineSideInfo) -> bool
+        requires { edge < length self.now.dcel.directed }
+        ensures { IsTrue result ↔
+            (side ≢ on → IsFreeBeside self.now.dcel.mesh (G.free self.now.free) edge) }
     {
-        side_of_edge(self.dcel, edge, point, self.tests).is_on_line()
-    }
-
-    // Whether a position is on the line of an edge, or the face on the edge's left is free.
-    fn is_free_unless_on(&self, edge: FixedDirectedEdgeHandle, point: Point2<V::Scalar>) -> bool
-        requires within { edge < length self.now.dcel.directed }
-        requires covered { P.covered self.now.tests (place_of V.Scalar.whole point) }
-        ensures { IsTrue result ↔ IsFreeUnlessOn (map V.place self.now.dcel.vertices)
-            self.now.dcel.mesh (G.free self.now.free) (place_of V.Scalar.whole point) edge }
-    {
-        if self.is_on_line(edge, point) {
-            return true;
-        }
-        is_free_beside(self.dcel, edge, self.free)
+        side.is_on_line() || is_free_beside(self.dcel, edge, self.free)
     }
 
     // Whether the faces that the segment has beside an edge that it crosses are free.
@@ -92,7 +76,14 @@ impl<'a, V: HasPosition, DE, UE, F, G: FreeFaces, P: PlaneTests<V::Scalar>> Sigh
     {
         let edge = edge.fix();
         let twin = twin_of(self.dcel, edge);
-        self.is_free_unless_on(twin, self.from) && self.is_free_unless_on(edge, self.to)
+        let segment = Segment {
+            dcel: self.dcel,
+            tests: self.tests,
+            from: self.from,
+            to: self.to,
+        };
+        self.is_free_unless_on(twin, segment.side_of_from(twin))
+            && self.is_free_unless_on(edge, segment.side_of_to(edge))
     }
 
     // Whether one of the faces beside an edge that it runs along is.

@@ -29,7 +29,6 @@ pub(crate) fn is_in_free<V: HasPosition, DE, UE, F, G: FreeFaces, P: PlaneTests<
     ensures { IsTrue result ↔ IsInFree (triangulation_of V.place (state_of dcel.now))
         (by_place (G.free free.now)) (fraction (place_of V.Scalar.whole point)) }
 {
-    dcel.recall_invariant();
     match locate_with_hint(dcel, point, hint, tests) {
         PositionInTriangulation::OnVertex(vertex) => is_free_round(dcel, vertex, free),
         PositionInTriangulation::OnEdge(edge) => is_free_along(dcel, edge, free),

@@ -65,7 +65,6 @@ fn sees<V: HasPosition, DE, UE, F, G: FreeFaces, P: PlaneTests<V::Scalar>>(
         (by_place (G.free free.now)) (fraction (place_of V.Scalar.whole from))
         (fraction (place_of V.Scalar.whole to)) }
 {
-    dcel.recall_invariant();
     if !is_in_free(dcel, to, hints.1, free, tests) {
         return false;
     }

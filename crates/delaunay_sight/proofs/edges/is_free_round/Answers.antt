@@ -5,16 +5,13 @@ use Rattle.delaunay_lines.proofs.delaunay_legalization_lemmas.Rounds.{round_begi
 use Rattle.delaunay_lines.proofs.delaunay_legalization_lemmas.Rounds.{next_starts, round_goes_on}
 use Rattle.delaunay_lines.proofs.delaunay_legalization_lemmas.Rounds.{round_ends}
 use Rattle.delaunay_lines.proofs.delaunay_legalization_lemmas.Questions.{both_ways}
-use Rattle.delaunay_sight.specs.Beside.{IsFreeBeside}
 use Rattle.delaunay_sight.proofs.edges.is_free_round.Goals as goal
 
 pub loop-edge-init : goal.loop-edge-init
 loop-edge-init g c =
     let d = c.vertex.result.dcel in
-    round_begins c.args.dcel.now c.args.vertex
-    (λ (h : ℕ). ¬ IsFreeBeside c.args.dcel.now.mesh (g.G.FreeFaces.free c.args.free.now) h) d
-    (out_edges_left c.into_iter-edge-iterator.result) (ap (λ x. x.now) c.vertex.ensures.dcel)
-    c.recall_invariant.ensures.whole.valid
+    round_begins c.args.dcel.now c.args.vertex _ d (out_edges_left c.into_iter-edge-iterator.result)
+    (ap (λ x. x.now) c.vertex.ensures.dcel) c.recall_invariant.ensures.whole.valid
     (subst (λ it. GivesRound d c.args.vertex (out_edges_left it))
     (sym c.into_iter-edge-iterator.ensures.into_iter_gives)
     (subst (λ (v : ℕ). GivesRound d v (out_edges_left c.out_edges-edge-items.result))
@@ -23,47 +20,28 @@ loop-edge-init g c =
 
 pub is_free_beside-requires : goal.is_free_beside-requires
 is_free_beside-requires g c =
-    let w = next_within c.args.dcel.now c.args.vertex _
-    (out_edges_left c.loop-edge.edge-iterator)
-    c.loop-edge.invariant (c.in-Some.edge.dcel, c.in-Some.edge.index)
-    (out_edges_left c.next.new.self)
-    c.in-Some.ensures.steps in
+    let w = next_within _ _ _ _ c.loop-edge.invariant _ _ c.in-Some.ensures.steps in
     let fit = c.recall_invariant.ensures.whole.fits.directed_fit in
     let is = c.fix-edge.ensures.value in
     omega (arith, w, fit, is)
 
 pub loop-edge-preserved : goal.loop-edge-preserved
 loop-edge-preserved g c =
-    round_goes_on c.args.dcel.now c.args.vertex _
-    (out_edges_left c.loop-edge.edge-iterator)
-    c.loop-edge.invariant (c.in-Some.edge.dcel, c.in-Some.edge.index)
-    (out_edges_left c.next.new.self)
-    c.in-Some.ensures.steps
-    (λ x. both_ways _ (c.is_free_beside.ensures.1
-    (subst (λ (h : ℕ). IsFreeBeside c.args.dcel.now.mesh (g.G.FreeFaces.free c.args.free.now) h)
-    (sym c.fix-edge.ensures.value) x)) c.if-is_free_beside.false)
+    round_goes_on _ _ _ _ c.loop-edge.invariant _ _ c.in-Some.ensures.steps (λ x. both_ways _
+    (c.is_free_beside.ensures.1 (rw c.fix-edge.ensures.value x)) c.if-is_free_beside.false)
 
 pub returns : goal.returns
 returns g c = (
   (λ t. absurd (both_ways _ t refl)),
-  (λ r. absurd (round_ends c.args.dcel.now c.args.vertex _
-      (out_edges_left c.loop-edge.edge-iterator)
-      c.loop-edge.invariant c.in-None.ensures.steps.0 r.0 r.1 r.2 r.3)),
+  (λ r. absurd (round_ends _ _ _ _ c.loop-edge.invariant c.in-None.ensures.steps.0 r.0 r.1 r.2
+      r.3)),
 )
 
 pub returns-then-is_free_beside : goal.returns-then-is_free_beside
 returns-then-is_free_beside g c =
     let m = c.args.dcel.now.mesh in
-    let o = next_starts c.args.dcel.now c.args.vertex _
-    (out_edges_left c.loop-edge.edge-iterator)
-    c.loop-edge.invariant (c.in-Some.edge.dcel, c.in-Some.edge.index)
-    (out_edges_left c.next.new.self)
-    c.in-Some.ensures.steps in
-    let w = next_within c.args.dcel.now c.args.vertex _
-    (out_edges_left c.loop-edge.edge-iterator)
-    c.loop-edge.invariant (c.in-Some.edge.dcel, c.in-Some.edge.index)
-    (out_edges_left c.next.new.self)
-    c.in-Some.ensures.steps in
+    let o = next_starts _ _ _ _ c.loop-edge.invariant _ _ c.in-Some.ensures.steps in
+    let w = next_within _ _ _ _ c.loop-edge.invariant _ _ c.in-Some.ensures.steps in
     let is = c.fix-edge.ensures.value in (
       (λ t. (
         c.fix-edge.result,

@@ -7,12 +7,9 @@ use Rattle.delaunay_sight.proofs.sight.goes_free.Goals as goal
 
 pub invariant_of-sight : goal.invariant_of-sight
 invariant_of-sight g c =
-    let line = c.line_between-line.ensures.line in
-    let ready = c.line_between-line.ensures.ready in
-    over_line g.V.HasPosition.place _ _ c.args.dcel.now c.line_between-line.result.dcel.now
-    (place_of g.V.Scalar.SpadeNum.whole c.args.from) (place_of g.V.Scalar.SpadeNum.whole c.args.to)
-    line.state ready.over.mesh ready.over.shape c.requires.sites c.requires.from_covered
-    c.requires.to_covered
+    let line = c.line_between-line.ensures in
+    over_line c.args.dcel.now line.ready.over line.line.state c.requires.sites
+    c.requires.from_covered c.requires.to_covered
 
 pub returns : goal.returns
 returns g c =

@@ -3,7 +3,7 @@ use Rattle.delaunay_lines.specs.delaunay_core.Place.{place_of}
 use Rattle.delaunay_lines.specs.delaunay_legalization.State.{state_of, triangulation_of}
 use Rattle.delaunay_lines.proofs.delaunay_legalization_lemmas.Questions.{both_ways}
 use Rattle.delaunay_sight.specs.Beside.{by_place}
-use Rattle.delaunay_sight.proofs.Decided.{sees_if, sees_end}
+use Rattle.delaunay_sight.proofs.Decided.{over_kept, sees_if, sees_end}
 use Rattle.delaunay_sight.proofs.sight.sees.Goals as goal
 
 pub returns-then-not-is_in_free : goal.returns-then-not-is_in_free
@@ -17,14 +17,8 @@ returns-then-not-is_in_free g c = (
 )
 
 pub returns : goal.returns
-returns g c = sees_if g.V.HasPosition.place (g.P.PlaneTests.sites c.args.tests.now)
-    (g.P.PlaneTests.covered c.args.tests.now) c.args.dcel.now
-    (place_of g.V.Scalar.SpadeNum.whole c.args.from) (place_of g.V.Scalar.SpadeNum.whole c.args.to)
-    (record {
-      mesh = c.recall_invariant.ensures.whole;
-      shape = c.requires.kept.shape;
-      sites = c.requires.sites;
-      from = c.requires.from_covered;
-      to = c.requires.to_covered;
-    }) (g.G.FreeFaces.free c.args.free.now) c.requires.start
-    (c.is_in_free.ensures.0 c.if-not-is_in_free.false) c.goes_free.result c.goes_free.ensures
+returns g c =
+    let at = place_of g.V.Scalar.SpadeNum.whole in
+    sees_if (over_kept c.args.dcel.now (at c.args.from) (at c.args.to) c.requires.kept)
+    (g.G.FreeFaces.free c.args.free.now) c.requires.start
+    (c.is_in_free.ensures.0 c.if-not-is_in_free.false) _ c.goes_free.ensures

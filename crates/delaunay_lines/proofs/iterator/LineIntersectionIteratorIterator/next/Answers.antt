@@ -4,24 +4,14 @@ use Rattle.delaunay_lines.proofs.iterator.LineIntersectionIteratorIterator.next.
 
 pub returns-clause-steps : goal.returns-clause-steps
 returns-clause-steps g c =
-    gives_some g.V.HasPosition.place g.V.Scalar.SpadeNum.whole g.P.PlaneTests.sites
-    g.P.PlaneTests.covered
-    c.args.self.now c.requires c.in_ok-item.item c.in_ok-item.was c.after-self.result
-    c.after-self.ensures.alone
-    c.after-self.ensures.next
-    c.intersection_in-found.result c.intersection_in-found.ensures.item
-    c.intersection_in-found.ensures.mesh
+    gives_some c.requires c.in_ok-item.was c.after-self.ensures.alone c.after-self.ensures.next
+    c.intersection_in-found.ensures.item c.intersection_in-found.ensures.mesh
 
 pub returns-clause-goes : goal.returns-clause-goes
 returns-clause-goes g c =
-    let ready = ready_after g.V.HasPosition.place g.V.Scalar.SpadeNum.whole g.P.PlaneTests.sites
-    g.P.PlaneTests.covered
-    c.args.self.now c.requires c.in_ok-item.item c.in_ok-item.was c.after-self.result
-    c.after-self.ensures.alone
+    let ready = ready_after c.requires c.in_ok-item.was c.after-self.ensures.alone
     c.after-self.ensures.next in
-    let more = counts_more g.V.HasPosition.place g.V.Scalar.SpadeNum.whole g.P.PlaneTests.sites
-    g.P.PlaneTests.covered
-    c.args.self.now c.requires c.in_ok-item.item c.in_ok-item.was in
+    let more = counts_more c.requires c.in_ok-item.was in
     record {
       on = λ f. (ready, f, omega (arith, more));
       keeps = ready;

@@ -14,16 +14,16 @@ pub returns-then-has_within : goal.returns-then-has_within
 returns-then-has_within g c =
     let here = rw (← c.self.view_is) at c.requires in
     let is = rw (c.way_along.ensures, ← c.self.view_is) at c.has_within.ensures in
-    rw (← c.self.view_is) (last_within_overlap _ _ _ _ _ _ c.self.invariant here.apart c.args.edge
-    here.met (is.0 c.if-has_within.true))
+    rw (← c.self.view_is) (last_within_overlap c.self.invariant here.apart c.args.edge here.met
+    (is.0 c.if-has_within.true))
 
 pub returns : goal.returns
 returns g c =
     let here = rw (← c.self.view_is) at c.requires in
     let is = rw (c.way_along.ensures, ← c.self.view_is) at c.has_within.ensures in
-    let item = rw (← c.self.view_is, c.twin_of-twin.ensures.value) at c.start_item.ensures in
-    rw (← c.self.view_is, item.item) (
-      item.within,
-      end_of_overlap _ _ _ _ _ _ c.self.invariant here.apart c.args.edge here.met
+    let value = c.start_vertex.ensures.value in
+    rw (value, c.twin_of-twin.ensures.value, ← c.self.view_is) (
+      rw (value, c.twin_of-twin.ensures.value, ← c.self.view_is) at c.start_vertex.ensures.within,
+      end_of_overlap c.self.invariant here.apart c.args.edge here.met
           (λ x. both_ways _ (is.1 x) c.if-has_within.false),
     )

@@ -11,8 +11,8 @@ pub returns-then-is_same_point : goal.returns-then-is_same_point
 returns-then-is_same_point g c =
     let here = rw (← c.self.view_is) at c.requires in
     let at = point_at (map g.V.HasPosition.place c.self.inside.dcel.now.vertices) c.args.vertex in
-    rw (← c.self.view_is) (last_at_end _ _ _ _ _ _ c.self.invariant here.apart c.args.vertex
-    here.met (subst (λ (z : Point). IsSame (whole at) (whole z))
+    rw (← c.self.view_is) (last_at_end c.self.invariant here.apart c.args.vertex here.met
+    (subst (λ (z : Point). IsSame (whole at) (whole z))
     (sym c.position_of.ensures.place ∙ c.is_same_point.ensures.0 c.if-is_same_point.true)
     (same-refl (whole at))))
 
@@ -33,7 +33,7 @@ returns-then-is_edge_ahead g c =
     let ahead = rw (← c.self.view_is) at c.is_edge_ahead.ensures in
     rw (← c.self.view_is, ← edge.1) (
       edge.0,
-      along_ahead _ _ _ _ _ _ c.self.invariant here.apart c.in-Some.edge edge.0
+      along_ahead c.self.invariant here.apart c.in-Some.edge edge.0
           (rw (← edge.1) at here.met)
           (not_same _ _ (rw edge.1 (λ e. both_ways _
           (c.is_same_point.ensures.1 (c.position_of.ensures.place ∙ e)) c.if-is_same_point.false)))
@@ -49,18 +49,18 @@ returns-else-is_edge_ahead g c =
     let here = rw (← c.self.view_is) at c.requires in
     let edge = rw (← c.self.view_is) at c.in-Some.ensures in
     let ahead = rw (← c.self.view_is) at c.is_edge_ahead.ensures in
-    rw (← c.self.view_is, ← edge.1) (into_face _ _ _ _ _ _ c.self.invariant here.apart
+    rw (← c.self.view_is, ← edge.1) (into_face c.self.invariant here.apart
     c.in-Some.edge edge.0 (rw (← edge.1) at here.met)
     (not_same _ _ (rw edge.1 (λ e. both_ways _
     (c.is_same_point.ensures.1 (c.position_of.ensures.place ∙ e)) c.if-is_same_point.false)))
     (into edge.2 (λ x. both_ways _ (ahead.1 x) c.if-is_edge_ahead.false))
-    c.leave_by.result
+    _
     (rw (← c.self.view_is, c.edge_after.ensures.value) at c.leave_by.ensures))
 
 pub returns-in-None : goal.returns-in-None
 returns-in-None g c =
     let here = rw (← c.self.view_is) at c.requires in
-    rw (← c.self.view_is) (last_if_none_leads _ _ _ _ _ _ c.self.invariant here.apart c.args.vertex
+    rw (← c.self.view_is) (last_if_none_leads c.self.invariant here.apart c.args.vertex
     here.met (not_same _ _ (λ e. both_ways _
     (c.is_same_point.ensures.1 (c.position_of.ensures.place ∙ e)) c.if-is_same_point.false))
     (rw (← c.self.view_is) at c.in-None.ensures))

@@ -1,4 +1,4 @@
-use Rattle.std.proofs.Common.{ℕ, ◌<◌, map, sym, ap, subst, ◌∙◌, arith}
+use Rattle.std.proofs.Common.{ℕ, map, sym, ap, subst, ◌∙◌, arith}
 use Rattle.delaunay_location.specs.half_edge_mesh.Mesh.{origin}
 use Rattle.delaunay_location.specs.half_edge_mesh.Rounds.{GivesRound, out_edges_left}
 use Rattle.delaunay_location.specs.delaunay_legalization.Known.{point_at}
@@ -6,6 +6,7 @@ use Rattle.delaunay_location.proofs.delaunay_legalization_lemmas.Questions.{both
 use Rattle.delaunay_location.proofs.delaunay_legalization_lemmas.Rounds.{round_begins, next_within}
 use Rattle.delaunay_location.proofs.delaunay_legalization_lemmas.Rounds.{next_starts, round_goes_on}
 use Rattle.delaunay_location.proofs.delaunay_legalization_lemmas.Rounds.{round_ends}
+use Rattle.delaunay_lines.proofs.MeshSteps.{over_value}
 use Rattle.delaunay_lines.proofs.segment.Segment.edge_towards.Goals as goal
 
 pub loop-edge-init : goal.loop-edge-init
@@ -17,62 +18,38 @@ loop-edge-init g c =
     (subst (λ it. GivesRound d c.args.vertex (out_edges_left it))
     (sym c.into_iter-edge-iterator.ensures.into_iter_gives)
     (subst (λ (v : ℕ). GivesRound d v (out_edges_left c.out_edges-edge-items.result))
-    c.vertex.ensures.index
-    c.out_edges-edge-items.ensures)))
+    c.vertex.ensures.index c.out_edges-edge-items.ensures)))
 
 pub leads_to-requires-clause-within : goal.leads_to-requires-clause-within
 leads_to-requires-clause-within g c =
-    let w = next_within c.self.inside.dcel.now c.args.vertex _
-    (out_edges_left c.loop-edge.edge-iterator)
-    (rw (← c.self.view_is) at c.loop-edge.invariant) (c.in-Some.edge.dcel, c.in-Some.edge.index)
-    (out_edges_left c.next.new.self)
-    c.in-Some.ensures.steps in
-    let fit = c.self.invariant.mesh.fits.directed_fit in
-    let is = c.fix-edge.ensures.value in
-    rw (← c.self.view_is) (omega (arith, w, fit, is))
+    let w = next_within _ _ _ _ c.loop-edge.invariant _ _ c.in-Some.ensures.steps in
+    let fit = (over_value c.self.view_is c.self.invariant).mesh.fits.directed_fit in
+    let is = c.fix-edge.ensures.value in omega (arith, w, fit, is)
 
 pub leads_to-requires-clause-starts_apart : goal.leads_to-requires-clause-starts_apart
 leads_to-requires-clause-starts_apart g c =
     let d = c.args.self.now.dcel in
-    let o = next_starts d c.args.vertex _ (out_edges_left c.loop-edge.edge-iterator)
-    c.loop-edge.invariant (c.in-Some.edge.dcel, c.in-Some.edge.index)
-    (out_edges_left c.next.new.self)
-    c.in-Some.ensures.steps in
+    let o = next_starts _ _ _ _ c.loop-edge.invariant _ _ c.in-Some.ensures.steps in
     λ e. c.requires.apart (ap (point_at (map g.V.HasPosition.place d.vertices))
     (sym (ap (origin d.mesh) c.fix-edge.ensures.value ∙ o)) ∙ e)
 
 pub loop-edge-preserved : goal.loop-edge-preserved
 loop-edge-preserved g c =
-    round_goes_on c.args.self.now.dcel c.args.vertex _
-    (out_edges_left c.loop-edge.edge-iterator)
-    c.loop-edge.invariant (c.in-Some.edge.dcel, c.in-Some.edge.index)
-    (out_edges_left c.next.new.self)
-    c.in-Some.ensures.steps
+    round_goes_on _ _ _ _ c.loop-edge.invariant _ _ c.in-Some.ensures.steps
     (λ x. both_ways _ (c.leads_to.ensures.1 (rw c.fix-edge.ensures.value x)) c.if-leads_to.false)
 
 pub returns : goal.returns
-returns g c = rw (← c.self.view_is)
-    (λ h within starts. round_ends c.self.inside.dcel.now c.args.vertex _
-    (out_edges_left c.loop-edge.edge-iterator)
-    (rw (← c.self.view_is) at c.loop-edge.invariant) c.in-None.ensures.steps.0 h
-    (subst (λ (n : ℕ). h < n) c.self.invariant.mesh.fits.directed_fit within) starts)
+returns g c h within starts =
+    round_ends _ _ _ _ c.loop-edge.invariant c.in-None.ensures.steps.0 h
+    (rw (over_value c.self.view_is c.self.invariant).mesh.fits.directed_fit at within) starts
 
 pub returns-then-leads_to : goal.returns-then-leads_to
 returns-then-leads_to g c =
-    let m = c.self.inside.dcel.now.mesh in
-    let o = next_starts c.self.inside.dcel.now c.args.vertex _
-    (out_edges_left c.loop-edge.edge-iterator)
-    (rw (← c.self.view_is) at c.loop-edge.invariant) (c.in-Some.edge.dcel, c.in-Some.edge.index)
-    (out_edges_left c.next.new.self)
-    c.in-Some.ensures.steps in
-    let w = next_within c.self.inside.dcel.now c.args.vertex _
-    (out_edges_left c.loop-edge.edge-iterator)
-    (rw (← c.self.view_is) at c.loop-edge.invariant) (c.in-Some.edge.dcel, c.in-Some.edge.index)
-    (out_edges_left c.next.new.self)
-    c.in-Some.ensures.steps in
-    let fit = c.self.invariant.mesh.fits.directed_fit in
+    let o = next_starts _ _ _ _ c.loop-edge.invariant _ _ c.in-Some.ensures.steps in
+    let w = next_within _ _ _ _ c.loop-edge.invariant _ _ c.in-Some.ensures.steps in
+    let fit = (over_value c.self.view_is c.self.invariant).mesh.fits.directed_fit in
     let is = c.fix-edge.ensures.value in (
-      rw (← c.self.view_is) (omega (arith, w, fit, is)),
-      rw (← c.self.view_is) (ap (origin m) is ∙ o),
+      omega (arith, w, fit, is),
+      ap (origin c.args.self.now.dcel.mesh) is ∙ o,
       c.leads_to.ensures.0 c.if-leads_to.true,
     )

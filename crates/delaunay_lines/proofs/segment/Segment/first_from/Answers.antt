@@ -1,15 +1,38 @@
-use Rattle.std.proofs.Common.{sym, arith}
+use Rattle.std.proofs.Common.{Some, sym, arith}
 use Rattle.delaunay_lines.proofs.Advance.{starts_at_vertex}
-use Rattle.delaunay_lines.proofs.Located.{inside_that_face, on_that_vertex}
+use Rattle.delaunay_lines.proofs.FirstItems.{alone_on_edge}
+use Rattle.delaunay_lines.proofs.Located.{inside_that_face, on_that_vertex, outside_that_edge}
 use Rattle.delaunay_lines.proofs.Located.{without_triangulation}
+use Rattle.delaunay_lines.proofs.MeshSteps.{of_mesh, over_value}
+use Rattle.delaunay_lines.proofs.OutlineWalk.{seen_from}
+use Rattle.delaunay_lines.proofs.OutsideItems.{alone_elsewhere}
+use Rattle.delaunay_lines.proofs.PastEnd.{past_if_unseen}
 use Rattle.delaunay_lines.proofs.segment.Segment.first_from.Goals as goal
 
 pub returns-in-OnVertex : goal.returns-in-OnVertex
 returns-in-OnVertex g c =
-    let located = rw (← c.self.view_is, c.in-OnVertex.is) at c.requires in
-    let here = on_that_vertex _ _ _ _ _ _ c.self.invariant c.in-OnVertex.vertex located in
-    rw (← c.self.view_is) (starts_at_vertex _ _ _ _ _ _ c.self.invariant c.in-OnVertex.vertex here.0
-    (sym here.1))
+    let over = over_value c.self.view_is c.self.invariant in
+    let here = on_that_vertex over c.in-OnVertex.vertex (rw c.in-OnVertex.is at c.requires) in
+    starts_at_vertex over c.in-OnVertex.vertex here.0 (sym here.1)
+
+pub returns-in-OnEdge : goal.returns-in-OnEdge
+returns-in-OnEdge g c =
+    let over = over_value c.self.view_is c.self.invariant in
+    let here = rw c.in-OnEdge.is at c.requires in
+    alone_on_edge over c.in-OnEdge.edge (of_mesh over _ here.handle) here.location.1
+    (c.is_point.ensures.0 c.if-is_point.true)
+
+pub returns-in_default : goal.returns-in_default
+returns-in_default g c =
+    alone_elsewhere (over_value c.self.view_is c.self.invariant) _ c.requires
+    c.in_default.not-OnVertex c.in_default.not-OnEdge (c.is_point.ensures.0 c.if-is_point.true)
+
+pub returns-in-OnVertex-start : goal.returns-in-OnVertex-start
+returns-in-OnVertex-start g c =
+    let over = over_value c.self.view_is c.self.invariant in
+    let vertex = c.in-OnVertex-start.vertex in
+    let here = on_that_vertex over vertex (rw c.in-OnVertex-start.is at c.requires) in
+    starts_at_vertex over vertex here.0 (sym here.1)
 
 pub edge_of-requires-clause-within : goal.edge_of-requires-clause-within
 edge_of-requires-clause-within g c =
@@ -21,12 +44,29 @@ pub first_in_face-requires-clause-start : goal.first_in_face-requires-clause-sta
 first_in_face-requires-clause-start g c =
     let located = rw (← c.self.view_is, c.in-OnFace.is) at c.requires in
     rw (← c.self.view_is, c.edge_of.ensures.value)
-    (inside_that_face _ _ _ _ _ _ c.self.invariant c.in-OnFace.face located)
+    (inside_that_face c.self.invariant c.in-OnFace.face located)
 
-pub first_beyond-requires : goal.first_beyond-requires
-first_beyond-requires g c = rw c.in-OutsideOfConvexHull.is at c.requires
+pub first_along-requires-clause-start : goal.first_along-requires-clause-start
+first_along-requires-clause-start g c =
+    outside_that_edge (over_value c.self.view_is c.self.invariant) c.in-OutsideOfConvexHull.edge
+    (rw c.in-OutsideOfConvexHull.is at c.requires)
 
-pub first_outside-requires : goal.first_outside-requires
-first_outside-requires g c =
-    let located = rw (← c.self.view_is, c.in-NoTriangulation.is) at c.requires in
-    rw (← c.self.view_is) (without_triangulation _ _ _ _ _ _ c.self.invariant located)
+pub first_along-requires-clause-seen : goal.first_along-requires-clause-seen
+first_along-requires-clause-seen g c =
+    seen_from (over_value c.self.view_is c.self.invariant) c.in-OutsideOfConvexHull.edge
+    (rw c.in-OutsideOfConvexHull.is at c.requires) (Some c.in-Some.seen) c.in-Some.ensures
+
+pub first_past-requires-clause-start : goal.first_past-requires-clause-start
+first_past-requires-clause-start g c =
+    outside_that_edge (over_value c.self.view_is c.self.invariant) c.in-OutsideOfConvexHull.edge
+    (rw c.in-OutsideOfConvexHull.is at c.requires)
+
+pub first_past-requires-clause-past : goal.first_past-requires-clause-past
+first_past-requires-clause-past g c =
+    past_if_unseen (over_value c.self.view_is c.self.invariant) c.in-OutsideOfConvexHull.edge
+    (rw c.in-OutsideOfConvexHull.is at c.requires) c.in-None.ensures
+
+pub first_outside-requires-clause-start : goal.first_outside-requires-clause-start
+first_outside-requires-clause-start g c =
+    without_triangulation (over_value c.self.view_is c.self.invariant)
+    (rw c.in-NoTriangulation.is at c.requires)

@@ -3,11 +3,9 @@ use Rattle.delaunay_location.proofs.delaunay_legalization_lemmas.Questions.{both
 use Rattle.delaunay_lines.proofs.segment.Segment.if_seen.Goals as goal
 
 pub returns-then-is_on_left_side : goal.returns-then-is_on_left_side
-returns-then-is_on_left_side g c = rw (← c.self.view_is) (
-  refl,
-  sym c.side_of_edge.ensures ∙ c.is_on_left_side.ensures.0 c.if-is_on_left_side.true,
-)
+returns-then-is_on_left_side g c =
+    (refl, sym c.side_of_from.ensures ∙ c.is_on_left_side.ensures.0 c.if-is_on_left_side.true)
 
 pub returns : goal.returns
-returns g c = rw (← c.self.view_is) (λ l. both_ways _
-    (c.is_on_left_side.ensures.1 (c.side_of_edge.ensures ∙ l)) c.if-is_on_left_side.false)
+returns g c = λ l. both_ways _ (c.is_on_left_side.ensures.1 (c.side_of_from.ensures ∙ l))
+    c.if-is_on_left_side.false

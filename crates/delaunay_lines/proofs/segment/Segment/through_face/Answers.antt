@@ -6,24 +6,21 @@ use Rattle.delaunay_lines.proofs.segment.Segment.through_face.Goals as goal
 pub returns-then-is_on_right_side : goal.returns-then-is_on_right_side
 returns-then-is_on_right_side g c =
     let here = rw (← c.self.view_is) at c.requires.at in
-    let corner = rw (← c.self.view_is, c.edge_before-prev.ensures.value) at
-    c.side_of_start-corner.ensures in
-    rw (← c.self.view_is) (through_right _ _ _ _ _ _ c.self.invariant here.apart c.args.edge
-    here.within
+    let before = c.edge_before-prev.ensures.value in
+    let corner = rw (← c.self.view_is, before) at c.side_of_start-corner.ensures in
+    rw (← c.self.view_is) (through_right c.self.invariant here.apart c.args.edge here.within
     here.met (rw (← c.self.view_is) at c.requires.inner)
-    (sym corner ∙ c.is_on_right_side.ensures.0 c.if-is_on_right_side.true) c.leave_by.result
-    (rw (← c.self.view_is, c.edge_before-prev.ensures.value) at c.leave_by.ensures))
+    (sym corner ∙ c.is_on_right_side.ensures.0 c.if-is_on_right_side.true) _
+    (rw (← c.self.view_is, before) at c.leave_by.ensures))
 
 pub returns-then-is_on_left_side : goal.returns-then-is_on_left_side
 returns-then-is_on_left_side g c =
     let here = rw (← c.self.view_is) at c.requires.at in
     let corner = rw (← c.self.view_is, c.edge_before-prev.ensures.value) at
     c.side_of_start-corner.ensures in
-    rw (← c.self.view_is) (through_left _ _ _ _ _ _ c.self.invariant here.apart c.args.edge
-    here.within
+    rw (← c.self.view_is) (through_left c.self.invariant here.apart c.args.edge here.within
     here.met (rw (← c.self.view_is) at c.requires.inner)
-    (sym corner ∙ c.is_on_left_side.ensures.0 c.if-is_on_left_side.true)
-    c.leave_by-then-is_on_left_side.result
+    (sym corner ∙ c.is_on_left_side.ensures.0 c.if-is_on_left_side.true) _
     (rw (← c.self.view_is, c.edge_after-next.ensures.value) at
     c.leave_by-then-is_on_left_side.ensures))
 
@@ -33,8 +30,7 @@ returns-then-ends_left_of g c =
     let corner = rw (← c.self.view_is, c.edge_before-prev.ensures.value) at
     c.side_of_start-corner.ensures in
     let ends = rw (← c.self.view_is, c.edge_after-next.ensures.value) at c.ends_left_of.ensures in
-    rw (← c.self.view_is) (ends_inside _ _ _ _ _ _ c.self.invariant here.apart c.args.edge
-    here.within
+    rw (← c.self.view_is) (ends_inside c.self.invariant here.apart c.args.edge here.within
     here.met (rw (← c.self.view_is) at c.requires.inner)
     (λ e. both_ways _ (c.is_on_right_side.ensures.1 (corner ∙ e)) c.if-is_on_right_side.false)
     (ends.0 c.if-ends_left_of.true))
@@ -42,17 +38,15 @@ returns-then-ends_left_of g c =
 pub returns : goal.returns
 returns g c =
     let here = rw (← c.self.view_is) at c.requires.at in
-    let corner = rw (← c.self.view_is, c.edge_before-prev.ensures.value) at
-    c.side_of_start-corner.ensures in
+    let before = c.edge_before-prev.ensures.value in
+    let corner = rw (← c.self.view_is, before) at c.side_of_start-corner.ensures in
     let ends = rw (← c.self.view_is, c.edge_after-next.ensures.value) at c.ends_left_of.ensures in
-    let within = rw (← c.self.view_is, c.edge_before-prev.ensures.value) at
-    c.start_item.ensures.within in
-    let is = rw (← c.self.view_is, c.edge_before-prev.ensures.value) at c.start_item.ensures.item in
-    rw (← c.self.view_is, is) (
-      within,
-      (at_corner _ _ _ _ _ _ c.self.invariant here.apart c.args.edge here.within here.met
+    let vertex = rw (← c.self.view_is, before) at c.start_vertex.ensures in
+    rw (← c.self.view_is, vertex.value) (
+      rw vertex.value at vertex.within,
+      at_corner c.self.invariant here.apart c.args.edge here.within here.met
           (rw (← c.self.view_is) at c.requires.inner)
           (λ e. both_ways _ (c.is_on_right_side.ensures.1 (corner ∙ e)) c.if-is_on_right_side.false)
           (λ e. both_ways _ (c.is_on_left_side.ensures.1 (corner ∙ e)) c.if-is_on_left_side.false)
-          (λ x. both_ways _ (ends.1 x) c.if-ends_left_of.false)),
+          (λ x. both_ways _ (ends.1 x) c.if-ends_left_of.false),
     )

@@ -1,48 +1,28 @@
 use Rattle.std.proofs.Common.{◌∙◌, ap, refl}
 use Rattle.delaunay_lines.proofs.delaunay_legalization_lemmas.Questions.{both_ways}
-use Rattle.delaunay_sight.specs.Passing.{Passes}
 use Rattle.delaunay_sight.proofs.Walks.{walking_begins, walking_goes_on, item_mesh}
 use Rattle.delaunay_sight.proofs.Walks.{stops_at, walking_ends}
 use Rattle.delaunay_sight.proofs.items.Sight.passes_each.Goals as goal
 
 pub loop-item-init : goal.loop-item-init
-loop-item-init g c = walking_begins g.V.HasPosition.place g.V.Scalar.SpadeNum.whole
-    g.P.PlaneTests.sites g.P.PlaneTests.covered
-    (Passes g.V.HasPosition.place g.G.FreeFaces.free c.args.self.now)
-    c.args.line.now c.requires.ready
+loop-item-init g c = walking_begins c.requires.ready
 
 pub passes-requires : goal.passes-requires
-passes-requires g c = ap (λ d. d.now) (item_mesh g.V.HasPosition.place g.V.Scalar.SpadeNum.whole
-    g.P.PlaneTests.sites g.P.PlaneTests.covered
-    (Passes g.V.HasPosition.place g.G.FreeFaces.free c.args.self.now)
-    c.args.line.now c.loop-item.line c.loop-item.invariant c.in-Some.item c.next.new.self
-    c.in-Some.ensures.steps) ∙ c.requires.mesh
+passes-requires g c =
+    ap (λ d. d.now) (item_mesh c.loop-item.invariant c.in-Some.ensures.steps) ∙ c.requires.mesh
 
 pub loop-item-preserved : goal.loop-item-preserved
-loop-item-preserved g c = walking_goes_on g.V.HasPosition.place g.V.Scalar.SpadeNum.whole
-    g.P.PlaneTests.sites g.P.PlaneTests.covered
-    (Passes g.V.HasPosition.place g.G.FreeFaces.free c.args.self.now)
-    c.args.line.now c.loop-item.line c.loop-item.invariant c.in-Some.item c.next.new.self
-    c.in-Some.ensures.steps c.in-Some.ensures.goes.keeps
+loop-item-preserved g c =
+    walking_goes_on c.loop-item.invariant c.in-Some.ensures.steps c.in-Some.ensures.goes.keeps
     (c.passes.ensures.0 c.if-not-passes.false)
 
 pub returns-then-not-passes : goal.returns-then-not-passes
 returns-then-not-passes g c = λ items left. (
   (λ t. absurd (both_ways _ t refl)),
-  (λ all. absurd (stops_at g.V.HasPosition.place g.V.Scalar.SpadeNum.whole
-      g.P.PlaneTests.sites g.P.PlaneTests.covered
-      (Passes g.V.HasPosition.place g.G.FreeFaces.free c.args.self.now)
-      c.args.line.now c.loop-item.line c.loop-item.invariant c.in-Some.item c.next.new.self
-      c.in-Some.ensures.steps (λ y. both_ways _ (c.passes.ensures.1 y) c.if-not-passes.true)
-      items left all)),
+  (λ all. absurd (stops_at c.loop-item.invariant c.in-Some.ensures.steps
+      (λ y. both_ways _ (c.passes.ensures.1 y) c.if-not-passes.true) items left all)),
 )
 
 pub returns : goal.returns
-returns g c = λ items left. (
-  (λ t. walking_ends g.V.HasPosition.place g.V.Scalar.SpadeNum.whole
-      g.P.PlaneTests.sites g.P.PlaneTests.covered
-      (Passes g.V.HasPosition.place g.G.FreeFaces.free c.args.self.now)
-      c.args.line.now c.loop-item.line c.loop-item.invariant c.next.new.self
-      c.in_default.ensures.steps items left),
-  (λ all. refl),
-)
+returns g c = λ items left.
+    ((λ t. walking_ends c.loop-item.invariant c.in_default.ensures.steps items left), (λ all. refl))

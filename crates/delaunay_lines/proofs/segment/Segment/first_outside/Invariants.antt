@@ -3,7 +3,7 @@ use Rattle.delaunay_location.specs.half_edge_mesh.Mesh.{rev}
 use Rattle.delaunay_location.specs.half_edge_mesh.Rounds.{hull_left}
 use Rattle.delaunay_location.proofs.mesh_embedding.OutlineGiven.{IsGoingAlong, indexes}
 use Rattle.delaunay_lines.specs.Starts.{IsCrossed}
-use Rattle.delaunay_lines.proofs.segment.Segment.entered_edge.Given as goal
+use Rattle.delaunay_lines.proofs.segment.Segment.first_outside.Given as goal
 
 abbrev pub invariant-loop-outer : goal.invariant-loop-outer
 invariant-loop-outer g l =
