@@ -1,8 +1,8 @@
 -- Pieces of a path that become edges and constraints, one after another.
 -- Notions: AddsPiece, LeavesPiece, IsAddingTo; half_ends, piece_whole, piece_added,
--- adding_to_begins, same, adding_sites, adding_shape, adding_index, adding_at, adding_free,
--- adding_clear, adding_to_goes_on, adding_shortens, adding_to_ends, piece_made, same_are_left,
--- cleared_work, more_is_left, work_fits.
+-- adding_to_begins, piece_made, same, adding_sites, adding_shape, adding_index, adding_at,
+-- adding_free, adding_piece, adding_to_goes_on, adding_shortens, adding_to_ends, adding_leaves,
+-- same_are_left, cleared_work, work_fits.
 use Rattle.std.proofs.Common.{◌≡◌, ◌≢◌, ◌⊎◌, ◌↔◌, ◌*◌, ◌/◌, ◌%◌, ◌<◌, ◌≤◌, [], ◌∙◌}
 use Rattle.std.proofs.Common.{ℕ, List, length, map, set, refl, sym, ap, subst, inl, inr, arith}
 use Rattle.std.specs.Prelude.{Bool, true, false, All, nat_abs}
@@ -48,7 +48,7 @@ use Rattle.delaunay_lines.specs.delaunay_legalization.State.{state_of}
 use Rattle.delaunay_lines.proofs.delaunay_legalization_lemmas.ConstraintEdges.{constraints_are_edges}
 use Rattle.delaunay_lines.proofs.delaunay_legalization_lemmas.MarkedPairs.{pairs_stay}
 use Rattle.delaunay_lines.proofs.delaunay_legalization_lemmas.MarkedPairs.{marking_joins}
-use Rattle.delaunay_paths.specs.Adding.{NoneCrosses, CanAddPath, MarksBetween, MarksSome, AddsPath}
+use Rattle.delaunay_paths.specs.Adding.{NoneCrosses, HasFreeWay, MarksEdge, MarksSome, AddsPath}
 use Rattle.delaunay_paths.specs.Kept.{KeepsUncrossed, KeepsUncrossedFaces}
 use Rattle.delaunay_paths.specs.Leaving.{IsWorkList, LeavesFailing, LeavesToTest, MakesEdge}
 use Rattle.delaunay_paths.proofs.Making.{kept_on, faces_kept_on}
@@ -217,11 +217,11 @@ module _ {U : Type 0} (marks : U → Bool) (constraints : List U → List ℕ)
               (λ (l : ℕ). IsSamePair a b (origin mid.mesh (2 * l)) (origin mid.mesh (rev (2 * l))) ↔
               IsSamePair a b i j) (sym half) (half_ends mid.mesh e i j a b source target)
 
-  -- ---- the loop
   -- the pieces from i to w are added, and those from w to j are to come; what does not cross the
   -- segment from i to j stays
   pub record IsAddingTo {V D F : Type 0} (at : V → Point) (marked_as : U → U)
       (old now : Contents V D U F) (i j w : ℕ) : Type 0 where
+    pub way : HasFreeWay at constraints old i j
     pub contents : now ≡ record old { mesh = now.mesh; undirected = now.undirected }
     pub count : length now.undirected ≡ length old.undirected
     pub marks_some : MarksSome marks marked_as old.undirected now.undirected
@@ -233,221 +233,23 @@ module _ {U : Type 0} (marks : U → Bool) (constraints : List U → List ℕ)
     pub faces_kept : KeepsUncrossedFaces (map at old.vertices) old.mesh now.mesh i j
 
   -- at its start the path has no piece yet
-  pub adding_to_begins : {V D F : Type 0} (at : V → Point) (marked_as : U → U)
-      (old : Contents V D U F) (i j : ℕ) → IsTriangulated at (state_of old)
-      → i < length old.vertices → IsAddingTo at marked_as old old i j i
-  adding_to_begins at marked_as old i j kept within = record {
+  pub adding_to_begins : {V D F : Type 0} {at : V → Point} {marked_as : U → U}
+      {old : Contents V D U F} {i j : ℕ} → IsTriangulated at (state_of old)
+      → HasFreeWay at constraints old i j → IsAddingTo at marked_as old old i j i
+  adding_to_begins {at = at} {marked_as = marked_as} {old = old} {i = i} {j = j} kept way = record {
+    way = way;
     contents = refl;
     count = refl;
     marks_some = marks_none marks marked_as old.undirected;
     whole = record { valid = kept.valid; fits = kept.fits };
     shape = kept.shape;
     path = adding_begins (map at old.vertices) (constraints_by constraints (state_of old)) i j
-        (in_map at old.vertices i within);
+        (in_map at old.vertices i way.from);
     edges_kept = λ h clear. (refl, refl);
     faces_kept = λ f t there first second third. there;
   }
 
-  module _ {V D F : Type 0} (at : V → Point) (marked_as : U → U) (old now : Contents V D U F)
-      (i j w : ℕ) (hi : i < length old.vertices) (hj : j < length old.vertices)
-      (p : IsAddingTo at marked_as old now i j w) where
-    abbrev points : List Point
-    points = map at old.vertices
-
-    -- the vertices are those of before
-    pub same : now.vertices ≡ old.vertices
-    same = ap (λ (c : Contents V D U F). c.vertices) p.contents
-
-    -- so they are sites if they were
-    pub adding_sites : (IsSite : Point → Type 0) → All IsSite (map at old.vertices)
-        → All IsSite (map at now.vertices)
-    adding_sites IsSite sites = subst (λ (vs : List V). All IsSite (map at vs)) (sym same) sites
-
-    -- the mesh is one of all vertices
-    pub adding_shape : IsMesh (map at now.vertices) (faces_of now.mesh) (outer_of now.mesh)
-    adding_shape =
-        subst (λ (vs : List V). IsMesh (map at vs) (faces_of now.mesh) (outer_of now.mesh))
-        (sym same) p.shape
-
-    -- a vertex of before is one now
-    pub adding_index : (k : ℕ) → k < length old.vertices → k < length now.vertices
-    adding_index k h = subst (λ (vs : List V). k < length vs) (sym same) h
-
-    -- the vertex that was reached is one of the vertices
-    pub adding_at : w < length now.vertices
-    adding_at = adding_index w (of_map at old.vertices w p.path.within)
-
-    distinct : ArePlacedApart points
-    distinct = placed_apart points (faces_of now.mesh) (outer_of now.mesh) p.shape
-
-    -- a and b are two vertices
-    abbrev AreTwo : ℕ → ℕ → Type 0
-    AreTwo a b = IsIndex points a × (IsIndex points b × (a ≢ b))
-
-    -- the ends of an edge are two vertices
-    edge_ends : (h a b : ℕ) → h < length now.mesh.half_edges → origin now.mesh h ≡ a
-        → origin now.mesh (rev h) ≡ b → AreTwo a b
-    edge_ends h a b within starts ends = (
-      there a (subst (λ (k : ℕ). k < length now.mesh.out_edges) starts edge.origin_in),
-      (
-        there b (subst (λ (k : ℕ). k < length now.mesh.out_edges) ends twin.origin_in),
-        (λ is. p.whole.valid.apart h within (starts ∙ is ∙ sym ends)),
-      ),
-    )
-      where
-        edge : IsSoundEdge now.mesh h
-        edge = p.whole.valid.sound.edges h within
-
-        twin : IsSoundEdge now.mesh (rev h)
-        twin = p.whole.valid.sound.edges (rev h)
-            (rev_within h (length now.mesh.half_edges) p.whole.valid.sound.even within)
-
-        there : (k : ℕ) → k < length now.mesh.out_edges → IsIndex points k
-        there k l = in_map at old.vertices k (subst (λ (vs : List V). k < length vs) same
-            (subst (λ (n : ℕ). k < n) (sym p.whole.fits.vertices_fit) l))
-
-    -- the ends of a constraint are two vertices
-    constraint_ends : (a b : ℕ) → Joins (constraints_by constraints (state_of now)) a b
-        → AreTwo a b
-    constraint_ends a b joined =
-        let h = E.joins_edge now.mesh p.whole.valid.sound a b
-        (constraints_are_edges marks constraints marked now.mesh now.undirected
-        p.whole.fits.undirected_fit p.whole.valid a b joined) in
-        edge_ends h.0 a b h.1 h.2 h.3
-
-    -- the ends of a side of a face are two vertices
-    side_ends : (a b c : ℕ) → IsFaceOf (faces_of now.mesh) a b c → AreTwo a b
-    side_ends a b c f =
-        let h = edge_of_face now.mesh p.whole.valid.sound a b c f in
-        edge_ends h.0 a b h.1.inner.0 h.1.first
-        (sym (p.whole.valid.sound.edges h.0 h.1.inner.0).starts ∙ h.1.second)
-
-    module _ (v : ℕ) (on_way : w ≢ j) (next : AreNextOn (map at now.vertices) w j w v) where
-      next_here : AreNextOn points w j w v
-      next_here = subst (λ (vs : List V). AreNextOn (map at vs) w j w v) same next
-
-      -- the path has a piece, so its ends differ
-      ends_apart : i ≢ j
-      ends_apart e = path_ends points j distinct w v
-          (subst (λ (k : ℕ). AreNextOn points k j w v) e (p.path.rest w v next_here))
-
-      -- two vertices whose segment does not cross the whole segment are clear of the next piece
-      clear_of_piece : (a b : ℕ) → AreTwo a b
-          → ¬ Cross (place points i) (place points j) (place points a) (place points b)
-          → ¬ Cross (place points w) (place points v) (place points a) (place points b)
-      clear_of_piece a b two clear cross = clear (piece_crosses_whole points i j w v a b distinct
-          (in_map at old.vertices i hi) (in_map at old.vertices j hj) ends_apart two.0 two.1.0
-          two.1.1 (p.path.rest w v next_here) cross)
-
-      -- ---- what does not cross the whole segment stays where the next piece is made
-      module _ (new : Contents V D U F) (directed : new.directed ≡ now.directed)
-          (whole : IsMeshWithData new) where
-        -- the number of edges stays
-        same_count : length new.mesh.half_edges ≡ length now.mesh.half_edges
-        same_count = sym whole.fits.directed_fit ∙ ap length directed ∙ p.whole.fits.directed_fit
-
-        -- edges that do not cross the whole segment
-        kept_of_whole : KeepsUncrossed points now.mesh new.mesh w v
-            → KeepsUncrossed points now.mesh new.mesh i j
-        kept_of_whole kept h clear = elim (cases_lt h (length now.mesh.half_edges)) [
-          | inl within ↦ kept h (clear_of_piece (origin now.mesh h) (origin now.mesh (rev h))
-              (edge_ends h (origin now.mesh h) (origin now.mesh (rev h)) within refl refl) clear)
-          | inr past ↦ past_edges_stay now.mesh new.mesh p.whole.valid.sound.even same_count h past
-        ]
-
-        -- faces with no side that crosses it
-        faces_kept_of_whole : KeepsUncrossedFaces points now.mesh new.mesh w v
-            → KeepsUncrossedFaces points now.mesh new.mesh i j
-        faces_kept_of_whole kept f t there first second third = kept f t there
-            (clear_of_piece t.first t.second (side_ends t.first t.second t.third face) first)
-            (clear_of_piece t.second t.third (side_ends t.second t.third t.first
-            (turned_faces (faces_of now.mesh) t.first t.second t.third face)) second)
-            (clear_of_piece t.third t.first (side_ends t.third t.first t.second
-            (turned_faces (faces_of now.mesh) t.second t.third t.first
-            (turned_faces (faces_of now.mesh) t.first t.second t.third face))) third)
-          where
-            face : IsFaceOf (faces_of now.mesh) t.first t.second t.third
-            face = face_there now.mesh f t there
-
-      -- no vertex is strictly between it and the next one on the way
-      pub adding_free : IsFreeOfVertices (drawn (map at now.vertices) now.mesh) w v
-      adding_free = piece_is_free (drawn (map at now.vertices) now.mesh) w j w v next
-
-      -- no constraint crosses the next piece, where the path could be added
-      pub adding_clear : CanAddPath at constraints old i j →
-          NoneCrosses (map at now.vertices) (constraints_by constraints (state_of now)) w v
-      adding_clear free =
-          subst (λ (vs : List V). NoneCrosses (map at vs)
-          (constraints_by constraints (state_of now)) w v) (sym same)
-          (λ a b joined. let e = constraint_ends a b joined in
-          piece_is_clear points distinct (constraints_by constraints (state_of old))
-          (constraints_by constraints (state_of now)) i j w (in_map at old.vertices i hi)
-          (in_map at old.vertices j hj) p.path v on_way next_here free a b joined e.0 e.1.0 e.1.1)
-
-      -- with the next piece added the path reaches the next vertex
-      pub adding_to_goes_on : ((x : U) → marks (marked_as x) ≡ true) → (new : Contents V D U F)
-          → (was left : List ℕ)
-          → LeavesPiece (map at now.vertices) marks marked_as constraints now new w v was left
-          → IsAddingTo at marked_as old new i j v
-      adding_to_goes_on has new was left piece = record {
-        contents = piece.adds.contents ∙ ap (λ (c : Contents V D U F). record c {
-          mesh = new.mesh;
-          undirected = new.undirected;
-        }) p.contents;
-        count = piece.adds.count ∙ p.count;
-        marks_some =
-            marks_more marks marked_as has old.undirected now.undirected new.undirected p.marks_some
-            piece.adds.marks_some;
-        whole = piece.mesh;
-        shape = subst (λ (vs : List V). IsMesh (map at vs) (faces_of new.mesh) (outer_of new.mesh))
-            same piece.shape;
-        path = adding_goes_on points distinct (constraints_by constraints (state_of old))
-            (constraints_by constraints (state_of now)) i j w (in_map at old.vertices i hi)
-            (in_map at old.vertices j hj) p.path v on_way next_here
-            (constraints_by constraints (state_of new))
-            piece.adds.pair;
-        edges_kept = kept_on points old.mesh now.mesh new.mesh i j p.edges_kept
-            (kept_of_whole new directed piece.mesh (subst (λ (vs : List V).
-            KeepsUncrossed (map at vs) now.mesh new.mesh w v) same piece.kept));
-        faces_kept = faces_kept_on points old.mesh now.mesh new.mesh i j p.faces_kept
-            (faces_kept_of_whole new directed piece.mesh (subst (λ (vs : List V).
-            KeepsUncrossedFaces (map at vs) now.mesh new.mesh w v) same piece.faces_kept));
-      }
-        where
-          directed : new.directed ≡ now.directed
-          directed = ap (λ (c : Contents V D U F). c.directed) piece.adds.contents
-
-      -- from the next vertex the way to j is shorter
-      pub adding_shortens : nat_abs (squared_way (point_of points v) (point_of points j))
-          < nat_abs (squared_way (point_of points w) (point_of points j))
-      adding_shortens = path_shortens points w j v distinct p.path.within
-          (in_map at old.vertices j hj) on_way next_here
-
-    -- where j is reached, the path from i to j is added
-    pub adding_to_ends : w ≡ j → IsTriangulated at (state_of old)
-        → CanAddPath at constraints old i j → AddsPath at marks marked_as constraints old now i j
-    adding_to_ends is kept free = record {
-      contents = p.contents;
-      marks_some = p.marks_some;
-      plain = adding_adds at (points_and_constraints_by constraints (state_of old))
-          (points_and_constraints_by constraints (state_of now)) i j hi hj free same
-          (adding_ends points distinct (constraints_by constraints (state_of old))
-          (constraints_by constraints (state_of now)) i j w (in_map at old.vertices i hi)
-          (in_map at old.vertices j hj) p.path is);
-      kept = record {
-        in_range = subst (λ (vs : List V). All (λ v. InRange (at v)) vs) (sym same) kept.in_range;
-        few_edges = rw (p.count, ap length same) kept.few_edges;
-        few_faces = rw (ap (λ (c : Contents V D U F). length c.faces) p.contents, ap length same)
-            kept.few_faces;
-        valid = p.whole.valid;
-        fits = p.whole.fits;
-        shape = adding_shape;
-      };
-      edges_kept = p.edges_kept;
-      faces_kept = p.faces_kept;
-    }
-
--- ---- what is left to test
+-- ---- what a piece leaves to test
 -- marking changes no face
 piece_leaves : {V D U F : Type 0} (points : List Point) (marks : U → Bool) (marked_as : U → U)
     (constraints : List U → List ℕ) (old mid new : Contents V D U F) (i j : ℕ) (was left : List ℕ) →
@@ -472,31 +274,260 @@ piece_leaves points marks marked_as constraints old mid new i j was left makes s
 pub piece_made : {V D U F : Type 0} (marks : U → Bool) (constraints : List U → List ℕ)
     (are_marked : (ds : List U) → constraints ds ≡ marked_edges marks ds) (at : V → Point)
     (marked_as : U → U) (old mid new : Contents V D U F) (i j : ℕ) (was left : List ℕ)
-    → MakesEdge (map at old.vertices) old mid i j was left → IsMeshWithData mid
-    → MarksBetween marks marked_as mid new i j
+    → MakesEdge (map at old.vertices) old mid i j was left → IsMeshWithData mid → (edge : ℕ)
+    → origin mid.mesh edge ≡ i → origin mid.mesh (rev edge) ≡ j
+    → MarksEdge marks marked_as mid new (edge / 2)
     → NoneCrosses (map at old.vertices) (constraints_by constraints (state_of old)) i j
     → LeavesPiece (map at old.vertices) marks marked_as constraints old new i j was left
 piece_made {V = V} {D = D} {U = U} {F = F} marks constraints are_marked at marked_as old mid new i j
-    was left makes
-    whole by clear =
+    was left makes whole edge source target by clear =
     piece_leaves (map at old.vertices) marks marked_as constraints old mid new i j was left makes
-    (ap (λ (c : Contents V D U F). c.mesh) by.marks_edge.whole)
-    (piece_added marks constraints are_marked at old mid new i j by.edge
-    (by.edge / 2) makes.contents
-    (λ _. by.marks_edge.after) written
-    makes.kept clear marked_as by.marks_edge.mark by.marks_edge.same by.source by.target refl)
-    (piece_whole marks constraints are_marked at old mid new i j by.edge
-    (by.edge / 2) makes.contents
-    (λ _. by.marks_edge.after) written whole)
+    (ap (λ (c : Contents V D U F). c.mesh) by.whole)
+    (piece_added marks constraints are_marked at old mid new i j edge (edge / 2) makes.contents
+    (λ _. by.after) written makes.kept clear marked_as by.mark by.same source target refl)
+    (piece_whole marks constraints are_marked at old mid new i j edge (edge / 2) makes.contents
+    (λ _. by.after) written whole)
   where
-    written : HasEdgeData (λ _. by.marks_edge.after) mid new (by.edge / 2)
-    written =
-        record { value = by.marks_edge.value; was = by.marks_edge.was; whole = by.marks_edge.whole }
+    written : HasEdgeData (λ _. by.after) mid new (edge / 2)
+    written = record { value = by.value; was = by.was; whole = by.whole }
 
+-- ---- the loop
+module _ {U V D F : Type 0} {marks : U → Bool} {constraints : List U → List ℕ}
+    {marked : (ds : List U) → constraints ds ≡ marked_edges marks ds} {at : V → Point}
+    {marked_as : U → U} {old now : Contents V D U F} {i j w : ℕ}
+    (p : IsAddingTo marks constraints marked at marked_as old now i j w) where
+  abbrev points : List Point
+  points = map at old.vertices
+
+  -- the vertices are those of before
+  pub same : now.vertices ≡ old.vertices
+  same = ap (λ (c : Contents V D U F). c.vertices) p.contents
+
+  -- so they are sites if they were
+  pub adding_sites : (IsSite : Point → Type 0) → All IsSite (map at old.vertices)
+      → All IsSite (map at now.vertices)
+  adding_sites IsSite sites = subst (λ (vs : List V). All IsSite (map at vs)) (sym same) sites
+
+  -- the mesh is one of all vertices
+  pub adding_shape : IsMesh (map at now.vertices) (faces_of now.mesh) (outer_of now.mesh)
+  adding_shape =
+      subst (λ (vs : List V). IsMesh (map at vs) (faces_of now.mesh) (outer_of now.mesh))
+      (sym same) p.shape
+
+  -- a vertex of before is one now
+  pub adding_index : {k : ℕ} → k < length old.vertices → k < length now.vertices
+  adding_index {k = k} h = subst (λ (vs : List V). k < length vs) (sym same) h
+
+  -- the vertex that was reached is one of the vertices
+  pub adding_at : w < length now.vertices
+  adding_at = adding_index (of_map at old.vertices w p.path.within)
+
+  distinct : ArePlacedApart points
+  distinct = placed_apart points (faces_of now.mesh) (outer_of now.mesh) p.shape
+
+  -- a and b are two vertices
+  abbrev AreTwo : ℕ → ℕ → Type 0
+  AreTwo a b = IsIndex points a × (IsIndex points b × (a ≢ b))
+
+  -- the ends of an edge are two vertices
+  edge_ends : (h a b : ℕ) → h < length now.mesh.half_edges → origin now.mesh h ≡ a
+      → origin now.mesh (rev h) ≡ b → AreTwo a b
+  edge_ends h a b within starts ends = (
+    there a (subst (λ (k : ℕ). k < length now.mesh.out_edges) starts edge.origin_in),
+    (
+      there b (subst (λ (k : ℕ). k < length now.mesh.out_edges) ends twin.origin_in),
+      (λ is. p.whole.valid.apart h within (starts ∙ is ∙ sym ends)),
+    ),
+  )
+    where
+      edge : IsSoundEdge now.mesh h
+      edge = p.whole.valid.sound.edges h within
+
+      twin : IsSoundEdge now.mesh (rev h)
+      twin = p.whole.valid.sound.edges (rev h)
+          (rev_within h (length now.mesh.half_edges) p.whole.valid.sound.even within)
+
+      there : (k : ℕ) → k < length now.mesh.out_edges → IsIndex points k
+      there k l = in_map at old.vertices k (subst (λ (vs : List V). k < length vs) same
+          (subst (λ (n : ℕ). k < n) (sym p.whole.fits.vertices_fit) l))
+
+  -- the ends of a constraint are two vertices
+  constraint_ends : (a b : ℕ) → Joins (constraints_by constraints (state_of now)) a b
+      → AreTwo a b
+  constraint_ends a b joined =
+      let h = E.joins_edge now.mesh p.whole.valid.sound a b
+      (constraints_are_edges marks constraints marked now.mesh now.undirected
+      p.whole.fits.undirected_fit p.whole.valid a b joined) in
+      edge_ends h.0 a b h.1 h.2 h.3
+
+  -- the ends of a side of a face are two vertices
+  side_ends : (a b c : ℕ) → IsFaceOf (faces_of now.mesh) a b c → AreTwo a b
+  side_ends a b c f =
+      let h = edge_of_face now.mesh p.whole.valid.sound a b c f in
+      edge_ends h.0 a b h.1.inner.0 h.1.first
+      (sym (p.whole.valid.sound.edges h.0 h.1.inner.0).starts ∙ h.1.second)
+
+  module _ {v : ℕ} (next : AreNextOn (map at now.vertices) w j w v) where
+    next_here : AreNextOn points w j w v
+    next_here = subst (λ (vs : List V). AreNextOn (map at vs) w j w v) same next
+
+    on_way : w ≢ j
+    on_way is = path_ends points j distinct w v
+        (subst (λ (k : ℕ). AreNextOn points k j w v) is next_here)
+
+    -- the path has a piece, so its ends differ
+    ends_apart : i ≢ j
+    ends_apart e = path_ends points j distinct w v
+        (subst (λ (k : ℕ). AreNextOn points k j w v) e (p.path.rest w v next_here))
+
+    -- two vertices whose segment does not cross the whole segment are clear of the next piece
+    clear_of_piece : (a b : ℕ) → AreTwo a b
+        → ¬ Cross (place points i) (place points j) (place points a) (place points b)
+        → ¬ Cross (place points w) (place points v) (place points a) (place points b)
+    clear_of_piece a b two clear cross = clear (piece_crosses_whole points i j w v a b distinct
+        (in_map at old.vertices i p.way.from) (in_map at old.vertices j p.way.to) ends_apart two.0
+        two.1.0 two.1.1 (p.path.rest w v next_here) cross)
+
+    -- ---- what does not cross the whole segment stays where the next piece is made
+    module _ (new : Contents V D U F) (directed : new.directed ≡ now.directed)
+        (whole : IsMeshWithData new) where
+      -- the number of edges stays
+      same_count : length new.mesh.half_edges ≡ length now.mesh.half_edges
+      same_count = sym whole.fits.directed_fit ∙ ap length directed ∙ p.whole.fits.directed_fit
+
+      -- edges that do not cross the whole segment
+      kept_of_whole : KeepsUncrossed points now.mesh new.mesh w v
+          → KeepsUncrossed points now.mesh new.mesh i j
+      kept_of_whole kept h clear = elim (cases_lt h (length now.mesh.half_edges)) [
+        | inl within ↦ kept h (clear_of_piece (origin now.mesh h) (origin now.mesh (rev h))
+            (edge_ends h (origin now.mesh h) (origin now.mesh (rev h)) within refl refl) clear)
+        | inr past ↦ past_edges_stay now.mesh new.mesh p.whole.valid.sound.even same_count h past
+      ]
+
+      -- faces with no side that crosses it
+      faces_kept_of_whole : KeepsUncrossedFaces points now.mesh new.mesh w v
+          → KeepsUncrossedFaces points now.mesh new.mesh i j
+      faces_kept_of_whole kept f t there first second third = kept f t there
+          (clear_of_piece t.first t.second (side_ends t.first t.second t.third face) first)
+          (clear_of_piece t.second t.third (side_ends t.second t.third t.first
+          (turned_faces (faces_of now.mesh) t.first t.second t.third face)) second)
+          (clear_of_piece t.third t.first (side_ends t.third t.first t.second
+          (turned_faces (faces_of now.mesh) t.second t.third t.first
+          (turned_faces (faces_of now.mesh) t.first t.second t.third face))) third)
+        where
+          face : IsFaceOf (faces_of now.mesh) t.first t.second t.third
+          face = face_there now.mesh f t there
+
+    -- no vertex is strictly between it and the next one on the way
+    pub adding_free : IsFreeOfVertices (drawn (map at now.vertices) now.mesh) w v
+    adding_free = piece_is_free (drawn (map at now.vertices) now.mesh) w j w v next
+
+    -- no constraint crosses the next piece, where the path could be added
+    clear_now : NoneCrosses (map at now.vertices) (constraints_by constraints (state_of now)) w v
+    clear_now =
+        subst (λ (vs : List V). NoneCrosses (map at vs)
+        (constraints_by constraints (state_of now)) w v) (sym same)
+        (λ a b joined. let e = constraint_ends a b joined in
+        piece_is_clear points distinct (constraints_by constraints (state_of old))
+        (constraints_by constraints (state_of now)) i j w (in_map at old.vertices i p.way.from)
+        (in_map at old.vertices j p.way.to) p.path v on_way next_here p.way.free a b joined e.0
+        e.1.0 e.1.1)
+
+    -- where it is made an edge that gets the mark, it is added
+    pub adding_piece : {mid new : Contents V D U F} {was left : List ℕ} (edge : ℕ)
+        → MakesEdge (map at now.vertices) now mid w v was left → IsMeshWithData mid
+        → origin mid.mesh edge ≡ w → origin mid.mesh (rev edge) ≡ v
+        → MarksEdge marks marked_as mid new (edge / 2)
+        → LeavesPiece (map at now.vertices) marks marked_as constraints now new w v was left
+    adding_piece edge makes whole source target by =
+        piece_made marks constraints marked at marked_as now _ _ w v _ _ makes whole edge source
+        target by clear_now
+
+    -- and with it the path reaches the next vertex
+    pub adding_to_goes_on : {new : Contents V D U F} {was left : List ℕ}
+        → ((x : U) → marks (marked_as x) ≡ true)
+        → LeavesPiece (map at now.vertices) marks marked_as constraints now new w v was left
+        → IsAddingTo marks constraints marked at marked_as old new i j v
+    adding_to_goes_on {new = new} has piece = record {
+      way = p.way;
+      contents = piece.adds.contents ∙ ap (λ (c : Contents V D U F). record c {
+        mesh = new.mesh;
+        undirected = new.undirected;
+      }) p.contents;
+      count = piece.adds.count ∙ p.count;
+      marks_some =
+          marks_more marks marked_as has old.undirected now.undirected new.undirected p.marks_some
+          piece.adds.marks_some;
+      whole = piece.mesh;
+      shape = subst (λ (vs : List V). IsMesh (map at vs) (faces_of new.mesh) (outer_of new.mesh))
+          same piece.shape;
+      path = adding_goes_on points distinct (constraints_by constraints (state_of old))
+          (constraints_by constraints (state_of now)) i j w (in_map at old.vertices i p.way.from)
+          (in_map at old.vertices j p.way.to) p.path v on_way next_here
+          (constraints_by constraints (state_of new))
+          piece.adds.pair;
+      edges_kept = kept_on points old.mesh now.mesh new.mesh i j p.edges_kept
+          (kept_of_whole new directed piece.mesh (subst (λ (vs : List V).
+          KeepsUncrossed (map at vs) now.mesh new.mesh w v) same piece.kept));
+      faces_kept = faces_kept_on points old.mesh now.mesh new.mesh i j p.faces_kept
+          (faces_kept_of_whole new directed piece.mesh (subst (λ (vs : List V).
+          KeepsUncrossedFaces (map at vs) now.mesh new.mesh w v) same piece.faces_kept));
+    }
+      where
+        directed : new.directed ≡ now.directed
+        directed = ap (λ (c : Contents V D U F). c.directed) piece.adds.contents
+
+    -- from the next vertex the way to j is shorter
+    pub adding_shortens : nat_abs (squared_way (point_of points v) (point_of points j))
+        < nat_abs (squared_way (point_of points w) (point_of points j))
+    adding_shortens = path_shortens points w j v distinct p.path.within
+        (in_map at old.vertices j p.way.to) on_way next_here
+
+  -- where j is reached, the path from i to j is added
+  pub adding_to_ends : w ≡ j → IsTriangulated at (state_of old)
+      → AddsPath at marks marked_as constraints old now i j
+  adding_to_ends is kept = record {
+    contents = p.contents;
+    marks_some = p.marks_some;
+    plain = adding_adds at (points_and_constraints_by constraints (state_of old))
+        (points_and_constraints_by constraints (state_of now)) i j p.way.from p.way.to
+        p.way.free same
+        (adding_ends points distinct (constraints_by constraints (state_of old))
+        (constraints_by constraints (state_of now)) i j w (in_map at old.vertices i p.way.from)
+        (in_map at old.vertices j p.way.to) p.path is);
+    kept = record {
+      in_range = subst (λ (vs : List V). All (λ v. InRange (at v)) vs) (sym same) kept.in_range;
+      few_edges = rw (p.count, ap length same) kept.few_edges;
+      few_faces = rw (ap (λ (c : Contents V D U F). length c.faces) p.contents, ap length same)
+          kept.few_faces;
+      valid = p.whole.valid;
+      fits = p.whole.fits;
+      shape = adding_shape;
+    };
+    edges_kept = p.edges_kept;
+    faces_kept = p.faces_kept;
+  }
+
+  -- the edges that the last piece of a path leaves to test are all that are left
+  pub adding_leaves : {v : ℕ} {new : Contents V D U F} {given was left : List ℕ}
+      → LeavesToTest (map at old.vertices) old now given was
+      → LeavesPiece (map at now.vertices) marks marked_as constraints now new w v was left
+      → LeavesToTest (map at old.vertices) old new given left
+  adding_leaves {new = new} {was = was} {left = left} first piece = record {
+    edges = piece.edges;
+    leaves =
+        λ pairs passing. subst (λ (vs : List V). AllPassBut (map at vs) (faces_of new.mesh) pairs
+        (pairs_at new.mesh left)) same
+        (piece.leaves pairs
+        (subst (λ (vs : List V). AllPassBut (map at vs) (faces_of now.mesh) pairs
+        (pairs_at now.mesh was)) (sym same) (first.leaves pairs passing)));
+  }
+
+-- ---- what is left to test
 -- where nothing has changed, the edges that were given are left to test
-pub same_are_left : {V D U F : Type 0} (all : List Point) (old : Contents V D U F) (was : List ℕ)
+pub same_are_left : {V D U F : Type 0} {all : List Point} {old : Contents V D U F} {was : List ℕ}
     → AreEdges old.mesh was → LeavesToTest all old old was was
-same_are_left all old was edges = record { edges = edges; leaves = λ pairs passing. passing }
+same_are_left edges = record { edges = edges; leaves = λ pairs passing. passing }
 
 -- a list that was cleared is a work list with no edge in it
 pub cleared_work : {V D U F : Type 0} (old : Contents V D U F) (left : List ℕ) (room_was room : ℕ)
@@ -510,29 +541,10 @@ cleared_work old left room_was room few fits same cleared = record {
     none : AreEdges old.mesh []
     none = record { within = λ k c. absurd (Contains-none k c); once = once_none }
 
--- the edges that the last piece of a path leaves to test are all that are left
-pub more_is_left : {V D U F : Type 0} (at : V → Point) (marks : U → Bool) (marked_as : U → U)
-    (constraints : List U → List ℕ) (old now new : Contents V D U F) (i j : ℕ)
-    (given was left : List ℕ) → now.vertices ≡ old.vertices
-    → LeavesToTest (map at old.vertices) old now given was
-    → LeavesPiece (map at now.vertices) marks marked_as constraints now new i j was left
-    → LeavesToTest (map at old.vertices) old new given left
-more_is_left {V = V} at marks marked_as constraints old now new i j given was left same first
-    piece =
-    record {
-      edges = piece.edges;
-      leaves =
-          λ pairs passing. subst (λ (vs : List V). AllPassBut (map at vs) (faces_of new.mesh) pairs
-          (pairs_at new.mesh left)) same
-          (piece.leaves pairs
-          (subst (λ (vs : List V). AllPassBut (map at vs) (faces_of now.mesh) pairs
-          (pairs_at now.mesh was)) (sym same) (first.leaves pairs passing)));
-    }
-
 -- the work list keeps its room for each edge
-pub work_fits : {V D U F : Type 0} (old now : Contents V D U F) (was left : List ℕ)
-    (room_was room : ℕ) → length now.undirected ≡ length old.undirected
+pub work_fits : {V D U F : Type 0} {old now : Contents V D U F} {was left : List ℕ}
+    {room_was room : ℕ} → length now.undirected ≡ length old.undirected
     → IsWorkList old was room_was → room ≡ room_was → AreEdges now.mesh left
     → IsWorkList now left room
-work_fits old now was left room_was room count work same edges =
+work_fits count work same edges =
     let fits = work.room in record { edges = edges; room = omega (arith, count, fits, same) }

@@ -1,7 +1,7 @@
 -- The edges that cross a piece of a path are listed by the walk along it, each once.
 -- Notions: IsMet, AreListed, IsListingPiece; not_before_itself, none_listed, other_item,
--- few_listed, not_listed, edge_more, room_for_more, piece_listed, piece_walk_begins, seeks_next,
--- room_for_item, piece_walk_goes_on, piece_walk_ends, whole_piece.
+-- few_listed, not_listed, edge_more, room_for_more, piece_listed, piece_walk_begins, room_for_item,
+-- piece_walk_goes_on, piece_walk_ends, whole_piece.
 use Rattle.std.proofs.Common.{◌≡◌, ◌≢◌, ◌*◌, ◌/◌, ◌<◌, ◌≤◌, [], ◌∷◌, ◌++◌, ◌∙◌}
 use Rattle.std.proofs.Common.{◌⊎◌, ℕ, suc, List, length, map, Option, Some, None, sym, ap, subst}
 use Rattle.std.proofs.Common.{arith}
@@ -35,25 +35,23 @@ use Rattle.delaunay_lines.proofs.mesh_embedding.MeshLegal.{few_edges, own_indexe
 use Rattle.delaunay_lines.proofs.mesh_embedding.MeshStays.{half_same}
 use Rattle.delaunay_lines.proofs.mesh_embedding.WorkLists.{contains_before, contains_last}
 use Rattle.delaunay_lines.proofs.mesh_embedding.WorkLists.{contains_map_from, once_after}
-use Rattle.delaunay_lines.specs.delaunay_legalization.Known.{point_at}
 use Rattle.delaunay_lines.specs.delaunay_legalization.State.{State, state_of}
 use Rattle.delaunay_lines.proofs.delaunay_legalization_lemmas.Legalizing.{half_within}
 use Rattle.delaunay_lines.specs.declared.intersection.Intersection.{Intersection}
 use Rattle.delaunay_lines.specs.declared.iterator.LineIntersectionIterator.{LineIntersectionIterator}
 use Rattle.delaunay_lines.specs.Items.{item_in, mesh_of}
-use Rattle.delaunay_lines.specs.Walk.{GivesNext, IsReady, WalksLine}
+use Rattle.delaunay_lines.specs.Walk.{GivesNext, IsReady}
 use Rattle.delaunay_paths.specs.Crossing.{AreAllCrossing, CrossesFromRight, ListsAllCrossing}
 use Rattle.delaunay_paths.specs.Lists.{ListCrossing, ListPiece}
 use Rattle.delaunay_paths.specs.declared.crossing.CrossingLists.{CrossingLists}
 use Rattle.delaunay_paths.specs.Items.{HasRoomForItem, IsOtherVertex, ListsItem, crossed_twin}
 use Rattle.delaunay_paths.proofs.Beginning.{crossed_one_way, met_before, part_meets, whole_meets}
 use Rattle.delaunay_paths.proofs.MetEdges.{crosses_if_met, met_if_crosses}
-use Rattle.delaunay_paths.proofs.NextVertex.{HasNoOther, SeeksNext, no_other_yet, still_no_other}
-use Rattle.delaunay_paths.proofs.NextVertex.{seeking_finds, two}
-use Rattle.delaunay_paths.proofs.Passing.{HasPassed, later_ones, list_with, none_passed}
-use Rattle.delaunay_paths.proofs.Passing.{one_more_passed}
+use Rattle.delaunay_paths.proofs.NextVertex.{SeeksNext, list_on, seeking_finds, seeking_goes_on}
+use Rattle.delaunay_paths.proofs.NextVertex.{two_ends}
+use Rattle.delaunay_paths.proofs.Passing.{later_ones}
 use Rattle.delaunay_paths.proofs.Places.{no_same_place}
-use Rattle.delaunay_paths.proofs.Walking.{in_map, placed_apart}
+use Rattle.delaunay_paths.proofs.Walking.{placed_apart}
 
 -- ---- no crossed edge comes before itself
 pub not_before_itself : (t : Triangulation) (p q : Fraction) (a b : ℕ)
@@ -304,158 +302,145 @@ module _ (points : List Point) (m : Mesh) (s : IsValidMesh m)
     piece_listed = record { cross = listed_crosses; all = crossing_listed }
 
 -- ---- the walk
-module _ {V D U F P S : Type 0} (at : V → Point) (number : S → ℤ)
-    (IsSite IsCovered : P → Point → Type 0) (c : Contents V D U F) (i j : ℕ) where
+-- no other vertex than i was passed, and these edges are listed so far
+pub record IsListingPiece {V D U F P S : Type 0} (at : V → Point) (number : S → ℤ)
+    (IsSite IsCovered : P → Point → Type 0) (c : Contents V D U F) (i j : ℕ) (hs : List ℕ)
+    (now : LineIntersectionIterator V D U F P S) : Type 0 where
+  pub whole : IsMeshWithData c
+  pub passed : List Item
+  pub seeks : SeeksNext at number IsSite IsCovered c i j passed now
+  pub listed : AreListed (map at c.vertices) c.mesh i j (length c.directed) passed hs
+
+-- at the beginning there is none
+pub piece_walk_begins : {V D U F P S : Type 0} {at : V → Point} {number : S → ℤ}
+    {IsSite IsCovered : P → Point → Type 0} {c : Contents V D U F} {i j : ℕ} {hs : List ℕ}
+    {it : LineIntersectionIterator V D U F P S} → IsMeshWithData c
+    → SeeksNext at number IsSite IsCovered c i j [] it → hs ≡ []
+    → IsListingPiece at number IsSite IsCovered c i j hs it
+piece_walk_begins {at = at} {c = c} {i = i} {j = j} whole seeks none = record {
+  whole = whole;
+  passed = [];
+  seeks = seeks;
+  listed = subst (AreListed (map at c.vertices) c.mesh i j (length c.directed) []) (sym none)
+      (none_listed (map at c.vertices) c.mesh i j (length c.directed));
+}
+
+module _ {V D U F P S : Type 0} {at : V → Point} {number : S → ℤ}
+    {IsSite IsCovered : P → Point → Type 0} {c : Contents V D U F} {i j : ℕ} {hs : List ℕ}
+    {now after : LineIntersectionIterator V D U F P S} {x : Intersection V D U F}
+    (listing : IsListingPiece at number IsSite IsCovered c i j hs now)
+    (gives : GivesNext at number now (Some x) after) where
   abbrev points_of_mesh : List Point
   points_of_mesh = map at c.vertices
 
-  -- no other vertex than i was passed, and these edges are listed so far
-  pub record IsListingPiece (hs : List ℕ)
-      (now : LineIntersectionIterator V D U F P S) : Type 0 where
-    pub passed : List Item
-    pub so_far : HasPassed at number IsSite IsCovered (state_of c) (point_at points_of_mesh i)
-        (point_at points_of_mesh j) passed now
-    pub ready : IsReady at number IsSite IsCovered now
-    pub none : HasNoOther passed i
-    pub listed : AreListed points_of_mesh c.mesh i j (length c.directed) passed hs
+  vertices_of_mesh : length points_of_mesh ≡ length c.mesh.out_edges
+  vertices_of_mesh = length-map c.vertices at ∙ listing.whole.fits.vertices_fit
 
-  -- at the beginning there is none
-  pub piece_walk_begins : (hs : List ℕ) → hs ≡ [] → (it : LineIntersectionIterator V D U F P S)
-      → IsReady at number IsSite IsCovered it
-      → WalksLine at number (state_of c) (point_at points_of_mesh i) (point_at points_of_mesh j) it
-      → IsListingPiece hs it
-  piece_walk_begins hs none it ready walks = record {
-    passed = [];
-    so_far = none_passed at number IsSite IsCovered (state_of c) (point_at points_of_mesh i)
-        (point_at points_of_mesh j) it ready walks;
-    ready = ready;
-    none = no_other_yet i;
-    listed = subst (AreListed points_of_mesh c.mesh i j (length c.directed) []) (sym none)
-        (none_listed points_of_mesh c.mesh i j (length c.directed));
+  ends_apart : ¬ IsSame (place points_of_mesh i) (place points_of_mesh j)
+  ends_apart = two_ends listing.seeks
+
+  -- the line list with the item that the call gives
+  line : (others : List Item) × IsLineList (drawn points_of_mesh c.mesh)
+      (place points_of_mesh i) (place points_of_mesh j)
+      ((listing.passed ++ item_in x ∷ []) ++ others)
+  line = list_on listing.seeks gives
+
+  -- the segment meets it
+  met_now : Meets (drawn points_of_mesh c.mesh) (place points_of_mesh i)
+      (place points_of_mesh j) (item_in x)
+  met_now = line.1.met ends_apart (item_in x)
+      (Contains-append_left (listing.passed ++ item_in x ∷ []) line.0 (item_in x)
+      (contains_last listing.passed (item_in x)))
+
+  -- it is one of this mesh
+  same_mesh : state_of (mesh_of x).now ≡ state_of c
+  same_mesh = ap (λ (d : Bor (Contents V D U F)). state_of d.now)
+      (gives.gives listing.seeks.so_far.others listing.seeks.so_far.are_left).0
+      ∙ listing.seeks.so_far.state
+
+  -- where it is that of a directed edge
+  module _ (h : ℕ) (within : h < length c.directed)
+      (is : item_in x ≡ crossed_twin c.mesh h) where
+    h_met : IsMet points_of_mesh c.mesh i j (length c.directed) h
+    h_met = subst (Meets (drawn points_of_mesh c.mesh) (place points_of_mesh i)
+        (place points_of_mesh j)) is met_now
+
+    ordered : AllPairs (IsBefore (drawn points_of_mesh c.mesh) (place points_of_mesh i)
+        (place points_of_mesh j)) ((listing.passed ++ crossed_twin c.mesh h ∷ []) ++ line.0)
+    ordered = subst (λ (k : Item). AllPairs (IsBefore (drawn points_of_mesh c.mesh)
+        (place points_of_mesh i) (place points_of_mesh j))
+        ((listing.passed ++ k ∷ []) ++ line.0)) is (line.1.ordered ends_apart)
+
+    -- it is one more
+    more : AreListed points_of_mesh c.mesh i j (length c.directed)
+        (listing.passed ++ crossed_twin c.mesh h ∷ []) (hs ++ h ∷ [])
+    more = edge_more points_of_mesh c.mesh listing.whole.valid listing.seeks.shape i j
+        (length c.directed) listing.whole.fits.directed_fit vertices_of_mesh ends_apart
+        listing.passed hs listing.listed (drawn points_of_mesh c.mesh) (place points_of_mesh i)
+        (place points_of_mesh j) line.0 h within h_met ordered
+
+    -- and there is room for it
+    room : length hs < length c.undirected
+    room = room_for_more points_of_mesh c.mesh listing.whole.valid listing.seeks.shape i j
+        (length c.directed) listing.whole.fits.directed_fit vertices_of_mesh ends_apart
+        listing.passed hs listing.listed (drawn points_of_mesh c.mesh) (place points_of_mesh i)
+        (place points_of_mesh j) line.0 h within h_met ordered (length c.undirected)
+        listing.whole.fits.undirected_fit
+
+  -- a list with room for each edge has room for that of the item
+  pub room_for_item : {capacity : ℕ} → length c.undirected ≤ capacity
+      → HasRoomForItem (mesh_of x).now (item_in x) hs capacity
+  room_for_item {capacity = capacity} fits h within is =
+      below (length hs) (length c.undirected) capacity
+      (room h (subst (λ (s : State V D U F). h < length s.directed) same_mesh within)
+      (subst (λ (s : State V D U F). item_in x ≡ crossed_twin s.mesh h) same_mesh is)) fits
+    where
+      below : (a n room : ℕ) → a < n → n ≤ room → a < room
+      below a n room less fits = omega arith
+
+  -- with it the edges are listed on, where it is no other vertex
+  pub piece_walk_goes_on : {more_hs : List ℕ} → IsReady at number IsSite IsCovered after
+      → IsOtherVertex (item_in x) i None
+      → ListsItem (mesh_of x).now (item_in x) hs more_hs
+      → IsListingPiece at number IsSite IsCovered c i j more_hs after
+  piece_walk_goes_on {more_hs = more_hs} ready none lists = record {
+    whole = listing.whole;
+    passed = listing.passed ++ item_in x ∷ [];
+    seeks = seeking_goes_on listing.seeks gives ready none;
+    listed = go lists;
   }
+    where
+      Listed : Item → List ℕ → Type 0
+      Listed k ks = AreListed points_of_mesh c.mesh i j (length c.directed)
+          (listing.passed ++ k ∷ []) ks
 
-  -- it seeks the next vertex
-  pub seeks_next : (hs : List ℕ) (now : LineIntersectionIterator V D U F P S)
-      → IsListingPiece hs now → SeeksNext at number IsSite IsCovered c i j now
-  seeks_next hs now l =
-      record { passed = l.passed; so_far = l.so_far; ready = l.ready; none = l.none }
+      go : ListsItem (mesh_of x).now (item_in x) hs more_hs → Listed (item_in x) more_hs
+      go (inl y) = subst (Listed (item_in x)) (sym y.1)
+          (other_item points_of_mesh c.mesh listing.whole.valid listing.seeks.shape i j
+          (length c.directed) listing.whole.fits.directed_fit vertices_of_mesh ends_apart
+          listing.passed hs listing.listed (item_in x) y.0)
+      go (inr y) =
+          let is = subst (λ (s : State V D U F). item_in x ≡ crossed_twin s.mesh y.0)
+          same_mesh y.2 in
+          let within = subst (λ (s : State V D U F). y.0 < length s.directed) same_mesh y.1 in
+          subst (λ (z : Item × List ℕ). Listed z.0 z.1) (λ k. (sym is k, sym y.3 k))
+          (more y.0 within is)
 
-  module _ (whole_mesh : IsMeshWithData c)
-      (shape : IsMesh points_of_mesh (faces_of c.mesh) (outer_of c.mesh))
-      (hi : i < length c.vertices) (hj : j < length c.vertices) (i_not_j : i ≢ j) (hs : List ℕ)
-      (now after : LineIntersectionIterator V D U F P S) (listing : IsListingPiece hs now)
-      (x : Intersection V D U F) (gives : GivesNext at number now (Some x) after) where
-    vertices_of_mesh : length points_of_mesh ≡ length c.mesh.out_edges
-    vertices_of_mesh = length-map c.vertices at ∙ whole_mesh.fits.vertices_fit
-
-    two_ends : ¬ IsSame (place points_of_mesh i) (place points_of_mesh j)
-    two_ends = two points_of_mesh c.mesh
-        (placed_apart points_of_mesh (faces_of c.mesh) (outer_of c.mesh) shape) i j
-        (in_map at c.vertices i hi) (in_map at c.vertices j hj) i_not_j
-
-    -- the line list with the item that the call gives
-    line : (others : List Item) × IsLineList (drawn points_of_mesh c.mesh)
-        (place points_of_mesh i) (place points_of_mesh j)
-        ((listing.passed ++ item_in x ∷ []) ++ others)
-    line = list_with at number IsSite IsCovered (state_of c) (point_at points_of_mesh i)
-        (point_at points_of_mesh j) listing.passed now after listing.so_far x gives
-
-    -- the segment meets it
-    met_now : Meets (drawn points_of_mesh c.mesh) (place points_of_mesh i)
-        (place points_of_mesh j) (item_in x)
-    met_now = line.1.met two_ends (item_in x)
-        (Contains-append_left (listing.passed ++ item_in x ∷ []) line.0 (item_in x)
-        (contains_last listing.passed (item_in x)))
-
-    -- it is one of this mesh
-    same_mesh : state_of (mesh_of x).now ≡ state_of c
-    same_mesh = ap (λ (d : Bor (Contents V D U F)). state_of d.now)
-        (gives.gives listing.so_far.others listing.so_far.are_left).0 ∙ listing.so_far.state
-
-    -- where it is that of a directed edge
-    module _ (h : ℕ) (within : h < length c.directed)
-        (is : item_in x ≡ crossed_twin c.mesh h) where
-      h_met : IsMet points_of_mesh c.mesh i j (length c.directed) h
-      h_met = subst (Meets (drawn points_of_mesh c.mesh) (place points_of_mesh i)
-          (place points_of_mesh j)) is met_now
-
-      ordered : AllPairs (IsBefore (drawn points_of_mesh c.mesh) (place points_of_mesh i)
-          (place points_of_mesh j)) ((listing.passed ++ crossed_twin c.mesh h ∷ []) ++ line.0)
-      ordered = subst (λ (k : Item). AllPairs (IsBefore (drawn points_of_mesh c.mesh)
-          (place points_of_mesh i) (place points_of_mesh j))
-          ((listing.passed ++ k ∷ []) ++ line.0)) is (line.1.ordered two_ends)
-
-      -- it is one more
-      more : AreListed points_of_mesh c.mesh i j (length c.directed)
-          (listing.passed ++ crossed_twin c.mesh h ∷ []) (hs ++ h ∷ [])
-      more = edge_more points_of_mesh c.mesh whole_mesh.valid shape i j (length c.directed)
-          whole_mesh.fits.directed_fit vertices_of_mesh two_ends listing.passed hs listing.listed
-          (drawn points_of_mesh c.mesh) (place points_of_mesh i) (place points_of_mesh j) line.0 h
-          within h_met ordered
-
-      -- and there is room for it
-      room : length hs < length c.undirected
-      room = room_for_more points_of_mesh c.mesh whole_mesh.valid shape i j (length c.directed)
-          whole_mesh.fits.directed_fit vertices_of_mesh two_ends listing.passed hs listing.listed
-          (drawn points_of_mesh c.mesh) (place points_of_mesh i) (place points_of_mesh j) line.0 h
-          within h_met ordered (length c.undirected) whole_mesh.fits.undirected_fit
-
-    -- a list with room for each edge has room for that of the item
-    pub room_for_item : (capacity : ℕ) → length c.undirected ≤ capacity
-        → HasRoomForItem (mesh_of x).now (item_in x) hs capacity
-    room_for_item capacity fits h within is = below (length hs) (length c.undirected)
-        capacity
-        (room h (subst (λ (s : State V D U F). h < length s.directed) same_mesh within)
-        (subst (λ (s : State V D U F). item_in x ≡ crossed_twin s.mesh h) same_mesh is)) fits
-      where
-        below : (a n room : ℕ) → a < n → n ≤ room → a < room
-        below a n room less fits = omega arith
-
-    -- with it the edges are listed on, where it is no other vertex
-    pub piece_walk_goes_on : (more_hs : List ℕ) → IsReady at number IsSite IsCovered after
-        → IsOtherVertex (item_in x) i None
-        → ListsItem (mesh_of x).now (item_in x) hs more_hs → IsListingPiece more_hs after
-    piece_walk_goes_on more_hs ready none lists = record {
-      passed = listing.passed ++ item_in x ∷ [];
-      so_far = one_more_passed at number IsSite IsCovered (state_of c) (point_at points_of_mesh i)
-          (point_at points_of_mesh j) listing.passed now after listing.so_far x gives ready;
-      ready = ready;
-      none = still_no_other listing.passed (item_in x) i listing.none none;
-      listed = go lists;
-    }
-      where
-        Listed : Item → List ℕ → Type 0
-        Listed k ks = AreListed points_of_mesh c.mesh i j (length c.directed)
-            (listing.passed ++ k ∷ []) ks
-
-        go : ListsItem (mesh_of x).now (item_in x) hs more_hs → Listed (item_in x) more_hs
-        go (inl y) = subst (Listed (item_in x)) (sym y.1)
-            (other_item points_of_mesh c.mesh whole_mesh.valid shape i j (length c.directed)
-            whole_mesh.fits.directed_fit vertices_of_mesh two_ends listing.passed hs
-            listing.listed (item_in x) y.0)
-        go (inr y) =
-            let is = subst (λ (s : State V D U F). item_in x ≡ crossed_twin s.mesh y.0)
-            same_mesh y.2 in
-            let within = subst (λ (s : State V D U F). y.0 < length s.directed) same_mesh y.1 in
-            subst (λ (z : Item × List ℕ). Listed z.0 z.1) (λ k. (sym is k, sym y.3 k))
-            (more y.0 within is)
-
-    -- where it is another vertex, all that cross the piece up to it are listed
-    pub piece_walk_ends : (v : ℕ) → IsOtherVertex (item_in x) i (Some v)
-        → ListsAllCrossing points_of_mesh c i v hs
-    piece_walk_ends v other = record {
-      once = listing.listed.once;
-      all = piece_listed points_of_mesh c.mesh whole_mesh.valid shape i j (length c.directed)
-          whole_mesh.fits.directed_fit vertices_of_mesh two_ends listing.passed line.0 v hs
-          listing.listed (subst (λ (k : Item). IsLineList (drawn points_of_mesh c.mesh)
-          (place points_of_mesh i) (place points_of_mesh j)
-          ((listing.passed ++ k ∷ []) ++ line.0)) other.0 line.1)
-          (seeking_finds at number IsSite IsCovered c i j now (seeks_next hs now listing) after
-          shape hi hj i_not_j x gives v other);
-      few = few_listed points_of_mesh c.mesh whole_mesh.valid shape i j (length c.directed)
-          whole_mesh.fits.directed_fit vertices_of_mesh two_ends listing.passed hs listing.listed
-          (length c.undirected) whole_mesh.fits.undirected_fit;
-    }
+  -- where it is another vertex, all that cross the piece up to it are listed
+  pub piece_walk_ends : {v : ℕ} → IsOtherVertex (item_in x) i (Some v)
+      → ListsAllCrossing points_of_mesh c i v hs
+  piece_walk_ends {v = v} other = record {
+    once = listing.listed.once;
+    all = piece_listed points_of_mesh c.mesh listing.whole.valid listing.seeks.shape i j
+        (length c.directed) listing.whole.fits.directed_fit vertices_of_mesh ends_apart
+        listing.passed line.0 v hs listing.listed (subst (λ (k : Item).
+        IsLineList (drawn points_of_mesh c.mesh) (place points_of_mesh i) (place points_of_mesh j)
+        ((listing.passed ++ k ∷ []) ++ line.0)) other.0 line.1)
+        (seeking_finds listing.seeks gives other);
+    few = few_listed points_of_mesh c.mesh listing.whole.valid listing.seeks.shape i j
+        (length c.directed) listing.whole.fits.directed_fit vertices_of_mesh ends_apart
+        listing.passed hs listing.listed (length c.undirected) listing.whole.fits.undirected_fit;
+  }
 
 -- ---- a segment of one piece
 -- where no vertex is strictly within the segment, its first piece is the whole

@@ -32,6 +32,7 @@ use Rattle.delaunay_paths.specs.Crossing.{AreAllCrossing, AreOthersCrossing, Cro
 use Rattle.delaunay_paths.specs.Crossing.{GoesFromRight, TurnsNearer, ahead, behind}
 use Rattle.delaunay_paths.specs.Kept.{KeepsUncrossed, KeepsUncrossedFaces}
 use Rattle.delaunay_paths.specs.Leaving.{AllPassAway, IsWorkList, MakesEdge, TurnsTowards}
+use Rattle.delaunay_paths.specs.Lists.{HasAsEdge}
 use Rattle.delaunay_paths.proofs.CrossingList.{made_clear, made_clear_back, others_are_all}
 use Rattle.delaunay_paths.proofs.CrossingList.{others_still, way_crosses, way_ends, way_is}
 use Rattle.delaunay_paths.proofs.LeftToTest.{crossing_leaves, flip_leaves, passing_ends}
@@ -291,10 +292,10 @@ pub record IsMaking {V D U F : Type 0} (at : V → Point) (old now : Contents V 
   pub same_room : room ≡ room_was
 
 -- before the first flip the mesh and the work list are as they were
-pub making_begins : {V D U F : Type 0} (at : V → Point) (old : Contents V D U F) (i j : ℕ)
-    (was : List ℕ) (room : ℕ) → IsMesh (map at old.vertices) (faces_of old.mesh) (outer_of old.mesh)
+pub making_begins : {V D U F : Type 0} {at : V → Point} {old : Contents V D U F} {i j : ℕ}
+    {was : List ℕ} {room : ℕ} → IsMesh (map at old.vertices) (faces_of old.mesh) (outer_of old.mesh)
     → IsWorkList old was room → IsMaking at old old i j was was room room
-making_begins at old i j was room shape work = record {
+making_begins shape work = record {
   contents = refl;
   shape = shape;
   kept = λ h clear. (refl, refl);
@@ -305,8 +306,9 @@ making_begins at old i j was room shape work = record {
   same_room = refl;
 }
 
-module _ {V D U F : Type 0} (at : V → Point) (old now : Contents V D U F) (i j : ℕ) (was left :
-    List ℕ) (room_was room : ℕ) (making : IsMaking at old now i j was left room_was room) where
+module _ {V D U F : Type 0} {at : V → Point} {old now : Contents V D U F} {i j : ℕ}
+    {was left : List ℕ} {room_was room : ℕ}
+    (making : IsMaking at old now i j was left room_was room) where
   -- the vertices stay
   same : now.vertices ≡ old.vertices
   same = ap (λ (c : Contents V D U F). c.vertices) making.contents
@@ -331,42 +333,31 @@ module _ {V D U F : Type 0} (at : V → Point) (old now : Contents V D U F) (i j
     making_free = subst (λ (vs : List V). IsFreeOfVertices (drawn (map at vs) now.mesh) i j)
         (sym same) (free_on (map at old.vertices) old.mesh now.mesh i j free)
 
-    -- where it is an edge, nothing more is turned
-    module _ (after : Contents V D U F) (after_left : List ℕ) (ended : (after ≡ now)
-        × (after_left ≡ left) × IsEdge (drawn (map at now.vertices) now.mesh) i j) where
-      edge_is : IsEdge (drawn (map at old.vertices) now.mesh) i j
-      edge_is = ended.2
+    -- where the segment is an edge, it is made one
+    pub making_ends : HasAsEdge (map at now.vertices) now i j
+        → MakesEdge (map at old.vertices) old now i j was left
+    making_ends ended = record {
+      contents = making.contents;
+      shape = making.shape;
+      edge = ended.edge;
+      kept = making.kept;
+      faces_kept = making.faces_kept;
+      edges = making.edges;
+      leaves = λ constraints passing. passing_ends (map at old.vertices) now.mesh
+          ended.whole.valid making.shape i j apart constraints (pairs_at now.mesh left) ended.edge
+          (making.leaves constraints passing);
+    }
+      where
+        apart : ¬ (point_at (map at old.vertices) i ≡ point_at (map at old.vertices) j)
+        apart e = placed_apart (map at old.vertices) (faces_of now.mesh)
+            (outer_of now.mesh) making.shape i j free.first free.second free.apart (ap whole e)
 
-      apart : ¬ (point_at (map at old.vertices) i ≡ point_at (map at old.vertices) j)
-      apart e = placed_apart (map at old.vertices) (faces_of now.mesh)
-          (outer_of now.mesh) making.shape i j free.first free.second free.apart (ap whole e)
-
-      made_here : IsMeshWithData now → MakesEdge (map at old.vertices) old now i j was left
-      made_here mesh = record {
-        contents = making.contents;
-        shape = making.shape;
-        edge = edge_is;
-        kept = making.kept;
-        faces_kept = making.faces_kept;
-        edges = making.edges;
-        leaves = λ constraints passing. passing_ends
-            (map at old.vertices) now.mesh mesh.valid making.shape i j apart constraints
-            (pairs_at now.mesh left) edge_is (making.leaves constraints passing);
-      }
-
-      -- where the segment is an edge, it is made one
-      pub making_ends : IsMeshWithData after
-          → MakesEdge (map at old.vertices) old after i j was after_left
-      making_ends mesh = subst (λ (x : Contents V D U F × List ℕ). MakesEdge
-          (map at old.vertices) old x.0 i j was x.1) (λ o. (sym ended.0 o, sym ended.1 o))
-          (made_here (subst (λ (c : Contents V D U F). IsMeshWithData c) ended.0 mesh))
-
-  module _ (new : Contents V D U F) (more : List ℕ)
+  module _ {new : Contents V D U F} {more : List ℕ}
       (turns : TurnsTowards (map at now.vertices) now new i j left more) where
     -- a flip towards the segment is one more turn
-    pub making_goes_on : (room_after : ℕ) → room_after ≡ room
+    pub making_goes_on : {room_after : ℕ} → room_after ≡ room
         → IsMaking at old new i j was more room_was room_after
-    making_goes_on room_after room_same = record {
+    making_goes_on room_same = record {
       contents = turns.contents
           ∙ ap (λ (c : Contents V D U F). record c { mesh = new.mesh }) making.contents;
       shape = subst (λ (vs : List V). IsMesh (map at vs) (faces_of new.mesh) (outer_of new.mesh))

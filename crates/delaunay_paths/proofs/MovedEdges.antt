@@ -1,13 +1,14 @@
 -- Edges that cross a segment move from one of their lists to the other.
--- Lemmas: nothing_left, less_by_room, less_if_popped, shorter, longer, room_on, room_stays,
--- fewer_fit, entries_on, entries_begin, crossing_on, crossing_begins, held_with_room,
--- stepped_back, none_steps_back, none_taken, others_taken, others_wait.
-use Rattle.std.proofs.Common.{◌≡◌, ◌≢◌, ◌+◌, ◌-◌, ◌<◌, ◌≤◌, [], ◌∷◌, ◌++◌, ◌∙◌}
+-- Lemmas: nothing_left, less_by_room, shorter, longer, room_on, room_stays, fewer_fit, can_step,
+-- can_wait, entries_on, entries_begin, crossing_on, crossing_begins, held_with_room, stepped_back,
+-- none_steps_back, none_taken, others_taken, others_wait.
+use Rattle.std.proofs.Common.{◌≡◌, ◌+◌, ◌-◌, ◌<◌, ◌≤◌, [], ◌∷◌, ◌++◌, ◌∙◌}
 use Rattle.std.proofs.Common.{ℕ, List, length, take, sym, ap, subst, arith, append-nil}
-use Rattle.std.proofs.Common.{length-append, vec_capacity}
+use Rattle.std.proofs.Common.{length-append, vec_len, vec_capacity}
 use mathlib.Core.Logic.{inl, inr}
-use Rattle.std.specs.Prelude.{AllPairs, Contains}
+use Rattle.std.specs.Prelude.{Contains}
 use Rattle.std.proofs.lemmas.List.Elements.{Contains-push_cases}
+use Rattle.delaunay_lines.specs.half_edge_mesh.Contents.{Contents}
 use Rattle.delaunay_lines.specs.half_edge_mesh.Mesh.{Mesh}
 use Rattle.delaunay_lines.specs.plane.Fraction.{Point}
 use Rattle.delaunay_lines.proofs.plane_edits.LocalMesh.Changes.{once_none}
@@ -16,7 +17,7 @@ use Rattle.delaunay_lines.proofs.mesh_embedding.WorkLists.{contains_before, cont
 use Rattle.delaunay_lines.proofs.mesh_embedding.WorkLists.{last_not_before, once_after, once_before}
 use Rattle.delaunay_lines.proofs.delaunay_legalization_lemmas.Legalizing.{drained}
 use Rattle.delaunay_paths.specs.declared.crossing.CrossingLists.{CrossingLists}
-use Rattle.delaunay_paths.specs.Crossing.{AreAllCrossing}
+use Rattle.delaunay_paths.specs.Crossing.{AreAllCrossing, ListsAllCrossing}
 use Rattle.delaunay_paths.specs.Lists.{AreHeld, AreOnce, HaveRoom, IsIn}
 use Rattle.delaunay_paths.specs.Lists.{KeepEntries, KeepRoom, ListCrossing, ListOthers}
 use Rattle.delaunay_paths.proofs.CrossingList.{put_waiting, taken}
@@ -69,7 +70,7 @@ one_more_there a b c d room e f fits = omega arith
 pub less_by_room : (len a b room : ℕ) → len ≡ a → a + b + 1 ≤ room → len < room
 less_by_room len a b room e fits = omega arith
 
-pub less_if_popped : (len a b c room : ℕ) → len ≡ b → a ≡ c + 1 → a + b ≤ room → len < room
+less_if_popped : (len a b c room : ℕ) → len ≡ b → a ≡ c + 1 → a + b ≤ room → len < room
 less_if_popped len a b c room e f fits = omega arith
 
 pub shorter : (a b : ℕ) → a ≡ b + 1 → b < a
@@ -83,17 +84,17 @@ same_length xs ys is = ap (λ (zs : List ℕ). length zs) is
 
 -- ---- of the lists of crossing edges
 -- room that stays twice stays
-pub room_on : (old now new : CrossingLists) → KeepRoom old now → KeepRoom now new
+pub room_on : {old now new : CrossingLists} → KeepRoom old now → KeepRoom now new
     → KeepRoom old new
-room_on old now new a b = record {
+room_on a b = record {
   waiting = b.waiting ∙ a.waiting;
   unseen = b.unseen ∙ a.unseen;
 }
 
 -- the same room suffices for as many
-pub room_stays : (n k : ℕ) (old new : CrossingLists) → KeepRoom old new → k ≡ n → HaveRoom n old
+pub room_stays : {n k : ℕ} {old new : CrossingLists} → KeepRoom old new → k ≡ n → HaveRoom n old
     → HaveRoom k new
-room_stays n k old new same count room = record {
+room_stays {n = n} {k = k} {old = old} {new = new} same count room = record {
   waiting = fits (vec_capacity old.waiting) (vec_capacity new.waiting) same.waiting room.waiting;
   unseen = fits (vec_capacity old.unseen) (vec_capacity new.unseen) same.unseen room.unseen;
 }
@@ -111,23 +112,39 @@ fewer_fit n k l few room = record {
     fits : (room : ℕ) → n ≤ room → k ≤ room
     fits room enough = omega (arith, enough, few)
 
+-- where the last entry of one list is taken out, the other has room for it
+module _ {l : CrossingLists} (held : AreHeld l) (left : List ℕ) (e : ℕ) where
+  pub can_step : l.waiting.items ≡ left ++ e ∷ [] → vec_len l.unseen < vec_capacity l.unseen
+  can_step popped = less_if_popped (vec_len l.unseen) (length l.waiting.items)
+      (length l.unseen.items) (length left) (vec_capacity l.unseen) l.unseen.ok.0
+      (longer l.waiting.items left e popped) held.room.unseen
+
+  pub can_wait : l.unseen.items ≡ left ++ e ∷ [] → vec_len l.waiting < vec_capacity l.waiting
+  can_wait popped = less_by_room (vec_len l.waiting) (length l.waiting.items) (length left)
+      (vec_capacity l.waiting) l.waiting.ok.0 (one_fewer (length l.waiting.items)
+      (length l.unseen.items) (length left) (vec_capacity l.waiting)
+      (longer l.unseen.items left e popped) held.room.waiting)
+    where
+      one_fewer : (a b c room : ℕ) → b ≡ c + 1 → a + b ≤ room → a + c + 1 ≤ room
+      one_fewer a b c room f fits = omega arith
+
 -- entries that stay twice stay
-pub entries_on : (old now new : CrossingLists) → KeepEntries old now → KeepEntries now new
+pub entries_on : {old now new : CrossingLists} → KeepEntries old now → KeepEntries now new
     → KeepEntries old new
-entries_on old now new a b = record {
+entries_on a b = record {
   held = b.held;
   kept = λ h there. b.kept h (a.kept h there);
   only = λ h there. a.only h (b.only h there);
 }
 
 -- at the beginning they are as they were
-pub entries_begin : (old : CrossingLists) → AreHeld old → KeepEntries old old
-entries_begin old held = record { held = held; kept = λ h there. there; only = λ h there. there }
+pub entries_begin : {old : CrossingLists} → AreHeld old → KeepEntries old old
+entries_begin held = record { held = held; kept = λ h there. there; only = λ h there. there }
 
 -- where their edges are all that cross, the same edges are
-pub crossing_on : (points : List Point) (m : Mesh) (i j : ℕ) (old new : CrossingLists)
+pub crossing_on : {points : List Point} {m : Mesh} {i j : ℕ} {old new : CrossingLists}
     → ListCrossing points m i j old → KeepEntries old new → ListCrossing points m i j new
-crossing_on points m i j old new lists same = record {
+crossing_on lists same = record {
   held = same.held;
   all = record {
     cross = λ h there. lists.all.cross h (same.only h there);
@@ -136,14 +153,13 @@ crossing_on points m i j old new lists same = record {
 }
 
 -- the edges of one walk, all to be seen again
-pub crossing_begins : (points : List Point) (m : Mesh) (i j n : ℕ) (l : CrossingLists)
-    → AllPairs (λ k h. k ≢ h) l.waiting.items
-    → AreAllCrossing points m i j (Contains l.waiting.items)
-    → length l.waiting.items ≤ n → l.unseen.items ≡ [] → HaveRoom n l → ListCrossing points m i j l
-crossing_begins points m i j n l once all few none room = record {
+pub crossing_begins : {V D U F : Type 0} {points : List Point} {c : Contents V D U F} {i j : ℕ}
+    (l : CrossingLists) → ListsAllCrossing points c i j l.waiting.items → l.unseen.items ≡ []
+    → HaveRoom (length c.undirected) l → ListCrossing points c.mesh i j l
+crossing_begins {c = c} l lists none room = record {
   held = record {
     once = subst (AreOnce l.waiting.items) (sym none) (record {
-      first = once;
+      first = lists.once;
       second = once_none;
       apart = λ h a b. Contains-none h b;
     });
@@ -154,24 +170,25 @@ crossing_begins points m i j n l once all few none room = record {
   };
   all = record {
     cross = λ h there. elim there [
-      | inl a ↦ all.cross h a
+      | inl a ↦ lists.all.cross h a
       | inr b ↦ absurd (Contains-none h (subst (λ (zs : List ℕ). Contains zs h) none b))
     ];
-    all = λ h within c. inl (all.all h within c);
+    all = λ h within crosses. inl (lists.all.all h within crosses);
   };
 }
   where
     beside : (a b n room : ℕ) → a ≤ n → b ≡ 0 → n ≤ room → a + b ≤ room
     beside a b n room e f g = omega arith
 
-    fits : (room : ℕ) → n ≤ room → length l.waiting.items + length l.unseen.items ≤ room
-    fits room enough = beside (length l.waiting.items) (length l.unseen.items) n room few
-        (same_length l.unseen.items [] none) enough
+    fits : (room : ℕ) → length c.undirected ≤ room
+        → length l.waiting.items + length l.unseen.items ≤ room
+    fits room enough = beside (length l.waiting.items) (length l.unseen.items)
+        (length c.undirected) room lists.few (same_length l.unseen.items [] none) enough
 
 -- lists with room for one more have room for all
-pub held_with_room : (points : List Point) (m : Mesh) (i j e : ℕ) (l : CrossingLists)
+pub held_with_room : {points : List Point} {m : Mesh} {i j e : ℕ} {l : CrossingLists}
     → ListOthers points m i j e l → AreHeld l
-held_with_room points m i j e l lists = record {
+held_with_room {l = l} lists = record {
   once = lists.once;
   room = record {
     waiting = less (vec_capacity l.waiting) lists.room.waiting;
@@ -183,7 +200,7 @@ held_with_room points m i j e l lists = record {
         → length l.waiting.items + length l.unseen.items ≤ room
     less room fits = omega (arith, fits)
 
-module _ (old new : CrossingLists) (same : KeepRoom old new) where
+module _ {old new : CrossingLists} (same : KeepRoom old new) where
   fits_new : (n : ℕ) → HaveRoom n old → HaveRoom n new
   fits_new n room = record {
     waiting = subst (λ (k : ℕ). n ≤ k) (sym same.waiting) room.waiting;
@@ -256,7 +273,7 @@ module _ (old new : CrossingLists) (same : KeepRoom old new) where
       same_entries waiting (unchanged old.unseen.items new.unseen.items popped) held
 
   -- ---- on
-  module _ (points : List Point) (m : Mesh) (i j e : ℕ) where
+  module _ {points : List Point} {m : Mesh} {i j : ℕ} (e : ℕ) where
     -- the next one to be seen is taken out
     pub others_taken : old.unseen.items ≡ new.unseen.items ++ e ∷ []
         → new.waiting.items ≡ old.waiting.items → ListCrossing points m i j old

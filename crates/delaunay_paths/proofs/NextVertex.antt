@@ -1,6 +1,6 @@
 -- The first vertex of a walk after its start is the next one of the path.
--- Notions: HasNoOther, SeeksNext; no_other_yet, still_no_other, two, none_is_left, comes_next,
--- seeking_begins, seeking_goes_on, seeking_finds, seeking_finds_index, seeking_never_ends.
+-- Notions: HasNoOther, SeeksNext; two, none_is_left, comes_next, seeking_begins, two_ends,
+-- seeking_never_ends, seeking_goes_on, list_on, seeking_finds.
 use Rattle.std.proofs.Common.{◌≡◌, ◌≢◌, ◌⊎◌, ◌<◌, [], ◌∷◌, ◌++◌}
 use Rattle.std.proofs.Common.{ℕ, List, length, map, Some, None, sym, ap, subst, inl, inr}
 use Rattle.std.specs.Prelude.{ℤ, Contains}
@@ -35,7 +35,7 @@ use Rattle.delaunay_paths.specs.Items.{IsOtherVertex}
 use Rattle.delaunay_paths.proofs.Passing.{HasPassed, all_passed, later_ones, list_with, none_passed}
 use Rattle.delaunay_paths.proofs.Passing.{one_more_passed}
 use Rattle.delaunay_paths.proofs.Places.{no_same_place}
-use Rattle.delaunay_paths.proofs.Walking.{in_map, nested, not_start, not_end, of_map, placed_apart}
+use Rattle.delaunay_paths.proofs.Walking.{in_map, nested, not_start, not_end, placed_apart}
 
 -- strictly within a segment is nearer than its end
 within_is_nearer : (p q x : Fraction) → ¬ IsSame p q → WithinSegment p q x → IsNearer p x q
@@ -53,11 +53,11 @@ abbrev pub HasNoOther : List Item → ℕ → Type 0
 HasNoOther items i = (v : ℕ) → Contains items (at_vertex v) → v ≡ i
 
 -- the empty list of items has no other vertex
-pub no_other_yet : (i : ℕ) → HasNoOther [] i
+no_other_yet : (i : ℕ) → HasNoOther [] i
 no_other_yet i v c = absurd (Contains-none (at_vertex v) c)
 
 -- items without another vertex than i get none with an item that is none
-pub still_no_other : (passed : List Item) (k : Item) (i : ℕ) → HasNoOther passed i
+still_no_other : (passed : List Item) (k : Item) (i : ℕ) → HasNoOther passed i
     → ((v : ℕ) → k ≡ at_vertex v → v ≡ i) → HasNoOther (passed ++ k ∷ []) i
 still_no_other passed k i none this v c = elim (Contains-push_cases passed k (at_vertex v) c) [
   | inl x ↦ none v x
@@ -165,82 +165,99 @@ module _ (points : List Point) (m : Mesh) (distinct : ArePlacedApart points) (i 
     }
 
 -- ---- the walk to it
-module _ {V D U F P S : Type 0} (at : V → Point) (number : S → ℤ)
-    (IsSite IsCovered : P → Point → Type 0) (c : Contents V D U F) (i j : ℕ) where
+-- these items were passed on the way to another vertex j, and no other vertex than i is one
+pub record SeeksNext {V D U F P S : Type 0} (at : V → Point) (number : S → ℤ)
+    (IsSite IsCovered : P → Point → Type 0) (c : Contents V D U F) (i j : ℕ) (passed : List Item)
+    (now : LineIntersectionIterator V D U F P S) : Type 0 where
+  pub shape : IsMesh (map at c.vertices) (faces_of c.mesh) (outer_of c.mesh)
+  pub from : i < length c.vertices
+  pub to : j < length c.vertices
+  pub apart : i ≢ j
+  pub so_far : HasPassed at number IsSite IsCovered (state_of c) (point_at (map at c.vertices) i)
+      (point_at (map at c.vertices) j) passed now
+  pub ready : IsReady at number IsSite IsCovered now
+  pub none : HasNoOther passed i
+
+-- at the beginning nothing was passed
+pub seeking_begins : {V D U F P S : Type 0} {at : V → Point} {number : S → ℤ}
+    {IsSite IsCovered : P → Point → Type 0} {c : Contents V D U F} {i j : ℕ}
+    {it : LineIntersectionIterator V D U F P S}
+    → IsMesh (map at c.vertices) (faces_of c.mesh) (outer_of c.mesh) → i < length c.vertices
+    → j < length c.vertices → i ≢ j → IsReady at number IsSite IsCovered it
+    → WalksLine at number (state_of c) (point_at (map at c.vertices) i)
+    (point_at (map at c.vertices) j) it → SeeksNext at number IsSite IsCovered c i j [] it
+seeking_begins {at = at} {number = number} {IsSite = IsSite} {IsCovered = IsCovered} {c = c} {i = i}
+    {j = j} {it = it} shape from to apart ready walks =
+    record {
+      shape = shape;
+      from = from;
+      to = to;
+      apart = apart;
+      so_far = none_passed at number IsSite IsCovered (state_of c) (point_at (map at c.vertices) i)
+          (point_at (map at c.vertices) j) it ready walks;
+      ready = ready;
+      none = no_other_yet i;
+    }
+
+module _ {V D U F P S : Type 0} {at : V → Point} {number : S → ℤ}
+    {IsSite IsCovered : P → Point → Type 0} {c : Contents V D U F} {i j : ℕ} {passed : List Item}
+    {now : LineIntersectionIterator V D U F P S}
+    (seeks : SeeksNext at number IsSite IsCovered c i j passed now) where
   abbrev points : List Point
   points = map at c.vertices
 
-  -- no other vertex than i was passed
-  pub record SeeksNext (now : LineIntersectionIterator V D U F P S) : Type 0 where
-    pub passed : List Item
-    pub so_far : HasPassed at number IsSite IsCovered (state_of c) (point_at points i)
-        (point_at points j) passed now
-    pub ready : IsReady at number IsSite IsCovered now
-    pub none : HasNoOther passed i
+  distinct : ArePlacedApart points
+  distinct = placed_apart points (faces_of c.mesh) (outer_of c.mesh) seeks.shape
 
-  -- at the beginning nothing was passed
-  pub seeking_begins : (it : LineIntersectionIterator V D U F P S)
-      → IsReady at number IsSite IsCovered it
-      → WalksLine at number (state_of c) (point_at points i) (point_at points j) it → SeeksNext it
-  seeking_begins it ready walks = record {
-    passed = [];
-    so_far = none_passed at number IsSite IsCovered (state_of c) (point_at points i)
-        (point_at points j) it ready
-        walks;
-    ready = ready;
-    none = no_other_yet i;
-  }
+  from_in : i < length points
+  from_in = in_map at c.vertices i seeks.from
 
-  module _ (now : LineIntersectionIterator V D U F P S) (seeks : SeeksNext now)
-      (after : LineIntersectionIterator V D U F P S) where
+  to_in : j < length points
+  to_in = in_map at c.vertices j seeks.to
+
+  -- the ends of the segment are at two places
+  pub two_ends : ¬ IsSame (place points i) (place points j)
+  two_ends = two points c.mesh distinct i j from_in to_in seeks.apart
+
+  -- the items do not end before another vertex
+  pub seeking_never_ends : {after : LineIntersectionIterator V D U F P S}
+      → GivesNext at number now None after → ⊥
+  seeking_never_ends {after = after} gives = none_is_left points c.mesh distinct i j from_in to_in
+      seeks.apart passed (all_passed at number IsSite IsCovered (state_of c) (point_at points i)
+      (point_at points j) passed now after seeks.so_far gives) seeks.none
+
+  module _ {x : Intersection V D U F} {after : LineIntersectionIterator V D U F P S}
+      (gives : GivesNext at number now (Some x) after) where
     -- an item that is no other vertex is passed
-    pub seeking_goes_on : (x : Intersection V D U F) → GivesNext at number now (Some x) after
-        → IsReady at number IsSite IsCovered after → IsOtherVertex (item_in x) i None
-        → SeeksNext after
-    seeking_goes_on x gives ready none = record {
-      passed = seeks.passed ++ item_in x ∷ [];
+    pub seeking_goes_on : IsReady at number IsSite IsCovered after
+        → IsOtherVertex (item_in x) i None
+        → SeeksNext at number IsSite IsCovered c i j (passed ++ item_in x ∷ []) after
+    seeking_goes_on ready none = record {
+      shape = seeks.shape;
+      from = seeks.from;
+      to = seeks.to;
+      apart = seeks.apart;
       so_far = one_more_passed at number IsSite IsCovered (state_of c) (point_at points i)
-          (point_at points j)
-          seeks.passed now after seeks.so_far x gives ready;
+          (point_at points j) passed now after seeks.so_far x gives ready;
       ready = ready;
-      none = still_no_other seeks.passed (item_in x) i seeks.none none;
+      none = still_no_other passed (item_in x) i seeks.none none;
     }
 
-    module _ (shape : IsMesh points (faces_of c.mesh) (outer_of c.mesh))
-        (hi : i < length c.vertices) (hj : j < length c.vertices) (i_not_j : i ≢ j) where
-      -- the other vertex that a call gives is next to i on the segment
-      pub seeking_finds : (x : Intersection V D U F) → GivesNext at number now (Some x) after
-          → (v : ℕ) → IsOtherVertex (item_in x) i (Some v) → AreNextOn points i j i v
-      seeking_finds x gives v other =
-          let l = list_with at number IsSite IsCovered (state_of c) (point_at points i)
-          (point_at points j) seeks.passed
-          now after seeks.so_far x gives in
-          let list = subst
-          (λ (k : Item). IsLineList (drawn points c.mesh) (place points i) (place points j)
-          ((seeks.passed ++ k ∷ []) ++ l.0)) other.0 l.1 in
-          comes_next points c.mesh
-          (placed_apart points (faces_of c.mesh) (outer_of c.mesh) shape) i j
-          (in_map at c.vertices i hi)
-          (in_map at c.vertices j hj) i_not_j seeks.passed l.0 v other.1 list seeks.none
-          (list.met
-          (two points c.mesh (placed_apart points (faces_of c.mesh) (outer_of c.mesh) shape) i j
-          (in_map at c.vertices i hi) (in_map at c.vertices j hj) i_not_j) (at_vertex v)
-          (Contains-append_left (seeks.passed ++ at_vertex v ∷ []) l.0 (at_vertex v)
-          (Contains-append_right seeks.passed (at_vertex v ∷ []) (at_vertex v)
-          (Contains-head (at_vertex v) []))))
+    -- the line list with it
+    pub list_on : (others : List Item) × IsLineList (drawn points c.mesh) (place points i)
+        (place points j) ((passed ++ item_in x ∷ []) ++ others)
+    list_on = list_with at number IsSite IsCovered (state_of c) (point_at points i)
+        (point_at points j) passed now after seeks.so_far x gives
 
-      -- and it is one of the vertices
-      pub seeking_finds_index : (x : Intersection V D U F) → GivesNext at number now (Some x) after
-          → (v : ℕ) → IsOtherVertex (item_in x) i (Some v) → v < length c.vertices
-      seeking_finds_index x gives v other =
-          of_map at c.vertices v (seeking_finds x gives v other).second_index
-
-      -- the items do not end before another vertex
-      pub seeking_never_ends : GivesNext at number now None after → ⊥
-      seeking_never_ends gives =
-          none_is_left points c.mesh
-          (placed_apart points (faces_of c.mesh) (outer_of c.mesh) shape) i j
-          (in_map at c.vertices i hi) (in_map at c.vertices j hj) i_not_j seeks.passed
-          (all_passed at number IsSite IsCovered (state_of c) (point_at points i)
-          (point_at points j) seeks.passed now
-          after seeks.so_far gives) seeks.none
+    -- another vertex is next to i on the segment
+    pub seeking_finds : {v : ℕ} → IsOtherVertex (item_in x) i (Some v) → AreNextOn points i j i v
+    seeking_finds {v = v} other =
+        let l = list_on in
+        let list = subst
+        (λ (k : Item). IsLineList (drawn points c.mesh) (place points i) (place points j)
+        ((passed ++ k ∷ []) ++ l.0)) other.0 l.1 in
+        comes_next points c.mesh distinct i j from_in to_in seeks.apart passed l.0 v other.1 list
+        seeks.none (list.met two_ends (at_vertex v)
+        (Contains-append_left (passed ++ at_vertex v ∷ []) l.0 (at_vertex v)
+        (Contains-append_right passed (at_vertex v ∷ []) (at_vertex v)
+        (Contains-head (at_vertex v) []))))

@@ -29,7 +29,7 @@ use Rattle.delaunay_lines.specs.delaunay_legalization.Shape.{IsTriangulated}
 use Rattle.delaunay_lines.specs.delaunay_legalization.State.{State, state_of}
 use Rattle.delaunay_lines.proofs.delaunay_legalization_lemmas.ConstraintEdges.{constraints_are_edges}
 use Rattle.delaunay_lines.proofs.delaunay_legalization_lemmas.Questions.{both_ways}
-use Rattle.delaunay_paths.specs.Adding.{AddsPath, MarksEdge, NoneCrosses}
+use Rattle.delaunay_paths.specs.Adding.{AddsPath, HasFreeWay, MarksEdge, NoneCrosses}
 use Rattle.delaunay_paths.specs.Leaving.{MakesEdge}
 use Rattle.delaunay_paths.specs.Releasing.{AddsConstraints}
 use Rattle.delaunay_paths.proofs.AddingPieces.{LeavesPiece, adding_to_begins, adding_to_ends}
@@ -172,16 +172,17 @@ module _ {V D U F : Type 0} (at : V → Point) (marks : U → Bool) (marked_as :
   free = edge_is_free at (state_of old) kept h within marks constraints marked
 
   piece : LeavesPiece all marks marked_as constraints old new u v [] []
-  piece = piece_made marks constraints marked at marked_as old old new u v [] [] made whole_mesh
-      (record { edge = h; source = refl; target = refl; marks_edge = by }) free
+  piece = piece_made marks constraints marked at marked_as old old new u v [] [] made whole_mesh h
+      refl refl by free
+
+  way : HasFreeWay at constraints old u v
+  way = record { from = u_in; to = v_in; free = free }
 
   -- the edge alone is the path that is added
   path : AddsPath at marks marked_as constraints old new u v
-  path = adding_to_ends marks constraints marked at marked_as old new u v v u_in v_in
-      (adding_to_goes_on marks constraints marked at marked_as old old u v u u_in v_in
-      (adding_to_begins marks constraints marked at marked_as old u v kept u_in) v
-      (ends_apart at (state_of old) kept h within) (edge_is_next at (state_of old) kept h within)
-      has new [] [] piece) refl kept free
+  path = adding_to_ends (adding_to_goes_on
+      (adding_to_begins marks constraints marked {marked_as = marked_as} kept way)
+      (edge_is_next at (state_of old) kept h within) has piece) refl kept
 
   -- it is added to the constraints, and each edge is as legal as it was
   pub edge_added : AddsConstraints at marks marked_as constraints old new u v
@@ -191,8 +192,8 @@ module _ {V D U F : Type 0} (at : V → Point) (marks : U → Bool) (marked_as :
     plain = path.plain;
     legal = record {
       kept = path.kept;
-      passing = λ a b k l f g unmarked. added_passing at marks marked_as constraints old new u v
-          path [] [] (record { edges = piece.edges; leaves = piece.leaves }) legal a b k l f g
-          unmarked (no_joins a b);
+      passing = λ a b k l f g unmarked. added_passing path {was = []} {left = []}
+          (record { edges = piece.edges; leaves = piece.leaves }) legal a b k l f g unmarked
+          (no_joins a b);
     };
   }

@@ -1,7 +1,6 @@
 -- A constraint that is released, and what is left to test then.
--- Lemmas: same_pair_or_not, double, one_edge, edge_there, same_vertices, released_kept,
--- released_passing, left_to_test, released, fits_on, counts_on, sites_on, constraints_added,
--- added_passing, added_room.
+-- Lemmas: same_pair_or_not, double, one_edge, released_kept, released_passing, left_to_test,
+-- released, added_sites, added_fits, added_counts, added_room, added_passing, constraints_added.
 use Rattle.std.proofs.Common.{◌≡◌, ◌≢◌, ◌⊎◌, ◌↔◌, ◌*◌, ◌<◌, ◌≤◌, [], ◌∷◌, ◌∙◌}
 use Rattle.std.proofs.Common.{ℕ, List, length, map, set, sym, ap, subst, inl, inr, arith}
 use Rattle.std.specs.Prelude.{Bool, false, All, Contains}
@@ -75,177 +74,146 @@ module _ {V D U F : Type 0} (at : V → Point) (c : Contents V D U F)
       let f = rev_of_even l in
       omega (arith, r, f)
 
-module _ {V D U F : Type 0} (at : V → Point) (marks : U → Bool) (constraints : List U → List ℕ)
-    (marked : (ds : List U) → constraints ds ≡ marked_edges marks ds) (old : Contents V D U F)
-    (k : ℕ) (there : Contains (constraints old.undirected) k) where
+-- the constraint on edge k was taken
+module _ {V D U F : Type 0} {at : V → Point} (marks : U → Bool) {constraints : List U → List ℕ}
+    (marked : (ds : List U) → constraints ds ≡ marked_edges marks ds) {old mid : Contents V D U F}
+    {k : ℕ} (there : Contains (constraints old.undirected) k)
+    (legal : IsDelaunayTriangulation at constraints (state_of old)) {change : U → U}
+    (free : (d : U) → marks (change d) ≡ false) (written : HasEdgeData change old mid k) where
   -- the constraint is one of the undirected edges
-  pub edge_there : k < length old.undirected
+  edge_there : k < length old.undirected
   edge_there = fixed_within marks constraints marked old.undirected k there
 
-  module _ (legal : IsDelaunayTriangulation at constraints (state_of old)) (mid : Contents V D U F)
-      (change : U → U) (free : (d : U) → marks (change d) ≡ false)
-      (written : HasEdgeData change old mid k) where
-    -- the mesh stays
-    same : mid.mesh ≡ old.mesh
-    same = ap (λ (c : Contents V D U F). c.mesh) written.whole
+  -- the mesh stays
+  same : mid.mesh ≡ old.mesh
+  same = ap (λ (c : Contents V D U F). c.mesh) written.whole
 
-    -- the vertices stay
-    pub same_vertices : mid.vertices ≡ old.vertices
-    same_vertices = ap (λ (c : Contents V D U F). c.vertices) written.whole
-
-    -- a triangulation stays one
-    pub released_kept : IsTriangulated at (state_of mid)
-    released_kept = subst (λ (c : Contents V D U F). IsTriangulated at (state_of c))
-        (sym written.whole) (record {
-          in_range = legal.kept.in_range;
-          few_edges = rw (length-set old.undirected k (change written.value)) legal.kept.few_edges;
-          few_faces = legal.kept.few_faces;
-          valid = legal.kept.valid;
-          fits = rw (length-set old.undirected k (change written.value)) legal.kept.fits;
-          shape = legal.kept.shape;
-        })
-
-    abbrev u : ℕ
-    u = origin old.mesh (2 * k)
-
-    abbrev v : ℕ
-    v = origin old.mesh (rev (2 * k))
-
-    now_is : constraint_pairs constraints mid.mesh mid.undirected
-        ≡ constraint_pairs constraints old.mesh (set old.undirected k (change written.value))
-    now_is = ap
-        (λ (c : Contents V D U F). constraint_pairs constraints c.mesh c.undirected) written.whole
-
-    leaves : (a b : ℕ) → Joins (constraint_pairs constraints mid.mesh mid.undirected) a b ↔
-        (Joins (constraint_pairs constraints old.mesh old.undirected) a b × ¬ IsSamePair a b u v)
-    leaves a b = subst (λ (ps : List (ℕ × ℕ)). Joins ps a b ↔
-        (Joins (constraint_pairs constraints old.mesh old.undirected) a b
-        × ¬ IsSamePair a b u v)) (sym now_is)
-        (unmarking_leaves marks constraints marked old.undirected k written.value
-        (change written.value) written.was
-        old.mesh (free written.value)
-        (λ l within. one_edge at old legal.kept k l edge_there within) a b)
-
-    -- the pair of edge k joins its ends
-    here : Joins (pairs_at old.mesh (k ∷ [])) u v
-    here = joins_edge old.mesh (k ∷ []) k (Contains-head k [])
-
-    was_passing : AllPassBut (map at old.vertices) (faces_of old.mesh)
-        (constraint_pairs constraints mid.mesh mid.undirected) (pairs_at old.mesh (k ∷ []))
-    was_passing i j x l f g unmarked untested =
-        legal.passing i j x l f g (λ h. elim (same_pair_or_not i j u v) as (λ _. ⊥) [
-          | inl s ↦ untested (same_joined (pairs_at old.mesh (k ∷ [])) i j u v s here)
-          | inr n ↦ unmarked ((leaves i j).1 (h, n))
-        ])
-
-    -- only this edge is left to test
-    pub released_passing : AllPassBut (map at mid.vertices) (faces_of mid.mesh)
-        (constraint_pairs constraints mid.mesh mid.undirected) (pairs_at mid.mesh (k ∷ []))
-    released_passing = subst (λ (x : List V × Mesh). AllPassBut (map at x.0) (faces_of x.1)
-        (constraint_pairs constraints mid.mesh mid.undirected) (pairs_at x.1 (k ∷ [])))
-        (λ o. (sym same_vertices o, sym same o)) was_passing
-
-    -- and it is an edge of the mesh
-    pub left_to_test : AreEdges mid.mesh (k ∷ [])
-    left_to_test = subst (λ (m : Mesh). AreEdges m (k ∷ [])) (sym same) (record {
-      within = λ l c. elim (Contains-cases k [] l c) [
-        | inl e ↦ subst (λ (x : ℕ). 2 * x < length old.mesh.half_edges) e
-            (double at old legal.kept k edge_there)
-        | inr n ↦ absurd (Contains-none l n)
-      ];
-      once = once_after [] k once_none (λ c. Contains-none k c);
-    })
-
-    -- after flips that make it Delaunay again, the constraint is released
-    pub released : (new : Contents V D U F) → new ≡ record mid { mesh = new.mesh }
-        → KeepsIndexes mid.mesh new.mesh →
-        constraint_pairs constraints new.mesh new.undirected
-        ≡ constraint_pairs constraints mid.mesh mid.undirected →
-        IsDelaunayTriangulation at constraints (state_of new)
-        → ReleasesEdge at change constraints old new k
-    released new contents indexes constraints_stay now_legal = record {
-      value = written.value;
-      was = written.was;
-      contents = contents
-          ∙ ap (λ (c : Contents V D U F). record c { mesh = new.mesh }) written.whole;
-      indexes = subst (λ (m : Mesh). KeepsIndexes m new.mesh) same indexes;
-      plain = record {
-        there = joins_edge old.mesh (constraints old.undirected) k there;
-        vertices = ap (λ (c : Contents V D U F). c.vertices) contents ∙ same_vertices;
-        constraints = λ a b. subst (λ (ps : List (ℕ × ℕ)). Joins ps a b ↔
-            (Joins (constraint_pairs constraints old.mesh old.undirected) a b
-            × ¬ IsSamePair a b u v))
-            (sym constraints_stay) (leaves a b);
-      };
-      legal = now_legal;
-    }
-
--- ---- where only the mesh and the data of edges change
-module _ {V D U F : Type 0} (old mid : Contents V D U F)
-    (stays : mid ≡ record old { mesh = mid.mesh; undirected = mid.undirected }) where
   -- the vertices stay
-  stay : mid.vertices ≡ old.vertices
-  stay = ap (λ (c : Contents V D U F). c.vertices) stays
+  same_vertices : mid.vertices ≡ old.vertices
+  same_vertices = ap (λ (c : Contents V D U F). c.vertices) written.whole
 
-  -- flips that fit in the count fit in it afterwards
-  pub fits_on : (flips : ℕ) → FlipsFit (length old.vertices) flips
-      → FlipsFit (length mid.vertices) flips
-  fits_on flips h = subst (λ (vs : List V). FlipsFit (length vs) flips) (sym stay) h
+  -- a triangulation stays one
+  pub released_kept : IsTriangulated at (state_of mid)
+  released_kept = subst (λ (c : Contents V D U F). IsTriangulated at (state_of c))
+      (sym written.whole) (record {
+        in_range = legal.kept.in_range;
+        few_edges = rw (length-set old.undirected k (change written.value)) legal.kept.few_edges;
+        few_faces = legal.kept.few_faces;
+        valid = legal.kept.valid;
+        fits = rw (length-set old.undirected k (change written.value)) legal.kept.fits;
+        shape = legal.kept.shape;
+      })
 
-  -- a count of the flips afterwards is one of before
-  pub counts_on : (before after : ℕ) → CountsFlips (length mid.vertices) before after →
-      CountsFlips (length old.vertices) before after
-  counts_on before after h = subst (λ (vs : List V). CountsFlips (length vs) before after) stay h
+  abbrev u : ℕ
+  u = origin old.mesh (2 * k)
 
-module _ {V D U F : Type 0} (at : V → Point) (old mid : Contents V D U F)
-    (stays : mid ≡ record old { mesh = mid.mesh; undirected = mid.undirected }) where
-  -- vertices that are sites are sites afterwards
-  pub sites_on : (IsSite : Point → Type 0) → All IsSite (map at old.vertices)
-      → All IsSite (map at mid.vertices)
-  sites_on IsSite sites =
-      subst (λ (vs : List V). All IsSite (map at vs))
-      (sym (ap (λ (c : Contents V D U F). c.vertices) stays)) sites
+  abbrev v : ℕ
+  v = origin old.mesh (rev (2 * k))
 
--- a path was added, and edges were flipped
-pub constraints_added : {V D U F : Type 0} (at : V → Point) (marks : U → Bool) (marked : U → U)
-    (constraints : List U → List ℕ) (old mid new : Contents V D U F) (i j : ℕ)
-    → AddsPath at marks marked constraints old mid i j → new ≡ record mid { mesh = new.mesh }
-    → constraints_by constraints (state_of new) ≡ constraints_by constraints (state_of mid)
-    → IsDelaunayTriangulation at constraints (state_of new)
-    → AddsConstraints at marks marked constraints old new i j
-constraints_added {V = V} {D = D} {U = U} {F = F} at marks marked constraints old mid new i j adds
-    contents same legal =
-    record {
-      contents = contents
-          ∙ ap (λ (c : Contents V D U F). record c { mesh = new.mesh }) adds.contents
-          ∙ ap (λ (us : List U). record old { mesh = new.mesh; undirected = us })
-          (sym (ap (λ (c : Contents V D U F). c.undirected) contents));
-      marks_some = subst (λ (us : List U). MarksSome marks marked old.undirected us)
-          (sym (ap (λ (c : Contents V D U F). c.undirected) contents)) adds.marks_some;
-      plain = record {
-        ends = adds.plain.ends;
-        free = adds.plain.free;
-        vertices = ap (λ (c : Contents V D U F). c.vertices) contents ∙ adds.plain.vertices;
-        constraints = λ a b. subst (λ (ps : List (ℕ × ℕ)). Joins ps a b ↔
-            (Joins (constraints_by constraints (state_of old)) a b ⊎
-            AreNeighboursOn at
-            (points_of at (points_and_constraints_by constraints (state_of old))) i j a b))
-            (sym same)
-            (adds.plain.constraints a b);
-      };
-      legal = legal;
-    }
+  now_is : constraint_pairs constraints mid.mesh mid.undirected
+      ≡ constraint_pairs constraints old.mesh (set old.undirected k (change written.value))
+  now_is = ap
+      (λ (c : Contents V D U F). constraint_pairs constraints c.mesh c.undirected) written.whole
+
+  leaves : (a b : ℕ) → Joins (constraint_pairs constraints mid.mesh mid.undirected) a b ↔
+      (Joins (constraint_pairs constraints old.mesh old.undirected) a b × ¬ IsSamePair a b u v)
+  leaves a b = subst (λ (ps : List (ℕ × ℕ)). Joins ps a b ↔
+      (Joins (constraint_pairs constraints old.mesh old.undirected) a b
+      × ¬ IsSamePair a b u v)) (sym now_is)
+      (unmarking_leaves marks constraints marked old.undirected k written.value
+      (change written.value) written.was
+      old.mesh (free written.value)
+      (λ l within. one_edge at old legal.kept k l edge_there within) a b)
+
+  -- the pair of edge k joins its ends
+  here : Joins (pairs_at old.mesh (k ∷ [])) u v
+  here = joins_edge old.mesh (k ∷ []) k (Contains-head k [])
+
+  was_passing : AllPassBut (map at old.vertices) (faces_of old.mesh)
+      (constraint_pairs constraints mid.mesh mid.undirected) (pairs_at old.mesh (k ∷ []))
+  was_passing i j x l f g unmarked untested =
+      legal.passing i j x l f g (λ h. elim (same_pair_or_not i j u v) as (λ _. ⊥) [
+        | inl s ↦ untested (same_joined (pairs_at old.mesh (k ∷ [])) i j u v s here)
+        | inr n ↦ unmarked ((leaves i j).1 (h, n))
+      ])
+
+  -- only this edge is left to test
+  pub released_passing : AllPassBut (map at mid.vertices) (faces_of mid.mesh)
+      (constraint_pairs constraints mid.mesh mid.undirected) (pairs_at mid.mesh (k ∷ []))
+  released_passing = subst (λ (x : List V × Mesh). AllPassBut (map at x.0) (faces_of x.1)
+      (constraint_pairs constraints mid.mesh mid.undirected) (pairs_at x.1 (k ∷ [])))
+      (λ o. (sym same_vertices o, sym same o)) was_passing
+
+  -- and it is an edge of the mesh
+  pub left_to_test : AreEdges mid.mesh (k ∷ [])
+  left_to_test = subst (λ (m : Mesh). AreEdges m (k ∷ [])) (sym same) (record {
+    within = λ l c. elim (Contains-cases k [] l c) [
+      | inl e ↦ subst (λ (x : ℕ). 2 * x < length old.mesh.half_edges) e
+          (double at old legal.kept k edge_there)
+      | inr n ↦ absurd (Contains-none l n)
+    ];
+    once = once_after [] k once_none (λ c. Contains-none k c);
+  })
+
+  -- after flips that make it Delaunay again, the constraint is released
+  pub released : {new : Contents V D U F} → new ≡ record mid { mesh = new.mesh }
+      → KeepsIndexes mid.mesh new.mesh →
+      constraint_pairs constraints new.mesh new.undirected
+      ≡ constraint_pairs constraints mid.mesh mid.undirected →
+      IsDelaunayTriangulation at constraints (state_of new)
+      → ReleasesEdge at change constraints old new k
+  released {new = new} contents indexes constraints_stay now_legal = record {
+    value = written.value;
+    was = written.was;
+    contents = contents
+        ∙ ap (λ (c : Contents V D U F). record c { mesh = new.mesh }) written.whole;
+    indexes = subst (λ (m : Mesh). KeepsIndexes m new.mesh) same indexes;
+    plain = record {
+      there = joins_edge old.mesh (constraints old.undirected) k there;
+      vertices = ap (λ (c : Contents V D U F). c.vertices) contents ∙ same_vertices;
+      constraints = λ a b. subst (λ (ps : List (ℕ × ℕ)). Joins ps a b ↔
+          (Joins (constraint_pairs constraints old.mesh old.undirected) a b
+          × ¬ IsSamePair a b u v))
+          (sym constraints_stay) (leaves a b);
+    };
+    legal = now_legal;
+  }
 
 -- ---- after a path was added
-module _ {V D U F : Type 0} (at : V → Point) (marks : U → Bool) (marked : U → U)
-    (constraints : List U → List ℕ) (old mid : Contents V D U F) (i j : ℕ)
-    (adds : AddsPath at marks marked constraints old mid i j) (was left : List ℕ)
-    (leaves : LeavesToTest (map at old.vertices) old mid was left) where
+module _ {V D U F : Type 0} {at : V → Point} {marks : U → Bool} {marked : U → U}
+    {constraints : List U → List ℕ} {old mid : Contents V D U F} {i j : ℕ}
+    (adds : AddsPath at marks marked constraints old mid i j) where
+  -- vertices that are sites are sites still
+  pub added_sites : (IsSite : Point → Type 0) → All IsSite (map at old.vertices)
+      → All IsSite (map at mid.vertices)
+  added_sites IsSite sites =
+      subst (λ (vs : List V). All IsSite (map at vs)) (sym adds.plain.vertices) sites
+
+  -- flips that fit in the count fit in it still
+  pub added_fits : (flips : ℕ) → FlipsFit (length old.vertices) flips
+      → FlipsFit (length mid.vertices) flips
+  added_fits flips h =
+      subst (λ (vs : List V). FlipsFit (length vs) flips) (sym adds.plain.vertices) h
+
+  -- a count of the flips afterwards is one of before
+  pub added_counts : {before after : ℕ} → CountsFlips (length mid.vertices) before after
+      → CountsFlips (length old.vertices) before after
+  added_counts {before = before} {after = after} h =
+      subst (λ (vs : List V). CountsFlips (length vs) before after) adds.plain.vertices h
+
+  -- what has room for three edges for each vertex has room for the edges
+  pub added_room : {room : ℕ} → 3 * length old.vertices ≤ room → length mid.undirected ≤ room
+  added_room fits =
+      let few = adds.kept.few_edges in let same = ap length adds.plain.vertices in
+      omega (arith, few, same, fits)
+
   -- all passed but the constraints, and these are constraints still
-  pub added_passing : IsDelaunayTriangulation at constraints (state_of old)
+  pub added_passing : {was left : List ℕ} → LeavesToTest (map at old.vertices) old mid was left
+      → IsDelaunayTriangulation at constraints (state_of old)
       → AllPassBut (map at mid.vertices) (faces_of mid.mesh)
       (constraint_pairs constraints mid.mesh mid.undirected) (pairs_at mid.mesh left)
-  added_passing legal = subst (λ (vs : List V). AllPassBut (map at vs) (faces_of mid.mesh)
+  added_passing {left = left} leaves legal = subst
+      (λ (vs : List V). AllPassBut (map at vs) (faces_of mid.mesh)
       (constraint_pairs constraints mid.mesh mid.undirected) (pairs_at mid.mesh left))
       (sym adds.plain.vertices)
       (λ a b k l f g free untested. leaves.leaves
@@ -253,8 +221,28 @@ module _ {V D U F : Type 0} (at : V → Point) (marks : U → Bool) (marked : U 
       (λ a b k l f g unmarked _. legal.passing a b k l f g unmarked) a b k l f g
       (λ x. free ((adds.plain.constraints a b).1 (inl x))) untested)
 
-  -- what has room for three edges for each vertex has room for the edges afterwards
-  pub added_room : (room : ℕ) → 3 * length old.vertices ≤ room → length mid.undirected ≤ room
-  added_room room fits =
-      let few = adds.kept.few_edges in let same = ap length adds.plain.vertices in
-      omega (arith, few, same, fits)
+  -- flips after it add its pieces to the constraints
+  pub constraints_added : {new : Contents V D U F} → new ≡ record mid { mesh = new.mesh }
+      → constraints_by constraints (state_of new) ≡ constraints_by constraints (state_of mid)
+      → IsDelaunayTriangulation at constraints (state_of new)
+      → AddsConstraints at marks marked constraints old new i j
+  constraints_added {new = new} contents same legal = record {
+    contents = contents
+        ∙ ap (λ (c : Contents V D U F). record c { mesh = new.mesh }) adds.contents
+        ∙ ap (λ (us : List U). record old { mesh = new.mesh; undirected = us })
+        (sym (ap (λ (c : Contents V D U F). c.undirected) contents));
+    marks_some = subst (λ (us : List U). MarksSome marks marked old.undirected us)
+        (sym (ap (λ (c : Contents V D U F). c.undirected) contents)) adds.marks_some;
+    plain = record {
+      ends = adds.plain.ends;
+      free = adds.plain.free;
+      vertices = ap (λ (c : Contents V D U F). c.vertices) contents ∙ adds.plain.vertices;
+      constraints = λ a b. subst (λ (ps : List (ℕ × ℕ)). Joins ps a b ↔
+          (Joins (constraints_by constraints (state_of old)) a b ⊎
+          AreNeighboursOn at
+          (points_of at (points_and_constraints_by constraints (state_of old))) i j a b))
+          (sym same)
+          (adds.plain.constraints a b);
+    };
+    legal = legal;
+  }

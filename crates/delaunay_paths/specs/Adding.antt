@@ -1,9 +1,8 @@
 -- What becomes of a triangulation where the pieces of a path between two of its vertices become
 -- constraints.
-use Rattle.std.specs.Prelude.{◌≡◌, ◌⊎◌, ◌/◌, ◌<◌}
+use Rattle.std.specs.Prelude.{◌≡◌, ◌⊎◌, ◌<◌}
 use Rattle.std.specs.Prelude.{ℕ, Bool, true, false, List, length, map, Some, slice_get, slice_set}
 use Rattle.delaunay_lines.specs.half_edge_mesh.Contents.{Contents}
-use Rattle.delaunay_lines.specs.half_edge_mesh.Mesh.{origin, rev}
 use Rattle.delaunay_lines.specs.plane.Crossing.{Cross}
 use Rattle.delaunay_lines.specs.plane.Fraction.{Point}
 use Rattle.delaunay_lines.specs.plane.Pairs.{Joins, place}
@@ -47,14 +46,6 @@ abbrev pub MarksSome : {U : Type 0} → (U → Bool) → (U → U) → List U �
 MarksSome {U = U} marks marked old new =
     (k : ℕ) (d : U) → slice_get old k ≡ Some d → (slice_get new k ≡ Some d) ⊎
     ((marks d ≡ false) × (slice_get new k ≡ Some (marked d)))
-
--- the edge that joins i and j has it
-pub record MarksBetween {V D U F : Type 0} (marks : U → Bool) (marked : U → U)
-    (old new : Contents V D U F) (i j : ℕ) : Type 0 where
-  pub edge : ℕ
-  pub source : origin old.mesh edge ≡ i
-  pub target : origin old.mesh (rev edge) ≡ j
-  pub marks_edge : MarksEdge marks marked old new (edge / 2)
 
 -- the pieces of the path from i to j became constraints, and what does not cross it stays
 pub record AddsPath {V D U F : Type 0} (at : V → Point) (marks : U → Bool) (marked : U → U)

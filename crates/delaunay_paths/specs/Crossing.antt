@@ -44,22 +44,23 @@ pub record CrossesFromRight (points : List Point) (m : Mesh) (i j h : ℕ) : Typ
 
 -- where the edge from a to b crosses from the right, v comes after its right end, seen from i
 abbrev pub ComesSooner : List Point → ℕ → ℕ → ℕ → ℕ → ℕ → Type 0
-ComesSooner points i j v a b = side (place points i) (place points j) (place points a) ≡ right
-    → TurnsLeft (place points i) (place points j) (place points b)
-    → ComesAfterOnRight (point_at points i) (point_at points a) (point_at points v)
+ComesSooner points i j v a b = PassesSooner (point_at points i) (point_at points j)
+    (point_at points v) (point_at points a) (point_at points b)
 
--- directed edge e can be turned towards the segment from i to j: the corners round it are those of
--- a strictly convex quadrilateral, and where the edge that is made crosses from the right, its
--- right end comes before that of e
-pub record TurnsNearer (points : List Point) (m : Mesh) (i j e : ℕ) : Type 0 where
-  pub first : TurnsLeft (place points (origin m e)) (place points (origin m (prev m (rev e))))
-      (place points (origin m (prev m e)))
-  pub second : TurnsLeft (place points (origin m (prev m (rev e))))
-      (place points (origin m (next m e))) (place points (origin m (prev m e)))
-  pub behind_sooner : ComesSooner points i j (origin m e) (origin m (prev m (rev e)))
-      (origin m (prev m e))
-  pub ahead_sooner : ComesSooner points i j (origin m e) (origin m (prev m e))
-      (origin m (prev m (rev e)))
+-- v x z and x y z turn left, and where the way between x and z crosses that from p to q from the
+-- right, its right end comes before v
+pub record CornersTurn (p q v x y z : Point) : Type 0 where
+  pub first : TurnsLeft (whole v) (whole x) (whole z)
+  pub second : TurnsLeft (whole x) (whole y) (whole z)
+  pub behind_sooner : PassesSooner p q v x z
+  pub ahead_sooner : PassesSooner p q v z x
+
+-- where the way between x and z goes from the right of that from p to q to its left, r is e if it
+-- goes from z to x, and the reverse of e if it goes back; where it does not, r is none
+abbrev pub IsWayBetween : (p q x z : Point) → ℕ → Option ℕ → Type 0
+IsWayBetween p q x z e r =
+    MatchOption r ((¬ PassesFromRight p q z x) × (¬ PassesFromRight p q x z))
+    (λ f. ((f ≡ e) × PassesFromRight p q z x) ⊎ ((f ≡ rev e) × PassesFromRight p q x z))
 
 -- the corner ahead of directed edge e is that on its left, and the one behind it that on its right
 abbrev pub ahead : Mesh → ℕ → ℕ
@@ -68,14 +69,13 @@ ahead m e = origin m (prev m e)
 abbrev pub behind : Mesh → ℕ → ℕ
 behind m e = origin m (prev m (rev e))
 
--- the edge that a turn of directed edge e makes crosses the segment from the right in direction r,
--- if in one: as e it goes from the corner ahead to the one behind, and as its reverse back
-abbrev pub IsWayMade : List Point → Mesh → ℕ → ℕ → ℕ → Option ℕ → Type 0
-IsWayMade points m i j e r =
-    MatchOption r ((¬ GoesFromRight points i j (ahead m e) (behind m e))
-    × (¬ GoesFromRight points i j (behind m e) (ahead m e)))
-    (λ f. ((f ≡ e) × GoesFromRight points i j (ahead m e) (behind m e))
-    ⊎ ((f ≡ rev e) × GoesFromRight points i j (behind m e) (ahead m e)))
+-- directed edge e can be turned towards the segment from i to j: the corners round it are those of
+-- a strictly convex quadrilateral, and where the edge that is made crosses from the right, its
+-- right end comes before that of e
+abbrev pub TurnsNearer : List Point → Mesh → ℕ → ℕ → ℕ → Type 0
+TurnsNearer points m i j e = CornersTurn (point_at points i) (point_at points j)
+    (point_at points (origin m e)) (point_at points (behind m e))
+    (point_at points (origin m (next m e))) (point_at points (ahead m e))
 
 -- the directed edges of which this holds are those that cross the segment from the right
 pub record AreAllCrossing (points : List Point) (m : Mesh) (i j : ℕ)

@@ -20,5 +20,4 @@ pub mod Releasing
 pub mod PathEdges
 pub mod Items
 pub mod Leaving
-pub mod Seen
 pub mod Turning

@@ -1,16 +1,9 @@
 -- The corners round an edge that is to be turned towards a segment, by their positions.
 use Rattle.std.specs.Prelude.{ℕ, List}
 use Rattle.delaunay_lines.specs.half_edge_mesh.Mesh.{Mesh, origin, next}
-use Rattle.delaunay_lines.specs.plane.Fraction.{Point, whole}
-use Rattle.delaunay_lines.specs.plane.Side.{TurnsLeft}
+use Rattle.delaunay_lines.specs.plane.Fraction.{Point}
 use Rattle.delaunay_lines.specs.delaunay_legalization.Known.{point_at}
-use Rattle.delaunay_paths.specs.Crossing.{PassesSooner, ahead, behind}
-
--- the corners v x y z turn left at v and at y, and where an edge between x and z crosses the way
--- from p to q, its right end comes before v
-abbrev pub CornersTurn : (p q v x y z : Point) → Type 0
-CornersTurn p q v x y z = TurnsLeft (whole v) (whole x) (whole z)
-    × TurnsLeft (whole x) (whole y) (whole z) × PassesSooner p q v x z × PassesSooner p q v z x
+use Rattle.delaunay_paths.specs.Crossing.{ahead, behind}
 
 -- what a contract sees of a segment and of the corners round an edge: their positions, and the
 -- tests

@@ -1,12 +1,8 @@
 //! Constraints along the path between two vertices.
 ghost use Rattle.std.specs.Prelude.{◌≡◌, ◌↔◌, ◌<◌, true, length, map, All, IsTrue};
-ghost use Rattle.delaunay_lines.specs.half_edge_mesh.Contents.{IsMeshWithData};
-ghost use Rattle.delaunay_lines.specs.plane.Pairs.{Joins};
-ghost use Rattle.delaunay_lines.specs.mesh_embedding.Drawn.{edges_of};
 ghost use Rattle.delaunay_lines.specs.delaunay_legalization.Shape.{IsTriangulated};
 ghost use Rattle.delaunay_lines.specs.delaunay_legalization.State.{state_of};
-ghost use Rattle.delaunay_paths.specs.Adding.{AddsPath, CanAddPath, HasFreeWay, MarksBetween};
-ghost use Rattle.delaunay_paths.specs.Adding.{MarksEdge};
+ghost use Rattle.delaunay_paths.specs.Adding.{AddsPath, CanAddPath, HasFreeWay, MarksEdge};
 ghost use Rattle.delaunay_paths.specs.Leaving.{IsWorkList, LeavesToTest};
 ghost use Rattle.delaunay_paths.specs.Lists.{HaveRoom};
 
@@ -58,21 +54,6 @@ pub(crate) fn mark<M: ConstraintMarker<UE>, V, DE, UE, F>(
     make_constraint::<M, _, _, _, _>(dcel, edge);
 }
 
-// Makes the edge that joins two vertices a constraint, unless it is one.
-fn mark_between<M: ConstraintMarker<UE>, V, DE, UE, F>(
-    dcel: &mut Dcel<V, DE, UE, F>,
-    from: FixedVertexHandle,
-    to: FixedVertexHandle,
-)
-    requires joined { Joins (edges_of dcel.old.mesh) from to }
-    requires can_mark { M.can_mark ≡ true }
-    ensures whole { IsMeshWithData dcel.old }
-    ensures marks { MarksBetween M.marks M.marked dcel.old dcel.new from to }
-{
-    let edge = edge_between(dcel, from, to);
-    mark::<M, _, _, _, _>(dcel, edge.as_undirected());
-}
-
 /// Makes constraints of the pieces of the path between two vertices, whose segment no constraint
 /// crosses: each of its vertices is joined to the next. Edges that cross a piece are flipped; each
 /// edge that does not cross the segment keeps its index, and so does each face with no side that
@@ -102,7 +83,8 @@ pub fn add_path<M: ConstraintMarker<UE>, V: HasPosition, DE, UE, F, P: PlaneTest
     let mut at = from;
     while let Some(next) = lists.list_piece(dcel, at, to, tests) {
         turn_listed(dcel, at, next, tests, lists, work);
-        mark_between::<M, _, _, _, _>(dcel, at, next);
+        let edge = edge_between(dcel, at, next);
+        mark::<M, _, _, _, _>(dcel, edge.as_undirected());
         at = next;
     }
 }

@@ -1,6 +1,5 @@
 //! Constraints that are added and released, with each other edge legal afterwards.
-ghost use Rattle.std.specs.Prelude.{◌≡◌, ◌*◌, ◌<◌, ◌≤◌, ◌∷◌, []};
-ghost use Rattle.std.specs.Prelude.{true, length, map, All, Contains};
+ghost use Rattle.std.specs.Prelude.{◌≡◌, ◌*◌, ◌<◌, ◌≤◌, true, length, map, All, Contains};
 ghost use Rattle.delaunay_lines.specs.half_edge_mesh.Mesh.{origin, rev};
 ghost use Rattle.delaunay_lines.specs.delaunay_legalization.Flips.{CountsFlips, FlipsFit};
 ghost use Rattle.delaunay_lines.specs.delaunay_legalization.Shape.{IsDelaunayTriangulation};
@@ -71,16 +70,6 @@ pub fn constrain_edge<M: ConstraintMarker<UE>, V: HasPosition, DE, UE, F>(
     mark::<M, _, _, _, _>(dcel, edge.as_undirected());
 }
 
-// Puts an edge into a work list, in place of what was there.
-fn put_alone(edge: FixedUndirectedEdgeHandle, work: &mut EdgeSet)
-    requires { edge < work.old.room }
-    ensures edges { work.new.items ≡ edge ∷ [] }
-    ensures capacity { work.new.room ≡ work.old.room }
-{
-    work.clear();
-    work.put(edge);
-}
-
 /// Makes a constraint an edge that is none, and flips edges from there on until each that is no
 /// constraint passes the circle test. `work` has room for each edge, and `flips` counts on.
 pub fn release_constraint<
@@ -107,6 +96,7 @@ pub fn release_constraint<
     ensures counted { CountsFlips (length dcel.old.vertices) flips.old flips.new }
 {
     free_edge::<M, _, _, _, _>(dcel, edge);
-    put_alone(edge, work);
+    work.clear();
+    work.put(edge);
     legalize::<M, _, _, _, _, _>(dcel, tests, work, flips);
 }

@@ -88,7 +88,6 @@ impl CrossingLists {
         requires sites { All (P.sites tests.now) (map V.place dcel.now.vertices) }
         requires room { HaveRoom (length dcel.now.undirected) self.old }
         ensures end { IfNone result (from ≡ to) }
-        ensures apart { IfSome result (λ v. from ≢ to) }
         ensures piece { IfSome result (λ v. ListPiece (map V.place dcel.now.vertices) dcel.now.mesh
             from to v self.new) }
         ensures room { KeepRoom self.old self.new }

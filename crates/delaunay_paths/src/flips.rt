@@ -3,17 +3,15 @@ ghost use Rattle.std.specs.Prelude.{◌≡◌, length, map, All, IfNone, IfSome}
 ghost use Rattle.delaunay_lines.specs.plane_tiling.Local.{IsMesh};
 ghost use Rattle.delaunay_lines.specs.plane_segments.Path.{IsFreeOfVertices};
 ghost use Rattle.delaunay_lines.specs.mesh_embedding.Drawn.{drawn, faces_of, outer_of};
-ghost use Rattle.delaunay_paths.specs.Crossing.{TurnsNearer};
 ghost use Rattle.delaunay_paths.specs.Leaving.{IsWorkList, MakesEdge, TurnsTowards};
 ghost use Rattle.delaunay_paths.specs.Lists.{HasAsEdge, HaveRoom, HaveSeen, IsToTurn, KeepRoom};
-ghost use Rattle.delaunay_paths.specs.Lists.{ListCrossing, ListOthers};
+ghost use Rattle.delaunay_paths.specs.Lists.{ListCrossing};
 
 use crate::crossing::CrossingLists;
-use crate::leaving::push_round;
-use crate::nearer::{turns_nearer, way_made};
+use crate::nearer::turning_at;
 use delaunay_lines::delaunay_core::math::PlaneTests;
 use delaunay_lines::delaunay_core::point::HasPosition;
-use delaunay_lines::delaunay_legalization::EdgeSet;
+use delaunay_lines::delaunay_legalization::{EdgeSet, push_side, push_sides};
 use delaunay_lines::half_edge_mesh::{Dcel, FixedDirectedEdgeHandle, FixedVertexHandle};
 
 // Takes out the next edge that can be turned, of those still to be seen; the others before it wait.
@@ -25,12 +23,12 @@ fn seek<V: HasPosition, DE, UE, F, P: PlaneTests<V::Scalar>>(
     lists: &mut CrossingLists,
 ) -> Option<FixedDirectedEdgeHandle>
     requires free { IsFreeOfVertices (drawn (map V.place dcel.now.vertices) dcel.now.mesh) from to }
+    requires shape { IsMesh (map V.place dcel.now.vertices) (faces_of dcel.now.mesh)
+        (outer_of dcel.now.mesh) }
     requires sites { All (P.sites tests.now) (map V.place dcel.now.vertices) }
     requires lists { ListCrossing (map V.place dcel.now.vertices) dcel.now.mesh from to lists.old }
-    ensures others { IfSome result (λ e. ListOthers (map V.place dcel.now.vertices) dcel.now.mesh
-        from to e lists.new) }
-    ensures nearer { IfSome result (λ e. TurnsNearer (map V.place dcel.now.vertices) dcel.now.mesh
-        from to e) }
+    ensures some { IfSome result (λ e. IsToTurn (map V.place dcel.now.vertices) dcel.now from to e
+        lists.new) }
     ensures crossing { IfNone result (ListCrossing (map V.place dcel.now.vertices) dcel.now.mesh
         from to lists.new) }
     ensures seen { IfNone result (HaveSeen (map V.place dcel.now.vertices) dcel.now.mesh from to
@@ -39,7 +37,8 @@ fn seek<V: HasPosition, DE, UE, F, P: PlaneTests<V::Scalar>>(
 {
     dcel.recall_invariant();
     while let Some(edge) = lists.unseen.pop() {
-        if turns_nearer(dcel, edge, from, to, tests) {
+        let turning = turning_at(dcel, edge, from, to, tests);
+        if turning.turns_nearer() {
             return Some(edge);
         }
         lists.waiting.push_reserved(edge);
@@ -95,13 +94,16 @@ fn turn<V: HasPosition, DE, UE, F, P: PlaneTests<V::Scalar>>(
     ensures capacity { work.new.room ≡ work.old.room }
 {
     let whole = edge.as_undirected();
-    match way_made(dcel, edge, from, to, tests) {
+    let turning = turning_at(dcel, edge, from, to, tests);
+    match turning.way_made(edge) {
         Some(way) => {
             dcel.flip_cw(whole);
             lists.waiting.push_reserved(way);
         }
         None => {
-            push_round(dcel, whole.as_directed(), work);
+            let round = whole.as_directed();
+            push_side(dcel, round, work);
+            push_sides(dcel, round, work);
             dcel.flip_cw(whole);
             lists.step_back();
         }

@@ -10,9 +10,7 @@ mod constraints;
 mod crossing;
 mod flips;
 mod joined;
-mod leaving;
 mod nearer;
-mod order;
 mod path;
 mod path_edges;
 

@@ -1,13 +1,13 @@
 //! Whether an edge that crosses a segment can be turned towards it, and whether the edge that is
 //! made then crosses too.
-ghost use Rattle.std.specs.Prelude.{◌≡◌, ◌↔◌, ◌<◌, length, map, All, IsTrue};
+ghost use Rattle.std.specs.Prelude.{◌≡◌, ◌↔◌, ◌<◌, ◌<ℤ◌, length, map, All, IsTrue};
+ghost use Rattle.delaunay_lines.specs.plane.Laws.{squared_way};
 ghost use Rattle.delaunay_lines.specs.plane_segments.Path.{ComesAfterOnRight};
 ghost use Rattle.delaunay_lines.specs.delaunay_core.Place.{place_of};
-ghost use Rattle.delaunay_paths.specs.Crossing.{IsWayMade, PassesFromRight, PassesSooner};
-ghost use Rattle.delaunay_paths.specs.Crossing.{TurnsNearer};
-ghost use Rattle.delaunay_paths.specs.Turning.{corners_round, CornersTurn};
+ghost use Rattle.delaunay_paths.specs.Crossing.{CornersTurn, IsWayBetween, PassesFromRight};
+ghost use Rattle.delaunay_paths.specs.Crossing.{PassesSooner};
+ghost use Rattle.delaunay_paths.specs.Turning.{corners_round};
 
-use crate::order::Seen;
 use delaunay_lines::delaunay_core::math::PlaneTests;
 use delaunay_lines::delaunay_core::point::{HasPosition, Point2, SpadeNum};
 use delaunay_lines::delaunay_legalization::{position_of, start_before, start_of, turns_left};
@@ -17,7 +17,7 @@ use std::marker::Model;
 // A segment, and the corners round an edge from `start` to `end`, of which one is ahead of it, on
 // its left, and one behind it. The tests cover all of them.
 #[derive(Drop)]
-struct Turning<'a, S: SpadeNum, P: PlaneTests<S>> {
+pub(crate) struct Turning<'a, S: SpadeNum, P: PlaneTests<S>> {
     from: Point2<S>,
     to: Point2<S>,
     start: Point2<S>,
@@ -64,19 +64,24 @@ impl<'a, S: SpadeNum, P: PlaneTests<S>> Turning<'a, S, P> {
             && self.tests.side(start, end, self.to).is_on_right_side()
     }
 
-    // Whether the start of the edge comes after a point, seen from the start of the segment.
+    // Whether a point is nearer to the start of the segment than the start of the edge is.
+    fn is_nearer(&self, point: Point2<S>) -> bool
+        requires { P.covered self.now.tests (place_of S.whole point) }
+        ensures { IsTrue result ↔ (squared_way self.now.from (place_of S.whole point) <ℤ
+            squared_way self.now.from self.now.start) }
+    {
+        self.from.distance_2(point) < self.from.distance_2(self.start)
+    }
+
+    // Whether the start of the edge is right of the way from the start of the segment to a point,
+    // or on it and farther than the point.
     fn starts_after(&self, point: Point2<S>) -> bool
         requires { P.covered self.now.tests (place_of S.whole point) }
         ensures { IsTrue result ↔
             ComesAfterOnRight self.now.from (place_of S.whole point) self.now.start }
     {
-        let seen = Seen {
-            from: self.from,
-            point,
-            other: self.start,
-            tests: self.tests,
-        };
-        seen.comes_after_on_right()
+        let side = self.tests.side(self.from, point, self.start);
+        side.is_on_right_side() || (side.is_on_line() && self.is_nearer(point))
     }
 
     // Whether the start of the edge comes after the first of two corners, where the way from that
@@ -93,7 +98,7 @@ impl<'a, S: SpadeNum, P: PlaneTests<S>> Turning<'a, S, P> {
     }
 
     // Whether the edge can be turned towards the segment.
-    fn turns_nearer(&self) -> bool
+    pub(crate) fn turns_nearer(&self) -> bool
         ensures { let t = self.now in
             IsTrue result ↔ CornersTurn t.from t.to t.start t.behind t.end t.ahead }
     {
@@ -102,10 +107,24 @@ impl<'a, S: SpadeNum, P: PlaneTests<S>> Turning<'a, S, P> {
             && self.crosses_sooner(self.behind, self.ahead)
             && self.crosses_sooner(self.ahead, self.behind)
     }
+
+    // The direction in which the edge that a turn of the edge makes crosses the segment, from its
+    // right to its left, if it does.
+    pub(crate) fn way_made(&self, edge: FixedDirectedEdgeHandle) -> Option<FixedDirectedEdgeHandle>
+        ensures { let t = self.now in IsWayBetween t.from t.to t.behind t.ahead edge result }
+    {
+        if self.crosses_between(self.ahead, self.behind) {
+            return Some(edge);
+        }
+        if self.crosses_between(self.behind, self.ahead) {
+            return Some(edge.rev());
+        }
+        None
+    }
 }
 
 // An edge of a mesh and the segment between two of its vertices.
-fn turning_at<'a, V: HasPosition, DE, UE, F, P: PlaneTests<V::Scalar>>(
+pub(crate) fn turning_at<'a, V: HasPosition, DE, UE, F, P: PlaneTests<V::Scalar>>(
     dcel: &Dcel<V, DE, UE, F>,
     edge: FixedDirectedEdgeHandle,
     from: FixedVertexHandle,
@@ -130,48 +149,4 @@ fn turning_at<'a, V: HasPosition, DE, UE, F, P: PlaneTests<V::Scalar>>(
         ahead: start_before(dcel, edge),
         tests,
     }
-}
-
-// Whether an edge that crosses the segment between two vertices can be turned towards it.
-pub(crate) fn turns_nearer<V: HasPosition, DE, UE, F, P: PlaneTests<V::Scalar>>(
-    dcel: &Dcel<V, DE, UE, F>,
-    edge: FixedDirectedEdgeHandle,
-    from: FixedVertexHandle,
-    to: FixedVertexHandle,
-    tests: &P,
-) -> bool
-    requires within { edge < length dcel.now.directed }
-    requires from_in { from < length dcel.now.vertices }
-    requires to_in { to < length dcel.now.vertices }
-    requires sites { All (P.sites tests.now) (map V.place dcel.now.vertices) }
-    ensures { IsTrue result ↔
-        TurnsNearer (map V.place dcel.now.vertices) dcel.now.mesh from to edge }
-{
-    let turning = turning_at(dcel, edge, from, to, tests);
-    turning.turns_nearer()
-}
-
-// The direction in which the edge that a turn of an edge makes crosses the segment between two
-// vertices, from its right to its left, if it does.
-pub(crate) fn way_made<V: HasPosition, DE, UE, F, P: PlaneTests<V::Scalar>>(
-    dcel: &Dcel<V, DE, UE, F>,
-    edge: FixedDirectedEdgeHandle,
-    from: FixedVertexHandle,
-    to: FixedVertexHandle,
-    tests: &P,
-) -> Option<FixedDirectedEdgeHandle>
-    requires within { edge < length dcel.now.directed }
-    requires from_in { from < length dcel.now.vertices }
-    requires to_in { to < length dcel.now.vertices }
-    requires sites { All (P.sites tests.now) (map V.place dcel.now.vertices) }
-    ensures { IsWayMade (map V.place dcel.now.vertices) dcel.now.mesh from to edge result }
-{
-    let turning = turning_at(dcel, edge, from, to, tests);
-    if turning.crosses_between(turning.ahead, turning.behind) {
-        return Some(edge);
-    }
-    if turning.crosses_between(turning.behind, turning.ahead) {
-        return Some(edge.rev());
-    }
-    None
 }

@@ -1,9 +1,5 @@
 //! The edges along the path between two vertices.
-ghost use Rattle.std.specs.Prelude.{◌≡◌, ◌≢◌, ◌<◌, ◌≤◌};
-ghost use Rattle.std.specs.Prelude.{length, map, All, IfNone, IfSome, vec_capacity};
-ghost use Rattle.delaunay_lines.specs.plane_tiling.Local.{IsMesh};
-ghost use Rattle.delaunay_lines.specs.plane_segments.Constraints.{AreNextOn};
-ghost use Rattle.delaunay_lines.specs.mesh_embedding.Drawn.{faces_of, outer_of};
+ghost use Rattle.std.specs.Prelude.{◌<◌, ◌≤◌, length, map, All, vec_capacity};
 ghost use Rattle.delaunay_lines.specs.delaunay_legalization.Shape.{IsTriangulated};
 ghost use Rattle.delaunay_lines.specs.delaunay_legalization.State.{state_of};
 ghost use Rattle.delaunay_paths.specs.PathEdges.{HasPath, LeadAlong};
@@ -13,29 +9,6 @@ use crate::path::{is_same_vertex, next_on_path};
 use delaunay_lines::delaunay_core::math::PlaneTests;
 use delaunay_lines::delaunay_core::point::HasPosition;
 use delaunay_lines::half_edge_mesh::{Dcel, FixedDirectedEdgeHandle, FixedVertexHandle};
-
-// The vertex where the first piece of the path between two vertices ends, unless they are one.
-fn next_piece<V: HasPosition, DE, UE, F, P: PlaneTests<V::Scalar>>(
-    dcel: &Dcel<V, DE, UE, F>,
-    from: FixedVertexHandle,
-    to: FixedVertexHandle,
-    tests: &P,
-) -> Option<FixedVertexHandle>
-    requires from_in { from < length dcel.now.vertices }
-    requires to_in { to < length dcel.now.vertices }
-    requires shape { IsMesh (map V.place dcel.now.vertices) (faces_of dcel.now.mesh)
-        (outer_of dcel.now.mesh) }
-    requires sites { All (P.sites tests.now) (map V.place dcel.now.vertices) }
-    ensures end { IfNone result (from ≡ to) }
-    ensures apart { IfSome result (λ v. from ≢ to) }
-    ensures next { IfSome result (λ v. AreNextOn (map V.place dcel.now.vertices) from to from v) }
-{
-    if is_same_vertex(from, to) {
-        None
-    } else {
-        Some(next_on_path(dcel, from, to, tests))
-    }
-}
 
 /// The edges along the path between two vertices, in order, where each of its pieces is one. They
 /// replace what is in `edges`, which has room for as many as there are vertices.
@@ -57,7 +30,8 @@ pub fn edges_along<V: HasPosition, DE, UE, F, P: PlaneTests<V::Scalar>>(
 {
     edges.clear();
     let mut at = from;
-    while let Some(next) = next_piece(dcel, at, to, tests) {
+    while !is_same_vertex(at, to) {
+        let next = next_on_path(dcel, at, to, tests);
         let edge = edge_between(dcel, at, next);
         edges.push_reserved(edge);
         at = next;

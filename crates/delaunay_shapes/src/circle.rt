@@ -50,16 +50,6 @@ impl<S: SpadeNum> CircleMetric<S> {
         CircleMetric { center, radius_2 }
     }
 
-    // The squared distance from the centre, less the squared radius: a difference of squared
-    // lengths, and not the square of the distance from the rim.
-    fn rim_excess_2(&self, point: Point2<S>) -> i64
-        requires { InRange (place_of S.whole point) }
-        ensures { result ≡ circle_distance (place_of S.whole self.now.center) self.now.radius_2
-            (place_of S.whole point) }
-    {
-        self.center.distance_2(point) - self.radius_2
-    }
-
     // Whether a point is inside the circle or on its rim.
     fn is_rim_near(&self, point: Point2<S>) -> bool
         requires { InRange (place_of S.whole point) }
@@ -67,7 +57,7 @@ impl<S: SpadeNum> CircleMetric<S> {
             (circle_distance (place_of S.whole self.now.center) self.now.radius_2
             (place_of S.whole point) ≤ℤ pos 0) }
     {
-        self.rim_excess_2(point) <= 0
+        self.distance_to_point(point) <= 0
     }
 
     // Whether the centre falls on an edge with a length, and is near enough to its line. The three
@@ -83,7 +73,7 @@ impl<S: SpadeNum> CircleMetric<S> {
     {
         let projection = project_point(from, to, self.center);
         let (factor, length_2) = projection.relative_position();
-        let excess_2 = self.rim_excess_2(from);
+        let excess_2 = self.distance_to_point(from);
         projection.is_on_edge() && is_at_most(excess_2, length_2, factor)
     }
 
@@ -150,6 +140,6 @@ impl<S: SpadeNum> DistanceMetric<S> for CircleMetric<S> {
             InClosedCircle (place_of S.whole self.now.center) self.now.radius_2
             (fraction (place_of S.whole point)) }
     {
-        self.rim_excess_2(point)
+        self.center.distance_2(point) - self.radius_2
     }
 }

@@ -13,8 +13,8 @@ invariant_of-result g c =
     let tests = c.args.tests.now in
     let points = map g.V.HasPosition.place c.args.dcel.now.vertices in
     let listed : (p : Point) → Contains points p → g.P.PlaneTests.covered tests p =
-    (λ p. covered_in (g.P.PlaneTests.covered tests) (g.P.PlaneTests.sites tests)
-    (g.met.P.PlaneTests.sites_are_covered tests) points p c.requires.sites) in
+    (λ p. covered_in _ (g.P.PlaneTests.sites tests) (g.met.P.PlaneTests.sites_are_covered tests)
+    points p c.requires.sites) in
     record {
       from = listed _ c.position_of.ensures.listed;
       to = listed _ c.position_of-2.ensures.listed;

@@ -1,15 +1,30 @@
-use Rattle.std.proofs.Common.{◌∙◌, w64}
-use Rattle.std.proofs.lemmas.Int.{to_z-of_z}
+use Rattle.std.proofs.Common.{rules}
+use Rattle.delaunay_location.specs.plane.Fraction.{whole}
+use Rattle.delaunay_location.proofs.plane.Nearer.{gap_not_negative}
 use Rattle.delaunay_location.specs.delaunay_core.Place.{place_of}
 use Rattle.delaunay_shapes.proofs.Circles.{rim_inside}
+use Rattle.delaunay_shapes.proofs.Rims.{rim_fits, rim_is}
 use Rattle.delaunay_shapes.proofs.circle.CircleMetricDistanceMetric.distance_to_point.Goals as goal
+
+pub distance_2-requires-clause-in_range : goal.distance_2-requires-clause-in_range
+distance_2-requires-clause-in_range g c = c.args.self.now.center_in_range
+
+pub distance_2-requires-clause-other_in_range : goal.distance_2-requires-clause-other_in_range
+distance_2-requires-clause-other_in_range g c = c.requires
+
+pub overflow_sub-result : goal.overflow_sub-result
+overflow_sub-result g c =
+    let centre = whole (place_of g.S.SpadeNum.whole c.args.self.now.center) in
+    let point = whole (place_of g.S.SpadeNum.whole c.args.point) in
+    rim_fits c.distance_2.result c.args.self.now.radius_2 _
+    (gap_not_negative centre point) c.distance_2.ensures
+    (record { sfits = c.distance_2.type_inv }) c.args.self.now.not_negative (search rules)
 
 pub returns : goal.returns
 returns g c =
-    let value = to_z-of_z w64 c.rim_excess_2.result (record { sfits = c.rim_excess_2.type_inv })
-    ∙ c.rim_excess_2.ensures in
-    record {
-      value = value;
-      inside = rim_inside (place_of g.S.SpadeNum.whole c.args.self.now.center)
-          c.args.self.now.radius_2 (place_of g.S.SpadeNum.whole c.args.point) _ value;
-    }
+    let centre = place_of g.S.SpadeNum.whole c.args.self.now.center in
+    let point = place_of g.S.SpadeNum.whole c.args.point in
+    let value = rim_is c.distance_2.result c.args.self.now.radius_2 _
+    (gap_not_negative (whole centre) (whole point)) c.distance_2.ensures
+    (record { sfits = c.distance_2.type_inv }) c.args.self.now.not_negative (search rules) in
+    record { value = value; inside = rim_inside centre c.args.self.now.radius_2 point _ value }

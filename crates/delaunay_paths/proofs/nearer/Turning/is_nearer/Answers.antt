@@ -1,4 +1,7 @@
-use Rattle.delaunay_paths.proofs.order.Seen.has_less_distance.Goals as goal
+use Rattle.std.proofs.Common.{rules}
+use Rattle.delaunay_lines.specs.delaunay_core.Place.{place_of}
+use Rattle.delaunay_paths.proofs.Places.{nearer_by}
+use Rattle.delaunay_paths.proofs.nearer.Turning.is_nearer.Goals as goal
 
 pub distance_2-requires-clause-in_range : goal.distance_2-requires-clause-in_range
 distance_2-requires-clause-in_range g c =
@@ -6,7 +9,8 @@ distance_2-requires-clause-in_range g c =
 
 pub distance_2-requires-clause-other_in_range : goal.distance_2-requires-clause-other_in_range
 distance_2-requires-clause-other_in_range g c =
-    g.met.P.PlaneTests.covered_are_in_range c.self.inside.tests.now _ c.self.invariant.point
+    g.met.P.PlaneTests.covered_are_in_range c.self.inside.tests.now _
+    (rw (← c.self.view_is) at c.requires)
 
 pub distance_2-requires-2-clause-in_range : goal.distance_2-requires-2-clause-in_range
 distance_2-requires-2-clause-in_range g c =
@@ -14,4 +18,8 @@ distance_2-requires-2-clause-in_range g c =
 
 pub distance_2-requires-2-clause-other_in_range : goal.distance_2-requires-2-clause-other_in_range
 distance_2-requires-2-clause-other_in_range g c =
-    g.met.P.PlaneTests.covered_are_in_range c.self.inside.tests.now _ c.self.invariant.other
+    g.met.P.PlaneTests.covered_are_in_range c.self.inside.tests.now _ c.self.invariant.start
+
+pub returns : goal.returns
+returns g c = nearer_by c.args.self.now.from (place_of g.S.SpadeNum.whole c.args.point)
+    c.args.self.now.start _ (search rules)
