@@ -1,19 +1,34 @@
 -- A copy of a triangulation is one.
--- Lemmas: same_image, same_constraints, copy_is_one, copy_is_counted.
+-- Lemmas: copied_as, same_image, same_constraints, copy_is_one, copy_is_counted.
 use Rattle.std.proofs.Common.{◌≡◌, ◌∙◌, [], ◌∷◌}
 use Rattle.std.proofs.Common.{ℕ, suc, Bool, List, length, map, refl, sym, ap, subst}
 use Rattle.std.specs.Prelude.{All}
 use Rattle.std.specs.List.{AllZip}
 use Rattle.std.proofs.lemmas.List.{length-map, get_or-map}
 use Rattle.std.proofs.lemmas.List.Elements.{All-head, All-map, All-tail}
+use Rattle.delaunay_paths.specs.half_edge_dcel.Copied.{IsCopied}
+use Rattle.delaunay_paths.specs.half_edge_mesh.Contents.{Contents}
 use Rattle.delaunay_paths.specs.plane.Fraction.{Point}
 use Rattle.delaunay_paths.specs.plane.Tests.{InRange}
 use Rattle.delaunay_paths.specs.delaunay_legalization.Constraints.{constraints_by, marked_edges}
 use Rattle.delaunay_paths.specs.delaunay_legalization.Constraints.{marked_from}
 use Rattle.delaunay_paths.specs.delaunay_legalization.Shape.{IsDelaunayTriangulation}
-use Rattle.delaunay_paths.specs.delaunay_legalization.State.{State}
+use Rattle.delaunay_paths.specs.delaunay_legalization.State.{State, state_of}
 use Rattle.delaunay_edit.specs.Counting.{IsCounted}
 use Rattle.delaunay_edit.specs.Storage.{IsCopy, KeepsImage}
+
+-- a copy of the mesh is one of what it holds
+pub copied_as : {V D U F : Type 0} (RV : V → V → Type 0) (RD : D → D → Type 0)
+    (RU : U → U → Type 0) (RF : F → F → Type 0) (old new : Contents V D U F)
+    → IsCopied RV RD RU RF old new → IsCopy RV RD RU RF (state_of old) (state_of new)
+copied_as RV RD RU RF old new copied = record {
+  mesh = copied.mesh;
+  vertices = copied.vertices;
+  directed = copied.directed;
+  undirected = copied.undirected;
+  outer = copied.outer;
+  faces = copied.faces;
+}
 
 same_length : {X : Type 0} (R : X → X → Type 0) (xs ys : List X) → AllZip R xs ys
     → length ys ≡ length xs

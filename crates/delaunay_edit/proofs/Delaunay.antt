@@ -1,6 +1,6 @@
 -- What follows for all circles where each edge between two faces passes.
 -- Lemmas: marked_constrained_delaunay, empty_triple_is_face, none_without_edges, counted_empty,
--- legal_overwritten.
+-- counted_overwritten.
 use Rattle.std.proofs.Common.{◌≡◌, ◌∙◌, ◌<◌, []}
 use Rattle.std.proofs.Common.{ℕ, Bool, List, length, map, sym, ap, subst, slice_set}
 use Rattle.std.proofs.Common.{None, Some, refl, arith}
@@ -103,7 +103,7 @@ counted_empty place marks constraints marked c mesh vertices directed undirected
 }
 
 -- a vertex overwritten at its own position leaves a Delaunay triangulation as it is
-pub legal_overwritten : {V D U F : Type 0} (at : V → Point) (constraints : List U → List ℕ)
+legal_overwritten : {V D U F : Type 0} (at : V → Point) (constraints : List U → List ℕ)
     (c : Contents V D U F) (i : ℕ) (v : V) → IsDelaunayTriangulation at constraints (state_of c)
     → i < length c.vertices → point_at (map at c.vertices) i ≡ at v → IsDelaunayTriangulation at
     constraints (state_of (record c { vertices = slice_set c.vertices i v }))
@@ -113,3 +113,16 @@ legal_overwritten at constraints c i v legal h e = record {
       (constraint_pairs constraints c.mesh c.undirected))
       (sym (same_places at c.vertices i v e)) legal.passing;
 }
+
+-- with as many constraints
+pub counted_overwritten : {V D U F : Type 0} (at : V → Point) (constraints : List U → List ℕ)
+    (c new : Contents V D U F) (i : ℕ) (v : V) (number : ℕ)
+    → IsCounted at constraints (state_of c) number → i < length c.vertices
+    → point_at (map at c.vertices) i ≡ at v
+    → new ≡ record c { vertices = slice_set c.vertices i v }
+    → IsCounted at constraints (state_of new) number
+counted_overwritten at constraints c new i v number was h e is =
+    rw is (record {
+      legal = legal_overwritten at constraints c i v was.legal h e;
+      counted = was.counted;
+    })

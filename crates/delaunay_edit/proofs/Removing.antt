@@ -1,8 +1,8 @@
 -- A vertex goes from a triangulation.
--- Lemmas: read_place, sites_left, room_left, removed_on.
+-- Lemmas: read_place, sites_left, room_left, outer_stays, removed_on.
 use Rattle.std.proofs.Common.{◌≡◌, ◌∙◌, ◌+◌, ◌*◌, ◌-◌, ◌≤◌}
 use Rattle.std.proofs.Common.{ℕ, List, length, map, Some, sym, ap, subst, arith}
-use Rattle.std.specs.Prelude.{All, pos, slice_get}
+use Rattle.std.specs.Prelude.{All, pos, slice_get, Result, Ok, Err, OnOk, OnErr}
 use Rattle.std.proofs.lemmas.List.{length-map, get_or-map}
 use Rattle.std.proofs.lemmas.Option.{get_or_from_slice_get, slice_get_within}
 use Rattle.delaunay_paths.proofs.half_edge_links.Removing.OpenSound.{length-swap_remove}
@@ -14,6 +14,7 @@ use Rattle.delaunay_paths.specs.delaunay_legalization.Known.{point_at}
 use Rattle.delaunay_paths.specs.delaunay_legalization.Constraints.{constraints_by}
 use Rattle.delaunay_paths.specs.delaunay_legalization.Constraints.{points_and_constraints_by}
 use Rattle.delaunay_paths.specs.delaunay_legalization.State.{State, state_of}
+use Rattle.delaunay_removal.specs.Data.{KeepsDataOfOthers}
 use Rattle.delaunay_removal.proofs.Removing.{all_left}
 
 -- the data that are read at an index have the position that stands there
@@ -44,6 +45,12 @@ module _ {V D U F : Type 0} (place : V → Point) (constraints : List U → List
   pub room_left : (n len room : ℕ) → n ≡ length old.vertices → len + 3 * n ≤ room
       → 3 * length new.vertices ≤ room
   room_left n len room e fits = omega (arith, e, fits, count)
+
+-- the outer face keeps its data, and so it does where a removal was refused
+pub outer_stays : {V D U F E : Type 0} (old new : State V D U F) (v : ℕ) (r : Result V E)
+    → OnOk r (KeepsDataOfOthers old new v) → OnErr r (new ≡ old) → new.outer ≡ old.outer
+outer_stays old new v (Ok value) kept same = kept.outer
+outer_stays old new v (Err e) kept same = ap (λ s. s.outer) same
 
 -- edges are flipped afterwards
 pub removed_on : {V D U F : Type 0} (place : V → Point) (constraints : List U → List ℕ)

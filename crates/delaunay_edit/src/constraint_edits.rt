@@ -110,7 +110,8 @@ impl<V: HasPosition, DE, UE, F> ConstrainedMesh<V, DE, UE, F> {
     }
 
     /// Makes constraints of the pieces of the path between two vertices, and tells whether one was
-    /// none, unless a constraint crosses the path: then it tells that by `None`, and takes no memory.
+    /// none, unless a constraint crosses the path: then it tells that by `None`, and takes no
+    /// memory.
     pub fn try_join<P: PlaneTests<V::Scalar>>(
         &mut self,
         from: FixedVertexHandle,

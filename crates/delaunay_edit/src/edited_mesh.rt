@@ -10,9 +10,7 @@ ghost use Rattle.delaunay_edit.specs.Location.{IsMeshEdge};
 
 use delaunay_paths::CrossingLists;
 use delaunay_paths::delaunay_core::point::{HasPosition, Point2};
-use delaunay_paths::delaunay_legalization::{
-    CdtEdge, ConstraintMarker, EdgeConstraints, EdgeSet, NoConstraints,
-};
+use delaunay_paths::delaunay_legalization::{CdtEdge, ConstraintMarker, EdgeConstraints, EdgeSet};
 use delaunay_paths::half_edge_mesh::{Dcel, FixedDirectedEdgeHandle, FixedVertexHandle, MeshViews};
 use delaunay_removal::RemovalLists;
 use std::alloc::Global;
@@ -24,21 +22,19 @@ use std::marker::{Model, PhantomData};
 /// circle that is seen from inside the face past the constraints.
 #[derive(Drop)]
 pub struct EditedMesh<V: HasPosition, DE, UE, F, M: ConstraintMarker<UE>> {
-    pub(crate) dcel: Dcel<V, DE, UE, F>,
-    // The edges that a legalization has still to test: none between edits, but the room for them
-    // stays.
-    pub(crate) work: EdgeSet,
-    // What a removal lists besides.
-    pub(crate) lists: RemovalLists,
-    // The edges that cross a piece of a path while it becomes one.
-    pub(crate) crossing: CrossingLists,
-    // How many edges are constraints.
-    pub(crate) num_constraints: usize,
-    pub(crate) marks: PhantomData<M>,
+    /// The vertices, edges and faces.
+    pub dcel: Dcel<V, DE, UE, F>,
+    /// The edges that a legalization has still to test: none between edits, but the room for them
+    /// stays.
+    pub work: EdgeSet,
+    /// What a removal lists besides.
+    pub lists: RemovalLists,
+    /// The edges that cross a piece of a path while it becomes one.
+    pub crossing: CrossingLists,
+    /// How many edges are constraints.
+    pub num_constraints: usize,
+    pub marks: PhantomData<M>,
 }
-
-/// One without constraints.
-pub(crate) type PlainMesh<V, DE, UE, F> = EditedMesh<V, DE, UE, F, NoConstraints>;
 
 /// One whose edges may be constraints.
 pub(crate) type ConstrainedMesh<V, DE, UE, F> = EditedMesh<V, DE, CdtEdge<UE>, F, EdgeConstraints>;

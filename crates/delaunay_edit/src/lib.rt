@@ -8,7 +8,6 @@ pub use delaunay_paths::{
 };
 
 mod constraint_edits;
-mod constraint_reads;
 mod counting;
 mod edge_data;
 mod edited_mesh;
@@ -18,10 +17,8 @@ mod insertion_cases;
 mod joining;
 mod removal;
 mod storage;
-mod writing;
 
 pub use counting::count_path;
 pub use edge_data::EdgeData;
 pub use edited_mesh::EditedMesh;
 pub use insertion::Entry;
-pub use writing::WriteData;

@@ -1,11 +1,10 @@
-//! Vertices that go, one or all of them, and a vertex that gives way to one of its position.
-ghost use Rattle.std.specs.Prelude.{◌≡◌, ◌⊎◌, ◌<◌, [], slice_get, slice_set};
+//! Vertices that go, one or all of them.
+ghost use Rattle.std.specs.Prelude.{◌≡◌, ◌⊎◌, ◌<◌, [], slice_get};
 ghost use Rattle.std.specs.Prelude.{length, map, All, Some, IfOk, OnErr, OnOk};
 ghost use Rattle.delaunay_paths.specs.half_edge_mesh.Mesh.{empty};
 ghost use Rattle.delaunay_paths.specs.plane.Plain.{Removes};
 ghost use Rattle.delaunay_paths.specs.delaunay_legalization.Constraints.{constraints_by};
 ghost use Rattle.delaunay_paths.specs.delaunay_legalization.Constraints.{points_and_constraints_by};
-ghost use Rattle.delaunay_paths.specs.delaunay_legalization.Known.{point_at};
 ghost use Rattle.delaunay_removal.specs.Data.{KeepsDataOfOthers};
 ghost use Rattle.delaunay_removal.specs.Pairs.{HasBorder};
 ghost use Rattle.delaunay_edit.specs.Counting.{EndsAt, HasPairs};
@@ -22,20 +21,6 @@ use delaunay_paths::delaunay_legalization::ConstraintMarker;
 use delaunay_paths::half_edge_mesh::FixedVertexHandle;
 use delaunay_removal::{VertexPair, remove_vertex, sides_of_hole};
 use std::alloc::AllocError;
-
-impl<V: HasPosition, DE, UE, F, M: ConstraintMarker<UE>> EditedMesh<V, DE, UE, F, M> {
-    /// Writes a vertex over one of its position, which it gives back.
-    pub fn replace_vertex(&mut self, vertex: FixedVertexHandle, value: V) -> V
-        requires within { vertex < length self.old.vertices }
-        requires same { point_at (map V.place self.old.vertices) vertex ≡ V.place value }
-        ensures value { slice_get self.old.vertices vertex ≡ Some result }
-        ensures new { self.new ≡ record self.old
-            { vertices = slice_set self.old.vertices vertex value } }
-        ensures headline { IsDelaunay V.place M.constraints self.new }
-    {
-        self.dcel.update_vertex(vertex, value)
-    }
-}
 
 impl<V: HasPosition, DE: Drop, UE: Drop, F: Drop, M: ConstraintMarker<UE>> EditedMesh<
     V,
@@ -113,7 +98,6 @@ impl<V: HasPosition, DE: Drop, UE: Drop, F: Drop, M: ConstraintMarker<UE>> Edite
         ensures plain { OnOk result
             (Removes V.place (points_and_constraints_by M.constraints self.old)
             (points_and_constraints_by M.constraints self.new) vertex) }
-        ensures outer { self.new.outer ≡ self.old.outer }
         ensures data { OnOk result (KeepsDataOfOthers self.old self.new vertex) }
         ensures err { OnErr result (self.new ≡ self.old) }
         ensures headline { IsDelaunay V.place M.constraints self.new }

@@ -15,9 +15,10 @@ use crate::triangulation_core::{
 use delaunay_edit::EditedMesh;
 use delaunay_edit::delaunay_core::HintGenerator;
 use delaunay_edit::delaunay_core::point::HasPosition;
-use delaunay_edit::delaunay_legalization::{EdgeConstraints, is_constraint_edge};
+use delaunay_edit::delaunay_legalization::{EdgeConstraints, free_edge_data, is_constraint_edge};
 use delaunay_edit::delaunay_paths::is_constraint_between;
 use delaunay_edit::half_edge_mesh::{FixedUndirectedEdgeHandle, FixedVertexHandle};
+use std::marker::PhantomData;
 
 impl<V: HasPosition, DE, UE, F, L: HintGenerator<V::Scalar>> ConstrainedDelaunayTriangulation<
     V,
@@ -42,7 +43,7 @@ impl<V: HasPosition, DE, UE, F, L: HintGenerator<V::Scalar>> ConstrainedDelaunay
     pub fn num_constraints(&self) -> usize
         ensures { result ≡ length (constraints_of self.now) }
     {
-        self.edited.num_constraints()
+        self.edited.num_constraints
     }
 
     /// Whether a constraint joins two vertices, in either order, by a look round the first. A
@@ -77,14 +78,36 @@ impl<V: HasPosition, DE, UE, F, L: HintGenerator<V::Scalar>> ConstrainedDelaunay
             hint_generator,
             alloc,
         } = plain;
-        match EditedMesh::from_delaunay(edited) {
-            Ok(edited) => Ok(TriangulationCore {
-                edited,
+        let EditedMesh {
+            dcel,
+            work,
+            lists,
+            crossing,
+            num_constraints,
+            marks,
+        } = edited;
+        match dcel.map_undirected_edges(|data| free_edge_data(data)) {
+            Ok(dcel) => Ok(TriangulationCore {
+                edited: EditedMesh {
+                    dcel,
+                    work,
+                    lists,
+                    crossing,
+                    num_constraints: 0,
+                    marks: PhantomData,
+                },
                 hint_generator,
                 alloc,
             }),
-            Err(edited) => Err(TriangulationCore {
-                edited,
+            Err(dcel) => Err(TriangulationCore {
+                edited: EditedMesh {
+                    dcel,
+                    work,
+                    lists,
+                    crossing,
+                    num_constraints,
+                    marks,
+                },
                 hint_generator,
                 alloc,
             }),

@@ -88,7 +88,8 @@ impl<
         let entry = self.edited.entry(&value, hint, tests)?;
         match entry {
             Entry::Occupied(vertex) => {
-                let _ = self.edited.replace_vertex(vertex, value);
+                let edited = &mut self.edited;
+                let _ = edited.dcel.update_vertex(vertex, value);
                 Ok(vertex)
             }
             Entry::Vacant(location, turns) => {

@@ -35,7 +35,7 @@ impl<V: HasPosition, DE, UE, F, L: HintGenerator<V::Scalar>, M: EdgeData<UE>> Ha
 
     fn mesh(&self) -> &Dcel<V, DE, UE, F> {
         self.edited.recall_invariant();
-        self.edited.mesh()
+        &self.edited.dcel
     }
 }
 

@@ -6,6 +6,7 @@ ghost use Rattle.delaunay_edit.specs.Writing.{with_face_data};
 use crate::telling::{position_if, tell_if_removed};
 use crate::triangulation::{Triangulation, sealed};
 use crate::triangulation_core::TriangulationCore;
+use delaunay_edit::EdgeData;
 use delaunay_edit::delaunay_core::HintGenerator;
 use delaunay_edit::delaunay_core::math::{InsertionError, PlaneTests};
 use delaunay_edit::delaunay_core::point::HasPosition;
@@ -14,7 +15,6 @@ use delaunay_edit::half_edge_mesh::{
     Dcel, FixedDirectedEdgeHandle, FixedFaceHandle, FixedUndirectedEdgeHandle, FixedVertexHandle,
     MAX_ELEMENTS, ReserveError,
 };
-use delaunay_edit::{EdgeData, WriteData};
 use std::alloc::{AllocError, Global};
 
 impl<V: HasPosition, DE, UE, F, L: HintGenerator<V::Scalar>, M: EdgeData<UE>> sealed::Sealed
@@ -59,7 +59,7 @@ impl<
     ghost writes_face = { λ _ _ _. refl };
 
     fn s(&self) -> &Dcel<V, DE, UE, F> {
-        self.edited.mesh()
+        &self.edited.dcel
     }
 
     fn hint_generator(&self) -> &L {
@@ -139,18 +139,19 @@ impl<
     }
 
     fn replace_vertex(&mut self, vertex: FixedVertexHandle, value: V) -> V {
-        self.edited.replace_vertex(vertex, value)
+        let edited = &mut self.edited;
+        edited.dcel.update_vertex(vertex, value)
     }
 
     fn directed_edge_data_mut(&mut self, edge: FixedDirectedEdgeHandle) -> &mut DE {
-        self.edited.directed_edge_data_mut(edge)
+        self.edited.dcel.directed_edge_data_mut(edge)
     }
 
     fn undirected_edge_data_mut(&mut self, edge: FixedUndirectedEdgeHandle) -> &mut M::User {
-        self.edited.undirected_edge_data_mut(edge)
+        M::user_data_mut(&mut self.edited.dcel, edge)
     }
 
     fn face_data_mut(&mut self, face: FixedFaceHandle) -> &mut F {
-        self.edited.face_data_mut(face)
+        self.edited.dcel.face_data_mut(face)
     }
 }

@@ -1,5 +1,4 @@
-use Rattle.std.proofs.Common.{◌≡◌, ℕ, ap, subst}
-use Rattle.delaunay_paths.specs.plane.Line.{at_vertex}
+use Rattle.std.proofs.Common.{ap}
 use Rattle.delaunay_paths.proofs.delaunay_legalization_lemmas.Questions.{both_ways}
 use Rattle.delaunay_paths.specs.delaunay_lines.Items.{item_in}
 use Rattle.delaunay_edit.proofs.CountingWalk.{counting_along, counting_crosses, counting_goes_on}
@@ -11,54 +10,35 @@ use Rattle.delaunay_edit.proofs.counting.count_path.Goals as goal
 
 pub loop-item-init : goal.loop-item-init
 loop-item-init g c =
-    counting_path_begins g.V.HasPosition.place g.M.ConstraintMarker.marks
-    g.M.ConstraintMarker.constraints g.met.M.ConstraintMarker.constraints_are_marked
-    c.args.dcel.now c.args.from c.args.to c.requires.kept c.requires.ends.0 c.requires.ends.1
-    c.requires.apart g.V.Scalar.SpadeNum.whole g.P.PlaneTests.sites g.P.PlaneTests.covered
-    c.line_between_vertices-line.result c.line_between_vertices-line.ensures.ready
+    counting_path_begins _ _ _ _ _ _ _ c.requires.kept c.requires.ends.0 c.requires.ends.1
+    c.requires.apart _ _ _ _ c.line_between_vertices-line.ensures.ready
     c.line_between_vertices-line.ensures.line
 
 pub returns-then-is_constraint_edge-clause-barred :
     goal.returns-then-is_constraint_edge-clause-barred
 returns-then-is_constraint_edge-clause-barred g c =
-    path_is_barred g.V.HasPosition.place g.M.ConstraintMarker.marks
-    g.M.ConstraintMarker.constraints g.met.M.ConstraintMarker.constraints_are_marked
-    c.args.dcel.now c.args.from c.args.to c.requires.kept c.requires.ends.0 c.requires.ends.1
-    c.requires.apart g.V.Scalar.SpadeNum.whole g.P.PlaneTests.sites g.P.PlaneTests.covered
-    c.loop-item.at c.loop-item.count c.loop-item.line c.next.new.self c.loop-item.invariant
-    c.in-Some.item c.in-Some.ensures.steps c.in-EdgeIntersection.edge.index
-    (crossed_item c.in-Some.item c.in-EdgeIntersection.edge c.in-EdgeIntersection.is)
-    (half_listed (g.M.ConstraintMarker.constraints c.args.dcel.now.undirected) _ _ _
-    c.fix.ensures.value c.as_undirected.ensures
+    path_is_barred _ _ _ _ _ _ _ c.requires.kept c.requires.ends.0 c.requires.ends.1
+    c.requires.apart _ _ _ _ _ _ _ c.loop-item.invariant _ c.in-Some.ensures.steps
+    c.in-EdgeIntersection.edge.index (crossed_item _ _ c.in-EdgeIntersection.is)
+    (half_listed _ _ _ _ c.fix.ensures.value c.as_undirected.ensures
     (c.is_constraint_edge.ensures.0 c.if-is_constraint_edge.true))
 
 pub loop-item-preserved-else-is_constraint_edge : goal.loop-item-preserved-else-is_constraint_edge
 loop-item-preserved-else-is_constraint_edge g c =
-    counting_crosses g.V.HasPosition.place g.M.ConstraintMarker.marks
-    g.M.ConstraintMarker.constraints g.met.M.ConstraintMarker.constraints_are_marked
-    c.args.dcel.now c.args.from c.args.to c.requires.kept c.requires.ends.0 c.requires.ends.1
-    c.requires.apart g.V.Scalar.SpadeNum.whole g.P.PlaneTests.sites g.P.PlaneTests.covered
-    c.loop-item.at c.loop-item.count c.loop-item.line c.next.new.self c.loop-item.invariant
-    c.in-Some.item c.in-Some.ensures.steps c.in-Some.ensures.goes.keeps
-    c.in-EdgeIntersection.edge.index
-    (crossed_within c.in-Some.item c.in-EdgeIntersection.edge c.in-EdgeIntersection.is
-    c.in-EdgeIntersection.edge.in_range)
-    (crossed_item c.in-Some.item c.in-EdgeIntersection.edge c.in-EdgeIntersection.is)
-    (λ listed. both_ways _ (c.is_constraint_edge.ensures.1
-    (half_unlisted (g.M.ConstraintMarker.constraints c.args.dcel.now.undirected) _ _ _
+    counting_crosses _ _ _ _ _ _ _ c.requires.kept c.requires.ends.0 c.requires.ends.1
+    c.requires.apart _ _ _ _ _ _ _ c.loop-item.invariant _ c.in-Some.ensures.steps
+    c.in-Some.ensures.goes.keeps c.in-EdgeIntersection.edge.index
+    (crossed_within _ _ c.in-EdgeIntersection.is c.in-EdgeIntersection.edge.in_range)
+    (crossed_item _ _ c.in-EdgeIntersection.is)
+    (λ listed. both_ways _ (c.is_constraint_edge.ensures.1 (half_unlisted _ _ _ _
     c.fix.ensures.value c.as_undirected.ensures listed)) c.if-is_constraint_edge.false)
 
 pub loop-item-preserved-then-not-is_constraint_between :
     goal.loop-item-preserved-then-not-is_constraint_between
 loop-item-preserved-then-not-is_constraint_between g c =
-    counting_goes_on g.V.HasPosition.place g.M.ConstraintMarker.marks
-    g.M.ConstraintMarker.constraints g.met.M.ConstraintMarker.constraints_are_marked
-    c.args.dcel.now c.args.from c.args.to c.requires.kept c.requires.ends.0 c.requires.ends.1
-    c.requires.apart g.V.Scalar.SpadeNum.whole g.P.PlaneTests.sites g.P.PlaneTests.covered
-    c.loop-item.at c.loop-item.count c.loop-item.line c.next.new.self c.loop-item.invariant
-    c.in-Some.item c.in-Some.ensures.steps c.fix-next.result
-    (vertex_item c.in-Some.item c.in-VertexIntersection.vertex c.in-VertexIntersection.is
-    c.fix-next.result c.fix-next.ensures.value)
+    counting_goes_on _ _ _ _ _ _ _ c.requires.kept c.requires.ends.0 c.requires.ends.1
+    c.requires.apart _ _ _ _ _ _ _ c.loop-item.invariant _ c.in-Some.ensures.steps _
+    (vertex_item _ _ c.in-VertexIntersection.is _ c.fix-next.ensures.value)
     (λ same. both_ways _ (c.is_same_vertex.ensures.1 same) c.if-not-is_same_vertex.true)
     c.in-Some.ensures.goes.keeps
     (λ j. both_ways _ (c.is_constraint_between.ensures.1 j) c.if-not-is_constraint_between.true)
@@ -66,55 +46,34 @@ loop-item-preserved-then-not-is_constraint_between g c =
 pub loop-item-preserved-else-not-is_constraint_between :
     goal.loop-item-preserved-else-not-is_constraint_between
 loop-item-preserved-else-not-is_constraint_between g c =
-    counting_goes_past g.V.HasPosition.place g.M.ConstraintMarker.marks
-    g.M.ConstraintMarker.constraints g.met.M.ConstraintMarker.constraints_are_marked
-    c.args.dcel.now c.args.from c.args.to c.requires.kept c.requires.ends.0 c.requires.ends.1
-    c.requires.apart g.V.Scalar.SpadeNum.whole g.P.PlaneTests.sites g.P.PlaneTests.covered
-    c.loop-item.at c.loop-item.count c.loop-item.line c.next.new.self c.loop-item.invariant
-    c.in-Some.item c.in-Some.ensures.steps c.fix-next.result
-    (vertex_item c.in-Some.item c.in-VertexIntersection.vertex c.in-VertexIntersection.is
-    c.fix-next.result c.fix-next.ensures.value)
+    counting_goes_past _ _ _ _ _ _ _ c.requires.kept c.requires.ends.0 c.requires.ends.1
+    c.requires.apart _ _ _ _ _ _ _ c.loop-item.invariant _ c.in-Some.ensures.steps _
+    (vertex_item _ _ c.in-VertexIntersection.is _ c.fix-next.ensures.value)
     (λ same. both_ways _ (c.is_same_vertex.ensures.1 same) c.if-not-is_same_vertex.true)
     c.in-Some.ensures.goes.keeps
     (c.is_constraint_between.ensures.0 c.if-not-is_constraint_between.false)
 
 pub loop-item-preserved-else-not-is_same_vertex : goal.loop-item-preserved-else-not-is_same_vertex
 loop-item-preserved-else-not-is_same_vertex g c =
-    counting_stays g.V.HasPosition.place g.M.ConstraintMarker.marks
-    g.M.ConstraintMarker.constraints g.met.M.ConstraintMarker.constraints_are_marked
-    c.args.dcel.now c.args.from c.args.to c.requires.kept c.requires.ends.0 c.requires.ends.1
-    c.requires.apart g.V.Scalar.SpadeNum.whole g.P.PlaneTests.sites g.P.PlaneTests.covered
-    c.loop-item.at c.loop-item.count c.loop-item.line c.next.new.self c.loop-item.invariant
-    c.in-Some.item c.in-Some.ensures.steps c.in-Some.ensures.goes.keeps
-    (subst (λ (k : ℕ). item_in c.in-Some.item ≡ at_vertex k)
-    (c.is_same_vertex.ensures.0 c.if-not-is_same_vertex.false)
+    counting_stays _ _ _ _ _ _ _ c.requires.kept c.requires.ends.0 c.requires.ends.1
+    c.requires.apart _ _ _ _ _ _ _ c.loop-item.invariant _ c.in-Some.ensures.steps
+    c.in-Some.ensures.goes.keeps
+    (rw (c.is_same_vertex.ensures.0 c.if-not-is_same_vertex.false) at
     (vertex_item c.in-Some.item c.in-VertexIntersection.vertex c.in-VertexIntersection.is
     c.fix-next.result c.fix-next.ensures.value))
 
 pub loop-item-preserved : goal.loop-item-preserved
 loop-item-preserved g c =
-    counting_along g.V.HasPosition.place g.M.ConstraintMarker.marks
-    g.M.ConstraintMarker.constraints g.met.M.ConstraintMarker.constraints_are_marked
-    c.args.dcel.now c.args.from c.args.to c.requires.kept c.requires.ends.0 c.requires.ends.1
-    c.requires.apart g.V.Scalar.SpadeNum.whole g.P.PlaneTests.sites g.P.PlaneTests.covered
-    c.loop-item.at c.loop-item.count c.loop-item.line c.next.new.self c.loop-item.invariant
-    c.in-Some.item c.in-Some.ensures.steps c.in-Some.ensures.goes.keeps _ _
-    (ap item_in c.in-EdgeOverlap.is)
+    counting_along _ _ _ _ _ _ _ c.requires.kept c.requires.ends.0 c.requires.ends.1
+    c.requires.apart _ _ _ _ _ _ _ c.loop-item.invariant _ c.in-Some.ensures.steps
+    c.in-Some.ensures.goes.keeps _ _ (ap item_in c.in-EdgeOverlap.is)
 
 pub returns-clause-free : goal.returns-clause-free
 returns-clause-free g c =
-    path_is_free g.V.HasPosition.place g.M.ConstraintMarker.marks
-    g.M.ConstraintMarker.constraints g.met.M.ConstraintMarker.constraints_are_marked
-    c.args.dcel.now c.args.from c.args.to c.requires.kept c.requires.ends.0 c.requires.ends.1
-    c.requires.apart g.V.Scalar.SpadeNum.whole g.P.PlaneTests.sites g.P.PlaneTests.covered
-    c.loop-item.at c.loop-item.count c.loop-item.line c.next.new.self c.loop-item.invariant
-    c.in_default.ensures.steps
+    path_is_free _ _ _ _ _ _ _ c.requires.kept c.requires.ends.0 c.requires.ends.1
+    c.requires.apart _ _ _ _ _ _ _ c.loop-item.invariant c.in_default.ensures.steps
 
 pub returns-clause-missing : goal.returns-clause-missing
 returns-clause-missing g c =
-    path_counted g.V.HasPosition.place g.M.ConstraintMarker.marks
-    g.M.ConstraintMarker.constraints g.met.M.ConstraintMarker.constraints_are_marked
-    c.args.dcel.now c.args.from c.args.to c.requires.kept c.requires.ends.0 c.requires.ends.1
-    c.requires.apart g.V.Scalar.SpadeNum.whole g.P.PlaneTests.sites g.P.PlaneTests.covered
-    c.loop-item.at c.loop-item.count c.loop-item.line c.next.new.self c.loop-item.invariant
-    c.in_default.ensures.steps
+    path_counted _ _ _ _ _ _ _ c.requires.kept c.requires.ends.0 c.requires.ends.1
+    c.requires.apart _ _ _ _ _ _ _ c.loop-item.invariant c.in_default.ensures.steps

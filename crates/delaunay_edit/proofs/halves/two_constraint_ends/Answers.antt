@@ -1,24 +1,13 @@
-use Rattle.std.proofs.Common.{sym, subst}
-use Rattle.delaunay_paths.specs.delaunay_legalization.Constraints.{constraints_by}
-use Rattle.delaunay_paths.specs.delaunay_legalization.State.{state_of}
-use Rattle.delaunay_edit.specs.Halves.{AreTwoEnds}
 use Rattle.delaunay_edit.proofs.SeekingEnds.{more_than_two, not_two}
 use Rattle.delaunay_edit.proofs.halves.two_constraint_ends.Goals as goal
 
 pub returns-in_err-first : goal.returns-in_err-first
-returns-in_err-first g c =
-    let pairs = constraints_by g.M.ConstraintMarker.constraints (state_of c.args.dcel.now) in
-    subst (AreTwoEnds pairs c.args.vertex) (sym c.from_residual.ensures)
-    (not_two pairs c.args.vertex c.args.vertex c.in_err-first.ensures)
+returns-in_err-first g c = rw c.from_residual.ensures (not_two _ _ _ c.in_err-first.ensures)
 
 pub returns-in_err-second : goal.returns-in_err-second
 returns-in_err-second g c =
-    let pairs = constraints_by g.M.ConstraintMarker.constraints (state_of c.args.dcel.now) in
-    subst (AreTwoEnds pairs c.args.vertex) (sym c.from_residual-in_err-second.ensures)
-    (not_two pairs c.args.vertex c.in_ok-first.first c.in_err-second.ensures)
+    rw c.from_residual-in_err-second.ensures (not_two _ _ _ c.in_err-second.ensures)
 
 pub returns-in-Some : goal.returns-in-Some
-returns-in-Some g c =
-    more_than_two (constraints_by g.M.ConstraintMarker.constraints (state_of c.args.dcel.now))
-    c.args.vertex c.in_ok-first.first c.in_ok-second.second c.in_ok-first.ensures
-    c.in_ok-second.ensures c.in-Some.field-0 c.in-Some.ensures
+returns-in-Some g c = more_than_two _ _ c.in_ok-first.first c.in_ok-second.second
+    c.in_ok-first.ensures c.in_ok-second.ensures c.in-Some.field-0 c.in-Some.ensures

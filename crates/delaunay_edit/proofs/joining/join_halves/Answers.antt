@@ -14,19 +14,13 @@ add_path-requires-clause-room g c =
 
 pub legalize-requires-clause-left : goal.legalize-requires-clause-left
 legalize-requires-clause-left g c =
-    let m = g.M.ConstraintMarker in
-    path_leaves g.V.HasPosition.place m.marks m.marked m.constraints c.args.dcel.now
-    c.add_path.new.dcel c.index_left-from.result c.index_left-to.result c.list_pairs.new.work.items
-    c.add_path.new.work.items c.add_path.ensures.adds c.add_path.ensures.leaves
+    path_leaves _ _ _ _ _ _ _ _ _ _ c.add_path.ensures.adds c.add_path.ensures.leaves
     c.list_pairs.ensures.left
 
 pub returns : goal.returns
-returns g c =
-    let m = g.M.ConstraintMarker in
-    record {
-      middle = c.add_path.new.dcel;
-      path = path_renamed g.V.HasPosition.place m.marks m.marked m.constraints c.args.dcel.now
-          c.add_path.new.dcel c.index_left-from.result c.index_left-to.result _ _
-          c.index_left-from.ensures c.index_left-to.ensures c.add_path.ensures.adds;
-      legalizes = c.legalize.ensures.legalizes;
-    }
+returns g c = record {
+  middle = c.add_path.new.dcel;
+  path = path_renamed _ _ _ _ _ _ _ _ _ _ c.index_left-from.ensures c.index_left-to.ensures
+      c.add_path.ensures.adds;
+  legalizes = c.legalize.ensures.legalizes;
+}

@@ -7,8 +7,7 @@ use Rattle.delaunay_edit.proofs.edited_mesh.EditedMesh.clear.Goals as goal
 pub invariant_of-self : goal.invariant_of-self
 invariant_of-self g c =
     let now = c.clear.ensures.contents in
-    counted_empty g.V.HasPosition.place g.M.ConstraintMarker.marks g.M.ConstraintMarker.constraints
-    g.met.M.ConstraintMarker.constraints_are_marked c.clear.new.self
+    counted_empty _ _ _ g.met.M.ConstraintMarker.constraints_are_marked c.clear.new.self
     (ap (λ d. d.mesh) now) (ap (λ d. d.vertices) now) (ap (λ d. d.directed) now)
     (ap (λ d. d.undirected) now) (ap (λ d. d.faces) now)
 
@@ -16,6 +15,6 @@ pub returns-clause-new : goal.returns-clause-new
 returns-clause-new g c = rw (← c.self.view_is) (ap state_of c.clear.ensures.contents)
 
 pub returns-clause-headline : goal.returns-clause-headline
-returns-clause-headline g c = is_delaunay g.V.HasPosition.place g.M.ConstraintMarker.marks
-    g.M.ConstraintMarker.constraints g.met.M.ConstraintMarker.constraints_are_marked
-    (state_of c.clear.new.self) (invariant_of-self g c).legal
+returns-clause-headline g c =
+    is_delaunay _ _ _ g.met.M.ConstraintMarker.constraints_are_marked _
+    (invariant_of-self g c).legal

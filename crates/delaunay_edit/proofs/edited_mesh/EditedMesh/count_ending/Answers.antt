@@ -1,28 +1,15 @@
 use Rattle.std.proofs.Common.{ℕ, List, subst}
 use Rattle.delaunay_paths.specs.plane.Pairs.{Joins}
 use Rattle.delaunay_paths.proofs.mesh_embedding.EdgePairs.{no_joins}
-use Rattle.delaunay_paths.specs.delaunay_legalization.Constraints.{constraints_by}
-use Rattle.delaunay_paths.specs.delaunay_legalization.State.{state_of}
-use Rattle.delaunay_edit.specs.Counting.{EndsAt, HasPairs}
 use Rattle.delaunay_edit.proofs.EmptyRound.{none_counted}
 use Rattle.delaunay_edit.proofs.PairCounts.{no_pairs}
 use Rattle.delaunay_edit.proofs.edited_mesh.EditedMesh.count_ending.Goals as goal
 
 pub returns-then-self-eq0 : goal.returns-then-self-eq0
 returns-then-self-eq0 g c =
-    let constraints = g.M.ConstraintMarker.constraints in
-    let here = c.self.inside in
-    let v = c.args.vertex in
-    subst (λ s. HasPairs (EndsAt (constraints_by constraints s) v) 0) c.self.view_is
-    (no_pairs (λ a b h. no_joins a b (subst (λ (ps : List (ℕ × ℕ)). Joins ps a b)
-    (none_counted g.V.HasPosition.place constraints
-    (state_of here.dcel) here.num_constraints c.self.invariant
-    c.if-self-eq0.true) h.0)))
+    rw (← c.self.view_is) (no_pairs (λ a b h. no_joins a b (subst
+    (λ (ps : List (ℕ × ℕ)). Joins ps a b)
+    (none_counted _ _ _ _ c.self.invariant c.if-self-eq0.true) h.0)))
 
 pub returns : goal.returns
-returns g c =
-    let constraints = g.M.ConstraintMarker.constraints in
-    let v = c.args.vertex in
-    let n = c.count_constraints_at.result in
-    subst (λ s. HasPairs (EndsAt (constraints_by constraints s) v) n) c.self.view_is
-    c.count_constraints_at.ensures
+returns g c = rw (← c.self.view_is) c.count_constraints_at.ensures

@@ -1,6 +1,5 @@
-use Rattle.std.proofs.Common.{map, subst, sym}
-use Rattle.std.specs.Prelude.{All}
-use Rattle.delaunay_paths.specs.delaunay_core.Place.{place_of}
+use Rattle.std.proofs.Common.{map, subst}
+use Rattle.delaunay_paths.specs.delaunay_legalization.State.{state_of}
 use Rattle.delaunay_paths.specs.delaunay_location.Location.{Locates}
 use Rattle.delaunay_paths.proofs.delaunay_location_lemmas.Walking.{apart_elsewhere}
 use Rattle.delaunay_edit.proofs.Vertices.{here_if_on_vertex}
@@ -12,37 +11,27 @@ locate_with_hint-location-requires-clause-kept g c = c.self.invariant.legal.kept
 
 pub locate_with_hint-location-requires-clause-sites :
     goal.locate_with_hint-location-requires-clause-sites
-locate_with_hint-location-requires-clause-sites g c = subst
-    (λ s. All (g.P.PlaneTests.sites c.args.tests.now) (map g.V.HasPosition.place s.vertices))
-    (sym c.self.view_is)
-    (c.requires.sites c.recall_invariant.ensures.in_range)
+locate_with_hint-location-requires-clause-sites g c =
+    rw (← c.self.view_is) at (c.requires.sites c.recall_invariant.ensures.in_range)
 
 pub returns-in-OnVertex-clause-entry : goal.returns-in-OnVertex-clause-entry
 returns-in-OnVertex-clause-entry g c =
-    let moved = subst
-    (λ p. Locates (map g.V.HasPosition.place c.args.self.now.vertices) c.args.self.now.mesh p
-    c.locate_with_hint-location.result) c.position.ensures
-    (subst (λ s. Locates (map g.V.HasPosition.place s.vertices) s.mesh
-    (place_of g.V.Scalar.SpadeNum.whole c.position.result) c.locate_with_hint-location.result)
-    c.self.view_is c.locate_with_hint-location.ensures) in
-    let here =
-    subst (Locates (map g.V.HasPosition.place c.args.self.now.vertices) c.args.self.now.mesh
-    (g.V.HasPosition.place c.args.value.now)) c.in-OnVertex.is moved in
-    here_if_on_vertex g.V.HasPosition.place c.args.self.now (g.V.HasPosition.place c.args.value.now)
-    c.in-OnVertex.vertex here.location
+    let at = g.V.HasPosition.place in
+    let d = c.self.inside.dcel in
+    let here = subst (λ p. Locates (map at d.vertices) d.mesh p c.locate_with_hint-location.result)
+    c.position.ensures c.locate_with_hint-location.ensures in
+    let on = rw c.in-OnVertex.is at here in
+    rw (← c.self.view_is) (here_if_on_vertex at (state_of d) _ c.in-OnVertex.vertex on.location)
 
 pub returns-in_default-clause-entry : goal.returns-in_default-clause-entry
 returns-in_default-clause-entry g c =
-    let moved = subst
-    (λ p. Locates (map g.V.HasPosition.place c.args.self.now.vertices) c.args.self.now.mesh p
-    c.locate_with_hint-location.result) c.position.ensures
-    (subst (λ s. Locates (map g.V.HasPosition.place s.vertices) s.mesh
-    (place_of g.V.Scalar.SpadeNum.whole c.position.result) c.locate_with_hint-location.result)
-    c.self.view_is c.locate_with_hint-location.ensures) in
+    let at = g.V.HasPosition.place in
+    let d = c.self.inside.dcel in
+    let here = subst (λ p. Locates (map at d.vertices) d.mesh p c.locate_with_hint-location.result)
+    c.position.ensures c.locate_with_hint-location.ensures in
     record {
-      apart = apart_elsewhere g.V.HasPosition.place c.args.self.now c.recall_invariant.ensures.kept
-          (g.V.HasPosition.place c.args.value.now) c.locate_with_hint-location.result moved
-          c.in_default.not-OnVertex;
-      location = moved;
+      apart = rw (← c.self.view_is) (apart_elsewhere at (state_of d) c.self.invariant.legal.kept _ _
+          here c.in_default.not-OnVertex);
+      location = rw (← c.self.view_is) here;
       left = c.is_left_of-turns.ensures;
     }

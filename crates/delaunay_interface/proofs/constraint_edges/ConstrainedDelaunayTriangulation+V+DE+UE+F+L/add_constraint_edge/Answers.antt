@@ -6,18 +6,15 @@ use Rattle.delaunay_interface.proofs.constraint_edges.ConstrainedDelaunayTriangu
 pub returns-in_err-from-clause-adds : goal.returns-in_err-from-clause-adds
 returns-in_err-from-clause-adds g c =
     let p = err_from_is_err_and c.from_residual.result c.from_residual.ensures.1 in
-    rw (p.1, p.2) (stops_at_from g.V.HasPosition.place c.args.from c.args.to c.args.self.now
-    c.insert_end.new.self _ _
-    refl c.in_err-from.ensures.inserts)
+    rw (p.1, p.2)
+    (stops_at_from _ c.args.from c.args.to _ _ _ _ refl c.in_err-from.ensures.inserts)
 
 pub returns-in_err-to-clause-adds : goal.returns-in_err-to-clause-adds
 returns-in_err-to-clause-adds g c =
     let p =
     err_from_is_err_and c.from_residual-in_err-to.result c.from_residual-in_err-to.ensures.1 in
-    rw (p.1, p.2) (stops_at_to g.V.HasPosition.place c.args.from c.args.to c.args.self.now
-    c.insert_end-2.new.self
-    c.in_ok-from.from c.insert_end.new.self c.in_ok-from.ensures.inserts _ _ refl
-    c.in_err-to.ensures.inserts)
+    rw (p.1, p.2) (stops_at_to _ c.args.from c.args.to _ _ _ _ c.in_ok-from.ensures.inserts _ _
+    refl c.in_err-to.ensures.inserts)
 
 pub join_vertices-requires-clause-from_in : goal.join_vertices-requires-clause-from_in
 join_vertices-requires-clause-from_in g c =
@@ -26,7 +23,5 @@ join_vertices-requires-clause-from_in g c =
 
 pub returns-clause-adds : goal.returns-clause-adds
 returns-clause-adds g c =
-    both_inserted g.V.HasPosition.place c.args.from c.args.to c.args.self.now
-    c.join_vertices.new.self c.in_ok-from.from
-    c.insert_end.new.self c.in_ok-from.ensures.inserts c.in_ok-to.to c.insert_end-2.new.self
-    c.in_ok-to.ensures.inserts c.join_vertices.result c.join_vertices.ensures.joins
+    both_inserted _ c.args.from c.args.to _ _ _ _ c.in_ok-from.ensures.inserts _ _
+    c.in_ok-to.ensures.inserts _ c.join_vertices.ensures.joins

@@ -6,8 +6,7 @@ use Rattle.delaunay_interface.proofs.constraint_edges.ConstrainedDelaunayTriangu
 
 pub insert_end-requires-clause-new_site : goal.insert_end-requires-clause-new_site
 insert_end-requires-clause-new_site g c = c.requires.new_sites c.in-Some.first
-    (may_come g.I.Iterator.next_gives c.args.vertices c.in-Some.first c.next.new.self
-    c.in-Some.ensures.steps)
+    (may_come g.I.Iterator.next_gives _ _ _ c.in-Some.ensures.steps)
 
 pub returns-in_err-first-clause-adds : goal.returns-in_err-first-clause-adds
 returns-in_err-first-clause-adds g c =
@@ -15,16 +14,12 @@ returns-in_err-first-clause-adds g c =
     rw (p.1, p.2) (
       c.in-Some.first ∷ [],
       (c.next.new.self, (c.next.new.self, c.in-Some.ensures.steps, refl)),
-      none_inserted g.V.HasPosition.place c.in-Some.first [] c.args.closed c.args.self.now
-          c.insert_end.new.self _
-          c.in_err-first.ensures.inserts,
+      none_inserted _ _ [] c.args.closed _ _ _ c.in_err-first.ensures.inserts,
     )
 
 pub extend_path-requires-clause-new_sites : goal.extend_path-requires-clause-new_sites
-extend_path-requires-clause-new_sites g c = λ v may.
-    c.requires.new_sites v
-    (may_come_later g.I.Iterator.next_gives c.args.vertices c.in-Some.first c.next.new.self v
-    c.in-Some.ensures.steps may)
+extend_path-requires-clause-new_sites g c = λ v may. c.requires.new_sites v
+    (may_come_later g.I.Iterator.next_gives _ _ _ v c.in-Some.ensures.steps may)
 
 pub returns-in_err-last-clause-adds : goal.returns-in_err-last-clause-adds
 returns-in_err-last-clause-adds g c =
@@ -34,22 +29,16 @@ returns-in_err-last-clause-adds g c =
     rw (p.1, p.2) (
       c.in-Some.first ∷ e.0,
       (e.1.0, (c.next.new.self, c.in-Some.ensures.steps, e.1.1)),
-      some_joined g.V.HasPosition.place c.in-Some.first e.0 c.args.closed c.in_ok-first.first
-          c.args.self.now
-          c.insert_end.new.self c.extend_path.new.self c.extend_path.new.self
-          c.in_ok-first.ensures.inserts _ e.2 refl,
+      some_joined _ _ e.0 c.args.closed _ _ _ _ _ c.in_ok-first.ensures.inserts _ e.2 refl,
     )
 
 pub returns-clause-adds : goal.returns-clause-adds
 returns-clause-adds g c =
     let e = c.in_ok-last.ensures.extends in (
       c.in-Some.first ∷ e.0,
-      taken_anyhow g.I.Iterator.next_gives c.args.vertices
-          (c.in-Some.first ∷ e.0) c.close_path.result
+      taken_anyhow g.I.Iterator.next_gives c.args.vertices (c.in-Some.first ∷ e.0)
+          c.close_path.result
           (e.1.0, (e.1.1.0, (c.next.new.self, c.in-Some.ensures.steps, e.1.1.1), e.1.1.2)),
-      all_joined g.V.HasPosition.place c.in-Some.first e.0 c.args.closed c.in_ok-first.first
-          c.args.self.now
-          c.insert_end.new.self c.extend_path.new.self c.close_path.new.self
-          c.in_ok-first.ensures.inserts
-          c.in_ok-last.last c.close_path.result e.2 c.close_path.ensures.closes,
+      all_joined _ _ e.0 c.args.closed _ _ _ _ _ c.in_ok-first.ensures.inserts _ _ e.2
+          c.close_path.ensures.closes,
     )

@@ -9,15 +9,12 @@ pub returns-in_err-join_vertices-clause-closes : goal.returns-in_err-join_vertic
 returns-in_err-join_vertices-clause-closes g c =
     let p = err_from_is_err_and c.from_residual.result c.from_residual.ensures.1 in
     rw (p.1, p.2)
-    (cannot_close g.V.HasPosition.place c.args.closed c.args.first c.args.last c.args.self.now _
-    c.join_vertices.new.self c.if-not-closed.false
+    (cannot_close _ _ _ _ _ _ _ c.if-not-closed.false
     (λ same. absurd (both_ways _ (c.eq.ensures ∙ eq-eqb _ _ same) c.if-eq.false))
     c.in_err-join_vertices.ensures.joins)
 
 pub returns-clause-closes : goal.returns-clause-closes
 returns-clause-closes g c =
-    closes g.V.HasPosition.place c.args.closed c.args.first c.args.last c.args.self.now
-    c.in_ok-join_vertices.field-0
-    c.join_vertices.new.self c.if-not-closed.false
+    closes _ _ _ _ _ _ _ c.if-not-closed.false
     (λ same. absurd (both_ways _ (c.eq.ensures ∙ eq-eqb _ _ same) c.if-eq.false))
     c.in_ok-join_vertices.ensures.joins

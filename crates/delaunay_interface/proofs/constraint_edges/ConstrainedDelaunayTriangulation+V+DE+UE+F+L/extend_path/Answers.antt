@@ -17,47 +17,37 @@ loop-vertex-init g c =
 
 pub insert_end-requires-clause-new_site : goal.insert_end-requires-clause-new_site
 insert_end-requires-clause-new_site g c =
-    c.requires.new_sites c.in-Some.vertex
-    (comes_now g.I.Iterator.next_gives _ c.args.vertices
-    c.into_iter-vertex-iterator.ensures.into_iter_gives
-    c.loop-vertex.yielded c.loop-vertex.vertex-iterator c.loop-vertex.yielded_by c.in-Some.vertex
-    c.next.new.self
+    c.requires.new_sites c.in-Some.vertex (comes_now g.I.Iterator.next_gives _ _
+    c.into_iter-vertex-iterator.ensures.into_iter_gives _ _ c.loop-vertex.yielded_by _ _
     c.in-Some.ensures.steps)
 
 pub returns-in_err-next-clause-extends : goal.returns-in_err-next-clause-extends
 returns-in_err-next-clause-extends g c =
     let p = err_from_is_err_and c.from_residual.result c.from_residual.ensures.1 in
-    let taken = taken_with g.I.Iterator.next_gives _ c.args.vertices
-    c.into_iter-vertex-iterator.ensures.into_iter_gives
-    c.loop-vertex.yielded c.loop-vertex.vertex-iterator c.loop-vertex.yielded_by c.in-Some.vertex
-    c.next.new.self
-    c.in-Some.ensures.steps in
     rw (p.1, p.2) (
       c.loop-vertex.yielded ++ c.in-Some.vertex ∷ [],
-      (c.next.new.self, taken),
-      stops_at_vertex g.V.HasPosition.place c.loop-vertex.yielded c.args.last c.args.self.now
-          c.loop-vertex.last
-          c.loop-vertex.self c.loop-vertex.invariant.2 c.in-Some.vertex _ c.insert_end.new.self
-          c.in_err-next.ensures.inserts,
+      (
+        c.next.new.self,
+        taken_with g.I.Iterator.next_gives _ _
+            c.into_iter-vertex-iterator.ensures.into_iter_gives _ _ c.loop-vertex.yielded_by _ _
+            c.in-Some.ensures.steps,
+      ),
+      stops_at_vertex _ _ _ _ _ _ c.loop-vertex.invariant.2 _ _ _ c.in_err-next.ensures.inserts,
     )
 
 pub returns-in_err-join_vertices-clause-extends : goal.returns-in_err-join_vertices-clause-extends
 returns-in_err-join_vertices-clause-extends g c =
     let p = err_from_is_err_and c.from_residual-in_err-join_vertices.result
     c.from_residual-in_err-join_vertices.ensures.1 in
-    let taken = taken_with g.I.Iterator.next_gives _ c.args.vertices
-    c.into_iter-vertex-iterator.ensures.into_iter_gives
-    c.loop-vertex.yielded c.loop-vertex.vertex-iterator c.loop-vertex.yielded_by c.in-Some.vertex
-    c.next.new.self
-    c.in-Some.ensures.steps in
     rw (p.1, p.2) (
       c.loop-vertex.yielded ++ c.in-Some.vertex ∷ [],
-      (c.next.new.self, taken),
-      stops_at_join g.V.HasPosition.place c.loop-vertex.yielded c.args.last c.args.self.now
-          c.loop-vertex.last
-          c.loop-vertex.self c.loop-vertex.invariant.2 c.in-Some.vertex c.in_ok-next.next
-          c.insert_end.new.self
-          c.in_ok-next.ensures.inserts _ c.join_vertices.new.self
+      (
+        c.next.new.self,
+        taken_with g.I.Iterator.next_gives _ _
+            c.into_iter-vertex-iterator.ensures.into_iter_gives _ _ c.loop-vertex.yielded_by _ _
+            c.in-Some.ensures.steps,
+      ),
+      stops_at_join _ _ _ _ _ _ c.loop-vertex.invariant.2 _ _ _ c.in_ok-next.ensures.inserts _ _
           c.in_err-join_vertices.ensures.joins,
     )
 
@@ -90,11 +80,7 @@ loop-vertex-preserved g c =
     let same = c.join_vertices.ensures.vertices in (
       on.0,
       on.1,
-      one_more g.V.HasPosition.place c.loop-vertex.yielded c.args.last c.args.self.now
-          c.loop-vertex.last
-          c.loop-vertex.self c.loop-vertex.invariant.2 c.in-Some.vertex c.in_ok-next.next
-          c.insert_end.new.self
-          c.in_ok-next.ensures.inserts c.in_ok-join_vertices.field-0 c.join_vertices.new.self
+      one_more _ _ _ _ _ _ c.loop-vertex.invariant.2 _ _ _ c.in_ok-next.ensures.inserts _ _
           c.in_ok-join_vertices.ensures.joins,
       rw same c.in_ok-next.ensures.within,
       rw same (omega (arith, before, grown)),
@@ -111,11 +97,7 @@ returns-clause-ready g c = record {
 pub returns-clause-extends : goal.returns-clause-extends
 returns-clause-extends g c = (
   c.loop-vertex.yielded,
-  all_taken g.I.Iterator.next_gives _ c.args.vertices
-      c.into_iter-vertex-iterator.ensures.into_iter_gives
-      c.loop-vertex.yielded c.loop-vertex.vertex-iterator c.loop-vertex.yielded_by c.next.new.self
-      c.in-None.ensures.steps,
-  ends g.V.HasPosition.place c.loop-vertex.yielded c.args.last c.args.self.now c.loop-vertex.last
-      c.loop-vertex.self
-      c.loop-vertex.invariant.2,
+  all_taken g.I.Iterator.next_gives _ _ c.into_iter-vertex-iterator.ensures.into_iter_gives _ _
+      c.loop-vertex.yielded_by _ c.in-None.ensures.steps,
+  ends _ _ _ _ _ _ c.loop-vertex.invariant.2,
 )

@@ -1,4 +1,3 @@
-use Rattle.delaunay_edit.specs.Constrained.{constraint_edges}
 use Rattle.delaunay_interface.proofs.Stepping.{inserted_grows, inserted_here, inserted_sites}
 use Rattle.delaunay_interface.proofs.constraint_edges.ConstrainedDelaunayTriangulation+V+DE+UE+F+L.insert_end.Goals as goal
 
@@ -6,18 +5,12 @@ pub returns-in-Ok-clause-inserts : goal.returns-in-Ok-clause-inserts
 returns-in-Ok-clause-inserts g c = c.in-Ok.ensures.inserts
 
 pub returns-in-Ok-clause-within : goal.returns-in-Ok-clause-within
-returns-in-Ok-clause-within g c =
-    inserted_here g.V.HasPosition.place constraint_edges c.args.self.now c.insert.new.self
-    c.args.value c.in-Ok.vertex c.in-Ok.ensures.inserts
+returns-in-Ok-clause-within g c = inserted_here _ _ _ _ _ _ c.in-Ok.ensures.inserts
 
 pub returns-in-Ok-clause-ready : goal.returns-in-Ok-clause-ready
 returns-in-Ok-clause-ready g c = record {
-  grows = inserted_grows g.V.HasPosition.place constraint_edges c.args.self.now
-      c.insert.new.self c.args.value
-      c.in-Ok.vertex c.in-Ok.ensures.inserts;
-  sites = inserted_sites g.V.HasPosition.place constraint_edges c.args.self.now
-      c.insert.new.self c.args.value
-      c.in-Ok.vertex c.in-Ok.ensures.inserts (g.P.PlaneTests.sites c.args.tests.now)
+  grows = inserted_grows _ _ _ _ _ _ c.in-Ok.ensures.inserts;
+  sites = inserted_sites _ _ _ _ _ _ c.in-Ok.ensures.inserts (g.P.PlaneTests.sites c.args.tests.now)
       (c.requires.sites c.recall_invariant.ensures.in_range) c.requires.new_site;
   headline = c.in-Ok.ensures.headline;
 }

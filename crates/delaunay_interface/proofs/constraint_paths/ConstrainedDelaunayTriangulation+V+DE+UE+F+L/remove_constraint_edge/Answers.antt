@@ -1,7 +1,6 @@
-use Rattle.std.proofs.Common.{true, Ok, ◌∙◌, ap, refl, sym, subst}
+use Rattle.std.proofs.Common.{ap, refl, sym, subst}
 use Rattle.std.specs.Prelude.{Contains}
 use Rattle.delaunay_edit.specs.Constrained.{constraint_edges}
-use Rattle.delaunay_edit.specs.ConstraintEdits.{ReleasesConstraint}
 use Rattle.delaunay_edit.specs.Headline.{IsDelaunay}
 use Rattle.delaunay_edit.proofs.delaunay_legalization_lemmas.Questions.{both_ways}
 use Rattle.delaunay_edit.proofs.EditingConstraints.{none_released}
@@ -13,34 +12,28 @@ pub returns-then-not-is_constraint_edge-clause-releases :
 returns-then-not-is_constraint_edge-clause-releases g c =
     none_released g.V.HasPosition.place c.args.edge _ c.args.self.now refl
     (λ h. both_ways _ (c.is_constraint_edge.ensures.1
-    (subst (λ s. Contains (constraint_edges s.undirected) c.args.edge)
-    (sym (c.mesh.ensures ∙ c.self.view_is)) h)) c.if-not-is_constraint_edge.true)
+    (rw (← c.self.view_is, ← c.mesh.ensures) at h)) c.if-not-is_constraint_edge.true)
 
 pub release-requires-clause-constraint : goal.release-requires-clause-constraint
 release-requires-clause-constraint g c =
-    subst (λ s. Contains (constraint_edges s.undirected) c.args.edge) c.mesh.ensures
-    (c.is_constraint_edge.ensures.0 c.if-not-is_constraint_edge.false)
+    rw (← c.mesh.ensures) (c.is_constraint_edge.ensures.0 c.if-not-is_constraint_edge.false)
 
 pub invariant_of-self : goal.invariant_of-self
 invariant_of-self g c =
-    held_of_same g.V.HasPosition.place (g.L.HintGenerator.holds c.self.inside.hint_generator)
-    c.self.inside.edited.vertices c.release.new.self.vertices
-    (ap (λ s. s.vertices) c.in_err-release.ensures.err) c.self.invariant
+    held_of_same g.V.HasPosition.place _ _ _ (ap (λ s. s.vertices) c.in_err-release.ensures.err)
+    c.self.invariant
 
 pub invariant_of-self-2 : goal.invariant_of-self-2
 invariant_of-self-2 g c =
-    held_of_same g.V.HasPosition.place (g.L.HintGenerator.holds c.self.inside.hint_generator)
-    c.self.inside.edited.vertices c.release.new.self.vertices
+    held_of_same g.V.HasPosition.place _ _ _
     (ap (λ s. s.vertices) c.in_ok-release.ensures.«data».rest) c.self.invariant
 
 pub returns-clause-releases : goal.returns-clause-releases
 returns-clause-releases g c =
-    let at = g.V.HasPosition.place in
     let has = subst (λ s. Contains (constraint_edges s.undirected) c.args.edge) c.mesh.ensures
     (c.is_constraint_edge.ensures.0 c.if-not-is_constraint_edge.false) in
     let done = c.in_ok-release.ensures in
-    subst (λ s. ReleasesConstraint at c.args.edge (Ok true) s c.release.new.self) c.self.view_is
-    (record {
+    rw (← c.self.view_is) (record {
       none = λ n. absurd (n has);
       told = ((λ t. has), (λ h. refl));
       plain = λ h. done.plain;
@@ -51,10 +44,9 @@ returns-clause-releases g c =
 pub returns-then-not-is_constraint_edge-clause-headline :
     goal.returns-then-not-is_constraint_edge-clause-headline
 returns-then-not-is_constraint_edge-clause-headline g c =
-    subst (λ s. IsDelaunay g.V.HasPosition.place constraint_edges s) c.self.view_is
-    c.recall_invariant.ensures.headline
+    rw (← c.self.view_is) c.recall_invariant.ensures.headline
 
 pub returns-in_err-release-clause-headline : goal.returns-in_err-release-clause-headline
 returns-in_err-release-clause-headline g c =
-    subst (λ s. IsDelaunay g.V.HasPosition.place constraint_edges s)
-    (sym c.in_err-release.ensures.err) c.recall_invariant.ensures.headline
+    subst (IsDelaunay g.V.HasPosition.place constraint_edges) (sym c.in_err-release.ensures.err)
+    c.recall_invariant.ensures.headline

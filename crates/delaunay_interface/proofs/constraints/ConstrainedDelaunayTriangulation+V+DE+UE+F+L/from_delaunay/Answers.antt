@@ -1,15 +1,58 @@
-use Rattle.std.proofs.Common.{map, sym, ap, subst}
-use Rattle.delaunay_edit.specs.plane.Hint.{IsAtMostOf}
+use Rattle.std.proofs.Common.{◌∙◌, ap, refl, rules}
+use Rattle.delaunay_edit.specs.delaunay_legalization.CdtEdge.{is_constraint}
+use Rattle.delaunay_edit.specs.delaunay_legalization.State.{state_of}
+use Rattle.delaunay_edit.specs.Constrained.{IsFree, constraint_edges, none}
+use Rattle.delaunay_edit.proofs.Constrained.{other_data_as, unconstrained}
+use Rattle.delaunay_edit.proofs.ConstraintEdges.{legal_after, none_after, other_data}
+use Rattle.delaunay_edit.proofs.Recounted.{counted_none}
+use Rattle.delaunay_edit.proofs.WellFormed.{is_delaunay}
+use Rattle.delaunay_interface.proofs.Kept.{held_of_same}
 use Rattle.delaunay_interface.proofs.constraints.ConstrainedDelaunayTriangulation+V+DE+UE+F+L.from_delaunay.Goals as goal
 
 pub invariant_of-result : goal.invariant_of-result
 invariant_of-result g c =
-    subst (λ vs. IsAtMostOf (g.L.HintGenerator.holds c.plain.inside.hint_generator)
-    (map g.V.HasPosition.place vs))
-    (sym (ap (λ s. s.vertices) c.in-Ok.ensures.ok.rest)) c.plain.invariant
+    counted_none g.V.HasPosition.place constraint_edges (state_of c.in-Ok.dcel)
+    (legal_after g.V.HasPosition.place _ none is_constraint constraint_edges (λ ds. refl)
+    (λ u e made. search rules) c.edited.inside.dcel c.in-Ok.dcel c.in-Ok.ensures.mapped refl
+    c.edited.invariant.legal)
+    (none_after g.V.HasPosition.place _ none is_constraint constraint_edges (λ ds. refl)
+    (λ u e made. search rules) c.edited.inside.dcel c.in-Ok.dcel c.in-Ok.ensures.mapped)
 
 pub invariant_of-result-in-Err : goal.invariant_of-result-in-Err
-invariant_of-result-in-Err g c =
-    subst (λ vs. IsAtMostOf (g.L.HintGenerator.holds c.plain.inside.hint_generator)
-    (map g.V.HasPosition.place vs))
-    (sym (ap (λ s. s.vertices) c.in-Err.ensures.err)) c.plain.invariant
+invariant_of-result-in-Err g c = rw c.in-Err.ensures.refused c.edited.invariant
+
+pub invariant_of-result-in-Ok : goal.invariant_of-result-in-Ok
+invariant_of-result-in-Ok g c =
+    held_of_same g.V.HasPosition.place _ _ _ (ap (λ d. d.vertices) c.in-Ok.ensures.mapped.rest
+    ∙ ap (λ s. s.vertices) c.edited.view_is) c.plain.invariant
+
+pub invariant_of-result-in-Err-2 : goal.invariant_of-result-in-Err-2
+invariant_of-result-in-Err-2 g c =
+    held_of_same g.V.HasPosition.place _ _ _ (ap (λ d. d.vertices) c.in-Err.ensures.refused
+    ∙ ap (λ s. s.vertices) c.edited.view_is) c.plain.invariant
+
+pub returns-in-Ok-clause-ok : goal.returns-in-Ok-clause-ok
+returns-in-Ok-clause-ok g c = rw (← c.plain.view_is, ← c.edited.view_is)
+    (other_data_as _ IsFree (λ u e made. search rules) (state_of c.edited.inside.dcel)
+    (state_of c.in-Ok.dcel)
+    (other_data g.V.HasPosition.place _ none is_constraint constraint_edges (λ ds. refl)
+    (λ u e made. search rules) c.edited.inside.dcel c.in-Ok.dcel c.in-Ok.ensures.mapped))
+
+pub returns-in-Ok-clause-plain : goal.returns-in-Ok-clause-plain
+returns-in-Ok-clause-plain g c =
+    let at = g.V.HasPosition.place in
+    let old = c.edited.inside.dcel in
+    let new = c.in-Ok.dcel in
+    rw (← c.plain.view_is, ← c.edited.view_is) (unconstrained at (state_of old) (state_of new)
+    (other_data at _ none is_constraint constraint_edges (λ ds. refl) (λ u e made. search rules)
+    old new c.in-Ok.ensures.mapped)
+    (none_after at _ none is_constraint constraint_edges (λ ds. refl) (λ u e made. search rules)
+    old new c.in-Ok.ensures.mapped))
+
+pub returns-in-Ok-clause-headline : goal.returns-in-Ok-clause-headline
+returns-in-Ok-clause-headline g c =
+    is_delaunay g.V.HasPosition.place is_constraint constraint_edges (λ ds. refl)
+    (state_of c.in-Ok.dcel)
+    (legal_after g.V.HasPosition.place _ none is_constraint constraint_edges (λ ds. refl)
+    (λ u e made. search rules) c.edited.inside.dcel c.in-Ok.dcel c.in-Ok.ensures.mapped refl
+    c.edited.invariant.legal)

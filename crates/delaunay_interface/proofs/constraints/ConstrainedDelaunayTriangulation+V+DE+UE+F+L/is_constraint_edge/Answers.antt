@@ -1,24 +1,20 @@
-use Rattle.std.proofs.Common.{◌∙◌, ◌↔◌, refl, subst, inl}
-use Rattle.std.specs.Prelude.{Contains, IsTrue}
+use Rattle.std.proofs.Common.{refl, inl}
 use Rattle.delaunay_edit.specs.delaunay_legalization.CdtEdge.{is_constraint}
-use Rattle.delaunay_edit.specs.delaunay_legalization.Shape.{IsTriangulated}
 use Rattle.delaunay_edit.specs.Constrained.{constraint_edges}
 use Rattle.delaunay_edit.proofs.ConstraintEdges.{joined_by, fixed_if_joined}
 use Rattle.delaunay_interface.proofs.constraints.ConstrainedDelaunayTriangulation+V+DE+UE+F+L.is_constraint_edge.Goals as goal
 
 pub returns-clause-marked : goal.returns-clause-marked
-returns-clause-marked g c = subst (λ s. IsTrue c.is_constraint_edge.result ↔
-    Contains (constraint_edges s.undirected) c.args.edge) (c.mesh.ensures ∙ c.self.view_is)
-    c.is_constraint_edge.ensures
+returns-clause-marked g c =
+    rw (← c.self.view_is, ← c.mesh.ensures) c.is_constraint_edge.ensures
 
 pub returns-clause-joined : goal.returns-clause-joined
 returns-clause-joined g c =
-    let at = g.V.HasPosition.place in
     let s = c.args.self.now in
     let marked = returns-clause-marked g c in (
       (λ t. joined_by is_constraint constraint_edges (λ ds. refl) s.mesh s.undirected _ _
           c.args.edge (marked.0 t) (inl (refl, refl))),
-      (λ j. marked.1 (fixed_if_joined at is_constraint constraint_edges (λ ds. refl) s
-          (subst (IsTriangulated at) c.self.view_is c.recall_invariant.ensures.kept) c.args.edge
+      (λ j. marked.1 (fixed_if_joined g.V.HasPosition.place is_constraint constraint_edges
+          (λ ds. refl) s (rw c.self.view_is at c.recall_invariant.ensures.kept) c.args.edge
           c.requires j)),
     )

@@ -1,10 +1,6 @@
 use Rattle.std.proofs.Common.{[], sym, subst, ap, ◌∙◌, arith}
 use Rattle.std.proofs.lemmas.List.{length-map}
-use Rattle.delaunay_edit.specs.plane.Fraction.{whole}
 use Rattle.delaunay_edit.specs.plane.Delaunay.{IsConstrainedDelaunay}
-use Rattle.delaunay_edit.specs.plane.Shape.{IsNearest}
-use Rattle.delaunay_edit.specs.delaunay_core.Place.{place_of}
-use Rattle.delaunay_edit.specs.Headline.{AreSites}
 use Rattle.delaunay_edit.specs.delaunay_legalization.Shape.{IsTriangulated}
 use Rattle.delaunay_edit.specs.delaunay_legalization.State.{state_of, triangulation_of}
 use Rattle.delaunay_interface.proofs.Held.{held_are_sites}
@@ -12,9 +8,7 @@ use Rattle.delaunay_interface.proofs.nearest_vertex.DelaunayTriangulation+V+DE+U
 
 pub get_hint-hint-requires-clause-held : goal.get_hint-hint-requires-clause-held
 get_hint-hint-requires-clause-held g c =
-    let sites = subst
-    (λ s. AreSites g.V.HasPosition.place (g.P.PlaneTests.sites c.args.tests.now) s.vertices)
-    (sym c.self.view_is) c.requires.sites in
+    let sites = rw (← c.self.view_is) at c.requires.sites in
     held_are_sites _ _ _ c.self.invariant (sites c.recall_invariant.ensures.in_range)
 
 pub nearest_by_neighbors-nearest-requires-clause-kept :
@@ -39,8 +33,7 @@ nearest_by_neighbors-nearest-requires-clause-within g c =
 pub nearest_by_neighbors-nearest-requires-clause-in_range :
     goal.nearest_by_neighbors-nearest-requires-clause-in_range
 nearest_by_neighbors-nearest-requires-clause-in_range g c =
-    g.met.P.PlaneTests.covered_are_in_range c.args.tests.now
-    (place_of g.V.Scalar.SpadeNum.whole c.args.point) c.requires.covered
+    g.met.P.PlaneTests.covered_are_in_range c.args.tests.now _ c.requires.covered
 
 pub vertex-requires : goal.vertex-requires
 vertex-requires g c =
@@ -51,8 +44,5 @@ pub returns : goal.returns
 returns g c =
     rw c.vertex.ensures.index (
       ap (λ m. state_of m.now) c.vertex.ensures.dcel ∙ c.mesh-mesh.ensures ∙ c.self.view_is,
-      subst (λ s. IsNearest (triangulation_of g.V.HasPosition.place s)
-          (whole (place_of g.V.Scalar.SpadeNum.whole c.args.point))
-          c.nearest_by_neighbors-nearest.result)
-          (c.mesh-mesh.ensures ∙ c.self.view_is) c.nearest_by_neighbors-nearest.ensures.nearest,
+      rw (← c.self.view_is, ← c.mesh-mesh.ensures) c.nearest_by_neighbors-nearest.ensures.nearest,
     )

@@ -8,7 +8,6 @@ invariant_of-self g c = λ p h. absurd (c.new.ensures p h)
 pub returns-clause-plain : goal.returns-clause-plain
 returns-clause-plain g c = record {
   vertices = ap (λ s. s.vertices) c.clear.ensures.new;
-  constraints = none_without_edges g.M.ConstraintMarker.marks g.M.ConstraintMarker.constraints
-      g.met.M.ConstraintMarker.constraints_are_marked c.clear.new.self
-      (ap (λ s. s.undirected) c.clear.ensures.new);
+  constraints = none_without_edges _ _ g.met.M.ConstraintMarker.constraints_are_marked
+      c.clear.new.self (ap (λ s. s.undirected) c.clear.ensures.new);
 }

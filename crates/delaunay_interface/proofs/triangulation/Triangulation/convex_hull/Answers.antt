@@ -3,7 +3,5 @@ use Rattle.delaunay_interface.proofs.triangulation.Triangulation.convex_hull.Goa
 
 pub returns : goal.returns
 returns g c =
-    gives_outline g.Self.Vertex.HasPosition.place (g.Self.Triangulation.state c.args.self.now)
-    c.recall_invariant.ensures.kept c.recall_invariant.ensures.headline.tiling
-    c.s.result c.s.ensures _
-    c.convex_hull.ensures
+    gives_outline _ _ c.recall_invariant.ensures.kept c.recall_invariant.ensures.headline.tiling
+    c.s.result c.s.ensures _ c.convex_hull.ensures

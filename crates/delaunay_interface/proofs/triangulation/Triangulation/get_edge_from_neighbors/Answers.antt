@@ -26,7 +26,5 @@ module _ {V D U F : Type 0} (s : State V D U F) (d : Bor (Contents V D U F))
 
 pub returns : goal.returns
 returns g c =
-    edge_or_none
-    (g.Self.Triangulation.state c.args.self.now) c.s.result c.s.ensures c.args.from c.args.to
-    c.get_edge_from_neighbors.result c.get_edge_from_neighbors.ensures.some
-    c.get_edge_from_neighbors.ensures.none
+    edge_or_none _ c.s.result c.s.ensures _ _ c.get_edge_from_neighbors.result
+    c.get_edge_from_neighbors.ensures.some c.get_edge_from_neighbors.ensures.none

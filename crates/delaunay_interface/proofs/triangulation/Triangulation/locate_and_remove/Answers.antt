@@ -9,10 +9,8 @@ pub returns-in_ok-remove-in-OnVertex-clause-removes :
     goal.returns-in_ok-remove-in-OnVertex-clause-removes
 returns-in_ok-remove-in-OnVertex-clause-removes g c =
     let removed = c.in_ok-remove-in-OnVertex.ensures.removes in
-    let at = g.Self.Vertex.HasPosition.place in
-    let here =
-    here_if_on_vertex at (g.Self.Triangulation.state c.args.self.now) _ c.in-OnVertex.vertex
-    c.in-OnVertex.ensures.location in
+    let state = g.Self.Triangulation.state c.args.self.now in
+    let here = here_if_on_vertex _ state _ c.in-OnVertex.vertex c.in-OnVertex.ensures.location in
     record {
       apart = λ unknown. absurd (unknown (record {
         index = c.in-OnVertex.vertex;
@@ -21,9 +19,7 @@ returns-in_ok-remove-in-OnVertex-clause-removes g c =
       }));
       ok = record {
         index = c.in-OnVertex.vertex;
-        here = sym (read_place at
-            (g.Self.Triangulation.state c.args.self.now).vertices c.in-OnVertex.vertex
-            c.in_ok-remove-in-OnVertex.field-0 removed.value) ∙ here.1;
+        here = sym (read_place _ state.vertices _ _ removed.value) ∙ here.1;
         had = removed.value;
         plain = removed.plain;
         others = removed.«data»;
@@ -36,8 +32,7 @@ pub returns-in_err-remove-in-OnVertex-clause-removes :
     goal.returns-in_err-remove-in-OnVertex-clause-removes
 returns-in_err-remove-in-OnVertex-clause-removes g c =
     let removed = c.in_err-remove-in-OnVertex.ensures.removes in
-    let here = here_if_on_vertex g.Self.Vertex.HasPosition.place
-    (g.Self.Triangulation.state c.args.self.now) _
+    let here = here_if_on_vertex _ (g.Self.Triangulation.state c.args.self.now) _
     c.in-OnVertex.vertex c.in-OnVertex.ensures.location in
     let p = err_from_is_err_and c.from_residual.result c.from_residual.ensures.1 in
     rw p.1 (record {
@@ -55,10 +50,8 @@ pub returns-in_default : goal.returns-in_default
 returns-in_default g c = record {
   removes = record {
     apart = λ unknown. (refl, refl);
-    ok = unknown_elsewhere g.Self.Vertex.HasPosition.place
-        (g.Self.Triangulation.state c.args.self.now)
-        c.recall_invariant.ensures.kept _ c.locate.result c.locate.ensures.location
-        c.in_default.not-OnVertex;
+    ok = unknown_elsewhere _ _ c.recall_invariant.ensures.kept _ c.locate.result
+        c.locate.ensures.location c.in_default.not-OnVertex;
     outer = refl;
     err = tt;
   };
