@@ -132,23 +132,6 @@ impl<S: SpadeNum, const BRANCH_FACTOR: u32> HierarchyHintGeneratorWithBranchFact
         start
     }
 
-    // Whether no layer has a vertex at a position, by a search in each.
-    fn is_found_vacant<P: PlaneTests<S>>(&self, position: Point2<S>, tests: &P) -> bool
-        requires held { IsAtMost (P.sites tests.now) (IsHeld S.whole self.now.layers.items) }
-        requires covered { P.covered tests.now (place_of S.whole position) }
-        ensures { IsTrue result →
-            ¬ IsHeld S.whole self.now.layers.items (place_of S.whole position) }
-    {
-        // Each layer's own search then begins at the vertex nearest to the position.
-        self.index_near(position, tests);
-        for layer in &self.layers {
-            if !layer.is_vacant(position, tests) {
-                return false;
-            }
-        }
-        true
-    }
-
     // Whether no layer has a vertex at a position, by a search only where a filter does not tell.
     fn is_vacant<P: PlaneTests<S>>(&self, position: Point2<S>, tests: &P) -> bool
         requires held { IsAtMost (P.sites tests.now) (IsHeld S.whole self.now.layers.items) }
@@ -157,8 +140,13 @@ impl<S: SpadeNum, const BRANCH_FACTOR: u32> HierarchyHintGeneratorWithBranchFact
             ¬ IsHeld S.whole self.now.layers.items (place_of S.whole position) }
     {
         for layer in &self.layers {
-            if layer.may_have(position) {
-                return self.is_found_vacant(position, tests);
+            if !layer.may_have(position) {
+                continue;
+            }
+            // The layer's own search then begins at the vertex nearest to the position.
+            self.index_near(position, tests);
+            if !layer.is_vacant(position, tests) {
+                return false;
             }
         }
         true

@@ -173,10 +173,10 @@ impl<S: SpadeNum> Layer<S> {
         requires covered { P.covered tests.now (place_of S.whole position) }
     {
         let whole = Point2::new(position.x.to_i64(), position.y.to_i64());
-        let near = self.stars.near(start, whole);
+        let (near, is_nearest) = self.stars.near(start, whole);
         let used = FixedVertexHandle::from_index(near);
         HintGenerator::<S>::notify_vertex_lookup(self.triangulation.hint_generator(), used);
-        if self.stars.keeps_all_neighbours(near) {
+        if is_nearest {
             return near;
         }
         match self.triangulation.nearest_neighbor(position, tests) {
@@ -220,7 +220,7 @@ impl<S: SpadeNum> Layer<S> {
         ensures { IfOk result (λ l. positions S.whole l ≡ positions S.whole self.now) }
     {
         let triangulation = self.triangulation.try_clone()?;
-        let stars = self.stars.try_clone(self.alloc)?;
+        let stars = self.stars.clone()?;
         let filter = filter_of(&triangulation, self.alloc)?;
         Ok(Layer {
             triangulation,

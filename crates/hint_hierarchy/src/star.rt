@@ -55,15 +55,6 @@ impl PlacedVertex {
         }
     }
 
-    // The same place, of a vertex of another index.
-    fn with_index(&self, vertex: FixedVertexHandle) -> Self {
-        PlacedVertex {
-            vertex: vertex.index(),
-            x: self.x,
-            y: self.y,
-        }
-    }
-
     // The square of the distance from a position in range.
     #[inline(always)]
     fn distance_2(&self, position: Point2<i64>) -> i64
@@ -76,15 +67,6 @@ impl PlacedVertex {
 }
 
 impl Star {
-    // A star of a vertex alone.
-    fn around(centre: PlacedVertex) -> Self {
-        Star {
-            degree: 0,
-            centre,
-            ends: [centre; KEPT],
-        }
-    }
-
     // Adds a neighbour, which comes last.
     fn push(&mut self, end: PlacedVertex) {
         if self.degree < KEPT {
@@ -101,7 +83,12 @@ impl Star {
 
     /// The star of a vertex.
     pub(crate) fn of<S: SpadeNum>(vertex: &VertexHandle<'_, Point2<S>, (), (), ()>) -> Self {
-        let mut star = Star::around(PlacedVertex::of(vertex));
+        let centre = PlacedVertex::of(vertex);
+        let mut star = Star {
+            degree: 0,
+            centre,
+            ends: [centre; KEPT],
+        };
         for edge in vertex.out_edges() {
             star.push(PlacedVertex::of(&edge.to()));
         }
@@ -141,7 +128,7 @@ impl Star {
     pub(crate) fn rename(&mut self, former: FixedVertexHandle, vertex: FixedVertexHandle) {
         for i in 0..KEPT {
             if self.ends[i].vertex == former.index() {
-                self.ends[i] = self.ends[i].with_index(vertex);
+                self.ends[i].vertex = vertex.index();
             }
         }
     }

@@ -1,16 +1,14 @@
 use Rattle.std.proofs.Common.{◌<◌, length, inl, inr, arith}
 use mathlib.Core.Logic.{⊎_elim}
 use Rattle.std.proofs.lemmas.Grind.{common_steps}
-use Rattle.delaunay_interface.specs.delaunay_core.Place.{place_of}
 use Rattle.hint_hierarchy.specs.Layers.{positions}
 use Rattle.hint_hierarchy.proofs.Held.{held_at}
 use Rattle.hint_hierarchy.proofs.hierarchy.HierarchyHintGeneratorWithBranchFactor.first_or.Goals as goal
 
 pub returns-else-is_empty : goal.returns-else-is_empty
 returns-else-is_empty g c =
-    let below : 0 < length c.args.self.now.layers.items = grind (arith, common_steps) in
+    let layers = c.args.self.now.layers.items in
+    let below : 0 < length layers = grind (arith, common_steps) in
     ⊎_elim
-    (λ at. inl (held_at (positions g.S.SpadeNum.whole) c.args.self.now.layers.items 0
-    c.index.result.now below
-    c.index.ensures (place_of g.S.SpadeNum.whole c.first_position.result) at))
+    (λ at. inl (held_at (positions g.S.SpadeNum.whole) layers _ _ below c.index.ensures _ at))
     (λ e. inr e) c.first_position.ensures

@@ -8,6 +8,4 @@ pub nearest_from-requires-clause-sites : goal.nearest_from-requires-clause-sites
 nearest_from-requires-clause-sites g c =
     let layers = c.args.self.now.layers.items in
     let below : c.loop-level.level - 1 < length layers = grind (arith, common_steps) in
-    sites_at (positions g.S.SpadeNum.whole) (g.P.PlaneTests.sites c.args.tests.now) layers
-    (c.loop-level.level - 1)
-    c.index-layer.result.now below c.index-layer.ensures c.requires.held
+    sites_at (positions g.S.SpadeNum.whole) _ layers _ _ below c.index-layer.ensures c.requires.held

@@ -1,9 +1,0 @@
-use Rattle.delaunay_interface.specs.delaunay_core.Place.{place_of}
-use Rattle.hint_hierarchy.specs.Layers.{positions}
-use Rattle.hint_hierarchy.proofs.Held.{IsVacantBelow}
-use Rattle.hint_hierarchy.proofs.hierarchy.HierarchyHintGeneratorWithBranchFactor.is_found_vacant.Given as goal
-
-abbrev pub invariant-loop-layer : goal.invariant-loop-layer
-invariant-loop-layer g l =
-    IsVacantBelow (positions g.S.SpadeNum.whole) (place_of g.S.SpadeNum.whole l.position)
-    l.layer-index l.self.layers.items
