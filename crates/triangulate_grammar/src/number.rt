@@ -30,13 +30,7 @@ pub fn number_of(word: &[u8]) -> Option<i64>
     ensures none { IfNone result ((z : ℤ) → ¬ IsNumber word.now z) }
 {
     match word {
-        [b'-', digits @ ..] => {
-            let number = index_written(digits)?;
-            Some(-(number as i64))
-        }
-        _ => {
-            let number = index_written(word)?;
-            Some(number as i64)
-        }
+        [b'-', digits @ ..] => Some(-(index_written(digits)? as i64)),
+        _ => Some(index_written(word)? as i64),
     }
 }

@@ -1,8 +1,6 @@
 //! The words of a line, and the command that they spell.
-ghost use Rattle.std.specs.Prelude.{◌≡◌, ℕ, [], ◌∷◌};
-ghost use Rattle.std.specs.Prelude.{List, Option, None, Some, MatchOption, IfSome};
+ghost use Rattle.std.specs.Prelude.{◌≡◌, [], ◌∷◌, MatchOption, IfSome, OnSome, drop};
 ghost use Rattle.triangulate_grammar.specs.Grammar.{words_of};
-ghost use Rattle.std.specs.Prelude.{OnSome, drop};
 ghost use Rattle.triangulate_grammar.specs.Reading.{first_index, first_number, coordinates_of, pair_of};
 ghost use Rattle.triangulate_grammar.specs.Reading.{command_of, command_named, arity};
 
@@ -66,9 +64,7 @@ impl<'a> Words<'a> {
         ensures value { result ≡ pair_of self.old }
         ensures rest { OnSome result (self.new ≡ drop 2 self.old) }
     {
-        let i = self.index()?;
-        let j = self.index()?;
-        Some((i, j))
+        Some((self.index()?, self.index()?))
     }
 
     /// The next two words, as coordinates.
@@ -77,9 +73,10 @@ impl<'a> Words<'a> {
         ensures value { result ≡ coordinates_of self.old }
         ensures rest { OnSome result (self.new ≡ drop 2 self.old) }
     {
-        let x = self.number()?;
-        let y = self.number()?;
-        Some(Coordinates { x, y })
+        Some(Coordinates {
+            x: self.number()?,
+            y: self.number()?,
+        })
     }
 }
 
@@ -119,9 +116,7 @@ fn command_named(name: &[u8], words: &mut Words<'_>) -> Option<Command>
     } else if name == b"nearest".as_slice() {
         Some(Command::Nearest(words.coordinates()?))
     } else if name == b"line".as_slice() {
-        let from = words.coordinates()?;
-        let to = words.coordinates()?;
-        Some(Command::Line(from, to))
+        Some(Command::Line(words.coordinates()?, words.coordinates()?))
     } else if name == b"counts".as_slice() {
         Some(Command::Counts)
     } else if name == b"faces".as_slice() {
