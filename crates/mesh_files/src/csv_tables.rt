@@ -285,6 +285,21 @@ fn take_segment_row(
     drawing.join(from, to, FilePlace::of_line(line))
 }
 
+/// Reads the next row of segments, and gives its line, if there is one.
+fn read_segment_row<R: Read>(
+    reader: &mut Reader<R>,
+    record: &mut ByteRecord,
+    ends: EndColumns,
+    line: u32,
+    drawing: &mut Drawing,
+) -> Result<Option<u32>, FileFault> {
+    let Some(line) = next_row(reader, record, line)? else {
+        return Ok(None);
+    };
+    take_segment_row(drawing, record, ends, line)?;
+    Ok(Some(line))
+}
+
 /// Reads the rows of segments, into a record that is used for each of them.
 fn read_segment_rows<R: Read>(
     reader: &mut Reader<R>,
@@ -294,11 +309,10 @@ fn read_segment_rows<R: Read>(
 ) -> Result<(), FileFault> {
     let mut line = 1;
     for _ in 0..u64::MAX {
-        let Some(next) = next_row(reader, record, line)? else {
-            return Ok(());
-        };
-        line = next;
-        take_segment_row(drawing, record, ends, line)?;
+        match read_segment_row(reader, record, ends, line, drawing)? {
+            Some(next) => line = next,
+            None => break,
+        }
     }
     Ok(())
 }

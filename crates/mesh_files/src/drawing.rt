@@ -110,12 +110,12 @@ impl NumberTexts {
     /// The number rounded to so many digits behind the point, and whether that changed it.
     pub(crate) fn rounded(
         &mut self,
-        number: &Number,
+        number: Number,
         digits: u32,
         at: FilePlace,
     ) -> Result<(Number, bool), FileFault> {
         if number.decimal.digits <= digits {
-            return Ok((*number, false));
+            return Ok((number, false));
         }
         let decimal = number.decimal.rounded_to(digits).shortened();
         let mut word = String::new(*self.bytes.allocator());

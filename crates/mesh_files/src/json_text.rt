@@ -13,6 +13,17 @@ pub(crate) struct JsonText<'a> {
     pub(crate) at: FilePlace,
 }
 
+/// How many lines end in a text.
+fn line_ends(text: &[u8]) -> u32 {
+    let mut count = 0u32;
+    for byte in text {
+        if *byte == b'\n' {
+            count = count.saturating_add(1);
+        }
+    }
+    count
+}
+
 impl<'a> JsonText<'a> {
     pub(crate) fn new(reader: Reader<'a>, text: &'a [u8]) -> Self {
         JsonText {
@@ -32,11 +43,7 @@ impl<'a> JsonText<'a> {
     fn count_lines(&mut self) {
         let end = self.reader.offset();
         if let Some(passed) = self.text.get(self.counted..end) {
-            for byte in passed {
-                if *byte == b'\n' {
-                    self.at.line = self.at.line.saturating_add(1);
-                }
-            }
+            self.at.line = self.at.line.saturating_add(line_ends(passed));
             self.counted = end;
         }
     }

@@ -71,18 +71,21 @@ impl Axis {
     }
 }
 
+/// Rounds a point, and counts the numbers that this changed.
+fn round_spot(texts: &mut NumberTexts, spot: &mut Spot, digits: u32) -> Result<u64, FileFault> {
+    let at = spot.file_place();
+    let (x, x_changed) = texts.rounded(spot.x, digits, at)?;
+    let (y, y_changed) = texts.rounded(spot.y, digits, at)?;
+    spot.x = x;
+    spot.y = y;
+    Ok(u64::from(x_changed).saturating_add(u64::from(y_changed)))
+}
+
 /// Rounds points, and counts the numbers that this changed.
 fn round_all(texts: &mut NumberTexts, spots: &mut [Spot], digits: u32) -> Result<u64, FileFault> {
     let mut count = 0u64;
     for spot in spots {
-        let at = spot.file_place();
-        let (x, x_changed) = texts.rounded(&spot.x, digits, at)?;
-        let (y, y_changed) = texts.rounded(&spot.y, digits, at)?;
-        spot.x = x;
-        spot.y = y;
-        count = count
-            .saturating_add(u64::from(x_changed))
-            .saturating_add(u64::from(y_changed));
+        count = count.saturating_add(round_spot(texts, spot, digits)?);
     }
     Ok(count)
 }

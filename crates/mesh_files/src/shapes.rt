@@ -29,10 +29,6 @@ impl GeoPosition {
         };
         same_height && self.spot.x.is_equal(&other.spot.x) && self.spot.y.is_equal(&other.spot.y)
     }
-
-    fn draw(&self, drawing: &mut Drawing) -> Result<(), FileFault> {
-        drawing.add_spot(self.spot, self.height)
-    }
 }
 
 /// Positions that are being read. The last is not in the drawing, unless it is the first.
@@ -86,7 +82,7 @@ impl WholeLine {
     fn draw(&self, kind: LineKind, drawing: &mut Drawing) -> Result<(), FileFault> {
         match kind {
             LineKind::Points => match &self.closing {
-                Some(position) => position.draw(drawing),
+                Some(position) => drawing.add_spot(position.spot, position.height),
                 None => Ok(()),
             },
             LineKind::Path => self.join(drawing),
@@ -140,7 +136,7 @@ impl Shape {
     ) -> Result<(), FileFault> {
         let Some(mut line) = self.open else {
             let start = drawing.next_place(position.spot.file_place())?;
-            position.draw(drawing)?;
+            drawing.add_spot(position.spot, position.height)?;
             self.open = Some(OpenLine {
                 start,
                 first: position,
@@ -149,7 +145,7 @@ impl Shape {
             return Ok(());
         };
         if let Some(last) = line.last {
-            last.draw(drawing)?;
+            drawing.add_spot(last.spot, last.height)?;
         }
         line.last = Some(position);
         self.open = Some(line);
@@ -168,7 +164,7 @@ impl Shape {
             if last.is_equal(&line.first) {
                 closing = Some(last);
             } else {
-                last.draw(drawing)?;
+                drawing.add_spot(last.spot, last.height)?;
             }
         }
         let end = drawing.next_place(at)?;

@@ -67,8 +67,8 @@ pub struct MeshText<'a> {
 
 impl MeshText<'_> {
     /// Puts a number behind a line, as it came.
-    fn push_number(&self, line: &mut String, number: &Number) -> Result<(), AllocError> {
-        match str::from_utf8(self.drawing.text_of(number)) {
+    fn push_number(&self, line: &mut String, number: Number) -> Result<(), AllocError> {
+        match str::from_utf8(self.drawing.text_of(&number)) {
             Ok(text) => line.push_str(text),
             Err(_) => Ok(()),
         }
@@ -76,12 +76,12 @@ impl MeshText<'_> {
 
     /// Puts the numbers of a point behind a line, as they came.
     fn push_point(&self, line: &mut String, place: usize) -> Result<(), AllocError> {
-        if let Some(spot) = self.drawing.spots.get(place) {
-            self.push_number(line, &spot.x)?;
+        if let Some(spot) = self.drawing.spots.get(place).copied() {
+            self.push_number(line, spot.x)?;
             line.push(' ')?;
-            self.push_number(line, &spot.y)?;
+            self.push_number(line, spot.y)?;
         }
-        if let Some(height) = self.drawing.heights.get(place) {
+        if let Some(height) = self.drawing.heights.get(place).copied() {
             line.push(' ')?;
             self.push_number(line, height)?;
         }
