@@ -1,7 +1,7 @@
 -- Lists of the edges that a flood begins with.
--- Lemmas: three_sides, if_ok.
+-- Lemmas: three_sides, if_ok, on_ok.
 use Rattle.std.proofs.Common.{◌≡◌, ℕ, ◌/◌, [], ◌∷◌, arith}
-use Rattle.std.specs.Prelude.{Result, Ok, Err, IfOk}
+use Rattle.std.specs.Prelude.{Result, Ok, Err, IfOk, OnOk}
 use Rattle.delaunay_location.specs.half_edge_mesh.Mesh.{Mesh, next, prev}
 use Rattle.delaunay_shapes.specs.Start.{HasSides}
 
@@ -20,3 +20,8 @@ pub if_ok : {T E : Type 0} (P Q : T → Type 0) (r : Result T E) → ((x : T) �
     → IfOk r P → IfOk r Q
 if_ok P Q (Ok x) into p = into x p
 if_ok P Q (Err e) into p = p
+
+-- of a result without a value that is read
+pub on_ok : {T E P Q : Type 0} (r : Result T E) → (P → Q) → OnOk r P → OnOk r Q
+on_ok (Ok x) f h = f h
+on_ok (Err e) f h = h

@@ -1,7 +1,7 @@
 -- A flood over a mesh that has spread is a flood round the triangulation, and has each edge in its
 -- region.
 -- Notions: GoesOn; half_of_even, half_of_rev, tiles, below_half, to_half, from_half, half_by_ends,
--- pair_edge, joined_half, half_joined, joined_by_ends, flooded_around, spread_finds_all.
+-- pair_edge, joined_half, half_joined, joined_by_ends, flooded_around, begun_finds_all.
 use Rattle.std.proofs.Common.{◌≡◌, ◌⊎◌, ◌*◌, ◌/◌, ◌<◌, ◌∙◌}
 use Rattle.std.proofs.Common.{ℕ, List, length, refl, sym, ap, subst, arith, eq-eqb}
 use mathlib.Core.Logic.{inl, inr, ◌≢◌}
@@ -35,7 +35,7 @@ use Rattle.delaunay_location.proofs.mesh_embedding.WorkLists.{contains_map, cont
 use Rattle.delaunay_shapes.specs.Known.{point_at}
 use Rattle.delaunay_shapes.specs.InShape.{IsEdgeInShape, AreEdgesInShape, undirected_of}
 use Rattle.delaunay_shapes.specs.Flood.{IsAsked, IsFlooding, AreAskedBeside, IsSpread}
-use Rattle.delaunay_shapes.specs.Flood.{IsBegunBy}
+use Rattle.delaunay_shapes.specs.Flood.{HasBegunWith, IsBegunBy, Spreads}
 use Rattle.delaunay_shapes.specs.Start.{HasStartAt}
 use Rattle.delaunay_shapes.proofs.Asking.{rev_half}
 
@@ -291,7 +291,7 @@ module _ (points : List Point) (m : Mesh) (v : IsValidMesh m)
 
   -- ---- a flood that has spread
   -- a flood that has spread from where a region begins has found all edges in it
-  pub spread_finds_all : (Shape : Fraction → Type 0) (p : Point) → HasStartAt Shape p → (count : ℕ)
+  spread_finds_all : (Shape : Fraction → Type 0) (p : Point) → HasStartAt Shape p → (count : ℕ)
       → 2 * count ≡ length m.half_edges → (starts : List ℕ) (asked : List Bool) (sides : List ℕ)
       → IsFlooding (IsEdgeInShape Shape points m) count asked (undirected_of sides)
       → IsSpread m asked sides → IsBegunBy (IsEdgeInShape Shape points m) count starts
@@ -413,3 +413,16 @@ module _ (points : List Point) (m : Mesh) (v : IsValidMesh m)
           (joined_half found within (origin m (2 * k)) (origin m (rev (2 * k)))
           (2 * k) w refl refl (reach tiles (origin m (2 * first.0)) (origin m (rev (2 * first.0)))
           (origin m (2 * k)) (origin m (rev (2 * k))) s e))
+
+  -- so has one that began with these before it went on
+  pub begun_finds_all : (Shape : Fraction → Type 0) (p : Point) → HasStartAt Shape p → (count : ℕ)
+      → 2 * count ≡ length m.half_edges → (first asked : List Bool) (begun sides : List ℕ)
+      → IsFlooding (IsEdgeInShape Shape points m) count asked (undirected_of sides)
+      → IsSpread m asked sides → HasBegunWith (IsEdgeInShape Shape points m) count first
+      → Spreads first asked begun sides → AreEdgesInShape Shape points m (undirected_of sides)
+  begun_finds_all Shape p shaped count even first asked begun sides flooding spread b on =
+      spread_finds_all Shape p shaped count even b.starts asked sides flooding spread b.begun
+      (λ k c. (
+        subst (λ (x : ℕ). x < count) c.2 (b.within c.0 k c.1),
+        on.kept k (b.each k c),
+      ))

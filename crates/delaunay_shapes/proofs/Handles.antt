@@ -1,7 +1,7 @@
 -- What a handle tells, of the mesh and the index that it has.
 -- Lemmas: start_is, end_is, vertex_covered, start_covered, end_covered, edge_told, vertex_told,
 -- after_is, before_is, ends_told, filtered_within, filtered_directed, filtered_edges,
--- filtered_vertices, not_asked, marked_by, found_fits.
+-- filtered_vertices, not_asked, marked_by, vertices_within, found_fits.
 use Rattle.std.proofs.Common.{◌≡◌, ◌↔◌, ◌*◌, ◌/◌, ◌<◌, ◌≤◌, ◌∙◌}
 use Rattle.std.proofs.Common.{ℕ, List, length, map, get_or, set, sym, ap, subst, arith}
 use mathlib.Core.Bool.{Bool, true, false}
@@ -186,6 +186,14 @@ not_asked asked k i b e off is there =
 pub marked_by : (asked asked' : List Bool) (k i : ℕ) → i ≡ k → asked' ≡ set asked i true
     → asked' ≡ set asked k true
 marked_by asked asked' k i e is = is ∙ ap (λ (x : ℕ). set asked x true) e
+
+-- the vertices in a shape are below their count
+pub vertices_within : (Shape : Fraction → Type 0) (points : List Point) (found : List ℕ) (n : ℕ)
+    → length points ≡ n → AreVerticesInShape Shape points found → (k d : ℕ) → k < length found
+    → get_or found k d < n
+vertices_within Shape points found n all f k d h = let low =
+    ((f.exact (get_or found k d)).0 (k, h, get_or_any found k (get_or found k d) d h)).0 in
+    omega (arith, low, all)
 
 -- a flood has found at most as many as there are
 pub found_fits : (Inside : ℕ → Type 0) (count : ℕ) (asked : List Bool) (found : List ℕ) →

@@ -1,13 +1,14 @@
 -- The vertices in a region as those that name one of its edges.
--- Notions: AreNamedAmong, IsAmongFirst; not_named, not_inside, keeps, named_first, named_more,
--- named_last, named_below, named_are_all.
+-- Notions: AreNamedAmong, IsAmongFirst; not_named, not_inside, keeps, ends_kept, named_first,
+-- named_on, named_last, named_before, named_are_all.
 use Rattle.std.proofs.Common.{◌≡◌, ◌⊎◌, ◌+◌, ◌*◌, ◌/◌, ◌<◌, ◌≤◌, [], ◌∷◌, ◌++◌, ◌∙◌}
-use Rattle.std.proofs.Common.{ℕ, List, length, get_or, refl, sym, ap, subst, arith}
+use Rattle.std.proofs.Common.{ℕ, List, length, get_or, refl, sym, ap, subst, arith, length-append}
 use mathlib.Core.Logic.{inl, inr, ◌≢◌, ◌↔◌}
 use mathlib.Core.Bool.{Bool, true, false}
 use Rattle.std.specs.Prelude.{ℤ, pos, ◌*ℤ◌, Contains, Some, IsSome, IsTrue}
 use Rattle.std.proofs.lemmas.Int.{ints}
 use Rattle.std.proofs.lemmas.Bool.{cases_eq}
+use Rattle.std.proofs.lemmas.List.{get_or-map, get_or_append_left, length-map, map-append}
 use Rattle.delaunay_location.specs.half_edge_mesh.Mesh.{Mesh, origin, out_edge, rev, IsValidMesh}
 use Rattle.delaunay_location.proofs.half_edge_links.Lists.Rev.{rev_differs}
 use Rattle.delaunay_location.proofs.half_edge_links.Removing.CollapseLemmas.{some_of}
@@ -25,8 +26,8 @@ use Rattle.delaunay_location.proofs.mesh_embedding.MeshStays.{half_same}
 use Rattle.delaunay_location.proofs.mesh_embedding.WorkLists.{contains_last, contains_before}
 use Rattle.delaunay_location.proofs.mesh_embedding.WorkLists.{last_or_before, once_after}
 use Rattle.delaunay_shapes.specs.Known.{point_at}
-use Rattle.delaunay_shapes.specs.InShape.{AreEdgesInShape, AreVerticesInShape}
-use Rattle.delaunay_shapes.specs.Flood.{AreNamedIn, IsNamedIn, IsStartKept, KeepsStart}
+use Rattle.delaunay_shapes.specs.InShape.{AreEdgesInShape, AreVerticesInShape, undirected_of}
+use Rattle.delaunay_shapes.specs.Flood.{AreNamedIn, IsNamedIn, IsStartKept, KeepsEnds, KeepsStart}
 use Rattle.delaunay_shapes.specs.Start.{HasStartAt}
 use Rattle.delaunay_shapes.proofs.Asking.{below_other}
 use Rattle.delaunay_shapes.proofs.Flooding.{half_of_even, half_of_rev, tiles, to_half}
@@ -72,9 +73,22 @@ pub keeps : (Inside : ℕ → Type 0) (m : Mesh) (found found' : List ℕ) (h v 
 keeps Inside m found found' h v a b named on inside told is grown =
     inl ((named.0 on, inside.0 told), grown ∙ ap (λ (x : ℕ). found ++ x ∷ []) is)
 
+-- both ends of an edge, one after the other
+pub ends_kept : (Inside : ℕ → Type 0) (m : Mesh) (found mid found' : List ℕ) (h a b : ℕ)
+    → a ≡ 2 * (h / 2) → b ≡ rev (2 * (h / 2)) → KeepsStart Inside m found mid a
+    → KeepsStart Inside m mid found' b → KeepsEnds Inside m found found' h
+ends_kept Inside m found mid found' h a b e f from to = record {
+  between = mid;
+  from = subst (KeepsStart Inside m found mid) e from;
+  to = subst (KeepsStart Inside m mid found') f to;
+}
+
 -- directed edge h is one of the first i of these edges
 abbrev pub IsAmongFirst : List ℕ → ℕ → ℕ → Type 0
 IsAmongFirst edges i h = (j : ℕ) × (j < i) × (j < length edges) × (get_or edges j 0 ≡ h / 2)
+
+listed : (edges : List ℕ) (i h : ℕ) → IsAmongFirst edges i h → Contains edges (h / 2)
+listed edges i h r = (r.0, r.2, get_or_any edges r.0 (h / 2) 0 r.2 ∙ r.3)
 
 module _ (Inside : ℕ → Type 0) (m : Mesh)
     (starts : (v h : ℕ) → out_edge m v ≡ Some h → origin m h ≡ v) where
@@ -152,7 +166,7 @@ module _ (Inside : ℕ → Type 0) (m : Mesh)
       })
 
   -- once both directions of the next edge are done, one edge more is
-  pub named_more : (edges : List ℕ) → IsOnce edges → (found mid found' : List ℕ) (i d a b : ℕ)
+  named_more : (edges : List ℕ) → IsOnce edges → (found mid found' : List ℕ) (i d a b : ℕ)
       → AreNamedAmong Inside m (IsAmongFirst edges i) found → i < length edges
       → a ≡ 2 * get_or edges i d → b ≡ rev (2 * get_or edges i d)
       → KeepsStart Inside m found mid a → KeepsStart Inside m mid found' b
@@ -201,6 +215,62 @@ module _ (Inside : ℕ → Type 0) (m : Mesh)
         | inr n ↦ inl (inl (r.0, below_other r.0 i r.1 n, r.2, r.3))
       ]
 
+  -- with more edges behind them, those done are the same
+  named_longer : (edges edges' more found : List ℕ) (i : ℕ) → edges' ≡ edges ++ more
+      → i ≤ length edges → AreNamedAmong Inside m (IsAmongFirst edges i) found
+      → AreNamedAmong Inside m (IsAmongFirst edges' i) found
+  named_longer edges edges' more found i grown low s =
+      subst (λ es. AreNamedAmong Inside m (IsAmongFirst es i) found) (sym grown)
+      (among_same (IsAmongFirst edges i) (IsAmongFirst (edges ++ more) i) found there back s)
+    where
+      there : (h : ℕ) → IsAmongFirst edges i h → IsAmongFirst (edges ++ more) i h
+      there h r =
+          let l = length-append edges more in
+          let w = r.2 in
+          (r.0, r.1, omega (arith, l, w), get_or_append_left edges more 0 r.0 r.2 ∙ r.3)
+
+      back : (h : ℕ) → IsAmongFirst (edges ++ more) i h → IsAmongFirst edges i h
+      back h r =
+          let here = less_all r.0 i (length edges) r.1 low in
+          (r.0, r.1, here, sym (get_or_append_left edges more 0 r.0 here) ∙ r.3)
+
+  -- once the ends of the next edge found are kept, and a flood has gone on, one edge more is done
+  pub named_on : (sides sides' more found found' : List ℕ) (i d : ℕ) → sides' ≡ sides ++ more
+      → i < length sides → IsOnce (undirected_of sides')
+      → AreNamedAmong Inside m (IsAmongFirst (undirected_of sides) i) found
+      → KeepsEnds Inside m found found' (get_or sides i d)
+      → AreNamedAmong Inside m (IsAmongFirst (undirected_of sides') (i + 1)) found'
+  named_on sides sides' more found found' i d grown here once s k =
+      named_more (undirected_of sides') once found k.between found' i d
+      (2 * (get_or sides i d / 2)) (rev (2 * (get_or sides i d / 2)))
+      (named_longer (undirected_of sides) (undirected_of sides') (undirected_of more) found i
+      together (omega (arith, many, here)) s)
+      (omega (arith, all, there))
+      (ap (λ (x : ℕ). 2 * x) at) (ap (λ (x : ℕ). rev (2 * x)) at) k.from k.to
+    where
+      half : ℕ → ℕ
+      half x = x / 2
+
+      many : length (undirected_of sides) ≡ length sides
+      many = length-map sides half
+
+      together : undirected_of sides' ≡ undirected_of sides ++ undirected_of more
+      together = ap undirected_of grown ∙ map-append half sides more
+
+      all : length (undirected_of sides') ≡ length sides'
+      all = length-map sides' half
+
+      long : length sides' ≡ length sides + length more
+      long = ap length grown ∙ length-append sides more
+
+      there : i < length sides'
+      there = omega (arith, long, here)
+
+      at : get_or sides i d / 2 ≡ get_or (undirected_of sides') i d
+      at = ap half (get_or_any sides i d 0 here
+          ∙ sym (ap (λ xs. get_or xs i 0) grown ∙ get_or_append_left sides more 0 i here))
+          ∙ sym (get_or-map half sides' i 0 d there)
+
   -- once the end of the edges is reached, all that name one of them are done
   pub named_last : (edges found : List ℕ) (i : ℕ)
       → AreNamedAmong Inside m (IsAmongFirst edges i) found → length edges ≤ i
@@ -209,18 +279,48 @@ module _ (Inside : ℕ → Type 0) (m : Mesh)
     once = s.once;
     exact = λ v. (
       (λ c. let r = (s.exact v).0 c in
-          ((r.0.0, record { names = r.0.1; listed = listed r.0.0 r.0.2 }), r.1)),
+          ((r.0.0, record { names = r.0.1; listed = listed edges i r.0.0 r.0.2 }), r.1)),
       (λ r. (s.exact v).1 ((r.0.0, r.0.1.names, before r.0.0 r.0.1.listed), r.1)),
     );
   }
     where
-      listed : (h : ℕ) → IsAmongFirst edges i h → Contains edges (h / 2)
-      listed h r = (r.0, r.2, get_or_any edges r.0 (h / 2) 0 r.2 ∙ r.3)
-
       before : (h : ℕ) → Contains edges (h / 2) → IsAmongFirst edges i h
       before h c = (
         c.0,
         less_all c.0 (length edges) i c.1 last,
+        c.1,
+        get_or_any edges c.0 0 (h / 2) c.1 ∙ c.2,
+      )
+
+  -- where all that name one of the edges are found, the first edges are done when a flood has gone
+  -- on
+  pub named_before : (sides sides' more found : List ℕ) (i : ℕ) → sides' ≡ sides ++ more
+      → i ≡ length sides → AreNamedIn Inside m (undirected_of sides) found
+      → AreNamedAmong Inside m (IsAmongFirst (undirected_of sides') i) found
+  named_before sides sides' more found i grown last s =
+      named_longer edges (undirected_of sides') (undirected_of more) found i
+      (ap undirected_of grown ∙ map-append (λ (x : ℕ). x / 2) sides more)
+      (omega (arith, many, last))
+      (record {
+        once = s.once;
+        exact = λ v. (
+          (λ c. let r = (s.exact v).0 c in
+              ((r.0.0, r.0.1.names, among r.0.0 r.0.1.listed), r.1)),
+          (λ r. (s.exact v).1
+              ((r.0.0, record { names = r.0.1; listed = listed edges i r.0.0 r.0.2 }), r.1)),
+        );
+      })
+    where
+      edges : List ℕ
+      edges = undirected_of sides
+
+      many : length edges ≡ length sides
+      many = length-map sides (λ (x : ℕ). x / 2)
+
+      among : (h : ℕ) → Contains edges (h / 2) → IsAmongFirst edges i h
+      among h c = let w = c.1 in (
+        c.0,
+        omega (arith, last, many, w),
         c.1,
         get_or_any edges c.0 0 (h / 2) c.1 ∙ c.2,
       )
@@ -231,15 +331,6 @@ named_in : (m : Mesh) → IsValidMesh m → (n : ℕ) → n ≡ length m.out_edg
 named_in m v n many i h o = let s = v.sound.vertices i h o in
     subst (λ (x : ℕ). x < n) s.1
     (subst (λ (k : ℕ). origin m h < k) (sym many) (v.sound.edges h s.0).origin_in)
-
--- so is each of those found
-pub named_below : (Inside : ℕ → Type 0) (m : Mesh) → IsValidMesh m → (edges found : List ℕ) (n : ℕ)
-    → n ≡ length m.out_edges → AreNamedIn Inside m edges found → (k d : ℕ) → k < length found
-    → get_or found k d < n
-named_below Inside m v edges found n many named k d h =
-    let r = (named.exact (get_or found k d)).0
-    (k, h, get_or_any found k (get_or found k d) d h) in
-    named_in m v n many (get_or found k d) r.0.0 r.0.1.names
 
 -- ---- all of them
 same_number : (a b : ℤ) → (a *ℤ pos 1) ≡ (b *ℤ pos 1) → a ≡ b

@@ -1,6 +1,6 @@
 -- A flood over the edges of a mesh: which were asked of, and which of them were found.
-use Rattle.std.specs.Prelude.{◌≡◌, ◌≢◌, ◌↔◌, ◌⊎◌, ℕ, ◌/◌, ◌<◌, List, [], ◌∷◌, ◌++◌, length}
-use Rattle.std.specs.Prelude.{Some, Bool, true, false, Contains, AllPairs, slice_index_or, ◌≤◌}
+use Rattle.std.specs.Prelude.{◌≡◌, ◌≢◌, ◌↔◌, ◌⊎◌, ℕ, ◌*◌, ◌/◌, ◌<◌, List, [], ◌∷◌, ◌++◌, length}
+use Rattle.std.specs.Prelude.{Some, Bool, true, false, All, Contains, AllPairs, slice_index_or, ◌≤◌}
 use Rattle.delaunay_location.specs.half_edge_mesh.Mesh.{Mesh, origin, next, prev, face, rev}
 use Rattle.delaunay_location.specs.half_edge_mesh.Mesh.{out_edge}
 use Rattle.delaunay_location.specs.plane.Fraction.{Point, Fraction}
@@ -71,6 +71,13 @@ pub record AsksBeside (Inside : ℕ → Type 0) (m : Mesh) (count : ℕ) (asked 
 pub record IsBegunBy (Inside : ℕ → Type 0) (count : ℕ) (starts : List ℕ) : Type 0 where
   pub begun : (k : ℕ) → k < count → Inside k → (j : ℕ) × Contains starts j × Inside j
 
+-- the flood has asked of such edges
+pub record HasBegunWith (Inside : ℕ → Type 0) (count : ℕ) (asked : List Bool) : Type 0 where
+  pub starts : List ℕ
+  pub begun : IsBegunBy Inside count starts
+  pub within : All (λ k. k < count) starts
+  pub each : (k : ℕ) → Contains starts k → IsAsked asked k
+
 -- where any of the edges that are tried first from a location is inside, one of the first is
 pub record HasBegun (Shape : Fraction → Type 0) (points : List Point) (m : Mesh) (starts : List ℕ)
     (l : Location) : Type 0 where
@@ -95,3 +102,10 @@ IsStartKept Inside m h = (out_edge m (origin m h) ≡ Some h) × Inside (origin 
 abbrev pub KeepsStart : (ℕ → Type 0) → Mesh → List ℕ → List ℕ → ℕ → Type 0
 KeepsStart Inside m found found' h = (IsStartKept Inside m h × (found' ≡ found ++ origin m h ∷ []))
     ⊎ ((¬ IsStartKept Inside m h) × (found' ≡ found))
+
+-- the same of both directions of the edge of h, one after the other
+pub record KeepsEnds (Inside : ℕ → Type 0) (m : Mesh) (found found' : List ℕ)
+    (h : ℕ) : Type 0 where
+  pub between : List ℕ
+  pub from : KeepsStart Inside m found between (2 * (h / 2))
+  pub to : KeepsStart Inside m between found' (rev (2 * (h / 2)))

@@ -1,9 +1,11 @@
 //! A flood over the edges of a mesh that have a point in a shape: from those found, to those beside
 //! them in their faces.
-ghost use Rattle.std.specs.Prelude.{◌<◌, ◌/◌, ℕ, length, map, All, Contains, IfOk, OnOk};
-ghost use Rattle.delaunay_shapes.specs.Flood.{Spreads, IsAsked, IsSpread, IsSpreadTo};
+ghost use Rattle.std.specs.Prelude.{◌≡◌, ◌<◌, ◌/◌, ℕ, [], length, map, All, Contains, IfOk};
+ghost use Rattle.std.specs.Prelude.{replicate, false, OnOk};
+ghost use Rattle.delaunay_shapes.specs.Flood.{HasBegunWith, IsAsked, IsSpread, IsSpreadTo, Spreads};
 ghost use Rattle.delaunay_shapes.specs.InShape.{AreEdgesInShape, undirected_of};
-ghost use Rattle.delaunay_shapes.specs.ShapeSearch.{AsksBesideFor, AsksFor, IsFloodFor};
+ghost use Rattle.delaunay_shapes.specs.ShapeSearch.{AsksBesideFor, AsksFor, EnclosesEdge};
+ghost use Rattle.delaunay_shapes.specs.ShapeSearch.{IsFloodFor};
 
 use crate::distance_metric::DistanceMetric;
 use crate::marks::Marks;
@@ -18,9 +20,22 @@ use std::alloc::{AllocError, Global};
 // The edges that a flood has asked of, and those of them that have a point in the shape, each in
 // the direction on whose left the flood goes on: it comes from the other side.
 #[derive(Drop)]
-struct EdgeFlood {
-    asked: Marks,
-    found: Vec<FixedDirectedEdgeHandle>,
+pub(crate) struct EdgeFlood {
+    pub(crate) asked: Marks,
+    pub(crate) found: Vec<FixedDirectedEdgeHandle>,
+}
+
+impl EdgeFlood {
+    // One that has asked of none of so many edges.
+    pub(crate) fn new(count: usize, alloc: Global) -> EdgeFlood
+        ensures asked { result.asked ≡ replicate count false }
+        ensures found { result.found.items ≡ [] }
+    {
+        EdgeFlood {
+            asked: Marks::new(count, alloc),
+            found: Vec::new(alloc),
+        }
+    }
 }
 
 impl<
@@ -69,7 +84,7 @@ impl<
 
     // Asks of the edges before and after an edge in its loop.
     #[inline(always)]
-    fn ask_beside(
+    pub(crate) fn ask_beside(
         &self,
         edge: FixedDirectedEdgeHandle,
         flood: &mut EdgeFlood,
@@ -86,7 +101,7 @@ impl<
     }
 
     // Goes on from the edges that a flood began with, to both sides.
-    fn spread_starts(&self, flood: &mut EdgeFlood) -> Result<(), AllocError>
+    pub(crate) fn spread_starts(&self, flood: &mut EdgeFlood) -> Result<(), AllocError>
         requires { IsFloodFor V.place M.shape self.now flood.old }
         ensures flooding { OnOk result (IsFloodFor V.place M.shape self.now flood.new) }
         ensures on { OnOk result (Spreads flood.old.asked flood.new.asked flood.old.found.items
@@ -137,6 +152,23 @@ impl<
         Ok(())
     }
 
+    // Asks of the edges to begin with, which are looked for from the vertex `hint` on.
+    pub(crate) fn ask_starts(
+        &self,
+        hint: FixedVertexHandle,
+        flood: &mut EdgeFlood,
+        alloc: Global,
+    ) -> Result<(), AllocError>
+        requires { IsFloodFor V.place M.shape self.now flood.old }
+        ensures flooding { OnOk result (IsFloodFor V.place M.shape self.now flood.new) }
+        ensures begun { OnOk result (HasBegunWith (EnclosesEdge V.place M.shape self.now)
+            (length self.now.dcel.undirected) flood.new.asked) }
+    {
+        let starts = self.first_edges(hint, alloc)?;
+        self.ask_each(starts.as_slice(), flood)?;
+        Ok(())
+    }
+
     // The edges with a point in the shape, each once and in one of its directions. The first is
     // looked for from the vertex `hint` on.
     pub(crate) fn edges_from(
@@ -148,12 +180,8 @@ impl<
             (map V.place self.now.dcel.vertices) self.now.dcel.mesh (undirected_of v.items)) }
         ensures within { IfOk result (λ v. All (λ e. e < length self.now.dcel.directed) v.items) }
     {
-        let starts = self.first_edges(hint, alloc)?;
-        let mut flood = EdgeFlood {
-            asked: Marks::new(self.dcel.num_undirected_edges(), alloc),
-            found: Vec::new(alloc),
-        };
-        self.ask_each(starts.as_slice(), &mut flood)?;
+        let mut flood = EdgeFlood::new(self.dcel.num_undirected_edges(), alloc);
+        self.ask_starts(hint, &mut flood, alloc)?;
         self.spread(&mut flood)?;
         let EdgeFlood { found, .. } = flood;
         Ok(found)

@@ -93,8 +93,7 @@ pub fn vertices_in_shape<
     if dcel.num_vertices() < 2 {
         return vertices_by_filter(dcel, metric, tests, alloc);
     }
-    let edges = search.edges_from(hint, alloc)?;
-    let vertices = search.named_inside(edges.as_slice(), alloc)?;
+    let vertices = search.vertices_from(hint, alloc)?;
     Ok(VerticesInShapeIterator {
         dcel,
         vertices,

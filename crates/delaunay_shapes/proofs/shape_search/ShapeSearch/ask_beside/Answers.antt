@@ -1,11 +1,7 @@
-use Rattle.std.specs.Prelude.{Result, Ok, Err, OnOk}
 use Rattle.delaunay_shapes.proofs.Asking.{asked_both}
+use Rattle.delaunay_shapes.proofs.FirstEdges.{on_ok}
 use Rattle.delaunay_shapes.proofs.Handles.{after_is, before_is}
 use Rattle.delaunay_shapes.proofs.shape_search.ShapeSearch.ask_beside.Goals as goal
-
-on_ok : {T E P Q : Type 0} (r : Result T E) → (P → Q) → OnOk r P → OnOk r Q
-on_ok (Ok x) f h = f h
-on_ok (Err e) f h = h
 
 pub returns : goal.returns
 returns g c =
