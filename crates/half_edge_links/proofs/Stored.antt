@@ -1,6 +1,5 @@
 -- The records by which a list keeps its directed edges, and what writes to them show.
 pub mod Shown
-pub mod Within
 pub mod Keeps
 pub mod Turned
 pub mod Fanned

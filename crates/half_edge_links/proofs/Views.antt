@@ -1,11 +1,11 @@
 -- The mesh that a value of `Links` holds.
--- Notions: mesh_in, linked.
-use Rattle.std.proofs.Common.{ℕ, ◌<◌, length}
+-- Notions: mesh_in; joined_in.
 use Rattle.half_edge_links.specs.declared.links.Links.TheInside.{Inside}
 use Rattle.half_edge_links.specs.EdgeList.{shown}
 use Rattle.half_edge_links.specs.Mesh.{Mesh, IsValidMesh}
+use Rattle.half_edge_links.specs.Places.{AreJoined}
 use Rattle.half_edge_links.proofs.Stored.Joined.{joined_sound}
-use Rattle.half_edge_links.proofs.Stored.Within.{LinkedIn, linked_in}
+use Rattle.half_edge_links.proofs.Stored.Shown.{shown_reads, next_within}
 
 -- the mesh inside
 abbrev pub mesh_in : {V : Type 0} → Inside V → Mesh
@@ -16,7 +16,13 @@ mesh_in l = record {
   face_edges = l.face_edges.items;
 }
 
--- an edge of it, and those after and before that edge, are in the list
-pub linked : {V : Type 0} (l : Inside V) {h : ℕ} → IsValidMesh (mesh_in l)
-    → h < length (mesh_in l).half_edges → LinkedIn l.half_edges.items h
-linked l v within = linked_in l.half_edges.items (joined_sound (mesh_in l) v.sound) within
+-- the links of its edges are joined
+pub joined_in : {V : Type 0} (l : Inside V) → IsValidMesh (mesh_in l)
+    → AreJoined (shown l.half_edges.items)
+joined_in l v = joined_sound (mesh_in l) v.sound
+
+-- reads of the edges inside, and that their links are joined
+pub ruleset inside_reads = (shown_reads, joined_in)
+
+-- the same reads, and that the links lead to edges inside
+pub ruleset joined_reads = (inside_reads, next_within)

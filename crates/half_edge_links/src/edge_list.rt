@@ -131,20 +131,22 @@ impl EdgeList {
         self.records[h as usize + 1] = edge;
     }
 
-    // A new last directed edge, which there is room for.
-    pub(crate) fn push_reserved(&mut self, edge: StoredEdge)
-        requires { length self.old.items < self.old.capacity }
-        ensures items { self.new.items ≡ self.old.items ++ edge ∷ [] }
-        ensures len { length self.new.items ≡ length self.old.items + 1 }
+    // A new last edge by its two sides, which there is room for.
+    pub(crate) fn push_edge(&mut self, there: StoredEdge, back: StoredEdge)
+        requires { length self.old.items + 2 ≤ self.old.capacity }
+        ensures items { self.new.items ≡ self.old.items ++ there ∷ [] ++ back ∷ [] }
+        ensures len { length self.new.items ≡ length self.old.items + 2 }
         ensures capacity { self.new.capacity ≡ self.old.capacity }
     {
-        self.records.push_reserved(edge);
+        self.records.push_reserved(there);
+        self.records.push_reserved(back);
     }
 
     // Takes the directed edge `h` out. The last one takes its place.
     pub(crate) fn swap_remove(&mut self, h: u32)
         requires { h < length self.old.items }
         ensures items { self.new.items ≡ swap_remove self.old.items h no_stored }
+        ensures len { length self.new.items + 1 ≡ length self.old.items }
         ensures capacity { self.new.capacity ≡ self.old.capacity }
     {
         self.records.swap_remove(h as usize + 1);

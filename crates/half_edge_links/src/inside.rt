@@ -70,16 +70,23 @@ fn fan_edges(half_edges: &mut EdgeList, v: u32, edge: u32, g: u32)
     half_edges.set(edge, linked(v, n + 2, n + 1, first.face));
     half_edges.set(first.next, linked(v, n + 4, n + 3, g + 1));
     half_edges.set(first.prev, linked(v, n, n + 5, g + 2));
-    half_edges.push_reserved(linked(corner, n + 5, first.prev, g + 2));
-    half_edges.push_reserved(linked(end, edge, n + 2, first.face));
-    half_edges.push_reserved(linked(start, n + 1, edge, first.face));
-    half_edges.push_reserved(linked(corner, first.next, n + 4, g + 1));
-    half_edges.push_reserved(linked(end, n + 3, first.next, g + 1));
-    half_edges.push_reserved(linked(start, first.prev, n, g + 2));
+    half_edges.push_edge(
+        linked(corner, n + 5, first.prev, g + 2),
+        linked(end, edge, n + 2, first.face),
+    );
+    half_edges.push_edge(
+        linked(start, n + 1, edge, first.face),
+        linked(corner, first.next, n + 4, g + 1),
+    );
+    half_edges.push_edge(
+        linked(end, n + 3, first.next, g + 1),
+        linked(start, first.prev, n, g + 2),
+    );
 }
 
 impl<V> Links<V> {
     /// Turns edge `e` between two inner faces so that it joins the two opposite corners.
+    #[tactic(auto, using(crate::proofs::Views::inside_reads))]
     pub fn flip(&mut self, e: u32)
         requires between { IsBetweenFaces self.old.mesh e }
         requires corners { origin self.old.mesh (prev self.old.mesh e) ≢
@@ -91,8 +98,8 @@ impl<V> Links<V> {
         ensures valid { IsValidMesh self.new.mesh }
     {
         let t = reversed(e);
-        let edge = self.half_edges.get(e);
-        let twin = self.half_edges.get(t);
+        let edge = self.half_edge(e);
+        let twin = self.half_edge(t);
         turn_edges(&mut self.half_edges, e, t);
         self.vertices.set_out_edge(edge.origin, Some(twin.next));
         self.vertices.set_out_edge(twin.origin, Some(edge.next));
@@ -101,7 +108,7 @@ impl<V> Links<V> {
     }
 
     /// Makes three faces of the one on the left of `edge`, each of one of its edges and vertex `v`.
-    #[tactic(auto, using(crate::proofs::Stored::Shown::shown_reads))]
+    #[tactic(auto, using(crate::proofs::Views::inside_reads))]
     pub fn insert_beside(&mut self, v: u32, edge: u32)
         requires inner { IsInnerEdge self.old.mesh edge }
         requires alone { IsAlone self.old.mesh v }
@@ -112,13 +119,15 @@ impl<V> Links<V> {
         ensures valid { IsValidMesh self.old.mesh }
         ensures inserts { InsertsBeside self.old.mesh self.new.mesh v edge }
     {
-        let n = self.half_edges.len() as u32;
-        let g = self.face_edges.len() as u32;
-        let first = self.half_edges.stored(edge);
+        let n = self.half_edge_count() as u32;
+        let g = self.inner_face_count() as u32;
+        let face = self.face(edge);
+        let next = self.next(edge);
+        let prev = self.prev(edge);
         fan_edges(&mut self.half_edges, v, edge, g);
-        self.face_edges[first.face as usize - 1] = edge;
-        self.face_edges.push_reserved(first.next);
-        self.face_edges.push_reserved(first.prev);
+        self.face_edges[face as usize - 1] = edge;
+        self.face_edges.push_reserved(next);
+        self.face_edges.push_reserved(prev);
         self.vertices.set_out_edge(v, Some(n + 1));
     }
 

@@ -15,7 +15,7 @@ use crate::records::{linked, reversed, slide_edges};
 
 impl<V> Links<V> {
     /// Makes the first edge, from `a` to `b`.
-    #[tactic(auto, using(crate::proofs::Stored::Shown::shown_reads))]
+    #[tactic(auto, using(crate::proofs::Views::inside_reads))]
     pub fn connect(&mut self, a: u32, b: u32)
         requires vertices { AreConnectable self.old.mesh a b }
         requires room { HasEdgeRoom self.old.mesh self.old.room 2 }
@@ -25,8 +25,9 @@ impl<V> Links<V> {
         ensures outline { HasOneOutline self.new.mesh }
         ensures valid { IsValidMesh self.new.mesh }
     {
-        self.half_edges.push_reserved(linked(b, 1, 1, 0));
-        self.half_edges.push_reserved(linked(a, 0, 0, 0));
+        self.recall_invariant();
+        self.half_edges
+            .push_edge(linked(b, 1, 1, 0), linked(a, 0, 0, 0));
         self.vertices.set_out_edge(a, Some(0));
         self.vertices.set_out_edge(b, Some(1));
         self.outer_edge = Some(0);
@@ -49,7 +50,7 @@ impl<V> Links<V> {
     }
 
     /// Lets edge `e` end at the far end of the edge after it, which is the only one there.
-    #[tactic(auto, using(crate::proofs::Stored::Shown::shown_reads))]
+    #[tactic(auto, using(crate::proofs::Views::inside_reads))]
     pub fn slide(&mut self, e: u32)
         requires { IsSlidable self.old.mesh e }
         ensures mesh { self.new.mesh ≡ slid self.old.mesh e }
@@ -63,9 +64,9 @@ impl<V> Links<V> {
         ensures valid { IsValidMesh self.new.mesh }
     {
         let t = reversed(e);
-        let k = self.half_edges.next(e);
-        let there = self.half_edges.get(k);
-        let z = self.half_edges.prev(t);
+        let k = self.next(e);
+        let there = self.half_edge(k);
+        let z = self.prev(t);
         slide_edges(&mut self.half_edges, e, t, k, there.next, z);
         self.vertices.set_out_edge(there.origin, Some(k));
     }

@@ -77,7 +77,7 @@ impl<V> Links<V> {
     }
 
     /// The directed edge `h`.
-    #[tactic(auto, using(crate::proofs::Stored::Shown::shown_reads))]
+    #[tactic(auto, using(crate::proofs::Views::joined_reads))]
     pub fn half_edge(&self, h: u32) -> HalfEdge
         requires { h < length self.now.mesh.half_edges }
         ensures value { result ≡ edge_at self.now.mesh.half_edges h }
@@ -118,7 +118,7 @@ impl<V> Links<V> {
     }
 
     /// The vertex at which directed edge `h` starts.
-    #[tactic(auto, using(crate::proofs::Stored::Shown::shown_reads))]
+    #[tactic(auto, using(crate::proofs::Views::joined_reads))]
     pub fn origin(&self, h: u32) -> u32
         requires { h < length self.now.mesh.half_edges }
         ensures value { result ≡ origin self.now.mesh h }

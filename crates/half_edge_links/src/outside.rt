@@ -13,7 +13,7 @@ use crate::records::{close_edges, hang_edges, reversed};
 
 impl<V> Links<V> {
     /// Puts an edge from the end of outer edge `x` to vertex `v` into the outer loop, after `x`.
-    #[tactic(auto, using(crate::proofs::Stored::Shown::shown_reads))]
+    #[tactic(auto, using(crate::proofs::Views::inside_reads))]
     pub fn hang(&mut self, x: u32, v: u32)
         requires outer { OnOuter self.old.mesh x }
         requires alone { IsAlone self.old.mesh v }
@@ -24,13 +24,13 @@ impl<V> Links<V> {
         ensures hangs { HangsEdge self.old.mesh self.new.mesh x v }
         ensures valid { IsValidMesh self.new.mesh }
     {
-        let n = self.half_edges.len() as u32;
+        let n = self.half_edge_count() as u32;
         hang_edges(&mut self.half_edges, x, v);
         self.vertices.set_out_edge(v, Some(n + 1));
     }
 
     /// Makes a face of outer edge `e`, the next one and a new edge.
-    #[tactic(auto, using(crate::proofs::Stored::Shown::shown_reads))]
+    #[tactic(auto, using(crate::proofs::Views::inside_reads))]
     pub fn close(&mut self, e: u32)
         requires closable { IsClosable self.old.mesh e }
         requires room { HasEdgeAndFaceRoom self.old.mesh self.old.room 2 1 }
@@ -40,10 +40,9 @@ impl<V> Links<V> {
         ensures closes { ClosesCorner self.old.mesh self.new.mesh e }
         ensures valid { IsValidMesh self.new.mesh }
     {
-        let n = self.half_edges.len() as u32;
-        let g = self.face_edges.len() as u32 + 1;
-        let second = self.half_edges.next(e);
-        let after = self.half_edges.next(second);
+        let n = self.half_edge_count() as u32;
+        let g = self.inner_face_count() as u32 + 1;
+        let after = self.next(self.next(e));
         close_edges(&mut self.half_edges, e, after, g);
         self.outer_edge = Some(n + 1);
         self.face_edges.push_reserved(e);

@@ -35,7 +35,7 @@ fn pass_edges(half_edges: &mut EdgeList, e: u32, t: u32, k: u32, l: u32, z: u32)
 impl<V> Links<V> {
     /// Lets edge `e` of a line pass the vertex at its end, and end where the edge after it ends.
     /// The vertex is left hanging there, by the edge after `e`.
-    #[tactic(auto, using(crate::proofs::Stored::Shown::shown_reads))]
+    #[tactic(auto, using(crate::proofs::Views::inside_reads))]
     pub fn pass(&mut self, e: u32)
         requires { IsPassable self.old.mesh e }
         ensures mesh { self.new.mesh ≡ passed self.old.mesh e }
@@ -49,10 +49,10 @@ impl<V> Links<V> {
         ensures valid { IsValidMesh self.new.mesh }
     {
         let t = reversed(e);
-        let l = self.half_edges.next(e);
-        let k = self.half_edges.prev(t);
-        let z = self.half_edges.prev(k);
-        let passed = self.half_edges.origin(l);
+        let l = self.next(e);
+        let k = self.prev(t);
+        let z = self.prev(k);
+        let passed = self.origin(l);
         pass_edges(&mut self.half_edges, e, t, k, l, z);
         self.vertices.set_out_edge(passed, Some(l));
     }

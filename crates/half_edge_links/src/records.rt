@@ -139,8 +139,7 @@ pub(crate) fn hang_edges(half_edges: &mut EdgeList, x: u32, v: u32)
     set_next(half_edges, x, n);
     set_prev(half_edges, y, n + 1);
     set_corner(half_edges, y, v);
-    half_edges.push_reserved(linked(start, n + 1, x, face));
-    half_edges.push_reserved(linked(end, y, n, face));
+    half_edges.push_edge(linked(start, n + 1, x, face), linked(end, y, n, face));
 }
 
 // Makes face `g` of edge `e`, the next one and a new edge, between the edges before and after the
@@ -172,8 +171,10 @@ pub(crate) fn close_edges(half_edges: &mut EdgeList, e: u32, after: u32, g: u32)
     set_face(half_edges, edge.next, g);
     set_corner(half_edges, after, edge.origin);
     set_corner(half_edges, e, end);
-    half_edges.push_reserved(linked(middle, e, edge.next, g));
-    half_edges.push_reserved(linked(start_before, after, edge.prev, 0));
+    half_edges.push_edge(
+        linked(middle, e, edge.next, g),
+        linked(start_before, after, edge.prev, 0),
+    );
 }
 
 // Lets edge `e`, with other side `t`, end at the far end of the edge `k` after it, whose other side

@@ -67,7 +67,7 @@ impl<V> Links<V> {
         ensures few_enough { ¬ AreFewEnough vertices undirected_edges faces →
             result ≡ Err ReserveError.TooMany }
     {
-        let more_vertices = vertices.saturating_sub(self.vertices.len());
+        let more_vertices = vertices.saturating_sub(self.vertex_count());
         if !are_few_enough(vertices, undirected_edges, faces) {
             return Err(ReserveError::TooMany);
         }

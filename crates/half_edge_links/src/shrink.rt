@@ -20,7 +20,7 @@ use crate::removal::{
 
 impl<V> Links<V> {
     /// Gives the loop of inner face `f` to the outer face. The last face takes its index.
-    #[tactic(auto, using(crate::proofs::Stored::Shown::shown_reads))]
+    #[tactic(auto, using(crate::proofs::Views::inside_reads))]
     pub fn open_face(&mut self, f: u32)
         requires { IsInner self.old.mesh f }
         ensures mesh { self.new.mesh ≡ opened self.old.mesh f }
@@ -30,14 +30,15 @@ impl<V> Links<V> {
         ensures rest { KeepsRest self.old self.new }
         ensures sound { AreSoundLinks self.old.mesh }
     {
-        let last = self.face_edges[self.face_edges.len() - 1];
-        let edge = self.face_edges[f as usize - 1];
+        let last = self.face_edge(self.inner_face_count() as u32);
+        let edge = self.face_edge(f);
         set_loop_face(&mut self.half_edges, last, f);
         set_loop_face(&mut self.half_edges, edge, 0);
         self.face_edges.swap_remove(f as usize - 1);
     }
 
     /// Makes the loop of `h`, three edges of the outer face, a new last face.
+    #[tactic(auto, using(crate::proofs::Views::inside_reads))]
     pub fn close_face(&mut self, h: u32)
         requires open { IsOpenTriangle self.old.mesh h }
         requires room { HasFaceRoom self.old.mesh self.old.room 1 }
@@ -47,13 +48,13 @@ impl<V> Links<V> {
         ensures rest { KeepsRest self.old self.new }
         ensures sound { AreSoundLinks self.old.mesh }
     {
-        let face = self.face_edges.len() as u32 + 1;
+        let face = self.inner_face_count() as u32 + 1;
         set_loop_face(&mut self.half_edges, h, face);
         self.face_edges.push_reserved(h);
     }
 
     /// Removes edge `e`, with the outer face on both sides. The last edge takes its index.
-    #[tactic(auto, using(crate::proofs::Stored::Shown::shown_reads))]
+    #[tactic(auto, using(crate::proofs::Views::inside_reads))]
     pub fn remove_edge(&mut self, e: u32)
         requires { IsRemovable self.old.mesh e }
         ensures mesh { self.new.mesh ≡ removed self.old.mesh e }
@@ -63,16 +64,16 @@ impl<V> Links<V> {
         ensures sound { AreSoundLinks self.old.mesh }
     {
         let t = reversed(e);
-        let edge = self.half_edges.get(e);
-        let twin = self.half_edges.get(t);
+        let edge = self.half_edge(e);
+        let twin = self.half_edge(t);
+        let last = (self.half_edge_count() - 2) as u32;
+        let hole = e - e % 2;
         unlink(&mut self.half_edges, e, t);
         self.vertices
             .set_out_edge(edge.origin, out_after(e, twin.next));
         self.vertices
             .set_out_edge(twin.origin, out_after(t, edge.next));
         let outer = outer_after(self.outer_edge, e, t, edge.next, edge.prev);
-        let last = (self.half_edges.len() - 2) as u32;
-        let hole = e - e % 2;
         let even = self.half_edges.get(last);
         let odd = self.half_edges.get(last + 1);
         rename_out(&mut self.vertices, even.origin, last, hole);
@@ -84,13 +85,13 @@ impl<V> Links<V> {
     }
 
     /// The index of edge `h` once edge `e` was removed.
-    #[tactic(auto, using(crate::proofs::Stored::Shown::shown_reads))]
+    #[tactic(auto, using(crate::proofs::Views::inside_reads))]
     pub fn index_after_removal(&self, e: u32, h: u32) -> u32
         requires { e < length self.now.mesh.half_edges }
         ensures value { result ≡ after_removal self.now.mesh e h }
         ensures sound { AreSoundLinks self.now.mesh }
     {
-        let last = (self.half_edges.len() - 2) as u32;
+        let last = (self.half_edge_count() - 2) as u32;
         pair_moved(last, e - e % 2, h)
     }
 
@@ -114,7 +115,7 @@ impl<V> Links<V> {
 
     /// Removes vertex `v`, which has no edges, and gives its data back. The last vertex takes its
     /// index.
-    #[tactic(auto, using(crate::proofs::Stored::Shown::shown_reads))]
+    #[tactic(auto, using(crate::proofs::Views::inside_reads))]
     pub fn swap_remove_vertex(&mut self, v: u32) -> V
         requires { IsAlone self.old.mesh v }
         ensures moves { MovesVertex self.old.mesh self.new.mesh v }
@@ -125,7 +126,7 @@ impl<V> Links<V> {
         ensures sound { AreSoundLinks self.old.mesh }
         ensures outline { KeepsOneOutline self.old.mesh self.new.mesh }
     {
-        let last = self.vertices.out_edge(self.vertices.len() as u32 - 1);
+        let last = self.out_edge(self.vertex_count() as u32 - 1);
         move_named(&mut self.half_edges, last, v);
         self.vertices.swap_remove(v)
     }

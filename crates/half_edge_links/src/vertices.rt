@@ -18,7 +18,7 @@ impl<V> Links<V> {
         ensures outline { KeepsOneOutline self.old.mesh self.new.mesh }
         ensures valid { IsValidMesh self.new.mesh }
     {
-        let v = self.vertices.len() as u32;
+        let v = self.vertex_count() as u32;
         self.vertices.push_reserved(value);
         v
     }

@@ -1,7 +1,7 @@
 -- Giving an inner face to the outer one keeps a mesh sound.
 -- Lemmas: same_renamed, get_or-swap_remove_same, get_or-swap_remove_other, swap_remove_default,
 -- length-swap_remove, opens, moved_hit, moved_miss, face_opened, face_named, sound_opened,
--- small_opened, opened-is, in_loop.
+-- small_opened, in_loop.
 use Rattle.std.proofs.Common.{◌≡◌, ◌≢◌, ◌+◌, ◌-◌, ◌<◌, ◌≤◌, ◌∙◌}
 use Rattle.std.proofs.Common.{ℕ, List, length, get_or, set, take, Option, Some, None, refl, sym, ap}
 use Rattle.std.proofs.Common.{inl, inr, arith}
@@ -16,6 +16,7 @@ use Rattle.half_edge_links.specs.Mesh.{Mesh, IsSmall, edge_at, next, prev, face,
 use Rattle.half_edge_links.specs.Mesh.{out_edge, AreSoundLinks, IsInner}
 use Rattle.half_edge_links.specs.Renames.{Naming, Renames, IsKeptEdge, moved, renamed}
 use Rattle.half_edge_links.specs.Remove.{opened, opened_face, with_loop_face, Opens}
+use Rattle.half_edge_links.specs.Remove.{IsLinkedWithin}
 use Rattle.half_edge_links.proofs.Sound.Triangles.{triangle_at, same_loop}
 use Rattle.half_edge_links.proofs.Sound.FieldWrites.{sets_loop_face}
 use Rattle.half_edge_links.proofs.Sound.RenameSound.{sound_renamed}
@@ -239,34 +240,18 @@ small_opened m new f o small = record {
   faces = omega (arith, o.face_count, small.faces);
 }
 
--- the same for the code's reads
-pub opened-is : (m : Mesh) (f last edge d : ℕ) (hs one : List HalfEdge) (fs : List ℕ) → IsInner m f
-    → last ≡ get_or m.face_edges (length m.face_edges - 1) last
-    → edge ≡ get_or m.face_edges (f - 1) edge → one ≡ with_loop_face m.half_edges last f
-    → hs ≡ with_loop_face one edge 0 → fs ≡ swap_remove m.face_edges (f - 1) d
-    → (let new : Mesh = record m { half_edges = hs; face_edges = fs } in new) ≡ opened m f
-unfolding opened
-opened-is m f last edge d hs one fs inner a b p q r =
-    let r' = r ∙ swap_remove_default m.face_edges (f - 1) d 0 (omega (arith, inner.0, inner.1)) in
-    let a' = get_or_read m.face_edges (length m.face_edges - 1) last
-    (omega (arith, inner.0, inner.1)) a 0 in
-    let b' = get_or_read m.face_edges (f - 1) edge (omega (arith, inner.0, inner.1)) b 0 in
-    cc
-
 -- the loop of a face after the first write
-pub in_loop : (m : Mesh) (f last edge : ℕ) (one : List HalfEdge) → AreSoundLinks m → IsInner m f
-    → last ≡ get_or m.face_edges (length m.face_edges - 1) last
-    → edge ≡ get_or m.face_edges (f - 1) edge → one ≡ with_loop_face m.half_edges last f
-    → (edge < length one) × ((edge_at one edge).next < length one)
-    × ((edge_at one edge).prev < length one)
-in_loop m f last edge one s inner a b p =
-    let a' = get_or_read m.face_edges (length m.face_edges - 1) last
-    (omega (arith, inner.0, inner.1)) a 0 in
-    let b' = get_or_read m.face_edges (f - 1) edge (omega (arith, inner.0, inner.1)) b 0 in
+pub in_loop : (m : Mesh) (f : ℕ) → AreSoundLinks m → IsInner m f → IsLinkedWithin
+    (with_loop_face m.half_edges (face_edge m (length m.face_edges)) f) (face_edge m f)
+in_loop m f s inner =
     let last_at = s.faces (length m.face_edges) (omega (arith, inner.0, inner.1)) (omega arith) in
-    let last_in = rw (← a') at last_at.0 in
-    let edge_in = rw (← b') at (s.faces f inner.0 inner.1).0 in
-    let at_last = s.edges last last_in in
-    let at_edge = s.edges edge edge_in in
-    let w = sets_loop_face m.half_edges last f last_in at_last.next_in at_last.prev_in in
-    rw (p, w.next, w.prev, w.count) (edge_in, at_edge.next_in, at_edge.prev_in)
+    let edge_in = (s.faces f inner.0 inner.1).0 in
+    let at_last = s.edges _ last_at.0 in
+    let at_edge = s.edges _ edge_in in
+    let w = sets_loop_face m.half_edges (face_edge m (length m.face_edges)) f last_at.0
+    at_last.next_in at_last.prev_in in
+    record {
+      edge = rw w.count edge_in;
+      next = rw (w.next, w.count) at_edge.next_in;
+      prev = rw (w.prev, w.count) at_edge.prev_in;
+    }

@@ -12,10 +12,10 @@ use Rattle.half_edge_links.proofs.Sound.RenameSound.{sound_renamed}
 use Rattle.half_edge_links.proofs.Removing.UnlinkSound.{unlinks, sound_but}
 use Rattle.half_edge_links.proofs.Removing.FillSound.{renames_filled, counts, in_range, joined_but}
 use Rattle.half_edge_links.proofs.Lists.Rev.{rev_within, rev_differs}
-use Rattle.half_edge_links.proofs.Stored.Within.{AreLastPlaces, last_places}
 
 -- edge k of a list names elements of mesh m
 pub record IsInRange (m : Mesh) (hs : List HalfEdge) (k : ℕ) : Type 0 where
+  pub within : k < length hs
   pub next_in : (edge_at hs k).next < length hs
   pub prev_in : (edge_at hs k).prev < length hs
   pub origin_in : (edge_at hs k).origin < length m.out_edges
@@ -38,6 +38,7 @@ module _ (m : Mesh) (e : ℕ) (s : AreSoundLinks m) (can : IsUnlinkable m e) whe
       let k_in : k < length (unlinked m e).half_edges = rw u.edge_count within in
       let r = in_range (unlinked m e) (length m.half_edges - 2) (e - e % 2) b at_last k k_in in
       record {
+        within = k_in;
         next_in = r.0;
         prev_in = r.1;
         origin_in = rw u.vertex_count at (b.origins k k_in);
@@ -87,7 +88,6 @@ unlinked_places m e s can =
 
 -- in the list whose edge e was taken out, the last edge and its other side are in range
 pub record AreLastTwo (m : Mesh) (hs : List HalfEdge) (n e : ℕ) : Type 0 where
-  pub places : AreLastPlaces n e
   pub even : IsInRange m hs (n - 2)
   pub odd : IsInRange m hs (n - 2 + 1)
 
@@ -99,7 +99,6 @@ last_two m n {e} v can at_t at_n is =
     let within = full.within in
     let even = v.sound.even in
     rw (is, at_t) (record {
-      places = last_places n e (rw at_n even) (rw at_n within) (rw at_n v.small.edges);
       even = in_range_unlinked m e v.sound full (n - 2) (omega arith);
       odd = in_range_unlinked m e v.sound full (n - 2 + 1) (omega arith);
     })

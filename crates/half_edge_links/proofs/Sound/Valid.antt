@@ -11,6 +11,7 @@ use Rattle.half_edge_links.specs.Mesh.{IsAlone, with_vertex, connected, IsInner}
 use Rattle.half_edge_links.specs.Flip.{IsFlippable, flipped}
 use Rattle.half_edge_links.specs.Insert.{inserted}
 use Rattle.half_edge_links.specs.Grow.{OnOuter, IsClosable, IsSlidable, hung, closed, slid}
+use Rattle.half_edge_links.specs.Grown.{AreConnectable}
 use Rattle.half_edge_links.proofs.Growing.VertexLemmas.{sound_with_vertex}
 use Rattle.half_edge_links.proofs.Growing.ConnectLemmas.{sound_connected}
 use Rattle.half_edge_links.proofs.Faces.FlipLemmas.{flips}
@@ -64,12 +65,12 @@ valid_with_vertex m valid room = record {
 
 -- a valid mesh without edges stays valid when the first edge is made between two vertices that
 -- differ
-pub valid_connected : (m : Mesh) (a b : ℕ) → IsValidMesh m → m.half_edges ≡ []
-    → a < length m.out_edges → b < length m.out_edges → a ≢ b → IsValidMesh (connected m a b)
-valid_connected m a b valid none a_in b_in differs = record {
-  sound = sound_connected m a b valid.sound none a_in b_in;
-  apart = apart_connected m a b differs;
-  stars = stars_connected m a b differs;
+pub valid_connected : (m : Mesh) (a b : ℕ) → IsValidMesh m → AreConnectable m a b
+    → IsValidMesh (connected m a b)
+valid_connected m a b valid can = record {
+  sound = sound_connected m a b valid.sound can.no_edges can.from can.to;
+  apart = apart_connected m a b can.apart;
+  stars = stars_connected m a b can.apart;
   small = record {
     vertices = simp length-set valid.small.vertices;
     edges = omega arith;

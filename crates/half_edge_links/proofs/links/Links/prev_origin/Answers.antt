@@ -1,15 +1,7 @@
 use Rattle.std.proofs.Common.{◌∙◌, ap}
 use Rattle.half_edge_links.specs.declared.records.StoredEdge.{StoredEdge}
 use Rattle.half_edge_links.proofs.Stored.Keeps.{corner_at}
-use Rattle.half_edge_links.proofs.Stored.Shown.{length_shown}
 use Rattle.half_edge_links.proofs.links.Links.prev_origin.Goals as goal
-
-pub stored-requires : goal.stored-requires
-stored-requires g c =
-    rw (← length_shown c.self.inside.half_edges.items) (rw (← c.self.view_is) at c.requires)
-
-pub returns-clause-valid : goal.returns-clause-valid
-returns-clause-valid g c = rw (← c.self.view_is) c.self.invariant
 
 pub returns-clause-value : goal.returns-clause-value
 returns-clause-value g c =
