@@ -4,13 +4,14 @@ use Rattle.half_edge_links.specs.declared.links.Links.TheInside.{Inside}
 use Rattle.half_edge_links.specs.EdgeList.{shown}
 use Rattle.half_edge_links.specs.Mesh.{Mesh, IsValidMesh}
 use Rattle.half_edge_links.specs.Places.{AreJoined}
+use Rattle.half_edge_links.specs.VertexList.{out_edges_of}
 use Rattle.half_edge_links.proofs.Stored.Joined.{joined_sound}
 use Rattle.half_edge_links.proofs.Stored.Shown.{shown_reads, next_within}
 
 -- the mesh inside
 abbrev pub mesh_in : {V : Type 0} → Inside V → Mesh
 mesh_in l = record {
-  out_edges = l.vertices.out_edges;
+  out_edges = out_edges_of l.vertices.items;
   half_edges = shown l.half_edges.items;
   outer_edge = l.outer_edge;
   face_edges = l.face_edges.items;

@@ -5,12 +5,6 @@ use Rattle.std.specs.List.{swap_remove, AllZip}
 use Rattle.half_edge_links.specs.declared.vertex_list.Vertex.{Vertex}
 use Rattle.half_edge_links.specs.declared.vertex_list.TheConstants.{NO_EDGE}
 
--- the edges that vertices name, their data, and how many vertices fit with no allocation
-pub record Vertices (V : Type 0) : Type 0 where
-  pub out_edges : List (Option ℕ)
-  pub values : List V
-  pub capacity : ℕ
-
 -- the edge that a vertex names by this number
 unfoldable pub named_by : ℕ → Option ℕ
 named_by number = if number == NO_EDGE then None else Some number
@@ -33,19 +27,12 @@ pub record IsCopiedVertex {V : Type 0} (R : V → V → Type 0) (old new : Verte
   pub out_edge : new.out_edge ≡ old.out_edge
   pub value : R old.value new.value
 
--- vertices that name the same edges, with data as R says of the former ones, and room for them
-pub record IsCopiedList {V : Type 0} (R : V → V → Type 0) (old new : Vertices V) : Type 0 where
-  pub out_edges : new.out_edges ≡ old.out_edges
-  pub values : AllZip R old.values new.values
-  pub fit : length old.out_edges ≤ new.capacity
-
 -- the data of vertex v are taken out, and those of the last one take their place
 pub record TakesValue {V : Type 0} (old new : List V) (v : ℕ) (value : V) : Type 0 where
   pub was : slice_get old v ≡ Some value
   pub now : new ≡ swap_remove old v value
 
 -- vertex v with these data is taken out, and the last one takes its place
-pub record TakesVertex {V : Type 0} (old new : Vertices V) (v : ℕ) (value : V) : Type 0 where
-  pub values : TakesValue old.values new.values v value
-  pub out_edges : new.out_edges ≡ swap_remove old.out_edges v None
-  pub capacity : new.capacity ≡ old.capacity
+pub record TakesVertex {V : Type 0} (old new : List (Vertex V)) (v : ℕ) (value : V) : Type 0 where
+  pub values : TakesValue (values_of old) (values_of new) v value
+  pub out_edges : out_edges_of new ≡ swap_remove (out_edges_of old) v None

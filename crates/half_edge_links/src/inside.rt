@@ -14,6 +14,7 @@ use crate::edge_list::EdgeList;
 use crate::links::Links;
 use crate::records::{linked, reversed};
 use crate::room::MAX_ELEMENTS;
+use crate::vertex_list::set_out_edge;
 
 // Turns edge `e`, with other side `t`, in the list: the six edges round it get new links.
 #[tactic(auto, using(crate::proofs::Stored::Shown::shown_reads))]
@@ -101,8 +102,8 @@ impl<V> Links<V> {
         let edge = self.half_edge(e);
         let twin = self.half_edge(t);
         turn_edges(&mut self.half_edges, e, t);
-        self.vertices.set_out_edge(edge.origin, Some(twin.next));
-        self.vertices.set_out_edge(twin.origin, Some(edge.next));
+        set_out_edge(&mut self.vertices, edge.origin, Some(twin.next));
+        set_out_edge(&mut self.vertices, twin.origin, Some(edge.next));
         self.face_edges[edge.face as usize - 1] = e;
         self.face_edges[twin.face as usize - 1] = t;
     }
@@ -128,7 +129,7 @@ impl<V> Links<V> {
         self.face_edges[face as usize - 1] = edge;
         self.face_edges.push_reserved(next);
         self.face_edges.push_reserved(prev);
-        self.vertices.set_out_edge(v, Some(n + 1));
+        set_out_edge(&mut self.vertices, v, Some(n + 1));
     }
 
     /// Splits `edge`, between two inner faces, at vertex `v`: the first half of it is the next new

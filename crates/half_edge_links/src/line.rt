@@ -12,6 +12,7 @@ ghost use Rattle.half_edge_links.specs.Rest.{KeepsRest};
 
 use crate::links::Links;
 use crate::records::{linked, reversed, slide_edges};
+use crate::vertex_list::set_out_edge;
 
 impl<V> Links<V> {
     /// Makes the first edge, from `a` to `b`.
@@ -28,8 +29,8 @@ impl<V> Links<V> {
         self.recall_invariant();
         self.half_edges
             .push_edge(linked(b, 1, 1, 0), linked(a, 0, 0, 0));
-        self.vertices.set_out_edge(a, Some(0));
-        self.vertices.set_out_edge(b, Some(1));
+        set_out_edge(&mut self.vertices, a, Some(0));
+        set_out_edge(&mut self.vertices, b, Some(1));
         self.outer_edge = Some(0);
     }
 
@@ -68,7 +69,7 @@ impl<V> Links<V> {
         let there = self.half_edge(k);
         let z = self.prev(t);
         slide_edges(&mut self.half_edges, e, t, k, there.next, z);
-        self.vertices.set_out_edge(there.origin, Some(k));
+        set_out_edge(&mut self.vertices, there.origin, Some(k));
     }
 
     /// Splits edge `e` of a line at vertex `v`. Gives both parts, directed as `e`.

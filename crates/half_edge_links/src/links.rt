@@ -6,7 +6,7 @@ ghost use Rattle.half_edge_links.specs.Mesh.{face_edge, out_edge, origin, next, 
 use crate::edge_list::EdgeList;
 use crate::records::HalfEdge;
 use crate::room::MAX_ELEMENTS;
-use crate::vertex_list::VertexList;
+use crate::vertex_list::{Vertex, edge_named};
 use std::alloc::Global;
 use std::marker::Model;
 
@@ -15,7 +15,7 @@ use std::marker::Model;
 #[derive(Drop)]
 pub struct Links<V> {
     // For each vertex, an edge that starts there, and its data.
-    pub(crate) vertices: VertexList<V>,
+    pub(crate) vertices: Vec<Vertex<V>>,
     pub(crate) half_edges: EdgeList,
     pub(crate) outer_edge: Option<u32>,
     // For each face from face 1 on, an edge with that face on its left.
@@ -27,27 +27,28 @@ impl<V> Model for Links<V> {
     ghost use Rattle.half_edge_links.specs.EdgeList.{shown};
     ghost use Rattle.half_edge_links.specs.Mesh.{IsValidMesh};
     ghost use Rattle.half_edge_links.specs.Room.{Held};
+    ghost use Rattle.half_edge_links.specs.VertexList.{out_edges_of, values_of};
     ghost use Rattle.half_edge_links.specs.declared.room.TheConstants.{MAX_ELEMENTS};
 
     ghost Value = { Held V };
 
     ghost view = { λ l. record {
       mesh = record {
-        out_edges = l.vertices.out_edges;
+        out_edges = out_edges_of l.vertices.items;
         half_edges = shown l.half_edges.items;
         outer_edge = l.outer_edge;
         face_edges = l.face_edges.items;
       };
-      values = l.vertices.values;
+      values = values_of l.vertices.items;
       room = record {
-        vertices = min l.vertices.capacity MAX_ELEMENTS;
+        vertices = min (vec_capacity l.vertices) MAX_ELEMENTS;
         edges = min l.half_edges.capacity MAX_ELEMENTS;
         faces = min (vec_capacity l.face_edges) (MAX_ELEMENTS - 1);
       };
     } };
 
     ghost invariant = { λ l. IsValidMesh (record {
-      out_edges = l.vertices.out_edges;
+      out_edges = out_edges_of l.vertices.items;
       half_edges = shown l.half_edges.items;
       outer_edge = l.outer_edge;
       face_edges = l.face_edges.items;
@@ -62,7 +63,7 @@ impl<V> Links<V> {
         ensures values { result.values ≡ [] }
     {
         Links {
-            vertices: VertexList::new(alloc),
+            vertices: Vec::new(alloc),
             half_edges: EdgeList::new(alloc),
             outer_edge: None,
             face_edges: Vec::new(alloc),
@@ -150,6 +151,7 @@ impl<V> Links<V> {
     }
 
     /// How many vertices there are.
+    #[tactic(auto, using(crate::proofs::Lists::VertexLists::vertex_counts))]
     pub fn vertex_count(&self) -> usize
         ensures value { result ≡ length self.now.mesh.out_edges }
         ensures values { result ≡ length self.now.values }
@@ -178,20 +180,22 @@ impl<V> Links<V> {
     }
 
     /// An edge that starts at vertex `v`, if there is one.
+    #[tactic(auto, using(crate::proofs::Lists::VertexLists::vertex_counts))]
     pub fn out_edge(&self, v: u32) -> Option<u32>
         requires { v < length self.now.mesh.out_edges }
         ensures value { result ≡ out_edge self.now.mesh v }
         ensures valid { IsValidMesh self.now.mesh }
     {
-        self.vertices.out_edge(v)
+        edge_named(self.vertices[v as usize].out_edge)
     }
 
     /// The data of vertex `v`.
+    #[tactic(auto, using(crate::proofs::Lists::VertexLists::vertex_counts))]
     pub fn vertex_data(&self, v: u32) -> &V
         requires { v < length self.now.values }
         ensures { slice_get self.now.values v ≡ Some result.now }
     {
-        self.vertices.value(v)
+        &self.vertices[v as usize].value
     }
 
     /// An edge with the outer face on its left, if there is an edge.

@@ -10,6 +10,7 @@ ghost use Rattle.half_edge_links.specs.Rest.{KeepsRest};
 
 use crate::links::Links;
 use crate::records::{close_edges, hang_edges, reversed};
+use crate::vertex_list::set_out_edge;
 
 impl<V> Links<V> {
     /// Puts an edge from the end of outer edge `x` to vertex `v` into the outer loop, after `x`.
@@ -26,7 +27,7 @@ impl<V> Links<V> {
     {
         let n = self.half_edge_count() as u32;
         hang_edges(&mut self.half_edges, x, v);
-        self.vertices.set_out_edge(v, Some(n + 1));
+        set_out_edge(&mut self.vertices, v, Some(n + 1));
     }
 
     /// Makes a face of outer edge `e`, the next one and a new edge.

@@ -11,6 +11,7 @@ ghost use Rattle.half_edge_links.specs.Rest.{KeepsRest};
 use crate::edge_list::EdgeList;
 use crate::links::Links;
 use crate::records::{join, reversed, set_corner};
+use crate::vertex_list::set_out_edge;
 
 // Lets edge `e`, with other side `t`, end at the far end of the edge `l` after it, whose other side
 // is `k`; `z` is the edge before `k`.
@@ -54,6 +55,6 @@ impl<V> Links<V> {
         let z = self.prev(k);
         let passed = self.origin(l);
         pass_edges(&mut self.half_edges, e, t, k, l, z);
-        self.vertices.set_out_edge(passed, Some(l));
+        set_out_edge(&mut self.vertices, passed, Some(l));
     }
 }

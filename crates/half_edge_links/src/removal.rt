@@ -10,11 +10,12 @@ ghost use Rattle.half_edge_links.specs.Remove.{with_out_renamed, with_face_renam
 ghost use Rattle.half_edge_links.specs.Remove.{outer_beside, outer_after};
 ghost use Rattle.half_edge_links.specs.Move.{CanWalk, MovesOrigins, MovesNamed};
 ghost use Rattle.half_edge_links.specs.Renames.{renamed, pair_moved};
+ghost use Rattle.half_edge_links.specs.VertexList.{out_edges_of, values_of};
 ghost use Rattle.half_edge_links.specs.declared.room.TheConstants.{MAX_ELEMENTS};
 
 use crate::edge_list::EdgeList;
 use crate::records::{join, reversed, set_corner, set_face, set_next, set_prev};
-use crate::vertex_list::VertexList;
+use crate::vertex_list::{Vertex, edge_named, set_out_edge};
 
 // The three directed edges round the triangle of `h` get this face.
 #[tactic(auto, using(crate::proofs::Stored::Shown::joined_reads))]
@@ -101,18 +102,20 @@ pub(crate) fn renamed(from: u32, to: u32, edge: Option<u32>) -> Option<u32>
 }
 
 // Renames the edge that vertex `v` names.
-#[tactic(auto, unfolding(crate::specs::Remove::with_out_renamed))]
-pub(crate) fn rename_out<V>(vertices: &mut VertexList<V>, v: u32, from: u32, to: u32)
-    requires vertex { v < length vertices.old.out_edges }
+#[tactic(auto, using(crate::proofs::Lists::VertexLists::vertex_counts), unfolding(crate::specs::Remove::with_out_renamed))]
+pub(crate) fn rename_out<V>(vertices: &mut Vec<Vertex<V>>, v: u32, from: u32, to: u32)
+    requires vertex { v < length (out_edges_of vertices.old.items) }
     requires from_in { from + 1 < 4294967296 }
     requires to_in { to + 1 < MAX_ELEMENTS }
-    ensures contents { vertices.new ≡ record vertices.old {
-      out_edges = with_out_renamed vertices.old.out_edges v from to;
-    } }
-    ensures len { length vertices.new.out_edges ≡ length vertices.old.out_edges }
+    ensures out_edges { out_edges_of vertices.new.items ≡
+        with_out_renamed (out_edges_of vertices.old.items) v from to }
+    ensures values { values_of vertices.new.items ≡ values_of vertices.old.items }
+    ensures len { length (out_edges_of vertices.new.items) ≡
+        length (out_edges_of vertices.old.items) }
+    ensures capacity { vec_capacity vertices.new ≡ vec_capacity vertices.old }
 {
-    let named = vertices.out_edge(v);
-    vertices.set_out_edge(v, renamed(from, to, named));
+    let named = edge_named(vertices[v as usize].out_edge);
+    set_out_edge(vertices, v, renamed(from, to, named));
 }
 
 // Renames the edge that face `f` names, where it is not the outer face.

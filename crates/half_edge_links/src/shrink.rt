@@ -17,6 +17,7 @@ use crate::removal::{
     fill, move_named, out_after, outer_after, pair_moved, rename_face, rename_out, renamed,
     set_loop_face, unlink,
 };
+use crate::vertex_list::set_out_edge;
 
 impl<V> Links<V> {
     /// Gives the loop of inner face `f` to the outer face. The last face takes its index.
@@ -69,10 +70,8 @@ impl<V> Links<V> {
         let last = (self.half_edge_count() - 2) as u32;
         let hole = e - e % 2;
         unlink(&mut self.half_edges, e, t);
-        self.vertices
-            .set_out_edge(edge.origin, out_after(e, twin.next));
-        self.vertices
-            .set_out_edge(twin.origin, out_after(t, edge.next));
+        set_out_edge(&mut self.vertices, edge.origin, out_after(e, twin.next));
+        set_out_edge(&mut self.vertices, twin.origin, out_after(t, edge.next));
         let outer = outer_after(self.outer_edge, e, t, edge.next, edge.prev);
         let even = self.half_edges.get(last);
         let odd = self.half_edges.get(last + 1);
@@ -128,6 +127,6 @@ impl<V> Links<V> {
     {
         let last = self.out_edge(self.vertex_count() as u32 - 1);
         move_named(&mut self.half_edges, last, v);
-        self.vertices.swap_remove(v)
+        self.vertices.swap_remove(v as usize).value
     }
 }

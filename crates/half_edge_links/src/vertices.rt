@@ -6,9 +6,12 @@ ghost use Rattle.half_edge_links.specs.Mesh.{with_vertex, IsValidMesh};
 ghost use Rattle.half_edge_links.specs.Room.{HasVertexRoom};
 
 use crate::links::Links;
+use crate::vertex_list::{NO_EDGE, Vertex};
+use std::mem::replace;
 
 impl<V> Links<V> {
     /// A new last vertex with these data and without edges.
+    #[tactic(auto, unfolding(crate::specs::VertexList::named_by))]
     pub fn push_vertex(&mut self, value: V) -> u32
         requires { HasVertexRoom self.old.mesh self.old.room 1 }
         ensures vertex { result ≡ length self.old.mesh.out_edges }
@@ -19,16 +22,21 @@ impl<V> Links<V> {
         ensures valid { IsValidMesh self.new.mesh }
     {
         let v = self.vertex_count() as u32;
-        self.vertices.push_reserved(value);
+        self.vertices.push_reserved(Vertex {
+            out_edge: NO_EDGE,
+            value,
+        });
         v
     }
+
     /// Gives vertex `v` new data, and gives back the old ones.
+    #[tactic(auto, using(crate::proofs::Lists::VertexLists::vertex_counts))]
     pub fn update_vertex(&mut self, v: u32, value: V) -> V
         requires { v < length self.old.values }
         ensures former { slice_get self.old.values v ≡ Some result }
         ensures contents { self.new ≡
             record self.old { values = slice_set self.old.values v value } }
     {
-        self.vertices.replace(v, value)
+        replace(&mut self.vertices[v as usize].value, value)
     }
 }

@@ -1,13 +1,18 @@
 -- A list of vertices after writes, as the list of the edges that they name and the list of their
 -- data.
--- Lemmas: set_named, set_value, copied_out_edges, copied_values, swap_remove-map.
-use Rattle.std.proofs.Common.{◌≡◌, ◌-◌, ◌<◌, [], ◌∷◌, ◌∙◌}
+-- Lemmas: set_named, set_value, copied_out_edges, copied_values, pushed_vertex, swap_remove-map,
+-- takes_vertex, length_out_edges, length_values.
+use Rattle.std.proofs.Common.{◌≡◌, ◌-◌, ◌<◌, [], ◌∷◌, ◌++◌, ◌∙◌, None, option_map}
 use Rattle.std.proofs.Common.{ℕ, List, length, get_or, set, map, refl, sym, ap, arith}
-use Rattle.std.proofs.lemmas.List.{map-set, take-map, length-map, get_or-map}
+use Rattle.std.proofs.lemmas.List.{map-set, take-map, length-map, get_or-map, map-append}
+use Rattle.std.proofs.lemmas.Option.{slice_get_read, slice_get-map}
 use Rattle.std.proofs.Math.Seq.{map-set_same}
 use Rattle.std.specs.List.{swap_remove, AllZip}
 use Rattle.half_edge_links.specs.declared.vertex_list.Vertex.{Vertex}
+use Rattle.half_edge_links.specs.declared.vertex_list.TheConstants.{NO_EDGE}
 use Rattle.half_edge_links.specs.VertexList.{IsCopiedVertex, named_by, out_edges_of, values_of}
+use Rattle.half_edge_links.specs.VertexList.{TakesVertex}
+use Rattle.half_edge_links.proofs.Removing.OpenSound.{swap_remove_default}
 
 module _ {V : Type 0} where
   -- another edge that one vertex names changes the edges there, and no data
@@ -47,6 +52,15 @@ module _ {V : Type 0} where
   copied_values R (o ∷ old) [] each = absurd each
   copied_values R (o ∷ old) (n ∷ new) each = (each.0.value, copied_values R old new each.1)
 
+  -- a vertex that is pushed names no edge, and has these data
+  pub pushed_vertex : (vs : List (Vertex V)) (value : V)
+      → (out_edges_of (vs ++ record { out_edge = NO_EDGE; value = value } ∷ [])
+      ≡ out_edges_of vs ++ None ∷ [])
+      × (values_of (vs ++ record { out_edge = NO_EDGE; value = value } ∷ [])
+      ≡ values_of vs ++ value ∷ [])
+  unfolding named_by
+  pushed_vertex vs value = (map-append _ vs _, map-append _ vs _)
+
 -- an element taken out of a list is taken out of what its elements are turned into
 pub swap_remove-map : {X Y : Type 0} (f : X → Y) (xs : List X) (i : ℕ) (d : X) → 0 < length xs
     → map f (swap_remove xs i d) ≡ swap_remove (map f xs) i (f d)
@@ -55,3 +69,30 @@ swap_remove-map f xs i d some =
     get_or-map f xs (length xs - 1) d (f d) (omega arith) in
     sym (take-map f (length xs - 1) (set xs i (get_or xs (length xs - 1) d)))
     ∙ rw (length-map xs f, last, map-set f xs i (get_or xs (length xs - 1) d)) refl
+
+module _ {V : Type 0} where
+  -- as many edges and data are named as there are vertices
+  pub length_out_edges : (vs : List (Vertex V)) → length (out_edges_of vs) ≡ length vs
+  length_out_edges vs = length-map vs (λ (v : Vertex V). named_by v.out_edge)
+
+  pub length_values : (vs : List (Vertex V)) → length (values_of vs) ≡ length vs
+  length_values vs = length-map vs (λ (v : Vertex V). v.value)
+
+  -- a vertex that is taken out takes the edge that it names and its data along
+  pub takes_vertex : (vs new : List (Vertex V)) (v : ℕ) (gone : Vertex V) → v < length vs
+      → gone ≡ get_or vs v gone → new ≡ swap_remove vs v gone → TakesVertex vs new v gone.value
+  takes_vertex vs new v gone within was is =
+      let edge = λ (v : Vertex V). named_by v.out_edge in
+      let value = λ (v : Vertex V). v.value in
+      record {
+        values = record {
+          was = slice_get-map value vs v
+              ∙ ap (λ o. option_map value o) (slice_get_read _ _ _ _ refl within was);
+          now = ap (λ l. map value l) is ∙ swap_remove-map value vs v gone (omega (arith, within));
+        };
+        out_edges = ap (λ l. map edge l) is ∙ swap_remove-map edge vs v gone (omega (arith, within))
+            ∙ swap_remove_default _ v (named_by gone.out_edge) None
+            (rw length-map (omega (arith, within)));
+      }
+
+pub ruleset vertex_counts = (length_out_edges, length_values)

@@ -12,8 +12,8 @@ returns-clause-mesh g c =
     let can = rw (← c.self.view_is) at c.requires.vertices in
     rw (
       ← c.self.view_is,
-      c.set_out_edge-2.ensures,
-      c.set_out_edge.ensures,
+      c.set_out_edge-2.ensures.out_edges,
+      c.set_out_edge.ensures.out_edges,
       c.push_edge.ensures.items,
       c.linked-2.ensures,
       c.linked.ensures,

@@ -57,7 +57,7 @@ set_out_edge-requires-2 g c =
     let six = six_round _ _ c.self.invariant.sound can in
     let small = c.self.invariant.small.edges in
     rw (
-      c.set_out_edge.ensures,
+      c.set_out_edge.ensures.out_edges,
       c.half_edge-edge.ensures.value,
       c.half_edge-twin.ensures.value,
       c.reversed-t.ensures,
@@ -87,7 +87,7 @@ unfolding flipped flip_by
 returns-clause-mesh g c =
     let edge = rw (← c.self.view_is) at c.half_edge-edge.ensures.value in
     let twin = rw (← c.self.view_is) at c.half_edge-twin.ensures.value in
-    rw (← c.self.view_is, c.set_out_edge-2.ensures, c.set_out_edge.ensures) (cc)
+    rw (← c.self.view_is, c.set_out_edge-2.ensures.out_edges, c.set_out_edge.ensures.out_edges) (cc)
 
 pub invariant_of-self : goal.invariant_of-self
 invariant_of-self g c =

@@ -8,7 +8,7 @@ pub returns-clause-mesh : goal.returns-clause-mesh
 unfolding hung
 returns-clause-mesh g c =
     rw (
-      c.set_out_edge.ensures,
+      c.set_out_edge.ensures.out_edges,
       c.hang_edges.ensures.items,
       c.half_edge_count-n.ensures.value,
       ← c.self.view_is,

@@ -32,7 +32,7 @@ returns-clause-mesh g c =
     let face = rw (← c.self.view_is) at c.face-face.ensures.value in
     let next = rw (← c.self.view_is) at c.next-next.ensures.value in
     let prev = rw (← c.self.view_is) at c.prev-prev.ensures.value in
-    rw (← c.self.view_is, c.set_out_edge.ensures) (cc)
+    rw (← c.self.view_is, c.set_out_edge.ensures.out_edges) (cc)
 
 pub returns-clause-valid : goal.returns-clause-valid
 returns-clause-valid g c = c.face-face.ensures.valid

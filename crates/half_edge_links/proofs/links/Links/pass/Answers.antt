@@ -44,7 +44,7 @@ returns-clause-mesh g c =
     let k = rw (← c.self.view_is) at c.prev-k.ensures.value in
     let z = rw (← c.self.view_is) at c.prev-z.ensures.value in
     let vertex = rw (← c.self.view_is) at c.origin-passed.ensures.value in
-    rw (← c.self.view_is, c.set_out_edge.ensures) (cc)
+    rw (← c.self.view_is, c.set_out_edge.ensures.out_edges) (cc)
 
 pub invariant_of-self : goal.invariant_of-self
 invariant_of-self g c =

@@ -44,7 +44,7 @@ pub set_out_edge-requires-2-clause-vertex : goal.set_out_edge-requires-2-clause-
 set_out_edge-requires-2-clause-vertex g c =
     let p = unlinked_places _ _ c.self.invariant.sound (rw (← c.self.view_is) at c.requires) in
     rw (
-      c.set_out_edge.ensures,
+      c.set_out_edge.ensures.out_edges,
       c.half_edge-twin.ensures.value,
       c.reversed-t.ensures,
       ← c.self.view_is,
@@ -63,7 +63,7 @@ get-odd-requires g c =
 pub rename_out-requires-clause-vertex : goal.rename_out-requires-clause-vertex
 rename_out-requires-clause-vertex g c =
     let l = last g (goal.at.rename_out-requires-clause-vertex g c).After-unlink in
-    rw (c.set_out_edge-2.ensures, c.set_out_edge.ensures, c.get-even.ensures)
+    rw (c.set_out_edge-2.ensures.out_edges, c.set_out_edge.ensures.out_edges, c.get-even.ensures)
     (simp length-set l.even.origin_in)
 
 pub rename_out-requires-2-clause-vertex : goal.rename_out-requires-2-clause-vertex
@@ -71,8 +71,8 @@ rename_out-requires-2-clause-vertex g c =
     let l = last g (goal.at.rename_out-requires-2-clause-vertex g c).After-unlink in
     rw (
       c.rename_out.ensures.len,
-      c.set_out_edge-2.ensures,
-      c.set_out_edge.ensures,
+      c.set_out_edge-2.ensures.out_edges,
+      c.set_out_edge.ensures.out_edges,
       c.get-odd.ensures,
     ) (simp length-set l.odd.origin_in)
 
@@ -105,10 +105,10 @@ returns-clause-mesh g c =
     rw (
       ← c.self.view_is,
       ← n,
-      c.rename_out-2.ensures.contents,
-      c.rename_out.ensures.contents,
-      c.set_out_edge-2.ensures,
-      c.set_out_edge.ensures,
+      c.rename_out-2.ensures.out_edges,
+      c.rename_out.ensures.out_edges,
+      c.set_out_edge-2.ensures.out_edges,
+      c.set_out_edge.ensures.out_edges,
     ) (cc)
 
 pub returns-clause-removes : goal.returns-clause-removes

@@ -38,7 +38,7 @@ returns-clause-mesh g c =
     let k = rw (← c.self.view_is) at c.next-k.ensures.value in
     let there = rw (← c.self.view_is) at c.half_edge-there.ensures.value in
     let z = rw (← c.self.view_is) at c.prev-z.ensures.value in
-    rw (← c.self.view_is, c.set_out_edge.ensures) (cc)
+    rw (← c.self.view_is, c.set_out_edge.ensures.out_edges) (cc)
 
 pub invariant_of-self : goal.invariant_of-self
 invariant_of-self g c =

@@ -1,4 +1,4 @@
-use Rattle.std.proofs.Common.{◌≡◌, ◌-◌, length, ap, sym, ◌∙◌, refl, rules}
+use Rattle.std.proofs.Common.{◌≡◌, ◌-◌, length, ap, sym, ◌∙◌, refl, rules, arith}
 use Rattle.half_edge_links.proofs.Views.{mesh_in}
 use Rattle.half_edge_links.proofs.Stored.Shown.{length_shown}
 use Rattle.half_edge_links.specs.Mesh.{Mesh, IsAlone, out_edge}
@@ -7,7 +7,18 @@ use Rattle.half_edge_links.proofs.Sound.Valid.{valid_moved}
 use Rattle.half_edge_links.proofs.Lists.OneOrbit.{one_orbit}
 use Rattle.half_edge_links.proofs.Removing.TakenLists.{moves_triangles, moves_ends, moves_outer}
 use Rattle.half_edge_links.proofs.OuterLoop.OutlineTaken.{outline_moved}
+use Rattle.half_edge_links.specs.VertexList.{TakesVertex}
+use Rattle.half_edge_links.proofs.Lists.VertexLists.{takes_vertex, length_out_edges}
+use Rattle.half_edge_links.proofs.links.Links.swap_remove_vertex.Given.{Over}
+use Rattle.half_edge_links.proofs.links.Links.swap_remove_vertex.Goals.{After-swap_remove}
 use Rattle.half_edge_links.proofs.links.Links.swap_remove_vertex.Goals as goal
+
+-- the vertex is taken out of the list
+taken : (g : Over) (c : After-swap_remove g) → TakesVertex c.self.inside.vertices.items
+    c.swap_remove.new.self.items c.args.v c.swap_remove.result.value
+taken g c = takes_vertex c.self.inside.vertices.items _ c.args.v c.swap_remove.result
+    (omega (arith, length_out_edges c.self.inside.vertices.items, (rw (← c.self.view_is) at c.requires).0))
+    c.swap_remove.ensures.value c.swap_remove.ensures.items
 
 pub move_named-requires-clause-walk : goal.move_named-requires-clause-walk
 move_named-requires-clause-walk g c = can_walk (mesh_in c.self.inside) c.self.invariant.sound
@@ -27,7 +38,7 @@ returns-clause-moves g c =
     ∙ ap (λ n. out_edge m (n - 1)) count) in
     rw (← c.self.view_is) (moves_vertex m _ c.args.v _ c.self.invariant.sound alone
     (one_orbit m _ c.self.invariant) named c.move_named.ensures.moves
-    c.swap_remove.ensures.out_edges refl refl)
+    (taken g c).out_edges refl refl)
 
 pub invariant_of-self : goal.invariant_of-self
 invariant_of-self g c =
@@ -36,7 +47,7 @@ invariant_of-self g c =
 pub returns-clause-rest : goal.returns-clause-rest
 returns-clause-rest g c = record {
   valid = invariant_of-self g c;
-  values = search rules;
+  values = rw (← c.self.view_is) (taken g c).values;
   room = search rules;
 }
 

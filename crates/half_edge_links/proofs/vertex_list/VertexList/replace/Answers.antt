@@ -1,9 +1,0 @@
-use Rattle.std.proofs.Common.{refl}
-use Rattle.half_edge_links.proofs.Lists.VertexLists.{set_value}
-use Rattle.half_edge_links.proofs.vertex_list.VertexList.replace.Goals as goal
-
-pub returns-clause-contents : goal.returns-clause-contents
-returns-clause-contents g c =
-    let now = set_value c.self.inside.records.items c.args.v c.index_mut.result.now c.args.value
-    c.index_mut.ensures.value in
-    rw (← c.self.view_is, c.replace.ensures.after, now.0, now.1) refl
