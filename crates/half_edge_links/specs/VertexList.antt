@@ -1,7 +1,7 @@
 -- A list of vertices: what each names and its data.
-use Rattle.std.specs.Prelude.{◌≡◌, ◌<◌, ◌≤◌, ◌==◌, if◌then◌else◌}
-use Rattle.std.specs.Prelude.{⊤, ℕ, List, length, map, slice_get, Option, Some, None}
-use Rattle.std.specs.List.{swap_remove, AllZip}
+use Rattle.std.specs.Prelude.{◌≡◌, ◌<◌, ◌==◌, if◌then◌else◌}
+use Rattle.std.specs.Prelude.{⊤, ℕ, List, map, slice_get, Option, Some, None}
+use Rattle.std.specs.List.{swap_remove}
 use Rattle.half_edge_links.specs.declared.vertex_list.Vertex.{Vertex}
 use Rattle.half_edge_links.specs.declared.vertex_list.TheConstants.{NO_EDGE}
 

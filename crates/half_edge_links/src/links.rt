@@ -6,7 +6,7 @@ ghost use Rattle.half_edge_links.specs.Mesh.{face_edge, out_edge, origin, next, 
 use crate::edge_list::EdgeList;
 use crate::records::HalfEdge;
 use crate::room::MAX_ELEMENTS;
-use crate::vertex_list::{Vertex, edge_named};
+use crate::vertex_list::{Vertex, named_edge};
 use std::alloc::Global;
 use std::marker::Model;
 
@@ -180,13 +180,12 @@ impl<V> Links<V> {
     }
 
     /// An edge that starts at vertex `v`, if there is one.
-    #[tactic(auto, using(crate::proofs::Lists::VertexLists::vertex_counts))]
     pub fn out_edge(&self, v: u32) -> Option<u32>
         requires { v < length self.now.mesh.out_edges }
         ensures value { result ≡ out_edge self.now.mesh v }
         ensures valid { IsValidMesh self.now.mesh }
     {
-        edge_named(self.vertices[v as usize].out_edge)
+        named_edge(&self.vertices, v)
     }
 
     /// The data of vertex `v`.

@@ -15,7 +15,7 @@ ghost use Rattle.half_edge_links.specs.declared.room.TheConstants.{MAX_ELEMENTS}
 
 use crate::edge_list::EdgeList;
 use crate::records::{join, reversed, set_corner, set_face, set_next, set_prev};
-use crate::vertex_list::{Vertex, edge_named, set_out_edge};
+use crate::vertex_list::{Vertex, named_edge, set_out_edge};
 
 // The three directed edges round the triangle of `h` get this face.
 #[tactic(auto, using(crate::proofs::Stored::Shown::joined_reads))]
@@ -102,7 +102,7 @@ pub(crate) fn renamed(from: u32, to: u32, edge: Option<u32>) -> Option<u32>
 }
 
 // Renames the edge that vertex `v` names.
-#[tactic(auto, using(crate::proofs::Lists::VertexLists::vertex_counts), unfolding(crate::specs::Remove::with_out_renamed))]
+#[tactic(auto, unfolding(crate::specs::Remove::with_out_renamed))]
 pub(crate) fn rename_out<V>(vertices: &mut Vec<Vertex<V>>, v: u32, from: u32, to: u32)
     requires vertex { v < length (out_edges_of vertices.old.items) }
     requires from_in { from + 1 < 4294967296 }
@@ -114,7 +114,7 @@ pub(crate) fn rename_out<V>(vertices: &mut Vec<Vertex<V>>, v: u32, from: u32, to
         length (out_edges_of vertices.old.items) }
     ensures capacity { vec_capacity vertices.new ≡ vec_capacity vertices.old }
 {
-    let named = edge_named(vertices[v as usize].out_edge);
+    let named = named_edge(vertices, v);
     set_out_edge(vertices, v, renamed(from, to, named));
 }
 

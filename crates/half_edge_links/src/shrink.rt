@@ -1,7 +1,8 @@
 //! Taking edges, faces and vertices out of a mesh.
 ghost use Rattle.std.specs.Prelude.{◌≡◌, ◌-◌, ◌<◌, length};
 ghost use Rattle.half_edge_links.specs.Hull.{KeepsOneOutline};
-ghost use Rattle.half_edge_links.specs.Mesh.{prev, rev, IsInner, IsAlone, AreSoundLinks, IsValidMesh};
+ghost use Rattle.half_edge_links.specs.Mesh.{prev, rev, IsInner, IsAlone, AreSoundLinks};
+ghost use Rattle.half_edge_links.specs.Mesh.{IsValidMesh};
 ghost use Rattle.half_edge_links.specs.Taken.{MovesTriangles, MovesEnds, MovesOuter};
 ghost use Rattle.half_edge_links.specs.Room.{HasFaceRoom};
 ghost use Rattle.half_edge_links.specs.Remove.{opened, removed, IsRemovable};

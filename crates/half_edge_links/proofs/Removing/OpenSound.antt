@@ -8,11 +8,11 @@ use Rattle.std.proofs.Common.{inl, inr, arith}
 use Rattle.std.proofs.lemmas.Bool.{cases_eq}
 use Rattle.std.proofs.lemmas.Bool.Decides.{nat_tests}
 use Rattle.std.proofs.lemmas.List.{get_or-set_same, get_or-set_other, get_or-take, length-set}
-use Rattle.std.proofs.lemmas.List.{length-take, get_or_read, get_or_default}
+use Rattle.std.proofs.lemmas.List.{length-take, get_or_default}
 use Rattle.std.specs.List.{swap_remove}
 use Rattle.half_edge_links.proofs.Lists.Cases.{◌or_else◌}
 use Rattle.half_edge_links.specs.declared.records.HalfEdge.{HalfEdge}
-use Rattle.half_edge_links.specs.Mesh.{Mesh, IsSmall, edge_at, next, prev, face, face_edge}
+use Rattle.half_edge_links.specs.Mesh.{Mesh, IsSmall, next, prev, face, face_edge}
 use Rattle.half_edge_links.specs.Mesh.{out_edge, AreSoundLinks, IsInner}
 use Rattle.half_edge_links.specs.Renames.{Naming, Renames, IsKeptEdge, moved, renamed}
 use Rattle.half_edge_links.specs.Remove.{opened, opened_face, with_loop_face, Opens}

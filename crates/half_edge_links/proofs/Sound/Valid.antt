@@ -2,7 +2,7 @@
 -- Lemmas: small_same, valid_as, valid_with_vertex, valid_connected, valid_flipped, valid_inserted,
 -- valid_hung, valid_closed, valid_slid, valid_opened, valid_loop_closed, valid_removed,
 -- valid_moved.
-use Rattle.std.proofs.Common.{◌≡◌, ◌≢◌, ◌+◌, ◌<◌, ◌≤◌, [], ◌∷◌, ◌∙◌}
+use Rattle.std.proofs.Common.{◌≡◌, ◌≢◌, ◌+◌, ◌≤◌, [], ◌∷◌, ◌∙◌}
 use Rattle.std.proofs.Common.{ℕ, None, length, refl, ap, arith, length-append, sym}
 use Rattle.std.proofs.lemmas.List.{length-set}
 use Rattle.half_edge_links.specs.declared.room.TheConstants.{MAX_ELEMENTS}

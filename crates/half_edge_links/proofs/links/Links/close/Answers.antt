@@ -1,4 +1,4 @@
-use Rattle.std.proofs.Common.{refl, arith}
+use Rattle.std.proofs.Common.{arith}
 use Rattle.half_edge_links.specs.Grow.{closed}
 use Rattle.half_edge_links.proofs.Sound.Valid.{valid_as, valid_closed}
 use Rattle.half_edge_links.proofs.Growing.Grown.{closes_corner}

@@ -53,12 +53,18 @@ set_out_edge-requires-2-clause-vertex g c =
 pub get-even-requires : goal.get-even-requires
 get-even-requires g c =
     let l = last g (goal.at.get-even-requires g c).After-unlink in
-    record { within = rw length_shown at l.even.within; next_within = rw length_shown at l.even.next_in }
+    record {
+      within = rw length_shown at l.even.within;
+      next_within = rw length_shown at l.even.next_in;
+    }
 
 pub get-odd-requires : goal.get-odd-requires
 get-odd-requires g c =
     let l = last g (goal.at.get-odd-requires g c).After-unlink in
-    record { within = rw length_shown at l.odd.within; next_within = rw length_shown at l.odd.next_in }
+    record {
+      within = rw length_shown at l.odd.within;
+      next_within = rw length_shown at l.odd.next_in;
+    }
 
 pub rename_out-requires-clause-vertex : goal.rename_out-requires-clause-vertex
 rename_out-requires-clause-vertex g c =

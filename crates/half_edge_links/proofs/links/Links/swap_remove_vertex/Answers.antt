@@ -16,8 +16,10 @@ use Rattle.half_edge_links.proofs.links.Links.swap_remove_vertex.Goals as goal
 -- the vertex is taken out of the list
 taken : (g : Over) (c : After-swap_remove g) → TakesVertex c.self.inside.vertices.items
     c.swap_remove.new.self.items c.args.v c.swap_remove.result.value
-taken g c = takes_vertex c.self.inside.vertices.items _ c.args.v c.swap_remove.result
-    (omega (arith, length_out_edges c.self.inside.vertices.items, (rw (← c.self.view_is) at c.requires).0))
+taken g c =
+    let alone = rw (← c.self.view_is) at c.requires in
+    takes_vertex c.self.inside.vertices.items _ c.args.v c.swap_remove.result
+    (omega (arith, length_out_edges c.self.inside.vertices.items, alone.0))
     c.swap_remove.ensures.value c.swap_remove.ensures.items
 
 pub move_named-requires-clause-walk : goal.move_named-requires-clause-walk
