@@ -1,9 +1,11 @@
-use Rattle.std.proofs.Common.{arith}
+use Rattle.std.proofs.Common.{ℕ, ◌<◌, Bool, true, false, if◌then◌else◌, Some, None, arith}
 use Rattle.std.proofs.lemmas.List.{length-set}
 use Rattle.half_edge_links.proofs.Views.{mesh_in}
 use Rattle.half_edge_links.specs.EdgeList.{shown}
 use Rattle.half_edge_links.proofs.Stored.Shown.{length_shown}
 use Rattle.half_edge_links.specs.Remove.{unlinked, filled}
+use Rattle.half_edge_links.specs.VertexList.{IsNameable}
+use Rattle.half_edge_links.specs.declared.room.TheConstants.{MAX_ELEMENTS}
 use Rattle.half_edge_links.proofs.Removing.Conditions.{unlinkable}
 use Rattle.half_edge_links.proofs.Removing.RemoveSound.{AreLastTwo, last_two, joined_unlinked}
 use Rattle.half_edge_links.proofs.Removing.RemoveSound.{unlinked_places}
@@ -33,6 +35,20 @@ overflow_sub-last g c = omega (arith, c.half_edge_count.ensures.sound.even, c.re
 pub unlink-requires-clause-places : goal.unlink-requires-clause-places
 unlink-requires-clause-places g c = rw c.reversed-t.ensures
     (unlinked_places _ _ c.self.invariant.sound (rw (← c.self.view_is) at c.requires))
+
+-- an edge that may be there has a number that stands for one
+nameable : (gone : Bool) (h : ℕ) → h < MAX_ELEMENTS
+    → IsNameable (if gone then None else Some h)
+nameable true h small = tt
+nameable false h small = small
+
+pub set_out_edge-requires-clause-nameable : goal.set_out_edge-requires-clause-nameable
+set_out_edge-requires-clause-nameable g c =
+    let v = c.half_edge-edge.ensures.valid in
+    let p = unlinked_places _ _ v.sound c.requires in
+    let small = v.small.edges in
+    rw (c.out_after.ensures, c.half_edge-twin.ensures.value, c.reversed-t.ensures)
+    (nameable _ _ (omega (arith, (v.sound.edges _ p.twin_in).next_in)))
 
 pub set_out_edge-requires-clause-vertex : goal.set_out_edge-requires-clause-vertex
 set_out_edge-requires-clause-vertex g c =
