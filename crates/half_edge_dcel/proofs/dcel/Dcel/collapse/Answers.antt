@@ -33,34 +33,28 @@ index_after_removal-border-requires g c =
 
 pub remove_edge-requires : goal.remove_edge-requires
 remove_edge-requires g c =
-    pendant_removable c.args.self.now c.open_face-value.new.self c.peel-spoke.new.self
-    c.peel-pendant.new.self c.args.first c.third_face-face.result c.peel-spoke.result
-    c.peel-pendant.result c.third_face-face.ensures.whole c.requires
-    c.third_face-face.ensures.value c.open_face-value.ensures.opens
-    c.open_face-value.ensures.whole c.peel-spoke.ensures.peels c.peel-spoke.ensures.spoke
-    c.peel-spoke.ensures.whole c.peel-pendant.ensures.peels c.peel-pendant.ensures.spoke
+    pendant_removable _ _ _ _ _ _ _ _ c.third_face-face.ensures.whole c.requires
+    c.third_face-face.ensures.value c.open_face-value.ensures.opens c.open_face-value.ensures.whole
+    c.peel-spoke.ensures.peels c.peel-spoke.ensures.spoke c.peel-spoke.ensures.whole
+    c.peel-pendant.ensures.peels c.peel-pendant.ensures.spoke
     c.index_after_removal-border.ensures.whole
 
 pub close_face-requires-clause-open : goal.close_face-requires-clause-open
 close_face-requires-clause-open g c =
-    border_open c.args.self.now c.open_face-value.new.self c.peel-spoke.new.self
-    c.peel-pendant.new.self c.args.first c.third_face-face.result c.peel-spoke.result
-    c.peel-pendant.result c.third_face-face.ensures.whole c.requires
-    c.third_face-face.ensures.value c.open_face-value.ensures.opens
-    c.open_face-value.ensures.whole c.peel-spoke.ensures.peels c.peel-spoke.ensures.spoke
-    c.peel-spoke.ensures.whole c.peel-pendant.ensures.peels c.peel-pendant.ensures.spoke
+    border_open _ _ _ _ _ _ _ _ c.third_face-face.ensures.whole c.requires
+    c.third_face-face.ensures.value c.open_face-value.ensures.opens c.open_face-value.ensures.whole
+    c.peel-spoke.ensures.peels c.peel-spoke.ensures.spoke c.peel-spoke.ensures.whole
+    c.peel-pendant.ensures.peels c.peel-pendant.ensures.spoke
     c.index_after_removal-border.ensures.whole
     c.remove_edge.new.self c.index_after_removal-border.result
     c.index_after_removal-border.ensures.value c.remove_edge.ensures.removes
 
 pub close_face-requires-clause-room : goal.close_face-requires-clause-room
 close_face-requires-clause-room g c =
-    has_room c.args.self.now c.open_face-value.new.self c.peel-spoke.new.self
-    c.peel-pendant.new.self c.args.first c.third_face-face.result c.peel-spoke.result
-    c.peel-pendant.result c.third_face-face.ensures.whole c.requires
-    c.third_face-face.ensures.value c.open_face-value.ensures.opens
-    c.open_face-value.ensures.whole c.peel-spoke.ensures.peels c.peel-spoke.ensures.spoke
-    c.peel-spoke.ensures.whole c.peel-pendant.ensures.peels c.peel-pendant.ensures.spoke
+    has_room _ _ _ _ _ _ _ _ c.third_face-face.ensures.whole c.requires
+    c.third_face-face.ensures.value c.open_face-value.ensures.opens c.open_face-value.ensures.whole
+    c.peel-spoke.ensures.peels c.peel-spoke.ensures.spoke c.peel-spoke.ensures.whole
+    c.peel-pendant.ensures.peels c.peel-pendant.ensures.spoke
     c.index_after_removal-border.ensures.whole
     c.remove_edge.new.self c.index_after_removal-border.result
     c.index_after_removal-border.ensures.value c.remove_edge.ensures.removes
@@ -69,12 +63,10 @@ close_face-requires-clause-room g c =
 
 pub returns-clause-fills : goal.returns-clause-fills
 returns-clause-fills g c =
-    collapsed c.args.self.now c.open_face-value.new.self c.peel-spoke.new.self
-    c.peel-pendant.new.self c.args.first c.third_face-face.result c.peel-spoke.result
-    c.peel-pendant.result c.third_face-face.ensures.whole c.requires
-    c.third_face-face.ensures.value c.open_face-value.ensures.opens
-    c.open_face-value.ensures.whole c.peel-spoke.ensures.peels c.peel-spoke.ensures.spoke
-    c.peel-spoke.ensures.whole c.peel-pendant.ensures.peels c.peel-pendant.ensures.spoke
+    collapsed _ _ _ _ _ _ _ _ c.third_face-face.ensures.whole c.requires
+    c.third_face-face.ensures.value c.open_face-value.ensures.opens c.open_face-value.ensures.whole
+    c.peel-spoke.ensures.peels c.peel-spoke.ensures.spoke c.peel-spoke.ensures.whole
+    c.peel-pendant.ensures.peels c.peel-pendant.ensures.spoke
     c.index_after_removal-border.ensures.whole
     c.remove_edge.new.self c.index_after_removal-border.result
     c.index_after_removal-border.ensures.value c.remove_edge.ensures.removes

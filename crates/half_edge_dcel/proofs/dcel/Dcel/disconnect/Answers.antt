@@ -12,32 +12,26 @@ loop-init g c = record {
 }
 
 pub peel-h-requires : goal.peel-h-requires
-peel-h-requires g c = stripped_peelable c.args.self.now c.loop.self c.args.first c.args.count
-    c.loop.h c.loop.counter c.loop.invariant.strip (omega arith)
+peel-h-requires g c = stripped_peelable _ _ _ _ _ _ c.loop.invariant.strip (omega arith)
 
 pub loop-preserved : goal.loop-preserved
 loop-preserved g c =
     let f = c.loop.invariant.strip in
     record {
-      strip = stripped_next c.args.self.now c.loop.self c.peel-h.new.self c.args.first c.args.count
-          c.loop.h c.peel-h.result c.loop.counter c.loop.invariant.whole.valid f
-          (stripped_inner c.args.self.now c.loop.self c.args.first c.args.count c.loop.h
-          c.loop.counter f (omega arith)) c.peel-h.ensures.peels c.peel-h.ensures.spoke
-          c.peel-h.ensures.edges c.peel-h.ensures.faces _ (omega arith);
-      contents = same_but c.args.self.now c.loop.self c.peel-h.new.self c.loop.invariant.contents
-          c.peel-h.ensures.contents;
+      strip = stripped_next _ _ c.peel-h.new.self _ _ _ _ _ c.loop.invariant.whole.valid f
+          (stripped_inner _ _ _ _ _ _ f (omega arith)) c.peel-h.ensures.peels
+          c.peel-h.ensures.spoke c.peel-h.ensures.edges c.peel-h.ensures.faces _ (omega arith);
+      contents = same_but c.args.self.now _ _ c.loop.invariant.contents c.peel-h.ensures.contents;
       outline = λ one. c.peel-h.ensures.outline (c.loop.invariant.outline one);
       whole = c.peel-h.ensures.whole;
     }
 
 pub remove_edge-requires : goal.remove_edge-requires
-remove_edge-requires g c = stripped_removable c.args.self.now c.loop.self c.args.first c.args.count
-    c.loop.h c.loop.counter c.loop.invariant.strip (omega arith)
+remove_edge-requires g c = stripped_removable _ _ _ _ _ _ c.loop.invariant.strip (omega arith)
 
 pub returns-clause-strip : goal.returns-clause-strip
 returns-clause-strip g c =
-    strip_lost c.args.self.now c.loop.self c.args.first c.args.count c.loop.h c.loop.counter
-    c.loop.invariant.strip c.remove_edge.new.self (omega arith) c.recall_invariant.ensures.whole
+    strip_lost _ _ _ _ _ _ c.loop.invariant.strip _ (omega arith) c.recall_invariant.ensures.whole
     c.loop.invariant.whole c.remove_edge.ensures.whole
     c.loop.invariant.contents c.loop.invariant.outline c.remove_edge.ensures.contents
     c.remove_edge.ensures.removes c.remove_edge.ensures.edges c.remove_edge.ensures.triangles

@@ -15,20 +15,16 @@ turn_away-requires g c =
     let f = c.loop.invariant.turned in
     record {
       within = f.hub.within;
-      before = turned_first c.args.self.now c.loop.self c.args.first c.args.count
-          (c.loop.counter - 3) f (omega arith);
-      behind = turned_second c.args.self.now c.loop.self c.args.first c.args.count
-          (c.loop.counter - 3) f (omega arith);
-      corners = turned_corners c.args.self.now c.loop.self c.args.first c.args.count
-          (c.loop.counter - 3) f c.requires.tip (omega arith);
+      before = turned_first _ _ _ _ _ f (omega arith);
+      behind = turned_second _ _ _ _ _ f (omega arith);
+      corners = turned_corners _ _ _ _ _ f c.requires.tip (omega arith);
     }
 
 pub loop-preserved : goal.loop-preserved
 loop-preserved g c =
     let t = c.turn_away.ensures in
     record {
-      turned = turned_next c.args.self.now c.loop.self c.args.first c.args.count
-          (c.loop.counter - 3) c.recall_invariant.ensures.whole c.loop.invariant.whole
+      turned = turned_next _ _ _ _ _ c.recall_invariant.ensures.whole c.loop.invariant.whole
           c.requires.tip c.loop.invariant.turned (omega arith) c.turn_away.new.self t.flips
           t.contents t.ends t.triangles t.outer t.outline _ (omega arith);
       whole = t.whole;
@@ -37,8 +33,7 @@ loop-preserved g c =
 pub collapse-requires : goal.collapse-requires
 collapse-requires g c =
     let last = c.loop.auto.counter-end c.requires.many in
-    turned_wheel c.args.self.now c.loop.self c.args.first c.args.count
-    (c.loop.counter - 3) c.loop.invariant.turned (omega (arith, last))
+    turned_wheel _ _ _ _ _ c.loop.invariant.turned (omega (arith, last))
 
 pub returns-clause-fan : goal.returns-clause-fan
 returns-clause-fan g c =

@@ -36,8 +36,9 @@ returns-clause-faces g c =
     c.swap_remove.new.self.items c.args.edge c.swap_remove.result c.peel-spoke.ensures.sound
     fit.faces_fit can.within can.inner
     (rw c.face.ensures.value at c.swap_remove.ensures.value) c.peel-spoke.ensures.peels.corners
-    (rw (c.swap_remove.ensures.items, c.face.ensures.value) (takes_out c.self.inside.faces.items (face m c.args.edge
-    - 1) c.swap_remove.result (omega (arith, fit.faces_fit, can.inner, inside)))))
+    (rw (c.swap_remove.ensures.items, c.face.ensures.value)
+    (takes_out c.self.inside.faces.items (face m c.args.edge - 1) c.swap_remove.result
+    (omega (arith, fit.faces_fit, can.inner, inside)))))
 
 pub returns-clause-outline : goal.returns-clause-outline
 returns-clause-outline g c = rw (← c.self.view_is) c.peel-spoke.ensures.peels.outline
