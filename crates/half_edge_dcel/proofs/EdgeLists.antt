@@ -35,19 +35,19 @@ edges_of-set (x ∷ es) (u ∷ us) zero e = refl
 edges_of-set (x ∷ es) (u ∷ us) (suc k) e = ap (λ q. edge_with x u ∷ q) (edges_of-set es us k e)
 
 -- there is one list entry for each undirected edge
-pub length-ends : (m : Mesh) (v d u f : ℕ) → FitsMesh m v d u f → u ≡ length (ends m)
-length-ends m v d u f fit =
+pub length-ends : {m : Mesh} {v d u f : ℕ} → FitsMesh m v d u f → u ≡ length (ends m)
+length-ends {m} fit =
     let count : length (origins m) ≡ length m.half_edges = length-map m.half_edges _ in
     let even : length (origins m) % 2 ≡ 0 = omega (arith, count, fit.undirected_fit) in
     omega (arith, length-paired (origins m) even, count, fit.undirected_fit)
 
 -- edges with default data are added after edges whose ends may have changed
-pub adds_edges : {U : Type 0} (P : U → Type 0) (es new fs : List Ends) (us us' : List U) (more : ℕ)
-    → length us ≡ length es → length fs ≡ more → new ≡ es ++ fs → Grows P us us' more
+pub adds_edges : {U : Type 0} {P : U → Type 0} {new fs : List Ends} {us us' : List U}
+    (es : List Ends) → length us ≡ length es → new ≡ es ++ fs → Grows P us us' (length fs)
     → AddsEdges P (edges_of es us) (edges_of new us') fs
-adds_edges P es new fs us us' more fit count whole g = record {
+adds_edges {fs = fs} {us = us} es fit whole g = record {
   values = g.added;
-  count = g.count ∙ sym count;
+  count = g.count;
   each = g.each;
   whole = rw (whole, g.whole) (edges_of-append es fs us g.added fit);
 }
@@ -74,11 +74,11 @@ slice_get-edges_of (x ∷ es) (y ∷ us) (suc k) u d same is =
     slice_get-edges_of es us k u d (omega (arith, same)) is
 
 -- an edge is split: its data move to the first new edge
-pub splits_edge : {U : Type 0} (P : U → Type 0) (es new others : List Ends) (us us' : List U)
-    (k more : ℕ) (turned kept : Ends) → length us ≡ length es → length others ≡ more
-    → new ≡ set es k turned ++ kept ∷ others → MovesItem P us us' k more
+pub splits_edge : {U : Type 0} {P : U → Type 0} {new others : List Ends} {us us' : List U} {k : ℕ}
+    {turned kept : Ends} (es : List Ends) → length us ≡ length es
+    → new ≡ set es k turned ++ kept ∷ others → MovesItem P us us' k (length others)
     → SplitsEdge P (edges_of es us) (edges_of new us') k turned kept others
-splits_edge P es new others us us' k more turned kept fit count whole i =
+splits_edge {others = others} {us = us} {k = k} {turned = turned} {kept = kept} es fit whole i =
     let nowhere : Ends = record { source = 0; target = 0 } in
     let same : length (set us k i.made) ≡ length (set es k turned) =
     length-set us k i.made ∙ fit ∙ sym (length-set es k turned) in
@@ -88,7 +88,7 @@ splits_edge P es new others us us' k more turned kept fit count whole i =
       made = i.made;
       is_new = i.is_new;
       values = i.added;
-      count = i.count ∙ sym count;
+      count = i.count;
       each = i.each;
       whole = rw (whole, i.whole) (edges_of-append (set es k turned) (kept ∷ others)
           (set us k i.made) (i.kept ∷ i.added) same ∙ ap (λ q. q ++ edge_with kept i.kept

@@ -1,8 +1,9 @@
 -- There are data for each part of a mesh after a change.
--- Lemmas: length-grown, fits_as, fits_vertex, fits_hung, fits_closed, fits_connected, fits_slid,
--- fits_flipped, fits_inserted, length_moved, length_moved_two.
-use Rattle.std.proofs.Common.{◌≡◌, ℕ, ◌+◌, List, ◌∷◌, length, arith, set, length-append}
-use Rattle.std.proofs.lemmas.List.{length-set}
+-- Lemmas: length-grown, one_longer, fits_grown, fits_grown_edge, fits_moved, fits_vertex,
+-- fits_hung, fits_closed, fits_beside, fits_connected, fits_slid, fits_flipped, fits_inserted.
+use Rattle.std.proofs.Common.{◌≡◌, ℕ, ◌+◌, ◌*◌, List, [], ◌∷◌, ◌++◌, ◌∙◌, length, arith, set, ap}
+use Rattle.std.proofs.Common.{length-append}
+use Rattle.std.proofs.lemmas.List.{length-set, length_push}
 use Rattle.half_edge_links.specs.Mesh.{Mesh, with_vertex, connected}
 use Rattle.half_edge_links.specs.Flip.{flipped, flip_by}
 use Rattle.half_edge_links.specs.Insert.{inserted, insert_by}
@@ -16,15 +17,10 @@ pub length-grown : {X : Type 0} (P : X → Type 0) (old new : List X) (more : �
     → Grows P old new more → length new ≡ length old + more
 length-grown P old new more g = rw g.whole (omega (arith, length-append old g.added, g.count))
 
--- the same mesh, by equal counts
-pub fits_as : (m : Mesh) (v d u f v' d' u' f' : ℕ) → FitsMesh m v d u f → v' ≡ v → d' ≡ d → u' ≡ u
-    → f' ≡ f → FitsMesh m v' d' u' f'
-fits_as m v d u f v' d' u' f' fit at_v at_d at_u at_f = rw (at_v, at_d, at_u, at_f) fit
-
 -- there are data for each part once a vertex is added with its data
-pub fits_vertex : (m : Mesh) (v d u f : ℕ) → FitsMesh m v d u f
+pub fits_vertex : {m : Mesh} {v d u f : ℕ} → FitsMesh m v d u f
     → FitsMesh (with_vertex m) (v + 1) d u f
-fits_vertex m v d u f fit = record {
+fits_vertex fit = record {
   vertices_fit = simp length-append (omega (arith, fit.vertices_fit));
   directed_fit = fit.directed_fit;
   undirected_fit = fit.undirected_fit;
@@ -32,10 +28,10 @@ fits_vertex m v d u f fit = record {
 }
 
 -- there are data for each part once an edge to vertex w is added with its data
-pub fits_hung : (m : Mesh) (x w v d u f : ℕ) → FitsMesh m v d u f
+pub fits_hung : {m : Mesh} {v d u f : ℕ} (x w : ℕ) → FitsMesh m v d u f
     → FitsMesh (hung m x w) v (d + 2) (u + 1) f
 unfolding hung hung_edges with_next with_prev
-fits_hung m x w v d u f fit = record {
+fits_hung x w fit = record {
   vertices_fit = simp length-set fit.vertices_fit;
   directed_fit = simp (length-set, length-append) (omega (arith, fit.directed_fit));
   undirected_fit = simp (length-set, length-append) (omega (arith, fit.undirected_fit));
@@ -43,20 +39,33 @@ fits_hung m x w v d u f fit = record {
 }
 
 -- there are data for each part once a face and an edge are added with their data
-pub fits_closed : (m : Mesh) (e v d u f : ℕ) → FitsMesh m v d u f
+pub fits_closed : {m : Mesh} {v d u f : ℕ} (e : ℕ) → FitsMesh m v d u f
     → FitsMesh (closed m e) v (d + 2) (u + 1) (f + 1)
 unfolding closed closed_edges with_next with_prev with_face
-fits_closed m e v d u f fit = record {
+fits_closed e fit = record {
   vertices_fit = fit.vertices_fit;
   directed_fit = simp (length-set, length-append) (omega (arith, fit.directed_fit));
   undirected_fit = simp (length-set, length-append) (omega (arith, fit.undirected_fit));
   faces_fit = simp length-append (omega (arith, fit.faces_fit));
 }
 
+-- there are data for each part once an edge to vertex w and a face of it are added with their data
+pub fits_beside : {m : Mesh} {v d u f : ℕ} (x w e : ℕ) → FitsMesh m v d u f
+    → FitsMesh (closed (hung m x w) e) v (d + 4) (u + 2) (f + 1)
+fits_beside {m} {v} {d} {u} {f} x w e fit =
+    let both : FitsMesh (closed (hung m x w) e) v (d + 2 + 2) (u + 1 + 1) (f + 1) =
+    fits_closed e (fits_hung x w fit) in
+    record {
+      vertices_fit = both.vertices_fit;
+      directed_fit = omega (arith, both.directed_fit);
+      undirected_fit = omega (arith, both.undirected_fit);
+      faces_fit = both.faces_fit;
+    }
+
 -- there are data for each part once the first edge is added with its data
-pub fits_connected : (m : Mesh) (a b v d u f : ℕ) → u ≡ 0 → FitsMesh m v d u f
+pub fits_connected : {m : Mesh} {v d u f : ℕ} (a b : ℕ) → u ≡ 0 → FitsMesh m v d u f
     → FitsMesh (connected m a b) v (d + 2) (u + 1) f
-fits_connected m a b v d u f none fit = record {
+fits_connected a b none fit = record {
   vertices_fit = simp length-set fit.vertices_fit;
   directed_fit = omega (arith, none, fit.directed_fit, fit.undirected_fit);
   undirected_fit = omega (arith, none);
@@ -64,9 +73,9 @@ fits_connected m a b v d u f none fit = record {
 }
 
 -- there are data for each part after an edge slid, which needs no more of them
-pub fits_slid : (m : Mesh) (e v d u f : ℕ) → FitsMesh m v d u f → FitsMesh (slid m e) v d u f
+pub fits_slid : {m : Mesh} {v d u f : ℕ} (e : ℕ) → FitsMesh m v d u f → FitsMesh (slid m e) v d u f
 unfolding slid slid_edges with_next with_prev with_origin
-fits_slid m e v d u f fit = record {
+fits_slid e fit = record {
   vertices_fit = simp length-set fit.vertices_fit;
   directed_fit = simp length-set fit.directed_fit;
   undirected_fit = simp length-set fit.undirected_fit;
@@ -74,9 +83,10 @@ fits_slid m e v d u f fit = record {
 }
 
 -- there are data for each part after a flip, which needs no more of them
-pub fits_flipped : (m : Mesh) (e v d u f : ℕ) → FitsMesh m v d u f → FitsMesh (flipped m e) v d u f
+pub fits_flipped : {m : Mesh} {v d u f : ℕ} (e : ℕ) → FitsMesh m v d u f
+    → FitsMesh (flipped m e) v d u f
 unfolding flipped flip_by
-fits_flipped m e v d u f fit = record {
+fits_flipped e fit = record {
   vertices_fit = simp length-set fit.vertices_fit;
   directed_fit = simp length-set fit.directed_fit;
   undirected_fit = simp length-set fit.undirected_fit;
@@ -85,10 +95,10 @@ fits_flipped m e v d u f fit = record {
 
 -- there are data for each part once a vertex in a face gets three edges and two new faces with
 -- their data
-pub fits_inserted : (m : Mesh) (w a v d u f : ℕ) → FitsMesh m v d u f
+pub fits_inserted : {m : Mesh} {v d u f : ℕ} (w a : ℕ) → FitsMesh m v d u f
     → FitsMesh (inserted m w a) v (d + 6) (u + 3) (f + 2)
 unfolding inserted insert_by
-fits_inserted m w a v d u f fit = record {
+fits_inserted w a fit = record {
   vertices_fit = simp length-set fit.vertices_fit;
   directed_fit = simp (length-set, length-append) (omega (arith, fit.directed_fit));
   undirected_fit = simp (length-set, length-append) (omega (arith, fit.undirected_fit));
@@ -96,9 +106,9 @@ fits_inserted m w a v d u f fit = record {
 }
 
 -- a list of which an item moved to the end is longer by one and by the new items after it
-pub length_moved : {X : Type 0} (P : X → Type 0) (old new : List X) (i more : ℕ)
+length_moved : {X : Type 0} {P : X → Type 0} {old new : List X} {i more : ℕ}
     → MovesItem P old new i more → length new ≡ length old + 1 + more
-length_moved P old new i more m = rw m.whole (omega (
+length_moved {old = old} {i = i} m = rw m.whole (omega (
   arith,
   length-append (set old i m.made) (m.kept ∷ m.added),
   length-set old i m.made,
@@ -106,12 +116,46 @@ length_moved P old new i more m = rw m.whole (omega (
 ))
 
 -- a list of which two items moved to the end is longer by two and by the new items after them
-pub length_moved_two : {X : Type 0} (P : X → Type 0) (old new : List X) (i j more : ℕ)
+length_moved_two : {X : Type 0} {P : X → Type 0} {old new : List X} {i j more : ℕ}
     → MovesTwoItems P old new i j more → length new ≡ length old + 2 + more
-length_moved_two P old new i j more m = rw m.whole (omega (
+length_moved_two {old = old} {i = i} {j = j} m = rw m.whole (omega (
   arith,
   length-append (set (set old i m.made) j m.also_made) (m.kept ∷ m.also_kept ∷ m.added),
   length-set (set old i m.made) j m.also_made,
   length-set old i m.made,
   m.count,
 ))
+
+-- ---- lists of data that grow as the mesh does
+-- a list that stays once an item was pushed is longer by one
+pub one_longer : {X : Type 0} {pushed new : List X} (old : List X) (x : X) → pushed ≡ old ++ x ∷ []
+    → new ≡ pushed → length new ≡ length old + 1
+one_longer old x push stays =
+    ap length stays ∙ ap length push ∙ length_push old x
+
+module _ {DE UE : Type 0} {D : DE → Type 0} {U : UE → Type 0} {m : Mesh} {n v : ℕ}
+    {ds ds' : List DE} {us us' : List UE} where
+  -- one edge more
+  pub fits_grown_edge : {f : ℕ} → Grows D ds ds' 2 → Grows U us us' 1 → n ≡ v
+      → FitsMesh m v (length ds + 2) (length us + 1) f → FitsMesh m n (length ds') (length us') f
+  fits_grown_edge gd gu at fit = rw (at, length-grown _ _ _ _ gd, length-grown _ _ _ _ gu) fit
+
+  module _ {FA : Type 0} {F : FA → Type 0} {fs fs' : List FA} where
+    -- so many more edges and faces
+    pub fits_grown : {d u f : ℕ} → Grows D ds ds' d → Grows U us us' u → Grows F fs fs' f → n ≡ v
+        → FitsMesh m v (length ds + d) (length us + u) (length fs + f)
+        → FitsMesh m n (length ds') (length us') (length fs')
+    fits_grown gd gu gf at fit = rw
+        (at, length-grown _ _ _ _ gd, length-grown _ _ _ _ gu, length-grown _ _ _ _ gf) fit
+
+    -- so many more edges and faces, where the data of an edge move
+    pub fits_moved : {i j k d u f : ℕ} → MovesTwoItems D ds ds' i j d → MovesItem U us us' k u
+        → Grows F fs fs' f → n ≡ v
+        → FitsMesh m v (length ds + (d + 2)) (length us + (u + 1)) (length fs + f)
+        → FitsMesh m n (length ds') (length us') (length fs')
+    fits_moved gd gu gf at fit = record {
+      vertices_fit = at ∙ fit.vertices_fit;
+      directed_fit = omega (arith, length_moved_two gd, fit.directed_fit);
+      undirected_fit = omega (arith, length_moved gu, fit.undirected_fit);
+      faces_fit = length-grown _ _ _ _ gf ∙ fit.faces_fit;
+    }

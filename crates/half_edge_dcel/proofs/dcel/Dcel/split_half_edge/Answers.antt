@@ -1,63 +1,44 @@
-use Rattle.std.proofs.Common.{refl, ap, ◌∙◌, length, arith}
-use Rattle.std.proofs.lemmas.List.{length_push}
-use Rattle.half_edge_dcel.proofs.Fits.{fits_as, fits_vertex, fits_flipped, fits_hung, fits_closed}
-use Rattle.half_edge_dcel.proofs.Fits.{length-grown}
-use Rattle.half_edge_dcel.proofs.Fits.{length_moved, length_moved_two}
+use Rattle.std.proofs.Common.{◌∙◌, rules}
+use Rattle.half_edge_dcel.proofs.Fits.{fits_beside, fits_flipped, fits_moved, fits_vertex}
+use Rattle.half_edge_dcel.proofs.Fits.{one_longer}
 use Rattle.half_edge_dcel.proofs.EdgeLists.{splits_edge, length-ends}
 use Rattle.half_edge_dcel.proofs.Outlines.{outer_changes}
 use Rattle.half_edge_dcel.proofs.dcel.Dcel.split_half_edge.Goals as goal
 
 pub invariant_of-self : goal.invariant_of-self
 invariant_of-self g c =
-    rw (c.split_half_edge-parts.ensures.mesh, c.push_vertex-v.ensures.mesh)
-    (fits_as _ _ _ _ _ _ _ _ _ (fits_flipped _ _ _ _ _ _
-    (fits_closed _ _ _ _ _ _ (fits_hung _ _ _ _ _ _ _ (fits_vertex _ _ _ _ _ c.self.invariant))))
-    (ap length c.split_half_edge-parts.ensures.rest.values
-    ∙ ap length c.push_vertex-v.ensures.values ∙ length_push _ _)
-    (omega (arith, length_moved_two _ _ _ _ _ _ c.move_two_items.ensures.moves))
-    (omega (arith, length_moved _ _ _ _ _ c.move_item.ensures.moves))
-    (length-grown _ _ _ _ c.push_defaults.ensures.grows))
+    let vertex = c.push_vertex-v.ensures in
+    let links = c.split_half_edge-parts.ensures in
+    rw (links.mesh, vertex.mesh) (fits_moved c.move_two_items.ensures.moves
+    c.move_item.ensures.moves c.push_defaults.ensures.grows
+    (one_longer _ _ vertex.values links.rest.values)
+    (fits_flipped _ (fits_beside _ _ _ (fits_vertex c.self.invariant))))
 
-pub returns-clause-edges : goal.returns-clause-edges
-returns-clause-edges g c =
-    let ends_are =
-    rw (c.push_vertex-v.ensures.mesh, c.index.ensures, ← c.split_handles.ensures.vertex) at
-    c.split_half_edge-parts.ensures.splits.ends in
-    let moves = rw c.index-4.ensures at c.move_item.ensures.moves in
-    rw (← c.self.view_is) (splits_edge _ _ _ _ _ _ _ 1 _ _
-    (length-ends c.self.inside.links.mesh _ _ _ _ c.self.invariant) refl ends_are moves)
-
-pub returns-clause-links : goal.returns-clause-links
-returns-clause-links g c =
-    let split =
-    rw (c.push_vertex-v.ensures.mesh, c.index.ensures, ← c.split_handles.ensures.vertex) at
+pub returns : goal.returns
+returns g c =
+    let fit = c.self.invariant in
+    let vertex = c.push_vertex-v.ensures in
+    let links = rw (vertex.mesh, c.index.ensures, ← c.split_handles.ensures.vertex) at
     c.split_half_edge-parts.ensures in
+    let directed =
+    rw (c.index-2.ensures, c.index-3.ensures, c.rev.ensures) at c.move_two_items.ensures in
+    let undirected = rw c.index-4.ensures at c.move_item.ensures in
+    let faces = c.push_defaults.ensures in
     rw (← c.self.view_is) (record {
-      mesh = split.mesh;
-      triangles = split.splits.corners;
-      outer = outer_changes c.self.inside.links.mesh _ _ _
-          (rw (← c.self.invariant.directed_fit) at split.splits.outer);
-      outline = λ one. c.split_half_edge-parts.ensures.splits.outline
-          (c.push_vertex-v.ensures.outline one);
+      vertex = rw fit.vertices_fit (c.split_handles.ensures.vertex ∙ vertex.vertex);
+      parts = c.split_handles.ensures.parts ∙ (rw (← fit.directed_fit) at links.parts);
+      links = record {
+        mesh = links.mesh;
+        triangles = links.splits.corners;
+        outer = outer_changes _ _ _ _ (rw (← fit.directed_fit) at links.splits.outer);
+        outline = λ one. c.split_half_edge-parts.ensures.splits.outline (vertex.outline one);
+      };
+      «data» = record {
+        whole = record { valid = links.splits.valid; fits = invariant_of-self g c };
+        contents = search rules;
+        directed = directed.moves;
+        undirected = undirected.moves;
+        faces = faces.grows;
+      };
+      edges = splits_edge _ (length-ends fit) links.splits.ends undirected.moves;
     })
-
-pub returns-clause-data : goal.returns-clause-data
-returns-clause-data g c = rw (← c.self.view_is) (record {
-  whole = record {
-    valid = c.split_half_edge-parts.ensures.splits.valid;
-    fits = invariant_of-self g c;
-  };
-  contents = rw (
-    c.split_half_edge-parts.ensures.rest.room,
-    c.push_vertex-v.ensures.room,
-    c.split_half_edge-parts.ensures.rest.values,
-    c.push_vertex-v.ensures.values,
-    c.move_two_items.ensures.capacity,
-    c.move_item.ensures.capacity,
-    c.push_defaults.ensures.capacity,
-  ) refl;
-  directed =
-      rw (c.index-2.ensures, c.index-3.ensures, c.rev.ensures) at c.move_two_items.ensures.moves;
-  undirected = rw c.index-4.ensures at c.move_item.ensures.moves;
-  faces = c.push_defaults.ensures.grows;
-})
