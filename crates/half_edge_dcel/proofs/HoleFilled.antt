@@ -310,15 +310,15 @@ module _ {V D U F : Type 0} (old c new : Contents V D U F) (o turned : ℕ)
       }
 
 -- the same, for a count of edges
-pub hole_filled_by : {V D U F : Type 0} (old c new : Contents V D U F) (o k turned : ℕ)
-    → turned + 3 ≡ k → IsMeshWithData old → IsMeshWithData c → IsMeshWithData new
-    → IsHub old.mesh o k → HasFreeTip (neighbour old.mesh o) k → HasTurned old c o k turned
+pub hole_filled_by : {V D U F : Type 0} {old c new : Contents V D U F} {o k turned : ℕ}
+    → turned + 3 ≡ k → IsMeshWithData new → HasTurned old c o k turned
     → FillsHole c new (origin c.mesh o) (neighbour c.mesh o)
     → FillsWithFan old new (origin old.mesh o) (neighbour old.mesh o) k
-hole_filled_by old c new o k turned is a b e w tip f g =
+hole_filled_by {old} {c} {new} {o} {k} {turned} is whole f g =
     let at : suc (suc (suc turned)) ≡ k = omega (arith, is) in
     let back : k ≡ suc (suc (suc turned)) = sym at in
-    rw back (hole_filled old c new o turned a b e (rw back at w) (rw back at tip) (rw back at f) g)
+    rw back (hole_filled old c new o turned f.was f.whole whole (rw back at f.round)
+    (rw back at f.free) (rw back at f) g)
 
 -- a fan of one face fills a hole of three edges
 pub fan_of_three : {V D U F : Type 0} (old new : Contents V D U F) (v : ℕ) (n : ℕ → ℕ)

@@ -13,12 +13,10 @@ use Rattle.half_edge_links.specs.Flow.{total, around, both_ways}
 use Rattle.half_edge_links.specs.Hull.{KeepsOneOutline}
 use Rattle.half_edge_links.specs.Mesh.{Mesh, origin, next, prev, face, face_edge, rev}
 use Rattle.half_edge_links.specs.Mesh.{AreSoundLinks, IsAlone}
-use Rattle.half_edge_links.specs.Outline.{ends}
-use Rattle.half_edge_links.specs.Peel.{IsPeelable, IsWheel, Peels, turn}
-use Rattle.half_edge_links.specs.Remove.{ClosesLoop, IsOpenTriangle, IsRemovable, Opens, Removes}
-use Rattle.half_edge_links.specs.Remove.{after_removal}
+use Rattle.half_edge_links.specs.Peel.{IsPeelable, IsWheel, turn}
+use Rattle.half_edge_links.specs.Remove.{IsOpenTriangle, IsRemovable, after_removal}
 use Rattle.half_edge_links.specs.Round.{neighbour}
-use Rattle.half_edge_links.specs.Triangles.{triangles, triangle_at}
+use Rattle.half_edge_links.specs.Triangles.{triangle_at}
 use Rattle.half_edge_links.proofs.Removing.CollapseLemmas.{open_triangle, removable_last}
 use Rattle.half_edge_links.proofs.Removing.PeelLemmas.{peels_faces}
 use Rattle.half_edge_links.proofs.Removing.Conditions.{IsFullWheel, full_wheel, peelable, removable}
@@ -30,9 +28,11 @@ use Rattle.half_edge_links.proofs.Removing.WheelLemmas as wheel
 use Rattle.half_edge_dcel.specs.Contents.{Contents, IsMeshWithData, KeepsVertices}
 use Rattle.half_edge_dcel.specs.Growth.{joins}
 use Rattle.half_edge_dcel.specs.Removal.{FullFace, Connects, HasCorners, LosesEdges, LosesFaces}
-use Rattle.half_edge_dcel.specs.Removal.{GivesFace, OuterSumsChange, FillsHole, full_edges}
+use Rattle.half_edge_dcel.specs.Removal.{OuterSumsChange, FillsHole, full_edges}
 use Rattle.half_edge_dcel.specs.Removal.{full_edges_of, full_faces, full_faces_of, spokes_to}
 use Rattle.half_edge_dcel.specs.Removal.{faces_between}
+use Rattle.half_edge_dcel.specs.Taking.{ClosesFullFace, OpensFullFace, PeelsFullEdge}
+use Rattle.half_edge_dcel.specs.Taking.{RemovesFullEdge}
 use Rattle.half_edge_dcel.proofs.LineSteps.{alone_after}
 use Rattle.half_edge_dcel.proofs.OuterSums.{ends_sum, total_faces, total_lost_faces}
 use Rattle.half_edge_dcel.proofs.OuterSums.{total-permutation, total-append, any_corner, outer_sum}
@@ -178,160 +178,128 @@ fills_hole {V} {D} {U} {F} c0 c1 c2 c3 c4 c5 o spoke z made whole0 whole2 whole3
     }
 
 -- ---- what the calls ensure, and what they ask for
-module _ {V D U F : Type 0} (c0 c1 c2 c3 : Contents V D U F) (o face_is spoke pendant : ℕ)
-    (w0 : IsMeshWithData c0) (round : IsWheel c0.mesh o) (is_third : face_is
-    ≡ face c0.mesh (turn c0.mesh (turn c0.mesh o))) (opens : Opens c0.mesh c1.mesh face_is) where
+module _ {V D U F : Type 0} {c0 c1 : Contents V D U F} {o : ℕ} {value : F} (round : IsWheel c0.mesh
+    o) (opening : OpensFullFace c0 c1 (face c0.mesh (turn c0.mesh (turn c0.mesh o))) value) where
   abbrev m : Mesh
   m = c0.mesh
 
   -- the links fit together
   abbrev s : AreSoundLinks m
-  s = w0.valid.sound
+  s = opening.was.valid.sound
 
   -- the vertex has three faces round it
   abbrev w : IsFullWheel m o
-  w = full_wheel m o w0.valid round
+  w = full_wheel m o opening.was.valid round
 
   abbrev third : ℕ
   third = turn m (turn m o)
 
-  opened_third : Opens m c1.mesh (face m third)
-  opened_third = rw is_third at opens
-
   -- the first edge may be peeled off once the third face is open
   pub first_peelable : IsPeelable c1.mesh o
-  first_peelable = peelable c1.mesh o (wheel.peelable_first m o s w c1.mesh opened_third)
+  first_peelable = peelable c1.mesh o (wheel.peelable_first m o s w c1.mesh opening.opens)
 
-  module _ (w1 : IsMeshWithData c1) (one : Peels c1.mesh c2.mesh o)
-      (spoke_is : spoke ≡ after_removal c1.mesh o (turn c1.mesh o)) where
+  module _ {c2 : Contents V D U F} {spoke : ℕ} (one : PeelsFullEdge c1 c2 o spoke) where
     -- once the first edge is gone: one face and a hole, with the three neighbours as corners
     four : (z : ℕ) × IsHoleOfFour c2.mesh spoke z (origin m o) (neighbour m o 0) (neighbour m o 1)
         (neighbour m o 2)
-    four = hole_of_four m c1.mesh c2.mesh o spoke s w opened_third one spoke_is
+    four = hole_of_four m c1.mesh c2.mesh o spoke s w opening.opens one.peels one.spoke
 
     -- the second edge may be peeled off once the first is gone
     pub second_peelable : IsPeelable c2.mesh spoke
     second_peelable = peelable c2.mesh spoke four.1.fan.peelable
 
-    module _ (w2 : IsMeshWithData c2) (two : Peels c2.mesh c3.mesh spoke)
-        (pendant_is : pendant ≡ after_removal c2.mesh spoke (turn c2.mesh spoke)) where
+    module _ {c3 : Contents V D U F} {pendant : ℕ} (two : PeelsFullEdge c2 c3 spoke pendant) where
       three : IsHoleOfThree c3.mesh pendant (origin m o) (neighbour m o 0) (neighbour m o 1)
           (neighbour m o 2)
-      three = hole_of_three c2.mesh c3.mesh spoke four.0 pendant _ _ _ _ w2.valid.sound four.1
-          two pendant_is
+      three = hole_of_three c2.mesh c3.mesh spoke four.0 pendant _ _ _ _ one.whole.valid.sound
+          four.1 two.peels two.spoke
 
       -- the last edge is in the mesh that the two steps leave
       pub pendant_within : pendant < length c3.mesh.half_edges
       pendant_within = three.fan.within
 
-      module _ (w3 : IsMeshWithData c3) where
-        -- the last edge may be removed once the two others are gone
-        pub pendant_removable : IsRemovable c3.mesh pendant
-        pendant_removable =
-            removable c3.mesh pendant (removable_last c3.mesh pendant w3.valid.sound three.fan)
+      -- the last edge may be removed once the two others are gone
+      pub pendant_removable : IsRemovable c3.mesh pendant
+      pendant_removable =
+          removable c3.mesh pendant (removable_last c3.mesh pendant two.whole.valid.sound three.fan)
 
-        module _ (c4 : Contents V D U F) (border : ℕ) (border_is : border ≡ after_removal c3.mesh
-            pendant (next c3.mesh pendant)) (gone : Removes c3.mesh c4.mesh pendant) where
-          -- the three edges round the hole are an open triangle once the last edge is gone
-          pub border_open : IsOpenTriangle c4.mesh border
-          border_open =
-              rw border_is (open_triangle c3.mesh c4.mesh pendant w3.valid.sound three.fan gone)
+      module _ {c4 : Contents V D U F} {border : ℕ} (border_is : border
+          ≡ after_removal c3.mesh pendant (next c3.mesh pendant))
+          (gone : RemovesFullEdge c3 c4 pendant) where
+        -- the three edges round the hole are an open triangle once the last edge is gone
+        pub border_open : IsOpenTriangle c4.mesh border
+        border_open = rw border_is (open_triangle c3.mesh c4.mesh pendant two.whole.valid.sound
+            three.fan gone.removes)
 
-          -- there is still room for a face before the hole is filled
-          pub has_room : length c1.faces + 1 ≤ c1.room.faces → c2 ≡ record c1 {
-            mesh = c2.mesh;
-            directed = c2.directed;
-            undirected = c2.undirected;
-            faces = c2.faces;
-          }
-              → c3 ≡ record c2 {
-                mesh = c3.mesh;
-                directed = c3.directed;
-                undirected = c3.undirected;
-                faces = c3.faces;
-              }
-              → c4
-              ≡ record c3 { mesh = c4.mesh; directed = c4.directed; undirected = c4.undirected }
-              → length c4.faces + 1 ≤ c4.room.faces
-          has_room spare a b d =
-              let r : c4.room.faces ≡ c1.room.faces = ap (λ (x : Contents V D U F). x.room.faces) d
-              ∙ ap (λ (x : Contents V D U F). x.room.faces) b
-              ∙ ap (λ (x : Contents V D U F). x.room.faces) a in
-              let n : length c4.faces ≡ length c3.faces =
-              ap (λ (x : Contents V D U F). length x.faces) d in
-              omega (
-                arith,
-                spare,
-                r,
-                n,
-                w1.fits.faces_fit,
-                w2.fits.faces_fit,
-                w3.fits.faces_fit,
-                peels_faces _ _ _ one,
-                peels_faces _ _ _ two,
-              )
+        -- there is still room for a face before the hole is filled
+        pub has_room : length c4.faces + 1 ≤ c4.room.faces
+        has_room =
+            let r : c4.room.faces ≡ c1.room.faces =
+            ap (λ (x : Contents V D U F). x.room.faces) gone.contents
+            ∙ ap (λ (x : Contents V D U F). x.room.faces) two.contents
+            ∙ ap (λ (x : Contents V D U F). x.room.faces) one.contents in
+            let n : length c4.faces ≡ length c3.faces =
+            ap (λ (x : Contents V D U F). length x.faces) gone.contents in
+            omega (
+              arith,
+              opening.spare,
+              r,
+              n,
+              opening.whole.fits.faces_fit,
+              one.whole.fits.faces_fit,
+              two.whole.fits.faces_fit,
+              peels_faces _ _ _ one.peels,
+              peels_faces _ _ _ two.peels,
+            )
 
-          -- the steps take out the vertex and fill the hole with one face
-          pub collapsed : (c5 : Contents V D U F) (value : F) → IsMeshWithData c5
-              → c1 ≡ record c0 { mesh = c1.mesh; faces = c1.faces }
-              → GivesFace c0 c1 (triangle_at m (face_edge m face_is)) value → ends c1.mesh ≡ ends m
-              → KeepsVertices c1 c2
-              → LosesEdges c1 c2 (joins (origin c1.mesh o) (origin c1.mesh (rev o)) ∷ [])
-              → LosesFaces c1 c2 (triangle_at c1.mesh o ∷ [])
-              → KeepsVertices c2 c3 → LosesEdges c2 c3
-              (joins (origin c2.mesh spoke) (origin c2.mesh (rev spoke)) ∷ [])
-              → LosesFaces c2 c3 (triangle_at c2.mesh spoke ∷ [])
-              → c4
-              ≡ record c3 { mesh = c4.mesh; directed = c4.directed; undirected = c4.undirected }
-              → LosesEdges c3 c4 (joins (origin c3.mesh pendant) (origin c3.mesh (rev pendant))
-              ∷ []) → triangles c4.mesh ≡ triangles c3.mesh
-              → ClosesLoop c4.mesh c5.mesh border → c5
-              ≡ record c4 { mesh = c5.mesh; faces = c5.faces } → full_faces c5 ≡ full_faces c4
-              ++ record { corners = triangle_at c4.mesh border; value = value } ∷ []
-              → ends c5.mesh ≡ ends c4.mesh
-              → FillsHole c0 c5 (origin m o) (neighbour m o)
-          collapsed c5 value w5 k01 gives ends01 k12 e12 f12 k23 e23 f23 k34 e34 t34 closes
-              k45 f45 ends45 =
-              let made : FullFace F =
-              record { corners = triangle_at c4.mesh border; value = value } in
-              let third_face : FullFace F =
-              record { corners = triangle_at m (face_edge m (face m third)); value = value } in
-              let op = opened_third in
-              let a : joins (origin c1.mesh o) (origin c1.mesh (rev o)) ≡ joins (origin m o)
-              (origin m (rev o)) = λ i. joins (op.origin o i) (op.origin (rev o) i) in
-              let b : triangle_at c1.mesh o ≡ triangle_at m o = λ i. record {
-                first = op.origin o i;
-                second = (ap (origin c1.mesh) (op.next o) ∙ op.origin (next m o)) i;
-                third = (ap (origin c1.mesh) (op.prev o) ∙ op.origin (prev m o)) i;
-              } in
-              let e01 : full_edges c1 ≡ full_edges c0 =
-              λ i. full_edges_of (ends01 i) (ap (λ (x : Contents V D U F). x.undirected) k01 i)
-              (ap (λ (x : Contents V D U F). x.directed) k01 i) in
-              let e45 : full_edges c5 ≡ full_edges c4 =
-              λ i. full_edges_of (ends45 i) (ap (λ (x : Contents V D U F). x.undirected) k45 i)
-              (ap (λ (x : Contents V D U F). x.directed) k45 i) in
-              let f34 : full_faces c4 ≡ full_faces c3 =
-              λ i. full_faces_of (t34 i) (ap (λ (x : Contents V D U F). x.faces) k34 i) in
-              let last = last_spoke c3.mesh pendant (origin m o) (neighbour m o 0) (neighbour m o 1)
-              (neighbour m o 2) w3.valid.sound pendant_within three in
-              let same = same_but c0 c4 c5 (same_but c0 c3 c4
-              (same_but c0 c2 c3 (same_but c0 c1 c2 (same_but_faces c0 c1 k01) k12) k23)
-              (same_but_edges c3 c4 k34)) (same_but_faces c4 c5 k45) in
-              let at_v = alone_after c3.mesh c4.mesh pendant w3.valid.sound pendant_removable
-              three.fan.pendant gone in
-              let alone : IsAlone c5.mesh (origin m o) = rw (closes.outs, ← three.start) at_v in
-              let corners =
-              closed_corners c3.mesh c4.mesh pendant _ _ _ _ w3.valid.sound three gone in
-              let made_is : HasCorners made (record
-              { first = neighbour m o 0; second = neighbour m o 1; third = neighbour m o 2 }) =
-              inr (inr (ap (triangle_at c4.mesh) border_is ∙ (λ i. record {
-                first = corners.0 i;
-                second = corners.1 i;
-                third = corners.2 i;
-              }))) in
-              fills_hole c0 c1 c2 c3 c4 c5 o spoke four.0 made w0 w2 w3 w5 w four.1 same alone e01
-              (rw a at e12) e23 (rw last at e34) e45 third_face refl refl (rw is_third at gives)
-              (rw b at f12) f23 f34 f45 made_is
-              (outline_filled m c1.mesh c2.mesh c3.mesh c4.mesh c5.mesh o spoke pendant border s w
-              op one spoke_is w2.valid.sound two pendant_is w3.valid.sound gone
-              border_is closes)
+        -- the steps take out the vertex and fill the hole with one face
+        pub collapsed : {c5 : Contents V D U F} → ClosesFullFace c4 c5 border value
+            → FillsHole c0 c5 (origin m o) (neighbour m o)
+        collapsed {c5} closing =
+            let made : FullFace F =
+            record { corners = triangle_at c4.mesh border; value = value } in
+            let third_face : FullFace F =
+            record { corners = triangle_at m (face_edge m (face m third)); value = value } in
+            let op = opening.opens in
+            let a : joins (origin c1.mesh o) (origin c1.mesh (rev o)) ≡ joins (origin m o)
+            (origin m (rev o)) = λ i. joins (op.origin o i) (op.origin (rev o) i) in
+            let b : triangle_at c1.mesh o ≡ triangle_at m o = λ i. record {
+              first = op.origin o i;
+              second = (ap (origin c1.mesh) (op.next o) ∙ op.origin (next m o)) i;
+              third = (ap (origin c1.mesh) (op.prev o) ∙ op.origin (prev m o)) i;
+            } in
+            let k01 = opening.contents in
+            let k45 = closing.contents in
+            let e01 : full_edges c1 ≡ full_edges c0 = λ i. full_edges_of (opening.ends i)
+            (ap (λ (x : Contents V D U F). x.undirected) k01 i)
+            (ap (λ (x : Contents V D U F). x.directed) k01 i) in
+            let e45 : full_edges c5 ≡ full_edges c4 = λ i. full_edges_of (closing.ends i)
+            (ap (λ (x : Contents V D U F). x.undirected) k45 i)
+            (ap (λ (x : Contents V D U F). x.directed) k45 i) in
+            let f34 : full_faces c4 ≡ full_faces c3 = λ i. full_faces_of (gone.triangles i)
+            (ap (λ (x : Contents V D U F). x.faces) gone.contents i) in
+            let last = last_spoke c3.mesh pendant (origin m o) (neighbour m o 0) (neighbour m o 1)
+            (neighbour m o 2) two.whole.valid.sound pendant_within three in
+            let same = same_but c0 c4 c5 (same_but c0 c3 c4 (same_but c0 c2 c3
+            (same_but c0 c1 c2 (same_but_faces c0 c1 k01) one.contents) two.contents)
+            (same_but_edges c3 c4 gone.contents)) (same_but_faces c4 c5 k45) in
+            let at_v = alone_after c3.mesh c4.mesh pendant two.whole.valid.sound pendant_removable
+            three.fan.pendant gone.removes in
+            let alone : IsAlone c5.mesh (origin m o) =
+            rw (closing.closes.outs, ← three.start) at_v in
+            let corners = closed_corners c3.mesh c4.mesh pendant _ _ _ _ two.whole.valid.sound three
+            gone.removes in
+            let made_is : HasCorners made (record
+            { first = neighbour m o 0; second = neighbour m o 1; third = neighbour m o 2 }) =
+            inr (inr (ap (triangle_at c4.mesh) border_is ∙ (λ i. record {
+              first = corners.0 i;
+              second = corners.1 i;
+              third = corners.2 i;
+            }))) in
+            fills_hole c0 c1 c2 c3 c4 c5 o spoke four.0 made opening.was one.whole two.whole
+            closing.whole w four.1 same alone e01 (rw a at one.edges) two.edges
+            (rw last at gone.edges) e45 third_face refl refl opening.faces (rw b at one.faces)
+            two.faces f34 closing.faces made_is
+            (outline_filled m c1.mesh c2.mesh c3.mesh c4.mesh c5.mesh o spoke pendant border s w op
+            one.peels one.spoke one.whole.valid.sound two.peels two.spoke two.whole.valid.sound
+            gone.removes border_is closing.closes)

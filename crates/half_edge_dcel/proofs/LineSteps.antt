@@ -1,13 +1,15 @@
 -- A vertex of a line loses its edges.
--- Lemmas: alone_after, after_turn, passable, removable_end, removable_hanging, are_joined,
--- outer_joined, no_inner_face, end_left, middle_left.
+-- Lemmas: alone_after, after_turn, passable, end_removable, end_hangs, end_left, is_middle,
+-- left_removable, left_hangs, middle_left.
 use Rattle.std.proofs.Common.{◌≡◌, ◌≢◌, ◌⊎◌, ◌+◌, ◌*◌, ◌/◌, ◌%◌, ◌<◌, [], ◌∷◌, ◌∙◌}
-use Rattle.std.proofs.Common.{ℕ, List, length, set, get_or, None, sym, ap, inl, inr, arith, map}
+use Rattle.std.proofs.Common.{ℕ, List, length, map, set, get_or, Some, None, sym, ap, inl, inr}
+use Rattle.std.proofs.Common.{arith}
 use Rattle.std.proofs.lemmas.Bool.{cases_eq}
 use Rattle.std.proofs.lemmas.Bool.Decides.{nat_tests}
 use Rattle.std.proofs.lemmas.Int.{ints}
 use Rattle.std.specs.Prelude.{ℤ, pos, ◌+ℤ◌}
 use Rattle.half_edge_links.specs.Flow.{total, around, both_ways}
+use Rattle.half_edge_links.specs.Hull.{IsPendant}
 use Rattle.half_edge_links.specs.Mesh.{Mesh, origin, next, prev, face, out_edge, rev, AreSoundLinks}
 use Rattle.half_edge_links.specs.Mesh.{IsValidMesh}
 use Rattle.half_edge_links.specs.Outline.{Ends, ends, along, MovesEdge}
@@ -23,7 +25,8 @@ use Rattle.half_edge_links.proofs.Removing.TakenLists.{count_ends}
 use Rattle.half_edge_dcel.specs.Contents.{Contents, IsMeshWithData}
 use Rattle.half_edge_dcel.specs.Growth.{joins}
 use Rattle.half_edge_dcel.specs.Removal.{TakesOut, FullEdge, full_edges, full_edges_of, Connects}
-use Rattle.half_edge_dcel.specs.Removal.{JoinsNeighbours, OuterSumsChange, LosesEdges, LeavesLine}
+use Rattle.half_edge_dcel.specs.Removal.{HasFewEdges, JoinsNeighbours, OuterSumsChange, LeavesLine}
+use Rattle.half_edge_dcel.specs.Taking.{IsMiddle, PassesVertex, RemovesFullEdge}
 use Rattle.half_edge_dcel.proofs.TakenOut.{length-full_edges}
 use Rattle.half_edge_dcel.proofs.TakenEdges.{listed_ends, between}
 use Rattle.half_edge_dcel.proofs.TwoEdges.{item_at, one_written_one_taken}
@@ -51,35 +54,23 @@ after_turn m h g s within is =
     ap (next m) (ap rev (sym is) ∙ rev-rev (prev m h)) ∙ (s.edges h within).next_prev
 
 -- a vertex with two edges can be passed
-pub passable : (m : Mesh) (o : ℕ) → AreSoundLinks m → o < length m.half_edges → m.face_edges ≡ []
-    → turn m (turn m o) ≡ o → origin m (rev o) ≢ origin m (rev (turn m o)) → IsPassable m (rev o)
-passable m o s within none two corners =
-    let twin_in = rev_within o _ s.even within in
-    let other_in = rev_within (prev m o) _ s.even (s.edges o within).prev_in in
-    let after : next m (rev o) ≡ turn m o = after_turn m (turn m o) o s other_in two in
+pub passable : {m : Mesh} {o : ℕ} → AreSoundLinks m → IsMiddle m o → IsPassable m (rev o)
+passable {m} {o} s mid =
+    let twin_in = rev_within o _ s.even mid.within in
+    let other_in = rev_within (prev m o) _ s.even (s.edges o mid.within).prev_in in
+    let after : next m (rev o) ≡ turn m o = after_turn m (turn m o) o s other_in mid.two in
     record {
       within = twin_in;
       two = ap (prev m) (rev-rev o) ∙ sym (rev-rev (prev m o)) ∙ ap rev (sym after);
-      apart = λ q. corners (sym (ap (λ k. origin m (rev k)) (sym after ∙ q ∙ rev-rev o)));
-      corners = λ q. corners (q ∙ ap (λ k. origin m (rev k)) after);
-      one_face = none;
+      apart = λ q. mid.corners (sym (ap (λ k. origin m (rev k)) (sym after ∙ q ∙ rev-rev o)));
+      corners = λ q. mid.corners (q ∙ ap (λ k. origin m (rev k)) after);
+      one_face = mid.one_face;
     }
 
 -- no inner face
 no_inner : (m : Mesh) (h : ℕ) → AreSoundLinks m → m.face_edges ≡ [] → h < length m.half_edges
     → face m h ≡ 0
 no_inner m h s none within = omega (arith, (s.edges h within).face_in, ap length none)
-
--- an end of a line
-pub removable_end : (m : Mesh) (o : ℕ) → IsValidMesh m → o < length m.half_edges → m.face_edges ≡ []
-    → turn m o ≡ o → (next m o ≡ rev o → prev m o ≡ rev o → length m.half_edges ≡ 2)
-    → IsRemovable m o
-removable_end m o v within none one whole = record {
-  within = within;
-  outer = no_inner m o v.sound none within;
-  twin_outer = no_inner m (rev o) v.sound none (rev_within o _ v.sound.even within);
-  whole = whole;
-}
 
 -- the edge that is left hanging after one passed its vertex
 module _ (m mid : Mesh) (e : ℕ) (s : AreSoundLinks m) (can : IsPassable m e)
@@ -89,7 +80,7 @@ module _ (m mid : Mesh) (e : ℕ) (s : AreSoundLinks m) (can : IsPassable m e)
   t = beside m e s can
 
   -- the edge that is left hanging may be removed
-  pub removable_hanging : IsRemovable mid (next m e)
+  removable_hanging : IsRemovable mid (next m e)
   removable_hanging =
       let p = t in
       let even = s.even in
@@ -177,7 +168,7 @@ module _ {V D U F : Type 0} (c0 c2 : Contents V D U F) (mid : Mesh) (e : ℕ)
       ]
 
   -- the two edges of vertex v give way to one between its neighbours
-  pub are_joined : JoinsNeighbours c0 c2 v u w
+  are_joined : JoinsNeighbours c0 c2 v u w
   unfolding with_other_ends
   are_joined =
       let n = count_ends m s in
@@ -234,7 +225,7 @@ outer_end m new v u valid valid' same sums f =
     omega (arith, ints, a)
 
 -- two edges of a vertex give way to one
-pub outer_joined : {V D U F : Type 0} (old new : Contents V D U F) (v u w : ℕ) → IsMeshWithData old
+outer_joined : {V D U F : Type 0} (old new : Contents V D U F) (v u w : ℕ) → IsMeshWithData old
     → IsMeshWithData new → triangles new.mesh ≡ triangles old.mesh → JoinsNeighbours old new v u w
     → OuterSumsChange old.mesh new.mesh (joins v u ∷ joins u v ∷ joins v w ∷ joins w v ∷ [])
     (joins u w ∷ joins w u ∷ [])
@@ -257,72 +248,105 @@ outer_joined {V} {D} {U} {F} old new v u w a b same j f =
     omega (arith, ints, k, n, l, all)
 
 -- ---- the steps
-module _ {V D U F : Type 0} where
-  -- a mesh without data of faces has no inner face
-  pub no_inner_face : (c : Contents V D U F) → IsMeshWithData c → length c.faces ≡ 0
-      → c.mesh.face_edges ≡ []
-  no_inner_face c w none = empty_list c.mesh.face_edges (sym w.fits.faces_fit ∙ none)
+-- a vertex v of a mesh with one face has an edge o
+module _ {V D U F : Type 0} {c : Contents V D U F} {v o : ℕ} (w : IsMeshWithData c)
+    (one_face : length c.faces ≡ 0) (few : HasFewEdges c.mesh v)
+    (at : out_edge c.mesh v ≡ Some o) where
+  abbrev sound : AreSoundLinks c.mesh
+  sound = w.valid.sound
 
-  -- the only edge of a vertex goes
-  pub end_left : (old new : Contents V D U F) (out : ℕ) → IsMeshWithData old → IsMeshWithData new
-      → turn old.mesh out ≡ out → (can : IsRemovable old.mesh out)
-      → new ≡ record old { mesh = new.mesh; directed = new.directed; undirected = new.undirected }
-      → Removes old.mesh new.mesh out
-      → LosesEdges old new (joins (origin old.mesh out) (origin old.mesh (rev out)) ∷ [])
-      → triangles new.mesh ≡ triangles old.mesh → LeavesLine old new (origin old.mesh out)
-  end_left old new out a b one can contents r edges same =
-      let m = old.mesh in
-      let v : ℕ = origin m out in
-      let u : ℕ = origin m (rev out) in
-      let s = a.valid.sound in
-      record {
-        contents = contents;
-        alone = alone_after m new.mesh out s can (after_turn m out out s can.within one) r;
+  starts : (o < length c.mesh.half_edges) × (origin c.mesh o ≡ v)
+  starts = sound.vertices v o at
+
+  none : c.mesh.face_edges ≡ []
+  none = empty_list c.mesh.face_edges (sym w.fits.faces_fit ∙ one_face)
+
+  -- its only edge may be removed
+  pub end_removable : turn c.mesh o ≡ o → IsRemovable c.mesh o
+  end_removable alone = record {
+    within = starts.0;
+    outer = no_inner c.mesh o sound none starts.0;
+    twin_outer = no_inner c.mesh (rev o) sound none (rev_within o _ sound.even starts.0);
+    whole = few.whole o at;
+  }
+
+  -- its only edge hangs
+  pub end_hangs : turn c.mesh o ≡ o → IsPendant c.mesh o
+  end_hangs alone = inr (after_turn c.mesh o o sound starts.0 alone)
+
+  -- its only edge goes
+  pub end_left : {new : Contents V D U F} → turn c.mesh o ≡ o → RemovesFullEdge c new o
+      → LeavesLine c new v
+  end_left {new} alone r =
+      let u : ℕ = origin c.mesh (rev o) in
+      let left : LeavesLine c new (origin c.mesh o) = record {
+        contents = r.contents;
+        alone = alone_after c.mesh new.mesh o sound (end_removable alone)
+            (after_turn c.mesh o o sound starts.0 alone) r.removes;
         how = inr (inl (
           u,
-          (λ q. a.valid.apart out can.within (sym q)),
-          edges,
-          outer_end m new.mesh v u a.valid b.valid same (λ f. ends_sum f old new _ a b edges),
+          (λ q. w.valid.apart o starts.0 (sym q)),
+          r.edges,
+          outer_end c.mesh new.mesh (origin c.mesh o) u w.valid r.whole.valid r.triangles
+              (λ f. ends_sum f c new _ w r.whole r.edges),
         ));
-      }
+      } in
+      rw starts.1 at left
 
-  -- two edges of a vertex give way to one
-  pub middle_left : (c0 c1 c2 : Contents V D U F) (out lost : ℕ) → IsMeshWithData c0
-      → IsMeshWithData c1 → IsMeshWithData c2 → (can : IsPassable c0.mesh (rev out))
-      → lost ≡ next c0.mesh (rev out) → c1 ≡ record c0 { mesh = c1.mesh }
-      → Passes c0.mesh c1.mesh (rev out) (rev (next c0.mesh (rev out))) (next c0.mesh (rev out))
-      → MovesEdge c0.mesh c1.mesh (rev out) (origin c0.mesh (rev out))
-      (origin c0.mesh (rev (next c0.mesh (rev out))))
-      → c2 ≡ record c1 { mesh = c2.mesh; directed = c2.directed; undirected = c2.undirected }
-      → Removes c1.mesh c2.mesh lost → TakesOut (full_edges c1) (full_edges c2) (lost / 2)
-      → triangles c2.mesh ≡ triangles c1.mesh → LeavesLine c0 c2 (origin c0.mesh out)
-  middle_left c0 c1 c2 out lost w0 w1 w2 can is passed links moves contents r taken same =
+  -- with two edges it is between two neighbours
+  pub is_middle : turn c.mesh o ≢ o → IsMiddle c.mesh o
+  is_middle more = elim (few.few o at) [
+    | inl alone ↦ absurd (more alone)
+    | inr two ↦ record { within = starts.0; one_face = none; two = two.0; corners = two.1 }
+  ]
+
+-- a vertex gives way to an edge between its two neighbours
+module _ {V D U F : Type 0} {c0 c1 : Contents V D U F} {out left : ℕ}
+    (middle : IsMiddle c0.mesh out) (p : PassesVertex c0 c1 out left) where
+  can : IsPassable c0.mesh (rev out)
+  can = passable p.was.valid.sound middle
+
+  -- once an edge has passed the vertex, the one that is left hanging may be removed
+  pub left_removable : IsRemovable c1.mesh left
+  left_removable = rw p.left_is
+      (removable_hanging c0.mesh c1.mesh (rev out) p.was.valid.sound can p.links)
+
+  -- the edge that is left hanging then has the vertex to itself
+  pub left_hangs : IsPendant c1.mesh left
+  left_hangs = inr (rw p.left_is p.links.next_there)
+
+  -- once that edge is gone, the vertex has left the line
+  pub middle_left : {c2 : Contents V D U F} → RemovesFullEdge c1 c2 left
+      → LeavesLine c0 c2 (origin c0.mesh out)
+  middle_left {c2} r =
       let m = c0.mesh in
       let e : ℕ = rev out in
       let l : ℕ = next m e in
-      let s = w0.valid.sound in
-      let p : IsBeside m e = beside m e s can in
+      let s = p.was.valid.sound in
+      let b : IsBeside m e = beside m e s can in
+      let passed = p.contents in
+      let links = p.links in
       let us_is : c1.undirected ≡ c0.undirected =
       ap (λ (x : Contents V D U F). x.undirected) passed in
       let ds_is : c1.directed ≡ c0.directed = ap (λ (x : Contents V D U F). x.directed) passed in
       let mid_is : full_edges c1 ≡ full_edges_of (ends c1.mesh) c0.undirected c0.directed =
       λ i. full_edges_of (ends c1.mesh) (us_is i) (ds_is i) in
       let taken' : TakesOut (full_edges_of (ends c1.mesh) c0.undirected c0.directed) (full_edges c2)
-      (l / 2) = rw (mid_is, is) at taken in
-      let j = are_joined c0 c2 c1.mesh e w0 can moves taken' in
+      (l / 2) = rw (mid_is, p.left_is) at r.taken in
+      let j = are_joined c0 c2 c1.mesh e p.was can p.ends taken' in
       let u : ℕ = origin m e in
       let w : ℕ = origin m (rev l) in
       let v_is : origin m (rev e) ≡ origin m out = ap (origin m) (rev-rev out) in
-      let r' : Removes c1.mesh c2.mesh l = rw is at r in
-      let gone = alone_after c1.mesh c2.mesh l w1.valid.sound
+      let r' : Removes c1.mesh c2.mesh l = rw p.left_is at r.removes in
+      let gone = alone_after c1.mesh c2.mesh l p.whole.valid.sound
       (removable_hanging m c1.mesh e s can links) links.next_there r' in
       let at_v : origin c1.mesh l ≡ origin m out =
-      links.other_origins l p.back_in p.back-twin ∙ p.start ∙ v_is in
-      let none : triangles c2.mesh ≡ triangles m = same ∙ ap (map (triangle_at c1.mesh))
+      links.other_origins l b.back_in b.back-twin ∙ b.start ∙ v_is in
+      let none : triangles c2.mesh ≡ triangles m = r.triangles ∙ ap (map (triangle_at c1.mesh))
       (links.face_edges ∙ can.one_face) ∙ sym (ap (map (triangle_at m)) can.one_face) in
       let joined : JoinsNeighbours c0 c2 (origin m out) u w = rw v_is at j in
       record {
-        contents = contents ∙ ap (λ (x : Contents V D U F). record x
+        contents = r.contents ∙ ap (λ (x : Contents V D U F). record x
             { mesh = c2.mesh; directed = c2.directed; undirected = c2.undirected }) passed;
         alone = rw at_v at gone;
         how = inr (inr (
@@ -330,6 +354,6 @@ module _ {V D U F : Type 0} where
           w,
           can.corners,
           joined,
-          outer_joined c0 c2 (origin m out) u w w0 w2 none joined,
+          outer_joined c0 c2 (origin m out) u w p.was r.whole none joined,
         ));
       }

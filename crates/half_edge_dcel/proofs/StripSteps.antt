@@ -1,7 +1,6 @@
 -- A vertex on the hull loses its faces one by one.
 -- Notions: IsStripped; same_but, same_but_faces, same_but_edges, one_more_gone, none_gone,
--- stripped_none, stripped_next, strip_sum, stripped_inner, stripped_peelable, stripped_removable,
--- strip_lost.
+-- stripped_none, strip_sum, stripped_peelable, stripped_next, stripped_removable, strip_lost.
 use Rattle.std.proofs.Common.{◌≡◌, ◌+◌, ◌<◌, ◌≤◌, [], ◌∷◌, ◌++◌, ◌∙◌}
 use Rattle.std.proofs.Common.{ℕ, zero, suc, List, refl, sym, ap, inr, arith}
 use Rattle.std.specs.Prelude.{ℤ, pos, ◌+ℤ◌}
@@ -10,13 +9,13 @@ use Rattle.std.specs.List.Sorted.{IsPermutation}
 use Rattle.std.proofs.lemmas.Int.{ints}
 use Rattle.std.proofs.lemmas.List.Sorted.{IsPermutation-refl, IsPermutation-trans}
 use Rattle.std.proofs.lemmas.List.Sorted.{IsPermutation-append_right, IsPermutation-middle}
-use Rattle.half_edge_links.specs.Hull.{KeepsOneOutline, IsPendant}
+use Rattle.half_edge_links.specs.Hull.{KeepsOneOutline}
 use Rattle.half_edge_links.specs.Flow.{total, around, along, both_ways, outline}
-use Rattle.half_edge_links.specs.Mesh.{Mesh, origin, prev, face, rev, IsValidMesh}
-use Rattle.half_edge_links.specs.Peel.{IsStrip, IsPeelable, Peels, turn}
-use Rattle.half_edge_links.specs.Remove.{Removes, IsRemovable, after_removal}
+use Rattle.half_edge_links.specs.Mesh.{Mesh, origin, prev, rev}
+use Rattle.half_edge_links.specs.Peel.{IsStrip, IsPeelable}
+use Rattle.half_edge_links.specs.Remove.{IsRemovable}
 use Rattle.half_edge_links.specs.Round.{neighbour}
-use Rattle.half_edge_links.specs.Triangles.{triangles, triangle_at}
+use Rattle.half_edge_links.specs.Triangles.{triangle_at}
 use Rattle.half_edge_links.proofs.Removing.Conditions.{IsFullStrip, full_strip}
 use Rattle.half_edge_links.proofs.Lists.Rev.{rev-rev}
 use Rattle.half_edge_links.proofs.Removing.StripLemmas.{strip_from, strip_ends, one_more}
@@ -26,6 +25,7 @@ use Rattle.half_edge_dcel.specs.Growth.{joins}
 use Rattle.half_edge_dcel.specs.Removal.{Connects, HasCorners, LosesEdges, LosesFaces, LosesStrip}
 use Rattle.half_edge_dcel.specs.Removal.{OuterSumsChange, full_edges, full_faces, full_faces_of}
 use Rattle.half_edge_dcel.specs.Removal.{spokes_to, faces_between, chain}
+use Rattle.half_edge_dcel.specs.Taking.{PeelsFullEdge, RemovesFullEdge}
 use Rattle.half_edge_dcel.proofs.LineSteps.{alone_after}
 use Rattle.half_edge_dcel.proofs.OuterSums.{ends_sum, corners_sum, outer_sum}
 
@@ -89,11 +89,15 @@ pub record IsStripped {V D U F : Type 0} (old : Contents V D U F) (first count :
   pub edges : LosesEdges old c (spokes_to (origin old.mesh first) (neighbour old.mesh first) gone)
   pub faces :
       LosesFaces old c (faces_between (origin old.mesh first) (neighbour old.mesh first) gone)
+  pub contents : KeepsVertices old c
+  pub outline : KeepsOneOutline old.mesh c.mesh
+  pub was : IsMeshWithData old
+  pub whole : IsMeshWithData c
 
 -- before the first step no face of a strip has gone
-pub stripped_none : {V D U F : Type 0} (c : Contents V D U F) (h count : ℕ) → IsStrip c.mesh h count
-    → IsStripped c h count c h 0
-stripped_none c h count f = record {
+pub stripped_none : {V D U F : Type 0} {c : Contents V D U F} {h count : ℕ} → IsMeshWithData c
+    → IsStrip c.mesh h count → IsStripped c h count c h 0
+stripped_none {c} {h} {count} whole f = record {
   left = count;
   sum = omega arith;
   strip = f;
@@ -101,58 +105,11 @@ stripped_none c h count f = record {
   ends_at = λ i less. ap (neighbour c.mesh h) (let e : i ≡ 0 + i = omega arith in e);
   edges = none_gone Connects (full_edges c);
   faces = none_gone HasCorners (full_faces c);
+  contents = refl;
+  outline = λ one. one;
+  was = whole;
+  whole = whole;
 }
-
-module _ {V D U F : Type 0} (old c new : Contents V D U F) (first count h g gone : ℕ)
-    (valid : IsValidMesh c.mesh) (f : IsStripped old first count c h gone) (some : 0
-    < face c.mesh h) (p : Peels c.mesh new.mesh h) (is : g ≡ after_removal c.mesh h (turn c.mesh h))
-    (edges : LosesEdges c new (joins (origin c.mesh h) (origin c.mesh (rev h)) ∷ []))
-    (faces : LosesFaces c new (triangle_at c.mesh h ∷ [])) where
-  abbrev m : Mesh
-  m = c.mesh
-
-  abbrev v : ℕ
-  v = origin old.mesh first
-
-  -- the neighbours that the vertex had
-  abbrev n : ℕ → ℕ
-  n = neighbour old.mesh first
-
-  end_is : origin m (rev h) ≡ n gone
-  end_is = f.ends_at 0 (omega arith) ∙ ap n (let e : gone + 0 ≡ gone = omega arith in e)
-
-  -- for the next count of a loop
-  pub stripped_next : (next_gone : ℕ) → next_gone ≡ suc gone
-      → IsStripped old first count new g next_gone
-  stripped_next next_gone more =
-      let j = one_more m h f.left f.strip some in
-      let full : IsFullStrip m h (suc j.0) = full_strip m h (suc j.0) valid (rw j.1 at f.strip) in
-      let after = strip_ends m new.mesh h j.0 g valid.sound full p is in
-      let here = valid.sound.edges h f.strip.within in
-      let next_end : origin m (prev m h) ≡ n (suc gone) =
-      ap (origin m) (sym (rev-rev (prev m h))) ∙ f.ends_at 1 (omega (arith, j.1))
-      ∙ ap n (let e : gone + 1 ≡ suc gone = omega arith in e) in
-      let spoke_is : joins (origin m h) (origin m (rev h)) ≡ joins v (n gone) =
-      λ i. joins (f.start i) (end_is i) in
-      let face_is : triangle_at m h
-      ≡ record { first = v; second = n gone; third = n (suc gone) } = λ i. record {
-        first = f.start i;
-        second = (here.starts ∙ end_is) i;
-        third = next_end i;
-      } in
-      rw more (record {
-        left = j.0;
-        sum = omega (arith, f.sum, j.1);
-        strip = (strip_from m new.mesh h j.0 g valid.sound full p is).strip;
-        start = after.0 ∙ f.start;
-        ends_at = λ i less. after.1 i less ∙ f.ends_at (suc i) (omega (arith, less, j.1))
-            ∙ ap n (let e : gone + suc i ≡ suc gone + i = omega arith in e);
-        edges = one_more_gone Connects (full_edges old) (full_edges c) (full_edges new) _
-            (joins v (n gone)) f.edges (rw spoke_is at edges);
-        faces = one_more_gone HasCorners (full_faces old) (full_faces c) (full_faces new) _
-            (record { first = v; second = n gone; third = n (suc gone) }) f.faces
-            (rw face_is at faces);
-      })
 
 -- ---- the outer edges
 module _ (f : ℕ → ℕ → ℤ) (v : ℕ) (n : ℕ → ℕ) where
@@ -176,53 +133,93 @@ outer_stripped old new v n k a b edges faces f =
     (omega (arith, ints, es)) (omega (arith, ints, ts)) in
     omega (arith, ints, o, strip_sum f v n k)
 
--- ---- what the steps ask for, and the end
-module _ {V D U F : Type 0} (old c : Contents V D U F) (first count h gone : ℕ)
+-- ---- the steps, and what they ask for
+module _ {V D U F : Type 0} {old c : Contents V D U F} {first count h gone : ℕ}
     (f : IsStripped old first count c h gone) where
-  -- as long as faces are left, the next edge has an inner face
-  pub stripped_inner : gone < count → 0 < face c.mesh h
-  stripped_inner less = f.strip.inner 0 (omega (arith, f.sum, less))
+  abbrev m : Mesh
+  m = c.mesh
+
+  abbrev v : ℕ
+  v = origin old.mesh first
+
+  -- the neighbours that the vertex had
+  abbrev n : ℕ → ℕ
+  n = neighbour old.mesh first
+
+  end_is : origin m (rev h) ≡ n gone
+  end_is = f.ends_at 0 (omega arith) ∙ ap n (let e : gone + 0 ≡ gone = omega arith in e)
+
+  spoke_is : joins (origin m h) (origin m (rev h)) ≡ joins v (n gone)
+  spoke_is = λ i. joins (f.start i) (end_is i)
 
   -- as long as faces are left, the next edge may be peeled off
-  pub stripped_peelable : gone < count → IsPeelable c.mesh h
-  stripped_peelable less =
-      record { within = f.strip.within; inner = stripped_inner less; outer = f.strip.outer }
+  pub stripped_peelable : gone < count → IsPeelable m h
+  stripped_peelable less = record {
+    within = f.strip.within;
+    inner = f.strip.inner 0 (omega (arith, f.sum, less));
+    outer = f.strip.outer;
+  }
 
-  all_gone : gone ≡ count → IsStrip c.mesh h 0
+  -- one more face goes, for the next count of a loop
+  pub stripped_next : {new : Contents V D U F} {g next_gone : ℕ} → gone < count
+      → PeelsFullEdge c new h g → next_gone ≡ suc gone → IsStripped old first count new g next_gone
+  stripped_next {new} {g} less p more =
+      let s = f.whole.valid.sound in
+      let j = one_more m h f.left f.strip (stripped_peelable less).inner in
+      let full : IsFullStrip m h (suc j.0) =
+      full_strip m h (suc j.0) f.whole.valid (rw j.1 at f.strip) in
+      let after = strip_ends m new.mesh h j.0 g s full p.peels p.spoke in
+      let next_end : origin m (prev m h) ≡ n (suc gone) =
+      ap (origin m) (sym (rev-rev (prev m h))) ∙ f.ends_at 1 (omega (arith, j.1))
+      ∙ ap n (let e : gone + 1 ≡ suc gone = omega arith in e) in
+      let face_is : triangle_at m h
+      ≡ record { first = v; second = n gone; third = n (suc gone) } = λ i. record {
+        first = f.start i;
+        second = ((s.edges h f.strip.within).starts ∙ end_is) i;
+        third = next_end i;
+      } in
+      rw more (record {
+        left = j.0;
+        sum = omega (arith, f.sum, j.1);
+        strip = (strip_from m new.mesh h j.0 g s full p.peels p.spoke).strip;
+        start = after.0 ∙ f.start;
+        ends_at = λ i less. after.1 i less ∙ f.ends_at (suc i) (omega (arith, less, j.1))
+            ∙ ap n (let e : gone + suc i ≡ suc gone + i = omega arith in e);
+        edges = one_more_gone Connects (full_edges old) (full_edges c) (full_edges new) _
+            (joins v (n gone)) f.edges (rw spoke_is at p.edges);
+        faces = one_more_gone HasCorners (full_faces old) (full_faces c) (full_faces new) _
+            (record { first = v; second = n gone; third = n (suc gone) }) f.faces
+            (rw face_is at p.faces);
+        contents = same_but old c new f.contents p.contents;
+        outline = λ one. p.outline (f.outline one);
+        was = f.was;
+        whole = p.whole;
+      })
+
+  all_gone : gone ≡ count → IsStrip m h 0
   all_gone is = rw (let e : 0 ≡ f.left = omega (arith, f.sum, is) in e) f.strip
 
   -- once all faces are gone, the last edge may be removed
-  pub stripped_removable : gone ≡ count → IsRemovable c.mesh h
-  stripped_removable is = removable_strip c.mesh h (all_gone is)
+  pub stripped_removable : gone ≡ count → IsRemovable m h
+  stripped_removable is = removable_strip m h (all_gone is)
 
   -- once the last edge is removed too, the vertex has lost its edges and the faces of the strip
-  pub strip_lost : (new : Contents V D U F) → gone ≡ count → IsMeshWithData old → IsMeshWithData c
-      → IsMeshWithData new → KeepsVertices old c → KeepsOneOutline old.mesh c.mesh
-      → new ≡ record c { mesh = new.mesh; directed = new.directed; undirected = new.undirected }
-      → Removes c.mesh new.mesh h
-      → LosesEdges c new (joins (origin c.mesh h) (origin c.mesh (rev h)) ∷ []) → triangles new.mesh
-      ≡ triangles c.mesh → (IsPendant c.mesh h → KeepsOneOutline c.mesh new.mesh)
-      → LosesStrip old new (origin old.mesh first) (neighbour old.mesh first) count
-  strip_lost new is w wc wn same outline contents r edges triangles_are last_outline =
-      let v : ℕ = origin old.mesh first in
-      let n : ℕ → ℕ = neighbour old.mesh first in
-      let end_is : origin c.mesh (rev h) ≡ n count =
-      f.ends_at 0 (omega arith) ∙ ap n (let e : gone + 0 ≡ count = omega (arith, is) in e) in
-      let spoke_is : joins (origin c.mesh h) (origin c.mesh (rev h)) ≡ joins v (n count) =
-      λ i. joins (f.start i) (end_is i) in
+  pub strip_lost : {new : Contents V D U F} → gone ≡ count → RemovesFullEdge c new h
+      → LosesStrip old new v n count
+  strip_lost {new} is r =
       let all = one_more_gone Connects (full_edges old) (full_edges c) (full_edges new) _
-      (joins v (n count)) (rw is at f.edges) (rw spoke_is at edges) in
-      let fs_is : new.faces ≡ c.faces = ap (λ (x : Contents V D U F). x.faces) contents in
+      (joins v (n count)) (rw is at f.edges) (rw is at (rw spoke_is at r.edges)) in
+      let fs_is : new.faces ≡ c.faces = ap (λ (x : Contents V D U F). x.faces) r.contents in
       let faces_are : full_faces new ≡ full_faces c =
-      λ i. full_faces_of (triangles_are i) (fs_is i) in
+      λ i. full_faces_of (r.triangles i) (fs_is i) in
       let faces : LosesFaces old new (faces_between v n count) = rw faces_are (rw is at f.faces) in
-      let gone_at = alone_after c.mesh new.mesh h wc.valid.sound (stripped_removable is)
-      ((all_gone is).gap) r in
+      let gone_at = alone_after m new.mesh h f.whole.valid.sound (stripped_removable is)
+      ((all_gone is).gap) r.removes in
       record {
-        contents = same_but old c new same (same_but_edges c new contents);
+        contents = same_but old c new f.contents (same_but_edges c new r.contents);
         alone = rw f.start at gone_at;
         edges = all;
         faces = faces;
-        outer = outer_stripped old new v n count w wn all faces;
-        outline = λ one. last_outline (inr (all_gone is).gap) (outline one);
+        outer = outer_stripped old new v n count f.was r.whole all faces;
+        outline = λ one. r.outline (inr (all_gone is).gap) (f.outline one);
       }

@@ -5,7 +5,7 @@ use Rattle.std.proofs.Common.{◌≡◌, ◌+◌, ◌-◌, ◌*◌, ◌/◌, ◌
 use Rattle.std.proofs.Common.{ℕ, List, length, get_or, refl, sym, ap, inl, inr, arith}
 use Rattle.std.proofs.lemmas.Bool.{cases_eq}
 use Rattle.std.proofs.lemmas.List.{length-map, get_or-map}
-use Rattle.std.specs.List.{AllZip}
+use Rattle.std.specs.List.{AllZip, swap_remove}
 use Rattle.std.specs.List.Sorted.{IsPermutation}
 use Rattle.half_edge_links.specs.Mesh.{Mesh, origin, next, prev, face, face_edge, rev}
 use Rattle.half_edge_links.specs.Mesh.{AreSoundLinks, IsInner}
@@ -63,24 +63,26 @@ module _ {D U : Type 0} (m new : Mesh) (us us' : List U) (ds ds' : List D) (e : 
       ]
 
   -- the edge goes from the list of edges with their data, and the last one takes its place
-  pub takes_edge : RemovesEnds m new e → TakesOut us us' k → TakesOutPair ds ds' k
+  pub takes_edge : RemovesEnds m new e → (x : U) → us' ≡ swap_remove us k x → TakesOutPair ds ds' k
       → TakesOut (full_edges_of (ends m) us ds) (full_edges_of (ends new) us' ds') k
-  takes_edge r tu td =
+  takes_edge r x us_are td =
       let n = count_ends m s in
       let even = s.even in
+      let tu : TakesOut us us' k =
+      rw us_are (takes_out us k x (omega (arith, undirected_fit, within, even))) in
       let te : TakesOut (ends m) (ends new) k =
       rw r (takes_out (ends m) k no_ends (omega (arith, n, within, even))) in
       full_edges_taken (ends m) (ends new) us us' ds ds' k (omega (arith, n, undirected_fit))
       (omega (arith, n, directed_fit)) te tu td
 
   -- the edges with their data are the former ones but for one with the ends of e, in some order
-  pub loses_edge : RemovesEnds m new e → TakesOut us us' k → TakesOutPair ds ds' k
+  pub loses_edge : TakesOut (full_edges_of (ends m) us ds) (full_edges_of (ends new) us' ds') k
       → (lost : List (FullEdge D U))
       × AllZip Connects lost (joins (origin m e) (origin m (rev e)) ∷ [])
       × IsPermutation (full_edges_of (ends m) us ds) (lost ++ full_edges_of (ends new) us' ds')
-  loses_edge r tu td =
-      let x = taken_item (full_edges_of (ends m) us ds) (full_edges_of (ends new) us' ds') k
-      (takes_edge r tu td) in
+  loses_edge taken =
+      let x = taken_item (full_edges_of (ends m) us ds) (full_edges_of (ends new) us' ds') k taken
+      in
       (x.0 ∷ [], (between x.0 x.1, tt), x.2)
 
 -- the corners of a face, from the edge on that it names
@@ -119,10 +121,12 @@ listed_face m fs f fits inner d =
 
 module _ {F : Type 0} (m new : Mesh) (fs fs' : List F) (f : ℕ) (s : AreSoundLinks m)
     (fits : length fs ≡ length m.face_edges) (inner : IsInner m f) where
-  face_taken : RemovesTriangle m new f → TakesOut fs fs' (f - 1)
+  face_taken : RemovesTriangle m new f → (x : F) → fs' ≡ swap_remove fs (f - 1) x
       → TakesOut (full_faces_of (triangles m) fs) (full_faces_of (triangles new) fs') (f - 1)
-  face_taken r tf =
+  face_taken r x fs_are =
       let n = length-map m.face_edges (triangle_at m) in
+      let tf : TakesOut fs fs' (f - 1) =
+      rw fs_are (takes_out fs (f - 1) x (omega (arith, fits, inner.0, inner.1))) in
       let within : f - 1 < length (triangles m) = omega (arith, n, inner.0, inner.1) in
       let tt' : TakesOut (triangles m) (triangles new) (f - 1) =
       rw r (takes_out (triangles m) (f - 1) no_triangle within) in
@@ -130,28 +134,29 @@ module _ {F : Type 0} (m new : Mesh) (fs fs' : List F) (f : ℕ) (s : AreSoundLi
 
   -- the faces with their data are the former ones but for face f with its value, in some order
   pub gives_face : (value : F) → value ≡ get_or fs (f - 1) value → RemovesTriangle m new f
-      → TakesOut fs fs' (f - 1)
+      → fs' ≡ swap_remove fs (f - 1) value
       → IsPermutation (full_faces_of (triangles m) fs)
       (record { corners = triangle_at m (face_edge m f); value = value }
       ∷ full_faces_of (triangles new) fs')
-  gives_face value is r tf =
+  gives_face value is r fs_are =
       let x : FullFace F = record { corners = triangle_at m (face_edge m f); value = value } in
       permuted (full_faces_of (triangles m) fs) (full_faces_of (triangles new) fs') (f - 1) x
-      (face_taken r tf) (ap (λ v. record { corners = triangle_at m (face_edge m f); value = v })
-      is ∙ sym (listed_face m fs f fits inner x))
+      (face_taken r value fs_are)
+      (ap (λ v. record { corners = triangle_at m (face_edge m f); value = v }) is
+      ∙ sym (listed_face m fs f fits inner x))
 
 -- the face on the left of an edge goes
 pub loses_face_at : {F : Type 0} (m new : Mesh) (fs fs' : List F) (h : ℕ) (value : F)
     → AreSoundLinks m → length fs ≡ length m.face_edges → h < length m.half_edges → 0 < face m h
     → value ≡ get_or fs (face m h - 1) value → RemovesTriangle m new (face m h)
-    → TakesOut fs fs' (face m h - 1)
+    → fs' ≡ swap_remove fs (face m h - 1) value
     → (lost : List (FullFace F)) × AllZip HasCorners lost (triangle_at m h ∷ [])
     × IsPermutation (full_faces_of (triangles m) fs) (lost ++ full_faces_of (triangles new) fs')
-loses_face_at {F} m new fs fs' h value s fits within inner is r tf =
+loses_face_at {F} m new fs fs' h value s fits within inner is r fs_are =
     let at : IsInner m (face m h) = (inner, (s.edges h within).face_in) in
     let x : FullFace F =
     record { corners = triangle_at m (face_edge m (face m h)); value = value } in (
       x ∷ [],
       (named_corners m h x s within inner refl, tt),
-      gives_face m new fs fs' (face m h) s fits at value is r tf,
+      gives_face m new fs fs' (face m h) s fits at value is r fs_are,
     )

@@ -2,7 +2,7 @@
 -- lists of edges and faces.
 -- Notions: HasTurned; gone_edge, gone_between, come_edge, come_between, come_data, edges_lose,
 -- edges_gain, come_face, come_corners, faces_gain, come_at, fewer_there, turned_none, value_at,
--- turned_next, turned_first, turned_second, turned_corners, turned_wheel.
+-- turned_next, turned_can, turned_wheel.
 use Rattle.std.proofs.Common.{◌≡◌, ◌≢◌, ◌-◌, ◌/◌, ◌<◌, ◌≤◌, ◌∷◌, ◌∙◌, ◌+◌, [], ◌++◌}
 use Rattle.std.proofs.Common.{ℕ, zero, suc, true, false, not, List, length, set, get_or, refl, sym}
 use Rattle.std.proofs.Common.{ap, inl, inr, arith, subst}
@@ -34,7 +34,8 @@ use Rattle.half_edge_dcel.specs.Removal.{full_edges_of, full_faces, full_faces_o
 use Rattle.half_edge_dcel.proofs.TakenEdges.{listed_face, between, named_corners}
 use Rattle.half_edge_dcel.proofs.TakenOut.{length-full_edges, get_or-full_faces}
 use Rattle.half_edge_dcel.proofs.TwoEdges.{item_at}
-use Rattle.half_edge_dcel.specs.Hole.{IsHub, HasDataOf, HasFreeTip, fan_edges, fan_faces}
+use Rattle.half_edge_dcel.specs.Hole.{CanTurnAway, IsHub, HasDataOf, HasFreeTip, TurnsAway}
+use Rattle.half_edge_dcel.specs.Hole.{fan_edges, fan_faces}
 use Rattle.half_edge_dcel.proofs.Outlines.{listed, passed_over}
 use Rattle.half_edge_dcel.proofs.Filtered.{filter_gains, filter_loses, filter_stays}
 use Rattle.half_edge_dcel.proofs.Filtered.{Contains-filter}
@@ -356,6 +357,10 @@ same_outline m new o count = ap (outer_among new) count
 -- a vertex with k faces round it from edge o on has lost so many of its edges, from the second on,
 -- and their faces with the vertex; those that are left follow each other as before
 pub record HasTurned {V D U F : Type 0} (old c : Contents V D U F) (o k turned : ℕ) : Type 0 where
+  pub was : IsMeshWithData old
+  pub whole : IsMeshWithData c
+  pub round : IsHub old.mesh o k
+  pub free : HasFreeTip (neighbour old.mesh o) k
   pub left : ℕ
   pub sum : turned + left ≡ k
   pub hub : IsHub c.mesh o left
@@ -388,9 +393,13 @@ pub record HasTurned {V D U F : Type 0} (old c : Contents V D U F) (o k turned :
       (get_or (full_faces old) i (no_face_of (origin old.mesh o) old.outer)) ≡ true
 
 -- before the first step no edge is turned away from the vertex
-pub turned_none : {V D U F : Type 0} (c : Contents V D U F) (o k : ℕ) → IsHub c.mesh o k
-    → HasTurned c c o k 0
-turned_none c o k w = record {
+pub turned_none : {V D U F : Type 0} {c : Contents V D U F} {o k : ℕ} → IsMeshWithData c
+    → IsHub c.mesh o k → HasFreeTip (neighbour c.mesh o) k → HasTurned c c o k 0
+turned_none {c} {o} {k} whole w free = record {
+  was = whole;
+  whole = whole;
+  round = w;
+  free = free;
   left = k;
   sum = omega arith;
   hub = w;
@@ -434,8 +443,7 @@ grows_by : {X : Type 0} (xs ys zs ws : List X) (x : X) → IsPermutation xs (x �
     → IsPermutation ys (zs ++ ws) → IsPermutation xs ((x ∷ zs) ++ ws)
 grows_by xs ys zs ws x p q = IsPermutation-trans _ _ _ p (IsPermutation-cons x _ _ q)
 
-module _ {V D U F : Type 0} (old c : Contents V D U F) (o k turned : ℕ) (whole_old :
-    IsMeshWithData old) (whole : IsMeshWithData c) (tip : HasFreeTip (neighbour old.mesh o) k)
+module _ {V D U F : Type 0} {old c : Contents V D U F} {o k turned : ℕ}
     (f : HasTurned old c o k turned) (more : turned + 3 < k) where
   abbrev v : ℕ
   v = origin old.mesh o
@@ -463,7 +471,8 @@ module _ {V D U F : Type 0} (old c : Contents V D U F) (o k turned : ℕ) (whole
 
   -- the first neighbour is still none of those that it gets an edge to
   free : HasFreeTip (neighbour c.mesh o) (suc l)
-  free i some less q = tip (turned + i) (omega (arith, some)) (omega (arith, less, f.sum, left_is))
+  free i some less q =
+      f.free (turned + i) (omega (arith, some)) (omega (arith, less, f.sum, left_is))
       (sym (end_at i (turned + i) (omega (arith, some)) (omega (arith, less)) refl) ∙ q ∙ f.tip)
 
   first_is : neighbour c.mesh o 1 ≡ n (suc turned)
@@ -472,44 +481,40 @@ module _ {V D U F : Type 0} (old c : Contents V D U F) (o k turned : ℕ) (whole
   next_is : neighbour c.mesh o 2 ≡ n (suc (suc turned))
   next_is = end_at 2 (suc (suc turned)) (omega arith) (omega (arith, many)) (omega arith)
 
-  module _ (new : Contents V D U F) (flip : Flips c.mesh new.mesh (turn c.mesh o)) (same : new
-      ≡ record c { mesh = new.mesh }) (ends_are : MovesEdge c.mesh new.mesh (turn c.mesh o) (origin
-      c.mesh (prev c.mesh (turn c.mesh o))) (origin c.mesh (prev c.mesh (rev (turn c.mesh o)))))
-      (faces_are : FlipsTriangles c.mesh new.mesh (turn c.mesh o)) (outer :
-      KeepsOuter c.mesh new.mesh) (outline_kept : KeepsOneOutline c.mesh new.mesh) where
+  module _ {new : Contents V D U F} (t : TurnsAway c new o) where
     -- a face to read where a list has none
     abbrev d : FullFace F
     d = no_face_of v old.outer
 
     -- the edge that the turn takes away from the vertex, with its data
     gone : FullEdge D U
-    gone = gone_edge c new o l v (n 0) (n (suc turned)) (n (suc (suc turned))) whole w
-        (omega (arith, many)) f.start f.tip first_is next_is same
+    gone = gone_edge c new o l v (n 0) (n (suc turned)) (n (suc (suc turned))) f.whole w
+        (omega (arith, many)) f.start f.tip first_is next_is t.contents
 
     -- the edge that it becomes
     come : FullEdge D U
-    come = come_edge c new o l v (n 0) (n (suc turned)) (n (suc (suc turned))) whole w
-        (omega (arith, many)) f.start f.tip first_is next_is same
+    come = come_edge c new o l v (n 0) (n (suc turned)) (n (suc (suc turned))) f.whole w
+        (omega (arith, many)) f.start f.tip first_is next_is t.contents
 
     come_f : FullFace F
-    come_f = come_face c new o l v (n 0) (n (suc turned)) (n (suc (suc turned))) whole w
-        (omega (arith, many)) f.start f.tip first_is next_is same d faces_are
+    come_f = come_face c new o l v (n 0) (n (suc turned)) (n (suc (suc turned))) f.whole w
+        (omega (arith, many)) f.start f.tip first_is next_is t.contents d t.triangles
 
     come_f_former : (g : FullFace F) × Contains (filter (has_corner v) (full_faces old)) g
         × (come_f.value ≡ g.value)
     unfolding come_f
     come_f_former =
         let a : ℕ = face c.mesh (turn c.mesh o) - 1 in
-        let at = come_at c new o l v (n 0) (n (suc turned)) (n (suc (suc turned))) whole w
-        (omega (arith, many)) f.start f.tip first_is next_is same d faces_are in
+        let at = come_at c new o l v (n 0) (n (suc turned)) (n (suc (suc turned))) f.whole w
+        (omega (arith, many)) f.start f.tip first_is next_is t.contents d t.triangles in
         let fs : c.faces ≡ old.faces = ap (λ (x : Contents V D U F). x.faces) f.contents in
-        let long = count_faces c.mesh c.faces whole.fits.faces_fit in
-        let long_old = count_faces old.mesh old.faces whole_old.fits.faces_fit in
+        let long = count_faces c.mesh c.faces f.whole.fits.faces_fit in
+        let long_old = count_faces old.mesh old.faces f.was.fits.faces_fit in
         let counts : length c.faces ≡ length old.faces = ap length fs in
         let inside : a < length (full_faces old) = omega
-        (arith, at.0, long, long_old, counts, whole.fits.faces_fit, whole_old.fits.faces_fit) in
-        let value_is = at.2 ∙ value_at c whole a d at.0 ∙ ap (λ xs. get_or xs a d.value) fs
-        ∙ sym (value_at old whole_old a d inside) in (
+        (arith, at.0, long, long_old, counts, f.whole.fits.faces_fit, f.was.fits.faces_fit) in
+        let value_is = at.2 ∙ value_at c f.whole a d at.0 ∙ ap (λ xs. get_or xs a d.value) fs
+        ∙ sym (value_at old f.was a d inside) in (
           get_or (full_faces old) a d,
           Contains-filter (has_corner v) (full_faces old) _
               (Contains-get_or (full_faces old) a d inside) (f.corners a at.1),
@@ -517,48 +522,54 @@ module _ {V D U F : Type 0} (old c : Contents V D U F) (o k turned : ℕ) (whole
         )
 
     -- for the next count of a loop
-    pub turned_next : (next_turned : ℕ) → next_turned ≡ suc turned
+    pub turned_next : {next_turned : ℕ} → next_turned ≡ suc turned
         → HasTurned old new o k next_turned
     unfolding gone come come_f
-    turned_next next_turned counted = rw counted (record {
+    turned_next counted = rw counted (record {
+      was = f.was;
+      whole = t.whole;
+      round = f.round;
+      free = f.free;
       left = l;
       sum = omega (arith, f.sum, left_is);
-      hub = hub_after c.mesh o l whole.valid w (omega (arith, many)) free new.mesh flip many;
-      start = start_after c.mesh o l whole.valid w (omega (arith, many)) free new.mesh flip many
-          ∙ f.start;
+      hub = hub_after c.mesh o l f.whole.valid w (omega (arith, many)) free new.mesh t.flips many;
+      start = start_after c.mesh o l f.whole.valid w (omega (arith, many)) free new.mesh t.flips
+          many ∙ f.start;
       tip =
-          tip_after c.mesh o l whole.valid w (omega (arith, many)) free new.mesh flip many ∙ f.tip;
-      ends_at = λ i some less. ends_after c.mesh o l whole.valid w
-          (omega (arith, many)) free new.mesh flip many i some less
+          tip_after c.mesh o l f.whole.valid w (omega (arith, many)) free new.mesh t.flips many
+          ∙ f.tip;
+      ends_at = λ i some less. ends_after c.mesh o l f.whole.valid w
+          (omega (arith, many)) free new.mesh t.flips many i some less
           ∙ end_at (suc i) (suc turned + i) (omega arith) (omega (arith, less)) (omega arith);
-      contents = same ∙ ap (λ (x : Contents V D U F). record x { mesh = new.mesh }) f.contents;
-      outer = same_outline c.mesh new.mesh outer flip.edge_count ∙ f.outer;
-      outline = λ one. outline_kept (f.outline one);
+      contents =
+          t.contents ∙ ap (λ (x : Contents V D U F). record x { mesh = new.mesh }) f.contents;
+      outer = same_outline c.mesh new.mesh t.outer t.flips.edge_count ∙ f.outer;
+      outline = λ one. t.outline (f.outline one);
       lost = gone ∷ f.lost;
       lost_are = (
-        gone_between c new o l v (n 0) (n (suc turned)) (n (suc (suc turned))) whole w
-            (omega (arith, many)) f.start f.tip first_is next_is same,
+        gone_between c new o l v (n 0) (n (suc turned)) (n (suc (suc turned))) f.whole w
+            (omega (arith, many)) f.start f.tip first_is next_is t.contents,
         f.lost_are,
       );
       touching = moves_over _ f.lost _ _ gone f.touching
-          (edges_lose c new o l v (n 0) (n (suc turned)) (n (suc (suc turned))) whole w
-          (omega (arith, many)) f.start f.tip first_is next_is same ends_are);
+          (edges_lose c new o l v (n 0) (n (suc turned)) (n (suc (suc turned))) f.whole w
+          (omega (arith, many)) f.start f.tip first_is next_is t.contents t.ends);
       made = come ∷ f.made;
       made_are = (
-        come_between c new o l v (n 0) (n (suc turned)) (n (suc (suc turned))) whole w
-            (omega (arith, many)) f.start f.tip first_is next_is same,
+        come_between c new o l v (n 0) (n (suc turned)) (n (suc (suc turned))) f.whole w
+            (omega (arith, many)) f.start f.tip first_is next_is t.contents,
         f.made_are,
       );
       missing = grows_by _ _ f.made _ come
-          (edges_gain c new o l v (n 0) (n (suc turned)) (n (suc (suc turned))) whole w
-          (omega (arith, many)) f.start f.tip first_is next_is same ends_are) f.missing;
+          (edges_gain c new o l v (n 0) (n (suc turned)) (n (suc (suc turned))) f.whole w
+          (omega (arith, many)) f.start f.tip first_is next_is t.contents t.ends) f.missing;
       former = All-cons
           (λ e. (x : FullEdge D U) × Contains (gone ∷ f.lost) x × HasDataOf e x) come f.made (
             gone,
             (0, omega arith, refl),
             come_data c new o l v (n 0) (n (suc turned)) (n
-                (suc (suc turned))) whole w
-                (omega (arith, many)) f.start f.tip first_is next_is same,
+                (suc (suc turned))) f.whole w
+                (omega (arith, many)) f.start f.tip first_is next_is t.contents,
           )
           (All-weaker (λ e. (x : FullEdge D U) × Contains f.lost x × HasDataOf e x)
           (λ e. (x : FullEdge D U) × Contains (gone ∷ f.lost) x × HasDataOf e x) (λ e h. (
@@ -568,37 +579,42 @@ module _ {V D U F : Type 0} (old c : Contents V D U F) (o k turned : ℕ) (whole
           )) f.made f.former);
       faces = come_f ∷ f.faces;
       faces_are = (
-        come_corners c new o l v (n 0) (n (suc turned)) (n (suc (suc turned))) whole w
-            (omega (arith, many)) f.start f.tip first_is next_is same d faces_are,
+        come_corners c new o l v (n 0) (n (suc turned)) (n (suc (suc turned))) f.whole w
+            (omega (arith, many)) f.start f.tip first_is next_is t.contents d t.triangles,
         f.faces_are,
       );
       lacking = grows_by _ _ f.faces _ come_f
-          (faces_gain c new o l v (n 0) (n (suc turned)) (n (suc (suc turned))) whole w
-          (omega (arith, many)) f.start f.tip first_is next_is same d faces_are) f.lacking;
+          (faces_gain c new o l v (n 0) (n (suc turned)) (n (suc (suc turned))) f.whole w
+          (omega (arith, many)) f.start f.tip first_is next_is t.contents d t.triangles) f.lacking;
       former_faces =
           All-cons (λ x. (g : FullFace F) × Contains (filter (has_corner v) (full_faces old)) g
           × (x.value ≡ g.value)) come_f f.faces come_f_former f.former_faces;
       corners =
           λ i is. f.corners i (fewer_there c new o l v (n 0) (n (suc turned)) (n (suc (suc turned)))
-          whole w (omega (arith, many)) f.start f.tip first_is next_is same d faces_are i is);
+          f.whole w (omega (arith, many)) f.start f.tip first_is next_is t.contents d t.triangles i
+          is);
     })
 
 -- ---- what the steps ask for
-module _ {V D U F : Type 0} (old c : Contents V D U F) (o k turned : ℕ)
+module _ {V D U F : Type 0} {old c : Contents V D U F} {o k turned : ℕ}
     (f : HasTurned old c o k turned) where
   -- as long as at least three edges are left, the first one has an inner face
-  pub turned_first : turned + 3 ≤ k → 0 < face c.mesh o
+  turned_first : turned + 3 ≤ k → 0 < face c.mesh o
   turned_first more = f.hub.inner 0 (omega (arith, f.sum, more))
 
   -- as long as at least three edges are left, the second one has an inner face
-  pub turned_second : turned + 3 ≤ k → 0 < face c.mesh (turn c.mesh o)
+  turned_second : turned + 3 ≤ k → 0 < face c.mesh (turn c.mesh o)
   turned_second more = f.hub.inner 1 (omega (arith, f.sum, more))
 
-  -- with a free tip and more than three edges left, the third neighbour is not the first one
-  pub turned_corners : HasFreeTip (neighbour old.mesh o) k → turned + 3 < k
-      → neighbour c.mesh o 2 ≢ neighbour c.mesh o 0
-  turned_corners tip more q = tip (turned + 2) (omega arith) (omega (arith, more))
-      (sym (f.ends_at 2 (omega arith) (omega (arith, f.sum, more))) ∙ q ∙ f.tip)
+  -- as long as more than three edges are left, the second one can be turned away
+  pub turned_can : turned + 3 < k → CanTurnAway c.mesh o
+  turned_can more = record {
+    within = f.hub.within;
+    before = turned_first (omega (arith, more));
+    behind = turned_second (omega (arith, more));
+    corners = λ q. f.free (turned + 2) (omega arith) (omega (arith, more))
+        (sym (f.ends_at 2 (omega arith) (omega (arith, f.sum, more))) ∙ q ∙ f.tip);
+  }
 
   -- once three edges are left, the vertex has three faces round it
   pub turned_wheel : turned + 3 ≡ k → IsWheel c.mesh o

@@ -3,13 +3,14 @@ use Rattle.std.specs.Prelude.{◌≡◌, ◌≢◌, ◌-◌, ◌<◌, ◌≤◌,
 use Rattle.std.specs.Prelude.{ℕ, zero, suc, List, length, slice_index, All, Contains}
 use Rattle.std.specs.List.{AllZip}
 use Rattle.std.specs.List.Sorted.{IsPermutation}
+use Rattle.half_edge_links.specs.Flip.{Flips}
 use Rattle.half_edge_links.specs.Hull.{KeepsOneOutline}
-use Rattle.half_edge_links.specs.Mesh.{Mesh, origin, next, face, IsAlone}
-use Rattle.half_edge_links.specs.Outline.{Ends}
+use Rattle.half_edge_links.specs.Mesh.{Mesh, origin, next, prev, face, rev, IsAlone}
+use Rattle.half_edge_links.specs.Outline.{Ends, KeepsOuter, MovesEdge}
 use Rattle.half_edge_links.specs.Peel.{spoke, turn}
 use Rattle.half_edge_links.specs.Round.{neighbour}
-use Rattle.half_edge_links.specs.Triangles.{Triangle}
-use Rattle.half_edge_dcel.specs.Contents.{Contents}
+use Rattle.half_edge_links.specs.Triangles.{FlipsTriangles, Triangle}
+use Rattle.half_edge_dcel.specs.Contents.{Contents, IsMeshWithData}
 use Rattle.half_edge_dcel.specs.Growth.{joins}
 use Rattle.half_edge_dcel.specs.Removal.{FullEdge, FullFace, Connects, HasCorners, OuterSumsChange}
 use Rattle.half_edge_dcel.specs.Removal.{full_edges, full_faces, spokes_to, faces_between}
@@ -28,6 +29,18 @@ pub record CanTurnAway (m : Mesh) (o : ℕ) : Type 0 where
   pub before : 0 < face m o
   pub behind : 0 < face m (turn m o)
   pub corners : neighbour m o 2 ≢ neighbour m o 0
+
+-- the edge after o round its vertex is turned clockwise, and leaves the vertex; all data stay
+pub record TurnsAway {V D U F : Type 0} (old new : Contents V D U F) (o : ℕ) : Type 0 where
+  pub flips : Flips old.mesh new.mesh (turn old.mesh o)
+  pub contents : new ≡ record old { mesh = new.mesh }
+  pub ends : MovesEdge old.mesh new.mesh (turn old.mesh o)
+      (origin old.mesh (prev old.mesh (turn old.mesh o)))
+      (origin old.mesh (prev old.mesh (rev (turn old.mesh o))))
+  pub triangles : FlipsTriangles old.mesh new.mesh (turn old.mesh o)
+  pub outer : KeepsOuter old.mesh new.mesh
+  pub outline : KeepsOneOutline old.mesh new.mesh
+  pub whole : IsMeshWithData new
 
 -- the first of k vertices round a hole is none of those that it gets an edge to
 abbrev pub HasFreeTip : (ℕ → ℕ) → ℕ → Type 0

@@ -8,4 +8,5 @@ pub mod Hole
 pub mod Mapped
 pub mod Removal
 pub mod Shapes
+pub mod Taking
 pub mod Writing

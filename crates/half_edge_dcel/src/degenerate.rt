@@ -1,12 +1,10 @@
 //! Vertices that go, without edges or from a line.
-ghost use Rattle.std.specs.Prelude.{◌≡◌, ◌≢◌, ◌<◌, length};
+ghost use Rattle.std.specs.Prelude.{◌≡◌, ◌<◌, length};
 ghost use Rattle.half_edge_links.specs.Hull.{KeepsOneOutline};
-ghost use Rattle.half_edge_links.specs.Mesh.{origin, next, prev, rev, IsAlone};
-ghost use Rattle.half_edge_links.specs.Outline.{MovesEdge};
-ghost use Rattle.half_edge_links.specs.Pass.{IsPassable, Passes};
-ghost use Rattle.half_edge_links.specs.Peel.{turn};
+ghost use Rattle.half_edge_links.specs.Mesh.{origin, IsAlone};
 ghost use Rattle.half_edge_dcel.specs.Contents.{IsMeshWithData};
 ghost use Rattle.half_edge_dcel.specs.Removal.{DropsVertex, HasFewEdges, LeavesLine, LeavesMesh};
+ghost use Rattle.half_edge_dcel.specs.Taking.{IsMiddle, PassesVertex};
 
 use crate::dcel::Dcel;
 use half_edge_handles::FixedVertexHandle;
@@ -23,37 +21,29 @@ impl<V, DE, UE, F> Dcel<V, DE, UE, F> {
         self.links.swap_remove_vertex(vertex.index())
     }
 
-    // Lets an edge of a line pass the vertex at its end, and end where the edge after it ends. All
-    // data stay.
-    fn pass(&mut self, edge: u32)
-        requires { IsPassable self.old.mesh edge }
-        ensures contents { self.new ≡ record self.old { mesh = self.new.mesh } }
-        ensures links { let m = self.old.mesh in
-            Passes m self.new.mesh edge (rev (next m edge)) (next m edge) }
-        ensures ends { let m = self.old.mesh in
-            MovesEdge m self.new.mesh edge (origin m edge) (origin m (rev (next m edge))) }
-        ensures outline { KeepsOneOutline self.old.mesh self.new.mesh }
-        ensures whole { IsMeshWithData self.new }
+    // Lets the edge to the vertex where `out` starts pass it, and end at its other neighbour. Gives
+    // the edge from the vertex that is left hanging there.
+    fn pass_vertex(&mut self, out: u32) -> u32
+        requires { IsMiddle self.old.mesh out }
+        ensures { PassesVertex self.old self.new out result }
     {
+        self.recall_invariant();
+        let edge = reversed(out);
+        let left = self.links.next(edge);
         self.links.pass(edge);
+        left
     }
 }
 
 impl<V, DE: Drop, UE: Drop, F> Dcel<V, DE, UE, F> {
     // Joins the two neighbours of the vertex where `out` starts, which keeps no edge.
     fn join_neighbours(&mut self, out: u32)
-        requires within { out < length self.old.directed }
-        requires one_face { length self.old.faces ≡ 0 }
-        requires two { let m = self.old.mesh in turn m (turn m out) ≡ out }
-        requires corners { let m = self.old.mesh in
-            origin m (rev out) ≢ origin m (rev (turn m out)) }
+        requires { IsMiddle self.old.mesh out }
         ensures leaves { LeavesLine self.old self.new (origin self.old.mesh out) }
         ensures outline { KeepsOneOutline self.old.mesh self.new.mesh }
         ensures whole { IsMeshWithData self.new }
     {
-        let edge = reversed(out);
-        let lost = self.links().next(edge);
-        self.pass(edge);
+        let lost = self.pass_vertex(out);
         self.remove_edge(lost);
     }
 
@@ -67,7 +57,7 @@ impl<V, DE: Drop, UE: Drop, F> Dcel<V, DE, UE, F> {
         ensures whole { IsMeshWithData self.new }
     {
         if let Some(out) = self.links().out_edge(vertex) {
-            let other = reversed(self.links().prev(out));
+            let other = self.next_spoke(out);
             if other == out {
                 self.remove_edge(out);
             } else {

@@ -1,20 +1,16 @@
 //! Vertices that lose their edges.
 ghost use Rattle.std.specs.Prelude.{◌≡◌, ◌<◌, ◌≤◌, length};
-ghost use Rattle.half_edge_links.specs.Flip.{Flips};
-ghost use Rattle.half_edge_links.specs.Hull.{KeepsOneOutline};
-ghost use Rattle.half_edge_links.specs.Mesh.{face, origin, prev, rev};
-ghost use Rattle.half_edge_links.specs.Outline.{KeepsOuter, MovesEdge};
+ghost use Rattle.half_edge_links.specs.Mesh.{face, origin, prev};
 ghost use Rattle.half_edge_links.specs.Peel.{IsStrip, IsWheel, turn};
 ghost use Rattle.half_edge_links.specs.Round.{neighbour};
-ghost use Rattle.half_edge_links.specs.Triangles.{FlipsTriangles};
 ghost use Rattle.half_edge_dcel.specs.Contents.{IsMeshWithData};
 ghost use Rattle.half_edge_dcel.specs.Hole.{CanTurnAway, FillsWithFan, HasFreeTip, IsBorder};
-ghost use Rattle.half_edge_dcel.specs.Hole.{IsHub};
+ghost use Rattle.half_edge_dcel.specs.Hole.{IsHub, TurnsAway};
 ghost use Rattle.half_edge_dcel.specs.Removal.{AreSidesOf, FillsHole, LosesStrip, first_spoke};
+ghost use Rattle.half_edge_dcel.specs.Taking.{OpensFullFace};
 
 use crate::dcel::Dcel;
 use half_edge_handles::{FixedDirectedEdgeHandle, FixedVertexHandle};
-use half_edge_links::reversed;
 
 /// A vertex that has lost its edges.
 #[derive(Clone, Copy, PartialEq, Eq, Debug)]
@@ -80,16 +76,17 @@ impl<V, DE, UE, F> Dcel<V, DE, UE, F> {
         }
     }
 
-    // The last of the three faces round a vertex, from `first` on.
-    fn third_face(&self, first: u32) -> u32
-        requires { IsWheel self.now.mesh first }
-        ensures value { let m = self.now.mesh in result ≡ face m (turn m (turn m first)) }
-        ensures whole { IsMeshWithData self.now }
+    // Gives the last of the three faces round a vertex, from `first` on, to the outer one, and its
+    // data back.
+    fn open_third(&mut self, first: u32) -> F
+        requires { IsWheel self.old.mesh first }
+        ensures { let m = self.old.mesh in
+            OpensFullFace self.old self.new (face m (turn m (turn m first))) result }
     {
-        let second = reversed(self.links.prev(first));
-        let third = reversed(self.links.prev(second));
-        self.recall_invariant();
-        self.links.face(third)
+        let second = self.next_spoke(first);
+        let third = self.next_spoke(second);
+        let face = self.links().face(third);
+        self.open_face(face)
     }
 
     // Removes the edges of a vertex with three faces round it, one of them on the left of `first`.
@@ -104,8 +101,7 @@ impl<V, DE, UE, F> Dcel<V, DE, UE, F> {
             FillsHole self.old self.new (origin m first) (neighbour m first) }
         ensures whole { IsMeshWithData self.new }
     {
-        let face = self.third_face(first);
-        let value = self.open_face(face);
+        let value = self.open_third(first);
         let spoke = self.peel(first);
         let pendant = self.peel(spoke);
         let border = self.index_after_removal(pendant);
@@ -116,17 +112,9 @@ impl<V, DE, UE, F> Dcel<V, DE, UE, F> {
     // Turns the edge after `first` round their vertex, so that it leaves the vertex.
     fn turn_away(&mut self, first: u32)
         requires { CanTurnAway self.old.mesh first }
-        ensures flips { let m = self.old.mesh in Flips m self.new.mesh (turn m first) }
-        ensures contents { self.new ≡ record self.old { mesh = self.new.mesh } }
-        ensures ends { let m = self.old.mesh in
-            MovesEdge m self.new.mesh (turn m first) (origin m (prev m (turn m first)))
-            (origin m (prev m (rev (turn m first)))) }
-        ensures triangles { let m = self.old.mesh in FlipsTriangles m self.new.mesh (turn m first) }
-        ensures outer { KeepsOuter self.old.mesh self.new.mesh }
-        ensures outline { KeepsOneOutline self.old.mesh self.new.mesh }
-        ensures whole { IsMeshWithData self.new }
+        ensures { TurnsAway self.old self.new first }
     {
-        let spoke = reversed(self.links.prev(first));
+        let spoke = self.next_spoke(first);
         self.links.flip(spoke);
     }
 

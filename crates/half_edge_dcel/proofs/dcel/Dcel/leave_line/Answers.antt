@@ -1,48 +1,33 @@
-use Rattle.std.proofs.Common.{◌≡◌, sym, inr, rules}
-use Rattle.half_edge_links.specs.Mesh.{Mesh}
-use Rattle.half_edge_links.specs.Peel.{turn}
-use Rattle.half_edge_dcel.proofs.LineSteps.{after_turn, removable_end, no_inner_face, end_left}
+use Rattle.std.proofs.Common.{sym, rules}
+use Rattle.half_edge_dcel.proofs.LineSteps.{end_removable, end_hangs, end_left, is_middle}
 use Rattle.half_edge_dcel.proofs.dcel.Dcel.leave_line.Goals as goal
 
-pub prev-requires : goal.prev-requires
-prev-requires g c =
+pub next_spoke-other-requires : goal.next_spoke-other-requires
+next_spoke-other-requires g c =
     let at = rw c.links.ensures.mesh at (sym c.in-Some.ensures.value) in
-    rw c.links-in-Some.ensures.mesh
     (c.links.ensures.whole.valid.sound.vertices c.args.vertex c.in-Some.out at).0
 
 pub remove_edge-requires : goal.remove_edge-requires
 remove_edge-requires g c =
-    let w = c.links.ensures.whole in
-    let m : Mesh = c.args.self.now.mesh in
     let at = rw c.links.ensures.mesh at (sym c.in-Some.ensures.value) in
-    let before = rw c.links-in-Some.ensures.mesh at c.prev.ensures.value in
-    let alone : turn m c.in-Some.out ≡ c.in-Some.out = search rules in
-    removable_end m c.in-Some.out w.valid (w.valid.sound.vertices c.args.vertex c.in-Some.out at).0
-    (no_inner_face c.args.self.now w c.requires.one_face) alone (c.requires.few.whole _ at)
+    end_removable c.links.ensures.whole c.requires.one_face c.requires.few at (search rules)
 
-pub returns-then-other-out-clause-leaves : goal.returns-then-other-out-clause-leaves
-returns-then-other-out-clause-leaves g c =
-    let w = c.links.ensures.whole in
-    let m : Mesh = c.args.self.now.mesh in
+pub join_neighbours-requires : goal.join_neighbours-requires
+join_neighbours-requires g c =
     let at = rw c.links.ensures.mesh at (sym c.in-Some.ensures.value) in
-    let starts = w.valid.sound.vertices c.args.vertex c.in-Some.out at in
-    let before = rw c.links-in-Some.ensures.mesh at c.prev.ensures.value in
-    let alone : turn m c.in-Some.out ≡ c.in-Some.out = search rules in
-    let can = removable_end m c.in-Some.out w.valid starts.0
-    (no_inner_face c.args.self.now w c.requires.one_face) alone (c.requires.few.whole _ at) in
-    rw starts.1 at (end_left c.args.self.now c.remove_edge.new.self c.in-Some.out w
-    c.remove_edge.ensures.whole alone can c.remove_edge.ensures.contents
-    c.remove_edge.ensures.removes c.remove_edge.ensures.edges c.remove_edge.ensures.triangles)
+    is_middle c.links.ensures.whole c.requires.one_face c.requires.few at (search rules)
 
-pub returns-then-other-out-clause-outline : goal.returns-then-other-out-clause-outline
-returns-then-other-out-clause-outline g c =
-    let w = c.links.ensures.whole in
+pub returns-then-other-out : goal.returns-then-other-out
+returns-then-other-out g c =
+    let whole = c.links.ensures.whole in
+    let few = c.requires.few in
     let at = rw c.links.ensures.mesh at (sym c.in-Some.ensures.value) in
-    let m : Mesh = c.args.self.now.mesh in
-    let before = rw c.links-in-Some.ensures.mesh at c.prev.ensures.value in
-    let alone : turn m c.in-Some.out ≡ c.in-Some.out = search rules in
-    c.remove_edge.ensures.outline (inr (after_turn m c.in-Some.out c.in-Some.out w.valid.sound
-    (w.valid.sound.vertices c.args.vertex c.in-Some.out at).0 alone))
+    let removes = c.remove_edge.ensures in
+    record {
+      leaves = end_left whole c.requires.one_face few at (search rules) removes;
+      outline = removes.outline (end_hangs whole c.requires.one_face few at (search rules));
+      whole = removes.whole;
+    }
 
 pub returns-else-other-out-clause-leaves : goal.returns-else-other-out-clause-leaves
 returns-else-other-out-clause-leaves g c =

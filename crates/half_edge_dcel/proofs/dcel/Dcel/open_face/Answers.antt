@@ -1,23 +1,22 @@
-use Rattle.std.proofs.Common.{◌-◌, arith}
+use Rattle.std.proofs.Common.{arith, rules}
+use Rattle.half_edge_links.specs.Mesh.{Mesh}
 use Rattle.half_edge_dcel.proofs.TakenEdges.{gives_face}
-use Rattle.half_edge_dcel.proofs.TakenOut.{takes_out}
 use Rattle.half_edge_dcel.proofs.dcel.Dcel.open_face.Goals as goal
 
-pub returns-clause-faces : goal.returns-clause-faces
-returns-clause-faces g c =
-    let fits = c.self.invariant.faces_fit in
+pub returns : goal.returns
+returns g c =
+    let fit = c.self.invariant in
+    let links = c.open_face.ensures in
+    let old : Mesh = c.self.inside.links.mesh in
+    let new : Mesh = c.open_face.new.self.mesh in
     let inner = rw (← c.self.view_is) at c.requires in
-    rw (← c.self.view_is)
-    (gives_face c.self.inside.links.mesh c.open_face.new.self.mesh c.self.inside.faces.items
-    c.swap_remove.new.self.items c.args.face c.open_face.ensures.sound fits inner
-    c.swap_remove.result
-    c.swap_remove.ensures.value c.open_face.ensures.opens.corners
-    (rw c.swap_remove.ensures.items
-    (takes_out c.self.inside.faces.items (c.args.face - 1) c.swap_remove.result
-    (omega (arith, fits, inner.0, inner.1)))))
-
-pub returns-clause-opens : goal.returns-clause-opens
-returns-clause-opens g c = rw (← c.self.view_is) c.open_face.ensures.opens.links
-
-pub returns-clause-ends : goal.returns-clause-ends
-returns-clause-ends g c = rw (← c.self.view_is) c.open_face.ensures.opens.ends
+    rw (← c.self.view_is) (record {
+      was = rw (← c.self.view_is) at c.recall_invariant.ensures.whole;
+      opens = links.opens.links;
+      contents = search rules;
+      faces = gives_face old new _ _ c.args.face links.sound fit.faces_fit inner _
+          c.swap_remove.ensures.value links.opens.corners c.swap_remove.ensures.items;
+      ends = links.opens.ends;
+      spare = search rules;
+      whole = record { valid = links.valid; fits = search rules };
+    })

@@ -1,26 +1,28 @@
-use Rattle.std.proofs.Common.{◌≡◌, ap, ◌∙◌}
-use Rattle.half_edge_links.specs.Mesh.{Mesh, rev}
-use Rattle.half_edge_links.specs.Peel.{turn}
+use Rattle.std.proofs.Common.{refl, rules}
 use Rattle.half_edge_links.proofs.Removing.Conditions.{between_faces}
 use Rattle.half_edge_dcel.proofs.Hubs.{turnable, turn_corners}
 use Rattle.half_edge_dcel.proofs.dcel.Dcel.turn_away.Goals as goal
 
-pub flip-requires-clause-between : goal.flip-requires-clause-between
-flip-requires-clause-between g c =
-    let m : Mesh = c.self.inside.links.mesh in
+pub flip-requires : goal.flip-requires
+flip-requires g c =
     let can = rw (← c.self.view_is) at c.requires in
-    let is : c.reversed-spoke.result ≡ turn m c.args.first =
-    c.reversed-spoke.ensures ∙ ap rev c.prev.ensures.value in
-    rw is (between_faces m _
-    (turnable m c.args.first c.prev.ensures.valid can.within can.before can.behind))
+    let spoke = rw (← c.self.view_is) at c.next_spoke-spoke.ensures in
+    let valid = spoke.whole.valid in
+    rw spoke.value (record {
+      between = between_faces _ _ (turnable _ _ valid can.within can.before can.behind);
+      corners = turn_corners _ _ valid can.within can.before can.corners;
+    })
 
-pub flip-requires-clause-corners : goal.flip-requires-clause-corners
-flip-requires-clause-corners g c =
-    let m : Mesh = c.self.inside.links.mesh in
-    let can = rw (← c.self.view_is) at c.requires in
-    let is : c.reversed-spoke.result ≡ turn m c.args.first =
-    c.reversed-spoke.ensures ∙ ap rev c.prev.ensures.value in
-    rw is (turn_corners m c.args.first c.prev.ensures.valid can.within can.before can.corners)
-
-pub returns-clause-outline : goal.returns-clause-outline
-returns-clause-outline g c = rw (← c.self.view_is) c.flip.ensures.flips.outline
+pub returns : goal.returns
+returns g c =
+    let spoke = rw (← c.self.view_is) at c.next_spoke-spoke.ensures.value in
+    let flip = rw spoke at c.flip.ensures in
+    rw (← c.self.view_is) (record {
+      flips = flip.flips.links;
+      contents = rw (flip.rest.room, flip.rest.values) refl;
+      ends = flip.flips.ends;
+      triangles = flip.flips.corners;
+      outer = flip.flips.outer;
+      outline = flip.flips.outline;
+      whole = record { valid = flip.valid; fits = search rules };
+    })

@@ -1,0 +1,30 @@
+use Rattle.std.proofs.Common.{refl, rules}
+use Rattle.half_edge_links.proofs.Lists.Rev.{rev_within}
+use Rattle.half_edge_dcel.proofs.LineSteps.{passable}
+use Rattle.half_edge_dcel.proofs.dcel.Dcel.pass_vertex.Goals as goal
+
+pub next-left-requires : goal.next-left-requires
+next-left-requires g c =
+    let middle = rw (← c.self.view_is) at c.requires in
+    let whole = rw (← c.self.view_is) at c.recall_invariant.ensures.whole in
+    rw c.reversed-edge.ensures (rev_within _ _ whole.valid.sound.even middle.within)
+
+pub pass-requires : goal.pass-requires
+pass-requires g c =
+    let middle = rw (← c.self.view_is) at c.requires in
+    let whole = rw (← c.self.view_is) at c.recall_invariant.ensures.whole in
+    rw c.reversed-edge.ensures (passable whole.valid.sound middle)
+
+pub returns : goal.returns
+returns g c =
+    let whole = rw (← c.self.view_is) at c.recall_invariant.ensures.whole in
+    let pass = rw c.reversed-edge.ensures at c.pass.ensures in
+    rw (← c.self.view_is) (record {
+      was = whole;
+      left_is = rw c.reversed-edge.ensures at c.next-left.ensures.value;
+      contents = rw (pass.rest.room, pass.rest.values) refl;
+      links = pass.links;
+      ends = pass.ends;
+      outline = pass.outline;
+      whole = record { valid = pass.valid; fits = search rules };
+    })
