@@ -1,7 +1,7 @@
 -- There are data for each part of a mesh after a change.
 -- Lemmas: length-grown, one_longer, fits_grown, fits_grown_edge, fits_moved, fits_vertex,
 -- fits_hung, fits_closed, fits_beside, fits_connected, fits_slid, fits_flipped, fits_inserted.
-use Rattle.std.proofs.Common.{◌≡◌, ℕ, ◌+◌, ◌*◌, List, [], ◌∷◌, ◌++◌, ◌∙◌, length, arith, set, ap}
+use Rattle.std.proofs.Common.{◌≡◌, ℕ, ◌+◌, List, [], ◌∷◌, ◌++◌, ◌∙◌, length, arith, set, ap}
 use Rattle.std.proofs.Common.{length-append}
 use Rattle.std.proofs.lemmas.List.{length-set, length_push}
 use Rattle.half_edge_links.specs.Mesh.{Mesh, with_vertex, connected}

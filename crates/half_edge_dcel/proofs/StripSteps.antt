@@ -10,7 +10,7 @@ use Rattle.std.proofs.lemmas.Int.{ints}
 use Rattle.std.proofs.lemmas.List.Sorted.{IsPermutation-refl, IsPermutation-trans}
 use Rattle.std.proofs.lemmas.List.Sorted.{IsPermutation-append_right, IsPermutation-middle}
 use Rattle.half_edge_links.specs.Hull.{KeepsOneOutline}
-use Rattle.half_edge_links.specs.Flow.{total, around, along, both_ways, outline}
+use Rattle.half_edge_links.specs.Flow.{total, around, along, both_ways}
 use Rattle.half_edge_links.specs.Mesh.{Mesh, origin, prev, rev}
 use Rattle.half_edge_links.specs.Peel.{IsStrip, IsPeelable}
 use Rattle.half_edge_links.specs.Remove.{IsRemovable}

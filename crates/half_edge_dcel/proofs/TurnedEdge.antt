@@ -25,7 +25,6 @@ use Rattle.half_edge_links.proofs.Removing.Conditions.{spoke_at, faces_apart}
 use Rattle.half_edge_links.proofs.Lists.Rev.{rev-rev}
 use Rattle.half_edge_links.proofs.Removing.TakenLists.{count_ends}
 use Rattle.half_edge_links.proofs.Sound.Triangles.{IsTriangle, triangle_at as loop_at}
-use Rattle.half_edge_links.specs.Flip.{Flips}
 use Rattle.half_edge_links.specs.Hull.{KeepsOneOutline}
 use Rattle.half_edge_dcel.specs.Contents.{Contents, IsMeshWithData}
 use Rattle.half_edge_dcel.specs.Growth.{joins}

@@ -1,7 +1,7 @@
 -- What single steps that take edges and faces out of a mesh do to it and to its data.
 use Rattle.std.specs.Prelude.{◌≡◌, ◌≢◌, ◌+◌, ◌/◌, ◌<◌, ◌≤◌, [], ◌∷◌, ◌++◌, ℕ, length}
 use Rattle.half_edge_links.specs.Hull.{IsPendant, KeepsOneOutline}
-use Rattle.half_edge_links.specs.Mesh.{Mesh, origin, next, prev, face_edge, rev}
+use Rattle.half_edge_links.specs.Mesh.{Mesh, origin, next, face_edge, rev}
 use Rattle.half_edge_links.specs.Outline.{MovesEdge, ends}
 use Rattle.half_edge_links.specs.Pass.{Passes}
 use Rattle.half_edge_links.specs.Peel.{Peels, turn}

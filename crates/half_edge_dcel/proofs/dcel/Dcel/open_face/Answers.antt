@@ -1,4 +1,4 @@
-use Rattle.std.proofs.Common.{arith, rules}
+use Rattle.std.proofs.Common.{rules}
 use Rattle.half_edge_links.specs.Mesh.{Mesh}
 use Rattle.half_edge_dcel.proofs.TakenEdges.{gives_face}
 use Rattle.half_edge_dcel.proofs.dcel.Dcel.open_face.Goals as goal
