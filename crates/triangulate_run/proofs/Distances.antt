@@ -1,9 +1,10 @@
 -- How far the nearest vertex is.
--- Notions: IsLeastBefore, IsLeastSoFar, IsLesser; vertex_in_range, least_distance, no_vertex,
--- covered_if_listed, least_goes_on, least_found.
+-- Notions: IsLeastBefore, IsLeastSoFar, IsLesser; vertex_in_range, least_distance, measured,
+-- covered_if_known, least_goes_on, least_found.
 use Rattle.std.proofs.Common.{◌≡◌, ◌∙◌, ℕ, ◌<◌, List, length, map, inl, inr, ap, sym, subst, arith}
 use Rattle.std.specs.Prelude.{◌⊎◌, ◌+◌, ◌≤◌, ◌≤ℤ◌}
-use Rattle.std.specs.Prelude.{ℤ, pos, Option, None, Some, slice_get, All, MatchOption}
+use Rattle.std.specs.Prelude.{ℤ, pos, true, Option, None, Some, is_some, slice_get, All}
+use Rattle.std.specs.Prelude.{MatchOption}
 use Rattle.std.proofs.lemmas.Bool.{cases_lt}
 use Rattle.std.proofs.lemmas.Int.{ints}
 use Rattle.std.proofs.lemmas.List.{length-map}
@@ -19,9 +20,11 @@ use Rattle.delaunay_edit.specs.delaunay_core.declared.point.Point2.{Point2}
 use Rattle.delaunay_edit.specs.delaunay_legalization.Known.{point_at}
 use Rattle.delaunay_edit.proofs.Removing.{read_place}
 use Rattle.triangulate_run.specs.declared.points.SheetPoint.{SheetPoint}
-use Rattle.triangulate_run.specs.Points.{place, nowhere, IsListed}
+use Rattle.triangulate_run.specs.Points.{place, nowhere, HoldsAt, IsListed}
 use Rattle.triangulate_run.specs.Stage.{position}
-use Rattle.triangulate_run.specs.Answer.{IsVertexDistance}
+use Rattle.triangulate_run.specs.declared.reply.Reply.{Reply}
+use Rattle.triangulate_run.specs.declared.reply.Reply.TheVariants.{Distance, NoNeighbor}
+use Rattle.triangulate_run.specs.Answer.{IsVertexDistance, MayMeasure}
 
 -- a vertex is in range where all are
 pub vertex_in_range : (vs : List (Point2 ℤ)) (i : ℕ) (v : Point2 ℤ) → i < length (map position vs)
@@ -38,14 +41,24 @@ least_distance t p q i d near at is = record {
   distance = is ∙ ap (λ (r : Point). gap (whole p) (whole r)) (sym at);
 }
 
--- without vertices no index is that of a vertex
-pub no_vertex : (vs : List (Point2 ℤ)) → length vs ≡ 0 → (i : ℕ) → ¬ (i < length (map position vs))
-no_vertex vs none i h = omega (arith, none, h, length-map vs position)
+-- the reply by the distance of the nearest vertex to a listed point
+pub measured : (points : List SheetPoint) (t : Triangulation) (p : Point) (o : Option ℤ) (r : Reply)
+    (vs : List (Point2 ℤ)) → t.points ≡ map position vs → IsListed points p
+    → MatchOption o (length vs ≡ 0) (IsVertexDistance t p)
+    → MatchOption o (r ≡ NoNeighbor) (λ d. r ≡ Distance d) → MayMeasure points t p r
+measured points t p None r vs of_vertices listed none is = rw is (
+  listed,
+  λ i within. omega (arith, none, within, length-map vs position, ap length of_vertices),
+)
+measured points t p (Some d) r vs of_vertices listed near is = rw is (listed, near)
 
--- a listed point is covered
-pub covered_if_listed : (covered : Point → Type 0) (points : List SheetPoint) (p : Point)
-    → All (λ s. covered (place s)) points → IsListed points p → covered p
-covered_if_listed covered points p all (i, (h, at)) = subst covered at (all i nowhere h)
+-- a point for which a lookup finds an index is covered
+pub covered_if_known : (covered : Point → Type 0) (points : List SheetPoint) (p : Point)
+    (o : Option ℕ) → All (λ s. covered (place s)) points → is_some o ≡ true
+    → MatchOption o (¬ IsListed points p) (λ i. HoldsAt points i p) → covered p
+covered_if_known covered points p None all e found = cc
+covered_if_known covered points p (Some i) all e (within, at) =
+    subst covered at (all i nowhere within)
 
 -- ---- by a look at all vertices
 -- one of the points is so far from p, and none before n is nearer

@@ -18,7 +18,7 @@ use Rattle.triangulate_run.specs.Line.{kept, push_kept}
 use Rattle.triangulate_run.specs.Output.{AppendsPart}
 use Rattle.triangulate_run.specs.Run.{Cut, IsOneLine, Answers, AnswersAll, IsAllowed, end_text}
 use Rattle.triangulate_run.specs.Run.{RanToEnd, RanInPart}
-use Rattle.triangulate_run.proofs.OutputLemmas.{appends_more, appends_nil, part_more}
+use Rattle.triangulate_run.proofs.OutputLemmas.{appends_more, appends_nil, part_behind}
 
 -- between two bytes: these lines were read and answered, and this much of the next
 pub record IsRunning {R W : Type 0} (points : List SheetPoint) (remaining : R → Option (List ℕ))
@@ -172,11 +172,6 @@ line_more {points = points} {stage = stage} s r2 w2 first new after took works a
       reader_works = works;
       writer_works = still;
     }
-
-part_behind : (a b c : Option (List ℕ)) (s t : List ℕ) → Appends a b s → AppendsPart b c t
-    → AppendsPart a c (s ++ t)
-part_behind a b c s t h p =
-    subst (λ (ys : List ℕ). AppendsPart a c (s ++ ys)) (append-nil t) (part_more a b c s t [] h p)
 
 -- a run ends where the writer fails within the answer to a line
 pub line_fault : {R W : Type 0} {remaining : R → Option (List ℕ)} {contents : W → Option (List ℕ)}

@@ -2,8 +2,8 @@
 -- Lemmas: sorted_rises.
 use Rattle.std.proofs.Common.{◌≡◌, ◌≢◌, ◌+◌, ◌-◌, ◌<◌, ◌&&◌, ◌∙◌}
 use Rattle.std.proofs.Common.{ℕ, zero, suc, Bool, false, eqb, List, length, get_or, ap, arith}
-use Rattle.std.proofs.Common.{subst, Result, Ok, Err}
-use Rattle.std.specs.Prelude.{AllPairs, IsPermutation, IsSorted, OnOk, Decides}
+use Rattle.std.proofs.Common.{subst}
+use Rattle.std.specs.Prelude.{AllPairs, IsPermutation, IsSorted, Decides}
 use Rattle.std.specs.Ordering.{is_lt}
 use Rattle.std.proofs.lemmas.Bool.{and_parts, and_from}
 use Rattle.std.proofs.lemmas.Bool.Decides.{nat_tests, Decides-eqb}
@@ -72,8 +72,6 @@ module _ (list : List Corners) (apart : AllPairs (λ c d. c ≢ d) list)
       {x = i + (j - (i + 1)) + 1} {y = j} (omega arith) (far i (j - (i + 1)) d (omega arith))
 
 -- faces that differ come strictly one before another once a sort has put them in order
-pub sorted_rises : {T E : Type 0} (r : Result T E) (old new : List Corners) → IsPermutation old new
-    → OnOk r (IsSorted ((ord.ghosts).cmp) new)
-    → OnOk r (AllPairs (λ c d. c ≢ d) old → AllPairs ComesFirst new)
-sorted_rises (Ok x) old new moved up = λ apart. rises new (differ_moved old new moved apart) up
-sorted_rises (Err x) old new moved up = tt
+pub sorted_rises : (old new : List Corners) → IsPermutation old new
+    → IsSorted ((ord.ghosts).cmp) new → AllPairs (λ c d. c ≢ d) old → AllPairs ComesFirst new
+sorted_rises old new moved up apart = rises new (differ_moved old new moved apart) up

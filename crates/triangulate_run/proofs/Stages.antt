@@ -12,9 +12,9 @@ use Rattle.delaunay_edit.specs.Constrained.{none, constrained, constraint_edges}
 use Rattle.delaunay_edit.specs.Data.{HasOtherEdgeData}
 use Rattle.delaunay_edit.specs.Headline.{IsWellFormed}
 use Rattle.triangulate_grammar.specs.declared.command.Command.{Command}
-use Rattle.triangulate_grammar.specs.declared.command.Command.TheVariants.{Insert, Remove, Constrain}
-use Rattle.triangulate_grammar.specs.declared.command.Command.TheVariants.{Release, Locate}
-use Rattle.triangulate_grammar.specs.declared.command.Command.TheVariants.{Nearest, Line, Counts, Faces}
+use Rattle.triangulate_grammar.specs.declared.command.Command.TheVariants.{Insert, Remove, Release}
+use Rattle.triangulate_grammar.specs.declared.command.Command.TheVariants.{Constrain, Locate, Line}
+use Rattle.triangulate_grammar.specs.declared.command.Command.TheVariants.{Nearest, Counts, Faces}
 use Rattle.triangulate_run.specs.declared.points.SheetPoint.{SheetPoint}
 use Rattle.triangulate_run.specs.declared.reply.Reply.{Reply}
 use Rattle.triangulate_run.specs.Answer.{MayAnswer, MayJoin, MayReply, MayWalk}

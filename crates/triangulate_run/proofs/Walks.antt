@@ -15,8 +15,8 @@ use Rattle.delaunay_edit.specs.delaunay_lines.Items.{item_in}
 use Rattle.delaunay_edit.specs.delaunay_lines.Walk.{AreLeft, GivesNext}
 use Rattle.triangulate_run.specs.Output.{AppendsPart, Sends}
 use Rattle.triangulate_run.specs.Reply.{item_text, line_text, next_text}
-use Rattle.triangulate_run.proofs.OutputLemmas.{passes_nil, passes_more, passes_part, part_longer}
-use Rattle.triangulate_run.proofs.OutputLemmas.{first_fails, second_fails, third_fails, all_passed}
+use Rattle.triangulate_run.proofs.OutputLemmas.{passes_nil, passes_more, passes_part, first_fails}
+use Rattle.triangulate_run.proofs.OutputLemmas.{second_fails}
 
 -- of the items that were left, these were put, and those are left
 pub record PutsSome {V D U F P S : Type 0} (at : V → Point) (number : S → ℤ)
@@ -30,16 +30,22 @@ pub record PutsSome {V D U F P S : Type 0} (at : V → Point) (number : S → �
 
 -- of any items that were left before, the first have been put, and the others are left now
 abbrev pub PutsEach : {V D U F P S : Type 0} → (V → Point) → (S → ℤ) → Option (List ℕ)
-    → Option (List ℕ) → List ℕ
-    → List ℕ → LineIntersectionIterator V D U F P S → LineIntersectionIterator V D U F P S → Type 0
+    → Option (List ℕ) → List ℕ → List ℕ → LineIntersectionIterator V D U F P S
+    → LineIntersectionIterator V D U F P S → Type 0
 PutsEach at number before now held kept old it = (items : List Item) → AreLeft at number old items
     → PutsSome at number before now held kept it items
 
-module _ {V D U F P S : Type 0} (at : V → Point) (number : S → ℤ) (a b c : Option (List ℕ))
-    (held mid kept : List ℕ) (old it after : LineIntersectionIterator V D U F P S) where
+-- the text of one item more
+text_more : (done : List Item) (m : Item)
+    → flat_map next_text (done ++ m ∷ []) ≡ flat_map next_text done ++ next_text m
+text_more done m = flat_map-append next_text done (m ∷ [])
+    ∙ ap (λ ys. flat_map next_text done ++ ys) (append-nil (next_text m))
+
+module _ {V D U F P S : Type 0} (at : V → Point) (number : S → ℤ) where
   -- at the beginning nothing has been put, and all items are left
-  pub puts_begin : PutsEach at number a a held held old old
-  puts_begin = λ items left. record {
+  pub puts_begin : (a : Option (List ℕ)) (held : List ℕ)
+      (old : LineIntersectionIterator V D U F P S) → PutsEach at number a a held held old old
+  puts_begin a held old = λ items left. record {
     done = [];
     rest = items;
     all = refl;
@@ -47,62 +53,51 @@ module _ {V D U F P S : Type 0} (at : V → Point) (number : S → ℤ) (a b c :
     passes = passes_nil a held;
   }
 
-  text_more : (done : List Item) (m : Item)
-      → flat_map next_text (done ++ m ∷ []) ≡ flat_map next_text done ++ next_text m
-  text_more done m = flat_map-append next_text done (m ∷ [])
-      ∙ ap (λ ys. flat_map next_text done ++ ys) (append-nil (next_text m))
+  module _ {a b : Option (List ℕ)} {held mid : List ℕ}
+      (old : LineIntersectionIterator V D U F P S)
+      {it after : LineIntersectionIterator V D U F P S}
+      (so_far : PutsEach at number a b held mid old it) where
+    -- where no item is left, the text of all has been put
+    pub puts_end : GivesNext at number it None after → (items : List Item)
+        → AreLeft at number old items → Sends a b held mid (flat_map next_text items)
+    puts_end step items left =
+        let p = so_far items left in
+        let none = (step.gives p.rest p.are_left).0 in
+        subst (λ (ys : List Item). Sends a b held mid (flat_map next_text ys))
+        (sym (p.all ∙ ap (λ ys. p.done ++ ys) none ∙ append-nil p.done)) p.passes
 
-  -- the next item is put, and the others are left
-  pub puts_one : PutsEach at number a b held mid old it → (x : Intersection V D U F)
-      → GivesNext at number it (Some x) after
-      → Sends b c mid kept (next_text (item_in x)) → PutsEach at number a c held kept old after
-  puts_one so_far x step put = λ items left.
-      let p = so_far items left in
-      let s = (step.gives p.rest p.are_left).1 in
-      record {
-        done = p.done ++ item_in x ∷ [];
-        rest = s.0;
-        all = p.all ∙ ap (λ ys. p.done ++ ys) s.1 ∙ sym (append_assoc p.done (item_in x ∷ []) s.0);
-        are_left = s.2;
-        passes = subst (λ (t : List ℕ). Sends a c held kept t) (sym (text_more p.done (item_in x)))
-            (passes_more a b c held mid kept (flat_map next_text p.done)
-            (next_text (item_in x)) p.passes put);
-      }
+    module _ {x : Intersection V D U F} (step : GivesNext at number it (Some x) after)
+        {c : Option (List ℕ)} where
+      -- the next item is put, and the others are left
+      pub puts_one : {kept : List ℕ} → Sends b c mid kept (next_text (item_in x))
+          → PutsEach at number a c held kept old after
+      puts_one {kept} put = λ items left.
+          let p = so_far items left in
+          let s = (step.gives p.rest p.are_left).1 in
+          record {
+            done = p.done ++ item_in x ∷ [];
+            rest = s.0;
+            all = p.all ∙ ap (λ ys. p.done ++ ys) s.1
+                ∙ sym (append_assoc p.done (item_in x ∷ []) s.0);
+            are_left = s.2;
+            passes = subst (λ (t : List ℕ). Sends a c held kept t)
+                (sym (text_more p.done (item_in x))) (passes_more p.passes put);
+          }
 
-  -- where no item is left, the text of all has been put
-  pub puts_end : PutsEach at number a b held mid old it → GivesNext at number it None after
-      → (items : List Item) → AreLeft at number old items
-      → Sends a b held mid (flat_map next_text items)
-  puts_end so_far step items left =
-      let p = so_far items left in
-      let none = (step.gives p.rest p.are_left).0 in
-      subst (λ (ys : List Item). Sends a b held mid (flat_map next_text ys))
-      (sym (p.all ∙ ap (λ ys. p.done ++ ys) none ∙ append-nil p.done)) p.passes
-
-  -- where the writer fails at the next item, a beginning of the text of all was put
-  pub puts_part : PutsEach at number a b held mid old it → (x : Intersection V D U F)
-      → GivesNext at number it (Some x) after → AppendsPart b c (mid ++ next_text (item_in x))
-      → (items : List Item) → AreLeft at number old items
-      → AppendsPart a c (held ++ flat_map next_text items)
-  puts_part so_far x step part items left =
-      let p = so_far items left in
-      let s = (step.gives p.rest p.are_left).1 in
-      let before = flat_map next_text p.done in
-      let here = next_text (item_in x) in
-      let behind = flat_map next_text s.0 in
-      let all : flat_map next_text items ≡ before ++ (here ++ behind) =
-      ap (flat_map next_text) (p.all ∙ ap (λ ys. p.done ++ ys) s.1)
-      ∙ flat_map-append next_text p.done (item_in x ∷ s.0) in
-      let whole : (held ++ (before ++ here)) ++ behind ≡ held ++ flat_map next_text items =
-      append_assoc held (before ++ here) behind
-      ∙ ap (λ ys. held ++ ys) (append_assoc before here behind ∙ sym all) in
-      subst (λ (t : List ℕ). AppendsPart a c t) whole
-      (part_longer a c (held ++ (before ++ here)) behind
-      (passes_part a b c held mid before here p.passes part))
+      -- where the writer fails at the next item, a beginning of the text of all was put
+      pub puts_part : AppendsPart b c (mid ++ next_text (item_in x)) → (items : List Item)
+          → AreLeft at number old items → AppendsPart a c (held ++ flat_map next_text items)
+      puts_part part items left =
+          let p = so_far items left in
+          let s = (step.gives p.rest p.are_left).1 in
+          let all = ap (flat_map next_text) (p.all ∙ ap (λ ys. p.done ++ ys) s.1)
+          ∙ flat_map-append next_text p.done (item_in x ∷ s.0) in
+          subst (λ (t : List ℕ). AppendsPart a c (held ++ t)) (sym all)
+          (second_fails p.passes (next_text (item_in x)) (flat_map next_text s.0) part)
 
 -- ---- a whole line
-module _ {V D U F P S : Type 0} (at : V → Point) (number : S → ℤ)
-    (it after : LineIntersectionIterator V D U F P S) where
+module _ {V D U F P S : Type 0} {at : V → Point} {number : S → ℤ}
+    {it after : LineIntersectionIterator V D U F P S} where
   -- what holds of the text of no items holds of what is left where there is none
   pub line_none : (X : List ℕ → Type 0) → GivesNext at number it None after
       → X (codes "nothing\n") → (items : List Item) → AreLeft at number it items
@@ -110,7 +105,7 @@ module _ {V D U F P S : Type 0} (at : V → Point) (number : S → ℤ)
   line_none X step x items left =
       subst (λ (ys : List Item). X (line_text ys)) (sym (step.gives items left).0) x
 
-  module _ (x : Intersection V D U F) (step : GivesNext at number it (Some x) after) where
+  module _ {x : Intersection V D U F} (step : GivesNext at number it (Some x) after) where
     -- the text of a line by its first item and the others
     by_first : (X : List ℕ → Type 0)
         → ((others : List Item) → AreLeft at number after others
@@ -121,44 +116,36 @@ module _ {V D U F P S : Type 0} (at : V → Point) (number : S → ℤ)
         (subst X (sym (append_assoc (item_text (item_in x)) (flat_map next_text s.0)
         (codes "\n"))) (all s.0 s.2))
 
-    module _ (a b c : Option (List ℕ)) (held mid : List ℕ) where
-      -- where the writer fails at the first item, a beginning of the line was put
-      pub line_first_fails : AppendsPart a b (held ++ item_text (item_in x)) → (items : List Item)
-          → AreLeft at number it items → AppendsPart a b (held ++ line_text items)
-      line_first_fails part = by_first (λ t. AppendsPart a b (held ++ t))
-          (λ others left. first_fails a b c held mid (item_text (item_in x))
-          (flat_map next_text others)
-          (codes "\n") part)
+    -- where the writer fails at the first item, a beginning of the line was put
+    pub line_first_fails : {a b : Option (List ℕ)} (held : List ℕ)
+        → AppendsPart a b (held ++ item_text (item_in x)) → (items : List Item)
+        → AreLeft at number it items → AppendsPart a b (held ++ line_text items)
+    line_first_fails {a} {b} held part = by_first (λ t. AppendsPart a b (held ++ t))
+        (λ others left. first_fails held (item_text (item_in x))
+        (flat_map next_text others ++ codes "\n") part)
 
+    module _ {a b c : Option (List ℕ)} {held mid : List ℕ}
+        (first : Sends a b held mid (item_text (item_in x))) where
       -- so it was where the first item was passed on and the writer fails at the others
-      pub line_others_fail : Sends a b held mid (item_text (item_in x)) → ((others : List Item)
-          → AreLeft at number after others → AppendsPart b c (mid ++ flat_map next_text others))
-          → (items : List Item) → AreLeft at number it items
-          → AppendsPart a c (held ++ line_text items)
-      line_others_fail first part =
-          by_first (λ t. AppendsPart a c (held ++ t))
-          (λ others left. second_fails a b c held mid (item_text (item_in x))
-          (flat_map next_text others)
-          (codes "\n") first (part others left))
+      pub line_others_fail : ((others : List Item) → AreLeft at number after others
+          → AppendsPart b c (mid ++ flat_map next_text others)) → (items : List Item)
+          → AreLeft at number it items → AppendsPart a c (held ++ line_text items)
+      line_others_fail part = by_first (λ t. AppendsPart a c (held ++ t))
+          (λ others left. second_fails first (flat_map next_text others) (codes "\n")
+          (part others left))
 
-    module _ (a b c d : Option (List ℕ)) (held mid then : List ℕ)
-        (first : Sends a b held mid (item_text (item_in x)))
-        (rest : (others : List Item) → AreLeft at number after others
-        → Sends b c mid then (flat_map next_text others))
-      where
+      module _ {d : Option (List ℕ)} {then : List ℕ} (rest : (others : List Item)
+          → AreLeft at number after others → Sends b c mid then (flat_map next_text others)) where
         -- so it was where all items were passed on and the writer fails at the end of the line
         pub line_end_fails : AppendsPart c d (then ++ codes "\n") → (items : List Item)
             → AreLeft at number it items → AppendsPart a d (held ++ line_text items)
         line_end_fails part = by_first (λ t. AppendsPart a d (held ++ t))
-            (λ others left. third_fails a b c d held mid then (item_text (item_in x))
-            (flat_map next_text others)
-            (codes "\n") first (rest others left) part)
+            (λ others left. passes_part first (flat_map next_text others ++ codes "\n")
+            (passes_part (rest others left) (codes "\n") part))
 
         -- where the end of the line is passed on, the line is
-        pub line_passed : (kept : List ℕ) → Sends c d then kept (codes "\n")
+        pub line_passed : {kept : List ℕ} → Sends c d then kept (codes "\n")
             → (items : List Item) → AreLeft at number it items
             → Sends a d held kept (line_text items)
-        line_passed kept end = by_first (λ t. Sends a d held kept t)
-            (λ others left. all_passed a b c d held mid then (item_text (item_in x))
-            (flat_map next_text others)
-            (codes "\n") first (rest others left) kept end)
+        line_passed {kept} end = by_first (λ t. Sends a d held kept t)
+            (λ others left. passes_more first (passes_more (rest others left) end))

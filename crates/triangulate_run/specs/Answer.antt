@@ -18,9 +18,9 @@ use Rattle.delaunay_edit.specs.delaunay_core.declared.math.InsertionError.TheVar
 use Rattle.delaunay_edit.specs.delaunay_core.declared.math.InsertionError.TheVariants.{OutOfIndexes}
 use Rattle.triangulate_grammar.specs.declared.command.Coordinates.{Coordinates}
 use Rattle.triangulate_grammar.specs.declared.command.Command.{Command}
-use Rattle.triangulate_grammar.specs.declared.command.Command.TheVariants.{Insert, Remove, Constrain}
-use Rattle.triangulate_grammar.specs.declared.command.Command.TheVariants.{Release, Locate, Nearest}
-use Rattle.triangulate_grammar.specs.declared.command.Command.TheVariants.{Line, Counts, Faces}
+use Rattle.triangulate_grammar.specs.declared.command.Command.TheVariants.{Insert, Remove, Release}
+use Rattle.triangulate_grammar.specs.declared.command.Command.TheVariants.{Constrain, Locate, Line}
+use Rattle.triangulate_grammar.specs.declared.command.Command.TheVariants.{Nearest, Counts, Faces}
 use Rattle.triangulate_run.specs.declared.points.SheetPoint.{SheetPoint}
 use Rattle.triangulate_run.specs.declared.corners.Corners.{Corners}
 use Rattle.triangulate_run.specs.declared.reply.Reply.{Reply}

@@ -7,6 +7,7 @@ use Rattle.delaunay_edit.specs.delaunay_legalization.Constraints.{points_and_con
 use Rattle.delaunay_edit.specs.delaunay_legalization.State.{State, triangulation_of}
 use Rattle.delaunay_edit.specs.Constrained.{none, constraint_edges}
 use Rattle.triangulate_run.specs.declared.engine.Either.{Either}
+use Rattle.triangulate_run.specs.declared.engine.PointEngine.{PointEngine}
 use Rattle.triangulate_run.specs.declared.engine.Either.TheVariants.{Plain, Constrained}
 use Rattle.triangulate_run.specs.declared.points.SheetPoint.{SheetPoint}
 use Rattle.triangulate_run.specs.Points.{place}
@@ -34,6 +35,12 @@ pub record IsStageReady (covered sites : Point → Type 0) (points : List SheetP
   pub points_covered : All (λ s. covered (place s)) points
   pub points_sites : All (λ s. s.site ≡ true → sites (place s)) points
   pub vertices_sites : HasSites sites s
+
+-- so it is of an engine, whose tests cover such points and have such sites
+abbrev pub IsEngineReady : {P L : Type 0} → (P → Point → Type 0) → (P → Point → Type 0)
+    → PointEngine P L → Type 0
+IsEngineReady covered sites e =
+    IsStageReady (covered e.tests.now) (sites e.tests.now) e.points.now (stage_of e.triangulation)
 
 -- the ends of directed edges, in their directions
 abbrev pub ends_in : Mesh → List ℕ → List (ℕ × ℕ)

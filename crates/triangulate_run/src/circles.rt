@@ -55,10 +55,7 @@ pub(crate) fn side_at(circles: &[Circle], i: usize, j: usize, k: usize) -> LineS
 fn is_marked(marks: &[bool; 9], l: usize) -> bool
     ensures { result ≡ get_or marks.now l false }
 {
-    match marks.get(l) {
-        Some(mark) => *mark,
-        None => false,
-    }
+    *marks.get(l).unwrap_or(&false)
 }
 
 /// Whether `l` is inside the circle of the left-turning triple.

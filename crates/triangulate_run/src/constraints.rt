@@ -10,13 +10,13 @@ ghost use Rattle.triangulate_run.specs.Output.{Writes, Puts};
 ghost use Rattle.triangulate_run.specs.Reply.{path_text, piece_text};
 
 use crate::engine::{Constrained, Plain};
-use crate::output::{Held, put_pieces, write_all};
-use crate::piece::Piece;
+use crate::output::{Held, Written, put_pieces, write_all};
+use crate::piece::Piece::{Index, Text};
 use crate::reply::{Reply, write_reply};
 use spade_delaunay::handles::{FixedDirectedEdgeHandle, FixedVertexHandle};
 use spade_delaunay::{HintGenerator, InsertionError, PlaneTests, Triangulation};
 use std::io::Write;
-use triangulate_watched::{Failed, Watched};
+use triangulate_watched::Watched;
 
 /// Adds the path between two vertices, and writes its edges.
 pub(crate) fn constrain_and_write<L: HintGenerator<i64>, P: PlaneTests<i64>, W: Write>(
@@ -25,7 +25,7 @@ pub(crate) fn constrain_and_write<L: HintGenerator<i64>, P: PlaneTests<i64>, W: 
     from: FixedVertexHandle,
     to: FixedVertexHandle,
     writer: &mut Watched<W>,
-) -> Result<(), Failed>
+) -> Written
     requires from_in { from < length triangulation.old.vertices }
     requires to_in { to < length triangulation.old.vertices }
     requires sites { HasSites (P.sites tests.now) (stage_by constraint_edges triangulation.old) }
@@ -53,16 +53,16 @@ fn write_path<L: HintGenerator<i64>, W: Write>(
     triangulation: &Constrained<L>,
     path: &[FixedDirectedEdgeHandle],
     writer: &mut Watched<W>,
-) -> Result<(), Failed>
+) -> Written
     requires within { All (λ h. h < length triangulation.now.directed) path.now }
     requires works { has_failed writer.old ≡ false }
     ensures { Writes W.contents writer.old writer.new result
         (path_text (ends_in triangulation.now.mesh path.now)) }
 {
     let mut held = Held::new();
-    put_pieces(writer, &mut held, &[Piece::Text("edges")])?;
+    put_pieces(writer, &mut held, &[Text("edges")])?;
     put_edges(triangulation, path, writer, &mut held)?;
-    put_pieces(writer, &mut held, &[Piece::Text("\n")])?;
+    put_pieces(writer, &mut held, &[Text("\n")])?;
     write_all(writer, held.as_slice())
 }
 
@@ -72,7 +72,7 @@ fn put_edges<L: HintGenerator<i64>, W: Write>(
     path: &[FixedDirectedEdgeHandle],
     writer: &mut Watched<W>,
     held: &mut Held,
-) -> Result<(), Failed>
+) -> Written
     requires within { All (λ h. h < length triangulation.now.directed) path.now }
     requires works { has_failed writer.old ≡ false }
     ensures { Puts W.contents writer.old writer.new held.old.items held.new.items result
@@ -90,7 +90,7 @@ fn put_path_edge<L: HintGenerator<i64>, W: Write>(
     edge: FixedDirectedEdgeHandle,
     writer: &mut Watched<W>,
     held: &mut Held,
-) -> Result<(), Failed>
+) -> Written
     requires within { edge < length triangulation.now.directed }
     requires works { has_failed writer.old ≡ false }
     ensures { let m = triangulation.now.mesh in
@@ -102,10 +102,10 @@ fn put_path_edge<L: HintGenerator<i64>, W: Write>(
         writer,
         held,
         &[
-            Piece::Text(" "),
-            Piece::Index(u64::from(edge.from().fix().index())),
-            Piece::Text("-"),
-            Piece::Index(u64::from(edge.to().fix().index())),
+            Text(" "),
+            Index(u64::from(edge.from().index())),
+            Text("-"),
+            Index(u64::from(edge.to().index())),
         ],
     )
 }

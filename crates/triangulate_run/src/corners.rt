@@ -1,8 +1,6 @@
 //! Faces by the indexes of their corners.
-ghost use Rattle.std.specs.Prelude.{◌≡◌, ◌≢◌, OnOk, AllPairs, IsPermutation};
-ghost use Rattle.triangulate_run.specs.Corners.{least_first, ComesFirst};
-
-use std::alloc::AllocError;
+ghost use Rattle.std.specs.Prelude.{◌≡◌};
+ghost use Rattle.triangulate_run.specs.Corners.{least_first};
 
 /// A face by the indexes of its vertices, in left-turning order, the least index first.
 #[derive(Clone, Copy, Debug, PartialEq, Eq, PartialOrd, Ord)]
@@ -28,13 +26,4 @@ pub(crate) fn from_least(a: u64, b: u64, c: u64) -> Corners
         second,
         third,
     }
-}
-
-/// Sorts faces by their three numbers.
-pub(crate) fn sort_faces(faces: &mut Vec<Corners>) -> Result<(), AllocError>
-    ensures permutation { IsPermutation faces.old.items faces.new.items }
-    ensures sorted { OnOk result (AllPairs (λ c d. c ≢ d) faces.old.items →
-        AllPairs ComesFirst faces.new.items) }
-{
-    faces.sort()
 }

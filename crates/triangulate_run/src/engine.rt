@@ -4,15 +4,16 @@ ghost use Rattle.triangulate_watched.specs.Watched.{has_failed};
 ghost use Rattle.triangulate_run.specs.Stage.{position, first_stage, Fits};
 ghost use Rattle.triangulate_run.specs.Points.{place};
 ghost use Rattle.triangulate_run.specs.Output.{Writes};
-ghost use Rattle.triangulate_run.specs.Engine.{stage_of, IsStageReady};
+ghost use Rattle.triangulate_run.specs.Engine.{stage_of, IsEngineReady};
 ghost use Rattle.triangulate_run.specs.Answer.{AreVertices, IsReplied, MayCount, MayInsert};
 ghost use Rattle.triangulate_run.specs.Answer.{MayJoin, MayList, MayLocate, MayMeasure, MayRelease};
 ghost use Rattle.triangulate_run.specs.Answer.{MayRemove, MayReply, MayWalk, point_at};
 
 use crate::constraints::{constrain_and_write, release, release_free};
 use crate::line::write_line;
-use crate::nearest::{nearest_of_all, nearest_of_plain};
-use crate::points::SheetPoint;
+use crate::nearest::{distance_reply, nearest_of_all, nearest_of_plain};
+use crate::output::Written;
+use crate::points::{SheetPoint, index_of};
 use crate::reply::{Reply, write_reply};
 use crate::session::Engine;
 use crate::shared::{count_reply, faces, insert, locate, remove, vertices_at};
@@ -25,7 +26,7 @@ use std::alloc::Global;
 use std::io::Write;
 use std::mem::replace;
 use triangulate_grammar::command::{Command, Coordinates};
-use triangulate_watched::{Failed, Watched};
+use triangulate_watched::Watched;
 
 /// Vertices that are points and carry no further data.
 pub(crate) type Plain<L> = DelaunayTriangulation<Point2<i64>, (), (), (), L>;
@@ -38,6 +39,16 @@ pub(crate) type Constrained<L> = ConstrainedDelaunayTriangulation<Point2<i64>, (
 pub(crate) enum Either<L: HintGenerator<i64>> {
     Plain(Plain<L>),
     Constrained(Constrained<L>),
+}
+
+// A call on a triangulation of either type.
+macro_rules! on_either {
+    ($either:expr, $triangulation:ident => $call:expr) => {
+        match $either {
+            Either::Plain($triangulation) => $call,
+            Either::Constrained($triangulation) => $call,
+        }
+    };
 }
 
 /// A triangulation that answers commands, with the tests and the points that it may be asked about.
@@ -54,14 +65,9 @@ impl<P: PlaneTests<i64>, L: HintGenerator<i64>> Engine for PointEngine<'_, P, L>
 
     ghost stage = { λ e. stage_of e.triangulation };
 
-    ghost is_ready = { λ e. IsStageReady (P.covered e.tests.now) (P.sites e.tests.now) e.points.now
-        (stage_of e.triangulation) };
+    ghost is_ready = { λ e. IsEngineReady P.covered P.sites e };
 
-    fn answer<W: Write>(
-        &mut self,
-        command: Command,
-        writer: &mut Watched<W>,
-    ) -> Result<(), Failed> {
+    fn answer<W: Write>(&mut self, command: Command, writer: &mut Watched<W>) -> Written {
         let answered = match command {
             Command::Constrain(from, to) => self.constrain(from, to, writer),
             Command::Line(from, to) => self.line(placed_point(from), placed_point(to), writer),
@@ -80,8 +86,7 @@ impl<'a, P: PlaneTests<i64>, L: HintGenerator<i64>> PointEngine<'a, P, L> {
     pub(crate) fn new(alloc: Global, tests: &'a P, points: &'a [SheetPoint]) -> Self
         requires covered { All (λ s. P.covered tests.now (place s)) points.now }
         requires sites { All (λ s. s.site ≡ true → P.sites tests.now (place s)) points.now }
-        ensures ready { IsStageReady (P.covered result.tests.now) (P.sites result.tests.now)
-            result.points.now (stage_of result.triangulation) }
+        ensures ready { IsEngineReady P.covered P.sites result }
         ensures points { result.points.now ≡ points.now }
         ensures stage { stage_of result.triangulation ≡ first_stage }
         ensures fits { Fits (stage_of result.triangulation) }
@@ -100,19 +105,14 @@ impl<'a, P: PlaneTests<i64>, L: HintGenerator<i64>> PointEngine<'a, P, L> {
     fn recall_invariant(&self)
         ensures { Fits (stage_of self.now.triangulation) }
     {
-        match &self.triangulation {
-            Either::Plain(plain) => plain.recall_invariant(),
-            Either::Constrained(constrained) => constrained.recall_invariant(),
-        }
+        on_either!(&self.triangulation, it => it.recall_invariant())
     }
 
     /// Does what a command asks for whose reply is one line or the list of faces.
     fn reply_to(&mut self, command: Command) -> Reply
-        requires ready { IsStageReady (P.covered self.old.tests.now) (P.sites self.old.tests.now)
-            self.old.points.now (stage_of self.old.triangulation) }
+        requires ready { IsEngineReady P.covered P.sites self.old }
         requires other { IsReplied command }
-        ensures ready { IsStageReady (P.covered self.new.tests.now) (P.sites self.new.tests.now)
-            self.new.points.now (stage_of self.new.triangulation) }
+        ensures ready { IsEngineReady P.covered P.sites self.new }
         ensures points { self.new.points ≡ self.old.points }
         ensures reply { MayReply self.old.points.now (stage_of self.old.triangulation) command
             result (stage_of self.new.triangulation) }
@@ -130,62 +130,44 @@ impl<'a, P: PlaneTests<i64>, L: HintGenerator<i64>> PointEngine<'a, P, L> {
     }
 
     fn insert(&mut self, point: Point2<i64>) -> Reply
-        requires ready { IsStageReady (P.covered self.old.tests.now) (P.sites self.old.tests.now)
-            self.old.points.now (stage_of self.old.triangulation) }
-        ensures ready { IsStageReady (P.covered self.new.tests.now) (P.sites self.new.tests.now)
-            self.new.points.now (stage_of self.new.triangulation) }
+        requires ready { IsEngineReady P.covered P.sites self.old }
+        ensures ready { IsEngineReady P.covered P.sites self.new }
         ensures points { self.new.points ≡ self.old.points }
         ensures reply { MayInsert self.old.points.now (stage_of self.old.triangulation) point result
             (stage_of self.new.triangulation) }
     {
-        match &mut self.triangulation {
-            Either::Plain(plain) => insert(plain, self.tests, self.points, point),
-            Either::Constrained(constrained) => {
-                insert(constrained, self.tests, self.points, point)
-            }
-        }
+        on_either!(&mut self.triangulation, it => insert(it, self.tests, self.points, point))
     }
 
     fn remove(&mut self, index: u64) -> Reply
-        requires ready { IsStageReady (P.covered self.old.tests.now) (P.sites self.old.tests.now)
-            self.old.points.now (stage_of self.old.triangulation) }
-        ensures ready { IsStageReady (P.covered self.new.tests.now) (P.sites self.new.tests.now)
-            self.new.points.now (stage_of self.new.triangulation) }
+        requires ready { IsEngineReady P.covered P.sites self.old }
+        ensures ready { IsEngineReady P.covered P.sites self.new }
         ensures points { self.new.points ≡ self.old.points }
         ensures reply { MayRemove (stage_of self.old.triangulation) index result
             (stage_of self.new.triangulation) }
     {
-        match &mut self.triangulation {
-            Either::Plain(plain) => remove(plain, self.tests, index),
-            Either::Constrained(constrained) => remove(constrained, self.tests, index),
-        }
+        on_either!(&mut self.triangulation, it => remove(it, self.tests, index))
     }
 
     fn locate(&self, point: Point2<i64>) -> Reply
-        requires ready { IsStageReady (P.covered self.now.tests.now) (P.sites self.now.tests.now)
-            self.now.points.now (stage_of self.now.triangulation) }
+        requires ready { IsEngineReady P.covered P.sites self.now }
         ensures { MayLocate self.now.points.now (stage_of self.now.triangulation).triangulation
             (position point) result }
     {
-        match &self.triangulation {
-            Either::Plain(plain) => locate(plain, self.tests, self.points, point),
-            Either::Constrained(constrained) => {
-                locate(constrained, self.tests, self.points, point)
-            }
-        }
+        on_either!(&self.triangulation, it => locate(it, self.tests, self.points, point))
     }
 
     fn nearest(&self, point: Point2<i64>) -> Reply
-        requires ready { IsStageReady (P.covered self.now.tests.now) (P.sites self.now.tests.now)
-            self.now.points.now (stage_of self.now.triangulation) }
+        requires ready { IsEngineReady P.covered P.sites self.now }
         ensures { MayMeasure self.now.points.now (stage_of self.now.triangulation).triangulation
             (position point) result }
     {
+        if index_of(self.points, point).is_none() {
+            return Reply::UnknownPoint;
+        }
         match &self.triangulation {
-            Either::Plain(plain) => nearest_of_plain(plain, self.tests, self.points, point),
-            Either::Constrained(constrained) => {
-                nearest_of_all(constrained, self.tests, self.points, point)
-            }
+            Either::Plain(plain) => distance_reply(nearest_of_plain(plain, self.tests, point)),
+            Either::Constrained(constrained) => distance_reply(nearest_of_all(constrained, point)),
         }
     }
 
@@ -204,17 +186,12 @@ impl<'a, P: PlaneTests<i64>, L: HintGenerator<i64>> PointEngine<'a, P, L> {
     fn faces(&self) -> Reply
         ensures reply { MayList (stage_of self.now.triangulation).triangulation result }
     {
-        match &self.triangulation {
-            Either::Plain(plain) => faces(plain, self.alloc),
-            Either::Constrained(constrained) => faces(constrained, self.alloc),
-        }
+        on_either!(&self.triangulation, it => faces(it, self.alloc))
     }
 
     fn release(&mut self, from: u64, to: u64) -> Reply
-        requires ready { IsStageReady (P.covered self.old.tests.now) (P.sites self.old.tests.now)
-            self.old.points.now (stage_of self.old.triangulation) }
-        ensures ready { IsStageReady (P.covered self.new.tests.now) (P.sites self.new.tests.now)
-            self.new.points.now (stage_of self.new.triangulation) }
+        requires ready { IsEngineReady P.covered P.sites self.old }
+        ensures ready { IsEngineReady P.covered P.sites self.new }
         ensures points { self.new.points ≡ self.old.points }
         ensures reply { MayRelease (stage_of self.old.triangulation) from to result
             (stage_of self.new.triangulation) }
@@ -228,17 +205,10 @@ impl<'a, P: PlaneTests<i64>, L: HintGenerator<i64>> PointEngine<'a, P, L> {
         }
     }
 
-    fn constrain<W: Write>(
-        &mut self,
-        from: u64,
-        to: u64,
-        writer: &mut Watched<W>,
-    ) -> Result<(), Failed>
-        requires ready { IsStageReady (P.covered self.old.tests.now) (P.sites self.old.tests.now)
-            self.old.points.now (stage_of self.old.triangulation) }
+    fn constrain<W: Write>(&mut self, from: u64, to: u64, writer: &mut Watched<W>) -> Written
+        requires ready { IsEngineReady P.covered P.sites self.old }
         requires works { has_failed writer.old ≡ false }
-        ensures ready { IsStageReady (P.covered self.new.tests.now) (P.sites self.new.tests.now)
-            self.new.points.now (stage_of self.new.triangulation) }
+        ensures ready { IsEngineReady P.covered P.sites self.new }
         ensures points { self.new.points ≡ self.old.points }
         ensures answered { (text : List ℕ)
             × MayJoin (stage_of self.old.triangulation) from to text
@@ -259,26 +229,17 @@ impl<'a, P: PlaneTests<i64>, L: HintGenerator<i64>> PointEngine<'a, P, L> {
         }
     }
 
-    fn line<W: Write>(
-        &self,
-        from: Point2<i64>,
-        to: Point2<i64>,
-        writer: &mut Watched<W>,
-    ) -> Result<(), Failed>
-        requires ready { IsStageReady (P.covered self.now.tests.now) (P.sites self.now.tests.now)
-            self.now.points.now (stage_of self.now.triangulation) }
+    fn line<W: Write>(&self, from: Point2<i64>, to: Point2<i64>, writer: &mut Watched<W>) -> Written
+        requires ready { IsEngineReady P.covered P.sites self.now }
         requires works { has_failed writer.old ≡ false }
         ensures answered { (text : List ℕ)
             × MayWalk self.now.points.now (stage_of self.now.triangulation).triangulation
             (position from) (position to) text
             × Writes W.contents writer.old writer.new result text }
     {
-        match &self.triangulation {
-            Either::Plain(plain) => write_line(plain, self.tests, self.points, from, to, writer),
-            Either::Constrained(constrained) => {
-                write_line(constrained, self.tests, self.points, from, to, writer)
-            }
-        }
+        on_either!(&self.triangulation, it => {
+            write_line(it, self.tests, self.points, from, to, writer)
+        })
     }
 
     /// The vertices of two indexes, if both are there.
@@ -287,10 +248,7 @@ impl<'a, P: PlaneTests<i64>, L: HintGenerator<i64>> PointEngine<'a, P, L> {
             (λ p. (p.0 ≡ from) × (p.1 ≡ to)
             × AreVertices (stage_of self.now.triangulation) from to) }
     {
-        match &self.triangulation {
-            Either::Plain(plain) => vertices_at(plain, from, to),
-            Either::Constrained(constrained) => vertices_at(constrained, from, to),
-        }
+        on_either!(&self.triangulation, it => vertices_at(it, from, to))
     }
 
     /// Makes the triangulation one with constraints, where it is none and memory is not refused.

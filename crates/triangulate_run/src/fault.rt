@@ -18,10 +18,7 @@ pub const USAGE: &str = "usage: triangulate G|B|R|L|X";
 pub fn exit_status_of(outcome: &Result<(), RunError>) -> u8
     ensures { MatchResult outcome.now (λ _. result ≡ 0) (λ _. result ≡ 1) }
 {
-    match outcome {
-        Ok(()) => 0,
-        Err(_) => 1,
-    }
+    u8::from(outcome.is_err())
 }
 
 /// What stands on standard error after a fault.

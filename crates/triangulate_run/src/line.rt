@@ -13,8 +13,8 @@ ghost use Rattle.triangulate_run.specs.Output.{Writes, Puts};
 ghost use Rattle.triangulate_run.specs.Reply.{edge_text, item_text, line_text, next_text};
 ghost use Rattle.triangulate_run.specs.Stage.{position};
 
-use crate::output::{Held, put_pieces, write_all};
-use crate::piece::Piece;
+use crate::output::{Held, Written, put_pieces, write_all};
+use crate::piece::Piece::{Index, Text};
 use crate::points::{SheetPoint, index_of};
 use crate::reply::{Reply, write_reply};
 use spade_delaunay::handles::DirectedEdgeHandle;
@@ -23,7 +23,7 @@ use spade_delaunay::{
     TriangulationCore,
 };
 use std::io::Write;
-use triangulate_watched::{Failed, Watched};
+use triangulate_watched::Watched;
 
 /// Writes what the way from one point of the list to another meets, in order.
 pub(crate) fn write_line<L: HintGenerator<i64>, UE, M: EdgeData<UE>, P: PlaneTests<i64>, W: Write>(
@@ -33,7 +33,7 @@ pub(crate) fn write_line<L: HintGenerator<i64>, UE, M: EdgeData<UE>, P: PlaneTes
     from: Point2<i64>,
     to: Point2<i64>,
     writer: &mut Watched<W>,
-) -> Result<(), Failed>
+) -> Written
     requires ready { IsStageReady (P.covered tests.now) (P.sites tests.now) points.now
         (stage_by M.constraints triangulation.now) }
     requires works { has_failed writer.old ≡ false }
@@ -53,7 +53,7 @@ pub(crate) fn write_line<L: HintGenerator<i64>, UE, M: EdgeData<UE>, P: PlaneTes
 fn write_items<DE, UE, F, P: PlaneTests<i64>, W: Write>(
     writer: &mut Watched<W>,
     line: &mut LineIntersectionIterator<'_, Point2<i64>, DE, UE, F, P>,
-) -> Result<(), Failed>
+) -> Written
     requires ready { IsReady position (λ z. z) P.sites P.covered line.old }
     requires works { has_failed writer.old ≡ false }
     ensures { (items : List Item) → AreLeft position (λ z. z) line.old items
@@ -65,7 +65,7 @@ fn write_items<DE, UE, F, P: PlaneTests<i64>, W: Write>(
     let mut held = Held::new();
     put_item(writer, &mut held, "", &first)?;
     put_items(writer, &mut held, line)?;
-    put_pieces(writer, &mut held, &[Piece::Text("\n")])?;
+    put_pieces(writer, &mut held, &[Text("\n")])?;
     write_all(writer, held.as_slice())
 }
 
@@ -74,7 +74,7 @@ fn put_items<DE, UE, F, P: PlaneTests<i64>, W: Write>(
     writer: &mut Watched<W>,
     held: &mut Held,
     line: &mut LineIntersectionIterator<'_, Point2<i64>, DE, UE, F, P>,
-) -> Result<(), Failed>
+) -> Written
     requires ready { IsReady position (λ z. z) P.sites P.covered line.old }
     requires works { has_failed writer.old ≡ false }
     ensures { (items : List Item) → AreLeft position (λ z. z) line.old items
@@ -93,7 +93,7 @@ fn put_item<DE, UE, F, W: Write>(
     held: &mut Held,
     before: &str,
     item: &Intersection<'_, Point2<i64>, DE, UE, F>,
-) -> Result<(), Failed>
+) -> Written
     requires works { has_failed writer.old ≡ false }
     ensures { Puts W.contents writer.old writer.new held.old.items held.new.items result
         (before.now ++ item_text (item_in item.now)) }
@@ -102,11 +102,7 @@ fn put_item<DE, UE, F, W: Write>(
         Intersection::VertexIntersection(vertex) => put_pieces(
             writer,
             held,
-            &[
-                Piece::Text(before),
-                Piece::Text("v "),
-                Piece::Index(u64::from(vertex.fix().index())),
-            ],
+            &[Text(before), Text("v "), Index(u64::from(vertex.index()))],
         ),
         Intersection::EdgeIntersection(edge) => put_met_edge(writer, held, before, "e ", *edge),
         Intersection::EdgeOverlap(edge) => put_met_edge(writer, held, before, "o ", *edge),
@@ -120,7 +116,7 @@ fn put_met_edge<'x, DE, UE, F, W: Write>(
     before: &'x str,
     name: &'x str,
     edge: DirectedEdgeHandle<'_, Point2<i64>, DE, UE, F>,
-) -> Result<(), Failed>
+) -> Written
     requires works { has_failed writer.old ≡ false }
     ensures { let m = edge.entry.dcel.now.mesh in
         Puts W.contents writer.old writer.new held.old.items held.new.items result
@@ -131,11 +127,11 @@ fn put_met_edge<'x, DE, UE, F, W: Write>(
         writer,
         held,
         &[
-            Piece::Text(before),
-            Piece::Text(name),
-            Piece::Index(u64::from(edge.from().fix().index())),
-            Piece::Text(">"),
-            Piece::Index(u64::from(edge.to().fix().index())),
+            Text(before),
+            Text(name),
+            Index(u64::from(edge.from().index())),
+            Text(">"),
+            Index(u64::from(edge.to().index())),
         ],
     )
 }

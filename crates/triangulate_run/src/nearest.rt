@@ -1,63 +1,38 @@
 //! How far the nearest vertex is.
-ghost use Rattle.std.specs.Prelude.{◌≡◌, ◌⊎◌, ◌≤ℤ◌, length, All, MatchOption};
+ghost use Rattle.std.specs.Prelude.{◌≡◌, ◌⊎◌, ◌≤ℤ◌, length, MatchOption};
 ghost use Rattle.delaunay_edit.specs.plane.Tests.{InRange};
 ghost use Rattle.delaunay_edit.specs.Constrained.{none};
 ghost use Rattle.delaunay_edit.specs.delaunay_legalization.State.{triangulation_of};
-ghost use Rattle.triangulate_run.specs.Answer.{IsVertexDistance, MayMeasure};
-ghost use Rattle.triangulate_run.specs.Engine.{stage_by, IsStageReady};
-ghost use Rattle.triangulate_run.specs.Points.{place};
+ghost use Rattle.triangulate_run.specs.Answer.{IsVertexDistance};
+ghost use Rattle.triangulate_run.specs.Engine.{stage_by, HasSites};
 ghost use Rattle.triangulate_run.specs.Stage.{position};
+ghost use Rattle.triangulate_run.specs.declared.reply.Reply.TheVariants.{Distance, NoNeighbor};
 
 use crate::engine::Plain;
-use crate::points::{SheetPoint, index_of};
 use crate::reply::Reply;
 use spade_delaunay::handles::FixedVertexHandle;
 use spade_delaunay::{HintGenerator, PlaneTests, Point2, Triangulation};
 
-/// By the search of a triangulation without constraints.
+/// The least squared distance to a vertex, by the search of a triangulation without constraints.
 pub(crate) fn nearest_of_plain<L: HintGenerator<i64>, P: PlaneTests<i64>>(
     triangulation: &Plain<L>,
     tests: &P,
-    points: &[SheetPoint],
     point: Point2<i64>,
-) -> Reply
-    requires ready { IsStageReady (P.covered tests.now) (P.sites tests.now) points.now
-        (stage_by none triangulation.now) }
-    ensures { MayMeasure points.now (triangulation_of position triangulation.now)
-        (position point) result }
+) -> Option<i64>
+    requires covered { P.covered tests.now (position point) }
+    requires sites { HasSites (P.sites tests.now) (stage_by none triangulation.now) }
+    ensures { MatchOption result (length triangulation.now.vertices ≡ 0)
+        (IsVertexDistance (triangulation_of position triangulation.now) (position point)) }
 {
-    if index_of(points, point).is_none() {
-        return Reply::UnknownPoint;
-    }
     triangulation.recall_invariant();
     match triangulation.nearest_neighbor(point, tests) {
-        Some(vertex) => Reply::Distance(point.distance_2(*vertex.data())),
-        None => Reply::NoNeighbor,
+        Some(vertex) => Some(point.distance_2(*vertex.data())),
+        None => None,
     }
 }
 
-/// By a look at all vertices.
-pub(crate) fn nearest_of_all<T: Triangulation<Vertex = Point2<i64>>, P: PlaneTests<i64>>(
-    triangulation: &T,
-    tests: &P,
-    points: &[SheetPoint],
-    point: Point2<i64>,
-) -> Reply
-    requires covered { All (λ s. P.covered tests.now (place s)) points.now }
-    ensures { MayMeasure points.now (triangulation_of position (T.state triangulation.now))
-        (position point) result }
-{
-    if index_of(points, point).is_none() {
-        return Reply::UnknownPoint;
-    }
-    match least_distance(triangulation, point) {
-        Some(distance_2) => Reply::Distance(distance_2),
-        None => Reply::NoNeighbor,
-    }
-}
-
-/// The least squared distance to a vertex.
-fn least_distance<T: Triangulation<Vertex = Point2<i64>>>(
+/// The same by a look at all vertices.
+pub(crate) fn nearest_of_all<T: Triangulation<Vertex = Point2<i64>>>(
     triangulation: &T,
     point: Point2<i64>,
 ) -> Option<i64>
@@ -82,5 +57,15 @@ fn lesser(first: Option<i64>, second: i64) -> i64
     match first {
         Some(first) if first < second => first,
         _ => second,
+    }
+}
+
+/// The distance to the nearest vertex, or that there is none.
+pub(crate) fn distance_reply(distance_2: Option<i64>) -> Reply
+    ensures { MatchOption distance_2 (result ≡ NoNeighbor) (λ d. result ≡ Distance d) }
+{
+    match distance_2 {
+        Some(distance_2) => Reply::Distance(distance_2),
+        None => Reply::NoNeighbor,
     }
 }

@@ -15,8 +15,11 @@ use triangulate_watched::{Failed, Watched};
 /// earlier where its room is used up.
 pub(crate) type Held = ArrayVec<u8, 2048>;
 
+/// [`Failed`] where the writer has failed.
+pub(crate) type Written = Result<(), Failed>;
+
 /// Writes the bytes in as many calls as it takes.
-pub(crate) fn write_all<W: Write>(writer: &mut Watched<W>, bytes: &[u8]) -> Result<(), Failed>
+pub(crate) fn write_all<W: Write>(writer: &mut Watched<W>, bytes: &[u8]) -> Written
     requires works { has_failed writer.old ≡ false }
     ensures { Writes W.contents writer.old writer.new result bytes.now }
 {
@@ -28,7 +31,7 @@ pub(crate) fn write_all<W: Write>(writer: &mut Watched<W>, bytes: &[u8]) -> Resu
 }
 
 /// Puts the bytes behind what is held.
-fn put_bytes<W: Write>(writer: &mut Watched<W>, held: &mut Held, bytes: &[u8]) -> Result<(), Failed>
+pub(crate) fn put_bytes<W: Write>(writer: &mut Watched<W>, held: &mut Held, bytes: &[u8]) -> Written
     requires works { has_failed writer.old ≡ false }
     ensures { Puts W.contents writer.old writer.new held.old.items held.new.items result bytes.now }
 {
@@ -43,11 +46,7 @@ fn put_bytes<W: Write>(writer: &mut Watched<W>, held: &mut Held, bytes: &[u8]) -
 }
 
 /// Puts one piece of a reply behind what is held.
-pub(crate) fn put_piece<W: Write>(
-    writer: &mut Watched<W>,
-    held: &mut Held,
-    piece: Piece<'_>,
-) -> Result<(), Failed>
+fn put_piece<W: Write>(writer: &mut Watched<W>, held: &mut Held, piece: Piece<'_>) -> Written
     requires works { has_failed writer.old ≡ false }
     ensures { Puts W.contents writer.old writer.new held.old.items held.new.items
         result (text_of piece.entry) }
@@ -64,7 +63,7 @@ pub(crate) fn put_pieces<W: Write>(
     writer: &mut Watched<W>,
     held: &mut Held,
     pieces: &[Piece<'_>],
-) -> Result<(), Failed>
+) -> Written
     requires works { has_failed writer.old ≡ false }
     ensures { Puts W.contents writer.old writer.new held.old.items held.new.items
         result (flat_map text_of pieces.now) }

@@ -4,15 +4,14 @@ ghost use Rattle.std.specs.List.{flat_map};
 ghost use Rattle.triangulate_watched.specs.Watched.{has_failed};
 ghost use Rattle.triangulate_run.specs.Output.{Writes, Puts};
 ghost use Rattle.triangulate_run.specs.Reply.{corners_text, reply_text};
-ghost use Rattle.triangulate_run.specs.declared.reply.Reply.TheVariants.{Refused, Edge, Removed};
-ghost use Rattle.triangulate_run.specs.declared.reply.Reply.TheVariants.{Counts};
+ghost use Rattle.triangulate_run.specs.declared.reply.Reply.TheVariants.{Refused, Counts};
 
 use crate::corners::Corners;
-use crate::output::{Held, put_pieces, write_all};
-use crate::piece::Piece;
+use crate::output::{Held, Written, put_bytes, put_pieces, write_all};
+use crate::piece::Piece::{Index, Signed, Text};
 use delaunay_edit::delaunay_core::math::InsertionError;
 use std::io::Write;
-use triangulate_watched::{Failed, Watched};
+use triangulate_watched::Watched;
 
 /// What the program answers to a line. Vertices stand by their indexes.
 #[derive(Drop)]
@@ -57,7 +56,7 @@ pub enum Reply {
 
 /// Writes the reply, each line of it with its newline, in one call where the writer takes it whole.
 /// A long list of faces takes more.
-pub(crate) fn write_reply<W: Write>(writer: &mut Watched<W>, reply: &Reply) -> Result<(), Failed>
+pub(crate) fn write_reply<W: Write>(writer: &mut Watched<W>, reply: &Reply) -> Written
     requires works { has_failed writer.old ≡ false }
     ensures { Writes W.contents writer.old writer.new result (reply_text reply.now) }
 {
@@ -66,60 +65,51 @@ pub(crate) fn write_reply<W: Write>(writer: &mut Watched<W>, reply: &Reply) -> R
     write_all(writer, held.as_slice())
 }
 
-fn put_reply<W: Write>(
-    writer: &mut Watched<W>,
-    held: &mut Held,
-    reply: &Reply,
-) -> Result<(), Failed>
+fn put_reply<W: Write>(writer: &mut Watched<W>, held: &mut Held, reply: &Reply) -> Written
     requires works { has_failed writer.old ≡ false }
     ensures { Puts W.contents writer.old writer.new held.old.items held.new.items
         result (reply_text reply.now) }
 {
     match reply {
-        Reply::BadLine => put_pieces(writer, held, &[Piece::Text("bad line\n")]),
-        Reply::UnknownPoint => put_pieces(writer, held, &[Piece::Text("unknown point\n")]),
+        Reply::BadLine => put_bytes(writer, held, b"bad line\n"),
+        Reply::UnknownPoint => put_bytes(writer, held, b"unknown point\n"),
         Reply::Refused(error) => put_refusal(writer, held, *error),
-        Reply::Vertex(index) => put_pieces(
-            writer,
-            held,
-            &[
-                Piece::Text("vertex "),
-                Piece::Index(*index),
-                Piece::Text("\n"),
-            ],
-        ),
-        Reply::Edge(from, to) => put_edge(writer, held, *from, *to),
-        Reply::Face(corners) => put_face(writer, held, "face ", *corners),
-        Reply::Outside => put_pieces(writer, held, &[Piece::Text("outside\n")]),
-        Reply::NoTriangulation => put_pieces(writer, held, &[Piece::Text("no triangulation\n")]),
-        Reply::Distance(distance_2) => put_pieces(
-            writer,
-            held,
-            &[
-                Piece::Text("distance "),
-                Piece::Signed(*distance_2),
-                Piece::Text("\n"),
-            ],
-        ),
-        Reply::NoNeighbor => put_pieces(writer, held, &[Piece::Text("none\n")]),
-        Reply::Removed(x, y) => put_removed(writer, held, *x, *y),
-        Reply::NoVertex => put_pieces(writer, held, &[Piece::Text("no vertex\n")]),
-        Reply::Released => put_pieces(writer, held, &[Piece::Text("released\n")]),
-        Reply::NotConstrained => put_pieces(writer, held, &[Piece::Text("not constrained\n")]),
-        Reply::NoEdge => put_pieces(writer, held, &[Piece::Text("no edge\n")]),
-        Reply::NoPath => put_pieces(writer, held, &[Piece::Text("none\n")]),
-        Reply::Counts(vertices, edges, faces, constraints) => {
-            put_counts(writer, held, *vertices, *edges, *faces, *constraints)
+        Reply::Vertex(index) => {
+            put_pieces(writer, held, &[Text("vertex "), Index(*index), Text("\n")])
         }
+        Reply::Edge(i, j) => {
+            let line = [Text("edge "), Index(*i), Text("-"), Index(*j), Text("\n")];
+            put_pieces(writer, held, &line)
+        }
+        Reply::Face(corners) => put_face(writer, held, "face ", *corners),
+        Reply::Outside => put_bytes(writer, held, b"outside\n"),
+        Reply::NoTriangulation => put_bytes(writer, held, b"no triangulation\n"),
+        Reply::Distance(distance_2) => {
+            let line = [Text("distance "), Signed(*distance_2), Text("\n")];
+            put_pieces(writer, held, &line)
+        }
+        Reply::NoNeighbor => put_bytes(writer, held, b"none\n"),
+        Reply::Removed(x, y) => {
+            let line = [
+                Text("removed "),
+                Signed(*x),
+                Text(" "),
+                Signed(*y),
+                Text("\n"),
+            ];
+            put_pieces(writer, held, &line)
+        }
+        Reply::NoVertex => put_bytes(writer, held, b"no vertex\n"),
+        Reply::Released => put_bytes(writer, held, b"released\n"),
+        Reply::NotConstrained => put_bytes(writer, held, b"not constrained\n"),
+        Reply::NoEdge => put_bytes(writer, held, b"no edge\n"),
+        Reply::NoPath => put_bytes(writer, held, b"none\n"),
+        Reply::Counts(v, e, f, c) => put_counts(writer, held, *v, *e, *f, *c),
         Reply::Faces(faces) => put_faces(writer, held, faces.as_slice()),
     }
 }
 
-fn put_refusal<W: Write>(
-    writer: &mut Watched<W>,
-    held: &mut Held,
-    error: InsertionError,
-) -> Result<(), Failed>
+fn put_refusal<W: Write>(writer: &mut Watched<W>, held: &mut Held, error: InsertionError) -> Written
     requires works { has_failed writer.old ≡ false }
     ensures { Puts W.contents writer.old writer.new held.old.items held.new.items
         result (reply_text (Refused error)) }
@@ -129,61 +119,7 @@ fn put_refusal<W: Write>(
         InsertionError::OutOfMemory => "OutOfMemory",
         InsertionError::OutOfIndexes => "OutOfIndexes",
     };
-    put_pieces(
-        writer,
-        held,
-        &[
-            Piece::Text("refused "),
-            Piece::Text(name),
-            Piece::Text("\n"),
-        ],
-    )
-}
-
-fn put_edge<W: Write>(
-    writer: &mut Watched<W>,
-    held: &mut Held,
-    from: u64,
-    to: u64,
-) -> Result<(), Failed>
-    requires works { has_failed writer.old ≡ false }
-    ensures { Puts W.contents writer.old writer.new held.old.items held.new.items
-        result (reply_text (Edge from to)) }
-{
-    put_pieces(
-        writer,
-        held,
-        &[
-            Piece::Text("edge "),
-            Piece::Index(from),
-            Piece::Text("-"),
-            Piece::Index(to),
-            Piece::Text("\n"),
-        ],
-    )
-}
-
-fn put_removed<W: Write>(
-    writer: &mut Watched<W>,
-    held: &mut Held,
-    x: i64,
-    y: i64,
-) -> Result<(), Failed>
-    requires works { has_failed writer.old ≡ false }
-    ensures { Puts W.contents writer.old writer.new held.old.items held.new.items
-        result (reply_text (Removed x y)) }
-{
-    put_pieces(
-        writer,
-        held,
-        &[
-            Piece::Text("removed "),
-            Piece::Signed(x),
-            Piece::Text(" "),
-            Piece::Signed(y),
-            Piece::Text("\n"),
-        ],
-    )
+    put_pieces(writer, held, &[Text("refused "), Text(name), Text("\n")])
 }
 
 fn put_counts<W: Write>(
@@ -193,7 +129,7 @@ fn put_counts<W: Write>(
     edges: u64,
     faces: u64,
     constraints: u64,
-) -> Result<(), Failed>
+) -> Written
     requires works { has_failed writer.old ≡ false }
     ensures { Puts W.contents writer.old writer.new held.old.items held.new.items
         result (reply_text (Counts vertices edges faces constraints)) }
@@ -202,14 +138,14 @@ fn put_counts<W: Write>(
         writer,
         held,
         &[
-            Piece::Index(vertices),
-            Piece::Text(" "),
-            Piece::Index(edges),
-            Piece::Text(" "),
-            Piece::Index(faces),
-            Piece::Text(" "),
-            Piece::Index(constraints),
-            Piece::Text("\n"),
+            Index(vertices),
+            Text(" "),
+            Index(edges),
+            Text(" "),
+            Index(faces),
+            Text(" "),
+            Index(constraints),
+            Text("\n"),
         ],
     )
 }
@@ -220,7 +156,7 @@ fn put_face<W: Write>(
     held: &mut Held,
     before: &str,
     corners: Corners,
-) -> Result<(), Failed>
+) -> Written
     requires works { has_failed writer.old ≡ false }
     ensures { Puts W.contents writer.old writer.new held.old.items held.new.items
         result (before.now ++ corners_text corners) }
@@ -229,22 +165,18 @@ fn put_face<W: Write>(
         writer,
         held,
         &[
-            Piece::Text(before),
-            Piece::Index(corners.first),
-            Piece::Text(" "),
-            Piece::Index(corners.second),
-            Piece::Text(" "),
-            Piece::Index(corners.third),
-            Piece::Text("\n"),
+            Text(before),
+            Index(corners.first),
+            Text(" "),
+            Index(corners.second),
+            Text(" "),
+            Index(corners.third),
+            Text("\n"),
         ],
     )
 }
 
-fn put_faces<W: Write>(
-    writer: &mut Watched<W>,
-    held: &mut Held,
-    faces: &[Corners],
-) -> Result<(), Failed>
+fn put_faces<W: Write>(writer: &mut Watched<W>, held: &mut Held, faces: &[Corners]) -> Written
     requires works { has_failed writer.old ≡ false }
     ensures { Puts W.contents writer.old writer.new held.old.items held.new.items
         result (flat_map corners_text faces.now ++ codes "end\n") }
@@ -252,5 +184,5 @@ fn put_faces<W: Write>(
     for corners in faces {
         put_face(writer, held, "", *corners)?;
     }
-    put_pieces(writer, held, &[Piece::Text("end\n")])
+    put_bytes(writer, held, b"end\n")
 }

@@ -14,7 +14,7 @@ use crate::engine::PointEngine;
 use crate::fault::RunError;
 use crate::input::next_byte;
 use crate::line_buffer::LineBuffer;
-use crate::output::write_all;
+use crate::output::{Written, write_all};
 use crate::points::SheetPoint;
 use spade_delaunay::{HintGenerator, PlaneTests};
 use std::alloc::Global;
@@ -32,7 +32,7 @@ pub(crate) trait Engine {
     ghost is_ready: { Self → Type 0 };
 
     /// Does what the command asks for, and writes what there is to tell.
-    fn answer<W: Write>(&mut self, command: Command, writer: &mut Watched<W>) -> Result<(), Failed>
+    fn answer<W: Write>(&mut self, command: Command, writer: &mut Watched<W>) -> Written
         requires ready { is_ready self.old }
         requires works { has_failed writer.old ≡ false }
         ensures ready { is_ready self.new }
@@ -52,7 +52,7 @@ fn command_of(line: &LineBuffer) -> Option<Command>
 }
 
 /// Writes the bytes, and has the writer pass them on.
-fn send<W: Write>(writer: &mut Watched<W>, bytes: &[u8]) -> Result<(), Failed>
+fn send<W: Write>(writer: &mut Watched<W>, bytes: &[u8]) -> Written
     requires works { has_failed writer.old ≡ false }
     ensures { Writes W.contents writer.old writer.new result bytes.now }
 {
@@ -65,7 +65,7 @@ fn answer<E: Engine, W: Write>(
     engine: &mut E,
     line: &LineBuffer,
     writer: &mut Watched<W>,
-) -> Result<(), Failed>
+) -> Written
     requires ready { E.is_ready engine.old }
     requires fits { Fits (E.stage engine.old) }
     requires works { has_failed writer.old ≡ false }
@@ -84,7 +84,7 @@ fn answer<E: Engine, W: Write>(
 }
 
 /// Answers what stands behind the last newline.
-fn finish<W: Write>(line: &LineBuffer, writer: &mut Watched<W>) -> Result<(), Failed>
+fn finish<W: Write>(line: &LineBuffer, writer: &mut Watched<W>) -> Written
     requires works { has_failed writer.old ≡ false }
     ensures { (whole : List ℕ) → line.now ≡ kept whole
         → Writes W.contents writer.old writer.new result (end_text whole) }

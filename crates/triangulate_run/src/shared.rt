@@ -14,7 +14,7 @@ ghost use Rattle.triangulate_run.specs.Answer.{AreSoMany, AreVertices, ListsFace
 ghost use Rattle.triangulate_run.specs.Answer.{MayCount, MayInsert, MayList, MayLocate, MayRemove};
 ghost use Rattle.triangulate_run.specs.declared.reply.Reply.TheVariants.{Edge};
 
-use crate::corners::{Corners, from_least, sort_faces};
+use crate::corners::{Corners, from_least};
 use crate::points::{SheetPoint, index_of, site_index_of};
 use crate::reply::Reply;
 use spade_delaunay::handles::{FaceHandle, FixedVertexHandle};
@@ -159,7 +159,7 @@ fn sorted_faces<T: Triangulation<Vertex = Point2<i64>>>(
     for face in triangulation.inner_faces() {
         faces.push(corner_row(face))?;
     }
-    sort_faces(&mut faces)?;
+    faces.sort()?;
     Ok(faces)
 }
 
@@ -170,9 +170,9 @@ fn corner_row<DE, UE, F>(face: FaceHandle<'_, Point2<i64>, DE, UE, F>) -> Corner
 {
     let [a, b, c] = face.vertices();
     from_least(
-        u64::from(a.fix().index()),
-        u64::from(b.fix().index()),
-        u64::from(c.fix().index()),
+        u64::from(a.index()),
+        u64::from(b.index()),
+        u64::from(c.index()),
     )
 }
 
@@ -202,10 +202,7 @@ fn location_reply<T: Triangulation<Vertex = Point2<i64>>>(
         PositionInTriangulation::OnVertex(vertex) => Reply::Vertex(u64::from(vertex.index())),
         PositionInTriangulation::OnEdge(edge) => {
             let edge = triangulation.directed_edge(edge);
-            edge_reply(
-                u64::from(edge.from().fix().index()),
-                u64::from(edge.to().fix().index()),
-            )
+            edge_reply(u64::from(edge.from().index()), u64::from(edge.to().index()))
         }
         PositionInTriangulation::OnFace(face) => Reply::Face(corner_row(triangulation.face(face))),
         PositionInTriangulation::OutsideOfConvexHull(_) => Reply::Outside,

@@ -4,10 +4,10 @@ ghost use Rattle.std.specs.Prelude.{true, All, IfSome, IfNone, IsTrue, map, stri
 ghost use Rattle.delaunay_edit.specs.plane.Fraction.{whole};
 ghost use Rattle.delaunay_edit.specs.plane.Side.{side, TurnsLeft};
 ghost use Rattle.delaunay_edit.specs.plane.Circle.{InsideCircle};
-ghost use Rattle.delaunay_edit.specs.delaunay_core.Place.{place_of};
 ghost use Rattle.triangulate_run.specs.Points.{place, HoldsAt, IsSiteAt};
 ghost use Rattle.triangulate_run.specs.Sheet.{points_of, circles_of, letter_of, IsCovered, IsSite};
 ghost use Rattle.triangulate_run.specs.Range.{covered_in_range};
+ghost use Rattle.triangulate_run.specs.Stage.{position};
 ghost use Rattle.triangulate_run.specs.declared.sheet.Sheet.{Sheet};
 
 use crate::circles::{Circle, is_inside_at, side_at};
@@ -98,15 +98,15 @@ impl Sheet {
     }
 
     fn covered_index(self, point: Point2<i64>) -> usize
-        requires { IsCovered self (place_of (λ z. z) point) }
-        ensures { HoldsAt (points_of self) result (place_of (λ z. z) point) }
+        requires { IsCovered self (position point) }
+        ensures { HoldsAt (points_of self) result (position point) }
     {
         index_of(self.listed(), point).unwrap()
     }
 
     fn site_index(self, point: Point2<i64>) -> usize
-        requires { IsSite self (place_of (λ z. z) point) }
-        ensures { IsSiteAt (points_of self) result (place_of (λ z. z) point) }
+        requires { IsSite self (position point) }
+        ensures { IsSiteAt (points_of self) result (position point) }
     {
         site_index_of(self.listed(), point).unwrap()
     }
@@ -122,11 +122,11 @@ impl PlaneTests<i64> for Sheet {
     ghost covered_are_in_range = { covered_in_range };
 
     fn side(&self, from: Point2<i64>, to: Point2<i64>, point: Point2<i64>) -> LineSideInfo
-        requires from_covered { IsCovered self.now (place_of (λ z. z) from) }
-        requires to_covered { IsCovered self.now (place_of (λ z. z) to) }
-        requires point_covered { IsCovered self.now (place_of (λ z. z) point) }
-        ensures { result ≡ side (whole (place_of (λ z. z) from)) (whole (place_of (λ z. z) to))
-            (whole (place_of (λ z. z) point)) }
+        requires from_covered { IsCovered self.now (position from) }
+        requires to_covered { IsCovered self.now (position to) }
+        requires point_covered { IsCovered self.now (position point) }
+        ensures { result ≡ side (whole (position from)) (whole (position to))
+            (whole (position point)) }
     {
         side_at(
             self.circles(),
@@ -143,15 +143,14 @@ impl PlaneTests<i64> for Sheet {
         v3: Point2<i64>,
         point: Point2<i64>,
     ) -> bool
-        requires v1_site { IsSite self.now (place_of (λ z. z) v1) }
-        requires v2_site { IsSite self.now (place_of (λ z. z) v2) }
-        requires v3_site { IsSite self.now (place_of (λ z. z) v3) }
-        requires point_site { IsSite self.now (place_of (λ z. z) point) }
-        requires left_turn { TurnsLeft (whole (place_of (λ z. z) v1)) (whole (place_of (λ z. z) v2))
-            (whole (place_of (λ z. z) v3)) }
-        ensures { IsTrue result ↔
-            InsideCircle (whole (place_of (λ z. z) v1)) (whole (place_of (λ z. z) v2))
-            (whole (place_of (λ z. z) v3)) (whole (place_of (λ z. z) point)) }
+        requires v1_site { IsSite self.now (position v1) }
+        requires v2_site { IsSite self.now (position v2) }
+        requires v3_site { IsSite self.now (position v3) }
+        requires point_site { IsSite self.now (position point) }
+        requires left_turn { TurnsLeft (whole (position v1)) (whole (position v2))
+            (whole (position v3)) }
+        ensures { IsTrue result ↔ InsideCircle (whole (position v1)) (whole (position v2))
+            (whole (position v3)) (whole (position point)) }
     {
         is_inside_at(
             self.circles(),

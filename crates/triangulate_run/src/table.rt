@@ -24,6 +24,23 @@ macro_rules! covered {
     };
 }
 
+// Three rows of three sites, whose coordinates are these.
+macro_rules! grid {
+    ($low:expr, $middle:expr, $high:expr) => {
+        [
+            site!($low, $low),
+            site!($middle, $low),
+            site!($high, $low),
+            site!($low, $middle),
+            site!($middle, $middle),
+            site!($high, $middle),
+            site!($low, $high),
+            site!($middle, $high),
+            site!($high, $high),
+        ]
+    };
+}
+
 // Sites on the line y = 0.
 macro_rules! row {
     ($($x:expr),*) => {
@@ -74,29 +91,9 @@ const H: usize = 7;
 
 const I: usize = 8;
 
-pub(crate) const G_POINTS: [SheetPoint; 9] = [
-    site!(-1, -1),
-    site!(0, -1),
-    site!(1, -1),
-    site!(-1, 0),
-    site!(0, 0),
-    site!(1, 0),
-    site!(-1, 1),
-    site!(0, 1),
-    site!(1, 1),
-];
+pub(crate) const G_POINTS: [SheetPoint; 9] = grid!(-1, 0, 1);
 
-pub(crate) const B_POINTS: [SheetPoint; 9] = [
-    site!(-536870912, -536870912),
-    site!(0, -536870912),
-    site!(536870912, -536870912),
-    site!(-536870912, 0),
-    site!(0, 0),
-    site!(536870912, 0),
-    site!(-536870912, 536870912),
-    site!(0, 536870912),
-    site!(536870912, 536870912),
-];
+pub(crate) const B_POINTS: [SheetPoint; 9] = grid!(-536870912, 0, 536870912);
 
 // Of the grid, however far apart its points are.
 pub(crate) const GRID_CIRCLES: [Circle; 34] = [

@@ -6,46 +6,33 @@ use Rattle.triangulate_run.proofs.constraints.release.Goals as goal
 pub returns-in_default-clause-reply : goal.returns-in_default-clause-reply
 returns-in_default-clause-reply g c = (
   (c.requires.from_in, c.requires.to_in),
-  no_edge c.args.triangulation.now c.recall_invariant.ensures.kept
-      c.args.from c.args.to c.in_default.ensures,
+  no_edge _ c.recall_invariant.ensures.kept _ _ c.in_default.ensures,
   refl,
 )
 
 pub returns-in-Ok-true-clause-reply : goal.returns-in-Ok-true-clause-reply
 returns-in-Ok-true-clause-reply g c =
-    let old = c.args.triangulation.now in
     let is = c.in-Some.ensures in
-    let h = c.in-Some.edge.index in
-    let within = subst (λ s. h < length s.directed) is.0 c.in-Some.edge.in_range in
+    let edge = c.in-Some.edge in
+    let within = subst (λ s. edge.index < length s.directed) is.0 edge.in_range in
     let half = c.as_undirected-edge.ensures ∙ ap (λ (k : ℕ). k / 2) c.fix.ensures.value in
-    is_released old c.remove_constraint_edge.new.self c.recall_invariant.ensures.kept c.args.from
-    c.args.to h within
-    is.1 is.2 c.as_undirected-edge.result half
-    c.remove_constraint_edge.result c.remove_constraint_edge.ensures.releases
-    (c.in-Ok-true.is ∙ ap Ok c.in-Ok-true.field-0-test)
+    is_released _ _ c.recall_invariant.ensures.kept _ _ _ within is.1 is.2 _ half _
+    c.remove_constraint_edge.ensures.releases (c.in-Ok-true.is ∙ ap Ok c.in-Ok-true.field-0-test)
 
 pub returns-in-Ok-false-clause-reply : goal.returns-in-Ok-false-clause-reply
 returns-in-Ok-false-clause-reply g c =
-    let old = c.args.triangulation.now in
     let is = c.in-Some.ensures in
-    let h = c.in-Some.edge.index in
-    let within = subst (λ s. h < length s.directed) is.0 c.in-Some.edge.in_range in
+    let edge = c.in-Some.edge in
+    let within = subst (λ s. edge.index < length s.directed) is.0 edge.in_range in
     let half = c.as_undirected-edge.ensures ∙ ap (λ (k : ℕ). k / 2) c.fix.ensures.value in
-    is_none old c.remove_constraint_edge.new.self c.recall_invariant.ensures.kept c.args.from
-    c.args.to h within
-    is.1 is.2 c.as_undirected-edge.result half
-    c.remove_constraint_edge.result c.remove_constraint_edge.ensures.releases
-    (c.in-Ok-false.is ∙ ap Ok c.in-Ok-false.field-0-test)
+    is_none _ _ c.recall_invariant.ensures.kept _ _ _ within is.1 is.2 _ half _
+    c.remove_constraint_edge.ensures.releases (c.in-Ok-false.is ∙ ap Ok c.in-Ok-false.field-0-test)
 
 pub returns-in-Err-clause-reply : goal.returns-in-Err-clause-reply
 returns-in-Err-clause-reply g c =
-    let old = c.args.triangulation.now in
     let is = c.in-Some.ensures in
-    let h = c.in-Some.edge.index in
-    let within = subst (λ s. h < length s.directed) is.0 c.in-Some.edge.in_range in
+    let edge = c.in-Some.edge in
+    let within = subst (λ s. edge.index < length s.directed) is.0 edge.in_range in
     let half = c.as_undirected-edge.ensures ∙ ap (λ (k : ℕ). k / 2) c.fix.ensures.value in
-    not_released old c.remove_constraint_edge.new.self c.recall_invariant.ensures.kept
-    c.args.from c.args.to h
-    within is.1 is.2 c.as_undirected-edge.result half
-    c.remove_constraint_edge.result c.remove_constraint_edge.ensures.releases
-    c.in-Err.field-0 c.in-Err.is
+    not_released _ _ c.recall_invariant.ensures.kept _ _ _ within is.1 is.2 _ half _
+    c.remove_constraint_edge.ensures.releases _ c.in-Err.is

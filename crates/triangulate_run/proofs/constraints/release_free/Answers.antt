@@ -5,11 +5,10 @@ use Rattle.triangulate_run.proofs.constraints.release_free.Goals as goal
 
 pub returns-in-Some : goal.returns-in-Some
 returns-in-Some g c =
-    let old = c.args.triangulation.now in
     let edge = c.in-Some.field-0 in
     let is = c.in-Some.ensures in
     let within = subst (λ s. edge.index < length s.directed) is.0 edge.in_range in (
-      is_edge old c.recall_invariant.ensures.kept c.args.from c.args.to edge.index within is.1 is.2,
+      is_edge _ c.recall_invariant.ensures.kept _ _ _ within is.1 is.2,
       no_joins c.args.from c.args.to,
       refl,
     )
@@ -17,7 +16,6 @@ returns-in-Some g c =
 pub returns-in-None : goal.returns-in-None
 returns-in-None g c = (
   (c.requires.from_in, c.requires.to_in),
-  no_edge c.args.triangulation.now c.recall_invariant.ensures.kept
-      c.args.from c.args.to c.in-None.ensures,
+  no_edge _ c.recall_invariant.ensures.kept _ _ c.in-None.ensures,
   refl,
 )

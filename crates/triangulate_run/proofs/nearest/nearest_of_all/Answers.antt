@@ -1,38 +1,52 @@
-use Rattle.std.proofs.Common.{sym, subst, rules, SFits, w64, to_z-of_z}
+use Rattle.std.proofs.Common.{◌≡◌, ◌∙◌}
+use Rattle.std.proofs.Common.{length, map, ap, sym, arith, rules, SFits, w64, to_z-of_z}
+use Rattle.std.specs.Prelude.{slice_get, Some}
+use Rattle.std.proofs.lemmas.List.{length-map}
+use Rattle.delaunay_edit.specs.plane.Fraction.{whole}
+use Rattle.delaunay_edit.specs.plane.Circle.{gap}
 use Rattle.delaunay_edit.specs.delaunay_legalization.State.{triangulation_of}
-use Rattle.triangulate_run.specs.Answer.{IsVertexDistance}
+use Rattle.delaunay_edit.proofs.Removing.{read_place}
 use Rattle.triangulate_run.specs.Stage.{position}
-use Rattle.triangulate_run.proofs.Distances.{covered_if_listed, no_vertex}
-use Rattle.triangulate_run.proofs.Insertions.{listed_if_known}
+use Rattle.triangulate_run.proofs.Distances.{vertex_in_range, least_goes_on, least_found}
 use Rattle.triangulate_run.proofs.nearest.nearest_of_all.Goals as goal
 
-pub least_distance-requires : goal.least_distance-requires
-least_distance-requires g c =
-    let p = position c.args.point in
-    let listed = listed_if_known c.args.points.now p c.index_of.result c.if-is_none.ensures
-    c.index_of.ensures in
-    g.met.P.PlaneTests.covered_are_in_range c.args.tests.now p
-    (covered_if_listed (g.P.PlaneTests.covered c.args.tests.now) c.args.points.now p
-    c.requires.covered listed)
+pub distance_2-requires-clause-other_in_range : goal.distance_2-requires-clause-other_in_range
+distance_2-requires-clause-other_in_range g c =
+    let vs = (g.T.Triangulation.state c.args.triangulation.now).vertices in
+    let i = c.loop-index.index in
+    let dcel = c.vertex-vertex.result.dcel.now in
+    let here : slice_get vs i ≡ Some c.data.result.now =
+    ap (λ s. slice_get s.vertices i) (sym c.vertex-vertex.ensures.state)
+    ∙ ap (slice_get dcel.vertices) (sym (c.vertex-vertex.ensures.index ∙ c.from_index.ensures))
+    ∙ c.data.ensures in
+    let last = c.num_vertices-index-end.ensures.value in
+    vertex_in_range vs i _ (omega (arith, length-map vs position, c.loop-index-test.true, last))
+    here c.recall_invariant.ensures.in_range
 
-pub returns-in-Some : goal.returns-in-Some
-returns-in-Some g c =
+pub loop-index-preserved : goal.loop-index-preserved
+loop-index-preserved g c =
+    let vs = (g.T.Triangulation.state c.args.triangulation.now).vertices in
     let p = position c.args.point in
-    let d = c.in-Some.distance_2 in
-    let listed = listed_if_known c.args.points.now p c.index_of.result c.if-is_none.ensures
-    c.index_of.ensures in
-    let fits : SFits w64 d = search rules in (
-      listed,
-      subst (IsVertexDistance
-          (triangulation_of position (g.T.Triangulation.state c.args.triangulation.now))
-          p) (sym (to_z-of_z {w = w64} {z = d} fits)) c.in-Some.ensures,
-    )
+    let i = c.loop-index.index in
+    let dcel = c.vertex-vertex.result.dcel.now in
+    let here : slice_get vs i ≡ Some c.data.result.now =
+    ap (λ s. slice_get s.vertices i) (sym c.vertex-vertex.ensures.state)
+    ∙ ap (slice_get dcel.vertices) (sym (c.vertex-vertex.ensures.index ∙ c.from_index.ensures))
+    ∙ c.data.ensures in
+    let last = c.num_vertices-index-end.ensures.value in
+    let is = c.distance_2.ensures
+    ∙ ap (λ q. gap (whole p) (whole q)) (sym (read_place position vs i _ here)) in
+    let fits : SFits w64 c.distance_2.result = search rules in
+    let lesser = rw (to_z-of_z {w = w64} {z = c.distance_2.result} fits) at c.lesser.ensures in
+    let stays : SFits w64 c.lesser.result = search rules in
+    rw (to_z-of_z {w = w64} {z = c.lesser.result} stays)
+    (least_goes_on (map position vs) p i c.loop-index.least _ _ c.loop-index.invariant
+    (omega (arith, length-map vs position, c.loop-index-test.true, last)) is lesser)
 
-pub returns-in-None : goal.returns-in-None
-returns-in-None g c =
-    let p = position c.args.point in
-    let listed = listed_if_known c.args.points.now p c.index_of.result c.if-is_none.ensures
-    c.index_of.ensures in (
-      listed,
-      no_vertex (g.T.Triangulation.state c.args.triangulation.now).vertices c.in-None.ensures,
-    )
+pub returns : goal.returns
+returns g c =
+    let s = g.T.Triangulation.state c.args.triangulation.now in
+    let last = c.num_vertices-index-end.ensures.value in
+    least_found (triangulation_of position s) (position c.args.point) c.loop-index.index
+    (length s.vertices) c.loop-index.least (sym (length-map s.vertices position))
+    (omega (arith, c.loop-index-test.false, last)) c.loop-index.invariant

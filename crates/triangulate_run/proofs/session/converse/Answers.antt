@@ -1,6 +1,4 @@
-use Rattle.std.proofs.Common.{List, refl, subst, ◌∙◌}
-use Rattle.triangulate_run.specs.declared.points.SheetPoint.{SheetPoint}
-use Rattle.triangulate_run.specs.Run.{Answers}
+use Rattle.std.proofs.Common.{refl, ◌∙◌}
 use Rattle.triangulate_run.proofs.RunLemmas.{start, consumes_break, byte_more, line_more}
 use Rattle.triangulate_run.proofs.RunLemmas.{line_fault, end_fault, end_more}
 use Rattle.triangulate_run.proofs.session.converse.Goals as goal
@@ -30,32 +28,25 @@ pub loop-engine-preserved-in-Ok : goal.loop-engine-preserved-in-Ok
 loop-engine-preserved-in-Ok g c =
     let i = c.loop-engine.invariant in
     let took = rw c.in-Ok-Some-eq10.field-0-is at c.in-Ok-Some-eq10.ensures in
+    let newline = consumes_break _ _ _ c.in-Ok-Some-eq10.field-0-0-test took.2 in
     let told = c.in-Ok.ensures.answered i.running.rest i.running.held in
-    let answer =
-    subst (λ (points : List SheetPoint). Answers points (g.E.Engine.stage c.loop-engine.engine)
-    i.running.rest told.0 (g.E.Engine.stage c.answer.new.engine)) i.listed told.1 in
     record {
       ready = c.in-Ok.ensures.ready;
       listed = c.in-Ok.ensures.listed ∙ i.listed;
       fits = c.in-Ok.ensures.fits;
-      running = line_more i.running c.next_byte.new.reader c.answer.new.writer told.0
-          (g.E.Engine.stage c.answer.new.engine) c.clear.new.self
-          (consumes_break _ _ _ c.in-Ok-Some-eq10.field-0-0-test took.2) took.0 answer
-          c.in-Ok.ensures.fits told.2.0 told.2.1 c.clear.ensures;
+      running = line_more i.running c.next_byte.new.reader c.answer.new.writer told.0 _
+          c.clear.new.self newline took.0 (rw i.listed at told.1) c.in-Ok.ensures.fits told.2.0
+          told.2.1 c.clear.ensures;
     }
 
 pub returns-in-Err-answer : goal.returns-in-Err-answer
 returns-in-Err-answer g c =
     let i = c.loop-engine.invariant in
     let took = rw c.in-Ok-Some-eq10.field-0-is at c.in-Ok-Some-eq10.ensures in
+    let newline = consumes_break _ _ _ c.in-Ok-Some-eq10.field-0-0-test took.2 in
     let told = c.in-Err-answer.ensures.answered i.running.rest i.running.held in
-    let answer =
-    subst (λ (points : List SheetPoint). Answers points (g.E.Engine.stage c.loop-engine.engine)
-    i.running.rest told.0 (g.E.Engine.stage c.answer.new.engine)) i.listed told.1 in
-    line_fault i.running c.next_byte.new.reader c.answer.new.writer told.0
-    (g.E.Engine.stage c.answer.new.engine)
-    (consumes_break _ _ _ c.in-Ok-Some-eq10.field-0-0-test took.2) took.0 answer
-    c.in-Err-answer.ensures.fits told.2.0 told.2.1
+    line_fault i.running c.next_byte.new.reader c.answer.new.writer told.0 _ newline took.0
+    (rw i.listed at told.1) c.in-Err-answer.ensures.fits told.2.0 told.2.1
 
 pub returns-in-Ok-finish : goal.returns-in-Ok-finish
 returns-in-Ok-finish g c =

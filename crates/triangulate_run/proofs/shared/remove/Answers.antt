@@ -1,10 +1,8 @@
 use Rattle.std.proofs.Common.{◌≡◌, ◌∙◌}
-use Rattle.std.proofs.Common.{ℕ, ℤ, List, ap, sym, subst, rules, SFits, w64, to_z, of_z, to_z-of_z}
+use Rattle.std.proofs.Common.{ℕ, ℤ, List, ap, sym, rules, SFits, w64, to_z, of_z, to_z-of_z}
 use Rattle.std.specs.Prelude.{slice_get, Some}
 use Rattle.delaunay_edit.specs.delaunay_core.declared.point.Point2.{Point2}
-use Rattle.delaunay_edit.specs.plane.Plain.{Removes}
 use Rattle.triangulate_run.specs.Stage.{position}
-use Rattle.delaunay_edit.specs.delaunay_legalization.Constraints.{points_and_constraints_by}
 use Rattle.delaunay_edit.proofs.Removing.{sites_left}
 use Rattle.triangulate_run.proofs.shared.remove.Goals as goal
 
@@ -29,16 +27,12 @@ returns-in-Ok-clause-sites g c =
 
 pub returns-in-Ok-clause-reply : goal.returns-in-Ok-clause-reply
 returns-in-Ok-clause-reply g c =
-    let old = (g.T.Triangulation.state c.args.triangulation.now) in
-    let new = (g.T.Triangulation.state c.remove.new.self) in
+    let vs = (g.T.Triangulation.state c.args.triangulation.now).vertices in
+    let removes = c.in-Ok.ensures.removes in
     let x_fits : SFits w64 c.in-Ok.point.x = search rules in
     let y_fits : SFits w64 c.in-Ok.point.y = search rules in
     record {
-      was = read_point old.vertices c.args.index c.in-Ok.point x_fits y_fits
-          (subst (λ (i : ℕ). slice_get old.vertices i ≡ Some c.in-Ok.point)
-          c.from_index-vertex.ensures c.in-Ok.ensures.removes.value);
-      removed = subst (λ (i : ℕ). Removes position
-          (points_and_constraints_by g.T.Constraints.ConstraintMarker.constraints old)
-          (points_and_constraints_by g.T.Constraints.ConstraintMarker.constraints new) i)
-          c.from_index-vertex.ensures c.in-Ok.ensures.removes.plain;
+      was = read_point vs c.args.index c.in-Ok.point x_fits y_fits
+          (rw c.from_index-vertex.ensures at removes.value);
+      removed = rw c.from_index-vertex.ensures at removes.plain;
     }

@@ -8,25 +8,20 @@ use Rattle.triangulate_run.proofs.engine.PointEngineEngine.answer.Goals.{in_defa
 use Rattle.triangulate_run.proofs.engine.PointEngineEngine.answer.Goals.{in_default+in-BadLine-1}
 
 pub returns-clause-answered : goal.returns-clause-answered
-returns-clause-answered g c =
-    let points = c.args.self.now.points.now in
-    let old = stage_of c.args.self.now.triangulation in
-    elim c.match-command.branch [
-      | in-Constrain w ↦
-          rw (w.in-Constrain.is, w.self-is, w.writer-is, w.answered-is)
-          w.constrain-answered.ensures.answered
-      | in-Line w ↦ rw (w.in-Line.is, w.self-is, w.writer-is, w.answered-is) (
-          let told = w.line-answered.ensures.answered in
-          let met = walks_there points old.triangulation _ _ _ _ w.placed_point.ensures
-          w.placed_point-in-Line.ensures told.0
-          told.1 in
-          (told.0, (met, refl), told.2))
-      | in_default+in-Faces-1 w ↦ rw (w.self-is, w.writer-is, w.answered-is) (
-          let so = answered_so points old c.args.command w.reply_to-reply.result _
-          w.reply_to-reply.ensures.reply in
-          (reply_text w.reply_to-reply.result, so, w.write_reply-answered.ensures))
-      | in_default+in-BadLine-1 w ↦ rw (w.self-is, w.writer-is, w.answered-is) (
-          let so = answered_so points old c.args.command w.reply_to-reply.result _
-          w.reply_to-reply.ensures.reply in
-          (reply_text w.reply_to-reply.result, so, w.write_reply-answered.ensures))
-    ]
+returns-clause-answered g c = elim c.match-command.branch [
+  | in-Constrain w ↦
+      rw (w.in-Constrain.is, w.self-is, w.writer-is, w.answered-is)
+      w.constrain-answered.ensures.answered
+  | in-Line w ↦ rw (w.in-Line.is, w.self-is, w.writer-is, w.answered-is) (
+      let told = w.line-answered.ensures.answered in
+      let met = walks_there c.args.self.now.points.now
+      (stage_of c.args.self.now.triangulation).triangulation _ _ _ _ w.placed_point.ensures
+      w.placed_point-in-Line.ensures told.0 told.1 in
+      (told.0, (met, refl), told.2))
+  | in_default+in-Faces-1 w ↦ rw (w.self-is, w.writer-is, w.answered-is) (
+      let so = answered_so _ _ c.args.command _ _ w.reply_to-reply.ensures.reply in
+      (reply_text w.reply_to-reply.result, so, w.write_reply-answered.ensures))
+  | in_default+in-BadLine-1 w ↦ rw (w.self-is, w.writer-is, w.answered-is) (
+      let so = answered_so _ _ c.args.command _ _ w.reply_to-reply.ensures.reply in
+      (reply_text w.reply_to-reply.result, so, w.write_reply-answered.ensures))
+]
