@@ -14,23 +14,23 @@ use Rattle.delaunay_legalization.specs.Pushing.{GainsAmong, GainsRoundAmong}
 
 -- ---- the sides
 -- an edge that is gained is gained among any
-pub gains_among : (hs old new : List ℕ) (h : ℕ) → Gains old new (h / 2) → GainsAmong hs h old new
-gains_among hs old new h g = record { kept = g.kept; there = λ l. g.there }
+pub gains_among : {hs old new : List ℕ} {h : ℕ} → Gains old new (h / 2) → GainsAmong hs h old new
+gains_among g = record { kept = g.kept; there = λ l. g.there }
 
 -- one that is not among them need not be
-pub gains_none_among : (hs old : List ℕ) (h k : ℕ) → k ≡ h / 2 → ¬ Contains hs k
+pub gains_none_among : {hs old : List ℕ} {h k : ℕ} → k ≡ h / 2 → ¬ Contains hs k
     → GainsAmong hs h old old
-gains_none_among hs old h k is not = record {
+gains_none_among {hs = hs} is not = record {
   kept = λ j l. l;
   there = λ l. absurd (not (subst (Contains hs) (sym is) l));
 }
 
 -- four sides that are gained one after another are the round
-pub round_gained_among : (m : Mesh) (hs : List ℕ) (e a b c d : ℕ) (one two three four five : List ℕ)
+pub round_gained_among : {m : Mesh} {hs : List ℕ} {e a b c d : ℕ} {one two three four five : List ℕ}
     → a ≡ next m e → b ≡ prev m e → c ≡ next m (rev e) → d ≡ prev m (rev e)
     → GainsAmong hs a one two → GainsAmong hs b two three → GainsAmong hs c three four
     → GainsAmong hs d four five → GainsRoundAmong m hs e one five
-round_gained_among m hs e a b c d one two three four five at_a at_b at_c at_d f g h i = record {
+round_gained_among {hs = hs} {five = five} at_a at_b at_c at_d f g h i = record {
   kept = λ j l. i.kept j (h.kept j (g.kept j (f.kept j l)));
   next_there = subst (λ (z : ℕ). Contains hs (z / 2) → Contains five (z / 2)) at_a
       (λ l. i.kept _ (h.kept _ (g.kept _ (f.there l))));
@@ -50,19 +50,19 @@ pub record IsListingAgain (ks : List ℕ) (i : ℕ) (listed : List ℕ) (room_wa
   pub room_stays : room ≡ room_was
 
 -- before the first none is
-pub listing_begins : (ks listed : List ℕ) (room_was room : ℕ) → room ≡ room_was
+pub listing_begins : {ks listed : List ℕ} {room_was room : ℕ} → room ≡ room_was
     → IsListingAgain ks 0 listed room_was room
-listing_begins ks listed room_was room same = record {
+listing_begins same = record {
   each = λ j d less. absurd (omega (arith, less));
   room_stays = same;
 }
 
 -- with the next edge there is one more
-pub listing_goes_on : (ks : List ℕ) (i : ℕ) (listed : List ℕ) (room_was room : ℕ)
-    → IsListingAgain ks i listed room_was room
-    → (x : ℕ) (more : List ℕ) (room_now : ℕ) → i < length ks → x ≡ get_or ks i x
-    → Gains listed more x → room_now ≡ room → IsListingAgain ks (i + 1) more room_was room_now
-listing_goes_on ks i listed room_was room p x more room_now inside here gains same = record {
+pub listing_goes_on : {ks : List ℕ} {i : ℕ} {listed : List ℕ} {room_was room x : ℕ}
+    {more : List ℕ} {room_now : ℕ} → IsListingAgain ks i listed room_was room → i < length ks
+    → x ≡ get_or ks i x → Gains listed more x → room_now ≡ room
+    → IsListingAgain ks (i + 1) more room_was room_now
+listing_goes_on {ks = ks} {i = i} {x = x} {more = more} p inside here gains same = record {
   each = λ j d less. elim (cases_eq j i) [
     | inl e ↦ subst (Contains more)
         (here ∙ get_or_any ks i x d inside ∙ sym (ap (λ k. get_or ks k d) e)) gains.there
@@ -72,10 +72,10 @@ listing_goes_on ks i listed room_was room p x more room_now inside here gains sa
 }
 
 -- after the last each is listed
-pub listing_ends : (ks : List ℕ) (i : ℕ) (listed : List ℕ) (room_was room : ℕ)
+pub listing_ends : {ks : List ℕ} {i : ℕ} {listed : List ℕ} {room_was room : ℕ}
     → IsListingAgain ks i listed room_was room → length ks ≤ i → (k : ℕ) → Contains ks k
     → Contains listed k
-listing_ends ks i listed room_was room p all k (j, within, is) =
+listing_ends {listed = listed} p all k (j, within, is) =
     subst (Contains listed) is (p.each j k (omega (arith, all, within)))
 
 -- where only listed edges fail, only those that are listed again do

@@ -11,6 +11,7 @@ use Rattle.std.proofs.lemmas.Bool.{ne_eqb, cases_eq, cases_lt}
 use Rattle.std.proofs.lemmas.List.{get_or-set_same, get_or-set_other, get_or_past}
 use Rattle.std.proofs.lemmas.Nat.Bits.{bit_at-zero, bit_at_set_same, bit_at_set_other}
 use Rattle.std.proofs.lemmas.Nat.Bits.{bit_at_clear_same, bit_at_clear_other}
+use Rattle.mesh_embedding.proofs.plane_tiling.Totals.{get_or_any}
 use Rattle.delaunay_legalization.specs.Bits.{has_bit}
 
 -- the bit of a place that is not there is not set
@@ -75,26 +76,30 @@ module _ (words : List ℕ) (n word : ℕ) (here : n / 64 < length words) (b : B
 low_bit : (n : ℕ) → n % 64 < 64
 low_bit n = omega arith
 
--- words of which one has the bit of a number more
-pub one_bit_more : (words : List ℕ) (n : ℕ) → n / 64 < length words → (k : ℕ)
-    → has_bit (set words (n / 64) (bit_or (get_or words (n / 64) 0) (1 * 2 ^ (n % 64) % 2 ^ 64))) k
-    ≡ cond (nat_eq n k) true (has_bit words k)
-one_bit_more words n here =
-    one_bit words n _ here true
-    (ap (λ (b : ℕ). nat_eq b 1)
-    (bit_at_set_same w64 (get_or words (n / 64) 0) (n % 64) (low_bit n)))
-    (λ i _ a. bit_at_set_other w64 (get_or words (n / 64) 0) (n % 64) (low_bit n) i a)
+-- words of which one, as it was read, has the bit of a number more
+module _ (words : List ℕ) (n : ℕ) {word : ℕ} (here : n / 64 < length words)
+    (read : word ≡ get_or words (n / 64) word) where
+  as_read : word ≡ get_or words (n / 64) 0
+  as_read = read ∙ get_or_any words (n / 64) word 0 here
 
--- and one less
-pub one_bit_less : (words : List ℕ) (n : ℕ) → n / 64 < length words → (k : ℕ)
-    → has_bit (set words (n / 64)
-    (bit_and (get_or words (n / 64) 0) (bit_not w64 (1 * 2 ^ (n % 64) % 2 ^ 64)))) k
-    ≡ cond (nat_eq n k) false (has_bit words k)
-one_bit_less words n here =
-    one_bit words n _ here false
-    (ap (λ (b : ℕ). nat_eq b 1)
-    (bit_at_clear_same w64 (get_or words (n / 64) 0) (n % 64) (low_bit n)))
-    (λ i low a. bit_at_clear_other w64 (get_or words (n / 64) 0) (n % 64) (low_bit n) i low a)
+  pub one_bit_more : (k : ℕ)
+      → has_bit (set words (n / 64) (bit_or word (1 * 2 ^ (n % 64) % 2 ^ 64))) k
+      ≡ cond (nat_eq n k) true (has_bit words k)
+  one_bit_more =
+      one_bit words n _ here true
+      (ap (λ (b : ℕ). nat_eq b 1) (bit_at_set_same w64 word (n % 64) (low_bit n)))
+      (λ i _ a. bit_at_set_other w64 word (n % 64) (low_bit n) i a
+      ∙ ap (λ (x : ℕ). bit_at x i) as_read)
+
+  -- and one less
+  pub one_bit_less : (k : ℕ)
+      → has_bit (set words (n / 64) (bit_and word (bit_not w64 (1 * 2 ^ (n % 64) % 2 ^ 64)))) k
+      ≡ cond (nat_eq n k) false (has_bit words k)
+  one_bit_less =
+      one_bit words n _ here false
+      (ap (λ (b : ℕ). nat_eq b 1) (bit_at_clear_same w64 word (n % 64) (low_bit n)))
+      (λ i low a. bit_at_clear_other w64 word (n % 64) (low_bit n) i low a
+      ∙ ap (λ (x : ℕ). bit_at x i) as_read)
 
 -- further words that are 0
 pub bits_grown : (words : List ℕ) (n k : ℕ)

@@ -1,22 +1,18 @@
 -- What the functions of a legalisation need of the mesh that they are handed.
--- Notions: IsUnderway; edges_before, last_edge_within, last_within, failing_flippable,
--- failing_apart, left_turn, inside_fails, fails_inside, positive, turned_by, fixed_stay, fewer_by,
--- round_gained, half_within, edges_gained, half_below, underway_begins, step_fits, step_kept,
--- underway_ends, underway_counts, underway_keeps, drained.
+-- Notions: IsUnderway; failing_flippable, failing_apart, positive, turned_by, fixed_stay, fewer_by,
+-- round_gained, half_within, edges_gained, underway_begins, step_fits, step_kept, underway_ends,
+-- underway_counts, underway_keeps, drained.
 use Rattle.std.proofs.Common.{◌≡◌, ◌+◌, ◌-◌, ◌*◌, ◌/◌, ◌<◌, ◌≤◌, ◌^◌, [], ◌∷◌, ◌++◌, ◌∙◌}
 use Rattle.std.proofs.Common.{ℕ, suc, List, length, map, refl, sym, ap, subst, arith}
 use mathlib.Core.Logic.{◌≢◌}
 use Rattle.std.specs.Prelude.{Contains, take}
 use Rattle.mesh_embedding.specs.half_edge_mesh.Contents.{Contents}
-use Rattle.mesh_embedding.specs.half_edge_mesh.Mesh.{Mesh, origin, next, prev, face, rev}
+use Rattle.mesh_embedding.specs.half_edge_mesh.Mesh.{Mesh, origin, next, prev, rev}
 use Rattle.mesh_embedding.specs.half_edge_mesh.Mesh.{IsValidMesh}
 use Rattle.mesh_embedding.specs.half_edge_mesh.Flip.{IsFlippable, flipped}
 use Rattle.mesh_embedding.proofs.half_edge_links.Faces.FlipLemmas.{flips}
-use Rattle.mesh_embedding.specs.plane.Fraction.{Point, whole}
-use Rattle.mesh_embedding.specs.plane.Side.{TurnsLeft}
-use Rattle.mesh_embedding.specs.plane.Circle.{InsideCircle}
+use Rattle.mesh_embedding.specs.plane.Fraction.{Point}
 use Rattle.mesh_embedding.specs.plane_tiling.Local.{LocalMesh, IsMesh}
-use Rattle.mesh_embedding.proofs.plane_edits.LocalMesh.Kept.{turning_of}
 use Rattle.mesh_embedding.specs.plane.Delaunay.{IsLocallyDelaunay}
 use Rattle.mesh_embedding.specs.plane_edits.Legal.{AllPassBut}
 use Rattle.mesh_embedding.proofs.plane_edits.Legalization.Flipping.{none_left}
@@ -25,93 +21,23 @@ use Rattle.mesh_embedding.specs.Drawn.{drawn, faces_of, edges_of, outer_of}
 use Rattle.mesh_embedding.specs.Legal.{AreEdges, IsFailing, IsPartlyLegal, Gains, GainsRound}
 use Rattle.mesh_embedding.specs.Legal.{pairs_at, steps_left}
 use Rattle.mesh_embedding.specs.Stays.{KeepsIndexes}
-use Rattle.mesh_embedding.proofs.MeshEdits.{face_before}
 use Rattle.mesh_embedding.proofs.MeshLegal as M
-use Rattle.mesh_embedding.proofs.WorkLists.{contains_last, contains_before, once_before}
+use Rattle.mesh_embedding.proofs.WorkLists.{contains_last}
 use Rattle.delaunay_legalization.specs.Constraints.{constraint_pairs}
-use Rattle.delaunay_legalization.specs.Known.{point_at}
+use Rattle.delaunay_legalization.specs.Shape.{IsTriangulated}
+use Rattle.delaunay_legalization.specs.State.{State}
 
--- without its last entry a list of edges is one still
-pub edges_before : (m : Mesh) (ks : List ℕ) (k : ℕ) → AreEdges m (ks ++ k ∷ []) → AreEdges m ks
-edges_before m ks k o =
-    record { within = λ j c. o.within j (contains_before ks k j c); once = once_before ks k o.once }
-
--- the last of a list of edges is below the number of edges
-pub last_edge_within : (m : Mesh) (ks : List ℕ) (k n : ℕ) → 2 * n ≡ length m.half_edges
-    → AreEdges m (ks ++ k ∷ []) → k < n
-last_edge_within m ks k n e o = let h = o.within k (contains_last ks k) in omega (arith, h, e)
-
--- the first direction of the last of a list of edges is below the number of half edges
-pub last_within : (m : Mesh) (ks : List ℕ) (k n : ℕ) → n ≡ length m.half_edges
-    → AreEdges m (ks ++ k ∷ []) → (2 * k) < n
-last_within m ks k n e o = let h = o.within k (contains_last ks k) in omega (arith, h, e)
-
-module _ (points : List Point) (m : Mesh) (s : IsValidMesh m) (shape : IsMesh points (faces_of m)
-    (outer_of m)) (e n : ℕ) (count : n ≡ length m.half_edges) (within : e < n) where
-  in_mesh : e < length m.half_edges
-  in_mesh = omega (arith, count, within)
-
+module _ {points : List Point} {m : Mesh} (s : IsValidMesh m) (shape : IsMesh points (faces_of m)
+    (outer_of m)) {e : ℕ} (within : e < length m.half_edges) where
   -- an edge that fails may be turned
   pub failing_flippable : IsFailing points m e → IsFlippable m e
   failing_flippable x = M.between_inner points m s
-      (M.local_of points m e s.sound shape (in_mesh, x.inner)) e in_mesh x.inner x.twin_inner
+      (M.local_of points m e s.sound shape (within, x.inner)) e within x.inner x.twin_inner
 
   -- the corners opposite an edge that fails, one on either side, differ
   pub failing_apart : IsFailing points m e → origin m (prev m e) ≢ origin m (prev m (rev e))
   failing_apart x = M.apart_corners points m s
-      (M.local_of points m e s.sound shape (in_mesh, x.inner)) e in_mesh x
-
-  module _ (a c d b : Point) (twin prev_edge twin_prev : ℕ) (at_rev : twin ≡ rev e)
-      (at_prev : prev_edge ≡ prev m e) (at_twin : twin_prev ≡ prev m (rev e))
-      (first : a ≡ point_at points (origin m e)) (second : c ≡ point_at points (origin m twin))
-      (third : d ≡ point_at points (origin m prev_edge))
-      (fourth : b ≡ point_at points (origin m twin_prev)) where
-    -- the edge ends where the one after it in its loop starts
-    second_corner : c ≡ point_at points (origin m (next m e))
-    second_corner = second ∙ ap (λ (z : ℕ). point_at points (origin m z)) at_rev
-        ∙ ap (point_at points) (sym (s.sound.edges e in_mesh).starts)
-
-    -- where the edge has an inner face on its left, its corners a, c, d turn left
-    pub left_turn : 0 < face m e → TurnsLeft (whole a) (whole c) (whole d)
-    left_turn h =
-        subst (λ (x : Point × Point × Point). TurnsLeft (whole x.0) (whole x.1) (whole x.2))
-        (λ i. (
-          sym first i,
-          sym second_corner i,
-          sym (third ∙ ap (λ (z : ℕ). point_at points (origin m z)) at_prev) i,
-        ))
-        (turning_of points (faces_of m) (outer_of m)
-        (M.local_of points m e s.sound shape (in_mesh, h)) (origin m e) (origin m (next m e))
-        (origin m (prev m e)) (face_before m e s.sound (in_mesh, h)))
-
-    corners_are : let y : Point × Point × Point × Point = (a, c, d, b) in let z : Point × Point
-        × Point × Point = (
-          point_at points (origin m e),
-          point_at points (origin m (next m e)),
-          point_at points (origin m (prev m e)),
-          point_at points (origin m (prev m (rev e))),
-        ) in y ≡ z
-    corners_are = λ i. (
-      first i,
-      second_corner i,
-      (third ∙ ap (λ (z : ℕ). point_at points (origin m z)) at_prev) i,
-      (fourth ∙ ap (λ (z : ℕ). point_at points (origin m z)) at_twin) i,
-    )
-
-    -- between inner faces the edge fails if b is inside the circle of a, c, d
-    pub inside_fails : 0 < face m e → 0 < face m (rev e)
-        → InsideCircle (whole a) (whole c) (whole d) (whole b) → IsFailing points m e
-    inside_fails h t x = record {
-      inner = h;
-      twin_inner = t;
-      inside = subst (λ (x : Point × Point × Point × Point). InsideCircle (whole x.0) (whole x.1)
-          (whole x.2) (whole x.3)) corners_are x;
-    }
-
-    -- where the edge fails, b is inside the circle of a, c, d
-    pub fails_inside : IsFailing points m e → InsideCircle (whole a) (whole c) (whole d) (whole b)
-    fails_inside x = subst (λ (x : Point × Point × Point × Point). InsideCircle (whole x.0)
-        (whole x.1) (whole x.2) (whole x.3)) (sym corners_are) x.inside
+      (M.local_of points m e s.sound shape (within, x.inner)) e within x
 
 -- a number that is not 0 is above it
 pub positive : (n : ℕ) → ¬ (n ≡ 0) → 0 < n
@@ -134,13 +60,19 @@ turned_by points constraints was m new ks more k start before after s e f x g o 
     one_more n = omega arith
 
 -- the turned edge is no constraint, so the constraints keep their ends
-pub fixed_stay : {U : Type 0} (constraints : List U → List ℕ) (points : List Point) (m : Mesh)
-    (ds : List U) (k : ℕ) → IsValidMesh m → IsMesh points (faces_of m) (outer_of m)
-    → (2 * k) < length m.half_edges → IsFailing points m (2 * k) → ¬ Contains (constraints ds) k
-    → constraint_pairs constraints (flipped m (2 * k)) ds ≡ constraint_pairs constraints m ds
-fixed_stay constraints points m ds k s shape within x free =
-    M.pairs_stay points m s (M.local_of points m (2 * k) s.sound shape (within, x.inner)) k
-    within x (constraints ds) free
+pub fixed_stay : {V D U F : Type 0} {place : V → Point} {s : State V D U F} {k : ℕ}
+    (constraints : List U → List ℕ) → IsTriangulated place s
+    → (2 * k) < length s.directed → IsFailing (map place s.vertices) s.mesh (2 * k)
+    → ¬ Contains (constraints s.undirected) k
+    → constraint_pairs constraints (flipped s.mesh (2 * k)) s.undirected
+    ≡ constraint_pairs constraints s.mesh s.undirected
+fixed_stay {place = place} {s = s} {k = k} constraints kept within x free =
+    M.pairs_stay (map place s.vertices) s.mesh kept.valid (M.local_of (map place s.vertices) s.mesh
+    (2 * k) kept.valid.sound kept.shape (in_mesh, x.inner)) k in_mesh x
+    (constraints s.undirected) free
+  where
+    in_mesh : (2 * k) < length s.mesh.half_edges
+    in_mesh = subst (λ (n : ℕ). (2 * k) < n) kept.fits.directed_fit within
 
 -- a flip of a failing edge leaves fewer steps, whatever edges are put on the list for it
 pub fewer_by : (points : List Point) (m new : Mesh) (ks more : List ℕ) (k : ℕ) → IsValidMesh m
@@ -160,11 +92,12 @@ fewer_by points m new ks more k s shape e x own o =
     local = M.local_of points m (2 * k) s.sound shape (within, x.inner)
 
 -- a list that gains the four edges round an edge one by one has gained its round
-pub round_gained : (m : Mesh) (e a b c d : ℕ) (one two three four five : List ℕ) → a ≡ next m e
+pub round_gained : {m : Mesh} {e a b c d : ℕ} {one two three four five : List ℕ} → a ≡ next m e
     → b ≡ prev m e → c ≡ next m (rev e) → d ≡ prev m (rev e) → Gains one two (a / 2)
     → Gains two three (b / 2) → Gains three four (c / 2) → Gains four five (d / 2)
     → GainsRound m e one five
-round_gained m e a b c d one two three four five p q r s f g h i =
+round_gained {m = m} {e = e} {one = one} {two = two} {three = three} {four = four} {five = five}
+    p q r s f g h i =
     M.gains_round m e one two three four five (subst (λ (z : ℕ). Gains one two (z / 2)) p f) (subst
     (λ (z : ℕ). Gains two three (z / 2)) q g) (subst (λ (z : ℕ). Gains three four (z / 2)) r h)
     (subst (λ (z : ℕ). Gains four five (z / 2)) s i)
@@ -202,10 +135,6 @@ pub edges_gained : (m : Mesh) (old new : List ℕ) (h n : ℕ) → n ≡ length 
     → AreEdges m old → Gains old new (h / 2) → AreEdges m new
 edges_gained m old new h n e l o g =
     M.gains_edges m old new (h / 2) o (half_within m h n (h / 2) e l refl) g
-
--- the edge of a half edge is below a room for all
-pub half_below : (h d n k room e : ℕ) → d ≡ e → 2 * n ≡ e → h < d → k ≡ h / 2 → n ≤ room → k < room
-half_below h d n k room e f g l i r = grind arith
 
 -- before the first edge nothing has changed yet
 pub underway_begins : {V D U F : Type 0} (fix : List U → List ℕ) (points : List Point)

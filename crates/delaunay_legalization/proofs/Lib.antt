@@ -33,7 +33,7 @@ pub mod Stars
 pub mod FarSides
 pub mod OppositeSides
 pub mod OppositeTurns
-pub mod OppositeQuestions
+pub mod CircleQuestions
 pub mod AmongSteps
 pub mod AmongSides
 pub mod RoundLists

@@ -1,5 +1,5 @@
 -- A mesh over its points, by its fields and by its value, and a mesh through a flip.
--- Lemmas: placed_by_value, twin_within, kept_flipped.
+-- Lemmas: kept_by_value, twin_within, kept_flipped.
 use Rattle.std.proofs.Common.{◌≡◌, ℕ, ◌<◌, length, map, sym, subst, inl}
 use Rattle.mesh_embedding.specs.half_edge_mesh.Contents.{Contents, FitsMesh, IsMeshWithData}
 use Rattle.mesh_embedding.specs.half_edge_mesh.Mesh.{Mesh, rev}
@@ -15,27 +15,27 @@ use Rattle.delaunay_legalization.specs.Shape.{IsTriangulated}
 use Rattle.delaunay_legalization.specs.State.{State, state_of}
 
 -- what holds of the fields holds of the value
-pub placed_by_value : {V D U F P : Type 0} (place : V → Point) (IsSite : P → Point → Type 0)
-    (fields value : Reading V D U F P) → fields ≡ value
-    → IsPlaced place IsSite fields.dcel fields.tests → IsPlaced place IsSite value.dcel value.tests
-placed_by_value {V = V} {D = D} {U = U} {F = F} {P = P} place IsSite fields value same placed =
-    subst (λ (s : Reading V D U F P). IsPlaced place IsSite s.dcel s.tests) same placed
+pub kept_by_value : {V D U F P : Type 0} {place : V → Point} {IsSite : P → Point → Type 0}
+    {fields value : Reading V D U F P} → fields ≡ value
+    → IsPlaced place IsSite fields.dcel fields.tests → IsTriangulated place (state_of value.dcel)
+kept_by_value {V = V} {D = D} {U = U} {F = F} {P = P} {place = place} same placed =
+    subst (λ (s : Reading V D U F P). IsTriangulated place (state_of s.dcel)) same placed.kept
 
 -- the other direction of an edge is in the mesh
-pub twin_within : {V D U F : Type 0} (place : V → Point) (s : State V D U F) (e twin : ℕ)
+pub twin_within : {V D U F : Type 0} {place : V → Point} {s : State V D U F} {e twin : ℕ}
     → IsTriangulated place s → e < length s.directed → twin ≡ rev e → twin < length s.directed
-twin_within place s e twin kept within is =
+twin_within {s = s} {e = e} kept within is =
     let fit = kept.fits.directed_fit in
     rw (is, fit) (rev_within e (length s.mesh.half_edges) kept.valid.sound.even (rw fit at within))
 
 -- where a failing edge is turned, the mesh is one of a triangulation still
-pub kept_flipped : {V D U F : Type 0} (place : V → Point) (old new : Contents V D U F) (e : ℕ)
+pub kept_flipped : {V D U F : Type 0} {place : V → Point} {old new : Contents V D U F} {e : ℕ}
     → IsTriangulated place (state_of old) → e < length old.directed
     → IsFailing (map place old.vertices) old.mesh e → new.mesh ≡ flipped old.mesh e
     → new ≡ record old { mesh = new.mesh } → IsMeshWithData new
     → IsTriangulated place (state_of new)
-kept_flipped {V = V} {D = D} {U = U} {F = F} place old new e kept within fails turned contents
-    whole =
+kept_flipped {V = V} {D = D} {U = U} {F = F} {place = place} {old = old} {new = new} {e = e} kept
+    within fails turned contents whole =
     subst (λ (c : Contents V D U F). IsTriangulated place (state_of c)) (sym contents) (record {
       in_range = kept.in_range;
       few_edges = kept.few_edges;

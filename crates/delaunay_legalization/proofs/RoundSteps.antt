@@ -68,8 +68,8 @@ pub record IsTurningRound {V D U F : Type 0} (at : V → Point) (fix : List U �
 abbrev pub tests_left : List Point → Mesh → ℕ → ℕ → ℕ
 tests_left points m first h = 2 * lifted_volume points (faces_of m) + how_many_left m first h
 
-module _ {V D U F : Type 0} (at : V → Point) (fix : List U → List ℕ) (was : Contents V D U F)
-    (v first start : ℕ) where
+module _ {V D U F : Type 0} {at : V → Point} {fix : List U → List ℕ} {was : Contents V D U F}
+    {v first start : ℕ} where
   -- at first all of them
   pub turning_begins : IsTriangulated at (state_of was) → CanGoRound at was v first start
       → IsTurningRound at fix was was v first first start start
@@ -97,7 +97,7 @@ module _ {V D U F : Type 0} (at : V → Point) (fix : List U → List ℕ) (was 
             empty = can.empty;
           }
 
-  module _ (now : Contents V D U F) (h flips : ℕ) (kept : IsTriangulated at (state_of now))
+  module _ {now : Contents V D U F} {h flips : ℕ} (kept : IsTriangulated at (state_of now))
       (t : IsTurningRound at fix was now v first h start flips) where
     abbrev m : Mesh
     m = now.mesh
@@ -128,9 +128,9 @@ module _ {V D U F : Type 0} (at : V → Point) (fix : List U → List ℕ) (was 
     h_starts = t.left.starts h (Contains-head h t.behind)
 
     -- it starts at the vertex, which is where it was
-    pub centre_is : (q : Point) → q ≡ point_at (map at was.vertices) v
+    pub centre_is : {q : Point} → q ≡ point_at (map at was.vertices) v
         → q ≡ point_at points (origin m h)
-    centre_is q is = is ∙ (λ i. point_at (sym same_points i) (sym h_starts i))
+    centre_is is = is ∙ (λ i. point_at (sym same_points i) (sym h_starts i))
 
     -- the edge opposite the vertex is one of the mesh
     e_in : e < length m.half_edges
@@ -195,7 +195,7 @@ module _ {V D U F : Type 0} (at : V → Point) (fix : List U → List ℕ) (was 
         (e / 2) refl s fit (failing_either points m s shape h h_in x)
 
     -- ---- it was turned
-    module _ (after : Contents V D U F) (flips_after : ℕ)
+    module _ {after : Contents V D U F} {flips_after : ℕ}
         (contents : after ≡ record now { mesh = after.mesh })
         (constraints : constraint_pairs fix after.mesh after.undirected
         ≡ constraint_pairs fix m now.undirected)
@@ -347,7 +347,7 @@ module _ {V D U F : Type 0} (at : V → Point) (fix : List U → List ℕ) (was 
           smaller v w a b n l p q = omega (arith, l, p, q)
 
     -- ---- it stayed
-    module _ (after : Contents V D U F) (flips_after : ℕ)
+    module _ {after : Contents V D U F} {flips_after : ℕ}
         (contents : after ≡ record now { mesh = after.mesh })
         (stays : Stays points
         (constraint_pairs fix m now.undirected) m after.mesh h flips flips_after) where
@@ -402,24 +402,19 @@ module _ {V D U F : Type 0} (at : V → Point) (fix : List U → List ℕ) (was 
             empty = t.empty;
           }
 
-      same_turn : (g : ℕ) → g ≡ turn after.mesh h → g ≡ turn m h
-      same_turn g is = is ∙ ap (λ (y : Mesh). turn y h) stays.same
-
       -- one edge further on
-      pub turning_goes_next : (g : ℕ) → g ≡ turn after.mesh h → g ≢ first
+      pub turning_goes_next : {g : ℕ} → g ≡ turn m h → g ≢ first
           → IsTurningRound at fix was after v first g start flips_after
-      turning_goes_next g is off =
-          subst (λ (y : ℕ). IsTurningRound at fix was after v first y start flips_after)
-          (sym (same_turn g is))
+      turning_goes_next is off =
+          subst (λ (y : ℕ). IsTurningRound at fix was after v first y start flips_after) (sym is)
           (subst (λ (y : Contents V D U F × ℕ). IsTurningRound at fix was y.0 v first
-          (turn m h) start y.1) same_state
-          (next_turning (λ q. off (same_turn g is ∙ q))))
+          (turn m h) start y.1) same_state (next_turning (λ q. off (is ∙ q))))
 
       -- with fewer tests left
-      pub fewer_next : (g : ℕ) → g ≡ turn after.mesh h → g ≢ first
+      pub fewer_next : {g : ℕ} → g ≡ turn m h → g ≢ first
           → tests_left (map at after.vertices) after.mesh first g < tests_left points m first h
-      fewer_next g is off =
-          go (next_is_left m v first h t.behind t.left (λ q. off (same_turn g is ∙ q)))
+      fewer_next {g = g} is off =
+          go (next_is_left m v first h t.behind t.left (λ q. off (is ∙ q)))
         where
           smaller : (v a b n : ℕ) → a ≡ suc n → b ≡ suc (suc n) → 2 * v + a < 2 * v + b
           smaller v a b n p q = omega (arith, p, q)
@@ -437,38 +432,40 @@ module _ {V D U F : Type 0} (at : V → Point) (fix : List U → List ℕ) (was 
               (λ i. (
                 ap (λ (c : Contents V D U F × ℕ). map at c.0.vertices) same_state i,
                 sym stays.same i,
-                sym (same_turn g is) i,
+                sym is i,
               ))
               (smaller (lifted_volume points (faces_of m)) (how_many_left m first (turn m h))
               (how_many_left m first h)
               (length others) behind before)
 
       -- back at the first edge, the triangulation is legalized
-      pub turning_ends : (g : ℕ) → g ≡ turn after.mesh h → g ≡ first
+      pub turning_ends : {g : ℕ} → g ≡ turn m h → g ≡ first
           → Legalizes at fix was after start flips_after
-      turning_ends g is back =
+      turning_ends is back =
           subst (λ (y : Contents V D U F × ℕ). Legalizes at fix was y.0 start y.1) same_state
-          (steps_end Round at fix was 0 start now rest 0 flips
+          (steps_end {sides = Round} {room_was = 0} {all = rest} {room = 0}
           (record { underway = without_last; suffice = tt }) kept
           (none_in rest (λ j c. let y = rest_behind j c in Contains-none y.0
           (subst (λ (xs : List ℕ). Contains xs y.0)
-          (none_behind m v first h t.behind t.left (sym (same_turn g is) ∙ back)) y.1))))
+          (none_behind m v first h t.behind t.left (sym is ∙ back)) y.1))))
 
-  -- a vertex without edges leaves nothing to test
-  pub none_to_turn : IsTriangulated at (state_of was)
-      → IsEmptyRound (map at was.vertices) (faces_of was.mesh) v → IsNone (out_edge was.mesh v)
-      → Legalizes at fix was was start start
-  none_to_turn kept empty none = steps_end Round at fix was 0 start was [] 0 start (record {
-    underway = underway_begins fix (map at was.vertices) was [] 0 start kept.shape
-        (no_edges was.mesh) (opposite_begins
-        (map at was.vertices) (constraint_pairs fix was.mesh was.undirected) was.mesh
-        kept.valid.sound v [] kept.shape empty
-        (λ h w is. absurd
-        (neither (out_edge was.mesh v) none (subst (λ u. IsSome (out_edge was.mesh u)) is
-        (kept.valid.sound.edges h w).has_out))));
-    suffice = tt;
-  }) kept refl
-    where
-      neither : (o : Option ℕ) → IsNone o → IsSome o → ⊥
-      neither None n x = cc
-      neither (Some i) n x = cc
+-- a vertex without edges leaves nothing to test
+pub none_to_turn : {V D U F : Type 0} {at : V → Point} {fix : List U → List ℕ}
+    {was : Contents V D U F} {v start : ℕ} → IsTriangulated at (state_of was)
+    → IsEmptyRound (map at was.vertices) (faces_of was.mesh) v → IsNone (out_edge was.mesh v)
+    → Legalizes at fix was was start start
+none_to_turn {at = at} {fix = fix} {was = was} {v = v} {start = start} kept empty none =
+    steps_end {sides = Round} {room_was = 0} {all = []} {room = 0} (record {
+      underway = underway_begins fix (map at was.vertices) was [] 0 start kept.shape
+          (no_edges was.mesh) (opposite_begins
+          (map at was.vertices) (constraint_pairs fix was.mesh was.undirected) was.mesh
+          kept.valid.sound v [] kept.shape empty
+          (λ h w is. absurd
+          (neither (out_edge was.mesh v) none (subst (λ u. IsSome (out_edge was.mesh u)) is
+          (kept.valid.sound.edges h w).has_out))));
+      suffice = tt;
+    }) kept refl
+  where
+    neither : (o : Option ℕ) → IsNone o → IsSome o → ⊥
+    neither None n x = cc
+    neither (Some i) n x = cc

@@ -1,6 +1,7 @@
 -- A legalization from its first work list to its end, by the sides of a turned edge that it leaves
 -- to test.
--- Notions: IsUnderwayBy; step_drops, step_turns, steps_begin, can_step, steps_go_on, steps_end.
+-- Notions: IsUnderwayBy; last_edge_within, last_within, edges_before, step_drops, step_turns,
+-- steps_begin, can_step, steps_go_on, steps_end.
 use Rattle.std.proofs.Common.{◌≡◌, ℕ, ◌+◌, ◌*◌, ◌<◌, ◌≤◌, List, [], ◌∷◌, ◌++◌}
 use Rattle.std.proofs.Common.{length, map, refl, sym, ap, subst, arith}
 use Rattle.std.proofs.lemmas.List.{length-append}
@@ -15,7 +16,7 @@ use Rattle.mesh_embedding.specs.Drawn.{drawn, faces_of, outer_of}
 use Rattle.mesh_embedding.specs.Legal.{AreEdges, GainsRound, IsFailing, IsPartlyLegal}
 use Rattle.mesh_embedding.proofs.half_edge_links.Sound.Valid.{valid_flipped}
 use Rattle.mesh_embedding.proofs.MeshLegal.{dropped}
-use Rattle.mesh_embedding.proofs.WorkLists.{contains_last}
+use Rattle.mesh_embedding.proofs.WorkLists.{contains_last, contains_before, once_before}
 use Rattle.delaunay_legalization.specs.declared.sides.Sides.{Sides}
 use Rattle.delaunay_legalization.specs.declared.sides.Sides.TheVariants.{Round, Among}
 use Rattle.delaunay_legalization.specs.Constraints.{constraint_pairs}
@@ -24,7 +25,7 @@ use Rattle.delaunay_legalization.specs.Legalized.{Legalizes}
 use Rattle.delaunay_legalization.specs.Shape.{IsTriangulated}
 use Rattle.delaunay_legalization.specs.Sides.{AreLeftToTest, CanStep, GainsSides, HasStepped}
 use Rattle.delaunay_legalization.specs.Sides.{Suffice}
-use Rattle.delaunay_legalization.specs.State.{state_of}
+use Rattle.delaunay_legalization.specs.State.{State, state_of}
 use Rattle.delaunay_legalization.proofs.AmongSteps.{six, moves, only_stay, legal_among}
 use Rattle.delaunay_legalization.proofs.Legalizing.{IsUnderway, underway_begins, step_fits}
 use Rattle.delaunay_legalization.proofs.Legalizing.{step_kept}
@@ -52,18 +53,38 @@ module _ (points : List Point) (m : Mesh) (s : IsValidMesh m) (shape : IsMesh po
       (six points m s shape e within x) (moves points m s shape e within x).edge_count
       (only_stay points m s shape e within x es.now.items enough) g own legal
 
-module _ (sides : Sides) (points : List Point) (constraints : List (ℕ × ℕ)) (m : Mesh) (s :
-    IsValidMesh m) (shape : IsMesh points (faces_of m) (outer_of m)) (ks : List ℕ) (k before : ℕ)
-    (can : CanStep sides points m ks k before) where
-  last_within : (2 * k) < length m.half_edges
-  last_within = can.edges.within k (contains_last ks k)
+module _ {V D U F : Type 0} {place : V → Point} {s : State V D U F}
+    (kept : IsTriangulated place s) {sides : Sides} {ks : List ℕ} {k before : ℕ}
+    (can : CanStep sides (map place s.vertices) s.mesh ks k before) where
+  abbrev points : List Point
+  points = map place s.vertices
+
+  in_mesh : (2 * k) < length s.mesh.half_edges
+  in_mesh = can.edges.within k (contains_last ks k)
+
+  -- the edge is one of the mesh, and so is its first direction
+  pub last_edge_within : k < length s.undirected
+  last_edge_within =
+      let fit = kept.fits.undirected_fit in let within = in_mesh in omega (arith, within, fit)
+
+  pub last_within : (2 * k) < length s.directed
+  last_within = rw kept.fits.directed_fit in_mesh
+
+  -- without it the work list is one still
+  pub edges_before : AreEdges s.mesh ks
+  edges_before = record {
+    within = λ j l. can.edges.within j (contains_before ks k j l);
+    once = once_before ks k can.edges.once;
+  }
 
   -- an edge that is a constraint or does not fail leaves the work list
-  pub step_drops : (¬ Joins constraints (origin m (2 * k)) (origin m (rev (2 * k)))
-      → ¬ IsFailing points m (2 * k))
-      → HasStepped sides points constraints m m (ks ++ k ∷ []) ks before before
-  step_drops passes = record {
-    legal = λ was start p. dropped points constraints was m ks k start before s p passes;
+  pub step_drops : {constraints : List (ℕ × ℕ)}
+      → (¬ Joins constraints (origin s.mesh (2 * k)) (origin s.mesh (rev (2 * k)))
+      → ¬ IsFailing points s.mesh (2 * k))
+      → HasStepped sides points constraints s.mesh s.mesh (ks ++ k ∷ []) ks before before
+  step_drops {constraints = constraints} passes = record {
+    legal = λ was start p. dropped points constraints was s.mesh ks k start before kept.valid p
+        passes;
     suffice = can.suffice;
     fewer = less _ (length ks) (length (ks ++ k ∷ [])) (length-append ks (k ∷ []));
   }
@@ -72,20 +93,22 @@ module _ (sides : Sides) (points : List Point) (constraints : List (ℕ × ℕ))
       less q a b e = omega (arith, e)
 
   -- one that fails is turned and counted, and the sides that it leaves are in the work list
-  pub step_turns : (more : List ℕ) → IsFailing points m (2 * k)
-      → GainsSides sides m (2 * k) ks more → AreEdges m more
-      → HasStepped sides points constraints m (flipped m (2 * k)) (ks ++ k ∷ []) more before
-      (before + 1)
-  step_turns more x g own = record {
-    legal = λ was start p. left_by points m s shape (2 * k) last_within x constraints was
-        (valid_flipped m (2 * k) s
-        (failing_flippable points m s shape (2 * k) (length m.half_edges) refl last_within x)
-        (failing_apart points m s shape (2 * k) (length m.half_edges) refl last_within x))
+  pub step_turns : {constraints : List (ℕ × ℕ)} {more : List ℕ} → IsFailing points s.mesh (2 * k)
+      → GainsSides sides s.mesh (2 * k) ks more → AreEdges s.mesh more
+      → HasStepped sides points constraints s.mesh (flipped s.mesh (2 * k)) (ks ++ k ∷ []) more
+      before (before + 1)
+  step_turns {constraints = constraints} {more = more} x g own = record {
+    legal = λ was start p. left_by points s.mesh kept.valid kept.shape (2 * k) in_mesh x constraints
+        was (valid_flipped s.mesh (2 * k) kept.valid
+        (failing_flippable kept.valid kept.shape in_mesh x)
+        (failing_apart kept.valid kept.shape in_mesh x))
         start (before + 1) ks more sides can.suffice g own
-        (λ all round edges. turned_by points constraints was m
-        (flipped m (2 * k)) ks all k start before (before + 1) s refl refl x round edges p);
-    suffice = suffice_still points m s shape (2 * k) last_within x sides can.suffice;
-    fewer = fewer_by points m (flipped m (2 * k)) ks more k s shape refl x can.edges own;
+        (λ all round edges. turned_by points constraints was s.mesh
+        (flipped s.mesh (2 * k)) ks all k start before (before + 1) kept.valid refl refl x round
+        edges p);
+    suffice = suffice_still points s.mesh kept.valid kept.shape (2 * k) in_mesh x sides can.suffice;
+    fewer = fewer_by points s.mesh (flipped s.mesh (2 * k)) ks more k kept.valid kept.shape refl x
+        can.edges own;
   }
 
 -- ---- all steps
@@ -95,20 +118,20 @@ pub record IsUnderwayBy {V D U F : Type 0} (sides : Sides) (at : V → Point) (f
   pub underway : IsUnderway fix (map at was.vertices) was now ks room_was room start flips
   pub suffice : Suffice sides (map at was.vertices) now.mesh
 
-module _ {V D U F : Type 0} (sides : Sides) (at : V → Point) (fix : List U → List ℕ)
-    (was : Contents V D U F) (room_was start : ℕ) where
+module _ {V D U F : Type 0} {sides : Sides} {at : V → Point} {fix : List U → List ℕ}
+    {was : Contents V D U F} {room_was start : ℕ} where
   -- at first the edges of the work list are left
-  pub steps_begin : (ks : List ℕ) → IsMesh (map at was.vertices) (faces_of was.mesh)
+  pub steps_begin : {ks : List ℕ} → IsMesh (map at was.vertices) (faces_of was.mesh)
       (outer_of was.mesh) → AreLeftToTest at fix was ks
       → Suffice sides (map at was.vertices) was.mesh
       → IsUnderwayBy sides at fix was was ks room_was room_was start start
-  steps_begin ks shape left suffice = record {
+  steps_begin {ks = ks} shape left suffice = record {
     underway = underway_begins fix
         (map at was.vertices) was ks room_was start shape left.edges left.passing;
     suffice = suffice;
   }
 
-  module _ (now : Contents V D U F) (all : List ℕ) (room flips : ℕ)
+  module _ {now : Contents V D U F} {all : List ℕ} {room flips : ℕ}
       (u : IsUnderwayBy sides at fix was now all room_was room start flips) where
     same_points : map at now.vertices ≡ map at was.vertices
     same_points = ap (λ (c : Contents V D U F). map at c.vertices) u.underway.contents
@@ -124,18 +147,19 @@ module _ {V D U F : Type 0} (sides : Sides) (at : V → Point) (fix : List U →
       }
 
       -- after it the rest is under way
-      pub steps_go_on : (after : Contents V D U F) (more : List ℕ) (room_after flips_after : ℕ)
+      pub steps_go_on : {after : Contents V D U F} {more : List ℕ} {room_after flips_after : ℕ}
           → after ≡ record now { mesh = after.mesh } → constraint_pairs fix after.mesh
           after.undirected ≡ constraint_pairs fix now.mesh now.undirected
           → HasStepped sides (map at now.vertices) (constraint_pairs fix now.mesh now.undirected)
           now.mesh after.mesh (ks ++ k ∷ []) more flips flips_after → room_after ≡ room
           → IsUnderwayBy sides at fix was after more room_was room_after start flips_after
-      steps_go_on after more room_after flips_after contents constraints step stays = record {
-        underway =
-            step_kept at fix was now all room_was room start flips u.underway ks k popped after more
-            room_after flips_after contents constraints step.legal stays;
-        suffice = subst (λ ps. Suffice sides ps after.mesh) same_points step.suffice;
-      }
+      steps_go_on {after = after} {more = more} {room_after = room_after}
+          {flips_after = flips_after} contents constraints step stays = record {
+            underway =
+                step_kept at fix was now all room_was room start flips u.underway ks k popped after more
+                room_after flips_after contents constraints step.legal stays;
+            suffice = subst (λ ps. Suffice sides ps after.mesh) same_points step.suffice;
+          }
 
     -- when no edge is left, the triangulation is legalized
     pub steps_end : IsTriangulated at (state_of now) → all ≡ []

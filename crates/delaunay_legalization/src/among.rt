@@ -1,7 +1,6 @@
 //! A legalization where at most some edges fail: each other one has an empty circle on one of its
 //! sides.
-ghost use Rattle.std.specs.Prelude.{◌≡◌, ℕ, ◌*◌, ◌<◌, ◌≤◌};
-ghost use Rattle.std.specs.Prelude.{length, map, All, Contains, IsTrue};
+ghost use Rattle.std.specs.Prelude.{◌≡◌, ◌*◌, ◌≤◌, length, map, All, IsTrue};
 ghost use Rattle.mesh_embedding.specs.Legal.{AreEdges};
 ghost use Rattle.delaunay_legalization.specs.Among.{FailOnlyOf};
 ghost use Rattle.delaunay_legalization.specs.Flips.{FlipsFit};
@@ -17,7 +16,7 @@ use crate::legalization::{legalize_by, push_side, sides_round};
 use crate::sides::Sides;
 use delaunay_core::math::PlaneTests;
 use delaunay_core::point::HasPosition;
-use mesh_embedding::half_edge_mesh::{Dcel, FixedDirectedEdgeHandle, FixedUndirectedEdgeHandle};
+use mesh_embedding::half_edge_mesh::{Dcel, FixedDirectedEdgeHandle};
 
 // Puts an edge into a work list where it is among these edges, unless it is there.
 fn push_among<V, DE, UE, F>(
@@ -57,17 +56,6 @@ pub(crate) fn push_sides_among<V, DE, UE, F>(
     push_among(dcel, twin_prev, among, work);
 }
 
-// Lists some edges, in place of what was in the list.
-fn list_again(edges: &[FixedUndirectedEdgeHandle], list: &mut EdgeSet)
-    requires room { (k : ℕ) → Contains edges.now k → k < list.old.room }
-    ensures { (k : ℕ) → Contains edges.now k → Contains list.new.items k }
-{
-    list.clear();
-    for i in 0..edges.len() {
-        list.put(edges[i]);
-    }
-}
-
 /// Tests the edges of a work list, where each other edge passes, and flips those that fail and are
 /// no constraints until none does; each flip adds 1 to `flips`. Where each other edge has an empty
 /// circle on one of its sides, as `is_free` may say, it is not tested again. `work` and `among`
@@ -91,7 +79,7 @@ pub fn legalize_list<M: ConstraintMarker<UE>, V: HasPosition, DE, UE, F, P: Plan
     ensures legalizes { Legalizes V.place M.constraints dcel.old dcel.new flips.old flips.new }
 {
     if is_free {
-        list_again(work.as_slice(), among);
+        among.list_again(work);
         let sides = &Sides::Among(among);
         legalize_by::<M, _, _, _, _, _>(dcel, sides, tests, work, flips);
     } else {

@@ -1,7 +1,6 @@
 //! A legalization round a vertex, where only edges opposite it may fail.
 ghost use Rattle.std.specs.Prelude.{◌≡◌, ◌<◌, length, map, IsTrue, IsFalse};
 ghost use Rattle.mesh_embedding.specs.half_edge_mesh.Mesh.{origin};
-ghost use Rattle.mesh_embedding.specs.half_edge_mesh.Peel.{turn};
 ghost use Rattle.delaunay_core.specs.Place.{place_of};
 ghost use Rattle.delaunay_legalization.specs.Around.{CanGoRound, CanTurn, IsOpposite, Stays};
 ghost use Rattle.delaunay_legalization.specs.Around.{Turns};
@@ -11,11 +10,11 @@ ghost use Rattle.delaunay_legalization.specs.Legalized.{Legalizes};
 ghost use Rattle.delaunay_legalization.specs.Placed.{IsPlaced};
 
 use crate::constraint_marker::ConstraintMarker;
-use crate::legalization::{edge_after, flip, is_constraint_edge, is_outer};
+use crate::legalization::{ccw_edge, edge_after, flip, is_constraint_edge};
 use crate::placed::Placed;
 use delaunay_core::math::PlaneTests;
 use delaunay_core::point::{HasPosition, Point2};
-use mesh_embedding::half_edge_mesh::{Dcel, FixedDirectedEdgeHandle, MeshViews};
+use mesh_embedding::half_edge_mesh::{Dcel, FixedDirectedEdgeHandle};
 
 // What a test of the edge opposite a vertex reads, in the face on the left of one of the vertex's
 // edges: whether a face beside the edge is the outer one, the positions of the edge's ends, and
@@ -26,19 +25,6 @@ pub(crate) struct Opposite<S> {
     from: Point2<S>,
     to: Point2<S>,
     beyond: Point2<S>,
-}
-
-// The edge after an edge, against the clock round the vertex where it starts.
-#[inline(always)]
-fn ccw_edge<V, DE, UE, F>(
-    dcel: &Dcel<V, DE, UE, F>,
-    edge: FixedDirectedEdgeHandle,
-) -> FixedDirectedEdgeHandle
-    requires { edge < length dcel.now.directed }
-    ensures value { result ≡ turn dcel.now.mesh edge }
-    ensures within { result < length dcel.now.directed }
-{
-    dcel.directed_edge(edge).ccw().fix()
 }
 
 impl<'a, V: HasPosition, DE, UE, F, P: PlaneTests<V::Scalar>> Placed<'a, V, DE, UE, F, P> {
@@ -52,7 +38,7 @@ impl<'a, V: HasPosition, DE, UE, F, P: PlaneTests<V::Scalar>> Placed<'a, V, DE, 
         let edge = edge_after(self.dcel, spoke);
         let twin = edge.rev();
         Opposite {
-            is_outer: is_outer(self.dcel, spoke) || is_outer(self.dcel, twin),
+            is_outer: self.is_outer_beside(spoke, edge),
             from: self.start_of(edge),
             to: self.end_of(edge),
             beyond: self.start_before(twin),

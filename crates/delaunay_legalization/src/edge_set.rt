@@ -90,13 +90,6 @@ impl EdgeSet {
         self.edges.allocator()
     }
 
-    /// The edges.
-    pub fn as_slice(&self) -> &[FixedUndirectedEdgeHandle]
-        ensures { result.now ≡ self.now.items }
-    {
-        self.edges.as_slice()
-    }
-
     /// Whether an edge is listed.
     pub fn contains(&self, edge: FixedUndirectedEdgeHandle) -> bool
         ensures { IsTrue result ↔ Contains self.now.items edge }
@@ -138,5 +131,17 @@ impl EdgeSet {
         ensures room { self.new.room ≡ self.old.room }
     {
         'edges: while let Some(_) = self.pop() {}
+    }
+
+    // Lists the edges of another list, in place of what was in this one.
+    pub(crate) fn list_again(&mut self, other: &EdgeSet)
+        requires { (k : ℕ) → Contains other.now.items k → k < self.old.room }
+        ensures { (k : ℕ) → Contains other.now.items k → Contains self.new.items k }
+    {
+        let edges = other.edges.as_slice();
+        self.clear();
+        for i in 0..edges.len() {
+            self.put(edges[i]);
+        }
     }
 }

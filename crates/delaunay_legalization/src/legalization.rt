@@ -3,6 +3,7 @@ ghost use Rattle.std.specs.Prelude.{◌≡◌, ◌↔◌, ◌+◌, ◌-◌, ◌*
 ghost use Rattle.std.specs.Prelude.{length, map, All, Contains, IsTrue};
 ghost use Rattle.mesh_embedding.specs.half_edge_mesh.Mesh.{origin, next, prev, face, rev};
 ghost use Rattle.mesh_embedding.specs.half_edge_mesh.Flip.{flipped};
+ghost use Rattle.mesh_embedding.specs.half_edge_mesh.Peel.{turn};
 ghost use Rattle.mesh_embedding.specs.Legal.{AreEdges, Gains, GainsRound, IsFailing};
 ghost use Rattle.delaunay_core.specs.Place.{place_of};
 ghost use Rattle.delaunay_legalization.specs.Constraints.{constraint_pairs, KeepsConstraints};
@@ -77,9 +78,22 @@ pub fn start_before<V: HasPosition, DE, UE, F>(
     position_of(dcel, dcel.directed_edge(edge).prev_from().fix())
 }
 
-// The edge after an edge in its loop.
+/// The edge after an edge, against the clock round the vertex where it starts.
 #[inline(always)]
-pub(crate) fn edge_after<V, DE, UE, F>(
+pub fn ccw_edge<V, DE, UE, F>(
+    dcel: &Dcel<V, DE, UE, F>,
+    edge: FixedDirectedEdgeHandle,
+) -> FixedDirectedEdgeHandle
+    requires { edge < length dcel.now.directed }
+    ensures value { result ≡ turn dcel.now.mesh edge }
+    ensures within { result < length dcel.now.directed }
+{
+    dcel.directed_edge(edge).ccw().fix()
+}
+
+/// The edge after an edge in its loop.
+#[inline(always)]
+pub fn edge_after<V, DE, UE, F>(
     dcel: &Dcel<V, DE, UE, F>,
     edge: FixedDirectedEdgeHandle,
 ) -> FixedDirectedEdgeHandle
@@ -220,8 +234,9 @@ fn legalize_edge<M: ConstraintMarker<UE>, V: HasPosition, DE, UE, F, P: PlaneTes
         return;
     }
     let placed = Placed { dcel, tests };
-    if placed.is_failing(edge) {
-        push_left(dcel, edge.as_directed(), sides, work);
+    let directed = edge.as_directed();
+    if placed.is_failing(directed) {
+        push_left(dcel, directed, sides, work);
         flip(dcel, edge, flips);
     }
 }

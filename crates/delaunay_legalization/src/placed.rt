@@ -1,6 +1,6 @@
 //! A mesh with its points, for reads.
-ghost use Rattle.std.specs.Prelude.{◌≡◌, ◌↔◌, ◌*◌, ◌<◌, ◌≤◌, length, map, IsTrue};
-ghost use Rattle.mesh_embedding.specs.half_edge_mesh.Mesh.{origin, prev, face_edge, rev};
+ghost use Rattle.std.specs.Prelude.{◌≡◌, ◌↔◌, ◌⊎◌, ◌<◌, ◌≤◌, length, map, IsTrue};
+ghost use Rattle.mesh_embedding.specs.half_edge_mesh.Mesh.{origin, prev, face, face_edge, rev};
 ghost use Rattle.mesh_embedding.specs.half_edge_mesh.Triangles.{triangle_at};
 ghost use Rattle.mesh_embedding.specs.Legal.{IsFailing};
 ghost use Rattle.delaunay_core.specs.Place.{place_of};
@@ -10,10 +10,7 @@ ghost use Rattle.delaunay_legalization.specs.Parts.{IsMeshEdge, IsMeshFace};
 use crate::legalization::{is_outer, position_of};
 use delaunay_core::math::PlaneTests;
 use delaunay_core::point::{HasPosition, Point2};
-use mesh_embedding::half_edge_mesh::{
-    Dcel, FixedDirectedEdgeHandle, FixedFaceHandle, FixedUndirectedEdgeHandle, FixedVertexHandle,
-    MeshViews,
-};
+use mesh_embedding::half_edge_mesh::{Dcel, FixedDirectedEdgeHandle, FixedFaceHandle, MeshViews};
 use std::marker::Model;
 
 /// The mesh of a triangulation whose vertices are sites of tests.
@@ -35,17 +32,6 @@ impl<'a, V: HasPosition, DE, UE, F, P: PlaneTests<V::Scalar>> Model
 }
 
 impl<'a, V: HasPosition, DE, UE, F, P: PlaneTests<V::Scalar>> Placed<'a, V, DE, UE, F, P> {
-    /// The position of a vertex.
-    #[inline(always)]
-    pub fn position_of(&self, vertex: FixedVertexHandle) -> Point2<V::Scalar>
-        requires { vertex < length self.now.dcel.vertices }
-        ensures place { place_of V.Scalar.whole result ≡
-            point_at (map V.place self.now.dcel.vertices) vertex }
-        ensures site { P.sites self.now.tests (place_of V.Scalar.whole result) }
-    {
-        position_of(self.dcel, vertex)
-    }
-
     /// The position where an edge starts.
     #[inline(always)]
     pub fn start_of(&self, edge: FixedDirectedEdgeHandle) -> Point2<V::Scalar>
@@ -54,7 +40,7 @@ impl<'a, V: HasPosition, DE, UE, F, P: PlaneTests<V::Scalar>> Placed<'a, V, DE, 
             point_at (map V.place self.now.dcel.vertices) (origin self.now.dcel.mesh edge) }
         ensures site { P.sites self.now.tests (place_of V.Scalar.whole result) }
     {
-        self.position_of(self.dcel.directed_edge(edge).from().fix())
+        position_of(self.dcel, self.dcel.directed_edge(edge).from().fix())
     }
 
     /// The position where an edge ends, which is where the edge after it starts.
@@ -78,7 +64,7 @@ impl<'a, V: HasPosition, DE, UE, F, P: PlaneTests<V::Scalar>> Placed<'a, V, DE, 
             (origin self.now.dcel.mesh (prev self.now.dcel.mesh edge)) }
         ensures site { P.sites self.now.tests (place_of V.Scalar.whole result) }
     {
-        self.position_of(self.dcel.directed_edge(edge).prev_from().fix())
+        position_of(self.dcel, self.dcel.directed_edge(edge).prev_from().fix())
     }
 
     /// The positions of the ends of an edge, in its direction.
@@ -93,9 +79,7 @@ impl<'a, V: HasPosition, DE, UE, F, P: PlaneTests<V::Scalar>> Placed<'a, V, DE, 
         ensures to_site { P.sites self.now.tests (place_of V.Scalar.whole result.1) }
     {
         let edge = self.dcel.directed_edge(edge);
-        let from = edge.from().fix();
-        let to = edge.to().fix();
-        (self.position_of(from), self.position_of(to))
+        (self.start_of(edge.fix()), self.start_of(edge.rev().fix()))
     }
 
     /// The positions of the corners of an inner face, in their order round it.
@@ -123,27 +107,42 @@ impl<'a, V: HasPosition, DE, UE, F, P: PlaneTests<V::Scalar>> Placed<'a, V, DE, 
         let second = edge.next().from().fix();
         let third = edge.prev().from().fix();
         (
-            self.position_of(first),
-            self.position_of(second),
-            self.position_of(third),
+            position_of(self.dcel, first),
+            position_of(self.dcel, second),
+            position_of(self.dcel, third),
         )
+    }
+
+    // Whether the outer face is on the left of one edge, or on the right of another.
+    #[inline(always)]
+    pub(crate) fn is_outer_beside(
+        &self,
+        edge: FixedDirectedEdgeHandle,
+        other: FixedDirectedEdgeHandle,
+    ) -> bool
+        requires edge { edge < length self.now.dcel.directed }
+        requires other { other < length self.now.dcel.directed }
+        ensures { IsTrue result ↔
+            ((face self.now.dcel.mesh edge ≡ 0) ⊎ (face self.now.dcel.mesh (rev other) ≡ 0)) }
+    {
+        is_outer(self.dcel, edge) || is_outer(self.dcel, other.rev())
     }
 
     // Whether an edge lies between two inner faces, of which one has its third corner inside the
     // circle of the other.
     #[inline(always)]
-    pub(crate) fn is_failing(&self, edge: FixedUndirectedEdgeHandle) -> bool
-        requires { 2 * edge < length self.now.dcel.directed }
+    pub(crate) fn is_failing(&self, edge: FixedDirectedEdgeHandle) -> bool
+        requires { edge < length self.now.dcel.directed }
         ensures { IsTrue result ↔
-            IsFailing (map V.place self.now.dcel.vertices) self.now.dcel.mesh (2 * edge) }
+            IsFailing (map V.place self.now.dcel.vertices) self.now.dcel.mesh edge }
     {
-        let edge = edge.as_directed();
-        let twin = edge.rev();
-        if is_outer(self.dcel, edge) || is_outer(self.dcel, twin) {
+        let tests = self.tests;
+        if self.is_outer_beside(edge, edge) {
             return false;
         }
+        let twin = edge.rev();
         let (from, to) = (self.start_of(edge), self.start_of(twin));
         let (left, right) = (self.start_before(edge), self.start_before(twin));
-        self.tests.is_in_circle(from, to, left, right)
+        tests.is_in_circle(from, to, left, right)
     }
 }

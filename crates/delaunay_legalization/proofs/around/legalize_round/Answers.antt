@@ -1,5 +1,4 @@
-use Rattle.std.proofs.Common.{◌≡◌, sym, ◌∙◌}
-use Rattle.mesh_embedding.specs.half_edge_mesh.Peel.{turn}
+use Rattle.std.proofs.Common.{sym, ◌∙◌}
 use Rattle.delaunay_legalization.proofs.RoundSteps.{turning_begins, turn_fits, centre_is}
 use Rattle.delaunay_legalization.proofs.RoundSteps.{h_in, fewer_turned, turning_goes_on}
 use Rattle.delaunay_legalization.proofs.RoundSteps.{turning_goes_next, fewer_next, turning_ends}
@@ -7,86 +6,79 @@ use Rattle.delaunay_legalization.proofs.around.legalize_round.Goals as goal
 
 pub loop-next-init : goal.loop-next-init
 loop-next-init g c = record {
-  turning = turning_begins _ _ _ _ _ _ c.requires.placed.kept c.requires.can;
+  turning = turning_begins c.requires.placed.kept c.requires.can;
   opposite = c.opposite_of-opposite.ensures;
   placed = c.requires.placed;
 }
 
 pub ccw_edge-next-requires : goal.ccw_edge-next-requires
 ccw_edge-next-requires g c =
-    let kept = c.loop-next.invariant.placed.kept in
-    rw kept.fits.directed_fit (h_in _ _ _ _ _ _ _ _ _ kept c.loop-next.invariant.turning)
+    let i = c.loop-next.invariant in
+    rw i.placed.kept.fits.directed_fit (h_in i.placed.kept i.turning)
 
-pub turn_opposite-requires-clause-turn : goal.turn_opposite-requires-clause-turn
-turn_opposite-requires-clause-turn g c =
-    let kept = c.loop-next.invariant.placed.kept in
+pub turn_opposite-requires : goal.turn_opposite-requires
+turn_opposite-requires g c =
+    let i = c.loop-next.invariant in
     record {
-      placed = c.loop-next.invariant.placed;
-      within = h_in _ _ _ _ _ _ _ _ _ kept c.loop-next.invariant.turning;
-      fits = turn_fits _ _ _ _ _ _ _ _ _ kept c.loop-next.invariant.turning c.requires.can.fits;
+      turn = record {
+        placed = i.placed;
+        within = h_in i.placed.kept i.turning;
+        fits = turn_fits i.placed.kept i.turning c.requires.can.fits;
+      };
+      opposite = i.opposite;
+      centre = record {
+        place = centre_is i.placed.kept i.turning c.start_of-centre.ensures.place;
+        site = c.start_of-centre.ensures.site;
+      };
     }
-
-pub turn_opposite-requires-clause-centre : goal.turn_opposite-requires-clause-centre
-turn_opposite-requires-clause-centre g c = record {
-  place = centre_is _ _ _ _ _ _ _ _ _ c.loop-next.invariant.placed.kept
-      c.loop-next.invariant.turning _ c.start_of-centre.ensures.place;
-  site = c.start_of-centre.ensures.site;
-}
 
 pub opposite_of-opposite-requires-then-turn_opposite :
     goal.opposite_of-opposite-requires-then-turn_opposite
 opposite_of-opposite-requires-then-turn_opposite g c =
-    let kept = c.loop-next.invariant.placed.kept in
-    rw (c.turn_opposite.ensures.contents, kept.fits.directed_fit)
-    (h_in _ _ _ _ _ _ _ _ _ kept c.loop-next.invariant.turning)
+    let i = c.loop-next.invariant in
+    rw (c.turn_opposite.ensures.contents, i.placed.kept.fits.directed_fit)
+    (h_in i.placed.kept i.turning)
 
 pub loop-next-smaller-then-turn_opposite : goal.loop-next-smaller-then-turn_opposite
 loop-next-smaller-then-turn_opposite g c =
-    fewer_turned _ _ _ _ _ _ _ _ _ c.loop-next.invariant.placed.kept
-    c.loop-next.invariant.turning _ _ c.turn_opposite.ensures.contents
-    c.turn_opposite.ensures.constraints (c.turn_opposite.ensures.turned c.if-turn_opposite.true)
+    let i = c.loop-next.invariant in let did = c.turn_opposite.ensures in
+    fewer_turned i.placed.kept i.turning did.contents did.constraints
+    (did.turned c.if-turn_opposite.true)
 
 pub loop-next-preserved-then-turn_opposite : goal.loop-next-preserved-then-turn_opposite
-loop-next-preserved-then-turn_opposite g c = record {
-  turning = turning_goes_on _ _ _ _ _ _ _ _ _ c.loop-next.invariant.placed.kept
-      c.loop-next.invariant.turning _ _ c.turn_opposite.ensures.contents
-      c.turn_opposite.ensures.constraints (c.turn_opposite.ensures.turned c.if-turn_opposite.true);
-  opposite = c.opposite_of-opposite-then-turn_opposite.ensures;
-  placed = c.turn_opposite.ensures.placed;
-}
+loop-next-preserved-then-turn_opposite g c =
+    let i = c.loop-next.invariant in let did = c.turn_opposite.ensures in
+    record {
+      turning = turning_goes_on i.placed.kept i.turning did.contents did.constraints
+          (did.turned c.if-turn_opposite.true);
+      opposite = c.opposite_of-opposite-then-turn_opposite.ensures;
+      placed = did.placed;
+    }
 
 pub loop-next-smaller : goal.loop-next-smaller
 loop-next-smaller g c =
-    let stays = c.turn_opposite.ensures.stays c.if-turn_opposite.false in
-    let is : c.ccw_edge-next.result ≡ turn c.turn_opposite.new.dcel.mesh c.loop-next.spoke =
-    rw stays.same c.ccw_edge-next.ensures.value in
-    fewer_next _ _ _ _ _ _ _ _ _ c.loop-next.invariant.placed.kept
-    c.loop-next.invariant.turning _ _ c.turn_opposite.ensures.contents
-    stays c.ccw_edge-next.result is
+    let i = c.loop-next.invariant in let did = c.turn_opposite.ensures in
+    fewer_next i.placed.kept i.turning did.contents (did.stays c.if-turn_opposite.false)
+    c.ccw_edge-next.ensures.value
     (λ e. c.if-index.false (c.index.ensures ∙ e ∙ sym c.index-in-loop-next.ensures))
 
 pub loop-next-preserved : goal.loop-next-preserved
 loop-next-preserved g c =
-    let stays = c.turn_opposite.ensures.stays c.if-turn_opposite.false in
-    let is : c.ccw_edge-next.result ≡ turn c.turn_opposite.new.dcel.mesh c.loop-next.spoke =
-    rw stays.same c.ccw_edge-next.ensures.value in
+    let i = c.loop-next.invariant in let did = c.turn_opposite.ensures in
+    let stays = did.stays c.if-turn_opposite.false in
     record {
-      turning = turning_goes_next _ _ _ _ _ _ _ _ _ c.loop-next.invariant.placed.kept
-          c.loop-next.invariant.turning _ _ c.turn_opposite.ensures.contents
-          stays c.ccw_edge-next.result is
+      turning = turning_goes_next i.placed.kept i.turning did.contents stays
+          c.ccw_edge-next.ensures.value
           (λ e. c.if-index.false (c.index.ensures ∙ e ∙ sym c.index-in-loop-next.ensures));
-      opposite = rw (c.turn_opposite.ensures.contents, stays.same) c.opposite_of-ahead.ensures;
-      placed = c.turn_opposite.ensures.placed;
+      opposite = rw (did.contents, stays.same) c.opposite_of-ahead.ensures;
+      placed = did.placed;
     }
 
 pub returns : goal.returns
 returns g c =
-    let stays = c.turn_opposite.ensures.stays c.if-turn_opposite.false in
-    let is : c.ccw_edge-next.result ≡ turn c.turn_opposite.new.dcel.mesh c.loop-next.spoke =
-    rw stays.same c.ccw_edge-next.ensures.value in
+    let i = c.loop-next.invariant in let did = c.turn_opposite.ensures in
     record {
-      legalizes = turning_ends _ _ _ _ _ _ _ _ _ c.loop-next.invariant.placed.kept
-          c.loop-next.invariant.turning _ _ c.turn_opposite.ensures.contents
-          stays c.ccw_edge-next.result is
+      legalizes = turning_ends i.placed.kept i.turning did.contents
+          (did.stays c.if-turn_opposite.false) c.ccw_edge-next.ensures.value
           (sym c.index.ensures ∙ c.if-index.true ∙ c.index-in-loop-next.ensures);
     }

@@ -1,4 +1,4 @@
-use Rattle.std.proofs.Common.{◌*◌, ap, ◌∙◌}
+use Rattle.std.proofs.Common.{ap, ◌∙◌}
 use Rattle.mesh_embedding.proofs.half_edge_links.Removing.Conditions.{between_faces}
 use Rattle.delaunay_legalization.proofs.Legalizing.{failing_flippable, failing_apart}
 use Rattle.delaunay_legalization.proofs.Placing.{kept_flipped}
@@ -7,14 +7,14 @@ use Rattle.delaunay_legalization.proofs.legalization.flip.Goals as goal
 pub flip_cw-requires-clause-between : goal.flip_cw-requires-clause-between
 flip_cw-requires-clause-between g c =
     let kept = c.requires.kept in
-    between_faces _ _ (failing_flippable _ _ kept.valid kept.shape (2 * c.args.edge) _
-    kept.fits.directed_fit c.requires.within c.requires.failing)
+    between_faces _ _ (failing_flippable kept.valid kept.shape
+    (rw (← kept.fits.directed_fit) c.requires.within) c.requires.failing)
 
 pub flip_cw-requires-clause-corners : goal.flip_cw-requires-clause-corners
 flip_cw-requires-clause-corners g c =
     let kept = c.requires.kept in
-    failing_apart _ _ kept.valid kept.shape (2 * c.args.edge) _ kept.fits.directed_fit
-    c.requires.within c.requires.failing
+    failing_apart kept.valid kept.shape (rw (← kept.fits.directed_fit) c.requires.within)
+    c.requires.failing
 
 pub returns-clause-contents : goal.returns-clause-contents
 returns-clause-contents g c =
@@ -23,5 +23,5 @@ returns-clause-contents g c =
 
 pub returns-clause-kept : goal.returns-clause-kept
 returns-clause-kept g c =
-    kept_flipped g.V.HasPosition.place _ _ (2 * c.args.edge) c.requires.kept c.requires.within
-    c.requires.failing c.flip_cw.ensures.mesh c.flip_cw.ensures.contents c.flip_cw.ensures.whole.1
+    kept_flipped c.requires.kept c.requires.within c.requires.failing c.flip_cw.ensures.mesh
+    c.flip_cw.ensures.contents c.flip_cw.ensures.whole.1

@@ -4,10 +4,6 @@ use Rattle.delaunay_legalization.proofs.RoundSteps.{none_to_turn}
 use Rattle.delaunay_legalization.proofs.Stars.{star_is_left}
 use Rattle.delaunay_legalization.proofs.star.legalize_vertex.Goals as goal
 
-pub legalize_by-requires-clause-placed : goal.legalize_by-requires-clause-placed
-legalize_by-requires-clause-placed g c =
-    record { kept = c.requires.kept; sites = c.requires.sites }
-
 pub legalize_by-requires-clause-left : goal.legalize_by-requires-clause-left
 legalize_by-requires-clause-left g c = record {
   edges = c.push_star.ensures.edges;
@@ -15,13 +11,9 @@ legalize_by-requires-clause-left g c = record {
       c.push_star.ensures.star _ _ c.requires.passing;
 }
 
-pub legalize_round-requires-clause-placed : goal.legalize_round-requires-clause-placed
-legalize_round-requires-clause-placed g c =
-    record { kept = c.requires.kept; sites = c.requires.sites }
-
 pub returns-in_default : goal.returns-in_default
 returns-in_default g c = record {
-  legalizes = none_to_turn _ _ _ c.args.vertex 0 _ c.requires.kept
+  legalizes = none_to_turn {v = c.args.vertex} c.requires.kept
       (c.requires.empty c.if-not-is_free.false)
       (subst (λ (y : Mesh × ℕ). IsNone (out_edge y.0 y.1))
       (λ i. (ap (λ d. d.now.mesh) c.vertex.ensures.dcel i, c.vertex.ensures.index i))

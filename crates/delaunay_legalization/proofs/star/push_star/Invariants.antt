@@ -1,10 +1,8 @@
-use Rattle.std.proofs.Common.{[]}
 use Rattle.mesh_embedding.specs.half_edge_mesh.Rounds.{out_edges_left}
-use Rattle.delaunay_legalization.specs.Star.{HasSidesAt}
 use Rattle.delaunay_legalization.proofs.Pushing.{IsPushing}
 use Rattle.delaunay_legalization.proofs.star.push_star.Given as goal
 
 abbrev pub invariant-loop-edge : goal.invariant-loop-edge
 invariant-loop-edge g l =
-    IsPushing l.dcel l.fn.vertex (HasSidesAt l.dcel.mesh) [] (out_edges_left l.edge-iterator)
-    l.work.items l.fn.work.room l.work.room
+    IsPushing l.dcel l.fn.vertex (out_edges_left l.edge-iterator) l.work.items l.fn.work.room
+    l.work.room
