@@ -1,8 +1,8 @@
 -- Pieces of a path that become edges and constraints, one after another.
--- Notions: AddsPiece, LeavesPiece, IsAddingTo; half_ends, piece_whole, piece_added,
--- adding_to_begins, piece_made, same, adding_sites, adding_shape, adding_index, adding_at,
--- adding_free, adding_piece, adding_to_goes_on, adding_shortens, adding_to_ends, adding_leaves,
--- same_are_left, cleared_work, work_fits.
+-- Notions: AddsPiece, LeavesPiece, IsAddingTo, IsAddingPieces; half_ends, piece_whole, piece_added,
+-- adding_to_begins, adding_starts, piece_made, same, adding_sites, adding_shape, adding_between,
+-- adding_piece, adding_to_goes_on, adding_shortens, adding_to_ends, adding_room, adding_work,
+-- adding_goes_on_by, cleared_work.
 use Rattle.std.proofs.Common.{◌≡◌, ◌≢◌, ◌⊎◌, ◌↔◌, ◌*◌, ◌/◌, ◌%◌, ◌<◌, ◌≤◌, [], ◌∙◌}
 use Rattle.std.proofs.Common.{ℕ, List, length, map, set, refl, sym, ap, subst, inl, inr, arith}
 use Rattle.std.specs.Prelude.{Bool, true, false, All, nat_abs}
@@ -23,15 +23,13 @@ use Rattle.delaunay_lines.proofs.plane_edits.LocalMesh.Changes.{once_none}
 use Rattle.delaunay_lines.proofs.plane_tiling.Totals.{Contains-none}
 use Rattle.delaunay_lines.specs.plane_tiling.Local.{IsMesh}
 use Rattle.delaunay_lines.specs.plane_segments.Constraints.{AreNextOn, ArePlacedApart}
-use Rattle.delaunay_lines.specs.plane_segments.Path.{IsFreeOfVertices}
 use Rattle.delaunay_lines.proofs.plane_segments.Constraints.Adding.{IsAddingPath, adding_begins}
 use Rattle.delaunay_lines.proofs.plane_segments.Constraints.Adding.{adding_goes_on, adding_ends}
 use Rattle.delaunay_lines.proofs.plane_segments.Constraints.Adding.{adding_adds, piece_is_clear}
-use Rattle.delaunay_lines.proofs.plane_segments.Crossing.PathFlips.{piece_is_free}
 use Rattle.delaunay_lines.proofs.plane_segments.Constraints.Pieces.{path_ends}
 use Rattle.delaunay_lines.proofs.plane_segments.Constraints.Shorter.{path_shortens}
 use Rattle.delaunay_lines.proofs.plane_segments.Constraints.Whole.{piece_crosses_whole}
-use Rattle.delaunay_lines.specs.mesh_embedding.Drawn.{drawn, faces_of, outer_of}
+use Rattle.delaunay_lines.specs.mesh_embedding.Drawn.{faces_of, outer_of}
 use Rattle.delaunay_lines.specs.mesh_embedding.Legal.{AreEdges, pairs_at}
 use Rattle.delaunay_lines.specs.mesh_embedding.Stays.{GoSameWay}
 use Rattle.delaunay_lines.proofs.mesh_embedding.EdgePairs as E
@@ -51,8 +49,11 @@ use Rattle.delaunay_lines.proofs.delaunay_legalization_lemmas.MarkedPairs.{marki
 use Rattle.delaunay_paths.specs.Adding.{NoneCrosses, HasFreeWay, MarksEdge, MarksSome, AddsPath}
 use Rattle.delaunay_paths.specs.Kept.{KeepsUncrossed, KeepsUncrossedFaces}
 use Rattle.delaunay_paths.specs.Leaving.{IsWorkList, LeavesFailing, LeavesToTest, MakesEdge}
+use Rattle.delaunay_paths.specs.Lists.{HaveRoom, KeepRoom}
+use Rattle.delaunay_paths.specs.declared.crossing.CrossingLists.{CrossingLists}
 use Rattle.delaunay_paths.proofs.Making.{kept_on, faces_kept_on}
 use Rattle.delaunay_paths.proofs.Marks.{marks_none, marks_one, marks_more}
+use Rattle.delaunay_paths.proofs.MovedEdges.{room_on, room_stays}
 use Rattle.delaunay_paths.proofs.Walking.{in_map, of_map, placed_apart}
 
 -- ---- the ends of an undirected edge, by those of one of its directions
@@ -249,7 +250,32 @@ module _ {U : Type 0} (marks : U → Bool) (constraints : List U → List ℕ)
     faces_kept = λ f t there first second third. there;
   }
 
--- ---- what a piece leaves to test
+-- ---- what is left to test
+-- the pieces from i to w are added, what may fail is left to test, and the room stays
+pub record IsAddingPieces {V D U F : Type 0} (marks : U → Bool) (constraints : List U → List ℕ)
+    (marked : (ds : List U) → constraints ds ≡ marked_edges marks ds) (at : V → Point)
+    (marked_as : U → U) (old now : Contents V D U F) (i j w : ℕ) (was left : List ℕ)
+    (room_was room : ℕ) (before lists : CrossingLists) : Type 0 where
+  pub so_far : IsAddingTo marks constraints marked at marked_as old now i j w
+  pub leaves : LeavesToTest (map at old.vertices) old now was left
+  pub same_room : room ≡ room_was
+  pub lists_room : KeepRoom before lists
+
+-- at the start nothing has changed
+pub adding_starts : {V D U F : Type 0} (marks : U → Bool) (constraints : List U → List ℕ)
+    (marked : (ds : List U) → constraints ds ≡ marked_edges marks ds) {at : V → Point}
+    {marked_as : U → U} {old : Contents V D U F} {i j : ℕ} {was : List ℕ} {room : ℕ}
+    {lists : CrossingLists} → IsTriangulated at (state_of old) → HasFreeWay at constraints old i j
+    → IsWorkList old was room
+    → IsAddingPieces marks constraints marked at marked_as old old i j i was was room room lists
+    lists
+adding_starts marks constraints marked kept way work = record {
+  so_far = adding_to_begins marks constraints marked kept way;
+  leaves = record { edges = work.edges; leaves = λ pairs passing. passing };
+  same_room = refl;
+  lists_room = record { waiting = refl; unseen = refl };
+}
+
 -- marking changes no face
 piece_leaves : {V D U F : Type 0} (points : List Point) (marks : U → Bool) (marked_as : U → U)
     (constraints : List U → List ℕ) (old mid new : Contents V D U F) (i j : ℕ) (was left : List ℕ) →
@@ -314,13 +340,9 @@ module _ {U V D F : Type 0} {marks : U → Bool} {constraints : List U → List 
       subst (λ (vs : List V). IsMesh (map at vs) (faces_of now.mesh) (outer_of now.mesh))
       (sym same) p.shape
 
-  -- a vertex of before is one now
-  pub adding_index : {k : ℕ} → k < length old.vertices → k < length now.vertices
-  adding_index {k = k} h = subst (λ (vs : List V). k < length vs) (sym same) h
-
-  -- the vertex that was reached is one of the vertices
-  pub adding_at : w < length now.vertices
-  adding_at = adding_index (of_map at old.vertices w p.path.within)
+  -- the vertex that was reached and the end are vertices
+  pub adding_between : (w < length now.vertices) × (j < length now.vertices)
+  adding_between = rw same (of_map at old.vertices w p.path.within, p.way.to)
 
   distinct : ArePlacedApart points
   distinct = placed_apart points (faces_of now.mesh) (outer_of now.mesh) p.shape
@@ -418,10 +440,6 @@ module _ {U V D F : Type 0} {marks : U → Bool} {constraints : List U → List 
           face : IsFaceOf (faces_of now.mesh) t.first t.second t.third
           face = face_there now.mesh f t there
 
-    -- no vertex is strictly between it and the next one on the way
-    pub adding_free : IsFreeOfVertices (drawn (map at now.vertices) now.mesh) w v
-    adding_free = piece_is_free (drawn (map at now.vertices) now.mesh) w j w v next
-
     -- no constraint crosses the next piece, where the path could be added
     clear_now : NoneCrosses (map at now.vertices) (constraints_by constraints (state_of now)) w v
     clear_now =
@@ -508,26 +526,51 @@ module _ {U V D F : Type 0} {marks : U → Bool} {constraints : List U → List 
     faces_kept = p.faces_kept;
   }
 
-  -- the edges that the last piece of a path leaves to test are all that are left
-  pub adding_leaves : {v : ℕ} {new : Contents V D U F} {given was left : List ℕ}
-      → LeavesToTest (map at old.vertices) old now given was
-      → LeavesPiece (map at now.vertices) marks marked_as constraints now new w v was left
-      → LeavesToTest (map at old.vertices) old new given left
-  adding_leaves {new = new} {was = was} {left = left} first piece = record {
-    edges = piece.edges;
-    leaves =
-        λ pairs passing. subst (λ (vs : List V). AllPassBut (map at vs) (faces_of new.mesh) pairs
-        (pairs_at new.mesh left)) same
-        (piece.leaves pairs
-        (subst (λ (vs : List V). AllPassBut (map at vs) (faces_of now.mesh) pairs
-        (pairs_at now.mesh was)) (sym same) (first.leaves pairs passing)));
-  }
+module _ {U V D F : Type 0} {marks : U → Bool} {constraints : List U → List ℕ}
+    {marked : (ds : List U) → constraints ds ≡ marked_edges marks ds} {at : V → Point}
+    {marked_as : U → U} {old now : Contents V D U F} {i j w : ℕ} {was left : List ℕ}
+    {room_was room : ℕ} {before lists : CrossingLists}
+    (p : IsAddingPieces marks constraints marked at marked_as old now i j w was left room_was room
+    before lists) where
+  same_vertices : now.vertices ≡ old.vertices
+  same_vertices = ap (λ (c : Contents V D U F). c.vertices) p.so_far.contents
 
--- ---- what is left to test
--- where nothing has changed, the edges that were given are left to test
-pub same_are_left : {V D U F : Type 0} {all : List Point} {old : Contents V D U F} {was : List ℕ}
-    → AreEdges old.mesh was → LeavesToTest all old old was was
-same_are_left edges = record { edges = edges; leaves = λ pairs passing. passing }
+  -- the lists have room for each edge if they had
+  pub adding_room : HaveRoom (length old.undirected) before → HaveRoom (length now.undirected) lists
+  adding_room fits = room_stays p.lists_room p.so_far.count fits
+
+  -- the work list keeps its room for each edge
+  pub adding_work : IsWorkList old was room_was → IsWorkList now left room
+  adding_work work =
+      let count = p.so_far.count in let fits = work.room in let stays = p.same_room in record {
+        edges = p.leaves.edges;
+        room = omega (arith, count, fits, stays);
+      }
+
+  -- the next piece is added with what it leaves to test
+  pub adding_goes_on_by : {mid new : Contents V D U F} {v : ℕ} {more : List ℕ} {room_now : ℕ}
+      {after : CrossingLists} → AreNextOn (map at now.vertices) w j w v → (edge : ℕ)
+      → MakesEdge (map at now.vertices) now mid w v left more → IsMeshWithData mid
+      → origin mid.mesh edge ≡ w → origin mid.mesh (rev edge) ≡ v
+      → MarksEdge marks marked_as mid new (edge / 2) → ((x : U) → marks (marked_as x) ≡ true)
+      → room_now ≡ room → KeepRoom lists after
+      → IsAddingPieces marks constraints marked at marked_as old new i j v was more room_was
+      room_now before after
+  adding_goes_on_by {new = new} {more = more} next edge makes whole source target by has stays
+      kept_room =
+      let piece = adding_piece p.so_far next edge makes whole source target by in record {
+        so_far = adding_to_goes_on p.so_far next has piece;
+        leaves = record {
+          edges = piece.edges;
+          leaves = λ pairs passing. subst (λ (vs : List V). AllPassBut (map at vs)
+              (faces_of new.mesh) pairs (pairs_at new.mesh more)) same_vertices
+              (piece.leaves pairs (subst (λ (vs : List V). AllPassBut (map at vs)
+              (faces_of now.mesh) pairs (pairs_at now.mesh left)) (sym same_vertices)
+              (p.leaves.leaves pairs passing)));
+        };
+        same_room = stays ∙ p.same_room;
+        lists_room = room_on p.lists_room kept_room;
+      }
 
 -- a list that was cleared is a work list with no edge in it
 pub cleared_work : {V D U F : Type 0} (old : Contents V D U F) (left : List ℕ) (room_was room : ℕ)
@@ -540,11 +583,3 @@ cleared_work old left room_was room few fits same cleared = record {
   where
     none : AreEdges old.mesh []
     none = record { within = λ k c. absurd (Contains-none k c); once = once_none }
-
--- the work list keeps its room for each edge
-pub work_fits : {V D U F : Type 0} {old now : Contents V D U F} {was left : List ℕ}
-    {room_was room : ℕ} → length now.undirected ≡ length old.undirected
-    → IsWorkList old was room_was → room ≡ room_was → AreEdges now.mesh left
-    → IsWorkList now left room
-work_fits count work same edges =
-    let fits = work.room in record { edges = edges; room = omega (arith, count, fits, same) }

@@ -1,8 +1,8 @@
 -- The constraint between two vertices, by the edge between them.
--- Lemmas: edge_joins, no_edge_joins.
+-- Lemmas: edge_joins, edge_tells, no_edge_joins, none_tells.
 use Rattle.std.proofs.Common.{◌≡◌, ◌≢◌, ◌↔◌, ◌*◌, ◌/◌, ◌<◌, ◌∙◌}
 use Rattle.std.proofs.Common.{ℕ, List, length, refl, sym, ap, subst, inl, inr, arith}
-use Rattle.std.specs.Prelude.{Bool, Contains}
+use Rattle.std.specs.Prelude.{Bool, false, Contains, IsTrue}
 use Rattle.std.proofs.lemmas.Option.{slice_get_within}
 use Rattle.delaunay_lines.specs.half_edge_mesh.Mesh.{origin, rev}
 use Rattle.delaunay_lines.proofs.half_edge_links.Lists.Rev.{rev-rev, rev_within}
@@ -16,6 +16,7 @@ use Rattle.delaunay_lines.specs.delaunay_legalization.State.{state_of}
 use Rattle.delaunay_lines.proofs.delaunay_legalization_lemmas.Constraints.{is_constraint_edge}
 use Rattle.delaunay_lines.proofs.delaunay_legalization_lemmas.MarkedPairs.{JoinsByMark, mark_joins}
 use Rattle.delaunay_lines.proofs.delaunay_legalization_lemmas.MarkedPairs.{same_as_third}
+use Rattle.delaunay_lines.proofs.delaunay_legalization_lemmas.Questions.{both_ways}
 use Rattle.delaunay_paths.proofs.AddingPieces.{half_ends}
 use Rattle.delaunay_paths.proofs.Releasing.{one_edge, double}
 
@@ -51,6 +52,15 @@ module _ {V D U F : Type 0} (at : V → Point) (marks : U → Bool) (constraints
           (is_constraint_edge marks constraints marked c.undirected j.edge j.is.value
           j.is.has j.is.mark)
 
+  -- what tells whether it is a constraint tells that
+  pub edge_tells : {a b h : ℕ} {r : Bool}
+      → (h < length c.directed) × (origin c.mesh h ≡ a) × (origin c.mesh (rev h) ≡ b)
+      → IsTrue r ↔ Contains (constraints c.undirected) (h / 2) → IsTrue r ↔ Joins pairs a b
+  edge_tells {a = a} {b = b} {h = h} edge told =
+      let is = edge_joins a b h (subst (λ (n : ℕ). h < n) kept.fits.directed_fit edge.0) edge.1
+      edge.2 in
+      ((λ yes. is.0 (told.0 yes)), (λ joined. told.1 (is.1 joined)))
+
   -- where no edge goes from a to b, no constraint joins these
   pub no_edge_joins : (a b : ℕ) → ((h : ℕ) → h < length c.mesh.half_edges → origin c.mesh h ≡ a →
       origin c.mesh (rev h) ≢ b) → ¬ Joins pairs a b
@@ -67,3 +77,11 @@ module _ {V D U F : Type 0} (at : V → Point) (marks : U → Bool) (constraints
       go : JoinsByMark marks constraints marked c.mesh c.undirected a b → ⊥
       go j = at_ends j.edge (double at c kept j.edge
           (slice_get_within c.undirected j.edge j.is.value j.is.has)) j.ends
+
+  pub none_tells : {a b : ℕ} → ((h : ℕ) → h < length c.directed → origin c.mesh h ≡ a
+      → origin c.mesh (rev h) ≢ b) → IsTrue false ↔ Joins pairs a b
+  none_tells {a = a} {b = b} none = (
+    (λ yes. absurd (both_ways false yes refl)),
+    (λ joined. absurd (no_edge_joins a b (λ h within. none h
+        (subst (λ (n : ℕ). h < n) (sym kept.fits.directed_fit) within)) joined)),
+  )

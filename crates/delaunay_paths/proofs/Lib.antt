@@ -22,7 +22,6 @@ pub mod CrossingList
 pub mod MovedEdges
 pub mod Seeking
 -- Edges are turned towards a segment until none crosses it.
-pub mod TurnLowers
 pub mod Towards
 pub mod OneTurn
 pub mod Making

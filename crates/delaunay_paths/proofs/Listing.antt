@@ -1,12 +1,12 @@
 -- The edges that cross a piece of a path are listed by the walk along it, each once.
 -- Notions: IsMet, AreListed, IsListingPiece; not_before_itself, none_listed, other_item,
 -- few_listed, not_listed, edge_more, room_for_more, piece_listed, piece_walk_begins, room_for_item,
--- piece_walk_goes_on, piece_walk_ends, whole_piece.
+-- piece_walk_goes_on, piece_walk_ends, piece_on, whole_piece.
 use Rattle.std.proofs.Common.{◌≡◌, ◌≢◌, ◌*◌, ◌/◌, ◌<◌, ◌≤◌, [], ◌∷◌, ◌++◌, ◌∙◌}
 use Rattle.std.proofs.Common.{◌⊎◌, ℕ, suc, List, length, map, Option, Some, None, sym, ap, subst}
-use Rattle.std.proofs.Common.{arith}
+use Rattle.std.proofs.Common.{refl, arith, vec_capacity}
 use mathlib.Core.Logic.{inl, inr}
-use Rattle.std.specs.Prelude.{ℤ, AllPairs, Contains, IfNone, IfSome}
+use Rattle.std.specs.Prelude.{ℤ, AllPairs, Contains, MatchOption}
 use Rattle.std.proofs.lemmas.Bool.{cases_eq}
 use Rattle.std.proofs.lemmas.List.{length-map}
 use Rattle.std.proofs.lemmas.List.Elements.{Contains-append_cases, Contains-append_left}
@@ -41,12 +41,14 @@ use Rattle.delaunay_lines.specs.declared.intersection.Intersection.{Intersection
 use Rattle.delaunay_lines.specs.declared.iterator.LineIntersectionIterator.{LineIntersectionIterator}
 use Rattle.delaunay_lines.specs.Items.{item_in, mesh_of}
 use Rattle.delaunay_lines.specs.Walk.{GivesNext, IsReady}
-use Rattle.delaunay_paths.specs.Crossing.{AreAllCrossing, CrossesFromRight, ListsAllCrossing}
-use Rattle.delaunay_paths.specs.Lists.{ListCrossing, ListPiece}
+use Rattle.delaunay_paths.specs.Crossing.{AreAllCrossing, CrossesFromRight}
+use Rattle.delaunay_paths.specs.Lists.{AreToTurn, HaveRoom, KeepEntries, KeepRoom, ListPiece}
 use Rattle.delaunay_paths.specs.declared.crossing.CrossingLists.{CrossingLists}
 use Rattle.delaunay_paths.specs.Items.{HasRoomForItem, IsOtherVertex, ListsItem, crossed_twin}
 use Rattle.delaunay_paths.proofs.Beginning.{crossed_one_way, met_before, part_meets, whole_meets}
 use Rattle.delaunay_paths.proofs.MetEdges.{crosses_if_met, met_if_crosses}
+use Rattle.delaunay_paths.proofs.MovedEdges.{ListsAllCrossing, crossing_begins, room_on, room_stays}
+use Rattle.delaunay_paths.proofs.MovedEdges.{turn_on}
 use Rattle.delaunay_paths.proofs.NextVertex.{SeeksNext, list_on, seeking_finds, seeking_goes_on}
 use Rattle.delaunay_paths.proofs.NextVertex.{two_ends}
 use Rattle.delaunay_paths.proofs.Passing.{later_ones}
@@ -302,34 +304,41 @@ module _ (points : List Point) (m : Mesh) (s : IsValidMesh m)
     piece_listed = record { cross = listed_crosses; all = crossing_listed }
 
 -- ---- the walk
--- no other vertex than i was passed, and these edges are listed so far
+-- no other vertex than i was passed, and the edges so far wait
 pub record IsListingPiece {V D U F P S : Type 0} (at : V → Point) (number : S → ℤ)
-    (IsSite IsCovered : P → Point → Type 0) (c : Contents V D U F) (i j : ℕ) (hs : List ℕ)
-    (now : LineIntersectionIterator V D U F P S) : Type 0 where
+    (IsSite IsCovered : P → Point → Type 0) (c : Contents V D U F) (i j : ℕ)
+    (was l : CrossingLists) (now : LineIntersectionIterator V D U F P S) : Type 0 where
   pub whole : IsMeshWithData c
   pub passed : List Item
   pub seeks : SeeksNext at number IsSite IsCovered c i j passed now
-  pub listed : AreListed (map at c.vertices) c.mesh i j (length c.directed) passed hs
+  pub listed : AreListed (map at c.vertices) c.mesh i j (length c.directed) passed l.waiting.items
+  pub none : l.unseen.items ≡ []
+  pub room : KeepRoom was l
 
 -- at the beginning there is none
 pub piece_walk_begins : {V D U F P S : Type 0} {at : V → Point} {number : S → ℤ}
-    {IsSite IsCovered : P → Point → Type 0} {c : Contents V D U F} {i j : ℕ} {hs : List ℕ}
+    {IsSite IsCovered : P → Point → Type 0} {c : Contents V D U F} {i j : ℕ} {was l : CrossingLists}
     {it : LineIntersectionIterator V D U F P S} → IsMeshWithData c
-    → SeeksNext at number IsSite IsCovered c i j [] it → hs ≡ []
-    → IsListingPiece at number IsSite IsCovered c i j hs it
-piece_walk_begins {at = at} {c = c} {i = i} {j = j} whole seeks none = record {
+    → SeeksNext at number IsSite IsCovered c i j [] it → KeepRoom was l → l.waiting.items ≡ []
+    → l.unseen.items ≡ [] → IsListingPiece at number IsSite IsCovered c i j was l it
+piece_walk_begins {at = at} {c = c} {i = i} {j = j} whole seeks room none_waits none = record {
   whole = whole;
   passed = [];
   seeks = seeks;
-  listed = subst (AreListed (map at c.vertices) c.mesh i j (length c.directed) []) (sym none)
+  listed = subst (AreListed (map at c.vertices) c.mesh i j (length c.directed) []) (sym none_waits)
       (none_listed (map at c.vertices) c.mesh i j (length c.directed));
+  none = none;
+  room = room;
 }
 
 module _ {V D U F P S : Type 0} {at : V → Point} {number : S → ℤ}
-    {IsSite IsCovered : P → Point → Type 0} {c : Contents V D U F} {i j : ℕ} {hs : List ℕ}
+    {IsSite IsCovered : P → Point → Type 0} {c : Contents V D U F} {i j : ℕ} {was l : CrossingLists}
     {now after : LineIntersectionIterator V D U F P S} {x : Intersection V D U F}
-    (listing : IsListingPiece at number IsSite IsCovered c i j hs now)
+    (listing : IsListingPiece at number IsSite IsCovered c i j was l now)
     (gives : GivesNext at number now (Some x) after) where
+  abbrev hs : List ℕ
+  hs = l.waiting.items
+
   abbrev points_of_mesh : List Point
   points_of_mesh = map at c.vertices
 
@@ -388,33 +397,38 @@ module _ {V D U F P S : Type 0} {at : V → Point} {number : S → ℤ}
         listing.whole.fits.undirected_fit
 
   -- a list with room for each edge has room for that of the item
-  pub room_for_item : {capacity : ℕ} → length c.undirected ≤ capacity
-      → HasRoomForItem (mesh_of x).now (item_in x) hs capacity
-  room_for_item {capacity = capacity} fits h within is =
-      below (length hs) (length c.undirected) capacity
+  pub room_for_item : HaveRoom (length c.undirected) was
+      → HasRoomForItem (mesh_of x).now (item_in x) hs (vec_capacity l.waiting)
+  room_for_item fits h within is =
+      below (length hs) (length c.undirected) (vec_capacity was.waiting) (vec_capacity l.waiting)
       (room h (subst (λ (s : State V D U F). h < length s.directed) same_mesh within)
-      (subst (λ (s : State V D U F). item_in x ≡ crossed_twin s.mesh h) same_mesh is)) fits
+      (subst (λ (s : State V D U F). item_in x ≡ crossed_twin s.mesh h) same_mesh is)) fits.waiting
+      listing.room.waiting
     where
-      below : (a n room : ℕ) → a < n → n ≤ room → a < room
-      below a n room less fits = omega arith
+      below : (a n given room : ℕ) → a < n → n ≤ given → room ≡ given → a < room
+      below a n given room less fits stays = omega arith
 
   -- with it the edges are listed on, where it is no other vertex
-  pub piece_walk_goes_on : {more_hs : List ℕ} → IsReady at number IsSite IsCovered after
+  pub piece_walk_goes_on : {longer : CrossingLists} → IsReady at number IsSite IsCovered after
       → IsOtherVertex (item_in x) i None
-      → ListsItem (mesh_of x).now (item_in x) hs more_hs
-      → IsListingPiece at number IsSite IsCovered c i j more_hs after
-  piece_walk_goes_on {more_hs = more_hs} ready none lists = record {
+      → ListsItem (mesh_of x).now (item_in x) hs longer.waiting.items → KeepRoom l longer
+      → longer.unseen.items ≡ l.unseen.items
+      → IsListingPiece at number IsSite IsCovered c i j was longer after
+  piece_walk_goes_on {longer = longer} ready none lists room_now same = record {
     whole = listing.whole;
     passed = listing.passed ++ item_in x ∷ [];
     seeks = seeking_goes_on listing.seeks gives ready none;
     listed = go lists;
+    none = same ∙ listing.none;
+    room = room_on listing.room room_now;
   }
     where
       Listed : Item → List ℕ → Type 0
       Listed k ks = AreListed points_of_mesh c.mesh i j (length c.directed)
           (listing.passed ++ k ∷ []) ks
 
-      go : ListsItem (mesh_of x).now (item_in x) hs more_hs → Listed (item_in x) more_hs
+      go : ListsItem (mesh_of x).now (item_in x) hs longer.waiting.items
+          → Listed (item_in x) longer.waiting.items
       go (inl y) = subst (Listed (item_in x)) (sym y.1)
           (other_item points_of_mesh c.mesh listing.whole.valid listing.seeks.shape i j
           (length c.directed) listing.whole.fits.directed_fit vertices_of_mesh ends_apart
@@ -427,33 +441,54 @@ module _ {V D U F P S : Type 0} {at : V → Point} {number : S → ℤ}
           (more y.0 within is)
 
   -- where it is another vertex, all that cross the piece up to it are listed
-  pub piece_walk_ends : {v : ℕ} → IsOtherVertex (item_in x) i (Some v)
-      → ListsAllCrossing points_of_mesh c i v hs
-  piece_walk_ends {v = v} other = record {
-    once = listing.listed.once;
-    all = piece_listed points_of_mesh c.mesh listing.whole.valid listing.seeks.shape i j
-        (length c.directed) listing.whole.fits.directed_fit vertices_of_mesh ends_apart
-        listing.passed line.0 v hs listing.listed (subst (λ (k : Item).
-        IsLineList (drawn points_of_mesh c.mesh) (place points_of_mesh i) (place points_of_mesh j)
-        ((listing.passed ++ k ∷ []) ++ line.0)) other.0 line.1)
-        (seeking_finds listing.seeks gives other);
-    few = few_listed points_of_mesh c.mesh listing.whole.valid listing.seeks.shape i j
-        (length c.directed) listing.whole.fits.directed_fit vertices_of_mesh ends_apart
-        listing.passed hs listing.listed (length c.undirected) listing.whole.fits.undirected_fit;
-  }
+  module _ {v : ℕ} (other : IsOtherVertex (item_in x) i (Some v)) where
+    all_listed : ListsAllCrossing points_of_mesh c i v hs
+    all_listed = record {
+      once = listing.listed.once;
+      all = piece_listed points_of_mesh c.mesh listing.whole.valid listing.seeks.shape i j
+          (length c.directed) listing.whole.fits.directed_fit vertices_of_mesh ends_apart
+          listing.passed line.0 v hs listing.listed (subst (λ (k : Item).
+          IsLineList (drawn points_of_mesh c.mesh) (place points_of_mesh i)
+          (place points_of_mesh j) ((listing.passed ++ k ∷ []) ++ line.0)) other.0 line.1)
+          (seeking_finds listing.seeks gives other);
+      few = few_listed points_of_mesh c.mesh listing.whole.valid listing.seeks.shape i j
+          (length c.directed) listing.whole.fits.directed_fit vertices_of_mesh ends_apart
+          listing.passed hs listing.listed (length c.undirected) listing.whole.fits.undirected_fit;
+    }
+
+    pub piece_walk_ends : HaveRoom (length c.undirected) was → ListPiece points_of_mesh c i j v l
+    piece_walk_ends fits = record {
+      next = seeking_finds listing.seeks gives other;
+      turn = record {
+        piece = record {
+          whole = listing.whole;
+          free = piece_is_free (drawn points_of_mesh c.mesh) i j i v
+              (seeking_finds listing.seeks gives other);
+          shape = listing.seeks.shape;
+        };
+        crossing =
+            crossing_begins l all_listed listing.none (room_stays listing.room refl fits);
+      };
+    }
+
+-- they are that also where they are seen in another order
+pub piece_on : {V D U F : Type 0} {points : List Point} {c : Contents V D U F} {i j v : ℕ}
+    {old new : CrossingLists} → ListPiece points c i j v old → KeepEntries old new
+    → ListPiece points c i j v new
+piece_on piece same = record { next = piece.next; turn = turn_on piece.turn same }
 
 -- ---- a segment of one piece
 -- where no vertex is strictly within the segment, its first piece is the whole
-pub whole_piece : (points : List Point) (m : Mesh) (i j : ℕ)
-    → IsFreeOfVertices (drawn points m) i j → IsMesh points (faces_of m) (outer_of m)
-    → (l : CrossingLists) (r : Option ℕ) → IfNone r (i ≡ j)
-    → IfSome r (λ v. ListPiece points m i j v l) → ListCrossing points m i j l
-whole_piece points m i j free shape l None end piece = absurd (free.apart end)
-whole_piece points m i j free shape l (Some v) end piece =
-    subst (λ (k : ℕ). ListCrossing points m i k l) same piece.crossing
+pub whole_piece : {V D U F : Type 0} {points : List Point} {c : Contents V D U F} {i j : ℕ}
+    {l : CrossingLists} → IsFreeOfVertices (drawn points c.mesh) i j
+    → IsMesh points (faces_of c.mesh) (outer_of c.mesh) → (r : Option ℕ)
+    → MatchOption r (i ≡ j) (λ v. ListPiece points c i j v l) → AreToTurn points c i j l
+whole_piece free shape None end = absurd (free.apart end)
+whole_piece {points = points} {c = c} {i = i} {j = j} {l = l} free shape (Some v) piece =
+    subst (λ (k : ℕ). AreToTurn points c i k l) same piece.turn
   where
     apart : ArePlacedApart points
-    apart = placed_apart points (faces_of m) (outer_of m) shape
+    apart = placed_apart points (faces_of c.mesh) (outer_of c.mesh) shape
 
     go : IsSame (place points v) (place points i) ⊎ (IsSame (place points v) (place points j)
         ⊎ WithinSegment (place points i) (place points j) (place points v)) → v ≢ j → ⊥

@@ -2,7 +2,7 @@
 -- Notions: IsListing; listing_begins, listing_apart, listing_has_room, listing_shortens,
 -- listing_goes_on, listing_ends.
 use Rattle.std.proofs.Common.{◌≡◌, ◌≢◌, ◌⊎◌, ◌+◌, ◌<◌, ◌≤◌, [], ◌∷◌, ◌++◌, ◌∙◌}
-use Rattle.std.proofs.Common.{ℕ, List, length, sym, subst, inl, inr}
+use Rattle.std.proofs.Common.{ℕ, List, length, map, sym, subst, inl, inr}
 use Rattle.std.proofs.Common.{arith, append_assoc, append-nil, length-append}
 use Rattle.std.specs.Prelude.{ℤ, pos, negsuc, ◌*ℤ◌, ◌≤ℤ◌, ◌<ℤ◌, nat_abs}
 use Rattle.std.proofs.lemmas.Bool.{cases_eq}
@@ -19,9 +19,11 @@ use Rattle.delaunay_lines.specs.plane_segments.Constraints.{AreNextOn, ArePlaced
 use Rattle.delaunay_lines.proofs.plane_segments.Constraints.Pieces.{path_begins, path_ends}
 use Rattle.delaunay_lines.proofs.plane_segments.Constraints.Pieces.{path_goes_on}
 use Rattle.delaunay_lines.proofs.plane_segments.Constraints.Shorter.{path_shortens}
-use Rattle.delaunay_lines.specs.mesh_embedding.Drawn.{drawn}
+use Rattle.delaunay_lines.specs.plane_tiling.Local.{IsMesh}
+use Rattle.delaunay_lines.specs.mesh_embedding.Drawn.{drawn, faces_of, outer_of}
 use Rattle.delaunay_paths.specs.PathEdges.{LeadAlong}
 use Rattle.delaunay_paths.proofs.Places.{gap_is_way_back}
+use Rattle.delaunay_paths.proofs.Walking.{in_map, placed_apart}
 use Rattle.delaunay_lines.proofs.plane_edits.Legalization.Legal.{squared_way_nonneg}
 
 -- ---- the next vertex is nearer to the end
@@ -71,12 +73,18 @@ pub record IsListing (points : List Point) (m : Mesh) (i j w : ℕ) (listed : Li
   pub room_stays : room ≡ room_was
 
 -- at i no edge is listed
-pub listing_begins : {points : List Point} {m : Mesh} {i j : ℕ} {listed : List ℕ}
-    {room_was room : ℕ} → ArePlacedApart points → IsIndex points i → IsIndex points j
-    → listed ≡ [] → room ≡ room_was → IsListing points m i j i listed room_was room
-listing_begins {points = points} {m = m} {i = i} {j = j} {room_was = room_was} {room = room}
-    distinct from to none stays =
-    subst (λ (hs : List ℕ). IsListing points m i j i hs room_was room) (sym none) (record {
+pub listing_begins : {V : Type 0} (at : V → Point) (vs : List V) {m : Mesh} {i j : ℕ}
+    {listed : List ℕ} {room_was room : ℕ}
+    → IsMesh (map at vs) (faces_of m) (outer_of m) → i < length vs
+    → j < length vs → listed ≡ [] → room ≡ room_was
+    → IsListing (map at vs) m i j i listed room_was room
+listing_begins at vs {m = m} {i = i} {j = j} {room_was = room_was} {room = room} shape from_in to_in
+    none stays =
+    let distinct = placed_apart (map at vs) (faces_of m) (outer_of m) shape in
+    let from = in_map at vs i from_in in
+    let to = in_map at vs j to_in in
+    subst (λ (hs : List ℕ). IsListing (map at vs) m i j i hs room_was room)
+    (sym none) (record {
       distinct = distinct;
       to = to;
       within = from;
@@ -84,8 +92,8 @@ listing_begins {points = points} {m = m} {i = i} {j = j} {room_was = room_was} {
       so_far = λ more x. x;
       few = elim (cases_eq i j) [
         | inl e ↦ inl e
-        | inr n ↦ (let b = path_begins points i j distinct from to n in
-            let f = falls points m distinct j i b.0 to from n b.1 in let g = f.1 in
+        | inr n ↦ (let b = path_begins (map at vs) i j distinct from to n in
+            let f = falls (map at vs) m distinct j i b.0 to from n b.1 in let g = f.1 in
             inr (omega (arith, g)))
       ];
       room_stays = stays;
@@ -103,9 +111,10 @@ module _ {points : List Point} {m : Mesh} {i j w : ℕ} {listed : List ℕ} {roo
     few_now = elim p.few [ inl e ↦ absurd (listing_apart e) | inr f ↦ f ]
 
     -- before j there is room for one more edge
-    pub listing_has_room : {n : ℕ} → length points ≡ n → n ≤ room_was → length listed < room
-    listing_has_room count enough =
-        let f = few_now in let s = p.room_stays in omega (arith, f, count, enough, s)
+    pub listing_has_room : {n len : ℕ} → length points ≡ n → n ≤ room_was → len ≡ length listed
+        → len < room
+    listing_has_room count enough is =
+        let f = few_now in let s = p.room_stays in omega (arith, f, count, enough, s, is)
 
     -- from the next vertex the way to j is shorter
     pub listing_shortens : nat_abs (squared_way (point_of points v) (point_of points j))

@@ -1,8 +1,7 @@
 -- The loop that turns edges until none crosses.
--- Notions: IsMaking; kept_on, faces_kept_on, e_in, local, can_turn, turn_keeps, turn_keeps_faces,
+-- Notions: IsMaking; free_on, kept_on, faces_kept_on, e_in, local, can_turn, turn_keeps, turn_keeps_faces,
 -- turn_lowers, turn_has_shape, edges_on, turns_away, others_left, turns_across, others_and_made,
--- edge_if_none_crosses, making_begins, making_shape, making_work, making_free, making_ends,
--- making_goes_on, making_falls.
+-- edge_if_none_crosses, making_begins, making_work, making_ends, making_goes_on, making_falls.
 use Rattle.std.proofs.Common.{◌≡◌, ◌⊎◌, ◌*◌, ◌/◌, ◌<◌, ◌≤◌, ◌∙◌}
 use Rattle.std.proofs.Common.{ℕ, List, length, map, refl, sym, ap, subst}
 use mathlib.Core.Logic.{inl, inr}
@@ -31,16 +30,18 @@ use Rattle.delaunay_lines.specs.delaunay_legalization.Known.{point_at}
 use Rattle.delaunay_paths.specs.Crossing.{AreAllCrossing, AreOthersCrossing, CrossesFromRight}
 use Rattle.delaunay_paths.specs.Crossing.{GoesFromRight, TurnsNearer, ahead, behind}
 use Rattle.delaunay_paths.specs.Kept.{KeepsUncrossed, KeepsUncrossedFaces}
+use Rattle.delaunay_paths.specs.declared.crossing.CrossingLists.{CrossingLists}
 use Rattle.delaunay_paths.specs.Leaving.{AllPassAway, IsWorkList, MakesEdge, TurnsTowards}
-use Rattle.delaunay_paths.specs.Lists.{HasAsEdge}
+use Rattle.delaunay_paths.specs.Lists.{AreToTurn, HasAsEdge, IsOnePiece, KeepRoom, TurnsOne}
 use Rattle.delaunay_paths.proofs.CrossingList.{made_clear, made_clear_back, others_are_all}
 use Rattle.delaunay_paths.proofs.CrossingList.{others_still, way_crosses, way_ends, way_is}
 use Rattle.delaunay_paths.proofs.LeftToTest.{crossing_leaves, flip_leaves, passing_ends}
+use Rattle.delaunay_paths.proofs.MovedEdges.{room_on}
 use Rattle.delaunay_paths.proofs.Walking.{placed_apart}
 use Rattle.delaunay_paths.proofs.Towards as T
 
 -- whether vertices are between others does not depend on the edges
-free_on : (points : List Point) (m n : Mesh) (i j : ℕ) → IsFreeOfVertices (drawn points m) i j
+pub free_on : (points : List Point) (m n : Mesh) (i j : ℕ) → IsFreeOfVertices (drawn points m) i j
     → IsFreeOfVertices (drawn points n) i j
 free_on points m n i j free = record {
   apart = free.apart;
@@ -277,11 +278,11 @@ edge_if_none_crosses at c mesh i j free shape none =
     (λ h h_in x. none h (subst (λ (n : ℕ). h < n) (sym mesh.fits.directed_fit) h_in) x)
 
 -- ---- the loop
--- after some turns
+-- after some turns: those that cross are still listed
 pub record IsMaking {V D U F : Type 0} (at : V → Point) (old now : Contents V D U F) (i j : ℕ)
-    (was left : List ℕ) (room_was room : ℕ) : Type 0 where
+    (was left : List ℕ) (room_was room : ℕ) (before l : CrossingLists) : Type 0 where
   pub contents : now ≡ record old { mesh = now.mesh }
-  pub shape : IsMesh (map at old.vertices) (faces_of now.mesh) (outer_of now.mesh)
+  pub turn : AreToTurn (map at now.vertices) now i j l
   pub kept : KeepsUncrossed (map at old.vertices) old.mesh now.mesh i j
   pub faces_kept : KeepsUncrossedFaces (map at old.vertices) old.mesh now.mesh i j
   pub edges : AreEdges now.mesh left
@@ -290,33 +291,30 @@ pub record IsMaking {V D U F : Type 0} (at : V → Point) (old now : Contents V 
       → AllPassAway (map at old.vertices) (faces_of now.mesh) constraints
       (pairs_at now.mesh left) i j
   pub same_room : room ≡ room_was
+  pub lists_room : KeepRoom before l
 
--- before the first flip the mesh and the work list are as they were
+-- before the first turn the mesh, the lists and the work list are as they were
 pub making_begins : {V D U F : Type 0} {at : V → Point} {old : Contents V D U F} {i j : ℕ}
-    {was : List ℕ} {room : ℕ} → IsMesh (map at old.vertices) (faces_of old.mesh) (outer_of old.mesh)
-    → IsWorkList old was room → IsMaking at old old i j was was room room
-making_begins shape work = record {
+    {was : List ℕ} {room : ℕ} {l : CrossingLists} → AreToTurn (map at old.vertices) old i j l
+    → IsWorkList old was room → IsMaking at old old i j was was room room l l
+making_begins turn work = record {
   contents = refl;
-  shape = shape;
+  turn = turn;
   kept = λ h clear. (refl, refl);
   faces_kept = λ f t there first second third. there;
   edges = work.edges;
   leaves = λ constraints passing u v k l f g first second free untested.
       passing u v k l f g free untested;
   same_room = refl;
+  lists_room = record { waiting = refl; unseen = refl };
 }
 
 module _ {V D U F : Type 0} {at : V → Point} {old now : Contents V D U F} {i j : ℕ}
-    {was left : List ℕ} {room_was room : ℕ}
-    (making : IsMaking at old now i j was left room_was room) where
+    {was left : List ℕ} {room_was room : ℕ} {before l : CrossingLists}
+    (making : IsMaking at old now i j was left room_was room before l) where
   -- the vertices stay
   same : now.vertices ≡ old.vertices
   same = ap (λ (c : Contents V D U F). c.vertices) making.contents
-
-  -- the mesh is one of all vertices
-  pub making_shape : IsMesh (map at now.vertices) (faces_of now.mesh) (outer_of now.mesh)
-  making_shape = subst (λ (vs : List V). IsMesh (map at vs) (faces_of now.mesh) (outer_of now.mesh))
-      (sym same) making.shape
 
   -- the edges left are a work list if those before were
   pub making_work : IsWorkList old was room_was → IsWorkList now left room
@@ -327,53 +325,55 @@ module _ {V D U F : Type 0} {at : V → Point} {old now : Contents V D U F} {i j
         (sym (ap (λ (c : Contents V D U F). c.undirected) making.contents)) work.room);
   }
 
-  module _ (free : IsFreeOfVertices (drawn (map at old.vertices) old.mesh) i j) where
-    -- no vertex is strictly between i and j now, either
-    pub making_free : IsFreeOfVertices (drawn (map at now.vertices) now.mesh) i j
-    making_free = subst (λ (vs : List V). IsFreeOfVertices (drawn (map at vs) now.mesh) i j)
-        (sym same) (free_on (map at old.vertices) old.mesh now.mesh i j free)
+  -- the segment is a piece of the mesh of these vertices
+  piece : IsOnePiece (map at old.vertices) now i j
+  piece = subst (λ (vs : List V). IsOnePiece (map at vs) now i j) same making.turn.piece
 
-    -- where the segment is an edge, it is made one
-    pub making_ends : HasAsEdge (map at now.vertices) now i j
-        → MakesEdge (map at old.vertices) old now i j was left
-    making_ends ended = record {
-      contents = making.contents;
-      shape = making.shape;
-      edge = ended.edge;
-      kept = making.kept;
-      faces_kept = making.faces_kept;
-      edges = making.edges;
-      leaves = λ constraints passing. passing_ends (map at old.vertices) now.mesh
-          ended.whole.valid making.shape i j apart constraints (pairs_at now.mesh left) ended.edge
-          (making.leaves constraints passing);
-    }
-      where
-        apart : ¬ (point_at (map at old.vertices) i ≡ point_at (map at old.vertices) j)
-        apart e = placed_apart (map at old.vertices) (faces_of now.mesh)
-            (outer_of now.mesh) making.shape i j free.first free.second free.apart (ap whole e)
+  -- where it is an edge, it is made one
+  pub making_ends : HasAsEdge (map at now.vertices) now i j
+      → MakesEdge (map at old.vertices) old now i j was left
+  making_ends ended = record {
+    contents = making.contents;
+    shape = piece.shape;
+    edge = ended.edge;
+    kept = making.kept;
+    faces_kept = making.faces_kept;
+    edges = making.edges;
+    leaves = λ constraints passing. passing_ends (map at old.vertices) now.mesh
+        ended.whole.valid piece.shape i j apart constraints (pairs_at now.mesh left) ended.edge
+        (making.leaves constraints passing);
+  }
+    where
+      apart : ¬ (point_at (map at old.vertices) i ≡ point_at (map at old.vertices) j)
+      apart e = placed_apart (map at old.vertices) (faces_of now.mesh) (outer_of now.mesh)
+          piece.shape i j piece.free.first piece.free.second piece.free.apart (ap whole e)
 
-  module _ {new : Contents V D U F} {more : List ℕ}
-      (turns : TurnsTowards (map at now.vertices) now new i j left more) where
+  module _ {new : Contents V D U F} {more : List ℕ} {given after : CrossingLists}
+      (one : TurnsOne (map at now.vertices) now new i j left more given after) where
+    abbrev flip : TurnsTowards (map at now.vertices) now new i j left more
+    flip = one.turns
+
     -- a flip towards the segment is one more turn
-    pub making_goes_on : {room_after : ℕ} → room_after ≡ room
-        → IsMaking at old new i j was more room_was room_after
-    making_goes_on room_same = record {
-      contents = turns.contents
+    pub making_goes_on : {room_after : ℕ} → room_after ≡ room → KeepRoom l given
+        → IsMaking at old new i j was more room_was room_after before after
+    making_goes_on room_same given_room = record {
+      contents = flip.contents
           ∙ ap (λ (c : Contents V D U F). record c { mesh = new.mesh }) making.contents;
-      shape = subst (λ (vs : List V). IsMesh (map at vs) (faces_of new.mesh) (outer_of new.mesh))
-          same turns.shape;
+      turn = subst (λ (vs : List V). AreToTurn (map at vs) new i j after)
+          (sym (ap (λ (c : Contents V D U F). c.vertices) flip.contents)) one.turn;
       kept = kept_on (map at old.vertices) old.mesh now.mesh new.mesh i j making.kept (subst
-          (λ (vs : List V). KeepsUncrossed (map at vs) now.mesh new.mesh i j) same turns.kept);
+          (λ (vs : List V). KeepsUncrossed (map at vs) now.mesh new.mesh i j) same flip.kept);
       faces_kept = faces_kept_on (map at old.vertices) old.mesh now.mesh new.mesh i j
           making.faces_kept (subst (λ (vs : List V).
-          KeepsUncrossedFaces (map at vs) now.mesh new.mesh i j) same turns.faces_kept);
-      edges = turns.edges;
+          KeepsUncrossedFaces (map at vs) now.mesh new.mesh i j) same flip.faces_kept);
+      edges = flip.edges;
       leaves = λ constraints passing. subst (λ (vs : List V). AllPassAway (map at vs)
           (faces_of new.mesh) constraints (pairs_at new.mesh more) i j) same
-          (turns.leaves constraints
+          (flip.leaves constraints
           (subst (λ (vs : List V). AllPassAway (map at vs) (faces_of now.mesh) constraints
           (pairs_at now.mesh left) i j) (sym same) (making.leaves constraints passing)));
       same_room = room_same ∙ making.same_room;
+      lists_room = room_on making.lists_room (room_on given_room one.room);
     }
 
     -- the number that falls
@@ -381,4 +381,4 @@ module _ {V D U F : Type 0} {at : V → Point} {old now : Contents V D U F} {i j
         < crossing_sum (map at now.vertices) (faces_of now.mesh) i j
     making_falls = subst (λ (vs : List V). crossing_sum (map at vs) (faces_of new.mesh) i j
         < crossing_sum (map at now.vertices) (faces_of now.mesh) i j)
-        (sym (ap (λ (c : Contents V D U F). c.vertices) turns.contents)) turns.lower
+        (sym (ap (λ (c : Contents V D U F). c.vertices) flip.contents)) flip.lower

@@ -1,12 +1,14 @@
 -- Edges that cross a segment move from one of their lists to the other.
--- Lemmas: nothing_left, less_by_room, shorter, longer, room_on, room_stays, fewer_fit, can_step,
--- can_wait, entries_on, entries_begin, crossing_on, crossing_begins, held_with_room, stepped_back,
--- none_steps_back, none_taken, others_taken, others_wait.
-use Rattle.std.proofs.Common.{◌≡◌, ◌+◌, ◌-◌, ◌<◌, ◌≤◌, [], ◌∷◌, ◌++◌, ◌∙◌}
-use Rattle.std.proofs.Common.{ℕ, List, length, take, sym, ap, subst, arith, append-nil}
+-- Notions: ListsAllCrossing; nothing_left, less_by_room, shorter, longer, room_on, room_stays,
+-- fewer_fit, can_step, can_wait, entries_on, entries_begin, crossing_on, turn_on,
+-- crossing_begins, held_with_room, stepped_back, none_steps_back, none_taken, others_taken,
+-- others_wait.
+use Rattle.std.proofs.Common.{◌≡◌, ◌+◌, ◌-◌, ◌<◌, ◌≤◌, ◌≢◌, [], ◌∷◌, ◌++◌, ◌∙◌}
+use Rattle.std.proofs.Common.{ℕ, true, false, List, length, take, refl, sym, ap, subst, arith}
+use Rattle.std.proofs.Common.{append-nil}
 use Rattle.std.proofs.Common.{length-append, vec_len, vec_capacity}
 use mathlib.Core.Logic.{inl, inr}
-use Rattle.std.specs.Prelude.{Contains}
+use Rattle.std.specs.Prelude.{AllPairs, Contains}
 use Rattle.std.proofs.lemmas.List.Elements.{Contains-push_cases}
 use Rattle.delaunay_lines.specs.half_edge_mesh.Contents.{Contents}
 use Rattle.delaunay_lines.specs.half_edge_mesh.Mesh.{Mesh}
@@ -17,9 +19,9 @@ use Rattle.delaunay_lines.proofs.mesh_embedding.WorkLists.{contains_before, cont
 use Rattle.delaunay_lines.proofs.mesh_embedding.WorkLists.{last_not_before, once_after, once_before}
 use Rattle.delaunay_lines.proofs.delaunay_legalization_lemmas.Legalizing.{drained}
 use Rattle.delaunay_paths.specs.declared.crossing.CrossingLists.{CrossingLists}
-use Rattle.delaunay_paths.specs.Crossing.{AreAllCrossing, ListsAllCrossing}
-use Rattle.delaunay_paths.specs.Lists.{AreHeld, AreOnce, HaveRoom, IsIn}
-use Rattle.delaunay_paths.specs.Lists.{KeepEntries, KeepRoom, ListCrossing, ListOthers}
+use Rattle.delaunay_paths.specs.Crossing.{AreAllCrossing}
+use Rattle.delaunay_paths.specs.Lists.{AreHeld, AreOnce, AreToTurn, HaveRoom, IsIn}
+use Rattle.delaunay_paths.specs.Lists.{KeepEntries, KeepRoom, ListCrossing, ListOthers, StepBack}
 use Rattle.delaunay_paths.proofs.CrossingList.{put_waiting, taken}
 
 -- ---- of two lists of numbers
@@ -133,13 +135,19 @@ pub entries_on : {old now new : CrossingLists} → KeepEntries old now → KeepE
     → KeepEntries old new
 entries_on a b = record {
   held = b.held;
+  room = room_on a.room b.room;
   kept = λ h there. b.kept h (a.kept h there);
   only = λ h there. a.only h (b.only h there);
 }
 
 -- at the beginning they are as they were
 pub entries_begin : {old : CrossingLists} → AreHeld old → KeepEntries old old
-entries_begin held = record { held = held; kept = λ h there. there; only = λ h there. there }
+entries_begin held = record {
+  held = held;
+  room = record { waiting = refl; unseen = refl };
+  kept = λ h there. there;
+  only = λ h there. there;
+}
 
 -- where their edges are all that cross, the same edges are
 pub crossing_on : {points : List Point} {m : Mesh} {i j : ℕ} {old new : CrossingLists}
@@ -151,6 +159,19 @@ crossing_on lists same = record {
     all = λ h within c. same.kept h (lists.all.all h within c);
   };
 }
+
+pub turn_on : {V D U F : Type 0} {points : List Point} {c : Contents V D U F} {i j : ℕ}
+    {old new : CrossingLists} → AreToTurn points c i j old → KeepEntries old new
+    → AreToTurn points c i j new
+turn_on turn same = record { piece = turn.piece; crossing = crossing_on turn.crossing same }
+
+-- a list has the directed edges that cross the segment from the right, each once, and is no longer
+-- than the list of undirected edges
+pub record ListsAllCrossing {V D U F : Type 0} (points : List Point) (c : Contents V D U F)
+    (i j : ℕ) (hs : List ℕ) : Type 0 where
+  pub once : AllPairs (λ k l. k ≢ l) hs
+  pub all : AreAllCrossing points c.mesh i j (Contains hs)
+  pub few : length hs ≤ length c.undirected
 
 -- the edges of one walk, all to be seen again
 pub crossing_begins : {V D U F : Type 0} {points : List Point} {c : Contents V D U F} {i j : ℕ}
@@ -208,10 +229,9 @@ module _ {old new : CrossingLists} (same : KeepRoom old new) where
   }
 
   -- ---- back
-  -- the last one that waits is to be seen again
-  pub stepped_back : (e : ℕ) → old.waiting.items ≡ new.waiting.items ++ e ∷ []
+  moved_back : (e : ℕ) → old.waiting.items ≡ new.waiting.items ++ e ∷ []
       → new.unseen.items ≡ old.unseen.items ++ e ∷ [] → AreHeld old → KeepEntries old new
-  stepped_back e popped pushed held =
+  moved_back e popped pushed held =
       let room = fits_new (length old.waiting.items + length old.unseen.items) held.room in record {
         held = record {
           once = subst (AreOnce new.waiting.items) (sym pushed)
@@ -222,6 +242,7 @@ module _ {old new : CrossingLists} (same : KeepRoom old new) where
             unseen = moved (vec_capacity new.unseen) room.unseen;
           };
         };
+        room = same;
         kept = λ h there. subst (λ (ys : List ℕ). IsIn new.waiting.items ys h) (sym pushed)
             (moved_kept new.waiting.items old.unseen.items e h
             (subst (λ (xs : List ℕ). IsIn xs old.unseen.items h) popped there));
@@ -237,6 +258,15 @@ module _ {old new : CrossingLists} (same : KeepRoom old new) where
           (longer old.waiting.items new.waiting.items e popped)
           (longer new.unseen.items old.unseen.items e pushed) fits
 
+  -- the last one that waits is to be seen again
+  pub stepped_back : (e : ℕ) → old.waiting.items ≡ new.waiting.items ++ e ∷ []
+      → new.unseen.items ≡ old.unseen.items ++ e ∷ [] → AreHeld old → StepBack old new true
+  stepped_back e popped pushed held = record {
+    entries = moved_back e popped pushed held;
+    fewer = shorter (length old.waiting.items) (length new.waiting.items)
+        (longer old.waiting.items new.waiting.items e popped);
+  }
+
   -- where none could be taken out, all is as it was
   same_entries : new.waiting.items ≡ old.waiting.items → new.unseen.items ≡ old.unseen.items
       → AreHeld old → KeepEntries old new
@@ -250,6 +280,7 @@ module _ {old new : CrossingLists} (same : KeepRoom old new) where
             unseen = as_before (vec_capacity new.unseen) room.unseen;
           };
         };
+        room = same;
         kept = λ h there. subst (λ (x : List ℕ × List ℕ). IsIn x.0 x.1 h)
             (λ o. (sym waiting o, sym unseen o)) there;
         only = λ h there. subst (λ (x : List ℕ × List ℕ). IsIn x.0 x.1 h)
@@ -261,10 +292,13 @@ module _ {old new : CrossingLists} (same : KeepRoom old new) where
       as_before room fits = subst (λ (x : List ℕ × List ℕ). length x.0 + length x.1 ≤ room)
           (λ o. (sym waiting o, sym unseen o)) fits
 
-  pub none_steps_back : old.waiting.items ≡ new.waiting.items ++ []
-      → new.unseen.items ≡ old.unseen.items → AreHeld old → KeepEntries old new
-  none_steps_back popped unseen held =
-      same_entries (unchanged old.waiting.items new.waiting.items popped) unseen held
+  pub none_steps_back : (v : ℕ) → old.waiting.items ≡ new.waiting.items ++ []
+      → new.waiting.items ≡ take (v - 1) old.waiting.items → v ≡ 0
+      → new.unseen.items ≡ old.unseen.items → AreHeld old → StepBack old new false
+  none_steps_back v popped rest none unseen held = record {
+    entries = same_entries (unchanged old.waiting.items new.waiting.items popped) unseen held;
+    fewer = nothing_left old.waiting.items new.waiting.items v popped rest none;
+  }
 
   -- where none is to be seen, too
   pub none_taken : old.unseen.items ≡ new.unseen.items ++ []

@@ -35,7 +35,7 @@ use Rattle.delaunay_paths.specs.Releasing.{AddsConstraints}
 use Rattle.delaunay_paths.proofs.AddingPieces.{LeavesPiece, adding_to_begins, adding_to_ends}
 use Rattle.delaunay_paths.proofs.AddingPieces.{adding_to_goes_on, piece_made}
 use Rattle.delaunay_paths.proofs.LeftToTest.{none_crosses}
-use Rattle.delaunay_paths.proofs.Releasing.{added_passing}
+use Rattle.delaunay_paths.proofs.Releasing.{added_left}
 use Rattle.delaunay_paths.proofs.Walking.{in_map, placed_apart}
 
 -- an edge that was found, with what holds of it
@@ -192,8 +192,8 @@ module _ {V D U F : Type 0} (at : V → Point) (marks : U → Bool) (marked_as :
     plain = path.plain;
     legal = record {
       kept = path.kept;
-      passing = λ a b k l f g unmarked. added_passing path {was = []} {left = []}
-          (record { edges = piece.edges; leaves = piece.leaves }) legal a b k l f g unmarked
-          (no_joins a b);
+      passing = λ a b k l f g unmarked. (added_left path {was = []} {left = []}
+          (record { edges = piece.edges; leaves = piece.leaves }) legal).passing a b k l f g
+          unmarked (no_joins a b);
     };
   }

@@ -1,6 +1,6 @@
 -- A constraint that is released, and what is left to test then.
--- Lemmas: same_pair_or_not, double, one_edge, released_kept, released_passing, left_to_test,
--- released, added_sites, added_fits, added_counts, added_room, added_passing, constraints_added.
+-- Lemmas: same_pair_or_not, double, one_edge, released_kept, released_left, released_room, released,
+-- added_sites, added_fits, added_counts, added_room, added_left, constraints_added.
 use Rattle.std.proofs.Common.{◌≡◌, ◌≢◌, ◌⊎◌, ◌↔◌, ◌*◌, ◌<◌, ◌≤◌, [], ◌∷◌, ◌∙◌}
 use Rattle.std.proofs.Common.{ℕ, List, length, map, set, sym, ap, subst, inl, inr, arith}
 use Rattle.std.specs.Prelude.{Bool, false, All, Contains}
@@ -27,6 +27,7 @@ use Rattle.delaunay_lines.specs.delaunay_legalization.Flips.{CountsFlips, FlipsF
 use Rattle.delaunay_lines.specs.delaunay_legalization.Marking.{HasEdgeData}
 use Rattle.delaunay_lines.specs.delaunay_legalization.Shape.{IsTriangulated}
 use Rattle.delaunay_lines.specs.delaunay_legalization.Shape.{IsDelaunayTriangulation}
+use Rattle.delaunay_lines.specs.delaunay_legalization.Sides.{AreLeftToTest}
 use Rattle.delaunay_lines.specs.delaunay_legalization.State.{state_of}
 use Rattle.delaunay_lines.proofs.delaunay_legalization_lemmas.Constraints.{fixed_within}
 use Rattle.delaunay_lines.proofs.delaunay_legalization_lemmas.MarkedPairs.{unmarking_leaves}
@@ -138,15 +139,15 @@ module _ {V D U F : Type 0} {at : V → Point} (marks : U → Bool) {constraints
       ])
 
   -- only this edge is left to test
-  pub released_passing : AllPassBut (map at mid.vertices) (faces_of mid.mesh)
+  released_passing : AllPassBut (map at mid.vertices) (faces_of mid.mesh)
       (constraint_pairs constraints mid.mesh mid.undirected) (pairs_at mid.mesh (k ∷ []))
   released_passing = subst (λ (x : List V × Mesh). AllPassBut (map at x.0) (faces_of x.1)
       (constraint_pairs constraints mid.mesh mid.undirected) (pairs_at x.1 (k ∷ [])))
       (λ o. (sym same_vertices o, sym same o)) was_passing
 
   -- and it is an edge of the mesh
-  pub left_to_test : AreEdges mid.mesh (k ∷ [])
-  left_to_test = subst (λ (m : Mesh). AreEdges m (k ∷ [])) (sym same) (record {
+  listed : AreEdges mid.mesh (k ∷ [])
+  listed = subst (λ (m : Mesh). AreEdges m (k ∷ [])) (sym same) (record {
     within = λ l c. elim (Contains-cases k [] l c) [
       | inl e ↦ subst (λ (x : ℕ). 2 * x < length old.mesh.half_edges) e
           (double at old legal.kept k edge_there)
@@ -154,6 +155,14 @@ module _ {V D U F : Type 0} {at : V → Point} (marks : U → Bool) {constraints
     ];
     once = once_after [] k once_none (λ c. Contains-none k c);
   })
+
+  pub released_left : AreLeftToTest at constraints mid (k ∷ [])
+  released_left = record { edges = listed; passing = released_passing }
+
+  -- there is room for it where there is for three edges for each vertex
+  pub released_room : {room : ℕ} → 3 * length old.vertices ≤ room → k < room
+  released_room fits =
+      let within = edge_there in let few = legal.kept.few_edges in omega (arith, within, few, fits)
 
   -- after flips that make it Delaunay again, the constraint is released
   pub released : {new : Contents V D U F} → new ≡ record mid { mesh = new.mesh }
@@ -208,18 +217,20 @@ module _ {V D U F : Type 0} {at : V → Point} {marks : U → Bool} {marked : U 
       omega (arith, few, same, fits)
 
   -- all passed but the constraints, and these are constraints still
-  pub added_passing : {was left : List ℕ} → LeavesToTest (map at old.vertices) old mid was left
+  pub added_left : {was left : List ℕ} → LeavesToTest (map at old.vertices) old mid was left
       → IsDelaunayTriangulation at constraints (state_of old)
-      → AllPassBut (map at mid.vertices) (faces_of mid.mesh)
-      (constraint_pairs constraints mid.mesh mid.undirected) (pairs_at mid.mesh left)
-  added_passing {left = left} leaves legal = subst
-      (λ (vs : List V). AllPassBut (map at vs) (faces_of mid.mesh)
-      (constraint_pairs constraints mid.mesh mid.undirected) (pairs_at mid.mesh left))
-      (sym adds.plain.vertices)
-      (λ a b k l f g free untested. leaves.leaves
-      (constraint_pairs constraints old.mesh old.undirected)
-      (λ a b k l f g unmarked _. legal.passing a b k l f g unmarked) a b k l f g
-      (λ x. free ((adds.plain.constraints a b).1 (inl x))) untested)
+      → AreLeftToTest at constraints mid left
+  added_left {left = left} leaves legal = record {
+    edges = leaves.edges;
+    passing = subst
+        (λ (vs : List V). AllPassBut (map at vs) (faces_of mid.mesh)
+        (constraint_pairs constraints mid.mesh mid.undirected) (pairs_at mid.mesh left))
+        (sym adds.plain.vertices)
+        (λ a b k l f g free untested. leaves.leaves
+        (constraint_pairs constraints old.mesh old.undirected)
+        (λ a b k l f g unmarked _. legal.passing a b k l f g unmarked) a b k l f g
+        (λ x. free ((adds.plain.constraints a b).1 (inl x))) untested);
+  }
 
   -- flips after it add its pieces to the constraints
   pub constraints_added : {new : Contents V D U F} → new ≡ record mid { mesh = new.mesh }

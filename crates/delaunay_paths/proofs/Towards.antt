@@ -21,8 +21,10 @@ use Rattle.delaunay_lines.specs.plane.Laws.{turn_at}
 use Rattle.delaunay_lines.specs.plane.Crossing.{Cross}
 use Rattle.delaunay_lines.specs.plane.Tiling.{face as corners, Triangulation, IsFace, IsEdge}
 use Rattle.delaunay_lines.specs.plane.Tiling.{TilesHull, vertex}
-use Rattle.delaunay_lines.proofs.plane.Areas.{right_if_negative}
+use Rattle.delaunay_lines.proofs.plane.Areas.{right_if_negative, on_if_zero}
 use Rattle.delaunay_lines.proofs.plane.Sides.{side_swapped}
+use Rattle.delaunay_lines.proofs.plane.Signs.{opposite_of_negative, opposite_of_positive}
+use Rattle.delaunay_lines.proofs.plane.Signs.{opposite_of_zero}
 use Rattle.delaunay_lines.proofs.plane.Steps.{left_not_zero}
 use Rattle.delaunay_lines.specs.plane_tiling.Local.{LocalMesh, IsMesh}
 use Rattle.delaunay_lines.proofs.plane_tiling.Loops.{mesh_tiles}
@@ -32,8 +34,8 @@ use Rattle.delaunay_lines.specs.plane_edits.Legal.{point_of}
 use Rattle.delaunay_lines.proofs.plane_edits.LocalMesh.Changes.{each, each_none}
 use Rattle.delaunay_lines.proofs.plane_edits.LocalMesh.Kept.{flip_kept}
 use Rattle.delaunay_lines.specs.plane_segments.Measure.{crossing_sum}
-use Rattle.delaunay_lines.specs.plane_segments.Path.{IsFreeOfVertices, IsCrossing, IsLastRight}
-use Rattle.delaunay_lines.specs.plane_segments.Path.{IsLastLeft}
+use Rattle.delaunay_lines.specs.plane_segments.Path.{ComesAfterOnRight, IsFreeOfVertices}
+use Rattle.delaunay_lines.specs.plane_segments.Path.{IsCrossing, IsLastRight, IsLastLeft}
 use Rattle.delaunay_lines.proofs.plane_segments.Crossing.Chosen.{chosen_flip_exists}
 use Rattle.delaunay_lines.proofs.plane_segments.Crossing.EitherWay.{crossing_is_either_way}
 use Rattle.delaunay_lines.proofs.plane_segments.Crossing.EitherWay.{edge_back}
@@ -41,8 +43,10 @@ use Rattle.delaunay_lines.proofs.plane_segments.Crossing.PathFlips.{piece_on_lin
 use Rattle.delaunay_lines.proofs.plane_segments.Crossing.Paths.{chosen_flip_is_convex}
 use Rattle.delaunay_lines.proofs.plane_segments.Crossing.Paths.{uncrossed_is_edge}
 use Rattle.delaunay_lines.proofs.plane_segments.Crossing.Falling.{Precedes}
-use Rattle.delaunay_lines.proofs.plane_segments.Crossing.Turns.{left_turn, right_turn, turn-same}
-use Rattle.delaunay_lines.proofs.plane_segments.Crossing.Turns.{turn_left}
+use Rattle.delaunay_lines.proofs.plane_segments.Crossing.Lowering.{last_x_sooner, last_z_sooner}
+use Rattle.delaunay_lines.proofs.plane_segments.Crossing.Lowering.{turn_lowers}
+use Rattle.delaunay_lines.proofs.plane_segments.Crossing.Turns.{left_turn, no_turn, right_turn}
+use Rattle.delaunay_lines.proofs.plane_segments.Crossing.Turns.{turn-same, turn-swapped, turn_left}
 use Rattle.delaunay_lines.specs.mesh_embedding.Drawn.{drawn, faces_of, edges_of, outer_of}
 use Rattle.delaunay_lines.specs.mesh_embedding.Stays.{GoSameWay, HasSideIn, StaysBut}
 use Rattle.delaunay_lines.proofs.mesh_embedding.FaceChanges.{turned_faces}
@@ -58,9 +62,26 @@ use Rattle.delaunay_lines.proofs.delaunay_legalization_lemmas.Legalizing.{positi
 use Rattle.delaunay_paths.specs.Crossing.{ComesSooner, CrossesFromRight, CrossesSegment}
 use Rattle.delaunay_paths.specs.Crossing.{TurnsNearer}
 use Rattle.delaunay_paths.specs.Kept.{KeepsUncrossed, KeepsUncrossedFaces}
-use Rattle.delaunay_paths.proofs.TurnLowers.{after_if_before, before_if_after, last_x_sooner}
-use Rattle.delaunay_paths.proofs.TurnLowers.{last_z_sooner, turn_lowers}
 use Rattle.delaunay_lines.proofs.mesh_embedding.EdgePairs.{edge_joins, joins_edge}
+
+-- ---- the order, by turns
+-- seen from i, what u is before comes after it
+after_if_before : (i u v : Point) → Precedes i u v → ComesAfterOnRight i u v
+after_if_before i u v (inl h) = inl (right_if_negative i u v
+    (opposite_of_positive (turn_at i u v) (turn_at i v u) (turn-swapped i v u) h))
+after_if_before i u v (inr h) = inr (
+  on_if_zero i u v (opposite_of_zero (turn_at i u v) (turn_at i v u) (turn-swapped i v u) h.0),
+  h.1,
+)
+
+-- and the other way round
+before_if_after : (i u v : Point) → ComesAfterOnRight i u v → Precedes i u v
+before_if_after i u v (inl h) = inl
+    (opposite_of_negative (turn_at i v u) (turn_at i u v) (turn-swapped i u v) (right_turn i u v h))
+before_if_after i u v (inr h) = inr (
+  opposite_of_zero (turn_at i v u) (turn_at i u v) (turn-swapped i u v) (no_turn i u v h.0),
+  h.1,
+)
 
 -- ---- the ends of edges that are not turned
 -- a directed edge keeps its ends where another one, not its reverse, is flipped

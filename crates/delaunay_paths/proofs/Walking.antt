@@ -1,10 +1,11 @@
 -- Points strictly within segments, and the points of vertices.
--- Lemmas: not_start, not_end, nested, in_map, of_map, placed_apart.
+-- Lemmas: not_start, not_end, nested, in_map, of_map, are_in_mesh, placed_apart.
 use Rattle.std.proofs.Common.{◌≡◌, ◌⊎◌, ℕ, ◌<◌, List, length, map, sym, subst, arith}
 use mathlib.Core.Logic.{inl, inr}
 use Rattle.std.specs.Prelude.{ℤ, pos, ◌<ℤ◌}
 use Rattle.std.proofs.lemmas.Int.{ints}
 use Rattle.std.proofs.lemmas.List.{length-map}
+use Rattle.delaunay_lines.specs.half_edge_mesh.Contents.{Contents}
 use Rattle.delaunay_lines.specs.plane.Fraction.{Point, whole, WithinSegment}
 use Rattle.delaunay_lines.specs.plane.Tiling.{Face}
 use Rattle.delaunay_lines.proofs.plane.Bracket.{lift}
@@ -16,6 +17,8 @@ use Rattle.delaunay_lines.proofs.plane_tiling.Edges.{within_on}
 use Rattle.delaunay_lines.proofs.plane_segments.Constraints.Pieces.{on_of_mean}
 use Rattle.delaunay_lines.specs.plane_segments.Constraints.{ArePlacedApart}
 use Rattle.delaunay_lines.proofs.plane.Signs.{less_through}
+use Rattle.delaunay_paths.specs.Lists.{IsOnePiece}
+use Rattle.delaunay_paths.specs.Turning.{AreInMesh}
 
 -- ---- points strictly within a segment
 module _ (a b : Point) (apart : ¬ (a ≡ b)) where
@@ -78,6 +81,15 @@ module _ {V : Type 0} (at : V → Point) (vs : List V) where
   -- and an index of a point is one of its vertex
   pub of_map : (k : ℕ) → k < length (map at vs) → k < length vs
   of_map k h = subst (λ (n : ℕ). k < n) (length-map vs at) h
+
+-- an edge and the ends of a piece are in the mesh
+pub are_in_mesh : {V D U F : Type 0} (at : V → Point) {c : Contents V D U F} {i j e : ℕ}
+    → IsOnePiece (map at c.vertices) c i j → e < length c.mesh.half_edges → AreInMesh c i j e
+are_in_mesh at {c = c} {i = i} {j = j} {e = e} piece within = record {
+  edge = subst (λ (n : ℕ). e < n) (sym piece.whole.fits.directed_fit) within;
+  from = of_map at c.vertices i piece.free.first;
+  to = of_map at c.vertices j piece.free.second;
+}
 
 -- no two points of a mesh are the same
 pub placed_apart : (points : List Point) (faces : List Face) (outer : List (ℕ × ℕ))

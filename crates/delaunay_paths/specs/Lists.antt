@@ -1,6 +1,6 @@
 -- The lists of the edges that cross a segment, while they are turned.
-use Rattle.std.specs.Prelude.{◌≡◌, ◌≢◌, ◌⊎◌, ◌+◌, ◌≤◌, ℕ, List, [], length, AllPairs}
-use Rattle.std.specs.Prelude.{Contains, vec_capacity}
+use Rattle.std.specs.Prelude.{◌≡◌, ◌≢◌, ◌⊎◌, ◌+◌, ◌<◌, ◌≤◌, ℕ, List, [], length, AllPairs, Bool}
+use Rattle.std.specs.Prelude.{Contains, MatchBool, MatchOption, Option, vec_capacity}
 use Rattle.delaunay_lines.specs.half_edge_mesh.Contents.{Contents, IsMeshWithData}
 use Rattle.delaunay_lines.specs.half_edge_mesh.Mesh.{Mesh}
 use Rattle.delaunay_lines.specs.plane.Fraction.{Point}
@@ -11,6 +11,7 @@ use Rattle.delaunay_lines.specs.plane_segments.Path.{IsFreeOfVertices}
 use Rattle.delaunay_lines.specs.mesh_embedding.Drawn.{drawn, faces_of, outer_of}
 use Rattle.delaunay_paths.specs.declared.crossing.CrossingLists.{CrossingLists}
 use Rattle.delaunay_paths.specs.Crossing.{AreAllCrossing, AreOthersCrossing, TurnsNearer}
+use Rattle.delaunay_paths.specs.Leaving.{TurnsTowards}
 
 -- these lists have no entry twice, and none in both
 pub record AreOnce (waiting unseen : List ℕ) : Type 0 where
@@ -41,11 +42,18 @@ pub record AreHeld (l : CrossingLists) : Type 0 where
 abbrev pub HasEntry : CrossingLists → ℕ → Type 0
 HasEntry l h = IsIn l.waiting.items l.unseen.items h
 
--- the entries are those of before
+-- the entries are those of before, and so is the room
 pub record KeepEntries (old new : CrossingLists) : Type 0 where
   pub held : AreHeld new
+  pub room : KeepRoom old new
   pub kept : (h : ℕ) → HasEntry old h → HasEntry new h
   pub only : (h : ℕ) → HasEntry new h → HasEntry old h
+
+-- the last one that waits is to be seen again, or none waits
+pub record StepBack (old new : CrossingLists) (stepped : Bool) : Type 0 where
+  pub entries : KeepEntries old new
+  pub fewer : MatchBool stepped (length new.waiting.items < length old.waiting.items)
+      (new.waiting.items ≡ [])
 
 -- they are the directed edges that cross the segment from the right
 pub record ListCrossing (points : List Point) (m : Mesh) (i j : ℕ)
@@ -53,10 +61,26 @@ pub record ListCrossing (points : List Point) (m : Mesh) (i j : ℕ)
   pub held : AreHeld l
   pub all : AreAllCrossing points m i j (HasEntry l)
 
--- vertex v ends the first piece of the path from i to j, and they are those that cross this piece
-pub record ListPiece (points : List Point) (m : Mesh) (i j v : ℕ) (l : CrossingLists) : Type 0 where
+-- the segment from i to j has no vertex strictly within; the mesh is one of the points, and has all
+-- its data
+pub record IsOnePiece {V D U F : Type 0} (points : List Point) (c : Contents V D U F)
+    (i j : ℕ) : Type 0 where
+  pub whole : IsMeshWithData c
+  pub free : IsFreeOfVertices (drawn points c.mesh) i j
+  pub shape : IsMesh points (faces_of c.mesh) (outer_of c.mesh)
+
+-- the segment is one piece, and the entries are the directed edges that cross it from the right
+pub record AreToTurn {V D U F : Type 0} (points : List Point) (c : Contents V D U F) (i j : ℕ)
+    (l : CrossingLists) : Type 0 where
+  pub piece : IsOnePiece points c i j
+  pub crossing : ListCrossing points c.mesh i j l
+
+-- vertex v ends the first piece of the path from i to j, and the entries are those that cross this
+-- piece
+pub record ListPiece {V D U F : Type 0} (points : List Point) (c : Contents V D U F) (i j v : ℕ)
+    (l : CrossingLists) : Type 0 where
   pub next : AreNextOn points i j i v
-  pub crossing : ListCrossing points m i v l
+  pub turn : AreToTurn points c i v l
 
 -- they are those but e, for which there is room
 pub record ListOthers (points : List Point) (m : Mesh) (i j e : ℕ)
@@ -65,22 +89,35 @@ pub record ListOthers (points : List Point) (m : Mesh) (i j e : ℕ)
   pub room : HaveRoom (length l.waiting.items + length l.unseen.items + 1) l
   pub others : AreOthersCrossing points m i j e (HasEntry l)
 
--- no entry is to be seen, and those that wait did so before, or cannot be turned
-pub record HaveSeen (points : List Point) (m : Mesh) (i j : ℕ) (was : List ℕ)
-    (l : CrossingLists) : Type 0 where
-  pub none : l.unseen.items ≡ []
-  pub waits : (h : ℕ) → Contains l.waiting.items h
-      → Contains was h ⊎ (¬ TurnsNearer points m i j h)
-
--- directed edge e crosses the segment from i to j, which has no vertex strictly within, and can be
--- turned towards it; the entries are the others that cross. The mesh has all its data
+-- directed edge e crosses the piece from i to j, and can be turned towards it; the entries are the
+-- others that cross
 pub record IsToTurn {V D U F : Type 0} (points : List Point) (c : Contents V D U F) (i j e : ℕ)
     (l : CrossingLists) : Type 0 where
-  pub whole : IsMeshWithData c
-  pub free : IsFreeOfVertices (drawn points c.mesh) i j
-  pub shape : IsMesh points (faces_of c.mesh) (outer_of c.mesh)
+  pub piece : IsOnePiece points c i j
   pub nearer : TurnsNearer points c.mesh i j e
   pub others : ListOthers points c.mesh i j e l
+
+-- no entry is to be seen, and those that wait did so before, or cannot be turned
+pub record HaveSeen {V D U F : Type 0} (points : List Point) (c : Contents V D U F) (i j : ℕ)
+    (was : List ℕ) (l : CrossingLists) : Type 0 where
+  pub turn : AreToTurn points c i j l
+  pub none : l.unseen.items ≡ []
+  pub waits : (h : ℕ) → Contains l.waiting.items h
+      → Contains was h ⊎ (¬ TurnsNearer points c.mesh i j h)
+
+-- the next one that can be turned is taken out, or all were seen
+pub record Seeks {V D U F : Type 0} (points : List Point) (c : Contents V D U F) (i j : ℕ)
+    (old new : CrossingLists) (r : Option ℕ) : Type 0 where
+  pub found : MatchOption r (HaveSeen points c i j old.waiting.items new)
+      (λ e. IsToTurn points c i j e new)
+  pub room : KeepRoom old new
+
+-- an edge is turned towards the segment from i to j, and the entries are those that cross it then
+pub record TurnsOne {V D U F : Type 0} (points : List Point) (old new : Contents V D U F) (i j : ℕ)
+    (was left : List ℕ) (before after : CrossingLists) : Type 0 where
+  pub turns : TurnsTowards points old new i j was left
+  pub turn : AreToTurn points new i j after
+  pub room : KeepRoom before after
 
 -- the segment from i to j is an edge of a mesh that has all its data
 pub record HasAsEdge {V D U F : Type 0} (points : List Point) (c : Contents V D U F)

@@ -1,13 +1,12 @@
 //! The edges that cross a segment between two vertices, in the lists from which they are turned.
-ghost use Rattle.std.specs.Prelude.{◌≡◌, ◌≢◌, ◌<◌, ◌≤◌, []};
-ghost use Rattle.std.specs.Prelude.{length, map, All, IfNone, IfSome, OnOk, vec_capacity};
+ghost use Rattle.std.specs.Prelude.{◌≡◌, ◌≢◌, ◌<◌, []};
+ghost use Rattle.std.specs.Prelude.{length, map, All, MatchOption, OnOk, vec_capacity};
 ghost use Rattle.delaunay_lines.specs.plane_tiling.Local.{IsMesh};
-ghost use Rattle.delaunay_lines.specs.plane_segments.Constraints.{AreNextOn};
 ghost use Rattle.delaunay_lines.specs.mesh_embedding.Drawn.{faces_of, outer_of};
 ghost use Rattle.delaunay_lines.specs.Items.{item_in, mesh_of};
-ghost use Rattle.delaunay_paths.specs.Crossing.{ListsAllCrossing};
 ghost use Rattle.delaunay_paths.specs.Items.{HasRoomForItem, IsCrossedTwin, ListsItem};
 ghost use Rattle.delaunay_paths.specs.Lists.{AreHeld, HaveRoom, KeepEntries, KeepRoom, ListPiece};
+ghost use Rattle.delaunay_paths.specs.Lists.{StepBack};
 
 use crate::path::{is_same_vertex, other_vertex};
 use delaunay_lines::delaunay_core::math::PlaneTests;
@@ -48,15 +47,17 @@ impl CrossingLists {
         self.unseen.reserve(edges)
     }
 
-    // The last one that waits is to be seen again, next.
-    pub(crate) fn step_back(&mut self)
+    // The last one that waits is to be seen again, next, unless none waits.
+    pub(crate) fn step_back(&mut self) -> bool
         requires { AreHeld self.old }
-        ensures entries { KeepEntries self.old self.new }
-        ensures room { KeepRoom self.old self.new }
+        ensures { StepBack self.old self.new result }
     {
         match self.waiting.pop() {
-            Some(edge) => self.unseen.push_reserved(edge),
-            None => {}
+            Some(edge) => {
+                self.unseen.push_reserved(edge);
+                true
+            }
+            None => false,
         }
     }
 
@@ -65,11 +66,8 @@ impl CrossingLists {
         requires { AreHeld self.old }
         ensures none { self.new.waiting.items ≡ [] }
         ensures entries { KeepEntries self.old self.new }
-        ensures room { KeepRoom self.old self.new }
     {
-        while let Some(edge) = self.waiting.pop() {
-            self.unseen.push_reserved(edge);
-        }
+        while self.step_back() {}
     }
 
     // Lists the edges that cross the first piece of the path between two vertices, in place of what
@@ -87,18 +85,48 @@ impl CrossingLists {
             (outer_of dcel.now.mesh) }
         requires sites { All (P.sites tests.now) (map V.place dcel.now.vertices) }
         requires room { HaveRoom (length dcel.now.undirected) self.old }
-        ensures end { IfNone result (from ≡ to) }
-        ensures piece { IfSome result (λ v. ListPiece (map V.place dcel.now.vertices) dcel.now.mesh
-            from to v self.new) }
+        ensures piece { MatchOption result (from ≡ to) (λ v. ListPiece
+            (map V.place dcel.now.vertices) dcel.now from to v self.new) }
         ensures room { KeepRoom self.old self.new }
     {
         if is_same_vertex(from, to) {
             return None;
         }
-        let next = list_to_next(dcel, from, to, tests, &mut self.waiting);
-        self.unseen.clear();
+        let next = self.list_to_next(dcel, from, to, tests);
         self.see_again();
         Some(next)
+    }
+
+    // Lists the edges that cross the first piece of the path between two vertices, in their order
+    // from the first, in place of what was listed; all of them wait. It gives the vertex where the
+    // piece ends.
+    fn list_to_next<V: HasPosition, DE, UE, F, P: PlaneTests<V::Scalar>>(
+        &mut self,
+        dcel: &Dcel<V, DE, UE, F>,
+        from: FixedVertexHandle,
+        to: FixedVertexHandle,
+        tests: &P,
+    ) -> FixedVertexHandle
+        requires ends { (from < length dcel.now.vertices) × (to < length dcel.now.vertices) }
+        requires apart { from ≢ to }
+        requires shape { IsMesh (map V.place dcel.now.vertices) (faces_of dcel.now.mesh)
+            (outer_of dcel.now.mesh) }
+        requires sites { All (P.sites tests.now) (map V.place dcel.now.vertices) }
+        requires room { HaveRoom (length dcel.now.undirected) self.old }
+        ensures piece { ListPiece (map V.place dcel.now.vertices) dcel.now from to result self.new }
+        ensures room { KeepRoom self.old self.new }
+    {
+        dcel.recall_invariant();
+        self.waiting.clear();
+        self.unseen.clear();
+        let mut line = line_between_vertices(dcel, from, to, tests);
+        while let Some(item) = line.next() {
+            if let Some(vertex) = other_vertex(&item, from) {
+                return vertex;
+            }
+            list_item(&item, &mut self.waiting);
+        }
+        unreachable!()
     }
 }
 
@@ -129,37 +157,4 @@ fn list_item<V, DE, UE, F>(
         Some(edge) => edges.push_reserved(edge),
         None => {}
     }
-}
-
-// Lists the edges that cross the first piece of the path between two vertices, from right to left,
-// in their order from the first, in place of what was in the list. It gives the vertex where the
-// piece ends.
-fn list_to_next<V: HasPosition, DE, UE, F, P: PlaneTests<V::Scalar>>(
-    dcel: &Dcel<V, DE, UE, F>,
-    from: FixedVertexHandle,
-    to: FixedVertexHandle,
-    tests: &P,
-    edges: &mut Vec<FixedDirectedEdgeHandle>,
-) -> FixedVertexHandle
-    requires ends { (from < length dcel.now.vertices) × (to < length dcel.now.vertices) }
-    requires apart { from ≢ to }
-    requires shape { IsMesh (map V.place dcel.now.vertices) (faces_of dcel.now.mesh)
-        (outer_of dcel.now.mesh) }
-    requires sites { All (P.sites tests.now) (map V.place dcel.now.vertices) }
-    requires room { length dcel.now.undirected ≤ vec_capacity edges.old }
-    ensures next { AreNextOn (map V.place dcel.now.vertices) from to from result }
-    ensures lists { ListsAllCrossing (map V.place dcel.now.vertices) dcel.now from result
-        edges.new.items }
-    ensures capacity { vec_capacity edges.new ≡ vec_capacity edges.old }
-{
-    dcel.recall_invariant();
-    edges.clear();
-    let mut line = line_between_vertices(dcel, from, to, tests);
-    while let Some(item) = line.next() {
-        if let Some(vertex) = other_vertex(&item, from) {
-            return vertex;
-        }
-        list_item(&item, edges);
-    }
-    unreachable!()
 }

@@ -1,11 +1,11 @@
 //! Flips until a segment between two vertices is an edge.
-ghost use Rattle.std.specs.Prelude.{◌≡◌, length, map, All, IfNone, IfSome};
+ghost use Rattle.std.specs.Prelude.{◌≡◌, length, map, All, MatchOption};
 ghost use Rattle.delaunay_lines.specs.plane_tiling.Local.{IsMesh};
 ghost use Rattle.delaunay_lines.specs.plane_segments.Path.{IsFreeOfVertices};
 ghost use Rattle.delaunay_lines.specs.mesh_embedding.Drawn.{drawn, faces_of, outer_of};
-ghost use Rattle.delaunay_paths.specs.Leaving.{IsWorkList, MakesEdge, TurnsTowards};
-ghost use Rattle.delaunay_paths.specs.Lists.{HasAsEdge, HaveRoom, HaveSeen, IsToTurn, KeepRoom};
-ghost use Rattle.delaunay_paths.specs.Lists.{ListCrossing};
+ghost use Rattle.delaunay_paths.specs.Leaving.{IsWorkList, MakesEdge};
+ghost use Rattle.delaunay_paths.specs.Lists.{AreToTurn, HasAsEdge, HaveRoom, IsToTurn, KeepRoom};
+ghost use Rattle.delaunay_paths.specs.Lists.{Seeks, TurnsOne};
 
 use crate::crossing::CrossingLists;
 use crate::nearer::turning_at;
@@ -22,20 +22,10 @@ fn seek<V: HasPosition, DE, UE, F, P: PlaneTests<V::Scalar>>(
     tests: &P,
     lists: &mut CrossingLists,
 ) -> Option<FixedDirectedEdgeHandle>
-    requires free { IsFreeOfVertices (drawn (map V.place dcel.now.vertices) dcel.now.mesh) from to }
-    requires shape { IsMesh (map V.place dcel.now.vertices) (faces_of dcel.now.mesh)
-        (outer_of dcel.now.mesh) }
+    requires turn { AreToTurn (map V.place dcel.now.vertices) dcel.now from to lists.old }
     requires sites { All (P.sites tests.now) (map V.place dcel.now.vertices) }
-    requires lists { ListCrossing (map V.place dcel.now.vertices) dcel.now.mesh from to lists.old }
-    ensures some { IfSome result (λ e. IsToTurn (map V.place dcel.now.vertices) dcel.now from to e
-        lists.new) }
-    ensures crossing { IfNone result (ListCrossing (map V.place dcel.now.vertices) dcel.now.mesh
-        from to lists.new) }
-    ensures seen { IfNone result (HaveSeen (map V.place dcel.now.vertices) dcel.now.mesh from to
-        lists.old.waiting.items lists.new) }
-    ensures room { KeepRoom lists.old lists.new }
+    ensures { Seeks (map V.place dcel.now.vertices) dcel.now from to lists.old lists.new result }
 {
-    dcel.recall_invariant();
     while let Some(edge) = lists.unseen.pop() {
         let turning = turning_at(dcel, edge, from, to, tests);
         if turning.turns_nearer() {
@@ -55,17 +45,12 @@ fn next_turn<V: HasPosition, DE, UE, F, P: PlaneTests<V::Scalar>>(
     tests: &P,
     lists: &mut CrossingLists,
 ) -> Option<FixedDirectedEdgeHandle>
-    requires free { IsFreeOfVertices (drawn (map V.place dcel.now.vertices) dcel.now.mesh) from to }
-    requires shape { IsMesh (map V.place dcel.now.vertices) (faces_of dcel.now.mesh)
-        (outer_of dcel.now.mesh) }
+    requires turn { AreToTurn (map V.place dcel.now.vertices) dcel.now from to lists.old }
     requires sites { All (P.sites tests.now) (map V.place dcel.now.vertices) }
-    requires lists { ListCrossing (map V.place dcel.now.vertices) dcel.now.mesh from to lists.old }
-    ensures some { IfSome result (λ e. IsToTurn (map V.place dcel.now.vertices) dcel.now from to e
-        lists.new) }
-    ensures none { IfNone result (HasAsEdge (map V.place dcel.now.vertices) dcel.now from to) }
+    ensures found { MatchOption result (HasAsEdge (map V.place dcel.now.vertices) dcel.now from to)
+        (λ e. IsToTurn (map V.place dcel.now.vertices) dcel.now from to e lists.new) }
     ensures room { KeepRoom lists.old lists.new }
 {
-    dcel.recall_invariant();
     if let Some(edge) = seek(dcel, from, to, tests, lists) {
         return Some(edge);
     }
@@ -87,10 +72,8 @@ fn turn<V: HasPosition, DE, UE, F, P: PlaneTests<V::Scalar>>(
     requires turning { IsToTurn (map V.place dcel.old.vertices) dcel.old from to edge lists.old }
     requires sites { All (P.sites tests.now) (map V.place dcel.old.vertices) }
     requires work { IsWorkList dcel.old work.old.items work.old.room }
-    ensures turns { TurnsTowards (map V.place dcel.old.vertices) dcel.old dcel.new from to
-        work.old.items work.new.items }
-    ensures lists { ListCrossing (map V.place dcel.old.vertices) dcel.new.mesh from to lists.new }
-    ensures room { KeepRoom lists.old lists.new }
+    ensures turns { TurnsOne (map V.place dcel.old.vertices) dcel.old dcel.new from to
+        work.old.items work.new.items lists.old lists.new }
     ensures capacity { work.new.room ≡ work.old.room }
 {
     let whole = edge.as_undirected();
@@ -120,11 +103,8 @@ pub(crate) fn turn_listed<V: HasPosition, DE, UE, F, P: PlaneTests<V::Scalar>>(
     lists: &mut CrossingLists,
     work: &mut EdgeSet,
 )
-    requires free { IsFreeOfVertices (drawn (map V.place dcel.old.vertices) dcel.old.mesh) from to }
-    requires shape { IsMesh (map V.place dcel.old.vertices) (faces_of dcel.old.mesh)
-        (outer_of dcel.old.mesh) }
+    requires turn { AreToTurn (map V.place dcel.old.vertices) dcel.old from to lists.old }
     requires sites { All (P.sites tests.now) (map V.place dcel.old.vertices) }
-    requires lists { ListCrossing (map V.place dcel.old.vertices) dcel.old.mesh from to lists.old }
     requires work { IsWorkList dcel.old work.old.items work.old.room }
 
     ensures makes { MakesEdge (map V.place dcel.old.vertices) dcel.old dcel.new from to

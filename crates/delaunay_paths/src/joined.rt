@@ -47,8 +47,8 @@ pub(crate) fn edge_between<V, DE, UE, F>(
     ensures target { origin dcel.now.mesh (rev result) ≡ to }
 {
     dcel.recall_invariant();
-    match dcel.get_edge_from_neighbors(from, to) {
-        Some(edge) => edge.fix(),
+    match edge_if_joined(dcel, from, to) {
+        Some(edge) => edge,
         None => unreachable!(),
     }
 }
@@ -64,8 +64,8 @@ pub fn is_constraint_between<M: ConstraintMarker<UE>, V: HasPosition, DE, UE, F>
 
     ensures { IsTrue result ↔ Joins (constraints_by M.constraints (state_of dcel.now)) from to }
 {
-    match dcel.get_edge_from_neighbors(from, to) {
-        Some(edge) => is_constraint_edge::<M, _, _, _, _>(dcel, edge.fix().as_undirected()),
+    match edge_if_joined(dcel, from, to) {
+        Some(edge) => is_constraint_edge::<M, _, _, _, _>(dcel, edge.as_undirected()),
         None => false,
     }
 }

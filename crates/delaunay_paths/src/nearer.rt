@@ -1,12 +1,12 @@
 //! Whether an edge that crosses a segment can be turned towards it, and whether the edge that is
 //! made then crosses too.
-ghost use Rattle.std.specs.Prelude.{◌≡◌, ◌↔◌, ◌<◌, ◌<ℤ◌, length, map, All, IsTrue};
+ghost use Rattle.std.specs.Prelude.{◌≡◌, ◌↔◌, ◌<ℤ◌, map, All, IsTrue};
 ghost use Rattle.delaunay_lines.specs.plane.Laws.{squared_way};
 ghost use Rattle.delaunay_lines.specs.plane_segments.Path.{ComesAfterOnRight};
 ghost use Rattle.delaunay_lines.specs.delaunay_core.Place.{place_of};
 ghost use Rattle.delaunay_paths.specs.Crossing.{CornersTurn, IsWayBetween, PassesFromRight};
 ghost use Rattle.delaunay_paths.specs.Crossing.{PassesSooner};
-ghost use Rattle.delaunay_paths.specs.Turning.{corners_round};
+ghost use Rattle.delaunay_paths.specs.Turning.{AreInMesh, corners_round};
 
 use delaunay_lines::delaunay_core::math::PlaneTests;
 use delaunay_lines::delaunay_core::point::{HasPosition, Point2, SpadeNum};
@@ -131,9 +131,7 @@ pub(crate) fn turning_at<'a, V: HasPosition, DE, UE, F, P: PlaneTests<V::Scalar>
     to: FixedVertexHandle,
     tests: &'a P,
 ) -> Turning<'a, V::Scalar, P>
-    requires within { edge < length dcel.now.directed }
-    requires from_in { from < length dcel.now.vertices }
-    requires to_in { to < length dcel.now.vertices }
+    requires within { AreInMesh dcel.now from to edge }
     requires sites { All (P.sites tests.now) (map V.place dcel.now.vertices) }
     ensures { result ≡
         corners_round (map V.place dcel.now.vertices) dcel.now.mesh from to edge tests.now }

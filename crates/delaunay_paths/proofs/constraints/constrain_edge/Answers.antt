@@ -4,14 +4,7 @@ use Rattle.delaunay_paths.proofs.constraints.constrain_edge.Goals as goal
 
 pub mark-requires-clause-within : goal.mark-requires-clause-within
 mark-requires-clause-within g c =
-    let fits = c.requires.legal.kept.fits in
-    omega (
-      arith,
-      fits.undirected_fit,
-      fits.directed_fit,
-      c.requires.within,
-      c.as_undirected.ensures,
-    )
+    let fits = c.requires.legal.kept.fits in omega arith
 
 pub returns-clause-adds : goal.returns-clause-adds
 returns-clause-adds g c =

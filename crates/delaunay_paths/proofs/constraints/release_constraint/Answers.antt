@@ -1,8 +1,6 @@
-use Rattle.std.proofs.Common.{◌<◌, length, arith}
 use Rattle.delaunay_lines.proofs.plane_tiling.Totals.{Contains-none}
 use Rattle.delaunay_lines.proofs.delaunay_legalization_lemmas.Constraints.{fixed_within}
-use Rattle.delaunay_paths.proofs.Releasing.{left_to_test, released, released_kept}
-use Rattle.delaunay_paths.proofs.Releasing.{released_passing}
+use Rattle.delaunay_paths.proofs.Releasing.{released, released_kept, released_left, released_room}
 use Rattle.delaunay_paths.proofs.constraints.release_constraint.Goals as goal
 
 pub free_edge-requires : goal.free_edge-requires
@@ -11,14 +9,9 @@ free_edge-requires g c = fixed_within _ _ g.met.M.ConstraintMarker.constraints_a
 
 pub put-requires : goal.put-requires
 put-requires g c =
-    let here : c.args.edge < length c.args.dcel.now.undirected =
-    fixed_within _ _ g.met.M.ConstraintMarker.constraints_are_marked _ _ c.requires.constraint in
-    rw c.clear.ensures.room (omega (
-      arith,
-      here,
-      c.requires.legal.kept.few_edges,
-      c.requires.room,
-    ))
+    let laws = g.met.M.ConstraintMarker in
+    rw c.clear.ensures.room (released_room _ laws.constraints_are_marked c.requires.constraint
+    c.requires.legal laws.unmarked_has_none c.free_edge.ensures c.requires.room)
 
 pub legalize-requires-clause-kept : goal.legalize-requires-clause-kept
 legalize-requires-clause-kept g c =
@@ -30,12 +23,8 @@ pub legalize-requires-clause-left : goal.legalize-requires-clause-left
 legalize-requires-clause-left g c =
     let laws = g.met.M.ConstraintMarker in
     let alone = rw c.clear.ensures.items at c.put.ensures.last in
-    rw (alone (Contains-none _)) (record {
-      edges = left_to_test _ laws.constraints_are_marked c.requires.constraint c.requires.legal
-          laws.unmarked_has_none c.free_edge.ensures;
-      passing = released_passing _ laws.constraints_are_marked c.requires.constraint
-          c.requires.legal laws.unmarked_has_none c.free_edge.ensures;
-    })
+    rw (alone (Contains-none _)) (released_left _ laws.constraints_are_marked c.requires.constraint
+    c.requires.legal laws.unmarked_has_none c.free_edge.ensures)
 
 pub returns-clause-releases : goal.returns-clause-releases
 returns-clause-releases g c =

@@ -2,8 +2,8 @@ use Rattle.std.proofs.Common.{ℕ, ◌<◌, length, subst}
 use Rattle.delaunay_lines.proofs.mesh_embedding.EdgePairs.{joins_edge}
 use Rattle.delaunay_paths.proofs.joined.edge_between.Goals as goal
 
-pub get_edge_from_neighbors-requires : goal.get_edge_from_neighbors-requires
-get_edge_from_neighbors-requires g c =
+pub edge_if_joined-requires : goal.edge_if_joined-requires
+edge_if_joined-requires g c =
     let w = c.recall_invariant.ensures.whole in
     let e = joins_edge _ w.valid.sound _ _ c.requires in
     rw w.fits.vertices_fit (subst (λ (k : ℕ). k < length c.args.dcel.now.mesh.out_edges) e.2

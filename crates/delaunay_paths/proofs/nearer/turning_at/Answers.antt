@@ -1,11 +1,7 @@
-use Rattle.std.proofs.Common.{◌≡◌, map, rules}
+use Rattle.std.proofs.Common.{map}
 use Rattle.std.specs.Prelude.{Contains}
-use Rattle.delaunay_lines.specs.half_edge_mesh.Mesh.{origin, next}
 use Rattle.delaunay_lines.specs.plane.Fraction.{Point}
-use Rattle.delaunay_lines.specs.delaunay_core.Place.{place_of}
-use Rattle.delaunay_lines.specs.delaunay_legalization.Known.{point_at}
 use Rattle.delaunay_lines.proofs.delaunay_legalization_lemmas.Questions.{covered_in}
-use Rattle.delaunay_paths.specs.Crossing.{behind}
 use Rattle.delaunay_paths.proofs.nearer.turning_at.Goals as goal
 
 pub invariant_of-result : goal.invariant_of-result
@@ -25,20 +21,4 @@ invariant_of-result g c =
     }
 
 pub returns : goal.returns
-returns g c =
-    let at = place_of g.V.Scalar.SpadeNum.whole in
-    let m = c.args.dcel.now.mesh in
-    let points = map g.V.HasPosition.place c.args.dcel.now.vertices in
-    let behind_is : at c.start_before.result ≡ point_at points (behind m c.args.edge) =
-    search rules in
-    let end_is : at c.start_of-2.result ≡ point_at points (origin m (next m c.args.edge)) =
-    search rules in
-    λ i. record {
-      from = c.position_of.ensures.place i;
-      to = c.position_of-2.ensures.place i;
-      start = c.start_of.ensures.place i;
-      behind = behind_is i;
-      end = end_is i;
-      ahead = c.start_before-2.ensures.place i;
-      tests = c.args.tests.now;
-    }
+returns g c = cc

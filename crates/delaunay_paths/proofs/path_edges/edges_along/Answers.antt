@@ -1,14 +1,12 @@
-use Rattle.std.proofs.Common.{◌<◌, length, vec_capacity, arith}
 use Rattle.std.proofs.lemmas.List.{length-map}
 use Rattle.delaunay_paths.proofs.ListingPath.{listing_begins, listing_ends, listing_goes_on}
 use Rattle.delaunay_paths.proofs.ListingPath.{listing_has_room, listing_shortens}
-use Rattle.delaunay_paths.proofs.Walking.{in_map, of_map, placed_apart}
+use Rattle.delaunay_paths.proofs.Walking.{of_map}
 use Rattle.delaunay_paths.proofs.path_edges.edges_along.Goals as goal
 
 pub loop-to-init : goal.loop-to-init
-loop-to-init g c = listing_begins (placed_apart _ _ _ c.requires.kept.shape)
-    (in_map _ _ _ c.requires.from_in) (in_map _ _ _ c.requires.to_in) c.clear.ensures.items
-    c.clear.ensures.capacity
+loop-to-init g c = listing_begins _ _ c.requires.kept.shape c.requires.from_in c.requires.to_in
+    c.clear.ensures.items c.clear.ensures.capacity
 
 pub next_on_path-next-requires-clause-from_in : goal.next_on_path-next-requires-clause-from_in
 next_on_path-next-requires-clause-from_in g c = of_map _ _ _ c.loop-to.invariant.within
@@ -18,11 +16,9 @@ edge_between-edge-requires g c =
     c.requires.joined _ _ (c.loop-to.invariant.rest _ _ c.next_on_path-next.ensures.next)
 
 pub push_reserved-requires : goal.push_reserved-requires
-push_reserved-requires g c =
-    let here : length c.loop-to.edges.items < vec_capacity c.loop-to.edges =
-    listing_has_room c.loop-to.invariant c.next_on_path-next.ensures.next
-    (length-map c.args.dcel.now.vertices g.V.HasPosition.place) c.requires.room in
-    omega (arith, here, c.loop-to.edges.ok.0)
+push_reserved-requires g c = listing_has_room c.loop-to.invariant c.next_on_path-next.ensures.next
+    (length-map c.args.dcel.now.vertices g.V.HasPosition.place) c.requires.room
+    c.loop-to.edges.ok.0
 
 pub loop-to-preserved : goal.loop-to-preserved
 loop-to-preserved g c =

@@ -1,11 +1,9 @@
-use Rattle.std.proofs.Common.{◌≡◌, vec_capacity}
 use Rattle.delaunay_paths.proofs.Listing.{IsListingPiece}
-use Rattle.delaunay_paths.proofs.crossing.list_to_next.Given as goal
+use Rattle.delaunay_paths.proofs.crossing.CrossingLists.list_to_next.Given as goal
 
 abbrev pub invariant-loop-item : goal.invariant-loop-item
 invariant-loop-item g l = IsListingPiece g.V.HasPosition.place g.V.Scalar.SpadeNum.whole
-    g.P.PlaneTests.sites g.P.PlaneTests.covered l.dcel l.from l.fn.to l.edges.items l.line
-    × (vec_capacity l.edges ≡ vec_capacity l.fn.edges)
+    g.P.PlaneTests.sites g.P.PlaneTests.covered l.dcel l.from l.fn.to l.fn.self l.self l.line
 
 abbrev pub decreases-loop-item : goal.decreases-loop-item
 decreases-loop-item g l = l.line.left
