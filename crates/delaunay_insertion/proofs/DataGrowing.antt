@@ -23,6 +23,8 @@ use Rattle.delaunay_legalization.proofs.half_edge_links.Lists.Rev.{rev-rev, rev_
 use Rattle.delaunay_legalization.proofs.half_edge_links.Sound.Triangles as T
 use Rattle.delaunay_legalization.specs.half_edge_mesh.Contents.{Contents, FitsMesh, IsMeshWithData}
 use Rattle.delaunay_legalization.specs.half_edge_mesh.Contents.{Edge, edges, edges_of, edge_with}
+use Rattle.delaunay_legalization.specs.half_edge_mesh.GrownData.{AddsData, AddsEdgeData}
+use Rattle.delaunay_legalization.specs.half_edge_mesh.GrownData.{MovesData}
 use Rattle.delaunay_legalization.specs.half_edge_mesh.Growth.{Grows, MovesTwoItems, AddsEdges}
 use Rattle.delaunay_legalization.specs.half_edge_mesh.Growth.{SplitsEdge, with_ends}
 use Rattle.delaunay_legalization.specs.plane.Fraction.{Point, Fraction, whole, IsPositive}
@@ -296,38 +298,36 @@ module _ {V D U F : Type 0} (old new : Contents V D U F) (valid : IsValidMesh ol
 
   module _ (points : List Point) (p : Point) where
     -- and a face
-    pub grows_by_face : (P : D → Type 0) (Q : U → Type 0) (R : F → Type 0) (more faces : ℕ)
-        (added : List Ends) (a b c : ℕ) → Grows P old.directed new.directed more
-        → Grows R old.faces new.faces faces → AddsEdges Q (edges old) (edges new) added
-        → AddsTriangle old.mesh new.mesh a b c → new.outer ≡ old.outer
+    pub grows_by_face : {P : D → Type 0} {Q : U → Type 0} {R : F → Type 0} {vs : List V}
+        {d u f : ℕ} {added : List Ends} (a b c : ℕ) → AddsData P Q R vs old new d u f
+        → AddsEdges Q (edges old) (edges new) added → AddsTriangle old.mesh new.mesh a b c
         → GrowsAround points p (state_of old) (state_of new)
-    grows_by_face P Q R more faces added a b c d f e triangle outer = record {
-      edges = λ h w. inl (edges_added P Q more added d e h w);
-      faces =
-          λ i t q. inl (face_kept R faces i t q (ap (λ xs. slice_get xs i) triangle ∙ some_before
-          (triangles old.mesh) (record { first = a; second = b; third = c } ∷ []) i t q) f);
-      outer = outer;
+    grows_by_face a b c brings e triangle = record {
+      edges = λ h w. inl (edges_added _ _ _ _ brings.directed e h w);
+      faces = λ i t q. inl (face_kept _ _ i t q
+          (ap (λ xs. slice_get xs i) triangle ∙ some_before (triangles old.mesh)
+          (record { first = a; second = b; third = c } ∷ []) i t q) brings.faces);
+      outer = ap (λ (c : Contents V D U F). c.outer) brings.contents;
     }
 
     -- and the face on the left of edge a has the point in it
-    pub grows_inside :
-        (P : D → Type 0) (Q : U → Type 0) (R : F → Type 0) (more faces v f : ℕ) (added : List Ends)
-        → 0 < f → f ≤ length old.faces → IsInsideFaceOf points old.mesh p (face_edge old.mesh f)
-        → Grows P old.directed new.directed more → Grows R old.faces new.faces faces
+    pub grows_inside : {P : D → Type 0} {Q : U → Type 0} {R : F → Type 0} {vs : List V}
+        {d u g : ℕ} {added : List Ends} (v f : ℕ) → 0 < f → f ≤ length old.faces
+        → IsInsideFaceOf points old.mesh p (face_edge old.mesh f) → AddsData P Q R vs old new d u g
         → AddsEdges Q (edges old) (edges new) added
-        → InsertsTriangles old.mesh new.mesh v (face_edge old.mesh f) → new.outer ≡ old.outer
+        → InsertsTriangles old.mesh new.mesh v (face_edge old.mesh f)
         → GrowsAround points p (state_of old) (state_of new)
-    grows_inside P Q R more faces v f added positive listed inside d g e triangle outer = record {
-      edges = λ h w. inl (edges_added P Q more added d e h w);
+    grows_inside v f positive listed inside brings e triangle = record {
+      edges = λ h w. inl (edges_added _ _ _ _ brings.directed e h w);
       faces = λ i t q. elim (cases_eq i (face m a - 1)) [
         | inl same ↦ inr (listed_in points p m a valid.sound here.0 (subst (λ (x : ℕ). 0 < x)
             (sym here.1) positive) in_corners t (ap (slice_get (triangles m)) (sym same) ∙ q))
-        | inr other ↦ inl (face_kept R faces i t q
+        | inr other ↦ inl (face_kept _ _ i t q
             (ap (λ xs. slice_get xs i) triangle
             ∙ some_before (set (triangles m) (face m a - 1) first) _ i t
-            (slice_get-set_other (triangles m) (face m a - 1) i first other ∙ q)) g)
+            (slice_get-set_other (triangles m) (face m a - 1) i first other ∙ q)) brings.faces)
       ];
-      outer = outer;
+      outer = ap (λ (c : Contents V D U F). c.outer) brings.contents;
     }
       where
         m : Mesh
@@ -375,17 +375,16 @@ module _ {V D U F : Type 0} (old new : Contents V D U F) (valid : IsValidMesh ol
     twin_in e inside = within_both points p old.mesh e (rev e) inside (rev_half e)
 
     -- one between two inner faces
-    pub grows_within_side : (P : D → Type 0) (Q : U → Type 0) (R : F → Type 0) (e v more faces : ℕ)
-        (turned kept : Ends) (others : List Ends) → e < length old.mesh.half_edges
-        → 0 < face old.mesh e → 0 < face old.mesh (rev e) → IsWithinEdge points old.mesh p e
-        → MovesTwoItems P old.directed new.directed e (rev e) more
-        → Grows R old.faces new.faces faces
+    pub grows_within_side : {P : D → Type 0} {Q : U → Type 0} {R : F → Type 0} {vs : List V}
+        {d u f : ℕ} {turned kept : Ends} {others : List Ends} (e v : ℕ)
+        → e < length old.mesh.half_edges → 0 < face old.mesh e → 0 < face old.mesh (rev e)
+        → IsWithinEdge points old.mesh p e → MovesData P Q R vs old new e d u f
         → SplitsEdge Q (edges old) (edges new) (e / 2) turned kept others
-        → SplitsTriangles old.mesh new.mesh v e → new.outer ≡ old.outer
+        → SplitsTriangles old.mesh new.mesh v e
         → GrowsAround points p (state_of old) (state_of new)
-    grows_within_side P Q R e v more faces turned kept others within inner twin_inner inside d g s
-        triangle outer = record {
-          edges = edges_split P Q e more turned kept others inside d s;
+    grows_within_side e v within inner twin_inner inside brings s triangle =
+        record {
+          edges = edges_split _ _ e _ _ _ _ inside brings.directed s;
           faces = λ i t q. elim (cases_eq i (face m e - 1)) [
             | inl same ↦
                 inr (listed_in points p m e valid.sound within inner (beside_in points p m e
@@ -394,15 +393,16 @@ module _ {V D U F : Type 0} (old new : Contents V D U F) (valid : IsValidMesh ol
               | inl same ↦ inr (listed_in points p m (rev e) valid.sound twin_within twin_inner
                   (beside_in points p m (rev e) valid.sound twin_within (twin_in e inside)) t
                   (ap (slice_get (triangles m)) (sym same) ∙ q))
-              | inr also ↦ inl (face_kept R faces i t q
+              | inr also ↦ inl (face_kept _ _ i t q
                   (ap (λ xs. slice_get xs i) triangle ∙ some_before
                   (set (set (triangles m) (face m e - 1) left) (face m (rev e) - 1) right) _ i t
                   (slice_get-set_other (set (triangles m) (face m e - 1) left)
                   (face m (rev e) - 1) i right also
-                  ∙ slice_get-set_other (triangles m) (face m e - 1) i left other ∙ q)) g)
+                  ∙ slice_get-set_other (triangles m) (face m e - 1) i left other ∙ q))
+                  brings.faces)
             ]
           ];
-          outer = outer;
+          outer = ap (λ (c : Contents V D U F). c.outer) brings.contents;
         }
       where
         m : Mesh
@@ -426,26 +426,25 @@ module _ {V D U F : Type 0} (old new : Contents V D U F) (valid : IsValidMesh ol
         }
 
     -- one with the outer face on its right
-    pub grows_within_hull : (P : D → Type 0) (Q : U → Type 0) (R : F → Type 0) (e v more faces : ℕ)
-        (turned kept : Ends) (others : List Ends) → e < length old.mesh.half_edges
-        → 0 < face old.mesh e → IsWithinEdge points old.mesh p e
-        → MovesTwoItems P old.directed new.directed e (rev e) more
-        → Grows R old.faces new.faces faces
+    pub grows_within_hull : {P : D → Type 0} {Q : U → Type 0} {R : F → Type 0} {vs : List V}
+        {d u f : ℕ} {turned kept : Ends} {others : List Ends} (e v : ℕ)
+        → e < length old.mesh.half_edges → 0 < face old.mesh e → IsWithinEdge points old.mesh p e
+        → MovesData P Q R vs old new e d u f
         → SplitsEdge Q (edges old) (edges new) (e / 2) turned kept others
-        → HalfSplitsTriangles old.mesh new.mesh v e → new.outer ≡ old.outer
+        → HalfSplitsTriangles old.mesh new.mesh v e
         → GrowsAround points p (state_of old) (state_of new)
-    grows_within_hull P Q R e v more faces turned kept others within inner inside d g s triangle
-        outer = record {
-          edges = edges_split P Q e more turned kept others inside d s;
+    grows_within_hull e v within inner inside brings s triangle =
+        record {
+          edges = edges_split _ _ e _ _ _ _ inside brings.directed s;
           faces = λ i t q. elim (cases_eq i (face m e - 1)) [
             | inl same ↦
                 inr (listed_in points p m e valid.sound within inner (beside_in points p m e
                 valid.sound within inside) t (ap (slice_get (triangles m)) (sym same) ∙ q))
-            | inr other ↦ inl (face_kept R faces i t q (ap (λ xs. slice_get xs i) triangle
+            | inr other ↦ inl (face_kept _ _ i t q (ap (λ xs. slice_get xs i) triangle
                 ∙ some_before (set (triangles m) (face m e - 1) left) _ i t
-                (slice_get-set_other (triangles m) (face m e - 1) i left other ∙ q)) g)
+                (slice_get-set_other (triangles m) (face m e - 1) i left other ∙ q)) brings.faces)
           ];
-          outer = outer;
+          outer = ap (λ (c : Contents V D U F). c.outer) brings.contents;
         }
       where
         m : Mesh
@@ -463,33 +462,33 @@ module _ {V D U F : Type 0} (old new : Contents V D U F) (valid : IsValidMesh ol
     no_listed none f t q = absurd (let w = face_in_list f t q in omega (arith, w, none))
 
     -- a line gets longer
-    pub grows_past_end : (P : D → Type 0) (Q : U → Type 0) (more : ℕ) (added : List Ends)
-        → length old.faces ≡ 0 → Grows P old.directed new.directed more
-        → AddsEdges Q (edges old) (edges new) added → new.outer ≡ old.outer
+    pub grows_past_end : {P : D → Type 0} {Q : U → Type 0} {vs : List V} {added : List Ends}
+        → length old.faces ≡ 0 → AddsEdgeData P Q vs old new
+        → AddsEdges Q (edges old) (edges new) added
         → GrowsAround points p (state_of old) (state_of new)
-    grows_past_end P Q more added none d e outer = record {
-      edges = λ h w. inl (edges_added P Q more added d e h w);
+    grows_past_end none brings e = record {
+      edges = λ h w. inl (edges_added _ _ _ _ brings.directed e h w);
       faces = no_listed none;
-      outer = outer;
+      outer = ap (λ (c : Contents V D U F). c.outer) brings.contents;
     }
 
     -- an edge of a line is split, which had the point within
-    pub grows_within_line : (P : D → Type 0) (Q : U → Type 0) (e more : ℕ) (turned : Ends)
-        (added : List Ends) → length old.faces ≡ 0 → IsWithinEdge points old.mesh p e
-        → Grows P old.directed new.directed more
+    pub grows_within_line : {P : D → Type 0} {Q : U → Type 0} {vs : List V} {added : List Ends}
+        (e : ℕ) (turned : Ends) → length old.faces ≡ 0 → IsWithinEdge points old.mesh p e
+        → AddsEdgeData P Q vs old new
         → AddsEdges Q (with_ends (edges old) (e / 2) turned) (edges new) added
-        → new.outer ≡ old.outer → GrowsAround points p (state_of old) (state_of new)
-    grows_within_line P Q e more turned added none inside d a outer = record {
+        → GrowsAround points p (state_of old) (state_of new)
+    grows_within_line {added = added} e turned none inside brings a = record {
       edges = λ h w. elim (cases_eq (h / 2) (e / 2)) [
         | inl same ↦ inr (within_both points p old.mesh e h inside same)
         | inr other ↦ inl (edge_kept h w
             (λ x q. ap (λ xs. slice_get xs (h / 2)) a.whole
             ∙ some_before (with_ends (edges old) (e / 2) turned) (edges_of added a.values)
             (h / 2) x (with_ends_other (edges old) (e / 2) (h / 2) turned other ∙ q))
-            (grown_entry P old.directed new.directed more h w d))
+            (grown_entry _ old.directed new.directed _ h w brings.directed))
       ];
       faces = no_listed none;
-      outer = outer;
+      outer = ap (λ (c : Contents V D U F). c.outer) brings.contents;
     }
 
 -- one vertex has no edge

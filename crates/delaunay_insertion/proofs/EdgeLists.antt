@@ -62,34 +62,36 @@ module _ {U : Type 0} (P : U → Type 0) where
       subst P (get_or_from_slice_get us i e.value e.value u)
       (All-get_or P us i e.value (slice_get_within us i e.value u) all)
 
-  module _ (old new : List (Edge U)) where
-    -- where edges are added, each other one stays and the new data are as P says
-    pub adds_only : (added : List Ends) → AddsEdges P old new added → AddsOnly P old new
-    adds_only added a = record {
-      kept = λ l e h. ap (λ xs. slice_get xs l) a.whole
-          ∙ some_before old (edges_of added a.values) l e h;
-      added = λ l e h. elim (before_or_after old (edges_of added a.values) l e
-          (ap (λ xs. slice_get xs l) (sym a.whole) ∙ h)) [
-            | inl was ↦ inl was
-            | inr made ↦ inr (listed_value added a.values made.0 e a.each made.1)
-          ];
-    }
+module _ {U : Type 0} {P : U → Type 0} where
+  -- where edges are added, each other one stays and the new data are as P says
+  pub adds_only : {old new : List (Edge U)} {added : List Ends} → AddsEdges P old new added
+      → AddsOnly P old new
+  adds_only {old = old} {added = added} a = record {
+    kept = λ l e h. ap (λ xs. slice_get xs l) a.whole
+        ∙ some_before old (edges_of added a.values) l e h;
+    added = λ l e h. elim (before_or_after old (edges_of added a.values) l e
+        (ap (λ xs. slice_get xs l) (sym a.whole) ∙ h)) [
+          | inl was ↦ inl was
+          | inr made ↦ inr (listed_value P added a.values made.0 e a.each made.1)
+        ];
+  }
 
   -- two such changes one after the other are one
-  pub adds_on : (old mid new : List (Edge U)) → AddsOnly P old mid → AddsOnly P mid new
+  pub adds_on : {old mid new : List (Edge U)} → AddsOnly P old mid → AddsOnly P mid new
       → AddsOnly P old new
-  adds_on old mid new a b = record {
+  adds_on a b = record {
     kept = λ l e h. b.kept l e (a.kept l e h);
     added = λ l e h. elim (b.added l e h) [ inl x ↦ a.added l e x | inr x ↦ inr x ];
   }
 
   -- a list that stays the same is such a change, too
-  pub adds_nothing : (old new : List (Edge U)) → new ≡ old → AddsOnly P old new
-  adds_nothing old new same = record {
+  pub adds_nothing : {old new : List (Edge U)} → new ≡ old → AddsOnly P old new
+  adds_nothing same = record {
     kept = λ l e h. ap (λ xs. slice_get xs l) same ∙ h;
     added = λ l e h. inl (ap (λ xs. slice_get xs l) (sym same) ∙ h);
   }
 
+module _ {U : Type 0} (P : U → Type 0) where
   module _ (old new : List (Edge U)) (k v near far : ℕ) (has_ends : (e : Edge U)
       → slice_get old k ≡ Some e → IsSamePair e.source e.target near far) where
     -- both halves come after the others, and their edge gives way to one of the new ones
@@ -129,7 +131,7 @@ module _ {U : Type 0} (P : U → Type 0) where
               (let e : length old + 1 ≡ length gone + 1 = omega (arith, same_length) in
               e) ∙ after_all gone tail 1;
           second_ends = other_ends;
-          second_value = listed_value (other ∷ others) (u ∷ us) 0 (edge_with other u) each refl;
+          second_value = listed_value P (other ∷ others) (u ∷ us) 0 (edge_with other u) each refl;
           late = omega arith;
           kept = λ l e n h. ap (λ xs. slice_get xs l) whole
               ∙ some_before gone tail l e
@@ -157,7 +159,7 @@ module _ {U : Type 0} (P : U → Type 0) where
 
             in_tail : (i : ℕ) (e : Edge U) → i ≢ 0 → slice_get tail i ≡ Some e → P e.value
             in_tail zero e n h = absurd (n refl)
-            in_tail (suc i) e n h = listed_value (other ∷ others) (u ∷ us) i e each h
+            in_tail (suc i) e n h = listed_value P (other ∷ others) (u ∷ us) i e each h
 
     -- the first half has the place of the edge, and the second comes last
     pub splits_in_place : (turned other : Ends)
@@ -195,7 +197,7 @@ module _ {U : Type 0} (P : U → Type 0) where
               (let e : length old ≡ length left + 0 = omega (arith, same_length) in e)
               ∙ after_all left tail 0;
           second_ends = other_ends;
-          second_value = listed_value (other ∷ []) (u ∷ us) 0 (edge_with other u) each refl;
+          second_value = listed_value P (other ∷ []) (u ∷ us) 0 (edge_with other u) each refl;
           late = omega arith;
           kept = λ l e n h. ap (λ xs. slice_get xs l) whole
               ∙ some_before left tail l e (with_ends_other old k l turned n ∙ h);
@@ -204,7 +206,7 @@ module _ {U : Type 0} (P : U → Type 0) where
             | inr n ↦
                 elim (before_or_after left tail l e (ap (λ xs. slice_get xs l) (sym whole) ∙ h)) [
                   | inl x ↦ inl (n, sym (with_ends_other old k l turned n) ∙ x)
-                  | inr x ↦ inr (inr (listed_value (other ∷ []) (u ∷ us) x.0 e each x.1))
+                  | inr x ↦ inr (inr (listed_value P (other ∷ []) (u ∷ us) x.0 e each x.1))
                 ]
           ];
         }

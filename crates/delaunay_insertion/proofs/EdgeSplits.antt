@@ -1,8 +1,8 @@
 -- An edge of a mesh that is split at a new vertex, and the mark that its second half may get.
 -- Lemmas: inner_split, hull_split, line_split, second_there, second_late, had_mark, had_none,
--- written_vertices, written_mesh, written_kept, written_grows.
+-- written_mesh, written_gains.
 use Rattle.std.proofs.Common.{◌≡◌, ◌≢◌, ◌↔◌, ◌+◌, ◌*◌, ◌/◌, ◌<◌, ◌≤◌, [], ◌∷◌}
-use Rattle.std.proofs.Common.{ℕ, suc, Bool, true, false, List, length}
+use Rattle.std.proofs.Common.{ℕ, suc, Bool, true, false, List, length, map}
 use Rattle.std.proofs.Common.{refl, sym, ap, ◌∙◌, subst, Some, inl, inr, arith}
 use Rattle.std.specs.Prelude.{Contains, IsTrue, slice_get}
 use Rattle.std.proofs.lemmas.List.{length-set}
@@ -25,6 +25,7 @@ use Rattle.delaunay_legalization.specs.State.{state_of}
 use Rattle.delaunay_legalization.proofs.Constraints.{is_constraint_edge, fixed_edge_is}
 use Rattle.delaunay_insertion.specs.Data.{GrowsAround}
 use Rattle.delaunay_insertion.specs.Edges.{SplitsAt}
+use Rattle.delaunay_insertion.specs.Growth.{GainsVertex}
 use Rattle.delaunay_insertion.proofs.EdgeLists.{splits_at, splits_in_place, along_ends}
 use Rattle.delaunay_insertion.proofs.MarkedEdges.{own_ends, own_edge}
 
@@ -68,11 +69,11 @@ module _ {V D U F : Type 0} (old new : Contents V D U F) (w : IsMeshWithData old
   at_second n second is s = subst (λ (k : ℕ). SplitsAt P (edges old) (edges new) (e / 2) v k) is s
 
   -- one between two inner faces
-  pub inner_split : (second : ℕ) (turned : Ends) (others : List Ends)
+  pub inner_split : {second : ℕ} {turned : Ends} {others : List Ends}
       → second ≡ (length old.directed + 3) / 2 → SplitsEdge P (edges old) (edges new) (e / 2) turned
       (joins (origin old.mesh e) v) (joins (origin old.mesh (next old.mesh e)) v ∷ others)
       → SplitsAt P (edges old) (edges new) (e / 2) v second
-  inner_split second turned others is s =
+  inner_split {second} {turned} {others} is s =
       at_second (length (edges old) + 1) second (omega (arith, is, twice, length-edges))
       (splits_at P (edges old) (edges new) (e / 2) v (origin old.mesh e)
       (origin old.mesh (rev e)) has_ends turned
@@ -85,11 +86,11 @@ module _ {V D U F : Type 0} (old new : Contents V D U F) (w : IsMeshWithData old
           (w.valid.sound.edges e (let f = w.fits.directed_fit in omega (arith, within, f))).starts
 
   -- one of the hull
-  pub hull_split : (second : ℕ) (turned : Ends) (others : List Ends)
+  pub hull_split : {second : ℕ} {turned : Ends} {others : List Ends}
       → second ≡ (length old.directed + 2) / 2 → SplitsEdge P (edges old) (edges new) (e / 2) turned
       (joins (origin old.mesh e) v) (joins v (origin old.mesh (rev e)) ∷ others)
       → SplitsAt P (edges old) (edges new) (e / 2) v second
-  hull_split second turned others is s =
+  hull_split {second} {turned} {others} is s =
       at_second (length (edges old) + 1) second (omega (arith, is, twice, length-edges))
       (splits_at P (edges old) (edges new) (e / 2) v (origin old.mesh e)
       (origin old.mesh (rev e)) has_ends turned
@@ -97,10 +98,10 @@ module _ {V D U F : Type 0} (old new : Contents V D U F) (w : IsMeshWithData old
       (inr (refl, refl)))
 
   -- one of a line
-  pub line_split : (second : ℕ) → second ≡ (length old.directed + 1) / 2 →
+  pub line_split : {second : ℕ} → second ≡ (length old.directed + 1) / 2 →
       AddsEdges P (with_ends (edges old) (e / 2) (along e (origin old.mesh e) v)) (edges new)
       (joins (origin old.mesh (rev e)) v ∷ []) → SplitsAt P (edges old) (edges new) (e / 2) v second
-  line_split second is a =
+  line_split {second} is a =
       let here = own_edge old w (e / 2) (omega (arith, within, twice)) in
       at_second (length (edges old)) second (omega (arith, is, twice, length-edges))
       (splits_in_place P (edges old) (edges new) (e / 2) v (origin old.mesh e)
@@ -110,7 +111,7 @@ module _ {V D U F : Type 0} (old new : Contents V D U F) (w : IsMeshWithData old
 
 -- the second half is an edge that was not there
 module _ {V D U F : Type 0} (old mid : Contents V D U F) (w : IsMeshWithData old)
-    (now : IsMeshWithData mid) (P : U → Type 0) (k v second : ℕ)
+    (now : IsMeshWithData mid) {P : U → Type 0} {k v second : ℕ}
     (s : SplitsAt P (edges old) (edges mid) k v second) where
   -- the second half is one of the undirected edges afterwards
   pub second_there : second < length mid.undirected
@@ -145,10 +146,10 @@ module _ {U : Type 0} (marks : U → Bool) (constraints : List U → List ℕ) (
       go false e = e
 
 -- ---- other data of an edge that was not there
-module _ {V D U F : Type 0} (at : V → Point) (mid new : Contents V D U F) (change : U → U) (k : ℕ)
+module _ {V D U F : Type 0} {mid new : Contents V D U F} {change : U → U} {k : ℕ}
     (written : HasEdgeData change mid new k) where
   -- the vertices stay
-  pub written_vertices : new.vertices ≡ mid.vertices
+  written_vertices : new.vertices ≡ mid.vertices
   written_vertices = ap (λ (c : Contents V D U F). c.vertices) written.whole
 
   -- the mesh stays
@@ -156,8 +157,9 @@ module _ {V D U F : Type 0} (at : V → Point) (mid new : Contents V D U F) (cha
   written_mesh = ap (λ (c : Contents V D U F). c.mesh) written.whole
 
   -- a triangulation stays one
-  pub written_kept : IsTriangulated at (state_of mid) → IsTriangulated at (state_of new)
-  written_kept kept =
+  written_kept : {at : V → Point} → IsTriangulated at (state_of mid)
+      → IsTriangulated at (state_of new)
+  written_kept {at} kept =
       subst (λ (c : Contents V D U F). IsTriangulated at (state_of c)) (sym written.whole) (record {
         in_range = kept.in_range;
         few_edges = rw (length-set mid.undirected k (change written.value)) kept.few_edges;
@@ -168,7 +170,7 @@ module _ {V D U F : Type 0} (at : V → Point) (mid new : Contents V D U F) (cha
       })
 
   -- what stayed while the triangulation grew round p stays, where the edge was not there before
-  pub written_grows : (old : Contents V D U F) → FitsMesh old.mesh (length old.vertices)
+  written_grows : (old : Contents V D U F) → FitsMesh old.mesh (length old.vertices)
       (length old.directed) (length old.undirected) (length old.faces) → length old.undirected ≤ k
       → (points : List Point) (p : Point) → GrowsAround points p (state_of old) (state_of mid)
       → GrowsAround points p (state_of old) (state_of new)
@@ -195,3 +197,17 @@ module _ {V D U F : Type 0} (at : V → Point) (mid new : Contents V D U F) (cha
       below : (h : ℕ) → h < length old.directed → h / 2 ≢ k
       below h w e = let d = fits.directed_fit in let u = fits.undirected_fit in
           omega (arith, d, u, w, e, late)
+
+  -- so what gained a vertex has still gained it
+  pub written_gains : {at : V → Point} {v : V} {n : ℕ} (old : Contents V D U F)
+      → FitsMesh old.mesh (length old.vertices) (length old.directed) (length old.undirected)
+      (length old.faces) → length old.undirected ≤ k
+      → GainsVertex at v (state_of old) (state_of mid) n
+      → GainsVertex at v (state_of old) (state_of new) n
+  written_gains {at} {v} old fits late takes = record {
+    is = takes.is;
+    vertices = written_vertices ∙ takes.vertices;
+    kept = written_kept takes.kept;
+    grows = written_grows old fits late (map at old.vertices) (at v) takes.grows;
+    made = rw written_mesh takes.made;
+  }

@@ -96,9 +96,9 @@ edges_and_faces place c w (inr m) some =
     )
 
 -- ---- one vertex more
-module _ {V D U F : Type 0} (at : V → Point) (old new : Contents V D U F) (v : V)
-    (can : CanTake at v (state_of old)) (vertices : new.vertices ≡ old.vertices ++ v ∷ [])
-    (w : IsMeshWithData new) where
+module _ {V D U F : Type 0} {at : V → Point} {new : Contents V D U F} {v : V}
+    (old : Contents V D U F) (can : CanTake at v (state_of old))
+    (vertices : new.vertices ≡ old.vertices ++ v ∷ []) (w : IsMeshWithData new) where
   -- the new vertex is in range, and the mesh is one of all points: the triangulation has grown by
   -- it
   grown : IsMesh (map at old.vertices ++ at v ∷ []) (faces_of new.mesh) (outer_of new.mesh)
@@ -125,12 +125,12 @@ module _ {V D U F : Type 0} (at : V → Point) (old new : Contents V D U F) (v :
       sides = sides_at_most new w
 
   -- so it gains the vertex, where all beside it stays and each face that came has it as a corner
-  pub gains : (k : ℕ) → k ≡ length old.vertices
+  pub gains : {k : ℕ} → k ≡ length old.vertices
       → IsMesh (map at old.vertices ++ at v ∷ []) (faces_of new.mesh) (outer_of new.mesh)
       → GrowsAround (map at old.vertices) (at v) (state_of old) (state_of new)
       → MakesFacesAt k (faces_of old.mesh) (outer_of old.mesh) (faces_of new.mesh)
       → GainsVertex at v (state_of old) (state_of new) k
-  gains k last mesh grows made = record {
+  gains {k} last mesh grows made = record {
     is = last;
     vertices = vertices;
     kept = grown mesh;

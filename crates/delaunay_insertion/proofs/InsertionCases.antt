@@ -1,16 +1,20 @@
 -- A mesh with faces gets one more vertex, inside a face or within an edge.
--- Lemmas: inside_shape, within_side_shape, within_outer_shape.
+-- Lemmas: within_side_shape, within_outer_shape, inside_gains.
 use Rattle.std.proofs.Common.{◌≡◌, ◌<◌, ◌≤◌, [], ◌∷◌, ◌++◌, ◌∙◌}
-use Rattle.std.proofs.Common.{ℕ, List, length, sym, ap, subst, inl, inr, arith}
+use Rattle.std.proofs.Common.{ℕ, List, length, map, sym, ap, subst, inl, inr, arith}
 use Rattle.std.proofs.lemmas.List.{length-map}
 use Rattle.delaunay_legalization.specs.half_edge_mesh.Mesh.{Mesh, AreSoundLinks, IsValidMesh}
 use Rattle.delaunay_legalization.specs.half_edge_mesh.Mesh.{IsInnerEdge, origin, next, face_edge}
 use Rattle.delaunay_legalization.specs.half_edge_mesh.Mesh.{rev}
+use Rattle.delaunay_legalization.specs.half_edge_mesh.Contents.{Contents, edges}
 use Rattle.delaunay_legalization.specs.half_edge_mesh.Flip.{IsFlippable}
 use Rattle.delaunay_legalization.specs.half_edge_mesh.Grow.{IsHalfSplittable}
+use Rattle.delaunay_legalization.specs.half_edge_mesh.GrownData.{AddsData}
+use Rattle.delaunay_legalization.specs.half_edge_mesh.Growth.{AddsEdges}
+use Rattle.delaunay_legalization.specs.half_edge_mesh.Shapes.{InsertsInFace}
 use Rattle.delaunay_legalization.specs.half_edge_mesh.Triangles.{triangle_at, triangles}
 use Rattle.delaunay_legalization.specs.half_edge_mesh.Triangles.{InsertsTriangles, SplitsTriangles}
-use Rattle.delaunay_legalization.specs.half_edge_mesh.Outline.{KeepsOuter, ReplacesOuter}
+use Rattle.delaunay_legalization.specs.half_edge_mesh.Outline.{Ends, KeepsOuter, ReplacesOuter}
 use Rattle.delaunay_legalization.specs.half_edge_mesh.Outline.{HalfSplitsTriangles}
 use Rattle.delaunay_legalization.specs.plane.Fraction.{Point, whole, WithinSegment}
 use Rattle.delaunay_legalization.specs.plane.Pairs.{place}
@@ -21,6 +25,11 @@ use Rattle.delaunay_legalization.proofs.mesh_embedding.MeshEdits.{insertion_insi
 use Rattle.delaunay_legalization.proofs.mesh_embedding.MeshEdits.{insertion_within_side}
 use Rattle.delaunay_legalization.proofs.mesh_embedding.MeshEdits.{insertion_within_outer}
 use Rattle.delaunay_legalization.specs.Parts.{IsInsideFaceOf, IsWithinEdge}
+use Rattle.delaunay_legalization.specs.State.{state_of}
+use Rattle.delaunay_insertion.specs.Growth.{CanTake, GainsVertex}
+use Rattle.delaunay_insertion.proofs.DataGrowing.{grows_inside}
+use Rattle.delaunay_insertion.proofs.Growing.{gains}
+use Rattle.delaunay_insertion.proofs.MadeFaces.{made_inside}
 
 -- a mesh with an edge of an inner face is not a line
 with_faces : (points : List Point) (m : Mesh) (e : ℕ) → AreSoundLinks m → IsInnerEdge m e
@@ -36,7 +45,7 @@ with_faces points m e s x (inr l) =
 module _ (points : List Point) (q : Point) (m new : Mesh) (v : ℕ) (w : IsValidMesh m)
     (shape : IsMesh points (faces_of m) (outer_of m)) (last : v ≡ length points) where
   -- strictly inside face f
-  pub inside_shape : (f : ℕ) → 0 < f → f ≤ length m.face_edges
+  inside_shape : (f : ℕ) → 0 < f → f ≤ length m.face_edges
       → IsInsideFaceOf points m q (face_edge m f) → InsertsTriangles m new v (face_edge m f)
       → KeepsOuter m new → IsMesh (points ++ q ∷ []) (faces_of new) (outer_of new)
   inside_shape f positive within inside change outer =
@@ -69,3 +78,22 @@ module _ (points : List Point) (q : Point) (m new : Mesh) (v : ℕ) (w : IsValid
       (sym (w.sound.edges e x.within).starts) within))
       (subst (λ k. HalfSplitsTriangles m new k e) last change)
       (subst (λ k. ReplacesOuter m new (rev e) k a b) last outer))
+
+-- strictly inside face f: what `insert_into_triangle` does makes a triangulation gain the vertex
+pub inside_gains : {V D U F : Type 0} {at : V → Point} {v : V} {DP : D → Type 0} {P : U → Type 0}
+    {FP : F → Type 0} {new : Contents V D U F} {k : ℕ} {added : List Ends} (old : Contents V D U F)
+    (f : ℕ) → CanTake at v (state_of old) → 0 < f → f ≤ length old.mesh.face_edges
+    → IsInsideFaceOf (map at old.vertices) old.mesh (at v) (face_edge old.mesh f)
+    → k ≡ length old.vertices → InsertsInFace old.mesh new.mesh k (face_edge old.mesh f)
+    → AddsData DP P FP (old.vertices ++ v ∷ []) old new 6 3 2
+    → AddsEdges P (edges old) (edges new) added → GainsVertex at v (state_of old) (state_of new) k
+inside_gains {at = at} {new = new} {k = k} old f can positive within inside is links brings edged =
+    let kept = can.kept in
+    let last = is ∙ sym (length-map old.vertices at) in
+    let listed : f ≤ length old.faces = rw kept.fits.faces_fit within in
+    gains old can (ap (λ d. d.vertices) brings.contents) brings.whole is
+    (inside_shape _ _ old.mesh _ _ kept.valid kept.shape last f positive within inside
+    links.triangles links.outer)
+    (grows_inside old new kept.valid kept.fits brings.whole _ _ k f positive listed inside brings
+    edged links.triangles)
+    (made_inside _ old.mesh new.mesh _ kept.valid kept.shape last f positive within links.triangles)

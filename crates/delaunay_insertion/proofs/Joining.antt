@@ -2,7 +2,7 @@
 -- Notions: IsJoining, IsJoiningBack; has_vertex, not_to, not_from, joining_begins,
 -- joining_goes_on, joining_goes_back, unseen_stays, joining_ends, room_for_face, last_in,
 -- unseen_as, sites_grown, ahead_apart, step_ahead, before_outer, before_apart, step_behind.
-use Rattle.std.proofs.Common.{◌≡◌, ◌≢◌, ◌⊎◌, ◌+◌, ◌-◌, ◌*◌, ◌<◌, ◌≤◌, [], ◌∷◌, ◌++◌, ◌∙◌}
+use Rattle.std.proofs.Common.{◌≡◌, ◌≢◌, ◌⊎◌, ◌+◌, ◌-◌, ◌*◌, ◌<◌, [], ◌∷◌, ◌++◌, ◌∙◌}
 use Rattle.std.proofs.Common.{ℕ, List, length, map, refl, sym, ap, subst, inl, inr, arith}
 use Rattle.std.proofs.Common.{length-append}
 use Rattle.std.specs.Prelude.{All, Contains}
@@ -86,11 +86,12 @@ seen_end : (points : List Point) (m : Mesh) (k e : ℕ) → Sees points m k e �
 seen_end points m k e s same = not_to points (origin m e) k
     (subst (λ i. TurnsLeft (place points (origin m e)) (place points i) (place points k)) same s)
 
--- the new last vertex v of a mesh is joined to the outer edges between the edge ahead, which it
--- starts, and the edge behind, which it ends: the mesh before and now. All keeps its data, and
--- those of the edges that came are as P says
+-- the new last vertex k of a mesh, with data v, is joined to the outer edges between the edge
+-- ahead, which it starts, and the edge behind, which it ends: the mesh before and now. All keeps
+-- its data, and those of the edges that came are as P says
 pub record IsJoining {V D U F : Type 0} (place : V → Point) (P : U → Type 0)
-    (old now : Contents V D U F) (v : V) (ahead behind : ℕ) : Type 0 where
+    (old now : Contents V D U F) (v : V) (k ahead behind : ℕ) : Type 0 where
+  pub vertex : k ≡ length old.vertices
   pub whole : IsMeshWithData now
   pub vertices : now.vertices ≡ old.vertices ++ v ∷ []
   pub room : now.room ≡ old.room
@@ -109,9 +110,9 @@ pub record IsJoining {V D U F : Type 0} (place : V → Point) (P : U → Type 0)
 
 -- the same, where the edge after the edge ahead does not see the vertex
 pub record IsJoiningBack {V D U F : Type 0} (place : V → Point) (P : U → Type 0)
-    (old now : Contents V D U F) (v : V) (behind : ℕ) : Type 0 where
+    (old now : Contents V D U F) (v : V) (k behind : ℕ) : Type 0 where
   pub ahead : ℕ
-  pub joining : IsJoining place P old now v ahead behind
+  pub joining : IsJoining place P old now v k ahead behind
   pub unseen : ¬ Sees (map place old.vertices ++ place v ∷ []) now.mesh
       (length (map place old.vertices)) (next now.mesh ahead)
 
@@ -214,13 +215,14 @@ module _ {V D U F : Type 0} (place_at : V → Point) (old : Contents V D U F) (v
 
     -- after the first face the new vertex has a new edge ahead, and one behind
     pub joining_begins : (n h i : ℕ) → n ≡ length new.directed → h ≡ n - 3 → i ≡ n - 1
-        → IsJoining place_at P old new v h i
+        → IsJoining place_at P old new v k h i
     joining_begins n h i count ahead behind =
         let vertices = ap (λ (d : Contents V D U F). d.vertices) brings.contents in
         let directed = length-grown _ old.directed new.directed 4 brings.directed in
         let first : h ≡ length old.directed + 1 = omega (arith, ahead, count, directed) in
         let last_one : i ≡ length old.directed + 3 = omega (arith, behind, count, directed) in
         rw (first, last_one) (record {
+          vertex = is;
           whole = brings.whole;
           vertices = vertices;
           room = ap (λ (d : Contents V D U F). d.room) brings.contents;
@@ -249,14 +251,13 @@ module _ {V D U F : Type 0} (place_at : V → Point) (old : Contents V D U F) (v
               (faces_of new.mesh) (outer_of old.mesh) (outer_of new.mesh) x.0 x.1)
               (λ o. (sym behind_made.source o, sym ahead_made.target o)) extending;
           grows = grows_by_face old new kept.valid kept.fits brings.whole points (place_at v) _ _ _
-              _ _ _ _ _ _ brings.directed brings.faces edged links.triangles
-              (ap (λ (d : Contents V D U F). d.outer) brings.contents);
-          adds = adds_only P (edges old) (edges new) ends edged;
+              brings edged links.triangles;
+          adds = adds_only edged;
         })
 
   module _ {DP : D → Type 0} {P : U → Type 0} {FP : F → Type 0} {ends : List Ends}
-      (now new : Contents V D U F) (ahead behind : ℕ)
-      (j : IsJoining place_at P old now v ahead behind)
+      (now new : Contents V D U F) {k : ℕ} (ahead behind : ℕ)
+      (j : IsJoining place_at P old now v k ahead behind)
       (brings : AddsData DP P FP now.vertices now new 2 1 1)
       (edged : AddsEdges P (edges now) (edges new) ends) where
     -- the links fit together
@@ -287,20 +288,19 @@ module _ {V D U F : Type 0} (place_at : V → Point) (old : Contents V D U F) (v
         → GrowsAround points (place_at v) (state_of old) (state_of new)
     grown_on a b c adds = grows_on points (place_at v) (state_of old) (state_of now) (state_of new)
         j.grows (grows_by_face now new j.whole.valid j.whole.fits brings.whole points (place_at v)
-        _ _ _ _ _ _ _ _ _ brings.directed brings.faces edged adds
-        (ap (λ (d : Contents V D U F). d.outer) brings.contents))
+        _ _ _ brings edged adds)
 
     added_on : AddsOnly P (edges old) (edges new)
-    added_on = adds_on P (edges old) (edges now) (edges new) j.adds
-        (adds_only P (edges now) (edges new) ends edged)
+    added_on = adds_on j.adds (adds_only edged)
 
     -- a face with the edge after the edge ahead, which sees v, leaves one outer edge fewer
     pub joining_goes_on : Sees grown_points now.mesh last (next now.mesh ahead)
         → ClosesTriangle now.mesh new.mesh (length now.directed) ahead
-        → IsJoining place_at P old new v (length now.directed + 1) behind
+        → IsJoining place_at P old new v k (length now.directed + 1) behind
         × (length (outer_of new.mesh) < length (outer_of now.mesh))
     joining_goes_on sees links = (
       record {
+        vertex = j.vertex;
         whole = brings.whole;
         vertices = ap (λ (d : Contents V D U F). d.vertices) brings.contents ∙ j.vertices;
         room = ap (λ (d : Contents V D U F). d.room) brings.contents ∙ j.room;
@@ -370,10 +370,11 @@ module _ {V D U F : Type 0} (place_at : V → Point) (old : Contents V D U F) (v
 
       -- a face with this edge, which sees v, leaves one outer edge fewer
       pub joining_goes_back : ClosesTriangle now.mesh new.mesh (length now.directed) e
-          → IsJoining place_at P old new v ahead (length now.directed + 1)
+          → IsJoining place_at P old new v k ahead (length now.directed + 1)
           × (length (outer_of new.mesh) < length (outer_of now.mesh))
       joining_goes_back links = (
         record {
+          vertex = j.vertex;
           whole = brings.whole;
           vertices = ap (λ (d : Contents V D U F). d.vertices) brings.contents ∙ j.vertices;
           room = ap (λ (d : Contents V D U F). d.room) brings.contents ∙ j.room;
@@ -469,8 +470,8 @@ module _ {V D U F : Type 0} (place_at : V → Point) (old : Contents V D U F) (v
               (rev_within (next now.mesh ahead) (length now.mesh.half_edges) s.even after_in)
 
   -- neither the edge after the edge ahead nor the one before the edge behind sees the vertex
-  module _ {P : U → Type 0} (now : Contents V D U F) (ahead behind : ℕ)
-      (j : IsJoining place_at P old now v ahead behind)
+  module _ {P : U → Type 0} (now : Contents V D U F) {k : ℕ} (ahead behind : ℕ)
+      (j : IsJoining place_at P old now v k ahead behind)
       (unseen_after : ¬ Sees grown_points now.mesh last (next now.mesh ahead))
       (unseen_before : ¬ Sees grown_points now.mesh last (prev now.mesh behind)) where
     sound_now : AreSoundLinks now.mesh
@@ -543,113 +544,106 @@ module _ {V D U F : Type 0} (place_at : V → Point) (old : Contents V D U F) (v
         (none_seen_after points (place_at v)
         (outer_of old.mesh) now.mesh u far m.1 j.whole.valid x ahead j.ahead_outer unseen_after)
 
+-- ---- one step of the loops, by what the code asks
+module _ {V D U F : Type 0} {place_at : V → Point} {P : U → Type 0} {old now : Contents V D U F}
+    {v : V} {k ahead behind : ℕ} (j : IsJoining place_at P old now v k ahead behind) where
+  grown_to : map place_at now.vertices ≡ grown_points place_at old v
+  grown_to = ap (map place_at) j.vertices ∙ map-append place_at old.vertices (v ∷ [])
+
   -- room for one more face
-  pub room_for_face : {P : U → Type 0} (now : Contents V D U F) (ahead behind : ℕ)
-      → IsJoining place_at P old now v ahead behind → HasRoomFor old.room (length old.vertices + 1)
-      (3 * (length old.vertices + 1)) (2 * (length old.vertices + 1))
-      → HasRoom now 0 1 1
-  room_for_face now ahead behind j room =
+  pub room_for_face : HasRoomFor old.room (length old.vertices + 1) (3 * (length old.vertices + 1))
+      (2 * (length old.vertices + 1)) → HasRoom now 0 1 1
+  room_for_face room =
+      let count = grown_count place_at old v now j.vertices in
+      let sides = sides_at_most now j.whole in
       subst (λ r. HasRoom (record now { room = r }) 0 1 1) (sym j.room) (record {
-        vertices_fit = let v = room.vertices_fit in omega (arith, v, count);
-        edges_fit = let e = room.edges_fit in omega (arith, e, count, counts, sides);
-        faces_fit = let f = room.faces_fit in omega (arith, f, count, counts, sides);
+        vertices_fit = omega (arith, room.vertices_fit, count);
+        edges_fit = omega (arith, room.edges_fit, count, j.counts, sides);
+        faces_fit = omega (arith, room.faces_fit, count, j.counts, sides);
       })
-    where
-      count : length now.vertices ≡ length old.vertices + 1
-      count = grown_count now j.vertices
 
-      counts : length now.undirected + 1 ≡ length now.faces + length now.vertices
-      counts = j.counts
+  -- the new vertex is one of the mesh
+  pub last_in : k < length now.vertices
+  last_in = omega (arith, j.vertex, grown_count place_at old v now j.vertices)
 
-      sides : 3 * length now.faces ≤ 2 * length now.undirected
-      sides = sides_at_most now j.whole
+  -- what the mesh now has it not see
+  pub unseen_as : (e : ℕ) → ¬ Sees (map place_at now.vertices) now.mesh k e
+      → ¬ Sees (grown_points place_at old v) now.mesh (last place_at old v) e
+  unseen_as e = rw (j.vertex ∙ sym (length-map old.vertices place_at), grown_to) (λ n. n)
 
-  -- ---- one step of the loops, by what the code asks
-  module _ {P : U → Type 0} {ahead behind : ℕ} (now : Contents V D U F)
-      (j : IsJoining place_at P old now v ahead behind) where
-    grown_to : map place_at now.vertices ≡ grown_points
-    grown_to = ap (map place_at) j.vertices ∙ map-append place_at old.vertices (v ∷ [])
+  -- the sites with the new one
+  pub sites_grown : (IsSite : Point → Type 0)
+      → All IsSite (map place_at old.vertices) × IsSite (place_at v)
+      → All IsSite (map place_at now.vertices)
+  sites_grown IsSite all =
+      rw grown_to (All-push IsSite (map place_at old.vertices) (place_at v) all.0 all.1)
 
-    -- the new vertex is one of the mesh
-    pub last_in : (k : ℕ) → k ≡ length old.vertices → k < length now.vertices
-    last_in k is = omega (arith, is, grown_count now j.vertices)
-
-    -- what the mesh now has it not see
-    pub unseen_as : (k e : ℕ) → k ≡ length old.vertices
-        → ¬ Sees (map place_at now.vertices) now.mesh k e → ¬ Sees grown_points now.mesh last e
-    unseen_as k e is =
-        rw (is ∙ sym (length-map old.vertices place_at), grown_to) (λ n. n)
-
-    -- the sites with the new one
-    pub sites_grown : (IsSite : Point → Type 0) → All IsSite points → IsSite (place_at v)
-        → All IsSite (map place_at now.vertices)
-    sites_grown IsSite all here = rw grown_to (All-push IsSite points (place_at v) all here)
-
-  module _ {P : U → Type 0} (now : Contents V D U F) (ahead behind k e : ℕ)
-      (j : IsJoining place_at P old now v ahead behind) (k_is : k ≡ length old.vertices)
-      (is : e ≡ next now.mesh ahead) (sees : Sees (map place_at now.vertices) now.mesh k e) where
-    seen_ahead : Sees grown_points now.mesh last (next now.mesh ahead)
-    seen_ahead = seen_as now k (next now.mesh ahead) j.vertices k_is
+  -- the edge after the edge ahead sees the new vertex
+  module _ {e : ℕ} (is : e ≡ next now.mesh ahead)
+      (sees : Sees (map place_at now.vertices) now.mesh k e) where
+    seen_ahead : Sees (grown_points place_at old v) now.mesh (last place_at old v)
+        (next now.mesh ahead)
+    seen_ahead = seen_as place_at old v now k (next now.mesh ahead) j.vertices j.vertex
         (subst (λ i. Sees (map place_at now.vertices) now.mesh k i) is sees)
 
-    -- the edge after the edge ahead does not lead back to where the edge ahead starts
+    -- it does not lead back to where the edge ahead starts
     pub ahead_apart : origin now.mesh (rev (next now.mesh ahead)) ≢ origin now.mesh ahead
-    ahead_apart p = seen_end grown_points now.mesh last (next now.mesh ahead) seen_ahead
-        (p ∙ j.ahead_outer.source)
+    ahead_apart p = seen_end (grown_points place_at old v) now.mesh (last place_at old v)
+        (next now.mesh ahead) seen_ahead (p ∙ j.ahead_outer.source)
 
     -- the step ahead, to the new edge h
-    pub step_ahead : {DP : D → Type 0} {FP : F → Type 0} {ends : List Ends} (new : Contents V D U F)
-        (h : ℕ) → AddsData DP P FP now.vertices now new 2 1 1
+    pub step_ahead : {DP : D → Type 0} {FP : F → Type 0} {ends : List Ends}
+        {new : Contents V D U F} {h : ℕ} → AddsData DP P FP now.vertices now new 2 1 1
         → AddsEdges P (edges now) (edges new) ends
         → ClosesTriangle now.mesh new.mesh (length now.directed) ahead
-        → h ≡ length now.directed + 1 → IsJoining place_at P old new v h behind
+        → h ≡ length now.directed + 1 → IsJoining place_at P old new v k h behind
         × (length (outer_of new.mesh) < length (outer_of now.mesh))
-    step_ahead new h brings edged links made =
-        rw made (joining_goes_on now new ahead behind j brings edged seen_ahead links)
+    step_ahead {new = new} brings edged links made = rw made
+        (joining_goes_on place_at old v now new ahead behind j brings edged seen_ahead links)
 
-  module _ {P : U → Type 0} (now : Contents V D U F) (behind k e : ℕ)
-      (b : IsJoiningBack place_at P old now v behind) (k_is : k ≡ length old.vertices)
-      (is : e ≡ prev now.mesh behind)
-      (sees : Sees (map place_at now.vertices) now.mesh k e) where
-    seen_behind : Sees grown_points now.mesh last e
-    seen_behind = seen_as now k e b.joining.vertices k_is sees
+module _ {V D U F : Type 0} {place_at : V → Point} {P : U → Type 0} {old now : Contents V D U F}
+    {v : V} {k behind e : ℕ} (b : IsJoiningBack place_at P old now v k behind)
+    (is : e ≡ prev now.mesh behind) (sees : Sees (map place_at now.vertices) now.mesh k e) where
+  seen_behind : Sees (grown_points place_at old v) now.mesh (last place_at old v) e
+  seen_behind = seen_as place_at old v now k e b.joining.vertices b.joining.vertex sees
 
-    -- the edge behind fits the edges beside it
-    here : IsSoundEdge now.mesh behind
-    here = b.joining.whole.valid.sound.edges behind b.joining.behind_outer.within
+  -- the edge behind fits the edges beside it
+  here : IsSoundEdge now.mesh behind
+  here = b.joining.whole.valid.sound.edges behind b.joining.behind_outer.within
 
-    before_in : e < length now.mesh.half_edges
-    before_in = subst (λ i. i < length now.mesh.half_edges) (sym is) here.prev_in
+  before_in : e < length now.mesh.half_edges
+  before_in = subst (λ i. i < length now.mesh.half_edges) (sym is) here.prev_in
 
-    after_is : next now.mesh e ≡ behind
-    after_is = ap (next now.mesh) is ∙ here.next_prev
+  after_is : next now.mesh e ≡ behind
+  after_is = ap (next now.mesh) is ∙ here.next_prev
 
-    -- the edge before the edge behind is an outer one
-    pub before_outer : face now.mesh e ≡ 0
-    before_outer = sym (b.joining.whole.valid.sound.edges e before_in).same_face
-        ∙ ap (face now.mesh) after_is ∙ b.joining.behind_outer.outer
+  -- the edge before the edge behind is an outer one
+  pub before_outer : face now.mesh e ≡ 0
+  before_outer = sym (b.joining.whole.valid.sound.edges e before_in).same_face
+      ∙ ap (face now.mesh) after_is ∙ b.joining.behind_outer.outer
 
-    -- the edge after it does not lead back to where it starts
-    pub before_apart : origin now.mesh (rev (next now.mesh e)) ≢ origin now.mesh e
-    before_apart p = seen_start grown_points now.mesh last e seen_behind
-        (sym p ∙ ap (λ i. origin now.mesh (rev i)) after_is ∙ b.joining.behind_outer.target)
+  -- the edge after it does not lead back to where it starts
+  pub before_apart : origin now.mesh (rev (next now.mesh e)) ≢ origin now.mesh e
+  before_apart p = seen_start (grown_points place_at old v) now.mesh (last place_at old v) e
+      seen_behind
+      (sym p ∙ ap (λ i. origin now.mesh (rev i)) after_is ∙ b.joining.behind_outer.target)
 
-    -- the step behind, to the new edge h, while nothing ahead sees v
-    pub step_behind : {DP : D → Type 0} {FP : F → Type 0} {ends : List Ends}
-        (new : Contents V D U F) (h : ℕ) → AddsData DP P FP now.vertices now new 2 1 1
-        → AddsEdges P (edges now) (edges new) ends
-        → ClosesTriangle now.mesh new.mesh (length now.directed) e
-        → h ≡ length now.directed + 1 → IsJoiningBack place_at P old new v h
-        × (length (outer_of new.mesh) < length (outer_of now.mesh))
-    step_behind new h brings edged links made =
-        let step = joining_goes_back now new b.ahead behind b.joining brings edged e is seen_behind
-        links in
-        rw made (
-          record {
-            ahead = b.ahead;
-            joining = step.0;
-            unseen = unseen_stays now new b.ahead behind b.joining brings edged e is seen_behind
-                links.mesh b.unseen;
-          },
-          step.1,
-        )
+  -- the step behind, to the new edge h, while nothing ahead sees v
+  pub step_behind : {DP : D → Type 0} {FP : F → Type 0} {ends : List Ends} {new : Contents V D U F}
+      {h : ℕ} → AddsData DP P FP now.vertices now new 2 1 1
+      → AddsEdges P (edges now) (edges new) ends
+      → ClosesTriangle now.mesh new.mesh (length now.directed) e
+      → h ≡ length now.directed + 1 → IsJoiningBack place_at P old new v k h
+      × (length (outer_of new.mesh) < length (outer_of now.mesh))
+  step_behind {new = new} brings edged links made =
+      let step = joining_goes_back place_at old v now new b.ahead behind b.joining brings edged e is
+      seen_behind links in
+      rw made (
+        record {
+          ahead = b.ahead;
+          joining = step.0;
+          unseen = unseen_stays place_at old v now new b.ahead behind b.joining brings edged e is
+              seen_behind links.mesh b.unseen;
+        },
+        step.1,
+      )

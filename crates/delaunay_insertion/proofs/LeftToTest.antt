@@ -36,12 +36,12 @@ module _ {V D U F : Type 0} (at : V → Point) (marks : U → Bool) (constraints
     ends_in i j h = go m.1.ends
       where
         m : (k : ℕ) × JoinsWithMark marks (edges old) k i j
-        m = joins_with_mark marks constraints marked old (whole_mesh at old was) i j h
+        m = joins_with_mark marks constraints marked old (whole_mesh old was) i j h
 
         o : (slice_get old.undirected m.0 ≡ Some m.1.edge.value)
             × ((origin old.mesh (2 * m.0) ≡ m.1.edge.source)
             × (origin old.mesh (rev (2 * m.0)) ≡ m.1.edge.target))
-        o = own_ends old (whole_mesh at old was) m.0 m.1.edge m.1.there
+        o = own_ends old (whole_mesh old was) m.0 m.1.edge m.1.there
 
         inside : 2 * m.0 < length old.directed
         inside = let b = slice_get_within old.undirected m.0 m.1.edge.value o.0 in

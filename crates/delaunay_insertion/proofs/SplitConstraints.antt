@@ -35,9 +35,9 @@ use Rattle.delaunay_legalization.proofs.mesh_embedding.MeshStays.{same_pair_back
 use Rattle.delaunay_legalization.proofs.plane.Indexes.{pair_turned}
 
 -- what is triangulated is a mesh with its data
-pub whole_mesh : {V D U F : Type 0} (at : V → Point) (c : Contents V D U F)
+pub whole_mesh : {V D U F : Type 0} {at : V → Point} (c : Contents V D U F)
     → IsTriangulated at (state_of c) → IsMeshWithData c
-whole_mesh at c kept = record { valid = kept.valid; fits = kept.fits }
+whole_mesh c kept = record { valid = kept.valid; fits = kept.fits }
 
 -- the edges that stay, where v is appended
 module _ {V D U F : Type 0} (at : V → Point) (v : V) (old new : Contents V D U F)
@@ -70,7 +70,7 @@ module _ {V D U F : Type 0} (at : V → Point) (v : V) (old new : Contents V D U
     where
       o : (slice_get old.undirected k ≡ Some e.value) ×
           ((origin old.mesh (2 * k) ≡ e.source) × (origin old.mesh (rev (2 * k)) ≡ e.target))
-      o = own_ends old (whole_mesh at old was) k e h
+      o = own_ends old (whole_mesh old was) k e h
 
       inside : 2 * k < length old.directed
       inside = let b = slice_get_within old.undirected k e.value o.0 in
@@ -93,10 +93,10 @@ module _ {V D U F : Type 0} (at : V → Point) (v : V) (old new : Contents V D U
     pub adding_splits_none : AddsOnly P (edges old) (edges new) →
         SplitsConstraints at constraints (state_of old) (state_of new) v
     adding_splits_none adds i j = (
-      (λ h. let m = joins_with_mark marks constraints marked new (whole_mesh at new now) i j h in
+      (λ h. let m = joins_with_mark marks constraints marked new (whole_mesh new now) i j h in
           elim (adds.added m.0 m.1.edge m.1.there) [
             | inl there ↦ inl (
-              joined_with_mark marks constraints marked old (whole_mesh at old was) i j m.0
+              joined_with_mark marks constraints marked old (whole_mesh old was) i j m.0
                   (record { edge = m.1.edge; there = there; mark = m.1.mark; ends = m.1.ends }),
               none_within m.0 m.1.edge i j there
                   (parts_of_edge (ends new.mesh) new.undirected m.0 m.1.edge
@@ -116,8 +116,8 @@ module _ {V D U F : Type 0} (at : V → Point) (v : V) (old new : Contents V D U
         stays : Joins (constraints_by constraints (state_of old)) i j →
             Joins (constraints_by constraints (state_of new)) i j
         stays h =
-            let m = joins_with_mark marks constraints marked old (whole_mesh at old was) i j h in
-            joined_with_mark marks constraints marked new (whole_mesh at new now) i j m.0
+            let m = joins_with_mark marks constraints marked old (whole_mesh old was) i j h in
+            joined_with_mark marks constraints marked new (whole_mesh new now) i j m.0
             (record {
               edge = m.1.edge;
               there = adds.kept m.0 m.1.edge m.1.there;
@@ -128,7 +128,7 @@ module _ {V D U F : Type 0} (at : V → Point) (v : V) (old new : Contents V D U
         none_split : (a b : ℕ) → Joins (constraints_by constraints (state_of old)) a b
             → ¬ WithinPair a b
         none_split a b h =
-            let m = joins_with_mark marks constraints marked old (whole_mesh at old was) a b h in
+            let m = joins_with_mark marks constraints marked old (whole_mesh old was) a b h in
             none_within m.0 m.1.edge a b m.1.there
             (parts_of_edge (ends new.mesh) new.undirected m.0 m.1.edge
             (adds.kept m.0 m.1.edge m.1.there)).0 m.1.ends
@@ -260,7 +260,7 @@ module _ {V D U F : Type 0} (at : V → Point) (v : V) (old new : Contents V D U
             ends_were : (slice_get old.undirected k ≡ Some s.edge.value)
                 × ((origin old.mesh (2 * k) ≡ s.edge.source)
                 × (origin old.mesh (rev (2 * k)) ≡ s.edge.target))
-            ends_were = own_ends old (whole_mesh at old was) k s.edge s.was
+            ends_were = own_ends old (whole_mesh old was) k s.edge s.was
 
         other_free : (l : ℕ) (a b : ℕ) → l ≢ k → JoinsWithMark marks (edges old) l a b
             → ¬ WithinPair a b
@@ -276,7 +276,7 @@ module _ {V D U F : Type 0} (at : V → Point) (v : V) (old new : Contents V D U
         halves_split now_joins i j = (
           (λ h. elim ((now_joins i j).0 h) [
             | inl o ↦ inl (
-              joined_with_mark marks constraints marked old (whole_mesh at old was) i j o.0 o.2,
+              joined_with_mark marks constraints marked old (whole_mesh old was) i j o.0 o.2,
               other_free o.0 i j o.1 o.2,
             )
             | inr y ↦ inr (elim y.1 [
@@ -314,7 +314,7 @@ module _ {V D U F : Type 0} (at : V → Point) (v : V) (old new : Contents V D U
                   late ∙ last,
                   (
                     far,
-                    joined_with_mark marks constraints marked old (whole_mesh at old was) a far k
+                    joined_with_mark marks constraints marked old (whole_mesh old was) a far k
                         (record { edge = s.edge; there = s.was; mark = mark; ends = same }),
                     carried a far same,
                   ),
@@ -332,7 +332,7 @@ module _ {V D U F : Type 0} (at : V → Point) (v : V) (old new : Contents V D U
                 → ¬ WithinPair a b → OtherJoins a b
             other_one a b h free_of =
                 let m =
-                joins_with_mark marks constraints marked old (whole_mesh at old was) a b h in
+                joins_with_mark marks constraints marked old (whole_mesh old was) a b h in
                 elim (cases_eq m.0 k) [
                   | inl is ↦ absurd (free_of (carried a b (the_edge m.0 a b is m.1).0))
                   | inr o ↦ (m.0, o, m.1)
@@ -342,7 +342,7 @@ module _ {V D U F : Type 0} (at : V → Point) (v : V) (old new : Contents V D U
                 (length old.vertices) a b → IsMade a b
             of_half a b h =
                 let m = joins_with_mark marks constraints marked old
-                (whole_mesh at old was) a h.1.0 h.1.1 in
+                (whole_mesh old was) a h.1.0 h.1.1 in
                 elim (cases_eq m.0 k) [
                   | inr o ↦ absurd (other_free m.0 a h.1.0 o m.1 h.1.2)
                   | inl is ↦ (

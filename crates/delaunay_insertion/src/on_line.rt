@@ -1,5 +1,5 @@
 //! New vertices on the line of all vertices.
-ghost use Rattle.std.specs.Prelude.{◌≡◌, ◌/◌, ◌<◌, length, map};
+ghost use Rattle.std.specs.Prelude.{◌≡◌, ◌/◌, ◌<◌, ◌≤◌, length, map};
 ghost use Rattle.delaunay_legalization.specs.half_edge_mesh.Mesh.{origin};
 ghost use Rattle.delaunay_legalization.specs.half_edge_mesh.Contents.{HasRoom, edges};
 ghost use Rattle.delaunay_legalization.specs.plane.Fraction.{whole as fraction};
@@ -15,34 +15,23 @@ use delaunay_legalization::half_edge_mesh::{
     Dcel, FixedDirectedEdgeHandle, FixedUndirectedEdgeHandle, FixedVertexHandle, MeshViews,
 };
 
-/// Puts the first vertex into an empty mesh and gives its handle.
-pub fn insert_first<V: HasPosition, DE, UE: Default, F>(
-    dcel: &mut Dcel<V, DE, UE, F>,
-    value: V,
-) -> FixedVertexHandle
-    requires can { CanTake V.place value (state_of dcel.old) }
-    requires none { length dcel.old.vertices ≡ 0 }
-    requires room { HasRoom dcel.old 1 0 0 }
-    ensures takes { GainsVertex V.place value (state_of dcel.old) (state_of dcel.new) result }
-    ensures edges { AddsOnly UE.is_default (edges dcel.old) (edges dcel.new) }
-{
-    dcel.append_unconnected_vertex(value)
-}
-
-/// Puts the second vertex into a mesh, joins it to the first, and gives its handle.
-pub fn insert_second<V: HasPosition, DE: Default, UE: Default, F>(
+/// Puts a vertex into a mesh without edges, joins it to the vertex that is there, if any, and gives
+/// its handle.
+pub fn insert_without_edges<V: HasPosition, DE: Default, UE: Default, F>(
     dcel: &mut Dcel<V, DE, UE, F>,
     value: V,
 ) -> FixedVertexHandle
     requires can { CanTake V.place value (state_of dcel.old) }
     requires apart { IsApart (map V.place dcel.old.vertices) (V.place value) }
-    requires one { length dcel.old.vertices ≡ 1 }
+    requires few { length dcel.old.vertices ≤ 1 }
     requires room { HasRoom dcel.old 1 1 0 }
     ensures takes { GainsVertex V.place value (state_of dcel.old) (state_of dcel.new) result }
     ensures edges { AddsOnly UE.is_default (edges dcel.old) (edges dcel.new) }
 {
     let vertex = dcel.append_unconnected_vertex(value);
-    dcel.setup_initial_two_vertices(FixedVertexHandle::from_index(0), vertex);
+    if vertex.index() > 0 {
+        dcel.setup_initial_two_vertices(FixedVertexHandle::from_index(0), vertex);
+    }
     vertex
 }
 

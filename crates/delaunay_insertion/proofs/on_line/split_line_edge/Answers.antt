@@ -17,17 +17,16 @@ returns g c =
     let places = length-map old.vertices g.V.HasPosition.place in
     let here = rw kept.fits.directed_fit at can.within in
     record {
-      takes = gains g.V.HasPosition.place old _ _ can.takes
-          (ap (λ d. d.vertices) done.data.contents) done.data.whole _ done.vertex
+      takes = gains old can.takes (ap (λ d. d.vertices) done.data.contents) done.data.whole
+          done.vertex
           (split_shape _ _ old.mesh _ c.args.edge _ _
           (sym kept.fits.faces_fit ∙ c.requires.one_face) kept.valid
           (places ∙ kept.fits.vertices_fit) kept.shape here (done.vertex ∙ sym places) can.on_edge
           done.links.triangles done.links.outer)
-          (grows_within_line old _ kept.valid kept.fits done.data.whole _ _ _ _ c.args.edge _ _ _
-          c.requires.one_face can.on_edge done.data.directed done.edges
-          (ap (λ d. d.outer) done.data.contents))
+          (grows_within_line old _ kept.valid kept.fits done.data.whole _ _ c.args.edge _
+          c.requires.one_face can.on_edge done.data done.edges)
           (made_none old.mesh new.mesh _ done.links.triangles);
-      edges = line_split old new (whole_mesh g.V.HasPosition.place old kept) _ c.args.edge _
-          can.within _ (c.as_undirected.ensures
-          ∙ ap (λ xs. get_or xs 1 c.index-parts-1.result / 2) done.parts) done.edges;
+      edges = line_split old new (whole_mesh old kept) _ c.args.edge _ can.within
+          (c.as_undirected.ensures ∙ ap (λ xs. get_or xs 1 c.index-parts-1.result / 2) done.parts)
+          done.edges;
     }

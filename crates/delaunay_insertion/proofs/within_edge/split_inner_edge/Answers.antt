@@ -7,7 +7,7 @@ use Rattle.delaunay_insertion.proofs.Growing.{gains}
 use Rattle.delaunay_insertion.proofs.InsertionCases.{within_side_shape}
 use Rattle.delaunay_insertion.proofs.MadeFaces.{made_within_side}
 use Rattle.delaunay_insertion.proofs.SplitConstraints.{whole_mesh}
-use Rattle.delaunay_insertion.proofs.inside.split_inner_edge.Goals as goal
+use Rattle.delaunay_insertion.proofs.within_edge.split_inner_edge.Goals as goal
 
 pub split_edge-vertex-requires-clause-between : goal.split_edge-vertex-requires-clause-between
 split_edge-vertex-requires-clause-between g c = record {
@@ -28,16 +28,16 @@ returns g c =
     let turns = flippable old.mesh c.args.edge kept.valid here c.requires.inner
     c.requires.twin_inner in
     record {
-      takes = gains g.V.HasPosition.place old _ _ can.takes
-          (ap (λ d. d.vertices) done.data.contents) done.data.whole _ done.vertex
+      takes = gains old can.takes (ap (λ d. d.vertices) done.data.contents) done.data.whole
+          done.vertex
           (within_side_shape _ _ old.mesh _ _ kept.valid kept.shape last c.args.edge turns
           can.on_edge done.links.triangles done.links.outer)
-          (grows_within_side old _ kept.valid kept.fits done.data.whole _ _ _ _ _ c.args.edge _ _ _
-          _ _ _ here c.requires.inner c.requires.twin_inner can.on_edge done.data.directed
-          done.data.faces done.edges done.links.triangles (ap (λ d. d.outer) done.data.contents))
+          (grows_within_side old _ kept.valid kept.fits done.data.whole _ _ c.args.edge _ here
+          c.requires.inner c.requires.twin_inner can.on_edge done.data done.edges
+          done.links.triangles)
           (made_within_side _ old.mesh new.mesh _ kept.valid kept.shape last c.args.edge turns
           done.links.triangles);
-      edges = inner_split old new (whole_mesh g.V.HasPosition.place old kept) _ c.args.edge _
-          can.within _ _ _ (c.as_undirected.ensures
-          ∙ ap (λ xs. get_or xs 1 c.index-parts-1.result / 2) done.parts) done.edges;
+      edges = inner_split old new (whole_mesh old kept) _ c.args.edge _ can.within
+          (c.as_undirected.ensures ∙ ap (λ xs. get_or xs 1 c.index-parts-1.result / 2) done.parts)
+          done.edges;
     }

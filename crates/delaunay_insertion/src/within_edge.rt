@@ -1,41 +1,22 @@
-//! A new vertex inside a face or within an edge.
-ghost use Rattle.std.specs.Prelude.{◌+◌, ◌*◌, ◌/◌, ◌<◌, ◌≤◌, length, map};
+//! A new vertex within an edge.
+ghost use Rattle.std.specs.Prelude.{◌+◌, ◌*◌, ◌/◌, ◌<◌, length, map};
 ghost use Rattle.delaunay_legalization.specs.half_edge_mesh.Grow.{IsHalfSplittable};
-ghost use Rattle.delaunay_legalization.specs.half_edge_mesh.Mesh.{rev, face, face_edge};
+ghost use Rattle.delaunay_legalization.specs.half_edge_mesh.Mesh.{rev, face};
 ghost use Rattle.delaunay_legalization.specs.half_edge_mesh.Room.{HasRoomFor};
 ghost use Rattle.delaunay_legalization.specs.half_edge_mesh.Contents.{HasRoom, edges};
 ghost use Rattle.delaunay_insertion.specs.Constraints.{SplitsConstraints};
-ghost use Rattle.delaunay_insertion.specs.Edges.{AddsOnly, SplitsAt};
+ghost use Rattle.delaunay_insertion.specs.Edges.{SplitsAt};
 ghost use Rattle.delaunay_insertion.specs.Growth.{CanSplit, CanTake, GainsVertex};
-ghost use Rattle.delaunay_legalization.specs.Parts.{IsInsideFaceOf, IsWithinEdge};
+ghost use Rattle.delaunay_legalization.specs.Parts.{IsWithinEdge};
 ghost use Rattle.delaunay_legalization.specs.State.{state_of};
 
 use crate::free_by_default::FreeByDefault;
 use crate::on_line::split_line_edge;
 use delaunay_legalization::delaunay_core::point::HasPosition;
 use delaunay_legalization::half_edge_mesh::{
-    Dcel, FixedDirectedEdgeHandle, FixedFaceHandle, FixedUndirectedEdgeHandle, FixedVertexHandle,
+    Dcel, FixedDirectedEdgeHandle, FixedUndirectedEdgeHandle, FixedVertexHandle,
 };
 use delaunay_legalization::{is_constraint_edge, is_outer, make_constraint};
-
-/// Puts a vertex strictly inside an inner face, joins it to the corners of the face, and gives its
-/// handle.
-pub fn insert_inside_face<V: HasPosition, DE: Default, UE: Default, F: Default>(
-    dcel: &mut Dcel<V, DE, UE, F>,
-    face: FixedFaceHandle,
-    value: V,
-) -> FixedVertexHandle
-    requires can { CanTake V.place value (state_of dcel.old) }
-    requires positive { 0 < face }
-    requires within { face ≤ length dcel.old.faces }
-    requires inside { IsInsideFaceOf (map V.place dcel.old.vertices) dcel.old.mesh (V.place value)
-        (face_edge dcel.old.mesh face) }
-    requires room { HasRoom dcel.old 1 3 2 }
-    ensures takes { GainsVertex V.place value (state_of dcel.old) (state_of dcel.new) result }
-    ensures edges { AddsOnly UE.is_default (edges dcel.old) (edges dcel.new) }
-{
-    dcel.insert_into_triangle(value, face)
-}
 
 // A vertex strictly within an edge between two inner faces, joined to their corners.
 fn split_inner_edge<V: HasPosition, DE: Default, UE: Default, F: Default>(

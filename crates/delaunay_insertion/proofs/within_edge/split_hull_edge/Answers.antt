@@ -6,10 +6,7 @@ use Rattle.delaunay_insertion.proofs.Growing.{gains}
 use Rattle.delaunay_insertion.proofs.InsertionCases.{within_outer_shape}
 use Rattle.delaunay_insertion.proofs.MadeFaces.{made_within_outer}
 use Rattle.delaunay_insertion.proofs.SplitConstraints.{whole_mesh}
-use Rattle.delaunay_insertion.proofs.inside.split_hull_edge.Goals as goal
-
-pub split_half_edge-vertex-requires-clause-half : goal.split_half_edge-vertex-requires-clause-half
-split_half_edge-vertex-requires-clause-half g c = c.requires.half
+use Rattle.delaunay_insertion.proofs.within_edge.split_hull_edge.Goals as goal
 
 pub returns : goal.returns
 returns g c =
@@ -22,16 +19,15 @@ returns g c =
     let places = length-map old.vertices g.V.HasPosition.place in
     let last = done.vertex ∙ sym places in
     record {
-      takes = gains g.V.HasPosition.place old _ _ can.takes
-          (ap (λ d. d.vertices) done.data.contents) done.data.whole _ done.vertex
+      takes = gains old can.takes (ap (λ d. d.vertices) done.data.contents) done.data.whole
+          done.vertex
           (within_outer_shape _ _ old.mesh _ _ kept.valid kept.shape last c.args.edge _ _ half
           (places ∙ kept.fits.vertices_fit) can.on_edge done.links.triangles done.links.outer)
-          (grows_within_hull old _ kept.valid kept.fits done.data.whole _ _ _ _ _ c.args.edge _ _ _
-          _ _ _ half.within half.inner can.on_edge done.data.directed done.data.faces done.edges
-          done.links.triangles (ap (λ d. d.outer) done.data.contents))
+          (grows_within_hull old _ kept.valid kept.fits done.data.whole _ _ c.args.edge _
+          half.within half.inner can.on_edge done.data done.edges done.links.triangles)
           (made_within_outer _ old.mesh new.mesh _ kept.valid kept.shape last c.args.edge
           (half.within, half.inner) done.links.triangles);
-      edges = hull_split old new (whole_mesh g.V.HasPosition.place old kept) _ c.args.edge _
-          can.within _ _ _ (c.as_undirected.ensures
-          ∙ ap (λ xs. get_or xs 1 c.index-parts-1.result / 2) done.parts) done.edges;
+      edges = hull_split old new (whole_mesh old kept) _ c.args.edge _ can.within
+          (c.as_undirected.ensures ∙ ap (λ xs. get_or xs 1 c.index-parts-1.result / 2) done.parts)
+          done.edges;
     }
