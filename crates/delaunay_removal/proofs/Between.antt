@@ -1,9 +1,10 @@
 -- An inner vertex with four neighbours, strictly between two of them.
--- Lemmas: starts_apart, reads_apart, between_read, between_at_next.
+-- Lemmas: reads_apart, between_tested, four_at_next.
 use Rattle.std.proofs.Common.{◌≡◌, ◌≢◌, ◌↔◌, ◌<◌, ◌∙◌}
 use Rattle.std.proofs.Common.{ℕ, List, length, map, sym, ap, subst, arith, inl, inr}
+use Rattle.std.specs.Prelude.{Bool, IsTrue}
 use Rattle.std.proofs.lemmas.List.{length-map}
-use Rattle.delaunay_legalization.specs.half_edge_mesh.Contents.{Contents, IsMeshWithData}
+use Rattle.delaunay_legalization.specs.half_edge_mesh.Contents.{Contents}
 use Rattle.delaunay_legalization.specs.half_edge_mesh.Mesh.{Mesh, AreSoundLinks, IsValidMesh}
 use Rattle.delaunay_legalization.specs.half_edge_mesh.Mesh.{origin, rev}
 use Rattle.delaunay_legalization.specs.half_edge_mesh.Peel.{turn, spoke}
@@ -13,12 +14,12 @@ use Rattle.delaunay_legalization.specs.plane.Fraction.{Point, whole, WithinSegme
 use Rattle.delaunay_legalization.specs.plane_tiling.Local.{LocalMesh}
 use Rattle.delaunay_legalization.specs.mesh_embedding.Drawn.{faces_of, outer_of}
 use Rattle.delaunay_legalization.specs.Known.{point_at}
-use Rattle.delaunay_removal.specs.Star.{IsBetweenAt, IsInnerStar, StandsBetween}
-use Rattle.delaunay_removal.proofs.InnerStars.{ends_differ}
+use Rattle.delaunay_removal.specs.Star.{HasSpoke, IsBetweenAt, IsFourStar, IsInnerStar}
+use Rattle.delaunay_removal.proofs.InnerStars.{ends_differ, star_from}
 use Rattle.delaunay_removal.proofs.InnerHoles.{between_first_or_next}
 
 -- edges of different vertices start at different positions
-pub starts_apart : (points : List Point) (m : Mesh) → AreSoundLinks m
+starts_apart : (points : List Point) (m : Mesh) → AreSoundLinks m
     → length m.out_edges ≡ length points → LocalMesh points (faces_of m) (outer_of m) → (a b : ℕ)
     → a < length m.half_edges → b < length m.half_edges → origin m a ≢ origin m b → (p q : Point)
     → p ≡ point_at points (origin m a) → q ≡ point_at points (origin m b) → p ≢ q
@@ -30,10 +31,11 @@ starts_apart points m s count local a b a_in b_in differ p q at_p at_q e =
 
 -- ---- what is read at an edge of a vertex with four neighbours: its ends, and the end of the edge
 -- after the next
-module _ {V D U F : Type 0} (place : V → Point) (c : Contents V D U F) (w : IsMeshWithData c)
-    (v h second opposite : ℕ) (star : IsInnerStar (map place c.vertices) c.mesh v h 4)
-    (is_second : second ≡ turn c.mesh h) (is_opposite : opposite ≡ turn c.mesh second)
-    (p a b : Point) (at_p : p ≡ point_at (map place c.vertices) (origin c.mesh h))
+module _ {V D U F P : Type 0} {place : V → Point} {IsSite : P → Point → Type 0} {t : P}
+    {c : Contents V D U F} {v h second opposite : ℕ} (has : HasSpoke place IsSite c t h)
+    (star : IsInnerStar (map place c.vertices) c.mesh v h 4) (is_second : second ≡ turn c.mesh h)
+    (is_opposite : opposite ≡ turn c.mesh second) {p a b : Point}
+    (at_p : p ≡ point_at (map place c.vertices) (origin c.mesh h))
     (at_a : a ≡ point_at (map place c.vertices) (origin c.mesh (rev h)))
     (at_b : b ≡ point_at (map place c.vertices) (origin c.mesh (rev opposite))) where
   abbrev points : List Point
@@ -43,10 +45,10 @@ module _ {V D U F : Type 0} (place : V → Point) (c : Contents V D U F) (w : Is
   m = c.mesh
 
   valid : IsValidMesh m
-  valid = w.valid
+  valid = has.placed.kept.valid
 
   count : length m.out_edges ≡ length points
-  count = sym w.fits.vertices_fit ∙ sym (length-map c.vertices place)
+  count = sym has.placed.kept.fits.vertices_fit ∙ sym (length-map c.vertices place)
 
   is : opposite ≡ turn m (turn m h)
   is = is_opposite ∙ ap (turn m) is_second
@@ -69,7 +71,7 @@ module _ {V D U F : Type 0} (place : V → Point) (c : Contents V D U F) (w : Is
   pub reads_apart : (a ≢ b) × ((p ≢ a) × (p ≢ b))
   reads_apart = (
     starts_apart points m valid.sound count star.shape (rev h) (rev (spoke m h 2)) back_in far_in
-        (ends_differ points m valid v h 4 star (omega arith)) a b at_a at_end,
+        (ends_differ valid star (omega arith)) a b at_a at_end,
     (
       starts_apart points m valid.sound count star.shape h (rev h) h_in back_in
           (valid.apart h h_in) p a at_p at_a,
@@ -79,22 +81,22 @@ module _ {V D U F : Type 0} (place : V → Point) (c : Contents V D U F) (w : Is
     ),
   )
 
-  -- the point of the vertex is strictly between them exactly if the vertex is so at edge h
-  pub between_read : WithinSegment (whole a) (whole b) (whole p) ↔ IsBetweenAt points m h
-  between_read = (
-    (λ w. subst (λ (x : Point × Point × Point). WithinSegment (whole x.0) (whole x.1) (whole x.2))
-        (λ i. (at_a i, at_end i, at_p i)) w),
-    (λ w. subst (λ (x : Point × Point × Point). WithinSegment (whole x.0) (whole x.1) (whole x.2))
-        (λ i. (sym at_a i, sym at_end i, sym at_p i)) w),
-  )
+  -- the test whether the point of the vertex is strictly between them tells whether the vertex is
+  -- so at edge h
+  pub between_tested : {says : Bool} → IsTrue says ↔ WithinSegment (whole a) (whole b) (whole p)
+      → IsTrue says ↔ IsBetweenAt points m h
+  between_tested asks = rw (at_a, at_end, at_p) at asks
 
 -- where the vertex is not between the end of one edge and the opposite one, it is so at the next
-pub between_at_next : (points : List Point) (m : Mesh) (v first after : ℕ)
-    → IsInnerStar points m v first 4 → StandsBetween points m v first 4
-    → ¬ IsBetweenAt points m first → after ≡ turn m first → IsBetweenAt points m after
-between_at_next points m v first after star between not is =
-    subst (IsBetweenAt points m) (sym is) (elim (between_first_or_next points m v first star
-    between) as (λ _. IsBetweenAt points m (turn m first)) [
-      | inl h ↦ absurd (not h)
-      | inr h ↦ h
-    ])
+pub four_at_next : {points : List Point} {m : Mesh} {first after : ℕ} → IsValidMesh m
+    → IsFourStar points m first → ¬ IsBetweenAt points m first → after ≡ turn m first
+    → after < length m.half_edges
+    → IsInnerStar points m (origin m first) after 4 × IsBetweenAt points m after
+four_at_next {points} {m} {first} {after} valid four not is within = (
+  star_from valid four.star after within (ap (origin m) is ∙ four.star.round.starts 1),
+  subst (IsBetweenAt points m) (sym is) (elim (between_first_or_next points m (origin m first) first
+      four.star four.between) as (λ _. IsBetweenAt points m (turn m first)) [
+        | inl h ↦ absurd (not h)
+        | inr h ↦ h
+      ]),
+)

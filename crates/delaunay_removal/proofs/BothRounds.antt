@@ -1,60 +1,93 @@
 -- The look for an edge between two vertices, round both of them at once.
--- Notions: EndsThere, AreSearching; none_back, starts_there, none_when_back, none_of_all.
-use Rattle.std.proofs.Common.{◌≡◌, ◌<◌, ◌≤◌, ◌∙◌}
-use Rattle.std.proofs.Common.{ℕ, length, sym, ap, arith, inl, inr}
+-- Notions: EndsThere, IsLooking, AreLooking; none_back, looking_begins, starts_there, none_of_all,
+-- none_when_back, looking_goes_on.
+use Rattle.std.proofs.Common.{◌≡◌, ◌↔◌, ◌+◌, ◌<◌, ◌≤◌, ◌∙◌}
+use Rattle.std.proofs.Common.{ℕ, length, refl, sym, ap, arith, inl, inr}
+use Rattle.std.specs.Prelude.{Bool, false, IsTrue}
 use Rattle.std.proofs.lemmas.Bool.{cases_lt}
 use Rattle.delaunay_legalization.proofs.half_edge_links.Lists.Rev.{rev-rev, rev_within}
+use Rattle.delaunay_legalization.specs.half_edge_mesh.Contents.{Contents, IsMeshWithData}
 use Rattle.delaunay_legalization.specs.half_edge_mesh.Mesh.{Mesh, IsValidMesh, origin, rev}
+use Rattle.delaunay_legalization.specs.half_edge_mesh.Peel.{turn}
 use Rattle.delaunay_legalization.specs.half_edge_mesh.Round.{IsRound}
 use Rattle.delaunay_legalization.proofs.half_edge_views.Loops.{round_fits}
 use Rattle.delaunay_legalization.proofs.Rounds.{round_at}
 use Rattle.delaunay_removal.specs.Pairs.{HasNoEdgeBetween}
-use Rattle.delaunay_removal.proofs.Searching.{IsSearching}
+use Rattle.delaunay_removal.proofs.Searching.{IsSearching, not_so, search_goes_on}
 
 -- edge e ends at vertex u
 abbrev pub EndsThere : Mesh → ℕ → ℕ → Type 0
 EndsThere m u e = origin m (rev e) ≡ u
 
--- after so many steps round vertex i from edge first on, and round j from second on, the walks are
--- at these edges, and none before them joins i and j
-pub record AreSearching (m : Mesh) (bound i first j second count there back : ℕ) : Type 0 where
-  pub outward : IsSearching (EndsThere m j) bound m first count there
-  pub inward : IsSearching (EndsThere m i) bound m second count back
+-- after so many steps from edge first of vertex i on the walk is at an edge, and none before it
+-- ends at vertex j
+pub record IsLooking (m : Mesh) (bound i first j count edge : ℕ) : Type 0 where
+  pub valid : IsValidMesh m
+  pub fit : bound ≡ length m.half_edges
+  pub first_in : first < bound
+  pub starts : origin m first ≡ i
+  pub walk : IsSearching (EndsThere m j) bound m first count edge
+
+-- so it is round i and round j
+pub record AreLooking (m : Mesh) (bound i first j second count there back : ℕ) : Type 0 where
+  pub outward : IsLooking m bound i first j count there
+  pub inward : IsLooking m bound j second i count back
 
 -- an edge goes neither way
-pub none_back : (m : Mesh) (i j : ℕ) → IsValidMesh m → HasNoEdgeBetween m j i
+pub none_back : {m : Mesh} {i j : ℕ} → IsValidMesh m → HasNoEdgeBetween m j i
     → HasNoEdgeBetween m i j
-none_back m i j valid none h within starts ends =
+none_back {m} valid none h within starts ends =
     none (rev h) (rev_within h (length m.half_edges) valid.sound.even within) ends
     (ap (origin m) (rev-rev h) ∙ starts)
 
--- ---- a walk round the vertex i where edge first starts, for an edge that ends at vertex j
-module _ (m : Mesh) (valid : IsValidMesh m) (i first j : ℕ) (first_in : first < length m.half_edges)
-    (starts : origin m first ≡ i) where
+-- at its first edge it has passed none
+pub looking_begins : {V D U F : Type 0} {c : Contents V D U F} {i first j : ℕ}
+    → IsMeshWithData c → first < length c.directed → origin c.mesh first ≡ i
+    → IsLooking c.mesh (length c.directed) i first j 0 first
+looking_begins whole first_in starts = record {
+  valid = whole.valid;
+  fit = whole.fits.directed_fit;
+  first_in = first_in;
+  starts = starts;
+  walk = record { within = first_in; here = refl; none = λ k less. absurd (omega (arith, less)) };
+}
+
+module _ {m : Mesh} {bound i first j count edge : ℕ}
+    (look : IsLooking m bound i first j count edge) where
   round : (n : ℕ) × IsRound m i first n
-  round = round_at m valid i first first_in starts
+  round = round_at m look.valid i first (rw look.fit at look.first_in) look.starts
 
-  module _ (bound count edge : ℕ)
-      (search : IsSearching (EndsThere m j) bound m first count edge) where
-    -- each edge on it starts there
-    pub starts_there : origin m edge ≡ i
-    starts_there = ap (origin m) search.here ∙ round.1.starts count
+  -- each edge on it starts there
+  pub starts_there : origin m edge ≡ i
+  starts_there = ap (origin m) look.walk.here ∙ round.1.starts count
 
-    missed : round.0 ≤ count → HasNoEdgeBetween m i j
-    missed all h within at ends =
-        let k = round.1.all h within at in
-        let less = k.1 in
-        search.none k.0 (omega (arith, all, less)) (ap (λ e. origin m (rev e)) (sym k.2) ∙ ends)
+  missed : round.0 ≤ count → HasNoEdgeBetween m i j
+  missed all h within at ends =
+      let k = round.1.all h within at in
+      let less = k.1 in
+      look.walk.none k.0 (omega (arith, all, less)) (ap (λ e. origin m (rev e)) (sym k.2) ∙ ends)
 
-    -- where it is back at its first edge, none was missed
-    pub none_when_back : 0 < count → edge ≡ first → HasNoEdgeBetween m i j
-    none_when_back some back = elim (cases_lt count round.0) [
-      | inl less ↦ absurd (round.1.apart 0 count some less (sym (sym search.here ∙ back)))
-      | inr more ↦ missed (omega (arith, more))
-    ]
+  -- after as many steps as there are edges, none was missed
+  pub none_of_all : bound ≤ count → HasNoEdgeBetween m i j
+  none_of_all many =
+      let fits = round_fits m i first round.0 look.valid round.1 in
+      let fit = look.fit in
+      missed (omega (arith, many, fits, fit))
 
-    -- nor after as many steps as there are edges
-    pub none_of_all : length m.half_edges ≤ count → HasNoEdgeBetween m i j
-    none_of_all many =
-        let fits = round_fits m i first round.0 valid round.1 in
-        missed (omega (arith, many, fits))
+  -- nor where it is back at its first edge
+  pub none_when_back : 0 < count → edge ≡ first → HasNoEdgeBetween m i j
+  none_when_back some back = elim (cases_lt count round.0) [
+    | inl less ↦ absurd (round.1.apart 0 count some less (sym (sym look.walk.here ∙ back)))
+    | inr more ↦ missed (omega (arith, more))
+  ]
+
+  -- it passes an edge that ends elsewhere
+  pub looking_goes_on : {b : Bool} {after : ℕ} → IsTrue b ↔ EndsThere m j edge → b ≡ false
+      → after < bound → after ≡ turn m edge → IsLooking m bound i first j (count + 1) after
+  looking_goes_on asks failed within is = record {
+    valid = look.valid;
+    fit = look.fit;
+    first_in = look.first_in;
+    starts = look.starts;
+    walk = search_goes_on look.walk (not_so asks failed) within is;
+  }

@@ -1,7 +1,7 @@
 -- The data of what stands beside a vertex that goes.
 -- Lemmas: renumbers, data_kept, line_data_kept, line_renumbers, plane_renumbers, plane_data_kept.
 use Rattle.std.proofs.Common.{◌≡◌, ◌≢◌, ◌⊎◌, ◌-◌, ◌<◌, [], ◌∙◌}
-use Rattle.std.proofs.Common.{ℕ, List, length, map, Some, sym, ap, subst, inl, inr, arith}
+use Rattle.std.proofs.Common.{ℕ, List, length, Some, sym, ap, subst, inl, inr, arith}
 use Rattle.std.specs.Prelude.{slice_get, Contains}
 use Rattle.delaunay_legalization.specs.half_edge_mesh.Mesh.{origin, rev}
 use Rattle.delaunay_legalization.specs.half_edge_mesh.Triangles.{Triangle, triangles}
@@ -107,9 +107,12 @@ module _ {V D U F : Type 0} {pairs : List (ℕ × ℕ)} (old mid new : Contents 
   }
 
 -- ---- a vertex of a line
-module _ {V D U F : Type 0} (old new : Contents V D U F) (before : IsMeshWithData old)
-    (after : IsMeshWithData new) (none : length old.faces ≡ 0) (v : ℕ) (value : V)
-    (leaves : LeavesMesh old new v value) where
+module _ {V D U F : Type 0} {place : V → Point} {old new : Contents V D U F} {v : ℕ} {value : V}
+    (kept : IsTriangulated place (state_of old)) (none : length old.faces ≡ 0)
+    (after : IsMeshWithData new) (leaves : LeavesMesh old new v value) where
+  before : IsMeshWithData old
+  before = record { valid = kept.valid; fits = kept.fits }
+
   abbrev mid : Contents V D U F
   mid = leaves.between
 
@@ -138,7 +141,7 @@ module _ {V D U F : Type 0} (old new : Contents V D U F) (before : IsMeshWithDat
   line_stands = record {
     edges = line_edges;
     faces = λ f h a b c. absurd (let l = h.1 in let n = count_faces old.mesh old.faces
-        before.fits.faces_fit in let fit = before.fits.faces_fit in omega (arith, l, n, fit, none));
+        kept.fits.faces_fit in let fit = kept.fits.faces_fit in omega (arith, l, n, fit, none));
     comes = line_comes;
     made = made_on_line mid v [] (faces_of old.mesh) leaves.whole
         (ap (λ (c : Contents V D U F). length c.faces) leaves.leaves.contents ∙ none);
@@ -157,21 +160,23 @@ module _ {V D U F : Type 0} (old new : Contents V D U F) (before : IsMeshWithDat
 
 -- ---- a vertex in the plane
 -- a vertex loses its edges and goes: those beside it are there by the indexes afterwards
-pub plane_renumbers : {V D U F : Type 0} {pairs : List (ℕ × ℕ)} (place : V → Point)
-    (old mid new : Contents V D U F) (v : ℕ) (value : V) → IsTriangulated place (state_of old)
-    → IsTriangulated place (state_of new) → IsolatesVertex (map place old.vertices) old mid v pairs
-    → DropsVertex mid new v value → RenumbersEdges old new v
-plane_renumbers place old mid new v value before after isolates drops =
-    renumbers old mid new (record { valid = before.valid; fits = before.fits })
+pub plane_renumbers : {V D U F : Type 0} {place : V → Point} {points : List Point}
+    {pairs : List (ℕ × ℕ)} {old mid new : Contents V D U F} {v : ℕ} {value : V}
+    → IsTriangulated place (state_of old) → IsTriangulated place (state_of new)
+    → IsolatesVertex points old mid v pairs → DropsVertex mid new v value
+    → RenumbersEdges old new v
+plane_renumbers {old = old} {mid = mid} {new = new} {v = v} {value = value} before after isolates
+    drops = renumbers old mid new (record { valid = before.valid; fits = before.fits })
     (record { valid = after.valid; fits = after.fits }) v value isolates.beside
-    (same_vertices place old mid v isolates) drops
+    (same_vertices isolates) drops
 
 -- the removal of a vertex of the plane keeps the data of edges and faces that are not at it
-pub plane_data_kept : {V D U F : Type 0} {pairs : List (ℕ × ℕ)} (place : V → Point)
-    (old mid new : Contents V D U F) (v : ℕ) (value : V) → IsTriangulated place (state_of old)
-    → IsTriangulated place (state_of new) → IsolatesVertex (map place old.vertices) old mid v pairs
-    → DropsVertex mid new v value → KeepsDataBeside (state_of old) (state_of new) v
-plane_data_kept place old mid new v value before after isolates drops =
-    data_kept old mid new (record { valid = before.valid; fits = before.fits })
+pub plane_data_kept : {V D U F : Type 0} {place : V → Point} {points : List Point}
+    {pairs : List (ℕ × ℕ)} {old mid new : Contents V D U F} {v : ℕ} {value : V}
+    → IsTriangulated place (state_of old) → IsTriangulated place (state_of new)
+    → IsolatesVertex points old mid v pairs → DropsVertex mid new v value
+    → KeepsDataBeside (state_of old) (state_of new) v
+plane_data_kept {old = old} {mid = mid} {new = new} {v = v} {value = value} before after isolates
+    drops = data_kept old mid new (record { valid = before.valid; fits = before.fits })
     (record { valid = after.valid; fits = after.fits }) v value isolates.beside
-    (same_vertices place old mid v isolates) drops (same_outer place old mid v isolates)
+    (same_vertices isolates) drops (same_outer isolates)

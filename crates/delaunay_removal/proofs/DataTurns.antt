@@ -1,13 +1,14 @@
 -- An edge of a vertex is turned: what is not at the vertex stays.
 -- Lemmas: unwritten, turn_stands, turned_stands.
 use Rattle.std.proofs.Common.{◌≡◌, ◌≢◌, ◌⊎◌, ◌-◌, ◌*◌, ◌/◌, ◌<◌, [], ◌∷◌, ◌∙◌}
-use Rattle.std.proofs.Common.{ℕ, List, length, get_or, set, refl, sym, ap, subst, inl, inr, arith}
+use Rattle.std.proofs.Common.{ℕ, List, length, map, get_or, set, refl, sym, ap, subst, inl, inr}
+use Rattle.std.proofs.Common.{arith}
 use Rattle.std.specs.Prelude.{Contains}
 use Rattle.std.proofs.lemmas.Bool.{cases_eq}
 use Rattle.std.proofs.lemmas.List.{length-map, length-set, get_or-set_same, get_or-set_other}
 use Rattle.delaunay_legalization.specs.half_edge_mesh.Flip.{IsFlippable, flipped}
 use Rattle.delaunay_legalization.specs.half_edge_mesh.Mesh.{Mesh, AreSoundLinks, IsInner, origin}
-use Rattle.delaunay_legalization.specs.half_edge_mesh.Mesh.{next, prev, face, rev}
+use Rattle.delaunay_legalization.specs.half_edge_mesh.Mesh.{prev, face, rev}
 use Rattle.delaunay_legalization.specs.half_edge_mesh.Outline.{Ends, ends, along}
 use Rattle.delaunay_legalization.specs.half_edge_mesh.Peel.{turn}
 use Rattle.delaunay_legalization.specs.half_edge_mesh.Round.{neighbour}
@@ -29,11 +30,11 @@ use Rattle.delaunay_legalization.proofs.half_edge_dcel.Touching.{with_other_ends
 use Rattle.delaunay_legalization.proofs.half_edge_dcel.Touching.{with_other_corners, full_edges-set}
 use Rattle.delaunay_legalization.proofs.half_edge_dcel.Touching.{full_faces-set}
 use Rattle.delaunay_legalization.specs.plane.Fraction.{Point}
-use Rattle.delaunay_legalization.specs.plane_tiling.Local.{LocalMesh}
-use Rattle.delaunay_legalization.specs.mesh_embedding.Drawn.{faces_of, outer_of}
+use Rattle.delaunay_legalization.specs.mesh_embedding.Drawn.{faces_of}
 use Rattle.delaunay_legalization.proofs.mesh_embedding.MeshStays.{halved}
 use Rattle.delaunay_removal.specs.Data.{HasValueAt, StandsBeside}
 use Rattle.delaunay_removal.specs.Pairs.{MakesFaces}
+use Rattle.delaunay_removal.specs.Star.{MayTurnAway}
 use Rattle.delaunay_removal.proofs.DataStays.{no_end, no_corner}
 use Rattle.delaunay_removal.proofs.MadeFaces.{made_turn}
 use Rattle.delaunay_legalization.proofs.Rounds.{round_at}
@@ -171,29 +172,15 @@ module _ {V D U F : Type 0} (c new : Contents V D U F) (whole : IsMeshWithData c
   twin_at = elim at_v as (λ _. (origin m (rev e) ≡ v) ⊎ (origin m (rev (rev e)) ≡ v))
       [ inl q ↦ inr (ap (origin m) (rev-rev e) ∙ q) | inr q ↦ inl q ]
 
-  module _ (triangles_are : FlipsTriangles m new.mesh e) where
-    abbrev a : ℕ
-    a = face m e - 1
+  abbrev a : ℕ
+  a = face m e - 1
 
-    abbrev b : ℕ
-    b = face m (rev e) - 1
+  abbrev b : ℕ
+  b = face m (rev e) - 1
 
-    -- the corners of the face on its left
-    abbrev ta : Triangle
-    ta = record {
-      first = origin m (prev m e);
-      second = origin m (prev m (rev e));
-      third = origin m (next m e);
-    }
-
-    -- the corners of the face on its other side
-    abbrev tb : Triangle
-    tb = record {
-      first = origin m (prev m (rev e));
-      second = origin m (prev m e);
-      third = origin m (next m (rev e));
-    }
-
+  -- the two faces get other corners
+  module _ (ta tb : Triangle)
+      (triangles_are : triangles new.mesh ≡ set (set (triangles m) a ta) b tb) where
     one_turned : FullFace F → List (FullFace F)
     one_turned d = set (full_faces c) a (with_other_corners (get_or (full_faces c) a d) ta)
 
@@ -240,21 +227,16 @@ starts_or_ends m h v starts = elim (halved h) [
 ]
 
 -- the edge after h is turned, round the vertex where they start
-pub turned_stands : {V D U F : Type 0} (points : List Point) (c new : Contents V D U F)
-    → IsMeshWithData c → LocalMesh points (faces_of c.mesh) (outer_of c.mesh) → (h : ℕ) → h
-    < length c.directed → 0 < face c.mesh h → 0 < face c.mesh (turn c.mesh h) → neighbour c.mesh h 0
-    ≢ neighbour c.mesh h 2 → (k : ℕ) → k ≡ turn c.mesh h / 2 → new.mesh ≡ flipped c.mesh (2 * k)
-    → new ≡ record c { mesh = new.mesh } → FlipsTriangles c.mesh new.mesh (2 * k)
+pub turned_stands : {V D U F : Type 0} {place : V → Point} {c new : Contents V D U F} {h : ℕ}
+    → MayTurnAway place c h → new.mesh ≡ flipped c.mesh (2 * (turn c.mesh h / 2))
+    → new ≡ record c { mesh = new.mesh } → FlipsTriangles c.mesh new.mesh (2 * (turn c.mesh h / 2))
     → StandsBeside c new (origin c.mesh h) ((neighbour c.mesh h 0, neighbour c.mesh h 2) ∷ [])
-turned_stands points c new whole local h within left right apart k is turned same triangles_are =
-    let h_in = subst (λ (n : ℕ). h < n) whole.fits.directed_fit within in
-    let r = round_at c.mesh whole.valid (origin c.mesh h) h h_in refl in
-    let flips = (may_turn points c.mesh whole.valid local h h_in left right apart).0 in
-    turn_stands c new whole (2 * k) (origin c.mesh h)
-    (subst (λ (j : ℕ). IsFlippable c.mesh (2 * j)) (sym is) flips) turned same
-    (subst (λ (j : ℕ). (origin c.mesh (2 * j) ≡ origin c.mesh h)
-    ⊎ (origin c.mesh (rev (2 * j)) ≡ origin c.mesh h)) (sym is)
-    (starts_or_ends c.mesh (turn c.mesh h) (origin c.mesh h) (r.1.starts 1))) triangles_are
+turned_stands {place = place} {c = c} {new = new} {h = h} may turned same triangles_are =
+    let v = origin c.mesh h in
+    let r = round_at c.mesh may.whole.valid v h (rw may.whole.fits.directed_fit at may.within)
+    refl in
+    turn_stands c new may.whole (2 * (turn c.mesh h / 2)) v (may_turn may).0 turned same
+    (starts_or_ends c.mesh (turn c.mesh h) v (r.1.starts 1)) _ _ triangles_are
     ((neighbour c.mesh h 0, neighbour c.mesh h 2) ∷ [])
-    (made_turn points c.mesh new.mesh whole.valid local (origin c.mesh h) h r.0 r.1 left right
-    (subst (λ (j : ℕ). FlipsTriangles c.mesh new.mesh (2 * j)) is triangles_are))
+    (made_turn (map place c.vertices) c.mesh new.mesh may.whole.valid may.shape v h r.0 r.1
+    may.left may.right triangles_are)

@@ -1,7 +1,7 @@
 -- The edges round a vertex cease to be constraints, one after another.
--- Notions: IsFreeing; freeing_begins, same_directed, same_mesh, freeing_goes_on, freeing_ends,
+-- Notions: IsFreeing; freeing_begins, still_there, freeing_goes_on, freeing_ends,
 -- none_to_free, free_already.
-use Rattle.std.proofs.Common.{◌≡◌, ◌≢◌, ◌+◌, ◌*◌, ◌/◌, ◌<◌, ◌∙◌}
+use Rattle.std.proofs.Common.{◌≡◌, ◌≢◌, ◌+◌, ◌*◌, ◌/◌, ◌<◌, ◌≤◌, ◌∙◌}
 use Rattle.std.proofs.Common.{ℕ, List, length, set, Some, refl, sym, ap, subst, inl, inr, arith}
 use Rattle.std.specs.Prelude.{Bool, true, false, [], Contains, None, slice_get}
 use Rattle.std.proofs.lemmas.Bool.{cases_eq}
@@ -9,7 +9,7 @@ use Rattle.std.proofs.lemmas.List.{length-set, get_or-set_same}
 use Rattle.std.proofs.lemmas.Option.{slice_get_within, get_or_from_slice_get}
 use Rattle.std.proofs.Math.Numerals.{add-one}
 use Rattle.delaunay_legalization.specs.half_edge_mesh.Contents.{Contents, IsMeshWithData}
-use Rattle.delaunay_legalization.specs.half_edge_mesh.Mesh.{Mesh, origin, out_edge, rev}
+use Rattle.delaunay_legalization.specs.half_edge_mesh.Mesh.{origin, out_edge, rev}
 use Rattle.delaunay_legalization.specs.half_edge_mesh.Peel.{turn, spoke}
 use Rattle.delaunay_legalization.specs.half_edge_mesh.Round.{IsRound}
 use Rattle.delaunay_legalization.proofs.half_edge_links.Lists.Rev.{rev_within}
@@ -25,40 +25,32 @@ use Rattle.delaunay_removal.specs.Freeing.{IsUnmarked, FreesEdgesAt}
 use Rattle.delaunay_legalization.proofs.mesh_embedding.EdgePairs.{rev_of_even, half_of_even}
 use Rattle.delaunay_removal.proofs.DataReads.{even_or_odd, half_of_odd}
 
-module _ {V D U F : Type 0} (marks : U → Bool) (old : Contents V D U F) (first : ℕ) where
-  -- the first i edges from edge first on have no mark
-  pub record IsFreeing (now : Contents V D U F) (i edge : ℕ) : Type 0 where
-    pub contents : now ≡ record old { undirected = now.undirected }
-    pub count : length now.undirected ≡ length old.undirected
-    pub within : edge < length old.directed
-    pub here : edge ≡ spoke old.mesh first i
-    pub done : (j : ℕ) → j < i → IsUnmarked marks now (spoke old.mesh first j / 2)
-    pub others : (k : ℕ) → ((j : ℕ) → spoke old.mesh first j / 2 ≢ k) →
-        slice_get now.undirected k ≡ slice_get old.undirected k
+-- the first i edges from edge first on have no mark
+pub record IsFreeing {V D U F : Type 0} (marks : U → Bool) (old : Contents V D U F) (first : ℕ)
+    (now : Contents V D U F) (i edge : ℕ) : Type 0 where
+  pub contents : now ≡ record old { undirected = now.undirected }
+  pub count : length now.undirected ≡ length old.undirected
+  pub within : edge < length old.directed
+  pub here : edge ≡ spoke old.mesh first i
+  pub done : (j : ℕ) → j < i → IsUnmarked marks now (spoke old.mesh first j / 2)
+  pub others : (k : ℕ) → ((j : ℕ) → spoke old.mesh first j / 2 ≢ k) →
+      slice_get now.undirected k ≡ slice_get old.undirected k
 
-  -- at the first edge none has been freed yet
-  pub freeing_begins : first < length old.directed → IsFreeing old 0 first
-  freeing_begins within = record {
-    contents = refl;
-    count = refl;
-    within = within;
-    here = refl;
-    done = λ j less. absurd (omega (arith, less));
-    others = λ k none. refl;
-  }
+-- at the first edge none has been freed yet
+pub freeing_begins : {V D U F : Type 0} {marks : U → Bool} {old : Contents V D U F} {first : ℕ}
+    → first < length old.directed → IsFreeing marks old first old 0 first
+freeing_begins within = record {
+  contents = refl;
+  count = refl;
+  within = within;
+  here = refl;
+  done = λ j less. absurd (omega (arith, less));
+  others = λ k none. refl;
+}
 
-  -- the data of the directed edges stay
-  pub same_directed : (now : Contents V D U F) → now ≡ record old { undirected = now.undirected } →
-      now.directed ≡ old.directed
-  same_directed now contents = ap (λ (c : Contents V D U F). c.directed) contents
-
-  -- the mesh stays
-  pub same_mesh : (now : Contents V D U F) → now ≡ record old { undirected = now.undirected }
-      → now.mesh ≡ old.mesh
-  same_mesh now contents = ap (λ (c : Contents V D U F). c.mesh) contents
-
-  module _ (now new : Contents V D U F) (i edge : ℕ) (freeing : IsFreeing now i edge)
-      (change : U → U) (free : (d : U) → marks (change d) ≡ false)
+module _ {V D U F : Type 0} {marks : U → Bool} {old now : Contents V D U F} {first i edge : ℕ}
+    (freeing : IsFreeing marks old first now i edge) where
+  module _ {new : Contents V D U F} {change : U → U}
       (written : HasEdgeData change now new (edge / 2)) where
     abbrev x : U
     x = change written.value
@@ -71,8 +63,8 @@ module _ {V D U F : Type 0} (marks : U → Bool) (old : Contents V D U F) (first
         record c { undirected = set now.undirected (edge / 2) x }) freeing.contents
         ∙ ap (λ (us : List U). record old { undirected = us }) (sym data_are)
 
-    unmarked_here : IsUnmarked marks new (edge / 2)
-    unmarked_here d is =
+    unmarked_here : ((d : U) → marks (change d) ≡ false) → IsUnmarked marks new (edge / 2)
+    unmarked_here free d is =
         let inside = slice_get_within now.undirected (edge / 2) written.value written.was in
         let read = sym (get_or_from_slice_get (set now.undirected (edge / 2) x) (edge / 2) d x
         (subst (λ (us : List U). slice_get us (edge / 2) ≡ Some d) data_are is))
@@ -84,18 +76,27 @@ module _ {V D U F : Type 0} (marks : U → Bool) (old : Contents V D U F) (first
         was d (sym (slice_get-set_other now.undirected (edge / 2) k x off)
         ∙ subst (λ (us : List U). slice_get us k ≡ Some d) data_are is)
 
+    -- the data of the directed edges stay
+    same_directed : new.directed ≡ old.directed
+    same_directed = ap (λ (c : Contents V D U F). c.directed) contents_are
+
+    -- so each edge does
+    pub still_there : edge < length new.directed
+    still_there = subst (λ (ds : List D). edge < length ds) (sym same_directed) freeing.within
+
     -- with the mark of the edge gone, the edge that it turns to is the next one
-    pub freeing_goes_on : (after : ℕ) → after < length new.directed → after ≡ turn new.mesh edge →
-        IsFreeing new (i + 1) after
-    freeing_goes_on after within is = record {
+    pub freeing_goes_on : ((d : U) → marks (change d) ≡ false) → {after : ℕ}
+        → after < length new.directed → after ≡ turn new.mesh edge
+        → IsFreeing marks old first new (i + 1) after
+    freeing_goes_on free {after} within is = record {
       contents = contents_are;
       count = ap length data_are ∙ length-set now.undirected (edge / 2) x ∙ freeing.count;
-      within = subst (λ (ds : List D). after < length ds) (same_directed new contents_are) within;
-      here = is ∙ ap (λ (m : Mesh). turn m edge) (same_mesh new contents_are)
+      within = subst (λ (ds : List D). after < length ds) same_directed within;
+      here = is ∙ ap (λ (c : Contents V D U F). turn c.mesh edge) contents_are
           ∙ ap (turn old.mesh) freeing.here
           ∙ ap (spoke old.mesh first) (sym (add-one i));
       done = λ j less. elim (cases_eq (spoke old.mesh first j / 2) (edge / 2)) [
-        | inl e ↦ subst (IsUnmarked marks new) (sym e) unmarked_here
+        | inl e ↦ subst (IsUnmarked marks new) (sym e) (unmarked_here free)
         | inr n ↦ unmarked_still (spoke old.mesh first j / 2) n (freeing.done j (before j less n))
       ];
       others = λ k none. ap (λ (us : List U). slice_get us k) data_are
@@ -111,9 +112,8 @@ module _ {V D U F : Type 0} (marks : U → Bool) (old : Contents V D U F) (first
         ]
 
   -- all edges of the vertex are free
-  module _ (whole : IsMeshWithData old) (v count : ℕ) (round : IsRound old.mesh v first count)
-      (now : Contents V D U F) (i edge : ℕ) (freeing : IsFreeing now i edge)
-      (all : (j : ℕ) → j < count → j < i) where
+  module _ (whole : IsMeshWithData old) {v count : ℕ} (round : IsRound old.mesh v first count)
+      (all : count ≤ i) where
     double : (k : ℕ) → k < length old.undirected → 2 * k < length old.mesh.half_edges
     double k within = let f = whole.fits.undirected_fit in omega (arith, f, within)
 
@@ -122,7 +122,7 @@ module _ {V D U F : Type 0} (marks : U → Bool) (old : Contents V D U F) (first
     by_spoke h k within at half =
         let s = round.all h within at in
         subst (IsUnmarked marks now) (ap (λ (g : ℕ). g / 2) (sym s.2) ∙ half)
-        (freeing.done s.0 (all s.0 s.1))
+        (freeing.done s.0 (let less = s.1 in omega (arith, less, all)))
 
     not_round : (k : ℕ) → origin old.mesh (2 * k) ≢ v → origin old.mesh (rev (2 * k)) ≢ v → (j : ℕ)
         → spoke old.mesh first j / 2 ≢ k
@@ -169,9 +169,9 @@ module _ {V D U F : Type 0} (marks : U → Bool) (old : Contents V D U F) (v : �
       double k within = let f = whole.fits.undirected_fit in omega (arith, f, within)
 
 -- where there are no constraints there are none to free
-module _ {V D U F : Type 0} (marks : U → Bool) (constraints : List U → List ℕ)
-    (marked : (ds : List U) → constraints ds ≡ marked_edges marks ds) (old : Contents V D U F)
-    (v : ℕ) (none : constraint_pairs constraints old.mesh old.undirected ≡ []) where
+module _ {V D U F : Type 0} {constraints : List U → List ℕ} (marks : U → Bool)
+    (old : Contents V D U F) (marked : (ds : List U) → constraints ds ≡ marked_edges marks ds)
+    (none : constraint_pairs constraints old.mesh old.undirected ≡ []) where
   unmarked : (k : ℕ) → IsUnmarked marks old k
   unmarked k d is = go (marks d) refl
     where
@@ -183,7 +183,7 @@ module _ {V D U F : Type 0} (marks : U → Bool) (constraints : List U → List 
           (is_constraint_edge marks constraints marked old.undirected k d is e))))
 
   -- no edge at the vertex has the mark
-  pub free_already : FreesEdgesAt marks old old v
+  pub free_already : {v : ℕ} → FreesEdgesAt marks old old v
   free_already = record {
     contents = refl;
     count = refl;

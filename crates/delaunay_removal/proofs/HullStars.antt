@@ -1,8 +1,9 @@
 -- A vertex on the hull loses a neighbour by a turn of an edge.
 -- Lemmas: hull_in_plane, strip_of, has_two, hull_ends_differ, none_turns, flat_has_three, left_of,
--- right_of, hull_star_less.
+-- right_of, hull_star_less, hull_may_turn.
 use Rattle.std.proofs.Common.{◌≡◌, ◌≢◌, ◌-◌, ◌*◌, ◌/◌, ◌<◌, ◌≤◌, ◌∙◌}
-use Rattle.std.proofs.Common.{ℕ, zero, suc, List, length, refl, sym, ap, subst, arith, inl, inr}
+use Rattle.std.proofs.Common.{ℕ, zero, suc, List, length, map, refl, sym, ap, subst, arith}
+use Rattle.std.proofs.Common.{inl, inr}
 use Rattle.std.specs.Prelude.{Contains}
 use Rattle.std.proofs.lemmas.Bool.{cases_lt}
 use Rattle.delaunay_legalization.specs.half_edge_mesh.Mesh.{Mesh, IsValidMesh, origin, face, rev}
@@ -11,6 +12,7 @@ use Rattle.delaunay_legalization.specs.half_edge_mesh.Peel.{spoke, IsStrip}
 use Rattle.delaunay_legalization.specs.half_edge_mesh.Round.{IsRound, neighbour}
 use Rattle.delaunay_legalization.specs.half_edge_mesh.Triangles.{FlipsTriangles}
 use Rattle.delaunay_legalization.proofs.half_edge_links.Lists.Rev.{rev-rev, rev_within}
+use Rattle.delaunay_legalization.specs.half_edge_mesh.Contents.{Contents, IsMeshWithData}
 use Rattle.delaunay_legalization.specs.plane.Fraction.{Point}
 use Rattle.delaunay_legalization.specs.plane.Pairs.{place}
 use Rattle.delaunay_legalization.specs.plane.Side.{side, on, TurnsLeft}
@@ -27,12 +29,12 @@ use Rattle.delaunay_legalization.proofs.mesh_embedding.MeshStars.{hull_star, hul
 use Rattle.delaunay_legalization.proofs.mesh_embedding.MeshStars.{neighbours_apart}
 use Rattle.delaunay_legalization.proofs.mesh_embedding.MeshStarFlips.{star_flip, star_flip_local}
 use Rattle.delaunay_legalization.proofs.mesh_embedding.MeshStarFlips.{one_hull_neighbour_less}
-use Rattle.delaunay_removal.specs.Star.{IsConvexAt}
+use Rattle.delaunay_removal.specs.Star.{IsConvexAt, MayTurnAway}
 use Rattle.delaunay_removal.specs.Hull.{IsHullFan, HasNoFlippableEdge}
 use Rattle.delaunay_legalization.proofs.Rounds.{round_at}
 
 -- ---- what the edges of a vertex on the hull know
-module _ (points : List Point) (m : Mesh) (valid : IsValidMesh m) (v first count : ℕ)
+module _ {points : List Point} {m : Mesh} (valid : IsValidMesh m) {v first count : ℕ}
     (star : IsHullFan points m v first count) where
   -- its star is one on the hull of the plane
   pub hull_in_plane : P.IsHullStar (faces_of m) (outer_of m) v (count - 1) (neighbour m first)
@@ -163,3 +165,17 @@ module _ (points : List Point) (m : Mesh) (valid : IsValidMesh m) (v first count
 
           fewer : suc (r.0 - 1) ≡ count - 1 → 0 < r.0 → r.0 ≡ count - 1
           fewer e some = omega (arith, e, some)
+
+-- so the edge after edge i may be turned
+pub hull_may_turn : {V D U F : Type 0} {place : V → Point} {c : Contents V D U F}
+    {v first count : ℕ} → IsMeshWithData c
+    → IsHullFan (map place c.vertices) c.mesh v first count → (i : ℕ) → suc (suc i) < count
+    → MayTurnAway place c (spoke c.mesh first i)
+hull_may_turn whole star i less = record {
+  whole = whole;
+  within = rw whole.fits.directed_fit (star.round.within i);
+  shape = star.shape;
+  left = left_of whole.valid star i less;
+  right = right_of whole.valid star i less;
+  apart = hull_ends_differ whole.valid star i less;
+}

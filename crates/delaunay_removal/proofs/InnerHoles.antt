@@ -1,37 +1,38 @@
 -- The hole that an inner vertex leaves: of three faces one, of four two.
--- Lemmas: border_read, hole_read, wheel_at, three_isolate, between_first_or_next, wheel_after,
+-- Lemmas: border_read, hole_read, three_wheel, three_isolate, between_first_or_next, wheel_after,
 -- four_isolate, isolates_from.
-use Rattle.std.proofs.Common.{◌≡◌, ◌⊎◌, ◌+◌, ◌*◌, ◌/◌, ◌<◌, [], ◌∷◌, ◌∙◌}
-use Rattle.std.proofs.Common.{ℕ, zero, suc, List, refl, sym, ap, subst, arith, inl, inr}
+use Rattle.std.proofs.Common.{◌≡◌, ◌⊎◌, ◌+◌, ◌<◌, [], ◌∷◌, ◌∙◌}
+use Rattle.std.proofs.Common.{ℕ, zero, suc, List, map, refl, sym, ap, subst, arith, inl, inr}
+use Rattle.std.specs.Global.{Vec}
 use Rattle.delaunay_legalization.specs.half_edge_mesh.Mesh.{Mesh, AreSoundLinks, origin, next, prev}
-use Rattle.delaunay_legalization.specs.half_edge_mesh.Mesh.{rev}
-use Rattle.delaunay_legalization.specs.half_edge_mesh.Flip.{flipped}
-use Rattle.delaunay_legalization.specs.half_edge_mesh.Outline.{KeepsOuter}
-use Rattle.delaunay_legalization.specs.half_edge_mesh.Peel.{turn, IsWheel}
-use Rattle.delaunay_legalization.specs.half_edge_mesh.Round.{neighbour}
-use Rattle.delaunay_legalization.specs.half_edge_mesh.Triangles.{FlipsTriangles}
+use Rattle.delaunay_legalization.specs.half_edge_mesh.Mesh.{face, rev}
+use Rattle.delaunay_legalization.specs.half_edge_mesh.Peel.{turn, spoke, IsWheel}
+use Rattle.delaunay_legalization.specs.half_edge_mesh.Round.{IsRound, neighbour}
 use Rattle.delaunay_legalization.specs.half_edge_mesh.Contents.{Contents, IsMeshWithData}
 use Rattle.delaunay_legalization.specs.half_edge_mesh.Hole.{IsBorder, FillsWithFan}
-use Rattle.delaunay_legalization.specs.half_edge_mesh.Removal.{FillsHole, first_spoke}
+use Rattle.delaunay_legalization.specs.half_edge_mesh.Removal.{FillsHole}
 use Rattle.delaunay_legalization.proofs.half_edge_dcel.HoleFilled.{fan_of_three}
 use Rattle.delaunay_legalization.specs.plane.Fraction.{Point, WithinSegment}
 use Rattle.delaunay_legalization.specs.plane.Pairs.{place}
 use Rattle.delaunay_legalization.proofs.plane_tiling.Edges.{turned_within}
+use Rattle.delaunay_legalization.specs.mesh_embedding.Drawn.{faces_of, outer_of}
 use Rattle.delaunay_legalization.proofs.mesh_embedding.Borders.{border_of_wheel}
 use Rattle.delaunay_legalization.proofs.mesh_embedding.MeshVertexLeaves.{leaves_three, leaves_four}
 use Rattle.delaunay_legalization.proofs.mesh_embedding.StarTurns.{wheel_of_three, wheel_left}
 use Rattle.delaunay_removal.specs.Data.{StandsBeside}
 use Rattle.delaunay_removal.specs.Pairs.{KeepsPairs}
-use Rattle.delaunay_removal.specs.Star.{IsBetweenAt, IsInnerStar, StandsBetween, IsolatesVertex}
-use Rattle.delaunay_removal.proofs.DataStays.{hole_stands, stands_on}
+use Rattle.delaunay_removal.specs.Star.{IsBetweenAt, IsInnerStar, IsMeshWithout, IsolatesVertex}
+use Rattle.delaunay_removal.specs.Star.{LosesStar, StandsBetween, TurnsAway}
+use Rattle.delaunay_removal.proofs.DataStays.{hole_stands, stands_on, stands_put}
 use Rattle.delaunay_removal.proofs.InnerStars.{spokes_inner, turns}
 
 -- ---- three faces
 -- the sides opposite a vertex, as they are read
-pub border_read : (m : Mesh) (v first second third a b c : ℕ) → AreSoundLinks m → IsWheel m first
+pub border_read : {m : Mesh} {v first second third a b c : ℕ} → AreSoundLinks m → IsWheel m first
     → origin m first ≡ v → second ≡ turn m first → third ≡ turn m second → a ≡ next m first
     → b ≡ next m second → c ≡ next m third → IsBorder m (a ∷ b ∷ c ∷ []) v
-border_read m v first second third a b c s wheel starts is_second is_third is_a is_b is_c =
+border_read {m} {v} {first} {second} {third} {a} {b} {c} s wheel starts is_second is_third is_a
+    is_b is_c =
     subst (λ (x : ℕ × ℕ × ℕ). IsBorder m (x.0 ∷ x.1 ∷ x.2 ∷ []) v)
     (λ i. (sym is_a i, sym at_b i, sym at_c i)) (border_of_wheel m v first s wheel starts)
   where
@@ -42,35 +43,40 @@ border_read m v first second third a b c s wheel starts is_second is_third is_a 
     at_c = is_c ∙ ap (next m) (is_third ∙ ap (turn m) is_second)
 
 -- the hole is one of the neighbours from first on
-pub hole_read : {V D U F : Type 0} (old new : Contents V D U F) (v first a b c : ℕ)
+pub hole_read : {V D U F : Type 0} {old new : Contents V D U F} {v first a : ℕ}
     → AreSoundLinks old.mesh → IsWheel old.mesh first → a ≡ next old.mesh first
-    → FillsWithFan old new v (neighbour old.mesh (first_spoke old.mesh (a ∷ b ∷ c ∷ []))) 3
+    → FillsWithFan old new v (neighbour old.mesh (prev old.mesh a)) 3
     → FillsHole old new v (neighbour old.mesh first)
-hole_read old new v first a b c s wheel is_a fills = fan_of_three old new v
-    (neighbour old.mesh first) (subst (λ (h : ℕ). FillsWithFan old new v (neighbour old.mesh h) 3)
+hole_read {old = old} {new = new} {v = v} {first = first} s wheel is_a fills =
+    fan_of_three old new v (neighbour old.mesh first)
+    (subst (λ (h : ℕ). FillsWithFan old new v (neighbour old.mesh h) 3)
     (ap (prev old.mesh) is_a ∙ (s.edges first wheel.within).prev_next) fills)
 
-module _ {V D U F : Type 0} (points : List Point) (old : Contents V D U F)
-    (before : IsMeshWithData old) (v first : ℕ) where
-  -- three inner faces go round an inner vertex with three edges
-  pub wheel_at : IsInnerStar points old.mesh v first 3 → IsWheel old.mesh first
-  wheel_at star = wheel_of_three old.mesh v first star.round
-      (spokes_inner points old.mesh before.valid v first 3 star)
+module _ {V D U F : Type 0} {points : List Point} {old : Contents V D U F} {v first count : ℕ}
+    (before : IsMeshWithData old) (star : IsInnerStar points old.mesh v first count)
+    (three : count ≡ 3) where
+  inner : (i : ℕ) → 0 < face old.mesh (spoke old.mesh first i)
+  inner = spokes_inner before.valid star
 
-module _ {V D U F : Type 0} (points : List Point) (old new : Contents V D U F)
-    (before : IsMeshWithData old) (after : IsMeshWithData new) (v first : ℕ) where
+  round : IsRound old.mesh v first 3
+  round = rw three at star.round
+
+  -- three inner faces go round an inner vertex with three edges
+  pub three_wheel : IsWheel old.mesh first
+  three_wheel = wheel_of_three old.mesh v first round inner
+
   -- where one face fills their hole, the vertex has lost its edges
-  pub three_isolate : IsInnerStar points old.mesh v first 3
-      → FillsHole old new v (neighbour old.mesh first) → (pairs : List (ℕ × ℕ))
-      → IsolatesVertex points old new v pairs
-  three_isolate star hole pairs = record {
+  pub three_isolate : {new : Contents V D U F} {vertex : ℕ} → v ≡ vertex → IsMeshWithData new
+      → FillsHole old new vertex (neighbour old.mesh first) → (pairs : List (ℕ × ℕ))
+      → IsolatesVertex points old new vertex pairs
+  three_isolate {new} {vertex} named after hole pairs = record {
     contents = hole.contents;
     whole = after;
     alone = hole.alone;
-    shape = inl (leaves_three points old before star.shape v first
-        (spokes_inner points old.mesh before.valid v first 3 star) new after star.round hole);
-    beside = hole_stands old new v pairs (neighbour old.mesh first) before after hole
-        (ap (λ h. origin old.mesh (rev h)) (star.round.back 0));
+    shape = inl (leaves_three points old before star.shape vertex first inner new after
+        (rw named at round) hole);
+    beside = hole_stands old new vertex pairs (neighbour old.mesh first) before after hole
+        (ap (λ h. origin old.mesh (rev h)) (round.back 0));
   }
 
 -- ---- four faces
@@ -106,48 +112,46 @@ between_first_or_next points m v first star (i, less, within) = go i less within
         )) (at (neighbour m first 3) (neighbour m first 5) w))
     go (suc (suc (suc (suc i)))) l w = absurd (omega (arith, l))
 
-module _ {V D U F : Type 0} (points : List Point) (old mid : Contents V D U F)
-    (before : IsMeshWithData old) (v first : ℕ) (star : IsInnerStar points old.mesh v first 4)
-    (turned : mid.mesh ≡ flipped old.mesh (2 * (turn old.mesh first / 2))) where
+module _ {V D U F : Type 0} {points : List Point} {old mid : Contents V D U F} {v first : ℕ}
+    {listed list : Vec (ℕ × ℕ)} (before : IsMeshWithData old)
+    (star : IsInnerStar points old.mesh v first 4) (t : TurnsAway old mid first listed list) where
   -- a turn leaves three of them
   pub wheel_after : IsWheel mid.mesh first
   wheel_after = wheel_left old.mesh mid.mesh before.valid v first star.round
-      (spokes_inner points old.mesh before.valid v first 4 star)
-      (turns points old.mesh mid.mesh before.valid v first 4 star (omega arith) turned)
+      (spokes_inner before.valid star)
+      (turns before.valid star (omega arith) t.mesh)
 
   -- and then the hole is filled
-  pub four_isolate : (new : Contents V D U F) → IsMeshWithData mid → IsMeshWithData new
-      → mid ≡ record old { mesh = mid.mesh }
-      → FlipsTriangles old.mesh mid.mesh (2 * (turn old.mesh first / 2))
-      → KeepsOuter old.mesh mid.mesh
-      → (pairs : List (ℕ × ℕ)) → StandsBeside old mid v pairs → IsBetweenAt points old.mesh first
-      → FillsHole mid new v (neighbour mid.mesh first) → IsolatesVertex points old new v pairs
-  four_isolate new middle after same triangles outer pairs stands between hole = record {
+  pub four_isolate : {new : Contents V D U F} → IsMeshWithData new
+      → IsBetweenAt points old.mesh first → FillsHole mid new v (neighbour mid.mesh first)
+      → IsolatesVertex points old new v list.items
+  four_isolate {new} after between hole = record {
     contents = hole.contents ∙ ap (λ (c : Contents V D U F). record c {
       mesh = new.mesh;
       directed = new.directed;
       undirected = new.undirected;
       faces = new.faces;
-    }) same;
+    }) t.contents;
     whole = after;
     alone = hole.alone;
-    shape = inl (leaves_four points old before star.shape v first (spokes_inner points old.mesh
-        before.valid v first 4 star) mid new middle after star.round turned triangles outer
+    shape = inl (leaves_four points old before star.shape v first (spokes_inner before.valid star)
+        mid new t.whole after star.round t.mesh t.triangles t.outer
         (subst (λ (x : ℕ). WithinSegment (place points (neighbour old.mesh first 0)) (place points
         (neighbour old.mesh first 2)) (place points x)) (star.round.starts 0) between) hole);
-    beside = stands_on old mid new v pairs pairs pairs (λ i j p. p) (λ i j p. p) stands
-        (hole_stands mid new v pairs (neighbour mid.mesh first) middle after hole
+    beside = stands_on old mid new v list.items list.items list.items (λ i j p. p) (λ i j p. p)
+        (stands_put old mid v first t (star.round.starts 0))
+        (hole_stands mid new v list.items (neighbour mid.mesh first) t.whole after hole
         (ap (λ h. origin mid.mesh (rev h)) wheel_after.round));
   }
 
 -- ---- after turns
 -- a vertex that loses its edges after turns has lost those of before
-pub isolates_from : {V D U F : Type 0} (points : List Point) (old mid new : Contents V D U F)
-    (v : ℕ) (first second pairs : List (ℕ × ℕ)) → KeepsPairs first pairs → KeepsPairs second pairs
-    → mid ≡ record old { mesh = mid.mesh } → StandsBeside old mid v first
-    → IsolatesVertex points mid new v second → IsolatesVertex points old new v pairs
-isolates_from {V} {D} {U} {F} points old mid new v first second pairs has_first has_second same
-    stands isolates = record {
+pub isolates_from : {V D U F : Type 0} (place : V → Point) {old mid new : Contents V D U F}
+    {v vertex : ℕ} {first second pairs : List (ℕ × ℕ)} → mid ≡ record old { mesh = mid.mesh }
+    → StandsBeside old mid v first → v ≡ vertex → KeepsPairs first pairs → KeepsPairs second pairs
+    → LosesStar place mid new vertex second → LosesStar place old new vertex pairs
+isolates_from {V} {D} {U} {F} place {old} {mid} {new} {vertex = vertex} {first = first}
+    {second = second} {pairs = pairs} same stands named has_first has_second isolates = record {
       contents = isolates.contents ∙ ap (λ (c : Contents V D U F). record c {
         mesh = new.mesh;
         directed = new.directed;
@@ -156,7 +160,8 @@ isolates_from {V} {D} {U} {F} points old mid new v first second pairs has_first 
       }) same;
       whole = isolates.whole;
       alone = isolates.alone;
-      shape = isolates.shape;
-      beside =
-          stands_on old mid new v first second pairs has_first has_second stands isolates.beside;
+      shape = subst (λ (vs : List V). IsMeshWithout vertex (map place vs) (faces_of new.mesh)
+          (outer_of new.mesh)) (ap (λ (c : Contents V D U F). c.vertices) same) isolates.shape;
+      beside = stands_on old mid new vertex first second pairs has_first has_second
+          (subst (λ (x : ℕ). StandsBeside old mid x first) named stands) isolates.beside;
     }

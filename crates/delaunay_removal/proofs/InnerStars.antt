@@ -1,9 +1,10 @@
 -- An inner vertex loses a neighbour by a turn of an edge, until three are left, or four with the
 -- vertex between two of them.
 -- Lemmas: no_way_back, spokes_inner, plane_star, star_from, has_three, turns, starts_after,
--- within_after, inner_after, star_shrinks, ends_differ, none_left.
+-- within_after, inner_after, star_shrinks, ends_differ, inner_may_turn, none_left.
 use Rattle.std.proofs.Common.{◌≡◌, ◌≢◌, ◌+◌, ◌-◌, ◌*◌, ◌/◌, ◌<◌, ◌≤◌, ◌∙◌}
-use Rattle.std.proofs.Common.{ℕ, zero, suc, List, length, refl, sym, ap, subst, arith, inl, inr}
+use Rattle.std.proofs.Common.{ℕ, zero, suc, List, length, map, refl, sym, ap, subst, arith}
+use Rattle.std.proofs.Common.{inl, inr}
 use Rattle.delaunay_legalization.specs.half_edge_mesh.Mesh.{Mesh, IsValidMesh, origin, face, rev}
 use Rattle.delaunay_legalization.specs.half_edge_mesh.Flip.{flipped}
 use Rattle.delaunay_legalization.specs.half_edge_mesh.Outline.{KeepsOuter}
@@ -28,6 +29,7 @@ use Rattle.delaunay_legalization.proofs.mesh_embedding.MeshStarFlips.{one_neighb
 use Rattle.delaunay_legalization.proofs.mesh_embedding.MeshVertexLeaves.{inner_choice}
 use Rattle.delaunay_legalization.proofs.mesh_embedding.StarTurns.{TurnsOff, turns_away, same_start}
 use Rattle.delaunay_removal.specs.Star.{IsConvexAt, HasInnerFaces, IsInnerStar, IsReduced}
+use Rattle.delaunay_removal.specs.Star.{MayTurnAway}
 use Rattle.delaunay_legalization.proofs.Rounds.{round_of, round_at}
 
 -- a turn to the left goes to the right on the way back
@@ -39,7 +41,7 @@ no_way_back v a b there back = clash (sym back ∙ sym (side_turned v b a) ∙ s
     clash e = cc
 
 -- ---- what the edges of an inner vertex know
-module _ (points : List Point) (m : Mesh) (valid : IsValidMesh m) (v first count : ℕ)
+module _ {points : List Point} {m : Mesh} (valid : IsValidMesh m) {v first count : ℕ}
     (star : IsInnerStar points m v first count) where
   -- each edge of the vertex has an inner face on its left
   pub spokes_inner : (i : ℕ) → 0 < face m (spoke m first i)
@@ -87,11 +89,11 @@ module _ (points : List Point) (m : Mesh) (valid : IsValidMesh m) (v first count
       at_least (suc (suc (suc n))) is = omega (arith, is)
 
 -- ---- a turn of the edge after h
-module _ (points : List Point) (m new : Mesh) (valid : IsValidMesh m) (v h count : ℕ)
+module _ {points : List Point} {m new : Mesh} (valid : IsValidMesh m) {v h count : ℕ}
     (star : IsInnerStar points m v h count) (many : 3 < count)
     (turned : new ≡ flipped m (2 * (turn m h / 2))) where
   spoke_in : (i : ℕ) → 0 < face m (spoke m h i)
-  spoke_in = spokes_inner points m valid v h count star
+  spoke_in = spokes_inner valid star
 
   -- the flip turns the edge after h away from the vertex
   pub turns : TurnsOff m new (turn m h)
@@ -125,7 +127,7 @@ module _ (points : List Point) (m new : Mesh) (valid : IsValidMesh m) (v h count
     module _ (after : IsValidMesh new) (triangles : FlipsTriangles m new (2 * (turn m h / 2)))
         (convex : IsConvexAt points m h) where
       star_at : IsStar (faces_of m) v count (neighbour m h)
-      star_at = plane_star points m valid v h count star
+      star_at = plane_star valid star
 
       -- the edge from v to neighbour 1 is flipped, in the words of faces
       flip : IsStarFlip points (faces_of m) (faces_of new) (outer_of m) (outer_of new) v
@@ -160,21 +162,33 @@ module _ (points : List Point) (m new : Mesh) (valid : IsValidMesh m) (v h count
           less e = omega (arith, e)
 
 -- ---- which edge may be turned
-module _ (points : List Point) (m : Mesh) (valid : IsValidMesh m) (v h count : ℕ)
-    (star : IsInnerStar points m v h count) (many : 3 ≤ count) where
-  -- its ends differ
-  pub ends_differ : neighbour m h 0 ≢ neighbour m h 2
-  ends_differ e = absurd (let q = (plane_star points m valid v h count star).apart 0 2
-      (omega (arith, many)) (omega (arith, many)) e in omega (arith, q))
+-- the ends of two edges with one between them differ
+pub ends_differ : {points : List Point} {m : Mesh} → IsValidMesh m → {v h count : ℕ}
+    → IsInnerStar points m v h count → 3 ≤ count → neighbour m h 0 ≢ neighbour m h 2
+ends_differ valid star many e = absurd (let q = (plane_star valid star).apart 0 2
+    (omega (arith, many)) (omega (arith, many)) e in omega (arith, q))
+
+-- where there are three edges or more, the one after each may be turned
+pub inner_may_turn : {V D U F : Type 0} {place : V → Point} {c : Contents V D U F} {v h count : ℕ}
+    → IsMeshWithData c → IsInnerStar (map place c.vertices) c.mesh v h count → 3 ≤ count
+    → MayTurnAway place c h
+inner_may_turn whole star many = record {
+  whole = whole;
+  within = rw whole.fits.directed_fit (star.round.within 0);
+  shape = star.shape;
+  left = spokes_inner whole.valid star 0;
+  right = spokes_inner whole.valid star 1;
+  apart = ends_differ whole.valid star many;
+}
 
 -- where none may be turned, three edges are left, or four with the vertex between two ends
-pub none_left : {V D U F : Type 0} (points : List Point) (c : Contents V D U F)
-    (whole : IsMeshWithData c) (v first count : ℕ) → IsInnerStar points c.mesh v first count
-    → 3 < count → ((i : ℕ) → i < count → ¬ IsConvexAt points c.mesh (spoke c.mesh first i))
+pub none_left : {V D U F : Type 0} {points : List Point} {c : Contents V D U F}
+    {v first count : ℕ} → IsMeshWithData c → IsInnerStar points c.mesh v first count → 3 < count
+    → ((i : ℕ) → i < count → ¬ IsConvexAt points c.mesh (spoke c.mesh first i))
     → IsReduced points c.mesh v first count
-none_left points c whole v first count star many none =
-    elim (inner_choice points c whole star.shape v first (spokes_inner points c.mesh whole.valid v
-    first count star) count star.round (omega (arith, many))) [
+none_left {points = points} {c = c} {v = v} {first = first} {count = count} whole star many none =
+    elim (inner_choice points c whole star.shape v first (spokes_inner whole.valid star) count
+    star.round (omega (arith, many))) [
       | inl r ↦ absurd (none r.0 r.1 (record {
         far = r.2;
         near =

@@ -1,7 +1,7 @@
 -- The faces that a vertex leaves: each was there, or each of its sides lay opposite the vertex or
 -- is what a turned edge joins.
--- Lemmas: faces_leave, plane_faces_leave, line_faces_leave, leaves_more, freed_faces_leave.
-use Rattle.std.proofs.Common.{◌≡◌, ◌≢◌, ◌⊎◌, ◌-◌, ◌<◌, [], ◌∙◌}
+-- Lemmas: faces_leave, plane_faces_leave, line_faces_leave, freed_faces_leave.
+use Rattle.std.proofs.Common.{◌≡◌, ◌≢◌, ◌⊎◌, ◌-◌, ◌<◌, ◌∙◌}
 use Rattle.std.proofs.Common.{ℕ, List, length, map, sym, ap, subst, inl, inr, arith}
 use Rattle.std.specs.Prelude.{Bool, Contains}
 use Rattle.std.proofs.lemmas.List.{length-map}
@@ -26,7 +26,6 @@ use Rattle.delaunay_removal.specs.Freeing.{FreesEdgesAt}
 use Rattle.delaunay_removal.specs.Pairs.{IsHoleSide, IsStarSide, LeavesFaces, former_index}
 use Rattle.delaunay_removal.specs.Star.{IsMeshWithout, IsolatesVertex}
 use Rattle.delaunay_removal.proofs.LeavingConstraints.{there_and_back}
-use Rattle.delaunay_removal.proofs.DataStays.{none_to_keep}
 use Rattle.delaunay_removal.proofs.MadeFaces.{full_listed, no_face_listed}
 
 -- a face where no vertex is one of it
@@ -117,63 +116,34 @@ module _ {V D U F : Type 0} (points : List Point) (old mid new : Contents V D U 
   }
 
 -- the removal of a vertex of the plane keeps each face that does not have it as a corner
-pub plane_faces_leave : {V D U F : Type 0} (place : V → Point) (old mid new : Contents V D U F)
-    (v : ℕ) (value : V) → IsTriangulated place (state_of old) → IsMeshWithData mid
-    → IsTriangulated place (state_of new) → v < length old.vertices → (pairs : List (ℕ × ℕ))
+pub plane_faces_leave : {V D U F : Type 0} {place : V → Point} {old mid new : Contents V D U F}
+    {v : ℕ} {value : V} {pairs : List (ℕ × ℕ)} → IsTriangulated place (state_of old)
+    → IsTriangulated place (state_of new) → v < length old.vertices
     → IsolatesVertex (map place old.vertices) old mid v pairs → DropsVertex mid new v value
     → LeavesFaces (state_of old) (state_of new) v pairs
-plane_faces_leave place old mid new v value before middle after here pairs isolates drops =
+plane_faces_leave {place = place} {old = old} {mid = mid} {new = new} {v = v} {value = value}
+    {pairs = pairs} before after here isolates drops =
     faces_leave (map place old.vertices) old mid new v value
-    (record { valid = before.valid; fits = before.fits })
-    middle (record { valid = after.valid; fits = after.fits }) pairs isolates
-    (length-map old.vertices place) here
-    drops
+    (record { valid = before.valid; fits = before.fits }) isolates.whole
+    (record { valid = after.valid; fits = after.fits }) pairs isolates
+    (length-map old.vertices place) here drops
 
--- ---- on a line there are no faces
 -- so it is of a line, which has no faces
-pub line_faces_leave : {V D U F : Type 0} (old new : Contents V D U F) (v : ℕ) (value : V)
-    → IsMeshWithData new → length old.faces ≡ 0 → LeavesMesh old new v value
-    → LeavesFaces (state_of old) (state_of new) v []
-line_faces_leave old new v value after none leaves =
-    record {
-      each = λ i j k f. absurd (no_face_listed new after
-          (ap (λ c. length c.faces) leaves.drops.contents
-          ∙ ap (λ c. length c.faces) leaves.leaves.contents ∙ none) i j
-          k f);
-    }
-
--- ---- whatever is in the list
-module _ {V D U F : Type 0} (old new : Contents V D U F) (v : ℕ) (pairs : List (ℕ × ℕ))
-    (leaves : LeavesFaces (state_of old) (state_of new) v []) where
-  more_side : (i j : ℕ) → IsHoleSide (faces_of old.mesh) v [] i j
-      → IsHoleSide (faces_of old.mesh) v pairs i j
-  more_side i j (inl h) = inl (none_to_keep pairs i j h)
-  more_side i j (inr f) = inr f
-
-  abbrev Sides : List (ℕ × ℕ) → ℕ → ℕ → ℕ → Type 0
-  Sides ps i j k = IsFaceOf (faces_of old.mesh) i j k ⊎
-      (IsHoleSide (faces_of old.mesh) v ps i j × IsHoleSide (faces_of old.mesh) v ps j k ×
-      IsHoleSide (faces_of old.mesh) v ps k i)
-
-  more_sides : (i j k : ℕ) → Sides [] i j k → Sides pairs i j k
-  more_sides i j k (inl f) = inl f
-  more_sides i j k (inr x) = inr (more_side i j x.0, more_side j k x.1, more_side k i x.2)
-
-  -- a removal that makes no edge makes none but those of any list
-  pub leaves_more : LeavesFaces (state_of old) (state_of new) v pairs
-  leaves_more = record {
-    each = λ i j k f. more_sides (former_index v (length old.vertices - 1) i)
-        (former_index v (length old.vertices - 1) j) (former_index v (length old.vertices - 1) k)
-        (leaves.each i j k f);
-  }
+pub line_faces_leave : {V D U F : Type 0} {old new : Contents V D U F} {v : ℕ} {value : V}
+    {pairs : List (ℕ × ℕ)} → length old.faces ≡ 0 → IsMeshWithData new
+    → LeavesMesh old new v value → LeavesFaces (state_of old) (state_of new) v pairs
+line_faces_leave {new = new} none after leaves = record {
+  each = λ i j k f. absurd (no_face_listed new after (ap (λ c. length c.faces) leaves.drops.contents
+      ∙ ap (λ c. length c.faces) leaves.leaves.contents ∙ none) i j k f);
+}
 
 -- ---- before the edges of the vertex cease to be constraints
 -- so it is where edges at the vertex were freed before
-pub freed_faces_leave : {V D U F : Type 0} (marks : U → Bool) (old mid new : Contents V D U F)
-    (v : ℕ) (pairs : List (ℕ × ℕ)) → FreesEdgesAt marks old mid v
+pub freed_faces_leave : {V D U F : Type 0} {marks : U → Bool} {old mid : Contents V D U F} {v : ℕ}
+    {pairs : List (ℕ × ℕ)} (new : Contents V D U F) → FreesEdgesAt marks old mid v
     → LeavesFaces (state_of mid) (state_of new) v pairs
     → LeavesFaces (state_of old) (state_of new) v pairs
-freed_faces_leave {V = V} {D = D} {U = U} {F = F} marks old mid new v pairs frees leaves =
+freed_faces_leave {V} {D} {U} {F} {old = old} {mid = mid} {v = v} {pairs = pairs} new frees leaves =
     let left :
     LeavesFaces (state_of (record old { undirected = mid.undirected })) (state_of new) v pairs =
     subst (λ (c : Contents V D U F). LeavesFaces (state_of c) (state_of new) v pairs)

@@ -11,6 +11,7 @@ pub mod Searching
 pub mod BothRounds
 pub mod Convex
 pub mod Turns
+pub mod Turning
 pub mod Borders
 -- An inner vertex loses its edges.
 pub mod InnerStars

@@ -43,69 +43,70 @@ edge_kept m i j ks more kept has h within starts ends =
     ]
 
 -- one that was put in
-pub edge_put : (m : Mesh) (i j e : ℕ) (ks : List ℕ) → origin m e ≡ i → origin m (rev e) ≡ j
+pub edge_put : (m : Mesh) {i j : ℕ} (e : ℕ) (ks : List ℕ) → origin m e ≡ i → origin m (rev e) ≡ j
     → Contains ks (e / 2) → HasEdgeOf m i j ks
-edge_put m i j e ks starts ends there h within is_i is_j =
+edge_put m e ks starts ends there h within is_i is_j =
     subst (λ (x : ℕ × ℕ). Joins (pairs_at m ks) x.0 x.1) (λ o. (starts o, ends o))
     (joins_directed m ks e there)
 
 -- ---- the list as the edges of some pairs are put in, one pair after another
-module _ (m : Mesh) (last v : ℕ) (pairs : List (ℕ × ℕ)) (was : List ℕ) where
-  -- the edges of the first i pairs are in the list
-  pub record IsListing (i : ℕ) (ks : List ℕ) (room_was room : ℕ) : Type 0 where
-    pub each : (j : ℕ) (d : ℕ × ℕ) → j < i → HasEdgeOf m (pair_left last v (get_or pairs j d)).0
-        (pair_left last v (get_or pairs j d)).1 ks
-    pub kept : (k : ℕ) → Contains was k → Contains ks k
-    pub edges : AreEdges m ks
-    pub room_stays : room ≡ room_was
+-- the edges of the first i pairs are in the list
+pub record IsListing (m : Mesh) (last v : ℕ) (pairs : List (ℕ × ℕ)) (was : List ℕ) (i : ℕ)
+    (ks : List ℕ) (room_was room : ℕ) : Type 0 where
+  pub each : (j : ℕ) (d : ℕ × ℕ) → j < i → HasEdgeOf m (pair_left last v (get_or pairs j d)).0
+      (pair_left last v (get_or pairs j d)).1 ks
+  pub kept : (k : ℕ) → Contains was k → Contains ks k
+  pub edges : AreEdges m ks
+  pub room_stays : room ≡ room_was
 
-  -- before the first pair the list is as it was
-  pub listing_begins : (room : ℕ) → AreEdges m was → IsListing 0 was room room
-  listing_begins room edges =
-      record {
-        each = λ j d less. absurd (omega (arith, less));
-        kept = λ k h. h;
-        edges = edges;
-        room_stays = λ _. room;
-      }
+-- before the first pair the list is as it was
+pub listing_begins : {m : Mesh} {last v room : ℕ} {pairs : List (ℕ × ℕ)} {was : List ℕ}
+    → AreEdges m was → IsListing m last v pairs was 0 was room room
+listing_begins edges = record {
+  each = λ j d less. absurd (omega (arith, less));
+  kept = λ k h. h;
+  edges = edges;
+  room_stays = refl;
+}
 
-  module _ (i : ℕ) (ks : List ℕ) (room_was room : ℕ) (p : IsListing i ks room_was room) where
-    -- with the edge of the next pair the list has one more
-    pub listing_goes_on : (x : ℕ × ℕ) (more : List ℕ) (room_now : ℕ) → i < length pairs
-        → x ≡ get_or pairs i x → ((k : ℕ) → Contains ks k → Contains more k)
-        → HasEdgeOf m (pair_left last v x).0 (pair_left last v x).1 more → AreEdges m more
-        → room_now ≡ room → IsListing (i + 1) more room_was room_now
-    listing_goes_on x more room_now inside here kept there edges stays = record {
-      each = λ j d less. elim (cases_eq j i) [
-        | inl e ↦
-            subst (λ (y : ℕ × ℕ). HasEdgeOf m (pair_left last v y).0 (pair_left last v y).1 more)
-            (here ∙ get_or_any pairs i x d inside ∙ sym (ap (λ k. get_or pairs k d) e)) there
-        | inr n ↦ edge_kept m (pair_left last v (get_or pairs j d)).0
-            (pair_left last v (get_or pairs j d)).1 ks more
-            kept (p.each j d (omega (arith, less, n)))
-      ];
-      kept = λ k h. kept k (p.kept k h);
-      edges = edges;
-      room_stays = stays ∙ p.room_stays;
-    }
+module _ {m : Mesh} {last v i room_was room : ℕ} {pairs : List (ℕ × ℕ)} {was ks : List ℕ}
+    (p : IsListing m last v pairs was i ks room_was room) where
+  -- with the edge of the next pair the list has one more
+  pub listing_goes_on : {x : ℕ × ℕ} {more : List ℕ} {room_now : ℕ} → i < length pairs
+      → x ≡ get_or pairs i x → ((k : ℕ) → Contains ks k → Contains more k)
+      → HasEdgeOf m (pair_left last v x).0 (pair_left last v x).1 more → AreEdges m more
+      → room_now ≡ room → IsListing m last v pairs was (i + 1) more room_was room_now
+  listing_goes_on {x} {more} inside here kept there edges stays = record {
+    each = λ j d less. elim (cases_eq j i) [
+      | inl e ↦
+          subst (λ (y : ℕ × ℕ). HasEdgeOf m (pair_left last v y).0 (pair_left last v y).1 more)
+          (here ∙ get_or_any pairs i x d inside ∙ sym (ap (λ k. get_or pairs k d) e)) there
+      | inr n ↦ edge_kept m (pair_left last v (get_or pairs j d)).0
+          (pair_left last v (get_or pairs j d)).1 ks more
+          kept (p.each j d (omega (arith, less, n)))
+    ];
+    kept = λ k h. kept k (p.kept k h);
+    edges = edges;
+    room_stays = stays ∙ p.room_stays;
+  }
 
-    one_way : length pairs ≤ i → (a b : ℕ) → Contains (pairs_left last v pairs) (a, b)
-        → HasEdgeOf m a b ks
-    one_way all a b h = go (contains_map_from (pair_left last v) pairs (a, b) h)
-      where
-        go : (x : ℕ × ℕ) × Contains pairs x × (pair_left last v x ≡ (a, b)) → HasEdgeOf m a b ks
-        go (x, (j, within, is), same) =
-            subst (λ (y : ℕ × ℕ). HasEdgeOf m y.0 y.1 ks) (ap (pair_left last v) is ∙ same)
-            (p.each j x (omega (arith, all, within)))
+  one_way : length pairs ≤ i → (a b : ℕ) → Contains (pairs_left last v pairs) (a, b)
+      → HasEdgeOf m a b ks
+  one_way all a b h = go (contains_map_from (pair_left last v) pairs (a, b) h)
+    where
+      go : (x : ℕ × ℕ) × Contains pairs x × (pair_left last v x ≡ (a, b)) → HasEdgeOf m a b ks
+      go (x, (j, within, is), same) =
+          subst (λ (y : ℕ × ℕ). HasEdgeOf m y.0 y.1 ks) (ap (pair_left last v) is ∙ same)
+          (p.each j x (omega (arith, all, within)))
 
-    -- after the last pair the list has the edge of each
-    pub listing_ends : AreSoundLinks m → length pairs ≤ i
-        → HasEdgesOf m (pairs_left last v pairs) ks
-    listing_ends s all a b (inl h) = one_way all a b h
-    listing_ends s all a b (inr h) = λ e within starts ends.
-        turned_join (pairs_at m ks) b a
-        (one_way all b a h (rev e) (rev_within e (length m.half_edges) s.even within)
-        ends (ap (origin m) (rev-rev e) ∙ starts))
+  -- after the last pair the list has the edge of each
+  pub listing_ends : AreSoundLinks m → length pairs ≤ i
+      → HasEdgesOf m (pairs_left last v pairs) ks
+  listing_ends s all a b (inl h) = one_way all a b h
+  listing_ends s all a b (inr h) = λ e within starts ends.
+      turned_join (pairs_at m ks) b a
+      (one_way all b a h (rev e) (rev_within e (length m.half_edges) s.even within)
+      ends (ap (origin m) (rev-rev e) ∙ starts))
 
 -- ---- nothing but the edges of both lists is left to test
 module _ (m : Mesh) (s : AreSoundLinks m) (last v : ℕ) (border turned : List (ℕ × ℕ))

@@ -11,7 +11,7 @@ use Rattle.delaunay_legalization.specs.half_edge_mesh.Mesh.{face, rev}
 use Rattle.delaunay_legalization.proofs.half_edge_links.Lists.Rev.{rev-rev, rev_within}
 use Rattle.delaunay_legalization.proofs.half_edge_links.Removing.OpenSound.{length-swap_remove}
 use Rattle.delaunay_legalization.proofs.half_edge_links.Removing.OpenSound.{get_or-swap_remove_same}
-use Rattle.delaunay_legalization.proofs.half_edge_links.Removing.OpenSound.{get_or-swap_remove_other}
+use Rattle.delaunay_legalization.proofs.half_edge_links.Removing.OpenSound as Open
 use Rattle.delaunay_legalization.proofs.half_edge_links.Removing.OpenSound.{swap_remove_default}
 use Rattle.delaunay_legalization.proofs.plane.Indexes.{turned_join}
 use Rattle.delaunay_legalization.specs.plane.Circle.{InsideCircle}
@@ -65,7 +65,7 @@ left_point points v d j here low =
     go (inl e) = ap (λ k. get_or (swap_remove points v z) k z) e
         ∙ get_or-swap_remove_same points v z (omega (arith, low, e))
         ∙ ap (λ k. get_or points k z) (sym (old_of_freed v (length points - 1) j e))
-    go (inr n) = get_or-swap_remove_other points v j z (omega (arith, low)) n
+    go (inr n) = Open.get_or-swap_remove_other points v j z (omega (arith, low)) n
         ∙ ap (λ k. get_or points k z) (sym (old_of_other v (length points - 1) j n))
 
 -- ---- the sides of the hole

@@ -82,7 +82,7 @@ no_faces : {V D U F : Type 0} (c : Contents V D U F) → IsMeshWithData c → le
 no_faces c w none = ap (λ es. map corners_of (map (triangle_at c.mesh) es))
     (empty_list c.mesh.face_edges (sym w.fits.faces_fit ∙ none))
 
-module _ {V D U F : Type 0} (place : V → Point) (old : Contents V D U F)
+module _ {V D U F : Type 0} {place : V → Point} (old : Contents V D U F)
     (kept : IsTriangulated place (state_of old)) (none : length old.faces ≡ 0) where
   abbrev before : IsMeshWithData old
   before = record { valid = kept.valid; fits = kept.fits }
@@ -97,28 +97,32 @@ module _ {V D U F : Type 0} (place : V → Point) (old : Contents V D U F)
       (no_faces old before none) (sym kept.fits.faces_fit ∙ none) on_line v
       (length-map old.vertices place ∙ kept.fits.vertices_fit)
 
-  module _ (new : Contents V D U F) (after : IsMeshWithData new) (v : ℕ) (value : V)
-      (leaves : LeavesMesh old new v value) where
-    same_vertices : leaves.between.vertices ≡ old.vertices
-    same_vertices = ap (λ (c : Contents V D U F). c.vertices) leaves.leaves.contents
+module _ {V D U F : Type 0} {place : V → Point} {old new : Contents V D U F} {v : ℕ} {value : V}
+    (kept : IsTriangulated place (state_of old)) (none : length old.faces ≡ 0)
+    (after : IsMeshWithData new) (leaves : LeavesMesh old new v value) where
+  same_vertices : leaves.between.vertices ≡ old.vertices
+  same_vertices = ap (λ (c : Contents V D U F). c.vertices) leaves.leaves.contents
 
-    -- the data that the vertex has when it goes are those of before
-    pub value_was : slice_get old.vertices v ≡ Some value
-    value_was = subst (λ (vs : List V). slice_get vs v ≡ Some value) same_vertices leaves.drops.had
+  -- the data that the vertex has when it goes are those of before
+  pub value_was : slice_get old.vertices v ≡ Some value
+  value_was = subst (λ (vs : List V). slice_get vs v ≡ Some value) same_vertices leaves.drops.had
 
-    vertices_left : new.vertices ≡ swap_remove old.vertices v value
-    vertices_left = ap (λ (c : Contents V D U F). c.vertices) leaves.drops.contents
-        ∙ ap (λ vs. swap_remove vs v value) same_vertices
+  vertices_left : new.vertices ≡ swap_remove old.vertices v value
+  vertices_left = ap (λ (c : Contents V D U F). c.vertices) leaves.drops.contents
+      ∙ ap (λ vs. swap_remove vs v value) same_vertices
 
-    same_faces : length new.faces ≡ 0
-    same_faces = ap (λ (c : Contents V D U F). length c.faces) leaves.drops.contents
-        ∙ ap (λ (c : Contents V D U F). length c.faces) leaves.leaves.contents ∙ none
+  same_faces : length new.faces ≡ 0
+  same_faces = ap (λ (c : Contents V D U F). length c.faces) leaves.drops.contents
+      ∙ ap (λ (c : Contents V D U F). length c.faces) leaves.leaves.contents ∙ none
 
-    -- and what is left is kept
-    pub line_kept : IsTriangulated place (state_of new)
-    line_kept = kept_by_shape place new
-        (subst (λ (vs : List V). All (λ u. InRange (place u)) vs) (sym vertices_left)
-        (all_left (λ u. InRange (place u)) old.vertices v value
-        (slice_get_within old.vertices v value value_was) kept.in_range))
-        after
-        (inr (no_faces new after same_faces, line_removed place old new v value on_line leaves))
+  -- and what is left is kept
+  pub line_kept : IsTriangulated place (state_of new)
+  line_kept = kept_by_shape place new
+      (subst (λ (vs : List V). All (λ u. InRange (place u)) vs) (sym vertices_left)
+      (all_left (λ u. InRange (place u)) old.vertices v value
+      (slice_get_within old.vertices v value value_was) kept.in_range))
+      after
+      (inr (
+        no_faces new after same_faces,
+        line_removed place old new v value (on_line old kept none) leaves,
+      ))

@@ -1,8 +1,9 @@
 -- A vertex whose edges have ceased to be constraints goes.
--- Lemmas: freed_vertices, freed_room, freed_kept, plain_left, data_left.
+-- Lemmas: freed_vertices, freed_room, freed_placed, plain_left, data_left.
 use Rattle.std.proofs.Common.{◌≡◌, ◌≢◌, ◌⊎◌, ◌↔◌, ◌-◌, ◌*◌, ◌/◌, ◌<◌, ◌∙◌}
-use Rattle.std.proofs.Common.{ℕ, List, length, sym, ap, subst, inl, inr, arith}
-use Rattle.std.specs.Prelude.{Bool, false, Contains, nat_eq, if◌then◌else◌, slice_get, swap_remove}
+use Rattle.std.proofs.Common.{ℕ, List, length, map, sym, ap, subst, inl, inr, arith}
+use Rattle.std.specs.Prelude.{All, Bool, false, Contains, nat_eq, if◌then◌else◌, slice_get}
+use Rattle.std.specs.Prelude.{swap_remove}
 use Rattle.delaunay_legalization.specs.half_edge_mesh.Contents.{Contents, IsMeshWithData}
 use Rattle.delaunay_legalization.specs.half_edge_mesh.Mesh.{Mesh, origin, rev}
 use Rattle.delaunay_legalization.specs.half_edge_mesh.Removal.{FullEdge, full_edges}
@@ -11,6 +12,7 @@ use Rattle.delaunay_legalization.specs.plane.Pairs.{Joins, IsSamePair}
 use Rattle.delaunay_legalization.specs.plane.Plain.{TakesOut}
 use Rattle.delaunay_legalization.specs.Constraints.{marked_edges, constraint_pairs}
 use Rattle.delaunay_legalization.specs.Constraints.{points_and_constraints_by}
+use Rattle.delaunay_legalization.specs.Placed.{IsPlaced}
 use Rattle.delaunay_legalization.specs.Shape.{IsTriangulated}
 use Rattle.delaunay_legalization.specs.State.{state_of, points_and_constraints}
 use Rattle.delaunay_legalization.proofs.MarkedPairs.{JoinsByMark, mark_joins, joined_by_mark}
@@ -22,10 +24,10 @@ use Rattle.delaunay_legalization.proofs.mesh_embedding.EdgePairs.{rev_of_even}
 use Rattle.delaunay_removal.proofs.DataReads.{edge_read, even_or_odd}
 use Rattle.delaunay_removal.proofs.LeavingConstraints.{constraints_left, back_and_there}
 
-module _ {V D U F : Type 0} (place : V → Point) (marks : U → Bool) (constraints : List U → List ℕ)
-    (marked : (ds : List U) → constraints ds ≡ marked_edges marks ds) (old mid : Contents V D U F)
-    (v : ℕ) (frees : FreesEdgesAt marks old mid v)
-    (kept : IsTriangulated place (state_of old)) where
+module _ {V D U F : Type 0} {place : V → Point} {marks : U → Bool} {constraints : List U → List ℕ}
+    {old mid : Contents V D U F} {v : ℕ}
+    (marked : (ds : List U) → constraints ds ≡ marked_edges marks ds)
+    (frees : FreesEdgesAt marks old mid v) (kept : IsTriangulated place (state_of old)) where
   same_mesh : mid.mesh ≡ old.mesh
   same_mesh = ap (λ (c : Contents V D U F). c.mesh) frees.contents
 
@@ -34,9 +36,9 @@ module _ {V D U F : Type 0} (place : V → Point) (marks : U → Bool) (constrai
   freed_vertices = ap (λ (c : Contents V D U F). c.vertices) frees.contents
 
   -- there is room as before
-  pub freed_room : (lists : RemovalLists) → HasRoomToRemove old v lists
+  pub freed_room : {lists : RemovalLists} → HasRoomToRemove old v lists
       → HasRoomToRemove mid v lists
-  freed_room lists room = subst (λ (c : Contents V D U F). HasRoomToRemove c v lists)
+  freed_room {lists} room = subst (λ (c : Contents V D U F). HasRoomToRemove c v lists)
       (sym frees.contents)
       (record {
         edges = room.edges;
@@ -46,7 +48,7 @@ module _ {V D U F : Type 0} (place : V → Point) (marks : U → Bool) (constrai
       })
 
   -- a triangulation stays one
-  pub freed_kept : IsTriangulated place (state_of mid)
+  freed_kept : IsTriangulated place (state_of mid)
   freed_kept = subst (λ (c : Contents V D U F). IsTriangulated place (state_of c))
       (sym frees.contents) (record {
         in_range = kept.in_range;
@@ -56,6 +58,14 @@ module _ {V D U F : Type 0} (place : V → Point) (marks : U → Bool) (constrai
         fits = rw frees.count kept.fits;
         shape = kept.shape;
       })
+
+  -- with the same sites
+  pub freed_placed : {P : Type 0} {IsSite : P → Point → Type 0} {t : P}
+      → All (IsSite t) (map place old.vertices) → IsPlaced place IsSite mid t
+  freed_placed {IsSite = IsSite} {t = t} sites = record {
+    kept = freed_kept;
+    sites = subst (λ (vs : List V). All (IsSite t) (map place vs)) (sym freed_vertices) sites;
+  }
 
   whole : IsMeshWithData mid
   whole = record { valid = freed_kept.valid; fits = freed_kept.fits }
@@ -136,7 +146,10 @@ module _ {V D U F : Type 0} (place : V → Point) (marks : U → Bool) (constrai
   old_index k = if nat_eq k v then last else k
 
   -- ---- and the vertex goes
-  module _ (new : Contents V D U F) (after : IsMeshWithData new) where
+  module _ (new : Contents V D U F) (left_kept : IsTriangulated place (state_of new)) where
+    after : IsMeshWithData new
+    after = record { valid = left_kept.valid; fits = left_kept.fits }
+
     -- the removal of v from the vertices alone is one from them with the constraints of before
     pub plain_left : TakesOut place (points_and_constraints (state_of mid))
         (points_and_constraints (state_of new)) v → RenumbersEdges mid new v

@@ -1,5 +1,5 @@
 -- The edges and faces round a vertex that is to go.
-use Rattle.std.specs.Prelude.{◌≡◌, ◌⊎◌, ◌+◌, ◌*◌, ◌/◌, ◌<◌, ◌++◌, ◌∷◌, []}
+use Rattle.std.specs.Prelude.{◌≡◌, ◌≢◌, ◌⊎◌, ◌+◌, ◌*◌, ◌/◌, ◌<◌, ◌++◌, ◌∷◌, []}
 use Rattle.std.specs.Prelude.{ℕ, suc, List, length, map, vec_capacity, vec_len}
 use Rattle.std.specs.Prelude.{Option, IfSome, IfNone}
 use Rattle.std.specs.Global.{Vec}
@@ -82,6 +82,11 @@ StandsBetween points m v first count =
     (i : ℕ) × (i < count) × WithinSegment (place points (neighbour m first i))
     (place points (neighbour m first (suc (suc i)))) (place points v)
 
+-- so is the vertex where edge first starts, which has four edges
+pub record IsFourStar (points : List Point) (m : Mesh) (first : ℕ) : Type 0 where
+  pub star : IsInnerStar points m (origin m first) first 4
+  pub between : StandsBetween points m (origin m first) first 4
+
 -- there are three edges, or four with vertex v strictly between two ends
 abbrev pub IsReduced : List Point → Mesh → ℕ → ℕ → ℕ → Type 0
 IsReduced points m v first count = (count ≡ 3) ⊎ ((count ≡ 4) × StandsBetween points m v first 4)
@@ -92,8 +97,8 @@ pub record ShrinksStar {V D U F : Type 0} (place : V → Point) (old new : Conte
     (v first count : ℕ) (pairs : List (ℕ × ℕ)) : Type 0 where
   pub contents : new ≡ record old { mesh = new.mesh }
   pub whole : IsMeshWithData new
-  pub star : IsInnerStar (map place old.vertices) new.mesh v first count
-  pub reduced : IsReduced (map place old.vertices) new.mesh v first count
+  pub star : IsInnerStar (map place new.vertices) new.mesh v first count
+  pub reduced : IsReduced (map place new.vertices) new.mesh v first count
   pub beside : StandsBeside old new v pairs
 
 -- a mesh of all vertices but v, in the plane or on a line
@@ -117,6 +122,17 @@ abbrev pub LosesStar : {V D U F : Type 0} → (V → Point) → Contents V D U F
     → List (ℕ × ℕ)
     → Type 0
 LosesStar place old new v pairs = IsolatesVertex (map place old.vertices) old new v pairs
+
+-- the edge after edge h, round the vertex where they start, lies between two inner faces of a mesh
+-- in the plane, and the ends of the edges beside it differ
+pub record MayTurnAway {V D U F : Type 0} (place : V → Point) (c : Contents V D U F) (h : ℕ)
+    : Type 0 where
+  pub whole : IsMeshWithData c
+  pub within : h < length c.directed
+  pub shape : LocalMesh (map place c.vertices) (faces_of c.mesh) (outer_of c.mesh)
+  pub left : 0 < face c.mesh h
+  pub right : 0 < face c.mesh (turn c.mesh h)
+  pub apart : neighbour c.mesh h 0 ≢ neighbour c.mesh h 2
 
 -- the edge after edge h, round the vertex where they start, was turned so that it leaves this
 -- vertex, and a list got what it joins then

@@ -2,8 +2,8 @@
 ghost use Rattle.std.specs.Prelude.{◌≡◌, ◌↔◌, ◌<◌, length, IsTrue, IsFalse, IfSome};
 ghost use Rattle.delaunay_legalization.specs.half_edge_mesh.Mesh.{origin};
 ghost use Rattle.delaunay_removal.specs.Hull.{IsCornerAt};
-ghost use Rattle.delaunay_removal.specs.Star.{FindsSpoke, IsBetweenAt, IsConvexAt, IsInnerStar};
-ghost use Rattle.delaunay_removal.specs.Star.{IsSpokeThat, IsTurnable, StandsBetween};
+ghost use Rattle.delaunay_removal.specs.Star.{FindsSpoke, IsBetweenAt, IsConvexAt, IsFourStar};
+ghost use Rattle.delaunay_removal.specs.Star.{IsInnerStar, IsSpokeThat, IsTurnable};
 
 use crate::star::{ccw_edge, cw_edge, is_between_faces};
 use delaunay_legalization::delaunay_core::math::PlaneTests;
@@ -194,10 +194,7 @@ impl<'a, V: HasPosition, DE, UE, F, P: PlaneTests<V::Scalar>> Spokes<'a, V, DE, 
     // Of `first` and the edge after it, one whose end is one of the two neighbours between which
     // the vertex is. It has four edges.
     pub(crate) fn edge_beside_line(&self) -> FixedDirectedEdgeHandle
-        requires star { IsInnerStar self.now.points self.now.mesh
-            (origin self.now.mesh self.now.first) self.now.first 4 }
-        requires between { StandsBetween self.now.points self.now.mesh
-            (origin self.now.mesh self.now.first) self.now.first 4 }
+        requires { IsFourStar self.now.points self.now.mesh self.now.first }
         ensures star { IsInnerStar self.now.points self.now.mesh
             (origin self.now.mesh self.now.first) result 4 }
         ensures between { IsBetweenAt self.now.points self.now.mesh result }

@@ -1,7 +1,8 @@
 //! Vertices that go, with their edges.
-ghost use Rattle.std.specs.Prelude.{◌≡◌, ◌<◌, [], length, map, All, Some, IsSome, IsTrue};
+ghost use Rattle.std.specs.Prelude.{◌≡◌, ◌<◌, [], length, map, All, IsTrue};
 ghost use Rattle.delaunay_legalization.specs.half_edge_mesh.Contents.{IsMeshWithData};
-ghost use Rattle.delaunay_legalization.specs.half_edge_mesh.Mesh.{origin, out_edge};
+ghost use Rattle.delaunay_legalization.specs.plane_tiling.Local.{LocalMesh};
+ghost use Rattle.delaunay_legalization.specs.mesh_embedding.Drawn.{faces_of, outer_of};
 ghost use Rattle.delaunay_legalization.specs.Constraints.{constraints_by};
 ghost use Rattle.delaunay_legalization.specs.Constraints.{points_and_constraints_by};
 ghost use Rattle.delaunay_legalization.specs.Placed.{IsPlaced};
@@ -13,7 +14,7 @@ ghost use Rattle.delaunay_removal.specs.Lists.{HasRoomToRemove};
 ghost use Rattle.delaunay_removal.specs.Removal.{TakesVertexOut};
 ghost use Rattle.delaunay_removal.specs.Star.{LosesStar};
 
-use crate::freeing::free_edges_at;
+use crate::freeing::{free_edges_at, some_edge};
 use crate::lists::RemovalLists;
 use crate::removal_hull::{isolate_on_hull, outer_edge_beside};
 use crate::removal_inner::isolate_inner;
@@ -24,24 +25,6 @@ use delaunay_legalization::half_edge_mesh::{
     Dcel, FixedDirectedEdgeHandle, FixedVertexHandle, MeshViews,
 };
 
-// An edge that starts at a vertex with edges.
-fn first_edge<V, DE, UE, F>(
-    dcel: &Dcel<V, DE, UE, F>,
-    vertex: FixedVertexHandle,
-) -> FixedDirectedEdgeHandle
-    requires within { vertex < length dcel.now.vertices }
-    requires some { IsSome (out_edge dcel.now.mesh vertex) }
-    ensures within { result < length dcel.now.directed }
-    ensures starts { origin dcel.now.mesh result ≡ vertex }
-    ensures out { out_edge dcel.now.mesh vertex ≡ Some result }
-{
-    dcel.recall_invariant();
-    match dcel.vertex(vertex).out_edge() {
-        Some(edge) => edge.fix(),
-        None => unreachable!(),
-    }
-}
-
 // Removes the edges of a vertex in the plane, and its faces. `lists` gets what each turned one
 // joins.
 fn isolate<V: HasPosition, DE: Drop, UE: Drop, F: Drop, P: PlaneTests<V::Scalar>>(
@@ -51,13 +34,17 @@ fn isolate<V: HasPosition, DE: Drop, UE: Drop, F: Drop, P: PlaneTests<V::Scalar>
     lists: &mut RemovalLists,
 )
     requires placed { IsPlaced V.place P.sites dcel.old tests.now }
-    requires some_face { 0 < length dcel.old.faces }
+    requires shape { LocalMesh (map V.place dcel.old.vertices) (faces_of dcel.old.mesh)
+        (outer_of dcel.old.mesh) }
     requires within { vertex < length dcel.old.vertices }
     requires room { HasRoomToRemove dcel.old vertex lists.old }
     ensures isolates { LosesStar V.place dcel.old dcel.new vertex lists.new.turned.items }
     ensures capacity { lists.new.tested.room ≡ lists.old.tested.room }
 {
-    let first = first_edge(dcel, vertex);
+    let first = match some_edge(dcel, vertex) {
+        Some(edge) => edge,
+        None => unreachable!(),
+    };
     match outer_edge_beside(dcel, first, lists.edges) {
         Some(edge) => isolate_on_hull(dcel, edge, vertex, tests, lists),
         None => isolate_inner(dcel, first, lists.edges, vertex, tests, &mut lists.turned),

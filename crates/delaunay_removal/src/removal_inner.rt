@@ -106,8 +106,10 @@ pub(crate) fn isolate_inner<V: HasPosition, DE: Drop, UE: Drop, F: Drop, P: Plan
     turned: &mut Vec<VertexPair>,
 )
     requires placed { IsPlaced V.place P.sites dcel.old tests.now }
-    requires star { IsInnerStar (map V.place dcel.old.vertices) dcel.old.mesh vertex first count }
-    requires room { HasRoomAt dcel.old.mesh vertex (vec_len turned.old)
+    requires star { IsInnerStar (map V.place dcel.old.vertices) dcel.old.mesh
+        (origin dcel.old.mesh first) first count }
+    requires starts { origin dcel.old.mesh first ≡ vertex }
+    requires room { HasRoomAt dcel.old.mesh (origin dcel.old.mesh first) (vec_len turned.old)
         (vec_capacity turned.old) }
     ensures { LosesStar V.place dcel.old dcel.new vertex turned.new.items }
 {

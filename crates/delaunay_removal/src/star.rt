@@ -1,13 +1,9 @@
 //! The edges round a vertex, and turns of them.
-ghost use Rattle.std.specs.Prelude.{◌≡◌, ◌≢◌, ◌↔◌, ◌<◌, length, map, IsTrue};
-ghost use Rattle.std.specs.Prelude.{vec_capacity, vec_len};
+ghost use Rattle.std.specs.Prelude.{◌≡◌, ◌↔◌, ◌<◌, length, IsTrue, vec_capacity, vec_len};
 ghost use Rattle.delaunay_legalization.specs.half_edge_mesh.Mesh.{origin, next, face, rev};
 ghost use Rattle.delaunay_legalization.specs.half_edge_mesh.Peel.{turn};
-ghost use Rattle.delaunay_legalization.specs.half_edge_mesh.Round.{IsRound, neighbour};
-ghost use Rattle.delaunay_legalization.specs.half_edge_mesh.Contents.{IsMeshWithData};
-ghost use Rattle.delaunay_legalization.specs.plane_tiling.Local.{LocalMesh};
-ghost use Rattle.delaunay_legalization.specs.mesh_embedding.Drawn.{faces_of, outer_of};
-ghost use Rattle.delaunay_removal.specs.Star.{TurnsAway};
+ghost use Rattle.delaunay_legalization.specs.half_edge_mesh.Round.{IsRound};
+ghost use Rattle.delaunay_removal.specs.Star.{MayTurnAway, TurnsAway};
 
 use crate::pairs::{VertexPair, ends_beside};
 use delaunay_legalization::delaunay_core::point::HasPosition;
@@ -88,13 +84,7 @@ pub(crate) fn turn_away<V: HasPosition, DE, UE, F>(
     edge: FixedDirectedEdgeHandle,
     turned: &mut Vec<VertexPair>,
 )
-    requires whole { IsMeshWithData dcel.old }
-    requires within { edge < length dcel.old.directed }
-    requires shape { LocalMesh (map V.place dcel.old.vertices) (faces_of dcel.old.mesh)
-        (outer_of dcel.old.mesh) }
-    requires left { 0 < face dcel.old.mesh edge }
-    requires right { 0 < face dcel.old.mesh (turn dcel.old.mesh edge) }
-    requires apart { neighbour dcel.old.mesh edge 0 ≢ neighbour dcel.old.mesh edge 2 }
+    requires turns { MayTurnAway V.place dcel.old edge }
     requires room { vec_len turned.old < vec_capacity turned.old }
     ensures { TurnsAway dcel.old dcel.new edge turned.old turned.new }
 {

@@ -1,11 +1,10 @@
-use Rattle.std.proofs.Common.{◌<◌, length, sym, ap, ◌∙◌, subst, arith}
+use Rattle.std.proofs.Common.{arith}
 use Rattle.delaunay_removal.proofs.FreedEdges.{freeing_begins, freeing_goes_on, freeing_ends}
-use Rattle.delaunay_removal.proofs.FreedEdges.{same_directed}
+use Rattle.delaunay_removal.proofs.FreedEdges.{still_there}
 use Rattle.delaunay_removal.proofs.freeing.free_round.Goals as goal
 
 pub loop-i-init : goal.loop-i-init
-loop-i-init g c =
-    freeing_begins g.M.ConstraintMarker.marks c.args.dcel.now c.args.first c.requires.within
+loop-i-init g c = freeing_begins c.requires.within
 
 pub free_edge-requires : goal.free_edge-requires
 free_edge-requires g c =
@@ -18,18 +17,14 @@ free_edge-requires g c =
 
 pub ccw_edge-edge-requires : goal.ccw_edge-edge-requires
 ccw_edge-edge-requires g c =
-    subst (λ ds. c.loop-i.edge < length ds) (sym (ap (λ d. d.directed) c.free_edge.ensures.whole
-    ∙ same_directed g.M.ConstraintMarker.marks c.args.dcel.now c.args.first c.loop-i.dcel
-    c.loop-i.invariant.contents)) c.loop-i.invariant.within
+    still_there c.loop-i.invariant (rw c.as_undirected.ensures at c.free_edge.ensures)
 
 pub loop-i-preserved : goal.loop-i-preserved
-loop-i-preserved g c =
-    let m = g.M.ConstraintMarker in
-    freeing_goes_on m.marks c.args.dcel.now _ _ _ _ _ c.loop-i.invariant m.unmarked
-    g.met.M.ConstraintMarker.unmarked_has_none (rw c.as_undirected.ensures at c.free_edge.ensures) _
-    c.ccw_edge-edge.ensures.within c.ccw_edge-edge.ensures.value
+loop-i-preserved g c = freeing_goes_on c.loop-i.invariant
+    (rw c.as_undirected.ensures at c.free_edge.ensures)
+    g.met.M.ConstraintMarker.unmarked_has_none c.ccw_edge-edge.ensures.within
+    c.ccw_edge-edge.ensures.value
 
 pub returns : goal.returns
-returns g c =
-    freeing_ends g.M.ConstraintMarker.marks _ _ c.requires.whole _ _ c.count_edges-count.ensures
-    _ _ _ c.loop-i.invariant (λ j less. let e = c.loop-i-test.false in omega (arith, e, less))
+returns g c = freeing_ends c.loop-i.invariant c.requires.whole c.count_edges-count.ensures
+    c.loop-i-test.false

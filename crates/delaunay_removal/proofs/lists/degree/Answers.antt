@@ -5,14 +5,10 @@ use Rattle.delaunay_removal.proofs.lists.degree.Goals as goal
 pub returns-in-Some : goal.returns-in-Some
 returns-in-Some g c =
     let round = rw c.in-Some.ensures.starts at c.count_edges.ensures in
-    record {
-      room = room_of_round c.args.dcel.now.mesh _ _ _ round;
-      round = round_listed c.args.dcel.now.mesh _ _ _ c.in-Some.ensures.some round;
-    }
+    record { room = room_of_round round; round = round_listed c.in-Some.ensures.some round }
 
 pub returns-in-None : goal.returns-in-None
-returns-in-None g c = record {
-  room = room_of_none c.args.dcel.now.mesh _ c.recall_invariant.ensures.whole.valid.sound
-      c.in-None.ensures.none;
-  round = none_listed c.args.dcel.now.mesh _ c.in-None.ensures.none;
-}
+returns-in-None g c =
+    let none = c.in-None.ensures.none in
+    let sound = c.recall_invariant.ensures.whole.valid.sound in
+    record { room = room_of_none sound none; round = none_listed none }

@@ -1,4 +1,3 @@
-use Rattle.std.proofs.Common.{length}
 use Rattle.delaunay_legalization.proofs.Pushing.{no_edges}
 use Rattle.delaunay_removal.proofs.PairEdges.{only_listed, pairs_are_left}
 use Rattle.delaunay_removal.proofs.pairs.list_pairs.Goals as goal
@@ -12,10 +11,9 @@ returns-clause-left g c =
     let second = c.push_pairs-2.ensures in
     record {
       edges = second.edges;
-      passing = pairs_are_left c.args.dcel.now.mesh c.requires.kept.valid.sound
-          (length c.args.dcel.now.vertices) c.args.vertex c.args.border.now c.as_slice.result.now
-          c.push_pairs.new.work.items c.push_pairs-2.new.work.items first.there second.kept
-          second.there _ _ (rw c.as_slice.ensures.value c.requires.passing);
+      passing = pairs_are_left _ c.requires.kept.valid.sound _ _ c.args.border.now
+          c.as_slice.result.now _ _ first.there second.kept second.there _ _
+          (rw c.as_slice.ensures.value c.requires.passing);
     }
 
 pub returns-clause-only : goal.returns-clause-only
@@ -23,7 +21,6 @@ returns-clause-only g c only =
     let kept = c.requires.kept in
     let first = c.push_pairs.ensures in
     let second = c.push_pairs-2.ensures in
-    only_listed c.args.dcel.now.mesh kept.valid.sound (length c.args.dcel.now.vertices)
-    c.args.vertex c.args.border.now c.as_slice.result.now c.push_pairs.new.work.items
-    c.push_pairs-2.new.work.items first.there second.kept second.there _ kept.valid kept.shape
-    second.edges (rw c.as_slice.ensures.value only)
+    only_listed _ kept.valid.sound _ _ c.args.border.now c.as_slice.result.now _ _ first.there
+    second.kept second.there _ kept.valid kept.shape second.edges
+    (rw c.as_slice.ensures.value only)

@@ -1,7 +1,6 @@
-use Rattle.std.proofs.Common.{◌≡◌, ap, ◌∙◌, arith}
+use Rattle.std.proofs.Common.{ap, ◌∙◌, arith}
 use Rattle.delaunay_legalization.specs.half_edge_mesh.Mesh.{origin, face, rev}
-use Rattle.delaunay_legalization.proofs.Questions.{both_ways}
-use Rattle.delaunay_removal.proofs.Searching.{search_goes_on}
+use Rattle.delaunay_removal.proofs.Searching.{not_so, search_goes_on}
 use Rattle.delaunay_removal.proofs.HullEdges.{faces_inner}
 use Rattle.delaunay_removal.proofs.removal_hull.outer_edge_beside.Goals as goal
 
@@ -11,9 +10,10 @@ returns-then-is_outer-clause-starts g c =
 
 pub loop-i-preserved : goal.loop-i-preserved
 loop-i-preserved g c =
-    search_goes_on (λ h. face c.args.dcel.now.mesh (rev h) ≡ 0) _ _ _ _ _ _ c.loop-i.invariant
-    (λ z. both_ways _ (c.is_outer.ensures.1 (ap (face c.args.dcel.now.mesh) (c.fix.ensures.value
-    ∙ c.rev.ensures.index ∙ ap rev c.directed_edge.ensures.index) ∙ z)) c.if-is_outer.false)
+    let right = ap (face c.args.dcel.now.mesh) (c.fix.ensures.value ∙ c.rev.ensures.index
+    ∙ ap rev c.directed_edge.ensures.index) in
+    search_goes_on c.loop-i.invariant
+    (λ z. not_so c.is_outer.ensures c.if-is_outer.false (right ∙ z))
     c.ccw_edge-edge.ensures.within c.ccw_edge-edge.ensures.value
 
 pub returns-clause-none : goal.returns-clause-none
