@@ -1,11 +1,11 @@
 -- Going through the edges of a vertex both ways at once, from a first one on until the two ways
 -- meet.
--- Notions: IsClosingIn, how_many_before; no_edges, named_first, closing_in_begins, left_within,
--- right_within, left_starts, right_starts, seen_where_left_meets, seen_where_right_meets,
--- left_goes_on, fewer_before, right_goes_on.
+-- Notions: IsClosingIn, how_many_before; no_edges, closing_in_begins, left_within, right_within,
+-- left_starts, seen_where_left_meets, left_goes_on, fewer_before, right_starts, right_ends,
+-- seen_where_right_meets, right_goes_on.
 use Rattle.std.proofs.Common.{◌≡◌, ◌≢◌, ℕ, zero, suc, ◌+◌, ◌-◌, ◌<◌, ◌≤◌, ◌==◌, true, false}
 use Rattle.std.proofs.Common.{◌∙◌}
-use Rattle.std.proofs.Common.{length, map, Some, IsSome, IsNone, refl, sym, ap, subst, inl, inr}
+use Rattle.std.proofs.Common.{length, map, IsSome, IsNone, refl, sym, ap, subst, inl, inr}
 use Rattle.std.proofs.Common.{arith}
 use Rattle.std.specs.List.{range_with_len}
 use Rattle.std.proofs.Math.Nat.{eq-or-lt_of_le}
@@ -27,6 +27,7 @@ use Rattle.delaunay_legalization.proofs.Rounds.{round_at, spokes_once}
 -- with the first edge and comes to it again, and P holds of all from the first to the one on the
 -- right and from the one on the left on
 pub record IsClosingIn (m : Mesh) (v first : ℕ) (P : ℕ → Type 0) (left right : ℕ) : Type 0 where
+  pub valid : IsValidMesh m
   pub count : ℕ
   pub round : IsRound m v first count
   pub low : ℕ
@@ -43,18 +44,11 @@ abbrev pub how_many_before : Mesh → ℕ → ℕ → ℕ
 how_many_before m first h = length (walk (turn m) h (length m.half_edges) first)
 
 -- a vertex that names no edge has none
-pub no_edges : (m : Mesh) → IsValidMesh m → (v h : ℕ) → IsNone (out_edge m v)
+pub no_edges : {m : Mesh} {v h : ℕ} → AreSoundLinks m → IsNone (out_edge m v)
     → h < length m.half_edges → origin m h ≢ v
-no_edges m valid v h none within starts =
-    let some =
-    subst (λ (x : ℕ). IsSome (out_edge m x)) starts (valid.sound.edges h within).has_out in
+no_edges {m = m} {h = h} sound none within starts =
+    let some = subst (λ (x : ℕ). IsSome (out_edge m x)) starts (sound.edges h within).has_out in
     absurd (cc (some, none))
-
--- a vertex as a handle gave it names this edge
-pub named_first : (m seen : Mesh) (v vertex first edge : ℕ) → seen ≡ m → vertex ≡ v
-    → out_edge seen vertex ≡ Some edge → first ≡ edge → out_edge m v ≡ Some first
-named_first m seen v vertex first edge same at named is =
-    (λ i. out_edge (sym same i) (sym at i)) ∙ named ∙ ap Some (sym is)
 
 module _ (m : Mesh) (v first count : ℕ) (round : IsRound m v first count) where
   -- after a whole round the first edge comes again
@@ -113,12 +107,13 @@ module _ (m : Mesh) (v first count : ℕ) (round : IsRound m v first count) wher
       walk_length n 0 (suc n) h (length m.half_edges) here (omega arith) among
       (let fits = count_fits in omega (arith, among, fits))
 
-module _ {m : Mesh} (valid : IsValidMesh m) {v first : ℕ} {P : ℕ → Type 0} where
+module _ {m : Mesh} {v first : ℕ} {P : ℕ → Type 0} where
   -- at first the edge that both ways begin at was seen
-  pub closing_in_begins : first < length m.half_edges → origin m first ≡ v → P first
-      → IsClosingIn m v first P first first
-  closing_in_begins within starts seen =
+  pub closing_in_begins : IsValidMesh m → first < length m.half_edges → origin m first ≡ v
+      → P first → IsClosingIn m v first P first first
+  closing_in_begins valid within starts seen =
       let r = round_at m valid v first within starts in record {
+        valid = valid;
         count = r.0;
         round = r.1;
         low = 0;
@@ -152,7 +147,7 @@ module _ {m : Mesh} (valid : IsValidMesh m) {v first : ℕ} {P : ℕ → Type 0}
 
     next_left : next m (rev left) ≡ spoke m first one_less
     next_left =
-        one_back m v first w.count w.round valid.sound one_less left
+        one_back m v first w.count w.round w.valid.sound one_less left
         (w.at_left ∙ ap (spoke m first) place_is)
 
     less_among : one_less ≤ w.count
@@ -164,13 +159,6 @@ module _ {m : Mesh} (valid : IsValidMesh m) {v first : ℕ} {P : ℕ → Type 0}
     -- the edge after the right one, against the clock
     next_right : rev (prev m right) ≡ spoke m first (suc w.low)
     next_right = ap (λ k. rev (prev m k)) w.at_right
-
-    -- the edges that come next start at the vertex
-    pub left_starts : origin m (next m (rev left)) ≡ v
-    left_starts = ap (origin m) next_left ∙ w.round.starts one_less
-
-    pub right_starts : origin m (rev (prev m right)) ≡ v
-    right_starts = ap (origin m) next_right ∙ w.round.starts (suc w.low)
 
     -- where no edge is left between them all edges of the vertex were seen
     module _ (closed : w.high ≤ suc w.low) (g : ℕ) (within : g < length m.half_edges)
@@ -185,80 +173,95 @@ module _ {m : Mesh} (valid : IsValidMesh m) {v first : ℕ} {P : ℕ → Type 0}
       all_seen : P g
       all_seen = let i = w.round.all g within starts in subst P (sym i.2) (any i.0 i.1)
 
-    -- so it is where the next edge on one way is that of the other
-    pub seen_where_left_meets : next m (rev left) ≡ right → (g : ℕ) → g < length m.half_edges
-        → origin m g ≡ v → P g
-    seen_where_left_meets same = all_seen (elim (eq-or-lt_of_le not_passed) [
-      | inl e ↦ omega (arith, e, place_is)
-      | inr less ↦ absurd
-          (w.round.apart w.low one_less less (let among = w.among in omega (arith, among, place_is))
-          (sym w.at_right ∙ sym same ∙ next_left))
-    ])
+    -- the next edge on the left
+    module _ {l : ℕ} (is : l ≡ next m (rev left)) where
+      -- it starts at the vertex
+      pub left_starts : origin m l ≡ v
+      left_starts = ap (origin m) (is ∙ next_left) ∙ w.round.starts one_less
 
-    pub seen_where_right_meets : rev (prev m right) ≡ left → (g : ℕ) → g < length m.half_edges
-        → origin m g ≡ v → P g
-    seen_where_right_meets same = all_seen (elim (eq-or-lt_of_le w.order) [
-      | inl e ↦ omega (arith, e)
-      | inr less ↦
-          absurd (apart_from m v first w.count w.round (suc w.low) w.high (omega arith) less w.among
-          (sym next_right ∙ same ∙ w.at_left))
-    ])
+      -- where it is the one on the right all were seen
+      pub seen_where_left_meets : l ≡ right → (g : ℕ) → g < length m.half_edges → origin m g ≡ v
+          → P g
+      seen_where_left_meets same = all_seen (elim (eq-or-lt_of_le not_passed) [
+        | inl e ↦ omega (arith, e, place_is)
+        | inr less ↦ absurd (w.round.apart w.low one_less less
+            (let among = w.among in omega (arith, among, place_is))
+            (sym w.at_right ∙ sym same ∙ is ∙ next_left))
+      ])
 
-    module _ {l : ℕ} (is : l ≡ next m (rev left)) (away : l ≢ right) where
-      still_apart : w.low < one_less
-      still_apart = elim (eq-or-lt_of_le not_passed) [
-        | inl e ↦ absurd (away (is ∙ next_left ∙ ap (spoke m first) (sym e) ∙ sym w.at_right))
-        | inr less ↦ less
-      ]
+      module _ (away : l ≢ right) where
+        still_apart : w.low < one_less
+        still_apart = elim (eq-or-lt_of_le not_passed) [
+          | inl e ↦ absurd (away (is ∙ next_left ∙ ap (spoke m first) (sym e) ∙ sym w.at_right))
+          | inr less ↦ less
+        ]
 
-      -- the left one goes on to an edge that was seen
-      pub left_goes_on : P l → IsClosingIn m v first P l right
-      left_goes_on seen = record {
+        -- the left way goes on to it, if it was seen
+        pub left_goes_on : P l → IsClosingIn m v first P l right
+        left_goes_on seen = record {
+          valid = w.valid;
+          count = w.count;
+          round = w.round;
+          low = w.low;
+          high = one_less;
+          order = still_apart;
+          among = less_among;
+          at_left = is ∙ next_left;
+          at_right = w.at_right;
+          above = λ j over under. elim (eq-or-lt_of_le over) [
+            | inl e ↦ subst P (is ∙ next_left ∙ ap (spoke m first) e) seen
+            | inr later ↦ w.above j (omega (arith, later, place_is)) under
+          ];
+          below = w.below;
+        }
+
+        -- fewer edges come before it then
+        pub fewer_before : how_many_before m first l < how_many_before m first left
+        fewer_before =
+            let less = still_apart in
+            let among = w.among in
+            let new = so_many_before m v first w.count w.round one_less l (is ∙ next_left)
+            (omega (arith, less))
+            less_among in
+            let old = so_many_before m v first w.count w.round w.high left w.at_left
+            (omega (arith, place_is)) among in
+            omega (arith, new, old, place_is)
+
+    -- the next edge on the right
+    module _ {r : ℕ} (is : r ≡ rev (prev m right)) where
+      pub right_starts : origin m r ≡ v
+      right_starts = ap (origin m) (is ∙ next_right) ∙ w.round.starts (suc w.low)
+
+      -- it ends where the edge before the right one starts
+      pub right_ends : origin m (prev m right) ≡ origin m (rev r)
+      right_ends = ap (origin m) (sym (rev-rev (prev m right)) ∙ ap rev (sym is))
+
+      pub seen_where_right_meets : r ≡ left → (g : ℕ) → g < length m.half_edges → origin m g ≡ v
+          → P g
+      seen_where_right_meets same = all_seen (elim (eq-or-lt_of_le w.order) [
+        | inl e ↦ omega (arith, e)
+        | inr less ↦
+            absurd (apart_from m v first w.count w.round (suc w.low) w.high (omega arith) less
+            w.among (sym next_right ∙ sym is ∙ same ∙ w.at_left))
+      ])
+
+      pub right_goes_on : r ≢ left → P r → IsClosingIn m v first P left r
+      right_goes_on away seen = record {
+        valid = w.valid;
         count = w.count;
         round = w.round;
-        low = w.low;
-        high = one_less;
-        order = still_apart;
-        among = less_among;
-        at_left = is ∙ next_left;
-        at_right = w.at_right;
-        above = λ j over under. elim (eq-or-lt_of_le over) [
-          | inl e ↦ subst P (is ∙ next_left ∙ ap (spoke m first) e) seen
-          | inr later ↦ w.above j (omega (arith, later, place_is)) under
+        low = suc w.low;
+        high = w.high;
+        order = elim (eq-or-lt_of_le w.order) [
+          | inl e ↦ absurd (away (is ∙ next_right ∙ ap (spoke m first) e ∙ sym w.at_left))
+          | inr less ↦ less
         ];
-        below = w.below;
+        among = w.among;
+        at_left = w.at_left;
+        at_right = is ∙ next_right;
+        above = w.above;
+        below = λ j under. elim (eq-or-lt_of_le under) [
+          | inl e ↦ subst P (is ∙ next_right ∙ ap (spoke m first) (sym e)) seen
+          | inr earlier ↦ w.below j (omega (arith, earlier))
+        ];
       }
-
-      -- fewer edges come before it then
-      pub fewer_before : how_many_before m first l < how_many_before m first left
-      fewer_before =
-          let less = still_apart in
-          let among = w.among in
-          let new = so_many_before m v first w.count w.round one_less l (is ∙ next_left)
-          (omega (arith, less))
-          less_among in
-          let old = so_many_before m v first w.count w.round w.high left w.at_left
-          (omega (arith, place_is)) among in
-          omega (arith, new, old, place_is)
-
-    -- so does the right one
-    pub right_goes_on : {r : ℕ} → r ≡ rev (prev m right) → r ≢ left → P r
-        → IsClosingIn m v first P left r
-    right_goes_on is away seen = record {
-      count = w.count;
-      round = w.round;
-      low = suc w.low;
-      high = w.high;
-      order = elim (eq-or-lt_of_le w.order) [
-        | inl e ↦ absurd (away (is ∙ next_right ∙ ap (spoke m first) e ∙ sym w.at_left))
-        | inr less ↦ less
-      ];
-      among = w.among;
-      at_left = w.at_left;
-      at_right = is ∙ next_right;
-      above = w.above;
-      below = λ j under. elim (eq-or-lt_of_le under) [
-        | inl e ↦ subst P (is ∙ next_right ∙ ap (spoke m first) (sym e)) seen
-        | inr earlier ↦ w.below j (omega (arith, earlier))
-      ];
-    }

@@ -1,29 +1,30 @@
 -- Candidates for the vertex that is nearest to a position.
--- Lemmas: candidate_at_end, nearer_than_same, candidate_from_nearer, candidate_from_other,
--- place_within, vertex_within, distance_read, move_to_nearer, move_on, move_to_found.
-use Rattle.std.proofs.Common.{◌≡◌, ◌⊎◌, ◌<◌, ◌∙◌}
-use Rattle.std.proofs.Common.{ℕ, List, length, map, sym, ap, subst, inl, inr, to_z, of_z, w64}
+-- Lemmas: candidate_at_end, nearer_than_same, place_within, vertex_within, distance_read,
+-- reached_next, reached_on, next_falls, move_to_found.
+use Rattle.std.proofs.Common.{◌≡◌, ◌⊎◌, ◌+◌, ◌<◌, ◌∙◌}
+use Rattle.std.proofs.Common.{ℕ, List, length, map, sym, ap, subst, to_z, of_z, w64}
 use Rattle.std.proofs.Common.{arith}
 use Rattle.std.proofs.lemmas.List.{length-map}
 use Rattle.std.proofs.lemmas.List.Elements.{All-get_or, All-map}
 use Rattle.std.specs.Prelude.{pos, ◌<ℤ◌}
-use Rattle.std.specs.Int.Signed.{<ℤ-≤ℤ_trans}
 use Rattle.delaunay_legalization.specs.half_edge_mesh.Mesh.{Mesh, origin, rev}
 use Rattle.delaunay_legalization.proofs.half_edge_links.Lists.Rev.{rev-rev}
 use Rattle.delaunay_legalization.specs.plane.Fraction.{Point, whole}
 use Rattle.delaunay_legalization.specs.plane.Circle.{gap, IsNearer}
 use Rattle.delaunay_legalization.specs.plane.Pairs.{place}
 use Rattle.delaunay_legalization.specs.plane.Tests.{InRange}
+use Rattle.plane_delaunay.specs.Nearer.{nearer_count}
 use Rattle.delaunay_legalization.proofs.plane.Signs.{at_most_and_more, less_is_at_most}
-use Rattle.delaunay_legalization.proofs.plane.Signs.{less_with_ones, less_without_ones}
+use Rattle.delaunay_legalization.proofs.plane.Signs.{less_with_ones}
 use Rattle.delaunay_legalization.proofs.delaunay_core_lemmas.Projections.{gap_passes}
 use Rattle.delaunay_legalization.specs.Known.{point_at}
 use Rattle.delaunay_legalization.specs.Shape.{IsTriangulated}
 use Rattle.delaunay_legalization.specs.State.{State, triangulation_of}
-use Rattle.delaunay_location.specs.Candidate.{EndsNoNearer, IsCandidate, IsCandidateFrom}
-use Rattle.delaunay_location.specs.Candidate.{IsNearerCandidate}
+use Rattle.delaunay_location.specs.Candidate.{EndsNoNearer, IsCandidate, IsNearerCandidate}
+use Rattle.delaunay_location.specs.Candidate.{IsReached}
 use Rattle.delaunay_location.specs.declared.nearest_walk.Candidate.{Candidate}
-use Rattle.delaunay_location.proofs.Neighbours.{IsMove, nearer_if_other}
+use Rattle.delaunay_location.proofs.Neighbours.{IsMove, counted_before, nearer_falls}
+use Rattle.delaunay_location.proofs.Neighbours.{nearer_if_other, one_counted}
 
 module _ (points : List Point) (m : Mesh) (p : Point) where
   -- a vertex with less squared distance is nearer
@@ -34,15 +35,6 @@ module _ (points : List Point) (m : Mesh) (p : Point) where
         nearer =
             less_with_ones (gap (whole p) (place points v)) (gap (whole p) (place points w)) less;
       }
-
-  -- of three vertices that are nearer one by one the first is nearer than the last
-  nearer_than_both : (u v w : ℕ) → IsNearer (whole p) (place points u) (place points v)
-      → IsNearer (whole p) (place points v) (place points w)
-      → IsNearer (whole p) (place points u) (place points w)
-  nearer_than_both u v w one two =
-      let far = λ (i : ℕ). gap (whole p) (place points i) in
-      nearer_by_gap u w (<ℤ-≤ℤ_trans (less_without_ones (far u) (far v) one.nearer)
-      (less_is_at_most (less_without_ones (far v) (far w) two.nearer)))
 
   module _ (e : ℕ) (c : Candidate) (is : c.spoke ≡ rev e) (less : gap (whole p)
       (place points (origin m (rev e))) <ℤ gap (whole p) (place points (origin m e))) where
@@ -68,27 +60,11 @@ module _ (points : List Point) (m : Mesh) (p : Point) where
           (nearer_by_gap (origin m (rev e)) (origin m e) less);
     }
 
-module _ {points : List Point} {m : Mesh} {p : Point} {v : ℕ} {c : Candidate} where
-  -- a candidate nearer than a vertex known by another name
-  pub nearer_than_same : {w : ℕ} → v ≡ w → IsNearerCandidate points m p v c
-      → IsNearerCandidate points m p w c
-  nearer_than_same same near = subst (λ x. IsNearerCandidate points m p x c) same near
-
-  -- a nearer candidate is one to go on from
-  pub candidate_from_nearer : IsNearerCandidate points m p v c → IsCandidateFrom points m p v c
-  candidate_from_nearer near = record { candidate = near.candidate; nearer = inr near.nearer }
-
-  -- so is one to go on from at a vertex that is nearer
-  pub candidate_from_other : {w : ℕ} → IsCandidateFrom points m p w c
-      → IsNearer (whole p) (place points w) (place points v) → IsCandidateFrom points m p v c
-  candidate_from_other {w = w} from nearer = record {
-    candidate = from.candidate;
-    nearer = elim from.nearer [
-      | inl here ↦
-          inr (subst (λ x. IsNearer (whole p) (place points x) (place points v)) (sym here) nearer)
-      | inr still ↦ inr (nearer_than_both points m p (origin m c.spoke) w v still nearer)
-    ];
-  }
+-- a candidate nearer than a vertex known by another name
+pub nearer_than_same : {points : List Point} {m : Mesh} {p : Point} {v w : ℕ} {c : Candidate}
+    → v ≡ w → IsNearerCandidate points m p v c → IsNearerCandidate points m p w c
+nearer_than_same {points = points} {m = m} {p = p} {c = c} same near =
+    subst (λ x. IsNearerCandidate points m p x c) same near
 
 -- a vertex of the mesh is one of the points
 pub place_within : {V : Type 0} (at : V → Point) (vertices : List V) (v : ℕ) → v < length vertices
@@ -118,17 +94,38 @@ module _ {V D U F : Type 0} {at : V → Point} {s : State V D U F} (kept : IsTri
       is.distance ∙ ap (λ (i : ℕ). gap (whole p) (place points i)) (sym same)
 
   -- to go from a vertex to a candidate that is nearer is a move
-  pub move_to_nearer : {v : ℕ} {n : Candidate} → v < length (map at s.vertices)
+  move_to_nearer : {v : ℕ} {n : Candidate} → v < length (map at s.vertices)
       → IsNearerCandidate (map at s.vertices) s.mesh p v n
       → IsMove (triangulation_of at s) p v (origin s.mesh n.spoke)
   move_to_nearer here near =
       record { here = here; there = vertex_within near.candidate; nearer = near.nearer }
 
-  -- so it is to go from one candidate to another that is nearer
-  pub move_on : {c n : Candidate} → IsCandidate (map at s.vertices) s.mesh p c
+  -- it is reached by this move
+  pub reached_next : {v was : ℕ} {n : Candidate} → v < length s.vertices
+      → IsNearerCandidate (map at s.vertices) s.mesh p v n
+      → IsReached (map at s.vertices) s.mesh p v was (was + 1) n
+  reached_next {v = v} here near = record {
+    candidate = near.candidate;
+    counted = one_counted (move_to_nearer (place_within at s.vertices v here) near);
+  }
+
+  -- so is the next candidate of a walk, after those before it
+  pub reached_on : {v was now : ℕ} {c n : Candidate}
+      → IsReached (map at s.vertices) s.mesh p v was now c
       → IsNearerCandidate (map at s.vertices) s.mesh p (origin s.mesh c.spoke) n
-      → IsMove (triangulation_of at s) p (origin s.mesh c.spoke) (origin s.mesh n.spoke)
-  move_on is near = move_to_nearer (vertex_within is) near
+      → IsReached (map at s.vertices) s.mesh p v was (now + 1) n
+  reached_on is near = record {
+    candidate = near.candidate;
+    counted =
+        counted_before (move_to_nearer (vertex_within is.candidate) near) is.counted;
+  }
+
+  -- fewer vertices are nearer than the next candidate
+  pub next_falls : {c n : Candidate} → IsCandidate (map at s.vertices) s.mesh p c
+      → IsNearerCandidate (map at s.vertices) s.mesh p (origin s.mesh c.spoke) n
+      → nearer_count (triangulation_of at s) (whole p) (origin s.mesh n.spoke)
+      < nearer_count (triangulation_of at s) (whole p) (origin s.mesh c.spoke)
+  next_falls is near = nearer_falls (move_to_nearer (vertex_within is) near)
 
   -- so it is to go from a candidate to a vertex found that is its own or nearer, if not its own
   pub move_to_found : {c : Candidate} {k w i j : ℕ} → IsCandidate (map at s.vertices) s.mesh p c

@@ -126,8 +126,8 @@ module _ {V D U F : Type 0} {at : V → Point} {s : State V D U F} (kept : IsTri
       omega (arith, inside, fit, bare)
 
   -- a position found strictly on the right of an edge is located outside, by its other direction
-  pub located_right : {S : Type 0} {number : S → ℤ} {stop : Stop S} {found : Side} {back : ℕ}
-      → IsStop number points m (length s.directed) stop
+  pub located_right : {S : Type 0} {number : S → ℤ} {IsCovered : Point → Type 0} {stop : Stop S}
+      {found : Side} {back : ℕ} → IsStop number IsCovered points m (length s.directed) stop
       → found ≡ side (whole (place_of number stop.from)) (whole (place_of number stop.to)) (whole p)
       → found ≡ right → back ≡ rev stop.edge → Locates points m p (OutsideOfConvexHull back)
   located_right {number = number} {stop = stop} h is at_right same =

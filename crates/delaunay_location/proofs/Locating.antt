@@ -168,17 +168,20 @@ module _ {V D U F : Type 0} (at : V → Point) (s : State V D U F) (kept : IsTri
         go (inr l) = l.0
 
     -- the position is past the end of the line where the edge that starts nearest to it starts
-    pub past_end : (e : ℕ) → StartsNearest points m p e → Locates points m p (OutsideOfConvexHull e)
+    pub past_end : (e : ℕ) → StartsNearest points m p (length s.directed) e
+        → Locates points m p (OutsideOfConvexHull e)
     past_end e near =
         let b = beyond in
         let h = starts_there b.0 b.1 b.2 in
-        let i_in : b.0 < length points = subst (λ k. k < length points) h.2 (mesh_edge at s kept h.0
-        (let f = kept.fits.directed_fit in let w = h.1 in omega (arith, f, w))).source in
+        let h_in : h.0 < length s.directed =
+        let f = kept.fits.directed_fit in let w = h.1 in omega (arith, f, w) in
+        let i_in : b.0 < length points =
+        subst (λ k. k < length points) h.2 (mesh_edge at s kept h.0 h_in).source in
         let own = mesh_edge at s kept e (let f = kept.fits.directed_fit in let w = near.within in
         omega (arith, f, w)) in
         let starts : origin m e ≡ b.0 =
         go b.0 i_in b.3 own.source (subst (λ k. gap (whole p) (place points (origin m e))
-        ≤ℤ gap (whole p) (place points k)) h.2 (near.nearest h.0 h.1)) in
+        ≤ℤ gap (whole p) (place points k)) h.2 (near.nearest h.0 h_in)) in
         let none = is_line b.0 i_in b.3 in
         let inside = (kept.valid.sound.edges e near.within).face_in in
         let no_faces : length m.face_edges ≡ 0 = sym (length-map m.face_edges (triangle_at m))

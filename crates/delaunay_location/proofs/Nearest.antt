@@ -1,9 +1,15 @@
--- A running search for the least of some numbers.
--- Lemmas: first_is_least, less_is_least, still_least, less_than_first.
-use Rattle.std.proofs.Common.{◌≡◌, ◌⊎◌, ℕ, ◌+◌, ◌<◌, arith, below_more, subst, inl, inr}
+-- A running search for what is nearest.
+-- Lemmas: starts_first, starts_nearer, starts_no_nearer, starts_all, less_than_first.
+use Rattle.std.proofs.Common.{◌≡◌, ◌⊎◌, ℕ, ◌+◌, ◌<◌, ◌≤◌, List, length, arith, below_more}
+use Rattle.std.proofs.Common.{subst, inl, inr}
 use Rattle.std.specs.Prelude.{ℤ, ◌<ℤ◌, ◌≤ℤ◌}
 use Rattle.std.proofs.lemmas.Int.{ints}
+use Rattle.delaunay_legalization.specs.half_edge_mesh.Mesh.{Mesh, origin}
+use Rattle.delaunay_legalization.specs.plane.Fraction.{Point, whole}
+use Rattle.delaunay_legalization.specs.plane.Circle.{gap}
+use Rattle.delaunay_legalization.specs.plane.Pairs.{place}
 use Rattle.delaunay_legalization.proofs.plane.Signs.{at_most_if_not_less, less_through}
+use Rattle.delaunay_location.specs.Location.{StartsNearest}
 
 itself : (a : ℤ) → a ≤ℤ a
 itself a = omega (arith, ints)
@@ -11,25 +17,46 @@ itself a = omega (arith, ints)
 through : (a b c : ℤ) → a <ℤ b → b ≤ℤ c → a ≤ℤ c
 through a b c h k = omega (arith, ints)
 
+module _ (points : List Point) (m : Mesh) (p : Point) where
+  abbrev at : ℕ → ℤ
+  at h = gap (whole p) (place points (origin m h))
+
+  -- of one edge none starts nearer than the first
+  pub starts_first : {e : ℕ} → e ≡ 0 → 0 < length m.half_edges → StartsNearest points m p 1 e
+  starts_first {e = e} is some = record {
+    within = omega (arith, is, some);
+    nearest = λ h below.
+        let same : e ≡ h = omega (arith, is, below) in
+        subst (λ k. at e ≤ℤ at k) same (itself (at e));
+  }
+
+  module _ {i e least : ℕ} (is : e ≡ i) (before : StartsNearest points m p i least) where
+    -- the next edge, if it starts nearer than the nearest of those before it
+    pub starts_nearer : i < length m.half_edges → at e <ℤ at least
+        → StartsNearest points m p (i + 1) e
+    starts_nearer within less = record {
+      within = omega (arith, is, within);
+      nearest = below_more (λ h. at e ≤ℤ at h) i
+          (λ h k. through (at e) (at least) (at h) less (before.nearest h k))
+          (subst (λ k. at e ≤ℤ at k) is (itself (at e)));
+    }
+
+    -- if not, the nearest of them
+    pub starts_no_nearer : ¬ (at e <ℤ at least) → StartsNearest points m p (i + 1) least
+    starts_no_nearer not_less = record {
+      within = before.within;
+      nearest = below_more (λ h. at least ≤ℤ at h) i before.nearest
+          (subst (λ k. at least ≤ℤ at k) is (at_most_if_not_less (at e) (at least) not_less));
+    }
+
+  -- it is the nearest of fewer edges
+  pub starts_all : {i n e : ℕ} → n ≤ i → StartsNearest points m p i e → StartsNearest points m p n e
+  starts_all few before = record {
+    within = before.within;
+    nearest = λ h w. before.nearest h (omega (arith, few, w));
+  }
+
 module _ (at : ℕ → ℤ) where
-  -- the first number is the least of one
-  pub first_is_least : (e : ℕ) → e ≡ 0 → (h : ℕ) → h < 1 → at e ≤ℤ at h
-  first_is_least e is h below =
-      let same : e ≡ h = omega arith in subst (λ k. at e ≤ℤ at k) same (itself (at e))
-
-  -- a number that is less than the least of those before it is the least with them
-  pub less_is_least : (i e least : ℕ) → e ≡ i → at e <ℤ at least
-      → ((h : ℕ) → h < i → at least ≤ℤ at h) → (h : ℕ) → h < i + 1 → at e ≤ℤ at h
-  less_is_least i e least is less before =
-      below_more (λ h. at e ≤ℤ at h) i (λ h k. through (at e) (at least) (at h) less (before h k))
-      (subst (λ k. at e ≤ℤ at k) is (itself (at e)))
-
-  -- the least stays so with one number more that is not less
-  pub still_least : (i e least : ℕ) → e ≡ i → ¬ (at e <ℤ at least)
-      → ((h : ℕ) → h < i → at least ≤ℤ at h) → (h : ℕ) → h < i + 1 → at least ≤ℤ at h
-  still_least i e least is not_less before = below_more (λ h. at least ≤ℤ at h) i before
-      (subst (λ k. at least ≤ℤ at k) is (at_most_if_not_less (at e) (at least) not_less))
-
   -- what is less than the number that is the first, or less than it, is less than the first
   pub less_than_first : (e least first : ℕ) → at e <ℤ at least
       → (least ≡ first) ⊎ (at least <ℤ at first) → at e <ℤ at first

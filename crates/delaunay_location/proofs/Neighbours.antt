@@ -167,7 +167,7 @@ module _ {t : Triangulation} {p : Point} where
     room_there was n h = less_by_some was (nearer_count t (whole p) v)
         (was + nearer_count t (whole p) k) n h (let f = nearer_falls in omega (arith, f))
 
-module _ (t : Triangulation) (p : Point) (v n : ℕ) (count : length t.points ≡ n)
+module _ (t : Triangulation) (p : Point) {v n : ℕ} (count : length t.points ≡ n)
     (within : v < n) where
   -- fewer than all vertices are nearer than v
   few : nearer_count t (whole p) v < n
@@ -176,7 +176,8 @@ module _ (t : Triangulation) (p : Point) (v n : ℕ) (count : length t.points �
 
   -- where the count has room for all vertices it has room for those that are nearer
   pub room_at : (was limit : ℕ) → was + n ≤ limit → was + nearer_count t (whole p) v < limit
-  room_at was limit fits = fewer_fit was (nearer_count t (whole p) v) n limit few fits
+  room_at was limit fits =
+      fewer_fit was (nearer_count t (whole p) v) n limit few fits
 
   -- the moves are fewer than the vertices
   pub fewer_moves : {w was now : ℕ} → IsMoveCount t p v w was now

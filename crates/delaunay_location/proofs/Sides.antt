@@ -36,9 +36,9 @@ module _ {V D U F : Type 0} {at : V → Point} {s : State V D U F} (kept : IsTri
   half_edge_in e w = let f = kept.fits.directed_fit in omega (arith, f, w)
 
   -- the other direction of an edge, with the positions of its ends
-  pub across_edge : {S : Type 0} {number : S → ℤ} {stop : Stop S}
-      → IsStop number points m (length s.directed) stop
-      → IsStop number points m (length s.directed)
+  pub across_edge : {S : Type 0} {number : S → ℤ} {IsCovered : Point → Type 0} {stop : Stop S}
+      → IsStop number IsCovered points m (length s.directed) stop
+      → IsStop number IsCovered points m (length s.directed)
       (record { edge = rev stop.edge; from = stop.to; to = stop.from })
   across_edge {stop = stop} h = record {
     within =
@@ -48,11 +48,13 @@ module _ {V D U F : Type 0} {at : V → Point} {s : State V D U F} (kept : IsTri
         omega (arith, f, r);
     from = h.to;
     to = h.from ∙ ap (λ k. point_at points (origin m k)) (sym (rev-rev stop.edge));
+    from_covered = h.to_covered;
+    to_covered = h.from_covered;
   }
 
   -- a position that was found strictly on the left of an edge is there
-  pub left_of_stop : {S : Type 0} {number : S → ℤ} {stop : Stop S} {found : Side} (p : Point)
-      → IsStop number points m (length s.directed) stop
+  pub left_of_stop : {S : Type 0} {number : S → ℤ} {IsCovered : Point → Type 0} {stop : Stop S}
+      {found : Side} (p : Point) → IsStop number IsCovered points m (length s.directed) stop
       → found ≡ side (whole (place_of number stop.from)) (whole (place_of number stop.to)) (whole p)
       → found ≡ left → TurnsLeft (place points (origin m stop.edge))
       (place points (origin m (rev stop.edge))) (whole p)
@@ -76,26 +78,32 @@ module _ {V D U F : Type 0} {at : V → Point} {s : State V D U F} (kept : IsTri
         ∙ ap (origin m) round.next_prev
 
     -- the edge after an edge of an inner face, with the positions of its ends
-    pub next_side : {S : Type 0} {number : S → ℤ} {h : ℕ} {to corner : Point2 S} → h ≡ next m e
-        → place_of number to ≡ point_at points (origin m (rev e))
-        → place_of number corner ≡ point_at points (origin m (prev m e))
-        → IsStop number points m (length s.directed) (record { edge = h; from = to; to = corner })
-    next_side same starts ends = rw same (record {
-      within = (let f = kept.fits.directed_fit in let n = round.next_in in omega (arith, f, n));
-      from = starts ∙ ap (point_at points) (sym next_starts);
-      to = ends ∙ ap (point_at points) (sym next_ends);
-    })
+    module _ {S : Type 0} {number : S → ℤ} {IsCovered : Point → Type 0} {h : ℕ}
+        {from to corner : Point2 S}
+        (stop : IsStop number IsCovered points m (length s.directed)
+        (record { edge = e; from = from; to = to }))
+        (at_corner : place_of number corner ≡ point_at points (origin m (prev m e)))
+        (covered : IsCovered (place_of number corner)) where
+      pub next_side : h ≡ next m e → IsStop number IsCovered points m (length s.directed)
+          (record { edge = h; from = to; to = corner })
+      next_side same = rw same (record {
+        within = (let f = kept.fits.directed_fit in let n = round.next_in in omega (arith, f, n));
+        from = stop.to ∙ ap (point_at points) (sym next_starts);
+        to = at_corner ∙ ap (point_at points) (sym next_ends);
+        from_covered = stop.to_covered;
+        to_covered = covered;
+      })
 
-    -- and the edge before it
-    pub prev_side : {S : Type 0} {number : S → ℤ} {h : ℕ} {corner from : Point2 S} → h ≡ prev m e
-        → place_of number corner ≡ point_at points (origin m (prev m e))
-        → place_of number from ≡ point_at points (origin m e)
-        → IsStop number points m (length s.directed) (record { edge = h; from = corner; to = from })
-    prev_side same starts ends = rw same (record {
-      within = (let f = kept.fits.directed_fit in let n = round.prev_in in omega (arith, f, n));
-      from = starts;
-      to = ends ∙ ap (point_at points) (sym prev_ends);
-    })
+      -- and the edge before it
+      pub prev_side : h ≡ prev m e → IsStop number IsCovered points m (length s.directed)
+          (record { edge = h; from = corner; to = from })
+      prev_side same = rw same (record {
+        within = (let f = kept.fits.directed_fit in let n = round.prev_in in omega (arith, f, n));
+        from = at_corner;
+        to = stop.from ∙ ap (point_at points) (sym prev_ends);
+        from_covered = covered;
+        to_covered = stop.from_covered;
+      })
 
     module _ (p : Point) where
       -- p is strictly on the left of the line from a vertex to another, and of the sides of a face

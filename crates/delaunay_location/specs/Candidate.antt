@@ -1,5 +1,5 @@
 -- A vertex that may be the nearest one to a position.
-use Rattle.std.specs.Prelude.{◌≡◌, ◌⊎◌, ℕ, ◌+◌, ◌<◌, ◌≤◌, ◌<ℤ◌, List, length}
+use Rattle.std.specs.Prelude.{◌≡◌, ℕ, ◌+◌, ◌<◌, ◌≤◌, ◌<ℤ◌, List, length}
 use Rattle.delaunay_legalization.specs.half_edge_mesh.Mesh.{Mesh, origin, rev}
 use Rattle.delaunay_legalization.specs.plane.Fraction.{Point, whole}
 use Rattle.delaunay_legalization.specs.plane.Circle.{gap, IsNearer}
@@ -33,14 +33,14 @@ module _ (points : List Point) (m : Mesh) (p : Point) where
     pub candidate : IsCandidate c
     pub nearer : IsNearer (whole p) (place points (origin m c.spoke)) (place points v)
 
-  -- it is vertex v or nearer
-  pub record IsCandidateFrom (v : ℕ) (c : Candidate) : Type 0 where
-    pub candidate : IsCandidate c
-    pub nearer : (origin m c.spoke ≡ v) ⊎
-        IsNearer (whole p) (place points (origin m c.spoke)) (place points v)
-
 -- moves from vertex v to vertex w were counted: the count did not fall, and rose by at most the
 -- number of vertices that are nearer to p than v and not nearer than w
 pub record IsMoveCount (t : Triangulation) (p : Point) (v w was now : ℕ) : Type 0 where
   pub grown : was ≤ now
   pub fewer : now + nearer_count t (whole p) w ≤ was + nearer_count t (whole p) v
+
+-- candidate c was reached from vertex v by moves that were counted
+pub record IsReached (points : List Point) (m : Mesh) (p : Point) (v was now : ℕ)
+    (c : Candidate) : Type 0 where
+  pub candidate : IsCandidate points m p c
+  pub counted : IsMoveCount (drawn points m) p v (origin m c.spoke) was now

@@ -51,10 +51,10 @@ pub record IsClearOfEdge (points : List Point) (m : Mesh) (p : Point) (e : ℕ) 
   pub not_within : ¬ IsWithinEdge points m p e
   pub not_left : ¬ IsLeftOfEdge points m p e
 
--- no directed edge starts nearer to p than e does
-pub record StartsNearest (points : List Point) (m : Mesh) (p : Point) (e : ℕ) : Type 0 where
+-- none of the first n directed edges starts nearer to p than e does
+pub record StartsNearest (points : List Point) (m : Mesh) (p : Point) (n e : ℕ) : Type 0 where
   pub within : e < length m.half_edges
-  pub nearest : (h : ℕ) → h < length m.half_edges →
+  pub nearest : (h : ℕ) → h < n →
       gap (whole p) (place points (origin m e)) ≤ℤ gap (whole p) (place points (origin m h))
 
 -- the edge that the answer names has p strictly on its left

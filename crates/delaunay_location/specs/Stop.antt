@@ -1,8 +1,7 @@
 -- Where a walk from face to face is.
 use Rattle.std.specs.Prelude.{◌≡◌, ◌⊎◌, ℕ, ℤ, ◌<◌, List, length, map, IfSome}
 use Rattle.delaunay_legalization.specs.half_edge_mesh.Mesh.{Mesh, origin, next, prev, rev}
-use Rattle.delaunay_legalization.specs.plane.Fraction.{Point, whole}
-use Rattle.delaunay_legalization.specs.plane.Side.{Side, side}
+use Rattle.delaunay_legalization.specs.plane.Fraction.{Point}
 use Rattle.delaunay_legalization.specs.delaunay_core.Place.{place_of}
 use Rattle.delaunay_legalization.specs.Known.{point_at}
 use Rattle.delaunay_location.specs.Search.{IsPlaceOf}
@@ -13,27 +12,25 @@ use Rattle.delaunay_location.specs.declared.steps.Step.TheVariants.{Beyond, Foun
 use Rattle.delaunay_location.specs.declared.walk.Walked.{Walked}
 use Rattle.delaunay_location.specs.declared.walk.Walked.TheVariants.{Ended, Reached}
 
--- one of the n directed edges of a mesh, with the positions of its ends
-pub record IsStop {S : Type 0} (number : S → ℤ) (points : List Point) (m : Mesh) (n : ℕ)
-    (stop : Stop S) : Type 0 where
+-- one of the n directed edges of a mesh, with the positions of its ends, which are covered
+pub record IsStop {S : Type 0} (number : S → ℤ) (IsCovered : Point → Type 0) (points : List Point)
+    (m : Mesh) (n : ℕ) (stop : Stop S) : Type 0 where
   pub within : stop.edge < n
   pub from : place_of number stop.from ≡ point_at points (origin m stop.edge)
   pub to : place_of number stop.to ≡ point_at points (origin m (rev stop.edge))
+  pub from_covered : IsCovered (place_of number stop.from)
+  pub to_covered : IsCovered (place_of number stop.to)
 
 -- edges f and g are the other sides of the face on the left of edge e, in either order
 abbrev pub AreOtherSides : Mesh → ℕ → ℕ → ℕ → Type 0
 AreOtherSides m e f g = ((f ≡ next m e) × (g ≡ prev m e)) ⊎ ((f ≡ prev m e) × (g ≡ next m e))
 
-module _ {V D U F P S : Type 0} (at : V → Point) (number : S → ℤ) (s : Seeking V D U F P) where
-  -- the same of the mesh of a search
+module _ {V D U F P S : Type 0} (at : V → Point) (number : S → ℤ) (IsCovered : P → Point → Type 0)
+    (s : Seeking V D U F P) where
+  -- the same of the mesh and the tests of a search
   abbrev pub IsStopOf : Stop S → Type 0
-  IsStopOf = IsStop number (map at s.dcel.vertices) s.dcel.mesh (length s.dcel.directed)
-
-  -- on this side of it is the position
-  abbrev pub IsSideAt : Stop S → Side → Type 0
-  IsSideAt stop found =
-      found ≡ side (whole (place_of number stop.from)) (whole (place_of number stop.to))
-      (whole s.point)
+  IsStopOf = IsStop number (IsCovered s.tests) (map at s.dcel.vertices) s.dcel.mesh
+      (length s.dcel.directed)
 
   -- a step leads to such an edge, or to where the position is
   abbrev pub IsStepOf : Step S → Type 0

@@ -4,7 +4,7 @@ ghost use Rattle.delaunay_legalization.specs.half_edge_mesh.Mesh.{next, rev};
 ghost use Rattle.delaunay_location.specs.Search.{IsPlaceOf};
 ghost use Rattle.delaunay_location.specs.Stop.{IsWalkOf};
 
-use crate::parts::end_vertex;
+use crate::parts::{edge_clockwise, end_vertex, start_vertex};
 use crate::position_in_triangulation::PositionInTriangulation;
 use crate::search::Search;
 use crate::vertex_distance::is_nearer;
@@ -12,7 +12,7 @@ use crate::walk::{FEW_STEPS, Walked, nearer_edge};
 use delaunay_legalization::delaunay_core::math::PlaneTests;
 use delaunay_legalization::delaunay_core::point::HasPosition;
 use delaunay_legalization::half_edge_mesh::{FixedDirectedEdgeHandle, MeshViews};
-use delaunay_legalization::{Placed, is_same_point, is_strictly_within, position_of};
+use delaunay_legalization::{is_same_point, is_strictly_within, position_of};
 
 impl<'a, V: HasPosition, DE, UE, F, P: PlaneTests<V::Scalar>> Search<'a, V, DE, UE, F, P> {
     // The location of a position that is strictly on one side of the line of all vertices: beyond
@@ -22,13 +22,13 @@ impl<'a, V: HasPosition, DE, UE, F, P: PlaneTests<V::Scalar>> Search<'a, V, DE, 
         requires line { length self.now.dcel.faces ≡ 0 }
         ensures { IfSome result (IsPlaceOf V.place self.now) }
     {
-        let stop = self.stop_at(edge);
-        let side = self.side_at(stop);
+        let (from, to) = self.ends_of(edge);
+        let side = self.tests.side(from, to, self.point);
         if side.is_on_left_side() {
-            return Some(PositionInTriangulation::OutsideOfConvexHull(stop.edge));
+            return Some(PositionInTriangulation::OutsideOfConvexHull(edge));
         }
         if side.is_on_right_side() {
-            return Some(PositionInTriangulation::OutsideOfConvexHull(stop.edge.rev()));
+            return Some(PositionInTriangulation::OutsideOfConvexHull(edge.rev()));
         }
         None
     }
@@ -49,15 +49,8 @@ impl<'a, V: HasPosition, DE, UE, F, P: PlaneTests<V::Scalar>> Search<'a, V, DE, 
         requires alone { next self.now.dcel.mesh (rev edge) ≡ edge }
         ensures { IfSome result (IsPlaceOf V.place self.now) }
     {
-        let placed = Placed {
-            dcel: self.dcel,
-            tests: self.tests,
-        };
-        let (from, to) = placed.ends_of(edge);
-        if is_same_point(from, self.point) {
-            return None;
-        }
-        if is_same_point(to, self.point) {
+        let (from, to) = self.ends_of(edge);
+        if is_same_point(from, self.point) || is_same_point(to, self.point) {
             return None;
         }
         if is_strictly_within(self.point, to, from, self.tests) {
@@ -73,15 +66,14 @@ impl<'a, V: HasPosition, DE, UE, F, P: PlaneTests<V::Scalar>> Search<'a, V, DE, 
         requires line { length self.now.dcel.faces ≡ 0 }
         ensures { IfSome result (IsPlaceOf V.place self.now) }
     {
-        let here = self.dcel.directed_edge(edge);
-        let vertex = here.from().fix();
+        let vertex = start_vertex(self.dcel, edge);
         if is_same_point(position_of(self.dcel, vertex), self.point) {
             return Some(PositionInTriangulation::OnVertex(vertex));
         }
         if let Some(place) = self.place_on_either(edge) {
             return Some(place);
         }
-        let other = here.cw().fix();
+        let other = edge_clockwise(self.dcel, edge);
         if other.index() == edge.index() {
             return self.place_past(edge);
         }
@@ -92,8 +84,7 @@ impl<'a, V: HasPosition, DE, UE, F, P: PlaneTests<V::Scalar>> Search<'a, V, DE, 
     fn ends_nearer(&self, edge: FixedDirectedEdgeHandle) -> bool
         requires { edge < length self.now.dcel.directed }
     {
-        let start = self.dcel.directed_edge(edge).from().fix();
-        let end = end_vertex(self.dcel, edge);
+        let (start, end) = (start_vertex(self.dcel, edge), end_vertex(self.dcel, edge));
         is_nearer(self.dcel, end, start, self.point)
     }
 
@@ -106,7 +97,7 @@ impl<'a, V: HasPosition, DE, UE, F, P: PlaneTests<V::Scalar>> Search<'a, V, DE, 
         if self.ends_nearer(edge) {
             return edge;
         }
-        self.dcel.directed_edge(edge).cw().fix()
+        edge_clockwise(self.dcel, edge)
     }
 
     // Where a walk along the line from the start of an edge ends, or is after a number of steps.

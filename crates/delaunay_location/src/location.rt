@@ -1,10 +1,6 @@
 //! Where a position is, by a look at all vertices, edges and faces.
-ghost use Rattle.std.specs.Prelude.{◌≡◌, ◌↔◌, ℕ, ◌<◌, ◌≤◌, ◌<ℤ◌};
+ghost use Rattle.std.specs.Prelude.{◌≡◌, ◌↔◌, ℕ, ◌<◌, ◌≤◌};
 ghost use Rattle.std.specs.Prelude.{length, map, IsTrue, MatchOption};
-ghost use Rattle.delaunay_legalization.specs.half_edge_mesh.Mesh.{origin};
-ghost use Rattle.delaunay_legalization.specs.plane.Fraction.{whole as fraction};
-ghost use Rattle.delaunay_legalization.specs.plane.Circle.{gap};
-ghost use Rattle.delaunay_legalization.specs.plane.Pairs.{place};
 ghost use Rattle.delaunay_legalization.specs.plane.Tests.{InRange};
 ghost use Rattle.delaunay_legalization.specs.delaunay_core.Place.{place_of};
 ghost use Rattle.delaunay_legalization.specs.Known.{point_at};
@@ -14,15 +10,17 @@ ghost use Rattle.delaunay_legalization.specs.Parts.{IsApart};
 ghost use Rattle.delaunay_location.specs.Location.{StartsNearest};
 ghost use Rattle.delaunay_location.specs.Search.{IsAtNoVertex, IsClear, IsInFace, IsPlaceOf};
 
+use crate::parts::start_vertex;
 use crate::position_in_triangulation::PositionInTriangulation;
 use crate::search::Search;
+use crate::vertex_distance::is_nearer;
 use delaunay_legalization::delaunay_core::math::PlaneTests;
 use delaunay_legalization::delaunay_core::point::{HasPosition, Point2};
 use delaunay_legalization::half_edge_mesh::{
     Dcel, FixedDirectedEdgeHandle, FixedFaceHandle, FixedVertexHandle,
 };
 use delaunay_legalization::{
-    Placed, is_outer, is_same_point, is_strictly_inside, is_strictly_within, position_of, start_of,
+    Placed, is_outer, is_same_point, is_strictly_inside, is_strictly_within, position_of,
     turns_left,
 };
 
@@ -44,24 +42,6 @@ fn vertex_at<V: HasPosition, DE, UE, F>(
     None
 }
 
-// Whether an edge starts nearer to a position than another.
-fn starts_nearer<V: HasPosition, DE, UE, F>(
-    dcel: &Dcel<V, DE, UE, F>,
-    edge: FixedDirectedEdgeHandle,
-    other: FixedDirectedEdgeHandle,
-    point: Point2<V::Scalar>,
-) -> bool
-    requires kept { IsTriangulated V.place (state_of dcel.now) }
-    requires edge_in { edge < length dcel.now.directed }
-    requires other_in { other < length dcel.now.directed }
-    requires in_range { InRange (place_of V.Scalar.whole point) }
-    ensures { let at = λ (e : ℕ). gap (fraction (place_of V.Scalar.whole point))
-        (place (map V.place dcel.now.vertices) (origin dcel.now.mesh e)) in
-        IsTrue result ↔ (at edge <ℤ at other) }
-{
-    point.distance_2(start_of(dcel, edge)) < point.distance_2(start_of(dcel, other))
-}
-
 // The directed edge that starts nearest to a position.
 fn edge_from_nearest<V: HasPosition, DE, UE, F>(
     dcel: &Dcel<V, DE, UE, F>,
@@ -71,12 +51,13 @@ fn edge_from_nearest<V: HasPosition, DE, UE, F>(
     requires some { 0 < length dcel.now.directed }
     requires in_range { InRange (place_of V.Scalar.whole point) }
     ensures { StartsNearest (map V.place dcel.now.vertices) dcel.now.mesh
-        (place_of V.Scalar.whole point) result }
+        (place_of V.Scalar.whole point) (length dcel.now.directed) result }
 {
     let mut nearest = FixedDirectedEdgeHandle::from_index(0);
     for index in 1..dcel.num_directed_edges() {
         let edge = FixedDirectedEdgeHandle::from_index(index as u32);
-        if starts_nearer(dcel, edge, nearest, point) {
+        let (start, other) = (start_vertex(dcel, edge), start_vertex(dcel, nearest));
+        if is_nearer(dcel, start, other, point) {
             nearest = edge;
         }
     }
@@ -91,11 +72,7 @@ impl<'a, V: HasPosition, DE, UE, F, P: PlaneTests<V::Scalar>> Search<'a, V, DE, 
         ensures { MatchOption result (IsClear V.place self.now edge)
             (IsPlaceOf V.place self.now) }
     {
-        let placed = Placed {
-            dcel: self.dcel,
-            tests: self.tests,
-        };
-        let (from, to) = placed.ends_of(edge);
+        let (from, to) = self.ends_of(edge);
         if is_strictly_within(from, to, self.point, self.tests) {
             return Some(PositionInTriangulation::OnEdge(edge));
         }

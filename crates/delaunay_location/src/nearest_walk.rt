@@ -12,10 +12,9 @@ ghost use Rattle.delaunay_legalization.specs.delaunay_core.Place.{place_of};
 ghost use Rattle.delaunay_legalization.specs.Shape.{IsTriangulated};
 ghost use Rattle.delaunay_legalization.specs.State.{state_of, triangulation_of};
 ghost use Rattle.delaunay_location.specs.Candidate.{EndsNoNearer, HasNoNearerNeighbor, IsCandidate};
-ghost use Rattle.delaunay_location.specs.Candidate.{IsCandidateFrom, IsMoveCount};
-ghost use Rattle.delaunay_location.specs.Candidate.{IsNearerCandidate};
+ghost use Rattle.delaunay_location.specs.Candidate.{IsMoveCount, IsNearerCandidate, IsReached};
 
-use crate::parts::end_vertex;
+use crate::parts::{edge_clockwise, edge_counterclockwise, end_vertex, spoke_of, start_vertex};
 use crate::samples::nearer_sample;
 use crate::vertex_distance::distance_2_to;
 use delaunay_legalization::delaunay_core::point::{HasPosition, Point2};
@@ -96,15 +95,12 @@ fn first_candidate<V: HasPosition, DE, UE, F>(
     requires in_range { InRange (place_of V.Scalar.whole point) }
     requires fits { moves.old + nearer_count (triangulation_of V.place (state_of dcel.now))
         (fraction (place_of V.Scalar.whole point)) from < 2 ^ 64 }
-    ensures candidate { let points = map V.place dcel.now.vertices in
-        let p = place_of V.Scalar.whole point in
-        MatchOption result (HasNoNearerNeighbor points dcel.now.mesh p from)
-        (IsCandidateFrom points dcel.now.mesh p from) }
-    ensures counted { MatchOption result (moves.new ≡ moves.old)
-        (λ c. IsMoveCount (triangulation_of V.place (state_of dcel.now))
-        (place_of V.Scalar.whole point) from (origin dcel.now.mesh c.spoke) moves.old moves.new) }
+    ensures { let points = map V.place dcel.now.vertices in
+        let p = place_of V.Scalar.whole point in MatchOption result
+        (HasNoNearerNeighbor points dcel.now.mesh p from × (moves.new ≡ moves.old))
+        (IsReached points dcel.now.mesh p from moves.old moves.new) }
 {
-    let spoke = dcel.vertex(from).out_edge()?.fix();
+    let spoke = spoke_of(dcel, from)?;
     let distance_2 = distance_2_to(dcel, from, point);
     let end = end_vertex(dcel, spoke);
     match nearer_end(dcel, spoke, end, distance_2, point) {
@@ -138,7 +134,7 @@ fn nearer_neighbor<V: HasPosition, DE, UE, F>(
     let mut left = spoke;
     let mut right = spoke;
     loop {
-        let next = dcel.directed_edge(left).cw().fix();
+        let next = edge_clockwise(dcel, left);
         if next.index() == right.index() {
             return None;
         }
@@ -147,7 +143,7 @@ fn nearer_neighbor<V: HasPosition, DE, UE, F>(
             return Some(nearer);
         }
         left = next;
-        let next = dcel.directed_edge(right).ccw().fix();
+        let next = edge_counterclockwise(dcel, right);
         if next.index() == left.index() {
             return None;
         }
@@ -174,13 +170,11 @@ fn candidate_anywhere<V: HasPosition, DE, UE, F>(
         (place_of V.Scalar.whole point) from }
     requires fits { moves.old + nearer_count (triangulation_of V.place (state_of dcel.now))
         (fraction (place_of V.Scalar.whole point)) (origin dcel.now.mesh from.spoke) < 2 ^ 64 }
-    ensures candidate { IsCandidateFrom (map V.place dcel.now.vertices) dcel.now.mesh
-        (place_of V.Scalar.whole point) (origin dcel.now.mesh from.spoke) result }
-    ensures counted { IsMoveCount (triangulation_of V.place (state_of dcel.now))
-        (place_of V.Scalar.whole point) (origin dcel.now.mesh from.spoke)
-        (origin dcel.now.mesh result.spoke) moves.old moves.new }
+    ensures { IsReached (map V.place dcel.now.vertices) dcel.now.mesh
+        (place_of V.Scalar.whole point) (origin dcel.now.mesh from.spoke) moves.old moves.new
+        result }
 {
-    let vertex = dcel.directed_edge(from.spoke).from().fix();
+    let vertex = start_vertex(dcel, from.spoke);
     let sample = nearer_sample(dcel, vertex, point);
     if sample.index() == vertex.index() {
         return from;
@@ -225,7 +219,7 @@ fn nearest_from<V: HasPosition, DE, UE, F>(
             nearest = candidate_anywhere(dcel, nearest, point, moves);
         }
     }
-    dcel.directed_edge(nearest.spoke).from().fix()
+    start_vertex(dcel, nearest.spoke)
 }
 
 /// The vertex that is nearest to a position in range, by a walk from `start` to nearer neighbours

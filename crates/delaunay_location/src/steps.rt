@@ -1,14 +1,11 @@
 //! The steps of a walk from face to face towards a position.
-ghost use Rattle.std.specs.Prelude.{◌≡◌, ◌<◌, length, IsFalse};
-ghost use Rattle.delaunay_legalization.specs.half_edge_mesh.Mesh.{face, prev, rev};
-ghost use Rattle.delaunay_legalization.specs.Shape.{IsTriangulated};
-ghost use Rattle.delaunay_legalization.specs.State.{state_of};
-ghost use Rattle.delaunay_location.specs.Stop.{AreOtherSides, IsSideAt, IsStepOf, IsStopOf};
-ghost use Rattle.delaunay_location.specs.declared.steps.Step.TheVariants.{Beyond};
+ghost use Rattle.std.specs.Prelude.{◌≡◌, ◌<◌, length, map, IsFalse};
+ghost use Rattle.delaunay_legalization.specs.half_edge_mesh.Mesh.{face};
+ghost use Rattle.delaunay_legalization.specs.Parts.{IsMeshEdge};
+ghost use Rattle.delaunay_location.specs.Stop.{AreOtherSides, IsStepOf, IsStopOf};
 
 use crate::position_in_triangulation::PositionInTriangulation;
 use crate::search::Search;
-use delaunay_legalization::delaunay_core::line_side_info::LineSideInfo;
 use delaunay_legalization::delaunay_core::math::PlaneTests;
 use delaunay_legalization::delaunay_core::point::{HasPosition, Point2};
 use delaunay_legalization::half_edge_mesh::{FixedDirectedEdgeHandle, MeshViews};
@@ -33,54 +30,51 @@ pub(crate) enum Step<S> {
     OnSide,
 }
 
-// The step across an edge, into the face on its right.
-#[inline(always)]
-fn beyond<S>(side: Stop<S>) -> Step<S>
-    ensures { result ≡ Beyond (record { edge = rev side.edge; from = side.to; to = side.from }) }
-{
-    let Stop { edge, from, to } = side;
-    Step::Beyond(Stop {
-        edge: edge.rev(),
-        from: to,
-        to: from,
-    })
-}
-
 impl<'a, V: HasPosition, DE, UE, F, P: PlaneTests<V::Scalar>> Search<'a, V, DE, UE, F, P> {
-    // The walk's place in the face on the left of an edge.
-    pub(crate) fn stop_at(&self, edge: FixedDirectedEdgeHandle) -> Stop<V::Scalar>
+    // The positions of the ends of an edge.
+    #[inline(always)]
+    pub(crate) fn ends_of(
+        &self,
+        edge: FixedDirectedEdgeHandle,
+    ) -> (Point2<V::Scalar>, Point2<V::Scalar>)
         requires { edge < length self.now.dcel.directed }
-        ensures stop { IsStopOf V.place V.Scalar.whole self.now result }
-        ensures kept { IsTriangulated V.place (state_of self.now.dcel) }
+        ensures stop { IsStopOf V.place V.Scalar.whole P.covered self.now
+            (record { edge = edge; from = result.0; to = result.1 }) }
+        ensures edge { IsMeshEdge (map V.place self.now.dcel.vertices) self.now.dcel.mesh edge }
     {
         let placed = Placed {
             dcel: self.dcel,
             tests: self.tests,
         };
-        let (from, to) = placed.ends_of(edge);
-        Stop { edge, from, to }
+        placed.ends_of(edge)
+    }
+
+    // The step across an edge, into the face on its right.
+    #[inline(always)]
+    fn beyond(&self, side: Stop<V::Scalar>) -> Step<V::Scalar>
+        requires { IsStopOf V.place V.Scalar.whole P.covered self.now side }
+        ensures { IsStepOf V.place V.Scalar.whole P.covered self.now result }
+    {
+        self.dcel.recall_invariant();
+        let Stop { edge, from, to } = side;
+        Step::Beyond(Stop {
+            edge: edge.rev(),
+            from: to,
+            to: from,
+        })
     }
 
     // The way from an edge that has the outer face on its left to the position: the other direction
     // of the edge, unless the position is strictly on its left.
     fn way_in(&self, stop: Stop<V::Scalar>) -> Step<V::Scalar>
-        requires stop { IsStopOf V.place V.Scalar.whole self.now stop }
+        requires stop { IsStopOf V.place V.Scalar.whole P.covered self.now stop }
         requires outer { face self.now.dcel.mesh stop.edge ≡ 0 }
-        ensures { IsStepOf V.place V.Scalar.whole self.now result }
+        ensures { IsStepOf V.place V.Scalar.whole P.covered self.now result }
     {
         if turns_left(stop.from, stop.to, self.point, self.tests) {
             return Step::Found(PositionInTriangulation::OutsideOfConvexHull(stop.edge));
         }
-        beyond(stop)
-    }
-
-    // On which side of an edge the position is.
-    #[inline(always)]
-    pub(crate) fn side_at(&self, stop: Stop<V::Scalar>) -> LineSideInfo
-        requires { IsStopOf V.place V.Scalar.whole self.now stop }
-        ensures { IsSideAt V.place V.Scalar.whole self.now stop result }
-    {
-        self.tests.side(stop.from, stop.to, self.point)
+        self.beyond(stop)
     }
 
     // The step from the inner face on the left of an edge: across a side that has the position
@@ -93,28 +87,28 @@ impl<'a, V: HasPosition, DE, UE, F, P: PlaneTests<V::Scalar>> Search<'a, V, DE, 
         first: Stop<V::Scalar>,
         second: Stop<V::Scalar>,
     ) -> Step<V::Scalar>
-        requires stop { IsStopOf V.place V.Scalar.whole self.now stop }
-        requires first_stop { IsStopOf V.place V.Scalar.whole self.now first }
-        requires second_stop { IsStopOf V.place V.Scalar.whole self.now second }
+        requires stop { IsStopOf V.place V.Scalar.whole P.covered self.now stop }
+        requires first_stop { IsStopOf V.place V.Scalar.whole P.covered self.now first }
+        requires second_stop { IsStopOf V.place V.Scalar.whole P.covered self.now second }
         requires others { AreOtherSides self.now.dcel.mesh stop.edge first.edge second.edge }
         requires inner { 0 < face self.now.dcel.mesh stop.edge }
-        ensures { IsStepOf V.place V.Scalar.whole self.now result }
+        ensures { IsStepOf V.place V.Scalar.whole P.covered self.now result }
     {
-        let here = self.dcel.directed_edge(stop.edge);
-        let at_first = self.side_at(first);
+        let at_first = self.tests.side(first.from, first.to, self.point);
         if at_first.is_on_right_side() {
-            return beyond(first);
+            return self.beyond(first);
         }
-        let at_second = self.side_at(second);
+        let at_second = self.tests.side(second.from, second.to, self.point);
         if at_second.is_on_right_side() {
-            return beyond(second);
+            return self.beyond(second);
         }
-        let at_stop = self.side_at(stop);
+        let at_stop = self.tests.side(stop.from, stop.to, self.point);
         if at_stop.is_on_right_side() {
-            return beyond(stop);
+            return self.beyond(stop);
         }
         if at_first.is_on_left_side() && at_second.is_on_left_side() && at_stop.is_on_left_side() {
-            return Step::Found(PositionInTriangulation::OnFace(here.face().fix()));
+            let face = self.dcel.directed_edge(stop.edge).face().fix();
+            return Step::Found(PositionInTriangulation::OnFace(face));
         }
         Step::OnSide
     }
@@ -123,9 +117,9 @@ impl<'a, V: HasPosition, DE, UE, F, P: PlaneTests<V::Scalar>> Search<'a, V, DE, 
     // strictly on its right, or the end of the walk.
     #[inline(always)]
     fn way_through(&self, stop: Stop<V::Scalar>) -> Step<V::Scalar>
-        requires stop { IsStopOf V.place V.Scalar.whole self.now stop }
+        requires stop { IsStopOf V.place V.Scalar.whole P.covered self.now stop }
         requires inner { 0 < face self.now.dcel.mesh stop.edge }
-        ensures { IsStepOf V.place V.Scalar.whole self.now result }
+        ensures { IsStepOf V.place V.Scalar.whole P.covered self.now result }
     {
         let here = self.dcel.directed_edge(stop.edge);
         let Stop { from, to, .. } = stop;
@@ -159,8 +153,8 @@ impl<'a, V: HasPosition, DE, UE, F, P: PlaneTests<V::Scalar>> Search<'a, V, DE, 
     // The way out of a face near the hull, or from the outer face.
     #[inline(never)]
     fn way_near_hull(&self, stop: Stop<V::Scalar>) -> Step<V::Scalar>
-        requires { IsStopOf V.place V.Scalar.whole self.now stop }
-        ensures { IsStepOf V.place V.Scalar.whole self.now result }
+        requires { IsStopOf V.place V.Scalar.whole P.covered self.now stop }
+        ensures { IsStepOf V.place V.Scalar.whole P.covered self.now result }
     {
         if self.dcel.directed_edge(stop.edge).is_outer_edge() {
             return self.way_in(stop);
@@ -177,8 +171,8 @@ impl<'a, V: HasPosition, DE, UE, F, P: PlaneTests<V::Scalar>> Search<'a, V, DE, 
     // next step does not wait for its own.
     #[inline(always)]
     pub(crate) fn way_out(&self, stop: Stop<V::Scalar>) -> Step<V::Scalar>
-        requires { IsStopOf V.place V.Scalar.whole self.now stop }
-        ensures { IsStepOf V.place V.Scalar.whole self.now result }
+        requires { IsStopOf V.place V.Scalar.whole P.covered self.now stop }
+        ensures { IsStepOf V.place V.Scalar.whole P.covered self.now result }
     {
         if self.is_near_hull(stop.edge) {
             return self.way_near_hull(stop);

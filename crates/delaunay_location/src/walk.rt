@@ -8,16 +8,17 @@ ghost use Rattle.delaunay_location.specs.Location.{Locates};
 ghost use Rattle.delaunay_location.specs.Search.{IsPlaceOf};
 ghost use Rattle.delaunay_location.specs.Stop.{IsWalkOf};
 
+use crate::parts::start_vertex;
 use crate::position_in_triangulation::PositionInTriangulation;
 use crate::samples::nearer_sample;
 use crate::search::Search;
-use crate::steps::Step;
+use crate::steps::{Step, Stop};
 use delaunay_legalization::delaunay_core::math::PlaneTests;
 use delaunay_legalization::delaunay_core::point::{HasPosition, Point2};
 use delaunay_legalization::half_edge_mesh::{
     Dcel, FixedDirectedEdgeHandle, FixedVertexHandle, MeshViews,
 };
-use delaunay_legalization::{Placed, is_same_point, is_strictly_within};
+use delaunay_legalization::{is_same_point, is_strictly_within};
 
 // After so many steps a walk looks for a nearer vertex anywhere in the mesh.
 pub(crate) const FEW_STEPS: usize = 16;
@@ -39,13 +40,9 @@ impl<'a, V: HasPosition, DE, UE, F, P: PlaneTests<V::Scalar>> Search<'a, V, DE, 
         requires { edge < length self.now.dcel.directed }
         ensures { IfSome result (IsPlaceOf V.place self.now) }
     {
-        let placed = Placed {
-            dcel: self.dcel,
-            tests: self.tests,
-        };
-        let (from, to) = placed.ends_of(edge);
+        let (from, to) = self.ends_of(edge);
         if is_same_point(from, self.point) {
-            let vertex = self.dcel.directed_edge(edge).from().fix();
+            let vertex = start_vertex(self.dcel, edge);
             return Some(PositionInTriangulation::OnVertex(vertex));
         }
         if is_same_point(to, self.point) {
@@ -78,7 +75,12 @@ impl<'a, V: HasPosition, DE, UE, F, P: PlaneTests<V::Scalar>> Search<'a, V, DE, 
         requires { start < length self.now.dcel.directed }
         ensures { IsWalkOf V.place self.now result }
     {
-        let mut stop = self.stop_at(start);
+        let (from, to) = self.ends_of(start);
+        let mut stop = Stop {
+            edge: start,
+            from,
+            to,
+        };
         for _ in 0..steps {
             let edge = stop.edge;
             match self.way_out(stop) {
@@ -134,7 +136,7 @@ pub(crate) fn nearer_edge<V: HasPosition, DE, UE, F>(
     requires in_range { InRange (place_of V.Scalar.whole point) }
     ensures { result < length dcel.now.directed }
 {
-    let from = dcel.directed_edge(other).from().fix();
+    let from = start_vertex(dcel, other);
     let nearest = nearer_sample(dcel, from, point);
     match dcel.vertex(nearest).out_edge() {
         Some(edge) if nearest != from => edge.fix(),

@@ -1,25 +1,23 @@
-use Rattle.std.proofs.Common.{◌^◌, ap, arith}
-use Rattle.delaunay_legalization.specs.half_edge_mesh.Mesh.{origin}
-use Rattle.delaunay_legalization.proofs.OppositeSides.{link_read}
-use Rattle.delaunay_location.proofs.Candidates.{candidate_from_other, move_to_found}
-use Rattle.delaunay_location.proofs.Neighbours.{counted_after, moves_fit, room_there}
+use Rattle.std.proofs.Common.{◌^◌, arith}
+use Rattle.delaunay_location.proofs.Candidates.{move_to_found}
+use Rattle.delaunay_location.proofs.Neighbours.{counted_after, moves_fit, none_counted, room_there}
 use Rattle.delaunay_location.proofs.nearest_walk.candidate_anywhere.Goals as goal
+
+pub returns-then-index : goal.returns-then-index
+returns-then-index g c = record { candidate = c.requires.from; counted = none_counted }
 
 pub first_candidate-requires-clause-fits : goal.first_candidate-requires-clause-fits
 first_candidate-requires-clause-fits g c =
     let sample = c.nearer_sample-sample.ensures in
     room_there (move_to_found c.requires.kept c.requires.from sample.within sample.nearer
-    (link_read origin _ _ _ _ _ _ c.fix-vertex.ensures.value c.from.ensures.index
-    (ap (λ d. d.now.mesh) c.directed_edge.ensures.dcel) c.directed_edge.ensures.index)
-    c.index.ensures c.index-2.ensures c.if-index.false) c.args.moves.now (2 ^ 64) c.requires.fits
+    c.start_vertex-vertex.ensures.value c.index.ensures c.index-2.ensures c.if-index.false)
+    c.args.moves.now (2 ^ 64) c.requires.fits
 
 pub overflow_add-moves : goal.overflow_add-moves
 overflow_add-moves g c =
     let sample = c.nearer_sample-sample.ensures in
     let move = move_to_found c.requires.kept c.requires.from sample.within sample.nearer
-    (link_read origin _ _ _ _ _ _ c.fix-vertex.ensures.value c.from.ensures.index
-    (ap (λ d. d.now.mesh) c.directed_edge.ensures.dcel) c.directed_edge.ensures.index)
-    c.index.ensures c.index-2.ensures c.if-index.false in
+    c.start_vertex-vertex.ensures.value c.index.ensures c.index-2.ensures c.if-index.false in
     let fits = moves_fit (counted_after move c.in-Some.ensures.counted) (2 ^ 64) c.requires.fits in
     omega (arith, fits)
 
@@ -27,10 +25,8 @@ pub returns-in-Some : goal.returns-in-Some
 returns-in-Some g c =
     let sample = c.nearer_sample-sample.ensures in
     let move = move_to_found c.requires.kept c.requires.from sample.within sample.nearer
-    (link_read origin _ _ _ _ _ _ c.fix-vertex.ensures.value c.from.ensures.index
-    (ap (λ d. d.now.mesh) c.directed_edge.ensures.dcel) c.directed_edge.ensures.index)
-    c.index.ensures c.index-2.ensures c.if-index.false in
+    c.start_vertex-vertex.ensures.value c.index.ensures c.index-2.ensures c.if-index.false in
     record {
-      candidate = candidate_from_other c.in-Some.ensures.candidate move.nearer;
+      candidate = c.in-Some.ensures.candidate;
       counted = counted_after move c.in-Some.ensures.counted;
     }

@@ -10,24 +10,21 @@ use Rattle.delaunay_location.proofs.nearest_walk.nearest_by_neighbors.Goals as g
 pub first_candidate-requires-clause-fits : goal.first_candidate-requires-clause-fits
 first_candidate-requires-clause-fits g c =
     room_at (triangulation_of g.V.HasPosition.place (state_of c.args.dcel.now))
-    (place_of g.V.Scalar.SpadeNum.whole c.args.point) c.args.start _
-    (length-map c.args.dcel.now.vertices g.V.HasPosition.place) c.requires.within
-    c.args.moves.now (2 ^ 64) c.requires.fits
+    (place_of g.V.Scalar.SpadeNum.whole c.args.point) (length-map c.args.dcel.now.vertices _)
+    c.requires.within _ _ c.requires.fits
 
 pub nearest_from-requires-clause-fits : goal.nearest_from-requires-clause-fits
-nearest_from-requires-clause-fits g c =
-    room_stays c.in-Some.ensures.counted (2 ^ 64)
+nearest_from-requires-clause-fits g c = room_stays c.in-Some.ensures.counted (2 ^ 64)
     (room_at (triangulation_of g.V.HasPosition.place (state_of c.args.dcel.now))
-    (place_of g.V.Scalar.SpadeNum.whole c.args.point) c.args.start _
-    (length-map c.args.dcel.now.vertices g.V.HasPosition.place) c.requires.within
-    c.args.moves.now (2 ^ 64) c.requires.fits)
+    (place_of g.V.Scalar.SpadeNum.whole c.args.point) (length-map c.args.dcel.now.vertices _)
+    c.requires.within _ _ c.requires.fits)
 
 pub returns-in-Some-clause-counted : goal.returns-in-Some-clause-counted
 returns-in-Some-clause-counted g c =
-    fewer_moves _ _ c.args.start _ (length-map c.args.dcel.now.vertices g.V.HasPosition.place)
-    c.requires.within (more_counted c.in-Some.ensures.counted c.nearest_from.ensures.counted)
+    fewer_moves _ _ (length-map c.args.dcel.now.vertices _) c.requires.within
+    (more_counted c.in-Some.ensures.counted c.nearest_from.ensures.counted)
 
 pub returns-in-None-clause-nearest : goal.returns-in-None-clause-nearest
 returns-in-None-clause-nearest g c =
     nearest_by_neighbours _ c.requires.delaunay _ c.args.start
-    (place_within g.V.HasPosition.place _ _ c.requires.within) c.in-None.ensures.candidate
+    (place_within _ _ _ c.requires.within) c.in-None.ensures.0

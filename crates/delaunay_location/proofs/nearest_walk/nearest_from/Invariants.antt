@@ -4,16 +4,13 @@ use Rattle.delaunay_legalization.specs.plane.Fraction.{whole}
 use Rattle.plane_delaunay.specs.Nearer.{nearer_count}
 use Rattle.delaunay_legalization.specs.delaunay_core.Place.{place_of}
 use Rattle.delaunay_legalization.specs.State.{state_of, triangulation_of}
-use Rattle.delaunay_location.specs.Candidate.{IsCandidate, IsMoveCount}
+use Rattle.delaunay_location.specs.Candidate.{IsReached}
 use Rattle.delaunay_location.proofs.nearest_walk.nearest_from.Given as goal
 
 abbrev pub invariant-loop-nearer : goal.invariant-loop-nearer
-invariant-loop-nearer g l =
-    IsCandidate (map g.V.HasPosition.place l.dcel.vertices) l.dcel.mesh
-    (place_of g.V.Scalar.SpadeNum.whole l.point)
-    l.nearest × IsMoveCount (triangulation_of g.V.HasPosition.place (state_of l.dcel))
-    (place_of g.V.Scalar.SpadeNum.whole l.point) (origin l.dcel.mesh l.fn.start.spoke)
-    (origin l.dcel.mesh l.nearest.spoke) l.fn.moves l.moves
+invariant-loop-nearer g l = IsReached (map g.V.HasPosition.place l.dcel.vertices) l.dcel.mesh
+    (place_of g.V.Scalar.SpadeNum.whole l.point) (origin l.dcel.mesh l.fn.start.spoke) l.fn.moves
+    l.moves l.nearest
 
 abbrev pub decreases-loop-nearer : goal.decreases-loop-nearer
 decreases-loop-nearer g l = nearer_count (triangulation_of g.V.HasPosition.place (state_of l.dcel))

@@ -21,4 +21,5 @@ returns g c =
     let d = c.self.inside.dcel.now in
     let corners = c.corners_of-a.ensures in
     rw (← c.self.view_is) (both_iff c.is_strictly_inside.ensures
-    (inside_face (map g.V.HasPosition.place d.vertices) d.mesh _ _ _ _ c.args.face corners.first corners.second corners.third))
+    (inside_face (map g.V.HasPosition.place d.vertices) d.mesh _ _ _ _ c.args.face
+    corners.first corners.second corners.third))

@@ -7,32 +7,26 @@ use Rattle.delaunay_location.proofs.search.Search.place_at_edge.Goals as goal
 
 pub is_strictly_within-requires-clause-not_from : goal.is_strictly_within-requires-clause-not_from
 is_strictly_within-requires-clause-not_from g c same =
-    let ends = c.ends_of.ensures in
-    (rw (← c.self.view_is) at c.requires.apart).apart _ ends.edge.source (sym ends.from ∙ sym same)
+    let ends = rw (← c.self.view_is) at c.ends_of.ensures in
+    (rw (← c.self.view_is) at c.requires.apart).apart _ ends.edge.source
+    (sym ends.stop.from ∙ sym same)
 
 pub is_strictly_within-requires-clause-not_to : goal.is_strictly_within-requires-clause-not_to
 is_strictly_within-requires-clause-not_to g c same =
-    let ends = c.ends_of.ensures in
-    (rw (← c.self.view_is) at c.requires.apart).apart _ ends.edge.target (sym ends.to ∙ sym same)
-
-pub turns_left-requires : goal.turns_left-requires
-turns_left-requires g c = record {
-  a_covered = g.met.P.PlaneTests.sites_are_covered _ _ c.ends_of.ensures.from_site;
-  b_covered = g.met.P.PlaneTests.sites_are_covered _ _ c.ends_of.ensures.to_site;
-  c_covered = c.self.invariant.covered;
-}
+    let ends = rw (← c.self.view_is) at c.ends_of.ensures in
+    (rw (← c.self.view_is) at c.requires.apart).apart _ ends.edge.target
+    (sym ends.stop.to ∙ sym same)
 
 pub returns-then-turns_left : goal.returns-then-turns_left
 returns-then-turns_left g c =
-    let ends = c.ends_of.ensures in
-    let is_bare = c.is_outer.ensures.0 c.if-is_outer.true in
-    let is_left = c.turns_left.ensures.0 c.if-turns_left.true in
-    rw (← c.self.view_is) (located_left _ _ _ _ _ _ ends.from ends.to ends.edge is_bare is_left)
+    let ends = rw (← c.self.view_is) at c.ends_of.ensures in
+    rw (← c.self.view_is) (located_left _ _ _ _ _ _ ends.stop.from ends.stop.to ends.edge
+    (c.is_outer.ensures.0 c.if-is_outer.true) (c.turns_left.ensures.0 c.if-turns_left.true))
 
 pub returns : goal.returns
 returns g c =
-    let ends = c.ends_of.ensures in
-    rw (← c.self.view_is) (clear _ _ _ _ _ _ ends.from ends.to
+    let ends = rw (← c.self.view_is) at c.ends_of.ensures in
+    rw (← c.self.view_is) (clear _ _ _ _ _ _ ends.stop.from ends.stop.to
     (λ w. both_ways _ (c.is_strictly_within.ensures.1 w) c.if-is_strictly_within.false)
     (λ l. elim c.else-is_outer.branch [
       | else-is_outer-via-then-is_outer+else-turns_left w ↦

@@ -5,21 +5,21 @@ use Rattle.delaunay_location.proofs.search.Search.place_past.Goals as goal
 
 pub is_strictly_within-requires : goal.is_strictly_within-requires
 is_strictly_within-requires g c =
-    let ends = c.ends_of.ensures in
+    let ends = rw (← c.self.view_is) at c.ends_of.ensures in
     record {
       from_covered = c.self.invariant.covered;
-      to_covered = g.met.P.PlaneTests.sites_are_covered _ _ ends.to_site;
-      point_covered = g.met.P.PlaneTests.sites_are_covered _ _ ends.from_site;
-      ends_apart = λ e. both_ways _ (c.is_same_point-2.ensures.1 (sym e))
+      to_covered = ends.stop.to_covered;
+      point_covered = ends.stop.from_covered;
+      ends_apart = λ e. both_ways _ (c.is_same_point-else-is_same_point.ensures.1 (sym e))
           c.if-is_same_point-2.false;
       not_from = λ e. both_ways _ (c.is_same_point.ensures.1 e) c.if-is_same_point.false;
-      not_to = λ e. ends.edge.apart (sym ends.from ∙ e ∙ ends.to);
+      not_to = λ e. ends.edge.apart (sym ends.stop.from ∙ e ∙ ends.stop.to);
     }
 
 pub returns-then-is_strictly_within : goal.returns-then-is_strictly_within
 returns-then-is_strictly_within g c =
-    let ends = c.ends_of.ensures in
-    rw (← c.self.view_is) (located_past c.self.invariant.kept _
-    (rw (← c.self.view_is) at c.requires.line) _ (rw (← c.self.view_is) at c.requires.within)
-    (rw (← c.self.view_is) at c.requires.alone) _ _ ends.from ends.to
+    let ends = rw (← c.self.view_is) at c.ends_of.ensures in
+    let given = rw (← c.self.view_is) at c.requires in
+    rw (← c.self.view_is) (located_past c.self.invariant.kept _ given.line _ given.within
+    given.alone _ _ ends.stop.from ends.stop.to
     (c.is_strictly_within.ensures.0 c.if-is_strictly_within.true))
