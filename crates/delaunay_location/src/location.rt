@@ -56,8 +56,12 @@ fn edge_from_nearest<V: HasPosition, DE, UE, F>(
     let mut nearest = FixedDirectedEdgeHandle::from_index(0);
     for index in 1..dcel.num_directed_edges() {
         let edge = FixedDirectedEdgeHandle::from_index(index as u32);
-        let (start, other) = (start_vertex(dcel, edge), start_vertex(dcel, nearest));
-        if is_nearer(dcel, start, other, point) {
+        if is_nearer(
+            dcel,
+            start_vertex(dcel, edge),
+            start_vertex(dcel, nearest),
+            point,
+        ) {
             nearest = edge;
         }
     }

@@ -7,7 +7,6 @@ use delaunay_legalization::half_edge_mesh::{
 };
 
 // The vertex where an edge starts.
-#[inline(always)]
 pub(crate) fn start_vertex<V, DE, UE, F>(
     dcel: &Dcel<V, DE, UE, F>,
     edge: FixedDirectedEdgeHandle,
@@ -20,7 +19,6 @@ pub(crate) fn start_vertex<V, DE, UE, F>(
 }
 
 // An edge that starts at a vertex, if there is one.
-#[inline(always)]
 pub(crate) fn spoke_of<V, DE, UE, F>(
     dcel: &Dcel<V, DE, UE, F>,
     vertex: FixedVertexHandle,
@@ -34,7 +32,6 @@ pub(crate) fn spoke_of<V, DE, UE, F>(
 }
 
 // The vertex where an edge ends.
-#[inline(always)]
 pub(crate) fn end_vertex<V, DE, UE, F>(
     dcel: &Dcel<V, DE, UE, F>,
     edge: FixedDirectedEdgeHandle,
@@ -47,7 +44,6 @@ pub(crate) fn end_vertex<V, DE, UE, F>(
 }
 
 // The next edge clockwise round the vertex where an edge starts.
-#[inline(always)]
 pub(crate) fn edge_clockwise<V, DE, UE, F>(
     dcel: &Dcel<V, DE, UE, F>,
     edge: FixedDirectedEdgeHandle,
@@ -60,7 +56,6 @@ pub(crate) fn edge_clockwise<V, DE, UE, F>(
 }
 
 // The next edge counterclockwise round it.
-#[inline(always)]
 pub(crate) fn edge_counterclockwise<V, DE, UE, F>(
     dcel: &Dcel<V, DE, UE, F>,
     edge: FixedDirectedEdgeHandle,

@@ -42,8 +42,7 @@ impl<'a, V: HasPosition, DE, UE, F, P: PlaneTests<V::Scalar>> Search<'a, V, DE, 
     {
         let (from, to) = self.ends_of(edge);
         if is_same_point(from, self.point) {
-            let vertex = start_vertex(self.dcel, edge);
-            return Some(PositionInTriangulation::OnVertex(vertex));
+            return Some(PositionInTriangulation::OnVertex(start_vertex(self.dcel, edge)));
         }
         if is_same_point(to, self.point) {
             return None;
@@ -71,16 +70,12 @@ impl<'a, V: HasPosition, DE, UE, F, P: PlaneTests<V::Scalar>> Search<'a, V, DE, 
     }
 
     // Where a walk from an edge ends, or is after a number of steps.
-    fn walk_on(&self, start: FixedDirectedEdgeHandle, steps: usize) -> Walked
-        requires { start < length self.now.dcel.directed }
+    fn walk_on(&self, edge: FixedDirectedEdgeHandle, steps: usize) -> Walked
+        requires { edge < length self.now.dcel.directed }
         ensures { IsWalkOf V.place self.now result }
     {
-        let (from, to) = self.ends_of(start);
-        let mut stop = Stop {
-            edge: start,
-            from,
-            to,
-        };
+        let (from, to) = self.ends_of(edge);
+        let mut stop = Stop { edge, from, to };
         for _ in 0..steps {
             let edge = stop.edge;
             match self.way_out(stop) {

@@ -19,7 +19,7 @@ is_strictly_within-requires g c =
 pub returns-then-is_same_point : goal.returns-then-is_same_point
 returns-then-is_same_point g c =
     let ends = rw (← c.self.view_is) at c.ends_of.ensures in
-    let vertex = c.start_vertex-vertex.ensures in
+    let vertex = c.start_vertex.ensures in
     rw (← c.self.view_is) (at_vertex _ _ c.self.invariant.kept _ _ vertex.within
     (rw vertex.value (sym ends.stop.from ∙ c.is_same_point.ensures.0 c.if-is_same_point.true)))
 
