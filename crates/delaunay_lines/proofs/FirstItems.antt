@@ -26,6 +26,7 @@ use Rattle.plane_segments.proofs.First.FaceStarts.{first_from_a_face}
 use Rattle.plane_segments.proofs.First.LineStarts.{equal_ends}
 use Rattle.plane_segments.proofs.Walking.WalkSteps.{line_list_is_the_walk}
 use Rattle.delaunay_location.specs.mesh_embedding.Drawn.{drawn}
+use Rattle.delaunay_location.specs.delaunay_legalization.Known.{point_at}
 use Rattle.delaunay_lines.specs.declared.intersection.FixedIntersection.{FixedIntersection}
 use Rattle.delaunay_lines.specs.declared.intersection.FixedIntersection.TheVariants.{
   Edge,
@@ -137,20 +138,24 @@ module _ {V D U F : Type 0} {at : V → Point} {IsSite IsCovered : Point → Typ
           twice (law.1 s))
 
       -- with q ahead on its line it starts along the edge
-      pub along_edge : side (start h) (start (rev h)) (whole q) ≡ on
-          → IsAhead (whole p) (start (rev h)) (whole q) → Starts at c p q (Some (Overlap h))
-      along_edge s a = starts_first apart (Overlap h) within (law.2 s a)
+      pub along_edge : {end : Point} → end ≡ point_at points (origin m (rev h))
+          → side (start h) (start (rev h)) (whole q) ≡ on
+          → IsAhead (whole p) (whole end) (whole q) → Starts at c p q (Some (Overlap h))
+      along_edge is s a = starts_first apart (Overlap h) within
+          (law.2 s (subst (λ (z : Point). IsAhead (whole p) (whole z) (whole q)) is a))
 
       -- with q behind on its line it starts along the twin
-      pub along_twin : rev h < length c.directed → side (start h) (start (rev h)) (whole q) ≡ on →
-          ¬ IsAhead (whole p) (start (rev h)) (whole q) → Starts at c p q (Some (Overlap (rev h)))
-      along_twin r s n = starts_first apart (Overlap (rev h)) r
+      pub along_twin : {end : Point} → end ≡ point_at points (origin m (rev h))
+          → rev h < length c.directed → side (start h) (start (rev h)) (whole q) ≡ on →
+          ¬ IsAhead (whole p) (whole end) (whole q) → Starts at c p q (Some (Overlap (rev h)))
+      along_twin is r s n = starts_first apart (Overlap (rev h)) r
           (subst (λ (x : ℕ). IsFirst t (whole p) (whole q) (along (origin m (rev h)) x)) twice
           (back (side_swapped (start h) (start (rev h)) (whole q) ∙ ap opposite s) (go (law.3 s))))
         where
           go : IsAhead (whole p) (start (rev h)) (whole q) ⊎ IsAhead (whole p) (start h) (whole q) →
               IsAhead (whole p) (start h) (whole q)
-          go (inl a) = absurd (n a)
+          go (inl a) =
+              absurd (n (subst (λ (z : Point). IsAhead (whole p) (whole z) (whole q)) (sym is) a))
           go (inr a) = a
 
   -- ---- strictly inside a face
@@ -230,29 +235,29 @@ module _ {V D U F : Type 0} {at : V → Point} {IsSite IsCovered : Point → Typ
               (((side (whole p) (whole q) B ≢ left) × (side (whole p) (whole q) C ≡ left)) ⊎
               ((side (whole p) (whole q) C ≢ left) × (side (whole p) (whole q) A ≡ left))) →
               GoesOver points m p q (prev m h)
-          go (inl x) = absurd (first (record { start = x.0; end = x.1 }))
-          go (inr (inl x)) = absurd (second (record {
-            start = subst (λ (k : ℕ). side (whole p) (whole q) (place points k) ≢ left)
-                (sym (over.mesh.valid.sound.edges h w).starts) x.0;
-            end = subst (λ (k : ℕ). side (whole p) (whole q) (place points k) ≡ left)
-                (sym (twin_of_next over h w i.inner)) x.1;
-          }))
-          go (inr (inr x)) = record {
-            start = x.0;
-            end = subst (λ (k : ℕ). side (whole p) (whole q) (place points k) ≡ left)
-                (sym (twin_of_prev over h w i.inner)) x.1;
-          }
+          go (inl x) = absurd (first x)
+          go (inr (inl x)) = absurd (second (
+            subst (λ (k : ℕ). side (whole p) (whole q) (place points k) ≢ left)
+                (sym (over.mesh.valid.sound.edges h w).starts) x.0,
+            subst (λ (k : ℕ). side (whole p) (whole q) (place points k) ≡ left)
+                (sym (twin_of_next over h w i.inner)) x.1,
+          ))
+          go (inr (inr x)) = (
+            x.0,
+            subst (λ (k : ℕ). side (whole p) (whole q) (place points k) ≡ left)
+                (sym (twin_of_prev over h w i.inner)) x.1,
+          )
 
       module _ (o : GoesOver points m p q h) where
         -- with q on the left of this side the walk meets nothing
         pub ends_in_face : IsLeftOf points m q h → Starts at c p q None
-        ends_in_face l = nothing_met apart ((face_law.0 o.end).0 o.start l)
+        ends_in_face l = nothing_met apart ((face_law.0 o.1).0 o.0 l)
 
         -- with q beyond it, and its start on the way, the walk starts at this vertex
         pub through_start : ¬ IsLeftOf points m q h → side (whole p) (whole q) A ≡ on
             → origin m h < length c.vertices → Starts at c p q (Some (Vertex (origin m h)))
         through_start n s v_in =
-            starts_first apart (Vertex (origin m h)) v_in ((face_law.0 o.end).1 s n)
+            starts_first apart (Vertex (origin m h)) v_in ((face_law.0 o.1).1 s n)
 
         -- with q beyond it, and its start off the way, the walk starts by crossing its twin
         pub through_side : rev h < length c.directed → ¬ IsLeftOf points m q h
@@ -260,7 +265,7 @@ module _ {V D U F : Type 0} {at : V → Point} {IsSite IsCovered : Point → Typ
         through_side r n s = starts_first apart (Edge (rev h)) r
             (subst (λ (x : ℕ). IsFirst t (whole p) (whole q) (across (origin m (rev h)) x))
             (ap (origin m) (sym (rev-rev h)))
-            ((face_law.0 o.end).2 (below (side (whole p) (whole q) A) o.start s) n))
+            ((face_law.0 o.1).2 (below (side (whole p) (whole q) A) o.0 s) n))
           where
             below : (z : Side) → z ≢ left → z ≢ on → z ≡ right
             below left a b = absurd (a (λ _. left))

@@ -1,6 +1,7 @@
 -- Where a segment starts, by the answer to where its start is.
 -- Lemmas: on_that_vertex, inside_that_face, none_past, outside_that_edge, without_triangulation.
-use Rattle.std.proofs.Common.{◌≡◌, ℕ, ◌<◌, ◌≤◌, List, length, map, sym, subst, inl, inr, arith}
+use Rattle.std.proofs.Common.{◌≡◌, ℕ, ◌<◌, ◌≤◌, List, length, map, Some}
+use Rattle.std.proofs.Common.{sym, subst, inl, inr, arith}
 use Rattle.delaunay_location.specs.half_edge_mesh.Mesh.{Mesh, origin, prev, face_edge, rev}
 use Rattle.delaunay_location.specs.half_edge_mesh.Contents.{Contents}
 use Rattle.delaunay_location.specs.plane.Fraction.{Point, whole, IsSame, OnSegment, WithinSegment}
@@ -32,6 +33,9 @@ use Rattle.delaunay_location.specs.declared.position_in_triangulation.PositionIn
 use Rattle.delaunay_location.specs.Location.{Locates}
 use Rattle.delaunay_lines.specs.Starts.{StartsInside, StartsOutside}
 use Rattle.delaunay_lines.specs.Steps.{IsOverMesh}
+use Rattle.delaunay_lines.specs.declared.intersection.FixedIntersection.TheVariants.{Vertex}
+use Rattle.delaunay_lines.specs.Walk.{Starts}
+use Rattle.delaunay_lines.proofs.Advance.{starts_at_vertex}
 use Rattle.delaunay_lines.proofs.MeshSteps.{start_in}
 
 -- neither on a vertex, nor on an edge, nor in a face
@@ -73,13 +77,12 @@ module _ {V D U F : Type 0} {at : V → Point} {IsSite IsCovered : Point → Typ
   one = (each_point_has_one_location points (faces_of m) (outer_of m) (edges_of m) over.shape
       (own_edges m over.mesh.valid) (whole p)).1
 
-  -- located on a vertex, p is where this vertex is
+  -- located on a vertex, p is where this vertex is, and the walk starts there
   pub on_that_vertex : (v : ℕ) → Locates points m p (OnVertex v)
-      → (v < length c.vertices) × (point_at points v ≡ p)
-  on_that_vertex v l = (
-    subst (λ (n : ℕ). v < n) (sym over.mesh.fits.vertices_fit) l.handle,
-    sym (one_point p (point_at points v) l.location.1),
-  )
+      → Starts at c p q (Some (Vertex v))
+  on_that_vertex v l = starts_at_vertex over v
+      (subst (λ (n : ℕ). v < n) (sym over.mesh.fits.vertices_fit) l.handle)
+      (one_point p (point_at points v) l.location.1)
 
   -- located in a face, p is strictly inside it
   pub inside_that_face : (f : ℕ) → Locates points m p (OnFace f)

@@ -1,8 +1,8 @@
 -- From an item that a segment meets to the next, by the links of a mesh.
--- Lemmas: over_value, positive, laid, in_mesh, of_mesh, joined, tiles_with, bare, face_at, start_in,
--- ends_apart, twin_of_prev, twin_of_next, last_at_edge, through_right, through_left, ends_inside,
--- at_corner, last_within_overlap, end_of_overlap, last_at_end, last_if_none_leads, along_ahead,
--- into_face, not_same.
+-- Lemmas: over_value, not_same, positive, laid, in_mesh, of_mesh, joined, tiles_with, bare,
+-- face_at, start_in, ends_apart, twin_of_prev, twin_of_next, last_at_edge, through_right,
+-- through_left, ends_inside, at_corner, last_within_overlap, end_of_overlap, last_at_end,
+-- last_if_none_leads, along_ahead, into_face.
 use Rattle.std.proofs.Common.{◌≡◌, ◌≢◌, ◌⊎◌, ◌↔◌, ◌<◌, ◌∙◌}
 use Rattle.std.proofs.Common.{ℕ, List, length, map, Option, Some, None, sym, ap, subst}
 use Rattle.std.proofs.Common.{inl, inr, arith}
@@ -14,6 +14,7 @@ use Rattle.delaunay_location.proofs.half_edge_links.Sound.Triangles as T
 use Rattle.delaunay_location.specs.half_edge_mesh.Contents.{Contents}
 use Rattle.delaunay_location.specs.plane.Fraction.{Point, Fraction, whole, IsSame, WithinSegment}
 use Rattle.delaunay_location.specs.plane.Side.{Side, side, left, right, on}
+use Rattle.delaunay_location.proofs.plane.Segments.{same-refl}
 use Rattle.delaunay_location.specs.plane.Pairs.{place}
 use Rattle.delaunay_location.specs.plane.Tiling.{Triangulation, IsEdge, IsFace, HasFace, TilesHull}
 use Rattle.delaunay_location.specs.plane.Line.{Item, Meets, at_vertex, across, along}
@@ -47,6 +48,10 @@ pub over_value : {V D U F P : Type 0} {at : V → Point} {IsSite IsCovered : Poi
 over_value {V = V} {D = D} {U = U} {F = F} {P = P} {at = at} {IsSite = IsSite}
     {IsCovered = IsCovered} same over = subst (λ (s : Spanning V D U F P).
     IsOverMesh at IsSite IsCovered s.dcel s.from s.to) same over
+
+-- different points are not at the same place of the plane
+pub not_same : (p q : Point) → p ≢ q → ¬ IsSame (whole p) (whole q)
+not_same p q n e = n (one_point p q e)
 
 -- a number that is not 0 is positive
 pub positive : (n : ℕ) → (n ≡ 0 → ⊥) → 0 < n
@@ -319,13 +324,20 @@ module _ {V D U F : Type 0} {at : V → Point} {IsSite IsCovered : Point → Typ
     -- ---- after a vertex
     module _ (v : ℕ) (met : Met (at_vertex v)) where
       -- the vertex at q is the last item
-      pub last_at_end : IsSame (place points v) (whole q) → Last (at_vertex v)
-      last_at_end x = elim laid [
-        | inl tiles ↦ (next_after_vertex t tiles (whole p) (whole q) ways_apart v met).0 x
-        | inr l ↦ (next_on_line t l.0 l.1 l.2 (whole p) (whole q) ways_apart v met).0 x
+      pub last_at_end : point_at points v ≡ q → Last (at_vertex v)
+      last_at_end is = elim laid [
+        | inl tiles ↦ (next_after_vertex t tiles (whole p) (whole q) ways_apart v met).0 same
+        | inr l ↦ (next_on_line t l.0 l.1 l.2 (whole p) (whole q) ways_apart v met).0 same
       ]
+        where
+          same : IsSame (place points v) (whole q)
+          same = subst (λ (z : Point). IsSame (place points v) (whole z)) is
+              (same-refl (place points v))
 
-      module _ (before_end : ¬ IsSame (place points v) (whole q)) where
+      module _ (differs : point_at points v ≢ q) where
+        before_end : ¬ IsSame (place points v) (whole q)
+        before_end = not_same (point_at points v) q differs
+
         -- before q, a vertex is the last item if no edge from it leads towards q
         pub last_if_none_leads : ((h : ℕ) → h < length c.directed → origin m h ≡ v
             → ¬ LeadsOn points m q h) → Last (at_vertex v)
@@ -367,7 +379,10 @@ module _ {V D U F : Type 0} {at : V → Point} {IsSite IsCovered : Point → Typ
 
     -- where directed edge h starts at the vertex
     module _ (h : ℕ) (within : h < length c.directed) (met : Met (at_vertex (origin m h)))
-        (before_end : ¬ IsSame (start h) (whole q)) where
+        (differs : point_at points (origin m h) ≢ q) where
+      still_apart : ¬ IsSame (start h) (whole q)
+      still_apart = not_same (point_at points (origin m h)) q differs
+
       -- edge h is one of the mesh
       v_in : h < length m.half_edges
       v_in = in_mesh h within
@@ -378,11 +393,11 @@ module _ {V D U F : Type 0} {at : V → Point} {IsSite IsCovered : Point → Typ
         | inl tiles ↦ (next_after_vertex t tiles (whole p) (whole q) ways_apart (origin m h) met).1
             (origin m (rev h))
             (overlap_ahead t tiles (whole p) (whole q) ways_apart (origin m h)
-            (origin m (rev h)) met before_end
+            (origin m (rev h)) met still_apart
             (joined h v_in) x)
         | inr l ↦ (next_on_line t l.0 l.1 l.2 (whole p) (whole q) ways_apart (origin m h) met).1
             (origin m (rev h))
-            before_end (joined h v_in) x
+            still_apart (joined h v_in) x
       ]
 
       module _ (cone : IsInCone points m q h) where
@@ -429,7 +444,3 @@ module _ {V D U F : Type 0} {at : V → Point} {IsSite IsCovered : Point → Typ
               subst (Next (at_vertex (origin m h))) (sym across_far)
                   (cone_law.1 (λ y. l.2 (far_side.1 y))),
             )
-
--- different points are not at the same place of the plane
-pub not_same : (p q : Point) → p ≢ q → ¬ IsSame (whole p) (whole q)
-not_same p q n e = n (one_point p q e)

@@ -597,18 +597,17 @@ module _ {V D U F : Type 0} {at : V → Point} {IsSite IsCovered : Point → Typ
           (of_mesh over (rev h) r_in) (
             subst (λ (k : ℕ). face m k ≡ 0) twice s.outer,
             (
-              record {
-                start = l;
-                end = subst
-                    (λ (k : ℕ). side (whole p) (whole q) (place points (origin m k)) ≡ right)
-                    twice r;
-              },
-              record {
-                from = subst (λ (k : ℕ). side Y (place points (origin m k)) (whole p) ≢ left)
-                    twice (λ e. swapped_left _ s.seen (sym (side_swapped X Y (whole p)) ∙ e));
-                to = subst (λ (k : ℕ). side Y (place points (origin m k)) (whole q) ≢ right)
-                    twice (λ e. swapped_right _ reaches (sym (side_swapped X Y (whole q)) ∙ e));
-              },
+              (
+                l,
+                subst (λ (k : ℕ). side (whole p) (whole q) (place points (origin m k)) ≡ right)
+                    twice r,
+              ),
+              (
+                subst (λ (k : ℕ). side Y (place points (origin m k)) (whole p) ≢ left)
+                    twice (λ e. swapped_left _ s.seen (sym (side_swapped X Y (whole p)) ∙ e)),
+                subst (λ (k : ℕ). side Y (place points (origin m k)) (whole q) ≢ right)
+                    twice (λ e. swapped_right _ reaches (sym (side_swapped X Y (whole q)) ∙ e)),
+              ),
             ),
           )
         where

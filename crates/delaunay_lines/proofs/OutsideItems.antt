@@ -1,7 +1,8 @@
 -- What a segment meets first from outside a mesh.
 -- Lemmas: better_keeps, no_better_itself, no_better_if, found_within, along_weakened,
--- none_entered, alone_outside, alone_elsewhere, enters, nearest_is_first, none_is_first.
-use Rattle.std.proofs.Common.{◌≡◌, ◌≢◌, ◌⊎◌, ◌<◌, ◌∙◌, []}
+-- none_entered, hull_begins, twin_along, alone_outside, enters, nearest_is_first, none_is_first,
+-- alone_elsewhere.
+use Rattle.std.proofs.Common.{◌≡◌, ◌≢◌, ◌⊎◌, ◌<◌, ◌∙◌, [], ◌∷◌}
 use Rattle.std.proofs.Common.{ℕ, List, length, map, Option, Some, None, sym, ap}
 use Rattle.std.proofs.Common.{refl, subst, inl, inr, arith}
 use Rattle.std.specs.Borrow.{Bor}
@@ -12,6 +13,8 @@ use Rattle.std.proofs.lemmas.List.{length-map}
 use Rattle.delaunay_location.specs.half_edge_mesh.Mesh.{Mesh, origin, next, prev, face, face_edge, rev}
 use Rattle.delaunay_location.proofs.half_edge_links.Lists.Rev.{rev-rev, rev_within}
 use Rattle.delaunay_location.specs.half_edge_mesh.Contents.{Contents}
+use Rattle.delaunay_location.specs.half_edge_mesh.Rounds.{GivesOuterLoop, hull_left}
+use Rattle.delaunay_location.specs.half_edge_views.declared.rounds.HullIterator.{HullIterator}
 use Rattle.delaunay_location.specs.plane.Fraction.{Point, whole, IsSame, OnSegment}
 use Rattle.delaunay_location.specs.plane.Side.{side, left, right}
 use Rattle.delaunay_location.specs.plane.Circle.{gap, IsNearer}
@@ -31,7 +34,9 @@ use Rattle.plane_segments.proofs.First.LineStarts.{equal_ends, first_on_line}
 use Rattle.plane_segments.proofs.Items.Begins.{edge_flipped}
 use Rattle.delaunay_location.specs.mesh_embedding.Drawn.{drawn}
 use Rattle.delaunay_location.proofs.mesh_embedding.EdgePairs.{joins_edge}
-use Rattle.delaunay_location.proofs.mesh_embedding.OutlineGiven.{IsGoingAlong, along_ends, indexes}
+use Rattle.delaunay_location.proofs.mesh_embedding.OutlineGiven.{IsGoingAlong, along_begins, along_ends}
+use Rattle.delaunay_location.proofs.mesh_embedding.OutlineGiven.{along_next, indexes}
+use Rattle.delaunay_location.proofs.mesh_embedding.OneOutline.{one_outline}
 use Rattle.delaunay_location.proofs.mesh_embedding.MeshLegal.{line_has_none, none_or_some}
 use Rattle.delaunay_location.specs.declared.position_in_triangulation.PositionInTriangulation.{PositionInTriangulation}
 use Rattle.delaunay_location.specs.declared.position_in_triangulation.PositionInTriangulation.TheVariants.{
@@ -111,15 +116,38 @@ along_weakened m Seen Other rest weaker going = record {
 
 -- a segment enters by no edge where the search along the outline has seen none that it crosses
 pub none_entered : {V D U F C : Type 0} {at : V → Point} {IsSite IsCovered : Point → Type 0}
-    {c : Contents V D U F} {p q : Point} → IsOverMesh at IsSite IsCovered c p q
-    → (given : List (Bor C × ℕ)) → IsGoingAlong c.mesh
+    {c : Contents V D U F} {p q : Point} {given : List (Bor C × ℕ)}
+    → IsOverMesh at IsSite IsCovered c p q → IsGoingAlong c.mesh
     (λ (h : ℕ). ¬ IsCrossed (map at c.vertices) c.mesh p q (rev h)) (indexes given) → given ≡ []
     → (h : ℕ) → h < length c.directed → ¬ IsEntered (map at c.vertices) c.mesh p q h
-none_entered {c = c} over given going none h within entered =
+none_entered {c = c} {given = given} over going none h within entered =
     along_ends c.mesh _ given going none (rev h) (
       rev_within h (length c.mesh.half_edges) over.mesh.valid.sound.even (in_mesh over h within),
       entered.0,
     ) (rw (rev-rev h) entered.1)
+
+-- the outer edges are left before the search along the outline begins
+pub hull_begins : {V D U F : Type 0} {at : V → Point} {IsSite IsCovered : Point → Type 0}
+    {d : Bor (Contents V D U F)} {p q : Point} {Seen : ℕ → Type 0} {it items : HullIterator V D U F}
+    → IsOverMesh at IsSite IsCovered d.now p q → GivesOuterLoop d (hull_left items) → it ≡ items
+    → IsGoingAlong d.now.mesh Seen (indexes (hull_left it))
+hull_begins {d = d} {Seen = Seen} {items = items} over gives is =
+    subst (λ i. IsGoingAlong d.now.mesh Seen (indexes (hull_left i))) (sym is)
+    (along_begins d (hull_left items) Seen over.mesh.valid
+    (one_outline _ _ over.mesh.valid over.shape) gives)
+
+-- where an edge is given along the outline, its other direction has the outer face on its right
+pub twin_along : {V D U F C : Type 0} {at : V → Point} {IsSite IsCovered : Point → Type 0}
+    {c : Contents V D U F} {p q : Point} {Seen : ℕ → Type 0} {given others : List (Bor C × ℕ)}
+    {x : Bor C × ℕ} {h : ℕ} → IsOverMesh at IsSite IsCovered c p q
+    → IsGoingAlong c.mesh Seen (indexes given) → given ≡ x ∷ others → h ≡ rev x.1
+    → (h < length c.directed) × (face c.mesh (rev h) ≡ 0)
+twin_along {c = c} {Seen = Seen} {given = given} {others = others} {x = x} over going gives is =
+    let o = along_next c.mesh Seen given going x others gives in
+    rw (is, rev-rev x.1) (
+      of_mesh over (rev x.1) (rev_within x.1 _ over.mesh.valid.sound.even o.0),
+      o.1,
+    )
 
 -- ---- the first item
 module _ {V D U F : Type 0} {at : V → Point} {IsSite IsCovered : Point → Type 0}
@@ -158,10 +186,10 @@ module _ {V D U F : Type 0} {at : V → Point} {IsSite IsCovered : Point → Typ
     met_if h w x = elim t_laid [
       | inl tiles ↦
           (crossing_by_sides t tiles (whole p) (whole q) ways_apart (origin m h) (origin m (rev h))
-          (joined over h w)).1 (x.0.start, x.0.end, x.1.from, x.1.to)
+          (joined over h w)).1 (x.0.0, x.0.1, x.1.0, x.1.1)
       | inr l ↦ ((crossing_on_line t l.0 l.1 l.2).0 (whole p) (whole q) ways_apart (origin m h)
           (origin m (rev h))
-          (joined over h w)).1 (x.0.start, x.0.end, x.1.from, x.1.to)
+          (joined over h w)).1 (x.0.0, x.0.1, x.1.0, x.1.1)
     ]
 
     crossed_if : (h : ℕ) → h < length m.half_edges
@@ -181,7 +209,7 @@ module _ {V D U F : Type 0} {at : V → Point} {IsSite IsCovered : Point → Typ
             × (side (vertex t (origin m h)) (vertex t (origin m (rev h))) (whole p) ≢ left)
             × (side (vertex t (origin m h)) (vertex t (origin m (rev h))) (whole q) ≢ right)
             → IsCrossed points m p q h
-        of_four y = (record { start = y.0; end = y.1 }, record { from = y.2; to = y.3 })
+        of_four y = ((y.0, y.1), (y.2, y.3))
 
     -- an edge through which the segment enters is where the walk starts
     pub enters : (h : ℕ) → h < length c.directed → IsEntered points m p q h
@@ -339,8 +367,9 @@ pub alone_elsewhere : {V D U F : Type 0} {at : V → Point} {IsSite IsCovered : 
 alone_elsewhere over (OnVertex v) here no_vertex no_edge same = absurd (no_vertex v refl)
 alone_elsewhere over (OnEdge e) here no_vertex no_edge same = absurd (no_edge e refl)
 alone_elsewhere {c = c} over (OnFace f) here no_vertex no_edge same =
-    alone_inside over (face_edge c.mesh f) (of_mesh over _
-    (over.mesh.valid.sound.faces f here.handle.0 here.handle.1).0) (inside_that_face over f here) same
+    alone_inside over (face_edge c.mesh f)
+    (of_mesh over _ (over.mesh.valid.sound.faces f here.handle.0 here.handle.1).0)
+    (inside_that_face over f here) same
 alone_elsewhere over (OutsideOfConvexHull e) here no_vertex no_edge same =
     alone_outside over (outside_that_edge over e here) same
 alone_elsewhere over NoTriangulation here no_vertex no_edge same =

@@ -1,7 +1,7 @@
 -- What a segment meets first from past the end of a line of vertices: the vertex there, or nothing.
 -- Lemmas: past_if_unseen, end_passed, end_missed.
 use Rattle.std.proofs.Common.{◌≡◌, ◌≢◌, ◌<◌, ℕ, List, [], ◌∷◌, length, map, Some, None}
-use Rattle.std.proofs.Common.{subst, inl, inr, arith}
+use Rattle.std.proofs.Common.{sym, subst, inl, inr, arith}
 use Rattle.std.specs.Prelude.{ℤ, pos, ◌<ℤ◌, ◌+ℤ◌, ◌*ℤ◌}
 use Rattle.std.proofs.lemmas.Bool.{cases_eq}
 use Rattle.std.proofs.lemmas.Int.{ints}
@@ -39,6 +39,7 @@ use Rattle.plane_segments.proofs.Walking.OneLine.{line_ends}
 use Rattle.delaunay_location.specs.mesh_embedding.Drawn.{drawn}
 use Rattle.delaunay_location.specs.Location.{Locates}
 use Rattle.delaunay_location.specs.declared.position_in_triangulation.PositionInTriangulation.TheVariants.{OutsideOfConvexHull}
+use Rattle.delaunay_location.specs.delaunay_legalization.Known.{point_at}
 use Rattle.delaunay_lines.specs.declared.intersection.FixedIntersection.TheVariants.{Vertex}
 use Rattle.delaunay_lines.specs.Starts.{StartsOutside}
 use Rattle.delaunay_lines.specs.Steps.{IsOverMesh, IsLeftOf}
@@ -183,9 +184,10 @@ module _ {V D U F : Type 0} {at : V → Point} {IsSite IsCovered : Point → Typ
         (above_if_left (whole p) (whole q) (vertex t a) sides.0))
 
     -- the end comes first where the segment passes it
-    pub end_passed : OnSegment (whole p) (whole q) (vertex t end) → end < length c.vertices
-        → Starts at c p q (Some (Vertex end))
-    end_passed on here =
+    pub end_passed : {z : Point} → z ≡ point_at points end → OnSegment (whole p) (whole q) (whole z)
+        → end < length c.vertices → Starts at c p q (Some (Vertex end))
+    end_passed is met here =
+        let on = subst (λ (x : Point). OnSegment (whole p) (whole q) (whole x)) is met in
         starts_first over apart (Vertex end) here (elim t_laid [
           | inl tiles ↦ absurd (no_hull tiles)
           | inr l ↦ ((first_on_line t l.0 l.1 l.2 (whole p) (whole q) ways_apart).3
@@ -193,9 +195,14 @@ module _ {V D U F : Type 0} {at : V → Point} {IsSite IsCovered : Point → Typ
         ])
 
     -- else it meets nothing
-    pub end_missed : ¬ OnSegment (whole p) (whole q) (vertex t end) → Starts at c p q None
-    end_missed off = nothing_met over apart (elim t_laid [
-      | inl tiles ↦ absurd (no_hull tiles)
-      | inr l ↦ ((first_on_line t l.0 l.1 l.2 (whole p) (whole q) ways_apart).3 outside.no_edge).1
-          (λ k met. off (end_on_way k met)) (none_crossed l.0 l.1 l.2)
-    ])
+    pub end_missed : {z : Point} → z ≡ point_at points end
+        → ¬ OnSegment (whole p) (whole q) (whole z) → Starts at c p q None
+    end_missed is missed =
+        let off = λ (on : OnSegment (whole p) (whole q) (vertex t end)).
+        missed (subst (λ (x : Point). OnSegment (whole p) (whole q) (whole x)) (sym is) on) in
+        nothing_met over apart (elim t_laid [
+          | inl tiles ↦ absurd (no_hull tiles)
+          | inr l ↦
+              ((first_on_line t l.0 l.1 l.2 (whole p) (whole q) ways_apart).3 outside.no_edge).1
+              (λ k met. off (end_on_way k met)) (none_crossed l.0 l.1 l.2)
+        ])

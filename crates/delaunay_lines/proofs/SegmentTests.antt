@@ -1,14 +1,28 @@
--- What answers about points of a segment say.
--- Lemmas: differs_if_within, within_if_differs, on_if_not_apart.
-use Rattle.std.proofs.Common.{◌≡◌, ◌≢◌, ◌⊎◌, sym, subst, inl, inr, arith}
+-- What answers to questions say, and of points of a segment.
+-- Lemmas: unless, if_both, if_not_first, differs_if_within, within_if_differs, on_if_not_apart.
+use Rattle.std.proofs.Common.{◌≡◌, ◌≢◌, ◌⊎◌, ◌↔◌, Bool, true, false, IsTrue, sym, subst, inl, inr}
+use Rattle.std.proofs.Common.{arith}
 use Rattle.std.specs.Prelude.{ℤ, pos, ◌<ℤ◌, ◌*ℤ◌}
 use Rattle.std.proofs.lemmas.Int.{ints}
 use Rattle.delaunay_location.specs.plane.Fraction.{Point, whole, IsSame, OnSegment, WithinSegment}
 use Rattle.delaunay_location.proofs.plane.Decisions.{Decision, decide_point}
 use Rattle.delaunay_location.proofs.plane.Segments.{reach, reach-start, within_segment_is}
 use Rattle.delaunay_location.proofs.plane.Segments.{start_on_segment, end_on_segment}
+use Rattle.delaunay_location.proofs.delaunay_legalization_lemmas.Questions.{both_ways}
 use Rattle.plane_segments.proofs.Crossing.EitherWay.{one_point}
 use Rattle.plane_segments.proofs.Constraints.Pieces.{on_parts}
+
+-- what a question is about does not hold where its answer is no
+pub unless : {A : Type 0} {b : Bool} → IsTrue b ↔ A → b ≡ false → ¬ A
+unless {b = b} is refused a = both_ways b (is.1 a) refused
+
+-- two questions, of which the second is asked where the answer to the first is yes
+module _ {A B : Type 0} {a : Bool} (first : IsTrue a ↔ A) where
+  pub if_both : {b : Bool} → a ≡ true → IsTrue b ↔ B → IsTrue b ↔ (A × B)
+  if_both told second = ((λ t. (first.0 told, second.0 t)), (λ x. second.1 x.1))
+
+  pub if_not_first : a ≡ false → IsTrue a ↔ (A × B)
+  if_not_first refused = ((λ t. absurd (both_ways a t refused)), (λ x. first.1 x.0))
 
 none_below : (a b : ℤ) → a ≡ pos 0 → pos 0 <ℤ a → ⊥
 none_below a b e h = omega (arith, ints)

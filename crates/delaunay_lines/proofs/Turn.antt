@@ -1,5 +1,5 @@
 -- One call of the iterator along a segment.
--- Lemmas: counts_more, gives_some, ready_after.
+-- Lemmas: at_item, counts_more, gives_some, ready_after.
 use Rattle.std.proofs.Common.{◌≡◌, ◌≢◌, ◌-◌, ◌≤◌, ◌∷◌, ◌∙◌}
 use Rattle.std.proofs.Common.{List, Option, Some, None, refl, sym, ap, subst}
 use Rattle.std.specs.Prelude.{ℤ}
@@ -10,6 +10,7 @@ use Rattle.delaunay_lines.specs.declared.intersection.Intersection.{Intersection
 use Rattle.delaunay_lines.specs.declared.intersection.FixedIntersection.{FixedIntersection}
 use Rattle.delaunay_lines.specs.declared.iterator.LineIntersectionIterator.{LineIntersectionIterator}
 use Rattle.delaunay_lines.specs.Items.{item_of, item_in, mesh_of}
+use Rattle.delaunay_lines.specs.Over.{IsAtItem}
 use Rattle.delaunay_lines.specs.Steps.{IsNext}
 use Rattle.delaunay_lines.specs.Walk.{AreFrom, AreLeft, GivesNext, IsReady}
 use Rattle.delaunay_lines.proofs.Advance.{further, one_fewer, some_left}
@@ -28,6 +29,12 @@ module _ {V D U F P S : Type 0} {at : V → Point} {number : S → ℤ}
       → AreFrom at it.dcel.now p q (Some i) items
   from_here items left =
       subst (λ (o : Option FixedIntersection). AreFrom at it.dcel.now p q o items) is left
+
+  -- the segment is at the item, if its ends differ
+  pub at_item : p ≢ q → IsAtItem at
+      (record { dcel = it.dcel.now; tests = it.tests.now; from = p; to = q }) i
+  at_item apart = let here = from_here ready.items ready.are_left in
+      record { within = here.0; apart = apart; met = here.1.2.met apart }
 
   -- the bound on the items that are left is at least 1
   pub counts_more : 1 ≤ it.left

@@ -23,19 +23,20 @@ pub record StartsInside (points : List Point) (m : Mesh) (p : Point) (h : ℕ) :
 
 -- directed edge h starts on the right of the segment from p to q, or on its line, and ends on its
 -- left
-pub record GoesOver (points : List Point) (m : Mesh) (p q : Point) (h : ℕ) : Type 0 where
-  pub start : side (whole p) (whole q) (place points (origin m h)) ≢ left
-  pub end : side (whole p) (whole q) (place points (origin m (rev h))) ≡ left
+abbrev pub GoesOver : List Point → Mesh → Point → Point → ℕ → Type 0
+GoesOver points m p q h = (side (whole p) (whole q) (place points (origin m h)) ≢ left)
+    × (side (whole p) (whole q) (place points (origin m (rev h))) ≡ left)
 
 -- directed edge h goes from the left of the segment from p to q, or of its line, to the right
-pub record GoesRight (points : List Point) (m : Mesh) (p q : Point) (h : ℕ) : Type 0 where
-  pub start : side (whole p) (whole q) (place points (origin m h)) ≡ left
-  pub end : side (whole p) (whole q) (place points (origin m (rev h))) ≡ right
+abbrev pub GoesRight : List Point → Mesh → Point → Point → ℕ → Type 0
+GoesRight points m p q h = (side (whole p) (whole q) (place points (origin m h)) ≡ left)
+    × (side (whole p) (whole q) (place points (origin m (rev h))) ≡ right)
 
 -- p is on its right or its line, and q on its left or its line
-pub record HasEndsOnSides (points : List Point) (m : Mesh) (p q : Point) (h : ℕ) : Type 0 where
-  pub from : side (place points (origin m h)) (place points (origin m (rev h))) (whole p) ≢ left
-  pub to : side (place points (origin m h)) (place points (origin m (rev h))) (whole q) ≢ right
+abbrev pub HasEndsOnSides : List Point → Mesh → Point → Point → ℕ → Type 0
+HasEndsOnSides points m p q h =
+    (side (place points (origin m h)) (place points (origin m (rev h))) (whole p) ≢ left)
+    × (side (place points (origin m h)) (place points (origin m (rev h))) (whole q) ≢ right)
 
 -- both: it is crossed by the segment
 abbrev pub IsCrossed : List Point → Mesh → Point → Point → ℕ → Type 0

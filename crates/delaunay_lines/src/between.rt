@@ -42,23 +42,21 @@ impl<'a, V: HasPosition, DE, UE, F, P: PlaneTests<V::Scalar>> Segment<'a, V, DE,
         ensures { Starts V.place self.now.dcel self.now.from self.now.to result }
     {
         let dcel = self.dcel;
-        if self.is_point() {
-            match start {
+        if !self.ends_apart() {
+            return match start {
                 PositionInTriangulation::OnVertex(vertex) => {
-                    return Some(FixedIntersection::Vertex(vertex));
+                    Some(FixedIntersection::Vertex(vertex))
                 }
-                PositionInTriangulation::OnEdge(edge) => {
-                    return Some(FixedIntersection::Overlap(edge));
-                }
-                _ => return None,
-            }
+                PositionInTriangulation::OnEdge(edge) => Some(FixedIntersection::Overlap(edge)),
+                _ => None,
+            };
         }
         match start {
             PositionInTriangulation::OnVertex(vertex) => Some(FixedIntersection::Vertex(vertex)),
             PositionInTriangulation::OnEdge(edge) => Some(self.first_on_edge(edge)),
             PositionInTriangulation::OnFace(face) => self.first_in_face(edge_of(dcel, face)),
-            // It goes along the outline from this edge on. Past the end of a line of vertices, where
-            // it sees no edge, it looks at this end alone.
+            // It goes along the outline from this edge on. Past the end of a line of vertices,
+            // where it sees no edge, it looks at this end alone.
             PositionInTriangulation::OutsideOfConvexHull(edge) => match self.if_seen(edge) {
                 Some(seen) => self.first_along(seen),
                 None => self.first_past(edge),

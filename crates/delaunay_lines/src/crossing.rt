@@ -6,7 +6,7 @@ ghost use Rattle.delaunay_lines.specs.Steps.{LeavesBy};
 
 use crate::intersection::FixedIntersection;
 use crate::segment::Segment;
-use crate::sides::{edge_after, edge_before, twin_of};
+use crate::sides::twin_of;
 use delaunay_location::delaunay_core::math::PlaneTests;
 use delaunay_location::delaunay_core::point::HasPosition;
 use delaunay_location::delaunay_legalization::is_outer;
@@ -32,7 +32,8 @@ impl<'a, V: HasPosition, DE, UE, F, P: PlaneTests<V::Scalar>> Segment<'a, V, DE,
         requires inner { 0 < face self.now.dcel.mesh edge }
         ensures { GoesOnTo V.place self.now (FixedIntersection.Edge edge) result }
     {
-        let (next, prev) = (edge_after(self.dcel, edge), edge_before(self.dcel, edge));
+        self.dcel.recall_invariant();
+        let (next, prev) = (self.edge_after(edge), self.edge_before(edge));
         let corner = self.side_of_start(prev);
         if corner.is_on_right_side() {
             return self.leave_by(prev);

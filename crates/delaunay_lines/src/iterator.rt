@@ -1,12 +1,8 @@
 //! The items that a segment meets, one after another.
-ghost use Rattle.std.specs.Prelude.{◌≡◌, ◌≢◌, map};
+ghost use Rattle.std.specs.Prelude.{◌≡◌, ◌≢◌};
 ghost use Rattle.std.specs.Iterator.{at_most};
-ghost use Rattle.delaunay_location.specs.plane.Fraction.{whole as fraction};
-ghost use Rattle.delaunay_location.specs.plane.Line.{Meets};
-ghost use Rattle.delaunay_location.specs.mesh_embedding.Drawn.{drawn};
 ghost use Rattle.delaunay_location.specs.delaunay_legalization.State.{state_of};
-ghost use Rattle.delaunay_lines.specs.Items.{item_of, IsHandleOf};
-ghost use Rattle.delaunay_lines.specs.Steps.{IsNext};
+ghost use Rattle.delaunay_lines.specs.Over.{GoesOnTo, IsAtItem};
 ghost use Rattle.delaunay_lines.specs.Walk.{GivesNext, IsReady, Starts, WalksLine};
 
 use crate::intersection::{FixedIntersection, Intersection, intersection_in};
@@ -40,23 +36,18 @@ pub struct LineIntersectionIterator<'a, V: HasPosition, DE, UE, F, P: PlaneTests
 impl<'a, V: HasPosition, DE, UE, F, P: PlaneTests<V::Scalar>> Segment<'a, V, DE, UE, F, P> {
     // What it meets after an item: nothing where its ends are one point.
     fn after(&self, item: FixedIntersection) -> Option<FixedIntersection>
-        requires within { IsHandleOf self.now.dcel item }
-        requires met { self.now.from ≢ self.now.to →
-            Meets (drawn (map V.place self.now.dcel.vertices) self.now.dcel.mesh)
-            (fraction self.now.from) (fraction self.now.to) (item_of self.now.dcel.mesh item) }
+        requires { self.now.from ≢ self.now.to → IsAtItem V.place self.now item }
         ensures alone { self.now.from ≡ self.now.to → result ≡ None }
-        ensures next { self.now.from ≢ self.now.to →
-            IsNext V.place self.now.dcel self.now.from self.now.to
-            (item_of self.now.dcel.mesh item) result }
+        ensures next { self.now.from ≢ self.now.to → GoesOnTo V.place self.now item result }
     {
-        if self.is_point() {
-            return None;
+        if self.ends_apart() {
+            return match item {
+                FixedIntersection::Edge(edge) => self.after_crossing(edge),
+                FixedIntersection::Vertex(vertex) => self.after_vertex(vertex),
+                FixedIntersection::Overlap(edge) => self.after_overlap(edge),
+            };
         }
-        match item {
-            FixedIntersection::Edge(edge) => self.after_crossing(edge),
-            FixedIntersection::Vertex(vertex) => self.after_vertex(vertex),
-            FixedIntersection::Overlap(edge) => self.after_overlap(edge),
-        }
+        None
     }
 
     // What it meets, from a first item on.

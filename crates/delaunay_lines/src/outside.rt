@@ -16,7 +16,7 @@ ghost use Rattle.delaunay_lines.specs.Walk.{Starts};
 
 use crate::intersection::FixedIntersection;
 use crate::segment::Segment;
-use crate::sides::{edge_after, edge_before, twin_of};
+use crate::sides::twin_of;
 use crate::way::Way;
 use delaunay_location::delaunay_core::math::PlaneTests;
 use delaunay_location::delaunay_core::point::{HasPosition, Point2, SpadeNum};
@@ -48,7 +48,7 @@ impl<'a, V: HasPosition, DE, UE, F, P: PlaneTests<V::Scalar>> Segment<'a, V, DE,
             self.now.from self.now.to edge }
     {
         let start = self.side_of_start(edge);
-        let end = self.side_of_start(twin_of(self.dcel, edge));
+        let end = self.side_of_end(edge);
         start.is_on_left_side() && end.is_on_right_side()
     }
 
@@ -202,13 +202,14 @@ impl<'a, V: HasPosition, DE, UE, F, P: PlaneTests<V::Scalar>> Segment<'a, V, DE,
         ensures none { IfNone result (IsTurningPoint V.place self.now.dcel self.now.from
             self.now.to edge) }
     {
-        let end = self.side_of_start(twin_of(self.dcel, edge));
+        self.dcel.recall_invariant();
+        let end = self.side_of_end(edge);
         if end.is_on_right_side() {
-            return self.if_seen(edge_after(self.dcel, edge));
+            return self.if_seen(self.edge_after(edge));
         }
         let start = self.side_of_start(edge);
         if start.is_on_left_side() {
-            return self.if_seen(edge_before(self.dcel, edge));
+            return self.if_seen(self.edge_before(edge));
         }
         None
     }
@@ -223,7 +224,7 @@ impl<'a, V: HasPosition, DE, UE, F, P: PlaneTests<V::Scalar>> Segment<'a, V, DE,
         ensures { Starts V.place self.now.dcel self.now.from self.now.to result }
     {
         let twin = twin_of(self.dcel, edge);
-        let (start, end) = (self.side_of_start(edge), self.side_of_start(twin));
+        let (start, end) = (self.side_of_start(edge), self.side_of_end(edge));
         if self.ends_left_of(edge) {
             return None;
         }

@@ -1,6 +1,6 @@
 //! A segment over a mesh.
-ghost use Rattle.std.specs.Prelude.{◌≡◌, ◌↔◌, ◌<◌, length, map, IsTrue};
-ghost use Rattle.delaunay_location.specs.half_edge_mesh.Mesh.{origin, rev};
+ghost use Rattle.std.specs.Prelude.{◌≡◌, ◌≢◌, ◌↔◌, ◌<◌, length, map, IsFalse, IsTrue};
+ghost use Rattle.delaunay_location.specs.half_edge_mesh.Mesh.{next, origin, prev, rev};
 ghost use Rattle.delaunay_location.specs.plane.Fraction.{whole as fraction};
 ghost use Rattle.delaunay_location.specs.plane.Side.{side};
 ghost use Rattle.delaunay_location.specs.plane.Pairs.{place};
@@ -49,11 +49,30 @@ impl<'a, V: HasPosition, DE, UE, F, P: PlaneTests<V::Scalar>> Model
 }
 
 impl<'a, V: HasPosition, DE, UE, F, P: PlaneTests<V::Scalar>> Segment<'a, V, DE, UE, F, P> {
-    // Whether its ends are one point.
-    pub(crate) fn is_point(&self) -> bool
-        ensures { IsTrue result ↔ (self.now.from ≡ self.now.to) }
+    // Whether its ends differ.
+    pub(crate) fn ends_apart(&self) -> bool
+        ensures apart { IsTrue result ↔ (self.now.from ≢ self.now.to) }
+        ensures alone { IsFalse result → self.now.from ≡ self.now.to }
     {
-        is_same_point(self.from, self.to)
+        !is_same_point(self.from, self.to)
+    }
+
+    // The edge after an edge in its loop.
+    pub(crate) fn edge_after(&self, edge: FixedDirectedEdgeHandle) -> FixedDirectedEdgeHandle
+        requires { edge < length self.now.dcel.directed }
+        ensures value { result ≡ next self.now.dcel.mesh edge }
+        ensures within { result < length self.now.dcel.directed }
+    {
+        self.dcel.directed_edge(edge).next().fix()
+    }
+
+    // The edge before it.
+    pub(crate) fn edge_before(&self, edge: FixedDirectedEdgeHandle) -> FixedDirectedEdgeHandle
+        requires { edge < length self.now.dcel.directed }
+        ensures value { result ≡ prev self.now.dcel.mesh edge }
+        ensures within { result < length self.now.dcel.directed }
+    {
+        self.dcel.directed_edge(edge).prev().fix()
     }
 
     // The vertex where an edge starts.
@@ -116,6 +135,16 @@ impl<'a, V: HasPosition, DE, UE, F, P: PlaneTests<V::Scalar>> Segment<'a, V, DE,
             (place points (origin self.now.dcel.mesh edge)) }
     {
         self.tests.side(self.from, self.to, self.start_of(edge))
+    }
+
+    // The side of the vertex where it ends.
+    pub(crate) fn side_of_end(&self, edge: FixedDirectedEdgeHandle) -> LineSideInfo
+        requires { edge < length self.now.dcel.directed }
+        ensures { let points = map V.place self.now.dcel.vertices in
+            result ≡ side (fraction self.now.from) (fraction self.now.to)
+            (place points (origin self.now.dcel.mesh (rev edge))) }
+    {
+        self.side_of_start(twin_of(self.dcel, edge))
     }
 
     // The way along an edge.

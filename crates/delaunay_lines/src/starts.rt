@@ -5,7 +5,7 @@ ghost use Rattle.delaunay_lines.specs.Walk.{Starts};
 
 use crate::intersection::FixedIntersection;
 use crate::segment::Segment;
-use crate::sides::{edge_after, edge_before, twin_of};
+use crate::sides::twin_of;
 use crate::way::Way;
 use delaunay_location::delaunay_core::math::PlaneTests;
 use delaunay_location::delaunay_core::point::HasPosition;
@@ -47,7 +47,7 @@ impl<'a, V: HasPosition, DE, UE, F, P: PlaneTests<V::Scalar>> Segment<'a, V, DE,
             self.now.from self.now.to edge }
     {
         let start = self.side_of_start(edge);
-        let end = self.side_of_start(twin_of(self.dcel, edge));
+        let end = self.side_of_end(edge);
         start.is_on_right_side_or_on_line() && end.is_on_left_side()
     }
 
@@ -64,14 +64,15 @@ impl<'a, V: HasPosition, DE, UE, F, P: PlaneTests<V::Scalar>> Segment<'a, V, DE,
         ensures over { GoesOver (map V.place self.now.dcel.vertices) self.now.dcel.mesh
             self.now.from self.now.to result }
     {
+        self.dcel.recall_invariant();
         if self.goes_over(edge) {
             return edge;
         }
-        let next = edge_after(self.dcel, edge);
+        let next = self.edge_after(edge);
         if self.goes_over(next) {
             return next;
         }
-        edge_before(self.dcel, edge)
+        self.edge_before(edge)
     }
 
     // From strictly inside a face: nothing where the segment ends there, else a corner or a side.

@@ -7,7 +7,6 @@ ghost use Rattle.delaunay_lines.specs.Steps.{IsEdgeAhead, IsInCone, LeadsOn};
 
 use crate::intersection::FixedIntersection;
 use crate::segment::Segment;
-use crate::sides::{edge_after, edge_before};
 use delaunay_location::delaunay_core::math::PlaneTests;
 use delaunay_location::delaunay_core::point::HasPosition;
 use delaunay_location::delaunay_legalization::{is_outer, is_same_point, position_of};
@@ -35,7 +34,7 @@ impl<'a, V: HasPosition, DE, UE, F, P: PlaneTests<V::Scalar>> Segment<'a, V, DE,
         if is_outer(self.dcel, edge) {
             return false;
         }
-        self.ends_left_of(edge) && self.ends_left_of(edge_before(self.dcel, edge))
+        self.ends_left_of(edge) && self.ends_left_of(self.edge_before(edge))
     }
 
     // Whether an edge, or the face on its left, leads towards a position.
@@ -70,13 +69,23 @@ impl<'a, V: HasPosition, DE, UE, F, P: PlaneTests<V::Scalar>> Segment<'a, V, DE,
         None
     }
 
+    // Whether a segment ends at a vertex.
+    fn ends_at(&self, vertex: FixedVertexHandle) -> bool
+        requires { vertex < length self.now.dcel.vertices }
+        ensures { IsTrue result ↔
+            (point_at (map V.place self.now.dcel.vertices) vertex ≡ self.now.to) }
+    {
+        is_same_point(position_of(self.dcel, vertex), self.to)
+    }
+
     // What a segment meets after a vertex: an edge along it, nothing where it ends at the vertex or
     // inside the next face, or else the far side of this face.
     pub(crate) fn after_vertex(&self, vertex: FixedVertexHandle) -> Option<FixedIntersection>
         requires { IsAtItem V.place self.now (FixedIntersection.Vertex vertex) }
         ensures { GoesOnTo V.place self.now (FixedIntersection.Vertex vertex) result }
     {
-        if is_same_point(position_of(self.dcel, vertex), self.to) {
+        self.dcel.recall_invariant();
+        if self.ends_at(vertex) {
             return None;
         }
         match self.edge_towards(vertex) {
@@ -84,7 +93,7 @@ impl<'a, V: HasPosition, DE, UE, F, P: PlaneTests<V::Scalar>> Segment<'a, V, DE,
                 if self.is_edge_ahead(edge) {
                     return Some(FixedIntersection::Overlap(edge));
                 }
-                self.leave_by(edge_after(self.dcel, edge))
+                self.leave_by(self.edge_after(edge))
             }
             None => None,
         }

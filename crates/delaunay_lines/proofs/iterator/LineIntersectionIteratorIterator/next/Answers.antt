@@ -1,6 +1,9 @@
 use Rattle.std.proofs.Common.{rules, arith}
-use Rattle.delaunay_lines.proofs.Turn.{counts_more, gives_some, ready_after}
+use Rattle.delaunay_lines.proofs.Turn.{at_item, counts_more, gives_some, ready_after}
 use Rattle.delaunay_lines.proofs.iterator.LineIntersectionIteratorIterator.next.Goals as goal
+
+pub after-self-requires : goal.after-self-requires
+after-self-requires g c = at_item c.requires c.in_ok-item.was
 
 pub returns-clause-steps : goal.returns-clause-steps
 returns-clause-steps g c =

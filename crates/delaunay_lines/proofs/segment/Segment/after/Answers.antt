@@ -1,23 +1,13 @@
-use Rattle.delaunay_location.proofs.delaunay_legalization_lemmas.Questions.{both_ways}
 use Rattle.delaunay_lines.proofs.segment.Segment.after.Goals as goal
 
 pub after_crossing-requires : goal.after_crossing-requires
-after_crossing-requires g c = rw (← c.in-Edge.is) (record {
-  within = c.requires.within;
-  apart = λ e. both_ways _ (c.is_point.ensures.1 e) c.if-is_point.false;
-  met = c.requires.met (λ e. both_ways _ (c.is_point.ensures.1 e) c.if-is_point.false);
-})
+after_crossing-requires g c =
+    rw (← c.in-Edge.is) (c.requires (c.ends_apart.ensures.apart.0 c.if-ends_apart.true))
 
 pub after_vertex-requires : goal.after_vertex-requires
-after_vertex-requires g c = rw (← c.in-Vertex.is) (record {
-  within = c.requires.within;
-  apart = λ e. both_ways _ (c.is_point.ensures.1 e) c.if-is_point.false;
-  met = c.requires.met (λ e. both_ways _ (c.is_point.ensures.1 e) c.if-is_point.false);
-})
+after_vertex-requires g c =
+    rw (← c.in-Vertex.is) (c.requires (c.ends_apart.ensures.apart.0 c.if-ends_apart.true))
 
 pub after_overlap-requires : goal.after_overlap-requires
-after_overlap-requires g c = rw (← c.in-Overlap.is) (record {
-  within = c.requires.within;
-  apart = λ e. both_ways _ (c.is_point.ensures.1 e) c.if-is_point.false;
-  met = c.requires.met (λ e. both_ways _ (c.is_point.ensures.1 e) c.if-is_point.false);
-})
+after_overlap-requires g c =
+    rw (← c.in-Overlap.is) (c.requires (c.ends_apart.ensures.apart.0 c.if-ends_apart.true))

@@ -1,7 +1,7 @@
 use Rattle.std.proofs.Common.{sym, subst}
 use Rattle.delaunay_location.specs.delaunay_core.Place.{place_of}
-use Rattle.delaunay_location.proofs.delaunay_legalization_lemmas.Questions.{both_ways}
 use Rattle.delaunay_lines.proofs.MeshSteps.{last_within_overlap, end_of_overlap}
+use Rattle.delaunay_lines.proofs.SegmentTests.{unless}
 use Rattle.delaunay_lines.proofs.segment.Segment.after_overlap.Goals as goal
 
 pub has_within-requires : goal.has_within-requires
@@ -25,5 +25,5 @@ returns g c =
     rw (value, c.twin_of-twin.ensures.value, ← c.self.view_is) (
       rw (value, c.twin_of-twin.ensures.value, ← c.self.view_is) at c.start_vertex.ensures.within,
       end_of_overlap c.self.invariant here.apart c.args.edge here.met
-          (λ x. both_ways _ (is.1 x) c.if-has_within.false),
+          (unless is c.if-has_within.false),
     )

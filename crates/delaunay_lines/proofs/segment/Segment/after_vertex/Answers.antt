@@ -1,43 +1,30 @@
-use Rattle.std.proofs.Common.{◌⊎◌, map, sym, subst, ◌∙◌, inl, inr}
-use Rattle.delaunay_location.specs.plane.Fraction.{Point, whole, IsSame}
-use Rattle.delaunay_location.proofs.plane.Segments.{same-refl}
-use Rattle.delaunay_location.specs.delaunay_legalization.Known.{point_at}
-use Rattle.delaunay_location.proofs.delaunay_legalization_lemmas.Questions.{both_ways}
-use Rattle.delaunay_lines.proofs.MeshSteps.{along_ahead, into_face, last_at_end}
-use Rattle.delaunay_lines.proofs.MeshSteps.{last_if_none_leads, not_same}
+use Rattle.std.proofs.Common.{◌⊎◌, inl, inr}
+use Rattle.delaunay_lines.proofs.MeshSteps.{along_ahead, into_face, last_at_end, over_value}
+use Rattle.delaunay_lines.proofs.MeshSteps.{last_if_none_leads}
+use Rattle.delaunay_lines.proofs.SegmentTests.{unless}
 use Rattle.delaunay_lines.proofs.segment.Segment.after_vertex.Goals as goal
 
-pub returns-then-is_same_point : goal.returns-then-is_same_point
-returns-then-is_same_point g c =
-    let here = rw (← c.self.view_is) at c.requires in
-    let at = point_at (map g.V.HasPosition.place c.self.inside.dcel.now.vertices) c.args.vertex in
-    rw (← c.self.view_is) (last_at_end c.self.invariant here.apart c.args.vertex here.met
-    (subst (λ (z : Point). IsSame (whole at) (whole z))
-    (sym c.position_of.ensures.place ∙ c.is_same_point.ensures.0 c.if-is_same_point.true)
-    (same-refl (whole at))))
+pub returns-then-ends_at : goal.returns-then-ends_at
+returns-then-ends_at g c =
+    last_at_end (over_value c.self.view_is c.self.invariant) c.requires.apart c.args.vertex
+    c.requires.met (c.ends_at.ensures.0 c.if-ends_at.true)
 
 pub edge_towards-requires-clause-apart : goal.edge_towards-requires-clause-apart
-edge_towards-requires-clause-apart g c = rw (← c.self.view_is) (λ e. both_ways _
-    (c.is_same_point.ensures.1 (c.position_of.ensures.place ∙ e)) c.if-is_same_point.false)
+edge_towards-requires-clause-apart g c = unless c.ends_at.ensures c.if-ends_at.false
 
 pub is_edge_ahead-requires-clause-starts_apart : goal.is_edge_ahead-requires-clause-starts_apart
 is_edge_ahead-requires-clause-starts_apart g c =
-    let edge = rw (← c.self.view_is) at c.in-Some.ensures in
-    rw (← c.self.view_is, edge.1) (λ e. both_ways _
-    (c.is_same_point.ensures.1 (c.position_of.ensures.place ∙ e)) c.if-is_same_point.false)
+    rw c.in-Some.ensures.1 (unless c.ends_at.ensures c.if-ends_at.false)
 
 pub returns-then-is_edge_ahead : goal.returns-then-is_edge_ahead
 returns-then-is_edge_ahead g c =
-    let here = rw (← c.self.view_is) at c.requires in
-    let edge = rw (← c.self.view_is) at c.in-Some.ensures in
-    let ahead = rw (← c.self.view_is) at c.is_edge_ahead.ensures in
-    rw (← c.self.view_is, ← edge.1) (
+    let edge = c.in-Some.ensures in
+    rw (← edge.1) (
       edge.0,
-      along_ahead c.self.invariant here.apart c.in-Some.edge edge.0
-          (rw (← edge.1) at here.met)
-          (not_same _ _ (rw edge.1 (λ e. both_ways _
-          (c.is_same_point.ensures.1 (c.position_of.ensures.place ∙ e)) c.if-is_same_point.false)))
-          (ahead.0 c.if-is_edge_ahead.true),
+      along_ahead (over_value c.self.view_is c.self.invariant) c.requires.apart c.in-Some.edge
+          edge.0 (rw (← edge.1) at c.requires.met)
+          (rw edge.1 (unless c.ends_at.ensures c.if-ends_at.false))
+          (c.is_edge_ahead.ensures.0 c.if-is_edge_ahead.true),
     )
 
 into : {A B : Type 0} → A ⊎ B → ¬ A → B
@@ -46,21 +33,14 @@ into (inr b) n = b
 
 pub returns-else-is_edge_ahead : goal.returns-else-is_edge_ahead
 returns-else-is_edge_ahead g c =
-    let here = rw (← c.self.view_is) at c.requires in
-    let edge = rw (← c.self.view_is) at c.in-Some.ensures in
-    let ahead = rw (← c.self.view_is) at c.is_edge_ahead.ensures in
-    rw (← c.self.view_is, ← edge.1) (into_face c.self.invariant here.apart
-    c.in-Some.edge edge.0 (rw (← edge.1) at here.met)
-    (not_same _ _ (rw edge.1 (λ e. both_ways _
-    (c.is_same_point.ensures.1 (c.position_of.ensures.place ∙ e)) c.if-is_same_point.false)))
-    (into edge.2 (λ x. both_ways _ (ahead.1 x) c.if-is_edge_ahead.false))
-    _
-    (rw (← c.self.view_is, c.edge_after.ensures.value) at c.leave_by.ensures))
+    let edge = c.in-Some.ensures in
+    rw (← edge.1) (into_face (over_value c.self.view_is c.self.invariant) c.requires.apart
+    c.in-Some.edge edge.0 (rw (← edge.1) at c.requires.met)
+    (rw edge.1 (unless c.ends_at.ensures c.if-ends_at.false))
+    (into edge.2 (unless c.is_edge_ahead.ensures c.if-is_edge_ahead.false)) _
+    (rw c.edge_after.ensures.value at c.leave_by.ensures))
 
 pub returns-in-None : goal.returns-in-None
 returns-in-None g c =
-    let here = rw (← c.self.view_is) at c.requires in
-    rw (← c.self.view_is) (last_if_none_leads c.self.invariant here.apart c.args.vertex
-    here.met (not_same _ _ (λ e. both_ways _
-    (c.is_same_point.ensures.1 (c.position_of.ensures.place ∙ e)) c.if-is_same_point.false))
-    (rw (← c.self.view_is) at c.in-None.ensures))
+    last_if_none_leads (over_value c.self.view_is c.self.invariant) c.requires.apart c.args.vertex
+    c.requires.met (unless c.ends_at.ensures c.if-ends_at.false) c.in-None.ensures

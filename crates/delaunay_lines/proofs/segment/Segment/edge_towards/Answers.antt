@@ -1,12 +1,10 @@
-use Rattle.std.proofs.Common.{ℕ, map, sym, ap, subst, ◌∙◌, arith}
-use Rattle.delaunay_location.specs.half_edge_mesh.Mesh.{origin}
+use Rattle.std.proofs.Common.{ℕ, sym, ap, subst}
 use Rattle.delaunay_location.specs.half_edge_mesh.Rounds.{GivesRound, out_edges_left}
-use Rattle.delaunay_location.specs.delaunay_legalization.Known.{point_at}
-use Rattle.delaunay_location.proofs.delaunay_legalization_lemmas.Questions.{both_ways}
 use Rattle.delaunay_location.proofs.delaunay_legalization_lemmas.Rounds.{round_begins, next_within}
 use Rattle.delaunay_location.proofs.delaunay_legalization_lemmas.Rounds.{next_starts, round_goes_on}
 use Rattle.delaunay_location.proofs.delaunay_legalization_lemmas.Rounds.{round_ends}
-use Rattle.delaunay_lines.proofs.MeshSteps.{over_value}
+use Rattle.delaunay_lines.proofs.MeshSteps.{of_mesh, over_value}
+use Rattle.delaunay_lines.proofs.SegmentTests.{unless}
 use Rattle.delaunay_lines.proofs.segment.Segment.edge_towards.Goals as goal
 
 pub loop-edge-init : goal.loop-edge-init
@@ -22,21 +20,20 @@ loop-edge-init g c =
 
 pub leads_to-requires-clause-within : goal.leads_to-requires-clause-within
 leads_to-requires-clause-within g c =
-    let w = next_within _ _ _ _ c.loop-edge.invariant _ _ c.in-Some.ensures.steps in
-    let fit = (over_value c.self.view_is c.self.invariant).mesh.fits.directed_fit in
-    let is = c.fix-edge.ensures.value in omega (arith, w, fit, is)
+    rw c.fix-edge.ensures.value (of_mesh (over_value c.self.view_is c.self.invariant) _
+    (next_within _ _ _ _ c.loop-edge.invariant _ _ c.in-Some.ensures.steps))
 
 pub leads_to-requires-clause-starts_apart : goal.leads_to-requires-clause-starts_apart
 leads_to-requires-clause-starts_apart g c =
-    let d = c.args.self.now.dcel in
-    let o = next_starts _ _ _ _ c.loop-edge.invariant _ _ c.in-Some.ensures.steps in
-    λ e. c.requires.apart (ap (point_at (map g.V.HasPosition.place d.vertices))
-    (sym (ap (origin d.mesh) c.fix-edge.ensures.value ∙ o)) ∙ e)
+    rw (
+      c.fix-edge.ensures.value,
+      next_starts _ _ _ _ c.loop-edge.invariant _ _ c.in-Some.ensures.steps,
+    ) c.requires.apart
 
 pub loop-edge-preserved : goal.loop-edge-preserved
 loop-edge-preserved g c =
     round_goes_on _ _ _ _ c.loop-edge.invariant _ _ c.in-Some.ensures.steps
-    (λ x. both_ways _ (c.leads_to.ensures.1 (rw c.fix-edge.ensures.value x)) c.if-leads_to.false)
+    (unless (rw c.fix-edge.ensures.value at c.leads_to.ensures) c.if-leads_to.false)
 
 pub returns : goal.returns
 returns g c h within starts =
@@ -45,11 +42,9 @@ returns g c h within starts =
 
 pub returns-then-leads_to : goal.returns-then-leads_to
 returns-then-leads_to g c =
-    let o = next_starts _ _ _ _ c.loop-edge.invariant _ _ c.in-Some.ensures.steps in
-    let w = next_within _ _ _ _ c.loop-edge.invariant _ _ c.in-Some.ensures.steps in
-    let fit = (over_value c.self.view_is c.self.invariant).mesh.fits.directed_fit in
-    let is = c.fix-edge.ensures.value in (
-      omega (arith, w, fit, is),
-      ap (origin c.args.self.now.dcel.mesh) is ∙ o,
-      c.leads_to.ensures.0 c.if-leads_to.true,
+    let next = next_within _ _ _ _ c.loop-edge.invariant _ _ c.in-Some.ensures.steps in
+    rw c.fix-edge.ensures.value (
+      of_mesh (over_value c.self.view_is c.self.invariant) _ next,
+      next_starts _ _ _ _ c.loop-edge.invariant _ _ c.in-Some.ensures.steps,
+      rw c.fix-edge.ensures.value at (c.leads_to.ensures.0 c.if-leads_to.true),
     )

@@ -1,5 +1,4 @@
-use Rattle.std.proofs.Common.{Some, sym, arith}
-use Rattle.delaunay_lines.proofs.Advance.{starts_at_vertex}
+use Rattle.std.proofs.Common.{Some, arith}
 use Rattle.delaunay_lines.proofs.FirstItems.{alone_on_edge}
 use Rattle.delaunay_lines.proofs.Located.{inside_that_face, on_that_vertex, outside_that_edge}
 use Rattle.delaunay_lines.proofs.Located.{without_triangulation}
@@ -11,28 +10,26 @@ use Rattle.delaunay_lines.proofs.segment.Segment.first_from.Goals as goal
 
 pub returns-in-OnVertex : goal.returns-in-OnVertex
 returns-in-OnVertex g c =
-    let over = over_value c.self.view_is c.self.invariant in
-    let here = on_that_vertex over c.in-OnVertex.vertex (rw c.in-OnVertex.is at c.requires) in
-    starts_at_vertex over c.in-OnVertex.vertex here.0 (sym here.1)
+    on_that_vertex (over_value c.self.view_is c.self.invariant) c.in-OnVertex.vertex
+    (rw c.in-OnVertex.is at c.requires)
 
 pub returns-in-OnEdge : goal.returns-in-OnEdge
 returns-in-OnEdge g c =
     let over = over_value c.self.view_is c.self.invariant in
     let here = rw c.in-OnEdge.is at c.requires in
     alone_on_edge over c.in-OnEdge.edge (of_mesh over _ here.handle) here.location.1
-    (c.is_point.ensures.0 c.if-is_point.true)
+    (c.ends_apart.ensures.alone c.if-not-ends_apart.true)
 
 pub returns-in_default : goal.returns-in_default
 returns-in_default g c =
     alone_elsewhere (over_value c.self.view_is c.self.invariant) _ c.requires
-    c.in_default.not-OnVertex c.in_default.not-OnEdge (c.is_point.ensures.0 c.if-is_point.true)
+    c.in_default.not-OnVertex c.in_default.not-OnEdge
+    (c.ends_apart.ensures.alone c.if-not-ends_apart.true)
 
 pub returns-in-OnVertex-start : goal.returns-in-OnVertex-start
 returns-in-OnVertex-start g c =
-    let over = over_value c.self.view_is c.self.invariant in
-    let vertex = c.in-OnVertex-start.vertex in
-    let here = on_that_vertex over vertex (rw c.in-OnVertex-start.is at c.requires) in
-    starts_at_vertex over vertex here.0 (sym here.1)
+    on_that_vertex (over_value c.self.view_is c.self.invariant) c.in-OnVertex-start.vertex
+    (rw c.in-OnVertex-start.is at c.requires)
 
 pub edge_of-requires-clause-within : goal.edge_of-requires-clause-within
 edge_of-requires-clause-within g c =

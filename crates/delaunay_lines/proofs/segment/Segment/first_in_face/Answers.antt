@@ -1,7 +1,6 @@
-use Rattle.std.proofs.Common.{sym, ◌∙◌}
-use Rattle.delaunay_location.proofs.delaunay_legalization_lemmas.Questions.{both_ways}
 use Rattle.delaunay_lines.proofs.FirstItems.{ends_in_face, through_start, through_side}
 use Rattle.delaunay_lines.proofs.MeshSteps.{over_value}
+use Rattle.delaunay_lines.proofs.SegmentTests.{unless}
 use Rattle.delaunay_lines.proofs.segment.Segment.first_in_face.Goals as goal
 
 pub returns-then-ends_left_of : goal.returns-then-ends_left_of
@@ -14,17 +13,18 @@ pub returns-then-is_on_line : goal.returns-then-is_on_line
 returns-then-is_on_line g c =
     let exit = c.edge_over-exit.ensures in
     let item = c.start_vertex.ensures in
+    let on = rw c.side_of_start.ensures at c.is_on_line.ensures in
     rw item.value (through_start (over_value c.self.view_is c.self.invariant)
     c.edge_over-exit.result exit.within exit.start c.requires.apart exit.over
-    (λ l. both_ways _ (c.ends_left_of.ensures.1 l) c.if-ends_left_of.false)
-    (sym c.side_of_start.ensures ∙ c.is_on_line.ensures.0 c.if-is_on_line.true)
+    (unless c.ends_left_of.ensures c.if-ends_left_of.false) (on.0 c.if-is_on_line.true)
     (rw item.value at item.within))
 
 pub returns : goal.returns
 returns g c =
     let exit = c.edge_over-exit.ensures in
     let twin = c.twin_of-twin.ensures in
-    rw twin.value (through_side (over_value c.self.view_is c.self.invariant) c.edge_over-exit.result
-    exit.within exit.start c.requires.apart exit.over (rw (← c.self.view_is) (rw twin.value at twin.within))
-    (λ l. both_ways _ (c.ends_left_of.ensures.1 l) c.if-ends_left_of.false)
-    (λ s. both_ways _ (c.is_on_line.ensures.1 (c.side_of_start.ensures ∙ s)) c.if-is_on_line.false))
+    let on = rw c.side_of_start.ensures at c.is_on_line.ensures in
+    rw twin.value (through_side (over_value c.self.view_is c.self.invariant)
+    c.edge_over-exit.result exit.within exit.start c.requires.apart exit.over
+    (rw (← c.self.view_is) (rw twin.value at twin.within))
+    (unless c.ends_left_of.ensures c.if-ends_left_of.false) (unless on c.if-is_on_line.false))

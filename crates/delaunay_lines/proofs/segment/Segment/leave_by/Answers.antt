@@ -1,6 +1,6 @@
 use Rattle.std.proofs.Common.{ap}
-use Rattle.delaunay_location.proofs.delaunay_legalization_lemmas.Questions.{both_ways}
 use Rattle.delaunay_lines.specs.declared.intersection.FixedIntersection.TheVariants.{Edge}
+use Rattle.delaunay_lines.proofs.SegmentTests.{unless}
 use Rattle.delaunay_lines.proofs.segment.Segment.leave_by.Goals as goal
 
 pub returns-then-ends_left_of : goal.returns-then-ends_left_of
@@ -10,5 +10,5 @@ pub returns : goal.returns
 returns g c = (
   ap Edge c.twin_of.ensures.value,
   rw (← c.self.view_is) (rw c.twin_of.ensures.value at c.twin_of.ensures.within),
-  (λ l. both_ways _ (c.ends_left_of.ensures.1 l) c.if-ends_left_of.false),
+  unless c.ends_left_of.ensures c.if-ends_left_of.false,
 )

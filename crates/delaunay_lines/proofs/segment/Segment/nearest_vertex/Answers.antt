@@ -1,35 +1,27 @@
-use Rattle.std.proofs.Common.{ℕ, map, subst, sym, arith, Option}
+use Rattle.std.proofs.Common.{ℕ, map, Option}
 use Rattle.std.proofs.lemmas.List.{length-map}
 use Rattle.delaunay_location.specs.half_edge_mesh.Mesh.{origin}
-use Rattle.delaunay_location.specs.half_edge_mesh.Rounds.{GivesOuterLoop, hull_left}
-use Rattle.delaunay_location.proofs.mesh_embedding.OneOutline.{one_outline}
-use Rattle.delaunay_location.proofs.mesh_embedding.OutlineGiven.{along_begins, along_next}
-use Rattle.delaunay_location.proofs.mesh_embedding.OutlineGiven.{along_goes_on, along_ends, indexes}
+use Rattle.delaunay_location.specs.half_edge_mesh.Rounds.{hull_left}
+use Rattle.delaunay_location.proofs.mesh_embedding.OutlineGiven.{along_next, along_goes_on}
+use Rattle.delaunay_location.proofs.mesh_embedding.OutlineGiven.{along_ends, indexes}
 use Rattle.delaunay_lines.specs.Starts.{IsNoBetter}
-use Rattle.delaunay_lines.proofs.MeshSteps.{over_value}
-use Rattle.delaunay_lines.proofs.OutsideItems.{along_weakened}
+use Rattle.delaunay_lines.proofs.MeshSteps.{of_mesh, over_value}
+use Rattle.delaunay_lines.proofs.OutsideItems.{along_weakened, hull_begins}
 use Rattle.delaunay_lines.proofs.segment.Segment.nearest_vertex.Goals as goal
 
 pub loop-outer-init : goal.loop-outer-init
-loop-outer-init g c =
-    let over = c.self.invariant in
-    record {
-      found = c.first_found-nearest.ensures.found;
-      first = c.first_found-nearest.ensures.first;
-      going = rw (← c.self.view_is) (along_begins c.self.inside.dcel
-          (hull_left c.into_iter-outer-iterator.result) _ over.mesh.valid
-          (one_outline _ _ over.mesh.valid over.shape)
-          (subst (λ it. GivesOuterLoop c.self.inside.dcel (hull_left it))
-          (sym c.into_iter-outer-iterator.ensures.into_iter_gives)
-          c.convex_hull-outer-items.ensures));
-    }
+loop-outer-init g c = record {
+  found = c.first_found-nearest.ensures.found;
+  first = c.first_found-nearest.ensures.first;
+  going = rw (← c.self.view_is) (hull_begins c.self.invariant c.convex_hull-outer-items.ensures
+      c.into_iter-outer-iterator.ensures.into_iter_gives);
+}
 
 pub start_vertex-vertex-requires : goal.start_vertex-vertex-requires
 start_vertex-vertex-requires g c =
-    let w = (along_next _ _ (hull_left c.loop-outer.outer-iterator) c.loop-outer.invariant.going _ _
-    c.in-Some.ensures.steps).0 in
-    let fit = (over_value c.self.view_is c.self.invariant).mesh.fits.directed_fit in
-    omega (arith, w, fit, c.fix-edge.ensures.value)
+    rw c.fix-edge.ensures.value (of_mesh (over_value c.self.view_is c.self.invariant) _ (along_next
+    _ _ (hull_left c.loop-outer.outer-iterator) c.loop-outer.invariant.going _ _
+    c.in-Some.ensures.steps).0)
 
 pub loop-outer-preserved : goal.loop-outer-preserved
 loop-outer-preserved g c =

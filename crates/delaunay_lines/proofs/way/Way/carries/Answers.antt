@@ -1,6 +1,5 @@
 use Rattle.std.proofs.Common.{refl}
 use Rattle.delaunay_location.proofs.plane.Segments.{on_of_within}
-use Rattle.delaunay_location.specs.plane.Fraction.{whole}
 use Rattle.delaunay_location.specs.delaunay_core.Place.{place_of}
 use Rattle.delaunay_location.proofs.delaunay_legalization_lemmas.Questions.{both_ways}
 use Rattle.delaunay_lines.proofs.SegmentTests.{within_if_differs, on_if_not_apart}
@@ -8,13 +7,10 @@ use Rattle.delaunay_lines.proofs.way.Way.carries.Goals as goal
 
 pub returns-then-ends_elsewhere : goal.returns-then-ends_elsewhere
 returns-then-ends_elsewhere g c =
-    let from = place_of g.S.SpadeNum.whole c.self.inside.from in
-    let to = place_of g.S.SpadeNum.whole c.self.inside.to in
-    let point = place_of g.S.SpadeNum.whole c.args.point in
     let off = rw (← c.self.view_is) at (c.ends_elsewhere.ensures.0 c.if-ends_elsewhere.true) in
     rw (← c.self.view_is) (
-      (λ t. on_of_within (whole from) (whole to) (whole point) (c.is_strictly_within.ensures.0 t)),
-      (λ o. c.is_strictly_within.ensures.1 (within_if_differs from to point off.0 off.1 o)),
+      (λ t. on_of_within _ _ _ (c.is_strictly_within.ensures.0 t)),
+      (λ o. c.is_strictly_within.ensures.1 (within_if_differs _ _ _ off.0 off.1 o)),
     )
 
 pub returns-else-ends_elsewhere : goal.returns-else-ends_elsewhere
