@@ -40,6 +40,7 @@ use Rattle.delaunay_lines.specs.Walk.{Starts}
 use Rattle.delaunay_lines.proofs.Advance.{first_of, starts_with}
 use Rattle.delaunay_lines.proofs.MeshSteps.{laid, in_mesh, of_mesh, joined, tiles_with, face_at}
 use Rattle.delaunay_lines.proofs.MeshSteps.{twin_of_prev, twin_of_next, start_in, not_same}
+use Rattle.delaunay_lines.proofs.MeshSteps.{start_known, twin_within}
 
 module _ {V D U F : Type 0} {at : V → Point} {IsSite IsCovered : Point → Type 0}
     {c : Contents V D U F} {p q : Point} (over : IsOverMesh at IsSite IsCovered c p q) where
@@ -131,9 +132,9 @@ module _ {V D U F : Type 0} {at : V → Point} {IsSite IsCovered : Point → Typ
       over_edge s = starts_first apart (Edge h) within (law.0 s)
 
       -- with q on its right it starts by crossing its twin
-      pub over_twin : rev h < length c.directed → side (start h) (start (rev h)) (whole q) ≡ right →
-          Starts at c p q (Some (Edge (rev h)))
-      over_twin r s = starts_first apart (Edge (rev h)) r
+      pub over_twin : side (start h) (start (rev h)) (whole q) ≡ right
+          → Starts at c p q (Some (Edge (rev h)))
+      over_twin s = starts_first apart (Edge (rev h)) (twin_within over h within)
           (subst (λ (x : ℕ). IsFirst t (whole p) (whole q) (across (origin m (rev h)) x))
           twice (law.1 s))
 
@@ -146,9 +147,9 @@ module _ {V D U F : Type 0} {at : V → Point} {IsSite IsCovered : Point → Typ
 
       -- with q behind on its line it starts along the twin
       pub along_twin : {end : Point} → end ≡ point_at points (origin m (rev h))
-          → rev h < length c.directed → side (start h) (start (rev h)) (whole q) ≡ on →
+          → side (start h) (start (rev h)) (whole q) ≡ on →
           ¬ IsAhead (whole p) (whole end) (whole q) → Starts at c p q (Some (Overlap (rev h)))
-      along_twin is r s n = starts_first apart (Overlap (rev h)) r
+      along_twin is s n = starts_first apart (Overlap (rev h)) (twin_within over h within)
           (subst (λ (x : ℕ). IsFirst t (whole p) (whole q) (along (origin m (rev h)) x)) twice
           (back (side_swapped (start h) (start (rev h)) (whole q) ∙ ap opposite s) (go (law.3 s))))
         where
@@ -255,14 +256,14 @@ module _ {V D U F : Type 0} {at : V → Point} {IsSite IsCovered : Point → Typ
 
         -- with q beyond it, and its start on the way, the walk starts at this vertex
         pub through_start : ¬ IsLeftOf points m q h → side (whole p) (whole q) A ≡ on
-            → origin m h < length c.vertices → Starts at c p q (Some (Vertex (origin m h)))
-        through_start n s v_in =
-            starts_first apart (Vertex (origin m h)) v_in ((face_law.0 o.1).1 s n)
+            → Starts at c p q (Some (Vertex (origin m h)))
+        through_start n s = starts_first apart (Vertex (origin m h)) (start_known over h within)
+            ((face_law.0 o.1).1 s n)
 
         -- with q beyond it, and its start off the way, the walk starts by crossing its twin
-        pub through_side : rev h < length c.directed → ¬ IsLeftOf points m q h
+        pub through_side : ¬ IsLeftOf points m q h
             → side (whole p) (whole q) A ≢ on → Starts at c p q (Some (Edge (rev h)))
-        through_side r n s = starts_first apart (Edge (rev h)) r
+        through_side n s = starts_first apart (Edge (rev h)) (twin_within over h within)
             (subst (λ (x : ℕ). IsFirst t (whole p) (whole q) (across (origin m (rev h)) x))
             (ap (origin m) (sym (rev-rev h)))
             ((face_law.0 o.1).2 (below (side (whole p) (whole q) A) o.0 s) n))

@@ -1,5 +1,6 @@
 -- Where a segment starts, by the answer to where its start is.
--- Lemmas: on_that_vertex, inside_that_face, none_past, outside_that_edge, without_triangulation.
+-- Lemmas: on_that_vertex, from_that_vertex, inside_that_face, none_past, outside_that_edge,
+-- without_triangulation.
 use Rattle.std.proofs.Common.{◌≡◌, ℕ, ◌<◌, ◌≤◌, List, length, map, Some}
 use Rattle.std.proofs.Common.{sym, subst, inl, inr, arith}
 use Rattle.delaunay_location.specs.half_edge_mesh.Mesh.{Mesh, origin, prev, face_edge, rev}
@@ -77,12 +78,19 @@ module _ {V D U F : Type 0} {at : V → Point} {IsSite IsCovered : Point → Typ
   one = (each_point_has_one_location points (faces_of m) (outer_of m) (edges_of m) over.shape
       (own_edges m over.mesh.valid) (whole p)).1
 
-  -- located on a vertex, p is where this vertex is, and the walk starts there
+  -- located on a vertex, p is where this vertex is
   pub on_that_vertex : (v : ℕ) → Locates points m p (OnVertex v)
+      → (v < length c.vertices) × (point_at points v ≡ p)
+  on_that_vertex v l = (
+    subst (λ (n : ℕ). v < n) (sym over.mesh.fits.vertices_fit) l.handle,
+    sym (one_point p (point_at points v) l.location.1),
+  )
+
+  -- and the walk starts there
+  pub from_that_vertex : (v : ℕ) → Locates points m p (OnVertex v)
       → Starts at c p q (Some (Vertex v))
-  on_that_vertex v l = starts_at_vertex over v
-      (subst (λ (n : ℕ). v < n) (sym over.mesh.fits.vertices_fit) l.handle)
-      (one_point p (point_at points v) l.location.1)
+  from_that_vertex v l =
+      let here = on_that_vertex v l in starts_at_vertex over v here.0 (sym here.1)
 
   -- located in a face, p is strictly inside it
   pub inside_that_face : (f : ℕ) → Locates points m p (OnFace f)

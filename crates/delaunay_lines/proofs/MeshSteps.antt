@@ -1,6 +1,6 @@
 -- From an item that a segment meets to the next, by the links of a mesh.
 -- Lemmas: over_value, not_same, positive, laid, in_mesh, of_mesh, joined, tiles_with, bare,
--- face_at, start_in, ends_apart, twin_of_prev, twin_of_next, last_at_edge, through_right,
+-- face_at, start_in, start_known, twin_within, ends_apart, twin_of_prev, twin_of_next, last_at_edge, through_right,
 -- through_left, ends_inside, at_corner, last_within_overlap, end_of_overlap, last_at_end,
 -- last_if_none_leads, along_ahead, into_face.
 use Rattle.std.proofs.Common.{◌≡◌, ◌≢◌, ◌⊎◌, ◌↔◌, ◌<◌, ◌∙◌}
@@ -118,6 +118,16 @@ module _ {V D U F : Type 0} {at : V → Point} {IsSite IsCovered : Point → Typ
   pub start_in : (h : ℕ) → h < length m.half_edges → origin m h < length points
   start_in h w = starts_within m s.sound (length points)
       (length-map c.vertices at ∙ over.mesh.fits.vertices_fit) h w
+
+  -- an edge starts at a vertex
+  pub start_known : (h : ℕ) → h < length c.directed → origin m h < length c.vertices
+  start_known h within = subst (λ (n : ℕ). origin m h < n) (length-map c.vertices at)
+      (start_in h (in_mesh h within))
+
+  -- its other direction has data too
+  pub twin_within : (h : ℕ) → h < length c.directed → rev h < length c.directed
+  twin_within h within =
+      of_mesh (rev h) (rev_within h (length m.half_edges) s.sound.even (in_mesh h within))
 
   -- the two ends of a directed edge are different points
   pub ends_apart : (h : ℕ) → h < length c.directed → (u v : Point)

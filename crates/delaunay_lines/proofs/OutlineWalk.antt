@@ -61,7 +61,7 @@ use Rattle.delaunay_lines.specs.Walk.{Starts}
 use Rattle.delaunay_lines.proofs.LineOutline.{end_supported, start_supported, seen_after}
 use Rattle.delaunay_lines.proofs.LineOutline.{seen_before}
 use Rattle.delaunay_lines.proofs.MeshSteps.{laid, in_mesh, of_mesh, joined, bare, face_at}
-use Rattle.delaunay_lines.proofs.MeshSteps.{start_in, not_same}
+use Rattle.delaunay_lines.proofs.MeshSteps.{start_in, start_known, not_same}
 use Rattle.delaunay_lines.proofs.FirstItems.{starts_first, nothing_met}
 use Rattle.delaunay_lines.proofs.OutsideItems.{enters}
 use Rattle.delaunay_location.proofs.plane_delaunay.Floods.Flooded.{segment_from}
@@ -572,10 +572,9 @@ module _ {V D U F : Type 0} {at : V → Point} {IsSite IsCovered : Point → Typ
 
       -- the end of the edge
       pub end_met : side (whole p) (whole q) Y ≡ on → ¬ (side (whole p) (whole q) X ≡ left)
-          → origin m (rev h) < length c.vertices
           → Starts at c p q (Some (Vertex (origin m (rev h))))
-      end_met e n here = starts_first over apart
-          (Vertex (origin m (rev h))) here
+      end_met e n = starts_first over apart (Vertex (origin m (rev h)))
+          (start_known over (rev h) (of_mesh over (rev h) r_in))
           (end_first t t_laid (whole p) (whole q) ways_apart (origin m h) (origin m (rev h)) outer
           seen not_above (start_in over (rev h) r_in)
           (none_if_on (whole p) (whole q) Y e)
@@ -583,9 +582,9 @@ module _ {V D U F : Type 0} {at : V → Point} {IsSite IsCovered : Point → Typ
 
       -- the start of the edge
       pub start_met : side (whole p) (whole q) X ≡ on → side (whole p) (whole q) Y ≡ left
-          → origin m h < length c.vertices → Starts at c p q (Some (Vertex (origin m h)))
-      start_met e l here = starts_first over apart (Vertex (origin m h))
-          here (start_first t t_laid (whole p) (whole q) ways_apart (origin m h) (origin m (rev h))
+          → Starts at c p q (Some (Vertex (origin m h)))
+      start_met e l = starts_first over apart (Vertex (origin m h))
+          (start_known over h s.within) (start_first t t_laid (whole p) (whole q) ways_apart (origin m h) (origin m (rev h))
           outer seen not_above (start_in over h w)
           (none_if_on (whole p) (whole q) X e)
           (above_if_left (whole p) (whole q) Y l))

@@ -46,7 +46,7 @@ use Rattle.delaunay_lines.specs.Steps.{IsOverMesh, IsLeftOf}
 use Rattle.delaunay_lines.specs.Walk.{Starts}
 use Rattle.delaunay_lines.proofs.FirstItems.{starts_first, nothing_met}
 use Rattle.delaunay_lines.proofs.Located.{none_past}
-use Rattle.delaunay_lines.proofs.MeshSteps.{laid, in_mesh, start_in, not_same}
+use Rattle.delaunay_lines.proofs.MeshSteps.{laid, in_mesh, start_in, start_known, not_same}
 
 -- ---- a point i strictly within the way from p to k
 module _ (p k i : Fraction) (within : WithinSegment p k i) where
@@ -185,10 +185,10 @@ module _ {V D U F : Type 0} {at : V → Point} {IsSite IsCovered : Point → Typ
 
     -- the end comes first where the segment passes it
     pub end_passed : {z : Point} → z ≡ point_at points end → OnSegment (whole p) (whole q) (whole z)
-        → end < length c.vertices → Starts at c p q (Some (Vertex end))
-    end_passed is met here =
+        → Starts at c p q (Some (Vertex end))
+    end_passed is met =
         let on = subst (λ (x : Point). OnSegment (whole p) (whole q) (whole x)) is met in
-        starts_first over apart (Vertex end) here (elim t_laid [
+        starts_first over apart (Vertex end) (start_known over h h_in) (elim t_laid [
           | inl tiles ↦ absurd (no_hull tiles)
           | inr l ↦ ((first_on_line t l.0 l.1 l.2 (whole p) (whole q) ways_apart).3
               outside.no_edge).0 end (end_in, on) none_sooner

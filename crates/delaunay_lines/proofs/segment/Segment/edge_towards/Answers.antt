@@ -1,5 +1,5 @@
-use Rattle.std.proofs.Common.{ℕ, sym, ap, subst}
-use Rattle.delaunay_location.specs.half_edge_mesh.Rounds.{GivesRound, out_edges_left}
+use Rattle.std.proofs.Common.{ap}
+use Rattle.delaunay_location.specs.half_edge_mesh.Rounds.{out_edges_left}
 use Rattle.delaunay_location.proofs.delaunay_legalization_lemmas.Rounds.{round_begins, next_within}
 use Rattle.delaunay_location.proofs.delaunay_legalization_lemmas.Rounds.{next_starts, round_goes_on}
 use Rattle.delaunay_location.proofs.delaunay_legalization_lemmas.Rounds.{round_ends}
@@ -9,14 +9,10 @@ use Rattle.delaunay_lines.proofs.segment.Segment.edge_towards.Goals as goal
 
 pub loop-edge-init : goal.loop-edge-init
 loop-edge-init g c =
-    let d = c.vertex.result.dcel in
-    rw (← c.self.view_is) (round_begins c.self.inside.dcel.now c.args.vertex _ d
+    rw (← c.self.view_is) (round_begins c.self.inside.dcel.now c.args.vertex _ c.vertex.result.dcel
     (out_edges_left c.into_iter-edge-iterator.result) (ap (λ x. x.now) c.vertex.ensures.dcel)
-    c.self.invariant.mesh.valid
-    (subst (λ it. GivesRound d c.args.vertex (out_edges_left it))
-    (sym c.into_iter-edge-iterator.ensures.into_iter_gives)
-    (subst (λ (v : ℕ). GivesRound d v (out_edges_left c.out_edges-edge-items.result))
-    c.vertex.ensures.index c.out_edges-edge-items.ensures)))
+    c.self.invariant.mesh.valid (rw c.into_iter-edge-iterator.ensures.into_iter_gives
+    (rw c.vertex.ensures.index at c.out_edges-edge-items.ensures)))
 
 pub leads_to-requires-clause-within : goal.leads_to-requires-clause-within
 leads_to-requires-clause-within g c =

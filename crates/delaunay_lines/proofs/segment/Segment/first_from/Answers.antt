@@ -1,6 +1,6 @@
 use Rattle.std.proofs.Common.{Some, arith}
 use Rattle.delaunay_lines.proofs.FirstItems.{alone_on_edge}
-use Rattle.delaunay_lines.proofs.Located.{inside_that_face, on_that_vertex, outside_that_edge}
+use Rattle.delaunay_lines.proofs.Located.{inside_that_face, from_that_vertex, outside_that_edge}
 use Rattle.delaunay_lines.proofs.Located.{without_triangulation}
 use Rattle.delaunay_lines.proofs.MeshSteps.{of_mesh, over_value}
 use Rattle.delaunay_lines.proofs.OutlineWalk.{seen_from}
@@ -10,7 +10,7 @@ use Rattle.delaunay_lines.proofs.segment.Segment.first_from.Goals as goal
 
 pub returns-in-OnVertex : goal.returns-in-OnVertex
 returns-in-OnVertex g c =
-    on_that_vertex (over_value c.self.view_is c.self.invariant) c.in-OnVertex.vertex
+    from_that_vertex (over_value c.self.view_is c.self.invariant) c.in-OnVertex.vertex
     (rw c.in-OnVertex.is at c.requires)
 
 pub returns-in-OnEdge : goal.returns-in-OnEdge
@@ -28,7 +28,7 @@ returns-in_default g c =
 
 pub returns-in-OnVertex-start : goal.returns-in-OnVertex-start
 returns-in-OnVertex-start g c =
-    on_that_vertex (over_value c.self.view_is c.self.invariant) c.in-OnVertex-start.vertex
+    from_that_vertex (over_value c.self.view_is c.self.invariant) c.in-OnVertex-start.vertex
     (rw c.in-OnVertex-start.is at c.requires)
 
 pub edge_of-requires-clause-within : goal.edge_of-requires-clause-within

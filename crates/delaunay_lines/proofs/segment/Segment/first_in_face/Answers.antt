@@ -12,19 +12,15 @@ returns-then-ends_left_of g c =
 pub returns-then-is_on_line : goal.returns-then-is_on_line
 returns-then-is_on_line g c =
     let exit = c.edge_over-exit.ensures in
-    let item = c.start_vertex.ensures in
     let on = rw c.side_of_start.ensures at c.is_on_line.ensures in
-    rw item.value (through_start (over_value c.self.view_is c.self.invariant)
+    rw c.start_vertex.ensures.value (through_start (over_value c.self.view_is c.self.invariant)
     c.edge_over-exit.result exit.within exit.start c.requires.apart exit.over
-    (unless c.ends_left_of.ensures c.if-ends_left_of.false) (on.0 c.if-is_on_line.true)
-    (rw item.value at item.within))
+    (unless c.ends_left_of.ensures c.if-ends_left_of.false) (on.0 c.if-is_on_line.true))
 
 pub returns : goal.returns
 returns g c =
     let exit = c.edge_over-exit.ensures in
-    let twin = c.twin_of-twin.ensures in
     let on = rw c.side_of_start.ensures at c.is_on_line.ensures in
-    rw twin.value (through_side (over_value c.self.view_is c.self.invariant)
+    rw c.twin_of-twin.ensures.value (through_side (over_value c.self.view_is c.self.invariant)
     c.edge_over-exit.result exit.within exit.start c.requires.apart exit.over
-    (rw (← c.self.view_is) (rw twin.value at twin.within))
     (unless c.ends_left_of.ensures c.if-ends_left_of.false) (unless on c.if-is_on_line.false))

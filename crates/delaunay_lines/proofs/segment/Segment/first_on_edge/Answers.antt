@@ -16,11 +16,9 @@ returns-then-is_on_left_side g c =
 
 pub returns-then-is_on_right_side : goal.returns-then-is_on_right_side
 returns-then-is_on_right_side g c =
-    let twin = c.twin_of-twin.ensures in
     let right = rw c.side_of_to-side.ensures at c.is_on_right_side.ensures in
-    rw twin.value (over_twin (over_value c.self.view_is c.self.invariant) c.args.edge
-    c.requires.within c.requires.start c.requires.apart
-    (rw (← c.self.view_is) (rw twin.value at twin.within)) (right.0 c.if-is_on_right_side.true))
+    rw c.twin_of-twin.ensures.value (over_twin (over_value c.self.view_is c.self.invariant) c.args.edge
+    c.requires.within c.requires.start c.requires.apart (right.0 c.if-is_on_right_side.true))
 
 pub invariant_of-ahead : goal.invariant_of-ahead
 invariant_of-ahead g c =
@@ -56,10 +54,9 @@ pub returns-else-goes_towards : goal.returns-else-goes_towards
 returns-else-goes_towards g c =
     let given = rw (← c.self.view_is) at c.requires in
     let side = rw (← c.self.view_is) at c.side_of_to-side.ensures in
-    let twin = c.twin_of-twin.ensures in
-    rw (twin.value, ← c.self.view_is) (along_twin c.self.invariant c.args.edge given.within
-    given.start given.apart (rw (twin.value, ← c.self.view_is) at c.start_of.ensures.place)
-    (rw twin.value at twin.within)
+    let twin = c.twin_of-twin.ensures.value in
+    rw (twin, ← c.self.view_is) (along_twin c.self.invariant c.args.edge given.within
+    given.start given.apart (rw (twin, ← c.self.view_is) at c.start_of.ensures.place)
     (on_if_neither _ (unless (rw side at c.is_on_left_side.ensures) c.if-is_on_left_side.false)
     (unless (rw side at c.is_on_right_side.ensures) c.if-is_on_right_side.false))
     (unless c.goes_towards.ensures c.if-goes_towards.false))

@@ -8,10 +8,10 @@ carries-requires g c = rw (← c.self.view_is) at c.start_of.ensures.covered
 pub returns-then-carries : goal.returns-then-carries
 returns-then-carries g c =
     let given = rw (← c.self.view_is) at c.requires in
-    let vertex = rw (← c.self.view_is) at c.start_vertex.ensures in
-    rw (← c.self.view_is, vertex.value) (end_passed c.self.invariant given.start given.apart
+    let vertex = rw (← c.self.view_is) at c.start_vertex.ensures.value in
+    rw (← c.self.view_is, vertex) (end_passed c.self.invariant given.start given.apart
     c.args.edge given.within given.past (rw (← c.self.view_is) at c.start_of.ensures.place)
-    (c.carries.ensures.0 c.if-carries.true) (rw vertex.value at vertex.within))
+    (c.carries.ensures.0 c.if-carries.true))
 
 pub returns : goal.returns
 returns g c =

@@ -11,11 +11,13 @@ returns-clause-line g c = record {
 }
 
 pub returns-clause-ready : goal.returns-clause-ready
-returns-clause-ready g c = record {
-  over = c.self.invariant;
-  items = c.requires.items;
-  are_left = rw (← c.self.view_is) at c.requires.are_from;
-  few = let few = rw (← c.self.view_is) at c.requires.few in
-      let vertices = c.num_vertices.ensures.value in
-      let edges = c.num_undirected_edges.ensures.value in omega (arith, few, vertices, edges);
-}
+returns-clause-ready g c =
+    let given = rw (← c.self.view_is) at c.requires in
+    let vertices = c.num_vertices.ensures.value in
+    let edges = c.num_undirected_edges.ensures.value in
+    record {
+      over = c.self.invariant;
+      items = given.items;
+      are_left = given.are_from;
+      few = omega (arith, given.few, vertices, edges);
+    }
