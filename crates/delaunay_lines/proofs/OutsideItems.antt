@@ -107,9 +107,9 @@ found_within points p q n count None x = tt
 found_within points p q n count (Some o) x = let less = x.0 in omega (arith, count, less)
 
 -- a search along the outline that has seen edges with a property has seen them with a weaker one
-pub along_weakened : (m : Mesh) (Seen Other : ℕ → Type 0) (rest : List ℕ)
+pub along_weakened : {m : Mesh} {Seen Other : ℕ → Type 0} {rest : List ℕ}
     → ((h : ℕ) → Seen h → Other h) → IsGoingAlong m Seen rest → IsGoingAlong m Other rest
-along_weakened m Seen Other rest weaker going = record {
+along_weakened weaker going = record {
   within = going.within;
   each = λ h o. elim (going.each h o) [ inl c ↦ inl c | inr s ↦ inr (weaker h s) ];
 }

@@ -9,7 +9,8 @@ ghost use Rattle.delaunay_location.specs.mesh_embedding.Drawn.{drawn};
 ghost use Rattle.delaunay_location.specs.delaunay_core.Place.{place_of};
 ghost use Rattle.delaunay_lines.specs.Starts.{GoesRight, HasEndsOnSides, IsBetter, IsCrossed};
 ghost use Rattle.delaunay_lines.specs.Starts.{IsNearerVertex, IsNearestOf};
-ghost use Rattle.delaunay_lines.specs.Starts.{IsNoBetter, IsOnSegment, StartsOutside};
+ghost use Rattle.delaunay_lines.specs.Over.{IsFromOutside};
+ghost use Rattle.delaunay_lines.specs.Starts.{IsNoBetter, IsOnSegment};
 ghost use Rattle.delaunay_lines.specs.Steps.{IsLeftOf};
 ghost use Rattle.delaunay_lines.specs.Outline.{IsSeenOuter, IsTurningPoint};
 ghost use Rattle.delaunay_lines.specs.Walk.{Starts};
@@ -165,8 +166,7 @@ impl<'a, V: HasPosition, DE, UE, F, P: PlaneTests<V::Scalar>> Segment<'a, V, DE,
     // along the outline up to such an edge, and, where there is none, once more.
     pub(crate) fn first_outside(&self) -> Option<FixedIntersection>
         requires apart { self.now.from ≢ self.now.to }
-        requires start { StartsOutside (drawn (map V.place self.now.dcel.vertices)
-            self.now.dcel.mesh) self.now.from }
+        requires start { IsFromOutside V.place self.now }
         ensures { Starts V.place self.now.dcel self.now.from self.now.to result }
     {
         for outer in self.dcel.convex_hull() {
@@ -217,8 +217,7 @@ impl<'a, V: HasPosition, DE, UE, F, P: PlaneTests<V::Scalar>> Segment<'a, V, DE,
     // What it meets first, where the outline comes no nearer to its line beyond a seen outer edge.
     fn first_at(&self, edge: FixedDirectedEdgeHandle) -> Option<FixedIntersection>
         requires apart { self.now.from ≢ self.now.to }
-        requires start { StartsOutside (drawn (map V.place self.now.dcel.vertices)
-            self.now.dcel.mesh) self.now.from }
+        requires start { IsFromOutside V.place self.now }
         requires seen { IsSeenOuter V.place self.now.dcel self.now.from edge }
         requires stop { IsTurningPoint V.place self.now.dcel self.now.from self.now.to edge }
         ensures { Starts V.place self.now.dcel self.now.from self.now.to result }
@@ -248,8 +247,7 @@ impl<'a, V: HasPosition, DE, UE, F, P: PlaneTests<V::Scalar>> Segment<'a, V, DE,
     // that: behind the last step is the look along the whole outline.
     pub(crate) fn first_along(&self, edge: FixedDirectedEdgeHandle) -> Option<FixedIntersection>
         requires apart { self.now.from ≢ self.now.to }
-        requires start { StartsOutside (drawn (map V.place self.now.dcel.vertices)
-            self.now.dcel.mesh) self.now.from }
+        requires start { IsFromOutside V.place self.now }
         requires seen { IsSeenOuter V.place self.now.dcel self.now.from edge }
         ensures { Starts V.place self.now.dcel self.now.from self.now.to result }
     {
@@ -272,8 +270,7 @@ impl<'a, V: HasPosition, DE, UE, F, P: PlaneTests<V::Scalar>> Segment<'a, V, DE,
     pub(crate) fn first_past(&self, edge: FixedDirectedEdgeHandle) -> Option<FixedIntersection>
         requires within { edge < length self.now.dcel.directed }
         requires apart { self.now.from ≢ self.now.to }
-        requires start { StartsOutside (drawn (map V.place self.now.dcel.vertices)
-            self.now.dcel.mesh) self.now.from }
+        requires start { IsFromOutside V.place self.now }
         requires past { IsPast (drawn (map V.place self.now.dcel.vertices) self.now.dcel.mesh)
             (origin self.now.dcel.mesh edge) (fraction self.now.from) }
         ensures { Starts V.place self.now.dcel self.now.from self.now.to result }

@@ -1,6 +1,7 @@
 //! What a segment meets first, from strictly within an edge, or strictly inside a face.
 ghost use Rattle.std.specs.Prelude.{◌≢◌, ◌↔◌, ◌<◌, length, map, IsTrue};
-ghost use Rattle.delaunay_lines.specs.Starts.{StartsWithin, StartsInside, GoesOver};
+ghost use Rattle.delaunay_lines.specs.Over.{IsFromInside};
+ghost use Rattle.delaunay_lines.specs.Starts.{GoesOver, StartsWithin};
 ghost use Rattle.delaunay_lines.specs.Walk.{Starts};
 
 use crate::intersection::FixedIntersection;
@@ -56,11 +57,9 @@ impl<'a, V: HasPosition, DE, UE, F, P: PlaneTests<V::Scalar>> Segment<'a, V, DE,
     fn edge_over(&self, edge: FixedDirectedEdgeHandle) -> FixedDirectedEdgeHandle
         requires within { edge < length self.now.dcel.directed }
         requires apart { self.now.from ≢ self.now.to }
-        requires start { StartsInside (map V.place self.now.dcel.vertices) self.now.dcel.mesh
-            self.now.from edge }
+        requires start { IsFromInside V.place self.now edge }
         ensures within { result < length self.now.dcel.directed }
-        ensures start { StartsInside (map V.place self.now.dcel.vertices) self.now.dcel.mesh
-            self.now.from result }
+        ensures start { IsFromInside V.place self.now result }
         ensures over { GoesOver (map V.place self.now.dcel.vertices) self.now.dcel.mesh
             self.now.from self.now.to result }
     {
@@ -79,8 +78,7 @@ impl<'a, V: HasPosition, DE, UE, F, P: PlaneTests<V::Scalar>> Segment<'a, V, DE,
     pub(crate) fn first_in_face(&self, edge: FixedDirectedEdgeHandle) -> Option<FixedIntersection>
         requires within { edge < length self.now.dcel.directed }
         requires apart { self.now.from ≢ self.now.to }
-        requires start { StartsInside (map V.place self.now.dcel.vertices) self.now.dcel.mesh
-            self.now.from edge }
+        requires start { IsFromInside V.place self.now edge }
         ensures { Starts V.place self.now.dcel self.now.from self.now.to result }
     {
         let exit = self.edge_over(edge);

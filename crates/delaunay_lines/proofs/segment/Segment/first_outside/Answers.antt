@@ -28,14 +28,9 @@ returns-then-is_crossed g c =
 
 pub loop-outer-preserved : goal.loop-outer-preserved
 loop-outer-preserved g c =
-    let s = c.args.self.now in
-    let Crossed = λ (h : ℕ). IsCrossed (map g.V.HasPosition.place s.dcel.vertices) s.dcel.mesh
-    s.from s.to h in
-    along_goes_on _ (λ (h : ℕ). ¬ Crossed (rev h)) (hull_left c.loop-outer.outer-iterator)
-    c.loop-outer.invariant _ _ c.in-Some.ensures.steps (unless (rw (
-      c.fix-edge.ensures.value,
-      c.rev.ensures.index,
-    ) at c.is_crossed.ensures) c.if-is_crossed.false)
+    along_goes_on _ _ (hull_left c.loop-outer.outer-iterator) c.loop-outer.invariant _ _
+    c.in-Some.ensures.steps (unless (rw (c.fix-edge.ensures.value, c.rev.ensures.index) at
+    c.is_crossed.ensures) c.if-is_crossed.false)
 
 pub returns-in-Some-nearest_vertex : goal.returns-in-Some-nearest_vertex
 returns-in-Some-nearest_vertex g c =

@@ -25,18 +25,13 @@ start_vertex-vertex-requires g c =
 
 pub loop-outer-preserved : goal.loop-outer-preserved
 loop-outer-preserved g c =
-    let s = c.args.self.now in
     let now = c.better_of-nearest.ensures in
-    let NoBetter : Option ℕ → ℕ → Type 0 = λ r h. IsNoBetter
-    (map g.V.HasPosition.place s.dcel.vertices) s.from s.to r (origin s.dcel.mesh h) in
     record {
       found = now.found;
       first = λ some. now.kept 0 (c.loop-outer.invariant.first some);
-      going = along_goes_on _ (NoBetter c.better_of-nearest.result)
-          (hull_left c.loop-outer.outer-iterator)
-          (along_weakened _ (NoBetter c.loop-outer.nearest) _
-          (indexes (hull_left c.loop-outer.outer-iterator))
-          (λ h seen. now.kept _ seen) c.loop-outer.invariant.going) _ _ c.in-Some.ensures.steps
+      going = along_goes_on _ _ (hull_left c.loop-outer.outer-iterator)
+          (along_weakened (λ h seen. now.kept _ seen) c.loop-outer.invariant.going) _ _
+          c.in-Some.ensures.steps
           (rw (c.start_vertex-vertex.ensures.value, c.fix-edge.ensures.value) at now.here);
     }
 
