@@ -3,13 +3,6 @@ use Rattle.delaunay_lines.proofs.MeshSteps.{over_value}
 use Rattle.delaunay_lines.proofs.SegmentTests.{unless}
 use Rattle.delaunay_lines.proofs.segment.Segment.edge_over.Goals as goal
 
-pub returns-then-goes_over : goal.returns-then-goes_over
-returns-then-goes_over g c = record {
-  within = c.requires.within;
-  start = c.requires.start;
-  over = c.goes_over.ensures.0 c.if-goes_over.true;
-}
-
 pub returns-then-goes_over-2 : goal.returns-then-goes_over-2
 returns-then-goes_over-2 g c = record {
   within = c.edge_after-next.ensures.within;

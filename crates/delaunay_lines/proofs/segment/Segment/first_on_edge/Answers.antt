@@ -37,9 +37,6 @@ invariant_of-ahead g c =
           (differs_if_within start end ends s.from c.requires.start).1);
     }
 
-pub goes_towards-requires-clause-apart : goal.goes_towards-requires-clause-apart
-goes_towards-requires-clause-apart g c = rw (← c.self.view_is) at c.requires.apart
-
 pub returns-then-goes_towards : goal.returns-then-goes_towards
 returns-then-goes_towards g c =
     let given = rw (← c.self.view_is) at c.requires in

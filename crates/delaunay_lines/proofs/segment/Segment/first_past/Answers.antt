@@ -2,9 +2,6 @@ use Rattle.delaunay_lines.proofs.PastEnd.{end_passed, end_missed}
 use Rattle.delaunay_lines.proofs.SegmentTests.{unless}
 use Rattle.delaunay_lines.proofs.segment.Segment.first_past.Goals as goal
 
-pub carries-requires : goal.carries-requires
-carries-requires g c = rw (← c.self.view_is) at c.start_of.ensures.covered
-
 pub returns-then-carries : goal.returns-then-carries
 returns-then-carries g c =
     let given = rw (← c.self.view_is) at c.requires in

@@ -3,9 +3,6 @@ use Rattle.delaunay_lines.specs.declared.intersection.FixedIntersection.TheVaria
 use Rattle.delaunay_lines.proofs.SegmentTests.{unless}
 use Rattle.delaunay_lines.proofs.segment.Segment.leave_by.Goals as goal
 
-pub returns-then-ends_left_of : goal.returns-then-ends_left_of
-returns-then-ends_left_of g c = c.ends_left_of.ensures.0 c.if-ends_left_of.true
-
 pub returns : goal.returns
 returns g c = (
   ap Edge c.twin_of.ensures.value,

@@ -3,9 +3,6 @@ use Rattle.delaunay_location.proofs.delaunay_legalization_lemmas.Questions.{both
 use Rattle.delaunay_lines.proofs.SegmentTests.{differs_if_within}
 use Rattle.delaunay_lines.proofs.way.Way.has_within.Goals as goal
 
-pub returns-then-ends_elsewhere : goal.returns-then-ends_elsewhere
-returns-then-ends_elsewhere g c = rw (← c.self.view_is) c.is_strictly_within.ensures
-
 pub returns-else-ends_elsewhere : goal.returns-else-ends_elsewhere
 returns-else-ends_elsewhere g c = (
   (λ t. absurd (both_ways _ t c.if-ends_elsewhere.false)),
