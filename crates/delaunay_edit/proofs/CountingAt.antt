@@ -1,5 +1,5 @@
 -- The constraints at a vertex are counted, one edge after another.
--- Notions: IsCountingAt; counting_begins, next_at, counting_goes_past, counting_goes_on,
+-- Notions: IsCountingAt; counting_begins, next_within, counting_goes_past, counting_goes_on,
 -- counting_ends.
 use Rattle.std.proofs.Common.{◌≡◌, ◌⊎◌, ◌↔◌, ◌+◌, ◌/◌, ◌<◌, ◌≤◌, [], ◌∷◌}
 use Rattle.std.proofs.Common.{ℕ, suc, Bool, List, length, map, refl, sym}
@@ -160,10 +160,13 @@ module _ {V D U F : Type 0} (place : V → Point) (marks : U → Bool) (constrai
           (starts h (Contains-later i hs h there) ∙ sym (starts i (Contains-head i hs)) ∙ s.0)
 
   module _ (given : List (Bor (Contents V D U F) × ℕ)) (count : ℕ) (p : Counting given count) where
-    -- the next edge that is given is one of the mesh
-    pub next_at : (x : Bor (Contents V D U F) × ℕ) (left : List (Bor (Contents V D U F) × ℕ))
-        → given ≡ x ∷ left → x.1 < length c.mesh.half_edges
-    next_at x left e = p.are_left.within x.1 (next_left c v given p.rest p.are_left x left e)
+    -- a handle of the next edge that is given, as an undirected one, is one of the mesh
+    pub next_within : (x : Bor (Contents V D U F) × ℕ) (left : List (Bor (Contents V D U F) × ℕ))
+        → given ≡ x ∷ left → (f u : ℕ) → f ≡ x.1 → u ≡ f / 2 → u < length c.undirected
+    next_within x left e f u is half =
+        let within = p.are_left.within x.1 (next_left c v given p.rest p.are_left x left e) in
+        let fit = kept.fits.undirected_fit in
+        omega (arith, within, fit, is, half)
 
     module _ (x : Bor (Contents V D U F) × ℕ) (left : List (Bor (Contents V D U F) × ℕ))
         (e : given ≡ x ∷ left) where

@@ -59,10 +59,10 @@ module _ {V D U F : Type 0} (place : V → Point) (marks : U → Bool) (constrai
       plain_with_edges place s kept (constraints_by constraints s) constraint_edges
 
   -- two vertices are at different points
-  pub points_apart : (a b : ℕ) → a < length s.vertices → b < length s.vertices → a ≢ b
-      → (p q : Point) → p ≡ point_at (map place s.vertices) a
+  pub points_apart : {a b : ℕ} → (a < length s.vertices) × (b < length s.vertices) × (a ≢ b)
+      → {p q : Point} → p ≡ point_at (map place s.vertices) a
       → q ≡ point_at (map place s.vertices) b → p ≢ q
-  points_apart a b ha hb n p q is_p is_q e =
+  points_apart {a = a} {b = b} (ha, hb, n) is_p is_q e =
       placed_apart (map place s.vertices) (faces_of s.mesh) (outer_of s.mesh) kept.shape a b
       (in_map place s.vertices a ha) (in_map place s.vertices b hb) n
       (ap whole (sym is_p ∙ e ∙ is_q))

@@ -1,9 +1,12 @@
 -- Straight halves in the plain state: where their middle goes, and then their far ends become a
 -- pair, the vertex was removed; and whether two ends are those of such.
 -- Lemmas: former_of_new, removes_without_halves, halves_turned, removes_and_joins,
--- not_two_no_halves, two_straight, two_bent.
+-- not_two_no_halves, two_told.
 use Rattle.std.proofs.Common.{◌≡◌, ◌≢◌, ◌⊎◌, ◌↔◌, ◌-◌, ◌<◌, ◌∙◌}
-use Rattle.std.proofs.Common.{ℕ, length, sym, ap, subst, subst₂, inl, inr, arith}
+use Rattle.std.proofs.Common.{ℕ, Bool, true, false, length, Option, refl, sym, ap, subst, subst₂}
+use Rattle.std.proofs.Common.{inl, inr, arith}
+use Rattle.std.specs.Bool.{then_some}
+use Rattle.std.specs.Prelude.{IsTrue}
 use Rattle.std.proofs.lemmas.Bool.Decides.{nat_tests}
 use Rattle.delaunay_paths.specs.plane.Fraction.{Point, WithinSegment}
 use Rattle.delaunay_paths.specs.plane.Pairs.{IsSamePair, Joins, place}
@@ -14,7 +17,8 @@ use Rattle.delaunay_paths.specs.plane_edits.Removal.{new_index}
 use Rattle.delaunay_paths.proofs.plane_edits.Removal.Renumbering.{new_below}
 use Rattle.delaunay_paths.proofs.plane_tiling.Edges.{turned_within}
 use Rattle.delaunay_removal.specs.Pairs.{former_index}
-use Rattle.delaunay_edit.specs.Halves.{AreOnlyEnds}
+use Rattle.delaunay_paths.proofs.delaunay_legalization_lemmas.Questions.{both_ways}
+use Rattle.delaunay_edit.specs.Halves.{AreHalvesAt, AreOnlyEnds}
 
 -- the former index of a vertex other than v, by the one that it has when v has gone, and back
 pub former_of_new : (v last k : ℕ) → k ≢ v → former_index v last (new_index v last k) ≡ k
@@ -139,7 +143,7 @@ module _ {V : Type 0} (position : V → Point) (s : Plain V) (v : ℕ) where
         (place (points_of position s) v)
 
     -- where the vertex is strictly between two ends, they are those of straight halves
-    pub two_straight : IsWithin → AreStraightHalves position s v a b
+    two_straight : IsWithin → AreStraightHalves position s v a b
     two_straight within = record {
       apart = ends.apart;
       first = ends.first;
@@ -149,7 +153,7 @@ module _ {V : Type 0} (position : V → Point) (s : Plain V) (v : ℕ) where
     }
 
     -- where it is not, there are none
-    pub two_bent : ¬ IsWithin → (c d : ℕ) → ¬ AreStraightHalves position s v c d
+    two_bent : ¬ IsWithin → (c d : ℕ) → ¬ AreStraightHalves position s v c d
     two_bent bent c d h = go (ends.only c h.first) (ends.only d h.second)
       where
         there : (x y : ℕ) → c ≡ x → d ≡ y
@@ -164,3 +168,9 @@ module _ {V : Type 0} (position : V → Point) (s : Plain V) (v : ℕ) where
         go (inr e) (inl f) = bent (turned_within (place (points_of position s) b)
             (place (points_of position s) a) (place (points_of position s) v) (there b a e f))
         go (inr e) (inr f) = h.apart (e ∙ sym f)
+
+    -- by a test whether it is, they are told
+    pub two_told : (within : Bool) → IsTrue within ↔ IsWithin → (r : Option (ℕ × ℕ))
+        → r ≡ then_some within (a, b) → AreHalvesAt position s v r
+    two_told true is r told = rw told (two_straight (is.0 refl))
+    two_told false is r told = rw told (two_bent (λ w. both_ways false (is.1 w) refl))

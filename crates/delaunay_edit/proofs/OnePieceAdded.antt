@@ -4,12 +4,11 @@
 use Rattle.std.proofs.Common.{◌≡◌, ◌≢◌, ◌↔◌, ◌/◌, ◌<◌, [], ◌∷◌, ◌∙◌}
 use Rattle.std.proofs.Common.{ℕ, Bool, false, List, length, map}
 use Rattle.std.proofs.Common.{refl, sym, subst, subst₂, inl, inr, arith}
-use Rattle.std.specs.Prelude.{Contains, IsTrue, Result, Ok}
+use Rattle.std.specs.Prelude.{Contains, Ok}
 use Rattle.delaunay_paths.specs.half_edge_mesh.Mesh.{Mesh, origin, rev}
 use Rattle.delaunay_paths.specs.half_edge_mesh.Contents.{Contents}
 use Rattle.delaunay_paths.specs.plane.Fraction.{Point}
-use Rattle.delaunay_paths.specs.plane.Pairs.{IsSamePair, Joins, SamePairs, place as point_place}
-use Rattle.delaunay_paths.specs.plane.Plain.{Adds}
+use Rattle.delaunay_paths.specs.plane.Pairs.{IsSamePair, Joins, place as point_place}
 use Rattle.delaunay_paths.proofs.plane.Indexes.{same_joined}
 use Rattle.delaunay_paths.proofs.plane.Meetings.{cross_at_point}
 use Rattle.delaunay_paths.proofs.plane.Segments.{same-refl}
@@ -32,8 +31,8 @@ use Rattle.delaunay_paths.proofs.JoinedPairs.{edge_joins}
 use Rattle.delaunay_paths.proofs.OnePiece.{edge_is_free, edge_is_next, ends_apart, first_in}
 use Rattle.delaunay_paths.proofs.OnePiece.{one_piece, second_in}
 use Rattle.delaunay_paths.proofs.Walking.{in_map, placed_apart}
-use Rattle.delaunay_edit.specs.Constrained.{constrained, constraint_edges, constraints_of}
-use Rattle.delaunay_edit.specs.ConstraintEdits.{AddsConstraint, AddsPathIfFree, MarksEdges}
+use Rattle.delaunay_edit.specs.Constrained.{constraint_edges, constraints_of}
+use Rattle.delaunay_edit.specs.ConstraintEdits.{AddsConstraint, AddsPathIfFree}
 use Rattle.delaunay_edit.specs.Counting.{HasPairs, IsMissing}
 use Rattle.delaunay_edit.proofs.EditingConstraints.{nothing_added}
 use Rattle.delaunay_edit.proofs.PairCounts.{has_pairs_as, no_pairs, one_more}
@@ -92,8 +91,10 @@ none_to_itself {E = E} at s kept i j within same =
 
 -- ---- an edge becomes a constraint
 module _ {V D U F : Type 0} (place : V → Point) (d : Contents V D (CdtEdge U) F)
-    (kept : IsTriangulated place (state_of d)) (h : ℕ)
-    (within : h < length d.mesh.half_edges) where
+    (kept : IsTriangulated place (state_of d)) (h : ℕ) (is_edge : h < length d.directed) where
+  within : h < length d.mesh.half_edges
+  within = rw kept.fits.directed_fit at is_edge
+
   abbrev points : List Point
   points = map place d.vertices
 
@@ -149,44 +150,43 @@ module _ {V D U F : Type 0} (place : V → Point) (d : Contents V D (CdtEdge U) 
         free (joins_if.1 (all i j (edge_is_next place (state_of d) kept h within)))
 
 -- ---- in the words of the edits
-module _ {V D U F : Type 0} (place : V → Point) (old new : State V D (CdtEdge U) F) (h : ℕ)
-    (plain : Adds place (constrained old) (constrained new) (origin old.mesh h)
-    (origin old.mesh (rev h))) (marks : MarksEdges old new) where
-  -- an edge between two vertices was added to the constraints
-  pub edge_told : {E : Type 0} (from to : ℕ) → origin old.mesh h ≡ from
-      → origin old.mesh (rev h) ≡ to → (made : Bool)
-      → IsTrue made ↔ (¬ SamePairs (constraints_of old) (constraints_of new))
-      → ((¬ IsTrue made) → new ≡ old) → (result : Result Bool E) → result ≡ Ok made
-      → AddsConstraint place from to result old new
-  edge_told {E} from to e f made told none result is =
-      subst (λ (r : Result Bool E). AddsConstraint place from to r old new) (sym is) (record {
-        plain = subst₂ (λ (a b : ℕ). Adds place (constrained old) (constrained new) a b) e f plain;
-        told = told;
-        none_made = none;
-        «data» = marks;
+module _ {V D U F : Type 0} {place : V → Point} {old new : State V D (CdtEdge U) F}
+    {made : Bool} where
+  -- what was told of the edge between two vertices may be told of the vertices
+  pub edge_told : {E : Type 0} {i j from to : ℕ}
+      → AddsConstraint place {E = ℕ} i j (Ok made) old new → i ≡ from → j ≡ to
+      → AddsConstraint place {E = E} from to (Ok made) old new
+  edge_told {E = E} {i = i} {j = j} adds e f =
+      subst₂ (λ (a b : ℕ). AddsConstraint place {E = E} a b (Ok made) old new) e f (record {
+        plain = adds.plain;
+        told = adds.told;
+        none_made = adds.none_made;
+        «data» = adds.«data»;
         err = tt;
       })
 
   -- the list of the edge alone is the path
-  pub edge_listed : IsTriangulated place old → h < length old.mesh.half_edges
-      → new.mesh ≡ old.mesh → (edges : List ℕ) → edges ≡ h ∷ []
+  pub edge_listed : {h : ℕ} → AddsConstraint place {E = ℕ} (origin old.mesh h)
+      (origin old.mesh (rev h)) (Ok made) old new → IsTriangulated place old
+      → h < length old.mesh.half_edges → new.mesh ≡ old.mesh → (edges : List ℕ) → edges ≡ h ∷ []
       → AddsPathIfFree place (origin old.mesh h) (origin old.mesh (rev h)) edges old new
-  edge_listed kept within same edges is = record {
+  edge_listed {h = h} adds kept within same edges is = record {
     refused = λ barred. absurd (elim barred as (λ _. ⊥) [
       | inl e ↦ ends_apart place old kept h within e
-      | inr n ↦ n plain.free
+      | inr n ↦ n adds.plain.free
     ]);
-    plain = λ apart free. plain;
+    plain = λ apart free. adds.plain;
     along = λ apart free. subst₂ (λ (vs : List V) (m : Mesh).
         LeadAlong (map place vs) m (origin old.mesh h) (origin old.mesh (rev h)) edges)
-        (sym plain.vertices) (sym same) (subst (λ (hs : List ℕ). LeadAlong (map place old.vertices)
-        old.mesh (origin old.mesh h) (origin old.mesh (rev h)) hs) (sym is) (
+        (sym adds.plain.vertices) (sym same) (subst (λ (hs : List ℕ). LeadAlong
+        (map place old.vertices) old.mesh (origin old.mesh h) (origin old.mesh (rev h)) hs)
+        (sym is) (
           within,
           refl,
           edge_is_next place old kept h within,
           refl,
         ));
-    «data» = marks;
+    «data» = adds.«data»;
   }
 
 -- ---- by other names of the ends

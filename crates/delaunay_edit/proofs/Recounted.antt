@@ -1,14 +1,16 @@
 -- The kept number of constraints after an edit.
--- Lemmas: counted_none, counted_released, counted_added, room_for_added.
+-- Lemmas: counted_none, few_counted, counted_released, counted_added.
 use Rattle.std.proofs.Common.{◌≡◌, ◌+◌, ◌-◌, ◌*◌, ◌≤◌, []}
 use Rattle.std.proofs.Common.{ℕ, Bool, List, length, map, sym, ap, arith}
 use Rattle.delaunay_paths.specs.plane.Fraction.{Point}
 use Rattle.delaunay_paths.specs.plane.Pairs.{EachPairOnce}
-use Rattle.delaunay_paths.specs.plane.Plain.{Adds, Releases}
+use Rattle.delaunay_paths.specs.half_edge_mesh.Contents.{Contents}
+use Rattle.delaunay_paths.specs.half_edge_mesh.Mesh.{origin, rev}
 use Rattle.delaunay_paths.specs.delaunay_legalization.Constraints.{constraints_by, marked_edges}
 use Rattle.delaunay_paths.specs.delaunay_legalization.Constraints.{points_and_constraints_by}
 use Rattle.delaunay_paths.specs.delaunay_legalization.Shape.{IsDelaunayTriangulation}
-use Rattle.delaunay_paths.specs.delaunay_legalization.State.{State}
+use Rattle.delaunay_paths.specs.delaunay_legalization.State.{State, state_of}
+use Rattle.delaunay_paths.specs.Releasing.{AddsConstraints, ReleasesEdge}
 use Rattle.delaunay_edit.specs.Counting.{HasPairs, IsCounted, IsMissing}
 use Rattle.delaunay_edit.proofs.DifferentConstraints.{constraints_once, few_constraints}
 use Rattle.delaunay_edit.proofs.EditCounts.{added_number, released_number}
@@ -22,47 +24,49 @@ pub counted_none : {V D U F : Type 0} (place : V → Point) (constraints : List 
 counted_none place constraints s legal none =
     record { legal = legal; counted = ap (λ (ps : List (ℕ × ℕ)). length ps) (sym none) }
 
-module _ {V D U F : Type 0} (place : V → Point) (marks : U → Bool) (constraints : List U → List ℕ)
-    (marked : (ds : List U) → constraints ds ≡ marked_edges marks ds)
-    (old new : State V D U F) (number : ℕ) (was : IsCounted place constraints old number)
-    (legal : IsDelaunayTriangulation place constraints new) where
-  once_before : EachPairOnce (constraints_by constraints old)
-  once_before = constraints_once place marks constraints marked old was.legal.kept
+-- ---- after an edit
+module _ {V D U F : Type 0} {place : V → Point} (marks : U → Bool) {constraints : List U → List ℕ}
+    (marked : (ds : List U) → constraints ds ≡ marked_edges marks ds) where
+  -- there are at most three constraints for each vertex
+  pub few_counted : {s : State V D U F} {number : ℕ} → IsCounted place constraints s number
+      → number ≤ 3 * length s.vertices
+  few_counted {s = s} counted =
+      let is = counted.counted in
+      let few = few_constraints place marks constraints marked s counted.legal.kept in
+      let edges = counted.legal.kept.few_edges in
+      omega (arith, is, few, edges)
 
-  once_after : EachPairOnce (constraints_by constraints new)
-  once_after = constraints_once place marks constraints marked new legal.kept
+  -- each pair of vertices is joined by one constraint at most
+  once : (s : State V D U F) → IsDelaunayTriangulation place constraints s
+      → EachPairOnce (constraints_by constraints s)
+  once s legal = constraints_once place marks constraints marked s legal.kept
 
   -- one is released
-  pub counted_released : (i j : ℕ) → Releases place (points_and_constraints_by constraints old)
-      (points_and_constraints_by constraints new) i j → IsCounted place constraints new (number - 1)
-  counted_released i j releases =
-      let fewer = released_number place (points_and_constraints_by constraints old)
-      (points_and_constraints_by constraints new) once_before once_after i j releases in
+  pub counted_released : {change : U → U} {old new : Contents V D U F} {k number : ℕ}
+      → IsCounted place constraints (state_of old) number
+      → ReleasesEdge place change constraints old new k
+      → IsCounted place constraints (state_of new) (number - 1)
+  counted_released {old = old} {new = new} {k = k} was releases =
+      let fewer = released_number place (points_and_constraints_by constraints (state_of old))
+      (points_and_constraints_by constraints (state_of new)) (once (state_of old) was.legal)
+      (once (state_of new) releases.legal) (origin old.mesh (2 * k)) (origin old.mesh (rev (2 * k)))
+      releases.plain in
       let counted = was.counted in
-      record { legal = legal; counted = omega (arith, fewer, counted) }
+      record { legal = releases.legal; counted = omega (arith, fewer, counted) }
 
   -- a path is added, of which so many pieces were none
-  module _ (i j k : ℕ) (adds : Adds place (points_and_constraints_by constraints old)
-      (points_and_constraints_by constraints new) i j) (missing :
-      HasPairs (IsMissing (map place old.vertices) (constraints_by constraints old) i j) k) where
-    -- there are k constraints more
-    more : length (constraints_by constraints new) ≡ k + length (constraints_by constraints old)
-    more = added_number place (points_and_constraints_by constraints old)
-        (points_and_constraints_by constraints new)
-        once_before once_after i j k adds (has_pairs_as missing (λ a b. (
-          (λ m. (neighbours_of place (map place old.vertices) i j a b m.0, m.1)),
-          (λ m. (next_of place (map place old.vertices) i j a b m.0, m.1)),
-        )))
-
-    -- where a path is added whose k pieces were missing, the number is greater by k
-    pub counted_added : IsCounted place constraints new (number + k)
-    counted_added = let counted = was.counted in
-        record { legal = legal; counted = omega (arith, more, counted) }
-
-    -- and it is at most three for each vertex
-    pub room_for_added : number + k ≤ 3 * length new.vertices
-    room_for_added =
-        let counted = was.counted in
-        let few = few_constraints place marks constraints marked new legal.kept in
-        let edges = legal.kept.few_edges in
-        omega (arith, more, counted, few, edges)
+  pub counted_added : {mark : U → U} {old new : Contents V D U F} {i j k number : ℕ}
+      → IsCounted place constraints (state_of old) number
+      → AddsConstraints place marks mark constraints old new i j
+      → HasPairs
+      (IsMissing (map place old.vertices) (constraints_by constraints (state_of old)) i j) k
+      → IsCounted place constraints (state_of new) (number + k)
+  counted_added {old = old} {new = new} {i = i} {j = j} {k = k} was adds missing =
+      let more = added_number place (points_and_constraints_by constraints (state_of old))
+      (points_and_constraints_by constraints (state_of new)) (once (state_of old) was.legal)
+      (once (state_of new) adds.legal) i j k adds.plain (has_pairs_as missing (λ a b. (
+        (λ m. (neighbours_of place (map place old.vertices) i j a b m.0, m.1)),
+        (λ m. (next_of place (map place old.vertices) i j a b m.0, m.1)),
+      ))) in
+      let counted = was.counted in
+      record { legal = adds.legal; counted = omega (arith, more, counted) }

@@ -1,6 +1,6 @@
 -- A vertex goes from a triangulation.
--- Lemmas: read_place, sites_left, room_left, outer_stays, removed_on.
-use Rattle.std.proofs.Common.{◌≡◌, ◌∙◌, ◌+◌, ◌*◌, ◌-◌, ◌≤◌}
+-- Lemmas: read_place, sites_left, fewer_left, outer_stays, removed_on.
+use Rattle.std.proofs.Common.{◌≡◌, ◌∙◌, ◌-◌, ◌≤◌}
 use Rattle.std.proofs.Common.{ℕ, List, length, map, Some, sym, ap, subst, arith}
 use Rattle.std.specs.Prelude.{All, pos, slice_get, Result, Ok, Err, OnOk, OnErr}
 use Rattle.std.proofs.lemmas.List.{length-map, get_or-map}
@@ -41,10 +41,9 @@ module _ {V D U F : Type 0} (place : V → Point) (constraints : List U → List
       (all_left sites (map place old.vertices) v (place value)
       (omega (arith, within, length-map old.vertices place)) all)
 
-  -- the room for the edges of so many vertices suffices still
-  pub room_left : (n len room : ℕ) → n ≡ length old.vertices → len + 3 * n ≤ room
-      → 3 * length new.vertices ≤ room
-  room_left n len room e fits = omega (arith, e, fits, count)
+  -- there are no more vertices than before
+  pub fewer_left : length new.vertices ≤ length old.vertices
+  fewer_left = omega (arith, count)
 
 -- the outer face keeps its data, and so it does where a removal was refused
 pub outer_stays : {V D U F E : Type 0} (old new : State V D U F) (v : ℕ) (r : Result V E)

@@ -1,6 +1,6 @@
 -- The far end of a constraint at a vertex is sought, one edge after another.
--- Notions: IsSeekingEnd; seeking_begins, sought_at, seeking_goes_on, seeking_finds, seeking_ends,
--- not_two, more_than_two.
+-- Notions: IsSeekingEnd; seeking_begins, sought_within, seeking_goes_on, seeking_finds,
+-- seeking_ends, not_two, more_than_two.
 use Rattle.std.proofs.Common.{◌≡◌, ◌≢◌, ◌⊎◌, ◌/◌, ◌<◌, [], ◌∷◌, ◌∙◌}
 use Rattle.std.proofs.Common.{ℕ, List, length, Some, None, sym, ap, subst, inl, inr}
 use Rattle.std.specs.Prelude.{Bool, Contains}
@@ -75,9 +75,13 @@ module _ {V D U F : Type 0} (place : V → Point) (marks : U → Bool) (constrai
     module _ (x : Bor (Contents V D U F) × ℕ) (left : List (Bor (Contents V D U F) × ℕ))
         (e : given ≡ x ∷ left) where
       -- the next edge that is given is one of the mesh, and starts at the vertex
-      pub sought_at : (x.1 < length c.mesh.half_edges) × (origin c.mesh x.1 ≡ v)
+      sought_at : (x.1 < length c.mesh.half_edges) × (origin c.mesh x.1 ≡ v)
       sought_at = let n = next_left c v given p.rest p.are_left x left e in
           (p.are_left.within x.1 n, p.are_left.starts x.1 n)
+
+      -- so a handle of it is one of the directed edges
+      pub sought_within : (f : ℕ) → f ≡ x.1 → f < length c.directed
+      sought_within f is = rw (is, kept.fits.directed_fit) sought_at.0
 
       -- the edge that is given next is the first of those left, and the others are left after it
       s : (others : List ℕ) × (p.rest ≡ x.1 ∷ others) × IsLeftOfRound c v left others

@@ -1,7 +1,6 @@
 -- A vertex went, the far ends of its straight halves were joined, if it had such, and edges were
 -- flipped: what the removal made of points, constraints and data, and of their number.
--- Lemmas: can_settle, pairs_settled, settled_removes, settled_keeps, settled_number,
--- counted_settled, some_settled.
+-- Notions: IsTakenOut; can_settle, taken_out.
 use Rattle.std.proofs.Common.{◌≡◌, ◌⊎◌, ◌↔◌, ◌+◌, ◌-◌, ◌≤◌, ◌∙◌}
 use Rattle.std.proofs.Common.{ℕ, Bool, List, length, map, Option, Some, None}
 use Rattle.std.proofs.Common.{refl, sym, ap, subst, inl, inr, arith}
@@ -35,6 +34,15 @@ use Rattle.delaunay_edit.proofs.JoiningData.{beside_stays}
 use Rattle.delaunay_edit.proofs.PairCounts.{has_pairs_as, listed_pairs, no_pairs}
 use Rattle.delaunay_edit.proofs.PairCounts.{one_more, same_number}
 use Rattle.delaunay_edit.proofs.Removing.{removed_on}
+
+-- vertex v was taken out of a triangulation with so many constraints, of which so many were lost
+pub record IsTakenOut {V D U F : Type 0} (place : V → Point) (constraints : List U → List ℕ)
+    (old new : State V D U F) (v number lost : ℕ) : Type 0 where
+  pub plain : Removes place (points_and_constraints_by constraints old)
+      (points_and_constraints_by constraints new) v
+  pub «data» : KeepsDataOfOthers old new v
+  pub counted : IsCounted place constraints new (number - lost)
+  pub some : lost ≤ number
 
 module _ {V D U F : Type 0} (place : V → Point) (marks : U → Bool) (can_mark : Bool) (mark : U → U)
     (constraints : List U → List ℕ)
@@ -95,7 +103,7 @@ module _ {V D U F : Type 0} (place : V → Point) (marks : U → Bool) (can_mark
           (one_less place marks constraints marked old legal mid v value turned takes)
 
       -- constraints that come with it
-      pub pairs_settled : (a b : ℕ) → AreStraightHalves place (plain_of old) v a b
+      pairs_settled : (a b : ℕ) → AreStraightHalves place (plain_of old) v a b
           → Settled (Some (a, b)) → (c d : ℕ)
           → Joins (constraints_by constraints (state_of new)) c d
           ↔ (Joins (constraints_by constraints (state_of mid)) c d
@@ -123,7 +131,7 @@ module _ {V D U F : Type 0} (place : V → Point) (marks : U → Bool) (can_mark
           ∙ ap (λ (c : Contents V D U F). c.vertices) s.path.contents
 
       -- the vertex was removed from the plain state
-      pub settled_removes : (halves : Option (ℕ × ℕ))
+      settled_removes : (halves : Option (ℕ × ℕ))
           → AreHalvesAt place (plain_of old) v halves → Settled halves
           → Removes place (plain_of old) (plain_of (state_of new)) v
       settled_removes None none s =
@@ -140,7 +148,7 @@ module _ {V D U F : Type 0} (place : V → Point) (marks : U → Bool) (can_mark
           (vertices_settled (Some p) s) (pairs_settled p.0 p.1 halves s)
 
       -- what stood beside the vertex, and stands afterwards, has its data
-      pub settled_keeps : (halves : Option (ℕ × ℕ))
+      settled_keeps : (halves : Option (ℕ × ℕ))
           → AreHalvesAt place (plain_of old) v halves
           → Settled halves → KeepsDataOfOthers old (state_of new) v
       settled_keeps None none s =
@@ -204,7 +212,7 @@ module _ {V D U F : Type 0} (place : V → Point) (marks : U → Bool) (can_mark
               (subst (λ x. Joins (constraints_by constraints old) c x) e j)))
 
       -- so many fewer than before
-      pub settled_number : (halves : Option (ℕ × ℕ))
+      settled_number : (halves : Option (ℕ × ℕ))
           → AreHalvesAt place (plain_of old) v halves
           → Settled halves → (lost : ℕ) → IsLoss (constraints_by constraints old) v halves lost
           → length (constraints_by constraints old)
@@ -227,21 +235,21 @@ module _ {V D U F : Type 0} (place : V → Point) (marks : U → Bool) (can_mark
           halves).not_yet) (pairs_settled p.0 p.1 halves s) in
           omega (arith, fewer, more, one)
 
-    -- ---- the kept number
-    module _ (new : Contents V D U F) (flips_before flips_after : ℕ) (halves : Option (ℕ × ℕ))
-        (are : AreHalvesAt place (plain_of old) v halves)
-        (settled : Settles place marks mark constraints mid new v halves flips_before flips_after)
-        (lost : ℕ) (loss : IsLoss (constraints_by constraints old) v halves lost) (number : ℕ)
-        (counted : IsCounted place constraints old number) where
-      fewer : length (constraints_by constraints old)
-          ≡ lost + length (constraints_by constraints (state_of new))
-      fewer = settled_number new flips_before flips_after halves are settled lost loss
-
-      -- it is so much less
-      pub counted_settled : IsCounted place constraints (state_of new) (number - lost)
-      counted_settled = let was = counted.counted in
-          record { legal = settled.legalizes.legal; counted = omega (arith, fewer, was) }
-
-      -- and was so much or more
-      pub some_settled : lost ≤ number
-      some_settled = let was = counted.counted in omega (arith, fewer, was)
+    -- ---- all together
+    -- the vertex is taken out, and the kept number is less by the constraints that were lost
+    pub taken_out : {new : Contents V D U F} {flips_before flips_after : ℕ}
+        {halves : Option (ℕ × ℕ)} → AreHalvesAt place (plain_of old) v halves
+        → Settles place marks mark constraints mid new v halves flips_before flips_after
+        → {lost : ℕ} → IsLoss (constraints_by constraints old) v halves lost → {number : ℕ}
+        → IsCounted place constraints old number
+        → IsTakenOut place constraints old (state_of new) v number lost
+    taken_out {new = new} {flips_before = before} {flips_after = after} {halves = halves} are
+        settled {lost = lost} loss counted =
+        let fewer = settled_number new before after halves are settled lost loss in
+        let was = counted.counted in
+        record {
+          plain = settled_removes new before after halves are settled;
+          «data» = settled_keeps new before after halves are settled;
+          counted = record { legal = settled.legalizes.legal; counted = omega (arith, fewer, was) };
+          some = omega (arith, fewer, was);
+        }

@@ -1,9 +1,8 @@
 //! Constraints that are added and released.
-ghost use Rattle.std.specs.Prelude.{◌≡◌, ◌≢◌, ◌↔◌, ◌*◌, ◌<◌, ◌≤◌};
-ghost use Rattle.std.specs.Prelude.{length, map, All, Contains, IsTrue, IfOk, OnErr, OnOk};
+ghost use Rattle.std.specs.Prelude.{◌≡◌, ◌≢◌, ◌*◌, ◌<◌, ◌≤◌};
+ghost use Rattle.std.specs.Prelude.{ℕ, length, map, All, Contains, Ok, IfOk, OnErr, OnOk};
 ghost use Rattle.delaunay_paths.specs.half_edge_links.declared.room.TheConstants.{MAX_ELEMENTS};
 ghost use Rattle.delaunay_paths.specs.half_edge_mesh.Mesh.{origin, rev};
-ghost use Rattle.delaunay_paths.specs.plane.Pairs.{SamePairs};
 ghost use Rattle.delaunay_paths.specs.plane.Plain.{Adds, CanAdd, Releases};
 ghost use Rattle.delaunay_edit.specs.Constrained.{constrained, constraint_edges, constraints_of};
 ghost use Rattle.delaunay_edit.specs.ConstraintEdits.{AddsConstraint, AddsIfFree, AddsPathIfFree};
@@ -29,12 +28,8 @@ impl<V: HasPosition, DE, UE, F> ConstrainedMesh<V, DE, UE, F> {
     // turned for it, so it takes no memory.
     fn constrain(&mut self, edge: FixedDirectedEdgeHandle) -> bool
         requires { edge < length self.old.directed }
-        ensures plain { let m = self.old.mesh in Adds V.place (constrained self.old)
-            (constrained self.new) (origin m edge) (origin m (rev edge)) }
-        ensures told { IsTrue result ↔
-            (¬ SamePairs (constraints_of self.old) (constraints_of self.new)) }
-        ensures none_made { (¬ IsTrue result) → self.new ≡ self.old }
-        ensures data { MarksEdges self.old self.new }
+        ensures adds { let m = self.old.mesh in AddsConstraint V.place {E = ℕ} (origin m edge)
+            (origin m (rev edge)) (Ok result) self.old self.new }
         ensures mesh { self.new.mesh ≡ self.old.mesh }
         ensures headline { IsDelaunay V.place constraint_edges self.new }
     {

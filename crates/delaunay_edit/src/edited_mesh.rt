@@ -1,17 +1,13 @@
 //! A mesh with its edits, which both triangulation types hold.
-ghost use Rattle.std.specs.Prelude.{◌≡◌, ◌<◌, length, map};
-ghost use Rattle.delaunay_paths.specs.half_edge_mesh.Mesh.{origin, rev};
-ghost use Rattle.delaunay_paths.specs.delaunay_core.Place.{place_of};
-ghost use Rattle.delaunay_paths.specs.delaunay_legalization.Known.{point_at};
+ghost use Rattle.std.specs.Prelude.{◌≡◌};
 ghost use Rattle.delaunay_paths.specs.delaunay_legalization.State.{state_of};
 ghost use Rattle.delaunay_edit.specs.Counting.{IsCounted};
 ghost use Rattle.delaunay_edit.specs.Headline.{IsDelaunay, IsWellFormed};
-ghost use Rattle.delaunay_edit.specs.Location.{IsMeshEdge};
 
 use delaunay_paths::CrossingLists;
-use delaunay_paths::delaunay_core::point::{HasPosition, Point2};
+use delaunay_paths::delaunay_core::point::HasPosition;
 use delaunay_paths::delaunay_legalization::{CdtEdge, ConstraintMarker, EdgeConstraints, EdgeSet};
-use delaunay_paths::half_edge_mesh::{Dcel, FixedDirectedEdgeHandle, FixedVertexHandle, MeshViews};
+use delaunay_paths::half_edge_mesh::Dcel;
 use delaunay_removal::RemovalLists;
 use std::alloc::Global;
 use std::marker::{Model, PhantomData};
@@ -79,31 +75,5 @@ impl<V: HasPosition, DE, UE, F, M: ConstraintMarker<UE>> EditedMesh<V, DE, UE, F
         ensures { state_of result.now ≡ self.now }
     {
         &self.dcel
-    }
-
-    // The position of a vertex.
-    pub(crate) fn position_of(&self, vertex: FixedVertexHandle) -> Point2<V::Scalar>
-        requires { vertex < length self.now.vertices }
-        ensures { place_of V.Scalar.whole result ≡ point_at (map V.place self.now.vertices) vertex }
-    {
-        self.dcel.vertex_data(vertex).position()
-    }
-
-    // The positions of the ends of an edge, in its direction.
-    pub(crate) fn ends_of(
-        &self,
-        edge: FixedDirectedEdgeHandle,
-    ) -> (Point2<V::Scalar>, Point2<V::Scalar>)
-        requires { edge < length self.now.directed }
-        ensures from { place_of V.Scalar.whole result.0 ≡
-            point_at (map V.place self.now.vertices) (origin self.now.mesh edge) }
-        ensures to { place_of V.Scalar.whole result.1 ≡
-            point_at (map V.place self.now.vertices) (origin self.now.mesh (rev edge)) }
-        ensures edge { IsMeshEdge (map V.place self.now.vertices) self.now.mesh edge }
-    {
-        let edge = self.dcel.directed_edge(edge);
-        let from = edge.from().fix();
-        let to = edge.to().fix();
-        (self.position_of(from), self.position_of(to))
     }
 }

@@ -1,5 +1,6 @@
 //! The halves of a straight constraint, whose middle is a vertex.
-ghost use Rattle.std.specs.Prelude.{◌≡◌, ◌⊎◌, ◌↔◌, ◌<◌, length, map, All, IsTrue};
+ghost use Rattle.std.specs.Prelude.{◌≡◌, ◌⊎◌, ◌↔◌, ◌<◌, length, map, All, IfNone, IfSome, IsTrue};
+ghost use Rattle.delaunay_paths.specs.half_edge_mesh.Mesh.{origin, rev};
 ghost use Rattle.delaunay_paths.specs.delaunay_legalization.Constraints.{constraints_by};
 ghost use Rattle.delaunay_paths.specs.delaunay_legalization.Constraints.{points_and_constraints_by};
 ghost use Rattle.delaunay_paths.specs.delaunay_legalization.Shape.{IsTriangulated};
@@ -22,22 +23,28 @@ fn is_either(vertex: FixedVertexHandle, one: FixedVertexHandle, other: FixedVert
     vertex == one || vertex == other
 }
 
-// Whether an edge is a constraint that ends at neither of two vertices.
-fn leads_beside<M: ConstraintMarker<UE>, V: HasPosition, DE, UE, F>(
+// The far end of an edge, if it is a constraint that ends at neither of two vertices.
+fn end_beside<M: ConstraintMarker<UE>, V: HasPosition, DE, UE, F>(
     dcel: &Dcel<V, DE, UE, F>,
     edge: FixedDirectedEdgeHandle,
     one: FixedVertexHandle,
     other: FixedVertexHandle,
-) -> bool
+) -> Option<FixedVertexHandle>
     requires within { edge < length dcel.now.directed }
     requires kept { IsTriangulated V.place (state_of dcel.now) }
-    ensures { IsTrue result ↔ LeadsBeside M.constraints dcel.now one other edge }
+    ensures none { IfNone result (¬ LeadsBeside M.constraints dcel.now one other edge) }
+    ensures leads { IfSome result (λ _. LeadsBeside M.constraints dcel.now one other edge) }
+    ensures end { IfSome result (λ k. k ≡ origin dcel.now.mesh (rev edge)) }
 {
     let end = dcel.directed_edge(edge).to().fix();
     if is_either(end, one, other) {
-        return false;
+        return None;
     }
-    is_constraint_edge::<M, _, _, _, _>(dcel, edge.as_undirected())
+    if is_constraint_edge::<M, _, _, _, _>(dcel, edge.as_undirected()) {
+        Some(end)
+    } else {
+        None
+    }
 }
 
 // The far end of a constraint at a vertex that is neither of two others, if there is one.
@@ -54,9 +61,8 @@ fn constraint_end_beside<M: ConstraintMarker<UE>, V: HasPosition, DE, UE, F>(
 {
     dcel.recall_invariant();
     for edge in dcel.vertex(vertex).out_edges() {
-        let edge = edge.fix();
-        if leads_beside::<M, _, _, _, _>(dcel, edge, one, other) {
-            return Some(dcel.directed_edge(edge).to().fix());
+        if let Some(end) = end_beside::<M, _, _, _, _>(dcel, edge.fix(), one, other) {
+            return Some(end);
         }
     }
     None
@@ -98,9 +104,5 @@ pub(crate) fn straight_halves<
     let (first, second) = two_constraint_ends::<M, _, _, _, _>(dcel, vertex)?;
     let from = position_of(dcel, first);
     let to = position_of(dcel, second);
-    if is_strictly_within(from, to, position_of(dcel, vertex), tests) {
-        Some((first, second))
-    } else {
-        None
-    }
+    is_strictly_within(from, to, position_of(dcel, vertex), tests).then_some((first, second))
 }

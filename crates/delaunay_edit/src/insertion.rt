@@ -6,6 +6,8 @@ ghost use Rattle.delaunay_paths.specs.plane.Tests.{InRange};
 ghost use Rattle.delaunay_paths.specs.delaunay_core.declared.math.InsertionError.TheVariants.{OutOfMemory};
 ghost use Rattle.delaunay_paths.specs.delaunay_core.declared.math.InsertionError.TheVariants.{TooLarge};
 ghost use Rattle.delaunay_paths.specs.delaunay_legalization.Flips.{CountsFlips, FlipsFit};
+ghost use Rattle.delaunay_paths.specs.delaunay_legalization.Shape.{IsTriangulated};
+ghost use Rattle.delaunay_paths.specs.delaunay_legalization.State.{state_of};
 ghost use Rattle.delaunay_edit.specs.Edits.{AppendsVertex, AreSitesWith};
 ghost use Rattle.delaunay_edit.specs.Entry.{IsEntry, IsVacant};
 ghost use Rattle.delaunay_edit.specs.Headline.{IsDelaunay, IsWellFormed};
@@ -18,10 +20,10 @@ use delaunay_insertion::{FreeByDefault, reserve_for_vertex};
 use delaunay_paths::delaunay_core::math::{InsertionError, PlaneTests, validate_vertex};
 use delaunay_paths::delaunay_core::point::HasPosition;
 use delaunay_paths::delaunay_legalization::{
-    EdgeSet, legalize_vertex, reserve_for_edges, turns_left,
+    EdgeSet, legalize_vertex, reserve_for_edges, start_of, turns_left,
 };
 use delaunay_paths::delaunay_location::{PositionInTriangulation, locate_with_hint};
-use delaunay_paths::half_edge_mesh::{FixedVertexHandle, MAX_ELEMENTS};
+use delaunay_paths::half_edge_mesh::{Dcel, FixedVertexHandle, MAX_ELEMENTS};
 
 /// What is at the position of a value.
 pub enum Entry {
@@ -46,6 +48,30 @@ pub(crate) fn reserve_to_test(
         return Ok(());
     }
     reserve_for_edges(work, edges)
+}
+
+// Whether a vertex is strictly on the left of the edge that its location names.
+fn is_left_of<V: HasPosition, DE, UE, F, P: PlaneTests<V::Scalar>>(
+    dcel: &Dcel<V, DE, UE, F>,
+    location: &PositionInTriangulation,
+    value: &V,
+    tests: &P,
+) -> bool
+    requires location { HasHandle dcel.now.mesh location.now }
+    requires kept { IsTriangulated V.place (state_of dcel.now) }
+    requires sites { All (P.sites tests.now) (map V.place dcel.now.vertices) }
+    requires covered { P.covered tests.now (V.place value.now) }
+    ensures { IsTrue result ↔ IsLeftOfPlace (map V.place dcel.now.vertices) dcel.now.mesh
+        (V.place value.now) location.now }
+{
+    match *location {
+        PositionInTriangulation::OutsideOfConvexHull(edge) => {
+            let from = start_of(dcel, edge);
+            let to = start_of(dcel, edge.rev());
+            turns_left(from, to, value.position(), tests)
+        }
+        _ => false,
+    }
 }
 
 impl<V: HasPosition + Drop, DE: Default, UE: Default, F: Default, M: FreeByDefault<UE>> EditedMesh<
@@ -75,6 +101,7 @@ impl<V: HasPosition + Drop, DE: Default, UE: Default, F: Default, M: FreeByDefau
         ensures headline { IsDelaunay V.place M.constraints self.new }
         ensures counted { CountsFlips (length self.new.vertices) flips.old flips.new }
     {
+        self.recall_invariant();
         reserve_for_vertex(&mut self.dcel)?;
         let free = self.num_constraints == 0;
         reserve_to_test(&mut self.work, 3 * (self.dcel.num_vertices() + 1), free)?;
@@ -84,31 +111,6 @@ impl<V: HasPosition + Drop, DE: Default, UE: Default, F: Default, M: FreeByDefau
         legalize_vertex::<M, _, _, _, _, _>(&mut self.dcel, vertex, free, tests, work, flips);
         self.num_constraints += split;
         Ok(vertex)
-    }
-
-    // Whether a vertex is strictly on the left of the edge that its location names.
-    fn is_left_of<P: PlaneTests<V::Scalar>>(
-        &self,
-        location: &PositionInTriangulation,
-        value: &V,
-        tests: &P,
-    ) -> bool
-        requires location { HasHandle self.now.mesh location.now }
-        requires sites { All (P.sites tests.now) (map V.place self.now.vertices) }
-        requires covered { P.covered tests.now (V.place value.now) }
-        ensures { IsTrue result ↔
-            IsLeftOfPlace (map V.place self.now.vertices) self.now.mesh (V.place value.now)
-            location.now }
-    {
-        self.recall_invariant();
-        match *location {
-            PositionInTriangulation::OutsideOfConvexHull(edge) => {
-                let (from, to) = self.ends_of(edge);
-                let point = value.position();
-                turns_left(from, to, point, tests)
-            }
-            _ => false,
-        }
     }
 
     /// What is at the position of a value, or `TooLarge` where that is out of range. The search
@@ -131,7 +133,7 @@ impl<V: HasPosition + Drop, DE: Default, UE: Default, F: Default, M: FreeByDefau
         match location {
             PositionInTriangulation::OnVertex(vertex) => Ok(Entry::Occupied(vertex)),
             _ => {
-                let turns = self.is_left_of(&location, value, tests);
+                let turns = is_left_of(&self.dcel, &location, value, tests);
                 Ok(Entry::Vacant(location, turns))
             }
         }

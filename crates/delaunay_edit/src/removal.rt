@@ -7,7 +7,6 @@ ghost use Rattle.delaunay_paths.specs.delaunay_legalization.Constraints.{constra
 ghost use Rattle.delaunay_paths.specs.delaunay_legalization.Constraints.{points_and_constraints_by};
 ghost use Rattle.delaunay_removal.specs.Data.{KeepsDataOfOthers};
 ghost use Rattle.delaunay_removal.specs.Pairs.{HasBorder};
-ghost use Rattle.delaunay_edit.specs.Counting.{EndsAt, HasPairs};
 ghost use Rattle.delaunay_edit.specs.Halves.{AreHalvesAt, IsLoss};
 ghost use Rattle.delaunay_edit.specs.Headline.{IsDelaunay};
 
@@ -42,18 +41,6 @@ impl<V: HasPosition, DE: Drop, UE: Drop, F: Drop, M: ConstraintMarker<UE>> Edite
         sides_of_hole(&self.dcel, vertex, *self.work.allocator())
     }
 
-    // How many constraints end at a vertex. Where there is none at all it looks at no edge.
-    fn count_ending(&self, vertex: FixedVertexHandle) -> usize
-        requires { vertex < length self.now.vertices }
-        ensures { HasPairs (EndsAt (constraints_by M.constraints self.now) vertex) result }
-    {
-        self.dcel.recall_invariant();
-        if self.num_constraints == 0 {
-            return 0;
-        }
-        count_constraints_at::<M, _, _, _, _>(&self.dcel, vertex)
-    }
-
     // The far ends of the halves of a straight constraint whose middle is a vertex, if it is that
     // of one. Where there is no constraint it looks at no edge.
     fn halves_at<P: PlaneTests<V::Scalar>>(
@@ -73,14 +60,16 @@ impl<V: HasPosition, DE: Drop, UE: Drop, F: Drop, M: ConstraintMarker<UE>> Edite
         straight_halves::<M, _, _, _, _, _>(&self.dcel, vertex, tests)
     }
 
-    // How many constraints fewer there are when a vertex goes.
+    // How many constraints fewer there are when a vertex goes. Where there is none it looks at no
+    // edge.
     fn count_lost(&self, vertex: FixedVertexHandle, halves: &Option<VertexPair>) -> usize
         requires { vertex < length self.now.vertices }
         ensures { IsLoss (constraints_by M.constraints self.now) vertex halves.now result }
     {
         match halves {
             Some(_) => 1,
-            None => self.count_ending(vertex),
+            None if self.num_constraints == 0 => 0,
+            None => count_constraints_at::<M, _, _, _, _>(&self.dcel, vertex),
         }
     }
 
@@ -102,6 +91,7 @@ impl<V: HasPosition, DE: Drop, UE: Drop, F: Drop, M: ConstraintMarker<UE>> Edite
         ensures err { OnErr result (self.new ≡ self.old) }
         ensures headline { IsDelaunay V.place M.constraints self.new }
     {
+        self.recall_invariant();
         let edges = 3 * self.dcel.num_vertices();
         self.work.reserve(edges)?;
         self.lists.reserve_for(&self.dcel, vertex)?;

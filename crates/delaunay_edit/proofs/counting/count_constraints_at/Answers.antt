@@ -1,7 +1,7 @@
-use Rattle.std.proofs.Common.{◌<◌, length, ap, arith}
+use Rattle.std.proofs.Common.{ap}
 use Rattle.delaunay_paths.specs.half_edge_mesh.Rounds.{out_edges_left}
 use Rattle.delaunay_paths.proofs.delaunay_legalization_lemmas.Questions.{both_ways}
-use Rattle.delaunay_edit.proofs.CountingAt.{counting_begins, next_at, counting_goes_past}
+use Rattle.delaunay_edit.proofs.CountingAt.{counting_begins, next_within, counting_goes_past}
 use Rattle.delaunay_edit.proofs.CountingAt.{counting_goes_on, counting_ends}
 use Rattle.delaunay_edit.proofs.CountingWalk.{half_listed, half_unlisted}
 use Rattle.delaunay_edit.proofs.counting.count_constraints_at.Goals as goal
@@ -16,13 +16,9 @@ loop-edge-init g c =
 
 pub is_constraint_edge-requires : goal.is_constraint_edge-requires
 is_constraint_edge-requires g c =
-    let w : c.in-Some.edge.index < length c.args.dcel.now.mesh.half_edges =
-    next_at _ _ _ g.met.M.ConstraintMarker.constraints_are_marked _ c.requires.kept _ _ _
-    c.loop-edge.invariant _ _ c.in-Some.ensures.steps in
-    let fit = c.requires.kept.fits.undirected_fit in
-    let is = c.fix.ensures.value in
-    let half = c.as_undirected.ensures in
-    omega (arith, w, fit, is, half)
+    next_within _ _ _ g.met.M.ConstraintMarker.constraints_are_marked _ c.requires.kept _ _ _
+    c.loop-edge.invariant _ _ c.in-Some.ensures.steps _ _ c.fix.ensures.value
+    c.as_undirected.ensures
 
 pub loop-edge-preserved-then-is_constraint_edge : goal.loop-edge-preserved-then-is_constraint_edge
 loop-edge-preserved-then-is_constraint_edge g c =

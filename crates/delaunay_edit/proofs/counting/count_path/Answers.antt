@@ -10,23 +10,26 @@ use Rattle.delaunay_edit.proofs.counting.count_path.Goals as goal
 
 pub loop-item-init : goal.loop-item-init
 loop-item-init g c =
-    counting_path_begins _ _ _ _ _ _ _ c.requires.kept c.requires.ends.0 c.requires.ends.1
-    c.requires.apart _ _ _ _ c.line_between_vertices-line.ensures.ready
+    let asked = c.requires in
+    counting_path_begins _ _ _ _ _ _ _ (record {
+      kept = asked.kept;
+      from_in = asked.ends.0;
+      to_in = asked.ends.1;
+      apart = asked.apart;
+    }) c.line_between_vertices-line.ensures.ready
     c.line_between_vertices-line.ensures.line
 
 pub returns-then-is_constraint_edge-clause-barred :
     goal.returns-then-is_constraint_edge-clause-barred
 returns-then-is_constraint_edge-clause-barred g c =
-    path_is_barred _ _ _ _ _ _ _ c.requires.kept c.requires.ends.0 c.requires.ends.1
-    c.requires.apart _ _ _ _ _ _ _ c.loop-item.invariant _ c.in-Some.ensures.steps
+    path_is_barred _ _ _ _ _ _ _ c.loop-item.invariant c.in-Some.ensures.steps
     c.in-EdgeIntersection.edge.index (crossed_item _ _ c.in-EdgeIntersection.is)
     (half_listed _ _ _ _ c.fix.ensures.value c.as_undirected.ensures
     (c.is_constraint_edge.ensures.0 c.if-is_constraint_edge.true))
 
 pub loop-item-preserved-else-is_constraint_edge : goal.loop-item-preserved-else-is_constraint_edge
 loop-item-preserved-else-is_constraint_edge g c =
-    counting_crosses _ _ _ _ _ _ _ c.requires.kept c.requires.ends.0 c.requires.ends.1
-    c.requires.apart _ _ _ _ _ _ _ c.loop-item.invariant _ c.in-Some.ensures.steps
+    counting_crosses _ _ _ _ _ _ _ c.loop-item.invariant c.in-Some.ensures.steps
     c.in-Some.ensures.goes.keeps c.in-EdgeIntersection.edge.index
     (crossed_within _ _ c.in-EdgeIntersection.is c.in-EdgeIntersection.edge.in_range)
     (crossed_item _ _ c.in-EdgeIntersection.is)
@@ -36,8 +39,7 @@ loop-item-preserved-else-is_constraint_edge g c =
 pub loop-item-preserved-then-not-is_constraint_between :
     goal.loop-item-preserved-then-not-is_constraint_between
 loop-item-preserved-then-not-is_constraint_between g c =
-    counting_goes_on _ _ _ _ _ _ _ c.requires.kept c.requires.ends.0 c.requires.ends.1
-    c.requires.apart _ _ _ _ _ _ _ c.loop-item.invariant _ c.in-Some.ensures.steps _
+    counting_goes_on _ _ _ _ _ _ _ c.loop-item.invariant c.in-Some.ensures.steps _
     (vertex_item _ _ c.in-VertexIntersection.is _ c.fix-next.ensures.value)
     (λ same. both_ways _ (c.is_same_vertex.ensures.1 same) c.if-not-is_same_vertex.true)
     c.in-Some.ensures.goes.keeps
@@ -46,8 +48,7 @@ loop-item-preserved-then-not-is_constraint_between g c =
 pub loop-item-preserved-else-not-is_constraint_between :
     goal.loop-item-preserved-else-not-is_constraint_between
 loop-item-preserved-else-not-is_constraint_between g c =
-    counting_goes_past _ _ _ _ _ _ _ c.requires.kept c.requires.ends.0 c.requires.ends.1
-    c.requires.apart _ _ _ _ _ _ _ c.loop-item.invariant _ c.in-Some.ensures.steps _
+    counting_goes_past _ _ _ _ _ _ _ c.loop-item.invariant c.in-Some.ensures.steps _
     (vertex_item _ _ c.in-VertexIntersection.is _ c.fix-next.ensures.value)
     (λ same. both_ways _ (c.is_same_vertex.ensures.1 same) c.if-not-is_same_vertex.true)
     c.in-Some.ensures.goes.keeps
@@ -55,25 +56,19 @@ loop-item-preserved-else-not-is_constraint_between g c =
 
 pub loop-item-preserved-else-not-is_same_vertex : goal.loop-item-preserved-else-not-is_same_vertex
 loop-item-preserved-else-not-is_same_vertex g c =
-    counting_stays _ _ _ _ _ _ _ c.requires.kept c.requires.ends.0 c.requires.ends.1
-    c.requires.apart _ _ _ _ _ _ _ c.loop-item.invariant _ c.in-Some.ensures.steps
-    c.in-Some.ensures.goes.keeps
-    (rw (c.is_same_vertex.ensures.0 c.if-not-is_same_vertex.false) at
+    counting_stays _ _ _ _ _ _ _ c.loop-item.invariant c.in-Some.ensures.steps
+    c.in-Some.ensures.goes.keeps (rw (c.is_same_vertex.ensures.0 c.if-not-is_same_vertex.false) at
     (vertex_item c.in-Some.item c.in-VertexIntersection.vertex c.in-VertexIntersection.is
     c.fix-next.result c.fix-next.ensures.value))
 
 pub loop-item-preserved : goal.loop-item-preserved
 loop-item-preserved g c =
-    counting_along _ _ _ _ _ _ _ c.requires.kept c.requires.ends.0 c.requires.ends.1
-    c.requires.apart _ _ _ _ _ _ _ c.loop-item.invariant _ c.in-Some.ensures.steps
+    counting_along _ _ _ _ _ _ _ c.loop-item.invariant c.in-Some.ensures.steps
     c.in-Some.ensures.goes.keeps _ _ (ap item_in c.in-EdgeOverlap.is)
 
-pub returns-clause-free : goal.returns-clause-free
-returns-clause-free g c =
-    path_is_free _ _ _ _ _ _ _ c.requires.kept c.requires.ends.0 c.requires.ends.1
-    c.requires.apart _ _ _ _ _ _ _ c.loop-item.invariant c.in_default.ensures.steps
-
-pub returns-clause-missing : goal.returns-clause-missing
-returns-clause-missing g c =
-    path_counted _ _ _ _ _ _ _ c.requires.kept c.requires.ends.0 c.requires.ends.1
-    c.requires.apart _ _ _ _ _ _ _ c.loop-item.invariant c.in_default.ensures.steps
+pub returns : goal.returns
+returns g c = record {
+  barred = tt;
+  free = path_is_free _ _ _ _ _ _ _ c.loop-item.invariant c.in_default.ensures.steps;
+  missing = path_counted _ _ _ _ _ _ _ c.loop-item.invariant c.in_default.ensures.steps;
+}

@@ -26,20 +26,6 @@ unreachable-requires g c =
     not_on_vertex _ c.args.dcel.now c.requires.can.kept _ c.requires.vacant.apart _
     (rw c.in-OnVertex.is at c.requires.vacant.location)
 
-pub join_outside-requires-clause-turns : goal.join_outside-requires-clause-turns
-join_outside-requires-clause-turns g c =
-    rw c.in-OutsideOfConvexHull.is at (c.requires.vacant.left.0 c.if-turns.true)
-
-pub insert_within_edge-requires-clause-within : goal.insert_within_edge-requires-clause-within
-insert_within_edge-requires-clause-within g c =
-    let here = rw c.in-OnEdge.is at c.requires.vacant.location in
-    rw c.requires.can.kept.fits.directed_fit here.handle
-
-pub insert_within_edge-requires-clause-on_edge : goal.insert_within_edge-requires-clause-on_edge
-insert_within_edge-requires-clause-on_edge g c =
-    let here = rw c.in-OnEdge.is at c.requires.vacant.location in
-    here.location.1
-
 pub returns-in-OnFace-clause-constraints : goal.returns-in-OnFace-clause-constraints
 returns-in-OnFace-clause-constraints g c =
     let done = c.insert_inside_face.ensures in

@@ -1,10 +1,21 @@
-use Rattle.std.proofs.Common.{◌+◌, ◌*◌, ◌≤◌, length, refl, ap, arith}
+use Rattle.std.proofs.Common.{◌+◌, length, refl, ap, arith}
 use Rattle.delaunay_paths.specs.delaunay_legalization.CdtEdge.{is_constraint}
+use Rattle.delaunay_paths.specs.delaunay_legalization.State.{state_of}
 use Rattle.delaunay_edit.specs.Constrained.{constraint_edges}
+use Rattle.delaunay_edit.specs.Counting.{IsCounted}
 use Rattle.delaunay_edit.proofs.EditingConstraints.{edges_marked}
-use Rattle.delaunay_edit.proofs.Recounted.{counted_added, room_for_added}
+use Rattle.delaunay_edit.proofs.Recounted.{counted_added, few_counted}
 use Rattle.delaunay_edit.proofs.WellFormed.{is_delaunay}
+use Rattle.delaunay_edit.proofs.constraint_edits.ConstrainedMesh+V+DE+UE+F.add_path.Given.{Over}
+use Rattle.delaunay_edit.proofs.constraint_edits.ConstrainedMesh+V+DE+UE+F.add_path.Goals.{After-add_constraints}
 use Rattle.delaunay_edit.proofs.constraint_edits.ConstrainedMesh+V+DE+UE+F.add_path.Goals as goal
+
+-- there are so many constraints more
+counted : (g : Over) (c : After-add_constraints g) → IsCounted g.V.HasPosition.place
+    constraint_edges (state_of c.add_constraints.new.dcel)
+    (c.self.inside.num_constraints + c.args.missing)
+counted g c = counted_added is_constraint (λ ds. refl) c.self.invariant
+    c.add_constraints.ensures.adds (rw (← c.self.view_is) at c.requires.missing)
 
 pub add_constraints-requires-clause-way : goal.add_constraints-requires-clause-way
 add_constraints-requires-clause-way g c = record {
@@ -13,32 +24,20 @@ add_constraints-requires-clause-way g c = record {
   free = rw (← c.self.view_is) at c.requires.free;
 }
 
-pub add_constraints-requires-clause-room : goal.add_constraints-requires-clause-room
-add_constraints-requires-clause-room g c =
-    let enough = c.in_ok-reserve.ensures.room in
-    let count = c.num_vertices-edges.ensures.value in
-    (omega (arith, enough, count), rw count at c.in_ok-reserve-2.ensures)
-
 pub returns-clause-data : goal.returns-clause-data
 returns-clause-data g c =
     rw (← c.self.view_is) (edges_marked _ _ _ _ _ c.add_constraints.ensures.adds)
 
 pub overflow_add-self : goal.overflow_add-self
 overflow_add-self g c =
-    let adds = c.add_constraints.ensures.adds in
-    let room : c.self.inside.num_constraints + c.args.missing
-    ≤ 3 * length c.add_constraints.new.dcel.vertices =
-    room_for_added _ is_constraint constraint_edges (λ ds. refl) _ _ _ c.self.invariant adds.legal
-    _ _ _ adds.plain (rw (← c.self.view_is) at c.requires.missing) in
-    let same = ap length adds.plain.vertices in
+    let room = few_counted is_constraint (λ ds. refl)
+    (counted g (goal.at.overflow_add-self g c).After-add_constraints) in
+    let same = ap (λ vs. length vs) c.add_constraints.ensures.adds.plain.vertices in
     let few = rw (← c.self.view_is) at c.recall_invariant.ensures.small in
     omega (arith, room, same, few)
 
 pub invariant_of-self-2 : goal.invariant_of-self-2
-invariant_of-self-2 g c =
-    let adds = c.add_constraints.ensures.adds in
-    counted_added _ is_constraint constraint_edges (λ ds. refl) _ _ _ c.self.invariant adds.legal
-    _ _ _ adds.plain (rw (← c.self.view_is) at c.requires.missing)
+invariant_of-self-2 g c = counted g (goal.at.invariant_of-self-2 g c).After-add_constraints
 
 pub returns-clause-headline : goal.returns-clause-headline
 returns-clause-headline g c =

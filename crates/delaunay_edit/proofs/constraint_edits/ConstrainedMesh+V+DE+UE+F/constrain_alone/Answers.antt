@@ -5,7 +5,6 @@ use Rattle.delaunay_edit.proofs.constraint_edits.ConstrainedMesh+V+DE+UE+F.const
 pub returns-clause-path : goal.returns-clause-path
 returns-clause-path g c =
     let kept = c.recall_invariant.ensures.kept in
-    let made = c.constrain.ensures in
-    edge_listed _ _ _ c.args.edge made.plain made.«data» kept
-    (rw kept.fits.directed_fit at c.requires) made.mesh _ (c.in_ok-push.ensures.items
+    edge_listed c.constrain.ensures.adds kept (rw kept.fits.directed_fit at c.requires)
+    c.constrain.ensures.mesh _ (c.in_ok-push.ensures.items
     ∙ ap (λ (hs : List ℕ). hs ++ c.args.edge ∷ []) c.new-edges.ensures.items)

@@ -11,10 +11,8 @@ returns-clause-data g c =
     rw (← c.self.view_is) (edge_freed _ _ _ _ c.release_constraint.ensures.releases)
 
 pub invariant_of-self-2 : goal.invariant_of-self-2
-invariant_of-self-2 g c =
-    let releases = c.release_constraint.ensures.releases in
-    counted_released _ is_constraint constraint_edges (λ ds. refl) _ _ _ c.self.invariant
-    releases.legal _ _ releases.plain
+invariant_of-self-2 g c = counted_released is_constraint (λ ds. refl) c.self.invariant
+    c.release_constraint.ensures.releases
 
 pub returns-clause-headline : goal.returns-clause-headline
 returns-clause-headline g c = is_delaunay _ is_constraint constraint_edges (λ ds. refl) _

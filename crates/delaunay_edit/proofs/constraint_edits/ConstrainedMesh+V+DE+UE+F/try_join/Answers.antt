@@ -8,15 +8,10 @@ returns-then-eq-clause-adds g c =
     none_to_itself _ _ c.recall_invariant.ensures.kept _ _ c.requires.from_in
     (eqb-true _ _ (sym c.eq.ensures ∙ c.if-eq.true))
 
-pub constrain-requires : goal.constrain-requires
-constrain-requires g c = rw (← c.self.view_is) c.in-Some.ensures.some.0
-
 pub returns-in-Some-clause-adds : goal.returns-in-Some-clause-adds
 returns-in-Some-clause-adds g c =
-    let made = c.constrain.ensures in
-    edge_told g.V.HasPosition.place c.args.self.now c.constrain.new.self c.in-Some.edge made.plain
-    made.«data» c.args.from c.args.to (rw (← c.self.view_is) c.in-Some.ensures.some.1)
-    (rw (← c.self.view_is) c.in-Some.ensures.some.2) _ made.told made.none_made _ refl
+    edge_told c.constrain.ensures.adds (rw (← c.self.view_is) c.in-Some.ensures.some.1)
+    (rw (← c.self.view_is) c.in-Some.ensures.some.2)
 
 pub returns-in_default-counted-clause-adds : goal.returns-in_default-counted-clause-adds
 returns-in_default-counted-clause-adds g c =

@@ -1,23 +1,25 @@
 use Rattle.std.proofs.Common.{◌∙◌, [], ◌∷◌, ◌++◌, ap, sym, subst, length, arith, rules}
 use Rattle.std.proofs.lemmas.Bool.{eqb-true}
-use Rattle.delaunay_edit.specs.Counting.{IsCounted}
-use Rattle.delaunay_edit.proofs.CountingSplits.{counted_split, few_split}
-use Rattle.delaunay_edit.proofs.DifferentConstraints.{few_constraints}
-use Rattle.delaunay_paths.specs.delaunay_legalization.Shape.{IsDelaunayTriangulation}
-use Rattle.delaunay_paths.specs.delaunay_legalization.Shape.{IsTriangulated}
 use Rattle.delaunay_paths.specs.delaunay_legalization.State.{state_of}
 use Rattle.delaunay_insertion.proofs.Appending.{sites_after}
 use Rattle.delaunay_insertion.proofs.DataKept.{appended_keeps}
 use Rattle.delaunay_insertion.proofs.LeftToTest.{passes_beside}
+use Rattle.delaunay_edit.specs.Counting.{IsCounted}
+use Rattle.delaunay_edit.proofs.CountingSplits.{counted_split, few_split}
 use Rattle.delaunay_edit.proofs.EmptyRound.{put_in_free}
 use Rattle.delaunay_edit.proofs.Inserting.{splits_legalized}
+use Rattle.delaunay_edit.proofs.Recounted.{few_counted}
 use Rattle.delaunay_edit.proofs.WellFormed.{is_delaunay}
+use Rattle.delaunay_edit.proofs.edited_mesh.EditedMesh.append.Given.{Over}
+use Rattle.delaunay_edit.proofs.edited_mesh.EditedMesh.append.Goals.{After-reserve_for_vertex}
 use Rattle.delaunay_edit.proofs.edited_mesh.EditedMesh.append.Goals as goal
 
-pub insert_at-vertex-requires-clause-vacant : goal.insert_at-vertex-requires-clause-vacant
-insert_at-vertex-requires-clause-vacant g c =
-    let same = c.reserve_for_vertex.ensures.same ∙ c.self.view_is in
-    rw (← same) at c.requires.vacant
+-- the mesh with room is as it was
+ready : (g : Over) (c : After-reserve_for_vertex g) → IsCounted g.V.HasPosition.place
+    g.M.ConstraintMarker.constraints (state_of c.reserve_for_vertex.new.dcel)
+    c.self.inside.num_constraints
+ready g c = subst (λ s. IsCounted g.V.HasPosition.place g.M.ConstraintMarker.constraints s
+    c.self.inside.num_constraints) (sym c.reserve_for_vertex.ensures.same) c.self.invariant
 
 pub legalize_vertex-requires-clause-sites : goal.legalize_vertex-requires-clause-sites
 legalize_vertex-requires-clause-sites g c =
@@ -35,9 +37,9 @@ legalize_vertex-requires-clause-passing g c =
 
 pub legalize_vertex-requires-clause-empty : goal.legalize_vertex-requires-clause-empty
 legalize_vertex-requires-clause-empty g c none =
-    put_in_free _ _ _ g.met.M.ConstraintMarker.constraints_are_marked _
-    c.reserve_for_vertex.new.dcel c.insert_at-vertex.new.dcel c.args.value _ _ c.self.invariant
-    c.reserve_for_vertex.ensures.same c.insert_at-vertex.ensures.takes (eqb-true _ _ none)
+    put_in_free _ g.met.M.ConstraintMarker.constraints_are_marked
+    (ready g (goal.at.legalize_vertex-requires-clause-empty g c).After-reserve_for_vertex)
+    c.insert_at-vertex.ensures.takes (eqb-true _ _ none)
 
 pub returns-clause-appends : goal.returns-clause-appends
 returns-clause-appends g c =
@@ -51,12 +53,12 @@ returns-clause-appends g c =
       vertices = search rules;
       outer = ap (λ d. d.outer) turned.contents ∙ takes.grows.outer ∙ ap (λ s. s.outer) same;
       «data» = appended_keeps _ _ _ c.reserve_for_vertex.new.dcel c.insert_at-vertex.new.dcel
-          c.legalize_vertex.new.dcel
-          (subst (IsTriangulated _) c.self.view_is c.self.invariant.legal.kept) same
-          takes.vertices takes.kept takes.grows turned.contents turned.indexes turned.legal.kept;
+          c.legalize_vertex.new.dcel c.recall_invariant.ensures.kept same takes.vertices takes.kept
+          takes.grows turned.contents turned.indexes turned.legal.kept;
       splits = splits_legalized _ g.M.ConstraintMarker.constraints _
-          (state_of c.reserve_for_vertex.new.dcel) _ (state_of c.insert_at-vertex.new.dcel) (state_of c.legalize_vertex.new.dcel)
-          c.insert_at-vertex.ensures.constraints same turned.constraints;
+          (state_of c.reserve_for_vertex.new.dcel) _ (state_of c.insert_at-vertex.new.dcel)
+          (state_of c.legalize_vertex.new.dcel) c.insert_at-vertex.ensures.constraints same
+          turned.constraints;
       err = tt;
     }
 
@@ -65,44 +67,23 @@ returns-clause-headline g c =
     is_delaunay _ _ _ g.met.M.ConstraintMarker.constraints_are_marked _
     c.legalize_vertex.ensures.legalizes.legal
 
-pub returns-in_err-reserve_for_vertex-clause-headline :
-    goal.returns-in_err-reserve_for_vertex-clause-headline
-returns-in_err-reserve_for_vertex-clause-headline g c =
-    is_delaunay _ _ _ g.met.M.ConstraintMarker.constraints_are_marked _
-    (subst (IsDelaunayTriangulation _ _) (sym c.reserve_for_vertex.ensures.same)
-    c.self.invariant.legal)
-
-pub returns-in_err-reserve_to_test-clause-headline :
-    goal.returns-in_err-reserve_to_test-clause-headline
-returns-in_err-reserve_to_test-clause-headline g c =
-    is_delaunay _ _ _ g.met.M.ConstraintMarker.constraints_are_marked _
-    (subst (IsDelaunayTriangulation _ _) (sym c.reserve_for_vertex.ensures.same)
-    c.self.invariant.legal)
-
 pub invariant_of-self-2 : goal.invariant_of-self-2
 invariant_of-self-2 g c =
-    let ready = c.reserve_for_vertex.ensures.same in
-    let same = ready ∙ c.self.view_is in
+    let same = c.reserve_for_vertex.ensures.same ∙ c.self.view_is in
+    let before = ready g (goal.at.invariant_of-self-2 g c).After-reserve_for_vertex in
+    let turned = c.legalize_vertex.ensures.legalizes in
     counted_split _ _ _ g.met.M.ConstraintMarker.constraints_are_marked
-    c.reserve_for_vertex.new.dcel (state_of c.insert_at-vertex.new.dcel)
-    (subst (IsTriangulated _) (sym ready) c.self.invariant.legal.kept)
-    c.insert_at-vertex.ensures.takes.kept _ _
-    (rw (← same) at c.requires.vacant.location) c.insert_at-vertex.ensures.constraints _ _ _
-    (subst (λ s. IsCounted g.V.HasPosition.place g.M.ConstraintMarker.constraints s
-    c.self.inside.num_constraints) (sym ready) c.self.invariant) c.count_split-split.ensures
-    c.legalize_vertex.ensures.legalizes.legal c.legalize_vertex.ensures.legalizes.constraints
+    c.reserve_for_vertex.new.dcel (state_of c.insert_at-vertex.new.dcel) before.legal.kept
+    c.insert_at-vertex.ensures.takes.kept _ _ (rw (← same) at c.requires.vacant.location)
+    c.insert_at-vertex.ensures.constraints _ _ _ before c.count_split-split.ensures turned.legal
+    turned.constraints
 
 pub overflow_add-self : goal.overflow_add-self
 overflow_add-self g c =
-    let marker = g.M.ConstraintMarker in
-    let kept = c.self.invariant.legal.kept in
-    let few = few_constraints g.V.HasPosition.place marker.marks marker.constraints
-    g.met.M.ConstraintMarker.constraints_are_marked (state_of c.self.inside.dcel) kept in
-    let counted = c.self.invariant.counted in
-    let edges = kept.few_edges in
+    let counted = few_counted _ g.met.M.ConstraintMarker.constraints_are_marked c.self.invariant in
     let size = ap (λ s. length s.vertices) c.reserve_for_vertex.ensures.same in
     let value = c.num_vertices.ensures.value in
     let small = c.num_vertices.ensures.small in
-    let split = few_split marker.constraints c.reserve_for_vertex.new.dcel.undirected
-    c.args.location _ c.count_split-split.ensures in
-    omega (arith, few, counted, edges, size, value, small, split)
+    let split = few_split g.M.ConstraintMarker.constraints
+    c.reserve_for_vertex.new.dcel.undirected c.args.location _ c.count_split-split.ensures in
+    omega (arith, counted, size, value, small, split)
