@@ -7,8 +7,7 @@ ghost use Rattle.delaunay_edit.specs.Entry.{IsVacant};
 ghost use Rattle.delaunay_paths.specs.delaunay_legalization.State.{state_of};
 
 use delaunay_insertion::{
-    FreeByDefault, insert_first, insert_inside_face, insert_past_end, insert_second,
-    insert_within_edge, join_outside,
+    FreeByDefault, insert_past_end, insert_within_edge, insert_without_edges, join_outside,
 };
 use delaunay_paths::delaunay_core::math::PlaneTests;
 use delaunay_paths::delaunay_core::point::HasPosition;
@@ -43,7 +42,7 @@ pub(crate) fn insert_at<
         (state_of dcel.new) value }
 {
     match location {
-        PositionInTriangulation::OnFace(face) => insert_inside_face(dcel, face, value),
+        PositionInTriangulation::OnFace(face) => dcel.insert_into_triangle(value, face),
         PositionInTriangulation::OnEdge(edge) => {
             insert_within_edge::<M, _, _, _, _>(dcel, edge, value)
         }
@@ -54,13 +53,7 @@ pub(crate) fn insert_at<
                 insert_past_end(dcel, edge, value)
             }
         }
-        PositionInTriangulation::NoTriangulation => {
-            if dcel.num_vertices() == 0 {
-                insert_first(dcel, value)
-            } else {
-                insert_second(dcel, value)
-            }
-        }
+        PositionInTriangulation::NoTriangulation => insert_without_edges(dcel, value),
         PositionInTriangulation::OnVertex(_) => unreachable!(),
     }
 }

@@ -1,12 +1,14 @@
+use Rattle.delaunay_insertion.proofs.EdgeLists.{adds_only}
 use Rattle.delaunay_insertion.proofs.EdgeSides.{room_inside}
+use Rattle.delaunay_insertion.proofs.InsertionCases.{inside_gains}
 use Rattle.delaunay_insertion.proofs.SplitConstraints.{adding_splits_none}
 use Rattle.delaunay_edit.proofs.Cases.{vertex_of_handle, edge_of_handle, past_if_not_left}
 use Rattle.delaunay_edit.proofs.Cases.{bare_if_past, not_on_vertex}
 use Rattle.delaunay_paths.proofs.delaunay_legalization_lemmas.Questions.{both_ways}
 use Rattle.delaunay_edit.proofs.insertion_cases.insert_at.Goals as goal
 
-pub insert_inside_face-requires-clause-room : goal.insert_inside_face-requires-clause-room
-insert_inside_face-requires-clause-room g c =
+pub insert_into_triangle-requires-clause-room : goal.insert_into_triangle-requires-clause-room
+insert_into_triangle-requires-clause-room g c =
     room_inside _ c.args.dcel.now c.requires.can.kept c.requires.room (vertex_of_handle _
     c.args.dcel.now c.requires.can.kept _ _ _ c.requires.vacant.location c.in-OnFace.is)
 
@@ -26,12 +28,19 @@ unreachable-requires g c =
     not_on_vertex _ c.args.dcel.now c.requires.can.kept _ c.requires.vacant.apart _
     (rw c.in-OnVertex.is at c.requires.vacant.location)
 
-pub returns-in-OnFace-clause-constraints : goal.returns-in-OnFace-clause-constraints
-returns-in-OnFace-clause-constraints g c =
-    let done = c.insert_inside_face.ensures in
-    adding_splits_none _ _ c.args.dcel.now c.insert_inside_face.new.dcel c.requires.can.kept
-    done.takes.kept done.takes.vertices _ _ g.met.M.ConstraintMarker.constraints_are_marked _
-    g.met.M.FreeByDefault.default_is_free done.edges
+pub returns-in-OnFace : goal.returns-in-OnFace
+returns-in-OnFace g c =
+    let done = c.insert_into_triangle.ensures in
+    let here = rw c.in-OnFace.is at c.requires.vacant.location in
+    let takes = inside_gains c.args.dcel.now _ c.requires.can here.handle.0 here.handle.1
+    here.location.1 done.vertex done.links done.data done.edges in
+    record {
+      takes = takes;
+      constraints = adding_splits_none _ _ c.args.dcel.now c.insert_into_triangle.new.self
+          c.requires.can.kept takes.kept takes.vertices _ _
+          g.met.M.ConstraintMarker.constraints_are_marked _ g.met.M.FreeByDefault.default_is_free
+          (adds_only done.edges);
+    }
 
 pub returns-then-turns-clause-constraints : goal.returns-then-turns-clause-constraints
 returns-then-turns-clause-constraints g c =
@@ -47,18 +56,10 @@ returns-else-turns-clause-constraints g c =
     done.takes.kept done.takes.vertices _ _ g.met.M.ConstraintMarker.constraints_are_marked _
     g.met.M.FreeByDefault.default_is_free done.edges
 
-pub returns-then-num_vertices-eq0-clause-constraints :
-    goal.returns-then-num_vertices-eq0-clause-constraints
-returns-then-num_vertices-eq0-clause-constraints g c =
-    let done = c.insert_first.ensures in
-    adding_splits_none _ _ c.args.dcel.now c.insert_first.new.dcel c.requires.can.kept
-    done.takes.kept done.takes.vertices _ _ g.met.M.ConstraintMarker.constraints_are_marked _
-    g.met.M.FreeByDefault.default_is_free done.edges
-
-pub returns-else-num_vertices-eq0-clause-constraints :
-    goal.returns-else-num_vertices-eq0-clause-constraints
-returns-else-num_vertices-eq0-clause-constraints g c =
-    let done = c.insert_second.ensures in
-    adding_splits_none _ _ c.args.dcel.now c.insert_second.new.dcel c.requires.can.kept
+pub returns-in-NoTriangulation-clause-constraints :
+    goal.returns-in-NoTriangulation-clause-constraints
+returns-in-NoTriangulation-clause-constraints g c =
+    let done = c.insert_without_edges.ensures in
+    adding_splits_none _ _ c.args.dcel.now c.insert_without_edges.new.dcel c.requires.can.kept
     done.takes.kept done.takes.vertices _ _ g.met.M.ConstraintMarker.constraints_are_marked _
     g.met.M.FreeByDefault.default_is_free done.edges
