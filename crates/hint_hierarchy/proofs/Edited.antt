@@ -31,34 +31,34 @@ module _ {V : Type 0} (place : V → Point) (old new : Plain V) where
       (subst (λ (ps : List Point). Contains ps p)
       (ap (map place) more.vertices ∙ map-append place old.vertices (v ∷ [])) c)
 
-module _ {V D U F : Type 0} (place : V → Point) (constraints : List U → List ℕ)
-    (old new : State V D U F) where
-  result_with : (v : V) (r : Result ℕ InsertionError) → IfOk r (λ i. Inserts place
-      (points_and_constraints_by constraints old) (points_and_constraints_by constraints new) v i)
-      → OnErr r (new ≡ old) → IsAtMostWith (Contains (map place old.vertices))
-      (Contains (map place new.vertices)) (place v)
-  result_with v (Ok i) ok err =
-      at_most_with place (points_and_constraints_by constraints old)
-      (points_and_constraints_by constraints new) v i ok
-  result_with v (Err e) ok err =
-      λ p c. inl (subst (λ (s : State V D U F). Contains (map place s.vertices) p) err c)
+-- whether it was refused or not
+pub inserted_at_most : {V D U F : Type 0} {place : V → Point} {constraints : List U → List ℕ}
+    {old new : State V D U F} {v : V} {r : Result ℕ InsertionError}
+    → InsertsVertex place constraints v r old new → IsAtMostWith
+    (Contains (map place old.vertices)) (Contains (map place new.vertices)) (place v)
+inserted_at_most {V = V} {D = D} {U = U} {F = F} {place = place} {constraints = constraints}
+    {old = old} {new = new} {v = v} {r = r} done = go r done.ok done.err
+  where
+    go : (r : Result ℕ InsertionError) → IfOk r (λ i. Inserts place
+        (points_and_constraints_by constraints old) (points_and_constraints_by constraints new) v i)
+        → OnErr r (new ≡ old) → IsAtMostWith (Contains (map place old.vertices))
+        (Contains (map place new.vertices)) (place v)
+    go (Ok i) ok err = at_most_with place (points_and_constraints_by constraints old)
+        (points_and_constraints_by constraints new) v i ok
+    go (Err e) ok err =
+        λ p c. inl (subst (λ (s : State V D U F). Contains (map place s.vertices) p) err c)
 
-  -- whether it was refused or not
-  pub inserted_at_most : (v : V) (r : Result ℕ InsertionError)
-      → InsertsVertex place constraints v r old new → IsAtMostWith
-      (Contains (map place old.vertices)) (Contains (map place new.vertices)) (place v)
-  inserted_at_most v r done = result_with v r done.ok done.err
-
-  -- after a removal, refused or not, each position is an old one
-  pub removed_at_most : {E : Type 0} (v : ℕ) (r : Result V E)
-      → RemovesVertex place constraints v r old new
-      → IsAtMost (Contains (map place old.vertices)) (Contains (map place new.vertices))
-  removed_at_most v (Ok value) done = λ p c.
-      All-contains (Contains (map place old.vertices)) (map place new.vertices) p
-      (sites_left place constraints old new v value done.plain (Contains (map place old.vertices))
-      (All-contains_itself (map place old.vertices))) c
-  removed_at_most v (Err e) done =
-      λ p c. subst (λ (s : State V D U F). Contains (map place s.vertices) p) done.err c
+-- after a removal, refused or not, each position is an old one
+pub removed_at_most : {V D U F E : Type 0} {place : V → Point} {constraints : List U → List ℕ}
+    {old new : State V D U F} {v : ℕ} {r : Result V E} → RemovesVertex place constraints v r old new
+    → IsAtMost (Contains (map place old.vertices)) (Contains (map place new.vertices))
+removed_at_most {place = place} {constraints = constraints} {old = old} {new = new} {v = v}
+    {r = Ok value} done = λ p c.
+    All-contains (Contains (map place old.vertices)) (map place new.vertices) p
+    (sites_left place constraints old new v value done.plain (Contains (map place old.vertices))
+    (All-contains_itself (map place old.vertices))) c
+removed_at_most {V = V} {D = D} {U = U} {F = F} {place = place} {r = Err e} done =
+    λ p c. subst (λ (s : State V D U F). Contains (map place s.vertices) p) done.err c
 
 -- a copy, if it was made, has the same positions
 pub copied : {V D U F E Y : Type 0} (RV : V → V → Type 0) (RD : D → D → Type 0) (RU : U → U

@@ -1,26 +1,18 @@
 -- The positions of a layer, all in its filter: as the layer changes, and as a filter is made.
--- Lemmas: filtered_with, filtered_after, filtered_next.
+-- Notions: HasBit; filtered_after, filtered_next.
 use Rattle.std.proofs.Common.{◌≡◌, ◌∙◌, ◌+◌, ℕ, List, map, get_or, Some, sym, ap, arith}
 use Rattle.std.specs.Prelude.{All, Bool, true, Contains, slice_get}
 use Rattle.std.proofs.lemmas.List.{get_or-map, length-map}
 use Rattle.std.proofs.lemmas.List.Elements.{All-contains}
 use Rattle.std.proofs.lemmas.Option.{get_or_from_slice_get, slice_get_within}
 use Rattle.delaunay_interface.specs.plane.Fraction.{Point}
-use Rattle.delaunay_interface.specs.plane.Hint.{IsAtMost, IsAtMostWith}
+use Rattle.delaunay_interface.specs.plane.Hint.{IsAtMost}
 use Rattle.hint_hierarchy.specs.Bloom.{may_have}
-use Rattle.hint_hierarchy.proofs.Held.{AllBefore, all_before_next, all_from_each, sites_with}
+use Rattle.hint_hierarchy.proofs.Held.{AllBefore, all_before_next, all_from_each}
 
 -- the bit of a position is set
 abbrev pub HasBit : List Bool → Point → Type 0
 HasBit bits p = may_have bits p ≡ true
-
--- after an insertion, where the filter has the new position too
-pub filtered_with : (bits : List Bool) (old new : List Point) (q : Point) → All (HasBit bits) old
-    → HasBit bits q → IsAtMostWith (Contains old) (Contains new) q → All (HasBit bits) new
-filtered_with bits old new q all added more =
-    all_from_each (HasBit bits) new
-    (sites_with (HasBit bits) (Contains old) (Contains new) q
-    (λ p h. All-contains (HasBit bits) old p all h) added more)
 
 -- after a removal
 pub filtered_after : (bits : List Bool) (old new : List Point) → All (HasBit bits) old

@@ -1,6 +1,6 @@
 -- What layers hold after one of them changed, and after one was added or dropped.
--- Notions: AllBefore, IsVacantBelow; all_from_each, nothing_contained, all_before_next, sites_with,
--- sites_or, with_then_with, all_from_held, held_from_all, held_at, held_after_set, held_since,
+-- Notions: AllBefore, IsVacantBelow; all_from_each, all_with, nothing_contained, all_before_next,
+-- sites_with, or_with, sites_or, with_then_with, all_from_held, held_from_all, held_at, held_after_set, held_since,
 -- sites_at, vacant_if_all, vacant_one_more, held_in_first, pushed_within.
 use Rattle.std.proofs.Common.{
   ◌≡◌,
@@ -71,7 +71,13 @@ pub sites_with : (sites old now : Point → Type 0) (q : Point) → IsAtMost sit
 sites_with sites old now q held site more =
     λ p h. ⊎_elim (λ o. held p o) (λ e. subst sites (sym e) site) (more p h)
 
--- and with that of a vertex that is swapped in, if any
+-- the one more is that of a vertex that is swapped in
+pub or_with : (old now : Point → Type 0) (q : Point) (swapped : Option Point)
+    → IsAtMostWith old now q → swapped ≡ Some q → IsAtMostOr old now swapped
+or_with old now q swapped more is =
+    λ p h. ⊎_elim (λ o. inl o) (λ e. inr (is ∙ ap (λ x. Some x) (sym e))) (more p h)
+
+-- sites with that of such a vertex, if any
 pub sites_or : (sites old now : Point → Type 0) (swapped : Option Point) → IsAtMost sites old
     → ((p : Point) → swapped ≡ Some p → sites p) → IsAtMostOr old now swapped → IsAtMost sites now
 sites_or sites old now swapped held site more =
@@ -82,6 +88,12 @@ pub with_then_with : (old now later : Point → Type 0) (q : Point) → IsAtMost
     → IsAtMostWith now later q → IsAtMostWith old later q
 with_then_with old now later q first second =
     λ p h. ⊎_elim (λ o. first p o) (λ e. inr e) (second p h)
+
+-- what each point of a list meets, each of another does that has at most one more, which meets it
+pub all_with : (P : Point → Type 0) (old new : List Point) (q : Point) → All P old → P q
+    → IsAtMostWith (Contains old) (Contains new) q → All P new
+all_with P old new q all one more = all_from_each P new
+    (sites_with P (Contains old) (Contains new) q (λ p h. All-contains P old p all h) one more)
 
 module _ {L : Type 0} (positions_of : L → List Point) where
   -- what is held, as a fact of each layer
@@ -100,10 +112,10 @@ module _ {L : Type 0} (positions_of : L → List Point) where
       (All-contains (λ l. All P (positions_of l)) layers h.layer all h.among) h.vertex
 
   -- the layer at an index that is read
-  pub held_at : (layers : List L) (i : ℕ) (layer : L) → i < length layers
-      → layer ≡ get_or layers i layer → (p : Point) → Contains (positions_of layer) p
+  pub held_at : (layers : List L) (i : ℕ) (layer : L) → layer ≡ get_or layers i layer
+      → i < length layers → (p : Point) → Contains (positions_of layer) p
       → IsInSome positions_of layers p
-  held_at layers i layer below here p at =
+  held_at layers i layer here below p at =
       record { layer = layer; among = (i, below, sym here); vertex = at }
 
   -- a layer takes the place of one
@@ -117,26 +129,26 @@ module _ {L : Type 0} (positions_of : L → List Point) where
       held_from_all P (slice_set layers i new)
       (All-set (λ l. All P (positions_of l)) layers i new
       (all_from_each P (positions_of new)
-      (λ p at. ⊎_elim (λ o. inl (held_at layers i old below here p o)) (λ x. inr x) (more p at)))
+      (λ p at. ⊎_elim (λ o. inl (held_at layers i old here below p o)) (λ x. inr x) (more p at)))
       (all_from_held P layers (λ p h. inl h)))
 
   -- the same after changes that each add at most X
   pub held_since : (X : Point → Type 0) (before layers : List L) (i : ℕ) (old new : L)
-      → i < length layers → old ≡ get_or layers i old
+      → old ≡ get_or layers i old → i < length layers
       → ((p : Point) → Contains (positions_of new) p → Contains (positions_of old) p ⊎ X p)
       → ((p : Point) → IsInSome positions_of layers p → IsInSome positions_of before p ⊎ X p)
       → (p : Point) → IsInSome positions_of (slice_set layers i new) p
       → IsInSome positions_of before p ⊎ X p
-  held_since X before layers i old new below here more former = λ p h.
+  held_since X before layers i old new here below more former = λ p h.
       ⊎_elim (λ o. former p o) (λ x. inr x) (held_after_set X layers i old new below here more p h)
 
   -- the positions of a layer that is read are sites where all that is held is
-  pub sites_at : (sites : Point → Type 0) (layers : List L) (i : ℕ) (layer : L) → i < length layers
-      → layer ≡ get_or layers i layer → IsAtMost sites (IsInSome positions_of layers)
+  pub sites_at : (sites : Point → Type 0) (layers : List L) (i : ℕ) (layer : L)
+      → layer ≡ get_or layers i layer → i < length layers → IsAtMost sites (IsInSome positions_of layers)
       → All sites (positions_of layer)
-  sites_at sites layers i layer below here held =
+  sites_at sites layers i layer here below held =
       all_from_each sites (positions_of layer)
-      (λ p at. held p (held_at layers i layer below here p at))
+      (λ p at. held p (held_at layers i layer here below p at))
 
   -- none of the layers before one has a vertex at q
   abbrev pub IsVacantBelow : Point → ℕ → List L → Type 0

@@ -12,8 +12,8 @@ use Rattle.delaunay_interface.specs.plane.Hint.{IsAtMost, IsAtMostOf, IsAtMostWi
 
 -- the position of an element is one of those of the list
 pub element_is_listed : {V : Type 0} (place : V → Point) (vs : List V) (i : ℕ) (v : V)
-    → i < length vs → v ≡ get_or vs i v → Contains (map place vs) (place v)
-element_is_listed place vs i v within here = (
+    → v ≡ get_or vs i v → i < length vs → Contains (map place vs) (place v)
+element_is_listed place vs i v here within = (
   i,
   omega (arith, within, length-map vs place),
   get_or-map place vs i v (place v) within ∙ ap place (sym here),

@@ -53,7 +53,7 @@ impl<S: SpadeNum, const BRANCH_FACTOR: u32> HierarchyHintGeneratorWithBranchFact
     // The position of the first vertex, or another where there is no layer yet.
     fn first_or(&self, other: Point2<S>) -> Point2<S>
         ensures { IsHeld S.whole self.now.layers.items (place_of S.whole result) ⊎
-            (result ≡ other) }
+            (place_of S.whole result ≡ place_of S.whole other) }
     {
         if self.layers.is_empty() {
             other
@@ -72,7 +72,7 @@ impl<S: SpadeNum, const BRANCH_FACTOR: u32> HierarchyHintGeneratorWithBranchFact
     {
         let first = self.first_or(position);
         let mut layer = Layer::new(self.alloc);
-        layer.insert(0, first, tests) && self.layers.push(layer).is_ok()
+        layer.insert(first, tests) && self.layers.push(layer).is_ok()
     }
 
     // Inserts a vertex with this index into each layer that is to have it; whether all layers are
@@ -93,7 +93,7 @@ impl<S: SpadeNum, const BRANCH_FACTOR: u32> HierarchyHintGeneratorWithBranchFact
             let Some(index) = index_above::<BRANCH_FACTOR>(below) else {
                 return true;
             };
-            if !self.layers[level].insert(index as usize, position, tests) {
+            if !self.layers[level].insert(position, tests) {
                 return false;
             }
             below = index;

@@ -100,17 +100,13 @@ impl<S: SpadeNum> Layer<S> {
         }
     }
 
-    pub(crate) fn num_vertices(&self) -> usize {
-        self.triangulation.num_vertices()
+    // Whether there is one vertex, or none.
+    pub(crate) fn is_idle(&self) -> bool {
+        self.triangulation.num_vertices() < 2
     }
 
-    // Inserts a position; whether it has this index then.
-    pub(crate) fn insert<P: PlaneTests<S>>(
-        &mut self,
-        index: usize,
-        position: Point2<S>,
-        tests: &P,
-    ) -> bool
+    // Inserts a position; whether no vertex has had it, and there was memory for it.
+    pub(crate) fn insert<P: PlaneTests<S>>(&mut self, position: Point2<S>, tests: &P) -> bool
         requires sites { All (P.sites tests.now) (positions S.whole self.old) }
         requires site { P.sites tests.now (place_of S.whole position) }
         ensures { IsAtMostWith (IsPositionOf S.whole self.old) (IsPositionOf S.whole self.new)
@@ -119,10 +115,10 @@ impl<S: SpadeNum> Layer<S> {
         if !add_to_filter(&mut self.filter, &self.triangulation, position, self.alloc) {
             return false;
         }
-        let Ok(vertex) = self.triangulation.insert(position, tests) else {
-            return false;
-        };
-        vertex.index() as usize == index && self.stars.take_up(&self.triangulation, vertex).is_ok()
+        match self.triangulation.insert(position, tests) {
+            Ok(vertex) => self.stars.take_up(&self.triangulation, vertex),
+            Err(_) => false,
+        }
     }
 
     // The vertices whose neighbours may be others when one is removed: the vertex, since the last
@@ -153,12 +149,10 @@ impl<S: SpadeNum> Layer<S> {
         let Ok(changed) = self.changed_without(vertex) else {
             return false;
         };
-        if self.triangulation.remove(vertex, tests).is_err() {
-            return false;
-        }
+        let removed = self.triangulation.remove(vertex, tests).is_ok();
         self.stars
             .renew(&self.triangulation, vertex, changed.as_slice());
-        true
+        removed
     }
 
     // The vertex that is nearest to a position, by a walk from the vertex `start`. The layer keeps
@@ -204,7 +198,8 @@ impl<S: SpadeNum> Layer<S> {
 
     // The position of the first vertex, or another where there is none.
     pub(crate) fn first_position(&self, other: Point2<S>) -> Point2<S>
-        ensures { IsPositionOf S.whole self.now (place_of S.whole result) ⊎ (result ≡ other) }
+        ensures { IsPositionOf S.whole self.now (place_of S.whole result) ⊎
+            (place_of S.whole result ≡ place_of S.whole other) }
     {
         match self
             .triangulation

@@ -32,16 +32,10 @@ fn remove_from_layer<S: SpadeNum, P: PlaneTests<S>>(
         (None, Some(last), _) => layer.remove(last, tests),
         (Some(index), Some(_), _) => layer.remove(index, tests),
         (Some(index), None, Some(position)) => {
-            let next = layer.num_vertices();
-            layer.insert(next, position, tests) && layer.remove(index, tests)
+            layer.insert(position, tests) && layer.remove(index, tests)
         }
         (Some(_), None, None) => false,
     }
-}
-
-// The index in the layer above, if there is one here and there.
-fn index_above_if<const BRANCH_FACTOR: u32>(index: Option<u32>) -> Option<u32> {
-    index_above::<BRANCH_FACTOR>(index?)
 }
 
 impl<S: SpadeNum, const BRANCH_FACTOR: u32> HierarchyHintGeneratorWithBranchFactor<
@@ -78,8 +72,8 @@ impl<S: SpadeNum, const BRANCH_FACTOR: u32> HierarchyHintGeneratorWithBranchFact
         let mut removed = Some(index);
         let mut last = Some(self.count);
         for level in 0..self.layers.len() {
-            removed = index_above_if::<BRANCH_FACTOR>(removed);
-            last = index_above_if::<BRANCH_FACTOR>(last);
+            removed = removed.and_then(index_above::<BRANCH_FACTOR>);
+            last = last.and_then(index_above::<BRANCH_FACTOR>);
             if !remove_from_layer(&mut self.layers[level], removed, last, swapped_in, tests) {
                 return false;
             }
@@ -96,7 +90,7 @@ impl<S: SpadeNum, const BRANCH_FACTOR: u32> HierarchyHintGeneratorWithBranchFact
         let layers = self.layers.len();
         if self.count == 0 {
             self.layers.clear();
-        } else if layers >= 2 && self.layers[layers - 2].num_vertices() < 2 {
+        } else if layers >= 2 && self.layers[layers - 2].is_idle() {
             self.layers.truncate(layers - 1);
         }
     }

@@ -7,7 +7,7 @@ use crate::star::Star;
 use delaunay_interface::delaunay_core::point::{Point2, SpadeNum};
 use delaunay_interface::half_edge_mesh::FixedVertexHandle;
 use delaunay_interface::{DelaunayTriangulation, Triangulation};
-use std::alloc::{AllocError, Global};
+use std::alloc::Global;
 
 /// The star of each vertex, by index.
 #[derive(Clone, Drop)]
@@ -22,18 +22,24 @@ impl Stars {
         }
     }
 
-    /// Takes up the vertex that was inserted last. Of a neighbour's former edges those are gone
-    /// that lay between its edges to the neighbours beside it.
+    /// Takes up the vertex that was inserted last; whether it is a new one, and there was memory.
+    /// Of a neighbour's former edges those are gone that lay between its edges to the neighbours
+    /// beside it.
     pub(crate) fn take_up<S: SpadeNum>(
         &mut self,
         triangulation: &DelaunayTriangulation<Point2<S>>,
         vertex: FixedVertexHandle,
-    ) -> Result<(), AllocError> {
+    ) -> bool {
+        if vertex.index() as usize != self.stars.len() {
+            return false;
+        }
         let Some(vertex) = triangulation.get_vertex(vertex) else {
-            return Ok(());
+            return false;
         };
         let star = Star::of(&vertex);
-        self.stars.push(star)?;
+        if self.stars.push(star).is_err() {
+            return false;
+        }
         for edge in vertex.out_edges() {
             let end = edge.to();
             let is_on_hull = edge.is_outer_edge() || edge.rev().is_outer_edge();
@@ -44,7 +50,7 @@ impl Stars {
                 }
             }
         }
-        Ok(())
+        true
     }
 
     /// Renews the stars of some vertices, after a removal of a vertex, whose index the last one has

@@ -1,6 +1,5 @@
-use Rattle.std.proofs.Common.{◌≡◌, ◌∙◌, ◌⊎◌, sym, ap, subst, inl, inr}
+use Rattle.std.proofs.Common.{◌≡◌, ◌⊎◌, sym, subst, inl}
 use mathlib.Core.Logic.{⊎_elim}
-use Rattle.std.specs.Prelude.{Contains}
 use Rattle.delaunay_interface.specs.plane.Fraction.{Point}
 use Rattle.delaunay_interface.specs.delaunay_core.Place.{place_of}
 use Rattle.hint_hierarchy.specs.Layers.{IsHeld, positions}
@@ -8,12 +7,8 @@ use Rattle.hint_hierarchy.proofs.Held.{nothing_contained, pushed_within}
 use Rattle.hint_hierarchy.proofs.hierarchy.HierarchyHintGeneratorWithBranchFactor.add_layer.Goals as goal
 
 pub insert-requires-clause-site : goal.insert-requires-clause-site
-insert-requires-clause-site g c =
-    let number = g.S.SpadeNum.whole in
-    let sites = g.P.PlaneTests.sites c.args.tests.now in
-    ⊎_elim
-    (λ h. c.requires.held (place_of number c.first_or-first.result) h)
-    (λ e. subst (λ x. sites (place_of number x)) (sym e) c.requires.site)
+insert-requires-clause-site g c = ⊎_elim (λ h. c.requires.held _ h)
+    (λ e. subst (g.P.PlaneTests.sites c.args.tests.now) (sym e) c.requires.site)
     c.first_or-first.ensures
 
 pub returns-then-insert : goal.returns-then-insert
@@ -23,12 +18,6 @@ returns-then-insert g c =
     let H : Point → Type 0 = λ p. IsHeld number layers p ⊎ (p ≡ place_of number c.args.position) in
     pushed_within
     (positions number) H layers c.push.new.self.items _ c.insert.new.self c.push.ensures.items
-    (λ p h. inl h)
-    (λ p h. ⊎_elim
-    (λ old. absurd (nothing_contained p
-    (subst (λ ps. Contains ps p) c.new-layer.ensures old)))
-    (λ e. ⊎_elim
-    (λ held. inl (subst (IsHeld number layers) (sym e) held))
-    (λ same. inr (e ∙ ap (place_of number) same))
-    c.first_or-first.ensures)
-    (c.insert.ensures p h))
+    (λ p h. inl h) (λ p h. ⊎_elim
+    (λ old. absurd (nothing_contained p (rw c.new-layer.ensures at old)))
+    (λ e. rw e c.first_or-first.ensures) (c.insert.ensures p h))

@@ -3,8 +3,8 @@ use Rattle.hint_hierarchy.specs.Layers.{positions}
 use Rattle.hint_hierarchy.proofs.Held.{held_in_first}
 use Rattle.hint_hierarchy.proofs.hierarchy.HierarchyHintGeneratorWithBranchFactor.drop_idle_layers.Goals as goal
 
-pub returns-then-num_vertices-lt2 : goal.returns-then-num_vertices-lt2
-returns-then-num_vertices-lt2 g c =
+pub returns-then-is_idle : goal.returns-then-is_idle
+returns-then-is_idle g c =
     held_in_first (positions g.S.SpadeNum.whole)
     (c.len-layers.result - 1) c.args.self.now.layers.items
     c.truncate.new.self.items c.truncate.ensures.items

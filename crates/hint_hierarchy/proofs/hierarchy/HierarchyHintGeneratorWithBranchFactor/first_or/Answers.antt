@@ -1,4 +1,4 @@
-use Rattle.std.proofs.Common.{◌<◌, length, inl, inr, arith}
+use Rattle.std.proofs.Common.{inl, inr, arith}
 use mathlib.Core.Logic.{⊎_elim}
 use Rattle.std.proofs.lemmas.Grind.{common_steps}
 use Rattle.hint_hierarchy.specs.Layers.{positions}
@@ -7,8 +7,5 @@ use Rattle.hint_hierarchy.proofs.hierarchy.HierarchyHintGeneratorWithBranchFacto
 
 pub returns-else-is_empty : goal.returns-else-is_empty
 returns-else-is_empty g c =
-    let layers = c.args.self.now.layers.items in
-    let below : 0 < length layers = grind (arith, common_steps) in
-    ⊎_elim
-    (λ at. inl (held_at (positions g.S.SpadeNum.whole) layers _ _ below c.index.ensures _ at))
-    (λ e. inr e) c.first_position.ensures
+    ⊎_elim (λ at. inl (held_at (positions g.S.SpadeNum.whole) _ _ _ c.index.ensures
+    (grind (arith, common_steps)) _ at)) (λ e. inr e) c.first_position.ensures

@@ -1,4 +1,4 @@
-use Rattle.std.proofs.Common.{◌<◌, ◌-◌, length, arith}
+use Rattle.std.proofs.Common.{arith}
 use Rattle.std.proofs.lemmas.Grind.{common_steps}
 use Rattle.hint_hierarchy.specs.Layers.{positions}
 use Rattle.hint_hierarchy.proofs.Held.{sites_at}
@@ -6,6 +6,5 @@ use Rattle.hint_hierarchy.proofs.hierarchy.HierarchyHintGeneratorWithBranchFacto
 
 pub nearest_from-requires-clause-sites : goal.nearest_from-requires-clause-sites
 nearest_from-requires-clause-sites g c =
-    let layers = c.args.self.now.layers.items in
-    let below : c.loop-level.level - 1 < length layers = grind (arith, common_steps) in
-    sites_at (positions g.S.SpadeNum.whole) _ layers _ _ below c.index-layer.ensures c.requires.held
+    sites_at (positions g.S.SpadeNum.whole) _ _ _ _ c.index-layer.ensures
+    (grind (arith, common_steps)) c.requires.held

@@ -1,4 +1,4 @@
-use Rattle.std.proofs.Common.{◌<◌, length, arith}
+use Rattle.std.proofs.Common.{arith}
 use Rattle.std.proofs.lemmas.Grind.{common_steps}
 use Rattle.hint_hierarchy.specs.Layers.{positions}
 use Rattle.hint_hierarchy.proofs.Held.{held_since, sites_at, sites_with, with_then_with}
@@ -6,27 +6,21 @@ use Rattle.hint_hierarchy.proofs.hierarchy.HierarchyHintGeneratorWithBranchFacto
 
 pub insert-requires-clause-sites : goal.insert-requires-clause-sites
 insert-requires-clause-sites g c =
-    let layers = c.loop-level.self.layers.items in
-    let below : c.loop-level.level < length layers = grind (arith, common_steps) in
-    sites_at (positions g.S.SpadeNum.whole) _ layers _ _ below c.index_mut.ensures.value
-    (sites_with _ _ _ _ c.requires.held c.requires.site c.loop-level.invariant.more)
+    sites_at (positions g.S.SpadeNum.whole) _ _ _ _ c.index_mut.ensures.value
+    (grind (arith, common_steps)) (sites_with _ _ _ _ c.requires.held c.requires.site c.loop-level.invariant.more)
 
 pub loop-level-preserved : goal.loop-level-preserved
-loop-level-preserved g c =
-    let layers = c.loop-level.self.layers.items in
-    let below : c.loop-level.level < length layers = grind (arith, common_steps) in
-    record {
-      as_many = grind (arith, common_steps);
-      more = held_since (positions g.S.SpadeNum.whole) _ _ layers _ _ c.insert.new.self below
-          c.index_mut.ensures.value c.insert.ensures c.loop-level.invariant.more;
-    }
+loop-level-preserved g c = record {
+  as_many = grind (arith, common_steps);
+  more = held_since (positions g.S.SpadeNum.whole) _ _ _ _ _ c.insert.new.self
+      c.index_mut.ensures.value (grind (arith, common_steps)) c.insert.ensures
+      c.loop-level.invariant.more;
+}
 
 pub returns-then-not-insert : goal.returns-then-not-insert
 returns-then-not-insert g c =
-    let layers = c.loop-level.self.layers.items in
-    let below : c.loop-level.level < length layers = grind (arith, common_steps) in
-    held_since (positions g.S.SpadeNum.whole) _ _ layers _ _ c.insert.new.self below
-    c.index_mut.ensures.value c.insert.ensures c.loop-level.invariant.more
+    held_since (positions g.S.SpadeNum.whole) _ _ _ _ _ c.insert.new.self c.index_mut.ensures.value
+    (grind (arith, common_steps)) c.insert.ensures c.loop-level.invariant.more
 
 pub add_layer-requires : goal.add_layer-requires
 add_layer-requires g c =

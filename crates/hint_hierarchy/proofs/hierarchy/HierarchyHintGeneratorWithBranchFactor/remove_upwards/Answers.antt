@@ -1,4 +1,4 @@
-use Rattle.std.proofs.Common.{◌<◌, length, arith}
+use Rattle.std.proofs.Common.{arith}
 use Rattle.std.proofs.lemmas.Grind.{common_steps}
 use Rattle.hint_hierarchy.specs.Layers.{positions}
 use Rattle.hint_hierarchy.proofs.Held.{held_since, sites_at, sites_or}
@@ -6,24 +6,19 @@ use Rattle.hint_hierarchy.proofs.hierarchy.HierarchyHintGeneratorWithBranchFacto
 
 pub remove_from_layer-requires-clause-sites : goal.remove_from_layer-requires-clause-sites
 remove_from_layer-requires-clause-sites g c =
-    let layers = c.loop-level.self.layers.items in
-    let below : c.loop-level.level < length layers = grind (arith, common_steps) in
-    sites_at (positions g.S.SpadeNum.whole) _ layers _ _ below c.index_mut.ensures.value
-    (sites_or _ _ _ _ c.requires.held c.requires.swapped_site c.loop-level.invariant.more)
+    sites_at (positions g.S.SpadeNum.whole) _ _ _ _ c.index_mut.ensures.value
+    (grind (arith, common_steps)) (sites_or _ _ _ _ c.requires.held c.requires.swapped_site c.loop-level.invariant.more)
 
 pub loop-level-preserved : goal.loop-level-preserved
-loop-level-preserved g c =
-    let layers = c.loop-level.self.layers.items in
-    let below : c.loop-level.level < length layers = grind (arith, common_steps) in
-    record {
-      as_many = grind (arith, common_steps);
-      more = held_since (positions g.S.SpadeNum.whole) _ _ layers _ _ c.remove_from_layer.new.layer
-          below c.index_mut.ensures.value c.remove_from_layer.ensures c.loop-level.invariant.more;
-    }
+loop-level-preserved g c = record {
+  as_many = grind (arith, common_steps);
+  more = held_since (positions g.S.SpadeNum.whole) _ _ _ _ _ c.remove_from_layer.new.layer
+      c.index_mut.ensures.value (grind (arith, common_steps)) c.remove_from_layer.ensures
+      c.loop-level.invariant.more;
+}
 
 pub returns-then-not-remove_from_layer : goal.returns-then-not-remove_from_layer
 returns-then-not-remove_from_layer g c =
-    let layers = c.loop-level.self.layers.items in
-    let below : c.loop-level.level < length layers = grind (arith, common_steps) in
-    held_since (positions g.S.SpadeNum.whole) _ _ layers _ _ c.remove_from_layer.new.layer below
-    c.index_mut.ensures.value c.remove_from_layer.ensures c.loop-level.invariant.more
+    held_since (positions g.S.SpadeNum.whole) _ _ _ _ _ c.remove_from_layer.new.layer
+    c.index_mut.ensures.value (grind (arith, common_steps)) c.remove_from_layer.ensures
+    c.loop-level.invariant.more

@@ -1,4 +1,4 @@
-use Rattle.std.proofs.Common.{◌<◌, length, arith}
+use Rattle.std.proofs.Common.{arith}
 use Rattle.std.proofs.lemmas.Grind.{common_steps}
 use Rattle.std.proofs.lemmas.List.Elements.{All-contains}
 use Rattle.delaunay_interface.specs.delaunay_core.Place.{place_of}
@@ -11,10 +11,8 @@ loop-position-init g c = λ p h. absurd (c.new-hierarchy.ensures p h)
 pub append-requires : goal.append-requires
 append-requires g c =
     let sites = g.P.PlaneTests.sites c.args.tests.now in
-    let points = c.args.positions.now in
-    let below : c.loop-position.position-index < length points = grind (arith, common_steps) in
-    let listed = element_is_listed (place_of g.S.SpadeNum.whole) points _ _ below
-    c.position-item.is in (
+    let listed = element_is_listed (place_of g.S.SpadeNum.whole) c.args.positions.now _ _
+    c.position-item.is (grind (arith, common_steps)) in (
       omega arith,
       (
         sites_of sites _ _ c.requires.sites c.loop-position.invariant,
@@ -24,8 +22,6 @@ append-requires g c =
 
 pub loop-position-preserved : goal.loop-position-preserved
 loop-position-preserved g c =
-    let points = c.args.positions.now in
-    let below : c.loop-position.position-index < length points = grind (arith, common_steps) in
-    of_then_with _ _ _ _ c.loop-position.invariant
-    (element_is_listed (place_of g.S.SpadeNum.whole) points _ _ below c.position-item.is)
+    of_then_with _ _ _ _ c.loop-position.invariant (element_is_listed
+    (place_of g.S.SpadeNum.whole) _ _ _ c.position-item.is (grind (arith, common_steps)))
     c.append.ensures

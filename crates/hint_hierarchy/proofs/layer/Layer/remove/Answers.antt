@@ -3,17 +3,8 @@ use Rattle.hint_hierarchy.proofs.Filtered.{filtered_after}
 use Rattle.hint_hierarchy.proofs.layer.Layer.remove.Goals as goal
 
 pub invariant_of-self : goal.invariant_of-self
-invariant_of-self g c = filtered_after _ _ _ c.self.invariant
-    (removed_at_most _ _ _ _ _ c.remove.result c.remove.ensures.removes)
-
-pub returns-then-is_err : goal.returns-then-is_err
-returns-then-is_err g c = rw (← c.self.view_is)
-    (removed_at_most _ _ _ _ _ c.remove.result c.remove.ensures.removes)
-
-pub invariant_of-self-2 : goal.invariant_of-self-2
-invariant_of-self-2 g c = filtered_after _ _ _ c.self.invariant
-    (removed_at_most _ _ _ _ _ c.remove.result c.remove.ensures.removes)
+invariant_of-self g c =
+    filtered_after _ _ _ c.self.invariant (removed_at_most c.remove.ensures.removes)
 
 pub returns : goal.returns
-returns g c = rw (← c.self.view_is)
-    (removed_at_most _ _ _ _ _ c.remove.result c.remove.ensures.removes)
+returns g c = rw (← c.self.view_is) (removed_at_most c.remove.ensures.removes)
