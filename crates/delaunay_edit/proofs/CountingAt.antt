@@ -39,13 +39,17 @@ module _ {V D U F : Type 0} (constraints : List U → List ℕ) (c : Contents V 
   AmongEdges hs a b = (h : ℕ) × Contains hs h × Contains (constraints c.undirected) (h / 2) ×
       IsSamePair a b (origin c.mesh h) (origin c.mesh (rev h))
 
-  -- what is left of the edges of vertex v, and how many constraints there were before
-  pub record IsCountingAt (v : ℕ) (given : List (Bor (Contents V D U F) × ℕ))
-      (count : ℕ) : Type 0 where
-    pub rest : List ℕ
-    pub are_left : IsLeftOfRound c v given rest
-    pub few : count + length rest ≤ length c.mesh.half_edges
-    pub total : (k : ℕ) → HasPairs (AmongEdges rest) k → HasPairs (EndsAt pairs_of v) (count + k)
+-- what is left of the edges of vertex v, and how many constraints there were before
+pub record IsCountingAt {V D U F : Type 0} (place : V → Point) (marks : U → Bool)
+    (constraints : List U → List ℕ)
+    (marked : (ds : List U) → constraints ds ≡ marked_edges marks ds) (c : Contents V D U F) (v : ℕ)
+    (given : List (Bor (Contents V D U F) × ℕ)) (count : ℕ) : Type 0 where
+  pub kept : IsTriangulated place (state_of c)
+  pub rest : List ℕ
+  pub are_left : IsLeftOfRound c v given rest
+  pub few : count + length rest ≤ length c.mesh.half_edges
+  pub total : (k : ℕ) → HasPairs (AmongEdges constraints c rest) k
+      → HasPairs (EndsAt (pairs_of constraints c) v) (count + k)
 
 module _ {V D U F : Type 0} (place : V → Point) (marks : U → Bool) (constraints : List U → List ℕ)
     (marked : (ds : List U) → constraints ds ≡ marked_edges marks ds) (c : Contents V D U F)
@@ -55,9 +59,6 @@ module _ {V D U F : Type 0} (place : V → Point) (marks : U → Bool) (constrai
 
   abbrev Among : List ℕ → ℕ → ℕ → Type 0
   Among hs a b = AmongEdges constraints c hs a b
-
-  abbrev Counting : List (Bor (Contents V D U F) × ℕ) → ℕ → Type 0
-  Counting given count = IsCountingAt constraints c v given count
 
   -- all edges of the vertex have all its constraints
   all_among : (given : List (Bor (Contents V D U F) × ℕ)) (w : IsWholeRound c v given) (a b : ℕ)
@@ -101,10 +102,12 @@ module _ {V D U F : Type 0} (place : V → Point) (marks : U → Bool) (constrai
 
   -- before the first edge the count is 0
   pub counting_begins : (d : Bor (Contents V D U F)) (given : List (Bor (Contents V D U F) × ℕ))
-      → d.now ≡ c → GivesRound d v given → Counting given 0
+      → d.now ≡ c → GivesRound d v given
+      → IsCountingAt place marks constraints marked c v given 0
   counting_begins d given same gives =
       let w = whole_round c v d given same kept.valid gives in
       record {
+        kept = kept;
         rest = w.rest;
         are_left = w.are_left;
         few =
@@ -159,62 +162,75 @@ module _ {V D U F : Type 0} (place : V → Point) (marks : U → Bool) (constrai
       apart h there (inr s) = kept.valid.apart h (within h (Contains-later i hs h there))
           (starts h (Contains-later i hs h there) ∙ sym (starts i (Contains-head i hs)) ∙ s.0)
 
-  module _ (given : List (Bor (Contents V D U F) × ℕ)) (count : ℕ) (p : Counting given count) where
-    -- a handle of the next edge that is given, as an undirected one, is one of the mesh
-    pub next_within : (x : Bor (Contents V D U F) × ℕ) (left : List (Bor (Contents V D U F) × ℕ))
-        → given ≡ x ∷ left → (f u : ℕ) → f ≡ x.1 → u ≡ f / 2 → u < length c.undirected
-    next_within x left e f u is half =
-        let within = p.are_left.within x.1 (next_left c v given p.rest p.are_left x left e) in
-        let fit = kept.fits.undirected_fit in
-        omega (arith, within, fit, is, half)
+module _ {V D U F : Type 0} {place : V → Point} {marks : U → Bool} {constraints : List U → List ℕ}
+    {marked : (ds : List U) → constraints ds ≡ marked_edges marks ds} {c : Contents V D U F} {v : ℕ}
+    {given : List (Bor (Contents V D U F) × ℕ)} {count : ℕ}
+    (p : IsCountingAt place marks constraints marked c v given count) where
+  abbrev Ending : ℕ → Type 0
+  Ending n = HasPairs (EndsAt (pairs_of constraints c) v) n
 
-    module _ (x : Bor (Contents V D U F) × ℕ) (left : List (Bor (Contents V D U F) × ℕ))
-        (e : given ≡ x ∷ left) where
-      -- the edge that is given next is the first of those left, and the others are left after it
-      s : (others : List ℕ) × (p.rest ≡ x.1 ∷ others) × IsLeftOfRound c v left others
-      s = one_less_left c v given p.rest p.are_left x left e
+  abbrev Left : List ℕ → ℕ → Type 0
+  Left hs k = HasPairs (AmongEdges constraints c hs) k
 
-      within_now : (h : ℕ) → Contains (x.1 ∷ s.0) h → h < length c.mesh.half_edges
-      within_now h y = p.are_left.within h (subst (λ (xs : List ℕ). Contains xs h) (sym s.1) y)
+  abbrev Counting : List (Bor (Contents V D U F) × ℕ) → ℕ → Type 0
+  Counting rest n = IsCountingAt place marks constraints marked c v rest n
 
-      starts_now : (h : ℕ) → Contains (x.1 ∷ s.0) h → origin c.mesh h ≡ v
-      starts_now h y = p.are_left.starts h (subst (λ (xs : List ℕ). Contains xs h) (sym s.1) y)
+  -- a handle of the next edge that is given, as an undirected one, is one of the mesh
+  pub next_within : {x : Bor (Contents V D U F) × ℕ} {left : List (Bor (Contents V D U F) × ℕ)}
+      → given ≡ x ∷ left → {f u : ℕ} → f ≡ x.1 → u ≡ f / 2 → u < length c.undirected
+  next_within {x = x} {left = left} e is half =
+      let within = p.are_left.within x.1 (next_left c v given p.rest p.are_left x left e) in
+      let fit = p.kept.fits.undirected_fit in
+      omega (arith, within, fit, is, half)
 
-      once_now : IsOnce (x.1 ∷ s.0)
-      once_now = subst (λ (xs : List ℕ). IsOnce xs) s.1 p.are_left.once
+  module _ {x : Bor (Contents V D U F) × ℕ} {left : List (Bor (Contents V D U F) × ℕ)}
+      (e : given ≡ x ∷ left) where
+    -- the edge that is given next is the first of those left, and the others are left after it
+    s : (others : List ℕ) × (p.rest ≡ x.1 ∷ others) × IsLeftOfRound c v left others
+    s = one_less_left c v given p.rest p.are_left x left e
 
-      -- one edge more is left before it is given than after
-      size : length p.rest ≡ suc (length s.0)
-      size = ap length s.1
+    within_now : (h : ℕ) → Contains (x.1 ∷ s.0) h → h < length c.mesh.half_edges
+    within_now h y = p.are_left.within h (subst (λ (xs : List ℕ). Contains xs h) (sym s.1) y)
 
-      total_now : (k : ℕ) → HasPairs (Among (x.1 ∷ s.0)) k → HasPairs (EndsAt pairs v) (count + k)
-      total_now k has = p.total k (subst (λ (xs : List ℕ). HasPairs (Among xs) k) (sym s.1) has)
+    starts_now : (h : ℕ) → Contains (x.1 ∷ s.0) h → origin c.mesh h ≡ v
+    starts_now h y = p.are_left.starts h (subst (λ (xs : List ℕ). Contains xs h) (sym s.1) y)
 
-      going_on : (count_now : ℕ) → count_now ≤ count + 1
-          → ((k : ℕ) → HasPairs (Among s.0) k → HasPairs (EndsAt pairs v) (count_now + k))
-          → Counting left count_now
-      going_on count_now more total = record {
-        rest = s.0;
-        are_left = s.2;
-        few = (let few = p.few in omega (arith, size, few, more));
-        total = total;
-      }
+    once_now : IsOnce (x.1 ∷ s.0)
+    once_now = subst (λ (xs : List ℕ). IsOnce xs) s.1 p.are_left.once
 
-      -- where it is no constraint, the count stays
-      pub counting_goes_past : ¬ Contains (constraints c.undirected) (x.1 / 2) → Counting left count
-      counting_goes_past none =
-          going_on count (omega arith) (λ k has. total_now k (without_mark x.1 s.0 k none has))
+    -- one edge more is left before it is given than after
+    size : length p.rest ≡ suc (length s.0)
+    size = ap length s.1
 
-      -- where it is one, the count is one more
-      pub counting_goes_on : Contains (constraints c.undirected) (x.1 / 2)
-          → Counting left (count + 1)
-      counting_goes_on mark = going_on (count + 1) (omega arith) (λ k has.
-          subst (λ (n : ℕ). HasPairs (EndsAt pairs v) n) (omega arith)
-          (total_now (suc k) (with_mark x.1 s.0 k within_now starts_now once_now mark has)))
+    total_now : (k : ℕ) → Left (x.1 ∷ s.0) k → Ending (count + k)
+    total_now k has = p.total k (subst (λ (xs : List ℕ). Left xs k) (sym s.1) has)
 
-    -- when none is left to give, so many constraints end at v
-    pub counting_ends : given ≡ [] → HasPairs (EndsAt pairs v) count
-    counting_ends e =
-        subst (λ (n : ℕ). HasPairs (EndsAt pairs v) n) (omega arith) (p.total 0 (no_pairs (λ a b x.
-        Contains-none x.0 (subst (λ (xs : List ℕ). Contains xs x.0)
-        (none_is_left c v given p.rest p.are_left e) x.1))))
+    going_on : (count_now : ℕ) → count_now ≤ count + 1
+        → ((k : ℕ) → Left s.0 k → Ending (count_now + k)) → Counting left count_now
+    going_on count_now more total = record {
+      kept = p.kept;
+      rest = s.0;
+      are_left = s.2;
+      few = (let few = p.few in omega (arith, size, few, more));
+      total = total;
+    }
+
+    -- where it is no constraint, the count stays
+    pub counting_goes_past : ¬ Contains (constraints c.undirected) (x.1 / 2) → Counting left count
+    counting_goes_past none =
+        going_on count (omega arith) (λ k has. total_now k
+        (without_mark place marks constraints marked c p.kept v x.1 s.0 k none has))
+
+    -- where it is one, the count is one more
+    pub counting_goes_on : Contains (constraints c.undirected) (x.1 / 2)
+        → Counting left (count + 1)
+    counting_goes_on mark = going_on (count + 1) (omega arith) (λ k has.
+        subst (λ (n : ℕ). Ending n) (omega arith)
+        (total_now (suc k) (with_mark place marks constraints marked c p.kept v x.1 s.0 k within_now
+        starts_now once_now mark has)))
+
+  -- when none is left to give, so many constraints end at v
+  pub counting_ends : given ≡ [] → Ending count
+  counting_ends e =
+      subst (λ (n : ℕ). Ending n) (omega arith) (p.total 0 (no_pairs (λ a b x. Contains-none x.0
+      (subst (λ (xs : List ℕ). Contains xs x.0) (none_is_left c v given p.rest p.are_left e) x.1))))

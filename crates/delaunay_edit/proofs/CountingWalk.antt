@@ -1,7 +1,7 @@
 -- A walk along the path between two vertices counts the pieces that are no constraints, and finds
 -- the constraints that cross it.
--- Notions: ArePathEnds, IsCountingPath; half_listed, half_unlisted, crossed_item, crossed_within, vertex_item,
--- counting_path_begins, path_is_free, path_counted, path_is_barred, counting_crosses,
+-- Notions: ArePathEnds, IsCountingPath; half_listed, half_unlisted, crossed_item, crossed_within,
+-- vertex_item, counting_path_begins, path_is_free, path_counted, path_is_barred, counting_crosses,
 -- counting_along, counting_stays, counting_goes_past, counting_goes_on.
 use Rattle.std.proofs.Common.{◌≡◌, ◌≢◌, ◌⊎◌, ◌+◌, ◌*◌, ◌/◌, ◌<◌, [], ◌∷◌, ◌++◌, ◌∙◌}
 use Rattle.std.proofs.Common.{ℕ, Bool, List, length, map, Some, None, refl, sym, ap, subst, inl, inr}
@@ -243,24 +243,27 @@ module _ {V D U F : Type 0} (at : V → Point) (marks : U → Bool) (constraints
               (different there.0 (edge_in there.0 there.1.listed)))
               (record { at = cross.at; meet = cross.meet; within = cross.within_second })
 
-    -- at the beginning of a walk nothing was passed
-    pub counting_path_begins : {P S : Type 0} {number : S → ℤ}
-        {IsSite IsCovered : P → Point → Type 0} {it : LineIntersectionIterator V D U F P S}
-        → IsReady at number IsSite IsCovered it
-        → WalksLine at number (state_of c) (point_at points i) (point_at points j) it
-        → IsCountingPath number IsSite IsCovered i 0 it
-    counting_path_begins {number = number} {IsSite = IsSite} {IsCovered = IsCovered} {it = it} ready
-        walks = record {
-          ends = ends;
-          passed = [];
-          so_far = none_passed at number IsSite IsCovered (state_of c) (point_at points i)
-              (point_at points j) it ready walks;
-          ready = ready;
-          reached = reached_begins points i j from_index;
-          walking = walk_begins points distinct pairs j to_index i from_index
-              (All-map InRange at c.vertices ends.kept.in_range);
-          clear = λ k there. absurd (Contains-none k there);
-        }
+  -- at the beginning of a walk nothing was passed
+  pub counting_path_begins : {P S : Type 0} {number : S → ℤ} {IsSite IsCovered : P → Point → Type 0}
+      {it : LineIntersectionIterator V D U F P S} → IsTriangulated at (state_of c)
+      → i < length c.vertices → j < length c.vertices → i ≢ j
+      → IsReady at number IsSite IsCovered it
+      → WalksLine at number (state_of c) (point_at points i) (point_at points j) it
+      → IsCountingPath number IsSite IsCovered i 0 it
+  counting_path_begins {number = number} {IsSite = IsSite} {IsCovered = IsCovered} {it = it} kept hi
+      hj apart ready walks =
+      let ends : ArePathEnds = record { kept = kept; from_in = hi; to_in = hj; apart = apart } in
+      record {
+        ends = ends;
+        passed = [];
+        so_far = none_passed at number IsSite IsCovered (state_of c) (point_at points i)
+            (point_at points j) it ready walks;
+        ready = ready;
+        reached = reached_begins points i j (from_index ends);
+        walking = walk_begins points (distinct ends) pairs j (to_index ends) i (from_index ends)
+            (All-map InRange at c.vertices kept.in_range);
+        clear = λ k there. absurd (Contains-none k there);
+      }
 
   -- ---- one item after another
   module _ {P S : Type 0} {number : S → ℤ} {IsSite IsCovered : P → Point → Type 0} {v count : ℕ}

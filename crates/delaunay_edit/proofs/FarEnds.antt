@@ -1,6 +1,6 @@
 -- Where the middle of a straight constraint went, the far ends of its halves can be joined, and no
 -- edge beside it crosses the segment between them.
--- Lemmas: plain_if_triangulated, points_apart, plain_before, one_less, placed, can_join, free_way,
+-- Lemmas: points_apart, joined_in, joined_apart, plain_before, one_less, placed, can_join, free_way,
 -- not_joined, none_crosses.
 use Rattle.std.proofs.Common.{◌≡◌, ◌≢◌, ◌-◌, ◌<◌, ◌∙◌}
 use Rattle.std.proofs.Common.{ℕ, Bool, List, length, map, refl, sym, ap, subst, arith}
@@ -54,7 +54,7 @@ module _ {V D U F : Type 0} (place : V → Point) (marks : U → Bool) (constrai
       kept.fits.undirected_fit kept.valid
 
   -- and so is a pair of two vertices
-  pub plain_if_triangulated : IsPlain place (points_and_constraints_by constraints s)
+  plain_if_triangulated : IsPlain place (points_and_constraints_by constraints s)
   plain_if_triangulated =
       plain_with_edges place s kept (constraints_by constraints s) constraint_edges
 
@@ -66,6 +66,15 @@ module _ {V D U F : Type 0} (place : V → Point) (marks : U → Bool) (constrai
       placed_apart (map place s.vertices) (faces_of s.mesh) (outer_of s.mesh) kept.shape a b
       (in_map place s.vertices a ha) (in_map place s.vertices b hb) n
       (ap whole (sym is_p ∙ e ∙ is_q))
+
+  -- and so are two that a constraint joins, which are vertices
+  pub joined_in : {a b : ℕ} → Joins (constraints_by constraints s) a b
+      → (a < length s.vertices) × (b < length s.vertices) × (a ≢ b)
+  joined_in {a = a} {b = b} joined = plain_if_triangulated.pairs a b joined
+
+  pub joined_apart : {a b : ℕ} → Joins (constraints_by constraints s) a b → {p q : Point}
+      → p ≡ point_at (map place s.vertices) a → q ≡ point_at (map place s.vertices) b → p ≢ q
+  joined_apart joined is_p is_q = points_apart (joined_in joined) is_p is_q
 
 module _ {V D U F : Type 0} (place : V → Point) (marks : U → Bool) (constraints : List U → List ℕ)
     (marked : (ds : List U) → constraints ds ≡ marked_edges marks ds) (old : State V D U F)

@@ -12,13 +12,13 @@ use Rattle.delaunay_paths.specs.Adding.{AddsPath}
 use Rattle.delaunay_paths.specs.Leaving.{LeavesToTest}
 
 -- with more constraints no more edges are to be tested
-pub path_leaves : {V D U F : Type 0} (place : V → Point) (marks : U → Bool) (mark : U → U)
-    (constraints : List U → List ℕ) (old new : Contents V D U F) (i j : ℕ) (was left : List ℕ)
+pub path_leaves : {V D U F : Type 0} {place : V → Point} {marks : U → Bool} {mark : U → U}
+    {constraints : List U → List ℕ} {old new : Contents V D U F} {i j : ℕ} {was left : List ℕ}
     → AddsPath place marks mark constraints old new i j
     → LeavesToTest (map place old.vertices) old new was left
     → AreLeftToTest place constraints old was → AreLeftToTest place constraints new left
-path_leaves {V = V} {D = D} {U = U} {F = F} place marks mark constraints old new i j was left path
-    leaves before = record {
+path_leaves {V = V} {D = D} {U = U} {F = F} {place = place} {constraints = constraints} {new = new}
+    {left = left} path leaves before = record {
       edges = leaves.edges;
       passing =
           subst (λ (vs : List V). AllPassBut (map place vs) (faces_of new.mesh)
@@ -30,9 +30,10 @@ path_leaves {V = V} {D = D} {U = U} {F = F} place marks mark constraints old new
     }
 
 -- the path between two vertices, by other names of them
-pub path_renamed : {V D U F : Type 0} (place : V → Point) (marks : U → Bool) (mark : U → U)
-    (constraints : List U → List ℕ) (old new : Contents V D U F) (i j k l : ℕ) → i ≡ k → j ≡ l
+pub path_renamed : {V D U F : Type 0} {place : V → Point} {marks : U → Bool} {mark : U → U}
+    {constraints : List U → List ℕ} {old new : Contents V D U F} {i j k l : ℕ} → i ≡ k → j ≡ l
     → AddsPath place marks mark constraints old new i j
     → AddsPath place marks mark constraints old new k l
-path_renamed place marks mark constraints old new i j k l e f path =
+path_renamed {place = place} {marks = marks} {mark = mark} {constraints = constraints} {old = old}
+    {new = new} e f path =
     subst₂ (AddsPath place marks mark constraints old new) e f path

@@ -1,6 +1,6 @@
 -- The halves of a straight constraint, whose middle is a vertex, and what becomes of their far ends
 -- where the vertex goes.
-use Rattle.std.specs.Prelude.{◌≡◌, ◌≢◌, ◌⊎◌, ◌/◌}
+use Rattle.std.specs.Prelude.{◌≡◌, ◌≢◌, ◌⊎◌, ◌*◌, ◌/◌, ◌≤◌}
 use Rattle.std.specs.Prelude.{ℕ, Bool, true, List, length, map, Option, MatchOption, IfSome}
 use Rattle.std.specs.Prelude.{Contains}
 use Rattle.delaunay_paths.specs.half_edge_mesh.Contents.{Contents}
@@ -16,6 +16,8 @@ use Rattle.delaunay_paths.specs.delaunay_legalization.Legalized.{Legalizes}
 use Rattle.delaunay_paths.specs.delaunay_legalization.Shape.{IsTriangulated}
 use Rattle.delaunay_paths.specs.delaunay_legalization.State.{state_of}
 use Rattle.delaunay_paths.specs.Adding.{AddsPath, HasFreeWay}
+use Rattle.delaunay_paths.specs.Lists.{HaveRoom}
+use Rattle.delaunay_paths.specs.declared.crossing.CrossingLists.{CrossingLists}
 use Rattle.delaunay_removal.specs.Pairs.{pairs_left}
 use Rattle.delaunay_edit.specs.Counting.{EndsAt, HasPairs}
 
@@ -65,6 +67,14 @@ pub record CanSettle {V D U F : Type 0} (place : V → Point) (can_mark : Bool)
       (constraints_by constraints (state_of c)) (pairs_left (length c.vertices) v pairs)
   pub way : IfSome ends (λ p. (can_mark ≡ true) × HasFreeWay place constraints c
       (moved (length c.vertices) v p.0) (moved (length c.vertices) v p.1))
+
+-- there is room to test the edges of so many vertices, in two sets, and for those that cross the
+-- segment between the far ends, if there are such
+pub record HasRoomToSettle (vertices room room_among : ℕ) (crossing : CrossingLists)
+    (ends : Option (ℕ × ℕ)) : Type 0 where
+  pub edges : 3 * vertices ≤ room
+  pub among : 3 * vertices ≤ room_among
+  pub crossing_edges : IfSome ends (λ _. HaveRoom (3 * vertices) crossing)
 
 -- the path between the far ends, if there are such, became constraints, and then edges were flipped
 -- until each passes

@@ -5,7 +5,7 @@ ghost use Rattle.std.specs.Prelude.{length, map, All, IfSome, IsTrue, OnOk, Some
 ghost use Rattle.delaunay_paths.specs.delaunay_legalization.Flips.{FlipsFit};
 ghost use Rattle.delaunay_paths.specs.Lists.{HaveRoom};
 ghost use Rattle.delaunay_removal.specs.Pairs.{FailOnlyAt, pairs_left};
-ghost use Rattle.delaunay_edit.specs.Halves.{CanSettle, Settles};
+ghost use Rattle.delaunay_edit.specs.Halves.{CanSettle, HasRoomToSettle, Settles};
 
 use delaunay_paths::delaunay_core::math::PlaneTests;
 use delaunay_paths::delaunay_core::point::HasPosition;
@@ -81,10 +81,8 @@ pub(crate) fn settle<M: ConstraintMarker<UE>, V: HasPosition, DE, UE, F, P: Plan
     requires only { IsTrue is_free → FailOnlyAt (map V.place dcel.old.vertices) dcel.old.mesh
         (pairs_left (length dcel.old.vertices) vertex (border.now ++ lists.old.turned.items)) }
     requires sites { All (P.sites tests.now) (map V.place dcel.old.vertices) }
-    requires room { 3 * length dcel.old.vertices ≤ work.old.room }
-    requires room_among { 3 * length dcel.old.vertices ≤ lists.old.tested.room }
-    requires room_crossing { IfSome halves
-        (λ _. HaveRoom (3 * length dcel.old.vertices) crossing.old) }
+    requires room { HasRoomToSettle (length dcel.old.vertices) work.old.room lists.old.tested.room
+        crossing.old halves }
     requires fits { FlipsFit (length dcel.old.vertices) flips.old }
 
     ensures { Settles V.place M.marks M.marked M.constraints dcel.old dcel.new vertex halves

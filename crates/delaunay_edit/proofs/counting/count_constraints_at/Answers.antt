@@ -16,25 +16,20 @@ loop-edge-init g c =
 
 pub is_constraint_edge-requires : goal.is_constraint_edge-requires
 is_constraint_edge-requires g c =
-    next_within _ _ _ g.met.M.ConstraintMarker.constraints_are_marked _ c.requires.kept _ _ _
-    c.loop-edge.invariant _ _ c.in-Some.ensures.steps _ _ c.fix.ensures.value
+    next_within c.loop-edge.invariant c.in-Some.ensures.steps c.fix.ensures.value
     c.as_undirected.ensures
 
 pub loop-edge-preserved-then-is_constraint_edge : goal.loop-edge-preserved-then-is_constraint_edge
 loop-edge-preserved-then-is_constraint_edge g c =
-    counting_goes_on _ _ _ g.met.M.ConstraintMarker.constraints_are_marked _ c.requires.kept _ _ _
-    c.loop-edge.invariant _ _ c.in-Some.ensures.steps
+    counting_goes_on c.loop-edge.invariant c.in-Some.ensures.steps
     (half_listed _ _ _ _ c.fix.ensures.value c.as_undirected.ensures
     (c.is_constraint_edge.ensures.0 c.if-is_constraint_edge.true))
 
 pub loop-edge-preserved : goal.loop-edge-preserved
 loop-edge-preserved g c =
-    counting_goes_past _ _ _ g.met.M.ConstraintMarker.constraints_are_marked _ c.requires.kept _ _ _
-    c.loop-edge.invariant _ _ c.in-Some.ensures.steps
+    counting_goes_past c.loop-edge.invariant c.in-Some.ensures.steps
     (λ there. both_ways _ (c.is_constraint_edge.ensures.1 (half_unlisted _ _ _ _
     c.fix.ensures.value c.as_undirected.ensures there)) c.if-is_constraint_edge.false)
 
 pub returns : goal.returns
-returns g c =
-    counting_ends _ _ _ g.met.M.ConstraintMarker.constraints_are_marked _ c.requires.kept _ _ _
-    c.loop-edge.invariant c.in-None.ensures.steps.0
+returns g c = counting_ends c.loop-edge.invariant c.in-None.ensures.steps.0

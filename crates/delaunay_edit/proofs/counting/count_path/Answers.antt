@@ -10,13 +10,8 @@ use Rattle.delaunay_edit.proofs.counting.count_path.Goals as goal
 
 pub loop-item-init : goal.loop-item-init
 loop-item-init g c =
-    let asked = c.requires in
-    counting_path_begins _ _ _ _ _ _ _ (record {
-      kept = asked.kept;
-      from_in = asked.ends.0;
-      to_in = asked.ends.1;
-      apart = asked.apart;
-    }) c.line_between_vertices-line.ensures.ready
+    counting_path_begins _ _ _ _ _ _ _ c.requires.kept c.requires.ends.0 c.requires.ends.1
+    c.requires.apart c.line_between_vertices-line.ensures.ready
     c.line_between_vertices-line.ensures.line
 
 pub returns-then-is_constraint_edge-clause-barred :

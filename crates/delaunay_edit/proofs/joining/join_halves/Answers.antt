@@ -14,13 +14,11 @@ add_path-requires-clause-room g c =
 
 pub legalize-requires-clause-left : goal.legalize-requires-clause-left
 legalize-requires-clause-left g c =
-    path_leaves _ _ _ _ _ _ _ _ _ _ c.add_path.ensures.adds c.add_path.ensures.leaves
-    c.list_pairs.ensures.left
+    path_leaves c.add_path.ensures.adds c.add_path.ensures.leaves c.list_pairs.ensures.left
 
 pub returns : goal.returns
 returns g c = record {
   middle = c.add_path.new.dcel;
-  path = path_renamed _ _ _ _ _ _ _ _ _ _ c.index_left-from.ensures c.index_left-to.ensures
-      c.add_path.ensures.adds;
+  path = path_renamed c.index_left-from.ensures c.index_left-to.ensures c.add_path.ensures.adds;
   legalizes = c.legalize.ensures.legalizes;
 }

@@ -1,5 +1,4 @@
 use Rattle.std.proofs.Common.{ap}
-use Rattle.delaunay_paths.specs.delaunay_legalization.State.{state_of}
 use Rattle.delaunay_edit.proofs.Delaunay.{counted_empty}
 use Rattle.delaunay_edit.proofs.WellFormed.{is_delaunay}
 use Rattle.delaunay_edit.proofs.edited_mesh.EditedMesh.clear.Goals as goal
@@ -10,9 +9,6 @@ invariant_of-self g c =
     counted_empty _ _ _ g.met.M.ConstraintMarker.constraints_are_marked c.clear.new.self
     (ap (λ d. d.mesh) now) (ap (λ d. d.vertices) now) (ap (λ d. d.directed) now)
     (ap (λ d. d.undirected) now) (ap (λ d. d.faces) now)
-
-pub returns-clause-new : goal.returns-clause-new
-returns-clause-new g c = rw (← c.self.view_is) (ap state_of c.clear.ensures.contents)
 
 pub returns-clause-headline : goal.returns-clause-headline
 returns-clause-headline g c =
