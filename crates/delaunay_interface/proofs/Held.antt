@@ -1,13 +1,12 @@
 -- The positions that a hint generator holds stay positions of vertices.
 -- Lemmas: held_are_sites, was_listed, stay_listed, new_is_listed, others_are_listed,
--- held_overwritten, held_after_insertion, held_then, removed_is_site, swapped_is_site,
--- held_after_removal.
+-- held_overwritten, held_after_insertion, removed_is_site, swapped_is_site, held_after_removal.
 use Rattle.std.proofs.Common.{◌≡◌, ◌∙◌, ◌⊎◌, ◌+◌, ◌-◌, ◌<◌, [], ◌∷◌}
 use Rattle.std.proofs.Common.{ℕ, List, length, map, get_or, Some, sym, ap, subst, inl, inr, arith}
 use mathlib.Core.Logic.{⊎_elim}
 use Rattle.std.proofs.lemmas.Bool.{cases_eq}
 use Rattle.std.specs.Prelude.{◌≢◌}
-use Rattle.std.specs.Prelude.{All, Contains, Option, Result, Ok, Err, IfOk, OnErr, OnOk, slice_get}
+use Rattle.std.specs.Prelude.{All, Contains, Option, Ok, slice_get}
 use Rattle.std.specs.Prelude.{slice_set, swap_remove}
 use Rattle.std.proofs.lemmas.List.{length-map, map-append, get_or-map, get_or_default}
 use Rattle.std.proofs.lemmas.List.Elements.{All-contains, Contains-append_left, Contains-push}
@@ -134,55 +133,32 @@ held_after_insertion place constraints old new value i done held held' before to
     (new_is_listed place old_plain new_plain value i done.ok))
     (told p h)
 
--- of a removal as its step says
-module _ {V D U F : Type 0} (place : V → Point) (constraints : List U → List ℕ) (old new : State V D
-    U F) (v : ℕ) (value : V) (had : slice_get old.vertices v ≡ Some value) (removes : Removes place
-    (points_and_constraints_by constraints old) (points_and_constraints_by constraints new) v) where
-  -- what is held without the position of the vertex that went
-  pub held_then : (held held' : Point → Type 0) (swapped : Option Point)
+-- where all positions were sites, so is that of a vertex that went
+pub removed_is_site : {V : Type 0} (place : V → Point) (vs : List V) (v : ℕ) (value : V)
+    (sites : Point → Type 0) → slice_get vs v ≡ Some value → All sites (map place vs)
+    → sites (place value)
+removed_is_site place vs v value sites had all =
+    All-contains sites (map place vs) (place value) all (was_listed place vs v value had)
+
+-- of a removal: whose position took the handle is one of a vertex
+module _ {V D U F : Type 0} (place : V → Point) (constraints : List U → List ℕ)
+    (old new : State V D U F) (v : ℕ) (value : V) (removes : Removes place
+    (points_and_constraints_by constraints old) (points_and_constraints_by constraints new) v)
+    (swapped : Option Point)
+    (there : (p : Point) → swapped ≡ Some p → Contains (map place new.vertices) p) where
+  -- so it is a site where all positions were sites
+  pub swapped_is_site : (sites : Point → Type 0) → All sites (map place old.vertices)
+      → (p : Point) → swapped ≡ Some p → sites p
+  swapped_is_site sites all = λ p is. All-contains sites (map place new.vertices) p
+      (sites_left place constraints old new v value removes sites all) (there p is)
+
+  -- and what a generator holds that is told of the removal stays positions of vertices
+  pub held_after_removal : slice_get old.vertices v ≡ Some value → (held held' : Point → Type 0)
       → IsAtMostOf held (map place old.vertices)
-      → ((p : Point) → swapped ≡ Some p → Contains (map place new.vertices) p)
       → IsAtMostWithout held held' (place value) swapped
       → IsAtMostOf held' (map place new.vertices)
-  held_then held held' swapped before there told = λ p h.
+  held_after_removal had held held' before told = λ p h.
       ⊎_elim (λ old_one. others_are_listed place (points_and_constraints_by constraints old)
       (points_and_constraints_by constraints new) v value had removes p (told p h).1
       (before p old_one))
       (λ e. there p e) (told p h).0
-
--- where all positions were sites, so is that of a vertex that was removed
-pub removed_is_site : {V E : Type 0} (place : V → Point) (vs : List V) (v : ℕ)
-    (sites : Point → Type 0) (r : Result V E) → IfOk r (λ value. slice_get vs v ≡ Some value)
-    → All sites (map place vs) → IfOk r (λ value. sites (place value))
-removed_is_site place vs v sites (Ok value) had all =
-    All-contains sites (map place vs) (place value) all (was_listed place vs v value had)
-removed_is_site place vs v sites (Err e) had all = tt
-
-module _ {V D U F E : Type 0} (place : V → Point) (constraints : List U → List ℕ)
-    (old new : State V D U F) (v : ℕ) (swapped : Option Point)
-    (there : (p : Point) → swapped ≡ Some p → Contains (map place new.vertices) p) where
-  -- and that of the vertex that took its handle
-  pub swapped_is_site : (sites : Point → Type 0) (r : Result V E)
-      → OnOk r (Removes place (points_and_constraints_by constraints old)
-      (points_and_constraints_by constraints new) v)
-      → All sites (map place old.vertices)
-      → OnOk r ((p : Point) → swapped ≡ Some p → sites p)
-  swapped_is_site sites (Ok value) removes all = λ p is.
-      All-contains sites (map place new.vertices) p
-      (sites_left place constraints old new v value removes sites all) (there p is)
-  swapped_is_site sites (Err e) removes all = tt
-
-  -- what a generator holds that is told of a removal, and left where that was refused
-  pub held_after_removal : {G : Type 0} (holds : G → Point → Type 0) (before after : G)
-      (r : Result V E) → IfOk r (λ value. slice_get old.vertices v ≡ Some value)
-      → OnOk r (Removes place (points_and_constraints_by constraints old)
-      (points_and_constraints_by constraints new) v)
-      → OnErr r (new ≡ old) → IsAtMostOf (holds before) (map place old.vertices)
-      → IfOk r (λ value. IsAtMostWithout (holds before) (holds after) (place value) swapped)
-      → OnErr r (after ≡ before) → IsAtMostOf (holds after) (map place new.vertices)
-  held_after_removal holds before after (Ok value) had removes err held told stays =
-      held_then place constraints old new v value had removes (holds before)
-      (holds after) swapped held there told
-  held_after_removal holds before after (Err e) had removes err held told stays = λ p h.
-      subst (λ (s : State V D U F). Contains (map place s.vertices) p) (sym err)
-      (held p (subst (λ (x : _). holds x p) stays h))

@@ -1,14 +1,14 @@
 -- Steps of edits that insert vertices and join them.
--- Notions: IsSoFar; inserted_grows, inserted_here, inserted_sites, lacks_memory, joined_now,
--- crossed_now, one_taken, may_come, may_come_later, comes_now, taken_with, all_taken,
--- taken_anyhow, begins, ends, stops_at_vertex, stops_at_join, one_more, closes, cannot_close,
--- all_joined, some_joined, none_inserted, stops_at_from, stops_at_to, both_inserted.
+-- Notions: IsOnPath; inserted_grows, inserted_here, inserted_sites, lacks_memory, joined_now,
+-- crossed_now, may_come, taken_so_far, comes_now, taken_with, all_taken, begins, one_more,
+-- stops_at_vertex, stops_at_join, stays_open, closes, cannot_close, stops_at_from, stops_at_to,
+-- both_inserted.
 use Rattle.std.proofs.Common.{◌≡◌, ◌≢◌, ◌∙◌, ◌<◌, ◌≤◌, [], ◌∷◌, ◌++◌}
 use Rattle.std.proofs.Common.{ℕ, Bool, List, length, map, Result, Ok, Err, Option, None, Some, refl}
 use Rattle.std.proofs.Common.{sym, ap, subst, inl, inr, append_assoc, append-nil, arith}
-use Rattle.std.specs.Prelude.{All, IsTrue}
+use Rattle.std.specs.Prelude.{All, IsTrue, MatchResult}
 use Rattle.std.specs.Iterator.{Drains, Yields}
-use Rattle.std.proofs.lemmas.List.{length-set, length_push, map-append}
+use Rattle.std.proofs.lemmas.List.{get_or_default, length-set, length_push, map-append}
 use Rattle.std.proofs.lemmas.List.Elements.{All-contains, All-push}
 use Rattle.std.proofs.Math.Seq.{map-set_same}
 use Rattle.delaunay_edit.specs.plane.Fraction.{Point}
@@ -21,7 +21,7 @@ use Rattle.delaunay_edit.specs.delaunay_legalization.State.{State}
 use Rattle.delaunay_edit.specs.Constrained.{constrained, constraint_edges}
 use Rattle.delaunay_edit.specs.ConstraintEdits.{AddsConstraint}
 use Rattle.delaunay_edit.specs.Edits.{InsertsVertex}
-use Rattle.delaunay_edit.specs.Headline.{AreSites}
+use Rattle.delaunay_edit.specs.Headline.{AreSites, IsDelaunay}
 use Rattle.delaunay_interface.specs.declared.constraint_error.ConstraintError.{ConstraintError}
 use Rattle.delaunay_interface.specs.declared.constraint_error.ConstraintError.TheVariants.{
   Insertion,
@@ -29,8 +29,9 @@ use Rattle.delaunay_interface.specs.declared.constraint_error.ConstraintError.Th
 }
 use Rattle.delaunay_interface.specs.ConstraintEdges.{AddsConstraintEdge, AddsConstraintEdges}
 use Rattle.delaunay_interface.specs.ConstraintEdges.{ClosesPath, ExtendsPath}
-use Rattle.delaunay_interface.specs.ConstraintEdges.{JoinsVertices, MayGive, RefusesEnd, Takes}
-use Rattle.delaunay_interface.proofs.Held.{new_is_listed}
+use Rattle.delaunay_interface.specs.ConstraintEdges.{JoinsVertices, MayGive, RefusesEnd}
+use Rattle.delaunay_interface.specs.ConstraintEdges.{StaysReady}
+use Rattle.delaunay_interface.proofs.Held.{new_is_listed, stay_listed}
 
 -- ---- after an insertion
 module _ {V : Type 0} (place : V → Point) (old new : Plain V) (v : V) (i : ℕ) where
@@ -74,15 +75,17 @@ module _ {V D U F : Type 0} (place : V → Point) (constraints : List U → List
       (points_and_constraints_by constraints new) v i done.ok
 
   -- where all were sites, and the new one is if it is in range, all are
-  pub inserted_sites : (sites : Point → Type 0) → All sites (map place old.vertices) →
+  pub inserted_sites : (sites : Point → Type 0) → AreSites place sites old.vertices →
       (InRange (place v) → sites (place v)) → AreSites place sites new.vertices
   inserted_sites sites all site =
-      λ in_range. sites_then place (points_and_constraints_by constraints old)
-      (points_and_constraints_by constraints new) v i sites done.ok all
+      let was = points_and_constraints_by constraints old in
+      let is = points_and_constraints_by constraints new in
+      λ in_range. sites_then place was is v i sites done.ok
+      (all (λ k d lt. All-contains InRange (map place new.vertices) _ in_range
+      (stay_listed place was is v i done.ok _
+      (k, lt, get_or_default (map place old.vertices) k _ d lt))))
       (site (All-contains InRange (map place new.vertices) (place v) in_range
-      (new_is_listed place (points_and_constraints_by constraints old)
-      (points_and_constraints_by constraints new) v
-      i done.ok)))
+      (new_is_listed place was is v i done.ok)))
 
 -- ---- joining
 module _ {V D U F : Type 0} (place : V → Point) (from to : ℕ) where
@@ -132,8 +135,7 @@ module _ {V D U F : Type 0} (place : V → Point) (from to : ℕ) where
 
 -- ---- what calls of an iterator gave
 module _ {I V : Type 0} (steps : I → Option V → I → Type 0) where
-  -- an item that the next call gives is taken after the others
-  pub one_taken : (s : I) (xs : List V) (t : I) (x : V) (u : I) → Yields steps s xs t
+  one_taken : (s : I) (xs : List V) (t : I) (x : V) (u : I) → Yields steps s xs t
       → steps t (Some x) u → Yields steps s (xs ++ x ∷ []) u
   one_taken s [] t x u same step = (u, subst (λ (a : I). steps a (Some x) u) (sym same) step, refl)
   one_taken s (y ∷ ys) t x u (j, first, rest) step = (j, first, one_taken j ys t x u rest step)
@@ -142,142 +144,158 @@ module _ {I V : Type 0} (steps : I → Option V → I → Type 0) where
   pub may_come : (s : I) (x : V) (u : I) → steps s (Some x) u → MayGive steps s x
   may_come s x u step = ([], u, (s, refl, step))
 
-  -- and so may one that later calls may give
-  pub may_come_later : (s : I) (x : V) (t : I) (v : V) → steps s (Some x) t → MayGive steps t v
-      → MayGive steps s v
-  may_come_later s x t v step (xs, u, (j, ys, last)) = (x ∷ xs, u, (j, (t, step, ys), last))
+  -- a first item came, and then a loop over the iterator as it was left took these
+  module _ (s : I) (x : V) (rest begun : I) (came : steps s (Some x) rest) (same : begun ≡ rest)
+      (xs : List V) (t : I) (taken : Yields steps begun xs t) where
+    all_so_far : Yields steps s (x ∷ xs) t
+    all_so_far = (rest, came, subst (λ (a : I). Yields steps a xs t) same taken)
 
-  -- an item that comes now, where calls from the start gave the others
-  module _ (s0 s : I) (same : s0 ≡ s) (xs : List V) (t : I) (taken : Yields steps s0 xs t) where
+    -- they have come before a refusal
+    pub taken_so_far : (u : I) × Yields steps s (x ∷ xs) u
+    taken_so_far = (t, all_so_far)
+
     -- an item that the next call gives may come
-    pub comes_now : (x : V) (u : I) → steps t (Some x) u → MayGive steps s x
-    comes_now x u step = subst (λ (a : I). MayGive steps a x) same (xs, u, (t, taken, step))
+    pub comes_now : (y : V) (u : I) → steps t (Some y) u → MayGive steps s y
+    comes_now y u step = (x ∷ xs, u, (t, all_so_far, step))
 
     -- and it is taken after the others
-    pub taken_with : (x : V) (u : I) → steps t (Some x) u → Yields steps s (xs ++ x ∷ []) u
-    taken_with x u step =
-        subst (λ (a : I). Yields steps a (xs ++ x ∷ []) u) same (one_taken s0 xs t x u taken step)
+    pub taken_with : (y : V) (u : I) → steps t (Some y) u
+        → (v : I) × Yields steps s (x ∷ (xs ++ y ∷ [])) v
+    taken_with y u step = (u, one_taken s (x ∷ xs) t y u all_so_far step)
 
     -- where the next call gives none, the items that were taken are all
-    pub all_taken : (u : I) → steps t None u → Drains steps s xs
-    all_taken u step = subst (λ (a : I). Drains steps a xs) same (u, (t, taken, step))
+    pub all_taken : (u : I) → steps t None u → Drains steps s (x ∷ xs)
+    all_taken u step = (u, (t, all_so_far, step))
 
-  -- where all have come, they have come before a refusal too
-  pub taken_anyhow : {T E : Type 0} (s : I) (xs : List V) (result : Result T E) → Drains steps s xs
-      → Takes steps s xs result
-  taken_anyhow s xs (Ok t) all = all
-  taken_anyhow s xs (Err e) (u, (j, ys, last)) = (j, ys)
+-- ---- a path of vertices
+-- a path from the vertex at first to that at last, by these further vertices: it goes on from
+-- there, handles stay handles, and all is ready for more
+pub record IsOnPath {V D U F : Type 0} (place : V → Point) (IsSite : Point → Type 0) (done : List V)
+    (first : ℕ) (old : State V D (CdtEdge U) F) (last : ℕ) (now : State V D (CdtEdge U) F) :
+    Type 0 where
+  pub goes_on : (vs : List V) (result : Result ℕ ConstraintError) (new : State V D (CdtEdge U) F)
+      → ExtendsPath place vs last result now new
+      → ExtendsPath place (done ++ vs) first result old new
+  pub last_in : last < length now.vertices
+  pub ready : StaysReady place IsSite old now
 
-module _ {V D U F : Type 0} (place : V → Point) where
-  -- what is left of a path, from what is there so far
-  pub record IsSoFar (done : List V) (first : ℕ) (old : State V D (CdtEdge U) F) (last : ℕ)
-      (now : State V D (CdtEdge U) F) : Type 0 where
-    pub goes_on : (vs : List V) (result : Result ℕ ConstraintError) (new : State V D (CdtEdge U) F)
-        → ExtendsPath place vs last result now new
-        → ExtendsPath place (done ++ vs) first result old new
+-- before a further vertex the path is at its start
+pub begins : {V D U F : Type 0} {place : V → Point} {IsSite : Point → Type 0} {first : ℕ}
+    {before old : State V D (CdtEdge U) F} → first < length old.vertices
+    → StaysReady place IsSite before old → IsOnPath place IsSite [] first old first old
+begins first_in ready = record {
+  goes_on = λ vs result new e. e;
+  last_in = first_in;
+  ready = record { grows = omega arith; sites = ready.sites; headline = ready.headline };
+}
 
-  -- before the first vertex the path is at its start
-  pub begins : (first : ℕ) (old : State V D (CdtEdge U) F) → IsSoFar [] first old first old
-  begins first old = record { goes_on = λ vs result new e. e }
+module _ {V D U F : Type 0} {place : V → Point} {IsSite : Point → Type 0} {done : List V}
+    {first last : ℕ} {old now : State V D (CdtEdge U) F}
+    (path : IsOnPath place IsSite done first old last now) where
+  -- a vertex that is inserted and joined to the one before it is where the path is then
+  pub one_more : {v : V} {next : ℕ} {made : Bool} {inserted joined : State V D (CdtEdge U) F}
+      → InsertsVertex place constraint_edges v (Ok next) now inserted
+      → next < length inserted.vertices → StaysReady place IsSite now inserted
+      → JoinsVertices place last next (Ok made) inserted joined
+      → joined.vertices ≡ inserted.vertices → IsDelaunay place constraint_edges joined
+      → IsOnPath place IsSite (done ++ v ∷ []) first old next joined
+  one_more {v = v} i within ready j same headline = record {
+    goes_on =
+        λ vs result new e. subst (λ (xs : List V). ExtendsPath place xs first result old new)
+        (sym (append_assoc done (v ∷ []) vs))
+        (path.goes_on (v ∷ vs) result new (inr (record {
+          index = _;
+          middle = _;
+          inserts = i;
+          then = inr (record { made = _; middle = _; joins = j; then = e });
+        })));
+    last_in = rw same within;
+    ready = record {
+      grows = let so_far = path.ready.grows in let more = ready.grows in
+          rw same (omega (arith, so_far, more));
+      sites = rw same ready.sites;
+      headline = headline;
+    };
+  }
 
-  module _ (done : List V) (first : ℕ) (old : State V D (CdtEdge U) F) (last : ℕ)
-      (now : State V D (CdtEdge U) F) (so : IsSoFar done first old last now) where
-    -- without a further vertex the path ends where it is
-    pub ends : ExtendsPath place done first (Ok last) old now
-    ends = subst (λ (xs : List V). ExtendsPath place xs first (Ok last) old now) (append-nil done)
-        (so.goes_on [] (Ok last) now (refl, refl))
+  -- where the vertex at first was inserted for the path
+  module _ {v : V} {before : State V D (CdtEdge U) F}
+      (begun : InsertsVertex place constraint_edges v (Ok first) before old) {closed : Bool} where
+    made_up_to : (vs : List V) (ends : Result ℕ ConstraintError) (result :
+        Result (Unit {0}) ConstraintError) (middle new : State V D (CdtEdge U) F)
+        → ExtendsPath place vs last ends now middle
+        → MatchResult ends (λ at. ClosesPath place closed first at result middle new)
+        (λ e. (result ≡ Err e) × (new ≡ middle))
+        → AddsConstraintEdges place (v ∷ (done ++ vs)) closed result before new
+    made_up_to vs ends result middle new e c = inr (record {
+      index = first;
+      middle = old;
+      inserts = begun;
+      then = record {
+        path = ends;
+        middle = middle;
+        extends = path.goes_on vs ends middle e;
+        closes = c;
+      };
+    })
 
-    module _ (v : V) where
-      -- a vertex that is refused ends it, with this error
-      pub stops_at_vertex : (error : ConstraintError) (new : State V D (CdtEdge U) F)
-          → RefusesEnd place v error now new
-          → ExtendsPath place (done ++ v ∷ []) first (Err error) old new
-      stops_at_vertex error new i =
-          so.goes_on (v ∷ []) (Err error) new
-          (inl (record { error = error; refused = i; told = refl }))
+    -- a further vertex that is refused ends it, with this error
+    pub stops_at_vertex : {w : V} {error : ConstraintError} {new : State V D (CdtEdge U) F}
+        → RefusesEnd place w error now new
+        → AddsConstraintEdges place (v ∷ (done ++ w ∷ [])) closed (Err error) before new
+    stops_at_vertex {w = w} {error = error} {new = new} refused =
+        made_up_to (w ∷ []) (Err error) (Err error) new new
+        (inl (record { error = error; refused = refused; told = refl })) (refl, refl)
 
-      module _ (next : ℕ) (inserted : State V D (CdtEdge U) F)
-          (i : InsertsVertex place constraint_edges v (Ok next) now inserted) where
-        -- so does a vertex that is inserted, but not joined to the one before it
-        pub stops_at_join : (error : ConstraintError) (new : State V D (CdtEdge U) F) →
-            JoinsVertices place last next (Err error) inserted new →
-            ExtendsPath place (done ++ v ∷ []) first (Err error) old new
-        stops_at_join error new j = so.goes_on (v ∷ []) (Err error) new
-            (inr (record {
-              index = next;
-              middle = inserted;
-              inserts = i;
-              then = inl (record { error = error; refused = j; told = refl });
-            }))
+    -- so does one that is inserted, but not joined to the one before it
+    pub stops_at_join : {w : V} {next : ℕ} {error : ConstraintError}
+        {inserted new : State V D (CdtEdge U) F}
+        → InsertsVertex place constraint_edges w (Ok next) now inserted
+        → JoinsVertices place last next (Err error) inserted new
+        → AddsConstraintEdges place (v ∷ (done ++ w ∷ [])) closed (Err error) before new
+    stops_at_join {w = w} {error = error} {new = new} i j =
+        made_up_to (w ∷ []) (Err error) (Err error) new new
+        (inr (record {
+          index = _;
+          middle = _;
+          inserts = i;
+          then = inl (record { error = error; refused = j; told = refl });
+        })) (refl, refl)
 
-        -- a vertex that is inserted and joined to the one before it is where the path is then
-        pub one_more : (made : Bool) (joined : State V D (CdtEdge U) F)
-            → JoinsVertices place last next (Ok made) inserted joined
-            → IsSoFar (done ++ v ∷ []) first old next joined
-        one_more made joined j = record {
-          goes_on =
-              λ vs result new e. subst (λ (xs : List V). ExtendsPath place xs first result old new)
-              (sym (append_assoc done (v ∷ []) vs))
-              (so.goes_on (v ∷ vs) result new (inr (record {
-                index = next;
-                middle = inserted;
-                inserts = i;
-                then = inr (record { made = made; middle = joined; joins = j; then = e });
-              })));
-        }
+    ended : (result : Result (Unit {0}) ConstraintError) (new : State V D (CdtEdge U) F)
+        → ClosesPath place closed first last result now new
+        → AddsConstraintEdges place (v ∷ done) closed result before new
+    ended result new c =
+        subst (λ (xs : List V). AddsConstraintEdges place (v ∷ xs) closed result before new)
+        (append-nil done) (made_up_to [] (Ok last) result now new (refl, refl) c)
 
-  -- ---- the end of a path
-  module _ (closed : Bool) (first last : ℕ) (s : State V D (CdtEdge U) F) where
-    -- a path to be closed is so where its ends are joined
-    pub closes : (made : Bool) (new : State V D (CdtEdge U) F) → IsTrue closed → last ≢ first
-        → JoinsVertices place last first (Ok made) s new
-        → ClosesPath place closed first last (Ok tt) s new
-    closes made new c apart j = record {
-      joins = λ _ _.
-          inr (record { made = made; middle = new; joins = j; then = (refl, refl) });
+    -- a path that is not to be closed, or is one vertex, ends where it is
+    pub stays_open : ¬ (IsTrue closed × (last ≢ first))
+        → AddsConstraintEdges place (v ∷ done) closed (Ok tt) before now
+    stays_open not = ended (Ok tt) now (record {
+      joins = λ c apart. absurd (not (c, apart));
+      stays = λ _. (refl, refl);
+    })
+
+    -- one that is to be closed is so where its ends are joined
+    pub closes : IsTrue closed → last ≢ first → {made : Bool} {new : State V D (CdtEdge U) F}
+        → JoinsVertices place last first (Ok made) now new
+        → AddsConstraintEdges place (v ∷ done) closed (Ok tt) before new
+    closes c apart {new = new} j = ended (Ok tt) new (record {
+      joins = λ _ _. inr (record { made = _; middle = new; joins = j; then = (refl, refl) });
       stays = λ none. absurd (none (c, apart));
-    }
+    })
 
     -- where they are not joined, that is the result
-    pub cannot_close : (error : ConstraintError) (new : State V D (CdtEdge U) F) → IsTrue closed
-        → last ≢ first → JoinsVertices place last first (Err error) s new
-        → ClosesPath place closed first last (Err error) s new
-    cannot_close error new c apart j = record {
+    pub cannot_close : IsTrue closed → last ≢ first → {error : ConstraintError}
+        {new : State V D (CdtEdge U) F} → JoinsVertices place last first (Err error) now new
+        → AddsConstraintEdges place (v ∷ done) closed (Err error) before new
+    cannot_close c apart {error = error} {new = new} j = ended (Err error) new (record {
       joins = λ _ _. inl (record { error = error; refused = j; told = refl });
       stays = λ none. absurd (none (c, apart));
-    }
-
-  module _ (v : V) (vs : List V) (closed : Bool) (index : ℕ) (old inserted joined new : State V D
-      (CdtEdge U) F) (i : InsertsVertex place constraint_edges v (Ok index) old inserted) where
-    -- the path was made, and its end too
-    pub all_joined : (last : ℕ) (result : Result (Unit {0}) ConstraintError)
-        → ExtendsPath place vs index (Ok last) inserted joined
-        → ClosesPath place closed index last result joined new
-        → AddsConstraintEdges place (v ∷ vs) closed result old new
-    all_joined last result e c = inr (record {
-      index = index;
-      middle = inserted;
-      inserts = i;
-      then = record { path = Ok last; middle = joined; extends = e; closes = c };
     })
 
-    -- the path was not made to its end
-    pub some_joined : (error : ConstraintError)
-        → ExtendsPath place vs index (Err error) inserted joined → new ≡ joined
-        → AddsConstraintEdges place (v ∷ vs) closed (Err error) old new
-    some_joined error e same = inr (record {
-      index = index;
-      middle = inserted;
-      inserts = i;
-      then = record { path = Err error; middle = joined; extends = e; closes = (refl, same) };
-    })
-
-  module _ (v : V) (vs : List V) (closed : Bool) (old new : State V D (CdtEdge U) F) where
-    -- not even the first was inserted
-    pub none_inserted : (error : ConstraintError) → RefusesEnd place v error old new →
-        AddsConstraintEdges place (v ∷ vs) closed (Err error) old new
-    none_inserted error refused = inl (record { error = error; refused = refused; told = refl })
-
+module _ {V D U F : Type 0} (place : V → Point) where
   -- ---- two vertices
   module _ (from to : V) (old new : State V D (CdtEdge U) F) where
     -- the first vertex is refused, and that is the result

@@ -5,9 +5,8 @@ ghost use Rattle.delaunay_edit.specs.plane.Tests.{InRange};
 ghost use Rattle.delaunay_edit.specs.Constrained.{constraint_edges};
 ghost use Rattle.delaunay_edit.specs.Headline.{AreSites, IsDelaunay};
 ghost use Rattle.delaunay_interface.specs.ConstraintEdges.{AddsConstraintEdge, AddsConstraintEdges};
-ghost use Rattle.delaunay_interface.specs.ConstraintEdges.{ClosesPath, ExtendsPath, InsertsEnd};
-ghost use Rattle.delaunay_interface.specs.ConstraintEdges.{JoinsVertices, MayGive, StaysReady};
-ghost use Rattle.delaunay_interface.specs.ConstraintEdges.{Takes};
+ghost use Rattle.delaunay_interface.specs.ConstraintEdges.{InsertsEnd, JoinsVertices, MayGive};
+ghost use Rattle.delaunay_interface.specs.ConstraintEdges.{StaysReady, Takes};
 
 use crate::constraint_error::ConstraintError;
 use crate::triangulation::Triangulation;
@@ -36,7 +35,6 @@ impl<
         ensures within { IfOk result (λ v. v < length self.new.vertices) }
         ensures ready { StaysReady V.place (P.sites tests.now) self.old self.new }
     {
-        self.recall_invariant();
         match self.insert(value, tests) {
             Ok(vertex) => Ok(vertex),
             Err(error) => Err(ConstraintError::Insertion(error)),
@@ -92,59 +90,6 @@ impl<
         self.join_vertices(from, to, tests)
     }
 
-    // Inserts vertices, and joins each to the one before it, the first of them to `last`. It gives
-    // the handle of the last one.
-    fn extend_path<I: Iterator<Item = V>, P: PlaneTests<V::Scalar>>(
-        &mut self,
-        mut last: FixedVertexHandle,
-        vertices: I,
-        tests: &P,
-    ) -> Result<FixedVertexHandle, ConstraintError>
-        requires last_in { last < length self.old.vertices }
-        requires can_next { I.can_next vertices }
-        requires ends { IsFinite (I.remaining vertices) }
-        requires sites { AreSites V.place (P.sites tests.now) self.old.vertices }
-        requires new_sites { (v : V) → MayGive I.next_gives vertices v → InRange (V.place v) →
-            P.sites tests.now (V.place v) }
-        ensures extends { (vs : List V) × Takes I.next_gives vertices vs result ×
-            ExtendsPath V.place vs last result self.old self.new }
-        ensures last_in { IfOk result (λ v. v < length self.new.vertices) }
-        ensures ready { StaysReady V.place (P.sites tests.now) self.old self.new }
-    {
-        for vertex in vertices {
-            let next = self.insert_end(vertex, tests)?;
-            self.join_vertices(last, next, tests)?;
-            last = next;
-        }
-        self.recall_invariant();
-        Ok(last)
-    }
-
-    // Joins the last vertex of a path to the first, where that is asked and they are not one.
-    fn close_path<P: PlaneTests<V::Scalar>>(
-        &mut self,
-        first: FixedVertexHandle,
-        last: FixedVertexHandle,
-        closed: bool,
-        tests: &P,
-    ) -> Result<(), ConstraintError>
-        requires first_in { first < length self.old.vertices }
-        requires last_in { last < length self.old.vertices }
-        requires sites { AreSites V.place (P.sites tests.now) self.old.vertices }
-        ensures closes { ClosesPath V.place closed first last result self.old self.new }
-        ensures headline { IsDelaunay V.place constraint_edges self.new }
-    {
-        self.recall_invariant();
-        if !closed {
-            return Ok(());
-        }
-        if last == first {
-            return Ok(());
-        }
-        self.join_vertices(last, first, tests)?;
-        Ok(())
-    }
-
     /// Inserts vertices as `insert` does, joins each to the one before it by constraints as
     /// `add_constraint` does, and at last, where `closed` says so, the last to the first, unless
     /// they are one. It gives `Insertion` where a vertex was refused, or where memory was refused
@@ -172,11 +117,20 @@ impl<
         ensures headline { IsDelaunay V.place constraint_edges self.new }
     {
         self.recall_invariant();
-        let Some(first) = vertices.next() else {
+        let Some(start) = vertices.next() else {
             return Ok(());
         };
-        let first = self.insert_end(first, tests)?;
-        let last = self.extend_path(first, vertices, tests)?;
-        self.close_path(first, last, closed, tests)
+        let first = self.insert_end(start, tests)?;
+        let mut last = first;
+        for vertex in vertices {
+            let next = self.insert_end(vertex, tests)?;
+            self.join_vertices(last, next, tests)?;
+            last = next;
+        }
+        if !closed || last == first {
+            return Ok(());
+        }
+        self.join_vertices(last, first, tests)?;
+        Ok(())
     }
 }

@@ -1,23 +1,39 @@
-//! Which edges of a triangulation are constraints, and a triangulation that takes on constraints.
-ghost use Rattle.std.specs.Prelude.{◌≡◌, ◌↔◌, ◌*◌, ◌<◌, length, Contains, IsTrue, IfErr, IfOk};
+//! Constraints: which edges are such, edges that become or cease to be one, and what crosses them.
+ghost use Rattle.std.specs.Prelude.{◌≡◌, ◌⊎◌, ◌↔◌, ◌*◌, ◌<◌, length, map, Contains};
+ghost use Rattle.std.specs.Prelude.{IsTrue, IsOk, IfErr, IfOk, OnErr};
 ghost use Rattle.delaunay_edit.specs.half_edge_mesh.Mesh.{origin, rev};
 ghost use Rattle.delaunay_edit.specs.plane.Pairs.{Joins};
-ghost use Rattle.delaunay_edit.specs.plane.Plain.{Unconstrains};
+ghost use Rattle.delaunay_edit.specs.plane.Plain.{CanAdd, Unconstrains};
+ghost use Rattle.delaunay_edit.specs.delaunay_core.Place.{place_of};
+ghost use Rattle.delaunay_edit.specs.delaunay_legalization.Known.{point_at};
 ghost use Rattle.delaunay_edit.specs.delaunay_legalization.State.{points_and_constraints};
+ghost use Rattle.delaunay_edit.specs.delaunay_legalization.State.{triangulation_of};
+ghost use Rattle.delaunay_edit.specs.delaunay_lines.Conflicts.{IntersectsConstraint};
+ghost use Rattle.delaunay_edit.specs.delaunay_lines.Walk.{IsReady, WalksLine};
 ghost use Rattle.delaunay_edit.specs.Constrained.{IsFree, constrained, constraint_edges};
 ghost use Rattle.delaunay_edit.specs.Constrained.{constraints_of};
+ghost use Rattle.delaunay_edit.specs.ConstraintEdits.{AddsConstraint, AddsPathIfFree};
+ghost use Rattle.delaunay_edit.specs.ConstraintEdits.{ReleasesConstraint};
 ghost use Rattle.delaunay_edit.specs.Data.{HasOtherEdgeData};
-ghost use Rattle.delaunay_edit.specs.Headline.{IsDelaunay};
+ghost use Rattle.delaunay_edit.specs.Headline.{AreSites, IsDelaunay};
+ghost use Rattle.delaunay_interface.specs.Views.{CanAddConstraint};
 
 use crate::triangulation_core::{
     ConstrainedDelaunayTriangulation, DelaunayTriangulation, TriangulationCore,
 };
-use delaunay_edit::EditedMesh;
 use delaunay_edit::delaunay_core::HintGenerator;
-use delaunay_edit::delaunay_core::point::HasPosition;
-use delaunay_edit::delaunay_legalization::{EdgeConstraints, free_edge_data, is_constraint_edge};
-use delaunay_edit::delaunay_paths::is_constraint_between;
-use delaunay_edit::half_edge_mesh::{FixedUndirectedEdgeHandle, FixedVertexHandle};
+use delaunay_edit::delaunay_core::math::PlaneTests;
+use delaunay_edit::delaunay_core::point::{HasPosition, Point2};
+use delaunay_edit::delaunay_legalization::{
+    CdtEdge, EdgeConstraints, free_edge_data, is_constraint_edge,
+};
+use delaunay_edit::delaunay_lines::{ConflictingEdgesIterator, HasMesh, intersects_constraint};
+use delaunay_edit::delaunay_paths::{can_add_path, edge_if_joined, is_constraint_between};
+use delaunay_edit::half_edge_mesh::{
+    FixedDirectedEdgeHandle, FixedUndirectedEdgeHandle, FixedVertexHandle,
+};
+use delaunay_edit::{EditedMesh, count_path};
+use std::alloc::AllocError;
 use std::marker::PhantomData;
 
 impl<V: HasPosition, DE, UE, F, L: HintGenerator<V::Scalar>> ConstrainedDelaunayTriangulation<
@@ -27,6 +43,117 @@ impl<V: HasPosition, DE, UE, F, L: HintGenerator<V::Scalar>> ConstrainedDelaunay
     F,
     L,
 > {
+    /// Whether no constraint has one point in common with the segment between two vertices of the
+    /// triangulation that is strictly within both. It takes no memory.
+    pub fn can_add_constraint<P: PlaneTests<V::Scalar>>(
+        &self,
+        from: FixedVertexHandle,
+        to: FixedVertexHandle,
+        tests: &P,
+    ) -> bool
+        requires from_in { from < length self.now.vertices }
+        requires to_in { to < length self.now.vertices }
+        requires sites { AreSites V.place (P.sites tests.now) self.now.vertices }
+        ensures { IsTrue result ↔ CanAddConstraint V.place self.now from to }
+    {
+        can_add_path::<EdgeConstraints, _, _, _, _, _>(self.mesh(), from, to, tests)
+    }
+
+    /// Makes constraints of the edges between neighbours among the vertices on the segment between
+    /// two of the triangulation, which no constraint crosses, as `can_add_constraint` tells; of a
+    /// vertex and itself it makes none. Edges may be flipped, and all data but the marks of the new
+    /// constraints stay, each under its handle. It tells whether that made a constraint of an edge
+    /// that was none, and gives `AllocError` where memory was refused; then nothing changes, and so
+    /// where it made none.
+    pub fn add_constraint<P: PlaneTests<V::Scalar>>(
+        &mut self,
+        from: FixedVertexHandle,
+        to: FixedVertexHandle,
+        tests: &P,
+    ) -> Result<bool, AllocError>
+        requires from_in { from < length self.old.vertices }
+        requires to_in { to < length self.old.vertices }
+        requires free { CanAddConstraint V.place self.old from to }
+        requires sites { AreSites V.place (P.sites tests.now) self.old.vertices }
+        ensures adds { AddsConstraint V.place from to result self.old self.new }
+        ensures headline { IsDelaunay V.place constraint_edges self.new }
+    {
+        match self.edited.try_join(from, to, tests) {
+            Ok(Some(made)) => Ok(made),
+            Ok(None) => unreachable!(),
+            Err(refused) => Err(refused),
+        }
+    }
+
+    /// Does what `add_constraint` does and gives the edges of the path, each directed along it, in
+    /// order from `from` to `to`, as they are after the last flip. Where a constraint crosses the
+    /// segment, or where the two vertices are one, it gives no edge and changes nothing, and takes
+    /// no memory. It gives `AllocError` where memory was refused, and then nothing changes either.
+    ///
+    /// ```
+    /// for edge in site.try_add_constraint(from, to, &ExactTests)? {
+    ///     println!(rt; "wall along edge {}", edge.index())?;
+    /// }
+    /// ```
+    pub fn try_add_constraint<P: PlaneTests<V::Scalar>>(
+        &mut self,
+        from: FixedVertexHandle,
+        to: FixedVertexHandle,
+        tests: &P,
+    ) -> Result<Vec<FixedDirectedEdgeHandle>, AllocError>
+        requires from_in { from < length self.old.vertices }
+        requires to_in { to < length self.old.vertices }
+        requires sites { AreSites V.place (P.sites tests.now) self.old.vertices }
+        ensures path { IfOk result
+            (λ edges. AddsPathIfFree V.place from to edges.items self.old self.new) }
+        ensures none { (from ≡ to) ⊎ (¬ CanAdd V.place (constrained self.old) from to) →
+            IsOk result }
+        ensures err { OnErr result (self.new ≡ self.old) }
+        ensures headline { IsDelaunay V.place constraint_edges self.new }
+    {
+        self.edited.recall_invariant();
+        if from == to {
+            return Ok(Vec::new(self.alloc));
+        }
+        let mesh = self.edited.mesh();
+        if let Some(edge) = edge_if_joined(mesh, from, to) {
+            return self.edited.constrain_alone(edge);
+        }
+        let counted = count_path::<EdgeConstraints, _, _, _, _, _>(mesh, from, to, tests);
+        let Some(missing) = counted else {
+            return Ok(Vec::new(self.alloc));
+        };
+        self.edited.add_listed_path(from, to, missing, tests)
+    }
+
+    /// Takes from an edge of the triangulation that it is a constraint, and tells whether it was
+    /// one. Edges may be flipped then, it among them. Where it was none, nothing changes, and no
+    /// memory is taken. An edge or face that is there before and after keeps its handle and its
+    /// data. It gives `AllocError` where memory was refused, and then nothing changes.
+    ///
+    /// ```
+    /// if site.remove_constraint_edge(edge, &ExactTests)? {
+    ///     println!(rt; "{} walls are left", site.num_constraints())?;
+    /// }
+    /// ```
+    pub fn remove_constraint_edge<P: PlaneTests<V::Scalar>>(
+        &mut self,
+        edge: FixedUndirectedEdgeHandle,
+        tests: &P,
+    ) -> Result<bool, AllocError>
+        requires within { edge < length self.old.undirected }
+        requires sites { AreSites V.place (P.sites tests.now) self.old.vertices }
+        ensures releases { ReleasesConstraint V.place edge result self.old self.new }
+        ensures headline { IsDelaunay V.place constraint_edges self.new }
+    {
+        self.edited.recall_invariant();
+        if !self.is_constraint_edge(edge) {
+            return Ok(false);
+        }
+        self.edited.release(edge, tests)?;
+        Ok(true)
+    }
+
     /// Whether an edge of the triangulation is a constraint.
     pub fn is_constraint_edge(&self, edge: FixedUndirectedEdgeHandle) -> bool
         requires { edge < length self.now.undirected }
@@ -35,8 +162,7 @@ impl<V: HasPosition, DE, UE, F, L: HintGenerator<V::Scalar>> ConstrainedDelaunay
             IsTrue result ↔ Joins (constraints_of self.now) (origin m (2 * edge))
             (origin m (rev (2 * edge))) }
     {
-        self.edited.recall_invariant();
-        is_constraint_edge::<EdgeConstraints, _, _, _, _>(self.edited.mesh(), edge)
+        is_constraint_edge::<EdgeConstraints, _, _, _, _>(self.mesh(), edge)
     }
 
     /// How many edges are constraints. The number is kept, so no edge is looked at.
@@ -52,7 +178,7 @@ impl<V: HasPosition, DE, UE, F, L: HintGenerator<V::Scalar>> ConstrainedDelaunay
         ensures { IsTrue result ↔ Joins (constraints_of self.now) from to }
     {
         self.edited.recall_invariant();
-        let mesh = self.edited.mesh();
+        let mesh = self.mesh();
         if (from.index() as usize) < mesh.num_vertices() {
             return is_constraint_between::<EdgeConstraints, _, _, _, _>(mesh, from, to);
         }
@@ -78,21 +204,16 @@ impl<V: HasPosition, DE, UE, F, L: HintGenerator<V::Scalar>> ConstrainedDelaunay
             hint_generator,
             alloc,
         } = plain;
-        let EditedMesh {
-            dcel,
-            work,
-            lists,
-            crossing,
-            num_constraints,
-            marks,
-        } = edited;
-        match dcel.map_undirected_edges(|data| free_edge_data(data)) {
+        match edited
+            .dcel
+            .map_undirected_edges(|data| free_edge_data(data))
+        {
             Ok(dcel) => Ok(TriangulationCore {
                 edited: EditedMesh {
                     dcel,
-                    work,
-                    lists,
-                    crossing,
+                    work: edited.work,
+                    lists: edited.lists,
+                    crossing: edited.crossing,
                     num_constraints: 0,
                     marks: PhantomData,
                 },
@@ -100,17 +221,76 @@ impl<V: HasPosition, DE, UE, F, L: HintGenerator<V::Scalar>> ConstrainedDelaunay
                 alloc,
             }),
             Err(dcel) => Err(TriangulationCore {
-                edited: EditedMesh {
-                    dcel,
-                    work,
-                    lists,
-                    crossing,
-                    num_constraints,
-                    marks,
-                },
+                edited: EditedMesh { dcel, ..edited },
                 hint_generator,
                 alloc,
             }),
         }
+    }
+
+    /// Whether two positions that the tests cover differ and the segment between them meets a
+    /// constraint in one point, strictly within the constraint. A constraint along the segment does
+    /// not count, nor one that only ends on it. The hint generator says where the search for the
+    /// first position begins.
+    pub fn intersects_constraint<P: PlaneTests<V::Scalar>>(
+        &self,
+        from: Point2<V::Scalar>,
+        to: Point2<V::Scalar>,
+        tests: &P,
+    ) -> bool
+        requires sites { AreSites V.place (P.sites tests.now) self.now.vertices }
+        requires from_covered { P.covered tests.now (place_of V.Scalar.whole from) }
+        requires to_covered { P.covered tests.now (place_of V.Scalar.whole to) }
+        ensures { let whole = V.Scalar.whole in
+            IsTrue result ↔ IntersectsConstraint (triangulation_of V.place self.now)
+            (constraints_of self.now) (place_of whole from) (place_of whole to) }
+    {
+        let start = self.search_start(from, tests);
+        intersects_constraint::<EdgeConstraints, _, _, _, _, _>(self.mesh(), from, to, start, tests)
+    }
+
+    /// The constraints that the segment from one position to another meets in one point strictly
+    /// within them, in the order along the segment, each in the direction of its
+    /// `EdgeIntersection`. The tests cover both positions. The hint generator says where the search
+    /// for the first begins.
+    ///
+    /// ```
+    /// for wall in site.get_conflicting_edges_between_points(from, to, &ExactTests) {
+    ///     println!(rt; "wall {}", wall.as_undirected().fix().index())?;
+    /// }
+    /// ```
+    pub fn get_conflicting_edges_between_points<'a, P: PlaneTests<V::Scalar>>(
+        &'a self,
+        from: Point2<V::Scalar>,
+        to: Point2<V::Scalar>,
+        tests: &'a P,
+    ) -> ConflictingEdgesIterator<'a, EdgeConstraints, V, DE, CdtEdge<UE>, F, P>
+        requires sites { AreSites V.place (P.sites tests.now) self.now.vertices }
+        requires from_covered { P.covered tests.now (place_of V.Scalar.whole from) }
+        requires to_covered { P.covered tests.now (place_of V.Scalar.whole to) }
+        ensures line { let whole = V.Scalar.whole in
+            WalksLine V.place whole self.now (place_of whole from) (place_of whole to) result.line }
+        ensures ready { IsReady V.place V.Scalar.whole P.sites P.covered result.line }
+    {
+        let start = self.search_start(from, tests);
+        ConflictingEdgesIterator::between_points(self.mesh(), from, to, start, tests)
+    }
+
+    /// The same for the segment from one vertex to another.
+    pub fn get_conflicting_edges_between_vertices<'a, P: PlaneTests<V::Scalar>>(
+        &'a self,
+        from: FixedVertexHandle,
+        to: FixedVertexHandle,
+        tests: &'a P,
+    ) -> ConflictingEdgesIterator<'a, EdgeConstraints, V, DE, CdtEdge<UE>, F, P>
+        requires from_in { from < length self.now.vertices }
+        requires to_in { to < length self.now.vertices }
+        requires sites { AreSites V.place (P.sites tests.now) self.now.vertices }
+        ensures line { let points = map V.place self.now.vertices in
+            WalksLine V.place V.Scalar.whole self.now (point_at points from) (point_at points to)
+            result.line }
+        ensures ready { IsReady V.place V.Scalar.whole P.sites P.covered result.line }
+    {
+        ConflictingEdgesIterator::between_vertices(self.mesh(), from, to, tests)
     }
 }

@@ -11,6 +11,7 @@ use delaunay_edit::delaunay_core::HintGenerator;
 use delaunay_edit::delaunay_core::math::{InsertionError, PlaneTests, validate_vertex};
 use delaunay_edit::delaunay_core::point::HasPosition;
 use delaunay_edit::delaunay_insertion::FreeByDefault;
+use delaunay_edit::delaunay_lines::HasMesh;
 use delaunay_edit::half_edge_mesh::FixedVertexHandle;
 use delaunay_edit::{EdgeData, Entry};
 
@@ -31,12 +32,10 @@ impl<
     ) -> FixedVertexHandle
         requires sites { AreSitesWith V.place (P.sites tests.now) self.now.vertices value.now }
     {
-        self.edited.recall_invariant();
-        if validate_vertex(value).is_err() {
-            return FixedVertexHandle::from_index(0);
+        match validate_vertex(value) {
+            Ok(_) => self.search_start(value.position(), tests),
+            Err(_) => FixedVertexHandle::from_index(0),
         }
-        let position = value.position();
-        self.hint_generator.get_hint(position, tests)
     }
 
     /// Does what `insert` does, and adds the number of flips to `flips`. A count below 2^63 has

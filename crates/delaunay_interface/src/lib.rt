@@ -7,17 +7,13 @@ pub use half_edge_voronoi;
 
 mod constraint_edges;
 mod constraint_error;
-mod constraint_paths;
 mod constraints;
-mod copies;
 mod edits;
 mod inner_faces;
 mod lookups;
 mod nearest_vertex;
 mod parts;
-mod segments;
 mod shared_calls;
-mod telling;
 mod triangulation;
 mod triangulation_core;
 

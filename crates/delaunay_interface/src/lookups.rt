@@ -1,7 +1,11 @@
-//! The vertex that a search ended at.
-ghost use Rattle.delaunay_edit.specs.Elements.{HasElement};
+//! The vertex that a search ended at, and the position of a vertex.
+ghost use Rattle.std.specs.Prelude.{◌≡◌, map, Contains, Some};
+ghost use Rattle.delaunay_edit.specs.plane.Fraction.{Point};
+ghost use Rattle.delaunay_edit.specs.delaunay_core.Held.{place_if};
 ghost use Rattle.delaunay_edit.specs.delaunay_legalization.State.{state_of};
+ghost use Rattle.delaunay_edit.specs.Elements.{HasElement};
 
+use delaunay_edit::delaunay_core::point::{HasPosition, Point2};
 use delaunay_edit::delaunay_location::PositionInTriangulation;
 use delaunay_edit::half_edge_mesh::{Dcel, FixedVertexHandle, MeshViews};
 
@@ -21,4 +25,16 @@ pub(crate) fn vertex_near<V, DE, UE, F>(
         PositionInTriangulation::OnFace(face) => mesh.face(face).adjacent_edge().from().fix(),
         PositionInTriangulation::NoTriangulation => FixedVertexHandle::from_index(0),
     }
+}
+
+// The position of a vertex, if there is one with this handle.
+pub(crate) fn position_if<V: HasPosition, DE, UE, F>(
+    mesh: &Dcel<V, DE, UE, F>,
+    vertex: FixedVertexHandle,
+) -> Option<Point2<V::Scalar>>
+    ensures { (p : Point) → place_if V.Scalar.whole result ≡ Some p → Contains
+        (map V.place mesh.now.vertices) p }
+{
+    let vertex = mesh.get_vertex(vertex)?;
+    Some(vertex.data().position())
 }

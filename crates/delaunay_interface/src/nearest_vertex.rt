@@ -8,6 +8,7 @@ use crate::triangulation_core::DelaunayTriangulation;
 use delaunay_edit::delaunay_core::HintGenerator;
 use delaunay_edit::delaunay_core::math::PlaneTests;
 use delaunay_edit::delaunay_core::point::{HasPosition, Point2};
+use delaunay_edit::delaunay_lines::HasMesh;
 use delaunay_edit::delaunay_location::nearest_by_neighbors;
 use delaunay_edit::half_edge_mesh::{FixedVertexHandle, MeshViews, VertexHandle};
 
@@ -55,7 +56,7 @@ impl<V: HasPosition, DE, UE, F, L: HintGenerator<V::Scalar>> DelaunayTriangulati
         if count == 0 {
             return None;
         }
-        let hint = self.hint_generator.get_hint(point, tests);
+        let hint = self.search_start(point, tests);
         let mut moves = 0;
         let nearest = nearest_by_neighbors(mesh, start_at(hint, count), point, &mut moves);
         self.hint_generator.notify_vertex_lookup(nearest);

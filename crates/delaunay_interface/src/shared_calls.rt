@@ -3,7 +3,7 @@ ghost use Rattle.std.specs.Prelude.{refl};
 ghost use Rattle.delaunay_edit.specs.Writing.{with_directed_data, with_undirected_data};
 ghost use Rattle.delaunay_edit.specs.Writing.{with_face_data};
 
-use crate::telling::{position_if, tell_if_removed};
+use crate::lookups::position_if;
 use crate::triangulation::{Triangulation, sealed};
 use crate::triangulation_core::TriangulationCore;
 use delaunay_edit::EdgeData;
@@ -121,16 +121,11 @@ impl<
         tests: &P,
     ) -> Result<V, AllocError> {
         self.edited.recall_invariant();
-        let removed = self.edited.take_out(vertex, tests);
+        let removed = self.edited.take_out(vertex, tests)?;
         let swapped_in = position_if(self.edited.mesh(), vertex);
-        tell_if_removed(
-            &mut self.hint_generator,
-            &removed,
-            vertex,
-            swapped_in,
-            tests,
-        );
-        removed
+        self.hint_generator
+            .notify_vertex_removed(swapped_in, vertex, removed.position(), tests);
+        Ok(removed)
     }
 
     fn clear(&mut self) {

@@ -1,15 +1,19 @@
 //! The struct that both triangulation types are.
-ghost use Rattle.std.specs.Prelude.{◌≡◌};
+ghost use Rattle.std.specs.Prelude.{◌≡◌, IfOk};
+ghost use Rattle.delaunay_edit.specs.delaunay_core.Place.{place_of};
+ghost use Rattle.delaunay_edit.specs.delaunay_legalization.Constraints.{constraints_by};
 ghost use Rattle.delaunay_edit.specs.delaunay_legalization.State.{state_of};
-ghost use Rattle.delaunay_edit.specs.Headline.{IsDelaunay};
-ghost use Rattle.delaunay_edit.specs.Storage.{IsEmptyState};
+ghost use Rattle.delaunay_edit.specs.Headline.{AreSites, IsDelaunay};
+ghost use Rattle.delaunay_edit.specs.Storage.{IsCopy, IsEmptyState, KeepsImage};
 
-use delaunay_edit::delaunay_core::point::HasPosition;
+use delaunay_edit::delaunay_core::math::PlaneTests;
+use delaunay_edit::delaunay_core::point::{HasPosition, Point2};
 use delaunay_edit::delaunay_core::{HintGenerator, LastUsedVertexHintGenerator};
 use delaunay_edit::delaunay_legalization::{CdtEdge, EdgeConstraints, NoConstraints};
-use delaunay_edit::half_edge_mesh::Dcel;
+use delaunay_edit::delaunay_lines::HasMesh;
+use delaunay_edit::half_edge_mesh::{Dcel, FixedVertexHandle};
 use delaunay_edit::{EdgeData, EditedMesh};
-use std::alloc::Global;
+use std::alloc::{AllocError, Global};
 use std::marker::Model;
 
 /// A triangulation of vertices with different positions: its faces tile the hull of the positions,
@@ -67,6 +71,62 @@ impl<V: HasPosition, DE, UE, F, L: HintGenerator<V::Scalar>, M: EdgeData<UE>> Tr
             hint_generator: L::new(alloc),
             alloc,
         }
+    }
+}
+
+impl<
+    V: HasPosition + Clone + Drop,
+    DE: Clone + Drop,
+    UE: Clone + Drop,
+    F: Clone + Drop,
+    L: HintGenerator<V::Scalar>,
+    M: EdgeData<UE>,
+> TriangulationCore<V, DE, UE, F, L, M> {
+    /// A copy with the same vertices, edges, faces and constraints under the same handles, clones
+    /// of all data, and a duplicate of the hint generator. Each clone of one of its vertices has
+    /// that one's position, and each clone of the data of one of its edges is a constraint where
+    /// that edge is one. It gives `AllocError` where memory was refused.
+    ///
+    /// ```
+    /// let mut copy = points.try_clone()?;
+    /// copy.insert(Point2::new(9, 9), &ExactTests)?; // `points` stays
+    /// ```
+    pub fn try_clone(&self) -> Result<Self, AllocError>
+        requires places { KeepsImage V.is_clone V.place self.now.vertices }
+        requires marks { KeepsImage UE.is_clone M.marks self.now.undirected }
+        ensures copy { IfOk result
+            (IsCopy V.is_clone DE.is_clone UE.is_clone F.is_clone self.now) }
+        ensures constraints { IfOk result
+            (λ c. constraints_by M.constraints c ≡ constraints_by M.constraints self.now) }
+        ensures headline { IfOk result (IsDelaunay V.place M.constraints) }
+    {
+        Ok(TriangulationCore {
+            edited: self.edited.try_clone()?,
+            hint_generator: self.hint_generator.duplicate(),
+            alloc: self.alloc,
+        })
+    }
+}
+
+impl<V: HasPosition, DE, UE, F, L: HintGenerator<V::Scalar>, M: EdgeData<UE>> HasMesh<V, DE, UE, F>
+    for TriangulationCore<V, DE, UE, F, L, M> {
+    ghost mesh_state = { λ s. s };
+
+    fn search_start<P: PlaneTests<V::Scalar>>(
+        &self,
+        position: Point2<V::Scalar>,
+        tests: &P,
+    ) -> FixedVertexHandle
+        requires sites { AreSites V.place (P.sites tests.now) self.now.vertices }
+        requires covered { P.covered tests.now (place_of V.Scalar.whole position) }
+    {
+        self.edited.recall_invariant();
+        self.hint_generator.get_hint(position, tests)
+    }
+
+    fn mesh(&self) -> &Dcel<V, DE, UE, F> {
+        self.edited.recall_invariant();
+        &self.edited.dcel
     }
 }
 

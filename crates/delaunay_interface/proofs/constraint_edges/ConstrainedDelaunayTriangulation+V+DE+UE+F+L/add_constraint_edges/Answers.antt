@@ -1,44 +1,107 @@
-use Rattle.std.proofs.Common.{[], ◌∷◌, refl}
+use Rattle.std.proofs.Common.{[], ◌∷◌, ◌++◌, ◌∙◌, inl, refl, sym}
+use Rattle.std.proofs.lemmas.Bool.{eq-eqb, eqb-true}
 use Rattle.std.proofs.lemmas.Result.{err_from_is_err_and}
-use Rattle.delaunay_interface.proofs.Stepping.{all_joined, may_come, may_come_later, none_inserted}
-use Rattle.delaunay_interface.proofs.Stepping.{some_joined, taken_anyhow}
+use Rattle.delaunay_edit.proofs.delaunay_legalization_lemmas.Questions.{both_ways}
+use Rattle.delaunay_interface.proofs.Stepping.{all_taken, cannot_close, closes, comes_now, may_come}
+use Rattle.delaunay_interface.proofs.Stepping.{one_more, stays_open, stops_at_join, stops_at_vertex}
+use Rattle.delaunay_interface.proofs.Stepping.{taken_so_far, taken_with}
+use Rattle.delaunay_interface.proofs.constraint_edges.ConstrainedDelaunayTriangulation+V+DE+UE+F+L.add_constraint_edges.Goals.{then-not-closed-via-then-not-closed}
+use Rattle.delaunay_interface.proofs.constraint_edges.ConstrainedDelaunayTriangulation+V+DE+UE+F+L.add_constraint_edges.Goals.{then-not-closed-via-else-not-closed+then-eq}
 use Rattle.delaunay_interface.proofs.constraint_edges.ConstrainedDelaunayTriangulation+V+DE+UE+F+L.add_constraint_edges.Goals as goal
 
 pub insert_end-requires-clause-new_site : goal.insert_end-requires-clause-new_site
-insert_end-requires-clause-new_site g c = c.requires.new_sites c.in-Some.first
+insert_end-requires-clause-new_site g c = c.requires.new_sites c.in-Some.start
     (may_come g.I.Iterator.next_gives _ _ _ c.in-Some.ensures.steps)
 
 pub returns-in_err-first-clause-adds : goal.returns-in_err-first-clause-adds
 returns-in_err-first-clause-adds g c =
     let p = err_from_is_err_and c.from_residual.result c.from_residual.ensures.1 in
     rw (p.1, p.2) (
-      c.in-Some.first ∷ [],
+      c.in-Some.start ∷ [],
       (c.next.new.self, (c.next.new.self, c.in-Some.ensures.steps, refl)),
-      none_inserted _ _ [] c.args.closed _ _ _ c.in_err-first.ensures.inserts,
+      inl (record { error = _; refused = c.in_err-first.ensures.inserts; told = refl }),
     )
 
-pub extend_path-requires-clause-new_sites : goal.extend_path-requires-clause-new_sites
-extend_path-requires-clause-new_sites g c = λ v may. c.requires.new_sites v
-    (may_come_later g.I.Iterator.next_gives _ _ _ v c.in-Some.ensures.steps may)
+pub insert_end-requires-in-loop-vertex-clause-new_site :
+    goal.insert_end-requires-in-loop-vertex-clause-new_site
+insert_end-requires-in-loop-vertex-clause-new_site g c =
+    c.requires.new_sites c.in-Some-vertex.vertex
+    (comes_now g.I.Iterator.next_gives _ _ _ _ c.in-Some.ensures.steps
+    c.into_iter-vertex-iterator.ensures.into_iter_gives _ _ c.loop-vertex.yielded_by _ _
+    c.in-Some-vertex.ensures.steps)
 
-pub returns-in_err-last-clause-adds : goal.returns-in_err-last-clause-adds
-returns-in_err-last-clause-adds g c =
-    let p = err_from_is_err_and c.from_residual-in_err-last.result
-    c.from_residual-in_err-last.ensures.1 in
-    let e = c.in_err-last.ensures.extends in
+pub returns-in_err-next-clause-adds : goal.returns-in_err-next-clause-adds
+returns-in_err-next-clause-adds g c =
+    let p = err_from_is_err_and c.from_residual-in_err-next.result
+    c.from_residual-in_err-next.ensures.1 in
     rw (p.1, p.2) (
-      c.in-Some.first ∷ e.0,
-      (e.1.0, (c.next.new.self, c.in-Some.ensures.steps, e.1.1)),
-      some_joined _ _ e.0 c.args.closed _ _ _ _ _ c.in_ok-first.ensures.inserts _ e.2 refl,
+      c.in-Some.start ∷ (c.loop-vertex.yielded ++ c.in-Some-vertex.vertex ∷ []),
+      taken_with g.I.Iterator.next_gives _ _ _ _ c.in-Some.ensures.steps
+          c.into_iter-vertex-iterator.ensures.into_iter_gives _ _ c.loop-vertex.yielded_by _ _
+          c.in-Some-vertex.ensures.steps,
+      stops_at_vertex c.loop-vertex.invariant.path c.in_ok-first.ensures.inserts
+          c.in_err-next.ensures.inserts,
+    )
+
+pub returns-in_err-join_vertices-clause-adds : goal.returns-in_err-join_vertices-clause-adds
+returns-in_err-join_vertices-clause-adds g c =
+    let p = err_from_is_err_and c.from_residual-in_err-join_vertices.result
+    c.from_residual-in_err-join_vertices.ensures.1 in
+    rw (p.1, p.2) (
+      c.in-Some.start ∷ (c.loop-vertex.yielded ++ c.in-Some-vertex.vertex ∷ []),
+      taken_with g.I.Iterator.next_gives _ _ _ _ c.in-Some.ensures.steps
+          c.into_iter-vertex-iterator.ensures.into_iter_gives _ _ c.loop-vertex.yielded_by _ _
+          c.in-Some-vertex.ensures.steps,
+      stops_at_join c.loop-vertex.invariant.path c.in_ok-first.ensures.inserts
+          c.in_ok-next.ensures.inserts c.in_err-join_vertices.ensures.joins,
+    )
+
+pub loop-vertex-preserved : goal.loop-vertex-preserved
+loop-vertex-preserved g c =
+    let on = c.in-Some-vertex.ensures.goes.on c.loop-vertex.invariant.ends in
+    record {
+      can_next = on.0;
+      ends = on.1;
+      path = one_more c.loop-vertex.invariant.path c.in_ok-next.ensures.inserts
+          c.in_ok-next.ensures.within c.in_ok-next.ensures.ready
+          c.in_ok-join_vertices.ensures.joins c.join_vertices.ensures.vertices
+          c.join_vertices.ensures.headline;
+    }
+
+pub returns-then-not-closed-clause-adds : goal.returns-then-not-closed-clause-adds
+returns-then-not-closed-clause-adds g c = (
+  c.in-Some.start ∷ c.loop-vertex.yielded,
+  all_taken g.I.Iterator.next_gives _ _ _ _ c.in-Some.ensures.steps
+      c.into_iter-vertex-iterator.ensures.into_iter_gives _ _ c.loop-vertex.yielded_by _
+      c.in-None.ensures.steps,
+  stays_open c.loop-vertex.invariant.path c.in_ok-first.ensures.inserts
+      (λ both. elim c.then-not-closed.branch as (λ _. ⊥) [
+        | then-not-closed-via-then-not-closed w ↦ both_ways _ both.0 w.if-not-closed.true
+        | then-not-closed-via-else-not-closed+then-eq w ↦
+            both.1 (eqb-true _ _ (sym w.eq.ensures ∙ w.if-eq.true))
+      ]),
+)
+
+pub returns-in_err-join_vertices-2-clause-adds : goal.returns-in_err-join_vertices-2-clause-adds
+returns-in_err-join_vertices-2-clause-adds g c =
+    let p = err_from_is_err_and c.from_residual-in_err-join_vertices-2.result
+    c.from_residual-in_err-join_vertices-2.ensures.1 in
+    rw (p.1, p.2) (
+      c.in-Some.start ∷ c.loop-vertex.yielded,
+      taken_so_far g.I.Iterator.next_gives _ _ _ _ c.in-Some.ensures.steps
+          c.into_iter-vertex-iterator.ensures.into_iter_gives _ _ c.loop-vertex.yielded_by,
+      cannot_close c.loop-vertex.invariant.path c.in_ok-first.ensures.inserts c.if-not-closed.false
+          (λ same. absurd (both_ways _ (c.eq.ensures ∙ eq-eqb _ _ same) c.if-eq.false))
+          c.in_err-join_vertices-2.ensures.joins,
     )
 
 pub returns-clause-adds : goal.returns-clause-adds
-returns-clause-adds g c =
-    let e = c.in_ok-last.ensures.extends in (
-      c.in-Some.first ∷ e.0,
-      taken_anyhow g.I.Iterator.next_gives c.args.vertices (c.in-Some.first ∷ e.0)
-          c.close_path.result
-          (e.1.0, (e.1.1.0, (c.next.new.self, c.in-Some.ensures.steps, e.1.1.1), e.1.1.2)),
-      all_joined _ _ e.0 c.args.closed _ _ _ _ _ c.in_ok-first.ensures.inserts _ _ e.2
-          c.close_path.ensures.closes,
-    )
+returns-clause-adds g c = (
+  c.in-Some.start ∷ c.loop-vertex.yielded,
+  all_taken g.I.Iterator.next_gives _ _ _ _ c.in-Some.ensures.steps
+      c.into_iter-vertex-iterator.ensures.into_iter_gives _ _ c.loop-vertex.yielded_by _
+      c.in-None.ensures.steps,
+  closes c.loop-vertex.invariant.path c.in_ok-first.ensures.inserts c.if-not-closed.false
+      (λ same. absurd (both_ways _ (c.eq.ensures ∙ eq-eqb _ _ same) c.if-eq.false))
+      c.in_ok-join_vertices-2.ensures.joins,
+)

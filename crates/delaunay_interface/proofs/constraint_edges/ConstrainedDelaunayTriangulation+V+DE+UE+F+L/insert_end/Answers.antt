@@ -11,6 +11,6 @@ pub returns-in-Ok-clause-ready : goal.returns-in-Ok-clause-ready
 returns-in-Ok-clause-ready g c = record {
   grows = inserted_grows _ _ _ _ _ _ c.in-Ok.ensures.inserts;
   sites = inserted_sites _ _ _ _ _ _ c.in-Ok.ensures.inserts (g.P.PlaneTests.sites c.args.tests.now)
-      (c.requires.sites c.recall_invariant.ensures.in_range) c.requires.new_site;
+      c.requires.sites c.requires.new_site;
   headline = c.in-Ok.ensures.headline;
 }

@@ -4,7 +4,7 @@ use Rattle.delaunay_interface.proofs.constraints.ConstrainedDelaunayTriangulatio
 
 pub returns-then-index-num_vertices : goal.returns-then-index-num_vertices
 returns-then-index-num_vertices g c =
-    rw (← c.self.view_is, ← c.mesh-mesh.ensures) c.is_constraint_between.ensures
+    rw (← c.mesh-mesh.ensures.state) c.is_constraint_between.ensures
 
 pub returns : goal.returns
 returns g c = (
@@ -12,7 +12,7 @@ returns g c = (
   (λ j. absurd (
       let within = (c.recall_invariant.ensures.plain.pairs c.args.from c.args.to
       (rw (← c.self.view_is) at j)).0 in
-      let below = rw (← c.mesh-mesh.ensures) at within in
+      let below = rw (c.self.view_is, ← c.mesh-mesh.ensures.state) at within in
       let not = c.if-index-num_vertices.false in
       let index = c.index.ensures in
       let count = c.num_vertices.ensures.value in

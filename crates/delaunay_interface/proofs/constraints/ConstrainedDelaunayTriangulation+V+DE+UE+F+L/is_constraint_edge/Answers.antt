@@ -6,7 +6,7 @@ use Rattle.delaunay_interface.proofs.constraints.ConstrainedDelaunayTriangulatio
 
 pub returns-clause-marked : goal.returns-clause-marked
 returns-clause-marked g c =
-    rw (← c.self.view_is, ← c.mesh.ensures) c.is_constraint_edge.ensures
+    rw (← c.mesh.ensures.state) c.is_constraint_edge.ensures
 
 pub returns-clause-joined : goal.returns-clause-joined
 returns-clause-joined g c =
@@ -15,6 +15,6 @@ returns-clause-joined g c =
       (λ t. joined_by is_constraint constraint_edges (λ ds. refl) s.mesh s.undirected _ _
           c.args.edge (marked.0 t) (inl (refl, refl))),
       (λ j. marked.1 (fixed_if_joined g.V.HasPosition.place is_constraint constraint_edges
-          (λ ds. refl) s (rw c.self.view_is at c.recall_invariant.ensures.kept) c.args.edge
+          (λ ds. refl) s (rw c.mesh.ensures.state at c.mesh.ensures.kept) c.args.edge
           c.requires j)),
     )

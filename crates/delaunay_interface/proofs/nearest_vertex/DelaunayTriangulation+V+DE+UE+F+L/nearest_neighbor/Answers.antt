@@ -3,13 +3,7 @@ use Rattle.std.proofs.lemmas.List.{length-map}
 use Rattle.delaunay_edit.specs.plane.Delaunay.{IsConstrainedDelaunay}
 use Rattle.delaunay_edit.specs.delaunay_legalization.Shape.{IsTriangulated}
 use Rattle.delaunay_edit.specs.delaunay_legalization.State.{state_of, triangulation_of}
-use Rattle.delaunay_interface.proofs.Held.{held_are_sites}
 use Rattle.delaunay_interface.proofs.nearest_vertex.DelaunayTriangulation+V+DE+UE+F+L.nearest_neighbor.Goals as goal
-
-pub get_hint-hint-requires-clause-held : goal.get_hint-hint-requires-clause-held
-get_hint-hint-requires-clause-held g c =
-    let sites = rw (← c.self.view_is) at c.requires.sites in
-    held_are_sites _ _ _ c.self.invariant (sites c.recall_invariant.ensures.in_range)
 
 pub nearest_by_neighbors-nearest-requires-clause-kept :
     goal.nearest_by_neighbors-nearest-requires-clause-kept

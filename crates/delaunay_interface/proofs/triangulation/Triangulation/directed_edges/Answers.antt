@@ -1,7 +1,6 @@
-use Rattle.std.proofs.Common.{length, ap}
-use Rattle.delaunay_edit.proofs.Counts.{gives_elements}
+use Rattle.std.proofs.Common.{length}
+use Rattle.delaunay_interface.proofs.Faces.{gives_all}
 use Rattle.delaunay_interface.proofs.triangulation.Triangulation.directed_edges.Goals as goal
 
 pub returns : goal.returns
-returns g c = gives_elements _ _ 0 _ _ _ c.directed_edges.ensures c.s.ensures
-    (ap (λ s. length s.directed) c.s.ensures)
+returns g c = gives_all (λ s. length s.directed) c.directed_edges.ensures c.s.ensures

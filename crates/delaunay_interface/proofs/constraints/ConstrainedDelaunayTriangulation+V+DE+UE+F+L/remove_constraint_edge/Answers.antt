@@ -5,18 +5,17 @@ use Rattle.delaunay_edit.specs.Headline.{IsDelaunay}
 use Rattle.delaunay_edit.proofs.delaunay_legalization_lemmas.Questions.{both_ways}
 use Rattle.delaunay_edit.proofs.EditingConstraints.{none_released}
 use Rattle.delaunay_interface.proofs.Kept.{held_of_same}
-use Rattle.delaunay_interface.proofs.constraint_paths.ConstrainedDelaunayTriangulation+V+DE+UE+F+L.remove_constraint_edge.Goals as goal
+use Rattle.delaunay_interface.proofs.constraints.ConstrainedDelaunayTriangulation+V+DE+UE+F+L.remove_constraint_edge.Goals as goal
 
 pub returns-then-not-is_constraint_edge-clause-releases :
     goal.returns-then-not-is_constraint_edge-clause-releases
 returns-then-not-is_constraint_edge-clause-releases g c =
     none_released g.V.HasPosition.place c.args.edge _ c.args.self.now refl
-    (λ h. both_ways _ (c.is_constraint_edge.ensures.1
-    (rw (← c.self.view_is, ← c.mesh.ensures) at h)) c.if-not-is_constraint_edge.true)
+    (λ h. both_ways _ (c.is_constraint_edge.ensures.marked.1 h) c.if-not-is_constraint_edge.true)
 
 pub release-requires-clause-constraint : goal.release-requires-clause-constraint
 release-requires-clause-constraint g c =
-    rw (← c.mesh.ensures) (c.is_constraint_edge.ensures.0 c.if-not-is_constraint_edge.false)
+    rw c.self.view_is (c.is_constraint_edge.ensures.marked.0 c.if-not-is_constraint_edge.false)
 
 pub invariant_of-self : goal.invariant_of-self
 invariant_of-self g c =
@@ -30,8 +29,8 @@ invariant_of-self-2 g c =
 
 pub returns-clause-releases : goal.returns-clause-releases
 returns-clause-releases g c =
-    let has = subst (λ s. Contains (constraint_edges s.undirected) c.args.edge) c.mesh.ensures
-    (c.is_constraint_edge.ensures.0 c.if-not-is_constraint_edge.false) in
+    let has = rw (← c.self.view_is) at
+    (c.is_constraint_edge.ensures.marked.0 c.if-not-is_constraint_edge.false) in
     let done = c.in_ok-release.ensures in
     rw (← c.self.view_is) (record {
       none = λ n. absurd (n has);

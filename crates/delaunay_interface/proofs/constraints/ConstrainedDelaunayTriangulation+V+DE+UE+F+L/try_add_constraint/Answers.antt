@@ -9,7 +9,7 @@ use Rattle.delaunay_edit.specs.Constrained.{constraint_edges}
 use Rattle.delaunay_edit.proofs.EditingConstraints.{none_listed}
 use Rattle.delaunay_edit.proofs.OnePieceAdded.{list_renamed}
 use Rattle.delaunay_interface.proofs.Kept.{held_of_same, vertices_after_path}
-use Rattle.delaunay_interface.proofs.constraint_paths.ConstrainedDelaunayTriangulation+V+DE+UE+F+L.try_add_constraint.Goals as goal
+use Rattle.delaunay_interface.proofs.constraints.ConstrainedDelaunayTriangulation+V+DE+UE+F+L.try_add_constraint.Goals as goal
 
 pub returns-then-eq-clause-path : goal.returns-then-eq-clause-path
 returns-then-eq-clause-path g c =

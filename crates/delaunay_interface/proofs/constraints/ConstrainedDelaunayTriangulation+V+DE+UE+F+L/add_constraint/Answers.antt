@@ -1,6 +1,6 @@
 use Rattle.delaunay_interface.proofs.Kept.{held_of_same, vertices_after_trying}
-use Rattle.delaunay_interface.proofs.constraint_paths.ConstrainedDelaunayTriangulation+V+DE+UE+F+L.add_constraint.Goals.{in-Ok-Some, in-Err}
-use Rattle.delaunay_interface.proofs.constraint_paths.ConstrainedDelaunayTriangulation+V+DE+UE+F+L.add_constraint.Goals as goal
+use Rattle.delaunay_interface.proofs.constraints.ConstrainedDelaunayTriangulation+V+DE+UE+F+L.add_constraint.Goals.{in-Ok-Some, in-Err}
+use Rattle.delaunay_interface.proofs.constraints.ConstrainedDelaunayTriangulation+V+DE+UE+F+L.add_constraint.Goals as goal
 
 pub try_join-requires : goal.try_join-requires
 try_join-requires g c = record {
