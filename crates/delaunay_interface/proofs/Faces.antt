@@ -17,9 +17,10 @@ row_inner n xs is = rw is (λ k d lt.
     (omega (arith, at), omega (arith, at, length-range_with_len 1 n)))
 
 -- so many elements of a mesh, as its state counts them, are those of the triangulation
-pub gives_all : {V D U F : Type 0} {s : State V D U F} {mesh : Bor (Contents V D U F)} {first : ℕ}
-    {given : List (Bor (Contents V D U F) × ℕ)} (count : State V D U F → ℕ)
+pub gives_all : {V D U F : Type 0} {s : State V D U F} {first : ℕ}
+    {given : List (Bor (Contents V D U F) × ℕ)} (mesh : Bor (Contents V D U F))
+    (count : State V D U F → ℕ)
     → given ≡ each_in mesh (range_with_len first (count (state_of mesh.now)))
     → state_of mesh.now ≡ s → GivesElements s first (count s) given
-gives_all {s = s} {mesh = mesh} {first = first} {given = given} count all same =
+gives_all {s = s} {first = first} {given = given} mesh count all same =
     gives_elements s mesh first (count (state_of mesh.now)) (count s) given all same (ap count same)

@@ -1,13 +1,12 @@
 -- Steps of edits that insert vertices and join them.
--- Notions: IsOnPath; inserted_grows, inserted_here, inserted_sites, lacks_memory, joined_now,
--- crossed_now, may_come, taken_so_far, comes_now, taken_with, all_taken, begins, one_more,
--- stops_at_vertex, stops_at_join, stays_open, closes, cannot_close, stops_at_from, stops_at_to,
--- both_inserted.
+-- Notions: IsOnPath, AddsTaken; inserted_grows, inserted_here, inserted_sites, lacks_memory,
+-- joined_now, crossed_now, may_come, comes_now, begins, one_more, stops_at_vertex, stops_at_join,
+-- stays_open, closes, cannot_close, stops_at_from, stops_at_to, both_inserted.
 use Rattle.std.proofs.Common.{◌≡◌, ◌≢◌, ◌∙◌, ◌<◌, ◌≤◌, [], ◌∷◌, ◌++◌}
 use Rattle.std.proofs.Common.{ℕ, Bool, List, length, map, Result, Ok, Err, Option, None, Some, refl}
 use Rattle.std.proofs.Common.{sym, ap, subst, inl, inr, append_assoc, append-nil, arith}
 use Rattle.std.specs.Prelude.{All, IsTrue, MatchResult}
-use Rattle.std.specs.Iterator.{Drains, Yields}
+use Rattle.std.specs.Iterator.{Yields}
 use Rattle.std.proofs.lemmas.List.{get_or_default, length-set, length_push, map-append}
 use Rattle.std.proofs.lemmas.List.Elements.{All-contains, All-push}
 use Rattle.std.proofs.Math.Seq.{map-set_same}
@@ -30,7 +29,7 @@ use Rattle.delaunay_interface.specs.declared.constraint_error.ConstraintError.Th
 use Rattle.delaunay_interface.specs.ConstraintEdges.{AddsConstraintEdge, AddsConstraintEdges}
 use Rattle.delaunay_interface.specs.ConstraintEdges.{ClosesPath, ExtendsPath}
 use Rattle.delaunay_interface.specs.ConstraintEdges.{JoinsVertices, MayGive, RefusesEnd}
-use Rattle.delaunay_interface.specs.ConstraintEdges.{StaysReady}
+use Rattle.delaunay_interface.specs.ConstraintEdges.{StaysReady, Takes}
 use Rattle.delaunay_interface.proofs.Held.{new_is_listed, stay_listed}
 
 -- ---- after an insertion
@@ -150,22 +149,9 @@ module _ {I V : Type 0} (steps : I → Option V → I → Type 0) where
     all_so_far : Yields steps s (x ∷ xs) t
     all_so_far = (rest, came, subst (λ (a : I). Yields steps a xs t) same taken)
 
-    -- they have come before a refusal
-    pub taken_so_far : (u : I) × Yields steps s (x ∷ xs) u
-    taken_so_far = (t, all_so_far)
-
     -- an item that the next call gives may come
     pub comes_now : (y : V) (u : I) → steps t (Some y) u → MayGive steps s y
     comes_now y u step = (x ∷ xs, u, (t, all_so_far, step))
-
-    -- and it is taken after the others
-    pub taken_with : (y : V) (u : I) → steps t (Some y) u
-        → (v : I) × Yields steps s (x ∷ (xs ++ y ∷ [])) v
-    taken_with y u step = (u, one_taken s (x ∷ xs) t y u all_so_far step)
-
-    -- where the next call gives none, the items that were taken are all
-    pub all_taken : (u : I) → steps t None u → Drains steps s (x ∷ xs)
-    all_taken u step = (u, (t, all_so_far, step))
 
 -- ---- a path of vertices
 -- a path from the vertex at first to that at last, by these further vertices: it goes on from
@@ -218,82 +204,112 @@ module _ {V D U F : Type 0} {place : V → Point} {IsSite : Point → Type 0} {d
     };
   }
 
-  -- where the vertex at first was inserted for the path
-  module _ {v : V} {before : State V D (CdtEdge U) F}
-      (begun : InsertsVertex place constraint_edges v (Ok first) before old) {closed : Bool} where
-    made_up_to : (vs : List V) (ends : Result ℕ ConstraintError) (result :
-        Result (Unit {0}) ConstraintError) (middle new : State V D (CdtEdge U) F)
-        → ExtendsPath place vs last ends now middle
-        → MatchResult ends (λ at. ClosesPath place closed first at result middle new)
-        (λ e. (result ≡ Err e) × (new ≡ middle))
-        → AddsConstraintEdges place (v ∷ (done ++ vs)) closed result before new
-    made_up_to vs ends result middle new e c = inr (record {
-      index = first;
-      middle = old;
-      inserts = begun;
-      then = record {
-        path = ends;
-        middle = middle;
-        extends = path.goes_on vs ends middle e;
-        closes = c;
-      };
-    })
+-- what calls of an iterator gave was inserted and joined, with this result
+abbrev pub AddsTaken : {I V D U F : Type 0} → (I → Option V → I → Type 0) → (V → Point) → I → Bool
+    → Result (Unit {0}) ConstraintError → (old new : State V D (CdtEdge U) F) → Type 0
+AddsTaken {V = V} steps place s closed result old new = (vs : List V) × Takes steps s vs result
+    × AddsConstraintEdges place vs closed result old new
 
-    -- a further vertex that is refused ends it, with this error
-    pub stops_at_vertex : {w : V} {error : ConstraintError} {new : State V D (CdtEdge U) F}
-        → RefusesEnd place w error now new
-        → AddsConstraintEdges place (v ∷ (done ++ w ∷ [])) closed (Err error) before new
-    stops_at_vertex {w = w} {error = error} {new = new} refused =
-        made_up_to (w ∷ []) (Err error) (Err error) new new
-        (inl (record { error = error; refused = refused; told = refl })) (refl, refl)
+-- a first item came from an iterator, its vertex was inserted at first, and a loop took the others
+module _ {I V D U F : Type 0} (steps : I → Option V → I → Type 0) (place : V → Point)
+    {IsSite : Point → Type 0} {s rest begun : I} (t : I) {v : V} {done : List V} {first last : ℕ}
+    {before old now : State V D (CdtEdge U) F} (closed : Bool) (came : steps s (Some v) rest)
+    (inserts : InsertsVertex place constraint_edges v (Ok first) before old) (same : begun ≡ rest)
+    (taken : Yields steps begun done t) (path : IsOnPath place IsSite done first old last now) where
+  so_far : Yields steps s (v ∷ done) t
+  so_far = all_so_far steps s v rest begun came same done t taken
 
-    -- so does one that is inserted, but not joined to the one before it
-    pub stops_at_join : {w : V} {next : ℕ} {error : ConstraintError}
-        {inserted new : State V D (CdtEdge U) F}
-        → InsertsVertex place constraint_edges w (Ok next) now inserted
-        → JoinsVertices place last next (Err error) inserted new
-        → AddsConstraintEdges place (v ∷ (done ++ w ∷ [])) closed (Err error) before new
-    stops_at_join {w = w} {error = error} {new = new} i j =
-        made_up_to (w ∷ []) (Err error) (Err error) new new
+  made_up_to : (vs : List V) (ends : Result ℕ ConstraintError)
+      (result : Result (Unit {0}) ConstraintError) (middle new : State V D (CdtEdge U) F)
+      → ExtendsPath place vs last ends now middle
+      → MatchResult ends (λ at. ClosesPath place closed first at result middle new)
+      (λ e. (result ≡ Err e) × (new ≡ middle))
+      → AddsConstraintEdges place (v ∷ (done ++ vs)) closed result before new
+  made_up_to vs ends result middle new e c = inr (record {
+    index = first;
+    middle = old;
+    inserts = inserts;
+    then = record {
+      path = ends;
+      middle = middle;
+      extends = path.goes_on vs ends middle e;
+      closes = c;
+    };
+  })
+
+  ended : (result : Result (Unit {0}) ConstraintError) (new : State V D (CdtEdge U) F)
+      → ClosesPath place closed first last result now new
+      → AddsConstraintEdges place (v ∷ done) closed result before new
+  ended result new c =
+      subst (λ (xs : List V). AddsConstraintEdges place (v ∷ xs) closed result before new)
+      (append-nil done) (made_up_to [] (Ok last) result now new (refl, refl) c)
+
+  -- a further vertex that is refused ends the path, with this error
+  pub stops_at_vertex : {w : V} {u : I} {error : ConstraintError} {new : State V D (CdtEdge U) F}
+      → steps t (Some w) u → RefusesEnd place w error now new
+      → AddsTaken steps place s closed (Err error) before new
+  stops_at_vertex {w = w} {u = u} {error = error} {new = new} step refused = (
+    v ∷ (done ++ w ∷ []),
+    (u, one_taken steps s (v ∷ done) t w u so_far step),
+    made_up_to (w ∷ []) (Err error) (Err error) new new
+        (inl (record { error = error; refused = refused; told = refl })) (refl, refl),
+  )
+
+  -- so does one that is inserted, but not joined to the one before it
+  pub stops_at_join : {w : V} {u : I} {next : ℕ} {error : ConstraintError}
+      {inserted new : State V D (CdtEdge U) F} → steps t (Some w) u
+      → InsertsVertex place constraint_edges w (Ok next) now inserted
+      → JoinsVertices place last next (Err error) inserted new
+      → AddsTaken steps place s closed (Err error) before new
+  stops_at_join {w = w} {u = u} {error = error} {new = new} step i j = (
+    v ∷ (done ++ w ∷ []),
+    (u, one_taken steps s (v ∷ done) t w u so_far step),
+    made_up_to (w ∷ []) (Err error) (Err error) new new
         (inr (record {
           index = _;
           middle = _;
           inserts = i;
           then = inl (record { error = error; refused = j; told = refl });
-        })) (refl, refl)
+        })) (refl, refl),
+  )
 
-    ended : (result : Result (Unit {0}) ConstraintError) (new : State V D (CdtEdge U) F)
-        → ClosesPath place closed first last result now new
-        → AddsConstraintEdges place (v ∷ done) closed result before new
-    ended result new c =
-        subst (λ (xs : List V). AddsConstraintEdges place (v ∷ xs) closed result before new)
-        (append-nil done) (made_up_to [] (Ok last) result now new (refl, refl) c)
-
-    -- a path that is not to be closed, or is one vertex, ends where it is
-    pub stays_open : ¬ (IsTrue closed × (last ≢ first))
-        → AddsConstraintEdges place (v ∷ done) closed (Ok tt) before now
-    stays_open not = ended (Ok tt) now (record {
+  -- a path that is not to be closed, or is one vertex, ends where it is
+  pub stays_open : {u : I} → steps t None u → ¬ (IsTrue closed × (last ≢ first))
+      → AddsTaken steps place s closed (Ok tt) before now
+  stays_open {u = u} step not = (
+    v ∷ done,
+    (u, (t, so_far, step)),
+    ended (Ok tt) now (record {
       joins = λ c apart. absurd (not (c, apart));
       stays = λ _. (refl, refl);
-    })
+    }),
+  )
 
-    -- one that is to be closed is so where its ends are joined
-    pub closes : IsTrue closed → last ≢ first → {made : Bool} {new : State V D (CdtEdge U) F}
-        → JoinsVertices place last first (Ok made) now new
-        → AddsConstraintEdges place (v ∷ done) closed (Ok tt) before new
-    closes c apart {new = new} j = ended (Ok tt) new (record {
+  -- one that is to be closed is so where its ends are joined
+  pub closes : {u : I} {made : Bool} {new : State V D (CdtEdge U) F} → steps t None u
+      → IsTrue closed → last ≢ first → JoinsVertices place last first (Ok made) now new
+      → AddsTaken steps place s closed (Ok tt) before new
+  closes {u = u} {new = new} step c apart j = (
+    v ∷ done,
+    (u, (t, so_far, step)),
+    ended (Ok tt) new (record {
       joins = λ _ _. inr (record { made = _; middle = new; joins = j; then = (refl, refl) });
       stays = λ none. absurd (none (c, apart));
-    })
+    }),
+  )
 
-    -- where they are not joined, that is the result
-    pub cannot_close : IsTrue closed → last ≢ first → {error : ConstraintError}
-        {new : State V D (CdtEdge U) F} → JoinsVertices place last first (Err error) now new
-        → AddsConstraintEdges place (v ∷ done) closed (Err error) before new
-    cannot_close c apart {error = error} {new = new} j = ended (Err error) new (record {
+  -- where they are not joined, that is the result
+  pub cannot_close : {error : ConstraintError} {new : State V D (CdtEdge U) F} → IsTrue closed
+      → last ≢ first → JoinsVertices place last first (Err error) now new
+      → AddsTaken steps place s closed (Err error) before new
+  cannot_close {error = error} {new = new} c apart j = (
+    v ∷ done,
+    (t, so_far),
+    ended (Err error) new (record {
       joins = λ _ _. inl (record { error = error; refused = j; told = refl });
       stays = λ none. absurd (none (c, apart));
-    })
+    }),
+  )
 
 module _ {V D U F : Type 0} (place : V → Point) where
   -- ---- two vertices

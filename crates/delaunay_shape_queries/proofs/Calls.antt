@@ -1,13 +1,11 @@
 -- What the calls of a triangulation hand to a search over its mesh, and make of what it gives.
--- Lemmas: lower_corner, upper_corner, same_corners, same_circle, same_rectangle, kept_in_mesh,
--- sites_in_mesh, edges_found, vertices_found.
+-- Lemmas: lower_corner, upper_corner, kept_in_mesh, sites_in_mesh, edges_found, vertices_found.
 use Rattle.std.proofs.Common.{◌≡◌, map, sym, subst, arith}
-use Rattle.std.specs.Prelude.{ℤ, All, Result, Ok, Err, IfOk}
+use Rattle.std.specs.Prelude.{All, Result, Ok, Err, IfOk}
 use Rattle.std.specs.Borrow.{Bor}
 use Rattle.std.proofs.lemmas.List.Elements.{All-map}
 use Rattle.delaunay_interface.specs.half_edge_mesh.Contents.{Contents}
 use Rattle.delaunay_interface.specs.plane.Fraction.{Point, Fraction}
-use Rattle.delaunay_interface.specs.plane.Shape.{InClosedCircle, InClosedRectangle}
 use Rattle.delaunay_interface.specs.plane.Tests.{InRange}
 use Rattle.delaunay_interface.specs.Headline.{AreSites}
 use Rattle.delaunay_interface.specs.delaunay_legalization.Shape.{IsTriangulated}
@@ -27,26 +25,6 @@ lower_corner C lower upper all = all 0 lower (omega arith)
 pub upper_corner : (C : Point → Type 0) (lower upper : Point)
     → All C (corners lower upper) → C upper
 upper_corner C lower upper all = all 2 upper (omega arith)
-
--- corners by other names of the same points
-pub same_corners : (C : Point → Type 0) (l m u v : Point) → l ≡ m → u ≡ v → All C (corners m v)
-    → All C (corners l u)
-same_corners C l m u v e f all =
-    subst (λ (x : Point). All C (corners x u)) (sym e)
-    (subst (λ (y : Point). All C (corners m y)) (sym f) all)
-
--- a circle and a rectangle by other names of the same numbers
-pub same_circle : (Q : (Fraction → Type 0) → Type 0) (c d : Point) (r s : ℤ) → c ≡ d → r ≡ s
-    → Q (InClosedCircle c r) → Q (InClosedCircle d s)
-same_circle Q c d r s e f q =
-    subst (λ (x : ℤ). Q (InClosedCircle d x)) f (subst (λ (x : Point). Q (InClosedCircle x r)) e q)
-
--- what holds of a rectangle holds of the one with equal corners
-pub same_rectangle : (Q : (Fraction → Type 0) → Type 0) (l m u v : Point) → l ≡ m → u ≡ v
-    → Q (InClosedRectangle l u) → Q (InClosedRectangle m v)
-same_rectangle Q l m u v e f q =
-    subst (λ (x : Point). Q (InClosedRectangle m x)) f
-    (subst (λ (x : Point). Q (InClosedRectangle x u)) e q)
 
 module _ {V D U F : Type 0} (place : V → Point) (s : State V D U F) (mesh : Bor (Contents V D U F))
     (same : state_of mesh.now ≡ s) where

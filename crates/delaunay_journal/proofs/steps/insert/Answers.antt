@@ -8,7 +8,7 @@ returns-in-Ok-clause-gives g c = c.in-Ok.ensures.inserts
 pub returns-in-Ok-clause-sites : goal.returns-in-Ok-clause-sites
 returns-in-Ok-clause-sites g c =
     inserted_sites _ _ _ _ _ _ c.in-Ok.ensures.inserts (g.P.PlaneTests.sites c.args.tests.now)
-    (c.requires.sites c.recall_invariant.ensures.in_range) c.requires.new_site
+    c.requires.sites c.requires.new_site
 
 pub returns-in-Err-clause-gives : goal.returns-in-Err-clause-gives
 returns-in-Err-clause-gives g c = refused_insertion _ _ _ _ _ _ c.in-Err.ensures.inserts

@@ -22,7 +22,7 @@ returns-in-Ok-clause-sites g c =
     let place = g.V.HasPosition.place in
     let sites = g.P.PlaneTests.sites c.args.tests.now in
     inserted_sites place g.T.Constraints.ConstraintMarker.constraints _ _ _ _
-    c.in-Ok.ensures.inserts sites (c.requires.sites c.recall_invariant.ensures.in_range)
+    c.in-Ok.ensures.inserts sites c.requires.sites
     (All-head (λ (e : ℕ × g.row.V.Denot). InRange (place e.1) → sites (place e.1))
     (entry_of c.in-Some.field-0) (map entry_of (into_iter_items c.next.new.self))
     (subst (λ (es : List (ℕ × g.row.V.Denot)).

@@ -1,10 +1,9 @@
-use Rattle.std.proofs.Common.{[], ◌∷◌, ◌++◌, ◌∙◌, inl, refl, sym}
+use Rattle.std.proofs.Common.{[], ◌∷◌, ◌∙◌, inl, refl, sym}
 use Rattle.std.proofs.lemmas.Bool.{eq-eqb, eqb-true}
 use Rattle.std.proofs.lemmas.Result.{err_from_is_err_and}
 use Rattle.delaunay_edit.proofs.delaunay_legalization_lemmas.Questions.{both_ways}
-use Rattle.delaunay_interface.proofs.Stepping.{all_taken, cannot_close, closes, comes_now, may_come}
-use Rattle.delaunay_interface.proofs.Stepping.{one_more, stays_open, stops_at_join, stops_at_vertex}
-use Rattle.delaunay_interface.proofs.Stepping.{taken_so_far, taken_with}
+use Rattle.delaunay_interface.proofs.Stepping.{cannot_close, closes, comes_now, may_come, one_more}
+use Rattle.delaunay_interface.proofs.Stepping.{stays_open, stops_at_join, stops_at_vertex}
 use Rattle.delaunay_interface.proofs.constraint_edges.ConstrainedDelaunayTriangulation+V+DE+UE+F+L.add_constraint_edges.Goals.{then-not-closed-via-then-not-closed}
 use Rattle.delaunay_interface.proofs.constraint_edges.ConstrainedDelaunayTriangulation+V+DE+UE+F+L.add_constraint_edges.Goals.{then-not-closed-via-else-not-closed+then-eq}
 use Rattle.delaunay_interface.proofs.constraint_edges.ConstrainedDelaunayTriangulation+V+DE+UE+F+L.add_constraint_edges.Goals as goal
@@ -34,27 +33,20 @@ pub returns-in_err-next-clause-adds : goal.returns-in_err-next-clause-adds
 returns-in_err-next-clause-adds g c =
     let p = err_from_is_err_and c.from_residual-in_err-next.result
     c.from_residual-in_err-next.ensures.1 in
-    rw (p.1, p.2) (
-      c.in-Some.start ∷ (c.loop-vertex.yielded ++ c.in-Some-vertex.vertex ∷ []),
-      taken_with g.I.Iterator.next_gives _ _ _ _ c.in-Some.ensures.steps
-          c.into_iter-vertex-iterator.ensures.into_iter_gives _ _ c.loop-vertex.yielded_by _ _
-          c.in-Some-vertex.ensures.steps,
-      stops_at_vertex c.loop-vertex.invariant.path c.in_ok-first.ensures.inserts
-          c.in_err-next.ensures.inserts,
-    )
+    rw (p.1, p.2) (stops_at_vertex g.I.Iterator.next_gives _ _ c.args.closed c.in-Some.ensures.steps
+    c.in_ok-first.ensures.inserts c.into_iter-vertex-iterator.ensures.into_iter_gives
+    c.loop-vertex.yielded_by c.loop-vertex.invariant.path
+    c.in-Some-vertex.ensures.steps c.in_err-next.ensures.inserts)
 
 pub returns-in_err-join_vertices-clause-adds : goal.returns-in_err-join_vertices-clause-adds
 returns-in_err-join_vertices-clause-adds g c =
     let p = err_from_is_err_and c.from_residual-in_err-join_vertices.result
     c.from_residual-in_err-join_vertices.ensures.1 in
-    rw (p.1, p.2) (
-      c.in-Some.start ∷ (c.loop-vertex.yielded ++ c.in-Some-vertex.vertex ∷ []),
-      taken_with g.I.Iterator.next_gives _ _ _ _ c.in-Some.ensures.steps
-          c.into_iter-vertex-iterator.ensures.into_iter_gives _ _ c.loop-vertex.yielded_by _ _
-          c.in-Some-vertex.ensures.steps,
-      stops_at_join c.loop-vertex.invariant.path c.in_ok-first.ensures.inserts
-          c.in_ok-next.ensures.inserts c.in_err-join_vertices.ensures.joins,
-    )
+    rw (p.1, p.2) (stops_at_join g.I.Iterator.next_gives _ _ c.args.closed c.in-Some.ensures.steps
+    c.in_ok-first.ensures.inserts c.into_iter-vertex-iterator.ensures.into_iter_gives
+    c.loop-vertex.yielded_by c.loop-vertex.invariant.path
+    c.in-Some-vertex.ensures.steps c.in_ok-next.ensures.inserts
+    c.in_err-join_vertices.ensures.joins)
 
 pub loop-vertex-preserved : goal.loop-vertex-preserved
 loop-vertex-preserved g c =
@@ -69,39 +61,32 @@ loop-vertex-preserved g c =
     }
 
 pub returns-then-not-closed-clause-adds : goal.returns-then-not-closed-clause-adds
-returns-then-not-closed-clause-adds g c = (
-  c.in-Some.start ∷ c.loop-vertex.yielded,
-  all_taken g.I.Iterator.next_gives _ _ _ _ c.in-Some.ensures.steps
-      c.into_iter-vertex-iterator.ensures.into_iter_gives _ _ c.loop-vertex.yielded_by _
-      c.in-None.ensures.steps,
-  stays_open c.loop-vertex.invariant.path c.in_ok-first.ensures.inserts
-      (λ both. elim c.then-not-closed.branch as (λ _. ⊥) [
-        | then-not-closed-via-then-not-closed w ↦ both_ways _ both.0 w.if-not-closed.true
-        | then-not-closed-via-else-not-closed+then-eq w ↦
-            both.1 (eqb-true _ _ (sym w.eq.ensures ∙ w.if-eq.true))
-      ]),
-)
+returns-then-not-closed-clause-adds g c =
+    stays_open g.I.Iterator.next_gives _ _ c.args.closed c.in-Some.ensures.steps
+    c.in_ok-first.ensures.inserts c.into_iter-vertex-iterator.ensures.into_iter_gives
+    c.loop-vertex.yielded_by c.loop-vertex.invariant.path
+    c.in-None.ensures.steps (λ both. elim c.then-not-closed.branch as (λ _. ⊥) [
+      | then-not-closed-via-then-not-closed w ↦ both_ways _ both.0 w.if-not-closed.true
+      | then-not-closed-via-else-not-closed+then-eq w ↦
+          both.1 (eqb-true _ _ (sym w.eq.ensures ∙ w.if-eq.true))
+    ])
 
 pub returns-in_err-join_vertices-2-clause-adds : goal.returns-in_err-join_vertices-2-clause-adds
 returns-in_err-join_vertices-2-clause-adds g c =
     let p = err_from_is_err_and c.from_residual-in_err-join_vertices-2.result
     c.from_residual-in_err-join_vertices-2.ensures.1 in
-    rw (p.1, p.2) (
-      c.in-Some.start ∷ c.loop-vertex.yielded,
-      taken_so_far g.I.Iterator.next_gives _ _ _ _ c.in-Some.ensures.steps
-          c.into_iter-vertex-iterator.ensures.into_iter_gives _ _ c.loop-vertex.yielded_by,
-      cannot_close c.loop-vertex.invariant.path c.in_ok-first.ensures.inserts c.if-not-closed.false
-          (λ same. absurd (both_ways _ (c.eq.ensures ∙ eq-eqb _ _ same) c.if-eq.false))
-          c.in_err-join_vertices-2.ensures.joins,
-    )
+    rw (p.1, p.2) (cannot_close g.I.Iterator.next_gives _ _ c.args.closed c.in-Some.ensures.steps
+    c.in_ok-first.ensures.inserts c.into_iter-vertex-iterator.ensures.into_iter_gives
+    c.loop-vertex.yielded_by c.loop-vertex.invariant.path
+    c.if-not-closed.false
+    (λ same. absurd (both_ways _ (c.eq.ensures ∙ eq-eqb _ _ same) c.if-eq.false))
+    c.in_err-join_vertices-2.ensures.joins)
 
 pub returns-clause-adds : goal.returns-clause-adds
-returns-clause-adds g c = (
-  c.in-Some.start ∷ c.loop-vertex.yielded,
-  all_taken g.I.Iterator.next_gives _ _ _ _ c.in-Some.ensures.steps
-      c.into_iter-vertex-iterator.ensures.into_iter_gives _ _ c.loop-vertex.yielded_by _
-      c.in-None.ensures.steps,
-  closes c.loop-vertex.invariant.path c.in_ok-first.ensures.inserts c.if-not-closed.false
-      (λ same. absurd (both_ways _ (c.eq.ensures ∙ eq-eqb _ _ same) c.if-eq.false))
-      c.in_ok-join_vertices-2.ensures.joins,
-)
+returns-clause-adds g c =
+    closes g.I.Iterator.next_gives _ _ c.args.closed c.in-Some.ensures.steps
+    c.in_ok-first.ensures.inserts c.into_iter-vertex-iterator.ensures.into_iter_gives
+    c.loop-vertex.yielded_by c.loop-vertex.invariant.path
+    c.in-None.ensures.steps c.if-not-closed.false
+    (λ same. absurd (both_ways _ (c.eq.ensures ∙ eq-eqb _ _ same) c.if-eq.false))
+    c.in_ok-join_vertices-2.ensures.joins

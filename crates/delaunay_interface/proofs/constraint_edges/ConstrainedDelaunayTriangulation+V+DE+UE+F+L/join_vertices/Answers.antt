@@ -1,5 +1,5 @@
 use Rattle.std.proofs.Common.{refl}
-use Rattle.delaunay_interface.proofs.Kept.{held_of_same, vertices_after_trying}
+use Rattle.delaunay_interface.proofs.Kept.{held_after_trying}
 use Rattle.delaunay_interface.proofs.Stepping.{crossed_now, joined_now, lacks_memory}
 use Rattle.delaunay_interface.proofs.constraint_edges.ConstrainedDelaunayTriangulation+V+DE+UE+F+L.join_vertices.Goals.{in-Ok-Some, in-Ok-None, in-Err}
 use Rattle.delaunay_interface.proofs.constraint_edges.ConstrainedDelaunayTriangulation+V+DE+UE+F+L.join_vertices.Goals as goal
@@ -13,9 +13,8 @@ try_join-requires g c = record {
 
 pub invariant_of-self : goal.invariant_of-self
 invariant_of-self g c =
-    held_of_same g.V.HasPosition.place _ _ _ (vertices_after_trying g.V.HasPosition.place
-    c.self.inside.edited c.try_join.new.self _ _ c.try_join.result c.try_join.ensures.adds)
-    c.self.invariant
+    held_after_trying g.V.HasPosition.place c.self.inside.edited c.try_join.new.self _
+    c.self.invariant _ _ c.try_join.result c.try_join.ensures.adds
 
 pub returns-clause-joins : goal.returns-clause-joins
 returns-clause-joins g c =

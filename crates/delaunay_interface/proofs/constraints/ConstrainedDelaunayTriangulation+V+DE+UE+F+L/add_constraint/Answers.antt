@@ -1,4 +1,4 @@
-use Rattle.delaunay_interface.proofs.Kept.{held_of_same, vertices_after_trying}
+use Rattle.delaunay_interface.proofs.Kept.{held_after_trying}
 use Rattle.delaunay_interface.proofs.constraints.ConstrainedDelaunayTriangulation+V+DE+UE+F+L.add_constraint.Goals.{in-Ok-Some, in-Err}
 use Rattle.delaunay_interface.proofs.constraints.ConstrainedDelaunayTriangulation+V+DE+UE+F+L.add_constraint.Goals as goal
 
@@ -11,9 +11,8 @@ try_join-requires g c = record {
 
 pub invariant_of-self : goal.invariant_of-self
 invariant_of-self g c =
-    held_of_same g.V.HasPosition.place _ _ _ (vertices_after_trying g.V.HasPosition.place
-    c.self.inside.edited c.try_join.new.self _ _ c.try_join.result c.try_join.ensures.adds)
-    c.self.invariant
+    held_after_trying g.V.HasPosition.place c.self.inside.edited c.try_join.new.self _
+    c.self.invariant _ _ c.try_join.result c.try_join.ensures.adds
 
 pub unreachable-requires : goal.unreachable-requires
 unreachable-requires g c =

@@ -31,28 +31,20 @@ invariant_of-result-in-Err-2 g c =
     held_of_same g.V.HasPosition.place _ _ _ (ap (λ d. d.vertices) c.in-Err.ensures.refused
     ∙ ap (λ s. s.vertices) c.edited.view_is) c.plain.invariant
 
-pub returns-in-Ok-clause-ok : goal.returns-in-Ok-clause-ok
-returns-in-Ok-clause-ok g c = rw (← c.plain.view_is, ← c.edited.view_is)
-    (other_data_as _ IsFree (λ u e made. search rules) (state_of c.edited.inside.dcel)
-    (state_of c.in-Ok.dcel)
-    (other_data g.V.HasPosition.place _ none is_constraint constraint_edges (λ ds. refl)
-    (λ u e made. search rules) c.edited.inside.dcel c.in-Ok.dcel c.in-Ok.ensures.mapped))
-
-pub returns-in-Ok-clause-plain : goal.returns-in-Ok-clause-plain
-returns-in-Ok-clause-plain g c =
+pub returns-in-Ok : goal.returns-in-Ok
+returns-in-Ok g c =
     let at = g.V.HasPosition.place in
     let old = c.edited.inside.dcel in
     let new = c.in-Ok.dcel in
-    rw (← c.plain.view_is, ← c.edited.view_is) (unconstrained at (state_of old) (state_of new)
-    (other_data at _ none is_constraint constraint_edges (λ ds. refl) (λ u e made. search rules)
-    old new c.in-Ok.ensures.mapped)
-    (none_after at _ none is_constraint constraint_edges (λ ds. refl) (λ u e made. search rules)
-    old new c.in-Ok.ensures.mapped))
-
-pub returns-in-Ok-clause-headline : goal.returns-in-Ok-clause-headline
-returns-in-Ok-clause-headline g c =
-    is_delaunay g.V.HasPosition.place is_constraint constraint_edges (λ ds. refl)
-    (state_of c.in-Ok.dcel)
-    (legal_after g.V.HasPosition.place _ none is_constraint constraint_edges (λ ds. refl)
-    (λ u e made. search rules) c.edited.inside.dcel c.in-Ok.dcel c.in-Ok.ensures.mapped refl
-    c.edited.invariant.legal)
+    let other = other_data at _ none is_constraint constraint_edges (λ ds. refl)
+    (λ u e made. search rules) old new c.in-Ok.ensures.mapped in
+    rw (← c.plain.view_is, ← c.edited.view_is) (record {
+      ok = other_data_as _ IsFree (λ u e made. search rules) (state_of old) (state_of new) other;
+      plain = unconstrained at (state_of old) (state_of new) other
+          (none_after at _ none is_constraint constraint_edges (λ ds. refl)
+          (λ u e made. search rules) old new c.in-Ok.ensures.mapped);
+      headline = is_delaunay at is_constraint constraint_edges (λ ds. refl) (state_of new)
+          (legal_after at _ none is_constraint constraint_edges (λ ds. refl)
+          (λ u e made. search rules) old new c.in-Ok.ensures.mapped refl c.edited.invariant.legal);
+      err = tt;
+    })

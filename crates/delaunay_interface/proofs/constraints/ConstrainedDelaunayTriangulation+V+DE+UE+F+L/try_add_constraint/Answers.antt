@@ -8,7 +8,7 @@ use Rattle.delaunay_edit.proofs.delaunay_paths_lemmas.OnePiece.{joined_is_free}
 use Rattle.delaunay_edit.specs.Constrained.{constraint_edges}
 use Rattle.delaunay_edit.proofs.EditingConstraints.{none_listed}
 use Rattle.delaunay_edit.proofs.OnePieceAdded.{list_renamed}
-use Rattle.delaunay_interface.proofs.Kept.{held_of_same, vertices_after_path}
+use Rattle.delaunay_interface.proofs.Kept.{held_after_path}
 use Rattle.delaunay_interface.proofs.constraints.ConstrainedDelaunayTriangulation+V+DE+UE+F+L.try_add_constraint.Goals as goal
 
 pub returns-then-eq-clause-path : goal.returns-then-eq-clause-path
@@ -21,10 +21,9 @@ constrain_alone-requires g c = rw (← c.mesh-mesh.ensures) c.in-Some.ensures.so
 
 pub invariant_of-self : goal.invariant_of-self
 invariant_of-self g c =
-    held_of_same g.V.HasPosition.place _ _ _ (vertices_after_path g.V.HasPosition.place
-    c.self.inside.edited c.constrain_alone.new.self _ _ (λ edges. edges.items)
-    c.constrain_alone.result c.constrain_alone.ensures.path c.constrain_alone.ensures.err)
-    c.self.invariant
+    held_after_path g.V.HasPosition.place c.self.inside.edited c.constrain_alone.new.self _
+    c.self.invariant _ _ (λ edges. edges.items) c.constrain_alone.result c.constrain_alone.ensures.path
+    c.constrain_alone.ensures.err
 
 pub returns-in-Some-clause-path : goal.returns-in-Some-clause-path
 returns-in-Some-clause-path g c =
@@ -68,10 +67,9 @@ add_listed_path-requires-clause-free g c =
 
 pub invariant_of-self-2 : goal.invariant_of-self-2
 invariant_of-self-2 g c =
-    held_of_same g.V.HasPosition.place _ _ _ (vertices_after_path g.V.HasPosition.place
-    c.self.inside.edited c.add_listed_path.new.self _ _ (λ edges. edges.items)
-    c.add_listed_path.result c.add_listed_path.ensures.path c.add_listed_path.ensures.err)
-    c.self.invariant
+    held_after_path g.V.HasPosition.place c.self.inside.edited c.add_listed_path.new.self _
+    c.self.invariant _ _ (λ edges. edges.items) c.add_listed_path.result c.add_listed_path.ensures.path
+    c.add_listed_path.ensures.err
 
 pub returns-clause-none : goal.returns-clause-none
 returns-clause-none g c = λ barred. absurd (elim barred as (λ _. ⊥) [
