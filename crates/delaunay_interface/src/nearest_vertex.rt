@@ -51,7 +51,7 @@ impl<V: HasPosition, DE, UE, F, L: HintGenerator<V::Scalar>> DelaunayTriangulati
             v.index) }
     {
         self.edited.recall_invariant();
-        let mesh = self.edited.mesh();
+        let mesh = self.mesh();
         let count = mesh.num_vertices();
         if count == 0 {
             return None;

@@ -13,9 +13,12 @@ returns g c = (
       let within = (c.recall_invariant.ensures.plain.pairs c.args.from c.args.to
       (rw (← c.self.view_is) at j)).0 in
       let below = rw (c.self.view_is, ← c.mesh-mesh.ensures.state) at within in
-      let not = c.if-index-num_vertices.false in
-      let index = c.index.ensures in
-      let count = c.num_vertices.ensures.value in
-      omega (arith, below, not, index, count)
+      omega (
+        arith,
+        below,
+        c.if-index-num_vertices.false,
+        c.index.ensures,
+        c.num_vertices.ensures.value,
+      )
       )),
 )

@@ -47,5 +47,4 @@ returns-then-not-is_constraint_edge-clause-headline g c =
 
 pub returns-in_err-release-clause-headline : goal.returns-in_err-release-clause-headline
 returns-in_err-release-clause-headline g c =
-    subst (IsDelaunay g.V.HasPosition.place constraint_edges) (sym c.in_err-release.ensures.err)
-    c.recall_invariant.ensures.headline
+    rw c.in_err-release.ensures.err c.recall_invariant.ensures.headline

@@ -22,8 +22,8 @@ constrain_alone-requires g c = rw (← c.mesh-mesh.ensures) c.in-Some.ensures.so
 pub invariant_of-self : goal.invariant_of-self
 invariant_of-self g c =
     held_after_path g.V.HasPosition.place c.self.inside.edited c.constrain_alone.new.self _
-    c.self.invariant _ _ (λ edges. edges.items) c.constrain_alone.result c.constrain_alone.ensures.path
-    c.constrain_alone.ensures.err
+    c.self.invariant _ _ (λ edges. edges.items) c.constrain_alone.result
+    c.constrain_alone.ensures.path c.constrain_alone.ensures.err
 
 pub returns-in-Some-clause-path : goal.returns-in-Some-clause-path
 returns-in-Some-clause-path g c =
@@ -68,8 +68,8 @@ add_listed_path-requires-clause-free g c =
 pub invariant_of-self-2 : goal.invariant_of-self-2
 invariant_of-self-2 g c =
     held_after_path g.V.HasPosition.place c.self.inside.edited c.add_listed_path.new.self _
-    c.self.invariant _ _ (λ edges. edges.items) c.add_listed_path.result c.add_listed_path.ensures.path
-    c.add_listed_path.ensures.err
+    c.self.invariant _ _ (λ edges. edges.items) c.add_listed_path.result
+    c.add_listed_path.ensures.path c.add_listed_path.ensures.err
 
 pub returns-clause-none : goal.returns-clause-none
 returns-clause-none g c = λ barred. absurd (elim barred as (λ _. ⊥) [

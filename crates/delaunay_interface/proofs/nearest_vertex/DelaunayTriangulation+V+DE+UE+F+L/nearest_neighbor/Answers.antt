@@ -1,22 +1,14 @@
 use Rattle.std.proofs.Common.{[], sym, subst, ap, ◌∙◌, arith}
 use Rattle.std.proofs.lemmas.List.{length-map}
 use Rattle.delaunay_edit.specs.plane.Delaunay.{IsConstrainedDelaunay}
-use Rattle.delaunay_edit.specs.delaunay_legalization.Shape.{IsTriangulated}
 use Rattle.delaunay_edit.specs.delaunay_legalization.State.{state_of, triangulation_of}
 use Rattle.delaunay_interface.proofs.nearest_vertex.DelaunayTriangulation+V+DE+UE+F+L.nearest_neighbor.Goals as goal
-
-pub nearest_by_neighbors-nearest-requires-clause-kept :
-    goal.nearest_by_neighbors-nearest-requires-clause-kept
-nearest_by_neighbors-nearest-requires-clause-kept g c =
-    subst (IsTriangulated g.V.HasPosition.place)
-    (sym c.mesh-mesh.ensures) c.recall_invariant.ensures.kept
 
 pub nearest_by_neighbors-nearest-requires-clause-delaunay :
     goal.nearest_by_neighbors-nearest-requires-clause-delaunay
 nearest_by_neighbors-nearest-requires-clause-delaunay g c =
     subst (λ s. IsConstrainedDelaunay (triangulation_of g.V.HasPosition.place s) [])
-    (sym c.mesh-mesh.ensures)
-    c.recall_invariant.ensures.headline.delaunay
+    (c.self.view_is ∙ sym c.mesh-mesh.ensures.state) c.recall_invariant.ensures.headline.delaunay
 
 pub nearest_by_neighbors-nearest-requires-clause-within :
     goal.nearest_by_neighbors-nearest-requires-clause-within
@@ -37,6 +29,6 @@ vertex-requires g c =
 pub returns : goal.returns
 returns g c =
     rw c.vertex.ensures.index (
-      ap (λ m. state_of m.now) c.vertex.ensures.dcel ∙ c.mesh-mesh.ensures ∙ c.self.view_is,
-      rw (← c.self.view_is, ← c.mesh-mesh.ensures) c.nearest_by_neighbors-nearest.ensures.nearest,
+      ap (λ m. state_of m.now) c.vertex.ensures.dcel ∙ c.mesh-mesh.ensures.state,
+      rw (← c.mesh-mesh.ensures.state) c.nearest_by_neighbors-nearest.ensures.nearest,
     )

@@ -4,8 +4,11 @@ use Rattle.delaunay_interface.proofs.triangulation.Triangulation.num_directed_ed
 
 pub returns-clause-value : goal.returns-clause-value
 returns-clause-value g c =
-    let count = count_of_edges _ _ c.recall_invariant.ensures.kept in
-    let pairs = c.recall_invariant.ensures.kept.fits.undirected_fit in
-    let directed = c.recall_invariant.ensures.kept.fits.directed_fit in
-    let value = c.num_directed_edges.ensures.value ∙ ap (λ s. length s.directed) c.s.ensures in
-    omega (arith, count, pairs, directed, value)
+    let kept = c.recall_invariant.ensures.kept in
+    omega (
+      arith,
+      count_of_edges _ _ kept,
+      kept.fits.undirected_fit,
+      kept.fits.directed_fit,
+      c.num_directed_edges.ensures.value ∙ ap (λ s. length s.directed) c.s.ensures,
+    )
