@@ -1,7 +1,7 @@
 -- Where the middle of a straight constraint went, the far ends of its halves can be joined, and no
 -- edge beside it crosses the segment between them.
--- Lemmas: points_apart, joined_in, joined_apart, plain_before, one_less, placed, can_join, free_way,
--- not_joined, none_crosses.
+-- Lemmas: points_apart, joined_in, joined_apart, plain_before, one_less, placed, can_join,
+-- free_way, not_joined, none_crosses.
 use Rattle.std.proofs.Common.{◌≡◌, ◌≢◌, ◌-◌, ◌<◌, ◌∙◌}
 use Rattle.std.proofs.Common.{ℕ, Bool, List, length, map, refl, sym, ap, subst, arith}
 use Rattle.std.specs.Prelude.{swap_remove}

@@ -1,7 +1,8 @@
 -- What layers hold after one of them changed, and after one was added or dropped.
 -- Notions: AllBefore, IsVacantBelow; all_from_each, all_with, nothing_contained, all_before_next,
--- sites_with, or_with, sites_or, with_then_with, all_from_held, held_from_all, held_at, held_after_set, held_since,
--- sites_at, vacant_if_all, vacant_one_more, held_in_first, pushed_within.
+-- sites_with, or_with, sites_or, with_then_with, all_from_held, held_from_all, held_at,
+-- held_after_set, held_since, sites_at, vacant_if_all, vacant_one_more, held_in_first,
+-- pushed_within.
 use Rattle.std.proofs.Common.{
   ◌≡◌,
   ◌∙◌,
@@ -144,8 +145,8 @@ module _ {L : Type 0} (positions_of : L → List Point) where
 
   -- the positions of a layer that is read are sites where all that is held is
   pub sites_at : (sites : Point → Type 0) (layers : List L) (i : ℕ) (layer : L)
-      → layer ≡ get_or layers i layer → i < length layers → IsAtMost sites (IsInSome positions_of layers)
-      → All sites (positions_of layer)
+      → layer ≡ get_or layers i layer → i < length layers
+      → IsAtMost sites (IsInSome positions_of layers) → All sites (positions_of layer)
   sites_at sites layers i layer here below held =
       all_from_each sites (positions_of layer)
       (λ p at. held p (held_at layers i layer here below p at))

@@ -1,5 +1,4 @@
-use Rattle.std.proofs.Common.{◌≡◌, ◌∙◌, length, Some, subst, arith}
-use Rattle.std.specs.Prelude.{slice_get}
+use Rattle.std.proofs.Common.{◌≡◌, ◌∙◌, length, arith}
 use Rattle.std.proofs.lemmas.List.{length-map}
 use Rattle.std.proofs.lemmas.Grind.{common_steps}
 use Rattle.delaunay_interface.specs.delaunay_core.Place.{place_of}
@@ -11,8 +10,7 @@ loop-index-preserved g c =
     filtered_next (place_of g.S.SpadeNum.whole) c.args.triangulation.now.vertices c.loop-index.index
     c.data.result.now c.loop-index.filter c.add.new.self
     (rw (← c.vertex-vertex.ensures.state)
-    (subst (λ n. slice_get c.vertex-vertex.result.dcel.now.vertices n ≡ Some c.data.result.now)
-    (c.vertex-vertex.ensures.index ∙ c.from_index.ensures) c.data.ensures))
+    (rw (c.vertex-vertex.ensures.index ∙ c.from_index.ensures) at c.data.ensures))
     c.add.ensures.has c.add.ensures.others c.loop-index.invariant
 
 pub returns : goal.returns

@@ -5,6 +5,5 @@ use Rattle.hint_hierarchy.proofs.hierarchy.HierarchyHintGeneratorWithBranchFacto
 
 pub returns-then-is_idle : goal.returns-then-is_idle
 returns-then-is_idle g c =
-    held_in_first (positions g.S.SpadeNum.whole)
-    (c.len-layers.result - 1) c.args.self.now.layers.items
-    c.truncate.new.self.items c.truncate.ensures.items
+    held_in_first (positions g.S.SpadeNum.whole) (c.len-layers.result - 1) _ _
+    c.truncate.ensures.items

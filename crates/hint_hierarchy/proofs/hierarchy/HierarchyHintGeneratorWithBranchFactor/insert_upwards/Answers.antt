@@ -7,7 +7,8 @@ use Rattle.hint_hierarchy.proofs.hierarchy.HierarchyHintGeneratorWithBranchFacto
 pub insert-requires-clause-sites : goal.insert-requires-clause-sites
 insert-requires-clause-sites g c =
     sites_at (positions g.S.SpadeNum.whole) _ _ _ _ c.index_mut.ensures.value
-    (grind (arith, common_steps)) (sites_with _ _ _ _ c.requires.held c.requires.site c.loop-level.invariant.more)
+    (grind (arith, common_steps))
+    (sites_with _ _ _ _ c.requires.held c.requires.site c.loop-level.invariant.more)
 
 pub loop-level-preserved : goal.loop-level-preserved
 loop-level-preserved g c = record {

@@ -7,7 +7,8 @@ use Rattle.hint_hierarchy.proofs.hierarchy.HierarchyHintGeneratorWithBranchFacto
 pub remove_from_layer-requires-clause-sites : goal.remove_from_layer-requires-clause-sites
 remove_from_layer-requires-clause-sites g c =
     sites_at (positions g.S.SpadeNum.whole) _ _ _ _ c.index_mut.ensures.value
-    (grind (arith, common_steps)) (sites_or _ _ _ _ c.requires.held c.requires.swapped_site c.loop-level.invariant.more)
+    (grind (arith, common_steps))
+    (sites_or _ _ _ _ c.requires.held c.requires.swapped_site c.loop-level.invariant.more)
 
 pub loop-level-preserved : goal.loop-level-preserved
 loop-level-preserved g c = record {

@@ -1,4 +1,4 @@
-use Rattle.std.proofs.Common.{inl, inr, refl}
+use Rattle.std.proofs.Common.{inl}
 use Rattle.delaunay_interface.specs.delaunay_core.Place.{place_of}
 use Rattle.delaunay_interface.proofs.Held.{was_listed}
 use Rattle.hint_hierarchy.proofs.layer.Layer.first_position.Goals as goal
@@ -8,6 +8,3 @@ returns-in-Some g c =
     let vertex = c.in-Some.vertex in
     inl (rw (← c.self.view_is, ← c.in-Some.ensures.0) (was_listed (place_of g.S.SpadeNum.whole)
     vertex.dcel.now.vertices vertex.index c.data.result.now c.data.ensures))
-
-pub returns-in-None : goal.returns-in-None
-returns-in-None g c = inr refl
