@@ -138,6 +138,7 @@ impl<'a, V: HasPosition, DE, UE, F, P: PlaneTests<V::Scalar>> Segment<'a, V, DE,
     }
 
     // The side of the vertex where it ends.
+    #[inline(always)]
     pub(crate) fn side_of_end(&self, edge: FixedDirectedEdgeHandle) -> LineSideInfo
         requires { edge < length self.now.dcel.directed }
         ensures { let points = map V.place self.now.dcel.vertices in

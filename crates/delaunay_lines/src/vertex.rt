@@ -70,6 +70,7 @@ impl<'a, V: HasPosition, DE, UE, F, P: PlaneTests<V::Scalar>> Segment<'a, V, DE,
     }
 
     // Whether a segment ends at a vertex.
+    #[inline(always)]
     fn ends_at(&self, vertex: FixedVertexHandle) -> bool
         requires { vertex < length self.now.dcel.vertices }
         ensures { IsTrue result ↔

@@ -7,6 +7,7 @@ use delaunay_legalization::half_edge_mesh::{
 };
 
 // The vertex where an edge starts.
+#[inline(always)]
 pub(crate) fn start_vertex<V, DE, UE, F>(
     dcel: &Dcel<V, DE, UE, F>,
     edge: FixedDirectedEdgeHandle,
@@ -44,6 +45,7 @@ pub(crate) fn end_vertex<V, DE, UE, F>(
 }
 
 // The next edge clockwise round the vertex where an edge starts.
+#[inline(always)]
 pub(crate) fn edge_clockwise<V, DE, UE, F>(
     dcel: &Dcel<V, DE, UE, F>,
     edge: FixedDirectedEdgeHandle,
@@ -56,6 +58,7 @@ pub(crate) fn edge_clockwise<V, DE, UE, F>(
 }
 
 // The next edge counterclockwise round it.
+#[inline(always)]
 pub(crate) fn edge_counterclockwise<V, DE, UE, F>(
     dcel: &Dcel<V, DE, UE, F>,
     edge: FixedDirectedEdgeHandle,

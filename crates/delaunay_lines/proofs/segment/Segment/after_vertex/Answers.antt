@@ -9,9 +9,6 @@ returns-then-ends_at g c =
     last_at_end (over_value c.self.view_is c.self.invariant) c.requires.apart c.args.vertex
     c.requires.met (c.ends_at.ensures.0 c.if-ends_at.true)
 
-pub edge_towards-requires-clause-apart : goal.edge_towards-requires-clause-apart
-edge_towards-requires-clause-apart g c = unless c.ends_at.ensures c.if-ends_at.false
-
 pub is_edge_ahead-requires-clause-starts_apart : goal.is_edge_ahead-requires-clause-starts_apart
 is_edge_ahead-requires-clause-starts_apart g c =
     rw c.in-Some.ensures.1 (unless c.ends_at.ensures c.if-ends_at.false)

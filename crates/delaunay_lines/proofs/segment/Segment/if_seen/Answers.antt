@@ -2,11 +2,6 @@ use Rattle.std.proofs.Common.{refl}
 use Rattle.delaunay_lines.proofs.SegmentTests.{unless}
 use Rattle.delaunay_lines.proofs.segment.Segment.if_seen.Goals as goal
 
-pub returns-then-is_on_left_side : goal.returns-then-is_on_left_side
-returns-then-is_on_left_side g c =
-    let left = rw c.side_of_from.ensures at c.is_on_left_side.ensures in
-    (refl, left.0 c.if-is_on_left_side.true)
-
 pub returns : goal.returns
 returns g c = unless (rw c.side_of_from.ensures at c.is_on_left_side.ensures)
     c.if-is_on_left_side.false

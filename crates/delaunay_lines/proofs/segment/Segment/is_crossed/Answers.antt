@@ -1,9 +1,5 @@
 use Rattle.delaunay_lines.proofs.SegmentTests.{if_both, if_not_first}
 use Rattle.delaunay_lines.proofs.segment.Segment.is_crossed.Goals as goal
 
-pub returns-then-goes_right : goal.returns-then-goes_right
-returns-then-goes_right g c =
-    if_both c.goes_right.ensures c.if-goes_right.true c.has_ends_on_sides.ensures
-
 pub returns-else-goes_right : goal.returns-else-goes_right
 returns-else-goes_right g c = if_not_first c.goes_right.ensures c.if-goes_right.false

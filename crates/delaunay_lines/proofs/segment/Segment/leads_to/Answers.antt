@@ -2,10 +2,6 @@ use Rattle.std.proofs.Common.{rules, inl, inr}
 use Rattle.delaunay_location.proofs.delaunay_legalization_lemmas.Questions.{both_ways}
 use Rattle.delaunay_lines.proofs.segment.Segment.leads_to.Goals as goal
 
-pub returns-then-is_edge_ahead : goal.returns-then-is_edge_ahead
-returns-then-is_edge_ahead g c =
-    ((λ t. inl (c.is_edge_ahead.ensures.0 c.if-is_edge_ahead.true)), (λ x. search rules))
-
 pub returns-else-is_edge_ahead : goal.returns-else-is_edge_ahead
 returns-else-is_edge_ahead g c = (
   (λ t. inr (c.is_in_cone.ensures.0 t)),
