@@ -1,10 +1,12 @@
-//! Insertions, of which the hint generator is told.
-ghost use Rattle.std.specs.Prelude.{◌+◌, ◌≤◌, length};
+//! The triangulation to begin with, and insertions, of which the hint generator is told.
+ghost use Rattle.std.specs.Prelude.{◌≡◌, ◌+◌, ◌≤◌, length};
 ghost use Rattle.delaunay_edit.specs.half_edge_links.declared.room.TheConstants.{MAX_ELEMENTS};
 ghost use Rattle.delaunay_edit.specs.plane.Tests.{InRange};
 ghost use Rattle.delaunay_edit.specs.delaunay_legalization.Flips.{CountsFlips, FlipsFit};
+ghost use Rattle.delaunay_edit.specs.delaunay_legalization.State.{state_of};
 ghost use Rattle.delaunay_edit.specs.Edits.{AreSitesWith, InsertsVertex};
 ghost use Rattle.delaunay_edit.specs.Headline.{AreSites, IsDelaunay};
+ghost use Rattle.delaunay_edit.specs.Storage.{IsEmptyState};
 
 use crate::triangulation_core::TriangulationCore;
 use delaunay_edit::delaunay_core::HintGenerator;
@@ -12,8 +14,9 @@ use delaunay_edit::delaunay_core::math::{InsertionError, PlaneTests, validate_ve
 use delaunay_edit::delaunay_core::point::HasPosition;
 use delaunay_edit::delaunay_insertion::FreeByDefault;
 use delaunay_edit::delaunay_lines::HasMesh;
-use delaunay_edit::half_edge_mesh::FixedVertexHandle;
-use delaunay_edit::{EdgeData, Entry};
+use delaunay_edit::half_edge_mesh::{Dcel, FixedVertexHandle};
+use delaunay_edit::{EdgeData, EditedMesh, Entry};
+use std::alloc::Global;
 
 impl<
     V: HasPosition + Drop,
@@ -23,6 +26,19 @@ impl<
     L: HintGenerator<V::Scalar>,
     M: EdgeData<UE> + FreeByDefault<UE>,
 > TriangulationCore<V, DE, UE, F, L, M> {
+    // The triangulation of a mesh with nothing but its outer face.
+    pub(crate) fn of_empty(dcel: Dcel<V, DE, UE, F>, alloc: Global) -> Self
+        requires { IsEmptyState F.is_default (state_of dcel) }
+        ensures state { result ≡ state_of dcel }
+        ensures headline { IsDelaunay V.place M.constraints result }
+    {
+        TriangulationCore {
+            edited: EditedMesh::of_mesh(dcel, 0, alloc),
+            hint_generator: L::new(alloc),
+            alloc,
+        }
+    }
+
     // Where the generator says that a search for a vertex begins, or vertex 0 where the vertex is
     // out of range.
     pub(crate) fn hint_for<P: PlaneTests<V::Scalar>>(

@@ -741,9 +741,10 @@ pub trait Triangulation: Drop
             (state self.new) }
     {
         self.recall_invariant();
-        match self.locate(point, tests) {
-            PositionInTriangulation::OnVertex(vertex) => Ok(Some(self.remove(vertex, tests)?)),
-            _ => Ok(None),
-        }
+        let Some(vertex) = self.locate_vertex(point, tests) else {
+            return Ok(None);
+        };
+        let vertex = vertex.fix();
+        Ok(Some(self.remove(vertex, tests)?))
     }
 }

@@ -2,9 +2,8 @@
 ghost use Rattle.std.specs.Prelude.{◌≡◌, IfOk};
 ghost use Rattle.delaunay_edit.specs.delaunay_core.Place.{place_of};
 ghost use Rattle.delaunay_edit.specs.delaunay_legalization.Constraints.{constraints_by};
-ghost use Rattle.delaunay_edit.specs.delaunay_legalization.State.{state_of};
 ghost use Rattle.delaunay_edit.specs.Headline.{AreSites, IsDelaunay};
-ghost use Rattle.delaunay_edit.specs.Storage.{IsCopy, IsEmptyState, KeepsImage};
+ghost use Rattle.delaunay_edit.specs.Storage.{IsCopy, KeepsImage};
 
 use delaunay_edit::delaunay_core::math::PlaneTests;
 use delaunay_edit::delaunay_core::point::{HasPosition, Point2};
@@ -48,30 +47,6 @@ impl<V: HasPosition, DE, UE, F, L: HintGenerator<V::Scalar>, M: EdgeData<UE>> Mo
     // What the generator holds are positions of vertices.
     ghost invariant = { λ c.
         IsAtMostOf (L.holds c.hint_generator) (map V.place c.edited.vertices) };
-}
-
-impl<V: HasPosition, DE, UE, F, L: HintGenerator<V::Scalar>, M: EdgeData<UE>> TriangulationCore<
-    V,
-    DE,
-    UE,
-    F,
-    L,
-    M,
-> {
-    // The triangulation of a mesh with nothing but its outer face.
-    pub(crate) fn of_empty(dcel: Dcel<V, DE, UE, F>, alloc: Global) -> Self
-    where
-        F: Default,
-        requires { IsEmptyState F.is_default (state_of dcel) }
-        ensures state { result ≡ state_of dcel }
-        ensures headline { IsDelaunay V.place M.constraints result }
-    {
-        TriangulationCore {
-            edited: EditedMesh::of_mesh(dcel, 0, alloc),
-            hint_generator: L::new(alloc),
-            alloc,
-        }
-    }
 }
 
 impl<

@@ -9,10 +9,6 @@ use Rattle.delaunay_edit.proofs.plane_delaunay.Tilings.Ground.{tiling}
 use Rattle.delaunay_interface.specs.Views.{AreOnLine}
 use Rattle.delaunay_interface.proofs.triangulation.Triangulation.all_vertices_on_line.Goals as goal
 
--- no side is two
-not_both : left ≡ on → ⊥
-not_both e = cc
-
 -- all vertices are on one line where there is no face, and nowhere else
 line_by_faces : (t : Triangulation) → IsTiling t → (n : ℕ) → n ≡ length t.faces
     → IsTrue (eqb n 0) ↔ AreOnLine t
@@ -22,7 +18,7 @@ line_by_faces t (inl tiles) n count =
     let f = tiles.covering (vertex t s.0) ((tiling t tiles).vertex_in_hull s.0 s.3) in (
       (λ zero. absurd
           (no_face t (nil_from_length t.faces (sym count ∙ eqb-true n 0 zero)) f.0 f.1 f.2 f.3)),
-      (λ line. absurd (not_both (sym s.6 ∙ line s.0 s.1 s.2 s.3 s.4 s.5))),
+      (λ line. let e : left ≡ on = sym s.6 ∙ line s.0 s.1 s.2 s.3 s.4 s.5 in cc),
     )
 line_by_faces t (inr line) n count = (
   (λ _. line.straight),

@@ -25,15 +25,17 @@ get_hint-hint-requires-clause-covered g c =
 pub edges_in_shape-requires : goal.edges_in_shape-requires
 edges_in_shape-requires g c =
     let whole = g.Self.Vertex.Scalar.SpadeNum.whole in
-    rw (c.new-rectangle.ensures.lower, c.new-rectangle.ensures.upper) (record {
+    record {
       kept = kept_in_mesh _ _ c.s.result c.s.ensures c.recall_invariant.ensures.kept;
       sites = sites_in_mesh _ _ c.s.result c.s.ensures (g.P.PlaneTests.sites c.args.tests.now)
           c.recall_invariant.ensures.kept c.requires.sites;
-      own_covered = c.requires.covered;
+      own_covered = rw (c.new-rectangle.ensures.lower, c.new-rectangle.ensures.upper)
+          c.requires.covered;
       start_covered = lower_corner (g.P.PlaneTests.covered c.args.tests.now)
           (place_of whole c.args.lower) (place_of whole c.args.upper) c.requires.covered;
-      begins = rectangle_begins (place_of whole c.args.lower) (place_of whole c.args.upper);
-    })
+      begins = rw (c.new-rectangle.ensures.lower, c.new-rectangle.ensures.upper)
+          (rectangle_begins (place_of whole c.args.lower) (place_of whole c.args.upper));
+    }
 
 pub returns : goal.returns
 returns g c =
