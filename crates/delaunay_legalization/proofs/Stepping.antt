@@ -156,8 +156,8 @@ module _ {V D U F : Type 0} {sides : Sides} {at : V → Point} {fix : List U →
       steps_go_on {after = after} {more = more} {room_after = room_after}
           {flips_after = flips_after} contents constraints step stays = record {
             underway =
-                step_kept at fix was now all room_was room start flips u.underway ks k popped after more
-                room_after flips_after contents constraints step.legal stays;
+                step_kept at fix was now all room_was room start flips u.underway ks k popped after
+                more room_after flips_after contents constraints step.legal stays;
             suffice = subst (λ ps. Suffice sides ps after.mesh) same_points step.suffice;
           }
 

@@ -91,9 +91,9 @@ pub fn ccw_edge<V, DE, UE, F>(
     dcel.directed_edge(edge).ccw().fix()
 }
 
-/// The edge after an edge in its loop.
+// The edge after an edge in its loop.
 #[inline(always)]
-pub fn edge_after<V, DE, UE, F>(
+pub(crate) fn edge_after<V, DE, UE, F>(
     dcel: &Dcel<V, DE, UE, F>,
     edge: FixedDirectedEdgeHandle,
 ) -> FixedDirectedEdgeHandle

@@ -25,8 +25,8 @@ pub use constraint_marker::{ConstraintMarker, NoConstraints};
 pub use among::legalize_list;
 pub use edge_set::EdgeSet;
 pub use legalization::{
-    ccw_edge, edge_after, end_of, is_constraint_edge, is_outer, legalize, position_of, push_side,
-    push_sides, start_before, start_of,
+    ccw_edge, end_of, is_constraint_edge, is_outer, legalize, position_of, push_side, push_sides,
+    start_before, start_of,
 };
 pub use marking::{free_edge, make_constraint};
 pub use placed::Placed;
