@@ -42,10 +42,10 @@ not_below : (k i : ℕ) → k ≡ i → k < i → ⊥
 not_below k i e h = omega (arith, e, h)
 
 -- a filter that comes to a number inside has found this one, too
-pub filter_finds : (Inside : ℕ → Type 0) (i k : ℕ) (found found' : List ℕ)
+pub filter_finds : {Inside : ℕ → Type 0} {i k : ℕ} {found found' : List ℕ}
     → IsFilteredTo Inside i found → k ≡ i → Inside k → found' ≡ found ++ k ∷ []
     → IsFilteredTo Inside (i + 1) found'
-filter_finds Inside i k found found' f is inside grown =
+filter_finds {Inside = Inside} {i = i} {k = k} {found = found} f is inside grown =
     subst (IsFilteredTo Inside (i + 1)) (sym grown)
     (record {
       once = once_after found k f.once (λ c. not_below k i is ((f.exact k).0 c).0);
@@ -66,9 +66,10 @@ filter_finds Inside i k found found' f is inside grown =
     ]
 
 -- a filter that comes to a number outside has found what it had
-pub filter_passes : (Inside : ℕ → Type 0) (i k : ℕ) (found : List ℕ) → IsFilteredTo Inside i found
+pub filter_passes : {Inside : ℕ → Type 0} {i k : ℕ} {found : List ℕ} → IsFilteredTo Inside i found
     → k ≡ i → ¬ Inside k → IsFilteredTo Inside (i + 1) found
-filter_passes Inside i k found f is out = record { once = f.once; exact = λ j. (there j, back j) }
+filter_passes {Inside = Inside} {i = i} {k = k} {found = found} f is out =
+    record { once = f.once; exact = λ j. (there j, back j) }
   where
     there : (j : ℕ) → Contains found j → (j < i + 1) × Inside j
     there j c = (below_more j i ((f.exact j).0 c).0, ((f.exact j).0 c).1)
@@ -102,9 +103,10 @@ pub rev_half : (h : ℕ) → rev h / 2 ≡ h / 2
 rev_half h = grind (arith, common_steps)
 
 -- with one more directed edge there is its undirected edge more
-pub undirected_more : (found found' : List ℕ) (h k : ℕ) → found' ≡ found ++ h ∷ [] → h / 2 ≡ k
+pub undirected_more : (found : List ℕ) {found' : List ℕ} (h : ℕ) {k : ℕ} → found' ≡ found ++ h ∷ []
+    → h / 2 ≡ k
     → undirected_of found' ≡ undirected_of found ++ k ∷ []
-undirected_more found found' h k grown e = ap undirected_of grown
+undirected_more found h grown e = ap undirected_of grown
     ∙ map-append (λ (x : ℕ). x / 2) found (h ∷ [])
     ∙ ap (λ (x : ℕ). undirected_of found ++ x ∷ []) e
 
@@ -160,7 +162,7 @@ module _ (Inside : ℕ → Type 0) (count : ℕ) where
       (subst (λ xs. Asks Inside count asked (set asked (h / 2) true) found xs h) (sym grown)
       (record {
         flooding = subst (IsFlooding Inside count (set asked (h / 2) true))
-            (sym (undirected_more found (found ++ rev h ∷ []) (rev h) (h / 2) refl (rev_half h)))
+            (sym (undirected_more found {found' = found ++ rev h ∷ []} (rev h) refl (rev_half h)))
             (with_inside asked (undirected_of found) (h / 2) f w new inside);
         on = record {
           kept = λ j c. marks_more asked (h / 2) j here c;

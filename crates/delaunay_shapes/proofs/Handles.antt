@@ -1,7 +1,7 @@
 -- What a handle tells, of the mesh and the index that it has.
--- Lemmas: start_is, end_is, vertex_covered, start_covered, end_covered, edge_told, vertex_told,
--- after_is, before_is, ends_told, filtered_within, filtered_directed, filtered_edges,
--- filtered_vertices, not_asked, marked_by, vertices_within, found_fits.
+-- Lemmas: origin_is, start_is, end_is, vertex_covered, start_covered, end_covered, edge_told,
+-- vertex_told, start_told, after_is, before_is, ends_told, filtered_within, filtered_directed,
+-- filtered_edges, filtered_vertices, not_asked, marked_by, vertices_within, found_fits.
 use Rattle.std.proofs.Common.{◌≡◌, ◌↔◌, ◌*◌, ◌/◌, ◌<◌, ◌≤◌, ◌∙◌}
 use Rattle.std.proofs.Common.{ℕ, List, length, map, get_or, set, sym, ap, subst, arith}
 use mathlib.Core.Bool.{Bool, true, false}
@@ -24,38 +24,41 @@ use Rattle.delaunay_shapes.proofs.Asking.{IsFilteredTo}
 double_below : (k n b : ℕ) → 2 * n ≡ b → k < n → (2 * k) < b
 double_below k n b e h = omega (arith, e, h)
 
-module _ {V D U F : Type 0} (place : V → Point) (d : Bor (Contents V D U F)) where
-  -- the start and the end of a directed edge
-  pub start_is : (e v : Bor (Contents V D U F)) (h i j : ℕ) (p : Point) → e ≡ d → i ≡ h → v ≡ e →
+module _ {V D U F : Type 0} (place : V → Point) {d : Bor (Contents V D U F)} where
+  -- the vertex where a directed edge starts, by handles, is that in the mesh
+  pub origin_is : {e : Bor (Contents V D U F)} {h i j : ℕ} → e ≡ d → i ≡ h
+      → j ≡ origin e.now.mesh i → j ≡ origin d.now.mesh h
+  origin_is same index starts = starts ∙ (λ t. origin (same t).now.mesh (index t))
+
+  -- so are the points of its start and its end
+  pub start_is : {e v : Bor (Contents V D U F)} {h i j : ℕ} {p : Point} → e ≡ d → i ≡ h → v ≡ e →
       j ≡ origin e.now.mesh i → p ≡ point_at (map place v.now.vertices) j →
       p ≡ point_at (map place d.now.vertices) (origin d.now.mesh h)
-  start_is e v h i j p same index at starts is =
-      let j_is : j ≡ origin d.now.mesh h = starts ∙ (λ t. origin (same t).now.mesh (index t)) in
+  start_is {v = v} same index at starts is =
       let v_is : v ≡ d = at ∙ same in
-      is ∙ (λ t. point_at (map place (v_is t).now.vertices) (j_is t))
+      is ∙ (λ t. point_at (map place (v_is t).now.vertices) (origin_is same index starts t))
 
-  -- the point of the end of a directed edge, by handles, is that in the mesh
-  pub end_is : (e v : Bor (Contents V D U F)) (h i j : ℕ) (p : Point) → e ≡ d → i ≡ h → v ≡ e →
+  pub end_is : {e v : Bor (Contents V D U F)} {h i j : ℕ} {p : Point} → e ≡ d → i ≡ h → v ≡ e →
       j ≡ origin e.now.mesh (rev i) → p ≡ point_at (map place v.now.vertices) j →
       p ≡ point_at (map place d.now.vertices) (origin d.now.mesh (rev h))
-  end_is e v h i j p same index at ends is =
+  end_is {v = v} {h = h} {j = j} same index at ends is =
       let j_is : j ≡ origin d.now.mesh (rev h) =
       ends ∙ (λ t. origin (same t).now.mesh (rev (index t))) in
       let v_is : v ≡ d = at ∙ same in
       is ∙ (λ t. point_at (map place (v_is t).now.vertices) (j_is t))
 
   -- the position of a vertex is covered where those of all vertices are
-  pub vertex_covered : (C : Point → Type 0) (e v : Bor (Contents V D U F)) (j : ℕ) (p : Point) →
+  pub vertex_covered : (C : Point → Type 0) {e v : Bor (Contents V D U F)} {j : ℕ} {p : Point} →
       All C (map place d.now.vertices) → e ≡ d → v ≡ e → j < length v.now.vertices →
       p ≡ point_at (map place v.now.vertices) j → C p
-  vertex_covered C e v j p all same at within is =
+  vertex_covered C {v = v} {j = j} all same at within is =
       subst C (sym is) (subst (λ (x : Bor (Contents V D U F)). All C (map place x.now.vertices))
       (sym (at ∙ same)) all j
       (record { x = pos 0; y = pos 0 }) (omega (arith, within, length-map v.now.vertices place)))
 
   -- the ends of an edge, by its handle, are covered where all vertices are
   module _ (C : Point → Type 0) (all : All C (map place d.now.vertices))
-      (whole : IsMeshWithData d.now) (e : Bor (Contents V D U F)) (i k : ℕ)
+      (whole : IsMeshWithData d.now) {e : Bor (Contents V D U F)} {i k : ℕ}
       (within : k < length d.now.undirected) (same : e ≡ d) (index : i ≡ k) where
     origin_covered : (h : ℕ) → h < length d.now.mesh.half_edges
         → C (point_at (map place d.now.vertices) (origin d.now.mesh h))
@@ -87,32 +90,40 @@ module _ {V D U F : Type 0} (place : V → Point) (d : Bor (Contents V D U F)) w
         (rev_within (2 * k) _ whole.valid.sound.even below_edges)
 
   -- an answer to a handle
-  pub edge_told : (b : Bool) (Shape : Fraction → Type 0) (e : Bor (Contents V D U F)) (i k : ℕ)
+  pub edge_told : {b : Bool} (Shape : Fraction → Type 0) {e : Bor (Contents V D U F)} {i k : ℕ}
       → e ≡ d → i ≡ k → (IsTrue b ↔ IsEdgeInShape Shape (map place e.now.vertices) e.now.mesh i)
       → IsTrue b ↔ IsInside Shape place d.now k
-  edge_told b Shape e i k same index told =
+  edge_told {b = b} Shape {i = i} same index told =
       subst (λ (x : ℕ). IsTrue b ↔ IsInside Shape place d.now x) index
       (subst (λ (x : Bor (Contents V D U F)). IsTrue b ↔ IsInside Shape place x.now i) same told)
 
   -- a test of the point of a vertex, by handles, tells whether the vertex is in the shape
   pub vertex_told :
-      (b : Bool) (Shape : Fraction → Type 0) (e : Bor (Contents V D U F)) (i k : ℕ) (p : Point)
+      {b : Bool} (Shape : Fraction → Type 0) {e : Bor (Contents V D U F)} {i k : ℕ} {p : Point}
       → e ≡ d → i ≡ k → p ≡ point_at (map place e.now.vertices) i → (IsTrue b ↔ Shape (whole p))
       → IsTrue b ↔ Shape (whole (point_at (map place d.now.vertices) k))
-  vertex_told b Shape e i k p same index is told =
+  vertex_told {b = b} Shape {k = k} {p = p} same index is told =
       let at : p ≡ point_at (map place d.now.vertices) k =
       is ∙ (λ t. point_at (map place (same t).now.vertices) (index t)) in
       subst (λ (x : Point). IsTrue b ↔ Shape (whole x)) at told
 
+  -- and one of the point where a directed edge starts
+  pub start_told : {b : Bool} (Shape : Fraction → Type 0) {e v : Bor (Contents V D U F)}
+      {h i j : ℕ} {p : Point} → e ≡ d → i ≡ h → v ≡ e → j ≡ origin e.now.mesh i
+      → p ≡ point_at (map place v.now.vertices) j → (IsTrue b ↔ Shape (whole p))
+      → IsTrue b ↔ Shape (whole (point_at (map place d.now.vertices) (origin d.now.mesh h)))
+  start_told {b = b} Shape same index at starts is told =
+      subst (λ (x : Point). IsTrue b ↔ Shape (whole x)) (start_is same index at starts is) told
+
   -- the edge after a directed edge, by handles, is that in the mesh
-  pub after_is : (e : Bor (Contents V D U F)) (h i j r : ℕ) → e ≡ d → i ≡ h
+  pub after_is : {e : Bor (Contents V D U F)} {h i j r : ℕ} → e ≡ d → i ≡ h
       → j ≡ next e.now.mesh i → r ≡ j → r ≡ next d.now.mesh h
-  after_is e h i j r same index to is = is ∙ to ∙ (λ t. next (same t).now.mesh (index t))
+  after_is same index to is = is ∙ to ∙ (λ t. next (same t).now.mesh (index t))
 
   -- so is the edge before it
-  pub before_is : (e : Bor (Contents V D U F)) (h i j r : ℕ) → e ≡ d → i ≡ h
+  pub before_is : {e : Bor (Contents V D U F)} {h i j r : ℕ} → e ≡ d → i ≡ h
       → j ≡ prev e.now.mesh i → r ≡ j → r ≡ prev d.now.mesh h
-  before_is e h i j r same index to is = is ∙ to ∙ (λ t. prev (same t).now.mesh (index t))
+  before_is same index to is = is ∙ to ∙ (λ t. prev (same t).now.mesh (index t))
 
 -- an edge by its ends
 pub ends_told :

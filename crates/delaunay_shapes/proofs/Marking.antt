@@ -1,6 +1,6 @@
 -- Lists of what a test says of the numbers below a count: at a number, of a test that none passes,
 -- and with one more. And bits in pages that a directory names, as one more is set.
--- Lemmas: test_within, none_passes, one_more, others_longer, no_places, entry_read, pages_below,
+-- Lemmas: mark_read, none_passes, one_more, others_longer, no_places, entry_read, pages_below,
 -- names_new_page, no_page, same_with_page, page_read, one_mark_more.
 use Rattle.std.proofs.Common.{◌≡◌, ◌⊎◌, ◌-◌, ◌/◌, ◌%◌, ◌<◌, ◌≤◌, ◌∙◌}
 use Rattle.std.proofs.Common.{[], ◌∷◌, ◌++◌, List, ℕ, zero, suc, length, get_or, set, take}
@@ -30,9 +30,15 @@ test_at : (n : ℕ) (f : ℕ → Bool) (k : ℕ) → k < n → get_or (tests_bel
 test_at n f k h = get_or-map-range_with_len f 0 n k k false h (omega arith)
 
 -- the entry at a place of the list is what the test says of this number
-pub test_within : (n : ℕ) (f : ℕ → Bool) (k : ℕ) → k < length (tests_below n f)
+test_within : (n : ℕ) (f : ℕ → Bool) (k : ℕ) → k < length (tests_below n f)
     → get_or (tests_below n f) k false ≡ f k
 test_within n f k h = test_at n f k (below_count n (length (tests_below n f)) k (tests_count n f) h)
+
+-- so it is at a number that is read in what a contract sees of marks
+pub mark_read : {marks : List Bool} {k : ℕ} (n : ℕ) (f : ℕ → Bool) → tests_below n f ≡ marks
+    → k < length marks → get_or marks k false ≡ f k
+mark_read {k = k} n f same = subst (λ xs. k < length xs → get_or xs k false ≡ f k) same
+    (test_within n f k)
 
 -- a test that none passes
 pub none_passes : (n : ℕ) (f : ℕ → Bool) → ((k : ℕ) → f k ≡ false)

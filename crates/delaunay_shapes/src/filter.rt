@@ -6,7 +6,6 @@ ghost use Rattle.delaunay_shapes.specs.Left.{vertices_left};
 use crate::distance_metric::DistanceMetric;
 use crate::in_shape::{EdgesInShapeIterator, VerticesInShapeIterator};
 use crate::positions::spot_of;
-use crate::shape_search::has_edge;
 use delaunay_location::delaunay_core::math::PlaneTests;
 use delaunay_location::delaunay_core::point::HasPosition;
 use delaunay_location::half_edge_mesh::{
@@ -41,7 +40,7 @@ pub fn edges_by_filter<
     let mut edges = Vec::new(alloc);
     for index in 0..dcel.num_undirected_edges() {
         let edge = FixedUndirectedEdgeHandle::from_index(index as u32);
-        if has_edge(dcel, metric, tests, edge) {
+        if metric.is_handle_inside(dcel.undirected_edge(edge), tests) {
             edges.push(edge.as_directed())?;
         }
     }

@@ -1,10 +1,8 @@
 //! A search for what has a point in a shape.
 ghost use Rattle.std.specs.Prelude.{◌↔◌, ◌≡◌, ◌<◌, length, map, All, IsTrue};
-ghost use Rattle.delaunay_location.specs.half_edge_mesh.Contents.{IsMeshWithData};
 ghost use Rattle.delaunay_location.specs.delaunay_core.Place.{place_of};
 ghost use Rattle.delaunay_location.specs.delaunay_legalization.Shape.{IsTriangulated};
 ghost use Rattle.delaunay_location.specs.delaunay_legalization.State.{state_of};
-ghost use Rattle.delaunay_shapes.specs.InShape.{IsInside};
 ghost use Rattle.delaunay_shapes.specs.ShapeSearch.{EnclosesEdge};
 ghost use Rattle.delaunay_shapes.specs.Start.{HasStartAt};
 
@@ -13,26 +11,6 @@ use delaunay_location::delaunay_core::math::PlaneTests;
 use delaunay_location::delaunay_core::point::{HasPosition, Point2};
 use delaunay_location::half_edge_mesh::{Dcel, FixedUndirectedEdgeHandle, MeshViews};
 use std::marker::Model;
-
-// Whether an edge has a point in a shape, by tests that cover the shape's own points and the
-// vertices.
-#[inline(always)]
-pub(crate) fn has_edge<
-    V: HasPosition,
-    DE,
-    UE,
-    F,
-    M: DistanceMetric<V::Scalar>,
-    P: PlaneTests<V::Scalar>,
->(dcel: &Dcel<V, DE, UE, F>, metric: &M, tests: &P, edge: FixedUndirectedEdgeHandle) -> bool
-    requires own_covered { All (P.covered tests.now) (M.own_points metric.now) }
-    requires covered { All (P.covered tests.now) (map V.place dcel.now.vertices) }
-    requires whole { IsMeshWithData dcel.now }
-    requires within { edge < length dcel.now.undirected }
-    ensures { IsTrue result ↔ IsInside (M.shape metric.now) V.place dcel.now edge }
-{
-    metric.is_handle_inside(dcel.undirected_edge(edge), tests)
-}
 
 /// A search for the edges and vertices of a triangulation that have a point in a closed shape. It
 /// begins at a point of the shape, if that has any. The tests cover the shape's own points and this
@@ -113,6 +91,7 @@ impl<
         requires { edge < length self.now.dcel.undirected }
         ensures { IsTrue result ↔ EnclosesEdge V.place M.shape self.now edge }
     {
-        has_edge(self.dcel, self.metric, self.tests, edge)
+        self.metric
+            .is_handle_inside(self.dcel.undirected_edge(edge), self.tests)
     }
 }

@@ -1,53 +1,62 @@
-use Rattle.std.proofs.Common.{ℕ, ◌+◌, ◌/◌, List, ◌∙◌, refl, sym, ap, length, subst, arith}
-use Rattle.delaunay_shapes.specs.InShape.{IsInside, undirected_of}
-use Rattle.delaunay_shapes.proofs.Asking.{IsFilteredTo, filter_finds, filter_passes}
-use Rattle.delaunay_shapes.proofs.Asking.{undirected_more}
+use Rattle.std.proofs.Common.{ℕ, ◌/◌, ◌∙◌, refl, sym, ap, length, arith}
+use Rattle.delaunay_location.proofs.delaunay_legalization_lemmas.Questions.{both_ways}
+use Rattle.delaunay_shapes.specs.InShape.{undirected_of}
+use Rattle.delaunay_shapes.proofs.Asking.{filter_finds, filter_passes, undirected_more}
 use Rattle.delaunay_shapes.proofs.Flooding.{half_of_even}
+use Rattle.delaunay_shapes.proofs.Handles.{edge_told, end_covered, start_covered}
 use Rattle.delaunay_shapes.proofs.Handles.{filtered_directed, filtered_edges}
-use Rattle.delaunay_shapes.proofs.filter.edges_by_filter.Goals.{then-has_edge+in_ok-push}
-use Rattle.delaunay_shapes.proofs.filter.edges_by_filter.Goals.{else-has_edge}
+use Rattle.delaunay_shapes.proofs.filter.edges_by_filter.Goals.{then-is_handle_inside+in_ok-push}
+use Rattle.delaunay_shapes.proofs.filter.edges_by_filter.Goals.{else-is_handle_inside}
 use Rattle.delaunay_shapes.proofs.filter.edges_by_filter.Goals as goal
 
-pub has_edge-requires-clause-whole : goal.has_edge-requires-clause-whole
-has_edge-requires-clause-whole g c = c.num_undirected_edges-index-end.ensures.whole
+pub is_handle_inside-requires-clause-start_covered :
+    goal.is_handle_inside-requires-clause-start_covered
+is_handle_inside-requires-clause-start_covered g c =
+    let all = c.num_undirected_edges-index-end.ensures in
+    start_covered g.V.HasPosition.place (g.P.PlaneTests.covered c.args.tests.now)
+    c.requires.covered all.whole
+    (omega (arith, c.from_index-edge.ensures, c.loop-index-test.true, all.value))
+    c.undirected_edge.ensures.dcel c.undirected_edge.ensures.index
+
+pub is_handle_inside-requires-clause-end_covered : goal.is_handle_inside-requires-clause-end_covered
+is_handle_inside-requires-clause-end_covered g c =
+    let all = c.num_undirected_edges-index-end.ensures in
+    end_covered g.V.HasPosition.place (g.P.PlaneTests.covered c.args.tests.now)
+    c.requires.covered all.whole
+    (omega (arith, c.from_index-edge.ensures, c.loop-index-test.true, all.value))
+    c.undirected_edge.ensures.dcel c.undirected_edge.ensures.index
 
 pub loop-index-preserved : goal.loop-index-preserved
 loop-index-preserved g c =
-    let Inside : ℕ → Type 0 =
-    IsInside (g.M.DistanceMetric.shape c.args.metric.now) g.V.HasPosition.place c.args.dcel.now in
-    elim c.if-has_edge.branch [
-      | then-has_edge+in_ok-push w ↦
-          filter_finds Inside _ _ _ _ c.loop-index.invariant c.from_index-edge.ensures
-          (c.has_edge.ensures.0 w.if-has_edge.true)
-          (undirected_more _ _ w.as_directed.result c.from_index-edge.result
-          (ap (λ x. x.items) w.edges-is ∙ w.in_ok-push.ensures.items)
+    let told = edge_told g.V.HasPosition.place (g.M.DistanceMetric.shape c.args.metric.now)
+    c.undirected_edge.ensures.dcel c.undirected_edge.ensures.index
+    c.is_handle_inside.ensures.inside in
+    elim c.if-is_handle_inside.branch [
+      | then-is_handle_inside+in_ok-push w ↦
+          filter_finds c.loop-index.invariant c.from_index-edge.ensures
+          (told.0 w.if-is_handle_inside.true)
+          (undirected_more _ _ (ap (λ x. x.items) w.edges-is ∙ w.in_ok-push.ensures.items)
           (ap (λ (x : ℕ). x / 2) w.as_directed.ensures ∙ half_of_even c.from_index-edge.result))
-      | else-has_edge w ↦
-          subst (λ (xs : List ℕ). IsFilteredTo Inside (c.loop-index.index + 1) (undirected_of xs))
-          (sym (ap (λ x. x.items) w.edges-is))
-          (filter_passes Inside _ _ _ c.loop-index.invariant c.from_index-edge.ensures
-          (λ p. let on = c.has_edge.ensures.1 p in let off = w.if-has_edge.false in absurd (cc)))
+      | else-is_handle_inside w ↦ rw w.edges-is
+          (filter_passes c.loop-index.invariant c.from_index-edge.ensures
+          (λ p. both_ways _ (told.1 p) w.if-is_handle_inside.false))
     ]
 
 pub invariant_of-result : goal.invariant_of-result
 invariant_of-result g c = record {
-  in_range = λ k d h.
-      let fits = c.num_undirected_edges-index-end.ensures.value in
-      let last = c.loop-index.auto.index-end in
-      let whole = c.num_undirected_edges-index-end.ensures.whole.fits in
+  in_range = let all = c.num_undirected_edges-index-end.ensures in
       filtered_directed _ _ (length c.args.dcel.now.undirected) _ _ c.loop-index.invariant
-      (omega (arith, fits, last)) (whole.undirected_fit ∙ sym whole.directed_fit) k d h;
+      (omega (arith, all.value, c.loop-index.auto.index-end))
+      (all.whole.fits.undirected_fit ∙ sym all.whole.fits.directed_fit);
 }
 
 pub returns : goal.returns
 returns g c =
-    let fits = c.num_undirected_edges-index-end.ensures.value in
-    let last = c.loop-index.auto.index-end in
-    let over = c.loop-index-test.false in
+    let all = c.num_undirected_edges-index-end.ensures in
     record {
       edges = undirected_of c.loop-index.edges.items;
       listed = refl;
       exact = filtered_edges _ _ _ _ (length c.args.dcel.now.undirected) _ c.loop-index.invariant
-          (omega (arith, fits, last, over))
-          c.num_undirected_edges-index-end.ensures.whole.fits.undirected_fit;
+          (omega (arith, all.value, c.loop-index.auto.index-end, c.loop-index-test.false))
+          all.whole.fits.undirected_fit;
     }

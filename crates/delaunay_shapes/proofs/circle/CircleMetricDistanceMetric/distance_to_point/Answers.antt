@@ -6,12 +6,6 @@ use Rattle.delaunay_shapes.proofs.Circles.{rim_inside}
 use Rattle.delaunay_shapes.proofs.Rims.{rim_fits, rim_is}
 use Rattle.delaunay_shapes.proofs.circle.CircleMetricDistanceMetric.distance_to_point.Goals as goal
 
-pub distance_2-requires-clause-in_range : goal.distance_2-requires-clause-in_range
-distance_2-requires-clause-in_range g c = c.args.self.now.center_in_range
-
-pub distance_2-requires-clause-other_in_range : goal.distance_2-requires-clause-other_in_range
-distance_2-requires-clause-other_in_range g c = c.requires
-
 pub overflow_sub-result : goal.overflow_sub-result
 overflow_sub-result g c =
     let centre = whole (place_of g.S.SpadeNum.whole c.args.self.now.center) in

@@ -1,31 +1,30 @@
-use Rattle.std.proofs.Common.{map, sym, subst}
+use Rattle.std.proofs.Common.{map}
 use Rattle.delaunay_shapes.proofs.Handles.{start_is, end_is, ends_told}
 use Rattle.delaunay_shapes.proofs.distance_metric.DistanceMetric.is_handle_inside.Goals as goal
 
 pub is_edge_inside-requires-clause-start_covered : goal.is_edge_inside-requires-clause-start_covered
 is_edge_inside-requires-clause-start_covered g c =
     let edge = c.as_directed-edge.ensures in
-    subst (g.P.PlaneTests.covered c.args.tests.now)
-    (sym (start_is g.V.HasPosition.place c.args.handle.dcel _ _ _ _ _ _ edge.dcel edge.index
-    c.from.ensures.dcel c.from.ensures.index c.spot_of.ensures)) c.requires.start_covered
+    rw (start_is g.V.HasPosition.place edge.dcel edge.index c.from.ensures.dcel
+    c.from.ensures.index c.spot_of.ensures) c.requires.start_covered
 
 pub is_edge_inside-requires-clause-end_covered : goal.is_edge_inside-requires-clause-end_covered
 is_edge_inside-requires-clause-end_covered g c =
     let edge = c.as_directed-edge.ensures in
-    subst (g.P.PlaneTests.covered c.args.tests.now)
-    (sym (end_is g.V.HasPosition.place c.args.handle.dcel _ _ _ _ _ _ edge.dcel edge.index
-    c.to.ensures.dcel c.to.ensures.index c.spot_of-2.ensures)) c.requires.end_covered
+    rw (end_is g.V.HasPosition.place edge.dcel edge.index c.to.ensures.dcel c.to.ensures.index
+    c.spot_of-2.ensures) c.requires.end_covered
 
 pub returns : goal.returns
 returns g c =
     let edge = c.as_directed-edge.ensures in
+    let place = g.V.HasPosition.place in
     record {
       inside = ends_told _ (g.Self.DistanceMetric.shape c.args.self.now)
-          (map g.V.HasPosition.place c.args.handle.dcel.now.vertices) c.args.handle.dcel.now.mesh
+          (map place c.args.handle.dcel.now.vertices) c.args.handle.dcel.now.mesh
           c.args.handle.index _ _
-          (start_is g.V.HasPosition.place c.args.handle.dcel _ _ _ _ _ _ edge.dcel edge.index
-          c.from.ensures.dcel c.from.ensures.index c.spot_of.ensures)
-          (end_is g.V.HasPosition.place c.args.handle.dcel _ _ _ _ _ _ edge.dcel edge.index
-          c.to.ensures.dcel c.to.ensures.index c.spot_of-2.ensures)
+          (start_is place edge.dcel edge.index c.from.ensures.dcel c.from.ensures.index
+          c.spot_of.ensures)
+          (end_is place edge.dcel edge.index c.to.ensures.dcel c.to.ensures.index
+          c.spot_of-2.ensures)
           c.is_edge_inside.ensures.inside;
     }

@@ -1,8 +1,7 @@
-use Rattle.std.proofs.Common.{ℕ, ◌<◌, get_or, map, subst, sym, ap}
+use Rattle.std.proofs.Common.{ap}
 use Rattle.delaunay_shapes.specs.InShape.{undirected_of}
 use Rattle.delaunay_shapes.proofs.Asking.{none_asked}
-use Rattle.delaunay_shapes.proofs.Flooding.{begun_finds_all}
-use Rattle.delaunay_shapes.proofs.Spreading.{found_within}
+use Rattle.delaunay_shapes.proofs.FloodSteps.{all_found_in, finds_all, search_of}
 use Rattle.delaunay_shapes.proofs.shape_search.ShapeSearch.edges_from.Goals as goal
 
 pub ask_starts-requires : goal.ask_starts-requires
@@ -11,16 +10,8 @@ ask_starts-requires g c = rw (← c.self.view_is) (none_asked _ _ _ _ _ c.new-fl
 
 pub returns : goal.returns
 returns g c =
-    let kept = c.self.invariant.kept in
-    let d = c.self.inside.dcel.now in
-    let begun = rw (← c.self.view_is) at c.in_ok-ask_starts.ensures.begun in
-    let flooding = rw (← c.self.view_is) at c.in_ok-spread.ensures.flooding in
-    let spread = rw (← c.self.view_is) at c.in_ok-spread.ensures.spread in
-    rw (← c.self.view_is) (record {
-      exact = begun_finds_all (map g.V.HasPosition.place d.vertices) d.mesh kept.valid kept.shape
-          _ _ c.self.invariant.begins _ kept.fits.undirected_fit _ _ _ _ flooding spread begun
-          c.in_ok-spread.ensures.on;
-      within = λ k e h. subst (λ (n : ℕ). get_or c.spread.new.flood.found.items k e < n)
-          (sym kept.fits.directed_fit) (found_within _ _ kept.valid _ kept.fits.undirected_fit
-          _ _ k e flooding h);
-    })
+    let search = search_of c.self.view_is c.self.invariant in
+    record {
+      exact = finds_all search c.in_ok-ask_starts.ensures.begun c.in_ok-spread.ensures;
+      within = all_found_in search.kept c.spread.new.flood c.in_ok-spread.ensures.flooding;
+    }

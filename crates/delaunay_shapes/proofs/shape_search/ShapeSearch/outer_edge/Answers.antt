@@ -1,9 +1,10 @@
-use Rattle.std.proofs.Common.{◌<◌, length, arith}
+use Rattle.std.proofs.Common.{arith}
 use Rattle.delaunay_location.specs.half_edge_mesh.Rounds.{hull_left}
 use Rattle.delaunay_location.proofs.mesh_embedding.OneOutline.{one_outline}
 use Rattle.delaunay_location.proofs.mesh_embedding.OutlineGiven.{along_begins, along_next}
 use Rattle.delaunay_location.proofs.mesh_embedding.OutlineGiven.{along_goes_on, along_ends}
 use Rattle.delaunay_location.proofs.delaunay_legalization_lemmas.Questions.{both_ways}
+use Rattle.delaunay_shapes.proofs.FloodSteps.{search_of}
 use Rattle.delaunay_shapes.proofs.shape_search.ShapeSearch.outer_edge.Goals as goal
 
 pub loop-edge-init : goal.loop-edge-init
@@ -16,18 +17,11 @@ loop-edge-init g c =
 
 pub has_edge-requires : goal.has_edge-requires
 has_edge-requires g c =
-    let o = along_next c.self.inside.dcel.now.mesh _ _ (rw (← c.self.view_is) at
-    c.loop-edge.invariant) _ _ c.in-Some.ensures.steps in
-    let w : c.in-Some.edge.index < length c.self.inside.dcel.now.mesh.half_edges = o.0 in
-    let fits = c.self.invariant.kept.fits in
-    rw (← c.self.view_is) (omega (
-      arith,
-      w,
-      fits.directed_fit,
-      fits.undirected_fit,
-      c.fix-edge.ensures.value,
-      c.as_undirected.ensures,
-    ))
+    let o = along_next c.args.self.now.dcel.mesh _ _ c.loop-edge.invariant _ _
+    c.in-Some.ensures.steps in
+    let fits = (search_of c.self.view_is c.self.invariant).kept.fits in
+    let is = c.fix-edge.ensures.value in
+    omega (arith, o.0, fits.directed_fit, fits.undirected_fit, is, c.as_undirected.ensures)
 
 pub loop-edge-preserved : goal.loop-edge-preserved
 loop-edge-preserved g c =
@@ -39,9 +33,8 @@ pub returns-then-has_edge-clause-some : goal.returns-then-has_edge-clause-some
 returns-then-has_edge-clause-some g c =
     let o = along_next c.args.self.now.dcel.mesh _ _ c.loop-edge.invariant _ _
     c.in-Some.ensures.steps in
-    let w = rw (← c.self.view_is) at o.0 in
-    let fits = c.self.invariant.kept.fits in (
-      rw (← c.self.view_is) (omega (arith, w, fits.directed_fit, c.fix-edge.ensures.value)),
+    let fits = (search_of c.self.view_is c.self.invariant).kept.fits in (
+      omega (arith, o.0, fits.directed_fit, c.fix-edge.ensures.value),
       rw c.as_undirected.ensures at c.has_edge.ensures.0 c.if-has_edge.true,
     )
 
