@@ -11,6 +11,6 @@ pub mod Flooding
 pub mod Starting
 pub mod FirstEdges
 pub mod VertexFlood
-pub mod FloodSteps
+pub mod Searches
 pub mod Shapes
 pub mod Marking

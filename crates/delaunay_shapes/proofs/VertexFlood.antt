@@ -1,6 +1,6 @@
 -- The vertices in a region as those that name one of its edges.
--- Notions: AreNamedAmong, IsAmongFirst; not_named, not_inside, keeps, ends_kept, named_first,
--- named_before, named_beside, named_next, named_last, named_are_all.
+-- Notions: AreNamedAmong, IsAmongFirst; not_named, not_inside, keeps, ends_kept, starts_at,
+-- named_first, named_on, named_last, named_before, named_are_all.
 use Rattle.std.proofs.Common.{◌≡◌, ◌⊎◌, ◌+◌, ◌*◌, ◌/◌, ◌<◌, ◌≤◌, [], ◌∷◌, ◌++◌, ◌∙◌}
 use Rattle.std.proofs.Common.{ℕ, List, length, get_or, refl, sym, ap, subst, arith, length-append}
 use mathlib.Core.Logic.{inl, inr, ◌≢◌, ◌↔◌}
@@ -8,8 +8,7 @@ use mathlib.Core.Bool.{Bool, true, false}
 use Rattle.std.specs.Prelude.{ℤ, pos, ◌*ℤ◌, Contains, Some, IsSome, IsTrue}
 use Rattle.std.proofs.lemmas.Int.{ints}
 use Rattle.std.proofs.lemmas.Bool.{cases_eq}
-use Rattle.std.proofs.lemmas.List.{append-nil, get_or-map, get_or_append_left, length-map}
-use Rattle.std.proofs.lemmas.List.{map-append}
+use Rattle.std.proofs.lemmas.List.{get_or-map, get_or_append_left, length-map, map-append}
 use Rattle.delaunay_location.specs.half_edge_mesh.Mesh.{Mesh, origin, out_edge, rev, IsValidMesh}
 use Rattle.delaunay_location.proofs.half_edge_links.Lists.Rev.{rev_differs}
 use Rattle.delaunay_location.proofs.half_edge_links.Removing.CollapseLemmas.{some_of}
@@ -28,8 +27,7 @@ use Rattle.delaunay_location.proofs.mesh_embedding.WorkLists.{contains_last, con
 use Rattle.delaunay_location.proofs.mesh_embedding.WorkLists.{last_or_before, once_after}
 use Rattle.delaunay_shapes.specs.Known.{point_at}
 use Rattle.delaunay_shapes.specs.InShape.{AreEdgesInShape, AreVerticesInShape, undirected_of}
-use Rattle.delaunay_shapes.specs.Flood.{AreNamedIn, AsksBeside, IsNamedIn, IsStartKept, KeepsEnds}
-use Rattle.delaunay_shapes.specs.Flood.{KeepsStart, Spreads}
+use Rattle.delaunay_shapes.specs.Flood.{AreNamedIn, IsNamedIn, IsStartKept, KeepsEnds, KeepsStart}
 use Rattle.delaunay_shapes.specs.Start.{HasStartAt}
 use Rattle.delaunay_shapes.proofs.Asking.{below_other}
 use Rattle.delaunay_shapes.proofs.Flooding.{half_of_even, half_of_rev, tiles, to_half}
@@ -89,20 +87,12 @@ ends_kept Inside m found mid found' h a b e f from to = record {
 abbrev pub IsAmongFirst : List ℕ → ℕ → ℕ → Type 0
 IsAmongFirst edges i h = (j : ℕ) × (j < i) × (j < length edges) × (get_or edges j 0 ≡ h / 2)
 
--- before the first edge none is found
-pub named_first : {Inside : ℕ → Type 0} {m : Mesh} (edges : List ℕ) {found : List ℕ} → found ≡ []
-    → AreNamedAmong Inside m (IsAmongFirst edges 0) found
-named_first {Inside = Inside} {m = m} edges e =
-    subst (AreNamedAmong Inside m (IsAmongFirst edges 0)) (sym e) (record {
-      once = once_none;
-      exact = λ v. (
-        (λ c. absurd (Contains-none v c)),
-        (λ r. absurd (never r.0.2.0 r.0.2.1)),
-      );
-    })
-
 listed : (edges : List ℕ) (i h : ℕ) → IsAmongFirst edges i h → Contains edges (h / 2)
 listed edges i h r = (r.0, r.2, get_or_any edges r.0 (h / 2) 0 r.2 ∙ r.3)
+
+-- in a sound mesh an edge starts at the vertex that names it
+pub starts_at : {m : Mesh} → IsValidMesh m → (v h : ℕ) → out_edge m v ≡ Some h → origin m h ≡ v
+starts_at valid v h o = (valid.sound.vertices v h o).1
 
 module _ (Inside : ℕ → Type 0) (m : Mesh)
     (starts : (v h : ℕ) → out_edge m v ≡ Some h → origin m h ≡ v) where
@@ -166,6 +156,18 @@ module _ (Inside : ℕ → Type 0) (m : Mesh)
         | inl p ↦ (s.exact v).1 ((r.0.0, r.0.1, p), r.1)
         | inr e ↦ absurd (k.0 (kept v r.0.0 r.0.1 e r.1))
       ]
+
+  -- before the first edge none is found
+  pub named_first : (edges found : List ℕ) → found ≡ []
+      → AreNamedAmong Inside m (IsAmongFirst edges 0) found
+  named_first edges found e = subst (AreNamedAmong Inside m (IsAmongFirst edges 0)) (sym e)
+      (record {
+        once = once_none;
+        exact = λ v. (
+          (λ c. absurd (Contains-none v c)),
+          (λ r. absurd (never r.0.2.0 r.0.2.1)),
+        );
+      })
 
   -- once both directions of the next edge are done, one edge more is
   named_more : (edges : List ℕ) → IsOnce edges → (found mid found' : List ℕ) (i d a b : ℕ)
@@ -237,7 +239,7 @@ module _ (Inside : ℕ → Type 0) (m : Mesh)
           (r.0, r.1, here, sym (get_or_append_left edges more 0 r.0 here) ∙ r.3)
 
   -- once the ends of the next edge found are kept, and a flood has gone on, one edge more is done
-  named_on : (sides sides' more found found' : List ℕ) (i d : ℕ) → sides' ≡ sides ++ more
+  pub named_on : (sides sides' more found found' : List ℕ) (i d : ℕ) → sides' ≡ sides ++ more
       → i < length sides → IsOnce (undirected_of sides')
       → AreNamedAmong Inside m (IsAmongFirst (undirected_of sides) i) found
       → KeepsEnds Inside m found found' (get_or sides i d)
@@ -273,12 +275,33 @@ module _ (Inside : ℕ → Type 0) (m : Mesh)
           ∙ sym (ap (λ xs. get_or xs i 0) grown ∙ get_or_append_left sides more 0 i here))
           ∙ sym (get_or-map half sides' i 0 d there)
 
+  -- once the end of the edges is reached, all that name one of them are done
+  pub named_last : (edges found : List ℕ) (i : ℕ)
+      → AreNamedAmong Inside m (IsAmongFirst edges i) found → length edges ≤ i
+      → AreNamedIn Inside m edges found
+  named_last edges found i s last = record {
+    once = s.once;
+    exact = λ v. (
+      (λ c. let r = (s.exact v).0 c in
+          ((r.0.0, record { names = r.0.1; listed = listed edges i r.0.0 r.0.2 }), r.1)),
+      (λ r. (s.exact v).1 ((r.0.0, r.0.1.names, before r.0.0 r.0.1.listed), r.1)),
+    );
+  }
+    where
+      before : (h : ℕ) → Contains edges (h / 2) → IsAmongFirst edges i h
+      before h c = (
+        c.0,
+        less_all c.0 (length edges) i c.1 last,
+        c.1,
+        get_or_any edges c.0 0 (h / 2) c.1 ∙ c.2,
+      )
+
   -- where all that name one of the edges are found, the first edges are done when a flood has gone
   -- on
-  still_named : (sides sides' more found : List ℕ) (i : ℕ) → sides' ≡ sides ++ more
+  pub named_before : (sides sides' more found : List ℕ) (i : ℕ) → sides' ≡ sides ++ more
       → i ≡ length sides → AreNamedIn Inside m (undirected_of sides) found
       → AreNamedAmong Inside m (IsAmongFirst (undirected_of sides') i) found
-  still_named sides sides' more found i grown last s =
+  named_before sides sides' more found i grown last s =
       named_longer edges (undirected_of sides') (undirected_of more) found i
       (ap undirected_of grown ∙ map-append (λ (x : ℕ). x / 2) sides more)
       (omega (arith, many, last))
@@ -305,66 +328,6 @@ module _ (Inside : ℕ → Type 0) (m : Mesh)
         c.1,
         get_or_any edges c.0 0 (h / 2) c.1 ∙ c.2,
       )
-
--- the same of a sound mesh, where each edge starts at the vertex that names it
-starts_at : {m : Mesh} → IsValidMesh m → (v h : ℕ) → out_edge m v ≡ Some h → origin m h ≡ v
-starts_at valid v h o = (valid.sound.vertices v h o).1
-
-pub named_before : {Inside : ℕ → Type 0} {m : Mesh} {asked asked' : List Bool}
-    {sides sides' found : List ℕ} {n : ℕ} → IsValidMesh m → Spreads asked asked' sides sides'
-    → n ≡ length sides → AreNamedIn Inside m (undirected_of sides) found
-    → AreNamedAmong Inside m (IsAmongFirst (undirected_of sides') n) found
-named_before {Inside = Inside} {m = m} {sides = sides} {sides' = sides'} {found = found} {n = n}
-    valid on last named =
-    still_named Inside m (starts_at valid) sides sides' on.more found n on.grown last named
-
--- the next edge, where the flood has gone on from it
-pub named_beside : {Inside Edge : ℕ → Type 0} {m : Mesh} {count : ℕ} {asked asked' : List Bool}
-    {sides sides' found found' : List ℕ} {x i h e : ℕ} → IsValidMesh m
-    → AsksBeside Edge m count asked asked' sides sides' x → i < length sides
-    → AreNamedAmong Inside m (IsAmongFirst (undirected_of sides) i) found → e ≡ get_or sides i e
-    → h ≡ e → KeepsEnds Inside m found found' h
-    → AreNamedAmong Inside m (IsAmongFirst (undirected_of sides') (i + 1)) found'
-named_beside {Inside = Inside} {m = m} {sides = sides} {sides' = sides'} {found = found}
-    {found' = found'} {i = i} {e = e} valid asks here named read same keeps =
-    named_on Inside m (starts_at valid) sides sides' asks.on.more found found' i e asks.on.grown
-    here asks.flooding.once named (subst (KeepsEnds Inside m found found') (same ∙ read) keeps)
-
--- and where it has not
-pub named_next : {Inside : ℕ → Type 0} {m : Mesh} (sides : List ℕ) {found found' : List ℕ}
-    {i h e : ℕ} → IsValidMesh m → IsOnce (undirected_of sides) → i < length sides
-    → AreNamedAmong Inside m (IsAmongFirst (undirected_of sides) i) found → e ≡ get_or sides i e
-    → h ≡ e → KeepsEnds Inside m found found' h
-    → AreNamedAmong Inside m (IsAmongFirst (undirected_of sides) (i + 1)) found'
-named_next {Inside = Inside} {m = m} sides {found = found} {found' = found'} {i = i} {e = e} valid
-    once here named read same keeps =
-    named_on Inside m (starts_at valid) sides sides [] found found' i e (sym (append-nil sides))
-    here once named (subst (KeepsEnds Inside m found found') (same ∙ read) keeps)
-
--- once the end of the edges is reached, all that name one of them are done
-pub named_last : {Inside : ℕ → Type 0} {m : Mesh} (sides : List ℕ) {found : List ℕ} {i : ℕ}
-    → AreNamedAmong Inside m (IsAmongFirst (undirected_of sides) i) found → length sides ≤ i
-    → AreNamedIn Inside m (undirected_of sides) found
-named_last sides {i = i} s last = record {
-  once = s.once;
-  exact = λ v. (
-    (λ c. let r = (s.exact v).0 c in
-        ((r.0.0, record { names = r.0.1; listed = listed edges i r.0.0 r.0.2 }), r.1)),
-    (λ r. (s.exact v).1 ((r.0.0, r.0.1.names, before r.0.0 r.0.1.listed), r.1)),
-  );
-}
-  where
-    edges : List ℕ
-    edges = undirected_of sides
-
-    before : (h : ℕ) → Contains edges (h / 2) → IsAmongFirst edges i h
-    before h c = (
-      c.0,
-      less_all c.0 (length edges) i c.1
-          (let many = length-map sides (λ (x : ℕ). x / 2) in omega (arith, many, last)),
-      c.1,
-      get_or_any edges c.0 0 (h / 2) c.1 ∙ c.2,
-    )
 
 -- a vertex that names an edge is one of the mesh
 named_in : (m : Mesh) → IsValidMesh m → (n : ℕ) → n ≡ length m.out_edges → (i h : ℕ)

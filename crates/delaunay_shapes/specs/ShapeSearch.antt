@@ -2,7 +2,7 @@
 use Rattle.std.specs.Prelude.{ℕ, length}
 use Rattle.delaunay_location.specs.plane.Fraction.{Point, Fraction}
 use Rattle.delaunay_shapes.specs.Enclosing.{Enclosing}
-use Rattle.delaunay_shapes.specs.Flood.{Asks, AsksBeside, IsFlooding, IsSpread, IsSpreadTo, Spreads}
+use Rattle.delaunay_shapes.specs.Flood.{Asks, AsksBeside, IsFlooding}
 use Rattle.delaunay_shapes.specs.InShape.{IsInside, IsVertexInside, undirected_of}
 use Rattle.delaunay_shapes.specs.declared.flood.EdgeFlood.{EdgeFlood}
 
@@ -31,18 +31,3 @@ module _ {V D U F M P : Type 0} (at : V → Point) (Shape : M → Fraction → T
   AsksBesideFor f f' =
       AsksBeside EnclosesEdge s.dcel.mesh (length s.dcel.undirected) f.asked f'.asked
       f.found.items f'.found.items
-
--- since the flood was f it has gone on from the first i of the edges found, on both sides of these
--- and of those from number `first` on
-pub record HasSpreadTo {V D U F M P : Type 0} (at : V → Point) (Shape : M → Fraction → Type 0)
-    (s : Enclosing V D U F M P) (f f' : EdgeFlood) (first i : ℕ) : Type 0 where
-  pub flooding : IsFloodFor at Shape s f'
-  pub on : Spreads f.asked f'.asked f.found.items f'.found.items
-  pub spread : IsSpreadTo s.dcel.mesh f'.asked f'.found.items first i
-
--- it has gone on from each edge found
-pub record HasSpread {V D U F M P : Type 0} (at : V → Point) (Shape : M → Fraction → Type 0)
-    (s : Enclosing V D U F M P) (f f' : EdgeFlood) : Type 0 where
-  pub flooding : IsFloodFor at Shape s f'
-  pub on : Spreads f.asked f'.asked f.found.items f'.found.items
-  pub spread : IsSpread s.dcel.mesh f'.asked f'.found.items

@@ -2,10 +2,10 @@
 //! them in their faces.
 ghost use Rattle.std.specs.Prelude.{◌≡◌, ◌<◌, ◌/◌, ℕ, [], length, map, All, Contains, IfOk};
 ghost use Rattle.std.specs.Prelude.{replicate, false, OnOk};
-ghost use Rattle.delaunay_shapes.specs.Flood.{HasBegunWith, IsAsked};
+ghost use Rattle.delaunay_shapes.specs.Flood.{HasBegunWith, IsAsked, IsSpread, IsSpreadTo, Spreads};
 ghost use Rattle.delaunay_shapes.specs.InShape.{AreEdgesInShape, undirected_of};
 ghost use Rattle.delaunay_shapes.specs.ShapeSearch.{AsksBesideFor, AsksFor, EnclosesEdge};
-ghost use Rattle.delaunay_shapes.specs.ShapeSearch.{HasSpread, HasSpreadTo, IsFloodFor};
+ghost use Rattle.delaunay_shapes.specs.ShapeSearch.{IsFloodFor};
 
 use crate::distance_metric::DistanceMetric;
 use crate::marks::Marks;
@@ -103,8 +103,11 @@ impl<
     // Goes on from the edges that a flood began with, to both sides.
     pub(crate) fn spread_starts(&self, flood: &mut EdgeFlood) -> Result<(), AllocError>
         requires { IsFloodFor V.place M.shape self.now flood.old }
-        ensures { OnOk result (HasSpreadTo V.place M.shape self.now flood.old flood.new 0
-            (length flood.old.found.items)) }
+        ensures flooding { OnOk result (IsFloodFor V.place M.shape self.now flood.new) }
+        ensures on { OnOk result (Spreads flood.old.asked flood.new.asked flood.old.found.items
+            flood.new.found.items) }
+        ensures spread { OnOk result (IsSpreadTo self.now.dcel.mesh flood.new.asked
+            flood.new.found.items 0 (length flood.old.found.items)) }
     {
         for index in 0..flood.found.len() {
             let edge = self.dcel.directed_edge(flood.found[index]);
@@ -117,7 +120,11 @@ impl<
     // Goes on from each edge found to those beside it, until none is new.
     fn spread(&self, flood: &mut EdgeFlood) -> Result<(), AllocError>
         requires { IsFloodFor V.place M.shape self.now flood.old }
-        ensures { OnOk result (HasSpread V.place M.shape self.now flood.old flood.new) }
+        ensures flooding { OnOk result (IsFloodFor V.place M.shape self.now flood.new) }
+        ensures on { OnOk result (Spreads flood.old.asked flood.new.asked flood.old.found.items
+            flood.new.found.items) }
+        ensures spread { OnOk result (IsSpread self.now.dcel.mesh flood.new.asked
+            flood.new.found.items) }
     {
         let mut index = flood.found.len();
         self.spread_starts(flood)?;

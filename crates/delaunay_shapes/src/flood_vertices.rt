@@ -3,9 +3,9 @@
 ghost use Rattle.std.specs.Prelude.{◌≡◌, ◌↔◌, ◌<◌, length, map, IfOk};
 ghost use Rattle.std.specs.Prelude.{IsTrue, OnOk, Some};
 ghost use Rattle.delaunay_location.specs.half_edge_mesh.Mesh.{origin, out_edge};
-ghost use Rattle.delaunay_shapes.specs.Flood.{AreNamedIn, KeepsEnds, KeepsStart};
+ghost use Rattle.delaunay_shapes.specs.Flood.{AreNamedIn, IsSpread, KeepsEnds, KeepsStart, Spreads};
 ghost use Rattle.delaunay_shapes.specs.InShape.{AreVerticesInShape, undirected_of};
-ghost use Rattle.delaunay_shapes.specs.ShapeSearch.{EnclosesVertex, HasSpread, IsFloodFor};
+ghost use Rattle.delaunay_shapes.specs.ShapeSearch.{EnclosesVertex, IsFloodFor};
 
 use crate::distance_metric::DistanceMetric;
 use crate::flood::EdgeFlood;
@@ -105,7 +105,11 @@ impl<
         alloc: Global,
     ) -> Result<Vec<FixedVertexHandle>, AllocError>
         requires { IsFloodFor V.place M.shape self.now flood.old }
-        ensures spread { IfOk result (λ v. HasSpread V.place M.shape self.now flood.old flood.new) }
+        ensures flooding { IfOk result (λ v. IsFloodFor V.place M.shape self.now flood.new) }
+        ensures on { IfOk result (λ v. Spreads flood.old.asked flood.new.asked flood.old.found.items
+            flood.new.found.items) }
+        ensures spread { IfOk result (λ v. IsSpread self.now.dcel.mesh flood.new.asked
+            flood.new.found.items) }
         ensures named { IfOk result (λ v. AreNamedIn (EnclosesVertex V.place M.shape self.now)
             self.now.dcel.mesh (undirected_of flood.new.found.items) v.items) }
     {

@@ -1,7 +1,9 @@
-use Rattle.std.proofs.Common.{ap}
+use Rattle.std.proofs.Common.{ℕ, ◌<◌, get_or, map, subst, sym, ap}
 use Rattle.delaunay_shapes.specs.InShape.{undirected_of}
 use Rattle.delaunay_shapes.proofs.Asking.{none_asked}
-use Rattle.delaunay_shapes.proofs.FloodSteps.{all_found_in, finds_all, search_of}
+use Rattle.delaunay_shapes.proofs.Flooding.{begun_finds_all}
+use Rattle.delaunay_shapes.proofs.Searches.{search_of}
+use Rattle.delaunay_shapes.proofs.Spreading.{found_within}
 use Rattle.delaunay_shapes.proofs.shape_search.ShapeSearch.edges_from.Goals as goal
 
 pub ask_starts-requires : goal.ask_starts-requires
@@ -11,7 +13,14 @@ ask_starts-requires g c = rw (← c.self.view_is) (none_asked _ _ _ _ _ c.new-fl
 pub returns : goal.returns
 returns g c =
     let search = search_of c.self.view_is c.self.invariant in
+    let kept = search.kept in
+    let d = c.args.self.now.dcel in
+    let found = c.in_ok-spread.ensures in
     record {
-      exact = finds_all search c.in_ok-ask_starts.ensures.begun c.in_ok-spread.ensures;
-      within = all_found_in search.kept c.spread.new.flood c.in_ok-spread.ensures.flooding;
+      exact = begun_finds_all (map g.V.HasPosition.place d.vertices) d.mesh kept.valid kept.shape
+          _ _ search.begins _ kept.fits.undirected_fit _ _ _ _ found.flooding found.spread
+          c.in_ok-ask_starts.ensures.begun found.on;
+      within = λ k e h. subst (λ (n : ℕ). get_or c.spread.new.flood.found.items k e < n)
+          (sym kept.fits.directed_fit) (found_within _ _ kept.valid _ kept.fits.undirected_fit
+          _ _ k e found.flooding h);
     }

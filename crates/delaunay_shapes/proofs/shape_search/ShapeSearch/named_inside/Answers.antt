@@ -1,28 +1,36 @@
-use Rattle.std.proofs.Common.{◌∙◌, arith}
+use Rattle.std.proofs.Common.{ℕ, ◌/◌, ◌∙◌, [], sym, arith}
+use Rattle.std.proofs.lemmas.List.{append-nil, length-map}
 use Rattle.delaunay_shapes.specs.InShape.{undirected_of}
-use Rattle.delaunay_shapes.proofs.FloodSteps.{found_in, place_in, search_of}
-use Rattle.delaunay_shapes.proofs.VertexFlood.{named_first, named_last, named_next}
+use Rattle.delaunay_shapes.proofs.Searches.{found_in, place_in, search_of}
+use Rattle.delaunay_shapes.proofs.VertexFlood.{named_first, named_on, named_last, starts_at}
 use Rattle.delaunay_shapes.proofs.shape_search.ShapeSearch.named_inside.Goals as goal
 
 pub loop-index-init : goal.loop-index-init
 loop-index-init g c =
-    named_first (undirected_of c.args.flood.now.found.items) c.new-found.ensures.items
+    let kept = (search_of c.self.view_is c.self.invariant).kept in
+    named_first _ c.args.self.now.dcel.mesh (starts_at kept.valid)
+    (undirected_of c.args.flood.now.found.items) c.new-found.result.items c.new-found.ensures.items
 
 pub directed_edge-edge-requires : goal.directed_edge-edge-requires
 directed_edge-edge-requires g c =
     let flood = c.args.flood.now in
-    found_in c.self.invariant.kept flood (rw (← c.self.view_is) at c.requires)
+    found_in flood c.self.invariant.kept (rw (← c.self.view_is) at c.requires)
     (place_in flood c.loop-index-test.true c.len-index-end.ensures) c.index.ensures
 
 pub loop-index-preserved : goal.loop-index-preserved
 loop-index-preserved g c =
+    let kept = (search_of c.self.view_is c.self.invariant).kept in
     let flood = c.args.flood.now in
-    named_next flood.found.items (search_of c.self.view_is c.self.invariant).kept.valid
-    c.requires.once (place_in flood c.loop-index-test.true c.len-index-end.ensures)
-    c.loop-index.invariant c.index.ensures
-    (c.fix.ensures.value ∙ c.directed_edge-edge.ensures.index) c.in_ok-keep_ends.ensures
+    let way = c.fix.ensures.value ∙ c.directed_edge-edge.ensures.index ∙ c.index.ensures in
+    named_on _ c.args.self.now.dcel.mesh (starts_at kept.valid) flood.found.items flood.found.items
+    [] _ _ c.loop-index.index c.index.result.now (sym (append-nil flood.found.items))
+    (place_in flood c.loop-index-test.true c.len-index-end.ensures) c.requires.once
+    c.loop-index.invariant (rw way at c.in_ok-keep_ends.ensures)
 
 pub returns : goal.returns
 returns g c =
-    named_last c.args.flood.now.found.items c.loop-index.invariant
-    (omega (arith, c.loop-index-test.false, c.len-index-end.ensures))
+    let kept = (search_of c.self.view_is c.self.invariant).kept in
+    let many = length-map c.args.flood.now.found.items (λ (x : ℕ). x / 2) in
+    named_last _ c.args.self.now.dcel.mesh (starts_at kept.valid)
+    (undirected_of c.args.flood.now.found.items) _ c.loop-index.index c.loop-index.invariant
+    (omega (arith, many, c.loop-index-test.false, c.len-index-end.ensures))

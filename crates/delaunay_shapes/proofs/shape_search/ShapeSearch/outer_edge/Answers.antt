@@ -4,7 +4,7 @@ use Rattle.delaunay_location.proofs.mesh_embedding.OneOutline.{one_outline}
 use Rattle.delaunay_location.proofs.mesh_embedding.OutlineGiven.{along_begins, along_next}
 use Rattle.delaunay_location.proofs.mesh_embedding.OutlineGiven.{along_goes_on, along_ends}
 use Rattle.delaunay_location.proofs.delaunay_legalization_lemmas.Questions.{both_ways}
-use Rattle.delaunay_shapes.proofs.FloodSteps.{search_of}
+use Rattle.delaunay_shapes.proofs.Searches.{search_of}
 use Rattle.delaunay_shapes.proofs.shape_search.ShapeSearch.outer_edge.Goals as goal
 
 pub loop-edge-init : goal.loop-edge-init

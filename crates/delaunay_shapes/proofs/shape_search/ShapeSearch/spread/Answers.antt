@@ -1,25 +1,35 @@
-use Rattle.std.proofs.Common.{◌∙◌}
-use Rattle.delaunay_shapes.proofs.FloodSteps.{fewer_left, found_in, place_in, search_of, spread_done}
-use Rattle.delaunay_shapes.proofs.FloodSteps.{spread_from, spread_on}
+use Rattle.std.proofs.Common.{◌∙◌, arith}
+use Rattle.delaunay_shapes.proofs.Asking.{goes_on_twice}
+use Rattle.delaunay_shapes.proofs.Handles.{found_fits}
+use Rattle.delaunay_shapes.proofs.Searches.{found_in, place_in, search_of}
+use Rattle.delaunay_shapes.proofs.Spreading.{spread_ends, spread_one}
 use Rattle.delaunay_shapes.proofs.shape_search.ShapeSearch.spread.Goals as goal
-
-pub edges-init : goal.edges-init
-edges-init g c = spread_from c.in_ok-spread_starts.ensures c.len-index.ensures
 
 pub directed_edge-requires : goal.directed_edge-requires
 directed_edge-requires g c =
-    found_in c.self.invariant.kept c.edges.flood
+    found_in c.edges.flood c.self.invariant.kept
     (rw (← c.self.view_is) at c.edges.invariant.flooding)
     (place_in c.edges.flood c.edges-test.true c.len.ensures) c.index.ensures
 
 pub edges-smaller : goal.edges-smaller
-edges-smaller g c = fewer_left c.edges.invariant c.edges-test.true c.len.ensures
+edges-smaller g c =
+    let fits = found_fits _ _ _ _ c.edges.invariant.flooding in
+    omega (arith, fits, c.edges-test.true, c.len.ensures, c.edges.flood.found.ok)
 
 pub edges-preserved : goal.edges-preserved
 edges-preserved g c =
-    spread_on c.edges.invariant (search_of c.self.view_is c.self.invariant).kept
-    (place_in c.edges.flood c.edges-test.true c.len.ensures) c.index.ensures
-    (c.fix.ensures.value ∙ c.directed_edge.ensures.index) c.in_ok-ask_beside.ensures
+    let kept = (search_of c.self.view_is c.self.invariant).kept in
+    let way = c.fix.ensures.value ∙ c.directed_edge.ensures.index ∙ c.index.ensures in
+    let asks = rw way at c.in_ok-ask_beside.ensures in
+    record {
+      flooding = asks.flooding;
+      on = goes_on_twice _ _ _ _ _ _ c.edges.invariant.on asks.on;
+      spread = spread_one _ c.args.self.now.dcel.mesh kept.valid _ kept.fits.undirected_fit _ _ _ _
+          c.edges.index c.index.result.now c.edges.invariant.flooding c.edges.invariant.spread
+          (place_in c.edges.flood c.edges-test.true c.len.ensures) asks;
+    }
 
-pub returns : goal.returns
-returns g c = spread_done c.edges.invariant c.edges-test.false c.len.ensures
+pub returns-clause-spread : goal.returns-clause-spread
+returns-clause-spread g c =
+    spread_ends _ _ _ 0 c.edges.index c.edges.invariant.spread
+    (omega (arith, c.edges-test.false, c.len.ensures, c.edges.flood.found.ok))

@@ -1,13 +1,15 @@
 use Rattle.std.proofs.Common.{◌-◌, length}
+use Rattle.delaunay_shapes.specs.Flood.{IsSpreadTo, Spreads}
 use Rattle.delaunay_shapes.specs.InShape.{undirected_of}
-use Rattle.delaunay_shapes.specs.ShapeSearch.{EnclosesVertex, HasSpreadTo}
+use Rattle.delaunay_shapes.specs.ShapeSearch.{EnclosesVertex, IsFloodFor}
 use Rattle.delaunay_shapes.proofs.VertexFlood.{AreNamedAmong, IsAmongFirst}
 use Rattle.delaunay_shapes.proofs.shape_search.ShapeSearch.spread_to_vertices.Given as goal
 
 abbrev pub invariant-edges : goal.invariant-edges
 invariant-edges g l = record {
-  spread : HasSpreadTo g.V.HasPosition.place g.M.DistanceMetric.shape l.self l.fn.flood l.flood 0
-      l.index;
+  flooding : IsFloodFor g.V.HasPosition.place g.M.DistanceMetric.shape l.self l.flood;
+  on : Spreads l.fn.flood.asked l.flood.asked l.fn.flood.found.items l.flood.found.items;
+  spread : IsSpreadTo l.self.dcel.mesh l.flood.asked l.flood.found.items 0 l.index;
   named : AreNamedAmong (EnclosesVertex g.V.HasPosition.place g.M.DistanceMetric.shape l.self)
       l.self.dcel.mesh (IsAmongFirst (undirected_of l.flood.found.items) l.index)
       l.vertices.items;

@@ -1,7 +1,10 @@
-use Rattle.std.proofs.Common.{ap}
+use Rattle.std.proofs.Common.{◌∙◌, map, ap, arith}
+use Rattle.std.proofs.lemmas.List.{length-map}
 use Rattle.delaunay_shapes.specs.InShape.{undirected_of}
 use Rattle.delaunay_shapes.proofs.Asking.{none_asked}
-use Rattle.delaunay_shapes.proofs.FloodSteps.{finds_all, finds_vertices, search_of}
+use Rattle.delaunay_shapes.proofs.Flooding.{begun_finds_all}
+use Rattle.delaunay_shapes.proofs.Searches.{search_of}
+use Rattle.delaunay_shapes.proofs.VertexFlood.{named_are_all}
 use Rattle.delaunay_shapes.proofs.shape_search.ShapeSearch.vertices_from.Goals as goal
 
 pub ask_starts-requires : goal.ask_starts-requires
@@ -11,5 +14,13 @@ ask_starts-requires g c = rw (← c.self.view_is) (none_asked _ _ _ _ _ c.new-fl
 pub returns : goal.returns
 returns g c =
     let search = search_of c.self.view_is c.self.invariant in
-    finds_vertices search (finds_all search c.in_ok-ask_starts.ensures.begun
-    c.in_ok-vertices.ensures.spread) c.in_ok-vertices.ensures.named c.requires
+    let kept = search.kept in
+    let d = c.args.self.now.dcel in
+    let points = map g.V.HasPosition.place d.vertices in
+    let many = length-map d.vertices g.V.HasPosition.place in
+    let found = c.in_ok-vertices.ensures in
+    named_are_all points d.mesh kept.valid kept.shape _ _ search.begins _ _
+    (begun_finds_all points d.mesh kept.valid kept.shape _ _ search.begins _
+    kept.fits.undirected_fit _ _ _ _ found.flooding found.spread
+    c.in_ok-ask_starts.ensures.begun found.on)
+    found.named (many ∙ kept.fits.vertices_fit) (omega (arith, c.requires, many))
