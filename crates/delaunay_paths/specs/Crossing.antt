@@ -1,8 +1,6 @@
 -- The edges of a mesh that cross the segment between two of its vertices, and which of them can be
 -- turned towards it.
-use Rattle.std.specs.Prelude.{◌≡◌, ◌≢◌, ◌⊎◌, ◌<◌, ◌≤◌, ℕ, List, length, Option, MatchOption}
-use Rattle.std.specs.Prelude.{AllPairs, Contains}
-use Rattle.delaunay_lines.specs.half_edge_mesh.Contents.{Contents}
+use Rattle.std.specs.Prelude.{◌≡◌, ◌≢◌, ◌⊎◌, ◌<◌, ℕ, List, length, Option, MatchOption}
 use Rattle.delaunay_lines.specs.half_edge_mesh.Mesh.{Mesh, origin, next, prev, rev}
 use Rattle.delaunay_lines.specs.plane.Fraction.{Point, whole}
 use Rattle.delaunay_lines.specs.plane.Crossing.{Cross}
@@ -90,11 +88,3 @@ pub record AreOthersCrossing (points : List Point) (m : Mesh) (i j e : ℕ)
   pub cross : (h : ℕ) → In h → (h < length m.half_edges) × CrossesFromRight points m i j h
   pub other : (h : ℕ) → In h → h ≢ e
   pub all : (h : ℕ) → h < length m.half_edges → CrossesFromRight points m i j h → (h ≡ e) ⊎ In h
-
--- a list has the directed edges that cross the segment from the right, each once, and is no longer
--- than the list of undirected edges
-pub record ListsAllCrossing {V D U F : Type 0} (points : List Point) (c : Contents V D U F)
-    (i j : ℕ) (hs : List ℕ) : Type 0 where
-  pub once : AllPairs (λ k l. k ≢ l) hs
-  pub all : AreAllCrossing points c.mesh i j (Contains hs)
-  pub few : length hs ≤ length c.undirected
