@@ -1,7 +1,7 @@
 -- The vertices of a list, each with its place and its key, before and after their sort.
--- Notions: key_of, IsTrueOf, ArePlaced; none_placed, one_placed, sorted_is_listed.
+-- Notions: key_of, IsTrueOf, ArePlaced; key_by, none_placed, one_placed, sorted_is_listed.
 use Rattle.std.proofs.Common.{◌≡◌, ◌+◌, ◌-◌, ◌<◌, ◌≤◌, [], ◌∷◌, ◌++◌, ◌∙◌}
-use Rattle.std.proofs.Common.{ℕ, zero, suc, List, length, map, Some, false}
+use Rattle.std.proofs.Common.{ℕ, ℤ, zero, suc, List, length, map, Some, false}
 use Rattle.std.proofs.Common.{rules, sym, ap, subst, refl, arith, append_assoc, length-append}
 use Rattle.std.specs.Prelude.{All, IsPermutation, slice_get, slice_index_or}
 use Rattle.std.specs.Ordering.{nat_cmp, is_lt}
@@ -57,6 +57,12 @@ sorted_from_rise n xs up k d low within =
     not_less (n (slice_index_or xs (k + 1) d)) (n (slice_index_or xs k d))
     (up k (k + 1) d (omega arith) within)
 
+-- a key by the coordinates of the position
+pub key_by : {key : ℕ} {x y : ℤ} {q p : Point} → key ≡ key_at x y → x ≡ q.x → y ≡ q.y → q ≡ p
+    → key ≡ key_at p.x p.y
+key_by {q = q} is at_x at_y same = is ∙ ap (λ (z : ℤ × ℤ). key_at z.0 z.1)
+    (λ i. (at_x i, at_y i)) ∙ ap (λ (r : Point). key_at r.x r.y) same
+
 module _ {V : Type 0} (place : V → Point) where
   -- the key of a vertex
   abbrev pub key_of : V → ℕ
@@ -88,7 +94,7 @@ module _ {V : Type 0} (place : V → Point) where
         rise = λ i j d le b. absurd (omega (arith, b));
       })
 
-  module _ (vertices left rest : List V) (placed : List (Placed V)) (v : V) (e : Placed V)
+  module _ {vertices left rest : List V} {placed : List (Placed V)} {v : V} {e : Placed V}
       (is : left ≡ v ∷ rest) (a : ArePlaced vertices left placed) (key : e.key ≡ key_of v)
       (at : e.place ≡ length placed) (vertex : e.vertex ≡ v) where
     split_later : vertices ≡ (a.before ++ v ∷ []) ++ rest
@@ -117,8 +123,8 @@ module _ {V : Type 0} (place : V → Point) where
         (omega (arith, some)) in
         omega (arith, below, same, at)
 
-    pub one_placed : ArePlaced vertices rest (placed ++ e ∷ [])
-    one_placed = record {
+    one_more : ArePlaced vertices rest (placed ++ e ∷ [])
+    one_more = record {
       before = a.before ++ v ∷ [];
       split = split_later;
       so_many = let many = a.so_many in
@@ -134,6 +140,11 @@ module _ {V : Type 0} (place : V → Point) where
       });
       rise = IsNonDecreasingBy-push (λ (p : Placed V). p.place) placed e a.rise last_below;
     }
+
+    pub one_placed : {more : List (Placed V)} → more ≡ placed ++ e ∷ []
+        → ArePlaced vertices rest more
+    one_placed pushed = subst (λ (ps : List (Placed V)). ArePlaced vertices rest ps) (sym pushed)
+        one_more
 
   fused : (ps : List (Placed V))
       → map (λ (e : ℕ × V). e.0) (map entry_of ps) ≡ map (λ (p : Placed V). p.place) ps

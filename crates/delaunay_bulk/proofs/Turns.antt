@@ -1,10 +1,12 @@
 -- Vertices that are inserted one after another.
--- Notions: plain_of, NextWas, RefusedWas, IsUnderway; one_of_all, idle, tried, next_was, none_was,
--- refused_was, begins, read, has_place, goes_on, stops, ends.
+-- Notions: plain_of, NextWas, RefusedWas, IsInserting; one_of_all, next_site, next_was, none_was,
+-- refused_was, inserting_begins, inserting_has_place, inserting_goes_on, inserting_ends,
+-- inserting_stops.
 use Rattle.std.proofs.Common.{◌≡◌, ◌<◌, [], ◌∷◌, ◌++◌, ◌∙◌}
-use Rattle.std.proofs.Common.{ℕ, List, length, map, Option, None, Some, Result, Ok, Err}
-use Rattle.std.proofs.Common.{sym, ap, subst, refl, arith, inl, append_assoc, append-nil}
+use Rattle.std.proofs.Common.{ℕ, List, length, map, None, Some, Ok, Err}
+use Rattle.std.proofs.Common.{sym, ap, subst, refl, arith, inl, inr, append_assoc, append-nil}
 use Rattle.std.specs.Prelude.{All, slice_get, slice_set}
+use Rattle.std.proofs.lemmas.List.{length-map}
 use Rattle.std.proofs.lemmas.List.Elements.{All-head, All-rest}
 use Rattle.std.proofs.lemmas.Option.{slice_get_within, get_or_from_slice_get}
 use Rattle.delaunay_interface.specs.plane.Fraction.{Point}
@@ -12,11 +14,12 @@ use Rattle.delaunay_interface.specs.plane.Plain.{IsSameState, Plain, Run, insert
 use Rattle.delaunay_interface.specs.plane.Tests.{InRange}
 use Rattle.delaunay_interface.specs.delaunay_legalization.Constraints.{points_and_constraints_by}
 use Rattle.delaunay_interface.specs.delaunay_legalization.State.{State}
+use Rattle.delaunay_interface.specs.Headline.{AreSites}
 use Rattle.delaunay_interface.proofs.Stepping.{inserted_grows, inserted_here}
 use Rattle.delaunay_bulk.specs.declared.error.BulkInsertionError.{BulkInsertionError}
 use Rattle.delaunay_bulk.specs.Order.{IsListed}
 use Rattle.delaunay_bulk.specs.Bulk.{InsertsAll, InsertsInTurn, InsertsNext, InsertsOne}
-use Rattle.delaunay_bulk.specs.Bulk.{HaveHandles, RefusesOne, StopsLater, TriesOne}
+use Rattle.delaunay_bulk.specs.Bulk.{HaveHandles, RefusesOne, StopsAt}
 use Rattle.delaunay_bulk.proofs.Handled.{AreHandled, all_handled, one_handled}
 
 -- what all of a list have, the one at an index has
@@ -24,6 +27,15 @@ pub one_of_all : {V : Type 0} (P : V → Type 0) (list : List V) (i : ℕ) (v : 
     → slice_get list i ≡ Some v → P v
 one_of_all P list i v all read = subst P (get_or_from_slice_get list i v v read)
     (all i v (slice_get_within list i v read))
+
+-- the first of those that are left may be a site, as each of them may
+pub next_site : {V : Type 0} (place : V → Point) (IsSite : Point → Type 0)
+    {es rest : List (ℕ × V)} {e : ℕ × V}
+    → All (λ f. InRange (place f.1) → IsSite (place f.1)) es → es ≡ e ∷ rest
+    → InRange (place e.1) → IsSite (place e.1)
+next_site {V = V} place IsSite {rest = rest} {e = e} all is =
+    All-head (λ (f : ℕ × V). InRange (place f.1) → IsSite (place f.1)) e rest
+    (subst (λ (fs : List (ℕ × V)). All (λ f. InRange (place f.1) → IsSite (place f.1)) fs) is all)
 
 module _ {V D U F : Type 0} (place : V → Point) (constraints : List U → List ℕ) where
   abbrev pub plain_of : State V D U F → Plain V
@@ -54,20 +66,6 @@ module _ {V D U F : Type 0} (place : V → Point) (constraints : List U → List
   runs_from_turns (e ∷ es) old new (h, (next, (first, rest))) =
       (plain_of next, (h, first.inserts.ok), runs_from_turns es next new rest)
 
-  -- ---- one step
-  pub idle : (left rest : List (ℕ × V)) (s : State V D U F) → length left ≡ 0 → rest ≡ left
-      → InsertsNext place constraints (Ok None) left rest s s
-  idle [] rest s none same = (refl, same, refl)
-  idle (e ∷ es) rest s none same = absurd (omega (arith, none))
-
-  pub tried : (left rest : List (ℕ × V)) (e : ℕ × V)
-      (result : Result (Option (ℕ × ℕ)) BulkInsertionError) (old new : State V D U F)
-      → left ≡ e ∷ rest → TriesOne place constraints e result old new
-      → InsertsNext place constraints result left rest old new
-  tried left rest e result old new is one =
-      subst (λ (es : List (ℕ × V)). InsertsNext place constraints result es rest old new) (sym is)
-      (refl, one)
-
   -- ---- what one step was
   pub record NextWas (left rest : List (ℕ × V)) (i h : ℕ) (old new : State V D U F) : Type 0 where
     pub vertex : V
@@ -91,7 +89,7 @@ module _ {V D U F : Type 0} (place : V → Point) (constraints : List U → List
 
   pub none_was : (left rest : List (ℕ × V)) (old new : State V D U F)
       → InsertsNext place constraints (Ok None) left rest old new
-      → (length left ≡ 0) × (new ≡ old)
+      → (left ≡ []) × (new ≡ old)
   none_was [] rest old new (is, e, same) = (refl, same)
   none_was (e ∷ es) rest old new (is, tries) =
       let told : None ≡ Some (e.0, tries.ok.0) = tries.ok.1.0 in absurd (cc)
@@ -110,92 +108,126 @@ module _ {V D U F : Type 0} (place : V → Point) (constraints : List U → List
   refused_was (e ∷ es) rest error old new (is, tries) =
       record { entry = e; rest = es; is = refl; refused = tries.err }
 
-  -- ---- so many were inserted, and these are left
-  pub record IsUnderway (list : List V) (order left : List (ℕ × V)) (handles : List ℕ)
-      (old now : State V D U F) : Type 0 where
-    pub made : List (ℕ × V)
-    pub split : order ≡ made ++ left
-    pub turns : InsertsInTurn place constraints made old now
-    pub there : All (λ e. slice_get list e.0 ≡ Some e.1) left
-    pub handled : AreHandled place list (map (λ e. e.0) left) handles now.vertices
+-- ---- the whole list
+-- some of the vertices of a list were inserted in an order, and these are left; those that are
+-- there are sites, and so are those that are left
+pub record IsInserting {V D U F : Type 0} (place : V → Point) (constraints : List U → List ℕ)
+    (IsSite : Point → Type 0) (list : List V) (order left : List (ℕ × V)) (handles : List ℕ)
+    (old now : State V D U F) : Type 0 where
+  pub listed : IsListed place list order
+  pub made : List (ℕ × V)
+  pub split : order ≡ made ++ left
+  pub turns : InsertsInTurn place constraints made old now
+  pub there : All (λ e. slice_get list e.0 ≡ Some e.1) left
+  pub handled : AreHandled place list (map (λ e. e.0) left) handles now.vertices
+  pub sites : AreSites place IsSite now.vertices
+  pub left_sites : All (λ e. InRange (place e.1) → IsSite (place e.1)) left
 
-  pub begins : (list : List V) (order : List (ℕ × V)) (handles : List ℕ) (s : State V D U F)
-      → IsListed place list order → length handles ≡ length list
-      → IsUnderway list order order handles s s
-  begins list order handles s listed size = record {
-    made = [];
-    split = refl;
-    turns = refl;
-    there = listed.there;
-    handled = record {
-      each = λ i v read. inl (listed.places.all i (slice_get_within list i v read));
-      size = size;
-    };
-  }
+pub inserting_begins : {V D U F : Type 0} {place : V → Point} {constraints : List U → List ℕ}
+    {IsSite : Point → Type 0} {list : List V} {order : List (ℕ × V)} {handles : List ℕ}
+    {old now : State V D U F} → IsListed place list order → length handles ≡ length order
+    → AreSites place IsSite old.vertices → All (λ v. InRange (place v) → IsSite (place v)) list
+    → now ≡ old → IsInserting place constraints IsSite list order order handles old now
+inserting_begins {V = V} {D = D} {U = U} {F = F} {place = place} {constraints = constraints}
+    {IsSite = IsSite} {list = list} {order = order} {handles = handles} {old = old} listed size
+    sites list_sites same = subst
+    (λ (s : State V D U F). IsInserting place constraints IsSite list order order handles old s)
+    (sym same) (record {
+      listed = listed;
+      made = [];
+      split = refl;
+      turns = refl;
+      there = listed.there;
+      handled = record {
+        each = λ i v read. inl (listed.places.all i (slice_get_within list i v read));
+        size = size ∙ sym (length-map order (λ (e : ℕ × V). e.0)) ∙ listed.places.once;
+      };
+      sites = sites;
+      left_sites = λ k d b. one_of_all (λ (v : V). InRange (place v) → IsSite (place v)) list _ _
+          list_sites (listed.there k d b);
+    })
 
-  module _ (list : List V) (order left rest : List (ℕ × V)) (handles : List ℕ)
-      (old now new : State V D U F) (i : ℕ) (v : V) (is : left ≡ (i, v) ∷ rest)
-      (u : IsUnderway list order left handles old now) where
-    -- the entry that comes next names the vertex at its index in the list
-    pub read : slice_get list i ≡ Some v
-    read = All-head (λ (e : ℕ × V). slice_get list e.0 ≡ Some e.1) (i, v) rest
-        (subst (All (λ (e : ℕ × V). slice_get list e.0 ≡ Some e.1)) is u.there)
+module _ {V D U F : Type 0} {place : V → Point} {constraints : List U → List ℕ}
+    {IsSite : Point → Type 0} {list : List V} {order left : List (ℕ × V)} {handles : List ℕ}
+    {old now : State V D U F}
+    (u : IsInserting place constraints IsSite list order left handles old now)
+    (rest : List (ℕ × V)) (new : State V D U F) where
+  -- the entry that comes next names the vertex at its index in the list
+  read : (e : ℕ × V) (others : List (ℕ × V)) → left ≡ e ∷ others → slice_get list e.0 ≡ Some e.1
+  read e others is = All-head (λ (f : ℕ × V). slice_get list f.0 ≡ Some f.1) e others
+      (subst (All (λ (f : ℕ × V). slice_get list f.0 ≡ Some f.1)) is u.there)
 
-    pub has_place : i < length handles
-    has_place =
-        let within = slice_get_within list i v read in
+  module _ (entry : ℕ × ℕ)
+      (next : InsertsNext place constraints (Ok (Some entry)) left rest now new) where
+    was : NextWas place constraints left rest entry.0 entry.1 now new
+    was = next_was place constraints left rest entry.0 entry.1 now new next
+
+    abbrev e : ℕ × V
+    e = (entry.0, was.vertex)
+
+    pub inserting_has_place : entry.0 < length handles
+    inserting_has_place =
+        let within = slice_get_within list entry.0 was.vertex (read e rest was.is) in
         let size = u.handled.size in omega (arith, within, size)
 
-    pub goes_on : (h : ℕ) → InsertsOne place constraints v h now new
-        → IsUnderway list order rest (slice_set handles i h) old new
-    goes_on h one = record {
-      made = u.made ++ (i, v) ∷ [];
-      split = u.split ∙ ap (λ (es : List (ℕ × V)). u.made ++ es) is
-          ∙ sym (append_assoc u.made ((i, v) ∷ []) rest);
-      turns = turns_push u.made (i, v) h old now new u.turns one;
-      there = All-rest (λ (e : ℕ × V). slice_get list e.0 ≡ Some e.1) (i, v) rest left is u.there;
-      handled = one_handled place list (map (λ e. e.0) left) (map (λ e. e.0) rest) handles
-          (plain_of now) (plain_of new) i v h
-          (ap (map (λ (e : ℕ × V). e.0)) is) read one.inserts.ok
-          (inserted_grows place constraints now new v h one.inserts)
-          (inserted_here place constraints now new v h one.inserts) has_place u.handled;
+    pub inserting_goes_on : AreSites place IsSite new.vertices → {more : List ℕ}
+        → more ≡ slice_set handles entry.0 entry.1
+        → IsInserting place constraints IsSite list order rest more old new
+    inserting_goes_on sites written = record {
+      listed = u.listed;
+      made = u.made ++ e ∷ [];
+      split = u.split ∙ ap (λ (es : List (ℕ × V)). u.made ++ es) was.is
+          ∙ sym (append_assoc u.made (e ∷ []) rest);
+      turns = turns_push place constraints u.made e entry.1 old now new u.turns was.one;
+      there = All-rest (λ (f : ℕ × V). slice_get list f.0 ≡ Some f.1) e rest left was.is u.there;
+      handled = subst
+          (λ (hs : List ℕ). AreHandled place list (map (λ f. f.0) rest) hs new.vertices)
+          (sym written) (one_handled place list (map (λ f. f.0) left) (map (λ f. f.0) rest) handles
+          (plain_of place constraints now) (plain_of place constraints new) entry.0 was.vertex
+          entry.1 (ap (map (λ (f : ℕ × V). f.0)) was.is) (read e rest was.is) was.one.inserts.ok
+          (inserted_grows place constraints now new was.vertex entry.1 was.one.inserts)
+          (inserted_here place constraints now new was.vertex entry.1 was.one.inserts)
+          inserting_has_place u.handled);
+      sites = sites;
+      left_sites = All-rest (λ (f : ℕ × V). InRange (place f.1) → IsSite (place f.1)) e rest left
+          was.is u.left_sites;
     }
 
-    pub stops : (error : BulkInsertionError) → IsListed place list order
-        → All (λ v. InRange (place v)) list
-        → RefusesOne place constraints (i, v) error now new
-        → StopsLater place constraints list error old new
-    stops error listed in_range refused =
-        let same : new ≡ now = refused.refused.err in record {
-          made = u.made;
-          entry = (i, v);
-          left = rest;
-          listed = subst (IsListed place list)
-              (u.split ∙ ap (λ (es : List (ℕ × V)). u.made ++ es) is) listed;
-          turns = subst (λ (s : State V D U F). InsertsInTurn place constraints u.made old s)
-              (sym same) u.turns;
-          refused = subst (λ (s : State V D U F). RefusesOne place constraints (i, v) error s new)
-              (sym same) refused;
-          in_range = one_of_all (λ w. InRange (place w)) list i v in_range read;
-        }
-
   -- where none is left, each vertex of the list was inserted, and these are the handles
-  pub ends : (list : List V) (order left : List (ℕ × V)) (handles : List ℕ)
-      (old now new : State V D U F) → IsListed place list order → length left ≡ 0 → new ≡ now
-      → IsUnderway list order left handles old now
+  pub inserting_ends : InsertsNext place constraints (Ok None) left rest now new
       → InsertsAll place constraints list handles old new
-  ends list order [] handles old now new listed none same u =
-      let all : u.made ≡ order = sym (u.split ∙ append-nil u.made) in
+  inserting_ends next =
+      let was = none_was place constraints left rest now new next in
+      let all : u.made ≡ order = sym (u.split ∙ ap (λ (es : List (ℕ × V)). u.made ++ es) was.0
+      ∙ append-nil u.made) in
       let turns : InsertsInTurn place constraints order old new =
-      subst (λ (es : List (ℕ × V)). InsertsInTurn place constraints es old new) all
-      (subst (λ (s : State V D U F). InsertsInTurn place constraints u.made old s) (sym same)
-      u.turns) in record {
+      subst (λ (x : List (ℕ × V) × State V D U F). InsertsInTurn place constraints x.0 old x.1)
+      (λ i. (all i, sym was.1 i)) u.turns in record {
         order = order;
-        listed = listed;
+        listed = u.listed;
         turns = turns;
-        runs = runs_from_turns order old new turns;
+        runs = runs_from_turns place constraints order old new turns;
         handles_are = subst (λ (s : State V D U F). HaveHandles place list handles s.vertices)
-            (sym same) (all_handled place list [] handles now.vertices u.handled refl);
+            (sym was.1) (all_handled place list (map (λ e. e.0) left) handles now.vertices u.handled
+            (ap (λ (es : List (ℕ × V)). length (map (λ (e : ℕ × V). e.0) es)) was.0));
       }
-  ends list order (e ∷ es) handles old now new listed none same u =
-      absurd (omega (arith, none))
+
+  pub inserting_stops : {error : BulkInsertionError} → All (λ v. InRange (place v)) list
+      → InsertsNext place constraints (Err error) left rest now new
+      → StopsAt place constraints list error old new
+  inserting_stops {error = error} in_range next =
+      let was = refused_was place constraints left rest error now new next in
+      let same : new ≡ now = was.refused.refused.err in inr (record {
+        made = u.made;
+        entry = was.entry;
+        left = was.rest;
+        listed = subst (IsListed place list)
+            (u.split ∙ ap (λ (es : List (ℕ × V)). u.made ++ es) was.is) u.listed;
+        turns = subst (λ (s : State V D U F). InsertsInTurn place constraints u.made old s)
+            (sym same) u.turns;
+        refused = subst
+            (λ (s : State V D U F). RefusesOne place constraints was.entry error s new) (sym same)
+            was.refused;
+        in_range = one_of_all (λ v. InRange (place v)) list was.entry.0 was.entry.1 in_range
+            (read was.entry was.rest was.is);
+      })

@@ -1,13 +1,14 @@
 -- What lists that are written at places hold.
--- Lemmas: one_more_written, length-written, first_written, none_waits, one_more_within, not_empty.
-use Rattle.std.proofs.Common.{◌≡◌, [], ◌∷◌, ◌++◌, ◌∙◌, ◌<◌, ◌+◌, List, ℕ, length, refl, drop, ap, subst, arith}
+-- Lemmas: length-written, first_written, none_waits, pushed_written, pushed_within, not_empty.
+use Rattle.std.proofs.Common.{◌≡◌, [], ◌∷◌, ◌++◌, ◌∙◌, ◌<◌, ◌+◌, List, ℕ, length, refl, drop, sym}
+use Rattle.std.proofs.Common.{ap, subst, arith}
 use Rattle.std.specs.Prelude.{All, slice_set, get_or}
 use Rattle.std.proofs.lemmas.List.{at_drop_more, length-set}
 use Rattle.std.proofs.lemmas.List.Elements.{All-push}
 use Rattle.delaunay_bulk.specs.ByPlace.{written}
 
 -- one item more, written last
-pub one_more_written : {X : Type 0} (items : List X) (waiting : List (ℕ × X)) (e : ℕ × X)
+one_more_written : {X : Type 0} (items : List X) (waiting : List (ℕ × X)) (e : ℕ × X)
     → written items (waiting ++ e ∷ []) ≡ slice_set (written items waiting) e.0 e.1
 unfolding written
 one_more_written items [] e = refl
@@ -34,15 +35,26 @@ pub none_waits : {X : Type 0} (items : List X) (waiting : List (ℕ × X)) → w
 unfolding written
 none_waits items waiting none = ap (written items) none
 
--- a place of the list, also for one item more
-pub one_more_within : {X : Type 0} (items : List X) (waiting : List (ℕ × X)) (e : ℕ × X)
-    → All (λ w. w.0 < length items) waiting → e.0 < length (written items waiting)
-    → All (λ w. w.0 < length items) (waiting ++ e ∷ [])
-one_more_within items waiting e within below =
-    All-push (λ w. w.0 < length items) waiting e within
-    (subst (λ n. e.0 < n) (length-written items waiting) below)
+-- ---- a list that is seen as it is once those that wait are written
+module _ {X : Type 0} (items : List X) {seen : List X} (waiting : List (ℕ × X)) (e : ℕ × X)
+    (view : written items waiting ≡ seen) where
+  -- one that waits more is written last
+  pub pushed_written : {more : List (ℕ × X)} → more ≡ waiting ++ e ∷ []
+      → written items more ≡ slice_set seen e.0 e.1
+  pushed_written is = ap (written items) is ∙ one_more_written items waiting e
+      ∙ ap (λ (xs : List X). slice_set xs e.0 e.1) view
 
--- a list with a place is not empty
-pub not_empty : {X : Type 0} (items : List X) (waiting : List (ℕ × X)) (place : ℕ)
-    → place < length (written items waiting) → 0 < length items
-not_empty items waiting place below = omega (arith, below, length-written items waiting)
+  module _ (below : e.0 < length seen) where
+    same_length : length seen ≡ length items
+    same_length = ap (λ (xs : List X). length xs) (sym view) ∙ length-written items waiting
+
+    -- a list with its place is not empty
+    pub not_empty : 0 < length items
+    not_empty = let same = same_length in omega (arith, below, same)
+
+    -- and each that waits then has its place
+    pub pushed_within : {more : List (ℕ × X)} → All (λ w. w.0 < length items) waiting
+        → more ≡ waiting ++ e ∷ [] → All (λ w. w.0 < length items) more
+    pushed_within within is = subst (λ (ws : List (ℕ × X)). All (λ w. w.0 < length items) ws)
+        (sym is) (All-push (λ (w : ℕ × X). w.0 < length items) waiting e within
+        (subst (λ n. e.0 < n) same_length below))

@@ -39,7 +39,7 @@ impl<T: Copy + Drop> ByPlace<T> {
     {
         let room = if count == 0 { 0 } else { WAITING };
         Ok(ByPlace {
-            items: repeated(alloc, item, count)?,
+            items: Vec::from_elem(alloc, item, count)?,
             waiting: Vec::with_capacity(alloc, room)?,
         })
     }
@@ -64,13 +64,6 @@ impl<T: Copy + Drop> ByPlace<T> {
         write_entries(&mut items, &self.waiting);
         items
     }
-}
-
-// So many copies of an item.
-fn repeated<T: Copy + Drop>(alloc: Global, item: T, count: usize) -> Result<Vec<T>, AllocError>
-    ensures { IfOk result (λ items. length items.items ≡ count) }
-{
-    Vec::from_elem(alloc, item, count)
 }
 
 // Writes items at their places, the first first.

@@ -68,7 +68,6 @@ pub trait InsertAll: Triangulation {
         'vertices: while let Some(inserted) = insertion.insert_next(self, tests)? {
             handles.write(inserted);
         }
-        self.recall_invariant();
         Ok(handles.finish())
     }
 }

@@ -1,12 +1,10 @@
-use Rattle.std.proofs.Common.{◌≡◌, ◌∙◌, List, length, rules, refl, sym, ap, subst, arith}
-use Rattle.std.proofs.Common.{ℤ, w64, to_z, of_z}
+use Rattle.std.proofs.Common.{◌≡◌, ◌∙◌, List, length, rules, refl, ap, subst, arith}
+use Rattle.std.proofs.Common.{w64, to_z, of_z}
 use Rattle.std.proofs.lemmas.Int.{to_z-of_z}
 use Rattle.std.specs.Vec.Iter.{into_iter_items}
 use Rattle.std.proofs.lemmas.List.Sorted.{IsNonDecreasingBy-from_sort_by_key, answers_always}
-use Rattle.delaunay_interface.specs.plane.Fraction.{Point}
-use Rattle.delaunay_bulk.specs.Curve.{key_at}
 use Rattle.delaunay_bulk.specs.declared.order.Placed.{Placed}
-use Rattle.delaunay_bulk.proofs.Placing.{ArePlaced, one_placed, sorted_is_listed}
+use Rattle.delaunay_bulk.proofs.Placing.{ArePlaced, key_by, one_placed, sorted_is_listed}
 use Rattle.delaunay_bulk.proofs.order.along_curve.Goals as goal
 
 pub loop-vertex-preserved : goal.loop-vertex-preserved
@@ -21,23 +19,11 @@ loop-vertex-preserved g c =
     let room = c.loop-vertex.invariant.3 in (
       tt,
       tt,
-      subst (λ (ps : List (Placed g.row.V.Denot)). ArePlaced g.V.HasPosition.place
-          (into_iter_items c.into_iter-vertex-iterator.result) (into_iter_items c.next.new.self) ps)
-          (sym c.push_reserved.ensures.items)
-          (one_placed g.V.HasPosition.place _ _ _ c.loop-vertex.placed.items c.in-Some.vertex
-          (record {
-            key = c.curve_key-key.result;
-            place = c.len-place.result;
-            vertex = c.in-Some.vertex;
-          })
-          is c.loop-vertex.invariant.2
-          (c.curve_key-key.ensures
-          ∙ ap (λ (x : ℤ). key_at x (to_z w64 (of_z w64 c.to_i64-in-loop-vertex.result)))
-          (read_x ∙ c.to_i64.ensures)
-          ∙ ap (λ (y : ℤ). key_at (g.V.Scalar.SpadeNum.whole c.position-position.result.x) y)
-          (read_y ∙ c.to_i64-in-loop-vertex.ensures)
-          ∙ ap (λ (q : Point). key_at q.x q.y) c.position-position.ensures)
-          (omega (arith, c.len-place.ensures, c.loop-vertex.placed.ok)) refl),
+      one_placed _ is c.loop-vertex.invariant.2
+          (key_by c.curve_key-key.ensures (read_x ∙ c.to_i64.ensures)
+          (read_y ∙ c.to_i64-in-loop-vertex.ensures) c.position-position.ensures)
+          (omega (arith, c.len-place.ensures, c.loop-vertex.placed.ok)) refl
+          c.push_reserved.ensures.items,
       omega (
         arith,
         fewer,
