@@ -1,8 +1,8 @@
 -- What the questions about edges say of the items of a segment.
--- Lemmas: crossed_iff, along_iff, second_decides, not_crossed, iff_through, iff_named,
--- crossed_within, crossing_item, overlap_item.
+-- Lemmas: crossed_iff, along_iff, second_decides, not_crossed, iff_through, iff_named, true_tells,
+-- false_tells, crossed_within, crossing_item, overlap_item.
 use Rattle.std.proofs.Common.{◌≡◌, ◌⊎◌, ◌<◌, ◌↔◌, ◌∙◌, ℕ, Bool, IsTrue, List, length, map}
-use Rattle.std.proofs.Common.{sym, ap, subst, inl, inr}
+use Rattle.std.proofs.Common.{true, false, refl, sym, ap, subst, inl, inr}
 use Rattle.delaunay_lines.specs.half_edge_mesh.Mesh.{Mesh, origin, rev}
 use Rattle.delaunay_lines.specs.half_edge_mesh.Contents.{Contents}
 use Rattle.delaunay_lines.proofs.half_edge_links.Lists.Rev.{rev-rev}
@@ -14,6 +14,7 @@ use Rattle.delaunay_lines.specs.plane.Line.{Item, across, along}
 use Rattle.delaunay_lines.proofs.plane.Sides.{side_swapped}
 use Rattle.plane_sight.specs.Sight.{PassesFree}
 use Rattle.delaunay_lines.specs.mesh_embedding.Drawn.{drawn}
+use Rattle.delaunay_lines.proofs.delaunay_legalization_lemmas.Questions.{both_ways}
 use Rattle.delaunay_lines.specs.declared.intersection.Intersection.{Intersection}
 use Rattle.delaunay_lines.specs.declared.intersection.Intersection.TheVariants.{EdgeIntersection}
 use Rattle.delaunay_lines.specs.declared.intersection.Intersection.TheVariants.{EdgeOverlap}
@@ -23,6 +24,13 @@ use Rattle.delaunay_lines.proofs.MeshSteps.{in_mesh}
 use Rattle.delaunay_sight.specs.Beside.{by_place, IsFreeBeside, IsFreeUnlessOn}
 use Rattle.delaunay_sight.specs.Passing.{Looking, Passes}
 use Rattle.delaunay_sight.proofs.MeshFaces.{beside_iff, behind_iff}
+
+-- ---- answers that are known
+pub true_tells : {P : Type 0} → P → IsTrue true ↔ P
+true_tells so = ((λ _. so), (λ _. refl))
+
+pub false_tells : {P : Type 0} → ¬ P → IsTrue false ↔ P
+false_tells none = ((λ t. absurd (both_ways false t refl)), (λ so. absurd (none so)))
 
 -- ---- items
 on_swapped : (u v p : Fraction) → side u v p ≡ on → side v u p ≡ on
@@ -90,10 +98,13 @@ module _ {V D U F : Type 0} {at : V → Point} {IsSite IsCovered : Point → Typ
     (λ z. second.1 (crossed_iff.1 z).1),
   )
 
-  -- where it is no, the faces are not free
-  pub not_crossed : (x : Bool) → ¬ IsTrue x → IsTrue x ↔ IsFreeUnlessOn points m free p (rev h)
-      → ¬ Passed (across a b)
-  not_crossed x denies first z = denies (first.1 (crossed_iff.1 z).0)
+  -- where it is no, so is the answer
+  pub not_crossed : (x : Bool) → x ≡ false → IsTrue x ↔ IsFreeUnlessOn points m free p (rev h)
+      → IsTrue x ↔ Passed (across a b)
+  not_crossed x denied first = (
+    (λ t. absurd (both_ways x t denied)),
+    (λ z. absurd (both_ways x (first.1 (crossed_iff.1 z).0) denied)),
+  )
 
 pub iff_through : {X Y Z : Type 0} → X ↔ Y → Y ↔ Z → X ↔ Z
 iff_through f g = ((λ x. g.0 (f.0 x)), (λ z. f.1 (g.1 z)))

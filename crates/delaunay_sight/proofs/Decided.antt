@@ -1,9 +1,9 @@
 -- Whether a position is in a closed free face, by its location; and whether a segment is a line of
 -- sight.
--- Lemmas: at_vertex_iff, on_edge_iff, in_face_iff, not_outside, not_without, sees_if, sees_start,
--- sees_end, goes_free, over_kept, over_line, of_state.
+-- Lemmas: vertex_there, at_vertex_iff, on_edge_iff, in_face_iff, beyond_tells, sees_if, sees_start,
+-- sees_end, goes_free, over_line, of_state.
 use Rattle.std.proofs.Common.{◌≡◌, ◌⊎◌, ◌<◌, ◌↔◌, ℕ, Bool, IsTrue, List, length, map}
-use Rattle.std.proofs.Common.{sym, subst, inl, inr}
+use Rattle.std.proofs.Common.{false, sym, subst, inl, inr}
 use Rattle.std.specs.Prelude.{Contains, All}
 use Rattle.delaunay_lines.specs.half_edge_mesh.Mesh.{Mesh, origin, next, prev, face, face_edge, rev}
 use Rattle.delaunay_lines.specs.half_edge_mesh.Contents.{Contents}
@@ -16,6 +16,7 @@ use Rattle.delaunay_lines.proofs.plane.Segments.{start_on_segment, end_on_segmen
 use Rattle.delaunay_lines.specs.mesh_embedding.Drawn.{drawn}
 use Rattle.delaunay_lines.specs.delaunay_legalization.Shape.{IsTriangulated}
 use Rattle.delaunay_lines.specs.delaunay_legalization.State.{State, state_of, triangulation_of}
+use Rattle.delaunay_lines.specs.delaunay_location.declared.position_in_triangulation.PositionInTriangulation.{PositionInTriangulation}
 use Rattle.delaunay_lines.specs.delaunay_location.declared.position_in_triangulation.PositionInTriangulation.TheVariants.{OnVertex}
 use Rattle.delaunay_lines.specs.delaunay_location.declared.position_in_triangulation.PositionInTriangulation.TheVariants.{OnEdge}
 use Rattle.delaunay_lines.specs.delaunay_location.declared.position_in_triangulation.PositionInTriangulation.TheVariants.{OnFace}
@@ -24,14 +25,28 @@ use Rattle.delaunay_lines.specs.delaunay_location.declared.position_in_triangula
 use Rattle.delaunay_lines.specs.delaunay_location.Location.{Locates}
 use Rattle.delaunay_lines.specs.Starts.{StartsOutside}
 use Rattle.delaunay_lines.specs.Steps.{IsOverMesh}
-use Rattle.delaunay_lines.proofs.Located.{outside_that_edge, without_triangulation}
+use Rattle.delaunay_lines.proofs.Located.{on_that_vertex, outside_that_edge, without_triangulation}
 use Rattle.delaunay_sight.specs.Beside.{by_place, IsFreeBeside, HasFreeRound}
 use Rattle.delaunay_sight.specs.Passing.{GoesFree}
+use Rattle.delaunay_sight.proofs.Crossed.{false_tells}
 use Rattle.delaunay_sight.proofs.MeshFaces.{beside_iff, behind_iff, free_edge, tiles_with}
 
-module _ {V D U F : Type 0} {at : V → Point} {IsSite IsCovered : Point → Type 0}
-    {c : Contents V D U F} {p q : Point} (over : IsOverMesh at IsSite IsCovered c p q)
-    (free : ℕ → Bool) where
+-- a segment over the mesh of a triangulation, without tests
+over_kept : {V D U F : Type 0} {at : V → Point} (c : Contents V D U F) (p q : Point)
+    → IsTriangulated at (state_of c) → IsOverMesh at (λ _. Unit {0}) (λ _. Unit {0}) c p q
+over_kept c p q kept = record {
+  mesh = record { valid = kept.valid; fits = kept.fits };
+  shape = kept.shape;
+  sites = λ i x e. tt;
+  from = tt;
+  to = tt;
+}
+
+module _ {V D U F : Type 0} {at : V → Point} (c : Contents V D U F)
+    (kept : IsTriangulated at (state_of c)) (free : ℕ → Bool) (p : Point) where
+  over : IsOverMesh at (λ _. Unit {0}) (λ _. Unit {0}) c p p
+  over = over_kept c p p kept
+
   abbrev m : Mesh
   m = c.mesh
 
@@ -45,19 +60,23 @@ module _ {V D U F : Type 0} {at : V → Point} {IsSite IsCovered : Point → Typ
   InFree = IsInFree t (by_place free) (whole p)
 
   tiles : (n : ℕ) → n < length t.faces → TilesHull t
-  tiles n within = tiles_with points m over.mesh.valid over.shape free n within
+  tiles n within = tiles_with points m kept.valid kept.shape free n within
+
+  -- a vertex that was found is there
+  pub vertex_there : {v : ℕ} → Locates points m p (OnVertex v) → v < length c.vertices
+  vertex_there {v = v} l = (on_that_vertex over v l).0
 
   -- at a vertex
   pub at_vertex_iff : (v : ℕ) → Locates points m p (OnVertex v)
       → HasFreeRound m free v ↔ InFree
   at_vertex_iff v l = (
     (λ r. let f = subst (λ (i : ℕ). HasFreeFace t (by_place free) i (origin m (rev r.0))) r.2
-        ((beside_iff points m over.mesh.valid over.shape free r.0 r.1).0 r.3) in
+        ((beside_iff points m kept.valid kept.shape free r.0 r.1).0 r.3) in
         ((in_free_by_place t (tiles f.index f.within) (by_place free) (whole p)).2 v l.location.0
         l.location.1).1 (origin m (rev r.0), f)),
     (λ o. let f = ((in_free_by_place t (tiles o.index o.within) (by_place free) (whole p)).2 v
         l.location.0 l.location.1).0 o in
-        let e = free_edge points m over.mesh.valid over.shape free v f.0 f.1 in
+        let e = free_edge points m kept.valid kept.shape free v f.0 f.1 in
         (e.0, e.1, sym e.2, e.4)),
   )
 
@@ -65,8 +84,8 @@ module _ {V D U F : Type 0} {at : V → Point} {IsSite IsCovered : Point → Typ
   pub on_edge_iff : (e : ℕ) → Locates points m p (OnEdge e)
       → (IsFreeBeside m free e ⊎ IsFreeBeside m free (rev e)) ↔ InFree
   on_edge_iff e l =
-      let left = beside_iff points m over.mesh.valid over.shape free e l.handle in
-      let right = behind_iff points m over.mesh.valid over.shape free e l.handle in (
+      let left = beside_iff points m kept.valid kept.shape free e l.handle in
+      let right = behind_iff points m kept.valid kept.shape free e l.handle in (
         (λ x. elim x [
           | inl y ↦ (let f = left.0 y in ((in_free_by_place t (tiles f.index f.within)
               (by_place free) (whole p)).1 (origin m e) (origin m (rev e)) l.location.0
@@ -94,16 +113,16 @@ module _ {V D U F : Type 0} {at : V → Point} {IsSite IsCovered : Point → Typ
   )
     where
       named : (face_edge m f < length m.half_edges) × (face m (face_edge m f) ≡ f)
-      named = over.mesh.valid.sound.faces f l.handle.0 l.handle.1
+      named = kept.valid.sound.faces f l.handle.0 l.handle.1
 
       starts : origin m (next m (face_edge m f)) ≡ origin m (rev (face_edge m f))
-      starts = (over.mesh.valid.sound.edges (face_edge m f) named.0).starts
+      starts = (kept.valid.sound.edges (face_edge m f) named.0).starts
 
       listed : IsFreeBeside m free (face_edge m f) ↔ HasFreeFace t (by_place free)
           (origin m (face_edge m f)) (origin m (next m (face_edge m f)))
       listed = subst (λ (j : ℕ). IsFreeBeside m free (face_edge m f) ↔ HasFreeFace t (by_place free)
           (origin m (face_edge m f)) j) (sym starts)
-          (beside_iff points m over.mesh.valid over.shape free (face_edge m f) named.0)
+          (beside_iff points m kept.valid kept.shape free (face_edge m f) named.0)
 
       law : TilesHull t → InFree ↔ HasFreeFace t (by_place free) (origin m (face_edge m f))
           (origin m (next m (face_edge m f)))
@@ -117,17 +136,20 @@ module _ {V D U F : Type 0} {at : V → Point} {IsSite IsCovered : Point → Typ
       let e = s.left_of h in
       (in_free_by_place t h (by_place free) (whole p)).3 e.0 e.1 e.2 e.3 o
 
-  pub not_outside : (e : ℕ) → Locates points m p (OutsideOfConvexHull e) → ¬ InFree
-  not_outside e l = outside (outside_that_edge over e l)
-
-  pub not_without : Locates points m p NoTriangulation → ¬ InFree
-  not_without l = outside (without_triangulation over l)
+  -- beyond the hull, or where there is no face, it is in none
+  pub beyond_tells : {r : PositionInTriangulation}
+      → ((e : ℕ) × (r ≡ OutsideOfConvexHull e)) ⊎ (r ≡ NoTriangulation) → Locates points m p r
+      → IsTrue false ↔ InFree
+  beyond_tells (inl is) l = false_tells (outside (outside_that_edge over is.0
+      (subst (Locates points m p) is.1 l)))
+  beyond_tells (inr is) l = false_tells (outside (without_triangulation over
+      (subst (Locates points m p) is l)))
 
   -- where both ends are in closed free faces, the items decide
-  pub sees_if : InFree → IsInFree t (by_place free) (whole q) → (b : Bool)
+  pub sees_if : (q : Point) → InFree → IsInFree t (by_place free) (whole q) → (b : Bool)
       → GoesFree t (by_place free) (whole p) (whole q) b → IsTrue b
       ↔ IsInSight t (by_place free) (whole p) (whole q)
-  sees_if start end b goes =
+  sees_if q start end b goes =
       let law = sight_by_line t (tiles start.index start.within) (by_place free) (whole p) (whole q)
       goes.0 goes.1 in (
         (λ says. law.1 (start, end, goes.2.0 says)),
@@ -155,17 +177,6 @@ goes_free {V} {D} {U} {F} at s c same free p q items line b iff = (
   subst (λ (x : State V D U F). IsTrue b
       ↔ ((k : Item) → Contains items k → PassesFree (triangulation_of at x) free p q k)) same iff,
 )
-
--- a segment over the mesh of a triangulation, without tests
-pub over_kept : {V D U F : Type 0} {at : V → Point} (c : Contents V D U F) (p q : Point)
-    → IsTriangulated at (state_of c) → IsOverMesh at (λ _. Unit {0}) (λ _. Unit {0}) c p q
-over_kept c p q kept = record {
-  mesh = record { valid = kept.valid; fits = kept.fits };
-  shape = kept.shape;
-  sites = λ i x e. tt;
-  from = tt;
-  to = tt;
-}
 
 -- a segment over the mesh of a line over a mesh with the same state
 pub over_line : {V D U F : Type 0} {at : V → Point} {IsSite IsCovered Site Covered : Point → Type 0}

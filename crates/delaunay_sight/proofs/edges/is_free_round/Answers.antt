@@ -1,22 +1,17 @@
-use Rattle.std.proofs.Common.{ℕ, refl, sym, ap, subst, ◌∙◌, arith}
+use Rattle.std.proofs.Common.{ap, ◌∙◌, arith}
 use Rattle.delaunay_lines.specs.half_edge_mesh.Mesh.{origin}
-use Rattle.delaunay_lines.specs.half_edge_mesh.Rounds.{GivesRound, out_edges_left}
 use Rattle.delaunay_lines.proofs.delaunay_legalization_lemmas.Rounds.{round_begins, next_within}
 use Rattle.delaunay_lines.proofs.delaunay_legalization_lemmas.Rounds.{next_starts, round_goes_on}
 use Rattle.delaunay_lines.proofs.delaunay_legalization_lemmas.Rounds.{round_ends}
 use Rattle.delaunay_lines.proofs.delaunay_legalization_lemmas.Questions.{both_ways}
+use Rattle.delaunay_sight.proofs.Crossed.{false_tells, true_tells}
 use Rattle.delaunay_sight.proofs.edges.is_free_round.Goals as goal
 
 pub loop-edge-init : goal.loop-edge-init
-loop-edge-init g c =
-    let d = c.vertex.result.dcel in
-    round_begins c.args.dcel.now c.args.vertex _ d (out_edges_left c.into_iter-edge-iterator.result)
+loop-edge-init g c = round_begins c.args.dcel.now c.args.vertex _ c.vertex.result.dcel _
     (ap (λ x. x.now) c.vertex.ensures.dcel) c.recall_invariant.ensures.whole.valid
-    (subst (λ it. GivesRound d c.args.vertex (out_edges_left it))
-    (sym c.into_iter-edge-iterator.ensures.into_iter_gives)
-    (subst (λ (v : ℕ). GivesRound d v (out_edges_left c.out_edges-edge-items.result))
-    c.vertex.ensures.index
-    c.out_edges-edge-items.ensures))
+    (rw (← c.into_iter-edge-iterator.ensures.into_iter_gives, c.vertex.ensures.index) at
+    c.out_edges-edge-items.ensures)
 
 pub is_free_beside-requires : goal.is_free_beside-requires
 is_free_beside-requires g c =
@@ -31,23 +26,16 @@ loop-edge-preserved g c =
     (c.is_free_beside.ensures.1 (rw c.fix-edge.ensures.value x)) c.if-is_free_beside.false)
 
 pub returns : goal.returns
-returns g c = (
-  (λ t. absurd (both_ways _ t refl)),
-  (λ r. absurd (round_ends _ _ _ _ c.loop-edge.invariant c.in-None.ensures.steps.0 r.0 r.1 r.2
-      r.3)),
-)
+returns g c = false_tells
+    (λ r. round_ends _ _ _ _ c.loop-edge.invariant c.in-None.ensures.steps.0 r.0 r.1 r.2 r.3)
 
 pub returns-then-is_free_beside : goal.returns-then-is_free_beside
 returns-then-is_free_beside g c =
-    let m = c.args.dcel.now.mesh in
     let o = next_starts _ _ _ _ c.loop-edge.invariant _ _ c.in-Some.ensures.steps in
     let w = next_within _ _ _ _ c.loop-edge.invariant _ _ c.in-Some.ensures.steps in
-    let is = c.fix-edge.ensures.value in (
-      (λ t. (
-        c.fix-edge.result,
-        omega (arith, w, is),
-        ap (origin m) is ∙ o,
-        c.is_free_beside.ensures.0 c.if-is_free_beside.true,
-      )),
-      (λ r. refl),
+    let is = c.fix-edge.ensures.value in true_tells (
+      c.fix-edge.result,
+      omega (arith, w, is),
+      ap (origin c.args.dcel.now.mesh) is ∙ o,
+      c.is_free_beside.ensures.0 c.if-is_free_beside.true,
     )

@@ -1,4 +1,4 @@
-use Rattle.std.proofs.Common.{◌↔◌, IsTrue, refl, map, subst}
+use Rattle.std.proofs.Common.{◌↔◌, IsTrue, map, subst}
 use Rattle.std.specs.Prelude.{All}
 use Rattle.delaunay_lines.specs.plane.Fraction.{whole}
 use Rattle.delaunay_lines.specs.plane.Tests.{InRange}
@@ -7,6 +7,7 @@ use Rattle.delaunay_lines.specs.delaunay_core.Place.{place_of}
 use Rattle.delaunay_lines.specs.delaunay_legalization.State.{triangulation_of}
 use Rattle.delaunay_lines.proofs.delaunay_legalization_lemmas.Questions.{both_ways}
 use Rattle.delaunay_sight.specs.Beside.{by_place}
+use Rattle.delaunay_sight.proofs.Crossed.{false_tells}
 use Rattle.delaunay_sight.proofs.Decided.{sees_start, of_state}
 use Rattle.delaunay_sight.proofs.sight.is_in_sight.Goals as goal
 
@@ -21,13 +22,11 @@ sees-requires-clause-sites g c =
 pub returns-then-not-is_in_free : goal.returns-then-not-is_in_free
 returns-then-not-is_in_free g c =
     let at = place_of g.V.Scalar.SpadeNum.whole in
-    let free = by_place (g.G.FreeFaces.free c.args.free.now) in (
-      (λ t. absurd (both_ways _ t refl)),
-      (λ s. absurd (both_ways _ (c.is_in_free.ensures.1
-          (of_state (λ z. IsInFree (triangulation_of g.V.HasPosition.place z) free
-          (whole (at c.args.from))) _ _ c.mesh-dcel.ensures.state
-          (sees_start _ free (at c.args.from) (at c.args.to) s))) c.if-not-is_in_free.true)),
-    )
+    let free = by_place (g.G.FreeFaces.free c.args.free.now) in
+    false_tells (λ s. both_ways _ (c.is_in_free.ensures.1
+    (of_state (λ z. IsInFree (triangulation_of g.V.HasPosition.place z) free
+    (whole (at c.args.from))) _ _ c.mesh-dcel.ensures.state
+    (sees_start _ free (at c.args.from) (at c.args.to) s))) c.if-not-is_in_free.true)
 
 pub returns : goal.returns
 returns g c =

@@ -1,4 +1,3 @@
-use Rattle.delaunay_lines.proofs.delaunay_legalization_lemmas.Questions.{both_ways}
 use Rattle.delaunay_sight.proofs.Crossed.{second_decides, not_crossed, crossed_within}
 use Rattle.delaunay_sight.proofs.items.Sight.crosses_free.Goals as goal
 
@@ -23,10 +22,6 @@ returns-else-is_free_unless_on g c =
       c.twin_of-twin.ensures.value,
       c.fix-edge.ensures.value,
     ) at c.is_free_unless_on.ensures in
-    rw (← c.self.view_is) (
-      (λ t. absurd (both_ways _ t c.if-is_free_unless_on.false)),
-      (λ z. absurd (not_crossed c.self.invariant (g.G.FreeFaces.free c.self.inside.free.now)
-          c.args.edge.now.index
-          (crossed_within c.args.edge.now _ (rw (← c.self.view_is) at c.requires)) _
-          (λ t. both_ways _ t c.if-is_free_unless_on.false) first z)),
-    )
+    rw (← c.self.view_is) (not_crossed c.self.invariant (g.G.FreeFaces.free c.self.inside.free.now)
+    c.args.edge.now.index (crossed_within c.args.edge.now _ (rw (← c.self.view_is) at c.requires)) _
+    c.if-is_free_unless_on.false first)

@@ -1,5 +1,6 @@
-use Rattle.std.proofs.Common.{◌∙◌, ap, refl}
+use Rattle.std.proofs.Common.{◌∙◌, ap}
 use Rattle.delaunay_lines.proofs.delaunay_legalization_lemmas.Questions.{both_ways}
+use Rattle.delaunay_sight.proofs.Crossed.{false_tells, true_tells}
 use Rattle.delaunay_sight.proofs.Walks.{walking_begins, walking_goes_on, item_mesh}
 use Rattle.delaunay_sight.proofs.Walks.{stops_at, walking_ends}
 use Rattle.delaunay_sight.proofs.items.Sight.passes_each.Goals as goal
@@ -17,12 +18,10 @@ loop-item-preserved g c =
     (c.passes.ensures.0 c.if-not-passes.false)
 
 pub returns-then-not-passes : goal.returns-then-not-passes
-returns-then-not-passes g c = λ items left. (
-  (λ t. absurd (both_ways _ t refl)),
-  (λ all. absurd (stops_at c.loop-item.invariant c.in-Some.ensures.steps
-      (λ y. both_ways _ (c.passes.ensures.1 y) c.if-not-passes.true) items left all)),
-)
+returns-then-not-passes g c = λ items left.
+    false_tells (stops_at c.loop-item.invariant c.in-Some.ensures.steps
+    (λ y. both_ways _ (c.passes.ensures.1 y) c.if-not-passes.true) items left)
 
 pub returns : goal.returns
 returns g c = λ items left.
-    ((λ t. walking_ends c.loop-item.invariant c.in_default.ensures.steps items left), (λ all. refl))
+    true_tells (walking_ends c.loop-item.invariant c.in_default.ensures.steps items left)
