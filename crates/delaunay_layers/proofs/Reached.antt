@@ -1,8 +1,8 @@
 -- Each face is reached from the outer one. Where faces were left, the sides between them would
 -- cancel out, and so would their areas; but each face turns left, and has a positive area.
--- Lemmas: goes, flow, all_reached, all_layers.
+-- Lemmas: goes, flow, all_reached, all_layers, search_ends.
 use Rattle.std.proofs.Common.{◌≡◌, ◌⊎◌, ◌-◌, ◌<◌, ◌≤◌, [], ◌∙◌}
-use Rattle.std.proofs.Common.{ℕ, zero, suc, List, length, get_or, refl, sym, ap, subst, arith}
+use Rattle.std.proofs.Common.{ℕ, zero, suc, List, length, get_or, map, refl, sym, ap, subst, arith}
 use Rattle.std.proofs.Common.{eq-eqb}
 use mathlib.Core.Logic.{inl, inr}
 use mathlib.Core.Bool.{Bool, true, false, ◌&&◌, ◌||◌}
@@ -29,7 +29,12 @@ use Rattle.delaunay_interface.proofs.mesh_embedding.MeshStars.{IsEdgeOfFace, edg
 use Rattle.delaunay_interface.proofs.mesh_embedding.OuterEdges.{real}
 use Rattle.delaunay_interface.proofs.mesh_embedding.WorkLists.{contains_map}
 use Rattle.delaunay_layers.specs.Layers.{AreLayers}
-use Rattle.delaunay_layers.specs.Search.{unseen, layer_at, IsMet, IsFound}
+use Rattle.delaunay_interface.specs.half_edge_mesh.Contents.{Contents}
+use Rattle.delaunay_interface.specs.delaunay_legalization.Shape.{IsTriangulated}
+use Rattle.delaunay_interface.specs.delaunay_legalization.State.{state_of}
+use Rattle.delaunay_layers.specs.Search.{unseen, layer_at, IsMet, IsFound, IsLayered, IsSearching}
+use Rattle.delaunay_layers.specs.declared.search.LayerSearch.{LayerSearch}
+use Rattle.delaunay_layers.proofs.Searching.{all_found}
 use Rattle.delaunay_layers.proofs.Ways.{no_shorter}
 
 -- ---- a test of the numbers below a bound
@@ -313,3 +318,18 @@ module _ (points : List Point) (m : Mesh) (v : IsValidMesh m)
               omega (arith, same, less, o);
         };
   }
+
+-- a search with no edge left has the layers
+pub search_ends : {V D U F : Type 0} (at : V → Point) {c : Contents V D U F}
+    {constraints : List ℕ} (old new : LayerSearch)
+    → IsTriangulated at (state_of c) → new.layers ≡ old.layers
+    → (old.now.items ≡ []) × (old.later.items ≡ [])
+    → IsSearching c constraints old.layers.items old.now.items old.later.items old.layer
+    → AreLayers c.mesh constraints new.layers.items
+search_ends at {c = c} {constraints = constraints} old new kept same none s =
+    subst (λ v. AreLayers c.mesh constraints v.items) (sym same)
+    (all_layers (map at c.vertices) c.mesh kept.valid kept.shape constraints old.layers.items
+    (all_found c.mesh constraints old.layers.items old.layer
+    (subst (λ xs. IsLayered c.mesh constraints old.layers.items xs [] old.layer) none.0
+    (subst (λ xs. IsLayered c.mesh constraints old.layers.items old.now.items xs old.layer) none.1
+    s.layered)) s.outer))

@@ -1,8 +1,8 @@
 -- The steps of a search for the layers of faces.
 -- Lemmas: counted, not_counted, listed_now, listed_later, lists_none, lists_as, lists_both,
--- lists_beside, no_outer, outer_more, outer_passed, outer_all, three_sides, one_less,
--- nothing_seen, next_layer, passed, reached, begun, leads_within, stepped, taken, all_found,
--- less_work, stands_at, few_layers, not_last.
+-- lists_beside, puts_none, puts_more, puts_no_more, three_sides, one_less, nothing_seen,
+-- next_layer, passed, reached, all_found, taking_is_less, stands_at, search_begins, next_fits,
+-- search_takes, edge_there, crossing_passes, crossing_steps.
 use Rattle.std.proofs.Common.{◌≡◌, ◌⊎◌, ◌↔◌, ◌+◌, ◌/◌, ◌<◌, ◌≤◌, [], ◌∷◌, ◌++◌, ◌∙◌}
 use Rattle.std.proofs.Common.{ℕ, zero, suc, List, length, get_or, replicate, set}
 use Rattle.std.proofs.Common.{refl, sym, ap, subst, arith, eq-eqb, length-append}
@@ -27,7 +27,9 @@ use Rattle.delaunay_interface.specs.half_edge_mesh.Mesh.{AreSoundLinks}
 use Rattle.delaunay_interface.proofs.half_edge_links.Sound.Triangles.{same_loop, triangle_at}
 use Rattle.delaunay_layers.specs.Search.{unseen, layer_at, IsMet, left_unseen, weight, HasWay}
 use Rattle.delaunay_layers.specs.Search.{IsDue, IsReachedAcross, IsLayered, IsSideOf, Lists, work_left}
-use Rattle.delaunay_layers.specs.Search.{IsFound, TakesNow, TakesLater}
+use Rattle.delaunay_layers.specs.Search.{IsFound, IsSearching, PutsIn, TakesNow, TakesLater}
+use Rattle.delaunay_layers.specs.declared.search.LayerSearch.{LayerSearch}
+use Rattle.delaunay_interface.specs.half_edge_mesh.Contents.{Contents, IsMeshWithData}
 use Rattle.delaunay_interface.specs.half_edge_links.declared.room.TheConstants.{MAX_ELEMENTS}
 use Rattle.delaunay_layers.specs.Layers.{is_constrained}
 
@@ -116,10 +118,10 @@ module _ (constraints : List ℕ) where
   }
 
   -- the same edges by another property
-  pub lists_as : (Which Those : ℕ → Type 0) (now later now' later' : List ℕ)
+  pub lists_as : (Which Those : ℕ → Type 0) {now later now' later' : List ℕ}
       → ((h : ℕ) → Which h ↔ Those h) → Lists constraints Which now later now' later'
       → Lists constraints Those now later now' later'
-  lists_as Which Those now later now' later' same l = record {
+  lists_as Which Those same l = record {
     now_kept = l.now_kept;
     later_kept = l.later_kept;
     there = λ g t. l.there g ((same g).1 t);
@@ -134,10 +136,10 @@ module _ (constraints : List ℕ) where
   }
 
   -- some edges, and then others
-  pub lists_both : (Which Those : ℕ → Type 0) (now later mid mid' now' later' : List ℕ)
+  pub lists_both : (Which Those : ℕ → Type 0) {now later mid mid' now' later' : List ℕ}
       → Lists constraints Which now later mid mid' → Lists constraints Those mid mid' now' later'
       → Lists constraints (λ h. Which h ⊎ Those h) now later now' later'
-  lists_both Which Those now later mid mid' now' later' a b = record {
+  lists_both Which Those a b = record {
     now_kept = λ g c. b.now_kept g (a.now_kept g c);
     later_kept = λ g c. b.later_kept g (a.later_kept g c);
     there = λ g w. elim w [
@@ -181,60 +183,62 @@ module _ (constraints : List ℕ) where
     later_only = l.later_only;
   }
 
+-- ---- the outer edges, one after another
+module _ (m : Mesh) (constraints : List ℕ) where
+  -- one with an index below i that has the outer face on its left
+  abbrev pub IsOuterBelow : ℕ → ℕ → Type 0
+  IsOuterBelow i h = (h < i) × (face m h ≡ 0)
+
+  pub puts_none : (s : LayerSearch) → PutsIn constraints (IsOuterBelow 0) s s
+  puts_none s = record {
+    lists = lists_none constraints (IsOuterBelow 0) s.now.items s.later.items
+        (λ h p. let w = p.0 in omega (arith, w));
+    layers = refl;
+    layer = refl;
+  }
+
+  module _ {given mid : LayerSearch} {i : ℕ} (k : ℕ)
+      (puts : PutsIn constraints (IsOuterBelow i) given mid) (is : k ≡ i) where
+    -- one edge more was looked at, and put in
+    pub puts_more : {new : LayerSearch} → PutsIn constraints (λ h. h ≡ k) mid new → face m k ≡ 0
+        → PutsIn constraints (IsOuterBelow (i + 1)) given new
+    puts_more one outer = record {
+      lists = lists_as constraints (λ h. IsOuterBelow i h ⊎ (h ≡ k)) (IsOuterBelow (i + 1))
+          (λ h. (there h, back h))
+          (lists_both constraints (IsOuterBelow i) (λ h. h ≡ k) puts.lists one.lists);
+      layers = one.layers ∙ puts.layers;
+      layer = one.layer ∙ puts.layer;
+    }
+      where
+        there : (h : ℕ) → IsOuterBelow i h ⊎ (h ≡ k) → IsOuterBelow (i + 1) h
+        there h (inl p) = let w = p.0 in (omega (arith, w), p.1)
+        there h (inr e) = (omega (arith, e, is), ap (face m) e ∙ outer)
+
+        back : (h : ℕ) → IsOuterBelow (i + 1) h → IsOuterBelow i h ⊎ (h ≡ k)
+        back h p = elim (cases_eq h k) [
+          | inl e ↦ inr e
+          | inr n ↦ let w = p.0 in inl (omega (arith, w, n, is), p.1)
+        ]
+
+    -- one that is no outer one
+    pub puts_no_more : face m k ≢ 0 → PutsIn constraints (IsOuterBelow (i + 1)) given mid
+    puts_no_more inner = record {
+      lists = lists_as constraints (IsOuterBelow i) (IsOuterBelow (i + 1))
+          (λ h. (there h, back h)) puts.lists;
+      layers = puts.layers;
+      layer = puts.layer;
+    }
+      where
+        there : (h : ℕ) → IsOuterBelow i h → IsOuterBelow (i + 1) h
+        there h p = let w = p.0 in (omega (arith, w), p.1)
+
+        back : (h : ℕ) → IsOuterBelow (i + 1) h → IsOuterBelow i h
+        back h p = elim (cases_eq h k) [
+          | inl e ↦ absurd (inner (ap (face m) (sym e) ∙ p.1))
+          | inr n ↦ let w = p.0 in (omega (arith, w, n, is), p.1)
+        ]
+
 -- ---- the edges of a face
--- of the edges before the first no one has the outer face on its left
-pub no_outer : (m : Mesh) (constraints now later : List ℕ)
-    → Lists constraints (λ h. (h < 0) × (face m h ≡ 0)) now later now later
-no_outer m constraints now later =
-    lists_none constraints (λ h. (h < 0) × (face m h ≡ 0)) now later
-    (λ h p. let w = p.0 in omega (arith, w))
-
--- one edge more was looked at, and listed
-pub outer_more : (m : Mesh) (constraints now later mid mid' now' later' : List ℕ) (i k : ℕ)
-    → Lists constraints (λ h. (h < i) × (face m h ≡ 0)) now later mid mid'
-    → Lists constraints (λ h. h ≡ k) mid mid' now' later' → k ≡ i → face m k ≡ 0
-    → Lists constraints (λ h. (h < i + 1) × (face m h ≡ 0)) now later now' later'
-outer_more m constraints now later mid mid' now' later' i k a b at outer =
-    lists_as constraints (λ h. ((h < i) × (face m h ≡ 0)) ⊎ (h ≡ k))
-    (λ h. (h < i + 1) × (face m h ≡ 0)) now later now' later' (λ h. (there h, back h))
-    (lists_both constraints (λ h. (h < i) × (face m h ≡ 0)) (λ h. h ≡ k) now later mid mid' now'
-    later' a b)
-  where
-    there : (h : ℕ) → ((h < i) × (face m h ≡ 0)) ⊎ (h ≡ k) → (h < i + 1) × (face m h ≡ 0)
-    there h (inl p) = let w = p.0 in (omega (arith, w), p.1)
-    there h (inr e) = (omega (arith, e, at), ap (face m) e ∙ outer)
-
-    back : (h : ℕ) → (h < i + 1) × (face m h ≡ 0) → ((h < i) × (face m h ≡ 0)) ⊎ (h ≡ k)
-    back h p = elim (cases_eq h k) [
-      | inl e ↦ inr e
-      | inr n ↦ let w = p.0 in inl (omega (arith, w, n, at), p.1)
-    ]
-
--- one edge more was looked at, that is no outer one
-pub outer_passed : (m : Mesh) (constraints now later now' later' : List ℕ) (i k : ℕ)
-    → Lists constraints (λ h. (h < i) × (face m h ≡ 0)) now later now' later'
-    → k ≡ i → face m k ≢ 0
-    → Lists constraints (λ h. (h < i + 1) × (face m h ≡ 0)) now later now' later'
-outer_passed m constraints now later now' later' i k a at inner =
-    lists_as constraints (λ h. (h < i) × (face m h ≡ 0)) (λ h. (h < i + 1) × (face m h ≡ 0)) now
-    later now' later' (λ h. (there h, back h)) a
-  where
-    there : (h : ℕ) → (h < i) × (face m h ≡ 0) → (h < i + 1) × (face m h ≡ 0)
-    there h p = let w = p.0 in (omega (arith, w), p.1)
-
-    back : (h : ℕ) → (h < i + 1) × (face m h ≡ 0) → (h < i) × (face m h ≡ 0)
-    back h p = elim (cases_eq h k) [
-      | inl e ↦ absurd (inner (ap (face m) (sym e) ∙ p.1))
-      | inr n ↦ let w = p.0 in (omega (arith, w, n, at), p.1)
-    ]
-
--- all edges were looked at
-pub outer_all : (m : Mesh) (constraints now later now' later' : List ℕ) (i : ℕ)
-    → Lists constraints (λ h. (h < i) × (face m h ≡ 0)) now later now' later'
-    → i ≡ length m.half_edges → Lists constraints (IsSideOf m 0) now later now' later'
-outer_all m constraints now later now' later' i a all =
-    subst (λ (n : ℕ). Lists constraints (λ h. (h < n) × (face m h ≡ 0)) now later now' later') all a
-
 -- the edges of an inner face are the one that it names, and those after and before it
 pub three_sides : (m : Mesh) → AreSoundLinks m → (f h : ℕ) → 0 < f → f ≤ length m.face_edges
     → (((h ≡ face_edge m f) ⊎ (h ≡ next m (face_edge m f))) ⊎ (h ≡ prev m (face_edge m f)))
@@ -465,106 +469,6 @@ module _ (m : Mesh) (constraints : List ℕ) where
           more = λ some. omega (arith, less, same, bound);
         }
 
-  -- the outer face has its layer from the beginning
-  pub begun : (layers now later : List ℕ) → layers ≡ replicate (length m.face_edges + 1) unseen
-      → Lists constraints (IsSideOf m 0) [] [] now later
-      → IsLayered m constraints (set layers 0 0) now later 0
-  begun layers now later all l =
-      subst (λ (xs : List ℕ). IsLayered m constraints (set xs 0 0) now later 0) (sym all)
-      (reached (replicate (length m.face_edges + 1) unseen) [] [] now later 0 0
-      (nothing_seen (length m.face_edges + 1) refl)
-      (let e = length-replicate (length m.face_edges + 1) unseen in omega (arith, e))
-      (all_unseen (length m.face_edges + 1) 0) (omega arith) ([], refl, refl) l)
-
-  -- what an edge leads to is listed among the faces
-  pub leads_within : AreSoundLinks m → (layers now later : List ℕ) (layer h : ℕ)
-      → IsLayered m constraints layers (now ++ h ∷ []) later layer
-      → (h < length m.half_edges) × (face m (rev h) < length layers)
-  leads_within sound layers now later layer h s =
-      let w = (s.now_due h (Contains-push now h)).within in
-      let f = (sound.edges (rev h) (rev_within h (length m.half_edges) sound.even w)).face_in in
-      let c = s.count in
-      (w, omega (arith, f, c))
-
-  -- an edge was crossed to a face that was not reached before
-  pub stepped : AreSoundLinks m → length m.face_edges + 1 ≤ unseen
-      → (layers now later now1 later1 now2 later2 now3 later3 : List ℕ)
-      → (layer h f e1 e2 e3 : ℕ)
-      → IsLayered m constraints layers (now ++ h ∷ []) later layer → layer_at layers 0 ≡ 0
-      → f ≡ face m (rev h) → layer_at layers f ≡ unseen
-      → e1 ≡ face_edge m f → e2 ≡ next m (face_edge m f) → e3 ≡ prev m (face_edge m f)
-      → Lists constraints (λ g. g ≡ e1) now later now1 later1
-      → Lists constraints (λ g. g ≡ e2) now1 later1 now2 later2
-      → Lists constraints (λ g. g ≡ e3) now2 later2 now3 later3
-      → IsLayered m constraints (set layers f layer) now3 later3 layer
-  stepped sound few layers now later now1 later1 now2 later2 now3 later3 layer h f e1 e2 e3 s outer
-      at new p q r a b c =
-      passed (set layers f layer) now3 later3 layer h
-      (reached layers (now ++ h ∷ []) later (now3 ++ h ∷ []) later3 layer f s within new small way
-      (lists_beside constraints (IsSideOf m f) now later now3 later3 h sides))
-      (subst (IsMet (set layers f layer)) at seen)
-    where
-      within : f < length layers
-      within = let w = (leads_within sound layers now later layer h s).1 in omega (arith, w, at)
-
-      small : layer < unseen
-      small = let n = s.count in let m = s.bound in
-          let left = one_less layers f 0 within new (omega arith) in
-          omega (arith, n, m, few, left)
-
-      some : 0 < f
-      some = elim (cases_eq f 0) [
-        | inl e ↦ let z = ap (layer_at layers) e in absurd (omega (arith, z, outer, new))
-        | inr n ↦ omega (arith, n)
-      ]
-
-      few_faces : f ≤ length m.face_edges
-      few_faces = let n = s.count in omega (arith, n, within)
-
-      due : IsDue m constraints layers h layer
-      due = s.now_due h (Contains-push now h)
-
-      way : HasWay m constraints f layer
-      way = subst (λ x. HasWay m constraints x layer) (sym at)
-          (subst (HasWay m constraints (face m (rev h))) due.due
-          (way_on m constraints h (layer_at layers (face m h)) due.within
-          (s.ways (face m h) due.seen)))
-
-      seen : IsMet (set layers f layer) f
-      seen e = let g = get_or-set_same layers f layer unseen within in omega (arith, e, g, small)
-
-      sides : Lists constraints (IsSideOf m f) now later now3 later3
-      sides = lists_as constraints
-          (λ g. ((g ≡ face_edge m f) ⊎ (g ≡ next m (face_edge m f)))
-          ⊎ (g ≡ prev m (face_edge m f)))
-          (IsSideOf m f) now later now3 later3
-          (λ g. three_sides m sound f g some few_faces)
-          (lists_both constraints (λ g. (g ≡ face_edge m f) ⊎ (g ≡ next m (face_edge m f)))
-          (λ g. g ≡ prev m (face_edge m f)) now later now2 later2 now3 later3
-          (lists_both constraints (λ g. g ≡ face_edge m f) (λ g. g ≡ next m (face_edge m f))
-          now later now1 later1 now2 later2
-          (subst (λ x. Lists constraints (λ g. g ≡ x) now later now1 later1) p a)
-          (subst (λ x. Lists constraints (λ g. g ≡ x) now1 later1 now2 later2) q b))
-          (subst (λ x. Lists constraints (λ g. g ≡ x) now2 later2 now3 later3) r c))
-
-  -- the next edge was taken
-  pub taken : (layers now later now' later' : List ℕ) (layer layer' h : ℕ)
-      → IsLayered m constraints layers now later layer
-      → TakesNow h now later layer now' later' layer'
-      ⊎ TakesLater h now later layer now' later' layer'
-      → IsLayered m constraints layers (now' ++ h ∷ []) later' layer'
-  taken layers now later now' later' layer layer' h s (inl t) =
-      subst (IsLayered m constraints layers (now' ++ h ∷ []) later') (sym t.layer_stays)
-      (subst (λ xs. IsLayered m constraints layers (now' ++ h ∷ []) xs layer) (sym t.later_stays)
-      (subst (λ xs. IsLayered m constraints layers xs later layer) t.taken s))
-  taken layers now later now' later' layer layer' h s (inr t) =
-      subst (IsLayered m constraints layers (now' ++ h ∷ []) later') (sym t.next)
-      (subst (λ xs. IsLayered m constraints layers (now' ++ h ∷ []) xs (layer + 1)) (sym t.empty)
-      (subst (λ xs. IsLayered m constraints layers xs [] (layer + 1)) t.taken
-      (next_layer layers later layer
-      (subst (λ xs. IsLayered m constraints layers xs later layer) t.none s)
-      (let n = ap length t.taken ∙ length-append now' (h ∷ []) in omega (arith, n)))))
-
   -- a search with no edge left is at its end
   pub all_found : (layers : List ℕ) (layer : ℕ) → IsLayered m constraints layers [] [] layer
       → layer_at layers 0 ≡ 0 → IsFound m constraints layers
@@ -580,19 +484,22 @@ module _ (m : Mesh) (constraints : List ℕ) where
   }
 
 -- with an edge that is taken there is less to do
-pub less_work : (layers now later now' later' : List ℕ) (layer layer' h : ℕ)
-    → TakesNow h now later layer now' later' layer'
-    ⊎ TakesLater h now later layer now' later' layer'
-    → work_left layers now' later' < work_left layers now later
-less_work layers now later now' later' layer layer' h (inl t) =
-    let n = ap length t.taken ∙ length-append now' (h ∷ []) in
+pub taking_is_less : (old new : LayerSearch) → new.layers ≡ old.layers → (h : ℕ)
+    → TakesNow h old.now.items old.later.items old.layer new.now.items new.later.items new.layer
+    ⊎ TakesLater h old.now.items old.later.items old.layer new.now.items new.later.items new.layer
+    → work_left new.layers.items new.now.items new.later.items
+    < work_left old.layers.items old.now.items old.later.items
+taking_is_less old new same h (inl t) =
+    let u = ap (λ v. left_unseen v.items) same in
+    let n = ap length t.taken ∙ length-append new.now.items (h ∷ []) in
     let l = ap length t.later_stays in
-    omega (arith, n, l)
-less_work layers now later now' later' layer layer' h (inr t) =
-    let n = ap length t.taken ∙ length-append now' (h ∷ []) in
+    omega (arith, u, n, l)
+taking_is_less old new same h (inr t) =
+    let u = ap (λ v. left_unseen v.items) same in
+    let n = ap length t.taken ∙ length-append new.now.items (h ∷ []) in
     let l = ap length t.empty in
     let k = ap length t.none in
-    omega (arith, n, l, k)
+    omega (arith, u, n, l, k)
 
 -- what stands at the place of a face, whatever is read past the end
 pub stands_at : (layers : List ℕ) (f i n : ℕ) → i ≡ f → f < length layers
@@ -600,12 +507,172 @@ pub stands_at : (layers : List ℕ) (f i n : ℕ) → i ≡ f → f < length lay
 stands_at layers f i n e w at =
     get_or_any layers f unseen n w ∙ ap (λ k. get_or layers k n) (sym e) ∙ sym at
 
--- there are no more faces than numbers below what stands for no layer
-pub few_layers : (m : Mesh) (faces : ℕ) → faces < MAX_ELEMENTS → faces ≡ length m.face_edges
-    → length m.face_edges + 1 ≤ unseen
-few_layers m faces few fit = omega (arith, few, fit)
+-- ---- the search
+-- it begins with the outer face
+pub search_begins : {V D U F : Type 0} {c : Contents V D U F} {constraints : List ℕ} {n : ℕ}
+    {layers : List ℕ} {given new : LayerSearch} → IsMeshWithData c → n ≡ length c.faces + 1
+    → n ≤ MAX_ELEMENTS → layers ≡ replicate n unseen → given.layers.items ≡ set layers 0 0
+    → given.now.items ≡ [] → given.later.items ≡ [] → given.layer ≡ 0
+    → PutsIn constraints (IsSideOf c.mesh 0) given new
+    → IsSearching c constraints new.layers.items new.now.items new.later.items new.layer
+search_begins {c = c} {constraints = constraints} {n = n} {layers = layers} {new = new} whole count
+    small all first none none_later start puts = subst
+    (λ (x : List ℕ × ℕ). IsSearching c constraints x.0 new.now.items new.later.items x.1)
+    (λ i. (sym known i, sym (puts.layer ∙ start) i)) (record {
+      whole = whole;
+      few = let is = many in omega (arith, is, small);
+      layered = reached c.mesh constraints (replicate (length c.mesh.face_edges + 1) unseen) [] []
+          new.now.items new.later.items 0 0
+          (nothing_seen c.mesh constraints (length c.mesh.face_edges + 1) refl) some
+          (all_unseen (length c.mesh.face_edges + 1) 0) (omega arith) ([], refl, refl)
+          (subst (λ (x : List ℕ × List ℕ). Lists constraints (IsSideOf c.mesh 0) x.0 x.1
+          new.now.items new.later.items) (λ i. (none i, none_later i)) puts.lists);
+      outer =
+          get_or-set_same (replicate (length c.mesh.face_edges + 1) unseen) 0 0 unseen some;
+    })
+  where
+    many : n ≡ length c.mesh.face_edges + 1
+    many = let fit = whole.fits.faces_fit in omega (arith, fit, count)
+
+    some : 0 < length (replicate (length c.mesh.face_edges + 1) unseen)
+    some = let size = length-replicate (length c.mesh.face_edges + 1) unseen in omega (arith, size)
+
+    known : new.layers.items ≡ set (replicate (length c.mesh.face_edges + 1) unseen) 0 0
+    known = ap (λ v. v.items) puts.layers ∙ first
+        ∙ ap (λ xs. set xs 0 0) (all ∙ ap (λ k. replicate k unseen) many)
 
 -- where a layer is still to come, this one is not the last number
-pub not_last : (layer left n faces : ℕ) → layer + left < n → n ≡ faces + 1 → faces + 1 ≤ unseen
+pub next_fits : {V D U F : Type 0} {c : Contents V D U F} {constraints layers now later : List ℕ}
+    {layer : ℕ} → IsSearching c constraints layers now later layer → 0 < length later
     → layer < unseen
-not_last layer left n faces more count few = omega (arith, more, count, few)
+next_fits s some =
+    let more = s.layered.more some in let count = s.layered.count in let few = s.few in
+    omega (arith, more, count, few)
+
+-- while no layer changes, only the lists count
+still : {V D U F : Type 0} {c : Contents V D U F}
+    {constraints layers now later now' later' : List ℕ} {layer layer' : ℕ}
+    → IsSearching c constraints layers now later layer
+    → IsLayered c.mesh constraints layers now' later' layer'
+    → IsSearching c constraints layers now' later' layer'
+still s layered =
+    record { whole = s.whole; few = s.few; layered = layered; outer = s.outer }
+
+-- the next edge is taken
+pub search_takes : {V D U F : Type 0} {c : Contents V D U F} {constraints : List ℕ}
+    (old new : LayerSearch) → new.layers ≡ old.layers → (h : ℕ)
+    → TakesNow h old.now.items old.later.items old.layer new.now.items new.later.items new.layer
+    ⊎ TakesLater h old.now.items old.later.items old.layer new.now.items new.later.items new.layer
+    → IsSearching c constraints old.layers.items old.now.items old.later.items old.layer
+    → IsSearching c constraints new.layers.items (new.now.items ++ h ∷ []) new.later.items
+    new.layer
+search_takes {c = c} {constraints = constraints} old new same h takes s = subst
+    (λ v. IsSearching c constraints v.items (new.now.items ++ h ∷ []) new.later.items new.layer)
+    (sym same) (go takes)
+  where
+    go : TakesNow h old.now.items old.later.items old.layer new.now.items new.later.items new.layer
+        ⊎ TakesLater h old.now.items old.later.items old.layer new.now.items new.later.items
+        new.layer → IsSearching c constraints old.layers.items (new.now.items ++ h ∷ [])
+        new.later.items new.layer
+    go (inl t) = subst
+        (λ (x : List ℕ × List ℕ × ℕ). IsSearching c constraints old.layers.items x.0 x.1 x.2)
+        (λ i. (t.taken i, sym t.later_stays i, sym t.layer_stays i)) s
+    go (inr t) = subst
+        (λ (x : List ℕ × List ℕ × ℕ). IsSearching c constraints old.layers.items x.0 x.1 x.2)
+        (λ i. (t.taken i, sym t.empty i, sym t.next i))
+        (still s (next_layer c.mesh constraints old.layers.items old.later.items old.layer
+        (subst (λ xs. IsLayered c.mesh constraints old.layers.items xs old.later.items old.layer)
+        t.none s.layered)
+        (let n = ap length t.taken ∙ length-append new.now.items (h ∷ []) in omega (arith, n))))
+
+-- an edge that was taken is crossed
+module _ {V D U F : Type 0} {c : Contents V D U F} {constraints : List ℕ} (s : LayerSearch) (h : ℕ)
+    (searching : IsSearching c constraints s.layers.items (s.now.items ++ h ∷ []) s.later.items
+    s.layer) where
+  leads : (h < length c.mesh.half_edges) × (face c.mesh (rev h) < length s.layers.items)
+  leads =
+      let within = (searching.layered.now_due h (Contains-push s.now.items h)).within in
+      let sound = searching.whole.valid.sound in
+      let listed = (sound.edges (rev h)
+      (rev_within h (length c.mesh.half_edges) sound.even within)).face_in in
+      let count = searching.layered.count in
+      (within, omega (arith, listed, count))
+
+  pub edge_there : h < length c.directed
+  edge_there = subst (λ (n : ℕ). h < n) (sym searching.whole.fits.directed_fit) leads.0
+
+  module _ {f n : ℕ} (is : f ≡ face c.mesh (rev h)) (read : n ≡ get_or s.layers.items f n) where
+    -- to a face that was reached
+    pub crossing_passes : n ≢ unseen → IsSearching c constraints s.layers.items s.now.items
+        s.later.items s.layer
+    crossing_passes known = still searching (passed c.mesh constraints s.layers.items s.now.items
+        s.later.items s.layer h searching.layered (λ e. known
+        (sym (stands_at s.layers.items (face c.mesh (rev h)) f n is leads.1 read) ∙ e)))
+
+    -- to one that was not, which gets this layer, and whose edges are listed
+    module _ (new : n ≡ unseen) where
+      within : f < length s.layers.items
+      within = let there = leads.1 in omega (arith, there, is)
+
+      unseen_there : layer_at s.layers.items f ≡ unseen
+      unseen_there = stands_at s.layers.items f f n refl within read ∙ new
+
+      small : s.layer < unseen
+      small = let count = searching.layered.count in let bound = searching.layered.bound in
+          let few = searching.few in
+          let left = one_less s.layers.items f 0 within unseen_there (omega arith) in
+          omega (arith, count, bound, few, left)
+
+      inner : f ≢ 0
+      inner e = let at = ap (layer_at s.layers.items) e in let outer = searching.outer in
+          omega (arith, at, outer, unseen_there)
+
+      few_faces : f ≤ length c.mesh.face_edges
+      few_faces = let count = searching.layered.count in omega (arith, count, within)
+
+      due : IsDue c.mesh constraints s.layers.items h s.layer
+      due = searching.layered.now_due h (Contains-push s.now.items h)
+
+      way : HasWay c.mesh constraints f s.layer
+      way = subst (λ x. HasWay c.mesh constraints x s.layer) (sym is)
+          (subst (HasWay c.mesh constraints (face c.mesh (rev h))) due.due
+          (way_on c.mesh constraints h (layer_at s.layers.items (face c.mesh h)) due.within
+          (searching.layered.ways (face c.mesh h) due.seen)))
+
+      seen : IsMet (set s.layers.items f s.layer) f
+      seen e = let at = get_or-set_same s.layers.items f s.layer unseen within in
+          omega (arith, e, at, small)
+
+      pub crossing_steps : (one two three : LayerSearch) {e1 e2 e3 : ℕ} → e1 ≡ face_edge c.mesh f
+          → e2 ≡ next c.mesh (face_edge c.mesh f) → e3 ≡ prev c.mesh (face_edge c.mesh f)
+          → Lists constraints (λ g. g ≡ e1) s.now.items s.later.items one.now.items one.later.items
+          → Lists constraints (λ g. g ≡ e2) one.now.items one.later.items two.now.items
+          two.later.items → three.layers.items ≡ set s.layers.items f s.layer
+          → three.layer ≡ s.layer
+          → Lists constraints (λ g. g ≡ e3) two.now.items two.later.items three.now.items
+          three.later.items → IsSearching c constraints three.layers.items three.now.items
+          three.later.items three.layer
+      crossing_steps one two three {e1 = e1} {e2 = e2} {e3 = e3} p q r a b layers layer d = subst
+          (λ (x : List ℕ × ℕ). IsSearching c constraints x.0 three.now.items three.later.items x.1)
+          (λ i. (sym layers i, sym layer i)) (record {
+            whole = searching.whole;
+            few = searching.few;
+            layered = passed c.mesh constraints (set s.layers.items f s.layer) three.now.items
+                three.later.items s.layer h (reached c.mesh constraints s.layers.items
+                (s.now.items ++ h ∷ []) s.later.items (three.now.items ++ h ∷ [])
+                three.later.items s.layer f searching.layered within unseen_there small way
+                (lists_beside constraints (IsSideOf c.mesh f) s.now.items s.later.items
+                three.now.items three.later.items h sides))
+                (subst (IsMet (set s.layers.items f s.layer)) is seen);
+            outer = get_or-set_other s.layers.items f 0 s.layer unseen (λ e. inner (sym e))
+                ∙ searching.outer;
+          })
+        where
+          sides : Lists constraints (IsSideOf c.mesh f) s.now.items s.later.items three.now.items
+              three.later.items
+          sides = lists_as constraints (λ g. ((g ≡ e1) ⊎ (g ≡ e2)) ⊎ (g ≡ e3)) (IsSideOf c.mesh f)
+              (λ g. subst (λ (x : ℕ × ℕ × ℕ). (((g ≡ x.0) ⊎ (g ≡ x.1)) ⊎ (g ≡ x.2))
+              ↔ IsSideOf c.mesh f g) (λ i. (sym p i, sym q i, sym r i))
+              (three_sides c.mesh searching.whole.valid.sound f g (omega (arith, inner)) few_faces))
+              (lists_both constraints (λ g. (g ≡ e1) ⊎ (g ≡ e2)) (λ g. g ≡ e3)
+              (lists_both constraints (λ g. g ≡ e1) (λ g. g ≡ e2) a b) d)

@@ -3,7 +3,9 @@ use Rattle.std.specs.Prelude.{◌≡◌, ◌≢◌, ◌⊎◌, ◌+◌, ◌*◌,
 use Rattle.std.specs.Prelude.{[], ◌∷◌, ◌++◌, Option, MatchOption}
 use Rattle.std.specs.Prelude.{ℕ, List, length, Contains, cond, nat_eq, slice_index_or}
 use Rattle.std.specs.List.{count_by}
+use Rattle.delaunay_interface.specs.half_edge_mesh.Contents.{Contents, IsMeshWithData}
 use Rattle.delaunay_interface.specs.half_edge_mesh.Mesh.{Mesh, face, rev}
+use Rattle.delaunay_layers.specs.declared.search.LayerSearch.{LayerSearch}
 use Rattle.delaunay_layers.specs.Layers.{Leads, is_constrained, crossed}
 
 -- what stands in place of the layer of a face that was not reached
@@ -54,6 +56,15 @@ pub record IsLayered (m : Mesh) (constraints layers now later : List ℕ) (layer
   pub bound : layer + left_unseen layers ≤ length layers
   pub more : 0 < length later → layer + left_unseen layers < length layers
 
+-- such a search over a mesh that has all its data, and a number for each face; the outer face has
+-- layer 0
+pub record IsSearching {V D U F : Type 0} (c : Contents V D U F)
+    (constraints layers now later : List ℕ) (layer : ℕ) : Type 0 where
+  pub whole : IsMeshWithData c
+  pub few : length c.mesh.face_edges + 1 ≤ unseen
+  pub layered : IsLayered c.mesh constraints layers now later layer
+  pub outer : layer_at layers 0 ≡ 0
+
 -- directed edge h has face f on its left
 abbrev pub IsSideOf : Mesh → ℕ → ℕ → Type 0
 IsSideOf m f h = (h < length m.half_edges) × (face m h ≡ f)
@@ -68,6 +79,14 @@ pub record Lists (constraints : List ℕ) (Which : ℕ → Type 0) (now later no
       → Contains now h ⊎ (Which h × (weight constraints h ≡ 0))
   pub later_only : (h : ℕ) → Contains later' h
       → Contains later h ⊎ (Which h × (weight constraints h ≡ 1))
+
+-- they were put into the lists of a search, and nothing else changed
+pub record PutsIn (constraints : List ℕ) (Which : ℕ → Type 0) (old new : LayerSearch) : Type 0
+  where
+    pub lists : Lists constraints Which old.now.items old.later.items new.now.items
+        new.later.items
+    pub layers : new.layers ≡ old.layers
+    pub layer : new.layer ≡ old.layer
 
 -- the last edge that was listed for this layer was taken
 pub record TakesNow (h : ℕ) (now later : List ℕ) (layer : ℕ) (now' later' : List ℕ) (layer' : ℕ) :

@@ -5,8 +5,8 @@ ghost use Rattle.std.specs.Prelude.{IfOk, MatchOption, OnOk};
 ghost use Rattle.delaunay_interface.specs.delaunay_legalization.Shape.{IsTriangulated};
 ghost use Rattle.delaunay_interface.specs.delaunay_legalization.State.{state_of};
 ghost use Rattle.delaunay_layers.specs.Layers.{AreLayers};
-ghost use Rattle.delaunay_layers.specs.Search.{IsLayered, IsSideOf, Lists, TakesNext};
-ghost use Rattle.delaunay_layers.specs.Search.{layer_at, unseen, work_left};
+ghost use Rattle.delaunay_layers.specs.Search.{IsSearching, IsSideOf, Lists, PutsIn, TakesNext};
+ghost use Rattle.delaunay_layers.specs.Search.{unseen, work_left};
 
 use delaunay_interface::delaunay_core::point::HasPosition;
 use delaunay_interface::delaunay_legalization::{ConstraintMarker, is_constraint_edge};
@@ -32,12 +32,9 @@ impl LayerSearch {
         dcel: &Dcel<V, DE, UE, F>,
         alloc: Global,
     ) -> Result<LayerSearch, AllocError>
-        ensures search { IfOk result (λ s. IsLayered dcel.now.mesh
-            (M.constraints dcel.now.undirected) s.layers.items s.now.items s.later.items
-            s.layer) }
-        ensures outer { IfOk result (λ s. layer_at s.layers.items 0 ≡ 0) }
+        ensures { IfOk result (λ s. IsSearching dcel.now (M.constraints dcel.now.undirected)
+            s.layers.items s.now.items s.later.items s.layer) }
     {
-        dcel.recall_invariant();
         let mut layers = Vec::from_elem(alloc, UNSEEN, dcel.num_faces())?;
         layers[0] = 0;
         let mut search = LayerSearch {
@@ -55,11 +52,8 @@ impl LayerSearch {
         &mut self,
         dcel: &Dcel<V, DE, UE, F>,
     ) -> Result<(), AllocError>
-        ensures lists { OnOk result (Lists (M.constraints dcel.now.undirected)
-            (IsSideOf dcel.now.mesh 0) self.old.now.items self.old.later.items self.new.now.items
-            self.new.later.items) }
-        ensures layers { self.new.layers ≡ self.old.layers }
-        ensures layer { self.new.layer ≡ self.old.layer }
+        ensures { OnOk result (PutsIn (M.constraints dcel.now.undirected)
+            (IsSideOf dcel.now.mesh 0) self.old self.new) }
     {
         for index in 0..dcel.num_directed_edges() {
             let edge = FixedDirectedEdgeHandle::from_index(index as u32);
@@ -114,18 +108,14 @@ impl LayerSearch {
         dcel: &Dcel<V, DE, UE, F>,
         edge: FixedDirectedEdgeHandle,
     ) -> Result<(), AllocError>
-        requires search { IsLayered dcel.now.mesh (M.constraints dcel.now.undirected)
-            self.old.layers.items (self.old.now.items ++ edge ∷ []) self.old.later.items
-            self.old.layer }
-        requires outer { layer_at self.old.layers.items 0 ≡ 0 }
-        ensures search { OnOk result (IsLayered dcel.now.mesh (M.constraints dcel.now.undirected)
+        requires { IsSearching dcel.now (M.constraints dcel.now.undirected) self.old.layers.items
+            (self.old.now.items ++ edge ∷ []) self.old.later.items self.old.layer }
+        ensures search { OnOk result (IsSearching dcel.now (M.constraints dcel.now.undirected)
             self.new.layers.items self.new.now.items self.new.later.items self.new.layer) }
-        ensures outer { OnOk result (layer_at self.new.layers.items 0 ≡ 0) }
         ensures work { OnOk result (work_left self.new.layers.items self.new.now.items
             self.new.later.items ≤
             work_left self.old.layers.items self.old.now.items self.old.later.items) }
     {
-        dcel.recall_invariant();
         let face = dcel.directed_edge(edge).rev().face();
         let index = face.fix().index() as usize;
         if self.layers[index] != UNSEEN {
@@ -148,7 +138,6 @@ pub(crate) fn find_layers<M: ConstraintMarker<UE>, V: HasPosition, DE, UE, F>(
     ensures { IfOk result (λ v. AreLayers dcel.now.mesh (M.constraints dcel.now.undirected)
         v.items) }
 {
-    dcel.recall_invariant();
     let mut search = LayerSearch::new::<M, _, _, _, _>(dcel, alloc)?;
     while let Some(edge) = search.next() {
         search.cross::<M, _, _, _, _>(dcel, edge)?;

@@ -1,13 +1,10 @@
-use Rattle.std.proofs.Common.{◌≡◌}
-use Rattle.delaunay_layers.specs.Search.{IsLayered, layer_at, work_left}
+use Rattle.delaunay_layers.specs.Search.{IsSearching, work_left}
 use Rattle.delaunay_layers.proofs.search.find_layers.Given as goal
 
 abbrev pub invariant-loop-edge : goal.invariant-loop-edge
-invariant-loop-edge g l = record {
-  search : IsLayered l.dcel.mesh (g.M.ConstraintMarker.constraints l.dcel.undirected)
-      l.search.layers.items l.search.now.items l.search.later.items l.search.layer;
-  outer : layer_at l.search.layers.items 0 ≡ 0;
-}
+invariant-loop-edge g l =
+    IsSearching l.dcel (g.M.ConstraintMarker.constraints l.dcel.undirected) l.search.layers.items
+    l.search.now.items l.search.later.items l.search.layer
 
 abbrev pub decreases-loop-edge : goal.decreases-loop-edge
 decreases-loop-edge g l =
