@@ -56,12 +56,8 @@ fn edge_from_nearest<V: HasPosition, DE, UE, F>(
     let mut nearest = FixedDirectedEdgeHandle::from_index(0);
     for index in 1..dcel.num_directed_edges() {
         let edge = FixedDirectedEdgeHandle::from_index(index as u32);
-        if is_nearer(
-            dcel,
-            start_vertex(dcel, edge),
-            start_vertex(dcel, nearest),
-            point,
-        ) {
+        let (start, other) = (start_vertex(dcel, edge), start_vertex(dcel, nearest));
+        if is_nearer(dcel, start, other, point) {
             nearest = edge;
         }
     }

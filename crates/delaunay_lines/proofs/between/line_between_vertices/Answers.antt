@@ -23,8 +23,3 @@ starting-requires g c =
       from = tt;
       to = tt;
     }) c.args.from c.requires.from_in c.position_of-start.ensures.place
-
-pub returns-clause-line : goal.returns-clause-line
-returns-clause-line g c =
-    rw (c.position_of-start.ensures.place, c.position_of-end.ensures.place) at
-    c.starting.ensures.line

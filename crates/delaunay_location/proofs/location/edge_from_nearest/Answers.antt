@@ -12,7 +12,7 @@ loop-index-init g c = starts_first _ _ _ c.from_index-nearest.ensures
 pub loop-index-preserved : goal.loop-index-preserved
 loop-index-preserved g c =
     let fit = c.requires.kept.fits.directed_fit in
-    let nearer = rw (c.start_vertex.ensures.value, c.start_vertex-in-loop-index.ensures.value) at
+    let nearer = rw (c.start_vertex-start.ensures.value, c.start_vertex-other.ensures.value) at
     c.is_nearer.ensures in
     elim c.if-is_nearer.branch [
       | then-is_nearer w ↦ rw w.nearest-is
