@@ -1,8 +1,8 @@
 -- From an item that a segment meets to the next, by the links of a mesh.
 -- Lemmas: over_value, not_same, positive, laid, in_mesh, of_mesh, joined, tiles_with, bare,
--- face_at, start_in, start_known, twin_within, ends_apart, twin_of_prev, twin_of_next, last_at_edge, through_right,
--- through_left, ends_inside, at_corner, last_within_overlap, end_of_overlap, last_at_end,
--- last_if_none_leads, along_ahead, into_face.
+-- face_at, start_in, start_known, twin_within, ends_apart, twin_of_prev, twin_of_next,
+-- last_at_edge, through_right, through_left, ends_inside, at_corner, last_within_overlap,
+-- end_of_overlap, last_at_end, last_if_none_leads, along_ahead, into_face.
 use Rattle.std.proofs.Common.{◌≡◌, ◌≢◌, ◌⊎◌, ◌↔◌, ◌<◌, ◌∙◌}
 use Rattle.std.proofs.Common.{ℕ, List, length, map, Option, Some, None, sym, ap, subst}
 use Rattle.std.proofs.Common.{inl, inr, arith}

@@ -583,8 +583,8 @@ module _ {V D U F : Type 0} {at : V → Point} {IsSite IsCovered : Point → Typ
       -- the start of the edge
       pub start_met : side (whole p) (whole q) X ≡ on → side (whole p) (whole q) Y ≡ left
           → Starts at c p q (Some (Vertex (origin m h)))
-      start_met e l = starts_first over apart (Vertex (origin m h))
-          (start_known over h s.within) (start_first t t_laid (whole p) (whole q) ways_apart (origin m h) (origin m (rev h))
+      start_met e l = starts_first over apart (Vertex (origin m h)) (start_known over h s.within)
+          (start_first t t_laid (whole p) (whole q) ways_apart (origin m h) (origin m (rev h))
           outer seen not_above (start_in over h w)
           (none_if_on (whole p) (whole q) X e)
           (above_if_left (whole p) (whole q) Y l))

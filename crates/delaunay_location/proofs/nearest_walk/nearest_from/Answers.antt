@@ -14,8 +14,7 @@ overflow_add-moves g c =
     let fits = moves_fit on.counted (2 ^ 64) c.requires.fits in omega (arith, fits)
 
 pub loop-nearer-preserved : goal.loop-nearer-preserved
-loop-nearer-preserved g c =
-    reached_on c.requires.kept c.loop-nearer.invariant c.in-Some.ensures
+loop-nearer-preserved g c = reached_on c.requires.kept c.loop-nearer.invariant c.in-Some.ensures
 
 pub candidate_anywhere-nearest-requires-clause-fits :
     goal.candidate_anywhere-nearest-requires-clause-fits
@@ -35,8 +34,7 @@ loop-nearer-smaller g c =
 
 pub loop-nearer-smaller-then-moves-eq0 : goal.loop-nearer-smaller-then-moves-eq0
 loop-nearer-smaller-then-moves-eq0 g c =
-    let falls =
-    next_falls c.requires.kept c.loop-nearer.invariant.candidate c.in-Some.ensures in
+    let falls = next_falls c.requires.kept c.loop-nearer.invariant.candidate c.in-Some.ensures in
     let stays = count_stays c.candidate_anywhere-nearest.ensures.counted in
     omega (arith, falls, stays)
 

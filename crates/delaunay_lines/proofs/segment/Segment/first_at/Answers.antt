@@ -29,7 +29,8 @@ pub returns-then-is_on_line : goal.returns-then-is_on_line
 returns-then-is_on_line g c =
     let on = rw c.side_of_end-end.ensures at c.is_on_line.ensures in
     let left = rw c.side_of_start-start.ensures at c.is_on_left_side.ensures in
-    rw (c.start_vertex.ensures.value, c.twin_of-twin.ensures.value) (end_met (over_value c.self.view_is c.self.invariant) c.requires.apart c.args.edge
+    rw (c.start_vertex.ensures.value, c.twin_of-twin.ensures.value)
+    (end_met (over_value c.self.view_is c.self.invariant) c.requires.apart c.args.edge
     c.requires.seen (unless c.ends_left_of.ensures c.if-ends_left_of.false)
     (on.0 c.if-is_on_line.true) (unless left c.if-is_on_left_side.false))
 
@@ -38,7 +39,8 @@ returns-then-is_on_line-2 g c =
     let right = rw c.side_of_end-end.ensures at c.is_on_right_side.ensures in
     let on = rw c.side_of_end-end.ensures at c.is_on_line.ensures in
     let start = rw c.side_of_start-start.ensures at c.is_on_line-2.ensures in
-    rw c.start_vertex-then-is_on_line-2.ensures.value (start_met (over_value c.self.view_is c.self.invariant) c.requires.apart
+    rw c.start_vertex-then-is_on_line-2.ensures.value
+    (start_met (over_value c.self.view_is c.self.invariant) c.requires.apart
     c.args.edge c.requires.seen (unless c.ends_left_of.ensures c.if-ends_left_of.false)
     (start.0 c.if-is_on_line-2.true) (left_if_neither _ (unless right c.if-is_on_right_side.false)
     (unless on c.if-is_on_line.false)))

@@ -17,8 +17,9 @@ returns-then-is_on_left_side g c =
 pub returns-then-is_on_right_side : goal.returns-then-is_on_right_side
 returns-then-is_on_right_side g c =
     let right = rw c.side_of_to-side.ensures at c.is_on_right_side.ensures in
-    rw c.twin_of-twin.ensures.value (over_twin (over_value c.self.view_is c.self.invariant) c.args.edge
-    c.requires.within c.requires.start c.requires.apart (right.0 c.if-is_on_right_side.true))
+    rw c.twin_of-twin.ensures.value (over_twin (over_value c.self.view_is c.self.invariant)
+    c.args.edge c.requires.within c.requires.start c.requires.apart
+    (right.0 c.if-is_on_right_side.true))
 
 pub invariant_of-ahead : goal.invariant_of-ahead
 invariant_of-ahead g c =

@@ -1,8 +1,6 @@
-use Rattle.std.proofs.Common.{◌∙◌, ℕ, map}
-use Rattle.delaunay_location.specs.half_edge_mesh.Mesh.{rev}
+use Rattle.std.proofs.Common.{◌∙◌}
 use Rattle.delaunay_location.specs.half_edge_mesh.Rounds.{hull_left}
 use Rattle.delaunay_location.proofs.mesh_embedding.OutlineGiven.{along_goes_on}
-use Rattle.delaunay_lines.specs.Starts.{IsCrossed}
 use Rattle.delaunay_lines.proofs.MeshSteps.{over_value}
 use Rattle.delaunay_lines.proofs.OutsideItems.{enters, hull_begins, nearest_is_first, none_entered}
 use Rattle.delaunay_lines.proofs.OutsideItems.{none_is_first, twin_along}

@@ -1,4 +1,3 @@
-use Rattle.std.proofs.Common.{refl}
 use Rattle.delaunay_lines.proofs.SegmentTests.{unless}
 use Rattle.delaunay_lines.proofs.segment.Segment.if_seen.Goals as goal
 

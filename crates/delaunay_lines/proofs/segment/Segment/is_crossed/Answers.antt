@@ -1,4 +1,4 @@
-use Rattle.delaunay_lines.proofs.SegmentTests.{if_both, if_not_first}
+use Rattle.delaunay_lines.proofs.SegmentTests.{if_not_first}
 use Rattle.delaunay_lines.proofs.segment.Segment.is_crossed.Goals as goal
 
 pub returns-else-goes_right : goal.returns-else-goes_right

@@ -1,10 +1,7 @@
-use Rattle.std.proofs.Common.{ℕ, map, Option}
 use Rattle.std.proofs.lemmas.List.{length-map}
-use Rattle.delaunay_location.specs.half_edge_mesh.Mesh.{origin}
 use Rattle.delaunay_location.specs.half_edge_mesh.Rounds.{hull_left}
 use Rattle.delaunay_location.proofs.mesh_embedding.OutlineGiven.{along_next, along_goes_on}
-use Rattle.delaunay_location.proofs.mesh_embedding.OutlineGiven.{along_ends, indexes}
-use Rattle.delaunay_lines.specs.Starts.{IsNoBetter}
+use Rattle.delaunay_location.proofs.mesh_embedding.OutlineGiven.{along_ends}
 use Rattle.delaunay_lines.proofs.MeshSteps.{of_mesh, over_value}
 use Rattle.delaunay_lines.proofs.OutsideItems.{along_weakened, hull_begins}
 use Rattle.delaunay_lines.proofs.segment.Segment.nearest_vertex.Goals as goal
