@@ -1,5 +1,6 @@
 -- What the calls of a triangulation hand to a search over its mesh, and make of what it gives.
--- Lemmas: lower_corner, upper_corner, kept_in_mesh, sites_in_mesh, edges_found, vertices_found.
+-- Lemmas: lower_corner, upper_corner, same_corners, kept_in_mesh, sites_in_mesh, edges_found,
+-- vertices_found.
 use Rattle.std.proofs.Common.{◌≡◌, map, sym, subst, arith}
 use Rattle.std.specs.Prelude.{All, Result, Ok, Err, IfOk}
 use Rattle.std.specs.Borrow.{Bor}
@@ -25,6 +26,13 @@ lower_corner C lower upper all = all 0 lower (omega arith)
 pub upper_corner : (C : Point → Type 0) (lower upper : Point)
     → All C (corners lower upper) → C upper
 upper_corner C lower upper all = all 2 upper (omega arith)
+
+-- corners by other names of the same points
+pub same_corners : {P : Type 0} (C : Point → Type 0) (at : P → Point) {l m u v : P} → l ≡ m → u ≡ v
+    → All C (corners (at m) (at v)) → All C (corners (at l) (at u))
+same_corners {P = P} C at {m = m} {u = u} e f all =
+    subst (λ (x : P). All C (corners (at x) (at u))) (sym e)
+    (subst (λ (y : P). All C (corners (at m) (at y))) (sym f) all)
 
 module _ {V D U F : Type 0} (place : V → Point) (s : State V D U F) (mesh : Bor (Contents V D U F))
     (same : state_of mesh.now ≡ s) where

@@ -1,7 +1,7 @@
 use Rattle.delaunay_interface.specs.delaunay_core.Place.{place_of}
 use Rattle.delaunay_shapes.proofs.Shapes.{rectangle_begins}
 use Rattle.delaunay_shape_queries.proofs.Calls.{edges_found, kept_in_mesh, lower_corner}
-use Rattle.delaunay_shape_queries.proofs.Calls.{sites_in_mesh, upper_corner}
+use Rattle.delaunay_shape_queries.proofs.Calls.{same_corners, sites_in_mesh, upper_corner}
 use Rattle.delaunay_shape_queries.proofs.float_triangulation.FloatTriangulation.get_edges_in_rectangle.Goals as goal
 
 pub new-rectangle-requires : goal.new-rectangle-requires
@@ -29,8 +29,8 @@ edges_in_shape-requires g c =
       kept = kept_in_mesh _ _ c.s.result c.s.ensures c.recall_invariant.ensures.kept;
       sites = sites_in_mesh _ _ c.s.result c.s.ensures (g.P.PlaneTests.sites c.args.tests.now)
           c.recall_invariant.ensures.kept c.requires.sites;
-      own_covered = rw (c.new-rectangle.ensures.lower, c.new-rectangle.ensures.upper)
-          c.requires.covered;
+      own_covered = same_corners (g.P.PlaneTests.covered c.args.tests.now) (place_of whole)
+          c.new-rectangle.ensures.lower c.new-rectangle.ensures.upper c.requires.covered;
       start_covered = lower_corner (g.P.PlaneTests.covered c.args.tests.now)
           (place_of whole c.args.lower) (place_of whole c.args.upper) c.requires.covered;
       begins = rw (c.new-rectangle.ensures.lower, c.new-rectangle.ensures.upper)
