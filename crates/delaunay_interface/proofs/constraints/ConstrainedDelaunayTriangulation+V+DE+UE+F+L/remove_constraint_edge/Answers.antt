@@ -1,7 +1,4 @@
-use Rattle.std.proofs.Common.{ap, refl, sym, subst}
-use Rattle.std.specs.Prelude.{Contains}
-use Rattle.delaunay_edit.specs.Constrained.{constraint_edges}
-use Rattle.delaunay_edit.specs.Headline.{IsDelaunay}
+use Rattle.std.proofs.Common.{ap, refl}
 use Rattle.delaunay_edit.proofs.delaunay_legalization_lemmas.Questions.{both_ways}
 use Rattle.delaunay_edit.proofs.EditingConstraints.{none_released}
 use Rattle.delaunay_interface.proofs.Kept.{held_of_same}
