@@ -87,6 +87,18 @@ ends_kept Inside m found mid found' h a b e f from to = record {
 abbrev pub IsAmongFirst : List ℕ → ℕ → ℕ → Type 0
 IsAmongFirst edges i h = (j : ℕ) × (j < i) × (j < length edges) × (get_or edges j 0 ≡ h / 2)
 
+-- before the first edge none is found
+pub named_first : {Inside : ℕ → Type 0} {m : Mesh} (edges : List ℕ) {found : List ℕ} → found ≡ []
+    → AreNamedAmong Inside m (IsAmongFirst edges 0) found
+named_first {Inside = Inside} {m = m} edges e =
+    subst (AreNamedAmong Inside m (IsAmongFirst edges 0)) (sym e) (record {
+      once = once_none;
+      exact = λ v. (
+        (λ c. absurd (Contains-none v c)),
+        (λ r. absurd (never r.0.2.0 r.0.2.1)),
+      );
+    })
+
 listed : (edges : List ℕ) (i h : ℕ) → IsAmongFirst edges i h → Contains edges (h / 2)
 listed edges i h r = (r.0, r.2, get_or_any edges r.0 (h / 2) 0 r.2 ∙ r.3)
 
@@ -156,18 +168,6 @@ module _ (Inside : ℕ → Type 0) (m : Mesh)
         | inl p ↦ (s.exact v).1 ((r.0.0, r.0.1, p), r.1)
         | inr e ↦ absurd (k.0 (kept v r.0.0 r.0.1 e r.1))
       ]
-
-  -- before the first edge none is found
-  pub named_first : (edges found : List ℕ) → found ≡ []
-      → AreNamedAmong Inside m (IsAmongFirst edges 0) found
-  named_first edges found e = subst (AreNamedAmong Inside m (IsAmongFirst edges 0)) (sym e)
-      (record {
-        once = once_none;
-        exact = λ v. (
-          (λ c. absurd (Contains-none v c)),
-          (λ r. absurd (never r.0.2.0 r.0.2.1)),
-        );
-      })
 
   -- once both directions of the next edge are done, one edge more is
   named_more : (edges : List ℕ) → IsOnce edges → (found mid found' : List ℕ) (i d a b : ℕ)
@@ -275,27 +275,6 @@ module _ (Inside : ℕ → Type 0) (m : Mesh)
           ∙ sym (ap (λ xs. get_or xs i 0) grown ∙ get_or_append_left sides more 0 i here))
           ∙ sym (get_or-map half sides' i 0 d there)
 
-  -- once the end of the edges is reached, all that name one of them are done
-  pub named_last : (edges found : List ℕ) (i : ℕ)
-      → AreNamedAmong Inside m (IsAmongFirst edges i) found → length edges ≤ i
-      → AreNamedIn Inside m edges found
-  named_last edges found i s last = record {
-    once = s.once;
-    exact = λ v. (
-      (λ c. let r = (s.exact v).0 c in
-          ((r.0.0, record { names = r.0.1; listed = listed edges i r.0.0 r.0.2 }), r.1)),
-      (λ r. (s.exact v).1 ((r.0.0, r.0.1.names, before r.0.0 r.0.1.listed), r.1)),
-    );
-  }
-    where
-      before : (h : ℕ) → Contains edges (h / 2) → IsAmongFirst edges i h
-      before h c = (
-        c.0,
-        less_all c.0 (length edges) i c.1 last,
-        c.1,
-        get_or_any edges c.0 0 (h / 2) c.1 ∙ c.2,
-      )
-
   -- where all that name one of the edges are found, the first edges are done when a flood has gone
   -- on
   pub named_before : (sides sides' more found : List ℕ) (i : ℕ) → sides' ≡ sides ++ more
@@ -328,6 +307,31 @@ module _ (Inside : ℕ → Type 0) (m : Mesh)
         c.1,
         get_or_any edges c.0 0 (h / 2) c.1 ∙ c.2,
       )
+
+-- once the end of the edges is reached, all that name one of them are done
+pub named_last : {Inside : ℕ → Type 0} {m : Mesh} (sides : List ℕ) {found : List ℕ} {i : ℕ}
+    → AreNamedAmong Inside m (IsAmongFirst (undirected_of sides) i) found → length sides ≤ i
+    → AreNamedIn Inside m (undirected_of sides) found
+named_last sides {i = i} s last = record {
+  once = s.once;
+  exact = λ v. (
+    (λ c. let r = (s.exact v).0 c in
+        ((r.0.0, record { names = r.0.1; listed = listed edges i r.0.0 r.0.2 }), r.1)),
+    (λ r. (s.exact v).1 ((r.0.0, r.0.1.names, before r.0.0 r.0.1.listed), r.1)),
+  );
+}
+  where
+    edges : List ℕ
+    edges = undirected_of sides
+
+    before : (h : ℕ) → Contains edges (h / 2) → IsAmongFirst edges i h
+    before h c = (
+      c.0,
+      less_all c.0 (length edges) i c.1
+          (let many = length-map sides (λ (x : ℕ). x / 2) in omega (arith, many, last)),
+      c.1,
+      get_or_any edges c.0 0 (h / 2) c.1 ∙ c.2,
+    )
 
 -- a vertex that names an edge is one of the mesh
 named_in : (m : Mesh) → IsValidMesh m → (n : ℕ) → n ≡ length m.out_edges → (i h : ℕ)

@@ -1,4 +1,4 @@
-use Rattle.std.proofs.Common.{ℕ, ◌/◌, ◌∙◌, refl, sym, ap, length, arith}
+use Rattle.std.proofs.Common.{ℕ, ◌<◌, ◌/◌, ◌∙◌, refl, sym, ap, length, arith}
 use Rattle.delaunay_location.proofs.delaunay_legalization_lemmas.Questions.{both_ways}
 use Rattle.delaunay_shapes.specs.InShape.{undirected_of}
 use Rattle.delaunay_shapes.proofs.Asking.{filter_finds, filter_passes, undirected_more}
@@ -9,22 +9,20 @@ use Rattle.delaunay_shapes.proofs.filter.edges_by_filter.Goals.{then-is_handle_i
 use Rattle.delaunay_shapes.proofs.filter.edges_by_filter.Goals.{else-is_handle_inside}
 use Rattle.delaunay_shapes.proofs.filter.edges_by_filter.Goals as goal
 
-pub is_handle_inside-requires-clause-start_covered :
-    goal.is_handle_inside-requires-clause-start_covered
-is_handle_inside-requires-clause-start_covered g c =
+pub is_handle_inside-requires : goal.is_handle_inside-requires
+is_handle_inside-requires g c =
     let all = c.num_undirected_edges-index-end.ensures in
-    start_covered g.V.HasPosition.place (g.P.PlaneTests.covered c.args.tests.now)
-    c.requires.covered all.whole
-    (omega (arith, c.from_index-edge.ensures, c.loop-index-test.true, all.value))
-    c.undirected_edge.ensures.dcel c.undirected_edge.ensures.index
-
-pub is_handle_inside-requires-clause-end_covered : goal.is_handle_inside-requires-clause-end_covered
-is_handle_inside-requires-clause-end_covered g c =
-    let all = c.num_undirected_edges-index-end.ensures in
-    end_covered g.V.HasPosition.place (g.P.PlaneTests.covered c.args.tests.now)
-    c.requires.covered all.whole
-    (omega (arith, c.from_index-edge.ensures, c.loop-index-test.true, all.value))
-    c.undirected_edge.ensures.dcel c.undirected_edge.ensures.index
+    let within : c.from_index-edge.result < length c.args.dcel.now.undirected =
+    omega (arith, c.from_index-edge.ensures, c.loop-index-test.true, all.value) in
+    let edge = c.undirected_edge.ensures in
+    let covered = g.P.PlaneTests.covered c.args.tests.now in
+    record {
+      own_covered = c.requires.own_covered;
+      start_covered = start_covered g.V.HasPosition.place covered c.requires.covered all.whole
+          within edge.dcel edge.index;
+      end_covered = end_covered g.V.HasPosition.place covered c.requires.covered all.whole
+          within edge.dcel edge.index;
+    }
 
 pub loop-index-preserved : goal.loop-index-preserved
 loop-index-preserved g c =

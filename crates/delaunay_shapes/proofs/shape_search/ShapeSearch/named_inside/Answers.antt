@@ -1,5 +1,5 @@
-use Rattle.std.proofs.Common.{ℕ, ◌/◌, ◌∙◌, [], sym, arith}
-use Rattle.std.proofs.lemmas.List.{append-nil, length-map}
+use Rattle.std.proofs.Common.{◌∙◌, [], sym, arith}
+use Rattle.std.proofs.lemmas.List.{append-nil}
 use Rattle.delaunay_shapes.specs.InShape.{undirected_of}
 use Rattle.delaunay_shapes.proofs.Searches.{found_in, place_in, search_of}
 use Rattle.delaunay_shapes.proofs.VertexFlood.{named_first, named_on, named_last, starts_at}
@@ -7,9 +7,7 @@ use Rattle.delaunay_shapes.proofs.shape_search.ShapeSearch.named_inside.Goals as
 
 pub loop-index-init : goal.loop-index-init
 loop-index-init g c =
-    let kept = (search_of c.self.view_is c.self.invariant).kept in
-    named_first _ c.args.self.now.dcel.mesh (starts_at kept.valid)
-    (undirected_of c.args.flood.now.found.items) c.new-found.result.items c.new-found.ensures.items
+    named_first (undirected_of c.args.flood.now.found.items) c.new-found.ensures.items
 
 pub directed_edge-edge-requires : goal.directed_edge-edge-requires
 directed_edge-edge-requires g c =
@@ -29,8 +27,5 @@ loop-index-preserved g c =
 
 pub returns : goal.returns
 returns g c =
-    let kept = (search_of c.self.view_is c.self.invariant).kept in
-    let many = length-map c.args.flood.now.found.items (λ (x : ℕ). x / 2) in
-    named_last _ c.args.self.now.dcel.mesh (starts_at kept.valid)
-    (undirected_of c.args.flood.now.found.items) _ c.loop-index.index c.loop-index.invariant
-    (omega (arith, many, c.loop-index-test.false, c.len-index-end.ensures))
+    named_last c.args.flood.now.found.items c.loop-index.invariant
+    (omega (arith, c.loop-index-test.false, c.len-index-end.ensures))

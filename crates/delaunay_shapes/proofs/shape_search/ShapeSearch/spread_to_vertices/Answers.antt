@@ -1,7 +1,5 @@
-use Rattle.std.proofs.Common.{◌≡◌, ℕ, ◌/◌, ◌∙◌, length, subst, sym, arith}
-use Rattle.std.proofs.lemmas.List.{length-map}
+use Rattle.std.proofs.Common.{◌≡◌, ℕ, ◌∙◌, length, subst, sym, arith}
 use Rattle.delaunay_shapes.specs.Flood.{IsSpreadTo}
-use Rattle.delaunay_shapes.specs.InShape.{undirected_of}
 use Rattle.delaunay_shapes.proofs.Asking.{goes_on_twice}
 use Rattle.delaunay_shapes.proofs.Handles.{found_fits}
 use Rattle.delaunay_shapes.proofs.Searches.{found_in, place_in, search_of}
@@ -61,8 +59,5 @@ returns-clause-spread g c =
 
 pub returns-clause-named : goal.returns-clause-named
 returns-clause-named g c =
-    let kept = (search_of c.self.view_is c.self.invariant).kept in
-    let many = length-map c.edges.flood.found.items (λ (x : ℕ). x / 2) in
-    named_last _ c.args.self.now.dcel.mesh (starts_at kept.valid)
-    (undirected_of c.edges.flood.found.items) _ c.edges.index c.edges.invariant.named
-    (omega (arith, many, c.edges-test.false, c.len.ensures, c.edges.flood.found.ok))
+    named_last c.edges.flood.found.items c.edges.invariant.named
+    (omega (arith, c.edges-test.false, c.len.ensures, c.edges.flood.found.ok))
