@@ -10,17 +10,7 @@ use delaunay_legalization::delaunay_core::point::HasPosition;
 use delaunay_legalization::half_edge_mesh::{Dcel, FixedDirectedEdgeHandle, MeshViews};
 use delaunay_legalization::is_outer;
 
-// The edge after an edge, against the clock round the vertex where it starts.
-pub(crate) fn ccw_edge<V, DE, UE, F>(
-    dcel: &Dcel<V, DE, UE, F>,
-    edge: FixedDirectedEdgeHandle,
-) -> FixedDirectedEdgeHandle
-    requires { edge < length dcel.now.directed }
-    ensures value { result ≡ turn dcel.now.mesh edge }
-    ensures within { result < length dcel.now.directed }
-{
-    dcel.directed_edge(edge).ccw().fix()
-}
+pub(crate) use delaunay_legalization::ccw_edge;
 
 // The edge before an edge round the vertex where it starts: before the one with the outer face on
 // its right, the last one.
