@@ -227,23 +227,24 @@ goes_on_twice asked mid asked' found more found' a b = record {
 }
 
 -- both edges beside an edge, one after the other
-pub asked_both : (Inside : ℕ → Type 0) (m : Mesh) (count : ℕ) (asked mid asked' : List Bool)
-    (found more found' : List ℕ) (h after before : ℕ) → after ≡ next m h → before ≡ prev m h
+pub asked_both : {Inside : ℕ → Type 0} {m : Mesh} {count : ℕ} {asked mid asked' : List Bool}
+    {found more found' : List ℕ} {h after before : ℕ} → after ≡ next m h → before ≡ prev m h
     → Asks Inside count asked mid found more after → Asks Inside count mid asked' more found' before
     → AsksBeside Inside m count asked asked' found found' h
-asked_both Inside m count asked mid asked' found more found' h after before e f a b = record {
-  flooding = b.flooding;
-  on = goes_on_twice asked mid asked' found more found' a.on b.on;
-  beside = record {
-    after = subst (λ (x : ℕ). IsAsked asked' (x / 2)) e (b.on.kept (after / 2) a.there);
-    before = subst (λ (x : ℕ). IsAsked asked' (x / 2)) f b.there;
-  };
-  only = λ g c. elim (Contains-append_cases a.on.more b.on.more g c) as
-      (λ _. (g ≡ rev (next m h)) ⊎ (g ≡ rev (prev m h))) [
-        | inl d ↦ inl (a.only g d ∙ ap rev e)
-        | inr d ↦ inr (b.only g d ∙ ap rev f)
-      ];
-}
+asked_both {m = m} {asked = asked} {mid = mid} {asked' = asked'} {found = found} {more = more}
+    {found' = found'} {h = h} {after = after} e f a b = record {
+      flooding = b.flooding;
+      on = goes_on_twice asked mid asked' found more found' a.on b.on;
+      beside = record {
+        after = subst (λ (x : ℕ). IsAsked asked' (x / 2)) e (b.on.kept (after / 2) a.there);
+        before = subst (λ (x : ℕ). IsAsked asked' (x / 2)) f b.there;
+      };
+      only = λ g c. elim (Contains-append_cases a.on.more b.on.more g c) as
+          (λ _. (g ≡ rev (next m h)) ⊎ (g ≡ rev (prev m h))) [
+            | inl d ↦ inl (a.only g d ∙ ap rev e)
+            | inr d ↦ inr (b.only g d ∙ ap rev f)
+          ];
+    }
 
 -- ---- one after the other, of a list
 -- the flood has asked of the first i of the starts

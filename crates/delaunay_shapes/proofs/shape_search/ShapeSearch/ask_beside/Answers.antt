@@ -6,12 +6,9 @@ use Rattle.delaunay_shapes.proofs.shape_search.ShapeSearch.ask_beside.Goals as g
 pub returns : goal.returns
 returns g c =
     let edge = c.directed_edge-edge.ensures in
-    on_ok c.ask-2.result
-    (λ asks. asked_both _ c.args.self.now.dcel.mesh _ _ _ _ _ _ _ c.args.edge c.fix-after.result
-    c.fix-before.result
+    on_ok c.ask-2.result (asked_both
     (rw (← c.self.view_is) (after_is g.V.HasPosition.place edge.dcel edge.index
     c.next.ensures.index c.fix-after.ensures.value))
     (rw (← c.self.view_is) (before_is g.V.HasPosition.place edge.dcel edge.index
     c.prev.ensures.index c.fix-before.ensures.value))
-    c.in_ok-ask.ensures asks)
-    c.ask-2.ensures
+    c.in_ok-ask.ensures) c.ask-2.ensures

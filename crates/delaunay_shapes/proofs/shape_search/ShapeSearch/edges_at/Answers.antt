@@ -1,7 +1,4 @@
-use Rattle.std.proofs.Common.{ℕ, ◌/◌, sym, subst}
-use Rattle.std.specs.Prelude.{Contains}
-use Rattle.delaunay_shapes.specs.ShapeSearch.{EnclosesEdge}
-use Rattle.delaunay_shapes.specs.Start.{HasStarts}
+use Rattle.std.proofs.Common.{◌/◌}
 use Rattle.delaunay_shapes.proofs.FirstEdges.{if_ok}
 use Rattle.delaunay_shapes.proofs.shape_search.ShapeSearch.edges_at.Goals as goal
 
@@ -13,14 +10,9 @@ returns-in-OnFace-clause-within g c = rw (← c.self.view_is) c.sides_of_face.en
 
 pub returns-in-Some-clause-starts : goal.returns-in-Some-clause-starts
 returns-in-Some-clause-starts g c =
-    let s = c.args.self.now in
-    let Inside : ℕ → Type 0 = EnclosesEdge g.V.HasPosition.place g.M.DistanceMetric.shape s in
-    if_ok (λ v. Contains v.items (c.in-Some.edge / 2))
-    (λ v. HasStarts Inside s.dcel.mesh v.items c.args.location)
-    c.edge_alone-in-Some.result
-    (λ v there. subst (HasStarts Inside s.dcel.mesh v.items) (sym c.in-OutsideOfConvexHull.is)
-    (λ h within outer inside. (c.in-Some.edge / 2, there, c.in-Some.ensures.some.1)))
-    c.edge_alone-in-Some.ensures.starts
+    if_ok _ _ c.edge_alone-in-Some.result
+    (λ v there. rw c.in-OutsideOfConvexHull.is (λ h within outer inside.
+    (c.in-Some.edge / 2, there, c.in-Some.ensures.some.1))) c.edge_alone-in-Some.ensures.starts
 
 pub returns-in-Some-clause-within : goal.returns-in-Some-clause-within
 returns-in-Some-clause-within g c = rw (← c.self.view_is) c.edge_alone-in-Some.ensures.within
