@@ -6,11 +6,10 @@ ghost use Rattle.delaunay_legalization.specs.half_edge_mesh.Round.{IsRound};
 ghost use Rattle.delaunay_removal.specs.Star.{MayTurnAway, TurnsAway};
 
 use crate::pairs::{VertexPair, ends_beside};
+pub(crate) use delaunay_legalization::ccw_edge;
 use delaunay_legalization::delaunay_core::point::HasPosition;
 use delaunay_legalization::half_edge_mesh::{Dcel, FixedDirectedEdgeHandle, MeshViews};
 use delaunay_legalization::is_outer;
-
-pub(crate) use delaunay_legalization::ccw_edge;
 
 // The edge before an edge round the vertex where it starts: before the one with the outer face on
 // its right, the last one.
