@@ -68,41 +68,14 @@ impl EdgeList {
         self.records[h as usize + 1]
     }
 
-    // The edge after `h`.
-    #[tactic(auto, using(crate::proofs::Stored::Shown::next_shown))]
-    pub(crate) fn next(&self, h: u32) -> u32
-        requires { h < length self.now.items }
-        ensures { result ≡ (edge_at (shown self.now.items) h).next }
-    {
-        self.stored(h).next
-    }
-
-    // The edge before `h`.
-    #[tactic(auto, using(crate::proofs::Stored::Shown::prev_shown))]
-    pub(crate) fn prev(&self, h: u32) -> u32
-        requires { h < length self.now.items }
-        ensures { result ≡ (edge_at (shown self.now.items) h).prev }
-    {
-        self.stored(h).prev
-    }
-
-    // The face on the left of `h`.
-    #[tactic(auto, using(crate::proofs::Stored::Shown::face_shown))]
-    pub(crate) fn face(&self, h: u32) -> u32
-        requires { h < length self.now.items }
-        ensures { result ≡ (edge_at (shown self.now.items) h).face }
-    {
-        self.stored(h).face
-    }
-
     // Where `h` starts: the edge after it says so.
-    #[tactic(auto, using(crate::proofs::Stored::Shown::origin_shown))]
+    #[tactic(auto, using(crate::proofs::Stored::Shown::whole_reads))]
     pub(crate) fn origin(&self, h: u32) -> u32
         requires within { h < length self.now.items }
         requires next_within { (edge_at (shown self.now.items) h).next < length self.now.items }
         ensures { result ≡ (edge_at (shown self.now.items) h).origin }
     {
-        self.stored(self.next(h)).prev_origin
+        self.stored(self.stored(h).next).prev_origin
     }
 
     // The directed edge `h`.

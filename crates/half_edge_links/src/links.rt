@@ -95,7 +95,7 @@ impl<V> Links<V> {
         ensures value { result ≡ next self.now.mesh h }
         ensures valid { IsValidMesh self.now.mesh }
     {
-        self.half_edges.next(h)
+        self.half_edges.stored(h).next
     }
 
     /// The edge before directed edge `h` round the face on its left.
@@ -105,7 +105,7 @@ impl<V> Links<V> {
         ensures value { result ≡ prev self.now.mesh h }
         ensures valid { IsValidMesh self.now.mesh }
     {
-        self.half_edges.prev(h)
+        self.half_edges.stored(h).prev
     }
 
     /// The face on the left of directed edge `h`.
@@ -115,7 +115,7 @@ impl<V> Links<V> {
         ensures value { result ≡ face self.now.mesh h }
         ensures valid { IsValidMesh self.now.mesh }
     {
-        self.half_edges.face(h)
+        self.half_edges.stored(h).face
     }
 
     /// The vertex at which directed edge `h` starts.

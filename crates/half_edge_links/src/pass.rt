@@ -26,7 +26,7 @@ fn pass_edges(half_edges: &mut EdgeList, e: u32, t: u32, k: u32, l: u32, z: u32)
     let start = half_edges.origin(e);
     let far = half_edges.origin(k);
     let start_before = half_edges.origin(z);
-    let after_twin = half_edges.next(t);
+    let after_twin = half_edges.stored(t).next;
     join(half_edges, e, k, start);
     join(half_edges, z, t, start_before);
     join(half_edges, k, l, far);

@@ -132,8 +132,8 @@ pub(crate) fn hang_edges(half_edges: &mut EdgeList, x: u32, v: u32)
     ensures capacity { half_edges.new.capacity ≡ half_edges.old.capacity }
 {
     let n = half_edges.len() as u32;
-    let y = half_edges.next(x);
-    let face = half_edges.face(x);
+    let y = half_edges.stored(x).next;
+    let face = half_edges.stored(x).face;
     let start = half_edges.origin(x);
     let end = half_edges.origin(y);
     set_next(half_edges, x, n);
@@ -190,7 +190,7 @@ pub(crate) fn slide_edges(half_edges: &mut EdgeList, e: u32, t: u32, k: u32, l: 
     let middle = half_edges.origin(k);
     let far = half_edges.origin(l);
     let start_before = half_edges.origin(z);
-    let after_twin = half_edges.next(t);
+    let after_twin = half_edges.stored(t).next;
     join(half_edges, e, l, start);
     join(half_edges, z, k, start_before);
     join(half_edges, k, t, middle);

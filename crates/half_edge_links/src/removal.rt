@@ -26,11 +26,10 @@ pub(crate) fn set_loop_face(half_edges: &mut EdgeList, h: u32, face: u32)
     ensures len { length half_edges.new.items ≡ length half_edges.old.items }
     ensures capacity { half_edges.new.capacity ≡ half_edges.old.capacity }
 {
-    let next = half_edges.next(h);
-    let prev = half_edges.prev(h);
+    let edge = half_edges.stored(h);
     set_face(half_edges, h, face);
-    set_face(half_edges, next, face);
-    set_face(half_edges, prev, face);
+    set_face(half_edges, edge.next, face);
+    set_face(half_edges, edge.prev, face);
 }
 
 // Takes edge `e`, with other side `t`, out of its loops. Each side is left as a loop of its own.
@@ -63,14 +62,12 @@ pub(crate) fn fill(half_edges: &mut EdgeList, last: u32, hole: u32)
         with_filled (shown half_edges.old.items) last hole }
     ensures capacity { half_edges.new.capacity ≡ half_edges.old.capacity }
 {
-    let even_next = half_edges.next(last);
-    let even_prev = half_edges.prev(last);
-    let odd_next = half_edges.next(last + 1);
-    let odd_prev = half_edges.prev(last + 1);
-    set_next(half_edges, even_prev, hole);
-    set_prev(half_edges, even_next, hole);
-    set_next(half_edges, odd_prev, hole + 1);
-    set_prev(half_edges, odd_next, hole + 1);
+    let even = half_edges.stored(last);
+    let odd = half_edges.stored(last + 1);
+    set_next(half_edges, even.prev, hole);
+    set_prev(half_edges, even.next, hole);
+    set_next(half_edges, odd.prev, hole + 1);
+    set_prev(half_edges, odd.next, hole + 1);
     half_edges.swap_remove(hole + 1);
     half_edges.swap_remove(hole);
 }
@@ -179,7 +176,7 @@ fn set_origin(half_edges: &mut EdgeList, h: u32, v: u32)
     ensures len { length half_edges.new.items ≡ length half_edges.old.items }
     ensures capacity { half_edges.new.capacity ≡ half_edges.old.capacity }
 {
-    let next = half_edges.next(h);
+    let next = half_edges.stored(h).next;
     set_corner(half_edges, next, v);
 }
 
@@ -195,7 +192,7 @@ pub(crate) fn move_origins(half_edges: &mut EdgeList, first: u32, v: u32)
     let mut h = first;
     for _i in 0..half_edges.len() {
         set_origin(half_edges, h, v);
-        h = reversed(half_edges.prev(h));
+        h = reversed(half_edges.stored(h).prev);
         if h == first {
             return;
         }

@@ -1,6 +1,6 @@
 -- The directed edges that a list keeps.
 -- Lemmas: length_shown, shown_at, next_shown, prev_shown, face_shown, origin_shown, next_within,
--- prev_within, shown_whole.
+-- next_kept_within, prev_kept_within, shown_whole.
 use Rattle.std.proofs.Common.{◌≡◌, ℕ, ◌<◌, List, length, refl, sym, ap, ◌∙◌, inl, inr}
 use Rattle.std.proofs.lemmas.Bool.{cases_lt}
 use Rattle.std.proofs.lemmas.List.{length-map, get_or-map, get_or_past}
@@ -60,10 +60,16 @@ pub next_within : (rs : List StoredEdge) (h : ℕ) → AreJoined (shown rs) → 
     → (edge_at (shown rs) h).next < length rs
 next_within rs h j within = rw length_shown at (j.next_in h (rw length_shown within))
 
+-- the same, as the record says it
+pub next_kept_within : (rs : List StoredEdge) (h : ℕ) → AreJoined (shown rs) → h < length rs
+    → (stored_at rs h).next < length rs
+next_kept_within rs h j within = rw next_shown at (next_within rs h j within)
+
 -- the edge before one of a joined list is in the list
-pub prev_within : (rs : List StoredEdge) (h : ℕ) → AreJoined (shown rs) → h < length rs
-    → (edge_at (shown rs) h).prev < length rs
-prev_within rs h j within = rw length_shown at (j.prev_in h (rw length_shown within))
+pub prev_kept_within : (rs : List StoredEdge) (h : ℕ) → AreJoined (shown rs) → h < length rs
+    → (stored_at rs h).prev < length rs
+prev_kept_within rs h j within =
+    rw (length_shown, prev_shown) at (j.prev_in h (rw length_shown within))
 
 -- the records that an edge is read from give all its links
 pub shown_whole : (rs : List StoredEdge) (h : ℕ) → h < length rs → record {
@@ -75,7 +81,7 @@ pub shown_whole : (rs : List StoredEdge) (h : ℕ) → h < length rs → record 
 shown_whole rs h within = sym (shown_at rs h within)
 
 -- reads of a whole directed edge
-pub ruleset whole_reads = (shown_whole, next_shown)
+pub ruleset whole_reads = (shown_whole, origin_shown, next_shown)
 
 -- the same reads, and that the links of a joined list lead to edges of the list
-pub ruleset joined_reads = (shown_reads, next_within, prev_within)
+pub ruleset joined_reads = (shown_reads, next_within, next_kept_within, prev_kept_within)

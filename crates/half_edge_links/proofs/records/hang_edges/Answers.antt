@@ -1,6 +1,6 @@
 use Rattle.std.proofs.Common.{◌≡◌, length, arith}
 use Rattle.half_edge_links.specs.EdgeList.{shown}
-use Rattle.half_edge_links.proofs.Stored.Shown.{length_shown}
+use Rattle.half_edge_links.proofs.Stored.Shown.{length_shown, next_shown, face_shown}
 use Rattle.half_edge_links.proofs.Stored.Hung.{shows_hung}
 use Rattle.half_edge_links.proofs.records.hang_edges.Goals as goal
 
@@ -10,4 +10,4 @@ returns-clause-items c =
     omega (arith, length_shown c.args.half_edges.now.items) in
     let shows = shows_hung c.args.half_edges.now.items c.args.x c.args.v c.len-n.result
     c.requires.joined (rw length_shown c.requires.within) n in
-    cc
+    cc (next_shown _ c.args.x, face_shown _ c.args.x)

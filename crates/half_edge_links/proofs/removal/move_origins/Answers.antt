@@ -1,9 +1,7 @@
-use Rattle.std.proofs.Common.{◌≡◌, ◌∙◌, arith}
+use Rattle.std.proofs.Common.{◌∙◌, refl, arith}
 use Rattle.half_edge_links.specs.EdgeList.{shown}
-use Rattle.half_edge_links.specs.Grow.{with_origin}
-use Rattle.half_edge_links.specs.Move.{turn_of}
 use Rattle.half_edge_links.proofs.Removing.VertexSound.{walk_more, walk_ends, no_end}
-use Rattle.half_edge_links.proofs.Stored.Shown.{length_shown}
+use Rattle.half_edge_links.proofs.Stored.Shown.{length_shown, prev_shown}
 use Rattle.half_edge_links.proofs.Stored.Joined.{joined_kept}
 use Rattle.half_edge_links.proofs.removal.move_origins.Goals as goal
 
@@ -14,18 +12,18 @@ set_origin-requires-clause-joined c =
 
 pub returns-then-h-first-clause-moves : goal.returns-then-h-first-clause-moves
 returns-then-h-first-clause-moves c =
-    let at : c.reversed-h.result ≡ turn_of
-    (with_origin (shown c.loop-i.half_edges.items) c.loop-i.h c.args.v) c.loop-i.h = cc in
     rw c.set_origin.ensures.items
     (walk_ends _ (shown c.loop-i.half_edges.items) c.args.first c.args.v c.loop-i._i c.loop-i.h
-    c.requires.walk c.loop-i.invariant.0 c.reversed-h.result at c.if-h-first.true)
+    c.requires.walk c.loop-i.invariant.0 c.reversed-h.result
+    (rw (c.reversed-h.ensures, c.stored.ensures, ← c.set_origin.ensures.items, prev_shown) refl)
+    c.if-h-first.true)
 
 pub loop-i-preserved : goal.loop-i-preserved
 loop-i-preserved c =
-    let at : c.reversed-h.result ≡ turn_of
-    (with_origin (shown c.loop-i.half_edges.items) c.loop-i.h c.args.v) c.loop-i.h = cc in
     let w = walk_more _ (shown c.loop-i.half_edges.items) c.args.first c.args.v c.loop-i._i
-    c.loop-i.h c.requires.walk c.loop-i.invariant.0 c.reversed-h.result at c.if-h-first.false in (
+    c.loop-i.h c.requires.walk c.loop-i.invariant.0 c.reversed-h.result
+    (rw (c.reversed-h.ensures, c.stored.ensures, ← c.set_origin.ensures.items, prev_shown) refl)
+    c.if-h-first.false in (
       rw c.set_origin.ensures.items w,
       c.set_origin.ensures.capacity ∙ c.loop-i.invariant.1,
       c.loop-i.invariant.2,
