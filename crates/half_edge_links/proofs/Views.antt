@@ -6,7 +6,8 @@ use Rattle.half_edge_links.specs.Mesh.{Mesh, IsValidMesh}
 use Rattle.half_edge_links.specs.Places.{AreJoined}
 use Rattle.half_edge_links.specs.VertexList.{out_edges_of}
 use Rattle.half_edge_links.proofs.Stored.Joined.{joined_sound}
-use Rattle.half_edge_links.proofs.Stored.Shown.{shown_reads, next_within}
+use Rattle.half_edge_links.proofs.Stored.Shown.{shown_reads, whole_reads, length_shown}
+use Rattle.half_edge_links.proofs.Stored.Shown.{next_kept_within}
 
 -- the mesh inside
 abbrev pub mesh_in : {V : Type 0} → Inside V → Mesh
@@ -25,5 +26,5 @@ joined_in l v = joined_sound (mesh_in l) v.sound
 -- reads of the edges inside, and that their links are joined
 pub ruleset inside_reads = (shown_reads, joined_in)
 
--- the same reads, and that the links lead to edges inside
-pub ruleset joined_reads = (inside_reads, next_within)
+-- reads of whole edges inside, whose links lead to edges inside
+pub ruleset joined_reads = (whole_reads, length_shown, joined_in, next_kept_within)

@@ -7,9 +7,8 @@ ghost use Rattle.std.specs.Prelude.{◌≡◌, ◌+◌, ◌-◌, ◌<◌, ◌≤
 ghost use Rattle.std.specs.Prelude.{OnOk, IsOk};
 ghost use Rattle.std.specs.List.{swap_remove};
 ghost use Rattle.half_edge_links.specs.EdgeList.{stored_at, no_stored, shown, HoldsSameEdges};
-ghost use Rattle.half_edge_links.specs.Mesh.{edge_at};
 
-use crate::records::{HalfEdge, StoredEdge};
+use crate::records::StoredEdge;
 use crate::room::MAX_ELEMENTS;
 use std::alloc::{AllocError, Global};
 use std::marker::Model;
@@ -66,32 +65,6 @@ impl EdgeList {
         ensures { result ≡ stored_at self.now.items h }
     {
         self.records[h as usize + 1]
-    }
-
-    // Where `h` starts: the edge after it says so.
-    #[tactic(auto, using(crate::proofs::Stored::Shown::whole_reads))]
-    pub(crate) fn origin(&self, h: u32) -> u32
-        requires within { h < length self.now.items }
-        requires next_within { (edge_at (shown self.now.items) h).next < length self.now.items }
-        ensures { result ≡ (edge_at (shown self.now.items) h).origin }
-    {
-        self.stored(self.stored(h).next).prev_origin
-    }
-
-    // The directed edge `h`.
-    #[tactic(auto, using(crate::proofs::Stored::Shown::whole_reads))]
-    pub(crate) fn get(&self, h: u32) -> HalfEdge
-        requires within { h < length self.now.items }
-        requires next_within { (edge_at (shown self.now.items) h).next < length self.now.items }
-        ensures { result ≡ edge_at (shown self.now.items) h }
-    {
-        let edge = self.stored(h);
-        HalfEdge {
-            origin: self.stored(edge.next).prev_origin,
-            next: edge.next,
-            prev: edge.prev,
-            face: edge.face,
-        }
     }
 
     // Keeps the directed edge `h` as `edge`.

@@ -6,7 +6,7 @@ ghost use Rattle.half_edge_links.specs.Mesh.{face_edge, out_edge, origin, next, 
 use crate::edge_list::EdgeList;
 use crate::records::HalfEdge;
 use crate::room::MAX_ELEMENTS;
-use crate::vertex_list::{Vertex, named_edge};
+use crate::vertex_list::{Vertex, edge_named};
 use std::alloc::Global;
 use std::marker::Model;
 
@@ -85,7 +85,13 @@ impl<V> Links<V> {
         ensures sound { AreSoundLinks self.now.mesh }
         ensures valid { IsValidMesh self.now.mesh }
     {
-        self.half_edges.get(h)
+        let edge = self.half_edges.stored(h);
+        HalfEdge {
+            origin: self.half_edges.stored(edge.next).prev_origin,
+            next: edge.next,
+            prev: edge.prev,
+            face: edge.face,
+        }
     }
 
     /// The edge after directed edge `h` round the face on its left.
@@ -118,14 +124,15 @@ impl<V> Links<V> {
         self.half_edges.stored(h).face
     }
 
-    /// The vertex at which directed edge `h` starts.
+    /// The vertex at which directed edge `h` starts: the edge after it says so.
     #[tactic(auto, using(crate::proofs::Views::joined_reads))]
     pub fn origin(&self, h: u32) -> u32
         requires { h < length self.now.mesh.half_edges }
         ensures value { result ≡ origin self.now.mesh h }
         ensures valid { IsValidMesh self.now.mesh }
     {
-        self.half_edges.origin(h)
+        let edge = self.half_edges.stored(h);
+        self.half_edges.stored(edge.next).prev_origin
     }
 
     /// The vertex at which the edge before directed edge `h` starts: where `h` is an edge of an
@@ -180,12 +187,13 @@ impl<V> Links<V> {
     }
 
     /// An edge that starts at vertex `v`, if there is one.
+    #[tactic(auto, using(crate::proofs::Lists::VertexLists::vertex_counts))]
     pub fn out_edge(&self, v: u32) -> Option<u32>
         requires { v < length self.now.mesh.out_edges }
         ensures value { result ≡ out_edge self.now.mesh v }
         ensures valid { IsValidMesh self.now.mesh }
     {
-        named_edge(&self.vertices, v)
+        edge_named(self.vertices[v as usize].out_edge)
     }
 
     /// The data of vertex `v`.

@@ -23,14 +23,13 @@ fn pass_edges(half_edges: &mut EdgeList, e: u32, t: u32, k: u32, l: u32, z: u32)
         passed_edges (shown half_edges.old.items) e t k l z }
     ensures capacity { half_edges.new.capacity ≡ half_edges.old.capacity }
 {
-    let start = half_edges.origin(e);
-    let far = half_edges.origin(k);
-    let start_before = half_edges.origin(z);
-    let after_twin = half_edges.stored(t).next;
+    let twin = half_edges.stored(t);
+    let start = half_edges.stored(l).prev_origin;
+    let start_before = half_edges.stored(k).prev_origin;
     join(half_edges, e, k, start);
     join(half_edges, z, t, start_before);
-    join(half_edges, k, l, far);
-    set_corner(half_edges, after_twin, far);
+    join(half_edges, k, l, twin.prev_origin);
+    set_corner(half_edges, twin.next, twin.prev_origin);
 }
 
 impl<V> Links<V> {

@@ -132,14 +132,16 @@ pub(crate) fn hang_edges(half_edges: &mut EdgeList, x: u32, v: u32)
     ensures capacity { half_edges.new.capacity ≡ half_edges.old.capacity }
 {
     let n = half_edges.len() as u32;
-    let y = half_edges.stored(x).next;
-    let face = half_edges.stored(x).face;
-    let start = half_edges.origin(x);
-    let end = half_edges.origin(y);
+    let edge = half_edges.stored(x);
+    let after = half_edges.stored(edge.next);
+    let end = half_edges.stored(after.next).prev_origin;
     set_next(half_edges, x, n);
-    set_prev(half_edges, y, n + 1);
-    set_corner(half_edges, y, v);
-    half_edges.push_edge(linked(start, n + 1, x, face), linked(end, y, n, face));
+    set_prev(half_edges, edge.next, n + 1);
+    set_corner(half_edges, edge.next, v);
+    half_edges.push_edge(
+        linked(after.prev_origin, n + 1, x, edge.face),
+        linked(end, edge.next, n, edge.face),
+    );
 }
 
 // Makes face `g` of edge `e`, the next one and a new edge, between the edges before and after the
@@ -159,21 +161,21 @@ pub(crate) fn close_edges(half_edges: &mut EdgeList, e: u32, after: u32, g: u32)
     ensures capacity { half_edges.new.capacity ≡ half_edges.old.capacity }
 {
     let n = half_edges.len() as u32;
-    let edge = half_edges.get(e);
-    let middle = half_edges.origin(edge.next);
-    let end = half_edges.origin(after);
-    let start_before = half_edges.origin(edge.prev);
+    let edge = half_edges.stored(e);
+    let start = half_edges.stored(edge.next).prev_origin;
+    let third = half_edges.stored(after);
+    let end = half_edges.stored(third.next).prev_origin;
     set_next(half_edges, edge.prev, n + 1);
     set_next(half_edges, edge.next, n);
     set_prev(half_edges, after, n + 1);
     set_prev(half_edges, e, n);
     set_face(half_edges, e, g);
     set_face(half_edges, edge.next, g);
-    set_corner(half_edges, after, edge.origin);
+    set_corner(half_edges, after, start);
     set_corner(half_edges, e, end);
     half_edges.push_edge(
-        linked(middle, e, edge.next, g),
-        linked(start_before, after, edge.prev, 0),
+        linked(third.prev_origin, e, edge.next, g),
+        linked(edge.prev_origin, after, edge.prev, 0),
     );
 }
 
@@ -186,13 +188,12 @@ pub(crate) fn slide_edges(half_edges: &mut EdgeList, e: u32, t: u32, k: u32, l: 
     ensures items { shown half_edges.new.items ≡ slid_edges (shown half_edges.old.items) e t k l z }
     ensures capacity { half_edges.new.capacity ≡ half_edges.old.capacity }
 {
-    let start = half_edges.origin(e);
-    let middle = half_edges.origin(k);
-    let far = half_edges.origin(l);
-    let start_before = half_edges.origin(z);
-    let after_twin = half_edges.stored(t).next;
+    let twin = half_edges.stored(t);
+    let back = half_edges.stored(l);
+    let start = half_edges.stored(k).prev_origin;
+    let far = half_edges.stored(back.next).prev_origin;
     join(half_edges, e, l, start);
-    join(half_edges, z, k, start_before);
-    join(half_edges, k, t, middle);
-    set_corner(half_edges, after_twin, far);
+    join(half_edges, z, k, twin.prev_origin);
+    join(half_edges, k, t, back.prev_origin);
+    set_corner(half_edges, twin.next, far);
 }

@@ -15,7 +15,7 @@ ghost use Rattle.half_edge_links.specs.declared.room.TheConstants.{MAX_ELEMENTS}
 
 use crate::edge_list::EdgeList;
 use crate::records::{join, reversed, set_corner, set_face, set_next, set_prev};
-use crate::vertex_list::{Vertex, named_edge, set_out_edge};
+use crate::vertex_list::Vertex;
 
 // The three directed edges round the triangle of `h` get this face.
 #[tactic(auto, using(crate::proofs::Stored::Shown::joined_reads))]
@@ -41,14 +41,14 @@ pub(crate) fn unlink(half_edges: &mut EdgeList, e: u32, t: u32)
     ensures len { length half_edges.new.items ≡ length half_edges.old.items }
     ensures capacity { half_edges.new.capacity ≡ half_edges.old.capacity }
 {
-    let edge = half_edges.get(e);
-    let twin = half_edges.get(t);
-    let start_before = half_edges.origin(edge.prev);
-    let end_before = half_edges.origin(twin.prev);
-    join(half_edges, edge.prev, twin.next, start_before);
-    join(half_edges, twin.prev, edge.next, end_before);
-    join(half_edges, e, e, edge.origin);
-    join(half_edges, t, t, twin.origin);
+    let edge = half_edges.stored(e);
+    let twin = half_edges.stored(t);
+    let start = half_edges.stored(edge.next).prev_origin;
+    let end = half_edges.stored(twin.next).prev_origin;
+    join(half_edges, edge.prev, twin.next, edge.prev_origin);
+    join(half_edges, twin.prev, edge.next, twin.prev_origin);
+    join(half_edges, e, e, start);
+    join(half_edges, t, t, end);
 }
 
 // The last two directed edges, from `last` on, take the place of `hole` and the one after it.
@@ -99,10 +99,10 @@ pub(crate) fn renamed(from: u32, to: u32, edge: Option<u32>) -> Option<u32>
 }
 
 // Renames the edge that vertex `v` names.
-#[tactic(auto, unfolding(crate::specs::Remove::with_out_renamed))]
+#[tactic(auto, using(crate::proofs::Lists::VertexLists::vertex_counts))]
 pub(crate) fn rename_out<V>(vertices: &mut Vec<Vertex<V>>, v: u32, from: u32, to: u32)
     requires vertex { v < length (out_edges_of vertices.old.items) }
-    requires from_in { from + 1 < 4294967296 }
+    requires from_in { from + 1 < MAX_ELEMENTS }
     requires to_in { to + 1 < MAX_ELEMENTS }
     ensures out_edges { out_edges_of vertices.new.items ≡
         with_out_renamed (out_edges_of vertices.old.items) v from to }
@@ -111,8 +111,8 @@ pub(crate) fn rename_out<V>(vertices: &mut Vec<Vertex<V>>, v: u32, from: u32, to
         length (out_edges_of vertices.old.items) }
     ensures capacity { vec_capacity vertices.new ≡ vec_capacity vertices.old }
 {
-    let named = named_edge(vertices, v);
-    set_out_edge(vertices, v, renamed(from, to, named));
+    let vertex = &mut vertices[v as usize];
+    vertex.out_edge = pair_moved(from, to, vertex.out_edge);
 }
 
 // Renames the edge that face `f` names, where it is not the outer face.

@@ -69,13 +69,13 @@ impl<V> Links<V> {
         let edge = self.half_edge(e);
         let twin = self.half_edge(t);
         let last = (self.half_edge_count() - 2) as u32;
+        let even = self.half_edge(last);
+        let odd = self.half_edge(last + 1);
         let hole = e - e % 2;
         unlink(&mut self.half_edges, e, t);
         set_out_edge(&mut self.vertices, edge.origin, out_after(e, twin.next));
         set_out_edge(&mut self.vertices, twin.origin, out_after(t, edge.next));
         let outer = outer_after(self.outer_edge, e, t, edge.next, edge.prev);
-        let even = self.half_edges.get(last);
-        let odd = self.half_edges.get(last + 1);
         rename_out(&mut self.vertices, even.origin, last, hole);
         rename_out(&mut self.vertices, odd.origin, last, hole);
         rename_face(&mut self.face_edges, even.face, last, hole);

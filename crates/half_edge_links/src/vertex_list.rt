@@ -1,7 +1,6 @@
 //! What a list of vertices keeps. The edge that a vertex names and its data lie side by side, since
 //! most steps read both.
-ghost use Rattle.std.specs.Prelude.{◌≡◌, ◌<◌, length, slice_index_or, slice_set, vec_capacity};
-ghost use Rattle.std.specs.Prelude.{Option, None};
+ghost use Rattle.std.specs.Prelude.{◌≡◌, ◌<◌, length, slice_set, vec_capacity, Option};
 ghost use Rattle.half_edge_links.specs.VertexList.{named_by, IsNameable, out_edges_of, values_of};
 
 use std::alloc::AllocError;
@@ -32,37 +31,14 @@ impl<V: Clone> Clone for Vertex<V> {
 
 // The edge that a vertex names by this number.
 #[tactic(auto, unfolding(crate::specs::VertexList::named_by))]
-fn edge_named(number: u32) -> Option<u32>
-    ensures value { result ≡ named_by number }
-    ensures nameable { IsNameable result }
+pub(crate) fn edge_named(number: u32) -> Option<u32>
+    ensures { result ≡ named_by number }
 {
     if number == NO_EDGE {
         None
     } else {
         Some(number)
     }
-}
-
-// The number by which a vertex names `edge`.
-#[tactic(auto, unfolding(crate::specs::VertexList::named_by))]
-fn naming_number(edge: Option<u32>) -> u32
-    requires { IsNameable edge }
-    ensures { named_by result ≡ edge }
-{
-    match edge {
-        Some(number) => number,
-        None => NO_EDGE,
-    }
-}
-
-// The edge that vertex `v` names.
-#[tactic(auto, using(crate::proofs::Lists::VertexLists::vertex_counts))]
-pub(crate) fn named_edge<V>(vertices: &Vec<Vertex<V>>, v: u32) -> Option<u32>
-    requires { v < length (out_edges_of vertices.now.items) }
-    ensures value { result ≡ slice_index_or (out_edges_of vertices.now.items) v None }
-    ensures nameable { IsNameable result }
-{
-    edge_named(vertices[v as usize].out_edge)
 }
 
 // Lets vertex `v` name `edge`.
@@ -75,5 +51,5 @@ pub(crate) fn set_out_edge<V>(vertices: &mut Vec<Vertex<V>>, v: u32, edge: Optio
     ensures values { values_of vertices.new.items ≡ values_of vertices.old.items }
     ensures capacity { vec_capacity vertices.new ≡ vec_capacity vertices.old }
 {
-    vertices[v as usize].out_edge = naming_number(edge);
+    vertices[v as usize].out_edge = edge.unwrap_or(NO_EDGE);
 }

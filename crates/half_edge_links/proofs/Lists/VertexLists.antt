@@ -1,18 +1,33 @@
 -- A list of vertices after writes, as the list of the edges that they name and the list of their
 -- data.
--- Lemmas: set_named, set_value, copied_out_edges, copied_values, pushed_vertex, swap_remove-map,
+-- Lemmas: named_as, named_moved, set_named, named_at, set_value, copied_out_edges, copied_values, pushed_vertex, swap_remove-map,
 -- takes_vertex, length_out_edges, length_values.
-use Rattle.std.proofs.Common.{◌≡◌, ◌-◌, ◌<◌, [], ◌∷◌, ◌++◌, ◌∙◌, None, option_map}
+use Rattle.std.proofs.Common.{◌≡◌, ◌+◌, ◌-◌, ◌<◌, [], ◌∷◌, ◌++◌, ◌∙◌, Option, None, Some}
+use Rattle.std.proofs.Common.{option_map, unwrap_or}
 use Rattle.std.proofs.Common.{ℕ, List, length, get_or, set, map, refl, sym, ap, arith}
 use Rattle.std.proofs.lemmas.List.{map-set, take-map, length-map, get_or-map, map-append}
+use Rattle.std.proofs.lemmas.Bool.Decides.{nat_tests}
 use Rattle.std.proofs.lemmas.Option.{slice_get_read, slice_get-map}
 use Rattle.std.proofs.Math.Seq.{map-set_same}
 use Rattle.std.specs.List.{swap_remove, AllZip}
 use Rattle.half_edge_links.specs.declared.vertex_list.Vertex.{Vertex}
 use Rattle.half_edge_links.specs.declared.vertex_list.TheConstants.{NO_EDGE}
+use Rattle.half_edge_links.specs.Renames.{pair_moved, renamed}
 use Rattle.half_edge_links.specs.VertexList.{IsCopiedVertex, named_by, out_edges_of, values_of}
-use Rattle.half_edge_links.specs.VertexList.{TakesVertex}
+use Rattle.half_edge_links.specs.VertexList.{TakesVertex, IsNameable}
 use Rattle.half_edge_links.proofs.Removing.OpenSound.{swap_remove_default}
+
+-- an edge is named by its own number, and none by the one that is left for it
+pub named_as : (edge : Option ℕ) → IsNameable edge → named_by (unwrap_or edge NO_EDGE) ≡ edge
+unfolding named_by
+named_as None _ = refl
+named_as (Some edge) small = grind (arith, nat_tests)
+
+-- the number of an edge that moves stands for its new index, and no edge stays none
+pub named_moved : (from to n : ℕ) → from + 1 < NO_EDGE → to + 1 < NO_EDGE
+    → named_by (pair_moved from to n) ≡ renamed (pair_moved from to) (named_by n)
+unfolding named_by
+named_moved from to n from_in to_in = grind (arith, nat_tests)
 
 module _ {V : Type 0} where
   -- another edge that one vertex names changes the edges there, and no data
@@ -24,6 +39,12 @@ module _ {V : Type 0} where
     map-set_same (λ (v : Vertex V). v.value) vs i (record at { out_edge = n }) at
         (ap (λ (v : Vertex V). v.value) is),
   )
+
+  -- an edge that one vertex names is what its number stands for
+  pub named_at : (vs : List (Vertex V)) (v : ℕ) (at : Vertex V) → v < length vs → at ≡ get_or vs v at
+      → get_or (out_edges_of vs) v None ≡ named_by at.out_edge
+  named_at vs v at within is = get_or-map (λ (u : Vertex V). named_by u.out_edge) vs v at None within
+      ∙ ap (λ (u : Vertex V). named_by u.out_edge) (sym is)
 
   -- other data of one vertex change the data there, and no edge that is named
   pub set_value : (vs : List (Vertex V)) (i : ℕ) (at : Vertex V) (value : V) → at ≡ get_or vs i at

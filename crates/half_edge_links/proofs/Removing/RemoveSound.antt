@@ -1,6 +1,5 @@
 -- Removing an edge keeps a mesh sound.
--- Notions: IsInRange, AreLastTwo; removes, joined_unlinked, unlinked_places, last_two,
--- sound_removed, small_removed.
+-- Lemmas: removes, joined_unlinked, unlinked_places, read_unlinked, sound_removed, small_removed.
 use Rattle.std.proofs.Common.{◌≡◌, ℕ, ◌+◌, ◌-◌, ◌%◌, ◌<◌, ◌≤◌, List, length, sym, ap, ◌∙◌, arith}
 use Rattle.half_edge_links.specs.declared.records.HalfEdge.{HalfEdge}
 use Rattle.half_edge_links.specs.Mesh.{Mesh, IsSmall, edge_at, rev, AreSoundLinks, IsValidMesh}
@@ -10,16 +9,8 @@ use Rattle.half_edge_links.specs.Remove.{IsSoundBut, Removes}
 use Rattle.half_edge_links.proofs.Removing.Conditions.{IsUnlinkable, unlinkable}
 use Rattle.half_edge_links.proofs.Sound.RenameSound.{sound_renamed}
 use Rattle.half_edge_links.proofs.Removing.UnlinkSound.{unlinks, sound_but}
-use Rattle.half_edge_links.proofs.Removing.FillSound.{renames_filled, counts, in_range, joined_but}
+use Rattle.half_edge_links.proofs.Removing.FillSound.{renames_filled, counts, joined_but}
 use Rattle.half_edge_links.proofs.Lists.Rev.{rev_within, rev_differs}
-
--- edge k of a list names elements of mesh m
-pub record IsInRange (m : Mesh) (hs : List HalfEdge) (k : ℕ) : Type 0 where
-  pub within : k < length hs
-  pub next_in : (edge_at hs k).next < length hs
-  pub prev_in : (edge_at hs k).prev < length hs
-  pub origin_in : (edge_at hs k).origin < length m.out_edges
-  pub face_in : (edge_at hs k).face ≤ length m.face_edges
 
 module _ (m : Mesh) (e : ℕ) (s : AreSoundLinks m) (can : IsUnlinkable m e) where
   -- with the edge taken out of its loops, the mesh is sound but for it
@@ -28,22 +19,6 @@ module _ (m : Mesh) (e : ℕ) (s : AreSoundLinks m) (can : IsUnlinkable m e) whe
 
   at_last : length (unlinked m e).half_edges ≡ length m.half_edges - 2 + 2
   at_last = let even = s.even in omega (arith, (unlinks m e s can).edge_count, can.within)
-
-  in_range_unlinked : (k : ℕ) → k < length m.half_edges
-      → IsInRange m (with_unlinked m.half_edges e (rev e)) k
-  unfolding unlinked
-  in_range_unlinked k within =
-      let u = unlinks m e s can in
-      let b = but in
-      let k_in : k < length (unlinked m e).half_edges = rw u.edge_count within in
-      let r = in_range (unlinked m e) (length m.half_edges - 2) (e - e % 2) b at_last k k_in in
-      record {
-        within = k_in;
-        next_in = r.0;
-        prev_in = r.1;
-        origin_in = rw u.vertex_count at (b.origins k k_in);
-        face_in = rw (ap length u.face_edges) at (b.faces_in k k_in);
-      }
 
   -- the code takes the edge out of its loops and gives its index to the last one
   pub removes : Removes m (removed m e) e
@@ -86,22 +61,14 @@ unlinked_places m e s can =
       twin_proper = (s.edges (rev e) t_in).proper;
     }
 
--- in the list whose edge e was taken out, the last edge and its other side are in range
-pub record AreLastTwo (m : Mesh) (hs : List HalfEdge) (n e : ℕ) : Type 0 where
-  pub even : IsInRange m hs (n - 2)
-  pub odd : IsInRange m hs (n - 2 + 1)
-
-pub last_two : (m : Mesh) (n : ℕ) {e t : ℕ} {hs : List HalfEdge} → IsValidMesh m → IsRemovable m e
-    → t ≡ rev e → n ≡ length m.half_edges → hs ≡ with_unlinked m.half_edges e t
-    → AreLastTwo m hs n e
-last_two m n {e} v can at_t at_n is =
-    let full = unlinkable m e v can in
-    let within = full.within in
-    let even = v.sound.even in
-    rw (is, at_t) (record {
-      even = in_range_unlinked m e v.sound full (n - 2) (omega arith);
-      odd = in_range_unlinked m e v.sound full (n - 2 + 1) (omega arith);
-    })
+-- an edge starts where it did, and has its face on its left, once edge e is taken out of its loops
+pub read_unlinked : (m : Mesh) (e k : ℕ) → IsValidMesh m → IsRemovable m e →
+    (let hs = with_unlinked m.half_edges e (rev e) in
+    ((edge_at hs k).origin ≡ (edge_at m.half_edges k).origin)
+    × ((edge_at hs k).face ≡ (edge_at m.half_edges k).face))
+unfolding unlinked
+read_unlinked m e k v can =
+    let u = unlinks m e v.sound (unlinkable m e v can) in (u.origins k, u.faces k)
 
 -- the mesh that is left once an edge is removed is sound
 pub sound_removed : (m new : Mesh) (e : ℕ) → Removes m new e → AreSoundLinks new

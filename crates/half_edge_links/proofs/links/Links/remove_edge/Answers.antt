@@ -1,29 +1,23 @@
+use Rattle.std.proofs.Common.{◌≡◌, ◌+◌, ◌-◌, ◌∙◌, List, sym, ap}
 use Rattle.std.proofs.Common.{ℕ, ◌<◌, Bool, true, false, if◌then◌else◌, Some, None, arith}
 use Rattle.std.proofs.lemmas.List.{length-set}
 use Rattle.half_edge_links.proofs.Views.{mesh_in}
 use Rattle.half_edge_links.specs.EdgeList.{shown}
 use Rattle.half_edge_links.proofs.Stored.Shown.{length_shown}
-use Rattle.half_edge_links.specs.Remove.{unlinked, filled}
+use Rattle.half_edge_links.specs.Mesh.{Mesh, edge_at, rev}
+use Rattle.half_edge_links.specs.declared.records.HalfEdge.{HalfEdge}
+use Rattle.half_edge_links.specs.Remove.{with_unlinked, unlinked, filled}
 use Rattle.half_edge_links.specs.VertexList.{IsNameable}
 use Rattle.half_edge_links.specs.declared.room.TheConstants.{MAX_ELEMENTS}
 use Rattle.half_edge_links.proofs.Removing.Conditions.{unlinkable}
-use Rattle.half_edge_links.proofs.Removing.RemoveSound.{AreLastTwo, last_two, joined_unlinked}
-use Rattle.half_edge_links.proofs.Removing.RemoveSound.{unlinked_places}
+use Rattle.half_edge_links.proofs.Removing.RemoveSound.{joined_unlinked, unlinked_places}
+use Rattle.half_edge_links.proofs.Removing.RemoveSound.{read_unlinked}
 use Rattle.half_edge_links.proofs.Removing.RemoveSound.{removes, sound_removed}
 use Rattle.half_edge_links.proofs.Sound.Valid.{valid_removed}
 use Rattle.half_edge_links.proofs.Removing.ShrinkTriangles.{triangles_removed}
 use Rattle.half_edge_links.proofs.Removing.TakenLists.{removes_ends, removes_outer}
 use Rattle.half_edge_links.proofs.OuterLoop.OutlineTaken.{outline_removed}
-use Rattle.half_edge_links.proofs.links.Links.remove_edge.Given.{Over}
-use Rattle.half_edge_links.proofs.links.Links.remove_edge.Goals.{After-unlink}
 use Rattle.half_edge_links.proofs.links.Links.remove_edge.Goals as goal
-
--- the last two edges once the links of the edge are taken out
-last : (g : Over) (c : After-unlink g) → AreLastTwo (mesh_in c.self.inside)
-    (shown c.unlink.new.half_edges.items) c.half_edge_count.result c.args.e
-last g c = last_two (mesh_in c.self.inside) c.half_edge_count.result c.self.invariant
-    (rw (← c.self.view_is) at c.requires) c.reversed-t.ensures
-    (rw (← c.self.view_is) at c.half_edge_count.ensures.value) c.unlink.ensures.items
 
 pub half_edge-twin-requires : goal.half_edge-twin-requires
 half_edge-twin-requires g c = rw c.reversed-t.ensures
@@ -66,47 +60,30 @@ set_out_edge-requires-2-clause-vertex g c =
       ← c.self.view_is,
     ) (simp length-set (c.self.invariant.sound.edges _ p.twin_in).origin_in)
 
-pub get-even-requires : goal.get-even-requires
-get-even-requires g c =
-    let l = last g (goal.at.get-even-requires g c).After-unlink in
-    record {
-      within = rw length_shown at l.even.within;
-      next_within = rw length_shown at l.even.next_in;
-    }
-
-pub get-odd-requires : goal.get-odd-requires
-get-odd-requires g c =
-    let l = last g (goal.at.get-odd-requires g c).After-unlink in
-    record {
-      within = rw length_shown at l.odd.within;
-      next_within = rw length_shown at l.odd.next_in;
-    }
-
 pub rename_out-requires-clause-vertex : goal.rename_out-requires-clause-vertex
 rename_out-requires-clause-vertex g c =
-    let l = last g (goal.at.rename_out-requires-clause-vertex g c).After-unlink in
-    rw (c.set_out_edge-2.ensures.out_edges, c.set_out_edge.ensures.out_edges, c.get-even.ensures)
-    (simp length-set l.even.origin_in)
+    let can = rw (← c.self.view_is) at c.requires in
+    let n = rw (← c.self.view_is) at c.half_edge_count.ensures.value in
+    rw (
+      c.set_out_edge-2.ensures.out_edges,
+      c.set_out_edge.ensures.out_edges,
+      c.half_edge-even.ensures.value,
+      ← c.self.view_is,
+    ) (simp length-set (c.self.invariant.sound.edges (c.half_edge_count.result - 2)
+    (omega (arith, can.within))).origin_in)
 
 pub rename_out-requires-2-clause-vertex : goal.rename_out-requires-2-clause-vertex
 rename_out-requires-2-clause-vertex g c =
-    let l = last g (goal.at.rename_out-requires-2-clause-vertex g c).After-unlink in
+    let can = rw (← c.self.view_is) at c.requires in
+    let n = rw (← c.self.view_is) at c.half_edge_count.ensures.value in
     rw (
       c.rename_out.ensures.len,
       c.set_out_edge-2.ensures.out_edges,
       c.set_out_edge.ensures.out_edges,
-      c.get-odd.ensures,
-    ) (simp length-set l.odd.origin_in)
-
-pub rename_face-requires-clause-face : goal.rename_face-requires-clause-face
-rename_face-requires-clause-face g c =
-    let l = last g (goal.at.rename_face-requires-clause-face g c).After-unlink in
-    rw c.get-even.ensures l.even.face_in
-
-pub rename_face-requires-2-clause-face : goal.rename_face-requires-2-clause-face
-rename_face-requires-2-clause-face g c =
-    let l = last g (goal.at.rename_face-requires-2-clause-face g c).After-unlink in
-    rw (c.rename_face.ensures.len, c.get-odd.ensures) l.odd.face_in
+      c.half_edge-odd.ensures.value,
+      ← c.self.view_is,
+    ) (simp length-set (c.self.invariant.sound.edges (c.half_edge_count.result - 2 + 1)
+    (omega (arith, can.within, c.self.invariant.sound.even))).origin_in)
 
 pub fill-requires : goal.fill-requires
 fill-requires g c =
@@ -124,6 +101,22 @@ returns-clause-mesh g c =
     let n = rw (← c.self.view_is) at c.half_edge_count.ensures.value in
     let edge = rw (← c.self.view_is) at c.half_edge-edge.ensures.value in
     let twin = rw (← c.self.view_is) at c.half_edge-twin.ensures.value in
+    let can = rw (← c.self.view_is) at c.requires in
+    let m : Mesh = mesh_in c.self.inside in
+    let last : ℕ = c.half_edge_count.result - 2 in
+    let hs : List HalfEdge = with_unlinked m.half_edges c.args.e (rev c.args.e) in
+    let even_start : c.half_edge-even.result.origin ≡ (edge_at hs last).origin =
+    ap (λ (h : HalfEdge). h.origin) (rw (← c.self.view_is) at c.half_edge-even.ensures.value)
+    ∙ sym (read_unlinked m c.args.e last c.self.invariant can).0 in
+    let odd_start : c.half_edge-odd.result.origin ≡ (edge_at hs (last + 1)).origin =
+    ap (λ (h : HalfEdge). h.origin) (rw (← c.self.view_is) at c.half_edge-odd.ensures.value)
+    ∙ sym (read_unlinked m c.args.e (last + 1) c.self.invariant can).0 in
+    let even_face : c.half_edge-even.result.face ≡ (edge_at hs last).face =
+    ap (λ (h : HalfEdge). h.face) (rw (← c.self.view_is) at c.half_edge-even.ensures.value)
+    ∙ sym (read_unlinked m c.args.e last c.self.invariant can).1 in
+    let odd_face : c.half_edge-odd.result.face ≡ (edge_at hs (last + 1)).face =
+    ap (λ (h : HalfEdge). h.face) (rw (← c.self.view_is) at c.half_edge-odd.ensures.value)
+    ∙ sym (read_unlinked m c.args.e (last + 1) c.self.invariant can).1 in
     rw (
       ← c.self.view_is,
       ← n,
