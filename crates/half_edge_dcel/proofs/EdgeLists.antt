@@ -1,20 +1,21 @@
 -- Data of a mesh that grows: lists of edges with their data, and items that move to the end of a
 -- list.
 -- Lemmas: edges_of-set, length-ends, adds_edges, splits_edge, along-even, moves_item,
--- moves_two_items.
-use Rattle.std.proofs.Common.{◌≡◌, ◌*◌, ◌%◌, [], ◌∷◌, ◌++◌, ◌∙◌, ◌≢◌}
+-- move_edge_data.
+use Rattle.std.proofs.Common.{◌≡◌, ◌*◌, ◌%◌, [], ◌∷◌, ◌++◌, ◌∙◌, ◌≢◌, ◌<◌}
 use Rattle.std.proofs.Common.{ℕ, zero, suc, List, length, refl, sym, ap, arith, set, get_or, Some}
 use Rattle.std.proofs.Common.{append_assoc}
 use Rattle.std.specs.Prelude.{slice_get}
-use Rattle.std.proofs.lemmas.List.{length-map, length-set}
+use Rattle.std.proofs.lemmas.List.{length-map, length-set, set-append_left}
 use Rattle.std.proofs.lemmas.Grind.{common_steps}
 use Rattle.std.proofs.lemmas.Option.{gets}
-use Rattle.half_edge_links.specs.Mesh.{Mesh}
+use Rattle.half_edge_links.specs.Mesh.{Mesh, rev}
 use Rattle.half_edge_links.specs.Outline.{Ends, origins, ends, along}
+use Rattle.half_edge_links.proofs.Lists.Rev.{rev_differs, rev_within}
 use Rattle.half_edge_links.proofs.Sound.Ends.{length-paired}
 use Rattle.half_edge_dcel.specs.Contents.{FitsMesh, edge_with, edges_of}
 use Rattle.half_edge_dcel.specs.Growth.{Grows, MovesItem, AddsEdges, SplitsEdge, with_ends}
-use Rattle.half_edge_dcel.specs.Growth.{LeavesItem, MovesTwoItems}
+use Rattle.half_edge_dcel.specs.Growth.{MovesTwoItems}
 
 -- edges with their data of two lists in a row are those of the first and then those of the second
 edges_of-append : {U : Type 0} (es fs : List Ends) (us vs : List U) → length us ≡ length es
@@ -104,44 +105,60 @@ slice_get-set_other : {X : Type 0} (xs : List X) (i j : ℕ) (a x : X) → j ≢
     → slice_get (set xs i a) j ≡ Some x → slice_get xs j ≡ Some x
 slice_get-set_other xs i j a x apart is = grind (arith, common_steps, gets)
 
+slice_get-append : {X : Type 0} (xs ys : List X) (j : ℕ) (x : X) → j < length xs
+    → slice_get (xs ++ ys) j ≡ Some x → slice_get xs j ≡ Some x
+slice_get-append [] ys j x less is = absurd (omega (arith, less))
+slice_get-append (y ∷ xs) ys zero x less is = is
+slice_get-append (y ∷ xs) ys (suc j) x less is =
+    slice_get-append xs ys j x (omega (arith, less)) is
+
 -- an item that was taken, with a new one left for it, and pushed has moved to the end of what was
 -- there
-pub moves_item : {X : Type 0} (P : X → Type 0) (old left pushed new : List X) (i more : ℕ)
-    (kept : X) → slice_get old i ≡ Some kept → LeavesItem P old left i → pushed ≡ left ++ kept ∷ []
-    → Grows P pushed new more → MovesItem P old new i more
-moves_item P old left pushed new i more kept was l push g = record {
+pub moves_item : {X : Type 0} {P : X → Type 0} {left pushed new : List X} {more : ℕ} (old : List X)
+    (i : ℕ) (kept made : X) → slice_get old i ≡ Some kept → P made → left ≡ set old i made
+    → pushed ≡ left ++ kept ∷ [] → Grows P pushed new more → MovesItem P old new i more
+moves_item old i kept made was fresh leaves push g = record {
   kept = kept;
   was = was;
-  made = l.made;
-  is_new = l.is_new;
+  made = made;
+  is_new = fresh;
   added = g.added;
   count = g.count;
   each = g.each;
-  whole = rw (g.whole, push, l.whole) (append_assoc (set old i l.made) (kept ∷ []) g.added);
+  whole = rw (g.whole, push, leaves) (append_assoc (set old i made) (kept ∷ []) g.added);
 }
 
--- two items that were taken, with new ones left for them, and pushed have moved to the end
-pub moves_two_items : {X : Type 0} (P : X → Type 0) (old middle left first second new : List X)
-    (i j more : ℕ) (kept also_kept : X) → i ≢ j → slice_get old i ≡ Some kept
-    → LeavesItem P old middle i → slice_get middle j ≡ Some also_kept → LeavesItem P middle left j
-    → first ≡ left ++ kept ∷ [] → second ≡ first ++ also_kept ∷ [] → Grows P second new more
-    → MovesTwoItems P old new i j more
-moves_two_items P old middle left first second new i j more kept also_kept apart was l also_was k
-    push push_also g = record {
-      kept = kept;
-      was = was;
-      also_kept = also_kept;
-      also_was =
-          slice_get-set_other old i j l.made also_kept (λ e. apart (sym e))
-          (rw (← l.whole) also_was);
-      made = l.made;
-      is_new = l.is_new;
-      also_made = k.made;
-      also_new = k.is_new;
-      added = g.added;
-      count = g.count;
-      each = g.each;
-      whole = rw (g.whole, push_also, push, k.whole, l.whole) (ap (λ q. q ++ g.added)
-          (append_assoc (set (set old i l.made) j k.made) (kept ∷ []) (also_kept ∷ []))
-          ∙ append_assoc (set (set old i l.made) j k.made) (kept ∷ also_kept ∷ []) g.added);
+-- a list of no items
+no_items : {X : Type 0} (xs : List X) → length xs ≡ 0 → xs ≡ []
+no_items [] none = refl
+no_items (x ∷ xs) none = absurd (omega (arith, none))
+
+-- the data of an edge and of its twin move to the end, one after the other
+pub move_edge_data : {X : Type 0} {P : X → Type 0} {old middle new : List X} {m : Mesh}
+    {v u f e more : ℕ} → FitsMesh m v (length old) u f → e < length m.half_edges
+    → MovesItem P old middle e 0 → MovesItem P middle new (rev e) more
+    → MovesTwoItems P old new e (rev e) more
+move_edge_data {X = X} {old = old} {middle = middle} {m = m} {e = e} fit e_in one two =
+    let even : length m.half_edges % 2 ≡ 0 = omega (arith, fit.undirected_fit) in
+    let within = rev_within e (length m.half_edges) even e_in in
+    let left : List X = set old e one.made in
+    let less : rev e < length left =
+    omega (arith, within, fit.directed_fit, length-set old e one.made) in
+    let first : middle ≡ left ++ one.kept ∷ [] =
+    one.whole ∙ ap (λ q. left ++ one.kept ∷ q) (no_items one.added one.count) in
+    record {
+      kept = one.kept;
+      was = one.was;
+      also_kept = two.kept;
+      also_was = slice_get-set_other old e (rev e) one.made two.kept (rev_differs e)
+          (slice_get-append left (one.kept ∷ []) (rev e) two.kept less (rw first at two.was));
+      made = one.made;
+      is_new = one.is_new;
+      also_made = two.made;
+      also_new = two.is_new;
+      added = two.added;
+      count = two.count;
+      each = two.each;
+      whole = rw (two.whole, first, set-append_left left (one.kept ∷ []) (rev e) two.made less)
+          (append_assoc (set left (rev e) two.made) (one.kept ∷ []) (two.kept ∷ two.added));
     }

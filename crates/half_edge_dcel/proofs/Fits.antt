@@ -1,6 +1,7 @@
 -- There are data for each part of a mesh after a change.
--- Lemmas: length-grown, one_longer, fits_grown, fits_grown_edge, fits_moved, fits_vertex,
--- fits_hung, fits_closed, fits_beside, fits_connected, fits_slid, fits_flipped, fits_inserted.
+-- Lemmas: length-grown, length_moved, one_longer, fits_grown, fits_grown_edge, fits_moved,
+-- fits_vertex, fits_hung, fits_closed, fits_beside, fits_connected, fits_slid, fits_flipped,
+-- fits_inserted.
 use Rattle.std.proofs.Common.{◌≡◌, ℕ, ◌+◌, List, [], ◌∷◌, ◌++◌, ◌∙◌, length, arith, set, ap}
 use Rattle.std.proofs.Common.{length-append}
 use Rattle.std.proofs.lemmas.List.{length-set, length_push}
@@ -10,7 +11,7 @@ use Rattle.half_edge_links.specs.Insert.{inserted, insert_by}
 use Rattle.half_edge_links.specs.Grow.{hung, hung_edges, closed, closed_edges, with_next, with_prev}
 use Rattle.half_edge_links.specs.Grow.{with_face, with_origin, slid, slid_edges}
 use Rattle.half_edge_dcel.specs.Contents.{FitsMesh}
-use Rattle.half_edge_dcel.specs.Growth.{Grows, MovesItem, MovesTwoItems}
+use Rattle.half_edge_dcel.specs.Growth.{Grows, MovesItem}
 
 -- a list that has grown by so many items is so much longer
 pub length-grown : {X : Type 0} (P : X → Type 0) (old new : List X) (more : ℕ)
@@ -106,22 +107,11 @@ fits_inserted w a fit = record {
 }
 
 -- a list of which an item moved to the end is longer by one and by the new items after it
-length_moved : {X : Type 0} {P : X → Type 0} {old new : List X} {i more : ℕ}
+pub length_moved : {X : Type 0} {P : X → Type 0} {old new : List X} {i more : ℕ}
     → MovesItem P old new i more → length new ≡ length old + 1 + more
 length_moved {old = old} {i = i} m = rw m.whole (omega (
   arith,
   length-append (set old i m.made) (m.kept ∷ m.added),
-  length-set old i m.made,
-  m.count,
-))
-
--- a list of which two items moved to the end is longer by two and by the new items after them
-length_moved_two : {X : Type 0} {P : X → Type 0} {old new : List X} {i j more : ℕ}
-    → MovesTwoItems P old new i j more → length new ≡ length old + 2 + more
-length_moved_two {old = old} {i = i} {j = j} m = rw m.whole (omega (
-  arith,
-  length-append (set (set old i m.made) j m.also_made) (m.kept ∷ m.also_kept ∷ m.added),
-  length-set (set old i m.made) j m.also_made,
   length-set old i m.made,
   m.count,
 ))
@@ -149,13 +139,13 @@ module _ {DE UE : Type 0} {D : DE → Type 0} {U : UE → Type 0} {m : Mesh} {n 
         (at, length-grown _ _ _ _ gd, length-grown _ _ _ _ gu, length-grown _ _ _ _ gf) fit
 
     -- so many more edges and faces, where the data of an edge move
-    pub fits_moved : {i j k d u f : ℕ} → MovesTwoItems D ds ds' i j d → MovesItem U us us' k u
-        → Grows F fs fs' f → n ≡ v
+    pub fits_moved : {mid : List DE} {i j k d u f : ℕ} → MovesItem D ds mid i 0
+        → MovesItem D mid ds' j d → MovesItem U us us' k u → Grows F fs fs' f → n ≡ v
         → FitsMesh m v (length ds + (d + 2)) (length us + (u + 1)) (length fs + f)
         → FitsMesh m n (length ds') (length us') (length fs')
-    fits_moved gd gu gf at fit = record {
+    fits_moved first second gu gf at fit = record {
       vertices_fit = at ∙ fit.vertices_fit;
-      directed_fit = omega (arith, length_moved_two gd, fit.directed_fit);
+      directed_fit = omega (arith, length_moved first, length_moved second, fit.directed_fit);
       undirected_fit = omega (arith, length_moved gu, fit.undirected_fit);
       faces_fit = length-grown _ _ _ _ gf ∙ fit.faces_fit;
     }

@@ -43,12 +43,6 @@ pub record SplitsEdge {U : Type 0} (P : U → Type 0) (old new : List (Edge U)) 
   pub whole : new ≡ slice_set old k (edge_with turned made) ++ edge_with kept edge.value
       ∷ edges_of others values
 
--- item i gives way to a new one, which is as P says
-pub record LeavesItem {X : Type 0} (P : X → Type 0) (old new : List X) (i : ℕ) : Type 0 where
-  pub made : X
-  pub is_new : P made
-  pub whole : new ≡ slice_set old i made
-
 -- item i gives way to a new one and comes first after the old ones, and so many new ones follow;
 -- all new ones are as P says
 pub record MovesItem {X : Type 0} (P : X → Type 0) (old new : List X) (i more : ℕ) : Type 0 where

@@ -107,7 +107,8 @@ impl<V, DE, UE, F> Dcel<V, DE, UE, F> {
         ensures small { result ≤ MAX_ELEMENTS }
         ensures whole { IsMeshWithData self.now }
     {
-        self.links.half_edge_count()
+        self.recall_invariant();
+        self.directed.len()
     }
 
     /// How many undirected edges there are.
@@ -116,7 +117,8 @@ impl<V, DE, UE, F> Dcel<V, DE, UE, F> {
         ensures small { 2 * result ≤ MAX_ELEMENTS }
         ensures whole { IsMeshWithData self.now }
     {
-        self.links.half_edge_count() / 2
+        self.recall_invariant();
+        self.undirected.len()
     }
 
     /// How many faces there are beside the outer one.
@@ -125,7 +127,8 @@ impl<V, DE, UE, F> Dcel<V, DE, UE, F> {
         ensures small { result < MAX_ELEMENTS }
         ensures whole { IsMeshWithData self.now }
     {
-        self.links.inner_face_count()
+        self.recall_invariant();
+        self.faces.len()
     }
 
     /// How many faces there are, the outer one among them.
@@ -134,7 +137,7 @@ impl<V, DE, UE, F> Dcel<V, DE, UE, F> {
         ensures small { result ≤ MAX_ELEMENTS }
         ensures whole { IsMeshWithData self.now }
     {
-        self.links.inner_face_count() + 1
+        self.num_inner_faces() + 1
     }
 
     /// The data of a vertex.

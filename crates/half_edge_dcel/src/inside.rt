@@ -12,7 +12,7 @@ ghost use Rattle.half_edge_dcel.specs.GrownData.{AddsData, MovesData};
 ghost use Rattle.half_edge_dcel.specs.Shapes.{InsertsInFace, SplitsBetweenFaces};
 
 use crate::dcel::Dcel;
-use crate::growth::{move_item, move_two_items, push_defaults, split_handles};
+use crate::growth::{move_item, push_defaults};
 use half_edge_handles::{
     FixedDirectedEdgeHandle, FixedFaceHandle, FixedUndirectedEdgeHandle, FixedVertexHandle,
 };
@@ -89,16 +89,19 @@ impl<V, DE: Default, UE: Default, F: Default> Dcel<V, DE, UE, F> {
             []) }
     {
         let n = self.links.half_edge_count() as u32;
+        let h = edge.index();
         let v = self.links.push_vertex(value);
-        self.links.split_edge(v, edge.index());
-        move_two_items(
-            &mut self.directed,
-            edge.index() as usize,
-            edge.rev().index() as usize,
-            4,
-        );
-        move_item(&mut self.undirected, edge.index() as usize / 2, 2);
+        self.links.split_edge(v, h);
+        move_item(&mut self.directed, h as usize, 0);
+        move_item(&mut self.directed, edge.rev().index() as usize, 4);
+        move_item(&mut self.undirected, h as usize / 2, 2);
         push_defaults(&mut self.faces, 2);
-        split_handles(v, [n, n + 3])
+        (
+            FixedVertexHandle::from_index(v),
+            [
+                FixedDirectedEdgeHandle::from_index(n),
+                FixedDirectedEdgeHandle::from_index(n + 3),
+            ],
+        )
     }
 }

@@ -9,7 +9,7 @@ ghost use Rattle.half_edge_dcel.specs.GrownData.{AddsEdgeData};
 ghost use Rattle.half_edge_dcel.specs.Shapes.{JoinsFirst, ExtendsLineTo, SplitsOnLine};
 
 use crate::dcel::Dcel;
-use crate::growth::{push_defaults, split_handles};
+use crate::growth::push_defaults;
 use half_edge_handles::{FixedDirectedEdgeHandle, FixedVertexHandle};
 
 impl<V, DE, UE, F> Dcel<V, DE, UE, F> {
@@ -94,9 +94,15 @@ impl<V, DE: Default, UE: Default, F> Dcel<V, DE, UE, F> {
             (joins (origin m (rev edge)) result.0 ∷ []) }
     {
         let v = self.links.push_vertex(value);
-        let parts = self.links.split_line(edge.index(), v);
+        let [first, second] = self.links.split_line(edge.index(), v);
         push_defaults(&mut self.directed, 2);
         push_defaults(&mut self.undirected, 1);
-        split_handles(v, parts)
+        (
+            FixedVertexHandle::from_index(v),
+            [
+                FixedDirectedEdgeHandle::from_index(first),
+                FixedDirectedEdgeHandle::from_index(second),
+            ],
+        )
     }
 }

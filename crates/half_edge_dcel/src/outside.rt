@@ -10,7 +10,7 @@ ghost use Rattle.half_edge_dcel.specs.GrownData.{AddsData, MovesData};
 ghost use Rattle.half_edge_dcel.specs.Shapes.{AddsFaceTo, ClosesTriangle, SplitsBesideOuter};
 
 use crate::dcel::Dcel;
-use crate::growth::{move_item, move_two_items, push_defaults, split_handles};
+use crate::growth::{move_item, push_defaults};
 use half_edge_handles::{FixedDirectedEdgeHandle, FixedVertexHandle};
 
 impl<V, DE: Default, UE: Default, F: Default> Dcel<V, DE, UE, F> {
@@ -62,7 +62,7 @@ impl<V, DE: Default, UE: Default, F: Default> Dcel<V, DE, UE, F> {
             AddsEdges UE.is_default (edges self.old) (edges self.new)
             (joins (origin m (rev (next m edge))) (origin m edge) ∷ []) }
     {
-        let n = self.links.half_edge_count() as u32;
+        let n = self.num_directed_edges() as u32;
         self.links.close(edge.index());
         push_defaults(&mut self.directed, 2);
         push_defaults(&mut self.undirected, 1);
@@ -93,16 +93,19 @@ impl<V, DE: Default, UE: Default, F: Default> Dcel<V, DE, UE, F> {
             (along edge (origin m (prev m edge)) result.0) (joins (origin m edge) result.0)
             (joins result.0 (origin m (rev edge)) ∷ []) }
     {
+        let h = edge.index();
         let v = self.links.push_vertex(value);
-        let parts = self.links.split_half_edge(edge.index(), v);
-        move_two_items(
-            &mut self.directed,
-            edge.index() as usize,
-            edge.rev().index() as usize,
-            2,
-        );
-        move_item(&mut self.undirected, edge.index() as usize / 2, 1);
+        let [first, second] = self.links.split_half_edge(h, v);
+        move_item(&mut self.directed, h as usize, 0);
+        move_item(&mut self.directed, edge.rev().index() as usize, 2);
+        move_item(&mut self.undirected, h as usize / 2, 1);
         push_defaults(&mut self.faces, 1);
-        split_handles(v, parts)
+        (
+            FixedVertexHandle::from_index(v),
+            [
+                FixedDirectedEdgeHandle::from_index(first),
+                FixedDirectedEdgeHandle::from_index(second),
+            ],
+        )
     }
 }

@@ -1,4 +1,4 @@
-use Rattle.std.proofs.Common.{ap, length, arith, rules}
+use Rattle.std.proofs.Common.{ap, length, rules}
 use Rattle.half_edge_dcel.proofs.Fits.{fits_grown, fits_closed}
 use Rattle.half_edge_dcel.proofs.EdgeLists.{adds_edges, length-ends}
 use Rattle.half_edge_dcel.proofs.dcel.Dcel.create_single_face_between_edge_and_next.Goals as goal
@@ -17,12 +17,7 @@ returns g c =
     let undirected = c.push_defaults-2.ensures in
     let faces = c.push_defaults-3.ensures in
     rw (← c.self.view_is) (record {
-      edge = omega (
-        arith,
-        c.from_index.ensures,
-        c.half_edge_count-n.ensures.value,
-        fit.directed_fit,
-      );
+      edge = rw (c.num_directed_edges-n.ensures.value, ← c.self.view_is) at c.from_index.ensures;
       links = record {
         mesh = links.mesh;
         triangles = links.closes.corners;

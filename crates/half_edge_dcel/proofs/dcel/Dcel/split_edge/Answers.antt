@@ -1,7 +1,7 @@
-use Rattle.std.proofs.Common.{◌∙◌, rules}
+use Rattle.std.proofs.Common.{refl, ◌∙◌, rules}
 use Rattle.half_edge_dcel.proofs.Fits.{fits_flipped, fits_inserted, fits_moved, fits_vertex}
 use Rattle.half_edge_dcel.proofs.Fits.{one_longer}
-use Rattle.half_edge_dcel.proofs.EdgeLists.{splits_edge, length-ends}
+use Rattle.half_edge_dcel.proofs.EdgeLists.{splits_edge, length-ends, move_edge_data}
 use Rattle.half_edge_dcel.proofs.Outlines.{keeps_outer}
 use Rattle.half_edge_dcel.proofs.dcel.Dcel.split_edge.Goals as goal
 
@@ -9,8 +9,8 @@ pub invariant_of-self : goal.invariant_of-self
 invariant_of-self g c =
     let vertex = c.push_vertex-v.ensures in
     let links = c.split_edge.ensures in
-    rw (links.mesh, vertex.mesh) (fits_moved c.move_two_items.ensures.moves
-    c.move_item.ensures.moves c.push_defaults.ensures.grows
+    rw (links.mesh, vertex.mesh) (fits_moved c.move_item.ensures.moves
+    c.move_item-2.ensures.moves c.move_item-3.ensures.moves c.push_defaults.ensures.grows
     (one_longer _ _ vertex.values links.rest.values)
     (fits_flipped _ (fits_inserted _ _ (fits_vertex c.self.invariant))))
 
@@ -18,16 +18,21 @@ pub returns : goal.returns
 returns g c =
     let fit = c.self.invariant in
     let vertex = c.push_vertex-v.ensures in
-    let links = rw (vertex.mesh, c.index.ensures, ← c.split_handles.ensures.vertex) at
+    let links = rw (vertex.mesh, c.index-h.ensures, ← c.from_index.ensures) at
     c.split_edge.ensures in
-    let directed =
-    rw (c.index-2.ensures, c.index-3.ensures, c.rev.ensures) at c.move_two_items.ensures in
-    let undirected = rw c.index-4.ensures at c.move_item.ensures in
+    let directed = move_edge_data fit (rw (← c.self.view_is) at c.requires.between.within)
+    (rw c.index-h.ensures at c.move_item.ensures.moves)
+    (rw (c.index.ensures, c.rev.ensures) at c.move_item-2.ensures.moves) in
+    let undirected = rw c.index-h.ensures at c.move_item-3.ensures.moves in
     let faces = c.push_defaults.ensures in
     rw (← c.self.view_is) (record {
-      vertex = rw fit.vertices_fit (c.split_handles.ensures.vertex ∙ vertex.vertex);
-      parts = rw (c.half_edge_count-n.ensures.value, ← fit.directed_fit) at
-          c.split_handles.ensures.parts;
+      vertex = rw fit.vertices_fit (c.from_index.ensures ∙ vertex.vertex);
+      parts = rw (
+        c.from_index-2.ensures,
+        c.from_index-3.ensures,
+        c.half_edge_count-n.ensures.value,
+        ← fit.directed_fit,
+      ) refl;
       links = record {
         mesh = links.mesh;
         triangles = links.splits.corners;
@@ -37,9 +42,9 @@ returns g c =
       «data» = record {
         whole = record { valid = links.splits.valid; fits = invariant_of-self g c };
         contents = search rules;
-        directed = directed.moves;
-        undirected = undirected.moves;
+        directed = directed;
+        undirected = undirected;
         faces = faces.grows;
       };
-      edges = splits_edge _ (length-ends fit) links.splits.ends undirected.moves;
+      edges = splits_edge _ (length-ends fit) links.splits.ends undirected;
     })

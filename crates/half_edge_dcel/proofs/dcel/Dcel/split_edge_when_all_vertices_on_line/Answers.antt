@@ -9,7 +9,7 @@ use Rattle.half_edge_dcel.proofs.dcel.Dcel.split_edge_when_all_vertices_on_line.
 pub invariant_of-self : goal.invariant_of-self
 invariant_of-self g c =
     let vertex = c.push_vertex-v.ensures in
-    let links = c.split_line-parts.ensures in
+    let links = c.split_line.ensures in
     rw (links.mesh, vertex.mesh) (fits_grown_edge c.push_defaults.ensures.grows
     c.push_defaults-2.ensures.grows (one_longer _ _ vertex.values links.rest.values)
     (fits_slid _ (fits_hung _ _ (fits_vertex c.self.invariant))))
@@ -18,18 +18,18 @@ pub returns : goal.returns
 returns g c =
     let fit = c.self.invariant in
     let vertex = c.push_vertex-v.ensures in
-    let links = rw (vertex.mesh, c.index.ensures, ← c.split_handles.ensures.vertex) at
-    c.split_line-parts.ensures in
+    let links = rw (vertex.mesh, c.index.ensures, ← c.from_index.ensures) at
+    c.split_line.ensures in
     let directed = c.push_defaults.ensures in
     let undirected = c.push_defaults-2.ensures in
     rw (← c.self.view_is) (record {
-      vertex = rw fit.vertices_fit (c.split_handles.ensures.vertex ∙ vertex.vertex);
-      parts = c.split_handles.ensures.parts ∙ (rw (← fit.directed_fit) at links.parts);
+      vertex = rw fit.vertices_fit (c.from_index.ensures ∙ vertex.vertex);
+      parts = search rules;
       links = record {
         mesh = links.mesh;
         triangles = search rules;
         outer = outer_changes _ _ _ _ (rw (← fit.directed_fit) at links.splits.outer);
-        outline = λ one. c.split_line-parts.ensures.splits.outline (vertex.outline one);
+        outline = λ one. c.split_line.ensures.splits.outline (vertex.outline one);
       };
       «data» = record {
         whole = record { valid = links.splits.valid; fits = invariant_of-self g c };
