@@ -1,7 +1,8 @@
 -- The lists of the edges of a vertex and of the outer loop.
--- Lemmas: round_fits, gives_round, gives_loop, round_begins, loop_begins.
+-- Lemmas: round_fits, gives_round, gives_loop, goes_round, goes_along.
 use Rattle.std.proofs.Common.{◌≡◌, ◌≢◌, ◌⊎◌, ◌+◌, ◌-◌, ◌<◌, ◌≤◌, ◌∙◌}
-use Rattle.std.proofs.Common.{ℕ, zero, suc, length, Some, None, sym, ap, inl, inr, arith}
+use Rattle.std.proofs.Common.{ℕ, zero, suc, length, Option, Some, None, IfSome, IfNone}
+use Rattle.std.proofs.Common.{sym, ap, subst, inl, inr, arith}
 use Rattle.std.specs.Borrow.{Bor}
 use Rattle.std.proofs.lemmas.Bool.{cases_eq, cases_lt}
 use Rattle.half_edge_dcel.specs.half_edge_links.Mesh.{Mesh, AreSoundLinks, IsValidMesh, next, prev}
@@ -17,9 +18,10 @@ use Rattle.half_edge_dcel.proofs.half_edge_links_lemmas.Removing.Conditions.{tur
 use Rattle.half_edge_dcel.specs.Contents.{Contents, IsMeshWithData}
 use Rattle.half_edge_views.specs.Left.{each_in}
 use Rattle.half_edge_views.specs.Rounds.{GivesRound, IsOuterLoop, GivesOuterLoop}
-use Rattle.half_edge_views.specs.Walks.{walk, IsEnding}
+use Rattle.half_edge_views.specs.Walks.{walk, walk_left, IsEnding}
 use Rattle.half_edge_views.specs.declared.edge_walk.EdgeWalk.{EdgeWalk}
-use Rattle.half_edge_views.proofs.Walks.{walk-list, comes_round}
+use Rattle.half_edge_views.proofs.Walks.{walk-list, comes_round, walk_left_is, none_left, ended}
+use Rattle.half_edge_views.proofs.Ranges.{out_edge-within, outer_edge-within}
 
 -- a round has no more edges than the mesh
 pub round_fits : (m : Mesh) (u first count : ℕ) → IsValidMesh m → IsRound m u first count
@@ -175,16 +177,53 @@ module _ {V D U F : Type 0} (w : EdgeWalk V D U F) (d : Bor (Contents V D U F)) 
   first_in = omega (arith, within, whole.fits.directed_fit)
 
   -- the round of a vertex does
-  pub round_begins : IsEnding turn w
+  round_begins : IsEnding turn w
   round_begins =
       begins turn w d first mesh next_is end_is left_is _ whole.fits.directed_fit first_in
       (λ a a_in. turn_in d.now.mesh whole.valid a a_in) (turn_one d.now.mesh whole.valid.sound)
 
   -- and the outer loop
-  pub loop_begins : IsEnding next w
+  loop_begins : IsEnding next w
   loop_begins =
       let s : AreSoundLinks d.now.mesh = whole.valid.sound in
       begins next w d first mesh next_is end_is left_is _ whole.fits.directed_fit first_in
       (λ a a_in. (s.edges a a_in).next_in)
       (λ a b a_in b_in same. sym (s.edges a a_in).prev_next ∙ ap (prev d.now.mesh) same
       ∙ (s.edges b b_in).prev_next)
+
+-- a walk from the edge that is named on, or over none where none is named
+module _ {V D U F : Type 0} (w : EdgeWalk V D U F) (d : Bor (Contents V D U F))
+    (whole : IsMeshWithData d.now) (mesh : w.dcel ≡ d) where
+  -- by a vertex: it goes round the vertex
+  pub goes_round : (v : ℕ) (named : Option ℕ) → out_edge d.now.mesh v ≡ named
+      → IfNone named (w.left ≡ 0) → IfSome named (λ h. (w.next ≡ h) × (w.end ≡ h)
+      × (w.left ≡ length d.now.directed)) → IsEnding turn w × GivesRound d v (walk_left turn w)
+  goes_round v None is none some = (
+    ended turn w none,
+    record {
+      alone = λ _. none_left turn w none;
+      round = λ first at. let e : None ≡ Some first = sym is ∙ at in absurd (cc);
+    },
+  )
+  goes_round v (Some h) is none some = (
+    round_begins w d h whole (out_edge-within d.now v _ whole is) mesh some.0 some.1 some.2,
+    subst (GivesRound d v) (sym (walk_left_is turn w d _ _ _ mesh some.1 some.2 some.0))
+        (gives_round d v h whole is),
+  )
+
+  -- by the outer face: it goes along the outer loop
+  pub goes_along : (named : Option ℕ) → d.now.mesh.outer_edge ≡ named
+      → IfNone named (w.left ≡ 0) → IfSome named (λ h. (w.next ≡ h) × (w.end ≡ h)
+      × (w.left ≡ length d.now.directed)) → IsEnding next w × GivesOuterLoop d (walk_left next w)
+  goes_along None is none some = (
+    ended next w none,
+    record {
+      empty = λ _. none_left next w none;
+      loop = λ first at. let e : None ≡ Some first = sym is ∙ at in absurd (cc);
+    },
+  )
+  goes_along (Some h) is none some = (
+    loop_begins w d h whole (outer_edge-within d.now _ whole is) mesh some.0 some.1 some.2,
+    subst (GivesOuterLoop d) (sym (walk_left_is next w d _ _ _ mesh some.1 some.2 some.0))
+        (gives_loop d h whole is),
+  )

@@ -8,14 +8,6 @@ use crate::edge::DirectedEdgeHandle;
 use half_edge_dcel::Dcel;
 use std::alloc::AllocError;
 
-// How many edges may come, after a step of a walk from `next` to `end` over at most `left` edges.
-fn left_after(next: u32, end: u32, left: u32) -> u32
-    requires { 0 < left }
-    ensures { result ≡ (if next == end then 0 else left - 1) }
-{
-    if next == end { 0 } else { left - 1 }
-}
-
 // A walk from edge to edge that ends before it is at the edge `end`, which falls back where edges
 // are taken from behind.
 #[derive(Drop)]
@@ -23,8 +15,8 @@ fn left_after(next: u32, end: u32, left: u32) -> u32
 pub(crate) struct EdgeWalk<'a, V, DE, UE, F> {
     #[derive_where(skip)]
     dcel: &'a Dcel<V, DE, UE, F>,
-    next: u32,
-    end: u32,
+    pub(crate) next: u32,
+    pub(crate) end: u32,
     // No more edges come than these.
     left: u32,
     ghost next_in_range: { 0 < left → next < length dcel.now.directed },
@@ -49,90 +41,64 @@ impl<'a, V, DE, UE, F> Clone for EdgeWalk<'a, V, DE, UE, F> {
 }
 
 impl<'a, V, DE, UE, F> EdgeWalk<'a, V, DE, UE, F> {
-    // A walk over no edge.
-    pub(crate) fn over_none(dcel: &'a Dcel<V, DE, UE, F>) -> Self
+    // A walk that begins at an edge, and ends before it is there again; over no edge where there is
+    // none.
+    pub(crate) fn from(dcel: &'a Dcel<V, DE, UE, F>, first: Option<u32>) -> Self
+        requires { IfSome first (λ h. h < length dcel.now.directed) }
         ensures dcel { result.dcel ≡ dcel.entry }
-        ensures left { result.left ≡ 0 }
+        ensures none { IfNone first (result.left ≡ 0) }
+        ensures some { IfSome first (λ h. (result.next ≡ h) × (result.end ≡ h) ×
+            (result.left ≡ length dcel.now.directed)) }
     {
-        EdgeWalk {
-            dcel,
-            next: 0,
-            end: 0,
-            left: 0,
+        match first {
+            Some(edge) => EdgeWalk {
+                dcel,
+                next: edge,
+                end: edge,
+                left: dcel.num_directed_edges() as u32,
+            },
+            None => EdgeWalk {
+                dcel,
+                next: 0,
+                end: 0,
+                left: 0,
+            },
         }
     }
 
-    // A walk that begins at an edge, and ends before it is there again.
-    pub(crate) fn from(dcel: &'a Dcel<V, DE, UE, F>, first: u32) -> Self
-        requires { first < length dcel.now.directed }
-        ensures dcel { result.dcel ≡ dcel.entry }
-        ensures next { result.next ≡ first }
-        ensures end { result.end ≡ first }
-        ensures left { result.left ≡ length dcel.now.directed }
-    {
-        EdgeWalk {
-            dcel,
-            next: first,
-            end: first,
-            left: dcel.num_directed_edges() as u32,
-        }
-    }
-
-    // The edge where the walk is, if it has not ended.
-    pub(crate) fn edge(&self) -> Option<DirectedEdgeHandle<'a, V, DE, UE, F>>
+    // The edge with this index, at which the walk is or before which it ends, if it has not ended.
+    pub(crate) fn edge(&self, index: u32) -> Option<DirectedEdgeHandle<'a, V, DE, UE, F>>
+        requires { 0 < self.now.left → index < length self.now.dcel.now.directed }
         ensures none { IfNone result (self.now.left ≡ 0) }
         ensures some { IfSome result (λ e. 0 < self.now.left) }
         ensures dcel { IfSome result (λ e. e.dcel ≡ self.now.dcel) }
-        ensures index { IfSome result (λ e. e.index ≡ self.now.next) }
+        ensures index { IfSome result (λ e. e.index ≡ index) }
     {
         if self.left == 0 {
             return None;
         }
         Some(DirectedEdgeHandle {
             dcel: self.dcel,
-            index: self.next,
+            index,
         })
     }
 
-    // The edge before which the walk ends, if it has not ended.
-    pub(crate) fn end(&self) -> Option<DirectedEdgeHandle<'a, V, DE, UE, F>>
-        ensures none { IfNone result (self.now.left ≡ 0) }
-        ensures some { IfSome result (λ e. 0 < self.now.left) }
-        ensures dcel { IfSome result (λ e. e.dcel ≡ self.now.dcel) }
-        ensures index { IfSome result (λ e. e.index ≡ self.now.end) }
+    // Leaves out the edge at one of its ends: goes on at the edge `next`, and ends before `end`.
+    pub(crate) fn shorten(&mut self, next: u32, end: u32)
+        requires some { 0 < self.old.left }
+        requires next_within { next < length self.old.dcel.now.directed }
+        requires end_within { end < length self.old.dcel.now.directed }
+        ensures dcel { self.new.dcel ≡ self.old.dcel }
+        ensures next { self.new.next ≡ next }
+        ensures end { self.new.end ≡ end }
+        ensures left { self.new.left ≡ (if next == end then 0 else self.old.left - 1) }
     {
-        if self.left == 0 {
-            return None;
+        self.next = next;
+        self.end = end;
+        if next == end {
+            self.left = 0;
+        } else {
+            self.left -= 1;
         }
-        Some(DirectedEdgeHandle {
-            dcel: self.dcel,
-            index: self.end,
-        })
-    }
-
-    // Goes on to the edge `after`.
-    pub(crate) fn go_on(&mut self, after: u32)
-        requires some { 0 < self.old.left }
-        requires within { after < length self.old.dcel.now.directed }
-        ensures dcel { self.new.dcel ≡ self.old.dcel }
-        ensures next { self.new.next ≡ after }
-        ensures end { self.new.end ≡ self.old.end }
-        ensures left { self.new.left ≡ (if after == self.old.end then 0 else self.old.left - 1) }
-    {
-        self.next = after;
-        self.left = left_after(after, self.end, self.left);
-    }
-
-    // Ends before the edge `before`.
-    pub(crate) fn end_before(&mut self, before: u32)
-        requires some { 0 < self.old.left }
-        requires within { before < length self.old.dcel.now.directed }
-        ensures dcel { self.new.dcel ≡ self.old.dcel }
-        ensures next { self.new.next ≡ self.old.next }
-        ensures end { self.new.end ≡ before }
-        ensures left { self.new.left ≡ (if self.old.next == before then 0 else self.old.left - 1) }
-    {
-        self.end = before;
-        self.left = left_after(self.next, before, self.left);
     }
 }

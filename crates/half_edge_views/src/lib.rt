@@ -8,7 +8,6 @@ mod edge;
 mod edge_walk;
 mod face;
 mod iterators;
-mod neighbors;
 mod rounds;
 mod vertex;
 mod views;

@@ -42,9 +42,11 @@ impl<'a, V, DE, UE, F> Iterator for CircularIterator<'a, V, DE, UE, F> {
     ghost remaining = { item_count out_edges_left };
 
     fn next(&mut self) -> Option<DirectedEdgeHandle<'a, V, DE, UE, F>> {
-        let edge = self.walk.edge()?;
+        let next = self.walk.next;
+        let end = self.walk.end;
+        let edge = self.walk.edge(next)?;
         let after = edge.ccw().index;
-        self.walk.go_on(after);
+        self.walk.shorten(after, end);
         Some(edge)
     }
 }
@@ -55,9 +57,11 @@ impl<'a, V, DE, UE, F> DoubleEndedIterator for CircularIterator<'a, V, DE, UE, F
     ghost next_back_gives = { YieldsLastBy (λ e. (e.dcel, e.index)) out_edges_left };
 
     fn next_back(&mut self) -> Option<DirectedEdgeHandle<'a, V, DE, UE, F>> {
-        let end = self.walk.end()?;
+        let next = self.walk.next;
+        let last = self.walk.end;
+        let end = self.walk.edge(last)?;
         let edge = end.cw();
-        self.walk.end_before(edge.index);
+        self.walk.shorten(next, edge.index);
         Some(edge)
     }
 }
@@ -95,9 +99,11 @@ impl<'a, V, DE, UE, F> Iterator for HullIterator<'a, V, DE, UE, F> {
     ghost remaining = { item_count hull_left };
 
     fn next(&mut self) -> Option<DirectedEdgeHandle<'a, V, DE, UE, F>> {
-        let edge = self.walk.edge()?;
+        let next = self.walk.next;
+        let end = self.walk.end;
+        let edge = self.walk.edge(next)?;
         let after = edge.next().index;
-        self.walk.go_on(after);
+        self.walk.shorten(after, end);
         Some(edge)
     }
 }
@@ -108,9 +114,11 @@ impl<'a, V, DE, UE, F> DoubleEndedIterator for HullIterator<'a, V, DE, UE, F> {
     ghost next_back_gives = { YieldsLastBy (λ e. (e.dcel, e.index)) hull_left };
 
     fn next_back(&mut self) -> Option<DirectedEdgeHandle<'a, V, DE, UE, F>> {
-        let end = self.walk.end()?;
+        let next = self.walk.next;
+        let last = self.walk.end;
+        let end = self.walk.edge(last)?;
         let edge = end.prev();
-        self.walk.end_before(edge.index);
+        self.walk.shorten(next, edge.index);
         Some(edge)
     }
 }

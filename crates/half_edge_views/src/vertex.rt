@@ -73,13 +73,8 @@ impl<'a, V, DE, UE, F> VertexHandle<'a, V, DE, UE, F> {
     pub fn out_edges(&self) -> CircularIterator<'a, V, DE, UE, F>
         ensures { GivesRound self.now.dcel self.now.index (out_edges_left result) }
     {
-        if let Some(first) = self.dcel.links().out_edge(self.index) {
-            return CircularIterator {
-                walk: EdgeWalk::from(self.dcel, first),
-            };
-        }
         CircularIterator {
-            walk: EdgeWalk::over_none(self.dcel),
+            walk: EdgeWalk::from(self.dcel, self.dcel.links().out_edge(self.index)),
         }
     }
 }

@@ -16,9 +16,9 @@ use crate::face::FaceHandle;
 use crate::iterators::{
     DirectedEdgeIterator, FaceIterator, UndirectedEdgeIterator, VertexIterator,
 };
-use crate::neighbors::edge_to;
 use crate::rounds::HullIterator;
 use crate::vertex::VertexHandle;
+use half_edge_dcel::half_edge_links::reversed;
 use half_edge_dcel::{
     Dcel, FixedDirectedEdgeHandle, FixedFaceHandle, FixedUndirectedEdgeHandle, FixedVertexHandle,
 };
@@ -164,9 +164,24 @@ impl<V, DE, UE, F> MeshViews<V, DE, UE, F> for Dcel<V, DE, UE, F> {
             IfNone result ((h : ℕ) → h < length self.now.directed → origin m h ≡ from →
             origin m (rev h) ≢ to) }
     {
-        let first = self.links().out_edge(from.index())?;
-        if let Some(index) = edge_to(self, first, to.index()) {
-            return Some(DirectedEdgeHandle { dcel: self, index });
+        let count = self.num_directed_edges();
+        let links = self.links();
+        let first = links.out_edge(from.index())?;
+        let target = to.index();
+        let mut edge = first;
+        let mut end = links.origin(reversed(first));
+        for _ in 0..count {
+            if end == target {
+                return Some(DirectedEdgeHandle {
+                    dcel: self,
+                    index: edge,
+                });
+            }
+            end = links.prev_origin(edge);
+            edge = reversed(links.prev(edge));
+            if edge == first {
+                return None;
+            }
         }
         None
     }
@@ -224,13 +239,8 @@ impl<V, DE, UE, F> MeshViews<V, DE, UE, F> for Dcel<V, DE, UE, F> {
     fn convex_hull(&self) -> HullIterator<'_, V, DE, UE, F>
         ensures { GivesOuterLoop self.entry (hull_left result) }
     {
-        if let Some(first) = self.links().outer_edge() {
-            return HullIterator {
-                walk: EdgeWalk::from(self, first),
-            };
-        }
         HullIterator {
-            walk: EdgeWalk::over_none(self),
+            walk: EdgeWalk::from(self, self.links().outer_edge()),
         }
     }
 }

@@ -5,27 +5,23 @@ use Rattle.half_edge_views.proofs.rounds.CircularIteratorIterator.next.Goals as 
 pub invariant_of-self : goal.invariant_of-self
 invariant_of-self g c =
     let at = c.in_ok-edge.ensures in
-    let went = c.go_on.ensures in
+    let went = c.shorten.ensures in
     let after = rw (at.dcel, at.index) at c.ccw-after.ensures.index in
     record {
-      ending = ending_goes_on turn c.args.self.now.walk c.go_on.new.self _ at.some went.dcel
+      ending = ending_goes_on turn c.args.self.now.walk c.shorten.new.self _ at.some went.dcel
           went.end went.next went.left after c.args.self.now.ending;
     }
 
-pub returns-clause-steps : goal.returns-clause-steps
-returns-clause-steps g c =
+pub returns : goal.returns
+returns g c =
     let at = c.in_ok-edge.ensures in
-    let went = c.go_on.ensures in
+    let went = c.shorten.ensures in
     let after = rw (at.dcel, at.index) at c.ccw-after.ensures.index in
-    rw (at.dcel, at.index)
-    (walk_goes_on turn c.args.self.now.walk c.go_on.new.self _ at.some went.dcel went.end
-    went.next went.left after)
-
-pub returns-clause-goes : goal.returns-clause-goes
-returns-clause-goes g c =
-    let at = c.in_ok-edge.ensures in
-    let went = c.go_on.ensures in
-    let after = rw (at.dcel, at.index) at c.ccw-after.ensures.index in
-    let less = less_is_left turn c.args.self.now.walk c.go_on.new.self _ at.some went.dcel
+    let less = less_is_left turn c.args.self.now.walk c.shorten.new.self _ at.some went.dcel
     went.end went.next went.left after in
-    record { on = λ _. (tt, tt, less); keeps = tt; rests = λ _. tt }
+    record {
+      steps = rw (at.dcel, at.index)
+          (walk_goes_on turn c.args.self.now.walk c.shorten.new.self _ at.some went.dcel went.end
+          went.next went.left after);
+      goes = record { on = λ _. (tt, tt, less); keeps = tt; rests = λ _. tt };
+    }
