@@ -1,6 +1,6 @@
 //! Vertices that lose their edges.
 ghost use Rattle.std.specs.Prelude.{◌≡◌, ◌<◌, ◌≤◌, length};
-ghost use Rattle.half_edge_links.specs.Mesh.{face, origin, prev};
+ghost use Rattle.half_edge_links.specs.Mesh.{face, origin};
 ghost use Rattle.half_edge_links.specs.Peel.{IsStrip, IsWheel, turn};
 ghost use Rattle.half_edge_links.specs.Round.{neighbour};
 ghost use Rattle.half_edge_dcel.specs.Contents.{IsMeshWithData};
@@ -19,16 +19,6 @@ pub struct IsolateVertexResult {
 }
 
 impl<V, DE, UE, F> Dcel<V, DE, UE, F> {
-    // The edge before a side, and the vertex where it starts.
-    fn spoke_to(&self, side: FixedDirectedEdgeHandle) -> (u32, u32)
-        requires { side < length self.now.mesh.half_edges }
-        ensures edge { result.0 ≡ prev self.now.mesh side }
-        ensures vertex { result.1 ≡ origin self.now.mesh (prev self.now.mesh side) }
-    {
-        let side = side.index();
-        (self.links.prev(side), self.links.prev_origin(side))
-    }
-
     // Removes the edges of a vertex with `count` inner faces, which follow each other from `first`
     // on, and the outer face between its last edge and `first`.
     fn disconnect(&mut self, first: u32, count: usize)
@@ -69,7 +59,9 @@ impl<V, DE, UE, F> Dcel<V, DE, UE, F> {
             (neighbour self.old.mesh first) (length edges.now) }
         ensures whole { IsMeshWithData self.new }
     {
-        let (first, vertex) = self.spoke_to(edges[0]);
+        let side = edges[0].index();
+        let first = self.links().prev(side);
+        let vertex = self.links().prev_origin(side);
         self.disconnect(first, edges.len());
         IsolateVertexResult {
             vertex: FixedVertexHandle::from_index(vertex),
@@ -162,7 +154,7 @@ impl<V, DE, UE, F> Dcel<V, DE, UE, F> {
             (length border.now) }
         ensures whole { IsMeshWithData self.new }
     {
-        let (first, _) = self.spoke_to(border[0]);
+        let first = self.links().prev(border[0].index());
         self.fill_hole(first, border.len());
         IsolateVertexResult { vertex }
     }
