@@ -6,7 +6,7 @@ ghost use Rattle.half_edge_links.specs.Mesh.{face_edge, out_edge, origin, next, 
 use crate::edge_list::EdgeList;
 use crate::records::HalfEdge;
 use crate::room::MAX_ELEMENTS;
-use crate::vertex_list::{Vertex, edge_named};
+use crate::vertex_list::{NO_EDGE, Vertex};
 use std::alloc::Global;
 use std::marker::Model;
 
@@ -193,7 +193,8 @@ impl<V> Links<V> {
         ensures value { result ≡ out_edge self.now.mesh v }
         ensures valid { IsValidMesh self.now.mesh }
     {
-        edge_named(self.vertices[v as usize].out_edge)
+        let edge = self.vertices[v as usize].out_edge;
+        if edge == NO_EDGE { None } else { Some(edge) }
     }
 
     /// The data of vertex `v`.

@@ -1,7 +1,7 @@
 //! What a list of vertices keeps. The edge that a vertex names and its data lie side by side, since
 //! most steps read both.
 ghost use Rattle.std.specs.Prelude.{◌≡◌, ◌<◌, length, slice_set, vec_capacity, Option};
-ghost use Rattle.half_edge_links.specs.VertexList.{named_by, IsNameable, out_edges_of, values_of};
+ghost use Rattle.half_edge_links.specs.VertexList.{IsNameable, out_edges_of, values_of};
 
 use std::alloc::AllocError;
 
@@ -26,18 +26,6 @@ impl<V: Clone> Clone for Vertex<V> {
             out_edge: self.out_edge,
             value: self.value.clone()?,
         })
-    }
-}
-
-// The edge that a vertex names by this number.
-#[tactic(auto, unfolding(crate::specs::VertexList::named_by))]
-pub(crate) fn edge_named(number: u32) -> Option<u32>
-    ensures { result ≡ named_by number }
-{
-    if number == NO_EDGE {
-        None
-    } else {
-        Some(number)
     }
 }
 

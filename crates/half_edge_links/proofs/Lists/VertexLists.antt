@@ -1,8 +1,8 @@
 -- A list of vertices after writes, as the list of the edges that they name and the list of their
 -- data.
--- Lemmas: named_as, named_moved, set_named, named_at, set_value, copied_out_edges, copied_values, pushed_vertex, swap_remove-map,
+-- Lemmas: named_as, named_some, named_moved, set_named, named_at, set_value, copied_out_edges, copied_values, pushed_vertex, swap_remove-map,
 -- takes_vertex, length_out_edges, length_values.
-use Rattle.std.proofs.Common.{◌≡◌, ◌+◌, ◌-◌, ◌<◌, [], ◌∷◌, ◌++◌, ◌∙◌, Option, None, Some}
+use Rattle.std.proofs.Common.{◌≡◌, ◌≢◌, ◌+◌, ◌-◌, ◌<◌, [], ◌∷◌, ◌++◌, ◌∙◌, Option, None, Some}
 use Rattle.std.proofs.Common.{option_map, unwrap_or}
 use Rattle.std.proofs.Common.{ℕ, List, length, get_or, set, map, refl, sym, ap, arith}
 use Rattle.std.proofs.lemmas.List.{map-set, take-map, length-map, get_or-map, map-append}
@@ -22,6 +22,11 @@ pub named_as : (edge : Option ℕ) → IsNameable edge → named_by (unwrap_or e
 unfolding named_by
 named_as None _ = refl
 named_as (Some edge) small = grind (arith, nat_tests)
+
+-- a number that is not the one of none is that of its edge
+pub named_some : (n : ℕ) → n ≢ NO_EDGE → named_by n ≡ Some n
+unfolding named_by
+named_some n some = grind (arith, nat_tests)
 
 -- the number of an edge that moves stands for its new index, and no edge stays none
 pub named_moved : (from to n : ℕ) → from + 1 < NO_EDGE → to + 1 < NO_EDGE

@@ -1,6 +1,6 @@
 -- Removing an edge keeps a mesh sound.
 -- Lemmas: removes, joined_unlinked, unlinked_places, read_unlinked, sound_removed, small_removed.
-use Rattle.std.proofs.Common.{◌≡◌, ℕ, ◌+◌, ◌-◌, ◌%◌, ◌<◌, ◌≤◌, List, length, sym, ap, ◌∙◌, arith}
+use Rattle.std.proofs.Common.{◌≡◌, ℕ, ◌+◌, ◌-◌, ◌%◌, List, length, sym, ap, ◌∙◌, arith}
 use Rattle.half_edge_links.specs.declared.records.HalfEdge.{HalfEdge}
 use Rattle.half_edge_links.specs.Mesh.{Mesh, IsSmall, edge_at, rev, AreSoundLinks, IsValidMesh}
 use Rattle.half_edge_links.specs.Places.{AreJoined, AreUnlinkedPlaces, IsHole}

@@ -11,8 +11,8 @@ use Rattle.half_edge_links.specs.declared.records.StoredEdge.{StoredEdge}
 use Rattle.half_edge_links.specs.Mesh.{edge_at}
 use Rattle.half_edge_links.specs.Grow.{hung_edges, closed_edges}
 use Rattle.half_edge_links.specs.Places.{AreJoined}
-use Rattle.half_edge_links.specs.EdgeList.{shown, stored_next, stored_prev, stored_face}
-use Rattle.half_edge_links.specs.EdgeList.{stored_corner}
+use Rattle.half_edge_links.specs.EdgeList.{stored_at, shown, stored_next, stored_prev}
+use Rattle.half_edge_links.specs.EdgeList.{stored_face, stored_corner}
 use Rattle.half_edge_links.proofs.Sound.Parts.{grown_cases}
 use Rattle.half_edge_links.proofs.Growing.Hang.{length-hung, next_x, next_other, origin_kept, at_0}
 use Rattle.half_edge_links.proofs.Growing.Hang.{at_1}
@@ -20,6 +20,8 @@ use Rattle.half_edge_links.proofs.Growing.CloseReads.{closes_edges}
 use Rattle.half_edge_links.proofs.Stored.Keeps.{keeps_shown, keeps_next, keeps_prev, keeps_face}
 use Rattle.half_edge_links.proofs.Stored.Keeps.{keeps_corner, keeps_push, shown_is, corner_shown}
 use Rattle.half_edge_links.proofs.Stored.Keeps.{corners_of, count_corners, SayOrigins, apart_joined}
+use Rattle.half_edge_links.proofs.Stored.Keeps.{corner_at}
+use Rattle.half_edge_links.proofs.Stored.Shown.{next_shown, prev_shown, face_shown}
 
 module _ (hs : List HalfEdge) (cs : List ℕ) (x v : ℕ) (x_in : x < length hs) (j : AreJoined hs)
     (count : length cs ≡ length hs) (say : SayOrigins hs cs) where
@@ -53,19 +55,26 @@ module _ (hs : List HalfEdge) (cs : List ℕ) (x v : ℕ) (x_in : x < length hs)
 -- the records after an edge was hung show it
 pub shows_hung : (rs : List StoredEdge) (x v n : ℕ) → AreJoined (shown rs) → x < length (shown rs)
     → n ≡ length (shown rs) →
-    (let hs = shown rs in let edge = edge_at hs x in
+    (let edge = stored_at rs x in let after = stored_at rs edge.next in
     shown (stored_corner (stored_prev (stored_next rs x n) edge.next (n + 1)) edge.next v
-    ++ record { prev_origin = edge.origin; next = n + 1; prev = x; face = edge.face } ∷ []
+    ++ record { prev_origin = after.prev_origin; next = n + 1; prev = x; face = edge.face } ∷ []
     ++ record {
-      prev_origin = (edge_at hs edge.next).origin;
+      prev_origin = (stored_at rs after.next).prev_origin;
       next = edge.next;
       prev = n;
       face = edge.face;
     } ∷ [])
-    ≡ hung_edges hs x edge.next v (length hs))
+    ≡ hung_edges (shown rs) x (edge_at (shown rs) x).next v (length (shown rs)))
 unfolding hung_edges
 shows_hung rs x v n j x_in count =
-    rw count (shown_is _ _ _ (
+    let y_in : (stored_at rs x).next < length (shown rs) = rw next_shown at (j.next_in x x_in) in
+    rw (
+      corner_at rs (stored_at rs x).next _ y_in (next_shown rs _),
+      corner_at rs x _ x_in (next_shown rs x),
+      ← (next_shown rs x),
+      ← (face_shown rs x),
+      count,
+    ) (shown_is _ _ _ (
     keeps_push _ _ _ (keeps_push _ _ _ (keeps_corner _ _ _
     (keeps_prev _ _ _ (keeps_next _ _ _ (keeps_shown rs) x _) _ _) _ v) _ _ _ _ _) _ _ _ _ _) (
     say_hung (shown rs) (corners_of rs) x v x_in j (count_corners rs) (corner_shown rs)))
@@ -123,24 +132,29 @@ module _ (hs : List HalfEdge) (cs : List ℕ) (e g : ℕ) (e_in : e < length hs)
 pub shows_closed : (rs : List StoredEdge) (e after n g : ℕ) → AreJoined (shown rs)
     → e < length (shown rs) → n ≡ length (shown rs) →
     after ≡ (edge_at (shown rs) (edge_at (shown rs) e).next).next → after ≢ e →
-    (let hs = shown rs in let edge = edge_at hs e in
+    (let hs = shown rs in let edge = stored_at rs e in let third = stored_at rs after in
     shown (stored_corner
     (stored_corner (stored_face (stored_face (stored_prev (stored_prev (stored_next
     (stored_next rs edge.prev (n + 1)) edge.next n) after (n + 1)) e n) e g) edge.next g)
-    after edge.origin) e (edge_at hs after).origin
-    ++ record { prev_origin = (edge_at hs edge.next).origin; next = e; prev = edge.next; face = g }
-    ∷ []
-    ++ record {
-      prev_origin = (edge_at hs edge.prev).origin;
-      next = after;
-      prev = edge.prev;
-      face = 0;
-    } ∷ [])
-    ≡ closed_edges hs e edge.next edge.prev after (length hs) g)
+    after (stored_at rs edge.next).prev_origin) e (stored_at rs third.next).prev_origin
+    ++ record { prev_origin = third.prev_origin; next = e; prev = edge.next; face = g } ∷ []
+    ++ record { prev_origin = edge.prev_origin; next = after; prev = edge.prev; face = 0 } ∷ [])
+    ≡ closed_edges hs e (edge_at hs e).next (edge_at hs e).prev after (length hs) g)
 unfolding closed_edges
 shows_closed rs e after n g j e_in count is apart =
     let off : (edge_at (shown rs) (edge_at (shown rs) e).next).next ≢ e = rw (← is) apart in
-    rw (count, is) (shown_is _ _ _ (
+    let k_in = j.next_in e e_in in
+    let after_in : after < length (shown rs) = rw is (j.next_in _ k_in) in
+    rw (
+      corner_at rs _ e (j.prev_in e e_in) (j.next_prev e e_in),
+      corner_at rs _ after k_in (sym is),
+      corner_at rs after _ after_in (next_shown rs after),
+      corner_at rs e _ e_in (next_shown rs e),
+      ← (next_shown rs e),
+      ← (prev_shown rs e),
+      count,
+      is,
+    ) (shown_is _ _ _ (
     keeps_push _ _ _ (keeps_push _ _ _ (keeps_corner _ _ _ (keeps_corner _ _ _ (
     keeps_face _ _ _ (keeps_face _ _ _ (keeps_prev _ _ _ (keeps_prev _ _ _
     (keeps_next _ _ _ (keeps_next _ _ _ (keeps_shown rs) _ _) _ _) _ _) _ _) _ _) _ _) _ _) _ _)

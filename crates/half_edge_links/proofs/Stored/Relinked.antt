@@ -10,12 +10,13 @@ use Rattle.half_edge_links.specs.Mesh.{edge_at}
 use Rattle.half_edge_links.specs.Grow.{slid_edges, with_next, with_prev}
 use Rattle.half_edge_links.specs.Pass.{passed_edges}
 use Rattle.half_edge_links.specs.Places.{AreJoined, AreSlidPlaces, ArePassedPlaces}
-use Rattle.half_edge_links.specs.EdgeList.{shown, stored_corner, stored_joined}
+use Rattle.half_edge_links.specs.EdgeList.{stored_at, shown, stored_corner, stored_joined}
 use Rattle.half_edge_links.proofs.Sound.FieldWrites.{swap_prevs}
 use Rattle.half_edge_links.proofs.Sound.Relinks.{Relinks, relinks, three_joined}
 use Rattle.half_edge_links.proofs.Stored.Keeps.{Stores, keeps_shown, keeps_joined, keeps_corner}
 use Rattle.half_edge_links.proofs.Stored.Keeps.{keeps_origin, shown_is, corner_shown, corners_of}
-use Rattle.half_edge_links.proofs.Stored.Keeps.{count_corners, SayOrigins, apart_joined}
+use Rattle.half_edge_links.proofs.Stored.Keeps.{count_corners, SayOrigins, apart_joined, corner_at}
+use Rattle.half_edge_links.proofs.Stored.Shown.{next_shown}
 
 -- three places of a list that differ
 pub record AreThree (n x y w : ℕ) : Type 0 where
@@ -93,8 +94,9 @@ module _ (rs : List StoredEdge) (e t k l z : ℕ) (j : AreJoined (shown rs)) whe
   -- the records after an edge was slid show it
   pub shows_slid : AreSlidPlaces (shown rs) e t k l z
       → shown (stored_corner (stored_joined (stored_joined (stored_joined rs e l
-      (edge_at (shown rs) e).origin) z k (edge_at (shown rs) z).origin) k t
-      (edge_at (shown rs) k).origin) (edge_at (shown rs) t).next (edge_at (shown rs) l).origin)
+      (stored_at rs k).prev_origin) z k (stored_at rs t).prev_origin) k t
+      (stored_at rs l).prev_origin) (stored_at rs t).next
+      (stored_at rs (stored_at rs l).next).prev_origin)
       ≡ slid_edges (shown rs) e t k l z
   unfolding slid_edges
   shows_slid p =
@@ -105,7 +107,13 @@ module _ (rs : List StoredEdge) (e t k l z : ℕ) (j : AreJoined (shown rs)) whe
       let r = relinks hs e t k l z l k t e z k (edge_at hs l).origin p.edge_in p.twin_in k_in l_in
       z_in p.edge-before p.edge-there p.before-there p.back-there p.back-twin p.there-twin in
       let three : AreThree (length hs) l k t = assumption in
-      shown_is _ _ _ (keeps_corner _ _ _ (keeps_origin _ _ _ (keeps_three l k t l_in k_in) _ _)
+      rw (
+        corner_at rs e k p.edge_in (sym p.there_is),
+        corner_at rs z t z_in next_z,
+        corner_at rs k l k_in (sym p.back_is),
+        corner_at rs l _ l_in (next_shown rs l),
+        ← (next_shown rs t),
+      ) (shown_is _ _ _ (keeps_corner _ _ _ (keeps_origin _ _ _ (keeps_three l k t l_in k_in) _ _)
       _ _) (
       say_relinked hs _ (corners_of rs) e t k l z l k t e z k (edge_at hs l).origin r j
       (count_corners rs) (corner_shown rs) p.edge_in p.twin_in k_in z_in three
@@ -114,13 +122,13 @@ module _ (rs : List StoredEdge) (e t k l z : ℕ) (j : AreJoined (shown rs)) whe
         λ q. h_k (apart_joined hs j h k within k_in (q ∙ p.back_is)),
         λ q. h_e (apart_joined hs j h e within p.edge_in (q ∙ p.there_is)),
         λ q. h_z (apart_joined hs j h z within z_in (q ∙ sym next_z)),
-      )))
+      ))))
 
   -- the records after an edge passed a vertex show it
   pub shows_passed : ArePassedPlaces (shown rs) e t k l z
       → shown (stored_corner (stored_joined (stored_joined (stored_joined rs e k
-      (edge_at (shown rs) e).origin) z t (edge_at (shown rs) z).origin) k l
-      (edge_at (shown rs) k).origin) (edge_at (shown rs) t).next (edge_at (shown rs) k).origin)
+      (stored_at rs l).prev_origin) z t (stored_at rs k).prev_origin) k l
+      (stored_at rs t).prev_origin) (stored_at rs t).next (stored_at rs t).prev_origin)
       ≡ passed_edges (shown rs) e t k l z
   unfolding passed_edges
   shows_passed p =
@@ -142,7 +150,12 @@ module _ (rs : List StoredEdge) (e t k l z : ℕ) (j : AreJoined (shown rs)) whe
       let n : List HalfEdge = with_next (with_next (with_next hs e k) z t) k l in
       let order = swap_prevs (with_prev n k e) t z l k (λ q. p.back-twin (sym q))
       ∙ ap (λ q. with_prev q t z) (swap_prevs n k e l k (λ q. p.back-there (sym q))) in
-      shown_is _ _ _ (keeps_corner _ _ _ (keeps_origin _ _ _ (rw order at
+      rw (
+        corner_at rs e l p.edge_in (sym p.back_is),
+        corner_at rs z k z_in next_z,
+        corner_at rs k t k_in next_k,
+        ← (next_shown rs t),
+      ) (shown_is _ _ _ (keeps_corner _ _ _ (keeps_origin _ _ _ (rw order at
       (keeps_three k t l k_in p.twin_in)) _ _) _ _) (
       say_relinked hs _ (corners_of rs) e t k l z k t l k e z (edge_at hs k).origin r j
       (count_corners rs) (corner_shown rs) p.edge_in p.twin_in k_in z_in three
@@ -151,4 +164,4 @@ module _ (rs : List StoredEdge) (e t k l z : ℕ) (j : AreJoined (shown rs)) whe
         λ q. h_z (apart_joined hs j h z within z_in (q ∙ sym next_z)),
         λ q. h_k (apart_joined hs j h k within k_in (q ∙ sym next_k)),
         λ q. h_e (apart_joined hs j h e within p.edge_in (q ∙ p.back_is)),
-      )))
+      ))))

@@ -12,8 +12,8 @@ use Rattle.half_edge_links.specs.Mesh.{edge_at, no_edge}
 use Rattle.half_edge_links.specs.Renames.{pair_moved}
 use Rattle.half_edge_links.specs.Remove.{with_unlinked, with_filled}
 use Rattle.half_edge_links.specs.Places.{AreJoined, AreUnlinkedPlaces, IsHole}
-use Rattle.half_edge_links.specs.EdgeList.{no_stored, shown, stored_next, stored_prev}
-use Rattle.half_edge_links.specs.EdgeList.{stored_joined}
+use Rattle.half_edge_links.specs.EdgeList.{stored_at, no_stored, shown, stored_next}
+use Rattle.half_edge_links.specs.EdgeList.{stored_prev, stored_joined}
 use Rattle.half_edge_links.proofs.Removing.UnlinkSound.{both, next_of, prev_of, length_both}
 use Rattle.half_edge_links.proofs.Removing.UnlinkSound.{next_both, next_both_other, origin_both}
 use Rattle.half_edge_links.proofs.Removing.FillSound.{old_left, new_left, two_filled, pair_written}
@@ -23,6 +23,8 @@ use Rattle.half_edge_links.proofs.Sound.FieldWrites.{next_link, origin_link}
 use Rattle.half_edge_links.proofs.Stored.Keeps.{Stores, keeps_shown, keeps_joined, keeps_next}
 use Rattle.half_edge_links.proofs.Stored.Keeps.{keeps_prev, keeps_remove, shown_is, corner_shown}
 use Rattle.half_edge_links.proofs.Stored.Keeps.{corners_of, count_corners, SayOrigins, apart_joined}
+use Rattle.half_edge_links.proofs.Stored.Keeps.{corner_at}
+use Rattle.half_edge_links.proofs.Stored.Shown.{next_shown, prev_shown}
 
 module _ (hs : List HalfEdge) (cs : List ℕ) (e t : ℕ) (j : AreJoined hs)
     (u : AreUnlinkedPlaces hs e t) (count : length cs ≡ length hs) (say : SayOrigins hs cs) where
@@ -115,16 +117,26 @@ module _ (hs : List HalfEdge) (cs : List ℕ) (e t : ℕ) (j : AreJoined hs)
 -- the records after an edge was taken out of its loops show it
 pub shows_unlinked : (rs : List StoredEdge) (e t : ℕ) → AreJoined (shown rs)
     → AreUnlinkedPlaces (shown rs) e t →
-    (let hs = shown rs in let edge = edge_at hs e in let twin = edge_at hs t in
+    (let edge = stored_at rs e in let twin = stored_at rs t in
     shown (stored_joined (stored_joined (stored_joined (stored_joined rs edge.prev twin.next
-    (edge_at hs edge.prev).origin) twin.prev edge.next (edge_at hs twin.prev).origin) e e
-    edge.origin) t t twin.origin)
-    ≡ with_unlinked hs e t)
+    edge.prev_origin) twin.prev edge.next twin.prev_origin) e e
+    (stored_at rs edge.next).prev_origin) t t (stored_at rs twin.next).prev_origin)
+    ≡ with_unlinked (shown rs) e t)
 unfolding with_unlinked
 shows_unlinked rs e t j u =
+    rw (
+      corner_at rs _ e (j.prev_in e u.edge_in) (j.next_prev e u.edge_in),
+      corner_at rs _ t (j.prev_in t u.twin_in) (j.next_prev t u.twin_in),
+      corner_at rs e _ u.edge_in (next_shown rs e),
+      corner_at rs t _ u.twin_in (next_shown rs t),
+      ← (next_shown rs e),
+      ← (next_shown rs t),
+      ← (prev_shown rs e),
+      ← (prev_shown rs t),
+    ) (
     shown_is _ _ _ (keeps_joined _ _ _ (keeps_joined _ _ _ (keeps_joined _ _ _ (keeps_joined _ _ _
     (keeps_shown rs) _ _ _) _ _ _) e e _) t t _) (
-    say_unlinked (shown rs) (corners_of rs) e t j u (count_corners rs) (corner_shown rs))
+    say_unlinked (shown rs) (corners_of rs) e t j u (count_corners rs) (corner_shown rs)))
 
 module _ (hs : List HalfEdge) (cs : List ℕ) (last hole : ℕ) (j : AreJoined hs) (at_last : length hs
     ≡ last + 2) (i : IsHole hs hole) (count : length cs ≡ length hs) (say : SayOrigins hs cs) where

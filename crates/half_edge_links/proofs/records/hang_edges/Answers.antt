@@ -1,22 +1,13 @@
 use Rattle.std.proofs.Common.{◌≡◌, length, arith}
 use Rattle.half_edge_links.specs.EdgeList.{shown}
-use Rattle.half_edge_links.proofs.Stored.Shown.{length_shown, next_shown, face_shown}
-use Rattle.half_edge_links.proofs.Stored.Shown.{origin_shown, next_within}
+use Rattle.half_edge_links.proofs.Stored.Shown.{length_shown}
 use Rattle.half_edge_links.proofs.Stored.Hung.{shows_hung}
 use Rattle.half_edge_links.proofs.records.hang_edges.Goals as goal
 
 pub returns-clause-items : goal.returns-clause-items
 returns-clause-items c =
-    let rs = c.args.half_edges.now.items in
-    let y_in = next_within rs c.args.x c.requires.joined c.requires.within in
     let n : c.len-n.result ≡ length (shown c.args.half_edges.now.items) =
     omega (arith, length_shown c.args.half_edges.now.items) in
-    let shows = shows_hung rs c.args.x c.args.v c.len-n.result c.requires.joined
-    (rw length_shown c.requires.within) n in
-    cc (
-      next_shown rs c.args.x,
-      face_shown rs c.args.x,
-      origin_shown rs c.args.x c.requires.within,
-      origin_shown rs _ y_in,
-      next_shown rs c.stored-edge.result.next,
-    )
+    let shows = shows_hung c.args.half_edges.now.items c.args.x c.args.v c.len-n.result
+    c.requires.joined (rw length_shown c.requires.within) n in
+    cc
