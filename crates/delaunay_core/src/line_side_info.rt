@@ -60,35 +60,35 @@ impl LineSideInfo {
     pub fn is_on_left_side(&self) -> bool
         ensures { IsTrue result ↔ (self.now ≡ left) }
     {
-        self.turn == Turn::Left
+        matches!(self.turn, Turn::Left)
     }
 
     /// Whether the point lies strictly on the right.
     pub fn is_on_right_side(&self) -> bool
         ensures { IsTrue result ↔ (self.now ≡ right) }
     {
-        self.turn == Turn::Right
+        matches!(self.turn, Turn::Right)
     }
 
     /// Whether the point lies on the left or on the line.
     pub fn is_on_left_side_or_on_line(&self) -> bool
         ensures { IsTrue result ↔ (self.now ≢ right) }
     {
-        self.turn != Turn::Right
+        !matches!(self.turn, Turn::Right)
     }
 
     /// Whether the point lies on the right or on the line.
     pub fn is_on_right_side_or_on_line(self) -> bool
         ensures { IsTrue result ↔ (self ≢ left) }
     {
-        self.turn != Turn::Left
+        !matches!(self.turn, Turn::Left)
     }
 
     /// Whether the point lies on the line, or the line's two points are one.
     pub fn is_on_line(self) -> bool
         ensures { IsTrue result ↔ (self ≡ on) }
     {
-        self.turn == Turn::OnLine
+        matches!(self.turn, Turn::OnLine)
     }
 
     /// Left and right change places.

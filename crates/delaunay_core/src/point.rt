@@ -120,7 +120,8 @@ impl<S: SpadeNum> Point2<S> {
         ensures { result ≡ gap (fraction (place_of S.whole self.now))
             (fraction (place_of S.whole other)) }
     {
-        square(difference(self.x, other.x)) + square(difference(self.y, other.y))
+        let (x, y) = (difference(self.x, other.x), difference(self.y, other.y));
+        x * x + y * y
     }
 }
 
@@ -132,14 +133,6 @@ pub(crate) fn difference<S: SpadeNum>(from: S, to: S) -> i64
     ensures bound { unsigned_abs result ≤ 1073741824 }
 {
     to.to_i64() - from.to_i64()
-}
-
-fn square(n: i64) -> i64
-    requires { unsigned_abs n ≤ 1073741824 }
-    ensures value { result ≡ n *ℤ n }
-    ensures bound { unsigned_abs result ≤ 1152921504606846976 }
-{
-    n * n
 }
 
 impl<S: SpadeNum> From<[S; 2]> for Point2<S> {

@@ -9,30 +9,6 @@ use Rattle.delaunay_core.proofs.Projections.{product_of_ways, sum_of_products, a
 use Rattle.delaunay_core.proofs.Projections.{rest_bound, gap_passes, way_passes}
 use Rattle.delaunay_core.proofs.projection.project_point.Goals as goal
 
-pub difference-requires-clause-from : goal.difference-requires-clause-from
-difference-requires-clause-from g c = c.requires.p1_in_range.x
-
-pub difference-requires-clause-to : goal.difference-requires-clause-to
-difference-requires-clause-to g c = c.requires.p2_in_range.x
-
-pub difference-requires-2-clause-from : goal.difference-requires-2-clause-from
-difference-requires-2-clause-from g c = c.requires.p1_in_range.x
-
-pub difference-requires-2-clause-to : goal.difference-requires-2-clause-to
-difference-requires-2-clause-to g c = c.requires.query_in_range.x
-
-pub difference-requires-3-clause-from : goal.difference-requires-3-clause-from
-difference-requires-3-clause-from g c = c.requires.p1_in_range.y
-
-pub difference-requires-3-clause-to : goal.difference-requires-3-clause-to
-difference-requires-3-clause-to g c = c.requires.p2_in_range.y
-
-pub difference-requires-4-clause-from : goal.difference-requires-4-clause-from
-difference-requires-4-clause-from g c = c.requires.p1_in_range.y
-
-pub difference-requires-4-clause-to : goal.difference-requires-4-clause-to
-difference-requires-4-clause-to g c = c.requires.query_in_range.y
-
 pub product-requires-clause-a_bound : goal.product-requires-clause-a_bound
 product-requires-clause-a_bound g c = way_passes c.difference.result c.difference.ensures.bound
 
@@ -46,12 +22,6 @@ product-requires-2-clause-a_bound g c = way_passes c.difference-3.result
 pub product-requires-2-clause-b_bound : goal.product-requires-2-clause-b_bound
 product-requires-2-clause-b_bound g c = way_passes c.difference-4.result
     c.difference-4.ensures.bound
-
-pub distance_2-requires-clause-in_range : goal.distance_2-requires-clause-in_range
-distance_2-requires-clause-in_range g c = c.requires.p1_in_range
-
-pub distance_2-requires-clause-other_in_range : goal.distance_2-requires-clause-other_in_range
-distance_2-requires-clause-other_in_range g c = c.requires.p2_in_range
 
 pub returns-clause-length_2 : goal.returns-clause-length_2
 returns-clause-length_2 g c =

@@ -1,23 +1,33 @@
-use Rattle.std.proofs.Common.{◌≡◌, ◌≤◌, ◌∙◌, ap, w64, to_z, of_z, arith, unsigned_abs}
-use Rattle.std.specs.Prelude.{ℤ, pos, ◌+ℤ◌, ◌-ℤ◌, ◌*ℤ◌}
+use Rattle.std.proofs.Common.{◌≡◌, ◌≤◌, ◌∙◌, ap, w64, to_z, of_z, arith, unsigned_abs, FitsSigned}
+use Rattle.std.specs.Prelude.{ℤ, ◌+ℤ◌, ◌*ℤ◌}
 use Rattle.std.proofs.lemmas.Int.{ints}
+use Rattle.delaunay_core.proofs.Projections.{product_bound, sum_of_products, way_passes}
 use Rattle.delaunay_core.proofs.point.Point2.distance_2.Goals as goal
 
 -- the square of a difference that was passed on
-squared : (a x r : ℤ) → unsigned_abs a ≤ 1073741824 → a ≡ x
-    → r ≡ to_z w64 (of_z w64 a) *ℤ to_z w64 (of_z w64 a) → r ≡ x *ℤ x
-squared a x r bound is e =
-    let same : to_z w64 (of_z w64 a) ≡ a = omega (arith, ints) in
-    e ∙ ap (λ n. n *ℤ n) (same ∙ is)
+abbrev square : ℤ → ℤ
+square a = let b : ℤ = to_z w64 (of_z w64 a) in b *ℤ b
 
-added : (r s x y : ℤ) → unsigned_abs r ≤ 1152921504606846976 → unsigned_abs s ≤ 1152921504606846976
-    → r ≡ x → s ≡ y → to_z w64 (of_z w64 (to_z w64 (of_z w64 r) +ℤ to_z w64 (of_z w64 s))) ≡ x +ℤ y
-added r s x y r_bound s_bound e f = omega (arith, ints)
+fits : (a : ℤ) → unsigned_abs a ≤ 1073741824 → unsigned_abs (square a) ≤ 1152921504606846976
+fits a h = let b : ℤ = to_z w64 (of_z w64 a) in product_bound b b (way_passes a h) (way_passes a h)
+
+squared : (a x : ℤ) → unsigned_abs a ≤ 1073741824 → a ≡ x → square a ≡ x *ℤ x
+squared a x h is =
+    let same : to_z w64 (of_z w64 a) ≡ a = omega (arith, ints) in ap (λ n. n *ℤ n) (same ∙ is)
+
+sum_fits : (r s : ℤ) → unsigned_abs r ≤ 1152921504606846976 → unsigned_abs s ≤ 1152921504606846976
+    → FitsSigned w64 (to_z w64 (of_z w64 r) +ℤ to_z w64 (of_z w64 s))
+sum_fits r s h i = omega (arith, ints)
+
+pub overflow_add-result : goal.overflow_add-result
+overflow_add-result g c =
+    sum_fits (square c.difference-x.result) (square c.difference-y.result)
+    (fits c.difference-x.result c.difference-x.ensures.bound)
+    (fits c.difference-y.result c.difference-y.ensures.bound)
 
 pub returns : goal.returns
 returns g c =
-    let dy : c.difference-2.result ≡ g.S.SpadeNum.whole c.args.other.y *ℤ pos 1
-    -ℤ g.S.SpadeNum.whole c.args.self.now.y *ℤ pos 1 = c.difference-2.ensures.value in
-    added _ _ _ _ c.square.ensures.bound c.square-2.ensures.bound
-    (squared _ _ _ c.difference.ensures.bound c.difference.ensures.value c.square.ensures.value)
-    (squared _ _ _ c.difference-2.ensures.bound dy c.square-2.ensures.value)
+    let x = c.difference-x.ensures in let y = c.difference-y.ensures in
+    let dx = c.difference-x.result in let dy = c.difference-y.result in
+    sum_of_products (square dx) (square dy) _ _ (fits dx x.bound) (fits dy y.bound)
+    (squared dx _ x.bound x.value) (squared dy _ y.bound y.value)

@@ -1,5 +1,0 @@
-use Rattle.std.proofs.Common.{rules}
-use Rattle.delaunay_core.proofs.line_side_info.LineSideInfo.is_on_right_side.Goals as goal
-
-pub returns : goal.returns
-returns c = search rules

@@ -1,5 +1,0 @@
-use Rattle.std.proofs.Common.{rules}
-use Rattle.delaunay_core.proofs.point.Array2FromPoint2.from.Goals as goal
-
-pub returns : goal.returns
-returns c = search rules
