@@ -19,28 +19,6 @@ fn is_set(words: &Vec<u64>, index: usize) -> bool
     (words[index / BITS] >> (index % BITS)) & 1 == 1
 }
 
-// Sets the bit of an index.
-fn set_bit(words: &mut Vec<u64>, index: usize)
-    requires { index / 64 < length words.old.items }
-    ensures bits { (k : ℕ) →
-        has_bit words.new.items k ≡ cond (nat_eq index k) true (has_bit words.old.items k) }
-    ensures count { length words.new.items ≡ length words.old.items }
-{
-    let word = words[index / BITS];
-    words[index / BITS] = word | 1 << (index % BITS);
-}
-
-// Clears the bit of an index.
-fn clear_bit(words: &mut Vec<u64>, index: usize)
-    requires { index / 64 < length words.old.items }
-    ensures bits { (k : ℕ) →
-        has_bit words.new.items k ≡ cond (nat_eq index k) false (has_bit words.old.items k) }
-    ensures count { length words.new.items ≡ length words.old.items }
-{
-    let word = words[index / BITS];
-    words[index / BITS] = word & !(1 << (index % BITS));
-}
-
 /// Undirected edges, each once, in the order in which they were put there, and how many indexes of
 /// edges there is room for.
 #[derive(Drop)]
@@ -110,7 +88,8 @@ impl EdgeSet {
         if is_set(&self.flags, index) {
             return;
         }
-        set_bit(&mut self.flags, index);
+        let word = self.flags[index / BITS];
+        self.flags[index / BITS] = word | 1 << (index % BITS);
         self.edges.push_reserved(edge);
     }
 
@@ -121,7 +100,9 @@ impl EdgeSet {
         ensures room { self.new.room ≡ self.old.room }
     {
         let edge = self.edges.pop()?;
-        clear_bit(&mut self.flags, edge.index() as usize);
+        let index = edge.index() as usize;
+        let word = self.flags[index / BITS];
+        self.flags[index / BITS] = word & !(1 << (index % BITS));
         Some(edge)
     }
 
