@@ -4,7 +4,7 @@ ghost use Rattle.mesh_embedding.specs.plane.Fraction.{whole as fraction, WithinS
 ghost use Rattle.mesh_embedding.specs.plane.Fraction.{InsideTriangle};
 ghost use Rattle.mesh_embedding.specs.plane.Side.{TurnsLeft};
 ghost use Rattle.delaunay_core.specs.Place.{place_of};
-ghost use Rattle.delaunay_legalization.specs.Between.{IsFrom, IsInBox};
+ghost use Rattle.delaunay_legalization.specs.Between.{IsFrom};
 
 use delaunay_core::math::PlaneTests;
 use delaunay_core::point::{Point2, SpadeNum};
@@ -22,14 +22,6 @@ fn is_from<S: SpadeNum>(from: S, to: S, value: S) -> bool
 {
     let (from, to, value) = (from.to_i64(), to.to_i64(), value.to_i64());
     (from <= value && value <= to) || (to <= value && value <= from)
-}
-
-// Whether a point is in the rectangle whose opposite corners are `from` and `to`.
-fn is_in_box<S: SpadeNum>(from: Point2<S>, to: Point2<S>, point: Point2<S>) -> bool
-    ensures { IsTrue result ↔
-        IsInBox (place_of S.whole from) (place_of S.whole to) (place_of S.whole point) }
-{
-    is_from(from.x, to.x, point.x) && is_from(from.y, to.y, point.y)
 }
 
 /// Whether a point is strictly within the segment of two others, which differ from it and from each
@@ -50,7 +42,10 @@ pub fn is_strictly_within<S: SpadeNum, P: PlaneTests<S>>(
         WithinSegment (fraction (place_of S.whole from)) (fraction (place_of S.whole to))
         (fraction (place_of S.whole point)) }
 {
-    tests.side(from, to, point).is_on_line() && is_in_box(from, to, point)
+    if !tests.side(from, to, point).is_on_line() {
+        return false;
+    }
+    is_from(from.x, to.x, point.x) && is_from(from.y, to.y, point.y)
 }
 
 /// Whether three points turn left.
