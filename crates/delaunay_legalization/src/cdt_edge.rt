@@ -91,7 +91,7 @@ impl<UE> ConstraintMarker<CdtEdge<UE>> for EdgeConstraints {
     ghost can_mark_where_marked = { λ d is. refl };
 
     fn is_constraint_edge(value: &CdtEdge<UE>) -> bool {
-        value.is_constraint_edge()
+        value.is_constraint_edge
     }
 
     fn make_constraint(value: &mut CdtEdge<UE>) {
