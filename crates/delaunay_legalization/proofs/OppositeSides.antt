@@ -1,5 +1,5 @@
--- The edges opposite one vertex, where only they may fail; and links that are read.
--- Notions: HasOpposite; opposite_begins, link_read.
+-- The edges opposite one vertex, where only they may fail.
+-- Notions: HasOpposite; opposite_begins.
 use Rattle.std.proofs.Common.{◌<◌, ◌≡◌, length, ℕ, ◌/◌, List, ◌∙◌, subst}
 use Rattle.std.specs.Prelude.{Contains}
 use Rattle.mesh_embedding.specs.half_edge_mesh.Mesh.{Mesh, AreSoundLinks, origin, next, prev, rev}
@@ -40,10 +40,3 @@ pub opposite_begins : (points : List Point) (constraints : List (ℕ × ℕ)) (m
 opposite_begins points constraints m s v ks shape empty has =
     opposite_left points (faces_of m) (outer_of m) constraints (pairs_at m ks) v shape empty
     (opposite_joined m s v ks has)
-
--- ---- links
--- what a link of an edge gives, where the mesh and the edge are known by other names
-pub link_read : (link : Mesh → ℕ → ℕ) (m seen : Mesh) (index handle edge h : ℕ) → index ≡ handle
-    → handle ≡ link seen edge → seen ≡ m → edge ≡ h → index ≡ link m h
-link_read link m seen index handle edge h is read same from =
-    is ∙ read ∙ (λ i. link (same i) (from i))

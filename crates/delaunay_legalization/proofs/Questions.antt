@@ -1,14 +1,12 @@
 -- What answers to a few tests say of points.
--- Lemmas: within_if, if_within, both_ways, covered_at, covered_in.
-use Rattle.std.proofs.Common.{◌≡◌, ◌≢◌, ℕ, ◌<◌, Bool, true, false, List, length, sym, subst}
-use Rattle.std.specs.Prelude.{All, Contains, pos}
-use Rattle.std.proofs.lemmas.List.Elements.{All-get_or}
+-- Lemmas: within_if, if_within, both_ways, covered_in.
+use Rattle.std.proofs.Common.{◌≡◌, ◌≢◌, Bool, true, false, List, subst}
+use Rattle.std.specs.Prelude.{All, Contains}
 use Rattle.mesh_embedding.specs.plane.Fraction.{Point, whole, WithinSegment}
 use Rattle.mesh_embedding.specs.plane.Side.{side, on}
 use Rattle.mesh_embedding.proofs.plane.Sides.{on_if, if_on}
 use Rattle.mesh_embedding.proofs.plane_tiling.Edges.{within_on}
 use Rattle.delaunay_legalization.specs.Between.{IsInBox}
-use Rattle.delaunay_legalization.specs.Known.{point_at}
 use Rattle.delaunay_legalization.proofs.Between.{within_of_box, box_of_within}
 
 -- a point on the line through two others, in their box and at neither, is strictly between them, by
@@ -27,14 +25,6 @@ if_within u v p w =
 -- no truth value is both true and false
 pub both_ways : (b : Bool) → b ≡ true → b ≡ false → ⊥
 both_ways b t f = cc
-
--- a vertex of covered sites is covered
-pub covered_at : (IsCovered IsSite : Point → Type 0) → ((p : Point) → IsSite p → IsCovered p)
-    → (points : List Point) (i : ℕ) (q : Point) → All IsSite points → i < length points
-    → q ≡ point_at points i → IsCovered q
-covered_at IsCovered IsSite covers points i q sites h e =
-    subst IsCovered (sym e) (covers (point_at points i)
-    (All-get_or IsSite points i (record { x = pos 0; y = pos 0 }) h sites))
 
 -- a listed site is covered
 pub covered_in : (IsCovered IsSite : Point → Type 0) → ((p : Point) → IsSite p → IsCovered p)
