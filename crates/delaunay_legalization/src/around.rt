@@ -10,11 +10,11 @@ ghost use Rattle.delaunay_legalization.specs.Legalized.{Legalizes};
 ghost use Rattle.delaunay_legalization.specs.Placed.{IsPlaced};
 
 use crate::constraint_marker::ConstraintMarker;
-use crate::legalization::{ccw_edge, edge_after, flip, is_constraint_edge};
+use crate::legalization::{ccw_edge, flip, is_constraint_edge};
 use crate::placed::Placed;
 use delaunay_core::math::PlaneTests;
 use delaunay_core::point::{HasPosition, Point2};
-use mesh_embedding::half_edge_mesh::{Dcel, FixedDirectedEdgeHandle};
+use mesh_embedding::half_edge_mesh::{Dcel, FixedDirectedEdgeHandle, MeshViews};
 
 // What a test of the edge opposite a vertex reads, in the face on the left of one of the vertex's
 // edges: whether a face beside the edge is the outer one, the positions of the edge's ends, and
@@ -35,7 +35,7 @@ impl<'a, V: HasPosition, DE, UE, F, P: PlaneTests<V::Scalar>> Placed<'a, V, DE, 
         ensures { IsOpposite V.Scalar.whole (P.sites self.now.tests)
             (map V.place self.now.dcel.vertices) self.now.dcel.mesh spoke result }
     {
-        let edge = edge_after(self.dcel, spoke);
+        let edge = self.dcel.directed_edge(spoke).next().fix();
         let twin = edge.rev();
         Opposite {
             is_outer: self.is_outer_beside(spoke, edge),
@@ -77,7 +77,7 @@ fn turn_opposite<M: ConstraintMarker<UE>, V: HasPosition, DE, UE, F, P: PlaneTes
     if !tests.is_in_circle(opposite.from, opposite.to, centre, opposite.beyond) {
         return false;
     }
-    let edge = edge_after(dcel, spoke).as_undirected();
+    let edge = dcel.directed_edge(spoke).next().fix().as_undirected();
     if is_constraint_edge::<M, _, _, _, _>(dcel, edge) {
         return false;
     }

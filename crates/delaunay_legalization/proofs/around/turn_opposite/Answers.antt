@@ -1,4 +1,4 @@
-use Rattle.std.proofs.Common.{refl}
+use Rattle.std.proofs.Common.{◌≡◌, refl, rules}
 use Rattle.mesh_embedding.specs.half_edge_mesh.Mesh.{next}
 use Rattle.mesh_embedding.proofs.MeshLegal.{joins_directed}
 use Rattle.delaunay_legalization.proofs.Legalizing.{fixed_stay}
@@ -22,16 +22,19 @@ returns-then-not-is_in_circle-clause-stays g c _ =
     stays_as_is (λ _ x. both_ways _ (tells.1 x) c.if-not-is_in_circle.true)
 
 pub returns-then-is_constraint_edge-clause-stays : goal.returns-then-is_constraint_edge-clause-stays
-returns-then-is_constraint_edge-clause-stays g c _ = stays_as_is (λ free. absurd (free
+returns-then-is_constraint_edge-clause-stays g c _ =
+    let at_next : c.fix.result ≡ next c.args.dcel.now.mesh c.args.spoke = search rules in
+    stays_as_is (λ free. absurd (free
     (joins_directed c.args.dcel.now.mesh _ (next c.args.dcel.now.mesh c.args.spoke)
-    (rw (← c.edge_after.ensures.value, ← c.as_undirected-edge.ensures)
+    (rw (← at_next, ← c.as_undirected-edge.ensures)
     (c.is_constraint_edge.ensures.0 c.if-is_constraint_edge.true)))))
 
 pub flip-requires : goal.flip-requires
 flip-requires g c =
+    let at_next : c.fix.result ≡ next c.args.dcel.now.mesh c.args.spoke = search rules in
     let fails = (read_tells c.requires.turn c.requires.opposite c.requires.centre
     c.if-opposite.false c.is_in_circle.ensures).0 c.if-not-is_in_circle.false in
-    let may = flips_either c.requires.turn fails c.edge_after.ensures.value
+    let may = flips_either c.requires.turn fails at_next
     c.as_undirected-edge.ensures in
     record {
       kept = c.requires.turn.placed.kept;
@@ -42,9 +45,10 @@ flip-requires g c =
 
 pub returns : goal.returns
 returns g c =
+    let at_next : c.fix.result ≡ next c.args.dcel.now.mesh c.args.spoke = search rules in
     let fails = (read_tells c.requires.turn c.requires.opposite c.requires.centre
     c.if-opposite.false c.is_in_circle.ensures).0 c.if-not-is_in_circle.false in
-    let may = flips_either c.requires.turn fails c.edge_after.ensures.value
+    let may = flips_either c.requires.turn fails at_next
     c.as_undirected-edge.ensures in
     record {
       placed = record {
@@ -60,7 +64,7 @@ returns g c =
         turned = rw (
           c.flip.ensures.contents,
           c.as_undirected-edge.ensures,
-          c.edge_after.ensures.value,
+          at_next,
         ) refl;
         counted = c.flip.ensures.flips;
       };
