@@ -1,15 +1,15 @@
 -- The edges of a vertex are put into a work list, one after another, each with the one after it in
 -- its loop.
--- Notions: IsPushing; no_edges, pushing_begins, can_push, pushing_goes_on, pushing_ends.
-use Rattle.std.proofs.Common.{◌≡◌, ℕ, List, [], ◌∷◌, length, ◌≤◌, sym, ◌∙◌, subst}
+-- Notions: IsPushing; no_edges, pushing_begins, next_in_mesh, pushing_goes_on, pushing_ends.
+use Rattle.std.proofs.Common.{◌≡◌, ℕ, List, [], ◌∷◌, length, ◌<◌, ◌/◌, sym, ◌∙◌, subst}
+use Rattle.std.specs.Prelude.{Contains}
 use Rattle.std.specs.Borrow.{Bor}
-use Rattle.mesh_embedding.specs.half_edge_mesh.Mesh.{Mesh, IsValidMesh}
+use Rattle.mesh_embedding.specs.half_edge_mesh.Mesh.{Mesh, IsValidMesh, next}
 use Rattle.mesh_embedding.specs.half_edge_mesh.Contents.{Contents, IsMeshWithData}
 use Rattle.mesh_embedding.specs.half_edge_mesh.Rounds.{GivesRound}
 use Rattle.mesh_embedding.proofs.plane_tiling.Totals.{Contains-none}
 use Rattle.mesh_embedding.proofs.plane_edits.LocalMesh.Changes.{once_none}
-use Rattle.mesh_embedding.specs.Legal.{AreEdges}
-use Rattle.delaunay_legalization.specs.Pushing.{CanGain, KeepsEntries}
+use Rattle.mesh_embedding.specs.Legal.{AreEdges, Gains}
 use Rattle.delaunay_legalization.specs.Star.{HasSidesAt, HasStar}
 use Rattle.delaunay_legalization.proofs.Rounds.{IsGoingRound, next_within, round_begins}
 use Rattle.delaunay_legalization.proofs.Rounds.{round_goes_on, round_ends, seen_as}
@@ -43,26 +43,25 @@ module _ {V D U F : Type 0} {c : Contents V D U F} {v : ℕ}
     (p : IsPushing c v given ks room_was room) where
   module _ {x : Bor (Contents V D U F) × ℕ} {left : List (Bor (Contents V D U F) × ℕ)}
       (e : given ≡ x ∷ left) {k : ℕ} (is : k ≡ x.1) where
-    -- the list has room for the next edge
-    pub can_push : IsMeshWithData c → length c.undirected ≤ room_was → CanGain c k ks room
-    can_push whole fits = record {
-      within = rw (whole.fits.directed_fit, is)
-          (next_within c v (λ h. HasSidesAt c.mesh h ks) given p.going x left e);
-      edges = p.edges;
-      room = rw p.room_stays fits;
-    }
+    -- the next edge is in the mesh
+    pub next_in_mesh : IsMeshWithData c → k < length c.directed
+    next_in_mesh whole = rw (whole.fits.directed_fit, is)
+        (next_within c v (λ h. HasSidesAt c.mesh h ks) given p.going x left e)
 
-    -- after it, the list has the sides there too
-    pub pushing_goes_on : {more : List ℕ} {room_now : ℕ} → KeepsEntries ks more
-        → HasSidesAt c.mesh k more → AreEdges c.mesh more → room_now ≡ room
-        → IsPushing c v left more room_was room_now
-    pushing_goes_on {more = more} kept sides edges stays = record {
+    -- after it and the one after it, the list has the sides there too
+    pub pushing_goes_on : {mid more : List ℕ} {after room_mid room_now : ℕ} → Gains ks mid (k / 2)
+        → after ≡ next c.mesh k → Gains mid more (after / 2) → AreEdges c.mesh more
+        → room_mid ≡ room → room_now ≡ room_mid → IsPushing c v left more room_was room_now
+    pushing_goes_on {more = more} first at second edges stays still = record {
       going = round_goes_on c v (λ h. HasSidesAt c.mesh h more) given
           (seen_as c v (λ h. HasSidesAt c.mesh h ks) given p.going (λ h. HasSidesAt c.mesh h more)
-          (λ h. sides_kept c.mesh h ks more kept))
-          x left e (subst (λ (h : ℕ). HasSidesAt c.mesh h more) is sides);
+          (λ h. sides_kept c.mesh h ks more (λ j l. second.kept j (first.kept j l))))
+          x left e (subst (λ (h : ℕ). HasSidesAt c.mesh h more) is (record {
+            here = second.kept (k / 2) first.there;
+            after = subst (λ (z : ℕ). Contains more (z / 2)) at second.there;
+          }));
       edges = edges;
-      room_stays = stays ∙ p.room_stays;
+      room_stays = still ∙ stays ∙ p.room_stays;
     }
 
   -- when none is left to give, the list has the sides at each edge of the vertex

@@ -1,15 +1,6 @@
--- Work lists of undirected edges, and what is put into them.
-use Rattle.std.specs.Prelude.{ℕ, ◌/◌, ◌<◌, ◌≤◌, List, length, Contains}
-use Rattle.mesh_embedding.specs.half_edge_mesh.Contents.{Contents}
+-- What is put into work lists of undirected edges.
+use Rattle.std.specs.Prelude.{ℕ, ◌/◌, List, Contains}
 use Rattle.mesh_embedding.specs.half_edge_mesh.Mesh.{Mesh, next, prev, rev}
-use Rattle.mesh_embedding.specs.Legal.{AreEdges}
-
--- a list of edges of a mesh has room for each of them, and directed edge e is in the mesh
-pub record CanGain {V D U F : Type 0} (c : Contents V D U F) (e : ℕ) (ks : List ℕ)
-    (capacity : ℕ) : Type 0 where
-  pub within : e < length c.directed
-  pub edges : AreEdges c.mesh ks
-  pub room : length c.undirected ≤ capacity
 
 -- the entries of old are there
 abbrev pub KeepsEntries : List ℕ → List ℕ → Type 0

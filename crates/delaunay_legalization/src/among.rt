@@ -1,60 +1,20 @@
 //! A legalization where at most some edges fail: each other one has an empty circle on one of its
 //! sides.
 ghost use Rattle.std.specs.Prelude.{◌≡◌, ◌*◌, ◌≤◌, length, map, All, IsTrue};
-ghost use Rattle.mesh_embedding.specs.Legal.{AreEdges};
 ghost use Rattle.delaunay_legalization.specs.Among.{FailOnlyOf};
 ghost use Rattle.delaunay_legalization.specs.Flips.{FlipsFit};
 ghost use Rattle.delaunay_legalization.specs.Legalized.{Legalizes};
-ghost use Rattle.delaunay_legalization.specs.Pushing.{CanGain, GainsAmong, GainsRoundAmong};
 ghost use Rattle.delaunay_legalization.specs.Shape.{IsTriangulated};
 ghost use Rattle.delaunay_legalization.specs.Sides.{AreLeftToTest};
 ghost use Rattle.delaunay_legalization.specs.State.{state_of};
 
 use crate::constraint_marker::ConstraintMarker;
 use crate::edge_set::EdgeSet;
-use crate::legalization::{legalize_by, push_side, sides_round};
+use crate::legalization::legalize;
 use crate::sides::Sides;
 use delaunay_core::math::PlaneTests;
 use delaunay_core::point::HasPosition;
-use mesh_embedding::half_edge_mesh::{Dcel, FixedDirectedEdgeHandle};
-
-// Puts an edge into a work list where it is among these edges, unless it is there.
-fn push_among<V, DE, UE, F>(
-    dcel: &Dcel<V, DE, UE, F>,
-    edge: FixedDirectedEdgeHandle,
-    among: &EdgeSet,
-    work: &mut EdgeSet,
-)
-    requires gain { CanGain dcel.now edge work.old.items work.old.room }
-    ensures gains { GainsAmong among.now.items edge work.old.items work.new.items }
-    ensures edges { AreEdges dcel.now.mesh work.new.items }
-    ensures capacity { work.new.room ≡ work.old.room }
-{
-    if among.contains(edge.as_undirected()) {
-        push_side(dcel, edge, work);
-    }
-}
-
-// Puts those of the four edges round an edge into a work list that are among these edges, unless
-// they are there.
-pub(crate) fn push_sides_among<V, DE, UE, F>(
-    dcel: &Dcel<V, DE, UE, F>,
-    edge: FixedDirectedEdgeHandle,
-    among: &EdgeSet,
-    work: &mut EdgeSet,
-)
-    requires gain { CanGain dcel.now edge work.old.items work.old.room }
-    ensures gains { GainsRoundAmong dcel.now.mesh among.now.items edge work.old.items
-        work.new.items }
-    ensures edges { AreEdges dcel.now.mesh work.new.items }
-    ensures capacity { work.new.room ≡ work.old.room }
-{
-    let (next, prev, twin_next, twin_prev) = sides_round(dcel, edge);
-    push_among(dcel, next, among, work);
-    push_among(dcel, prev, among, work);
-    push_among(dcel, twin_next, among, work);
-    push_among(dcel, twin_prev, among, work);
-}
+use mesh_embedding::half_edge_mesh::Dcel;
 
 /// Tests the edges of a work list, where each other edge passes, and flips those that fail and are
 /// no constraints until none does; each flip adds 1 to `flips`. Where each other edge has an empty
@@ -80,9 +40,8 @@ pub fn legalize_list<M: ConstraintMarker<UE>, V: HasPosition, DE, UE, F, P: Plan
 {
     if is_free {
         among.list_again(work);
-        let sides = &Sides::Among(among);
-        legalize_by::<M, _, _, _, _, _>(dcel, sides, tests, work, flips);
+        legalize::<M, _, _, _, _, _>(dcel, &Sides::Among(among), tests, work, flips);
     } else {
-        legalize_by::<M, _, _, _, _, _>(dcel, &Sides::Round, tests, work, flips);
+        legalize::<M, _, _, _, _, _>(dcel, &Sides::Round, tests, work, flips);
     }
 }

@@ -1,10 +1,10 @@
 //! Flips of edges that fail the circle test, until each edge passes but the constraints.
 ghost use Rattle.std.specs.Prelude.{◌≡◌, ◌↔◌, ◌+◌, ◌-◌, ◌*◌, ◌/◌, ◌<◌, ◌≤◌, ◌^◌, ◌++◌, ◌∷◌, []};
 ghost use Rattle.std.specs.Prelude.{length, map, All, Contains, IsTrue};
-ghost use Rattle.mesh_embedding.specs.half_edge_mesh.Mesh.{origin, next, prev, face, rev};
+ghost use Rattle.mesh_embedding.specs.half_edge_mesh.Mesh.{origin, prev, face};
 ghost use Rattle.mesh_embedding.specs.half_edge_mesh.Flip.{flipped};
 ghost use Rattle.mesh_embedding.specs.half_edge_mesh.Peel.{turn};
-ghost use Rattle.mesh_embedding.specs.Legal.{AreEdges, Gains, GainsRound, IsFailing};
+ghost use Rattle.mesh_embedding.specs.Legal.{AreEdges, Gains, IsFailing};
 ghost use Rattle.delaunay_core.specs.Place.{place_of};
 ghost use Rattle.delaunay_legalization.specs.Constraints.{constraint_pairs, KeepsConstraints};
 ghost use Rattle.delaunay_legalization.specs.Flips.{FlipsFit};
@@ -18,7 +18,7 @@ ghost use Rattle.delaunay_legalization.specs.State.{state_of};
 use crate::constraint_marker::ConstraintMarker;
 use crate::edge_set::EdgeSet;
 use crate::placed::Placed;
-use crate::sides::{Sides, push_left};
+use crate::sides::{Sides, push_sides};
 use delaunay_core::math::PlaneTests;
 use delaunay_core::point::{HasPosition, Point2};
 use mesh_embedding::half_edge_mesh::{
@@ -51,19 +51,6 @@ pub fn start_of<V: HasPosition, DE, UE, F>(
     position_of(dcel, dcel.directed_edge(edge).from().fix())
 }
 
-/// The position where an edge ends, which is where the edge after it starts.
-pub fn end_of<V: HasPosition, DE, UE, F>(
-    dcel: &Dcel<V, DE, UE, F>,
-    edge: FixedDirectedEdgeHandle,
-) -> Point2<V::Scalar>
-    requires { edge < length dcel.now.directed }
-    ensures place { place_of V.Scalar.whole result ≡
-        point_at (map V.place dcel.now.vertices) (origin dcel.now.mesh (rev edge)) }
-    ensures listed { Contains (map V.place dcel.now.vertices) (place_of V.Scalar.whole result) }
-{
-    start_of(dcel, dcel.directed_edge(edge).next().fix())
-}
-
 /// The position where the edge before an edge starts: in an inner face the corner opposite the
 /// edge.
 pub fn start_before<V: HasPosition, DE, UE, F>(
@@ -91,53 +78,12 @@ pub fn ccw_edge<V, DE, UE, F>(
     dcel.directed_edge(edge).ccw().fix()
 }
 
-// The edge after an edge in its loop.
-#[inline(always)]
-pub(crate) fn edge_after<V, DE, UE, F>(
-    dcel: &Dcel<V, DE, UE, F>,
-    edge: FixedDirectedEdgeHandle,
-) -> FixedDirectedEdgeHandle
-    requires { edge < length dcel.now.directed }
-    ensures value { result ≡ next dcel.now.mesh edge }
-    ensures within { result < length dcel.now.directed }
-{
-    dcel.directed_edge(edge).next().fix()
-}
-
 /// Whether an edge has the outer face on its left.
 pub fn is_outer<V, DE, UE, F>(dcel: &Dcel<V, DE, UE, F>, edge: FixedDirectedEdgeHandle) -> bool
     requires { edge < length dcel.now.directed }
     ensures { IsTrue result ↔ (face dcel.now.mesh edge ≡ 0) }
 {
     dcel.directed_edge(edge).is_outer_edge()
-}
-
-// The edge after an edge in its loop, the one before it, and the same two of its other direction.
-pub(crate) fn sides_round<V, DE, UE, F>(
-    dcel: &Dcel<V, DE, UE, F>,
-    edge: FixedDirectedEdgeHandle,
-) -> (
-    FixedDirectedEdgeHandle,
-    FixedDirectedEdgeHandle,
-    FixedDirectedEdgeHandle,
-    FixedDirectedEdgeHandle,
-)
-    requires { edge < length dcel.now.directed }
-    ensures next { (result.0 ≡ next dcel.now.mesh edge) × (result.0 < length dcel.now.directed) }
-    ensures prev { (result.1 ≡ prev dcel.now.mesh edge) × (result.1 < length dcel.now.directed) }
-    ensures twin_next { (result.2 ≡ next dcel.now.mesh (rev edge)) ×
-        (result.2 < length dcel.now.directed) }
-    ensures twin_prev { (result.3 ≡ prev dcel.now.mesh (rev edge)) ×
-        (result.3 < length dcel.now.directed) }
-{
-    let edge = dcel.directed_edge(edge);
-    let twin = edge.rev();
-    (
-        edge.next().fix(),
-        edge.prev().fix(),
-        twin.next().fix(),
-        twin.prev().fix(),
-    )
 }
 
 /// Whether an edge is a constraint, by its data.
@@ -187,27 +133,6 @@ pub fn push_side<V, DE, UE, F>(
     work.put(edge.as_undirected());
 }
 
-/// Puts the four edges round an edge into a work list, unless they are there. The list has room for
-/// each edge of the mesh.
-pub fn push_sides<V, DE, UE, F>(
-    dcel: &Dcel<V, DE, UE, F>,
-    edge: FixedDirectedEdgeHandle,
-    work: &mut EdgeSet,
-)
-    requires within { edge < length dcel.now.directed }
-    requires edges { AreEdges dcel.now.mesh work.old.items }
-    requires room { length dcel.now.undirected ≤ work.old.room }
-    ensures gains { GainsRound dcel.now.mesh edge work.old.items work.new.items }
-    ensures edges { AreEdges dcel.now.mesh work.new.items }
-    ensures capacity { work.new.room ≡ work.old.room }
-{
-    let (next, prev, twin_next, twin_prev) = sides_round(dcel, edge);
-    push_side(dcel, next, work);
-    push_side(dcel, prev, work);
-    push_side(dcel, twin_next, work);
-    push_side(dcel, twin_prev, work);
-}
-
 // Tests an edge that was taken from the work list. One that is no constraint and fails is turned,
 // and leaves these of the edges round it to test.
 fn legalize_edge<M: ConstraintMarker<UE>, V: HasPosition, DE, UE, F, P: PlaneTests<V::Scalar>>(
@@ -236,40 +161,18 @@ fn legalize_edge<M: ConstraintMarker<UE>, V: HasPosition, DE, UE, F, P: PlaneTes
     let placed = Placed { dcel, tests };
     let directed = edge.as_directed();
     if placed.is_failing(directed) {
-        push_left(dcel, directed, sides, work);
+        push_sides(dcel, directed, sides, work);
         flip(dcel, edge, flips);
     }
 }
 
-// Tests the edges of a work list, and flips those that fail and are no constraints until none does.
-// Each turned edge leaves these of the edges round it to test.
-pub(crate) fn legalize_by<
-    M: ConstraintMarker<UE>,
-    V: HasPosition,
-    DE,
-    UE,
-    F,
-    P: PlaneTests<V::Scalar>,
->(dcel: &mut Dcel<V, DE, UE, F>, sides: &Sides, tests: &P, work: &mut EdgeSet, flips: &mut u64)
-    requires placed { IsPlaced V.place P.sites dcel.old tests.now }
-    requires left { AreLeftToTest V.place M.constraints dcel.old work.old.items }
-    requires suffice { Suffice sides.now (map V.place dcel.old.vertices) dcel.old.mesh }
-    requires fits { FlipsFit (length dcel.old.vertices) flips.old }
-    requires room { length dcel.old.undirected ≤ work.old.room }
-    ensures legalizes { Legalizes V.place M.constraints dcel.old dcel.new flips.old flips.new }
-    ensures done { work.new.items ≡ [] }
-    ensures capacity { work.new.room ≡ work.old.room }
-{
-    while let Some(edge) = work.pop() {
-        legalize_edge::<M, _, _, _, _, _>(dcel, edge, sides, tests, work, flips);
-    }
-}
-
 /// Flips edges until each passes the circle test, but for the outer ones and the constraints, where
-/// before perhaps only those of the work list fail; each flip adds 1 to `flips`. The work list has
-/// room for each edge of the mesh. A constraint keeps its ends and its index.
+/// before perhaps only those of the work list fail; each flip adds 1 to `flips`. Each turned edge
+/// leaves these of the edges round it to test. The work list has room for each edge of the mesh. A
+/// constraint keeps its ends and its index.
 pub fn legalize<M: ConstraintMarker<UE>, V: HasPosition, DE, UE, F, P: PlaneTests<V::Scalar>>(
     dcel: &mut Dcel<V, DE, UE, F>,
+    sides: &Sides,
     tests: &P,
     work: &mut EdgeSet,
     flips: &mut u64,
@@ -277,11 +180,13 @@ pub fn legalize<M: ConstraintMarker<UE>, V: HasPosition, DE, UE, F, P: PlaneTest
     requires sites { All (P.sites tests.now) (map V.place dcel.old.vertices) }
     requires kept { IsTriangulated V.place (state_of dcel.old) }
     requires left { AreLeftToTest V.place M.constraints dcel.old work.old.items }
+    requires suffice { Suffice sides.now (map V.place dcel.old.vertices) dcel.old.mesh }
     requires room { length dcel.old.undirected ≤ work.old.room }
     requires fits { FlipsFit (length dcel.old.vertices) flips.old }
     ensures legalizes { Legalizes V.place M.constraints dcel.old dcel.new flips.old flips.new }
-    ensures done { work.new.items ≡ [] }
-    ensures capacity { work.new.room ≡ work.old.room }
+    ensures work { work.new ≡ record work.old { items = [] } }
 {
-    legalize_by::<M, _, _, _, _, _>(dcel, &Sides::Round, tests, work, flips);
+    while let Some(edge) = work.pop() {
+        legalize_edge::<M, _, _, _, _, _>(dcel, edge, sides, tests, work, flips);
+    }
 }

@@ -16,7 +16,6 @@ mod placed;
 mod predicates;
 mod sides;
 mod star;
-mod work_list;
 
 pub use cdt_edge::{CdtEdge, EdgeConstraints, free_edge_data};
 pub use constraint_marker::{ConstraintMarker, NoConstraints};
@@ -25,11 +24,11 @@ pub use constraint_marker::{ConstraintMarker, NoConstraints};
 pub use among::legalize_list;
 pub use edge_set::EdgeSet;
 pub use legalization::{
-    ccw_edge, end_of, is_constraint_edge, is_outer, legalize, position_of, push_side, push_sides,
-    start_before, start_of,
+    ccw_edge, is_constraint_edge, is_outer, legalize, position_of, push_side, start_before,
+    start_of,
 };
 pub use marking::{free_edge, make_constraint};
 pub use placed::Placed;
 pub use predicates::{is_same_point, is_strictly_inside, is_strictly_within, turns_left};
+pub use sides::{Sides, push_sides};
 pub use star::legalize_vertex;
-pub use work_list::reserve_for_edges;

@@ -7,35 +7,18 @@ ghost use Rattle.delaunay_legalization.specs.Constraints.{constraints_by};
 ghost use Rattle.mesh_embedding.specs.plane_edits.EmptyRound.{IsEmptyRound};
 ghost use Rattle.delaunay_legalization.specs.Flips.{FlipsFit};
 ghost use Rattle.delaunay_legalization.specs.Legalized.{Legalizes};
-ghost use Rattle.delaunay_legalization.specs.Pushing.{CanGain, KeepsEntries};
 ghost use Rattle.delaunay_legalization.specs.Shape.{IsTriangulated};
-ghost use Rattle.delaunay_legalization.specs.Star.{AllPassBeside, HasSidesAt, HasStar};
+ghost use Rattle.delaunay_legalization.specs.Star.{AllPassBeside, HasStar};
 ghost use Rattle.delaunay_legalization.specs.State.{state_of};
 
 use crate::around::legalize_round;
 use crate::constraint_marker::ConstraintMarker;
 use crate::edge_set::EdgeSet;
-use crate::legalization::{legalize_by, push_side};
+use crate::legalization::{legalize, push_side};
 use crate::sides::Sides;
 use delaunay_core::math::PlaneTests;
 use delaunay_core::point::HasPosition;
-use mesh_embedding::half_edge_mesh::{Dcel, FixedDirectedEdgeHandle, FixedVertexHandle, MeshViews};
-
-// Puts an edge into a work list, and the one after it in its loop, unless they are there.
-fn push_with_next<V, DE, UE, F>(
-    dcel: &Dcel<V, DE, UE, F>,
-    edge: FixedDirectedEdgeHandle,
-    work: &mut EdgeSet,
-)
-    requires gain { CanGain dcel.now edge work.old.items work.old.room }
-    ensures kept { KeepsEntries work.old.items work.new.items }
-    ensures sides { HasSidesAt dcel.now.mesh edge work.new.items }
-    ensures edges { AreEdges dcel.now.mesh work.new.items }
-    ensures capacity { work.new.room ≡ work.old.room }
-{
-    push_side(dcel, edge, work);
-    push_side(dcel, dcel.directed_edge(edge).next().fix(), work);
-}
+use mesh_embedding::half_edge_mesh::{Dcel, FixedVertexHandle, MeshViews};
 
 // Puts the edges of a vertex into a work list, and those of the faces there that lie opposite it,
 // in place of what was in the list.
@@ -49,7 +32,9 @@ fn push_star<V, DE, UE, F>(dcel: &Dcel<V, DE, UE, F>, vertex: FixedVertexHandle,
     work.clear();
     dcel.recall_invariant();
     for edge in dcel.vertex(vertex).out_edges() {
-        push_with_next(dcel, edge.fix(), work);
+        let edge = edge.fix();
+        push_side(dcel, edge, work);
+        push_side(dcel, dcel.directed_edge(edge).next().fix(), work);
     }
 }
 
@@ -86,7 +71,7 @@ pub fn legalize_vertex<
 {
     if !is_free {
         push_star(dcel, vertex, work);
-        legalize_by::<M, _, _, _, _, _>(dcel, &Sides::Round, tests, work, flips);
+        legalize::<M, _, _, _, _, _>(dcel, &Sides::Round, tests, work, flips);
         return;
     }
     let Some(first) = dcel.vertex(vertex).out_edge() else {

@@ -10,6 +10,6 @@ list_again-requires g c k l =
     let room = c.requires.room_among in
     omega (arith, within, fit, few, room)
 
-pub legalize_by-requires-clause-suffice : goal.legalize_by-requires-clause-suffice
-legalize_by-requires-clause-suffice g c =
+pub legalize-requires-clause-suffice : goal.legalize-requires-clause-suffice
+legalize-requires-clause-suffice g c =
     only_among _ c.args.dcel.now.mesh _ _ c.list_again.ensures (c.requires.only c.if-is_free.true)

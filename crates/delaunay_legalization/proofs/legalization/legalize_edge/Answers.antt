@@ -19,14 +19,12 @@ pub is_failing-requires : goal.is_failing-requires
 is_failing-requires g c =
     rw c.as_directed-directed.ensures (last_within c.requires.placed.kept c.requires.step)
 
-pub push_left-requires : goal.push_left-requires
-push_left-requires g c = record {
-  gain = record {
-    within = rw c.as_directed-directed.ensures
-        (last_within c.requires.placed.kept c.requires.step);
-    edges = edges_before c.requires.placed.kept c.requires.step;
-    room = c.requires.room;
-  };
+pub push_sides-requires : goal.push_sides-requires
+push_sides-requires g c = record {
+  within = rw c.as_directed-directed.ensures
+      (last_within c.requires.placed.kept c.requires.step);
+  edges = edges_before c.requires.placed.kept c.requires.step;
+  room = c.requires.room;
 }
 
 pub flip-requires : goal.flip-requires
@@ -55,9 +53,9 @@ returns-then-is_failing g c =
           (last_within kept c.requires.step) fails
           (λ h. both_ways _ (c.is_constraint_edge.ensures.1 h) c.if-is_constraint_edge.false));
       step = rw (c.flip.ensures.contents, c.flip.ensures.flips) (step_turns kept c.requires.step
-          fails (rw c.as_directed-directed.ensures at c.push_left.ensures.gains)
-          c.push_left.ensures.edges);
-      capacity = c.push_left.ensures.capacity;
+          fails (rw c.as_directed-directed.ensures at c.push_sides.ensures.gains)
+          c.push_sides.ensures.edges);
+      capacity = c.push_sides.ensures.capacity;
     }
 
 pub returns-else-is_failing-clause-step : goal.returns-else-is_failing-clause-step

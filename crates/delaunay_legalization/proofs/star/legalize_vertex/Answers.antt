@@ -4,8 +4,8 @@ use Rattle.delaunay_legalization.proofs.RoundSteps.{none_to_turn}
 use Rattle.delaunay_legalization.proofs.Stars.{star_is_left}
 use Rattle.delaunay_legalization.proofs.star.legalize_vertex.Goals as goal
 
-pub legalize_by-requires-clause-left : goal.legalize_by-requires-clause-left
-legalize_by-requires-clause-left g c = record {
+pub legalize-requires-clause-left : goal.legalize-requires-clause-left
+legalize-requires-clause-left g c = record {
   edges = c.push_star.ensures.edges;
   passing = star_is_left _ c.requires.kept.valid.sound c.args.vertex c.push_star.new.work.items
       c.push_star.ensures.star _ _ c.requires.passing;

@@ -1,6 +1,7 @@
-use Rattle.std.proofs.Common.{ap}
-use Rattle.delaunay_legalization.proofs.Pushing.{can_push, pushing_begins, pushing_goes_on}
-use Rattle.delaunay_legalization.proofs.Pushing.{pushing_ends}
+use Rattle.std.proofs.Common.{◌≡◌, ap, rules}
+use Rattle.mesh_embedding.specs.half_edge_mesh.Mesh.{next}
+use Rattle.delaunay_legalization.proofs.Pushing.{next_in_mesh, pushing_begins, pushing_ends}
+use Rattle.delaunay_legalization.proofs.Pushing.{pushing_goes_on}
 use Rattle.delaunay_legalization.proofs.star.push_star.Goals as goal
 
 pub loop-edge-init : goal.loop-edge-init
@@ -10,17 +11,25 @@ loop-edge-init g c =
     (rw c.vertex.ensures.index at c.out_edges-edge-items.ensures))
     c.clear.ensures.items c.clear.ensures.room
 
-pub push_with_next-requires : goal.push_with_next-requires
-push_with_next-requires g c = record {
-  gain = can_push c.loop-edge.invariant c.in-Some.ensures.steps c.fix.ensures.value
-      c.recall_invariant.ensures.whole c.requires.room;
-}
+pub push_side-requires-clause-within : goal.push_side-requires-clause-within
+push_side-requires-clause-within g c =
+    next_in_mesh c.loop-edge.invariant c.in-Some.ensures.steps c.fix-edge.ensures.value
+    c.recall_invariant.ensures.whole
+
+pub directed_edge-requires : goal.directed_edge-requires
+directed_edge-requires g c =
+    next_in_mesh c.loop-edge.invariant c.in-Some.ensures.steps c.fix-edge.ensures.value
+    c.recall_invariant.ensures.whole
+
+pub push_side-requires-clause-room : goal.push_side-requires-clause-room
+push_side-requires-clause-room g c = rw c.loop-edge.invariant.room_stays c.requires.room
 
 pub loop-edge-preserved : goal.loop-edge-preserved
 loop-edge-preserved g c =
-    let did = c.push_with_next.ensures in
-    pushing_goes_on c.loop-edge.invariant c.in-Some.ensures.steps c.fix.ensures.value did.kept
-    did.sides did.edges did.capacity
+    let did = c.push_side-in-loop-edge.ensures in
+    let after : c.fix.result ≡ next c.args.dcel.now.mesh c.fix-edge.result = search rules in
+    pushing_goes_on c.loop-edge.invariant c.in-Some.ensures.steps c.fix-edge.ensures.value
+    c.push_side.ensures.gains after did.gains did.edges c.push_side.ensures.capacity did.capacity
 
 pub returns-clause-star : goal.returns-clause-star
 returns-clause-star g c = pushing_ends c.loop-edge.invariant c.in-None.ensures.steps.0

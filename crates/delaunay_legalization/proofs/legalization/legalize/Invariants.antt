@@ -2,7 +2,7 @@ use Rattle.std.proofs.Common.{map}
 use Rattle.mesh_embedding.specs.Legal.{steps_left}
 use Rattle.delaunay_legalization.specs.Placed.{IsPlaced}
 use Rattle.delaunay_legalization.proofs.Stepping.{IsUnderwayBy}
-use Rattle.delaunay_legalization.proofs.legalization.legalize_by.Given as goal
+use Rattle.delaunay_legalization.proofs.legalization.legalize.Given as goal
 
 abbrev pub invariant-loop-edge : goal.invariant-loop-edge
 invariant-loop-edge g l = record {

@@ -1,6 +1,6 @@
 use Rattle.delaunay_legalization.proofs.AmongSides.{gains_among, gains_none_among}
 use Rattle.delaunay_legalization.proofs.Questions.{both_ways}
-use Rattle.delaunay_legalization.proofs.among.push_among.Goals as goal
+use Rattle.delaunay_legalization.proofs.sides.push_among.Goals as goal
 
 pub returns-then-contains-clause-gains : goal.returns-then-contains-clause-gains
 returns-then-contains-clause-gains g c = gains_among c.push_side.ensures.gains

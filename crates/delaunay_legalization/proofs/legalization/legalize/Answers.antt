@@ -1,11 +1,11 @@
 use Rattle.std.proofs.Common.{◌∙◌}
 use Rattle.delaunay_legalization.proofs.Stepping.{steps_begin, can_step, steps_go_on, steps_end}
-use Rattle.delaunay_legalization.proofs.legalization.legalize_by.Goals as goal
+use Rattle.delaunay_legalization.proofs.legalization.legalize.Goals as goal
 
 pub loop-edge-init : goal.loop-edge-init
 loop-edge-init g c = record {
-  underway = steps_begin c.requires.placed.kept.shape c.requires.left c.requires.suffice;
-  placed = c.requires.placed;
+  underway = steps_begin c.requires.kept.shape c.requires.left c.requires.suffice;
+  placed = record { kept = c.requires.kept; sites = c.requires.sites };
 }
 
 pub legalize_edge-requires-clause-step : goal.legalize_edge-requires-clause-step
