@@ -19,9 +19,7 @@ use crate::insertion_cases::insert_at;
 use delaunay_insertion::{FreeByDefault, reserve_for_vertex};
 use delaunay_paths::delaunay_core::math::{InsertionError, PlaneTests, validate_vertex};
 use delaunay_paths::delaunay_core::point::HasPosition;
-use delaunay_paths::delaunay_legalization::{
-    EdgeSet, legalize_vertex, reserve_for_edges, start_of, turns_left,
-};
+use delaunay_paths::delaunay_legalization::{EdgeSet, legalize_vertex, start_of, turns_left};
 use delaunay_paths::delaunay_location::{PositionInTriangulation, locate_with_hint};
 use delaunay_paths::half_edge_mesh::{Dcel, FixedVertexHandle, MAX_ELEMENTS};
 
@@ -47,7 +45,10 @@ pub(crate) fn reserve_to_test(
     if free {
         return Ok(());
     }
-    reserve_for_edges(work, edges)
+    match work.reserve(edges) {
+        Ok(()) => Ok(()),
+        Err(_) => Err(InsertionError::OutOfMemory),
+    }
 }
 
 // Whether a vertex is strictly on the left of the edge that its location names.

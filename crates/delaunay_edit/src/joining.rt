@@ -9,7 +9,7 @@ ghost use Rattle.delaunay_edit.specs.Halves.{CanSettle, HasRoomToSettle, Settles
 
 use delaunay_paths::delaunay_core::math::PlaneTests;
 use delaunay_paths::delaunay_core::point::HasPosition;
-use delaunay_paths::delaunay_legalization::{ConstraintMarker, EdgeSet, legalize};
+use delaunay_paths::delaunay_legalization::{ConstraintMarker, EdgeSet, Sides, legalize};
 use delaunay_paths::half_edge_mesh::{Dcel, FixedVertexHandle};
 use delaunay_paths::{CrossingLists, add_path};
 use delaunay_removal::{RemovalLists, VertexPair, index_left, legalize_pairs, list_pairs};
@@ -58,7 +58,7 @@ fn join_halves<M: ConstraintMarker<UE>, V: HasPosition, DE, UE, F, P: PlaneTests
     let from = index_left(dcel, ends.0, vertex);
     let to = index_left(dcel, ends.1, vertex);
     add_path::<M, _, _, _, _, _>(dcel, from, to, tests, crossing, work);
-    legalize::<M, _, _, _, _, _>(dcel, tests, work, flips);
+    legalize::<M, _, _, _, _, _>(dcel, &Sides::Round, tests, work, flips);
 }
 
 /// Joins the far ends of straight halves, whose middle `vertex` went, if there are such, and flips

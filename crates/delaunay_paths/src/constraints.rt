@@ -12,7 +12,9 @@ use crate::adding::{add_path, mark};
 use crate::crossing::CrossingLists;
 use delaunay_lines::delaunay_core::math::PlaneTests;
 use delaunay_lines::delaunay_core::point::HasPosition;
-use delaunay_lines::delaunay_legalization::{ConstraintMarker, EdgeSet, free_edge, legalize};
+use delaunay_lines::delaunay_legalization::{
+    ConstraintMarker, EdgeSet, Sides, free_edge, legalize,
+};
 use delaunay_lines::half_edge_mesh::{
     Dcel, FixedDirectedEdgeHandle, FixedUndirectedEdgeHandle, FixedVertexHandle,
 };
@@ -50,7 +52,7 @@ pub fn add_constraints<
 {
     work.clear();
     add_path::<M, _, _, _, _, _>(dcel, from, to, tests, lists, work);
-    legalize::<M, _, _, _, _, _>(dcel, tests, work, flips);
+    legalize::<M, _, _, _, _, _>(dcel, &Sides::Round, tests, work, flips);
 }
 
 /// Makes an edge a constraint, unless it is one. No edge is turned for it.
@@ -98,5 +100,5 @@ pub fn release_constraint<
     free_edge::<M, _, _, _, _>(dcel, edge);
     work.clear();
     work.put(edge);
-    legalize::<M, _, _, _, _, _>(dcel, tests, work, flips);
+    legalize::<M, _, _, _, _, _>(dcel, &Sides::Round, tests, work, flips);
 }

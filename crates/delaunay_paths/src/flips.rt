@@ -11,7 +11,7 @@ use crate::crossing::CrossingLists;
 use crate::nearer::turning_at;
 use delaunay_lines::delaunay_core::math::PlaneTests;
 use delaunay_lines::delaunay_core::point::HasPosition;
-use delaunay_lines::delaunay_legalization::{EdgeSet, push_side, push_sides};
+use delaunay_lines::delaunay_legalization::{EdgeSet, Sides, push_side, push_sides};
 use delaunay_lines::half_edge_mesh::{Dcel, FixedDirectedEdgeHandle, FixedVertexHandle};
 
 // Takes out the next edge that can be turned, of those still to be seen; the others before it wait.
@@ -86,7 +86,7 @@ fn turn<V: HasPosition, DE, UE, F, P: PlaneTests<V::Scalar>>(
         None => {
             let round = whole.as_directed();
             push_side(dcel, round, work);
-            push_sides(dcel, round, work);
+            push_sides(dcel, round, &Sides::Round, work);
             dcel.flip_cw(whole);
             lists.step_back();
         }

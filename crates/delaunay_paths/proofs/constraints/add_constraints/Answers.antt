@@ -18,6 +18,7 @@ legalize-requires g c =
       sites = added_sites adds (g.P.PlaneTests.sites c.args.tests.now) c.requires.sites;
       kept = adds.kept;
       left = added_left adds c.add_path.ensures.leaves c.requires.legal;
+      suffice = tt;
       room = rw (c.add_path.ensures.capacity ∙ c.clear.ensures.room)
           (added_room adds c.requires.room.0);
       fits = added_fits adds _ c.requires.fits;
