@@ -1,5 +1,5 @@
 -- What answers to a few side tests say of the edges and faces of a mesh.
--- Lemmas: within_edge, left_of_edge, located_left, clear, inside_face, turns_as_face, both_iff,
+-- Lemmas: within_edge, left_of_edge, located_left, clear, inside_face, turns_as_face,
 -- next_face.
 use Rattle.std.proofs.Common.{◌≡◌, ◌↔◌, ℕ, ◌+◌, ◌<◌, ◌≤◌, arith, List, sym, subst, inl, inr}
 use Rattle.std.proofs.lemmas.Bool.{cases_eq}
@@ -54,10 +54,6 @@ module _ (points : List Point) (m : Mesh) (p a b c : Point) (f : ℕ) where
       → b ≡ point_at points (origin m (next m h)) → c ≡ point_at points (origin m (prev m h))
       → TurnsLeft (whole a) (whole b) (whole c)
   turns_as_face s first second third = rw (first, second, third) s.turning
-
--- equivalences one after the other make one
-pub both_iff : {A B C : Type 0} → A ↔ B → B ↔ C → A ↔ C
-both_iff f g = ((λ a. g.0 (f.0 a)), (λ c. f.1 (g.1 c)))
 
 -- what holds of each face up to i, and of the next one
 pub next_face : (P : ℕ → Type 0) (i : ℕ) → ((f : ℕ) → 0 < f → f ≤ i → P f) → P (i + 1) → (f : ℕ)

@@ -8,7 +8,6 @@ pub use delaunay_legalization::{delaunay_core, half_edge_mesh};
 mod line;
 mod location;
 mod nearest_walk;
-mod parts;
 mod position_in_triangulation;
 mod samples;
 mod search;

@@ -1,6 +1,6 @@
 //! Where a position is, by a look at all vertices, edges and faces.
-ghost use Rattle.std.specs.Prelude.{◌≡◌, ◌↔◌, ℕ, ◌<◌, ◌≤◌};
-ghost use Rattle.std.specs.Prelude.{length, map, IsTrue, MatchOption};
+ghost use Rattle.std.specs.Prelude.{◌≡◌, ℕ, ◌<◌, ◌≤◌};
+ghost use Rattle.std.specs.Prelude.{length, map, MatchOption};
 ghost use Rattle.delaunay_legalization.specs.plane.Tests.{InRange};
 ghost use Rattle.delaunay_legalization.specs.delaunay_core.Place.{place_of};
 ghost use Rattle.delaunay_legalization.specs.Known.{point_at};
@@ -10,14 +10,13 @@ ghost use Rattle.delaunay_legalization.specs.Parts.{IsApart};
 ghost use Rattle.delaunay_location.specs.Location.{StartsNearest};
 ghost use Rattle.delaunay_location.specs.Search.{IsAtNoVertex, IsClear, IsInFace, IsPlaceOf};
 
-use crate::parts::start_vertex;
 use crate::position_in_triangulation::PositionInTriangulation;
 use crate::search::Search;
 use crate::vertex_distance::is_nearer;
 use delaunay_legalization::delaunay_core::math::PlaneTests;
 use delaunay_legalization::delaunay_core::point::{HasPosition, Point2};
 use delaunay_legalization::half_edge_mesh::{
-    Dcel, FixedDirectedEdgeHandle, FixedFaceHandle, FixedVertexHandle,
+    Dcel, FixedDirectedEdgeHandle, FixedFaceHandle, FixedVertexHandle, MeshViews,
 };
 use delaunay_legalization::{
     Placed, is_outer, is_same_point, is_strictly_inside, is_strictly_within, position_of,
@@ -56,7 +55,8 @@ fn edge_from_nearest<V: HasPosition, DE, UE, F>(
     let mut nearest = FixedDirectedEdgeHandle::from_index(0);
     for index in 1..dcel.num_directed_edges() {
         let edge = FixedDirectedEdgeHandle::from_index(index as u32);
-        let (start, other) = (start_vertex(dcel, edge), start_vertex(dcel, nearest));
+        let start = dcel.directed_edge(edge).from().fix();
+        let other = dcel.directed_edge(nearest).from().fix();
         if is_nearer(dcel, start, other, point) {
             nearest = edge;
         }
@@ -65,93 +65,61 @@ fn edge_from_nearest<V: HasPosition, DE, UE, F>(
 }
 
 impl<'a, V: HasPosition, DE, UE, F, P: PlaneTests<V::Scalar>> Search<'a, V, DE, UE, F, P> {
-    // The location of a position at an edge: within it, or outside and on its left.
-    fn place_at_edge(&self, edge: FixedDirectedEdgeHandle) -> Option<PositionInTriangulation>
-        requires within { edge < length self.now.dcel.directed }
-        requires apart { IsAtNoVertex V.place self.now }
-        ensures { MatchOption result (IsClear V.place self.now edge)
-            (IsPlaceOf V.place self.now) }
-    {
-        let (from, to) = self.ends_of(edge);
-        if is_strictly_within(from, to, self.point, self.tests) {
-            return Some(PositionInTriangulation::OnEdge(edge));
-        }
-        if is_outer(self.dcel, edge) && turns_left(from, to, self.point, self.tests) {
-            return Some(PositionInTriangulation::OutsideOfConvexHull(edge));
-        }
-        None
-    }
-
+    // The location of a position at one of the edges: within it, or outside and on its left.
     fn place_at_edges(&self) -> Option<PositionInTriangulation>
         requires { IsAtNoVertex V.place self.now }
         ensures { MatchOption result ((h : ℕ) → h < length self.now.dcel.directed →
-            IsClear V.place self.now h)
-            (IsPlaceOf V.place self.now) }
+            IsClear V.place self.now h) (IsPlaceOf V.place self.now) }
     {
         for index in 0..self.dcel.num_directed_edges() {
             let edge = FixedDirectedEdgeHandle::from_index(index as u32);
-            match self.place_at_edge(edge) {
-                Some(place) => return Some(place),
-                None => {}
+            let (from, to) = self.ends_of(edge);
+            if is_strictly_within(from, to, self.point, self.tests) {
+                return Some(PositionInTriangulation::OnEdge(edge));
+            }
+            if is_outer(self.dcel, edge) && turns_left(from, to, self.point, self.tests) {
+                return Some(PositionInTriangulation::OutsideOfConvexHull(edge));
             }
         }
         None
     }
 
-    // Whether the position is strictly inside an inner face.
-    fn is_inside_face(&self, face: FixedFaceHandle) -> bool
-        requires positive { 0 < face }
-        requires within { face ≤ length self.now.dcel.faces }
-        ensures { IsTrue result ↔ IsInFace V.place self.now face }
-    {
-        let placed = Placed {
-            dcel: self.dcel,
-            tests: self.tests,
-        };
-        let (a, b, c) = placed.corners_of(face);
-        is_strictly_inside(a, b, c, self.point, self.tests)
-    }
-
+    // The inner face that has the position strictly inside.
     fn face_around(&self) -> Option<FixedFaceHandle>
         ensures { MatchOption result ((f : ℕ) → 0 < f → f ≤ length self.now.dcel.faces →
             ¬ IsInFace V.place self.now f) (λ f. (0 < f) ×
             (f ≤ length self.now.dcel.faces) × IsInFace V.place self.now f) }
     {
+        let placed = Placed {
+            dcel: self.dcel,
+            tests: self.tests,
+        };
         for index in 0..self.dcel.num_inner_faces() {
             let face = FixedFaceHandle::from_index(index as u32 + 1);
-            if self.is_inside_face(face) {
+            let (a, b, c) = placed.corners_of(face);
+            if is_strictly_inside(a, b, c, self.point, self.tests) {
                 return Some(face);
             }
         }
         None
     }
 
-    // Where the position is, if no vertex has it.
-    fn place_apart(&self) -> PositionInTriangulation
-        requires { IsAtNoVertex V.place self.now }
-        ensures { IsPlaceOf V.place self.now result }
-    {
-        if self.dcel.num_vertices() < 2 {
-            return PositionInTriangulation::NoTriangulation;
-        }
-        match self.place_at_edges() {
-            Some(place) => place,
-            None => match self.face_around() {
-                Some(face) => PositionInTriangulation::OnFace(face),
-                None => PositionInTriangulation::OutsideOfConvexHull(edge_from_nearest(
-                    self.dcel, self.point,
-                )),
-            },
-        }
-    }
-
     // Where the position is, by a look at all vertices, edges and faces.
     pub(crate) fn place_by_scan(&self) -> PositionInTriangulation
         ensures { IsPlaceOf V.place self.now result }
     {
-        match vertex_at(self.dcel, self.point) {
-            Some(vertex) => PositionInTriangulation::OnVertex(vertex),
-            None => self.place_apart(),
+        if let Some(vertex) = vertex_at(self.dcel, self.point) {
+            return PositionInTriangulation::OnVertex(vertex);
         }
+        if self.dcel.num_vertices() < 2 {
+            return PositionInTriangulation::NoTriangulation;
+        }
+        if let Some(place) = self.place_at_edges() {
+            return place;
+        }
+        if let Some(face) = self.face_around() {
+            return PositionInTriangulation::OnFace(face);
+        }
+        PositionInTriangulation::OutsideOfConvexHull(edge_from_nearest(self.dcel, self.point))
     }
 }

@@ -1,5 +1,6 @@
 //! The vertex that is nearest to a position, by a walk from neighbour to neighbour.
-ghost use Rattle.std.specs.Prelude.{◌≡◌, ◌+◌, ◌<◌, ◌≤◌, ◌^◌, [], length, map, MatchOption};
+ghost use Rattle.std.specs.Prelude.{◌≡◌, ◌≢◌, ℕ, ◌+◌, ◌<◌, ◌≤◌, ◌^◌, [], length, map};
+ghost use Rattle.std.specs.Prelude.{MatchOption};
 ghost use Rattle.delaunay_legalization.specs.half_edge_mesh.Mesh.{next, origin, rev};
 ghost use Rattle.delaunay_legalization.specs.plane.Fraction.{whole as fraction};
 ghost use Rattle.delaunay_legalization.specs.plane.Circle.{gap};
@@ -14,9 +15,9 @@ ghost use Rattle.delaunay_legalization.specs.State.{state_of, triangulation_of};
 ghost use Rattle.delaunay_location.specs.Candidate.{EndsNoNearer, HasNoNearerNeighbor, IsCandidate};
 ghost use Rattle.delaunay_location.specs.Candidate.{IsMoveCount, IsNearerCandidate, IsReached};
 
-use crate::parts::{edge_clockwise, edge_counterclockwise, end_vertex, spoke_of, start_vertex};
 use crate::samples::nearer_sample;
 use crate::vertex_distance::distance_2_to;
+use delaunay_legalization::ccw_edge;
 use delaunay_legalization::delaunay_core::point::{HasPosition, Point2};
 use delaunay_legalization::half_edge_mesh::{
     Dcel, FixedDirectedEdgeHandle, FixedVertexHandle, MeshViews,
@@ -32,6 +33,32 @@ const FEW_MOVES: u64 = 16;
 pub(crate) struct Candidate {
     pub(crate) spoke: FixedDirectedEdgeHandle,
     pub(crate) distance_2: i64,
+}
+
+// An edge that starts at a vertex, if there is one.
+fn spoke_of<V, DE, UE, F>(
+    dcel: &Dcel<V, DE, UE, F>,
+    vertex: FixedVertexHandle,
+) -> Option<FixedDirectedEdgeHandle>
+    requires { vertex < length dcel.now.vertices }
+    ensures { let m = dcel.now.mesh in
+        MatchOption result ((h : ℕ) → h < length m.half_edges → origin m h ≢ vertex)
+        (λ e. (e < length dcel.now.directed) × (origin m e ≡ vertex)) }
+{
+    Some(dcel.vertex(vertex).out_edge()?.fix())
+}
+
+// The next edge clockwise round the vertex where an edge starts.
+#[inline(always)]
+fn edge_clockwise<V, DE, UE, F>(
+    dcel: &Dcel<V, DE, UE, F>,
+    edge: FixedDirectedEdgeHandle,
+) -> FixedDirectedEdgeHandle
+    requires { edge < length dcel.now.directed }
+    ensures value { result ≡ next dcel.now.mesh (rev edge) }
+    ensures within { result < length dcel.now.directed }
+{
+    dcel.directed_edge(edge).cw().fix()
 }
 
 // The end of an edge as a candidate, if it is nearer than the edge's start, which has the squared
@@ -102,7 +129,7 @@ fn first_candidate<V: HasPosition, DE, UE, F>(
 {
     let spoke = spoke_of(dcel, from)?;
     let distance_2 = distance_2_to(dcel, from, point);
-    let end = end_vertex(dcel, spoke);
+    let end = dcel.directed_edge(spoke).to().fix();
     match nearer_end(dcel, spoke, end, distance_2, point) {
         Some(nearer) => {
             *moves += 1;
@@ -143,7 +170,7 @@ fn nearer_neighbor<V: HasPosition, DE, UE, F>(
             return Some(nearer);
         }
         left = next;
-        let next = edge_counterclockwise(dcel, right);
+        let next = ccw_edge(dcel, right);
         if next.index() == left.index() {
             return None;
         }
@@ -174,7 +201,7 @@ fn candidate_anywhere<V: HasPosition, DE, UE, F>(
         (place_of V.Scalar.whole point) (origin dcel.now.mesh from.spoke) moves.old moves.new
         result }
 {
-    let vertex = start_vertex(dcel, from.spoke);
+    let vertex = dcel.directed_edge(from.spoke).from().fix();
     let sample = nearer_sample(dcel, vertex, point);
     if sample.index() == vertex.index() {
         return from;
@@ -219,7 +246,7 @@ fn nearest_from<V: HasPosition, DE, UE, F>(
             nearest = candidate_anywhere(dcel, nearest, point, moves);
         }
     }
-    start_vertex(dcel, nearest.spoke)
+    dcel.directed_edge(nearest.spoke).from().fix()
 }
 
 /// The vertex that is nearest to a position in range, by a walk from `start` to nearer neighbours

@@ -1,5 +1,5 @@
 //! The steps of a walk from face to face towards a position.
-ghost use Rattle.std.specs.Prelude.{◌≡◌, ◌<◌, length, map, IsFalse};
+ghost use Rattle.std.specs.Prelude.{◌<◌, length, map};
 ghost use Rattle.delaunay_legalization.specs.half_edge_mesh.Mesh.{face};
 ghost use Rattle.delaunay_legalization.specs.Parts.{IsMeshEdge};
 ghost use Rattle.delaunay_location.specs.Stop.{AreOtherSides, IsStepOf, IsStopOf};
@@ -9,7 +9,7 @@ use crate::search::Search;
 use delaunay_legalization::delaunay_core::math::PlaneTests;
 use delaunay_legalization::delaunay_core::point::{HasPosition, Point2};
 use delaunay_legalization::half_edge_mesh::{FixedDirectedEdgeHandle, MeshViews};
-use delaunay_legalization::{Placed, start_before, turns_left};
+use delaunay_legalization::{Placed, is_outer, start_before, turns_left};
 
 // Where a walk is: in the face on the left of an edge. The positions of its ends are kept, so that
 // a step reads that of one vertex.
@@ -46,7 +46,8 @@ impl<'a, V: HasPosition, DE, UE, F, P: PlaneTests<V::Scalar>> Search<'a, V, DE, 
             dcel: self.dcel,
             tests: self.tests,
         };
-        placed.ends_of(edge)
+        let to = self.dcel.directed_edge(edge).rev().fix();
+        (placed.start_of(edge), placed.start_of(to))
     }
 
     // The step across an edge, into the face on its right.
@@ -62,19 +63,6 @@ impl<'a, V: HasPosition, DE, UE, F, P: PlaneTests<V::Scalar>> Search<'a, V, DE, 
             from: to,
             to: from,
         })
-    }
-
-    // The way from an edge that has the outer face on its left to the position: the other direction
-    // of the edge, unless the position is strictly on its left.
-    fn way_in(&self, stop: Stop<V::Scalar>) -> Step<V::Scalar>
-        requires stop { IsStopOf V.place V.Scalar.whole P.covered self.now stop }
-        requires outer { face self.now.dcel.mesh stop.edge ≡ 0 }
-        ensures { IsStepOf V.place V.Scalar.whole P.covered self.now result }
-    {
-        if turns_left(stop.from, stop.to, self.point, self.tests) {
-            return Step::Found(PositionInTriangulation::OutsideOfConvexHull(stop.edge));
-        }
-        self.beyond(stop)
     }
 
     // The step from the inner face on the left of an edge: across a side that has the position
@@ -137,27 +125,18 @@ impl<'a, V: HasPosition, DE, UE, F, P: PlaneTests<V::Scalar>> Search<'a, V, DE, 
         self.way_across(stop, behind, ahead)
     }
 
-    // Whether the outer face lies on the left of an edge, or else beyond one of the two other sides
-    // of the face there.
-    #[inline(always)]
-    fn is_near_hull(&self, edge: FixedDirectedEdgeHandle) -> bool
-        requires { edge < length self.now.dcel.directed }
-        ensures { IsFalse result → 0 < face self.now.dcel.mesh edge }
-    {
-        let here = self.dcel.directed_edge(edge);
-        here.is_outer_edge()
-            || here.prev().rev().is_outer_edge()
-            || here.next().rev().is_outer_edge()
-    }
-
-    // The way out of a face near the hull, or from the outer face.
+    // The way out of a face near the hull. From the outer face it is the other direction of the
+    // edge, unless the position is strictly on the edge's left.
     #[inline(never)]
     fn way_near_hull(&self, stop: Stop<V::Scalar>) -> Step<V::Scalar>
         requires { IsStopOf V.place V.Scalar.whole P.covered self.now stop }
         ensures { IsStepOf V.place V.Scalar.whole P.covered self.now result }
     {
-        if self.dcel.directed_edge(stop.edge).is_outer_edge() {
-            return self.way_in(stop);
+        if is_outer(self.dcel, stop.edge) {
+            if turns_left(stop.from, stop.to, self.point, self.tests) {
+                return Step::Found(PositionInTriangulation::OutsideOfConvexHull(stop.edge));
+            }
+            return self.beyond(stop);
         }
         self.way_through(stop)
     }
@@ -174,7 +153,11 @@ impl<'a, V: HasPosition, DE, UE, F, P: PlaneTests<V::Scalar>> Search<'a, V, DE, 
         requires { IsStopOf V.place V.Scalar.whole P.covered self.now stop }
         ensures { IsStepOf V.place V.Scalar.whole P.covered self.now result }
     {
-        if self.is_near_hull(stop.edge) {
+        let here = self.dcel.directed_edge(stop.edge);
+        if here.is_outer_edge()
+            || here.prev().rev().is_outer_edge()
+            || here.next().rev().is_outer_edge()
+        {
             return self.way_near_hull(stop);
         }
         self.way_through(stop)

@@ -8,7 +8,6 @@ ghost use Rattle.delaunay_location.specs.Location.{Locates};
 ghost use Rattle.delaunay_location.specs.Search.{IsPlaceOf};
 ghost use Rattle.delaunay_location.specs.Stop.{IsWalkOf};
 
-use crate::parts::start_vertex;
 use crate::position_in_triangulation::PositionInTriangulation;
 use crate::samples::nearer_sample;
 use crate::search::Search;
@@ -32,7 +31,7 @@ pub(crate) enum Walked {
 }
 
 impl<'a, V: HasPosition, DE, UE, F, P: PlaneTests<V::Scalar>> Search<'a, V, DE, UE, F, P> {
-    // The location of a position on an edge: at its start, or within it.
+    // The location of a position on an edge: at one of its ends, or within it.
     pub(crate) fn place_on_edge(
         &self,
         edge: FixedDirectedEdgeHandle,
@@ -41,11 +40,12 @@ impl<'a, V: HasPosition, DE, UE, F, P: PlaneTests<V::Scalar>> Search<'a, V, DE, 
         ensures { IfSome result (IsPlaceOf V.place self.now) }
     {
         let (from, to) = self.ends_of(edge);
+        let here = self.dcel.directed_edge(edge);
         if is_same_point(from, self.point) {
-            return Some(PositionInTriangulation::OnVertex(start_vertex(self.dcel, edge)));
+            return Some(PositionInTriangulation::OnVertex(here.from().fix()));
         }
         if is_same_point(to, self.point) {
-            return None;
+            return Some(PositionInTriangulation::OnVertex(here.to().fix()));
         }
         if is_strictly_within(from, to, self.point, self.tests) {
             return Some(PositionInTriangulation::OnEdge(edge));
@@ -87,14 +87,22 @@ impl<'a, V: HasPosition, DE, UE, F, P: PlaneTests<V::Scalar>> Search<'a, V, DE, 
         Walked::Reached(stop.edge)
     }
 
-    // The location that a walk from an edge ends at, unless it has not ended after as many steps as
-    // there are directed edges: it goes round in a circle then. Among faces that pass the circle
-    // test it ends earlier. A long walk goes on at a vertex all over the mesh, if one of those
-    // looked at is nearer.
-    fn walk(&self, start: FixedDirectedEdgeHandle) -> Option<PositionInTriangulation>
-        requires { start < length self.now.dcel.directed }
+    // Where a position is, by a walk from a vertex, or from vertex 0 where there is no such vertex.
+    // There is no answer where there are no edges, and where the walk has not ended after as many
+    // steps as there are directed edges: it goes round in a circle then. Among faces that pass the
+    // circle test it ends earlier. A long walk goes on at a vertex all over the mesh, if one of
+    // those looked at is nearer.
+    fn walk_from(&self, hint: FixedVertexHandle) -> Option<PositionInTriangulation>
         ensures { IfSome result (IsPlaceOf V.place self.now) }
     {
+        let vertex = match self.dcel.get_vertex(hint) {
+            Some(vertex) => vertex,
+            None => self.dcel.get_vertex(FixedVertexHandle::from_index(0))?,
+        };
+        let start = vertex.out_edge()?.fix();
+        if self.dcel.num_inner_faces() == 0 {
+            return self.place_on_line(start);
+        }
         let edge = match self.walk_on(start, FEW_STEPS) {
             Walked::Ended(place) => return place,
             Walked::Reached(edge) => nearer_edge(self.dcel, edge, self.point),
@@ -103,18 +111,6 @@ impl<'a, V: HasPosition, DE, UE, F, P: PlaneTests<V::Scalar>> Search<'a, V, DE, 
             Walked::Ended(place) => place,
             Walked::Reached(_) => None,
         }
-    }
-
-    // Where a position is, by a walk from a vertex, or from vertex 0 where there is no such vertex.
-    // There is no answer where there are no edges.
-    fn walk_from(&self, hint: FixedVertexHandle) -> Option<PositionInTriangulation>
-        ensures { IfSome result (IsPlaceOf V.place self.now) }
-    {
-        let start = edge_from_hint(self.dcel, hint)?;
-        if self.dcel.num_inner_faces() == 0 {
-            return self.place_on_line(start);
-        }
-        self.walk(start)
     }
 }
 
@@ -131,27 +127,12 @@ pub(crate) fn nearer_edge<V: HasPosition, DE, UE, F>(
     requires in_range { InRange (place_of V.Scalar.whole point) }
     ensures { result < length dcel.now.directed }
 {
-    let from = start_vertex(dcel, other);
+    let from = dcel.directed_edge(other).from().fix();
     let nearest = nearer_sample(dcel, from, point);
     match dcel.vertex(nearest).out_edge() {
         Some(edge) if nearest != from => edge.fix(),
         _ => other,
     }
-}
-
-// An edge that a walk begins at: one of the vertex `hint`, or of vertex 0 where there is no such
-// vertex.
-fn edge_from_hint<V, DE, UE, F>(
-    dcel: &Dcel<V, DE, UE, F>,
-    hint: FixedVertexHandle,
-) -> Option<FixedDirectedEdgeHandle>
-    ensures { IfSome result (λ e. e < length dcel.now.directed) }
-{
-    let vertex = match dcel.get_vertex(hint) {
-        Some(vertex) => vertex,
-        None => dcel.get_vertex(FixedVertexHandle::from_index(0))?,
-    };
-    Some(vertex.out_edge()?.fix())
 }
 
 /// Where a position is: the vertex, edge or face that it is on or strictly inside of, or an edge of

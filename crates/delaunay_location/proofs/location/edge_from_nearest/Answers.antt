@@ -1,4 +1,4 @@
-use Rattle.std.proofs.Common.{arith}
+use Rattle.std.proofs.Common.{◌∙◌, arith}
 use Rattle.delaunay_legalization.proofs.Questions.{both_ways}
 use Rattle.delaunay_location.proofs.Nearest.{starts_all, starts_first, starts_nearer}
 use Rattle.delaunay_location.proofs.Nearest.{starts_no_nearer}
@@ -12,8 +12,11 @@ loop-index-init g c = starts_first _ _ _ c.from_index-nearest.ensures
 pub loop-index-preserved : goal.loop-index-preserved
 loop-index-preserved g c =
     let fit = c.requires.kept.fits.directed_fit in
-    let nearer = rw (c.start_vertex-start.ensures.value, c.start_vertex-other.ensures.value) at
-    c.is_nearer.ensures in
+    let here = c.directed_edge.ensures in
+    let there = c.directed_edge-in-loop-index.ensures in
+    let start = c.fix-start.ensures.value ∙ rw (here.dcel, here.index) at c.from.ensures.index in
+    let other = c.fix-other.ensures.value ∙ rw (there.dcel, there.index) at c.from-in-loop-index.ensures.index in
+    let nearer = rw (start, other) at c.is_nearer.ensures in
     elim c.if-is_nearer.branch [
       | then-is_nearer w ↦ rw w.nearest-is
           (starts_nearer _ _ _ c.from_index-edge.ensures c.loop-index.invariant

@@ -29,8 +29,8 @@ pub returns-in-Some : goal.returns-in-Some
 returns-in-Some g c = nearer_than_same
     (left_starts c.loop-point.invariant c.edge_clockwise-next.ensures.value) c.in-Some.ensures
 
-pub edge_counterclockwise-next-requires : goal.edge_counterclockwise-next-requires
-edge_counterclockwise-next-requires g c =
+pub ccw_edge-next-requires : goal.ccw_edge-next-requires
+ccw_edge-next-requires g c =
     rw c.requires.kept.fits.directed_fit (right_within c.loop-point.invariant)
 
 pub returns-then-index-2 : goal.returns-then-index-2
@@ -39,7 +39,7 @@ returns-then-index-2 g c =
     (λ e. c.if-index.false (c.index.ensures ∙ e ∙ sym c.index-in-loop-point.ensures))
     c.in_default.ensures in
     no_nearer_neighbour _ _ _ _ c.requires.kept.valid.sound (seen_where_right_meets left
-    c.edge_counterclockwise-next.ensures.value
+    c.ccw_edge-next.ensures.value
     (sym c.index-in-loop-point-2.ensures ∙ c.if-index-2.true ∙ c.index-in-loop-point-3.ensures))
 
 pub directed_edge-requires : goal.directed_edge-requires
@@ -50,17 +50,17 @@ pub nearer_end-requires-in-loop-point-clause-end : goal.nearer_end-requires-in-l
 nearer_end-requires-in-loop-point-clause-end g c =
     let here = c.directed_edge.ensures in
     c.fix-end.ensures.value ∙ rw (here.dcel, here.index) at c.prev_from.ensures.index
-    ∙ right_ends c.loop-point.invariant c.edge_counterclockwise-next.ensures.value
+    ∙ right_ends c.loop-point.invariant c.ccw_edge-next.ensures.value
 
 pub nearer_end-requires-in-loop-point-clause-start :
     goal.nearer_end-requires-in-loop-point-clause-start
 nearer_end-requires-in-loop-point-clause-start g c =
     distance_read c.requires.kept c.requires.in_range c.requires.from _
-    (right_starts c.loop-point.invariant c.edge_counterclockwise-next.ensures.value)
+    (right_starts c.loop-point.invariant c.ccw_edge-next.ensures.value)
 
 pub returns-in-Some-nearer_end : goal.returns-in-Some-nearer_end
 returns-in-Some-nearer_end g c = nearer_than_same
-    (right_starts c.loop-point.invariant c.edge_counterclockwise-next.ensures.value)
+    (right_starts c.loop-point.invariant c.ccw_edge-next.ensures.value)
     c.in-Some-nearer_end.ensures
 
 pub loop-point-smaller : goal.loop-point-smaller
@@ -72,7 +72,7 @@ loop-point-preserved g c =
     let left = left_goes_on c.loop-point.invariant c.edge_clockwise-next.ensures.value
     (λ e. c.if-index.false (c.index.ensures ∙ e ∙ sym c.index-in-loop-point.ensures))
     c.in_default.ensures in
-    right_goes_on left c.edge_counterclockwise-next.ensures.value
+    right_goes_on left c.ccw_edge-next.ensures.value
     (λ e. c.if-index-2.false
     (c.index-in-loop-point-2.ensures ∙ e ∙ sym c.index-in-loop-point-3.ensures))
     c.in_default-nearer_end.ensures

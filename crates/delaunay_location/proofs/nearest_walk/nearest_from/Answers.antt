@@ -1,4 +1,4 @@
-use Rattle.std.proofs.Common.{◌^◌, arith}
+use Rattle.std.proofs.Common.{◌∙◌, ◌^◌, arith}
 use Rattle.plane_delaunay.proofs.Circles.Nearest.{nearest_by_neighbours}
 use Rattle.delaunay_location.proofs.Candidates.{next_falls, reached_on, vertex_within}
 use Rattle.delaunay_location.proofs.Neighbours.{count_stays, more_counted, moves_fit}
@@ -38,13 +38,15 @@ loop-nearer-smaller-then-moves-eq0 g c =
     let stays = count_stays c.candidate_anywhere-nearest.ensures.counted in
     omega (arith, falls, stays)
 
-pub start_vertex-requires : goal.start_vertex-requires
-start_vertex-requires g c =
+pub directed_edge-requires : goal.directed_edge-requires
+directed_edge-requires g c =
     rw c.requires.kept.fits.directed_fit c.loop-nearer.invariant.candidate.within
 
 pub returns : goal.returns
-returns g c = rw c.start_vertex.ensures.value (record {
-  nearest = nearest_by_neighbours _ c.requires.delaunay _ _
-      (vertex_within c.requires.kept c.loop-nearer.invariant.candidate) c.in_default.ensures;
-  counted = c.loop-nearer.invariant.counted;
-})
+returns g c =
+    let here = c.directed_edge.ensures in
+    rw (c.fix.ensures.value ∙ rw (here.dcel, here.index) at c.from.ensures.index) (record {
+      nearest = nearest_by_neighbours _ c.requires.delaunay _ _
+          (vertex_within c.requires.kept c.loop-nearer.invariant.candidate) c.in_default.ensures;
+      counted = c.loop-nearer.invariant.counted;
+    })

@@ -1,24 +1,48 @@
-use Rattle.std.proofs.Common.{arith}
+use Rattle.std.proofs.Common.{map, arith}
+use Rattle.delaunay_legalization.specs.delaunay_core.Place.{place_of}
 use Rattle.delaunay_legalization.proofs.Questions.{both_ways}
 use Rattle.delaunay_location.specs.Search.{IsInFace}
-use Rattle.delaunay_location.proofs.Questions.{next_face}
+use Rattle.delaunay_location.proofs.Questions.{inside_face, next_face, turns_as_face}
 use Rattle.delaunay_location.proofs.search.Search.face_around.Goals as goal
+
+pub is_strictly_inside-requires : goal.is_strictly_inside-requires
+is_strictly_inside-requires g c =
+    let corners = c.corners_of-a.ensures in
+    let covered = g.met.P.PlaneTests.sites_are_covered in
+    record {
+      a_covered = covered _ _ corners.first_site;
+      b_covered = covered _ _ corners.second_site;
+      c_covered = covered _ _ corners.third_site;
+      point_covered = c.self.invariant.covered;
+      turns = turns_as_face _ _ (place_of g.V.Scalar.SpadeNum.whole c.self.inside.point) _ _ _ _
+          corners.face corners.first corners.second corners.third;
+    }
+
+pub returns-then-is_strictly_inside : goal.returns-then-is_strictly_inside
+returns-then-is_strictly_inside g c =
+    let d = c.self.inside.dcel.now in
+    let corners = c.corners_of-a.ensures in
+    let face = c.from_index-face.ensures in
+    let count = c.num_inner_faces-index-end.ensures.value in
+    rw (← c.self.view_is) (
+      omega (arith, face),
+      omega (arith, face, count, c.loop-index-test.true),
+      (inside_face (map g.V.HasPosition.place d.vertices) d.mesh _ _ _ _ _ corners.first
+          corners.second corners.third).0 (c.is_strictly_inside.ensures.0 c.if-is_strictly_inside.true),
+    )
 
 pub loop-index-preserved : goal.loop-index-preserved
 loop-index-preserved g c =
     let at = g.V.HasPosition.place in
-    next_face
-    (λ f. ¬ IsInFace at c.args.self.now f) c.loop-index.index c.loop-index.invariant
-    (λ i. both_ways _
-    (c.is_inside_face.ensures.1 (rw c.from_index-face.ensures i)) c.if-is_inside_face.false)
+    let d = c.self.inside.dcel.now in
+    let corners = c.corners_of-a.ensures in
+    next_face (λ f. ¬ IsInFace at c.args.self.now f) c.loop-index.index c.loop-index.invariant
+    (λ i. both_ways _ (c.is_strictly_inside.ensures.1 ((inside_face (map at d.vertices) d.mesh _ _
+    _ _ _ corners.first corners.second corners.third).1
+    (rw c.from_index-face.ensures (rw (← c.self.view_is) at i)))) c.if-is_strictly_inside.false)
 
 pub returns : goal.returns
 returns g c f positive h =
     let count = c.num_inner_faces-index-end.ensures.value in
-    c.loop-index.invariant f positive (omega (
-      arith,
-      rw
-          (← c.self.view_is) at h,
-      c.loop-index-test.false,
-      count,
-    ))
+    let within = rw (← c.self.view_is) at h in
+    c.loop-index.invariant f positive (omega (arith, within, c.loop-index-test.false, count))

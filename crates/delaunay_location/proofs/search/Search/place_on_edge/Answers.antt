@@ -19,9 +19,20 @@ is_strictly_within-requires g c =
 pub returns-then-is_same_point : goal.returns-then-is_same_point
 returns-then-is_same_point g c =
     let ends = rw (← c.self.view_is) at c.ends_of.ensures in
-    let vertex = c.start_vertex.ensures in
-    rw (← c.self.view_is) (at_vertex _ _ c.self.invariant.kept _ _ vertex.within
-    (rw vertex.value (sym ends.stop.from ∙ c.is_same_point.ensures.0 c.if-is_same_point.true)))
+    let here = c.directed_edge-here.ensures in
+    rw (← c.self.view_is) (at_vertex _ _ c.self.invariant.kept _ _
+    (rw (c.from.ensures.dcel, here.dcel) at c.fix.ensures.in_range)
+    (rw (c.fix.ensures.value ∙ rw (here.dcel, here.index) at c.from.ensures.index)
+    (sym ends.stop.from ∙ c.is_same_point.ensures.0 c.if-is_same_point.true)))
+
+pub returns-then-is_same_point-2 : goal.returns-then-is_same_point-2
+returns-then-is_same_point-2 g c =
+    let ends = rw (← c.self.view_is) at c.ends_of.ensures in
+    let here = c.directed_edge-here.ensures in
+    rw (← c.self.view_is) (at_vertex _ _ c.self.invariant.kept _ _
+    (rw (c.to.ensures.dcel, here.dcel) at c.fix-then-is_same_point-2.ensures.in_range)
+    (rw (c.fix-then-is_same_point-2.ensures.value ∙ rw (here.dcel, here.index) at c.to.ensures.index)
+    (sym ends.stop.to ∙ c.is_same_point-2.ensures.0 c.if-is_same_point-2.true)))
 
 pub returns-then-is_strictly_within : goal.returns-then-is_strictly_within
 returns-then-is_strictly_within g c =

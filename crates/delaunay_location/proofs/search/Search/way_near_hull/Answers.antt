@@ -1,10 +1,10 @@
 use Rattle.delaunay_legalization.proofs.MeshParts.{mesh_edge}
 use Rattle.delaunay_location.proofs.Questions.{located_left}
-use Rattle.delaunay_location.proofs.search.Search.way_in.Goals as goal
+use Rattle.delaunay_location.proofs.search.Search.way_near_hull.Goals as goal
 
 pub returns-then-turns_left : goal.returns-then-turns_left
 returns-then-turns_left g c =
-    let stop = rw (← c.self.view_is) at c.requires.stop in
+    let stop = rw (← c.self.view_is) at c.requires in
     rw (← c.self.view_is) (located_left _ _ _ _ _ _ stop.from stop.to
-    (mesh_edge _ _ c.self.invariant.kept _ stop.within)
-    (rw (← c.self.view_is) at c.requires.outer) (c.turns_left.ensures.0 c.if-turns_left.true))
+    (mesh_edge _ _ c.self.invariant.kept _ stop.within) (c.is_outer.ensures.0 c.if-is_outer.true)
+    (c.turns_left.ensures.0 c.if-turns_left.true))

@@ -1,6 +1,6 @@
 use Rattle.std.proofs.Common.{refl}
 use Rattle.delaunay_location.proofs.BothWays.{no_edges}
-use Rattle.delaunay_location.proofs.parts.spoke_of.Goals as goal
+use Rattle.delaunay_location.proofs.nearest_walk.spoke_of.Goals as goal
 
 pub returns-in_err-out_edge : goal.returns-in_err-out_edge
 returns-in_err-out_edge g c =

@@ -1,7 +1,7 @@
 use Rattle.std.proofs.Common.{sym, ◌∙◌}
 use Rattle.delaunay_location.proofs.Lines.{all_outer, located_right}
 use Rattle.delaunay_location.proofs.Questions.{located_left}
-use Rattle.delaunay_location.proofs.search.Search.place_beside.Goals as goal
+use Rattle.delaunay_location.proofs.search.Search.place_on_line.Goals as goal
 
 pub returns-then-is_on_left_side : goal.returns-then-is_on_left_side
 returns-then-is_on_left_side g c =
