@@ -1,5 +1,5 @@
 //! Vertices all over a mesh, of which one may be nearer to a position than where a search is.
-ghost use Rattle.std.specs.Prelude.{◌≡◌, ◌⊎◌, ◌+◌, ◌<◌, ◌≤◌, length};
+ghost use Rattle.std.specs.Prelude.{◌≡◌, ◌⊎◌, ◌<◌, length};
 ghost use Rattle.delaunay_legalization.specs.plane.Fraction.{whole as fraction};
 ghost use Rattle.delaunay_legalization.specs.plane.Circle.{IsNearer};
 ghost use Rattle.delaunay_legalization.specs.plane.Tests.{InRange};
@@ -12,17 +12,8 @@ use crate::vertex_distance::is_nearer;
 use delaunay_legalization::delaunay_core::point::{HasPosition, Point2};
 use delaunay_legalization::half_edge_mesh::{Dcel, FixedVertexHandle};
 
-// How far apart the indexes of samples are: of so many vertices about the cube root is taken.
-fn stride(count: usize) -> usize
-    ensures positive { 0 < result }
-    ensures few { result ≤ count + 1 }
-{
-    let bits = 64 - (count as u64).leading_zeros();
-    (count >> (bits / 3)).max(1)
-}
-
 // The nearest to a position of some vertices all over the mesh, or the vertex `from`, where none of
-// them is nearer.
+// them is nearer. Of so many vertices about the cube root is taken.
 #[inline(never)]
 pub(crate) fn nearer_sample<V: HasPosition, DE, UE, F>(
     dcel: &Dcel<V, DE, UE, F>,
@@ -37,7 +28,8 @@ pub(crate) fn nearer_sample<V: HasPosition, DE, UE, F>(
         IsNearer (fraction (place_of V.Scalar.whole point)) (vertex t result) (vertex t from) }
 {
     let count = dcel.num_vertices();
-    let stride = stride(count);
+    let bits = 64 - (count as u64).leading_zeros();
+    let stride = (count >> (bits / 3)).max(1);
     let mut nearest = from;
     let mut index = 0;
     while index < count {

@@ -16,7 +16,7 @@ overflow_add-index g c = omega (
   c.loop-index-test.true,
   c.num_vertices-count.ensures.small,
   c.num_vertices-count.ensures.value,
-  c.stride-stride.ensures.few,
+  c.max-stride.ensures,
 )
 
 pub loop-index-preserved : goal.loop-index-preserved
