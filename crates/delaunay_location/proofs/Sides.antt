@@ -20,7 +20,7 @@ use Rattle.delaunay_legalization.specs.Shape.{IsTriangulated}
 use Rattle.delaunay_legalization.specs.State.{State}
 use Rattle.delaunay_legalization.proofs.MeshParts.{mesh_face}
 use Rattle.delaunay_location.specs.Location.{Locates}
-use Rattle.delaunay_location.specs.Stop.{AreOtherSides, IsStop}
+use Rattle.delaunay_location.specs.Stop.{IsStop}
 use Rattle.delaunay_location.specs.declared.steps.Stop.{Stop}
 use Rattle.delaunay_location.specs.declared.position_in_triangulation.PositionInTriangulation.TheVariants.{OnFace}
 use Rattle.delaunay_location.proofs.Locating.{in_face}
@@ -151,11 +151,8 @@ module _ {V D U F : Type 0} {at : V → Point} {s : State V D U F} (kept : IsTri
       )
 
       -- a position strictly on the left of the three sides of an inner face is located in it
-      pub located_inside : {f g h : ℕ} → f ≡ face m e → AreOtherSides m e g h → IsLeftOf e
+      pub located_inside : {f g h : ℕ} → f ≡ face m e → g ≡ prev m e → h ≡ next m e → IsLeftOf e
           → IsLeftOf g → IsLeftOf h → Locates points m p (OnFace f)
-      located_inside {f = f} {g = g} {h = h} same others at_e at_g at_h =
-          rw same (in_face at s kept p (face m e) inner face_in (inside_named (go others)))
-        where
-          go : AreOtherSides m e g h → IsLeftOfSides e
-          go (inl o) = left_of_sides at_e (subst IsLeftOf o.0 at_g) (subst IsLeftOf o.1 at_h)
-          go (inr o) = left_of_sides at_e (subst IsLeftOf o.1 at_h) (subst IsLeftOf o.0 at_g)
+      located_inside same before after at_e at_g at_h =
+          rw same (in_face at s kept p (face m e) inner face_in (inside_named
+          (left_of_sides at_e (subst IsLeftOf after at_h) (subst IsLeftOf before at_g))))

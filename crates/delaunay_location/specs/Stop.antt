@@ -1,6 +1,6 @@
 -- Where a walk from face to face is.
-use Rattle.std.specs.Prelude.{◌≡◌, ◌⊎◌, ℕ, ℤ, ◌<◌, List, length, map, IfSome}
-use Rattle.delaunay_legalization.specs.half_edge_mesh.Mesh.{Mesh, origin, next, prev, rev}
+use Rattle.std.specs.Prelude.{◌≡◌, ℕ, ℤ, ◌<◌, List, length, map, IfSome}
+use Rattle.delaunay_legalization.specs.half_edge_mesh.Mesh.{Mesh, origin, rev}
 use Rattle.delaunay_legalization.specs.plane.Fraction.{Point}
 use Rattle.delaunay_legalization.specs.delaunay_core.Place.{place_of}
 use Rattle.delaunay_legalization.specs.Known.{point_at}
@@ -20,10 +20,6 @@ pub record IsStop {S : Type 0} (number : S → ℤ) (IsCovered : Point → Type 
   pub to : place_of number stop.to ≡ point_at points (origin m (rev stop.edge))
   pub from_covered : IsCovered (place_of number stop.from)
   pub to_covered : IsCovered (place_of number stop.to)
-
--- edges f and g are the other sides of the face on the left of edge e, in either order
-abbrev pub AreOtherSides : Mesh → ℕ → ℕ → ℕ → Type 0
-AreOtherSides m e f g = ((f ≡ next m e) × (g ≡ prev m e)) ⊎ ((f ≡ prev m e) × (g ≡ next m e))
 
 module _ {V D U F P S : Type 0} (at : V → Point) (number : S → ℤ) (IsCovered : P → Point → Type 0)
     (s : Seeking V D U F P) where

@@ -2,7 +2,7 @@
 ghost use Rattle.std.specs.Prelude.{◌<◌, length, map};
 ghost use Rattle.delaunay_legalization.specs.half_edge_mesh.Mesh.{face};
 ghost use Rattle.delaunay_legalization.specs.Parts.{IsMeshEdge};
-ghost use Rattle.delaunay_location.specs.Stop.{AreOtherSides, IsStepOf, IsStopOf};
+ghost use Rattle.delaunay_location.specs.Stop.{IsStepOf, IsStopOf};
 
 use crate::position_in_triangulation::PositionInTriangulation;
 use crate::search::Search;
@@ -66,43 +66,8 @@ impl<'a, V: HasPosition, DE, UE, F, P: PlaneTests<V::Scalar>> Search<'a, V, DE, 
     }
 
     // The step from the inner face on the left of an edge: across a side that has the position
-    // strictly on its right, of which `first` is looked at first and the edge itself last; else the
-    // face, where the position is strictly inside, or that it is on a side.
-    #[inline(always)]
-    fn way_across(
-        &self,
-        stop: Stop<V::Scalar>,
-        first: Stop<V::Scalar>,
-        second: Stop<V::Scalar>,
-    ) -> Step<V::Scalar>
-        requires stop { IsStopOf V.place V.Scalar.whole P.covered self.now stop }
-        requires first_stop { IsStopOf V.place V.Scalar.whole P.covered self.now first }
-        requires second_stop { IsStopOf V.place V.Scalar.whole P.covered self.now second }
-        requires others { AreOtherSides self.now.dcel.mesh stop.edge first.edge second.edge }
-        requires inner { 0 < face self.now.dcel.mesh stop.edge }
-        ensures { IsStepOf V.place V.Scalar.whole P.covered self.now result }
-    {
-        let at_first = self.tests.side(first.from, first.to, self.point);
-        if at_first.is_on_right_side() {
-            return self.beyond(first);
-        }
-        let at_second = self.tests.side(second.from, second.to, self.point);
-        if at_second.is_on_right_side() {
-            return self.beyond(second);
-        }
-        let at_stop = self.tests.side(stop.from, stop.to, self.point);
-        if at_stop.is_on_right_side() {
-            return self.beyond(stop);
-        }
-        if at_first.is_on_left_side() && at_second.is_on_left_side() && at_stop.is_on_left_side() {
-            let face = self.dcel.directed_edge(stop.edge).face().fix();
-            return Step::Found(PositionInTriangulation::OnFace(face));
-        }
-        Step::OnSide
-    }
-
-    // The step from the inner face on the left of an edge: across a side that has the position
-    // strictly on its right, or the end of the walk.
+    // strictly on its right, of which the edge itself is looked at last; else the face, where the
+    // position is strictly inside, or that it is on a side.
     #[inline(always)]
     fn way_through(&self, stop: Stop<V::Scalar>) -> Step<V::Scalar>
         requires stop { IsStopOf V.place V.Scalar.whole P.covered self.now stop }
@@ -122,7 +87,22 @@ impl<'a, V: HasPosition, DE, UE, F, P: PlaneTests<V::Scalar>> Search<'a, V, DE, 
             from: to,
             to: across,
         };
-        self.way_across(stop, behind, ahead)
+        let at_behind = self.tests.side(across, from, self.point);
+        if at_behind.is_on_right_side() {
+            return self.beyond(behind);
+        }
+        let at_ahead = self.tests.side(to, across, self.point);
+        if at_ahead.is_on_right_side() {
+            return self.beyond(ahead);
+        }
+        let at_stop = self.tests.side(from, to, self.point);
+        if at_stop.is_on_right_side() {
+            return self.beyond(stop);
+        }
+        if at_behind.is_on_left_side() && at_ahead.is_on_left_side() && at_stop.is_on_left_side() {
+            return Step::Found(PositionInTriangulation::OnFace(here.face().fix()));
+        }
+        Step::OnSide
     }
 
     // The way out of a face near the hull. From the outer face it is the other direction of the
