@@ -9,7 +9,7 @@ use crate::search::Search;
 use delaunay_legalization::delaunay_core::math::PlaneTests;
 use delaunay_legalization::delaunay_core::point::{HasPosition, Point2};
 use delaunay_legalization::half_edge_mesh::{FixedDirectedEdgeHandle, MeshViews};
-use delaunay_legalization::{Placed, is_outer, start_before, turns_left};
+use delaunay_legalization::{Placed, is_outer, turns_left};
 
 // Where a walk is: in the face on the left of an edge. The positions of its ends are kept, so that
 // a step reads that of one vertex.
@@ -76,7 +76,11 @@ impl<'a, V: HasPosition, DE, UE, F, P: PlaneTests<V::Scalar>> Search<'a, V, DE, 
     {
         let here = self.dcel.directed_edge(stop.edge);
         let Stop { from, to, .. } = stop;
-        let across = start_before(self.dcel, stop.edge);
+        let placed = Placed {
+            dcel: self.dcel,
+            tests: self.tests,
+        };
+        let across = placed.start_before(stop.edge);
         let behind = Stop {
             edge: here.prev().fix(),
             from: across,

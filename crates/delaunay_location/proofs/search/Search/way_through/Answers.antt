@@ -1,5 +1,4 @@
 use Rattle.std.proofs.Common.{◌∙◌}
-use Rattle.delaunay_legalization.proofs.Questions.{covered_in}
 use Rattle.delaunay_location.proofs.Sides.{left_of_stop, located_inside, next_side, prev_side}
 use Rattle.delaunay_location.proofs.search.Search.way_through.Goals as goal
 
@@ -9,8 +8,7 @@ returns-then-is_on_left_side-3 g c =
     let corner = c.start_before-across.ensures in
     let kept = c.self.invariant.kept in
     let given = rw (← c.self.view_is) at c.requires in
-    let covered = covered_in _ _ (g.met.P.PlaneTests.sites_are_covered _) _ _
-    c.self.invariant.sites corner.listed in
+    let covered = g.met.P.PlaneTests.sites_are_covered _ _ corner.site in
     let before = c.fix.ensures.value ∙ rw (here.dcel, here.index) at c.prev.ensures.index in
     let after = c.fix-2.ensures.value ∙ rw (here.dcel, here.index) at c.next.ensures.index in
     let face = c.fix-then-is_on_left_side-3.ensures.value
