@@ -5,7 +5,7 @@ ghost use Rattle.mesh_embedding.specs.half_edge_mesh.Triangles.{triangle_at};
 ghost use Rattle.mesh_embedding.specs.Legal.{IsFailing};
 ghost use Rattle.delaunay_core.specs.Place.{place_of};
 ghost use Rattle.delaunay_legalization.specs.Known.{point_at};
-ghost use Rattle.delaunay_legalization.specs.Parts.{IsMeshEdge, IsMeshFace};
+ghost use Rattle.delaunay_legalization.specs.Parts.{IsMeshFace};
 
 use crate::legalization::{is_outer, position_of};
 use delaunay_core::math::PlaneTests;
@@ -65,21 +65,6 @@ impl<'a, V: HasPosition, DE, UE, F, P: PlaneTests<V::Scalar>> Placed<'a, V, DE, 
         ensures site { P.sites self.now.tests (place_of V.Scalar.whole result) }
     {
         position_of(self.dcel, self.dcel.directed_edge(edge).prev_from().fix())
-    }
-
-    /// The positions of the ends of an edge, in its direction.
-    pub fn ends_of(&self, edge: FixedDirectedEdgeHandle) -> (Point2<V::Scalar>, Point2<V::Scalar>)
-        requires { edge < length self.now.dcel.directed }
-        ensures from { place_of V.Scalar.whole result.0 ≡
-            point_at (map V.place self.now.dcel.vertices) (origin self.now.dcel.mesh edge) }
-        ensures to { place_of V.Scalar.whole result.1 ≡
-            point_at (map V.place self.now.dcel.vertices) (origin self.now.dcel.mesh (rev edge)) }
-        ensures edge { IsMeshEdge (map V.place self.now.dcel.vertices) self.now.dcel.mesh edge }
-        ensures from_site { P.sites self.now.tests (place_of V.Scalar.whole result.0) }
-        ensures to_site { P.sites self.now.tests (place_of V.Scalar.whole result.1) }
-    {
-        let edge = self.dcel.directed_edge(edge);
-        (self.start_of(edge.fix()), self.start_of(edge.rev().fix()))
     }
 
     /// The positions of the corners of an inner face, in their order round it.
