@@ -1,9 +1,10 @@
 -- From an item that a segment meets to the next, by the links of a mesh.
 -- Lemmas: over_value, not_same, positive, laid, in_mesh, of_mesh, joined, tiles_with, bare,
--- face_at, start_in, start_known, twin_within, ends_apart, twin_of_prev, twin_of_next,
+-- face_at, start_in, start_known, twin_within, next_spoke, ends_apart, twin_of_prev, twin_of_next,
 -- last_at_edge, through_right, through_left, ends_inside, at_corner, last_within_overlap,
 -- end_of_overlap, last_at_end, last_if_none_leads, along_ahead, into_face.
-use Rattle.std.proofs.Common.{◌≡◌, ◌≢◌, ◌⊎◌, ◌↔◌, ◌<◌, ◌∙◌}
+use Rattle.std.proofs.Common.{◌≡◌, ◌≢◌, ◌⊎◌, ◌↔◌, ◌<◌, ◌∙◌, ◌∷◌}
+use Rattle.std.specs.Borrow.{Bor}
 use Rattle.std.proofs.Common.{ℕ, List, length, map, Option, Some, None, sym, ap, subst}
 use Rattle.std.proofs.Common.{inl, inr, arith}
 use Rattle.std.proofs.lemmas.List.{length-map}
@@ -34,6 +35,8 @@ use Rattle.delaunay_location.proofs.mesh_embedding.MeshLegal.{no_outer_face, lin
 use Rattle.delaunay_location.proofs.mesh_embedding.MeshStars.{edge_of_face}
 use Rattle.delaunay_location.proofs.mesh_embedding.OwnEdges.{own_edges}
 use Rattle.delaunay_location.specs.delaunay_legalization.Known.{point_at}
+use Rattle.delaunay_location.proofs.delaunay_legalization_lemmas.Rounds.{IsGoingRound, next_within}
+use Rattle.delaunay_location.proofs.delaunay_legalization_lemmas.Rounds.{next_starts}
 use Rattle.delaunay_lines.specs.declared.intersection.FixedIntersection.{FixedIntersection}
 use Rattle.delaunay_lines.specs.Items.{item_of, IsHandleOf}
 use Rattle.delaunay_lines.specs.Over.{Spanning}
@@ -128,6 +131,13 @@ module _ {V D U F : Type 0} {at : V → Point} {IsSite IsCovered : Point → Typ
   pub twin_within : (h : ℕ) → h < length c.directed → rev h < length c.directed
   twin_within h within =
       of_mesh (rev h) (rev_within h (length m.half_edges) s.sound.even (in_mesh h within))
+
+  -- the next edge of a round starts at its vertex
+  pub next_spoke : {v : ℕ} {Seen : ℕ → Type 0} {given left : List (Bor (Contents V D U F) × ℕ)}
+      {x : Bor (Contents V D U F) × ℕ} → IsGoingRound c v Seen given → given ≡ x ∷ left
+      → (x.1 < length c.directed) × (origin m x.1 ≡ v)
+  next_spoke {x = x} round e =
+      (of_mesh x.1 (next_within _ _ _ _ round _ _ e), next_starts _ _ _ _ round _ _ e)
 
   -- the two ends of a directed edge are different points
   pub ends_apart : (h : ℕ) → h < length c.directed → (u v : Point)

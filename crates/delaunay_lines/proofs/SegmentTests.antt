@@ -1,11 +1,10 @@
 -- What answers to questions say, and of points of a segment.
--- Lemmas: unless, if_both, if_not_first, differs_if_within, within_if_differs, on_if_not_apart.
+-- Lemmas: unless, neither, if_both, if_not_first, differs_if_within, within_if_differs, on_if_same.
 use Rattle.std.proofs.Common.{◌≡◌, ◌≢◌, ◌⊎◌, ◌↔◌, Bool, true, false, IsTrue, sym, subst, inl, inr}
 use Rattle.std.proofs.Common.{arith}
 use Rattle.std.specs.Prelude.{ℤ, pos, ◌<ℤ◌, ◌*ℤ◌}
 use Rattle.std.proofs.lemmas.Int.{ints}
 use Rattle.delaunay_location.specs.plane.Fraction.{Point, whole, IsSame, OnSegment, WithinSegment}
-use Rattle.delaunay_location.proofs.plane.Decisions.{Decision, decide_point}
 use Rattle.delaunay_location.proofs.plane.Segments.{reach, reach-start, within_segment_is}
 use Rattle.delaunay_location.proofs.plane.Segments.{start_on_segment, end_on_segment}
 use Rattle.delaunay_location.proofs.delaunay_legalization_lemmas.Questions.{both_ways}
@@ -15,6 +14,11 @@ use Rattle.plane_segments.proofs.Constraints.Pieces.{on_parts}
 -- what a question is about does not hold where its answer is no
 pub unless : {A : Type 0} {b : Bool} → IsTrue b ↔ A → b ≡ false → ¬ A
 unless {b = b} is refused a = both_ways b (is.1 a) refused
+
+-- what neither of two holds
+pub neither : {A B : Type 0} → ¬ A → ¬ B → ¬ (A ⊎ B)
+neither a b (inl x) = a x
+neither a b (inr y) = b y
 
 -- two questions, of which the second is asked where the answer to the first is yes
 module _ {A B : Type 0} {a : Bool} (first : IsTrue a ↔ A) where
@@ -63,20 +67,11 @@ within_if_differs u v p a b o = elim (on_parts (whole u) (whole v) (whole p) o) 
   ]
 ]
 
-on_if_same : (u v p : Point) → (p ≡ u) ⊎ (p ≡ v) → OnSegment (whole u) (whole v) (whole p)
+-- an end is a point of the segment
+pub on_if_same : (u v p : Point) → (p ≡ u) ⊎ (p ≡ v) → OnSegment (whole u) (whole v) (whole p)
 on_if_same u v p (inl e) =
     subst (λ (x : Point). OnSegment (whole u) (whole v) (whole x)) (sym e)
     (start_on_segment (whole u) (whole v))
 on_if_same u v p (inr e) =
     subst (λ (x : Point). OnSegment (whole u) (whole v) (whole x)) (sym e)
     (end_on_segment (whole u) (whole v))
-
--- a point that does not differ from both ends is on the segment
-pub on_if_not_apart : (u v p : Point) → (p ≢ u → p ≢ v → ⊥)
-    → OnSegment (whole u) (whole v) (whole p)
-on_if_not_apart u v p both = go (decide_point p u) (decide_point p v)
-  where
-    go : Decision (p ≡ u) → Decision (p ≡ v) → OnSegment (whole u) (whole v) (whole p)
-    go (inl e) d = on_if_same u v p (inl e)
-    go (inr a) (inl e) = on_if_same u v p (inr e)
-    go (inr a) (inr b) = absurd (both a b)

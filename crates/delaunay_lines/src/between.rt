@@ -1,6 +1,5 @@
 //! The walk along a segment, from wherever its start is.
-ghost use Rattle.std.specs.Prelude.{◌≡◌, ◌<◌, ◌≤◌, length, map, All};
-ghost use Rattle.delaunay_location.specs.half_edge_mesh.Mesh.{face_edge};
+ghost use Rattle.std.specs.Prelude.{◌<◌, length, map, All};
 ghost use Rattle.delaunay_location.specs.plane_tiling.Local.{IsMesh};
 ghost use Rattle.delaunay_location.specs.mesh_embedding.Drawn.{faces_of, outer_of};
 ghost use Rattle.delaunay_location.specs.delaunay_core.Place.{place_of};
@@ -14,24 +13,9 @@ use crate::iterator::LineIntersectionIterator;
 use crate::segment::Segment;
 use delaunay_location::delaunay_core::math::PlaneTests;
 use delaunay_location::delaunay_core::point::{HasPosition, Point2};
-use delaunay_location::delaunay_legalization::position_of;
-use delaunay_location::half_edge_mesh::{
-    Dcel, FixedDirectedEdgeHandle, FixedFaceHandle, FixedVertexHandle, MeshViews,
-};
+use delaunay_location::delaunay_legalization::{is_same_point, position_of};
+use delaunay_location::half_edge_mesh::{Dcel, FixedVertexHandle, MeshViews};
 use delaunay_location::{PositionInTriangulation, locate_with_hint};
-
-// An edge with an inner face on its left.
-fn edge_of<V, DE, UE, F>(
-    dcel: &Dcel<V, DE, UE, F>,
-    face: FixedFaceHandle,
-) -> FixedDirectedEdgeHandle
-    requires positive { 0 < face }
-    requires within { face ≤ length dcel.now.faces }
-    ensures value { result ≡ face_edge dcel.now.mesh face }
-    ensures within { result < length dcel.now.directed }
-{
-    dcel.face(face).adjacent_edge().fix()
-}
 
 impl<'a, V: HasPosition, DE, UE, F, P: PlaneTests<V::Scalar>> Segment<'a, V, DE, UE, F, P> {
     // What it meets first, from the location of its start. Where its ends are one point, it is the
@@ -42,7 +26,7 @@ impl<'a, V: HasPosition, DE, UE, F, P: PlaneTests<V::Scalar>> Segment<'a, V, DE,
         ensures { Starts V.place self.now.dcel self.now.from self.now.to result }
     {
         let dcel = self.dcel;
-        if !self.ends_apart() {
+        if is_same_point(self.from, self.to) {
             return match start {
                 PositionInTriangulation::OnVertex(vertex) => {
                     Some(FixedIntersection::Vertex(vertex))
@@ -54,7 +38,9 @@ impl<'a, V: HasPosition, DE, UE, F, P: PlaneTests<V::Scalar>> Segment<'a, V, DE,
         match start {
             PositionInTriangulation::OnVertex(vertex) => Some(FixedIntersection::Vertex(vertex)),
             PositionInTriangulation::OnEdge(edge) => Some(self.first_on_edge(edge)),
-            PositionInTriangulation::OnFace(face) => self.first_in_face(edge_of(dcel, face)),
+            PositionInTriangulation::OnFace(face) => {
+                self.first_in_face(dcel.face(face).adjacent_edge().fix())
+            }
             // It goes along the outline from this edge on. Past the end of a line of vertices,
             // where it sees no edge, it looks at this end alone.
             PositionInTriangulation::OutsideOfConvexHull(edge) => match self.if_seen(edge) {

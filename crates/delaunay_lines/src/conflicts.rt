@@ -21,16 +21,6 @@ use delaunay_location::delaunay_legalization::ConstraintMarker;
 use delaunay_location::half_edge_mesh::{Dcel, DirectedEdgeHandle, FixedVertexHandle};
 use std::marker::PhantomData;
 
-// Whether an edge is a constraint.
-fn is_constraint<M: ConstraintMarker<UE>, V, DE, UE, F>(
-    edge: &DirectedEdgeHandle<'_, V, DE, UE, F>,
-) -> bool
-    ensures { IsTrue result ↔
-        Contains (M.constraints edge.now.dcel.now.undirected) (edge.now.index / 2) }
-{
-    M::is_constraint_edge(edge.as_undirected().data())
-}
-
 // The edge of an item, if the segment crosses it and it is a constraint.
 fn conflict_in<'a, M: ConstraintMarker<UE>, V, DE, UE, F>(
     item: &Intersection<'a, V, DE, UE, F>,
@@ -38,7 +28,7 @@ fn conflict_in<'a, M: ConstraintMarker<UE>, V, DE, UE, F>(
     ensures { IsConflictOf M.constraints item.now result }
 {
     let edge = item.as_edge_intersection()?;
-    if is_constraint::<M, _, _, _, _>(&edge) {
+    if M::is_constraint_edge(edge.as_undirected().data()) {
         Some(edge)
     } else {
         None

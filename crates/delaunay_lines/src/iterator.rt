@@ -9,6 +9,7 @@ use crate::intersection::{FixedIntersection, Intersection, intersection_in};
 use crate::segment::Segment;
 use delaunay_location::delaunay_core::math::PlaneTests;
 use delaunay_location::delaunay_core::point::{HasPosition, Point2};
+use delaunay_location::delaunay_legalization::is_same_point;
 use delaunay_location::half_edge_mesh::Dcel;
 
 /// The vertices and edges that a segment meets, in the order along the segment. No call takes
@@ -40,14 +41,14 @@ impl<'a, V: HasPosition, DE, UE, F, P: PlaneTests<V::Scalar>> Segment<'a, V, DE,
         ensures alone { self.now.from ≡ self.now.to → result ≡ None }
         ensures next { self.now.from ≢ self.now.to → GoesOnTo V.place self.now item result }
     {
-        if self.ends_apart() {
-            return match item {
-                FixedIntersection::Edge(edge) => self.after_crossing(edge),
-                FixedIntersection::Vertex(vertex) => self.after_vertex(vertex),
-                FixedIntersection::Overlap(edge) => self.after_overlap(edge),
-            };
+        if is_same_point(self.from, self.to) {
+            return None;
         }
-        None
+        match item {
+            FixedIntersection::Edge(edge) => self.after_crossing(edge),
+            FixedIntersection::Vertex(vertex) => self.after_vertex(vertex),
+            FixedIntersection::Overlap(edge) => self.after_overlap(edge),
+        }
     }
 
     // What it meets, from a first item on.

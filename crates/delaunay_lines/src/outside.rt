@@ -7,8 +7,8 @@ ghost use Rattle.delaunay_location.specs.plane.Circle.{gap};
 ghost use Rattle.delaunay_location.specs.plane.Location.{IsPast};
 ghost use Rattle.delaunay_location.specs.mesh_embedding.Drawn.{drawn};
 ghost use Rattle.delaunay_location.specs.delaunay_core.Place.{place_of};
-ghost use Rattle.delaunay_lines.specs.Starts.{GoesRight, HasEndsOnSides, IsBetter, IsCrossed};
-ghost use Rattle.delaunay_lines.specs.Starts.{IsNearerVertex, IsNearestOf};
+ghost use Rattle.delaunay_lines.specs.Starts.{IsBetter, IsCrossed};
+ghost use Rattle.delaunay_lines.specs.Starts.{IsNearestOf};
 ghost use Rattle.delaunay_lines.specs.Over.{IsFromOutside};
 ghost use Rattle.delaunay_lines.specs.Starts.{IsNoBetter, IsOnSegment};
 ghost use Rattle.delaunay_lines.specs.Steps.{IsLeftOf};
@@ -17,7 +17,6 @@ ghost use Rattle.delaunay_lines.specs.Walk.{Starts};
 
 use crate::intersection::FixedIntersection;
 use crate::segment::Segment;
-use crate::sides::twin_of;
 use crate::way::Way;
 use delaunay_location::delaunay_core::math::PlaneTests;
 use delaunay_location::delaunay_core::point::{HasPosition, Point2, SpadeNum};
@@ -42,54 +41,18 @@ fn is_point_nearer<S: SpadeNum, P: PlaneTests<S>>(
 }
 
 impl<'a, V: HasPosition, DE, UE, F, P: PlaneTests<V::Scalar>> Segment<'a, V, DE, UE, F, P> {
-    // Whether an edge goes from the left of a segment's line to its right.
-    fn goes_right(&self, edge: FixedDirectedEdgeHandle) -> bool
-        requires { edge < length self.now.dcel.directed }
-        ensures { IsTrue result ↔ GoesRight (map V.place self.now.dcel.vertices) self.now.dcel.mesh
-            self.now.from self.now.to edge }
-    {
-        let start = self.side_of_start(edge);
-        let end = self.side_of_end(edge);
-        start.is_on_left_side() && end.is_on_right_side()
-    }
-
-    // Whether a segment begins on the right of an edge's line, or on it, and ends on the left, or
-    // on it.
-    fn has_ends_on_sides(&self, edge: FixedDirectedEdgeHandle) -> bool
-        requires { edge < length self.now.dcel.directed }
-        ensures { IsTrue result ↔ HasEndsOnSides (map V.place self.now.dcel.vertices)
-            self.now.dcel.mesh self.now.from self.now.to edge }
-    {
-        self.side_of_from(edge).is_on_right_side_or_on_line()
-            && self.side_of_to(edge).is_on_left_side_or_on_line()
-    }
-
     // Whether a segment crosses an edge, with its end on the edge's left.
     fn is_crossed(&self, edge: FixedDirectedEdgeHandle) -> bool
         requires { edge < length self.now.dcel.directed }
         ensures { IsTrue result ↔ IsCrossed (map V.place self.now.dcel.vertices) self.now.dcel.mesh
             self.now.from self.now.to edge }
     {
-        self.goes_right(edge) && self.has_ends_on_sides(edge)
-    }
-
-    // Whether a vertex is nearer to a position than another, if there is one.
-    fn is_nearer_vertex(&self, vertex: FixedVertexHandle, than: &Option<FixedVertexHandle>) -> bool
-        requires within { vertex < length self.now.dcel.vertices }
-        requires other_within { IfSome than.now (λ o. o < length self.now.dcel.vertices) }
-        ensures { IsTrue result ↔ IsNearerVertex (map V.place self.now.dcel.vertices) self.now.from
-            vertex than.now }
-    {
-        match than {
-            Some(other) => {
-                let (position, reached) = (
-                    position_of(self.dcel, vertex),
-                    position_of(self.dcel, *other),
-                );
-                is_point_nearer(self.from, position, reached, self.tests)
-            }
-            None => true,
-        }
+        let start = self.side_of_start(edge);
+        let end = self.side_of_end(edge);
+        start.is_on_left_side()
+            && end.is_on_right_side()
+            && self.side_of_from(edge).is_on_right_side_or_on_line()
+            && self.side_of_to(edge).is_on_left_side_or_on_line()
     }
 
     // Whether a vertex is on a segment, and nearer to its start than another vertex, if there is
@@ -101,12 +64,22 @@ impl<'a, V: HasPosition, DE, UE, F, P: PlaneTests<V::Scalar>> Segment<'a, V, DE,
         ensures { IsTrue result ↔ IsBetter (map V.place self.now.dcel.vertices) self.now.from
             self.now.to vertex than.now }
     {
+        let position = position_of(self.dcel, vertex);
         let way = Way {
             from: self.from,
             to: self.to,
             tests: self.tests,
         };
-        way.carries(position_of(self.dcel, vertex)) && self.is_nearer_vertex(vertex, than)
+        if !way.carries(position) {
+            return false;
+        }
+        match than {
+            Some(other) => {
+                let reached = position_of(self.dcel, *other);
+                is_point_nearer(self.from, position, reached, self.tests)
+            }
+            None => true,
+        }
     }
 
     // The better one of a vertex and one on a segment that was found before, if there is one.
@@ -155,9 +128,8 @@ impl<'a, V: HasPosition, DE, UE, F, P: PlaneTests<V::Scalar>> Segment<'a, V, DE,
     {
         let mut nearest = self.first_found();
         for outer in self.dcel.convex_hull() {
-            let edge = outer.fix();
-            let vertex = self.start_vertex(edge);
-            nearest = self.better_of(vertex, nearest);
+            let edge = self.dcel.directed_edge(outer.fix());
+            nearest = self.better_of(edge.from().fix(), nearest);
         }
         nearest
     }
@@ -202,14 +174,14 @@ impl<'a, V: HasPosition, DE, UE, F, P: PlaneTests<V::Scalar>> Segment<'a, V, DE,
         ensures none { IfNone result (IsTurningPoint V.place self.now.dcel self.now.from
             self.now.to edge) }
     {
-        self.dcel.recall_invariant();
+        let here = self.dcel.directed_edge(edge);
         let end = self.side_of_end(edge);
         if end.is_on_right_side() {
-            return self.if_seen(self.edge_after(edge));
+            return self.if_seen(here.next().fix());
         }
         let start = self.side_of_start(edge);
         if start.is_on_left_side() {
-            return self.if_seen(self.edge_before(edge));
+            return self.if_seen(here.prev().fix());
         }
         None
     }
@@ -222,9 +194,10 @@ impl<'a, V: HasPosition, DE, UE, F, P: PlaneTests<V::Scalar>> Segment<'a, V, DE,
         requires stop { IsTurningPoint V.place self.now.dcel self.now.from self.now.to edge }
         ensures { Starts V.place self.now.dcel self.now.from self.now.to result }
     {
-        let twin = twin_of(self.dcel, edge);
+        let here = self.dcel.directed_edge(edge);
+        let twin = here.rev();
         let (start, end) = (self.side_of_start(edge), self.side_of_end(edge));
-        if self.ends_left_of(edge) {
+        if self.side_of_to(edge).is_on_left_side() {
             return None;
         }
         if end.is_on_right_side() {
@@ -234,12 +207,12 @@ impl<'a, V: HasPosition, DE, UE, F, P: PlaneTests<V::Scalar>> Segment<'a, V, DE,
             return None;
         }
         if end.is_on_line() {
-            return Some(FixedIntersection::Vertex(self.start_vertex(twin)));
+            return Some(FixedIntersection::Vertex(twin.from().fix()));
         }
         if start.is_on_line() {
-            return Some(FixedIntersection::Vertex(self.start_vertex(edge)));
+            return Some(FixedIntersection::Vertex(here.from().fix()));
         }
-        Some(FixedIntersection::Edge(twin))
+        Some(FixedIntersection::Edge(twin.fix()))
     }
 
     // From a seen outer edge along the outline to what it meets first: nothing, where it ends on
@@ -252,7 +225,7 @@ impl<'a, V: HasPosition, DE, UE, F, P: PlaneTests<V::Scalar>> Segment<'a, V, DE,
         ensures { Starts V.place self.now.dcel self.now.from self.now.to result }
     {
         let steps = self.dcel.num_directed_edges();
-        if self.ends_left_of(edge) {
+        if self.side_of_to(edge).is_on_left_side() {
             return None;
         }
         let mut here = edge;
@@ -275,13 +248,9 @@ impl<'a, V: HasPosition, DE, UE, F, P: PlaneTests<V::Scalar>> Segment<'a, V, DE,
             (origin self.now.dcel.mesh edge) (fraction self.now.from) }
         ensures { Starts V.place self.now.dcel self.now.from self.now.to result }
     {
-        let way = Way {
-            from: self.from,
-            to: self.to,
-            tests: self.tests,
-        };
-        if way.carries(self.start_of(edge)) {
-            return Some(FixedIntersection::Vertex(self.start_vertex(edge)));
+        let vertex = self.dcel.directed_edge(edge).from().fix();
+        if self.is_better(vertex, &None) {
+            return Some(FixedIntersection::Vertex(vertex));
         }
         None
     }

@@ -8,15 +8,12 @@ ghost use Rattle.delaunay_location.specs.delaunay_core.Place.{place_of};
 ghost use Rattle.delaunay_location.specs.delaunay_legalization.Known.{point_at};
 ghost use Rattle.delaunay_lines.specs.Steps.{IsLeftOf};
 
-use crate::sides::twin_of;
 use crate::way::Way;
 use delaunay_location::delaunay_core::line_side_info::LineSideInfo;
 use delaunay_location::delaunay_core::math::PlaneTests;
 use delaunay_location::delaunay_core::point::{HasPosition, Point2};
-use delaunay_location::delaunay_legalization::{is_same_point, position_of};
-use delaunay_location::half_edge_mesh::{
-    Dcel, FixedDirectedEdgeHandle, FixedVertexHandle, MeshViews,
-};
+use delaunay_location::delaunay_legalization::start_of;
+use delaunay_location::half_edge_mesh::{Dcel, FixedDirectedEdgeHandle, MeshViews};
 use std::marker::Model;
 
 /// A segment over the mesh of a triangulation, with tests that cover its ends and have the vertices
@@ -49,51 +46,6 @@ impl<'a, V: HasPosition, DE, UE, F, P: PlaneTests<V::Scalar>> Model
 }
 
 impl<'a, V: HasPosition, DE, UE, F, P: PlaneTests<V::Scalar>> Segment<'a, V, DE, UE, F, P> {
-    // Whether its ends differ.
-    pub(crate) fn ends_apart(&self) -> bool
-        ensures apart { IsTrue result ↔ (self.now.from ≢ self.now.to) }
-        ensures alone { IsFalse result → self.now.from ≡ self.now.to }
-    {
-        !is_same_point(self.from, self.to)
-    }
-
-    // The edge after an edge in its loop.
-    pub(crate) fn edge_after(&self, edge: FixedDirectedEdgeHandle) -> FixedDirectedEdgeHandle
-        requires { edge < length self.now.dcel.directed }
-        ensures value { result ≡ next self.now.dcel.mesh edge }
-        ensures within { result < length self.now.dcel.directed }
-    {
-        self.dcel.directed_edge(edge).next().fix()
-    }
-
-    // The edge before it.
-    pub(crate) fn edge_before(&self, edge: FixedDirectedEdgeHandle) -> FixedDirectedEdgeHandle
-        requires { edge < length self.now.dcel.directed }
-        ensures value { result ≡ prev self.now.dcel.mesh edge }
-        ensures within { result < length self.now.dcel.directed }
-    {
-        self.dcel.directed_edge(edge).prev().fix()
-    }
-
-    // The vertex where an edge starts.
-    pub(crate) fn start_vertex(&self, edge: FixedDirectedEdgeHandle) -> FixedVertexHandle
-        requires { edge < length self.now.dcel.directed }
-        ensures value { result ≡ origin self.now.dcel.mesh edge }
-        ensures within { result < length self.now.dcel.vertices }
-    {
-        self.dcel.directed_edge(edge).from().fix()
-    }
-
-    // The position where an edge starts.
-    pub(crate) fn start_of(&self, edge: FixedDirectedEdgeHandle) -> Point2<V::Scalar>
-        requires { edge < length self.now.dcel.directed }
-        ensures place { place_of V.Scalar.whole result ≡
-            point_at (map V.place self.now.dcel.vertices) (origin self.now.dcel.mesh edge) }
-        ensures covered { P.covered self.now.tests (place_of V.Scalar.whole result) }
-    {
-        position_of(self.dcel, self.start_vertex(edge))
-    }
-
     /// The side of where the segment starts, as seen along an edge.
     pub fn side_of_from(&self, edge: FixedDirectedEdgeHandle) -> LineSideInfo
         requires { edge < length self.now.dcel.directed }
@@ -101,9 +53,9 @@ impl<'a, V: HasPosition, DE, UE, F, P: PlaneTests<V::Scalar>> Segment<'a, V, DE,
             result ≡ side (place points (origin m edge)) (place points (origin m (rev edge)))
             (fraction self.now.from) }
     {
-        let twin = twin_of(self.dcel, edge);
-        self.tests
-            .side(self.start_of(edge), self.start_of(twin), self.from)
+        let twin = self.dcel.directed_edge(edge).rev().fix();
+        let (start, end) = (start_of(self.dcel, edge), start_of(self.dcel, twin));
+        self.tests.side(start, end, self.from)
     }
 
     /// The side of where it ends.
@@ -113,18 +65,9 @@ impl<'a, V: HasPosition, DE, UE, F, P: PlaneTests<V::Scalar>> Segment<'a, V, DE,
             result ≡ side (place points (origin m edge)) (place points (origin m (rev edge)))
             (fraction self.now.to) }
     {
-        let twin = twin_of(self.dcel, edge);
-        self.tests
-            .side(self.start_of(edge), self.start_of(twin), self.to)
-    }
-
-    // Whether it ends on the left of an edge.
-    pub(crate) fn ends_left_of(&self, edge: FixedDirectedEdgeHandle) -> bool
-        requires { edge < length self.now.dcel.directed }
-        ensures { IsTrue result ↔ IsLeftOf (map V.place self.now.dcel.vertices) self.now.dcel.mesh
-            self.now.to edge }
-    {
-        self.side_of_to(edge).is_on_left_side()
+        let twin = self.dcel.directed_edge(edge).rev().fix();
+        let (start, end) = (start_of(self.dcel, edge), start_of(self.dcel, twin));
+        self.tests.side(start, end, self.to)
     }
 
     // The side of the vertex where an edge starts, as seen along the segment.
@@ -134,7 +77,8 @@ impl<'a, V: HasPosition, DE, UE, F, P: PlaneTests<V::Scalar>> Segment<'a, V, DE,
             result ≡ side (fraction self.now.from) (fraction self.now.to)
             (place points (origin self.now.dcel.mesh edge)) }
     {
-        self.tests.side(self.from, self.to, self.start_of(edge))
+        let start = start_of(self.dcel, edge);
+        self.tests.side(self.from, self.to, start)
     }
 
     // The side of the vertex where it ends.
@@ -145,7 +89,7 @@ impl<'a, V: HasPosition, DE, UE, F, P: PlaneTests<V::Scalar>> Segment<'a, V, DE,
             result ≡ side (fraction self.now.from) (fraction self.now.to)
             (place points (origin self.now.dcel.mesh (rev edge))) }
     {
-        self.side_of_start(twin_of(self.dcel, edge))
+        self.side_of_start(self.dcel.directed_edge(edge).rev().fix())
     }
 
     // The way along an edge.
@@ -158,9 +102,10 @@ impl<'a, V: HasPosition, DE, UE, F, P: PlaneTests<V::Scalar>> Segment<'a, V, DE,
               tests = self.now.tests;
             } }
     {
+        let twin = self.dcel.directed_edge(edge).rev().fix();
         Way {
-            from: self.start_of(edge),
-            to: self.start_of(twin_of(self.dcel, edge)),
+            from: start_of(self.dcel, edge),
+            to: start_of(self.dcel, twin),
             tests: self.tests,
         }
     }

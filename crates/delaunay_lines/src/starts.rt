@@ -6,11 +6,11 @@ ghost use Rattle.delaunay_lines.specs.Walk.{Starts};
 
 use crate::intersection::FixedIntersection;
 use crate::segment::Segment;
-use crate::sides::twin_of;
 use crate::way::Way;
 use delaunay_location::delaunay_core::math::PlaneTests;
 use delaunay_location::delaunay_core::point::HasPosition;
-use delaunay_location::half_edge_mesh::FixedDirectedEdgeHandle;
+use delaunay_location::delaunay_legalization::start_of;
+use delaunay_location::half_edge_mesh::{FixedDirectedEdgeHandle, MeshViews};
 
 impl<'a, V: HasPosition, DE, UE, F, P: PlaneTests<V::Scalar>> Segment<'a, V, DE, UE, F, P> {
     // From strictly within an edge: the edge, crossed or gone along.
@@ -21,7 +21,7 @@ impl<'a, V: HasPosition, DE, UE, F, P: PlaneTests<V::Scalar>> Segment<'a, V, DE,
             self.now.from edge }
         ensures { Starts V.place self.now.dcel self.now.from self.now.to (Some result) }
     {
-        let twin = twin_of(self.dcel, edge);
+        let twin = self.dcel.directed_edge(edge).rev().fix();
         let side = self.side_of_to(edge);
         if side.is_on_left_side() {
             return FixedIntersection::Edge(edge);
@@ -31,7 +31,7 @@ impl<'a, V: HasPosition, DE, UE, F, P: PlaneTests<V::Scalar>> Segment<'a, V, DE,
         }
         let ahead = Way {
             from: self.from,
-            to: self.start_of(twin),
+            to: start_of(self.dcel, twin),
             tests: self.tests,
         };
         if ahead.goes_towards(self.to) {
@@ -63,15 +63,15 @@ impl<'a, V: HasPosition, DE, UE, F, P: PlaneTests<V::Scalar>> Segment<'a, V, DE,
         ensures over { GoesOver (map V.place self.now.dcel.vertices) self.now.dcel.mesh
             self.now.from self.now.to result }
     {
-        self.dcel.recall_invariant();
+        let here = self.dcel.directed_edge(edge);
         if self.goes_over(edge) {
             return edge;
         }
-        let next = self.edge_after(edge);
+        let next = here.next().fix();
         if self.goes_over(next) {
             return next;
         }
-        self.edge_before(edge)
+        here.prev().fix()
     }
 
     // From strictly inside a face: nothing where the segment ends there, else a corner or a side.
@@ -82,13 +82,13 @@ impl<'a, V: HasPosition, DE, UE, F, P: PlaneTests<V::Scalar>> Segment<'a, V, DE,
         ensures { Starts V.place self.now.dcel self.now.from self.now.to result }
     {
         let exit = self.edge_over(edge);
-        let twin = twin_of(self.dcel, exit);
-        if self.ends_left_of(exit) {
+        let here = self.dcel.directed_edge(exit);
+        if self.side_of_to(exit).is_on_left_side() {
             return None;
         }
         if self.side_of_start(exit).is_on_line() {
-            return Some(FixedIntersection::Vertex(self.start_vertex(exit)));
+            return Some(FixedIntersection::Vertex(here.from().fix()));
         }
-        Some(FixedIntersection::Edge(twin))
+        Some(FixedIntersection::Edge(here.rev().fix()))
     }
 }

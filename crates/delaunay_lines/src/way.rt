@@ -35,22 +35,19 @@ impl<'a, S: SpadeNum, P: PlaneTests<S>> Model for Way<'a, S, P> {
 }
 
 impl<'a, S: SpadeNum, P: PlaneTests<S>> Way<'a, S, P> {
-    // Whether a point differs from both ends.
-    fn ends_elsewhere(&self, point: Point2<S>) -> bool
-        ensures { IsTrue result ↔
-            ((place_of S.whole point ≢ self.now.from) × (place_of S.whole point ≢ self.now.to)) }
-    {
-        !is_same_point(point, self.from) && !is_same_point(point, self.to)
-    }
-
     // Whether a point is strictly within the segment.
     pub(crate) fn has_within(&self, point: Point2<S>) -> bool
         requires { P.covered self.now.tests (place_of S.whole point) }
         ensures { IsTrue result ↔ WithinSegment (fraction self.now.from) (fraction self.now.to)
             (fraction (place_of S.whole point)) }
     {
-        let (from, to) = (self.from, self.to);
-        self.ends_elsewhere(point) && is_strictly_within(from, to, point, self.tests)
+        if is_same_point(point, self.from) {
+            return false;
+        }
+        if is_same_point(point, self.to) {
+            return false;
+        }
+        is_strictly_within(self.from, self.to, point, self.tests)
     }
 
     // Whether a point is on the closed segment.
@@ -59,11 +56,13 @@ impl<'a, S: SpadeNum, P: PlaneTests<S>> Way<'a, S, P> {
         ensures { IsTrue result ↔ OnSegment (fraction self.now.from) (fraction self.now.to)
             (fraction (place_of S.whole point)) }
     {
-        if self.ends_elsewhere(point) {
-            is_strictly_within(self.from, self.to, point, self.tests)
-        } else {
-            true
+        if is_same_point(point, self.from) {
+            return true;
         }
+        if is_same_point(point, self.to) {
+            return true;
+        }
+        is_strictly_within(self.from, self.to, point, self.tests)
     }
 
     // Whether a point, which is not where the way starts, lies in its direction from there.

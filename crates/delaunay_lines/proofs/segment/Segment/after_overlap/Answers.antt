@@ -1,4 +1,4 @@
-use Rattle.std.proofs.Common.{sym, subst}
+use Rattle.std.proofs.Common.{◌∙◌, sym, subst}
 use Rattle.delaunay_location.specs.delaunay_core.Place.{place_of}
 use Rattle.delaunay_lines.proofs.MeshSteps.{last_within_overlap, end_of_overlap}
 use Rattle.delaunay_lines.proofs.SegmentTests.{unless}
@@ -21,9 +21,12 @@ pub returns : goal.returns
 returns g c =
     let here = rw (← c.self.view_is) at c.requires in
     let is = rw (c.way_along.ensures, ← c.self.view_is) at c.has_within.ensures in
-    let value = c.start_vertex.ensures.value in
-    rw (value, c.twin_of-twin.ensures.value, ← c.self.view_is) (
-      rw (value, c.twin_of-twin.ensures.value, ← c.self.view_is) at c.start_vertex.ensures.within,
+    let edge = c.directed_edge.ensures in
+    let twin = c.rev.ensures in
+    let end = rw (twin.dcel, twin.index, edge.dcel, edge.index) at
+    (c.fix-end.ensures.value ∙ c.from.ensures.index) in
+    rw (end, ← c.self.view_is) (
+      rw (end, c.from.ensures.dcel, twin.dcel, edge.dcel) at c.fix-end.ensures.in_range,
       end_of_overlap c.self.invariant here.apart c.args.edge here.met
           (unless is c.if-has_within.false),
     )

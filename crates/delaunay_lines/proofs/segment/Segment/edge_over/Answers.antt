@@ -1,25 +1,29 @@
+use Rattle.std.proofs.Common.{◌∙◌}
 use Rattle.delaunay_lines.proofs.FirstItems.{inside_after, inside_before, last_goes_over}
-use Rattle.delaunay_lines.proofs.MeshSteps.{over_value}
 use Rattle.delaunay_lines.proofs.SegmentTests.{unless}
 use Rattle.delaunay_lines.proofs.segment.Segment.edge_over.Goals as goal
 
-pub returns-then-goes_over-2 : goal.returns-then-goes_over-2
-returns-then-goes_over-2 g c = record {
-  within = c.edge_after-next.ensures.within;
-  start = rw c.edge_after-next.ensures.value (inside_after
-      (over_value c.self.view_is c.self.invariant) c.args.edge c.requires.within c.requires.start);
-  over = c.goes_over-2.ensures.0 c.if-goes_over-2.true;
-}
+pub returns-then-goes_over-2-clause-start : goal.returns-then-goes_over-2-clause-start
+returns-then-goes_over-2-clause-start g c =
+    let given = rw (← c.self.view_is) at c.requires in
+    let here = c.directed_edge-here.ensures in
+    rw (c.fix-next.ensures.value, c.next.ensures.index, here.dcel, here.index, ← c.self.view_is)
+    (inside_after c.self.invariant c.args.edge given.within given.start)
 
-pub returns : goal.returns
-returns g c =
-    let over = over_value c.self.view_is c.self.invariant in
-    let is = c.edge_before.ensures.value in
-    let second = rw c.edge_after-next.ensures.value at c.goes_over-2.ensures in
-    record {
-      within = c.edge_before.ensures.within;
-      start = rw is (inside_before over c.args.edge c.requires.within c.requires.start);
-      over = rw is (last_goes_over over c.args.edge c.requires.within c.requires.start
-          c.requires.apart (unless c.goes_over.ensures c.if-goes_over.false)
-          (unless second c.if-goes_over-2.false));
-    }
+pub returns-clause-start : goal.returns-clause-start
+returns-clause-start g c =
+    let given = rw (← c.self.view_is) at c.requires in
+    let here = c.directed_edge-here.ensures in
+    rw (c.fix.ensures.value, c.prev.ensures.index, here.dcel, here.index, ← c.self.view_is)
+    (inside_before c.self.invariant c.args.edge given.within given.start)
+
+pub returns-clause-over : goal.returns-clause-over
+returns-clause-over g c =
+    let given = rw (← c.self.view_is) at c.requires in
+    let here = c.directed_edge-here.ensures in
+    let next = rw (here.dcel, here.index) at (c.fix-next.ensures.value ∙ c.next.ensures.index) in
+    let first = rw (← c.self.view_is) at c.goes_over.ensures in
+    let second = rw (next, ← c.self.view_is) at c.goes_over-2.ensures in
+    rw (c.fix.ensures.value, c.prev.ensures.index, here.dcel, here.index, ← c.self.view_is)
+    (last_goes_over c.self.invariant c.args.edge given.within given.start given.apart
+    (unless first c.if-goes_over.false) (unless second c.if-goes_over-2.false))

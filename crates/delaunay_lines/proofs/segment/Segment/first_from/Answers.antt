@@ -15,24 +15,24 @@ returns-in-OnVertex g c =
 
 pub returns-in-OnEdge : goal.returns-in-OnEdge
 returns-in-OnEdge g c =
-    let over = over_value c.self.view_is c.self.invariant in
-    let here = rw c.in-OnEdge.is at c.requires in
-    alone_on_edge over c.in-OnEdge.edge (of_mesh over _ here.handle) here.location.1
-    (c.ends_apart.ensures.alone c.if-not-ends_apart.true)
+    let here = rw (c.in-OnEdge.is, ← c.self.view_is) at c.requires in
+    rw (← c.self.view_is) (alone_on_edge c.self.invariant c.in-OnEdge.edge
+    (of_mesh c.self.invariant _ here.handle) here.location.1
+    (c.is_same_point.ensures.0 c.if-is_same_point.true))
 
 pub returns-in_default : goal.returns-in_default
 returns-in_default g c =
-    alone_elsewhere (over_value c.self.view_is c.self.invariant) _ c.requires
+    rw (← c.self.view_is) (alone_elsewhere c.self.invariant _ (rw (← c.self.view_is) at c.requires)
     c.in_default.not-OnVertex c.in_default.not-OnEdge
-    (c.ends_apart.ensures.alone c.if-not-ends_apart.true)
+    (c.is_same_point.ensures.0 c.if-is_same_point.true))
 
 pub returns-in-OnVertex-start : goal.returns-in-OnVertex-start
 returns-in-OnVertex-start g c =
     from_that_vertex (over_value c.self.view_is c.self.invariant) c.in-OnVertex-start.vertex
     (rw c.in-OnVertex-start.is at c.requires)
 
-pub edge_of-requires-clause-within : goal.edge_of-requires-clause-within
-edge_of-requires-clause-within g c =
+pub face-requires : goal.face-requires
+face-requires g c =
     let located = rw (← c.self.view_is, c.in-OnFace.is) at c.requires in
     let fits = c.self.invariant.mesh.fits.faces_fit in
     let few = located.handle.1 in omega (arith, fits, few)
@@ -40,8 +40,13 @@ edge_of-requires-clause-within g c =
 pub first_in_face-requires-clause-start : goal.first_in_face-requires-clause-start
 first_in_face-requires-clause-start g c =
     let located = rw (← c.self.view_is, c.in-OnFace.is) at c.requires in
-    rw (← c.self.view_is, c.edge_of.ensures.value)
-    (inside_that_face c.self.invariant c.in-OnFace.face located)
+    rw (
+      ← c.self.view_is,
+      c.fix.ensures.value,
+      c.adjacent_edge.ensures.index,
+      c.face.ensures.dcel,
+      c.face.ensures.index,
+    ) (inside_that_face c.self.invariant c.in-OnFace.face located)
 
 pub first_along-requires-clause-start : goal.first_along-requires-clause-start
 first_along-requires-clause-start g c =

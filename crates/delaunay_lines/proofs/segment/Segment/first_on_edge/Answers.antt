@@ -1,7 +1,8 @@
-use Rattle.std.proofs.Common.{ℕ, map}
+use Rattle.std.proofs.Common.{◌∙◌, ℕ, map}
 use Rattle.delaunay_location.specs.half_edge_mesh.Mesh.{origin, rev}
 use Rattle.delaunay_location.specs.plane.Fraction.{Point}
 use Rattle.delaunay_location.specs.delaunay_legalization.Known.{point_at}
+use Rattle.delaunay_location.proofs.delaunay_legalization_lemmas.Questions.{covered_in}
 use Rattle.delaunay_lines.proofs.FirstItems.{along_edge, along_twin, on_if_neither, over_edge}
 use Rattle.delaunay_lines.proofs.FirstItems.{over_twin}
 use Rattle.delaunay_lines.proofs.MeshSteps.{ends_apart, over_value}
@@ -17,7 +18,9 @@ returns-then-is_on_left_side g c =
 pub returns-then-is_on_right_side : goal.returns-then-is_on_right_side
 returns-then-is_on_right_side g c =
     let right = rw c.side_of_to-side.ensures at c.is_on_right_side.ensures in
-    rw c.twin_of-twin.ensures.value (over_twin (over_value c.self.view_is c.self.invariant)
+    let twin = rw c.directed_edge.ensures.index at
+    (c.fix-twin.ensures.value ∙ c.rev.ensures.index) in
+    rw twin (over_twin (over_value c.self.view_is c.self.invariant)
     c.args.edge c.requires.within c.requires.start c.requires.apart
     (right.0 c.if-is_on_right_side.true))
 
@@ -30,10 +33,13 @@ invariant_of-ahead g c =
     let end = at (rev c.args.edge) in
     let ends = ends_apart (over_value c.self.view_is c.self.invariant) c.args.edge
     c.requires.within start end (λ _. start) (λ _. end) in
-    let is = rw (c.twin_of-twin.ensures.value, ← c.self.view_is) at c.start_of.ensures.place in
+    let covers = g.met.P.PlaneTests.sites_are_covered c.self.inside.tests.now in
+    let twin = rw c.directed_edge.ensures.index at
+    (c.fix-twin.ensures.value ∙ c.rev.ensures.index) in
+    let is = rw twin at c.start_of.ensures.place in
     record {
       from = c.self.invariant.from;
-      to = rw (← c.self.view_is) at c.start_of.ensures.covered;
+      to = covered_in _ _ covers _ _ c.self.invariant.sites c.start_of.ensures.listed;
       apart = rw is (rw (← c.self.view_is) at
           (differs_if_within start end ends s.from c.requires.start).1);
     }
@@ -42,8 +48,10 @@ pub returns-then-goes_towards : goal.returns-then-goes_towards
 returns-then-goes_towards g c =
     let given = rw (← c.self.view_is) at c.requires in
     let side = rw (← c.self.view_is) at c.side_of_to-side.ensures in
+    let twin = rw c.directed_edge.ensures.index at
+    (c.fix-twin.ensures.value ∙ c.rev.ensures.index) in
     rw (← c.self.view_is) (along_edge c.self.invariant c.args.edge given.within given.start
-    given.apart (rw (c.twin_of-twin.ensures.value, ← c.self.view_is) at c.start_of.ensures.place)
+    given.apart (rw twin at c.start_of.ensures.place)
     (on_if_neither _ (unless (rw side at c.is_on_left_side.ensures) c.if-is_on_left_side.false)
     (unless (rw side at c.is_on_right_side.ensures) c.if-is_on_right_side.false))
     (c.goes_towards.ensures.0 c.if-goes_towards.true))
@@ -52,9 +60,10 @@ pub returns-else-goes_towards : goal.returns-else-goes_towards
 returns-else-goes_towards g c =
     let given = rw (← c.self.view_is) at c.requires in
     let side = rw (← c.self.view_is) at c.side_of_to-side.ensures in
-    let twin = c.twin_of-twin.ensures.value in
+    let twin = rw c.directed_edge.ensures.index at
+    (c.fix-twin.ensures.value ∙ c.rev.ensures.index) in
     rw (twin, ← c.self.view_is) (along_twin c.self.invariant c.args.edge given.within
-    given.start given.apart (rw (twin, ← c.self.view_is) at c.start_of.ensures.place)
+    given.start given.apart (rw twin at c.start_of.ensures.place)
     (on_if_neither _ (unless (rw side at c.is_on_left_side.ensures) c.if-is_on_left_side.false)
     (unless (rw side at c.is_on_right_side.ensures) c.if-is_on_right_side.false))
     (unless c.goes_towards.ensures c.if-goes_towards.false))

@@ -1,8 +1,9 @@
+use Rattle.std.proofs.Common.{◌∙◌}
 use Rattle.std.proofs.lemmas.List.{length-map}
 use Rattle.delaunay_location.specs.half_edge_mesh.Rounds.{hull_left}
 use Rattle.delaunay_location.proofs.mesh_embedding.OutlineGiven.{along_next, along_goes_on}
 use Rattle.delaunay_location.proofs.mesh_embedding.OutlineGiven.{along_ends}
-use Rattle.delaunay_lines.proofs.MeshSteps.{of_mesh, over_value}
+use Rattle.delaunay_lines.proofs.MeshSteps.{of_mesh}
 use Rattle.delaunay_lines.proofs.OutsideItems.{along_weakened, hull_begins}
 use Rattle.delaunay_lines.proofs.segment.Segment.nearest_vertex.Goals as goal
 
@@ -14,23 +15,26 @@ loop-outer-init g c = record {
       c.into_iter-outer-iterator.ensures.into_iter_gives);
 }
 
-pub start_vertex-vertex-requires : goal.start_vertex-vertex-requires
-start_vertex-vertex-requires g c =
-    rw c.fix-edge.ensures.value (of_mesh (over_value c.self.view_is c.self.invariant) _ (along_next
-    _ _ (hull_left c.loop-outer.outer-iterator) c.loop-outer.invariant.going _ _
-    c.in-Some.ensures.steps).0)
+pub directed_edge-edge-requires : goal.directed_edge-edge-requires
+directed_edge-edge-requires g c =
+    let going = rw (← c.self.view_is) at c.loop-outer.invariant.going in
+    rw c.fix.ensures.value (of_mesh c.self.invariant _ (along_next _ _
+    (hull_left c.loop-outer.outer-iterator) going _ _ c.in-Some.ensures.steps).0)
 
 pub loop-outer-preserved : goal.loop-outer-preserved
 loop-outer-preserved g c =
-    let now = c.better_of-nearest.ensures in
-    record {
+    let before = rw (← c.self.view_is) at c.loop-outer.invariant in
+    let now = rw (← c.self.view_is) at c.better_of-nearest.ensures in
+    let edge = c.directed_edge-edge.ensures in
+    let vertex = rw (edge.dcel, edge.index, c.fix.ensures.value) at
+    (c.fix-in-loop-outer.ensures.value ∙ c.from.ensures.index) in
+    rw (← c.self.view_is) (record {
       found = now.found;
-      first = λ some. now.kept 0 (c.loop-outer.invariant.first some);
+      first = λ some. now.kept 0 (before.first some);
       going = along_goes_on _ _ (hull_left c.loop-outer.outer-iterator)
-          (along_weakened (λ h seen. now.kept _ seen) c.loop-outer.invariant.going) _ _
-          c.in-Some.ensures.steps
-          (rw (c.start_vertex-vertex.ensures.value, c.fix-edge.ensures.value) at now.here);
-    }
+          (along_weakened (λ h seen. now.kept _ seen) before.going) _ _ c.in-Some.ensures.steps
+          (rw vertex at now.here);
+    })
 
 pub returns : goal.returns
 returns g c =

@@ -1,11 +1,20 @@
-use Rattle.delaunay_location.specs.delaunay_core.Place.{place_of}
+use Rattle.std.proofs.Common.{refl}
 use Rattle.delaunay_location.proofs.delaunay_legalization_lemmas.Questions.{both_ways}
 use Rattle.delaunay_lines.proofs.SegmentTests.{differs_if_within}
 use Rattle.delaunay_lines.proofs.way.Way.has_within.Goals as goal
 
-pub returns-else-ends_elsewhere : goal.returns-else-ends_elsewhere
-returns-else-ends_elsewhere g c = (
-  (λ t. absurd (both_ways _ t c.if-ends_elsewhere.false)),
-  (λ w. c.ends_elsewhere.ensures.1 (differs_if_within c.args.self.now.from c.args.self.now.to
-      (rw (← c.self.view_is) c.self.invariant.apart) (place_of g.S.SpadeNum.whole c.args.point) w)),
-)
+pub returns-then-is_same_point : goal.returns-then-is_same_point
+returns-then-is_same_point g c =
+    let from = c.is_same_point.ensures.0 c.if-is_same_point.true in
+    rw (← c.self.view_is) (
+      (λ t. absurd (both_ways _ t refl)),
+      (λ w. absurd ((differs_if_within _ _ c.self.invariant.apart _ w).0 from)),
+    )
+
+pub returns-then-is_same_point-2 : goal.returns-then-is_same_point-2
+returns-then-is_same_point-2 g c =
+    let to = c.is_same_point-2.ensures.0 c.if-is_same_point-2.true in
+    rw (← c.self.view_is) (
+      (λ t. absurd (both_ways _ t refl)),
+      (λ w. absurd ((differs_if_within _ _ c.self.invariant.apart _ w).1 to)),
+    )

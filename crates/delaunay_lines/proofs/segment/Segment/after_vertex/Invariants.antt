@@ -2,7 +2,7 @@ use Rattle.std.proofs.Common.{ℕ, map}
 use Rattle.delaunay_location.specs.half_edge_mesh.Rounds.{out_edges_left}
 use Rattle.delaunay_location.proofs.delaunay_legalization_lemmas.Rounds.{IsGoingRound}
 use Rattle.delaunay_lines.specs.Steps.{LeadsOn}
-use Rattle.delaunay_lines.proofs.segment.Segment.edge_towards.Given as goal
+use Rattle.delaunay_lines.proofs.segment.Segment.after_vertex.Given as goal
 
 abbrev pub invariant-loop-edge : goal.invariant-loop-edge
 invariant-loop-edge g l = IsGoingRound l.self.dcel l.fn.vertex
