@@ -89,6 +89,6 @@ impl<'a, V: HasPosition, DE, UE, F, P: PlaneTests<V::Scalar>> Segment<'a, V, DE,
         if self.side_of_start(exit).is_on_line() {
             return Some(FixedIntersection::Vertex(here.from().fix()));
         }
-        Some(FixedIntersection::Edge(here.rev().fix()))
+        Some(FixedIntersection::Edge(exit.rev()))
     }
 }

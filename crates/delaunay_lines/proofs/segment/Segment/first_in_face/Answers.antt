@@ -1,4 +1,3 @@
-use Rattle.std.proofs.Common.{◌∙◌}
 use Rattle.delaunay_lines.proofs.FirstItems.{ends_in_face, through_start, through_side}
 use Rattle.delaunay_lines.proofs.SegmentTests.{unless}
 use Rattle.delaunay_lines.proofs.segment.Segment.first_in_face.Goals as goal
@@ -28,10 +27,5 @@ returns g c =
     let exit = rw (← c.self.view_is) at c.edge_over-exit.ensures in
     let left = rw (c.side_of_to.ensures, ← c.self.view_is) at c.is_on_left_side.ensures in
     let on = rw (c.side_of_start.ensures, ← c.self.view_is) at c.is_on_line.ensures in
-    rw (
-      c.fix-2.ensures.value,
-      c.rev.ensures.index,
-      c.directed_edge-here.ensures.index,
-      ← c.self.view_is,
-    ) (through_side c.self.invariant c.edge_over-exit.result exit.within exit.start given.apart
+    rw (c.rev.ensures, ← c.self.view_is) (through_side c.self.invariant c.edge_over-exit.result exit.within exit.start given.apart
     exit.over (unless left c.if-is_on_left_side.false) (unless on c.if-is_on_line.false))
