@@ -5,7 +5,6 @@ ghost use Rattle.delaunay_sight.specs.Beside.{HasFreeRound, IsFreeBeside};
 
 use crate::free_faces::FreeFaces;
 use delaunay_lines::half_edge_mesh::{Dcel, FixedDirectedEdgeHandle, FixedVertexHandle, MeshViews};
-use delaunay_lines::twin_of;
 
 // Whether the face on the left of an edge is an inner one, and free.
 pub(crate) fn is_free_beside<V, DE, UE, F, G: FreeFaces>(
@@ -30,7 +29,8 @@ pub(crate) fn is_free_along<V, DE, UE, F, G: FreeFaces>(
     ensures { let m = dcel.now.mesh in IsTrue result ↔
         (IsFreeBeside m (G.free free.now) edge ⊎ IsFreeBeside m (G.free free.now) (rev edge)) }
 {
-    is_free_beside(dcel, edge, free) || is_free_beside(dcel, twin_of(dcel, edge), free)
+    let twin = dcel.directed_edge(edge).rev().fix();
+    is_free_beside(dcel, edge, free) || is_free_beside(dcel, twin, free)
 }
 
 // Whether the face on the left of an edge that starts at a vertex is so.

@@ -1,7 +1,7 @@
 //! Whether a segment passes free faces at what it meets.
 ghost use Rattle.std.specs.Prelude.{◌≡◌, ◌≢◌, ◌↔◌, ◌<◌, List, length, IsTrue};
 ghost use Rattle.delaunay_lines.specs.half_edge_mesh.Mesh.{origin, rev};
-ghost use Rattle.delaunay_lines.specs.plane.Line.{Item, across, along};
+ghost use Rattle.delaunay_lines.specs.plane.Line.{Item, across};
 ghost use Rattle.delaunay_lines.specs.plane.Side.{on};
 ghost use Rattle.delaunay_lines.specs.Items.{item_in, mesh_of};
 ghost use Rattle.delaunay_lines.specs.Walk.{AreLeft, IsReady};
@@ -14,7 +14,7 @@ use delaunay_lines::delaunay_core::line_side_info::LineSideInfo;
 use delaunay_lines::delaunay_core::math::PlaneTests;
 use delaunay_lines::delaunay_core::point::{HasPosition, Point2};
 use delaunay_lines::half_edge_mesh::{Dcel, DirectedEdgeHandle, FixedDirectedEdgeHandle};
-use delaunay_lines::{Intersection, LineIntersectionIterator, Segment, twin_of};
+use delaunay_lines::{Intersection, LineIntersectionIterator, Segment};
 use std::marker::Model;
 
 /// A segment over the mesh of a triangulation with free faces, and tests that cover its ends and
@@ -74,8 +74,8 @@ impl<'a, V: HasPosition, DE, UE, F, G: FreeFaces, P: PlaneTests<V::Scalar>> Sigh
             IsTrue result ↔
             Passes V.place G.free self.now (across (origin m h) (origin m (rev h))) }
     {
+        let twin = edge.rev().fix();
         let edge = edge.fix();
-        let twin = twin_of(self.dcel, edge);
         let segment = Segment {
             dcel: self.dcel,
             tests: self.tests,
@@ -86,17 +86,8 @@ impl<'a, V: HasPosition, DE, UE, F, G: FreeFaces, P: PlaneTests<V::Scalar>> Sigh
             && self.is_free_unless_on(edge, segment.side_of_to(edge))
     }
 
-    // Whether one of the faces beside an edge that it runs along is.
-    fn overlaps_free(&self, edge: &DirectedEdgeHandle<'a, V, DE, UE, F>) -> bool
-        requires { edge.now.dcel.now ≡ self.now.dcel }
-        ensures { let m = self.now.dcel.mesh in let h = edge.now.index in
-            IsTrue result ↔
-            Passes V.place G.free self.now (along (origin m h) (origin m (rev h))) }
-    {
-        is_free_along(self.dcel, edge.fix(), self.free)
-    }
-
-    // Whether those that it has beside an item that it meets are.
+    // Whether those that it has beside an item that it meets are: one of the two beside an edge that
+    // it runs along.
     fn passes(&self, item: &Intersection<'a, V, DE, UE, F>) -> bool
         requires { (mesh_of item.now).now ≡ self.now.dcel }
         ensures { IsTrue result ↔ Passes V.place G.free self.now (item_in item.now) }
@@ -104,7 +95,7 @@ impl<'a, V: HasPosition, DE, UE, F, G: FreeFaces, P: PlaneTests<V::Scalar>> Sigh
         match item {
             Intersection::EdgeIntersection(edge) => self.crosses_free(edge),
             Intersection::VertexIntersection(_) => true,
-            Intersection::EdgeOverlap(edge) => self.overlaps_free(edge),
+            Intersection::EdgeOverlap(edge) => is_free_along(self.dcel, edge.fix(), self.free),
         }
     }
 

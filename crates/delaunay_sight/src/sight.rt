@@ -2,7 +2,7 @@
 ghost use Rattle.std.specs.Prelude.{◌↔◌, map, All, IsTrue};
 ghost use Rattle.delaunay_lines.specs.plane.Fraction.{whole as fraction};
 ghost use Rattle.delaunay_lines.specs.plane.Tests.{InRange};
-ghost use Rattle.plane_sight.specs.Sight.{IsInFree, IsInSight};
+ghost use Rattle.plane_sight.specs.Sight.{IsInSight};
 ghost use Rattle.delaunay_lines.specs.delaunay_core.Place.{place_of};
 ghost use Rattle.delaunay_lines.specs.delaunay_legalization.Shape.{IsTriangulated};
 ghost use Rattle.delaunay_lines.specs.delaunay_legalization.State.{state_of, triangulation_of};
@@ -45,32 +45,6 @@ fn goes_free<'a, V: HasPosition, DE, UE, F, G: FreeFaces, P: PlaneTests<V::Scala
     sight.passes_each(&mut line)
 }
 
-// Whether a segment is a line of sight that starts in a closed free face. The searches for its ends
-// begin at the two vertices `hints`.
-fn sees<V: HasPosition, DE, UE, F, G: FreeFaces, P: PlaneTests<V::Scalar>>(
-    dcel: &Dcel<V, DE, UE, F>,
-    from: Point2<V::Scalar>,
-    to: Point2<V::Scalar>,
-    hints: (FixedVertexHandle, FixedVertexHandle),
-    free: &G,
-    tests: &P,
-) -> bool
-    requires kept { IsTriangulated V.place (state_of dcel.now) }
-    requires sites { All (P.sites tests.now) (map V.place dcel.now.vertices) }
-    requires from_covered { P.covered tests.now (place_of V.Scalar.whole from) }
-    requires to_covered { P.covered tests.now (place_of V.Scalar.whole to) }
-    requires start { IsInFree (triangulation_of V.place (state_of dcel.now))
-        (by_place (G.free free.now)) (fraction (place_of V.Scalar.whole from)) }
-    ensures { IsTrue result ↔ IsInSight (triangulation_of V.place (state_of dcel.now))
-        (by_place (G.free free.now)) (fraction (place_of V.Scalar.whole from))
-        (fraction (place_of V.Scalar.whole to)) }
-{
-    if !is_in_free(dcel, to, hints.1, free, tests) {
-        return false;
-    }
-    goes_free(dcel, from, to, hints.0, free, tests)
-}
-
 /// Whether each point of the segment between two positions is in a closed free face. So the segment
 /// enters no face that is not free and does not leave the hull; it may go through corners of faces
 /// that are not free, and along an edge with a free face on one side. A position sees itself where
@@ -103,5 +77,8 @@ pub fn is_in_sight<
     if !is_in_free(dcel, from, start, free, tests) {
         return false;
     }
-    sees(dcel, from, to, (start, end), free, tests)
+    if !is_in_free(dcel, to, end, free, tests) {
+        return false;
+    }
+    goes_free(dcel, from, to, start, free, tests)
 }

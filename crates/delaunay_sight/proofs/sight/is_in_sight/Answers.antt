@@ -8,11 +8,19 @@ use Rattle.delaunay_lines.specs.delaunay_legalization.State.{triangulation_of}
 use Rattle.delaunay_lines.proofs.delaunay_legalization_lemmas.Questions.{both_ways}
 use Rattle.delaunay_sight.specs.Beside.{by_place}
 use Rattle.delaunay_sight.proofs.Crossed.{false_tells}
-use Rattle.delaunay_sight.proofs.Decided.{sees_start, of_state}
+use Rattle.delaunay_sight.proofs.Decided.{of_state, sees_end, sees_if, sees_start}
 use Rattle.delaunay_sight.proofs.sight.is_in_sight.Goals as goal
 
-pub sees-requires-clause-sites : goal.sees-requires-clause-sites
-sees-requires-clause-sites g c =
+pub is_in_free-requires-2-clause-sites : goal.is_in_free-requires-2-clause-sites
+is_in_free-requires-2-clause-sites g c =
+    let at = g.V.HasPosition.place in
+    of_state (λ z. All (g.P.PlaneTests.sites c.args.tests.now) (map at z.vertices)) _ _
+    c.mesh-dcel.ensures.state
+    (c.requires.sites (subst (λ z. All InRange (map at z.vertices)) c.mesh-dcel.ensures.state
+    c.mesh-dcel.ensures.in_range))
+
+pub goes_free-requires-clause-sites : goal.goes_free-requires-clause-sites
+goes_free-requires-clause-sites g c =
     let at = g.V.HasPosition.place in
     of_state (λ z. All (g.P.PlaneTests.sites c.args.tests.now) (map at z.vertices)) _ _
     c.mesh-dcel.ensures.state
@@ -28,9 +36,21 @@ returns-then-not-is_in_free g c =
     (whole (at c.args.from))) _ _ c.mesh-dcel.ensures.state
     (sees_start _ free (at c.args.from) (at c.args.to) s))) c.if-not-is_in_free.true)
 
+pub returns-then-not-is_in_free-2 : goal.returns-then-not-is_in_free-2
+returns-then-not-is_in_free-2 g c =
+    let at = place_of g.V.Scalar.SpadeNum.whole in
+    let free = by_place (g.G.FreeFaces.free c.args.free.now) in
+    false_tells (λ s. both_ways _ (c.is_in_free-2.ensures.1
+    (of_state (λ z. IsInFree (triangulation_of g.V.HasPosition.place z) free
+    (whole (at c.args.to))) _ _ c.mesh-dcel.ensures.state
+    (sees_end _ free (at c.args.from) (at c.args.to) s))) c.if-not-is_in_free-2.true)
+
 pub returns : goal.returns
 returns g c =
     let at = place_of g.V.Scalar.SpadeNum.whole in
-    subst (λ z. IsTrue c.sees.result ↔ IsInSight (triangulation_of g.V.HasPosition.place z)
-    (by_place (g.G.FreeFaces.free c.args.free.now)) (whole (at c.args.from))
-    (whole (at c.args.to))) c.mesh-dcel.ensures.state c.sees.ensures
+    let free = g.G.FreeFaces.free c.args.free.now in
+    subst (λ z. IsTrue c.goes_free.result ↔ IsInSight (triangulation_of g.V.HasPosition.place z)
+    (by_place free) (whole (at c.args.from)) (whole (at c.args.to))) c.mesh-dcel.ensures.state
+    (sees_if c.mesh-dcel.result.now c.mesh-dcel.ensures.kept free (at c.args.from) (at c.args.to)
+    (c.is_in_free.ensures.0 c.if-not-is_in_free.false)
+    (c.is_in_free-2.ensures.0 c.if-not-is_in_free-2.false) _ c.goes_free.ensures)

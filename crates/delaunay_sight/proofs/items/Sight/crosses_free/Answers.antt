@@ -3,10 +3,13 @@ use Rattle.delaunay_sight.proofs.items.Sight.crosses_free.Goals as goal
 
 pub returns-then-is_free_unless_on : goal.returns-then-is_free_unless_on
 returns-then-is_free_unless_on g c =
-    let twin = c.twin_of-twin.ensures.value in
     let edge = c.fix-edge.ensures.value in
-    let first = rw (← c.self.view_is, c.side_of_from.ensures, twin, edge) at
-    c.is_free_unless_on.ensures in
+    let first = rw (
+      ← c.self.view_is,
+      c.side_of_from.ensures,
+      c.fix-twin.ensures.value,
+      c.rev.ensures.index,
+    ) at c.is_free_unless_on.ensures in
     let second = rw (← c.self.view_is, c.side_of_to.ensures, edge) at
     c.is_free_unless_on-then-is_free_unless_on.ensures in
     rw (← c.self.view_is) (second_decides c.self.invariant
@@ -19,8 +22,8 @@ returns-else-is_free_unless_on g c =
     let first = rw (
       ← c.self.view_is,
       c.side_of_from.ensures,
-      c.twin_of-twin.ensures.value,
-      c.fix-edge.ensures.value,
+      c.fix-twin.ensures.value,
+      c.rev.ensures.index,
     ) at c.is_free_unless_on.ensures in
     rw (← c.self.view_is) (not_crossed c.self.invariant (g.G.FreeFaces.free c.self.inside.free.now)
     c.args.edge.now.index (crossed_within c.args.edge.now _ (rw (← c.self.view_is) at c.requires)) _
