@@ -188,8 +188,3 @@ class Lists:
         edges, _ = self.in_shape(lambda a, b: meets_rectangle(a, b, (x, y), (u, v)))
         pairs = sorted(tuple(sorted(self.mesh.edges[2 * k].ends)) for k in edges)
         return f"Some(({pairs}, true))"
-
-    def ask_next_on_path(self, i, j):
-        if i == j or max(i, j) >= len(self.points):
-            return "None"
-        return f"Some({self.session.state().path(i, j)[0][1]})"

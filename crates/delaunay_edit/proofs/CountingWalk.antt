@@ -47,13 +47,13 @@ use Rattle.delaunay_paths.proofs.InTheWay.{meets_is_cross}
 use Rattle.delaunay_paths.proofs.NextVertex.{two}
 use Rattle.delaunay_paths.proofs.Passing.{HasPassed, all_passed, list_with, none_passed}
 use Rattle.delaunay_paths.proofs.Passing.{one_more_passed}
+use Rattle.delaunay_paths.proofs.PassedVertices.{HasReached, next_after, not_at_end, reached_begins}
+use Rattle.delaunay_paths.proofs.PassedVertices.{reached_ends, reached_next, reached_stays}
 use Rattle.delaunay_paths.proofs.Places.{no_same_place}
 use Rattle.delaunay_paths.proofs.Walking.{in_map, placed_apart}
 use Rattle.delaunay_edit.specs.Counting.{HasPairs, IsMissing}
 use Rattle.delaunay_edit.proofs.CountingPath.{IsWalking, walk_begins, walk_ends, walk_goes_on}
 use Rattle.delaunay_edit.proofs.CountingPath.{walk_goes_past}
-use Rattle.delaunay_edit.proofs.PassedVertices.{HasReached, next_after, not_at_end, reached_begins}
-use Rattle.delaunay_edit.proofs.PassedVertices.{reached_ends, reached_next, reached_stays}
 
 -- the ends of an item
 abbrev first_end : Item → ℕ

@@ -38,7 +38,6 @@ pub mod EditCounts
 pub mod DifferentConstraints
 pub mod CountingAt
 pub mod CountingPath
-pub mod PassedVertices
 pub mod CountingWalk
 pub mod CountingSplits
 pub mod Recounted

@@ -1,6 +1,6 @@
 -- The list of the edges that cross a segment, where one of them is turned.
 -- Lemmas: one_way, starts_ahead, ends_behind, way_is, way_crosses, way_ends, made_clear,
--- made_clear_back, others_are_all, others_still, taken, put_waiting, put_unseen.
+-- made_clear_back, others_are_all, others_still, taken, put_waiting.
 use Rattle.std.proofs.Common.{◌≡◌, ◌≢◌, ◌⊎◌, ◌*◌, ◌/◌, ◌<◌, [], ◌∷◌, ◌++◌, ◌∙◌}
 use Rattle.std.proofs.Common.{ℕ, List, length, refl, sym, ap, subst}
 use mathlib.Core.Logic.{inl, inr}
@@ -256,38 +256,6 @@ module _ (points : List Point) (m : Mesh) (i j : ℕ) (ws us : List ℕ) (e : �
           | inr there ↦ elim there [
             | inl a ↦ inl (contains_before ws e h a)
             | inr b ↦ inr b
-          ]
-        ];
-      },
-    )
-
-    -- it is to be seen next
-    pub put_unseen : AreOnce ws (us ++ e ∷ [])
-        × AreAllCrossing points m i j (IsIn ws (us ++ e ∷ []))
-    put_unseen = (
-      record {
-        first = once.first;
-        second = once_after us e once.second (λ h. others.other e (inr h) refl);
-        apart = λ h a b. elim (Contains-push_cases us e h b) as (λ _. ⊥) [
-          | inl before ↦ once.apart h a before
-          | inr is ↦ others.other h (inl a) (sym is)
-        ];
-      },
-      record {
-        cross = λ h there. elim there [
-          | inl a ↦ others.cross h (inl a)
-          | inr b ↦ elim (Contains-push_cases us e h b) [
-            | inl before ↦ others.cross h (inr before)
-            | inr is ↦ subst
-                (λ (k : ℕ). (k < length m.half_edges) × CrossesFromRight points m i j k) is
-                others.own
-          ]
-        ];
-        all = λ h within c. elim (others.all h within c) [
-          | inl is ↦ inr (subst (Contains (us ++ e ∷ [])) (sym is) (contains_last us e))
-          | inr there ↦ elim there [
-            | inl a ↦ inl a
-            | inr b ↦ inr (contains_before us e h b)
           ]
         ];
       },

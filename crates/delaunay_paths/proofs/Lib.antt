@@ -32,6 +32,7 @@ pub mod NextVertex
 pub mod AddingPieces
 pub mod OnePiece
 pub mod InTheWay
+pub mod PassedVertices
 pub mod ListingPath
 -- Marks, and constraints that are released.
 pub mod Marks

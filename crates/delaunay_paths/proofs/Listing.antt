@@ -1,13 +1,13 @@
 -- The edges that cross a piece of a path are listed by the walk along it, each once.
--- Notions: IsMet, AreListed, IsListingPiece; not_before_itself, none_listed, other_item,
--- few_listed, not_listed, edge_more, room_for_more, piece_listed, piece_walk_begins, room_for_item,
--- piece_walk_goes_on, piece_walk_ends, piece_on, whole_piece.
+-- Notions: IsMet, AreListed, IsTwin, IsListingPiece; not_before_itself, none_listed, other_item,
+-- few_listed, not_listed, edge_more, room_for_more, piece_listed, twin_of, piece_walk_begins,
+-- piece_walk_has_room, piece_walk_crosses, piece_walk_stays, piece_walk_along, piece_walk_ends,
+-- piece_on.
 use Rattle.std.proofs.Common.{◌≡◌, ◌≢◌, ◌*◌, ◌/◌, ◌<◌, ◌≤◌, [], ◌∷◌, ◌++◌, ◌∙◌}
-use Rattle.std.proofs.Common.{◌⊎◌, ℕ, suc, List, length, map, Option, Some, None, sym, ap, subst}
+use Rattle.std.proofs.Common.{◌⊎◌, ℕ, List, length, map, Some, sym, ap, subst}
 use Rattle.std.proofs.Common.{refl, arith, vec_capacity}
 use mathlib.Core.Logic.{inl, inr}
-use Rattle.std.specs.Prelude.{ℤ, AllPairs, Contains, MatchOption}
-use Rattle.std.proofs.lemmas.Bool.{cases_eq}
+use Rattle.std.specs.Prelude.{ℤ, AllPairs, Contains}
 use Rattle.std.proofs.lemmas.List.{length-map}
 use Rattle.std.proofs.lemmas.List.Elements.{Contains-append_cases, Contains-append_left}
 use Rattle.std.proofs.lemmas.List.Elements.{Contains-push_cases}
@@ -15,7 +15,7 @@ use Rattle.std.specs.Borrow.{Bor}
 use Rattle.delaunay_lines.specs.half_edge_mesh.Contents.{Contents, IsMeshWithData}
 use Rattle.delaunay_lines.specs.half_edge_mesh.Mesh.{Mesh, IsValidMesh, origin, rev}
 use Rattle.delaunay_lines.proofs.half_edge_links.Lists.Rev.{rev-rev, rev_within}
-use Rattle.delaunay_lines.specs.plane.Fraction.{Fraction, Point, IsSame, WithinSegment}
+use Rattle.delaunay_lines.specs.plane.Fraction.{Fraction, Point, IsSame}
 use Rattle.delaunay_lines.specs.plane.Line.{Item, IsBefore, IsLineList, Meets, across, along}
 use Rattle.delaunay_lines.specs.plane.Line.{at_vertex}
 use Rattle.delaunay_lines.specs.plane.Pairs.{place, IsIndex}
@@ -24,10 +24,9 @@ use Rattle.delaunay_lines.proofs.plane_edits.LocalMesh.Changes.{once_none, once_
 use Rattle.delaunay_lines.proofs.plane_edits.LocalMesh.Changes.{once_cons}
 use Rattle.delaunay_lines.specs.plane_segments.Constraints.{AreNextOn, ArePlacedApart}
 use Rattle.delaunay_lines.specs.plane_segments.Path.{IsFreeOfVertices}
-use Rattle.delaunay_lines.proofs.plane_segments.Constraints.Pieces.{on_parts}
 use Rattle.delaunay_lines.proofs.plane_segments.Crossing.PathFlips.{piece_is_free}
 use Rattle.delaunay_lines.specs.plane_tiling.Local.{IsMesh}
-use Rattle.delaunay_lines.proofs.plane_tiling.Totals.{Contains-cases, Contains-head, Contains-later}
+use Rattle.delaunay_lines.proofs.plane_tiling.Totals.{Contains-head, Contains-later}
 use Rattle.delaunay_lines.proofs.plane_tiling.Totals.{Contains-none}
 use Rattle.delaunay_lines.specs.mesh_embedding.Drawn.{drawn, faces_of, outer_of}
 use Rattle.delaunay_lines.specs.mesh_embedding.Legal.{AreEdges}
@@ -37,21 +36,22 @@ use Rattle.delaunay_lines.proofs.mesh_embedding.WorkLists.{contains_before, cont
 use Rattle.delaunay_lines.proofs.mesh_embedding.WorkLists.{contains_map_from, once_after}
 use Rattle.delaunay_lines.specs.delaunay_legalization.State.{State, state_of}
 use Rattle.delaunay_lines.proofs.delaunay_legalization_lemmas.Legalizing.{half_within}
+use Rattle.delaunay_lines.specs.half_edge_views.declared.edge.DirectedEdgeHandle.{DirectedEdgeHandle}
 use Rattle.delaunay_lines.specs.declared.intersection.Intersection.{Intersection}
+use Rattle.delaunay_lines.specs.declared.intersection.Intersection.TheVariants.{EdgeIntersection}
 use Rattle.delaunay_lines.specs.declared.iterator.LineIntersectionIterator.{LineIntersectionIterator}
 use Rattle.delaunay_lines.specs.Items.{item_in, mesh_of}
 use Rattle.delaunay_lines.specs.Walk.{GivesNext, IsReady}
 use Rattle.delaunay_paths.specs.Crossing.{AreAllCrossing, CrossesFromRight}
-use Rattle.delaunay_paths.specs.Lists.{AreToTurn, HaveRoom, KeepEntries, KeepRoom, ListPiece}
+use Rattle.delaunay_paths.specs.Lists.{HaveRoom, KeepEntries, KeepRoom, ListPiece}
 use Rattle.delaunay_paths.specs.declared.crossing.CrossingLists.{CrossingLists}
-use Rattle.delaunay_paths.specs.Items.{HasRoomForItem, IsOtherVertex, ListsItem, crossed_twin}
 use Rattle.delaunay_paths.proofs.Beginning.{crossed_one_way, met_before, part_meets, whole_meets}
-use Rattle.delaunay_paths.proofs.MetEdges.{crosses_if_met, met_if_crosses}
+use Rattle.delaunay_paths.proofs.MetEdges.{crossed_twin, crosses_if_met, met_if_crosses}
 use Rattle.delaunay_paths.proofs.MovedEdges.{ListsAllCrossing, crossing_begins, room_on, room_stays}
 use Rattle.delaunay_paths.proofs.MovedEdges.{turn_on}
 use Rattle.delaunay_paths.proofs.NextVertex.{SeeksNext, list_on, seeking_finds, seeking_goes_on}
 use Rattle.delaunay_paths.proofs.NextVertex.{two_ends}
-use Rattle.delaunay_paths.proofs.Passing.{later_ones}
+use Rattle.delaunay_paths.proofs.Passing.{earlier_ones, later_ones}
 use Rattle.delaunay_paths.proofs.Places.{no_same_place}
 use Rattle.delaunay_paths.proofs.Walking.{placed_apart}
 
@@ -73,17 +73,6 @@ abbrev second_end : Item → ℕ
 second_end (at_vertex v) = v
 second_end (across a b) = b
 second_end (along a b) = b
-
--- each earlier one of a list in an order comes before the one in the middle
-earlier_ones : {X : Type 0} (R : X → X → Type 0) (passed : List X) (k : X) (others : List X) →
-    AllPairs R ((passed ++ k ∷ []) ++ others) → (x : X) → Contains passed x → R x k
-earlier_ones R [] k others o x c = absurd (Contains-none x c)
-earlier_ones R (y ∷ ys) k others o x c = elim (Contains-cases y ys x c) [
-  | inl is ↦ subst (λ z. R z k) is (later_ones R [] y ((ys ++ k ∷ []) ++ others) o k
-      (Contains-append_left (ys ++ k ∷ []) others k (contains_last ys k)))
-  | inr later ↦ earlier_ones R ys k others
-      (λ a b d lt within. o (suc a) (suc b) d (omega (arith, lt)) (omega (arith, within))) x later
-]
 
 -- where a function has different values at the entries of a list without repetition, so is the list
 -- of its values
@@ -303,6 +292,38 @@ module _ (points : List Point) (m : Mesh) (s : IsValidMesh m)
     pub piece_listed : AreAllCrossing points m i v (Contains hs)
     piece_listed = record { cross = listed_crosses; all = crossing_listed }
 
+-- ---- an edge that is crossed
+-- the item is edge e, whose twin is h
+pub record IsTwin {V D U F : Type 0} (x : Intersection V D U F) (e : DirectedEdgeHandle V D U F)
+    (h : ℕ) : Type 0 where
+  pub is : x ≡ EdgeIntersection e
+  pub index : h ≡ rev e.index
+  pub within : h < length e.dcel.now.directed
+
+pub twin_of : {V D U F : Type 0} {x : Intersection V D U F} {e : DirectedEdgeHandle V D U F}
+    (r : DirectedEdgeHandle V D U F) {h : ℕ} → x ≡ EdgeIntersection e → r.dcel ≡ e.dcel → r.index ≡ rev e.index → h ≡ r.index
+    → h < length r.dcel.now.directed → IsTwin x e h
+twin_of {V = V} {D = D} {U = U} {F = F} r {h = h} is mesh index value within = record {
+  is = is;
+  index = value ∙ index;
+  within = subst (λ (d : Bor (Contents V D U F)). h < length d.now.directed) mesh within;
+}
+
+module _ {V D U F : Type 0} {x : Intersection V D U F} {e : DirectedEdgeHandle V D U F} {h : ℕ}
+    (c : Contents V D U F) (twin : IsTwin x e h) (same : state_of (mesh_of x).now ≡ state_of c) where
+  twin_state : state_of e.dcel.now ≡ state_of c
+  twin_state = sym (ap (λ (y : Intersection V D U F). state_of (mesh_of y).now) twin.is) ∙ same
+
+  is_crossed_twin : item_in x ≡ crossed_twin c.mesh h
+  is_crossed_twin = ap item_in twin.is ∙ (λ k. across
+      (origin (twin_state k).mesh (start k)) (origin (twin_state k).mesh (sym twin.index k)))
+    where
+      start : e.index ≡ rev h
+      start = sym (rev-rev e.index) ∙ ap rev (sym twin.index)
+
+  twin_within : h < length c.directed
+  twin_within = subst (λ (s : State V D U F). h < length s.directed) twin_state twin.within
+
 -- ---- the walk
 -- no other vertex than i was passed, and the edges so far wait
 pub record IsListingPiece {V D U F P S : Type 0} (at : V → Point) (number : S → ℤ)
@@ -367,81 +388,89 @@ module _ {V D U F P S : Type 0} {at : V → Point} {number : S → ℤ}
       (gives.gives listing.seeks.so_far.others listing.seeks.so_far.are_left).0
       ∙ listing.seeks.so_far.state
 
-  -- where it is that of a directed edge
-  module _ (h : ℕ) (within : h < length c.directed)
-      (is : item_in x ≡ crossed_twin c.mesh h) where
-    h_met : IsMet points_of_mesh c.mesh i j (length c.directed) h
-    h_met = subst (Meets (drawn points_of_mesh c.mesh) (place points_of_mesh i)
-        (place points_of_mesh j)) is met_now
+  -- where it is that of an edge that is crossed, with this twin
+  module _ {e : DirectedEdgeHandle V D U F} {h : ℕ} (twin : IsTwin x e h) where
+    twin_met : IsMet points_of_mesh c.mesh i j (length c.directed) h
+    twin_met = subst (Meets (drawn points_of_mesh c.mesh) (place points_of_mesh i)
+        (place points_of_mesh j)) (is_crossed_twin c twin same_mesh) met_now
 
     ordered : AllPairs (IsBefore (drawn points_of_mesh c.mesh) (place points_of_mesh i)
         (place points_of_mesh j)) ((listing.passed ++ crossed_twin c.mesh h ∷ []) ++ line.0)
     ordered = subst (λ (k : Item). AllPairs (IsBefore (drawn points_of_mesh c.mesh)
         (place points_of_mesh i) (place points_of_mesh j))
-        ((listing.passed ++ k ∷ []) ++ line.0)) is (line.1.ordered ends_apart)
+        ((listing.passed ++ k ∷ []) ++ line.0)) (is_crossed_twin c twin same_mesh)
+        (line.1.ordered ends_apart)
+
+    -- a list with room for each edge has room for it
+    pub piece_walk_has_room : {len : ℕ} → len ≡ length hs → HaveRoom (length c.undirected) was
+        → len < vec_capacity l.waiting
+    piece_walk_has_room {len = len} count fits =
+        below len (length hs) (length c.undirected) (vec_capacity was.waiting)
+        (vec_capacity l.waiting) count
+        (room_for_more points_of_mesh c.mesh listing.whole.valid listing.seeks.shape i j
+        (length c.directed) listing.whole.fits.directed_fit vertices_of_mesh ends_apart
+        listing.passed hs listing.listed (drawn points_of_mesh c.mesh) (place points_of_mesh i)
+        (place points_of_mesh j) line.0 h (twin_within c twin same_mesh) twin_met ordered
+        (length c.undirected) listing.whole.fits.undirected_fit) fits.waiting listing.room.waiting
+      where
+        below : (len a n given room : ℕ) → len ≡ a → a < n → n ≤ given → room ≡ given → len < room
+        below len a n given room is less fits stays = omega arith
 
     -- it is one more
-    more : AreListed points_of_mesh c.mesh i j (length c.directed)
-        (listing.passed ++ crossed_twin c.mesh h ∷ []) (hs ++ h ∷ [])
-    more = edge_more points_of_mesh c.mesh listing.whole.valid listing.seeks.shape i j
-        (length c.directed) listing.whole.fits.directed_fit vertices_of_mesh ends_apart
-        listing.passed hs listing.listed (drawn points_of_mesh c.mesh) (place points_of_mesh i)
-        (place points_of_mesh j) line.0 h within h_met ordered
+    pub piece_walk_crosses : {longer : CrossingLists} → IsReady at number IsSite IsCovered after
+        → KeepRoom l longer → longer.waiting.items ≡ hs ++ h ∷ []
+        → longer.unseen.items ≡ l.unseen.items
+        → IsListingPiece at number IsSite IsCovered c i j was longer after
+    piece_walk_crosses {longer = longer} ready room_now pushed same = record {
+      whole = listing.whole;
+      passed = listing.passed ++ item_in x ∷ [];
+      seeks = seeking_goes_on listing.seeks gives ready
+          (λ v is. absurd (not_crossed v (origin c.mesh (rev h)) (origin c.mesh h)
+          (sym is ∙ is_crossed_twin c twin same_mesh)));
+      listed = subst (λ (z : Item × List ℕ). AreListed points_of_mesh c.mesh i j
+          (length c.directed) (listing.passed ++ z.0 ∷ []) z.1)
+          (λ k. (sym (is_crossed_twin c twin same_mesh) k, sym pushed k))
+          (edge_more points_of_mesh c.mesh listing.whole.valid listing.seeks.shape i j
+          (length c.directed) listing.whole.fits.directed_fit vertices_of_mesh ends_apart
+          listing.passed hs listing.listed (drawn points_of_mesh c.mesh) (place points_of_mesh i)
+          (place points_of_mesh j) line.0 h (twin_within c twin same_mesh) twin_met ordered);
+      none = same ∙ listing.none;
+      room = room_on listing.room room_now;
+    }
 
-    -- and there is room for it
-    room : length hs < length c.undirected
-    room = room_for_more points_of_mesh c.mesh listing.whole.valid listing.seeks.shape i j
-        (length c.directed) listing.whole.fits.directed_fit vertices_of_mesh ends_apart
-        listing.passed hs listing.listed (drawn points_of_mesh c.mesh) (place points_of_mesh i)
-        (place points_of_mesh j) line.0 h within h_met ordered (length c.undirected)
-        listing.whole.fits.undirected_fit
-
-  -- a list with room for each edge has room for that of the item
-  pub room_for_item : HaveRoom (length c.undirected) was
-      → HasRoomForItem (mesh_of x).now (item_in x) hs (vec_capacity l.waiting)
-  room_for_item fits h within is =
-      below (length hs) (length c.undirected) (vec_capacity was.waiting) (vec_capacity l.waiting)
-      (room h (subst (λ (s : State V D U F). h < length s.directed) same_mesh within)
-      (subst (λ (s : State V D U F). item_in x ≡ crossed_twin s.mesh h) same_mesh is)) fits.waiting
-      listing.room.waiting
-    where
-      below : (a n given room : ℕ) → a < n → n ≤ given → room ≡ given → a < room
-      below a n given room less fits stays = omega arith
-
-  -- with it the edges are listed on, where it is no other vertex
-  pub piece_walk_goes_on : {longer : CrossingLists} → IsReady at number IsSite IsCovered after
-      → IsOtherVertex (item_in x) i None
-      → ListsItem (mesh_of x).now (item_in x) hs longer.waiting.items → KeepRoom l longer
-      → longer.unseen.items ≡ l.unseen.items
-      → IsListingPiece at number IsSite IsCovered c i j was longer after
-  piece_walk_goes_on {longer = longer} ready none lists room_now same = record {
+  -- where it is no other vertex and no such edge, all stays
+  passes : IsReady at number IsSite IsCovered after
+      → ((v : ℕ) → item_in x ≡ at_vertex v → v ≡ i) → ((a b : ℕ) → ¬ (item_in x ≡ across a b))
+      → IsListingPiece at number IsSite IsCovered c i j was l after
+  passes ready none uncrossed = record {
     whole = listing.whole;
     passed = listing.passed ++ item_in x ∷ [];
     seeks = seeking_goes_on listing.seeks gives ready none;
-    listed = go lists;
-    none = same ∙ listing.none;
-    room = room_on listing.room room_now;
+    listed = other_item points_of_mesh c.mesh listing.whole.valid listing.seeks.shape i j
+        (length c.directed) listing.whole.fits.directed_fit vertices_of_mesh ends_apart
+        listing.passed hs listing.listed (item_in x) uncrossed;
+    none = listing.none;
+    room = listing.room;
   }
-    where
-      Listed : Item → List ℕ → Type 0
-      Listed k ks = AreListed points_of_mesh c.mesh i j (length c.directed)
-          (listing.passed ++ k ∷ []) ks
 
-      go : ListsItem (mesh_of x).now (item_in x) hs longer.waiting.items
-          → Listed (item_in x) longer.waiting.items
-      go (inl y) = subst (Listed (item_in x)) (sym y.1)
-          (other_item points_of_mesh c.mesh listing.whole.valid listing.seeks.shape i j
-          (length c.directed) listing.whole.fits.directed_fit vertices_of_mesh ends_apart
-          listing.passed hs listing.listed (item_in x) y.0)
-      go (inr y) =
-          let is = subst (λ (s : State V D U F). item_in x ≡ crossed_twin s.mesh y.0)
-          same_mesh y.2 in
-          let within = subst (λ (s : State V D U F). y.0 < length s.directed) same_mesh y.1 in
-          subst (λ (z : Item × List ℕ). Listed z.0 z.1) (λ k. (sym is k, sym y.3 k))
-          (more y.0 within is)
+  pub piece_walk_stays : IsReady at number IsSite IsCovered after → item_in x ≡ at_vertex i
+      → IsListingPiece at number IsSite IsCovered c i j was l after
+  piece_walk_stays ready is = passes ready (λ v e. ap first_end (sym e ∙ is))
+      (λ a b e. not_crossed i a b (sym is ∙ e))
+
+  pub piece_walk_along : IsReady at number IsSite IsCovered after → (a b : ℕ)
+      → item_in x ≡ along a b → IsListingPiece at number IsSite IsCovered c i j was l after
+  piece_walk_along ready a b is = passes ready (λ v e. absurd (no_vertex v (sym e ∙ is)))
+      (λ u v e. no_overlap u v (sym e ∙ is))
+    where
+      no_vertex : (v : ℕ) → ¬ (at_vertex v ≡ along a b)
+      no_vertex v e = cc
+
+      no_overlap : (u v : ℕ) → ¬ (across u v ≡ along a b)
+      no_overlap u v e = cc
 
   -- where it is another vertex, all that cross the piece up to it are listed
-  module _ {v : ℕ} (other : IsOtherVertex (item_in x) i (Some v)) where
+  module _ {v : ℕ} (is : item_in x ≡ at_vertex v) (other : v ≢ i) where
     all_listed : ListsAllCrossing points_of_mesh c i v hs
     all_listed = record {
       once = listing.listed.once;
@@ -449,8 +478,8 @@ module _ {V D U F P S : Type 0} {at : V → Point} {number : S → ℤ}
           (length c.directed) listing.whole.fits.directed_fit vertices_of_mesh ends_apart
           listing.passed line.0 v hs listing.listed (subst (λ (k : Item).
           IsLineList (drawn points_of_mesh c.mesh) (place points_of_mesh i)
-          (place points_of_mesh j) ((listing.passed ++ k ∷ []) ++ line.0)) other.0 line.1)
-          (seeking_finds listing.seeks gives other);
+          (place points_of_mesh j) ((listing.passed ++ k ∷ []) ++ line.0)) is line.1)
+          (seeking_finds listing.seeks gives is other);
       few = few_listed points_of_mesh c.mesh listing.whole.valid listing.seeks.shape i j
           (length c.directed) listing.whole.fits.directed_fit vertices_of_mesh ends_apart
           listing.passed hs listing.listed (length c.undirected) listing.whole.fits.undirected_fit;
@@ -458,12 +487,12 @@ module _ {V D U F P S : Type 0} {at : V → Point} {number : S → ℤ}
 
     pub piece_walk_ends : HaveRoom (length c.undirected) was → ListPiece points_of_mesh c i j v l
     piece_walk_ends fits = record {
-      next = seeking_finds listing.seeks gives other;
+      next = seeking_finds listing.seeks gives is other;
       turn = record {
         piece = record {
           whole = listing.whole;
           free = piece_is_free (drawn points_of_mesh c.mesh) i j i v
-              (seeking_finds listing.seeks gives other);
+              (seeking_finds listing.seeks gives is other);
           shape = listing.seeks.shape;
         };
         crossing =
@@ -476,31 +505,3 @@ pub piece_on : {V D U F : Type 0} {points : List Point} {c : Contents V D U F} {
     {old new : CrossingLists} → ListPiece points c i j v old → KeepEntries old new
     → ListPiece points c i j v new
 piece_on piece same = record { next = piece.next; turn = turn_on piece.turn same }
-
--- ---- a segment of one piece
--- where no vertex is strictly within the segment, its first piece is the whole
-pub whole_piece : {V D U F : Type 0} {points : List Point} {c : Contents V D U F} {i j : ℕ}
-    {l : CrossingLists} → IsFreeOfVertices (drawn points c.mesh) i j
-    → IsMesh points (faces_of c.mesh) (outer_of c.mesh) → (r : Option ℕ)
-    → MatchOption r (i ≡ j) (λ v. ListPiece points c i j v l) → AreToTurn points c i j l
-whole_piece free shape None end = absurd (free.apart end)
-whole_piece {points = points} {c = c} {i = i} {j = j} {l = l} free shape (Some v) piece =
-    subst (λ (k : ℕ). AreToTurn points c i k l) same piece.turn
-  where
-    apart : ArePlacedApart points
-    apart = placed_apart points (faces_of c.mesh) (outer_of c.mesh) shape
-
-    go : IsSame (place points v) (place points i) ⊎ (IsSame (place points v) (place points j)
-        ⊎ WithinSegment (place points i) (place points j) (place points v)) → v ≢ j → ⊥
-    go (inl e) n = no_same_place points apart v i piece.next.second_index free.first
-        (λ s. piece.next.apart (sym s)) e
-    go (inr (inl e)) n =
-        no_same_place points apart v j piece.next.second_index free.second n e
-    go (inr (inr w)) n = free.none_between v piece.next.second_index w
-
-    same : v ≡ j
-    same = elim (cases_eq v j) [
-      | inl e ↦ e
-      | inr n ↦ absurd (go (on_parts (place points i) (place points j) (place points v)
-          piece.next.second) n)
-    ]

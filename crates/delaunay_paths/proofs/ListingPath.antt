@@ -1,16 +1,20 @@
--- The edges along a path, listed one after another.
--- Notions: IsListing; listing_begins, listing_apart, listing_has_room, listing_shortens,
--- listing_goes_on, listing_ends.
+-- The edges along a path, listed one after another by a walk.
+-- Notions: IsListing, IsListingWalk; listing_begins, listing_apart, listing_has_room,
+-- listing_goes_on, listing_ends, listing_walk_begins, listing_walk_ends, listing_walk_crosses,
+-- listing_walk_along, listing_walk_stays, listing_walk_next, listing_walk_goes_on.
 use Rattle.std.proofs.Common.{◌≡◌, ◌≢◌, ◌⊎◌, ◌+◌, ◌<◌, ◌≤◌, [], ◌∷◌, ◌++◌, ◌∙◌}
-use Rattle.std.proofs.Common.{ℕ, List, length, map, sym, subst, inl, inr}
+use Rattle.std.proofs.Common.{ℕ, List, length, map, Some, None, sym, subst, inl, inr}
 use Rattle.std.proofs.Common.{arith, append_assoc, append-nil, length-append}
 use Rattle.std.specs.Prelude.{ℤ, pos, negsuc, ◌*ℤ◌, ◌≤ℤ◌, ◌<ℤ◌, nat_abs}
+use Rattle.std.proofs.lemmas.List.Elements.{Contains-append_left}
 use Rattle.std.proofs.lemmas.Bool.{cases_eq}
 use Rattle.std.proofs.lemmas.Int.{ints}
+use Rattle.delaunay_lines.specs.half_edge_mesh.Contents.{Contents}
 use Rattle.delaunay_lines.specs.half_edge_mesh.Mesh.{Mesh, origin, rev}
 use Rattle.delaunay_lines.specs.plane.Circle.{gap, IsNearer}
-use Rattle.delaunay_lines.specs.plane.Fraction.{Point, whole}
+use Rattle.delaunay_lines.specs.plane.Fraction.{Point, whole, OnSegment}
 use Rattle.delaunay_lines.specs.plane.Laws.{squared_way}
+use Rattle.delaunay_lines.specs.plane.Line.{Item, IsLineList, at_vertex, across, along}
 use Rattle.delaunay_lines.specs.plane.Pairs.{IsIndex, place}
 use Rattle.delaunay_lines.specs.plane_delaunay.Nearer.{nearer_count}
 use Rattle.delaunay_lines.proofs.plane_delaunay.Circles.NearerCount.{nearer_count_falls}
@@ -21,10 +25,21 @@ use Rattle.delaunay_lines.proofs.plane_segments.Constraints.Pieces.{path_goes_on
 use Rattle.delaunay_lines.proofs.plane_segments.Constraints.Shorter.{path_shortens}
 use Rattle.delaunay_lines.specs.plane_tiling.Local.{IsMesh}
 use Rattle.delaunay_lines.specs.mesh_embedding.Drawn.{drawn, faces_of, outer_of}
-use Rattle.delaunay_paths.specs.PathEdges.{LeadAlong}
-use Rattle.delaunay_paths.proofs.Places.{gap_is_way_back}
-use Rattle.delaunay_paths.proofs.Walking.{in_map, placed_apart}
 use Rattle.delaunay_lines.proofs.plane_edits.Legalization.Legal.{squared_way_nonneg}
+use Rattle.delaunay_lines.proofs.mesh_embedding.WorkLists.{contains_last}
+use Rattle.delaunay_lines.specs.delaunay_legalization.Known.{point_at}
+use Rattle.delaunay_lines.specs.delaunay_legalization.State.{state_of}
+use Rattle.delaunay_lines.specs.declared.intersection.Intersection.{Intersection}
+use Rattle.delaunay_lines.specs.declared.iterator.LineIntersectionIterator.{LineIntersectionIterator}
+use Rattle.delaunay_lines.specs.Items.{item_in}
+use Rattle.delaunay_lines.specs.Walk.{GivesNext, IsReady, WalksLine}
+use Rattle.delaunay_paths.specs.PathEdges.{LeadAlong}
+use Rattle.delaunay_paths.proofs.PassedVertices.{HasReached, next_after, reached_begins}
+use Rattle.delaunay_paths.proofs.PassedVertices.{reached_ends, reached_next, reached_stays}
+use Rattle.delaunay_paths.proofs.Passing.{HasPassed, all_passed, list_with, none_passed}
+use Rattle.delaunay_paths.proofs.Passing.{one_more_passed}
+use Rattle.delaunay_paths.proofs.Places.{gap_is_way_back, no_same_place}
+use Rattle.delaunay_paths.proofs.Walking.{in_map, placed_apart}
 
 -- ---- the next vertex is nearer to the end
 less_of_abs : (x y : ℤ) → pos 0 ≤ℤ x → pos 0 ≤ℤ y → nat_abs x < nat_abs y → x <ℤ y
@@ -116,11 +131,6 @@ module _ {points : List Point} {m : Mesh} {i j w : ℕ} {listed : List ℕ} {roo
     listing_has_room count enough is =
         let f = few_now in let s = p.room_stays in omega (arith, f, count, enough, s, is)
 
-    -- from the next vertex the way to j is shorter
-    pub listing_shortens : nat_abs (squared_way (point_of points v) (point_of points j))
-        < nat_abs (squared_way (point_of points w) (point_of points j))
-    listing_shortens = path_shortens points w j v p.distinct p.within p.to listing_apart next
-
     -- an edge from w to the next vertex brings the list to this vertex
     pub listing_goes_on : (h : ℕ) {more : List ℕ} {room_now : ℕ} → h < length m.half_edges
         → origin m h ≡ w → origin m (rev h) ≡ v → more ≡ listed ++ h ∷ [] → room_now ≡ room
@@ -150,3 +160,139 @@ module _ {points : List Point} {m : Mesh} {i j w : ℕ} {listed : List ℕ} {roo
   -- at j the edges of the list lead along the path
   pub listing_ends : w ≡ j → LeadAlong points m i j listed
   listing_ends is = subst (LeadAlong points m i j) (append-nil listed) (p.so_far [] is)
+
+-- ---- the walk
+same_vertex : {v w : ℕ} → at_vertex w ≡ at_vertex v → w ≡ v
+same_vertex is = cc
+
+-- vertex v is the last that was passed on the way from i to j, and the edges up to it are listed
+pub record IsListingWalk {V D U F P S : Type 0} (at : V → Point) (number : S → ℤ)
+    (IsSite IsCovered : P → Point → Type 0) (c : Contents V D U F) (i j v : ℕ) (listed : List ℕ)
+    (room_was room : ℕ) (now : LineIntersectionIterator V D U F P S) : Type 0 where
+  pub from : IsIndex (map at c.vertices) i
+  pub apart : i ≢ j
+  pub passed : List Item
+  pub so_far : HasPassed at number IsSite IsCovered (state_of c) (point_at (map at c.vertices) i)
+      (point_at (map at c.vertices) j) passed now
+  pub reached : HasReached (map at c.vertices) i j passed v
+  pub listing : IsListing (map at c.vertices) c.mesh i j v listed room_was room
+
+-- at the beginning it is i
+pub listing_walk_begins : {V D U F P S : Type 0} {at : V → Point} {number : S → ℤ}
+    {IsSite IsCovered : P → Point → Type 0} {c : Contents V D U F} {i j : ℕ} {listed : List ℕ}
+    {room_was room : ℕ} {it : LineIntersectionIterator V D U F P S}
+    → IsMesh (map at c.vertices) (faces_of c.mesh) (outer_of c.mesh) → i < length c.vertices
+    → j < length c.vertices → i ≢ j → IsReady at number IsSite IsCovered it
+    → WalksLine at number (state_of c) (point_at (map at c.vertices) i)
+    (point_at (map at c.vertices) j) it → listed ≡ [] → room ≡ room_was
+    → IsListingWalk at number IsSite IsCovered c i j i listed room_was room it
+listing_walk_begins {at = at} {number = number} {IsSite = IsSite} {IsCovered = IsCovered} {c = c}
+    {i = i} {j = j} {it = it} shape from_in to_in apart ready walks none stays =
+    let from = in_map at c.vertices i from_in in record {
+      from = from;
+      apart = apart;
+      passed = [];
+      so_far = none_passed at number IsSite IsCovered (state_of c)
+          (point_at (map at c.vertices) i) (point_at (map at c.vertices) j) it ready walks;
+      reached = reached_begins (map at c.vertices) i j from;
+      listing = listing_begins at c.vertices shape from_in to_in none stays;
+    }
+
+module _ {V D U F P S : Type 0} {at : V → Point} {number : S → ℤ}
+    {IsSite IsCovered : P → Point → Type 0} {c : Contents V D U F} {i j v : ℕ} {listed : List ℕ}
+    {room_was room : ℕ} {now : LineIntersectionIterator V D U F P S}
+    (walk : IsListingWalk at number IsSite IsCovered c i j v listed room_was room now) where
+  abbrev points : List Point
+  points = map at c.vertices
+
+  -- at its end all are listed
+  pub listing_walk_ends : {after : LineIntersectionIterator V D U F P S}
+      → GivesNext at number now None after → LeadAlong points c.mesh i j listed
+  listing_walk_ends {after = after} gives = listing_ends walk.listing
+      (reached_ends points c.mesh walk.listing.distinct i j walk.from walk.listing.to walk.apart
+      walk.passed v walk.reached (all_passed at number IsSite IsCovered (state_of c)
+      (point_at points i) (point_at points j) walk.passed now after walk.so_far gives))
+
+  -- ---- it meets one more item
+  module _ {after : LineIntersectionIterator V D U F P S} {x : Intersection V D U F}
+      (gives : GivesNext at number now (Some x) after) where
+    line : (others : List Item) × IsLineList (drawn points c.mesh) (place points i)
+        (place points j) ((walk.passed ++ item_in x ∷ []) ++ others)
+    line = list_with at number IsSite IsCovered (state_of c) (point_at points i)
+        (point_at points j) walk.passed now after walk.so_far x gives
+
+    passed_on : IsReady at number IsSite IsCovered after
+        → HasPassed at number IsSite IsCovered (state_of c) (point_at points i)
+        (point_at points j) (walk.passed ++ item_in x ∷ []) after
+    passed_on ready = one_more_passed at number IsSite IsCovered (state_of c) (point_at points i)
+        (point_at points j) walk.passed now after walk.so_far x gives ready
+
+    stays : IsReady at number IsSite IsCovered after
+        → ((w : ℕ) → item_in x ≡ at_vertex w → w ≡ v)
+        → IsListingWalk at number IsSite IsCovered c i j v listed room_was room after
+    stays ready none = record {
+      from = walk.from;
+      apart = walk.apart;
+      passed = walk.passed ++ item_in x ∷ [];
+      so_far = passed_on ready;
+      reached = reached_stays points c.mesh walk.listing.distinct i j walk.from walk.listing.to
+          walk.apart walk.passed v walk.reached (item_in x) none;
+      listing = walk.listing;
+    }
+
+    -- an edge changes nothing
+    pub listing_walk_crosses : IsReady at number IsSite IsCovered after → (a b : ℕ)
+        → item_in x ≡ across a b
+        → IsListingWalk at number IsSite IsCovered c i j v listed room_was room after
+    listing_walk_crosses ready a b is = stays ready (λ w e. absurd (no_vertex w (sym e ∙ is)))
+      where
+        no_vertex : (w : ℕ) → ¬ (at_vertex w ≡ across a b)
+        no_vertex w e = cc
+
+    pub listing_walk_along : IsReady at number IsSite IsCovered after → (a b : ℕ)
+        → item_in x ≡ along a b
+        → IsListingWalk at number IsSite IsCovered c i j v listed room_was room after
+    listing_walk_along ready a b is = stays ready (λ w e. absurd (no_vertex w (sym e ∙ is)))
+      where
+        no_vertex : (w : ℕ) → ¬ (at_vertex w ≡ along a b)
+        no_vertex w e = cc
+
+    -- nor does the vertex itself
+    pub listing_walk_stays : IsReady at number IsSite IsCovered after → item_in x ≡ at_vertex v
+        → IsListingWalk at number IsSite IsCovered c i j v listed room_was room after
+    listing_walk_stays ready is = stays ready (λ w e. same_vertex (sym e ∙ is))
+
+    -- another vertex ends the next piece
+    module _ {w : ℕ} (is : item_in x ≡ at_vertex w) (other : w ≢ v) where
+      w_line : IsLineList (drawn points c.mesh) (place points i) (place points j)
+          ((walk.passed ++ at_vertex w ∷ []) ++ line.0)
+      w_line = subst (λ (k : Item). IsLineList (drawn points c.mesh) (place points i)
+          (place points j) ((walk.passed ++ k ∷ []) ++ line.0)) is line.1
+
+      w_met : IsIndex points w × OnSegment (place points i) (place points j) (place points w)
+      w_met = w_line.met
+          (no_same_place points walk.listing.distinct i j walk.from walk.listing.to walk.apart)
+          (at_vertex w) (Contains-append_left (walk.passed ++ at_vertex w ∷ []) line.0 (at_vertex w)
+          (contains_last walk.passed (at_vertex w)))
+
+      pub listing_walk_next : AreNextOn points v j v w
+      listing_walk_next = next_after points c.mesh walk.listing.distinct i j walk.from
+          walk.listing.to walk.apart walk.passed v walk.reached w other w_met.0 w_met.1 line.0
+          w_line
+
+      -- and its edge is listed
+      pub listing_walk_goes_on : IsReady at number IsSite IsCovered after → (h : ℕ)
+          → h < length c.mesh.half_edges → origin c.mesh h ≡ v → origin c.mesh (rev h) ≡ w
+          → {more : List ℕ} → more ≡ listed ++ h ∷ [] → {room_now : ℕ} → room_now ≡ room
+          → IsListingWalk at number IsSite IsCovered c i j w more room_was room_now after
+      listing_walk_goes_on ready h within source target pushed keeps = record {
+        from = walk.from;
+        apart = walk.apart;
+        passed = walk.passed ++ item_in x ∷ [];
+        so_far = passed_on ready;
+        reached = subst (λ (k : Item). HasReached points i j (walk.passed ++ k ∷ []) w) (sym is)
+            (reached_next points c.mesh walk.listing.distinct i j walk.from walk.listing.to
+            walk.apart walk.passed v walk.reached w other w_met.0 w_met.1 line.0 w_line);
+        listing = listing_goes_on walk.listing listing_walk_next h within source target pushed
+            keeps;
+      }

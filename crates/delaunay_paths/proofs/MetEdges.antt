@@ -1,5 +1,5 @@
 -- The edges that cross a segment are those that it meets, as the walk along it has them.
--- Lemmas: crosses_if_met, met_if_crosses.
+-- Notions: crossed_twin; crosses_if_met, met_if_crosses.
 use Rattle.std.proofs.Common.{◌≡◌, ◌⊎◌, ◌<◌, ◌∙◌}
 use Rattle.std.proofs.Common.{ℕ, List, length, sym, subst, inl, inr}
 use Rattle.delaunay_lines.specs.half_edge_mesh.Mesh.{Mesh, IsValidMesh, origin, rev}
@@ -7,7 +7,7 @@ use Rattle.delaunay_lines.proofs.half_edge_links.Lists.Rev.{rev_within}
 use Rattle.delaunay_lines.specs.plane.Crossing.{Cross}
 use Rattle.delaunay_lines.specs.plane.Fraction.{Point, IsSame, WithinSegment}
 use Rattle.delaunay_lines.specs.plane.Laws.{Parts}
-use Rattle.delaunay_lines.specs.plane.Line.{Meets, across}
+use Rattle.delaunay_lines.specs.plane.Line.{Item, Meets, across}
 use Rattle.delaunay_lines.specs.plane.Pairs.{place}
 use Rattle.delaunay_lines.specs.plane.Side.{side, left, right, on}
 use Rattle.delaunay_lines.specs.plane.Tiling.{IsEdge}
@@ -25,11 +25,14 @@ use Rattle.delaunay_lines.proofs.mesh_embedding.EdgePairs.{edge_joins}
 use Rattle.delaunay_lines.proofs.mesh_embedding.OwnEdges.{own_edges}
 use Rattle.delaunay_lines.proofs.EitherWay.{crossed_either_way}
 use Rattle.delaunay_paths.specs.Crossing.{CrossesFromRight}
-use Rattle.delaunay_paths.specs.Items.{crossed_twin}
 use Rattle.delaunay_paths.proofs.InTheWay.{meets_is_cross}
 use Rattle.delaunay_paths.proofs.Places.{no_same_place}
 use Rattle.delaunay_paths.proofs.Towards.{crossing, local_if_crossed}
 use Rattle.delaunay_paths.proofs.Walking.{placed_apart}
+
+-- the segment crosses the twin of directed edge h
+abbrev pub crossed_twin : Mesh → ℕ → Item
+crossed_twin m h = across (origin m (rev h)) (origin m h)
 
 left_not_right : left ≡ right → ⊥
 left_not_right e = cc

@@ -1,10 +1,9 @@
 -- Edges that cross a segment move from one of their lists to the other.
 -- Notions: ListsAllCrossing; nothing_left, less_by_room, shorter, longer, room_on, room_stays,
 -- fewer_fit, can_step, can_wait, entries_on, entries_begin, crossing_on, turn_on,
--- crossing_begins, held_with_room, stepped_back, none_steps_back, none_taken, others_taken,
--- others_wait.
+-- crossing_begins, held_with_room, moved_back, none_waits, none_taken, others_taken, others_wait.
 use Rattle.std.proofs.Common.{◌≡◌, ◌+◌, ◌-◌, ◌<◌, ◌≤◌, ◌≢◌, [], ◌∷◌, ◌++◌, ◌∙◌}
-use Rattle.std.proofs.Common.{ℕ, true, false, List, length, take, refl, sym, ap, subst, arith}
+use Rattle.std.proofs.Common.{ℕ, List, length, take, refl, sym, ap, subst, arith}
 use Rattle.std.proofs.Common.{append-nil}
 use Rattle.std.proofs.Common.{length-append, vec_len, vec_capacity}
 use mathlib.Core.Logic.{inl, inr}
@@ -21,7 +20,7 @@ use Rattle.delaunay_lines.proofs.delaunay_legalization_lemmas.Legalizing.{draine
 use Rattle.delaunay_paths.specs.declared.crossing.CrossingLists.{CrossingLists}
 use Rattle.delaunay_paths.specs.Crossing.{AreAllCrossing}
 use Rattle.delaunay_paths.specs.Lists.{AreHeld, AreOnce, AreToTurn, HaveRoom, IsIn}
-use Rattle.delaunay_paths.specs.Lists.{KeepEntries, KeepRoom, ListCrossing, ListOthers, StepBack}
+use Rattle.delaunay_paths.specs.Lists.{KeepEntries, KeepRoom, ListCrossing, ListOthers}
 use Rattle.delaunay_paths.proofs.CrossingList.{put_waiting, taken}
 
 -- ---- of two lists of numbers
@@ -229,7 +228,8 @@ module _ {old new : CrossingLists} (same : KeepRoom old new) where
   }
 
   -- ---- back
-  moved_back : (e : ℕ) → old.waiting.items ≡ new.waiting.items ++ e ∷ []
+  -- the last one that waits is to be seen again
+  pub moved_back : (e : ℕ) → old.waiting.items ≡ new.waiting.items ++ e ∷ []
       → new.unseen.items ≡ old.unseen.items ++ e ∷ [] → AreHeld old → KeepEntries old new
   moved_back e popped pushed held =
       let room = fits_new (length old.waiting.items + length old.unseen.items) held.room in record {
@@ -258,15 +258,6 @@ module _ {old new : CrossingLists} (same : KeepRoom old new) where
           (longer old.waiting.items new.waiting.items e popped)
           (longer new.unseen.items old.unseen.items e pushed) fits
 
-  -- the last one that waits is to be seen again
-  pub stepped_back : (e : ℕ) → old.waiting.items ≡ new.waiting.items ++ e ∷ []
-      → new.unseen.items ≡ old.unseen.items ++ e ∷ [] → AreHeld old → StepBack old new true
-  stepped_back e popped pushed held = record {
-    entries = moved_back e popped pushed held;
-    fewer = shorter (length old.waiting.items) (length new.waiting.items)
-        (longer old.waiting.items new.waiting.items e popped);
-  }
-
   -- where none could be taken out, all is as it was
   same_entries : new.waiting.items ≡ old.waiting.items → new.unseen.items ≡ old.unseen.items
       → AreHeld old → KeepEntries old new
@@ -292,15 +283,13 @@ module _ {old new : CrossingLists} (same : KeepRoom old new) where
       as_before room fits = subst (λ (x : List ℕ × List ℕ). length x.0 + length x.1 ≤ room)
           (λ o. (sym waiting o, sym unseen o)) fits
 
-  pub none_steps_back : (v : ℕ) → old.waiting.items ≡ new.waiting.items ++ []
-      → new.waiting.items ≡ take (v - 1) old.waiting.items → v ≡ 0
-      → new.unseen.items ≡ old.unseen.items → AreHeld old → StepBack old new false
-  none_steps_back v popped rest none unseen held = record {
-    entries = same_entries (unchanged old.waiting.items new.waiting.items popped) unseen held;
-    fewer = nothing_left old.waiting.items new.waiting.items v popped rest none;
-  }
+  -- where none waits
+  pub none_waits : old.waiting.items ≡ new.waiting.items ++ []
+      → new.unseen.items ≡ old.unseen.items → AreHeld old → KeepEntries old new
+  none_waits popped unseen held =
+      same_entries (unchanged old.waiting.items new.waiting.items popped) unseen held
 
-  -- where none is to be seen, too
+  -- or none is to be seen
   pub none_taken : old.unseen.items ≡ new.unseen.items ++ []
       → new.waiting.items ≡ old.waiting.items → AreHeld old → KeepEntries old new
   none_taken popped waiting held =

@@ -1,8 +1,8 @@
 -- The first vertex of a walk after its start is the next one of the path.
--- Notions: HasNoOther, SeeksNext; two, none_is_left, comes_next, seeking_begins, two_ends,
--- seeking_never_ends, seeking_goes_on, list_on, seeking_finds.
+-- Notions: HasNoOther, SeeksNext; vertex_item, two, none_is_left, comes_next, seeking_begins,
+-- two_ends, seeking_never_ends, seeking_goes_on, list_on, seeking_finds.
 use Rattle.std.proofs.Common.{◌≡◌, ◌≢◌, ◌⊎◌, ◌<◌, [], ◌∷◌, ◌++◌}
-use Rattle.std.proofs.Common.{ℕ, List, length, map, Some, None, sym, ap, subst, inl, inr}
+use Rattle.std.proofs.Common.{ℕ, List, length, map, Some, None, sym, ap, subst, inl, inr, ◌∙◌}
 use Rattle.std.specs.Prelude.{ℤ, Contains}
 use Rattle.std.proofs.lemmas.List.Elements.{Contains-append_cases, Contains-append_left}
 use Rattle.std.proofs.lemmas.List.Elements.{Contains-append_right, Contains-push_cases}
@@ -27,11 +27,12 @@ use Rattle.delaunay_lines.proofs.plane_segments.Constraints.Pieces.{on_parts}
 use Rattle.delaunay_lines.specs.mesh_embedding.Drawn.{drawn, faces_of, outer_of}
 use Rattle.delaunay_lines.specs.delaunay_legalization.Known.{point_at}
 use Rattle.delaunay_lines.specs.delaunay_legalization.State.{state_of}
+use Rattle.delaunay_lines.specs.half_edge_views.declared.vertex.VertexHandle.{VertexHandle}
 use Rattle.delaunay_lines.specs.declared.intersection.Intersection.{Intersection}
+use Rattle.delaunay_lines.specs.declared.intersection.Intersection.TheVariants.{VertexIntersection}
 use Rattle.delaunay_lines.specs.declared.iterator.LineIntersectionIterator.{LineIntersectionIterator}
 use Rattle.delaunay_lines.specs.Items.{item_in}
 use Rattle.delaunay_lines.specs.Walk.{GivesNext, IsReady, WalksLine}
-use Rattle.delaunay_paths.specs.Items.{IsOtherVertex}
 use Rattle.delaunay_paths.proofs.Passing.{HasPassed, all_passed, later_ones, list_with, none_passed}
 use Rattle.delaunay_paths.proofs.Passing.{one_more_passed}
 use Rattle.delaunay_paths.proofs.Places.{no_same_place}
@@ -47,6 +48,11 @@ abbrev vertex_of : Item → ℕ
 vertex_of (at_vertex v) = v
 vertex_of (across a b) = a
 vertex_of (along a b) = a
+
+-- the item of a vertex
+pub vertex_item : {V D U F : Type 0} {x : Intersection V D U F} {v : VertexHandle V D U F} {w : ℕ}
+    → x ≡ VertexIntersection v → w ≡ v.index → item_in x ≡ at_vertex w
+vertex_item is same = ap item_in is ∙ ap (λ (k : ℕ). at_vertex k) (sym same)
 
 -- no other vertex than i is among the items
 abbrev pub HasNoOther : List Item → ℕ → Type 0
@@ -230,7 +236,7 @@ module _ {V D U F P S : Type 0} {at : V → Point} {number : S → ℤ}
       (gives : GivesNext at number now (Some x) after) where
     -- an item that is no other vertex is passed
     pub seeking_goes_on : IsReady at number IsSite IsCovered after
-        → IsOtherVertex (item_in x) i None
+        → ((v : ℕ) → item_in x ≡ at_vertex v → v ≡ i)
         → SeeksNext at number IsSite IsCovered c i j (passed ++ item_in x ∷ []) after
     seeking_goes_on ready none = record {
       shape = seeks.shape;
@@ -250,13 +256,13 @@ module _ {V D U F P S : Type 0} {at : V → Point} {number : S → ℤ}
         (point_at points j) passed now after seeks.so_far x gives
 
     -- another vertex is next to i on the segment
-    pub seeking_finds : {v : ℕ} → IsOtherVertex (item_in x) i (Some v) → AreNextOn points i j i v
-    seeking_finds {v = v} other =
+    pub seeking_finds : {v : ℕ} → item_in x ≡ at_vertex v → v ≢ i → AreNextOn points i j i v
+    seeking_finds {v = v} is other =
         let l = list_on in
         let list = subst
         (λ (k : Item). IsLineList (drawn points c.mesh) (place points i) (place points j)
-        ((passed ++ k ∷ []) ++ l.0)) other.0 l.1 in
-        comes_next points c.mesh distinct i j from_in to_in seeks.apart passed l.0 v other.1 list
+        ((passed ++ k ∷ []) ++ l.0)) is l.1 in
+        comes_next points c.mesh distinct i j from_in to_in seeks.apart passed l.0 v other list
         seeks.none (list.met two_ends (at_vertex v)
         (Contains-append_left (passed ++ at_vertex v ∷ []) l.0 (at_vertex v)
         (Contains-append_right passed (at_vertex v ∷ []) (at_vertex v)

@@ -1,13 +1,16 @@
 -- What a walk along a segment has passed, and what is left of it.
--- Notions: HasPassed; later_ones, none_passed, one_more_passed, list_with, all_passed.
+-- Notions: HasPassed; later_ones, earlier_ones, none_passed, one_more_passed, list_with, all_passed.
 use Rattle.std.proofs.Common.{◌≡◌, [], ◌∷◌, ◌++◌, ◌∙◌}
 use Rattle.std.proofs.Common.{append-nil, suc, List, Some, None, sym, ap, subst, append_assoc}
-use Rattle.std.proofs.Common.{arith}
+use Rattle.std.proofs.Common.{arith, inl, inr}
 use Rattle.std.specs.Prelude.{ℤ, Contains, AllPairs}
 use Rattle.std.specs.Borrow.{Bor}
+use Rattle.std.proofs.lemmas.List.Elements.{Contains-append_left}
 use Rattle.delaunay_lines.specs.half_edge_mesh.Contents.{Contents}
 use Rattle.delaunay_lines.specs.plane.Fraction.{Point, whole}
 use Rattle.delaunay_lines.specs.plane.Line.{Item, IsLineList}
+use Rattle.delaunay_lines.proofs.plane_tiling.Totals.{Contains-cases, Contains-none}
+use Rattle.delaunay_lines.proofs.mesh_embedding.WorkLists.{contains_last}
 use Rattle.delaunay_lines.specs.delaunay_legalization.State.{State, state_of, triangulation_of}
 use Rattle.delaunay_lines.specs.declared.intersection.Intersection.{Intersection}
 use Rattle.delaunay_lines.specs.declared.iterator.LineIntersectionIterator.{LineIntersectionIterator}
@@ -22,6 +25,17 @@ later_ones R [] k others o x c =
 later_ones R (y ∷ ys) k others o x c =
     later_ones R ys k others
     (λ i j d lt within. o (suc i) (suc j) d (omega (arith, lt)) (omega (arith, within))) x c
+
+-- each earlier one of a list in an order comes before the one in the middle
+pub earlier_ones : {X : Type 0} (R : X → X → Type 0) (passed : List X) (k : X) (others : List X) →
+    AllPairs R ((passed ++ k ∷ []) ++ others) → (x : X) → Contains passed x → R x k
+earlier_ones R [] k others o x c = absurd (Contains-none x c)
+earlier_ones R (y ∷ ys) k others o x c = elim (Contains-cases y ys x c) [
+  | inl is ↦ subst (λ z. R z k) is (later_ones R [] y ((ys ++ k ∷ []) ++ others) o k
+      (Contains-append_left (ys ++ k ∷ []) others k (contains_last ys k)))
+  | inr later ↦ earlier_ones R ys k others
+      (λ a b d lt within. o (suc a) (suc b) d (omega (arith, lt)) (omega (arith, within))) x later
+]
 
 module _ {V D U F P S : Type 0} (at : V → Point) (number : S → ℤ)
     (IsSite IsCovered : P → Point → Type 0) (s : State V D U F) (p q : Point) where

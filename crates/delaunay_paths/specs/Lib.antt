@@ -18,6 +18,5 @@ pub mod Kept
 pub mod Adding
 pub mod Releasing
 pub mod PathEdges
-pub mod Items
 pub mod Leaving
 pub mod Turning

@@ -1,6 +1,6 @@
 -- The lists of the edges that cross a segment, while they are turned.
-use Rattle.std.specs.Prelude.{◌≡◌, ◌≢◌, ◌⊎◌, ◌+◌, ◌<◌, ◌≤◌, ℕ, List, [], length, AllPairs, Bool}
-use Rattle.std.specs.Prelude.{Contains, MatchBool, MatchOption, Option, vec_capacity}
+use Rattle.std.specs.Prelude.{◌≡◌, ◌≢◌, ◌⊎◌, ◌+◌, ◌≤◌, ℕ, List, [], length, AllPairs}
+use Rattle.std.specs.Prelude.{Contains, MatchOption, Option, vec_capacity}
 use Rattle.delaunay_lines.specs.half_edge_mesh.Contents.{Contents, IsMeshWithData}
 use Rattle.delaunay_lines.specs.half_edge_mesh.Mesh.{Mesh}
 use Rattle.delaunay_lines.specs.plane.Fraction.{Point}
@@ -48,12 +48,6 @@ pub record KeepEntries (old new : CrossingLists) : Type 0 where
   pub room : KeepRoom old new
   pub kept : (h : ℕ) → HasEntry old h → HasEntry new h
   pub only : (h : ℕ) → HasEntry new h → HasEntry old h
-
--- the last one that waits is to be seen again, or none waits
-pub record StepBack (old new : CrossingLists) (stepped : Bool) : Type 0 where
-  pub entries : KeepEntries old new
-  pub fewer : MatchBool stepped (length new.waiting.items < length old.waiting.items)
-      (new.waiting.items ≡ [])
 
 -- they are the directed edges that cross the segment from the right
 pub record ListCrossing (points : List Point) (m : Mesh) (i j : ℕ)

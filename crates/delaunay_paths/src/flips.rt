@@ -1,11 +1,8 @@
 //! Flips until a segment between two vertices is an edge.
-ghost use Rattle.std.specs.Prelude.{◌≡◌, length, map, All, MatchOption};
-ghost use Rattle.delaunay_lines.specs.plane_tiling.Local.{IsMesh};
-ghost use Rattle.delaunay_lines.specs.plane_segments.Path.{IsFreeOfVertices};
-ghost use Rattle.delaunay_lines.specs.mesh_embedding.Drawn.{drawn, faces_of, outer_of};
+ghost use Rattle.std.specs.Prelude.{◌≡◌, map, All, MatchOption};
 ghost use Rattle.delaunay_paths.specs.Leaving.{IsWorkList, MakesEdge};
-ghost use Rattle.delaunay_paths.specs.Lists.{AreToTurn, HasAsEdge, HaveRoom, IsToTurn, KeepRoom};
-ghost use Rattle.delaunay_paths.specs.Lists.{Seeks, TurnsOne};
+ghost use Rattle.delaunay_paths.specs.Lists.{AreToTurn, HasAsEdge, IsToTurn, KeepRoom, Seeks};
+ghost use Rattle.delaunay_paths.specs.Lists.{TurnsOne};
 
 use crate::crossing::CrossingLists;
 use crate::nearer::turning_at;
@@ -88,13 +85,17 @@ fn turn<V: HasPosition, DE, UE, F, P: PlaneTests<V::Scalar>>(
             push_side(dcel, round, work);
             push_sides(dcel, round, &Sides::Round, work);
             dcel.flip_cw(whole);
-            lists.step_back();
+            if let Some(last) = lists.waiting.pop() {
+                lists.unseen.push_reserved(last);
+            }
         }
     }
 }
 
 // Makes an edge of the segment between two vertices with none strictly between, by turns of the
-// edges that cross it, which are listed. What stays, and what is put into `work`, `make_edge` says.
+// edges that cross it, which are listed. Each edge that does not cross the segment stays, under its
+// index, and so does each face with no side that does. Each edge that may fail the circle test is
+// put into `work`.
 pub(crate) fn turn_listed<V: HasPosition, DE, UE, F, P: PlaneTests<V::Scalar>>(
     dcel: &mut Dcel<V, DE, UE, F>,
     from: FixedVertexHandle,
@@ -115,32 +116,4 @@ pub(crate) fn turn_listed<V: HasPosition, DE, UE, F, P: PlaneTests<V::Scalar>>(
     while let Some(edge) = next_turn(dcel, from, to, tests, lists) {
         turn(dcel, edge, from, to, tests, lists, work);
     }
-}
-
-/// Makes an edge of the segment between two vertices with none strictly between. Each edge that
-/// does not cross the segment stays, under its index, and so does each face with no side that does.
-/// `work` and each of the two lists of crossing edges has room for each edge; each edge that may
-/// fail the circle test is put into `work`.
-pub fn make_edge<V: HasPosition, DE, UE, F, P: PlaneTests<V::Scalar>>(
-    dcel: &mut Dcel<V, DE, UE, F>,
-    from: FixedVertexHandle,
-    to: FixedVertexHandle,
-    tests: &P,
-    lists: &mut CrossingLists,
-    work: &mut EdgeSet,
-)
-    requires free { IsFreeOfVertices (drawn (map V.place dcel.old.vertices) dcel.old.mesh) from to }
-    requires shape { IsMesh (map V.place dcel.old.vertices) (faces_of dcel.old.mesh)
-        (outer_of dcel.old.mesh) }
-    requires sites { All (P.sites tests.now) (map V.place dcel.old.vertices) }
-    requires lists { HaveRoom (length dcel.old.undirected) lists.old }
-    requires work { IsWorkList dcel.old work.old.items work.old.room }
-
-    ensures makes { MakesEdge (map V.place dcel.old.vertices) dcel.old dcel.new from to
-        work.old.items work.new.items }
-    ensures room { KeepRoom lists.old lists.new }
-    ensures capacity { work.new.room ≡ work.old.room }
-{
-    lists.list_piece(dcel, from, to, tests);
-    turn_listed(dcel, from, to, tests, lists, work);
 }

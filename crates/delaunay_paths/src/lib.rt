@@ -11,14 +11,11 @@ mod crossing;
 mod flips;
 mod joined;
 mod nearer;
-mod path;
 mod path_edges;
 
 // For the crates of edits and for tests, and not for users.
 pub use adding::{add_path, can_add_path};
 pub use constraints::{add_constraints, constrain_edge, release_constraint};
 pub use crossing::CrossingLists;
-pub use flips::make_edge;
-pub use joined::{edge_if_joined, is_constraint_between};
-pub use path::{is_same_vertex, next_on_path};
+pub use joined::{edge_if_joined, is_constraint_between, is_same_vertex};
 pub use path_edges::edges_along;

@@ -5,13 +5,13 @@ ghost use Rattle.delaunay_lines.specs.delaunay_legalization.State.{state_of};
 ghost use Rattle.delaunay_paths.specs.PathEdges.{HasPath, LeadAlong};
 
 use crate::joined::edge_between;
-use crate::path::{is_same_vertex, next_on_path};
 use delaunay_lines::delaunay_core::math::PlaneTests;
 use delaunay_lines::delaunay_core::point::HasPosition;
 use delaunay_lines::half_edge_mesh::{Dcel, FixedDirectedEdgeHandle, FixedVertexHandle};
+use delaunay_lines::{Intersection, line_between_vertices};
 
-/// The edges along the path between two vertices, in order, where each of its pieces is one. They
-/// replace what is in `edges`, which has room for as many as there are vertices.
+/// The edges along the path between two vertices, in order, where each of its pieces is one, by one
+/// walk. They replace what is in `edges`, which has room for as many as there are vertices.
 pub fn edges_along<V: HasPosition, DE, UE, F, P: PlaneTests<V::Scalar>>(
     dcel: &Dcel<V, DE, UE, F>,
     from: FixedVertexHandle,
@@ -29,11 +29,22 @@ pub fn edges_along<V: HasPosition, DE, UE, F, P: PlaneTests<V::Scalar>>(
     ensures { LeadAlong (map V.place dcel.now.vertices) dcel.now.mesh from to edges.new.items }
 {
     edges.clear();
+    if from == to {
+        return;
+    }
     let mut at = from;
-    while !is_same_vertex(at, to) {
-        let next = next_on_path(dcel, at, to, tests);
-        let edge = edge_between(dcel, at, next);
-        edges.push_reserved(edge);
-        at = next;
+    let mut line = line_between_vertices(dcel, from, to, tests);
+    while let Some(item) = line.next() {
+        match item {
+            Intersection::EdgeIntersection(_) => {}
+            Intersection::VertexIntersection(vertex) => {
+                let next = vertex.fix();
+                if next != at {
+                    edges.push_reserved(edge_between(dcel, at, next));
+                    at = next;
+                }
+            }
+            Intersection::EdgeOverlap(_) => {}
+        }
     }
 }

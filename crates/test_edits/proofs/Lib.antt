@@ -1,2 +1,1 @@
-mod CopiedPieces
 mod FlipCounts

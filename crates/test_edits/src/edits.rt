@@ -5,7 +5,6 @@ use crate::calls::{
     tell_room, thin, with_capacity,
 };
 use crate::flips::insert_counting;
-use crate::paths::{joined, next};
 use delaunay_interface::Triangulation;
 use delaunay_interface::delaunay_core::HintGenerator;
 use std::io;
@@ -54,24 +53,17 @@ fn edit_many<T: Triangulation<Vertex = TaggedVertex>>(
     Ok(true)
 }
 
-/// Edits of one without constraints, and edges that would join two of its vertices.
+/// Edits of one without constraints.
 pub fn edit_plain<L: HintGenerator<i64>>(
     rt: &(impl Print + AllocGlobal),
     points: &mut Plain<L>,
     call: &Call<'_>,
     flips: &mut u64,
 ) -> io::Result<bool> {
-    let [from, to, _] = call.indexes();
     let printed = match call.name {
         "insert_counting" => {
             let inserted = insert_counting(points, vertex_of(call), flips);
             call.tell(rt, &(inserted, *flips))
-        }
-        "next_on_path" => call.tell(rt, &next(points, from, to)),
-        "make_edge" => {
-            let [_, _, third, fourth, ..] = call.numbers;
-            let other = (index(third), index(fourth));
-            call.tell(rt, &joined(points, rt.alloc(), (from, to), other))
         }
         _ => return Ok(false),
     };

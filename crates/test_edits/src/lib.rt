@@ -9,7 +9,6 @@ pub mod derived;
 mod edits;
 mod flips;
 mod named;
-mod paths;
 mod writes;
 
 pub use constraints::answer_constrained;

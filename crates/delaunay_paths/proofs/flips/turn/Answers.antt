@@ -1,5 +1,6 @@
 use Rattle.std.proofs.Common.{refl}
-use Rattle.delaunay_paths.proofs.MovedEdges.{held_with_room, less_by_room}
+use Rattle.delaunay_paths.proofs.MovedEdges.{can_step, held_with_room, less_by_room, moved_back}
+use Rattle.delaunay_paths.proofs.MovedEdges.{none_waits}
 use Rattle.delaunay_paths.proofs.OneTurn.{turn_can, turn_in_mesh, turned_across, turned_away}
 use Rattle.delaunay_paths.proofs.flips.turn.Goals as goal
 
@@ -30,13 +31,31 @@ flip_cw-requires-in-None g c =
     let can = turn_can _ c.requires.turning c.as_undirected-whole.ensures in
     record { between = can.0; corners = can.1 }
 
-pub step_back-requires : goal.step_back-requires
-step_back-requires g c = held_with_room c.requires.turning.others
+pub push_reserved-requires-in-Some-pop : goal.push_reserved-requires-in-Some-pop
+push_reserved-requires-in-Some-pop g c =
+    can_step (held_with_room c.requires.turning.others) _ _ c.in-Some-pop.ensures.items
 
-pub returns-in-None-clause-turns : goal.returns-in-None-clause-turns
-returns-in-None-clause-turns g c =
+pub returns-in-Some-pop-clause-turns : goal.returns-in-Some-pop-clause-turns
+returns-in-Some-pop-clause-turns g c =
     let flip = c.flip_cw-in-None.ensures in
     turned_away _ c.requires.turning c.as_undirected-whole.ensures flip.contents flip.mesh
     flip.triangles flip.outer flip.whole.1 (rw c.turning_at-turning.ensures at c.in-None.ensures)
     c.push_sides.ensures.edges (rw c.as_directed-round.ensures at c.push_side.ensures.gains)
-    (rw c.as_directed-round.ensures at c.push_sides.ensures.gains) c.step_back.ensures.entries
+    (rw c.as_directed-round.ensures at c.push_sides.ensures.gains)
+    (moved_back {old = c.args.lists.now} (record {
+      waiting = c.pop.ensures.capacity;
+      unseen = c.push_reserved-in-Some-pop.ensures.capacity;
+    }) _ c.in-Some-pop.ensures.items c.push_reserved-in-Some-pop.ensures.items
+    (held_with_room c.requires.turning.others))
+
+pub returns-in_default-clause-turns : goal.returns-in_default-clause-turns
+returns-in_default-clause-turns g c =
+    let flip = c.flip_cw-in-None.ensures in
+    turned_away _ c.requires.turning c.as_undirected-whole.ensures flip.contents flip.mesh
+    flip.triangles flip.outer flip.whole.1 (rw c.turning_at-turning.ensures at c.in-None.ensures)
+    c.push_sides.ensures.edges (rw c.as_directed-round.ensures at c.push_side.ensures.gains)
+    (rw c.as_directed-round.ensures at c.push_sides.ensures.gains)
+    (none_waits {old = c.args.lists.now} (record {
+      waiting = c.pop.ensures.capacity;
+      unseen = refl;
+    }) c.in_default.ensures.items refl (held_with_room c.requires.turning.others))

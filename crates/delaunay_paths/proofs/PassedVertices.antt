@@ -3,37 +3,36 @@
 -- Notions: HasReached; reached_begins, reached_stays, reached_next, next_after, not_at_end,
 -- reached_ends.
 use Rattle.std.proofs.Common.{◌≡◌, ◌≢◌, ◌⊎◌, [], ◌∷◌, ◌++◌, ◌∙◌}
-use Rattle.std.proofs.Common.{ℕ, suc, List, refl, sym, ap, subst, inl, inr, arith}
+use Rattle.std.proofs.Common.{ℕ, List, refl, sym, ap, subst, inl, inr, arith}
 use Rattle.std.specs.Prelude.{ℤ, pos, ◌-ℤ◌, ◌*ℤ◌, ◌<ℤ◌, ◌≤ℤ◌, AllPairs, Contains}
 use Rattle.std.proofs.lemmas.Bool.{cases_eq}
 use Rattle.std.proofs.lemmas.Int.{ints}
-use Rattle.std.proofs.lemmas.List.Elements.{Contains-append_cases, Contains-append_left}
-use Rattle.std.proofs.lemmas.List.Elements.{Contains-push_cases}
-use Rattle.delaunay_paths.specs.half_edge_mesh.Mesh.{Mesh}
-use Rattle.delaunay_paths.specs.plane.Circle.{IsNearer}
-use Rattle.delaunay_paths.specs.plane.Fraction.{Point, whole, IsSame, OnSegment, WithinSegment}
-use Rattle.delaunay_paths.specs.plane.Line.{Item, IsLineList, IsBefore, IsVertexThenOverlap}
-use Rattle.delaunay_paths.specs.plane.Line.{at_vertex, across, along}
-use Rattle.delaunay_paths.specs.plane.Pairs.{IsIndex, place}
-use Rattle.delaunay_paths.specs.plane.Tiling.{Triangulation}
-use Rattle.delaunay_paths.proofs.plane.Bracket.{bracket, lift}
-use Rattle.delaunay_paths.proofs.plane.BracketIdentities.{bracket-last}
-use Rattle.delaunay_paths.proofs.plane.Collinear.{place_on, place_of_start, same_by_places}
-use Rattle.delaunay_paths.proofs.plane.IntegerOrder.{trichotomy_ℤ}
-use Rattle.delaunay_paths.proofs.plane.LineOrder.{IsBetween, place_within, within_places}
-use Rattle.delaunay_paths.proofs.plane.Segments.{reach, on_segment_is, on_of_within}
-use Rattle.delaunay_paths.proofs.plane.Segments.{start_on_segment, end_on_segment}
-use Rattle.delaunay_paths.proofs.plane.Signs.{same_is_at_most}
-use Rattle.delaunay_paths.proofs.plane.Solver.{num, ◌⊕◌, ◌⊖◌, ◌⊗◌, ring_in}
-use Rattle.delaunay_paths.proofs.plane_delaunay.Points.AlongSegment.{reach_less}
-use Rattle.delaunay_paths.specs.plane_edits.Legal.{point_of}
-use Rattle.delaunay_paths.specs.plane_segments.Constraints.{AreNextOn, ArePlacedApart}
-use Rattle.delaunay_paths.proofs.plane_segments.Constraints.Pieces.{on_of_mean}
-use Rattle.delaunay_paths.proofs.plane_segments.Items.Orders.{nearer-same_first, nearer-same_second}
-use Rattle.delaunay_paths.proofs.plane_tiling.Totals.{Contains-cases, Contains-none}
-use Rattle.delaunay_paths.specs.mesh_embedding.Drawn.{drawn}
-use Rattle.delaunay_paths.proofs.mesh_embedding.WorkLists.{contains_before, contains_last}
-use Rattle.delaunay_paths.proofs.Passing.{later_ones}
+use Rattle.std.proofs.lemmas.List.Elements.{Contains-append_cases, Contains-push_cases}
+use Rattle.delaunay_lines.specs.half_edge_mesh.Mesh.{Mesh}
+use Rattle.delaunay_lines.specs.plane.Circle.{IsNearer}
+use Rattle.delaunay_lines.specs.plane.Fraction.{Point, whole, IsSame, OnSegment, WithinSegment}
+use Rattle.delaunay_lines.specs.plane.Line.{Item, IsLineList, IsBefore, IsVertexThenOverlap}
+use Rattle.delaunay_lines.specs.plane.Line.{at_vertex, across, along}
+use Rattle.delaunay_lines.specs.plane.Pairs.{IsIndex, place}
+use Rattle.delaunay_lines.specs.plane.Tiling.{Triangulation}
+use Rattle.delaunay_lines.proofs.plane.Bracket.{bracket, lift}
+use Rattle.delaunay_lines.proofs.plane.BracketIdentities.{bracket-last}
+use Rattle.delaunay_lines.proofs.plane.Collinear.{place_on, place_of_start, same_by_places}
+use Rattle.delaunay_lines.proofs.plane.IntegerOrder.{trichotomy_ℤ}
+use Rattle.delaunay_lines.proofs.plane.LineOrder.{IsBetween, place_within, within_places}
+use Rattle.delaunay_lines.proofs.plane.Segments.{reach, on_segment_is, on_of_within}
+use Rattle.delaunay_lines.proofs.plane.Segments.{start_on_segment, end_on_segment}
+use Rattle.delaunay_lines.proofs.plane.Signs.{same_is_at_most}
+use Rattle.delaunay_lines.proofs.plane.Solver.{num, ◌⊕◌, ◌⊖◌, ◌⊗◌, ring_in}
+use Rattle.delaunay_lines.proofs.plane_delaunay.Points.AlongSegment.{reach_less}
+use Rattle.delaunay_lines.specs.plane_edits.Legal.{point_of}
+use Rattle.delaunay_lines.specs.plane_segments.Constraints.{AreNextOn, ArePlacedApart}
+use Rattle.delaunay_lines.proofs.plane_segments.Constraints.Pieces.{on_of_mean}
+use Rattle.delaunay_lines.proofs.plane_segments.Items.Orders.{nearer-same_first, nearer-same_second}
+use Rattle.delaunay_lines.proofs.plane_tiling.Totals.{Contains-none}
+use Rattle.delaunay_lines.specs.mesh_embedding.Drawn.{drawn}
+use Rattle.delaunay_lines.proofs.mesh_embedding.WorkLists.{contains_before, contains_last}
+use Rattle.delaunay_paths.proofs.Passing.{earlier_ones, later_ones}
 use Rattle.delaunay_paths.proofs.Places.{no_same_place}
 
 -- how far a whole point is on the way, in either form
@@ -43,17 +42,6 @@ reach_is_place u v z = ring_in (u.x ∷ u.y ∷ v.x ∷ v.y ∷ z.x ∷ z.y ∷ 
     (λ ux uy vx vy zx zy. (vx ⊗ num 1 ⊖ ux ⊗ num 1) ⊗ (zx ⊗ num 1 ⊖ ux ⊗ num 1)
     ⊕ (vy ⊗ num 1 ⊖ uy ⊗ num 1) ⊗ (zy ⊗ num 1 ⊖ uy ⊗ num 1))
     (λ ux uy vx vy zx zy. (vx ⊖ ux) ⊗ (zx ⊖ num 1 ⊗ ux) ⊕ (vy ⊖ uy) ⊗ (zy ⊖ num 1 ⊗ uy)) tt
-
--- each earlier one of a list in an order comes before the one in the middle
-earlier_ones : {X : Type 0} (R : X → X → Type 0) (passed : List X) (k : X) (others : List X) →
-    AllPairs R ((passed ++ k ∷ []) ++ others) → (x : X) → Contains passed x → R x k
-earlier_ones R [] k others o x c = absurd (Contains-none x c)
-earlier_ones R (y ∷ ys) k others o x c = elim (Contains-cases y ys x c) [
-  | inl is ↦ subst (λ z. R z k) is (later_ones R [] y ((ys ++ k ∷ []) ++ others) o k
-      (Contains-append_left (ys ++ k ∷ []) others k (contains_last ys k)))
-  | inr later ↦ earlier_ones R ys k others
-      (λ a b d lt within. o (suc a) (suc b) d (omega (arith, lt)) (omega (arith, within))) x later
-]
 
 abbrev vertex_of : Item → ℕ
 vertex_of (at_vertex v) = v

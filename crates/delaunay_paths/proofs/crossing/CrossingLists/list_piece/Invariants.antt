@@ -1,5 +1,5 @@
 use Rattle.delaunay_paths.proofs.Listing.{IsListingPiece}
-use Rattle.delaunay_paths.proofs.crossing.CrossingLists.list_to_next.Given as goal
+use Rattle.delaunay_paths.proofs.crossing.CrossingLists.list_piece.Given as goal
 
 abbrev pub invariant-loop-item : goal.invariant-loop-item
 invariant-loop-item g l = IsListingPiece g.V.HasPosition.place g.V.Scalar.SpadeNum.whole
