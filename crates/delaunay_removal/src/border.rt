@@ -1,36 +1,12 @@
 //! The sides of the hole that a vertex leaves.
 ghost use Rattle.std.specs.Prelude.{◌<◌, length, IfOk};
-ghost use Rattle.delaunay_legalization.specs.half_edge_mesh.Mesh.{origin};
 ghost use Rattle.delaunay_removal.specs.Pairs.{HasBorder};
 
 use crate::freeing::some_edge;
 use crate::pairs::{VertexPair, vertex_at_end};
 use crate::star::{ccw_edge, count_edges};
-use delaunay_legalization::half_edge_mesh::{
-    Dcel, FixedDirectedEdgeHandle, FixedVertexHandle, MeshViews,
-};
+use delaunay_legalization::half_edge_mesh::{Dcel, FixedVertexHandle};
 use std::alloc::{AllocError, Global};
-
-// Lists the ends of each edge and of the one after it, round the vertex where `first` starts.
-fn collect_border<V, DE, UE, F>(
-    dcel: &Dcel<V, DE, UE, F>,
-    first: FixedDirectedEdgeHandle,
-    alloc: Global,
-) -> Result<Vec<VertexPair>, AllocError>
-    requires { first < length dcel.now.directed }
-    ensures { IfOk result (λ ps. HasBorder dcel.now.mesh (origin dcel.now.mesh first) ps.items) }
-{
-    dcel.recall_invariant();
-    let count = count_edges(dcel, first);
-    let mut border = Vec::with_capacity(alloc, count)?;
-    let mut edge = first;
-    for i in 0..count {
-        let after = ccw_edge(dcel, edge);
-        border.push_reserved((vertex_at_end(dcel, edge), vertex_at_end(dcel, after)));
-        edge = after;
-    }
-    Ok(border)
-}
 
 /// Lists the ends of each edge of a vertex and of the edge after it round the vertex: so each side
 /// opposite the vertex in a face, and across the outer face a pair that need not be joined. It
@@ -44,8 +20,16 @@ pub fn sides_of_hole<V, DE, UE, F>(
     ensures { IfOk result (λ ps. HasBorder dcel.now.mesh vertex ps.items) }
 {
     dcel.recall_invariant();
-    match some_edge(dcel, vertex) {
-        Some(first) => collect_border(dcel, first, alloc),
-        None => Ok(Vec::new(alloc)),
+    let Some(first) = some_edge(dcel, vertex) else {
+        return Ok(Vec::new(alloc));
+    };
+    let count = count_edges(dcel, first);
+    let mut border = Vec::with_capacity(alloc, count)?;
+    let mut edge = first;
+    for i in 0..count {
+        let after = ccw_edge(dcel, edge);
+        border.push_reserved((vertex_at_end(dcel, edge), vertex_at_end(dcel, after)));
+        edge = after;
     }
+    Ok(border)
 }

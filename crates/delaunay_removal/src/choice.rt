@@ -172,12 +172,13 @@ impl<'a, V: HasPosition, DE, UE, F, P: PlaneTests<V::Scalar>> Spokes<'a, V, DE, 
         turns_left(centre, from, to, self.tests)
     }
 
-    // Whether the vertex, which has four edges, is strictly between the end of `first` and the end
-    // of the edge after the next.
-    fn is_between(&self) -> bool
-        requires { IsInnerStar self.now.points self.now.mesh
-            (origin self.now.mesh self.now.first) self.now.first 4 }
-        ensures { IsTrue result ↔ IsBetweenAt self.now.points self.now.mesh self.now.first }
+    // Of `first` and the edge after it, one whose end is one of the two neighbours between which
+    // the vertex is. It has four edges.
+    pub(crate) fn edge_beside_line(&self) -> FixedDirectedEdgeHandle
+        requires { IsFourStar self.now.points self.now.mesh self.now.first }
+        ensures star { IsInnerStar self.now.points self.now.mesh
+            (origin self.now.mesh self.now.first) result 4 }
+        ensures between { IsBetweenAt self.now.points self.now.mesh result }
     {
         let placed = Placed {
             dcel: self.dcel,
@@ -188,21 +189,10 @@ impl<'a, V: HasPosition, DE, UE, F, P: PlaneTests<V::Scalar>> Spokes<'a, V, DE, 
         let centre = placed.start_of(self.first);
         let from = placed.end_of(self.first);
         let to = placed.end_of(opposite);
-        is_strictly_within(from, to, centre, self.tests)
-    }
-
-    // Of `first` and the edge after it, one whose end is one of the two neighbours between which
-    // the vertex is. It has four edges.
-    pub(crate) fn edge_beside_line(&self) -> FixedDirectedEdgeHandle
-        requires { IsFourStar self.now.points self.now.mesh self.now.first }
-        ensures star { IsInnerStar self.now.points self.now.mesh
-            (origin self.now.mesh self.now.first) result 4 }
-        ensures between { IsBetweenAt self.now.points self.now.mesh result }
-    {
-        if self.is_between() {
+        if is_strictly_within(from, to, centre, self.tests) {
             self.first
         } else {
-            ccw_edge(self.dcel, self.first)
+            second
         }
     }
 }

@@ -1,7 +1,9 @@
 //! The edges of a vertex cease to be constraints.
-ghost use Rattle.std.specs.Prelude.{◌≡◌, ◌<◌, length, None, Some, IfNone, IfSome};
+ghost use Rattle.std.specs.Prelude.{◌≡◌, ◌<◌, [], length, None, Some, IfNone, IfSome, IsTrue};
 ghost use Rattle.delaunay_legalization.specs.half_edge_mesh.Contents.{IsMeshWithData};
 ghost use Rattle.delaunay_legalization.specs.half_edge_mesh.Mesh.{origin, out_edge};
+ghost use Rattle.delaunay_legalization.specs.Constraints.{constraints_by};
+ghost use Rattle.delaunay_legalization.specs.State.{state_of};
 ghost use Rattle.delaunay_removal.specs.Freeing.{FreesEdgesAt};
 
 use crate::star::{ccw_edge, count_edges};
@@ -28,34 +30,28 @@ pub(crate) fn some_edge<V, DE, UE, F>(
     }
 }
 
-// Makes each edge round the vertex where `first` starts one that is no constraint.
-fn free_round<M: ConstraintMarker<UE>, V, DE, UE, F>(
+// Makes each edge of a vertex one that is no constraint. Where the mesh has no constraint, which
+// `is_free` may say, it looks at none.
+pub(crate) fn free_edges_at<M: ConstraintMarker<UE>, V, DE, UE, F>(
     dcel: &mut Dcel<V, DE, UE, F>,
-    first: FixedDirectedEdgeHandle,
+    vertex: FixedVertexHandle,
+    is_free: bool,
 )
     requires whole { IsMeshWithData dcel.old }
-    requires within { first < length dcel.old.directed }
-    ensures { FreesEdgesAt M.marks dcel.old dcel.new (origin dcel.old.mesh first) }
+    requires within { vertex < length dcel.old.vertices }
+    requires free { IsTrue is_free → constraints_by M.constraints (state_of dcel.old) ≡ [] }
+    ensures { FreesEdgesAt M.marks dcel.old dcel.new vertex }
 {
+    if is_free {
+        return;
+    }
+    let Some(first) = some_edge(dcel, vertex) else {
+        return;
+    };
     let count = count_edges(dcel, first);
     let mut edge = first;
     for i in 0..count {
         free_edge::<M, _, _, _, _>(dcel, edge.as_undirected());
         edge = ccw_edge(dcel, edge);
-    }
-}
-
-// Makes each edge of a vertex one that is no constraint.
-pub(crate) fn free_edges_at<M: ConstraintMarker<UE>, V, DE, UE, F>(
-    dcel: &mut Dcel<V, DE, UE, F>,
-    vertex: FixedVertexHandle,
-)
-    requires whole { IsMeshWithData dcel.old }
-    requires within { vertex < length dcel.old.vertices }
-    ensures { FreesEdgesAt M.marks dcel.old dcel.new vertex }
-{
-    match some_edge(dcel, vertex) {
-        Some(first) => free_round::<M, _, _, _, _>(dcel, first),
-        None => {}
     }
 }

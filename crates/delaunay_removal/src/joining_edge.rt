@@ -27,47 +27,8 @@ fn is_same_edge(edge: FixedDirectedEdgeHandle, other: FixedDirectedEdgeHandle) -
     edge.index() == other.index()
 }
 
-// The edge from vertex `from`, where `first` starts, to `to`, where `second` starts, if they are
-// joined. It looks round both at once, so it costs what the one with fewer edges costs.
-fn find_from_both<V, DE, UE, F>(
-    dcel: &Dcel<V, DE, UE, F>,
-    from: FixedVertexHandle,
-    first: FixedDirectedEdgeHandle,
-    to: FixedVertexHandle,
-    second: FixedDirectedEdgeHandle,
-) -> Option<FixedDirectedEdgeHandle>
-    requires first_in { first < length dcel.now.directed }
-    requires second_in { second < length dcel.now.directed }
-    requires first_starts { origin dcel.now.mesh first ≡ from }
-    requires second_starts { origin dcel.now.mesh second ≡ to }
-    ensures within { IfSome result (λ e. e < length dcel.now.directed) }
-    ensures starts { IfSome result (λ e. origin dcel.now.mesh e ≡ from) }
-    ensures ends { IfSome result (λ e. origin dcel.now.mesh (rev e) ≡ to) }
-    ensures none { IfNone result (HasNoEdgeBetween dcel.now.mesh from to) }
-{
-    dcel.recall_invariant();
-    let mut forward = first;
-    let mut backward = second;
-    for i in 0..dcel.num_directed_edges() {
-        if ends_at(dcel, forward, to) {
-            return Some(forward);
-        }
-        if ends_at(dcel, backward, from) {
-            return Some(backward.rev());
-        }
-        forward = ccw_edge(dcel, forward);
-        if is_same_edge(forward, first) {
-            return None;
-        }
-        backward = ccw_edge(dcel, backward);
-        if is_same_edge(backward, second) {
-            return None;
-        }
-    }
-    None
-}
-
-// The edge from one vertex to another, if there are such vertices and they are joined.
+// The edge from one vertex to another, if there are such vertices and they are joined. It looks round
+// both at once, so it costs what the one with fewer edges costs.
 pub(crate) fn find_edge_between<V, DE, UE, F>(
     dcel: &Dcel<V, DE, UE, F>,
     from: FixedVertexHandle,
@@ -88,5 +49,23 @@ pub(crate) fn find_edge_between<V, DE, UE, F>(
     }
     let first = some_edge(dcel, from)?;
     let second = some_edge(dcel, to)?;
-    find_from_both(dcel, from, first, to, second)
+    let mut forward = first;
+    let mut backward = second;
+    for i in 0..dcel.num_directed_edges() {
+        if ends_at(dcel, forward, to) {
+            return Some(forward);
+        }
+        if ends_at(dcel, backward, from) {
+            return Some(backward.rev());
+        }
+        forward = ccw_edge(dcel, forward);
+        if is_same_edge(forward, first) {
+            return None;
+        }
+        backward = ccw_edge(dcel, backward);
+        if is_same_edge(backward, second) {
+            return None;
+        }
+    }
+    None
 }

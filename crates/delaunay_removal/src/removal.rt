@@ -1,6 +1,5 @@
 //! Vertices that go, with their edges.
 ghost use Rattle.std.specs.Prelude.{◌≡◌, ◌<◌, [], length, map, All, IsTrue};
-ghost use Rattle.delaunay_legalization.specs.half_edge_mesh.Contents.{IsMeshWithData};
 ghost use Rattle.delaunay_legalization.specs.plane_tiling.Local.{LocalMesh};
 ghost use Rattle.delaunay_legalization.specs.mesh_embedding.Drawn.{faces_of, outer_of};
 ghost use Rattle.delaunay_legalization.specs.Constraints.{constraints_by};
@@ -9,7 +8,6 @@ ghost use Rattle.delaunay_legalization.specs.Placed.{IsPlaced};
 ghost use Rattle.delaunay_legalization.specs.Shape.{IsTriangulated};
 ghost use Rattle.delaunay_legalization.specs.State.{points_and_constraints, state_of};
 ghost use Rattle.delaunay_removal.specs.Data.{RenumbersEdges};
-ghost use Rattle.delaunay_removal.specs.Freeing.{FreesEdgesAt};
 ghost use Rattle.delaunay_removal.specs.Lists.{HasRoomToRemove};
 ghost use Rattle.delaunay_removal.specs.Removal.{TakesVertexOut};
 ghost use Rattle.delaunay_removal.specs.Star.{LosesStar};
@@ -75,24 +73,6 @@ fn take_vertex<V: HasPosition, DE: Drop, UE: Drop, F: Drop, P: PlaneTests<V::Sca
     dcel.swap_remove_vertex(vertex)
 }
 
-// Makes each edge of a vertex one that is no constraint. Where the mesh has no constraint, which
-// `is_free` may say, it looks at none.
-fn free_unless<M: ConstraintMarker<UE>, V, DE, UE, F>(
-    dcel: &mut Dcel<V, DE, UE, F>,
-    vertex: FixedVertexHandle,
-    is_free: bool,
-)
-    requires whole { IsMeshWithData dcel.old }
-    requires within { vertex < length dcel.old.vertices }
-    requires free { IsTrue is_free → constraints_by M.constraints (state_of dcel.old) ≡ [] }
-    ensures { FreesEdgesAt M.marks dcel.old dcel.new vertex }
-{
-    if is_free {
-        return;
-    }
-    free_edges_at::<M, _, _, _, _>(dcel, vertex);
-}
-
 /// Removes a vertex with the constraints that end at it, and gives its data back. The hole or the
 /// gap that its faces leave is filled so that the others have a mesh, and the last vertex takes its
 /// index. Each other constraint stays; `is_free` may say that the mesh has no constraint at all.
@@ -121,6 +101,6 @@ pub fn remove_vertex<
         (state_of dcel.old) (state_of dcel.new) vertex result lists.new.turned.items }
     ensures capacity { lists.new.tested.room ≡ lists.old.tested.room }
 {
-    free_unless::<M, _, _, _, _>(dcel, vertex, is_free);
+    free_edges_at::<M, _, _, _, _>(dcel, vertex, is_free);
     take_vertex(dcel, vertex, tests, lists)
 }

@@ -1,16 +1,13 @@
 //! A vertex on the hull loses its edges.
-ghost use Rattle.std.specs.Prelude.{◌≡◌, ℕ, ◌+◌, ◌-◌, ◌<◌, ◌≤◌, []};
-ghost use Rattle.std.specs.Prelude.{length, map, IfSome, IfNone};
+ghost use Rattle.std.specs.Prelude.{◌≡◌, ℕ, ◌+◌, ◌<◌, ◌≤◌};
+ghost use Rattle.std.specs.Prelude.{length, IfSome, IfNone};
 ghost use Rattle.std.specs.Prelude.{vec_capacity, vec_len};
-ghost use Rattle.delaunay_legalization.specs.half_edge_mesh.Contents.{IsMeshWithData};
 ghost use Rattle.delaunay_legalization.specs.half_edge_mesh.Mesh.{face, next, origin, rev};
-ghost use Rattle.delaunay_legalization.specs.half_edge_mesh.Round.{IsRound, neighbour};
-ghost use Rattle.delaunay_legalization.specs.plane.Pairs.{place};
-ghost use Rattle.delaunay_legalization.specs.plane.Side.{on, side};
+ghost use Rattle.delaunay_legalization.specs.half_edge_mesh.Round.{IsRound};
 ghost use Rattle.delaunay_legalization.specs.Placed.{IsPlaced};
-ghost use Rattle.delaunay_removal.specs.Hull.{AreSides, HasNoFlippableEdge, IsCornerAt};
-ghost use Rattle.delaunay_removal.specs.Hull.{HasHullEdge, IsHullFan, ShrinksFan};
-ghost use Rattle.delaunay_removal.specs.Pairs.{HasRoomAt, KeepsPairs};
+ghost use Rattle.delaunay_removal.specs.Hull.{AreSides};
+ghost use Rattle.delaunay_removal.specs.Hull.{HasHullEdge, ShrinksFan};
+ghost use Rattle.delaunay_removal.specs.Pairs.{HasRoomAt};
 ghost use Rattle.delaunay_removal.specs.Star.{HasInnerFaces, LosesStar};
 
 use crate::choice::{Spokes, edge_to_go_on};
@@ -81,48 +78,6 @@ fn collect_sides<V, DE, UE, F>(
     }
 }
 
-// Removes the edges of a vertex at a corner of the hull, and its faces.
-fn cut_corner<V: HasPosition, DE: Drop, UE: Drop, F: Drop>(
-    dcel: &mut Dcel<V, DE, UE, F>,
-    first: FixedDirectedEdgeHandle,
-    count: usize,
-    vertex: FixedVertexHandle,
-    sides: &mut Vec<FixedDirectedEdgeHandle>,
-)
-    requires whole { IsMeshWithData dcel.old }
-    requires star { IsHullFan (map V.place dcel.old.vertices) dcel.old.mesh vertex first count }
-    requires bent { HasNoFlippableEdge (map V.place dcel.old.vertices) dcel.old.mesh first count }
-    requires corner { IsCornerAt (map V.place dcel.old.vertices) dcel.old.mesh first }
-    requires room { count ≤ vec_capacity sides.old }
-    ensures isolates { LosesStar V.place dcel.old dcel.new vertex [] }
-    ensures capacity { vec_capacity sides.new ≡ vec_capacity sides.old }
-{
-    collect_sides(dcel, first, count - 1, sides);
-    let _ = dcel.disconnect_edge_strip(sides.as_slice());
-}
-
-// Removes the edges of a vertex on a flat side of the hull that has three of them. Its two faces
-// become one. `turned` has room for a pair, and gets what the turned edge joins.
-fn close_flat<V: HasPosition, DE: Drop, UE: Drop, F: Drop>(
-    dcel: &mut Dcel<V, DE, UE, F>,
-    first: FixedDirectedEdgeHandle,
-    vertex: FixedVertexHandle,
-    turned: &mut Vec<VertexPair>,
-)
-    requires whole { IsMeshWithData dcel.old }
-    requires star { IsHullFan (map V.place dcel.old.vertices) dcel.old.mesh vertex first 3 }
-    requires flat { side (place (map V.place dcel.old.vertices) (neighbour dcel.old.mesh first 0))
-        (place (map V.place dcel.old.vertices) vertex)
-        (place (map V.place dcel.old.vertices) (neighbour dcel.old.mesh first 2)) ≡ on }
-    requires room { vec_len turned.old < vec_capacity turned.old }
-    ensures isolates { LosesStar V.place dcel.old dcel.new vertex turned.new.items }
-    ensures pairs { KeepsPairs turned.old.items turned.new.items }
-{
-    turn_away(dcel, first, turned);
-    let sides = [opposite_side(dcel, first)];
-    let _ = dcel.disconnect_edge_strip(&sides);
-}
-
 // Removes the edges of a vertex on the hull, from which `first` starts, with the outer face on its
 // right. `lists` has room for a side and for a pair at each edge, and gets what each turned one
 // joins.
@@ -151,9 +106,13 @@ pub(crate) fn isolate_on_hull<
     let count = shrink_hull_star(dcel, first, tests, &mut lists.turned);
     let spokes = Spokes { dcel, first, tests };
     if spokes.is_corner() {
-        cut_corner(dcel, first, count, vertex, &mut lists.sides);
+        collect_sides(dcel, first, count - 1, &mut lists.sides);
+        let _ = dcel.disconnect_edge_strip(lists.sides.as_slice());
     } else {
-        close_flat(dcel, first, vertex, &mut lists.turned);
+        // On a flat side three edges are left, and the two faces become one.
+        turn_away(dcel, first, &mut lists.turned);
+        let sides = [opposite_side(dcel, first)];
+        let _ = dcel.disconnect_edge_strip(&sides);
     }
 }
 

@@ -6,8 +6,8 @@ ghost use Rattle.delaunay_legalization.specs.half_edge_mesh.Round.{neighbour};
 ghost use Rattle.delaunay_legalization.specs.half_edge_mesh.Contents.{IsMeshWithData};
 ghost use Rattle.delaunay_legalization.specs.half_edge_mesh.Removal.{FillsHole};
 ghost use Rattle.delaunay_legalization.specs.Placed.{IsPlaced};
-ghost use Rattle.delaunay_removal.specs.Pairs.{HasRoomAt, KeepsPairs};
-ghost use Rattle.delaunay_removal.specs.Star.{IsBetweenAt, IsInnerStar, LosesStar, ShrinksStar};
+ghost use Rattle.delaunay_removal.specs.Pairs.{HasRoomAt};
+ghost use Rattle.delaunay_removal.specs.Star.{IsInnerStar, LosesStar, ShrinksStar};
 
 use crate::choice::{Spokes, edge_to_go_on};
 use crate::pairs::VertexPair;
@@ -75,25 +75,6 @@ fn fill_three<V, DE: Drop, UE: Drop, F: Drop>(
     let _ = dcel.isolate_vertex_and_fill_hole(&border, vertex);
 }
 
-// Removes the edges of a vertex with four neighbours, strictly between two of them, one of which is
-// the end of `first`. `turned` has room for a pair, and gets what the turned edge joins.
-fn fill_four<V: HasPosition, DE: Drop, UE: Drop, F: Drop>(
-    dcel: &mut Dcel<V, DE, UE, F>,
-    first: FixedDirectedEdgeHandle,
-    vertex: FixedVertexHandle,
-    turned: &mut Vec<VertexPair>,
-)
-    requires whole { IsMeshWithData dcel.old }
-    requires star { IsInnerStar (map V.place dcel.old.vertices) dcel.old.mesh vertex first 4 }
-    requires between { IsBetweenAt (map V.place dcel.old.vertices) dcel.old.mesh first }
-    requires room { vec_len turned.old < vec_capacity turned.old }
-    ensures isolates { LosesStar V.place dcel.old dcel.new vertex turned.new.items }
-    ensures pairs { KeepsPairs turned.old.items turned.new.items }
-{
-    turn_away(dcel, first, turned);
-    fill_three(dcel, first, vertex);
-}
-
 // Removes the edges of a vertex inside the hull, from which `first` and so many in all start, and
 // fills the hole that it leaves. `turned` has room for a pair at each edge, and gets what each
 // turned one joins.
@@ -118,7 +99,8 @@ pub(crate) fn isolate_inner<V: HasPosition, DE: Drop, UE: Drop, F: Drop, P: Plan
         fill_three(dcel, first, vertex);
     } else {
         let spokes = Spokes { dcel, first, tests };
-        let first = spokes.edge_beside_line();
-        fill_four(dcel, first, vertex, turned);
+        let beside = spokes.edge_beside_line();
+        turn_away(dcel, beside, turned);
+        fill_three(dcel, beside, vertex);
     }
 }

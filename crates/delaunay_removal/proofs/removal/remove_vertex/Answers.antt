@@ -5,14 +5,14 @@ use Rattle.delaunay_removal.proofs.RemovingConstraints.{plain_left, data_left}
 use Rattle.delaunay_removal.proofs.LeftFaces.{freed_faces_leave}
 use Rattle.delaunay_removal.proofs.removal.remove_vertex.Goals as goal
 
-pub free_unless-requires-clause-whole : goal.free_unless-requires-clause-whole
-free_unless-requires-clause-whole g c =
+pub free_edges_at-requires-clause-whole : goal.free_edges_at-requires-clause-whole
+free_edges_at-requires-clause-whole g c =
     record { valid = c.requires.kept.valid; fits = c.requires.kept.fits }
 
 pub take_vertex-requires : goal.take_vertex-requires
 take_vertex-requires g c =
     let marked = g.met.M.ConstraintMarker.constraints_are_marked in
-    let frees = c.free_unless.ensures in
+    let frees = c.free_edges_at.ensures in
     let kept = c.requires.kept in
     record {
       placed = freed_placed marked frees kept c.requires.sites;
@@ -24,7 +24,7 @@ take_vertex-requires g c =
 pub returns-clause-takes : goal.returns-clause-takes
 returns-clause-takes g c =
     let marked = g.met.M.ConstraintMarker.constraints_are_marked in
-    let frees = c.free_unless.ensures in
+    let frees = c.free_edges_at.ensures in
     let kept = c.requires.kept in
     let takes = c.take_vertex.ensures.takes in
     let new = c.take_vertex.new.dcel in

@@ -1,5 +1,8 @@
-use Rattle.std.proofs.Common.{◌∙◌}
+use Rattle.std.proofs.Common.{◌∙◌, arith}
+use Rattle.delaunay_removal.proofs.DataStays.{pairs_kept}
 use Rattle.delaunay_removal.proofs.InnerHoles.{three_wheel, three_isolate, isolates_from}
+use Rattle.delaunay_removal.proofs.InnerHoles.{wheel_after, four_isolate}
+use Rattle.delaunay_removal.proofs.InnerStars.{inner_may_turn, starts_after}
 use Rattle.delaunay_removal.proofs.Isolating.{four_left, four_named}
 use Rattle.delaunay_removal.proofs.Shrinking.{has_spoke}
 use Rattle.delaunay_removal.proofs.removal_inner.isolate_inner.Goals as goal
@@ -18,13 +21,26 @@ invariant_of-spokes g c =
     let s = c.shrink_star-first.ensures.shrinks in
     has_spoke s.contents c.requires.placed s.whole s.star.shape (s.star.round.within 0)
 
-pub edge_beside_line-first-requires : goal.edge_beside_line-first-requires
-edge_beside_line-first-requires g c =
+pub edge_beside_line-beside-requires : goal.edge_beside_line-beside-requires
+edge_beside_line-beside-requires g c =
     four_left c.shrink_star-first.ensures.shrinks c.if-count-eq3.false
 
-pub fill_four-requires-clause-star : goal.fill_four-requires-clause-star
-fill_four-requires-clause-star g c = four_named c.shrink_star-first.ensures.shrinks
-    c.requires.starts c.edge_beside_line-first.ensures.star
+pub turn_away-requires-clause-turns : goal.turn_away-requires-clause-turns
+turn_away-requires-clause-turns g c =
+    let s = c.shrink_star-first.ensures.shrinks in
+    inner_may_turn s.whole (four_named s c.requires.starts c.edge_beside_line-beside.ensures.star)
+    (omega arith)
+
+pub fill_three-requires-else-count-eq3 : goal.fill_three-requires-else-count-eq3
+fill_three-requires-else-count-eq3 g c =
+    let s = c.shrink_star-first.ensures.shrinks in
+    let star = four_named s c.requires.starts c.edge_beside_line-beside.ensures.star in
+    let turned = c.turn_away.ensures in
+    record {
+      whole = turned.whole;
+      wheel = wheel_after s.whole star turned;
+      starts = starts_after s.whole.valid star (omega arith) turned.mesh;
+    }
 
 pub returns-then-count-eq3 : goal.returns-then-count-eq3
 returns-then-count-eq3 g c =
@@ -36,5 +52,8 @@ returns-then-count-eq3 g c =
 pub returns-else-count-eq3 : goal.returns-else-count-eq3
 returns-else-count-eq3 g c =
     let s = c.shrink_star-first.ensures.shrinks in
-    isolates_from _ s.contents s.beside c.requires.starts c.fill_four.ensures.pairs (λ i j p. p)
-    c.fill_four.ensures.isolates
+    let star = four_named s c.requires.starts c.edge_beside_line-beside.ensures.star in
+    isolates_from _ s.contents s.beside c.requires.starts
+    (pairs_kept _ _ _ c.turn_away.ensures.items) (λ i j p. p)
+    (four_isolate s.whole star c.turn_away.ensures c.fill_three-else-count-eq3.ensures.whole
+    c.edge_beside_line-beside.ensures.between c.fill_three-else-count-eq3.ensures.hole)

@@ -2,14 +2,16 @@ use Rattle.std.proofs.Common.{arith}
 use Rattle.delaunay_legalization.proofs.half_edge_links.Lists.Rev.{rev-rev}
 use Rattle.delaunay_removal.proofs.BothRounds.{looking_begins, looking_goes_on, none_back}
 use Rattle.delaunay_removal.proofs.BothRounds.{none_of_all, none_when_back, starts_there}
-use Rattle.delaunay_removal.proofs.joining_edge.find_from_both.Goals as goal
+use Rattle.delaunay_removal.proofs.joining_edge.find_edge_between.Goals as goal
 
 pub loop-i-init : goal.loop-i-init
 loop-i-init g c =
     let whole = c.recall_invariant.ensures.whole in
     record {
-      outward = looking_begins whole c.requires.first_in c.requires.first_starts;
-      inward = looking_begins whole c.requires.second_in c.requires.second_starts;
+      outward = looking_begins whole c.in_ok-first.ensures.within
+          c.in_ok-first.ensures.starts;
+      inward = looking_begins whole c.in_ok-second.ensures.within
+          c.in_ok-second.ensures.starts;
     }
 
 pub returns-then-ends_at-clause-starts : goal.returns-then-ends_at-clause-starts
