@@ -1,10 +1,11 @@
 -- The room for a vertex, and the two sides of an edge.
 -- Lemmas: positive, room_inside, vertex_of_face, vertex_of_edge, twin_within, within_twin,
--- no_listed_face, inner_twin.
+-- no_listed_face, twin_splits.
 use Rattle.std.proofs.Common.{◌≡◌, ◌+◌, ◌*◌, ◌<◌, ◌≤◌, [], ◌∙◌}
 use Rattle.std.proofs.Common.{ℕ, length, map, ap, sym, subst, inl, inr, arith}
 use Rattle.std.proofs.lemmas.List.{length-map}
 use Rattle.delaunay_legalization.specs.half_edge_mesh.Mesh.{origin, rev, face}
+use Rattle.delaunay_legalization.specs.half_edge_mesh.Grow.{IsHalfSplittable}
 use Rattle.delaunay_legalization.specs.half_edge_mesh.Room.{HasRoomFor}
 use Rattle.delaunay_legalization.specs.half_edge_mesh.Triangles.{triangle_at, triangles}
 use Rattle.delaunay_legalization.proofs.half_edge_links.Lists.Rev.{rev-rev, rev_within}
@@ -79,7 +80,7 @@ module _ {V D U F : Type 0} (at : V → Point) (c : Contents V D U F)
       ∙ sym (length-map (triangles c.mesh) corners_of) ∙ ap length none
 
   -- where there are faces, an edge has one on its left or on its right
-  pub inner_twin : (e : ℕ) → e < length c.directed → ¬ (length c.faces ≡ 0) → face c.mesh e ≡ 0 →
+  inner_twin : (e : ℕ) → e < length c.directed → ¬ (length c.faces ≡ 0) → face c.mesh e ≡ 0 →
       0 < face c.mesh (rev e)
   inner_twin e within some outer = positive (face c.mesh (rev e))
       (λ twin_outer. go twin_outer
@@ -100,3 +101,12 @@ module _ {V D U F : Type 0} (at : V → Point) (c : Contents V D U F)
                 (subst (λ k. HasFace (drawn (map at c.vertices) c.mesh) (origin c.mesh (rev e))
                 (origin c.mesh k)) (sym (rev-rev e)) h)
           ]
+
+  -- so the twin of an outer edge may be split with its face
+  pub twin_splits : (e : ℕ) → e < length c.directed → ¬ (length c.faces ≡ 0) → face c.mesh e ≡ 0 →
+      IsHalfSplittable c.mesh (rev e)
+  twin_splits e within some outer = record {
+    within = rw (← kept.fits.directed_fit) (twin_within e within);
+    inner = inner_twin e within some outer;
+    outer = rw (rev-rev e) outer;
+  }

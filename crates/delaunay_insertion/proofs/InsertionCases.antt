@@ -1,6 +1,6 @@
 -- A mesh with faces gets one more vertex, inside a face or within an edge.
--- Lemmas: within_side_shape, within_outer_shape, inside_gains.
-use Rattle.std.proofs.Common.{◌≡◌, ◌<◌, ◌≤◌, [], ◌∷◌, ◌++◌, ◌∙◌}
+-- Lemmas: within_side_shape, inside_gains, hull_gains.
+use Rattle.std.proofs.Common.{◌≡◌, ◌/◌, ◌<◌, ◌≤◌, [], ◌∷◌, ◌++◌, ◌∙◌}
 use Rattle.std.proofs.Common.{ℕ, List, length, map, sym, ap, subst, inl, inr, arith}
 use Rattle.std.proofs.lemmas.List.{length-map}
 use Rattle.delaunay_legalization.specs.half_edge_mesh.Mesh.{Mesh, AreSoundLinks, IsValidMesh}
@@ -9,9 +9,9 @@ use Rattle.delaunay_legalization.specs.half_edge_mesh.Mesh.{rev}
 use Rattle.delaunay_legalization.specs.half_edge_mesh.Contents.{Contents, edges}
 use Rattle.delaunay_legalization.specs.half_edge_mesh.Flip.{IsFlippable}
 use Rattle.delaunay_legalization.specs.half_edge_mesh.Grow.{IsHalfSplittable}
-use Rattle.delaunay_legalization.specs.half_edge_mesh.GrownData.{AddsData}
-use Rattle.delaunay_legalization.specs.half_edge_mesh.Growth.{AddsEdges}
-use Rattle.delaunay_legalization.specs.half_edge_mesh.Shapes.{InsertsInFace}
+use Rattle.delaunay_legalization.specs.half_edge_mesh.GrownData.{AddsData, MovesData}
+use Rattle.delaunay_legalization.specs.half_edge_mesh.Growth.{AddsEdges, SplitsEdge}
+use Rattle.delaunay_legalization.specs.half_edge_mesh.Shapes.{InsertsInFace, SplitsBesideOuter}
 use Rattle.delaunay_legalization.specs.half_edge_mesh.Triangles.{triangle_at, triangles}
 use Rattle.delaunay_legalization.specs.half_edge_mesh.Triangles.{InsertsTriangles, SplitsTriangles}
 use Rattle.delaunay_legalization.specs.half_edge_mesh.Outline.{Ends, KeepsOuter, ReplacesOuter}
@@ -26,10 +26,10 @@ use Rattle.delaunay_legalization.proofs.mesh_embedding.MeshEdits.{insertion_with
 use Rattle.delaunay_legalization.proofs.mesh_embedding.MeshEdits.{insertion_within_outer}
 use Rattle.delaunay_legalization.specs.Parts.{IsInsideFaceOf, IsWithinEdge}
 use Rattle.delaunay_legalization.specs.State.{state_of}
-use Rattle.delaunay_insertion.specs.Growth.{CanTake, GainsVertex}
-use Rattle.delaunay_insertion.proofs.DataGrowing.{grows_inside}
+use Rattle.delaunay_insertion.specs.Growth.{CanSplit, CanTake, GainsVertex}
+use Rattle.delaunay_insertion.proofs.DataGrowing.{grows_inside, grows_within_hull}
 use Rattle.delaunay_insertion.proofs.Growing.{gains}
-use Rattle.delaunay_insertion.proofs.MadeFaces.{made_inside}
+use Rattle.delaunay_insertion.proofs.MadeFaces.{made_inside, made_within_outer}
 
 -- a mesh with an edge of an inner face is not a line
 with_faces : (points : List Point) (m : Mesh) (e : ℕ) → AreSoundLinks m → IsInnerEdge m e
@@ -67,7 +67,7 @@ module _ (points : List Point) (q : Point) (m new : Mesh) (v : ℕ) (w : IsValid
       (subst (λ k. SplitsTriangles m new k e) last change) outer)
 
   -- strictly within the edge e, with the outer face on its right
-  pub within_outer_shape : (e a b : ℕ) → IsHalfSplittable m e → length points ≡ length m.out_edges
+  within_outer_shape : (e a b : ℕ) → IsHalfSplittable m e → length points ≡ length m.out_edges
       → IsWithinEdge points m q e → HalfSplitsTriangles m new v e
       → ReplacesOuter m new (rev e) v a b → IsMesh (points ++ q ∷ []) (faces_of new) (outer_of new)
   within_outer_shape e a b x fit within change outer =
@@ -97,3 +97,23 @@ inside_gains {at = at} {new = new} {k = k} old f can positive within inside is l
     (grows_inside old new kept.valid kept.fits brings.whole _ _ k f positive listed inside brings
     edged links.triangles)
     (made_inside _ old.mesh new.mesh _ kept.valid kept.shape last f positive within links.triangles)
+
+-- strictly within an edge with the outer face on its right, by what `split_half_edge` does
+pub hull_gains : {V D U F : Type 0} {at : V → Point} {v : V} {DP : D → Type 0} {P : U → Type 0}
+    {FP : F → Type 0} {new : Contents V D U F} {k n : ℕ} {turned first : Ends} {others : List Ends}
+    (old : Contents V D U F) (e : ℕ) → CanSplit at v (state_of old) e → IsHalfSplittable old.mesh e
+    → k ≡ length old.vertices → SplitsBesideOuter old.mesh new.mesh n k e
+    → MovesData DP P FP (old.vertices ++ v ∷ []) old new e 2 1 1
+    → SplitsEdge P (edges old) (edges new) (e / 2) turned first others
+    → GainsVertex at v (state_of old) (state_of new) k
+hull_gains {at = at} {new = new} old e can half is links brings edged =
+    let kept = can.takes.kept in
+    let places = length-map old.vertices at in
+    let last = is ∙ sym places in
+    gains old can.takes (ap (λ d. d.vertices) brings.contents) brings.whole is
+    (within_outer_shape _ _ old.mesh _ _ kept.valid kept.shape last e _ _ half
+    (places ∙ kept.fits.vertices_fit) can.on_edge links.triangles links.outer)
+    (grows_within_hull old new kept.valid kept.fits brings.whole _ _ e _ half.within half.inner
+    can.on_edge brings edged links.triangles)
+    (made_within_outer _ old.mesh new.mesh _ kept.valid kept.shape last e (half.within, half.inner)
+    links.triangles)

@@ -1,11 +1,11 @@
 -- A new vertex is joined to one outer edge after another.
--- Notions: IsJoining, IsJoiningBack; has_vertex, not_to, not_from, joining_begins,
--- joining_goes_on, joining_goes_back, unseen_stays, joining_ends, room_for_face, last_in,
--- unseen_as, sites_grown, ahead_apart, step_ahead, before_outer, before_apart, step_behind.
-use Rattle.std.proofs.Common.{◌≡◌, ◌≢◌, ◌⊎◌, ◌+◌, ◌-◌, ◌*◌, ◌<◌, [], ◌∷◌, ◌++◌, ◌∙◌}
-use Rattle.std.proofs.Common.{ℕ, List, length, map, refl, sym, ap, subst, inl, inr, arith}
+-- Notions: Sees, IsJoining, IsJoiningBack; joining_begins,
+-- joining_goes_on, joining_goes_back, unseen_stays, joining_ends, room_for_face, sites_grown,
+-- seen_if, unseen_if, ahead_apart, step_ahead, before_outer, before_apart, step_behind.
+use Rattle.std.proofs.Common.{◌≡◌, ◌≢◌, ◌⊎◌, ◌↔◌, ◌+◌, ◌-◌, ◌*◌, ◌<◌, [], ◌∷◌, ◌++◌, ◌∙◌}
+use Rattle.std.proofs.Common.{ℕ, Bool, true, false, List, length, map, refl, sym, ap, subst, inl, inr, arith}
 use Rattle.std.proofs.Common.{length-append}
-use Rattle.std.specs.Prelude.{All, Contains}
+use Rattle.std.specs.Prelude.{All, Contains, IsTrue}
 use Rattle.std.proofs.lemmas.List.{length-map, map-append}
 use Rattle.std.proofs.lemmas.List.Elements.{All-push}
 use Rattle.delaunay_legalization.specs.half_edge_mesh.Mesh.{Mesh, AreSoundLinks, IsSoundEdge}
@@ -46,16 +46,21 @@ use Rattle.delaunay_legalization.proofs.mesh_embedding.MeshExtension.{mesh_exten
 use Rattle.delaunay_legalization.proofs.mesh_embedding.MeshExtension.{mesh_extension_ends}
 use Rattle.delaunay_insertion.specs.Data.{GrowsAround}
 use Rattle.delaunay_insertion.specs.Edges.{AddsOnly}
-use Rattle.delaunay_insertion.specs.Joining.{Sees}
 use Rattle.delaunay_legalization.specs.State.{state_of}
 use Rattle.delaunay_legalization.specs.Shape.{IsTriangulated}
+use Rattle.delaunay_legalization.proofs.Questions.{both_ways}
 use Rattle.delaunay_insertion.proofs.DataGrowing.{grows_by_face, grows_on}
 use Rattle.delaunay_insertion.proofs.EdgeLists.{adds_only, adds_on}
 use Rattle.delaunay_insertion.proofs.Growing.{edges_and_faces, sides_at_most}
 use Rattle.delaunay_insertion.proofs.LineEnds.{none_seen_after, none_seen_before}
 
+-- directed edge e has vertex k strictly on its left
+abbrev pub Sees : List Point → Mesh → ℕ → ℕ → Type 0
+Sees points m k e =
+    TurnsLeft (place points (origin m e)) (place points (origin m (rev e))) (place points k)
+
 -- an edge starts at a vertex
-pub has_vertex : {V D U F : Type 0} (place : V → Point) (c : Contents V D U F) (e : ℕ)
+has_vertex : {V D U F : Type 0} (place : V → Point) (c : Contents V D U F) (e : ℕ)
     → IsTriangulated place (state_of c) → e < length c.directed → 0 < length c.vertices
 has_vertex place c e kept within =
     let d = kept.fits.directed_fit in
@@ -65,13 +70,13 @@ has_vertex place c e kept within =
 
 -- ---- a vertex on the left of an edge is at neither end
 -- no triple whose third point is its second turns left
-pub not_to : (points : List Point) (i k : ℕ)
+not_to : (points : List Point) (i k : ℕ)
     → ¬ TurnsLeft (place points i) (place points k) (place points k)
 not_to points i k s = left_not_zero (if_left (place points i) (place points k) (place points k) s)
     (bracket-last (at (point_at points) i) (at (point_at points) k))
 
 -- no triple whose third point is its first turns left
-pub not_from : (points : List Point) (i k : ℕ)
+not_from : (points : List Point) (i k : ℕ)
     → ¬ TurnsLeft (place points k) (place points i) (place points k)
 not_from points i k s = left_not_zero (if_left (place points k) (place points i) (place points k) s)
     (bracket-outer (at (point_at points) k) (at (point_at points) i))
@@ -108,13 +113,17 @@ pub record IsJoining {V D U F : Type 0} (place : V → Point) (P : U → Type 0)
   pub grows : GrowsAround (map place old.vertices) (place v) (state_of old) (state_of now)
   pub adds : AddsOnly P (edges old) (edges now)
 
--- the same, where the edge after the edge ahead does not see the vertex
+-- the same, where the edge after the edge ahead does not see the vertex, and this is the edge before
+-- the edge behind
 pub record IsJoiningBack {V D U F : Type 0} (place : V → Point) (P : U → Type 0)
-    (old now : Contents V D U F) (v : V) (k behind : ℕ) : Type 0 where
+    (old now : Contents V D U F) (v : V) (k before : ℕ) : Type 0 where
   pub ahead : ℕ
+  pub behind : ℕ
   pub joining : IsJoining place P old now v k ahead behind
   pub unseen : ¬ Sees (map place old.vertices ++ place v ∷ []) now.mesh
       (length (map place old.vertices)) (next now.mesh ahead)
+  pub before_is : before ≡ prev now.mesh behind
+  pub before_in : before < length now.directed
 
 module _ {V D U F : Type 0} (place_at : V → Point) (old : Contents V D U F) (v : V) where
   abbrev points : List Point
@@ -130,17 +139,6 @@ module _ {V D U F : Type 0} (place_at : V → Point) (old : Contents V D U F) (v
   grown_count : (now : Contents V D U F) → now.vertices ≡ old.vertices ++ v ∷ []
       → length now.vertices ≡ length old.vertices + 1
   grown_count now is = ap length is ∙ length-append old.vertices (v ∷ [])
-
-  -- what is seen in the mesh now
-  seen_as : (now : Contents V D U F) (k e : ℕ) → now.vertices ≡ old.vertices ++ v ∷ []
-      → k ≡ length old.vertices → Sees (map place_at now.vertices) now.mesh k e
-      → Sees grown_points now.mesh last e
-  seen_as now k e vertices is h = subst (λ (x : List Point × ℕ). TurnsLeft
-      (place x.0 (origin now.mesh e)) (place x.0 (origin now.mesh (rev e))) (place x.0 x.1))
-      (λ o. (
-        (ap (map place_at) vertices ∙ map-append place_at old.vertices (v ∷ [])) o,
-        (is ∙ sym (length-map old.vertices place_at)) o,
-      )) h
 
   -- no outer edge is listed twice
   once : IsMesh points (faces_of old.mesh) (outer_of old.mesh) → IsOnce (outer_of old.mesh)
@@ -562,15 +560,6 @@ module _ {V D U F : Type 0} {place_at : V → Point} {P : U → Type 0} {old now
         faces_fit = omega (arith, room.faces_fit, count, j.counts, sides);
       })
 
-  -- the new vertex is one of the mesh
-  pub last_in : k < length now.vertices
-  last_in = omega (arith, j.vertex, grown_count place_at old v now j.vertices)
-
-  -- what the mesh now has it not see
-  pub unseen_as : (e : ℕ) → ¬ Sees (map place_at now.vertices) now.mesh k e
-      → ¬ Sees (grown_points place_at old v) now.mesh (last place_at old v) e
-  unseen_as e = rw (j.vertex ∙ sym (length-map old.vertices place_at), grown_to) (λ n. n)
-
   -- the sites with the new one
   pub sites_grown : (IsSite : Point → Type 0)
       → All IsSite (map place_at old.vertices) × IsSite (place_at v)
@@ -578,18 +567,37 @@ module _ {V D U F : Type 0} {place_at : V → Point} {P : U → Type 0} {old now
   sites_grown IsSite all =
       rw grown_to (All-push IsSite (map place_at old.vertices) (place_at v) all.0 all.1)
 
-  -- the edge after the edge ahead sees the new vertex
-  module _ {e : ℕ} (is : e ≡ next now.mesh ahead)
-      (sees : Sees (map place_at now.vertices) now.mesh k e) where
-    seen_ahead : Sees (grown_points place_at old v) now.mesh (last place_at old v)
-        (next now.mesh ahead)
-    seen_ahead = seen_as place_at old v now k (next now.mesh ahead) j.vertices j.vertex
-        (subst (λ i. Sees (map place_at now.vertices) now.mesh k i) is sees)
+  -- the code tells whether an edge has the position of the new vertex strictly on its left
+  module _ {p : Point} {e : ℕ} {b : Bool} (here : p ≡ place_at v)
+      (told : IsTrue b ↔ TurnsLeft (place (map place_at now.vertices) (origin now.mesh e))
+      (place (map place_at now.vertices) (origin now.mesh (rev e))) (whole p)) where
+    told_seen : (i : ℕ) → e ≡ i → IsTrue b
+        ↔ Sees (grown_points place_at old v) now.mesh (last place_at old v) i
+    told_seen i is = subst (λ (x : List Point × Point × ℕ). IsTrue b ↔ TurnsLeft
+        (place x.0 (origin now.mesh x.2)) (place x.0 (origin now.mesh (rev x.2))) (whole x.1))
+        (λ o. (
+          grown_to o,
+          (here ∙ sym (last_point (map place_at old.vertices) (place_at v))) o,
+          is o,
+        )) told
 
+    -- it sees the vertex
+    pub seen_if : {i : ℕ} → e ≡ i → b ≡ true
+        → Sees (grown_points place_at old v) now.mesh (last place_at old v) i
+    seen_if {i = i} is true_of = (told_seen i is).0 true_of
+
+    -- or it does not
+    pub unseen_if : {i : ℕ} → e ≡ i → b ≡ false
+        → ¬ Sees (grown_points place_at old v) now.mesh (last place_at old v) i
+    unseen_if {i = i} is false_of sees = both_ways b ((told_seen i is).1 sees) false_of
+
+  -- the edge after the edge ahead sees the new vertex
+  module _ (sees : Sees (grown_points place_at old v) now.mesh (last place_at old v)
+      (next now.mesh ahead)) where
     -- it does not lead back to where the edge ahead starts
     pub ahead_apart : origin now.mesh (rev (next now.mesh ahead)) ≢ origin now.mesh ahead
     ahead_apart p = seen_end (grown_points place_at old v) now.mesh (last place_at old v)
-        (next now.mesh ahead) seen_ahead (p ∙ j.ahead_outer.source)
+        (next now.mesh ahead) sees (p ∙ j.ahead_outer.source)
 
     -- the step ahead, to the new edge h
     pub step_ahead : {DP : D → Type 0} {FP : F → Type 0} {ends : List Ends}
@@ -599,23 +607,21 @@ module _ {V D U F : Type 0} {place_at : V → Point} {P : U → Type 0} {old now
         → h ≡ length now.directed + 1 → IsJoining place_at P old new v k h behind
         × (length (outer_of new.mesh) < length (outer_of now.mesh))
     step_ahead {new = new} brings edged links made = rw made
-        (joining_goes_on place_at old v now new ahead behind j brings edged seen_ahead links)
+        (joining_goes_on place_at old v now new ahead behind j brings edged sees links)
 
+-- the edge before the edge behind sees it
 module _ {V D U F : Type 0} {place_at : V → Point} {P : U → Type 0} {old now : Contents V D U F}
-    {v : V} {k behind e : ℕ} (b : IsJoiningBack place_at P old now v k behind)
-    (is : e ≡ prev now.mesh behind) (sees : Sees (map place_at now.vertices) now.mesh k e) where
-  seen_behind : Sees (grown_points place_at old v) now.mesh (last place_at old v) e
-  seen_behind = seen_as place_at old v now k e b.joining.vertices b.joining.vertex sees
-
+    {v : V} {k e : ℕ} (b : IsJoiningBack place_at P old now v k e)
+    (sees : Sees (grown_points place_at old v) now.mesh (last place_at old v) e) where
   -- the edge behind fits the edges beside it
-  here : IsSoundEdge now.mesh behind
-  here = b.joining.whole.valid.sound.edges behind b.joining.behind_outer.within
+  here : IsSoundEdge now.mesh b.behind
+  here = b.joining.whole.valid.sound.edges b.behind b.joining.behind_outer.within
 
   before_in : e < length now.mesh.half_edges
-  before_in = subst (λ i. i < length now.mesh.half_edges) (sym is) here.prev_in
+  before_in = subst (λ i. i < length now.mesh.half_edges) (sym b.before_is) here.prev_in
 
-  after_is : next now.mesh e ≡ behind
-  after_is = ap (next now.mesh) is ∙ here.next_prev
+  after_is : next now.mesh e ≡ b.behind
+  after_is = ap (next now.mesh) b.before_is ∙ here.next_prev
 
   -- the edge before the edge behind is an outer one
   pub before_outer : face now.mesh e ≡ 0
@@ -624,26 +630,28 @@ module _ {V D U F : Type 0} {place_at : V → Point} {P : U → Type 0} {old now
 
   -- the edge after it does not lead back to where it starts
   pub before_apart : origin now.mesh (rev (next now.mesh e)) ≢ origin now.mesh e
-  before_apart p = seen_start (grown_points place_at old v) now.mesh (last place_at old v) e
-      seen_behind
+  before_apart p = seen_start (grown_points place_at old v) now.mesh (last place_at old v) e sees
       (sym p ∙ ap (λ i. origin now.mesh (rev i)) after_is ∙ b.joining.behind_outer.target)
 
-  -- the step behind, to the new edge h, while nothing ahead sees v
+  -- the step behind, to the new edge h with i before it, while nothing ahead sees v
   pub step_behind : {DP : D → Type 0} {FP : F → Type 0} {ends : List Ends} {new : Contents V D U F}
-      {h : ℕ} → AddsData DP P FP now.vertices now new 2 1 1
+      {h i : ℕ} → AddsData DP P FP now.vertices now new 2 1 1
       → AddsEdges P (edges now) (edges new) ends
       → ClosesTriangle now.mesh new.mesh (length now.directed) e
-      → h ≡ length now.directed + 1 → IsJoiningBack place_at P old new v k h
+      → h ≡ length now.directed + 1 → i ≡ prev new.mesh h → i < length new.directed
+      → IsJoiningBack place_at P old new v k i
       × (length (outer_of new.mesh) < length (outer_of now.mesh))
-  step_behind {new = new} brings edged links made =
-      let step = joining_goes_back place_at old v now new b.ahead behind b.joining brings edged e is
-      seen_behind links in
-      rw made (
+  step_behind {new = new} {h = h} brings edged links made is within =
+      let step = joining_goes_back place_at old v now new b.ahead b.behind b.joining brings edged e
+      b.before_is sees links in (
         record {
           ahead = b.ahead;
-          joining = step.0;
-          unseen = unseen_stays place_at old v now new b.ahead behind b.joining brings edged e is
-              seen_behind links.mesh b.unseen;
+          behind = h;
+          joining = rw made step.0;
+          unseen = unseen_stays place_at old v now new b.ahead b.behind b.joining brings edged e
+              b.before_is sees links.mesh b.unseen;
+          before_is = is;
+          before_in = within;
         },
         step.1,
       )

@@ -2,4 +2,3 @@ pub mod Data
 pub mod Growth
 pub mod Edges
 pub mod Constraints
-pub mod Joining

@@ -1,18 +1,18 @@
 //! New vertices on the line of all vertices.
-ghost use Rattle.std.specs.Prelude.{◌≡◌, ◌/◌, ◌<◌, ◌≤◌, length, map};
+ghost use Rattle.std.specs.Prelude.{◌≡◌, ◌<◌, ◌≤◌, length, map};
 ghost use Rattle.delaunay_legalization.specs.half_edge_mesh.Mesh.{origin};
 ghost use Rattle.delaunay_legalization.specs.half_edge_mesh.Contents.{HasRoom, edges};
 ghost use Rattle.delaunay_legalization.specs.plane.Fraction.{whole as fraction};
 ghost use Rattle.delaunay_legalization.specs.plane.Location.{IsPast};
 ghost use Rattle.delaunay_legalization.specs.plane_tiling.Local.{alone};
-ghost use Rattle.delaunay_insertion.specs.Edges.{AddsOnly, SplitsAt};
-ghost use Rattle.delaunay_insertion.specs.Growth.{CanSplit, CanTake, GainsVertex};
+ghost use Rattle.delaunay_insertion.specs.Edges.{AddsOnly};
+ghost use Rattle.delaunay_insertion.specs.Growth.{CanTake, GainsVertex};
 ghost use Rattle.delaunay_legalization.specs.Parts.{IsApart};
 ghost use Rattle.delaunay_legalization.specs.State.{state_of};
 
 use delaunay_legalization::delaunay_core::point::HasPosition;
 use delaunay_legalization::half_edge_mesh::{
-    Dcel, FixedDirectedEdgeHandle, FixedUndirectedEdgeHandle, FixedVertexHandle, MeshViews,
+    Dcel, FixedDirectedEdgeHandle, FixedVertexHandle, MeshViews,
 };
 
 /// Puts a vertex into a mesh without edges, joins it to the vertex that is there, if any, and gives
@@ -54,21 +54,4 @@ pub fn insert_past_end<V: HasPosition, DE: Default, UE: Default, F>(
 {
     let end = dcel.directed_edge(edge).from().fix();
     dcel.extend_line(end, value)
-}
-
-// A vertex strictly within an edge of the line of all vertices, and the second half of the edge.
-pub(crate) fn split_line_edge<V: HasPosition, DE: Default, UE: Default, F>(
-    dcel: &mut Dcel<V, DE, UE, F>,
-    edge: FixedDirectedEdgeHandle,
-    value: V,
-) -> (FixedVertexHandle, FixedUndirectedEdgeHandle)
-    requires can { CanSplit V.place value (state_of dcel.old) edge }
-    requires one_face { length dcel.old.faces ≡ 0 }
-    requires room { HasRoom dcel.old 1 1 0 }
-    ensures takes { GainsVertex V.place value (state_of dcel.old) (state_of dcel.new) result.0 }
-    ensures edges { SplitsAt UE.is_default (edges dcel.old) (edges dcel.new) (edge / 2) result.0
-        result.1 }
-{
-    let (vertex, parts) = dcel.split_edge_when_all_vertices_on_line(edge, value);
-    (vertex, parts[1].as_undirected())
 }

@@ -1,9 +1,7 @@
 //! A new vertex within an edge.
 ghost use Rattle.std.specs.Prelude.{◌+◌, ◌*◌, ◌/◌, ◌<◌, length, map};
-ghost use Rattle.delaunay_legalization.specs.half_edge_mesh.Grow.{IsHalfSplittable};
-ghost use Rattle.delaunay_legalization.specs.half_edge_mesh.Mesh.{rev, face};
 ghost use Rattle.delaunay_legalization.specs.half_edge_mesh.Room.{HasRoomFor};
-ghost use Rattle.delaunay_legalization.specs.half_edge_mesh.Contents.{HasRoom, edges};
+ghost use Rattle.delaunay_legalization.specs.half_edge_mesh.Contents.{edges};
 ghost use Rattle.delaunay_insertion.specs.Constraints.{SplitsConstraints};
 ghost use Rattle.delaunay_insertion.specs.Edges.{SplitsAt};
 ghost use Rattle.delaunay_insertion.specs.Growth.{CanSplit, CanTake, GainsVertex};
@@ -11,51 +9,15 @@ ghost use Rattle.delaunay_legalization.specs.Parts.{IsWithinEdge};
 ghost use Rattle.delaunay_legalization.specs.State.{state_of};
 
 use crate::free_by_default::FreeByDefault;
-use crate::on_line::split_line_edge;
 use delaunay_legalization::delaunay_core::point::HasPosition;
 use delaunay_legalization::half_edge_mesh::{
     Dcel, FixedDirectedEdgeHandle, FixedUndirectedEdgeHandle, FixedVertexHandle,
 };
 use delaunay_legalization::{is_constraint_edge, is_outer, make_constraint};
 
-// A vertex strictly within an edge between two inner faces, joined to their corners.
-fn split_inner_edge<V: HasPosition, DE: Default, UE: Default, F: Default>(
-    dcel: &mut Dcel<V, DE, UE, F>,
-    edge: FixedDirectedEdgeHandle,
-    value: V,
-) -> (FixedVertexHandle, FixedUndirectedEdgeHandle)
-    requires can { CanSplit V.place value (state_of dcel.old) edge }
-    requires inner { 0 < face dcel.old.mesh edge }
-    requires twin_inner { 0 < face dcel.old.mesh (rev edge) }
-    requires room { HasRoom dcel.old 1 3 2 }
-    ensures takes { GainsVertex V.place value (state_of dcel.old) (state_of dcel.new) result.0 }
-    ensures edges { SplitsAt UE.is_default (edges dcel.old) (edges dcel.new) (edge / 2) result.0
-        result.1 }
-{
-    let (vertex, parts) = dcel.split_edge(edge, value);
-    (vertex, parts[1].as_undirected())
-}
-
-// A vertex strictly within an edge of the hull, which has an inner face on its left, joined to the
-// corners of that face.
-fn split_hull_edge<V: HasPosition, DE: Default, UE: Default, F: Default>(
-    dcel: &mut Dcel<V, DE, UE, F>,
-    edge: FixedDirectedEdgeHandle,
-    value: V,
-) -> (FixedVertexHandle, FixedUndirectedEdgeHandle)
-    requires can { CanSplit V.place value (state_of dcel.old) edge }
-    requires half { IsHalfSplittable dcel.old.mesh edge }
-    requires room { HasRoom dcel.old 1 2 1 }
-    ensures takes { GainsVertex V.place value (state_of dcel.old) (state_of dcel.new) result.0 }
-    ensures edges { SplitsAt UE.is_default (edges dcel.old) (edges dcel.new) (edge / 2) result.0
-        result.1 }
-{
-    let (vertex, parts) = dcel.split_half_edge(edge, value);
-    (vertex, parts[1].as_undirected())
-}
-
-// A vertex strictly within an edge, and the second half of the edge, which has default data as all
-// new edges do; the first half has those of the edge.
+// A vertex strictly within an edge, joined to the corner opposite the edge in each inner face beside
+// it, and the second half of the edge, which has default data as all new edges do; the first half
+// has those of the edge.
 fn split_at<V: HasPosition, DE: Default, UE: Default, F: Default>(
     dcel: &mut Dcel<V, DE, UE, F>,
     edge: FixedDirectedEdgeHandle,
@@ -69,13 +31,17 @@ fn split_at<V: HasPosition, DE: Default, UE: Default, F: Default>(
         result.1 }
 {
     if dcel.num_inner_faces() == 0 {
-        split_line_edge(dcel, edge, value)
+        let (vertex, halves) = dcel.split_edge_when_all_vertices_on_line(edge, value);
+        (vertex, halves[1].as_undirected())
     } else if is_outer(dcel, edge) {
-        split_hull_edge(dcel, edge.rev(), value)
+        let (vertex, halves) = dcel.split_half_edge(edge.rev(), value);
+        (vertex, halves[1].as_undirected())
     } else if is_outer(dcel, edge.rev()) {
-        split_hull_edge(dcel, edge, value)
+        let (vertex, halves) = dcel.split_half_edge(edge, value);
+        (vertex, halves[1].as_undirected())
     } else {
-        split_inner_edge(dcel, edge, value)
+        let (vertex, halves) = dcel.split_edge(edge, value);
+        (vertex, halves[1].as_undirected())
     }
 }
 

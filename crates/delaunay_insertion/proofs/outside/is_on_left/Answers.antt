@@ -1,5 +1,5 @@
 use Rattle.delaunay_legalization.proofs.Questions.{covered_in}
-use Rattle.delaunay_insertion.proofs.outside.if_seen.Goals as goal
+use Rattle.delaunay_insertion.proofs.outside.is_on_left.Goals as goal
 
 pub turns_left-requires : goal.turns_left-requires
 turns_left-requires g c =
@@ -7,5 +7,5 @@ turns_left-requires g c =
     record {
       a_covered = covered_in _ _ covers _ _ c.requires.sites c.position_of-from.ensures.listed;
       b_covered = covered_in _ _ covers _ _ c.requires.sites c.position_of-to.ensures.listed;
-      c_covered = covered_in _ _ covers _ _ c.requires.sites c.position_of-point.ensures.listed;
+      c_covered = c.requires.covered;
     }
