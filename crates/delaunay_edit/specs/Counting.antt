@@ -12,6 +12,7 @@ use Rattle.delaunay_paths.specs.delaunay_location.declared.position_in_triangula
 use Rattle.delaunay_paths.specs.delaunay_legalization.Constraints.{constraints_by}
 use Rattle.delaunay_paths.specs.delaunay_legalization.Shape.{IsDelaunayTriangulation}
 use Rattle.delaunay_paths.specs.delaunay_legalization.State.{State}
+use Rattle.delaunay_insertion.specs.Constraints.{IsOneIf}
 
 -- so many pairs are in this relation: a list has each of them, once
 pub record HasPairs (J : ℕ → ℕ → Type 0) (n : ℕ) : Type 0 where
@@ -32,9 +33,7 @@ IsOnConstraint constraints ds NoTriangulation = ⊥
 -- one where the location is on a constraint, and else none
 abbrev pub IsSplitCount : {U : Type 0} → (List U → List ℕ) → List U
     → PositionInTriangulation → ℕ → Type 0
-IsSplitCount constraints ds answer n =
-    (IsOnConstraint constraints ds answer × (n ≡ 1))
-    ⊎ ((¬ IsOnConstraint constraints ds answer) × (n ≡ 0))
+IsSplitCount constraints ds answer n = IsOneIf (IsOnConstraint constraints ds answer) n
 
 -- a constraint joins a and b, of which one is vertex v
 abbrev pub EndsAt : List (ℕ × ℕ) → ℕ → ℕ → ℕ → Type 0

@@ -6,4 +6,3 @@ pub use Rattle.delaunay_paths.specs.delaunay_legalization.Parts.{IsApart, IsWith
 pub use Rattle.delaunay_paths.specs.delaunay_legalization.Parts.{IsInsideFaceOf, IsMeshEdge}
 pub use Rattle.delaunay_paths.specs.delaunay_legalization.Parts.{IsMeshFace}
 pub use Rattle.delaunay_paths.specs.delaunay_location.Location.{location_of, HasHandle, Locates}
-pub use Rattle.delaunay_paths.specs.delaunay_location.Location.{IsLeftOfPlace}

@@ -1,6 +1,6 @@
 //! Constraints that are added and released.
-ghost use Rattle.std.specs.Prelude.{◌≡◌, ◌≢◌, ◌*◌, ◌<◌, ◌≤◌};
-ghost use Rattle.std.specs.Prelude.{ℕ, length, map, All, Contains, Ok, IfOk, OnErr, OnOk};
+ghost use Rattle.std.specs.Prelude.{◌≡◌, ◌⊎◌, ◌*◌, ◌<◌, ◌≤◌};
+ghost use Rattle.std.specs.Prelude.{ℕ, length, map, All, Contains, Ok, IfOk, IsOk, OnErr, OnOk};
 ghost use Rattle.delaunay_paths.specs.half_edge_links.declared.room.TheConstants.{MAX_ELEMENTS};
 ghost use Rattle.delaunay_paths.specs.half_edge_mesh.Mesh.{origin, rev};
 ghost use Rattle.delaunay_paths.specs.plane.Plain.{Adds, CanAdd, Releases};
@@ -134,45 +134,37 @@ impl<V: HasPosition, DE, UE, F> ConstrainedMesh<V, DE, UE, F> {
         }
     }
 
-    /// An edge, which becomes a constraint, in a list of its own.
-    pub fn constrain_alone(
-        &mut self,
-        edge: FixedDirectedEdgeHandle,
-    ) -> Result<Vec<FixedDirectedEdgeHandle>, AllocError>
-        requires { edge < length self.old.directed }
-        ensures path { let m = self.old.mesh in IfOk result (λ edges. AddsPathIfFree V.place
-            (origin m edge) (origin m (rev edge)) edges.items self.old self.new) }
-        ensures headline { IsDelaunay V.place constraint_edges self.new }
-        ensures err { OnErr result (self.new ≡ self.old) }
-    {
-        self.recall_invariant();
-        let mut edges = Vec::new(*self.work.allocator());
-        edges.push(edge)?;
-        self.constrain(edge);
-        Ok(edges)
-    }
-
-    /// The edges of the path between two vertices, which no constraint crosses and of which so many
-    /// pieces are none, and which becomes constraints.
-    pub fn add_listed_path<P: PlaneTests<V::Scalar>>(
+    /// Makes constraints of the pieces of the path between two vertices, and gives its edges, unless
+    /// a constraint crosses it or the two are one: then it gives none, and takes no memory. A refusal
+    /// changes nothing.
+    pub fn try_add_path<P: PlaneTests<V::Scalar>>(
         &mut self,
         from: FixedVertexHandle,
         to: FixedVertexHandle,
-        missing: usize,
         tests: &P,
     ) -> Result<Vec<FixedDirectedEdgeHandle>, AllocError>
-        requires ends { MayJoin V.place (P.sites tests.now) self.old from to }
-        requires apart { from ≢ to }
-        requires missing { HasPairs (IsMissing (map V.place self.old.vertices)
-            (constraints_of self.old) from to) missing }
-        requires free { CanAdd V.place (constrained self.old) from to }
+        requires { MayJoin V.place (P.sites tests.now) self.old from to }
         ensures path { IfOk result (λ edges. AddsPathIfFree V.place from to edges.items self.old
             self.new) }
+        ensures none { (from ≡ to) ⊎ (¬ CanAdd V.place (constrained self.old) from to) →
+            IsOk result }
         ensures headline { IsDelaunay V.place constraint_edges self.new }
         ensures err { OnErr result (self.new ≡ self.old) }
     {
         self.recall_invariant();
         let mut edges = Vec::new(*self.work.allocator());
+        if from == to {
+            return Ok(edges);
+        }
+        if let Some(edge) = edge_if_joined(&self.dcel, from, to) {
+            edges.push(edge)?;
+            self.constrain(edge);
+            return Ok(edges);
+        }
+        let counted = count_path::<EdgeConstraints, _, _, _, _, _>(&self.dcel, from, to, tests);
+        let Some(missing) = counted else {
+            return Ok(edges);
+        };
         edges.reserve(self.dcel.num_vertices())?;
         self.add_path(from, to, missing, tests)?;
         self.recall_invariant();

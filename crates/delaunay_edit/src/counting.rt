@@ -5,38 +5,14 @@ ghost use Rattle.delaunay_paths.specs.delaunay_legalization.Constraints.{constra
 ghost use Rattle.delaunay_paths.specs.delaunay_legalization.Shape.{IsTriangulated};
 ghost use Rattle.delaunay_paths.specs.delaunay_legalization.State.{state_of};
 ghost use Rattle.delaunay_paths.specs.Adding.{CanAddPath};
-ghost use Rattle.delaunay_edit.specs.Counting.{EndsAt, HasPairs, IsMissing, IsSplitCount};
-ghost use Rattle.delaunay_edit.specs.Location.{HasHandle};
+ghost use Rattle.delaunay_edit.specs.Counting.{EndsAt, HasPairs, IsMissing};
 
 use delaunay_paths::delaunay_core::math::PlaneTests;
 use delaunay_paths::delaunay_core::point::HasPosition;
 use delaunay_paths::delaunay_legalization::{ConstraintMarker, is_constraint_edge};
 use delaunay_paths::delaunay_lines::{Intersection, line_between_vertices};
-use delaunay_paths::delaunay_location::PositionInTriangulation;
 use delaunay_paths::half_edge_mesh::{Dcel, FixedVertexHandle, MeshViews};
 use delaunay_paths::{is_constraint_between, is_same_vertex};
-
-// How many constraints a new vertex at a location makes of one: one more where it is on a
-// constraint.
-pub(crate) fn count_split<M: ConstraintMarker<UE>, V: HasPosition, DE, UE, F>(
-    dcel: &Dcel<V, DE, UE, F>,
-    location: &PositionInTriangulation,
-) -> usize
-    requires handle { HasHandle dcel.now.mesh location.now }
-    requires kept { IsTriangulated V.place (state_of dcel.now) }
-    ensures { IsSplitCount M.constraints dcel.now.undirected location.now result }
-{
-    match *location {
-        PositionInTriangulation::OnEdge(edge) => {
-            if is_constraint_edge::<M, _, _, _, _>(dcel, edge.as_undirected()) {
-                1
-            } else {
-                0
-            }
-        }
-        _ => 0,
-    }
-}
 
 // How many constraints end at a vertex.
 pub(crate) fn count_constraints_at<M: ConstraintMarker<UE>, V: HasPosition, DE, UE, F>(
@@ -57,9 +33,16 @@ pub(crate) fn count_constraints_at<M: ConstraintMarker<UE>, V: HasPosition, DE, 
     count
 }
 
-/// How many pieces of the path between two different vertices are no constraints, unless a
-/// constraint crosses it. It is one walk, which stops at the first that does, and takes no memory.
-pub fn count_path<M: ConstraintMarker<UE>, V: HasPosition, DE, UE, F, P: PlaneTests<V::Scalar>>(
+// How many pieces of the path between two different vertices are no constraints, unless a
+// constraint crosses it. It is one walk, which stops at the first that does, and takes no memory.
+pub(crate) fn count_path<
+    M: ConstraintMarker<UE>,
+    V: HasPosition,
+    DE,
+    UE,
+    F,
+    P: PlaneTests<V::Scalar>,
+>(
     dcel: &Dcel<V, DE, UE, F>,
     from: FixedVertexHandle,
     to: FixedVertexHandle,

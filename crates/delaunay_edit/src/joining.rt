@@ -1,7 +1,7 @@
 //! What is left to do where a vertex went: the halves of a straight constraint are joined, and each
 //! edge is made to pass the circle test.
 ghost use Rattle.std.specs.Prelude.{◌≡◌, ◌*◌, ◌≤◌, ◌++◌};
-ghost use Rattle.std.specs.Prelude.{length, map, All, IfSome, IsTrue, OnOk, Some};
+ghost use Rattle.std.specs.Prelude.{length, map, All, IfSome, IsTrue, OnOk};
 ghost use Rattle.delaunay_paths.specs.delaunay_legalization.Flips.{FlipsFit};
 ghost use Rattle.delaunay_paths.specs.Lists.{HaveRoom};
 ghost use Rattle.delaunay_removal.specs.Pairs.{FailOnlyAt, pairs_left};
@@ -28,37 +28,6 @@ pub(crate) fn reserve_to_join(
         Some(_) => crossing.reserve(edges),
         None => Ok(()),
     }
-}
-
-// Makes a constraint of the segment between the far ends of straight halves, whose middle `vertex`
-// went, before it tests the edges that `list_pairs` lists and those that were turned for it: so an
-// edge that is there before and after has not gone in between.
-fn join_halves<M: ConstraintMarker<UE>, V: HasPosition, DE, UE, F, P: PlaneTests<V::Scalar>>(
-    dcel: &mut Dcel<V, DE, UE, F>,
-    vertex: FixedVertexHandle,
-    ends: VertexPair,
-    border: &[VertexPair],
-    tests: &P,
-    lists: &RemovalLists,
-    crossing: &mut CrossingLists,
-    work: &mut EdgeSet,
-    flips: &mut u64,
-)
-    requires can { CanSettle V.place M.can_mark M.constraints dcel.old vertex (Some ends)
-        (border.now ++ lists.now.turned.items) }
-    requires sites { All (P.sites tests.now) (map V.place dcel.old.vertices) }
-    requires room { 3 * length dcel.old.vertices ≤ work.old.room }
-    requires room_crossing { HaveRoom (3 * length dcel.old.vertices) crossing.old }
-    requires fits { FlipsFit (length dcel.old.vertices) flips.old }
-
-    ensures { Settles V.place M.marks M.marked M.constraints dcel.old dcel.new vertex (Some ends)
-        flips.old flips.new }
-{
-    list_pairs::<M, _, _, _, _>(dcel, vertex, border, lists, work);
-    let from = index_left(dcel, ends.0, vertex);
-    let to = index_left(dcel, ends.1, vertex);
-    add_path::<M, _, _, _, _, _>(dcel, from, to, tests, crossing, work);
-    legalize::<M, _, _, _, _, _>(dcel, &Sides::Round, tests, work, flips);
 }
 
 /// Joins the far ends of straight halves, whose middle `vertex` went, if there are such, and flips
@@ -90,9 +59,13 @@ pub(crate) fn settle<M: ConstraintMarker<UE>, V: HasPosition, DE, UE, F, P: Plan
 {
     match halves {
         Some(ends) => {
-            join_halves::<M, _, _, _, _, _>(
-                dcel, vertex, ends, border, tests, lists, crossing, work, flips,
-            );
+            // No edge is tested before the far ends are joined: so one that is there before and
+            // after has not gone in between.
+            list_pairs::<M, _, _, _, _>(dcel, vertex, border, lists, work);
+            let from = index_left(dcel, ends.0, vertex);
+            let to = index_left(dcel, ends.1, vertex);
+            add_path::<M, _, _, _, _, _>(dcel, from, to, tests, crossing, work);
+            legalize::<M, _, _, _, _, _>(dcel, &Sides::Round, tests, work, flips);
         }
         None => legalize_pairs::<M, _, _, _, _, _>(
             dcel, vertex, is_free, border, tests, lists, work, flips,

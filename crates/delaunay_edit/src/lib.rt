@@ -18,7 +18,6 @@ mod joining;
 mod removal;
 mod storage;
 
-pub use counting::count_path;
 pub use edge_data::EdgeData;
 pub use edited_mesh::EditedMesh;
 pub use insertion::Entry;

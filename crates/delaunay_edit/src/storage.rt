@@ -1,5 +1,5 @@
 //! Room for more, and copies.
-ghost use Rattle.std.specs.Prelude.{◌≡◌, ◌*◌, ◌≤◌, Err, IfOk, OnErr};
+ghost use Rattle.std.specs.Prelude.{◌≡◌, ◌+◌, ◌*◌, ◌≤◌, length, Err, IfOk, OnErr};
 ghost use Rattle.delaunay_paths.specs.half_edge_links.declared.room.TheConstants.{MAX_ELEMENTS};
 ghost use Rattle.delaunay_paths.specs.delaunay_core.declared.math.InsertionError.TheVariants.{OutOfMemory};
 ghost use Rattle.delaunay_edit.specs.Headline.{IsDelaunay};
@@ -7,29 +7,22 @@ ghost use Rattle.delaunay_edit.specs.Storage.{IsCopy, KeepsImage};
 
 use crate::edge_data::EdgeData;
 use crate::edited_mesh::EditedMesh;
-use crate::insertion::reserve_to_test;
+use delaunay_insertion::reserve_for_vertices;
 use delaunay_paths::delaunay_core::math::InsertionError;
 use delaunay_paths::delaunay_core::point::HasPosition;
 use delaunay_paths::delaunay_legalization::ConstraintMarker;
 use std::alloc::AllocError;
 
 impl<V: HasPosition, DE, UE, F, M: ConstraintMarker<UE>> EditedMesh<V, DE, UE, F, M> {
-    /// Makes room for so many vertices in all, with the edges and faces that they can bring, and
-    /// for the edges that their insertions list.
-    pub fn reserve_totals(&mut self, vertices: usize) -> Result<(), InsertionError>
-        requires few { 6 * vertices ≤ MAX_ELEMENTS }
+    /// Makes room for so many more vertices, with the edges and faces that they can bring, and for
+    /// the edges that their insertions list.
+    pub fn reserve_more(&mut self, more: usize) -> Result<(), InsertionError>
+        requires few { 6 * (length self.old.vertices + more) ≤ MAX_ELEMENTS }
         ensures same { self.new ≡ self.old }
         ensures memory { OnErr result (result ≡ Err OutOfMemory) }
     {
-        if self
-            .dcel
-            .reserve_capacity(vertices, 3 * vertices, 2 * vertices)
-            .is_err()
-        {
-            return Err(InsertionError::OutOfMemory);
-        }
-        let free = self.num_constraints == 0;
-        reserve_to_test(&mut self.work, 3 * vertices, free)
+        let is_free = self.num_constraints == 0;
+        reserve_for_vertices(&mut self.dcel, &mut self.work, more, is_free)
     }
 }
 

@@ -1,6 +1,6 @@
 -- The room for a vertex, and the two sides of an edge.
 -- Lemmas: positive, room_inside, vertex_of_face, vertex_of_edge, twin_within, within_twin,
--- no_listed_face, twin_splits.
+-- bare_if_past, twin_splits.
 use Rattle.std.proofs.Common.{◌≡◌, ◌+◌, ◌*◌, ◌<◌, ◌≤◌, [], ◌∙◌}
 use Rattle.std.proofs.Common.{ℕ, length, map, ap, sym, subst, inl, inr, arith}
 use Rattle.std.proofs.lemmas.List.{length-map}
@@ -12,9 +12,13 @@ use Rattle.delaunay_legalization.proofs.half_edge_links.Lists.Rev.{rev-rev, rev_
 use Rattle.delaunay_legalization.specs.half_edge_mesh.Contents.{Contents, HasRoom, IsMeshWithData}
 use Rattle.delaunay_legalization.specs.plane.Fraction.{Point, whole, WithinSegment}
 use Rattle.delaunay_legalization.specs.plane.Pairs.{place}
+use Rattle.delaunay_legalization.specs.plane.Location.{IsPast}
 use Rattle.delaunay_legalization.specs.plane.Tiling.{IsTiling, HasFace}
+use Rattle.delaunay_legalization.specs.plane_tiling.Local.{IsMesh, alone}
 use Rattle.delaunay_legalization.proofs.plane_tiling.Edges.{turned_within}
-use Rattle.delaunay_legalization.specs.mesh_embedding.Drawn.{drawn, faces_of, corners_of}
+use Rattle.delaunay_legalization.proofs.plane_tiling.Places.{none_beyond}
+use Rattle.delaunay_legalization.proofs.plane_tiling.Tiles.{by_signs, point_at}
+use Rattle.delaunay_legalization.specs.mesh_embedding.Drawn.{drawn, faces_of, outer_of, corners_of}
 use Rattle.delaunay_legalization.specs.Parts.{IsMeshEdge, IsWithinEdge}
 use Rattle.delaunay_legalization.specs.Shape.{IsTriangulated}
 use Rattle.delaunay_legalization.specs.State.{state_of}
@@ -74,10 +78,22 @@ module _ {V D U F : Type 0} (at : V → Point) (c : Contents V D U F)
       (whole p) w)
 
   -- where the mesh lists no face, there is no inner one
-  pub no_listed_face : faces_of c.mesh ≡ [] → length c.faces ≡ 0
+  no_listed_face : faces_of c.mesh ≡ [] → length c.faces ≡ 0
   no_listed_face none = kept.fits.faces_fit
       ∙ sym (length-map c.mesh.face_edges (triangle_at c.mesh))
       ∙ sym (length-map (triangles c.mesh) corners_of) ∙ ap length none
+
+  -- past an end of a line there is none
+  pub bare_if_past : (p : Point) (e : ℕ) → e < length c.directed
+      → IsPast (alone (map at c.vertices)) (origin c.mesh e) (whole p) → length c.faces ≡ 0
+  bare_if_past p e within past = go kept.shape
+    where
+      go : IsMesh (map at c.vertices) (faces_of c.mesh) (outer_of c.mesh) → length c.faces ≡ 0
+      go (inl l) = absurd (none_beyond (length (map at c.vertices)) (point_at (map at c.vertices))
+          (faces_of c.mesh) (outer_of c.mesh)
+          (by_signs (map at c.vertices) (faces_of c.mesh) (outer_of c.mesh) l) (whole p)
+          (origin c.mesh e) (mesh_edge at (state_of c) kept e within).source past)
+      go (inr l) = no_listed_face l.0
 
   -- where there are faces, an edge has one on its left or on its right
   inner_twin : (e : ℕ) → e < length c.directed → ¬ (length c.faces ≡ 0) → face c.mesh e ≡ 0 →

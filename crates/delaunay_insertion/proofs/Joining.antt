@@ -1,5 +1,5 @@
 -- A new vertex is joined to one outer edge after another.
--- Notions: Sees, IsJoining, IsJoiningBack; joining_begins,
+-- Notions: Sees, IsJoining, IsJoiningBack; told_of, joining_begins,
 -- joining_goes_on, joining_goes_back, unseen_stays, joining_ends, room_for_face, sites_grown,
 -- seen_if, unseen_if, ahead_apart, step_ahead, before_outer, before_apart, step_behind.
 use Rattle.std.proofs.Common.{◌≡◌, ◌≢◌, ◌⊎◌, ◌↔◌, ◌+◌, ◌-◌, ◌*◌, ◌<◌, [], ◌∷◌, ◌++◌, ◌∙◌}
@@ -53,6 +53,13 @@ use Rattle.delaunay_insertion.proofs.DataGrowing.{grows_by_face, grows_on}
 use Rattle.delaunay_insertion.proofs.EdgeLists.{adds_only, adds_on}
 use Rattle.delaunay_insertion.proofs.Growing.{edges_and_faces, sides_at_most}
 use Rattle.delaunay_insertion.proofs.LineEnds.{none_seen_after, none_seen_before}
+
+-- what is told of a position is told of the point that it is
+pub told_of : (points : List Point) (m : Mesh) (e : ℕ) {p q : Point} {b : Bool} → p ≡ q
+    → (IsTrue b ↔ TurnsLeft (place points (origin m e)) (place points (origin m (rev e))) (whole p))
+    → IsTrue b ↔ TurnsLeft (place points (origin m e)) (place points (origin m (rev e))) (whole q)
+told_of points m e {b = b} is told = subst (λ (x : Point). IsTrue b ↔ TurnsLeft
+    (place points (origin m e)) (place points (origin m (rev e))) (whole x)) is told
 
 -- directed edge e has vertex k strictly on its left
 abbrev pub Sees : List Point → Mesh → ℕ → ℕ → Type 0

@@ -1,5 +1,5 @@
 -- What becomes of the constraints where a vertex is appended.
-use Rattle.std.specs.Prelude.{◌⊎◌, ◌↔◌, ℕ, List, length}
+use Rattle.std.specs.Prelude.{◌≡◌, ◌⊎◌, ◌↔◌, ℕ, List, length}
 use Rattle.delaunay_legalization.specs.plane.Fraction.{Point}
 use Rattle.delaunay_legalization.specs.plane.Pairs.{Joins}
 use Rattle.delaunay_legalization.specs.plane.Plain.{Carries, IsHalf}
@@ -16,3 +16,7 @@ SplitsConstraints at constraints old new v =
     (i j : ℕ) → Joins (constraints_by constraints new) i j ↔
     ((Joins (constraints_by constraints old) i j × ¬ Carries at was v i j) ⊎
     (IsHalf at was v n i j ⊎ IsHalf at was v n j i))
+
+-- n is 1 where Q holds, and else 0
+abbrev pub IsOneIf : Type 0 → ℕ → Type 0
+IsOneIf Q n = (Q × (n ≡ 1)) ⊎ ((¬ Q) × (n ≡ 0))

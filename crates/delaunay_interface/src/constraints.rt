@@ -21,6 +21,7 @@ ghost use Rattle.delaunay_interface.specs.Views.{CanAddConstraint};
 use crate::triangulation_core::{
     ConstrainedDelaunayTriangulation, DelaunayTriangulation, TriangulationCore,
 };
+use delaunay_edit::EditedMesh;
 use delaunay_edit::delaunay_core::HintGenerator;
 use delaunay_edit::delaunay_core::math::PlaneTests;
 use delaunay_edit::delaunay_core::point::{HasPosition, Point2};
@@ -28,11 +29,10 @@ use delaunay_edit::delaunay_legalization::{
     CdtEdge, EdgeConstraints, free_edge_data, is_constraint_edge,
 };
 use delaunay_edit::delaunay_lines::{ConflictingEdgesIterator, HasMesh, intersects_constraint};
-use delaunay_edit::delaunay_paths::{can_add_path, edge_if_joined, is_constraint_between};
+use delaunay_edit::delaunay_paths::{can_add_path, is_constraint_between};
 use delaunay_edit::half_edge_mesh::{
     FixedDirectedEdgeHandle, FixedUndirectedEdgeHandle, FixedVertexHandle,
 };
-use delaunay_edit::{EditedMesh, count_path};
 use std::alloc::AllocError;
 use std::marker::PhantomData;
 
@@ -111,19 +111,7 @@ impl<V: HasPosition, DE, UE, F, L: HintGenerator<V::Scalar>> ConstrainedDelaunay
         ensures err { OnErr result (self.new ≡ self.old) }
         ensures headline { IsDelaunay V.place constraint_edges self.new }
     {
-        self.edited.recall_invariant();
-        if from == to {
-            return Ok(Vec::new(self.alloc));
-        }
-        let mesh = self.edited.mesh();
-        if let Some(edge) = edge_if_joined(mesh, from, to) {
-            return self.edited.constrain_alone(edge);
-        }
-        let counted = count_path::<EdgeConstraints, _, _, _, _, _>(mesh, from, to, tests);
-        let Some(missing) = counted else {
-            return Ok(Vec::new(self.alloc));
-        };
-        self.edited.add_listed_path(from, to, missing, tests)
+        self.edited.try_add_path(from, to, tests)
     }
 
     /// Takes from an edge of the triangulation that it is a constraint, and tells whether it was

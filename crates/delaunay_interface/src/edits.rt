@@ -13,7 +13,6 @@ use delaunay_edit::delaunay_core::HintGenerator;
 use delaunay_edit::delaunay_core::math::{InsertionError, PlaneTests, validate_vertex};
 use delaunay_edit::delaunay_core::point::HasPosition;
 use delaunay_edit::delaunay_insertion::FreeByDefault;
-use delaunay_edit::delaunay_lines::HasMesh;
 use delaunay_edit::half_edge_mesh::{Dcel, FixedVertexHandle};
 use delaunay_edit::{EdgeData, EditedMesh, Entry};
 use std::alloc::Global;
@@ -48,8 +47,9 @@ impl<
     ) -> FixedVertexHandle
         requires sites { AreSitesWith V.place (P.sites tests.now) self.now.vertices value.now }
     {
+        self.edited.recall_invariant();
         match validate_vertex(value) {
-            Ok(_) => self.search_start(value.position(), tests),
+            Ok(_) => self.hint_generator.get_hint(value.position(), tests),
             Err(_) => FixedVertexHandle::from_index(0),
         }
     }
@@ -107,9 +107,9 @@ impl<
                 let _ = edited.dcel.update_vertex(vertex, value);
                 Ok(vertex)
             }
-            Entry::Vacant(location, turns) => {
+            Entry::Vacant(location) => {
                 let position = value.position();
-                let vertex = self.edited.append(location, turns, value, tests, flips)?;
+                let vertex = self.edited.append(location, value, tests, flips)?;
                 self.hint_generator
                     .notify_vertex_inserted(vertex, position, tests);
                 Ok(vertex)

@@ -93,7 +93,7 @@ impl<
         if additional > most || former > most - additional {
             return Err(InsertionError::OutOfIndexes);
         }
-        self.edited.reserve_totals(former + additional)
+        self.edited.reserve_more(additional)
     }
 
     fn insert<P: PlaneTests<V::Scalar>>(
@@ -102,7 +102,8 @@ impl<
         tests: &P,
     ) -> Result<FixedVertexHandle, InsertionError> {
         let hint = self.hint_for(&value, tests);
-        self.insert_with_hint(value, hint, tests)
+        let mut flips = 0;
+        self.insert_told(value, hint, tests, &mut flips)
     }
 
     fn insert_with_hint<P: PlaneTests<V::Scalar>>(

@@ -1,10 +1,9 @@
+use Rattle.std.proofs.Common.{inr, refl}
 use Rattle.delaunay_insertion.proofs.EdgeLists.{adds_only}
 use Rattle.delaunay_insertion.proofs.EdgeSides.{room_inside}
 use Rattle.delaunay_insertion.proofs.InsertionCases.{inside_gains}
 use Rattle.delaunay_insertion.proofs.SplitConstraints.{adding_splits_none}
-use Rattle.delaunay_edit.proofs.Cases.{vertex_of_handle, edge_of_handle, past_if_not_left}
-use Rattle.delaunay_edit.proofs.Cases.{bare_if_past, not_on_vertex}
-use Rattle.delaunay_paths.proofs.delaunay_legalization_lemmas.Questions.{both_ways}
+use Rattle.delaunay_edit.proofs.Cases.{vertex_of_handle, not_on_vertex}
 use Rattle.delaunay_edit.proofs.insertion_cases.insert_at.Goals as goal
 
 pub insert_into_triangle-requires-clause-room : goal.insert_into_triangle-requires-clause-room
@@ -12,16 +11,15 @@ insert_into_triangle-requires-clause-room g c =
     room_inside _ c.args.dcel.now c.requires.can.kept c.requires.room (vertex_of_handle _
     c.args.dcel.now c.requires.can.kept _ _ _ c.requires.vacant.location c.in-OnFace.is)
 
-pub insert_past_end-requires-clause-past : goal.insert_past_end-requires-clause-past
-insert_past_end-requires-clause-past g c =
-    past_if_not_left _ c.args.dcel.now c.requires.can.kept _ _ _ c.requires.vacant.location
-    c.in-OutsideOfConvexHull.is (λ l. both_ways _ (c.requires.vacant.left.1 l) c.if-turns.false)
+pub insert_outside-requires-clause-outer : goal.insert_outside-requires-clause-outer
+insert_outside-requires-clause-outer g c =
+    let here = rw c.in-OutsideOfConvexHull.is at c.requires.vacant.location in
+    rw c.requires.can.kept.fits.directed_fit here.handle
 
-pub insert_past_end-requires-clause-one_face : goal.insert_past_end-requires-clause-one_face
-insert_past_end-requires-clause-one_face g c =
-    bare_if_past _ c.args.dcel.now c.requires.can.kept (g.V.HasPosition.place c.args.value) _
-    (edge_of_handle _ c.args.dcel.now c.requires.can.kept _ _ _ c.requires.vacant.location
-    c.in-OutsideOfConvexHull.is) (insert_past_end-requires-clause-past g c)
+pub insert_outside-requires-clause-outside : goal.insert_outside-requires-clause-outside
+insert_outside-requires-clause-outside g c =
+    let here = rw c.in-OutsideOfConvexHull.is at c.requires.vacant.location in
+    here.location.1
 
 pub unreachable-requires : goal.unreachable-requires
 unreachable-requires g c =
@@ -40,19 +38,14 @@ returns-in-OnFace g c =
           c.requires.can.kept takes.kept takes.vertices _ _
           g.met.M.ConstraintMarker.constraints_are_marked _ g.met.M.FreeByDefault.default_is_free
           (adds_only done.edges);
+      more = rw c.in-OnFace.is (inr ((λ on. on), refl));
     }
 
-pub returns-then-turns-clause-constraints : goal.returns-then-turns-clause-constraints
-returns-then-turns-clause-constraints g c =
-    let done = c.join_outside.ensures in
-    adding_splits_none _ _ c.args.dcel.now c.join_outside.new.dcel c.requires.can.kept
-    done.takes.kept done.takes.vertices _ _ g.met.M.ConstraintMarker.constraints_are_marked _
-    g.met.M.FreeByDefault.default_is_free done.edges
-
-pub returns-else-turns-clause-constraints : goal.returns-else-turns-clause-constraints
-returns-else-turns-clause-constraints g c =
-    let done = c.insert_past_end.ensures in
-    adding_splits_none _ _ c.args.dcel.now c.insert_past_end.new.dcel c.requires.can.kept
+pub returns-in-OutsideOfConvexHull-clause-constraints :
+    goal.returns-in-OutsideOfConvexHull-clause-constraints
+returns-in-OutsideOfConvexHull-clause-constraints g c =
+    let done = c.insert_outside.ensures in
+    adding_splits_none _ _ c.args.dcel.now c.insert_outside.new.dcel c.requires.can.kept
     done.takes.kept done.takes.vertices _ _ g.met.M.ConstraintMarker.constraints_are_marked _
     g.met.M.FreeByDefault.default_is_free done.edges
 
@@ -63,3 +56,14 @@ returns-in-NoTriangulation-clause-constraints g c =
     adding_splits_none _ _ c.args.dcel.now c.insert_without_edges.new.dcel c.requires.can.kept
     done.takes.kept done.takes.vertices _ _ g.met.M.ConstraintMarker.constraints_are_marked _
     g.met.M.FreeByDefault.default_is_free done.edges
+
+pub returns-in-OnEdge-clause-more : goal.returns-in-OnEdge-clause-more
+returns-in-OnEdge-clause-more g c = rw c.in-OnEdge.is c.insert_within_edge.ensures.more
+
+pub returns-in-OutsideOfConvexHull-clause-more : goal.returns-in-OutsideOfConvexHull-clause-more
+returns-in-OutsideOfConvexHull-clause-more g c =
+    rw c.in-OutsideOfConvexHull.is (inr ((λ on. on), refl))
+
+pub returns-in-NoTriangulation-clause-more : goal.returns-in-NoTriangulation-clause-more
+returns-in-NoTriangulation-clause-more g c =
+    rw c.in-NoTriangulation.is (inr ((λ on. on), refl))

@@ -17,5 +17,4 @@ returns-in_default-clause-entry g c =
       apart = apart_elsewhere g.V.HasPosition.place (state_of c.self.inside.dcel)
           c.self.invariant.legal.kept _ _ here c.in_default.not-OnVertex;
       location = here;
-      left = c.is_left_of-turns.ensures;
     })

@@ -1,7 +1,7 @@
 use Rattle.std.proofs.Common.{length}
 use Rattle.delaunay_legalization.specs.mesh_embedding.Drawn.{outer_of}
 use Rattle.delaunay_insertion.proofs.Joining.{IsJoining, IsJoiningBack}
-use Rattle.delaunay_insertion.proofs.outside.join_outside.Given as goal
+use Rattle.delaunay_insertion.proofs.outside.insert_outside.Given as goal
 
 abbrev pub invariant-loop-ahead : goal.invariant-loop-ahead
 invariant-loop-ahead g l = IsJoining g.V.HasPosition.place g.UE.Default.is_default l.fn.dcel l.dcel

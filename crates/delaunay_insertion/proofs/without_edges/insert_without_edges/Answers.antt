@@ -5,7 +5,7 @@ use Rattle.delaunay_insertion.proofs.DataGrowing.{grows_from_one}
 use Rattle.delaunay_insertion.proofs.EdgeLists.{adds_only, adds_nothing, adds_on}
 use Rattle.delaunay_insertion.proofs.Growing.{gains, first_shape, second_shape}
 use Rattle.delaunay_insertion.proofs.MadeFaces.{made_first, made_none}
-use Rattle.delaunay_insertion.proofs.on_line.insert_without_edges.Goals as goal
+use Rattle.delaunay_insertion.proofs.without_edges.insert_without_edges.Goals as goal
 
 pub returns-then-index-gt0 : goal.returns-then-index-gt0
 returns-then-index-gt0 g c =
