@@ -12,6 +12,7 @@ mod number;
 mod words;
 
 use command::Command;
+use words::{Words, command_named};
 
 /// The most bytes that a line has, the newline that ends it left out.
 pub const MAX_LINE: usize = 120;
@@ -24,7 +25,14 @@ pub fn parse(line: &[u8]) -> Option<Command>
     if line.len() > MAX_LINE {
         return None;
     }
-    words::read_command(line)
+    let mut words = Words { rest: Some(line) };
+    let name = words.next_word()?;
+    let command = command_named(name, &mut words)?;
+    if words.next_word().is_none() {
+        Some(command)
+    } else {
+        None
+    }
 }
 
 /// No line spells two commands.

@@ -1,8 +1,7 @@
-//! The words of a line, and the command that they spell.
+//! The words of a line, and what they stand for.
 ghost use Rattle.std.specs.Prelude.{◌≡◌, [], ◌∷◌, MatchOption, IfSome, OnSome, drop};
-ghost use Rattle.triangulate_grammar.specs.Grammar.{words_of};
 ghost use Rattle.triangulate_grammar.specs.Reading.{first_index, first_number, coordinates_of, pair_of};
-ghost use Rattle.triangulate_grammar.specs.Reading.{command_of, command_named, arity};
+ghost use Rattle.triangulate_grammar.specs.Reading.{command_named, arity};
 
 use crate::command::{Command, Coordinates};
 use crate::number::{index_written, number_of};
@@ -11,7 +10,7 @@ use std::marker::Model;
 /// The words of a line that are still to be read.
 #[derive(Drop)]
 pub struct Words<'a> {
-    rest: Option<&'a [u8]>,
+    pub(crate) rest: Option<&'a [u8]>,
 }
 
 impl<'a> Model for Words<'a> {
@@ -25,21 +24,20 @@ impl<'a> Model for Words<'a> {
 }
 
 impl<'a> Words<'a> {
-    /// The words of this line, from the first on.
-    pub fn new(line: &'a [u8]) -> Self
-        ensures { result ≡ words_of line.now }
-    {
-        Words { rest: Some(line) }
-    }
-
     /// The next word, up to a space or the end.
     pub fn next_word(&mut self) -> Option<&'a [u8]>
         ensures { MatchOption result ((self.old ≡ []) × (self.new ≡ []))
             (λ word. self.old ≡ word.now ∷ self.new) }
     {
-        let (word, rest) = first_word(self.rest?);
-        self.rest = rest;
-        Some(word)
+        let text = self.rest?;
+        for (i, byte) in text.iter().enumerate() {
+            if *byte == b' ' {
+                self.rest = Some(&text[i + 1..]);
+                return Some(&text[..i]);
+            }
+        }
+        self.rest = None;
+        Some(text)
     }
 
     /// The next word, as an index.
@@ -80,24 +78,9 @@ impl<'a> Words<'a> {
     }
 }
 
-/// The command that the words spell.
-#[tactic(auto, unfolding(crate::specs::Reading::command_of))]
-pub fn read_command(line: &[u8]) -> Option<Command>
-    ensures { result ≡ command_of (words_of line.now) }
-{
-    let mut words = Words::new(line);
-    let name = words.next_word()?;
-    let command = command_named(name, &mut words)?;
-    if words.next_word().is_none() {
-        Some(command)
-    } else {
-        None
-    }
-}
-
 /// The command of this name, with the next words.
 #[tactic(auto, unfolding(crate::specs::Reading::command_named))]
-fn command_named(name: &[u8], words: &mut Words<'_>) -> Option<Command>
+pub fn command_named(name: &[u8], words: &mut Words<'_>) -> Option<Command>
     ensures value { result ≡ command_named name.now words.old }
     ensures rest { IfSome result (λ command. words.new ≡ drop (arity command) words.old) }
 {
@@ -124,17 +107,4 @@ fn command_named(name: &[u8], words: &mut Words<'_>) -> Option<Command>
     } else {
         None
     }
-}
-
-/// The first word, and what stands behind the space that ends it.
-fn first_word(text: &[u8]) -> (&[u8], Option<&[u8]>)
-    ensures { MatchOption result.1 (words_of text.now ≡ result.0.now ∷ [])
-        (λ rest. words_of text.now ≡ result.0.now ∷ words_of rest.now) }
-{
-    for (i, byte) in text.iter().enumerate() {
-        if *byte == b' ' {
-            return (&text[..i], Some(&text[i + 1..]));
-        }
-    }
-    (text, None)
 }
